@@ -1,4 +1,4 @@
--- Class data with numbers put in is that of what the numbers stand for.
+-- Class data with numbers put in is that of what the numbers denote.
 use Rattle.std.proofs.Common.{◌≡◌, ℕ, ◌+◌, ◌*◌, ◌-◌, ◌<◌, ◌≤◌, List, [], ◌∷◌, ◌++◌, get_or, length, map, take, drop, refl, sym, ap, ◌∙◌, arith, All}
 use Rattle.std.specs.Prelude.{slice_index}
 use Rattle.std.specs.List.{concat, zip}
@@ -90,12 +90,12 @@ methods_end last xs offs i le = ap (λ (l : List NumberedMethod). numbered_metho
 
 -- ---- symbols
 
--- what holds of all holds of those in front
+-- what holds of all members of a list holds of those of a prefix
 pub all_front : {X : Type 0} (P : X → Type 0) (xs ys : List X) → All P (xs ++ ys) → All P xs
 all_front P [] ys h = All-nil P
 all_front P (x ∷ xs) ys h = All-cons P x xs (All-head P x (xs ++ ys) h) (all_front P xs ys (All-tail P x (xs ++ ys) h))
 
--- and of those behind
+-- and of those after the prefix
 pub all_behind : {X : Type 0} (P : X → Type 0) (xs ys : List X) → All P (xs ++ ys) → All P ys
 all_behind P [] ys h = h
 all_behind P (x ∷ xs) ys h = all_behind P xs ys (All-tail P x (xs ++ ys) h)
@@ -151,7 +151,7 @@ module _ (m : Mentions) (ranks : RanksAreNumbers m) (name : Text) where
   unfolding class_data_bytes
   members_spelled c offs = refl
 
-  -- class data is that of what the numbers stand for
+  -- class data is that of what the numbers denote
   pub class_data_spelled : (c : Body) (x : NumberedMembers) (offs : List ℕ) → AreKnownMembers m x → AreOfClass m name x → members_of c ≡ members_in m x → numbered_class_data_bytes x offs ≡ class_data_bytes m (name, c) offs
   class_data_spelled c x offs h k same =
       let OfFields : NumberedField → Type 0 = λ f. (field_at m f.number).class ≡ name in

@@ -22,7 +22,7 @@ zip_more R [] (b ∷ ys) x y all here = absurd all
 zip_more R (a ∷ xs) [] x y all here = absurd all
 zip_more R (a ∷ xs) (b ∷ ys) x y all here = (all.0, zip_more R xs ys x y all.1 here)
 
--- and one behind the other
+-- and one list after the other
 pub zip_append : {A B : Type 0} (R : A → B → Type 0) (xs : List A) (ys : List B) (us : List A) (vs : List B) → AllZip R xs ys → AllZip R us vs → AllZip R (xs ++ us) (ys ++ vs)
 zip_append R [] [] us vs all more = more
 zip_append R [] (b ∷ ys) us vs all more = absurd all
@@ -74,7 +74,7 @@ heavy_read b m xs most left codes x code rest read is heavy have =
       heavy = omega (arith, read.weight, heavy, sum_by-append optional_code_weight read.symbolic (is.symbolic ∷ have.0), sum_by-cons optional_code_weight is.symbolic have.0);
     }
 
--- a list is what comes before a place, the member there, and what comes behind it
+-- a list is what comes before a place, the member there, and what comes after it
 pub split_here : {A : Type 0} (xs : List A) (i : ℕ) (d : A) → i < length xs → take i xs ++ get_or xs i d ∷ drop (i + 1) xs ≡ xs
 split_here xs i d lt = ap (λ ys. take i xs ++ ys) (sym (drop_more xs i d lt)) ∙ take-append-drop i xs
 

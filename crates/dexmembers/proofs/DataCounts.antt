@@ -1,4 +1,4 @@
--- Class data that stands in the file: without one of its parts there is none.
+-- Class data in the file: without one of its parts there is none.
 use Rattle.std.proofs.Common.{◌≡◌, ℕ, ◌+◌, ◌<◌, List, [], ◌∷◌, ◌++◌, length, get_or, ap, sym, subst, ◌∙◌, refl, arith}
 use Rattle.dexspec.specs.Lists.{Sequence}
 use Rattle.dexspec.specs.Numbers.{Uleb128At}

@@ -36,7 +36,7 @@ use Rattle.dexmembers.proofs.OneMember.{field_follows, method_follows}
 
 -- ---- parts of lists, and numbers within the file
 
--- what holds of all holds of the front
+-- what holds of all holds of a prefix
 all_left : {X : Type 0} (P : X → Type 0) (xs ys : List X) → All P (xs ++ ys) → All P xs
 all_left P xs ys h k d lt = All-contains P (xs ++ ys) (get_or xs k d) h (Contains-append_left xs ys (get_or xs k d) (Contains-get_or xs k d lt))
 
@@ -47,7 +47,7 @@ all_right P xs ys h k d lt = All-contains P (xs ++ ys) (get_or ys k d) h (Contai
 -- ---- lists that share none, by numbers and by symbols
 
 module _ {X E S : Type 0} (enc : X → E) (symbol : E → S) (index : X → ℕ) (at : ℕ → S) (is : (x : X) → symbol (enc x) ≡ at (index x)) where
-  -- where numbers are those of unlike symbols
+  -- where numbers are those of different symbols
   pub apart_symbols : (P : ℕ → Type 0) → ((i j : ℕ) → P i → P j → at i ≡ at j → i ≡ j) → (xs ys : List X) → All (λ x. P (index x)) xs → All (λ x. P (index x)) ys → ShareNone (map index xs) (map index ys) → ShareNone (map symbol (map enc xs)) (map symbol (map enc ys))
   apart_symbols P one xs ys all_x all_y none s in_x in_y =
       let u = Contains-map_source symbol (map enc xs) s in_x in
@@ -179,7 +179,7 @@ module _ (b : List ℕ) (m : Mentions) (pools : ArePools b m) (is : IsNumbering 
   one_method_number : (i j : ℕ) → IsOwnMethod m (class_idx b r) i → IsOwnMethod m (class_idx b r) j → method_at m i ≡ method_at m j → i ≡ j
   one_method_number i j h g same = one_place method_cmp method_total m.methods is.rising.methods_rise i j _ h.within g.within same
 
-  -- what stands by numbers is what the row declares
+  -- what the numbers of the class data denote is what the row declares
   pub data_read : HasClass b r → class_data_off b r ≢ 0 → data_off b ≤ class_data_off b r → (d : ClassData) → DataAt m (class_idx b r) b (class_data_off b r) d.static_fields.items d.instance_fields.items d.direct_methods.items d.virtual_methods.items → IsDataOf b r m d
   data_read h some in_data d x =
       let class = class_idx b r in
@@ -251,7 +251,7 @@ module _ (b : List ℕ) (m : Mentions) (pools : ArePools b m) (is : IsNumbering 
         methods_apart = methods.apart;
       }
 
-  -- where nothing stands by numbers the row declares nothing
+  -- if there is no class data by numbers, the row declares nothing
   no_item : IsFrame b → NoData m (class_idx b r) b (class_data_off b r) → (name : Text) → ClassTypeRow b (class_idx b r) name → (d : items.ClassData) → BelongTo name d → ClassDataAt b (class_data_off b r) d → ⊥
   no_item frame none name type d own s =
       let class = class_idx b r in
@@ -314,7 +314,7 @@ module _ (b : List ℕ) (m : Mentions) (pools : ArePools b m) (is : IsNumbering 
     | inr s ↦ no_item frame none h.1.name h.1.class h.0 h.1.own s.1
   ]
 
--- what is read stands for what the file declares
+-- what is read denotes what the file declares
 pub read_so : {P Q : ClassData → Type 0} → ((d : ClassData) → P d → Q d) → (r : Result ClassData ItemFault) → IfOk r P → IfOk r Q
 read_so so (Ok d) h = so d h
 read_so so (Err fault) h = h

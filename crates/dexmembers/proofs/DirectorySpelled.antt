@@ -1,4 +1,4 @@
--- An annotations directory with numbers put in is that of what the numbers stand for.
+-- An annotations directory with numbers put in is that of what the numbers denote.
 use Rattle.std.proofs.Common.{◌≡◌, ◌≢◌, ℕ, ◌+◌, ◌*◌, ◌<◌, ◌≤◌, Bool, true, false, List, [], ◌∷◌, ◌++◌, length, map, take, drop, Option, Some, None, unwrap_or, refl, sym, ap, ◌∙◌, subst, arith, inl, inr, All}
 use Rattle.std.specs.Prelude.{if◌then◌else◌, ◌==◌, slice_index, nat_lt}
 use Rattle.std.specs.List.{Contains, zip}
@@ -164,7 +164,7 @@ module _ (m : Mentions) (ranks : RanksAreNumbers m) (name : Text) where
       let es = methods_numbered xs (All-tail (IsKnownMethod m) x xs h) (All-tail OfClass x xs k) in
       λ i. e i ∷ es i
 
-  -- a directory is that of what the numbers stand for
+  -- a directory is that of what the numbers denote
   pub directory_spelled : (c : Body) (x : NumberedMembers) (own : ℕ) (fo mo po : List ℕ) (sets : SetOffsets) (bytes : List ℕ) → AreKnownMembers m x → AreOrdered x → AreOfClass m name x → members_of c ≡ members_in m x
       → length fo ≡ length (fields_of x) → length mo ≡ length (methods_of x) → length po ≡ length (methods_of x)
       → sets.own ≡ own → sets.fields ≡ fo → map (λ offs. slice_index offs 0) sets.methods ≡ mo → directory_bytes m (name, c) sets po ≡ Some bytes → numbered_directory_bytes x own fo mo po ≡ bytes

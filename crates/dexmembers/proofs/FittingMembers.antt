@@ -1,4 +1,4 @@
--- Where each number leads somewhere, those of members fit their places if those in code do.
+-- Where each number has an image, those of members fit their places if those in code do.
 use Rattle.std.proofs.Common.{◌≡◌, ℕ, ◌^◌, ◌<◌, ◌≤◌, Bool, List, Option, Some, None, refl, sym, subst, arith}
 use Rattle.std.specs.Prelude.{◌↔◌, IsTrue, IfSome}
 use Rattle.std.specs.List.{All}

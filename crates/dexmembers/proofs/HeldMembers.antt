@@ -1,4 +1,4 @@
--- Members as they are held, led on and stripped: what is looked up for them then.
+-- Members as they are held, remapped and stripped: what is looked up for them then.
 use Rattle.std.proofs.Common.{◌≡◌, ℕ, List, [], ◌∷◌, length, map, refl, ap, ◌∙◌, subst, arith, Bor, Option, Some, None}
 use Rattle.std.specs.Prelude.{MatchOption, IfSome, option_to_list}
 use Rattle.std.specs.List.{All, flat_map}
@@ -16,7 +16,7 @@ use Rattle.dexmembers.specs.Held.{HeldField, HeldMethod, field_of, method_of, Is
 use Rattle.dexmembers.specs.Renumbering.{renumbered_field, renumbered_method, led_field, led_method, FieldHasPlaces, MethodHasPlaces, HeldFieldLeads, HeldMethodLeads}
 use Rattle.dexmembers.specs.Stripped.{stripped_held, stripped_method}
 
--- ---- what the numbers of members lead to
+-- ---- the images of the numbers of members
 
 pub fields_lead : (r : Maps) (sets : List NumberedSet) (fs : List HeldField) → All (FieldHasPlaces r) (map (field_of sets) fs) → All (HeldFieldLeads r) fs
 fields_lead r sets [] h = All-nil (HeldFieldLeads r)
@@ -28,7 +28,7 @@ methods_lead r t (x ∷ xs) h =
     let one = All-head (MethodHasPlaces r) (method_of t x) (map (method_of t) xs) h in
     All-cons (HeldMethodLeads r) x xs (record { number_leads = one.number_leads; code_leads = one.code_leads }) (methods_lead r t xs (All-tail (MethodHasPlaces r) (method_of t x) (map (method_of t) xs) h))
 
--- ---- led on
+-- ---- remapped
 
 module _ (r : Maps) (sets sets' : List NumberedSet) (led : (place : Option ℕ) → IsLedSet r (set_at sets place) (set_at sets' place)) where
   -- the fields of a list, and their sets in the table

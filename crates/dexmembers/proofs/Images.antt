@@ -23,7 +23,7 @@ field_use i = record { kind = kinds.Field; number = i }
 abbrev pub method_use : ℕ → Use
 method_use i = record { kind = kinds.Method; number = i }
 
--- each number of the set leads somewhere
+-- each number of the set has an image
 abbrev pub SetHasImages : Maps → NumberedSet → Type 0
 SetHasImages r s = All (IsLedUse r) (set_uses s)
 

@@ -80,7 +80,7 @@ module _ (b : List ℕ) (r : ℕ) (m : Mentions) (read : DataRead) (is : IsDataO
       (All-append (λ (y : EncodedMethod). y.code_off ≢ 0 → P b y.code_off) (map (encoded_method_in m) read.direct_methods.items) (map (encoded_method_in m) read.virtual_methods.items)
       (list_coded P b m holds read.direct_methods.items direct h) (list_coded P b m holds read.virtual_methods.items virtual g))
 
-  -- where code stands for each method, conditions 18 to 20 hold
+  -- if there is code for each method, conditions 18 to 20 hold
   pub code_holds : (direct virtual : List (Option Code)) → AreCodesAt b read.direct_methods.items direct → AreCodesAt b read.virtual_methods.items virtual → HasCode b r × HasTries b r × HasDebug b r
   code_holds direct virtual h g = (
     all_coded HasPiecesAt (pieces_hold b) direct virtual h g,

@@ -1,4 +1,5 @@
--- Members one after the other: those that were read are the first of any that stand there, and their indices rise.
+-- Members one after the other: those that were read are the first of any others at the same offset, and their indices
+-- rise.
 use Rattle.std.proofs.Common.{◌≡◌, ◌⊎◌, ℕ, ◌+◌, ◌<◌, ◌≤◌, true, List, [], ◌∷◌, ◌++◌, length, map, get_or, Option, Some, None, refl, ap, sym, ◌∙◌, subst, arith, inl, inr}
 use Rattle.std.specs.Prelude.{All}
 use Rattle.std.specs.List.{Contains}
@@ -62,7 +63,7 @@ module _ {X : Type 0} (At : Member X) (index : X → ℕ) where
         stuck b (o + h.0) (Some (index x)) xs ys h.1 g.1 (omega (arith, lt)) h.3 (λ z m at. absent z m (subst (λ (i : ℕ). At b i (last_index index (Some (index x)) xs) z m) (sym place) at))
         (subst (λ (z : X). Chain At index b (o + h.0) (Some (index z)) ys g.1) (sym first.0) moved)
 
-    -- two lists stand there in one way
+    -- there is at most one way to read two lists at an offset
     pub one_pair : (b : List ℕ) (o : ℕ) (xs ys us vs : List X) (n k : ℕ) → length xs ≡ length us → length ys ≡ length vs → ListsAt At index b o xs ys n → ListsAt At index b o us vs k → (xs ≡ us) × (ys ≡ vs) × (n ≡ k)
     one_pair b o xs ys us vs n k len lens h g =
         let first = one_chain b o None xs us h.first_size g.first_size len h.first g.first in

@@ -1,4 +1,4 @@
--- The symbols that occur in members are those of what the numbers stand for.
+-- The symbols that occur in members are those of what the numbers denote.
 use Rattle.std.proofs.Common.{◌≡◌, ℕ, ◌<◌, List, [], ◌∷◌, ◌++◌, length, map, Option, Some, None, option_to_list, refl, ◌∙◌, subst, arith}
 use Rattle.std.specs.Prelude.{IfSome}
 use Rattle.std.specs.List.{All, AllZip, flat_map}

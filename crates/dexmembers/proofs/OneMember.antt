@@ -1,4 +1,4 @@
--- At an offset of class data stands one member at most, and indices rise.
+-- There is at most one member at an offset of class data, and indices rise.
 use Rattle.std.proofs.Common.{◌≡◌, ℕ, ◌+◌, ◌<◌, List, Option, Some, None, sym, subst, ◌∙◌, arith}
 use Rattle.dexspec.specs.Numbers.{Uleb128At}
 use Rattle.dexspec.specs.ClassData.{IsNextIndex}
@@ -21,7 +21,7 @@ module _ (b : List ℕ) (o : ℕ) (last : Option ℕ) where
       let flags = one_uleb128 b (o + e.index_size) f g h.flags_size e.flags_size (subst (λ (s : ℕ). Uleb128At b (o + s) f h.flags_size) d.1 h.flags_is) e.flags_is in
       (one_next last h.difference e.difference i j d.0 h.next e.next, flags.0, omega (arith, d.1, flags.1, h.size, e.size))
 
-  -- without access flags none stands
+  -- without access flags there is no member
   pub no_flags : (difference size : ℕ) → Uleb128At b o difference size → ((v n : ℕ) → Uleb128At b (o + size) v n → ⊥) → (i f n : ℕ) → HeadAt b o last i f n → ⊥
   no_flags difference size read none i f n h =
       let d = one_uleb128 b o h.difference difference h.index_size size h.difference_is read in
@@ -41,7 +41,7 @@ module _ (m : Mentions) (class : ℕ) (b : List ℕ) (o : ℕ) where
       let code = one_uleb128 b (o + g.head_size) x.code_off y.code_off h.code_size g.code_size (subst (λ (s : ℕ). Uleb128At b (o + s) x.code_off h.code_size) same.2 h.code_is) g.code_is in
       ((λ i. record { index = same.0 i; flags = same.1 i; code_off = code.0 i }), omega (arith, same.2, code.1, h.size, g.size))
 
-  -- a field behind another one
+  -- a field after another one
   pub field_follows : (i : ℕ) (x : EncodedField) (n : ℕ) → FieldAt m class b o (Some i) x n → i < x.index
   field_follows i x n h = let next = h.head_is.next in omega (arith, next.0, next.1)
 
@@ -49,7 +49,7 @@ module _ (m : Mentions) (class : ℕ) (b : List ℕ) (o : ℕ) where
   pub method_follows : (i : ℕ) (x : EncodedMethod) (n : ℕ) → MethodAt m class b o (Some i) x n → i < x.index
   method_follows i x n h = let next = h.head_is.next in omega (arith, next.0, next.1)
 
-  -- without the offset of its code no method stands
+  -- without the offset of its code there is no method
   pub no_code : (last : Option ℕ) (index flags size : ℕ) → HeadAt b o last index flags size → ((v n : ℕ) → Uleb128At b (o + size) v n → ⊥) → (x : EncodedMethod) (n : ℕ) → MethodAt m class b o last x n → ⊥
   no_code last index flags size read none x n h =
       let same = one_head b o last x.index index x.flags flags h.head_size size h.head_is read in

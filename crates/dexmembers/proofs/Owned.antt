@@ -19,7 +19,7 @@ use Rattle.dexmembers.specs.EncodedMembers.{IsOwnField, IsOwnMethod}
 pub ok_no_err : {A E : Type 0} (r : Result A E) (x : A) (e : E) → r ≡ Ok x → r ≡ Err e → ⊥
 ok_no_err r x e p q = absurd cc
 
--- a member of a rising list stands at one place
+-- a member of a rising list is at one place
 pub one_place : {K : Type 0} (R : K → K → Ordering) → IsTotalOrder R → (xs : List K) → rises R xs ≡ true → (i j : ℕ) (d : K) → i < length xs → j < length xs → get_or xs i d ≡ get_or xs j d → i ≡ j
 one_place R o xs rise i j d lt lt' same = nat_cmp-IsAntisymmetric i j (places_agree R o xs rise i j d d lt lt' ∙ ap (R (get_or xs i d)) (sym same) ∙ tied_itself o (get_or xs i d))
 

@@ -66,12 +66,12 @@ lower_above i q lt (p ∷ ps) h =
 
 -- ---- one pair more
 
--- a pair before all others stands first
+-- a pair before all others is the first
 add_first : (p : ℕ × ℕ) (xs : List (ℕ × ℕ)) → AreAbove p.0 xs → add_in_order pair_cmp p xs ≡ p ∷ xs
 add_first p [] h = refl
 add_first p (x ∷ xs) h = ap (λ (r : Ordering). by_order r (p ∷ x ∷ xs) (x ∷ xs) (x ∷ add_in_order pair_cmp p xs)) (less p.0 x.0 (All-head (λ (q : ℕ × ℕ). p.0 < q.0) x xs h))
 
--- one behind the first is added to the others
+-- one that is after the first is added to the others
 add_later : (p x : ℕ × ℕ) (xs : List (ℕ × ℕ)) → x.0 < p.0 → add_in_order pair_cmp p (x ∷ xs) ≡ x ∷ add_in_order pair_cmp p xs
 add_later p x xs lt = ap (λ (r : Ordering). by_order r (p ∷ x ∷ xs) (x ∷ xs) (x ∷ add_in_order pair_cmp p xs)) (nat_more p.0 x.0 lt)
 
@@ -94,7 +94,7 @@ kept_first p xs h = by (p.1 == 0)
     by true = refl
     by false = add_first p (kept xs) (kept_all (λ (q : ℕ × ℕ). p.0 < q.0) xs h)
 
--- behind another
+-- a pair after another
 kept_later : (p q : ℕ × ℕ) (xs : List (ℕ × ℕ)) → q.0 < p.0 → add_kept (p.1 == 0) p (kept_pair q ++ xs) ≡ kept_pair q ++ add_kept (p.1 == 0) p xs
 kept_later p q xs lt = by (p.1 == 0) (q.1 == 0)
   where

@@ -1,4 +1,4 @@
--- Members whose numbers lead somewhere, after a cut and after a join: each leads to one that fits its place.
+-- Members whose numbers have images, after a cut and after a join: each image fits its place.
 use Rattle.std.proofs.Common.{◌≡◌, ℕ, ◌<◌, ◌≤◌, Bool, true, false, nat_lt, max, List, [], ◌∷◌, ◌++◌, Option, Some, None, refl, sym, ap, subst, ◌∙◌, arith, inl, inr}
 use Rattle.std.specs.Prelude.{IsSome, IfSome, option_to_list}
 use Rattle.std.specs.List.{All, Contains, flat_map}
@@ -60,7 +60,7 @@ module _ (r : Maps) (narrow : LeadsNarrow r) (sets : (s : NumberedSet) → SetHa
     values_lead = values x.static_values h.values_lead;
   }
 
--- all methods lead somewhere
+-- all methods have images
 methods_lead : (r : Maps) (x : NumberedMembers) → MembersHaveImages r x → All (MethodHasImages r) (methods_of x)
 methods_lead r x h = All-append (MethodHasImages r) x.direct_methods x.virtual_methods h.direct_methods_lead h.virtual_methods_lead
 
@@ -106,7 +106,7 @@ has_greatest (n ∷ ns) = let rest = has_greatest ns in with_greatest n ns rest.
 
 -- ---- after a join
 
--- the short strings of the code of a method lead somewhere
+-- the short strings of the code of a method have images
 code_shorts_led : (r : Maps) (o : Option NumberedItem) (i : ℕ) → IfSome o (HasImages r) → Contains (flat_map code_short_strings (option_to_list o)) i → IsSome (image r.texts i)
 code_shorts_led r None i h c = absurd (Contains-nil i c)
 code_shorts_led r (Some x) i h c = shorts_led r x.body.pieces i h.pieces_have (subst (λ ns. Contains ns i) (append-nil (short_strings x.body.pieces)) c)
@@ -118,7 +118,7 @@ methods_shorts_led r (x ∷ xs) i h c = elim (Contains-append_cases (method_shor
   | inr l ↦ methods_shorts_led r xs i (All-tail (MethodHasImages r) x xs h) l
 ]
 
--- where all short strings lead to numbers of 16 bits, those of each method do
+-- if all short strings have images of 16 bits, those of each method do
 each_short : (r : Maps) (xs : List NumberedMethod) → ShortLead r (flat_map method_short_strings xs) → All (λ x. ShortLead r (method_short_strings x)) xs
 each_short r [] h = All-nil (λ x. ShortLead r (method_short_strings x))
 each_short r (x ∷ xs) h =
@@ -146,7 +146,7 @@ module _ (r : Maps) (joined : (c : NumberedItem) (g : Option ℕ) → IsGreatest
       let lead : ShortLead r (members_short_strings x) = short_lead r (members_short_strings x) greatest order is short (λ i c. methods_shorts_led r (methods_of x) i all c) in
       all_both (MethodHasImages r) (λ y. ShortLead r (method_short_strings y)) (CodePlaced r) (λ y leads shorts. code_joined y.code leads.code_leads shorts) (methods_of x) all (each_short r (methods_of x) lead)
 
--- numbers of 32 bits lead to such
+-- numbers of 32 bits have images of 32 bits
 pub fit_narrow : (r : Maps) → ImagesFit r → LeadsNarrow r
 fit_narrow r fit kinds.Text i j e lt = let z = fit.texts_fit i j e in omega (arith, z)
 fit_narrow r fit kinds.Typ i j e lt = let z = fit.types_fit i j e in omega (arith, z)

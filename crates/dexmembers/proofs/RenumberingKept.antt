@@ -1,4 +1,4 @@
--- What members stand for is kept by other numbers, and so are their order and their class.
+-- What members denote stays the same once they are renumbered, and so do their order and their class.
 use Rattle.std.proofs.Common.{◌≡◌, ℕ, ◌<◌, List, [], ◌∷◌, length, map, get_or, Option, Some, refl, sym, ap, ◌∙◌, subst}
 use Rattle.std.specs.Prelude.{unwrap_or}
 use Rattle.std.specs.List.{All}
@@ -46,7 +46,7 @@ module _ (m n : Mentions) (r : Maps) (leads : AllLead m n r) where
 
 -- ---- meaning
 
--- sets stand for what they stood for
+-- sets denote what they denoted before
 abbrev pub SetsKeep : Mentions → Mentions → Maps → Type 0
 SetsKeep m n r = (xs : NumberedSet) → SetHasImages r xs → IsKnownSet m xs → IsKnownSet n (renumbered_set r xs) × (set_in n (renumbered_set r xs) ≡ set_in m xs)
 

@@ -1,4 +1,4 @@
--- Numbers that are led on keep their order, and stay apart.
+-- Remapped numbers keep their order, and stay apart.
 use Rattle.std.proofs.Common.{◌≡◌, ℕ, ◌<◌, true, List, length, map, get_or, Option, Some, refl, sym, ap, ◌∙◌, subst, arith, inl, inr}
 use Rattle.std.specs.Prelude.{unwrap_or}
 use Rattle.std.specs.List.{All, Contains}
@@ -14,11 +14,11 @@ use Rattle.dexpool.specs.Numberings.{image}
 use Rattle.dexpool.specs.Orderly.{KeepsOrder}
 use Rattle.dexpool.proofs.NumberOrder.{rises-map}
 
--- where a number leads; one that leads nowhere stays
+-- the image of a number; a number without an image stays
 abbrev pub end : List (Option ℕ) → ℕ → ℕ
 end images i = unwrap_or (image images i) i
 
--- the number leads somewhere
+-- the number has an image
 abbrev pub Goes : List (Option ℕ) → ℕ → Type 0
 Goes images i = (j : ℕ) × (image images i ≡ Some j)
 
@@ -53,7 +53,7 @@ module _ (images : List (Option ℕ)) (keeps : KeepsOrder images) where
   pub rise_kept : (is : List ℕ) → All (Goes images) is → rises nat_cmp is ≡ true → rises nat_cmp (map (end images) is) ≡ true
   rise_kept is all h = sym (rises-map nat_cmp nat_cmp (end images) (Goes images) order_kept is all) ∙ h
 
-  -- numbers of which none is in two lists lead to such
+  -- two lists without a common number have images without a common number
   pub apart_kept : (is js : List ℕ) → All (Goes images) is → All (Goes images) js → ShareNone is js → ShareNone (map (end images) is) (map (end images) js)
   apart_kept is js all all' h k (p, lt, e) (q, lt', e') =
       let inside : p < length is = omega (arith, lt, length-map is (end images)) in

@@ -42,7 +42,7 @@ lists_rise b r m read is = record {
 }
 
 module _ (b : List ℕ) (r : ℕ) (m : Mentions) (read : DataRead) (is : IsDataOf b r m read) (off : ℕ) (off_is : off ≡ annotations_off b r) (some : off ≢ 0) where
-  -- what stands there, where it may be none
+  -- the directory at an offset other than 0
   directory_there : (a : Directory) → OrNone DirectoryAt no_directory b (annotations_off b r) a → DirectoryAt b off a
   directory_there a (inl h) = absurd (some (off_is ∙ h.0))
   directory_there a (inr h) = subst (λ (o : ℕ). DirectoryAt b o a) (sym off_is) h.1
@@ -50,7 +50,7 @@ module _ (b : List ℕ) (r : ℕ) (m : Mentions) (read : DataRead) (is : IsDataO
   pub directory_here : (a : Directory) → DirectoryAt b off a → OrNone DirectoryAt no_directory b (annotations_off b r) a
   directory_here a h = inr (λ e. some (off_is ∙ e), subst (λ (o : ℕ). DirectoryAt b o a) off_is h)
 
-  -- where no directory stands, condition 22 fails
+  -- if there is no directory, condition 22 fails
   pub directory_refused : (fault : ItemFault) → IsDirectoryFault b off fault → IsAnnotationsFault b r fault
   directory_refused Memory h = tt
   directory_refused (Refused n) h = (h.0, λ holds. let a = holds (class_data_in m read) is.declared in h.1 a.0 (directory_there a.0 a.1))

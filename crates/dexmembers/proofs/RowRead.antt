@@ -1,4 +1,4 @@
--- What is answered of a row that was read.
+-- What is returned for a row that was read.
 use Rattle.std.proofs.Common.{◌≡◌, ℕ, suc, ◌<◌, ◌≤◌, List, [], ◌∷◌, length, refl, sym, ap, ◌∙◌, subst, Option, Some, None}
 use Rattle.std.specs.Prelude.{MatchOption}
 use Rattle.std.specs.List.{AllZip}
@@ -54,7 +54,7 @@ module _ (b : List ℕ) (r : ℕ) (m : Mentions) (rising : AreRising m) (read : 
     parts_row =
         made_row b r m rising (shared_directory_of a) parts.annotations.known read is is_known is_meant direct virtual parts.direct_codes.symbolic parts.virtual_codes.symbolic parts.direct_codes.at parts.direct_codes.stand parts.virtual_codes.at parts.virtual_codes.stand vs parts.annotations.at parts.values.are.at
 
-    -- what is answered of them
+    -- what is returned for them
     pub parts_answer : (made : NumberedMembers) → made ≡ attached read (shared_directory_of a) direct virtual vs → (found : Option (NumberedMembers × ℕ)) → MatchOption found (most < members_weight (members_in m made)) (λ (x : NumberedMembers × ℕ). (x.0 ≡ made) × (x.1 ≡ members_weight (members_in m made)) × (x.1 ≤ most))
         → AreReadWithin b r m most found
     parts_answer made same None heavy = record {

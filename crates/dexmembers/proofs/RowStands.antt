@@ -78,7 +78,7 @@ methods_make b m a [] (c ∷ cs) h = absurd h
 methods_make b m a (x ∷ xs) [] h = absurd h
 methods_make b m a (x ∷ xs) (c ∷ cs) h = (record { name = refl; proto = refl; flags = refl; code = h.0; annotations = refl; parameter_annotations = refl }, methods_make b m a xs cs h.1)
 
--- code stands for methods by their symbols
+-- there is code for methods by their symbols
 pub symbols_coded : (b : List ℕ) (m : Mentions) (xs : List MethodRead) (cs : List (Option Code)) → AreCodesAt b xs cs → AllZip (λ (y : EncodedMethod) (c : Option Code). OrNone (SomeAt CodeAt) None b y.code_off c) (map (encoded_method_in m) xs) cs
 symbols_coded b m [] [] h = tt
 symbols_coded b m [] (c ∷ cs) h = absurd h
@@ -180,7 +180,7 @@ pub codes_here : {X : Type 0} (items : X → List (Option NumberedItem)) (b : Li
     → MatchOption found (AreHeavyCodes b ys most) (λ (x : X). AreCodesOf b m ys most (items x))
 codes_here {X} items b m xs ys most found same h = subst (λ (l : List MethodRead). MatchOption found (AreHeavyCodes b l most) (λ (x : X). AreCodesOf b m l most (items x))) same h
 
--- static values of so many fields
+-- static values for a given number of fields
 pub values_here : {X : Type 0} (values : X → NumberedValues) (b : List ℕ) (r : ℕ) (m : Mentions) (n k most : ℕ) (found : Option X) → n ≡ k → MatchOption found (AreHeavyValues b r n most) (λ (x : X). AreValuesOf b r m n most (values x))
     → MatchOption found (AreHeavyValues b r k most) (λ (x : X). AreValuesOf b r m k most (values x))
 values_here {X} values b r m n k most found same h = subst (λ (l : ℕ). MatchOption found (AreHeavyValues b r l most) (λ (x : X). AreValuesOf b r m l most (values x))) same h

@@ -1,4 +1,4 @@
--- Members of two numberings, led to a third, are the same there just where they stand for the same.
+-- Members of two numberings, mapped to a third, are the same there just where they denote the same.
 use Rattle.std.proofs.Common.{◌≡◌, ℕ, List, map, Option, sym, ap, ◌∙◌}
 use Rattle.std.specs.Prelude.{◌↔◌, IfSome}
 use Rattle.std.specs.List.{All}
@@ -22,7 +22,7 @@ use Rattle.dexmembers.proofs.Images.{field_use, method_use, SetHasImages, HaveIm
 use Rattle.dexmembers.proofs.RenumberingLists.{all_left, all_right, all_both, maps_same, options_same, options_both}
 use Rattle.dexmembers.proofs.RenumberingKept.{no_field, no_method, field_led, method_led, FieldIsOf, MethodIsOf}
 
--- what is known of a set: its numbers lead on, and are those of symbols
+-- what is known of a set: its numbers have images, and are those of symbols
 record IsPartSet (m : Mentions) (r : Maps) (xs : NumberedSet) : Type 0 where
   pub leads : SetHasImages r xs
   pub known : IsKnownSet m xs
@@ -44,7 +44,7 @@ record IsPartMethod (m : Mentions) (r : Maps) (class : Text) (x : NumberedMethod
   pub known : IsKnownMethod m x
   pub is_of : MethodIsOf m class x
 
--- sets are the same, led on, just where they stand for the same
+-- sets are the same once remapped just where they denote the same
 abbrev pub SetsSame : Mentions → Mentions → Maps → Maps → Type 0
 SetsSame m n r s = (xs ys : NumberedSet) → SetHasImages r xs → SetHasImages s ys → IsKnownSet m xs → IsKnownSet n ys → (renumbered_set r xs ≡ renumbered_set s ys) ↔ (set_in m xs ≡ set_in n ys)
 

@@ -134,7 +134,7 @@ entry_searched {X} es n (Err i) o e bound h =
 
 -- ---- lists, member by member
 
--- what stood in the front, and the next
+-- the images of a prefix, and the next
 pub front_more : {T Z : Type 0} (f : T → Z) (xs : List T) (i : ℕ) (x : T) → i < length xs → ((d : T) → get_or xs i d ≡ x) → map f (take (i + 1) xs) ≡ map f (take i xs) ++ f x ∷ []
 front_more f xs i x lt is = ap (map f) (take_more xs i x lt ∙ ap (λ (y : _). take i xs ++ y ∷ []) (is x)) ∙ map-append f (take i xs) (x ∷ [])
 

@@ -23,7 +23,7 @@ module _ (b : List ℕ) (r off : ℕ) (at : off ≡ static_values_off b r) (some
   pub statics_at : (m : Mentions) (xs : NumberedValues) → AreStaticsAt b off m xs → OrNone StaticValuesAt NoValues b (static_values_off b r) (values_in m xs)
   statics_at m xs are = inr (λ e. some (at ∙ e), (are.at.0, subst (λ o. EncodedArrayItemAt b o (values_in m xs) are.at.0) at are.at.1))
 
-  -- where none of so many stand, condition 21 fails
+  -- if there are no static values for the number of fields, condition 21 fails
   pub none_there : (fields number : ℕ) → number ≡ 21 → ((vs : Values) → HasValuesFor b r fields vs → ⊥) → IsValuesFault b r fields (Refused number)
   none_there fields number is none = (
     is,
@@ -31,7 +31,7 @@ module _ (b : List ℕ) (r off : ℕ) (at : off ≡ static_values_off b r) (some
     λ d declared many has. let found = has d declared in none found.0 (record { at = found.1; few = subst (λ n. count_values found.0 ≤ n) many found.2 }),
   )
 
-  -- no array stands there
+  -- there is no array at the offset
   no_array : (vs : Values) → ((vs : Values) (n : ℕ) → EncodedArrayItemAt b off vs n → ⊥) → OrNone StaticValuesAt NoValues b (static_values_off b r) vs → ⊥
   no_array vs none (inl h) = some (at ∙ h.0)
   no_array vs none (inr h) = none vs h.1.0 (subst (λ o. EncodedArrayItemAt b o vs h.1.0) (sym at) h.1.1)

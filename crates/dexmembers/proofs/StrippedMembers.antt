@@ -1,5 +1,5 @@
--- Members without their debug programs stand for what they stood for without them, and stay known, in order, and of their class. They
--- keep their short strings and their tries.
+-- Members without their debug programs denote what they denoted without them, and stay known, in order, and of their
+-- class. They keep their short strings and their tries.
 use Rattle.std.proofs.Common.{◌≡◌, ℕ, List, [], ◌∷◌, ◌++◌, map, Option, Some, None, get_or, option_to_list, refl, ap, sym, ◌∙◌, subst}
 use Rattle.std.specs.Prelude.{All, IfSome}
 use Rattle.std.specs.List.{flat_map}

@@ -1,4 +1,4 @@
--- What members weigh by their numbers is what they stand for weighs.
+-- What members weigh by their numbers is what the members that they denote weigh.
 use Rattle.std.proofs.Common.{◌≡◌, ℕ, ◌+◌, List, [], ◌∷◌, ◌++◌, map, Option, Some, None, option_to_list, refl, ap, ◌∙◌, arith, sum_by}
 use Rattle.std.specs.Prelude.{IfSome}
 use Rattle.std.specs.List.{All}

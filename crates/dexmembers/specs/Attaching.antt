@@ -14,7 +14,7 @@ use Rattle.dexmembers.specs.declared.class_data.EncodedMethod.{EncodedMethod as 
 abbrev pub EntriesRise : {X : Type 0} → List (ℕ × X) → Type 0
 EntriesRise es = NumbersRise (map (λ e. e.0) es)
 
--- at the place stands the entry of the number
+-- at this index is the entry of the number
 pub record HasNumberAt {X : Type 0} (es : List (ℕ × X)) (number at : ℕ) : Type 0 where
   pub within : at < length es
   pub is : (d : ℕ × X) → (slice_index_or es at d).0 ≡ number

@@ -55,7 +55,7 @@ pub record IsDirectoryOf (b : List ℕ) (r : ℕ) (m : Mentions) (d : DataRead) 
 abbrev pub HasAnnotationsOf : List ℕ → ℕ → Mentions → DataRead → ℕ → Type 0
 HasAnnotationsOf b r m d = IsWeighed (IsDirectoryOf b r m d) directory_weight
 
--- class row r has static values of that weight, or none, and no more than so many fields
+-- class row r has static values of that weight, or none, and no more than `fields` of them
 pub record HasValuesOf (b : List ℕ) (r fields weight : ℕ) : Type 0 where
   pub values : Values
   pub are : HasValuesFor b r fields values

@@ -48,7 +48,7 @@ pub record IsDataOf (b : List ℕ) (r : ℕ) (m : Mentions) (d : DataRead) : Typ
   pub fields_apart : ShareNone (map (λ f. f.index) d.static_fields.items) (map (λ f. f.index) d.instance_fields.items)
   pub methods_apart : ShareNone (map (λ x. x.index) d.direct_methods.items) (map (λ x. x.index) d.virtual_methods.items)
 
--- the row declares no members that a class may; want of memory says nothing of the file
+-- the row declares no members that a class may; a failed allocation says nothing
 abbrev pub IsDataFault : List ℕ → ℕ → ItemFault → Type 0
 IsDataFault b r Memory = Unit {0}
 IsDataFault b r (Refused number) = (number ≡ 17) × (HasMembers b r → ⊥)

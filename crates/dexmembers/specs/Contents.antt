@@ -7,7 +7,7 @@ use Rattle.dexmembers.specs.Numbered.{NumberedMembers, AreFew}
 use Rattle.dexmembers.specs.Held.{field_of, method_of, IsHeldField, IsHeldMethod}
 use Rattle.dexmembers.specs.declared.members.Contents.{Contents}
 
--- what is held, with sets in the stead of their places
+-- what is held, with sets instead of their places
 abbrev pub contents_in : Contents → NumberedMembers
 contents_in x = record {
   annotations = set_at x.table.sets x.set;

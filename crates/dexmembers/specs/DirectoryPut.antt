@@ -4,7 +4,7 @@ use Rattle.std.specs.List.{flat_map, zip}
 use Rattle.dexspec.specs.Bytes.{uint}
 use Rattle.dexmembers.specs.Numbered.{NumberedField, NumberedMethod, NumberedMembers}
 
--- a pair in its place among others, and the rest of its list behind it
+-- a pair in its place among others, and the rest of its list after it
 abbrev pub put_among : ℕ × ℕ → (List (ℕ × ℕ) → List (ℕ × ℕ)) → List (ℕ × ℕ) → List (ℕ × ℕ)
 put_among p rest [] = p ∷ rest []
 put_among p rest (q ∷ qs) = if nat_lt p.0 q.0 then p ∷ rest (q ∷ qs) else q ∷ put_among p rest qs

@@ -11,18 +11,18 @@ use Rattle.dexval.specs.Numbered.{field_at, method_at}
 use Rattle.dexmembers.specs.declared.class_data.EncodedField.{EncodedField}
 use Rattle.dexmembers.specs.declared.class_data.EncodedMethod.{EncodedMethod}
 
--- the members are refused for this reason; want of memory tells nothing
+-- the members are refused for this reason; a failed allocation says nothing
 abbrev pub IsDataRefusal : Type 0 → ItemFault → Type 0
 IsDataRefusal Reason (Refused number) = (number ≡ 17) × Reason
 IsDataRefusal Reason Memory = Unit {0}
 
 -- ---- lists of members
 
--- A kind of member: at offset o of b, behind a member with the index `last`, if there is one, stands x, in n bytes.
+-- A kind of member: at offset o of b, after a member with the index `last`, if there is one, is x, in n bytes.
 abbrev pub Member : Type 0 → Type 1
 Member X = List ℕ → ℕ → Option ℕ → X → ℕ → Type 0
 
--- from o on, behind the index `last`, stand the members one after the other, in n bytes together
+-- from o on, after the index `last`, are the members one after the other, in n bytes together
 abbrev pub Chain : {X : Type 0} → Member X → (X → ℕ) → List ℕ → ℕ → Option ℕ → List X → ℕ → Type 0
 Chain At index b o last [] n = n ≡ 0
 Chain At index b o last (x ∷ xs) n = (k : ℕ) × (m : ℕ) × At b o last x k × Chain At index b (o + k) (Some (index x)) xs m × (n ≡ k + m)
@@ -32,17 +32,17 @@ abbrev pub last_index : {X : Type 0} → (X → ℕ) → Option ℕ → List X �
 last_index index last [] = last
 last_index index last (x ∷ xs) = last_index index (Some (index x)) xs
 
--- so many members were read from offset o on, in n bytes
+-- `count` members were read from offset o on, in n bytes
 pub record IsListRead {X : Type 0} (At : Member X) (index : X → ℕ) (b : List ℕ) (o count : ℕ) (xs : List X) (n : ℕ) : Type 0 where
   pub stand : Chain At index b o None xs n
   pub many : length xs ≡ count
   pub within : o + n ≤ length b
 
--- no so many members stand from offset o on
+-- there are not `count` members from offset o on
 abbrev pub NoList : {X : Type 0} → Member X → (X → ℕ) → List ℕ → ℕ → ℕ → Type 0
 NoList {X} At index b o count = (xs : List X) (n : ℕ) → length xs ≡ count → Chain At index b o None xs n → ⊥
 
--- two lists stand from offset o on, in n bytes, and no index is in both
+-- two lists are at offset o, in n bytes, and no index is in both
 pub record ListsAt {X : Type 0} (At : Member X) (index : X → ℕ) (b : List ℕ) (o : ℕ) (xs ys : List X) (n : ℕ) : Type 0 where
   pub first_size : ℕ
   pub second_size : ℕ
@@ -51,14 +51,14 @@ pub record ListsAt {X : Type 0} (At : Member X) (index : X → ℕ) (b : List �
   pub apart : ShareNone (map index xs) (map index ys)
   pub size : n ≡ first_size + second_size
 
--- they were read, with so many members
+-- two lists of `count` and `other_count` members were read
 pub record AreListsRead {X : Type 0} (At : Member X) (index : X → ℕ) (b : List ℕ) (o count other_count : ℕ) (xs ys : List X) (n : ℕ) : Type 0 where
   pub stand : ListsAt At index b o xs ys n
   pub many : length xs ≡ count
   pub others : length ys ≡ other_count
   pub within : o + n ≤ length b
 
--- no two lists with so many members stand there
+-- there are no two lists of `count` and `other_count` members at offset o
 abbrev pub NoLists : {X : Type 0} → Member X → (X → ℕ) → List ℕ → ℕ → ℕ → ℕ → Type 0
 NoLists {X} At index b o count other_count = (xs ys : List X) (n : ℕ) → length xs ≡ count → length ys ≡ other_count → ListsAt At index b o xs ys n → ⊥
 
@@ -76,7 +76,7 @@ pub record IsOwnMethod (m : Mentions) (class i : ℕ) : Type 0 where
   pub within : i < length m.methods
   pub class_is : IsAt m.types class (method_at m i).class
 
--- at offset o stand the index of a member, as its difference to the one before, and access flags
+-- at offset o are the index of a member, as its difference to the one before, and access flags
 pub record HeadAt (b : List ℕ) (o : ℕ) (last : Option ℕ) (index flags n : ℕ) : Type 0 where
   pub difference : ℕ
   pub index_size : ℕ
@@ -87,12 +87,12 @@ pub record HeadAt (b : List ℕ) (o : ℕ) (last : Option ℕ) (index flags n : 
   pub size : n ≡ index_size + flags_size
 
 module _ (m : Mentions) (class : ℕ) where
-  -- at offset o stands an encoded_field of the class
+  -- at offset o is an encoded_field of the class
   pub record FieldAt (b : List ℕ) (o : ℕ) (last : Option ℕ) (f : EncodedField) (n : ℕ) : Type 0 where
     pub head_is : HeadAt b o last f.index f.flags n
     pub own : IsOwnField m class f.index
 
-  -- at offset o stands an encoded_method of the class
+  -- at offset o is an encoded_method of the class
   pub record MethodAt (b : List ℕ) (o : ℕ) (last : Option ℕ) (x : EncodedMethod) (n : ℕ) : Type 0 where
     pub head_size : ℕ
     pub code_size : ℕ
@@ -103,7 +103,8 @@ module _ (m : Mentions) (class : ℕ) where
 
 -- ---- class data
 
--- at offset o stand four counts, and behind them as many static fields, instance fields, direct and virtual methods of the class
+-- at offset o are four counts, and after them as many static fields, instance fields, direct and virtual methods of the
+-- class
 pub record DataAt (m : Mentions) (class : ℕ) (b : List ℕ) (o : ℕ) (ss is : List EncodedField) (ds vs : List EncodedMethod) : Type 0 where
   pub counts_size : ℕ
   pub fields_size : ℕ
@@ -112,12 +113,12 @@ pub record DataAt (m : Mentions) (class : ℕ) (b : List ℕ) (o : ℕ) (ss is :
   pub fields : ListsAt (FieldAt m class) (λ f. f.index) b (o + counts_size) ss is fields_size
   pub methods : ListsAt (MethodAt m class) (λ x. x.index) b (o + counts_size + fields_size) ds vs methods_size
 
--- no class data of the class stands there
+-- there is no class data of the class at offset o
 abbrev pub NoData : Mentions → ℕ → List ℕ → ℕ → Type 0
 NoData m class b o = (ss is : List EncodedField) (ds vs : List EncodedMethod) → DataAt m class b o ss is ds vs → ⊥
 
 -- ---- two lists in one pass
 
--- an index that both lists hold stands in the one from place i on, and in the other from place j on
+-- an index that is in both lists is at place i or later in the one, and at place j or later in the other
 abbrev pub ArePassed : List ℕ → List ℕ → ℕ → ℕ → Type 0
 ArePassed xs ys i j = (k l : ℕ) → k < length xs → l < length ys → slice_index_or xs k 0 ≡ slice_index_or ys l 0 → (i ≤ k) × (j ≤ l)

@@ -15,7 +15,7 @@ use Rattle.dexmembers.specs.declared.class_data.EncodedMethod.{EncodedMethod}
 abbrev pub optional_code_weight : Option Code → ℕ
 optional_code_weight c = sum_by one_code_weight (option_to_list c)
 
--- at the offset of each method stands its code, or the offset is 0 and there is none
+-- at the offset of each method is its code, or the offset is 0 and there is none
 abbrev pub AreCodesAt : List ℕ → List EncodedMethod → List (Option Code) → Type 0
 AreCodesAt b xs codes = AllZip (λ x c. OrNone (SomeAt CodeAt) None b x.code_off c) xs codes
 
@@ -23,13 +23,13 @@ AreCodesAt b xs codes = AllZip (λ x c. OrNone (SomeAt CodeAt) None b x.code_off
 abbrev pub HaveCodes : List ℕ → List EncodedMethod → Type 0
 HaveCodes b xs = (codes : List (Option Code)) × AreCodesAt b xs codes
 
--- at the offset stands the code, or the offset is 0 and there is none
+-- at the offset is the code, or the offset is 0 and there is none
 pub record IsCodeOrNone (b : List ℕ) (off : ℕ) (m : Mentions) (code : Option NumberedItem) : Type 0 where
   pub symbolic : Option Code
   pub at : OrNone (SomeAt CodeAt) None b off symbolic
   pub stands : BothOrNone (StandsForCode m) code symbolic
 
--- the offset is that of code which is refused; want of memory says nothing of the file
+-- the offset is that of code which is refused; a failed allocation says nothing
 abbrev pub IsCodeOrNoneFault : List ℕ → ℕ → ItemFault → Type 0
 IsCodeOrNoneFault b off Memory = Unit {0}
 IsCodeOrNoneFault b off (Refused number) = (off ≢ 0) × IsCodeFault b off (Refused number)
@@ -54,7 +54,7 @@ pub record HasRefusedCode (b : List ℕ) (xs : List EncodedMethod) (number : ℕ
   pub coded : method.code_off ≢ 0
   pub failed : IsCodeFault b method.code_off (Refused number)
 
--- the fault is that of the code of one of the methods; want of memory says nothing of the file
+-- the fault is that of the code of one of the methods; a failed allocation says nothing
 abbrev pub IsCodesFault : List ℕ → List EncodedMethod → ItemFault → Type 0
 IsCodesFault b xs Memory = Unit {0}
 IsCodesFault b xs (Refused number) = HasRefusedCode b xs number

@@ -15,7 +15,7 @@ field_indices xs = map (λ x. x.index) xs
 abbrev pub method_indices : List MethodRead → List ℕ
 method_indices xs = map (λ x. x.index) xs
 
--- each of so many pairs from a place on names one of these numbers
+-- each of `count` pairs at an offset names one of these numbers
 abbrev pub NamesOnly : List ℕ → ℕ → ℕ → List ℕ → Type 0
 NamesOnly b at count numbers = All (λ p. Contains numbers p.0) (pairs_at b at count)
 

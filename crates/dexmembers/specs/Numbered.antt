@@ -1,4 +1,4 @@
--- What a class declares, with numbers in the place of symbols, and what it stands for.
+-- What a class declares, with numbers for symbols, and what it denotes.
 use Rattle.std.specs.Prelude.{◌≡◌, ℕ, ◌+◌, ◌^◌, ◌<◌, true, List, [], ◌++◌, length, map, All, Option, IfSome}
 use Rattle.std.specs.Option.{option_map}
 use Rattle.std.specs.Ordering.{nat_cmp}
@@ -53,7 +53,7 @@ pub record AreFew (static_fields instance_fields : List NumberedField) (direct_m
 abbrev pub methods_of : NumberedMembers → List NumberedMethod
 methods_of x = x.direct_methods ++ x.virtual_methods
 
--- ---- what the numbers stand for
+-- ---- what the numbers denote
 
 -- What a class declares, with symbols: that of a body of a class definition.
 pub record Members : Type 0 where
@@ -75,7 +75,7 @@ members_of c = record {
   static_values = c.static_values;
 }
 
--- the field that the numbers stand for
+-- the field that the numbers denote
 abbrev pub field_in : Mentions → NumberedField → FieldDef
 field_in m f = record {
   name = (field_at m f.number).name;

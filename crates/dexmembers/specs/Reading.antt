@@ -28,7 +28,7 @@ pub record MembersRow (b : List ℕ) (r : ℕ) (x : Members) : Type 0 where
   pub virtual_methods : AllZip (MakesMethod b directory) declared.virtual_methods x.virtual_methods
   pub static_values : OrNone StaticValuesAt NoValues b (static_values_off b r) x.static_values
 
--- the row is readable and declares what the numbers stand for, which weighs no more than it may
+-- the row is readable and declares what the numbers denote, which weighs no more than it may
 pub record AreMembersOf (b : List ℕ) (r : ℕ) (m : Mentions) (most : ℕ) (x : NumberedMembers) : Type 0 where
   pub readable : IsReadable b r
   pub known : AreKnownMembers m x
@@ -49,7 +49,7 @@ abbrev pub AreReadWithin : List ℕ → ℕ → Mentions → ℕ → Option (Num
 AreReadWithin b r m most (Some x) = AreMembersOf b r m most x.0 × (x.1 ≡ members_weight (members_in m x.0))
 AreReadWithin b r m most None = AreHeavyMembers b r most
 
--- one of the conditions 17 to 22 fails at the row, and its number is told; want of memory says nothing of the file
+-- one of the conditions 17 to 22 fails at the row, and its number is reported; a failed allocation says nothing
 abbrev pub IsMembersFault : List ℕ → ℕ → ItemFault → Type 0
 IsMembersFault b r Memory = Unit {0}
 IsMembersFault b r (Refused n) = (c : Condition) × (n ≡ number c) × (17 ≤ n) × (n ≤ 22) × (Holds c b r → ⊥)

@@ -16,7 +16,7 @@ use Rattle.dexmembers.specs.Held.{HeldField, HeldMethod}
 
 -- ---- other numbers
 
--- the field with each number led on
+-- the field with each number remapped
 abbrev pub renumbered_field : Maps → NumberedField → NumberedField
 renumbered_field r f = record { number = led r kinds.Field f.number; flags = f.flags; annotations = renumbered_set r f.annotations }
 
@@ -41,17 +41,17 @@ renumbered_members r x = record {
   static_values = renumbered_values r x.static_values;
 }
 
--- the field as it is held, its number led on
+-- the field as it is held, its number remapped
 abbrev pub led_field : Maps → HeldField → HeldField
 led_field r f = record { number = led r kinds.Field f.number; flags = f.flags; set = f.set }
 
--- the method as it is held, its number and those of its code led on
+-- the method as it is held, its number and those of its code remapped
 abbrev pub led_method : Maps → HeldMethod → HeldMethod
 led_method r x = record { number = led r kinds.Method x.number; flags = x.flags; code = option_map (renumbered_item r) x.code; set = x.set; list = x.list }
 
 -- ---- places of numbers
 
--- the number of the field leads to one that fits its place
+-- the image of the field's number fits its place
 abbrev pub HeldFieldLeads : Maps → HeldField → Type 0
 HeldFieldLeads r f = LeadsOn r kinds.Field f.number
 
@@ -60,7 +60,7 @@ pub record HeldMethodLeads (r : Maps) (x : HeldMethod) : Type 0 where
   pub number_leads : LeadsOn r kinds.Method x.number
   pub code_leads : IfSome x.code (code.HasPlaces r)
 
--- each number of the field leads to one that fits its place
+-- the image of each number of the field fits its place
 pub record FieldHasPlaces (r : Maps) (f : NumberedField) : Type 0 where
   pub number_leads : LeadsOn r kinds.Field f.number
   pub annotations_lead : SetHasPlaces r f.annotations
@@ -81,7 +81,8 @@ pub record MembersHavePlaces (r : Maps) (x : NumberedMembers) : Type 0 where
   pub virtual_methods_lead : All (MethodHasPlaces r) x.virtual_methods
   pub values_lead : HavePlaces r x.static_values
 
--- each number of the first numbering leads to that of the same symbol in the second, which has less than 2^32 of each kind
+-- the image of each number of the first numbering is that of the same symbol in the second, which has less than 2^32 of
+-- each kind
 pub record LeadsInto (m n : Mentions) (r : Maps) : Type 0 where
   pub leads : AllLead m n r
   pub all : LeadsAll m r

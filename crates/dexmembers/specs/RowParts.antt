@@ -1,4 +1,4 @@
--- What stands at a class row beside its class data, as it is read: annotations, code and static values.
+-- What a class row has beside its class data, as it is read: annotations, code and static values.
 use Rattle.std.specs.Prelude.{◌≡◌, ℕ, ◌<◌, List, length, map, Option}
 use Rattle.dexspec.specs.Lists.{OrNone, zip_with}
 use Rattle.dexspec.specs.Annotations.{Directory, DirectoryAt, no_directory}
@@ -31,7 +31,7 @@ pub record AreEntered (a : SharedDirectory) : Type 0 where
 abbrev pub IsHeldDirectory : SharedDirectory → Type 0
 IsHeldDirectory a = HoldsPlaces a.table a.own a.fields.items a.methods.items a.parameters.items
 
--- class row r has the directory that the numbers stand for, or none; it names declared members alone
+-- class row r has the directory that the numbers denote, or none; it names declared members alone
 pub record AreAnnotationsOf (b : List ℕ) (r : ℕ) (m : Mentions) (d : DataRead) (a : SharedDirectory) : Type 0 where
   pub known : IsKnownDirectory m (shared_directory_of a)
   pub at : OrNone DirectoryAt no_directory b (annotations_off b r) (directory_in m (shared_directory_of a))
@@ -45,14 +45,14 @@ pub record AreHeavyAnnotations (b : List ℕ) (r : ℕ) (m : Mentions) (d : Data
   pub named : NamesDeclared directory (class_data_in m d)
   pub heavy : most < directory_weight directory
 
--- condition 22 fails at the row; want of memory says nothing of the file
+-- condition 22 fails at the row; a failed allocation says nothing
 abbrev pub IsAnnotationsFault : List ℕ → ℕ → ItemFault → Type 0
 IsAnnotationsFault b r Memory = Unit {0}
 IsAnnotationsFault b r (Refused number) = (number ≡ 22) × (HasAnnotations b r → ⊥)
 
 -- ---- all of it
 
--- what stands at the row beside its class data
+-- what the row has beside its class data
 pub record ArePartsOf (b : List ℕ) (r : ℕ) (m : Mentions) (d : DataRead) (most : ℕ) (a : SharedDirectory) (direct virtual : List (Option NumberedItem)) (vs : NumberedValues) : Type 0 where
   pub annotations : AreAnnotationsOf b r m d a
   pub direct_codes : AreCodesOf b m d.direct_methods.items most direct

@@ -5,7 +5,7 @@ use Rattle.dexmembers.specs.Numbered.{NumberedField, NumberedMethod, NumberedMem
 
 -- ---- class data
 
--- an encoded_field behind one with the number `last`
+-- an encoded_field after one with the number `last`
 abbrev pub numbered_field_bytes : ℕ → NumberedField → List ℕ
 numbered_field_bytes last f = uleb128 (f.number - last) ++ uleb128 f.flags
 
@@ -14,7 +14,7 @@ abbrev pub numbered_fields_bytes : ℕ → List NumberedField → List ℕ
 numbered_fields_bytes last [] = []
 numbered_fields_bytes last (f ∷ fs) = numbered_field_bytes last f ++ numbered_fields_bytes f.number fs
 
--- an encoded_method behind one with the number `last`, with the offset of its code
+-- an encoded_method after one with the number `last`, with the offset of its code
 abbrev pub numbered_method_bytes : ℕ → NumberedMethod → ℕ → List ℕ
 numbered_method_bytes last x code_off = uleb128 (x.number - last) ++ (uleb128 x.flags ++ uleb128 code_off)
 

@@ -11,12 +11,12 @@ use Rattle.dexpool.specs.declared.faults.ItemFault.{ItemFault}
 use Rattle.dexpool.specs.declared.faults.ItemFault.TheVariants.{Refused, Memory}
 use Rattle.dexval.specs.Numbered.{NumberedValues, AreKnown, values_in}
 
--- class row r has these static values, or none, no more than so many fields
+-- class row r has these static values, or none, no more than `fields` of them
 pub record HasValuesFor (b : List ℕ) (r fields : ℕ) (vs : Values) : Type 0 where
   pub at : OrNone StaticValuesAt NoValues b (static_values_off b r) vs
   pub few : count_values vs ≤ fields
 
--- those that the numbers stand for, where they weigh no more than they may
+-- those that the numbers denote, where they weigh no more than they may
 pub record AreValuesOf (b : List ℕ) (r : ℕ) (m : Mentions) (fields most : ℕ) (xs : NumberedValues) : Type 0 where
   pub known : AreKnown m xs
   pub are : HasValuesFor b r fields (values_in m xs)
@@ -28,8 +28,8 @@ pub record AreHeavyValues (b : List ℕ) (r fields most : ℕ) : Type 0 where
   pub are : HasValuesFor b r fields values
   pub heavy : most < static_values_weight values
 
--- No such values stand there: condition 21 fails at the row if its class declares so many static fields. Want of memory says
--- nothing of the file.
+-- There are no such values: condition 21 fails at the row if its class declares `fields` static fields. A failed
+-- allocation says nothing.
 abbrev pub IsValuesFault : List ℕ → ℕ → ℕ → ItemFault → Type 0
 IsValuesFault b r fields Memory = Unit {0}
 IsValuesFault b r fields (Refused number) = (number ≡ 21) × ((vs : Values) → HasValuesFor b r fields vs → ⊥) × ((d : ClassData) → Declares b r d → length d.static_fields ≡ fields → HasValues b r → ⊥)

@@ -11,7 +11,7 @@ use dexcode::Code;
 use dexflags::{FieldFlags, MethodFlags};
 use std::alloc::{AllocError, Global};
 
-// Where the entry of this number stands, if there is one.
+// Returns the index of the entry of a number, if there is one.
 fn entry_of(entries: &[(u32, u32)], number: u32) -> Option<usize>
     ensures { MatchOption result (EntriesRise entries.now → Contains (map (λ e. e.0) entries.now) number → ⊥) (HasNumberAt entries.now number) }
 {

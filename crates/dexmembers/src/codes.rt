@@ -38,7 +38,7 @@ fn code_or_none<'a>(
     }
 }
 
-// What is left of a weight behind the code with its debug program, or `None` where the code weighs more.
+// Returns what is left of a weight after the code with its debug program, or `None` if the code weighs more.
 fn left_behind(left: u64, code: &Code<'_>) -> Option<u64>
     ensures symbolic { (m : Mentions) (x : symbolic.Code) → AreRising m → StandsForCode m code.now x → MatchOption result (left < one_code_weight x) (λ rest. rest + one_code_weight x ≡ left) }
     ensures numbered { IfSome result (λ rest. rest + numbered_whole_weight code.now ≡ left) }
@@ -51,7 +51,7 @@ fn left_behind(left: u64, code: &Code<'_>) -> Option<u64>
     }
 }
 
-// The same behind the code of a method that may have none.
+// Returns what is left after the code of a method that may have none.
 fn left_behind_any(left: u64, code: &Option<Code<'_>>) -> Option<u64>
     ensures symbolic { (m : Mentions) (x : Option symbolic.Code) → AreRising m → BothOrNone (StandsForCode m) code.now x → MatchOption result (left < optional_code_weight x) (λ rest. rest + optional_code_weight x ≡ left) }
     ensures numbered { IfSome result (λ rest. rest + codes_weight (code.now ∷ []) ≡ left) }

@@ -55,7 +55,7 @@ impl DeclaredField {
 }
 
 impl<'a> DeclaredMethod<'a> {
-    // The same method, with code of its own, whose units are borrowed as before. Error: memory was refused.
+    // Returns a copy of the method, with code of its own, whose units are borrowed as before.
     fn copy(&self) -> Result<DeclaredMethod<'a>, AllocError>
         ensures { IfOk result (λ copy. copy ≡ self.now) }
     {
@@ -70,9 +70,7 @@ impl<'a> DeclaredMethod<'a> {
 }
 
 impl<'a> Members<'a> {
-    /// The same members, with lists of their own. The units of code are borrowed as before.
-    ///
-    /// Error: memory was refused.
+    /// Returns a copy of the members, with lists of their own. The units of code are borrowed as before.
     ///
     /// Source: "class_data_item", "annotations_directory_item", "encoded_array_item".
     pub fn copy(&self) -> Result<Members<'a>, AllocError>

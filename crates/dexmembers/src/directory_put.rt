@@ -145,7 +145,7 @@ impl SetOffs<'_> {
 }
 
 impl EntryCounts {
-    // How many bytes a directory with so many entries has.
+    // Returns the length of the directory.
     fn directory_len(&self) -> usize
         ensures { result ≡ 16 + 8 * (self.now.fields + self.now.methods + self.now.parameters) }
     {
@@ -245,11 +245,12 @@ impl Members<'_> {
         offs.entry_counts().directory_len()
     }
 
-    /// Appends the annotations_directory_item: the offset of the class's own set, the counts of annotated fields, of annotated
-    /// methods and of methods with annotated parameters, and then the number and the offset of each of these, by number, each in
-    /// four bytes. `own_off` is the offset of the class's own set, `field_offs` has that of the set of each field, the static ones
-    /// first, `method_offs` that of the set of each method, the direct ones first, and `parameter_offs` that of the list of the
-    /// sets of the parameters of each method; 0 stands for none, and leaves the member out.
+    /// Appends the annotations_directory_item: the offset of the class's own set, the counts of annotated fields, of
+    /// annotated methods and of methods with annotated parameters, and then the number and the offset of each of these,
+    /// by number, each in four bytes. `own_off` is the offset of the class's own set, `field_offs` has that of the set
+    /// of each field, the static ones first, `method_offs` that of the set of each method, the direct ones first, and
+    /// `parameter_offs` that of the list of the sets of the parameters of each method; 0 denotes none, and leaves the
+    /// member out.
     ///
     /// A class with no offset but 0 has no item in the canonical file: the caller leaves it out.
     ///

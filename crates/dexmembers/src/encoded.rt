@@ -21,15 +21,15 @@ pub(crate) trait Encoded: Copy {
     // The index of the member.
     ghost index_of: { Self → ℕ };
 
-    // At an offset of some bytes, behind an index, if there is one, stands a member of a class, in so many bytes.
+    // A member of a class is at an offset of the bytes, after an index, if there is one, and has this many bytes.
     ghost stands: { Mentions → ℕ → List ℕ → ℕ → Option ℕ → Self → ℕ → Type 0 };
 
-    /// The index of the member. No memory is taken.
+    /// The index of the member.
     fn index(&self) -> u32
         ensures { result ≡ index_of self.now };
 
-    /// The member at a place, behind a member with the index `last`, if there is one, and how many bytes spell it, or `None`
-    /// where no member of the class stands there. No memory is taken.
+    /// Reads the member at an offset, after a member with the index `last`, if there is one. Returns it with the number
+    /// of bytes that encode it, or `None` if there is no member of the class.
     fn read(
         owner: Owner<'_, '_>,
         bytes: &[u8],
@@ -41,7 +41,7 @@ pub(crate) trait Encoded: Copy {
         ensures some { IfSome result (λ x. stands owner.entry.pools.now owner.entry.class bytes.now at last x.0 x.1) }
         ensures within { IfSome result (λ x. at + x.1 ≤ length bytes.now) };
 
-    // At an offset stands one member at most, in one size, and its index is above the one before it.
+    // There is at most one member at an offset, it has one size, and its index is above the one before it.
     fn law()
         ensures one { (m : Mentions) (class : ℕ) (b : List ℕ) (o : ℕ) (last : Option ℕ) (x y : Self) (n k : ℕ) → stands m class b o last x n → stands m class b o last y k → (x ≡ y) × (n ≡ k) }
         ensures follows { (m : Mentions) (class : ℕ) (b : List ℕ) (o i : ℕ) (x : Self) (n : ℕ) → stands m class b o (Some i) x n → i < index_of x };
@@ -106,7 +106,8 @@ impl Encoded for EncodedMethod {
     }
 }
 
-// The index of a member behind one with the index `last`, if there is one, its access flags, and how many bytes spell both.
+// Reads the index of a member, after one with the index `last`, if there is one, and its access flags. Returns them
+// with the number of bytes that encode both.
 fn head_at(bytes: &[u8], at: usize, last: Option<u32>) -> Option<(u32, u32, usize)>
     requires { at ≤ length bytes.now }
     ensures some { IfSome result (λ x. HeadAt bytes.now at last x.0 x.1 x.2) }
@@ -125,8 +126,8 @@ fn head_at(bytes: &[u8], at: usize, last: Option<u32>) -> Option<(u32, u32, usiz
     Some((index, flags, index_size + flags_size))
 }
 
-// The index behind another one, or `None` where the difference is 0, or the index has more than 32 bits. The first index is
-// the difference itself.
+// Returns the index after another one, or `None` where the difference is 0, or the index has more than 32 bits. The
+// first index is the difference itself.
 fn next_index(last: Option<u32>, difference: u32) -> Option<u32>
     ensures { MatchOption result ((i : ℕ) → i < 2 ^ 32 → IsNextIndex last difference i → ⊥) (IsNextIndex last difference) }
 {

@@ -14,14 +14,15 @@ use std::cmp::Ordering;
 // The most members for which room is taken before they are read.
 const MOST_AT_ONCE: usize = 4096;
 
-/// For how many of so many members room is taken before they are read: a count that is not true asks for little.
+/// Returns the number of members, of `count`, for which room is allocated before they are read: a false count asks for
+/// little.
 pub(crate) fn room(count: usize) -> usize
     ensures { result ≤ 4096 }
 {
     count.min(MOST_AT_ONCE)
 }
 
-// So many members from a place on, and how many bytes spell them.
+// Reads `count` members at an offset, and returns the number of bytes that encode them.
 fn read_list<T: Encoded>(
     alloc: Global,
     owner: Owner<'_, '_>,
@@ -67,9 +68,10 @@ fn are_apart<T: Encoded>(left: &[T], right: &[T]) -> bool
     true
 }
 
-/// Two lists of members from a place on, so many in each, no index in both, and how many bytes spell them.
+/// Reads two lists at an offset, of `count` and `other_count` members, which have no index in common. Returns them with
+/// the number of bytes that encode them.
 ///
-/// Error: `Refused(17)` exactly where no such lists stand there; the memory for the members was refused.
+/// Error: `Refused(17)` where there are no such lists; `Memory` where an allocation failed.
 pub(crate) fn read_lists<T: Encoded>(
     alloc: Global,
     owner: Owner<'_, '_>,

@@ -1,4 +1,4 @@
-//! Whether the numbers in what classes declare lead to ones that fit their places.
+//! Whether the images of the numbers in what classes declare fit their places.
 
 ghost use Rattle.std.specs.Prelude.{◌↔◌, IsTrue, All};
 ghost use Rattle.dexspec.specs.Mentions.{Mentions};
@@ -13,7 +13,8 @@ use dexcode::{Code, code_meaning_law, code_places_law};
 use dexpool::Remap;
 use dexval::places_law;
 
-// Whether each number in the code does. Those outside of instructions do where all lead on.
+// Returns whether the image of each number in the code fits its place. Those outside of instructions fit where all
+// numbers have images.
 fn code_fits(code: &Code<'_>, remap: &Remap) -> bool
     ensures { (m n : Mentions) → LeadsInto m n remap.now → IsKnownCode m code.now → IsTrue result ↔ HasPlaces remap.now code.now }
 {
@@ -48,10 +49,10 @@ impl Method<'_, '_> {
 }
 
 impl<'a> Members<'a> {
-    /// Whether each number in the instructions of the methods leads to one that fits its place: one below 2^16, or below
-    /// 2^32 for const-string/jumbo. Where every number of the numbering leads into one of less than 2^32 symbols of each
-    /// kind, as when numberings are joined, each number of what the class declares then has its place, and
-    /// [`renumber`](Members::renumber) may be called. No memory is taken.
+    /// Returns whether the image of each number in the instructions of the methods fits its place: it is below 2^16, or
+    /// below 2^32 for const-string/jumbo. Where every number of the numbering has an image in a numbering of less than
+    /// 2^32 symbols of each kind, as when numberings are joined, each number of what the class declares then has its
+    /// place, and [`renumber`](Members::renumber) may be called.
     ///
     /// Source: "code_item", the field `insns`.
     pub fn instructions_fit(&self, remap: &Remap) -> bool

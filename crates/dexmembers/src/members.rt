@@ -1,4 +1,4 @@
-//! What a class declares, with numbers in the place of symbols.
+//! What a class declares, with numbers for symbols.
 
 ghost use Rattle.std.specs.Prelude.{◌≡◌, [], MatchOption, length, map};
 ghost use Rattle.dexval.specs.Code.{set_of, value_of};
@@ -70,7 +70,7 @@ pub struct Members<'a> {
     pub(crate) contents: Contents<'a>,
 }
 
-// So that what a class declares is let go by one call, in the crates above too.
+// One call drops what a class declares, in the crates above too.
 impl Drop for Members<'_> {
     fn drop(self) {
         let Members { contents: _ } = self;
@@ -165,8 +165,8 @@ impl<'a> Members<'a> {
         }
     }
 
-    /// A class declares fewer than 2^32 fields and fewer than 2^32 methods. It does nothing: its contract tells what all that
-    /// is declared is, for the proofs of callers.
+    /// A class declares fewer than 2^32 fields and fewer than 2^32 methods. The call does nothing: its contract states
+    /// what holds of all that is declared, for the proofs of callers.
     pub fn are_few(&self)
         ensures { AreFew self.now.static_fields self.now.instance_fields self.now.direct_methods self.now.virtual_methods }
     {

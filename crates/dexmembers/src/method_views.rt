@@ -205,8 +205,8 @@ impl<'m> ParameterSets<'m> {
         self.places.is_empty()
     }
 
-    /// How many bytes an annotation_set_ref_list of these sets takes, wherever they stand: four, and four for each of them. No
-    /// memory is taken.
+    /// Returns the length of an annotation_set_ref_list of these sets, whatever their offsets: four bytes, and four for
+    /// each set.
     ///
     /// Source: "annotation_set_ref_list".
     pub fn list_size(&self) -> u64

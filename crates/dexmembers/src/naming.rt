@@ -29,7 +29,7 @@ fn declares_member<T: Encoded>(first: &[T], second: &[T], index: u32) -> bool
     has_member(second, index)
 }
 
-/// Whether each of so many pairs from a place on names a member of one of two lists of class data.
+/// Returns whether each of `count` pairs at an offset names a member of one of two lists of class data.
 ///
 /// Condition: the pairs are in the file. Source: "field_annotation format", "method_annotation format" and
 /// "parameter_annotation format".

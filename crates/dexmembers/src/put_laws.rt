@@ -14,9 +14,9 @@ ghost use Rattle.dexmembers.specs.Weight.{members_weight};
 
 use dexpool::number_law;
 
-/// Where the symbols rise, the class data and the annotations directory of members are those of the class definition that
-/// they stand for, each index the rank of its symbol. So what [`Members::class_data_len`](crate::Members::class_data_len) and
-/// [`Members::directory_len`](crate::Members::directory_len) answer is how long these are.
+/// Where the symbols rise, the class data and the annotations directory of members are those of the class definition
+/// that they denote, each index the rank of its symbol. So [`Members::class_data_len`](crate::Members::class_data_len)
+/// and [`Members::directory_len`](crate::Members::directory_len) return the lengths of these.
 pub fn members_bytes_law()
     ensures class_data { (m : Mentions) (name : Text) (c : Body) (x : NumberedMembers) (code_offs : List ℕ) → AreRising m → AreKnownMembers m x → AreOfClass m name x → members_of c ≡ members_in m x → numbered_class_data_bytes x code_offs ≡ class_data_bytes m (name, c) code_offs }
     ensures directory { (m : Mentions) (name : Text) (c : Body) (x : NumberedMembers) (own_off : ℕ) (field_offs method_offs parameter_offs : List ℕ) (sets : SetOffsets) (item : List ℕ) → AreRising m → AreKnownMembers m x → AreOrdered x → AreOfClass m name x → members_of c ≡ members_in m x → length field_offs ≡ length (fields_of x) → length method_offs ≡ length (methods_of x) → length parameter_offs ≡ length (methods_of x) → sets.own ≡ own_off → sets.fields ≡ field_offs → map (λ offs. slice_index offs 0) sets.methods ≡ method_offs → directory_bytes m (name, c) sets parameter_offs ≡ Some item → numbered_directory_bytes x own_off field_offs method_offs parameter_offs ≡ item }

@@ -33,11 +33,11 @@ impl Renumber for DeclaredMethod<'_> {
 }
 
 impl<'a> Members<'a> {
-    /// Puts for each number of a symbol in what the class declares the one that it leads to. No memory is taken.
+    /// Maps each number of a symbol in what the class declares to its image.
     ///
-    /// Condition: each number leads to one that fits its place, one below 2^16 in an instruction but for
-    /// const-string/jumbo, one below 2^32 - 1 in a debug program, and one below 2^32 elsewhere. For numberings that
-    /// are joined [`instructions_fit`](Members::instructions_fit) tells it.
+    /// Condition: each number has an image that fits its place: below 2^16 in an instruction but for
+    /// const-string/jumbo, below 2^32 - 1 in a debug program, and below 2^32 elsewhere. For numberings that are joined
+    /// [`instructions_fit`](Members::instructions_fit) checks it.
     ///
     /// Source: "class_data_item", "annotations_directory_item", "encoded_array_item".
     pub fn renumber(&mut self, remap: &Remap)

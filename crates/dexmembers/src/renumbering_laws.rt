@@ -17,7 +17,7 @@ use dexcode::{code_cut_law, code_images_law, code_joined_law, code_kept_law, cod
 use dexpool::number_law;
 use dexval::{narrow_law, renumber_law, same_law};
 
-/// Under other numbers, where each number leads somewhere, members stand for what they stood for. They are in order where
+/// Once renumbered, where each number has an image, members denote what they denoted before. They are in order where
 /// they were, and of the class that they were of.
 pub fn members_led_law()
     ensures keeps { (m n : Mentions) (r : Maps) (x : NumberedMembers) → AllLead m n r → All (IsLedUse r) (members_uses x) → AreKnownMembers m x → AreKnownMembers n (renumbered_members r x) × (members_in n (renumbered_members r x) ≡ members_in m x) }
@@ -29,9 +29,9 @@ pub fn members_led_law()
     code_kept_law();
 }
 
-/// Members of classes of one name in two numberings, led to a third whose symbols rise and in which each of their numbers
-/// leads somewhere, are the same there just where they stand for the same. It is not asked that the numbers fit their
-/// places there.
+/// Members of classes of one name in two numberings, mapped to a third whose symbols rise and in which each of their
+/// numbers has an image, are the same there just where they denote the same. The numbers need not fit their places
+/// there.
 pub fn members_same_law()
     ensures { (m n whole : Mentions) (r s : Maps) (name : Text) (x y : NumberedMembers) → AreRising whole → AllLead m whole r → AllLead n whole s → All (IsLedUse r) (members_uses x) → All (IsLedUse s) (members_uses y) → AreKnownMembers m x → AreKnownMembers n y → AreOfClass m name x → AreOfClass n name y → (renumbered_members r x ≡ renumbered_members s y) ↔ (members_in m x ≡ members_in n y) }
 {
@@ -41,9 +41,9 @@ pub fn members_same_law()
     code_kept_law();
 }
 
-/// After a cut: where numbers fit their places, as those of all members do ([`Members::numbers_fit`](crate::Members::numbers_fit)),
-/// and each that occurs leads somewhere, to none greater, each leads to one that fits its place, and
-/// [`renumber`](crate::Members::renumber) may be called.
+/// After a cut: where numbers fit their places, as those of all members do
+/// ([`Members::numbers_fit`](crate::Members::numbers_fit)), and each that occurs has an image, none of them greater
+/// than its number, each image fits the place, and [`renumber`](crate::Members::renumber) may be called.
 pub fn members_cut_law()
     ensures { (r : Maps) (x : NumberedMembers) → LeadDown r → NumbersFit x → All (IsLedUse r) (members_uses x) → MembersHavePlaces r x }
 {
@@ -52,9 +52,10 @@ pub fn members_cut_law()
     code_images_law();
 }
 
-/// After a join: where the numbering is not too large, and the greatest short string
-/// ([`Members::greatest_short_string`](crate::Members::greatest_short_string)) leads below 2^16, each number that leads somewhere
-/// leads to one that fits its place. [`joined_places_law`](dexinsn::joined_places_law) says of the maps of a join that they fit.
+/// After a join: where the numbering is not too large, and the image of the greatest short string
+/// ([`Members::greatest_short_string`](crate::Members::greatest_short_string)) is below 2^16, the image of each number
+/// that has one fits its place. [`joined_places_law`](dexinsn::joined_places_law) says of the maps of a join that they
+/// fit.
 pub fn members_joined_law()
     ensures { (r : Maps) (x : NumberedMembers) (greatest : Option ℕ) → KeepOrder r → ImagesFit r → IsGreatest (members_short_strings x) greatest → LeadsShort r greatest → All (IsLedUse r) (members_uses x) → MembersHavePlaces r x }
 {

@@ -1,4 +1,4 @@
-//! Whether what classes declare is the same, once its numbers are led on.
+//! Whether what classes declare is the same once remapped.
 
 ghost use Rattle.std.specs.Prelude.{◌≡◌, ◌↔◌, [], IsTrue, MatchOption, Option, Some, None, map};
 ghost use Rattle.dexpool.specs.declared.symbols.SymbolKind.TheVariants as kinds;
@@ -17,7 +17,7 @@ use dexcode::Code;
 use dexpool::{Remap, SymbolKind};
 use dexval::{AnnotationSet, ends_alike, same_values_mapped};
 
-// Whether the code is the same, if there is some, its numbers led on.
+// Returns whether the code of two methods, if there is some, is the same once remapped.
 fn same_code(
     mine: &Remap,
     code: Option<&Code<'_>>,
@@ -33,7 +33,7 @@ fn same_code(
     }
 }
 
-// Whether the sets are the same, their numbers led on. None is an empty one.
+// Returns whether two sets are the same once remapped. None is an empty one.
 fn same_set(
     mine: &Remap,
     set: Option<&AnnotationSet>,
@@ -50,7 +50,7 @@ fn same_set(
     }
 }
 
-// Whether the sets are the same, one for one, their numbers led on.
+// Returns whether two lists of sets are the same, one for one, once remapped.
 fn same_sets(
     mine: &Remap,
     sets: &ParameterSets<'_>,
@@ -70,7 +70,7 @@ fn same_sets(
     true
 }
 
-// Whether the fields are the same, one for one, their numbers led on.
+// Returns whether two lists of fields are the same, one for one, once remapped.
 fn same_fields(mine: &Remap, fields: &Fields<'_>, theirs: &Remap, others: &Fields<'_>) -> bool
     ensures { IsTrue result ↔ (map (renumbered_field mine.now) fields.now ≡ map (renumbered_field theirs.now) others.now) }
 {
@@ -85,7 +85,7 @@ fn same_fields(mine: &Remap, fields: &Fields<'_>, theirs: &Remap, others: &Field
     true
 }
 
-// Whether the methods are the same, one for one, their numbers led on.
+// Returns whether two lists of methods are the same, one for one, once remapped.
 fn same_methods(
     mine: &Remap,
     methods: &Methods<'_, '_>,
@@ -106,7 +106,7 @@ fn same_methods(
 }
 
 impl Field<'_> {
-    // Whether this and another field are the same, their numbers led on.
+    // Returns whether two fields are the same once remapped.
     fn same_mapped(&self, mine: &Remap, other: &Field<'_>, theirs: &Remap) -> bool
         ensures { IsTrue result ↔ (renumbered_field mine.now self.now ≡ renumbered_field theirs.now other.now) }
     {
@@ -122,7 +122,7 @@ impl Field<'_> {
 }
 
 impl Method<'_, '_> {
-    // Whether this and another method are the same, their numbers led on.
+    // Returns whether two methods are the same once remapped.
     fn same_mapped(&self, mine: &Remap, other: &Method<'_, '_>, theirs: &Remap) -> bool
         ensures { IsTrue result ↔ (renumbered_method mine.now self.now ≡ renumbered_method theirs.now other.now) }
     {
@@ -149,9 +149,8 @@ impl Method<'_, '_> {
 }
 
 impl<'a> Members<'a> {
-    /// Whether this and what another class declares are the same, once the numbers of each are led on by a map of its
-    /// own. Of numbers that lead nowhere those in instructions and debug programs count as the same, and the others
-    /// stay. No memory is taken.
+    /// Returns whether what two classes declare is the same after each is mapped by its own map. Of numbers without
+    /// images those in instructions and debug programs count as the same, and the others stay.
     ///
     /// Source: "class_data_item", "annotations_directory_item", "encoded_array_item".
     pub fn same_mapped(&self, mine: &Remap, other: &Members<'_>, theirs: &Remap) -> bool

@@ -86,8 +86,8 @@ impl Members<'_> {
     }
 
     /// Each number in the code of the methods fits its place: it is below 2^16 in an instruction but for
-    /// const-string/jumbo, below 2^32 for a type that is caught, and below 2^32 - 1 in a debug program. It changes nothing:
-    /// its contract tells what numbers of all members are, for the proofs of callers.
+    /// const-string/jumbo, below 2^32 for a type that is caught, and below 2^32 - 1 in a debug program. The call
+    /// changes nothing: its contract states what holds of the numbers of all members, for the proofs of callers.
     pub fn numbers_fit(&self)
         ensures { NumbersFit self.now }
     {

@@ -30,10 +30,10 @@ impl<'a> DeclaredMethod<'a> {
 }
 
 impl<'a> Members<'a> {
-    /// Leaves out the debug programs of all methods. Instructions and tries stay, and so do the texts that a const-string
-    /// names. No memory is taken.
+    /// Leaves out the debug programs of all methods. Instructions and tries stay, and so do the texts that a
+    /// const-string names.
     ///
-    /// Source: "code_item", the field `debug_info_off`, where 0 stands for none.
+    /// Source: "code_item", the field `debug_info_off`, where 0 denotes none.
     pub fn drop_debug(&mut self)
         ensures { self.new ≡ stripped_members self.old }
     {
@@ -42,9 +42,10 @@ impl<'a> Members<'a> {
     }
 }
 
-/// Members without their debug programs stand for what they stood for, without debug programs. They stay known to a numbering,
-/// in order, and members of their class. The numbers of texts that a const-string names are the same, and so is the greatest
-/// of them, and each method keeps its tries. It does nothing: its contract is the law, for the callers that cite it.
+/// Members without their debug programs denote what they denoted before, without debug programs. They stay known to a
+/// numbering, in order, and members of their class. The numbers of texts that a const-string names are the same, and so
+/// is the greatest of them, and each method keeps its tries. The call does nothing: its contract is the law, for the
+/// callers that cite it.
 pub fn members_stripped_law()
     ensures same { (m : Mentions) (x : NumberedMembers) → members_in m (stripped_members x) ≡ strip_members (members_in m x) }
     ensures known { (m : Mentions) (x : NumberedMembers) → AreKnownMembers m x → AreKnownMembers m (stripped_members x) }

@@ -13,8 +13,8 @@ ghost use Rattle.dexmembers.specs.Uses.{members_uses, members_symbols};
 
 use dexcode::{code_meaning_law, code_uses_law};
 
-/// Where the symbols rise, those that occur are those of what the numbers stand for, one for one and in their order.
-/// Where there is a mark for each symbol, there is one for each that occurs.
+/// Where the symbols rise, those that occur are those of what the numbers denote, one for one and in their order. Where
+/// there is a mark for each symbol, there is one for each that occurs.
 pub fn members_uses_law()
     ensures uses { (m : Mentions) (name : Text) (x : NumberedMembers) → AreRising m → AreKnownMembers m x → AreOfClass m name x → AllZip (IsUseOf m) (members_uses x) (members_symbols name (members_in m x)) }
     ensures marks { (m : Mentions) (marks : Marks) (x : NumberedMembers) → AreMarksOf m marks → AreKnownMembers m x → All (HasMark marks) (members_uses x) }

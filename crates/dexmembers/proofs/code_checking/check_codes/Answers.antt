@@ -7,7 +7,7 @@ use Rattle.dexmembers.proofs.CodesOfMethods.{fault_among}
 use Rattle.dexmembers.proofs.RowChecked.{no_codes_of, one_more_code}
 use Rattle.dexmembers.proofs.code_checking.check_codes.Goals as goal
 
--- in the place of a method that is not there
+-- used instead of a method that is missing
 abbrev nothing : EncodedMethod
 nothing = record { index = 0; flags = 0; code_off = 0 }
 

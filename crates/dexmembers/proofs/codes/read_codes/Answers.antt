@@ -10,7 +10,7 @@ use Rattle.dexmembers.proofs.CodesApart.{codes_append}
 use Rattle.dexmembers.proofs.CodesOfMethods.{HaveReadCodes, fault_among, fault_behind, heavy_read, one_more_read, split_here, rest_here}
 use Rattle.dexmembers.proofs.codes.read_codes.Goals as goal
 
--- what stands in the place of a method that is not there
+-- used instead of a method that is missing
 abbrev nothing : EncodedMethod
 nothing = record { index = 0; flags = 0; code_off = 0 }
 

@@ -71,7 +71,7 @@ not_true : (b : Bool) → (b ≡ true → ⊥) → b ≡ false
 not_true true none = absurd (none refl)
 not_true false none = refl
 
--- the units between its start and what is behind it
+-- the units between its start and what is after it
 covers_within : (us : List ℕ) (i : ℕ) (x : Index) → covers us i x ≡ true → (x.unit < i) × (i < behind_index (is_wide_index (drop x.unit us)) x.unit)
 covers_within us i x e = elim (cases_eq i (x.unit + 1)) [
   | inl first ↦ one_behind (is_wide_index (drop x.unit us)) first
@@ -143,7 +143,7 @@ before_more is middle unit e rise lt less k d below = elim (cases_eq k middle) [
       subst (λ (x : Index). x.unit < unit) (any_default is k e d (omega (arith, below, lt))) (omega (arith, here, less))
 ]
 
--- where one does not, those behind it do not
+-- if one does not begin before a unit, those after it do not
 pub after_more : (is : List Index) (middle unit : ℕ) (e : Index) → Rise is → unit ≤ (get_or is middle e).unit → (k : ℕ) (d : Index) → middle ≤ k → k < length is → unit ≤ (get_or is k d).unit
 after_more is middle unit e rise le k d from lt = elim (cases_eq k middle) [
   | inl same ↦ subst (λ (x : Index). unit ≤ x.unit) (any_default is middle e d (omega (arith, lt, same)) ∙ ap (λ (j : ℕ). get_or is j d) (sym same)) le
@@ -247,7 +247,7 @@ blank_one us from i (x ∷ is) h le lt =
     follow_end us from [] h = h
     follow_end us from (y ∷ is) h = let on = follow_end us (behind_index (is_wide_index (drop y.unit us)) y.unit) is h.1 in omega (arith, h.0, on, behind_more (is_wide_index (drop y.unit us)) y.unit)
 
--- a unit of the pieces, as it stands or zero
+-- a unit of the pieces, as it is or zero
 pub blank_unit : (us : List ℕ) (is : List Index) (i : ℕ) → AreStored us is → i < length us → slice_index (flat_map blank_units (pieces_with (parts_in us) is)) i ≡ cond (list_any (covers us i) is) 0 (slice_index us i)
 blank_unit us is i s lt =
     let whole : i - 0 ≡ i = omega arith in

@@ -73,7 +73,7 @@ next_begins us count at is n =
     let f = piece_size-fits at (drop at us) n.piece.units n.size in
     omega (arith, f.0, f.1, length-drop at us)
 
--- it stands there
+-- there is a piece at the unit
 pub next_size : (us : List ℕ) (count at : ℕ) (is : List Index) → NextPiece us count at is → IsSome (piece_size at (drop at us))
 next_size us count at is n = subst (λ (o : Option ℕ). IsSome o) (sym n.size) refl
 

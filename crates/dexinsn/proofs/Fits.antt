@@ -1,4 +1,4 @@
--- Numbers that are led on fit their places.
+-- Remapped numbers fit their places.
 use Rattle.std.proofs.Common.{◌≡◌, ℕ, ◌+◌, ◌^◌, ◌<◌, ◌≤◌, max, nat_lt, ◌==◌, Bool, true, false, not, ◌&&◌, ◌||◌, cond, if◌then◌else◌, replicate, List, [], ◌∷◌, ◌++◌, length, take, drop, map, get_or, slice_index, Option, Some, None, inl, inr, refl, ap, sym, ◌∙◌, subst, arith, zero-add}
 use Rattle.std.specs.List.{All, Contains, flat_map, range_with_len}
 use Rattle.std.specs.Option.{IsSome, option_and_then, option_map_or}
@@ -43,7 +43,7 @@ uses_of_images r (Instruction us (Some n) ∷ ps) h =
     All-cons (LeadsOn r) u (uses_of ps) (All-head (HasImage r) (Instruction us (Some n)) ps h) (uses_of_images r ps (All-tail (HasImage r) (Instruction us (Some n)) ps h))
 uses_of_images r (Payload us ∷ ps) h = uses_of_images r ps (All-tail (HasImage r) (Payload us) ps h)
 
--- what leads somewhere and below the room has a place
+-- a number that has an image below the room has a place
 place_by : (r : Maps) (us : List ℕ) (n : ℕ) (o : Option ℕ) → image_of r (kind_in us) n ≡ o → IsSome o → ((j : ℕ) → o ≡ Some j → j < index_room us) → HasPlace r (Instruction us (Some n))
 place_by r us n None e some fits = absurd cc
 place_by r us n (Some j) e some fits = (j, e, fits j refl)
@@ -119,7 +119,7 @@ joined_places r (p ∷ ps) fit short images =
     All-cons (HasPlace r) p ps (joined_place r p (short_strings ps) fit short (All-head (HasImage r) p ps images))
     (joined_places r ps fit (λ i j c e. short i j (Contains-append_right (short_string p) (short_strings ps) i c) e) (All-tail (HasImage r) p ps images))
 
--- the number of a short string leads somewhere where each symbol does
+-- the number of a short string has an image if each symbol has one
 text_led : (r : Maps) (k : SymbolKind) (w : Bool) (i : ℕ) → (is_text k && not w) ≡ true → IsSome (image_of r k i) → IsSome (image r.texts i)
 text_led r kinds.Text w i is some = some
 text_led r kinds.Typ w i is some = absurd cc
@@ -148,7 +148,7 @@ shorts_led r (p ∷ ps) i all c = elim (Contains-append_cases (short_string p) (
   | inr l ↦ shorts_led r ps i (All-tail (HasImage r) p ps all) l
 ]
 
--- of two numbers of texts the lesser leads to the lesser
+-- of two numbers of texts the lesser has the lesser image
 lesser_by : (r : Maps) (i g j k : ℕ) (b : Bool) → nat_lt i g ≡ b → KeepOrder r → image r.texts g ≡ Some k → k < 2 ^ 16 → i ≤ g → image r.texts i ≡ Some j → j < 2 ^ 16
 lesser_by r i g j k true test order e lt le f = let less : j < k = order.texts_keep i g j k (ltb-true i g test) f e in omega (arith, less, lt)
 lesser_by r i g j k false test order e lt le f =
@@ -312,9 +312,9 @@ text_const us e = ap (λ (o : Option Pool). option_map_or kind_of_pool o kinds.T
 short_const : (us : List ℕ) → index_pool us ≡ Some Strings → low_byte (slice_index us 0) ≡ 0x1a → is_short_string us ≡ true
 short_const us pool op = ap (λ k. is_text k && not (is_wide_index us)) (text_const us pool) ∙ ap not (narrow_const us op)
 
--- ---- what short strings stand for
+-- ---- what short strings denote
 
--- a piece that stands for a const-string of the text
+-- a piece that denotes a const-string of the text
 named_piece : (m : Mentions) (p : NumberedPiece) (us : List ℕ) (s : Text) → StandsFor m p (symbolic.Instruction us (Some (TextSymbol s))) → low_byte (slice_index us 0) ≡ 0x1a → (n : ℕ) × Contains (short_string p) n × IsAt m.texts n s
 named_piece m (Instruction xs None) us s h op = absurd h
 named_piece m (Instruction xs (Some n)) us s h op =

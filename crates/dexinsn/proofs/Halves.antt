@@ -20,12 +20,12 @@ unit_from b i lt =
 pub length_from : (b : List ℕ) → length (units_in b) ≡ length b / 2
 length_from b = length-ushorts_at b 0 (length b / 2)
 
--- a number behind some bytes
+-- a number after some bytes
 pub ushort_behind : (b : List ℕ) (k o : ℕ) → ushort_at (drop k b) o ≡ ushort_at b (k + o)
 unfolding ushort_at
 ushort_behind b k o = simp drop-drop
 
--- the units behind some bytes
+-- the units after some bytes
 pub ushorts_behind : (b : List ℕ) (k o n : ℕ) → ushorts_at (drop k b) o n ≡ ushorts_at b (k + o) n
 ushorts_behind b k o zero = refl
 ushorts_behind b k o (suc n) =

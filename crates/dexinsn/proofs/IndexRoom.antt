@@ -80,7 +80,7 @@ has_room at us n pool size named = elim (piece_is at us n size) [
   | inr p ↦ room_of us n pool p named
 ]
 
--- the same of a piece that stands among units
+-- the same of a piece that is among units
 pub room_behind : (us : List ℕ) (at n : ℕ) (pool : Pool) → piece_size at (drop at us) ≡ Some n → index_pool (drop at us) ≡ Some pool → at + 1 < length us
 room_behind us at n pool size named =
     let r : HasRoom (drop at us) n = has_room at (drop at us) n pool size named in
@@ -111,6 +111,6 @@ alone_by : (t : Bool) (u : ℕ) → is_payload_ident u ≡ t → cond t None (in
 alone_by false u e = refl
 alone_by true u e = sym (ap index_of_op (payload_first (u == packed_switch_ident) (u == sparse_switch_ident) (u == array_data_ident) u refl refl refl e) ∙ nop_alone)
 
--- so the opcode alone tells the pool of the index
+-- so the opcode alone determines the pool of the index
 pub pool_of_first : (us : List ℕ) → index_pool us ≡ option_and_then (λ (o : Opcode). o.index) (opcode_of (low_byte (slice_index us 0)))
 pool_of_first us = alone_by (is_payload_ident (slice_index us 0)) (slice_index us 0) refl

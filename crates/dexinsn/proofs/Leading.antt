@@ -26,7 +26,7 @@ use Rattle.dexinsn.proofs.Leads.{branches-none, right-instruction}
 use Rattle.dexinsn.proofs.Starts.{starts_with-pos, piece_at}
 use Rattle.dexinsn.proofs.Passed.{same_cuts, all_cut}
 
--- a format that does not branch leads nowhere
+-- a format that does not branch has no target
 no_offset : (f : Format) (us : List ℕ) (at : ℕ) → branches f ≡ false → None ≡ branch_offset f us at
 no_offset F10x us at e = refl
 no_offset F12x us at e = refl

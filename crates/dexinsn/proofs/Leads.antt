@@ -29,14 +29,14 @@ place_is at meant offset wide small fits is widened = omega (arith, ints)
 pub branches-none : (us : List ℕ) (cs : List Cut) (at : ℕ) (f : Format) → None ≡ branch_offset f us at → true ≡ branches_right us cs at f
 branches-none us cs at f is = ap (all_of_option (leads_right us cs at f)) is
 
--- one that leads to a payload is right where the payload and its targets are
+-- one that refers to a payload is right where the payload and its targets are
 pub branches-payload : (us : List ℕ) (cs : List Cut) (at : ℕ) (f : Format) (ident : ℕ) (z place : ℤ) (r : Bool) → f ≡ F31t → Some z ≡ branch_offset f us at → pos at +ℤ z ≡ place → ident ≡ payload_ident (low_byte (slice_index us at)) → r ≡ leads_to_payload ident us cs at place → r ≡ branches_right us cs at f
 branches-payload us cs at f ident z place r named is target kind says =
     says ∙ ap (λ (i : ℕ). leads_to_payload i us cs at place) kind ∙ ap (leads_to_payload (payload_ident (low_byte (slice_index us at))) us cs at) (sym target)
     ∙ ap (λ (g : Format). leads_right us cs at g z) (sym named)
     ∙ ap (all_of_option (leads_right us cs at f)) is
 
--- one of another format leads to an instruction
+-- the target of one of another format is an instruction
 leads-other : (us : List ℕ) (cs : List Cut) (at : ℕ) (f : Format) (z : ℤ) → (f ≡ F31t → ⊥) → is_instruction_start us cs (pos at +ℤ z) ≡ leads_right us cs at f z
 leads-other us cs at F10x z other = refl
 leads-other us cs at F12x z other = refl
@@ -68,7 +68,7 @@ pub branches-other : (us : List ℕ) (cs : List Cut) (at : ℕ) (f : Format) (z 
 branches-other us cs at f z place r other is target says =
     says ∙ ap (is_instruction_start us cs) (sym target) ∙ leads-other us cs at f z other ∙ ap (all_of_option (leads_right us cs at f)) is
 
--- ---- a payload that is led to
+-- ---- a payload that an instruction refers to
 
 -- where the payload begins its targets decide
 pub leads-payload : (ident : ℕ) (us : List ℕ) (cs : List Cut) (at k : ℕ) (z : ℤ) (r : Bool) → starts_with (λ u. u == ident) us cs z ≡ (slice_index us k == ident) → slice_index us k ≡ ident → z ≡ pos k → r ≡ lead_right us cs at (payload_targets us k) → r ≡ leads_to_payload ident us cs at z
@@ -87,7 +87,7 @@ right-is : (us : List ℕ) (cs : List Cut) (c : Cut) (b : Bool) → is_payload_i
 unfolding has_right_targets
 right-is us cs c b is = ap (λ (t : Bool). t || all_of_option (λ (o : Opcode). branches_right us cs c.unit o.format) (opcode_of (low_byte (slice_index us c.unit)))) is
 
--- the targets of a payload that stands by itself are not asked for
+-- the targets of a payload by itself are not checked
 pub right-payload : (us : List ℕ) (cs : List Cut) (c : Cut) → is_payload_ident (slice_index us c.unit) ≡ true → true ≡ has_right_targets us cs c
 right-payload us cs c is = sym (right-is us cs c true is)
 

@@ -80,7 +80,7 @@ all_indexed us (xs ∷ parts) is h = indexed_by (index_pool xs) us xs parts is (
 pub stored_indexed : (us : List ℕ) (is : List Index) → AreStored us is → All (IsIndexed us) is
 stored_indexed us is s = all_indexed us (parts_in us) is (stored_lined us is s)
 
--- ---- what the first unit tells
+-- ---- what follows from the first unit
 
 pub same_kind_in : (xs ys : List ℕ) → slice_index xs 0 ≡ slice_index ys 0 → kind_in xs ≡ kind_in ys
 same_kind_in xs ys e = ap (λ (o : Option Pool). option_map_or kind_of_pool o kinds.Text) (same_pool xs ys e)

@@ -34,7 +34,7 @@ shown_same false false xs ys n e f =
     let three = f 3 (omega arith) in
     λ i. kinds.ArrayData (one i) (two i + 65536 * three i)
 
--- the units of the piece tell what all units tell
+-- the units of the piece show what all units show
 payload_same : (at n : ℕ) (ys : List ℕ) → piece_size at ys ≡ Some n → is_payload_ident (slice_index ys 0) ≡ true → payload_shown (take n ys) ≡ payload_shown ys
 payload_same at n ys is ident = elim (piece_is at ys n is) [
   | inl p ↦
@@ -108,7 +108,7 @@ cut_on us at (c ∷ cs) cut lt none = let bad : Some c.units ≡ None = sym cut.
 pub listing_on : (us : List ℕ) (at : ℕ) (is : List Index) → IsListing us at is → at < length us → piece_size at (drop at us) ≡ None → ⊥
 listing_on us at is l lt none = cut_on us at (cuts_from (length us) at (drop at us)) l.cut lt none
 
--- the cuts behind the first piece
+-- the cuts after the first piece
 record Behind (us : List ℕ) (at n : ℕ) (cs : List Cut) : Type 0 where
   cuts : cs ≡ record { unit = at; units = n } ∷ cuts_from (length us) (at + n) (drop (at + n) us)
   cut : AreCut (at + n) (drop (at + n) us) (cuts_from (length us) (at + n) (drop (at + n) us)) []
@@ -124,7 +124,7 @@ behind_first_cut us at n (c ∷ cs) cut size =
       cut = subst (λ (ds : List Cut). AreCut (at + n) (drop (at + n) us) ds []) (sym rest) later;
     }
 
--- the first piece, and what is behind it
+-- the first piece, and what is after it
 pub listing_more : (us : List ℕ) (at n : ℕ) (is : List Index) → IsListing us at is → piece_size at (drop at us) ≡ Some n
     → ListsFirst us at is (record { unit = at; units = n; kind = kind_from (drop at us) (symbol_by (index_pool (drop at us)) is) }) (left_by (index_pool (drop at us)) is)
 unfolding listing

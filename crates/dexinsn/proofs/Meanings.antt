@@ -1,4 +1,4 @@
--- What numbers stand for: ranks, and the same symbols under other numbers.
+-- What numbers denote: ranks, and the same symbols under other numbers.
 use Rattle.std.proofs.Common.{◌≡◌, ℕ, ◌<◌, List, [], ◌∷◌, ◌++◌, length, map, get_or, Option, Some, None, refl, ap, sym, ◌∙◌, subst, arith}
 use Rattle.std.specs.Prelude.{Result}
 use Rattle.std.specs.Global.{Vec}
@@ -87,7 +87,7 @@ renumbered_stands m n r (Instruction us (Some i)) (symbolic.Instruction xs None)
 renumbered_stands m n r (Instruction us (Some i)) (symbolic.Payload xs) l image h = absurd h
 renumbered_stands m n r (Payload us) (symbolic.Instruction xs s) l image h = absurd h
 
--- the pieces stand for the same symbolic ones
+-- the pieces denote the same symbolic ones
 pub renumbered_stand : (m n : Mentions) (r : Maps) (ps : List NumberedPiece) (qs : List Piece) → AllLead m n r → All (HasImage r) ps → StandFor m ps qs → StandFor n (map (renumbered_piece r) ps) qs
 renumbered_stand m n r [] [] l images h = tt
 renumbered_stand m n r [] (q ∷ qs) l images h = absurd h
@@ -100,7 +100,7 @@ image_of_place r (Instruction us None) h = tt
 image_of_place r (Instruction us (Some i)) h = subst IsSome (sym h.1) refl
 image_of_place r (Payload us) h = tt
 
--- what leads to a place leads somewhere
+-- numbers that have places have images
 pub images_of_places : (r : Maps) (ps : List NumberedPiece) → All (HasPlace r) ps → All (HasImage r) ps
 images_of_places r [] h = All-nil (HasImage r)
 images_of_places r (p ∷ ps) h = All-cons (HasImage r) p ps (image_of_place r p (All-head (HasPlace r) p ps h)) (images_of_places r ps (All-tail (HasPlace r) p ps h))

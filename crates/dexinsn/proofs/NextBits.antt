@@ -66,7 +66,7 @@ word_has words from at rest h is some fits =
       ];
     }
 
--- nothing is set behind the words
+-- no bit is set after the words
 bit_past : (words : List ℕ) (k : ℕ) → length words ≤ k / 64 → HasBit words k → ⊥
 unfolding HasBit
 bit_past words k past has = let none = ap (λ w. bit_at w (k % 64)) (get_or_past words (k / 64) 0 past) ∙ bit_at-zero (k % 64) in omega arith

@@ -172,7 +172,7 @@ answer_once us (Err (Target n)) (Err (Target m)) x y = ap (λ (k : ℕ). Err (Ta
 answer_once us (Err (Target n)) (Err Memory) x y = absurd y
 answer_once us (Err Memory) b x y = absurd x
 
--- a fault that is told is the only answer
+-- a fault that is reported is the only answer
 pub answered_fault : (us : List ℕ) (fault : CodeFault) (answer : Result (List Cut) CodeFault) → IsFault us fault → IsAnswer us answer → IsAnswered answer (Err fault)
 answered_fault us Empty answer is a = answer_once us (Err Empty) answer is a
 answered_fault us (Piece n) answer is a = answer_once us (Err (Piece n)) answer is a

@@ -27,7 +27,7 @@ pub no_place_below : (words : List ℕ) (z : ℤ) → z <ℤ pos 0 → HasPlace 
 no_place_below words (pos n) below h = omega (arith, ints)
 no_place_below words (negsuc n) below h = h
 
--- nor is one behind the words
+-- nor is one after the words
 pub no_bit_past : (words : List ℕ) (unit : ℕ) → length words ≤ unit / 64 → HasBit words unit → ⊥
 unfolding HasBit
 no_bit_past words unit past has = let none = ap (λ w. bit_at w (unit % 64)) (get_or_past words (unit / 64) 0 past) ∙ bit_at-zero (unit % 64) in omega arith

@@ -282,7 +282,7 @@ put_more us from is i d w all out one two lt wide before first second =
     ∙ ap (flat_map ushort) (sym all_is))
     ∙ before
 
--- the units behind the last index
+-- the units after the last index
 pub put_last : (us : List ℕ) (from n : ℕ) (is : List Index) (i : ℕ) (all out one : List ℕ) → length is ≤ i → n ≡ length us → from ≤ length us → out ++ flat_map ushort (spelled_from us from (drop i is)) ≡ all
     → one ≡ out ++ flat_map ushort (take (n - from) (drop from us)) → one ≡ all
 put_last us from n is i all out one end size le before last =

@@ -1,4 +1,5 @@
--- Stored pieces are the same, led on by two maps, just where their units agree beside the indices and these lead alike.
+-- Stored pieces are the same once remapped by two maps just where their units agree beside the indices and these have
+-- the same images.
 use Rattle.std.proofs.Common.{◌≡◌, ℕ, zero, suc, ◌+◌, ◌-◌, ◌<◌, ◌≤◌, Bool, true, false, cond, List, [], ◌∷◌, length, drop, take, map, slice_index, slice_set, Option, Some, None, inl, inr, refl, ap, sym, ◌∙◌, subst, arith, length-drop, get_or-set_other}
 use Rattle.std.specs.List.{AllZip}
 use Rattle.std.proofs.lemmas.Bool.{cases_lt}
@@ -159,7 +160,7 @@ step_kept us vs c is s =
       same = λ none j lt. get_or-drop c.unit vs j 0 ∙ sym (s.whole none (c.unit + j) (omega arith) (omega arith)) ∙ sym (get_or-drop c.unit us j 0);
     }
 
--- the places of the indices behind the piece
+-- the places of the indices after the piece
 pub left_by_places : (o : Option Pool) (at : ℕ) (places : List ℕ) (is : List Index) → map (λ (i : Index). i.unit) is ≡ with_place o at places → map (λ (i : Index). i.unit) (left_by o is) ≡ places
 left_by_places None at places is e = e
 left_by_places (Some pool) at places [] e = absurd cc
@@ -209,7 +210,7 @@ same_cuts us vs at (c ∷ cs) is count le cut same h =
           (subst (λ (n : ℕ). AgreeBeside us vs (n + c.units) (left_by (index_pool (drop c.unit us)) is)) cut.0 s.later)),
     )
 
--- ---- pieces that are alike are the same
+-- ---- pieces with equal units and images are the same
 
 -- the two plain pieces
 plain_alike : (r q : Maps) (t : Bool) (xs : List ℕ) → renumbered_piece r (cond t (Payload xs) (Instruction xs None)) ≡ renumbered_piece q (cond t (Payload xs) (Instruction xs None))
@@ -287,7 +288,7 @@ same_from_alike r q us vs is js s t h =
     alike_same r q us vs 0 (cuts_in us) is js h.count (omega arith) s.cut cut s.places h.lead h.agree
     ∙ ap (λ (cs : List Cut). map (renumbered_piece q) (pieces_with (map (cut_units vs) cs) js)) (sym (cuts_in_is vs (cuts_in us) cut))
 
--- ---- and pieces that are the same are alike
+-- ---- and pieces that are the same have equal units and images
 
 plain_units : (r q : Maps) (t v : Bool) (xs ys : List ℕ) → renumbered_piece r (cond t (Payload xs) (Instruction xs None)) ≡ renumbered_piece q (cond v (Payload ys) (Instruction ys None)) → xs ≡ ys
 plain_units r q true true xs ys e = cc

@@ -37,7 +37,7 @@ bytes_agree a b from to le one two small few h =
     agree_part (units_in a) (units_in b) from (to - from) (omega (arith, length_from a)) (omega (arith, length_from b)) (subst (λ (k : ℕ). Agree (units_in a) (units_in b) from k) end h) in
     sym (part_bytes a from to le one small) ∙ ap (flat_map ushort) same ∙ part_bytes b from to le two few
 
--- the part before the next index, and what is behind it
+-- the part before the next index, and what is after it
 pub beside_next : (us vs : List ℕ) (from : ℕ) (is : List Index) (k : ℕ) (d : Index) → k < length is → AgreeBeside us vs from (drop k is)
     → Agree us vs from ((get_or is k d).unit + 1) × AgreeBeside us vs (behind_index (is_wide_index (drop (get_or is k d).unit us)) (get_or is k d).unit) (drop (k + 1) is)
 beside_next us vs from is k d lt h = subst (AgreeBeside us vs from) (next_is is k d lt) h
@@ -46,7 +46,7 @@ pub beside_before : (us vs : List ℕ) (from : ℕ) (is : List Index) (k : ℕ) 
     → AgreeBeside us vs (behind_index (is_wide_index (drop (get_or is k d).unit us)) (get_or is k d).unit) (drop (k + 1) is) → AgreeBeside us vs from (drop k is)
 beside_before us vs from is k d lt a h = let both : AgreeBeside us vs from (get_or is k d ∷ drop (k + 1) is) = (a, h) in subst (AgreeBeside us vs from) (sym (next_is is k d lt)) both
 
--- behind the last index
+-- after the last index
 pub beside_last : (us vs : List ℕ) (from : ℕ) (is : List Index) (k : ℕ) → length is ≤ k → AgreeBeside us vs from (drop k is) → Agree us vs from (length us)
 beside_last us vs from is k end h = subst (AgreeBeside us vs from) (drop_all k is end) h
 

@@ -37,7 +37,7 @@ units_in-some F35c = omega arith
 units_in-some F3rc = omega arith
 units_in-some F51l = omega arith
 
--- a size is told only where it fits
+-- a size is returned only where it fits
 told : (us : List ℕ) (size n : ℕ) (rest : Bool) → 0 < size → cond (nat_le size (length us) && rest) (Some size) None ≡ Some n → Fits us n
 told us size n rest some is =
     let parts : ((nat_le size (length us) && rest) ≡ true) × (size ≡ n) = cond_some (nat_le size (length us) && rest) size n is in
@@ -71,7 +71,7 @@ unfolding piece_size
 piece_size-fits at [] n is = cc
 piece_size-fits at (u ∷ us) n is = by_kind (u ∷ us) n (is_payload_ident u) (at % 2 == 0) is
 
--- the piece that stands first, by its first unit
+-- the first piece, by its first unit
 pub first_is : (at : ℕ) (us : List ℕ) → 0 < length us → piece_size at us ≡ cond (is_payload_ident (slice_index us 0)) (cond (at % 2 == 0) (payload_size us) None) (instruction_size us)
 unfolding piece_size
 first_is at [] some = absurd (omega arith)

@@ -55,7 +55,7 @@ starts_with-pos test us (c ∷ cs) k =
           ∙ ap (λ (b : Bool). (b || list_any (λ (d : Cut). d.unit == k) cs) && test (slice_index us k)) (sym (ne_eqb c.unit k other))
     ]
 
--- where a mark stands a piece begins
+-- where a mark is a piece begins
 pub piece_at : (us : List ℕ) (cs : List Cut) (k : ℕ) → All (IsPieceAt us) cs → list_any (λ c. c.unit == k) cs ≡ true → IsSome (piece_size k (drop k us))
 piece_at us cs k pieces marked =
     let found : Any (λ (c : Cut). (c.unit == k) ≡ true) cs = Any-from_list_any (λ (c : Cut). c.unit == k) cs marked in

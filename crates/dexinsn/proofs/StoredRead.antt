@@ -1,4 +1,4 @@
--- What is read is stored so that it stands for the pieces of the code_item.
+-- What is read is stored so that it denotes the pieces of the code_item.
 use Rattle.std.proofs.Common.{◌≡◌, ℕ, zero, suc, ◌+◌, ◌-◌, ◌*◌, ◌/◌, ◌%◌, ◌^◌, ◌<◌, ◌≤◌, ◌==◌, Bool, true, false, cond, List, [], ◌∷◌, length, drop, map, get_or, slice_index, slice_set, Option, Some, None, refl, ap, sym, ◌∙◌, subst, arith, length-drop, get_or-set_other}
 use Rattle.std.specs.List.{All, AllZip}
 use Rattle.std.specs.Option.{option_map_or, option_and_then, MatchOption}
@@ -64,7 +64,7 @@ code_pieces us cs code = pieces_cut us 0 cs code.cut
 
 -- ---- the units of one piece
 
--- what is told of the first unit alone
+-- what depends on the first unit alone
 pub same_pool : (xs ys : List ℕ) → slice_index xs 0 ≡ slice_index ys 0 → index_pool xs ≡ index_pool ys
 same_pool xs ys e = ap (λ (u : ℕ). cond (is_payload_ident u) None (option_and_then (λ op. op.index) (opcode_of (low_byte u)))) e
 

@@ -98,7 +98,7 @@ first_grouped ts g t some at one test =
       λ both. first ∙ (one test).0 both.1,
     )
 
--- the last group is put behind the others
+-- the last group is put after the others
 pub all_grouped : (ts : List ℤ) (i : ℕ) (groups : List TargetGroup) (g : TargetGroup) → take i ts ≡ ts → AreGroupedTo ts i groups g → AreGrouped ts (groups ++ g ∷ [])
 all_grouped ts i groups g whole before test = (
   λ all. let old = (before test).0 (ap (list_all test) whole ∙ all) in All-push (AllInGroup test) groups g old.0 old.1,

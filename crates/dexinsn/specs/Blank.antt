@@ -17,7 +17,7 @@ covers us i x = (i == x.unit + 1) || ((i == x.unit + 2) && is_wide_index (drop x
 abbrev pub Rise : List Index → Type 0
 Rise is = (i j : ℕ) (d : Index) → i < j → j < length is → (get_or is i d).unit < (get_or is j d).unit
 
--- so many of them begin before a unit, and the others do not
+-- `count` of the indices are before a unit, and the others are not
 pub record IsCountBefore (is : List Index) (unit count : ℕ) : Type 0 where
   pub within : count ≤ length is
   pub before : (k : ℕ) (d : Index) → k < count → (get_or is k d).unit < unit

@@ -1,4 +1,4 @@
--- Units that are judged in one pass, with a bit for each unit.
+-- Units that are checked in one pass, with a bit for each unit.
 use Rattle.std.specs.Prelude.{◌≡◌, ◌↔◌, ◌⊎◌, ℕ, ◌+◌, ◌*◌, ◌/◌, ◌^◌, ◌<◌, ◌≤◌, ◌||◌, pos, Bool, true, false, not, List, [], length, drop, slice_index, All, IsTrue, Option, Some, None}
 use Rattle.std.specs.Option.{IsSome, option_map_or}
 use Rattle.dexspec.specs.Mentions.{Mentions}
@@ -21,7 +21,7 @@ use Rattle.dexinsn.specs.Split.{IsPieceAt, starts_with, units_of_all}
 
 -- ---- tests of a first unit
 
--- an instruction of the format leads to another place
+-- an instruction of the format has a target
 abbrev pub branches : Format → Bool
 branches F10t = true
 branches F20t = true
@@ -39,7 +39,7 @@ leads u = option_map_or (λ o. branches o.format) (opcode_of (low_byte u)) false
 abbrev pub begins_instruction : ℕ → Bool
 begins_instruction u = not (is_payload_ident u)
 
--- a payload begins with it, or an instruction that leads to another place
+-- a payload begins with it, or an instruction that has a target
 abbrev pub is_noted : ℕ → Bool
 is_noted u = is_payload_ident u || leads u
 
@@ -56,7 +56,7 @@ pub record AreNoted (us : List ℕ) (words : List ℕ) : Type 0 where
   pub inside : (k : ℕ) → HasBit words k → k < length us
   pub pieces : (k : ℕ) → HasBit words k → IsSome (piece_size k (drop k us))
 
--- the answer says whether the piece at a unit leads to nothing or to what it may
+-- the answer says whether the piece at a unit has no target or a valid one
 abbrev pub LeadsAt : List ℕ → List ℕ → List ℕ → ℕ → Bool → Type 0
 LeadsAt us starts noted at answer = (cs : List Cut) (n : ℕ) → AreBitsOf begins_instruction us cs starts → AreBitsOf is_noted us cs noted → answer ≡ has_right_targets us cs (record { unit = at; units = n })
 
@@ -81,7 +81,7 @@ AreAllRight us starts noted false = (cs : List Cut) → AreBitsOf begins_instruc
 abbrev pub IsOutside : List ℕ → Mentions → ℕ → Type 0
 IsOutside us m at = (c : Cut) → c.unit ≡ at → IsInRange us m c → ⊥
 
--- each piece that begins at the unit is in range, and has so many indices
+-- each piece that begins at the unit is in range, and has `count` indices
 pub record IndexCount (us : List ℕ) (m : Mentions) (at count : ℕ) : Type 0 where
   pub in_range : (n : ℕ) → IsInRange us m (record { unit = at; units = n })
   pub counted : (n : ℕ) → length (with_index_at (index_pool (drop at us)) us (record { unit = at; units = n }) []) ≡ count
@@ -131,7 +131,7 @@ HasNoStep us m at = (piece_size at (drop at us) ≡ None) ⊎ IsOutside us m at
 abbrev pub HasNoCode : List ℕ → Mentions → Type 0
 HasNoCode us m = (cuts : List Cut) → IsCode us cuts → All (IsInRange us m) cuts → ⊥
 
--- the units up to one are cut into pieces in range, with so many indices, and these are the bits of the pieces
+-- the units up to one are cut into pieces in range, with this number of indices, and these are the bits of the pieces
 pub record ArePassed (us : List ℕ) (m : Mentions) (starts noted : List ℕ) (at indices : ℕ) : Type 0 where
   pub cuts : List Cut
   pub cut : AreCut 0 us cuts (drop at us)
@@ -145,7 +145,7 @@ pub record ArePassed (us : List ℕ) (m : Mentions) (starts noted : List ℕ) (a
   pub starts_are : AreBitsOf begins_instruction us cuts starts
   pub noted_are : AreBitsOf is_noted us cuts noted
 
--- the units are code whose indices are in range, and there are so many of them
+-- the units are code whose indices are in range, and this is the number of indices
 pub record IsChecked (us : List ℕ) (m : Mentions) (indices : ℕ) : Type 0 where
   pub cuts : List Cut
   pub code : IsCode us cuts
@@ -168,7 +168,8 @@ pub record AreCutWith (us : List ℕ) (cs : List Cut) (starts noted : List ℕ) 
 
 -- ---- the shape
 
--- a code_item's fixed part and units stand there, the units are code whose indices are in range, and that is its shape
+-- a code_item's fixed part and units are at the offset, the units are code whose indices are in range, and that is its
+-- shape
 pub record IsShapeAt (b : List ℕ) (off : ℕ) (m : Mentions) (s : PiecesShape) : Type 0 where
   pub room : HasCodeRoom b off
   pub registers : RegistersAt b off s.registers s.ins s.outs
@@ -176,7 +177,7 @@ pub record IsShapeAt (b : List ℕ) (off : ℕ) (m : Mentions) (s : PiecesShape)
   pub few : s.units < 2 ^ 32
   pub checked : IsChecked (code_units b off) m s.indices
 
--- pieces stand there, and that is their shape
+-- there are pieces at the offset, and that is their shape
 pub record HasPiecesOf (b : List ℕ) (off : ℕ) (m : Mentions) (s : PiecesShape) : Type 0 where
   pub pieces : List NumberedPiece
   pub at : ArePiecesAt b off m pieces
@@ -186,7 +187,7 @@ pub record HasPiecesOf (b : List ℕ) (off : ℕ) (m : Mentions) (s : PiecesShap
 
 -- ---- what is built
 
--- the units are cut to their end, and so many instructions have an index, which fits its place
+-- the units are cut to their end, and `count` instructions have an index, which fits its place
 pub record HaveIndices (us : List ℕ) (count : ℕ) : Type 0 where
   pub cuts : List Cut
   pub cut : AreCut 0 us cuts []

@@ -1,4 +1,4 @@
--- When numbers that are led on fit their places.
+-- When numbers fit their places once remapped.
 use Rattle.std.specs.Prelude.{◌≡◌, ℕ, ◌+◌, ◌^◌, ◌<◌, ◌≤◌, Bool, true, false, not, ◌&&◌, if◌then◌else◌, List, [], ◌∷◌, length, drop, slice_index, All, Option, Some, None, IfSome}
 use Rattle.std.specs.List.{Contains, flat_map}
 use Rattle.std.specs.Option.{IsSome}
@@ -14,7 +14,7 @@ use Rattle.dexpool.specs.Uses.{Use}
 use Rattle.dexinsn.specs.declared.pieces.Index.{Index}
 use Rattle.dexinsn.specs.Numbered.{NumberedPiece, Instruction, kind_in}
 
--- the symbol's number leads somewhere
+-- the symbol's number has an image
 abbrev pub LeadsOn : Maps → Use → Type 0
 LeadsOn r u = IsSome (image_of r u.kind u.number)
 
@@ -59,7 +59,7 @@ short_at us i = short_number (drop i.unit us) i.number
 
 -- ---- maps into numberings that are not too large
 
--- numbers lead to ones below 2^16, those of texts to ones below 2^32 - 1
+-- the images of numbers are below 2^16, those of texts below 2^32 - 1
 pub record ImagesFit (r : Maps) : Type 0 where
   pub texts_fit : (i j : ℕ) → image r.texts i ≡ Some j → j + 1 < 2 ^ 32
   pub types_fit : (i j : ℕ) → image r.types i ≡ Some j → j < 2 ^ 16
@@ -75,6 +75,6 @@ pub record IsNotTooLarge (m : Mentions) : Type 0 where
   pub fields_few : length m.fields ≤ 2 ^ 16
   pub methods_few : length m.methods ≤ 2 ^ 16
 
--- the number of a text, if there is one, leads to none from 2^16 on
+-- the image of a text's number, if there is one, is below 2^16
 abbrev pub LeadsShort : Maps → Option ℕ → Type 0
 LeadsShort r o = IfSome o (λ n. (j : ℕ) → image r.texts n ≡ Some j → j < 2 ^ 16)

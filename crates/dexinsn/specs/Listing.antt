@@ -42,7 +42,7 @@ abbrev pub symbol_by : Option Pool → List Index → Option (SymbolKind × ℕ)
 symbol_by None is = None
 symbol_by (Some pool) is = option_map (λ n. (kind_of_pool pool, n)) (first_number is)
 
--- what is shown of the piece that stands first, if this is its symbol
+-- what is shown of the first piece, if this is its symbol
 abbrev pub kind_from : List ℕ → Option (SymbolKind × ℕ) → PieceKind
 kind_from us symbol = if is_payload_ident (slice_index us 0) then payload_shown us else kinds.Instruction (low_byte (slice_index us 0)) symbol
 
@@ -57,7 +57,7 @@ pub record IsListing (us : List ℕ) (at : ℕ) (is : List Index) : Type 0 where
   pub cut : AreCut at (drop at us) (cuts_from (length us) at (drop at us)) []
   pub places : map (λ i. i.unit) is ≡ index_places at (map (cut_units us) (cuts_from (length us) at (drop at us)))
 
--- a piece stands first, and what is behind it can be listed
+-- there is a first piece, and what is after it can be listed
 pub record ListsFirst (us : List ℕ) (at : ℕ) (is : List Index) (piece : Piece) (left : List Index) : Type 0 where
   pub first : listing us at is ≡ piece ∷ listing us (at + piece.units) left
   pub later : IsListing us (at + piece.units) left

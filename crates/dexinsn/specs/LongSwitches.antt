@@ -57,7 +57,7 @@ pub record AreStartBits (us : List ℕ) (cs : List Cut) (words : List ℕ) : Typ
 abbrev pub ArePayloads : {S : Type 0} → List ℕ → HashMap ℕ (Vec TargetGroup Global) S → Type 0
 ArePayloads us m = (k : ℕ) (groups : Vec TargetGroup Global) → get nat_eq m k ≡ Some groups → AreGrouped (payload_targets us k) groups.items
 
--- the targets of the payload at a unit stand there
+-- these are the targets of the payload at a unit
 pub record AreTargetsAt (us : List ℕ) (unit : ℕ) (t : Targets) : Type 0 where
   pub within : t.first + 2 * t.count ≤ length us
   pub is : payload_targets us unit ≡ ints_in us t.first t.count

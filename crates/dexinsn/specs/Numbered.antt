@@ -1,4 +1,4 @@
--- Pieces whose symbols are numbers: what they stand for under a numbering, and what becomes of them when the numbers
+-- Pieces whose symbols are numbers: what they denote under a numbering, and what becomes of them when the numbers
 -- change.
 use Rattle.std.specs.Prelude.{◌≡◌, ℕ, ◌^◌, ◌<◌, if◌then◌else◌, List, [], ◌∷◌, map, All, Option, Some, None}
 use Rattle.std.specs.List.{AllZip, flat_map}
@@ -19,14 +19,14 @@ pub data NumberedPiece : Type 0 where
   Instruction : (units : List ℕ) → (number : Option ℕ) → NumberedPiece
   Payload : (units : List ℕ) → NumberedPiece
 
--- Code: how many registers it has, takes and passes on, and its pieces.
+-- Code: the counts of its registers, of those of arguments and of those of calls, and its pieces.
 pub record NumberedCode : Type 0 where
   pub registers : ℕ
   pub ins : ℕ
   pub outs : ℕ
   pub pieces : List NumberedPiece
 
--- ---- what numbers stand for
+-- ---- what numbers denote
 
 -- the piece is the symbolic one, where symbols are numbered so
 abbrev pub StandsFor : Mentions → NumberedPiece → Piece → Type 0
@@ -89,21 +89,21 @@ numbered_bytes ps = flat_map ushort (flat_map numbered_units ps)
 
 -- ---- other numbers
 
--- the number, if there is one, leads somewhere
+-- the number, if there is one, has an image
 abbrev pub HasImage : Maps → NumberedPiece → Type 0
 HasImage r (Instruction us (Some n)) = IsSome (image_of r (kind_in us) n)
 HasImage r _ = Unit {0}
 
--- it leads to a number that fits the place
+-- it has an image that fits the place
 abbrev pub HasPlace : Maps → NumberedPiece → Type 0
 HasPlace r (Instruction us (Some n)) = (j : ℕ) × (image_of r (kind_in us) n ≡ Some j) × (j < index_room us)
 HasPlace r _ = Unit {0}
 
--- the piece with the number that its number leads to
+-- the piece with the image of its number
 abbrev pub renumbered_piece : Maps → NumberedPiece → NumberedPiece
 renumbered_piece r (Instruction us (Some n)) = Instruction us (image_of r (kind_in us) n)
 renumbered_piece r p = p
 
--- the code with the numbers that its numbers lead to
+-- the code with the images of its numbers
 abbrev pub renumbered : Maps → NumberedCode → NumberedCode
 renumbered r c = record { registers = c.registers; ins = c.ins; outs = c.outs; pieces = map (renumbered_piece r) c.pieces }

@@ -63,7 +63,7 @@ greatest_at op = option_map_or (λ o. greatest_first o.format) (opcode_of op) 0
 abbrev pub kind_at : ℕ → Option SymbolKind
 kind_at op = option_map kind_of_pool (option_and_then (λ o. o.index) (opcode_of op))
 
--- whether instructions of an opcode lead to another place
+-- whether instructions of an opcode have a target
 abbrev pub branches_at : ℕ → Bool
 branches_at op = option_map_or (λ o. branches o.format) (opcode_of op) false
 

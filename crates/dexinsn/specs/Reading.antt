@@ -21,7 +21,7 @@ pub record ArePiecesAt (b : List ℕ) (off : ℕ) (m : Mentions) (ps : List Numb
   pub at : PiecesAt b off cuts symbolic
   pub stand : StandFor m ps symbolic
 
--- no pieces stand there; a refusal of memory tells nothing
+-- there are no pieces at the offset; a failed allocation says nothing
 abbrev pub IsPiecesFault : List ℕ → ℕ → ItemFault → Type 0
 IsPiecesFault b off (Refused number) = (number ≡ 18) × ((cuts : List Cut) (ps : List Piece) → PiecesAt b off cuts ps → ⊥)
 IsPiecesFault b off Memory = Unit {0}
@@ -42,7 +42,7 @@ abbrev pub with_index_at : Option Pool → List ℕ → Cut → List Index → L
 with_index_at None us c is = is
 with_index_at (Some pool) us c is = record { unit = c.unit; number = index_in (drop c.unit us) } ∷ is
 
--- the indices of the pieces, as they stand in the units
+-- the indices of the pieces, as the units have them
 abbrev pub indices_at : List ℕ → List Cut → List Index
 indices_at us [] = []
 indices_at us (c ∷ cs) = with_index_at (index_pool (drop c.unit us)) us c (indices_at us cs)
@@ -63,7 +63,7 @@ pub record AreCodeIndices (us : List ℕ) (m : Mentions) (is : List Index) : Typ
   pub code : IsCode us cuts
   pub read : AreIndicesOf us m cuts is
 
--- the units are no code, or some index is out of range; a refusal of memory tells nothing
+-- the units are no code, or some index is out of range; a failed allocation says nothing
 abbrev pub IsCodeFault : List ℕ → Mentions → ItemFault → Type 0
 IsCodeFault us m (Refused number) = (number ≡ 18) × ((cuts : List Cut) → IsCode us cuts → All (IsInRange us m) cuts → ⊥)
 IsCodeFault us m Memory = Unit {0}

@@ -1,4 +1,4 @@
--- Stored pieces that mean the same, led on by two maps.
+-- Stored pieces that denote the same once remapped by two maps.
 use Rattle.std.specs.Prelude.{◌≡◌, ℕ, ◌+◌, ◌<◌, ◌≤◌, List, [], ◌∷◌, length, drop, slice_index}
 use Rattle.std.specs.List.{AllZip}
 use Rattle.dexspec.specs.Pieces.{is_wide_index}
@@ -16,12 +16,12 @@ abbrev pub AgreeBeside : List ℕ → List ℕ → ℕ → List Index → Type 0
 AgreeBeside us vs from [] = Agree us vs from (length us)
 AgreeBeside us vs from (i ∷ is) = Agree us vs from (i.unit + 1) × AgreeBeside us vs (behind_index (is_wide_index (drop i.unit us)) i.unit) is
 
--- both indices stand at one unit and lead to one number, or to none
+-- both indices are at one unit and have one image, or neither has one
 pub record LeadAlike (r q : Maps) (us : List ℕ) (i j : Index) : Type 0 where
   pub place : i.unit ≡ j.unit
   pub image : image_of r (kind_in (drop i.unit us)) i.number ≡ image_of q (kind_in (drop i.unit us)) j.number
 
--- the units are the same but for the indices, which lead alike
+-- the units are the same but for the indices, whose images are the same
 pub record AreAlike (r q : Maps) (us vs : List ℕ) (is js : List Index) : Type 0 where
   pub count : length us ≡ length vs
   pub agree : AgreeBeside us vs 0 is

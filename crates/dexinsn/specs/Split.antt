@@ -18,7 +18,7 @@ cut_of c = record { unit = c.unit; units = c.units }
 abbrev pub cuts_of : List CutOfCode → List Cut
 cuts_of cuts = map cut_of cuts
 
--- a piece of so many units begins there
+-- a piece of this many units begins at this unit
 abbrev pub IsPieceAt : List ℕ → Cut → Type 0
 IsPieceAt us c = piece_size c.unit (drop c.unit us) ≡ Some c.units
 
@@ -39,7 +39,7 @@ lead_right us cs at targets = list_all (λ target. is_instruction_start us cs (p
 abbrev pub leads_to_payload : ℕ → List ℕ → List Cut → ℕ → ℤ → Bool
 leads_to_payload ident us cs at z = is_payload_start ident us cs z && lead_right us cs at (payload_targets us (nat_abs z))
 
--- the instruction at a unit, which has this format, leads to nothing or to what it may
+-- the instruction at a unit, which has this format, has no target or a valid one
 abbrev pub branches_right : List ℕ → List Cut → ℕ → Format → Bool
 branches_right us cs at format = all_of_option (leads_right us cs at format) (branch_offset format us at)
 
@@ -59,7 +59,7 @@ pub record GoesAstrayAt (us : List ℕ) (n : ℕ) : Type 0 where
   pub cut : AreCut 0 us cuts []
   pub first : first_astray us cuts ≡ Some n
 
--- why the units are no code; a refusal of memory tells nothing of them
+-- why the units are no code; a failed allocation says nothing
 abbrev pub IsFault : List ℕ → CodeFault → Type 0
 IsFault us Empty = us ≡ []
 IsFault us (Piece n) = BreaksAt us n
@@ -94,7 +94,7 @@ IsAnswer us (Err (Piece n)) = BreaksAt us n
 IsAnswer us (Err (Target n)) = GoesAstrayAt us n
 IsAnswer us (Err Memory) = ⊥
 
--- what is answered is this, if it is not that memory was refused
+-- what is returned is this, unless an allocation failed
 abbrev pub IsAnswered : Result (List Cut) CodeFault → Result (Vec CutOfCode Global) CodeFault → Type 0
 IsAnswered answer (Ok cuts) = Ok (cuts_of cuts.items) ≡ answer
 IsAnswered answer (Err Empty) = Err Empty ≡ answer

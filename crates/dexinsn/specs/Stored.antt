@@ -22,12 +22,12 @@ cuts_in us = cuts_from (length us) 0 us
 abbrev pub parts_in : List ℕ → List (List ℕ)
 parts_in us = map (cut_units us) (cuts_in us)
 
--- the number that stands first
+-- the number of the first index
 abbrev pub first_number : List Index → Option ℕ
 first_number [] = None
 first_number (i ∷ is) = Some i.number
 
--- those behind it
+-- the indices after the first
 abbrev pub behind_first : List Index → List Index
 behind_first [] = []
 behind_first (i ∷ is) = is
@@ -74,11 +74,11 @@ pub record AreStored (us : List ℕ) (is : List Index) : Type 0 where
 abbrev pub use_at : List ℕ → Index → Use
 use_at us i = record { kind = kind_in (drop i.unit us); number = i.number }
 
--- its number leads to one that fits the place
+-- its number has an image that fits the place
 abbrev pub HasPlaceAt : Maps → List ℕ → Index → Type 0
 HasPlaceAt r us i = (j : ℕ) × (image_of r (kind_in (drop i.unit us)) i.number ≡ Some j) × (j < index_room (drop i.unit us))
 
--- the index with the number that its number leads to
+-- the index with the image of its number
 abbrev pub renumbered_index : Maps → List ℕ → Index → Index
 renumbered_index r us i = record { unit = i.unit; number = unwrap_or (image_of r (kind_in (drop i.unit us)) i.number) 0 }
 
@@ -94,7 +94,7 @@ abbrev pub index_units : Bool → ℕ → List ℕ
 index_units true n = n % 65536 ∷ n / 65536 ∷ []
 index_units false n = n ∷ []
 
--- the unit behind the index of the instruction at a unit
+-- the unit after the index of the instruction at a unit
 abbrev pub behind_index : Bool → ℕ → ℕ
 behind_index true unit = unit + 3
 behind_index false unit = unit + 2
@@ -104,7 +104,7 @@ abbrev pub spelled_from : List ℕ → ℕ → List Index → List ℕ
 spelled_from us from [] = drop from us
 spelled_from us from (i ∷ is) = take (i.unit + 1 - from) (drop from us) ++ (index_units (is_wide_index (drop i.unit us)) i.number ++ spelled_from us (behind_index (is_wide_index (drop i.unit us)) i.unit) is)
 
--- the indices stand one behind the other, from a place on
+-- the indices are one after the other, from a place on
 abbrev pub Follow : List ℕ → ℕ → List Index → Type 0
 Follow us from [] = from ≤ length us
 Follow us from (i ∷ is) = (from ≤ i.unit) × Follow us (behind_index (is_wide_index (drop i.unit us)) i.unit) is

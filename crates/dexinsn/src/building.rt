@@ -35,12 +35,12 @@ fn build_indices(alloc: Global, units: &Units<'_>, count: usize) -> Result<Vec<I
     Ok(indices)
 }
 
-/// Builds the registers and the pieces of the code_item at an offset, in exactly the memory that they take. The units
-/// are borrowed, and not copied.
+/// Builds the registers and the pieces of the code_item at an offset, in a vector without spare room. The units are
+/// borrowed, and not copied.
 ///
 /// Condition: the shape is that which [`check_pieces`](crate::check_pieces) returned for the offset.
 ///
-/// Error: the memory was refused.
+/// Error: the allocation failed.
 ///
 /// Source: "code_item"; the Android page "Dalvik bytecode".
 pub fn build_pieces<'a>(

@@ -30,7 +30,7 @@ use dexpool::{ItemFault, Pools};
 use std::alloc::{AllocError, Global};
 
 impl Format {
-    // Whether an instruction of the format leads to another place.
+    // Returns whether an instruction of the format has a target.
     fn branches(self) -> bool
         ensures { result ≡ branches (format_of self) }
     {
@@ -46,7 +46,7 @@ impl Format {
     }
 }
 
-/// Whether an instruction that begins with this unit leads to another place.
+/// Returns whether an instruction that begins with this unit has a target.
 pub(crate) fn leads(first: u16) -> bool
     ensures { result ≡ leads first }
 {
@@ -98,7 +98,7 @@ pub(crate) fn note(units: &Units<'_>, at: usize, starts: &mut Vec<u64>, noted: &
     }
 }
 
-// Cuts the units, judges the indices, and sets the bits of the pieces: how many indices there are.
+// Cuts the units, checks the indices, and sets the bits of the pieces. Returns the number of indices.
 fn pass(
     units: &Units<'_>,
     pools: &Pools<'_>,
@@ -126,8 +126,8 @@ fn pass(
     Some(indices)
 }
 
-// Whether so many targets of two units each, from unit `first` on, counted from the instruction at unit `at`, are starts
-// of instructions.
+// Returns whether `count` targets of two units each, from unit `first` on, counted from the instruction at unit `at`,
+// are starts of instructions.
 fn targets_lead(units: &Units<'_>, starts: &[u64], at: usize, first: usize, count: usize) -> bool
     requires small { length units.now < 2 ^ 62 }
     requires from { at < length units.now }
@@ -143,8 +143,8 @@ fn targets_lead(units: &Units<'_>, starts: &[u64], at: usize, first: usize, coun
     true
 }
 
-// Whether a payload of the kind begins at the place, and its targets, counted from the instruction at unit `at`, are
-// starts of instructions.
+// Returns whether a payload of the kind begins at the place, and its targets, counted from the instruction at unit
+// `at`, are starts of instructions.
 fn payload_leads(
     units: &Units<'_>,
     starts: &[u64],
@@ -177,7 +177,7 @@ fn payload_leads(
     }
 }
 
-// Whether the instruction at unit `at`, which has this format, leads to nothing or to what it may.
+// Returns whether the instruction at unit `at`, which has this format, has no target or a valid one.
 fn branch_leads(
     units: &Units<'_>,
     starts: &[u64],
@@ -208,7 +208,7 @@ fn branch_leads(
     }
 }
 
-/// Whether the piece at a unit is a payload, or an instruction that leads to nothing or to what it may.
+/// Returns whether the piece at a unit is a payload, or an instruction that has no target or a valid one.
 pub(crate) fn piece_leads(
     units: &Units<'_>,
     starts: &[u64],
@@ -233,7 +233,7 @@ pub(crate) fn piece_leads(
     }
 }
 
-// Whether all pieces lead to nothing or to what they may.
+// Returns whether each piece has no target or a valid one.
 fn all_lead(units: &Units<'_>, starts: &[u64], noted: &[u64], switches: &LongSwitches) -> bool
     requires small { length units.now < 2 ^ 62 }
     requires last { EndsEmpty starts.now }

@@ -29,7 +29,7 @@ pub enum CodeFault {
     /// All units are cut, and the instruction at this one has a wrong target, the ones before it right
     /// ones.
     Target(usize),
-    /// Memory was refused.
+    /// An allocation failed.
     Memory,
 }
 
@@ -140,11 +140,10 @@ impl From<AllocError> for CodeFault {
 /// Cuts 16-bit code units, from the first one on and without gaps, into instructions and payloads, in
 /// order.
 ///
-/// It fails with [`CodeFault::Empty`] where there are no units, else with [`CodeFault::Piece`] at the
-/// first unit where an instruction or payload should begin and none does, else with
-/// [`CodeFault::Target`] at the first instruction that branches to what is no start of an instruction,
-/// or leads to what is no start of a payload of its kind, or to a switch with a wrong target. Want of
-/// memory is [`CodeFault::Memory`].
+/// It fails with [`CodeFault::Empty`] where there are no units, else with [`CodeFault::Piece`] at the first unit where
+/// an instruction or payload should begin and none does, else with [`CodeFault::Target`] at the first instruction that
+/// branches to what is no start of an instruction, or refers to what is no start of a payload of its kind, or to a
+/// switch with a wrong target. It fails with [`CodeFault::Memory`] where an allocation failed.
 ///
 /// Sources: the Android pages "Dalvik bytecode", with its three headings on payloads, and "Dalvik
 /// executable instruction formats".

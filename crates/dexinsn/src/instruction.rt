@@ -11,8 +11,8 @@ use crate::units::{high_byte_of, int_at, opcode_in, signed8, signed16};
 /// The most registers that the format 35c counts.
 const MAX_COUNTED: u16 = 5;
 
-/// The number of units of the instruction that stands first; `None` where its opcode is unused, the
-/// units are too few, a byte that the format leaves empty is not zero, or 35c counts too many registers.
+/// The number of units of the first instruction; `None` where its opcode is unused, the units are too few, a byte that
+/// the format leaves empty is not zero, or 35c counts too many registers.
 pub(crate) fn instruction_size(units: &Units<'_>) -> Option<usize>
     requires { 0 < length units.now }
     ensures { result ≡ instruction_size units.now }

@@ -99,7 +99,7 @@ impl<'p> Iterator for PieceIter<'p> {
     }
 }
 
-// The piece at a unit, and the indices behind it; nothing at the end of the units.
+// Returns the piece at a unit, and the indices after it; nothing at the end of the units.
 fn first_piece<'p>(
     units: &Units<'_>,
     unit: usize,
@@ -126,7 +126,7 @@ fn first_piece<'p>(
     Some((piece, left))
 }
 
-// The symbol of the piece at a unit, if it has an index, and the indices behind it.
+// Returns the symbol of the piece at a unit, if it has an index, and the indices after it.
 fn symbol_at<'p>(
     units: &Units<'_>,
     unit: usize,
@@ -145,7 +145,7 @@ fn symbol_at<'p>(
     }
 }
 
-// What is shown of the piece that stands first, if this is its symbol.
+// Returns what is shown of the first piece, if this is its symbol.
 fn kind_of(units: &Units<'_>, symbol: Option<(SymbolKind, usize)>) -> PieceKind
     requires some { 0 < length units.now }
     requires two { is_payload_ident (slice_index units.now 0) ≡ true → 1 < length units.now }
@@ -159,7 +159,7 @@ fn kind_of(units: &Units<'_>, symbol: Option<(SymbolKind, usize)>) -> PieceKind
     }
 }
 
-// What is shown of the payload that stands first.
+// Returns what is shown of the first payload.
 fn payload_shown(kind: PayloadKind, units: &Units<'_>) -> PieceKind
     requires kind { slice_index units.now 0 ≡ ident_of kind }
     requires two { 1 < length units.now }

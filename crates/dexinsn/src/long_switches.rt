@@ -1,4 +1,4 @@
-//! Long switch payloads, whose targets are put in groups once, however many switches lead to them.
+//! Long switch payloads, whose targets are put in groups once, however many switches refer to them.
 
 ghost use Rattle.std.specs.Prelude.{◌≡◌, ◌+◌, ◌*◌, ◌<◌, ◌≤◌, ◌^◌, All, IfOk, IsSome, List, [], MatchOption, OnOk, drop, length, slice_index};
 ghost use Rattle.std.specs.List.Sorted.{IsPermutation};
@@ -19,7 +19,7 @@ use std::collections::HashMap;
 // The targets of a payload that has no more are checked anew for each switch: seldom do two switches share one.
 const FEW_TARGETS: usize = 256;
 
-/// Where the targets of a payload stand, two units each.
+/// The place of the targets of a payload, two units each.
 #[derive(Clone, Copy)]
 pub(crate) struct Targets {
     pub(crate) first: usize,
@@ -135,7 +135,7 @@ fn note_all(
 impl LongSwitches {
     /// The long switch payloads among the pieces whose bits are set.
     ///
-    /// Error: the memory was refused.
+    /// Error: the allocation failed.
     pub(crate) fn find(
         alloc: Global,
         units: &Units<'_>,

@@ -8,7 +8,7 @@ ghost use Rattle.dexinsn.specs.Payload.{ident_of};
 use crate::code_units::Units;
 use crate::units::int_at;
 
-/// The three kinds of payload: the data of an instruction that stands apart from it.
+/// The three kinds of payload: the data of an instruction, stored apart from it.
 ///
 /// Source: the headings "packed-switch-payload format", "sparse-switch-payload format" and
 /// "fill-array-data-payload format" of the Android page "Dalvik bytecode".
@@ -46,7 +46,7 @@ impl PayloadKind {
         }
     }
 
-    /// The kind of payload that an instruction of the format 31t leads to.
+    /// The kind of payload that an instruction of the format 31t refers to.
     pub(crate) fn led_to_by(op: u8) -> PayloadKind
         ensures { ident_of result ≡ payload_ident op }
     {
@@ -57,9 +57,8 @@ impl PayloadKind {
         }
     }
 
-    /// The number of units of the payload that stands first; `None` where the units are too few, where
-    /// the keys of a sparse switch do not rise strictly, and where an element is not 1, 2, 4 or 8 bytes
-    /// wide.
+    /// The number of units of the first payload; `None` where the units are too few, where the keys of a sparse switch
+    /// do not rise strictly, and where an element is not 1, 2, 4 or 8 bytes wide.
     pub(crate) fn size(self, units: &Units<'_>) -> Option<usize>
         requires { slice_index units.now 0 ≡ ident_of self }
         ensures { result ≡ payload_size units.now }
@@ -120,7 +119,7 @@ fn array_data_size(units: &Units<'_>) -> Option<usize>
     }
 }
 
-/// Whether so many keys, from the third unit on, rise strictly.
+/// Returns whether `size` keys, from the third unit on, rise strictly.
 fn keys_rise(units: &Units<'_>, size: usize) -> bool
     requires within { 2 + 2 * size ≤ length units.now }
     requires few { size < 2 ^ 16 }

@@ -5,8 +5,8 @@ use crate::code_units::Units;
 use crate::instruction::instruction_size;
 use crate::payload::PayloadKind;
 
-/// The number of units of the instruction or payload that stands first, at unit `at` of the code;
-/// `None` where neither does.
+/// The number of units of the instruction or payload that comes first, at unit `at` of the code; `None` where neither
+/// does.
 #[tactic(auto, using(crate::proofs::Sizes::first_is))]
 pub(crate) fn piece_size(at: usize, units: &Units<'_>) -> Option<usize>
     requires { 0 < length units.now }

@@ -1,4 +1,4 @@
-//! The pieces of a code_item, with numbers in the place of symbols.
+//! The pieces of a code_item, with numbers for symbols.
 
 ghost use Rattle.std.specs.Prelude.{◌≡◌, ◌*◌, length};
 ghost use Rattle.dexinsn.specs.Numbered.{numbered_bytes};
@@ -14,8 +14,8 @@ pub(crate) struct Index {
     pub(crate) number: u32,
 }
 
-/// The registers and the pieces of a code_item. Its units are borrowed from the file; the numbers of its symbols
-/// stand beside them. Contracts see three numbers, and pieces with a number in the place of each symbol.
+/// The registers and the pieces of a code_item. Its units are borrowed from the file; the numbers of its symbols are
+/// stored beside them. Contracts see three numbers, and pieces with a number for each symbol.
 ///
 /// Source: "code_item"; the Android page "Dalvik bytecode".
 #[derive(Drop)]

@@ -45,7 +45,7 @@ fn push_number(is_wide: bool, number: u32, out: &mut Vec<u8>)
     }
 }
 
-// The unit behind the index of the instruction at a unit.
+// Returns the unit after the index of the instruction at a unit.
 pub(crate) fn behind_index(is_wide: bool, unit: usize) -> usize
     requires { unit < 2 ^ 62 }
     ensures { result ≡ behind_index is_wide unit }
@@ -83,12 +83,11 @@ fn push_numbered(bytes: &[u8], indices: &[Index], out: &mut Vec<u8>)
     push_part(bytes, from, units.len(), out);
 }
 
-/// Appends the units of the pieces, the number of each symbol put in: two bytes for each unit, the lower first.
-/// They are the units of the symbolic pieces that these stand for in the numbering, each index the rank of its
-/// symbol.
+/// Appends the units of the pieces, the number of each symbol put in: two bytes for each unit, the lower first. They
+/// are the units of the symbolic pieces that `pieces` denote in the numbering, each index the rank of its symbol.
 ///
-/// It fails only for want of memory, and not where the spare room is at least two bytes for each unit; the vector
-/// is then as it was.
+/// Error: the allocation failed; the vector is then as it was. It does not fail where the spare room is at least two
+/// bytes for each unit.
 ///
 /// Source: "code_item", the field `insns`; the Android page "Dalvik executable instruction formats".
 pub fn put_pieces(

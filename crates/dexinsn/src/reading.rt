@@ -33,9 +33,9 @@ pub(crate) fn units_at<'a>(frame: &Frame<'a>, off: u32) -> Option<&'a [u8]>
 /// Reads the registers and the pieces of the code_item at an offset, whose indices count in the pools: those of the
 /// file. The units are borrowed, and not copied.
 ///
-/// Error: `Refused(18)` exactly where the code_item's fixed part and units are not wholly in the data at a multiple
-/// of 4, where the units are not cut as [`split`](crate::split) cuts them, or where an index is out of range of its
-/// pool; `Memory` where a growth was refused.
+/// Error: `Refused(18)` exactly where the code_item's fixed part and units are not wholly in the data at a multiple of
+/// 4, where the units are not cut as [`split`](crate::split) cuts them, or where an index is out of range of its pool;
+/// `Memory` where an allocation failed.
 ///
 /// Source: "code_item"; the Android page "Dalvik bytecode".
 pub fn read_pieces<'a>(

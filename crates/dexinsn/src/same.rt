@@ -41,7 +41,7 @@ fn agree_beside(bytes: &[u8], others: &[u8], indices: &[Index]) -> bool
     agree(bytes, others, from, units.len())
 }
 
-// Whether both indices stand at one unit and lead to one number, or to none.
+// Returns whether both indices are at one unit and have one image, or neither has one.
 fn leads_alike(
     units: &Units<'_>,
     index: Index,
@@ -60,7 +60,7 @@ fn leads_alike(
     image == other_remap.image(kind, other.number as usize)
 }
 
-// Whether the indices stand at the same units and lead to the same numbers.
+// Returns whether the indices are at the same units and have the same images.
 fn lead_alike(
     units: &Units<'_>,
     indices: &[Index],
@@ -82,7 +82,7 @@ fn lead_alike(
     true
 }
 
-// Whether the pieces, led on, are the same.
+// Returns whether the pieces are the same once remapped.
 fn same_pieces(
     bytes: &[u8],
     indices: &[Index],
@@ -106,8 +106,8 @@ fn same_pieces(
 }
 
 impl<'a> Pieces<'a> {
-    /// Whether these and other pieces are the same, and the three numbers of registers too, once the numbers of each
-    /// are led on by a map of its own. Numbers that lead nowhere count as the same. No memory is taken.
+    /// Returns whether these and other pieces are the same, and the three numbers of registers too, after each is
+    /// mapped by its own map. Numbers without images count as the same.
     ///
     /// Source: "code_item".
     pub fn same_mapped(&self, mine: &Remap, other: &Pieces<'_>, theirs: &Remap) -> bool

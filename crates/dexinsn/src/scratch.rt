@@ -44,9 +44,9 @@ impl Scratch {
     }
 }
 
-/// Makes so many words, none of which has a bit.
+/// Makes `count` words, none of which has a bit set.
 ///
-/// Error: the memory was refused.
+/// Error: the allocation failed.
 pub(crate) fn wipe(words: &mut Vec<u64>, count: usize) -> Result<(), AllocError>
     ensures { OnOk result (words.new.items ≡ replicate count 0) }
 {

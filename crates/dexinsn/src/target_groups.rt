@@ -1,4 +1,4 @@
-//! Targets of a switch in groups, so that up to 64 are judged at once.
+//! Targets of a switch in groups, so that up to 64 are checked at once.
 
 ghost use Rattle.std.specs.Prelude.{◌≡◌, ◌↔◌, ◌<◌, ℤ, Bool, true, length, IfOk, IfSome};
 ghost use Rattle.dexinsn.specs.LongSwitches.{AllInGroup, AreGrouped, HasBeside};
@@ -36,7 +36,7 @@ impl TargetGroup {
 ///
 /// Condition: there is a target.
 ///
-/// Error: the memory was refused.
+/// Error: the allocation failed.
 pub(crate) fn group_targets(alloc: Global, targets: &[i32]) -> Result<Vec<TargetGroup>, AllocError>
     requires { 0 < length targets.now }
     ensures { IfOk result (λ groups. AreGrouped targets.now groups.items) }

@@ -18,7 +18,7 @@ pub(crate) fn high_byte_of(unit: u16) -> u8
     (unit / 0x100) as u8
 }
 
-/// The signed number that the unit at `i` and the one behind it hold, the lower first.
+/// The signed number in the unit at `i` and the next one, the lower first.
 pub(crate) fn int_at(units: &Units<'_>, i: usize) -> i32
     requires { i + 1 < length units.now }
     ensures { result ≡ int_in units.now i }

@@ -12,7 +12,7 @@ use Rattle.dexpool.specs.Reading.{ReadTo, AreTexts, AreTypes, AreNames, AreProto
 use Rattle.dexpool.specs.Pools.{symbols_of, AreAll, ArePools}
 use Rattle.dexpool.proofs.Refusing.{hold_below}
 
--- what rows of numbers stand for, one by one
+-- what rows of numbers denote, one by one
 mapped : {X Y : Type 0} (Row : List ℕ → ℕ → X → Type 0) (Symbol : List ℕ → ℕ → Y → Type 0) (Holds : List ℕ → ℕ → Type 0) (f : X → Y) (x : X) (b : List ℕ) (xs : List X) (n : ℕ)
     → ((k : ℕ) (z : X) → Row b k z → Symbol b k (f z)) → ReadTo Row Holds b xs n → AreAll Symbol b n (map f xs)
 mapped Row Symbol Holds f x b xs n is h = record {

@@ -1,4 +1,4 @@
--- Numbers in a row, and texts behind the end.
+-- Numbers in a row, and texts after the end.
 use Rattle.std.proofs.Common.{◌≡◌, ℕ, ◌+◌, ◌-◌, ◌<◌, ◌≤◌, List, [], ◌∷◌, ◌++◌, length, take, drop, ap, ◌∙◌, arith, length-append, length-take, length-drop}
 use Rattle.std.proofs.lemmas.List.{drop-drop, drop-take, take-take}
 use Rattle.dexspec.specs.Bytes.{number_of, ushort_at, uint_at}
@@ -21,7 +21,7 @@ pub ushort_at_row : (b row : List ℕ) (o n p q : ℕ) → row ≡ take n (drop 
 unfolding ushort_at
 ushort_at_row b row o n p q e le at = ap (λ (r : List ℕ). number_of (take 2 (drop p r))) e ∙ ap number_of (part_of b o n p 2 le) ∙ ap (λ (m : ℕ). number_of (take 2 (drop m b))) at
 
--- the number behind an offset
+-- the number after an offset
 pub uint_at_rest : (b rest : List ℕ) (o p q : ℕ) → rest ≡ drop o b → o + p ≡ q → uint_at rest p ≡ uint_at b q
 unfolding uint_at
 uint_at_rest b rest o p q e at = ap (λ (r : List ℕ). number_of (take 4 (drop p r))) e ∙ ap (λ (r : List ℕ). number_of (take 4 r)) (drop-drop p o b) ∙ ap (λ (m : ℕ). number_of (take 4 (drop m b))) at
@@ -30,7 +30,7 @@ pub ushort_at_rest : (b rest : List ℕ) (o p q : ℕ) → rest ≡ drop o b →
 unfolding ushort_at
 ushort_at_rest b rest o p q e at = ap (λ (r : List ℕ). number_of (take 2 (drop p r))) e ∙ ap (λ (r : List ℕ). number_of (take 2 r)) (drop-drop p o b) ∙ ap (λ (m : ℕ). number_of (take 2 (drop m b))) at
 
--- no text stands behind the end
+-- there is no text after the end
 pub no_text_behind : (b : List ℕ) (o n : ℕ) (s : List ℕ) → length b < o → StringDataAt b o s n → ⊥
 no_text_behind b o n s lt h =
     let item = h.spelled in

@@ -26,7 +26,7 @@ use Rattle.dexpool.proofs.KeptTables.{mapped_twice}
 abbrev pub Same : {X : Type 0} → List X → List X → Type 0
 Same xs ys = AreAmong xs ys × AreAmong ys xs
 
--- more marks keep what was kept, and what stands at their numbers
+-- more marks keep what was kept, and the members at their numbers
 pub kept_too : {X : Type 0} (marks : List Bool) (ns : List ℕ) (xs : List X) (d : X) → length marks ≡ length xs → ((n : ℕ) → Contains ns n → n < length xs) → Same (kept (mark_all marks ns) xs) (kept marks xs ++ map (λ n. get_or xs n d) ns)
 kept_too marks ns xs d count within = (
   λ x c.
@@ -49,7 +49,7 @@ pub kept_grown : {X : Type 0} (more marks : List Bool) (ns : List ℕ) (xs ys : 
 kept_grown more marks ns xs ys d count within e f =
     subst (λ bs. Same (kept bs xs) (kept marks xs ++ ys)) (sym e) (subst (λ zs. Same (kept (mark_all marks ns) xs) (kept marks xs ++ zs)) f (kept_too marks ns xs d count within))
 
--- what rows name, as parts of what they stand for
+-- what rows name, as parts of what they denote
 pub named : {R X Y : Type 0} (f : R → ℕ) (at : ℕ → Y) (of : R → X) (part : X → Y) (rows : List R) → All (λ r. at (f r) ≡ part (of r)) rows → map at (map f rows) ≡ map part (map of rows)
 named f at of part rows h = mapped_twice f at (λ r. part (of r)) rows h ∙ sym (mapped_twice of part (λ r. part (of r)) rows (λ k d lt. refl))
 

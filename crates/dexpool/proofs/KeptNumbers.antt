@@ -32,7 +32,7 @@ places_down (true ∷ marks) n (suc i) j e = omega (arith, places_down marks (su
 places_down (false ∷ marks) n zero j e = absurd cc
 places_down (false ∷ marks) n (suc i) j e = omega (arith, places_down marks n i j e)
 
--- a cut leads to no greater numbers
+-- a cut has no greater images
 pub kept_down : (marks : Marks) → LeadDown (kept_places marks)
 kept_down marks kinds.Text i j e = omega (arith, places_down marks.strings.items 0 i j e)
 kept_down marks kinds.Typ i j e = omega (arith, places_down marks.types.items 0 i j e)
@@ -55,7 +55,7 @@ stays marks closed ns e i marked = subst (λ ms. IsMarked ms i) (sym e) (mark_st
 stays_too : (marks closed : List Bool) (ks ms ns : List ℕ) → closed ≡ mark_all (mark_all (mark_all marks ks) ms) ns → (i : ℕ) → IsMarked marks i → IsMarked closed i
 stays_too marks closed ks ms ns e i marked = stays (mark_all (mark_all marks ks) ms) closed ns e i (mark_stays (mark_all marks ks) ms i (mark_stays marks ks i marked))
 
--- what is marked leads somewhere by the closed marks
+-- what is marked has an image by the closed marks
 pub kept_marked : (t : Tables) (marks closed : Marks) → AreClosure t marks closed → LeadsMarked marks (kept_places closed)
 kept_marked t marks closed is kinds.Text i e =
     let methods = map (λ (m : MethodRow). m.name) (kept marks.methods.items t.methods.items) in

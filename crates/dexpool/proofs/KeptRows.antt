@@ -1,4 +1,4 @@
--- Marked members of a list: which they are, where they stand, and what more marks keep.
+-- Marked members of a list: which they are, where they are, and what more marks keep.
 use Rattle.std.proofs.Common.{◌≡◌, ◌≢◌, ◌⊎◌, ℕ, zero, suc, ◌+◌, ◌<◌, Bool, true, false, List, [], ◌∷◌, ◌++◌, length, get_or, map, set, drop, replicate, refl, sym, ap, ◌∙◌, arith, inl, inr, Ordering, Option, Some, None, slice_index}
 use Rattle.std.specs.List.{All, Contains, flat_map}
 use Rattle.std.specs.Cmp.{IsTotalOrder}
@@ -21,7 +21,7 @@ mark_within (mark ∷ marks) (suc n) e = omega (arith, mark_within marks n e)
 
 -- ---- members
 
--- a marked place where this stands
+-- a marked place that has this member
 pub record KeptFrom {X : Type 0} (marks : List Bool) (xs : List X) (x : X) : Type 0 where
   pub at : ℕ
   pub marked : IsMarked marks at
@@ -31,7 +31,7 @@ pub record KeptFrom {X : Type 0} (marks : List Bool) (xs : List X) (x : X) : Typ
 later_from : {X : Type 0} (mark : Bool) (marks : List Bool) (y : X) (xs : List X) (x : X) → KeptFrom marks xs x → KeptFrom (mark ∷ marks) (y ∷ xs) x
 later_from mark marks y xs x k = record { at = suc k.at; marked = k.marked; within = omega (arith, k.within); is = k.is }
 
--- what is kept stands at a marked place
+-- each member that is kept is at a marked place
 pub kept_from : {X : Type 0} (marks : List Bool) (xs : List X) (x : X) → Contains (kept marks xs) x → KeptFrom marks xs x
 kept_from [] xs x c = absurd (Contains-nil x c)
 kept_from (mark ∷ marks) [] x c = absurd (Contains-nil x c)
@@ -41,7 +41,7 @@ kept_from (true ∷ marks) (y ∷ xs) x c = elim (Contains-cons_cases y x (kept 
 ]
 kept_from (false ∷ marks) (y ∷ xs) x c = later_from false marks y xs x (kept_from marks xs x c)
 
--- and what stands at a marked place is kept
+-- and each member at a marked place is kept
 pub kept_has : {X : Type 0} (marks : List Bool) (xs : List X) (n : ℕ) (d : X) → IsMarked marks n → n < length xs → Contains (kept marks xs) (get_or xs n d)
 kept_has [] xs n d e lt = absurd cc
 kept_has (mark ∷ marks) [] n d e lt = absurd (omega arith)
@@ -73,7 +73,7 @@ kept_rises R (false ∷ marks) (x ∷ xs) h = kept_rises R marks xs h.1
 pub length-new_numbers : (marks : List Bool) → length (new_numbers marks) ≡ length marks
 length-new_numbers marks = length-map (places 0 marks) number_or_none ∙ length_places 0 marks
 
--- what stood at a marked number stands at its new one
+-- the member at a marked number is at its new number afterwards
 pub record IsMoved {X : Type 0} (marks : List Bool) (xs : List X) (n : ℕ) : Type 0 where
   pub within : slice_index (new_numbers marks) n < length (kept marks xs)
   pub same : (d : X) → get_or (kept marks xs) (slice_index (new_numbers marks) n) d ≡ get_or xs n d
@@ -105,7 +105,7 @@ some_within (o ∷ os) (suc i) x e = omega (arith, some_within os i x e)
 image_within : (marks : List Bool) (i j : ℕ) → image (places 0 marks) i ≡ Some j → i < length marks
 image_within marks i j e = omega (arith, some_within (places 0 marks) i j e, length_places 0 marks)
 
--- numbers of marked members lead to their places in order
+-- the images of numbers of marked members are in the order of the numbers
 pub places_keep : (marks : List Bool) → KeepsOrder (places 0 marks)
 places_keep marks h i j k before e f = places_rise marks h i 0 j k None before (image_within marks i k f) e f
 
@@ -117,7 +117,7 @@ two_places R o xs rising i j d lt less apart e = elim (cases_order i j) [
   | inr (inr after) ↦ AreDistinct-from_Rises R o xs rising j i d after lt (sym e)
 ]
 
--- of a list without repeats a cut has just the marked members, and numbers lead to them in their order
+-- of a list without repeats a cut has just the marked members, whose numbers have images in their order
 pub kept_leads : {X : Type 0} (R : X → X → Ordering) → IsTotalOrder R → (marks : List Bool) (xs : List X) → length marks ≡ length xs → Rises R xs → Leads xs (kept marks xs) (places 0 marks)
 kept_leads R o marks xs count rising = record {
   count = length_places 0 marks ∙ count;

@@ -25,7 +25,7 @@ module _ {X : Type 0} (R : X → X → Ordering) (o : IsTotalOrder R) (from to :
     | inr past ↦ no_value j (image (map Some images) i) e (get_or_past (map Some images) i None (omega (arith, past, length-map images (λ (k : ℕ). Some k))))
   ]
 
-  -- what stands at the image
+  -- the member at the image
   stands : (i j : ℕ) (d : X) → image (map Some images) i ≡ Some j → IsAt to j (get_or from i d)
   stands i j d e = let at = image_is i j e in subst (λ k. IsAt to k (get_or from i d)) at.1 (m.same i d at.0)
 

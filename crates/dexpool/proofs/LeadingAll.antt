@@ -1,4 +1,4 @@
--- In a union each number of a part leads somewhere.
+-- In a union each number of a part has an image.
 use Rattle.std.proofs.Common.{◌≡◌, ℕ, ◌<◌, List, [], ◌∷◌, length, get_or, Option, Some, None, IsSome, refl, subst, arith}
 use Rattle.std.specs.List.{AllZip, Contains, flat_map}
 use Rattle.std.specs.Cmp.{IsTotalOrder}

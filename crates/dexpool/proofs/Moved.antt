@@ -1,4 +1,4 @@
--- Rows of a part that are renumbered stand for the same symbols as before.
+-- Rows of a part that are renumbered denote the same symbols as before.
 use Rattle.std.proofs.Common.{◌≡◌, ℕ, ◌<◌, List, [], length, map, sym, ap, ◌∙◌, subst, arith, slice_index}
 use Rattle.std.specs.List.{All}
 use Rattle.std.proofs.lemmas.List.{get_or-map, length-map}

@@ -1,4 +1,4 @@
--- Numbers of rows are in the order of the symbols that the rows stand for.
+-- Numbers of rows are in the order of the symbols that the rows denote.
 use Rattle.std.proofs.Common.{◌≡◌, ℕ, ◌<◌, ◌&&◌, true, List, [], ◌∷◌, length, get_or, refl, sym, ap, ◌∙◌, inl, inr}
 use Rattle.std.specs.Prelude.{map, All}
 use Rattle.std.specs.Ordering.{is_lt, nat_cmp, ordering_then, ordering_reverse}
@@ -22,7 +22,7 @@ use Rattle.dexpool.specs.Tables.{text_of, type_of, span_of, proto_of, field_of, 
 
 -- ---- any list
 
--- places in a rising list are in the order of what stands there
+-- places in a rising list are in the order of its members
 pub places_agree : {K : Type 0} (R : K → K → Ordering) → IsTotalOrder R → (xs : List K) → rises R xs ≡ true → (i j : ℕ) (d e : K) → i < length xs → j < length xs → nat_cmp i j ≡ R (get_or xs i d) (get_or xs j e)
 places_agree R o xs rise i j d e lt lt' =
     let r = Rises-from_rises R o xs rise in
@@ -46,7 +46,7 @@ module _ {X Y : Type 0} (R : X → X → Ordering) (S : Y → Y → Ordering) (f
       let r : rises R (y ∷ ys) ≡ rises S (map f (y ∷ ys)) = rises-map (y ∷ ys) t in
       λ i. is_lt (e i) && r i
 
-  -- and are ordered alike
+  -- and are in the same order
   pub slices-map : (xs ys : List X) → All P xs → All P ys → slice_cmp R xs ys ≡ slice_cmp S (map f xs) (map f ys)
   slices-map [] [] h k = refl
   slices-map [] (y ∷ ys) h k = refl

@@ -80,7 +80,7 @@ by_first r a b e h = e ∙ sym (decided a b (λ z. h (e ∙ z)))
 pub by_second : (r q a b : Ordering) → q ≡ a → q ≡ Equal → r ≡ b → r ≡ ordering_then a b
 by_second r q a b e t f = f ∙ sym (after_tie a b (sym e ∙ t))
 
--- an order of what stands at a number is one of what it stands for
+-- an order of the member at a number is one of what the number denotes
 pub at_number : {X : Type 0} (R : X → X → Ordering) (xs : List X) (n : ℕ) (r : Ordering) (d x y t : X) → IsAt xs n x → r ≡ R (get_or xs n d) t → t ≡ y → r ≡ R x y
 at_number R xs n r d x y t at e f = e ∙ ap (λ z. R z t) (at.is d) ∙ ap (R x) f
 
@@ -107,7 +107,7 @@ module _ {X : Type 0} (R : X → X → Ordering) (f : ℕ → X) where
   cmp_ended (n ∷ ns) (t ∷ ts) zero e = absurd (omega arith)
   cmp_ended (n ∷ ns) (t ∷ ts) (suc i) e = nat_cmp-suc (length ns) (length ts) ∙ cmp_ended ns ts i (omega arith)
 
--- what numbers stand for stands at them
+-- what numbers denote is the members at these numbers
 pub listed_at : {X : Type 0} (xs : List X) (d : X) (ns : List ℕ) (ts : List X) → AllZip (IsAt xs) ns ts → map (λ n. get_or xs n d) ns ≡ ts
 listed_at xs d [] [] h = refl
 listed_at xs d [] (t ∷ ts) h = absurd h

@@ -4,7 +4,7 @@ use Rattle.dexspec.specs.Conditions.{Condition, number}
 use Rattle.dexspec.specs.Accepted.{rows_judged, place, Holds, HoldsThroughout, HoldBelow, IsFrame, IsRefused}
 use Rattle.dexpool.specs.Faults.{IsPoolRefusal}
 
--- conditions of the pools hold behind those of the frame
+-- conditions of the pools hold after those of the frame
 pub hold_below : (b : List ℕ) (n : ℕ) → n ≤ 16 → IsFrame b → (11 < n → HoldsThroughout Condition.Strings b) → (12 < n → HoldsThroughout Condition.Types b)
     → (13 < n → HoldsThroughout Condition.Protos b) → (14 < n → HoldsThroughout Condition.Fields b) → (15 < n → HoldsThroughout Condition.Methods b) → HoldBelow n b
 hold_below b n le h s t p f m Condition.Size lt = h Condition.Size (omega arith)

@@ -82,7 +82,7 @@ module _ (among : Among) (lower : Lower) (rise : RiseAmong among lower) where
       (All-map (λ row. (among.types row.return_type ≡ true) × All (λ number. among.types number ≡ true) row.parameters) (numbers_of ps) protos within)
       (sym (rises-map (proto_cmp ps) (row_cmp proto_key) (numbers_of ps) (λ p. Unit {0}) (λ x y p q. refl) protos (λ k d lt. tt)) ∙ sorted))
 
--- no number is told
+-- no number is among these
 none_rise : (f : ℕ → ℕ) → RisesOn (λ n. false) f
 none_rise f m n p q lt = absurd (let e : false ≡ true = p in cc)
 

@@ -1,4 +1,4 @@
--- Tables of the same rows stand for the same.
+-- Tables of the same rows denote the same.
 use Rattle.std.proofs.Common.{◌≡◌, ℕ, ◌<◌, true, List, length, sym, ◌∙◌, subst}
 use Rattle.std.specs.Prelude.{map, All}
 use Rattle.std.proofs.lemmas.List.Elements.{All-weaker}
@@ -69,7 +69,7 @@ module _ (t u : Tables) (s : HaveSameRows t u) where
     proto_in = subst (λ (l : List ProtoEntry). m.proto < length l) s.protos h.proto_in;
   }
 
-  -- rows that stand in the one stand in the other
+  -- rows that are in range of the one are in range of the other
   pub same_tables : AreTables t → AreTables u
   same_tables h =
       let protos_alike : rises (proto_cmp t.parameters) t.protos.items ≡ rises (proto_cmp u.parameters) u.protos.items = λ i. rises (proto_cmp (s.parameters i)) (s.protos i) in

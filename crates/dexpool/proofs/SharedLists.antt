@@ -47,7 +47,7 @@ place_in range part place covers some start end =
           ∙ ap (take (part.end - part.start)) (drop-drop place.start range.start ps ∙ ap (λ n. drop n ps) at);
     }
 
--- no numbers stand anywhere
+-- the place of a part without numbers is empty
 pub place_of_none : (range part place : Span) → part.end ≤ part.start → place.start ≡ 0 → place.end ≡ 0 → IsPlaceWithin range part place
 place_of_none range part place none start end = record {
   within = λ ps r h. record { ordered = omega (arith, start, end); within = omega (arith, end) };

@@ -19,7 +19,7 @@ use Rattle.dexpool.specs.Judged.{AreLetters, letter_in, letters_in, NoVoid, IsSp
 use Rattle.dexpool.proofs.FirstUnits.{letter_void, void_letter, letters_ascii}
 use Rattle.dexpool.proofs.TypeLists.{listed_is}
 
--- a list that was judged, whose shorty is the same
+-- a list that was checked, whose shorty is the same
 pub known_judged : (b : List ℕ) (texts : List Text) (types : List ℕ) (o : ℕ) (known j : Judged) → IsJudged b texts types o known → IsPlaced b o j.span → known.shorty ≡ j.shorty → known.letter ≡ j.letter → IsJudged b texts types o j
 known_judged b texts types o known j h placed number letter =
     let same : span_of (file_numbers b) known.span ≡ span_of (file_numbers b) j.span = h.listed.is ∙ sym placed.is in

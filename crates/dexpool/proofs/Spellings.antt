@@ -24,7 +24,7 @@ module _ (letters : List ℕ) where
     back s = subst (λ (us : List ℕ). SpellNumbers letters us (drop i ns)) (sym (drop_more units i 0 lt)) (subst (SpellNumbers letters (get_or units i 0 ∷ drop (i + 1) units)) (sym (drop_more ns i 0 within))
         (subst (λ (m : ℕ). SpellNumbers letters (get_or units i 0 ∷ drop (i + 1) units) (m ∷ drop (i + 1) ns)) number s))
 
-    -- behind a unit that is its number's letter, the rest decides
+    -- after a unit that is its number's letter, the rest decides
     pub spell_more : (r : Bool) → (IsTrue r ↔ IsLetter letters n (get_or units i 0)) → r ≡ true → (SpellNumbers letters units ns ↔ SpellNumbers letters (drop i units) (drop i ns))
         → (SpellNumbers letters units ns ↔ SpellNumbers letters (drop (i + 1) units) (drop (i + 1) ns))
     spell_more r told e all =

@@ -22,7 +22,7 @@ not_empty : {X : Type 0} (xs : List X) → false ≡ (length xs == 0) → 0 < le
 not_empty [] e = absurd cc
 not_empty (x ∷ xs) e = omega arith
 
--- what the code tells at a list that equals another
+-- what the code returns for a list that equals another
 pub told : {X : Type 0} (R : X → X → Ordering) (xs ys : List X) (x : X) (r : Bool) → ys ≡ xs → r ≡ is_above_last R x ys → is_above_last R x xs ≡ r
 told R xs ys x r e is = ap (is_above_last R x) (sym e) ∙ sym is
 
@@ -48,7 +48,7 @@ module _ {X : Type 0} (R : X → X → Ordering) where
   is_above_last-at (y ∷ z ∷ ys) zero x d e = absurd (omega arith)
   is_above_last-at (y ∷ z ∷ ys) (suc i) x d e = is_above_last-at (z ∷ ys) i x d (omega arith)
 
-  -- as the code tells it
+  -- as the code returns it
   pub above_is : (xs : List X) (x d : X) (r : Bool) → false ≡ (length xs == 0) → r ≡ is_lt (R (get_or xs (length xs - 1) d) x) → r ≡ is_above_last R x xs
   above_is xs x d r some answer = answer ∙ sym (is_above_last-at xs (length xs - 1) x d (omega (arith, not_empty xs some)))
 

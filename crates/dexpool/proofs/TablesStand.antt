@@ -1,4 +1,4 @@
--- What tables whose rows are in range stand for: the symbols of a numbering.
+-- What tables whose rows are in range denote: the symbols of a numbering.
 use Rattle.std.proofs.Common.{◌≡◌, ℕ, ◌<◌, [], length, get_or, sym, ◌∙◌, subst, inl, inr}
 use Rattle.std.specs.Prelude.{map, All}
 use Rattle.std.specs.List.{Contains}
@@ -22,7 +22,7 @@ use Rattle.dexpool.proofs.NumberOrder as order
 use Rattle.dexpool.proofs.NumberOrder.{HasTypeNumbers, HasFieldNumbers, HasMethodNumbers}
 
 module _ (t : Tables) where
-  -- ---- the numbers of rows that stand
+  -- ---- the numbers of rows in range
 
   pub entry_numbers : (p : ProtoEntry) → IsProtoEntry t p → HasTypeNumbers t.parameters (length t.types.items) p
   entry_numbers p h = record {
@@ -146,7 +146,7 @@ module _ (t : Tables) where
     method_formed : (m : MethodRow) → IsMethodRow t m → IsMethod (method_of t.strings.items t.types.items t.parameters t.protos.items m)
     method_formed m k = record { class = k.class_is.is; name = k.name_is; proto = proto_formed (proto_at t.protos.items m.proto) (h.protos_stand m.proto _ k.proto_in) }
 
-    -- ---- what the tables stand for is a numbering
+    -- ---- what the tables denote is a numbering
     pub are_numbering : IsNumbering (symbols_in t)
     are_numbering =
         let texts = t.strings.items in

@@ -1,4 +1,4 @@
--- Sorted rows joined: what they stand for is the union of what the parts' rows stand for.
+-- Sorted rows joined: what they denote is the union of what the parts' rows denote.
 use Rattle.std.proofs.Common.{◌≡◌, ℕ, ◌<◌, List, [], ◌∷◌, length, get_or, map, sym, ap, ◌∙◌, subst, arith, slice_index}
 use Rattle.std.specs.List.{All, AllZip, Contains, flat_map}
 use Rattle.std.specs.Cmp.{IsTotalOrder}

@@ -60,7 +60,7 @@ all_marked (u ∷ us) a b all h =
     let first = h.1 (All-head (HasMark a) u us all) in
     marked_both (u ∷ []) us a h.0 b first (all_marked us h.0 b (still_all (u ∷ []) us a h.0 first (All-tail (HasMark a) u us all)) h.2)
 
--- whether each number that was visited leads on
+-- whether each number that was visited has an image
 pub all_fit : (us : List Use) (a b : Fits) → FoldsTo (λ p u q. (q.remap.now ≡ p.remap.now) × (IsTrue q.fit ↔ IsTrue p.fit × LeadsOn p.remap.now u.kind u.number)) a us b → IsTrue a.fit → IsTrue b.fit ↔ All (LeadsUse a.remap.now) us
 all_fit us a b h start = let both = all_fit_from us a b h in ((λ t. (both.0 t).1), (λ all. both.1 (start, all)))
   where

@@ -11,7 +11,7 @@ pub record IsPoolRefusal (b : List ℕ) (r : Refusal) : Type 0 where
   pub least : 11 ≤ r.number
   pub most : r.number ≤ 15
 
--- want of memory says nothing of the file
+-- a failed allocation says nothing
 abbrev pub IsFault : List ℕ → ReadFault → Type 0
 IsFault b Memory = Unit {0}
 IsFault b (Refused r) = IsPoolRefusal b r

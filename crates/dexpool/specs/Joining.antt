@@ -15,7 +15,7 @@ use Rattle.dexpool.specs.Tables.{text_of, type_of, span_of, proto_of, field_of, 
 use Rattle.dexpool.specs.Numberings.{IsAt, Maps}
 use Rattle.dexpool.specs.Renumbering.{IsEntryWithin, IsFieldWithin, IsMethodWithin}
 
--- each number leads to that of the same member
+-- the image of each number is that of the same member
 pub record Moves {X : Type 0} (from to : List X) (image : List ℕ) : Type 0 where
   pub count : length image ≡ length from
   pub same : (i : ℕ) (d : X) → i < length from → IsAt to (slice_index image i) (slice_index_or from i d)
@@ -25,7 +25,7 @@ pub record IsUnion {P X : Type 0} (of : P → List X) (R : X → X → Ordering)
   pub all : joined ≡ in_order R (flat_map of parts)
   pub moves : AllZip (λ part image. Moves (of part) joined image) parts images
 
--- the rows stand for these symbols, and their numbers are in range
+-- the rows denote these symbols, and their numbers are in range
 pub record StandFor {R X : Type 0} (symbol : R → X) (Within : R → Type 0) (xs : List X) (rows : List R) : Type 0 where
   pub same : map symbol rows ≡ xs
   pub within : All Within rows

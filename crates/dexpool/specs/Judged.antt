@@ -1,4 +1,4 @@
--- Lists of parameters that were judged, by the letters of their types.
+-- Lists of parameters that were checked, by the letters of their types.
 use Rattle.std.specs.Prelude.{◌≡◌, ◌≢◌, ℕ, List, [], ◌∷◌, Some, nat_eq, map, All, slice_index_or}
 use Rattle.std.specs.HashMap.{HashMap, get}
 use Rattle.dexspec.specs.Texts.{Text}
@@ -44,7 +44,7 @@ pub record IsSpelled (letters text : List ℕ) (first : ℕ) (ns : List ℕ) : T
 
 -- ---- lists
 
--- the list is there, and its shorty is the text of this number behind this letter
+-- the list is there, and its shorty is the text of this number after this letter
 pub record IsJudged (b : List ℕ) (texts : List Text) (types : List ℕ) (o : ℕ) (j : Judged) : Type 0 where
   pub listed : IsListed b texts types o j.span
   pub shorty : text_of texts j.shorty ≡ j.letter ∷ letters_of texts types (span_of (file_numbers b) j.span)
@@ -53,6 +53,6 @@ pub record IsJudged (b : List ℕ) (texts : List Text) (types : List ℕ) (o : �
 abbrev pub AreJudged : {S : Type 0} → List ℕ → List Text → List ℕ → HashMap ℕ Judged S → Type 0
 AreJudged b texts types m = (o : ℕ) (j : Judged) → get nat_eq m o ≡ Some j → IsJudged b texts types o j
 
--- no parameters are listed there whose shorty behind this letter is the text
+-- no parameters are listed there whose shorty after this letter is the text
 abbrev pub NotListedAs : List ℕ → ℕ → ℕ → Text → Type 0
 NotListedAs b o letter text = (ts : List Text) → OrNone TypeListAt [] b o ts → All IsValueType ts → text ≡ letter ∷ map shorty_letter ts → ⊥

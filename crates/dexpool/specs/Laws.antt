@@ -9,11 +9,11 @@ use Rattle.dexpool.specs.declared.symbols.SymbolKind.{SymbolKind}
 use Rattle.dexpool.specs.Pools.{count_of}
 use Rattle.dexpool.specs.Numberings.{Maps, image_of}
 
--- each number of the numbering leads somewhere
+-- each number of the numbering has an image
 abbrev pub LeadsAll : Mentions → Maps → Type 0
 LeadsAll m r = (kind : SymbolKind) (i : ℕ) → i < count_of kind m → IsSome (image_of r kind i)
 
--- each number that leads somewhere leads to one of the numbering
+-- each image is a number of the numbering
 abbrev pub LeadsWithin : Mentions → Maps → Type 0
 LeadsWithin n r = (kind : SymbolKind) (i j : ℕ) → image_of r kind i ≡ Some j → j < count_of kind n
 
@@ -29,7 +29,7 @@ pub record AllRanksGrow (m n : Mentions) : Type 0 where
   pub fields_grow : RanksGrow field_cmp m.fields n.fields
   pub methods_grow : RanksGrow method_cmp m.methods n.methods
 
--- the rank of what stands at a place of the list is the place
+-- the rank of the symbol at a place of the list is the place
 abbrev pub RanksArePlaces : {K : Type 0} → (K → K → Ordering) → List K → Type 0
 RanksArePlaces {K} R xs = (i : ℕ) (d : K) → i < length xs → rank R (slice_index_or xs i d) xs ≡ i
 

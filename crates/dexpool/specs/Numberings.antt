@@ -104,7 +104,7 @@ pub record IsNumbering (m : Mentions) : Type 0 where
 
 -- ---- maps of numbers
 
--- For each number of five lists the one that it leads to, if there is one.
+-- For each number of five lists its image, if it has one.
 pub record Maps : Type 0 where
   pub texts : List (Option ℕ)
   pub types : List (Option ℕ)
@@ -112,11 +112,11 @@ pub record Maps : Type 0 where
   pub fields : List (Option ℕ)
   pub methods : List (Option ℕ)
 
--- where a number leads, if it leads anywhere
+-- the image of a number, if it has one
 abbrev pub image : List (Option ℕ) → ℕ → Option ℕ
 image images i = slice_index_or images i None
 
--- where a number of a kind leads
+-- the image of a number of a kind
 abbrev pub image_of : Maps → SymbolKind → ℕ → Option ℕ
 image_of r kinds.Text i = image r.texts i
 image_of r kinds.Typ i = image r.types i
@@ -124,7 +124,7 @@ image_of r kinds.Proto i = image r.protos i
 image_of r kinds.Field i = image r.fields i
 image_of r kinds.Method i = image r.methods i
 
--- Each number leads to that of the same member, if the other list has it. Numbers keep their order.
+-- The image of each number is that of the same member, if the other list has it. Images keep the order of numbers.
 pub record Leads {X : Type 0} (from to : List X) (images : List (Option ℕ)) : Type 0 where
   pub count : length images ≡ length from
   pub same : (i j : ℕ) (d : X) → image images i ≡ Some j → IsAt to j (slice_index_or from i d)

@@ -3,7 +3,7 @@ use Rattle.std.specs.Prelude.{◌≡◌, ℕ, ◌<◌, ◌≤◌, List, Option, 
 use Rattle.dexpool.specs.declared.symbols.SymbolKind.{SymbolKind}
 use Rattle.dexpool.specs.Numberings.{Maps, image, image_of}
 
--- of two numbers that lead somewhere, the lesser leads to the lesser
+-- of two numbers that have images, the lesser has the lesser image
 abbrev pub KeepsOrder : List (Option ℕ) → Type 0
 KeepsOrder images = (h i j k : ℕ) → h < i → image images h ≡ Some j → image images i ≡ Some k → j < k
 
@@ -15,6 +15,6 @@ pub record KeepOrder (r : Maps) : Type 0 where
   pub fields_keep : KeepsOrder r.fields
   pub methods_keep : KeepsOrder r.methods
 
--- Numbers lead to none greater, as in a map into a part.
+-- No image is greater than its number, as in a map into a part.
 abbrev pub LeadDown : Maps → Type 0
 LeadDown r = (k : SymbolKind) (i j : ℕ) → image_of r k i ≡ Some j → j ≤ i

@@ -11,7 +11,7 @@ use Rattle.dexpool.specs.declared.symbols.SymbolKind.{SymbolKind}
 use Rattle.dexpool.specs.declared.symbols.SymbolKind.TheVariants as kinds
 use Rattle.dexpool.specs.Tables.{text_of, proto_of, field_of, method_of}
 
--- what the rows of the tables stand for
+-- what the rows of the tables denote
 abbrev pub symbols_of : List Text → List ℕ → List ℕ → List ProtoEntry → List FieldRow → List MethodRow → Mentions
 symbols_of texts types parameters protos fields methods = record {
   texts = texts;
@@ -21,7 +21,7 @@ symbols_of texts types parameters protos fields methods = record {
   methods = map (method_of texts types parameters protos) methods;
 }
 
--- each member of the list is what its row of the file stands for
+-- each member of the list is what its row of the file denotes
 pub record AreAll {X : Type 0} (Row : List ℕ → ℕ → X → Type 0) (b : List ℕ) (n : ℕ) (xs : List X) : Type 0 where
   pub count : length xs ≡ n
   pub each : (i : ℕ) (d : X) → i < n → Row b i (slice_index_or xs i d)

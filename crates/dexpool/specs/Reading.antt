@@ -83,7 +83,7 @@ AreFields b texts types fields = ReadTo (FieldStands texts types) HasField b fie
 abbrev pub listed : List ℕ → ℕ → List ℕ
 listed b o = if o == 0 then [] else type_indices b o
 
--- a type_list of n indices may stand there
+-- a type_list of n indices may be there
 pub record HasRoom (b : List ℕ) (o n : ℕ) : Type 0 where
   pub count : n ≡ uint_at b o
   pub in_data : IsInData b o (4 + 2 * uint_at b o)
@@ -94,7 +94,7 @@ pub record IsParameter (b : List ℕ) (texts : List Text) (types : List ℕ) (n 
   pub row : TypeRow b n (type_of texts types n)
   pub value : IsValueType (type_of texts types n)
 
--- no list stands there
+-- there is no list at the offset
 abbrev pub NoPlace : List ℕ → ℕ → Type 0
 NoPlace b o = (ts : List Text) → OrNone TypeListAt [] b o ts → ⊥
 

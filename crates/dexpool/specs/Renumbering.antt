@@ -32,11 +32,11 @@ numbers_of parameters p = record { shorty = p.shorty; return_type = p.return_typ
 abbrev pub numbers_in : Protos → List ProtoNumbers
 numbers_in t = map (numbers_of t.parameters.items) t.rows.items
 
--- each entry's parameters stand in the table
+-- each entry's parameters are in the table
 abbrev pub HasSpans : Protos → Type 0
 HasSpans t = All (λ p. HasSpan t.parameters.items p.parameters) t.rows.items
 
--- an entry's numbers are in range, for so many texts and types
+-- an entry's numbers are in range, for these counts of texts and types
 pub record IsEntryWithin (strings types : ℕ) (parameters : List ℕ) (p : ProtoEntry) : Type 0 where
   pub shorty_in : p.shorty < strings
   pub return_in : p.return_type < types
@@ -53,7 +53,7 @@ moved_proto strings types parameters p = record {
 
 -- ---- rows of fields and methods
 
--- a field's numbers are in range, for so many texts and types
+-- a field's numbers are in range, for these counts of texts and types
 pub record IsFieldWithin (strings types : ℕ) (f : FieldRow) : Type 0 where
   pub class_in : f.class < types
   pub name_in : f.name < strings
@@ -63,7 +63,7 @@ pub record IsFieldWithin (strings types : ℕ) (f : FieldRow) : Type 0 where
 abbrev pub moved_field : List ℕ → List ℕ → FieldRow → FieldRow
 moved_field strings types f = record { class = slice_index types f.class; name = slice_index strings f.name; typ = slice_index types f.typ }
 
--- a method's numbers are in range, for so many texts, types and protos
+-- a method's numbers are in range, for these counts of texts, types and protos
 pub record IsMethodWithin (strings types protos : ℕ) (m : MethodRow) : Type 0 where
   pub class_in : m.class < types
   pub name_in : m.name < strings

@@ -8,7 +8,7 @@ use Rattle.dexpool.specs.Reading.{HasSpan}
 abbrev pub Covers : Span → Span → Type 0
 Covers range part = part.start < part.end → (range.start ≤ part.start) × (part.end ≤ range.end)
 
--- where a part stands in a list of the numbers of the range alone
+-- the place of a part in a list of the numbers of the range alone
 pub record IsPlaceWithin (range part place : Span) : Type 0 where
   pub within : (ps : List ℕ) → HasSpan ps range → HasSpan ps part → HasSpan (span_of ps range) place
   pub same : (ps : List ℕ) → HasSpan ps range → HasSpan ps part → span_of (span_of ps range) place ≡ span_of ps part

@@ -12,7 +12,7 @@ use Rattle.dexpool.specs.Tables.{text_of, type_of, span_of, type_cmp, proto_cmp,
 use Rattle.dexpool.specs.Reading.{HasSpan}
 use Rattle.dexpool.specs.Pools.{symbols_of}
 
--- what the tables stand for
+-- what the tables denote
 abbrev pub symbols_in : Tables → Mentions
 symbols_in t = symbols_of t.strings.items t.types.items t.parameters t.protos.items t.fields.items t.methods.items
 

@@ -1,4 +1,4 @@
--- What numbers in the tables stand for.
+-- What numbers in the tables denote.
 use Rattle.std.specs.Prelude.{ℕ, ◌-◌, List, [], ◌∷◌, map, take, drop, slice_index_or}
 use Rattle.std.specs.declared.cmp.Ordering.{Ordering}
 use Rattle.dexspec.specs.Texts.{Text}

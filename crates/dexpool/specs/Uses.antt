@@ -51,10 +51,10 @@ pub record AreMarkedToo (us : List Use) (old new : Marks) : Type 0 where
 abbrev pub IsMarkedUse : Marks → Use → Type 0
 IsMarkedUse marks u = slice_index_or (marks_of u.kind marks) u.number false ≡ true
 
--- its number leads somewhere
+-- its number has an image
 abbrev pub IsLedUse : Maps → Use → Type 0
 IsLedUse r u = IsSome (image_of r u.kind u.number)
 
--- each number that is marked leads somewhere
+-- each number that is marked has an image
 abbrev pub LeadsMarked : Marks → Maps → Type 0
 LeadsMarked marks r = (kind : SymbolKind) (i : ℕ) → slice_index_or (marks_of kind marks) i false ≡ true → IsSome (image_of r kind i)

@@ -15,7 +15,7 @@ pub enum ReadFault {
     /// A condition that the file does not meet, and where it fails. Of the conditions 1 to 16 it is the first that
     /// fails, at its least row; of 17 to 23 it is one that fails, with the row of the class at which it does.
     Refused(Refusal),
-    /// A growth was refused.
+    /// An allocation failed.
     Memory,
 }
 
@@ -24,7 +24,7 @@ pub enum ReadFault {
 pub enum ItemFault {
     /// The number of a condition that the item does not meet.
     Refused(u8),
-    /// A growth was refused.
+    /// An allocation failed.
     Memory,
 }
 

@@ -68,7 +68,7 @@ fn field_at(names: &Names<'_, '_>, i: u32) -> Option<FieldRow>
     Some(field)
 }
 
-// Whether the field comes behind the last one, if there is one.
+// Returns whether the field comes after the last one, if there is one.
 fn is_above(fields: &[FieldRow], field: &FieldRow) -> bool
     ensures { result ≡ is_above_last field_cmp field.now fields.now }
 {
@@ -80,9 +80,9 @@ fn is_above(fields: &[FieldRow], field: &FieldRow) -> bool
 
 /// The fields, by row.
 ///
-/// Error: condition 14 fails, at the least row with an index out of range, whose class is no class type,
-/// whose type is void, whose name is no member's, or which does not come behind the row before it, by
-/// class, name and type. Source: "field_id_item" and "MemberName".
+/// Error: condition 14 fails, at the least row with an index out of range, whose class is no class type, whose type is
+/// void, whose name is no member's, or which does not come after the row before it, by class, name and type. Source:
+/// "field_id_item" and "MemberName".
 pub(crate) fn read_fields(alloc: Global, names: &Names<'_, '_>) -> Result<Vec<FieldRow>, ReadFault>
     requires names { AreNames names.now.frame.now names.now.strings.now names.now.types.now }
     requires protos { HoldsThroughout Condition.Protos names.now.frame.now }

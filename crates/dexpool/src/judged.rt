@@ -1,4 +1,4 @@
-//! Long lists of parameters, each judged once however many rows share it.
+//! Long lists of parameters, each checked once however many rows share it.
 
 ghost use Rattle.std.specs.Prelude.{◌≡◌, true, false, OnOk};
 ghost use Rattle.dexstr.specs.Units.{IsAscii};
@@ -14,10 +14,10 @@ use dexstr::Text;
 use std::alloc::AllocError;
 use std::collections::HashMap;
 
-// Lists that are not longer are judged again: it takes no longer than to look them up.
+// Lists that are not longer are checked again: it takes no longer than to look them up.
 const SHORT: usize = 16;
 
-/// A list that was judged: where it is, and a shorty that it goes with, by the number of its text and its first
+/// A list that was checked: where it is, and a shorty that it goes with, by the number of its text and its first
 /// letter, that of the type that is returned.
 #[derive(Clone, Copy)]
 pub(crate) struct Judged {
@@ -26,8 +26,8 @@ pub(crate) struct Judged {
     pub(crate) letter: u16,
 }
 
-/// Whether types of values are listed at an offset, where there is a place for them, and their shorty is the text of
-/// the number behind the letter. A long list that was judged so is not judged again.
+/// Returns whether types of values are listed at an offset, where there is a place for them, and their shorty is the
+/// text of the number after the letter. A long list that passed this check is not checked again.
 pub(crate) fn has_shorty(
     names: &Names<'_, '_>,
     letters: &[u16],
@@ -58,9 +58,9 @@ pub(crate) fn has_shorty(
     }
 }
 
-/// Notes a list that was judged, if it is long.
+/// Notes a list that was checked, if it is long.
 ///
-/// Error: the memory was refused.
+/// Error: the allocation failed.
 pub(crate) fn note(
     names: &Names<'_, '_>,
     lists: &mut HashMap<u32, Judged>,

@@ -29,14 +29,14 @@ pub fn number_law()
     ensures { (m : Mentions) → AreRising m → RanksAreNumbers m }
 {}
 
-/// A map from one numbering to another leads to numbers of the other: each image is below the count of its kind. So
-/// it is for what a join or a keep answers.
+/// A map from one numbering to another has images in the other: each image is below the count of its kind. So it is for
+/// what a join or a keep returns.
 pub fn within_law()
     ensures { (m n : Mentions) (r : Maps) → AllLead m n r → LeadsWithin n r }
 {}
 
-/// What is marked with others is marked, and what was marked stays so; and where each marked number leads somewhere,
-/// as after a keep, so does each number that occurs in what was marked.
+/// What is marked with others is marked, and what was marked stays so; and where each marked number has an image, as
+/// after a keep, so has each number that occurs in what was marked.
 pub fn marked_law()
     ensures marked { (us : List Use) (old new : Marks) → AreMarkedToo us old new → All (IsMarkedUse new) us }
     ensures stays { (us : List Use) (old new : Marks) → AreMarkedToo us old new → (vs : List Use) → All (IsMarkedUse old) vs → All (IsMarkedUse new) vs }

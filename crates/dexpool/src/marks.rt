@@ -22,7 +22,7 @@ pub struct Marks {
     pub methods: Vec<bool>,
 }
 
-// So that a value is let go by one call.
+// One call drops the marks.
 impl Drop for Marks {
     fn drop(self) {
         let Marks {
@@ -69,7 +69,7 @@ impl Marks {
     }
 }
 
-// So many marks, of which none is set.
+// Returns `count` marks, of which none is set.
 fn unmarked(alloc: Global, count: usize) -> Result<Vec<bool>, AllocError>
     ensures { IfOk result (λ marks. marks.items ≡ replicate count false) }
 {

@@ -66,7 +66,7 @@ fn method_at(names: &Names<'_, '_>, protos: &[ProtoEntry], i: u32) -> Option<Met
     Some(method)
 }
 
-// Whether the method comes behind the last one, if there is one.
+// Returns whether the method comes after the last one, if there is one.
 fn is_above(methods: &[MethodRow], method: &MethodRow) -> bool
     ensures { result ≡ is_above_last method_cmp method.now methods.now }
 {
@@ -78,9 +78,9 @@ fn is_above(methods: &[MethodRow], method: &MethodRow) -> bool
 
 /// The methods, by row.
 ///
-/// Error: condition 15 fails, at the least row with an index out of range, whose class is neither a class
-/// nor an array type, whose name is no member's, or which does not come behind the row before it, by class,
-/// name and proto. Source: "method_id_item" and "MemberName".
+/// Error: condition 15 fails, at the least row with an index out of range, whose class is neither a class nor an array
+/// type, whose name is no member's, or which does not come after the row before it, by class, name and proto. Source:
+/// "method_id_item" and "MemberName".
 pub(crate) fn read_methods(
     alloc: Global,
     names: &Names<'_, '_>,

@@ -24,7 +24,7 @@ pub struct Numbering<'a> {
     pub(crate) tables: Tables<'a>,
 }
 
-// So that a value is let go by one call.
+// One call drops a numbering.
 impl Drop for Numbering<'_> {
     fn drop(self) {
         let Numbering { tables: _ } = self;
@@ -98,7 +98,7 @@ impl<'a> Numbering<'a> {
         })
     }
 
-    /// Does nothing: its clause tells what holds of every numbering.
+    /// Does nothing: its clause states what holds of every numbering.
     pub fn is_numbering(&self)
         ensures { IsNumbering self.now }
     {

@@ -1,4 +1,4 @@
-//! Where the types of a proto's parameters stand.
+//! Where the numbers of the types of a proto's parameters are.
 
 ghost use Rattle.std.specs.Prelude.{ℕ, MatchOption};
 ghost use Rattle.dexpool.specs.Reading.{HasRoom, NoPlace, IsPlaced};
@@ -23,8 +23,8 @@ pub fn type_list_len(frame: &Frame<'_>, off: u32) -> Option<u32>
     Some(count)
 }
 
-/// Where in the bytes, as numbers of two bytes each, the numbers of the types stand that are listed at an offset, of
-/// which 0 lists none; or `None` where no list stands. The numbers are not judged. No memory is taken.
+/// Returns the place of the numbers of the types that are listed at an offset, in the bytes as numbers of two bytes
+/// each; 0 lists none. Returns `None` where there is no list. The numbers are not checked.
 ///
 /// Source: "type_list".
 pub(crate) fn place_at(frame: &Frame<'_>, off: u32) -> Option<Span>

@@ -52,10 +52,10 @@ impl<'a> Model for Pools<'a> {
 }
 
 impl<'a> Pools<'a> {
-    /// Reads the five pools, and judges conditions 11 to 15 in their order, each at its rows from 0 on.
+    /// Reads the five pools, and checks conditions 11 to 15 in their order, each at its rows from 0 on.
     ///
-    /// Error: `Refused` with the first condition that fails, at its least row; `Memory` where a growth was
-    /// refused. Nothing is kept then.
+    /// Error: `Refused` with the first condition that fails, at its least row; `Memory` where an allocation failed.
+    /// Nothing is kept then.
     ///
     /// Source: "string_id_item", "type_id_item", "proto_id_item", "field_id_item", "method_id_item" and
     /// "type_list".

@@ -29,7 +29,7 @@ pub(crate) struct Protos {
     pub(crate) parameters: Vec<usize>,
 }
 
-// What stands in a row.
+// The numbers in a row.
 #[derive(Clone, Copy)]
 struct Indices {
     shorty: usize,
@@ -49,7 +49,7 @@ fn indices_at(frame: &Frame<'_>, i: u32) -> Indices
     }
 }
 
-// The proto of a row, if it is one. Of lists that rows share, `lists` tells what was judged.
+// Returns the proto of a row, if it is one. Of lists that rows share, `lists` has those that were checked.
 fn proto_at(
     names: &Names<'_, '_>,
     letters: &[u16],
@@ -118,7 +118,7 @@ fn compare(parameters: &Parameters<'_>, left: &ProtoEntry, right: &ProtoEntry) -
     }
 }
 
-// Whether the proto comes behind the last one, if there is one.
+// Returns whether the proto comes after the last one, if there is one.
 fn is_above(parameters: &Parameters<'_>, protos: &[ProtoEntry], proto: &ProtoEntry) -> bool
     requires protos { (k : ℕ) (d : ProtoEntry) → k < length protos.now → HasSpan parameters.now (slice_index_or protos.now k d).parameters }
     requires proto { HasSpan parameters.now proto.now.parameters }
@@ -132,10 +132,9 @@ fn is_above(parameters: &Parameters<'_>, protos: &[ProtoEntry], proto: &ProtoEnt
 
 /// The protos, by row, whose parameters stay in the bytes.
 ///
-/// Error: condition 13 fails, at the least row with an index out of range, whose parameters are no list
-/// of types in the data or name void, whose shorty is not that of its types, or which does not come behind
-/// the row before it, by the return type and then by the parameters. Source: "proto_id_item" and
-/// "type_list".
+/// Error: condition 13 fails, at the least row with an index out of range, whose parameters are no list of types in the
+/// data or name void, whose shorty is not that of its types, or which does not come after the row before it, by the
+/// return type and then by the parameters. Source: "proto_id_item" and "type_list".
 pub(crate) fn read_protos(
     alloc: Global,
     names: &Names<'_, '_>,

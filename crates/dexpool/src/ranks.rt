@@ -50,8 +50,7 @@ impl<'a> Numbering<'a> {
         self.typ(i).cmp(descriptor)
     }
 
-    // How the types of numbers compare with other types: the first that differ decide, and else a front
-    // comes first.
+    // How the types of numbers compare with other types: the first that differ decide, and else a prefix comes first.
     fn compare_types(&self, numbers: &TypeNumbers<'_>, descriptors: &[Name]) -> Ordering
         requires { All (λ n. n < length self.now.types) numbers.now }
         ensures { (d : List ℕ) → result ≡ slice_cmp text_cmp (map (λ n. slice_index_or self.now.types n d) numbers.now) descriptors.now }

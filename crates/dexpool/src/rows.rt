@@ -10,7 +10,7 @@ pub struct ProtoEntry {
     pub shorty: usize,
     /// The type that is returned.
     pub return_type: usize,
-    /// Where the types of the parameters stand.
+    /// Where the numbers of the types of the parameters are.
     pub parameters: Span,
 }
 
@@ -19,6 +19,6 @@ pub struct ProtoEntry {
 pub struct Span {
     /// The place of its first number.
     pub start: usize,
-    /// The place behind its last number.
+    /// The place after its last number.
     pub end: usize,
 }

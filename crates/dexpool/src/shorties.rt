@@ -22,7 +22,7 @@ fn letter_at(names: &Names<'_, '_>, i: usize) -> u16
 
 /// The letter of each type, by row.
 ///
-/// Error: the memory was refused. Source: "ShortyDescriptor".
+/// Error: the allocation failed. Source: "ShortyDescriptor".
 pub(crate) fn letters_of(alloc: Global, names: &Names<'_, '_>) -> Result<Vec<u16>, AllocError>
     requires { AreNames names.now.frame.now names.now.strings.now names.now.types.now }
     ensures { IfOk result (λ letters. AreLetters names.now.strings.now names.now.types.now letters.items) }

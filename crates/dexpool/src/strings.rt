@@ -15,8 +15,8 @@ use std::alloc::Global;
 
 /// The texts, by row.
 ///
-/// Error: condition 11 fails, at the least row whose item is not in the data or is no text, or whose text
-/// does not come behind that of the row before it. Source: "string_id_item" and "string_data_item".
+/// Error: condition 11 fails, at the least row whose item is not in the data or is no text, or whose text does not come
+/// after that of the row before it. Source: "string_id_item" and "string_data_item".
 pub(crate) fn read_strings<'a>(alloc: Global, frame: &Frame<'a>) -> Result<Vec<Text<'a>>, ReadFault>
     requires { IsFrame frame.now }
     ensures ok { IfOk result (λ texts. AreTexts frame.now texts.items) }
@@ -57,7 +57,7 @@ fn string_at<'a>(frame: &Frame<'a>, i: u32) -> Option<Text<'a>>
     }
 }
 
-// Whether the text comes behind the last one, if there is one.
+// Returns whether the text comes after the last one, if there is one.
 fn is_above(strings: &[Text<'_>], text: &Text<'_>) -> bool
     ensures { result ≡ is_above_last text_cmp text.now strings.now }
 {

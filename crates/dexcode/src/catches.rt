@@ -15,7 +15,7 @@ use dexleb::{read_s, read_u};
 use dexpool::ItemFault;
 use std::alloc::Global;
 
-// The address at a place, if an instruction begins there, and how many bytes spell it.
+// Reads the address at `at`, if an instruction begins there, and returns the number of bytes that encode it.
 #[inline(always)]
 fn read_address(bytes: &[u8], at: usize, starts: &InstructionStarts<'_>) -> Option<(u32, usize)>
     requires { at ≤ length bytes.now }
@@ -35,7 +35,7 @@ fn read_address(bytes: &[u8], at: usize, starts: &InstructionStarts<'_>) -> Opti
     }
 }
 
-// The type that is caught and its address, at a place, and how many bytes spell them.
+// Reads the type that is caught and its address at `at`, and returns the number of bytes that encode them.
 #[inline(always)]
 fn read_catch(
     bytes: &[u8],
@@ -109,7 +109,8 @@ fn read_catches(
     Ok((catches, size))
 }
 
-// The address for all else, where the size of the handler has room for one, and how many bytes spell it.
+// Reads the catch-all address, if the size of the handler says that there is one, and returns the number of bytes that
+// encode it.
 #[inline(always)]
 fn read_catch_all(
     bytes: &[u8],
@@ -157,7 +158,7 @@ pub(crate) fn handler_len(
     }
 }
 
-// The handler at a place, and how many bytes spell it.
+// Reads the handler at an offset, and returns the number of bytes that encode it.
 pub(crate) fn read_handler(
     alloc: Global,
     bytes: &[u8],

@@ -15,12 +15,12 @@ use std::collections::HashMap;
 /// many code items name it.
 #[derive(Drop)]
 pub struct CheckedDebugs {
-    // What each weighs.
+    // The weight of each.
     pub(crate) weights: HashMap<u32, u64>,
 }
 
 impl CheckedDebugs {
-    /// Nothing yet. No memory is taken.
+    /// Returns an empty cache.
     pub fn none(alloc: Global) -> CheckedDebugs
         ensures { (b : List ℕ) → AreCheckedDebugs b result }
     {
@@ -30,7 +30,7 @@ impl CheckedDebugs {
     }
 }
 
-// What the debug program at an offset weighs. One that is checked already is not checked again.
+// Returns the weight of the debug program at an offset. One that was checked before is not checked again.
 pub(crate) fn checked_debug_at(
     frame: &Frame<'_>,
     pools: &Pools<'_>,

@@ -16,10 +16,10 @@ use dexinsn::{InstructionStarts, Scratch, check_pieces};
 use dexpool::{ItemFault, Pools, SymbolKind};
 use std::alloc::Global;
 
-/// What was found of a code_item.
+/// The result of the check of a code_item.
 #[derive(Clone, Copy, Debug, PartialEq, Eq)]
 pub struct CodeShape {
-    /// What it weighs with its debug program.
+    /// Its weight with its debug program.
     pub weight: u64,
 }
 
@@ -85,12 +85,12 @@ pub fn check_code(
     check_code_once(alloc, frame, pools, off, scratch, &mut checked)
 }
 
-/// As [`check_code`], where a debug program that is checked already is not checked again. What was checked is kept for the
-/// next code_item of the file.
+/// As [`check_code`], but a debug program that was checked before is not checked again. What was checked is kept for
+/// the next code_item of the file.
 ///
-/// Condition: what is checked already is of this file, whose pools these are.
+/// Condition: what was checked before is of this file, whose pools these are.
 ///
-/// Error: as of [`read_code`](crate::read_code). What is checked is then not told.
+/// Error: as of [`read_code`](crate::read_code). The contents of `checked` are then unspecified.
 ///
 /// Source: "code_item".
 pub fn check_code_once(

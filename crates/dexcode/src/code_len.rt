@@ -1,4 +1,4 @@
-//! How long code items are.
+//! The lengths of code items.
 
 ghost use Rattle.std.specs.Prelude.{◌≡◌, ◌+◌, ◌*◌, ◌^◌, ◌<◌, ◌≤◌, ℕ, List, length, option_to_list};
 ghost use Rattle.std.specs.List.{flat_map};
@@ -32,7 +32,7 @@ pub(crate) fn handler_count(handler: &Handler) -> i32
     }
 }
 
-// How many bytes a handler has.
+// Returns the length of a handler.
 pub(crate) fn handler_len(handler: &Handler) -> usize
     requires { length handler.now.catches < 2 ^ 16 }
     ensures len { result ≡ length (numbered_handler_bytes handler.now) }
@@ -43,7 +43,7 @@ pub(crate) fn handler_len(handler: &Handler) -> usize
     count.len
 }
 
-// How many bytes the list of handlers has.
+// Returns the length of the list of handlers.
 fn list_len(handlers: &[Handler]) -> usize
     requires { handlers_weight handlers.now ≤ most_handlers }
     ensures len { result ≡ length (numbered_list_bytes handlers.now) }
@@ -62,7 +62,7 @@ fn gap_len(units: u32) -> usize
     if units % 2 == 1 { 2 } else { 0 }
 }
 
-// How many units the pieces have.
+// Returns the number of units of the pieces.
 pub(crate) fn unit_count(pieces: &Pieces<'_>) -> u32
     ensures { result ≡ unit_count pieces.now }
 {
@@ -83,7 +83,7 @@ pub(crate) fn placed_len(units: u32, tries: &[Try], list: usize) -> usize
 }
 
 impl<'a> Code<'a> {
-    /// The number of bytes that [`put_code`](crate::put_code) appends, wherever the debug program is. No memory is taken.
+    /// The number of bytes that [`put_code`](crate::put_code) appends, wherever the debug program is.
     ///
     /// Source: "code_item".
     pub fn item_len(&self) -> usize

@@ -58,7 +58,7 @@ impl Encode for Catch {
     }
 }
 
-// Writes the address for all else, if there is one.
+// Writes the catch-all address, if there is one.
 fn encode_catch_all<O: Output>(catch_all_addr: Option<u32>, out: &mut O)
     ensures { O.gives (flat_map uleb128 (option_to_list catch_all_addr)) out.old out.new }
 {

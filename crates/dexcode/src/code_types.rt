@@ -1,4 +1,4 @@
-//! The numbers of types that handlers catch.
+//! The numbers of the types that handlers catch.
 
 ghost use Rattle.std.specs.Prelude.{◌↔◌, ◌^◌, ◌<◌, IsTrue, All};
 ghost use Rattle.dexcode.specs.CodePut.{HasShortTypes};
@@ -7,21 +7,21 @@ ghost use Rattle.dexcode.specs.Numbered.{handlers_of};
 use crate::code::Code;
 use crate::handlers::{Catch, Handler};
 
-// Whether the number of each type has 16 bits.
+// Returns whether the number of each type has 16 bits.
 fn are_short(catches: &[Catch]) -> bool
     ensures { IsTrue result ↔ All (λ c. c.typ < 2 ^ 16) catches.now }
 {
     catches.iter().all(|catch| catch.typ < 0x1_0000)
 }
 
-// Whether the number of each type that a handler catches has.
+// Returns whether the number of each type that a handler catches has 16 bits.
 fn has_short_types(handler: &Handler) -> bool
     ensures { IsTrue result ↔ HasShortTypes handler.now }
 {
     are_short(handler.catches())
 }
 
-// Whether the number of each type that the handlers catch has.
+// Returns whether the number of each type that the handlers catch has 16 bits.
 fn have_short_types(handlers: &[Handler]) -> bool
     ensures { IsTrue result ↔ All HasShortTypes handlers.now }
 {
@@ -29,8 +29,8 @@ fn have_short_types(handlers: &[Handler]) -> bool
 }
 
 impl<'a> Code<'a> {
-    /// Whether the number of each type that a handler catches is below 2^16, as [`put_code`](crate::put_code) asks. No
-    /// memory is taken.
+    /// Returns whether the number of each type that a handler catches is below 2^16, as [`put_code`](crate::put_code)
+    /// asks.
     ///
     /// Source: "encoded_type_addr_pair", the field `type_idx`.
     pub fn types_fit(&self) -> bool

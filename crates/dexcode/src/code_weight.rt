@@ -1,4 +1,4 @@
-//! What code items weigh.
+//! The weights of code items.
 
 ghost use Rattle.std.specs.Prelude.{◌≡◌, ◌<◌, ◌≤◌};
 ghost use Rattle.dexspec.specs.Code as symbolic;
@@ -14,7 +14,7 @@ use crate::code_len::unit_count;
 use crate::handlers::Handler;
 use crate::tries::Tries;
 
-// What the handlers weigh.
+// Returns the weight of the handlers.
 fn handlers_weight(handlers: &[Handler]) -> u64
     requires { handlers_weight handlers.now ≤ symbolic.most_handlers }
     ensures { result ≡ handlers_weight handlers.now }
@@ -26,7 +26,7 @@ fn handlers_weight(handlers: &[Handler]) -> u64
     weight
 }
 
-// What the tries weigh.
+// Returns the weight of the tries.
 pub(crate) fn tries_weight(tries: &Tries) -> u64
     ensures weight { result ≡ numbered_tries_weight tries.now }
     ensures few { result < 0x10_0000 }
@@ -39,9 +39,9 @@ pub(crate) fn tries_weight(tries: &Tries) -> u64
 }
 
 impl<'a> Code<'a> {
-    /// What it weighs without its debug program: at least 3 more than the bytes that [`put_code`](crate::put_code)
+    /// Returns the weight without the debug program: at least 3 more than the bytes that [`put_code`](crate::put_code)
     /// appends. It is 24, 2 for each unit and, where there are tries, 8 for each of them, 5, and 10 for each handler
-    /// that they name and 8 for each of its catches. No memory is taken.
+    /// that they name and 8 for each of its catches.
     pub fn weight(&self) -> u64
         ensures numbered { result ≡ numbered_code_weight self.now }
         ensures symbolic { (m : Mentions) (x : symbolic.Code) → AreRising m → StandsForCode m self.now x → result ≡ code_weight x }

@@ -58,7 +58,7 @@ impl Debug {
         &self.parameter_names
     }
 
-    /// The operations, in order and without the end. No memory is taken.
+    /// The operations, in order and without the end.
     ///
     /// Source: "debug_info_item", "State machine".
     pub fn operations(&self) -> OperationIter<'_>

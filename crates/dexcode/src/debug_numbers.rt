@@ -13,7 +13,7 @@ use crate::operations::Operations;
 use dexpool::{Marks, Remap, Renumber, SymbolKind, Symbols, Visitor, mark};
 use std::alloc::AllocError;
 
-// What operations weigh.
+// Returns the weight of operations.
 fn operations_weight(operations: &Operations) -> u64
     requires { length operations.now < 2 ^ 30 }
     ensures sum { result ≡ sum_by operation_weight operations.now }
@@ -113,7 +113,7 @@ impl Symbols for Debug {
 }
 
 impl Debug {
-    /// What it weighs: as many bytes as [`put_debug`](crate::put_debug) appends, or more. No memory is taken.
+    /// Returns the weight: as many bytes as [`put_debug`](crate::put_debug) appends, or more.
     pub fn weight(&self) -> u64
         ensures { result ≡ debug_weight (bare self.now) }
     {
@@ -139,7 +139,7 @@ impl Debug {
         self.operations.renumber(remap);
     }
 
-    /// Marks each symbol that occurs. No memory is taken.
+    /// Marks each symbol that occurs.
     ///
     /// Condition: there is a mark for each of them.
     pub fn mark(&self, marks: &mut Marks)
@@ -149,9 +149,7 @@ impl Debug {
         mark(self, marks);
     }
 
-    /// The same debug program, with names and operations of its own.
-    ///
-    /// Error: the memory for them was refused.
+    /// Returns a copy of the debug program, with names and operations of its own.
     pub fn copy(&self) -> Result<Debug, AllocError>
         ensures { IfOk result (λ copy. copy ≡ self.now) }
     {

@@ -84,7 +84,7 @@ impl Operation {
         }
     }
 
-    // Whether there are places in it for the numbers of symbols.
+    // Returns whether the operation has places for the numbers of symbols.
     pub(crate) fn has_places(&self) -> bool
         ensures places { result ≡ has_places self.now }
         ensures none { result ≡ false → operation_uses self.now ≡ [] }
@@ -130,14 +130,14 @@ impl Operation {
         self.with_numbers(None, None, None)
     }
 
-    // Whether both are the same.
+    // Returns whether two operations are the same.
     pub(crate) fn is_same(&self, other: &Operation) -> bool
         ensures { IsTrue result ↔ (self.now ≡ other.now) }
     {
         self == other
     }
 
-    // How many numbers it takes.
+    // Returns the number of operands.
     pub(crate) fn operands(&self) -> u64
         ensures count { result ≡ weights.operands (bare_operation self.now) }
         ensures few { result < 5 }

@@ -9,7 +9,7 @@ use crate::debug_operation::Operation;
 use crate::operations::Operations;
 use std::alloc::{AllocError, Global};
 
-// By how much an operation moves the address.
+// Returns the amount that an operation adds to the address.
 fn address_step(operation: &Operation) -> u64
     requires { IsSpecial operation.now }
     ensures step { result ≡ symbolic.address_step (bare_operation operation.now) }
@@ -22,7 +22,7 @@ fn address_step(operation: &Operation) -> u64
     }
 }
 
-// By how much it moves the line.
+// Returns the amount that an operation adds to the line.
 fn line_step(operation: &Operation) -> i64
     requires { IsSpecial operation.now }
     ensures step { result ≡ symbolic.line_step (bare_operation operation.now) }
@@ -36,7 +36,7 @@ fn line_step(operation: &Operation) -> i64
     }
 }
 
-// Whether it records a position.
+// Returns whether an operation records a position.
 fn is_special(operation: &Operation) -> bool
     ensures { result ≡ symbolic.is_special (bare_operation operation.now) }
 {
@@ -97,8 +97,6 @@ fn positions_from(
 
 /// The address and the line of each special operation, in order: the address in units from the start of the code.
 /// An address is a sum of fewer than 2^30 numbers of 32 bits, and so is a line, so that both fit their types.
-///
-/// Error: the memory for the positions was refused.
 ///
 /// Source: "debug_info_item", "State machine" and "Special opcodes".
 pub fn positions(alloc: Global, debug: &Debug) -> Result<Vec<(u64, i64)>, AllocError>

@@ -140,7 +140,7 @@ impl Debug {
         out.byte(DBG_END_SEQUENCE);
     }
 
-    /// The number of bytes that [`put_debug`] appends. No memory is taken.
+    /// The number of bytes that [`put_debug`] appends.
     ///
     /// Source: "debug_info_item".
     pub fn item_len(&self) -> usize
@@ -161,7 +161,7 @@ fn most_len(debug: &Debug) -> usize
     11 + 5 * debug.parameter_names.len() + 21 * debug.operations.len()
 }
 
-// Makes room for a debug program. It is measured only where there is no room for the longest one.
+// Reserves room for a debug program. It is measured only where there is no room for the longest one.
 fn make_room(debug: &Debug, out: &mut Vec<u8>) -> Result<(), AllocError>
     ensures items { out.new.items ≡ out.old.items }
     ensures len { vec_len out.new ≡ vec_len out.old }

@@ -1,4 +1,4 @@
-//! Whether debug programs mean the same.
+//! Comparison of debug programs.
 
 ghost use Rattle.std.specs.Prelude.{◌≡◌, ◌↔◌, IsTrue, map};
 ghost use Rattle.dexpool.specs.declared.symbols.SymbolKind.TheVariants as kinds;

@@ -60,7 +60,8 @@ fn read_handlers(
     Ok(numbers)
 }
 
-// The list of handlers at a place: by its bytes, the number of the handler that begins there. No handler is kept.
+// Reads the list of handlers at `at`. Returns by the bytes of the list the number of the handler that begins there. No
+// handler is kept.
 pub(crate) fn read_list(
     alloc: Global,
     bytes: &[u8],

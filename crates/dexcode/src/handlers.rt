@@ -49,7 +49,7 @@ impl Hash for Catch {
     }
 }
 
-/// The types that are caught, in order, and the address of the code for all else, if there is one. Contracts see both.
+/// The types that are caught, in order, and the catch-all address, if there is one. Contracts see both.
 ///
 /// Source: "encoded_catch_handler".
 #[derive(Drop)]
@@ -121,9 +121,7 @@ impl Handler {
         self.catch_all_addr
     }
 
-    /// The same handler, with a list of its own.
-    ///
-    /// Error: the memory for the list was refused.
+    /// Returns a copy of the handler, with a list of its own.
     pub(crate) fn copy(&self) -> Result<Handler, AllocError>
         ensures { IfOk result (λ copy. copy ≡ self.now) }
     {

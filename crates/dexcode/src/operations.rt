@@ -1,4 +1,4 @@
-//! The operations of a debug program, as they are kept.
+//! The operations of a debug program, as they are stored.
 
 ghost use Rattle.std.specs.Prelude.{◌≡◌, ◌↔◌, ◌∷◌, [], ◌++◌, ◌^◌, ◌<◌, IsTrue, All, IfOk, OnOk, filter, length, map, slice_index_or};
 ghost use Rattle.std.specs.Iterator.{YieldsFirst, item_count};
@@ -16,7 +16,7 @@ use std::alloc::AllocError;
 use std::hash::{Hash, Hasher};
 use std::marker::Model;
 
-/// An operation as it is kept, in 8 bytes.
+/// An operation as it is stored, in 8 bytes.
 #[derive(Clone, Copy, Debug, PartialEq, Eq, Hash)]
 pub(crate) enum Entry {
     AdvancePc(u32),
@@ -141,14 +141,14 @@ impl Operations {
         }
     }
 
-    // How many there are.
+    // Returns the number of operations.
     pub(crate) fn len(&self) -> usize
         ensures { result ≡ length self.now }
     {
         self.entries.len()
     }
 
-    // One of them.
+    // Returns one of the operations.
     pub(crate) fn at(&self, i: usize) -> Operation
         requires { i < length self.now }
         ensures { (d : Meant) → result ≡ slice_index_or self.now i d }
@@ -171,7 +171,7 @@ impl Operations {
         renumber_all(&mut self.named, remap);
     }
 
-    // The same operations, in lists of their own.
+    // Returns a copy of the operations, in lists of their own.
     pub(crate) fn copy(&self) -> Result<Operations, AllocError>
         ensures { IfOk result (λ copy. copy ≡ self.now) }
     {

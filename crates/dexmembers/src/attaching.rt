@@ -18,7 +18,7 @@ fn entry_of(entries: &[(u32, u32)], number: u32) -> Option<usize>
     entries.binary_search_by_key(&number, |entry| entry.0).ok()
 }
 
-// The place that entries have for this number, if there is an entry of it.
+// Returns the place in the entry of a number, if there is one.
 fn place_for(entries: &[(u32, u32)], number: u32) -> Option<u32>
     ensures found { EntriesRise entries.now → result ≡ place_for entries.now number }
     ensures held { (limit : ℕ) → All (λ e. e.1 < limit) entries.now → IfSome result (λ place. place < limit) }
@@ -30,8 +30,6 @@ fn place_for(entries: &[(u32, u32)], number: u32) -> Option<u32>
 }
 
 /// The fields of a list of class data, with the places of their sets in a directory.
-///
-/// Error: the memory for the list was refused.
 ///
 /// Source: "encoded_field format", "field_annotation format".
 pub(crate) fn attach_fields(
@@ -54,8 +52,6 @@ pub(crate) fn attach_fields(
 }
 
 /// The methods of a list of class data, with their code and the places of their sets and lists of sets in a directory.
-///
-/// Error: the memory for the list was refused.
 ///
 /// Source: "encoded_method format", "method_annotation format", "parameter_annotation format".
 pub(crate) fn attach_methods<'a>(

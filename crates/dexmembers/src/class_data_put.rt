@@ -112,9 +112,9 @@ impl Members<'_> {
         20 + 10 * self.field_count() + 15 * self.method_count()
     }
 
-    /// How many bytes [`put_class_data`](Members::put_class_data) appends. `code_offs` has the offset of the code of each
-    /// method, the direct ones first, and 0 where there is none. [`members_bytes_law`](crate::members_bytes_law) says of which
-    /// symbols they are the bytes. No memory is taken.
+    /// Returns the number of bytes that [`put_class_data`](Members::put_class_data) appends. `code_offs` has the offset
+    /// of the code of each method, the direct ones first, and 0 where there is none.
+    /// [`members_bytes_law`](crate::members_bytes_law) says of which symbols they are the bytes.
     ///
     /// Condition: there is an offset for each method.
     ///

@@ -17,7 +17,7 @@ use std::collections::HashMap;
 /// methods name it.
 #[derive(Drop)]
 pub(crate) struct CheckedCodes {
-    // What each weighs with its debug program.
+    // The weight of each with its debug program.
     weights: HashMap<u32, u64>,
     // Their debug programs: each is checked once, however many code items name it.
     debugs: CheckedDebugs,
@@ -26,7 +26,7 @@ pub(crate) struct CheckedCodes {
 }
 
 impl CheckedCodes {
-    /// Nothing yet. No memory is taken.
+    /// Returns an empty cache.
     pub(crate) fn none(alloc: Global) -> CheckedCodes
         ensures { (b : List ℕ) → AreCheckedCodes b result }
     {
@@ -38,7 +38,7 @@ impl CheckedCodes {
     }
 }
 
-// What the code at an offset weighs with its debug program; at 0 there is none, and it weighs nothing.
+// Returns the weight of the code at an offset with its debug program; at 0 there is no code, and the weight is 0.
 fn checked_code_at(
     alloc: Global,
     frame: &Frame<'_>,
@@ -66,12 +66,12 @@ fn checked_code_at(
     Ok(shape.weight)
 }
 
-/// Checks the code of the methods, each with its debug program; a method whose offset is 0 has none. It returns what the
-/// methods weigh with their code and without their annotations, or 2^64 - 1 where that is more. What is checked already is
-/// not checked again.
+/// Checks the code of the methods, each with its debug program; a method whose offset is 0 has none. It returns the
+/// weight of the methods with their code and without their annotations, or 2^64 - 1 where that is more. Code that was
+/// checked before is not checked again.
 ///
-/// Condition: what is checked already is of this file. Error: `Refused` with 18, 19 or 20, a condition that fails for the
-/// code of one of the methods; `Memory` where an allocation failed.
+/// Condition: what was checked before is of this file. Error: `Refused` with 18, 19 or 20, a condition that fails for
+/// the code of one of the methods; `Memory` where an allocation failed.
 ///
 /// Source: "encoded_method format", the field `code_off`, and "code_item"; the weight is this project's rule.
 pub(crate) fn check_codes(

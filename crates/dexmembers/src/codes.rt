@@ -62,14 +62,14 @@ fn left_behind_any(left: u64, code: &Option<Code<'_>>) -> Option<u64>
     }
 }
 
-/// The code of methods, and what it weighs.
+/// The code of methods, and its weight.
 pub(crate) type WeighedCodes<'a> = (Vec<Option<Code<'a>>>, u64);
 
-/// Reads the code of the methods, each with its debug program, and returns it with what it weighs; a method whose offset is 0
-/// has none. From the method on with which the code weighs more than `most`, it is checked only, and `None` is returned.
+/// Reads the code of the methods, each with its debug program, and returns it with its weight; a method whose offset is
+/// 0 has none. If the weight exceeds `most`, the code of the later methods is only checked, and `None` is returned.
 ///
-/// Error: `Refused` with 18, 19 or 20, a condition that fails for the code of one of the methods; `Memory` where the memory
-/// for what is kept is refused.
+/// Error: `Refused` with 18, 19 or 20, a condition that fails for the code of one of the methods; `Memory` where an
+/// allocation failed.
 ///
 /// Source: "encoded_method format", the field `code_off`, and "code_item".
 pub(crate) fn read_codes<'a>(

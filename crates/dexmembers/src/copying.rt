@@ -7,7 +7,7 @@ use dexcode::Code;
 use dexval::copied_values;
 use std::alloc::AllocError;
 
-// The same fields.
+// Returns a copy of the fields.
 fn copied_fields(fields: &Vec<DeclaredField>) -> Result<Vec<DeclaredField>, AllocError>
     ensures { IfOk result (λ copy. copy.items ≡ fields.now.items) }
 {
@@ -18,7 +18,7 @@ fn copied_fields(fields: &Vec<DeclaredField>) -> Result<Vec<DeclaredField>, Allo
     Ok(copy)
 }
 
-// The same methods.
+// Returns a copy of the methods.
 fn copied_methods<'a>(
     methods: &Vec<DeclaredMethod<'a>>,
 ) -> Result<Vec<DeclaredMethod<'a>>, AllocError>
@@ -31,7 +31,7 @@ fn copied_methods<'a>(
     Ok(copy)
 }
 
-// The same code, if there is some.
+// Returns a copy of the code, if there is some.
 fn copied_code<'a>(code: &Option<Code<'a>>) -> Result<Option<Code<'a>>, AllocError>
     ensures { IfOk result (λ copy. copy ≡ code.now) }
 {
@@ -42,7 +42,7 @@ fn copied_code<'a>(code: &Option<Code<'a>>) -> Result<Option<Code<'a>>, AllocErr
 }
 
 impl DeclaredField {
-    // The same field.
+    // Returns a copy of the field.
     fn copy(&self) -> DeclaredField
         ensures { result ≡ self.now }
     {

@@ -31,7 +31,7 @@ fn encode_pair<O: Output>(index: u32, offset: u32, out: &mut O)
     out.u32(offset);
 }
 
-// 1 for an offset that is not 0, and else 0.
+// Returns 1 for an offset that is not 0, and else 0.
 fn one_if_placed(offset: u32) -> u32
     ensures one { result ≡ (if offset == 0 then 0 else 1) }
     ensures few { result ≤ 1 }
@@ -39,7 +39,7 @@ fn one_if_placed(offset: u32) -> u32
     if offset == 0 { 0 } else { 1 }
 }
 
-// How many offsets are not 0.
+// Returns the number of offsets that are not 0.
 fn placed(offsets: &[u32]) -> u32
     requires { length offsets.now < 2 ^ 32 }
     ensures { result ≡ count_placed offsets.now }
@@ -76,7 +76,7 @@ impl HasNumber for DeclaredMethod<'_> {
     }
 }
 
-// The number of the member at a place, or what is greater than each.
+// Returns the number of the member at a place, or `NONE_LEFT` after the last.
 fn next_number<T: HasNumber>(members: &[T], place: usize) -> u64
     ensures number { result ≡ slice_index_or (map T.number_of members.now) place 0x100000000 }
     ensures there { place < length members.now → result < 2 ^ 32 }
@@ -109,7 +109,7 @@ fn encode_pairs<T: HasNumber, O: Output>(first: &[T], second: &[T], offsets: &[u
     }
 }
 
-// Where the sets of a class and of its members are, and the lists of those of parameters.
+// The offsets of the sets of a class and of its members, and of the lists of those of parameters.
 #[derive(Clone, Copy)]
 struct SetOffs<'o> {
     own: u32,
@@ -118,7 +118,7 @@ struct SetOffs<'o> {
     parameters: &'o [u32],
 }
 
-// How many members of each kind have a set or a list.
+// The number of members of each kind that have a set or a list.
 #[derive(Clone, Copy)]
 struct EntryCounts {
     fields: u32,
@@ -127,7 +127,7 @@ struct EntryCounts {
 }
 
 impl SetOffs<'_> {
-    // How many of the offsets of each kind are not 0.
+    // Returns the number of offsets of each kind that are not 0.
     fn entry_counts(&self) -> EntryCounts
         requires fields { length self.now.fields.now < 2 ^ 32 }
         requires methods { length self.now.methods.now < 2 ^ 32 }
@@ -153,7 +153,7 @@ impl EntryCounts {
     }
 }
 
-// Writes what is before the pairs: the offset of the class's own set, and how many pairs of each kind follow.
+// Writes what is before the pairs: the offset of the class's own set, and the number of pairs of each kind.
 fn encode_head<O: Output>(own_off: u32, counts: &EntryCounts, out: &mut O)
     ensures { O.gives (uint own_off ++ (uint counts.now.fields ++ (uint counts.now.methods ++ uint counts.now.parameters))) out.old out.new }
 {
@@ -218,8 +218,8 @@ impl DirectoryItem<'_, '_> {
 }
 
 impl Members<'_> {
-    /// How many bytes [`put_directory`](Members::put_directory) appends, for the same offsets.
-    /// [`members_bytes_law`](crate::members_bytes_law) says of which symbols they are the bytes. No memory is taken.
+    /// Returns the number of bytes that [`put_directory`](Members::put_directory) appends, for the same offsets.
+    /// [`members_bytes_law`](crate::members_bytes_law) says of which symbols they are the bytes.
     ///
     /// Condition: there is an offset for each field and each method.
     ///

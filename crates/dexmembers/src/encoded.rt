@@ -139,7 +139,7 @@ fn next_index(last: Option<u32>, difference: u32) -> Option<u32>
 }
 
 impl<'p, 'a> Owner<'p, 'a> {
-    // Whether the index is that of a field of the class.
+    // Returns whether the index is that of a field of the class.
     fn has_field(&self, index: u32) -> bool
         ensures { IsTrue result ↔ IsOwnField self.now.pools.now self.now.class index }
     {
@@ -148,7 +148,7 @@ impl<'p, 'a> Owner<'p, 'a> {
             && self.pools.field(index).class == self.class as usize
     }
 
-    // Whether the index is that of a method of the class.
+    // Returns whether the index is that of a method of the class.
     fn has_method(&self, index: u32) -> bool
         ensures { IsTrue result ↔ IsOwnMethod self.now.pools.now self.now.class index }
     {

@@ -11,7 +11,7 @@ use dexpool::ItemFault;
 use std::alloc::Global;
 use std::cmp::Ordering;
 
-// The most members for which room is taken before they are read.
+// The most members for which room is allocated before they are read.
 const MOST_AT_ONCE: usize = 4096;
 
 /// Returns the number of members, of `count`, for which room is allocated before they are read: a false count asks for
@@ -50,7 +50,7 @@ fn read_list<T: Encoded>(
     Ok((members, size))
 }
 
-// Whether no index is in both lists. One pass over both.
+// Returns whether no index is in both lists. One pass over both.
 fn are_apart<T: Encoded>(left: &[T], right: &[T]) -> bool
     requires left_rise { NumbersRise (map T.index_of left.now) }
     requires right_rise { NumbersRise (map T.index_of right.now) }

@@ -1,4 +1,4 @@
-//! Declared fields as they are lent.
+//! Views of declared fields.
 
 ghost use Rattle.std.specs.Prelude.{◌≡◌, ◌<◌, ◌==◌, [], length, map, slice_index_or, All, MatchOption};
 ghost use Rattle.dexval.specs.Code.{set_of};
@@ -59,7 +59,7 @@ impl<'m> Model for Field<'m> {
 }
 
 impl<'m> Fields<'m> {
-    /// These fields, with their sets in a table.
+    /// Returns a view of these fields, with their sets in a table.
     ///
     /// Condition: their places are the table's.
     pub(crate) fn of(table: &'m SetTable, fields: &'m [DeclaredField]) -> Fields<'m>
@@ -69,21 +69,21 @@ impl<'m> Fields<'m> {
         Fields { table, fields }
     }
 
-    /// How many fields there are. No memory is taken.
+    /// Returns the number of fields.
     pub fn len(&self) -> usize
         ensures { result ≡ length self.now }
     {
         self.fields.len()
     }
 
-    /// Whether there is no field. No memory is taken.
+    /// Returns whether there is no field.
     pub fn is_empty(&self) -> bool
         ensures { result ≡ (length self.now == 0) }
     {
         self.fields.is_empty()
     }
 
-    /// The field at a place. No memory is taken.
+    /// The field at a place.
     ///
     /// Condition: there are more fields than that.
     pub fn get(&self, place: usize) -> Field<'m>
@@ -99,7 +99,7 @@ impl<'m> Fields<'m> {
 }
 
 impl<'m> Field<'m> {
-    /// The number of the field. No memory is taken.
+    /// The number of the field.
     ///
     /// Source: "encoded_field format", the field `field_idx_diff`.
     pub fn number(&self) -> u32
@@ -109,7 +109,7 @@ impl<'m> Field<'m> {
         field.number
     }
 
-    /// The access flags. No memory is taken.
+    /// The access flags.
     ///
     /// Source: "access_flags definitions".
     pub fn flags(&self) -> FieldFlags
@@ -119,7 +119,7 @@ impl<'m> Field<'m> {
         field.flags
     }
 
-    /// The annotations; `None` says that the field has none. No memory is taken.
+    /// The annotations; `None` says that the field has none.
     ///
     /// Source: "field_annotation format".
     pub fn annotations(&self) -> Option<&'m AnnotationSet>

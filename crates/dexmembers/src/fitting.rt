@@ -23,7 +23,7 @@ fn code_fits(code: &Code<'_>, remap: &Remap) -> bool
     code.pieces().fits(remap)
 }
 
-// Whether each number of methods does.
+// Returns whether the image of each number of methods fits its place.
 fn methods_fit(methods: &Methods<'_, '_>, remap: &Remap) -> bool
     ensures { (m n : Mentions) → LeadsInto m n remap.now → All (IsKnownMethod m) methods.now → IsTrue result ↔ All (MethodHasPlaces remap.now) methods.now }
 {
@@ -36,7 +36,7 @@ fn methods_fit(methods: &Methods<'_, '_>, remap: &Remap) -> bool
 }
 
 impl Method<'_, '_> {
-    // Whether each number of the method does.
+    // Returns whether the image of each number of the method fits its place.
     fn instructions_fit(&self, remap: &Remap) -> bool
         ensures { (m n : Mentions) → LeadsInto m n remap.now → IsKnownMethod m self.now → IsTrue result ↔ MethodHasPlaces remap.now self.now }
     {

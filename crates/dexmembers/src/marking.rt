@@ -108,8 +108,8 @@ impl<'a> Members<'a> {
         mark_methods(&self.virtual_methods(), marks);
     }
 
-    /// Marks each field and method, and each symbol that occurs in code, in annotations and in what static fields begin
-    /// with. No memory is taken.
+    /// Marks each field and method, and each symbol that occurs in code, in annotations and in the initial values of
+    /// static fields.
     ///
     /// Condition: there is a mark for each of them.
     ///

@@ -62,8 +62,8 @@ impl<'a> Model for DeclaredMethod<'a> {
     ghost view = { λ x. record { number = x.number; flags = x.flags.0; code = x.code; set = x.set; list = x.list } };
 }
 
-/// What a class declares: its own annotations, its fields and methods by number, and what its static fields begin with, in
-/// their order, which may be fewer.
+/// What a class declares: its own annotations, its fields and methods by number, and the initial values of its static
+/// fields, in their order, which may be fewer.
 ///
 /// Source: "class_data_item", "annotations_directory_item", "encoded_array_item".
 pub struct Members<'a> {
@@ -77,8 +77,8 @@ impl Drop for Members<'_> {
     }
 }
 
-/// What members hold, and what they will hold once it is weighed and is not too much: their sets of annotations in a table,
-/// each once, and the place of the class's own.
+/// The contents of members, before and after they are weighed: their sets of annotations in a table, each once, and the
+/// place of the class's own.
 #[derive(Drop)]
 pub(crate) struct Contents<'a> {
     pub(crate) table: SetTable,
@@ -106,7 +106,7 @@ impl<'a> Model for Members<'a> {
 }
 
 impl<'a> Contents<'a> {
-    /// The annotations of the class itself. No memory is taken.
+    /// The annotations of the class itself.
     pub(crate) fn annotations(&self) -> Option<&AnnotationSet>
         requires { AreHeld self.now }
         ensures { MatchOption result ((contents_in self.now).annotations ≡ []) (λ set. set_of set.now ≡ (contents_in self.now).annotations) }
@@ -114,7 +114,7 @@ impl<'a> Contents<'a> {
         self.table.set(self.set)
     }
 
-    /// The static fields. No memory is taken.
+    /// The static fields.
     pub(crate) fn static_fields(&self) -> Fields<'_>
         requires { AreHeld self.now }
         ensures { result ≡ (contents_in self.now).static_fields }
@@ -122,7 +122,7 @@ impl<'a> Contents<'a> {
         Fields::of(&self.table, &self.static_fields)
     }
 
-    /// The instance fields. No memory is taken.
+    /// The instance fields.
     pub(crate) fn instance_fields(&self) -> Fields<'_>
         requires { AreHeld self.now }
         ensures { result ≡ (contents_in self.now).instance_fields }
@@ -130,7 +130,7 @@ impl<'a> Contents<'a> {
         Fields::of(&self.table, &self.instance_fields)
     }
 
-    /// The direct methods. No memory is taken.
+    /// The direct methods.
     pub(crate) fn direct_methods(&self) -> Methods<'_, 'a>
         requires { AreHeld self.now }
         ensures { result ≡ (contents_in self.now).direct_methods }
@@ -138,7 +138,7 @@ impl<'a> Contents<'a> {
         Methods::of(&self.table, &self.direct_methods)
     }
 
-    /// The virtual methods. No memory is taken.
+    /// The virtual methods.
     pub(crate) fn virtual_methods(&self) -> Methods<'_, 'a>
         requires { AreHeld self.now }
         ensures { result ≡ (contents_in self.now).virtual_methods }
@@ -148,7 +148,7 @@ impl<'a> Contents<'a> {
 }
 
 impl<'a> Members<'a> {
-    /// What a class declares that declares nothing. No memory is taken.
+    /// The members of a class that declares none.
     pub fn empty(alloc: Global) -> Members<'a>
         ensures { result ≡ no_members }
     {
@@ -173,7 +173,7 @@ impl<'a> Members<'a> {
         let _fields = &self.contents.static_fields;
     }
 
-    /// How many fields the class declares. No memory is taken.
+    /// Returns the number of fields that the class declares.
     ///
     /// Source: "class_data_item", the fields `static_fields_size` and `instance_fields_size`.
     pub fn field_count(&self) -> usize
@@ -183,7 +183,7 @@ impl<'a> Members<'a> {
         self.static_fields().len() + self.instance_fields().len()
     }
 
-    /// How many methods the class declares. No memory is taken.
+    /// Returns the number of methods that the class declares.
     ///
     /// Source: "class_data_item", the fields `direct_methods_size` and `virtual_methods_size`.
     pub fn method_count(&self) -> usize
@@ -193,7 +193,7 @@ impl<'a> Members<'a> {
         self.direct_methods().len() + self.virtual_methods().len()
     }
 
-    /// The annotations of the class itself; `None` says that it has none. No memory is taken.
+    /// The annotations of the class itself; `None` says that it has none.
     ///
     /// Source: "annotations_directory_item", the field `class_annotations_off`.
     pub fn annotations(&self) -> Option<&AnnotationSet>
@@ -202,7 +202,7 @@ impl<'a> Members<'a> {
         self.contents.annotations()
     }
 
-    /// The static fields, by number. No memory is taken.
+    /// The static fields, by number.
     ///
     /// Source: "class_data_item", the field `static_fields`.
     pub fn static_fields(&self) -> Fields<'_>
@@ -211,7 +211,7 @@ impl<'a> Members<'a> {
         self.contents.static_fields()
     }
 
-    /// The instance fields, by number. No memory is taken.
+    /// The instance fields, by number.
     ///
     /// Source: "class_data_item", the field `instance_fields`.
     pub fn instance_fields(&self) -> Fields<'_>
@@ -220,7 +220,7 @@ impl<'a> Members<'a> {
         self.contents.instance_fields()
     }
 
-    /// The direct methods, by number. No memory is taken.
+    /// The direct methods, by number.
     ///
     /// Source: "class_data_item", the field `direct_methods`.
     pub fn direct_methods(&self) -> Methods<'_, 'a>
@@ -229,7 +229,7 @@ impl<'a> Members<'a> {
         self.contents.direct_methods()
     }
 
-    /// The virtual methods, by number. No memory is taken.
+    /// The virtual methods, by number.
     ///
     /// Source: "class_data_item", the field `virtual_methods`.
     pub fn virtual_methods(&self) -> Methods<'_, 'a>
@@ -238,7 +238,7 @@ impl<'a> Members<'a> {
         self.contents.virtual_methods()
     }
 
-    /// What the static fields begin with, in their order. No memory is taken.
+    /// The initial values of the static fields, in their order.
     pub fn static_values(&self) -> &[Value]
         ensures { values_of_list (map value_of result.now) ≡ self.now.static_values }
     {

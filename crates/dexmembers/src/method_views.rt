@@ -1,4 +1,4 @@
-//! Declared methods as they are lent.
+//! Views of declared methods.
 
 ghost use Rattle.std.specs.Prelude.{◌≡◌, ◌<◌, ◌==◌, ℕ, List, [], Some, None, length, map, slice_index_or, All, MatchOption};
 ghost use Rattle.dexspec.specs.Spellings.{offsets_bytes};
@@ -88,7 +88,7 @@ impl<'m> Model for ParameterSets<'m> {
 }
 
 impl<'m, 'a> Methods<'m, 'a> {
-    /// These methods, with their sets in a table.
+    /// Returns a view of these methods, with their sets in a table.
     ///
     /// Condition: their places are the table's.
     pub(crate) fn of(table: &'m SetTable, methods: &'m [DeclaredMethod<'a>]) -> Methods<'m, 'a>
@@ -98,21 +98,21 @@ impl<'m, 'a> Methods<'m, 'a> {
         Methods { table, methods }
     }
 
-    /// How many methods there are. No memory is taken.
+    /// Returns the number of methods.
     pub fn len(&self) -> usize
         ensures { result ≡ length self.now }
     {
         self.methods.len()
     }
 
-    /// Whether there is no method. No memory is taken.
+    /// Returns whether there is no method.
     pub fn is_empty(&self) -> bool
         ensures { result ≡ (length self.now == 0) }
     {
         self.methods.is_empty()
     }
 
-    /// The method at a place. No memory is taken.
+    /// The method at a place.
     ///
     /// Condition: there are more methods than that.
     pub fn get(&self, place: usize) -> Method<'m, 'a>
@@ -128,7 +128,7 @@ impl<'m, 'a> Methods<'m, 'a> {
 }
 
 impl<'m, 'a> Method<'m, 'a> {
-    /// The number of the method. No memory is taken.
+    /// The number of the method.
     ///
     /// Source: "encoded_method format", the field `method_idx_diff`.
     pub fn number(&self) -> u32
@@ -138,7 +138,7 @@ impl<'m, 'a> Method<'m, 'a> {
         method.number
     }
 
-    /// The access flags. No memory is taken.
+    /// The access flags.
     ///
     /// Source: "access_flags definitions".
     pub fn flags(&self) -> MethodFlags
@@ -148,7 +148,7 @@ impl<'m, 'a> Method<'m, 'a> {
         method.flags
     }
 
-    /// The code, if the method has some. No memory is taken.
+    /// The code, if the method has some.
     ///
     /// Source: "code_item".
     pub fn code(&self) -> Option<&'m Code<'a>>
@@ -158,7 +158,7 @@ impl<'m, 'a> Method<'m, 'a> {
         method.code.as_ref()
     }
 
-    /// The annotations; `None` says that the method has none. No memory is taken.
+    /// The annotations; `None` says that the method has none.
     ///
     /// Source: "method_annotation format".
     pub fn annotations(&self) -> Option<&'m AnnotationSet>
@@ -168,8 +168,7 @@ impl<'m, 'a> Method<'m, 'a> {
         table.set(method.set)
     }
 
-    /// The annotations of the parameters, from left to right; their number is not compared with that of the parameters. No
-    /// memory is taken.
+    /// The annotations of the parameters, from left to right; their number is not compared with that of the parameters.
     ///
     /// Source: "parameter_annotation format".
     pub fn parameter_annotations(&self) -> ParameterSets<'m>
@@ -191,14 +190,14 @@ impl<'m> ParameterSets<'m> {
         ParameterSets { table, places }
     }
 
-    /// How many sets there are. No memory is taken.
+    /// Returns the number of sets.
     pub fn len(&self) -> usize
         ensures { result ≡ length self.now }
     {
         self.places.len()
     }
 
-    /// Whether there is no set. No memory is taken.
+    /// Returns whether there is no set.
     pub fn is_empty(&self) -> bool
         ensures { result ≡ (length self.now == 0) }
     {
@@ -215,7 +214,7 @@ impl<'m> ParameterSets<'m> {
         4 + 4 * self.places.len() as u64
     }
 
-    /// The set at a place; `None` says that it is empty. No memory is taken.
+    /// The set at a place; `None` says that it is empty.
     ///
     /// Condition: there are more sets than that.
     pub fn get(&self, place: usize) -> Option<&'m AnnotationSet>

@@ -8,7 +8,7 @@ ghost use Rattle.dexmembers.specs.Naming.{NamesOnly, BothRise};
 use crate::encoded::Encoded;
 use dexhead::{Frame, u32_at};
 
-// Whether a member of the list has this index.
+// Returns whether a member of the list has this index.
 fn has_member<T: Encoded>(members: &[T], index: u32) -> bool
     ensures listed { IsTrue result → Contains (map T.index_of members.now) index }
     ensures missing { NumbersRise (map T.index_of members.now) → Contains (map T.index_of members.now) index → IsTrue result }
@@ -18,7 +18,7 @@ fn has_member<T: Encoded>(members: &[T], index: u32) -> bool
         .is_ok()
 }
 
-// Whether a member of one of two lists has this index.
+// Returns whether a member of one of two lists has this index.
 fn declares_member<T: Encoded>(first: &[T], second: &[T], index: u32) -> bool
     ensures listed { IsTrue result → Contains (map T.index_of first.now ++ map T.index_of second.now) index }
     ensures missing { BothRise (map T.index_of first.now) (map T.index_of second.now) → Contains (map T.index_of first.now ++ map T.index_of second.now) index → IsTrue result }

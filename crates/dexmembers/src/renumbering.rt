@@ -1,4 +1,4 @@
-//! What classes declare, with its numbers led to those of another numbering.
+//! What classes declare, with its numbers mapped to those of another numbering.
 
 ghost use Rattle.std.specs.Prelude.{◌≡◌};
 ghost use Rattle.dexmembers.specs.Renumbering.{led_field, led_method, renumbered_members, HeldFieldLeads, HeldMethodLeads, MembersHavePlaces};

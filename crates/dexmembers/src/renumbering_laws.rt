@@ -1,5 +1,5 @@
-//! Laws of what classes declare, led to other numbers. Each function does nothing: its contract is the law, for the callers
-//! that cite it.
+//! Laws of what classes declare, mapped to other numbers. Each function does nothing: its contract is the law, for the
+//! callers that cite it.
 
 ghost use Rattle.std.specs.Prelude.{◌≡◌, ◌↔◌, ℕ, All, Option};
 ghost use Rattle.dexspec.specs.Texts.{Text};

@@ -1,4 +1,4 @@
-//! Texts that a const-string names, in the code of what classes declare, and whether numbers fit their places now.
+//! Texts that a const-string names in the code of what classes declare, and numbers that fit their places.
 
 ghost use Rattle.std.specs.Prelude.{◌≡◌, ◌++◌, ℕ, List, MatchOption, Option, Some, None, option_to_list, All};
 ghost use Rattle.std.specs.List.{flat_map};
@@ -73,7 +73,7 @@ impl Method<'_, '_> {
 
 impl Members<'_> {
     /// The greatest number of a text that a const-string names in the code of the methods, not counting
-    /// const-string/jumbo, or `None` where there is no const-string. No memory is taken.
+    /// const-string/jumbo, or `None` where there is no const-string.
     ///
     /// Source: "code_item", the field `insns`.
     pub fn greatest_short_string(&self) -> Option<u32>

@@ -1,4 +1,4 @@
-//! What members of classes weigh.
+//! The weight of members of classes.
 
 ghost use Rattle.std.specs.Prelude.{◌≡◌, ◌+◌, ◌-◌, ◌*◌, ◌^◌, [], length, min, map, sum_by, option_to_list, MatchOption, Option, Some, None};
 ghost use Rattle.dexspec.specs.Mentions.{Mentions};
@@ -18,14 +18,14 @@ use crate::method_views::{Method, Methods, ParameterSets};
 use dexcode::{Code, code_meaning_law, code_weight_law, debug_bare_law, debug_meaning_law};
 use dexval::{AnnotationSet, Value, statics_weight};
 
-// What a set weighs, or 2^64 - 1 where that is more.
+// Returns the weight of a set, or 2^64 - 1 where that is more.
 fn set_weight(set: &AnnotationSet) -> u64
     ensures { result ≡ min (2 ^ 64 - 1) (numbered_set_weight (set_of set.now)) }
 {
     set.weight()
 }
 
-// What a set weighs, if there is one, likewise.
+// Returns the weight of a set, if there is one, likewise.
 fn optional_weight(set: Option<&AnnotationSet>) -> u64
     ensures { (weighed : NumberedSet) → MatchOption set.entry (weighed ≡ []) (λ set. set_of set.now ≡ weighed) → result ≡ min (2 ^ 64 - 1) (numbered_set_weight weighed) }
 {
@@ -35,7 +35,7 @@ fn optional_weight(set: Option<&AnnotationSet>) -> u64
     }
 }
 
-// What the sets of parameters weigh in a list of them, likewise.
+// Returns the weight of the sets of parameters in a list of them, likewise.
 fn listed_weight(sets: &ParameterSets<'_>) -> u64
     ensures { result ≡ min (2 ^ 64 - 1) (8 + 4 * length sets.now + sum_by numbered_set_weight sets.now) }
 {
@@ -48,7 +48,7 @@ fn listed_weight(sets: &ParameterSets<'_>) -> u64
     weight
 }
 
-// What the sets of parameters weigh, where no sets weigh nothing.
+// Returns the weight of the sets of parameters, which is 0 if there are none.
 fn sets_weight(sets: &ParameterSets<'_>) -> u64
     ensures { result ≡ min (2 ^ 64 - 1) (numbered_sets_weight sets.now) }
 {
@@ -58,14 +58,14 @@ fn sets_weight(sets: &ParameterSets<'_>) -> u64
     listed_weight(sets)
 }
 
-// What the values weigh that static fields begin with.
+// Returns the weight of the initial values of static fields.
 fn values_weight(values: &[Value]) -> u64
     ensures { result ≡ min (2 ^ 64 - 1) (numbered_statics_weight (values_of_list (map value_of values.now))) }
 {
     statics_weight(values)
 }
 
-// What code weighs with its debug program, if there is some.
+// Returns the weight of code with its debug program, if there is some.
 fn code_weight(code: Option<&Code<'_>>) -> u64
     ensures { (weighed : Option NumberedItem) → MatchOption code.entry (weighed ≡ None) (λ code. weighed ≡ Some code.now) → result ≡ min (2 ^ 64 - 1) (sum_by numbered_whole_weight (option_to_list weighed)) }
 {
@@ -78,7 +78,7 @@ fn code_weight(code: Option<&Code<'_>>) -> u64
     }
 }
 
-// What fields weigh.
+// Returns the weight of fields.
 fn fields_weight(fields: &Fields<'_>) -> u64
     ensures { result ≡ min (2 ^ 64 - 1) (sum_by numbered_field_weight fields.now) }
 {
@@ -89,7 +89,7 @@ fn fields_weight(fields: &Fields<'_>) -> u64
     weight
 }
 
-// What methods weigh without their code.
+// Returns the weight of methods without their code.
 fn methods_weight(methods: &Methods<'_, '_>) -> u64
     ensures { result ≡ min (2 ^ 64 - 1) (sum_by bare_method_weight methods.now) }
 {
@@ -100,7 +100,7 @@ fn methods_weight(methods: &Methods<'_, '_>) -> u64
     weight
 }
 
-// What the code of methods weighs.
+// Returns the weight of the code of methods.
 fn codes_weight(methods: &Methods<'_, '_>) -> u64
     ensures { result ≡ min (2 ^ 64 - 1) (sum_by method_code_weight methods.now) }
 {
@@ -112,7 +112,7 @@ fn codes_weight(methods: &Methods<'_, '_>) -> u64
 }
 
 impl Field<'_> {
-    // What the field weighs.
+    // Returns the weight of the field.
     fn weight(&self) -> u64
         ensures { result ≡ min (2 ^ 64 - 1) (numbered_field_weight self.now) }
     {
@@ -121,7 +121,7 @@ impl Field<'_> {
 }
 
 impl Method<'_, '_> {
-    // What the method weighs without its code.
+    // Returns the weight of the method without its code.
     fn weight(&self) -> u64
         ensures { result ≡ min (2 ^ 64 - 1) (bare_method_weight self.now) }
     {
@@ -130,7 +130,7 @@ impl Method<'_, '_> {
             .saturating_add(sets_weight(&self.parameter_annotations()))
     }
 
-    // What its code weighs.
+    // Returns the weight of the method's code.
     fn code_weight(&self) -> u64
         ensures { result ≡ min (2 ^ 64 - 1) (method_code_weight self.now) }
     {
@@ -139,15 +139,15 @@ impl Method<'_, '_> {
 }
 
 impl<'a> Members<'a> {
-    // What they weigh by their numbers.
+    // Returns the weight of members by their numbers.
     fn numbered_weight(&self) -> u64
         ensures { result ≡ min (2 ^ 64 - 1) (numbered_members_weight self.now) }
     {
         self.contents.weight()
     }
 
-    /// What they weigh together, in bytes, or 2^64 - 1 where that is more: a class without its row and its interfaces. No
-    /// memory is taken.
+    /// Returns the weight of all members, in bytes, or 2^64 - 1 where that is more: a class without its row and its
+    /// interfaces.
     ///
     /// Source: "class_data_item", "annotations_directory_item", "code_item" and "encoded_array_item", the sizes of their
     /// fields; the weight is this project's rule.
@@ -160,8 +160,8 @@ impl<'a> Members<'a> {
     }
 }
 
-/// Members weigh by their numbers what they denote weighs. It does nothing: its contract is the law, for the callers that
-/// cite it.
+/// The weight of members by their numbers is that of what they denote. The call does nothing: its contract is the law,
+/// for the callers that cite it.
 pub fn members_weight_law()
     ensures { (m : Mentions) (x : NumberedMembers) → AreRising m → AreKnownMembers m x → numbered_members_weight x ≡ members_weight (members_in m x) }
 {
@@ -172,7 +172,7 @@ pub fn members_weight_law()
 }
 
 impl Contents<'_> {
-    /// What is declared weighs together, in bytes, or 2^64 - 1 where that is more. No memory is taken.
+    /// Returns the weight of all that is declared, in bytes, or 2^64 - 1 where that is more.
     ///
     /// Condition: the places are the table's.
     pub(crate) fn weight(&self) -> u64
@@ -184,7 +184,7 @@ impl Contents<'_> {
         self.weight_with(direct.saturating_add(virtuals))
     }
 
-    /// The same, where the code of the methods weighs `codes`, which is not weighed again. No memory is taken.
+    /// The same, where the code of the methods weighs `codes`, which is not weighed again.
     ///
     /// Condition: the places are the table's.
     pub(crate) fn weight_with(&self, codes: u64) -> u64

@@ -40,8 +40,6 @@ fn build_indices(alloc: Global, units: &Units<'_>, count: usize) -> Result<Vec<I
 ///
 /// Condition: the shape is that which [`check_pieces`](crate::check_pieces) returned for the offset.
 ///
-/// Error: the allocation failed.
-///
 /// Source: "code_item"; the Android page "Dalvik bytecode".
 pub fn build_pieces<'a>(
     alloc: Global,

@@ -56,7 +56,7 @@ pub(crate) fn leads(first: u16) -> bool
     }
 }
 
-/// How many indices the piece at a unit has, one or none, if what it has is in range.
+/// Returns the number of indices of the piece at a unit, one or none, if what it has is in range.
 #[tactic(auto, using(crate::proofs::IndexRoom::room_behind, crate::proofs::IndexRoom::wide_room_behind))]
 pub(crate) fn index_count(
     units: &Units<'_>,
@@ -256,7 +256,7 @@ fn all_lead(units: &Units<'_>, starts: &[u64], noted: &[u64], switches: &LongSwi
     true
 }
 
-// How many indices there are in units that are code, if they are and each index is in range.
+// Returns the number of indices in units, if these are code and each index is in range.
 fn check_with(
     alloc: Global,
     units: &Units<'_>,
@@ -284,7 +284,7 @@ fn check_with(
     }
 }
 
-// How many indices there are in units that are code, each in range.
+// Returns the number of indices in units that are code, each in range.
 fn check_units(bytes: &[u8], pools: &Pools<'_>, scratch: &mut Scratch) -> Result<usize, ItemFault>
     requires { length (units_in bytes.now) < 2 ^ 32 }
     ensures indices { IfOk result (IsChecked (units_in bytes.now) pools.now) }
@@ -309,10 +309,10 @@ fn check_units(bytes: &[u8], pools: &Pools<'_>, scratch: &mut Scratch) -> Result
 }
 
 /// Checks the registers and the pieces of the code_item at an offset, whose indices count in the pools: those of the
-/// file. It returns how many registers, units and indices there are, and leaves in the scratch at which units
-/// instructions begin. Nothing else is kept.
+/// file. It returns the counts of registers, units and indices, and leaves in the scratch at which units instructions
+/// begin. Nothing else is kept.
 ///
-/// Error: as of [`read_pieces`](crate::read_pieces); `Memory` where there was none for the scratch.
+/// Error: as of [`read_pieces`](crate::read_pieces); `Memory` where the allocation of the scratch failed.
 ///
 /// Source: "code_item"; the Android page "Dalvik bytecode".
 pub fn check_pieces(

@@ -42,7 +42,7 @@ impl<'a> Units<'a> {
         }
     }
 
-    /// The units that the bytes spell, two for each.
+    /// The units that the bytes encode, two bytes for each.
     pub(crate) fn of_bytes(bytes: &'a [u8]) -> Units<'a>
         ensures { result ≡ ushorts_at bytes.now 0 (length bytes.now / 2) }
     {

@@ -69,7 +69,7 @@ impl Format {
         }
     }
 
-    /// Whether the high byte of the first unit is zero in every instruction of the format.
+    /// Returns whether the high byte of the first unit is zero in every instruction of the format.
     pub(crate) fn has_zero_byte(self) -> bool
         ensures { result ≡ has_zero_byte (format_of self) }
     {

@@ -23,7 +23,7 @@ pub(crate) fn kind_at(units: &Units<'_>, unit: usize) -> Option<SymbolKind>
     index_kind(opcode_in(units.at(unit)))
 }
 
-/// Whether the index of the instruction at a unit has 32 bits.
+/// Returns whether the index of the instruction at a unit has 32 bits.
 pub(crate) fn is_wide_at(units: &Units<'_>, unit: usize) -> bool
     requires { unit < length units.now }
     ensures { result ≡ is_wide_index (drop unit units.now) }

@@ -27,7 +27,7 @@ pub(crate) fn instruction_size(units: &Units<'_>) -> Option<usize>
     }
 }
 
-/// Whether the format lets an instruction begin with this unit.
+/// Returns whether the format lets an instruction begin with this unit.
 fn is_first_unit(format: Format, first: u16) -> bool
     ensures { result ≡ is_first_unit (format_of format) first }
 {
@@ -38,8 +38,8 @@ fn is_first_unit(format: Format, first: u16) -> bool
     }
 }
 
-/// How far the instruction at unit `at` branches, or how far off its payload is, in units from its own;
-/// `None` where it does neither.
+/// Returns the distance of the branch target or of the payload of the instruction at unit `at`, in units from its own;
+/// `None` where it has neither.
 pub(crate) fn branch_offset(format: Format, units: &Units<'_>, at: usize) -> Option<i32>
     requires within { at + units_in (format_of format) ≤ length units.now }
     requires small { length units.now < 2 ^ 62 }

@@ -30,7 +30,7 @@ impl<'s> InstructionStarts<'s> {
         InstructionStarts { words }
     }
 
-    /// Whether an instruction begins at an address, in units from the first one. No memory is taken.
+    /// Returns whether an instruction begins at an address, in units from the first one.
     ///
     /// Source: "code_item", the field `insns`.
     pub fn contains(&self, address: u32) -> bool

@@ -177,7 +177,7 @@ fn payload_shown(kind: PayloadKind, units: &Units<'_>) -> PieceKind
 }
 
 impl<'a> Pieces<'a> {
-    /// The pieces, in order. No memory is taken.
+    /// The pieces, in order.
     ///
     /// Source: "code_item", the field `insns`.
     pub fn iter(&self) -> PieceIter<'_>

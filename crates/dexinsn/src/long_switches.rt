@@ -134,8 +134,6 @@ fn note_all(
 
 impl LongSwitches {
     /// The long switch payloads among the pieces whose bits are set.
-    ///
-    /// Error: the allocation failed.
     pub(crate) fn find(
         alloc: Global,
         units: &Units<'_>,

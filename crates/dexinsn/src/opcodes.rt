@@ -48,7 +48,7 @@ pub(crate) struct Row {
     pub(crate) format: Option<Format>,
     /// What their index names, if they have one.
     pub(crate) index: IndexKind,
-    /// How many units they have; 0 where the opcode is unused.
+    /// The number of their units; 0 where the opcode is unused.
     pub(crate) units: u8,
     /// Whether they have a branch offset.
     pub(crate) branches: bool,

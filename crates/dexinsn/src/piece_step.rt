@@ -13,12 +13,12 @@ use crate::piece::piece_size;
 use crate::units::opcode_in;
 use dexpool::{Pools, SymbolKind};
 
-/// What the pass over units asks of a piece.
+/// The properties of a piece that the pass over units needs.
 #[derive(Clone, Copy)]
 pub(crate) struct Step {
-    /// How many units it has.
+    /// The number of its units.
     pub(crate) units: usize,
-    /// How many indices it has: one or none.
+    /// The number of its indices: one or none.
     pub(crate) indices: usize,
     /// Whether it is an instruction, and no payload.
     pub(crate) is_instruction: bool,
@@ -26,13 +26,13 @@ pub(crate) struct Step {
     pub(crate) is_noted: bool,
 }
 
-/// The numbers below which indices are: how many symbols there are of each kind, and 2^16 where there is no index.
+/// The limits of indices: the number of symbols of each kind, and 2^16 where there is no index.
 #[derive(Clone, Copy)]
 pub(crate) struct Limits {
     below: [usize; 6],
 }
 
-// Where the limit of an index is.
+// Returns the place of the limit of an index.
 #[inline(always)]
 fn slot_of(index: IndexKind) -> usize
     ensures slot { result ≡ slot_of (kind_of_index index) }
@@ -41,7 +41,7 @@ fn slot_of(index: IndexKind) -> usize
     index as usize
 }
 
-// How many indices there are: one or none.
+// Returns the number of indices: one or none.
 #[inline(always)]
 fn count_of_index(index: IndexKind) -> usize
     ensures { result ≡ count_of_index (kind_of_index index) }
@@ -69,7 +69,7 @@ impl Limits {
         }
     }
 
-    // The number below which an index of the kind is.
+    // Returns the limit of an index of the kind.
     #[inline(always)]
     fn limit(&self, index: IndexKind) -> usize
         ensures { (m : Mentions) → AreLimits m self.now → result ≡ limit_of m (kind_of_index index) }

@@ -42,7 +42,7 @@ impl<'a> Model for Pieces<'a> {
 }
 
 impl<'a> Pieces<'a> {
-    /// How many registers the code has.
+    /// Returns the number of registers.
     ///
     /// Source: "code_item", the field `registers_size`.
     pub fn registers(&self) -> u16
@@ -51,7 +51,7 @@ impl<'a> Pieces<'a> {
         self.registers
     }
 
-    /// How many of them hold its arguments.
+    /// Returns the number of registers for the arguments of the code.
     ///
     /// Source: "code_item", the field `ins_size`.
     pub fn ins(&self) -> u16
@@ -60,7 +60,7 @@ impl<'a> Pieces<'a> {
         self.ins
     }
 
-    /// How many the calls that it makes take.
+    /// Returns the number of registers for the arguments of the calls that the code makes.
     ///
     /// Source: "code_item", the field `outs_size`.
     pub fn outs(&self) -> u16

@@ -1,4 +1,4 @@
-//! Whether pieces mean the same.
+//! Comparison of pieces.
 
 ghost use Rattle.std.specs.Prelude.{◌≡◌, ◌↔◌, ◌≤◌, ◌*◌, IsTrue, All, length, map};
 ghost use Rattle.std.specs.List.{AllZip};
@@ -13,7 +13,7 @@ use crate::pieces::{Index, Pieces};
 use crate::put::behind_index;
 use dexpool::Remap;
 
-// Whether the units from one place up to another are the same.
+// Returns whether the units from one place up to another are the same.
 fn agree(bytes: &[u8], others: &[u8], from: usize, to: usize) -> bool
     requires order { from ≤ to }
     requires within { 2 * to ≤ length bytes.now }
@@ -23,7 +23,7 @@ fn agree(bytes: &[u8], others: &[u8], from: usize, to: usize) -> bool
     unit_bytes(bytes, from, to) == unit_bytes(others, from, to)
 }
 
-// Whether the units are the same but for the indices of the first.
+// Returns whether the units are the same but for the indices of the first.
 fn agree_beside(bytes: &[u8], others: &[u8], indices: &[Index]) -> bool
     requires follow { Follow (units_in bytes.now) 0 indices.now }
     requires count { length (units_in bytes.now) ≡ length (units_in others.now) }

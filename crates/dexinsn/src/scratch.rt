@@ -1,4 +1,4 @@
-//! Room that is lent from one code_item to the next.
+//! Memory that is passed from one code_item to the next.
 
 ghost use Rattle.std.specs.Prelude.{◌≡◌, OnOk, replicate};
 
@@ -6,8 +6,8 @@ use crate::instruction_starts::InstructionStarts;
 use std::alloc::{AllocError, Global};
 use std::marker::Model;
 
-/// Room for the bits of one code_item, lent from one to the next. Contracts see for each unit of the code_item that was
-/// checked last whether an instruction begins there.
+/// Memory for the bits of one code_item, passed from one to the next. Contracts see for each unit of the code_item that
+/// was checked last whether an instruction begins there.
 #[derive(Drop)]
 pub struct Scratch {
     pub(crate) alloc: Global,
@@ -27,7 +27,7 @@ impl Model for Scratch {
 }
 
 impl Scratch {
-    /// No room yet. No memory is taken.
+    /// Without memory yet.
     pub fn new(alloc: Global) -> Scratch {
         Scratch {
             alloc,
@@ -36,7 +36,7 @@ impl Scratch {
         }
     }
 
-    /// The units at which instructions begin, of the code_item that was checked last. No memory is taken.
+    /// The units at which instructions begin, of the code_item that was checked last.
     pub fn starts(&self) -> InstructionStarts<'_>
         ensures { result ≡ self.now }
     {
@@ -45,8 +45,6 @@ impl Scratch {
 }
 
 /// Makes `count` words, none of which has a bit set.
-///
-/// Error: the allocation failed.
 pub(crate) fn wipe(words: &mut Vec<u64>, count: usize) -> Result<(), AllocError>
     ensures { OnOk result (words.new.items ≡ replicate count 0) }
 {

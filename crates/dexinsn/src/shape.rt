@@ -1,8 +1,8 @@
-//! What a code_item's pieces take.
+//! The counts of a code_item's pieces.
 
 ghost use Rattle.std.specs.Prelude.{◌≡◌};
 
-/// How many registers, units and indices a code_item has, as [`check_pieces`](crate::check_pieces) finds them.
+/// The counts of registers, units and indices of a code_item, as [`check_pieces`](crate::check_pieces) finds them.
 ///
 /// Source: "code_item".
 #[derive(Clone, Copy, Debug, PartialEq, Eq)]
@@ -15,7 +15,7 @@ pub struct PiecesShape {
 }
 
 impl PiecesShape {
-    /// How many registers the code has.
+    /// Returns the number of registers.
     ///
     /// Source: "code_item", the field `registers_size`.
     pub fn registers(self) -> u16
@@ -24,7 +24,7 @@ impl PiecesShape {
         self.registers
     }
 
-    /// How many of them hold its arguments.
+    /// Returns the number of registers for the arguments of the code.
     ///
     /// Source: "code_item", the field `ins_size`.
     pub fn ins(self) -> u16
@@ -33,7 +33,7 @@ impl PiecesShape {
         self.ins
     }
 
-    /// How many the calls that it makes take.
+    /// Returns the number of registers for the arguments of the calls that the code makes.
     ///
     /// Source: "code_item", the field `outs_size`.
     pub fn outs(self) -> u16
@@ -51,7 +51,7 @@ impl PiecesShape {
         self.units
     }
 
-    /// How many instructions have an index.
+    /// Returns the number of instructions with an index.
     pub fn indices(self) -> usize
         ensures { result ≡ self.indices }
     {

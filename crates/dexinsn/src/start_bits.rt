@@ -43,7 +43,7 @@ fn bits_from(words: &[u64], unit: usize) -> u64
     }
 }
 
-// Whether the bits that the mask has are set, from a place on.
+// Returns whether the bits that the mask has are set, from a place on.
 fn are_set(words: &[u64], place: i64, mask: u64) -> bool
     requires first { bit_at mask 0 ≡ 1 }
     requires last { EndsEmpty words.now }
@@ -59,7 +59,7 @@ fn are_set(words: &[u64], place: i64, mask: u64) -> bool
     mask & !bits_from(words, unit) == 0
 }
 
-/// Whether the bits of all targets of the groups are set, counted from the instruction at unit `at`.
+/// Returns whether the bits of all targets of the groups are set, counted from the instruction at unit `at`.
 pub(crate) fn groups_lead_right(words: &[u64], groups: &[TargetGroup], at: usize) -> bool
     requires small { at < 2 ^ 62 }
     requires last { EndsEmpty words.now }
@@ -89,7 +89,7 @@ pub(crate) fn next_bit(words: &[u64], from: usize) -> Option<usize>
     None
 }
 
-/// Whether the bit of a place is set.
+/// Returns whether the bit of a place is set.
 pub(crate) fn has_place(words: &[u64], place: i64) -> bool
     ensures { (result ≡ true) ↔ HasPlace words.now place }
 {

@@ -35,8 +35,6 @@ impl TargetGroup {
 /// The targets in groups: as few as may be where the targets rise.
 ///
 /// Condition: there is a target.
-///
-/// Error: the allocation failed.
 pub(crate) fn group_targets(alloc: Global, targets: &[i32]) -> Result<Vec<TargetGroup>, AllocError>
     requires { 0 < length targets.now }
     ensures { IfOk result (λ groups. AreGrouped targets.now groups.items) }

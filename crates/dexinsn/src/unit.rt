@@ -11,7 +11,7 @@ use crate::code_units::Units;
 use crate::indexed::is_wide_at;
 use crate::pieces::{Index, Pieces};
 
-// How many of the indices begin before a unit.
+// Returns the number of indices before a unit.
 fn count_before(indices: &[Index], unit: usize) -> usize
     requires { Rise indices.now }
     ensures { IsCountBefore indices.now unit result }
@@ -29,7 +29,7 @@ fn count_before(indices: &[Index], unit: usize) -> usize
     low
 }
 
-// Whether a unit is one of the index of the instruction that begins at another.
+// Returns whether a unit is one of the index of the instruction that begins at another.
 fn is_in_index(units: &Units<'_>, first: usize, unit: usize) -> bool
     requires few { length units.now < 2 ^ 32 }
     requires first { first < length units.now }
@@ -44,7 +44,7 @@ fn is_in_index(units: &Units<'_>, first: usize, unit: usize) -> bool
     false
 }
 
-// Whether a unit is one of an index.
+// Returns whether a unit is one of an index.
 fn is_of_index(units: &Units<'_>, indices: &[Index], unit: usize) -> bool
     requires { AreStored units.now indices.now }
     ensures { result ≡ list_any (covers units.now unit) indices.now }
@@ -57,7 +57,7 @@ fn is_of_index(units: &Units<'_>, indices: &[Index], unit: usize) -> bool
 }
 
 impl<'a> Pieces<'a> {
-    /// The unit at a place. The units of an index are zero. No memory is taken.
+    /// The unit at a place. The units of an index are zero.
     ///
     /// Condition: the place is below the number of units, which [`units`](Pieces::units) returns.
     ///

@@ -15,9 +15,7 @@ use crate::tables::Tables;
 use dexrows::{FieldRow, MethodRow, TypeNumbers};
 use std::alloc::AllocError;
 
-/// The marks, and marks on what marked symbols name, in one pass over each table.
-///
-/// Error: the memory for the marks was refused.
+/// Returns the marks, and marks on what marked symbols name, in one pass over each table.
 pub(crate) fn closed(tables: &Tables<'_>, marks: &Marks) -> Result<Marks, AllocError>
     requires tables { AreTables tables.now }
     requires marks { AreMarksOf (symbols_in tables.now) marks.now }
@@ -35,7 +33,7 @@ pub(crate) fn closed(tables: &Tables<'_>, marks: &Marks) -> Result<Marks, AllocE
     Ok(closed)
 }
 
-// The same marks in vectors of their own.
+// Returns a copy of the marks, in vectors of their own.
 fn copied(marks: &Marks) -> Result<Marks, AllocError>
     ensures strings { IfOk result (λ copy. copy.strings.items ≡ marks.now.strings.items) }
     ensures types { IfOk result (λ copy. copy.types.items ≡ marks.now.types.items) }

@@ -34,7 +34,7 @@ fn field_numbers(frame: &Frame<'_>, i: u32) -> FieldRow
     }
 }
 
-// Whether these make a field.
+// Returns whether these make a field.
 fn is_field(class: &Text<'_>, name: &Text<'_>, typ: &Text<'_>) -> bool
     requires class { IsDescriptor class.now }
     requires typ { IsDescriptor typ.now }

@@ -59,8 +59,6 @@ pub(crate) fn has_shorty(
 }
 
 /// Notes a list that was checked, if it is long.
-///
-/// Error: the allocation failed.
 pub(crate) fn note(
     names: &Names<'_, '_>,
     lists: &mut HashMap<u32, Judged>,

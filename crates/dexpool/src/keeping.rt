@@ -14,10 +14,10 @@ use crate::remap::Remap;
 use std::alloc::{AllocError, Global};
 
 impl<'a> Numbering<'a> {
-    /// Keeps the symbols that are marked, and what these name; and where numbers lead, which is somewhere for
-    /// just those that are kept, each marked one among them, and to no greater number.
+    /// Keeps the symbols that are marked, and those that they name. Returns them with the map of the numbers: a number
+    /// has an image exactly if its symbol is kept, as each marked one is, and no image is greater than its number.
     ///
-    /// Condition: there is a mark for each symbol. Error: the memory for the tables and the map was refused.
+    /// Condition: there is a mark for each symbol.
     ///
     /// Source: this project's rule, that a file has the symbols that its classes mention and no others.
     pub fn keep(&self, alloc: Global, marks: &Marks) -> Result<(Numbering<'a>, Remap), AllocError>

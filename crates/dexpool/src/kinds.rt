@@ -1,4 +1,4 @@
-//! What kind of type a descriptor is of, by its first unit alone.
+//! The kind of a type, by the first unit of its descriptor alone.
 
 ghost use Rattle.std.specs.Prelude.{◌≡◌, ◌↔◌, IsTrue};
 ghost use Rattle.dexspec.specs.Names.{IsDescriptor, IsClass, IsValueType, IsReferenceType, shorty_letter};
@@ -23,7 +23,7 @@ fn first(text: &Text<'_>) -> u16
     }
 }
 
-/// Whether the type is a class.
+/// Returns whether the type is a class.
 #[tactic(auto, using(crate::proofs::FirstUnits::class_if, crate::proofs::FirstUnits::class_first))]
 pub(crate) fn is_class(descriptor: &Text<'_>) -> bool
     requires { IsDescriptor descriptor.now }
@@ -32,7 +32,7 @@ pub(crate) fn is_class(descriptor: &Text<'_>) -> bool
     first(descriptor) == CLASS
 }
 
-/// Whether the type is one of values: not void.
+/// Returns whether the type is one of values: not void.
 #[tactic(auto, using(crate::proofs::FirstUnits::value_if, crate::proofs::FirstUnits::value_not))]
 pub(crate) fn is_value(descriptor: &Text<'_>) -> bool
     requires { IsDescriptor descriptor.now }
@@ -44,7 +44,7 @@ pub(crate) fn is_value(descriptor: &Text<'_>) -> bool
     true
 }
 
-/// Whether the type is a class or an array.
+/// Returns whether the type is a class or an array.
 #[tactic(auto, using(crate::proofs::FirstUnits::reference_if, crate::proofs::FirstUnits::reference_letter))]
 pub(crate) fn is_reference(descriptor: &Text<'_>) -> bool
     requires { IsDescriptor descriptor.now }

@@ -13,7 +13,7 @@ use std::marker::Model;
 /// How the lists of a table are kept.
 #[derive(Drop)]
 pub(crate) enum Kept<'a> {
-    /// In the bytes of a file, of which each two spell a number.
+    /// In the bytes of a file, two for each number.
     File(&'a [u8]),
     /// Each number by itself.
     Own(Vec<usize>),
@@ -45,7 +45,7 @@ fn own_part(numbers: &[usize], span: Span) -> &[usize]
     part
 }
 
-// The bytes that spell a part of the numbers.
+// Returns the bytes that encode a part of the numbers.
 fn file_part(bytes: &[u8], span: Span) -> &[u8]
     requires { HasSpan (ushorts_at bytes.now 0 (length bytes.now / 2)) span }
     ensures { ushorts_at result.now 0 (length result.now / 2) ≡ span_of (ushorts_at bytes.now 0 (length bytes.now / 2)) span }
@@ -56,7 +56,7 @@ fn file_part(bytes: &[u8], span: Span) -> &[u8]
 }
 
 impl<'a> Parameters<'a> {
-    /// The numbers that the bytes of a file spell, two bytes for each.
+    /// The numbers that the bytes of a file encode, two bytes for each.
     pub(crate) fn of_file(bytes: &'a [u8]) -> Parameters<'a>
         ensures { result ≡ ushorts_at bytes.now 0 (length bytes.now / 2) }
     {
@@ -74,7 +74,7 @@ impl<'a> Parameters<'a> {
         }
     }
 
-    /// The parameters of a row. No memory is taken.
+    /// The parameters of a row.
     pub(crate) fn part(&self, span: Span) -> TypeNumbers<'_>
         requires { HasSpan self.now span }
         ensures { result ≡ span_of self.now span }
@@ -88,9 +88,7 @@ impl<'a> Parameters<'a> {
         TypeNumbers::words(&[])
     }
 
-    /// The same numbers: those of a file stay where they are.
-    ///
-    /// Error: the memory for the others was refused.
+    /// Returns a copy of the numbers: those of a file stay in its bytes.
     pub(crate) fn copy(&self) -> Result<Parameters<'a>, AllocError>
         ensures { IfOk result (λ copy. copy ≡ self.now) }
     {

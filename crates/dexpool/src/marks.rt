@@ -8,7 +8,7 @@ use crate::numbering::Numbering;
 use crate::symbols::SymbolKind;
 use std::alloc::{AllocError, Global};
 
-/// A mark for each symbol of a numbering, by its number: whether it is to be kept.
+/// A mark for each symbol of a numbering, by its number, which says whether the symbol is to be kept.
 pub struct Marks {
     /// For each text by its number, whether it is marked.
     pub strings: Vec<bool>,
@@ -37,8 +37,6 @@ impl Drop for Marks {
 
 impl Marks {
     /// No symbol is marked.
-    ///
-    /// Error: the memory for the marks was refused.
     pub fn none(alloc: Global, numbering: &Numbering<'_>) -> Result<Marks, AllocError>
         ensures marks { IfOk result (AreMarksOf numbering.now) }
         ensures none { IfOk result (λ marks. marked numbering.now marks ≡ []) }
@@ -52,7 +50,7 @@ impl Marks {
         })
     }
 
-    /// Marks the symbol of a kind and a number. No memory is taken.
+    /// Marks the symbol of a kind and a number.
     ///
     /// Condition: there is a mark for it.
     pub fn mark(&mut self, kind: SymbolKind, number: usize)

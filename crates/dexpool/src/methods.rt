@@ -33,7 +33,7 @@ fn method_numbers(frame: &Frame<'_>, i: u32) -> MethodRow
     }
 }
 
-// Whether a method may belong to the type and have the name.
+// Returns whether a method may belong to the type and have the name.
 fn is_method(class: &Text<'_>, name: &Text<'_>) -> bool
     requires { IsDescriptor class.now }
     ensures { IsTrue result ↔ AreMethodNames class.now name.now }

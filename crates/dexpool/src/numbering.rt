@@ -53,7 +53,7 @@ impl<'a> Numbering<'a> {
         &self.tables
     }
 
-    /// A numbering of no symbol. No memory is taken.
+    /// A numbering of no symbol.
     pub fn empty(alloc: Global) -> Numbering<'a>
         ensures { result ≡ record { texts = []; types = []; protos = []; fields = []; methods = [] } }
     {
@@ -70,17 +70,13 @@ impl<'a> Numbering<'a> {
     }
 
     /// The symbols of a file's pools: the number of each is its row.
-    ///
-    /// Error: the memory for the tables was refused.
     pub fn of(pools: &Pools<'a>) -> Result<Numbering<'a>, AllocError>
         ensures { IfOk result (λ numbering. numbering ≡ pools.now) }
     {
         pools.numbering().copy()
     }
 
-    /// The same symbols in tables of their own.
-    ///
-    /// Error: the memory for the tables was refused.
+    /// Returns a copy of the numbering, with tables of its own.
     pub fn copy(&self) -> Result<Numbering<'a>, AllocError>
         ensures { IfOk result (λ numbering. numbering ≡ self.now) }
     {
@@ -105,7 +101,7 @@ impl<'a> Numbering<'a> {
         let _tables = &self.tables;
     }
 
-    /// The number of symbols of a kind. No memory is taken.
+    /// The number of symbols of a kind.
     pub fn count(&self, kind: SymbolKind) -> usize
         ensures { result ≡ count_of kind self.now }
     {
@@ -118,7 +114,7 @@ impl<'a> Numbering<'a> {
         }
     }
 
-    /// The text of a number. No memory is taken.
+    /// The text of a number.
     ///
     /// Condition: `i` is below the number of texts. Source: "string_id_item".
     pub fn string(&self, i: usize) -> &Text<'a>
@@ -128,7 +124,7 @@ impl<'a> Numbering<'a> {
         &self.tables.strings[i]
     }
 
-    /// The type of a number, by its descriptor. No memory is taken.
+    /// The type of a number, by its descriptor.
     ///
     /// Condition: `i` is below the number of types. Source: "type_id_item".
     pub fn typ(&self, i: usize) -> &Text<'a>
@@ -138,7 +134,7 @@ impl<'a> Numbering<'a> {
         &self.tables.strings[self.tables.types[i]]
     }
 
-    /// The number of the text that is the descriptor of a type. No memory is taken.
+    /// The number of the text that is the descriptor of a type.
     ///
     /// Condition: `i` is below the number of types. Source: "type_id_item".
     pub fn descriptor(&self, i: usize) -> usize
@@ -148,7 +144,7 @@ impl<'a> Numbering<'a> {
         self.tables.types[i]
     }
 
-    /// The numbers of the parts of a proto. No memory is taken.
+    /// The numbers of the parts of a proto.
     ///
     /// Condition: `i` is below the number of protos. Source: "proto_id_item".
     pub fn proto(&self, i: usize) -> ProtoRow<'_>
@@ -160,7 +156,7 @@ impl<'a> Numbering<'a> {
         ProtoRow::of(entry.shorty, entry.return_type, parameters)
     }
 
-    /// The numbers of the parts of a field. No memory is taken.
+    /// The numbers of the parts of a field.
     ///
     /// Condition: `i` is below the number of fields. Source: "field_id_item".
     pub fn field(&self, i: usize) -> &FieldRow
@@ -170,7 +166,7 @@ impl<'a> Numbering<'a> {
         &self.tables.fields[i]
     }
 
-    /// The numbers of the parts of a method. No memory is taken.
+    /// The numbers of the parts of a method.
     ///
     /// Condition: `i` is below the number of methods. Source: "method_id_item".
     pub fn method(&self, i: usize) -> &MethodRow
@@ -181,7 +177,7 @@ impl<'a> Numbering<'a> {
     }
 }
 
-// The same texts in a table of their own.
+// Returns a copy of the texts, in a table of their own.
 fn copied<'a>(alloc: Global, texts: &[Text<'a>]) -> Result<Vec<Text<'a>>, AllocError>
     ensures { IfOk result (λ copy. copy.items ≡ texts.now) }
 {

@@ -6,8 +6,8 @@ ghost use Rattle.dexpool.specs.Reading.{HasRoom, NoPlace, IsPlaced};
 use crate::rows::Span;
 use dexhead::{Frame, u32_at};
 
-/// The number of indices of the type_list at an offset, or `None` where the offset is no multiple of 4 or the
-/// list is not wholly in the data. No memory is taken.
+/// The number of indices of the type_list at an offset, or `None` where the offset is no multiple of 4 or the list is
+/// not wholly in the data.
 ///
 /// Source: "type_list".
 pub fn type_list_len(frame: &Frame<'_>, off: u32) -> Option<u32>

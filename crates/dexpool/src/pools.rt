@@ -88,21 +88,21 @@ impl<'a> Pools<'a> {
         })
     }
 
-    /// The symbols, each with the number of its row. No memory is taken.
+    /// The symbols, each with the number of its row.
     pub fn numbering(&self) -> &Numbering<'a>
         ensures { result.now ≡ self.now }
     {
         &self.numbering
     }
 
-    /// The number of rows of a pool. No memory is taken.
+    /// The number of rows of a pool.
     pub fn len(&self, kind: SymbolKind) -> usize
         ensures { result ≡ count_of kind self.now }
     {
         self.numbering.count(kind)
     }
 
-    /// The text of a row. No memory is taken.
+    /// The text of a row.
     ///
     /// Condition: `i` is below the number of texts. Source: "string_id_item".
     pub fn string(&self, i: u32) -> &Text<'a>
@@ -112,7 +112,7 @@ impl<'a> Pools<'a> {
         self.numbering.string(i as usize)
     }
 
-    /// The type of a row, by its descriptor. No memory is taken.
+    /// The type of a row, by its descriptor.
     ///
     /// Condition: `i` is below the number of types. Source: "type_id_item".
     pub fn typ(&self, i: u32) -> &Text<'a>
@@ -122,7 +122,7 @@ impl<'a> Pools<'a> {
         self.numbering.typ(i as usize)
     }
 
-    /// The numbers of the parts of a row's proto. No memory is taken.
+    /// The numbers of the parts of a row's proto.
     ///
     /// Condition: `i` is below the number of protos. Source: "proto_id_item".
     pub fn proto(&self, i: u32) -> ProtoRow<'_>
@@ -132,7 +132,7 @@ impl<'a> Pools<'a> {
         self.numbering.proto(i as usize)
     }
 
-    /// The numbers of the parts of a row's field. No memory is taken.
+    /// The numbers of the parts of a row's field.
     ///
     /// Condition: `i` is below the number of fields. Source: "field_id_item".
     pub fn field(&self, i: u32) -> &FieldRow
@@ -142,7 +142,7 @@ impl<'a> Pools<'a> {
         self.numbering.field(i as usize)
     }
 
-    /// The numbers of the parts of a row's method. No memory is taken.
+    /// The numbers of the parts of a row's method.
     ///
     /// Condition: `i` is below the number of methods. Source: "method_id_item".
     pub fn method(&self, i: u32) -> &MethodRow
@@ -154,7 +154,7 @@ impl<'a> Pools<'a> {
 
     /// The symbol of a row, with texts of its own.
     ///
-    /// Condition: `i` is below the number of rows of the pool. Error: the memory for the texts was refused.
+    /// Condition: `i` is below the number of rows of the pool.
     ///
     /// Source: "string_id_item", "type_id_item", "proto_id_item", "field_id_item" and "method_id_item".
     pub fn symbol(&self, alloc: Global, kind: SymbolKind, i: u32) -> Result<Symbol, AllocError>

@@ -104,7 +104,7 @@ pub(crate) fn part(parameters: &[usize], span: Span) -> &[usize]
     part
 }
 
-// How two rows compare: by the return type, and then by the parameters.
+// Compares two rows by the return type, and then by the parameters.
 fn compare(parameters: &Parameters<'_>, left: &ProtoEntry, right: &ProtoEntry) -> Ordering
     requires left { HasSpan parameters.now left.now.parameters }
     requires right { HasSpan parameters.now right.now.parameters }

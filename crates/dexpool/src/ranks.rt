@@ -1,4 +1,4 @@
-//! Ranks: how many symbols of a numbering are less than one that need not be there.
+//! Ranks: the number of symbols of a numbering that are less than one that need not be there.
 
 ghost use Rattle.std.specs.Prelude.{◌≡◌, ◌<◌, ◌≤◌, ℕ, Bool, List, All, length, map, slice_index_or};
 ghost use Rattle.std.specs.Ordering.{is_lt};
@@ -34,7 +34,7 @@ fn count_less<F: Fn(usize) -> Ordering>(count: usize, compare: F) -> usize
 }
 
 impl<'a> Numbering<'a> {
-    // How the text of a number compares with another text.
+    // Compares the text of a number with another text.
     fn compare_string(&self, i: usize, text: &Text<'_>) -> Ordering
         requires { i < length self.now.texts }
         ensures { (d : List ℕ) → result ≡ text_cmp (slice_index_or self.now.texts i d) text.now }
@@ -42,7 +42,7 @@ impl<'a> Numbering<'a> {
         self.string(i).cmp(text)
     }
 
-    // How the type of a number compares with another type.
+    // Compares the type of a number with another type.
     fn compare_type(&self, i: usize, descriptor: &Text<'_>) -> Ordering
         requires { i < length self.now.types }
         ensures { (d : List ℕ) → result ≡ text_cmp (slice_index_or self.now.types i d) descriptor.now }
@@ -50,7 +50,7 @@ impl<'a> Numbering<'a> {
         self.typ(i).cmp(descriptor)
     }
 
-    // How the types of numbers compare with other types: the first that differ decide, and else a prefix comes first.
+    // Compares the types of numbers with other types: the first that differ decide, and else a prefix comes first.
     fn compare_types(&self, numbers: &TypeNumbers<'_>, descriptors: &[Name]) -> Ordering
         requires { All (λ n. n < length self.now.types) numbers.now }
         ensures { (d : List ℕ) → result ≡ slice_cmp text_cmp (map (λ n. slice_index_or self.now.types n d) numbers.now) descriptors.now }
@@ -64,7 +64,7 @@ impl<'a> Numbering<'a> {
         numbers.len().cmp(&descriptors.len())
     }
 
-    // How the proto of a number compares with another proto.
+    // Compares the proto of a number with another proto.
     fn compare_proto(&self, i: usize, proto: &ProtoSymbol) -> Ordering
         requires { i < length self.now.protos }
         ensures { (d : Proto) → result ≡ proto_cmp (slice_index_or self.now.protos i d) proto.now }
@@ -76,7 +76,7 @@ impl<'a> Numbering<'a> {
         }
     }
 
-    // How the field of a number compares with another field.
+    // Compares the field of a number with another field.
     fn compare_field(&self, i: usize, field: &FieldSymbol) -> Ordering
         requires { i < length self.now.fields }
         ensures { (d : Field) → result ≡ field_cmp (slice_index_or self.now.fields i d) field.now }
@@ -91,7 +91,7 @@ impl<'a> Numbering<'a> {
         }
     }
 
-    // How the method of a number compares with another method.
+    // Compares the method of a number with another method.
     fn compare_method(&self, i: usize, method: &MethodSymbol) -> Ordering
         requires { i < length self.now.methods }
         ensures { (d : Method) → result ≡ method_cmp (slice_index_or self.now.methods i d) method.now }
@@ -106,7 +106,7 @@ impl<'a> Numbering<'a> {
         }
     }
 
-    /// The number of lesser texts, from 0 on. No memory is taken.
+    /// The number of lesser texts, from 0 on.
     ///
     /// Source: the order of the rows, "string_id_item".
     pub fn rank_string(&self, text: &Text<'_>) -> usize
@@ -119,7 +119,7 @@ impl<'a> Numbering<'a> {
         )
     }
 
-    /// The number of lesser types, for a type by its descriptor, from 0 on. No memory is taken.
+    /// The number of lesser types, for a type by its descriptor, from 0 on.
     ///
     /// Source: the order of the rows, "type_id_item".
     pub fn rank_typ(&self, descriptor: &Text<'_>) -> usize
@@ -139,7 +139,7 @@ impl<'a> Numbering<'a> {
         self.rank_typ(descriptor)
     }
 
-    /// The number of lesser protos, from 0 on. No memory is taken.
+    /// The number of lesser protos, from 0 on.
     ///
     /// Source: the order of the rows, "proto_id_item".
     pub fn rank_proto(&self, proto: &ProtoSymbol) -> usize
@@ -152,7 +152,7 @@ impl<'a> Numbering<'a> {
         )
     }
 
-    /// The number of lesser fields, from 0 on. No memory is taken.
+    /// The number of lesser fields, from 0 on.
     ///
     /// Source: the order of the rows, "field_id_item".
     pub fn rank_field(&self, field: &FieldSymbol) -> usize
@@ -165,7 +165,7 @@ impl<'a> Numbering<'a> {
         )
     }
 
-    /// The number of lesser methods, from 0 on. No memory is taken.
+    /// The number of lesser methods, from 0 on.
     ///
     /// Source: the order of the rows, "method_id_item".
     pub fn rank_method(&self, method: &MethodSymbol) -> usize

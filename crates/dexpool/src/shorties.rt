@@ -22,7 +22,7 @@ fn letter_at(names: &Names<'_, '_>, i: usize) -> u16
 
 /// The letter of each type, by row.
 ///
-/// Error: the allocation failed. Source: "ShortyDescriptor".
+/// Source: "ShortyDescriptor".
 pub(crate) fn letters_of(alloc: Global, names: &Names<'_, '_>) -> Result<Vec<u16>, AllocError>
     requires { AreNames names.now.frame.now names.now.strings.now names.now.types.now }
     ensures { IfOk result (λ letters. AreLetters names.now.strings.now names.now.types.now letters.items) }
@@ -34,7 +34,7 @@ pub(crate) fn letters_of(alloc: Global, names: &Names<'_, '_>) -> Result<Vec<u16
     Ok(letters)
 }
 
-// Whether a unit is the letter of this number, that of a type of values.
+// Returns whether a unit is the letter of this number, that of a type of values.
 fn is_letter(letters: &[u16], number: usize, unit: u8) -> bool
     ensures { IsTrue result ↔ IsLetter letters.now number unit }
 {
@@ -42,7 +42,7 @@ fn is_letter(letters: &[u16], number: usize, unit: u8) -> bool
     letter != VOID && letter == u16::from(unit)
 }
 
-// Whether the units are the letters of the numbers, each that of a type of values.
+// Returns whether the units are the letters of the numbers, each that of a type of values.
 fn are_letters(letters: &[u16], units: &[u8], numbers: &TypeNumbers<'_>) -> bool
     ensures { IsTrue result ↔ SpellNumbers letters.now units.now numbers.now }
 {
@@ -57,7 +57,7 @@ fn are_letters(letters: &[u16], units: &[u8], numbers: &TypeNumbers<'_>) -> bool
     true
 }
 
-/// Whether the units are this letter and then those of the numbers, each that of a type of values. No memory is taken.
+/// Returns whether the units are this letter and then those of the numbers, each that of a type of values.
 ///
 /// Source: "ShortyDescriptor".
 pub(crate) fn is_spelled(

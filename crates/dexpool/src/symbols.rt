@@ -101,7 +101,7 @@ impl Model for MethodSymbol {
     ghost view = { λ m. record { class = m.class; name = m.name; proto = m.proto } };
 }
 
-/// The name that a type is.
+/// Returns the name of a type.
 pub(crate) fn type_name(alloc: Global, tables: &Tables<'_>, typ: usize) -> Result<Name, AllocError>
     requires tables { AreTables tables.now }
     requires row { typ < length tables.now.types.items }
@@ -128,7 +128,7 @@ fn class_and_name(
     Ok((class, name))
 }
 
-// The names that types are.
+// Returns the names of types.
 fn type_names(
     alloc: Global,
     tables: &Tables<'_>,
@@ -145,7 +145,7 @@ fn type_names(
     Ok(names)
 }
 
-// The same names in a vector of their own.
+// Returns a copy of the names, in a vector of their own.
 fn copied(alloc: Global, names: &[Name]) -> Result<Vec<Name>, AllocError>
     ensures { IfOk result (λ copy. copy.items ≡ names.now) }
 {
@@ -159,9 +159,7 @@ fn copied(alloc: Global, names: &[Name]) -> Result<Vec<Name>, AllocError>
 impl Symbol {
     ghost use Rattle.dexpool.specs.Owned.{symbol_of};
 
-    /// The same symbol, with texts of its own.
-    ///
-    /// Error: the memory for the texts was refused.
+    /// Returns a copy of the symbol, with texts of its own.
     pub fn copy(&self) -> Result<Self, AllocError>
         ensures { IfOk result (λ copy. symbol_of copy ≡ symbol_of self.now) }
     {
@@ -176,9 +174,7 @@ impl Symbol {
 }
 
 impl ProtoSymbol {
-    /// The same proto, with texts of its own.
-    ///
-    /// Error: the memory for the texts was refused.
+    /// Returns a copy of the proto, with texts of its own.
     pub fn copy(&self) -> Result<Self, AllocError>
         ensures { IfOk result (λ copy. copy ≡ self.now) }
     {
@@ -210,9 +206,7 @@ impl ProtoSymbol {
 }
 
 impl FieldSymbol {
-    /// The same field, with texts of its own.
-    ///
-    /// Error: the memory for the texts was refused.
+    /// Returns a copy of the field, with texts of its own.
     pub fn copy(&self) -> Result<Self, AllocError>
         ensures { IfOk result (λ copy. copy ≡ self.now) }
     {
@@ -241,9 +235,7 @@ impl FieldSymbol {
 }
 
 impl MethodSymbol {
-    /// The same method, with texts of its own.
-    ///
-    /// Error: the memory for the texts was refused.
+    /// Returns a copy of the method, with texts of its own.
     pub fn copy(&self) -> Result<Self, AllocError>
         ensures { IfOk result (λ copy. copy ≡ self.now) }
     {

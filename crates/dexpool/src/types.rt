@@ -70,7 +70,7 @@ fn type_index(frame: &Frame<'_>, i: u32) -> usize
     u32_at(frame.row(Table::TypeIds, i), 0) as usize
 }
 
-// Whether the index is above the last one, if there is one.
+// Returns whether the index is above the last one, if there is one.
 fn is_above(types: &[usize], index: usize) -> bool
     ensures { result ≡ is_above_last type_cmp index types.now }
 {

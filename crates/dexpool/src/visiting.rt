@@ -10,13 +10,13 @@ use crate::marks::Marks;
 use crate::remap::Remap;
 use crate::symbols::SymbolKind;
 
-/// A visitor of symbols. A visit requires nothing: what the visitor does with a symbol is said by `step`, under a
-/// condition of its own, as that there is a mark for it.
+/// A visitor of symbols. A visit requires nothing: `step` says what the visitor does with a symbol, under a condition
+/// of its own, such as that there is a mark for it.
 pub trait Visitor {
     // the visitor before a call, the symbol, and the visitor after it
     ghost step: { Self → Use → Self → Type 0 };
 
-    /// Takes the symbol of a kind and a number.
+    /// Visits the symbol of a kind and a number.
     fn symbol(&mut self, kind: SymbolKind, number: u32)
         ensures { step self.old (record { kind = kind; number = number }) self.new };
 }
@@ -40,7 +40,7 @@ pub fn visit_all<T: Symbols, V: Visitor>(items: &[T], visitor: &mut V)
     }
 }
 
-// How many marks of a kind there are.
+// Returns the number of marks of a kind.
 fn mark_count(marks: &Marks, kind: SymbolKind) -> usize
     ensures { result ≡ length (marks_of kind marks.now) }
 {
@@ -64,7 +64,7 @@ impl Visitor for Marks {
     }
 }
 
-/// Marks each symbol that occurs in the item. No memory is taken.
+/// Marks each symbol that occurs in the item.
 ///
 /// Condition: there is a mark for each.
 pub fn mark<T: Symbols>(item: &T, marks: &mut Marks)
@@ -83,7 +83,7 @@ pub struct Fits<'a> {
     pub fit: bool,
 }
 
-// Whether a number has an image below 2^32.
+// Returns whether a number has an image below 2^32.
 fn leads_on(remap: &Remap, kind: SymbolKind, number: u32) -> bool
     ensures { IsTrue result ↔ LeadsOn remap.now kind number }
 {
@@ -103,7 +103,7 @@ impl Visitor for Fits<'_> {
     }
 }
 
-/// Whether each number in the item has an image below 2^32. No memory is taken.
+/// Returns whether each number in the item has an image below 2^32.
 #[tactic(auto, using(crate::proofs::Visits::all_fit))]
 pub fn all_fit<T: Symbols>(item: &T, remap: &Remap) -> bool
     ensures { IsTrue result ↔ All (LeadsUse remap.now) (T.uses item.now) }
@@ -121,7 +121,7 @@ pub trait Renumber {
     // the item with the images
     ghost led: { Maps → Self → Self };
 
-    /// Replaces each number by its image. No memory is taken.
+    /// Replaces each number by its image.
     ///
     /// Condition: each has an image that fits its place.
     fn renumber(&mut self, remap: &Remap)
@@ -129,7 +129,7 @@ pub trait Renumber {
         ensures { self.new ≡ led remap.now self.old };
 }
 
-/// Replaces each number of each item by its image. No memory is taken.
+/// Replaces each number of each item by its image.
 ///
 /// Condition: each has an image that fits its place.
 pub fn renumber_all<T: Renumber>(items: &mut Vec<T>, remap: &Remap)

@@ -1,4 +1,4 @@
-//! What the symbols of a numbering weigh.
+//! The weight of the symbols of a numbering.
 
 ghost use Rattle.std.specs.Prelude.{◌≡◌, ◌^◌, ◌-◌, ◌+◌, ◌*◌, min, sum_by, length};
 ghost use Rattle.dexspec.specs.Weight.{mentions_weight, text_weight};
@@ -7,7 +7,7 @@ use crate::numbering::Numbering;
 use crate::rows::ProtoEntry;
 use dexstr::Text;
 
-// What texts weigh: each a string_id and a string_data_item.
+// Returns the weight of texts: each a string_id and a string_data_item.
 fn texts_weight(texts: &[Text<'_>]) -> u64
     ensures { result ≡ min (2 ^ 64 - 1) (sum_by text_weight texts.now) }
 {
@@ -18,7 +18,7 @@ fn texts_weight(texts: &[Text<'_>]) -> u64
     weight
 }
 
-// What protos weigh: each a proto_id and a type_list.
+// Returns the weight of protos: each a proto_id and a type_list.
 fn protos_weight(protos: &[ProtoEntry]) -> u64
     ensures { result ≡ min (2 ^ 64 - 1) (sum_by (λ p. 20 + 2 * (p.parameters.end - p.parameters.start)) protos.now) }
 {
@@ -33,8 +33,8 @@ fn protos_weight(protos: &[ProtoEntry]) -> u64
 }
 
 impl<'a> Numbering<'a> {
-    /// What the symbols weigh together, in bytes that their rows and items have at most in a canonical file (this
-    /// project's rule), or 2^64 - 1 where that is more. No memory is taken.
+    /// Returns the weight of the symbols together, in bytes that their rows and items have at most in a canonical file
+    /// (this project's rule), or 2^64 - 1 where that is more.
     pub fn weight(&self) -> u64
         ensures { result ≡ min (2 ^ 64 - 1) (mentions_weight self.now) }
     {

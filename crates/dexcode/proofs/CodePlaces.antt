@@ -29,7 +29,7 @@ use Rattle.dexcode.proofs.CodeUses.{optional_debug_uses, pieces_part, tries_part
 use Rattle.dexpool.proofs.Parts.{all_of, all_front, all_map}
 use Rattle.dexcode.proofs.TryRows.{IsInRange}
 
--- so do the numbers of the code whose symbols do
+-- the numbers of the code have images if its symbols have
 pub images_of_uses : (r : Maps) (c : NumberedItem) → All (HasImage r) (item_uses c) → HasImages r c
 images_of_uses r c all = record {
   pieces_have = insn_proofs.images_of_uses r c.body.pieces (pieces_part (HasImage r) c all);
@@ -108,7 +108,7 @@ image_there : (r : Maps) (u : Use) (o : Option ℕ) → image_of r u.kind u.numb
 image_there r u None e some = absurd cc
 image_there r u (Some j) e some = (j, e)
 
--- the number has a spelling as a uleb128p1
+-- the number has an encoding as a uleb128p1
 abbrev IsSmall : Use → Type 0
 IsSmall u = u.number + 1 < 2 ^ 32
 

@@ -1,5 +1,5 @@
--- Numbers are the ranks of what they mean, so code of two numberings, led to a third, is the same there just where it
--- means the same.
+-- Numbers are the ranks of what they mean, so code of two numberings, mapped to a third, is the same there just where
+-- it means the same.
 use Rattle.std.proofs.Common.{◌≡◌, ℕ, ◌<◌, List, [], ◌∷◌, length, map, Option, Some, None, refl, ap, sym, ◌∙◌}
 use Rattle.std.specs.Prelude.{◌↔◌, IfSome}
 use Rattle.std.specs.List.{All}

@@ -40,7 +40,7 @@ NoTries units numbers b o count = (ts : List Try) (n to : ℕ) → length ts ≡
 
 -- ---- offsets
 
--- two bytes spell a number of 16 bits
+-- two bytes encode a number of 16 bits
 two_small : (ys : List ℕ) → ((i : ℕ) → get_or ys i 0 < 256) → number_of (take 2 ys) < 2 ^ 16
 unfolding number_of
 two_small [] small = omega arith

@@ -16,8 +16,8 @@ use Rattle.dexpool.specs.Uses.{Use}
 use Rattle.dexcode.specs.declared.debug_operation.Operation.{Operation}
 use Rattle.dexcode.specs.declared.debug_operation.Operation.TheVariants.{AdvancePc, AdvanceLine, StartLocal, StartLocalExtended, EndLocal, RestartLocal, SetPrologueEnd, SetEpilogueBegin, SetFile, Special}
 
--- A debug program: the line that it starts at, the number of each parameter's name, and operations, with numbers in
--- the place of texts and types. None is NO_INDEX.
+-- A debug program: the line that it starts at, the number of each parameter's name, and operations, with numbers for
+-- texts and types. None is NO_INDEX.
 pub record NumberedDebug : Type 0 where
   pub line_start : ℕ
   pub parameter_names : List (Option ℕ)
@@ -87,18 +87,19 @@ IsSpecial _ = Unit {0}
 
 -- ---- places of numbers
 
--- the number, or none, has a spelling as a uleb128p1
+-- the number, or none, has an encoding as a uleb128p1
 abbrev pub FitsIndex : Option ℕ → Type 0
 FitsIndex i = plus_one i < 2 ^ 32
 
--- each number of the operation has a spelling, and a special operation is none of the others
+-- each number of the operation has an encoding, and a special operation is none of the others
 pub record IsFormedOperation (op : Operation) : Type 0 where
   pub name_fits : FitsIndex (name_of op)
   pub type_fits : FitsIndex (type_of op)
   pub signature_fits : FitsIndex (signature_of op)
   pub is_special : IsSpecial op
 
--- so has each of the debug program, whose names can be counted, and which has no more operations than a file has bytes
+-- each number of the debug program has an encoding, its names can be counted, and it has no more operations than a file
+-- has bytes
 pub record IsFormedDebug (d : NumberedDebug) : Type 0 where
   pub names_count : length d.parameter_names < 2 ^ 32
   pub names_fit : All FitsIndex d.parameter_names

@@ -39,11 +39,11 @@ handlers_of tries = distinct same_handler (map (λ t. t.handler) tries)
 abbrev pub handlers_weight : List NumberedHandler → ℕ
 handlers_weight hs = 5 + sum_by (λ h. 10 + 8 * length h.catches) hs
 
--- what catches no type catches all else
+-- a handler that catches no type has a catch-all address
 abbrev pub IsWhole : NumberedHandler → Type 0
 IsWhole h = h.catch_all_addr ≡ None → 0 < length h.catches
 
--- so it does, and the number of each type has 32 bits
+-- the handler is whole, and the number of each type has 32 bits
 pub record IsFormedHandler (h : NumberedHandler) : Type 0 where
   pub whole : IsWhole h
   pub types_fit : All (λ c. c.typ < 2 ^ 32) h.catches

@@ -140,7 +140,7 @@ impl Debug {
         out.byte(DBG_END_SEQUENCE);
     }
 
-    /// The number of bytes that [`put_debug`] appends.
+    /// Returns the number of bytes that [`put_debug`] appends.
     ///
     /// Source: "debug_info_item".
     pub fn item_len(&self) -> usize

@@ -104,8 +104,6 @@ fn same_operations(
 impl Debug {
     /// Returns whether two debug programs are the same after each is mapped by its own map. A number without an image
     /// counts as none.
-    ///
-    /// Source: "debug_info_item".
     pub fn same_mapped(&self, mine: &Remap, other: &Debug, theirs: &Remap) -> bool
         ensures { IsTrue result ↔ (renumbered_debug mine.now self.now ≡ renumbered_debug theirs.now other.now) }
     {

@@ -1,4 +1,4 @@
--- Where the numbers of what a class declares lead, part by part.
+-- The images of the numbers of what a class declares, part by part.
 use Rattle.std.proofs.Common.{◌≡◌, ℕ, List, [], ◌∷◌, ◌++◌, Option, Some, None, refl}
 use Rattle.std.specs.Prelude.{IsSome, IfSome, option_to_list}
 use Rattle.std.specs.List.{All, flat_map}

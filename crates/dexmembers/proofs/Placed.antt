@@ -126,7 +126,7 @@ each_short r (x ∷ xs) h =
     (λ i j c e. h i j (Contains-append_left (method_short_strings x) (flat_map method_short_strings xs) i c) e)
     (each_short r xs (λ i j c e. h i j (Contains-append_right (method_short_strings x) (flat_map method_short_strings xs) i c) e))
 
--- the greatest of them leads so
+-- the greatest of them has such an image
 greatest_short : (r : Maps) (ns : List ℕ) (g : Option ℕ) → ShortLead r ns → IsGreatest ns g → LeadsShort r g
 greatest_short r ns None h is = tt
 greatest_short r ns (Some g) h is = λ j e. h g j is.0 e

@@ -49,7 +49,7 @@ module _ (images : List (Option ℕ)) (keeps : KeepsOrder images) where
     ]
   ]
 
-  -- numbers that rise do so where they lead
+  -- the images of numbers that rise, rise
   pub rise_kept : (is : List ℕ) → All (Goes images) is → rises nat_cmp is ≡ true → rises nat_cmp (map (end images) is) ≡ true
   rise_kept is all h = sym (rises-map nat_cmp nat_cmp (end images) (Goes images) order_kept is all) ∙ h
 

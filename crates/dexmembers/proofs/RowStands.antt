@@ -173,7 +173,7 @@ module _ (b : List ℕ) (r : ℕ) (m : Mentions) (read : DataRead) (is : IsDataO
   pub values_heavy : HasDirectory b r m read → HaveCodes b read.direct_methods.items → HaveCodes b read.virtual_methods.items → AreHeavyValues b r (length read.static_fields.items) most → AreHeavyMembers b r most
   values_heavy a direct virtual vs = heavy_values b r m read is a direct virtual (vs.values, vs.are) most vs.heavy
 
--- ---- answers, by other words for what is the same
+-- ---- results, under other names for the same
 
 -- code of the methods of a list
 pub codes_here : {X : Type 0} (items : X → List (Option NumberedItem)) (b : List ℕ) (m : Mentions) (xs ys : List MethodRead) (most : ℕ) (found : Option X) → xs ≡ ys → MatchOption found (AreHeavyCodes b xs most) (λ (x : X). AreCodesOf b m xs most (items x))

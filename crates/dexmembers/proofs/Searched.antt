@@ -122,7 +122,7 @@ module _ {X : Type 0} where
   pub find_found : (es : List (ℕ × X)) (n at : ℕ) (d : ℕ × X) → EntriesRise es → at < length es → (get_or es at d).0 ≡ n → find nat_cmp n es ≡ Some (get_or es at d).1
   find_found es n at d h lt e = find_found_in es n at d (Rises-from_rises nat_cmp nat_cmp_total (map (λ (e : ℕ × X). e.0) es) h) lt e
 
--- what a search among entries answers
+-- what a search among entries returns
 pub entry_searched : {X : Type 0} (es : List (ℕ × X)) (n : ℕ) (r : Result ℕ ℕ) (o : Option ℕ) → o ≡ result_ok r → IsSearchInRange r (length es) → IsBinarySearchResult (λ (e : ℕ × X). nat_cmp e.0 n) es r
     → MatchOption o (EntriesRise es → Contains (map (λ (e : ℕ × X). e.0) es) n → ⊥) (HasNumberAt es n)
 entry_searched {X} es n (Ok at) o e bound h =

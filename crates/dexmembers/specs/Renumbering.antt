@@ -1,4 +1,4 @@
--- What a class declares, with its numbers led to those of another numbering.
+-- What a class declares, with its numbers mapped to those of another numbering.
 use Rattle.std.specs.Prelude.{◌^◌, ◌<◌, map, All, IfSome}
 use Rattle.std.specs.Option.{option_map}
 use Rattle.dexspec.specs.Mentions.{Mentions}

@@ -71,8 +71,6 @@ impl<'a> DeclaredMethod<'a> {
 
 impl<'a> Members<'a> {
     /// Returns a copy of the members, with lists of their own. The units of code are borrowed as before.
-    ///
-    /// Source: "class_data_item", "annotations_directory_item", "encoded_array_item".
     pub fn copy(&self) -> Result<Members<'a>, AllocError>
         ensures { IfOk result (λ copy. copy ≡ self.now) }
     {

@@ -38,8 +38,6 @@ impl<'a> Members<'a> {
     /// Condition: each number has an image that fits its place: below 2^16 in an instruction but for
     /// const-string/jumbo, below 2^32 - 1 in a debug program, and below 2^32 elsewhere. For numberings that are joined
     /// [`instructions_fit`](Members::instructions_fit) checks it.
-    ///
-    /// Source: "class_data_item", "annotations_directory_item", "encoded_array_item".
     pub fn renumber(&mut self, remap: &Remap)
         requires { MembersHavePlaces remap.now self.old }
         ensures { self.new ≡ renumbered_members remap.now self.old }

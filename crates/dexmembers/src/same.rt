@@ -151,8 +151,6 @@ impl Method<'_, '_> {
 impl<'a> Members<'a> {
     /// Returns whether what two classes declare is the same after each is mapped by its own map. Of numbers without
     /// images those in instructions and debug programs count as the same, and the others stay.
-    ///
-    /// Source: "class_data_item", "annotations_directory_item", "encoded_array_item".
     pub fn same_mapped(&self, mine: &Remap, other: &Members<'_>, theirs: &Remap) -> bool
         ensures { IsTrue result ↔ (renumbered_members mine.now self.now ≡ renumbered_members theirs.now other.now) }
     {

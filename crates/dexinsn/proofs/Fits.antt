@@ -83,7 +83,7 @@ wide_image r kinds.Proto i j fit e = omega (arith, fit.protos_fit i j e)
 wide_image r kinds.Field i j fit e = omega (arith, fit.fields_fit i j e)
 wide_image r kinds.Method i j fit e = omega (arith, fit.methods_fit i j e)
 
--- no number of a short string leads beyond 16 bits
+-- no number of a short string has an image beyond 16 bits
 abbrev pub ShortLead : Maps → List ℕ → Type 0
 ShortLead r ns = (i j : ℕ) → Contains ns i → image r.texts i ≡ Some j → j < 2 ^ 16
 

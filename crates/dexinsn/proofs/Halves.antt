@@ -1,4 +1,4 @@
--- Units that bytes spell, two for each.
+-- Units that bytes encode, two for each.
 use Rattle.std.proofs.Common.{◌≡◌, ℕ, zero, suc, ◌+◌, ◌-◌, ◌*◌, ◌/◌, ◌<◌, ◌≤◌, List, ◌∷◌, length, take, drop, slice_index, refl, sym, ap, ◌∙◌, arith, length-drop}
 use Rattle.std.proofs.lemmas.List.{drop-drop, drop-take, take-take, length-take-le}
 use Rattle.dexspec.specs.Bytes.{number_of, ushort_at, ushorts_at, uint_at}

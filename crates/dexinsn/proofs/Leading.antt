@@ -1,4 +1,4 @@
--- Whether all pieces lead right, by those that are noted.
+-- Whether all pieces have valid targets, by those that are noted.
 use Rattle.std.proofs.Common.{◌≡◌, ℕ, ◌+◌, ◌*◌, ◌<◌, ◌==◌, ◌||◌, ◌&&◌, Bool, true, false, List, length, get_or, slice_index, Option, Some, None, refl, ap, sym, ◌∙◌, subst, arith, eq-eqb, eqb-true}
 use Rattle.std.specs.Bool.{IsTrue}
 use Rattle.std.specs.Option.{option_map, option_map_or}

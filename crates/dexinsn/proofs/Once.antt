@@ -71,7 +71,7 @@ nothing at = refl
 whole : (us : List ℕ) (cs : List Cut) → AreCut 0 us cs [] → Ends 0 us cs []
 whole us cs cut = record { cut = cut; none = nothing (0 + units_of_all cs) }
 
--- so does a cut that breaks
+-- a cut that breaks ends where no piece begins
 broken : (us : List ℕ) (n : ℕ) (b : BreaksAt us n) → Ends 0 us b.cuts (drop n us)
 broken us n b =
     let all : length us ≡ units_of_all b.cuts + length (drop n us) = reaches 0 us b.cuts (drop n us) b.cut in

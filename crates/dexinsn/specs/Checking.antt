@@ -31,7 +31,7 @@ branches F30t = true
 branches F31t = true
 branches _ = false
 
--- so does an instruction that begins with this unit
+-- an instruction that begins with this unit has a target
 abbrev pub leads : ℕ → Bool
 leads u = option_map_or (λ o. branches o.format) (opcode_of (low_byte u)) false
 
@@ -70,7 +70,7 @@ pub record IsNextBit (words : List ℕ) (from unit : ℕ) : Type 0 where
   pub has : HasBit words unit
   pub first : (k : ℕ) → from ≤ k → k < unit → HasBit words k → ⊥
 
--- the answer says whether all pieces do
+-- the answer says whether each piece has no target or a valid one
 abbrev pub AreAllRight : List ℕ → List ℕ → List ℕ → Bool → Type 0
 AreAllRight us starts noted true = (cs : List Cut) → All (IsPieceAt us) cs → AreBitsOf begins_instruction us cs starts → AreBitsOf is_noted us cs noted → All (λ c. IsTrue (has_right_targets us cs c)) cs
 AreAllRight us starts noted false = (cs : List Cut) → AreBitsOf begins_instruction us cs starts → AreBitsOf is_noted us cs noted → All (λ c. IsTrue (has_right_targets us cs c)) cs → ⊥

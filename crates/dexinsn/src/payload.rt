@@ -21,9 +21,6 @@ pub enum PayloadKind {
 
 impl PayloadKind {
     /// The kind of payload that begins with this unit; `None` where the unit begins an instruction.
-    ///
-    /// Source: the headings "packed-switch-payload format", "sparse-switch-payload format" and
-    /// "fill-array-data-payload format" of the Android page "Dalvik bytecode".
     pub fn of(unit: u16) -> Option<PayloadKind>
         ensures { option_map ident_of result ≡ (if is_payload_ident unit then Some unit else None) }
     {

@@ -1,4 +1,4 @@
--- Parts of numbers that bytes spell, two bytes for each.
+-- Parts of numbers that bytes encode, two bytes for each.
 use Rattle.std.proofs.Common.{◌≡◌, ℕ, zero, suc, ◌+◌, ◌-◌, ◌*◌, ◌/◌, ◌≤◌, List, ◌∷◌, length, take, drop, refl, sym, ap, ◌∙◌, arith}
 use Rattle.std.proofs.lemmas.List.{length-take, length-drop}
 use Rattle.dexspec.specs.Bytes.{ushort_at, ushorts_at}
@@ -21,7 +21,7 @@ take_shorts b o m zero le = refl
 take_shorts b o zero (suc n) le = absurd (omega arith)
 take_shorts b o (suc m) (suc n) le = ap (λ (l : List ℕ). ushort_at b o ∷ l) (take_shorts b (o + 2) m n (omega arith))
 
--- the numbers of a part are those of the bytes that spell it
+-- the numbers of a part are those that its bytes encode
 shorts_within : (b row : List ℕ) (o n : ℕ) → row ≡ take (2 * n) (drop o b) → (p m : ℕ) → p + 2 * m ≤ 2 * n → ushorts_at row p m ≡ ushorts_at b (o + p) m
 shorts_within b row o n e p zero le = refl
 shorts_within b row o n e p (suc m) le =
@@ -39,7 +39,7 @@ part_of_file b s h =
     ∙ take_shorts b (0 + 2 * s.start) (length b / 2 - s.start) (s.end - s.start) (omega (arith, h.ordered, h.within, count))
     ∙ ap (λ (k : ℕ). ushorts_at b k (s.end - s.start)) e
 
--- and the bytes that spell it
+-- and the bytes that encode it
 pub bytes_of_part : (b part : List ℕ) (s : Span) → HasSpan (file_numbers b) s → part ≡ take (2 * (s.end - s.start)) (drop (2 * s.start) b) → ushorts_at part 0 (length part / 2) ≡ span_of (file_numbers b) s
 bytes_of_part b part s h e =
     let count = length-ushorts_at b 0 (length b / 2) in

@@ -1,4 +1,5 @@
--- Where the numbers of marked symbols lead: somewhere, to a number that is not greater, and to one of the other numbering.
+-- The images of the numbers of marked symbols: each has one, which is not greater, and is a number of the other
+-- numbering.
 use Rattle.std.proofs.Common.{◌≡◌, ℕ, zero, suc, ◌+◌, ◌≤◌, ◌||◌, ◌&&◌, ◌==◌, Bool, true, false, List, [], ◌∷◌, get_or, map, refl, sym, ◌∙◌, subst, arith, eq-eqb, Option, Some, None, IsSome}
 use Rattle.std.specs.List.{All, Contains, flat_map}
 use Rattle.std.proofs.lemmas.List.Elements.{All-weaker, Contains-get_or}

@@ -90,7 +90,7 @@ is_moved marks xs n count marked =
       same = λ d. ap (λ k. get_or (kept marks xs) k d) is ∙ at.same d;
     }
 
--- ---- where numbers lead
+-- ---- the images of numbers
 
 same_default : {X : Type 0} (xs : List X) (i : ℕ) (d e : X) → i < length xs → get_or xs i d ≡ get_or xs i e
 same_default [] i d e lt = absurd (omega arith)

@@ -288,7 +288,7 @@ module _ (t : Tables) (ok : AreTables t) (marks : Marks) (count : AreMarksOf (sy
       (kept_rises field_cmp marks.fields.items m.fields (Rises-from_rises field_cmp field_total m.fields r.fields_rise))
       (kept_rises method_cmp marks.methods.items m.methods (Rises-from_rises method_cmp method_total m.methods r.methods_rise))
 
-  -- and numbers lead there
+  -- and the map is from the old numbering to the new one
   pub kept_lead : AllLead (symbols_in t) (kept_symbols c (symbols_in t)) (kept_places c)
   kept_lead =
       let m = symbols_in t in

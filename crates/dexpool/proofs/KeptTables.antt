@@ -49,7 +49,7 @@ all_both P Q S xs p q both = λ k d lt. both (get_or xs k d) (p k d lt) (q k d l
 all_seen : {X Y : Type 0} (g : X → Y) (P : Y → Type 0) (xs : List X) → All P (map g xs) → All (λ x. P (g x)) xs
 all_seen g P xs h = λ k d lt. subst P (get_or-map g xs k d (g d) lt) (h k (g d) (omega (arith, length-map xs g, lt)))
 
--- what is kept of a list that rises does
+-- what is kept of a list that rises, rises
 pub kept_rise : {X : Type 0} (R : X → X → Ordering) → IsTotalOrder R → (marks : List Bool) (xs : List X) → rises R xs ≡ true → rises R (kept marks xs) ≡ true
 kept_rise R o marks xs h = rises-from_Rises R (kept marks xs) (kept_rises R marks xs (Rises-from_rises R o xs h))
 

@@ -131,7 +131,7 @@ pub record Leads {X : Type 0} (from to : List X) (images : List (Option ℕ)) : 
   pub none : (i : ℕ) (d : X) → i < length from → image images i ≡ None → Contains to (slice_index_or from i d) → ⊥
   pub rising : (h i j k : ℕ) → h < i → image images h ≡ Some j → image images i ≡ Some k → j < k
 
--- the five maps lead from one numbering to the other
+-- the five maps map one numbering to the other
 pub record AllLead (from to : Mentions) (r : Maps) : Type 0 where
   pub texts_lead : Leads from.texts to.texts r.texts
   pub types_lead : Leads from.types to.types r.types

@@ -151,6 +151,12 @@ early {b = b} n e le refusal = subst (IsEarly b) (sym e) (record { refused = ref
 pub long_enough : {b : List ℕ} → HoldBelow 4 b → 112 ≤ length b
 long_enough holds = (holds Condition.Size (omega arith) 0 (omega arith)).least
 
+-- the sums are right where they are known to be
+pub with_sums : {b : List ℕ} → HoldBelow 7 b → (32 ≤ length b → HasChecksum b) → (32 ≤ length b → HasSignature b) → HoldBelow 9 b
+with_sums before checksum signature =
+    let size = before Condition.Size (omega arith) 0 (omega arith) in
+    with_signature (with_checksum before (checksum (omega (arith, size.least)))) (signature (omega (arith, size.least)))
+
 pub is_long : {b : List ℕ} → IsFrame b → 112 ≤ length b
 is_long frame = (frame Condition.Size (omega arith) 0 (omega arith)).least
 

@@ -1,10 +1,14 @@
 -- A file whose sums are set.
 use Rattle.std.proofs.Common.{◌≡◌, ℕ, ◌+◌, ◌-◌, ◌≤◌, List, ◌++◌, length, take, drop, refl, sym, ap, ◌∙◌, arith}
-use Rattle.std.proofs.lemmas.List.{drop_at, drop-drop, length-take-le, take-append-le, take-take, take_rest}
+use Rattle.std.proofs.lemmas.List.{drop_at, drop-drop, length-take-le, take_at, take-append-le, take-take, take_rest}
+use Rattle.std.proofs.Math.Seq.{drop-append-add}
 use Rattle.sha1.specs.Sha1.{sha1}
 use Rattle.byteorder.specs.Endian.{little_bytes}
 use Rattle.dexspec.specs.Bytes.{uint}
-use Rattle.dexspec.specs.Header.{adler_32}
+use Rattle.dexspec.specs.Header.{adler_32, HasChecksum, HasSignature}
+use Rattle.dexspec.proofs.ByteNumbers.{length-uint, uint_at-stands}
+use Rattle.dexspec.proofs.Stands.{stands_first, stands_later, stands_at}
+use Rattle.dexspec.proofs.Sums.{length-sha1, adler_32_small}
 use Rattle.dexhead.specs.Sums.{signed, with_sums_set}
 use Rattle.dexhead.proofs.Spelled.{four_bytes}
 use borrow.Rule.Slice.PartMut.{put_mid}
@@ -27,3 +31,28 @@ sums_set f g h long e e' =
     let back : drop 12 g ≡ signed f = ap (drop 12) e ∙ drop_at (take 12 f) (signed f) 12 n in
     let front : take 8 g ≡ take 8 f = ap (take 8) e ∙ take-append-le 8 (take 12 f) (signed f) (omega arith) ∙ take-take 8 12 f (omega arith) in
     e' ∙ ap (λ xs. xs ++ (uint (adler_32 (drop 12 g)) ++ drop 12 g)) front ∙ ap (λ xs. take 8 f ++ (uint (adler_32 xs) ++ xs)) back
+
+-- what follows a part of this length and more
+pub drop_after : (part rest : List ℕ) (n m : ℕ) → length part ≡ n → drop (n + m) (part ++ rest) ≡ drop m rest
+drop_after part rest n m e = ap (λ k. drop (k + m) (part ++ rest)) (sym e) ∙ drop-append-add part rest m
+
+-- sums that are set are right
+checksum_is : (front body : List ℕ) → length front ≡ 8 → HasChecksum (front ++ (uint (adler_32 body) ++ body))
+checksum_is front body eight =
+    let n = adler_32 body in
+    uint_at-stands (adler_32_small body) (stands_at (omega (arith, eight)) (stands_later front (stands_first (uint n) body)))
+    ∙ ap adler_32 (sym (drop_after front (uint n ++ body) 8 4 eight ∙ drop_at (uint n) body 4 (length-uint n)))
+
+signature_is : (front checksum rest : List ℕ) → length front ≡ 8 → length checksum ≡ 4 → HasSignature (front ++ (checksum ++ (sha1 rest ++ rest)))
+signature_is front checksum rest eight four =
+    let body = sha1 rest ++ rest in
+    ap (take 20) (drop_after front (checksum ++ body) 8 4 eight ∙ drop_at checksum body 4 four) ∙ take_at (sha1 rest) rest 20 (length-sha1 rest)
+    ∙ ap sha1 (sym (drop_after front (checksum ++ body) 8 24 eight ∙ drop_after checksum body 4 20 four ∙ drop_at (sha1 rest) rest 20 (length-sha1 rest)))
+
+pub has_checksum_set : (file : List ℕ) → 32 ≤ length file → HasChecksum (with_sums_set file)
+unfolding with_sums_set
+has_checksum_set file long = checksum_is (take 8 file) (signed file) (length-take-le 8 file (omega arith))
+
+pub has_signature_set : (file : List ℕ) → 32 ≤ length file → HasSignature (with_sums_set file)
+unfolding with_sums_set signed
+has_signature_set file long = signature_is (take 8 file) (uint (adler_32 (signed file))) (drop 32 file) (length-take-le 8 file (omega arith)) (length-uint (adler_32 (signed file)))

@@ -2,7 +2,6 @@
 use Rattle.std.proofs.Common.{◌≡◌, ℕ, ◌+◌, ◌^◌, ◌≤◌, List, ◌++◌, length, take, drop, refl, sym, ap, subst, ◌∙◌, arith, append_assoc}
 use Rattle.std.specs.List.{flat_map}
 use Rattle.std.proofs.lemmas.List.{length-append, take_at, drop_at}
-use Rattle.std.proofs.Math.Seq.{drop-append-add}
 use Rattle.sha1.specs.Sha1.{sha1}
 use Rattle.dexspec.specs.Bytes.{uint}
 use Rattle.dexspec.specs.Header.{adler_32, header_length}
@@ -14,10 +13,7 @@ use Rattle.dexhead.specs.declared.head.Head.{Head}
 use Rattle.dexhead.specs.Opened.{IsOpened}
 use Rattle.dexhead.specs.Sums.{signed, with_sums_set}
 use Rattle.dexhead.specs.Written.{rows_bytes, field_bytes, head_bytes}
-
--- what is behind a list and more
-drop_behind : (p q : List ℕ) (n m : ℕ) → length p ≡ n → drop (n + m) (p ++ q) ≡ drop m q
-drop_behind p q n m e = ap (λ k. drop (k + m) (p ++ q)) (sym e) ∙ drop-append-add p q m
+use Rattle.dexhead.proofs.Overwritten.{drop_after}
 
 -- three parts, and more behind them
 joined : (m c s x r : List ℕ) → (m ++ (c ++ (s ++ x))) ++ r ≡ m ++ (c ++ (s ++ (x ++ r)))
@@ -30,7 +26,7 @@ first_part m c s x r n e = ap (take n) (joined m c s x r) ∙ take_at m (c ++ (s
 -- what is behind all three
 behind : (m c s x r : List ℕ) → length m ≡ 8 → length c ≡ 4 → length s ≡ 20 → drop 32 ((m ++ (c ++ (s ++ x))) ++ r) ≡ x ++ r
 behind m c s x r e8 e4 e20 =
-    ap (drop 32) (joined m c s x r) ∙ drop_behind m (c ++ (s ++ (x ++ r))) 8 24 e8 ∙ drop_behind c (s ++ (x ++ r)) 4 20 e4 ∙ drop_at s (x ++ r) 20 e20
+    ap (drop 32) (joined m c s x r) ∙ drop_after m (c ++ (s ++ (x ++ r))) 8 24 e8 ∙ drop_after c (s ++ (x ++ r)) 4 20 e4 ∙ drop_at s (x ++ r) 20 e20
 
 -- the fields and the rest begin as a header begins
 fields_open : (h : Head) (rest : List ℕ) → field_bytes h ++ rest ≡ opening h.file_size ((uint h.map_off ++ (flat_map rows_bytes h.tables ++ (uint h.data_size ++ uint h.data_off))) ++ rest)

@@ -1,7 +1,7 @@
 //! A file whose header and map are in order.
 
 ghost use Rattle.std.specs.Prelude.{◌≡◌, ◌↔◌, ℕ, ◌+◌, ◌*◌, ◌≤◌, ◌<◌, List, IsTrue, IsOk, OnOk, IfOk, IfErr, length, take, drop};
-ghost use Rattle.dexspec.specs.Header.{table_size, table_off, row_size, data_off};
+ghost use Rattle.dexspec.specs.Header.{table_size, table_off, row_size, data_off, HasChecksum, HasSignature};
 ghost use Rattle.dexspec.specs.Rows.{row_at};
 ghost use Rattle.dexspec.specs.Sections.{IsInData};
 ghost use Rattle.dexspec.specs.Accepted.{HoldBelow, IsFrame, IsRefused};
@@ -63,6 +63,27 @@ impl<'a> Frame<'a> {
         judge_start(bytes)?;
         judge_fields(bytes)?;
         judge_sums(bytes)?;
+        judge_places(bytes)?;
+        Ok(Frame { bytes })
+    }
+
+    /// Opens a file whose two sums are right, and does not take them again: returns what [`open`](Self::open) returns of
+    /// it.
+    ///
+    /// Conditions: a file that is long enough to have the sums has the right checksum and the right signature, as after
+    /// [`set_sums`](crate::set_sums). Error: as of [`open`](Self::open).
+    ///
+    /// Source: "Dalvik Executable format", "header_item" and "map_list".
+    #[tactic(auto, using(crate::proofs::Frames::long_enough, crate::proofs::Frames::with_sums))]
+    pub fn open_summed(bytes: &'a [u8]) -> Result<Frame<'a>, Refusal>
+        requires checksum { 32 ≤ length bytes.now → HasChecksum bytes.now }
+        requires signature { 32 ≤ length bytes.now → HasSignature bytes.now }
+        ensures accepted { IsOk result ↔ IsFrame bytes.now }
+        ensures whole { IfOk result (λ frame. frame ≡ bytes.now) }
+        ensures refused { IfErr result (λ refusal. IsRefused bytes.now refusal.number refusal.place) }
+    {
+        judge_start(bytes)?;
+        judge_fields(bytes)?;
         judge_places(bytes)?;
         Ok(Frame { bytes })
     }

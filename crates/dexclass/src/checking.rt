@@ -1,6 +1,6 @@
 //! Checking a whole file.
 
-ghost use Rattle.std.specs.Prelude.{◌+◌, ◌<◌, ◌≤◌, IsTrue, IfOk, IfErr, OnOk};
+ghost use Rattle.std.specs.Prelude.{◌+◌, ◌<◌, ◌≤◌, All, IsTrue, IfOk, IfErr, OnOk};
 ghost use Rattle.dexspec.specs.Header.{ClassDefs, table_size};
 ghost use Rattle.dexspec.specs.Weight.{mentions_weight, most_weight};
 ghost use Rattle.dexspec.specs.Accepted.{HoldBelow};
@@ -10,7 +10,7 @@ ghost use Rattle.dexclass.specs.Programs.{IsFaultOf};
 ghost use Rattle.dexclass.specs.Checking.{HaveBodiesOf, IsCheckedAs};
 
 use crate::judging::judge_classes;
-use crate::reading::{MOST_WEIGHT, at_row, read, row_weight, too_heavy};
+use crate::reading::{MOST_WEIGHT, at_row, read_rows, row_weight, too_heavy};
 use dexhead::{Frame, Table};
 use dexmembers::{Checks, check_members};
 use dexpool::{Pools, ReadFault};
@@ -27,14 +27,26 @@ pub fn check(alloc: Global, bytes: &[u8]) -> Result<usize, ReadFault>
     ensures refused { IfErr result (IsFaultOf bytes.now) }
 {
     let frame = Frame::open(bytes)?;
-    let pools = Pools::read(alloc, &frame)?;
-    judge_classes(alloc, &frame, &pools)?;
-    let bodies = check_rows(alloc, &frame, &pools)?;
+    check_frame(alloc, &frame)
+}
+
+/// Checks a file whose header and map are in order, and returns what [`check`] returns of it.
+///
+/// Error: as of [`check`].
+///
+/// Source: "Dalvik Executable format".
+pub fn check_frame(alloc: Global, frame: &Frame<'_>) -> Result<usize, ReadFault>
+    ensures accepted { IfOk result (IsCheckedAs frame.now) }
+    ensures refused { IfErr result (IsFaultOf frame.now) }
+{
+    let pools = Pools::read(alloc, frame)?;
+    judge_classes(alloc, frame, &pools)?;
+    let bodies = check_rows(alloc, frame, &pools)?;
     if is_light(&pools, bodies) {
         return Ok(frame.size(Table::ClassDefs) as usize);
     }
     // Of the symbols of the pools only those count that the classes mention.
-    read_len(alloc, bytes)
+    read_len(alloc, frame, &pools)
 }
 
 // Whether classes that weigh this much are light enough with all symbols of the pools.
@@ -49,12 +61,20 @@ fn is_light(pools: &Pools<'_>, bodies: u64) -> bool
     weight <= MOST_WEIGHT
 }
 
-// The number of class definitions of a file that is read.
-fn read_len(alloc: Global, bytes: &[u8]) -> Result<usize, ReadFault>
-    ensures accepted { IfOk result (IsCheckedAs bytes.now) }
-    ensures refused { IfErr result (IsFaultOf bytes.now) }
+// The numbers of bytes are below 256.
+fn are_bytes(bytes: &[u8])
+    ensures { All (λ byte. byte < 256) bytes.now }
+{}
+
+// The number of class definitions of a file of which conditions 1 to 16 hold and whose classes are read.
+fn read_len(alloc: Global, frame: &Frame<'_>, pools: &Pools<'_>) -> Result<usize, ReadFault>
+    requires pools { ArePools frame.now pools.now }
+    requires holds { HoldBelow 17 frame.now }
+    ensures accepted { IfOk result (IsCheckedAs frame.now) }
+    ensures refused { IfErr result (IsFaultOf frame.now) }
 {
-    match read(alloc, bytes) {
+    are_bytes(frame.bytes());
+    match read_rows(alloc, frame, pools) {
         Ok(program) => Ok(program.len()),
         Err(fault) => Err(fault),
     }

@@ -20,7 +20,7 @@ mod renumbering;
 mod stripping;
 mod trimming;
 
-pub use checking::check;
+pub use checking::{check, check_frame};
 pub use classes::Class;
 pub use dexflags::{ClassFlags, FieldFlags, MethodFlags};
 pub use laws::{renumbering_law, same_law, uses_law};

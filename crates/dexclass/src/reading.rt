@@ -172,8 +172,8 @@ fn judge_weight(frame: &Frame<'_>, numbering: &Numbering<'_>, bodies: u64) -> Re
     Ok(weight)
 }
 
-// Reads the class rows of a file of which conditions 1 to 16 hold.
-fn read_rows<'a>(
+/// Reads the class rows of a file of which conditions 1 to 16 hold.
+pub(crate) fn read_rows<'a>(
     alloc: Global,
     frame: &Frame<'a>,
     pools: &Pools<'a>,

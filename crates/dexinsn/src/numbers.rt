@@ -1,7 +1,7 @@
 //! Numbers of symbols, and what becomes of them.
 
 ghost use Rattle.std.specs.Prelude.{◌≡◌, ◌↔◌, ◌<◌, ◌++◌, ℕ, IsTrue, IfOk, All, List, map, drop, ◌∷◌, [], length, slice_index_or};
-ghost use Rattle.std.specs.List.{flat_map};
+ghost use Rattle.std.specs.List.{FoldsTo, flat_map};
 ghost use Rattle.dexpool.specs.Uses.{HasMark, AreMarkedToo, Use};
 ghost use Rattle.dexinsn.specs.Fitting.{is_short_string, short_at, short_strings, IsGreatest};
 ghost use Rattle.dexinsn.specs.Numbered.{uses_of, HasPlace, FitPlaces, renumbered};
@@ -10,7 +10,7 @@ ghost use Rattle.dexinsn.specs.Stored.{HasPlaceAt, IsIndexed, renumbered_index, 
 use crate::code_units::Units;
 use crate::indexed::{index_kind_at, is_wide_at};
 use crate::pieces::{Index, Pieces};
-use dexpool::{Marks, Remap, SymbolKind};
+use dexpool::{Marks, Remap, SymbolKind, Symbols, Visitor, mark};
 use std::alloc::AllocError;
 
 // The index with the number that its number leads to.
@@ -71,15 +71,22 @@ fn have_places(units: &Units<'_>, indices: &[Index], remap: &Remap) -> bool
     true
 }
 
-// Marks the symbols of all indices.
-fn mark_indices(units: &Units<'_>, indices: &[Index], marks: &mut Marks)
-    requires indexed { All (IsIndexed units.now) indices.now }
-    requires marks { All (HasMark marks.old) (map (use_at units.now) indices.now) }
-    ensures { AreMarkedToo (map (use_at units.now) indices.now) marks.old marks.new }
+// Passes the symbols of all indices to the visitor.
+fn visit_indices<V: Visitor>(units: &Units<'_>, indices: &[Index], visitor: &mut V)
+    requires { All (IsIndexed units.now) indices.now }
+    ensures { FoldsTo V.step visitor.old (flat_map (λ index. use_at units.now index ∷ []) indices.now) visitor.new }
 {
     for index in indices {
-        let kind = index_kind_at(units, index.unit as usize);
-        marks.mark(kind, index.number as usize);
+        visitor.symbol(index_kind_at(units, index.unit as usize), index.number);
+    }
+}
+
+impl Symbols for Pieces<'_> {
+    ghost uses = { λ code. uses_of code.pieces };
+
+    fn visit<V: Visitor>(&self, visitor: &mut V) {
+        let units = Units::of_bytes(self.bytes);
+        visit_indices(&units, &self.indices, visitor);
     }
 }
 
@@ -166,8 +173,7 @@ impl<'a> Pieces<'a> {
         requires { All (HasMark marks.old) (uses_of self.now.pieces) }
         ensures { AreMarkedToo (uses_of self.now.pieces) marks.old marks.new }
     {
-        let units = Units::of_bytes(self.bytes);
-        mark_indices(&units, &self.indices, marks);
+        mark(self, marks);
     }
 
     /// The same pieces, with numbers of their own.

@@ -1,12 +1,14 @@
 -- The symbols of a code item, part by part.
-use Rattle.std.proofs.Common.{◌≡◌, List, [], ◌++◌, Option, Some, option_to_list, subst}
-use Rattle.std.specs.List.{All, flat_map}
+use Rattle.std.proofs.Common.{◌≡◌, List, [], ◌++◌, Option, Some, None, option_to_list, refl, sym, subst}
+use Rattle.std.specs.List.{All, FoldsTo, flat_map}
+use Rattle.std.proofs.lemmas.List.{append-nil}
 use Rattle.dexpool.specs.Uses.{Use}
 use Rattle.dexinsn.specs.Numbered.{uses_of}
 use Rattle.dexcode.specs.Debug.{NumberedDebug, debug_uses}
 use Rattle.dexcode.specs.Numbered.{NumberedItem}
 use Rattle.dexcode.specs.Renumbering.{tries_uses, item_uses}
 use Rattle.dexpool.proofs.Parts.{all_front, all_back}
+use Rattle.dexpool.proofs.Visits.{visited_both}
 
 -- those of the debug program, if there is one
 abbrev pub optional_debug_uses : Option NumberedDebug → List Use
@@ -27,3 +29,23 @@ module _ (P : Use → Type 0) (c : NumberedItem) (all : All P (item_uses c)) whe
 
   pub debugs_part : All P (optional_debug_uses c.debug)
   debugs_part = all_back P (tries_uses c.tries) (optional_debug_uses c.debug) others
+
+-- ---- visits of the parts, one after the other
+
+module _ {V : Type 0} (step : V → Use → V → Type 0) where
+  no_debug_visited : (o : Option NumberedDebug) (a : V) → o ≡ None → FoldsTo step a (optional_debug_uses o) a
+  no_debug_visited o a e = subst (λ p. FoldsTo step a (optional_debug_uses p) a) (sym e) refl
+
+  some_debug_visited : (o : Option NumberedDebug) (d : NumberedDebug) (a b : V) → o ≡ Some d → FoldsTo step a (debug_uses d) b → FoldsTo step a (optional_debug_uses o) b
+  some_debug_visited o d a b e h = subst (λ p. FoldsTo step a (optional_debug_uses p) b) (sym e) (subst (λ us. FoldsTo step a us b) (sym (append-nil (debug_uses d))) h)
+
+  parts_visited : (c : NumberedItem) (a p q b : V) → FoldsTo step a (uses_of c.body.pieces) p → FoldsTo step p (tries_uses c.tries) q → FoldsTo step q (optional_debug_uses c.debug) b → FoldsTo step a (item_uses c) b
+  parts_visited c a p q b pieces tries debug =
+      visited_both step a (uses_of c.body.pieces) p (tries_uses c.tries ++ optional_debug_uses c.debug) b pieces
+      (visited_both step p (tries_uses c.tries) q (optional_debug_uses c.debug) b tries debug)
+
+  pub visited_without_debug : (c : NumberedItem) (a p b : V) → FoldsTo step a (uses_of c.body.pieces) p → FoldsTo step p (tries_uses c.tries) b → c.debug ≡ None → FoldsTo step a (item_uses c) b
+  visited_without_debug c a p b pieces tries e = parts_visited c a p b b pieces tries (no_debug_visited c.debug b e)
+
+  pub visited_with_debug : (c : NumberedItem) (d : NumberedDebug) (a p q b : V) → FoldsTo step a (uses_of c.body.pieces) p → FoldsTo step p (tries_uses c.tries) q → c.debug ≡ Some d → FoldsTo step q (debug_uses d) b → FoldsTo step a (item_uses c) b
+  visited_with_debug c d a p q b pieces tries e debug = parts_visited c a p q b pieces tries (some_debug_visited c.debug d q b e debug)

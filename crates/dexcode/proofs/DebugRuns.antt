@@ -260,8 +260,8 @@ one_more_checked m b from at c count weight op k n h le here some byte operands_
       light = omega arith;
     }
 
-pub all_operations : (m : Counts) (b : List ℕ) (from at count weight : ℕ) → OperationsChecked m b from at count weight → Stands b at (0x00 ∷ []) → 0 < from → length b ≤ 2 ^ 30 → AreTallied m b from (record { operations = count; weight = weight })
-all_operations m b from at count weight checked end some small =
+pub all_operations : (m : Counts) (b : List ℕ) (from at count named weight : ℕ) → OperationsChecked m b from at count weight → Stands b at (0x00 ∷ []) → 0 < from → length b ≤ 2 ^ 30 → AreTallied m b from (record { operations = count; named = named; weight = weight })
+all_operations m b from at count named weight checked end some small =
     let h = checked.so_far in
     let behind = h.behind in
     let within = h.within in

@@ -2,6 +2,7 @@
 
 ghost use Rattle.std.specs.Prelude.{◌≡◌, Some, None, MatchOption, IfOk};
 
+use crate::boxing::boxed;
 use crate::debug::Debug;
 use crate::tries::Tries;
 use dexinsn::Pieces;
@@ -18,7 +19,7 @@ pub struct Code<'a> {
     /// The tries, with the handlers that they name.
     pub(crate) tries: Tries,
     /// The debug program, if there is one.
-    pub(crate) debug: Option<Debug>,
+    pub(crate) debug: Option<Box<Debug>>,
 }
 
 // So that code is let go by one call, in the crates above too.
@@ -33,11 +34,12 @@ impl Drop for Code<'_> {
 }
 
 impl<'a> Model for Code<'a> {
+    ghost use Rattle.std.specs.Option.{option_map};
     ghost use Rattle.dexcode.specs.Numbered.{NumberedItem};
 
     ghost Value = { NumberedItem };
 
-    ghost view = { λ c. record { body = c.pieces; tries = c.tries; debug = c.debug } };
+    ghost view = { λ c. record { body = c.pieces; tries = c.tries; debug = option_map (λ debug. debug.value) c.debug } };
 }
 
 impl<'a> Code<'a> {
@@ -65,7 +67,10 @@ impl<'a> Code<'a> {
     pub fn debug(&self) -> Option<&Debug>
         ensures { MatchOption result (self.now.debug ≡ None) (λ debug. self.now.debug ≡ Some debug.now) }
     {
-        self.debug.as_ref()
+        match &self.debug {
+            Some(debug) => Some(debug),
+            None => None,
+        }
     }
 
     /// Leaves the debug program out. No memory is taken.
@@ -88,7 +93,7 @@ impl<'a> Code<'a> {
         let pieces = self.pieces.copy()?;
         let tries = self.tries.copy()?;
         let debug = match &self.debug {
-            Some(debug) => Some(debug.copy()?),
+            Some(debug) => Some(boxed(*Box::allocator(debug), debug.copy()?)?),
             None => None,
         };
         Ok(Code {

@@ -6,7 +6,19 @@ ghost use Rattle.dexinsn.specs.Fitting.{IsGreatest, short_strings};
 ghost use Rattle.dexcode.specs.Renumbering.{item_uses, HasPlaces, NumbersFit, renumbered_item};
 
 use crate::code::Code;
-use dexpool::{Marks, Remap};
+use dexpool::{Marks, Remap, Symbols, Visitor, mark};
+
+impl Symbols for Code<'_> {
+    ghost uses = { item_uses };
+
+    fn visit<V: Visitor>(&self, visitor: &mut V) {
+        self.pieces.visit(visitor);
+        self.tries.visit(visitor);
+        if let Some(debug) = self.debug() {
+            debug.visit(visitor);
+        }
+    }
+}
 
 impl<'a> Code<'a> {
     /// Each number fits its place: it is below 2^16 in an instruction but for const-string/jumbo, below 2^32 for a type
@@ -17,7 +29,7 @@ impl<'a> Code<'a> {
     {
         self.pieces.numbers_fit();
         self.tries.numbers_fit();
-        if let Some(debug) = &self.debug {
+        if let Some(debug) = self.debug() {
             debug.numbers_fit();
         }
     }
@@ -59,11 +71,7 @@ impl<'a> Code<'a> {
         requires { All (HasMark marks.old) (item_uses self.now) }
         ensures { AreMarkedToo (item_uses self.now) marks.old marks.new }
     {
-        self.pieces.mark(marks);
-        self.tries.mark(marks);
-        if let Some(debug) = &self.debug {
-            debug.mark(marks);
-        }
+        mark(self, marks);
     }
 
     /// Whether this and other code are the same, once the numbers of each are led on by a map of its own. Of numbers
@@ -79,7 +87,7 @@ impl<'a> Code<'a> {
         if !self.tries.same_mapped(mine, &other.tries, theirs) {
             return false;
         }
-        match (&self.debug, &other.debug) {
+        match (self.debug(), other.debug()) {
             (Some(debug), Some(other)) => debug.same_mapped(mine, other, theirs),
             (None, None) => true,
             _ => false,

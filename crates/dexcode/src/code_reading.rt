@@ -6,6 +6,7 @@ ghost use Rattle.dexpool.specs.Pools.{ArePools};
 ghost use Rattle.dexcode.specs.Numbered.{NumberedTry};
 ghost use Rattle.dexcode.specs.Reading.{TriesAt, IsTriesFault, IsCodeAt, IsCodeFault};
 
+use crate::boxing::boxed;
 use crate::code::Code;
 use crate::debug_reading::read_debug;
 use crate::tries::Tries;
@@ -29,7 +30,7 @@ pub(crate) fn read_tries(
 {
     let count = u16_at(bytes, off + 6);
     if count == 0 {
-        return Ok(Tries::none(alloc));
+        return Ok(Tries::none());
     }
     let units = u32_at(bytes, off + 12);
     let behind = off + 16 + 2 * units as usize;
@@ -63,22 +64,33 @@ pub fn read_code<'a>(
     ensures code { ArePools frame.now pools.now → IfOk result (IsCodeAt frame.now off pools.now) }
     ensures refused { ArePools frame.now pools.now → IfErr result (IsCodeFault frame.now off) }
 {
-    pools.numbering().is_numbering();
-    if !frame.is_in_data(off, 16) {
-        return Err(ItemFault::Refused(Condition::Code as u8));
-    }
-    let bytes = frame.bytes();
-    let off_bytes = off as usize;
-    let units = u64::from(u32_at(bytes, off_bytes + 12));
-    if !frame.is_in_data(off, 16 + 2 * units) {
-        return Err(ItemFault::Refused(Condition::Code as u8));
-    }
     let mut scratch = Scratch::new(alloc);
-    let shape = check_pieces(frame, pools, off, &mut scratch)?;
+    read_code_in(alloc, frame, pools, off, &mut scratch)
+}
+
+/// As [`read_code`], in room that is lent from one code_item to the next. It leaves in it at which units instructions begin.
+///
+/// Error: as of [`read_code`].
+///
+/// Source: "code_item".
+pub fn read_code_in<'a>(
+    alloc: Global,
+    frame: &Frame<'a>,
+    pools: &Pools<'_>,
+    off: u32,
+    scratch: &mut Scratch,
+) -> Result<Code<'a>, ItemFault>
+    ensures code { ArePools frame.now pools.now → IfOk result (IsCodeAt frame.now off pools.now) }
+    ensures refused { ArePools frame.now pools.now → IfErr result (IsCodeFault frame.now off) }
+{
+    pools.numbering().is_numbering();
+    let shape = check_pieces(frame, pools, off, scratch)?;
     let pieces = build_pieces(alloc, frame, pools, off, shape)?;
     let types = pools.len(SymbolKind::Typ);
-    let tries = read_tries(alloc, bytes, off_bytes, &scratch.starts(), types)?;
-    let debug_off = u32_at(bytes, off_bytes + 8);
+    let starts = scratch.starts();
+    let bytes = frame.bytes();
+    let tries = read_tries(alloc, bytes, off as usize, &starts, types)?;
+    let debug_off = u32_at(bytes, off as usize + 8);
     if debug_off == 0 {
         return Ok(Code {
             pieces,
@@ -86,7 +98,8 @@ pub fn read_code<'a>(
             debug: None,
         });
     }
-    let debug = read_debug(alloc, frame, pools, debug_off)?;
+    let program = read_debug(alloc, frame, pools, debug_off)?;
+    let debug = boxed(alloc, program)?;
     Ok(Code {
         pieces,
         tries,

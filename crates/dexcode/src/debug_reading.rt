@@ -28,10 +28,11 @@ struct Counts {
     types: usize,
 }
 
-// How many operations there are, and what they weigh.
+// How many operations there are, how much room those with places for numbers take, and what they weigh.
 #[derive(Clone, Copy)]
 struct Tally {
     operations: usize,
+    named: usize,
     weight: u64,
 }
 
@@ -212,18 +213,24 @@ fn check_operations(bytes: &[u8], from: usize, counts: Counts) -> Option<Tally>
     ensures { MatchOption result ((ops : List Operation) → ProgramAt counts bytes.now from ops → ⊥) (AreTallied counts bytes.now from) }
 {
     let mut operations = 0;
+    let mut named: usize = 0;
     let mut weight = 0;
     let mut at = from;
     while at < bytes.len() {
         let opcode = bytes[at];
         if opcode == DBG_END_SEQUENCE {
-            return Some(Tally { operations, weight });
+            return Some(Tally {
+                operations,
+                named,
+                weight,
+            });
         }
         let (operation, len) = match operation_at(bytes, at + 1, opcode, counts) {
             Some(read) => read,
             None => return None,
         };
         operations += 1;
+        named = named.saturating_add(usize::from(operation.has_places()));
         weight += 1 + 5 * operation.operands();
         at += 1 + len;
     }
@@ -290,18 +297,18 @@ fn build_operations(
     alloc: Global,
     bytes: &[u8],
     from: usize,
-    count: usize,
+    tally: Tally,
     counts: Counts,
 ) -> Result<Operations, AllocError>
     requires within { from ≤ length bytes.now }
-    requires few { count < 2 ^ 30 }
-    requires stand { HaveOperations counts bytes.now from count }
-    ensures { IfOk result (λ ops. AreTheOperations counts bytes.now from count ops) }
+    requires few { tally.operations < 2 ^ 30 }
+    requires stand { HaveOperations counts bytes.now from tally.operations }
+    ensures { IfOk result (λ ops. AreTheOperations counts bytes.now from tally.operations ops) }
 {
-    let mut entries = Vec::with_capacity(alloc, count)?;
-    let mut named = Vec::new(alloc);
+    let mut entries = Vec::with_capacity(alloc, tally.operations)?;
+    let mut named = Vec::with_capacity(alloc, tally.named)?;
     let mut at = from;
-    for _ in 0..count {
+    for _ in 0..tally.operations {
         let (operation, len) = operation_at(bytes, at + 1, bytes[at], counts).unwrap();
         entries.push(entry_of(operation, named.len())).unwrap();
         keep_named(&mut named, operation)?;
@@ -324,13 +331,7 @@ fn build_numbered(
     ensures { IfOk result (NumberedDebugAt counts bytes.now at) }
 {
     let parameter_names = build_names(alloc, bytes, shape.names_at, shape.names, counts.texts)?;
-    let operations = build_operations(
-        alloc,
-        bytes,
-        shape.operations_at,
-        shape.tally.operations,
-        counts,
-    )?;
+    let operations = build_operations(alloc, bytes, shape.operations_at, shape.tally, counts)?;
     Ok(Debug {
         line_start: shape.line_start,
         parameter_names,

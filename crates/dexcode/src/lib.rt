@@ -14,7 +14,7 @@ pub use code_numbers_laws::{
     code_renumber_law, code_uses_law,
 };
 pub use code_put::put_code;
-pub use code_reading::read_code;
+pub use code_reading::{read_code, read_code_in};
 pub use debug::Debug;
 pub use debug_laws::{
     debug_bare_law, debug_bytes_law, debug_equality_law, debug_places_law, debug_renumber_law,
@@ -29,6 +29,7 @@ pub use meaning_laws::{code_led_law, code_meaning_law, debug_led_law, debug_mean
 pub use operations::OperationIter;
 pub use tries::{Tries, Try};
 
+mod boxing;
 mod catches;
 mod checked_debugs;
 mod code;
@@ -56,6 +57,7 @@ mod handlers;
 mod meaning_laws;
 mod named_handlers;
 mod operations;
+mod stored_tries;
 mod tries;
 mod tries_numbers;
 mod tries_same;

@@ -1,17 +1,11 @@
 //! Tries: the units that are covered, and their handlers.
 
-ghost use Rattle.std.specs.Prelude.{◌≡◌, ◌↔◌, ◌^◌, ◌<◌, ◌≤◌, ◌+◌, ◌*◌, IsTrue, List, [], All, length, IfOk, IfErr, IfSome, IfNone};
-ghost use Rattle.dexspec.specs.Code.{most_handlers};
-ghost use Rattle.dexcode.specs.Numbered.{NumberedHandler, AreStored, IsFormedHandler, all_named, handlers_of, handlers_weight};
-ghost use Rattle.dexcode.specs.NamedHandlers.{AreListed, HaveListed};
-ghost use Rattle.dexcode.specs.Reading.{IsTriesFault};
+ghost use Rattle.std.specs.Prelude.{◌≡◌, ◌<◌, List, [], All, length, IfOk};
+ghost use Rattle.dexcode.specs.Numbered.{NumberedHandler, AreStored, IsFormedHandler, all_named, handlers_of};
 
+use crate::boxing::boxed;
 use crate::handlers::Handler;
-use crate::named_handlers::number_of;
-use dexhead::u16_at;
-use dexinsn::InstructionStarts;
-use dexpool::ItemFault;
-use indexmap::IndexSet;
+use crate::stored_tries::StoredTries;
 use std::alloc::{AllocError, Global};
 use std::marker::Model;
 
@@ -33,31 +27,25 @@ pub struct Try {
 ///
 /// Source: "try_item" and "encoded_catch_handler_list".
 pub struct Tries {
-    /// The tries, each with the number of its handler.
-    pub(crate) tries: Vec<Try>,
-    /// The handlers that they name, each once.
-    pub(crate) handlers: Vec<Handler>,
+    // Most code has none.
+    pub(crate) stored: Option<Box<StoredTries>>,
 }
 
 // So that tries are let go by one call.
 impl Drop for Tries {
     fn drop(self) {
-        let Tries {
-            tries: _,
-            handlers: _,
-        } = self;
+        let Tries { stored: _ } = self;
     }
 }
 
 impl Model for Tries {
-    ghost use Rattle.std.specs.Prelude.{List};
-    ghost use Rattle.dexcode.specs.Numbered.{NumberedTry, AreStored, all_named};
+    ghost use Rattle.std.specs.Prelude.{List, []};
+    ghost use Rattle.std.specs.Option.{option_map_or};
+    ghost use Rattle.dexcode.specs.Numbered.{NumberedTry};
 
     ghost Value = { List NumberedTry };
 
-    ghost view = { λ t. all_named t.handlers.items t.tries.items };
-
-    ghost invariant = { λ t. AreStored t.handlers.items t.tries.items };
+    ghost view = { λ t. option_map_or (λ stored. stored.value) t.stored [] };
 }
 
 impl Tries {
@@ -68,7 +56,7 @@ impl Tries {
         ensures tries { (hs : List NumberedHandler) → hs ≡ handlers_of self.now → all_named hs result.now ≡ self.now }
         ensures within { All (λ t. t.handler < length (handlers_of self.now)) result.now }
     {
-        &self.tries
+        self.parts().0
     }
 
     /// The handlers that tries name, each once and in order of first use. One that catches no type catches all else, and
@@ -79,7 +67,7 @@ impl Tries {
         ensures handlers { result.now ≡ handlers_of self.now }
         ensures formed { All IsFormedHandler result.now }
     {
-        &self.handlers
+        self.parts().1
     }
 
     /// The same tries, with lists of their own.
@@ -90,9 +78,10 @@ impl Tries {
     pub fn copy(&self) -> Result<Tries, AllocError>
         ensures { IfOk result (λ copy. copy ≡ self.now) }
     {
-        let tries = Vec::from_slice(*self.tries.allocator(), &self.tries)?;
-        let handlers = copied(&self.handlers)?;
-        Ok(Tries { tries, handlers })
+        match &self.stored {
+            Some(stored) => Tries::of(*Box::allocator(stored), stored.copy()?),
+            None => Ok(Tries::none()),
+        }
     }
 
     // The tries and the handlers, as they are stored.
@@ -100,107 +89,25 @@ impl Tries {
         ensures named { all_named result.1.now result.0.now ≡ self.now }
         ensures stored { AreStored result.1.now result.0.now }
     {
-        (&self.tries, &self.handlers)
+        match &self.stored {
+            Some(stored) => stored.parts(),
+            None => (&[], &[]),
+        }
     }
 
     // No tries.
-    pub(crate) fn none(alloc: Global) -> Tries
+    pub(crate) fn none() -> Tries
         ensures { result ≡ [] }
     {
-        Tries {
-            tries: Vec::new(alloc),
-            handlers: Vec::new(alloc),
-        }
+        Tries { stored: None }
     }
 
-    // Tries with the handlers that their try_items at a place name, or `None` where these weigh more than they may. A
-    // handler that no try names is not kept.
-    pub(crate) fn of(
-        alloc: Global,
-        bytes: &[u8],
-        at: usize,
-        list: usize,
-        tries: &[Try],
-        starts: &InstructionStarts<'_>,
-        types: usize,
-    ) -> Result<Option<Tries>, ItemFault>
-        requires listed { HaveListed starts.now types bytes.now at list tries.now }
-        requires room { at + 8 * length tries.now ≤ length bytes.now }
-        requires few { length tries.now < 2 ^ 16 }
-        ensures some { (all : List NumberedHandler) → AreListed starts.now types bytes.now at list all tries.now → IfOk result (λ found. IfSome found (λ some. some ≡ all_named all tries.now)) }
-        ensures light { IfOk result (λ found. IfSome found (λ some. handlers_weight (handlers_of some) ≤ most_handlers)) }
-        ensures heavy { (all : List NumberedHandler) → AreListed starts.now types bytes.now at list all tries.now → IfOk result (λ found. IfNone found (most_handlers < handlers_weight (handlers_of (all_named all tries.now)))) }
-        ensures fault { IfErr result (IsTriesFault ⊥) }
+    // These tries.
+    pub(crate) fn of(alloc: Global, stored: StoredTries) -> Result<Tries, AllocError>
+        ensures { IfOk result (λ tries. tries ≡ stored) }
     {
-        let mut numbers = Vec::new(alloc);
-        let mut handlers = IndexSet::new(alloc);
-        let mut numbered = Vec::with_capacity(alloc, tries.len())?;
-        let mut place = at;
-        for item in tries {
-            let off = u16_at(bytes, place + 6);
-            let handler = number_of(
-                alloc,
-                bytes,
-                list,
-                off,
-                starts,
-                types,
-                &mut handlers,
-                &mut numbers,
-            )?;
-            numbered.push(Try {
-                start_addr: item.start_addr,
-                insn_count: item.insn_count,
-                handler,
-            })?;
-            place += 8;
-        }
-        let handlers = listed_in(alloc, handlers)?;
-        if !are_light(&handlers) {
-            return Ok(None);
-        }
-        Ok(Some(Tries {
-            tries: numbered,
-            handlers,
-        }))
+        Ok(Tries {
+            stored: Some(boxed(alloc, stored)?),
+        })
     }
-}
-
-// The most that the handlers of a code_item may weigh.
-const MOST_HANDLERS: usize = 65_535;
-
-// Whether the handlers weigh no more than they may.
-fn are_light(handlers: &[Handler]) -> bool
-    ensures { IsTrue result ↔ (handlers_weight handlers.now ≤ most_handlers) }
-{
-    let mut weight = 5;
-    for handler in handlers {
-        let catches = handler.catches.len();
-        if catches > MOST_HANDLERS {
-            return false;
-        }
-        weight += 10 + 8 * catches;
-        if weight > MOST_HANDLERS {
-            return false;
-        }
-    }
-    true
-}
-
-// The handlers of a set, in its order.
-fn listed_in(alloc: Global, handlers: IndexSet<Handler>) -> Result<Vec<Handler>, AllocError>
-    ensures { IfOk result (λ list. list.items ≡ handlers.keys) }
-{
-    handlers.into_iter().collect(alloc)
-}
-
-// The same handlers in a list of their own.
-fn copied(handlers: &Vec<Handler>) -> Result<Vec<Handler>, AllocError>
-    ensures { IfOk result (λ copy. copy.items ≡ handlers.now.items) }
-{
-    let mut copy = Vec::with_capacity(*handlers.allocator(), handlers.len())?;
-    for handler in handlers {
-        copy.push(handler.copy()?)?;
-    }
-    Ok(copy)
 }

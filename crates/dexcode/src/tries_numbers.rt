@@ -1,13 +1,12 @@
 //! Numbers of types in tries, and what becomes of them.
 
 ghost use Rattle.std.specs.Prelude.{◌≡◌, ◌<◌, ◌^◌, ◌∷◌, [], All, map};
-ghost use Rattle.std.specs.List.{flat_map};
-ghost use Rattle.dexpool.specs.Uses.{HasMark, AreMarkedToo};
 ghost use Rattle.dexcode.specs.Renumbering.{catch_use, handler_uses, tries_uses, HasTypePlace, renumbered_catch, renumbered_handler, renumbered_try};
 
 use crate::handlers::{Catch, Handler};
+use crate::stored_tries::StoredTries;
 use crate::tries::Tries;
-use dexpool::{Marks, Remap, Renumber, SymbolKind, Symbols, Visitor, renumber_all, visit_all};
+use dexpool::{Remap, Renumber, SymbolKind, Symbols, Visitor, renumber_all, visit_all};
 
 impl Renumber for Catch {
     ghost places = { λ r c. HasTypePlace r (catch_use c) };
@@ -48,23 +47,16 @@ impl Symbols for Handler {
     }
 }
 
-// Marks the types that handlers catch.
-#[tactic(auto, using(dexpool::proofs::Visits::all_marked))]
-fn mark_handlers(handlers: &[Handler], marks: &mut Marks)
-    requires { All (HasMark marks.old) (flat_map handler_uses handlers.now) }
-    ensures { AreMarkedToo (flat_map handler_uses handlers.now) marks.old marks.new }
-{
-    visit_all(handlers, marks);
+impl Symbols for Tries {
+    ghost uses = { tries_uses };
+
+    fn visit<V: Visitor>(&self, visitor: &mut V) {
+        let (_, handlers) = self.parts();
+        visit_all(handlers, visitor);
+    }
 }
 
-impl Tries {
-    // The number of each type that is caught has 32 bits.
-    pub(crate) fn numbers_fit(&self)
-        ensures { All (λ u. u.number < 2 ^ 32) (tries_uses self.now) }
-    {
-        let _handlers = &self.handlers;
-    }
-
+impl StoredTries {
     // Puts for each type that is caught the number that it leads to. No memory is taken.
     pub(crate) fn renumber(&mut self, remap: &Remap)
         requires { All (HasTypePlace remap.now) (tries_uses self.old) }
@@ -73,12 +65,23 @@ impl Tries {
         remap.keeps_order();
         renumber_all(&mut self.handlers, remap);
     }
+}
 
-    // Marks each type that is caught. No memory is taken.
-    pub(crate) fn mark(&self, marks: &mut Marks)
-        requires { All (HasMark marks.old) (tries_uses self.now) }
-        ensures { AreMarkedToo (tries_uses self.now) marks.old marks.new }
+impl Tries {
+    // The number of each type that is caught has 32 bits.
+    pub(crate) fn numbers_fit(&self)
+        ensures { All (λ u. u.number < 2 ^ 32) (tries_uses self.now) }
     {
-        mark_handlers(&self.handlers, marks);
+        let (_tries, _handlers) = self.parts();
+    }
+
+    // Puts for each type that is caught the number that it leads to. No memory is taken.
+    pub(crate) fn renumber(&mut self, remap: &Remap)
+        requires { All (HasTypePlace remap.now) (tries_uses self.old) }
+        ensures { self.new ≡ map (renumbered_try remap.now) self.old }
+    {
+        if let Some(stored) = &mut self.stored {
+            stored.renumber(remap);
+        }
     }
 }

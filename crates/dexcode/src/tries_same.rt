@@ -128,13 +128,8 @@ impl Tries {
     pub(crate) fn same_mapped(&self, mine: &Remap, other: &Tries, theirs: &Remap) -> bool
         ensures { IsTrue result ↔ (map (renumbered_try mine.now) self.now ≡ map (renumbered_try theirs.now) other.now) }
     {
-        same_tries(
-            mine,
-            &self.handlers,
-            &self.tries,
-            theirs,
-            &other.handlers,
-            &other.tries,
-        )
+        let (tries, handlers) = self.parts();
+        let (others, other_handlers) = other.parts();
+        same_tries(mine, handlers, tries, theirs, other_handlers, others)
     }
 }

@@ -5,6 +5,7 @@ ghost use Rattle.dexcode.specs.Numbered.{NumberedTry};
 ghost use Rattle.dexcode.specs.Reading.{TryItemsAt, IsTriesFault};
 
 use crate::handler_list::read_list;
+use crate::stored_tries::StoredTries;
 use crate::tries::Tries;
 use crate::try_items::read_try_items;
 use dexhead::Condition;
@@ -33,9 +34,9 @@ pub(crate) fn read_try_table(
     let list_at = at + size;
     let numbers = read_list(alloc, bytes, list_at, starts, types)?;
     let items = read_try_items(alloc, bytes, at, count, units, &numbers)?;
-    let tries = Tries::of(alloc, bytes, at, list_at, &items, starts, types)?;
+    let tries = StoredTries::of(alloc, bytes, at, list_at, &items, starts, types)?;
     match tries {
-        Some(tries) => Ok(tries),
+        Some(tries) => Ok(Tries::of(alloc, tries)?),
         None => Err(ItemFault::Refused(Condition::Tries as u8)),
     }
 }

@@ -1,23 +1,10 @@
-use Rattle.std.proofs.Common.{map, sym, ◌∙◌, ap, subst}
-use Rattle.std.specs.List.{All, flat_map}
-use Rattle.dexcode.specs.Numbered.{AreStored, handlers_of, all_named}
-use Rattle.dexcode.specs.Renumbering.{handler_uses, tries_uses, HasTypePlace, renumbered_try}
-use Rattle.dexpool.proofs.Parts.{all_parts}
-use Rattle.dexcode.proofs.TypesLed.{types_apart, stored_led, named_led}
+use Rattle.std.proofs.Common.{[], ap, sym, subst, ◌∙◌}
+use Rattle.std.specs.List.{All}
+use Rattle.std.specs.Option.{option_map_or}
+use Rattle.dexcode.specs.Renumbering.{tries_uses, HasTypePlace}
 use Rattle.dexcode.proofs.tries.Tries.renumber.Goals as goal
 
-pub renumber_all-requires : goal.renumber_all-requires
-renumber_all-requires c =
-    all_parts (HasTypePlace c.args.remap.now) handler_uses c.self.inside.handlers.items
-    (subst (λ hs. All (HasTypePlace c.args.remap.now) (flat_map handler_uses hs)) (ap handlers_of (sym c.self.view_is) ∙ sym c.self.invariant.used) c.requires)
-
-pub invariant_of-self : goal.invariant_of-self
-invariant_of-self c =
-    subst (λ hs. AreStored hs c.self.inside.tries.items) (sym c.renumber_all.ensures)
-    (stored_led c.args.remap.now c.self.inside.handlers.items c.self.inside.tries.items (types_apart c.args.remap.now c.keeps_order.ensures) (subst (λ ts. All (HasTypePlace c.args.remap.now) (tries_uses ts)) (sym c.self.view_is) c.requires) c.self.invariant)
-
-pub returns : goal.returns
-returns c =
-    ap (λ hs. all_named hs c.self.inside.tries.items) c.renumber_all.ensures
-    ∙ named_led c.args.remap.now c.self.inside.handlers.items c.self.inside.tries.items c.self.invariant.within
-    ∙ ap (map (renumbered_try c.args.remap.now)) c.self.view_is
+pub renumber-requires : goal.renumber-requires
+renumber-requires c =
+    let stored = sym c.self.view_is ∙ ap (λ o. option_map_or (λ b. b.value) o []) c.in-Some.is ∙ sym c.deref_mut.ensures.value in
+    subst (λ ts. All (HasTypePlace c.args.remap.now) (tries_uses ts)) stored c.requires

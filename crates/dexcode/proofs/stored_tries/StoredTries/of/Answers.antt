@@ -13,7 +13,7 @@ use Rattle.dexcode.proofs.HandlersRead.{fault_so}
 use Rattle.dexcode.proofs.Named.{names_more, none_named}
 use Rattle.dexcode.proofs.TryTables.{begins_within}
 use Rattle.dexcode.proofs.Whole.{formed_more}
-use Rattle.dexcode.proofs.tries.Tries.of.Goals as goal
+use Rattle.dexcode.proofs.stored_tries.StoredTries.of.Goals as goal
 
 -- in the place of a try that is not there
 abbrev none : Try

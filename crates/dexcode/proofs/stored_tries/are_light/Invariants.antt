@@ -1,7 +1,7 @@
 use Rattle.std.proofs.Common.{◌≡◌, ◌≤◌, take}
 use Rattle.dexspec.specs.Code.{most_handlers}
 use Rattle.dexcode.specs.Numbered.{handlers_weight}
-use Rattle.dexcode.proofs.tries.are_light.Given as goal
+use Rattle.dexcode.proofs.stored_tries.are_light.Given as goal
 
 abbrev pub invariant-loop-handler : goal.invariant-loop-handler
 invariant-loop-handler l = (l.weight ≡ handlers_weight (take l.handler-index l.handlers)) × (l.weight ≤ most_handlers)

@@ -2,7 +2,7 @@ use Rattle.std.proofs.Common.{◌≡◌, ◌+◌, ◌*◌, List, take}
 use Rattle.dexcode.specs.Numbered.{NumberedHandler}
 use Rattle.dexcode.specs.NamedHandlers.{AreListed}
 use Rattle.dexcode.proofs.Named.{NamedSoFar}
-use Rattle.dexcode.proofs.tries.Tries.of.Given as goal
+use Rattle.dexcode.proofs.stored_tries.StoredTries.of.Given as goal
 
 abbrev pub invariant-loop-item : goal.invariant-loop-item
 invariant-loop-item l = record {

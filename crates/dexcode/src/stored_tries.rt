@@ -1,0 +1,156 @@
+//! Tries and the handlers that they name, as they are stored.
+
+ghost use Rattle.std.specs.Prelude.{◌≡◌, ◌↔◌, ◌^◌, ◌<◌, ◌≤◌, ◌+◌, ◌*◌, IsTrue, List, All, length, IfOk, IfErr, IfSome, IfNone};
+ghost use Rattle.dexspec.specs.Code.{most_handlers};
+ghost use Rattle.dexcode.specs.Numbered.{NumberedHandler, AreStored, all_named, handlers_of, handlers_weight};
+ghost use Rattle.dexcode.specs.NamedHandlers.{AreListed, HaveListed};
+ghost use Rattle.dexcode.specs.Reading.{IsTriesFault};
+
+use crate::handlers::Handler;
+use crate::named_handlers::number_of;
+use crate::tries::Try;
+use dexhead::u16_at;
+use dexinsn::InstructionStarts;
+use dexpool::ItemFault;
+use indexmap::IndexSet;
+use std::alloc::{AllocError, Global};
+use std::marker::Model;
+
+/// Tries, and the handlers that they name, each once and in order of first use. Contracts see tries with their handlers.
+pub(crate) struct StoredTries {
+    /// The tries, each with the number of its handler.
+    pub(crate) tries: Vec<Try>,
+    /// The handlers that they name, each once.
+    pub(crate) handlers: Vec<Handler>,
+}
+
+// So that tries are let go by one call.
+impl Drop for StoredTries {
+    fn drop(self) {
+        let StoredTries {
+            tries: _,
+            handlers: _,
+        } = self;
+    }
+}
+
+impl Model for StoredTries {
+    ghost use Rattle.std.specs.Prelude.{List};
+    ghost use Rattle.dexcode.specs.Numbered.{NumberedTry, AreStored, all_named};
+
+    ghost Value = { List NumberedTry };
+
+    ghost view = { λ t. all_named t.handlers.items t.tries.items };
+
+    ghost invariant = { λ t. AreStored t.handlers.items t.tries.items };
+}
+
+impl StoredTries {
+    // The tries and the handlers.
+    pub(crate) fn parts(&self) -> (&[Try], &[Handler])
+        ensures named { all_named result.1.now result.0.now ≡ self.now }
+        ensures stored { AreStored result.1.now result.0.now }
+    {
+        (&self.tries, &self.handlers)
+    }
+
+    // The same tries, with lists of their own.
+    pub(crate) fn copy(&self) -> Result<StoredTries, AllocError>
+        ensures { IfOk result (λ copy. copy ≡ self.now) }
+    {
+        let tries = Vec::from_slice(*self.tries.allocator(), &self.tries)?;
+        let handlers = copied(&self.handlers)?;
+        Ok(StoredTries { tries, handlers })
+    }
+
+    // Tries with the handlers that their try_items at a place name, or `None` where these weigh more than they may. A
+    // handler that no try names is not kept.
+    pub(crate) fn of(
+        alloc: Global,
+        bytes: &[u8],
+        at: usize,
+        list: usize,
+        tries: &[Try],
+        starts: &InstructionStarts<'_>,
+        types: usize,
+    ) -> Result<Option<StoredTries>, ItemFault>
+        requires listed { HaveListed starts.now types bytes.now at list tries.now }
+        requires room { at + 8 * length tries.now ≤ length bytes.now }
+        requires few { length tries.now < 2 ^ 16 }
+        ensures some { (all : List NumberedHandler) → AreListed starts.now types bytes.now at list all tries.now → IfOk result (λ found. IfSome found (λ some. some ≡ all_named all tries.now)) }
+        ensures light { IfOk result (λ found. IfSome found (λ some. handlers_weight (handlers_of some) ≤ most_handlers)) }
+        ensures heavy { (all : List NumberedHandler) → AreListed starts.now types bytes.now at list all tries.now → IfOk result (λ found. IfNone found (most_handlers < handlers_weight (handlers_of (all_named all tries.now)))) }
+        ensures fault { IfErr result (IsTriesFault ⊥) }
+    {
+        let mut numbers = Vec::new(alloc);
+        let mut handlers = IndexSet::new(alloc);
+        let mut numbered = Vec::with_capacity(alloc, tries.len())?;
+        let mut place = at;
+        for item in tries {
+            let off = u16_at(bytes, place + 6);
+            let handler = number_of(
+                alloc,
+                bytes,
+                list,
+                off,
+                starts,
+                types,
+                &mut handlers,
+                &mut numbers,
+            )?;
+            numbered.push(Try {
+                start_addr: item.start_addr,
+                insn_count: item.insn_count,
+                handler,
+            })?;
+            place += 8;
+        }
+        let handlers = listed_in(alloc, handlers)?;
+        if !are_light(&handlers) {
+            return Ok(None);
+        }
+        Ok(Some(StoredTries {
+            tries: numbered,
+            handlers,
+        }))
+    }
+}
+
+// The most that the handlers of a code_item may weigh.
+const MOST_HANDLERS: usize = 65_535;
+
+// Whether the handlers weigh no more than they may.
+fn are_light(handlers: &[Handler]) -> bool
+    ensures { IsTrue result ↔ (handlers_weight handlers.now ≤ most_handlers) }
+{
+    let mut weight = 5;
+    for handler in handlers {
+        let catches = handler.catches.len();
+        if catches > MOST_HANDLERS {
+            return false;
+        }
+        weight += 10 + 8 * catches;
+        if weight > MOST_HANDLERS {
+            return false;
+        }
+    }
+    true
+}
+
+// The handlers of a set, in its order.
+fn listed_in(alloc: Global, handlers: IndexSet<Handler>) -> Result<Vec<Handler>, AllocError>
+    ensures { IfOk result (λ list. list.items ≡ handlers.keys) }
+{
+    handlers.into_iter().collect(alloc)
+}
+
+// The same handlers in a list of their own.
+fn copied(handlers: &Vec<Handler>) -> Result<Vec<Handler>, AllocError>
+    ensures { IfOk result (λ copy. copy.items ≡ handlers.now.items) }
+{
+    let mut copy = Vec::with_capacity(*handlers.allocator(), handlers.len())?;
+    for handler in handlers {
+        copy.push(handler.copy()?)?;
+    }
+    Ok(copy)
+}

@@ -43,7 +43,9 @@ impl Row for FieldRow {
     }
 
     fn compare(&self, other: &Self) -> Ordering {
-        self.key().cmp(&other.key())
+        let by_class = self.class.cmp(&other.class);
+        let by_name = self.name.cmp(&other.name);
+        by_class.then(by_name.then(self.typ.cmp(&other.typ)))
     }
 
     fn copied(&self) -> Self {

@@ -43,7 +43,9 @@ impl Row for MethodRow {
     }
 
     fn compare(&self, other: &Self) -> Ordering {
-        self.key().cmp(&other.key())
+        let by_class = self.class.cmp(&other.class);
+        let by_name = self.name.cmp(&other.name);
+        by_class.then(by_name.then(self.proto.cmp(&other.proto)))
     }
 
     fn copied(&self) -> Self {

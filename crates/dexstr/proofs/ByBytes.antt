@@ -1,11 +1,11 @@
 -- Texts come in the order of their bytes, with 0xc0 first.
-use Rattle.std.proofs.Common.{◌≡◌, ◌≢◌, ℕ, zero, suc, ◌+◌, ◌/◌, ◌%◌, ◌^◌, ◌<◌, List, [], ◌∷◌, ◌++◌, ◌⊎◌, inl, inr, refl, sym, ◌∙◌, length, drop, min, arith}
+use Rattle.std.proofs.Common.{◌≡◌, ◌≢◌, ℕ, zero, suc, ◌+◌, ◌/◌, ◌%◌, ◌^◌, ◌<◌, List, [], ◌∷◌, ◌++◌, ◌⊎◌, inl, inr, refl, sym, ◌∙◌, length, nat_eq, take, drop, min, true, arith}
 use Rattle.std.proofs.lemmas.Bool.{cases_lt, cases_order, lt-ltb, le-ltb, eq-eqb, ne_eqb}
 use Rattle.std.proofs.lemmas.Bool.Decides.{nat_tests}
-use Rattle.std.proofs.lemmas.List.{append-nil}
+use Rattle.std.proofs.lemmas.List.{append-nil, take-append-drop}
 use Rattle.std.specs.Ordering.{nat_cmp}
 use Rattle.std.specs.declared.cmp.Ordering.TheVariants.{Less, Equal, Greater}
-use Rattle.std.specs.Cmp.Lexicographic.{slice_cmp}
+use Rattle.std.specs.Cmp.Lexicographic.{slice_cmp, pointwise, same_text}
 use Rattle.dexspec.specs.Texts.{form, spelling, AreUnits, text_cmp}
 use Rattle.dexstr.specs.Units.{units_of, IsSpelling}
 use Rattle.dexstr.specs.Order.{place_of, byte_cmp}
@@ -114,7 +114,14 @@ text_cmp-spelling (u ∷ s) (v ∷ t) a b = elim (cases_order u v) [
   | inr (inr lt) ↦ rw (nat_cmp-greater u v lt) (cmp_greater (form v) (form u) (spelling t) (spelling s) (precedes v u lt (a 0 0 (omega arith))))
 ]
 
--- ---- the loop
+-- ---- the loops
+
+-- texts that begin with the same bytes compare as what is after these
+pub after_group : (a b group x other y : List ℕ) → group ≡ take 8 a → x ≡ drop 8 a → other ≡ take 8 b → y ≡ drop 8 b → true ≡ pointwise nat_eq group other → slice_cmp byte_cmp x y ≡ slice_cmp byte_cmp a b
+after_group a b group x other y group_is x_is other_is y_is same =
+    let left : group ++ x ≡ a = (λ i. group_is i ++ x_is i) ∙ take-append-drop 8 a in
+    let right : group ++ y ≡ b = (λ i. (same_text group other same ∙ other_is) i ++ y_is i) ∙ take-append-drop 8 b in
+    sym (cmp_same_front group x y) ∙ (λ i. slice_cmp byte_cmp (left i) (right i))
 
 -- bytes of which none is left on one side compare as the lengths do
 pub ended : (a b : List ℕ) (i : ℕ) → i ≡ min (length a) (length b) → nat_cmp (length a) (length b) ≡ slice_cmp byte_cmp (drop i a) (drop i b)

@@ -5,7 +5,7 @@ ghost use Rattle.std.specs.Cmp.Rules.{comparing};
 ghost use Rattle.std.specs.Cmp.Lexicographic.{slice_cmp, pointwise};
 ghost use Rattle.std.specs.Ordering.{nat_cmp, as_partial_cmp};
 
-use crate::order::place_of;
+use crate::order::{after_common_groups, place_of};
 use crate::units::{Units, count_units};
 use std::cmp::Ordering;
 use std::marker::Model;
@@ -120,8 +120,7 @@ impl Ord for Text<'_> {
 
     // The first bytes that differ decide, and else the shorter text comes first.
     fn cmp(&self, other: &Self) -> Ordering {
-        let left = self.bytes;
-        let right = other.bytes;
+        let (left, right) = after_common_groups(self.bytes, other.bytes);
         for i in 0..left.len().min(right.len()) {
             if left[i] != right[i] {
                 return place_of(left[i]).cmp(&place_of(right[i]));

@@ -43,9 +43,13 @@ impl Row for FieldRow {
     }
 
     fn compare(&self, other: &Self) -> Ordering {
-        let by_class = self.class.cmp(&other.class);
-        let by_name = self.name.cmp(&other.name);
-        by_class.then(by_name.then(self.typ.cmp(&other.typ)))
+        match self.class.cmp(&other.class) {
+            Ordering::Equal => match self.name.cmp(&other.name) {
+                Ordering::Equal => self.typ.cmp(&other.typ),
+                order => order,
+            },
+            order => order,
+        }
     }
 
     fn copied(&self) -> Self {
@@ -54,9 +58,9 @@ impl Row for FieldRow {
 
     fn renumbered(&self, lower: LowerPlaces<'_>, _list: ()) -> Self {
         FieldRow {
-            class: lower.types[self.class],
-            name: lower.strings[self.name],
-            typ: lower.types[self.typ],
+            class: lower.types[self.class] as usize,
+            name: lower.strings[self.name] as usize,
+            typ: lower.types[self.typ] as usize,
         }
     }
 }

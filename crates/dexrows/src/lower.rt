@@ -4,9 +4,9 @@
 #[derive(Clone, Copy)]
 pub struct LowerPlaces<'p> {
     /// The new numbers of texts.
-    pub strings: &'p [usize],
+    pub strings: &'p [u32],
     /// The new numbers of types.
-    pub types: &'p [usize],
+    pub types: &'p [u32],
     /// The new numbers of protos.
-    pub protos: &'p [usize],
+    pub protos: &'p [u32],
 }

@@ -14,9 +14,9 @@ pub(crate) struct Merged<R: Drop> {
     /// The rows of both, each key once, in order.
     pub rows: Vec<R>,
     /// The place of each row of the left one.
-    pub left_places: Vec<usize>,
+    pub left_places: Vec<u32>,
     /// The place of each row of the right one.
-    pub right_places: Vec<usize>,
+    pub right_places: Vec<u32>,
 }
 
 /// Merges two sorted tables in one pass over both.
@@ -67,7 +67,9 @@ fn take_next<R: Row>(
     ensures taken { OnOk result (IsMerging R.key_of left.now right.now merged.new.rows.items merged.new.left_places.items merged.new.right_places.items) }
     ensures more { OnOk result (length merged.old.left_places.items + length merged.old.right_places.items < length merged.new.left_places.items + length merged.new.right_places.items) }
 {
-    let place = merged.rows.len();
+    let Ok(place) = u32::try_from(merged.rows.len()) else {
+        return Err(AllocError);
+    };
     match order {
         Ordering::Less => {
             merged.rows.push(left[merged.left_places.len()].copied())?;

@@ -43,9 +43,13 @@ impl Row for MethodRow {
     }
 
     fn compare(&self, other: &Self) -> Ordering {
-        let by_class = self.class.cmp(&other.class);
-        let by_name = self.name.cmp(&other.name);
-        by_class.then(by_name.then(self.proto.cmp(&other.proto)))
+        match self.class.cmp(&other.class) {
+            Ordering::Equal => match self.name.cmp(&other.name) {
+                Ordering::Equal => self.proto.cmp(&other.proto),
+                order => order,
+            },
+            order => order,
+        }
     }
 
     fn copied(&self) -> Self {
@@ -54,9 +58,9 @@ impl Row for MethodRow {
 
     fn renumbered(&self, lower: LowerPlaces<'_>, _list: ()) -> Self {
         MethodRow {
-            class: lower.types[self.class],
-            name: lower.strings[self.name],
-            proto: lower.protos[self.proto],
+            class: lower.types[self.class] as usize,
+            name: lower.strings[self.name] as usize,
+            proto: lower.protos[self.proto] as usize,
         }
     }
 }

@@ -3,17 +3,17 @@
 ghost use Rattle.std.specs.Prelude.{◌≡◌, ◌<◌, length, map, All, slice_index};
 
 /// Replaces each number by what stands at its place.
-fn compose(image: &mut [usize], places: &[usize])
+fn compose(image: &mut [u32], places: &[u32])
     requires { All (λ place. place < length places.now) image.old }
     ensures { image.new ≡ map (slice_index places.now) image.old }
 {
     for i in 0..image.len() {
-        image[i] = places[image[i]];
+        image[i] = places[image[i] as usize];
     }
 }
 
 /// Replaces each number of each image by what stands at its place.
-pub(crate) fn compose_all(images: &mut [Vec<usize>], places: &[usize])
+pub(crate) fn compose_all(images: &mut [Vec<u32>], places: &[u32])
     requires { All (λ image. All (λ place. place < length places.now) image.items) images.old }
     ensures { map (λ image. image.items) images.new ≡ map (map (slice_index places.now)) (map (λ image. image.items) images.old) }
 {

@@ -108,8 +108,8 @@ impl<'p> Row for ProtoRow<'p> {
 
     fn renumbered(&self, lower: LowerPlaces<'_>, list: &'p [usize]) -> Self {
         ProtoRow {
-            shorty: lower.strings[self.shorty],
-            return_type: lower.types[self.return_type],
+            shorty: lower.strings[self.shorty] as usize,
+            return_type: lower.types[self.return_type] as usize,
             parameters: TypeNumbers::words(list),
         }
     }

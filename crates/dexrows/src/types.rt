@@ -48,7 +48,7 @@ impl Row for TypeRow {
 
     fn renumbered(&self, lower: LowerPlaces<'_>, _list: ()) -> Self {
         TypeRow {
-            descriptor: lower.strings[self.descriptor],
+            descriptor: lower.strings[self.descriptor] as usize,
         }
     }
 }

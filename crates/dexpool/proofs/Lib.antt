@@ -39,3 +39,4 @@ pub mod KeptNumbers
 pub mod FileLists
 pub mod ListedPlaces
 pub mod SpelledLists
+pub mod StoredImages

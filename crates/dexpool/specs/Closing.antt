@@ -98,11 +98,11 @@ pub record AreKept (t : Tables) (marks : Marks) (cut : Tables) (maps : Maps) : T
   pub symbols_are : symbols_in cut ≡ kept_symbols marks (symbols_in t)
   pub maps_are : maps ≡ kept_places marks
 
--- the number that there is, or 0
+-- the number that there is, or 2^32 - 1
 abbrev pub number_or_none : Option ℕ → ℕ
-number_or_none o = unwrap_or o 0
+number_or_none o = unwrap_or o 0xffffffff
 
--- the new numbers of rows, and 0 for those that are not kept
+-- the new numbers of rows, and 2^32 - 1 for those that are not kept
 abbrev pub new_numbers : List Bool → List ℕ
 new_numbers marks = map number_or_none (places 0 marks)
 

@@ -14,6 +14,7 @@ pub mod Laws
 pub mod Orderly
 pub mod Uses
 pub mod Images
+pub mod Packed
 pub mod Lists
 pub mod Judged
 pub mod SharedLists

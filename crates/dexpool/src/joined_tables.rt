@@ -10,6 +10,7 @@ ghost use Rattle.dexpool.specs.Renumbering.{numbers_in, HasSpans};
 ghost use Rattle.dexpool.specs.Joining.{StandFor, proto_of_row, proto_key, IsRowOf, AreJoinedTexts, AreJoinedTypes, AreJoinedProtos, AreJoinedFields, AreJoinedMethods, AreMapsOf};
 ghost use Rattle.dexpool.specs.Stored.{symbols_in, AreTables};
 
+use crate::images::Images;
 use crate::lists::Parameters;
 use crate::numbering::Numbering;
 use crate::protos::Protos;
@@ -27,14 +28,14 @@ use std::alloc::{AllocError, Global};
 #[derive(Drop)]
 struct JoinedTypes {
     numbers: Vec<usize>,
-    images: Vec<Vec<usize>>,
+    images: Vec<Vec<u32>>,
 }
 
 /// The protos of all parts.
 #[derive(Drop)]
 struct JoinedProtos {
     table: Protos,
-    images: Vec<Vec<usize>>,
+    images: Vec<Vec<u32>>,
 }
 
 /// The symbols of all parts in one numbering's tables, and for each part where its numbers lead.
@@ -254,11 +255,11 @@ fn slices_of<R: Row>(alloc: Global, parts: &[Vec<R>]) -> Result<Vec<&[R]>, Alloc
 // For each part the map of its images.
 fn remaps(
     alloc: Global,
-    strings: &[Vec<usize>],
-    types: &[Vec<usize>],
-    protos: &[Vec<usize>],
-    fields: &[Vec<usize>],
-    methods: &[Vec<usize>],
+    strings: &[Vec<u32>],
+    types: &[Vec<u32>],
+    protos: &[Vec<u32>],
+    fields: &[Vec<u32>],
+    methods: &[Vec<u32>],
 ) -> Result<Vec<Remap>, AllocError>
     requires types { length types.now ≡ length strings.now }
     requires protos { length protos.now ≡ length strings.now }
@@ -288,11 +289,11 @@ fn remaps(
 // The map of a part's images.
 fn remap(
     alloc: Global,
-    strings: &[usize],
-    types: &[usize],
-    protos: &[usize],
-    fields: &[usize],
-    methods: &[usize],
+    strings: &[u32],
+    types: &[u32],
+    protos: &[u32],
+    fields: &[u32],
+    methods: &[u32],
 ) -> Result<Remap, AllocError>
     requires strings_keep { KeepsOrder (map Some strings.now) }
     requires types_keep { KeepsOrder (map Some types.now) }
@@ -311,12 +312,12 @@ fn remap(
 }
 
 // The map that leads each number to its image.
-fn total(alloc: Global, image: &[usize]) -> Result<Vec<Option<usize>>, AllocError>
-    ensures { IfOk result (λ images. images.items ≡ map Some image.now) }
+fn total(alloc: Global, image: &[u32]) -> Result<Images, AllocError>
+    ensures { IfOk result (λ images. images ≡ map Some image.now) }
 {
-    let mut images = Vec::with_capacity(alloc, image.len())?;
+    let mut images = Images::with_capacity(alloc, image.len())?;
     for place in image {
-        images.push(Some(*place))?;
+        images.push_image(*place)?;
     }
     Ok(images)
 }

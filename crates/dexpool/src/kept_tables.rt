@@ -6,8 +6,9 @@ ghost use Rattle.dexrows.specs.Cut.{kept, places};
 ghost use Rattle.dexpool.specs.Numberings.{AreMarksOf};
 ghost use Rattle.dexpool.specs.Stored.{symbols_in, AreTables};
 ghost use Rattle.dexpool.specs.Renumbering.{HasSpans, numbers_in, moved_proto, moved_field, moved_method};
-ghost use Rattle.dexpool.specs.Closing.{AreClosed, AreKept, IsCut, kept_places, new_numbers, number_or_none};
+ghost use Rattle.dexpool.specs.Closing.{AreClosed, AreKept, IsCut, kept_places};
 
+use crate::images::Images;
 use crate::lists::Parameters;
 use crate::marks::Marks;
 use crate::protos::Protos;
@@ -16,17 +17,9 @@ use crate::renumbering::{
     images_of, renumbered_fields, renumbered_methods, renumbered_protos, sorted_law,
 };
 use crate::tables::Tables;
-use dexrows::{FieldRow, MethodRow, ProtoRow, TypeRow, cut};
+use dexrows::{FieldRow, LowerPlaces, MethodRow, ProtoRow, TypeRow};
 use dexstr::Text;
 use std::alloc::{AllocError, Global};
-
-/// The new numbers of the rows that other rows name, and 0 for those that are not kept.
-#[derive(Drop)]
-struct LowerNumbers {
-    strings: Vec<usize>,
-    types: Vec<usize>,
-    protos: Vec<usize>,
-}
 
 /// The marked rows, where what a marked row names is marked; and where each number leads.
 ///
@@ -41,10 +34,8 @@ pub(crate) fn keep_marked<'a>(
     requires closed { AreClosed tables.now marks.now }
     ensures { IfOk result (λ cut. AreKept tables.now marks.now cut.0 cut.1) }
 {
-    let strings = cut(alloc, &tables.strings, &marks.strings)?;
-    let remap = kept_remap(alloc, strings.images, marks)?;
-    let lower = lower_numbers(alloc, &remap)?;
-    let kept = kept_rows(alloc, strings.rows, tables, marks, &lower)?;
+    let remap = kept_remap(alloc, marks)?;
+    let kept = kept_rows(alloc, tables, marks, &remap)?;
     sorted_law::<TypeRow>();
     sorted_law::<ProtoRow<'_>>();
     sorted_law::<FieldRow>();
@@ -52,17 +43,12 @@ pub(crate) fn keep_marked<'a>(
     Ok((kept, remap))
 }
 
-// Where each number leads, of whose texts that is known.
-fn kept_remap(
-    alloc: Global,
-    strings: Vec<Option<usize>>,
-    marks: &Marks,
-) -> Result<Remap, AllocError>
-    requires { strings.items ≡ places 0 marks.now.strings.items }
+// Where each number leads.
+fn kept_remap(alloc: Global, marks: &Marks) -> Result<Remap, AllocError>
     ensures { IfOk result (λ remap. remap ≡ kept_places marks.now) }
 {
     Ok(Remap {
-        strings,
+        strings: places_of(alloc, &marks.strings)?,
         types: places_of(alloc, &marks.types)?,
         protos: places_of(alloc, &marks.protos)?,
         fields: places_of(alloc, &marks.fields)?,
@@ -70,41 +56,27 @@ fn kept_remap(
     })
 }
 
-// The new numbers of texts, types and protos.
-fn lower_numbers(alloc: Global, remap: &Remap) -> Result<LowerNumbers, AllocError>
-    ensures strings { IfOk result (λ lower. lower.strings.items ≡ map number_or_none remap.now.texts) }
-    ensures types { IfOk result (λ lower. lower.types.items ≡ map number_or_none remap.now.types) }
-    ensures protos { IfOk result (λ lower. lower.protos.items ≡ map number_or_none remap.now.protos) }
-{
-    let strings = numbers(alloc, &remap.strings)?;
-    let types = numbers(alloc, &remap.types)?;
-    let protos = numbers(alloc, &remap.protos)?;
-    Ok(LowerNumbers {
-        strings,
-        types,
-        protos,
-    })
-}
-
-// The tables of these texts and of the other marked rows.
+// The tables of the marked rows, by their new numbers.
 fn kept_rows<'a>(
     alloc: Global,
-    strings: Vec<Text<'a>>,
     tables: &Tables<'a>,
     marks: &Marks,
-    lower: &LowerNumbers,
+    remap: &Remap,
 ) -> Result<Tables<'a>, AllocError>
-    requires strings { strings.items ≡ kept marks.now.strings.items tables.now.strings.items }
     requires tables { AreTables tables.now }
     requires marks { AreMarksOf (symbols_in tables.now) marks.now }
-    requires lower_strings { lower.now.strings.items ≡ new_numbers marks.now.strings.items }
-    requires lower_types { lower.now.types.items ≡ new_numbers marks.now.types.items }
-    requires lower_protos { lower.now.protos.items ≡ new_numbers marks.now.protos.items }
+    requires remap { remap.now ≡ kept_places marks.now }
     ensures { IfOk result (IsCut tables.now marks.now) }
 {
-    let types = kept_types(alloc, tables, &marks.types, &lower.strings)?;
-    let protos = kept_protos(alloc, tables, &marks.protos, &lower.strings, &lower.types)?;
-    let fields = kept_fields(alloc, tables, &marks.fields, &lower.strings, &lower.types)?;
+    let lower = LowerPlaces {
+        strings: remap.strings.numbers(),
+        types: remap.types.numbers(),
+        protos: remap.protos.numbers(),
+    };
+    let strings = kept_strings(alloc, &tables.strings, &marks.strings)?;
+    let types = kept_types(alloc, tables, &marks.types, lower.strings)?;
+    let protos = kept_protos(alloc, tables, &marks.protos, lower.strings, lower.types)?;
+    let fields = kept_fields(alloc, tables, &marks.fields, lower.strings, lower.types)?;
     let methods = kept_methods(alloc, tables, &marks.methods, lower)?;
     Ok(Tables {
         strings,
@@ -116,12 +88,30 @@ fn kept_rows<'a>(
     })
 }
 
+// The marked texts.
+fn kept_strings<'a>(
+    alloc: Global,
+    strings: &[Text<'a>],
+    marks: &[bool],
+) -> Result<Vec<Text<'a>>, AllocError>
+    requires { length marks.now ≡ length strings.now }
+    ensures { IfOk result (λ left. left.items ≡ kept marks.now strings.now) }
+{
+    let mut left = Vec::new(alloc);
+    for i in 0..strings.len() {
+        if marks[i] {
+            left.push(strings[i].clone())?;
+        }
+    }
+    Ok(left)
+}
+
 // The marked types.
 fn kept_types(
     alloc: Global,
     tables: &Tables<'_>,
     marks: &[bool],
-    strings: &[usize],
+    strings: &[u32],
 ) -> Result<Vec<usize>, AllocError>
     requires tables { AreTables tables.now }
     requires marks { length marks.now ≡ length tables.now.types.items }
@@ -137,8 +127,8 @@ fn kept_protos(
     alloc: Global,
     tables: &Tables<'_>,
     marks: &[bool],
-    strings: &[usize],
-    types: &[usize],
+    strings: &[u32],
+    types: &[u32],
 ) -> Result<Protos, AllocError>
     requires tables { AreTables tables.now }
     requires marks { length marks.now ≡ length tables.now.protos.items }
@@ -156,8 +146,8 @@ fn kept_fields(
     alloc: Global,
     tables: &Tables<'_>,
     marks: &[bool],
-    strings: &[usize],
-    types: &[usize],
+    strings: &[u32],
+    types: &[u32],
 ) -> Result<Vec<FieldRow>, AllocError>
     requires tables { AreTables tables.now }
     requires marks { length marks.now ≡ length tables.now.fields.items }
@@ -174,17 +164,17 @@ fn kept_methods(
     alloc: Global,
     tables: &Tables<'_>,
     marks: &[bool],
-    lower: &LowerNumbers,
+    lower: LowerPlaces<'_>,
 ) -> Result<Vec<MethodRow>, AllocError>
     requires tables { AreTables tables.now }
     requires marks { length marks.now ≡ length tables.now.methods.items }
-    requires strings { length lower.now.strings.items ≡ length tables.now.strings.items }
-    requires types { length lower.now.types.items ≡ length tables.now.types.items }
-    requires protos { length lower.now.protos.items ≡ length tables.now.protos.items }
-    ensures { IfOk result (λ methods. methods.items ≡ map (moved_method lower.now.strings.items lower.now.types.items lower.now.protos.items) (kept marks.now tables.now.methods.items)) }
+    requires strings { length lower.strings.now ≡ length tables.now.strings.items }
+    requires types { length lower.types.now ≡ length tables.now.types.items }
+    requires protos { length lower.protos.now ≡ length tables.now.protos.items }
+    ensures { IfOk result (λ methods. methods.items ≡ map (moved_method lower.entry.strings.now lower.entry.types.now lower.entry.protos.now) (kept marks.now tables.now.methods.items)) }
 {
     let rows = marked(alloc, &tables.methods, marks)?;
-    renumbered_methods(alloc, &rows, &lower.strings, &lower.types, &lower.protos)
+    renumbered_methods(alloc, &rows, lower.strings, lower.types, lower.protos)
 }
 
 // The rows that are marked.
@@ -202,29 +192,18 @@ fn marked<T: Copy>(alloc: Global, rows: &[T], marks: &[bool]) -> Result<Vec<T>, 
 }
 
 // The place of each row among the marked ones, if it is one.
-fn places_of(alloc: Global, marks: &[bool]) -> Result<Vec<Option<usize>>, AllocError>
-    ensures { IfOk result (λ images. images.items ≡ places 0 marks.now) }
+fn places_of(alloc: Global, marks: &[bool]) -> Result<Images, AllocError>
+    ensures { IfOk result (λ images. images ≡ places 0 marks.now) }
 {
-    let mut images = Vec::with_capacity(alloc, marks.len())?;
-    let mut count: usize = 0;
+    let mut images = Images::with_capacity(alloc, marks.len())?;
+    let mut count: u32 = 0;
     for is_marked in marks {
         if *is_marked {
-            images.push(Some(count))?;
+            images.push_image(count)?;
             count += 1;
         } else {
-            images.push(None)?;
+            images.push_none()?;
         }
     }
     Ok(images)
-}
-
-// The place of each row that has one, and 0 for the others.
-fn numbers(alloc: Global, images: &[Option<usize>]) -> Result<Vec<usize>, AllocError>
-    ensures { IfOk result (λ numbers. numbers.items ≡ map number_or_none images.now) }
-{
-    let mut numbers = Vec::with_capacity(alloc, images.len())?;
-    for image in images {
-        numbers.push(image.unwrap_or(0))?;
-    }
-    Ok(numbers)
 }

@@ -8,6 +8,7 @@
 mod closing;
 mod faults;
 mod fields;
+mod images;
 mod joined_tables;
 mod joining;
 mod judged;

@@ -1,9 +1,10 @@
 //! Maps from the numbers of one numbering to those of another.
 
-ghost use Rattle.std.specs.Prelude.{◌≡◌, []};
+ghost use Rattle.std.specs.Prelude.{◌≡◌, [], unwrap_or};
 ghost use Rattle.dexpool.specs.Numberings.{image_of};
 ghost use Rattle.dexpool.specs.Orderly.{KeepOrder};
 
+use crate::images::Images;
 use crate::symbols::SymbolKind;
 use std::alloc::Global;
 use std::marker::Model;
@@ -11,11 +12,11 @@ use std::marker::Model;
 /// For each number of a numbering the number of the same symbol in another one, if it is there. Numbers keep their
 /// order. Contracts see five lists.
 pub struct Remap {
-    pub(crate) strings: Vec<Option<usize>>,
-    pub(crate) types: Vec<Option<usize>>,
-    pub(crate) protos: Vec<Option<usize>>,
-    pub(crate) fields: Vec<Option<usize>>,
-    pub(crate) methods: Vec<Option<usize>>,
+    pub(crate) strings: Images,
+    pub(crate) types: Images,
+    pub(crate) protos: Images,
+    pub(crate) fields: Images,
+    pub(crate) methods: Images,
 }
 
 // So that a value is let go by one call.
@@ -37,9 +38,9 @@ impl Model for Remap {
 
     ghost Value = { Maps };
 
-    ghost view = { λ r. record { texts = r.strings.items; types = r.types.items; protos = r.protos.items; fields = r.fields.items; methods = r.methods.items } };
+    ghost view = { λ r. record { texts = r.strings; types = r.types; protos = r.protos; fields = r.fields; methods = r.methods } };
 
-    ghost invariant = { λ r. KeepOrder (record { texts = r.strings.items; types = r.types.items; protos = r.protos.items; fields = r.fields.items; methods = r.methods.items }) };
+    ghost invariant = { λ r. KeepOrder (record { texts = r.strings; types = r.types; protos = r.protos; fields = r.fields; methods = r.methods }) };
 }
 
 impl Remap {
@@ -48,11 +49,11 @@ impl Remap {
         ensures { result ≡ record { texts = []; types = []; protos = []; fields = []; methods = [] } }
     {
         Remap {
-            strings: Vec::new(alloc),
-            types: Vec::new(alloc),
-            protos: Vec::new(alloc),
-            fields: Vec::new(alloc),
-            methods: Vec::new(alloc),
+            strings: Images::none(alloc),
+            types: Images::none(alloc),
+            protos: Images::none(alloc),
+            fields: Images::none(alloc),
+            methods: Images::none(alloc),
         }
     }
 
@@ -76,6 +77,13 @@ impl Remap {
             SymbolKind::Field => &self.fields,
             SymbolKind::Method => &self.methods,
         };
-        if i < images.len() { images[i] } else { None }
+        images.get(i)
+    }
+
+    /// Where a number leads, or the number itself where it leads nowhere. No memory is taken.
+    pub fn or_same(&self, kind: SymbolKind, i: usize) -> usize
+        ensures { result ≡ unwrap_or (image_of self.now kind i) i }
+    {
+        self.image(kind, i).unwrap_or(i)
     }
 }

@@ -15,7 +15,7 @@ use std::alloc::{AllocError, Global};
 pub(crate) fn renumbered_types(
     alloc: Global,
     types: &[usize],
-    strings: &[usize],
+    strings: &[u32],
 ) -> Result<Vec<TypeRow>, AllocError>
     requires { All (λ n. n < length strings.now) types.now }
     ensures { IfOk result (λ rows. rows.items ≡ map (moved_type strings.now) types.now) }
@@ -23,7 +23,7 @@ pub(crate) fn renumbered_types(
     let mut rows = Vec::with_capacity(alloc, types.len())?;
     for n in types {
         rows.push(TypeRow {
-            descriptor: strings[*n],
+            descriptor: strings[*n] as usize,
         })?;
     }
     Ok(rows)
@@ -33,14 +33,14 @@ pub(crate) fn renumbered_types(
 pub(crate) fn images_of(
     alloc: Global,
     numbers: &[usize],
-    images: &[usize],
+    images: &[u32],
 ) -> Result<Vec<usize>, AllocError>
     requires { All (λ n. n < length images.now) numbers.now }
     ensures { IfOk result (λ found. found.items ≡ map (slice_index images.now) numbers.now) }
 {
     let mut found = Vec::with_capacity(alloc, numbers.len())?;
     for n in numbers {
-        found.push(images[*n])?;
+        found.push(images[*n] as usize)?;
     }
     Ok(found)
 }
@@ -59,14 +59,14 @@ pub(crate) fn descriptors(alloc: Global, rows: &[TypeRow]) -> Result<Vec<usize>,
 // Appends the images of numbers.
 fn push_images(
     numbers: &TypeNumbers<'_>,
-    images: &[usize],
+    images: &[u32],
     to: &mut Vec<usize>,
 ) -> Result<(), AllocError>
     requires { All (λ n. n < length images.now) numbers.now }
     ensures { OnOk result (to.new.items ≡ to.old.items ++ map (slice_index images.now) numbers.now) }
 {
     for i in 0..numbers.len() {
-        to.push(images[numbers.at(i)])?;
+        to.push(images[numbers.at(i)] as usize)?;
     }
     Ok(())
 }
@@ -79,8 +79,8 @@ pub(crate) fn renumbered_protos(
     alloc: Global,
     protos: &[ProtoEntry],
     parameters: &Parameters<'_>,
-    strings: &[usize],
-    types: &[usize],
+    strings: &[u32],
+    types: &[u32],
 ) -> Result<Protos, AllocError>
     requires { All (IsEntryWithin (length strings.now) (length types.now) parameters.now) protos.now }
     ensures spans { IfOk result HasSpans }
@@ -96,8 +96,8 @@ pub(crate) fn renumbered_protos(
         let start = moved.len();
         push_images(&parameters.part(entry.parameters), types, &mut moved)?;
         rows.push(ProtoEntry {
-            shorty: strings[entry.shorty],
-            return_type: types[entry.return_type],
+            shorty: strings[entry.shorty] as usize,
+            return_type: types[entry.return_type] as usize,
             parameters: Span {
                 start,
                 end: moved.len(),
@@ -182,8 +182,8 @@ fn renumbered_rows<R: Row<List = ()>>(
 pub(crate) fn renumbered_fields(
     alloc: Global,
     fields: &[FieldRow],
-    strings: &[usize],
-    types: &[usize],
+    strings: &[u32],
+    types: &[u32],
 ) -> Result<Vec<FieldRow>, AllocError>
     requires { All (IsFieldWithin (length strings.now) (length types.now)) fields.now }
     ensures { IfOk result (λ rows. rows.items ≡ map (moved_field strings.now types.now) fields.now) }
@@ -200,9 +200,9 @@ pub(crate) fn renumbered_fields(
 pub(crate) fn renumbered_methods(
     alloc: Global,
     methods: &[MethodRow],
-    strings: &[usize],
-    types: &[usize],
-    protos: &[usize],
+    strings: &[u32],
+    types: &[u32],
+    protos: &[u32],
 ) -> Result<Vec<MethodRow>, AllocError>
     requires { All (IsMethodWithin (length strings.now) (length types.now) (length protos.now)) methods.now }
     ensures { IfOk result (λ rows. rows.items ≡ map (moved_method strings.now types.now protos.now) methods.now) }

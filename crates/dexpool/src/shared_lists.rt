@@ -69,13 +69,13 @@ fn place_within(range: Span, part: Span) -> Span
 fn images_or_none(
     alloc: Global,
     numbers: &TypeNumbers<'_>,
-    images: &[usize],
+    images: &[u32],
 ) -> Result<Vec<usize>, AllocError>
     ensures { IfOk result (λ found. found.items ≡ map (slice_index images.now) numbers.now) }
 {
     let mut found = Vec::with_capacity(alloc, numbers.len())?;
     for i in 0..numbers.len() {
-        found.push(images.get(numbers.at(i)).copied().unwrap_or(0))?;
+        found.push(images.get(numbers.at(i)).copied().unwrap_or(0) as usize)?;
     }
     Ok(found)
 }
@@ -90,8 +90,8 @@ pub(crate) fn renumbered_together(
     protos: &[ProtoEntry],
     parameters: &Parameters<'_>,
     range: Span,
-    strings: &[usize],
-    types: &[usize],
+    strings: &[u32],
+    types: &[u32],
 ) -> Result<Protos, AllocError>
     requires protos { All (IsEntryWithin (length strings.now) (length types.now) parameters.now) protos.now }
     requires range { HasSpan parameters.now range }
@@ -103,8 +103,8 @@ pub(crate) fn renumbered_together(
     let mut rows = Vec::with_capacity(alloc, protos.len())?;
     for entry in protos {
         rows.push(ProtoEntry {
-            shorty: strings[entry.shorty],
-            return_type: types[entry.return_type],
+            shorty: strings[entry.shorty] as usize,
+            return_type: types[entry.return_type] as usize,
             parameters: place_within(range, entry.parameters),
         })?;
     }

@@ -41,7 +41,7 @@ fn rows_are_ordered_by_their_keys(rt: HostRuntime) {
 }
 
 // Joins two tables of texts, and returns the number of rows and the images of both tables.
-fn joined_texts(alloc: Global) -> Option<(usize, Vec<Vec<usize>>)> {
+fn joined_texts(alloc: Global) -> Option<(usize, Vec<Vec<u32>>)> {
     let (a, b) = (
         Text::read(b"\x01a\0", 0).ok()?.0,
         Text::read(b"\x01b\0", 0).ok()?.0,

@@ -1,6 +1,6 @@
-use Rattle.std.proofs.Common.{◌+◌, false, arith, refl}
+use Rattle.std.proofs.Common.{◌+◌, false, refl}
 use Rattle.dexrows.proofs.CutRows.{places_if, places_else}
-use Rattle.dexpool.proofs.kept_tables.places_of.Goals.{then-is_marked+in_ok-push, else-is_marked+in_ok-push-2}
+use Rattle.dexpool.proofs.kept_tables.places_of.Goals.{then-is_marked+in_ok-push_image, else-is_marked+in_ok-push_none}
 use Rattle.dexpool.proofs.kept_tables.places_of.Goals as goal
 
 pub loop-is_marked-preserved : goal.loop-is_marked-preserved
@@ -8,15 +8,9 @@ loop-is_marked-preserved c =
     let marks = c.args.marks.now in
     let i = c.loop-is_marked.is_marked-index in
     let n = c.loop-is_marked.count in
-    let so_far = c.loop-is_marked.images.items in
+    let so_far = c.loop-is_marked.images in
     let lt = c.loop-is_marked-test.true in
     elim c.if-is_marked.branch [
-      | then-is_marked+in_ok-push w ↦ rw (w.images-is, w.count-is) (record {
-        bound = omega (arith, c.loop-is_marked.invariant.bound);
-        places = places_if marks i n (n + 1) false so_far w.push.new.self.items lt w.if-is_marked.true refl w.in_ok-push.ensures.items c.loop-is_marked.invariant.places;
-      })
-      | else-is_marked+in_ok-push-2 w ↦ rw (w.images-is, w.count-is) (record {
-        bound = omega (arith, c.loop-is_marked.invariant.bound);
-        places = places_else marks i n false so_far w.push-else-is_marked.new.self.items lt w.if-is_marked.false w.in_ok-push-2.ensures.items c.loop-is_marked.invariant.places;
-      })
+      | then-is_marked+in_ok-push_image w ↦ rw (w.images-is, w.count-is) (places_if marks i n (n + 1) false so_far w.push_image.new.self lt w.if-is_marked.true refl w.in_ok-push_image.ensures.image c.loop-is_marked.invariant)
+      | else-is_marked+in_ok-push_none w ↦ rw (w.images-is, w.count-is) (places_else marks i n false so_far w.push_none.new.self lt w.if-is_marked.false w.in_ok-push_none.ensures c.loop-is_marked.invariant)
     ]

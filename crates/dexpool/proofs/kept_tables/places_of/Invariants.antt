@@ -1,9 +1,6 @@
-use Rattle.std.proofs.Common.{◌≡◌, ◌≤◌, ◌++◌, drop}
+use Rattle.std.proofs.Common.{◌≡◌, ◌++◌, drop}
 use Rattle.dexrows.specs.Cut.{places}
 use Rattle.dexpool.proofs.kept_tables.places_of.Given as goal
 
 abbrev pub invariant-loop-is_marked : goal.invariant-loop-is_marked
-invariant-loop-is_marked l = record {
-  bound : l.count ≤ l.is_marked-index;
-  places : l.images.items ++ places l.count (drop l.is_marked-index l.marks) ≡ places 0 l.marks;
-}
+invariant-loop-is_marked l = l.images ++ places l.count (drop l.is_marked-index l.marks) ≡ places 0 l.marks

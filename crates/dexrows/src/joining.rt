@@ -22,7 +22,7 @@ pub struct Joined<R: Drop> {
 /// in all, it compares some n times log k rows, and sorts nothing.
 ///
 /// Condition: each part rises strictly by its keys. Error: the memory for the rows and their places, a few
-/// words for each row of a part, was refused, or there are more than 2^32 rows.
+/// words for each row of a part, was refused, or the parts have 2^32 rows or more.
 pub fn join<R: Row>(alloc: Global, parts: &[&[R]]) -> Result<Joined<R>, AllocError>
     requires { All (λ part. AreSorted R.key_of part.now) parts.now }
     ensures { IfOk result (λ joined. IsJoin R.key_of (map (λ part. part.now) parts.now) joined.rows.items (map (λ image. image.items) joined.images.items)) }

@@ -1,6 +1,6 @@
 //! Two sorted tables merged.
 
-ghost use Rattle.std.specs.Prelude.{◌≡◌, ◌≤◌, ◌<◌, ◌+◌, length, IfOk, OnOk, MatchOption};
+ghost use Rattle.std.specs.Prelude.{◌≡◌, ◌≤◌, ◌<◌, ◌+◌, ◌^◌, length, IfOk, OnOk, MatchOption};
 ghost use Rattle.dexrows.specs.Join.{AreSorted};
 ghost use Rattle.dexrows.specs.Merge.{IsMerge, IsMerging, IsNext};
 
@@ -25,6 +25,9 @@ pub(crate) fn merge<R: Row>(alloc: Global, left: &[R], right: &[R]) -> Result<Me
     requires right_sorted { AreSorted R.key_of right.now }
     ensures { IfOk result (λ merged. IsMerge R.key_of left.now right.now merged.rows.items merged.left_places.items merged.right_places.items) }
 {
+    if left.len().saturating_add(right.len()) > u32::MAX as usize {
+        return Err(AllocError);
+    }
     let mut merged = Merged {
         rows: Vec::with_capacity(alloc, left.len().max(right.len()))?,
         left_places: Vec::with_capacity(alloc, left.len())?,
@@ -64,12 +67,12 @@ fn take_next<R: Row>(
     requires right_sorted { AreSorted R.key_of right.now }
     requires so_far { IsMerging R.key_of left.now right.now merged.old.rows.items merged.old.left_places.items merged.old.right_places.items }
     requires next { IsNext R.key_of left.now (length merged.old.left_places.items) right.now (length merged.old.right_places.items) order }
+    requires few { length merged.old.rows.items < 2 ^ 32 }
+    ensures rows { OnOk result (length merged.new.rows.items ≡ length merged.old.rows.items + 1) }
     ensures taken { OnOk result (IsMerging R.key_of left.now right.now merged.new.rows.items merged.new.left_places.items merged.new.right_places.items) }
     ensures more { OnOk result (length merged.old.left_places.items + length merged.old.right_places.items < length merged.new.left_places.items + length merged.new.right_places.items) }
 {
-    let Ok(place) = u32::try_from(merged.rows.len()) else {
-        return Err(AllocError);
-    };
+    let place = merged.rows.len() as u32;
     match order {
         Ordering::Less => {
             merged.rows.push(left[merged.left_places.len()].copied())?;

@@ -22,7 +22,7 @@ pub struct Code<'a> {
     pub(crate) debug: Option<Box<Debug>>,
 }
 
-// So that code is let go by one call, in the crates above too.
+// So that code is dropped by one call, in the crates above too.
 impl Drop for Code<'_> {
     fn drop(self) {
         let Code {

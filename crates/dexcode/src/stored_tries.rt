@@ -24,7 +24,7 @@ pub(crate) struct StoredTries {
     pub(crate) handlers: Vec<Handler>,
 }
 
-// So that tries are let go by one call.
+// So that tries are dropped by one call.
 impl Drop for StoredTries {
     fn drop(self) {
         let StoredTries {

@@ -31,7 +31,7 @@ pub struct Tries {
     pub(crate) stored: Option<Box<StoredTries>>,
 }
 
-// So that tries are let go by one call.
+// So that tries are dropped by one call.
 impl Drop for Tries {
     fn drop(self) {
         let Tries { stored: _ } = self;

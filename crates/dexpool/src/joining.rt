@@ -15,7 +15,7 @@ impl<'a> Numbering<'a> {
     /// somewhere for each of them. Of k parts with n symbols in all it compares some n times log k rows, and
     /// sorts nothing.
     ///
-    /// Error: the memory for the tables and the maps was refused, or there are 2^32 symbols of a kind or more.
+    /// Error: the memory for the tables and the maps was refused, or the parts have 2^32 symbols of a kind or more.
     ///
     /// Source: this project's rule; the orders are those of "string_id_item", "type_id_item", "proto_id_item",
     /// "field_id_item" and "method_id_item".

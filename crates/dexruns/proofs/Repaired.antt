@@ -1,17 +1,14 @@
 -- A repaired file differs from the file in its two sums alone.
 use Rattle.std.proofs.Common.{◌≡◌, ℕ, ◌+◌, ◌≤◌, Bool, true, false, if◌then◌else◌, nat_lt, List, ◌++◌, length, take, drop, refl, sym, ap, subst, ◌∙◌, arith, length-append, length-take-le}
-use Rattle.std.proofs.lemmas.Bool.{ltb-false}
+use Rattle.std.proofs.lemmas.Bool.{ltb-false, ltb-true}
 use Rattle.std.proofs.lemmas.List.{take_at, drop_at, length-drop}
-use Rattle.std.proofs.Math.Seq.{drop-append-add}
 use Rattle.dexspec.specs.Accepted.{IsAccepted}
 use Rattle.dexspec.proofs.ByteNumbers.{length-uint}
 use Rattle.dexspec.proofs.Sums.{length-sha1}
+use Rattle.dexspec.specs.Header.{HasChecksum, HasSignature}
 use Rattle.dexhead.specs.Sums.{signed, with_sums_set}
+use Rattle.dexhead.proofs.Overwritten.{drop_after, has_checksum_set, has_signature_set}
 use Rattle.dexruns.specs.Repairs.{repaired, AreEqualButForSums}
-
--- the rest after a part and so many more
-drop_after : (part rest : List ℕ) (n m : ℕ) → length part ≡ n → drop (n + m) (part ++ rest) ≡ drop m rest
-drop_after part rest n m e = ap (λ k. drop (k + m) (part ++ rest)) (sym e) ∙ drop-append-add part rest m
 
 -- the sums are the bytes 8 to 31
 set_only : (b first sum signature rest : List ℕ) → length first ≡ 8 → length sum ≡ 4 → length signature ≡ 20 → length b ≡ 32 + length rest → first ≡ take 8 b → rest ≡ drop 32 b →
@@ -47,3 +44,20 @@ accepted_is file bytes b made same accepted = subst (λ x. IsAccepted x) (repair
 -- and a prefix that was written is one of it
 pub front_is : (file bytes b old new : List ℕ) → file ≡ repaired bytes → bytes ≡ b → ((n : ℕ) × (new ≡ old ++ take n file)) → (n : ℕ) × (new ≡ old ++ take n (repaired b))
 front_is file bytes b old new made same front = (front.0, front.1 ∙ ap (λ x. old ++ take front.0 x) (repaired_is file bytes b made same))
+
+-- ---- its sums are right, if it is long enough to have them
+
+module _ (P : List ℕ → Type 0) (set : (b : List ℕ) → 32 ≤ length b → P (with_sums_set b)) where
+  set_by_length : (b : List ℕ) (is_short : Bool) → nat_lt (length b) 32 ≡ is_short → 32 ≤ length (if is_short then b else with_sums_set b) → P (if is_short then b else with_sums_set b)
+  set_by_length b true is long = absurd (omega (arith, long, ltb-true (length b) 32 is))
+  set_by_length b false is long = set b (ltb-false (length b) 32 is)
+
+  is_set : (b : List ℕ) → 32 ≤ length (repaired b) → P (repaired b)
+  unfolding repaired
+  is_set b = set_by_length b (nat_lt (length b) 32) refl
+
+pub has_checksum : (file bytes : List ℕ) → file ≡ repaired bytes → 32 ≤ length file → HasChecksum file
+has_checksum file bytes made = subst (λ x. 32 ≤ length x → HasChecksum x) (sym made) (is_set HasChecksum has_checksum_set bytes)
+
+pub has_signature : (file bytes : List ℕ) → file ≡ repaired bytes → 32 ≤ length file → HasSignature file
+has_signature file bytes made = subst (λ x. 32 ≤ length x → HasSignature x) (sym made) (is_set HasSignature has_signature_set bytes)

@@ -1,6 +1,7 @@
 //! The run of `repair`.
 
-ghost use Rattle.std.specs.Prelude.{◌≡◌, ◌++◌, ◌↔◌, true, false, OnOk, IfErr, IsErrOf};
+ghost use Rattle.std.specs.Prelude.{◌≡◌, ◌≤◌, ◌++◌, ◌↔◌, true, false, length, OnOk, IfErr, IsErrOf};
+ghost use Rattle.dexspec.specs.Header.{HasChecksum, HasSignature};
 ghost use Rattle.dexspec.specs.Accepted.{IsAccepted};
 ghost use Rattle.dexclass.specs.Programs.{IsFaultOf};
 ghost use Rattle.dexruns.specs.Inputs.{bytes_read, IsReadNoFurther};
@@ -10,7 +11,8 @@ ghost use Rattle.dexruns.specs.declared.faults.RunFault.TheVariants.{Read, Write
 
 use crate::faults::RunFault;
 use crate::inputs::{InputFault, read_whole};
-use dexhead::{Sink, Source, set_sums, write_whole};
+use dexclass::check_frame;
+use dexhead::{Frame, Sink, Source, set_sums, write_whole};
 use dexpool::ReadFault;
 use std::alloc::Global;
 
@@ -28,12 +30,15 @@ fn repaired(mut file: Vec<u8>) -> Vec<u8>
     file
 }
 
-// Whether bytes are accepted.
+// Whether a file is accepted whose sums are right, if it is long enough to have them.
 fn check(alloc: Global, bytes: &[u8]) -> Result<(), ReadFault>
+    requires checksum { 32 ≤ length bytes.now → HasChecksum bytes.now }
+    requires signature { 32 ≤ length bytes.now → HasSignature bytes.now }
     ensures accepted { OnOk result (IsAccepted bytes.now) }
     ensures refused { IfErr result (IsFaultOf bytes.now) }
 {
-    let _classes = dexclass::check(alloc, bytes)?;
+    let frame = Frame::open_summed(bytes)?;
+    let _classes = check_frame(alloc, &frame)?;
     Ok(())
 }
 

@@ -1,7 +1,13 @@
 use Rattle.std.proofs.Common.{◌∙◌}
 use Rattle.dexruns.specs.Inputs.{bytes_read}
-use Rattle.dexruns.proofs.Repaired.{repaired_only, accepted_is, front_is}
+use Rattle.dexruns.proofs.Repaired.{repaired_only, accepted_is, front_is, has_checksum, has_signature}
 use Rattle.dexruns.proofs.repairing.repair_run.Goals as goal
+
+pub check-requires-clause-checksum : goal.check-requires-clause-checksum
+check-requires-clause-checksum g c = has_checksum _ _ (c.as_slice.ensures.value ∙ c.repaired-file.ensures)
+
+pub check-requires-clause-signature : goal.check-requires-clause-signature
+check-requires-clause-signature g c = has_signature _ _ (c.as_slice.ensures.value ∙ c.repaired-file.ensures)
 
 pub returns-in-Err-Read-clause-only_sums : goal.returns-in-Err-Read-clause-only_sums
 returns-in-Err-Read-clause-only_sums g c = repaired_only (bytes_read (g.R.Source.to_come c.args.input.now))

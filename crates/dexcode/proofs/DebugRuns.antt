@@ -19,7 +19,7 @@ use Rattle.dexcode.proofs.DebugRead.{some_parts}
 
 -- ---- one more
 
--- one item behind others
+-- one item after others
 pub one_behind : {X : Type 0} (At : Item X) (b : List ℕ) (o : ℕ) (xs : List X) (x : X) (n k : ℕ) → Sequence At b o xs n → At b (o + n) x k → Sequence At b o (xs ++ x ∷ []) (n + k)
 one_behind At b o [] x n k h at = (k, 0, subst (λ (p : ℕ). At b p x k) (omega (arith, h)) at, refl, omega (arith, h))
 one_behind At b o (y ∷ ys) x n k h at =
@@ -69,7 +69,7 @@ name_formed = index_formed
 
 -- ---- operations
 
--- what goes on from a place goes on behind the operation that is read there
+-- a program that goes on at an offset goes on after the operation that is read there
 pub goes_on : (m : Counts) (b : List ℕ) (o c : ℕ) (r : Option (Operation × ℕ)) → Stands b o (c ∷ []) → 0 < c → ((op : Operation) (n : ℕ) → OperandsAt m c b (o + 1) op n → r ≡ Some (op, n))
     → (ops : List Operation) → ProgramAt m b o ops → (op : Operation) × (n : ℕ) × (rest : List Operation) × (r ≡ Some (op, n)) × ProgramAt m b (o + (1 + n)) rest
 goes_on m b o c r here some only [] p =
@@ -104,13 +104,13 @@ code_some m b o SetEpilogueBegin n c h = omega (arith, h.0)
 code_some m b o (SetFile name) n c h = omega (arith, h.0)
 code_some m b o (Special opcode) n c h = omega (arith, h.0, h.1)
 
--- an operation stands where its opcode and its operands do
+-- an operation is where its opcode and its operands are
 pub operation_stands : (m : Counts) (b : List ℕ) (o c : ℕ) (op : Operation) (n : ℕ) → Stands b o (c ∷ []) → c ≤ 0xff → OperandsAt m c b (o + 1) op n → NumberedAt m b o op (1 + n)
 operation_stands m b o c op n here byte operands = record { opcode = c; operands_size = n; at_opcode = here; byte = byte; operands = operands; size = refl }
 
 -- ---- names
 
--- what goes on from a place goes on behind the name that is read there
+-- names that go on at an offset go on after the name that is read there
 pub names_go_on : (texts : ℕ) (b : List ℕ) (o count : ℕ) (r : Option (Option ℕ × ℕ)) → ((i : Option ℕ) (n : ℕ) → IndexAt texts b o i n → r ≡ Some (i, n)) → 0 < count
     → (names : List (Option ℕ)) (n : ℕ) → NamesAt texts b o count names n → (i : Option ℕ) × (k : ℕ) × (rest : List (Option ℕ)) × (j : ℕ) × (r ≡ Some (i, k)) × NamesAt texts b (o + k) (count - 1) rest j × (n ≡ k + j)
 names_go_on texts b o count r only some [] n p = let many = p.many in absurd (omega (arith, many, some))
@@ -180,7 +180,7 @@ all_names texts b from count counter at checked e =
     ended [] k n p q = let each = p.each in omega (arith, q, each)
     ended (i ∷ rest) k n p q = let many = p.many in absurd (omega (arith, many, e))
 
--- where no name stands the names do not
+-- where one of the names is not read, there are no such names
 pub no_name : (texts : ℕ) (b : List ℕ) (from count counter at : ℕ) (names : List (Option ℕ)) → NamesSoFar texts b from count counter at names → counter < count
     → ((j : Option ℕ) (n : ℕ) → IndexAt texts b at j n → ◌≡◌ {A = Option (Option ℕ × ℕ)} None (Some (j, n))) → (ys : List (Option ℕ)) (n : ℕ) → NamesAt texts b from count ys n → ⊥
 no_name texts b from count counter at names h lt only ys n p =
@@ -230,7 +230,7 @@ one_operation_more m b from at c ops more op k h le here some byte operands only
           (on.2, subst (λ (q : ℕ). ProgramAt m b (at + (1 + q)) on.2) (sym same) on.4);
     })
 
--- where no operation stands the program does not go on
+-- where no operation is read, the program does not go on
 pub no_operation : (m : Counts) (b : List ℕ) (from at c : ℕ) (ops : List Operation) → OperationsSoFar m b from at ops → Stands b at (c ∷ []) → 0 < c
     → ((x : Operation) (n : ℕ) → OperandsAt m c b (at + 1) x n → ◌≡◌ {A = Option (Operation × ℕ)} None (Some (x, n))) → (xs : List Operation) → ProgramAt m b from xs → ⊥
 no_operation m b from at c ops h here some only xs p =
@@ -239,11 +239,11 @@ no_operation m b from at c ops h here some only xs p =
     let wrong = on.3 in
     cc
 
--- a program does not end behind the bytes
+-- a program does not end after the bytes
 pub no_end : (m : Counts) (b : List ℕ) (from at : ℕ) (ops : List Operation) → OperationsSoFar m b from at ops → length b ≤ at → (xs : List Operation) → ProgramAt m b from xs → ⊥
 no_end m b from at ops h end xs p = let g = h.others xs p in let within = stands_within g.1.end in omega (arith, within, end)
 
--- an operation more, which weighs so much
+-- one operation more, with its weight
 pub one_more_checked : (m : Counts) (b : List ℕ) (from at c count weight : ℕ) (op : Operation) (k n : ℕ) → OperationsChecked m b from at count weight → at + 1 + k ≤ length b → Stands b at (c ∷ []) → 0 < c → c ≤ 0xff → OperandsAt m c b (at + 1) op k
     → ((x : Operation) (n : ℕ) → OperandsAt m c b (at + 1) x n → ◌≡◌ {A = Option (Operation × ℕ)} (Some (op, k)) (Some (x, n))) → n ≡ operands (bare_operation op) → n < 5 → OperationsChecked m b from (at + (1 + k)) (count + 1) (weight + (1 + 5 * n))
 one_more_checked m b from at c count weight op k n h le here some byte operands_at only is light =
@@ -275,7 +275,7 @@ all_operations m b from at count named weight checked end some small =
       light = checked.light;
     }
 
--- ---- names and operations that are known to stand there
+-- ---- names and operations that are known to be there
 
 is_some : {A : Type 0} (r : Option A) (x : A) → r ≡ Some x → IsSome r
 is_some r x e = rw e refl
@@ -394,7 +394,7 @@ pub record Heads (b : List ℕ) (o : ℕ) (start count : ℕ × ℕ) : Type 0 wh
   pub starts : (v n : ℕ) → Uleb128At b o v n → Some start ≡ Some (v, n)
   pub counts : (v n : ℕ) → Uleb128At b (o + start.1) v n → Some count ≡ Some (v, n)
 
--- what stands behind them
+-- the names and the operations after them
 behind_heads : (m : Counts) (b : List ℕ) (o : ℕ) (start count : ℕ × ℕ) → Heads b o start count → (d : NumberedDebug) → NumberedDebugAt m b o d
     → (n : ℕ) × NamesAt m.texts b (o + start.1 + count.1) count.0 d.parameter_names n × ProgramAt m b (o + start.1 + count.1 + n) d.operations
 behind_heads m b o start count h d p =

@@ -73,9 +73,9 @@ impl<'a> Code<'a> {
         }
     }
 
-    /// Leaves the debug program out. No memory is taken.
+    /// Removes the debug program.
     ///
-    /// Source: "code_item", the field `debug_info_off`, where 0 stands for none.
+    /// Source: "code_item", the field `debug_info_off`, where 0 encodes none.
     pub fn drop_debug(&mut self)
         ensures { self.new ≡ record { body = self.old.body; tries = self.old.tries; debug = None } }
     {

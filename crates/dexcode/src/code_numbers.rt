@@ -22,8 +22,8 @@ impl Symbols for Code<'_> {
 
 impl<'a> Code<'a> {
     /// Each number fits its place: it is below 2^16 in an instruction but for const-string/jumbo, below 2^32 for a type
-    /// that is caught, and below 2^32 - 1 in the debug program. It does nothing: its contract tells what numbers of all
-    /// code are, for the proofs of callers.
+    /// that is caught, and below 2^32 - 1 in the debug program. It does nothing: its contract states this of all code,
+    /// for the proofs of callers.
     pub fn numbers_fit(&self)
         ensures { NumbersFit self.now }
     {
@@ -44,9 +44,9 @@ impl<'a> Code<'a> {
         self.pieces.greatest_short_string()
     }
 
-    /// Puts for each number the one that it leads to. No memory is taken.
+    /// Replaces each number by the one that it maps to.
     ///
-    /// Condition: each number leads to one that fits its place, one below 2^16 in an instruction but for
+    /// Condition: each number maps to one that fits its place, one below 2^16 in an instruction but for
     /// const-string/jumbo, one below 2^32 for a type that is caught, and one below 2^32 - 1 in the debug program.
     ///
     /// Source: "code_item".
@@ -74,8 +74,8 @@ impl<'a> Code<'a> {
         mark(self, marks);
     }
 
-    /// Whether this and other code are the same, once the numbers of each are led on by a map of its own. Of numbers
-    /// that lead nowhere those of types that are caught stay, and the others count as the same. No memory is taken.
+    /// Whether this and other code are equal once the numbers of each are remapped by a map of its own. Of numbers that
+    /// map to none, those of types that are caught stay, and the others count as equal.
     ///
     /// Source: "code_item".
     pub fn same_mapped(&self, mine: &Remap, other: &Code<'_>, theirs: &Remap) -> bool

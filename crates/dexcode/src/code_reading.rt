@@ -52,7 +52,7 @@ pub(crate) fn read_tries(
 /// [`read_pieces`](dexinsn::read_pieces) is refused. Else it is 19 where tries or handlers are wrong: the zero ushort
 /// before the tries, the handler list, the bounds, order and handlers of the tries, or the limit of 65,535 on the
 /// weight of the distinct handlers; or 20 where [`read_debug`](crate::read_debug) is refused at the debug program's
-/// offset. `Memory` where a growth was refused.
+/// offset. `Memory` where an allocation failed.
 ///
 /// Source: "code_item".
 pub fn read_code<'a>(

@@ -110,8 +110,8 @@ fn index_at(bytes: &[u8], at: usize, count: usize) -> Option<(Option<u32>, usize
     }
 }
 
-// What tells of a local variable at a place: its register, the numbers of its name and its type, and how many bytes
-// they have.
+// The description of a local variable at an offset: its register, the numbers of its name and its type, and how many
+// bytes they have.
 #[inline(always)]
 fn local_at(
     bytes: &[u8],
@@ -190,7 +190,7 @@ fn operation_at(bytes: &[u8], at: usize, opcode: u8, counts: Counts) -> Option<(
     }
 }
 
-// Where so many names from a place on end, if they stand there.
+// The end of `count` names from an offset on, if they are there.
 fn names_end(bytes: &[u8], from: usize, count: u32, texts: usize) -> Option<usize>
     requires { from ≤ length bytes.now }
     ensures { MatchOption result ((names : List (Option ℕ)) (n : ℕ) → NamesAt texts bytes.now from count names n → ⊥) (EndNames texts bytes.now from count) }
@@ -205,7 +205,7 @@ fn names_end(bytes: &[u8], from: usize, count: u32, texts: usize) -> Option<usiz
     Some(at)
 }
 
-// How many operations stand from a place on, up to the end, and what they weigh.
+// The number of operations from an offset on, up to the end, and their weight.
 fn check_operations(bytes: &[u8], from: usize, counts: Counts) -> Option<Tally>
     requires within { from ≤ length bytes.now }
     requires behind { 0 < from }
@@ -237,7 +237,7 @@ fn check_operations(bytes: &[u8], from: usize, counts: Counts) -> Option<Tally>
     None
 }
 
-// What there is in the debug_info_item at a place, if one stands there. Nothing is kept of it.
+// The shape of the debug_info_item at an offset, if one is there. Nothing is kept of it.
 fn check_numbered(bytes: &[u8], at: usize, counts: Counts) -> Option<DebugShape>
     requires within { at ≤ length bytes.now }
     requires small { length bytes.now ≤ 2 ^ 30 }
@@ -270,7 +270,7 @@ fn check_numbered(bytes: &[u8], at: usize, counts: Counts) -> Option<DebugShape>
     })
 }
 
-// The names that stand from a place on.
+// The names from an offset on.
 fn build_names(
     alloc: Global,
     bytes: &[u8],
@@ -292,7 +292,7 @@ fn build_names(
     Ok(names)
 }
 
-// The operations that stand from a place on.
+// The operations from an offset on.
 fn build_operations(
     alloc: Global,
     bytes: &[u8],
@@ -317,7 +317,7 @@ fn build_operations(
     Ok(Operations { entries, named })
 }
 
-// The debug program that stands at a place, in exactly the memory that it takes.
+// The debug program at an offset, in exactly the memory that it takes.
 fn build_numbered(
     alloc: Global,
     bytes: &[u8],
@@ -349,7 +349,7 @@ fn counts_of(pools: &Pools<'_>) -> Counts
     }
 }
 
-// What there is in the debug_info_item at an offset, if one stands there.
+// The shape of the debug_info_item at an offset, if one is there.
 fn shape_at(frame: &Frame<'_>, pools: &Pools<'_>, off: u32) -> Option<DebugShape>
     ensures { MatchOption result (ArePools frame.now pools.now → HasNoDebug frame.now off) (IsShapeAt frame.now off pools.now) }
 {
@@ -360,10 +360,9 @@ fn shape_at(frame: &Frame<'_>, pools: &Pools<'_>, off: u32) -> Option<DebugShape
     check_numbered(bytes, off as usize, counts_of(pools))
 }
 
-/// Judges the debug_info_item at an offset, whose indices count in the pools: those of the file. Nothing is kept of it,
-/// and no memory is taken.
+/// Checks the debug_info_item at an offset, whose indices count in the pools: those of the file. Nothing is kept of it.
 ///
-/// Error: `Refused(20)` exactly where no debug_info_item stands there: where it is not in the data, or is cut off before
+/// Error: `Refused(20)` exactly where no debug_info_item is there: where it is not in the data, or is cut off before
 /// its end, where a number is not spelled as it has to be, or where an index is out of range of its pool.
 ///
 /// Source: "debug_info_item".
@@ -378,11 +377,9 @@ pub fn check_debug(frame: &Frame<'_>, pools: &Pools<'_>, off: u32) -> Result<Deb
     }
 }
 
-/// The debug program that stands at an offset, in exactly the memory that it takes.
+/// The debug program at an offset, in exactly the memory that it takes.
 ///
-/// Condition: its shape is that which [`check_debug`] told.
-///
-/// Error: the memory was refused.
+/// Condition: its shape is that which [`check_debug`] returned.
 ///
 /// Source: "debug_info_item".
 pub fn build_debug(
@@ -401,7 +398,7 @@ pub fn build_debug(
 
 /// Reads the debug_info_item at an offset, whose indices count in the pools: those of the file.
 ///
-/// Error: as of [`check_debug`]; `Memory` where a growth was refused.
+/// Error: as of [`check_debug`]; `Memory` where an allocation failed.
 ///
 /// Source: "debug_info_item".
 pub fn read_debug(

@@ -57,7 +57,7 @@ impl Symbols for Tries {
 }
 
 impl StoredTries {
-    // Puts for each type that is caught the number that it leads to. No memory is taken.
+    // Replaces each type that is caught by the one that it maps to.
     pub(crate) fn renumber(&mut self, remap: &Remap)
         requires { All (HasTypePlace remap.now) (tries_uses self.old) }
         ensures { self.new ≡ map (renumbered_try remap.now) self.old }
@@ -75,7 +75,7 @@ impl Tries {
         let (_tries, _handlers) = self.parts();
     }
 
-    // Puts for each type that is caught the number that it leads to. No memory is taken.
+    // Replaces each type that is caught by the one that it maps to.
     pub(crate) fn renumber(&mut self, remap: &Remap)
         requires { All (HasTypePlace remap.now) (tries_uses self.old) }
         ensures { self.new ≡ map (renumbered_try remap.now) self.old }

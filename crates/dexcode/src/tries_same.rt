@@ -8,7 +8,7 @@ use crate::handlers::{Catch, Handler};
 use crate::tries::{Tries, Try};
 use dexpool::{Remap, SymbolKind};
 
-// Where a type leads; one that leads nowhere stays.
+// The type that a type maps to; one that maps to none stays.
 fn led_type(remap: &Remap, typ: u32) -> usize
     ensures { result ≡ led_type remap.now typ }
 {
@@ -16,7 +16,7 @@ fn led_type(remap: &Remap, typ: u32) -> usize
     remap.image(SymbolKind::Typ, typ).unwrap_or(typ)
 }
 
-// Whether the catches are the same, their types led on.
+// Whether the catches are equal once their types are remapped.
 fn same_catch(mine: &Remap, catch: Catch, theirs: &Remap, other: Catch) -> bool
     ensures { IsTrue result ↔ (renumbered_catch mine.now catch ≡ renumbered_catch theirs.now other) }
 {
@@ -26,7 +26,7 @@ fn same_catch(mine: &Remap, catch: Catch, theirs: &Remap, other: Catch) -> bool
     led_type(mine, catch.typ) == led_type(theirs, other.typ)
 }
 
-// Whether the catches are the same, one for one, their types led on.
+// Whether the catches are equal, one for one, once their types are remapped.
 fn same_catches(mine: &Remap, catches: &[Catch], theirs: &Remap, others: &[Catch]) -> bool
     ensures { IsTrue result ↔ (map (renumbered_catch mine.now) catches.now ≡ map (renumbered_catch theirs.now) others.now) }
 {
@@ -41,7 +41,7 @@ fn same_catches(mine: &Remap, catches: &[Catch], theirs: &Remap, others: &[Catch
     true
 }
 
-// Whether the handlers are the same, their types led on.
+// Whether the handlers are equal once their types are remapped.
 fn same_handler(mine: &Remap, handler: &Handler, theirs: &Remap, other: &Handler) -> bool
     ensures { IsTrue result ↔ (renumbered_handler mine.now handler.now ≡ renumbered_handler theirs.now other.now) }
 {
@@ -51,8 +51,8 @@ fn same_handler(mine: &Remap, handler: &Handler, theirs: &Remap, other: &Handler
     same_catches(mine, &handler.catches, theirs, &other.catches)
 }
 
-// Whether the tries are the same, the types of their handlers led on. The first `compared` handlers of both lists are
-// known to be.
+// Whether the tries are equal once the types of their handlers are remapped. The first `compared` handlers of both
+// lists are known to be.
 fn same_try(
     mine: &Remap,
     handlers: &[Handler],
@@ -84,8 +84,8 @@ fn same_try(
     )
 }
 
-// Whether the tries are the same, one for one, the types of their handlers led on. Handlers stand in order of first
-// use: so two that have one number are compared once, and others only where the tries differ or types lead to one.
+// Whether the tries are equal, one for one, once the types of their handlers are remapped. Handlers are in order of
+// first use: so two that have one number are compared once, and others only where the tries differ or types map to one.
 fn same_tries(
     mine: &Remap,
     handlers: &[Handler],
@@ -123,8 +123,7 @@ fn same_tries(
 }
 
 impl Tries {
-    // Whether these and other tries are the same, once the types of each are led on by a map of its own. No memory is
-    // taken.
+    // Whether these and other tries are equal once the types of each are remapped by a map of its own.
     pub(crate) fn same_mapped(&self, mine: &Remap, other: &Tries, theirs: &Remap) -> bool
         ensures { IsTrue result ↔ (map (renumbered_try mine.now) self.now ≡ map (renumbered_try theirs.now) other.now) }
     {

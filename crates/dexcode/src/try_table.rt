@@ -13,7 +13,7 @@ use dexinsn::InstructionStarts;
 use dexpool::ItemFault;
 use std::alloc::Global;
 
-// So many tries from a place on, and the list of their handlers behind them.
+// `count` tries from an offset on, and the list of their handlers after them.
 pub(crate) fn read_try_table(
     alloc: Global,
     bytes: &[u8],

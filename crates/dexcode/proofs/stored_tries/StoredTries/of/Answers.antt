@@ -15,7 +15,7 @@ use Rattle.dexcode.proofs.TryTables.{begins_within}
 use Rattle.dexcode.proofs.Whole.{formed_more}
 use Rattle.dexcode.proofs.stored_tries.StoredTries.of.Goals as goal
 
--- in the place of a try that is not there
+-- used instead of a try that is not there
 abbrev none : Try
 none = record { start_addr = 0; insn_count = 0; handler = 0 }
 

@@ -205,7 +205,7 @@ rows_more FieldIds i n lt = omega arith
 rows_more MethodIds i n lt = omega arith
 rows_more ClassDefs i n lt = omega arith
 
--- a row stands before the data
+-- a row is before the data
 pub row_within : {b : List ℕ} (t : Table) (i : ℕ) → IsFrame b → i < table_size b t → row_at b t i + row_size t ≤ length b
 row_within {b = b} t i frame lt =
     let at = place_of t in

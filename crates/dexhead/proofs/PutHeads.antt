@@ -15,7 +15,7 @@ use Rattle.dexhead.specs.Sums.{signed, with_sums_set}
 use Rattle.dexhead.specs.Written.{rows_bytes, field_bytes, head_bytes}
 use Rattle.dexhead.proofs.Overwritten.{drop_after}
 
--- three parts, and more behind them
+-- three parts, and more after them
 joined : (m c s x r : List ℕ) → (m ++ (c ++ (s ++ x))) ++ r ≡ m ++ (c ++ (s ++ (x ++ r)))
 joined m c s x r = append_assoc m (c ++ (s ++ x)) r ∙ ap (λ y. m ++ y) (append_assoc c (s ++ x) r ∙ ap (λ y. c ++ y) (append_assoc s x r))
 
@@ -23,7 +23,7 @@ joined m c s x r = append_assoc m (c ++ (s ++ x)) r ∙ ap (λ y. m ++ y) (appen
 first_part : (m c s x r : List ℕ) (n : ℕ) → length m ≡ n → take n ((m ++ (c ++ (s ++ x))) ++ r) ≡ m
 first_part m c s x r n e = ap (take n) (joined m c s x r) ∙ take_at m (c ++ (s ++ (x ++ r))) n e
 
--- what is behind all three
+-- the rest after all three
 behind : (m c s x r : List ℕ) → length m ≡ 8 → length c ≡ 4 → length s ≡ 20 → drop 32 ((m ++ (c ++ (s ++ x))) ++ r) ≡ x ++ r
 behind m c s x r e8 e4 e20 =
     ap (drop 32) (joined m c s x r) ∙ drop_after m (c ++ (s ++ (x ++ r))) 8 24 e8 ∙ drop_after c (s ++ (x ++ r)) 4 20 e4 ∙ drop_at s (x ++ r) 20 e20
@@ -53,7 +53,7 @@ head_set h rest twenty =
     (first_part magic (uint h.checksum) h.signature (field_bytes h) rest 8 refl)
     (behind magic (uint h.checksum) h.signature (field_bytes h) rest refl (length-uint h.checksum) twenty)
 
--- a header that tells the right sums is there as the sums would be set
+-- the bytes of a header that has the right sums are those with its sums set
 pub head_told : (h : Head) (rest : List ℕ) → h.signature ≡ sha1 (field_bytes h ++ rest) → h.checksum ≡ adler_32 (h.signature ++ (field_bytes h ++ rest)) → head_bytes h ++ rest ≡ with_sums (field_bytes h ++ rest)
 unfolding head_bytes with_sums
 head_told h rest s c =

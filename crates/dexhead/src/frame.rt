@@ -34,7 +34,7 @@ impl<'a> Model for Frame<'a> {
 }
 
 impl<'a> Frame<'a> {
-    /// Judges conditions 1 to 10 in their order, and takes no memory:
+    /// Checks conditions 1 to 10 in their order:
     ///
     /// 1. Size: the file has 112 bytes at least, and 2^30 at most.
     /// 2. Magic: it begins with `dex`, a line feed, three digits and a zero byte.
@@ -44,9 +44,9 @@ impl<'a> Frame<'a> {
     /// 6. No link data: `link_size` and `link_off` are 0.
     /// 7. Checksum: it is the Adler-32 of the bytes from 12 on.
     /// 8. Signature: it is the SHA-1 of the bytes from 32 on.
-    /// 9. Layout: the tables stand in their order behind the header, none over another and none too long,
-    ///    and the data behind them ends with the file.
-    /// 10. Map: it stands in the data at a multiple of 4, and its entries are of known kinds, none twice,
+    /// 9. Layout: the tables are in their order after the header, none over another and none too long,
+    ///    and the data after them ends with the file.
+    /// 10. Map: it is in the data at a multiple of 4, and its entries are of known kinds, none twice,
     ///     at rising offsets: the header first, each table that has rows and no other, the map itself, and
     ///     sections of the data.
     ///
@@ -148,7 +148,7 @@ impl<'a> Frame<'a> {
         rest
     }
 
-    /// Whether so many bytes from an offset on are wholly in the data.
+    /// Whether `len` bytes from an offset on are wholly in the data.
     ///
     /// Source: "Dalvik Executable format", "header_item", the fields `data_off` and `data_size`.
     pub fn is_in_data(&self, off: u32, len: u64) -> bool
@@ -213,7 +213,7 @@ fn judge_sums(bytes: &[u8]) -> Result<(), Refusal>
     Ok(())
 }
 
-// Conditions 9 and 10: where everything stands, of a file that meets those before.
+// Conditions 9 and 10, on the offsets of a file that meets those before.
 fn judge_places(bytes: &[u8]) -> Result<(), Refusal>
     requires { 112 ≤ length bytes.now }
     ensures accepted { OnOk result (HoldBelow 9 bytes.now → IsFrame bytes.now) }

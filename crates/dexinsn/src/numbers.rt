@@ -13,7 +13,7 @@ use crate::pieces::{Index, Pieces};
 use dexpool::{Marks, Remap, SymbolKind, Symbols, Visitor, mark};
 use std::alloc::AllocError;
 
-// The index with the number that its number leads to.
+// The index with the number that its number maps to.
 fn renumbered_index(units: &Units<'_>, index: Index, remap: &Remap) -> Index
     requires indexed { IsIndexed units.now index }
     requires place { HasPlaceAt remap.now units.now index }
@@ -30,7 +30,7 @@ fn renumbered_index(units: &Units<'_>, index: Index, remap: &Remap) -> Index
     }
 }
 
-// Puts for each number the one that it leads to.
+// Replaces each number by the one that it maps to.
 fn renumber_indices(units: &Units<'_>, indices: &mut Vec<Index>, remap: &Remap)
     requires indexed { All (IsIndexed units.now) indices.old.items }
     requires places { All (HasPlaceAt remap.now units.now) indices.old.items }
@@ -41,7 +41,7 @@ fn renumber_indices(units: &Units<'_>, indices: &mut Vec<Index>, remap: &Remap)
     }
 }
 
-// Whether the index's number leads to one that fits the place.
+// Whether the index's number maps to one that fits the place.
 fn has_place(units: &Units<'_>, index: Index, remap: &Remap) -> bool
     requires { IsIndexed units.now index }
     ensures { IsTrue result ↔ HasPlaceAt remap.now units.now index }
@@ -58,7 +58,7 @@ fn has_place(units: &Units<'_>, index: Index, remap: &Remap) -> bool
     }
 }
 
-// Whether each number leads to one that fits its place.
+// Whether each number maps to one that fits its place.
 fn have_places(units: &Units<'_>, indices: &[Index], remap: &Remap) -> bool
     requires { All (IsIndexed units.now) indices.now }
     ensures { IsTrue result ↔ All (HasPlaceAt remap.now units.now) indices.now }
@@ -127,7 +127,7 @@ fn greatest_short_string(units: &Units<'_>, indices: &[Index]) -> Option<u32>
 
 impl<'a> Pieces<'a> {
     /// Each number fits its place: it is below 2^16, or below 2^32 for const-string/jumbo. It does nothing: its contract
-    /// tells what numbers of all pieces are, for the proofs of callers.
+    /// states this of all pieces, for the proofs of callers.
     pub fn numbers_fit(&self)
         ensures { FitPlaces self.now.pieces }
     {
@@ -146,9 +146,9 @@ impl<'a> Pieces<'a> {
         greatest_short_string(&units, &self.indices)
     }
 
-    /// Puts for each number the one that it leads to. No memory is taken.
+    /// Replaces each number by the one that it maps to.
     ///
-    /// Condition: each number leads to one that fits its place, which [`fits`](Pieces::fits) tells.
+    /// Condition: each number maps to one that fits its place, which [`fits`](Pieces::fits) checks.
     pub fn renumber(&mut self, remap: &Remap)
         requires { All (HasPlace remap.now) self.old.pieces }
         ensures { self.new ≡ renumbered remap.now self.old }
@@ -157,8 +157,7 @@ impl<'a> Pieces<'a> {
         renumber_indices(&units, &mut self.indices, remap);
     }
 
-    /// Whether each number leads to one that fits its place: one below 2^16, or below 2^32 for
-    /// const-string/jumbo. No memory is taken.
+    /// Whether each number maps to one that fits its place: one below 2^16, or below 2^32 for const-string/jumbo.
     pub fn fits(&self, remap: &Remap) -> bool
         ensures { IsTrue result ↔ All (HasPlace remap.now) self.now.pieces }
     {
@@ -214,9 +213,9 @@ impl<'a> Pieces<'a> {
     }
 }
 
-/// Puts for each number of the pieces the one that it leads to. No memory is taken.
+/// Replaces each number of the pieces by the one that it maps to.
 ///
-/// Condition: each number leads to one that fits its place, which [`fits`](Pieces::fits) tells.
+/// Condition: each number maps to one that fits its place, which [`fits`](Pieces::fits) checks.
 pub fn renumber(pieces: &mut Pieces<'_>, remap: &Remap)
     requires { All (HasPlace remap.now) pieces.old.pieces }
     ensures { pieces.new ≡ renumbered remap.now pieces.old }

@@ -1,4 +1,4 @@
--- Numbers of 32 bits, one of which stands for none.
+-- Numbers of 32 bits, one of which denotes none.
 use Rattle.std.specs.Prelude.{ℕ, Option, Some, None, if◌then◌else◌, ◌==◌}
 
 -- the image that a stored number is

@@ -19,7 +19,7 @@ pub struct Remap {
     pub(crate) methods: Images,
 }
 
-// So that a value is let go by one call.
+// So that a value is dropped by one call.
 impl Drop for Remap {
     fn drop(self) {
         let Remap {
@@ -57,16 +57,15 @@ impl Remap {
         }
     }
 
-    /// Numbers keep their order where they lead somewhere, so no two of a kind lead to one. It does nothing: its contract
-    /// tells what every map is, for the proofs of callers.
+    /// Numbers that map to one keep their order, so no two of a kind map to the same. It does nothing: its contract
+    /// states this of every map, for the proofs of callers.
     pub fn keeps_order(&self)
         ensures { KeepOrder self.now }
     {
         let _strings = &self.strings;
     }
 
-    /// Where a number leads, or `None` where it leads nowhere or is none of the first numbering. No memory is
-    /// taken.
+    /// The number that a number maps to, or `None` where it maps to none or is not in the first numbering.
     pub fn image(&self, kind: SymbolKind, i: usize) -> Option<usize>
         ensures { result ≡ image_of self.now kind i }
     {
@@ -80,7 +79,7 @@ impl Remap {
         images.get(i)
     }
 
-    /// Where a number leads, or the number itself where it leads nowhere. No memory is taken.
+    /// The number that a number maps to, or the number itself where it maps to none.
     pub fn or_same(&self, kind: SymbolKind, i: usize) -> usize
         ensures { result ≡ unwrap_or (image_of self.now kind i) i }
     {

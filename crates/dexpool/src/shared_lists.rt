@@ -51,7 +51,7 @@ pub(crate) fn covering(protos: &[ProtoEntry]) -> Span
     range
 }
 
-// Where a part stands in a list that has no numbers but those of another part, which has its numbers too.
+// The place of a part in a list that has the numbers of `range` only, which covers the part.
 fn place_within(range: Span, part: Span) -> Span
     requires { Covers range part }
     ensures { IsPlaceWithin range part result }

@@ -14,7 +14,7 @@ use std::alloc::{AllocError, Global};
 pub struct Joined<R: Drop> {
     /// The rows of all the parts, each key once, in order.
     pub rows: Vec<R>,
-    /// For each part the place of each of its rows: where in `rows` its key stands.
+    /// For each part the place of each of its rows: where in `rows` its key is.
     pub images: Vec<Vec<u32>>,
 }
 

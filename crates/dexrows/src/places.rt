@@ -2,7 +2,7 @@
 
 ghost use Rattle.std.specs.Prelude.{◌≡◌, ◌<◌, length, map, All, slice_index};
 
-/// Replaces each number by what stands at its place.
+/// Replaces each number by the one at its place.
 fn compose(image: &mut [u32], places: &[u32])
     requires { All (λ place. place < length places.now) image.old }
     ensures { image.new ≡ map (slice_index places.now) image.old }
@@ -12,7 +12,7 @@ fn compose(image: &mut [u32], places: &[u32])
     }
 }
 
-/// Replaces each number of each image by what stands at its place.
+/// Replaces each number of each image by the one at its place.
 pub(crate) fn compose_all(images: &mut [Vec<u32>], places: &[u32])
     requires { All (λ image. All (λ place. place < length places.now) image.items) images.old }
     ensures { map (λ image. image.items) images.new ≡ map (map (slice_index places.now)) (map (λ image. image.items) images.old) }

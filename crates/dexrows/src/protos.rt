@@ -36,7 +36,7 @@ impl<'p> ProtoRow<'p> {
         ProtoRow::of(shorty, return_type, TypeNumbers::words(parameters))
     }
 
-    /// The row with these numbers, whose parameters may stand in a file.
+    /// The row with these numbers, whose parameters may occur in a file.
     pub fn of(shorty: usize, return_type: usize, parameters: TypeNumbers<'p>) -> ProtoRow<'p>
         ensures { result ≡ record { shorty = shorty; return_type = return_type; parameters = parameters.entry } }
     {

@@ -43,13 +43,7 @@ impl Row for FieldRow {
     }
 
     fn compare(&self, other: &Self) -> Ordering {
-        match self.class.cmp(&other.class) {
-            Ordering::Equal => match self.name.cmp(&other.name) {
-                Ordering::Equal => self.typ.cmp(&other.typ),
-                order => order,
-            },
-            order => order,
-        }
+        self.key().cmp(&other.key())
     }
 
     fn copied(&self) -> Self {

@@ -43,13 +43,7 @@ impl Row for MethodRow {
     }
 
     fn compare(&self, other: &Self) -> Ordering {
-        match self.class.cmp(&other.class) {
-            Ordering::Equal => match self.name.cmp(&other.name) {
-                Ordering::Equal => self.proto.cmp(&other.proto),
-                order => order,
-            },
-            order => order,
-        }
+        self.key().cmp(&other.key())
     }
 
     fn copied(&self) -> Self {

@@ -1,6 +1,6 @@
 -- The definitions of the parts of a plan.
 use Rattle.std.proofs.Common.{◌≡◌, ◌⊎◌, ℕ, zero, suc, ◌<◌, List, [], ◌∷◌, ◌++◌, length, get_or, map, refl, sym, ap, ◌∙◌, subst, arith, inl, inr, Ok, Err}
-use Rattle.std.specs.Prelude.{Result, All, IfOk, IfErr, slice_index_or}
+use Rattle.std.specs.Prelude.{All, slice_index_or}
 use Rattle.std.specs.List.{Contains, flat_map}
 use Rattle.std.proofs.lemmas.List.{append-nil}
 use Rattle.std.proofs.lemmas.Grind.{flat_map-append}
@@ -151,15 +151,7 @@ module _ (files : List Collection) where
         ]),
       )
 
--- ---- what a result gives
-
-pub if_ok_each : {A E : Type 0} (P Q : A → Type 0) (r : Result A E) → ((x : A) → P x → Q x) → IfOk r P → IfOk r Q
-if_ok_each P Q (Ok x) f h = f x h
-if_ok_each P Q (Err e) f h = h
-
-pub if_err_each : {A E : Type 0} (P Q : E → Type 0) (r : Result A E) → ((e : E) → P e → Q e) → IfErr r P → IfErr r Q
-if_err_each P Q (Ok x) f h = h
-if_err_each P Q (Err e) f h = f e h
+-- ---- what a node makes
 
 -- the programs of a node have its definitions
 pub programs_same : (files : List Collection) (ps : List Plan) (inner given : List Collection) → flat_map definitions given ≡ of_files files (files_in ps) → AreSame (flat_map definitions inner) (of_plans files (nodes_in ps)) → AreSame (flat_map definitions (inner ++ given)) (planned files (Node (plans_of ps)))

@@ -3,6 +3,7 @@ use Rattle.std.specs.Prelude.{Result, Err, IfErr}
 use Rattle.std.specs.List.{flat_map, Contains}
 use Rattle.std.proofs.lemmas.List.{take_all}
 use Rattle.std.proofs.lemmas.Result.{err_from_is_err_and}
+use Rattle.std.proofs.lemmas.Result.{IfErr-weaker}
 use Rattle.dexspec.specs.Classes.{Definition}
 use Rattle.dexspec.specs.Files.{Collection, definitions, AreSame}
 use Rattle.dexspec.specs.Merging as merging
@@ -15,7 +16,7 @@ use Rattle.dexmerge.specs.Plans.{plan_of, plans_of}
 use Rattle.dexmerge.specs.Faults.{Tells, planned}
 use Rattle.dexmerge.specs.Parts.{AreKnown, IsCauseOf, nodes_in, of_plans}
 use Rattle.dexmerge.proofs.PlanForms.{leaf_is, node_is, part_member, parts_more}
-use Rattle.dexmerge.proofs.PlannedLaws.{first_tells, part_tells, leaf_no_node, node_more, part_known, if_err_each}
+use Rattle.dexmerge.proofs.PlannedLaws.{first_tells, part_tells, leaf_no_node, node_more, part_known}
 use Rattle.dexmerge.proofs.planned.+merge_parts.Goals as goal
 
 pub file-requires : goal.file-requires
@@ -26,7 +27,7 @@ returns-in-Leaf-clause-fault t c =
     let files = c.args.files.now in
     let is = leaf_is c.args.plan.now c.in-Leaf.number c.in-Leaf.is in
     let same : planned files (merging.Leaf c.in-Leaf.number) ≡ definitions c.file.result.now ++ [] = ap (λ (l : List Definition). l ++ []) (sym c.file.ensures) in
-    if_err_each _ _ c.merge.result (λ f h. subst (λ (p : merging.Plan). Tells (IsCauseOf c.args.caps.now files p) f) (sym is)
+    IfErr-weaker c.merge.result _ _ (λ f h. subst (λ (p : merging.Plan). Tells (IsCauseOf c.args.caps.now files p) f) (sym is)
     (first_tells files c.args.caps.now (merging.Leaf c.in-Leaf.number) f (subst (λ (D : List Definition). Tells (IsFirstCause c.args.caps.now D) f) (sym same) h))) c.merge.ensures.fault
 
 pub loop-part-preserved-in-Leaf-part : goal.loop-part-preserved-in-Leaf-part
@@ -89,4 +90,4 @@ pub returns-after-loop-part-clause-fault : goal.returns-after-loop-part-clause-f
 returns-after-loop-part-clause-fault t c =
     let files = c.args.files.now in
     let is : plan_of c.args.plan.now ≡ merging.Node (plans_of (map plan_of c.deref.result.now)) = node_is c.args.plan.now c.in-Node.parts c.in-Node.is ∙ ap (λ (l : List Plan). merging.Node (plans_of (map plan_of l))) (sym c.deref.ensures.value) in
-    if_err_each _ _ c.merge_node.result (λ f h. subst (λ (p : merging.Plan). Tells (IsCauseOf c.args.caps.now files p) f) (sym is) (first_tells files c.args.caps.now (merging.Node (plans_of (map plan_of c.deref.result.now))) f h)) c.merge_node.ensures.fault
+    IfErr-weaker c.merge_node.result _ _ (λ f h. subst (λ (p : merging.Plan). Tells (IsCauseOf c.args.caps.now files p) f) (sym is) (first_tells files c.args.caps.now (merging.Node (plans_of (map plan_of c.deref.result.now))) f h)) c.merge_node.ensures.fault

@@ -1,6 +1,7 @@
 pub mod Attaching
 pub mod Checking
 pub mod ClassData
+pub mod ClassDefs
 pub mod Contents
 pub mod DirectoryPut
 pub mod EncodedMembers

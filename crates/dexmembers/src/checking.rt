@@ -9,6 +9,7 @@ ghost use Rattle.dexmembers.specs.Reading.{IsMembersFault};
 ghost use Rattle.dexmembers.specs.Checking.{AreChecks, HasMembersOf};
 
 use crate::class_data::{ClassData, read_class_data};
+use crate::class_def::ClassDef;
 use crate::code_checking::{CheckedCodes, check_codes};
 use crate::row_checking::{check_annotations, check_static_values};
 use dexhead::Frame;
@@ -69,11 +70,13 @@ pub fn check_members(
     ensures refused { ArePools frame.now pools.now → HasClass frame.now row → IfErr result (IsMembersFault frame.now row) }
 {
     pools.numbering().is_numbering();
-    let declared = match read_class_data(alloc, frame, pools, row) {
+    let row = ClassDef::at(frame, row);
+    let declared = match read_class_data(alloc, frame, pools, &row) {
         Ok(declared) => declared,
         Err(fault) => return Err(fault),
     };
-    let annotations = match check_annotations(frame, pools, row, &declared, &mut checks.sets) {
+    let off = row.annotations_off;
+    let annotations = match check_annotations(frame, pools, off, &declared, &mut checks.sets) {
         Ok(annotations) => annotations,
         Err(fault) => return Err(fault),
     };
@@ -86,7 +89,8 @@ pub fn check_members(
         Ok(virtuals) => virtuals,
         Err(fault) => return Err(fault),
     };
-    let values = match check_static_values(frame, pools, row, declared.static_fields.len()) {
+    let (off, fields) = (row.static_values_off, declared.static_fields.len());
+    let values = match check_static_values(frame, pools, off, fields) {
         Ok(values) => values,
         Err(fault) => return Err(fault),
     };

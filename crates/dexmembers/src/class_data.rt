@@ -1,19 +1,18 @@
 //! Class data: the members that a class row declares, by their indices.
 
-ghost use Rattle.std.specs.Prelude.{◌≡◌, ◌<◌, ◌≤◌, ◌+◌, ◌∷◌, [], ℕ, length, IfOk, IfErr, IfSome, IfNone};
+ghost use Rattle.std.specs.Prelude.{◌≤◌, ◌+◌, ◌∷◌, [], ℕ, length, IfOk, IfErr, IfSome, IfNone};
 ghost use Rattle.dexspec.specs.Lists.{Sequence};
 ghost use Rattle.dexspec.specs.Numbers.{Uleb128At};
-ghost use Rattle.dexspec.specs.Header.{ClassDefs, table_size};
-ghost use Rattle.dexspec.specs.Bytes.{uint_at};
-ghost use Rattle.dexspec.specs.Rows.{row_at};
 ghost use Rattle.dexspec.specs.Accepted.{HasClass};
 ghost use Rattle.dexmembers.specs.EncodedMembers.{IsDataRefusal, DataAt, NoData};
 ghost use Rattle.dexpool.specs.Pools.{ArePools};
 ghost use Rattle.dexmembers.specs.ClassData.{IsDataOf, IsDataFault};
+ghost use Rattle.dexmembers.specs.ClassDefs.{IsClassDef};
 
+use crate::class_def::ClassDef;
 use crate::encoded::Owner;
 use crate::encoded_lists::read_lists;
-use dexhead::{Condition, Frame, Table, u32_at};
+use dexhead::{Condition, Frame};
 use dexleb::read_u;
 use dexpool::{ItemFault, Pools};
 use std::alloc::Global;
@@ -128,41 +127,26 @@ fn read_data(
     })
 }
 
-/// The number at an offset in class row `row`. No memory is taken.
+/// Reads the members that a class row declares: those of its class_data_item, or none where its offset is 0.
 ///
-/// Condition: the row is one of the file's, and the number is in it.
-///
-/// Source: "class_def_item".
-pub(crate) fn row_number(frame: &Frame<'_>, row: u32, at: usize) -> u32
-    requires row { row < table_size frame.now ClassDefs }
-    requires within { at ≤ 28 }
-    ensures { result ≡ uint_at frame.now (row_at frame.now ClassDefs row + at) }
-{
-    let fields = frame.row(Table::ClassDefs, row);
-    u32_at(fields, at)
-}
-
-/// Reads the members that class row `row` declares: those of its class_data_item, or none where its offset is 0.
-///
-/// Condition: the row is one of the file's. What is told of the answer is told of rows that meet condition 16. Error: `Refused(17)` exactly where the row's class data
-/// is no such item in the data, an index of it is out of range, a member is not one of the class, or one stands in two lists; the memory
-/// for the lists was refused.
+/// What is said of the result is said of rows that meet condition 16. Error: `Refused(17)` exactly where the row's class
+/// data is no such item in the data, an index of it is out of range, a member is not one of the class, or one is in two
+/// lists; `Memory` where an allocation failed.
 ///
 /// Source: "class_data_item", "encoded_field format", "encoded_method format".
 pub(crate) fn read_class_data(
     alloc: Global,
     frame: &Frame<'_>,
     pools: &Pools<'_>,
-    row: u32,
+    row: &ClassDef,
 ) -> Result<ClassData, ItemFault>
-    requires row { row < table_size frame.now ClassDefs }
-    ensures read { ArePools frame.now pools.now → HasClass frame.now row → IfOk result (IsDataOf frame.now row pools.now) }
-    ensures refused { ArePools frame.now pools.now → IfErr result (IsDataFault frame.now row) }
+    ensures read { (r : ℕ) → IsClassDef frame.now r row.now → ArePools frame.now pools.now → HasClass frame.now r → IfOk result (IsDataOf frame.now r pools.now) }
+    ensures refused { (r : ℕ) → IsClassDef frame.now r row.now → ArePools frame.now pools.now → IfErr result (IsDataFault frame.now r) }
 {
     pools.numbering().is_numbering();
     let bytes = frame.bytes();
-    let class = row_number(frame, row, 0);
-    let off = row_number(frame, row, 24);
+    let class = row.class_idx;
+    let off = row.class_data_off;
     if off == 0 {
         return Ok(ClassData {
             static_fields: Vec::new(alloc),

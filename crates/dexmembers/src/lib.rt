@@ -8,6 +8,7 @@ mod attaching;
 mod checking;
 mod class_data;
 mod class_data_put;
+mod class_def;
 mod code_checking;
 mod codes;
 mod copying;
@@ -35,6 +36,7 @@ mod uses_laws;
 mod weighing;
 
 pub use checking::{Checks, check_members};
+pub use class_def::ClassDef;
 pub use field_views::{Field, Fields};
 pub use members::Members;
 pub use method_views::{Method, Methods, ParameterSets};

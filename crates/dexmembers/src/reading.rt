@@ -13,6 +13,7 @@ ghost use Rattle.dexmembers.specs.Reading.{AreReadWithin, IsMembersFault};
 ghost use Rattle.dexmembers.specs.Contents.{contents_in, AreHeld};
 
 use crate::class_data::read_class_data;
+use crate::class_def::ClassDef;
 use crate::members::{Contents, Members};
 use crate::row_parts::{attach, read_parts};
 use crate::weighing::members_weight_law;
@@ -61,11 +62,12 @@ pub fn read_members<'a>(
 {
     pools.numbering().is_numbering();
     code_meaning_law();
-    let declared = match read_class_data(alloc, frame, pools, row) {
+    let row = ClassDef::at(frame, row);
+    let declared = match read_class_data(alloc, frame, pools, &row) {
         Ok(declared) => declared,
         Err(fault) => return Err(fault),
     };
-    let found = match read_parts(alloc, frame, pools, row, &declared, u64::from(most)) {
+    let found = match read_parts(alloc, frame, pools, &row, &declared, u64::from(most)) {
         Ok(found) => found,
         Err(fault) => return Err(fault),
     };

@@ -1,7 +1,7 @@
 //! The annotations of a class and its members.
 
-ghost use Rattle.std.specs.Prelude.{◌≡◌, ◌-◌, ◌^◌, ◌<◌, ◌≤◌, min, [], IsTrue, IfOk, IfErr, IfSome, MatchOption};
-ghost use Rattle.dexspec.specs.Header.{ClassDefs, table_size};
+ghost use Rattle.std.specs.Prelude.{◌≡◌, ℕ, ◌-◌, ◌^◌, ◌≤◌, min, [], IsTrue, IfOk, IfErr, IfSome, MatchOption};
+ghost use Rattle.dexspec.specs.Classes.{annotations_off};
 ghost use Rattle.dexpool.specs.Pools.{ArePools};
 ghost use Rattle.dexval.specs.Directories.{HasMembers, directory_weight};
 ghost use Rattle.dexval.specs.Numbered.{directory_in};
@@ -10,7 +10,7 @@ ghost use Rattle.dexmembers.specs.ClassData.{IsDataOf};
 ghost use Rattle.dexmembers.specs.Naming.{NamesRead, ListsRise};
 ghost use Rattle.dexmembers.specs.RowParts.{AreAnnotationsOf, AreEntered, AreHeavyAnnotations, IsAnnotationsFault, IsHeldDirectory};
 
-use crate::class_data::{ClassData, EncodedField, EncodedMethod, row_number};
+use crate::class_data::{ClassData, EncodedField, EncodedMethod};
 use crate::naming::names_members;
 use dexhead::{Condition, Frame};
 use dexpool::{ItemFault, Pools};
@@ -55,29 +55,27 @@ fn no_directory(alloc: Global) -> SharedDirectory
     }
 }
 
-/// Reads the annotations of the class of row `row` and of its members, or none where its offset is 0. Where their sets weigh
-/// more than `most`, they are judged only, and none is answered.
+/// Reads the annotations of a class and of its members at the offset of its row, or none at 0. Where their sets weigh more
+/// than `most`, they are checked only, and none is returned.
 ///
-/// Condition: the row is one of the file's, and declares these members. Error: `Refused(22)` exactly where no
-/// annotations_directory_item stands there, or it names a member that is not declared; `Memory` where a growth was refused.
+/// Condition: the row declares these members. Error: `Refused(22)` exactly where no annotations_directory_item is there, or
+/// it names a member that is not declared; `Memory` where an allocation failed.
 ///
 /// Source: "class_def_item", the field `annotations_off`, and "annotations_directory_item".
 pub(crate) fn read_annotations(
     alloc: Global,
     frame: &Frame<'_>,
     pools: &Pools<'_>,
-    row: u32,
+    off: u32,
     declared: &ClassData,
     most: u64,
 ) -> Result<Option<SharedDirectory>, ItemFault>
-    requires row { row < table_size frame.now ClassDefs }
-    ensures read { ArePools frame.now pools.now → IsDataOf frame.now row pools.now declared.now → IfOk result (λ found. MatchOption found (AreHeavyAnnotations frame.now row pools.now declared.now most) (AreAnnotationsOf frame.now row pools.now declared.now)) }
+    ensures read { (r : ℕ) → off ≡ annotations_off frame.now r → ArePools frame.now pools.now → IsDataOf frame.now r pools.now declared.now → IfOk result (λ found. MatchOption found (AreHeavyAnnotations frame.now r pools.now declared.now most) (AreAnnotationsOf frame.now r pools.now declared.now)) }
     ensures within { ArePools frame.now pools.now → IfOk result (λ found. IfSome found (λ directory. min (2 ^ 64 - 1) (directory_weight (directory_in pools.now (shared_directory_of directory))) ≤ most)) }
     ensures held { IfOk result (λ found. IfSome found IsHeldDirectory) }
-    ensures refused { ArePools frame.now pools.now → IsDataOf frame.now row pools.now declared.now → IfErr result (IsAnnotationsFault frame.now row) }
+    ensures refused { (r : ℕ) → off ≡ annotations_off frame.now r → ArePools frame.now pools.now → IsDataOf frame.now r pools.now declared.now → IfErr result (IsAnnotationsFault frame.now r) }
 {
     pools.numbering().is_numbering();
-    let off = row_number(frame, row, 20);
     if off == 0 {
         return Ok(Some(no_directory(alloc)));
     }

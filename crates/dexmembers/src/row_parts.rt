@@ -1,11 +1,11 @@
-//! What stands at a class row beside its class data: annotations, code and static values.
+//! What is at a class row beside its class data: annotations, code and static values.
 
-ghost use Rattle.std.specs.Prelude.{◌≡◌, ◌+◌, ◌-◌, ◌^◌, ◌<◌, min, IfOk, IfErr, IfSome, MatchOption, map};
-ghost use Rattle.dexspec.specs.Header.{ClassDefs, table_size};
+ghost use Rattle.std.specs.Prelude.{◌≡◌, ℕ, ◌+◌, ◌-◌, ◌^◌, min, IfOk, IfErr, IfSome, MatchOption, map};
 ghost use Rattle.dexpool.specs.Pools.{ArePools};
 ghost use Rattle.dexval.specs.Code.{value_of};
 ghost use Rattle.dexval.specs.Numbered.{values_of_list};
 ghost use Rattle.dexmembers.specs.ClassData.{IsDataOf};
+ghost use Rattle.dexmembers.specs.ClassDefs.{IsClassDef};
 ghost use Rattle.dexmembers.specs.Reading.{AreHeavyMembers, IsMembersFault};
 ghost use Rattle.dexval.specs.Shared.{shared_directory_of};
 ghost use Rattle.dexmembers.specs.Contents.{contents_in, AreHeld};
@@ -14,6 +14,7 @@ ghost use Rattle.dexmembers.specs.RowParts.{ArePartsOf, AreAttachable, IsHeldDir
 
 use crate::attaching::{attach_fields, attach_methods};
 use crate::class_data::ClassData;
+use crate::class_def::ClassDef;
 use crate::codes::read_codes;
 use crate::members::Contents;
 use crate::row_annotations::read_annotations;
@@ -24,7 +25,7 @@ use dexpool::{ItemFault, Pools};
 use dexval::{SharedDirectory, Value};
 use std::alloc::{AllocError, Global};
 
-/// What stands at a class row beside its class data: annotations, the code of direct and of virtual methods, and static
+/// What is at a class row beside its class data: annotations, the code of direct and of virtual methods, and static
 /// values.
 #[derive(Drop)]
 pub(crate) struct Parts<'a> {
@@ -36,11 +37,11 @@ pub(crate) struct Parts<'a> {
     pub(crate) static_values: Vec<Value>,
 }
 
-/// Reads what stands at class row `row` beside its class data. Where a part of it weighs more than `most`, all is judged, and
-/// none is answered.
+/// Reads what is at a class row beside its class data. Where a part of it weighs more than `most`, all is checked, and none
+/// is returned.
 ///
-/// Condition: the row is one of the file's, and declares these members. Error: `Refused` with a number from 18 to 22, a
-/// condition that fails at the row; the memory for what is kept was refused.
+/// Condition: the row declares these members. Error: `Refused` with a number from 18 to 22, a condition that fails at the
+/// row; `Memory` where an allocation failed.
 ///
 /// Source: "class_def_item", the fields `annotations_off` and `static_values_off`, and "encoded_method format", the field
 /// `code_off`.
@@ -48,18 +49,18 @@ pub(crate) fn read_parts<'a>(
     alloc: Global,
     frame: &Frame<'a>,
     pools: &Pools<'_>,
-    row: u32,
+    row: &ClassDef,
     declared: &ClassData,
     most: u64,
 ) -> Result<Option<Parts<'a>>, ItemFault>
-    requires row { row < table_size frame.now ClassDefs }
-    ensures read { ArePools frame.now pools.now → IsDataOf frame.now row pools.now declared.now → IfOk result (λ parts. MatchOption parts (AreHeavyMembers frame.now row most) (λ x. ArePartsOf frame.now row pools.now declared.now most x.directory x.direct_codes.items x.virtual_codes.items (values_of_list (map value_of x.static_values.items)))) }
+    ensures read { (r : ℕ) → IsClassDef frame.now r row.now → ArePools frame.now pools.now → IsDataOf frame.now r pools.now declared.now → IfOk result (λ parts. MatchOption parts (AreHeavyMembers frame.now r most) (λ x. ArePartsOf frame.now r pools.now declared.now most x.directory x.direct_codes.items x.virtual_codes.items (values_of_list (map value_of x.static_values.items)))) }
     ensures held { IfOk result (λ parts. IfSome parts (λ x. IsHeldDirectory x.directory)) }
     ensures weight { IfOk result (λ parts. IfSome parts (λ x. x.codes_weight ≡ min (2 ^ 64 - 1) (codes_weight x.direct_codes.items + codes_weight x.virtual_codes.items))) }
-    ensures refused { ArePools frame.now pools.now → IsDataOf frame.now row pools.now declared.now → IfErr result (IsMembersFault frame.now row) }
+    ensures refused { (r : ℕ) → IsClassDef frame.now r row.now → ArePools frame.now pools.now → IsDataOf frame.now r pools.now declared.now → IfErr result (IsMembersFault frame.now r) }
 {
     pools.numbering().is_numbering();
-    let found = match read_annotations(alloc, frame, pools, row, declared, most) {
+    let off = row.annotations_off;
+    let found = match read_annotations(alloc, frame, pools, off, declared, most) {
         Ok(found) => found,
         Err(fault) => return Err(fault),
     };
@@ -71,8 +72,8 @@ pub(crate) fn read_parts<'a>(
         Ok(codes) => codes,
         Err(fault) => return Err(fault),
     };
-    let fields = declared.static_fields.len();
-    let values = match read_static_values(alloc, frame, pools, row, fields, most) {
+    let (off, fields) = (row.static_values_off, declared.static_fields.len());
+    let values = match read_static_values(alloc, frame, pools, off, fields, most) {
         Ok(values) => values,
         Err(fault) => return Err(fault),
     };

@@ -1,46 +1,43 @@
 //! The values that static fields begin with.
 
-ghost use Rattle.std.specs.Prelude.{◌<◌, IfOk, IfErr, MatchOption, map};
-ghost use Rattle.dexspec.specs.Header.{ClassDefs, table_size};
+ghost use Rattle.std.specs.Prelude.{◌≡◌, ℕ, IfOk, IfErr, MatchOption, map};
+ghost use Rattle.dexspec.specs.Classes.{static_values_off};
 ghost use Rattle.dexpool.specs.Pools.{ArePools};
 ghost use Rattle.dexval.specs.Code.{value_of};
 ghost use Rattle.dexval.specs.Numbered.{values_of_list};
 ghost use Rattle.dexmembers.specs.StaticValues.{AreValuesOf, AreHeavyValues, IsValuesFault};
 
-use crate::class_data::row_number;
 use crate::row_checking::check_static_values;
 use dexhead::Frame;
 use dexpool::{ItemFault, Pools};
 use dexval::{Value, read_statics};
 use std::alloc::Global;
 
-/// Reads the values that the static fields of class row `row` begin with, or none where its offset is 0. Where they
-/// weigh more than `most`, they are checked only, and none is answered.
+/// Reads the values that the static fields of a class begin with at the offset of its row, or none at 0. Where they weigh
+/// more than `most`, they are checked only, and none is returned.
 ///
-/// Condition: the row is one of the file's. Error: `Refused(21)` exactly where no encoded_array_item stands there, or it
-/// has more values than `fields`, the number of static fields; `Memory` where a growth was refused.
+/// Error: `Refused(21)` exactly where no encoded_array_item is there, or it has more values than `fields`, the number of
+/// static fields; `Memory` where an allocation failed.
 ///
 /// Source: "class_def_item", the field `static_values_off`, and "encoded_array_item".
 pub(crate) fn read_static_values(
     alloc: Global,
     frame: &Frame<'_>,
     pools: &Pools<'_>,
-    row: u32,
+    off: u32,
     fields: usize,
     most: u64,
 ) -> Result<Option<Vec<Value>>, ItemFault>
-    requires row { row < table_size frame.now ClassDefs }
-    ensures read { ArePools frame.now pools.now → IfOk result (λ values. MatchOption values (AreHeavyValues frame.now row fields most) (λ values. AreValuesOf frame.now row pools.now fields most (values_of_list (map value_of values.items)))) }
-    ensures refused { ArePools frame.now pools.now → IfErr result (IsValuesFault frame.now row fields) }
+    ensures read { (r : ℕ) → off ≡ static_values_off frame.now r → ArePools frame.now pools.now → IfOk result (λ values. MatchOption values (AreHeavyValues frame.now r fields most) (λ values. AreValuesOf frame.now r pools.now fields most (values_of_list (map value_of values.items)))) }
+    ensures refused { (r : ℕ) → off ≡ static_values_off frame.now r → ArePools frame.now pools.now → IfErr result (IsValuesFault frame.now r fields) }
 {
-    let weight = match check_static_values(frame, pools, row, fields) {
+    let weight = match check_static_values(frame, pools, off, fields) {
         Ok(weight) => weight,
         Err(fault) => return Err(fault),
     };
     if weight > most {
         return Ok(None);
     }
-    let off = row_number(frame, row, 28);
     if off == 0 {
         return Ok(Some(Vec::new(alloc)));
     }

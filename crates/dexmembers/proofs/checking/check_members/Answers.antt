@@ -1,4 +1,4 @@
-use Rattle.std.proofs.Common.{◌∙◌, ℕ, List, subst, arith}
+use Rattle.std.proofs.Common.{◌∙◌, ℕ, List, sym, subst, arith}
 use Rattle.dexpool.specs.Numberings.{AreRising}
 use Rattle.dexmembers.specs.MethodCodes.{IsCodesFault}
 use Rattle.dexmembers.specs.StaticValues.{IsValuesFault}
@@ -10,35 +10,35 @@ use Rattle.dexmembers.proofs.RowChecked.{members_of}
 use Rattle.dexmembers.proofs.checking.check_members.Goals as goal
 
 pub returns-in-Err-clause-refused : goal.returns-in-Err-clause-refused
-returns-in-Err-clause-refused c = λ pools class. data_refused c.args.frame.now c.args.row c.in-Err.fault (c.in-Err.ensures.refused pools)
+returns-in-Err-clause-refused c = λ pools class. data_refused c.args.frame.now c.args.row c.in-Err.fault (c.in-Err.ensures.refused c.args.row c.at-row.ensures pools)
 
 pub returns-in-Err-check_annotations-clause-refused : goal.returns-in-Err-check_annotations-clause-refused
-returns-in-Err-check_annotations-clause-refused c = λ pools class. annotations_refused c.args.frame.now c.args.row c.in-Err-check_annotations.fault (c.in-Err-check_annotations.ensures.refused pools (c.in-Ok.ensures.read pools class))
+returns-in-Err-check_annotations-clause-refused c = λ pools class. annotations_refused c.args.frame.now c.args.row c.in-Err-check_annotations.fault (c.in-Err-check_annotations.ensures.refused c.args.row (sym c.at-row.ensures.annotations_are) pools (c.in-Ok.ensures.read c.args.row c.at-row.ensures pools class))
 
 pub returns-in-Err-check_codes-clause-refused : goal.returns-in-Err-check_codes-clause-refused
 returns-in-Err-check_codes-clause-refused c = λ pools class.
-    direct_refused c.args.frame.now c.args.row c.args.pools.now c.in-Ok.declared (c.in-Ok.ensures.read pools class) c.in-Err-check_codes.fault
+    direct_refused c.args.frame.now c.args.row c.args.pools.now c.in-Ok.declared (c.in-Ok.ensures.read c.args.row c.at-row.ensures pools class) c.in-Err-check_codes.fault
     (subst (λ (l : List EncodedMethod). IsCodesFault c.args.frame.now l c.in-Err-check_codes.fault) c.deref.ensures.value (c.in-Err-check_codes.ensures.refused pools))
 
 pub returns-in-Err-check_codes-2-clause-refused : goal.returns-in-Err-check_codes-2-clause-refused
 returns-in-Err-check_codes-2-clause-refused c = λ pools class.
-    virtual_refused c.args.frame.now c.args.row c.args.pools.now c.in-Ok.declared (c.in-Ok.ensures.read pools class) c.in-Err-check_codes-2.fault
+    virtual_refused c.args.frame.now c.args.row c.args.pools.now c.in-Ok.declared (c.in-Ok.ensures.read c.args.row c.at-row.ensures pools class) c.in-Err-check_codes-2.fault
     (subst (λ (l : List EncodedMethod). IsCodesFault c.args.frame.now l c.in-Err-check_codes-2.fault) c.deref-2.ensures.value (c.in-Err-check_codes-2.ensures.refused pools))
 
 pub returns-in-Err-check_static_values-clause-refused : goal.returns-in-Err-check_static_values-clause-refused
 returns-in-Err-check_static_values-clause-refused c = λ pools class.
-    values_refused c.args.frame.now c.args.row c.args.pools.now c.in-Ok.declared (c.in-Ok.ensures.read pools class) c.in-Err-check_static_values.fault
-    (subst (λ (n : ℕ). IsValuesFault c.args.frame.now c.args.row n c.in-Err-check_static_values.fault) (c.len.ensures ∙ c.in-Ok.declared.static_fields.ok.0) (c.in-Err-check_static_values.ensures.refused pools))
+    values_refused c.args.frame.now c.args.row c.args.pools.now c.in-Ok.declared (c.in-Ok.ensures.read c.args.row c.at-row.ensures pools class) c.in-Err-check_static_values.fault
+    (subst (λ (n : ℕ). IsValuesFault c.args.frame.now c.args.row n c.in-Err-check_static_values.fault) (c.len-fields.ensures ∙ c.in-Ok.declared.static_fields.ok.0) (c.in-Err-check_static_values.ensures.refused c.args.row (sym c.at-row.ensures.static_values_are) pools))
 
 pub returns-clause-checked : goal.returns-clause-checked
 returns-clause-checked c = λ pools class.
     let b = c.args.frame.now in
     let d = c.in-Ok.declared in
-    let is = c.in-Ok.ensures.read pools class in
+    let is = c.in-Ok.ensures.read c.args.row c.at-row.ensures pools class in
     let rising = subst AreRising c.numbering.ensures c.is_numbering.ensures.rising in
     members_of b c.args.row c.args.pools.now pools rising d is c.fields_weight.result c.in-Ok-check_annotations.annotations c.in-Ok-check_codes.direct c.in-Ok-check_codes-2.virtuals c.in-Ok-check_static_values.values _ c.fields_weight.ensures
-    (c.in-Ok-check_annotations.ensures.weight pools is)
+    (c.in-Ok-check_annotations.ensures.weight c.args.row (sym c.at-row.ensures.annotations_are) pools is)
     (subst (λ (l : List EncodedMethod). HaveCodesOf b l c.in-Ok-check_codes.direct) c.deref.ensures.value (c.in-Ok-check_codes.ensures.weight pools))
     (subst (λ (l : List EncodedMethod). HaveCodesOf b l c.in-Ok-check_codes-2.virtuals) c.deref-2.ensures.value (c.in-Ok-check_codes-2.ensures.weight pools))
-    (subst (λ (n : ℕ). HasValuesOf b c.args.row n c.in-Ok-check_static_values.values) (c.len.ensures ∙ d.static_fields.ok.0) (c.in-Ok-check_static_values.ensures.weight pools))
+    (subst (λ (n : ℕ). HasValuesOf b c.args.row n c.in-Ok-check_static_values.values) (c.len-fields.ensures ∙ d.static_fields.ok.0) (c.in-Ok-check_static_values.ensures.weight c.args.row (sym c.at-row.ensures.static_values_are) pools))
     (omega (arith, c.saturating_add.ensures, c.saturating_add-2.ensures, c.saturating_add-3.ensures, c.saturating_add-4.ensures))

@@ -7,27 +7,27 @@ use Rattle.dexmembers.proofs.RowAnnotations.{directory_refused, unnamed_refused,
 use Rattle.dexmembers.proofs.row_annotations.read_annotations.Goals as goal
 
 pub returns-in-Err-clause-refused : goal.returns-in-Err-clause-refused
-returns-in-Err-clause-refused c = λ pools is.
-    let some : c.row_number-off.result ≢ 0 = λ e. grind (arith, common_steps) in
-    directory_refused c.args.frame.now c.args.row c.args.pools.now c.args.declared.now is c.row_number-off.result c.row_number-off.ensures some c.in-Err.fault (c.in-Err.ensures.refused pools)
+returns-in-Err-clause-refused c = λ r at pools is.
+    let some : c.args.off ≢ 0 = λ e. grind (arith, common_steps) in
+    directory_refused c.args.frame.now r c.args.pools.now c.args.declared.now is c.args.off at some c.in-Err.fault (c.in-Err.ensures.refused pools)
 
 pub returns-then-not-names_declared-clause-refused : goal.returns-then-not-names_declared-clause-refused
-returns-then-not-names_declared-clause-refused c = λ pools is.
-    let some : c.row_number-off.result ≢ 0 = λ e. grind (arith, common_steps) in
+returns-then-not-names_declared-clause-refused c = λ r at pools is.
+    let some : c.args.off ≢ 0 = λ e. grind (arith, common_steps) in
     let rising = subst AreRising c.numbering.ensures c.is_numbering.ensures.rising in (
       refl,
-      unnamed_refused c.args.frame.now c.args.row c.args.pools.now c.args.declared.now is c.row_number-off.result c.row_number-off.ensures some pools rising
+      unnamed_refused c.args.frame.now r c.args.pools.now c.args.declared.now is c.args.off at some pools rising
           (λ has rise names. let e : false ≡ true = sym c.if-not-names_declared.true ∙ c.names_declared.ensures.missing has rise names in absurd cc),
     )
 
 pub returns-clause-read : goal.returns-clause-read
-returns-clause-read c = λ pools is.
-    let some : c.row_number-off.result ≢ 0 = λ e. grind (arith, common_steps) in
+returns-clause-read c = λ r at pools is.
+    let some : c.args.off ≢ 0 = λ e. grind (arith, common_steps) in
     let rising = subst AreRising c.numbering.ensures c.is_numbering.ensures.rising in
-    directory_answer c.args.frame.now c.args.row c.args.pools.now c.args.declared.now is c.row_number-off.result c.row_number-off.ensures some pools rising c.args.most c.in-Ok.found (c.in-Ok.ensures.directory pools) (c.names_declared.ensures.listed c.if-not-names_declared.false)
+    directory_answer c.args.frame.now r c.args.pools.now c.args.declared.now is c.args.off at some pools rising c.args.most c.in-Ok.found (c.in-Ok.ensures.directory pools) (c.names_declared.ensures.listed c.if-not-names_declared.false)
 
 pub returns-then-off-eq0-clause-within : goal.returns-then-off-eq0-clause-within
 returns-then-off-eq0-clause-within c = λ pools. subst (λ d. min (2 ^ 64 - 1) (directory_weight (directory_in c.args.pools.now d)) ≤ c.args.most) (sym c.no_directory.ensures.none) (omega arith)
 
 pub returns-clause-within : goal.returns-clause-within
-returns-clause-within c = λ pools. directory_light c.args.frame.now c.args.pools.now c.row_number-off.result c.args.most c.in-Ok.found (c.in-Ok.ensures.directory pools)
+returns-clause-within c = λ pools. directory_light c.args.frame.now c.args.pools.now c.args.off c.args.most c.in-Ok.found (c.in-Ok.ensures.directory pools)

@@ -5,24 +5,24 @@ use Rattle.dexmembers.proofs.RowChecked.{no_annotations, annotations_of}
 use Rattle.dexmembers.proofs.row_checking.check_annotations.Goals as goal
 
 pub returns-then-off-eq0-clause-weight : goal.returns-then-off-eq0-clause-weight
-returns-then-off-eq0-clause-weight c = λ pools is. no_annotations c.args.frame.now c.args.row c.args.pools.now c.args.declared.now is (omega arith)
+returns-then-off-eq0-clause-weight c = λ r at pools is. no_annotations c.args.frame.now r c.args.pools.now c.args.declared.now is (omega (arith, at))
 
 pub returns-in-Err-clause-refused : goal.returns-in-Err-clause-refused
-returns-in-Err-clause-refused c = λ pools is.
-    let some : c.row_number-off.result ≢ 0 = omega arith in
-    directory_refused c.args.frame.now c.args.row c.args.pools.now c.args.declared.now is c.row_number-off.result c.row_number-off.ensures some c.in-Err.fault (c.in-Err.ensures.refused pools)
+returns-in-Err-clause-refused c = λ r at pools is.
+    let some : c.args.off ≢ 0 = omega arith in
+    directory_refused c.args.frame.now r c.args.pools.now c.args.declared.now is c.args.off at some c.in-Err.fault (c.in-Err.ensures.refused pools)
 
 pub returns-then-not-names_declared-clause-refused : goal.returns-then-not-names_declared-clause-refused
-returns-then-not-names_declared-clause-refused c = λ pools is.
-    let some : c.row_number-off.result ≢ 0 = omega arith in
+returns-then-not-names_declared-clause-refused c = λ r at pools is.
+    let some : c.args.off ≢ 0 = omega arith in
     let rising = subst AreRising c.numbering.ensures c.is_numbering.ensures.rising in (
       refl,
-      unnamed_refused c.args.frame.now c.args.row c.args.pools.now c.args.declared.now is c.row_number-off.result c.row_number-off.ensures some pools rising
+      unnamed_refused c.args.frame.now r c.args.pools.now c.args.declared.now is c.args.off at some pools rising
           (λ has rise names. let e : false ≡ true = sym c.if-not-names_declared.true ∙ c.names_declared.ensures.missing has rise names in absurd cc),
     )
 
 pub returns-clause-weight : goal.returns-clause-weight
-returns-clause-weight c = λ pools is.
-    let some : c.row_number-off.result ≢ 0 = omega arith in
+returns-clause-weight c = λ r at pools is.
+    let some : c.args.off ≢ 0 = omega arith in
     let rising = subst AreRising c.numbering.ensures c.is_numbering.ensures.rising in
-    annotations_of c.args.frame.now c.args.row c.args.pools.now c.args.declared.now is c.row_number-off.result c.row_number-off.ensures some pools rising (c.names_declared.ensures.listed c.if-not-names_declared.false) c.in-Ok.shape.weight (c.in-Ok.ensures.directory pools)
+    annotations_of c.args.frame.now r c.args.pools.now c.args.declared.now is c.args.off at some pools rising (c.names_declared.ensures.listed c.if-not-names_declared.false) c.in-Ok.shape.weight (c.in-Ok.ensures.directory pools)

@@ -1,5 +1,5 @@
 -- Lists of interfaces.
-use Rattle.std.proofs.Common.{◌≡◌, ◌≢◌, ℕ, zero, suc, ◌+◌, ◌*◌, ◌<◌, List, [], ◌∷◌, length, drop, get_or, refl, sym, ap, ◌∙◌, subst, arith, inl, inr}
+use Rattle.std.proofs.Common.{◌≡◌, ◌≢◌, ℕ, zero, suc, ◌+◌, ◌*◌, ◌<◌, ◌≤◌, List, [], ◌∷◌, length, drop, get_or, refl, sym, ap, ◌∙◌, subst, arith, inl, inr}
 use Rattle.std.specs.Prelude.{All}
 use Rattle.std.specs.List.{AllZip}
 use Rattle.std.proofs.lemmas.Bool.{cases_lt, ne_eqb}
@@ -8,10 +8,12 @@ use Rattle.dexspec.specs.Texts.{Text}
 use Rattle.dexspec.specs.Names.{IsClass}
 use Rattle.dexspec.specs.Rows.{TypeRow, type_indices}
 use Rattle.dexspec.specs.Lists.{OrNone}
-use Rattle.dexspec.specs.Classes.{ClassListAt}
+use Rattle.dexspec.specs.Classes.{ClassListAt, interfaces_off}
 use Rattle.dexspec.specs.Accepted.{IsDefinedBefore}
 use Rattle.dexpool.specs.Reading.{HasRoom}
 use Rattle.dexpool.proofs.Bytes.{ushort_at_rest}
+use Rattle.dexmembers.specs.ClassDefs.{IsClassDef}
+use Rattle.dexmembers.specs.declared.class_def.ClassDef.{ClassDef}
 use Rattle.dexclass.specs.Rows.{IsClassIndex, IsInterfaceIndex, interface_indices, HasInterfaceList, HasInterfaces}
 
 -- ---- indices one by one
@@ -91,6 +93,40 @@ interfaces_count b off count some room = room.count ∙ sym (length-ushorts b (o
 pub listed_room : (b : List ℕ) (off : ℕ) → off ≢ 0 → HasInterfaceList b off → HasRoom b off (uint_at b off)
 listed_room b off some (ts, inl none) = absurd (some none.0)
 listed_room b off some (ts, inr list) = record { count = refl; in_data = list.1.list.in_data; aligned = list.1.list.aligned }
+
+-- as many as are listed at the offset of a row
+pub row_interfaces : (b : List ℕ) (r : ℕ) (row : ClassDef) (n : ℕ) → IsClassDef b r row → n ≡ length (interface_indices b row.interfaces_off) → n ≡ length (interface_indices b (interfaces_off b r))
+row_interfaces b r row n is e = e ∙ ap (λ (o : ℕ). length (interface_indices b o)) (sym is.interfaces_are)
+
+module _ (b : List ℕ) (off count : ℕ) (list : HasInterfaceList b off) (counted : count ≡ length (interface_indices b off)) where
+  -- a list of some interfaces has room for so many
+  counted_room : off ≢ 0 → HasRoom b off count
+  counted_room some =
+      let room = listed_room b off some list in
+      subst (HasRoom b off) (interfaces_count b off (uint_at b off) some room ∙ sym counted) room
+
+  -- it begins in the file, as what is not there does
+  pub list_within : off ≤ length b
+  list_within = elim list.1 [
+    | inl none ↦ omega (arith, none.0)
+    | inr there ↦ omega (arith, there.1.list.in_data.within)
+  ]
+
+  -- each index is in the file
+  pub index_within : (k : ℕ) → k < count → off + 4 + 2 * k + 2 ≤ length b
+  index_within k lt = elim list.1 [
+    | inl none ↦ let few : count ≡ 0 = counted ∙ ap (λ (o : ℕ). length (interface_indices b o)) none.0 in absurd (omega (arith, few, lt))
+    | inr there ↦ let room = counted_room there.0 in omega (arith, room.count, room.in_data.within, lt)
+  ]
+
+  -- so many indices are those of the list
+  pub counted_indices : ushorts_at b (off + 4) count ≡ interface_indices b off
+  counted_indices = elim list.1 [
+    | inl none ↦
+        let few : count ≡ 0 = counted ∙ ap (λ (o : ℕ). length (interface_indices b o)) none.0 in
+        ap (ushorts_at b (off + 4)) few ∙ sym (ap (interface_indices b) none.0)
+    | inr there ↦ ap (ushorts_at b (off + 4)) (counted_room there.0).count ∙ sym (listed_interfaces b off there.0)
+  ]
 
 module _ (b : List ℕ) (r off count : ℕ) (some : off ≢ 0) (room : HasRoom b off count) where
   pub has_interfaces : All (IsInterfaceIndex b r) (type_indices b off) → HasInterfaces b r off

@@ -7,8 +7,9 @@ use Rattle.dexspec.specs.Header.{ClassDefs, table_size}
 use Rattle.dexspec.specs.Classes.{superclass_idx, interfaces_off, ClassTypeRow}
 use Rattle.dexspec.specs.Conditions.{Condition}
 use Rattle.dexspec.specs.Accepted.{HasClass, IsDefinedBefore, HoldBelow}
-use Rattle.dexclass.specs.declared.class_rows.RowFields.{RowFields}
-use Rattle.dexclass.specs.Rows.{HasRowFields, IsClassIndex, IsParentIndex, IsSourceIndex, superclass_indices, interface_indices, HasInterfaces, AreDefinedMarks}
+use Rattle.dexmembers.specs.ClassDefs.{IsClassDef}
+use Rattle.dexmembers.specs.declared.class_def.ClassDef.{ClassDef}
+use Rattle.dexclass.specs.Rows.{IsClassIndex, IsParentIndex, IsSourceIndex, superclass_indices, interface_indices, HasInterfaces, AreDefinedMarks}
 use Rattle.dexclass.proofs.Indices.{class_in_range}
 
 -- ---- lists in two parts
@@ -24,17 +25,17 @@ all_right P (x ∷ xs) ys h = all_right P xs ys (λ i e small. h (suc i) e (omeg
 
 -- ---- the parts
 
-module _ (b : List ℕ) (r : ℕ) (f : RowFields) (is : HasRowFields b r f) where
-  pub class_of : HasClass b r → IsClassIndex b f.class
+module _ (b : List ℕ) (r : ℕ) (f : ClassDef) (is : IsClassDef b r f) where
+  pub class_of : HasClass b r → IsClassIndex b f.class_idx
   class_of h = (h.name, subst (λ (i : ℕ). ClassTypeRow b i h.name) is.class_is h.is)
 
-  pub parent_of : HasClass b r → IsParentIndex b f.superclass
+  pub parent_of : HasClass b r → IsParentIndex b f.superclass_idx
   parent_of h = subst (IsParentIndex b) is.superclass_is h.superclass
 
-  pub source_of : HasClass b r → IsSourceIndex b f.source_file
+  pub source_of : HasClass b r → IsSourceIndex b f.source_file_idx
   source_of h = subst (IsSourceIndex b) is.source_is h.source
 
-  pub parent_before_of : HasClass b r → All (IsDefinedBefore b r) (superclass_indices f.superclass)
+  pub parent_before_of : HasClass b r → All (IsDefinedBefore b r) (superclass_indices f.superclass_idx)
   parent_before_of h = subst (λ (i : ℕ). All (IsDefinedBefore b r) (superclass_indices i)) is.superclass_is
       (all_left (IsDefinedBefore b r) (superclass_indices (superclass_idx b r)) (interface_indices b (interfaces_off b r)) h.parents)
 
@@ -46,19 +47,19 @@ module _ (b : List ℕ) (r : ℕ) (f : RowFields) (is : HasRowFields b r f) wher
   })
 
   module _ (seen : List Bool) (marks : AreDefinedMarks b r seen) where
-    pub seen_not : IsClassIndex b f.class → get_or seen f.class false ≡ true → HasClass b r → ⊥
+    pub seen_not : IsClassIndex b f.class_idx → get_or seen f.class_idx false ≡ true → HasClass b r → ⊥
     seen_not class e h =
-        let before = (marks.each f.class (class_in_range b f.class class)).0 e in
+        let before = (marks.each f.class_idx (class_in_range b f.class_idx class)).0 e in
         h.first before.0 before.1 (before.2 ∙ sym is.class_is)
 
-    pub has_class : IsClassIndex b f.class → get_or seen f.class false ≡ false → IsParentIndex b f.superclass → IsSourceIndex b f.source_file
-        → All (IsDefinedBefore b r) (superclass_indices f.superclass) → HasInterfaces b r f.interfaces_off → HasClass b r
+    pub has_class : IsClassIndex b f.class_idx → get_or seen f.class_idx false ≡ false → IsParentIndex b f.superclass_idx → IsSourceIndex b f.source_file_idx
+        → All (IsDefinedBefore b r) (superclass_indices f.superclass_idx) → HasInterfaces b r f.interfaces_off → HasClass b r
     has_class class e parent source before interfaces =
         let listed : HasInterfaces b r (interfaces_off b r) = subst (HasInterfaces b r) (sym is.interfaces_are) interfaces in
         record {
           name = class.0;
           is = subst (λ (i : ℕ). ClassTypeRow b i class.0) (sym is.class_is) class.1;
-          first = λ k lt same. false≢true (sym e ∙ (marks.each f.class (class_in_range b f.class class)).1 (k, lt, same ∙ is.class_is));
+          first = λ k lt same. false≢true (sym e ∙ (marks.each f.class_idx (class_in_range b f.class_idx class)).1 (k, lt, same ∙ is.class_is));
           superclass = subst (IsParentIndex b) (sym is.superclass_is) parent;
           interfaces = (listed.types, listed.list);
           source = subst (IsSourceIndex b) (sym is.source_is) source;

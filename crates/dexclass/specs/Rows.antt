@@ -5,25 +5,13 @@ use Rattle.dexspec.specs.Texts.{Text}
 use Rattle.dexspec.specs.Names.{IsClass}
 use Rattle.dexspec.specs.Header.{ClassDefs, TypeIds, table_size}
 use Rattle.dexspec.specs.Rows.{type_indices, StringRow}
-use Rattle.dexspec.specs.Classes.{class_idx, access_flags, superclass_idx, interfaces_off, source_file_idx, annotations_off, class_data_off, static_values_off, ClassTypeRow, ClassListAt, IndexOrNone, no_index}
+use Rattle.dexspec.specs.Classes.{class_idx, ClassTypeRow, ClassListAt, IndexOrNone, no_index}
 use Rattle.dexspec.specs.Conditions.{Condition}
 use Rattle.dexspec.specs.Accepted.{IsFrame, IsDefinedBefore, FailsFirst}
 use Rattle.dexspec.specs.Mentions.{Mentions}
 use Rattle.dexpool.specs.Pools.{ArePools}
 use Rattle.dexpool.specs.declared.faults.ReadFault.{ReadFault}
 use Rattle.dexpool.specs.declared.faults.ReadFault.TheVariants.{Refused, Memory}
-use Rattle.dexclass.specs.declared.class_rows.RowFields.{RowFields}
-
--- class row r has these fields
-pub record HasRowFields (b : List ℕ) (r : ℕ) (f : RowFields) : Type 0 where
-  pub class_is : class_idx b r ≡ f.class
-  pub flags_are : access_flags b r ≡ f.flags
-  pub superclass_is : superclass_idx b r ≡ f.superclass
-  pub interfaces_are : interfaces_off b r ≡ f.interfaces_off
-  pub source_is : source_file_idx b r ≡ f.source_file
-  pub annotations_are : annotations_off b r ≡ f.annotations_off
-  pub class_data_is : class_data_off b r ≡ f.class_data_off
-  pub static_values_are : static_values_off b r ≡ f.static_values_off
 
 -- the tests tell of each type whether it is a class
 pub record AreClassTests (types : List Text) (tests : List Bool) : Type 0 where

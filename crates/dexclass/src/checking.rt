@@ -10,9 +10,9 @@ ghost use Rattle.dexclass.specs.Programs.{IsFaultOf};
 ghost use Rattle.dexclass.specs.Checking.{HaveBodiesOf, IsCheckedAs};
 
 use crate::judging::judge_classes;
-use crate::reading::{MOST_WEIGHT, at_row, read_rows, row_weight, too_heavy};
+use crate::reading::{MOST_WEIGHT, at_row, interface_count, read_rows, row_weight, too_heavy};
 use dexhead::{Frame, Table};
-use dexmembers::{Checks, check_members};
+use dexmembers::{Checks, ClassDef, check_members};
 use dexpool::{Pools, ReadFault};
 use std::alloc::Global;
 
@@ -98,12 +98,13 @@ fn check_row(
     ensures accepted { IfOk result (HaveBodiesOf frame.now (r + 1)) }
     ensures refused { IfErr result (IsFaultOf frame.now) }
 {
+    let interfaces = interface_count(frame, ClassDef::at(frame, r).interfaces_off);
     let members = match check_members(alloc, frame, pools, r, checks) {
         Ok(members) => members,
         Err(fault) => return Err(at_row(fault, r)),
     };
     let weight = before
-        .saturating_add(row_weight(frame, r))
+        .saturating_add(row_weight(interfaces))
         .saturating_add(members);
     if weight > MOST_WEIGHT {
         return Err(too_heavy(r));

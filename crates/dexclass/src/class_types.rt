@@ -1,13 +1,14 @@
 //! Which types are classes, and which of them a file defines.
 
-ghost use Rattle.std.specs.Prelude.{◌≡◌, ◌↔◌, ◌<◌, ◌+◌, IsTrue, IfOk};
+ghost use Rattle.std.specs.Prelude.{◌≡◌, ◌↔◌, ◌+◌, ℕ, List, IsTrue, IfOk};
+ghost use Rattle.dexspec.specs.Classes.{class_idx};
 ghost use Rattle.dexspec.specs.Names.{IsClass};
 ghost use Rattle.dexspec.specs.Header.{ClassDefs, TypeIds, table_size};
 ghost use Rattle.dexpool.specs.Pools.{ArePools};
 ghost use Rattle.dexclass.specs.Rows.{AreClassTests, AreDefinedMarks};
 
-use crate::class_rows::row_fields;
 use dexhead::{Frame, Table};
+use dexmembers::ClassDef;
 use dexpool::{Pools, SymbolKind};
 use dexstr::{Kind, Text, descriptor_kind};
 use std::alloc::{AllocError, Global};
@@ -45,13 +46,11 @@ pub(crate) fn no_marks(alloc: Global, frame: &Frame<'_>) -> Result<Vec<bool>, Al
     Ok(marks)
 }
 
-/// Marks the type of class row `r`, if there is such a type.
-pub(crate) fn mark(frame: &Frame<'_>, r: u32, marks: &mut [bool])
-    requires row { r < table_size frame.now ClassDefs }
-    requires marks { AreDefinedMarks frame.now r marks.old }
-    ensures { AreDefinedMarks frame.now (r + 1) marks.new }
+/// Marks the type of a class row, if there is such a type.
+pub(crate) fn mark(index: u32, marks: &mut Vec<bool>)
+    ensures { (b : List ℕ) (r : ℕ) → class_idx b r ≡ index → AreDefinedMarks b r marks.old.items → AreDefinedMarks b (r + 1) marks.new.items }
 {
-    let class = row_fields(frame, r).class as usize;
+    let class = index as usize;
     if class < marks.len() {
         marks[class] = true;
     }
@@ -64,7 +63,7 @@ pub(crate) fn defined(alloc: Global, frame: &Frame<'_>) -> Result<Vec<bool>, All
     let mut marks = no_marks(alloc, frame)?;
     let count = frame.size(Table::ClassDefs);
     for r in 0..count {
-        mark(frame, r, &mut marks);
+        mark(ClassDef::at(frame, r).class_idx, &mut marks);
     }
     Ok(marks)
 }

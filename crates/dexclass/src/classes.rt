@@ -1,19 +1,21 @@
 //! Class definitions with numbers in the place of symbols.
 
-ghost use Rattle.std.specs.Prelude.{◌≡◌, ◌<◌, IfOk};
-ghost use Rattle.dexspec.specs.Header.{ClassDefs, table_size};
-ghost use Rattle.dexspec.specs.Accepted.{HasClass};
+ghost use Rattle.std.specs.Prelude.{◌≡◌, ℕ, length, IfOk};
+ghost use Rattle.dexmembers.specs.ClassDefs.{IsClassDef};
 ghost use Rattle.dexclass.specs.Rows.{interface_indices, HasInterfaceList};
 ghost use Rattle.dexclass.specs.Numbered.{number_of, class_of_row};
 
-use crate::class_rows::{NO_INDEX, row_fields};
 use dexflags::ClassFlags;
 use dexhead::{Frame, u16_at};
-use dexmembers::Members;
+use dexmembers::{ClassDef, Members};
 use dexorder::HasParents;
-use dexpool::type_list_len;
 use std::alloc::{AllocError, Global};
 use std::marker::Model;
+
+/// The index that names nothing.
+///
+/// Source: "class_def_item", the constant NO_INDEX.
+pub(crate) const NO_INDEX: u32 = 0xffff_ffff;
 
 /// A class definition. Its types and texts, and the symbols of what it declares, are numbers of a numbering.
 ///
@@ -140,19 +142,18 @@ fn number_of(index: u32) -> Option<usize>
     }
 }
 
-// The indices of the interfaces that are listed at an offset.
-fn interfaces_at(alloc: Global, frame: &Frame<'_>, off: u32) -> Result<Vec<usize>, AllocError>
-    ensures { IfOk result (λ interfaces. HasInterfaceList frame.now off → interfaces.items ≡ interface_indices frame.now off) }
+// The indices of the `count` interfaces that are listed at an offset.
+fn interfaces_at(
+    alloc: Global,
+    frame: &Frame<'_>,
+    off: u32,
+    count: u32,
+) -> Result<Vec<usize>, AllocError>
+    requires list { HasInterfaceList frame.now off }
+    requires count { count ≡ length (interface_indices frame.now off) }
+    ensures { IfOk result (λ interfaces. interfaces.items ≡ interface_indices frame.now off) }
 {
-    let mut interfaces = Vec::new(alloc);
-    if off == 0 {
-        return Ok(interfaces);
-    }
-    let count = match type_list_len(frame, off) {
-        Some(count) => count,
-        None => return Ok(interfaces),
-    };
-    interfaces.try_reserve_exact(count as usize)?;
+    let mut interfaces = Vec::with_capacity(alloc, count as usize)?;
     let list = frame.rest(off);
     for k in 0..count {
         interfaces.push(usize::from(u16_at(list, 4 + 2 * k as usize)))?;
@@ -160,29 +161,30 @@ fn interfaces_at(alloc: Global, frame: &Frame<'_>, off: u32) -> Result<Vec<usize
     Ok(interfaces)
 }
 
-/// The class of row `r`, with the indices of the file as numbers, with what it declares and with its weight.
+/// The class of a row, which lists `interfaces` interfaces: with the indices of the file as numbers, with what it declares
+/// and with its weight.
 ///
-/// Condition: the row meets condition 16. Error: `AllocError` where the memory for its interfaces is refused.
+/// Condition: the row meets condition 16. Error: the memory for its interfaces was refused.
 ///
 /// Source: "class_def_item" and "type_list".
 pub(crate) fn class_at<'a>(
     alloc: Global,
     frame: &Frame<'a>,
-    r: u32,
+    row: &ClassDef,
+    interfaces: u32,
     members: Members<'a>,
     weight: u64,
 ) -> Result<Class<'a>, AllocError>
-    requires row { r < table_size frame.now ClassDefs }
-    requires holds { HasClass frame.now r }
-    ensures { IfOk result (λ class. class ≡ class_of_row frame.now r members.entry weight) }
+    requires list { HasInterfaceList frame.now row.now.interfaces_off }
+    requires interfaces { interfaces ≡ length (interface_indices frame.now row.now.interfaces_off) }
+    ensures { (r : ℕ) → IsClassDef frame.now r row.now → IfOk result (λ class. class ≡ class_of_row frame.now r members.entry weight) }
 {
-    let row = row_fields(frame, r);
     Ok(Class {
-        name: row.class as usize,
-        flags: row.flags,
-        superclass: number_of(row.superclass),
-        interfaces: interfaces_at(alloc, frame, row.interfaces_off)?,
-        source: number_of(row.source_file),
+        name: row.class_idx as usize,
+        flags: row.access_flags,
+        superclass: number_of(row.superclass_idx),
+        interfaces: interfaces_at(alloc, frame, row.interfaces_off, interfaces)?,
+        source: number_of(row.source_file_idx),
         members,
         weight,
     })

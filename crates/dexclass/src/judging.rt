@@ -6,11 +6,13 @@ ghost use Rattle.dexspec.specs.Accepted.{HasClass, HoldBelow, IsDefinedBefore};
 ghost use Rattle.dexspec.specs.Rows.{type_indices};
 ghost use Rattle.dexpool.specs.Pools.{ArePools};
 ghost use Rattle.dexpool.specs.Reading.{HasRoom};
-ghost use Rattle.dexclass.specs.Rows.{IsKnown, IsClassFault, AreDefinedMarks, IsClassIndex, IsParentIndex, IsSourceIndex, IsInterfaceIndex, superclass_indices, HasInterfaces, HasRowFields};
+ghost use Rattle.dexmembers.specs.ClassDefs.{IsClassDef};
+ghost use Rattle.dexclass.specs.Rows.{IsKnown, IsClassFault, AreDefinedMarks, IsClassIndex, IsParentIndex, IsSourceIndex, IsInterfaceIndex, superclass_indices, HasInterfaces};
 
-use crate::class_rows::{NO_INDEX, RowFields, row_fields};
 use crate::class_types::{class_types, defined, mark, no_marks};
+use crate::classes::NO_INDEX;
 use dexhead::{Condition, Frame, Refusal, Table, u16_at};
+use dexmembers::ClassDef;
 use dexpool::{Pools, ReadFault, SymbolKind, type_list_len};
 use std::alloc::Global;
 
@@ -113,27 +115,25 @@ impl<'j, 'a> Judge<'j, 'a> {
         index == NO_INDEX || self.is_before(seen, index)
     }
 
-    // Whether class row `r` meets condition 16, where the types of the rows before it are seen.
-    fn holds(&self, seen: &[bool], r: u32) -> bool
+    // Whether the class row meets condition 16, where the types of the rows before it are seen.
+    fn holds(&self, seen: &[bool], row: &ClassDef) -> bool
         requires known { IsKnown self.now.frame.now self.now.pools.now self.now.class_types.now self.now.defined.now }
-        requires row { r < table_size self.now.frame.now ClassDefs }
-        requires seen { AreDefinedMarks self.now.frame.now r seen.now }
-        ensures { IsTrue result ↔ HasClass self.now.frame.now r }
+        requires seen { (r : ℕ) × AreDefinedMarks self.now.frame.now r seen.now }
+        ensures { (r : ℕ) → AreDefinedMarks self.now.frame.now r seen.now → IsClassDef self.now.frame.now r row.now → IsTrue result ↔ HasClass self.now.frame.now r }
     {
-        let row = row_fields(self.frame, r);
-        if !self.is_class(row.class) {
+        if !self.is_class(row.class_idx) {
             return false;
         }
-        if seen[row.class as usize] {
+        if seen[row.class_idx as usize] {
             return false;
         }
-        if !self.is_parent(row.superclass) {
+        if !self.is_parent(row.superclass_idx) {
             return false;
         }
-        if !self.is_source(row.source_file) {
+        if !self.is_source(row.source_file_idx) {
             return false;
         }
-        if !self.has_parent_before(seen, row.superclass) {
+        if !self.has_parent_before(seen, row.superclass_idx) {
             return false;
         }
         self.has_interfaces(seen, row.interfaces_off)
@@ -166,13 +166,14 @@ pub(crate) fn judge_classes(
     let mut seen = no_marks(alloc, frame)?;
     let count = frame.size(Table::ClassDefs);
     for r in 0..count {
-        if !judge.holds(&seen, r) {
+        let row = ClassDef::at(frame, r);
+        if !judge.holds(&seen, &row) {
             return Err(ReadFault::Refused(Refusal {
                 number: Condition::Classes as u8,
                 place: r,
             }));
         }
-        mark(frame, r, &mut seen);
+        mark(row.class_idx, &mut seen);
     }
     Ok(())
 }

@@ -6,7 +6,6 @@
 mod arranging;
 mod checking;
 mod class_calls;
-mod class_rows;
 mod class_types;
 mod classes;
 mod judging;

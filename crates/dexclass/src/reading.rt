@@ -1,9 +1,8 @@
 //! Reading a whole file.
 
-ghost use Rattle.std.specs.Prelude.{◌≡◌, ◌+◌, ◌*◌, ◌^◌, ◌<◌, ℕ, List, All, length, IfOk, IfErr, OnOk};
+ghost use Rattle.std.specs.Prelude.{◌≡◌, ◌+◌, ◌*◌, ◌<◌, ℕ, List, All, length, IfOk, IfErr, OnOk};
 ghost use Rattle.dexspec.specs.Header.{ClassDefs, table_size};
-ghost use Rattle.dexspec.specs.Classes.{interfaces_off};
-ghost use Rattle.dexspec.specs.Accepted.{HasClass, HoldBelow};
+ghost use Rattle.dexspec.specs.Accepted.{HoldBelow};
 ghost use Rattle.dexpool.specs.Pools.{ArePools};
 ghost use Rattle.dexpool.specs.declared.faults.ReadFault.TheVariants.{Refused};
 ghost use Rattle.dexmembers.specs.Reading.{IsMembersFault};
@@ -11,14 +10,13 @@ ghost use Rattle.dexclass.specs.Rows.{HasInterfaceList, interface_indices};
 ghost use Rattle.dexclass.specs.Programs.{IsReadAs, IsFaultOf};
 ghost use Rattle.dexclass.specs.Reading.{AreBodies, IsWhole, AreHeavyTogether};
 
-use crate::class_rows::row_fields;
 use crate::classes::{Class, class_at};
 use crate::judging::judge_classes;
 use crate::programs::Program;
 use crate::trimming::trim;
 use dexhead::{Condition, Frame, Refusal, Table};
 use dexlaws::denotes::good::denoted_is_good;
-use dexmembers::read_members;
+use dexmembers::{ClassDef, read_members};
 use dexpool::{ItemFault, Numbering, Pools, ReadFault, type_list_len};
 use std::alloc::Global;
 
@@ -41,8 +39,10 @@ pub fn read<'a>(alloc: Global, bytes: &'a [u8]) -> Result<Program<'a>, ReadFault
     read_rows(alloc, &frame, &pools)
 }
 
-// The number of interfaces that are listed at an offset.
-fn interfaces_len(frame: &Frame<'_>, off: u32) -> u32
+/// The number of interfaces that are listed at the offset of a class row. No memory is taken.
+///
+/// Source: "class_def_item", the field `interfaces_off`, and "type_list".
+pub(crate) fn interface_count(frame: &Frame<'_>, off: u32) -> u32
     requires { HasInterfaceList frame.now off }
     ensures { result ≡ length (interface_indices frame.now off) }
 {
@@ -55,14 +55,10 @@ fn interfaces_len(frame: &Frame<'_>, off: u32) -> u32
     }
 }
 
-/// What class row `r` weighs without what it declares: the row, and the list of its interfaces.
-pub(crate) fn row_weight(frame: &Frame<'_>, r: u32) -> u64
-    requires row { r < table_size frame.now ClassDefs }
-    requires holds { HasClass frame.now r }
-    ensures weight { result ≡ 96 + 2 * length (interface_indices frame.now (interfaces_off frame.now r)) }
-    ensures small { result < 2 ^ 34 }
+/// What a class row of so many interfaces weighs without what it declares.
+pub(crate) fn row_weight(interfaces: u32) -> u64
+    ensures { result ≡ 96 + 2 * interfaces }
 {
-    let interfaces = interfaces_len(frame, row_fields(frame, r).interfaces_off);
     96 + 2 * u64::from(interfaces)
 }
 
@@ -110,8 +106,10 @@ fn read_row<'a>(
     ensures refused { IfErr result (IsFaultOf frame.now) }
 {
     pools.numbering().is_numbering();
-    let row = row_weight(frame, r);
-    let most = MOST_WEIGHT.saturating_sub(bodies.weight + row) as u32;
+    let row = ClassDef::at(frame, r);
+    let interfaces = interface_count(frame, row.interfaces_off);
+    let own = row_weight(interfaces);
+    let most = MOST_WEIGHT.saturating_sub(bodies.weight + own) as u32;
     let found = match read_members(alloc, frame, pools, r, most) {
         Ok(found) => found,
         Err(fault) => return Err(at_row(fault, r)),
@@ -120,14 +118,14 @@ fn read_row<'a>(
         Some(found) => found,
         None => return Err(too_heavy(r)),
     };
-    let body = row + u64::from(weight);
+    let body = own + u64::from(weight);
     let weight = bodies.weight + body;
     if weight > MOST_WEIGHT {
         return Err(too_heavy(r));
     }
     bodies
         .classes
-        .push(class_at(alloc, frame, r, members, body)?)?;
+        .push(class_at(alloc, frame, &row, interfaces, members, body)?)?;
     bodies.weight = weight;
     Ok(())
 }

@@ -1,10 +1,24 @@
-use Rattle.std.proofs.Common.{◌+◌, []}
+use Rattle.std.proofs.Common.{◌≡◌, ℕ, ◌+◌, ◌-◌, [], length, length-drop, ◌∙◌, ap, arith}
+use Rattle.dexspec.specs.Bytes.{ushorts_at}
 use Rattle.dexpool.proofs.TypeLists.{appended_more}
-use Rattle.dexclass.proofs.Interfaces.{index_is}
+use Rattle.dexclass.proofs.Interfaces.{index_is, list_within, index_within, counted_indices}
 use Rattle.dexclass.proofs.classes.interfaces_at.Goals as goal
+
+pub rest-list-requires : goal.rest-list-requires
+rest-list-requires c = list_within c.args.frame.now c.args.off c.args.count c.requires.list c.requires.count
+
+pub u16_at-requires : goal.u16_at-requires
+u16_at-requires c =
+    let left : length c.rest-list.result.now ≡ length c.args.frame.now - c.args.off = ap length c.rest-list.ensures ∙ length-drop {A = ℕ} c.args.off c.args.frame.now in
+    omega (arith, left, index_within c.args.frame.now c.args.off c.args.count c.requires.list c.requires.count c.loop-k.k c.loop-k-test.true)
 
 pub loop-k-preserved : goal.loop-k-preserved
 loop-k-preserved c =
     let b = c.args.frame.now in
     appended_more [] c.loop-k.interfaces.items c.push.new.self.items b (c.args.off + 4) c.loop-k.k _ c.loop-k.invariant c.in_ok-push.ensures.items
     (index_is b c.rest-list.result.now c.args.off c.loop-k.k _ _ c.from.ensures c.u16_at.ensures c.rest-list.ensures)
+
+pub returns : goal.returns
+returns c =
+    let all : c.loop-k.k ≡ c.args.count = omega (arith, c.loop-k-test.false, c.loop-k.auto.k-end) in
+    c.loop-k.invariant ∙ ap (ushorts_at c.args.frame.now (c.args.off + 4)) all ∙ counted_indices c.args.frame.now c.args.off c.args.count c.requires.list c.requires.count

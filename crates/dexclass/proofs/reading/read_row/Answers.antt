@@ -2,26 +2,21 @@ use Rattle.std.proofs.Common.{◌≡◌, ◌+◌, ◌*◌, ◌-◌, length, refl
 use Rattle.dexspec.specs.Classes.{interfaces_off}
 use Rattle.dexspec.specs.Weight.{most_weight}
 use Rattle.dexspec.specs.Conditions.{Condition}
-use Rattle.dexspec.specs.Accepted.{HasClass}
 use Rattle.dexmembers.specs.Numbered.{members_in}
 use Rattle.dexmembers.specs.Weight.{members_weight}
 use Rattle.dexmembers.specs.Reading.{AreReadWithin, AreHeavyMembers}
-use Rattle.dexclass.specs.Rows.{interface_indices}
+use Rattle.dexclass.specs.Rows.{HasInterfaceList, interface_indices}
 use Rattle.dexclass.specs.Programs.{IsFaultOf}
+use Rattle.dexclass.proofs.Interfaces.{row_interfaces}
 use Rattle.dexclass.proofs.RowFaults.{members_heavy}
 use Rattle.dexclass.proofs.Summing.{class_heavy, class_more}
 use Rattle.dexclass.proofs.reading.read_row.Goals as goal
-use Rattle.dexclass.proofs.reading.read_row.Goals.{After-is_numbering}
 
--- condition 16 holds of the row
-has_class : (c : After-is_numbering) → HasClass c.args.frame.now c.args.r
-has_class c = c.requires.before Condition.Classes (omega arith) c.args.r c.requires.row
+pub interface_count-interfaces-requires : goal.interface_count-interfaces-requires
+interface_count-interfaces-requires c = subst (HasInterfaceList c.args.frame.now) c.at-row.ensures.interfaces_are (c.requires.before Condition.Classes (omega arith) c.args.r c.requires.row).interfaces
 
-pub row_weight-row-requires-clause-holds : goal.row_weight-row-requires-clause-holds
-row_weight-row-requires-clause-holds c = has_class c
-
-pub class_at-requires-clause-holds : goal.class_at-requires-clause-holds
-class_at-requires-clause-holds c = c.requires.before Condition.Classes (omega arith) c.args.r c.requires.row
+pub class_at-requires-clause-list : goal.class_at-requires-clause-list
+class_at-requires-clause-list c = subst (HasInterfaceList c.args.frame.now) c.at-row.ensures.interfaces_are (c.requires.before Condition.Classes (omega arith) c.args.r c.requires.row).interfaces
 
 pub returns-in-Err-clause-refused : goal.returns-in-Err-clause-refused
 returns-in-Err-clause-refused c =
@@ -34,7 +29,8 @@ returns-in-None-clause-refused c =
     let r = c.args.r in
     let most = c.saturating_sub-most.result in
     let heavy : AreHeavyMembers b r most = subst (AreReadWithin b r m most) c.in-None.is (c.in-Ok.ensures.read c.requires.pools (c.requires.before Condition.Classes (omega arith) r c.requires.row)) in
-    let left : most ≡ most_weight - c.args.bodies.now.weight - (96 + 2 * length (interface_indices b (interfaces_off b r))) = omega (arith, c.saturating_sub-most.ensures, c.row_weight-row.ensures.weight) in
+    let interfaces = row_interfaces b r c.at-row.result c.interface_count-interfaces.result c.at-row.ensures c.interface_count-interfaces.ensures in
+    let left : most ≡ most_weight - c.args.bodies.now.weight - (96 + 2 * length (interface_indices b (interfaces_off b r))) = omega (arith, c.saturating_sub-most.ensures, interfaces, c.row_weight-own.ensures) in
     subst (IsFaultOf b) (sym c.too_heavy.ensures) (members_heavy b m c.requires.pools c.requires.before r c.args.bodies.now c.requires.bodies c.requires.row most left heavy)
 
 pub returns-then-weight-gt-MOST_WEIGHT-clause-refused : goal.returns-then-weight-gt-MOST_WEIGHT-clause-refused
@@ -44,9 +40,10 @@ returns-then-weight-gt-MOST_WEIGHT-clause-refused c =
     let r = c.args.r in
     let most = c.saturating_sub-most.result in
     let x = c.in-Some.found in
-    let w = c.row_weight-row.result + c.from.result in
+    let w = c.row_weight-own.result + c.from.result in
     let read = subst (AreReadWithin b r m most) c.in-Some.is (c.in-Ok.ensures.read c.requires.pools (c.requires.before Condition.Classes (omega arith) r c.requires.row)) in
-    let weighs : w ≡ 96 + 2 * length (interface_indices b (interfaces_off b r)) + members_weight (members_in m x.0) = omega (arith, c.row_weight-row.ensures.weight, c.from.ensures, read.1) in
+    let interfaces = row_interfaces b r c.at-row.result c.interface_count-interfaces.result c.at-row.ensures c.interface_count-interfaces.ensures in
+    let weighs : w ≡ 96 + 2 * length (interface_indices b (interfaces_off b r)) + members_weight (members_in m x.0) = omega (arith, interfaces, c.row_weight-own.ensures, c.from.ensures, read.1) in
     subst (IsFaultOf b) (sym c.too_heavy-then-weight-gt-MOST_WEIGHT.ensures)
     (class_heavy b m c.requires.pools c.requires.before r c.requires.row most x.0 read.0 w weighs c.args.bodies.now c.requires.bodies c.if-weight-gt-MOST_WEIGHT.true)
 
@@ -58,8 +55,9 @@ returns-clause-accepted c =
     let most = c.saturating_sub-most.result in
     let x = c.in-Some.found in
     let old = c.args.bodies.now in
-    let w = c.row_weight-row.result + c.from.result in
+    let w = c.row_weight-own.result + c.from.result in
     let read = subst (AreReadWithin b r m most) c.in-Some.is (c.in-Ok.ensures.read c.requires.pools (c.requires.before Condition.Classes (omega arith) r c.requires.row)) in
-    let weighs : w ≡ 96 + 2 * length (interface_indices b (interfaces_off b r)) + members_weight (members_in m x.0) = omega (arith, c.row_weight-row.ensures.weight, c.from.ensures, read.1) in
-    class_more b m c.requires.pools c.requires.before r c.requires.row most x.0 read.0 w weighs old c.requires.bodies c.if-weight-gt-MOST_WEIGHT.false c.in_ok-class_at.field-0 c.in_ok-class_at.ensures
+    let interfaces = row_interfaces b r c.at-row.result c.interface_count-interfaces.result c.at-row.ensures c.interface_count-interfaces.ensures in
+    let weighs : w ≡ 96 + 2 * length (interface_indices b (interfaces_off b r)) + members_weight (members_in m x.0) = omega (arith, interfaces, c.row_weight-own.ensures, c.from.ensures, read.1) in
+    class_more b m c.requires.pools c.requires.before r c.requires.row most x.0 read.0 w weighs old c.requires.bodies c.if-weight-gt-MOST_WEIGHT.false c.in_ok-class_at.field-0 (c.in_ok-class_at.ensures r c.at-row.ensures)
     (record { classes = c.push.new.self; weight = old.weight + w }) c.in_ok-push.ensures.items refl

@@ -1,6 +1,6 @@
 use Rattle.dexspec.specs.Bytes.{uint_at}
 use Rattle.dexclass.proofs.Interfaces.{interfaces_count, listed_room}
-use Rattle.dexclass.proofs.reading.interfaces_len.Goals as goal
+use Rattle.dexclass.proofs.reading.interface_count.Goals as goal
 
 pub returns-in-Some : goal.returns-in-Some
 returns-in-Some c = interfaces_count c.args.frame.now c.args.off c.in-Some.count c.if-off-eq0.false c.in-Some.ensures

@@ -12,7 +12,7 @@ ghost use Rattle.dexlayout.specs.Laid.{AreWritable, IsLaid, ordered_of};
 use crate::annotations::Annotations;
 use crate::data::Data;
 use crate::debugs::DebugPrograms;
-use crate::laying::lay;
+use crate::layout_build::build_layout;
 use crate::offsets::Offsets;
 use crate::sets::Sets;
 use crate::type_lists::TypeLists;
@@ -72,7 +72,7 @@ impl<'p> Layout<'p> {
         let numbering = program.numbering();
         numbering.is_numbering();
         fitting_size_law();
-        let layout = lay(alloc, numbering, program.classes())?;
+        let layout = build_layout(alloc, numbering, program.classes())?;
         Ok(layout)
     }
 

@@ -6,8 +6,8 @@ use Rattle.dexlayout.specs.Laid.{AreWritable, IsLaid, file_end}
 use Rattle.dexlayout.proofs.OwnFile.{writable, ordered_is, laid_same, length_canonical}
 use Rattle.dexlayout.proofs.layout.Layout.of.Goals as goal
 
-pub lay-requires : goal.lay-requires
-lay-requires c =
+pub build_layout-requires : goal.build_layout-requires
+build_layout-requires c =
     let C = c.args.program.now in
     let is = c.numbering-numbering.ensures in
     let w = writable C c.classes.result.now (subst IsNumbering is c.is_numbering.ensures) c.is_good.ensures.good.fits c.fitting_size_law.ensures.canonical c.classes.ensures in

@@ -1,6 +1,6 @@
 use Rattle.std.proofs.Common.{◌+◌, ◌-◌, ap, ◌∙◌}
 use Rattle.dexhead.specs.Laid.{map_start}
-use Rattle.dexlayout.proofs.laying.head_of.Goals as goal
+use Rattle.dexlayout.proofs.layout_build.head_of.Goals as goal
 
 pub returns-clause-tells : goal.returns-clause-tells
 returns-clause-tells c = λ K t begins size. record {

@@ -38,7 +38,7 @@ fn head_of(tables: &Tables, map_off: u32, map_size: u32) -> Head
 /// The layout of the file of classes.
 ///
 /// Error: memory was refused.
-pub(crate) fn lay<'p>(
+pub(crate) fn build_layout<'p>(
     alloc: Global,
     numbering: &'p Numbering<'_>,
     classes: &'p [Class<'_>],

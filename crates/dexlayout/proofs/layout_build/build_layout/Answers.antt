@@ -8,8 +8,8 @@ use Rattle.dexhead.specs.Written.{entry_meant}
 use Rattle.dexlayout.specs.Laid.{ordered_of, greatest_in}
 use Rattle.dexlayout.proofs.Ends.{end_in_file, map_start_is}
 use Rattle.dexlayout.proofs.OwnFile.{entries_same, map_size_is, data_before}
-use Rattle.dexlayout.proofs.laying.lay.Goals as goal
-use Rattle.dexlayout.proofs.laying.lay.Goals.{After-len}
+use Rattle.dexlayout.proofs.layout_build.build_layout.Goals as goal
+use Rattle.dexlayout.proofs.layout_build.build_layout.Goals.{After-len}
 
 pub round_up-map_off-requires : goal.round_up-map_off-requires
 round_up-map_off-requires c =

@@ -15,7 +15,8 @@ use Rattle.dexval.specs.Numbered.{NumberedSet, annotation_in, set_in}
 use Rattle.dexcanon.specs.Annotations.{annotation_item, set_annotations}
 use Rattle.dexcanon.specs.Output.{AreWithin}
 use Rattle.dexcanon.proofs.Aligned.{short_at}
-use Rattle.dexcanon.proofs.Rows.{rows_next, bytes_plain}
+use Rattle.dexlayout.proofs.EncodedItems.{bytes_plain}
+use Rattle.dexcanon.proofs.Rows.{rows_next}
 
 -- what a member gives is no longer than what all give
 pub flat_part : {X A : Type 0} (f : X → List A) (xs : List X) (i : ℕ) (x : X) → i < length xs → get_or xs i x ≡ x → length (f x) ≤ length (flat_map f xs)

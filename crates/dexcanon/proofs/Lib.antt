@@ -4,13 +4,13 @@ pub mod Buffered
 pub mod ClassUses
 pub mod CodeItems
 pub mod Counted
-pub mod DebugItems
 pub mod Digested
 pub mod DirectoryItems
 pub mod DirectorySections
 pub mod ItemLengths
 pub mod JoinedSums
 pub mod OwnUses
+pub mod Pieces
 pub mod Plainly
 pub mod RefListSections
 pub mod RefLists

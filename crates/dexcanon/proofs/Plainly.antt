@@ -7,7 +7,7 @@ use Rattle.dexspec.specs.Placing.{bytes_from}
 use Rattle.dexcanon.specs.declared.output.Out.{Out}
 use Rattle.dexcanon.specs.Output.{Adds, AreWithin}
 use Rattle.dexcanon.proofs.Written.{Writing, written_none, written_more, written_all, adds_as}
-use Rattle.dexcanon.proofs.Rows.{bytes_plain}
+use Rattle.dexlayout.proofs.EncodedItems.{bytes_plain}
 
 -- A front of the items was added, and the rest is left; none of the rest is longer than the limit.
 pub record Plainly {T X : Type 0} (gives gives_prefix : List ℕ → T → T → Type 0) (has_failed : T → Bool) (limit : ℕ) (old new : Out T) (f : X → List ℕ) (us left : List (Option X)) : Type 0 where

@@ -1,6 +1,5 @@
 -- Items one after the other: what is left of them before and behind the next.
-use Rattle.std.proofs.Common.{◌≡◌, ℕ, ◌+◌, ◌<◌, ◌≤◌, List, [], ◌∷◌, ◌++◌, length, get_or, map, drop, refl, sym, ap, ◌∙◌, arith, append_assoc, zip}
-use Rattle.std.specs.Prelude.{replicate, ◌-◌, ◌%◌}
+use Rattle.std.proofs.Common.{◌≡◌, ℕ, ◌+◌, ◌<◌, ◌≤◌, List, [], ◌∷◌, ◌++◌, length, get_or, drop, refl, sym, ap, ◌∙◌, append_assoc, zip}
 use Rattle.std.specs.List.{flat_map, concat}
 use Rattle.std.proofs.lemmas.List.{drop_more}
 use Rattle.dexspec.specs.Lists.{zip_with}
@@ -19,14 +18,6 @@ pub zip_rows : {X Y : Type 0} (f : X → Y → List ℕ) (xs : List X) (ys : Lis
 zip_rows f [] ys = refl
 zip_rows f (x ∷ xs) [] = refl
 zip_rows f (x ∷ xs) (y ∷ ys) = ap (λ zs. f x y ++ zs) (zip_rows f xs ys)
-
--- bytes without alignment are those of the items
-pub bytes_plain : {X : Type 0} (f : X → List ℕ) (from : ℕ) (xs : List X) → bytes_from 1 from (map f xs) ≡ flat_map f xs
-bytes_plain f from [] = refl
-bytes_plain f from (x ∷ xs) =
-    let none : (1 - from % 1) % 1 ≡ 0 = omega arith in
-    ap (λ n. replicate n 0 ++ (f x ++ bytes_from 1 (round_up 1 from + length (f x)) (map f xs))) none
-    ∙ ap (λ ys. f x ++ ys) (bytes_plain f (round_up 1 from + length (f x)) xs)
 
 -- ---- aligned items
 

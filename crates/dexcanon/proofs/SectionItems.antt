@@ -52,9 +52,6 @@ module _ {m : Mentions} {cs : List NumberedClass} {p : Places} {limit : ℕ} (h 
   pub strings_within : AreWithin limit (string_section (ordered_of m cs)).items
   strings_within = data_within.1.1.1.0
 
-  pub debugs_within : AreWithin limit (debug_section (ordered_of m cs)).items
-  debugs_within = data_within.1.1.1.1.0
-
   pub codes_within : AreWithin limit (code_section (ordered_of m cs)).items
   codes_within = data_within.1.1.1.1.1.0
 

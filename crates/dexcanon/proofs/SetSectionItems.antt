@@ -20,7 +20,7 @@ use Rattle.dexlayout.specs.Laid.{ordered_of, file_end, first_offsets}
 use Rattle.dexlayout.proofs.Ends.{end_in_file}
 use Rattle.dexcanon.specs.Ready.{IsReady}
 use Rattle.dexcanon.specs.Sets.{offsets_of_sets}
-use Rattle.dexcanon.proofs.Rows.{bytes_plain}
+use Rattle.dexlayout.proofs.EncodedItems.{bytes_plain}
 
 -- ---- annotations
 

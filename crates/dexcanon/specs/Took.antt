@@ -16,14 +16,14 @@ pub record TookPrefix {W : Type 0} (tells : W → Type 0) (taken : W → List �
   pub some : tells old.sink.now → (n : ℕ) × (taken new.sink.now ≡ taken old.sink.now ++ take n x)
 
 -- as much of a list as of its prefix
-take_own : (n : ℕ) (m : List ℕ) → take (length (take n m)) m ≡ take n m
+pub take_own : (n : ℕ) (m : List ℕ) → take (length (take n m)) m ≡ take n m
 take_own n m = ap (λ k. take k m) (length-take n m) ∙ elim (cases_lt n (length m)) [
   | inl less ↦ ap (λ k. take k m) (let e : min n (length m) ≡ n = omega arith in e)
   | inr gt ↦ ap (λ k. take k m) (let e : min n (length m) ≡ length m = omega arith in e) ∙ take_all (length m) m (omega arith) ∙ sym (take_all n m (omega arith))
 ]
 
 -- a prefix of a prefix and more
-prefix_of : (n : ℕ) (m y : List ℕ) → (k : ℕ) × (take k (m ++ y) ≡ take n m)
+pub prefix_of : (n : ℕ) (m y : List ℕ) → (k : ℕ) × (take k (m ++ y) ≡ take n m)
 prefix_of n m y =
     let le : length (take n m) ≤ length m = omega (arith, length-take n m) in
     (length (take n m), take-append-le (length (take n m)) m y le ∙ take_own n m)

@@ -53,6 +53,10 @@ pub(crate) struct MemberRow {
 #[derive(Drop)]
 pub(crate) struct OffsetList<'a>(pub(crate) &'a [u32]);
 
+/// Bytes as they are.
+#[derive(Drop)]
+pub(crate) struct Bytes<'a>(pub(crate) &'a [u8]);
+
 /// Zeros that align what follows them.
 #[derive(Drop)]
 pub(crate) struct Zeros(pub(crate) usize);
@@ -161,6 +165,20 @@ impl Item for Zeros {
     fn put(&self, out: &mut Vec<u8>) -> Result<(), AllocError> {
         let zeros = [0; 3];
         out.extend_from_slice(&zeros[..self.0])
+    }
+}
+
+impl Item for Bytes<'_> {
+    ghost bytes = { λ b. b.0.now };
+
+    ghost fits = { λ b. Unit {0} };
+
+    fn len(&self) -> usize {
+        self.0.len()
+    }
+
+    fn put(&self, out: &mut Vec<u8>) -> Result<(), AllocError> {
+        out.extend_from_slice(self.0)
     }
 }
 

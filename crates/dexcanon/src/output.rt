@@ -5,8 +5,11 @@ ghost use Rattle.dexspec.specs.Bytes.{round_up, padding};
 ghost use Rattle.dexcanon.specs.Output.{Adds, HasRoom, result_of};
 
 use crate::faults::StoreFault;
-use crate::items::{Item, Zeros};
+use crate::items::{Bytes, Item, Zeros};
 use dexhead::DeviceFault;
+
+// Bytes that are encoded already are written so many at a time. No longest item has fewer.
+const PART: usize = 112;
 
 /// Where the bytes of a file go to.
 pub(crate) trait Target {
@@ -80,6 +83,18 @@ impl<T: Target> Out<T> {
         self.put(&Zeros((start - at) as usize));
         let len = self.put(item);
         start + len as u32
+    }
+
+    /// Writes bytes that are encoded already, however many they are.
+    pub(crate) fn put_bytes(&mut self, bytes: &[u8])
+        ensures { (limit : ℕ) → 112 ≤ limit → Adds T.gives T.gives_prefix T.has_failed limit self.old self.new bytes.now }
+    {
+        let mut done = 0;
+        'parts: while done < bytes.len() {
+            let (_, rest) = bytes.split_at(done);
+            let (part, _) = rest.split_at(rest.len().min(PART));
+            done += self.put(&Bytes(part));
+        }
     }
 
     // Flushes the buffer where it has no room for an item. The item is measured only where the spare room is less than that

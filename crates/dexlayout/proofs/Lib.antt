@@ -1,3 +1,4 @@
+pub mod EncodedItems
 pub mod Ends
 pub mod OwnCounts
 pub mod OwnFile

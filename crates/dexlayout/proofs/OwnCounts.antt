@@ -11,14 +11,13 @@ use Rattle.dexspec.specs.Code.{Code}
 use Rattle.dexspec.specs.Classes.{Definition}
 use Rattle.dexspec.specs.Mentions.{Mentions}
 use Rattle.dexspec.specs.Texts.{string_data}
-use Rattle.dexspec.specs.Spellings.{code_bytes, encoded_array_bytes, class_data_bytes, offsets_bytes, type_list_bytes, annotation_bytes, debug_bytes}
+use Rattle.dexspec.specs.Spellings.{code_bytes, encoded_array_bytes, class_data_bytes, offsets_bytes, type_list_bytes, annotation_bytes}
 use Rattle.dexspec.specs.Annotations.{AnnotationSet}
 use Rattle.dexspec.specs.Placing.{own_items, uses_offsets, offsets_from, end_from, offsets, Ordered, static_values_uses, code_uses, class_data_uses, ref_list_uses, directory_uses}
-use Rattle.dexspec.specs.Canonical.{data_start, type_list_items, type_list_section, type_list_end, set_items, annotation_section, annotation_end, annotation_offsets, array_section, array_offsets, array_end, string_section, string_end, debug_items, debug_section, debug_end, debug_offsets, code_section, code_offsets, code_end, class_data_section, class_data_offsets, class_data_end, set_section, set_offsets, set_end, ref_list_section, ref_list_offsets, ref_list_end, directory_section, directory_offsets, directory_end}
+use Rattle.dexspec.specs.Canonical.{data_start, type_list_items, type_list_section, type_list_end, set_items, annotation_section, annotation_end, annotation_offsets, array_section, array_offsets, array_end, string_section, string_end, debug_section, debug_end, debug_offsets, code_section, code_offsets, code_end, class_data_section, class_data_offsets, class_data_end, set_section, set_offsets, set_end, ref_list_section, ref_list_offsets, ref_list_end, directory_section, directory_offsets, directory_end}
 use Rattle.dexspec.proofs.Places.{length-padding, items_few}
 use Rattle.dexspec.proofs.Placements.{sections_follow, sections_have_bytes, length-chunks}
 use Rattle.dexval.specs.Numbered.{NumberedSet, annotation_in, set_in}
-use Rattle.dexcode.specs.Meaning.{debug_in}
 use Rattle.dexclass.specs.Numbered.{NumberedClass, type_at}
 use Rattle.dexlayout.specs.Places.{ItemPlaces}
 use Rattle.dexlayout.specs.Running.{none_from, pass, put_at, place_uses}
@@ -130,7 +129,7 @@ pub record AreCounted (K : Ordered) (d : Data) : Type 0 where
   pub annotations : length (flat_map (λ set. set) d.front.annotations.written) ≡ length (annotation_section K).items
   pub arrays : count_placed d.front.static_values.offsets ≡ length (array_section K).items
   pub strings : length K.pools.texts ≡ length (string_section K).items
-  pub debugs : length d.bodies.debugs.written ≡ length (debug_section K).items
+  pub debugs : d.bodies.debugs.count ≡ length (debug_section K).items
   pub codes : count_placed d.bodies.codes.offsets ≡ length (code_section K).items
   pub class_data : count_placed d.bodies.class_data.offsets ≡ length (class_data_section K).items
   pub sets : length d.front.annotations.written ≡ length (set_section K).items
@@ -147,7 +146,7 @@ counted m cs {d} h =
           ∙ sym (length-map (flat_map (λ (set : AnnotationSet). set) items) (annotation_bytes m));
       arrays = ap count_placed h.front_are.static_values_are.offsets_are ∙ array_count K;
       strings = sym (length-map m.texts string_data);
-      debugs = sym (length-map d.bodies.debugs.written (debug_in m)) ∙ ap (λ xs. length xs) h.bodies_are.debugs_are.written_are ∙ sym (length-map (debug_items K).written (debug_bytes m));
+      debugs = h.bodies_are.debugs_are.count_is;
       codes = ap count_placed h.bodies_are.codes_are.offsets_are ∙ code_count K;
       class_data = ap count_placed h.bodies_are.class_data_are.offsets_are ∙ class_data_count K;
       sets = sym (length-map d.front.annotations.written (set_in m)) ∙ ap (λ (xs : List AnnotationSet). length xs) h.front_are.annotations_are.written_are ∙ sym (set_count K);

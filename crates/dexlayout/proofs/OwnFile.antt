@@ -9,8 +9,8 @@ use Rattle.dexspec.specs.Sections.{Section, HeaderItem, MapList}
 use Rattle.dexspec.specs.Files.{Collection, definitions}
 use Rattle.dexspec.specs.Mentions.{Mentions, mentions}
 use Rattle.dexspec.specs.Merging.{Caps, greatest_caps, AreCaps, Fits}
-use Rattle.dexspec.specs.Placing.{Ordered, EqualOnce}
-use Rattle.dexspec.specs.Canonical.{layout, map_of, map_bytes, map_entry_bytes, unsigned_file, with_sums, ordered, canonical, data_start, type_list_items, type_list_section, type_list_offsets, type_list_end, set_items, annotation_section, annotation_end, array_section, array_offsets, array_end, string_section, string_end, debug_items, debug_section, debug_offsets, debug_end, code_section, code_offsets, code_end, class_data_section, class_data_offsets, class_data_end, set_section, set_offsets, set_end, ref_list_section, ref_list_offsets, ref_list_end, directory_section, directory_offsets, directory_end}
+use Rattle.dexspec.specs.Placing.{Ordered, EqualOnce, section_bytes}
+use Rattle.dexspec.specs.Canonical.{layout, map_of, map_bytes, map_entry_bytes, unsigned_file, with_sums, ordered, canonical, data_start, type_list_items, type_list_section, type_list_offsets, type_list_end, set_items, annotation_section, annotation_end, array_section, array_offsets, array_end, string_section, string_end, debug_section, debug_offsets, debug_end, code_section, code_offsets, code_end, class_data_section, class_data_offsets, class_data_end, set_section, set_offsets, set_end, ref_list_section, ref_list_offsets, ref_list_end, directory_section, directory_offsets, directory_end}
 use Rattle.dexspec.proofs.ByteNumbers.{length-uint, length-ushort}
 use Rattle.dexspec.proofs.Stands.{length_rows}
 use Rattle.dexspec.proofs.Laying.{data_before_map, map_place, map_place_is, map_list_named, parts}
@@ -89,8 +89,8 @@ module _ (m : Mentions) (cs ds : List NumberedClass) (e : ordered_of m cs ≡ or
 
   debugs_same : {p : DebugPlaces} → AreDebugs m cs p → AreDebugs m ds p
   debugs_same {p} h = record {
-    written_are = h.written_are ∙ ap (λ (K : Ordered). (debug_items K).written) e;
-    known = h.known;
+    bytes_are = h.bytes_are ∙ ap (λ (K : Ordered). section_bytes (debug_section K)) e;
+    count_is = h.count_is ∙ ap (λ (K : Ordered). length (debug_section K).items) e;
     places_are = subst (λ (K : Ordered). StandSo (debug_offsets K) (debug_end K) (debug_section K).items p.places) e h.places_are;
   }
 

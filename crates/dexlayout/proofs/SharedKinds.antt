@@ -6,7 +6,6 @@ use Rattle.std.specs.List.{flat_map}
 use Rattle.std.specs.Option.{option_map, option_map_or}
 use Rattle.std.proofs.lemmas.Grind.{flat_map-append}
 use Rattle.std.proofs.lemmas.List.{map-append, length-append, length-map}
-use Rattle.std.proofs.lemmas.List.Elements.{All-map}
 use Rattle.std.proofs.lemmas.Simd.{map-map}
 use Rattle.dexspec.specs.Annotations.{AnnotationSet}
 use Rattle.dexspec.specs.Bytes.{uint, ushort}
@@ -37,6 +36,7 @@ use Rattle.dexlayout.specs.Laid.{AreShared, AreTypeLists, AreDebugs, AreWritable
 use Rattle.dexlayout.specs.Running.{none_from}
 use Rattle.dexlayout.specs.Sharing.{list_len}
 use Rattle.dexlayout.specs.SharedUses.{AreTypes, SharesLists, SharesSets, SharesDebugs, interfaces_use, set_use, field_uses, method_uses, methods_uses, members_uses, equal_debugs, debugs_uses}
+use Rattle.dexlayout.proofs.EncodedItems.{encoded_are}
 use Rattle.dexlayout.proofs.Ends.{end_in_file}
 use Rattle.dexlayout.proofs.SharedPlaces.{placed, written_stand, by_numbers, uses_stand, numbers_within, offsets_count}
 use Rattle.dexlayout.proofs.SharedSame.{lists_agree, sets_agree, debugs_agree}
@@ -169,8 +169,11 @@ module _ (m : Mentions) (cs : List NumberedClass) (w : AreWritable m cs) (from :
   abbrev pub debug_places : ItemPlaces
   debug_places = placed debug_len 1 (none_from from) written
 
+  debug_code_is : (d : Bor NumberedDebug) → IsKnownDebug m d.now → numbered_debug_bytes d.now ≡ debug_bytes m (debug_in m d.now)
+  debug_code_is d k = bytes_are m d.now (debug_in m d.now) w.numbering.rising (debug_stands m d.now k)
+
   debug_len_is : (d : Bor NumberedDebug) → IsKnownDebug m d.now → debug_len d ≡ length (debug_bytes m (debug_in m d.now))
-  debug_len_is d k = ap (λ (l : List ℕ). length l) (bytes_are m d.now (debug_in m d.now) w.numbering.rising (debug_stands m d.now k))
+  debug_len_is d k = ap (λ (l : List ℕ). length l) (debug_code_is d k)
 
   debugs_stand : StandSo (offsets (debug_section (ordered_of m cs))) (debug_end (ordered_of m cs)) (debug_section (ordered_of m cs)).items debug_places
   unfolding debug_end
@@ -191,10 +194,11 @@ module _ (m : Mentions) (cs : List NumberedClass) (w : AreWritable m cs) (from :
       (offsets_count 1 (string_end (ordered_of m cs)) debugs_stand ∙ length-map items.written (debug_bytes m))
 
   -- the debug programs of the file
-  pub debugs_laid : AreDebugs m cs (record { written = map (λ (d : Bor NumberedDebug). d.now) written; places = by_numbers numbers debug_places })
+  pub debugs_laid : AreDebugs m cs (record { bytes = flat_map (λ (d : Bor NumberedDebug). numbered_debug_bytes d.now) written; count = length written; places = by_numbers numbers debug_places })
   unfolding debug_offsets
   debugs_laid = record {
-    written_are = map-map (debug_in m) (λ (d : Bor NumberedDebug). d.now) written ∙ h.written_are;
-    known = All-map (IsKnownDebug m) (λ (d : Bor NumberedDebug). d.now) written known;
+    bytes_are = encoded_are (string_end (ordered_of m cs)) (λ (d : Bor NumberedDebug). numbered_debug_bytes d.now) (debug_bytes m) (λ (d : Bor NumberedDebug). debug_in m d.now) (λ (d : Bor NumberedDebug). IsKnownDebug m d.now) written
+        (debug_items (ordered_of m cs)).written debug_code_is known h.written_are;
+    count_is = sym (length-map written (λ (d : Bor NumberedDebug). debug_in m d.now)) ∙ ap (λ xs. length xs) h.written_are ∙ sym (length-map (debug_items (ordered_of m cs)).written (debug_bytes m));
     places_are = uses_stand numbers (debug_items (ordered_of m cs)).numbers h.numbers_are debugs_stand;
   }

@@ -3,14 +3,13 @@ use Rattle.std.specs.Prelude.{◌≡◌, ℕ, ◌+◌, ◌^◌, ◌<◌, ◌≤�
 use Rattle.std.specs.List.{flat_map}
 use Rattle.dexspec.specs.Mentions.{Mentions}
 use Rattle.dexspec.specs.Header.{header_length}
-use Rattle.dexspec.specs.Placing.{Ordered, EqualOnce, Placed, Items}
+use Rattle.dexspec.specs.Placing.{Ordered, EqualOnce, Placed, Items, section_bytes}
 use Rattle.dexspec.specs.Spellings.{annotation_bytes}
 use Rattle.dexspec.specs.Annotations.{AnnotationSet}
-use Rattle.dexspec.specs.Canonical.{layout, map_of, data_sections, type_list_items, type_list_section, type_list_offsets, type_list_end, set_items, annotation_section, annotation_end, array_section, array_offsets, array_end, string_section, string_end, debug_items, debug_section, debug_offsets, debug_end, code_section, code_offsets, code_end, class_data_section, class_data_offsets, class_data_end, set_section, set_offsets, set_end, ref_list_section, ref_list_offsets, ref_list_end, directory_section, directory_offsets, directory_end}
+use Rattle.dexspec.specs.Canonical.{layout, map_of, data_sections, type_list_items, type_list_section, type_list_offsets, type_list_end, set_items, annotation_section, annotation_end, array_section, array_offsets, array_end, string_section, string_end, debug_section, debug_offsets, debug_end, code_section, code_offsets, code_end, class_data_section, class_data_offsets, class_data_end, set_section, set_offsets, set_end, ref_list_section, ref_list_offsets, ref_list_end, directory_section, directory_offsets, directory_end}
 use Rattle.dexhead.specs.Laid.{TellsLayout, map_start, map_list}
 use Rattle.dexpool.specs.Numberings.{IsNumbering}
 use Rattle.dexval.specs.Numbered.{set_in, IsKnownSet}
-use Rattle.dexcode.specs.Meaning.{debug_in, IsKnownDebug}
 use Rattle.dexclass.specs.Numbered.{NumberedClass, definition_of, type_at}
 use Rattle.dexclass.specs.Uses.{IsKnownClass}
 use Rattle.dexlayout.specs.Places.{ItemPlaces, TypeListPlaces, AnnotationPlaces, DebugPlaces, SetPlaces, Places}
@@ -76,8 +75,8 @@ pub record AreAnnotations (m : Mentions) (cs : List NumberedClass) (p : Annotati
 
 -- the debug programs
 pub record AreDebugs (m : Mentions) (cs : List NumberedClass) (p : DebugPlaces) : Type 0 where
-  pub written_are : map (debug_in m) p.written ≡ (debug_items (ordered_of m cs)).written
-  pub known : All (IsKnownDebug m) p.written
+  pub bytes_are : p.bytes ≡ section_bytes (debug_section (ordered_of m cs))
+  pub count_is : p.count ≡ length (debug_section (ordered_of m cs)).items
   pub places_are : StandSo (debug_offsets (ordered_of m cs)) (debug_end (ordered_of m cs)) (debug_section (ordered_of m cs)).items p.places
 
 -- the sets

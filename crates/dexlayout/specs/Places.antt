@@ -3,7 +3,6 @@ use Rattle.std.specs.Prelude.{ℕ, List}
 use Rattle.dexspec.specs.Sections.{Section}
 use Rattle.dexhead.specs.declared.head.Head.{Head}
 use Rattle.dexval.specs.Numbered.{NumberedSet}
-use Rattle.dexcode.specs.Debug.{NumberedDebug}
 
 -- Where items begin, an offset for each use and 0 where it has no item; where they end; how long the longest is.
 pub record ItemPlaces : Type 0 where
@@ -21,9 +20,10 @@ pub record AnnotationPlaces : Type 0 where
   pub written : List NumberedSet
   pub places : ItemPlaces
 
--- The debug programs that are written, and where they stand: for each method.
+-- The debug programs that are written: their bytes, how many they are, and where they stand: for each method.
 pub record DebugPlaces : Type 0 where
-  pub written : List NumberedDebug
+  pub bytes : List ℕ
+  pub count : ℕ
   pub places : ItemPlaces
 
 -- Where annotation sets stand: the own one of each class, that of each field, that of each method, and those of the

@@ -35,7 +35,7 @@ use std::alloc::{AllocError, Global};
 /// Where the items of each section of the data stand, in the order of the file.
 pub(crate) struct Data<'p> {
     pub(crate) front: Front<'p>,
-    pub(crate) bodies: Bodies<'p>,
+    pub(crate) bodies: Bodies,
     pub(crate) back: Back,
 }
 
@@ -61,8 +61,8 @@ pub(crate) struct Front<'p> {
 
 /// Where the items of code, of its debug programs and of class data stand.
 #[derive(Drop)]
-pub(crate) struct Bodies<'p> {
-    pub(crate) debugs: DebugPrograms<'p>,
+pub(crate) struct Bodies {
+    pub(crate) debugs: DebugPrograms,
     pub(crate) codes: Offsets,
     pub(crate) class_data: Offsets,
 }
@@ -102,15 +102,16 @@ fn place_front<'p>(
 }
 
 // Where the items of the sections from the debug programs to the class data stand, behind the string data.
-fn place_bodies<'p>(
+fn place_bodies(
     alloc: Global,
-    classes: &'p [Class<'_>],
+    numbering: &Numbering<'_>,
+    classes: &[Class<'_>],
     from: u32,
-) -> Result<Bodies<'p>, AllocError>
+) -> Result<Bodies, AllocError>
     requires { (m : Mentions) × AreWritable m classes.now × (from ≡ string_end (ordered_of m classes.now)) }
     ensures { IfOk result (λ bodies. (m : Mentions) → AreWritable m classes.now → from ≡ string_end (ordered_of m classes.now) → AreBodies m classes.now bodies) }
 {
-    let debugs = place_debugs(alloc, classes, from)?;
+    let debugs = place_debugs(alloc, numbering, classes, from)?;
     let codes = place_codes(alloc, classes, debugs.places().end())?;
     let class_data = place_class_data(alloc, classes, codes.offsets(), codes.end())?;
     Ok(Bodies {
@@ -168,7 +169,7 @@ pub(crate) fn place_data<'p>(
 {
     let Shared { written, numbers } = share_sets(alloc, classes)?;
     let front = place_front(alloc, numbering, classes, written, from)?;
-    let bodies = place_bodies(alloc, classes, front.strings.end())?;
+    let bodies = place_bodies(alloc, numbering, classes, front.strings.end())?;
     let back = place_back(
         alloc,
         numbering,
@@ -226,7 +227,7 @@ impl Data<'_> {
             ),
             entry(
                 Section::DebugInfoItems,
-                self.bodies.debugs.written().len() as u32,
+                self.bodies.debugs.count() as u32,
                 self.front.strings.end(),
             ),
             entry(

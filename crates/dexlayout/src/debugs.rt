@@ -1,6 +1,7 @@
 //! Where debug programs stand.
 
 ghost use Rattle.std.specs.Prelude.{◌≡◌, ◌++◌, ◌^◌, ◌≤◌, All, IfOk, List, MatchOption, None, OnOk, Option, Some, length, map};
+ghost use Rattle.std.specs.List.{flat_map};
 ghost use Rattle.dexspec.specs.Canonical.{debug_items, string_end};
 ghost use Rattle.dexspec.specs.Debug.{Debug as DebugMeant};
 ghost use Rattle.dexspec.specs.Mentions.{Mentions};
@@ -11,42 +12,48 @@ ghost use Rattle.dexlayout.specs.Laid.{AreDebugs, AreShared, AreWritable, ordere
 ghost use Rattle.dexlayout.specs.Running.{none_from, place_uses};
 ghost use Rattle.dexlayout.specs.SharedUses.{SharesDebugs, debug_of, debugs_uses};
 
+use crate::encoded::Encoded;
 use crate::offsets::Offsets;
 use crate::sharing::{Shared, Sharing, place_shared};
 use dexclass::Class;
-use dexcode::{Debug, debug_equality_law};
+use dexcode::{Debug, debug_equality_law, put_debug};
 use dexmembers::{Members, Method, Methods};
+use dexpool::Numbering;
 use std::alloc::{AllocError, Global};
 use std::marker::Model;
 
-/// The debug programs that are written, equal ones once, in the order of their first use, and where they stand: for each method of
-/// each class, the direct ones first.
+/// The debug programs that are written, equal ones once, in the order of their first use: their bytes, how many they are, and
+/// their offsets: for each method of each class, the direct ones first.
 ///
 /// Source: "debug_info_item".
 #[derive(Drop)]
-pub struct DebugPrograms<'p> {
-    pub(crate) written: Vec<&'p Debug>,
+pub struct DebugPrograms {
+    pub(crate) bytes: Vec<u8>,
+    pub(crate) count: usize,
     pub(crate) places: Offsets,
 }
 
-impl<'p> Model for DebugPrograms<'p> {
-    ghost use Rattle.std.specs.Prelude.{map};
-    ghost use Rattle.std.specs.Coded.{codes};
+impl Model for DebugPrograms {
     ghost use Rattle.dexlayout.specs.Places.{DebugPlaces};
 
     ghost Value = { DebugPlaces };
 
-    ghost coded = { Prim.hlevel (codes) };
-
-    ghost view = { λ l. record { written = map (λ d. d.now) l.written.items; places = l.places } };
+    ghost view = { λ l. record { bytes = l.bytes.items; count = l.count; places = l.places } };
 }
 
-impl<'p> DebugPrograms<'p> {
-    /// The debug programs that are written.
-    pub fn written(&self) -> &[&'p Debug]
-        ensures { map (λ d. d.now) result.now ≡ self.now.written }
+impl DebugPrograms {
+    /// The debug programs that are written, one after the other.
+    pub fn bytes(&self) -> &[u8]
+        ensures { result.now ≡ self.now.bytes }
     {
-        &self.written
+        &self.bytes
+    }
+
+    /// How many are written.
+    pub fn count(&self) -> usize
+        ensures { result ≡ self.now.count }
+    {
+        self.count
     }
 
     /// Where they stand: for each method of each class, or 0 where it has none.
@@ -107,34 +114,52 @@ fn share_debugs<'p>(
     sharing.finish(alloc)
 }
 
-// Where the debug programs that are written stand, from a place on.
-fn place_written(alloc: Global, debugs: &[&Debug], from: u32) -> Result<Offsets, AllocError>
+// Encodes the debug programs that are written, from a place on.
+fn encode_written(
+    alloc: Global,
+    numbering: &Numbering<'_>,
+    debugs: &[&Debug],
+    from: u32,
+) -> Result<Encoded, AllocError>
     requires { (place_uses 1 (none_from from) (map (λ debug. Some (length (numbered_debug_bytes debug.now))) debugs.now)).end ≤ 2 ^ 30 }
-    ensures { IfOk result (λ places. places ≡ place_uses 1 (none_from from) (map (λ debug. Some (length (numbered_debug_bytes debug.now))) debugs.now)) }
+    ensures bytes { IfOk result (λ encoded. encoded.bytes.items ≡ flat_map (λ debug. numbered_debug_bytes debug.now) debugs.now) }
+    ensures places { IfOk result (λ encoded. encoded.places ≡ place_uses 1 (none_from from) (map (λ debug. Some (length (numbered_debug_bytes debug.now))) debugs.now)) }
 {
+    let mut bytes = Vec::new(alloc);
     let mut places = Offsets::starting_at(alloc, from, debugs.len())?;
     for i in 0..debugs.len() {
+        let before = bytes.len();
+        put_debug(debugs[i], numbering, &mut bytes)?;
         let off = places.end();
-        let len = debugs[i].item_len() as u32;
+        let len = (bytes.len() - before) as u32;
         places.put_at(off, len)?;
     }
-    Ok(places)
+    Ok(Encoded { bytes, places })
 }
 
-/// Where the debug programs stand, behind the texts.
+/// The debug programs, encoded behind the texts.
 ///
-/// Error: memory was refused.
-pub(crate) fn place_debugs<'p>(
+/// Error: the allocation failed.
+pub(crate) fn place_debugs(
     alloc: Global,
-    classes: &'p [Class<'_>],
+    numbering: &Numbering<'_>,
+    classes: &[Class<'_>],
     from: u32,
-) -> Result<DebugPrograms<'p>, AllocError>
+) -> Result<DebugPrograms, AllocError>
     requires { (m : Mentions) × AreWritable m classes.now × (from ≡ string_end (ordered_of m classes.now)) }
     ensures { IfOk result (λ placed. (m : Mentions) → AreWritable m classes.now → from ≡ string_end (ordered_of m classes.now) → AreDebugs m classes.now placed) }
 {
     let shared = share_debugs(alloc, classes)?;
     let Shared { written, numbers } = shared;
-    let debugs = place_written(alloc, &written, from)?;
+    let encoded = encode_written(alloc, numbering, &written, from)?;
+    let Encoded {
+        bytes,
+        places: debugs,
+    } = encoded;
     let places = place_shared(alloc, &numbers, &debugs)?;
-    Ok(DebugPrograms { written, places })
+    Ok(DebugPrograms {
+        bytes,
+        count: written.len(),
+        places,
+    })
 }

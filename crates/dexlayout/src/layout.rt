@@ -60,7 +60,8 @@ impl<'p> Model for Layout<'p> {
 }
 
 impl<'p> Layout<'p> {
-    /// The layout of a program's canonical file. Time is linear in what is written, memory some 8 bytes for each use and item.
+    /// The layout of a program's canonical file. Time is linear in what is written, memory some 8 bytes for each
+    /// use and item, and the bytes of the debug programs.
     ///
     /// Error: the memory for it was refused.
     pub fn of(alloc: Global, program: &'p Program<'_>) -> Result<Layout<'p>, AllocError>
@@ -118,8 +119,8 @@ impl<'p> Layout<'p> {
         &self.placed.front.strings
     }
 
-    /// The debug programs that are written, and where they stand, for each method.
-    pub fn debugs(&self) -> &DebugPrograms<'p>
+    /// The debug programs, encoded, and where they stand, for each method.
+    pub fn debugs(&self) -> &DebugPrograms
         ensures { result.now ≡ self.now.debugs }
     {
         &self.placed.bodies.debugs

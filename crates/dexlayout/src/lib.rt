@@ -10,6 +10,7 @@ mod codes;
 mod data;
 mod debugs;
 mod directories;
+mod encoded;
 mod layout;
 mod layout_build;
 mod list_keys;

@@ -6,7 +6,8 @@ use Rattle.dexspec.specs.Canonical.{array_end}
 use Rattle.dexlayout.specs.Laid.{ordered_of}
 use Rattle.dexcanon.proofs.Aligned.{short_at}
 use Rattle.dexcanon.proofs.Written.{written_all, written_more, written_none, adds_as}
-use Rattle.dexcanon.proofs.Rows.{rows_next, bytes_plain}
+use Rattle.dexlayout.proofs.EncodedItems.{bytes_plain}
+use Rattle.dexcanon.proofs.Rows.{rows_next}
 use Rattle.dexcanon.proofs.SectionItems.{strings_within}
 use Rattle.dexcanon.proofs.strings.put_strings.Goals as goal
 

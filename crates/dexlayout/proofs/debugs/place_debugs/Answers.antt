@@ -1,32 +1,33 @@
-use Rattle.std.proofs.Common.{◌≡◌, ◌^◌, ◌<◌, ◌≤◌, length, map, subst, sym, ap, ◌∙◌, Bor}
+use Rattle.std.proofs.Common.{◌≡◌, ◌^◌, ◌<◌, ◌≤◌, length, arith, subst, sym, ap, ◌∙◌, Bor}
 use Rattle.std.specs.Prelude.{All, IfSome}
-use Rattle.dexcode.specs.Debug.{NumberedDebug}
+use Rattle.std.specs.List.{flat_map}
+use Rattle.dexcode.specs.Debug.{NumberedDebug, numbered_debug_bytes}
 use Rattle.dexlayout.specs.Laid.{AreDebugs}
 use Rattle.dexlayout.specs.Running.{none_from}
 use Rattle.dexlayout.proofs.SharedKinds.{debug_len, debugs_fit, debugs_numbered, debugs_laid}
 use Rattle.dexlayout.proofs.SharedPlaces.{placed, by_numbers}
 use Rattle.dexlayout.proofs.debugs.place_debugs.Goals as goal
-use Rattle.dexlayout.proofs.debugs.place_debugs.Goals.{In_ok-debugs}
+use Rattle.dexlayout.proofs.debugs.place_debugs.Goals.{In_ok-encoded}
 
-pub place_written-requires : goal.place_written-requires
-place_written-requires c =
+pub encode_written-requires : goal.encode_written-requires
+encode_written-requires c =
     let s = c.in_ok-shared.shared in
     let m = c.requires.0 in
     let w = c.requires.1 in
     subst (λ ws. (placed debug_len 1 (none_from c.args.from) ws).end ≤ 2 ^ 30) (sym c.deref.ensures.value)
     (debugs_fit m c.args.classes.now w c.args.from c.requires.2 s.written.items s.numbers.items (c.in_ok-shared.ensures.known m w) (c.in_ok-shared.ensures.shared m w))
 
--- where the debug programs stand that are written
-debugs_are : (c : In_ok-debugs) → c.in_ok-debugs.debugs ≡ placed debug_len 1 (none_from c.args.from) c.in_ok-shared.shared.written.items
-debugs_are c = c.in_ok-debugs.ensures ∙ ap (placed debug_len 1 (none_from c.args.from)) c.deref.ensures.value
+-- where the debug programs are that are written
+debugs_are : (c : In_ok-encoded) → c.in_ok-encoded.encoded.places ≡ placed debug_len 1 (none_from c.args.from) c.in_ok-shared.shared.written.items
+debugs_are c = c.in_ok-encoded.ensures.places ∙ ap (placed debug_len 1 (none_from c.args.from)) c.deref.ensures.value
 
 pub place_shared-requires : goal.place_shared-requires
 place_shared-requires c =
     let s = c.in_ok-shared.shared in
     let m = c.requires.0 in
     let w = c.requires.1 in
-    let here = (goal.at.place_shared-requires c).In_ok-debugs in
-    subst (All (λ n. IfSome n (λ i. i < length c.in_ok-debugs.debugs.offsets))) (sym c.deref-2.ensures.value)
+    let here = (goal.at.place_shared-requires c).In_ok-encoded in
+    subst (All (λ n. IfSome n (λ i. i < length c.in_ok-encoded.encoded.places.offsets))) (sym c.deref-2.ensures.value)
     (subst (λ p. All (λ n. IfSome n (λ i. i < length p.offsets)) s.numbers.items) (sym (debugs_are here))
     (debugs_numbered m c.args.classes.now w c.args.from c.requires.2 s.written.items s.numbers.items (c.in_ok-shared.ensures.known m w) (c.in_ok-shared.ensures.shared m w)))
 
@@ -34,7 +35,10 @@ pub returns : goal.returns
 returns c = λ m w is.
     let cs = c.args.classes.now in
     let s = c.in_ok-shared.shared in
-    let here = (goal.at.returns c).In_ok-debugs in
+    let here = (goal.at.returns c).In_ok-encoded in
+    let code = λ (d : Bor NumberedDebug). numbered_debug_bytes d.now in
+    let bytes : c.in_ok-encoded.encoded.bytes.items ≡ flat_map code s.written.items = c.in_ok-encoded.ensures.bytes ∙ ap (flat_map code) c.deref.ensures.value in
+    let count : c.len.result ≡ length s.written.items = omega (arith, c.len.ensures, s.written.ok.0) in
     let places : c.in_ok-places.places ≡ by_numbers s.numbers.items (placed debug_len 1 (none_from c.args.from) s.written.items) = c.in_ok-places.ensures ∙ (λ i. by_numbers (c.deref-2.ensures.value i) (debugs_are here i)) in
-    subst (AreDebugs m cs) (sym (λ i. record { written = map (λ (d : Bor NumberedDebug). d.now) s.written.items; places = places i }))
+    subst (AreDebugs m cs) (sym (λ i. record { bytes = bytes i; count = count i; places = places i }))
     (debugs_laid m cs w c.args.from is s.written.items s.numbers.items (c.in_ok-shared.ensures.known m w) (c.in_ok-shared.ensures.shared m w))

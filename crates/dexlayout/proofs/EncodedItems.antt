@@ -1,0 +1,37 @@
+-- Items that are encoded one after the other are those of a section.
+use Rattle.std.proofs.Common.{◌≡◌, ℕ, ◌+◌, ◌<◌, List, [], ◌∷◌, ◌++◌, length, get_or, map, take, refl, sym, ap, ◌∙◌, arith}
+use Rattle.std.specs.Prelude.{All, replicate, ◌-◌, ◌%◌}
+use Rattle.std.specs.List.{flat_map}
+use Rattle.std.proofs.lemmas.Grind.{flat_map-append}
+use Rattle.std.proofs.lemmas.List.{append-nil, take_more}
+use Rattle.std.proofs.lemmas.List.Elements.{All-head, All-tail}
+use Rattle.dexspec.specs.Bytes.{round_up}
+use Rattle.dexspec.specs.Placing.{bytes_from}
+
+-- bytes without alignment are those of the items
+pub bytes_plain : {X : Type 0} (f : X → List ℕ) (from : ℕ) (xs : List X) → bytes_from 1 from (map f xs) ≡ flat_map f xs
+bytes_plain f from [] = refl
+bytes_plain f from (x ∷ xs) =
+    let none : (1 - from % 1) % 1 ≡ 0 = omega arith in
+    ap (λ n. replicate n 0 ++ (f x ++ bytes_from 1 (round_up 1 from + length (f x)) (map f xs))) none
+    ∙ ap (λ ys. f x ++ ys) (bytes_plain f (round_up 1 from + length (f x)) xs)
+
+-- the same bytes as those of what they stand for
+codes_agree : {X Y : Type 0} (code : X → List ℕ) (bytes : Y → List ℕ) (meant : X → Y) (IsKnown : X → Type 0) → ((x : X) → IsKnown x → code x ≡ bytes (meant x)) → (xs : List X) → All IsKnown xs
+    → flat_map code xs ≡ flat_map bytes (map meant xs)
+codes_agree code bytes meant IsKnown same [] known = refl
+codes_agree code bytes meant IsKnown same (x ∷ xs) known =
+    λ i. same x (All-head IsKnown x xs known) i ++ codes_agree code bytes meant IsKnown same xs (All-tail IsKnown x xs known) i
+
+-- what is written are the bytes of the items
+pub encoded_are : {X Y : Type 0} (from : ℕ) (code : X → List ℕ) (bytes : Y → List ℕ) (meant : X → Y) (IsKnown : X → Type 0) (written : List X) (symbols : List Y) → ((x : X) → IsKnown x → code x ≡ bytes (meant x))
+    → All IsKnown written → map meant written ≡ symbols → flat_map code written ≡ bytes_from 1 from (map bytes symbols)
+encoded_are from code bytes meant IsKnown written symbols same known is =
+    codes_agree code bytes meant IsKnown same written known ∙ ap (flat_map bytes) is ∙ sym (bytes_plain bytes from symbols)
+
+-- one item more
+pub encoded_next : {X : Type 0} (code : X → List ℕ) (xs : List X) (i : ℕ) (x : X) → i < length xs → get_or xs i x ≡ x → flat_map code (take (i + 1) xs) ≡ flat_map code (take i xs) ++ code x
+encoded_next code xs i x lt is =
+    ap (flat_map code) (take_more xs i x lt ∙ ap (λ y. take i xs ++ y ∷ []) is)
+    ∙ flat_map-append code (take i xs) (x ∷ [])
+    ∙ ap (λ ys. flat_map code (take i xs) ++ ys) (append-nil (code x))

@@ -5,7 +5,7 @@ use Rattle.std.proofs.lemmas.List.{drop_more, drop_all, length-map, get_or-map}
 use Rattle.std.proofs.lemmas.List.Elements.{All-nil, All-cons, All-head, All-tail}
 use Rattle.dexspec.specs.Bytes.{round_up, padding}
 use Rattle.dexspec.specs.Placing.{bytes_from, end_from}
-use Rattle.dexspec.proofs.Places.{end_from_le, end_append}
+use Rattle.dexspec.proofs.layout.Places.{end_from_le, end_append}
 use Rattle.dexcanon.specs.declared.output.Out.{Out}
 use Rattle.dexcanon.specs.Output.{Adds, AreWithin, FitFrom}
 use Rattle.dexcanon.proofs.Written.{Writing, written_none, written_more, written_all}

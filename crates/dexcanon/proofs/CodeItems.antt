@@ -3,7 +3,7 @@ use Rattle.std.proofs.Common.{◌≡◌, ℕ, ◌+◌, ◌<◌, List, ◌∷◌,
 use Rattle.std.specs.Option.{option_map, option_map_or}
 use Rattle.std.proofs.lemmas.List.{drop_more, length-append, length-drop, get_or-map, get_or_default, length-map, map-append}
 use Rattle.dexspec.specs.Lists.{present, zip_with}
-use Rattle.dexspec.proofs.Sharing.{present-append}
+use Rattle.dexspec.proofs.sharing.Sharing.{present-append}
 use Rattle.dexspec.specs.Code.{Code}
 use Rattle.dexspec.specs.Mentions.{Mentions}
 use Rattle.dexcode.specs.Numbered.{NumberedItem}

@@ -13,11 +13,11 @@ use Rattle.dexspec.specs.Merging.{IsConsistent, IsGood, greatest_caps}
 use Rattle.dexspec.specs.Accepted.{IsAccepted}
 use Rattle.dexspec.specs.Placing.{Ordered}
 use Rattle.dexspec.specs.Canonical.{magic, unsigned_file, with_sums, canonical}
-use Rattle.dexspec.proofs.Absorption.{IsGood-within}
-use Rattle.dexspec.proofs.ByteNumbers.{length-uint}
-use Rattle.dexspec.proofs.Collections.{collection-is, collection-one, collection-consistent, definitions-same}
-use Rattle.dexspec.proofs.Members.{Contains-nil, Contains-first, Contains-cons_cases}
-use Rattle.dexspec.proofs.Sums.{length-sha1}
+use Rattle.dexspec.proofs.merge.Absorption.{IsGood-within}
+use Rattle.dexspec.proofs.numbers.ByteNumbers.{length-uint}
+use Rattle.dexspec.proofs.merge.Collections.{collection-is, collection-one, collection-consistent, definitions-same}
+use Rattle.dexspec.proofs.lists.Members.{Contains-nil, Contains-first, Contains-cons_cases}
+use Rattle.dexspec.proofs.layout.Sums.{length-sha1}
 use Rattle.dexhead.specs.declared.head.Head.{Head}
 use Rattle.dexhead.specs.Sums.{with_sums_set}
 use Rattle.dexhead.specs.Laid.{TellsLayout, behind_header}

@@ -13,7 +13,7 @@ use Rattle.dexspec.specs.Mentions.{Mentions, field_of, method_of}
 use Rattle.dexspec.specs.Placing.{SetOffsets, pair_cmp, pairs, directory_bytes, directory_uses, set_offsets_of, class_sets, method_sets, ref_list_uses}
 use Rattle.dexspec.specs.Spellings.{field_index, method_index}
 use Rattle.dexspec.specs.Canonical.{set_offsets, ref_list_offsets}
-use Rattle.dexspec.proofs.Placements.{length-chunks, length-uses_offsets, length-set_offsets}
+use Rattle.dexspec.proofs.layout.Placements.{length-chunks, length-uses_offsets, length-set_offsets}
 use Rattle.dexpool.specs.Laws.{RanksAreNumbers}
 use Rattle.dexmembers.specs.Numbered.{fields_of, methods_of, field_in, method_in}
 use Rattle.dexmembers.specs.DirectoryPut.{count_placed, numbered_directory_bytes}

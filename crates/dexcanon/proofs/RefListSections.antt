@@ -12,7 +12,7 @@ use Rattle.dexspec.specs.Placing.{Ordered, SetOffsets, set_offsets_of, class_set
 use Rattle.dexspec.specs.Sameness.{same_set}
 use Rattle.dexspec.specs.Spellings.{offsets_bytes}
 use Rattle.dexspec.specs.Canonical.{set_items, set_section, set_offsets, set_end, ref_list_section}
-use Rattle.dexspec.proofs.Placements.{length-items_offsets}
+use Rattle.dexspec.proofs.layout.Placements.{length-items_offsets}
 use Rattle.dexval.specs.Numbered.{set_in}
 use Rattle.dexmembers.specs.Numbered.{NumberedMethod, method_in, methods_of}
 use Rattle.dexclass.specs.Numbered.{NumberedClass, definition_of}

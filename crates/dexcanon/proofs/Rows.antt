@@ -5,7 +5,7 @@ use Rattle.std.proofs.lemmas.List.{drop_more}
 use Rattle.dexspec.specs.Lists.{zip_with}
 use Rattle.dexspec.specs.Bytes.{round_up, padding}
 use Rattle.dexspec.specs.Placing.{bytes_from, end_from}
-use Rattle.dexspec.proofs.Places.{end_from_le}
+use Rattle.dexspec.proofs.layout.Places.{end_from_le}
 
 -- ---- rows, which need no alignment
 

@@ -10,9 +10,9 @@ use Rattle.dexspec.specs.Classes.{no_index}
 use Rattle.dexspec.specs.Mentions.{Mentions}
 use Rattle.dexspec.specs.Spellings.{text_index, type_index}
 use Rattle.dexspec.specs.Canonical.{ClassOffsets, class_offsets, class_row_bytes}
-use Rattle.dexspec.proofs.Placements.{length-zip}
-use Rattle.dexspec.proofs.Laying.{get_or-zip}
-use Rattle.dexspec.proofs.ByteNumbers.{length-uint}
+use Rattle.dexspec.proofs.layout.Placements.{length-zip}
+use Rattle.dexspec.proofs.layout.Laying.{get_or-zip}
+use Rattle.dexspec.proofs.numbers.ByteNumbers.{length-uint}
 use Rattle.dexpool.specs.Laws.{RanksAreNumbers}
 use Rattle.dexclass.specs.Numbered.{NumberedClass, definition_of, text_at, type_at}
 use Rattle.dexclass.specs.Uses.{IsKnownClass}

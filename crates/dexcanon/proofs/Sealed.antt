@@ -6,7 +6,7 @@ use Rattle.sha1.specs.Sha1.{sha1}
 use Rattle.dexspec.specs.Header.{adler_32}
 use Rattle.dexspec.specs.Placing.{Ordered}
 use Rattle.dexspec.specs.Canonical.{header_bytes, unsigned_file, with_sums}
-use Rattle.dexspec.proofs.Tables.{length-header_bytes}
+use Rattle.dexspec.proofs.layout.Tables.{length-header_bytes}
 use Rattle.dexhead.specs.declared.head.Head.{Head}
 use Rattle.dexhead.specs.Sums.{with_sums_set}
 use Rattle.dexhead.specs.Laid.{TellsLayout, behind_header}

@@ -10,7 +10,7 @@ use Rattle.dexspec.specs.Placing.{Ordered, Placed, all_methods, values_unless_em
 use Rattle.dexspec.specs.Sameness.{same_debug}
 use Rattle.dexspec.specs.Canonical.{data_start, debug_end, class_data_end, set_end, ref_list_end, data_sections, type_list_section, annotation_section, array_section, string_section, debug_section, code_section, class_data_section, set_section, ref_list_section, directory_section, debug_offsets, code_offsets}
 use Rattle.dexspec.specs.Spellings.{encoded_array_bytes}
-use Rattle.dexspec.proofs.Placements.{length-uses_offsets, length-items_offsets, length-zip_with, sections_follow}
+use Rattle.dexspec.proofs.layout.Placements.{length-uses_offsets, length-items_offsets, length-zip_with, sections_follow}
 use Rattle.dexmembers.specs.Numbered.{method_in, methods_of}
 use Rattle.dexclass.specs.Numbered.{NumberedClass, definition_of}
 use Rattle.dexlayout.specs.Places.{Places, ItemPlaces}

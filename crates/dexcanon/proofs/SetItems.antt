@@ -5,9 +5,9 @@ use Rattle.std.proofs.lemmas.List.{length-map, get_or-map, drop_all}
 use Rattle.dexspec.specs.Bytes.{round_up}
 use Rattle.dexspec.specs.Mentions.{Mentions}
 use Rattle.dexspec.specs.Spellings.{annotation_bytes, offsets_bytes}
-use Rattle.dexspec.proofs.Laying.{get_or-zip_with}
-use Rattle.dexspec.proofs.Placements.{length-zip_with}
-use Rattle.dexspec.proofs.Places.{length-offsets_from}
+use Rattle.dexspec.proofs.layout.Laying.{get_or-zip_with}
+use Rattle.dexspec.proofs.layout.Placements.{length-zip_with}
+use Rattle.dexspec.proofs.layout.Places.{length-offsets_from}
 use Rattle.dexpool.specs.Numberings.{AreRising}
 use Rattle.dexval.specs.Numbered.{NumberedSet, IsKnownSet, annotation_in, set_in}
 use Rattle.dexval.specs.Spelled.{numbered_offsets}

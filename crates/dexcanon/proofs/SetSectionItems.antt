@@ -11,8 +11,8 @@ use Rattle.dexspec.specs.Mentions.{Mentions}
 use Rattle.dexspec.specs.Placing.{Ordered, end_from, offsets_from}
 use Rattle.dexspec.specs.Spellings.{annotation_bytes, offsets_bytes}
 use Rattle.dexspec.specs.Canonical.{type_list_end, set_items, annotation_section, annotation_offsets, set_section}
-use Rattle.dexspec.proofs.Placements.{sections_follow}
-use Rattle.dexspec.proofs.Places.{length-bytes_from, length-offsets_from, end_from_le}
+use Rattle.dexspec.proofs.layout.Placements.{sections_follow}
+use Rattle.dexspec.proofs.layout.Places.{length-bytes_from, length-offsets_from, end_from_le}
 use Rattle.dexval.specs.Numbered.{NumberedSet, set_in}
 use Rattle.dexclass.specs.Numbered.{NumberedClass}
 use Rattle.dexlayout.specs.Places.{Places}

@@ -8,8 +8,8 @@ use Rattle.dexspec.specs.Mentions.{Mentions}
 use Rattle.dexspec.specs.Symbols.{Proto, Field, Method}
 use Rattle.dexspec.specs.Spellings.{text_index, type_index, proto_index}
 use Rattle.dexspec.specs.Canonical.{proto_row_bytes, field_row_bytes, method_row_bytes}
-use Rattle.dexspec.proofs.Placements.{length-zip}
-use Rattle.dexspec.proofs.Laying.{get_or-zip}
+use Rattle.dexspec.proofs.layout.Placements.{length-zip}
+use Rattle.dexspec.proofs.layout.Laying.{get_or-zip}
 use Rattle.dexrows.specs.Numbers.{ProtoNumbers}
 use Rattle.dexrows.specs.declared.fields.FieldRow.{FieldRow}
 use Rattle.dexrows.specs.declared.methods.MethodRow.{MethodRow}

@@ -8,7 +8,7 @@ use Rattle.dexspec.specs.Mentions.{Mentions}
 use Rattle.dexspec.specs.Spellings.{text_index}
 use Rattle.dexspec.specs.Canonical as canonical
 use Rattle.dexspec.specs.Canonical.{layout, proto_row_bytes, field_row_bytes, method_row_bytes, class_row_bytes, class_offsets, type_list_offsets, directory_offsets, class_data_offsets, array_offsets, map_bytes, map_of, directory_end}
-use Rattle.dexspec.proofs.Placements.{layout_is, length-type_list_offsets}
+use Rattle.dexspec.proofs.layout.Placements.{layout_is, length-type_list_offsets}
 use Rattle.dexclass.specs.Numbered.{NumberedClass, definition_of}
 use Rattle.dexspec.specs.Sections.{Section}
 use Rattle.dexhead.specs.Laid.{map_start, map_list}

@@ -8,9 +8,9 @@ use Rattle.dexspec.specs.Header.{header_length}
 use Rattle.dexspec.specs.Mentions.{Mentions, mentions}
 use Rattle.dexspec.specs.Placing.{Ordered, Placed, bytes_from, section_bytes}
 use Rattle.dexspec.specs.Canonical.{Layout, table_bytes, data_start, data_sections, directory_end, unsigned_file, with_sums, ordered, canonical}
-use Rattle.dexspec.proofs.Places.{length-padding, length-sections}
-use Rattle.dexspec.proofs.Placements.{named_layout, layout_is, named_layout_full, sections_follow}
-use Rattle.dexspec.proofs.Tables.{length-table_bytes}
+use Rattle.dexspec.proofs.layout.Places.{length-padding, length-sections}
+use Rattle.dexspec.proofs.layout.Placements.{named_layout, layout_is, named_layout_full, sections_follow}
+use Rattle.dexspec.proofs.layout.Tables.{length-table_bytes}
 use Rattle.dexhead.specs.Laid.{map_list, behind_header}
 use Rattle.dexclass.specs.Numbered.{NumberedClass}
 use Rattle.dexlayout.specs.Places.{Places}

@@ -13,11 +13,11 @@ use Rattle.dexspec.specs.Texts.{Text, text_cmp, same_text}
 use Rattle.dexspec.specs.Classes.{Definition}
 use Rattle.dexspec.specs.Depth.{parents, is_defined, above}
 use Rattle.dexspec.specs.Mentions.{Mentions}
-use Rattle.dexspec.proofs.Members.{Contains-nil, Contains-first, Contains-later, Contains-cons_cases, Contains-flat_map, Contains-flat_map_source, Contains-filter, Contains-filter_source, list_any-member, list_any-source}
-use Rattle.dexspec.proofs.Depths.{Contains-map}
-use Rattle.dexspec.proofs.Mapped.{Contains-map_source}
-use Rattle.dexspec.proofs.InOrder.{Rises-from_rises, Rises-places, irreflexive}
-use Rattle.dexspec.proofs.SymbolOrders.{text_total}
+use Rattle.dexspec.proofs.lists.Members.{Contains-nil, Contains-first, Contains-later, Contains-cons_cases, Contains-flat_map, Contains-flat_map_source, Contains-filter, Contains-filter_source, list_any-member, list_any-source}
+use Rattle.dexspec.proofs.merge.Depths.{Contains-map}
+use Rattle.dexspec.proofs.lists.Mapped.{Contains-map_source}
+use Rattle.dexspec.proofs.lists.InOrder.{Rises-from_rises, Rises-places, irreflexive}
+use Rattle.dexspec.proofs.merge.SymbolOrders.{text_total}
 use Rattle.dexorder.specs.Depths.{parents_of, AreWithin}
 use Rattle.dexorder.specs.Definitions.{name_at, AreClassesOf}
 use Rattle.dexclass.specs.Numbered.{NumberedClass, type_at, definition_of}

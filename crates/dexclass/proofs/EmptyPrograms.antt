@@ -11,8 +11,8 @@ use Rattle.dexspec.specs.Mentions.{Mentions, mentions}
 use Rattle.dexspec.specs.Depth.{in_class_order}
 use Rattle.dexspec.specs.Weight.{weight}
 use Rattle.dexspec.specs.Merging.{Fits, IsGood, greatest_caps}
-use Rattle.dexspec.proofs.Members.{Contains-nil}
-use Rattle.dexspec.proofs.WeightGrowth.{weight-within}
+use Rattle.dexspec.proofs.lists.Members.{Contains-nil}
+use Rattle.dexspec.proofs.merge.WeightGrowth.{weight-within}
 use Rattle.dexclass.specs.Numbered.{NumberedClass, definition_of}
 use Rattle.dexclass.specs.Uses.{IsKnownClass}
 use Rattle.dexclass.specs.Programs.{collection_of, IsProgram}

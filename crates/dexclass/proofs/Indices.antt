@@ -7,7 +7,7 @@ use Rattle.dexspec.specs.Header.{TypeIds, table_size}
 use Rattle.dexspec.specs.Classes.{no_index}
 use Rattle.dexspec.specs.Mentions.{Mentions}
 use Rattle.dexspec.specs.Accepted.{IsDefinedBefore}
-use Rattle.dexspec.proofs.OneRow.{one_type}
+use Rattle.dexspec.proofs.determined.OneRow.{one_type}
 use Rattle.dexpool.specs.Pools.{ArePools}
 use Rattle.dexclass.specs.Rows.{AreClassTests, IsClassIndex, IsParentIndex, IsSourceIndex, IsInterfaceIndex, superclass_indices}
 

@@ -7,8 +7,8 @@ use Rattle.std.proofs.lemmas.Bool.{cases_order}
 use Rattle.std.proofs.lemmas.List.Elements.{All-nil, All-cons, All-head, All-tail}
 use Rattle.dexspec.specs.Lists.{rises}
 use Rattle.dexspec.specs.Texts.{Text, text_cmp}
-use Rattle.dexspec.proofs.InOrder.{Rises-from_rises, Rises-places, irreflexive}
-use Rattle.dexspec.proofs.SymbolOrders.{text_total}
+use Rattle.dexspec.proofs.lists.InOrder.{Rises-from_rises, Rises-places, irreflexive}
+use Rattle.dexspec.proofs.merge.SymbolOrders.{text_total}
 use Rattle.dexpool.specs.Numberings.{IsAt, Leads, image}
 use Rattle.dexclass.specs.Renumbering.{led}
 

@@ -7,9 +7,9 @@ use Rattle.dexrows.specs.Cut.{kept}
 use Rattle.dexspec.specs.Texts.{Text, text_cmp}
 use Rattle.dexspec.specs.Symbols.{Proto, Field, Method, Symbol, TextSymbol, TypeSymbol, ProtoSymbol, FieldSymbol, MethodSymbol, proto_cmp, field_cmp, method_cmp}
 use Rattle.dexspec.specs.Mentions.{Mentions, closed, texts_in, types_in, protos_in, fields_in, methods_in}
-use Rattle.dexspec.proofs.Members.{AreAmong, Contains-nil, Contains-first, Contains-later, Contains-cons_cases, AreAmong-flat_map, and_first, and_second, list_any-member, list_any-source}
-use Rattle.dexspec.proofs.InOrder.{in_order-same}
-use Rattle.dexspec.proofs.SymbolOrders.{text_total, text_exact, proto_total, proto_exact, field_total, field_exact, method_total, method_exact}
+use Rattle.dexspec.proofs.lists.Members.{AreAmong, Contains-nil, Contains-first, Contains-later, Contains-cons_cases, AreAmong-flat_map, and_first, and_second, list_any-member, list_any-source}
+use Rattle.dexspec.proofs.lists.InOrder.{in_order-same}
+use Rattle.dexspec.proofs.merge.SymbolOrders.{text_total, text_exact, proto_total, proto_exact, field_total, field_exact, method_total, method_exact}
 use Rattle.dexpool.specs.declared.symbols.SymbolKind.{SymbolKind}
 use Rattle.dexpool.specs.declared.symbols.SymbolKind.TheVariants as kinds
 use Rattle.dexpool.specs.declared.marks.Marks.{Marks}

@@ -5,8 +5,8 @@ use Rattle.std.proofs.lemmas.Bool.{cases_order}
 use Rattle.std.proofs.lemmas.List.{length-map, get_or-map}
 use Rattle.dexspec.specs.Texts.{text_cmp}
 use Rattle.dexspec.specs.Mentions.{Mentions}
-use Rattle.dexspec.proofs.InOrder.{Rises-from_rises, Rises-places, irreflexive, asymmetric}
-use Rattle.dexspec.proofs.SymbolOrders.{text_total}
+use Rattle.dexspec.proofs.lists.InOrder.{Rises-from_rises, Rises-places, irreflexive, asymmetric}
+use Rattle.dexspec.proofs.merge.SymbolOrders.{text_total}
 use Rattle.std.specs.declared.cmp.Ordering.TheVariants.{Less}
 use Rattle.dexorder.specs.Definitions.{AreNamesOf}
 use Rattle.dexclass.specs.Numbered.{NumberedClass, type_at, definition_of}

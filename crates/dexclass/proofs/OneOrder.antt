@@ -8,11 +8,11 @@ use Rattle.dexspec.specs.Texts.{Text, same_text}
 use Rattle.dexspec.specs.Classes.{Definition}
 use Rattle.dexspec.specs.Files.{AreSame}
 use Rattle.dexspec.specs.Depth.{place_cmp, is_defined, IsAcyclic, in_class_order}
-use Rattle.dexspec.proofs.Members.{Contains-first, Contains-later, list_any-member}
-use Rattle.dexspec.proofs.InOrder.{Rises, Rises-same}
-use Rattle.dexspec.proofs.Depths.{Contains-map, depth-same}
-use Rattle.dexspec.proofs.SymbolOrders.{text_total}
-use Rattle.dexspec.proofs.ClassPlaces.{class_place, in_class_order-only, in_class_order-has, class_places-rise}
+use Rattle.dexspec.proofs.lists.Members.{Contains-first, Contains-later, list_any-member}
+use Rattle.dexspec.proofs.lists.InOrder.{Rises, Rises-same}
+use Rattle.dexspec.proofs.merge.Depths.{Contains-map, depth-same}
+use Rattle.dexspec.proofs.merge.SymbolOrders.{text_total}
+use Rattle.dexspec.proofs.normal.ClassPlaces.{class_place, in_class_order-only, in_class_order-has, class_places-rise}
 use Rattle.dexorder.proofs.DefinitionDepths.{same_from_equal}
 
 place_total : IsTotalOrder place_cmp

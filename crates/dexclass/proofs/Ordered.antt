@@ -12,9 +12,9 @@ use Rattle.dexspec.specs.Texts.{Text}
 use Rattle.dexspec.specs.Classes.{Definition}
 use Rattle.dexspec.specs.Depth.{IsAcyclic, depth, in_class_order}
 use Rattle.dexspec.specs.Mentions.{Mentions}
-use Rattle.dexspec.proofs.InOrder.{Rises-from_rises, AreDistinct-from_Rises}
-use Rattle.dexspec.proofs.Depths.{Contains-map}
-use Rattle.dexspec.proofs.Mapped.{Contains-map_source, AreDistinct-map_source}
+use Rattle.dexspec.proofs.lists.InOrder.{Rises-from_rises, AreDistinct-from_Rises}
+use Rattle.dexspec.proofs.merge.Depths.{Contains-map}
+use Rattle.dexspec.proofs.lists.Mapped.{Contains-map_source, AreDistinct-map_source}
 use Rattle.dexorder.specs.Depths.{AreWithin, AreDepths}
 use Rattle.dexorder.specs.Definitions.{AreClassesOf, AreDepthsOf, AreNamesOf}
 use Rattle.dexorder.specs.Places.{class_place, class_cmp}

@@ -13,10 +13,10 @@ use Rattle.dexspec.specs.Mentions.{Mentions, mentions}
 use Rattle.dexspec.specs.Depth.{in_class_order}
 use Rattle.dexspec.specs.WellFormed.{AreWellFormed}
 use Rattle.dexspec.specs.Merging.{IsGood, greatest_caps}
-use Rattle.dexspec.proofs.Absorption.{IsGood-within}
-use Rattle.dexspec.proofs.Growth.{mentions-same}
-use Rattle.dexspec.proofs.ClassOrder.{definitions-distinct}
-use Rattle.dexspec.proofs.ClassPlaces.{in_class_order-only, in_class_order-has, class_names-apart}
+use Rattle.dexspec.proofs.merge.Absorption.{IsGood-within}
+use Rattle.dexspec.proofs.merge.Growth.{mentions-same}
+use Rattle.dexspec.proofs.normal.ClassOrder.{definitions-distinct}
+use Rattle.dexspec.proofs.normal.ClassPlaces.{in_class_order-only, in_class_order-has, class_names-apart}
 use Rattle.dexpool.specs.Numberings.{IsNumbering}
 use Rattle.dexclass.specs.Numbered.{NumberedClass, definition_of}
 use Rattle.dexclass.specs.Uses.{IsKnownClass}

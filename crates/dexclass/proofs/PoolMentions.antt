@@ -10,15 +10,15 @@ use Rattle.dexspec.specs.Classes.{Definition}
 use Rattle.dexspec.specs.Mentions.{Mentions, mentions, texts_in, types_in, protos_in, fields_in, methods_in}
 use Rattle.dexspec.specs.Weight.{mentions_weight}
 use Rattle.dexspec.specs.Accepted.{HoldBelow, AreRows}
-use Rattle.dexspec.proofs.Members.{Contains-nil, Contains-cons_cases}
-use Rattle.dexspec.proofs.MentionMembers.{Occurs, texts-source, types-source, protos-source, fields-source, methods-source}
-use Rattle.dexspec.proofs.Growth.{AreMentioned, mentions-rising}
-use Rattle.dexspec.proofs.WeightGrowth.{mentions_weight-among}
-use Rattle.dexspec.proofs.OneRow.{one_string, one_type, one_proto, one_field, one_method}
-use Rattle.dexspec.proofs.Fitting.{HasRow, DefinitionsHaveRows, type_rows, text_rows}
-use Rattle.dexspec.proofs.SymbolRows.{row_symbols}
-use Rattle.dexspec.proofs.Readable.{row_of}
-use Rattle.dexspec.proofs.Denoted.{has_classes, AreReadable}
+use Rattle.dexspec.proofs.lists.Members.{Contains-nil, Contains-cons_cases}
+use Rattle.dexspec.proofs.merge.MentionMembers.{Occurs, texts-source, types-source, protos-source, fields-source, methods-source}
+use Rattle.dexspec.proofs.merge.Growth.{AreMentioned, mentions-rising}
+use Rattle.dexspec.proofs.merge.WeightGrowth.{mentions_weight-among}
+use Rattle.dexspec.proofs.determined.OneRow.{one_string, one_type, one_proto, one_field, one_method}
+use Rattle.dexspec.proofs.wellformed.Fitting.{HasRow, DefinitionsHaveRows, type_rows, text_rows}
+use Rattle.dexspec.proofs.wellformed.SymbolRows.{row_symbols}
+use Rattle.dexspec.proofs.determined.Readable.{row_of}
+use Rattle.dexspec.proofs.determined.Denoted.{has_classes, AreReadable}
 use Rattle.dexpool.specs.Pools.{AreAll, ArePools}
 use Rattle.dexclass.proofs.RowsBelow.{IsRow}
 

@@ -6,7 +6,7 @@ use Rattle.dexspec.specs.Classes.{Definition}
 use Rattle.dexspec.specs.Files.{Collection, definitions}
 use Rattle.dexspec.specs.Mentions.{mentions}
 use Rattle.dexspec.specs.Depth.{in_class_order}
-use Rattle.dexspec.proofs.ClassOrder.{in_class_order-same_sum, definitions-distinct}
+use Rattle.dexspec.proofs.normal.ClassOrder.{in_class_order-same_sum, definitions-distinct}
 use Rattle.dexclass.specs.Numbered.{NumberedClass, definition_of}
 use Rattle.dexclass.specs.Uses.{IsKnownClass}
 use Rattle.dexclass.specs.Programs.{AreClassesOf, IsClassAt}

@@ -10,14 +10,14 @@ use Rattle.dexspec.specs.Mentions.{Mentions, mentions}
 use Rattle.dexspec.specs.Depth.{in_class_order}
 use Rattle.dexspec.specs.Weight.{mentions_weight, body_weight, weight}
 use Rattle.dexspec.specs.Merging.{IsConsistent, greatest_caps}
-use Rattle.dexspec.proofs.Mapped.{AreDistinct-map_source}
-use Rattle.dexspec.proofs.SizeSums.{sum_by-map}
-use Rattle.dexspec.proofs.Growth.{mentions-same}
-use Rattle.dexspec.proofs.Absorption.{IsGood-within}
-use Rattle.dexspec.proofs.WeightGrowth.{weight-same}
-use Rattle.dexspec.proofs.ClassPlaces.{in_class_order-only, in_class_order-has}
-use Rattle.dexspec.proofs.ClassOrder.{definitions-distinct, definitions-different}
-use Rattle.dexspec.proofs.Collections.{collection-is, definitions-same}
+use Rattle.dexspec.proofs.lists.Mapped.{AreDistinct-map_source}
+use Rattle.dexspec.proofs.size.SizeSums.{sum_by-map}
+use Rattle.dexspec.proofs.merge.Growth.{mentions-same}
+use Rattle.dexspec.proofs.merge.Absorption.{IsGood-within}
+use Rattle.dexspec.proofs.merge.WeightGrowth.{weight-same}
+use Rattle.dexspec.proofs.normal.ClassPlaces.{in_class_order-only, in_class_order-has}
+use Rattle.dexspec.proofs.normal.ClassOrder.{definitions-distinct, definitions-different}
+use Rattle.dexspec.proofs.merge.Collections.{collection-is, definitions-same}
 use Rattle.dexpool.specs.Numberings.{IsNumbering}
 use Rattle.dexclass.specs.Numbered.{NumberedClass, definition_of}
 use Rattle.dexclass.specs.Uses.{IsKnownClass}

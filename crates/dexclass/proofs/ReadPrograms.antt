@@ -9,8 +9,8 @@ use Rattle.dexspec.specs.Weight.{weight, mentions_weight}
 use Rattle.dexspec.specs.WellFormed.{AreWellFormed}
 use Rattle.dexspec.specs.Merging.{IsGood, greatest_caps}
 use Rattle.dexspec.specs.Accepted.{HoldBelow, AreRows, IsAccepted}
-use Rattle.dexspec.proofs.Absorption.{IsGood-within}
-use Rattle.dexspec.proofs.Denoted.{has_classes, AreReadable, rows_denote, denoted_rows}
+use Rattle.dexspec.proofs.merge.Absorption.{IsGood-within}
+use Rattle.dexspec.proofs.determined.Denoted.{has_classes, AreReadable, rows_denote, denoted_rows}
 use Rattle.dexclass.specs.Numbered.{NumberedClass, definition_of}
 use Rattle.dexclass.specs.Programs.{AreMergeable, IsReadAs}
 use Rattle.dexclass.specs.Reading.{bodies_weight, IsWhole}

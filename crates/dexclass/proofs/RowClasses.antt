@@ -13,7 +13,7 @@ use Rattle.dexspec.specs.Classes.{Body, ClassRow, ClassTypeRow, ClassListAt, Ind
 use Rattle.dexspec.specs.Mentions.{Mentions}
 use Rattle.dexspec.specs.Weight.{set_weight, field_weight, method_weight, static_values_weight, body_weight}
 use Rattle.dexspec.specs.Accepted.{HasClass}
-use Rattle.dexspec.proofs.OneRow.{one_string, one_type}
+use Rattle.dexspec.proofs.determined.OneRow.{one_string, one_type}
 use Rattle.dexpool.specs.Pools.{ArePools}
 use Rattle.dexmembers.specs.Numbered.{Members}
 use Rattle.dexmembers.specs.Weight.{members_weight}

@@ -6,7 +6,7 @@ use Rattle.dexspec.specs.Mentions.{Mentions, mentions}
 use Rattle.dexspec.specs.Weight.{weight, mentions_weight, most_weight}
 use Rattle.dexspec.specs.Conditions.{Condition, number}
 use Rattle.dexspec.specs.Accepted.{HasClass, HoldBelow, AreRows, FailsAt, place, rows_judged, IsRefused}
-use Rattle.dexspec.proofs.Denoted.{AreReadable}
+use Rattle.dexspec.proofs.determined.Denoted.{AreReadable}
 use Rattle.dexhead.specs.declared.refusal.Refusal.{Refusal}
 use Rattle.dexpool.specs.Pools.{ArePools}
 use Rattle.dexpool.specs.declared.faults.ItemFault.TheVariants as items

@@ -11,9 +11,9 @@ use Rattle.dexspec.specs.Mentions.{mentions}
 use Rattle.dexspec.specs.Weight.{weight, body_weight, mentions_weight, most_weight}
 use Rattle.dexspec.specs.Conditions.{Condition}
 use Rattle.dexspec.specs.Accepted.{HoldBelow, IsReadable, AreRows, FailsAt, IsAccepted}
-use Rattle.dexspec.proofs.Readable.{row_of}
-use Rattle.dexspec.proofs.WeightGrowth.{weight-within}
-use Rattle.dexspec.proofs.Denoted.{HasClasses, has_classes, AreReadable, same_class_row, rows_define, defined_rows}
+use Rattle.dexspec.proofs.determined.Readable.{row_of}
+use Rattle.dexspec.proofs.merge.WeightGrowth.{weight-within}
+use Rattle.dexspec.proofs.determined.Denoted.{HasClasses, has_classes, AreReadable, same_class_row, rows_define, defined_rows}
 use Rattle.dexclass.specs.Reading.{bodies_weight}
 
 -- the definition is what a row is

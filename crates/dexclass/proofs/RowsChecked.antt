@@ -10,10 +10,10 @@ use Rattle.dexspec.specs.Mentions.{Mentions}
 use Rattle.dexspec.specs.Weight.{mentions_weight, most_weight}
 use Rattle.dexspec.specs.Conditions.{Condition}
 use Rattle.dexspec.specs.Accepted.{HoldBelow, AreRows, IsRefused}
-use Rattle.dexspec.proofs.Members.{length-among}
-use Rattle.dexspec.proofs.Collections.{definitions-distinct}
-use Rattle.dexspec.proofs.Denoted.{has_classes, denoted_rows}
-use Rattle.dexspec.proofs.OneCollection.{one_collection}
+use Rattle.dexspec.proofs.lists.Members.{length-among}
+use Rattle.dexspec.proofs.merge.Collections.{definitions-distinct}
+use Rattle.dexspec.proofs.determined.Denoted.{has_classes, denoted_rows}
+use Rattle.dexspec.proofs.determined.OneCollection.{one_collection}
 use Rattle.dexpool.specs.Pools.{ArePools}
 use Rattle.dexmembers.specs.Checking.{HasMembersOf}
 use Rattle.dexclass.specs.Rows.{interface_indices}

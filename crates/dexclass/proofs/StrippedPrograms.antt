@@ -13,12 +13,12 @@ use Rattle.dexspec.specs.Depth.{in_class_order}
 use Rattle.dexspec.specs.WellFormed.{AreWellFormed}
 use Rattle.dexspec.specs.Merging.{Caps, IsGood, greatest_caps}
 use Rattle.dexspec.specs.Stripping.{strip_definition, strip, strip_collection}
-use Rattle.dexspec.proofs.Absorption.{IsGood-within}
-use Rattle.dexspec.proofs.ClassOrder.{definitions-distinct}
-use Rattle.dexspec.proofs.ClassPlaces.{in_class_order-only, in_class_order-has, class_names-apart}
-use Rattle.dexspec.proofs.Collections.{definitions-are, collection-one}
-use Rattle.dexspec.proofs.StripCollection.{definitions-strip_collection}
-use Rattle.dexspec.proofs.StripGood.{IsGood-strip}
+use Rattle.dexspec.proofs.merge.Absorption.{IsGood-within}
+use Rattle.dexspec.proofs.normal.ClassOrder.{definitions-distinct}
+use Rattle.dexspec.proofs.normal.ClassPlaces.{in_class_order-only, in_class_order-has, class_names-apart}
+use Rattle.dexspec.proofs.merge.Collections.{definitions-are, collection-one}
+use Rattle.dexspec.proofs.strip.StripCollection.{definitions-strip_collection}
+use Rattle.dexspec.proofs.strip.StripGood.{IsGood-strip}
 use Rattle.dexmembers.specs.Numbered.{members_in, AreKnownMembers, AreOrdered, AreOfClass}
 use Rattle.dexmembers.specs.Stripped.{stripped_members, strip_members}
 use Rattle.dexmembers.specs.Weight.{members_weight}

@@ -4,7 +4,7 @@ use Rattle.std.specs.List.{All, AllZip, flat_map}
 use Rattle.std.proofs.lemmas.List.{same_lists}
 use Rattle.std.proofs.lemmas.List.Elements.{All-nil, All-cons, All-head, All-tail, All-map, Contains-get_or}
 use Rattle.dexspec.specs.Mentions.{Mentions, symbols_of, mentions, closed}
-use Rattle.dexspec.proofs.Members.{Contains-flat_map}
+use Rattle.dexspec.proofs.lists.Members.{Contains-flat_map}
 use Rattle.dexpool.specs.declared.marks.Marks.{Marks}
 use Rattle.dexpool.specs.declared.symbols.SymbolKind.TheVariants as kinds
 use Rattle.dexpool.specs.Numberings.{Maps, AllLead, Leads, image, marked}

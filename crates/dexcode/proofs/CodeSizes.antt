@@ -7,9 +7,9 @@ use Rattle.std.proofs.lemmas.List.Elements.{All-head, All-tail}
 use Rattle.std.proofs.lemmas.List.Sums.{sum_by-cons}
 use Rattle.dexspec.specs.Bytes.{ushort, uint}
 use Rattle.dexspec.specs.Numbers.{uleb128, sleb128, size_u}
-use Rattle.dexspec.proofs.ByteNumbers.{length-ushort, length-uint}
-use Rattle.dexspec.proofs.Groups.{length-groups}
-use Rattle.dexspec.proofs.SizeItems.{uleb128-size, sleb128-size, if-size}
+use Rattle.dexspec.proofs.numbers.ByteNumbers.{length-ushort, length-uint}
+use Rattle.dexspec.proofs.numbers.Groups.{length-groups}
+use Rattle.dexspec.proofs.size.SizeItems.{uleb128-size, sleb128-size, if-size}
 use Rattle.dexinsn.specs.Numbered.{NumberedPiece, NumberedCode, numbered_units, numbered_bytes}
 use Rattle.dexcode.specs.declared.handlers.Catch.{Catch}
 use Rattle.dexcode.specs.declared.tries.Try.{Try}

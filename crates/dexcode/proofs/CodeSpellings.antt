@@ -14,9 +14,9 @@ use Rattle.dexspec.specs.Pieces.{units_of}
 use Rattle.dexspec.specs.Pieces as pieces
 use Rattle.dexspec.specs.Spellings as spelled
 use Rattle.dexspec.specs.Weight.{tries_weight, code_weight}
-use Rattle.dexspec.proofs.InOrder.{Rises-from_rises, rank-get_or}
-use Rattle.dexspec.proofs.SymbolOrders.{text_total}
-use Rattle.dexspec.proofs.SizeCode.{length-units}
+use Rattle.dexspec.proofs.lists.InOrder.{Rises-from_rises, rank-get_or}
+use Rattle.dexspec.proofs.merge.SymbolOrders.{text_total}
+use Rattle.dexspec.proofs.size.SizeCode.{length-units}
 use Rattle.dexpool.specs.Numberings.{AreRising}
 use Rattle.dexinsn.specs.Numbered.{NumberedPiece, StandFor, numbered_units, numbered_bytes}
 use Rattle.dexcode.specs.declared.handlers.Catch.{Catch}

@@ -10,7 +10,7 @@ use Rattle.dexspec.specs.Pieces.{Cut, Piece, is_instruction_start}
 use Rattle.dexspec.specs.Debug.{Debug, DebugAt}
 use Rattle.dexspec.specs.Code.{code_units, PiecesAt, RegistersAt, CodeAt}
 use Rattle.dexspec.specs.Code as whole
-use Rattle.dexspec.proofs.FormedRows.{length-ushorts_at}
+use Rattle.dexspec.proofs.wellformed.FormedRows.{length-ushorts_at}
 use Rattle.dexpool.specs.declared.faults.ItemFault.{ItemFault}
 use Rattle.dexpool.specs.declared.faults.ItemFault.TheVariants.{Refused, Memory}
 use Rattle.dexpool.specs.Pools.{ArePools}

@@ -15,10 +15,10 @@ use Rattle.dexspec.specs.Debug as symbolic
 use Rattle.dexspec.specs.Mentions.{Mentions, optional_text, optional_type, operation_symbols, debug_symbols}
 use Rattle.dexspec.specs.Spellings.{text_index, type_index, optional_text_bytes, optional_type_bytes, operation_bytes, debug_bytes}
 use Rattle.dexspec.specs.Weight.{operands, debug_weight}
-use Rattle.dexspec.proofs.InOrder.{Rises-from_rises, rank-get_or}
-use Rattle.dexspec.proofs.SymbolOrders.{text_total}
-use Rattle.dexspec.proofs.SizeItems.{uleb128-size, sleb128-size}
-use Rattle.dexspec.proofs.SizeSums.{sum_by-at_most}
+use Rattle.dexspec.proofs.lists.InOrder.{Rises-from_rises, rank-get_or}
+use Rattle.dexspec.proofs.merge.SymbolOrders.{text_total}
+use Rattle.dexspec.proofs.size.SizeItems.{uleb128-size, sleb128-size}
+use Rattle.dexspec.proofs.size.SizeSums.{sum_by-at_most}
 use Rattle.dexpool.specs.declared.symbols.SymbolKind.TheVariants as kinds
 use Rattle.dexpool.specs.declared.marks.Marks.{Marks}
 use Rattle.dexpool.specs.Numberings.{IsAt, AreRising, AreMarksOf, Maps, image_of, Leads, AllLead}

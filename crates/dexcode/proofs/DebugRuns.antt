@@ -7,7 +7,7 @@ use Rattle.std.proofs.lemmas.List.Elements.{All-nil, All-cons, All-append}
 use Rattle.std.specs.Option.{IsSome}
 use Rattle.dexspec.specs.Lists.{Item, Sequence}
 use Rattle.dexspec.specs.Bytes.{Stands}
-use Rattle.dexspec.proofs.Stands.{stands_at, stands_within, same_first}
+use Rattle.dexspec.proofs.written.Stands.{stands_at, stands_within, same_first}
 use Rattle.dexcode.specs.declared.debug_operation.Operation.{Operation}
 use Rattle.dexcode.specs.declared.debug_operation.Operation.TheVariants.{AdvancePc, AdvanceLine, StartLocal, StartLocalExtended, EndLocal, RestartLocal, SetPrologueEnd, SetEpilogueBegin, SetFile, Special}
 use Rattle.dexcode.specs.declared.debug_reading.Counts.{Counts}

@@ -3,7 +3,7 @@ use Rattle.std.proofs.Common.{◌≡◌, ℕ, ◌+◌, ◌*◌, length, sum_by, 
 use Rattle.std.proofs.lemmas.List.{length-map}
 use Rattle.dexspec.specs.Texts.{Text}
 use Rattle.dexspec.specs.Weight.{operands, debug_weight}
-use Rattle.dexspec.proofs.SizeSums.{sum_by-map}
+use Rattle.dexspec.proofs.size.SizeSums.{sum_by-map}
 use Rattle.dexcode.specs.Debug.{NumberedDebug, bare, bare_operation, operation_weight}
 
 -- the weight, by the lists

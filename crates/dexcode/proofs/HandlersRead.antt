@@ -4,8 +4,8 @@ use Rattle.std.specs.Prelude.{ℤ, nat_abs}
 use Rattle.std.proofs.lemmas.List.{length-append}
 use Rattle.dexspec.specs.Lists.{Sequence}
 use Rattle.dexspec.specs.Numbers.{Uleb128At, Sleb128At}
-use Rattle.dexspec.proofs.OneNumber.{one_uleb128, one_sleb128}
-use Rattle.dexspec.proofs.Sequences.{one_sequence}
+use Rattle.dexspec.proofs.determined.OneNumber.{one_uleb128, one_sleb128}
+use Rattle.dexspec.proofs.lists.Sequences.{one_sequence}
 use Rattle.dexpool.specs.declared.faults.ItemFault.{ItemFault}
 use Rattle.dexpool.specs.declared.faults.ItemFault.TheVariants.{Refused, Memory}
 use Rattle.dexcode.specs.declared.handlers.Catch.{Catch}

@@ -10,10 +10,10 @@ use Rattle.dexspec.specs.Lists.{in_order}
 use Rattle.dexspec.specs.Texts.{text_cmp}
 use Rattle.dexspec.specs.Symbols.{Symbol, TextSymbol, TypeSymbol, ProtoSymbol, FieldSymbol, MethodSymbol, proto_cmp, field_cmp, method_cmp}
 use Rattle.dexspec.specs.Mentions.{Mentions, closed, texts_in, types_in, protos_in, fields_in, methods_in}
-use Rattle.dexspec.proofs.Members.{Contains-first, Contains-flat_map}
-use Rattle.dexspec.proofs.Depths.{Contains-map}
-use Rattle.dexspec.proofs.SymbolOrders.{text_total, text_exact, proto_total, proto_exact, field_total, field_exact, method_total, method_exact}
-use Rattle.dexspec.proofs.InOrder.{in_order-has}
+use Rattle.dexspec.proofs.lists.Members.{Contains-first, Contains-flat_map}
+use Rattle.dexspec.proofs.merge.Depths.{Contains-map}
+use Rattle.dexspec.proofs.merge.SymbolOrders.{text_total, text_exact, proto_total, proto_exact, field_total, field_exact, method_total, method_exact}
+use Rattle.dexspec.proofs.lists.InOrder.{in_order-has}
 use Rattle.dexrows.specs.Cut.{kept}
 use Rattle.dexpool.specs.declared.symbols.SymbolKind.{SymbolKind}
 use Rattle.dexpool.specs.declared.symbols.SymbolKind.TheVariants as kinds

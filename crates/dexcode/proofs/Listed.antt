@@ -5,7 +5,7 @@ use Rattle.std.proofs.lemmas.Bool.{cases_eq}
 use Rattle.std.proofs.lemmas.List.{length-append, get_or_past, take-append-le, take_all}
 use Rattle.dexspec.specs.Lists.{Sequence}
 use Rattle.dexspec.specs.Numbers.{Sleb128At}
-use Rattle.dexspec.proofs.Sequences.{one_sequence}
+use Rattle.dexspec.proofs.lists.Sequences.{one_sequence}
 use Rattle.dexcode.specs.Numbered.{NumberedHandler}
 use Rattle.dexcode.specs.NamedHandlers.{HasHandler}
 use Rattle.dexcode.specs.Reading.{HandlerAt, HandlersRead, BeginsAt, AreNumbered, IsNumberPut}

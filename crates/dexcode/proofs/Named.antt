@@ -15,7 +15,7 @@ use Rattle.dexcode.specs.NamedHandlers.{AreKnown, IsHandlerAt, IsPutAt}
 use Rattle.dexcode.specs.Reading.{HandlerAt}
 use Rattle.dexcode.proofs.Listed.{no_number}
 use Rattle.dexcode.proofs.OneHandler.{one_handler}
-use Rattle.dexspec.proofs.Distinct.{insert_grows, distinct_more}
+use Rattle.dexspec.proofs.lists.Distinct.{insert_grows, distinct_more}
 
 module _ {X : Type 0} (same : X → X → Bool) (decides : (x y : X) → Decides (same x y) (x ≡ y)) where
   either : (b c : Bool) → c ≡ true → (b || c) ≡ true

@@ -4,8 +4,8 @@ use Rattle.std.specs.Prelude.{ℤ, nat_abs}
 use Rattle.std.proofs.lemmas.Int.{ints}
 use Rattle.dexspec.specs.Lists.{Sequence}
 use Rattle.dexspec.specs.Numbers.{Uleb128At}
-use Rattle.dexspec.proofs.OneNumber.{one_uleb128, one_sleb128}
-use Rattle.dexspec.proofs.Sequences.{one_sequence}
+use Rattle.dexspec.proofs.determined.OneNumber.{one_uleb128, one_sleb128}
+use Rattle.dexspec.proofs.lists.Sequences.{one_sequence}
 use Rattle.dexcode.specs.declared.handlers.Catch.{Catch}
 use Rattle.dexcode.specs.Numbered.{NumberedHandler}
 use Rattle.dexcode.specs.Reading.{CatchAt, CatchAllAt, HandlerAt}

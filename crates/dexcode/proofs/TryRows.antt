@@ -15,11 +15,11 @@ use Rattle.dexspec.specs.Texts.{Text, same_text, text_cmp}
 use Rattle.dexspec.specs.Pieces.{Cut, is_instruction_start}
 use Rattle.dexspec.specs.Mentions.{Mentions}
 use Rattle.dexspec.specs.Code as symbolic
-use Rattle.dexspec.proofs.InOrder.{Rises-from_rises, rank-get_or}
-use Rattle.dexspec.proofs.SymbolOrders.{text_total}
-use Rattle.dexspec.proofs.OneRow.{one_type}
-use Rattle.dexspec.proofs.OneCode as one
-use Rattle.dexspec.proofs.Sequences.{one_sequence}
+use Rattle.dexspec.proofs.lists.InOrder.{Rises-from_rises, rank-get_or}
+use Rattle.dexspec.proofs.merge.SymbolOrders.{text_total}
+use Rattle.dexspec.proofs.determined.OneRow.{one_type}
+use Rattle.dexspec.proofs.determined.OneCode as one
+use Rattle.dexspec.proofs.lists.Sequences.{one_sequence}
 use Rattle.dexpool.specs.Pools.{ArePools}
 use Rattle.dexpool.specs.Numberings.{AreRising}
 use Rattle.dexcode.specs.declared.handlers.Catch.{Catch}

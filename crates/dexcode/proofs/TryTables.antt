@@ -7,8 +7,8 @@ use Rattle.dexspec.specs.Lists.{Sequence}
 use Rattle.dexspec.specs.Bytes.{number_of, ushort_at}
 use Rattle.dexspec.specs.Numbers.{Uleb128At}
 use Rattle.dexspec.specs.Code.{most_handlers}
-use Rattle.dexspec.proofs.OneNumber.{one_uleb128}
-use Rattle.dexspec.proofs.Sequences.{one_sequence}
+use Rattle.dexspec.proofs.determined.OneNumber.{one_uleb128}
+use Rattle.dexspec.proofs.lists.Sequences.{one_sequence}
 use Rattle.dexcode.specs.declared.tries.Try.{Try}
 use Rattle.dexcode.specs.Numbered.{NumberedHandler, NumberedTry, IsFormedHandler, no_handler, named, all_named, handlers_of, handlers_weight}
 use Rattle.dexcode.specs.NamedHandlers.{IsHandlerAt, AreListed}

@@ -14,9 +14,9 @@ use Rattle.dexspec.specs.ClassData.{ShareNone}
 use Rattle.dexspec.specs.Classes.{FieldDef, MethodDef, Definition, declared_fields, declared_methods}
 use Rattle.dexspec.specs.Mentions.{symbols_of, texts_in}
 use Rattle.dexspec.specs.WellFormed.{IsText, IsSymbol, IsCodeItem, IsValue, AreValues, AreElements, IsAnnotation, IsSet, field_key, field_key_cmp, method_key, method_key_cmp, IsFieldDef, IsMethodDef, IsWellFormed, AreWellFormed}
-use Rattle.dexspec.proofs.Members.{and_first, and_second, and_both, list_all-member, list_any-member}
-use Rattle.dexspec.proofs.Equality.{text_decides}
-use Rattle.dexspec.proofs.Sameness.{proto_decides}
+use Rattle.dexspec.proofs.lists.Members.{and_first, and_second, and_both, list_all-member, list_any-member}
+use Rattle.dexspec.proofs.lists.Equality.{text_decides}
+use Rattle.dexspec.proofs.sharing.Sameness.{proto_decides}
 use Rattle.dexexamples.proofs.NameTests.{all_by, some_by, are_true, each, fits_uint, uint_by, is_class, class_by, is_member_name, member_name_by, is_value_type, value_type_by, is_proto, proto_by, is_symbol, symbol_by, is_text, text_by}
 use Rattle.dexexamples.proofs.CodeTests.{is_below, byte_by, short_by, int_by, long_by, is_code_item, code_by}
 

@@ -10,7 +10,7 @@ use Rattle.dexspec.specs.Pieces.{Cut, AreCut, piece_size, has_right_targets, is_
 use Rattle.dexspec.specs.Debug.{Operation, AdvancePc, AdvanceLine, StartLocal, StartLocalExtended, EndLocal, RestartLocal, SetPrologueEnd, SetEpilogueBegin, SetFile, Special, Debug}
 use Rattle.dexspec.specs.Code.{Handler, Try, Code, IsStart, AreApart, handlers_of, handlers_weight, most_handlers}
 use Rattle.dexspec.specs.WellFormed.{ArePieces, IsHandlerOf, IsTryOf, IsOperation, IsDebug, IsCodeItem}
-use Rattle.dexspec.proofs.Members.{and_first, and_second}
+use Rattle.dexspec.proofs.lists.Members.{and_first, and_second}
 use Rattle.dexexamples.proofs.NameTests.{all_by, some_by, are_true, each, fits_uint, uint_by, fits_ushort, ushort_by, text_is}
 
 -- ---- signed numbers

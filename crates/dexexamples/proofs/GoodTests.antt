@@ -16,11 +16,11 @@ use Rattle.dexspec.specs.Depth.{is_below, IsAcyclic}
 use Rattle.dexspec.specs.Weight.{weight, most_weight}
 use Rattle.dexspec.specs.WellFormed.{AreWellFormed}
 use Rattle.dexspec.specs.Merging.{greatest_caps, Fits, IsGood}
-use Rattle.dexspec.proofs.Members.{list_all-member}
-use Rattle.dexspec.proofs.SymbolOrders.{text_total, text_exact}
-use Rattle.dexspec.proofs.Depths.{names_in, is_defined-name}
-use Rattle.dexspec.proofs.WeightGrowth.{weight-within}
-use Rattle.dexspec.proofs.Collections.{collection-consistent, definitions-are}
+use Rattle.dexspec.proofs.lists.Members.{list_all-member}
+use Rattle.dexspec.proofs.merge.SymbolOrders.{text_total, text_exact}
+use Rattle.dexspec.proofs.merge.Depths.{names_in, is_defined-name}
+use Rattle.dexspec.proofs.merge.WeightGrowth.{weight-within}
+use Rattle.dexspec.proofs.merge.Collections.{collection-consistent, definitions-are}
 use Rattle.dexexamples.specs.Examples.{class_p, class_f, class_debug_twice}
 use Rattle.dexexamples.specs.Varied.{varied}
 use Rattle.dexexamples.proofs.NameTests.{are_true, each}

@@ -11,8 +11,8 @@ use Rattle.dexspec.specs.Names.{IsNameUnit, IsMemberName, IsClassName, primitive
 use Rattle.dexspec.specs.Symbols.{Proto, Field, Method, Symbol, TextSymbol, TypeSymbol, ProtoSymbol, FieldSymbol, MethodSymbol, IsProto, IsField, IsMethod}
 use Rattle.dexspec.specs.Pieces.{all_of_option}
 use Rattle.dexspec.specs.WellFormed.{FitsUint, FitsUshort, IsText, IsSymbol}
-use Rattle.dexspec.proofs.Members.{and_first, and_second, list_any-source}
-use Rattle.dexspec.proofs.Equality.{text_decides}
+use Rattle.dexspec.proofs.lists.Members.{and_first, and_second, list_any-source}
+use Rattle.dexspec.proofs.lists.Equality.{text_decides}
 
 -- ---- tests
 

@@ -21,8 +21,8 @@ use Rattle.dexspec.specs.Mentions.{mentions, symbols_of}
 use Rattle.dexspec.specs.Weight.{weight, most_weight}
 use Rattle.dexspec.specs.Conditions.{Condition}
 use Rattle.dexspec.specs.Accepted.{HoldsThroughout, IsAccepted, Declares, AllCode, HasPiecesAt, HasTriesAt, HasDebugAt, AreRows}
-use Rattle.dexspec.proofs.OneRow.{one_type}
-use Rattle.dexspec.proofs.SymbolOrders.{text_total, text_exact}
+use Rattle.dexspec.proofs.determined.OneRow.{one_type}
+use Rattle.dexspec.proofs.merge.SymbolOrders.{text_total, text_exact}
 use Rattle.dexexamples.specs.Examples.{object, body_under, class_a}
 use Rattle.dexexamples.specs.Whole.{whole_a}
 use Rattle.dexexamples.proofs.WholeFrame.{frame}

@@ -15,7 +15,7 @@ use Rattle.dexspec.specs.ClassData.{no_class_data}
 use Rattle.dexspec.specs.Classes.{ClassTypeRow, ClassRow}
 use Rattle.dexspec.specs.Conditions.{Condition}
 use Rattle.dexspec.specs.Accepted.{HoldsThroughout, IsDefinedBefore, parent_indices}
-use Rattle.dexspec.proofs.OneRow.{one_string}
+use Rattle.dexspec.proofs.determined.OneRow.{one_string}
 use Rattle.dexexamples.specs.Examples.{object, body_under}
 use Rattle.dexexamples.specs.ExpectedFiles.{front_a, file_a}
 use Rattle.dexexamples.specs.Whole.{whole_a}

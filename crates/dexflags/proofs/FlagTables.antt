@@ -2,7 +2,7 @@
 use Rattle.std.proofs.Common.{ℕ, suc, zero, refl, sym, ap, ◌∙◌, ◌≡◌, ◌<◌, ◌^◌, List, [], ◌∷◌, ◌++◌, map, length, get_or, drop, codes, false, arith, rules}
 use Rattle.std.specs.List.{filter, join_with_byte}
 use Rattle.std.specs.Fmt.{digits}
-use Rattle.dexspec.proofs.Mapped.{filter-map}
+use Rattle.dexspec.proofs.lists.Mapped.{filter-map}
 use Rattle.std.proofs.lemmas.Simd.{map-map}
 use Rattle.bitflags.specs.Sets.{Row}
 use Rattle.dexspec.specs.Flags.{FlagsOf, OfClass, OfField, OfMethod, has_bit, named_bits, flags_text}

@@ -9,8 +9,8 @@ use Rattle.dexspec.specs.Bytes.{uint}
 use Rattle.dexspec.specs.Header.{header_length}
 use Rattle.dexspec.specs.Sections.{Section, type_code}
 use Rattle.dexspec.specs.Canonical.{magic, map_entry_bytes, map_bytes}
-use Rattle.dexspec.proofs.Stands.{length_rows}
-use Rattle.dexspec.proofs.ByteNumbers.{length-ushort, length-uint}
+use Rattle.dexspec.proofs.written.Stands.{length_rows}
+use Rattle.dexspec.proofs.numbers.ByteNumbers.{length-ushort, length-uint}
 use Rattle.dexhead.specs.declared.head.Head.{Head}
 use Rattle.dexhead.specs.declared.head.Rows.{Rows}
 use Rattle.dexhead.specs.declared.map_list.MapEntry.{MapEntry}

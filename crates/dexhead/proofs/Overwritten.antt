@@ -6,9 +6,9 @@ use Rattle.sha1.specs.Sha1.{sha1}
 use Rattle.byteorder.specs.Endian.{little_bytes}
 use Rattle.dexspec.specs.Bytes.{uint}
 use Rattle.dexspec.specs.Header.{adler_32, HasChecksum, HasSignature}
-use Rattle.dexspec.proofs.ByteNumbers.{length-uint, uint_at-stands}
-use Rattle.dexspec.proofs.Stands.{stands_first, stands_later, stands_at}
-use Rattle.dexspec.proofs.Sums.{length-sha1, adler_32_small}
+use Rattle.dexspec.proofs.numbers.ByteNumbers.{length-uint, uint_at-stands}
+use Rattle.dexspec.proofs.written.Stands.{stands_first, stands_later, stands_at}
+use Rattle.dexspec.proofs.layout.Sums.{length-sha1, adler_32_small}
 use Rattle.dexhead.specs.Sums.{signed, with_sums_set}
 use Rattle.dexhead.proofs.Spelled.{four_bytes}
 use borrow.Rule.Slice.PartMut.{put_mid}

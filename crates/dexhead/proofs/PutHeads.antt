@@ -6,9 +6,9 @@ use Rattle.sha1.specs.Sha1.{sha1}
 use Rattle.dexspec.specs.Bytes.{uint}
 use Rattle.dexspec.specs.Header.{adler_32, header_length}
 use Rattle.dexspec.specs.Canonical.{magic, with_sums}
-use Rattle.dexspec.proofs.ByteNumbers.{length-uint}
-use Rattle.dexspec.proofs.PlainHeaders.{opening, opened}
-use Rattle.dexspec.proofs.Sums.{length-with_sums, with_sums_magic, with_sums_version, with_sums_checksum, with_sums_signature}
+use Rattle.dexspec.proofs.numbers.ByteNumbers.{length-uint}
+use Rattle.dexspec.proofs.layout.PlainHeaders.{opening, opened}
+use Rattle.dexspec.proofs.layout.Sums.{length-with_sums, with_sums_magic, with_sums_version, with_sums_checksum, with_sums_signature}
 use Rattle.dexhead.specs.declared.head.Head.{Head}
 use Rattle.dexhead.specs.Opened.{IsOpened}
 use Rattle.dexhead.specs.Sums.{signed, with_sums_set}

@@ -7,8 +7,8 @@ use Rattle.std.proofs.lemmas.Simd.{map-map}
 use Rattle.dexspec.specs.Bytes.{uint_at, Stands}
 use Rattle.dexspec.specs.Sections.{entries_at}
 use Rattle.dexspec.specs.Canonical.{map_bytes}
-use Rattle.dexspec.proofs.MapEntries.{entry_of, IsSmall}
-use Rattle.dexspec.proofs.PlainHeaders.{map_stands}
+use Rattle.dexspec.proofs.layout.MapEntries.{entry_of, IsSmall}
+use Rattle.dexspec.proofs.layout.PlainHeaders.{map_stands}
 use Rattle.dexhead.specs.declared.map_list.MapEntry.{MapEntry}
 use Rattle.dexhead.specs.Written.{HasNumbers, entry_meant, entry_read}
 

@@ -2,7 +2,7 @@
 -- places.
 use Rattle.std.proofs.Common.{◌≡◌, ℕ, ◌/◌, ◌%◌, ◌^◌, List, [], ◌∷◌, length, take, refl, arith}
 use Rattle.dexspec.specs.Bytes.{number_of, bytes_of, ushort, uint}
-use Rattle.dexspec.proofs.ByteNumbers.{length-ushort, length-uint}
+use Rattle.dexspec.proofs.numbers.ByteNumbers.{length-ushort, length-uint}
 use Rattle.byteorder.specs.Endian.{little_number, little_bytes}
 
 pub number_of_two : (xs : List ℕ) → number_of (take 2 xs) ≡ little_number 2 xs

@@ -13,7 +13,7 @@ use Rattle.dexspec.specs.Opcodes.{Opcode, opcode_of, opcode_runs}
 use Rattle.dexspec.specs.Pieces.{Piece, index_pool, is_wide_index, is_payload_ident, low_byte, with_index}
 use Rattle.dexspec.specs.Pieces as symbolic
 use Rattle.dexspec.specs.Texts.{Text}
-use Rattle.dexspec.proofs.Members.{Contains-nil, Contains-cons_cases, Contains-first, Contains-later}
+use Rattle.dexspec.proofs.lists.Members.{Contains-nil, Contains-cons_cases, Contains-first, Contains-later}
 use Rattle.dexpool.specs.declared.symbols.SymbolKind.{SymbolKind}
 use Rattle.dexpool.specs.declared.symbols.SymbolKind.TheVariants as kinds
 use Rattle.dexpool.specs.Numberings.{IsAt, Maps, image, image_of, AllLead}

@@ -7,7 +7,7 @@ use Rattle.std.proofs.lemmas.Option.{same_Some}
 use Rattle.dexspec.specs.Symbols.{Pool}
 use Rattle.dexspec.specs.Opcodes.{Opcode, OpcodeRun, Format, units_in, opcode_of, opcode_runs, is_in_run}
 use Rattle.dexspec.specs.Pieces.{piece_size, index_pool, is_wide_index, is_payload_ident, packed_switch_ident, sparse_switch_ident, array_data_ident, low_byte}
-use Rattle.dexspec.proofs.Blanked.{InstructionPiece, piece_is}
+use Rattle.dexspec.proofs.wellformed.Blanked.{InstructionPiece, piece_is}
 
 -- what has an index has two units at least
 abbrev is_long : Format → Option Pool → Bool

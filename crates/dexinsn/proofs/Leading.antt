@@ -11,7 +11,7 @@ use Rattle.dexspec.specs.Mentions.{Mentions}
 use Rattle.dexinsn.specs.LongSwitches.{HasBit}
 use Rattle.dexspec.specs.Bytes.{uint_at}
 use Rattle.dexspec.specs.Code.{RegistersAt}
-use Rattle.dexspec.proofs.FormedRows.{length-ushorts_at}
+use Rattle.dexspec.proofs.wellformed.FormedRows.{length-ushorts_at}
 use Rattle.dexpool.specs.Pools.{ArePools}
 use Rattle.dexinsn.specs.declared.shape.PiecesShape.{PiecesShape}
 use Rattle.dexinsn.specs.Units.{units_in}

@@ -4,7 +4,7 @@ use Rattle.std.specs.Option.{option_map, option_map_or}
 use Rattle.std.proofs.lemmas.List.{drop-drop, drop_all, get_or-take}
 use Rattle.dexspec.specs.Symbols.{Pool}
 use Rattle.dexspec.specs.Pieces.{Cut, AreCut, piece_size, cut_units, index_pool, is_payload_ident, packed_switch_ident, sparse_switch_ident, array_data_ident, with_index, low_byte}
-use Rattle.dexspec.proofs.Blanked.{piece_is, units_by}
+use Rattle.dexspec.proofs.wellformed.Blanked.{piece_is, units_by}
 use Rattle.dexpool.specs.declared.symbols.SymbolKind.{SymbolKind}
 use Rattle.dexpool.specs.declared.symbols.SymbolKind.TheVariants as symbols
 use Rattle.dexinsn.specs.declared.pieces.Index.{Index}

@@ -14,8 +14,8 @@ use Rattle.dexspec.specs.Mentions.{Mentions, piece_symbols}
 use Rattle.dexspec.specs.Pieces.{Piece, index_pool, with_index}
 use Rattle.dexspec.specs.Pieces as symbolic
 use Rattle.dexspec.specs.Spellings.{symbol_index, piece_units}
-use Rattle.dexspec.proofs.InOrder.{Rises-from_rises, rank-get_or}
-use Rattle.dexspec.proofs.SymbolOrders.{text_total, proto_total, field_total, method_total}
+use Rattle.dexspec.proofs.lists.InOrder.{Rises-from_rises, rank-get_or}
+use Rattle.dexspec.proofs.merge.SymbolOrders.{text_total, proto_total, field_total, method_total}
 use Rattle.dexpool.specs.declared.symbols.SymbolKind.{SymbolKind}
 use Rattle.dexpool.specs.declared.symbols.SymbolKind.TheVariants as kinds
 use Rattle.dexpool.specs.Numberings.{IsAt, IsNumbered, IsOfKind, AreRising, AreMarksOf, Maps, image_of, Leads, AllLead}

@@ -1,6 +1,6 @@
 -- The units of pieces, their numbers put in, as they are appended.
 use Rattle.std.proofs.Common.{◌≡◌, ℕ, zero, suc, ◌+◌, ◌-◌, ◌*◌, ◌/◌, ◌%◌, ◌<◌, ◌≤◌, Bool, true, false, cond, List, [], ◌∷◌, ◌++◌, length, drop, take, map, get_or, slice_index, slice_set, Option, Some, None, refl, ap, sym, ◌∙◌, subst, arith, length-drop, append_assoc, drop-cons, add-one, length-append}
-use Rattle.dexspec.proofs.ByteNumbers.{length-ushort}
+use Rattle.dexspec.proofs.numbers.ByteNumbers.{length-ushort}
 use Rattle.std.specs.List.{flat_map}
 use Rattle.std.proofs.lemmas.List.{drop-drop, length-take-le, take-append-drop, get_or-drop, take_all, drop_all}
 use Rattle.std.proofs.Math.Seq.{take-add}

@@ -7,7 +7,7 @@ use Rattle.std.proofs.lemmas.Grind.{same_number_lists}
 use Rattle.std.proofs.lemmas.List.{drop-drop, drop_all, get_or-take, get_or-drop, get_or-set_same, length-set, length-take-le}
 use Rattle.dexspec.specs.Symbols.{Pool}
 use Rattle.dexspec.specs.Pieces.{Cut, AreCut, piece_size, cut_units, index_pool, is_wide_index, is_payload_ident, with_index}
-use Rattle.dexspec.proofs.Blanked.{Kept, piece_same}
+use Rattle.dexspec.proofs.wellformed.Blanked.{Kept, piece_same}
 use Rattle.dexpool.specs.Numberings.{Maps, image_of}
 use Rattle.dexinsn.specs.declared.pieces.Index.{Index}
 use Rattle.dexinsn.specs.Split.{IsPieceAt}

@@ -12,7 +12,7 @@ use Rattle.dexspec.specs.Mentions.{Mentions}
 use Rattle.dexspec.specs.Pieces.{Cut, AreCut, IsCode, Piece, StandsForPiece, piece_size, cut_units, index_pool, index_in, is_wide_index, is_payload_ident, with_index, low_byte, two_units}
 use Rattle.dexspec.specs.Pieces as symbolic
 use Rattle.dexspec.specs.Code.{PiecesAt}
-use Rattle.dexspec.proofs.FormedRows.{length-ushorts_at}
+use Rattle.dexspec.proofs.wellformed.FormedRows.{length-ushorts_at}
 use Rattle.dexpool.specs.Pools.{ArePools, count_of}
 use Rattle.dexpool.specs.Numberings.{IsNumbered}
 use Rattle.dexinsn.specs.declared.pieces.Index.{Index}

@@ -5,8 +5,8 @@ use Rattle.std.proofs.lemmas.Bool.{cases_lt}
 use Rattle.dexspec.specs.Texts.{Text}
 use Rattle.dexspec.specs.Classes.{Definition}
 use Rattle.dexspec.specs.Depth.{above, is_below, HasDepth, depth}
-use Rattle.dexspec.proofs.Members.{Contains-nil, Contains-first, Contains-later, Contains-cons_cases, list_all-from_members}
-use Rattle.dexspec.proofs.Depths.{is_below-later, depth-is, HasDepth-parent, depth-parent}
+use Rattle.dexspec.proofs.lists.Members.{Contains-nil, Contains-first, Contains-later, Contains-cons_cases, list_all-from_members}
+use Rattle.dexspec.proofs.merge.Depths.{is_below-later, depth-is, HasDepth-parent, depth-parent}
 use Rattle.dexlaws.specs.Causes.{greatest}
 
 -- no number exceeds the greatest

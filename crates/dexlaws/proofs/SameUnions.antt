@@ -5,10 +5,10 @@ use Rattle.std.proofs.lemmas.List.Elements.{Contains-append_left, Contains-appen
 use Rattle.dexspec.specs.Classes.{Definition}
 use Rattle.dexspec.specs.Files.{Collection, definitions, AreSame, AreWithin, IsCollectionOf}
 use Rattle.dexspec.specs.Merging.{Caps, Plan, leaves, IsPlanFor, union}
-use Rattle.dexspec.proofs.Members.{Contains-flat_map, Contains-flat_map_source}
-use Rattle.dexspec.proofs.Absorption.{IsGood-within, IsCause-within}
-use Rattle.dexspec.proofs.FirstCauses.{first_cause-same}
-use Rattle.dexspec.proofs.Collections.{collection-one, definitions-same}
+use Rattle.dexspec.proofs.lists.Members.{Contains-flat_map, Contains-flat_map_source}
+use Rattle.dexspec.proofs.merge.Absorption.{IsGood-within, IsCause-within}
+use Rattle.dexspec.proofs.merge.FirstCauses.{first_cause-same}
+use Rattle.dexspec.proofs.merge.Collections.{collection-one, definitions-same}
 use Rattle.dexlaws.specs.Merge.{HaveSameAnswer, NamesWithin}
 
 pub turned : (D E : List Definition) → AreSame D E → AreSame E D

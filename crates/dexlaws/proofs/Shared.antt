@@ -4,11 +4,11 @@ use Rattle.std.specs.List.{Contains}
 use Rattle.std.proofs.lemmas.List.{get_or_default}
 use Rattle.dexspec.specs.Lists.{present}
 use Rattle.dexspec.specs.Placing.{shared_items}
-use Rattle.dexspec.proofs.Equality.{IsEquality, self}
-use Rattle.dexspec.proofs.Sources.{distinct_source}
-use Rattle.dexspec.proofs.Distinct.{distinct_once}
-use Rattle.dexspec.proofs.Sharing.{present_source, first_uses_rise}
-use Rattle.dexspec.proofs.Uses.{IsNumber, shared_numbered}
+use Rattle.dexspec.proofs.lists.Equality.{IsEquality, self}
+use Rattle.dexspec.proofs.lists.Sources.{distinct_source}
+use Rattle.dexspec.proofs.lists.Distinct.{distinct_once}
+use Rattle.dexspec.proofs.sharing.Sharing.{present_source, first_uses_rise}
+use Rattle.dexspec.proofs.layout.Uses.{IsNumber, shared_numbered}
 use Rattle.dexlaws.specs.Items.{LeadsTo, AreShared}
 
 -- each present value is that of some use

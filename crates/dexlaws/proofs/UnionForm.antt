@@ -7,13 +7,13 @@ use Rattle.dexspec.specs.Files.{Collection, definitions, IsCollectionOf}
 use Rattle.dexspec.specs.WellFormed.{AreWellFormed}
 use Rattle.dexspec.specs.Merging.{Caps, AreCaps, greatest_caps, IsGood}
 use Rattle.dexspec.specs.Canonical.{canonical}
-use Rattle.dexspec.proofs.Members.{Contains-flat_map_source}
-use Rattle.dexspec.proofs.Fitting.{zip_source}
-use Rattle.dexspec.proofs.Absorption.{IsGood-within}
-use Rattle.dexspec.proofs.Collections.{definitions-same}
-use Rattle.dexspec.proofs.FormedCode.{denoted_well_formed}
-use Rattle.dexspec.proofs.NormalForm.{IsFileOf}
-use Rattle.dexspec.proofs.RowsReadable.{whole_normal_form}
+use Rattle.dexspec.proofs.lists.Members.{Contains-flat_map_source}
+use Rattle.dexspec.proofs.wellformed.Fitting.{zip_source}
+use Rattle.dexspec.proofs.merge.Absorption.{IsGood-within}
+use Rattle.dexspec.proofs.merge.Collections.{definitions-same}
+use Rattle.dexspec.proofs.wellformed.FormedCode.{denoted_well_formed}
+use Rattle.dexspec.proofs.normal.NormalForm.{IsFileOf}
+use Rattle.dexspec.proofs.normal.RowsReadable.{whole_normal_form}
 use Rattle.dexlaws.specs.Normal.{IsAcceptedAs}
 
 -- also under the greatest caps

@@ -3,8 +3,8 @@ use Rattle.std.proofs.Common.{◌≡◌, ◌+◌, ◌^◌, ◌≤◌, length, ap
 use Rattle.dexspec.specs.Bytes.{round_up}
 use Rattle.dexspec.specs.Placing.{Ordered}
 use Rattle.dexspec.specs.Canonical.{Layout, data_start, type_list_section, type_list_end, annotation_section, annotation_end, array_section, array_end, string_section, string_end, debug_section, debug_end, code_section, code_end, class_data_section, class_data_end, set_section, set_end, ref_list_section, ref_list_end, directory_section, directory_end}
-use Rattle.dexspec.proofs.Placements.{layout_is, sections_follow}
-use Rattle.dexspec.proofs.Places.{end_from_le, length-padding}
+use Rattle.dexspec.proofs.layout.Placements.{layout_is, sections_follow}
+use Rattle.dexspec.proofs.layout.Places.{end_from_le, length-padding}
 use Rattle.dexhead.specs.Laid.{map_start, map_list}
 use Rattle.dexlayout.specs.Laid.{file_end}
 

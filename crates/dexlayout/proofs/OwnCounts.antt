@@ -15,8 +15,8 @@ use Rattle.dexspec.specs.Spellings.{code_bytes, encoded_array_bytes, class_data_
 use Rattle.dexspec.specs.Annotations.{AnnotationSet}
 use Rattle.dexspec.specs.Placing.{own_items, uses_offsets, offsets_from, end_from, offsets, Ordered, static_values_uses, code_uses, class_data_uses, ref_list_uses, directory_uses}
 use Rattle.dexspec.specs.Canonical.{data_start, type_list_items, type_list_section, type_list_end, set_items, annotation_section, annotation_end, annotation_offsets, array_section, array_offsets, array_end, string_section, string_end, debug_section, debug_end, debug_offsets, code_section, code_offsets, code_end, class_data_section, class_data_offsets, class_data_end, set_section, set_offsets, set_end, ref_list_section, ref_list_offsets, ref_list_end, directory_section, directory_offsets, directory_end}
-use Rattle.dexspec.proofs.Places.{length-padding, items_few}
-use Rattle.dexspec.proofs.Placements.{sections_follow, sections_have_bytes, length-chunks}
+use Rattle.dexspec.proofs.layout.Places.{length-padding, items_few}
+use Rattle.dexspec.proofs.layout.Placements.{sections_follow, sections_have_bytes, length-chunks}
 use Rattle.dexval.specs.Numbered.{NumberedSet, annotation_in, set_in}
 use Rattle.dexclass.specs.Numbered.{NumberedClass, type_at}
 use Rattle.dexlayout.specs.Places.{ItemPlaces}

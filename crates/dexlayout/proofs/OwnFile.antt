@@ -11,9 +11,9 @@ use Rattle.dexspec.specs.Mentions.{Mentions, mentions}
 use Rattle.dexspec.specs.Merging.{Caps, greatest_caps, AreCaps, Fits}
 use Rattle.dexspec.specs.Placing.{Ordered, EqualOnce, section_bytes}
 use Rattle.dexspec.specs.Canonical.{layout, map_of, map_bytes, map_entry_bytes, unsigned_file, with_sums, ordered, canonical, data_start, type_list_items, type_list_section, type_list_offsets, type_list_end, set_items, annotation_section, annotation_end, array_section, array_offsets, array_end, string_section, string_end, debug_section, debug_offsets, debug_end, code_section, code_offsets, code_end, class_data_section, class_data_offsets, class_data_end, set_section, set_offsets, set_end, ref_list_section, ref_list_offsets, ref_list_end, directory_section, directory_offsets, directory_end}
-use Rattle.dexspec.proofs.ByteNumbers.{length-uint, length-ushort}
-use Rattle.dexspec.proofs.Stands.{length_rows}
-use Rattle.dexspec.proofs.Laying.{data_before_map, map_place, map_place_is, map_list_named, parts}
+use Rattle.dexspec.proofs.numbers.ByteNumbers.{length-uint, length-ushort}
+use Rattle.dexspec.proofs.written.Stands.{length_rows}
+use Rattle.dexspec.proofs.layout.Laying.{data_before_map, map_place, map_place_is, map_list_named, parts}
 use Rattle.dexhead.specs.Laid.{TellsLayout, map_start, map_list}
 use Rattle.dexpool.specs.Numberings.{IsNumbering}
 use Rattle.dexclass.specs.Numbered.{NumberedClass}
@@ -42,7 +42,7 @@ places_same K = map_place_is K ∙ sym (map_start_is K)
 length_file : (K : Ordered) → length (with_sums (unsigned_file K)) ≡ file_end K
 length_file K =
     let list = ap (λ es. length (map_bytes es)) (map_list_named K ∙ ap (map_of K (layout K)) (places_same K)) in
-    (parts K).size ∙ ap (λ n. n + length (map_bytes (Rattle.dexspec.proofs.Laying.map_list K))) (places_same K) ∙ ap (λ n. map_start K + n) list
+    (parts K).size ∙ ap (λ n. n + length (map_bytes (Rattle.dexspec.proofs.layout.Laying.map_list K))) (places_same K) ∙ ap (λ n. map_start K + n) list
 
 -- and so does a canonical file
 pub length_canonical : (C : Collection) → length (canonical C) ≡ file_end (ordered (definitions C))

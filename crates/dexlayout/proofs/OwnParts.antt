@@ -9,7 +9,7 @@ use Rattle.dexspec.specs.Mentions.{Mentions}
 use Rattle.dexspec.specs.Sections.{Section, HeaderItem, TableOf, MapList}
 use Rattle.dexspec.specs.Placing.{Ordered, Placed, offsets, offsets_from}
 use Rattle.dexspec.specs.Canonical.{Layout, layout, placed_tables, data_sections, map_of}
-use Rattle.dexspec.proofs.Placements.{layout_is}
+use Rattle.dexspec.proofs.layout.Placements.{layout_is}
 use Rattle.dexclass.specs.Numbered.{NumberedClass, definition_of}
 use Rattle.dexlayout.specs.Laid.{AreWritable, ordered_of}
 use Rattle.dexlayout.specs.Parts.{entry_of, table_parts, section_parts}

@@ -14,8 +14,8 @@ use Rattle.dexspec.specs.Spellings.{code_bytes, encoded_array_bytes, class_data_
 use Rattle.dexspec.specs.Placing.{values_unless_empty, all_methods, code_uses, static_values_uses, class_data_uses, is_empty_class, debug_uses, Ordered, offsets}
 use Rattle.dexspec.specs.Canonical.{annotation_end, array_section, array_offsets, array_end, debug_offsets, debug_end, debug_section, code_section, code_offsets, code_end, class_data_section, class_data_offsets, class_data_end}
 use Rattle.dexspec.specs.Bytes.{ushort, uint}
-use Rattle.dexspec.proofs.ByteNumbers.{length-uint}
-use Rattle.dexspec.proofs.Placements.{length-items_offsets, length-uses_offsets, length-zip_with}
+use Rattle.dexspec.proofs.numbers.ByteNumbers.{length-uint}
+use Rattle.dexspec.proofs.layout.Placements.{length-items_offsets, length-uses_offsets, length-zip_with}
 use Rattle.dexpool.specs.Numberings.{AreRising}
 use Rattle.dexpool.proofs.UnionLaws.{ranks_are_numbers}
 use Rattle.dexval.specs.Numbered.{NumberedValues, NoValue, ThenNext, values_in, AreKnown}

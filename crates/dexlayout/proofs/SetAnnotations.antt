@@ -9,7 +9,7 @@ use Rattle.dexspec.specs.Mentions.{Mentions}
 use Rattle.dexspec.specs.Placing.{end_from}
 use Rattle.dexspec.specs.Canonical.{set_items, type_list_end, annotation_section, annotation_end}
 use Rattle.dexspec.specs.Spellings.{annotation_bytes}
-use Rattle.dexspec.proofs.Places.{end_append}
+use Rattle.dexspec.proofs.layout.Places.{end_append}
 use Rattle.dexpool.specs.Numberings.{AreRising}
 use Rattle.dexval.specs.Numbered.{NumberedAnnotation, NumberedSet, annotation_in, set_in, IsKnownAnnotation, IsKnownSet}
 use Rattle.dexval.specs.Spelled.{numbered_annotation_bytes}

@@ -18,8 +18,8 @@ use Rattle.dexspec.specs.Canonical.{set_offsets, ref_list_offsets, ref_list_end,
 use Rattle.dexspec.specs.Bytes.{round_up}
 use Rattle.dexspec.specs.Placing.{ref_list_uses, uses_offsets, offsets_from, end_from}
 use Rattle.dexspec.specs.Spellings.{offsets_bytes}
-use Rattle.dexspec.proofs.Placements.{length-chunks, length-uses_offsets, length-set_offsets}
-use Rattle.dexspec.proofs.Shorter.{not_zero}
+use Rattle.dexspec.proofs.layout.Placements.{length-chunks, length-uses_offsets, length-set_offsets}
+use Rattle.dexspec.proofs.sharing.Shorter.{not_zero}
 use Rattle.dexpool.specs.Laws.{RanksAreNumbers}
 use Rattle.dexmembers.specs.Numbered.{NumberedMethod, fields_of, methods_of, method_in}
 use Rattle.dexmembers.specs.DirectoryPut.{count_placed}

@@ -5,7 +5,7 @@ use Rattle.std.proofs.lemmas.List.{length-append, length-take, length-drop}
 use Rattle.dexspec.specs.Lists.{chunks}
 use Rattle.dexspec.specs.Bytes.{uint}
 use Rattle.dexspec.specs.Spellings.{offsets_bytes}
-use Rattle.dexspec.proofs.ByteNumbers.{length-uint}
+use Rattle.dexspec.proofs.numbers.ByteNumbers.{length-uint}
 
 -- how many bytes offsets have, with their count
 flat_uints : (offs : List ℕ) → length (flat_map uint offs) ≡ 4 * length offs

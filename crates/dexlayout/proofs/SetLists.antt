@@ -11,8 +11,8 @@ use Rattle.dexspec.specs.Placing.{Ordered, class_sets, set_uses, uses_offsets, o
 use Rattle.dexspec.specs.Sameness.{same_set}
 use Rattle.dexspec.specs.Canonical.{set_items, set_section, set_offsets, ref_list_section, ref_list_offsets, ref_list_end, set_end}
 use Rattle.dexspec.specs.Spellings.{offsets_bytes}
-use Rattle.dexspec.proofs.Placements.{length-items_offsets}
-use Rattle.dexspec.proofs.Shorter.{not_zero}
+use Rattle.dexspec.proofs.layout.Placements.{length-items_offsets}
+use Rattle.dexspec.proofs.sharing.Shorter.{not_zero}
 use Rattle.dexval.specs.Numbered.{set_in}
 use Rattle.dexmembers.specs.Numbered.{NumberedMethod, method_in, methods_of}
 use Rattle.dexclass.specs.Numbered.{NumberedClass, definition_of}

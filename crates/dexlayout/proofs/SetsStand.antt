@@ -9,10 +9,10 @@ use Rattle.dexspec.specs.Placing.{Ordered, SetOffsets, offsets, set_uses}
 use Rattle.dexspec.specs.Canonical.{set_items, set_section, set_offsets, set_end, annotation_offsets, annotation_section, class_data_end}
 use Rattle.dexspec.specs.Sameness.{same_set}
 use Rattle.dexspec.specs.Spellings.{offsets_bytes, annotation_bytes}
-use Rattle.dexspec.proofs.Placements.{length-chunks}
-use Rattle.dexspec.proofs.Places.{length-offsets_from}
-use Rattle.dexspec.proofs.Sameness.{set_decides}
-use Rattle.dexspec.proofs.Uses.{IsNumber, items_numbered}
+use Rattle.dexspec.proofs.layout.Placements.{length-chunks}
+use Rattle.dexspec.proofs.layout.Places.{length-offsets_from}
+use Rattle.dexspec.proofs.sharing.Sameness.{set_decides}
+use Rattle.dexspec.proofs.layout.Uses.{IsNumber, items_numbered}
 use Rattle.dexval.specs.Numbered.{NumberedSet, set_in}
 use Rattle.dexclass.specs.Numbered.{NumberedClass}
 use Rattle.dexlayout.specs.Places.{SetPlaces}

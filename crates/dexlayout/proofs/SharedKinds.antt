@@ -16,9 +16,9 @@ use Rattle.dexspec.specs.Mentions.{Mentions}
 use Rattle.dexspec.specs.Placing.{offsets, offsets_from, end_from, unless_empty, method_sets, class_sets, type_list_uses, set_uses, debug_uses, all_methods}
 use Rattle.dexspec.specs.Sameness.{same_types, same_set, same_debug}
 use Rattle.dexspec.specs.Spellings.{type_index, type_list_bytes, debug_bytes}
-use Rattle.dexspec.proofs.ByteNumbers.{length-uint, length-ushort}
-use Rattle.dexspec.proofs.Sameness.{types_decide, debug_decides}
-use Rattle.dexspec.proofs.Stands.{length_rows}
+use Rattle.dexspec.proofs.numbers.ByteNumbers.{length-uint, length-ushort}
+use Rattle.dexspec.proofs.sharing.Sameness.{types_decide, debug_decides}
+use Rattle.dexspec.proofs.written.Stands.{length_rows}
 use Rattle.dexcode.specs.Debug.{NumberedDebug, numbered_debug_bytes}
 use Rattle.dexcode.specs.Meaning.{code_in, debug_in, IsKnownDebug}
 use Rattle.dexcode.specs.Numbered.{NumberedItem}

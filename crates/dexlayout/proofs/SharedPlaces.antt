@@ -8,11 +8,11 @@ use Rattle.std.proofs.lemmas.List.Elements.{All-nil, All-cons, All-head, All-tai
 use Rattle.dexspec.specs.Bytes.{round_up}
 use Rattle.dexspec.specs.Lists.{distinct, present}
 use Rattle.dexspec.specs.Placing.{offsets_from, end_from, uses_offsets, shared_items}
-use Rattle.dexspec.proofs.Distinct.{distinct_has}
-use Rattle.dexspec.proofs.Equality.{IsEquality}
-use Rattle.dexspec.proofs.Members.{Contains-first, Contains-later}
-use Rattle.dexspec.proofs.Places.{length-offsets_from}
-use Rattle.dexspec.proofs.Sharing.{position_is}
+use Rattle.dexspec.proofs.lists.Distinct.{distinct_has}
+use Rattle.dexspec.proofs.lists.Equality.{IsEquality}
+use Rattle.dexspec.proofs.lists.Members.{Contains-first, Contains-later}
+use Rattle.dexspec.proofs.layout.Places.{length-offsets_from}
+use Rattle.dexspec.proofs.sharing.Sharing.{position_is}
 use Rattle.dexlayout.specs.Places.{ItemPlaces}
 use Rattle.dexlayout.specs.Running.{none_from, put_at, place_uses}
 use Rattle.dexlayout.specs.Laid.{greatest_of, StandSo}

@@ -8,8 +8,8 @@ use Rattle.dexspec.specs.Lists.{rank}
 use Rattle.dexspec.specs.Texts.{text_cmp}
 use Rattle.dexspec.specs.Mentions.{Mentions}
 use Rattle.dexspec.specs.Sameness.{same_types, same_debug, same_set}
-use Rattle.dexspec.proofs.Equality.{IsEquality}
-use Rattle.dexspec.proofs.Sameness.{types_decide, debug_decides, set_decides}
+use Rattle.dexspec.proofs.lists.Equality.{IsEquality}
+use Rattle.dexspec.proofs.sharing.Sameness.{types_decide, debug_decides, set_decides}
 use Rattle.dexpool.specs.Numberings.{AreRising}
 use Rattle.dexpool.proofs.UnionLaws.{ranks_are_numbers}
 use Rattle.dexcode.specs.Debug.{NumberedDebug}

@@ -10,11 +10,11 @@ use Rattle.std.proofs.lemmas.List.Elements.{filter-append, All-nil, All-cons, Al
 use Rattle.std.proofs.lemmas.Map.Views.{any-filter_same}
 use Rattle.dexspec.specs.Lists.{present, distinct}
 use Rattle.dexspec.specs.Placing.{shared_items, unless_empty}
-use Rattle.dexspec.proofs.Distinct.{with_last, distinct_led}
-use Rattle.dexspec.proofs.FirstPlaces.{position_within, position_stays, position_last, position_none, position_alike, any_alike}
-use Rattle.dexspec.proofs.Members.{Contains-nil, Contains-first, Contains-later, Contains-cons_cases, list_any-source}
-use Rattle.dexspec.proofs.Sharing.{present-append, numbers_led}
-use Rattle.dexspec.proofs.Sources.{distinct_source}
+use Rattle.dexspec.proofs.lists.Distinct.{with_last, distinct_led}
+use Rattle.dexspec.proofs.lists.FirstPlaces.{position_within, position_stays, position_last, position_none, position_alike, any_alike}
+use Rattle.dexspec.proofs.lists.Members.{Contains-nil, Contains-first, Contains-later, Contains-cons_cases, list_any-source}
+use Rattle.dexspec.proofs.sharing.Sharing.{present-append, numbers_led}
+use Rattle.dexspec.proofs.lists.Sources.{distinct_source}
 use Rattle.dexlayout.specs.Laid.{AreShared}
 use Rattle.dexlayout.specs.Sharing.{HaveItems, SharedTo}
 

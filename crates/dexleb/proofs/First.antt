@@ -3,7 +3,7 @@ use Rattle.std.proofs.Common.{◌≡◌, ℕ, zero, suc, ◌+◌, ◌*◌, ◌%�
 use Rattle.std.proofs.Math.Pow.{shl_exact}
 use Rattle.std.proofs.lemmas.List.{take-take}
 use Rattle.dexspec.specs.Numbers.{IsChain, sum_of_groups}
-use Rattle.dexspec.proofs.Chains.{chain_cons, no_chain, sevens, sum_in_five}
+use Rattle.dexspec.proofs.numbers.Chains.{chain_cons, no_chain, sevens, sum_in_five}
 use Rattle.dexleb.specs.Leb.{IsFirst, HasNoFirst}
 
 -- bytes with their top bits set, and one with its top bit clear, are a chain

@@ -2,7 +2,7 @@
 use Rattle.std.proofs.Common.{◌≡◌, ℕ, suc, ◌+◌, ◌-◌, ◌*◌, ◌/◌, ◌%◌, ◌^◌, ◌<◌, List, ◌++◌, length, take, set, arith, add-one, append_assoc}
 use Rattle.std.proofs.Math.Seq.{take-suc-set}
 use Rattle.dexspec.specs.Numbers.{groups}
-use Rattle.dexspec.proofs.Groups.{group_less}
+use Rattle.dexspec.proofs.numbers.Groups.{group_less}
 
 -- after one more byte, one fewer group is left
 pub one_more : (bytes target : List ℕ) (i n rest : ℕ) → i < length bytes → suc i < n → take i bytes ++ groups (n - i) rest ≡ target

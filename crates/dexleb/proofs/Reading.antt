@@ -4,8 +4,8 @@ use Rattle.std.specs.Option.{SomeIff}
 use Rattle.dexleb.specs.declared.read.LebFault.{LebFault}
 use Rattle.dexleb.specs.declared.read.LebFault.TheVariants.{Short, Range}
 use Rattle.dexspec.specs.Numbers.{IsCutOff, BeginsWith, Spells, IsUleb128, IsUleb128p1, plus_one}
-use Rattle.dexspec.proofs.Chains.{chain_same, no_chain}
-use Rattle.dexspec.proofs.Spellings.{same_number, not_cut_off, same_plus_one}
+use Rattle.dexspec.proofs.numbers.Chains.{chain_same, no_chain}
+use Rattle.dexspec.proofs.numbers.Spellings.{same_number, not_cut_off, same_plus_one}
 use Rattle.dexleb.specs.Leb.{IsFirst, Reads}
 
 -- a fault is right if the bytes begin with no number

@@ -4,8 +4,8 @@ use Rattle.std.specs.Prelude.{bit_and, pos, ◌-ℤ◌}
 use Rattle.std.proofs.lemmas.Nat.{and_shr, and_mod, and_le_r}
 use Rattle.std.proofs.lemmas.Bool.{cases_lt}
 use Rattle.dexspec.specs.Numbers.{last_of, sum_of_groups, signed_sum}
-use Rattle.dexspec.proofs.Chains.{chain_some, last_of_chain, sum_in_five, pow_in_five}
-use Rattle.dexspec.proofs.Signed.{is_negative, is_positive}
+use Rattle.dexspec.proofs.numbers.Chains.{chain_some, last_of_chain, sum_in_five, pow_in_five}
+use Rattle.dexspec.proofs.numbers.Signed.{is_negative, is_positive}
 use Rattle.dexleb.specs.Leb.{IsFirst}
 
 -- a byte below 128 with bit 6 set is 64 or more

@@ -11,7 +11,7 @@ use Rattle.dexspec.specs.Symbols.{Field, Method}
 use Rattle.dexspec.specs.Classes.{Body, FieldDef, MethodDef}
 use Rattle.dexspec.specs.Mentions.{Mentions, field_of, method_of}
 use Rattle.dexspec.specs.Spellings.{field_index, method_index, differences, encoded_method_bytes, class_data_bytes}
-use Rattle.dexspec.proofs.SizeItems.{uleb128-size}
+use Rattle.dexspec.proofs.size.SizeItems.{uleb128-size}
 use Rattle.dexpool.specs.Laws.{RanksAreNumbers}
 use Rattle.dexval.specs.Numbered.{field_at, method_at}
 use Rattle.dexmembers.specs.Numbered.{NumberedField, NumberedMethod, NumberedMembers, Members, field_in, method_in, members_in, members_of, fields_of, methods_of, IsKnownField, IsKnownMethod, AreKnownMembers, AreOfClass}

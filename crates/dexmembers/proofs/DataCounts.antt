@@ -3,8 +3,8 @@ use Rattle.std.proofs.Common.{◌≡◌, ℕ, ◌+◌, ◌<◌, List, [], ◌∷
 use Rattle.dexspec.specs.Lists.{Sequence}
 use Rattle.dexspec.specs.Numbers.{Uleb128At}
 use Rattle.dexspec.specs.Mentions.{Mentions}
-use Rattle.dexspec.proofs.OneNumber.{one_uleb128}
-use Rattle.dexspec.proofs.Sequences.{one_sequence}
+use Rattle.dexspec.proofs.determined.OneNumber.{one_uleb128}
+use Rattle.dexspec.proofs.lists.Sequences.{one_sequence}
 use Rattle.dexcode.proofs.Fronts.{stuck, sequence_more}
 use Rattle.dexmembers.specs.declared.class_data.EncodedField.{EncodedField}
 use Rattle.dexmembers.specs.EncodedMembers.{FieldAt, MethodAt, ListsAt, AreListsRead, NoLists, NoData}

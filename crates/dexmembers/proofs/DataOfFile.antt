@@ -14,10 +14,10 @@ use Rattle.dexspec.specs.ClassData.{EncodedFieldsAt, EncodedMethodsAt, ClassData
 use Rattle.dexspec.specs.Classes.{ClassTypeRow, class_idx, class_data_off}
 use Rattle.dexspec.specs.Mentions.{Mentions}
 use Rattle.dexspec.specs.Accepted.{IsFrame, HasClass, HasMembers}
-use Rattle.dexspec.proofs.OneRow.{one_type, one_field, one_method}
-use Rattle.dexspec.proofs.Depths.{Contains-map}
-use Rattle.dexspec.proofs.ClassPlaces.{Contains-map_source}
-use Rattle.dexspec.proofs.SymbolOrders.{field_total, method_total}
+use Rattle.dexspec.proofs.determined.OneRow.{one_type, one_field, one_method}
+use Rattle.dexspec.proofs.merge.Depths.{Contains-map}
+use Rattle.dexspec.proofs.normal.ClassPlaces.{Contains-map_source}
+use Rattle.dexspec.proofs.merge.SymbolOrders.{field_total, method_total}
 use Rattle.dexhead.proofs.Frames.{row_within}
 use Rattle.dexpool.specs.declared.faults.ItemFault.{ItemFault}
 use Rattle.dexpool.specs.declared.faults.ItemFault.TheVariants.{Refused, Memory}

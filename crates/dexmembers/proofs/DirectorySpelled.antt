@@ -16,8 +16,8 @@ use Rattle.dexspec.specs.Classes.{Body, FieldDef, MethodDef}
 use Rattle.dexspec.specs.Mentions.{Mentions, field_of, method_of}
 use Rattle.dexspec.specs.Placing.{SetOffsets, pair_cmp, pairs, pairs_bytes, directory_bytes}
 use Rattle.dexspec.specs.Spellings.{field_index, method_index}
-use Rattle.dexspec.proofs.ByteNumbers.{length-uint}
-use Rattle.dexspec.proofs.Members.{and_first, and_second, Contains-first, Contains-later}
+use Rattle.dexspec.proofs.numbers.ByteNumbers.{length-uint}
+use Rattle.dexspec.proofs.lists.Members.{and_first, and_second, Contains-first, Contains-later}
 use Rattle.dexpool.specs.Laws.{RanksAreNumbers}
 use Rattle.dexval.specs.Numbered.{field_at, method_at}
 use Rattle.dexmembers.specs.Numbered.{NumberedField, NumberedMethod, NumberedMembers, Members, field_in, method_in, members_in, members_of, fields_of, methods_of, IsKnownField, IsKnownMethod, AreKnownMembers, AreOfClass, AreOrdered}

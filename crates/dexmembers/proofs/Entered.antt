@@ -13,8 +13,8 @@ use Rattle.dexspec.specs.Header.{FieldIds, MethodIds, table_size}
 use Rattle.dexspec.specs.Rows.{FieldRow, MethodRow}
 use Rattle.dexspec.specs.Annotations.{PairAt, PairsAt, pairs_at, SetAt, RefListAt, fields_count, methods_count, parameters_count}
 use Rattle.dexspec.specs.Mentions.{Mentions}
-use Rattle.dexspec.proofs.OneRow.{one_field, one_method}
-use Rattle.dexspec.proofs.SymbolOrders.{field_total, method_total}
+use Rattle.dexspec.proofs.determined.OneRow.{one_field, one_method}
+use Rattle.dexspec.proofs.merge.SymbolOrders.{field_total, method_total}
 use Rattle.dexpool.specs.Numberings.{AreRising}
 use Rattle.dexpool.specs.Pools.{AreAll, ArePools}
 use Rattle.dexpool.proofs.NumberOrder.{places_agree}

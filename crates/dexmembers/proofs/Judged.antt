@@ -13,10 +13,10 @@ use Rattle.dexspec.specs.Classes.{class_data_off}
 use Rattle.dexspec.specs.Conditions.{Condition}
 use Rattle.dexspec.specs.Accepted.{Declares, AllCode, HasPiecesAt, HasTriesAt, HasDebugAt, HasCode, HasTries, HasDebug}
 use Rattle.dexspec.specs.Mentions.{Mentions}
-use Rattle.dexspec.proofs.Depths.{Contains-map}
-use Rattle.dexspec.proofs.OneRow.{one_or_none}
-use Rattle.dexspec.proofs.OneClass.{one_class_data}
-use Rattle.dexspec.proofs.OneCode.{one_pieces}
+use Rattle.dexspec.proofs.merge.Depths.{Contains-map}
+use Rattle.dexspec.proofs.determined.OneRow.{one_or_none}
+use Rattle.dexspec.proofs.determined.OneClass.{one_class_data}
+use Rattle.dexspec.proofs.determined.OneCode.{one_pieces}
 use Rattle.dexpool.specs.declared.faults.ItemFault.{ItemFault}
 use Rattle.dexpool.specs.declared.faults.ItemFault.TheVariants.{Refused, Memory}
 use Rattle.dexcode.specs.Reading.{IsCodeFault}

@@ -13,7 +13,7 @@ use Rattle.dexspec.specs.Annotations.{annotated}
 use Rattle.dexspec.specs.Classes.{field_def, MakesMethod}
 use Rattle.dexspec.specs.Code.{Code, CodeAt}
 use Rattle.dexspec.specs.Mentions.{Mentions}
-use Rattle.dexspec.proofs.SymbolOrders.{field_total, method_total}
+use Rattle.dexspec.proofs.merge.SymbolOrders.{field_total, method_total}
 use Rattle.dexpool.specs.Numberings.{AreRising}
 use Rattle.dexpool.proofs.NumberOrder.{places_agree}
 use Rattle.dexcode.specs.Numbered.{NumberedItem, StandsForCode}

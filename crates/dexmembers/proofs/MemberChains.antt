@@ -12,9 +12,9 @@ use Rattle.std.proofs.lemmas.List.{get_or_default, get_or-map, length-map}
 use Rattle.std.proofs.lemmas.List.Elements.{Contains-get_or, All-cons, All-nil}
 use Rattle.dexspec.specs.Lists.{rises}
 use Rattle.dexspec.specs.ClassData.{ShareNone}
-use Rattle.dexspec.proofs.InOrder.{Rises-from_rises, Rises-places}
-use Rattle.dexspec.proofs.Members.{and_both}
-use Rattle.dexspec.proofs.PoolRows.{less_number}
+use Rattle.dexspec.proofs.lists.InOrder.{Rises-from_rises, Rises-places}
+use Rattle.dexspec.proofs.lists.Members.{and_both}
+use Rattle.dexspec.proofs.wellformed.PoolRows.{less_number}
 use Rattle.dexpool.specs.declared.faults.ItemFault.{ItemFault}
 use Rattle.dexpool.specs.declared.faults.ItemFault.TheVariants.{Refused, Memory}
 use Rattle.dexmembers.specs.Numbered.{NumbersRise}

@@ -14,11 +14,11 @@ use Rattle.dexspec.specs.Annotations.{Directory, DirectoryAt, no_directory, Pair
 use Rattle.dexspec.specs.ClassData.{EncodedField, EncodedMethod, fields_of, methods_of}
 use Rattle.dexspec.specs.Accepted.{NamesDeclared}
 use Rattle.dexspec.specs.Mentions.{Mentions}
-use Rattle.dexspec.proofs.Depths.{Contains-map}
-use Rattle.dexspec.proofs.ClassPlaces.{Contains-map_source}
-use Rattle.dexspec.proofs.OneRow.{one_field, one_method}
-use Rattle.dexspec.proofs.SymbolOrders.{field_total, method_total}
-use Rattle.dexspec.proofs.InOrder.{Rises, Rises-from_rises}
+use Rattle.dexspec.proofs.merge.Depths.{Contains-map}
+use Rattle.dexspec.proofs.normal.ClassPlaces.{Contains-map_source}
+use Rattle.dexspec.proofs.determined.OneRow.{one_field, one_method}
+use Rattle.dexspec.proofs.merge.SymbolOrders.{field_total, method_total}
+use Rattle.dexspec.proofs.lists.InOrder.{Rises, Rises-from_rises}
 use Rattle.dexpool.specs.Numberings.{AreRising}
 use Rattle.dexpool.specs.Pools.{AreAll, ArePools}
 use Rattle.dexpool.proofs.NumberOrder.{places_agree, rises-map}

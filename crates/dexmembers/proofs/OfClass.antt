@@ -7,7 +7,7 @@ use Rattle.dexspec.specs.Lists.{zip_with, BothOrNone}
 use Rattle.dexspec.specs.Texts.{Text}
 use Rattle.dexspec.specs.ClassData.{EncodedField, EncodedMethod, fields_of, methods_of}
 use Rattle.dexspec.specs.Classes.{ClassTypeRow, class_idx}
-use Rattle.dexspec.proofs.OneRow.{one_type}
+use Rattle.dexspec.proofs.determined.OneRow.{one_type}
 use Rattle.dexpool.proofs.Parts.{all_front, all_back}
 use Rattle.dexspec.specs.Code.{Code}
 use Rattle.dexspec.specs.Mentions.{Mentions}

@@ -3,7 +3,7 @@ use Rattle.std.proofs.Common.{◌≡◌, ℕ, ◌+◌, ◌<◌, List, Option, So
 use Rattle.dexspec.specs.Numbers.{Uleb128At}
 use Rattle.dexspec.specs.ClassData.{IsNextIndex}
 use Rattle.dexspec.specs.Mentions.{Mentions}
-use Rattle.dexspec.proofs.OneNumber.{one_uleb128}
+use Rattle.dexspec.proofs.determined.OneNumber.{one_uleb128}
 use Rattle.dexmembers.specs.declared.class_data.EncodedField.{EncodedField}
 use Rattle.dexmembers.specs.declared.class_data.EncodedMethod.{EncodedMethod}
 use Rattle.dexmembers.specs.EncodedMembers.{IsOwnField, IsOwnMethod, HeadAt, FieldAt, MethodAt}

@@ -10,8 +10,8 @@ use Rattle.std.proofs.lemmas.List.Elements.{All-nil, All-cons, All-head, All-tai
 use Rattle.dexspec.specs.Lists.{in_order, add_in_order}
 use Rattle.dexspec.specs.Bytes.{uint}
 use Rattle.dexspec.specs.Placing.{pair_cmp, pairs_bytes}
-use Rattle.dexspec.proofs.ByteNumbers.{length-uint}
-use Rattle.dexspec.proofs.RankOrder.{nat_more}
+use Rattle.dexspec.proofs.numbers.ByteNumbers.{length-uint}
+use Rattle.dexspec.proofs.lists.RankOrder.{nat_more}
 use Rattle.dexmembers.specs.DirectoryPut.{put_among, merged, kept_pair, pair_bytes, count_placed}
 
 -- the lesser number first

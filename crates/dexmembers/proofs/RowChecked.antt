@@ -8,8 +8,8 @@ use Rattle.dexspec.specs.Values.{Values, NoValues, count_values, EncodedArrayIte
 use Rattle.dexspec.specs.Annotations.{no_directory}
 use Rattle.dexspec.specs.Classes.{StaticValuesAt, annotations_off, static_values_off}
 use Rattle.dexspec.specs.Mentions.{Mentions}
-use Rattle.dexspec.proofs.OneRow.{one_or_none}
-use Rattle.dexspec.proofs.OneValue.{one_array}
+use Rattle.dexspec.proofs.determined.OneRow.{one_or_none}
+use Rattle.dexspec.proofs.determined.OneValue.{one_array}
 use Rattle.dexpool.specs.declared.faults.ItemFault.TheVariants.{Refused}
 use Rattle.dexpool.specs.Numberings.{AreRising}
 use Rattle.dexpool.specs.Pools.{ArePools}

@@ -18,10 +18,10 @@ use Rattle.dexspec.specs.Classes.{field_def}
 use Rattle.dexspec.specs.Accepted.{NamesDeclared}
 use Rattle.dexspec.specs.Mentions.{Mentions}
 use Rattle.dexspec.specs.Weight.{set_weight, ref_list_weight, field_weight, method_weight, static_values_weight}
-use Rattle.dexspec.proofs.Members.{AreAmong, Contains-nil, Contains-first, Contains-later, Contains-cons_cases, AreDistinct-first, AreDistinct-rest, sum_by-among}
-use Rattle.dexspec.proofs.InOrder.{Rises, Rises-from_rises, AreDistinct-from_Rises}
-use Rattle.dexspec.proofs.Searches.{AreDistinct-cons}
-use Rattle.dexspec.proofs.SymbolOrders.{field_total, field_exact, method_total, method_exact}
+use Rattle.dexspec.proofs.lists.Members.{AreAmong, Contains-nil, Contains-first, Contains-later, Contains-cons_cases, AreDistinct-first, AreDistinct-rest, sum_by-among}
+use Rattle.dexspec.proofs.lists.InOrder.{Rises, Rises-from_rises, AreDistinct-from_Rises}
+use Rattle.dexspec.proofs.lists.Searches.{AreDistinct-cons}
+use Rattle.dexspec.proofs.merge.SymbolOrders.{field_total, field_exact, method_total, method_exact}
 use Rattle.dexpool.specs.Numberings.{AreRising}
 use Rattle.dexpool.proofs.NumberOrder.{places_agree, rises-map}
 use Rattle.dexval.specs.Directories.{directory_weight}

@@ -18,11 +18,11 @@ use Rattle.dexspec.specs.ClassData.{ClassData, EncodedField, EncodedMethod, fiel
 use Rattle.dexspec.specs.Classes.{MethodDef, field_def}
 use Rattle.dexspec.specs.Accepted.{NamesDeclared}
 use Rattle.dexspec.specs.Weight.{set_weight, ref_list_weight, field_weight, method_weight, static_values_weight}
-use Rattle.dexspec.proofs.Members.{AreAmong, Contains-nil, Contains-first, Contains-later, Contains-cons_cases, sum_by-among}
-use Rattle.dexspec.proofs.InOrder.{Rises, AreDistinct-from_Rises}
-use Rattle.dexspec.proofs.Depths.{Contains-map}
-use Rattle.dexspec.proofs.ClassPlaces.{Contains-map_source}
-use Rattle.dexspec.proofs.SymbolOrders.{field_total, method_total}
+use Rattle.dexspec.proofs.lists.Members.{AreAmong, Contains-nil, Contains-first, Contains-later, Contains-cons_cases, sum_by-among}
+use Rattle.dexspec.proofs.lists.InOrder.{Rises, AreDistinct-from_Rises}
+use Rattle.dexspec.proofs.merge.Depths.{Contains-map}
+use Rattle.dexspec.proofs.normal.ClassPlaces.{Contains-map_source}
+use Rattle.dexspec.proofs.merge.SymbolOrders.{field_total, method_total}
 use Rattle.dexval.specs.Directories.{directory_weight}
 use Rattle.dexmembers.specs.Numbered.{Members}
 use Rattle.dexmembers.specs.Weight.{members_weight}

@@ -13,8 +13,8 @@ use Rattle.std.proofs.lemmas.Bool.{cases_lt}
 use Rattle.std.proofs.lemmas.Cmp.{tied_itself}
 use Rattle.std.proofs.lemmas.List.{get_or-map, length-drop, length-append, take_more, drop_more, map-append}
 use Rattle.dexspec.specs.Lists.{zip_with}
-use Rattle.dexspec.proofs.Members.{Contains-nil, Contains-first, Contains-later, Contains-cons_cases}
-use Rattle.dexspec.proofs.InOrder.{Rises, Rises-from_rises, Rises-places}
+use Rattle.dexspec.proofs.lists.Members.{Contains-nil, Contains-first, Contains-later, Contains-cons_cases}
+use Rattle.dexspec.proofs.lists.InOrder.{Rises, Rises-from_rises, Rises-places}
 use Rattle.dexmembers.specs.Numbered.{NumbersRise}
 use Rattle.dexmembers.specs.Attaching.{EntriesRise, HasNumberAt}
 

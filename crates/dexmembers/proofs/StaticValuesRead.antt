@@ -5,8 +5,8 @@ use Rattle.dexspec.specs.Mentions.{Mentions}
 use Rattle.dexspec.specs.Values.{Values, NoValues, count_values, EncodedArrayItemAt}
 use Rattle.dexspec.specs.Classes.{StaticValuesAt, static_values_off}
 use Rattle.dexspec.specs.Weight.{static_values_weight}
-use Rattle.dexspec.proofs.OneRow.{one_or_none}
-use Rattle.dexspec.proofs.OneValue.{one_array}
+use Rattle.dexspec.proofs.determined.OneRow.{one_or_none}
+use Rattle.dexspec.proofs.determined.OneValue.{one_array}
 use Rattle.dexpool.specs.declared.faults.ItemFault.{ItemFault}
 use Rattle.dexpool.specs.declared.faults.ItemFault.TheVariants.{Refused, Memory}
 use Rattle.dexval.specs.declared.value.Value.{Value as ValueRead}

@@ -10,7 +10,7 @@ use Rattle.dexspec.specs.ClassData.{ShareNone}
 use Rattle.dexspec.specs.Texts.{Text}
 use Rattle.dexspec.specs.Mentions.{Mentions}
 use Rattle.dexspec.specs.Stripping.{strip_code, strip_method}
-use Rattle.dexspec.proofs.Mapped.{map-kept}
+use Rattle.dexspec.proofs.lists.Mapped.{map-kept}
 use Rattle.dexcode.specs.Meaning.{code_in, IsKnownCode}
 use Rattle.dexcode.specs.Numbered.{NumberedItem}
 use Rattle.dexval.specs.Numbered.{set_in, values_in, method_at}

@@ -3,7 +3,7 @@ use Rattle.std.proofs.Common.{◌≡◌, ℕ, ◌<◌, ◌≤◌, Bool, true, fa
 use Rattle.std.specs.Prelude.{MatchOption, All, nat_lt, not}
 use Rattle.std.specs.List.{Contains}
 use Rattle.std.proofs.lemmas.Bool.{ltb-true, lt-ltb, cases_lt}
-use Rattle.dexspec.proofs.SizeSums.{sum_by-map}
+use Rattle.dexspec.proofs.size.SizeSums.{sum_by-map}
 use Rattle.dexspec.specs.Lists.{AreDistinct, rank}
 use Rattle.dexspec.specs.Texts.{Text, text_cmp}
 use Rattle.dexspec.specs.Classes.{Definition}
@@ -12,10 +12,10 @@ use Rattle.dexspec.specs.Mentions.{Mentions, mentions}
 use Rattle.dexspec.specs.Depth.{IsAcyclic}
 use Rattle.dexspec.specs.Weight.{weight, body_weight, mentions_weight}
 use Rattle.dexspec.specs.Merging.{Caps, AreCaps, greatest_caps, Cap, Types, Protos, Fields, Methods, ShortStrings, Weight, cap_number, HasShortString, Exceeds, IsConsistent, IsGood, Cause, Conflict, Cycle, Exceeded, IsCause, IsToldBefore, IsFirstCause}
-use Rattle.dexspec.proofs.Members.{list_any-member, list_any-source}
-use Rattle.dexspec.proofs.WeightGrowth.{weight-within}
-use Rattle.dexspec.proofs.Conflicts.{consistent-apart}
-use Rattle.dexspec.proofs.Depths.{acyclic-apart}
+use Rattle.dexspec.proofs.lists.Members.{list_any-member, list_any-source}
+use Rattle.dexspec.proofs.merge.WeightGrowth.{weight-within}
+use Rattle.dexspec.proofs.merge.Conflicts.{consistent-apart}
+use Rattle.dexspec.proofs.merge.Depths.{acyclic-apart}
 use Rattle.dexpool.specs.Numberings.{IsAt, AreRising}
 use Rattle.dexclass.specs.Numbered.{NumberedClass, definition_of}
 use Rattle.dexclass.specs.Uses.{IsKnownClass}

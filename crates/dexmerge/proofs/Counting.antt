@@ -11,7 +11,7 @@ use Rattle.dexspec.specs.Texts.{Text, text_cmp}
 use Rattle.dexspec.specs.Classes.{Definition}
 use Rattle.dexspec.specs.Mentions.{Mentions, mentions}
 use Rattle.dexspec.specs.Merging.{HasShortString}
-use Rattle.dexspec.proofs.Members.{list_any-source}
+use Rattle.dexspec.proofs.lists.Members.{list_any-source}
 use Rattle.dexpool.specs.Numberings.{IsAt, Maps, image}
 use Rattle.dexpool.specs.Orderly.{KeepOrder}
 use Rattle.dexinsn.specs.Fitting.{IsGreatest}

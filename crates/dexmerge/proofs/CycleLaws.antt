@@ -10,11 +10,11 @@ use Rattle.dexspec.specs.Files.{AreSame}
 use Rattle.dexspec.specs.Depth.{IsAcyclic, depth, is_defined}
 use Rattle.dexspec.specs.Mentions.{Mentions}
 use Rattle.dexspec.specs.Merging.{IsCycle}
-use Rattle.dexspec.proofs.Members.{list_any-member}
-use Rattle.dexspec.proofs.Depths.{depth-same}
-use Rattle.dexspec.proofs.Mapped.{Contains-map_source}
-use Rattle.dexspec.proofs.InOrder.{Rises-from_rises, Rises-places, irreflexive, asymmetric}
-use Rattle.dexspec.proofs.SymbolOrders.{text_total}
+use Rattle.dexspec.proofs.lists.Members.{list_any-member}
+use Rattle.dexspec.proofs.merge.Depths.{depth-same}
+use Rattle.dexspec.proofs.lists.Mapped.{Contains-map_source}
+use Rattle.dexspec.proofs.lists.InOrder.{Rises-from_rises, Rises-places, irreflexive, asymmetric}
+use Rattle.dexspec.proofs.merge.SymbolOrders.{text_total}
 use Rattle.dexorder.specs.Depths.{AreDepths, AreWithin, IsAnswer, HasNone}
 use Rattle.dexorder.specs.Parents.{AllHaveDepths, IsFirstWithout}
 use Rattle.dexorder.specs.Definitions.{AreClassesOf, name_at}

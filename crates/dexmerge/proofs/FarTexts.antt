@@ -7,7 +7,7 @@ use Rattle.std.proofs.lemmas.List.{take_more, append-nil}
 use Rattle.std.proofs.lemmas.Grind.{flat_map-append}
 use Rattle.std.proofs.lemmas.List.Elements.{All-append, All-get_or, Contains-get_or, Contains-append_cases}
 use Rattle.dexspec.specs.Mentions.{Mentions}
-use Rattle.dexspec.proofs.Members.{Contains-nil, list_any-member, list_any-source, Contains-flat_map, Contains-flat_map_source}
+use Rattle.dexspec.proofs.lists.Members.{Contains-nil, list_any-member, list_any-source, Contains-flat_map, Contains-flat_map_source}
 use Rattle.dexpool.specs.Numberings.{Maps, image}
 use Rattle.dexpool.specs.Orderly.{KeepOrder}
 use Rattle.dexpool.specs.Uses.{IsLedUse}

@@ -14,12 +14,12 @@ use Rattle.dexspec.specs.Files.{Collection, definitions, AreSame, IsCollectionOf
 use Rattle.dexspec.specs.Mentions.{Mentions, mentions}
 use Rattle.dexspec.specs.Merging.{Caps, AreCaps, IsConsistent, IsGood, greatest_caps}
 use Rattle.dexspec.specs.WellFormed.{IsWellFormed, AreWellFormed}
-use Rattle.dexspec.proofs.Absorption.{IsGood-within}
-use Rattle.dexspec.proofs.ClassOrder.{definitions-distinct}
-use Rattle.dexspec.proofs.ClassPlaces.{in_class_order-only, in_class_order-has, Contains-map_source}
-use Rattle.dexspec.proofs.Depths.{Contains-map}
-use Rattle.dexspec.proofs.Growth.{mentions-same}
-use Rattle.dexspec.proofs.Members.{Contains-nil, Contains-first, Contains-later, Contains-cons_cases, Contains-flat_map}
+use Rattle.dexspec.proofs.merge.Absorption.{IsGood-within}
+use Rattle.dexspec.proofs.normal.ClassOrder.{definitions-distinct}
+use Rattle.dexspec.proofs.normal.ClassPlaces.{in_class_order-only, in_class_order-has, Contains-map_source}
+use Rattle.dexspec.proofs.merge.Depths.{Contains-map}
+use Rattle.dexspec.proofs.merge.Growth.{mentions-same}
+use Rattle.dexspec.proofs.lists.Members.{Contains-nil, Contains-first, Contains-later, Contains-cons_cases, Contains-flat_map}
 use Rattle.dexpool.specs.Numberings.{Maps}
 use Rattle.dexclass.specs.Numbered.{NumberedClass, type_at, definition_of}
 use Rattle.dexclass.specs.Uses.{IsKnownClass}

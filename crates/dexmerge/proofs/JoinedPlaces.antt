@@ -11,12 +11,12 @@ use Rattle.dexspec.specs.Files.{Collection, definitions, AreWithin}
 use Rattle.dexspec.specs.Mentions.{Mentions, mentions}
 use Rattle.dexspec.specs.Weight.{weight}
 use Rattle.dexspec.specs.Merging.{IsGood, greatest_caps}
-use Rattle.dexspec.proofs.Absorption.{HasShortString-within}
-use Rattle.dexspec.proofs.Decided.{definition_same_or_not}
-use Rattle.dexspec.proofs.Growth.{mentions-same}
-use Rattle.dexspec.proofs.Members.{Contains-nil, Contains-first, Contains-later, Contains-cons_cases, Contains-flat_map}
-use Rattle.dexspec.proofs.Searches.{once_of}
-use Rattle.dexspec.proofs.SizeClasses.{mentions-cover}
+use Rattle.dexspec.proofs.merge.Absorption.{HasShortString-within}
+use Rattle.dexspec.proofs.lists.Decided.{definition_same_or_not}
+use Rattle.dexspec.proofs.merge.Growth.{mentions-same}
+use Rattle.dexspec.proofs.lists.Members.{Contains-nil, Contains-first, Contains-later, Contains-cons_cases, Contains-flat_map}
+use Rattle.dexspec.proofs.lists.Searches.{once_of}
+use Rattle.dexspec.proofs.size.SizeClasses.{mentions-cover}
 use Rattle.dexpool.specs.Numberings.{Maps, AllLead}
 use Rattle.dexpool.specs.Orderly.{KeepOrder}
 use Rattle.dexpool.specs.Uses.{IsLedUse}

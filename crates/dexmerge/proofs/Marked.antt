@@ -4,7 +4,7 @@ use Rattle.std.specs.Prelude.{All}
 use Rattle.std.specs.List.{Contains}
 use Rattle.std.proofs.lemmas.List.{append_assoc, append-nil}
 use Rattle.std.proofs.lemmas.List.Elements.{All-append, Contains-append_left, Contains-append_right, Contains-append_cases, Contains-get_or}
-use Rattle.dexspec.proofs.Members.{Contains-nil, Contains-cons_cases}
+use Rattle.dexspec.proofs.lists.Members.{Contains-nil, Contains-cons_cases}
 use Rattle.dexspec.specs.Merging.{Plan, Node, leaves, all_leaves, plan_depth, plans_depth}
 use Rattle.dexmerge.specs.Plans.{plans_of}
 use Rattle.dexmerge.specs.Judging.{AreMarkedBy, IsMarkedBy, IsNoPlan}

@@ -9,9 +9,9 @@ use Rattle.dexspec.specs.Classes.{Definition}
 use Rattle.dexspec.specs.Files.{Collection, definitions, AreSame}
 use Rattle.dexspec.specs.Mentions.{Mentions, mentions}
 use Rattle.dexspec.specs.Merging.{Caps, IsConsistent, IsGood, IsFirstCause, Conflict, Cycle}
-use Rattle.dexspec.proofs.Growth.{mentions-same}
-use Rattle.dexspec.proofs.FirstCauses.{first_cause-same}
-use Rattle.dexspec.proofs.Absorption.{IsGood-within}
+use Rattle.dexspec.proofs.merge.Growth.{mentions-same}
+use Rattle.dexspec.proofs.merge.FirstCauses.{first_cause-same}
+use Rattle.dexspec.proofs.merge.Absorption.{IsGood-within}
 use Rattle.dexpool.specs.Numberings.{AreRising, AreIn, Maps}
 use Rattle.dexclass.specs.Numbered.{NumberedClass, type_at, definition_of}
 use Rattle.dexclass.specs.Parents.{no_class, name_number, ArePlaces, AreDepthsByName}

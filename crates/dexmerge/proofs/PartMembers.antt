@@ -12,11 +12,11 @@ use Rattle.dexspec.specs.Depth.{in_class_order}
 use Rattle.dexspec.specs.Mentions.{Mentions, mentions}
 use Rattle.dexspec.specs.Texts.{text_cmp}
 use Rattle.dexspec.specs.Symbols.{proto_cmp, field_cmp, method_cmp}
-use Rattle.dexspec.proofs.Members.{Contains-nil}
-use Rattle.dexspec.proofs.Growth.{mentions-rising}
-use Rattle.dexspec.proofs.InOrder.{rises-from_Rises}
-use Rattle.dexspec.proofs.ClassOrder.{definitions-distinct}
-use Rattle.dexspec.proofs.ClassPlaces.{in_class_order-only, in_class_order-has}
+use Rattle.dexspec.proofs.lists.Members.{Contains-nil}
+use Rattle.dexspec.proofs.merge.Growth.{mentions-rising}
+use Rattle.dexspec.proofs.lists.InOrder.{rises-from_Rises}
+use Rattle.dexspec.proofs.normal.ClassOrder.{definitions-distinct}
+use Rattle.dexspec.proofs.normal.ClassPlaces.{in_class_order-only, in_class_order-has}
 use Rattle.dexpool.specs.Numberings.{AreRising, Maps, AllLead}
 use Rattle.dexpool.specs.Laws.{LeadsAll}
 use Rattle.dexclass.specs.Numbered.{NumberedClass, definition_of}

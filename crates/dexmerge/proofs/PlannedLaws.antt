@@ -9,9 +9,9 @@ use Rattle.dexspec.specs.Classes.{Definition}
 use Rattle.dexspec.specs.Files.{Collection, definitions, AreSame, AreWithin}
 use Rattle.dexspec.specs.Merging as merging
 use Rattle.dexspec.specs.Merging.{Caps, Cause, IsCause, IsFirstCause, IsFlat, IsPlanFor, AreLeaves, Plan, Leaf, Node, leaves, all_leaves}
-use Rattle.dexspec.proofs.Members.{Contains-nil, Contains-cons_cases, Contains-flat_map, Contains-flat_map_source}
-use Rattle.dexspec.proofs.Absorption.{IsGood-within, IsCause-within}
-use Rattle.dexspec.proofs.FirstCauses.{first_cause-same}
+use Rattle.dexspec.proofs.lists.Members.{Contains-nil, Contains-cons_cases, Contains-flat_map, Contains-flat_map_source}
+use Rattle.dexspec.proofs.merge.Absorption.{IsGood-within, IsCause-within}
+use Rattle.dexspec.proofs.merge.FirstCauses.{first_cause-same}
 use Rattle.dexmerge.specs.declared.faults.MergeFault.{MergeFault}
 use Rattle.dexmerge.specs.declared.faults.MergeFault.TheVariants as fault
 use Rattle.dexmerge.proofs.Marked.{part_leaves}

@@ -10,12 +10,12 @@ use Rattle.dexspec.specs.Texts.{Text, text_cmp}
 use Rattle.dexspec.specs.Classes.{Body, Definition}
 use Rattle.dexspec.specs.Mentions.{Mentions}
 use Rattle.dexspec.specs.Merging.{Caps, IsConflict, IsConsistent, Cause, Conflict, Cycle, Exceeded, IsCause, IsToldBefore, IsFirstCause}
-use Rattle.dexspec.proofs.Members.{Contains-nil, Contains-first, Contains-later, Contains-cons_cases}
-use Rattle.dexspec.proofs.InOrder.{Rises-from_rises, Rises-places, irreflexive, asymmetric}
-use Rattle.dexspec.proofs.SymbolOrders.{text_total}
-use Rattle.dexspec.proofs.Conflicts.{consistent-apart}
-use Rattle.dexspec.proofs.Depths.{Contains-map}
-use Rattle.dexspec.proofs.ClassPlaces.{Contains-map_source}
+use Rattle.dexspec.proofs.lists.Members.{Contains-nil, Contains-first, Contains-later, Contains-cons_cases}
+use Rattle.dexspec.proofs.lists.InOrder.{Rises-from_rises, Rises-places, irreflexive, asymmetric}
+use Rattle.dexspec.proofs.merge.SymbolOrders.{text_total}
+use Rattle.dexspec.proofs.merge.Conflicts.{consistent-apart}
+use Rattle.dexspec.proofs.merge.Depths.{Contains-map}
+use Rattle.dexspec.proofs.normal.ClassPlaces.{Contains-map_source}
 use Rattle.dexpool.specs.Numberings.{AreRising}
 use Rattle.dexclass.specs.Numbered.{NumberedClass, type_at, definition_of}
 use Rattle.dexclass.specs.Uses.{IsKnownClass}

@@ -9,10 +9,10 @@ use Rattle.dexspec.specs.Texts.{Text, same_text}
 use Rattle.dexspec.specs.Classes.{Definition}
 use Rattle.dexspec.specs.Depth.{is_defined, above, is_below, HasDepth, IsAcyclic, depth}
 use Rattle.dexspec.specs.Merging.{IsCycle}
-use Rattle.dexspec.proofs.Members.{list_all-member, list_all-from_members, list_any-member}
-use Rattle.dexspec.proofs.Depths.{Contains-map, is_defined-name, depth-is}
-use Rattle.dexspec.proofs.ClassPlaces.{Contains-map_source}
-use Rattle.dexspec.proofs.SizeSums.{map-length}
+use Rattle.dexspec.proofs.lists.Members.{list_all-member, list_all-from_members, list_any-member}
+use Rattle.dexspec.proofs.merge.Depths.{Contains-map, is_defined-name, depth-is}
+use Rattle.dexspec.proofs.normal.ClassPlaces.{Contains-map_source}
+use Rattle.dexspec.proofs.size.SizeSums.{map-length}
 use Rattle.dexorder.specs.Depths.{parents_of, is_under, IsDepth, HasNone, IsAnswer, AreDepths}
 use Rattle.dexorder.specs.Definitions.{name_at, AreClassesOf}
 use Rattle.dexorder.proofs.DepthLaws.{less_than, parent_within}

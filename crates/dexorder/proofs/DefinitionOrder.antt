@@ -14,12 +14,12 @@ use Rattle.dexspec.specs.Lists.{AreDistinct, rises}
 use Rattle.dexspec.specs.Texts.{Text, text_cmp}
 use Rattle.dexspec.specs.Classes.{Definition}
 use Rattle.dexspec.specs.Depth.{depth, place_cmp, in_class_order}
-use Rattle.dexspec.proofs.Members.{AreAmong, Contains-first, Contains-later}
-use Rattle.dexspec.proofs.InOrder.{Rises, Rises-from_rises, Rises-same}
-use Rattle.dexspec.proofs.Depths.{Contains-map}
-use Rattle.dexspec.proofs.SymbolOrders.{text_total, text_exact}
-use Rattle.dexspec.proofs.ClassPlaces.{Contains-map_source, class_place as definition_place, in_class_order-only, in_class_order-has, class_places-rise}
-use Rattle.dexspec.proofs.SizeSums.{map-length}
+use Rattle.dexspec.proofs.lists.Members.{AreAmong, Contains-first, Contains-later}
+use Rattle.dexspec.proofs.lists.InOrder.{Rises, Rises-from_rises, Rises-same}
+use Rattle.dexspec.proofs.merge.Depths.{Contains-map}
+use Rattle.dexspec.proofs.merge.SymbolOrders.{text_total, text_exact}
+use Rattle.dexspec.proofs.normal.ClassPlaces.{Contains-map_source, class_place as definition_place, in_class_order-only, in_class_order-has, class_places-rise}
+use Rattle.dexspec.proofs.size.SizeSums.{map-length}
 use Rattle.dexorder.specs.Depths.{IsAnswer, AreDepths}
 use Rattle.dexorder.specs.Places.{class_place, class_cmp}
 use Rattle.dexorder.specs.Definitions.{name_at, AreClassesOf, AreDepthsOf, AreNamesOf}

@@ -5,7 +5,7 @@ use Rattle.std.proofs.lemmas.Bool.{cases_lt}
 use Rattle.std.proofs.lemmas.List.Elements.{All-contains, All-get_or}
 use Rattle.std.proofs.lemmas.List.FromFn.{length-range_with_len}
 use Rattle.std.proofs.lemmas.List.Sums.{sum_by-cons, count_by-le-length}
-use Rattle.dexspec.proofs.Members.{Contains-nil, Contains-first, Contains-later, Contains-cons_cases, list_all-member, list_all-from_members}
+use Rattle.dexspec.proofs.lists.Members.{Contains-nil, Contains-first, Contains-later, Contains-cons_cases, list_all-member, list_all-from_members}
 use Rattle.dexorder.specs.Depths.{parents_of, is_under, AreWithin, IsDepth, HasNone}
 
 module _ (classes : List (List ℕ)) where

@@ -8,8 +8,8 @@ use Rattle.dexspec.specs.Lists.{AreDistinct}
 use Rattle.dexspec.specs.Texts.{Text, same_text}
 use Rattle.dexspec.specs.Classes.{Definition}
 use Rattle.dexspec.specs.Depth.{parents, is_defined, above}
-use Rattle.dexspec.proofs.Members.{Contains-first, Contains-later, AreDistinct-first, AreDistinct-rest}
-use Rattle.dexspec.proofs.Depths.{Contains-map}
+use Rattle.dexspec.proofs.lists.Members.{Contains-first, Contains-later, AreDistinct-first, AreDistinct-rest}
+use Rattle.dexspec.proofs.merge.Depths.{Contains-map}
 use Rattle.dexorder.specs.Depths.{parents_of, AreWithin}
 use Rattle.dexorder.specs.Definitions.{name_at, AreClassesOf}
 use Rattle.dexorder.proofs.DefinitionDepths.{same_from_equal}

@@ -12,8 +12,8 @@ use Rattle.std.proofs.lemmas.List.Elements.{All-head, All-tail, All-map}
 use Rattle.std.proofs.lemmas.List.Sorted.{IsPermutation-map, All-permutation}
 use Rattle.std.proofs.lemmas.Map.Keys.{IsDistinct-from_apart, IsDistinct-IsPermutation, apart_from_distinct}
 use Rattle.dexspec.specs.Lists.{AreDistinct, rises}
-use Rattle.dexspec.proofs.Members.{and_both}
-use Rattle.dexspec.proofs.SizeSums.{map-length}
+use Rattle.dexspec.proofs.lists.Members.{and_both}
+use Rattle.dexspec.proofs.size.SizeSums.{map-length}
 use Rattle.dexorder.specs.declared.order.Place.{Place}
 use Rattle.dexorder.specs.Places.{class_place, class_cmp, place_of}
 

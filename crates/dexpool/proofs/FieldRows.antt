@@ -5,7 +5,7 @@ use Rattle.dexspec.specs.Names.{IsClass, IsMemberName, IsValueType}
 use Rattle.dexspec.specs.Symbols.{Field, IsField}
 use Rattle.dexspec.specs.Rows as rows
 use Rattle.dexspec.specs.Rows.{row_at, StringRow, TypeRow, HasField, field_row_key}
-use Rattle.dexspec.proofs.OneRow.{one_string, one_type}
+use Rattle.dexspec.proofs.determined.OneRow.{one_string, one_type}
 use Rattle.dexrows.specs.declared.fields.FieldRow.{FieldRow}
 use Rattle.dexpool.specs.Tables.{field_of, field_key, field_cmp}
 use Rattle.dexpool.specs.Reading.{ReadTo, is_above_last, FieldStands, HasFieldNumbers}

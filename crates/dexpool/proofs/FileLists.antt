@@ -2,7 +2,7 @@
 use Rattle.std.proofs.Common.{◌≡◌, ℕ, zero, suc, ◌+◌, ◌-◌, ◌*◌, ◌/◌, ◌≤◌, List, ◌∷◌, length, take, drop, refl, sym, ap, ◌∙◌, arith}
 use Rattle.std.proofs.lemmas.List.{length-take, length-drop}
 use Rattle.dexspec.specs.Bytes.{ushort_at, ushorts_at}
-use Rattle.dexspec.proofs.FormedRows.{length-ushorts_at}
+use Rattle.dexspec.proofs.wellformed.FormedRows.{length-ushorts_at}
 use Rattle.dexpool.specs.declared.rows.Span.{Span}
 use Rattle.dexpool.specs.Tables.{span_of}
 use Rattle.dexpool.specs.Reading.{HasSpan, file_numbers}

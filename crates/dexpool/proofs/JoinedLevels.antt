@@ -12,8 +12,8 @@ use Rattle.dexspec.specs.Lists.{rises}
 use Rattle.dexspec.specs.Texts.{Text, text_cmp}
 use Rattle.dexspec.specs.Symbols as symbols
 use Rattle.dexspec.specs.Mentions.{Mentions}
-use Rattle.dexspec.proofs.InOrder.{rises-in_order}
-use Rattle.dexspec.proofs.SymbolOrders.{text_total, text_exact, proto_total, proto_exact, field_total, field_exact, method_total, method_exact}
+use Rattle.dexspec.proofs.lists.InOrder.{rises-in_order}
+use Rattle.dexspec.proofs.merge.SymbolOrders.{text_total, text_exact, proto_total, proto_exact, field_total, field_exact, method_total, method_exact}
 use Rattle.dexrows.specs.Join.{row_cmp, AreSorted, IsJoin}
 use Rattle.dexrows.specs.Numbers.{ProtoNumbers}
 use Rattle.dexrows.specs.declared.types.TypeRow.{TypeRow}

@@ -12,7 +12,7 @@ use Rattle.dexspec.specs.Names.{IsDescriptor, IsValueType}
 use Rattle.dexspec.specs.Symbols as symbols
 use Rattle.dexspec.specs.Symbols.{IsProto, IsField, IsMethod}
 use Rattle.dexspec.specs.Mentions.{Mentions}
-use Rattle.dexspec.proofs.SymbolOrders.{text_total, text_exact, proto_total, proto_exact, field_total, field_exact, method_total, method_exact}
+use Rattle.dexspec.proofs.merge.SymbolOrders.{text_total, text_exact, proto_total, proto_exact, field_total, field_exact, method_total, method_exact}
 use Rattle.dexrows.proofs.Composing.{all_seen}
 use Rattle.dexpool.specs.declared.tables.Tables.{Tables}
 use Rattle.dexpool.specs.Tables.{text_of, type_of, span_of, proto_of, field_of, method_of}

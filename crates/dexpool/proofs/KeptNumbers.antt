@@ -3,7 +3,7 @@
 use Rattle.std.proofs.Common.{◌≡◌, ℕ, zero, suc, ◌+◌, ◌≤◌, ◌||◌, ◌&&◌, ◌==◌, Bool, true, false, List, [], ◌∷◌, get_or, map, refl, sym, ◌∙◌, subst, arith, eq-eqb, Option, Some, None, IsSome}
 use Rattle.std.specs.List.{All, Contains, flat_map}
 use Rattle.std.proofs.lemmas.List.Elements.{All-weaker, Contains-get_or}
-use Rattle.dexspec.proofs.Members.{list_any-member}
+use Rattle.dexspec.proofs.lists.Members.{list_any-member}
 use Rattle.dexspec.specs.Mentions.{Mentions}
 use Rattle.dexrows.specs.Cut.{kept, places}
 use Rattle.dexrows.specs.declared.fields.FieldRow.{FieldRow}

@@ -4,9 +4,9 @@ use Rattle.std.specs.List.{All, Contains, flat_map}
 use Rattle.std.specs.Cmp.{IsTotalOrder}
 use Rattle.std.proofs.lemmas.Bool.{cases_eq, cases_order}
 use Rattle.std.proofs.lemmas.List.{length-set, length-map, get_or-map, get_or-set_same, get_or-set_other, drop_more}
-use Rattle.dexspec.proofs.Members.{Contains-nil, Contains-first, Contains-later, Contains-cons_cases}
-use Rattle.dexspec.proofs.Mapped.{All-among}
-use Rattle.dexspec.proofs.InOrder.{Rises, AreDistinct-from_Rises}
+use Rattle.dexspec.proofs.lists.Members.{Contains-nil, Contains-first, Contains-later, Contains-cons_cases}
+use Rattle.dexspec.proofs.lists.Mapped.{All-among}
+use Rattle.dexspec.proofs.lists.InOrder.{Rises, AreDistinct-from_Rises}
 use Rattle.dexrows.specs.Cut.{kept, places}
 use Rattle.dexrows.proofs.KeptPlaces.{kept_among, length_places, marked_has, stands_at, places_rise}
 use Rattle.dexpool.specs.Numberings.{Leads, image}

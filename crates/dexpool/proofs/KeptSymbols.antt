@@ -8,11 +8,11 @@ use Rattle.dexspec.specs.Names.{IsValueType, shorty}
 use Rattle.dexspec.specs.Symbols.{Proto, Field, Method, proto_cmp, field_cmp, method_cmp}
 use Rattle.dexspec.specs.Mentions as mentions
 use Rattle.dexspec.specs.Mentions.{proto_types}
-use Rattle.dexspec.proofs.Members.{Contains-first, Contains-later, Contains-cons_cases, Contains-flat_map, Contains-flat_map_source}
-use Rattle.dexspec.proofs.Depths.{Contains-map}
-use Rattle.dexspec.proofs.Mapped.{Contains-map_source}
-use Rattle.dexspec.proofs.InOrder.{Rises-from_rises}
-use Rattle.dexspec.proofs.SymbolOrders.{text_total, proto_total, field_total, method_total}
+use Rattle.dexspec.proofs.lists.Members.{Contains-first, Contains-later, Contains-cons_cases, Contains-flat_map, Contains-flat_map_source}
+use Rattle.dexspec.proofs.merge.Depths.{Contains-map}
+use Rattle.dexspec.proofs.lists.Mapped.{Contains-map_source}
+use Rattle.dexspec.proofs.lists.InOrder.{Rises-from_rises}
+use Rattle.dexspec.proofs.merge.SymbolOrders.{text_total, proto_total, field_total, method_total}
 use Rattle.dexrows.specs.Cut.{kept}
 use Rattle.dexrows.specs.declared.fields.FieldRow.{FieldRow}
 use Rattle.dexrows.specs.declared.methods.MethodRow.{MethodRow}

@@ -9,9 +9,9 @@ use Rattle.dexspec.specs.Lists.{in_order}
 use Rattle.dexspec.specs.Texts.{text_cmp}
 use Rattle.dexspec.specs.Symbols.{proto_cmp, field_cmp, method_cmp}
 use Rattle.dexspec.specs.Mentions.{Mentions}
-use Rattle.dexspec.proofs.Members.{Contains-first, Contains-later, Contains-flat_map}
-use Rattle.dexspec.proofs.SymbolOrders.{text_total, text_exact, proto_total, proto_exact, field_total, field_exact, method_total, method_exact}
-use Rattle.dexspec.proofs.InOrder.{in_order-has}
+use Rattle.dexspec.proofs.lists.Members.{Contains-first, Contains-later, Contains-flat_map}
+use Rattle.dexspec.proofs.merge.SymbolOrders.{text_total, text_exact, proto_total, proto_exact, field_total, field_exact, method_total, method_exact}
+use Rattle.dexspec.proofs.lists.InOrder.{in_order-has}
 use Rattle.dexpool.specs.declared.symbols.SymbolKind.TheVariants as kinds
 use Rattle.dexpool.specs.Numberings.{Maps, image, Leads, AllLead, union_of}
 use Rattle.dexpool.specs.Laws.{LeadsAll}

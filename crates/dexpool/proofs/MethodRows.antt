@@ -6,7 +6,7 @@ use Rattle.dexspec.specs.Symbols.{Method}
 use Rattle.dexspec.specs.Header.{MethodIds, table_size}
 use Rattle.dexspec.specs.Rows as rows
 use Rattle.dexspec.specs.Rows.{StringRow, TypeRow, HasMethod, method_row_key}
-use Rattle.dexspec.proofs.OneRow.{one_string, one_type}
+use Rattle.dexspec.proofs.determined.OneRow.{one_string, one_type}
 use Rattle.dexpool.specs.declared.rows.ProtoEntry.{ProtoEntry}
 use Rattle.dexrows.specs.declared.methods.MethodRow.{MethodRow}
 use Rattle.dexpool.specs.Tables.{method_of, method_key, method_cmp}

@@ -13,8 +13,8 @@ use Rattle.std.proofs.lemmas.List.Elements.{All-head, All-tail}
 use Rattle.dexspec.specs.Lists.{rises}
 use Rattle.dexspec.specs.Texts.{Text, text_cmp}
 use Rattle.dexspec.specs.Symbols as symbols
-use Rattle.dexspec.proofs.InOrder.{Rises-from_rises, Rises-places}
-use Rattle.dexspec.proofs.SymbolOrders.{text_total}
+use Rattle.dexspec.proofs.lists.InOrder.{Rises-from_rises, Rises-places}
+use Rattle.dexspec.proofs.merge.SymbolOrders.{text_total}
 use Rattle.dexrows.specs.declared.fields.FieldRow.{FieldRow}
 use Rattle.dexrows.specs.declared.methods.MethodRow.{MethodRow}
 use Rattle.dexpool.specs.declared.rows.ProtoEntry.{ProtoEntry}

@@ -9,7 +9,7 @@ use Rattle.dexspec.specs.Symbols.{Proto}
 use Rattle.dexspec.specs.Header.{ProtoIds, table_size}
 use Rattle.dexspec.specs.Rows as rows
 use Rattle.dexspec.specs.Rows.{row_at, StringRow, TypeRow, TypeListAt, type_indices, HasProto, proto_row_key}
-use Rattle.dexspec.proofs.OneRow.{one_string, one_type}
+use Rattle.dexspec.proofs.determined.OneRow.{one_string, one_type}
 use Rattle.dexpool.specs.declared.rows.ProtoEntry.{ProtoEntry}
 use Rattle.dexpool.specs.Tables.{type_of, span_of, proto_of, proto_key, proto_cmp}
 use Rattle.dexpool.specs.Reading.{ReadTo, is_above_last, IsText, IsType, HasIndices, ProtoStands, IsListed, AllTypes, listed, file_numbers}

@@ -11,8 +11,8 @@ use Rattle.dexspec.specs.Names.{IsValueType}
 use Rattle.dexspec.specs.Bytes.{uint_at}
 use Rattle.dexspec.specs.Header.{ProtoIds}
 use Rattle.dexspec.specs.Rows.{key_cmp, row_at, Follows, TypeListAt, type_row_key, proto_row_key, field_row_key, method_row_key, HasType, HasProto, HasField, HasMethod}
-use Rattle.dexspec.proofs.Members.{and_both}
-use Rattle.dexspec.proofs.OneRow.{one_string}
+use Rattle.dexspec.proofs.lists.Members.{and_both}
+use Rattle.dexspec.proofs.determined.OneRow.{one_string}
 use Rattle.dexrows.specs.declared.fields.FieldRow.{FieldRow}
 use Rattle.dexrows.specs.declared.methods.MethodRow.{MethodRow}
 use Rattle.dexpool.specs.declared.rows.ProtoEntry.{ProtoEntry}

@@ -8,7 +8,7 @@ use Rattle.std.proofs.lemmas.List.Elements.{All-map, All-weaker}
 use Rattle.dexspec.specs.Lists.{rises}
 use Rattle.dexspec.specs.Texts.{Text, text_cmp}
 use Rattle.dexspec.specs.Symbols as symbols
-use Rattle.dexspec.proofs.SymbolOrders.{text_total, proto_total}
+use Rattle.dexspec.proofs.merge.SymbolOrders.{text_total, proto_total}
 use Rattle.dexrows.specs.Cut.{places}
 use Rattle.dexrows.specs.Join.{row_cmp, AreSorted}
 use Rattle.dexrows.specs.Numbers.{Among, Lower, RisesOn, RiseAmong, ProtoNumbers}

@@ -9,7 +9,7 @@ use Rattle.dexspec.specs.Texts.{Text}
 use Rattle.dexspec.specs.Names.{IsValueType, shorty_letter}
 use Rattle.dexspec.specs.Lists.{OrNone}
 use Rattle.dexspec.specs.Rows.{TypeRow, TypeListAt}
-use Rattle.dexspec.proofs.OneRow.{one_type}
+use Rattle.dexspec.proofs.determined.OneRow.{one_type}
 use Rattle.dexstr.specs.Units.{IsAscii}
 use Rattle.dexpool.specs.declared.rows.Span.{Span}
 use Rattle.dexpool.specs.declared.judged.Judged.{Judged}

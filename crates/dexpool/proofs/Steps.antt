@@ -6,8 +6,8 @@ use Rattle.std.specs.declared.cmp.Ordering.{Ordering}
 use Rattle.std.specs.declared.cmp.Ordering.TheVariants.{Less, Equal, Greater}
 use Rattle.std.proofs.lemmas.Bool.{cases_lt}
 use Rattle.std.proofs.lemmas.List.{length_push, get_or_append_left, get_or_push, get_or_default}
-use Rattle.dexspec.proofs.InOrder.{less_is}
-use Rattle.dexspec.proofs.OneRow.{one_string}
+use Rattle.dexspec.proofs.lists.InOrder.{less_is}
+use Rattle.dexspec.proofs.determined.OneRow.{one_string}
 use Rattle.dexspec.specs.Texts.{Text, text_cmp}
 use Rattle.dexspec.specs.Bytes.{uint_at}
 use Rattle.dexspec.specs.Names.{IsDescriptor}

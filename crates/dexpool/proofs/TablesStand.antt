@@ -8,9 +8,9 @@ use Rattle.dexspec.specs.Texts.{text_cmp}
 use Rattle.dexspec.specs.Names.{IsDescriptor, IsValueType}
 use Rattle.dexspec.specs.Symbols as symbols
 use Rattle.dexspec.specs.Symbols.{Proto, Field, Method, IsProto, IsField, IsMethod}
-use Rattle.dexspec.proofs.Members.{Contains-cons_cases}
-use Rattle.dexspec.proofs.Depths.{Contains-map}
-use Rattle.dexspec.proofs.Mapped.{Contains-map_source}
+use Rattle.dexspec.proofs.lists.Members.{Contains-cons_cases}
+use Rattle.dexspec.proofs.merge.Depths.{Contains-map}
+use Rattle.dexspec.proofs.lists.Mapped.{Contains-map_source}
 use Rattle.dexrows.specs.declared.fields.FieldRow.{FieldRow}
 use Rattle.dexrows.specs.declared.methods.MethodRow.{MethodRow}
 use Rattle.dexpool.specs.declared.rows.ProtoEntry.{ProtoEntry}

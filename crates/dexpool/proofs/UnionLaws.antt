@@ -9,13 +9,13 @@ use Rattle.dexspec.specs.Texts.{text_cmp}
 use Rattle.dexspec.specs.Symbols.{Symbol, proto_cmp, field_cmp, method_cmp}
 use Rattle.dexspec.specs.Classes.{Definition}
 use Rattle.dexspec.specs.Mentions.{Mentions, mentions, texts_in, types_in, protos_in, fields_in, methods_in}
-use Rattle.dexspec.proofs.Members.{Contains-flat_map, Contains-flat_map_source, length-among}
-use Rattle.dexspec.proofs.Depths.{Contains-map}
-use Rattle.dexspec.proofs.Mapped.{Contains-map_source}
-use Rattle.dexspec.proofs.SymbolOrders.{text_total, text_exact, proto_total, proto_exact, field_total, field_exact, method_total, method_exact}
-use Rattle.dexspec.proofs.InOrder.{Rises, Rises-from_rises, Rises-in_order, Rises-same, AreDistinct-from_Rises, in_order-has, in_order-only, rank-among, rank-get_or}
-use Rattle.dexspec.proofs.Growth.{mentions-rising}
-use Rattle.dexspec.proofs.MentionMembers.{Occurs, texts-listed, texts-source, types-listed, types-source, protos-listed, protos-source, fields-listed, fields-source, methods-listed, methods-source}
+use Rattle.dexspec.proofs.lists.Members.{Contains-flat_map, Contains-flat_map_source, length-among}
+use Rattle.dexspec.proofs.merge.Depths.{Contains-map}
+use Rattle.dexspec.proofs.lists.Mapped.{Contains-map_source}
+use Rattle.dexspec.proofs.merge.SymbolOrders.{text_total, text_exact, proto_total, proto_exact, field_total, field_exact, method_total, method_exact}
+use Rattle.dexspec.proofs.lists.InOrder.{Rises, Rises-from_rises, Rises-in_order, Rises-same, AreDistinct-from_Rises, in_order-has, in_order-only, rank-among, rank-get_or}
+use Rattle.dexspec.proofs.merge.Growth.{mentions-rising}
+use Rattle.dexspec.proofs.merge.MentionMembers.{Occurs, texts-listed, texts-source, types-listed, types-source, protos-listed, protos-source, fields-listed, fields-source, methods-listed, methods-source}
 use Rattle.dexpool.specs.declared.symbols.SymbolKind.{SymbolKind}
 use Rattle.dexpool.specs.declared.symbols.SymbolKind.TheVariants as kinds
 use Rattle.dexpool.specs.Pools.{count_of}

@@ -9,11 +9,11 @@ use Rattle.std.proofs.lemmas.List.{get_or-map, length-map}
 use Rattle.std.proofs.lemmas.List.Elements.{All-weaker, All-contains, All-contains_itself, Contains-get_or}
 use Rattle.dexspec.specs.Lists.{in_order}
 use Rattle.dexspec.specs.Rows.{key_cmp}
-use Rattle.dexspec.proofs.InOrder.{Rises-from_rises, Rises-same, Rises-in_order, in_order-has, in_order-only}
-use Rattle.dexspec.proofs.Members.{AreAmong, Contains-flat_map, Contains-flat_map_source}
-use Rattle.dexspec.proofs.Mapped.{Contains-map_source}
-use Rattle.dexspec.proofs.Depths.{Contains-map}
-use Rattle.dexspec.proofs.SymbolOrders.{text_total}
+use Rattle.dexspec.proofs.lists.InOrder.{Rises-from_rises, Rises-same, Rises-in_order, in_order-has, in_order-only}
+use Rattle.dexspec.proofs.lists.Members.{AreAmong, Contains-flat_map, Contains-flat_map_source}
+use Rattle.dexspec.proofs.lists.Mapped.{Contains-map_source}
+use Rattle.dexspec.proofs.merge.Depths.{Contains-map}
+use Rattle.dexspec.proofs.merge.SymbolOrders.{text_total}
 use Rattle.dexrows.specs.Join.{row_cmp, IsImage, IsOfParts, IsJoin}
 use Rattle.dexpool.specs.Joining.{Moves, IsUnion, StandFor}
 use Rattle.dexpool.proofs.NumberOrder.{rises-map}

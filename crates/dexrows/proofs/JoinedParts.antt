@@ -3,7 +3,7 @@ use Rattle.std.proofs.Common.{◌≡◌, ℕ, ◌<◌, ◌≤◌, List, [], ◌�
 use Rattle.std.specs.List.{All, AllZip}
 use Rattle.std.proofs.lemmas.List.{length-map, map-append, get_or-map, get_or_default}
 use Rattle.std.proofs.lemmas.List.Elements.{All-nil, All-cons, All-weaker, All-contains, Contains-append_left, Contains-append_right}
-use Rattle.dexspec.proofs.Members.{Contains-nil, Contains-first, Contains-later}
+use Rattle.dexspec.proofs.lists.Members.{Contains-nil, Contains-first, Contains-later}
 use Rattle.dexrows.specs.Join.{IsImage, IsOfParts, IsJoin}
 use Rattle.dexrows.specs.Merge.{IsOfTwo, IsMerge, IsJoinOfTwo}
 

@@ -1,7 +1,7 @@
 -- What a cut leaves: the kept rows rise where the rows do, and each has its place.
 use Rattle.std.proofs.Common.{◌≡◌, ℕ, zero, suc, ◌+◌, ◌<◌, ◌≤◌, Bool, true, false, List, [], ◌∷◌, length, get_or, refl, ap, arith, inl, inr, Ordering, Option, Some, None}
-use Rattle.dexspec.proofs.Members.{AreAmong, Contains-nil, Contains-later, Contains-cons_cases}
-use Rattle.dexspec.proofs.InOrder.{Rises, rises-from_Rises, Rises-from_rises}
+use Rattle.dexspec.proofs.lists.Members.{AreAmong, Contains-nil, Contains-later, Contains-cons_cases}
+use Rattle.dexspec.proofs.lists.InOrder.{Rises, rises-from_Rises, Rises-from_rises}
 use Rattle.dexrows.specs.Join.{row_cmp, AreSorted}
 use Rattle.dexrows.specs.Cut.{kept, places}
 use Rattle.dexrows.proofs.MergeSteps.{row_total}

@@ -9,9 +9,9 @@ use Rattle.std.proofs.lemmas.List.{length_push, get_or_append_left, get_or_push,
 use Rattle.std.proofs.lemmas.List.Elements.{All-head, All-tail, All-push, All-weaker}
 use Rattle.dexspec.specs.Lists.{rises}
 use Rattle.dexspec.specs.Rows.{key_cmp}
-use Rattle.dexspec.proofs.Members.{and_first, and_second, and_both}
-use Rattle.dexspec.proofs.InOrder.{Rises-from_rises, Rises-places, less_is}
-use Rattle.dexspec.proofs.SymbolOrders.{text_total, text_exact}
+use Rattle.dexspec.proofs.lists.Members.{and_first, and_second, and_both}
+use Rattle.dexspec.proofs.lists.InOrder.{Rises-from_rises, Rises-places, less_is}
+use Rattle.dexspec.proofs.merge.SymbolOrders.{text_total, text_exact}
 use Rattle.dexrows.specs.Join.{row_cmp, AreSorted, IsImage}
 use Rattle.dexrows.specs.Merge.{IsOfTwo, IsNext, IsMerge, HasTaken, IsMerging, ComesFirst, ComeTogether}
 

@@ -4,7 +4,7 @@ use Rattle.std.proofs.Math.Seq.{take-append-add}
 use Rattle.std.proofs.lemmas.List.{take_more, drop_more, take_all, length-take-le, get_or-map}
 use Rattle.std.specs.Prelude.{All}
 use Rattle.std.specs.List.{AllZip}
-use Rattle.dexspec.proofs.Denoted.{denotes_some}
+use Rattle.dexspec.proofs.determined.Denoted.{denotes_some}
 use Rattle.dexclass.specs.Programs.{IsReadAs}
 use Rattle.dexclass.specs.Checking.{IsCheckedAs}
 use Rattle.dexruns.specs.declared.lines.Verdict.{Verdict}

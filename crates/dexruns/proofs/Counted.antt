@@ -7,7 +7,7 @@ use Rattle.dexspec.specs.Texts.{text_cmp}
 use Rattle.dexspec.specs.Mentions.{mentions}
 use Rattle.dexspec.specs.Weight.{weight}
 use Rattle.dexspec.specs.Merging.{Caps, Cap, Types, Protos, Fields, Methods, ShortStrings, Weight, Exceeds, IsFirstCause}
-use Rattle.dexspec.proofs.WeightGrowth.{weight-within}
+use Rattle.dexspec.proofs.merge.WeightGrowth.{weight-within}
 use Rattle.dexmerge.specs.Faults.{IsOfCap}
 
 -- the caps that the definitions just keep

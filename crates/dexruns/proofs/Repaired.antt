@@ -3,8 +3,8 @@ use Rattle.std.proofs.Common.{◌≡◌, ℕ, ◌+◌, ◌≤◌, Bool, true, fa
 use Rattle.std.proofs.lemmas.Bool.{ltb-false, ltb-true}
 use Rattle.std.proofs.lemmas.List.{take_at, drop_at, length-drop}
 use Rattle.dexspec.specs.Accepted.{IsAccepted}
-use Rattle.dexspec.proofs.ByteNumbers.{length-uint}
-use Rattle.dexspec.proofs.Sums.{length-sha1}
+use Rattle.dexspec.proofs.numbers.ByteNumbers.{length-uint}
+use Rattle.dexspec.proofs.layout.Sums.{length-sha1}
 use Rattle.dexspec.specs.Header.{HasChecksum, HasSignature}
 use Rattle.dexhead.specs.Sums.{signed, with_sums_set}
 use Rattle.dexhead.proofs.Overwritten.{drop_after, has_checksum_set, has_signature_set}

@@ -3,7 +3,7 @@ use Rattle.std.proofs.Common.{◌≡◌, ◌≢◌, ℕ, suc, ◌≤◌, List, [
 use Rattle.std.specs.List.{All}
 use Rattle.std.proofs.lemmas.List.Elements.{All-head, All-tail}
 use Rattle.dexspec.specs.Texts.{form, spelling, AreUnits}
-use Rattle.dexspec.proofs.OneText.{Shape, One, Two, Three, shape_of}
+use Rattle.dexspec.proofs.determined.OneText.{Shape, One, Two, Three, shape_of}
 use Rattle.dexstr.specs.Units.{units_of, IsSpelling, IsAscii}
 
 -- at least one byte for each unit

@@ -6,7 +6,7 @@ use Rattle.std.proofs.lemmas.List.Elements.{All-cons}
 use Rattle.dexspec.specs.Texts.{Text, form, spelling, AreUnits}
 use Rattle.dexspec.specs.Names.{IsNameUnit, IsMemberName, IsClassName}
 use Rattle.dexstr.specs.Kinds.{ends_class, is_end}
-use Rattle.dexspec.proofs.OneText.{Shape, One, Two, Three, shape_of}
+use Rattle.dexspec.proofs.determined.OneText.{Shape, One, Two, Three, shape_of}
 
 -- a unit of a name goes on
 step_name : (u : ℕ) → IsNameUnit u → (begun : Bool) (s : List ℕ) → ends_class begun (u ∷ s) ≡ ends_class true s

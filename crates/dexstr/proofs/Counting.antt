@@ -4,9 +4,9 @@ use Rattle.std.proofs.lemmas.List.Sums.{sum_by-cons}
 use Rattle.std.proofs.lemmas.Bool.Decides.{nat_tests}
 use Rattle.dexspec.specs.Numbers.{uleb128, size_u}
 use Rattle.dexspec.specs.Texts.{form, spelling, string_data, AreUnits}
-use Rattle.dexspec.proofs.Groups.{length-groups, size_u_bounds}
+use Rattle.dexspec.proofs.numbers.Groups.{length-groups, size_u_bounds}
 use Rattle.dexstr.specs.Units.{begins_unit, units_of, IsSpelling}
-use Rattle.dexspec.proofs.OneText.{Shape, One, Two, Three, shape_of}
+use Rattle.dexspec.proofs.determined.OneText.{Shape, One, Two, Three, shape_of}
 
 tail : (b : ℕ) → 0x80 ≤ b → b ≤ 0xbf → begins_unit b ≡ false
 tail b low high = grind (arith, nat_tests)

@@ -10,7 +10,7 @@ use Rattle.dexstr.specs.Units.{units_of, IsSpelling}
 use Rattle.dexstr.specs.Kinds.{type_kind, ends_class, is_end, is_primitive_letter, element_kind, dimensions, is_void, kind_of}
 use Rattle.dexstr.specs.declared.descriptors.Kind.{Kind}
 use Rattle.dexstr.specs.declared.descriptors.Kind.TheVariants.{Void, Primitive, Class, Array}
-use Rattle.dexspec.proofs.OneText.{Shape, One, Two, Three, shape_of}
+use Rattle.dexspec.proofs.determined.OneText.{Shape, One, Two, Three, shape_of}
 use Rattle.dexstr.proofs.ClassNames.{end_is, class_from, class_to, is_end-spelling, ends_class-spelling}
 
 -- ---- letters

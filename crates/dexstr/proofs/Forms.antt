@@ -5,7 +5,7 @@ use Rattle.std.proofs.lemmas.Bool.Decides.{same_from_decides, Decides-like, Deci
 use Rattle.std.proofs.lemmas.Slice.Eq.{slice_eq-Decides}
 use Rattle.std.specs.Prelude.{Bool, ◌==◌, Option, Some, None, IfNone}
 use Rattle.std.proofs.lemmas.Bool.{lt-ltb, le-ltb}
-use Rattle.dexspec.proofs.OneText.{Shape, One, Two, Three, shape_of}
+use Rattle.dexspec.proofs.determined.OneText.{Shape, One, Two, Three, shape_of}
 use Rattle.dexspec.specs.Texts.{form, spelling, AreUnits}
 use Rattle.dexstr.specs.Units.{units_of, IsSpelling, BeginsWithUnit, BeginsWithNone, IsNoTail}
 use Rattle.std.proofs.lemmas.List.Concat.{flat_map-cons}

@@ -3,10 +3,10 @@ use Rattle.std.proofs.Common.{◌≡◌, ℕ, suc, ◌+◌, ◌-◌, ◌/◌, �
 use Rattle.std.proofs.lemmas.List.Concat.{flat_map-cons}
 use Rattle.dexspec.specs.Numbers.{IsUleb128, BeginsWith, sum_of_groups}
 use Rattle.dexspec.specs.Texts.{spelling, form, AreUnits, IsStringData}
-use Rattle.dexspec.proofs.Spellings.{same_number}
+use Rattle.dexspec.proofs.numbers.Spellings.{same_number}
 use Rattle.dexstr.specs.Units.{units_of, IsSpelling, SpellsText, AfterUnits, BeginsWithUnit, BeginsWithNone}
 use Rattle.dexstr.specs.Faults.{HasBody, StartsWithZero}
-use Rattle.dexspec.proofs.OneText.{Shape, One, Two, Three, one_unit}
+use Rattle.dexspec.proofs.determined.OneText.{Shape, One, Two, Three, one_unit}
 use Rattle.dexstr.proofs.Forms.{shape, units_of-spelling}
 
 spelling_is : (us : List ℕ) → AreUnits us → IsSpelling (spelling us)

@@ -4,7 +4,7 @@ use Rattle.std.proofs.lemmas.List.Elements.{All-cons}
 use Rattle.dexspec.specs.Texts.{form, spelling, AreUnits}
 use Rattle.dexspec.specs.Names.{IsNameUnit, IsMemberName}
 use Rattle.dexstr.specs.Units.{units_of, IsSpelling}
-use Rattle.dexspec.proofs.OneText.{Shape, One, Two, Three, shape_of}
+use Rattle.dexspec.proofs.determined.OneText.{Shape, One, Two, Three, shape_of}
 use Rattle.dexstr.proofs.ClassNames.{high_byte, long_unit}
 
 name_to : (bytes : List ℕ) (u : ℕ) (rest s : List ℕ) → Shape bytes u rest → All IsNameUnit (u ∷ s) → All IsNameUnit rest → All IsNameUnit bytes

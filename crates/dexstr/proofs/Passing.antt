@@ -6,7 +6,7 @@ use Rattle.std.proofs.lemmas.Grind.{flat_map-append}
 use Rattle.std.proofs.lemmas.List.Elements.{All-push}
 use Rattle.dexspec.specs.Texts.{form, spelling, AreUnits}
 use Rattle.dexstr.specs.Units.{BeginsWithUnit}
-use Rattle.dexspec.proofs.OneText.{Shape, One, Two, Three}
+use Rattle.dexspec.proofs.determined.OneText.{Shape, One, Two, Three}
 use Rattle.dexstr.proofs.Forms.{shape}
 
 -- `n` units were skipped

@@ -11,7 +11,7 @@ use Rattle.dexspec.specs.Symbols.{Field, Method}
 use Rattle.dexspec.specs.Rows.{FieldRow, MethodRow}
 use Rattle.dexspec.specs.Annotations.{AnnotationSet, SetAt, RefListAt, PairAt, PairsAt, pairs_at, fields_count, methods_count, parameters_count}
 use Rattle.dexspec.specs.Mentions.{Mentions}
-use Rattle.dexspec.proofs.Members.{and_first, and_second, and_both}
+use Rattle.dexspec.proofs.lists.Members.{and_first, and_second, and_both}
 use Rattle.dexval.specs.Numbered.{NumberedSet, IsKnownSet, set_in, field_at, method_at}
 use Rattle.dexval.specs.Nesting.{AreFilePools}
 use Rattle.dexval.specs.Items.{NoSetAt, HasOffsets}

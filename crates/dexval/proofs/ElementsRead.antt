@@ -9,11 +9,11 @@ use Rattle.dexspec.specs.Texts.{Text, text_cmp}
 use Rattle.dexspec.specs.Rows.{StringRow, TypeRow}
 use Rattle.dexspec.specs.Values.{Value, Elements, NoElements, ThenElement, ValueAt, ElementsAt, value_depth, elements_depth, names_of}
 use Rattle.dexspec.specs.Mentions.{Mentions}
-use Rattle.dexspec.proofs.Members.{and_first, and_second, and_both}
-use Rattle.dexspec.proofs.OneNumber.{one_uleb128}
-use Rattle.dexspec.proofs.OneRow.{one_string}
-use Rattle.dexspec.proofs.OneValue.{one_value}
-use Rattle.dexspec.proofs.SymbolOrders.{text_total}
+use Rattle.dexspec.proofs.lists.Members.{and_first, and_second, and_both}
+use Rattle.dexspec.proofs.determined.OneNumber.{one_uleb128}
+use Rattle.dexspec.proofs.determined.OneRow.{one_string}
+use Rattle.dexspec.proofs.determined.OneValue.{one_value}
+use Rattle.dexspec.proofs.merge.SymbolOrders.{text_total}
 use Rattle.dexpool.proofs.NumberOrder.{places_agree}
 use Rattle.dexval.specs.Numbered.{NumberedValue, NumberedElements, HaveKnown, IsKnown, elements_in, value_in, elements_of_list, text_at, type_at}
 use Rattle.dexval.specs.Nesting.{AreFilePools, NoElementAt, IsElementReadAt, NoElementsAt, AreElementsReadAt, NoAnnotationAt, IsAnnotationReadAt}

@@ -10,8 +10,8 @@ use Rattle.dexspec.specs.Symbols.{Field, Method}
 use Rattle.dexspec.specs.Annotations.{AnnotationSet, SetAt, RefListAt, fields_count, methods_count, parameters_count}
 use Rattle.dexspec.specs.Mentions.{Mentions}
 use Rattle.dexspec.specs.Weight.{set_weight, ref_list_weight}
-use Rattle.dexspec.proofs.FormedRows.{length-uints_at, length-zip}
-use Rattle.dexspec.proofs.SizeSums.{sum_by-map}
+use Rattle.dexspec.proofs.wellformed.FormedRows.{length-uints_at, length-zip}
+use Rattle.dexspec.proofs.size.SizeSums.{sum_by-map}
 use Rattle.dexval.specs.Numbered.{NumberedSet, NumberedDirectory, IsKnownSet, set_in, directory_in, field_at, method_at}
 use Rattle.dexval.specs.Nesting.{AreFilePools}
 use Rattle.dexval.specs.Directories.{IsSetOrEmptyAt, ArePairsAt, HasMembers, directory_weight, set_weight_in, sets_weight_in, IsKept}

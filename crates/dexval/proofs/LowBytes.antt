@@ -15,8 +15,8 @@ use Rattle.dexspec.specs.Bytes.{bytes_of}
 use Rattle.dexspec.specs.Numbers.{magnitude}
 use Rattle.dexspec.specs.Values.{value_byte}
 use Rattle.dexspec.specs.Spellings.{unsigned_width, signed_width, bits_width, complement, signed_bytes, bits_bytes}
-use Rattle.dexspec.proofs.ByteNumbers.{pow_256, pow_256_pos}
-use Rattle.dexspec.proofs.Widths.{signed_width_is, bits_width_is}
+use Rattle.dexspec.proofs.numbers.ByteNumbers.{pow_256, pow_256_pos}
+use Rattle.dexspec.proofs.numbers.Widths.{signed_width_is, bits_width_is}
 
 -- the lowest bytes of a number, as `byteorder` writes them
 low_first : (i n v : ℕ) → bytes_low_first i n v ≡ bytes_of n (v / 256 ^ i)

@@ -9,9 +9,9 @@ use Rattle.std.specs.List.{flat_map}
 use Rattle.dexspec.specs.Bytes.{uint, round_up}
 use Rattle.dexspec.specs.Numbers.{uleb128}
 use Rattle.dexspec.specs.Placing.{offsets_from, end_from}
-use Rattle.dexspec.proofs.Places.{length-offsets_from}
-use Rattle.dexspec.proofs.Spellings.{uleb128_bounds}
-use Rattle.dexspec.proofs.SizeItems.{offsets_bytes-size}
+use Rattle.dexspec.proofs.layout.Places.{length-offsets_from}
+use Rattle.dexspec.proofs.numbers.Spellings.{uleb128_bounds}
+use Rattle.dexspec.proofs.size.SizeItems.{offsets_bytes-size}
 use Rattle.dexspec.specs.Annotations.{AnnotationSet}
 use Rattle.dexspec.specs.Mentions.{Mentions}
 use Rattle.dexspec.specs.Spellings.{annotation_bytes, offsets_bytes}

@@ -8,7 +8,7 @@ use Rattle.dexspec.specs.Header.{data_off}
 use Rattle.dexspec.specs.Values.{most_depth}
 use Rattle.dexspec.specs.Annotations.{AnnotationAt}
 use Rattle.dexspec.specs.Mentions.{Mentions}
-use Rattle.dexspec.proofs.FormedRows.{length-uints_at, length-zip}
+use Rattle.dexspec.proofs.wellformed.FormedRows.{length-uints_at, length-zip}
 use Rattle.dexval.specs.Checking.{HasAnnotation, HasItem, HasSetOf}
 use Rattle.dexval.specs.Items.{NoItemAt, NoSetAt, HasOffsets}
 use Rattle.dexval.specs.Nesting.{AreFilePools}

@@ -14,10 +14,10 @@ use Rattle.dexspec.specs.Rows.{TypeRow}
 use Rattle.dexspec.specs.Values.{most_depth}
 use Rattle.dexspec.specs.Annotations.{Annotation, AnnotationSet, AnnotationAt, SetAt}
 use Rattle.dexspec.specs.Mentions.{Mentions}
-use Rattle.dexspec.proofs.Members.{and_first, and_second, and_both}
-use Rattle.dexspec.proofs.OneClass.{one_annotation_item}
-use Rattle.dexspec.proofs.OneRow.{one_type}
-use Rattle.dexspec.proofs.SymbolOrders.{text_total}
+use Rattle.dexspec.proofs.lists.Members.{and_first, and_second, and_both}
+use Rattle.dexspec.proofs.determined.OneClass.{one_annotation_item}
+use Rattle.dexspec.proofs.determined.OneRow.{one_type}
+use Rattle.dexspec.proofs.merge.SymbolOrders.{text_total}
 use Rattle.dexpool.proofs.NumberOrder.{places_agree}
 use Rattle.dexval.specs.Numbered.{NumberedAnnotation, NumberedElements, IsKnownSet, IsKnownAnnotation, annotation_in, set_in, type_at}
 use Rattle.dexval.specs.Nesting.{AreFilePools, NoAnnotationAt, IsAnnotationReadAt}

@@ -6,7 +6,7 @@ use Rattle.dexspec.specs.Bytes.{number_of, Stands}
 use Rattle.dexspec.specs.Texts.{Text}
 use Rattle.dexspec.specs.Values.{Value, ByteValue, ShortValue, CharValue, IntValue, LongValue, FloatValue, DoubleValue, StringValue, TypeValue, FieldValue, MethodValue, EnumValue, ArrayValue, AnnotationValue, NullValue, BooleanValue, Values, Elements, byte_value_type, short_value_type, char_value_type, int_value_type, long_value_type, float_value_type, double_value_type, string_value_type, type_value_type, field_value_type, method_value_type, enum_value_type, value_byte, SizedAt, ValueAt}
 use Rattle.dexspec.specs.Mentions.{Mentions}
-use Rattle.dexspec.proofs.Stands.{same_first, same_standing, stands_within}
+use Rattle.dexspec.proofs.written.Stands.{same_first, same_standing, stands_within}
 use Rattle.dexpool.specs.declared.symbols.SymbolKind.{SymbolKind}
 use Rattle.dexpool.specs.declared.symbols.SymbolKind.TheVariants as kinds
 use Rattle.dexpool.specs.Pools.{ArePools, count_of}

@@ -9,7 +9,7 @@ use Rattle.std.proofs.lemmas.Int.{ints}
 use Rattle.std.proofs.lemmas.Bool.{cases_lt, lt-ltb, le-ltb}
 use Rattle.dexspec.specs.Bytes.{number_of, signed_in}
 use Rattle.dexspec.specs.Numbers.{magnitude}
-use Rattle.dexspec.proofs.ByteNumbers.{pow_256, pow_256_pos, number_bound, signed_in_room}
+use Rattle.dexspec.proofs.numbers.ByteNumbers.{pow_256, pow_256_pos, number_bound, signed_in_room}
 use Rattle.byteorder.specs.Endian.{little_number, twos_complement}
 use Rattle.byteorder.specs.Numbers.{little_from-cons}
 

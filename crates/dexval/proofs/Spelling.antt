@@ -12,9 +12,9 @@ use Rattle.dexspec.specs.Annotations.{Annotation}
 use Rattle.dexspec.specs.Mentions.{Mentions}
 use Rattle.dexspec.specs.Spellings.{text_index, type_index, field_index, method_index, unsigned_bytes, value_bytes, values_bytes, elements_bytes, encoded_array_bytes, annotation_bytes}
 use Rattle.dexspec.specs.Aside.Writing.{Puts}
-use Rattle.dexspec.proofs.InOrder.{Rises-from_rises, rank-get_or}
-use Rattle.dexspec.proofs.SymbolOrders.{text_total, field_total, method_total}
-use Rattle.dexspec.proofs.SizeItems.{uleb128-size, value_bytes-size}
+use Rattle.dexspec.proofs.lists.InOrder.{Rises-from_rises, rank-get_or}
+use Rattle.dexspec.proofs.merge.SymbolOrders.{text_total, field_total, method_total}
+use Rattle.dexspec.proofs.size.SizeItems.{uleb128-size, value_bytes-size}
 use Rattle.dexpool.specs.Pools.{count_of}
 use Rattle.dexpool.specs.Numberings.{AreRising}
 use Rattle.dexval.specs.Numbered.{Literal, ByteLiteral, ShortLiteral, CharLiteral, IntLiteral, LongLiteral, FloatLiteral, DoubleLiteral, NullLiteral, BooleanLiteral, Reference, StringReference, TypeReference, FieldReference, MethodReference, EnumReference, NumberedValue, NumberedValues, NumberedElements, NumberedAnnotation, Plain, Named, Array, Annotated, NoValue, ThenNext, NoElement, ThenNamed, text_at, type_at, field_at, method_at, plain_value, named_value, value_in, values_in, elements_in, annotation_in, kind_of_reference, IsKnown, AreKnown, HaveKnown, IsKnownAnnotation, StandsFor, StandFor, StandsForAnnotation}

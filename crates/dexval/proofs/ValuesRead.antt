@@ -5,8 +5,8 @@ use Rattle.std.proofs.lemmas.List.{length-append}
 use Rattle.dexspec.specs.Numbers.{Uleb128At}
 use Rattle.dexspec.specs.Values.{Value, Values, NoValues, ThenValue, ValueAt, ValuesAt, value_depth, values_depth, count_values}
 use Rattle.dexspec.specs.Mentions.{Mentions}
-use Rattle.dexspec.proofs.OneNumber.{one_uleb128}
-use Rattle.dexspec.proofs.OneValue.{one_value}
+use Rattle.dexspec.proofs.determined.OneNumber.{one_uleb128}
+use Rattle.dexspec.proofs.determined.OneValue.{one_value}
 use Rattle.dexval.specs.Numbered.{NumberedValue, AreKnown, IsKnown, values_in, value_in, values_of_list}
 use Rattle.dexval.specs.Scalars.{NoValueAt, IsReadAt}
 use Rattle.dexval.specs.Nesting.{NoArrayAt, AreReadAt}

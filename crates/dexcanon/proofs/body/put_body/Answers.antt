@@ -2,7 +2,7 @@ use Rattle.std.proofs.Common.{sym, ap}
 use Rattle.std.specs.List.{flat_map}
 use Rattle.dexspec.specs.Placing.{section_bytes}
 use Rattle.dexspec.specs.Canonical.{Layout}
-use Rattle.dexspec.proofs.Placements.{layout_is}
+use Rattle.dexspec.proofs.layout.Placements.{layout_is}
 use Rattle.dexlayout.specs.Laid.{ordered_of}
 use Rattle.dexcanon.proofs.Written.{adds_as, adds_more}
 use Rattle.dexcanon.proofs.body.put_body.Goals as goal

@@ -3,7 +3,7 @@ use Rattle.std.specs.List.{flat_map, concat}
 use Rattle.std.proofs.lemmas.List.{drop_all, get_or_default}
 use Rattle.dexspec.specs.Lists.{zip_with}
 use Rattle.dexspec.specs.Canonical.{layout, proto_row_bytes, type_list_offsets}
-use Rattle.dexspec.proofs.Placements.{length-type_list_offsets, length-zip}
+use Rattle.dexspec.proofs.layout.Placements.{length-type_list_offsets, length-zip}
 use Rattle.dexlayout.specs.Places.{ItemPlaces, TypeListPlaces}
 use Rattle.dexlayout.specs.Laid.{ordered_of}
 use Rattle.dexcanon.proofs.ItemLengths.{length_numbers}

@@ -3,7 +3,7 @@ use Rattle.std.specs.Prelude.{slice_index_or}
 use Rattle.std.specs.List.{flat_map}
 use Rattle.std.proofs.lemmas.List.{drop_all, get_or_default}
 use Rattle.dexspec.specs.Bytes.{uint}
-use Rattle.dexspec.proofs.ByteNumbers.{length-uint}
+use Rattle.dexspec.proofs.numbers.ByteNumbers.{length-uint}
 use Rattle.dexlayout.specs.Places.{ItemPlaces}
 use Rattle.dexcanon.proofs.Written.{written_all, written_more, written_none, adds_as}
 use Rattle.dexcanon.proofs.Rows.{rows_next}

@@ -2,7 +2,7 @@ use Rattle.std.proofs.Common.{[], ◌<◌, ◌+◌, length, arith, drop}
 use Rattle.std.specs.List.{flat_map}
 use Rattle.std.proofs.lemmas.List.{drop_all}
 use Rattle.std.proofs.Common.{ap}
-use Rattle.dexspec.proofs.ByteNumbers.{length-uint}
+use Rattle.dexspec.proofs.numbers.ByteNumbers.{length-uint}
 use Rattle.dexcanon.proofs.Written.{written_all, written_more, written_none}
 use Rattle.dexcanon.proofs.SymbolRows.{type_row, next_type}
 use Rattle.dexcanon.proofs.WholeBody.{texts_few}

@@ -5,7 +5,7 @@ use Rattle.indexmap.specs.IndexSet.{insert_key}
 use Rattle.dexcode.specs.Numbered.{same_handler, no_handler}
 use Rattle.dexcode.specs.Equality.{handler_decides}
 use Rattle.dexcode.specs.Reading.{HandlerAt}
-use Rattle.dexspec.proofs.Distinct.{insert_grows}
+use Rattle.dexspec.proofs.lists.Distinct.{insert_grows}
 use Rattle.dexcode.proofs.HandlersRead.{fault_so}
 use Rattle.dexcode.proofs.Named.{insert_there, known_more}
 use Rattle.dexcode.proofs.OneHandler.{one_handler}

@@ -2,7 +2,7 @@ use Rattle.std.proofs.Common.{◌≡◌, ◌+◌, ◌/◌, length, ap, sym, subs
 use Rattle.std.proofs.lemmas.Result.{err_from_is_err_and}
 use Rattle.dexspec.specs.Bytes.{ushort_at}
 use Rattle.dexspec.specs.Code.{RegistersAt}
-use Rattle.dexspec.proofs.FormedRows.{length-ushorts_at}
+use Rattle.dexspec.proofs.wellformed.FormedRows.{length-ushorts_at}
 use Rattle.dexinsn.specs.Units.{units_in}
 use Rattle.dexinsn.specs.Reading.{AreStartsAt}
 use Rattle.dexinsn.proofs.FaultsRead.{pieces_fault}

@@ -1,7 +1,7 @@
 use Rattle.std.proofs.Common.{◌≡◌, ◌++◌, length, ap, sym, ◌∙◌, arith}
 use Rattle.std.specs.List.{flat_map}
 use Rattle.dexspec.specs.Bytes.{ushort}
-use Rattle.dexspec.proofs.ByteNumbers.{length-ushort, length-uint}
+use Rattle.dexspec.proofs.numbers.ByteNumbers.{length-ushort, length-uint}
 use Rattle.dexinsn.specs.Stored.{index_units}
 use Rattle.dexinsn.proofs.PutUnits.{halves}
 use Rattle.dexinsn.proofs.put.push_number.Goals as goal

@@ -1,5 +1,5 @@
 use Rattle.std.proofs.Common.{inl, inr}
-use Rattle.dexspec.proofs.FirstCauses.{cycle_or_acyclic}
+use Rattle.dexspec.proofs.merge.FirstCauses.{cycle_or_acyclic}
 use Rattle.dexlaws.proofs.causes.acyclic_or_cycle.Goals as goal
 
 pub returns-clause-decided : goal.returns-clause-decided

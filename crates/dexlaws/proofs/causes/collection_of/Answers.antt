@@ -1,9 +1,9 @@
 use Rattle.dexspec.specs.Texts.{text_cmp}
 use Rattle.dexspec.specs.Files.{definitions}
-use Rattle.dexspec.proofs.SymbolOrders.{text_total}
-use Rattle.dexspec.proofs.InOrder.{rises-from_Rises, AreDistinct-from_Rises}
-use Rattle.dexspec.proofs.Depths.{names_in}
-use Rattle.dexspec.proofs.Collections.{collection-is, collection-one, collection-consistent, names-rise, definitions-are, definitions-same, definitions-distinct, definitions-weigh_most}
+use Rattle.dexspec.proofs.merge.SymbolOrders.{text_total}
+use Rattle.dexspec.proofs.lists.InOrder.{rises-from_Rises, AreDistinct-from_Rises}
+use Rattle.dexspec.proofs.merge.Depths.{names_in}
+use Rattle.dexspec.proofs.merge.Collections.{collection-is, collection-one, collection-consistent, names-rise, definitions-are, definitions-same, definitions-distinct, definitions-weigh_most}
 use Rattle.dexlaws.proofs.causes.collection_of.Goals as goal
 
 pub returns-clause-is : goal.returns-clause-is

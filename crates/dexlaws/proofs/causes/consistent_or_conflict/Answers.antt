@@ -1,6 +1,6 @@
 use Rattle.std.proofs.Common.{inl, inr}
-use Rattle.dexspec.proofs.Conflicts.{consistent-apart}
-use Rattle.dexspec.proofs.FirstCauses.{conflict_or_consistent}
+use Rattle.dexspec.proofs.merge.Conflicts.{consistent-apart}
+use Rattle.dexspec.proofs.merge.FirstCauses.{conflict_or_consistent}
 use Rattle.dexlaws.proofs.causes.consistent_or_conflict.Goals as goal
 
 pub returns-clause-decided : goal.returns-clause-decided

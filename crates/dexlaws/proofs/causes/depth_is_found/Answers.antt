@@ -1,4 +1,4 @@
-use Rattle.dexspec.proofs.Depths.{is_below-all, depth-is, depth-less, HasDepth-parent, depth-parent, depth-same}
+use Rattle.dexspec.proofs.merge.Depths.{is_below-all, depth-is, depth-less, HasDepth-parent, depth-parent, depth-same}
 use Rattle.dexlaws.proofs.Deepest.{depth_is_one_more}
 use Rattle.dexlaws.proofs.causes.depth_is_found.Goals as goal
 

@@ -1,6 +1,6 @@
 use Rattle.std.proofs.Common.{inl, inr}
-use Rattle.dexspec.proofs.Absorption.{IsGood-apart}
-use Rattle.dexspec.proofs.FirstCauses.{cause_or_not, first_cause_or_good, first_cause-one, first_cause-same}
+use Rattle.dexspec.proofs.merge.Absorption.{IsGood-apart}
+use Rattle.dexspec.proofs.merge.FirstCauses.{cause_or_not, first_cause_or_good, first_cause-one, first_cause-same}
 use Rattle.dexlaws.proofs.causes.good_or_first_cause.Goals as goal
 
 pub returns-clause-decided : goal.returns-clause-decided

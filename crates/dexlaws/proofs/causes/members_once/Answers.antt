@@ -1,6 +1,6 @@
-use Rattle.dexspec.proofs.Decided.{definition_same_or_not}
-use Rattle.dexspec.proofs.Searches.{once_of}
-use Rattle.dexspec.proofs.Exceeding.{weight-once}
+use Rattle.dexspec.proofs.lists.Decided.{definition_same_or_not}
+use Rattle.dexspec.proofs.lists.Searches.{once_of}
+use Rattle.dexspec.proofs.merge.Exceeding.{weight-once}
 use Rattle.dexlaws.proofs.causes.members_once.Goals as goal
 
 pub returns : goal.returns

@@ -2,8 +2,8 @@ use Rattle.dexspec.specs.Header.{StringIds, TypeIds, ProtoIds, FieldIds, MethodI
 use Rattle.dexspec.specs.Files.{Collection, definitions}
 use Rattle.dexspec.specs.Mentions.{mentions}
 use Rattle.dexspec.specs.Canonical.{ordered}
-use Rattle.dexspec.proofs.HeaderLaws.{AreFew}
-use Rattle.dexspec.proofs.Frames.{canonical_frame, fitting_frame}
+use Rattle.dexspec.proofs.layout.HeaderLaws.{AreFew}
+use Rattle.dexspec.proofs.layout.Frames.{canonical_frame, fitting_frame}
 use Rattle.dexlaws.specs.Frame.{HasFewSymbols}
 use Rattle.dexlaws.proofs.frame.frame_law.Goals as goal
 

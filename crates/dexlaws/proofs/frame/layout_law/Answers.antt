@@ -8,9 +8,9 @@ use Rattle.dexspec.specs.Header.{ProtoIds, ClassDefs, StringIds}
 use Rattle.dexspec.specs.Rows.{row_at}
 use Rattle.dexspec.specs.Placing.{Ordered}
 use Rattle.dexspec.specs.Canonical.{Layout, layout, map_of, map_bytes, proto_row_bytes, class_row_bytes, data_sections, directory_end, type_list_offsets}
-use Rattle.dexspec.proofs.Places.{round_up_four}
-use Rattle.dexspec.proofs.Placements.{named_layout, named_layout_full, layout_is}
-use Rattle.dexspec.proofs.Laying.{Laid, laid, SectionStands, class_places, class_at, map_place, map_place_is, map_list_named}
+use Rattle.dexspec.proofs.layout.Places.{round_up_four}
+use Rattle.dexspec.proofs.layout.Placements.{named_layout, named_layout_full, layout_is}
+use Rattle.dexspec.proofs.layout.Laying.{Laid, laid, SectionStands, class_places, class_at, map_place, map_place_is, map_list_named}
 use Rattle.dexlaws.specs.Frame.{HasFields, HasRows, HasItems, StandsAligned}
 use Rattle.dexlaws.proofs.frame.layout_law.Goals as goal
 

@@ -1,8 +1,8 @@
 use Rattle.std.proofs.Common.{◌<◌, ◌^◌, ℕ, List}
 use Rattle.std.specs.Prelude.{All}
 use Rattle.dexspec.specs.Sections.{Section}
-use Rattle.dexspec.proofs.MapEntries.{IsSmall}
-use Rattle.dexspec.proofs.PlainHeaders.{map_stands}
+use Rattle.dexspec.proofs.layout.MapEntries.{IsSmall}
+use Rattle.dexspec.proofs.layout.PlainHeaders.{map_stands}
 use Rattle.dexlaws.proofs.frame.map_law.Goals as goal
 
 -- numbers that fit four bytes, entry by entry

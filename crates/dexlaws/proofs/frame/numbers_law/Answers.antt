@@ -1,4 +1,4 @@
-use Rattle.dexspec.proofs.ByteNumbers.{ushort_at-stands, uint_at-stands}
+use Rattle.dexspec.proofs.numbers.ByteNumbers.{ushort_at-stands, uint_at-stands}
 use Rattle.dexlaws.proofs.frame.numbers_law.Goals as goal
 
 pub returns-clause-two : goal.returns-clause-two

@@ -4,12 +4,12 @@ use Rattle.dexspec.specs.Rows.{SymbolRow}
 use Rattle.dexspec.specs.Files.{definitions}
 use Rattle.dexspec.specs.Spellings.{symbol_index}
 use Rattle.dexspec.specs.Placing.{Ordered}
-use Rattle.dexspec.proofs.Laying.{Laid}
-use Rattle.dexspec.proofs.HeaderLaws.{AreFew}
-use Rattle.dexspec.proofs.Frames.{fits_few, fitting_laid}
-use Rattle.dexspec.proofs.PoolsStand.{ArePools, text_row, type_row, proto_row, field_row, method_row}
-use Rattle.dexspec.proofs.PoolsFormed.{mentions_pools}
-use Rattle.dexspec.proofs.FileRows.{canonical_rows}
+use Rattle.dexspec.proofs.layout.Laying.{Laid}
+use Rattle.dexspec.proofs.layout.HeaderLaws.{AreFew}
+use Rattle.dexspec.proofs.layout.Frames.{fits_few, fitting_laid}
+use Rattle.dexspec.proofs.layout.PoolsStand.{ArePools, text_row, type_row, proto_row, field_row, method_row}
+use Rattle.dexspec.proofs.layout.PoolsFormed.{mentions_pools}
+use Rattle.dexspec.proofs.layout.FileRows.{canonical_rows}
 use Rattle.dexlaws.specs.Frame.{IsMentioned}
 use Rattle.dexlaws.proofs.frame.pools_law.Goals as goal
 

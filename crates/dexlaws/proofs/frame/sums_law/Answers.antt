@@ -1,4 +1,4 @@
-use Rattle.dexspec.proofs.Sums.{with_sums_magic, with_sums_version, with_sums_checksum, with_sums_signature}
+use Rattle.dexspec.proofs.layout.Sums.{with_sums_magic, with_sums_version, with_sums_checksum, with_sums_signature}
 use Rattle.dexlaws.proofs.frame.sums_law.Goals as goal
 
 pub returns-clause-magic : goal.returns-clause-magic

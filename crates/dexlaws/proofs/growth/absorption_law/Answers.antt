@@ -1,4 +1,4 @@
-use Rattle.dexspec.proofs.Absorption.{IsGood-within, IsCause-within}
+use Rattle.dexspec.proofs.merge.Absorption.{IsGood-within, IsCause-within}
 use Rattle.dexlaws.proofs.growth.absorption_law.Goals as goal
 
 pub returns : goal.returns

@@ -1,4 +1,4 @@
-use Rattle.dexspec.proofs.Absorption.{IsGood-apart}
+use Rattle.dexspec.proofs.merge.Absorption.{IsGood-apart}
 use Rattle.dexlaws.proofs.growth.cause_law.Goals as goal
 
 pub returns : goal.returns

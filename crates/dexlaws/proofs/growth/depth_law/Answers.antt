@@ -1,4 +1,4 @@
-use Rattle.dexspec.proofs.DepthGrowth.{is_defined-within, above-within, is_below-within, HasDepth-within, IsAcyclic-within}
+use Rattle.dexspec.proofs.merge.DepthGrowth.{is_defined-within, above-within, is_below-within, HasDepth-within, IsAcyclic-within}
 use Rattle.dexlaws.proofs.growth.depth_law.Goals as goal
 
 pub returns : goal.returns

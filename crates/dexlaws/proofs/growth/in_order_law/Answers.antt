@@ -3,8 +3,8 @@ use Rattle.std.specs.Cmp.{IsTotalOrder}
 use Rattle.std.specs.FinMap.{IsAntisymmetric}
 use Rattle.dexspec.specs.Texts.{text_cmp}
 use Rattle.dexspec.specs.Symbols.{proto_cmp, field_cmp, method_cmp}
-use Rattle.dexspec.proofs.SymbolOrders.{text_total, text_exact, proto_total, proto_exact, field_total, field_exact, method_total, method_exact}
-use Rattle.dexspec.proofs.InOrder.{rises-in_order, in_order-has, in_order-only, in_order-same}
+use Rattle.dexspec.proofs.merge.SymbolOrders.{text_total, text_exact, proto_total, proto_exact, field_total, field_exact, method_total, method_exact}
+use Rattle.dexspec.proofs.lists.InOrder.{rises-in_order, in_order-has, in_order-only, in_order-same}
 use Rattle.dexlaws.specs.Growth.{PutsInOrder}
 use Rattle.dexlaws.proofs.growth.in_order_law.Goals as goal
 

@@ -3,10 +3,10 @@ use Rattle.std.specs.Cmp.{IsTotalOrder}
 use Rattle.dexspec.specs.Texts.{text_cmp}
 use Rattle.dexspec.specs.Symbols.{proto_cmp, field_cmp, method_cmp}
 use Rattle.dexspec.specs.Mentions.{mentions}
-use Rattle.dexspec.proofs.Members.{AreAmong, length-among}
-use Rattle.dexspec.proofs.SymbolOrders.{text_total, proto_total, field_total, method_total}
-use Rattle.dexspec.proofs.InOrder.{Rises, rises-from_Rises, AreDistinct-from_Rises, rank-among}
-use Rattle.dexspec.proofs.Growth.{mentions-rising, mentions-among, mentions-same}
+use Rattle.dexspec.proofs.lists.Members.{AreAmong, length-among}
+use Rattle.dexspec.proofs.merge.SymbolOrders.{text_total, proto_total, field_total, method_total}
+use Rattle.dexspec.proofs.lists.InOrder.{Rises, rises-from_Rises, AreDistinct-from_Rises, rank-among}
+use Rattle.dexspec.proofs.merge.Growth.{mentions-rising, mentions-among, mentions-same}
 use Rattle.dexlaws.specs.Growth.{IsPartOf}
 use Rattle.dexlaws.proofs.growth.mentions_law.Goals as goal
 

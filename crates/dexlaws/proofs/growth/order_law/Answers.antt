@@ -1,4 +1,4 @@
-use Rattle.dexspec.proofs.SymbolOrders.{text_total, text_exact, proto_total, proto_exact, field_total, field_exact, method_total, method_exact}
+use Rattle.dexspec.proofs.merge.SymbolOrders.{text_total, text_exact, proto_total, proto_exact, field_total, field_exact, method_total, method_exact}
 use Rattle.dexlaws.proofs.growth.order_law.Goals as goal
 
 pub returns-clause-texts : goal.returns-clause-texts

@@ -2,7 +2,7 @@ use Rattle.std.proofs.Common.{List}
 use Rattle.dexspec.specs.Symbols.{Symbol}
 use Rattle.dexspec.specs.Classes.{Definition}
 use Rattle.dexspec.specs.Mentions.{texts_in, types_in, protos_in, fields_in, methods_in}
-use Rattle.dexspec.proofs.MentionMembers as members
+use Rattle.dexspec.proofs.merge.MentionMembers as members
 use Rattle.dexlaws.specs.Growth.{Occurs}
 use Rattle.dexlaws.proofs.growth.parts_law.Goals as goal
 

@@ -2,8 +2,8 @@ use Rattle.std.proofs.Common.{Ordering}
 use Rattle.std.specs.Cmp.{IsTotalOrder}
 use Rattle.dexspec.specs.Texts.{text_cmp}
 use Rattle.dexspec.specs.Symbols.{proto_cmp, field_cmp, method_cmp}
-use Rattle.dexspec.proofs.SymbolOrders.{text_total, proto_total, field_total, method_total}
-use Rattle.dexspec.proofs.InOrder.{Rises-from_rises, rank-get_or, rank-place}
+use Rattle.dexspec.proofs.merge.SymbolOrders.{text_total, proto_total, field_total, method_total}
+use Rattle.dexspec.proofs.lists.InOrder.{Rises-from_rises, rank-get_or, rank-place}
 use Rattle.dexlaws.specs.Growth.{RanksArePlaces}
 use Rattle.dexlaws.proofs.growth.rank_law.Goals as goal
 

@@ -1,4 +1,4 @@
-use Rattle.dexspec.proofs.WeightGrowth.{weight-within, weight-same}
+use Rattle.dexspec.proofs.merge.WeightGrowth.{weight-within, weight-same}
 use Rattle.dexlaws.proofs.growth.weight_law.Goals as goal
 
 pub returns-clause-same : goal.returns-clause-same

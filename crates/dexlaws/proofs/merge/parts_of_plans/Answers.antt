@@ -1,5 +1,5 @@
 use Rattle.dexspec.specs.Merging.{union}
-use Rattle.dexspec.proofs.Absorption.{IsGood-within, IsCause-within}
+use Rattle.dexspec.proofs.merge.Absorption.{IsGood-within, IsCause-within}
 use Rattle.dexlaws.proofs.SameUnions.{union-within}
 use Rattle.dexlaws.proofs.merge.parts_of_plans.Goals as goal
 

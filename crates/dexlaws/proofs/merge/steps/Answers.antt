@@ -2,7 +2,7 @@ use Rattle.std.proofs.Common.{◌++◌, ap}
 use Rattle.std.proofs.lemmas.List.Elements.{Contains-append_left}
 use Rattle.dexspec.specs.Files.{definitions}
 use Rattle.dexspec.specs.Canonical.{canonical}
-use Rattle.dexspec.proofs.Absorption.{IsCause-within}
+use Rattle.dexspec.proofs.merge.Absorption.{IsCause-within}
 use Rattle.dexlaws.proofs.SameUnions.{same_answer, one_collection, step-same}
 use Rattle.dexlaws.proofs.merge.steps.Goals as goal
 

@@ -3,9 +3,9 @@ use Rattle.dexspec.specs.Classes.{Definition, ClassRow}
 use Rattle.dexspec.specs.Files.{definitions}
 use Rattle.dexspec.specs.Conditions.{Condition}
 use Rattle.dexspec.specs.Canonical.{canonical}
-use Rattle.dexspec.proofs.NormalClasses.{has_class}
-use Rattle.dexspec.proofs.NormalForm.{some_class, class_row_is, only_class, canonical_all_normal}
-use Rattle.dexspec.proofs.RowsReadable.{items_right, whole_normal_form}
+use Rattle.dexspec.proofs.normal.NormalClasses.{has_class}
+use Rattle.dexspec.proofs.normal.NormalForm.{some_class, class_row_is, only_class, canonical_all_normal}
+use Rattle.dexspec.proofs.normal.RowsReadable.{items_right, whole_normal_form}
 use Rattle.dexlaws.proofs.normal.classes_stand.Goals as goal
 
 pub returns-clause-holds : goal.returns-clause-holds

@@ -2,8 +2,8 @@ use Rattle.std.proofs.Common.{subst}
 use Rattle.dexspec.specs.Rows.{FieldRow}
 use Rattle.dexspec.specs.Files.{definitions}
 use Rattle.dexspec.specs.Canonical.{canonical}
-use Rattle.dexspec.proofs.NormalRows.{field_stands, field_ranked, only_field, has_field}
-use Rattle.dexspec.proofs.NormalForm.{canonical_normal}
+use Rattle.dexspec.proofs.normal.NormalRows.{field_stands, field_ranked, only_field, has_field}
+use Rattle.dexspec.proofs.normal.NormalForm.{canonical_normal}
 use Rattle.dexlaws.proofs.normal.fields_stand.Goals as goal
 
 pub returns-clause-rows : goal.returns-clause-rows

@@ -1,10 +1,10 @@
 use Rattle.std.proofs.Common.{ap, sym, subst}
 use Rattle.dexspec.specs.Files.{Denotes}
 use Rattle.dexspec.specs.Canonical.{canonical}
-use Rattle.dexspec.proofs.OneCollection.{one_collection}
-use Rattle.dexspec.proofs.ShortStrings.{denoted_good}
-use Rattle.dexspec.proofs.FormedCode.{denoted_well_formed}
-use Rattle.dexspec.proofs.RowsReadable.{whole_normal_form}
+use Rattle.dexspec.proofs.determined.OneCollection.{one_collection}
+use Rattle.dexspec.proofs.wellformed.ShortStrings.{denoted_good}
+use Rattle.dexspec.proofs.wellformed.FormedCode.{denoted_well_formed}
+use Rattle.dexspec.proofs.normal.RowsReadable.{whole_normal_form}
 use Rattle.dexlaws.proofs.normal.files_normal_form.Goals as goal
 
 pub returns-clause-accepted : goal.returns-clause-accepted

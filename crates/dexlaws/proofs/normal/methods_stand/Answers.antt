@@ -2,8 +2,8 @@ use Rattle.std.proofs.Common.{subst}
 use Rattle.dexspec.specs.Rows.{MethodRow}
 use Rattle.dexspec.specs.Files.{definitions}
 use Rattle.dexspec.specs.Canonical.{canonical}
-use Rattle.dexspec.proofs.NormalRows.{method_stands, method_ranked, only_method, has_method}
-use Rattle.dexspec.proofs.NormalForm.{canonical_normal}
+use Rattle.dexspec.proofs.normal.NormalRows.{method_stands, method_ranked, only_method, has_method}
+use Rattle.dexspec.proofs.normal.NormalForm.{canonical_normal}
 use Rattle.dexlaws.proofs.normal.methods_stand.Goals as goal
 
 pub returns-clause-rows : goal.returns-clause-rows

@@ -1,8 +1,8 @@
 use Rattle.std.proofs.Common.{sym, subst}
 use Rattle.dexspec.specs.Files.{Denotes}
 use Rattle.dexspec.specs.Canonical.{canonical}
-use Rattle.dexspec.proofs.OneCollection.{one_collection}
-use Rattle.dexspec.proofs.RowsReadable.{whole_normal_form}
+use Rattle.dexspec.proofs.determined.OneCollection.{one_collection}
+use Rattle.dexspec.proofs.normal.RowsReadable.{whole_normal_form}
 use Rattle.dexlaws.proofs.normal.normal_form.Goals as goal
 
 pub returns-clause-accepted : goal.returns-clause-accepted

@@ -2,8 +2,8 @@ use Rattle.std.proofs.Common.{subst}
 use Rattle.dexspec.specs.Rows.{ProtoRow}
 use Rattle.dexspec.specs.Files.{definitions}
 use Rattle.dexspec.specs.Canonical.{canonical}
-use Rattle.dexspec.proofs.NormalRows.{proto_stands, proto_ranked, only_proto, has_proto}
-use Rattle.dexspec.proofs.NormalForm.{canonical_normal}
+use Rattle.dexspec.proofs.normal.NormalRows.{proto_stands, proto_ranked, only_proto, has_proto}
+use Rattle.dexspec.proofs.normal.NormalForm.{canonical_normal}
 use Rattle.dexlaws.proofs.normal.protos_stand.Goals as goal
 
 pub returns-clause-rows : goal.returns-clause-rows

@@ -1,4 +1,4 @@
-use Rattle.dexspec.proofs.NormalForm.{canonical_rows_hold}
+use Rattle.dexspec.proofs.normal.NormalForm.{canonical_rows_hold}
 use Rattle.dexlaws.proofs.normal.rows_hold.Goals as goal
 
 pub returns : goal.returns

@@ -2,8 +2,8 @@ use Rattle.std.proofs.Common.{subst}
 use Rattle.dexspec.specs.Rows.{StringRow}
 use Rattle.dexspec.specs.Files.{definitions}
 use Rattle.dexspec.specs.Canonical.{canonical}
-use Rattle.dexspec.proofs.NormalRows.{string_stands, string_ranked, only_string, has_string}
-use Rattle.dexspec.proofs.NormalForm.{canonical_normal}
+use Rattle.dexspec.proofs.normal.NormalRows.{string_stands, string_ranked, only_string, has_string}
+use Rattle.dexspec.proofs.normal.NormalForm.{canonical_normal}
 use Rattle.dexlaws.proofs.normal.strings_stand.Goals as goal
 
 pub returns-clause-rows : goal.returns-clause-rows

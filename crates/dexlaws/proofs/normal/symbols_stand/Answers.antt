@@ -1,7 +1,7 @@
 use Rattle.dexspec.specs.Files.{definitions}
 use Rattle.dexspec.specs.Canonical.{canonical}
-use Rattle.dexspec.proofs.MemberRanks.{symbols_in_rows}
-use Rattle.dexspec.proofs.NormalForm.{canonical_normal}
+use Rattle.dexspec.proofs.normal.MemberRanks.{symbols_in_rows}
+use Rattle.dexspec.proofs.normal.NormalForm.{canonical_normal}
 use Rattle.dexlaws.proofs.normal.symbols_stand.Goals as goal
 
 pub returns : goal.returns

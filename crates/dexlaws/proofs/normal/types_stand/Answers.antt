@@ -2,8 +2,8 @@ use Rattle.std.proofs.Common.{subst}
 use Rattle.dexspec.specs.Rows.{TypeRow}
 use Rattle.dexspec.specs.Files.{definitions}
 use Rattle.dexspec.specs.Canonical.{canonical}
-use Rattle.dexspec.proofs.NormalRows.{type_stands, type_ranked, only_type, has_type}
-use Rattle.dexspec.proofs.NormalForm.{canonical_normal}
+use Rattle.dexspec.proofs.normal.NormalRows.{type_stands, type_ranked, only_type, has_type}
+use Rattle.dexspec.proofs.normal.NormalForm.{canonical_normal}
 use Rattle.dexlaws.proofs.normal.types_stand.Goals as goal
 
 pub returns-clause-rows : goal.returns-clause-rows

@@ -1,5 +1,5 @@
 use Rattle.std.specs.FinMap as finite
-use Rattle.dexspec.proofs.Collections.{collection-is}
+use Rattle.dexspec.proofs.merge.Collections.{collection-is}
 use Rattle.dexlaws.proofs.UnionForm.{union_form}
 use Rattle.dexlaws.proofs.normal.union_normal_form.Goals as goal
 

@@ -2,7 +2,7 @@ use Rattle.std.proofs.Common.{◌<◌, ◌^◌}
 use Rattle.std.specs.Prelude.{FitsSigned}
 use Rattle.std.specs.Int.{w32}
 use Rattle.dexspec.specs.Numbers.{sum_of_groups, signed_sum}
-use Rattle.dexspec.proofs.Spellings.{one_number, one_number_plus_one}
+use Rattle.dexspec.proofs.numbers.Spellings.{one_number, one_number_plus_one}
 use Rattle.dexlaws.proofs.numbers.one_number_begins.Goals as goal
 
 pub returns-clause-unsigned : goal.returns-clause-unsigned

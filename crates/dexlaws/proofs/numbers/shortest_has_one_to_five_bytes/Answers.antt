@@ -1,5 +1,5 @@
 use Rattle.dexspec.specs.Numbers.{plus_one}
-use Rattle.dexspec.proofs.Spellings.{uleb128_bounds, sleb128_bounds}
+use Rattle.dexspec.proofs.numbers.Spellings.{uleb128_bounds, sleb128_bounds}
 use Rattle.dexlaws.proofs.numbers.shortest_has_one_to_five_bytes.Goals as goal
 
 pub returns-clause-unsigned : goal.returns-clause-unsigned

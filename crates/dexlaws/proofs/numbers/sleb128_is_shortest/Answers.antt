@@ -1,4 +1,4 @@
-use Rattle.dexspec.proofs.Spellings.{sleb128_is}
+use Rattle.dexspec.proofs.numbers.Spellings.{sleb128_is}
 use Rattle.dexlaws.proofs.numbers.sleb128_is_shortest.Goals as goal
 
 pub returns : goal.returns

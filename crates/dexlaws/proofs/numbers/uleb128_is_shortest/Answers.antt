@@ -1,4 +1,4 @@
-use Rattle.dexspec.proofs.Spellings.{uleb128_is}
+use Rattle.dexspec.proofs.numbers.Spellings.{uleb128_is}
 use Rattle.dexlaws.proofs.numbers.uleb128_is_shortest.Goals as goal
 
 pub returns : goal.returns

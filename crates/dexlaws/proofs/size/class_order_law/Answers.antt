@@ -1,4 +1,4 @@
-use Rattle.dexspec.proofs.ClassOrder.{in_class_order-same_sum, definitions-distinct}
+use Rattle.dexspec.proofs.normal.ClassOrder.{in_class_order-same_sum, definitions-distinct}
 use Rattle.dexlaws.proofs.size.class_order_law.Goals as goal
 
 pub returns-clause-names : goal.returns-clause-names

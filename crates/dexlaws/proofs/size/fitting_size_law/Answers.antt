@@ -1,4 +1,4 @@
-use Rattle.dexspec.proofs.SizeFile.{fitting-size, canonical-has_size}
+use Rattle.dexspec.proofs.size.SizeFile.{fitting-size, canonical-has_size}
 use Rattle.dexlaws.proofs.size.fitting_size_law.Goals as goal
 
 pub returns-clause-ordered : goal.returns-clause-ordered

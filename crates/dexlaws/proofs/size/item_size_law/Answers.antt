@@ -1,6 +1,6 @@
-use Rattle.dexspec.proofs.SizeItems.{string_data-size, debug_bytes-size, value_bytes-size, values_bytes-size, elements_bytes-size, annotation_bytes-size, encoded_array_bytes-size, offsets_bytes-size, type_list-size}
-use Rattle.dexspec.proofs.SizeCode.{code_bytes-size, handler_list_bytes-size, handler_off-size}
-use Rattle.dexspec.proofs.SizeClass.{class_data_bytes-size, directory-size}
+use Rattle.dexspec.proofs.size.SizeItems.{string_data-size, debug_bytes-size, value_bytes-size, values_bytes-size, elements_bytes-size, annotation_bytes-size, encoded_array_bytes-size, offsets_bytes-size, type_list-size}
+use Rattle.dexspec.proofs.size.SizeCode.{code_bytes-size, handler_list_bytes-size, handler_off-size}
+use Rattle.dexspec.proofs.size.SizeClass.{class_data_bytes-size, directory-size}
 use Rattle.dexlaws.proofs.size.item_size_law.Goals as goal
 
 pub returns-clause-texts : goal.returns-clause-texts

@@ -1,4 +1,4 @@
-use Rattle.dexspec.proofs.SizeFile.{parts-size}
+use Rattle.dexspec.proofs.size.SizeFile.{parts-size}
 use Rattle.dexlaws.proofs.size.parts_size_law.Goals as goal
 
 pub returns : goal.returns

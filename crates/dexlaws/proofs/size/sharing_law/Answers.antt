@@ -1,4 +1,4 @@
-use Rattle.dexspec.proofs.Unshared.{ordered_no_longer, canonical_no_longer}
+use Rattle.dexspec.proofs.sharing.Unshared.{ordered_no_longer, canonical_no_longer}
 use Rattle.dexlaws.proofs.size.sharing_law.Goals as goal
 
 pub returns-clause-ordered : goal.returns-clause-ordered

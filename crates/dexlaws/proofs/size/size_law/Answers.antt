@@ -1,4 +1,4 @@
-use Rattle.dexspec.proofs.SizeFile.{ordered-size, canonical-size}
+use Rattle.dexspec.proofs.size.SizeFile.{ordered-size, canonical-size}
 use Rattle.dexlaws.proofs.size.size_law.Goals as goal
 
 pub returns-clause-ordered : goal.returns-clause-ordered

@@ -1,5 +1,5 @@
-use Rattle.dexspec.proofs.StripUnion.{strip-twice}
-use Rattle.dexspec.proofs.StripBare.{no_debug-strip, strip_body-bare}
+use Rattle.dexspec.proofs.strip.StripUnion.{strip-twice}
+use Rattle.dexspec.proofs.strip.StripBare.{no_debug-strip, strip_body-bare}
 use Rattle.dexlaws.proofs.strip.strip_bare.Goals as goal
 use Rattle.std.proofs.Common.{refl}
 

@@ -1,4 +1,4 @@
-use Rattle.dexspec.proofs.StripCollection.{definitions-strip_collection, get-strip_collection, strip_collection-is, strip_collection-of, keys-strip_collection, strip_collection-twice}
+use Rattle.dexspec.proofs.strip.StripCollection.{definitions-strip_collection, get-strip_collection, strip_collection-is, strip_collection-of, keys-strip_collection, strip_collection-twice}
 use Rattle.dexlaws.proofs.strip.strip_collection_law.Goals as goal
 
 pub returns-clause-whole : goal.returns-clause-whole

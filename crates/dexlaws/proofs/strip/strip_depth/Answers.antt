@@ -1,6 +1,6 @@
-use Rattle.dexspec.proofs.StripUnion.{is_defined-strip, above-strip, is_below-strip, depth-strip}
-use Rattle.dexspec.proofs.StripGood.{HasDepth-strip, HasDepth-strip_source, IsAcyclic-strip, IsAcyclic-strip_source, IsCycle-strip, IsCycle-strip_source}
-use Rattle.dexspec.proofs.StripOrder.{in_class_order-strip}
+use Rattle.dexspec.proofs.strip.StripUnion.{is_defined-strip, above-strip, is_below-strip, depth-strip}
+use Rattle.dexspec.proofs.strip.StripGood.{HasDepth-strip, HasDepth-strip_source, IsAcyclic-strip, IsAcyclic-strip_source, IsCycle-strip, IsCycle-strip_source}
+use Rattle.dexspec.proofs.strip.StripOrder.{in_class_order-strip}
 use Rattle.dexlaws.proofs.strip.strip_depth.Goals as goal
 
 pub returns : goal.returns

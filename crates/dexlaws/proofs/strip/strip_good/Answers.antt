@@ -1,5 +1,5 @@
-use Rattle.dexspec.proofs.StripGood.{IsConsistent-strip, IsConflict-strip, Fits-strip, IsGood-strip, IsCause-strip}
-use Rattle.dexspec.proofs.StripWellFormed.{IsWellFormed-strip, AreWellFormed-strip}
+use Rattle.dexspec.proofs.strip.StripGood.{IsConsistent-strip, IsConflict-strip, Fits-strip, IsGood-strip, IsCause-strip}
+use Rattle.dexspec.proofs.strip.StripWellFormed.{IsWellFormed-strip, AreWellFormed-strip}
 use Rattle.dexlaws.proofs.strip.strip_good.Goals as goal
 
 pub returns-clause-good : goal.returns-clause-good

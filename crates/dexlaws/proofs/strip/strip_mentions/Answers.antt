@@ -4,12 +4,12 @@ use Rattle.dexspec.specs.Texts.{text_cmp}
 use Rattle.dexspec.specs.Symbols.{proto_cmp, field_cmp, method_cmp}
 use Rattle.dexspec.specs.Mentions.{mentions}
 use Rattle.dexspec.specs.Stripping.{strip}
-use Rattle.dexspec.proofs.Members.{AreAmong, length-among}
-use Rattle.dexspec.proofs.SymbolOrders.{text_total, proto_total, field_total, method_total}
-use Rattle.dexspec.proofs.InOrder.{Rises, AreDistinct-from_Rises, rank-among}
-use Rattle.dexspec.proofs.Growth.{mentions-rising}
-use Rattle.dexspec.proofs.StripMentions.{symbols_of-strip, mentions-strip, HasShortString-strip, HasShortString-strip_source}
-use Rattle.dexspec.proofs.StripKept.{protos-kept, fields-kept, methods-kept}
+use Rattle.dexspec.proofs.lists.Members.{AreAmong, length-among}
+use Rattle.dexspec.proofs.merge.SymbolOrders.{text_total, proto_total, field_total, method_total}
+use Rattle.dexspec.proofs.lists.InOrder.{Rises, AreDistinct-from_Rises, rank-among}
+use Rattle.dexspec.proofs.merge.Growth.{mentions-rising}
+use Rattle.dexspec.proofs.strip.StripMentions.{symbols_of-strip, mentions-strip, HasShortString-strip, HasShortString-strip_source}
+use Rattle.dexspec.proofs.strip.StripKept.{protos-kept, fields-kept, methods-kept}
 use Rattle.dexlaws.specs.Growth.{IsPartOf}
 use Rattle.dexlaws.proofs.strip.strip_mentions.Goals as goal
 

@@ -1,8 +1,8 @@
 use Rattle.std.proofs.Common.{map, sym, subst}
 use Rattle.dexspec.specs.Files.{definitions}
 use Rattle.dexspec.specs.Merging.{IsGood, union}
-use Rattle.dexspec.proofs.StripGood.{IsGood-strip}
-use Rattle.dexspec.proofs.StripCollection.{union-strip_collection, merged-strip_collection, merged_one-strip_collection}
+use Rattle.dexspec.proofs.strip.StripGood.{IsGood-strip}
+use Rattle.dexspec.proofs.strip.StripCollection.{union-strip_collection, merged-strip_collection, merged_one-strip_collection}
 use Rattle.dexlaws.proofs.strip.strip_merge_law.Goals as goal
 
 pub returns : goal.returns

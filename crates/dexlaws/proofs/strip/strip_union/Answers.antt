@@ -1,9 +1,9 @@
 use Rattle.std.proofs.Common.{subst}
 use Rattle.std.specs.List.{Contains}
 use Rattle.dexspec.specs.Stripping.{strip_definition, strip}
-use Rattle.dexspec.proofs.Depths.{Contains-map}
-use Rattle.dexspec.proofs.Mapped.{Contains-map_source}
-use Rattle.dexspec.proofs.StripUnion.{strip-union, strip-append, strip-within}
+use Rattle.dexspec.proofs.merge.Depths.{Contains-map}
+use Rattle.dexspec.proofs.lists.Mapped.{Contains-map_source}
+use Rattle.dexspec.proofs.strip.StripUnion.{strip-union, strip-append, strip-within}
 use Rattle.dexlaws.proofs.strip.strip_union.Goals as goal
 
 pub returns-clause-plan : goal.returns-clause-plan

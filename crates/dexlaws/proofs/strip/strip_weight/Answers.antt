@@ -1,4 +1,4 @@
-use Rattle.dexspec.proofs.StripWeight.{body_weight-strip, weight-strip, originals-strip}
+use Rattle.dexspec.proofs.strip.StripWeight.{body_weight-strip, weight-strip, originals-strip}
 use Rattle.dexlaws.proofs.strip.strip_weight.Goals as goal
 
 pub returns-clause-bodies : goal.returns-clause-bodies

@@ -1,4 +1,4 @@
-use Rattle.dexspec.proofs.ValuesWritten.{annotation_written}
+use Rattle.dexspec.proofs.written.ValuesWritten.{annotation_written}
 use Rattle.dexlaws.proofs.written.annotation_written.Goals as goal
 
 pub returns : goal.returns

@@ -1,4 +1,4 @@
-use Rattle.dexspec.proofs.CodeWritten as code
+use Rattle.dexspec.proofs.written.CodeWritten as code
 use Rattle.dexlaws.proofs.written.code_written.Goals as goal
 
 pub returns : goal.returns

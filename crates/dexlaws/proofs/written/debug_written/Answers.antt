@@ -1,4 +1,4 @@
-use Rattle.dexspec.proofs.DebugWritten.{operation_written, debug_written}
+use Rattle.dexspec.proofs.written.DebugWritten.{operation_written, debug_written}
 use Rattle.dexlaws.proofs.written.debug_written.Goals as goal
 
 pub returns-clause-operation : goal.returns-clause-operation

@@ -1,4 +1,4 @@
-use Rattle.dexspec.proofs.DirectoriesWritten.{directory_written}
+use Rattle.dexspec.proofs.written.DirectoriesWritten.{directory_written}
 use Rattle.dexlaws.proofs.written.directory_written.Goals as goal
 
 pub returns : goal.returns

@@ -1,4 +1,4 @@
-use Rattle.dexspec.proofs.HandlersWritten.{handler_written}
+use Rattle.dexspec.proofs.written.HandlersWritten.{handler_written}
 use Rattle.dexlaws.proofs.written.handler_written.Goals as goal
 
 pub returns : goal.returns

@@ -1,4 +1,4 @@
-use Rattle.dexspec.proofs.MemberRanks as ranks
+use Rattle.dexspec.proofs.normal.MemberRanks as ranks
 use Rattle.dexlaws.proofs.written.indices_rise.Goals as goal
 
 pub returns : goal.returns

@@ -1,4 +1,4 @@
-use Rattle.dexspec.proofs.NumbersWritten.{uleb128_written, sleb128_written, uleb128p1_written}
+use Rattle.dexspec.proofs.written.NumbersWritten.{uleb128_written, sleb128_written, uleb128p1_written}
 use Rattle.dexlaws.proofs.written.numbers_written.Goals as goal
 
 pub returns-clause-unsigned : goal.returns-clause-unsigned

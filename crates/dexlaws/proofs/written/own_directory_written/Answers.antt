@@ -1,4 +1,4 @@
-use Rattle.dexspec.proofs.ClassDirectory.{directory_put, directory_none, own_field, own_method_set, own_parameter_sets}
+use Rattle.dexspec.proofs.normal.ClassDirectory.{directory_put, directory_none, own_field, own_method_set, own_parameter_sets}
 use Rattle.dexlaws.proofs.written.own_directory_written.Goals as goal
 
 pub returns-clause-some : goal.returns-clause-some

@@ -1,6 +1,6 @@
 use Rattle.std.proofs.Common.{arith}
-use Rattle.dexspec.proofs.SizeCode.{handler_list_bytes-size, handler_off-size}
-use Rattle.dexspec.proofs.ShortIndices.{indices_fit}
+use Rattle.dexspec.proofs.size.SizeCode.{handler_list_bytes-size, handler_off-size}
+use Rattle.dexspec.proofs.wellformed.ShortIndices.{indices_fit}
 use Rattle.dexlaws.proofs.written.places_fit.Goals as goal
 
 pub returns-clause-indices : goal.returns-clause-indices

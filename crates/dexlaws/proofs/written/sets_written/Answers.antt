@@ -1,4 +1,4 @@
-use Rattle.dexspec.proofs.SetsWritten.{set_written, ref_list_written}
+use Rattle.dexspec.proofs.written.SetsWritten.{set_written, ref_list_written}
 use Rattle.dexlaws.proofs.written.sets_written.Goals as goal
 
 pub returns-clause-set : goal.returns-clause-set

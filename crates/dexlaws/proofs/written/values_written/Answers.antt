@@ -1,4 +1,4 @@
-use Rattle.dexspec.proofs.ValuesWritten.{value_written, values_written, elements_written, array_written}
+use Rattle.dexspec.proofs.written.ValuesWritten.{value_written, values_written, elements_written, array_written}
 use Rattle.dexlaws.proofs.written.values_written.Goals as goal
 
 pub returns-clause-value : goal.returns-clause-value

@@ -1,7 +1,7 @@
 use Rattle.std.proofs.Common.{◌≡◌, ◌+◌, ◌*◌, ◌^◌, ◌≤◌, sym, ap, ◌∙◌, arith}
 use Rattle.std.proofs.lemmas.Result.{on_ok_weaker}
 use Rattle.dexspec.specs.Bytes.{round_up}
-use Rattle.dexspec.proofs.Places.{length-padding}
+use Rattle.dexspec.proofs.layout.Places.{length-padding}
 use Rattle.dexmembers.proofs.DirectorySpelled as spelled
 use Rattle.dexlayout.specs.Directories.{entry_count}
 use Rattle.dexlayout.specs.Places.{ItemPlaces}

@@ -2,7 +2,7 @@ use Rattle.std.proofs.Common.{◌≡◌, ℕ, ◌+◌, ◌*◌, ◌≤◌, max, 
 use Rattle.std.proofs.lemmas.List.{length-map}
 use Rattle.dexspec.specs.Bytes.{round_up}
 use Rattle.dexspec.specs.Canonical.{Layout, layout, map_of, data_sections}
-use Rattle.dexspec.proofs.Placements.{layout_is}
+use Rattle.dexspec.proofs.layout.Placements.{layout_is}
 use Rattle.dexhead.specs.Laid.{map_start, map_list}
 use Rattle.dexhead.specs.Written.{entry_meant}
 use Rattle.dexlayout.specs.Laid.{ordered_of, greatest_in}

@@ -8,7 +8,7 @@ use Rattle.std.specs.Prelude.{Option, IfSome}
 use Rattle.dexspec.specs.Canonical.{set_items, set_section, set_end, annotation_offsets}
 use Rattle.dexspec.specs.Placing.{uses_offsets, offsets}
 use Rattle.dexspec.specs.Spellings.{offsets_bytes}
-use Rattle.dexspec.proofs.Places.{length-offsets_from}
+use Rattle.dexspec.proofs.layout.Places.{length-offsets_from}
 use Rattle.dexlayout.specs.Laid.{ordered_of, StandSo}
 use Rattle.dexlayout.proofs.Ends.{end_in_file}
 use Rattle.dexlayout.proofs.SetLists.{set_use_offsets, length-set_use_offsets}

@@ -1,6 +1,6 @@
 use Rattle.std.proofs.Common.{◌≡◌, ◌+◌, ◌^◌, ◌≤◌, length, take, sym, ap, ◌∙◌, arith}
 use Rattle.dexspec.specs.Bytes.{round_up}
-use Rattle.dexspec.proofs.Places.{length-padding}
+use Rattle.dexspec.proofs.layout.Places.{length-padding}
 use Rattle.dexval.specs.Code.{set_of}
 use Rattle.dexlayout.specs.Gathering.{set_len}
 use Rattle.dexlayout.specs.Places.{ItemPlaces}

@@ -8,7 +8,7 @@ use Rattle.dexspec.specs.Classes.{Definition}
 use Rattle.dexspec.specs.Files.{Collection, definitions, AreSame}
 use Rattle.dexspec.specs.Merging as merging
 use Rattle.dexspec.specs.Merging.{IsFirstCause}
-use Rattle.dexspec.proofs.Collections.{definitions-same}
+use Rattle.dexspec.proofs.merge.Collections.{definitions-same}
 use Rattle.dexmerge.specs.declared.plan.Plan.{Plan}
 use Rattle.dexmerge.specs.declared.plan.Plan.TheViews.{the_lemmas}
 use Rattle.dexmerge.specs.declared.faults.MergeFault.{MergeFault}

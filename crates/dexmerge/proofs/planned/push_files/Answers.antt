@@ -7,7 +7,7 @@ use Rattle.dexspec.specs.Classes.{Definition}
 use Rattle.dexspec.specs.Files.{Collection, definitions}
 use Rattle.dexspec.specs.Merging as merging
 use Rattle.dexspec.specs.Merging.{leaves, all_leaves}
-use Rattle.dexspec.proofs.Members.{Contains-first}
+use Rattle.dexspec.proofs.lists.Members.{Contains-first}
 use Rattle.dexmerge.specs.Plans.{plan_of, plans_of}
 use Rattle.dexmerge.specs.Parts.{files_in, of_files}
 use Rattle.dexmerge.proofs.Marked.{part_leaves}

@@ -1,5 +1,5 @@
 use Rattle.std.proofs.Common.{arith}
-use Rattle.dexspec.proofs.SizeItems.{offsets_bytes-size}
+use Rattle.dexspec.proofs.size.SizeItems.{offsets_bytes-size}
 use Rattle.dexval.proofs.sizes.ref_list_size.Goals as goal
 
 pub returns : goal.returns

@@ -1,6 +1,6 @@
 use Rattle.std.proofs.Common.{◌≡◌, length, ap, sym, ◌∙◌, arith}
 use Rattle.std.proofs.lemmas.List.{length-map}
-use Rattle.dexspec.proofs.SizeItems.{offsets_bytes-size}
+use Rattle.dexspec.proofs.size.SizeItems.{offsets_bytes-size}
 use Rattle.dexval.specs.Code.{set_of, annotation_of}
 use Rattle.dexval.specs.Numbered.{NumberedSet}
 use Rattle.dexval.proofs.Offsets.{set_size}

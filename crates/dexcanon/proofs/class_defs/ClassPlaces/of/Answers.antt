@@ -1,5 +1,5 @@
 use Rattle.std.proofs.Common.{ℕ, List, length, ap, arith, ◌∙◌}
-use Rattle.dexspec.proofs.Placements.{length-type_list_offsets, length-array_offsets, length-class_data_offsets, length-directory_offsets}
+use Rattle.dexspec.proofs.layout.Placements.{length-type_list_offsets, length-array_offsets, length-class_data_offsets, length-directory_offsets}
 use Rattle.dexlayout.specs.Places.{ItemPlaces, TypeListPlaces}
 use Rattle.dexlayout.specs.Laid.{ordered_of}
 use Rattle.dexcanon.proofs.WholeBody.{class_rows_are, class_count, whole_count}

@@ -1,5 +1,5 @@
 use Rattle.std.proofs.Common.{arith}
-use Rattle.dexspec.proofs.ByteNumbers.{length-ushort}
+use Rattle.dexspec.proofs.numbers.ByteNumbers.{length-ushort}
 use Rattle.dexhead.proofs.output.CountOutput.u16.Goals as goal
 
 pub returns : goal.returns

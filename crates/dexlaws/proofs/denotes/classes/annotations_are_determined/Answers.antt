@@ -1,4 +1,4 @@
-use Rattle.dexspec.proofs.OneClass.{one_annotation_item, one_set, one_ref_list, one_directory}
+use Rattle.dexspec.proofs.determined.OneClass.{one_annotation_item, one_set, one_ref_list, one_directory}
 use Rattle.dexlaws.proofs.denotes.classes.annotations_are_determined.Goals as goal
 
 pub returns-clause-annotation : goal.returns-clause-annotation

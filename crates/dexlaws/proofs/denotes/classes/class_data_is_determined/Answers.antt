@@ -1,4 +1,4 @@
-use Rattle.dexspec.proofs.OneClass.{one_encoded_fields, one_encoded_methods, one_class_data}
+use Rattle.dexspec.proofs.determined.OneClass.{one_encoded_fields, one_encoded_methods, one_class_data}
 use Rattle.dexlaws.proofs.denotes.classes.class_data_is_determined.Goals as goal
 
 pub returns-clause-fields : goal.returns-clause-fields

@@ -1,4 +1,4 @@
-use Rattle.dexspec.proofs.OneClass.{few_rows, one_class_row}
+use Rattle.dexspec.proofs.determined.OneClass.{few_rows, one_class_row}
 use Rattle.dexlaws.proofs.denotes.classes.class_row_is_determined.Goals as goal
 
 pub returns : goal.returns

@@ -1,6 +1,6 @@
 use Rattle.dexspec.specs.Rows.{SymbolRow}
 use Rattle.dexspec.specs.Code.{code_units}
-use Rattle.dexspec.proofs.BlankedCode.{blanked_code}
+use Rattle.dexspec.proofs.wellformed.BlankedCode.{blanked_code}
 use Rattle.dexlaws.proofs.denotes.code.code_without_indices.Goals as goal
 
 pub returns-clause-code : goal.returns-clause-code

@@ -1,4 +1,4 @@
-use Rattle.dexspec.proofs.OneCode.{one_cut}
+use Rattle.dexspec.proofs.determined.OneCode.{one_cut}
 use Rattle.dexlaws.proofs.denotes.code.cut_is_determined.Goals as goal
 
 pub returns : goal.returns

@@ -1,4 +1,4 @@
-use Rattle.dexspec.proofs.OneCode.{one_catch, one_handler}
+use Rattle.dexspec.proofs.determined.OneCode.{one_catch, one_handler}
 use Rattle.dexlaws.proofs.denotes.code.handler_is_determined.Goals as goal
 
 pub returns-clause-catch : goal.returns-clause-catch

@@ -1,4 +1,4 @@
-use Rattle.dexspec.proofs.OneCode.{one_pieces}
+use Rattle.dexspec.proofs.determined.OneCode.{one_pieces}
 use Rattle.dexlaws.proofs.denotes.code.pieces_are_determined.Goals as goal
 
 pub returns : goal.returns

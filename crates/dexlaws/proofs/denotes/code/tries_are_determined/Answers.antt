@@ -1,4 +1,4 @@
-use Rattle.dexspec.proofs.OneCode.{one_try_items, one_tries}
+use Rattle.dexspec.proofs.determined.OneCode.{one_try_items, one_tries}
 use Rattle.dexlaws.proofs.denotes.code.tries_are_determined.Goals as goal
 
 pub returns-clause-items : goal.returns-clause-items

@@ -1,4 +1,4 @@
-use Rattle.dexspec.proofs.Denoted.{has_classes, denoted_rows}
+use Rattle.dexspec.proofs.determined.Denoted.{has_classes, denoted_rows}
 use Rattle.dexlaws.proofs.denotes.collections.denoted_rows.Goals as goal
 
 pub returns : goal.returns

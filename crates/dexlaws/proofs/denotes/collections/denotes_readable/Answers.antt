@@ -1,4 +1,4 @@
-use Rattle.dexspec.proofs.Denoted.{has_classes, denotes_readable}
+use Rattle.dexspec.proofs.determined.Denoted.{has_classes, denotes_readable}
 use Rattle.dexlaws.proofs.denotes.collections.denotes_readable.Goals as goal
 
 pub returns : goal.returns

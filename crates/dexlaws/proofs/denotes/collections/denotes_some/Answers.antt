@@ -1,4 +1,4 @@
-use Rattle.dexspec.proofs.Denoted.{denotes_some}
+use Rattle.dexspec.proofs.determined.Denoted.{denotes_some}
 use Rattle.dexlaws.proofs.denotes.collections.denotes_some.Goals as goal
 
 pub returns : goal.returns

@@ -1,5 +1,5 @@
-use Rattle.dexspec.proofs.PoolRows.{same_type_row}
-use Rattle.dexspec.proofs.Denoted.{has_classes, same_class_row}
+use Rattle.dexspec.proofs.wellformed.PoolRows.{same_type_row}
+use Rattle.dexspec.proofs.determined.Denoted.{has_classes, same_class_row}
 use Rattle.dexlaws.proofs.denotes.collections.one_row_each.Goals as goal
 
 pub returns-clause-types : goal.returns-clause-types

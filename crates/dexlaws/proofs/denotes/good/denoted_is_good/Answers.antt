@@ -1,5 +1,5 @@
-use Rattle.dexspec.proofs.ShortStrings.{denoted_good}
-use Rattle.dexspec.proofs.FormedCode.{denoted_well_formed}
+use Rattle.dexspec.proofs.wellformed.ShortStrings.{denoted_good}
+use Rattle.dexspec.proofs.wellformed.FormedCode.{denoted_well_formed}
 use Rattle.dexlaws.proofs.denotes.good.denoted_is_good.Goals as goal
 
 pub returns-clause-good : goal.returns-clause-good

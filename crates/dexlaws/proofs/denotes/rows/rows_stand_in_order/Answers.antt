@@ -1,7 +1,7 @@
 use Rattle.std.proofs.Common.{arith}
 use Rattle.dexspec.specs.Conditions.{Condition}
-use Rattle.dexspec.proofs.PoolRows.{strings_rise, types_rise}
-use Rattle.dexspec.proofs.MemberOrder.{protos_rise, fields_rise, methods_rise}
+use Rattle.dexspec.proofs.wellformed.PoolRows.{strings_rise, types_rise}
+use Rattle.dexspec.proofs.wellformed.MemberOrder.{protos_rise, fields_rise, methods_rise}
 use Rattle.dexlaws.proofs.denotes.rows.rows_stand_in_order.Goals as goal
 
 pub returns-clause-texts : goal.returns-clause-texts

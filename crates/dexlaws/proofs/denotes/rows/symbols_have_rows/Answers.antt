@@ -1,5 +1,5 @@
-use Rattle.dexspec.proofs.Denoted.{has_classes}
-use Rattle.dexspec.proofs.SymbolRows.{row_symbols}
+use Rattle.dexspec.proofs.determined.Denoted.{has_classes}
+use Rattle.dexspec.proofs.wellformed.SymbolRows.{row_symbols}
 use Rattle.dexlaws.proofs.denotes.rows.symbols_have_rows.Goals as goal
 
 pub returns : goal.returns

@@ -1,4 +1,4 @@
-use Rattle.dexspec.proofs.OneDebug.{one_debug}
+use Rattle.dexspec.proofs.determined.OneDebug.{one_debug}
 use Rattle.dexlaws.proofs.items.debug.debug_is_determined.Goals as goal
 
 pub returns : goal.returns

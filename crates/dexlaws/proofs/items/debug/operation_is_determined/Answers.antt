@@ -1,4 +1,4 @@
-use Rattle.dexspec.proofs.OneDebug.{one_operation, one_optional_text, one_optional_type}
+use Rattle.dexspec.proofs.determined.OneDebug.{one_operation, one_optional_text, one_optional_type}
 use Rattle.dexlaws.proofs.items.debug.operation_is_determined.Goals as goal
 
 pub returns-clause-operation : goal.returns-clause-operation

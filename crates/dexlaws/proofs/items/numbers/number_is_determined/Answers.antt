@@ -1,4 +1,4 @@
-use Rattle.dexspec.proofs.OneNumber.{one_uleb128, one_sleb128, one_uleb128p1}
+use Rattle.dexspec.proofs.determined.OneNumber.{one_uleb128, one_sleb128, one_uleb128p1}
 use Rattle.dexlaws.proofs.items.numbers.number_is_determined.Goals as goal
 
 pub returns-clause-unsigned : goal.returns-clause-unsigned

@@ -1,4 +1,4 @@
-use Rattle.dexspec.proofs.OneRow.{one_string, one_type, one_proto, one_field, one_method}
+use Rattle.dexspec.proofs.determined.OneRow.{one_string, one_type, one_proto, one_field, one_method}
 use Rattle.dexlaws.proofs.items.rows.row_is_determined.Goals as goal
 
 pub returns-clause-text : goal.returns-clause-text

@@ -1,4 +1,4 @@
-use Rattle.dexspec.proofs.OneRow.{one_symbol}
+use Rattle.dexspec.proofs.determined.OneRow.{one_symbol}
 use Rattle.dexlaws.proofs.items.rows.symbol_row_is_determined.Goals as goal
 
 pub returns : goal.returns

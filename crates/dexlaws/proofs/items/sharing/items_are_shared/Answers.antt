@@ -1,5 +1,5 @@
 use Rattle.dexspec.specs.Sameness.{same_types, same_debug, same_set}
-use Rattle.dexspec.proofs.Sameness.{types_decide, debug_decides, set_decides}
+use Rattle.dexspec.proofs.sharing.Sameness.{types_decide, debug_decides, set_decides}
 use Rattle.dexlaws.proofs.Shared.{shared}
 use Rattle.dexlaws.proofs.items.sharing.items_are_shared.Goals as goal
 

@@ -1,4 +1,4 @@
-use Rattle.dexspec.proofs.Sameness.{types_decide, debug_decides, set_decides}
+use Rattle.dexspec.proofs.sharing.Sameness.{types_decide, debug_decides, set_decides}
 use Rattle.dexlaws.proofs.items.sharing.sameness_is_equality.Goals as goal
 
 pub returns-clause-type_lists : goal.returns-clause-type_lists

@@ -1,4 +1,4 @@
-use Rattle.dexspec.proofs.OneValue.{one_annotation}
+use Rattle.dexspec.proofs.determined.OneValue.{one_annotation}
 use Rattle.dexlaws.proofs.items.values.encoded_annotation_is_determined.Goals as goal
 
 pub returns : goal.returns

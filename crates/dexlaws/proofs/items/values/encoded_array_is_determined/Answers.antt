@@ -1,4 +1,4 @@
-use Rattle.dexspec.proofs.OneValue.{one_array}
+use Rattle.dexspec.proofs.determined.OneValue.{one_array}
 use Rattle.dexlaws.proofs.items.values.encoded_array_is_determined.Goals as goal
 
 pub returns : goal.returns

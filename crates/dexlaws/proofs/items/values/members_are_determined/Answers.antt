@@ -1,4 +1,4 @@
-use Rattle.dexspec.proofs.OneValue.{one_values, one_elements}
+use Rattle.dexspec.proofs.determined.OneValue.{one_values, one_elements}
 use Rattle.dexlaws.proofs.items.values.members_are_determined.Goals as goal
 
 pub returns-clause-values : goal.returns-clause-values

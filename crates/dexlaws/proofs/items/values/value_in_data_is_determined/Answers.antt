@@ -1,4 +1,4 @@
-use Rattle.dexspec.proofs.OneValue.{one_value, one_array}
+use Rattle.dexspec.proofs.determined.OneValue.{one_value, one_array}
 use Rattle.dexlaws.proofs.items.values.value_in_data_is_determined.Goals as goal
 
 pub returns-clause-value : goal.returns-clause-value

@@ -1,5 +1,5 @@
-use Rattle.dexspec.proofs.ByteNumbers.{fits_64}
-use Rattle.dexspec.proofs.Widths.{unsigned_back, signed_back, bits_back}
+use Rattle.dexspec.proofs.numbers.ByteNumbers.{fits_64}
+use Rattle.dexspec.proofs.numbers.Widths.{unsigned_back, signed_back, bits_back}
 use Rattle.dexlaws.proofs.items.widths.least_width_is_read_back.Goals as goal
 
 pub returns-clause-unsigned : goal.returns-clause-unsigned

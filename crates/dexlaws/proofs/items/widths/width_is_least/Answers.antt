@@ -1,5 +1,5 @@
-use Rattle.dexspec.proofs.ByteNumbers.{fits_64}
-use Rattle.dexspec.proofs.Widths.{unsigned_least, signed_least, bits_least}
+use Rattle.dexspec.proofs.numbers.ByteNumbers.{fits_64}
+use Rattle.dexspec.proofs.numbers.Widths.{unsigned_least, signed_least, bits_least}
 use Rattle.dexlaws.proofs.items.widths.width_is_least.Goals as goal
 
 pub returns-clause-unsigned : goal.returns-clause-unsigned

@@ -1,4 +1,4 @@
-use Rattle.dexspec.proofs.Widths.{unsigned_at, signed_at, bits_at}
+use Rattle.dexspec.proofs.numbers.Widths.{unsigned_at, signed_at, bits_at}
 use Rattle.dexlaws.proofs.items.widths.written_number_stands.Goals as goal
 
 pub returns-clause-unsigned : goal.returns-clause-unsigned

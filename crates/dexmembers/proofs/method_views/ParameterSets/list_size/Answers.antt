@@ -1,6 +1,6 @@
 use Rattle.std.proofs.Common.{length, arith, ap}
 use Rattle.std.proofs.lemmas.List.{length-map}
-use Rattle.dexspec.proofs.SizeItems.{offsets_bytes-size}
+use Rattle.dexspec.proofs.size.SizeItems.{offsets_bytes-size}
 use Rattle.dexval.specs.Tables.{set_at}
 use Rattle.dexmembers.proofs.method_views.ParameterSets.list_size.Goals as goal
 

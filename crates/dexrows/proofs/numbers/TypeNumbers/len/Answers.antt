@@ -1,5 +1,5 @@
 use Rattle.std.proofs.Common.{◌∙◌, ◌/◌, length, sym, ap}
-use Rattle.dexspec.proofs.FormedRows.{length-ushorts_at}
+use Rattle.dexspec.proofs.wellformed.FormedRows.{length-ushorts_at}
 use Rattle.dexrows.specs.Listed.{numbers_in}
 use Rattle.dexrows.proofs.numbers.TypeNumbers.len.Goals as goal
 

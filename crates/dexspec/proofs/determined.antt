@@ -1,0 +1,11 @@
+-- Bytes determine what is at an offset: one number, text, row, value, debug program, code item and class at most.
+pub mod OneNumber
+pub mod OneText
+pub mod OneRow
+pub mod OneValue
+pub mod OneDebug
+pub mod OneCode
+pub mod OneClass
+pub mod OneCollection
+pub mod Readable
+pub mod Denoted

@@ -1,0 +1,17 @@
+-- The file of definitions: header, map, tables and sections are where its layout says.
+pub mod Sums
+pub mod Places
+pub mod Placements
+pub mod Tables
+pub mod Laying
+pub mod HeaderLaws
+pub mod MapEntries
+pub mod MapLaws
+pub mod Frames
+pub mod Uses
+pub mod RowsRead
+pub mod PoolsStand
+pub mod PoolsInOrder
+pub mod PlainHeaders
+pub mod PoolsFormed
+pub mod FileRows

@@ -1,0 +1,203 @@
+-- The header and the rows of the tables: their contents by offset.
+use Rattle.std.proofs.Common.{◌≡◌, ℕ, zero, suc, ◌+◌, ◌-◌, ◌*◌, ◌<◌, List, [], ◌∷◌, ◌++◌, length, get_or, ap, ◌∙◌, arith}
+use Rattle.std.specs.Prelude.{◌==◌, if◌then◌else◌}
+use Rattle.std.specs.List.{flat_map, concat}
+use Rattle.std.proofs.lemmas.List.{length-append}
+use Rattle.dexspec.specs.Lists.{zip_with}
+use Rattle.dexspec.specs.Bytes.{uint, Stands}
+use Rattle.dexspec.specs.Symbols.{Proto, Field, Method}
+use Rattle.dexspec.specs.Classes.{Definition}
+use Rattle.dexspec.specs.Header.{Table, StringIds, TypeIds, ProtoIds, FieldIds, MethodIds, ClassDefs, header_length, size_place, row_size}
+use Rattle.dexspec.specs.Mentions.{Mentions}
+use Rattle.dexspec.specs.Spellings.{text_index}
+use Rattle.dexspec.specs.Placing.{Ordered}
+use Rattle.dexspec.specs.Canonical.{table_count, placed_tables, data_start, proto_row_bytes, field_row_bytes, method_row_bytes, ClassOffsets, class_row_bytes, Layout, table_bytes, header_bytes}
+use Rattle.dexspec.proofs.written.Stands.{stands_first, stands_whole, stands_later, stands_in, stands_at, stands_row, length_rows}
+use Rattle.dexspec.proofs.numbers.ByteNumbers.{length-uint, length-ushort}
+use Rattle.dexspec.proofs.layout.Placements.{AreFull}
+
+-- ---- in sequence
+
+-- the first of two
+pub stands_here : {b : List ℕ} {o : ℕ} (x r : List ℕ) → Stands b o (x ++ r) → Stands b o x
+stands_here x r h = stands_at (omega arith) (stands_in h (stands_first x r))
+
+-- the second, after a first of n bytes
+pub stands_behind : {b : List ℕ} {o : ℕ} (x r : List ℕ) (n : ℕ) → length x ≡ n → Stands b o (x ++ r) → Stands b (o + n) r
+stands_behind x r n e h = stands_at (omega (arith, e)) (stands_in h (stands_later x (stands_whole r)))
+
+-- after four bytes
+pub stands_next : {b : List ℕ} {o : ℕ} (n : ℕ) (r : List ℕ) → Stands b o (uint n ++ r) → Stands b (o + 4) r
+stands_next n r h = stands_behind (uint n) r 4 (length-uint n) h
+
+-- ---- rows of two lists
+
+-- the bytes of rows of one size
+pub length_zip_rows : {X Y : Type 0} (f : X → Y → List ℕ) (w : ℕ) → ((x : X) (y : Y) → length (f x y) ≡ w) → (xs : List X) (ys : List Y) → length ys ≡ length xs
+    → length (concat (zip_with f xs ys)) ≡ w * length xs
+length_zip_rows f w each [] ys e = omega arith
+length_zip_rows f w each (x ∷ xs) [] e = absurd (omega (arith, e))
+length_zip_rows f w each (x ∷ xs) (y ∷ ys) e =
+    length-append (f x y) (concat (zip_with f xs ys)) ∙ omega (arith, each x y, length_zip_rows f w each xs ys (omega (arith, e)))
+
+-- the i-th row
+pub stands_zip_row : {X Y : Type 0} (f : X → Y → List ℕ) (w : ℕ) → ((x : X) (y : Y) → length (f x y) ≡ w) → (xs : List X) (ys : List Y) (i : ℕ) (d : X) (e : Y) → i < length xs → length ys ≡ length xs
+    → Stands (concat (zip_with f xs ys)) (w * i) (f (get_or xs i d) (get_or ys i e))
+stands_zip_row f w each [] ys i d e lt same = absurd (omega arith)
+stands_zip_row f w each (x ∷ xs) [] i d e lt same = absurd (omega (arith, same))
+stands_zip_row f w each (x ∷ xs) (y ∷ ys) zero d e lt same = stands_at (omega arith) (stands_first (f x y) (concat (zip_with f xs ys)))
+stands_zip_row f w each (x ∷ xs) (y ∷ ys) (suc i) d e lt same =
+    stands_at (omega (arith, each x y)) (stands_later (f x y) (stands_zip_row f w each xs ys i d e (omega arith) (omega (arith, same))))
+
+-- ---- the sizes of rows
+
+-- a proto_id_item
+pub length-proto_row : (m : Mentions) (p : Proto) (off : ℕ) → length (proto_row_bytes m p off) ≡ 12
+length-proto_row m p off = omega (arith, length-append {A = ℕ}, length-uint)
+
+-- a field_id_item
+pub length-field_row : (m : Mentions) (f : Field) → length (field_row_bytes m f) ≡ 8
+length-field_row m f = omega (arith, length-append {A = ℕ}, length-uint, length-ushort)
+
+-- a method_id_item
+pub length-method_row : (m : Mentions) (x : Method) → length (method_row_bytes m x) ≡ 8
+length-method_row m x = omega (arith, length-append {A = ℕ}, length-uint, length-ushort)
+
+-- a class_def_item
+pub length-class_row : (m : Mentions) (d : Definition) (offs : ClassOffsets) → length (class_row_bytes m d offs) ≡ 32
+length-class_row m d offs = omega (arith, length-append {A = ℕ}, length-uint)
+
+-- ---- the tables
+
+-- the bytes of a table's rows
+abbrev pub rows_bytes : Ordered → Layout → Table → List ℕ
+rows_bytes K l StringIds = flat_map uint l.strings
+rows_bytes K l TypeIds = flat_map (λ t. uint (text_index K.pools t)) K.pools.types
+rows_bytes K l ProtoIds = concat (zip_with (proto_row_bytes K.pools) K.pools.protos l.parameters)
+rows_bytes K l FieldIds = flat_map (field_row_bytes K.pools) K.pools.fields
+rows_bytes K l MethodIds = flat_map (method_row_bytes K.pools) K.pools.methods
+rows_bytes K l ClassDefs = concat (zip_with (class_row_bytes K.pools) K.classes l.classes)
+
+-- rows of one size
+pub length_rows_bytes : (K : Ordered) (l : Layout) → AreFull K l → (t : Table) → length (rows_bytes K l t) ≡ row_size t * table_count K t
+length_rows_bytes K l full StringIds = length_rows uint 4 length-uint l.strings ∙ ap (λ n. 4 * n) full.strings
+length_rows_bytes K l full TypeIds = length_rows (λ t. uint (text_index K.pools t)) 4 (λ t. length-uint (text_index K.pools t)) K.pools.types
+length_rows_bytes K l full ProtoIds = length_zip_rows (proto_row_bytes K.pools) 12 (length-proto_row K.pools) K.pools.protos l.parameters full.parameters
+length_rows_bytes K l full FieldIds = length_rows (field_row_bytes K.pools) 8 (length-field_row K.pools) K.pools.fields
+length_rows_bytes K l full MethodIds = length_rows (method_row_bytes K.pools) 8 (length-method_row K.pools) K.pools.methods
+length_rows_bytes K l full ClassDefs = length_zip_rows (class_row_bytes K.pools) 32 (length-class_row K.pools) K.classes l.classes full.classes
+
+-- the offset of the rows of a table that has rows
+abbrev pub table_start : Ordered → Table → ℕ
+table_start K StringIds = header_length
+table_start K TypeIds = header_length + row_size StringIds * table_count K StringIds
+table_start K ProtoIds = header_length + row_size StringIds * table_count K StringIds + row_size TypeIds * table_count K TypeIds
+table_start K FieldIds = header_length + row_size StringIds * table_count K StringIds + row_size TypeIds * table_count K TypeIds + row_size ProtoIds * table_count K ProtoIds
+table_start K MethodIds = header_length + row_size StringIds * table_count K StringIds + row_size TypeIds * table_count K TypeIds + row_size ProtoIds * table_count K ProtoIds + row_size FieldIds * table_count K FieldIds
+table_start K ClassDefs = header_length + row_size StringIds * table_count K StringIds + row_size TypeIds * table_count K TypeIds + row_size ProtoIds * table_count K ProtoIds + row_size FieldIds * table_count K FieldIds + row_size MethodIds * table_count K MethodIds
+
+-- the rows of each table are at this offset
+pub table_stands : {b : List ℕ} (K : Ordered) (l : Layout) → AreFull K l → Stands b header_length (table_bytes K l) → (t : Table) → Stands b (table_start K t) (rows_bytes K l t)
+table_stands {b} K l full h = at
+  where
+    r : Table → List ℕ
+    r = rows_bytes K l
+
+    n : (t : Table) → length (rows_bytes K l t) ≡ row_size t * table_count K t
+    n = length_rows_bytes K l full
+
+    h1 : Stands b (table_start K TypeIds) (r TypeIds ++ (r ProtoIds ++ (r FieldIds ++ (r MethodIds ++ r ClassDefs))))
+    h1 = stands_behind (r StringIds) (r TypeIds ++ (r ProtoIds ++ (r FieldIds ++ (r MethodIds ++ r ClassDefs)))) (row_size StringIds * table_count K StringIds) (n StringIds) h
+
+    h2 : Stands b (table_start K ProtoIds) (r ProtoIds ++ (r FieldIds ++ (r MethodIds ++ r ClassDefs)))
+    h2 = stands_behind (r TypeIds) (r ProtoIds ++ (r FieldIds ++ (r MethodIds ++ r ClassDefs))) (row_size TypeIds * table_count K TypeIds) (n TypeIds) h1
+
+    h3 : Stands b (table_start K FieldIds) (r FieldIds ++ (r MethodIds ++ r ClassDefs))
+    h3 = stands_behind (r ProtoIds) (r FieldIds ++ (r MethodIds ++ r ClassDefs)) (row_size ProtoIds * table_count K ProtoIds) (n ProtoIds) h2
+
+    h4 : Stands b (table_start K MethodIds) (r MethodIds ++ r ClassDefs)
+    h4 = stands_behind (r FieldIds) (r MethodIds ++ r ClassDefs) (row_size FieldIds * table_count K FieldIds) (n FieldIds) h3
+
+    at : (t : Table) → Stands b (table_start K t) (rows_bytes K l t)
+    at StringIds = stands_here (r StringIds) (r TypeIds ++ (r ProtoIds ++ (r FieldIds ++ (r MethodIds ++ r ClassDefs)))) h
+    at TypeIds = stands_here (r TypeIds) (r ProtoIds ++ (r FieldIds ++ (r MethodIds ++ r ClassDefs))) h1
+    at ProtoIds = stands_here (r ProtoIds) (r FieldIds ++ (r MethodIds ++ r ClassDefs)) h2
+    at FieldIds = stands_here (r FieldIds) (r MethodIds ++ r ClassDefs) h3
+    at MethodIds = stands_here (r MethodIds) (r ClassDefs) h4
+    at ClassDefs = stands_behind (r MethodIds) (r ClassDefs) (row_size MethodIds * table_count K MethodIds) (n MethodIds) h4
+
+-- all rows are the bytes from the header to the data
+pub length-table_bytes : (K : Ordered) (l : Layout) → AreFull K l → header_length + length (table_bytes K l) ≡ data_start K
+length-table_bytes K l full =
+    let n = length_rows_bytes K l full in
+    omega (arith, length-append {A = ℕ}, n StringIds, n TypeIds, n ProtoIds, n FieldIds, n MethodIds, n ClassDefs)
+
+-- ---- the header
+
+-- the offset of a table in the header
+abbrev pub table_place : Ordered → Table → ℕ
+table_place K t = if table_count K t == 0 then 0 else table_start K t
+
+-- the contents of the header after the sums
+pub record HeaderStands (b : List ℕ) (K : Ordered) (map_place size : ℕ) : Type 0 where
+  pub file : Stands b 32 (uint size)
+  pub own : Stands b 36 (uint header_length)
+  pub endian : Stands b 40 (uint 0x12345678)
+  pub link_bytes : Stands b 44 (uint 0)
+  pub link_place : Stands b 48 (uint 0)
+  pub map_list : Stands b 52 (uint map_place)
+  pub table : (t : Table) → Stands b (size_place t) (uint (table_count K t) ++ uint (table_place K t))
+  pub data_bytes : Stands b 104 (uint (size - data_start K))
+  pub data_place : Stands b 108 (uint (data_start K))
+
+-- the size and the offset of a table
+abbrev place_bytes : Table × ℕ × ℕ → List ℕ
+place_bytes t = uint t.1 ++ uint t.2
+
+-- they have eight bytes
+length-place_bytes : (t : Table × ℕ × ℕ) → length (place_bytes t) ≡ 8
+length-place_bytes t = omega (arith, length-append (uint t.1) (uint t.2), length-uint t.1, length-uint t.2)
+
+-- of each table, at their place
+places_stand : {b : List ℕ} (K : Ordered) → Stands b 56 (flat_map place_bytes (placed_tables K)) → (t : Table) → Stands b (size_place t) (uint (table_count K t) ++ uint (table_place K t))
+places_stand K h StringIds = stands_in h (stands_row place_bytes 8 length-place_bytes (placed_tables K) 0 (StringIds, 0, 0) (omega arith))
+places_stand K h TypeIds = stands_in h (stands_row place_bytes 8 length-place_bytes (placed_tables K) 1 (StringIds, 0, 0) (omega arith))
+places_stand K h ProtoIds = stands_in h (stands_row place_bytes 8 length-place_bytes (placed_tables K) 2 (StringIds, 0, 0) (omega arith))
+places_stand K h FieldIds = stands_in h (stands_row place_bytes 8 length-place_bytes (placed_tables K) 3 (StringIds, 0, 0) (omega arith))
+places_stand K h MethodIds = stands_in h (stands_row place_bytes 8 length-place_bytes (placed_tables K) 4 (StringIds, 0, 0) (omega arith))
+places_stand K h ClassDefs = stands_in h (stands_row place_bytes 8 length-place_bytes (placed_tables K) 5 (StringIds, 0, 0) (omega arith))
+
+-- each number of the header, at its place
+pub header_stands : {b : List ℕ} (K : Ordered) (map_place size : ℕ) → Stands b 32 (header_bytes K map_place size) → HeaderStands b K map_place size
+header_stands {b} K map_place size h0 =
+    let sizes = uint (size - data_start K) ++ uint (data_start K) in
+    let tables = flat_map place_bytes (placed_tables K) in
+    let six : length tables ≡ 48 = length_rows place_bytes 8 length-place_bytes (placed_tables K) in
+    let r6 = tables ++ sizes in
+    let r5 = uint map_place ++ r6 in
+    let r4 = uint 0 ++ r5 in
+    let r3 = uint 0 ++ r4 in
+    let r2 = uint 0x12345678 ++ r3 in
+    let r1 = uint header_length ++ r2 in
+    let h1 : Stands b 36 r1 = stands_next size r1 h0 in
+    let h2 : Stands b 40 r2 = stands_next header_length r2 h1 in
+    let h3 : Stands b 44 r3 = stands_next 0x12345678 r3 h2 in
+    let h4 : Stands b 48 r4 = stands_next 0 r4 h3 in
+    let h5 : Stands b 52 r5 = stands_next 0 r5 h4 in
+    let h6 : Stands b 56 r6 = stands_next map_place r6 h5 in
+    let h7 : Stands b 104 sizes = stands_behind tables sizes 48 six h6 in
+    record {
+      file = stands_here (uint size) r1 h0;
+      own = stands_here (uint header_length) r2 h1;
+      endian = stands_here (uint 0x12345678) r3 h2;
+      link_bytes = stands_here (uint 0) r4 h3;
+      link_place = stands_here (uint 0) r5 h4;
+      map_list = stands_here (uint map_place) r6 h5;
+      table = places_stand K (stands_here tables sizes h6);
+      data_bytes = stands_here (uint (size - data_start K)) (uint (data_start K)) h7;
+      data_place = stands_next (size - data_start K) (uint (data_start K)) h7;
+    }
+
+-- it has 80 bytes
+pub length-header_bytes : (K : Ordered) (map_place size : ℕ) → length (header_bytes K map_place size) ≡ 80
+length-header_bytes K map_place size = omega (arith, length-append {A = ℕ}, length-uint, length_rows place_bytes 8 length-place_bytes (placed_tables K))

@@ -1,0 +1,617 @@
+-- The file in which equal items are written once is at most as long as the one in which each use has its own: section
+-- by section, the items of the first are covered by those of the second.
+use Rattle.std.proofs.Common.{◌≡◌, ℕ, zero, suc, ◌+◌, ◌*◌, ◌<◌, ◌≤◌, Bool, true, false, if◌then◌else◌, ◌==◌, List, [], ◌∷◌, ◌++◌, length, map, take, drop, zip, flat_map, get_or, refl, sym, ap, subst, ◌∙◌, arith, inl, inr}
+use Rattle.std.specs.Prelude.{slice_index, Option, Some, None}
+use Rattle.std.specs.List.{concat}
+use Rattle.std.specs.Option.{option_map_or}
+use Rattle.std.proofs.lemmas.List.{length-append, length-map, length-take, length-drop}
+use Rattle.dexspec.specs.Lists.{present, chunks, zip_with}
+use Rattle.dexspec.specs.Bytes.{ushort, uint, round_up, padding}
+use Rattle.dexspec.specs.Numbers.{uleb128}
+use Rattle.dexspec.specs.Sections.{Section, TableOf, MapList}
+use Rattle.dexspec.specs.Code.{Code}
+use Rattle.dexspec.specs.Annotations.{Annotation, AnnotationSet}
+use Rattle.dexspec.specs.Classes.{MethodDef, Definition, declared_fields, declared_methods}
+use Rattle.dexspec.specs.Files.{Collection, definitions}
+use Rattle.dexspec.specs.Depth.{in_class_order}
+use Rattle.dexspec.specs.Mentions.{Mentions, mentions, field_of, method_of}
+use Rattle.dexspec.specs.Sameness.{same_types, same_debug, same_set}
+use Rattle.dexspec.specs.Spellings.{type_list_bytes, annotation_bytes, debug_bytes, code_bytes, piece_units, tries_bytes, differences, encoded_fields_bytes, encoded_method_bytes, encoded_methods_bytes, class_data_bytes, offsets_bytes, field_index, method_index}
+use Rattle.dexspec.specs.Placing.{EqualOnce, EachForItself, Items, Placed, offsets, offsets_from, uses_offsets, Ordered, is_empty_class, method_sets, class_sets, all_methods, type_list_uses, set_uses, debug_uses, code_uses, class_data_uses, by_class, SetOffsets, set_offsets_of, ref_list_uses, directory_uses, directory_bytes, unless_empty, section_bytes, own_numbers, pairs, pairs_bytes}
+use Rattle.dexspec.specs.Canonical.{data_start, type_list_section, type_list_end, set_items, annotation_section, annotation_end, annotation_offsets, array_section, array_end, string_section, string_end, debug_section, debug_end, debug_offsets, code_section, code_end, code_offsets, class_data_section, class_data_end, set_section, set_end, set_offsets, ref_list_section, ref_list_end, ref_list_offsets, directory_section, directory_end, data_sections, Layout, layout, placed_tables, table_bytes, map_of, map_bytes, header_bytes, unsigned_file, with_sums, ordered, canonical}
+use Rattle.dexspec.proofs.numbers.ByteNumbers.{length-uint, length-ushort}
+use Rattle.dexspec.proofs.written.Stands.{length_rows}
+use Rattle.dexspec.proofs.layout.Places.{length-padding, length-offsets_from, length-sections, sections_between}
+use Rattle.dexspec.proofs.layout.Placements.{layout_is, named_layout_full, AreFull, sections_follow, length-chunks, length-items_offsets}
+use Rattle.dexspec.proofs.layout.Tables.{length-table_bytes, length-header_bytes}
+use Rattle.dexspec.proofs.size.SizeFile.{with_sums-size}
+use Rattle.dexspec.proofs.layout.MapEntries.{length-map_bytes}
+use Rattle.dexspec.proofs.sharing.Sameness.{set_decides}
+use Rattle.dexspec.proofs.layout.Uses.{IsNumber, AreNumbered, items_numbered, number_offset, length-debug_offsets}
+use Rattle.dexspec.proofs.sharing.Shorter.{IsCovered, covered_itself, covered_then, covered_few, covered_items, covered_lists, end_covered, AreBelow, uses_below, take_below, drop_below, uleb128_most, AreAlike, AllAlike, ListsAlike, not_zero, zero_alike, alike_from, alike_length, alike_first, take_alike, drop_alike, chunks_alike, firsts_alike, offsets_alike, uses_alike, IsCoveredUse, AreCoveredUses, covered_present, covered_numbers, covered_count, offsets_below, pairs_alike}
+
+-- ---- code
+
+code_same : (m : Mentions) (c : Code) (o p : ℕ) → length (code_bytes m o c) ≤ length (code_bytes m p c)
+unfolding code_bytes
+code_same m c o p =
+    let units = flat_map (piece_units m) c.pieces in
+    let x6 = uint (length units) ++ (flat_map ushort units ++ tries_bytes m (length units) c.tries) in
+    let size : (off : ℕ) → length (ushort c.registers ++ (ushort c.ins ++ (ushort c.outs ++ (ushort (length c.tries) ++ (uint off ++ x6))))) ≡ 12 + length x6 = λ off.
+    omega (
+      arith,
+      length-append (ushort c.registers) (ushort c.ins ++ (ushort c.outs ++ (ushort (length c.tries) ++ (uint off ++ x6)))),
+      length-append (ushort c.ins) (ushort c.outs ++ (ushort (length c.tries) ++ (uint off ++ x6))),
+      length-append (ushort c.outs) (ushort (length c.tries) ++ (uint off ++ x6)),
+      length-append (ushort (length c.tries)) (uint off ++ x6),
+      length-append (uint off) x6,
+      length-ushort c.registers,
+      length-ushort c.ins,
+      length-ushort c.outs,
+      length-ushort (length c.tries),
+      length-uint off,
+    ) in
+    omega (arith, size o, size p)
+
+-- code with the offset of its debug program
+abbrev code_item : Mentions → Code × ℕ → List ℕ
+code_item m p = code_bytes m p.1 p.0
+
+code_use : (m : Mentions) (c : Option Code) (o p : ℕ) → IsCoveredUse (code_item m) (code_item m) (option_map_or (λ c. Some (c, o)) c None) (option_map_or (λ c. Some (c, p)) c None)
+code_use m None o p = tt
+code_use m (Some c) o p = code_same m c o p
+
+codes_covered : (m : Mentions) (xs : List MethodDef) (os ps : List ℕ) → length os ≡ length ps
+    → AreCoveredUses (code_item m) (code_item m) (zip_with (λ x o. option_map_or (λ c. Some (c, o)) x.code None) xs os) (zip_with (λ x o. option_map_or (λ c. Some (c, o)) x.code None) xs ps)
+codes_covered m [] os ps e = tt
+codes_covered m (x ∷ xs) [] [] e = tt
+codes_covered m (x ∷ xs) [] (p ∷ ps) e = absurd (omega (arith, e))
+codes_covered m (x ∷ xs) (o ∷ os) [] e = absurd (omega (arith, e))
+codes_covered m (x ∷ xs) (o ∷ os) (p ∷ ps) e = (code_use m x.code o p, codes_covered m xs os ps (omega (arith, e)))
+
+-- ---- class data
+
+-- each list is below the other
+abbrev ListsBelow : List (List ℕ) → List (List ℕ) → Type 0
+ListsBelow [] [] = Unit {0}
+ListsBelow [] (ps ∷ pss) = ⊥
+ListsBelow (os ∷ oss) [] = ⊥
+ListsBelow (os ∷ oss) (ps ∷ pss) = AreBelow os ps × ListsBelow oss pss
+
+chunks_below : (ns os ps : List ℕ) → AreBelow os ps → ListsBelow (chunks ns os) (chunks ns ps)
+chunks_below [] os ps h = tt
+chunks_below (n ∷ ns) os ps h = (take_below n os ps h, chunks_below ns (drop n os) (drop n ps) (drop_below n os ps h))
+
+methods_most : (xs : List MethodDef) (ds os ps : List ℕ) → AreBelow os ps → length (concat (zip_with encoded_method_bytes xs (zip ds os))) ≤ length (concat (zip_with encoded_method_bytes xs (zip ds ps)))
+methods_most [] ds os ps h = omega arith
+methods_most (x ∷ xs) [] os ps h = omega arith
+methods_most (x ∷ xs) (d ∷ ds) [] [] h = omega arith
+methods_most (x ∷ xs) (d ∷ ds) [] (p ∷ ps) h = absurd h
+methods_most (x ∷ xs) (d ∷ ds) (o ∷ os) [] h = absurd h
+methods_most (x ∷ xs) (d ∷ ds) (o ∷ os) (p ∷ ps) h =
+    omega (
+      arith,
+      length-append (encoded_method_bytes x (d, o)) (concat (zip_with encoded_method_bytes xs (zip ds os))),
+      length-append (encoded_method_bytes x (d, p)) (concat (zip_with encoded_method_bytes xs (zip ds ps))),
+      length-append (uleb128 d) (uleb128 x.flags ++ uleb128 o),
+      length-append (uleb128 x.flags) (uleb128 o),
+      length-append (uleb128 d) (uleb128 x.flags ++ uleb128 p),
+      length-append (uleb128 x.flags) (uleb128 p),
+      uleb128_most o p h.0,
+      methods_most xs ds os ps h.1,
+    )
+
+class_data_most : (m : Mentions) (d : Definition) (os ps : List ℕ) → AreBelow os ps → length (class_data_bytes m d os) ≤ length (class_data_bytes m d ps)
+unfolding class_data_bytes
+class_data_most m (name, c) os ps h =
+    let n = length c.direct_methods in
+    let direct = differences 0 (map (λ x. method_index m (method_of name x)) c.direct_methods) in
+    let virtual = differences 0 (map (λ x. method_index m (method_of name x)) c.virtual_methods) in
+    let x1 = uleb128 (length c.static_fields) in
+    let x2 = uleb128 (length c.instance_fields) in
+    let x3 = uleb128 n in
+    let x4 = uleb128 (length c.virtual_methods) in
+    let x5 = encoded_fields_bytes m name c.static_fields in
+    let x6 = encoded_fields_bytes m name c.instance_fields in
+    let size : (y z : List ℕ) → length (x1 ++ (x2 ++ (x3 ++ (x4 ++ (x5 ++ (x6 ++ (y ++ z))))))) ≡ length x1 + (length x2 + (length x3 + (length x4 + (length x5 + (length x6 + (length y + length z)))))) = λ y z.
+    omega (
+      arith,
+      length-append x1 (x2 ++ (x3 ++ (x4 ++ (x5 ++ (x6 ++ (y ++ z)))))),
+      length-append x2 (x3 ++ (x4 ++ (x5 ++ (x6 ++ (y ++ z))))),
+      length-append x3 (x4 ++ (x5 ++ (x6 ++ (y ++ z)))),
+      length-append x4 (x5 ++ (x6 ++ (y ++ z))),
+      length-append x5 (x6 ++ (y ++ z)),
+      length-append x6 (y ++ z),
+      length-append y z,
+    ) in
+    omega (
+      arith,
+      size (encoded_methods_bytes m name c.direct_methods (take n os)) (encoded_methods_bytes m name c.virtual_methods (drop n os)),
+      size (encoded_methods_bytes m name c.direct_methods (take n ps)) (encoded_methods_bytes m name c.virtual_methods (drop n ps)),
+      methods_most c.direct_methods direct (take n os) (take n ps) (take_below n os ps h),
+      methods_most c.virtual_methods virtual (drop n os) (drop n ps) (drop_below n os ps h),
+    )
+
+-- a class with the offsets of its code
+abbrev data_item : Mentions → Definition × List ℕ → List ℕ
+data_item m p = class_data_bytes m p.0 p.1
+
+data_use : (m : Mentions) (d : Definition) (os ps : List ℕ) → AreBelow os ps → (b : Bool) → IsCoveredUse (data_item m) (data_item m) (if b then None else Some (d, os)) (if b then None else Some (d, ps))
+data_use m d os ps h true = tt
+data_use m d os ps h false = class_data_most m d os ps h
+
+data_covered : (m : Mentions) (cs : List Definition) (oss pss : List (List ℕ)) → ListsBelow oss pss
+    → AreCoveredUses (data_item m) (data_item m) (zip_with (λ d offs. if is_empty_class d.1 then None else Some (d, offs)) cs oss) (zip_with (λ d offs. if is_empty_class d.1 then None else Some (d, offs)) cs pss)
+data_covered m [] oss pss h = tt
+data_covered m (d ∷ cs) [] [] h = tt
+data_covered m (d ∷ cs) [] (ps ∷ pss) h = absurd h
+data_covered m (d ∷ cs) (os ∷ oss) [] h = absurd h
+data_covered m (d ∷ cs) (os ∷ oss) (ps ∷ pss) h = (data_use m d os ps h.0 (is_empty_class d.1), data_covered m cs oss pss h.1)
+
+-- ---- sets
+
+length-offsets_bytes : (offs : List ℕ) → length (offsets_bytes offs) ≡ 4 + 4 * length offs
+length-offsets_bytes offs = length-append (uint (length offs)) (flat_map uint offs) ∙ omega (arith, length-uint (length offs), length_rows uint 4 length-uint offs)
+
+abbrev nowhere : Annotation → ℕ
+nowhere a = 0
+
+-- the offsets of the annotations of a set, each zero
+abbrev blank : AnnotationSet → List ℕ
+blank set = offsets_bytes (map nowhere set)
+
+length-blank : (set : AnnotationSet) → length (blank set) ≡ 4 + 4 * length set
+length-blank set = length-offsets_bytes (map nowhere set) ∙ omega (arith, length-map set nowhere)
+
+sets_under : (sets : List AnnotationSet) (os : List ℕ) → IsCovered (map offsets_bytes (chunks (map (λ set. length set) sets) os)) (map blank sets)
+sets_under [] os = tt
+sets_under (s ∷ sets) os = inl (omega (arith, length-offsets_bytes (take (length s) os), length-blank s, length-take (length s) os), sets_under sets (drop (length s) os))
+
+sets_over : (sets : List AnnotationSet) (os : List ℕ) → length (flat_map (λ set. set) sets) ≤ length os → IsCovered (map blank sets) (map offsets_bytes (chunks (map (λ set. length set) sets) os))
+sets_over [] os le = tt
+sets_over (s ∷ sets) os le =
+    inl (
+      omega (arith, length-offsets_bytes (take (length s) os), length-blank s, length-take (length s) os, length-append s (flat_map (λ (set : AnnotationSet). set) sets), le),
+      sets_over sets (drop (length s) os) (omega (arith, length-drop (length s) os, length-append s (flat_map (λ (set : AnnotationSet). set) sets), le)),
+    )
+
+-- ---- the offsets of sets
+
+-- a use that is present begins after 0, and another use is at 0
+abbrev IsMarked : {X : Type 0} → Option X → ℕ → Type 0
+IsMarked None o = o ≡ 0
+IsMarked (Some x) o = 0 < o
+
+marked_by : {X : Type 0} (written : List X) (offs : List ℕ) → ((i : ℕ) → i < length written → 0 < slice_index offs i) → (u : Option X) (n : Option ℕ) → IsNumber u n written → IsMarked u (option_map_or (slice_index offs) n 0)
+marked_by written offs some None n is = ap (λ k. option_map_or (slice_index offs) k 0) is
+marked_by written offs some (Some x) n is = subst (λ k. 0 < option_map_or (slice_index offs) k 0) (sym is.2) (some is.0 is.1)
+
+marked : {X : Type 0} (uses : List (Option X)) (its : Items X) (offs : List ℕ) → AreNumbered uses its → ((i : ℕ) → i < length its.written → 0 < slice_index offs i) → (k : ℕ) → k < length uses
+    → IsMarked (get_or uses k None) (slice_index (uses_offsets its.numbers offs) k)
+marked uses its offs are some k lt =
+    subst (IsMarked (get_or uses k None)) (sym (number_offset its.numbers offs k (omega (arith, are.count, lt))))
+    (marked_by its.written offs some (get_or uses k None) (get_or its.numbers k None) (are.each k lt))
+
+marks_alike : {X : Type 0} (u : Option X) (o p : ℕ) → IsMarked u o → IsMarked u p → AreAlike o p
+marks_alike None o p h k = inl (h, k)
+marks_alike (Some x) o p h k = inr (h, k)
+
+-- items after 0 begin after 0
+offset_some : (align from : ℕ) (xs : List (List ℕ)) → 0 < from → (i : ℕ) → i < length xs → 0 < slice_index (offsets_from align from xs) i
+offset_some align from [] some i lt = absurd (omega (arith, lt))
+offset_some align from (x ∷ xs) some zero lt = omega (arith, some, length-padding align from)
+offset_some align from (x ∷ xs) some (suc i) lt = offset_some align (round_up align from + length x) xs (omega (arith, some, length-padding align from)) i (omega (arith, lt))
+
+-- the sets of one class
+record AreSetsAlike (s t : SetOffsets) : Type 0 where
+  own : AreAlike s.own t.own
+  fields : AllAlike s.fields t.fields
+  methods : ListsAlike s.methods t.methods
+
+-- the sets of each class
+abbrev AllSetsAlike : List SetOffsets → List SetOffsets → Type 0
+AllSetsAlike [] [] = Unit {0}
+AllSetsAlike [] (t ∷ ts) = ⊥
+AllSetsAlike (s ∷ ss) [] = ⊥
+AllSetsAlike (s ∷ ss) (t ∷ ts) = AreSetsAlike s t × AllSetsAlike ss ts
+
+sets_of_alike : (d : Definition) (os ps : List ℕ) → AllAlike os ps → AreSetsAlike (set_offsets_of d os) (set_offsets_of d ps)
+sets_of_alike d os ps h =
+    let n = length (declared_fields d.1) in
+    record {
+      own = alike_first os ps h;
+      fields = take_alike n (drop 1 os) (drop 1 ps) (drop_alike 1 os ps h);
+      methods = chunks_alike (map (λ x. length (method_sets x)) (declared_methods d.1)) (drop (1 + n) os) (drop (1 + n) ps) (drop_alike (1 + n) os ps h);
+    }
+
+sets_by_alike : (cs : List Definition) (oss pss : List (List ℕ)) → ListsAlike oss pss → AllSetsAlike (zip_with set_offsets_of cs oss) (zip_with set_offsets_of cs pss)
+sets_by_alike [] oss pss h = tt
+sets_by_alike (d ∷ cs) [] [] h = tt
+sets_by_alike (d ∷ cs) [] (ps ∷ pss) h = absurd h
+sets_by_alike (d ∷ cs) (os ∷ oss) [] h = absurd h
+sets_by_alike (d ∷ cs) (os ∷ oss) (ps ∷ pss) h = (sets_of_alike d os ps h.0, sets_by_alike cs oss pss h.1)
+
+-- ---- ref lists
+
+ref_use : (os ps : List ℕ) → length os ≡ length ps → IsCoveredUse offsets_bytes offsets_bytes (unless_empty os) (unless_empty ps)
+ref_use [] [] e = tt
+ref_use [] (p ∷ ps) e = absurd (omega (arith, e))
+ref_use (o ∷ os) [] e = absurd (omega (arith, e))
+ref_use (o ∷ os) (p ∷ ps) e = omega (arith, e, length-offsets_bytes (o ∷ os), length-offsets_bytes (p ∷ ps))
+
+uses_append : {X Y : Type 0} (g : X → List ℕ) (h : Y → List ℕ) (us us' : List (Option X)) (vs vs' : List (Option Y)) → AreCoveredUses g h us vs → AreCoveredUses g h us' vs' → AreCoveredUses g h (us ++ us') (vs ++ vs')
+uses_append g h [] us' [] vs' c d = d
+uses_append g h [] us' (v ∷ vs) vs' c d = absurd c
+uses_append g h (u ∷ us) us' [] vs' c d = absurd c
+uses_append g h (u ∷ us) us' (v ∷ vs) vs' c d = (c.0, uses_append g h us us' vs vs' c.1 d)
+
+refs_of : (oss pss : List (List ℕ)) → ListsAlike oss pss → AreCoveredUses offsets_bytes offsets_bytes (map (λ offs. unless_empty (drop 1 offs)) oss) (map (λ offs. unless_empty (drop 1 offs)) pss)
+refs_of [] [] h = tt
+refs_of [] (ps ∷ pss) h = absurd h
+refs_of (os ∷ oss) [] h = absurd h
+refs_of (os ∷ oss) (ps ∷ pss) h = (ref_use (drop 1 os) (drop 1 ps) (alike_length (drop 1 os) (drop 1 ps) (drop_alike 1 os ps h.0)), refs_of oss pss h.1)
+
+refs_covered : (ss ts : List SetOffsets) → AllSetsAlike ss ts
+    → AreCoveredUses offsets_bytes offsets_bytes (flat_map (λ s. map (λ offs. unless_empty (drop 1 offs)) s.methods) ss) (flat_map (λ s. map (λ offs. unless_empty (drop 1 offs)) s.methods) ts)
+refs_covered [] [] h = tt
+refs_covered [] (t ∷ ts) h = absurd h
+refs_covered (s ∷ ss) [] h = absurd h
+refs_covered (s ∷ ss) (t ∷ ts) h =
+    uses_append offsets_bytes offsets_bytes (map (λ offs. unless_empty (drop 1 offs)) s.methods) (flat_map (λ (s : SetOffsets). map (λ offs. unless_empty (drop 1 offs)) s.methods) ss)
+    (map (λ offs. unless_empty (drop 1 offs)) t.methods) (flat_map (λ (s : SetOffsets). map (λ offs. unless_empty (drop 1 offs)) s.methods) ts) (refs_of s.methods t.methods h.0.methods) (refs_covered ss ts h.1)
+
+-- ---- directories
+
+length-pairs_bytes : (ps : List (ℕ × ℕ)) → length (pairs_bytes ps) ≡ 8 * length ps
+length-pairs_bytes ps = length_rows (λ (p : ℕ × ℕ). uint p.0 ++ uint p.1) 8 (λ p. omega (arith, length-append (uint p.0) (uint p.1), length-uint p.0, length-uint p.1)) ps
+
+-- the bytes themselves
+abbrev bytes : List ℕ → List ℕ
+bytes x = x
+
+unless_by : (b c : Bool) (x y : List ℕ) → b ≡ c → length x ≤ length y → IsCoveredUse bytes bytes (if b then None else Some x) (if c then None else Some y)
+unless_by true true x y e le = tt
+unless_by true false x y e le = absurd cc
+unless_by false true x y e le = absurd cc
+unless_by false false x y e le = le
+
+sum_alike : (o p n k : ℕ) → AreAlike o p → n ≡ k → (o + n == 0) ≡ (p + k == 0)
+sum_alike o p n k (inl h) e = zero_alike (o + n) (p + k) (by n k e h)
+  where
+    by : (n k : ℕ) → n ≡ k → (o ≡ 0) × (p ≡ 0) → AreAlike (o + n) (p + k)
+    by zero zero e h = inl (omega (arith, h.0), omega (arith, h.1))
+    by zero (suc k) e h = absurd (omega (arith, e))
+    by (suc n) zero e h = absurd (omega (arith, e))
+    by (suc n) (suc k) e h = inr (omega arith, omega arith)
+sum_alike o p n k (inr h) e = zero_alike (o + n) (p + k) (inr (omega (arith, h.0), omega (arith, h.1)))
+
+directory_parts : (own : ℕ) (x y z : List (ℕ × ℕ)) → length (uint own ++ (uint (length x) ++ (uint (length y) ++ (uint (length z) ++ (pairs_bytes x ++ (pairs_bytes y ++ pairs_bytes z)))))) ≡ 16 + (8 * length x + (8 * length y + 8 * length z))
+directory_parts own x y z =
+    let w5 = pairs_bytes x ++ (pairs_bytes y ++ pairs_bytes z) in
+    omega (
+      arith,
+      length-append (uint own) (uint (length x) ++ (uint (length y) ++ (uint (length z) ++ w5))),
+      length-append (uint (length x)) (uint (length y) ++ (uint (length z) ++ w5)),
+      length-append (uint (length y)) (uint (length z) ++ w5),
+      length-append (uint (length z)) w5,
+      length-append (pairs_bytes x) (pairs_bytes y ++ pairs_bytes z),
+      length-append (pairs_bytes y) (pairs_bytes z),
+      length-uint own,
+      length-uint (length x),
+      length-uint (length y),
+      length-uint (length z),
+      length-pairs_bytes x,
+      length-pairs_bytes y,
+      length-pairs_bytes z,
+    )
+
+directory_use : (m : Mentions) (d : Definition) (s t : SetOffsets) (os ps : List ℕ) → AreSetsAlike s t → AllAlike os ps → IsCoveredUse bytes bytes (directory_bytes m d s os) (directory_bytes m d t ps)
+directory_use m (name, c) s t os ps h k =
+    let fields = map (λ f. field_index m (field_of name f)) (declared_fields c) in
+    let methods = map (λ x. method_index m (method_of name x)) (declared_methods c) in
+    let sm = map (λ (offs : List ℕ). slice_index offs 0) s.methods in
+    let tm = map (λ (offs : List ℕ). slice_index offs 0) t.methods in
+    let one : length (pairs fields s.fields) ≡ length (pairs fields t.fields) = pairs_alike fields s.fields t.fields h.fields in
+    let two : length (pairs methods sm) ≡ length (pairs methods tm) = pairs_alike methods sm tm (firsts_alike s.methods t.methods h.methods) in
+    let three : length (pairs methods os) ≡ length (pairs methods ps) = pairs_alike methods os ps k in
+    let all : length (pairs fields s.fields) + (length (pairs methods sm) + length (pairs methods os)) ≡ length (pairs fields t.fields) + (length (pairs methods tm) + length (pairs methods ps)) = omega (arith, one, two, three) in
+    unless_by _ _ _ _ (sum_alike s.own t.own _ _ h.own all)
+    (omega (arith, directory_parts s.own (pairs fields s.fields) (pairs methods sm) (pairs methods os), directory_parts t.own (pairs fields t.fields) (pairs methods tm) (pairs methods ps), one, two, three))
+
+directories_covered : (m : Mentions) (cs : List Definition) (ss ts : List SetOffsets) (oss pss : List (List ℕ)) → AllSetsAlike ss ts → ListsAlike oss pss
+    → AreCoveredUses bytes bytes (zip_with (λ d p. directory_bytes m d p.0 p.1) cs (zip ss oss)) (zip_with (λ d p. directory_bytes m d p.0 p.1) cs (zip ts pss))
+directories_covered m [] ss ts oss pss h k = tt
+directories_covered m (d ∷ cs) [] [] oss pss h k = tt
+directories_covered m (d ∷ cs) [] (t ∷ ts) oss pss h k = absurd h
+directories_covered m (d ∷ cs) (s ∷ ss) [] oss pss h k = absurd h
+directories_covered m (d ∷ cs) (s ∷ ss) (t ∷ ts) [] [] h k = tt
+directories_covered m (d ∷ cs) (s ∷ ss) (t ∷ ts) [] (ps ∷ pss) h k = absurd k
+directories_covered m (d ∷ cs) (s ∷ ss) (t ∷ ts) (os ∷ oss) [] h k = absurd k
+directories_covered m (d ∷ cs) (s ∷ ss) (t ∷ ts) (os ∷ oss) (ps ∷ pss) h k = (directory_use m d s t os ps h.0 k.0, directories_covered m cs ss ts oss pss h.1 k.1)
+
+items_themselves : (xs : List (List ℕ)) → map bytes xs ≡ xs
+items_themselves [] = refl
+items_themselves (x ∷ xs) = ap (λ ys. x ∷ ys) (items_themselves xs)
+
+-- ---- the length of a file
+
+-- the entry of a section, if it has items
+abbrev section_entry : Placed → List (Section × ℕ × ℕ)
+section_entry p = if length p.items == 0 then [] else (p.kind, length p.items, slice_index (offsets p) 0) ∷ []
+
+-- each section has at most as many items as the other at its place
+abbrev AreFew : List Placed → List Placed → Type 0
+AreFew [] [] = Unit {0}
+AreFew [] (q ∷ qs) = ⊥
+AreFew (p ∷ ps) [] = ⊥
+AreFew (p ∷ ps) (q ∷ qs) = (length p.items ≤ length q.items) × AreFew ps qs
+
+entry_most : (n k : ℕ) (e f : Section × ℕ × ℕ) → n ≤ k → length (if n == 0 then [] else e ∷ []) ≤ length (if k == 0 then [] else f ∷ [])
+entry_most zero k e f le = omega arith
+entry_most (suc n) zero e f le = absurd (omega (arith, le))
+entry_most (suc n) (suc k) e f le = one (suc n == 0) (suc k == 0) (not_zero (suc k) (omega arith))
+  where
+    one : (b c : Bool) → c ≡ false → length (if b then [] else e ∷ []) ≤ length (if c then [] else f ∷ [])
+    one b true is = absurd cc
+    one true false is = omega arith
+    one false false is = omega arith
+
+sections_most : (ps qs : List Placed) → AreFew ps qs → length (flat_map section_entry ps) ≤ length (flat_map section_entry qs)
+sections_most [] [] h = omega arith
+sections_most [] (q ∷ qs) h = absurd h
+sections_most (p ∷ ps) [] h = absurd h
+sections_most (p ∷ ps) (q ∷ qs) h =
+    omega (
+      arith,
+      length-append (section_entry p) (flat_map section_entry ps),
+      length-append (section_entry q) (flat_map section_entry qs),
+      entry_most (length p.items) (length q.items) (p.kind, length p.items, slice_index (offsets p) 0) (q.kind, length q.items, slice_index (offsets q) 0) h.0,
+      sections_most ps qs h.1,
+    )
+
+-- the entries of tables
+abbrev table_entries : Ordered → List (Section × ℕ × ℕ)
+table_entries K = flat_map (λ t. if t.1 == 0 then [] else (TableOf t.0, t.1, t.2) ∷ []) (placed_tables K)
+
+round_up_least : (at last : ℕ) → at ≤ last → round_up 4 at ≤ round_up 4 last
+round_up_least at last le = omega (arith, le)
+
+-- the length of the file after its sums
+file_length : (K : Ordered) → 32 + length (unsigned_file K) ≡ round_up 4 (directory_end K) + (4 + 12 * (2 + (length (table_entries K) + length (flat_map section_entry (data_sections K)))))
+unfolding unsigned_file
+file_length K =
+    let l = layout K in
+    let map_off = round_up 4 l.data_end in
+    let entries = map_of K l map_off in
+    let list = map_bytes entries in
+    let header = header_bytes K map_off (map_off + length list) in
+    let sections = flat_map section_bytes l.sections in
+    let gap = padding 4 l.data_end in
+    let full : AreFull K l = subst (AreFull K) (sym (layout_is K)) (named_layout_full K) in
+    let same : flat_map section_bytes l.sections ≡ flat_map section_bytes (data_sections K) = ap (λ (l : Layout). flat_map section_bytes l.sections) (layout_is K) in
+    let of_sections : flat_map section_entry l.sections ≡ flat_map section_entry (data_sections K) = ap (λ (l : Layout). flat_map section_entry l.sections) (layout_is K) in
+    let last : l.data_end ≡ directory_end K = ap (λ (l : Layout). l.data_end) (layout_is K) in
+    let aligned : round_up 4 l.data_end ≡ round_up 4 (directory_end K) = ap (round_up 4) last in
+    let rest : List (Section × ℕ × ℕ) = (MapList, 1, map_off) ∷ [] in
+    omega (
+      arith,
+      length-append header (table_bytes K l ++ (sections ++ (gap ++ list))),
+      length-append (table_bytes K l) (sections ++ (gap ++ list)),
+      length-append sections (gap ++ list),
+      length-append gap list,
+      length-header_bytes K map_off (map_off + length list),
+      length-table_bytes K l full,
+      length-sections (data_start K) (data_sections K) (directory_end K) (sections_follow K),
+      ap (λ (x : List ℕ). length x) same,
+      ap (λ (x : List (Section × ℕ × ℕ)). length x) of_sections,
+      length-padding 4 l.data_end,
+      last,
+      aligned,
+      length-map_bytes entries,
+      length-append (table_entries K) (flat_map section_entry l.sections ++ rest),
+      length-append (flat_map section_entry l.sections) rest,
+    )
+
+-- ---- the sections of both forms
+
+module _ (cs : List Definition) (m : Mentions) where
+  -- equal items written once, and each use with its own item
+  abbrev K : Ordered
+  K = record { classes = cs; pools = m; sharing = EqualOnce }
+
+  abbrev L : Ordered
+  L = record { classes = cs; pools = m; sharing = EachForItself }
+
+  type_lists_covered : IsCovered (type_list_section K).items (type_list_section L).items
+  type_lists_covered = covered_items (type_list_bytes m) same_types (present (type_list_uses K))
+
+  type_list_end_most : type_list_end K ≤ type_list_end L
+  unfolding type_list_end
+  type_list_end_most = end_covered 4 (inl refl) (data_start K) (data_start L) (type_list_section K).items (type_list_section L).items type_lists_covered (omega arith)
+
+  annotations_covered : IsCovered (annotation_section K).items (annotation_section L).items
+  annotations_covered = covered_lists (annotation_bytes m) same_set (present (set_uses K))
+
+  annotation_end_most : annotation_end K ≤ annotation_end L
+  unfolding annotation_end
+  annotation_end_most = end_covered 1 (inr refl) (type_list_end K) (type_list_end L) (annotation_section K).items (annotation_section L).items annotations_covered type_list_end_most
+
+  array_end_most : array_end K ≤ array_end L
+  unfolding array_end
+  array_end_most = end_covered 1 (inr refl) (annotation_end K) (annotation_end L) (array_section K).items (array_section L).items (covered_itself (array_section K).items) annotation_end_most
+
+  string_end_most : string_end K ≤ string_end L
+  unfolding string_end
+  string_end_most = end_covered 1 (inr refl) (array_end K) (array_end L) (string_section K).items (string_section L).items (covered_itself (string_section K).items) array_end_most
+
+  debugs_covered : IsCovered (debug_section K).items (debug_section L).items
+  debugs_covered = covered_items (debug_bytes m) same_debug (present (debug_uses K))
+
+  debug_end_most : debug_end K ≤ debug_end L
+  unfolding debug_end
+  debug_end_most = end_covered 1 (inr refl) (string_end K) (string_end L) (debug_section K).items (debug_section L).items debugs_covered string_end_most
+
+  code_uses_covered : AreCoveredUses (code_item m) (code_item m) (code_uses K (debug_offsets K)) (code_uses L (debug_offsets L))
+  code_uses_covered = codes_covered m (all_methods cs) (debug_offsets K) (debug_offsets L) (length-debug_offsets K ∙ sym (length-debug_offsets L))
+
+  codes_are_covered : IsCovered (code_section K).items (code_section L).items
+  codes_are_covered = covered_present (code_item m) (code_item m) (code_uses K (debug_offsets K)) (code_uses L (debug_offsets L)) code_uses_covered
+
+  code_end_most : code_end K ≤ code_end L
+  unfolding code_end
+  code_end_most = end_covered 4 (inl refl) (debug_end K) (debug_end L) (code_section K).items (code_section L).items codes_are_covered debug_end_most
+
+  code_offsets_below : AreBelow (code_offsets K) (code_offsets L)
+  unfolding code_offsets
+  code_offsets_below =
+      let us = code_uses K (debug_offsets K) in
+      let vs = code_uses L (debug_offsets L) in
+      subst (λ ns. AreBelow (uses_offsets (own_numbers 0 us) (offsets (code_section K))) (uses_offsets ns (offsets (code_section L)))) (covered_numbers (code_item m) (code_item m) 0 us vs code_uses_covered)
+      (uses_below (offsets (code_section K)) (offsets (code_section L)) (offsets_below (code_item m) (code_item m) 4 (debug_end K) (debug_end L) (inl refl) us vs code_uses_covered debug_end_most) (own_numbers 0 us))
+
+  data_uses_covered : AreCoveredUses (data_item m) (data_item m) (class_data_uses K (code_offsets K)) (class_data_uses L (code_offsets L))
+  data_uses_covered = data_covered m cs (by_class K (code_offsets K)) (by_class L (code_offsets L)) (chunks_below (map (λ d. length (declared_methods d.1)) cs) (code_offsets K) (code_offsets L) code_offsets_below)
+
+  class_data_covered : IsCovered (class_data_section K).items (class_data_section L).items
+  class_data_covered = covered_present (data_item m) (data_item m) (class_data_uses K (code_offsets K)) (class_data_uses L (code_offsets L)) data_uses_covered
+
+  class_data_end_most : class_data_end K ≤ class_data_end L
+  unfolding class_data_end
+  class_data_end_most = end_covered 1 (inr refl) (code_end K) (code_end L) (class_data_section K).items (class_data_section L).items class_data_covered code_end_most
+
+  sets_covered : IsCovered (set_section K).items (set_section L).items
+  unfolding annotation_offsets
+  sets_covered =
+      let once = (set_items K).written in
+      let each = (set_items L).written in
+      let all : length (flat_map (λ (set : AnnotationSet). set) each) ≤ length (offsets (annotation_section L)) =
+      omega (arith, length-offsets_from 1 (type_list_end L) (annotation_section L).items, length-map (flat_map (λ (set : AnnotationSet). set) each) (annotation_bytes m)) in
+      covered_then (map offsets_bytes (chunks (map (λ set. length set) once) (offsets (annotation_section K)))) (map blank once) (map offsets_bytes (chunks (map (λ set. length set) each) (offsets (annotation_section L))))
+      (sets_under once (offsets (annotation_section K)))
+      (covered_then (map blank once) (map blank each) (map offsets_bytes (chunks (map (λ set. length set) each) (offsets (annotation_section L)))) (covered_items blank same_set (present (set_uses K))) (sets_over each (offsets (annotation_section L)) all))
+
+  set_end_most : set_end K ≤ set_end L
+  unfolding set_end
+  set_end_most = end_covered 4 (inl refl) (class_data_end K) (class_data_end L) (set_section K).items (set_section L).items sets_covered class_data_end_most
+
+  -- ---- items that hold offsets of sets
+
+  -- a section of the data begins after the header
+  set_from_some : (J : Ordered) → 0 < class_data_end J
+  set_from_some J = let h = sections_between (data_start J) (data_sections J) (directory_end J) 7 (set_section J) (sections_follow J) (omega arith) in omega (arith, h.0)
+
+  ref_from_some : (J : Ordered) → 0 < set_end J
+  ref_from_some J = let h = sections_between (data_start J) (data_sections J) (directory_end J) 8 (set_section J) (sections_follow J) (omega arith) in omega (arith, h.0)
+
+  set_count : (J : Ordered) → length (set_section J).items ≡ length (set_items J).written
+  unfolding annotation_offsets
+  set_count J =
+      length-map (chunks (map (λ set. length set) (set_items J).written) (offsets (annotation_section J))) offsets_bytes
+      ∙ length-chunks (map (λ set. length set) (set_items J).written) (offsets (annotation_section J)) ∙ length-map (set_items J).written (λ set. length set)
+
+  -- the offset of each use's set
+  abbrev set_places : Ordered → List ℕ
+  set_places J = uses_offsets (set_items J).numbers (offsets (set_section J))
+
+  set_marked : (J : Ordered) (k : ℕ) → k < length (set_uses J) → IsMarked (get_or (set_uses J) k None) (slice_index (set_places J) k)
+  set_marked J k lt =
+      marked (set_uses J) (set_items J) (offsets (set_section J)) (items_numbered J.sharing same_set set_decides (set_uses J))
+      (λ i less. offset_some 4 (class_data_end J) (set_section J).items (set_from_some J) i (omega (arith, less, set_count J))) k lt
+
+  length-set_places : (J : Ordered) → length (set_places J) ≡ length (set_uses J)
+  length-set_places J = length-items_offsets J.sharing same_set (set_uses J) (offsets (set_section J))
+
+  set_places_alike : AllAlike (set_places K) (set_places L)
+  set_places_alike =
+      alike_from (set_places K) (set_places L) (length-set_places K ∙ sym (length-set_places L))
+      (λ k lt.
+      let less : k < length (set_uses K) = omega (arith, lt, length-set_places K) in
+      marks_alike (get_or (set_uses K) k None) (slice_index (set_places K) k) (slice_index (set_places L) k) (set_marked K k less) (set_marked L k less))
+
+  sets_alike : AllSetsAlike (set_offsets K) (set_offsets L)
+  unfolding set_offsets
+  sets_alike =
+      let counts = map (λ d. length (class_sets d)) cs in
+      sets_by_alike cs (chunks counts (set_places K)) (chunks counts (set_places L)) (chunks_alike counts (set_places K) (set_places L) set_places_alike)
+
+  ref_uses_covered : AreCoveredUses offsets_bytes offsets_bytes (ref_list_uses K (set_offsets K)) (ref_list_uses L (set_offsets L))
+  ref_uses_covered = refs_covered (set_offsets K) (set_offsets L) sets_alike
+
+  ref_lists_covered : IsCovered (ref_list_section K).items (ref_list_section L).items
+  ref_lists_covered = covered_present offsets_bytes offsets_bytes (ref_list_uses K (set_offsets K)) (ref_list_uses L (set_offsets L)) ref_uses_covered
+
+  ref_list_end_most : ref_list_end K ≤ ref_list_end L
+  unfolding ref_list_end
+  ref_list_end_most = end_covered 4 (inl refl) (set_end K) (set_end L) (ref_list_section K).items (ref_list_section L).items ref_lists_covered set_end_most
+
+  ref_places_alike : AllAlike (ref_list_offsets K) (ref_list_offsets L)
+  unfolding ref_list_offsets
+  ref_places_alike =
+      let us = ref_list_uses K (set_offsets K) in
+      let vs = ref_list_uses L (set_offsets L) in
+      subst (λ ns. AllAlike (uses_offsets (own_numbers 0 us) (offsets (ref_list_section K))) (uses_offsets ns (offsets (ref_list_section L)))) (covered_numbers offsets_bytes offsets_bytes 0 us vs ref_uses_covered)
+      (uses_alike (offsets (ref_list_section K)) (offsets (ref_list_section L))
+      (offsets_alike 4 (set_end K) (set_end L) (ref_list_section K).items (ref_list_section L).items (covered_count offsets_bytes offsets_bytes us vs ref_uses_covered) (ref_from_some K) (ref_from_some L)) (own_numbers 0 us))
+
+  directory_uses_covered : AreCoveredUses bytes bytes (directory_uses K (set_offsets K) (ref_list_offsets K)) (directory_uses L (set_offsets L) (ref_list_offsets L))
+  directory_uses_covered =
+      directories_covered m cs (set_offsets K) (set_offsets L) (by_class K (ref_list_offsets K)) (by_class L (ref_list_offsets L)) sets_alike
+      (chunks_alike (map (λ d. length (declared_methods d.1)) cs) (ref_list_offsets K) (ref_list_offsets L) ref_places_alike)
+
+  directories_are_covered : IsCovered (directory_section K).items (directory_section L).items
+  directories_are_covered =
+      let us = directory_uses K (set_offsets K) (ref_list_offsets K) in
+      let vs = directory_uses L (set_offsets L) (ref_list_offsets L) in
+      subst (IsCovered (present us)) (items_themselves (present vs)) (subst (λ xs. IsCovered xs (map bytes (present vs))) (items_themselves (present us)) (covered_present bytes bytes us vs directory_uses_covered))
+
+  directory_end_most : directory_end K ≤ directory_end L
+  unfolding directory_end
+  directory_end_most = end_covered 4 (inl refl) (ref_list_end K) (ref_list_end L) (directory_section K).items (directory_section L).items directories_are_covered ref_list_end_most
+
+  -- ---- the map
+
+  entries_most : length (flat_map section_entry (data_sections K)) ≤ length (flat_map section_entry (data_sections L))
+  entries_most =
+      sections_most (data_sections K) (data_sections L) (
+        covered_few (type_list_section K).items (type_list_section L).items type_lists_covered,
+        (
+          covered_few (annotation_section K).items (annotation_section L).items annotations_covered,
+          (
+            omega arith,
+            (
+              omega arith,
+              (
+                covered_few (debug_section K).items (debug_section L).items debugs_covered,
+                (
+                  covered_few (code_section K).items (code_section L).items codes_are_covered,
+                  (
+                    covered_few (class_data_section K).items (class_data_section L).items class_data_covered,
+                    (
+                      covered_few (set_section K).items (set_section L).items sets_covered,
+                      (covered_few (ref_list_section K).items (ref_list_section L).items ref_lists_covered, (covered_few (directory_section K).items (directory_section L).items directories_are_covered, tt)),
+                    ),
+                  ),
+                ),
+              ),
+            ),
+          ),
+        ),
+      )
+
+  -- ---- the file
+
+  pub shared_no_longer : length (unsigned_file K) ≤ length (unsigned_file L)
+  shared_no_longer = omega (arith, file_length K, file_length L, entries_most, round_up_least (directory_end K) (directory_end L) directory_end_most)
+
+-- definitions in order, each use with an item of its own
+abbrev each_for_itself : List Definition → Ordered
+each_for_itself D = record { classes = in_class_order D; pools = mentions D; sharing = EachForItself }
+
+-- the whole file is no longer
+pub ordered_no_longer : (D : List Definition) → length (with_sums (unsigned_file (ordered D))) ≤ length (with_sums (unsigned_file (each_for_itself D)))
+ordered_no_longer D = omega (arith, with_sums-size (unsigned_file (ordered D)), with_sums-size (unsigned_file (each_for_itself D)), shared_no_longer (in_class_order D) (mentions D))
+
+-- the file of a collection is no longer
+pub canonical_no_longer : (K : Collection) → length (canonical K) ≤ length (with_sums (unsigned_file (each_for_itself (definitions K))))
+unfolding canonical
+canonical_no_longer K = ordered_no_longer (definitions K)

@@ -1,0 +1,363 @@
+-- The canonical file has at most as many bytes as its class definitions weigh.
+use Rattle.std.proofs.Common.{◌≡◌, ℕ, zero, suc, ◌+◌, ◌-◌, ◌*◌, ◌%◌, ◌/◌, ◌≤◌, Bool, true, false, List, [], ◌∷◌, ◌++◌, map, length, refl, ◌∙◌, arith, sum_by, flat_map, if◌then◌else◌, ◌==◌, length-append, slice_index}
+use Rattle.std.specs.List.{concat}
+use Rattle.std.specs.Int.{w32, to_be_bytes}
+use Rattle.std.specs.FinMap.Entries.{put, by_order}
+use Rattle.std.specs.Option.{option_map_or}
+use Rattle.std.specs.declared.cmp.Ordering.{Ordering}
+use Rattle.std.specs.declared.cmp.Ordering.TheVariants.{Less, Equal, Greater}
+use Rattle.std.proofs.lemmas.List.{length-replicate}
+use Rattle.std.proofs.lemmas.List.Sums.{sum_by-cons}
+use Rattle.std.proofs.lemmas.List.Concat.{length-flat_map}
+use Rattle.sha1.specs.Sha1.{sha1, digest_bytes, hash_after, padded_message}
+use Rattle.dexspec.specs.Bytes.{ushort, uint, round_up, padding}
+use Rattle.dexspec.specs.Texts.{Text, string_data}
+use Rattle.dexspec.specs.Names.{shorty}
+use Rattle.dexspec.specs.Lists.{AreDistinct, zip_with}
+use Rattle.dexspec.specs.Symbols.{Proto, Field, Method}
+use Rattle.dexspec.specs.Header.{HasSize, Table, header_length, adler_32}
+use Rattle.dexspec.specs.Sections.{Section, TableOf, MapList, type_code}
+use Rattle.dexspec.specs.Classes.{Body, Definition, declared_methods, no_index}
+use Rattle.dexspec.specs.Merging.{Caps, AreCaps, Fits}
+use Rattle.dexspec.specs.Files.{Collection, definitions}
+use Rattle.dexspec.specs.Mentions.{Mentions, mentions}
+use Rattle.dexspec.specs.Depth.{place_cmp, put_all, depth, in_class_order}
+use Rattle.dexspec.specs.Weight.{mentions_weight, static_values_weight, body_weight, weight}
+use Rattle.dexspec.specs.Spellings.{text_index, type_index, proto_index}
+use Rattle.dexspec.specs.Sameness.{same_types, same_debug, same_set}
+use Rattle.dexspec.specs.Placing.{Placed, offsets, section_bytes, Ordered, class_sets}
+use Rattle.dexspec.specs.Canonical.{annotation_offsets, set_offsets, data_start, placed_tables, proto_row_bytes, field_row_bytes, method_row_bytes, ClassOffsets, class_row_bytes, Layout, layout, map_entry_bytes, map_of, map_bytes, table_bytes, header_bytes, unsigned_file, magic, with_sums, ordered, canonical}
+use Rattle.dexspec.proofs.numbers.ByteNumbers.{length-ushort, length-uint}
+use Rattle.dexspec.proofs.size.SizeSums.{map-length, sum_by-map, sum_by-at_most, length-offsets_from, padding-at_most}
+use Rattle.dexspec.proofs.size.SizeItems.{each-is}
+use Rattle.dexspec.proofs.size.SizeClass.{zipped-size}
+use Rattle.dexspec.proofs.size.SizeSections.{list_part, items_part, set_part, refs_part, debug_part, code_part, data_part, directory_part, type_lists-size, annotations-size, sets-size, arrays-size, strings-size, debugs-size, codes-size, class_data-size, refs-size, directories-size}
+use Rattle.dexspec.proofs.normal.ClassOrder.{definitions-different}
+use Rattle.dexspec.proofs.size.SizeClasses.{mentions-cover, classes-cover}
+
+-- ---- sections
+
+-- each section has at most that many bytes
+abbrev AreWithinSizes : List Placed → List ℕ → Type 0
+AreWithinSizes [] [] = Unit {0}
+AreWithinSizes [] (n ∷ ns) = ⊥
+AreWithinSizes (p ∷ ps) [] = ⊥
+AreWithinSizes (p ∷ ps) (n ∷ ns) = (length (section_bytes p) ≤ n) × AreWithinSizes ps ns
+
+sections-size : (ps : List Placed) (ns : List ℕ) → AreWithinSizes ps ns → length (flat_map section_bytes ps) ≤ sum_by (λ n. n) ns
+sections-size [] [] h = omega arith
+sections-size [] (n ∷ ns) h = absurd h
+sections-size (p ∷ ps) [] h = absurd h
+sections-size (p ∷ ps) (n ∷ ns) h = omega (arith, length-append (section_bytes p) (flat_map section_bytes ps), sum_by-cons (λ n. n) n ns, h.0, sections-size ps ns h.1)
+
+-- an upper bound for each of the ten sections
+abbrev section_sizes : Ordered → List ℕ
+section_sizes K =
+    (sum_by (λ p. list_part p.parameters) K.pools.protos + sum_by (λ d. list_part d.1.interfaces) K.classes) ∷ sum_by (λ d. sum_by items_part (class_sets d)) K.classes
+    ∷ sum_by (λ d. static_values_weight d.1.static_values) K.classes ∷ sum_by (λ s. 6 + 3 * length s) K.pools.texts ∷ sum_by (λ d. sum_by debug_part (declared_methods d.1)) K.classes
+    ∷ sum_by (λ d. sum_by code_part (declared_methods d.1)) K.classes ∷ sum_by data_part K.classes ∷ sum_by (λ d. sum_by set_part (class_sets d)) K.classes
+    ∷ sum_by (λ d. sum_by (λ x. refs_part x.parameter_annotations) (declared_methods d.1)) K.classes ∷ sum_by directory_part K.classes ∷ []
+
+-- ten sections of these sizes, and an offset of a string for each text
+record IsLaidOut (K : Ordered) (l : Layout) : Type 0 where
+  sizes : AreWithinSizes l.sections (section_sizes K)
+  sections : length l.sections ≡ 10
+  strings : length l.strings ≡ length K.pools.texts
+
+layout-is : (K : Ordered) → length K.pools.types ≤ 65536 → IsLaidOut K (layout K)
+unfolding layout annotation_offsets set_offsets
+layout-is K few = record {
+  sizes = (
+    type_lists-size K K.sharing same_types _,
+    (
+      annotations-size K K.sharing same_set _,
+      (
+        arrays-size K _,
+        (
+          strings-size K.pools _,
+          (
+            debugs-size K K.sharing same_debug _,
+            (codes-size K few _ _, (class_data-size K _ _, (sets-size K K.sharing same_set _ _, (refs-size K _ _, (directories-size K _ _ _, tt))))),
+          ),
+        ),
+      ),
+    ),
+  );
+  sections = refl;
+  strings = length-offsets_from 1 _ (map string_data K.pools.texts) ∙ map-length string_data K.pools.texts;
+}
+
+-- ---- tables
+
+proto_row-size : (m : Mentions) (p : Proto) (off : ℕ) → length (proto_row_bytes m p off) ≤ 12
+proto_row-size m p off =
+    let a = uint (text_index m (shorty p.return_type p.parameters)) in
+    let b = uint (type_index m p.return_type) in
+    omega (arith, length-append a (b ++ uint off), length-append b (uint off), length-uint (text_index m (shorty p.return_type p.parameters)), length-uint (type_index m p.return_type), length-uint off)
+
+field_row-size : (m : Mentions) (f : Field) → length (field_row_bytes m f) ≤ 8
+field_row-size m f =
+    let a = ushort (type_index m f.class) in
+    let b = ushort (type_index m f.type) in
+    let c = uint (text_index m f.name) in
+    omega (arith, length-append a (b ++ c), length-append b c, length-ushort (type_index m f.class), length-ushort (type_index m f.type), length-uint (text_index m f.name))
+
+method_row-size : (m : Mentions) (x : Method) → length (method_row_bytes m x) ≤ 8
+method_row-size m x =
+    let a = ushort (type_index m x.class) in
+    let b = ushort (proto_index m x.proto) in
+    let c = uint (text_index m x.name) in
+    omega (arith, length-append a (b ++ c), length-append b c, length-ushort (type_index m x.class), length-ushort (proto_index m x.proto), length-uint (text_index m x.name))
+
+-- the numbers of four bytes each
+numbers-size : (ns : List ℕ) → length (flat_map uint ns) ≡ 4 * length ns
+numbers-size [] = refl
+numbers-size (n ∷ ns) = omega (arith, length-append (uint n) (flat_map uint ns), length-uint n, numbers-size ns)
+
+class_row-size : (m : Mentions) (d : Definition) (offs : ClassOffsets) → length (class_row_bytes m d offs) ≤ 32
+class_row-size m (name, c) offs =
+    let super = option_map_or (type_index m) c.superclass no_index in
+    let source = option_map_or (text_index m) c.source no_index in
+    let x7 = uint offs.class_data ++ uint offs.static_values in
+    let x6 = uint offs.annotations ++ x7 in
+    let x5 = uint source ++ x6 in
+    let x4 = uint offs.interfaces ++ x5 in
+    let x3 = uint super ++ x4 in
+    let x2 = uint c.flags ++ x3 in
+    omega (
+      arith,
+      length-append (uint (type_index m name)) x2,
+      length-append (uint c.flags) x3,
+      length-append (uint super) x4,
+      length-append (uint offs.interfaces) x5,
+      length-append (uint source) x6,
+      length-append (uint offs.annotations) x7,
+      length-append (uint offs.class_data) (uint offs.static_values),
+      length-uint (type_index m name),
+      length-uint c.flags,
+      length-uint super,
+      length-uint offs.interfaces,
+      length-uint source,
+      length-uint offs.annotations,
+      length-uint offs.class_data,
+      length-uint offs.static_values,
+    )
+
+tables-size : (K : Ordered) (l : Layout) → length l.strings ≡ length K.pools.texts
+    → length (table_bytes K l) ≤ 4 * length K.pools.texts + 4 * length K.pools.types + 12 * length K.pools.protos + 8 * length K.pools.fields + 8 * length K.pools.methods + 32 * length K.classes
+tables-size K l same =
+    let m = K.pools in
+    let type_row = λ (t : Text). uint (text_index m t) in
+    let x1 = flat_map uint l.strings in
+    let x2 = flat_map type_row m.types in
+    let x3 = concat (zip_with (proto_row_bytes m) m.protos l.parameters) in
+    let x4 = flat_map (field_row_bytes m) m.fields in
+    let x5 = flat_map (method_row_bytes m) m.methods in
+    let x6 = concat (zip_with (class_row_bytes m) K.classes l.classes) in
+    omega (
+      arith,
+      length-append x1 (x2 ++ (x3 ++ (x4 ++ (x5 ++ x6)))),
+      length-append x2 (x3 ++ (x4 ++ (x5 ++ x6))),
+      length-append x3 (x4 ++ (x5 ++ x6)),
+      length-append x4 (x5 ++ x6),
+      length-append x5 x6,
+      same,
+      numbers-size l.strings,
+      length-flat_map type_row m.types,
+      sum_by-at_most (λ (t : Text). length (type_row t)) 4 m.types (λ t. omega (arith, length-uint (text_index m t))),
+      zipped-size (proto_row_bytes m) 12 m.protos l.parameters (proto_row-size m),
+      length-flat_map (field_row_bytes m) m.fields,
+      sum_by-at_most (λ (f : Field). length (field_row_bytes m f)) 8 m.fields (field_row-size m),
+      length-flat_map (method_row_bytes m) m.methods,
+      sum_by-at_most (λ (x : Method). length (method_row_bytes m x)) 8 m.methods (method_row-size m),
+      zipped-size (class_row_bytes m) 32 K.classes l.classes (class_row-size m),
+    )
+
+-- ---- the map
+
+one-at_most : {X : Type 0} (b : Bool) (x : X) → length (if b then [] else x ∷ []) ≤ 1
+one-at_most true x = omega arith
+one-at_most false x = omega arith
+
+-- a header, six tables, ten sections and the map itself
+map_of-size : (K : Ordered) (l : Layout) (map_off : ℕ) → length l.sections ≡ 10 → length (map_of K l map_off) ≤ 18
+map_of-size K l map_off ten =
+    let table : Table × ℕ × ℕ → List (Section × ℕ × ℕ) = λ t. if t.1 == 0 then [] else (TableOf t.0, t.1, t.2) ∷ [] in
+    let section : Placed → List (Section × ℕ × ℕ) = λ p. if length p.items == 0 then [] else (p.kind, length p.items, slice_index (offsets p) 0) ∷ [] in
+    let tables = flat_map table (placed_tables K) in
+    let sections = flat_map section l.sections in
+    let last : List (Section × ℕ × ℕ) = (MapList, 1, map_off) ∷ [] in
+    omega (
+      arith,
+      length-append tables (sections ++ last),
+      length-append sections last,
+      ten,
+      length-flat_map table (placed_tables K),
+      sum_by-at_most (λ (t : Table × ℕ × ℕ). length (table t)) 1 (placed_tables K) (λ t. one-at_most {X = Section × ℕ × ℕ} (t.1 == 0) (TableOf t.0, t.1, t.2)),
+      length-flat_map section l.sections,
+      sum_by-at_most (λ (p : Placed). length (section p)) 1 l.sections (λ p. one-at_most {X = Section × ℕ × ℕ} (length p.items == 0) (p.kind, length p.items, slice_index (offsets p) 0)),
+    )
+
+map_bytes-size : (es : List (Section × ℕ × ℕ)) → length (map_bytes es) ≤ 4 + 12 * length es
+map_bytes-size es =
+    let each = sum_by-at_most (λ (e : Section × ℕ × ℕ). length (map_entry_bytes e)) 12 es
+    (λ e. omega (
+      arith,
+      length-append (ushort (type_code e.0)) (ushort 0 ++ (uint e.1 ++ uint e.2)),
+      length-append (ushort 0) (uint e.1 ++ uint e.2),
+      length-append (uint e.1) (uint e.2),
+      length-ushort (type_code e.0),
+      length-ushort 0,
+      length-uint e.1,
+      length-uint e.2,
+    )) in
+    omega (arith, length-append (uint (length es)) (flat_map map_entry_bytes es), length-uint (length es), length-flat_map map_entry_bytes es, each)
+
+-- ---- the header
+
+header-size : (K : Ordered) (map_off file_size : ℕ) → length (header_bytes K map_off file_size) ≡ 80
+header-size K map_off file_size =
+    let row = λ (t : Table × ℕ × ℕ). uint t.1 ++ uint t.2 in
+    let rows = flat_map row (placed_tables K) in
+    let x8 = uint (file_size - data_start K) ++ uint (data_start K) in
+    let x7 = rows ++ x8 in
+    let x6 = uint map_off ++ x7 in
+    let x5 = uint 0 ++ x6 in
+    let x4 = uint 0 ++ x5 in
+    let x3 = uint 0x12345678 ++ x4 in
+    let x2 = uint header_length ++ x3 in
+    omega (
+      arith,
+      length-append (uint file_size) x2,
+      length-append (uint header_length) x3,
+      length-append (uint 0x12345678) x4,
+      length-append (uint 0) x5,
+      length-append (uint 0) x6,
+      length-append (uint map_off) x7,
+      length-append rows x8,
+      length-append (uint (file_size - data_start K)) (uint (data_start K)),
+      length-uint file_size,
+      length-uint header_length,
+      length-uint 0x12345678,
+      length-uint 0,
+      length-uint map_off,
+      length-uint (file_size - data_start K),
+      length-uint (data_start K),
+      each-is row 8 (placed_tables K) (λ t. omega (arith, length-append (uint t.1) (uint t.2), length-uint t.1, length-uint t.2)),
+    )
+
+digest-size : (h : List ℕ) (n : ℕ) → length (digest_bytes h n) ≡ 4 * n
+unfolding digest_bytes
+digest-size h zero = refl
+digest-size h (suc n) = omega (arith, length-append (digest_bytes h n) (to_be_bytes w32 (slice_index h n)), digest-size h n)
+
+sha1-size : (bytes : List ℕ) → length (sha1 bytes) ≡ 20
+unfolding sha1
+sha1-size bytes = digest-size (hash_after (padded_message bytes) (length (padded_message bytes) / 64)) 5
+
+-- magic, checksum and signature
+pub with_sums-size : (rest : List ℕ) → length (with_sums rest) ≡ 32 + length rest
+unfolding with_sums
+with_sums-size rest =
+    let sum = adler_32 (sha1 rest ++ rest) in
+    omega (arith, length-append magic (uint sum ++ (sha1 rest ++ rest)), length-append (uint sum) (sha1 rest ++ rest), length-append (sha1 rest) rest, length-uint sum, sha1-size rest)
+
+-- ---- the whole
+
+padding-size : (at : ℕ) → length (padding 4 at) ≤ 3
+padding-size at = omega (arith, length-replicate {A = ℕ} ((4 - at % 4) % 4) 0, padding-at_most 3 at)
+
+-- rows and sections have at most as many bytes as their contents weigh
+pub parts-size : (K : Ordered) → length K.pools.types ≤ 65536 → length (table_bytes K (layout K)) + length (flat_map section_bytes (layout K).sections) ≤ mentions_weight K.pools + sum_by (λ d. body_weight d.1) K.classes
+parts-size K few =
+    let l = layout K in
+    let is = layout-is K few in
+    omega (arith, tables-size K l is.strings, sections-size l.sections (section_sizes K) is.sizes, mentions-cover K.pools, classes-cover K.classes)
+
+pub file-size : (K : Ordered) → length K.pools.types ≤ 65536 → length (with_sums (unsigned_file K)) ≤ 1024 + mentions_weight K.pools + sum_by (λ d. body_weight d.1) K.classes
+unfolding unsigned_file
+file-size K few =
+    let l = layout K in
+    let is = layout-is K few in
+    let map_off = round_up 4 l.data_end in
+    let map_list = map_bytes (map_of K l map_off) in
+    let header = header_bytes K map_off (map_off + length map_list) in
+    let sections = flat_map section_bytes l.sections in
+    let gap = padding 4 l.data_end in
+    omega (
+      arith,
+      with_sums-size (unsigned_file K),
+      length-append header (table_bytes K l ++ (sections ++ (gap ++ map_list))),
+      length-append (table_bytes K l) (sections ++ (gap ++ map_list)),
+      length-append sections (gap ++ map_list),
+      length-append gap map_list,
+      header-size K map_off (map_off + length map_list),
+      parts-size K few,
+      padding-size l.data_end,
+      map_bytes-size (map_of K l map_off),
+      map_of-size K l map_off is.sections,
+    )
+
+-- the file is at least as long as its header
+pub file-least : (K : Ordered) → 112 ≤ length (with_sums (unsigned_file K))
+unfolding unsigned_file
+file-least K =
+    let l = layout K in
+    let map_off = round_up 4 l.data_end in
+    let map_list = map_bytes (map_of K l map_off) in
+    let file_size = map_off + length map_list in
+    let rest = table_bytes K l ++ (flat_map section_bytes l.sections ++ (padding 4 l.data_end ++ map_list)) in
+    omega (arith, with_sums-size (unsigned_file K), length-append (header_bytes K map_off file_size) rest, header-size K map_off file_size)
+
+-- ---- classes in order
+
+put-sum : (g : Body → ℕ) (k : ℕ × Text) (v : Body) (es : List ((ℕ × Text) × Body)) → sum_by (λ e. g e.1) (put place_cmp k v es) ≤ g v + sum_by (λ e. g e.1) es
+put-sum g k v [] = omega arith
+put-sum g k v (e ∷ es) = by (place_cmp k e.0) (put-sum g k v es)
+  where
+    f : (ℕ × Text) × Body → ℕ
+    f = λ x. g x.1
+
+    by : (o : Ordering) → sum_by (λ x. g x.1) (put place_cmp k v es) ≤ g v + sum_by (λ x. g x.1) es → sum_by (λ x. g x.1) (by_order o ((k, v) ∷ e ∷ es) ((e.0, v) ∷ es) (e ∷ put place_cmp k v es)) ≤ g v + sum_by (λ x. g x.1) (e ∷ es)
+    by Less again = omega (arith, sum_by-cons (λ (x : (ℕ × Text) × Body). g x.1) (k, v) (e ∷ es))
+    by Equal again = omega (arith, sum_by-cons (λ (x : (ℕ × Text) × Body). g x.1) (e.0, v) es, sum_by-cons (λ (x : (ℕ × Text) × Body). g x.1) e es)
+    by Greater again = omega (arith, again, sum_by-cons (λ (x : (ℕ × Text) × Body). g x.1) e (put place_cmp k v es), sum_by-cons (λ (x : (ℕ × Text) × Body). g x.1) e es)
+
+put_all-sum : (g : Body → ℕ) (es : List ((ℕ × Text) × Body)) → sum_by (λ e. g e.1) (put_all es) ≤ sum_by (λ e. g e.1) es
+put_all-sum g [] = omega arith
+put_all-sum g (e ∷ es) = omega (arith, put-sum g e.0 e.1 (put_all es), sum_by-cons (λ (x : (ℕ × Text) × Body). g x.1) e es, put_all-sum g es)
+
+-- the classes of a file count at most as much as the given ones
+in_class_order-sum : (g : Body → ℕ) (D : List Definition) → sum_by (λ d. g d.1) (in_class_order D) ≤ sum_by (λ d. g d.1) D
+unfolding in_class_order
+in_class_order-sum g D =
+    let place : Definition → (ℕ × Text) × Body = λ d. ((depth D d.0, d.0), d.1) in
+    let back : (ℕ × Text) × Body → Definition = λ e. (e.0.1, e.1) in
+    omega (arith, sum_by-map (λ (d : Definition). g d.1) back (put_all (map place D)), put_all-sum g (map place D), sum_by-map (λ (e : (ℕ × Text) × Body). g e.1) place D)
+
+-- ---- the law
+
+pub ordered-size : (D : List Definition) → length (mentions D).types ≤ 65536 → length (with_sums (unsigned_file (ordered D))) ≤ weight D
+unfolding weight
+ordered-size D few = omega (arith, file-size (ordered D) few, in_class_order-sum body_weight D)
+
+pub canonical-size : (K : Collection) → length (mentions (definitions K)).types ≤ 65536 → length (canonical K) ≤ weight (definitions K)
+unfolding canonical
+canonical-size K few = ordered-size (definitions K) few
+
+pub canonical-least : (K : Collection) → 112 ≤ length (canonical K)
+unfolding canonical
+canonical-least K = file-least (ordered (definitions K))
+
+-- ---- under caps
+
+-- the file of definitions that fit is at most as long as the cap on the weight
+pub fitting-size : (caps : Caps) (D : List Definition) → AreCaps caps → AreDistinct D → Fits caps D → length (with_sums (unsigned_file (ordered D))) ≤ caps.weight
+fitting-size caps D are distinct fits = omega (arith, ordered-size D (omega (arith, are.types, fits.types)), fits.weight D distinct (λ d c. c))
+
+-- so the file of a collection meets the condition on size
+pub canonical-has_size : (caps : Caps) (K : Collection) → AreCaps caps → Fits caps (definitions K) → HasSize (canonical K)
+canonical-has_size caps K are fits = record {
+  least = canonical-least K;
+  most = omega (arith, canonical-size K (omega (arith, are.types, fits.types)), fits.weight (definitions K) (definitions-different K) (λ d c. c), are.weight);
+}

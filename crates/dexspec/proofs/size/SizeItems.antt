@@ -1,0 +1,188 @@
+-- Upper bounds on the bytes of each item, by its weight.
+use Rattle.std.proofs.Common.{◌≡◌, ℕ, ◌+◌, ◌-◌, ◌*◌, ◌/◌, ◌%◌, ◌^◌, ◌≤◌, Bool, true, false, cond, List, [], ◌∷◌, ◌++◌, length, Option, Some, arith, flat_map, if◌then◌else◌, nat_lt, ◌==◌, length-append, unwrap_or, find, ℤ, All, rules}
+use Rattle.std.proofs.lemmas.List.Sums.{sum_by-le-sum_by}
+use Rattle.std.proofs.lemmas.List.Elements.{All-head, All-tail}
+use Rattle.std.proofs.lemmas.List.Concat.{length-flat_map}
+use Rattle.dexspec.specs.Bytes.{ushort, uint}
+use Rattle.dexspec.specs.Numbers.{uleb128, sleb128, plus_one, magnitude}
+use Rattle.dexspec.specs.Texts.{Text, form, spelling, string_data}
+use Rattle.dexspec.specs.Debug.{Operation, AdvancePc, AdvanceLine, StartLocal, StartLocalExtended, EndLocal, RestartLocal, SetPrologueEnd, SetEpilogueBegin, SetFile, Special, Debug}
+use Rattle.dexspec.specs.Values.{Value, ByteValue, ShortValue, CharValue, IntValue, LongValue, FloatValue, DoubleValue, StringValue, TypeValue, FieldValue, MethodValue, EnumValue, ArrayValue, AnnotationValue, NullValue, BooleanValue, Values, NoValues, ThenValue, Elements, NoElements, ThenElement, count_values, names_of, byte_value_type, short_value_type, char_value_type, int_value_type, long_value_type, float_value_type, double_value_type, string_value_type, type_value_type, field_value_type, method_value_type, enum_value_type}
+use Rattle.dexspec.specs.Annotations.{Annotation}
+use Rattle.dexspec.specs.Mentions.{Mentions}
+use Rattle.dexspec.specs.Spellings.{text_index, type_index, field_index, method_index, index_or_none, optional_text_bytes, optional_type_bytes, operation_bytes, debug_bytes, widths, unsigned_width, signed_width, bits_width, complement, unsigned_bytes, signed_bytes, bits_bytes, value_bytes, values_bytes, elements_bytes, encoded_array_bytes, annotation_bytes, offsets_bytes}
+use Rattle.dexspec.specs.Weight.{text_weight, operands, debug_weight, value_weight, values_weight, elements_weight, annotation_weight, static_values_weight}
+use Rattle.dexspec.proofs.numbers.ByteNumbers.{length-bytes_of, length-ushort, length-uint}
+use Rattle.dexspec.proofs.numbers.Spellings.{uleb128_bounds, sleb128_bounds}
+use Rattle.dexspec.proofs.size.SizeSums.{sum_by-at_most}
+
+-- ---- numbers
+
+pub uleb128-size : (v : ℕ) → length (uleb128 v) ≤ 5
+uleb128-size v = (uleb128_bounds v).1
+
+pub sleb128-size : (v : ℤ) → length (sleb128 v) ≤ 5
+sleb128-size v = (sleb128_bounds v).1
+
+pub if-size : (b : Bool) (n : ℕ) (xs ys : List ℕ) → length xs ≤ n → length ys ≤ n → length (if b then xs else ys) ≤ n
+if-size true n xs ys h k = h
+if-size false n xs ys h k = k
+
+-- ---- texts
+
+form-size : (u : ℕ) → length (form u) ≤ 3
+form-size u = if-size (u == 0) 3 _ _ (omega arith) (if-size (nat_lt u 0x80) 3 _ _ (omega arith) (if-size (nat_lt u 0x800) 3 _ _ (omega arith) (omega arith)))
+
+pub string_data-size : (s : Text) → length (string_data s) + 4 ≤ text_weight s
+string_data-size s =
+    let count = uleb128-size (length s) in
+    let units = sum_by-at_most (λ u. length (form u)) 3 s form-size in
+    omega (arith, length-append (uleb128 (length s)) (spelling s ++ 0 ∷ []), length-append (spelling s) (0 ∷ []), length-flat_map form s, count, units)
+
+-- ---- debug programs
+
+optional_text-size : (m : Mentions) (s : Option Text) → length (optional_text_bytes m s) ≤ 5
+optional_text-size m s = uleb128-size (plus_one (index_or_none (text_index m) s))
+
+optional_type-size : (m : Mentions) (t : Option Text) → length (optional_type_bytes m t) ≤ 5
+optional_type-size m t = uleb128-size (plus_one (index_or_none (type_index m) t))
+
+operation-size : (m : Mentions) (op : Operation) → length (operation_bytes m op) ≤ 1 + 5 * operands op
+operation-size m (AdvancePc addresses) = omega (arith, uleb128-size addresses)
+operation-size m (AdvanceLine lines) = omega (arith, sleb128-size lines)
+operation-size m (StartLocal register name type) =
+    let b = optional_text_bytes m name in
+    let c = optional_type_bytes m type in
+    omega (arith, length-append (uleb128 register) (b ++ c), length-append b c, uleb128-size register, optional_text-size m name, optional_type-size m type)
+operation-size m (StartLocalExtended register name type signature) =
+    let b = optional_text_bytes m name in
+    let c = optional_type_bytes m type in
+    let d = optional_text_bytes m signature in
+    omega (arith, length-append (uleb128 register) (b ++ (c ++ d)), length-append b (c ++ d), length-append c d, uleb128-size register, optional_text-size m name, optional_type-size m type, optional_text-size m signature)
+operation-size m (EndLocal register) = omega (arith, uleb128-size register)
+operation-size m (RestartLocal register) = omega (arith, uleb128-size register)
+operation-size m SetPrologueEnd = omega arith
+operation-size m SetEpilogueBegin = omega arith
+operation-size m (SetFile name) = omega (arith, optional_text-size m name)
+operation-size m (Special opcode) = omega arith
+
+pub debug_bytes-size : (m : Mentions) (d : Debug) → length (debug_bytes m d) ≤ debug_weight d
+unfolding debug_bytes
+debug_bytes-size m d =
+    let names = flat_map (optional_text_bytes m) d.parameter_names in
+    let ops = flat_map (operation_bytes m) d.operations in
+    let rest = names ++ (ops ++ 0x00 ∷ []) in
+    let count = uleb128 (length d.parameter_names) in
+    let each = sum_by-at_most (λ s. length (optional_text_bytes m s)) 5 d.parameter_names (optional_text-size m) in
+    let all = sum_by-le-sum_by (λ op. length (operation_bytes m op)) (λ op. 1 + 5 * operands op) d.operations (operation-size m) in
+    omega (
+      arith,
+      length-append (uleb128 d.line_start) (count ++ rest),
+      length-append count rest,
+      length-append names (ops ++ 0x00 ∷ []),
+      length-append ops (0x00 ∷ []),
+      uleb128-size d.line_start,
+      uleb128-size (length d.parameter_names),
+      length-flat_map (optional_text_bytes m) d.parameter_names,
+      length-flat_map (operation_bytes m) d.operations,
+      each,
+      all,
+    )
+
+-- ---- values and annotations
+
+-- the first that is found is a member of the list
+found-at_most : (p : ℕ → Bool) (ns : List ℕ) (d n : ℕ) → All (λ k. k ≤ n) ns → d ≤ n → unwrap_or (find p ns) d ≤ n
+found-at_most p [] d n h le = le
+found-at_most p (k ∷ ns) d n h le = by (p k) (found-at_most p ns d n (All-tail (λ j. j ≤ n) k ns h) le)
+  where
+    by : (b : Bool) → unwrap_or (find p ns) d ≤ n → unwrap_or (cond b (Some k) (find p ns)) d ≤ n
+    by true again = All-head (λ j. j ≤ n) k ns h
+    by false again = again
+
+width-at_most : (p : ℕ → Bool) (d : ℕ) → d ≤ 8 → unwrap_or (find p widths) d ≤ 8
+width-at_most p d le = found-at_most p widths d 8 (search rules) le
+
+unsigned_bytes-size : (code v : ℕ) → length (unsigned_bytes code v) ≤ 9
+unsigned_bytes-size code v = omega (arith, length-bytes_of (unsigned_width v) v, width-at_most (λ n. nat_lt v (256 ^ n)) 8 (omega arith))
+
+signed_bytes-size : (code : ℕ) (z : ℤ) → length (signed_bytes code z) ≤ 9
+signed_bytes-size code z = omega (arith, length-bytes_of (signed_width z) (complement (signed_width z) z), width-at_most (λ n. nat_lt (2 * magnitude z) (256 ^ n)) 8 (omega arith))
+
+bits_bytes-size : (code width v : ℕ) → width ≤ 8 → length (bits_bytes code width v) ≤ 9
+bits_bytes-size code width v le = omega (arith, length-bytes_of (bits_width width v) (v / 256 ^ (width - bits_width width v)), width-at_most (λ n. v % 256 ^ (width - n) == 0) width le)
+
+mutual
+  pub value_bytes-size : (m : Mentions) (v : Value) → length (value_bytes m v) ≤ value_weight v
+  value_bytes-size m (ByteValue z) = signed_bytes-size byte_value_type z
+  value_bytes-size m (ShortValue z) = signed_bytes-size short_value_type z
+  value_bytes-size m (CharValue u) = unsigned_bytes-size char_value_type u
+  value_bytes-size m (IntValue z) = signed_bytes-size int_value_type z
+  value_bytes-size m (LongValue z) = signed_bytes-size long_value_type z
+  value_bytes-size m (FloatValue bits) = bits_bytes-size float_value_type 4 bits (omega arith)
+  value_bytes-size m (DoubleValue bits) = bits_bytes-size double_value_type 8 bits (omega arith)
+  value_bytes-size m (StringValue s) = unsigned_bytes-size string_value_type (text_index m s)
+  value_bytes-size m (TypeValue t) = unsigned_bytes-size type_value_type (type_index m t)
+  value_bytes-size m (FieldValue f) = unsigned_bytes-size field_value_type (field_index m f)
+  value_bytes-size m (MethodValue x) = unsigned_bytes-size method_value_type (method_index m x)
+  value_bytes-size m (EnumValue f) = unsigned_bytes-size enum_value_type (field_index m f)
+  value_bytes-size m (ArrayValue vs) = omega (arith, length-append (uleb128 (count_values vs)) (values_bytes m vs), uleb128-size (count_values vs), values_bytes-size m vs)
+  value_bytes-size m (AnnotationValue t es) =
+      let count = uleb128 (length (names_of es)) in
+      omega (
+        arith,
+        length-append (uleb128 (type_index m t)) (count ++ elements_bytes m es),
+        length-append count (elements_bytes m es),
+        uleb128-size (type_index m t),
+        uleb128-size (length (names_of es)),
+        elements_bytes-size m es,
+      )
+  value_bytes-size m NullValue = omega arith
+  value_bytes-size m (BooleanValue is) = omega arith
+
+  pub values_bytes-size : (m : Mentions) (vs : Values) → length (values_bytes m vs) ≤ values_weight vs
+  values_bytes-size m NoValues = omega arith
+  values_bytes-size m (ThenValue v vs) = omega (arith, length-append (value_bytes m v) (values_bytes m vs), value_bytes-size m v, values_bytes-size m vs)
+
+  pub elements_bytes-size : (m : Mentions) (es : Elements) → length (elements_bytes m es) ≤ elements_weight es
+  elements_bytes-size m NoElements = omega arith
+  elements_bytes-size m (ThenElement name v es) =
+      omega (
+        arith,
+        length-append (uleb128 (text_index m name)) (value_bytes m v ++ elements_bytes m es),
+        length-append (value_bytes m v) (elements_bytes m es),
+        uleb128-size (text_index m name),
+        value_bytes-size m v,
+        elements_bytes-size m es,
+      )
+
+pub encoded_array_bytes-size : (m : Mentions) (v : Value) (vs : Values) → length (encoded_array_bytes m (ThenValue v vs)) ≤ static_values_weight (ThenValue v vs)
+encoded_array_bytes-size m v vs =
+    let all = ThenValue v vs in
+    omega (arith, length-append (uleb128 (count_values all)) (values_bytes m all), uleb128-size (count_values all), values_bytes-size m all)
+
+pub annotation_bytes-size : (m : Mentions) (a : Annotation) → length (annotation_bytes m a) ≤ annotation_weight a
+annotation_bytes-size m a =
+    let count = uleb128 (length (names_of a.elements)) in
+    omega (
+      arith,
+      length-append (uleb128 (type_index m a.type)) (count ++ elements_bytes m a.elements),
+      length-append count (elements_bytes m a.elements),
+      uleb128-size (type_index m a.type),
+      uleb128-size (length (names_of a.elements)),
+      elements_bytes-size m a.elements,
+    )
+
+-- ---- lists of offsets and of types
+
+pub each-is : {X : Type 0} (f : X → List ℕ) (k : ℕ) (xs : List X) → ((x : X) → length (f x) ≡ k) → length (flat_map f xs) ≡ length xs * k
+each-is f k [] e = omega arith
+each-is f k (x ∷ xs) e = omega (arith, length-append (f x) (flat_map f xs), e x, each-is f k xs e)
+
+pub offsets_bytes-size : (offs : List ℕ) → length (offsets_bytes offs) ≡ 4 + 4 * length offs
+offsets_bytes-size offs = omega (arith, length-append (uint (length offs)) (flat_map uint offs), length-uint (length offs), each-is uint 4 offs length-uint)
+
+pub type_list-size : (m : Mentions) (ts : List Text) → length (uint (length ts) ++ flat_map (λ t. ushort (type_index m t)) ts) ≡ 4 + 2 * length ts
+type_list-size m ts =
+    let row = λ (t : Text). ushort (type_index m t) in
+    omega (arith, length-append (uint (length ts)) (flat_map row ts), length-uint (length ts), each-is row 2 ts (λ t. length-ushort (type_index m t)))

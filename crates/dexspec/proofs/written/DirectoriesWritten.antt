@@ -1,0 +1,109 @@
+-- An annotations directory is at the offset of its canonical bytes, if its sets and ref lists are at their offsets.
+use Rattle.std.proofs.Common.{◌≡◌, ℕ, ◌+◌, ◌-◌, ◌*◌, ◌%◌, ◌^◌, ◌<◌, ◌≤◌, All, List, [], ◌∷◌, ◌++◌, length, map, refl, subst, sym, arith}
+use Rattle.std.specs.Prelude.{IsTrue}
+use Rattle.std.specs.List.{AllZip}
+use Rattle.std.specs.Ordering.{nat_cmp}
+use Rattle.std.proofs.lemmas.List.{length-append}
+use Rattle.std.proofs.lemmas.List.Elements.{All-head, All-tail}
+use Rattle.dexspec.specs.Lists.{rises, OrNone}
+use Rattle.dexspec.specs.Bytes.{uint, uint_at, Stands}
+use Rattle.dexspec.specs.Header.{data_off}
+use Rattle.dexspec.specs.Rows.{FieldRow, MethodRow}
+use Rattle.dexspec.specs.Annotations.{Directory, SetAt, RefListAt, PairAt, PairsAt, DirectoryAt, pairs_at}
+use Rattle.dexspec.specs.Placing.{pairs_bytes}
+use Rattle.dexspec.proofs.written.Stands.{stands_within, stands_at, length_rows}
+use Rattle.dexspec.proofs.numbers.ByteNumbers.{length-uint, uint_at-stands}
+use Rattle.dexspec.proofs.written.NumbersWritten.{front_stands, back_stands}
+use Rattle.dexspec.proofs.written.SetsWritten.{set_small}
+
+-- the pairs name the entries, and their indices rise strictly and fit 32 bits
+abbrev pub ArePairs : {M X : Type 0} → (List ℕ → ℕ → M → Type 0) → (List ℕ → ℕ → X → Type 0) → List ℕ → List (ℕ × ℕ) → List (M × X) → Type 0
+ArePairs Row At b ps entries = AllZip (PairAt Row At b) ps entries × IsTrue (rises nat_cmp (map (λ p. p.0) ps)) × All (λ p. p.0 < 2 ^ 32) ps
+
+-- a pair has eight bytes
+pair_size : (p : ℕ × ℕ) → length (uint p.0 ++ uint p.1) ≡ 8
+pair_size p = omega (arith, length-append (uint p.0) (uint p.1), length-uint p.0, length-uint p.1)
+
+-- n pairs have n times eight bytes
+pairs_size : (ps : List (ℕ × ℕ)) → length (pairs_bytes ps) ≡ 8 * length ps
+pairs_size ps = length_rows (λ (p : ℕ × ℕ). uint p.0 ++ uint p.1) 8 pair_size ps
+
+module _ {M X : Type 0} (Row : List ℕ → ℕ → M → Type 0) (At : List ℕ → ℕ → X → Type 0) (b : List ℕ) (small : (p : ℕ) (x : X) → At b p x → p < 2 ^ 32) where
+  -- pairs are read back
+  pairs_read : (o : ℕ) (ps : List (ℕ × ℕ)) (entries : List (M × X)) → AllZip (PairAt Row At b) ps entries → All (λ p. p.0 < 2 ^ 32) ps → Stands b o (pairs_bytes ps) → pairs_at b o (length ps) ≡ ps
+  pairs_read o [] [] are few h = refl
+  pairs_read o [] (e ∷ es) are few h = absurd are
+  pairs_read o (p ∷ ps) [] are few h = absurd are
+  pairs_read o (p ∷ ps) (e ∷ es) are few h =
+      let fits = λ (q : ℕ × ℕ). q.0 < 2 ^ 32 in
+      let x = uint p.0 in
+      let y = uint p.1 in
+      let head = front_stands (x ++ y) (pairs_bytes ps) h in
+      let first : uint_at b o ≡ p.0 = uint_at-stands (All-head fits p ps few) (front_stands x y head) in
+      let second : uint_at b (o + 4) ≡ p.1 = uint_at-stands (small p.1 e.1 are.0.2) (stands_at (omega (arith, length-uint p.0)) (back_stands x y head)) in
+      let rest : pairs_at b (o + 8) (length ps) ≡ ps = pairs_read (o + 8) ps es are.1 (All-tail fits p ps few) (stands_at (omega (arith, pair_size p)) (back_stands (x ++ y) (pairs_bytes ps) h)) in
+      λ i. (first i, second i) ∷ rest i
+
+  -- they are a list of a directory
+  pairs_written : (o n : ℕ) (ps : List (ℕ × ℕ)) (entries : List (M × X)) → ArePairs Row At b ps entries → n ≡ length ps → Stands b o (pairs_bytes ps) → PairsAt Row At b o n entries
+  pairs_written o n ps entries are count h =
+      let read = pairs_read o ps entries are.0 are.2 h in
+      subst (λ (k : ℕ). PairsAt Row At b o k entries) (sym count)
+      (record { pairs = subst (λ qs. AllZip (PairAt Row At b) qs entries) (sym read) are.0; rise = subst (λ qs. IsTrue (rises nat_cmp (map (λ p. p.0) qs))) (sym read) are.1 })
+
+-- the bytes of a directory with these offsets
+abbrev pub directory_of : ℕ → List (ℕ × ℕ) → List (ℕ × ℕ) → List (ℕ × ℕ) → List ℕ
+directory_of own fields methods parameters = uint own ++ (uint (length fields) ++ (uint (length methods) ++ (uint (length parameters) ++ (pairs_bytes fields ++ (pairs_bytes methods ++ pairs_bytes parameters)))))
+
+-- a directory is at the offset of its bytes
+pub directory_written : (b : List ℕ) (o own : ℕ) (fs ms ps : List (ℕ × ℕ)) (d : Directory) → length b < 2 ^ 32 → data_off b ≤ o → o % 4 ≡ 0 → OrNone SetAt [] b own d.own → ArePairs FieldRow SetAt b fs d.fields → ArePairs MethodRow SetAt b ms d.methods → ArePairs MethodRow RefListAt b ps d.parameters
+    → Stands b o (directory_of own fs ms ps) → DirectoryAt b o d
+directory_written b o own fs ms ps d short behind aligned own_is fields methods parameters h =
+    let n0 = uint own in
+    let n1 = uint (length fs) in
+    let n2 = uint (length ms) in
+    let n3 = uint (length ps) in
+    let x0 = pairs_bytes fs in
+    let x1 = pairs_bytes ms in
+    let x2 = pairs_bytes ps in
+    let r5 = x1 ++ x2 in
+    let r4 = x0 ++ r5 in
+    let r3 = n3 ++ r4 in
+    let r2 = n2 ++ r3 in
+    let r1 = n1 ++ r2 in
+    let size : length (n0 ++ r1) ≡ 16 + 8 * (length fs + length ms + length ps) = omega (
+      arith,
+      length-append n0 r1,
+      length-append n1 r2,
+      length-append n2 r3,
+      length-append n3 r4,
+      length-append x0 r5,
+      length-append x1 x2,
+      length-uint own,
+      length-uint (length fs),
+      length-uint (length ms),
+      length-uint (length ps),
+      pairs_size fs,
+      pairs_size ms,
+      pairs_size ps,
+    ) in
+    let within : 16 + 8 * (length fs + length ms + length ps) ≤ length b - o = omega (arith, size, stands_within h) in
+    let h1 : Stands b (o + 4) r1 = stands_at (omega (arith, length-uint own)) (back_stands n0 r1 h) in
+    let h2 : Stands b (o + 8) r2 = stands_at (omega (arith, length-uint (length fs))) (back_stands n1 r2 h1) in
+    let h3 : Stands b (o + 12) r3 = stands_at (omega (arith, length-uint (length ms))) (back_stands n2 r3 h2) in
+    let h4 : Stands b (o + 16) r4 = stands_at (omega (arith, length-uint (length ps))) (back_stands n3 r4 h3) in
+    let h5 : Stands b (o + 16 + 8 * length fs) r5 = stands_at (omega (arith, pairs_size fs)) (back_stands x0 r5 h4) in
+    let h6 : Stands b (o + 16 + 8 * (length fs + length ms)) x2 = stands_at (omega (arith, pairs_size ms)) (back_stands x1 x2 h5) in
+    let e0 : uint_at b o ≡ own = uint_at-stands (set_small b short own d.own own_is) (front_stands n0 r1 h) in
+    let e1 : uint_at b (o + 4) ≡ length fs = uint_at-stands (omega (arith, within)) (front_stands n1 r2 h1) in
+    let e2 : uint_at b (o + 8) ≡ length ms = uint_at-stands (omega (arith, within)) (front_stands n2 r3 h2) in
+    let e3 : uint_at b (o + 12) ≡ length ps = uint_at-stands (omega (arith, within)) (front_stands n3 r4 h3) in
+    record {
+      in_data = record { behind = behind; within = omega (arith, within, e1, e2, e3) };
+      aligned = aligned;
+      own = subst (λ (n : ℕ). OrNone SetAt [] b n d.own) (sym e0) own_is;
+      fields = pairs_written FieldRow SetAt b (λ p x s. omega (arith, s.in_data.within, short)) (o + 16) (uint_at b (o + 4)) fs d.fields fields e1 (front_stands x0 r5 h4);
+      methods = pairs_written MethodRow SetAt b (λ p x s. omega (arith, s.in_data.within, short)) (o + 16 + 8 * uint_at b (o + 4)) (uint_at b (o + 8)) ms d.methods methods e2 (stands_at (omega (arith, e1)) (front_stands x1 x2 h5));
+      parameters =
+          pairs_written MethodRow RefListAt b (λ p x s. omega (arith, s.in_data.within, short)) (o + 16 + 8 * (uint_at b (o + 4) + uint_at b (o + 8))) (uint_at b (o + 12)) ps d.parameters parameters e3 (stands_at (omega (arith, e1, e2)) h6);
+    }

@@ -1,4 +1,6 @@
 //! The arguments of the program `dexkit`: the job that they ask for, lists of arguments, and the texts of its help.
+//!
+//! Public contracts use the definitions of `specs/Lists` and `specs/Words`.
 #![tactic(auto)]
 
 mod help;

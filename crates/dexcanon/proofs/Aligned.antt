@@ -7,7 +7,7 @@ use Rattle.dexspec.specs.Bytes.{round_up, padding}
 use Rattle.dexspec.specs.Placing.{bytes_from, end_from}
 use Rattle.dexspec.proofs.layout.Places.{end_from_le, end_append}
 use Rattle.dexcanon.specs.declared.output.Out.{Out}
-use Rattle.dexcanon.specs.Output.{Adds, AreWithin, FitFrom}
+use Rattle.dexcanon.specs.internal.Output.{Adds, AreWithin, FitFrom}
 use Rattle.dexcanon.proofs.Written.{Writing, written_none, written_more, written_all}
 use Rattle.dexcanon.proofs.Rows.{bytes_first, bytes_append, first_ends}
 

@@ -12,8 +12,8 @@ use Rattle.dexspec.specs.Spellings.{annotation_bytes}
 use Rattle.dexspec.specs.Placing.{bytes_from}
 use Rattle.dexmembers.proofs.RenumberingLists.{all_left, all_right}
 use Rattle.dexval.specs.Numbered.{NumberedSet, annotation_in, set_in}
-use Rattle.dexcanon.specs.Annotations.{annotation_item, set_annotations}
-use Rattle.dexcanon.specs.Output.{AreWithin}
+use Rattle.dexcanon.specs.internal.Annotations.{annotation_item, set_annotations}
+use Rattle.dexcanon.specs.internal.Output.{AreWithin}
 use Rattle.dexcanon.proofs.Aligned.{short_at}
 use Rattle.dexlayout.proofs.EncodedItems.{bytes_plain}
 use Rattle.dexcanon.proofs.Rows.{rows_next}

@@ -5,7 +5,7 @@ use Rattle.std.specs.Global.{Vec}
 use Rattle.std.proofs.lemmas.List.{append-nil}
 use Rattle.dexcanon.specs.declared.faults.StoreFault.TheVariants.{Memory, Io}
 use Rattle.dexcanon.specs.declared.output.Out.{Out}
-use Rattle.dexcanon.specs.Output.{Adds, HasRoom}
+use Rattle.dexcanon.specs.internal.Output.{Adds, HasRoom}
 
 -- an option that is none
 pub none_of : {X : Type 0} (o : Option X) → is_some o ≡ false → o ≡ None

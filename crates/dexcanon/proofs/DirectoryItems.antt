@@ -11,7 +11,7 @@ use Rattle.dexclass.specs.Numbered.{NumberedClass}
 use Rattle.dexcanon.specs.declared.output.Out.{Out}
 use Rattle.dexcanon.specs.Codes.{class_methods}
 use Rattle.dexcanon.specs.Directories.{HaveOffsets, directory_use, class_directories, class_fields}
-use Rattle.dexcanon.specs.Output.{Adds, AreWithin}
+use Rattle.dexcanon.specs.internal.Output.{Adds, AreWithin}
 use Rattle.dexcanon.proofs.Aligned.{Aligned, aligned_as, aligned_more, aligned_none}
 
 -- The first of the directories were added, and those of the classes from the i-th on are left, with enough offsets.

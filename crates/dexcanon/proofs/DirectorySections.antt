@@ -25,7 +25,7 @@ use Rattle.dexlayout.specs.Places.{Places}
 use Rattle.dexlayout.specs.Laid.{ordered_of}
 use Rattle.dexcanon.specs.Codes.{class_methods}
 use Rattle.dexcanon.specs.Directories.{directory_use, class_directories, class_fields}
-use Rattle.dexcanon.specs.Ready.{IsReady}
+use Rattle.dexcanon.specs.internal.Ready.{IsReady}
 use Rattle.dexcanon.proofs.RefListSections.{parts, use_offsets, length-use_offsets, set_offsets_are, class_count}
 use Rattle.dexcanon.proofs.SetSectionItems.{take_front, drop_front}
 

@@ -7,7 +7,7 @@ use Rattle.dexcanon.specs.declared.faults.StoreFault.{StoreFault}
 use Rattle.dexcanon.specs.declared.faults.StoreFault.TheVariants.{Memory, Io}
 use Rattle.dexcanon.specs.declared.output.Out.{Out}
 use Rattle.dexcanon.specs.declared.targets.Writer.{Writer}
-use Rattle.dexcanon.specs.Output.{Adds, HasRoom, HasWritten, TellsFault, result_of}
+use Rattle.dexcanon.specs.internal.Output.{Adds, HasRoom, HasWritten, TellsFault, result_of}
 use Rattle.dexcanon.specs.Took.{Took, TookPrefix}
 use Rattle.dexcanon.specs.Written.{HasLeft}
 

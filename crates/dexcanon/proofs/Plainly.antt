@@ -5,7 +5,7 @@ use Rattle.std.proofs.lemmas.List.Elements.{All-head, All-tail}
 use Rattle.dexspec.specs.Lists.{present}
 use Rattle.dexspec.specs.Placing.{bytes_from}
 use Rattle.dexcanon.specs.declared.output.Out.{Out}
-use Rattle.dexcanon.specs.Output.{Adds, AreWithin}
+use Rattle.dexcanon.specs.internal.Output.{Adds, AreWithin}
 use Rattle.dexcanon.proofs.Written.{Writing, written_none, written_more, written_all, adds_as}
 use Rattle.dexlayout.proofs.EncodedItems.{bytes_plain}
 

@@ -18,9 +18,9 @@ use Rattle.dexmembers.specs.Numbered.{NumberedMethod, method_in, methods_of}
 use Rattle.dexclass.specs.Numbered.{NumberedClass, definition_of}
 use Rattle.dexlayout.specs.Places.{Places, SetPlaces}
 use Rattle.dexlayout.specs.Laid.{ordered_of}
-use Rattle.dexcanon.specs.Ready.{IsReady}
-use Rattle.dexcanon.specs.RefLists.{class_parameter_counts, parameter_counts, ref_lists, total}
-use Rattle.dexcanon.specs.Output.{FitFrom}
+use Rattle.dexcanon.specs.internal.Ready.{IsReady}
+use Rattle.dexcanon.specs.internal.RefLists.{class_parameter_counts, parameter_counts, ref_lists, total}
+use Rattle.dexcanon.specs.internal.Output.{FitFrom}
 use Rattle.dexcanon.proofs.SectionItems.{ref_lists_within, ref_lists_fit}
 use Rattle.dexcanon.proofs.SetSectionItems.{take_front, drop_front}
 

@@ -9,8 +9,8 @@ use Rattle.dexspec.specs.Spellings.{offsets_bytes}
 use Rattle.dexmembers.specs.Numbered.{NumberedMethod, NumberedMembers, methods_of}
 use Rattle.dexclass.specs.Numbered.{NumberedClass}
 use Rattle.dexcanon.specs.declared.output.Out.{Out}
-use Rattle.dexcanon.specs.Output.{Adds, AreWithin, FitFrom}
-use Rattle.dexcanon.specs.RefLists.{parameter_counts, class_parameter_counts, total, ref_lists}
+use Rattle.dexcanon.specs.internal.Output.{Adds, AreWithin, FitFrom}
+use Rattle.dexcanon.specs.internal.RefLists.{parameter_counts, class_parameter_counts, total, ref_lists}
 use Rattle.dexcanon.proofs.Aligned.{Aligned, aligned_none, aligned_as, aligned_more, front_fit, aligned_joined}
 
 -- ---- lists of offsets

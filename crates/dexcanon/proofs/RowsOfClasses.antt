@@ -16,7 +16,7 @@ use Rattle.dexspec.proofs.numbers.ByteNumbers.{length-uint}
 use Rattle.dexpool.specs.Laws.{RanksAreNumbers}
 use Rattle.dexclass.specs.Numbered.{NumberedClass, definition_of, text_at, type_at}
 use Rattle.dexclass.specs.Uses.{IsKnownClass}
-use Rattle.dexcanon.specs.ClassRows.{class_row, rows_with}
+use Rattle.dexcanon.specs.internal.ClassRows.{class_row, rows_with}
 use Rattle.dexcanon.proofs.Aligned.{all_front}
 use Rattle.dexcanon.proofs.OwnUses.{zip_with_at, length-zip_with}
 

@@ -16,8 +16,8 @@ use Rattle.dexclass.specs.Numbered.{NumberedClass, definition_of}
 use Rattle.dexlayout.specs.Places.{Places, ItemPlaces}
 use Rattle.dexlayout.specs.Laid.{ordered_of, greatest_of, greatest_in, file_end}
 use Rattle.dexlayout.proofs.Ends.{end_in_file}
-use Rattle.dexcanon.specs.Output.{AreWithin, FitFrom}
-use Rattle.dexcanon.specs.Ready.{IsReady}
+use Rattle.dexcanon.specs.internal.Output.{AreWithin, FitFrom}
+use Rattle.dexcanon.specs.internal.Ready.{IsReady}
 use Rattle.dexcanon.specs.Codes.{class_methods, method_codes, code_use, code_item}
 use Rattle.dexcanon.specs.ClassItems.{values_use}
 

@@ -18,7 +18,7 @@ use Rattle.dexclass.specs.Numbered.{NumberedClass}
 use Rattle.dexlayout.specs.Places.{Places}
 use Rattle.dexlayout.specs.Laid.{ordered_of, file_end, first_offsets}
 use Rattle.dexlayout.proofs.Ends.{end_in_file}
-use Rattle.dexcanon.specs.Ready.{IsReady}
+use Rattle.dexcanon.specs.internal.Ready.{IsReady}
 use Rattle.dexcanon.specs.Sets.{offsets_of_sets}
 use Rattle.dexlayout.proofs.EncodedItems.{bytes_plain}
 

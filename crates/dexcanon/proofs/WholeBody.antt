@@ -15,7 +15,7 @@ use Rattle.dexhead.specs.Laid.{map_start, map_list}
 use Rattle.dexlayout.specs.Places.{Places}
 use Rattle.dexlayout.specs.Laid.{ordered_of, AreWritable}
 use Rattle.dexlayout.proofs.Ends.{end_in_file}
-use Rattle.dexcanon.specs.Ready.{IsReady}
+use Rattle.dexcanon.specs.internal.Ready.{IsReady}
 
 module _ (m : Mentions) (cs : List NumberedClass) where
   -- the tables in their order

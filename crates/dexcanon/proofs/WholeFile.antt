@@ -15,7 +15,7 @@ use Rattle.dexhead.specs.Laid.{map_list, behind_header}
 use Rattle.dexclass.specs.Numbered.{NumberedClass}
 use Rattle.dexlayout.specs.Places.{Places}
 use Rattle.dexlayout.specs.Laid.{AreWritable, IsLaid, ordered_of, file_end, greatest_of, greatest_in, greatest_item}
-use Rattle.dexcanon.specs.Ready.{IsReady}
+use Rattle.dexcanon.specs.internal.Ready.{IsReady}
 
 -- no item is longer than all of them
 greatest_short : (align from : ℕ) (xs : List (List ℕ)) → greatest_of xs ≤ length (bytes_from align from xs)

@@ -2,7 +2,7 @@
 use Rattle.std.proofs.Common.{◌≡◌, ℕ, List, [], ◌++◌, Bool, refl, sym, subst, ◌∙◌, ap, append_assoc}
 use Rattle.std.proofs.lemmas.List.{append-nil}
 use Rattle.dexcanon.specs.declared.output.Out.{Out}
-use Rattle.dexcanon.specs.Output.{Adds, HasWritten}
+use Rattle.dexcanon.specs.internal.Output.{Adds, HasWritten}
 
 module _ {T : Type 0} {gives gives_prefix : List ℕ → T → T → Type 0} {has_failed : T → Bool} {limit : ℕ} where
   -- nothing was written

@@ -1,15 +1,11 @@
-pub mod Annotations
 pub mod ClassItems
-pub mod ClassRows
 pub mod Codes
 pub mod Digests
 pub mod Directories
-pub mod Output
-pub mod Ready
-pub mod RefLists
 pub mod Sets
 pub mod Sums
 pub mod Took
 pub mod TypeLists
 pub mod ValueItems
 pub mod Written
+pub mod internal

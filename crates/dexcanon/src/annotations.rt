@@ -7,9 +7,9 @@ ghost use Rattle.dexspec.specs.Placing.{section_bytes};
 ghost use Rattle.dexspec.specs.Canonical.{annotation_section};
 ghost use Rattle.dexval.specs.Code.{annotation_of};
 ghost use Rattle.dexval.specs.Numbered.{IsKnownAnnotation};
-ghost use Rattle.dexcanon.specs.Annotations.{annotation_item, set_annotations};
-ghost use Rattle.dexcanon.specs.Ready.{CanBeMade, ordered_in};
-ghost use Rattle.dexcanon.specs.Output.{AreWithin, Adds};
+ghost use Rattle.dexcanon.specs.internal.Annotations.{annotation_item, set_annotations};
+ghost use Rattle.dexcanon.specs.internal.Ready.{CanBeMade, ordered_in};
+ghost use Rattle.dexcanon.specs.internal.Output.{AreWithin, Adds};
 
 use crate::contents::Contents;
 use crate::output::{Out, Target};

@@ -4,8 +4,8 @@ ghost use Rattle.std.specs.List.{flat_map};
 ghost use Rattle.dexspec.specs.Placing.{section_bytes};
 ghost use Rattle.dexspec.specs.Canonical.{data_sections, layout, table_bytes};
 ghost use Rattle.dexhead.specs.Laid.{behind_header};
-ghost use Rattle.dexcanon.specs.Ready.{CanBeMade, ordered_in};
-ghost use Rattle.dexcanon.specs.Output.{Adds};
+ghost use Rattle.dexcanon.specs.internal.Ready.{CanBeMade, ordered_in};
+ghost use Rattle.dexcanon.specs.internal.Output.{Adds};
 
 use crate::annotations::put_annotations;
 use crate::class_data::put_class_data;

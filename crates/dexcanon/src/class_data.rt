@@ -9,8 +9,8 @@ ghost use Rattle.dexspec.specs.Canonical.{class_data_section};
 ghost use Rattle.dexspec.specs.Spellings.{class_data_bytes};
 ghost use Rattle.dexclass.specs.Numbered.{definition_of};
 ghost use Rattle.dexcanon.specs.ClassItems.{IsFitClass};
-ghost use Rattle.dexcanon.specs.Ready.{CanBeMade, ordered_in};
-ghost use Rattle.dexcanon.specs.Output.{Adds};
+ghost use Rattle.dexcanon.specs.internal.Ready.{CanBeMade, ordered_in};
+ghost use Rattle.dexcanon.specs.internal.Output.{Adds};
 
 use crate::contents::Contents;
 use crate::items::Item;

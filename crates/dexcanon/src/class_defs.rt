@@ -7,9 +7,9 @@ ghost use Rattle.std.specs.List.{concat, flat_map};
 ghost use Rattle.dexspec.specs.Bytes.{uint};
 ghost use Rattle.dexspec.specs.Classes.{no_index};
 ghost use Rattle.dexspec.specs.Canonical.{class_offsets, layout};
-ghost use Rattle.dexcanon.specs.ClassRows.{class_row, rows_with};
-ghost use Rattle.dexcanon.specs.Ready.{CanBeMade, ordered_in};
-ghost use Rattle.dexcanon.specs.Output.{Adds};
+ghost use Rattle.dexcanon.specs.internal.ClassRows.{class_row, rows_with};
+ghost use Rattle.dexcanon.specs.internal.Ready.{CanBeMade, ordered_in};
+ghost use Rattle.dexcanon.specs.internal.Output.{Adds};
 
 use crate::contents::Contents;
 use crate::items::Numbers;

@@ -9,8 +9,8 @@ ghost use Rattle.dexspec.specs.Canonical.{code_section};
 ghost use Rattle.dexcode.specs.Meaning.{code_in};
 ghost use Rattle.dexmembers.specs.Numbered.{IsKnownMethod};
 ghost use Rattle.dexcanon.specs.Codes.{IsFitCode, method_codes};
-ghost use Rattle.dexcanon.specs.Ready.{CanBeMade, ordered_in};
-ghost use Rattle.dexcanon.specs.Output.{FitFrom, Adds};
+ghost use Rattle.dexcanon.specs.internal.Ready.{CanBeMade, ordered_in};
+ghost use Rattle.dexcanon.specs.internal.Output.{FitFrom, Adds};
 
 use crate::contents::Contents;
 use crate::items::Item;

@@ -7,7 +7,7 @@ ghost use Rattle.dexspec.specs.Canonical.{canonical, ordered, with_sums, unsigne
 ghost use Rattle.dexclass.specs.Numbered.{NumberedClass};
 ghost use Rattle.dexclass.specs.Programs.{AreClassesOf};
 ghost use Rattle.dexlayout.specs.Laid.{AreWritable, IsLaid, ordered_of};
-ghost use Rattle.dexcanon.specs.Ready.{CanBeMade, ordered_in};
+ghost use Rattle.dexcanon.specs.internal.Ready.{CanBeMade, ordered_in};
 
 use dexclass::{Class, Program};
 use dexlayout::Layout;

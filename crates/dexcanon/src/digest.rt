@@ -6,7 +6,7 @@ ghost use Rattle.dexspec.specs.Classes.{Definition};
 ghost use Rattle.dexspec.specs.Files.{definitions};
 ghost use Rattle.dexspec.specs.Depth.{in_class_order};
 ghost use Rattle.dexspec.specs.Canonical.{canonical, with_sums, unsigned_file};
-ghost use Rattle.dexcanon.specs.Ready.{CanBeMade, ordered_in};
+ghost use Rattle.dexcanon.specs.internal.Ready.{CanBeMade, ordered_in};
 ghost use Rattle.dexcanon.specs.Digests.{class_alone, class_digest, IsFileAlone};
 
 use crate::contents::Contents;

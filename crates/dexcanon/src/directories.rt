@@ -7,8 +7,8 @@ ghost use Rattle.dexspec.specs.Placing.{section_bytes};
 ghost use Rattle.dexspec.specs.Canonical.{directory_section};
 ghost use Rattle.dexmembers.specs.DirectoryPut.{numbered_directory_bytes};
 ghost use Rattle.dexcanon.specs.Directories.{HaveOffsets};
-ghost use Rattle.dexcanon.specs.Ready.{CanBeMade, ordered_in};
-ghost use Rattle.dexcanon.specs.Output.{Adds};
+ghost use Rattle.dexcanon.specs.internal.Ready.{CanBeMade, ordered_in};
+ghost use Rattle.dexcanon.specs.internal.Output.{Adds};
 
 use crate::contents::Contents;
 use crate::items::Item;

@@ -1,5 +1,8 @@
 //! The canonical file of a program.
 //!
+//! Public contracts use the definitions of `specs/ClassItems`, `specs/Codes`, `specs/Digests`, `specs/Directories`,
+//! `specs/Sets`, `specs/Sums`, `specs/Took`, `specs/TypeLists`, `specs/ValueItems` and `specs/Written`.
+//!
 //! Source: the Android page "Dalvik Executable format"; the order of the sections and of their contents is this
 //! project's rule.
 #![tactic(auto)]

@@ -6,8 +6,8 @@ ghost use Rattle.std.specs.Prelude.{◌++◌};
 ghost use Rattle.dexspec.specs.Bytes.{padding};
 ghost use Rattle.dexspec.specs.Canonical.{layout};
 ghost use Rattle.dexhead.specs.Laid.{map_list};
-ghost use Rattle.dexcanon.specs.Ready.{CanBeMade, ordered_in};
-ghost use Rattle.dexcanon.specs.Output.{Adds};
+ghost use Rattle.dexcanon.specs.internal.Ready.{CanBeMade, ordered_in};
+ghost use Rattle.dexcanon.specs.internal.Output.{Adds};
 
 use crate::contents::Contents;
 use crate::items::Entries;

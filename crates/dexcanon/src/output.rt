@@ -2,7 +2,7 @@
 
 ghost use Rattle.std.specs.Prelude.{◌≡◌, ℕ, ◌+◌, ◌^◌, ◌<◌, ◌≤◌, List, ◌++◌, [], Bool, true, false, None, OnOk, OnErr, length, vec_len, vec_capacity};
 ghost use Rattle.dexspec.specs.Bytes.{round_up, padding};
-ghost use Rattle.dexcanon.specs.Output.{Adds, HasRoom, result_of};
+ghost use Rattle.dexcanon.specs.internal.Output.{Adds, HasRoom, result_of};
 
 use crate::faults::StoreFault;
 use crate::items::{Bytes, Item, Zeros};

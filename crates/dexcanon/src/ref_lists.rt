@@ -5,9 +5,9 @@
 ghost use Rattle.std.specs.Prelude.{◌≡◌, ℕ, ◌≤◌, length, drop};
 ghost use Rattle.dexspec.specs.Placing.{bytes_from, end_from, section_bytes};
 ghost use Rattle.dexspec.specs.Canonical.{ref_list_section};
-ghost use Rattle.dexcanon.specs.Ready.{CanBeMade, ordered_in};
-ghost use Rattle.dexcanon.specs.RefLists.{parameter_counts, ref_lists, total};
-ghost use Rattle.dexcanon.specs.Output.{FitFrom, Adds};
+ghost use Rattle.dexcanon.specs.internal.Ready.{CanBeMade, ordered_in};
+ghost use Rattle.dexcanon.specs.internal.RefLists.{parameter_counts, ref_lists, total};
+ghost use Rattle.dexcanon.specs.internal.Output.{FitFrom, Adds};
 
 use crate::contents::Contents;
 use crate::items::OffsetList;

@@ -8,8 +8,8 @@ ghost use Rattle.dexspec.specs.Canonical.{set_section};
 ghost use Rattle.dexval.specs.Code.{set_of};
 ghost use Rattle.dexval.specs.Numbered.{set_in};
 ghost use Rattle.dexcanon.specs.Sets.{IsFitSet, offsets_of_set};
-ghost use Rattle.dexcanon.specs.Ready.{CanBeMade, ordered_in};
-ghost use Rattle.dexcanon.specs.Output.{Adds};
+ghost use Rattle.dexcanon.specs.internal.Ready.{CanBeMade, ordered_in};
+ghost use Rattle.dexcanon.specs.internal.Output.{Adds};
 
 use crate::contents::Contents;
 use crate::items::Item;

@@ -8,8 +8,8 @@ ghost use Rattle.dexspec.specs.Lists.{zip_with};
 ghost use Rattle.dexspec.specs.Bytes.{uint};
 ghost use Rattle.dexspec.specs.Spellings.{text_index};
 ghost use Rattle.dexspec.specs.Canonical.{layout, proto_row_bytes, field_row_bytes, method_row_bytes};
-ghost use Rattle.dexcanon.specs.Ready.{CanBeMade, ordered_in};
-ghost use Rattle.dexcanon.specs.Output.{Adds};
+ghost use Rattle.dexcanon.specs.internal.Ready.{CanBeMade, ordered_in};
+ghost use Rattle.dexcanon.specs.internal.Output.{Adds};
 
 use crate::contents::Contents;
 use crate::items::{MemberRow, Number, Numbers};

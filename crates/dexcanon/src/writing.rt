@@ -8,8 +8,8 @@ ghost use Rattle.dexspec.specs.Accepted.{IsAccepted};
 ghost use Rattle.dexspec.specs.Canonical.{canonical, with_sums, unsigned_file};
 ghost use Rattle.dexhead.specs.Laid.{behind_header};
 ghost use Rattle.dexhead.specs.Written.{head_bytes};
-ghost use Rattle.dexcanon.specs.Ready.{CanBeMade, ordered_in};
-ghost use Rattle.dexcanon.specs.Output.{HasRoom};
+ghost use Rattle.dexcanon.specs.internal.Ready.{CanBeMade, ordered_in};
+ghost use Rattle.dexcanon.specs.internal.Output.{HasRoom};
 ghost use Rattle.dexcanon.specs.Written.{HasLeft};
 ghost use Rattle.dexcanon.specs.declared.faults.StoreFault.TheVariants.{Io};
 

@@ -9,7 +9,7 @@ use Rattle.dexspec.specs.Mentions.{Mentions}
 use Rattle.dexspec.specs.Accepted.{IsDefinedBefore}
 use Rattle.dexspec.proofs.determined.OneRow.{one_type}
 use Rattle.dexpool.specs.Pools.{ArePools}
-use Rattle.dexclass.specs.Rows.{AreClassTests, IsClassIndex, IsParentIndex, IsSourceIndex, IsInterfaceIndex, superclass_indices}
+use Rattle.dexclass.specs.internal.Rows.{AreClassTests, IsClassIndex, IsParentIndex, IsSourceIndex, IsInterfaceIndex, superclass_indices}
 
 -- a test in range says whether the index is that of a class
 pub tested : (b : List ℕ) (m : Mentions) (tests : List Bool) (i : ℕ) → ArePools b m → AreClassTests m.types tests → i < length tests → IsTrue (get_or tests i false) ↔ IsClassIndex b i

@@ -14,7 +14,7 @@ use Rattle.dexpool.specs.Reading.{HasRoom}
 use Rattle.dexpool.proofs.Bytes.{ushort_at_rest}
 use Rattle.dexmembers.specs.ClassDefs.{IsClassDef}
 use Rattle.dexmembers.specs.declared.class_def.ClassDef.{ClassDef}
-use Rattle.dexclass.specs.Rows.{IsClassIndex, IsInterfaceIndex, interface_indices, HasInterfaceList, HasInterfaces}
+use Rattle.dexclass.specs.internal.Rows.{IsClassIndex, IsInterfaceIndex, interface_indices, HasInterfaceList, HasInterfaces}
 
 -- ---- indices one by one
 

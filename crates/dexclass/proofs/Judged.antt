@@ -9,7 +9,7 @@ use Rattle.dexspec.specs.Conditions.{Condition}
 use Rattle.dexspec.specs.Accepted.{HasClass, IsDefinedBefore, HoldBelow}
 use Rattle.dexmembers.specs.ClassDefs.{IsClassDef}
 use Rattle.dexmembers.specs.declared.class_def.ClassDef.{ClassDef}
-use Rattle.dexclass.specs.Rows.{IsClassIndex, IsParentIndex, IsSourceIndex, superclass_indices, interface_indices, HasInterfaces, AreDefinedMarks}
+use Rattle.dexclass.specs.internal.Rows.{IsClassIndex, IsParentIndex, IsSourceIndex, superclass_indices, interface_indices, HasInterfaces, AreDefinedMarks}
 use Rattle.dexclass.proofs.Indices.{class_in_range}
 
 -- ---- lists in two parts

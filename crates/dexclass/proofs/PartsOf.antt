@@ -20,7 +20,7 @@ use Rattle.dexspec.proofs.normal.ClassPlaces.{in_class_order-only, in_class_orde
 use Rattle.dexpool.specs.Numberings.{IsNumbering}
 use Rattle.dexclass.specs.Numbered.{NumberedClass, definition_of}
 use Rattle.dexclass.specs.Uses.{IsKnownClass}
-use Rattle.dexclass.specs.Parts.{AreGoodClasses}
+use Rattle.dexclass.specs.internal.Parts.{AreGoodClasses}
 use Rattle.dexclass.specs.Programs.{AreClassesOf, AreMergeable}
 use Rattle.dexclass.proofs.Mergeable.{AreTrimmed, trimmed_mergeable}
 use Rattle.dexclass.proofs.Ordered.{names_apart}

@@ -13,7 +13,7 @@ use Rattle.dexspec.proofs.merge.Absorption.{IsGood-within}
 use Rattle.dexspec.proofs.determined.Denoted.{has_classes, AreReadable, rows_denote, denoted_rows}
 use Rattle.dexclass.specs.Numbered.{NumberedClass, definition_of}
 use Rattle.dexclass.specs.Programs.{AreMergeable, IsReadAs}
-use Rattle.dexclass.specs.Reading.{bodies_weight, IsWhole}
+use Rattle.dexclass.specs.internal.Reading.{bodies_weight, IsWhole}
 use Rattle.dexclass.proofs.Mergeable.{AreTrimmed, trimmed_mergeable}
 use Rattle.dexclass.proofs.RowsBelow.{weight_is, one_name, collection_denoted, light_accepted}
 

@@ -18,7 +18,7 @@ use Rattle.dexpool.specs.Pools.{ArePools}
 use Rattle.dexmembers.specs.Numbered.{Members}
 use Rattle.dexmembers.specs.Weight.{members_weight}
 use Rattle.dexmembers.specs.Reading.{MembersRow}
-use Rattle.dexclass.specs.Rows.{interface_indices}
+use Rattle.dexclass.specs.internal.Rows.{interface_indices}
 use Rattle.dexclass.specs.Numbered.{text_at, type_at, number_of}
 use Rattle.dexclass.proofs.Interfaces.{listed_interfaces}
 

@@ -13,10 +13,10 @@ use Rattle.dexpool.specs.declared.faults.ItemFault.TheVariants as items
 use Rattle.dexpool.specs.declared.faults.ReadFault.{ReadFault}
 use Rattle.dexpool.specs.declared.faults.ReadFault.TheVariants.{Refused, Memory}
 use Rattle.dexmembers.specs.Reading.{AreHeavyMembers, IsMembersFault}
-use Rattle.dexclass.specs.Rows.{IsClassFault, interface_indices}
+use Rattle.dexclass.specs.internal.Rows.{IsClassFault, interface_indices}
 use Rattle.dexclass.specs.Numbered.{type_at, definition_of}
 use Rattle.dexclass.specs.Programs.{IsFaultOf}
-use Rattle.dexclass.specs.Reading.{bodies_weight, AreBodies, AreHeavyTogether}
+use Rattle.dexclass.specs.internal.Reading.{bodies_weight, AreBodies, AreHeavyTogether}
 use Rattle.dexclass.specs.declared.reading.Bodies.{Bodies}
 use Rattle.dexclass.proofs.RowClasses.{row_body, row_weight, row_stands}
 use Rattle.dexclass.proofs.RowsBelow.{weight_is, too_heavy, heavy_row}

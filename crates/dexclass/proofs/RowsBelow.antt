@@ -14,7 +14,7 @@ use Rattle.dexspec.specs.Accepted.{HoldBelow, IsReadable, AreRows, FailsAt, IsAc
 use Rattle.dexspec.proofs.determined.Readable.{row_of}
 use Rattle.dexspec.proofs.merge.WeightGrowth.{weight-within}
 use Rattle.dexspec.proofs.determined.Denoted.{HasClasses, has_classes, AreReadable, same_class_row, rows_define, defined_rows}
-use Rattle.dexclass.specs.Reading.{bodies_weight}
+use Rattle.dexclass.specs.internal.Reading.{bodies_weight}
 
 -- the definition is what a row is
 abbrev pub IsRow : List ℕ → ℕ → Definition → Type 0

@@ -16,7 +16,7 @@ use Rattle.dexspec.proofs.determined.Denoted.{has_classes, denoted_rows}
 use Rattle.dexspec.proofs.determined.OneCollection.{one_collection}
 use Rattle.dexpool.specs.Pools.{ArePools}
 use Rattle.dexmembers.specs.Checking.{HasMembersOf}
-use Rattle.dexclass.specs.Rows.{interface_indices}
+use Rattle.dexclass.specs.internal.Rows.{interface_indices}
 use Rattle.dexclass.specs.Numbered.{type_at}
 use Rattle.dexclass.specs.Programs.{IsReadAs}
 use Rattle.dexclass.specs.Checking.{HaveBodiesOf, IsCheckedAs}

@@ -13,7 +13,7 @@ use Rattle.dexspec.specs.Accepted.{HasClass}
 use Rattle.dexpool.specs.Pools.{ArePools}
 use Rattle.dexmembers.specs.Numbered.{NumberedMembers}
 use Rattle.dexmembers.specs.Reading.{AreMembersOf}
-use Rattle.dexclass.specs.Rows.{interface_indices}
+use Rattle.dexclass.specs.internal.Rows.{interface_indices}
 use Rattle.dexclass.specs.Numbered.{type_at, number_of, definition_of, class_of_row}
 use Rattle.dexclass.specs.Uses.{IsKnownClass}
 use Rattle.dexclass.proofs.Indices.{class_in_range}

@@ -26,7 +26,7 @@ use Rattle.dexmembers.specs.Weighing.{numbered_members_weight}
 use Rattle.dexclass.specs.Numbered.{NumberedClass, type_at, definition_of}
 use Rattle.dexclass.specs.Uses.{IsKnownClass}
 use Rattle.dexclass.specs.Programs.{AreClassesOf, AreMergeable}
-use Rattle.dexclass.specs.Stripped.{stripped_class}
+use Rattle.dexclass.specs.internal.Stripped.{stripped_class}
 use Rattle.dexclass.proofs.Mergeable.{AreTrimmed, trimmed_mergeable}
 
 -- ---- a class

@@ -13,10 +13,10 @@ use Rattle.dexpool.specs.Pools.{ArePools}
 use Rattle.dexmembers.specs.Numbered.{NumberedMembers, members_in}
 use Rattle.dexmembers.specs.Weight.{members_weight}
 use Rattle.dexmembers.specs.Reading.{AreMembersOf}
-use Rattle.dexclass.specs.Rows.{interface_indices}
+use Rattle.dexclass.specs.internal.Rows.{interface_indices}
 use Rattle.dexclass.specs.Numbered.{NumberedClass, definition_of, class_of_row}
 use Rattle.dexclass.specs.Uses.{IsKnownClass}
-use Rattle.dexclass.specs.Reading.{bodies_weight, AreBodies}
+use Rattle.dexclass.specs.internal.Reading.{bodies_weight, AreBodies}
 use Rattle.dexclass.specs.declared.reading.Bodies.{Bodies}
 use Rattle.dexclass.proofs.RowClasses.{row_weight, row_stands}
 use Rattle.dexclass.proofs.RowsKnown.{row_known}

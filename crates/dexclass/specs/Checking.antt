@@ -4,7 +4,7 @@ use Rattle.dexspec.specs.Classes.{Definition}
 use Rattle.dexspec.specs.Files.{Collection, definitions, Denotes}
 use Rattle.dexspec.specs.Accepted.{IsReadable, AreRows, IsAccepted}
 use Rattle.dexspec.specs.Weight.{most_weight}
-use Rattle.dexclass.specs.Reading.{bodies_weight}
+use Rattle.dexclass.specs.internal.Reading.{bodies_weight}
 
 -- The rows before row n are readable, and are definitions. These weigh this much without the symbols that they mention, and
 -- no more than they may.

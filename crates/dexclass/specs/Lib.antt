@@ -1,10 +1,7 @@
 pub mod Checking
-pub mod Rows
 pub mod Numbered
 pub mod Uses
 pub mod Renumbering
 pub mod Parents
 pub mod Programs
-pub mod Reading
-pub mod Stripped
-pub mod Parts
+pub mod internal

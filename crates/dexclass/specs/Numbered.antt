@@ -5,7 +5,7 @@ use Rattle.dexspec.specs.Texts.{Text}
 use Rattle.dexspec.specs.Classes.{Definition, class_idx, access_flags, superclass_idx, interfaces_off, source_file_idx, no_index}
 use Rattle.dexspec.specs.Mentions.{Mentions}
 use Rattle.dexmembers.specs.Numbered.{NumberedMembers, members_in}
-use Rattle.dexclass.specs.Rows.{interface_indices}
+use Rattle.dexclass.specs.internal.Rows.{interface_indices}
 
 -- A class: the numbers of its type, of its superclass, of its interfaces and of its source text, what it declares, and what
 -- it weighs without the symbols that it names.

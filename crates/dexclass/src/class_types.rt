@@ -5,7 +5,7 @@ ghost use Rattle.dexspec.specs.Classes.{class_idx};
 ghost use Rattle.dexspec.specs.Names.{IsClass};
 ghost use Rattle.dexspec.specs.Header.{ClassDefs, TypeIds, table_size};
 ghost use Rattle.dexpool.specs.Pools.{ArePools};
-ghost use Rattle.dexclass.specs.Rows.{AreClassTests, AreDefinedMarks};
+ghost use Rattle.dexclass.specs.internal.Rows.{AreClassTests, AreDefinedMarks};
 
 use dexhead::{Frame, Table};
 use dexmembers::ClassDef;

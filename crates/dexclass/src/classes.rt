@@ -2,7 +2,7 @@
 
 ghost use Rattle.std.specs.Prelude.{◌≡◌, ℕ, length, IfOk};
 ghost use Rattle.dexmembers.specs.ClassDefs.{IsClassDef};
-ghost use Rattle.dexclass.specs.Rows.{interface_indices, HasInterfaceList};
+ghost use Rattle.dexclass.specs.internal.Rows.{interface_indices, HasInterfaceList};
 ghost use Rattle.dexclass.specs.Numbered.{number_of, class_of_row};
 
 use dexflags::ClassFlags;

@@ -7,7 +7,7 @@ ghost use Rattle.dexspec.specs.Rows.{type_indices};
 ghost use Rattle.dexpool.specs.Pools.{ArePools};
 ghost use Rattle.dexpool.specs.Reading.{HasRoom};
 ghost use Rattle.dexmembers.specs.ClassDefs.{IsClassDef};
-ghost use Rattle.dexclass.specs.Rows.{IsKnown, IsClassFault, AreDefinedMarks, IsClassIndex, IsParentIndex, IsSourceIndex, IsInterfaceIndex, superclass_indices, HasInterfaces};
+ghost use Rattle.dexclass.specs.internal.Rows.{IsKnown, IsClassFault, AreDefinedMarks, IsClassIndex, IsParentIndex, IsSourceIndex, IsInterfaceIndex, superclass_indices, HasInterfaces};
 
 use crate::class_types::{class_types, defined, mark, no_marks};
 use crate::classes::NO_INDEX;

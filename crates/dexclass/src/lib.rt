@@ -1,5 +1,8 @@
 //! Class definitions of a file, and programs: sets of class definitions.
 //!
+//! Public contracts use the definitions of `specs/Checking`, `specs/Numbered`, `specs/Parents`, `specs/Programs`,
+//! `specs/Renumbering` and `specs/Uses`.
+//!
 //! Source: the Android page "Dalvik Executable format", under the headings "class_def_item" and "type_list".
 #![tactic(auto)]
 

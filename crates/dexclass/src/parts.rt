@@ -5,7 +5,7 @@ ghost use Rattle.std.specs.List.{flat_map};
 ghost use Rattle.dexspec.specs.Files.{definitions, IsCollectionOf};
 ghost use Rattle.dexspec.specs.Depth.{in_class_order};
 ghost use Rattle.dexclass.specs.Numbered.{definition_of};
-ghost use Rattle.dexclass.specs.Parts.{AreGoodClasses};
+ghost use Rattle.dexclass.specs.internal.Parts.{AreGoodClasses};
 
 use crate::classes::Class;
 use crate::programs::{Program, copied};

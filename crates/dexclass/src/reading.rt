@@ -6,9 +6,9 @@ ghost use Rattle.dexspec.specs.Accepted.{HoldBelow};
 ghost use Rattle.dexpool.specs.Pools.{ArePools};
 ghost use Rattle.dexpool.specs.declared.faults.ReadFault.TheVariants.{Refused};
 ghost use Rattle.dexmembers.specs.Reading.{IsMembersFault};
-ghost use Rattle.dexclass.specs.Rows.{HasInterfaceList, interface_indices};
+ghost use Rattle.dexclass.specs.internal.Rows.{HasInterfaceList, interface_indices};
 ghost use Rattle.dexclass.specs.Programs.{IsReadAs, IsFaultOf};
-ghost use Rattle.dexclass.specs.Reading.{AreBodies, IsWhole, AreHeavyTogether};
+ghost use Rattle.dexclass.specs.internal.Reading.{AreBodies, IsWhole, AreHeavyTogether};
 
 use crate::classes::{Class, class_at};
 use crate::judging::judge_classes;

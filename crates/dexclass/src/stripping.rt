@@ -8,7 +8,7 @@ ghost use Rattle.dexspec.specs.Stripping as stripping;
 ghost use Rattle.dexspec.specs.Stripping.{strip_collection};
 ghost use Rattle.dexlaws.specs.Strip.{StripCommutes};
 ghost use Rattle.dexmembers.specs.Weighing.{numbered_members_weight};
-ghost use Rattle.dexclass.specs.Stripped.{stripped_class};
+ghost use Rattle.dexclass.specs.internal.Stripped.{stripped_class};
 
 use crate::classes::Class;
 use crate::programs::Program;

@@ -15,8 +15,8 @@ use Rattle.dexruns.specs.Runs.{IsOfCheck, IsOfInput}
 use Rattle.dexruns.specs.Merges.{IsMergeFault}
 use Rattle.dexruns.specs.Counts.{IsCountFault}
 use Rattle.dexcmd.specs.Reports.{standard_name, done}
-use Rattle.dexcmd.specs.Ran.{IsCheckRun, IsDumpRun, IsNormaliseRun, IsMergeRun, IsRepairRun, IsCountRun}
-use Rattle.dexcmd.specs.Jobs.{IsReportOf, HasChecked, HasDumped, HasNormalised, HasMerged, HasCounted, HasRepaired}
+use Rattle.dexcmd.specs.internal.Ran.{IsCheckRun, IsDumpRun, IsNormaliseRun, IsMergeRun, IsRepairRun, IsCountRun}
+use Rattle.dexcmd.specs.internal.Jobs.{IsReportOf, HasChecked, HasDumped, HasNormalised, HasMerged, HasCounted, HasRepaired}
 
 -- ---- faults name files of which there is a name
 

@@ -1,5 +1,3 @@
 pub mod Arguments
-pub mod EachFile
-pub mod Jobs
-pub mod Ran
 pub mod Reports
+pub mod internal

@@ -2,7 +2,7 @@
 
 ghost use Rattle.std.specs.Prelude.{◌≡◌, true, false, map, IfOk, IfErr, string_bytes};
 ghost use Rattle.dexruns.specs.Lines.{HasName};
-ghost use Rattle.dexcmd.specs.EachFile.{passes, goes_on, IsFileChecked, IsFileDigested, IsFileRun, HasRunOverEach};
+ghost use Rattle.dexcmd.specs.internal.EachFile.{passes, goes_on, IsFileChecked, IsFileDigested, IsFileRun, HasRunOverEach};
 ghost use Rattle.dexcmd.specs.declared.each_file.Task.TheVariants.{Check, Digest};
 
 use crate::devices::Devices;

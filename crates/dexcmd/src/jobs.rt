@@ -3,7 +3,7 @@
 ghost use Rattle.std.specs.Prelude.{◌≡◌, ◌≤◌, ◌<◌, false, length, map, All, IfOk, IfSome, string_bytes, vec_len};
 ghost use Rattle.std.specs.List.{AllZip};
 ghost use Rattle.dexargs.specs.Words.{IsSound, IsSoundMerge};
-ghost use Rattle.dexcmd.specs.Jobs.{HasChecked, HasDumped, HasNormalised, HasMerged, HasCounted, HasRepaired, IsDone};
+ghost use Rattle.dexcmd.specs.internal.Jobs.{HasChecked, HasDumped, HasNormalised, HasMerged, HasCounted, HasRepaired, IsDone};
 
 use crate::devices::Devices;
 use crate::each_file::{Task, run_over_each};

@@ -10,7 +10,7 @@ use Rattle.dexpool.specs.declared.faults.ItemFault.{ItemFault}
 use Rattle.dexpool.specs.declared.faults.ItemFault.TheVariants.{Refused, Memory}
 use Rattle.dexcode.specs.declared.handlers.Catch.{Catch}
 use Rattle.dexcode.specs.Numbered.{NumberedHandler}
-use Rattle.dexcode.specs.NamedHandlers.{HaveCatches}
+use Rattle.dexcode.specs.internal.NamedHandlers.{HaveCatches}
 use Rattle.dexcode.specs.Reading.{IsStart, IsTriesFault, CatchAt, CatchesRead, CatchAllAt, HandlerAt}
 use Rattle.dexcode.proofs.Fronts.{sequence_more}
 use Rattle.dexcode.proofs.OneHandler.{one_catch}

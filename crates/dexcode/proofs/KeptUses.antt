@@ -18,7 +18,7 @@ use Rattle.dexrows.specs.Cut.{kept}
 use Rattle.dexpool.specs.declared.symbols.SymbolKind.{SymbolKind}
 use Rattle.dexpool.specs.declared.symbols.SymbolKind.TheVariants as kinds
 use Rattle.dexpool.specs.declared.marks.Marks.{Marks}
-use Rattle.dexpool.specs.Closing.{IsMarked}
+use Rattle.dexpool.specs.internal.Closing.{IsMarked}
 use Rattle.dexpool.specs.Numberings.{Maps, image, image_of, Leads, AllLead, AreMarksOf, marked}
 use Rattle.dexpool.proofs.KeptRows.{mark_within, kept_has}
 use Rattle.dexpool.specs.Uses.{Use, AreMarkedToo, marks_of, same_kind, occurs}

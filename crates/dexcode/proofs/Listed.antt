@@ -7,7 +7,7 @@ use Rattle.dexspec.specs.Lists.{Sequence}
 use Rattle.dexspec.specs.Numbers.{Sleb128At}
 use Rattle.dexspec.proofs.lists.Sequences.{one_sequence}
 use Rattle.dexcode.specs.Numbered.{NumberedHandler}
-use Rattle.dexcode.specs.NamedHandlers.{HasHandler}
+use Rattle.dexcode.specs.internal.NamedHandlers.{HasHandler}
 use Rattle.dexcode.specs.Reading.{HandlerAt, HandlersRead, BeginsAt, AreNumbered, IsNumberPut}
 use Rattle.dexcode.proofs.Fronts.{sequence_more}
 use Rattle.dexcode.proofs.OneHandler.{one_handler}

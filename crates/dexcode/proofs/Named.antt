@@ -11,7 +11,7 @@ use Rattle.dexcode.specs.declared.tries.Try.{Try}
 use Rattle.dexspec.specs.Lists.{distinct}
 use Rattle.dexcode.specs.Numbered.{NumberedHandler, NumberedTry, IsFormedHandler, no_handler, named, all_named, handlers_of, same_handler}
 use Rattle.dexcode.specs.Equality.{handler_decides}
-use Rattle.dexcode.specs.NamedHandlers.{AreKnown, IsHandlerAt, IsPutAt}
+use Rattle.dexcode.specs.internal.NamedHandlers.{AreKnown, IsHandlerAt, IsPutAt}
 use Rattle.dexcode.specs.Reading.{HandlerAt}
 use Rattle.dexcode.proofs.Listed.{no_number}
 use Rattle.dexcode.proofs.OneHandler.{one_handler}

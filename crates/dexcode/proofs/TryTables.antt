@@ -11,7 +11,7 @@ use Rattle.dexspec.proofs.determined.OneNumber.{one_uleb128}
 use Rattle.dexspec.proofs.lists.Sequences.{one_sequence}
 use Rattle.dexcode.specs.declared.tries.Try.{Try}
 use Rattle.dexcode.specs.Numbered.{NumberedHandler, NumberedTry, IsFormedHandler, no_handler, named, all_named, handlers_of, handlers_weight}
-use Rattle.dexcode.specs.NamedHandlers.{IsHandlerAt, AreListed}
+use Rattle.dexcode.specs.internal.NamedHandlers.{IsHandlerAt, AreListed}
 use Rattle.dexcode.specs.Reading.{HandlerAt, IsListAt, TryAt, ListedTryAt, AreApart, AreApartFrom, TriesRead, TryItemsAt}
 use Rattle.dexcode.proofs.Listed.{handler_some, sleb_some}
 use Rattle.dexcode.proofs.OneHandler.{one_handler}

@@ -5,8 +5,8 @@ pub mod DebugEquality
 pub mod DebugReading
 pub mod Equality
 pub mod Meaning
-pub mod NamedHandlers
 pub mod Numbered
 pub mod Operations
 pub mod Reading
 pub mod Renumbering
+pub mod internal

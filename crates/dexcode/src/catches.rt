@@ -4,7 +4,7 @@ ghost use Rattle.std.specs.Prelude.{◌≡◌, ◌<◌, ◌≤◌, ◌+◌, ℕ,
 ghost use Rattle.dexspec.specs.Lists.{Sequence};
 ghost use Rattle.dexcode.specs.Numbered.{NumberedHandler};
 ghost use Rattle.dexspec.specs.Numbers.{Uleb128At};
-ghost use Rattle.dexcode.specs.NamedHandlers.{HasHandler, HaveCatches};
+ghost use Rattle.dexcode.specs.internal.NamedHandlers.{HasHandler, HaveCatches};
 ghost use Rattle.dexcode.specs.Reading.{IsStart, CatchAt, CatchesRead, CatchAllAt, HandlerAt, IsTriesFault};
 ghost use Rattle.dexcode.specs.declared.handlers.Catch.{Catch as Caught};
 

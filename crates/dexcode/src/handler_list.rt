@@ -4,7 +4,7 @@ ghost use Rattle.std.specs.Prelude.{◌≡◌, ◌≤◌, ◌+◌, ℕ, List, le
 ghost use Rattle.dexspec.specs.Lists.{Sequence};
 ghost use Rattle.dexspec.specs.Numbers.{Uleb128At};
 ghost use Rattle.dexcode.specs.Numbered.{NumberedHandler};
-ghost use Rattle.dexcode.specs.NamedHandlers.{HasList};
+ghost use Rattle.dexcode.specs.internal.NamedHandlers.{HasList};
 ghost use Rattle.dexcode.specs.Reading.{HandlerAt, HandlersRead, IsNumberPut, IsTriesFault};
 
 use crate::catches::handler_len;

@@ -2,7 +2,7 @@
 
 ghost use Rattle.std.specs.Prelude.{◌≡◌, ◌+◌, ◌≤◌, length, slice_index_or, None, IfOk, IfErr, OnOk};
 ghost use Rattle.dexcode.specs.Numbered.{NumberedHandler};
-ghost use Rattle.dexcode.specs.NamedHandlers.{AreKnown, IsHandlerAt, IsNumberOf, IsPutAt};
+ghost use Rattle.dexcode.specs.internal.NamedHandlers.{AreKnown, IsHandlerAt, IsNumberOf, IsPutAt};
 ghost use Rattle.dexcode.specs.Reading.{IsTriesFault};
 
 use crate::catches::read_handler;

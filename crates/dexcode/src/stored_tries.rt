@@ -3,7 +3,7 @@
 ghost use Rattle.std.specs.Prelude.{◌≡◌, ◌↔◌, ◌^◌, ◌<◌, ◌≤◌, ◌+◌, ◌*◌, IsTrue, List, All, length, IfOk, IfErr, IfSome, IfNone};
 ghost use Rattle.dexspec.specs.Code.{most_handlers};
 ghost use Rattle.dexcode.specs.Numbered.{NumberedHandler, AreStored, all_named, handlers_of, handlers_weight};
-ghost use Rattle.dexcode.specs.NamedHandlers.{AreListed, HaveListed};
+ghost use Rattle.dexcode.specs.internal.NamedHandlers.{AreListed, HaveListed};
 ghost use Rattle.dexcode.specs.Reading.{IsTriesFault};
 
 use crate::handlers::Handler;

@@ -6,7 +6,7 @@ use Rattle.dexspec.proofs.lists.Mapped.{filter-map}
 use Rattle.std.proofs.lemmas.Simd.{map-map}
 use Rattle.bitflags.specs.Sets.{Row}
 use Rattle.dexspec.specs.Flags.{FlagsOf, OfClass, OfField, OfMethod, has_bit, named_bits, flags_text}
-use Rattle.dexflags.specs.FlagNames.{shown_name, set_names, table_text, IsSingleBit, HasSingleBits}
+use Rattle.dexflags.specs.internal.FlagNames.{shown_name, set_names, table_text, IsSingleBit, HasSingleBits}
 
 -- a row as a bit and its name
 abbrev pub as_named : Row → ℕ × List ℕ

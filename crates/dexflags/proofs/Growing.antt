@@ -5,7 +5,7 @@ use Rattle.std.specs.Prelude.{vec_len, vec_capacity, Result, IsErr}
 use Rattle.std.specs.Global.{Vec}
 use Rattle.std.proofs.Math.ListN.{length-append}
 use Rattle.std.proofs.lemmas.List.{map-append}
-use Rattle.dexflags.specs.FlagNames.{shown_byte, Grows}
+use Rattle.dexflags.specs.internal.FlagNames.{shown_byte, Grows}
 
 -- the vector has the old contents, then these bytes
 pub record Growing (old new : Vec ℕ) (so_far : List ℕ) : Type 0 where

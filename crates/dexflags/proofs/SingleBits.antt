@@ -6,7 +6,7 @@ use Rattle.std.proofs.lemmas.Nat.Bits.{and_pow}
 use Rattle.std.specs.Int.{bit_at}
 use Rattle.std.specs.Int.RustNames.{bit_and}
 use Rattle.dexspec.specs.Flags.{has_bit}
-use Rattle.dexflags.specs.FlagNames.{IsSingleBit}
+use Rattle.dexflags.specs.internal.FlagNames.{IsSingleBit}
 
 -- 0 or 1 times a positive number is the number exactly if the factor is 1
 all_or_none : (x p : ℕ) → x < 2 → 0 < p → (x * p == p) ≡ (x == 1)

@@ -1,1 +1,1 @@
-pub mod FlagNames
+pub mod internal

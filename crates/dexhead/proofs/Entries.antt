@@ -12,8 +12,8 @@ use Rattle.dexspec.specs.Header as header
 use Rattle.dexspec.specs.Header.{table_size, table_off, StringIds, TypeIds, ProtoIds, FieldIds, MethodIds, ClassDefs}
 use Rattle.dexspec.specs.Sections.{MapEntry, Section, HeaderItem, TableOf, MapList, TypeLists, AnnotationSetRefLists, AnnotationSets, ClassDataItems, CodeItems, StringDataItems, DebugInfoItems, AnnotationItems, EncodedArrayItems, AnnotationsDirectories, type_code, entries_at, IsKnown, IsPlaced, HasTable, HasMap, map_entries}
 use Rattle.dexhead.specs.declared.map.Map.{Map}
-use Rattle.dexhead.specs.Found.{entries}
-use Rattle.dexhead.specs.Map.{entry_of, IsCode, IsNext, AreInOrder, BeginsWithHeader, IsThere, HaveTables, AreRight, IsInPlace}
+use Rattle.dexhead.specs.internal.Found.{entries}
+use Rattle.dexhead.specs.internal.Map.{entry_of, IsCode, IsNext, AreInOrder, BeginsWithHeader, IsThere, HaveTables, AreRight, IsInPlace}
 
 abbrev none : MapEntry
 none = record { kind = 0; size = 0; off = 0 }

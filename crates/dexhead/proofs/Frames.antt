@@ -6,7 +6,7 @@ use Rattle.dexspec.specs.Rows.{row_at}
 use Rattle.dexspec.specs.Conditions.{Condition, number}
 use Rattle.dexspec.specs.Accepted.{rows_judged, place, Holds, HoldBelow, IsFrame, IsRefused}
 use Rattle.dexhead.specs.declared.refusal.Refusal.{Refusal}
-use Rattle.dexhead.specs.Refusals.{IsEarly}
+use Rattle.dexhead.specs.internal.Refusals.{IsEarly}
 
 -- the condition of a number, for the first ten
 of_number : ℕ → Condition

@@ -8,7 +8,7 @@ use Rattle.dexspec.specs.Header.{StringIds, TypeIds, ProtoIds, FieldIds, MethodI
 use Rattle.dexspec.specs.Sections.{HasLayout}
 use Rattle.dexhead.specs.declared.tables.Table.{Table}
 use Rattle.dexhead.specs.Tables.{meant}
-use Rattle.dexhead.specs.Judged.{AreFew, IsLaidOut, has_signature}
+use Rattle.dexhead.specs.internal.Judged.{AreFew, IsLaidOut, has_signature}
 
 -- ---- the signature
 

@@ -7,7 +7,7 @@ ghost use Rattle.dexspec.specs.Sections.{IsInData};
 ghost use Rattle.dexspec.specs.Accepted.{HoldBelow, IsFrame, IsRefused};
 ghost use Rattle.dexspec.specs.Conditions.{number};
 ghost use Rattle.dexhead.specs.Conditions.{condition_meant};
-ghost use Rattle.dexhead.specs.Refusals.{IsEarly};
+ghost use Rattle.dexhead.specs.internal.Refusals.{IsEarly};
 ghost use Rattle.dexhead.specs.Tables.{meant};
 
 use crate::condition::Condition;

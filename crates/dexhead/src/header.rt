@@ -3,7 +3,7 @@
 ghost use Rattle.std.specs.Prelude.{◌≡◌, ◌↔◌, ℕ, ◌+◌, ◌-◌, ◌<◌, ◌≤◌, List, ◌∷◌, All, IsTrue, MatchOption, length, slice_index};
 ghost use Rattle.dexspec.specs.Header.{Table as SpecTable, HasSize, HasMagic, version, HasLengths, HasEndian, HasNoLink, HasChecksum, IsDigit, tables, table_size, table_off, data_off};
 ghost use Rattle.dexspec.specs.Sections.{HasLayout};
-ghost use Rattle.dexhead.specs.Judged.{AreFew, IsLaidOut, has_signature};
+ghost use Rattle.dexhead.specs.internal.Judged.{AreFew, IsLaidOut, has_signature};
 ghost use Rattle.dexhead.specs.Tables.{meant};
 
 use crate::numbers::u32_at;
@@ -92,7 +92,7 @@ pub(crate) fn has_checksum(bytes: &[u8]) -> bool
     u32_at(bytes, 8) == adler(rest)
 }
 
-#[tactic(auto, unfolding(crate::specs::Judged::has_signature))]
+#[tactic(auto, unfolding(crate::specs::internal::Judged::has_signature))]
 pub(crate) fn has_signature(bytes: &[u8]) -> bool
     requires { 112 ≤ length bytes.now }
     ensures { result ≡ has_signature bytes.now }

@@ -4,7 +4,7 @@ ghost use Rattle.std.specs.Prelude.{◌≡◌, ◌≢◌, ◌↔◌, ◌+◌, �
 ghost use Rattle.std.specs.List.{Contains};
 ghost use Rattle.dexspec.specs.Sections.{IsPlaced, HasMap, map_entries};
 ghost use Rattle.dexhead.specs.Tables.{meant};
-ghost use Rattle.dexhead.specs.Map.{read, entry_of, IsCode, IsInPlace, IsNext, AreInOrder, BeginsWithHeader, IsThere, HaveTables, HaveMap, AreRight};
+ghost use Rattle.dexhead.specs.internal.Map.{read, entry_of, IsCode, IsInPlace, IsNext, AreInOrder, BeginsWithHeader, IsThere, HaveTables, HaveMap, AreRight};
 
 use crate::header;
 use crate::numbers::{u16_at, u32_at};
@@ -60,9 +60,9 @@ fn is_code(kind: u16) -> bool
 }
 
 impl<'a> Map<'a> {
-    ghost use Rattle.dexhead.specs.Found.{entries};
+    ghost use Rattle.dexhead.specs.internal.Found.{entries};
 
-    #[tactic(auto, unfolding(crate::specs::Found::entries))]
+    #[tactic(auto, unfolding(crate::specs::internal::Found::entries))]
     fn find(bytes: &'a [u8]) -> Option<Map<'a>>
         requires { 112 ≤ length bytes.now }
         ensures place { MatchOption result (IsInPlace bytes.now → ⊥) (λ _. IsInPlace bytes.now) }

@@ -8,7 +8,7 @@ use Rattle.std.proofs.lemmas.List.Folds.{list_any_at, Any-from_list_any}
 use Rattle.dexspec.specs.Opcodes.{Opcode, Format, opcode_of, F10x, F12x, F11n, F11x, F10t, F20t, F22x, F21t, F21s, F21h, F21c, F23x, F22b, F22s, F22t, F22c, F30t, F32x, F31i, F31t, F31c, F35c, F3rc, F51l}
 use Rattle.dexspec.specs.Pieces.{Cut, branch_offset, has_right_targets, is_payload_ident, low_byte}
 use Rattle.dexspec.specs.Mentions.{Mentions}
-use Rattle.dexinsn.specs.LongSwitches.{HasBit}
+use Rattle.dexinsn.specs.internal.LongSwitches.{HasBit}
 use Rattle.dexspec.specs.Bytes.{uint_at}
 use Rattle.dexspec.specs.Code.{RegistersAt}
 use Rattle.dexspec.proofs.wellformed.FormedRows.{length-ushorts_at}

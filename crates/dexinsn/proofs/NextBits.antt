@@ -5,7 +5,7 @@ use Rattle.std.proofs.lemmas.Bool.{cases_lt}
 use Rattle.std.proofs.lemmas.List.{get_or_past}
 use Rattle.std.proofs.lemmas.Nat.Bits.{bit_at-zero, bit_at_above, bit_at-trailing_zeros}
 use Rattle.std.proofs.Math.Nat.{div-le_self}
-use Rattle.dexinsn.specs.LongSwitches.{HasBit}
+use Rattle.dexinsn.specs.internal.LongSwitches.{HasBit}
 use Rattle.dexinsn.specs.Checking.{HasNoBit, IsNextBit}
 use Rattle.dexinsn.proofs.StartBits.{low_part}
 

@@ -9,7 +9,7 @@ use Rattle.std.proofs.lemmas.List.Elements.{All-nil, All-push, All-head, All-tai
 use Rattle.std.proofs.lemmas.List.Folds.{list_any-append}
 use Rattle.dexspec.specs.Mentions.{Mentions}
 use Rattle.dexspec.specs.Pieces.{Cut, AreCut, BreaksAt, index_pool, piece_size}
-use Rattle.dexinsn.specs.LongSwitches.{HasBit}
+use Rattle.dexinsn.specs.internal.LongSwitches.{HasBit}
 use Rattle.dexinsn.specs.Stored.{FitsAt}
 use Rattle.dexinsn.specs.Reading.{IsInRange, indices_at, with_index_at}
 use Rattle.dexinsn.specs.Split.{IsPieceAt, starts_with, units_of_all}

@@ -16,7 +16,7 @@ use Rattle.dexinsn.specs.Opcode.{format_of}
 use Rattle.dexinsn.specs.declared.payload.PayloadKind.{PayloadKind}
 use Rattle.dexinsn.specs.declared.payload.PayloadKind.TheVariants.{PackedSwitch, SparseSwitch, ArrayData}
 use Rattle.dexinsn.specs.Payload.{ident_of}
-use Rattle.dexinsn.specs.LongSwitches.{HasBit, HasPlace}
+use Rattle.dexinsn.specs.internal.LongSwitches.{HasBit, HasPlace}
 use Rattle.dexinsn.specs.Split.{starts_with}
 use Rattle.dexinsn.specs.Checking.{AreBitsOf, is_noted, leads}
 use Rattle.dexinsn.proofs.StartBits.{same_answer}

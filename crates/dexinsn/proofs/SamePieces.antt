@@ -13,7 +13,7 @@ use Rattle.dexinsn.specs.declared.pieces.Index.{Index}
 use Rattle.dexinsn.specs.Split.{IsPieceAt}
 use Rattle.dexinsn.specs.Numbered.{NumberedPiece, Instruction, Payload, kind_in, renumbered_piece}
 use Rattle.dexinsn.specs.Stored.{cuts_in, parts_in, piece_with, left_by, pieces_with, with_place, index_places, behind_index, AreStored, Follow}
-use Rattle.dexinsn.specs.Same.{Agree, AgreeBeside, LeadAlike, AreAlike}
+use Rattle.dexinsn.specs.internal.Same.{Agree, AgreeBeside, LeadAlike, AreAlike}
 use Rattle.dexinsn.proofs.Sizes.{Fits, piece_size-fits}
 use Rattle.dexinsn.proofs.IndexRoom.{HasRoom, has_room}
 use Rattle.dexinsn.proofs.StoredRead.{cuts_in_is, same_pool, same_wide, first_kept, cut_pool, cut_first, cut_length}

@@ -7,7 +7,7 @@ use Rattle.dexspec.specs.Pieces.{is_wide_index}
 use Rattle.dexinsn.specs.declared.pieces.Index.{Index}
 use Rattle.dexinsn.specs.Units.{units_in}
 use Rattle.dexinsn.specs.Stored.{behind_index}
-use Rattle.dexinsn.specs.Same.{Agree, AgreeBeside}
+use Rattle.dexinsn.specs.internal.Same.{Agree, AgreeBeside}
 use Rattle.dexinsn.proofs.Halves.{length_from, ushorts_from, units_of_part}
 use Rattle.dexinsn.proofs.PutUnits.{next_is, ushorts_taken, part_bytes}
 use Rattle.dexinsn.proofs.SamePieces.{agree_part, part_agrees}

@@ -12,7 +12,7 @@ use Rattle.std.proofs.lemmas.List.{get_or-set_same, get_or-set_other, get_or-rep
 use Rattle.std.proofs.lemmas.Nat.{and_le_l, shr-shr, shr_split, pow_pos}
 use Rattle.std.proofs.lemmas.Nat.Bits.{bit_at_and, bit_at_or, bit_at_not, bit_at-lt, bit_at-zero, bit_at_above, bit_at_cat_low, bit_at_cat_high, bit_at_set_same, bit_at_set_other, same_from_bits_below}
 use Rattle.dexspec.specs.Pieces.{Cut, is_instruction_start, is_payload_ident}
-use Rattle.dexinsn.specs.LongSwitches.{AllInGroup, AreGrouped, AreStartBits, HasBit, HasPlace, HasPlaces, EndsEmpty}
+use Rattle.dexinsn.specs.internal.LongSwitches.{AllInGroup, AreGrouped, AreStartBits, HasBit, HasPlace, HasPlaces, EndsEmpty}
 use Rattle.dexinsn.specs.Split.{lead_right}
 use Rattle.dexinsn.specs.declared.target_group.TargetGroup.{TargetGroup}
 use Rattle.dexinsn.specs.Checking.{AreBitsOf, begins_instruction}

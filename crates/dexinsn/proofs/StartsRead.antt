@@ -7,7 +7,7 @@ use Rattle.std.proofs.lemmas.List.{get_or_past}
 use Rattle.dexspec.specs.Pieces.{IsCode, is_instruction_start}
 use Rattle.dexinsn.specs.Units.{units_in}
 use Rattle.dexinsn.specs.Bits.{bits_from, bits_in, has_bit}
-use Rattle.dexinsn.specs.LongSwitches.{HasBit, HasPlace}
+use Rattle.dexinsn.specs.internal.LongSwitches.{HasBit, HasPlace}
 use Rattle.dexinsn.specs.Reading.{AreUnitsAt, AreStartsAt}
 use Rattle.dexinsn.specs.Checking.{AreCodeStarts}
 use Rattle.dexinsn.proofs.StartBits.{same_answer}

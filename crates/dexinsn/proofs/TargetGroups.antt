@@ -14,7 +14,7 @@ use Rattle.std.proofs.lemmas.List.Sums.{AllPass-from_list_all, list_all-from_All
 use Rattle.std.proofs.lemmas.List.Sorted.{All-permutation, IsPermutation-sym}
 use Rattle.dexspec.specs.Pieces.{int_in, ints_in}
 use Rattle.dexinsn.specs.declared.target_group.TargetGroup.{TargetGroup}
-use Rattle.dexinsn.specs.LongSwitches.{AllFrom, AllInGroup, AreGrouped}
+use Rattle.dexinsn.specs.internal.LongSwitches.{AllFrom, AllInGroup, AreGrouped}
 
 -- a number and nothing
 and_none : (z : ℤ) → z +ℤ pos 0 ≡ z

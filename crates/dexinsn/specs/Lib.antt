@@ -1,15 +1,13 @@
 pub mod Opcode
 pub mod Payload
 pub mod Split
-pub mod Props
 pub mod Units
 pub mod Numbered
 pub mod Stored
 pub mod Reading
-pub mod Same
 pub mod Listing
 pub mod Fitting
-pub mod LongSwitches
 pub mod Checking
 pub mod Bits
 pub mod Blank
+pub mod internal

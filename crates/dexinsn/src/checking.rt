@@ -9,7 +9,7 @@ ghost use Rattle.dexinsn.specs.Reading.{AreStartsAt, IsCodeFault, IsPiecesFault}
 ghost use Rattle.dexinsn.specs.Bits.{bits_in};
 ghost use Rattle.dexinsn.specs.Opcode.{format_of};
 ghost use Rattle.dexinsn.specs.Payload.{ident_of};
-ghost use Rattle.dexinsn.specs.LongSwitches.{ArePayloads, EndsEmpty};
+ghost use Rattle.dexinsn.specs.internal.LongSwitches.{ArePayloads, EndsEmpty};
 ghost use Rattle.dexinsn.specs.Split.{IsPieceAt, branches_right, lead_right, leads_to_payload};
 ghost use Rattle.dexinsn.specs.Checking.{AreBitsOf, AreCodeStarts, AreNoted, ArePassed, HasNoCode, AreAllRight, HasPiecesOf, IndexCount, IsOutside, IsChecked, IsShapeAt, LeadsAt, begins_instruction, branches, is_noted, leads};
 

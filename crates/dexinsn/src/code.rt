@@ -1,7 +1,7 @@
 ghost use Rattle.std.specs.Prelude.{◌≡◌, ◌<◌, ◌^◌, List, [], Result, IfErr, IfOk, length};
 ghost use Rattle.dexspec.specs.Pieces.{Cut as Meant, IsCode};
 ghost use Rattle.dexinsn.specs.declared.code.CodeFault.TheVariants.{Memory};
-ghost use Rattle.dexinsn.specs.LongSwitches.{ArePayloads};
+ghost use Rattle.dexinsn.specs.internal.LongSwitches.{ArePayloads};
 ghost use Rattle.dexinsn.specs.Checking.{AreBitsOf, AreCutWith, begins_instruction, is_noted};
 ghost use Rattle.dexinsn.specs.Split.{IsAnswer, IsAnswered, IsCutFault, IsFault, cuts_of, first_astray, kind_of, unit_of};
 

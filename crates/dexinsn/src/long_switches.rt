@@ -4,7 +4,7 @@ ghost use Rattle.std.specs.Prelude.{◌≡◌, ◌+◌, ◌*◌, ◌<◌, ◌≤
 ghost use Rattle.std.specs.List.Sorted.{IsPermutation};
 ghost use Rattle.dexspec.specs.Pieces.{ints_in, payload_targets, piece_size};
 ghost use Rattle.dexinsn.specs.Payload.{ident_of};
-ghost use Rattle.dexinsn.specs.LongSwitches.{ArePayloads, AreTargetsAt};
+ghost use Rattle.dexinsn.specs.internal.LongSwitches.{ArePayloads, AreTargetsAt};
 ghost use Rattle.dexinsn.specs.Checking.{AreNoted};
 
 use crate::code_units::Units;

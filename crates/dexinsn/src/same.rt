@@ -5,7 +5,7 @@ ghost use Rattle.std.specs.List.{AllZip};
 ghost use Rattle.dexinsn.specs.Units.{units_in};
 ghost use Rattle.dexinsn.specs.Numbered.{renumbered, renumbered_piece};
 ghost use Rattle.dexinsn.specs.Stored.{AreStored, IsIndexed, Follow, parts_in, pieces_with};
-ghost use Rattle.dexinsn.specs.Same.{Agree, AgreeBeside, LeadAlike};
+ghost use Rattle.dexinsn.specs.internal.Same.{Agree, AgreeBeside, LeadAlike};
 
 use crate::code_units::{Units, unit_bytes};
 use crate::indexed::{index_kind_at, is_wide_at};

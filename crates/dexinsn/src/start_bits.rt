@@ -2,7 +2,7 @@
 
 ghost use Rattle.std.specs.Prelude.{◌≡◌, ◌↔◌, ℕ, ◌+◌, ◌/◌, ◌<◌, ◌^◌, pos, ◌+ℤ◌, true, length, All, MatchOption};
 ghost use Rattle.std.specs.Int.{bit_at};
-ghost use Rattle.dexinsn.specs.LongSwitches.{EndsEmpty, HasBit, HasPlace, HasPlaces};
+ghost use Rattle.dexinsn.specs.internal.LongSwitches.{EndsEmpty, HasBit, HasPlace, HasPlaces};
 ghost use Rattle.dexinsn.specs.Checking.{HasNoBit, IsNextBit};
 
 use crate::target_group::TargetGroup;

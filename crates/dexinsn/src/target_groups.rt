@@ -1,7 +1,7 @@
 //! Targets of a switch in groups, so that up to 64 are checked at once.
 
 ghost use Rattle.std.specs.Prelude.{◌≡◌, ◌↔◌, ◌<◌, ℤ, Bool, true, length, IfOk, IfSome};
-ghost use Rattle.dexinsn.specs.LongSwitches.{AllInGroup, AreGrouped, HasBeside};
+ghost use Rattle.dexinsn.specs.internal.LongSwitches.{AllInGroup, AreGrouped, HasBeside};
 
 use crate::target_group::TargetGroup;
 use std::alloc::{AllocError, Global};

@@ -20,8 +20,8 @@ use Rattle.dexspec.proofs.layout.Placements.{sections_follow, sections_have_byte
 use Rattle.dexval.specs.Numbered.{NumberedSet, annotation_in, set_in}
 use Rattle.dexclass.specs.Numbered.{NumberedClass, type_at}
 use Rattle.dexlayout.specs.Places.{ItemPlaces}
-use Rattle.dexlayout.specs.Running.{none_from, pass, put_at, place_uses}
-use Rattle.dexlayout.specs.Parts.{AreData, count_placed}
+use Rattle.dexlayout.specs.internal.Running.{none_from, pass, put_at, place_uses}
+use Rattle.dexlayout.specs.internal.Parts.{AreData, count_placed}
 use Rattle.dexlayout.specs.declared.data.Data.{Data}
 use Rattle.dexlayout.specs.Laid.{StandSo, ordered_of}
 use Rattle.dexlayout.proofs.Ends.{EndInFile, chained}

@@ -12,7 +12,7 @@ use Rattle.dexspec.specs.Canonical.{Layout, layout, placed_tables, data_sections
 use Rattle.dexspec.proofs.layout.Placements.{layout_is}
 use Rattle.dexclass.specs.Numbered.{NumberedClass, definition_of}
 use Rattle.dexlayout.specs.Laid.{AreWritable, ordered_of}
-use Rattle.dexlayout.specs.Parts.{entry_of, table_parts, section_parts}
+use Rattle.dexlayout.specs.internal.Parts.{entry_of, table_parts, section_parts}
 use Rattle.dexlayout.proofs.Ends.{end_in_file}
 
 -- the rows of all tables fit the file

@@ -31,8 +31,8 @@ use Rattle.dexclass.specs.Numbered.{NumberedClass, definition_of, type_at}
 use Rattle.dexclass.specs.Uses.{IsKnownClass}
 use Rattle.dexlayout.specs.Laid.{AreWritable, StandSo, ordered_of}
 use Rattle.dexlayout.specs.Places.{ItemPlaces}
-use Rattle.dexlayout.specs.Running.{none_from, place_use, place_uses}
-use Rattle.dexlayout.specs.Sizes.{array_size, static_size, code_size, class_code_sizes, class_data_size, class_data_sizes}
+use Rattle.dexlayout.specs.internal.Running.{none_from, place_use, place_uses}
+use Rattle.dexlayout.specs.internal.Sizes.{array_size, static_size, code_size, class_code_sizes, class_data_size, class_data_sizes}
 use Rattle.dexlayout.proofs.Owned.{sizes, own_stand, place_grows}
 
 -- ---- static values

@@ -5,7 +5,7 @@ use Rattle.std.proofs.lemmas.List.{append-nil, drop_more, drop_all}
 use Rattle.dexspec.specs.Bytes.{round_up}
 use Rattle.dexspec.specs.Placing.{offsets_from, end_from}
 use Rattle.dexlayout.specs.Places.{ItemPlaces}
-use Rattle.dexlayout.specs.Running.{none_from, put_at, place_use, place_uses}
+use Rattle.dexlayout.specs.internal.Running.{none_from, put_at, place_use, place_uses}
 use Rattle.dexlayout.specs.Laid.{greatest_of, StandSo}
 use Rattle.dexlayout.proofs.Owned.{place_append, place_grows}
 

@@ -9,7 +9,7 @@ use Rattle.dexspec.specs.Bytes.{round_up}
 use Rattle.dexspec.specs.Placing.{own_numbers, own_items, offsets_from, end_from, uses_offsets}
 use Rattle.dexspec.proofs.layout.Places.{length-padding}
 use Rattle.dexlayout.specs.Places.{ItemPlaces}
-use Rattle.dexlayout.specs.Running.{none_from, pass, put_at, place_use, place_uses}
+use Rattle.dexlayout.specs.internal.Running.{none_from, pass, put_at, place_use, place_uses}
 use Rattle.dexlayout.specs.Laid.{greatest_of, StandSo}
 
 -- how many bytes each use has, if it has an item

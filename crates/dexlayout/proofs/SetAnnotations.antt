@@ -17,8 +17,8 @@ use Rattle.dexval.proofs.Spelling.{annotation_lengths_are}
 use Rattle.dexclass.specs.Numbered.{NumberedClass}
 use Rattle.dexlayout.specs.Places.{ItemPlaces}
 use Rattle.dexlayout.specs.Laid.{ordered_of, greatest_of, first_offsets, StandSo, AreWritable}
-use Rattle.dexlayout.specs.Running.{none_from}
-use Rattle.dexlayout.specs.Annotated.{annotation_lens, begin_set, lengthen, lengthen_all, place_set, place_sets}
+use Rattle.dexlayout.specs.internal.Running.{none_from}
+use Rattle.dexlayout.specs.internal.Annotated.{annotation_lens, begin_set, lengthen, lengthen_all, place_set, place_sets}
 use Rattle.dexlayout.proofs.Ends.{end_in_file}
 
 -- ---- step by step

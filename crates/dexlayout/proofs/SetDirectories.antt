@@ -29,9 +29,9 @@ use Rattle.dexclass.specs.Numbered.{NumberedClass, definition_of, type_at}
 use Rattle.dexclass.specs.Uses.{IsKnownClass}
 use Rattle.dexlayout.specs.Places.{ItemPlaces, SetPlaces}
 use Rattle.dexlayout.specs.Laid.{ordered_of, StandSo, AreSets, AreWritable}
-use Rattle.dexlayout.specs.Running.{none_from, pass, put_at, place_use, place_uses}
-use Rattle.dexlayout.specs.Directories.{entry_count, directory_size, directory_sizes}
-use Rattle.dexlayout.specs.Gathering.{list_size, list_sizes, class_list_sizes, sets_of_method, sets_of_class, parts_of_class, parts_of_classes}
+use Rattle.dexlayout.specs.internal.Running.{none_from, pass, put_at, place_use, place_uses}
+use Rattle.dexlayout.specs.internal.Directories.{entry_count, directory_size, directory_sizes}
+use Rattle.dexlayout.specs.internal.Gathering.{list_size, list_sizes, class_list_sizes, sets_of_method, sets_of_class, parts_of_class, parts_of_classes}
 use Rattle.dexlayout.proofs.Owned.{sizes, own_stand, place_grows}
 use Rattle.dexlayout.proofs.SetLists.{set_use_offsets, length-set_use_offsets, set_offsets_are, ref_list_lengths}
 use Rattle.dexlayout.proofs.SetsGathered.{class_sets_count, classes_are_long, classes_parts, fields_count, methods_are}

@@ -18,8 +18,8 @@ use Rattle.dexmembers.specs.Numbered.{NumberedMethod, method_in, methods_of}
 use Rattle.dexclass.specs.Numbered.{NumberedClass, definition_of}
 use Rattle.dexlayout.specs.Places.{ItemPlaces}
 use Rattle.dexlayout.specs.Laid.{ordered_of, StandSo}
-use Rattle.dexlayout.specs.Running.{none_from, pass, put_at, place_use, place_uses}
-use Rattle.dexlayout.specs.Gathering.{list_size, list_sizes, class_list_sizes}
+use Rattle.dexlayout.specs.internal.Running.{none_from, pass, put_at, place_use, place_uses}
+use Rattle.dexlayout.specs.internal.Gathering.{list_size, list_sizes, class_list_sizes}
 use Rattle.dexlayout.proofs.Owned.{sizes, own_stand, place_grows, place_append}
 use Rattle.dexlayout.proofs.SetItems.{offsets_length}
 use Rattle.dexlayout.proofs.SetParts.{list_of, parts, class_lists}

@@ -12,7 +12,7 @@ use Rattle.dexval.specs.Numbered.{NumberedSet, set_in}
 use Rattle.dexmembers.specs.Numbered.{NumberedField, NumberedMethod, field_in, method_in, fields_of, methods_of}
 use Rattle.dexclass.specs.Numbered.{NumberedClass, definition_of}
 use Rattle.dexlayout.specs.Places.{SetPlaces}
-use Rattle.dexlayout.specs.Gathering.{sets_of_method, sets_of_class, parts_of_methods, parts_of_class, parts_of_classes, gather_own, gather_method, gather_methods, gather_class, gather_classes}
+use Rattle.dexlayout.specs.internal.Gathering.{sets_of_method, sets_of_class, parts_of_methods, parts_of_class, parts_of_classes, gather_own, gather_method, gather_methods, gather_class, gather_classes}
 use Rattle.dexlayout.proofs.SetParts.{parts, class_count}
 
 -- ---- what has been collected

@@ -17,8 +17,8 @@ use Rattle.dexval.specs.Numbered.{NumberedSet, set_in}
 use Rattle.dexclass.specs.Numbered.{NumberedClass}
 use Rattle.dexlayout.specs.Places.{SetPlaces}
 use Rattle.dexlayout.specs.Laid.{ordered_of, greatest_of, StandSo, AreSets}
-use Rattle.dexlayout.specs.Running.{none_from, place_uses}
-use Rattle.dexlayout.specs.Gathering.{set_len, parts_of_classes, gather_classes}
+use Rattle.dexlayout.specs.internal.Running.{none_from, place_uses}
+use Rattle.dexlayout.specs.internal.Gathering.{set_len, parts_of_classes, gather_classes}
 use Rattle.dexlayout.proofs.SharedPlaces.{all_stand}
 use Rattle.dexlayout.proofs.SetItems.{offsets_length, chunk_lengths}
 use Rattle.dexlayout.proofs.SetParts.{parts}

@@ -33,9 +33,9 @@ use Rattle.dexpool.specs.Numberings.{AreRising}
 use Rattle.dexclass.specs.Numbered.{NumberedClass, definition_of, type_at}
 use Rattle.dexlayout.specs.Places.{ItemPlaces}
 use Rattle.dexlayout.specs.Laid.{AreShared, AreTypeLists, AreDebugs, AreWritable, StandSo, ordered_of}
-use Rattle.dexlayout.specs.Running.{none_from}
-use Rattle.dexlayout.specs.Sharing.{list_len}
-use Rattle.dexlayout.specs.SharedUses.{AreTypes, SharesLists, SharesSets, SharesDebugs, interfaces_use, set_use, field_uses, method_uses, methods_uses, members_uses, equal_debugs, debugs_uses}
+use Rattle.dexlayout.specs.internal.Running.{none_from}
+use Rattle.dexlayout.specs.internal.Sharing.{list_len}
+use Rattle.dexlayout.specs.internal.SharedUses.{AreTypes, SharesLists, SharesSets, SharesDebugs, interfaces_use, set_use, field_uses, method_uses, methods_uses, members_uses, equal_debugs, debugs_uses}
 use Rattle.dexlayout.proofs.EncodedItems.{encoded_are}
 use Rattle.dexlayout.proofs.Ends.{end_in_file}
 use Rattle.dexlayout.proofs.SharedPlaces.{placed, written_stand, by_numbers, uses_stand, numbers_within, offsets_count}

@@ -14,7 +14,7 @@ use Rattle.dexspec.proofs.lists.Members.{Contains-first, Contains-later}
 use Rattle.dexspec.proofs.layout.Places.{length-offsets_from}
 use Rattle.dexspec.proofs.sharing.Sharing.{position_is}
 use Rattle.dexlayout.specs.Places.{ItemPlaces}
-use Rattle.dexlayout.specs.Running.{none_from, put_at, place_uses}
+use Rattle.dexlayout.specs.internal.Running.{none_from, put_at, place_uses}
 use Rattle.dexlayout.specs.Laid.{greatest_of, StandSo}
 use Rattle.dexlayout.proofs.Owned.{place_more, place_within}
 

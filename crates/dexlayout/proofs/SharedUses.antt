@@ -16,7 +16,7 @@ use Rattle.dexspec.proofs.lists.Members.{Contains-nil, Contains-first, Contains-
 use Rattle.dexspec.proofs.sharing.Sharing.{present-append, numbers_led}
 use Rattle.dexspec.proofs.lists.Sources.{distinct_source}
 use Rattle.dexlayout.specs.Laid.{AreShared}
-use Rattle.dexlayout.specs.Sharing.{HaveItems, SharedTo}
+use Rattle.dexlayout.specs.internal.Sharing.{HaveItems, SharedTo}
 
 -- ---- one more item
 

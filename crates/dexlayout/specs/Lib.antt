@@ -1,11 +1,4 @@
-pub mod Annotated
-pub mod Directories
-pub mod Gathering
 pub mod Laid
 pub mod ListKeys
-pub mod Parts
 pub mod Places
-pub mod Running
-pub mod SharedUses
-pub mod Sharing
-pub mod Sizes
+pub mod internal

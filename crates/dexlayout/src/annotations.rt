@@ -4,8 +4,8 @@ ghost use Rattle.std.specs.Prelude.{◌≡◌, ◌+◌, ◌<◌, ◌≤◌, ◌^
 ghost use Rattle.dexspec.specs.Canonical.{set_items, type_list_end};
 ghost use Rattle.dexval.specs.Code.{set_of};
 ghost use Rattle.dexval.specs.Numbered.{set_in, IsKnownSet};
-ghost use Rattle.dexlayout.specs.Annotated.{annotation_lens, begin_set, lengthen, place_set, place_sets};
-ghost use Rattle.dexlayout.specs.Running.{none_from};
+ghost use Rattle.dexlayout.specs.internal.Annotated.{annotation_lens, begin_set, lengthen, place_set, place_sets};
+ghost use Rattle.dexlayout.specs.internal.Running.{none_from};
 ghost use Rattle.dexlayout.specs.Laid.{AreWritable, AreAnnotations, ordered_of};
 ghost use Rattle.dexspec.specs.Mentions.{Mentions};
 ghost use Rattle.dexclass.specs.Numbered.{NumberedClass};

@@ -5,8 +5,8 @@ ghost use Rattle.dexspec.specs.Mentions.{Mentions};
 ghost use Rattle.dexspec.specs.Canonical.{class_data_end, class_data_offsets, class_data_section, code_end, code_offsets};
 ghost use Rattle.dexmembers.specs.Numbered.{methods_of};
 ghost use Rattle.dexlayout.specs.Laid.{AreWritable, StandSo, ordered_of};
-ghost use Rattle.dexlayout.specs.Running.{place_use};
-ghost use Rattle.dexlayout.specs.Sizes.{class_data_size};
+ghost use Rattle.dexlayout.specs.internal.Running.{place_use};
+ghost use Rattle.dexlayout.specs.internal.Sizes.{class_data_size};
 
 use crate::offsets::Offsets;
 use dexclass::Class;

@@ -4,8 +4,8 @@ ghost use Rattle.std.specs.Prelude.{◌≡◌, ◌^◌, ◌≤◌, IfOk, OnOk, m
 ghost use Rattle.dexspec.specs.Mentions.{Mentions};
 ghost use Rattle.dexspec.specs.Canonical.{code_end, code_offsets, code_section, debug_end};
 ghost use Rattle.dexlayout.specs.Laid.{AreWritable, StandSo, ordered_of};
-ghost use Rattle.dexlayout.specs.Running.{place_use, place_uses};
-ghost use Rattle.dexlayout.specs.Sizes.{class_code_sizes, code_size};
+ghost use Rattle.dexlayout.specs.internal.Running.{place_use, place_uses};
+ghost use Rattle.dexlayout.specs.internal.Sizes.{class_code_sizes, code_size};
 
 use crate::offsets::{Offsets, round_up};
 use dexclass::Class;

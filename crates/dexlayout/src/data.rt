@@ -9,7 +9,7 @@ ghost use Rattle.dexval.specs.Code.{set_of};
 ghost use Rattle.dexval.specs.Numbered.{IsKnownSet, set_in};
 ghost use Rattle.dexclass.specs.Numbered.{NumberedClass};
 ghost use Rattle.dexlayout.specs.Laid.{AreWritable, greatest_in, ordered_of};
-ghost use Rattle.dexlayout.specs.Parts.{AreBack, AreBodies, AreData, AreFront, section_parts};
+ghost use Rattle.dexlayout.specs.internal.Parts.{AreBack, AreBodies, AreData, AreFront, section_parts};
 
 use crate::annotations::{Annotations, place_annotations};
 use crate::class_data::place_class_data;

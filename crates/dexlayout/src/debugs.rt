@@ -9,8 +9,8 @@ ghost use Rattle.dexcode.specs.Debug.{numbered_debug_bytes};
 ghost use Rattle.dexcode.specs.Meaning.{IsKnownDebug, debug_in};
 ghost use Rattle.dexmembers.specs.Numbered.{AreKnownMembers, IsKnownMethod, methods_of};
 ghost use Rattle.dexlayout.specs.Laid.{AreDebugs, AreShared, AreWritable, ordered_of};
-ghost use Rattle.dexlayout.specs.Running.{none_from, place_uses};
-ghost use Rattle.dexlayout.specs.SharedUses.{SharesDebugs, debug_of, debugs_uses};
+ghost use Rattle.dexlayout.specs.internal.Running.{none_from, place_uses};
+ghost use Rattle.dexlayout.specs.internal.SharedUses.{SharesDebugs, debug_of, debugs_uses};
 
 use crate::encoded::Encoded;
 use crate::offsets::Offsets;

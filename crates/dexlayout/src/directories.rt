@@ -3,9 +3,9 @@
 ghost use Rattle.std.specs.Prelude.{◌≡◌, ◌^◌, ◌≤◌, IfOk, OnOk, length};
 ghost use Rattle.dexspec.specs.Canonical.{directory_end, directory_offsets, directory_section, ref_list_end, ref_list_offsets};
 ghost use Rattle.dexmembers.specs.Numbered.{fields_of, methods_of};
-ghost use Rattle.dexlayout.specs.Directories.{entry_count, directory_size};
+ghost use Rattle.dexlayout.specs.internal.Directories.{entry_count, directory_size};
 ghost use Rattle.dexlayout.specs.Laid.{AreWritable, AreSets, StandSo, ordered_of};
-ghost use Rattle.dexlayout.specs.Running.{place_use};
+ghost use Rattle.dexlayout.specs.internal.Running.{place_use};
 
 use crate::offsets::{Offsets, round_up};
 use crate::sets::Sets;

@@ -4,7 +4,7 @@ ghost use Rattle.std.specs.Prelude.{◌≡◌, ◌+◌, ◌<◌, ◌≤◌, ◌^
 ghost use Rattle.dexspec.specs.Placing.{Ordered};
 ghost use Rattle.dexhead.specs.Laid.{TellsLayout, map_list, map_start};
 ghost use Rattle.dexlayout.specs.Laid.{AreWritable, IsLaid};
-ghost use Rattle.dexlayout.specs.Parts.{AreTables};
+ghost use Rattle.dexlayout.specs.internal.Parts.{AreTables};
 
 use crate::data::place_data;
 use crate::layout::Layout;

@@ -1,5 +1,7 @@
 //! Where everything stands in the canonical file of a program.
 //!
+//! Public contracts use the definitions of `specs/Laid`, `specs/ListKeys` and `specs/Places`.
+//!
 //! Source: the Android page "Dalvik Executable format", "Overall file layout"; the order of what stands in each section, and that
 //! equal type lists, debug programs and annotation sets are written once, is this project's rule.
 #![tactic(auto)]

@@ -4,7 +4,7 @@ ghost use Rattle.std.specs.Prelude.{◌≡◌, ◌<◌, ◌+◌, [], ◌∷◌, 
 ghost use Rattle.std.specs.List.{flat_map};
 ghost use Rattle.dexspec.specs.Sections as kinds;
 ghost use Rattle.dexhead.specs.Written.{entry_meant};
-ghost use Rattle.dexlayout.specs.Parts.{entry_of, count_placed};
+ghost use Rattle.dexlayout.specs.internal.Parts.{entry_of, count_placed};
 
 use crate::tables::entry;
 use dexhead::{MapEntry, Section};

@@ -2,7 +2,7 @@
 
 ghost use Rattle.std.specs.Prelude.{◌≡◌, ◌+◌, ◌<◌, ◌^◌, IfOk, OnOk};
 ghost use Rattle.dexspec.specs.Bytes as bytes;
-ghost use Rattle.dexlayout.specs.Running.{none_from, pass, put_at};
+ghost use Rattle.dexlayout.specs.internal.Running.{none_from, pass, put_at};
 
 use std::alloc::{AllocError, Global};
 use std::marker::Model;

@@ -3,9 +3,9 @@
 ghost use Rattle.std.specs.Prelude.{◌≡◌, ◌^◌, ◌≤◌, IfOk, OnOk, length};
 ghost use Rattle.dexspec.specs.Canonical.{ref_list_end, ref_list_offsets, ref_list_section, set_end};
 ghost use Rattle.dexmembers.specs.Numbered.{methods_of};
-ghost use Rattle.dexlayout.specs.Gathering.{list_size, list_sizes};
+ghost use Rattle.dexlayout.specs.internal.Gathering.{list_size, list_sizes};
 ghost use Rattle.dexlayout.specs.Laid.{AreWritable, StandSo, ordered_of};
-ghost use Rattle.dexlayout.specs.Running.{place_use, place_uses};
+ghost use Rattle.dexlayout.specs.internal.Running.{place_use, place_uses};
 
 use crate::offsets::{Offsets, round_up};
 use dexclass::Class;

@@ -4,9 +4,9 @@ ghost use Rattle.std.specs.Prelude.{◌≡◌, ◌^◌, ◌≤◌, List, [], ◌
 ghost use Rattle.std.specs.List.{flat_map};
 ghost use Rattle.dexspec.specs.Canonical.{class_data_end, set_items};
 ghost use Rattle.dexval.specs.Code.{set_of};
-ghost use Rattle.dexlayout.specs.Gathering.{set_len, sets_of_method, sets_of_class, parts_of_methods, parts_of_class, gather_own, gather_method, gather_methods, gather_class};
+ghost use Rattle.dexlayout.specs.internal.Gathering.{set_len, sets_of_method, sets_of_class, parts_of_methods, parts_of_class, gather_own, gather_method, gather_methods, gather_class};
 ghost use Rattle.dexlayout.specs.Laid.{AreWritable, AreAnnotations, AreSets, ordered_of};
-ghost use Rattle.dexlayout.specs.Running.{none_from, place_uses};
+ghost use Rattle.dexlayout.specs.internal.Running.{none_from, place_uses};
 
 use crate::annotations::Annotations;
 use crate::offsets::{Offsets, round_up};

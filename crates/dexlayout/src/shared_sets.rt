@@ -8,7 +8,7 @@ ghost use Rattle.dexval.specs.Code.{set_of};
 ghost use Rattle.dexval.specs.Numbered.{NumberedSet, IsKnownSet, set_in};
 ghost use Rattle.dexmembers.specs.Numbered.{AreKnownMembers, IsKnownField, IsKnownMethod};
 ghost use Rattle.dexlayout.specs.Laid.{AreShared, AreWritable, ordered_of};
-ghost use Rattle.dexlayout.specs.SharedUses.{SharesSets, set_use, field_uses, members_uses, method_uses, methods_uses};
+ghost use Rattle.dexlayout.specs.internal.SharedUses.{SharesSets, set_use, field_uses, members_uses, method_uses, methods_uses};
 
 use crate::sharing::{Shared, Sharing};
 use dexclass::Class;

@@ -4,7 +4,7 @@ ghost use Rattle.std.specs.Prelude.{◌≡◌, ℕ, List, [], ◌∷◌, ◌++�
 ghost use Rattle.std.specs.Prelude.{◌<◌, All, IfSome, length, slice_index};
 ghost use Rattle.std.specs.Option.{option_map_or};
 ghost use Rattle.dexspec.specs.Placing.{uses_offsets};
-ghost use Rattle.dexlayout.specs.Sharing.{HaveItems};
+ghost use Rattle.dexlayout.specs.internal.Sharing.{HaveItems};
 
 use crate::offsets::Offsets;
 use indexmap::IndexSet;

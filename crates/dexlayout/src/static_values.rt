@@ -4,8 +4,8 @@ ghost use Rattle.std.specs.Prelude.{◌≡◌, ◌^◌, ◌≤◌, IfOk, OnOk};
 ghost use Rattle.dexspec.specs.Mentions.{Mentions};
 ghost use Rattle.dexspec.specs.Canonical.{annotation_end, array_end, array_offsets, array_section};
 ghost use Rattle.dexlayout.specs.Laid.{AreWritable, StandSo, ordered_of};
-ghost use Rattle.dexlayout.specs.Running.{place_use};
-ghost use Rattle.dexlayout.specs.Sizes.{static_size};
+ghost use Rattle.dexlayout.specs.internal.Running.{place_use};
+ghost use Rattle.dexlayout.specs.internal.Sizes.{static_size};
 
 use crate::offsets::Offsets;
 use dexclass::Class;

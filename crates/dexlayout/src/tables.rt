@@ -8,7 +8,7 @@ ghost use Rattle.dexspec.specs.Sections as sections;
 ghost use Rattle.dexhead.specs.Sections.{section_meant};
 ghost use Rattle.dexhead.specs.Tables.{meant};
 ghost use Rattle.dexlayout.specs.Laid.{AreWritable, ordered_of};
-ghost use Rattle.dexlayout.specs.Parts.{AreTables, rows_from, table_parts};
+ghost use Rattle.dexlayout.specs.internal.Parts.{AreTables, rows_from, table_parts};
 
 use dexclass::Class;
 use dexhead::{MapEntry, Rows, Section, Table};

@@ -8,9 +8,9 @@ ghost use Rattle.dexspec.specs.Texts.{Text};
 ghost use Rattle.dexclass.specs.Numbered.{type_at};
 ghost use Rattle.dexclass.specs.Uses.{IsKnownClass};
 ghost use Rattle.dexlayout.specs.Laid.{AreShared, AreTypeLists, AreWritable, ordered_of};
-ghost use Rattle.dexlayout.specs.Running.{none_from, place_uses};
-ghost use Rattle.dexlayout.specs.SharedUses.{AreTypes, SharesLists, interfaces_use};
-ghost use Rattle.dexlayout.specs.Sharing.{list_len};
+ghost use Rattle.dexlayout.specs.internal.Running.{none_from, place_uses};
+ghost use Rattle.dexlayout.specs.internal.SharedUses.{AreTypes, SharesLists, interfaces_use};
+ghost use Rattle.dexlayout.specs.internal.Sharing.{list_len};
 
 use crate::list_keys::ListKey;
 use crate::offsets::{Offsets, round_up};

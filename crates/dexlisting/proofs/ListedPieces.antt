@@ -10,7 +10,7 @@ use Rattle.dexinsn.specs.declared.listing.PieceKind.{PieceKind}
 use Rattle.dexinsn.specs.declared.listing.PieceKind.TheVariants as kinds
 use Rattle.dexinsn.specs.Listing.{units_of, kind_of, payload_shown, listed}
 use Rattle.dexcode.specs.Meaning.{IsKnownPiece}
-use Rattle.dexlisting.specs.Known.{IsKnownKind}
+use Rattle.dexlisting.specs.internal.Known.{IsKnownKind}
 
 either : (m : Mentions) (b : Bool) (x y : PieceKind) → IsKnownKind m x → IsKnownKind m y → IsKnownKind m (cond b x y)
 either m true x y p q = p

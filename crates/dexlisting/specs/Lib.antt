@@ -1,3 +1,1 @@
-pub mod Gathering
-pub mod Going
-pub mod Known
+pub mod internal

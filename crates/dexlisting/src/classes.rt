@@ -4,7 +4,7 @@
 
 ghost use Rattle.std.specs.Prelude.{◌≡◌, false, All};
 ghost use Rattle.dexclass.specs.Uses.{IsKnownClass};
-ghost use Rattle.dexlisting.specs.Going.{GoesOn};
+ghost use Rattle.dexlisting.specs.internal.Going.{GoesOn};
 
 use crate::gathering::Listing;
 use dexclass::Class;

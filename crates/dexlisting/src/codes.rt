@@ -5,8 +5,8 @@
 
 ghost use Rattle.std.specs.Prelude.{◌≡◌, false};
 ghost use Rattle.dexcode.specs.Meaning.{IsKnownCode};
-ghost use Rattle.dexlisting.specs.Going.{GoesOn};
-ghost use Rattle.dexlisting.specs.Known.{IsKnownKind};
+ghost use Rattle.dexlisting.specs.internal.Going.{GoesOn};
+ghost use Rattle.dexlisting.specs.internal.Known.{IsKnownKind};
 
 use crate::gathering::Listing;
 use dexcode::Code;

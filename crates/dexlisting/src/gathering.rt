@@ -1,7 +1,7 @@
 //! A listing on its way to the writer: its bytes are buffered in a vector, and are written when it is full.
 
 ghost use Rattle.std.specs.Prelude.{◌≡◌, ◌<◌, ◌≤◌, ◌+◌, ◌++◌, length, [], ◌∷◌, true, false, OnOk, OnErr};
-ghost use Rattle.dexlisting.specs.Gathering.{HasRoom};
+ghost use Rattle.dexlisting.specs.internal.Gathering.{HasRoom};
 
 use crate::flags::{MOST_FLAGS, Shown};
 use dexhead::{DeviceFault, Sink, write_whole};
@@ -24,7 +24,7 @@ pub(crate) struct Listing<'n, 't, 'w, W> {
 }
 
 impl<W: Sink> Listing<'_, '_, '_, W> {
-    ghost use Rattle.dexlisting.specs.Going.{GoesOn};
+    ghost use Rattle.dexlisting.specs.internal.Going.{GoesOn};
 
     /// Puts bytes after those that are buffered.
     pub(crate) fn put(&mut self, bytes: &[u8]) -> Result<(), DeviceFault>

@@ -4,7 +4,7 @@
 
 ghost use Rattle.std.specs.Prelude.{◌≡◌, false, All};
 ghost use Rattle.dexmembers.specs.Numbered.{AreKnownMembers, IsKnownField, IsKnownMethod};
-ghost use Rattle.dexlisting.specs.Going.{GoesOn};
+ghost use Rattle.dexlisting.specs.internal.Going.{GoesOn};
 
 use crate::gathering::Listing;
 use dexhead::{DeviceFault, Sink};

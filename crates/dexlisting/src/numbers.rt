@@ -1,7 +1,7 @@
 //! Numbers, in decimal and in hexadecimal.
 
 ghost use Rattle.std.specs.Prelude.{◌≡◌, false};
-ghost use Rattle.dexlisting.specs.Going.{GoesOn};
+ghost use Rattle.dexlisting.specs.internal.Going.{GoesOn};
 
 use crate::gathering::Listing;
 use dexhead::{DeviceFault, Sink};

@@ -2,7 +2,7 @@
 
 ghost use Rattle.std.specs.Prelude.{◌≡◌, ◌<◌, length, false};
 ghost use Rattle.dexpool.specs.Pools.{count_of};
-ghost use Rattle.dexlisting.specs.Going.{GoesOn};
+ghost use Rattle.dexlisting.specs.internal.Going.{GoesOn};
 
 use crate::gathering::Listing;
 use dexhead::{DeviceFault, Sink};

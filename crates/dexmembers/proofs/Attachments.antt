@@ -9,7 +9,7 @@ use Rattle.dexcode.specs.Numbered.{NumberedItem}
 use Rattle.dexval.specs.Numbered.{NumberedSet}
 use Rattle.dexval.specs.Tables.{NumberedTable, IsPlaceIn, set_at, sets_at}
 use Rattle.dexmembers.specs.Held.{HeldField, HeldMethod, field_of, method_of, IsHeldField, IsHeldMethod}
-use Rattle.dexmembers.specs.Attaching.{EntriesRise, place_for, held_field, held_method, field_with, method_with}
+use Rattle.dexmembers.specs.internal.Attaching.{EntriesRise, place_for, held_field, held_method, field_with, method_with}
 use Rattle.dexmembers.specs.declared.class_data.EncodedField.{EncodedField as FieldRead}
 use Rattle.dexmembers.specs.declared.class_data.EncodedMethod.{EncodedMethod as MethodRead}
 

@@ -7,8 +7,8 @@ use Rattle.dexspec.specs.Lists.{zip_with}
 use Rattle.dexcode.specs.Numbered.{NumberedItem}
 use Rattle.dexval.specs.Numbered.{NumberedSet, NumberedDirectory, NumberedValues}
 use Rattle.dexmembers.specs.Numbered.{NumberedMethod, NumberedMembers, methods_of}
-use Rattle.dexmembers.specs.Attaching.{method_with}
-use Rattle.dexmembers.specs.RowParts.{attached}
+use Rattle.dexmembers.specs.internal.Attaching.{method_with}
+use Rattle.dexmembers.specs.internal.RowParts.{attached}
 use Rattle.dexmembers.specs.Weighing.{numbered_whole_weight, numbered_method_weight, numbered_members_weight, codes_weight, codes_of, method_code_weight, bare_method_weight, bare_members_weight}
 use Rattle.dexmembers.specs.declared.class_data.EncodedMethod.{EncodedMethod as MethodRead}
 use Rattle.dexmembers.specs.declared.class_data.ClassData.{ClassData as DataRead}

@@ -13,7 +13,7 @@ use Rattle.dexpool.specs.declared.faults.ItemFault.TheVariants.{Refused, Memory}
 use Rattle.dexcode.specs.Numbered.{NumberedItem, StandsForCode}
 use Rattle.dexcode.specs.Reading.{IsCodeAt}
 use Rattle.dexmembers.specs.declared.class_data.EncodedMethod.{EncodedMethod}
-use Rattle.dexmembers.specs.MethodCodes.{AreCodesAt, HaveCodes, IsCodeOrNone, IsCodeOrNoneFault, AreCodesOf, AreHeavyCodes, IsCodesFault, optional_code_weight}
+use Rattle.dexmembers.specs.internal.MethodCodes.{AreCodesAt, HaveCodes, IsCodeOrNone, IsCodeOrNoneFault, AreCodesOf, AreHeavyCodes, IsCodesFault, optional_code_weight}
 
 -- related lists are so with one more member each
 pub zip_more : {A B : Type 0} (R : A → B → Type 0) (xs : List A) (ys : List B) (x : A) (y : B) → AllZip R xs ys → R x y → AllZip R (xs ++ x ∷ []) (ys ++ y ∷ [])

@@ -7,7 +7,7 @@ use Rattle.dexspec.proofs.determined.OneNumber.{one_uleb128}
 use Rattle.dexspec.proofs.lists.Sequences.{one_sequence}
 use Rattle.dexcode.proofs.Fronts.{stuck, sequence_more}
 use Rattle.dexmembers.specs.declared.class_data.EncodedField.{EncodedField}
-use Rattle.dexmembers.specs.EncodedMembers.{FieldAt, MethodAt, ListsAt, AreListsRead, NoLists, NoData}
+use Rattle.dexmembers.specs.internal.EncodedMembers.{FieldAt, MethodAt, ListsAt, AreListsRead, NoLists, NoData}
 use Rattle.dexmembers.proofs.OneMember.{one_field}
 use Rattle.dexmembers.proofs.MemberChains.{one_pair}
 

@@ -28,8 +28,8 @@ use Rattle.dexval.proofs.FileRead.{few_bytes}
 use Rattle.dexmembers.specs.declared.class_data.EncodedField.{EncodedField}
 use Rattle.dexmembers.specs.declared.class_data.EncodedMethod.{EncodedMethod}
 use Rattle.dexmembers.specs.declared.class_data.ClassData.{ClassData}
-use Rattle.dexmembers.specs.ClassData.{encoded_field_in, encoded_method_in, class_data_in, IsDataOf, IsDataFault}
-use Rattle.dexmembers.specs.EncodedMembers.{IsDataRefusal, Chain, FieldAt, MethodAt, IsOwnField, IsOwnMethod, DataAt, NoData}
+use Rattle.dexmembers.specs.internal.ClassData.{encoded_field_in, encoded_method_in, class_data_in, IsDataOf, IsDataFault}
+use Rattle.dexmembers.specs.internal.EncodedMembers.{IsDataRefusal, Chain, FieldAt, MethodAt, IsOwnField, IsOwnMethod, DataAt, NoData}
 use Rattle.dexmembers.proofs.Owned.{one_place}
 use Rattle.dexmembers.proofs.MemberChains.{chain_all, chain_rises}
 use Rattle.dexmembers.proofs.OneMember.{field_follows, method_follows}

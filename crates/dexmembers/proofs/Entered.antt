@@ -20,7 +20,7 @@ use Rattle.dexpool.specs.Pools.{AreAll, ArePools}
 use Rattle.dexpool.proofs.NumberOrder.{places_agree}
 use Rattle.dexval.specs.Numbered.{NumberedDirectory, set_in}
 use Rattle.dexval.specs.Reading.{IsDirectoryAt}
-use Rattle.dexmembers.specs.Attaching.{EntriesRise}
+use Rattle.dexmembers.specs.internal.Attaching.{EntriesRise}
 
 module _ {K : Type 0} (R : K → K → Ordering) (o : IsTotalOrder R) (Row : List ℕ → ℕ → K → Type 0) (one : (b : List ℕ) (i : ℕ) (x y : K) → Row b i x → Row b i y → x ≡ y) (b : List ℕ) (size : ℕ) (within : (i : ℕ) (x : K) → Row b i x → i < size)
     (ks : List K) (rise : rises R ks ≡ true) (rows : AreAll Row b size ks) (none : K) where

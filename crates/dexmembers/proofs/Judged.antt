@@ -20,8 +20,8 @@ use Rattle.dexspec.proofs.determined.OneCode.{one_pieces}
 use Rattle.dexpool.specs.declared.faults.ItemFault.{ItemFault}
 use Rattle.dexpool.specs.declared.faults.ItemFault.TheVariants.{Refused, Memory}
 use Rattle.dexcode.specs.Reading.{IsCodeFault}
-use Rattle.dexmembers.specs.ClassData.{encoded_method_in, class_data_in, IsDataOf, IsDataFault}
-use Rattle.dexmembers.specs.MethodCodes.{AreCodesAt, IsCodesFault}
+use Rattle.dexmembers.specs.internal.ClassData.{encoded_method_in, class_data_in, IsDataOf, IsDataFault}
+use Rattle.dexmembers.specs.internal.MethodCodes.{AreCodesAt, IsCodesFault}
 use Rattle.dexmembers.specs.Reading.{IsMembersFault}
 use Rattle.dexmembers.specs.declared.class_data.EncodedMethod.{EncodedMethod as MethodRead}
 use Rattle.dexmembers.specs.declared.class_data.ClassData.{ClassData as DataRead}

@@ -14,9 +14,9 @@ use Rattle.dexcode.specs.Numbered.{NumberedItem, StandsForCode}
 use Rattle.dexcode.specs.Meaning.{code_in, IsKnownCode}
 use Rattle.dexval.specs.Numbered.{NumberedSet, NumberedDirectory, NumberedValues, IsKnownDirectory, AreKnown, directory_in, values_in}
 use Rattle.dexmembers.specs.Numbered.{NumberedField, NumberedMethod, NumberedMembers, AreKnownMembers, AreOrdered, members_in}
-use Rattle.dexmembers.specs.ClassData.{class_data_in, IsDataOf}
-use Rattle.dexmembers.specs.MethodCodes.{AreCodesAt}
-use Rattle.dexmembers.specs.Attaching.{field_with, method_with}
+use Rattle.dexmembers.specs.internal.ClassData.{class_data_in, IsDataOf}
+use Rattle.dexmembers.specs.internal.MethodCodes.{AreCodesAt}
+use Rattle.dexmembers.specs.internal.Attaching.{field_with, method_with}
 use Rattle.dexmembers.specs.Reading.{MembersRow}
 use Rattle.dexmembers.specs.declared.class_data.EncodedField.{EncodedField as FieldRead}
 use Rattle.dexmembers.specs.declared.class_data.EncodedMethod.{EncodedMethod as MethodRead}

@@ -20,9 +20,9 @@ use Rattle.dexcode.specs.Numbered.{NumberedItem, StandsForCode}
 use Rattle.dexcode.specs.Meaning.{code_in, IsKnownCode}
 use Rattle.dexval.specs.Numbered.{NumberedSet, IsKnownAnnotation, IsKnownSet, NumberedDirectory, IsKnownDirectory, annotation_in, set_in, directory_in, field_at, method_at}
 use Rattle.dexmembers.specs.Numbered.{IsKnownField, IsKnownMethod, field_in, method_in}
-use Rattle.dexmembers.specs.ClassData.{encoded_field_in, encoded_method_in}
-use Rattle.dexmembers.specs.MethodCodes.{AreCodesAt}
-use Rattle.dexmembers.specs.Attaching.{field_with, method_with}
+use Rattle.dexmembers.specs.internal.ClassData.{encoded_field_in, encoded_method_in}
+use Rattle.dexmembers.specs.internal.MethodCodes.{AreCodesAt}
+use Rattle.dexmembers.specs.internal.Attaching.{field_with, method_with}
 use Rattle.dexmembers.specs.declared.class_data.EncodedField.{EncodedField as FieldRead}
 use Rattle.dexmembers.specs.declared.class_data.EncodedMethod.{EncodedMethod as MethodRead}
 

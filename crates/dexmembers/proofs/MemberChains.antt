@@ -18,7 +18,7 @@ use Rattle.dexspec.proofs.wellformed.PoolRows.{less_number}
 use Rattle.dexpool.specs.declared.faults.ItemFault.{ItemFault}
 use Rattle.dexpool.specs.declared.faults.ItemFault.TheVariants.{Refused, Memory}
 use Rattle.dexmembers.specs.Numbered.{NumbersRise}
-use Rattle.dexmembers.specs.EncodedMembers.{IsDataRefusal, Member, Chain, last_index, IsListRead, NoList, ListsAt, NoLists, ArePassed}
+use Rattle.dexmembers.specs.internal.EncodedMembers.{IsDataRefusal, Member, Chain, last_index, IsListRead, NoList, ListsAt, NoLists, ArePassed}
 
 -- ---- members in a row
 

@@ -22,8 +22,8 @@ use Rattle.dexspec.proofs.lists.InOrder.{Rises, Rises-from_rises}
 use Rattle.dexpool.specs.Numberings.{AreRising}
 use Rattle.dexpool.specs.Pools.{AreAll, ArePools}
 use Rattle.dexpool.proofs.NumberOrder.{places_agree, rises-map}
-use Rattle.dexmembers.specs.ClassData.{encoded_field_in, encoded_method_in, class_data_in, IsDataOf}
-use Rattle.dexmembers.specs.Naming.{NamesRead, fields_read, methods_read}
+use Rattle.dexmembers.specs.internal.ClassData.{encoded_field_in, encoded_method_in, class_data_in, IsDataOf}
+use Rattle.dexmembers.specs.internal.Naming.{NamesRead, fields_read, methods_read}
 use Rattle.dexmembers.specs.declared.class_data.EncodedField.{EncodedField as FieldRead}
 use Rattle.dexmembers.specs.declared.class_data.EncodedMethod.{EncodedMethod as MethodRead}
 use Rattle.dexmembers.specs.declared.class_data.ClassData.{ClassData as DataRead}

@@ -14,10 +14,10 @@ use Rattle.dexspec.specs.Mentions.{Mentions}
 use Rattle.dexcode.specs.Numbered.{NumberedItem, StandsForCode}
 use Rattle.dexval.specs.Numbered.{NumberedSet, NumberedDirectory, NumberedValues, field_at, method_at}
 use Rattle.dexmembers.specs.Numbered.{NumberedField, NumberedMethod, AreOfClass}
-use Rattle.dexmembers.specs.ClassData.{encoded_field_in, encoded_method_in, class_data_in, IsDataOf}
-use Rattle.dexmembers.specs.RowParts.{attached}
-use Rattle.dexmembers.specs.MethodCodes.{AreCodesAt}
-use Rattle.dexmembers.specs.Attaching.{field_with, method_with}
+use Rattle.dexmembers.specs.internal.ClassData.{encoded_field_in, encoded_method_in, class_data_in, IsDataOf}
+use Rattle.dexmembers.specs.internal.RowParts.{attached}
+use Rattle.dexmembers.specs.internal.MethodCodes.{AreCodesAt}
+use Rattle.dexmembers.specs.internal.Attaching.{field_with, method_with}
 use Rattle.dexmembers.specs.declared.class_data.EncodedField.{EncodedField as FieldRead}
 use Rattle.dexmembers.specs.declared.class_data.EncodedMethod.{EncodedMethod as MethodRead}
 use Rattle.dexmembers.specs.declared.class_data.ClassData.{ClassData as DataRead}

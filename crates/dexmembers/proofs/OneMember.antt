@@ -6,7 +6,7 @@ use Rattle.dexspec.specs.Mentions.{Mentions}
 use Rattle.dexspec.proofs.determined.OneNumber.{one_uleb128}
 use Rattle.dexmembers.specs.declared.class_data.EncodedField.{EncodedField}
 use Rattle.dexmembers.specs.declared.class_data.EncodedMethod.{EncodedMethod}
-use Rattle.dexmembers.specs.EncodedMembers.{IsOwnField, IsOwnMethod, HeadAt, FieldAt, MethodAt}
+use Rattle.dexmembers.specs.internal.EncodedMembers.{IsOwnField, IsOwnMethod, HeadAt, FieldAt, MethodAt}
 
 -- one index follows
 pub one_next : (last : Option ℕ) (d e i j : ℕ) → d ≡ e → IsNextIndex last d i → IsNextIndex last e j → i ≡ j

@@ -13,7 +13,7 @@ use Rattle.dexspec.proofs.merge.SymbolOrders.{text_total}
 use Rattle.dexpool.specs.Numberings.{IsAt, IsNumbering}
 use Rattle.dexpool.proofs.NumberOrder.{places_agree}
 use Rattle.dexval.specs.Numbered.{field_at, method_at}
-use Rattle.dexmembers.specs.EncodedMembers.{IsOwnField, IsOwnMethod}
+use Rattle.dexmembers.specs.internal.EncodedMembers.{IsOwnField, IsOwnMethod}
 
 -- what is there is not missing
 pub ok_no_err : {A E : Type 0} (r : Result A E) (x : A) (e : E) → r ≡ Ok x → r ≡ Err e → ⊥

@@ -17,10 +17,10 @@ use Rattle.dexval.specs.Numbered.{directory_in}
 use Rattle.dexval.specs.Directories.{HasMembers, directory_weight}
 use Rattle.dexval.specs.Reading.{IsDirectoryFault, IsDirectoryWithin, HasHeavyDirectory}
 use Rattle.dexval.specs.declared.directory.SharedDirectory.{SharedDirectory}
-use Rattle.dexmembers.specs.ClassData.{class_data_in, IsDataOf}
-use Rattle.dexmembers.specs.Attaching.{EntriesRise}
-use Rattle.dexmembers.specs.Naming.{NamesRead, ListsRise}
-use Rattle.dexmembers.specs.RowParts.{AreAnnotationsOf, AreHeavyAnnotations, IsAnnotationsFault}
+use Rattle.dexmembers.specs.internal.ClassData.{class_data_in, IsDataOf}
+use Rattle.dexmembers.specs.internal.Attaching.{EntriesRise}
+use Rattle.dexmembers.specs.internal.Naming.{NamesRead, ListsRise}
+use Rattle.dexmembers.specs.internal.RowParts.{AreAnnotationsOf, AreHeavyAnnotations, IsAnnotationsFault}
 use Rattle.dexmembers.specs.declared.class_data.ClassData.{ClassData as DataRead}
 use Rattle.dexmembers.proofs.Entered.{field_entries_rise, method_entries_rise, list_entries_rise}
 use Rattle.dexmembers.proofs.NamesKept.{named_members, named_indices}

@@ -18,10 +18,10 @@ use Rattle.dexval.specs.Checking.{HasStaticsOf}
 use Rattle.dexval.specs.CheckedSets.{HasDirectoryOf}
 use Rattle.dexval.specs.Numbered.{directory_in, values_in}
 use Rattle.dexval.proofs.JudgedSets.{from_before}
-use Rattle.dexmembers.specs.ClassData.{encoded_field_in, class_data_in, IsDataOf}
-use Rattle.dexmembers.specs.Naming.{NamesRead}
-use Rattle.dexmembers.specs.MethodCodes.{HaveCodes}
-use Rattle.dexmembers.specs.StaticValues.{HasValuesFor, IsValuesFault}
+use Rattle.dexmembers.specs.internal.ClassData.{encoded_field_in, class_data_in, IsDataOf}
+use Rattle.dexmembers.specs.internal.Naming.{NamesRead}
+use Rattle.dexmembers.specs.internal.MethodCodes.{HaveCodes}
+use Rattle.dexmembers.specs.internal.StaticValues.{HasValuesFor, IsValuesFault}
 use Rattle.dexmembers.specs.Checking.{HasCodeOrNoneOf, HaveCodesOf, coded_weight, HasAnnotationsOf, HasValuesOf, HasMembersOf}
 use Rattle.dexmembers.specs.declared.class_data.EncodedMethod.{EncodedMethod}
 use Rattle.dexmembers.specs.declared.class_data.ClassData.{ClassData as DataRead}

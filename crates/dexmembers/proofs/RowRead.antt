@@ -13,10 +13,10 @@ use Rattle.dexval.specs.Numbered.{NumberedValues, directory_in, values_in}
 use Rattle.dexval.specs.declared.directory.SharedDirectory.{SharedDirectory}
 use Rattle.dexmembers.specs.Numbered.{NumberedMembers, members_in, AreKnownMembers}
 use Rattle.dexmembers.specs.Weight.{members_weight}
-use Rattle.dexmembers.specs.ClassData.{IsDataOf}
-use Rattle.dexmembers.specs.MethodCodes.{AreCodesAt}
+use Rattle.dexmembers.specs.internal.ClassData.{IsDataOf}
+use Rattle.dexmembers.specs.internal.MethodCodes.{AreCodesAt}
 use Rattle.dexmembers.specs.Reading.{MembersRow, AreReadWithin}
-use Rattle.dexmembers.specs.RowParts.{ArePartsOf, AreAttachable, attached}
+use Rattle.dexmembers.specs.internal.RowParts.{ArePartsOf, AreAttachable, attached}
 use Rattle.dexmembers.specs.declared.class_data.EncodedMethod.{EncodedMethod as MethodRead}
 use Rattle.dexmembers.specs.declared.class_data.ClassData.{ClassData as DataRead}
 use Rattle.dexmembers.proofs.Made.{made_row, made_known, made_ordered}

@@ -23,11 +23,11 @@ use Rattle.dexval.specs.Numbered.{NumberedValues, directory_in, values_in}
 use Rattle.dexval.specs.Directories.{directory_weight}
 use Rattle.dexval.specs.declared.directory.SharedDirectory.{SharedDirectory}
 use Rattle.dexmembers.specs.Weight.{members_weight}
-use Rattle.dexmembers.specs.ClassData.{encoded_field_in, encoded_method_in, class_data_in, IsDataOf}
-use Rattle.dexmembers.specs.MethodCodes.{optional_code_weight, AreCodesAt, HaveCodes, AreCodesOf, AreHeavyCodes}
+use Rattle.dexmembers.specs.internal.ClassData.{encoded_field_in, encoded_method_in, class_data_in, IsDataOf}
+use Rattle.dexmembers.specs.internal.MethodCodes.{optional_code_weight, AreCodesAt, HaveCodes, AreCodesOf, AreHeavyCodes}
 use Rattle.dexmembers.specs.Reading.{MembersRow, AreHeavyMembers, IsMembersFault}
-use Rattle.dexmembers.specs.RowParts.{AreAnnotationsOf, AreHeavyAnnotations, IsAnnotationsFault}
-use Rattle.dexmembers.specs.StaticValues.{HasValuesFor, AreValuesOf, AreHeavyValues, IsValuesFault}
+use Rattle.dexmembers.specs.internal.RowParts.{AreAnnotationsOf, AreHeavyAnnotations, IsAnnotationsFault}
+use Rattle.dexmembers.specs.internal.StaticValues.{HasValuesFor, AreValuesOf, AreHeavyValues, IsValuesFault}
 use Rattle.dexmembers.specs.declared.class_data.EncodedMethod.{EncodedMethod as MethodRead}
 use Rattle.dexmembers.specs.declared.class_data.ClassData.{ClassData as DataRead}
 use Rattle.dexmembers.proofs.Judged.{declared_is, code_holds}

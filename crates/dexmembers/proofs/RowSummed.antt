@@ -27,8 +27,8 @@ use Rattle.dexpool.proofs.NumberOrder.{places_agree, rises-map}
 use Rattle.dexval.specs.Directories.{directory_weight}
 use Rattle.dexmembers.specs.Numbered.{NumbersRise}
 use Rattle.dexmembers.specs.Weight.{members_weight}
-use Rattle.dexmembers.specs.ClassData.{encoded_field_in, encoded_method_in, class_data_in, IsDataOf}
-use Rattle.dexmembers.specs.MethodCodes.{optional_code_weight}
+use Rattle.dexmembers.specs.internal.ClassData.{encoded_field_in, encoded_method_in, class_data_in, IsDataOf}
+use Rattle.dexmembers.specs.internal.MethodCodes.{optional_code_weight}
 use Rattle.dexmembers.specs.Checking.{coded_weight}
 use Rattle.dexmembers.specs.declared.class_data.EncodedField.{EncodedField as FieldRead}
 use Rattle.dexmembers.specs.declared.class_data.EncodedMethod.{EncodedMethod as MethodRead}

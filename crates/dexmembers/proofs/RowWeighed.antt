@@ -26,7 +26,7 @@ use Rattle.dexspec.proofs.merge.SymbolOrders.{field_total, method_total}
 use Rattle.dexval.specs.Directories.{directory_weight}
 use Rattle.dexmembers.specs.Numbered.{Members}
 use Rattle.dexmembers.specs.Weight.{members_weight}
-use Rattle.dexmembers.specs.MethodCodes.{optional_code_weight}
+use Rattle.dexmembers.specs.internal.MethodCodes.{optional_code_weight}
 
 -- ---- entries of a directory
 

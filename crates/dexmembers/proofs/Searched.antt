@@ -16,7 +16,7 @@ use Rattle.dexspec.specs.Lists.{zip_with}
 use Rattle.dexspec.proofs.lists.Members.{Contains-nil, Contains-first, Contains-later, Contains-cons_cases}
 use Rattle.dexspec.proofs.lists.InOrder.{Rises, Rises-from_rises, Rises-places}
 use Rattle.dexmembers.specs.Numbered.{NumbersRise}
-use Rattle.dexmembers.specs.Attaching.{EntriesRise, HasNumberAt}
+use Rattle.dexmembers.specs.internal.Attaching.{EntriesRise, HasNumberAt}
 
 -- ---- numbers in order
 

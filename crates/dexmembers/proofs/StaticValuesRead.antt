@@ -13,7 +13,7 @@ use Rattle.dexval.specs.declared.value.Value.{Value as ValueRead}
 use Rattle.dexval.specs.Code.{value_of}
 use Rattle.dexval.specs.Numbered.{NumberedValues, values_in, values_of_list}
 use Rattle.dexval.specs.Reading.{AreStaticsAt, IsStaticsFault}
-use Rattle.dexmembers.specs.StaticValues.{HasValuesFor, AreValuesOf, AreHeavyValues, IsValuesFault}
+use Rattle.dexmembers.specs.internal.StaticValues.{HasValuesFor, AreValuesOf, AreHeavyValues, IsValuesFault}
 use Rattle.dexmembers.specs.Checking.{HasValuesOf}
 
 -- ---- the static values of a row

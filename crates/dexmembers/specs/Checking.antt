@@ -14,9 +14,9 @@ use Rattle.dexval.specs.CheckedSets.{IsWeighed, AreChecked}
 use Rattle.dexval.specs.Directories.{directory_weight}
 use Rattle.dexmembers.specs.Numbered.{Members}
 use Rattle.dexmembers.specs.Weight.{members_weight}
-use Rattle.dexmembers.specs.ClassData.{class_data_in}
-use Rattle.dexmembers.specs.MethodCodes.{AreCodesAt, optional_code_weight}
-use Rattle.dexmembers.specs.StaticValues.{HasValuesFor}
+use Rattle.dexmembers.specs.internal.ClassData.{class_data_in}
+use Rattle.dexmembers.specs.internal.MethodCodes.{AreCodesAt, optional_code_weight}
+use Rattle.dexmembers.specs.internal.StaticValues.{HasValuesFor}
 use Rattle.dexmembers.specs.Reading.{MembersRow}
 use Rattle.dexmembers.specs.declared.class_data.EncodedMethod.{EncodedMethod}
 use Rattle.dexmembers.specs.declared.class_data.ClassData.{ClassData as DataRead}

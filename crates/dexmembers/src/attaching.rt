@@ -3,7 +3,7 @@
 ghost use Rattle.std.specs.Prelude.{◌≡◌, ℕ, ◌<◌, All, map, IfOk, IfSome, MatchOption, length};
 ghost use Rattle.std.specs.List.{Contains};
 ghost use Rattle.dexspec.specs.Lists.{zip_with};
-ghost use Rattle.dexmembers.specs.Attaching.{place_for, EntriesRise, HasNumberAt, held_field, held_method};
+ghost use Rattle.dexmembers.specs.internal.Attaching.{place_for, EntriesRise, HasNumberAt, held_field, held_method};
 
 use crate::class_data::{EncodedField, EncodedMethod};
 use crate::members::{DeclaredField, DeclaredMethod};

@@ -4,9 +4,9 @@ ghost use Rattle.std.specs.Prelude.{◌≤◌, ◌+◌, ◌∷◌, [], ℕ, leng
 ghost use Rattle.dexspec.specs.Lists.{Sequence};
 ghost use Rattle.dexspec.specs.Numbers.{Uleb128At};
 ghost use Rattle.dexspec.specs.Accepted.{HasClass};
-ghost use Rattle.dexmembers.specs.EncodedMembers.{IsDataRefusal, DataAt, NoData};
+ghost use Rattle.dexmembers.specs.internal.EncodedMembers.{IsDataRefusal, DataAt, NoData};
 ghost use Rattle.dexpool.specs.Pools.{ArePools};
-ghost use Rattle.dexmembers.specs.ClassData.{IsDataOf, IsDataFault};
+ghost use Rattle.dexmembers.specs.internal.ClassData.{IsDataOf, IsDataFault};
 ghost use Rattle.dexmembers.specs.ClassDefs.{IsClassDef};
 
 use crate::class_def::ClassDef;

@@ -2,7 +2,7 @@
 
 ghost use Rattle.std.specs.Prelude.{ℕ, List, IfOk, IfErr, OnOk};
 ghost use Rattle.dexpool.specs.Pools.{ArePools};
-ghost use Rattle.dexmembers.specs.MethodCodes.{IsCodeOrNoneFault, IsCodesFault};
+ghost use Rattle.dexmembers.specs.internal.MethodCodes.{IsCodeOrNoneFault, IsCodesFault};
 ghost use Rattle.dexmembers.specs.Checking.{AreCheckedCodes, HasCodeOrNoneOf, HaveCodesOf};
 
 use crate::class_data::EncodedMethod;

@@ -9,7 +9,7 @@ ghost use Rattle.dexpool.specs.Pools.{ArePools};
 ghost use Rattle.dexcode.specs.Checking.{one_code_weight};
 ghost use Rattle.dexcode.specs.Numbered.{StandsForCode};
 ghost use Rattle.dexmembers.specs.Weighing.{numbered_whole_weight, codes_weight};
-ghost use Rattle.dexmembers.specs.MethodCodes.{IsCodeOrNone, IsCodeOrNoneFault, AreCodesOf, AreHeavyCodes, IsCodesFault, optional_code_weight};
+ghost use Rattle.dexmembers.specs.internal.MethodCodes.{IsCodeOrNone, IsCodeOrNoneFault, AreCodesOf, AreHeavyCodes, IsCodesFault, optional_code_weight};
 
 use crate::class_data::EncodedMethod;
 use crate::code_checking::{CheckedCodes, check_codes};

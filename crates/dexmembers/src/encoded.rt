@@ -3,7 +3,7 @@
 ghost use Rattle.std.specs.Prelude.{◌≡◌, ◌↔◌, ◌^◌, ◌<◌, ◌≤◌, ◌+◌, ℕ, List, Option, Some, length, IsTrue, IfSome, IfNone, MatchOption};
 ghost use Rattle.dexspec.specs.Mentions.{Mentions};
 ghost use Rattle.dexspec.specs.ClassData.{IsNextIndex};
-ghost use Rattle.dexmembers.specs.EncodedMembers.{IsOwnField, IsOwnMethod, HeadAt, FieldAt, MethodAt};
+ghost use Rattle.dexmembers.specs.internal.EncodedMembers.{IsOwnField, IsOwnMethod, HeadAt, FieldAt, MethodAt};
 
 use crate::class_data::{EncodedField, EncodedMethod};
 use dexleb::read_u;

@@ -3,7 +3,7 @@
 ghost use Rattle.std.specs.Prelude.{◌↔◌, ◌≤◌, length, map, IsTrue, IfOk, IfErr};
 ghost use Rattle.dexspec.specs.ClassData.{ShareNone};
 ghost use Rattle.dexmembers.specs.Numbered.{NumbersRise};
-ghost use Rattle.dexmembers.specs.EncodedMembers.{IsDataRefusal, IsListRead, NoList, AreListsRead, NoLists};
+ghost use Rattle.dexmembers.specs.internal.EncodedMembers.{IsDataRefusal, IsListRead, NoList, AreListsRead, NoLists};
 
 use crate::encoded::{Encoded, Owner};
 use dexhead::Condition;

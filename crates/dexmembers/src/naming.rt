@@ -3,7 +3,7 @@
 ghost use Rattle.std.specs.Prelude.{◌≤◌, ◌+◌, ◌*◌, ◌++◌, ◌^◌, ◌<◌, IsTrue, length, map};
 ghost use Rattle.std.specs.List.{Contains};
 ghost use Rattle.dexmembers.specs.Numbered.{NumbersRise};
-ghost use Rattle.dexmembers.specs.Naming.{NamesOnly, BothRise};
+ghost use Rattle.dexmembers.specs.internal.Naming.{NamesOnly, BothRise};
 
 use crate::encoded::Encoded;
 use dexhead::{Frame, u32_at};

@@ -6,9 +6,9 @@ ghost use Rattle.dexpool.specs.Pools.{ArePools};
 ghost use Rattle.dexval.specs.Directories.{HasMembers, directory_weight};
 ghost use Rattle.dexval.specs.Numbered.{directory_in};
 ghost use Rattle.dexval.specs.Shared.{shared_directory_of};
-ghost use Rattle.dexmembers.specs.ClassData.{IsDataOf};
-ghost use Rattle.dexmembers.specs.Naming.{NamesRead, ListsRise};
-ghost use Rattle.dexmembers.specs.RowParts.{AreAnnotationsOf, AreEntered, AreHeavyAnnotations, IsAnnotationsFault, IsHeldDirectory};
+ghost use Rattle.dexmembers.specs.internal.ClassData.{IsDataOf};
+ghost use Rattle.dexmembers.specs.internal.Naming.{NamesRead, ListsRise};
+ghost use Rattle.dexmembers.specs.internal.RowParts.{AreAnnotationsOf, AreEntered, AreHeavyAnnotations, IsAnnotationsFault, IsHeldDirectory};
 
 use crate::class_data::{ClassData, EncodedField, EncodedMethod};
 use crate::naming::names_members;

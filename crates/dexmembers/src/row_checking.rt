@@ -4,9 +4,9 @@ ghost use Rattle.std.specs.Prelude.{◌≡◌, ℕ, IfOk, IfErr, OnOk};
 ghost use Rattle.dexspec.specs.Classes.{annotations_off, static_values_off};
 ghost use Rattle.dexpool.specs.Pools.{ArePools};
 ghost use Rattle.dexval.specs.CheckedSets.{AreChecked};
-ghost use Rattle.dexmembers.specs.ClassData.{IsDataOf};
-ghost use Rattle.dexmembers.specs.RowParts.{IsAnnotationsFault};
-ghost use Rattle.dexmembers.specs.StaticValues.{IsValuesFault};
+ghost use Rattle.dexmembers.specs.internal.ClassData.{IsDataOf};
+ghost use Rattle.dexmembers.specs.internal.RowParts.{IsAnnotationsFault};
+ghost use Rattle.dexmembers.specs.internal.StaticValues.{IsValuesFault};
 ghost use Rattle.dexmembers.specs.Checking.{HasAnnotationsOf, HasValuesOf};
 
 use crate::class_data::ClassData;

@@ -4,13 +4,13 @@ ghost use Rattle.std.specs.Prelude.{◌≡◌, ℕ, ◌+◌, ◌-◌, ◌^◌, m
 ghost use Rattle.dexpool.specs.Pools.{ArePools};
 ghost use Rattle.dexval.specs.Code.{value_of};
 ghost use Rattle.dexval.specs.Numbered.{values_of_list};
-ghost use Rattle.dexmembers.specs.ClassData.{IsDataOf};
+ghost use Rattle.dexmembers.specs.internal.ClassData.{IsDataOf};
 ghost use Rattle.dexmembers.specs.ClassDefs.{IsClassDef};
 ghost use Rattle.dexmembers.specs.Reading.{AreHeavyMembers, IsMembersFault};
 ghost use Rattle.dexval.specs.Shared.{shared_directory_of};
 ghost use Rattle.dexmembers.specs.Contents.{contents_in, AreHeld};
 ghost use Rattle.dexmembers.specs.Weighing.{codes_weight};
-ghost use Rattle.dexmembers.specs.RowParts.{ArePartsOf, AreAttachable, IsHeldDirectory, attached};
+ghost use Rattle.dexmembers.specs.internal.RowParts.{ArePartsOf, AreAttachable, IsHeldDirectory, attached};
 
 use crate::attaching::{attach_fields, attach_methods};
 use crate::class_data::ClassData;

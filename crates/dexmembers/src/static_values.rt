@@ -5,7 +5,7 @@ ghost use Rattle.dexspec.specs.Classes.{static_values_off};
 ghost use Rattle.dexpool.specs.Pools.{ArePools};
 ghost use Rattle.dexval.specs.Code.{value_of};
 ghost use Rattle.dexval.specs.Numbered.{values_of_list};
-ghost use Rattle.dexmembers.specs.StaticValues.{AreValuesOf, AreHeavyValues, IsValuesFault};
+ghost use Rattle.dexmembers.specs.internal.StaticValues.{AreValuesOf, AreHeavyValues, IsValuesFault};
 
 use crate::row_checking::check_static_values;
 use dexhead::Frame;

@@ -19,7 +19,7 @@ use Rattle.dexspec.proofs.merge.Depths.{acyclic-apart}
 use Rattle.dexpool.specs.Numberings.{IsAt, AreRising}
 use Rattle.dexclass.specs.Numbered.{NumberedClass, definition_of}
 use Rattle.dexclass.specs.Uses.{IsKnownClass}
-use Rattle.dexmerge.specs.Amounts.{weight_over, short_numbers, has_from, first_over}
+use Rattle.dexmerge.specs.internal.Amounts.{weight_over, short_numbers, has_from, first_over}
 use Rattle.dexmerge.specs.Faults.{IsOfCap}
 use Rattle.dexmerge.proofs.ShortStrings.{short_named_by, short_stands_for, rank_is}
 

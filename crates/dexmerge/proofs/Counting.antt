@@ -23,10 +23,10 @@ use Rattle.dexclass.specs.Renumbering.{IsLedClass}
 use Rattle.dexclass.specs.Uses.{IsKnownClass}
 use Rattle.dexmerge.specs.declared.candidates.Candidate.{Candidate}
 use Rattle.dexmerge.specs.declared.measuring.Counts.{Counts}
-use Rattle.dexmerge.specs.Amounts.{short_numbers, has_from}
+use Rattle.dexmerge.specs.internal.Amounts.{short_numbers, has_from}
 use Rattle.dexmerge.specs.Candidates.{classes_of, class_at}
 use Rattle.dexmerge.specs.Counting.{AreCounts, AreCountsOver, Decides, IsShortBound, above_it, is_from}
-use Rattle.dexmerge.specs.Unions.{AreOnce}
+use Rattle.dexmerge.specs.internal.Unions.{AreOnce}
 use Rattle.dexmerge.proofs.CapLaws.{none_from, weight_is}
 use Rattle.dexmerge.proofs.FarTexts.{few_texts, greatest_decides, none_led}
 use Rattle.dexmerge.proofs.MergeLaws.{once_apart, once_own}

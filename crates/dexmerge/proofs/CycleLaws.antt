@@ -24,7 +24,7 @@ use Rattle.dexclass.specs.Numbered.{NumberedClass, type_at, definition_of}
 use Rattle.dexclass.specs.Parents.{no_class, name_number, IsHierarchy, AreDepthsByName}
 use Rattle.dexclass.proofs.Classed.{name_is, one_number}
 use Rattle.dexclass.proofs.Ordered.{are_classes}
-use Rattle.dexmerge.specs.Cycles.{AreKept, HaveDepths, IsFirstCycle}
+use Rattle.dexmerge.specs.internal.Cycles.{AreKept, HaveDepths, IsFirstCycle}
 
 -- a depth that is there and is not
 some_none : (o : Option ℕ) → IsSome o → o ≡ None → ⊥

@@ -27,7 +27,7 @@ use Rattle.dexclass.specs.Parents.{no_class}
 use Rattle.dexclass.specs.Renumbering.{IsLedClass}
 use Rattle.dexclass.specs.Uses.{IsKnownClass, type_use, text_use, type_numbers, text_numbers}
 use Rattle.dexmerge.specs.Candidates.{class_at}
-use Rattle.dexmerge.specs.Amounts.{short_numbers, has_from}
+use Rattle.dexmerge.specs.internal.Amounts.{short_numbers, has_from}
 use Rattle.dexmerge.proofs.ShortStrings.{led_short, leads_short, option_source, short_stands_for}
 
 -- ---- by cases

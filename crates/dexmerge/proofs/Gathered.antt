@@ -26,9 +26,9 @@ use Rattle.dexclass.specs.Uses.{IsKnownClass}
 use Rattle.dexclass.specs.Parents.{AreDepthsByName}
 use Rattle.dexclass.specs.Programs.{AreClassesOf, AreMergeable}
 use Rattle.dexclass.specs.Renumbering.{led, renumbered, LeadInto, StaysSame}
-use Rattle.dexmerge.specs.Gathering.{IsPartOf, ArePartsOf, AreGathered, IsAdded, AreOneOfEach}
+use Rattle.dexmerge.specs.internal.Gathering.{IsPartOf, ArePartsOf, AreGathered, IsAdded, AreOneOfEach}
 use Rattle.dexmerge.specs.declared.gathering.Gathered.{Gathered}
-use Rattle.dexmerge.specs.Unions.{IsJudged}
+use Rattle.dexmerge.specs.internal.Unions.{IsJudged}
 use Rattle.dexmerge.proofs.CapLaws.{good_greatest}
 use Rattle.dexmerge.proofs.CycleLaws.{depths_same}
 use Rattle.dexmerge.proofs.PartMembers.{KeepMeaning, LeadClasses, led_class, zip_at, parts_more}

@@ -8,7 +8,7 @@ use Rattle.dexspec.specs.Mentions.{Mentions, mentions}
 use Rattle.dexpool.specs.Numberings.{AreRising, Maps, AllLead, union_of}
 use Rattle.dexpool.specs.Laws.{LeadsAll}
 use Rattle.dexclass.specs.Renumbering.{LeadInto}
-use Rattle.dexmerge.specs.Unions.{IsJoined}
+use Rattle.dexmerge.specs.internal.Unions.{IsJoined}
 
 abbrev own : Bor Collection → Mentions
 own part = mentions (definitions part.now)

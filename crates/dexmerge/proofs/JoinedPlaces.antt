@@ -29,7 +29,7 @@ use Rattle.dexmembers.proofs.RenumberingLists.{all_right}
 use Rattle.dexclass.specs.Numbered.{NumberedClass, definition_of}
 use Rattle.dexclass.specs.Uses.{IsKnownClass, type_use, text_use, type_numbers, text_numbers}
 use Rattle.dexclass.specs.Renumbering.{renumbered, ClassHasPlaces, StaysSame}
-use Rattle.dexmerge.specs.Gathering.{IsPartOf}
+use Rattle.dexmerge.specs.internal.Gathering.{IsPartOf}
 use Rattle.dexmerge.proofs.PartMembers.{KeepMeaning, LeadClasses, led_class}
 use Rattle.dexmerge.proofs.ShortStrings.{leads_short, short_stands_for, rank_is}
 

@@ -19,9 +19,9 @@ use Rattle.dexclass.specs.Renumbering.{renumbered, LeadInto, IsPartClass}
 use Rattle.dexmerge.specs.Faults.{IsOfCap}
 use Rattle.dexmerge.specs.declared.candidates.Candidate.{Candidate}
 use Rattle.dexmerge.specs.Candidates.{AreMembers, IsOfPart, IsAlike, IsLeastUnlike, kept_classes, class_of, classes_of, class_at}
-use Rattle.dexmerge.specs.Cycles.{AreKept, AreAcyclic, IsFirstCycle}
-use Rattle.dexmerge.specs.Amounts.{first_over}
-use Rattle.dexmerge.specs.Unions.{AreCopies, AreOnce, IsJoined}
+use Rattle.dexmerge.specs.internal.Cycles.{AreKept, AreAcyclic, IsFirstCycle}
+use Rattle.dexmerge.specs.internal.Amounts.{first_over}
+use Rattle.dexmerge.specs.internal.Unions.{AreCopies, AreOnce, IsJoined}
 use Rattle.dexmerge.proofs.UnionLaws.{AreTold, name_in, conflict_told, kept_members, kept_rise, are_kept, definitions_differ, consistent, cycle_told}
 use Rattle.dexmerge.proofs.CapLaws.{found_cap}
 use Rattle.dexmerge.proofs.CycleLaws.{depths_same}

@@ -4,7 +4,7 @@ use Rattle.std.specs.Prelude.{MatchBool}
 use Rattle.std.proofs.lemmas.Bool.{false≢true}
 use Rattle.std.proofs.lemmas.List.{length-replicate}
 use Rattle.dexspec.specs.Merging.{Plan, IsPlanFor}
-use Rattle.dexmerge.specs.Judging.{IsNamed, IsMarkedBy, HasUnnamed}
+use Rattle.dexmerge.specs.internal.Judging.{IsNamed, IsMarkedBy, HasUnnamed}
 
 -- no mark is set at first
 none_named : (n i : ℕ) → get_or (replicate n false) i false ≡ false

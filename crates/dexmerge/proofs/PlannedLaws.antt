@@ -17,7 +17,7 @@ use Rattle.dexmerge.specs.declared.faults.MergeFault.TheVariants as fault
 use Rattle.dexmerge.proofs.Marked.{part_leaves}
 use Rattle.dexmerge.specs.Plans.{plans_of}
 use Rattle.dexmerge.specs.Faults.{IsMerged, Tells, planned}
-use Rattle.dexmerge.specs.Parts.{files_in, nodes_in, of_files, of_plans, AreKnown, IsCauseOf}
+use Rattle.dexmerge.specs.internal.Parts.{files_in, nodes_in, of_files, of_plans, AreKnown, IsCauseOf}
 
 -- ---- what faults report
 

@@ -34,7 +34,7 @@ use Rattle.dexmembers.specs.Renumbering.{renumbered_method, renumbered_members}
 use Rattle.dexmembers.specs.Fitting.{code_short_strings, method_short_strings, members_short_strings}
 use Rattle.dexclass.specs.Numbered.{NumberedClass, definition_of}
 use Rattle.dexclass.specs.Uses.{IsKnownClass}
-use Rattle.dexmerge.specs.Amounts.{short_numbers}
+use Rattle.dexmerge.specs.internal.Amounts.{short_numbers}
 
 -- ---- in symbols
 

@@ -22,7 +22,7 @@ use Rattle.dexclass.specs.Uses.{IsKnownClass}
 use Rattle.dexclass.specs.Parents.{no_class, name_number, parent_numbers, ArePlaces}
 use Rattle.dexclass.proofs.Places.{places_some, places_all}
 use Rattle.dexmerge.specs.Candidates.{AreMembers, class_at, IsAlike, IsLeastUnlike, kept_classes}
-use Rattle.dexmerge.specs.Cycles.{AreKept, IsFirstCycle}
+use Rattle.dexmerge.specs.internal.Cycles.{AreKept, IsFirstCycle}
 
 option_is : (o : Option ℕ) → IsSome o → (k : ℕ) × (o ≡ Some k)
 option_is None s = absurd cc

@@ -7,7 +7,7 @@ use Rattle.dexspec.specs.Weight.{body_weight}
 use Rattle.dexclass.specs.Numbered.{NumberedClass, definition_of}
 use Rattle.dexclass.specs.Parents.{no_class}
 use Rattle.dexmerge.specs.Candidates.{class_at}
-use Rattle.dexmerge.specs.Amounts.{weight_over}
+use Rattle.dexmerge.specs.internal.Amounts.{weight_over}
 
 -- one class more
 pub weight_more : (m : Mentions) (cs : List NumberedClass) (i : ℕ) → i < length cs → weight_over m (take (i + 1) cs) ≡ weight_over m (take i cs) + body_weight (definition_of m (class_at cs i)).1

@@ -9,7 +9,7 @@ use Rattle.dexspec.specs.Merging.{HasShortString}
 use Rattle.dexspec.specs.Weight.{weight}
 use Rattle.dexclass.specs.Numbered.{NumberedClass}
 use Rattle.dexmerge.specs.declared.measuring.Counts.{Counts}
-use Rattle.dexmerge.specs.Amounts.{weight_over, short_numbers, has_from}
+use Rattle.dexmerge.specs.internal.Amounts.{weight_over, short_numbers, has_from}
 
 -- whether a number, if there is one, is not below the cap
 abbrev pub is_from : ℕ → Option ℕ → Bool

@@ -1,12 +1,7 @@
 pub mod CapKinds
 pub mod Capping
 pub mod Plans
-pub mod Judging
 pub mod Faults
 pub mod Candidates
-pub mod Cycles
-pub mod Amounts
 pub mod Counting
-pub mod Unions
-pub mod Gathering
-pub mod Parts
+pub mod internal

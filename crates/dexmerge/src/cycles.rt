@@ -5,7 +5,7 @@ ghost use Rattle.dexspec.specs.Mentions.{Mentions};
 ghost use Rattle.dexclass.specs.Numbered.{definition_of};
 ghost use Rattle.dexclass.specs.Parents.{AreDepthsByName};
 ghost use Rattle.dexmerge.specs.Candidates.{classes_of};
-ghost use Rattle.dexmerge.specs.Cycles.{AreKept, HaveDepths, IsFirstCycle};
+ghost use Rattle.dexmerge.specs.internal.Cycles.{AreKept, HaveDepths, IsFirstCycle};
 
 use crate::candidates::Candidate;
 use dexorder::{HasParents, Hierarchy, first_without_depth};

@@ -5,7 +5,7 @@ ghost use Rattle.dexspec.specs.Mentions.{Mentions};
 ghost use Rattle.dexpool.specs.Pools.{count_of};
 ghost use Rattle.dexclass.specs.Uses.{IsKnownClass};
 ghost use Rattle.dexmerge.specs.Candidates.{IsOfPart, classes_of};
-ghost use Rattle.dexmerge.specs.Amounts.{weight_over, short_numbers, has_from, first_over};
+ghost use Rattle.dexmerge.specs.internal.Amounts.{weight_over, short_numbers, has_from, first_over};
 ghost use Rattle.dexmerge.specs.Counting.{Decides, is_from};
 
 use crate::candidates::Candidate;

@@ -10,8 +10,8 @@ ghost use Rattle.dexpool.specs.Numberings.{Maps};
 ghost use Rattle.dexclass.specs.Numbered.{NumberedClass, definition_of};
 ghost use Rattle.dexclass.specs.Renumbering.{ClassHasPlaces, led, renumbered};
 ghost use Rattle.dexclass.specs.Uses.{IsKnownClass};
-ghost use Rattle.dexmerge.specs.Unions.{IsJudged};
-ghost use Rattle.dexmerge.specs.Gathering.{AreGathered, AreOneOfEach, ArePartsOf, IsAdded, IsPartOf};
+ghost use Rattle.dexmerge.specs.internal.Unions.{IsJudged};
+ghost use Rattle.dexmerge.specs.internal.Gathering.{AreGathered, AreOneOfEach, ArePartsOf, IsAdded, IsPartOf};
 
 use dexclass::{Class, Program, renumbering_law};
 use dexinsn::joined_places_law;

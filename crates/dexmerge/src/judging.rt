@@ -10,7 +10,7 @@ ghost use Rattle.dexclass.specs.Numbered.{type_at};
 ghost use Rattle.dexclass.specs.Parents.{name_number, AreDepthsByName};
 ghost use Rattle.dexmerge.specs.Faults.{Tells};
 ghost use Rattle.dexmerge.specs.Candidates.{classes_of};
-ghost use Rattle.dexmerge.specs.Unions.{AreCopies, AreOnce, IsJoined};
+ghost use Rattle.dexmerge.specs.internal.Unions.{AreCopies, AreOnce, IsJoined};
 
 use crate::candidates::{Candidate, candidates};
 use crate::caps::Caps;

@@ -1,6 +1,9 @@
 //! Unions of programs: merged files, under caps and by plans.
 //!
 //! What can be merged, caps, plans and the causes for which there is no merged file are this project's rules.
+//!
+//! Public contracts use the definitions of `specs/Candidates`, `specs/CapKinds`, `specs/Capping`, `specs/Counting`,
+//! `specs/Faults` and `specs/Plans`.
 #![tactic(auto)]
 
 mod candidates;

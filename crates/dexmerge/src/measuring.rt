@@ -10,7 +10,7 @@ ghost use Rattle.dexclass.specs.Uses.{IsKnownClass};
 ghost use Rattle.dexmerge.specs.Candidates.{IsOfPart, classes_of};
 ghost use Rattle.dexmerge.specs.Counting.{AreCounts, AreCountsOver, above_it};
 ghost use Rattle.dexmerge.specs.Faults.{Tells};
-ghost use Rattle.dexmerge.specs.Unions.{AreOnce};
+ghost use Rattle.dexmerge.specs.internal.Unions.{AreOnce};
 
 use crate::candidates::{Candidate, candidates};
 use crate::cycles::class_depths;

@@ -8,7 +8,7 @@ ghost use Rattle.dexspec.specs.Merging.{Cause, IsCause, IsFirstCause, IsGood};
 ghost use Rattle.dexlaws.specs.Growth.{Absorbs};
 ghost use Rattle.dexclass.specs.Parents.{AreDepthsByName};
 ghost use Rattle.dexmerge.specs.Faults.{IsMerged, Tells};
-ghost use Rattle.dexmerge.specs.Unions.{IsJoined, IsJudged};
+ghost use Rattle.dexmerge.specs.internal.Unions.{IsJoined, IsJudged};
 
 use crate::caps::Caps;
 use crate::faults::MergeFault;

@@ -3,7 +3,7 @@
 ghost use Rattle.std.specs.Prelude.{◌≡◌, ◌<◌, ℕ, length, IfOk, MatchBool};
 ghost use Rattle.dexspec.specs.Merging.{IsPlanFor};
 ghost use Rattle.dexmerge.specs.Plans.{plan_of};
-ghost use Rattle.dexmerge.specs.Judging.{IsMarkedBy, IsNamed, IsNoPlan, HasUnnamed};
+ghost use Rattle.dexmerge.specs.internal.Judging.{IsMarkedBy, IsNamed, IsNoPlan, HasUnnamed};
 
 use std::alloc::{AllocError, Global};
 

@@ -8,7 +8,7 @@ ghost use Rattle.dexspec.specs.Classes.{Definition};
 ghost use Rattle.dexspec.specs.Merging.{Cause, IsCause, IsFirstCause, IsGood, all_leaves};
 ghost use Rattle.dexmerge.specs.Plans.{plan_of, plans_of};
 ghost use Rattle.dexmerge.specs.Faults.{IsMerged, IsPlanned, IsPlanFault, Tells, planned};
-ghost use Rattle.dexmerge.specs.Parts.{AreKnown, IsCauseOf, files_in, nodes_in, of_files, of_plans};
+ghost use Rattle.dexmerge.specs.internal.Parts.{AreKnown, IsCauseOf, files_in, nodes_in, of_files, of_plans};
 
 use crate::caps::Caps;
 use crate::faults::{MergeFault, PlanFault};

@@ -12,7 +12,7 @@ use Rattle.dexspec.proofs.lists.Members.{Contains-nil, Contains-first, Contains-
 use Rattle.dexorder.specs.declared.depths.Visit.{Visit}
 use Rattle.dexorder.specs.declared.depths.Search.{Search}
 use Rattle.dexorder.specs.Depths.{parents_of, is_under, AreWithin, IsDepth, HasNone}
-use Rattle.dexorder.specs.Searching.{is_under_all, IsVisit, IsWaitingFor, IsOn, IsSearch, work_left, work_unseen}
+use Rattle.dexorder.specs.internal.Searching.{is_under_all, IsVisit, IsWaitingFor, IsOn, IsSearch, work_left, work_unseen}
 use Rattle.dexorder.proofs.DepthLaws.{is_under-suc, is_under-later, parent_within}
 
 -- after a class is seen, the bound no longer counts its steps

@@ -2,5 +2,5 @@ pub mod Definitions
 pub mod Depths
 pub mod Parents
 pub mod Places
-pub mod Searching
 pub mod Spans
+pub mod internal

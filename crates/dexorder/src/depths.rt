@@ -3,7 +3,7 @@
 ghost use Rattle.std.specs.Prelude.{◌≡◌, ◌<◌, ◌+◌, ◌++◌, [], ◌∷◌, length, slice_index_or, true, false, All, IfOk, OnOk, MatchOption};
 ghost use Rattle.dexorder.specs.Depths.{AreWithin, AreDepths};
 ghost use Rattle.dexorder.specs.Parents.{AllHaveDepths, IsFirstWithout};
-ghost use Rattle.dexorder.specs.Searching.{IsSearch, IsWaitingFor, AreStillSeen, work};
+ghost use Rattle.dexorder.specs.internal.Searching.{IsSearch, IsWaitingFor, AreStillSeen, work};
 
 use crate::hierarchy::Hierarchy;
 use std::alloc::{AllocError, Global};

@@ -1,6 +1,9 @@
 //! The depths of classes below their defined superclasses and interfaces, and the order of the classes of a file: by
 //! depth, then by name. Classes and names are numbers here.
 //!
+//! Public contracts use the definitions of `specs/Definitions`, `specs/Depths`, `specs/Parents`, `specs/Places` and
+//! `specs/Spans`.
+//!
 //! Source: the Android page "Dalvik Executable format", under the heading "class_defs": a class comes after its
 //! superclass and interfaces. The order by depth, then by name, is this project's rule.
 #![tactic(auto)]

@@ -7,7 +7,7 @@ use Rattle.std.proofs.lemmas.Bool.{eqb-true}
 use Rattle.dexspec.specs.Texts.{Text}
 use Rattle.dexspec.specs.Names.{IsDescriptor, VoidType, PrimitiveType, ClassType, ArrayType, IsVoid, IsPrimitive, IsClass, IsArray, IsValueType, IsReferenceType, primitive_letters, shorty_letter}
 use Rattle.dexstr.specs.Units.{IsAscii}
-use Rattle.dexpool.specs.Kinds.{first_of}
+use Rattle.dexpool.specs.internal.Kinds.{first_of}
 
 -- none of the letters of void, class and array
 record IsOther (l : ℕ) : Type 0 where

@@ -24,8 +24,8 @@ use Rattle.dexpool.specs.declared.rows.ProtoEntry.{ProtoEntry}
 use Rattle.dexpool.specs.declared.protos.Protos.{Protos}
 use Rattle.dexpool.specs.Tables.{text_of, type_of, proto_of, field_of, method_of, type_cmp, proto_cmp, field_key, method_key}
 use Rattle.dexpool.specs.Numberings.{IsNumbering}
-use Rattle.dexpool.specs.Renumbering.{numbers_of, numbers_in, HasSpans, IsEntryWithin, IsFieldWithin, IsMethodWithin}
-use Rattle.dexpool.specs.Joining.{IsUnion, StandFor, AreJoinedTexts, AreJoinedTypes, AreJoinedProtos, AreJoinedFields, AreJoinedMethods, proto_of_row, IsRowOf}
+use Rattle.dexpool.specs.internal.Renumbering.{numbers_of, numbers_in, HasSpans, IsEntryWithin, IsFieldWithin, IsMethodWithin}
+use Rattle.dexpool.specs.internal.Joining.{IsUnion, StandFor, AreJoinedTexts, AreJoinedTypes, AreJoinedProtos, AreJoinedFields, AreJoinedMethods, proto_of_row, IsRowOf}
 use Rattle.dexpool.proofs.NumberOrder as order
 use Rattle.dexpool.proofs.NumberOrder.{HasTypeNumbers, HasFieldNumbers, HasMethodNumbers, slices-map}
 use Rattle.dexpool.proofs.Pairs.{map_both}

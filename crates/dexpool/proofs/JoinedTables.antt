@@ -18,7 +18,7 @@ use Rattle.dexpool.specs.declared.tables.Tables.{Tables}
 use Rattle.dexpool.specs.Tables.{text_of, type_of, span_of, proto_of, field_of, method_of}
 use Rattle.dexpool.specs.Numberings.{IsNumbering, Maps, Leads, AllLead, union_of}
 use Rattle.dexpool.specs.Orderly.{KeepsOrder}
-use Rattle.dexpool.specs.Joining.{Moves, IsUnion, AreJoinedTexts, AreJoinedTypes, AreJoinedProtos, AreJoinedFields, AreJoinedMethods, AreMapsOf}
+use Rattle.dexpool.specs.internal.Joining.{Moves, IsUnion, AreJoinedTexts, AreJoinedTypes, AreJoinedProtos, AreJoinedFields, AreJoinedMethods, AreMapsOf}
 use Rattle.dexpool.specs.Stored.{symbols_in, AreTables}
 use Rattle.dexpool.proofs.Pairs.{zip_length, zip_at, zip_from}
 use Rattle.dexpool.proofs.Unions.{some, all_union}

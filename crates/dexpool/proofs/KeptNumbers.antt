@@ -18,7 +18,7 @@ use Rattle.dexpool.specs.Numberings.{Maps, AllLead, image}
 use Rattle.dexpool.specs.Orderly.{LeadDown}
 use Rattle.dexpool.specs.Laws.{LeadsWithin}
 use Rattle.dexpool.specs.Uses.{Use, AreMarkedToo, IsMarkedUse, IsLedUse, LeadsMarked, marks_of, same_kind, occurs}
-use Rattle.dexpool.specs.Closing.{IsMarked, AreClosure, kept_places, mark_all, field_types, entry_types}
+use Rattle.dexpool.specs.internal.Closing.{IsMarked, AreClosure, kept_places, mark_all, field_types, entry_types}
 use Rattle.dexpool.proofs.KeptRows.{mark_within, mark_stays}
 
 -- ---- to none greater

@@ -11,7 +11,7 @@ use Rattle.dexrows.specs.Cut.{kept, places}
 use Rattle.dexrows.proofs.KeptPlaces.{kept_among, length_places, marked_has, stands_at, places_rise}
 use Rattle.dexpool.specs.Numberings.{Leads, image}
 use Rattle.dexpool.specs.Orderly.{KeepsOrder}
-use Rattle.dexpool.specs.Closing.{IsMarked, mark_all, number_or_none, new_numbers}
+use Rattle.dexpool.specs.internal.Closing.{IsMarked, mark_all, number_or_none, new_numbers}
 
 -- a marked number is one of the marks
 pub mark_within : (marks : List Bool) (n : ℕ) → IsMarked marks n → n < length marks

@@ -22,7 +22,7 @@ use Rattle.dexpool.specs.declared.marks.Marks.{Marks}
 use Rattle.dexpool.specs.Tables.{text_of, type_of, span_of, proto_of, field_of, method_of}
 use Rattle.dexpool.specs.Numberings.{AreMarksOf, AllLead, marked}
 use Rattle.dexpool.specs.Stored.{symbols_in, IsTypeNumber, IsTypeOf, IsProtoEntry, IsFieldRow, IsMethodRow, AreTables}
-use Rattle.dexpool.specs.Closing.{IsMarked, mark_all, field_types, entry_types, AreClosure, AreClosed, HasMarkedEntry, HasMarkedField, HasMarkedMethod, kept_symbols, kept_places}
+use Rattle.dexpool.specs.internal.Closing.{IsMarked, mark_all, field_types, entry_types, AreClosure, AreClosed, HasMarkedEntry, HasMarkedField, HasMarkedMethod, kept_symbols, kept_places}
 use Rattle.dexpool.proofs.KeptRows.{kept_all, kept-map, kept_rises, kept_leads, length-mark_all, mark_comes, mark_all-append}
 use Rattle.dexpool.proofs.ClosedMarks.{Same, kept_grown, named, named_flat, mentioned}
 use Rattle.dexpool.proofs.TablesStand.{are_rising}

@@ -22,10 +22,10 @@ use Rattle.dexpool.specs.declared.marks.Marks.{Marks}
 use Rattle.dexpool.specs.Tables.{text_of, type_of, span_of, proto_of, proto_at, field_of, method_of, type_cmp, proto_cmp, field_cmp, method_cmp}
 use Rattle.dexpool.specs.Reading.{HasSpan}
 use Rattle.dexpool.specs.Numberings.{AreMarksOf}
-use Rattle.dexpool.specs.Renumbering.{numbers_of, moved_proto, moved_field, moved_method, IsEntryWithin, IsFieldWithin, IsMethodWithin}
-use Rattle.dexpool.specs.Joining.{proto_key}
+use Rattle.dexpool.specs.internal.Renumbering.{numbers_of, moved_proto, moved_field, moved_method, IsEntryWithin, IsFieldWithin, IsMethodWithin}
+use Rattle.dexpool.specs.internal.Joining.{proto_key}
 use Rattle.dexpool.specs.Stored.{symbols_in, IsTypeNumber, IsTypeOf, IsProtoEntry, IsFieldRow, IsMethodRow, AreTables}
-use Rattle.dexpool.specs.Closing.{new_numbers, IsCut, IsMarked, AreClosed, HasMarkedEntry, HasMarkedField, HasMarkedMethod, kept_symbols}
+use Rattle.dexpool.specs.internal.Closing.{new_numbers, IsCut, IsMarked, AreClosed, HasMarkedEntry, HasMarkedField, HasMarkedMethod, kept_symbols}
 use Rattle.dexpool.proofs.KeptRows.{mark_within, kept_all, kept-map, kept_rises, length-new_numbers, is_moved}
 use Rattle.dexpool.proofs.NumberOrder.{rises-map, type_total, proto_rows_total, field_rows_total, method_rows_total}
 use Rattle.dexpool.proofs.RowOrder as order

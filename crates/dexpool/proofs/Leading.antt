@@ -8,7 +8,7 @@ use Rattle.std.proofs.lemmas.List.{get_or-map, get_or_past, length-map}
 use Rattle.dexspec.specs.Lists.{rises}
 use Rattle.dexspec.proofs.lists.InOrder.{Rises-from_rises, Rises-places, irreflexive, asymmetric}
 use Rattle.dexpool.specs.Numberings.{IsAt, Leads, image}
-use Rattle.dexpool.specs.Joining.{Moves}
+use Rattle.dexpool.specs.internal.Joining.{Moves}
 use Rattle.dexpool.proofs.Unions.{some}
 
 one_value : (x y : ℕ) → Some x ≡ Some y → x ≡ y

@@ -12,8 +12,8 @@ use Rattle.dexrows.specs.declared.methods.MethodRow.{MethodRow}
 use Rattle.dexpool.specs.declared.rows.ProtoEntry.{ProtoEntry}
 use Rattle.dexpool.specs.declared.tables.Tables.{Tables}
 use Rattle.dexpool.specs.Tables.{text_of, type_of, span_of, proto_of, field_of, proto_at, method_of}
-use Rattle.dexpool.specs.Renumbering.{moved_type, moved_proto, moved_field, moved_method, IsEntryWithin, IsFieldWithin, IsMethodWithin}
-use Rattle.dexpool.specs.Joining.{Moves, StandFor, proto_of_row, IsRowOf}
+use Rattle.dexpool.specs.internal.Renumbering.{moved_type, moved_proto, moved_field, moved_method, IsEntryWithin, IsFieldWithin, IsMethodWithin}
+use Rattle.dexpool.specs.internal.Joining.{Moves, StandFor, proto_of_row, IsRowOf}
 use Rattle.dexpool.specs.Stored.{symbols_in, IsTypeOf, IsProtoEntry, IsFieldRow, IsMethodRow, AreTables}
 use Rattle.dexpool.proofs.Pairs.{map_both}
 use Rattle.dexpool.proofs.TablesStand.{types_in}

@@ -9,7 +9,7 @@ use Rattle.std.specs.List.{All, AllZip}
 use Rattle.std.proofs.lemmas.List.Elements.{All-nil, All-cons}
 use Rattle.dexspec.specs.Lists.{rises, rank}
 use Rattle.dexspec.proofs.lists.InOrder.{less_is, rank-cons, Rises-from_rises, Rises-places}
-use Rattle.dexpool.specs.Ranking.{ComeFirst, PassBelow}
+use Rattle.dexpool.specs.internal.Ranking.{ComeFirst, PassBelow}
 use Rattle.dexpool.specs.Numberings.{IsAt}
 
 -- ---- halving

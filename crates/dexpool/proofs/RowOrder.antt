@@ -20,10 +20,10 @@ use Rattle.dexpool.specs.declared.rows.ProtoEntry.{ProtoEntry}
 use Rattle.dexpool.specs.declared.tables.Tables.{Tables}
 use Rattle.dexpool.specs.declared.marks.Marks.{Marks}
 use Rattle.dexpool.specs.Tables.{text_of, proto_of, span_of, type_cmp, proto_cmp, field_key, method_key}
-use Rattle.dexpool.specs.Renumbering.{StaySorted, numbers_of, moved_type, moved_proto, moved_field, moved_method, IsEntryWithin, IsFieldWithin, IsMethodWithin}
-use Rattle.dexpool.specs.Joining.{Moves, proto_key}
+use Rattle.dexpool.specs.internal.Renumbering.{StaySorted, numbers_of, moved_type, moved_proto, moved_field, moved_method, IsEntryWithin, IsFieldWithin, IsMethodWithin}
+use Rattle.dexpool.specs.internal.Joining.{Moves, proto_key}
 use Rattle.dexpool.specs.Stored.{symbols_in, AreTables}
-use Rattle.dexpool.specs.Closing.{IsMarked, new_numbers, number_or_none}
+use Rattle.dexpool.specs.internal.Closing.{IsMarked, new_numbers, number_or_none}
 use Rattle.dexpool.proofs.KeptRows.{mark_within, places_keep}
 use Rattle.dexpool.proofs.Leading.{leads}
 use Rattle.dexpool.proofs.Moved.{types_movable, protos_movable, fields_movable, methods_movable}

@@ -7,8 +7,8 @@ use Rattle.dexpool.specs.declared.rows.Span.{Span}
 use Rattle.dexpool.specs.declared.rows.ProtoEntry.{ProtoEntry}
 use Rattle.dexpool.specs.Tables.{span_of}
 use Rattle.dexpool.specs.Reading.{HasSpan}
-use Rattle.dexpool.specs.Renumbering.{numbers_of, moved_proto}
-use Rattle.dexpool.specs.SharedLists.{Covers, IsPlaceWithin}
+use Rattle.dexpool.specs.internal.Renumbering.{numbers_of, moved_proto}
+use Rattle.dexpool.specs.internal.SharedLists.{Covers, IsPlaceWithin}
 
 -- ---- what covers a part
 

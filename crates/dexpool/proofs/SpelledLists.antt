@@ -15,7 +15,7 @@ use Rattle.dexpool.specs.declared.rows.Span.{Span}
 use Rattle.dexpool.specs.declared.judged.Judged.{Judged}
 use Rattle.dexpool.specs.Tables.{text_of, type_of, span_of}
 use Rattle.dexpool.specs.Reading.{AreNames, IsParameter, IsPlaced, file_numbers, listed, letters_of}
-use Rattle.dexpool.specs.Judged.{AreLetters, letter_in, letters_in, NoVoid, IsSpelled, IsJudged, NotListedAs}
+use Rattle.dexpool.specs.internal.Judged.{AreLetters, letter_in, letters_in, NoVoid, IsSpelled, IsJudged, NotListedAs}
 use Rattle.dexpool.proofs.FirstUnits.{letter_void, void_letter, letters_ascii}
 use Rattle.dexpool.proofs.TypeLists.{listed_is}
 

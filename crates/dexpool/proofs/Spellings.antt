@@ -3,7 +3,7 @@ use Rattle.std.proofs.Common.{◌≡◌, ◌≢◌, ◌↔◌, ℕ, ◌+◌, ◌
 use Rattle.std.specs.Bool.{IsTrue}
 use Rattle.std.proofs.lemmas.List.{drop_more}
 use Rattle.std.proofs.lemmas.List.Elements.{All-cons, All-head, All-tail}
-use Rattle.dexpool.specs.Judged.{letter_in, IsLetter, SpellNumbers}
+use Rattle.dexpool.specs.internal.Judged.{letter_in, IsLetter, SpellNumbers}
 
 module _ (letters : List ℕ) where
   spell_first : (u n : ℕ) (us ns : List ℕ) → SpellNumbers letters (u ∷ us) (n ∷ ns) → IsLetter letters n u

@@ -2,7 +2,7 @@
 use Rattle.std.proofs.Common.{◌≡◌, ◌≢◌, ℕ, List, [], ◌∷◌, map, refl, ap, arith, inl, inr, Some}
 use Rattle.std.proofs.lemmas.Bool.{cases_order, ne_eqb}
 use Rattle.dexpool.specs.Packed.{image_in}
-use Rattle.dexpool.specs.Closing.{number_or_none}
+use Rattle.dexpool.specs.internal.Closing.{number_or_none}
 
 -- a number that is not the greatest of 32 bits is its own image
 pub image_is : (n : ℕ) → n ≢ 0xffffffff → image_in n ≡ Some n

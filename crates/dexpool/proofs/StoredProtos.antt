@@ -7,7 +7,7 @@ use Rattle.dexpool.specs.declared.rows.Span.{Span}
 use Rattle.dexpool.specs.declared.rows.ProtoEntry.{ProtoEntry}
 use Rattle.dexpool.specs.Tables.{span_of}
 use Rattle.dexpool.specs.Reading.{HasSpan}
-use Rattle.dexpool.specs.Renumbering.{numbers_of}
+use Rattle.dexpool.specs.internal.Renumbering.{numbers_of}
 
 -- ---- the shared list
 

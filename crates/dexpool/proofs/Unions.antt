@@ -15,7 +15,7 @@ use Rattle.dexspec.proofs.lists.Mapped.{Contains-map_source}
 use Rattle.dexspec.proofs.merge.Depths.{Contains-map}
 use Rattle.dexspec.proofs.merge.SymbolOrders.{text_total}
 use Rattle.dexrows.specs.Join.{row_cmp, IsImage, IsOfParts, IsJoin}
-use Rattle.dexpool.specs.Joining.{Moves, IsUnion, StandFor}
+use Rattle.dexpool.specs.internal.Joining.{Moves, IsUnion, StandFor}
 use Rattle.dexpool.proofs.NumberOrder.{rises-map}
 use Rattle.dexpool.proofs.Pairs.{zip_source, zip_target, zip_along}
 

@@ -5,8 +5,8 @@ ghost use Rattle.std.specs.List.{flat_map};
 ghost use Rattle.dexrows.specs.Cut.{kept};
 ghost use Rattle.dexpool.specs.Numberings.{AreMarksOf};
 ghost use Rattle.dexpool.specs.Stored.{symbols_in, AreTables};
-ghost use Rattle.dexpool.specs.Renumbering.{IsEntryWithin, IsFieldWithin, IsMethodWithin};
-ghost use Rattle.dexpool.specs.Closing.{mark_all, field_types, entry_types, AreClosure};
+ghost use Rattle.dexpool.specs.internal.Renumbering.{IsEntryWithin, IsFieldWithin, IsMethodWithin};
+ghost use Rattle.dexpool.specs.internal.Closing.{mark_all, field_types, entry_types, AreClosure};
 
 use crate::lists::Parameters;
 use crate::marks::Marks;

@@ -2,7 +2,7 @@
 
 ghost use Rattle.std.specs.Prelude.{◌≡◌, ◌∷◌, ◌++◌, ◌<◌, [], Some, None, OnOk, IfOk, map};
 ghost use Rattle.dexpool.specs.Numberings.{image};
-ghost use Rattle.dexpool.specs.Closing.{number_or_none};
+ghost use Rattle.dexpool.specs.internal.Closing.{number_or_none};
 
 use std::alloc::{AllocError, Global};
 use std::marker::Model;

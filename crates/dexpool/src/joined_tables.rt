@@ -6,8 +6,8 @@ ghost use Rattle.std.specs.List.{AllZip};
 ghost use Rattle.dexrows.specs.Join.{AreSorted, IsJoin};
 ghost use Rattle.dexpool.specs.Numberings.{IsNumbering, union_of, AllLead};
 ghost use Rattle.dexpool.specs.Orderly.{KeepsOrder};
-ghost use Rattle.dexpool.specs.Renumbering.{numbers_in, HasSpans};
-ghost use Rattle.dexpool.specs.Joining.{StandFor, proto_of_row, proto_key, IsRowOf, AreJoinedTexts, AreJoinedTypes, AreJoinedProtos, AreJoinedFields, AreJoinedMethods, AreMapsOf};
+ghost use Rattle.dexpool.specs.internal.Renumbering.{numbers_in, HasSpans};
+ghost use Rattle.dexpool.specs.internal.Joining.{StandFor, proto_of_row, proto_key, IsRowOf, AreJoinedTexts, AreJoinedTypes, AreJoinedProtos, AreJoinedFields, AreJoinedMethods, AreMapsOf};
 ghost use Rattle.dexpool.specs.Stored.{symbols_in, AreTables};
 
 use crate::images::Images;

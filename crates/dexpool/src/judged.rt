@@ -4,7 +4,7 @@ ghost use Rattle.std.specs.Prelude.{◌≡◌, true, false, OnOk};
 ghost use Rattle.dexstr.specs.Units.{IsAscii};
 ghost use Rattle.dexpool.specs.Tables.{text_of};
 ghost use Rattle.dexpool.specs.Reading.{AreNames, IsPlaced, file_numbers};
-ghost use Rattle.dexpool.specs.Judged.{AreLetters, IsJudged, AreJudged, NotListedAs};
+ghost use Rattle.dexpool.specs.internal.Judged.{AreLetters, IsJudged, AreJudged, NotListedAs};
 
 use crate::lists::Parameters;
 use crate::names::Names;

@@ -5,8 +5,8 @@ ghost use Rattle.std.specs.Prelude.{◌≡◌, length, map, slice_index, IfOk};
 ghost use Rattle.dexrows.specs.Cut.{kept, places};
 ghost use Rattle.dexpool.specs.Numberings.{AreMarksOf};
 ghost use Rattle.dexpool.specs.Stored.{symbols_in, AreTables};
-ghost use Rattle.dexpool.specs.Renumbering.{HasSpans, numbers_in, moved_proto, moved_field, moved_method};
-ghost use Rattle.dexpool.specs.Closing.{AreClosed, AreKept, IsCut, kept_places};
+ghost use Rattle.dexpool.specs.internal.Renumbering.{HasSpans, numbers_in, moved_proto, moved_field, moved_method};
+ghost use Rattle.dexpool.specs.internal.Closing.{AreClosed, AreKept, IsCut, kept_places};
 
 use crate::images::Images;
 use crate::lists::Parameters;

@@ -2,7 +2,7 @@
 
 ghost use Rattle.std.specs.Prelude.{◌≡◌, ◌↔◌, IsTrue};
 ghost use Rattle.dexspec.specs.Names.{IsDescriptor, IsClass, IsValueType, IsReferenceType, shorty_letter};
-ghost use Rattle.dexpool.specs.Kinds.{first_of};
+ghost use Rattle.dexpool.specs.internal.Kinds.{first_of};
 
 use dexstr::Text;
 

@@ -1,6 +1,10 @@
 //! The five pools of a file: texts, types, protos, fields and methods, each in a sorted table whose rows
 //! name rows of the tables before it.
 //!
+//! Public contracts use the definitions of `specs/Faults`, `specs/Images`, `specs/Laws`, `specs/Lists`,
+//! `specs/Numberings`, `specs/Orderly`, `specs/Owned`, `specs/Packed`, `specs/Pools`, `specs/Reading`, `specs/Stored`
+//! and `specs/Uses`.
+//!
 //! Source: the Android page "Dalvik Executable format", under the headings "string_id_item",
 //! "type_id_item", "proto_id_item", "field_id_item", "method_id_item" and "type_list".
 #![tactic(auto)]

@@ -6,7 +6,7 @@ ghost use Rattle.dexspec.specs.Symbols.{Proto};
 ghost use Rattle.dexspec.specs.Rows as rows;
 ghost use Rattle.dexpool.specs.Tables.{span_of, proto_cmp};
 ghost use Rattle.dexpool.specs.Reading.{is_above_last, AreNames, AreProtos, HasIndices, HasSpan, ProtoStands, file_numbers};
-ghost use Rattle.dexpool.specs.Judged.{AreLetters, AreJudged};
+ghost use Rattle.dexpool.specs.internal.Judged.{AreLetters, AreJudged};
 ghost use Rattle.dexpool.specs.Faults.{IsFault};
 
 use crate::faults::{ReadFault, refused};

@@ -6,7 +6,7 @@ ghost use Rattle.std.specs.Cmp.Lexicographic.{slice_cmp};
 ghost use Rattle.dexspec.specs.Texts.{text_cmp};
 ghost use Rattle.dexspec.specs.Symbols.{Proto, Field, Method, proto_cmp, field_cmp, method_cmp};
 ghost use Rattle.dexspec.specs.Lists.{rank};
-ghost use Rattle.dexpool.specs.Ranking.{ComeFirst, PassBelow};
+ghost use Rattle.dexpool.specs.internal.Ranking.{ComeFirst, PassBelow};
 
 use crate::numbering::Numbering;
 use crate::symbols::{FieldSymbol, MethodSymbol, ProtoSymbol, SymbolKind};

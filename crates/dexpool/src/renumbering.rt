@@ -2,7 +2,7 @@
 
 ghost use Rattle.std.specs.Prelude.{◌≡◌, ◌<◌, ◌++◌, length, map, All, IfOk, OnOk, slice_index};
 ghost use Rattle.dexrows.specs.Numbers.{among_of, lower_of};
-ghost use Rattle.dexpool.specs.Renumbering.{StaySorted, moved_type, IsEntryWithin, HasSpans, numbers_in, moved_proto, IsFieldWithin, moved_field, IsMethodWithin, moved_method};
+ghost use Rattle.dexpool.specs.internal.Renumbering.{StaySorted, moved_type, IsEntryWithin, HasSpans, numbers_in, moved_proto, IsFieldWithin, moved_field, IsMethodWithin, moved_method};
 
 use crate::lists::Parameters;
 use crate::protos::{Protos, part};

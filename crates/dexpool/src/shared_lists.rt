@@ -2,8 +2,8 @@
 
 ghost use Rattle.std.specs.Prelude.{◌≡◌, ◌<◌, ◌≤◌, ℕ, List, length, map, All, IfOk, slice_index};
 ghost use Rattle.dexpool.specs.Reading.{HasSpan};
-ghost use Rattle.dexpool.specs.Renumbering.{IsEntryWithin, HasSpans, numbers_in, moved_proto};
-ghost use Rattle.dexpool.specs.SharedLists.{Covers, IsPlaceWithin};
+ghost use Rattle.dexpool.specs.internal.Renumbering.{IsEntryWithin, HasSpans, numbers_in, moved_proto};
+ghost use Rattle.dexpool.specs.internal.SharedLists.{Covers, IsPlaceWithin};
 
 use crate::lists::Parameters;
 use crate::protos::Protos;

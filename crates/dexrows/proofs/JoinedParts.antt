@@ -5,7 +5,7 @@ use Rattle.std.proofs.lemmas.List.{length-map, map-append, get_or-map, get_or_de
 use Rattle.std.proofs.lemmas.List.Elements.{All-nil, All-cons, All-weaker, All-contains, Contains-append_left, Contains-append_right}
 use Rattle.dexspec.proofs.lists.Members.{Contains-nil, Contains-first, Contains-later}
 use Rattle.dexrows.specs.Join.{IsImage, IsOfParts, IsJoin}
-use Rattle.dexrows.specs.Merge.{IsOfTwo, IsMerge, IsJoinOfTwo}
+use Rattle.dexrows.specs.internal.Merge.{IsOfTwo, IsMerge, IsJoinOfTwo}
 
 module _ {R : Type 0} (key : R → List ℕ) where
   -- ---- one merge

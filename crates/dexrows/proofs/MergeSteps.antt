@@ -13,7 +13,7 @@ use Rattle.dexspec.proofs.lists.Members.{and_first, and_second, and_both}
 use Rattle.dexspec.proofs.lists.InOrder.{Rises-from_rises, Rises-places, less_is}
 use Rattle.dexspec.proofs.merge.SymbolOrders.{text_total, text_exact}
 use Rattle.dexrows.specs.Join.{row_cmp, AreSorted, IsImage}
-use Rattle.dexrows.specs.Merge.{IsOfTwo, IsNext, IsMerge, HasTaken, IsMerging, ComesFirst, ComeTogether}
+use Rattle.dexrows.specs.internal.Merge.{IsOfTwo, IsNext, IsMerge, HasTaken, IsMerging, ComesFirst, ComeTogether}
 
 -- one more at the end of a rising list
 pub rises_push : {X : Type 0} (R : X → X → Ordering) (xs : List X) (x : X) → rises R xs ≡ true → All (λ y. R y x ≡ Less) xs → rises R (xs ++ x ∷ []) ≡ true

@@ -2,7 +2,7 @@
 
 ghost use Rattle.std.specs.Prelude.{◌≡◌, map, All, IfOk};
 ghost use Rattle.dexrows.specs.Join.{AreSorted, IsJoin, AreJoined};
-ghost use Rattle.dexrows.specs.Merge.{IsJoinOfTwo};
+ghost use Rattle.dexrows.specs.internal.Merge.{IsJoinOfTwo};
 
 use crate::merging::merge;
 use crate::places::compose_all;

@@ -1,5 +1,8 @@
 //! Sorted tables of rows, whose keys are numbers of rows of lower tables: a join of many, and a cut of one.
 //!
+//! Public contracts use the definitions of `specs/Cut`, `specs/Join`, `specs/KeyOrders`, `specs/Listed` and
+//! `specs/Numbers`.
+//!
 //! Source: the Android page "Dalvik Executable format", under the headings "string_id_item",
 //! "type_id_item", "proto_id_item", "field_id_item" and "method_id_item".
 #![tactic(auto)]

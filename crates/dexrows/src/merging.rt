@@ -2,7 +2,7 @@
 
 ghost use Rattle.std.specs.Prelude.{◌≡◌, ◌≤◌, ◌<◌, ◌+◌, ◌^◌, length, IfOk, OnOk, MatchOption};
 ghost use Rattle.dexrows.specs.Join.{AreSorted};
-ghost use Rattle.dexrows.specs.Merge.{IsMerge, IsMerging, IsNext};
+ghost use Rattle.dexrows.specs.internal.Merge.{IsMerge, IsMerging, IsNext};
 
 use crate::rows::Row;
 use std::alloc::{AllocError, Global};

@@ -8,7 +8,7 @@ use Rattle.std.specs.declared.cmp.Ordering.TheVariants.{Less, Equal, Greater}
 use Rattle.std.specs.Cmp.Lexicographic.{slice_cmp, pointwise, same_text}
 use Rattle.dexspec.specs.Texts.{form, spelling, AreUnits, text_cmp}
 use Rattle.dexstr.specs.Units.{units_of, IsSpelling}
-use Rattle.dexstr.specs.Order.{place_of, byte_cmp}
+use Rattle.dexstr.specs.internal.Order.{place_of, byte_cmp}
 use Rattle.dexspec.proofs.determined.OneText.{Shape, One, Two, Three, shape_of}
 
 -- ---- numbers

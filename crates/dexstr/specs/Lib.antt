@@ -1,4 +1,4 @@
 pub mod Units
-pub mod Order
 pub mod Faults
 pub mod Kinds
+pub mod internal

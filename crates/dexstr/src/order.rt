@@ -1,6 +1,6 @@
 ghost use Rattle.std.specs.Prelude.{◌≡◌, ◌<◌, IfSome, length};
 ghost use Rattle.std.specs.Cmp.Lexicographic.{slice_cmp};
-ghost use Rattle.dexstr.specs.Order.{place_of, byte_cmp};
+ghost use Rattle.dexstr.specs.internal.Order.{place_of, byte_cmp};
 
 /// Where a byte comes in the order of texts. Bytes come in the order of the units that they spell, but for
 /// `c0`, which begins unit 0 alone: it comes first.

@@ -7,7 +7,7 @@ use Rattle.dexspec.specs.Values.{Value, Values, EncodedValueAt, EncodedArrayItem
 use Rattle.dexspec.specs.Mentions.{Mentions}
 use Rattle.dexpool.specs.Pools.{ArePools}
 use Rattle.dexpool.specs.Numberings.{IsNumbering}
-use Rattle.dexval.specs.Scalars.{NoValueAt}
+use Rattle.dexval.specs.internal.Scalars.{NoValueAt}
 use Rattle.dexval.specs.Nesting.{AreFilePools, NoArrayAt}
 
 -- a file has at most 2 ^ 30 bytes

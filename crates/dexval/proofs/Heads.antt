@@ -3,7 +3,7 @@ use Rattle.std.proofs.Common.{◌≡◌, ◌+◌, ◌<◌, refl, ap, sym, ◌∙
 use Rattle.dexpool.specs.Numberings.{Maps}
 use Rattle.dexval.specs.declared.head.Head.{Head}
 use Rattle.dexval.specs.declared.head.Head.TheVariants as heads
-use Rattle.dexval.specs.Heads.{head_of, held_values, held_elements}
+use Rattle.dexval.specs.internal.Heads.{head_of, held_values, held_elements}
 use Rattle.dexval.specs.Numbered.{NumberedValue, NumberedValues, NumberedElements, Plain, Named, Array, Annotated, ByteLiteral, ShortLiteral, CharLiteral, IntLiteral, LongLiteral, FloatLiteral, DoubleLiteral, NullLiteral, BooleanLiteral, StringReference, TypeReference, FieldReference, MethodReference, EnumReference}
 use Rattle.dexval.specs.Renumbering.{renumbered, renumbered_values, renumbered_elements}
 use Rattle.dexval.specs.Spelled.{numbered_weight, numbered_values_weight, numbered_elements_weight}

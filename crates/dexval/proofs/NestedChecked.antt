@@ -8,7 +8,7 @@ use Rattle.dexpool.specs.Pools.{ArePools}
 use Rattle.dexval.specs.Checking.{HasValue, HasArray, HasElement, HasElements, HasAnnotation}
 use Rattle.dexval.specs.Nesting.{AreFilePools, NoArrayAt, NoElementsAt, NoElementAt}
 use Rattle.dexval.specs.Numbered.{NumberedValue, Plain, Named, Array, Annotated, values_of_list, elements_of_list, value_in}
-use Rattle.dexval.specs.Scalars.{NoValueAt, IsReadAt}
+use Rattle.dexval.specs.internal.Scalars.{NoValueAt, IsReadAt}
 use Rattle.dexval.specs.Spelled.{values_count, numbered_weight, numbered_values_weight, numbered_elements_weight}
 use Rattle.dexval.proofs.ElementsRead.{HaveReadOf, no_element_read, one_element_more, no_next_element, all_elements_read, annotation_read}
 use Rattle.dexval.proofs.NestedRead.{array_stands, annotation_stands}

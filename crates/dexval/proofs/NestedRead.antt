@@ -5,7 +5,7 @@ use Rattle.dexspec.specs.Values.{Value, ValueAt, value_depth}
 use Rattle.dexspec.specs.Mentions.{Mentions}
 use Rattle.dexpool.specs.Pools.{ArePools}
 use Rattle.dexval.specs.Numbered.{NumberedValue, NumberedValues, NumberedElements, Array, Annotated}
-use Rattle.dexval.specs.Scalars.{NoValueAt, IsReadAt}
+use Rattle.dexval.specs.internal.Scalars.{NoValueAt, IsReadAt}
 use Rattle.dexval.specs.Nesting.{NoArrayAt, AreReadAt, NoAnnotationAt, IsAnnotationReadAt}
 use Rattle.dexval.proofs.Shapes.{stands_byte, value_within, array_only, annotation_only}
 

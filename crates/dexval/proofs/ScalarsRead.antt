@@ -7,7 +7,7 @@ use Rattle.dexspec.specs.Values.{SizedAt}
 use Rattle.dexspec.specs.Mentions.{Mentions}
 use Rattle.dexpool.specs.Pools.{ArePools}
 use Rattle.dexval.specs.Numbered.{NumberedValue, Plain, Named, Array, Annotated, ByteLiteral, ShortLiteral, CharLiteral, IntLiteral, LongLiteral, FloatLiteral, DoubleLiteral, NullLiteral, BooleanLiteral, StringReference, TypeReference, FieldReference, MethodReference, EnumReference}
-use Rattle.dexval.specs.Scalars.{width_of, IsUnknown, Spells, NoValueAt, IsReadAt}
+use Rattle.dexval.specs.internal.Scalars.{width_of, IsUnknown, Spells, NoValueAt, IsReadAt}
 use Rattle.dexval.proofs.Shapes.{sized_only, one_number}
 
 module _ (b : List ℕ) (o : ℕ) (m : Mentions) (p : ArePools b m) where

@@ -10,7 +10,7 @@ use Rattle.dexspec.proofs.written.Stands.{same_first, same_standing, stands_with
 use Rattle.dexpool.specs.declared.symbols.SymbolKind.{SymbolKind}
 use Rattle.dexpool.specs.declared.symbols.SymbolKind.TheVariants as kinds
 use Rattle.dexpool.specs.Pools.{ArePools, count_of}
-use Rattle.dexval.specs.Scalars.{width_of, kind_of_code}
+use Rattle.dexval.specs.internal.Scalars.{width_of, kind_of_code}
 
 -- ---- the first byte
 

@@ -8,7 +8,7 @@ use Rattle.dexspec.specs.Mentions.{Mentions}
 use Rattle.dexspec.proofs.determined.OneNumber.{one_uleb128}
 use Rattle.dexspec.proofs.determined.OneValue.{one_value}
 use Rattle.dexval.specs.Numbered.{NumberedValue, AreKnown, IsKnown, values_in, value_in, values_of_list}
-use Rattle.dexval.specs.Scalars.{NoValueAt, IsReadAt}
+use Rattle.dexval.specs.internal.Scalars.{NoValueAt, IsReadAt}
 use Rattle.dexval.specs.Nesting.{NoArrayAt, AreReadAt}
 
 -- `count` values are at the offset, and nest at most `depth` deep

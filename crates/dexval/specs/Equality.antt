@@ -10,7 +10,7 @@ use Rattle.std.specs.Hash as fed
 use Rattle.dexval.specs.declared.set.AnnotationSet.{AnnotationSet}
 use Rattle.dexval.specs.Code.{set_of}
 use Rattle.dexval.specs.Numbered.{Literal, ByteLiteral, ShortLiteral, CharLiteral, IntLiteral, LongLiteral, FloatLiteral, DoubleLiteral, NullLiteral, BooleanLiteral, Reference, StringReference, TypeReference, FieldReference, MethodReference, EnumReference, NumberedValue, NumberedValues, NumberedElements, NumberedAnnotation, NumberedSet, Plain, Named, Array, Annotated, NoValue, ThenNext, NoElement, ThenNamed}
-use Rattle.dexval.specs.Scalars.{code_of_reference}
+use Rattle.dexval.specs.internal.Scalars.{code_of_reference}
 use Rattle.dexval.specs.Spelled.{values_count, elements_count}
 
 -- ---- whether two are the same

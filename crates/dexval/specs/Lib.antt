@@ -3,16 +3,15 @@ pub mod Checking
 pub mod Code
 pub mod Directories
 pub mod Equality
-pub mod Heads
 pub mod Items
 pub mod Judged
 pub mod Nesting
 pub mod Numbered
 pub mod Reading
 pub mod Renumbering
-pub mod Scalars
 pub mod Shared
 pub mod Spelled
 pub mod Stored
 pub mod Tables
 pub mod Uses
+pub mod internal

@@ -9,7 +9,7 @@ use Rattle.dexspec.specs.Mentions.{Mentions}
 use Rattle.dexpool.specs.Pools.{ArePools}
 use Rattle.dexpool.specs.Numberings.{AreRising}
 use Rattle.dexval.specs.Numbered.{NumberedValue, NumberedValues, NumberedElements, AreKnown, HaveKnown, values_in, elements_in, type_at}
-use Rattle.dexval.specs.Scalars.{IsReadAt}
+use Rattle.dexval.specs.internal.Scalars.{IsReadAt}
 
 -- the pools are those of the file, and rise
 pub record AreFilePools (b : List ℕ) (m : Mentions) : Type 0 where

@@ -2,7 +2,7 @@
 
 ghost use Rattle.std.specs.Prelude.{◌≡◌, ◌↔◌, IsTrue, map};
 ghost use Rattle.dexval.specs.Code.{value_of, element_of};
-ghost use Rattle.dexval.specs.Heads.{head_of, held_values, held_elements};
+ghost use Rattle.dexval.specs.internal.Heads.{head_of, held_values, held_elements};
 ghost use Rattle.dexval.specs.Numbered.{values_of_list, elements_of_list};
 ghost use Rattle.dexval.specs.Renumbering.{renumbered};
 

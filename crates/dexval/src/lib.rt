@@ -1,6 +1,10 @@
 //! Encoded values and annotations: the initial values of static fields, and the annotations of classes, members and
 //! parameters.
 //!
+//! Public contracts use the definitions of `specs/CheckedSets`, `specs/Checking`, `specs/Code`, `specs/Directories`,
+//! `specs/Equality`, `specs/Items`, `specs/Judged`, `specs/Nesting`, `specs/Numbered`, `specs/Reading`,
+//! `specs/Renumbering`, `specs/Shared`, `specs/Spelled`, `specs/Stored`, `specs/Tables` and `specs/Uses`.
+//!
 //! Source: the Android page "Dalvik Executable format", under the headings "encoded_value encoding",
 //! "encoded_array format", "encoded_annotation format", "annotation_item", "annotation_set_item",
 //! "annotation_set_ref_list" and "annotations_directory_item".

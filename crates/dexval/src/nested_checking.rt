@@ -3,7 +3,7 @@
 ghost use Rattle.std.specs.Prelude.{ℕ, ◌≢◌, ◌+◌, ◌*◌, ◌^◌, ◌<◌, ◌≤◌, MatchOption, IfSome, length, slice_index};
 ghost use Rattle.dexspec.specs.Numbers.{Uleb128At};
 ghost use Rattle.dexpool.specs.Pools.{ArePools};
-ghost use Rattle.dexval.specs.Scalars.{NoValueAt};
+ghost use Rattle.dexval.specs.internal.Scalars.{NoValueAt};
 ghost use Rattle.dexval.specs.Nesting.{AreFilePools, NoArrayAt, NoElementAt, NoElementsAt, NoAnnotationAt};
 ghost use Rattle.dexval.specs.Checking.{HasValue, HasArray, HasElement, HasElements, HasAnnotation};
 

@@ -3,7 +3,7 @@
 ghost use Rattle.std.specs.Prelude.{◌≡◌, ◌+◌, ◌^◌, ◌<◌, ◌≤◌, MatchOption, IfOk, IfSome, length, map};
 ghost use Rattle.dexval.specs.Code.{value_of, element_of};
 ghost use Rattle.dexval.specs.Numbered.{values_of_list, elements_of_list};
-ghost use Rattle.dexval.specs.Scalars.{NoValueAt, IsReadAt};
+ghost use Rattle.dexval.specs.internal.Scalars.{NoValueAt, IsReadAt};
 ghost use Rattle.dexval.specs.Nesting.{AreFilePools, NoArrayAt, AreReadAt, NoElementAt, IsElementReadAt, NoElementsAt, AreElementsReadAt, NoAnnotationAt, IsAnnotationReadAt};
 
 use crate::scalars::scalar_at;

@@ -5,7 +5,7 @@ ghost use Rattle.dexspec.specs.Bytes.{number_of};
 ghost use Rattle.dexspec.specs.Values.{SizedAt};
 ghost use Rattle.dexpool.specs.Pools.{ArePools, count_of};
 ghost use Rattle.dexval.specs.Code.{value_of};
-ghost use Rattle.dexval.specs.Scalars.{width_of, HasNumber, Spells, IsUnknown, NoValueAt, IsReadAt};
+ghost use Rattle.dexval.specs.internal.Scalars.{width_of, HasNumber, Spells, IsUnknown, NoValueAt, IsReadAt};
 
 use crate::numbers::{bits, signed, unsigned};
 use crate::type_codes::{

@@ -1,6 +1,6 @@
 use Rattle.std.proofs.Common.{ap, rules, ◌<◌, length, map, arith}
 use Rattle.dexval.specs.Code.{value_of, element_of}
-use Rattle.dexval.specs.Heads.{head_of}
+use Rattle.dexval.specs.internal.Heads.{head_of}
 use Rattle.dexval.specs.Renumbering.{renumbered, renumbered_element}
 use Rattle.dexval.specs.Spelled.{numbered_values_weight, numbered_elements_weight}
 use Rattle.dexval.proofs.Compared.{same_count, same_at, same_all, values_same, same_values, elements_same, same_elements}

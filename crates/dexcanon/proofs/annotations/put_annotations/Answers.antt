@@ -6,7 +6,7 @@ use Rattle.dexspec.specs.Placing.{bytes_from}
 use Rattle.dexspec.specs.Canonical.{type_list_end}
 use Rattle.dexlayout.specs.Places.{AnnotationPlaces}
 use Rattle.dexlayout.specs.Laid.{ordered_of}
-use Rattle.dexcanon.specs.Output.{AreWithin}
+use Rattle.dexcanon.specs.internal.Output.{AreWithin}
 use Rattle.dexcanon.proofs.AnnotationItems.{mapped_each, next_set, no_set, set_part, set_within, sets_left, sets_whole}
 use Rattle.dexcanon.proofs.Written.{written_all, written_more, written_none, adds_as}
 use Rattle.dexcanon.proofs.SectionItems.{annotations_within}

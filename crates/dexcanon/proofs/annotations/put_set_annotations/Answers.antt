@@ -2,7 +2,7 @@ use Rattle.std.proofs.Common.{◌+◌, drop, map, arith, sym}
 use Rattle.std.specs.List.{flat_map}
 use Rattle.dexval.specs.Code.{annotation_of}
 use Rattle.dexval.specs.Numbered.{IsKnownAnnotation}
-use Rattle.dexcanon.specs.Annotations.{annotation_item}
+use Rattle.dexcanon.specs.internal.Annotations.{annotation_item}
 use Rattle.dexcanon.proofs.AnnotationItems.{mapped_each, mapped_next, mapped_part, mapped_short, mapped_none}
 use Rattle.dexcanon.proofs.Written.{written_all, written_more, written_none}
 use Rattle.dexcanon.proofs.annotations.put_set_annotations.Goals as goal

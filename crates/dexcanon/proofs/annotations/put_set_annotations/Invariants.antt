@@ -1,8 +1,8 @@
 use Rattle.std.proofs.Common.{ℕ, drop, map}
 use Rattle.std.specs.List.{flat_map}
 use Rattle.dexval.specs.Code.{annotation_of}
-use Rattle.dexcanon.specs.Output.{AreWithin}
-use Rattle.dexcanon.specs.Annotations.{annotation_item, set_annotations}
+use Rattle.dexcanon.specs.internal.Output.{AreWithin}
+use Rattle.dexcanon.specs.internal.Annotations.{annotation_item, set_annotations}
 use Rattle.dexcanon.proofs.Written.{Writing}
 use Rattle.dexcanon.proofs.annotations.put_set_annotations.Given as goal
 

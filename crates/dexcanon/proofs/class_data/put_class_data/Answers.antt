@@ -7,7 +7,7 @@ use Rattle.dexclass.specs.Numbered.{definition_of}
 use Rattle.dexlayout.specs.Places.{ItemPlaces}
 use Rattle.dexlayout.specs.Laid.{ordered_of}
 use Rattle.dexcanon.specs.ClassItems.{data_item, data_uses}
-use Rattle.dexcanon.specs.Output.{AreWithin}
+use Rattle.dexcanon.specs.internal.Output.{AreWithin}
 use Rattle.dexcanon.proofs.ClassUses.{data_some, data_none}
 use Rattle.dexcanon.proofs.CodeItems.{class_rest}
 use Rattle.dexcanon.proofs.Written.{adds_as}

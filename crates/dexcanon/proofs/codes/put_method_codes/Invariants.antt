@@ -1,5 +1,5 @@
 use Rattle.std.proofs.Common.{ℕ}
-use Rattle.dexcanon.specs.Output.{FitFrom}
+use Rattle.dexcanon.specs.internal.Output.{FitFrom}
 use Rattle.dexcanon.specs.Codes.{code_item, method_codes}
 use Rattle.dexcanon.proofs.Aligned.{Aligned}
 use Rattle.dexcanon.proofs.CodeItems.{code_uses}

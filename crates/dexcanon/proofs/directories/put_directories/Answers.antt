@@ -8,7 +8,7 @@ use Rattle.dexspec.specs.Placing.{bytes_from, end_from}
 use Rattle.dexspec.specs.Canonical.{directory_section}
 use Rattle.dexlayout.specs.Places.{ItemPlaces, SetPlaces}
 use Rattle.dexlayout.specs.Laid.{ordered_of}
-use Rattle.dexcanon.specs.Output.{AreWithin}
+use Rattle.dexcanon.specs.internal.Output.{AreWithin}
 use Rattle.dexcanon.proofs.Aligned.{next_ends, aligned_all}
 use Rattle.dexcanon.proofs.DirectoryItems.{filing_none, filing_skip, filing_more, next_directory}
 use Rattle.dexcanon.proofs.Written.{adds_as}

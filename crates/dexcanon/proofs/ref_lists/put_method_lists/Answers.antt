@@ -1,7 +1,7 @@
 use Rattle.std.proofs.Common.{◌≡◌, List, ◌∷◌, ◌+◌, ◌<◌, drop, length, ap, sym, ◌∙◌, arith}
 use Rattle.dexspec.specs.Spellings.{offsets_bytes}
 use Rattle.dexval.specs.Numbered.{NumberedSet}
-use Rattle.dexcanon.specs.RefLists.{parameter_counts, ref_lists, total}
+use Rattle.dexcanon.specs.internal.RefLists.{parameter_counts, ref_lists, total}
 use Rattle.std.proofs.lemmas.List.{drop_all}
 use Rattle.dexspec.specs.Placing.{end_from}
 use Rattle.dexcanon.proofs.Aligned.{aligned_all, next_ends}

@@ -1,6 +1,6 @@
 use Rattle.std.proofs.Common.{ℕ, drop}
-use Rattle.dexcanon.specs.Output.{FitFrom}
-use Rattle.dexcanon.specs.RefLists.{parameter_counts, ref_lists}
+use Rattle.dexcanon.specs.internal.Output.{FitFrom}
+use Rattle.dexcanon.specs.internal.RefLists.{parameter_counts, ref_lists}
 use Rattle.dexcanon.proofs.RefLists.{Listing}
 use Rattle.dexcanon.proofs.ref_lists.put_method_lists.Given as goal
 

@@ -1,6 +1,6 @@
 use Rattle.std.proofs.Common.{◌≡◌, ◌++◌, ◌+◌, drop, refl, ap, arith}
 use Rattle.std.proofs.lemmas.List.{drop_all}
-use Rattle.dexcanon.specs.RefLists.{class_parameter_counts, parameter_counts, ref_lists}
+use Rattle.dexcanon.specs.internal.RefLists.{class_parameter_counts, parameter_counts, ref_lists}
 use Rattle.dexcanon.proofs.Aligned.{aligned_all}
 use Rattle.dexcanon.proofs.RefLists.{Listing, class_counts, listing_none, listing_join, lists_enough, lists_fit}
 use Rattle.dexcanon.proofs.Written.{adds_as}

@@ -1,5 +1,5 @@
 use Rattle.std.proofs.Common.{drop}
-use Rattle.dexcanon.specs.RefLists.{class_parameter_counts}
+use Rattle.dexcanon.specs.internal.RefLists.{class_parameter_counts}
 use Rattle.dexcanon.proofs.RefLists.{Listing}
 use Rattle.dexcanon.proofs.ref_lists.put_ref_lists.Given as goal
 

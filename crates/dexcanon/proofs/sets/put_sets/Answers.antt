@@ -9,7 +9,7 @@ use Rattle.dexspec.specs.Placing.{bytes_from, end_from}
 use Rattle.dexspec.specs.Canonical.{set_section}
 use Rattle.dexlayout.specs.Places.{AnnotationPlaces, ItemPlaces}
 use Rattle.dexlayout.specs.Laid.{ordered_of}
-use Rattle.dexcanon.specs.Output.{AreWithin}
+use Rattle.dexcanon.specs.internal.Output.{AreWithin}
 use Rattle.dexcanon.proofs.Aligned.{aligned_all, aligned_more, aligned_none, next_ends}
 use Rattle.dexcanon.proofs.SetItems.{rows, set_fits, set_next, no_set_left}
 use Rattle.dexcanon.proofs.Written.{adds_as}

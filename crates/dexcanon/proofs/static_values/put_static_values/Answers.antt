@@ -8,7 +8,7 @@ use Rattle.dexmembers.specs.Numbered.{NumberedMembers}
 use Rattle.dexclass.specs.Uses.{IsKnownClass}
 use Rattle.dexlayout.specs.Laid.{ordered_of}
 use Rattle.dexcanon.specs.ClassItems.{values_use}
-use Rattle.dexcanon.specs.Output.{AreWithin}
+use Rattle.dexcanon.specs.internal.Output.{AreWithin}
 use Rattle.dexcanon.proofs.ClassUses.{values_next, values_none, none_of, some_of}
 use Rattle.dexcanon.proofs.Written.{adds_as}
 use Rattle.dexcanon.proofs.Plainly.{plainly_none, plainly_skip, plainly_short, plainly_more, plainly_all}

@@ -7,7 +7,7 @@ use Rattle.dexspec.specs.Canonical.{data_start}
 use Rattle.dexhead.specs.declared.head.Head.{Head}
 use Rattle.dexlayout.specs.Places.{TypeListPlaces}
 use Rattle.dexlayout.specs.Laid.{ordered_of}
-use Rattle.dexcanon.specs.Output.{AreWithin}
+use Rattle.dexcanon.specs.internal.Output.{AreWithin}
 use Rattle.dexcanon.proofs.TypeLists.{length_type_list}
 use Rattle.dexcanon.proofs.Aligned.{next_mapped_twice, next_ends, aligned_more, aligned_none, aligned_all, mapped_twice_all}
 use Rattle.dexcanon.proofs.Written.{adds_as}

@@ -3,7 +3,7 @@ use Rattle.std.proofs.lemmas.List.{length-append}
 use Rattle.dexhead.specs.Sums.{with_sums_set}
 use Rattle.dexhead.specs.Laid.{behind_header}
 use Rattle.dexhead.specs.Written.{head_bytes}
-use Rattle.dexcanon.specs.Ready.{ordered_in}
+use Rattle.dexcanon.specs.internal.Ready.{ordered_in}
 use Rattle.dexcanon.proofs.Buffered.{none_of}
 use Rattle.dexcanon.proofs.Finished.{begun}
 use Rattle.dexcanon.proofs.Sealed.{written_over}

@@ -1,7 +1,7 @@
 use Rattle.std.proofs.Common.{rules, ◌≡◌, ◌++◌, OnOk, IfErr, ap, arith, subst, ◌∙◌}
 use Rattle.dexspec.specs.Canonical.{with_sums, unsigned_file}
 use Rattle.dexhead.specs.Laid.{behind_header}
-use Rattle.dexcanon.specs.Ready.{ordered_in}
+use Rattle.dexcanon.specs.internal.Ready.{ordered_in}
 use Rattle.dexcanon.specs.Written.{HasLeft}
 use Rattle.dexcanon.proofs.writing.write_contents.Goals as goal
 use Rattle.dexcanon.proofs.writing.write_contents.Goals.{After-put_head}

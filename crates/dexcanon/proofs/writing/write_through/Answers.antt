@@ -2,7 +2,7 @@ use Rattle.std.proofs.Common.{◌≡◌, ◌++◌, Some, None, sym, ◌∙◌}
 use Rattle.dexhead.specs.Laid.{behind_header}
 use Rattle.dexlayout.specs.Laid.{ordered_of}
 use Rattle.dexcanon.specs.declared.faults.StoreFault.TheVariants.{Io}
-use Rattle.dexcanon.specs.Output.{HasWritten}
+use Rattle.dexcanon.specs.internal.Output.{HasWritten}
 use Rattle.dexcanon.specs.Took.{Took, TookPrefix, took_nothing}
 use Rattle.dexcanon.proofs.Finished.{begun, same_writer, written_whole, written_prefix, told_failed}
 use Rattle.dexcanon.proofs.writing.write_through.Goals as goal

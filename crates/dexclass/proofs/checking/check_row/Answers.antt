@@ -2,7 +2,7 @@ use Rattle.std.proofs.Common.{◌≡◌, ◌+◌, ◌*◌, ◌-◌, ◌^◌, min
 use Rattle.dexspec.specs.Classes.{interfaces_off}
 use Rattle.dexspec.specs.Conditions.{Condition}
 use Rattle.dexspec.specs.Accepted.{HasClass}
-use Rattle.dexclass.specs.Rows.{HasInterfaceList, interface_indices}
+use Rattle.dexclass.specs.internal.Rows.{HasInterfaceList, interface_indices}
 use Rattle.dexclass.specs.Programs.{IsFaultOf}
 use Rattle.dexclass.proofs.Interfaces.{row_interfaces}
 use Rattle.dexclass.proofs.RowsChecked.{checked_heavy, checked_more}

@@ -1,4 +1,4 @@
-use Rattle.dexclass.specs.Rows.{AreDefinedMarks}
+use Rattle.dexclass.specs.internal.Rows.{AreDefinedMarks}
 use Rattle.dexclass.proofs.class_types.defined.Given as goal
 
 abbrev pub invariant-loop-r : goal.invariant-loop-r

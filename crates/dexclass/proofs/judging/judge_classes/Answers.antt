@@ -1,5 +1,5 @@
 use Rattle.std.proofs.Common.{refl, sym, subst}
-use Rattle.dexclass.specs.Rows.{AreDefinedMarks}
+use Rattle.dexclass.specs.internal.Rows.{AreDefinedMarks}
 use Rattle.dexclass.proofs.Judged.{rows_more}
 use Rattle.dexclass.proofs.judging.judge_classes.Goals as goal
 

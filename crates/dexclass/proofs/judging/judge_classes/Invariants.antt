@@ -1,6 +1,6 @@
 use Rattle.std.specs.Prelude.{◌<◌, ℕ}
 use Rattle.dexspec.specs.Accepted.{HasClass}
-use Rattle.dexclass.specs.Rows.{AreDefinedMarks}
+use Rattle.dexclass.specs.internal.Rows.{AreDefinedMarks}
 use Rattle.dexclass.proofs.judging.judge_classes.Given as goal
 
 abbrev pub invariant-loop-r : goal.invariant-loop-r

@@ -1,6 +1,6 @@
 use Rattle.std.proofs.Common.{◌≡◌, ℕ, subst, arith}
 use Rattle.dexspec.specs.Header.{ClassDefs, table_size}
-use Rattle.dexclass.specs.Reading.{AreBodies}
+use Rattle.dexclass.specs.internal.Reading.{AreBodies}
 use Rattle.dexclass.proofs.reading.read_bodies.Goals as goal
 
 pub returns-clause-accepted : goal.returns-clause-accepted

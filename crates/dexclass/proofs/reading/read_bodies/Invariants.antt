@@ -1,4 +1,4 @@
-use Rattle.dexclass.specs.Reading.{AreBodies}
+use Rattle.dexclass.specs.internal.Reading.{AreBodies}
 use Rattle.dexclass.proofs.reading.read_bodies.Given as goal
 
 abbrev pub invariant-loop-r : goal.invariant-loop-r

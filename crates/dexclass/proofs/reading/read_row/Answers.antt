@@ -5,7 +5,7 @@ use Rattle.dexspec.specs.Conditions.{Condition}
 use Rattle.dexmembers.specs.Numbered.{members_in}
 use Rattle.dexmembers.specs.Weight.{members_weight}
 use Rattle.dexmembers.specs.Reading.{AreReadWithin, AreHeavyMembers}
-use Rattle.dexclass.specs.Rows.{HasInterfaceList, interface_indices}
+use Rattle.dexclass.specs.internal.Rows.{HasInterfaceList, interface_indices}
 use Rattle.dexclass.specs.Programs.{IsFaultOf}
 use Rattle.dexclass.proofs.Interfaces.{row_interfaces}
 use Rattle.dexclass.proofs.RowFaults.{members_heavy}

@@ -1,5 +1,5 @@
 use Rattle.std.proofs.Common.{ap, arith, ◌∙◌}
-use Rattle.dexclass.specs.Stripped.{stripped_class}
+use Rattle.dexclass.specs.internal.Stripped.{stripped_class}
 use Rattle.dexclass.proofs.Renumbered.{led_more}
 use Rattle.dexclass.proofs.stripping.strip_all.Goals as goal
 

@@ -1,4 +1,4 @@
-use Rattle.dexclass.specs.Stripped.{stripped_class}
+use Rattle.dexclass.specs.internal.Stripped.{stripped_class}
 use Rattle.dexclass.proofs.Renumbered.{LedTo}
 use Rattle.dexclass.proofs.stripping.strip_all.Given as goal
 

@@ -1,4 +1,4 @@
-use Rattle.dexcode.specs.NamedHandlers.{HaveCatches}
+use Rattle.dexcode.specs.internal.NamedHandlers.{HaveCatches}
 use Rattle.dexcode.proofs.catches.catches_len.Given as goal
 
 abbrev pub invariant-loop : goal.invariant-loop

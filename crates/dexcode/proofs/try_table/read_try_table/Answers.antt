@@ -2,7 +2,7 @@ use Rattle.std.proofs.Common.{◌≡◌, ◌+◌, ◌*◌, ◌<◌, ◌≤◌, r
 use Rattle.std.proofs.lemmas.Result.{err_from_is_err_and}
 use Rattle.dexspec.specs.Code.{most_handlers}
 use Rattle.dexcode.specs.Numbered.{all_named, handlers_of, handlers_weight}
-use Rattle.dexcode.specs.NamedHandlers.{HasList}
+use Rattle.dexcode.specs.internal.NamedHandlers.{HasList}
 use Rattle.dexcode.specs.Reading.{TriesRead, TryItemsAt, IsTriesFault}
 use Rattle.dexcode.proofs.HandlersRead.{fault_so}
 use Rattle.dexcode.proofs.TryTables.{NoTries, found_tries, found_listed, no_tries, too_heavy}

@@ -1,5 +1,5 @@
 use Rattle.std.proofs.Common.{map, take}
-use Rattle.dexflags.specs.FlagNames.{shown_byte}
+use Rattle.dexflags.specs.internal.FlagNames.{shown_byte}
 use Rattle.dexflags.proofs.Growing.{Growing}
 use Rattle.dexflags.proofs.flags_text.grow_by_name.Given as goal
 

@@ -1,7 +1,7 @@
 use Rattle.std.proofs.Common.{rules, sym, ap, ◌∙◌, ◌∷◌, ◌+◌, drop}
 use Rattle.std.specs.List.{join_with_byte}
 use Rattle.bitflags.specs.Sets.{Row}
-use Rattle.dexflags.specs.FlagNames.{set_names}
+use Rattle.dexflags.specs.internal.FlagNames.{set_names}
 use Rattle.dexflags.proofs.Composed.{all_rows, listing_at, row_at, get_row, ended, no_more, one_name_more, skip, Listing}
 use Rattle.dexflags.proofs.flags_text.grow_by_names.Goals.{then-has_flag+in_ok-grow_by_item, else-has_flag}
 use Rattle.dexflags.proofs.flags_text.grow_by_names.Goals as goal

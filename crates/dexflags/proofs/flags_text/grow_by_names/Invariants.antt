@@ -1,6 +1,6 @@
 use Rattle.std.proofs.Common.{drop}
 use Rattle.std.specs.List.{join_with_byte}
-use Rattle.dexflags.specs.FlagNames.{set_names}
+use Rattle.dexflags.specs.internal.FlagNames.{set_names}
 use Rattle.dexflags.proofs.Composed.{Listing}
 use Rattle.dexflags.proofs.flags_text.grow_by_names.Given as goal
 

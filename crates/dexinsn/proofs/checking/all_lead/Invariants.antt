@@ -1,5 +1,5 @@
 use Rattle.std.proofs.Common.{ℕ, ◌<◌, ◌≤◌, ◌-◌, true, length}
-use Rattle.dexinsn.specs.LongSwitches.{HasBit}
+use Rattle.dexinsn.specs.internal.LongSwitches.{HasBit}
 use Rattle.dexinsn.specs.Checking.{LeadsAt}
 use Rattle.dexinsn.proofs.checking.all_lead.Given as goal
 

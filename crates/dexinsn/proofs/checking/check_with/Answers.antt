@@ -1,5 +1,5 @@
 use Rattle.std.proofs.Common.{ℕ, List, Bool, true, false, sym, subst, arith}
-use Rattle.dexinsn.specs.LongSwitches.{EndsEmpty}
+use Rattle.dexinsn.specs.internal.LongSwitches.{EndsEmpty}
 use Rattle.dexinsn.specs.Checking.{AreNoted, AreAllRight, begins_instruction}
 use Rattle.dexinsn.proofs.Leading.{are_noted, astray, checked, code_starts}
 use Rattle.dexinsn.proofs.StartBits.{ends_empty}

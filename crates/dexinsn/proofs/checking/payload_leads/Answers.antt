@@ -3,7 +3,7 @@ use lib.IntN.{nat_abs}
 use Rattle.std.proofs.lemmas.Int.{to_z-of_z}
 use Rattle.dexspec.specs.Pieces.{payload_targets}
 use Rattle.dexinsn.specs.Payload.{ident_of}
-use Rattle.dexinsn.specs.LongSwitches.{HasPlace}
+use Rattle.dexinsn.specs.internal.LongSwitches.{HasPlace}
 use Rattle.dexinsn.specs.Split.{lead_right}
 use Rattle.dexinsn.proofs.Leads.{leads-nowhere, leads-payload}
 use Rattle.dexinsn.proofs.Placed.{at_place, ident_begins, no_payload, payload_by_unit}

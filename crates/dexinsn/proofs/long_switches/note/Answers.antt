@@ -2,7 +2,7 @@ use Rattle.std.proofs.Common.{◌≡◌, ℕ, Some, sym, subst, ◌∙◌, inl, 
 use Rattle.std.proofs.lemmas.Bool.{cases_eq}
 use Rattle.std.specs.HashMap.{get}
 use Rattle.dexspec.specs.Pieces.{ints_in, payload_targets}
-use Rattle.dexinsn.specs.LongSwitches.{AreGrouped}
+use Rattle.dexinsn.specs.internal.LongSwitches.{AreGrouped}
 use Rattle.dexinsn.specs.declared.target_group.TargetGroup.{TargetGroup}
 use Rattle.dexinsn.proofs.Placed.{some_size}
 use Rattle.dexinsn.proofs.Sizes.{piece_within}

@@ -2,7 +2,7 @@ use Rattle.std.proofs.Common.{◌≡◌, ◌+◌, ◌<◌, Bool, length, drop, g
 use Rattle.dexspec.specs.Pieces.{is_wide_index}
 use Rattle.dexinsn.specs.Units.{units_in}
 use Rattle.dexinsn.specs.Stored.{behind_index, Follow}
-use Rattle.dexinsn.specs.Same.{Agree, AgreeBeside}
+use Rattle.dexinsn.specs.internal.Same.{Agree, AgreeBeside}
 use Rattle.dexinsn.proofs.Halves.{length_from}
 use Rattle.dexinsn.proofs.PutUnits.{Next, next_index}
 use Rattle.dexinsn.proofs.SameSteps.{beside_next, beside_before, beside_last, last_beside}

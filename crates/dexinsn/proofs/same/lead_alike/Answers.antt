@@ -1,5 +1,5 @@
 use Rattle.std.proofs.Common.{get_or, below_more, refl, arith}
-use Rattle.dexinsn.specs.Same.{LeadAlike}
+use Rattle.dexinsn.specs.internal.Same.{LeadAlike}
 use Rattle.dexinsn.proofs.SameSteps.{zip_from}
 use Rattle.dexinsn.proofs.same.lead_alike.Goals as goal
 

@@ -1,5 +1,5 @@
 use Rattle.std.proofs.Common.{ℕ, ◌<◌, get_or}
-use Rattle.dexinsn.specs.Same.{LeadAlike}
+use Rattle.dexinsn.specs.internal.Same.{LeadAlike}
 use Rattle.dexinsn.proofs.same.lead_alike.Given as goal
 
 abbrev pub invariant-loop-i : goal.invariant-loop-i

@@ -1,7 +1,7 @@
 use Rattle.std.proofs.Common.{◌≡◌, length, subst, sym, ap, ◌∙◌, refl}
 use Rattle.std.specs.List.{AllZip}
 use Rattle.dexinsn.specs.Units.{units_in}
-use Rattle.dexinsn.specs.Same.{AreAlike, LeadAlike}
+use Rattle.dexinsn.specs.internal.Same.{AreAlike, LeadAlike}
 use Rattle.dexinsn.proofs.SamePieces.{same_from_alike, alike_from_same}
 use Rattle.dexinsn.proofs.PutUnits.{stored_follow}
 use Rattle.dexinsn.proofs.Lined.{indexed_for}

@@ -1,6 +1,6 @@
 use Rattle.std.proofs.Common.{take, pos, ◌+ℤ◌}
 use Rattle.std.specs.List.{All}
-use Rattle.dexinsn.specs.LongSwitches.{HasPlaces}
+use Rattle.dexinsn.specs.internal.LongSwitches.{HasPlaces}
 use Rattle.dexinsn.proofs.start_bits.groups_lead_right.Given as goal
 
 abbrev pub invariant-loop-group : goal.invariant-loop-group

@@ -3,10 +3,10 @@ use Rattle.std.proofs.lemmas.List.Elements.{All-map}
 use Rattle.dexspec.specs.Canonical.{set_items, type_list_end, annotation_end, annotation_section}
 use Rattle.dexval.specs.Code.{set_of}
 use Rattle.dexval.specs.Numbered.{IsKnownSet}
-use Rattle.dexlayout.specs.Annotated.{place_sets}
+use Rattle.dexlayout.specs.internal.Annotated.{place_sets}
 use Rattle.dexlayout.specs.Laid.{ordered_of, first_offsets, StandSo}
 use Rattle.dexlayout.specs.Places.{ItemPlaces}
-use Rattle.dexlayout.specs.Running.{none_from}
+use Rattle.dexlayout.specs.internal.Running.{none_from}
 use Rattle.dexlayout.proofs.SetAnnotations.{sets_behind, set_within, sets_done, annotations_stand}
 use Rattle.dexlayout.proofs.annotations.place_annotations.Goals as goal
 

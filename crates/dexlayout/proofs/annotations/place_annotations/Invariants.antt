@@ -1,7 +1,7 @@
 use Rattle.std.proofs.Common.{◌≡◌, map, drop}
 use Rattle.dexval.specs.Code.{set_of}
-use Rattle.dexlayout.specs.Annotated.{place_sets}
-use Rattle.dexlayout.specs.Running.{none_from}
+use Rattle.dexlayout.specs.internal.Annotated.{place_sets}
+use Rattle.dexlayout.specs.internal.Running.{none_from}
 use Rattle.dexlayout.proofs.annotations.place_annotations.Given as goal
 
 -- placing what is left gives the whole

@@ -3,8 +3,8 @@ use Rattle.std.proofs.lemmas.List.{drop_all}
 use Rattle.dexspec.specs.Canonical.{class_data_section, class_data_offsets, class_data_end}
 use Rattle.dexmembers.specs.Numbered.{NumberedMembers, methods_of}
 use Rattle.dexlayout.specs.Laid.{StandSo, ordered_of}
-use Rattle.dexlayout.specs.Running.{place_use, place_uses}
-use Rattle.dexlayout.specs.Sizes.{class_data_size, class_data_sizes}
+use Rattle.dexlayout.specs.internal.Running.{place_use, place_uses}
+use Rattle.dexlayout.specs.internal.Sizes.{class_data_size, class_data_sizes}
 use Rattle.dexlayout.proofs.Ends.{end_in_file}
 use Rattle.dexlayout.proofs.OwnSizes.{class_data_stand, code_offsets_count, data_fits}
 use Rattle.dexlayout.proofs.class_data.place_class_data.Goals as goal

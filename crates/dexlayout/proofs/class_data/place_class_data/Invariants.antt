@@ -1,6 +1,6 @@
 use Rattle.std.proofs.Common.{drop}
-use Rattle.dexlayout.specs.Running.{none_from, place_uses}
-use Rattle.dexlayout.specs.Sizes.{class_data_sizes}
+use Rattle.dexlayout.specs.internal.Running.{none_from, place_uses}
+use Rattle.dexlayout.specs.internal.Sizes.{class_data_sizes}
 use Rattle.dexlayout.proofs.class_data.place_class_data.Given as goal
 use Rattle.dexlayout.proofs.OwnSizes.{DataLeft}
 

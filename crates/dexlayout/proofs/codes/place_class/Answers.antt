@@ -3,8 +3,8 @@ use Rattle.std.proofs.lemmas.List.{map-append}
 use Rattle.std.proofs.lemmas.Result.{on_ok_weaker}
 use Rattle.dexmembers.specs.Numbered.{NumberedMethod, NumberedMembers}
 use Rattle.dexlayout.specs.Places.{ItemPlaces}
-use Rattle.dexlayout.specs.Running.{place_uses}
-use Rattle.dexlayout.specs.Sizes.{code_size}
+use Rattle.dexlayout.specs.internal.Running.{place_uses}
+use Rattle.dexlayout.specs.internal.Sizes.{code_size}
 use Rattle.dexlayout.proofs.Owned.{place_append, place_grows}
 use Rattle.dexlayout.proofs.codes.place_class.Goals as goal
 

@@ -2,8 +2,8 @@ use Rattle.std.proofs.Common.{◌+◌, drop, arith, ap, sym, subst, ◌∙◌}
 use Rattle.std.specs.List.{flat_map}
 use Rattle.dexspec.specs.Canonical.{code_section, code_offsets, code_end}
 use Rattle.dexlayout.specs.Laid.{StandSo, ordered_of}
-use Rattle.dexlayout.specs.Running.{place_uses}
-use Rattle.dexlayout.specs.Sizes.{class_code_sizes}
+use Rattle.dexlayout.specs.internal.Running.{place_uses}
+use Rattle.dexlayout.specs.internal.Sizes.{class_code_sizes}
 use Rattle.dexlayout.proofs.Ends.{end_in_file}
 use Rattle.dexlayout.proofs.OwnSizes.{codes_stand}
 use Rattle.dexlayout.proofs.OwnSteps.{several_fit, several_next, several_none}

@@ -1,7 +1,7 @@
 use Rattle.std.proofs.Common.{◌≡◌, drop}
 use Rattle.std.specs.List.{flat_map}
-use Rattle.dexlayout.specs.Running.{none_from, place_uses}
-use Rattle.dexlayout.specs.Sizes.{class_code_sizes}
+use Rattle.dexlayout.specs.internal.Running.{none_from, place_uses}
+use Rattle.dexlayout.specs.internal.Sizes.{class_code_sizes}
 use Rattle.dexlayout.proofs.codes.place_codes.Given as goal
 
 abbrev pub invariant-loop-class : goal.invariant-loop-class

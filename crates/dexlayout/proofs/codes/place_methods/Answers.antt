@@ -1,5 +1,5 @@
 use Rattle.std.proofs.Common.{arith, sym}
-use Rattle.dexlayout.specs.Sizes.{code_size}
+use Rattle.dexlayout.specs.internal.Sizes.{code_size}
 use Rattle.dexlayout.proofs.OwnSteps.{left_fits}
 use Rattle.dexlayout.proofs.codes.place_methods.Goals as goal
 

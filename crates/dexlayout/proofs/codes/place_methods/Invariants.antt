@@ -1,6 +1,6 @@
 use Rattle.std.proofs.Common.{◌≡◌, map, drop}
-use Rattle.dexlayout.specs.Running.{place_uses}
-use Rattle.dexlayout.specs.Sizes.{code_size}
+use Rattle.dexlayout.specs.internal.Running.{place_uses}
+use Rattle.dexlayout.specs.internal.Sizes.{code_size}
 use Rattle.dexlayout.proofs.codes.place_methods.Given as goal
 
 abbrev pub invariant-loop-i : goal.invariant-loop-i

@@ -6,7 +6,7 @@ use Rattle.dexcode.specs.Debug.{NumberedDebug}
 use Rattle.dexcode.specs.Meaning.{debug_in, IsKnownCode, IsKnownDebug}
 use Rattle.dexcode.specs.Numbered.{NumberedItem}
 use Rattle.dexmembers.specs.Numbered.{NumberedMethod, IsKnownMethod}
-use Rattle.dexlayout.specs.SharedUses.{SharesDebugs, debug_of}
+use Rattle.dexlayout.specs.internal.SharedUses.{SharesDebugs, debug_of}
 use Rattle.dexlayout.proofs.SharedUses.{shared_use, uses_next}
 use Rattle.dexlayout.proofs.debugs.add_debugs.Goals as goal
 

@@ -3,7 +3,7 @@ use Rattle.std.specs.Prelude.{All, List, Option}
 use Rattle.dexspec.specs.Debug.{Debug as DebugMeant}
 use Rattle.dexspec.specs.Mentions.{Mentions}
 use Rattle.dexmembers.specs.Numbered.{IsKnownMethod}
-use Rattle.dexlayout.specs.SharedUses.{SharesDebugs, debugs_uses}
+use Rattle.dexlayout.specs.internal.SharedUses.{SharesDebugs, debugs_uses}
 use Rattle.dexlayout.proofs.debugs.add_debugs.Given as goal
 
 abbrev pub invariant-loop-i : goal.invariant-loop-i

@@ -2,7 +2,7 @@ use Rattle.std.proofs.Common.{◌≡◌, ℕ, ◌+◌, ◌-◌, ◌^◌, ◌≤�
 use Rattle.dexspec.specs.Bytes.{round_up}
 use Rattle.dexcode.specs.Debug.{NumberedDebug, numbered_debug_bytes}
 use Rattle.dexlayout.specs.Places.{ItemPlaces}
-use Rattle.dexlayout.specs.Running.{none_from, put_at}
+use Rattle.dexlayout.specs.internal.Running.{none_from, put_at}
 use Rattle.dexlayout.proofs.EncodedItems.{encoded_next}
 use Rattle.dexlayout.proofs.SharedPlaces.{placed, placed_next, placed_within}
 use Rattle.dexlayout.proofs.debugs.encode_written.Goals as goal

@@ -1,7 +1,7 @@
 use Rattle.std.proofs.Common.{◌≡◌, Some, length, map, take}
 use Rattle.std.specs.List.{flat_map}
 use Rattle.dexcode.specs.Debug.{numbered_debug_bytes}
-use Rattle.dexlayout.specs.Running.{none_from, place_uses}
+use Rattle.dexlayout.specs.internal.Running.{none_from, place_uses}
 use Rattle.dexlayout.proofs.debugs.encode_written.Given as goal
 
 abbrev pub invariant-loop-i : goal.invariant-loop-i

@@ -3,7 +3,7 @@ use Rattle.std.specs.Prelude.{All, IfSome}
 use Rattle.std.specs.List.{flat_map}
 use Rattle.dexcode.specs.Debug.{NumberedDebug, numbered_debug_bytes}
 use Rattle.dexlayout.specs.Laid.{AreDebugs}
-use Rattle.dexlayout.specs.Running.{none_from}
+use Rattle.dexlayout.specs.internal.Running.{none_from}
 use Rattle.dexlayout.proofs.SharedKinds.{debug_len, debugs_fit, debugs_numbered, debugs_laid}
 use Rattle.dexlayout.proofs.SharedPlaces.{placed, by_numbers}
 use Rattle.dexlayout.proofs.debugs.place_debugs.Goals as goal

@@ -7,7 +7,7 @@ use Rattle.dexspec.specs.Placing.{debug_uses}
 use Rattle.dexmembers.specs.Numbered.{methods_of}
 use Rattle.dexclass.specs.Uses.{IsKnownClass}
 use Rattle.dexlayout.specs.Laid.{ordered_of}
-use Rattle.dexlayout.specs.SharedUses.{SharesDebugs, debugs_uses}
+use Rattle.dexlayout.specs.internal.SharedUses.{SharesDebugs, debugs_uses}
 use Rattle.dexlayout.proofs.SharedUses.{shared_kept, shared_known, on_answer, of_answer}
 use Rattle.dexlayout.proofs.SharedKinds.{debug_uses_are, debugs_shared}
 use Rattle.dexlayout.proofs.debugs.share_debugs.Goals as goal

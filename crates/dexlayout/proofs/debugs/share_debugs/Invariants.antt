@@ -4,7 +4,7 @@ use Rattle.std.specs.List.{flat_map}
 use Rattle.dexspec.specs.Mentions.{Mentions}
 use Rattle.dexmembers.specs.Numbered.{methods_of}
 use Rattle.dexclass.specs.Uses.{IsKnownClass}
-use Rattle.dexlayout.specs.SharedUses.{SharesDebugs, debugs_uses}
+use Rattle.dexlayout.specs.internal.SharedUses.{SharesDebugs, debugs_uses}
 use Rattle.dexlayout.proofs.debugs.share_debugs.Given as goal
 
 abbrev pub invariant-loop-i : goal.invariant-loop-i

@@ -3,10 +3,10 @@ use Rattle.std.specs.Prelude.{slice_index}
 use Rattle.std.proofs.lemmas.List.{length-drop, drop_all}
 use Rattle.dexspec.specs.Canonical.{ref_list_offsets, ref_list_end, directory_section, directory_offsets, directory_end}
 use Rattle.dexmembers.specs.Numbered.{NumberedMembers, fields_of, methods_of}
-use Rattle.dexlayout.specs.Directories.{entry_count, directory_size, directory_sizes}
+use Rattle.dexlayout.specs.internal.Directories.{entry_count, directory_size, directory_sizes}
 use Rattle.dexlayout.specs.Laid.{ordered_of, StandSo}
 use Rattle.dexlayout.specs.Places.{ItemPlaces}
-use Rattle.dexlayout.specs.Running.{none_from, place_use, place_uses}
+use Rattle.dexlayout.specs.internal.Running.{none_from, place_use, place_uses}
 use Rattle.dexlayout.proofs.Ends.{end_in_file}
 use Rattle.dexlayout.proofs.SetDirectories.{next_fields, next_methods, next_places, next_directory, directory_within, own_count, field_count, method_count, length-ref_list_offsets, directories_stand}
 use Rattle.dexlayout.proofs.directories.place_directories.Goals as goal

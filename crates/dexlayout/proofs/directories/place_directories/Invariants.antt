@@ -1,8 +1,8 @@
 use Rattle.std.proofs.Common.{◌≡◌, ◌≤◌, length, drop}
 use Rattle.std.specs.List.{flat_map}
 use Rattle.dexmembers.specs.Numbered.{fields_of, methods_of}
-use Rattle.dexlayout.specs.Directories.{directory_sizes}
-use Rattle.dexlayout.specs.Running.{place_uses}
+use Rattle.dexlayout.specs.internal.Directories.{directory_sizes}
+use Rattle.dexlayout.specs.internal.Running.{place_uses}
 use Rattle.dexlayout.proofs.directories.place_directories.Given as goal
 
 -- placing what is left gives the whole

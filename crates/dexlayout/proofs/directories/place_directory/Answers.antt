@@ -3,9 +3,9 @@ use Rattle.std.proofs.lemmas.Result.{on_ok_weaker}
 use Rattle.dexspec.specs.Bytes.{round_up}
 use Rattle.dexspec.proofs.layout.Places.{length-padding}
 use Rattle.dexmembers.proofs.DirectorySpelled as spelled
-use Rattle.dexlayout.specs.Directories.{entry_count}
+use Rattle.dexlayout.specs.internal.Directories.{entry_count}
 use Rattle.dexlayout.specs.Places.{ItemPlaces}
-use Rattle.dexlayout.specs.Running.{put_at}
+use Rattle.dexlayout.specs.internal.Running.{put_at}
 use Rattle.dexlayout.proofs.SetDirectories.{no_directory, some_directory}
 use Rattle.dexlayout.proofs.directories.place_directory.Goals as goal
 

@@ -1,7 +1,7 @@
 use Rattle.std.proofs.Common.{◌≡◌, ◌++◌, map, take}
 use Rattle.std.specs.List.{flat_map}
 use Rattle.dexhead.specs.Written.{entry_meant}
-use Rattle.dexlayout.specs.Parts.{entry_of}
+use Rattle.dexlayout.specs.internal.Parts.{entry_of}
 use Rattle.dexlayout.proofs.map_entries.push_parts.Given as goal
 
 abbrev pub invariant-loop-part : goal.invariant-loop-part

@@ -3,7 +3,7 @@ use Rattle.std.proofs.lemmas.Result.{on_ok_weaker}
 use Rattle.dexspec.specs.Bytes.{round_up}
 use Rattle.dexspec.proofs.layout.Places.{length-padding}
 use Rattle.dexval.specs.Numbered.{NumberedSet}
-use Rattle.dexlayout.specs.Running.{put_at}
+use Rattle.dexlayout.specs.internal.Running.{put_at}
 use Rattle.dexlayout.proofs.SetLists.{size_is, some_if, some_list, some_end}
 use Rattle.dexlayout.proofs.ref_lists.place_list.Goals as goal
 

@@ -1,7 +1,7 @@
 use Rattle.std.proofs.Common.{◌+◌, ◌^◌, drop, sym, ap, ◌∙◌, arith}
-use Rattle.dexlayout.specs.Gathering.{list_sizes}
+use Rattle.dexlayout.specs.internal.Gathering.{list_sizes}
 use Rattle.dexlayout.specs.Places.{ItemPlaces}
-use Rattle.dexlayout.specs.Running.{place_uses}
+use Rattle.dexlayout.specs.internal.Running.{place_uses}
 use Rattle.dexlayout.proofs.SetLists.{next_list, list_within}
 use Rattle.dexlayout.proofs.ref_lists.place_lists.Goals as goal
 

@@ -1,6 +1,6 @@
 use Rattle.std.proofs.Common.{◌≡◌, drop}
-use Rattle.dexlayout.specs.Gathering.{list_sizes}
-use Rattle.dexlayout.specs.Running.{place_uses}
+use Rattle.dexlayout.specs.internal.Gathering.{list_sizes}
+use Rattle.dexlayout.specs.internal.Running.{place_uses}
 use Rattle.dexlayout.proofs.ref_lists.place_lists.Given as goal
 
 -- placing what is left gives the whole

@@ -1,9 +1,9 @@
 use Rattle.std.proofs.Common.{◌≡◌, ◌+◌, ◌^◌, drop, sym, ap, subst, ◌∙◌, arith}
 use Rattle.dexspec.specs.Canonical.{ref_list_end, ref_list_offsets, ref_list_section}
-use Rattle.dexlayout.specs.Gathering.{class_list_sizes}
+use Rattle.dexlayout.specs.internal.Gathering.{class_list_sizes}
 use Rattle.dexlayout.specs.Laid.{StandSo, ordered_of}
 use Rattle.dexlayout.specs.Places.{ItemPlaces}
-use Rattle.dexlayout.specs.Running.{none_from, place_uses}
+use Rattle.dexlayout.specs.internal.Running.{none_from, place_uses}
 use Rattle.dexlayout.proofs.Ends.{end_in_file}
 use Rattle.dexlayout.proofs.SetLists.{next_lists, lists_within, lists_done, ref_lists_stand}
 use Rattle.dexlayout.proofs.ref_lists.place_ref_lists.Goals as goal

@@ -1,7 +1,7 @@
 use Rattle.std.proofs.Common.{◌≡◌, ℕ, ◌<◌, List, [], length, drop, refl, sym, ap, subst, ◌∙◌, arith}
 use Rattle.std.proofs.lemmas.List.{length-map, drop_all}
 use Rattle.dexval.specs.Code.{set_of}
-use Rattle.dexlayout.specs.Gathering.{parts_of_classes, gather_classes}
+use Rattle.dexlayout.specs.internal.Gathering.{parts_of_classes, gather_classes}
 use Rattle.dexlayout.specs.Places.{ItemPlaces}
 use Rattle.std.proofs.Common.{All}
 use Rattle.std.specs.Prelude.{Option, IfSome}

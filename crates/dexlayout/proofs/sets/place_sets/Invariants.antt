@@ -1,6 +1,6 @@
 use Rattle.std.proofs.Common.{◌≡◌, ◌≤◌, length, drop}
 use Rattle.std.specs.List.{flat_map}
-use Rattle.dexlayout.specs.Gathering.{sets_of_class, parts_of_classes, gather_classes}
+use Rattle.dexlayout.specs.internal.Gathering.{sets_of_class, parts_of_classes, gather_classes}
 use Rattle.dexlayout.proofs.sets.place_sets.Given as goal
 
 -- placing what is left gives the whole

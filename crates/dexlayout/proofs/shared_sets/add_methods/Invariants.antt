@@ -3,7 +3,7 @@ use Rattle.std.specs.Prelude.{All, List, Option}
 use Rattle.dexspec.specs.Annotations.{AnnotationSet as SetMeant}
 use Rattle.dexspec.specs.Mentions.{Mentions}
 use Rattle.dexmembers.specs.Numbered.{IsKnownMethod}
-use Rattle.dexlayout.specs.SharedUses.{SharesSets, methods_uses}
+use Rattle.dexlayout.specs.internal.SharedUses.{SharesSets, methods_uses}
 use Rattle.dexlayout.proofs.shared_sets.add_methods.Given as goal
 
 abbrev pub invariant-loop-i : goal.invariant-loop-i

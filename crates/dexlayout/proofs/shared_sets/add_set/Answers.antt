@@ -3,7 +3,7 @@ use Rattle.std.specs.Prelude.{MatchOption}
 use Rattle.dexval.specs.declared.set.AnnotationSet.{AnnotationSet}
 use Rattle.dexval.specs.Code.{set_of}
 use Rattle.dexval.specs.Numbered.{NumberedSet, IsKnownSet, annotation_in, set_in}
-use Rattle.dexlayout.specs.SharedUses.{set_use}
+use Rattle.dexlayout.specs.internal.SharedUses.{set_use}
 use Rattle.dexlayout.proofs.SharedUses.{shared_pass, shared_take, none_used, some_used}
 use Rattle.dexlayout.proofs.shared_sets.add_set.Goals as goal
 use Rattle.dexlayout.proofs.shared_sets.add_set.Goals.{in_default-via-in-Some+else-not-is_empty, in_default-via-in_default}

@@ -3,7 +3,7 @@ use Rattle.std.specs.Prelude.{All, List, Option}
 use Rattle.dexspec.specs.Annotations.{AnnotationSet as SetMeant}
 use Rattle.dexspec.specs.Mentions.{Mentions}
 use Rattle.dexval.specs.Numbered.{IsKnownSet}
-use Rattle.dexlayout.specs.SharedUses.{SharesSets, set_use}
+use Rattle.dexlayout.specs.internal.SharedUses.{SharesSets, set_use}
 use Rattle.dexlayout.proofs.shared_sets.add_sets.Given as goal
 
 abbrev pub invariant-loop-i : goal.invariant-loop-i

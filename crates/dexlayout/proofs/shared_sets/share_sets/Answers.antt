@@ -6,7 +6,7 @@ use Rattle.dexspec.specs.Mentions.{Mentions}
 use Rattle.dexspec.specs.Placing.{set_uses}
 use Rattle.dexclass.specs.Uses.{IsKnownClass}
 use Rattle.dexlayout.specs.Laid.{ordered_of}
-use Rattle.dexlayout.specs.SharedUses.{SharesSets, members_uses}
+use Rattle.dexlayout.specs.internal.SharedUses.{SharesSets, members_uses}
 use Rattle.dexlayout.proofs.SharedUses.{shared_kept, shared_known, on_answer, of_answer}
 use Rattle.dexlayout.proofs.SharedKinds.{set_uses_are, sets_shared}
 use Rattle.dexlayout.proofs.shared_sets.share_sets.Goals as goal

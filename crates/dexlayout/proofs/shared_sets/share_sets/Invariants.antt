@@ -3,7 +3,7 @@ use Rattle.std.specs.Prelude.{All}
 use Rattle.std.specs.List.{flat_map}
 use Rattle.dexspec.specs.Mentions.{Mentions}
 use Rattle.dexclass.specs.Uses.{IsKnownClass}
-use Rattle.dexlayout.specs.SharedUses.{SharesSets, members_uses}
+use Rattle.dexlayout.specs.internal.SharedUses.{SharesSets, members_uses}
 use Rattle.dexlayout.proofs.shared_sets.share_sets.Given as goal
 
 abbrev pub invariant-loop-i : goal.invariant-loop-i

@@ -3,8 +3,8 @@ use Rattle.std.proofs.lemmas.List.{length-map}
 use Rattle.dexval.specs.Code.{value_of}
 use Rattle.dexval.specs.Numbered.{NumberedValue, values_of_list}
 use Rattle.dexval.specs.Spelled.{numbered_array_bytes}
-use Rattle.dexlayout.specs.Running.{put_at, place_use}
-use Rattle.dexlayout.specs.Sizes.{array_size, static_size}
+use Rattle.dexlayout.specs.internal.Running.{put_at, place_use}
+use Rattle.dexlayout.specs.internal.Sizes.{array_size, static_size}
 use Rattle.dexlayout.proofs.OwnSteps.{put_plain}
 use Rattle.dexlayout.proofs.static_values.place_array.Goals as goal
 use Rattle.dexlayout.proofs.static_values.place_array.Goals.{After-statics_size}

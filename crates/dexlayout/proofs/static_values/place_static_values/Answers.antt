@@ -1,7 +1,7 @@
 use Rattle.std.proofs.Common.{arith, sym, subst, ◌∙◌}
 use Rattle.dexspec.specs.Canonical.{array_section, array_offsets, array_end}
 use Rattle.dexlayout.specs.Laid.{StandSo, ordered_of}
-use Rattle.dexlayout.specs.Sizes.{static_size}
+use Rattle.dexlayout.specs.internal.Sizes.{static_size}
 use Rattle.dexlayout.proofs.Ends.{end_in_file}
 use Rattle.dexlayout.proofs.OwnSizes.{arrays_stand}
 use Rattle.dexlayout.proofs.OwnSteps.{left_fits, left_none}

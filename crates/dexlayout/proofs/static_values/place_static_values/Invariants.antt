@@ -1,6 +1,6 @@
 use Rattle.std.proofs.Common.{◌≡◌, map, drop}
-use Rattle.dexlayout.specs.Running.{none_from, place_uses}
-use Rattle.dexlayout.specs.Sizes.{static_size}
+use Rattle.dexlayout.specs.internal.Running.{none_from, place_uses}
+use Rattle.dexlayout.specs.internal.Sizes.{static_size}
 use Rattle.dexlayout.proofs.static_values.place_static_values.Given as goal
 
 abbrev pub invariant-loop-class : goal.invariant-loop-class

@@ -2,7 +2,7 @@ use Rattle.std.proofs.Common.{◌≡◌, ◌+◌, ◌≤◌, length, map, drop, 
 use Rattle.dexspec.specs.Texts.{Text, string_data}
 use Rattle.dexspec.specs.Placing.{offsets_from, end_from}
 use Rattle.dexlayout.specs.Places.{ItemPlaces}
-use Rattle.dexlayout.specs.Running.{none_from, put_at, place_uses}
+use Rattle.dexlayout.specs.internal.Running.{none_from, put_at, place_uses}
 use Rattle.dexlayout.specs.Laid.{StandSo}
 use Rattle.dexlayout.proofs.Owned.{place_grows}
 use Rattle.dexlayout.proofs.OwnSteps.{all_stand, left_next, left_none, put_plain}

@@ -1,6 +1,6 @@
 use Rattle.std.proofs.Common.{◌≡◌, map, drop, length, Some}
 use Rattle.dexspec.specs.Texts.{string_data}
-use Rattle.dexlayout.specs.Running.{none_from, place_uses}
+use Rattle.dexlayout.specs.internal.Running.{none_from, place_uses}
 use Rattle.dexlayout.proofs.strings.place_strings.Given as goal
 
 abbrev pub invariant-loop-i : goal.invariant-loop-i

@@ -5,7 +5,7 @@ use Rattle.dexpool.proofs.Parts.{all_back}
 use Rattle.dexspec.specs.Placing.{unless_empty}
 use Rattle.dexclass.specs.Numbered.{type_at}
 use Rattle.dexclass.specs.Uses.{IsKnownClass}
-use Rattle.dexlayout.specs.SharedUses.{AreTypes, SharesLists, interfaces_use}
+use Rattle.dexlayout.specs.internal.SharedUses.{AreTypes, SharesLists, interfaces_use}
 use Rattle.dexlayout.proofs.SharedUses.{uses_next}
 use Rattle.dexlayout.proofs.type_lists.add_interfaces.Goals as goal
 

@@ -3,7 +3,7 @@ use Rattle.std.specs.Prelude.{All, List, Option}
 use Rattle.dexspec.specs.Mentions.{Mentions}
 use Rattle.dexspec.specs.Texts.{Text}
 use Rattle.dexclass.specs.Uses.{IsKnownClass}
-use Rattle.dexlayout.specs.SharedUses.{SharesLists, interfaces_use}
+use Rattle.dexlayout.specs.internal.SharedUses.{SharesLists, interfaces_use}
 use Rattle.dexlayout.proofs.type_lists.add_interfaces.Given as goal
 
 abbrev pub invariant-loop-i : goal.invariant-loop-i

@@ -4,7 +4,7 @@ use Rattle.dexspec.specs.Symbols.{Proto}
 use Rattle.dexspec.specs.Placing.{unless_empty}
 use Rattle.dexpool.proofs.Ranking.{listed_at, listed_within}
 use Rattle.dexval.specs.Numbered.{type_at}
-use Rattle.dexlayout.specs.SharedUses.{AreTypes, SharesLists}
+use Rattle.dexlayout.specs.internal.SharedUses.{AreTypes, SharesLists}
 use Rattle.dexlayout.proofs.SharedUses.{uses_next}
 use Rattle.dexlayout.proofs.type_lists.add_parameters.Goals as goal
 

@@ -1,8 +1,8 @@
 use Rattle.std.proofs.Common.{◌≡◌, ◌+◌, ◌*◌, ◌^◌, ◌≤◌, take, arith, ap, sym, ◌∙◌}
 use Rattle.dexspec.specs.Bytes.{round_up}
 use Rattle.dexlayout.specs.Places.{ItemPlaces}
-use Rattle.dexlayout.specs.Running.{none_from, put_at}
-use Rattle.dexlayout.specs.Sharing.{list_len}
+use Rattle.dexlayout.specs.internal.Running.{none_from, put_at}
+use Rattle.dexlayout.specs.internal.Sharing.{list_len}
 use Rattle.dexlayout.proofs.SharedPlaces.{placed, placed_next, placed_front, placed_within}
 use Rattle.dexlayout.proofs.type_lists.place_lists.Goals as goal
 use Rattle.dexlayout.proofs.type_lists.place_lists.Goals.{After-round_up-off, After-len}

@@ -1,6 +1,6 @@
 use Rattle.std.proofs.Common.{◌≡◌, Some, map, take}
-use Rattle.dexlayout.specs.Running.{none_from, place_uses}
-use Rattle.dexlayout.specs.Sharing.{list_len}
+use Rattle.dexlayout.specs.internal.Running.{none_from, place_uses}
+use Rattle.dexlayout.specs.internal.Sharing.{list_len}
 use Rattle.dexlayout.proofs.type_lists.place_lists.Given as goal
 
 abbrev pub invariant-loop-i : goal.invariant-loop-i

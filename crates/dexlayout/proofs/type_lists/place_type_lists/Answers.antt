@@ -1,8 +1,8 @@
 use Rattle.std.proofs.Common.{◌≡◌, ◌^◌, ◌<◌, ◌≤◌, length, subst, sym, ap, ◌∙◌}
 use Rattle.std.specs.Prelude.{All, IfSome}
 use Rattle.dexlayout.specs.Laid.{AreTypeLists}
-use Rattle.dexlayout.specs.Running.{none_from}
-use Rattle.dexlayout.specs.Sharing.{list_len}
+use Rattle.dexlayout.specs.internal.Running.{none_from}
+use Rattle.dexlayout.specs.internal.Sharing.{list_len}
 use Rattle.dexlayout.proofs.SharedKinds.{lists_fit, lists_numbered, lists_laid}
 use Rattle.dexlayout.proofs.SharedPlaces.{placed, by_numbers}
 use Rattle.dexlayout.proofs.type_lists.place_type_lists.Goals as goal

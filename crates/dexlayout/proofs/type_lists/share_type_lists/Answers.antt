@@ -1,7 +1,7 @@
 use Rattle.std.proofs.Common.{[], map, subst}
 use Rattle.dexspec.specs.Placing.{unless_empty, type_list_uses}
 use Rattle.dexlayout.specs.Laid.{ordered_of}
-use Rattle.dexlayout.specs.SharedUses.{SharesLists}
+use Rattle.dexlayout.specs.internal.SharedUses.{SharesLists}
 use Rattle.dexlayout.proofs.SharedKinds.{list_uses_are, lists_shared}
 use Rattle.dexlayout.proofs.SharedUses.{shared_none, shared_kept, shared_known, on_answer, of_answer}
 use Rattle.dexlayout.proofs.type_lists.share_type_lists.Goals as goal

@@ -1,5 +1,5 @@
 use Rattle.std.specs.Prelude.{◌≡◌, ◌<◌, ℕ, All, IfSome, map, take}
-use Rattle.dexmembers.specs.Attaching.{EntriesRise, held_field}
+use Rattle.dexmembers.specs.internal.Attaching.{EntriesRise, held_field}
 use Rattle.dexmembers.proofs.attaching.attach_fields.Given as goal
 
 abbrev pub invariant-loop-field : goal.invariant-loop-field

@@ -1,7 +1,7 @@
 use Rattle.std.specs.Prelude.{◌≡◌, ◌<◌, ℕ, All, IfSome, length, take, drop}
 use Rattle.std.specs.Vec.Iter.{into_iter_items, into_iter_len}
 use Rattle.dexspec.specs.Lists.{zip_with}
-use Rattle.dexmembers.specs.Attaching.{EntriesRise, held_method}
+use Rattle.dexmembers.specs.internal.Attaching.{EntriesRise, held_method}
 use Rattle.dexmembers.proofs.attaching.attach_methods.Given as goal
 
 abbrev pub invariant-loop-method : goal.invariant-loop-method

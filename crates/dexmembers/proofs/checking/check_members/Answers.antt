@@ -1,7 +1,7 @@
 use Rattle.std.proofs.Common.{◌∙◌, ℕ, List, sym, subst, arith}
 use Rattle.dexpool.specs.Numberings.{AreRising}
-use Rattle.dexmembers.specs.MethodCodes.{IsCodesFault}
-use Rattle.dexmembers.specs.StaticValues.{IsValuesFault}
+use Rattle.dexmembers.specs.internal.MethodCodes.{IsCodesFault}
+use Rattle.dexmembers.specs.internal.StaticValues.{IsValuesFault}
 use Rattle.dexmembers.specs.Checking.{HaveCodesOf, HasValuesOf}
 use Rattle.dexmembers.specs.declared.class_data.EncodedMethod.{EncodedMethod}
 use Rattle.dexmembers.proofs.Judged.{data_refused, direct_refused, virtual_refused}

@@ -4,7 +4,7 @@ use Rattle.std.proofs.lemmas.List.{take_more}
 use Rattle.dexpool.specs.Numberings.{AreRising}
 use Rattle.dexcode.specs.Numbered.{NumberedItem}
 use Rattle.dexmembers.specs.declared.class_data.EncodedMethod.{EncodedMethod}
-use Rattle.dexmembers.specs.MethodCodes.{AreHeavyCodes, HaveCodes}
+use Rattle.dexmembers.specs.internal.MethodCodes.{AreHeavyCodes, HaveCodes}
 use Rattle.dexmembers.specs.Weighing.{codes_weight}
 use Rattle.dexmembers.proofs.CodesApart.{codes_append}
 use Rattle.dexmembers.proofs.CodesOfMethods.{HaveReadCodes, fault_among, fault_behind, heavy_read, one_more_read, split_here, rest_here}

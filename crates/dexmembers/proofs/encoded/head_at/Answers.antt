@@ -1,5 +1,5 @@
 use Rattle.std.proofs.Common.{◌+◌, Some, refl}
-use Rattle.dexmembers.specs.EncodedMembers.{HeadAt}
+use Rattle.dexmembers.specs.internal.EncodedMembers.{HeadAt}
 use Rattle.dexmembers.proofs.OneMember.{one_head, no_flags}
 use Rattle.dexmembers.proofs.Owned.{ok_no_err}
 use Rattle.dexmembers.proofs.encoded.head_at.Goals as goal

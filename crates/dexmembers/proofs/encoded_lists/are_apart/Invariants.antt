@@ -1,5 +1,5 @@
 use Rattle.std.proofs.Common.{length, map, ◌+◌, ◌-◌}
-use Rattle.dexmembers.specs.EncodedMembers.{ArePassed}
+use Rattle.dexmembers.specs.internal.EncodedMembers.{ArePassed}
 use Rattle.dexmembers.proofs.encoded_lists.are_apart.Given as goal
 
 abbrev pub invariant-loop-i : goal.invariant-loop-i

@@ -1,5 +1,5 @@
 use Rattle.std.specs.Prelude.{◌≡◌}
-use Rattle.dexmembers.specs.EncodedMembers.{IsListRead, last_index}
+use Rattle.dexmembers.specs.internal.EncodedMembers.{IsListRead, last_index}
 use Rattle.std.specs.Prelude.{None}
 use Rattle.dexmembers.proofs.encoded_lists.read_list.Given as goal
 

@@ -1,5 +1,5 @@
 use Rattle.std.specs.Prelude.{◌++◌, map}
-use Rattle.dexmembers.specs.Naming.{NamesOnly}
+use Rattle.dexmembers.specs.internal.Naming.{NamesOnly}
 use Rattle.dexmembers.proofs.naming.names_members.Given as goal
 
 abbrev pub invariant-loop-i : goal.invariant-loop-i

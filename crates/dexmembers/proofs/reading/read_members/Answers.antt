@@ -4,7 +4,7 @@ use Rattle.dexpool.specs.Numberings.{AreRising}
 use Rattle.dexval.specs.Code.{value_of}
 use Rattle.dexval.specs.Numbered.{values_of_list}
 use Rattle.dexmembers.specs.Reading.{AreHeavyMembers, AreReadWithin}
-use Rattle.dexmembers.specs.RowParts.{ArePartsOf}
+use Rattle.dexmembers.specs.internal.RowParts.{ArePartsOf}
 use Rattle.dexmembers.specs.Contents.{contents_in}
 use Rattle.dexmembers.specs.Numbered.{NumberedMembers, AreKnownMembers, members_in}
 use Rattle.dexmembers.specs.Weighing.{codes_weight, codes_of}

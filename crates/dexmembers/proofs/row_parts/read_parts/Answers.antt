@@ -5,9 +5,9 @@ use Rattle.dexcode.specs.Numbered.{NumberedItem}
 use Rattle.dexval.specs.Code.{value_of}
 use Rattle.dexval.specs.Numbered.{NumberedValues, values_of_list}
 use Rattle.dexval.specs.declared.value.Value.{Value as ValueRead}
-use Rattle.dexmembers.specs.MethodCodes.{AreHeavyCodes, AreCodesOf, IsCodesFault}
-use Rattle.dexmembers.specs.RowParts.{AreAnnotationsOf, AreHeavyAnnotations}
-use Rattle.dexmembers.specs.StaticValues.{AreHeavyValues, AreValuesOf, IsValuesFault}
+use Rattle.dexmembers.specs.internal.MethodCodes.{AreHeavyCodes, AreCodesOf, IsCodesFault}
+use Rattle.dexmembers.specs.internal.RowParts.{AreAnnotationsOf, AreHeavyAnnotations}
+use Rattle.dexmembers.specs.internal.StaticValues.{AreHeavyValues, AreValuesOf, IsValuesFault}
 use Rattle.dexmembers.specs.declared.class_data.EncodedMethod.{EncodedMethod}
 use Rattle.dexmembers.proofs.Judged.{direct_refused, virtual_refused}
 use Rattle.dexmembers.proofs.RowStands.{annotations_refused, values_refused, any_directory, any_codes, any_values, annotations_heavy, direct_heavy, virtual_heavy, values_heavy, codes_here, values_here, none_kept}

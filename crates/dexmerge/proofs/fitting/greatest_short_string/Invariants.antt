@@ -1,5 +1,5 @@
 use Rattle.std.specs.Prelude.{take}
-use Rattle.dexmerge.specs.Amounts.{short_numbers}
+use Rattle.dexmerge.specs.internal.Amounts.{short_numbers}
 use Rattle.dexmerge.specs.Candidates.{classes_of}
 use Rattle.dexmerge.specs.Counting.{Decides}
 use Rattle.dexmerge.proofs.fitting.greatest_short_string.Given as goal

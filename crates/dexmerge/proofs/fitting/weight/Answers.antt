@@ -1,5 +1,5 @@
 use Rattle.std.proofs.Common.{◌≡◌, ◌+◌, ◌∙◌, ℕ, min, take, sym, ap, subst, arith}
-use Rattle.dexmerge.specs.Amounts.{weight_over}
+use Rattle.dexmerge.specs.internal.Amounts.{weight_over}
 use Rattle.dexspec.specs.Weight.{body_weight}
 use Rattle.dexclass.specs.Numbered.{NumberedClass, definition_of}
 use Rattle.dexmerge.specs.Candidates.{IsOfPart, classes_of, class_at}

@@ -1,6 +1,6 @@
 use Rattle.std.specs.Prelude.{◌≡◌, ◌-◌, ◌^◌, min, take}
 use Rattle.dexmerge.specs.Candidates.{classes_of}
-use Rattle.dexmerge.specs.Amounts.{weight_over}
+use Rattle.dexmerge.specs.internal.Amounts.{weight_over}
 use Rattle.dexmerge.proofs.fitting.weight.Given as goal
 
 abbrev pub invariant-loop-i : goal.invariant-loop-i

@@ -3,7 +3,7 @@ use Rattle.std.specs.List.{flat_map}
 use Rattle.std.proofs.lemmas.Grind.{flat_map-append}
 use Rattle.dexspec.specs.Classes.{Definition}
 use Rattle.dexspec.specs.Files.{Collection, definitions}
-use Rattle.dexmerge.specs.Gathering.{ArePartsOf, AreGathered}
+use Rattle.dexmerge.specs.internal.Gathering.{ArePartsOf, AreGathered}
 use Rattle.dexmerge.proofs.Gathered.{owned_parts, file_parts, one_of_each}
 use Rattle.dexmerge.proofs.gathering.gather.Goals as goal
 

@@ -2,7 +2,7 @@ use Rattle.std.proofs.Common.{List, map, sym, subst}
 use Rattle.std.specs.List.{flat_map}
 use Rattle.dexspec.specs.Classes.{Definition}
 use Rattle.dexspec.specs.Files.{Collection, definitions}
-use Rattle.dexmerge.specs.Unions.{AreCopies}
+use Rattle.dexmerge.specs.internal.Unions.{AreCopies}
 use Rattle.dexmerge.proofs.MergeLaws.{are_copies}
 use Rattle.dexmerge.proofs.judging.judge.Goals as goal
 

@@ -3,7 +3,7 @@ use Rattle.dexspec.specs.Texts.{Text}
 use Rattle.dexspec.specs.Mentions.{Mentions}
 use Rattle.dexspec.specs.Merging.{IsFirstCause, Cycle}
 use Rattle.dexmerge.specs.Candidates.{classes_of}
-use Rattle.dexmerge.specs.Cycles.{AreKept, HaveDepths, IsFirstCycle}
+use Rattle.dexmerge.specs.internal.Cycles.{AreKept, HaveDepths, IsFirstCycle}
 use Rattle.dexmerge.proofs.MergeLaws.{once_cycle, once_cap, once_depths}
 use Rattle.dexmerge.proofs.judging.judge_once.Goals as goal
 

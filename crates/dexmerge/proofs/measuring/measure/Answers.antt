@@ -3,7 +3,7 @@ use Rattle.std.specs.List.{flat_map}
 use Rattle.dexspec.specs.Classes.{Definition}
 use Rattle.dexspec.specs.Files.{Collection, definitions}
 use Rattle.dexpool.specs.Numberings.{Maps}
-use Rattle.dexmerge.specs.Unions.{AreCopies, IsJoined}
+use Rattle.dexmerge.specs.internal.Unions.{AreCopies, IsJoined}
 use Rattle.dexmerge.proofs.MergeLaws.{are_copies}
 use Rattle.dexmerge.proofs.measuring.measure.Goals as goal
 

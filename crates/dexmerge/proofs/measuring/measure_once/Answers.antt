@@ -3,7 +3,7 @@ use Rattle.dexspec.specs.Texts.{Text}
 use Rattle.dexspec.specs.Mentions.{Mentions}
 use Rattle.dexspec.specs.Merging.{IsFirstCause, Cycle}
 use Rattle.dexmerge.specs.Candidates.{classes_of}
-use Rattle.dexmerge.specs.Cycles.{AreKept, IsFirstCycle}
+use Rattle.dexmerge.specs.internal.Cycles.{AreKept, IsFirstCycle}
 use Rattle.dexmerge.proofs.Counting.{once_counts}
 use Rattle.dexmerge.proofs.MergeLaws.{once_cycle}
 use Rattle.dexmerge.proofs.measuring.measure_once.Goals as goal

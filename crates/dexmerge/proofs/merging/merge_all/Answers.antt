@@ -4,8 +4,8 @@ use Rattle.dexspec.specs.Files.{Collection, definitions}
 use Rattle.dexspec.specs.Merging.{greatest_caps}
 use Rattle.dexclass.specs.Numbered.{definition_of}
 use Rattle.dexclass.specs.Parents.{AreDepthsByName}
-use Rattle.dexmerge.specs.Gathering.{AreOneOfEach}
-use Rattle.dexmerge.specs.Unions.{IsJudged}
+use Rattle.dexmerge.specs.internal.Gathering.{AreOneOfEach}
+use Rattle.dexmerge.specs.internal.Unions.{IsJudged}
 use Rattle.dexmerge.proofs.Gathered.{judged_greatest, are_mergeable, collection_is, depths_are}
 use Rattle.dexmerge.proofs.merging.merge_all.Goals as goal
 

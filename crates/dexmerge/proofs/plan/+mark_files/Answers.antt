@@ -3,7 +3,7 @@ use Rattle.std.proofs.lemmas.List.{take_all}
 use Rattle.dexspec.specs.Merging as merging
 use Rattle.dexmerge.specs.declared.plan.Plan.{Plan}
 use Rattle.dexmerge.specs.Plans.{plan_of, plans_of}
-use Rattle.dexmerge.specs.Judging.{IsMarkedBy, IsNoPlan}
+use Rattle.dexmerge.specs.internal.Judging.{IsMarkedBy, IsNoPlan}
 use Rattle.dexmerge.proofs.Marked.{ArePartsMarked, one_more_marked, all_marked, no_part}
 use Rattle.dexmerge.proofs.PlanForms.{node_is, part_member, parts_more}
 use Rattle.dexmerge.proofs.plan.+mark_files.Goals as goal

@@ -1,7 +1,7 @@
 use Rattle.std.proofs.Common.{◌≡◌, ◌∙◌, List, Bool, length, false, ap, subst, replicate}
 use Rattle.std.specs.Prelude.{ℕ, ◌<◌, MatchBool}
 use Rattle.dexmerge.specs.Plans.{plan_of}
-use Rattle.dexmerge.specs.Judging.{IsMarkedBy, IsNamed, HasUnnamed}
+use Rattle.dexmerge.specs.internal.Judging.{IsMarkedBy, IsNamed, HasUnnamed}
 use Rattle.dexmerge.proofs.PlanJudged.{judged_by}
 use Rattle.dexmerge.proofs.plan.is_plan_for.Goals as goal
 

@@ -14,7 +14,7 @@ use Rattle.dexmerge.specs.declared.plan.Plan.TheViews.{the_lemmas}
 use Rattle.dexmerge.specs.declared.faults.MergeFault.{MergeFault}
 use Rattle.dexmerge.specs.Plans.{plan_of, plans_of}
 use Rattle.dexmerge.specs.Faults.{Tells, planned}
-use Rattle.dexmerge.specs.Parts.{AreKnown, IsCauseOf, nodes_in, of_plans}
+use Rattle.dexmerge.specs.internal.Parts.{AreKnown, IsCauseOf, nodes_in, of_plans}
 use Rattle.dexmerge.proofs.PlanForms.{leaf_is, node_is, part_member, parts_more}
 use Rattle.dexmerge.proofs.PlannedLaws.{first_tells, part_tells, leaf_no_node, node_more, part_known}
 use Rattle.dexmerge.proofs.planned.+merge_parts.Goals as goal

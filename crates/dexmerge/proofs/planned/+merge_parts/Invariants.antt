@@ -2,7 +2,7 @@ use Rattle.std.specs.Prelude.{map, take}
 use Rattle.std.specs.List.{flat_map}
 use Rattle.dexspec.specs.Files.{definitions, AreSame}
 use Rattle.dexmerge.specs.Plans.{plan_of}
-use Rattle.dexmerge.specs.Parts.{nodes_in, of_plans}
+use Rattle.dexmerge.specs.internal.Parts.{nodes_in, of_plans}
 use Rattle.dexmerge.proofs.planned.+merge_parts.Given as goal
 
 abbrev pub invariant-loop-part : goal.invariant-loop-part

@@ -6,7 +6,7 @@ use Rattle.dexspec.specs.Files.{Collection, definitions, AreSame}
 use Rattle.dexspec.specs.Merging as merging
 use Rattle.dexmerge.specs.Plans.{plan_of, plans_of}
 use Rattle.dexmerge.specs.Faults.{planned}
-use Rattle.dexmerge.specs.Parts.{files_in, of_files}
+use Rattle.dexmerge.specs.internal.Parts.{files_in, of_files}
 use Rattle.dexmerge.proofs.PlannedLaws.{programs_same, merged_same, tells_same}
 use Rattle.dexmerge.proofs.planned.merge_node.Goals as goal
 

@@ -9,7 +9,7 @@ use Rattle.dexspec.specs.Merging as merging
 use Rattle.dexspec.specs.Merging.{leaves, all_leaves}
 use Rattle.dexspec.proofs.lists.Members.{Contains-first}
 use Rattle.dexmerge.specs.Plans.{plan_of, plans_of}
-use Rattle.dexmerge.specs.Parts.{files_in, of_files}
+use Rattle.dexmerge.specs.internal.Parts.{files_in, of_files}
 use Rattle.dexmerge.proofs.Marked.{part_leaves}
 use Rattle.dexmerge.proofs.PlanForms.{leaf_is, node_is, part_member, parts_more}
 use Rattle.dexmerge.proofs.PlannedLaws.{leaf_more, node_no_file, all_member}

@@ -2,7 +2,7 @@ use Rattle.std.specs.Prelude.{◌≡◌, ◌++◌, map, take}
 use Rattle.std.specs.List.{flat_map}
 use Rattle.dexspec.specs.Files.{definitions}
 use Rattle.dexmerge.specs.Plans.{plan_of}
-use Rattle.dexmerge.specs.Parts.{files_in, of_files}
+use Rattle.dexmerge.specs.internal.Parts.{files_in, of_files}
 use Rattle.dexmerge.proofs.planned.push_files.Given as goal
 
 abbrev pub invariant-loop-part : goal.invariant-loop-part

@@ -1,5 +1,5 @@
 use Rattle.std.proofs.Common.{◌≡◌, drop}
-use Rattle.dexpool.specs.Closing.{mark_all}
+use Rattle.dexpool.specs.internal.Closing.{mark_all}
 use Rattle.dexpool.proofs.closing.mark_numbers.Given as goal
 
 abbrev pub invariant-loop-i : goal.invariant-loop-i

@@ -2,8 +2,8 @@ use Rattle.std.proofs.Common.{length, map, sym, ◌∙◌, subst}
 use Rattle.dexspec.specs.Mentions.{Mentions}
 use Rattle.dexrows.specs.Join.{AreSorted}
 use Rattle.dexpool.specs.Tables.{text_of, proto_of, method_of, method_key}
-use Rattle.dexpool.specs.Renumbering.{moved_method, IsMethodWithin}
-use Rattle.dexpool.specs.Joining.{Moves, StandFor}
+use Rattle.dexpool.specs.internal.Renumbering.{moved_method, IsMethodWithin}
+use Rattle.dexpool.specs.internal.Joining.{Moves, StandFor}
 use Rattle.dexpool.proofs.Pairs.{zip_seen, within_other, zip_more, zip_all, all_pushed}
 use Rattle.dexpool.proofs.TypeLists.{if_ok_map}
 use Rattle.dexpool.proofs.Moved.{methods_movable, methods_stand}

@@ -2,8 +2,8 @@ use Rattle.std.proofs.Common.{map, take, length}
 use Rattle.std.specs.List.{All, AllZip}
 use Rattle.dexrows.specs.Join.{AreSorted}
 use Rattle.dexpool.specs.Tables.{method_of, method_key}
-use Rattle.dexpool.specs.Renumbering.{IsMethodWithin}
-use Rattle.dexpool.specs.Joining.{StandFor}
+use Rattle.dexpool.specs.internal.Renumbering.{IsMethodWithin}
+use Rattle.dexpool.specs.internal.Joining.{StandFor}
 use Rattle.dexpool.proofs.joined_tables.join_methods.Given as goal
 
 abbrev pub invariant-loop-i : goal.invariant-loop-i

@@ -2,8 +2,8 @@ use Rattle.std.proofs.Common.{ap, map, sym, ◌∙◌, subst, refl}
 use Rattle.std.specs.Prelude.{Result, Ok, Err, IfOk}
 use Rattle.std.specs.List.{All}
 use Rattle.dexrows.specs.Join.{AreSorted, IsJoin}
-use Rattle.dexpool.specs.Renumbering.{numbers_in, HasSpans}
-use Rattle.dexpool.specs.Joining.{proto_key}
+use Rattle.dexpool.specs.internal.Renumbering.{numbers_in, HasSpans}
+use Rattle.dexpool.specs.internal.Joining.{proto_key}
 use Rattle.dexpool.proofs.Pairs.{all_seen}
 use Rattle.dexpool.proofs.JoinedLevels.{protos_joined}
 use Rattle.dexpool.proofs.joined_tables.join_protos.Goals as goal

@@ -2,7 +2,7 @@ use Rattle.std.proofs.Common.{ℕ, List, map, sym, subst}
 use Rattle.dexspec.specs.Texts.{text_cmp}
 use Rattle.dexspec.specs.Symbols.{proto_cmp, field_cmp, method_cmp}
 use Rattle.dexspec.specs.Mentions.{Mentions}
-use Rattle.dexpool.specs.Joining.{AreJoinedProtos, AreJoinedMethods}
+use Rattle.dexpool.specs.internal.Joining.{AreJoinedProtos, AreJoinedMethods}
 use Rattle.dexpool.specs.Tables.{text_of, proto_of, field_of, method_of}
 use Rattle.dexpool.proofs.JoinedTables.{images_count, are_tables, are_union, all_lead, texts_keep, types_keep, protos_keep, fields_keep, methods_keep}
 use Rattle.dexpool.proofs.joined_tables.join_tables.Goals as goal

@@ -3,8 +3,8 @@ use Rattle.dexspec.specs.Mentions.{Mentions}
 use Rattle.dexrows.specs.Join.{AreSorted}
 use Rattle.dexrows.specs.declared.types.TypeRow.{TypeRow}
 use Rattle.dexpool.specs.Tables.{text_of}
-use Rattle.dexpool.specs.Renumbering.{moved_type}
-use Rattle.dexpool.specs.Joining.{Moves, StandFor}
+use Rattle.dexpool.specs.internal.Renumbering.{moved_type}
+use Rattle.dexpool.specs.internal.Joining.{Moves, StandFor}
 use Rattle.dexpool.proofs.Pairs.{zip_seen, within_other, zip_more, zip_all, all_pushed}
 use Rattle.dexpool.proofs.Moved.{types_movable, types_stand}
 use Rattle.dexpool.proofs.RowOrder.{types_sorted}

@@ -2,7 +2,7 @@ use Rattle.std.proofs.Common.{◌<◌, [], ◌∷◌, map, take, length}
 use Rattle.std.specs.List.{All, AllZip}
 use Rattle.dexrows.specs.Join.{AreSorted}
 use Rattle.dexpool.specs.Tables.{text_of}
-use Rattle.dexpool.specs.Joining.{StandFor}
+use Rattle.dexpool.specs.internal.Joining.{StandFor}
 use Rattle.dexpool.proofs.joined_tables.join_types.Given as goal
 
 abbrev pub invariant-loop-i : goal.invariant-loop-i

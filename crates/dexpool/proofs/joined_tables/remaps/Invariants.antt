@@ -1,5 +1,5 @@
 use Rattle.std.proofs.Common.{map, take}
-use Rattle.dexpool.specs.Joining.{AreMapsOf}
+use Rattle.dexpool.specs.internal.Joining.{AreMapsOf}
 use Rattle.dexpool.proofs.joined_tables.remaps.Given as goal
 
 abbrev pub invariant-loop-i : goal.invariant-loop-i

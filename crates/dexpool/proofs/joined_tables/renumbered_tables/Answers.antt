@@ -4,8 +4,8 @@ use Rattle.std.proofs.lemmas.List.Elements.{All-push}
 use Rattle.dexspec.specs.Mentions.{Mentions}
 use Rattle.dexrows.specs.Join.{AreSorted}
 use Rattle.dexpool.specs.Tables.{text_of}
-use Rattle.dexpool.specs.Renumbering.{moved_proto, numbers_in, HasSpans}
-use Rattle.dexpool.specs.Joining.{Moves, StandFor, proto_of_row, proto_key, IsRowOf}
+use Rattle.dexpool.specs.internal.Renumbering.{moved_proto, numbers_in, HasSpans}
+use Rattle.dexpool.specs.internal.Joining.{Moves, StandFor, proto_of_row, proto_key, IsRowOf}
 use Rattle.dexpool.proofs.Pairs.{zip_seen, within_other, zip_more, zip_all, all_pushed}
 use Rattle.dexpool.proofs.Moved.{protos_movable, protos_stand}
 use Rattle.dexpool.proofs.RowOrder.{protos_sorted}

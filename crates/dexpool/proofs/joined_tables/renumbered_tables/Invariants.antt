@@ -1,8 +1,8 @@
 use Rattle.std.proofs.Common.{map, take}
 use Rattle.std.specs.List.{All, AllZip}
 use Rattle.dexrows.specs.Join.{AreSorted}
-use Rattle.dexpool.specs.Renumbering.{numbers_in, HasSpans}
-use Rattle.dexpool.specs.Joining.{StandFor, proto_of_row, proto_key, IsRowOf}
+use Rattle.dexpool.specs.internal.Renumbering.{numbers_in, HasSpans}
+use Rattle.dexpool.specs.internal.Joining.{StandFor, proto_of_row, proto_key, IsRowOf}
 use Rattle.dexpool.proofs.joined_tables.renumbered_tables.Given as goal
 
 abbrev pub invariant-loop-i : goal.invariant-loop-i

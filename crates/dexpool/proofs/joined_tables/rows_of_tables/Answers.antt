@@ -1,6 +1,6 @@
 use Rattle.std.proofs.Common.{map, ap, ◌∙◌}
 use Rattle.std.proofs.lemmas.List.{take_all}
-use Rattle.dexpool.specs.Renumbering.{numbers_in}
+use Rattle.dexpool.specs.internal.Renumbering.{numbers_in}
 use Rattle.dexpool.proofs.Pairs.{seen_more}
 use Rattle.dexpool.proofs.joined_tables.rows_of_tables.Goals as goal
 

@@ -1,5 +1,5 @@
 use Rattle.std.proofs.Common.{◌≡◌, map, take}
-use Rattle.dexpool.specs.Renumbering.{numbers_in}
+use Rattle.dexpool.specs.internal.Renumbering.{numbers_in}
 use Rattle.dexpool.proofs.joined_tables.rows_of_tables.Given as goal
 
 abbrev pub invariant-loop-table : goal.invariant-loop-table

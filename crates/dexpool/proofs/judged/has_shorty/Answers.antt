@@ -1,7 +1,7 @@
 use Rattle.std.proofs.Common.{ℕ, List, sym, ap, subst, ◌∙◌}
 use Rattle.std.proofs.lemmas.Bool.{false≢true}
 use Rattle.dexpool.specs.Tables.{span_of}
-use Rattle.dexpool.specs.Judged.{IsSpelled}
+use Rattle.dexpool.specs.internal.Judged.{IsSpelled}
 use Rattle.dexpool.proofs.SpelledLists.{known_judged, spelled_judged, not_spelled, other_units}
 use Rattle.dexpool.proofs.judged.has_shorty.Goals as goal
 

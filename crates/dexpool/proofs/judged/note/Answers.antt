@@ -2,7 +2,7 @@ use Rattle.std.proofs.Common.{◌≡◌, ℕ, Some, sym, subst, ◌∙◌, inl, 
 use Rattle.std.proofs.lemmas.Bool.{cases_eq}
 use Rattle.std.specs.HashMap.{get}
 use Rattle.dexpool.specs.declared.judged.Judged.{Judged}
-use Rattle.dexpool.specs.Judged.{IsJudged}
+use Rattle.dexpool.specs.internal.Judged.{IsJudged}
 use Rattle.dexpool.proofs.judged.note.Goals as goal
 
 one_value : (j k : Judged) → Some j ≡ Some k → k ≡ j

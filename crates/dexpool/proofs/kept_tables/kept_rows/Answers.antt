@@ -5,8 +5,8 @@ use Rattle.dexrows.specs.Cut.{kept}
 use Rattle.dexpool.specs.declared.rows.ProtoEntry.{ProtoEntry}
 use Rattle.dexpool.specs.Numberings.{Maps}
 use Rattle.dexpool.specs.Reading.{HasSpan}
-use Rattle.dexpool.specs.Renumbering.{numbers_of, moved_proto, moved_field, moved_method}
-use Rattle.dexpool.specs.Closing.{number_or_none}
+use Rattle.dexpool.specs.internal.Renumbering.{numbers_of, moved_proto, moved_field, moved_method}
+use Rattle.dexpool.specs.internal.Closing.{number_or_none}
 use Rattle.dexpool.proofs.KeptTables.{numbers_count}
 use Rattle.dexpool.proofs.kept_tables.kept_rows.Goals as goal
 

@@ -1,6 +1,6 @@
 use Rattle.dexspec.specs.Rows.{HasProto}
 use Rattle.dexpool.specs.Reading.{ReadTo, ProtoStands, file_numbers}
-use Rattle.dexpool.specs.Judged.{AreJudged}
+use Rattle.dexpool.specs.internal.Judged.{AreJudged}
 use Rattle.dexpool.proofs.protos.read_protos.Given as goal
 
 abbrev pub invariant-loop-i : goal.invariant-loop-i

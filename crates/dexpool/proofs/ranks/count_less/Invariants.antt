@@ -1,6 +1,6 @@
 use Rattle.std.proofs.Common.{◌-◌, ◌≡◌, ◌<◌, ◌≤◌, ℕ, Bool, true, false}
 use Rattle.std.specs.Ordering.{is_lt}
-use Rattle.dexpool.specs.Ranking.{ComeFirst}
+use Rattle.dexpool.specs.internal.Ranking.{ComeFirst}
 use Rattle.dexpool.proofs.ranks.count_less.Given as goal
 
 abbrev pub invariant-loop-low : goal.invariant-loop-low

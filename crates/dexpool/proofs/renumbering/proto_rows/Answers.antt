@@ -1,6 +1,6 @@
 use Rattle.std.proofs.Common.{map, ap, ◌∙◌, subst, length, ◌≤◌}
 use Rattle.std.proofs.lemmas.List.{take_all}
-use Rattle.dexpool.specs.Renumbering.{numbers_of}
+use Rattle.dexpool.specs.internal.Renumbering.{numbers_of}
 use Rattle.dexpool.proofs.renumbering.proto_rows.Goals as goal
 
 pub returns : goal.returns

@@ -3,7 +3,7 @@ use Rattle.std.proofs.lemmas.List.{map_more}
 use Rattle.dexrows.specs.Numbers.{ProtoNumbers}
 use Rattle.dexpool.specs.declared.rows.ProtoEntry.{ProtoEntry}
 use Rattle.dexpool.specs.Tables.{proto_at}
-use Rattle.dexpool.specs.Renumbering.{moved_proto}
+use Rattle.dexpool.specs.internal.Renumbering.{moved_proto}
 use Rattle.dexpool.proofs.StoredProtos.{rows_more, spans_more}
 use Rattle.dexpool.proofs.renumbering.renumbered_protos.Goals as goal
 

@@ -1,7 +1,7 @@
 use Rattle.std.proofs.Common.{◌≡◌, map, take}
 use Rattle.std.specs.List.{All}
 use Rattle.dexpool.specs.Reading.{HasSpan}
-use Rattle.dexpool.specs.Renumbering.{numbers_of, moved_proto}
+use Rattle.dexpool.specs.internal.Renumbering.{numbers_of, moved_proto}
 use Rattle.dexpool.proofs.renumbering.renumbered_protos.Given as goal
 
 abbrev pub invariant-loop-entry : goal.invariant-loop-entry

@@ -1,5 +1,5 @@
 use Rattle.std.proofs.Common.{◌≡◌, map, take}
-use Rattle.dexpool.specs.Renumbering.{moved_type}
+use Rattle.dexpool.specs.internal.Renumbering.{moved_type}
 use Rattle.dexpool.proofs.renumbering.renumbered_types.Given as goal
 
 abbrev pub invariant-loop-n : goal.invariant-loop-n

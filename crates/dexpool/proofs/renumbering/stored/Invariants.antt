@@ -1,7 +1,7 @@
 use Rattle.std.proofs.Common.{◌≡◌, map, take}
 use Rattle.std.specs.List.{All}
 use Rattle.dexpool.specs.Reading.{HasSpan}
-use Rattle.dexpool.specs.Renumbering.{numbers_of}
+use Rattle.dexpool.specs.internal.Renumbering.{numbers_of}
 use Rattle.dexpool.proofs.renumbering.stored.Given as goal
 
 abbrev pub invariant-loop-proto : goal.invariant-loop-proto

@@ -1,7 +1,7 @@
 use Rattle.std.proofs.Common.{rules, subst}
 use Rattle.std.specs.List.{All}
 use Rattle.std.proofs.lemmas.List.{take_all}
-use Rattle.dexpool.specs.SharedLists.{Covers}
+use Rattle.dexpool.specs.internal.SharedLists.{Covers}
 use Rattle.dexpool.specs.declared.rows.ProtoEntry.{ProtoEntry}
 use Rattle.dexpool.proofs.SharedLists.{covers_more}
 use Rattle.dexpool.proofs.shared_lists.covering.Goals as goal

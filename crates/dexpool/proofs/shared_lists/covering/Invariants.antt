@@ -1,7 +1,7 @@
 use Rattle.std.proofs.Common.{ℕ, List, take}
 use Rattle.std.specs.List.{All}
 use Rattle.dexpool.specs.Reading.{HasSpan}
-use Rattle.dexpool.specs.SharedLists.{Covers}
+use Rattle.dexpool.specs.internal.SharedLists.{Covers}
 use Rattle.dexpool.proofs.shared_lists.covering.Given as goal
 
 abbrev pub invariant-loop-entry : goal.invariant-loop-entry

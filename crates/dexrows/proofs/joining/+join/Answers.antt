@@ -2,7 +2,7 @@ use Rattle.std.proofs.Common.{map, arith, sym, ap, ◌∙◌, subst}
 use Rattle.std.proofs.lemmas.List.{map-append}
 use Rattle.std.proofs.lemmas.Result.{IfOk-weaker}
 use Rattle.dexrows.specs.Join.{IsJoin}
-use Rattle.dexrows.specs.Merge.{IsJoinOfTwo}
+use Rattle.dexrows.specs.internal.Merge.{IsJoinOfTwo}
 use Rattle.dexrows.proofs.JoinedParts.{list_of_one, list_of_two, join_of_one, join_of_both}
 use Rattle.dexrows.proofs.joining.+join.Goals as goal
 

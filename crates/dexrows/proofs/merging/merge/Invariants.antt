@@ -1,5 +1,5 @@
 use Rattle.std.proofs.Common.{length, ◌+◌, ◌-◌, ◌≤◌}
-use Rattle.dexrows.specs.Merge.{IsMerging}
+use Rattle.dexrows.specs.internal.Merge.{IsMerging}
 use Rattle.dexrows.proofs.merging.merge.Given as goal
 
 abbrev pub invariant-loop-order : goal.invariant-loop-order

@@ -1,6 +1,6 @@
 use Rattle.std.proofs.Common.{◌≡◌, length}
 use Rattle.std.specs.Cmp.Lexicographic.{slice_cmp}
-use Rattle.dexstr.specs.Order.{byte_cmp}
+use Rattle.dexstr.specs.internal.Order.{byte_cmp}
 use Rattle.dexstr.proofs.order.after_common_groups.Given as goal
 
 abbrev pub invariant-loop-rests : goal.invariant-loop-rests

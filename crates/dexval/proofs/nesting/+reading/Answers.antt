@@ -2,7 +2,7 @@ use Rattle.std.proofs.Common.{◌≡◌, ◌∙◌, ◌+◌, ◌∷◌, ◌++◌
 use Rattle.std.proofs.lemmas.List.{map-append}
 use Rattle.dexval.specs.Code.{value_of, element_of}
 use Rattle.dexval.specs.Numbered.{NumberedValue, values_of_list, elements_of_list}
-use Rattle.dexval.specs.Scalars.{IsReadAt}
+use Rattle.dexval.specs.internal.Scalars.{IsReadAt}
 use Rattle.dexval.specs.Nesting.{IsElementReadAt}
 use Rattle.dexval.proofs.CodeForms.{array_is, annotation_is, element_is}
 use Rattle.dexval.proofs.NestedRead.{ok_no_err, nothing_behind, no_deep_array, no_deep_annotation, array_stands, no_array, annotation_stands, no_annotation, deeper}

@@ -2,7 +2,7 @@ use Rattle.std.proofs.Common.{◌≡◌, ◌≤◌, ◌∙◌, ℕ, length, arit
 use Rattle.std.specs.Prelude.{IfSome}
 use Rattle.std.specs.Int.{w8, w16, w32, w64}
 use Rattle.std.proofs.lemmas.Int.{ints}
-use Rattle.dexval.specs.Scalars.{width_of, Spells}
+use Rattle.dexval.specs.internal.Scalars.{width_of, Spells}
 use Rattle.dexval.proofs.CodeForms.{byte_is, short_is, int_is}
 use Rattle.dexval.proofs.Spelled.{fits_8, fits_16, fits_32}
 use Rattle.dexval.proofs.scalars.spelled.Goals as goal

@@ -1,6 +1,6 @@
 use Rattle.std.proofs.Common.{◌+◌, refl, sym, subst, arith}
 use Rattle.std.proofs.lemmas.Bool.{false≢true}
-use Rattle.dexclass.specs.Rows.{IsInterfaceIndex}
+use Rattle.dexclass.specs.internal.Rows.{IsInterfaceIndex}
 use Rattle.dexclass.proofs.Interfaces.{index_is, all_indices, index_of_all, interface_more}
 use Rattle.dexclass.proofs.judging.Judge.are_interfaces.Goals as goal
 

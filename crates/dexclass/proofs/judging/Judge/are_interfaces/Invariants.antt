@@ -1,6 +1,6 @@
 use Rattle.std.specs.Prelude.{◌+◌, ◌*◌, ◌<◌, ℕ}
 use Rattle.dexspec.specs.Bytes.{ushort_at}
-use Rattle.dexclass.specs.Rows.{AreDefinedMarks, IsInterfaceIndex}
+use Rattle.dexclass.specs.internal.Rows.{AreDefinedMarks, IsInterfaceIndex}
 use Rattle.dexclass.proofs.judging.Judge.are_interfaces.Given as goal
 
 abbrev pub invariant-loop-k : goal.invariant-loop-k

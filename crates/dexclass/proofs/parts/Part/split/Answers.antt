@@ -4,7 +4,7 @@ use Rattle.std.proofs.lemmas.List.{length-map, length-take}
 use Rattle.std.proofs.lemmas.List.Elements.{All-nil, All-push}
 use Rattle.dexspec.specs.Classes.{Definition}
 use Rattle.dexclass.specs.Numbered.{definition_of}
-use Rattle.dexclass.specs.Parts.{AreGoodClasses}
+use Rattle.dexclass.specs.internal.Parts.{AreGoodClasses}
 use Rattle.dexclass.proofs.PartsOf.{all_good, front_good, back_good, one_more_part}
 use Rattle.dexclass.proofs.parts.Part.split.Goals as goal
 

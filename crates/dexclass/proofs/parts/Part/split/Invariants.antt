@@ -2,7 +2,7 @@ use Rattle.std.specs.Prelude.{◌≡◌, ◌≤◌, ◌++◌, List, length, map,
 use Rattle.std.specs.List.{flat_map}
 use Rattle.dexspec.specs.Classes.{Definition}
 use Rattle.dexclass.specs.Numbered.{definition_of}
-use Rattle.dexclass.specs.Parts.{AreGoodClasses}
+use Rattle.dexclass.specs.internal.Parts.{AreGoodClasses}
 use Rattle.dexclass.proofs.parts.Part.split.Given as goal
 
 abbrev pub invariant-loop-alloc : goal.invariant-loop-alloc

@@ -8,7 +8,7 @@ use Rattle.dexspec.specs.Bytes.{ushort_at}
 use Rattle.dexspec.specs.Code.{most_handlers}
 use Rattle.dexcode.specs.declared.tries.Try.{Try}
 use Rattle.dexcode.specs.Numbered.{IsFormedHandler, no_handler, named, all_named, handlers_of, handlers_weight}
-use Rattle.dexcode.specs.NamedHandlers.{IsHandlerAt}
+use Rattle.dexcode.specs.internal.NamedHandlers.{IsHandlerAt}
 use Rattle.dexcode.proofs.HandlersRead.{fault_so}
 use Rattle.dexcode.proofs.Named.{names_more, none_named}
 use Rattle.dexcode.proofs.TryTables.{begins_within}

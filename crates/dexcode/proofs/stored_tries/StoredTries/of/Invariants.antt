@@ -1,6 +1,6 @@
 use Rattle.std.proofs.Common.{◌≡◌, ◌+◌, ◌*◌, List, take}
 use Rattle.dexcode.specs.Numbered.{NumberedHandler}
-use Rattle.dexcode.specs.NamedHandlers.{AreListed}
+use Rattle.dexcode.specs.internal.NamedHandlers.{AreListed}
 use Rattle.dexcode.proofs.Named.{NamedSoFar}
 use Rattle.dexcode.proofs.stored_tries.StoredTries.of.Given as goal
 

@@ -1,6 +1,6 @@
 use Rattle.std.proofs.Common.{◌≢◌, take, All}
-use Rattle.dexhead.specs.Map.{read}
-use Rattle.dexhead.specs.Found.{entries}
+use Rattle.dexhead.specs.internal.Map.{read}
+use Rattle.dexhead.specs.internal.Found.{entries}
 use Rattle.dexhead.proofs.map.Map.has.Given as goal
 
 -- none so far is the entry

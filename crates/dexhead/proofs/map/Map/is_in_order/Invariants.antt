@@ -1,6 +1,6 @@
 use Rattle.std.proofs.Common.{take}
-use Rattle.dexhead.specs.Map.{AreInOrder}
-use Rattle.dexhead.specs.Found.{entries}
+use Rattle.dexhead.specs.internal.Map.{AreInOrder}
+use Rattle.dexhead.specs.internal.Found.{entries}
 use Rattle.dexhead.proofs.map.Map.is_in_order.Given as goal
 
 -- the entries so far are in order

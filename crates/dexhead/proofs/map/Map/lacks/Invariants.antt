@@ -1,5 +1,5 @@
 use Rattle.std.proofs.Common.{◌≢◌, take, All}
-use Rattle.dexhead.specs.Found.{entries}
+use Rattle.dexhead.specs.internal.Found.{entries}
 use Rattle.dexhead.proofs.map.Map.lacks.Given as goal
 
 -- none so far is of the kind

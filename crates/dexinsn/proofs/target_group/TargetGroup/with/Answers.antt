@@ -3,7 +3,7 @@ use Rattle.std.specs.Prelude.{◌↔◌, bit_or}
 use lib.IntN.{nat_abs}
 use mir.Val.{SFits}
 use Rattle.std.proofs.lemmas.Int.{ints, to_z-of_z}
-use Rattle.dexinsn.specs.LongSwitches.{AllFrom}
+use Rattle.dexinsn.specs.internal.LongSwitches.{AllFrom}
 use Rattle.dexinsn.proofs.TargetGroups.{bit_stays, one_more}
 use Rattle.dexinsn.proofs.target_group.TargetGroup.with.Goals as goal
 

@@ -7,7 +7,7 @@ use Rattle.dexval.specs.Code.{set_of}
 use Rattle.dexval.specs.Numbered.{NumberedSet}
 use Rattle.dexval.specs.declared.set.AnnotationSet.{AnnotationSet}
 use Rattle.dexlayout.specs.Places.{ItemPlaces}
-use Rattle.dexlayout.specs.Parts.{count_placed}
+use Rattle.dexlayout.specs.internal.Parts.{count_placed}
 use Rattle.dexlayout.specs.Laid.{ordered_of}
 use Rattle.dexlayout.proofs.Ends.{end_in_file}
 use Rattle.dexlayout.proofs.OwnCounts.{few_items, counted}

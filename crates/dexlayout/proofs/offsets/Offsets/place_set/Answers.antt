@@ -2,7 +2,7 @@ use Rattle.std.proofs.Common.{◌≡◌, ◌+◌, ◌^◌, ◌≤◌, length, ma
 use Rattle.dexval.specs.Code.{annotation_of}
 use Rattle.dexval.specs.Numbered.{NumberedSet}
 use Rattle.dexval.specs.Spelled.{numbered_annotation_bytes}
-use Rattle.dexlayout.specs.Annotated.{annotation_lens, begin_set, lengthen, lengthen_all}
+use Rattle.dexlayout.specs.internal.Annotated.{annotation_lens, begin_set, lengthen, lengthen_all}
 use Rattle.dexlayout.specs.Places.{ItemPlaces}
 use Rattle.dexlayout.proofs.SetAnnotations.{lens_behind, next_annotation, annotation_within}
 use Rattle.dexlayout.proofs.offsets.Offsets.place_set.Goals as goal

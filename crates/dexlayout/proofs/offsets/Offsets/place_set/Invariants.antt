@@ -1,7 +1,7 @@
 use Rattle.std.proofs.Common.{◌≡◌, length, map, drop}
 use Rattle.dexval.specs.Code.{annotation_of, set_of}
 use Rattle.dexval.specs.Spelled.{numbered_annotation_bytes}
-use Rattle.dexlayout.specs.Annotated.{annotation_lens, lengthen_all, place_set}
+use Rattle.dexlayout.specs.internal.Annotated.{annotation_lens, lengthen_all, place_set}
 use Rattle.dexlayout.proofs.offsets.Offsets.place_set.Given as goal
 
 -- placing what is left gives the whole

@@ -2,7 +2,7 @@ use Rattle.std.proofs.Common.{◌≡◌, ℕ, List, length, take, drop, ap, ◌�
 use Rattle.std.proofs.lemmas.Result.{on_ok_weaker, IfOk-weaker}
 use Rattle.std.specs.List.{flat_map}
 use Rattle.dexmembers.specs.Numbered.{NumberedMembers, fields_of}
-use Rattle.dexlayout.specs.Gathering.{sets_of_method, sets_of_class}
+use Rattle.dexlayout.specs.internal.Gathering.{sets_of_method, sets_of_class}
 use Rattle.dexlayout.proofs.SetsGathered.{gathered_class, left_of_class}
 use Rattle.dexlayout.proofs.sets.Sets.gather_class.Goals as goal
 

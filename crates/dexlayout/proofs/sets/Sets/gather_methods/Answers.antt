@@ -2,7 +2,7 @@ use Rattle.std.proofs.Common.{◌≡◌, ℕ, ◌+◌, ◌<◌, List, length, ta
 use Rattle.std.proofs.lemmas.List.{length-drop, drop-drop}
 use Rattle.std.specs.List.{flat_map}
 use Rattle.dexval.specs.Numbered.{NumberedSet}
-use Rattle.dexlayout.specs.Gathering.{sets_of_method, parts_of_methods, gather_method, gather_methods}
+use Rattle.dexlayout.specs.internal.Gathering.{sets_of_method, parts_of_methods, gather_method, gather_methods}
 use Rattle.dexlayout.proofs.SetsGathered.{next_parts, next_count}
 use Rattle.dexlayout.proofs.sets.Sets.gather_methods.Goals as goal
 

@@ -1,6 +1,6 @@
 use Rattle.std.proofs.Common.{◌≡◌, ◌≤◌, length, drop}
 use Rattle.std.specs.List.{flat_map}
-use Rattle.dexlayout.specs.Gathering.{sets_of_method, parts_of_methods, gather_methods}
+use Rattle.dexlayout.specs.internal.Gathering.{sets_of_method, parts_of_methods, gather_methods}
 use Rattle.dexlayout.proofs.sets.Sets.gather_methods.Given as goal
 
 -- placing what is left gives the whole

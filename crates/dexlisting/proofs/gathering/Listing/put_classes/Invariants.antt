@@ -1,4 +1,4 @@
-use Rattle.dexlisting.specs.Going.{Works}
+use Rattle.dexlisting.specs.internal.Going.{Works}
 use Rattle.dexlisting.proofs.gathering.Listing.put_classes.Given as goal
 
 abbrev pub invariant-loop-class : goal.invariant-loop-class

@@ -1,4 +1,4 @@
-use Rattle.dexlisting.specs.Going.{Works}
+use Rattle.dexlisting.specs.internal.Going.{Works}
 use Rattle.dexlisting.proofs.gathering.Listing.put_proto.Given as goal
 
 abbrev pub invariant-loop-k : goal.invariant-loop-k

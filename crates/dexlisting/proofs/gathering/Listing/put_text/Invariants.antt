@@ -1,4 +1,4 @@
-use Rattle.dexlisting.specs.Going.{Works}
+use Rattle.dexlisting.specs.internal.Going.{Works}
 use Rattle.dexlisting.proofs.gathering.Listing.put_text.Given as goal
 
 abbrev pub invariant-loop-unit : goal.invariant-loop-unit

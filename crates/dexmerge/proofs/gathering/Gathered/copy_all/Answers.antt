@@ -4,7 +4,7 @@ use Rattle.std.proofs.lemmas.List.{take_all, take_more}
 use Rattle.dexspec.specs.Files.{definitions}
 use Rattle.dexspec.specs.Mentions.{mentions}
 use Rattle.dexclass.specs.Numbered.{NumberedClass, definition_of}
-use Rattle.dexmerge.specs.Gathering.{AreGathered}
+use Rattle.dexmerge.specs.internal.Gathering.{AreGathered}
 use Rattle.dexmerge.proofs.PartMembers.{class_known}
 use Rattle.dexmerge.proofs.Gathered.{class_stands, name_within, part_more, part_done}
 use Rattle.dexmerge.proofs.gathering.Gathered.copy_all.Goals as goal

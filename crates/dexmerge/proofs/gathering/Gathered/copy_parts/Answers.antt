@@ -2,7 +2,7 @@ use Rattle.std.proofs.Common.{◌≡◌, ◌<◌, ◌∙◌, ◌++◌, List, len
 use Rattle.std.specs.List.{flat_map}
 use Rattle.std.proofs.lemmas.List.{length-map, take_all}
 use Rattle.dexspec.specs.Files.{Collection, definitions}
-use Rattle.dexmerge.specs.Gathering.{AreGathered}
+use Rattle.dexmerge.specs.internal.Gathering.{AreGathered}
 use Rattle.dexmerge.proofs.PartMembers.{part_at}
 use Rattle.dexmerge.proofs.Gathered.{part_is, more_parts}
 use Rattle.dexmerge.proofs.gathering.Gathered.copy_parts.Goals as goal

@@ -1,6 +1,6 @@
 use Rattle.std.proofs.Common.{List, [], sym, subst}
 use Rattle.dexclass.specs.Numbered.{NumberedClass}
-use Rattle.dexmerge.specs.Gathering.{AreGathered}
+use Rattle.dexmerge.specs.internal.Gathering.{AreGathered}
 use Rattle.dexmerge.proofs.Gathered.{none_gathered}
 use Rattle.dexmerge.proofs.gathering.Gathered.none.Goals as goal
 

@@ -6,7 +6,7 @@ use Rattle.std.proofs.lemmas.Iterator.Consumers.{YieldsList-turn, YieldsList-end
 use Rattle.dexspec.specs.Files.{definitions}
 use Rattle.dexspec.specs.Mentions.{mentions}
 use Rattle.dexclass.specs.Numbered.{NumberedClass, definition_of}
-use Rattle.dexmerge.specs.Gathering.{AreGathered}
+use Rattle.dexmerge.specs.internal.Gathering.{AreGathered}
 use Rattle.dexmerge.proofs.PartMembers.{class_known}
 use Rattle.dexmerge.proofs.Gathered.{class_stands, name_within, part_more, part_done}
 use Rattle.dexmerge.proofs.gathering.Gathered.take_all.Goals as goal

@@ -3,7 +3,7 @@ use Rattle.dexspec.specs.Classes.{Definition}
 use Rattle.dexspec.specs.Files.{definitions}
 use Rattle.dexspec.specs.Mentions.{Mentions, mentions}
 use Rattle.dexclass.specs.Numbered.{definition_of}
-use Rattle.dexmerge.specs.Gathering.{IsPartOf, AreGathered}
+use Rattle.dexmerge.specs.internal.Gathering.{IsPartOf, AreGathered}
 use Rattle.dexmerge.proofs.gathering.Gathered.take_all.Given as goal
 
 abbrev pub invariant-loop-class : goal.invariant-loop-class

@@ -4,7 +4,7 @@ use Rattle.std.proofs.lemmas.List.{length-append, take_all}
 use Rattle.std.proofs.lemmas.Iterator.Adapters.{YieldsList-from_vec}
 use Rattle.std.proofs.lemmas.Iterator.Consumers.{YieldsList-turn, YieldsList-end}
 use Rattle.dexspec.specs.Files.{Collection, definitions}
-use Rattle.dexmerge.specs.Gathering.{AreGathered}
+use Rattle.dexmerge.specs.internal.Gathering.{AreGathered}
 use Rattle.dexmerge.proofs.Gathered.{part_is, more_parts}
 use Rattle.dexmerge.proofs.gathering.Gathered.take_parts.Goals as goal
 

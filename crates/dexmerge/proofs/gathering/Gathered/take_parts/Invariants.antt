@@ -3,7 +3,7 @@ use Rattle.std.specs.List.{flat_map}
 use Rattle.dexspec.specs.Classes.{Definition}
 use Rattle.dexspec.specs.Files.{definitions}
 use Rattle.dexspec.specs.Mentions.{Mentions}
-use Rattle.dexmerge.specs.Gathering.{ArePartsOf, AreGathered}
+use Rattle.dexmerge.specs.internal.Gathering.{ArePartsOf, AreGathered}
 use Rattle.dexmerge.proofs.gathering.Gathered.take_parts.Given as goal
 
 abbrev pub invariant-loop-part : goal.invariant-loop-part

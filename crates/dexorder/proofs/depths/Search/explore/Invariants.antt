@@ -1,5 +1,5 @@
 use Rattle.std.proofs.Common.{◌≡◌, true, false, slice_index_or}
-use Rattle.dexorder.specs.Searching.{IsSearch, AreStillSeen, work}
+use Rattle.dexorder.specs.internal.Searching.{IsSearch, AreStillSeen, work}
 use Rattle.dexorder.proofs.depths.Search.explore.Given as goal
 
 abbrev pub invariant-loop-visit : goal.invariant-loop-visit

@@ -1,5 +1,5 @@
 use Rattle.std.proofs.Common.{◌≡◌, ◌<◌, ℕ, [], true, false, slice_index_or}
-use Rattle.dexorder.specs.Searching.{IsSearch}
+use Rattle.dexorder.specs.internal.Searching.{IsSearch}
 use Rattle.dexorder.proofs.hierarchy.Hierarchy.depths.Given as goal
 
 abbrev pub invariant-loop-class : goal.invariant-loop-class

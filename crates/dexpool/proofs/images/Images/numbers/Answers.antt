@@ -1,5 +1,5 @@
 use Rattle.std.proofs.Common.{sym, ◌∙◌, ap, map}
-use Rattle.dexpool.specs.Closing.{number_or_none}
+use Rattle.dexpool.specs.internal.Closing.{number_or_none}
 use Rattle.dexpool.proofs.StoredImages.{all_stored}
 use Rattle.dexpool.proofs.images.Images.numbers.Goals as goal
 

@@ -2,7 +2,7 @@ use Rattle.std.proofs.Common.{◌∙◌, sym, ap, subst}
 use Rattle.dexspec.specs.Mentions.{Mentions, closed}
 use Rattle.dexpool.specs.Stored.{symbols_in}
 use Rattle.dexpool.specs.Numberings.{AreMarksOf, AllLead, Maps, marked}
-use Rattle.dexpool.specs.Closing.{kept_places}
+use Rattle.dexpool.specs.internal.Closing.{kept_places}
 use Rattle.dexpool.specs.Orderly.{LeadDown}
 use Rattle.dexpool.specs.Uses.{LeadsMarked}
 use Rattle.dexpool.proofs.KeptNumbers.{kept_down, kept_marked}

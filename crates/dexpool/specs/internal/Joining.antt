@@ -13,7 +13,7 @@ use Rattle.dexrows.specs.declared.methods.MethodRow.{MethodRow}
 use Rattle.dexpool.specs.declared.rows.ProtoEntry.{ProtoEntry}
 use Rattle.dexpool.specs.Tables.{text_of, type_of, span_of, proto_of, field_of, method_of}
 use Rattle.dexpool.specs.Numberings.{IsAt, Maps}
-use Rattle.dexpool.specs.Renumbering.{IsEntryWithin, IsFieldWithin, IsMethodWithin}
+use Rattle.dexpool.specs.internal.Renumbering.{IsEntryWithin, IsFieldWithin, IsMethodWithin}
 
 -- the image of each number is that of the same member
 pub record Moves {X : Type 0} (from to : List X) (image : List ℕ) : Type 0 where

@@ -8,7 +8,7 @@ use Rattle.dexspec.specs.Merging.{Caps, IsGood}
 use Rattle.dexpool.specs.Numberings.{AreRising, Maps}
 use Rattle.dexclass.specs.Renumbering.{LeadInto}
 use Rattle.dexmerge.specs.Candidates.{AreMembers, IsOfPart, classes_of}
-use Rattle.dexmerge.specs.Cycles.{AreKept}
+use Rattle.dexmerge.specs.internal.Cycles.{AreKept}
 use Rattle.dexmerge.specs.declared.candidates.Candidate.{Candidate}
 
 -- the candidates are classes of parts, and denote just these definitions, over the numbering of just what they mention

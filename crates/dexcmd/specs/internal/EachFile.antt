@@ -5,7 +5,7 @@ use Rattle.dexruns.specs.declared.faults.RunFault.TheVariants.{Input, Plan, Merg
 use Rattle.dexcmd.specs.declared.each_file.Task.{Task}
 use Rattle.dexcmd.specs.declared.each_file.Task.TheVariants.{Check, Digest}
 use Rattle.dexcmd.specs.declared.reports.Report.{Report}
-use Rattle.dexcmd.specs.Ran.{IsCheckRun, IsDigestRun}
+use Rattle.dexcmd.specs.internal.Ran.{IsCheckRun, IsDigestRun}
 use Rattle.dexcmd.specs.Reports.{standard_name, done, outcome_status, outcome_lines, IsReport}
 
 -- whether the next file is run over after a fault: for a check after a file that cannot be read, and for digests after a

@@ -13,10 +13,10 @@ use Rattle.dexval.specs.Numbered.{NumberedDirectory, NumberedValues, IsKnownDire
 use Rattle.dexval.specs.Directories.{directory_weight}
 use Rattle.dexval.specs.declared.directory.SharedDirectory.{SharedDirectory}
 use Rattle.dexmembers.specs.Numbered.{NumberedMembers}
-use Rattle.dexmembers.specs.ClassData.{class_data_in}
-use Rattle.dexmembers.specs.Attaching.{EntriesRise, field_with, method_with}
-use Rattle.dexmembers.specs.MethodCodes.{AreCodesOf}
-use Rattle.dexmembers.specs.StaticValues.{AreValuesOf}
+use Rattle.dexmembers.specs.internal.ClassData.{class_data_in}
+use Rattle.dexmembers.specs.internal.Attaching.{EntriesRise, field_with, method_with}
+use Rattle.dexmembers.specs.internal.MethodCodes.{AreCodesOf}
+use Rattle.dexmembers.specs.internal.StaticValues.{AreValuesOf}
 use Rattle.dexmembers.specs.declared.class_data.ClassData.{ClassData as DataRead}
 
 -- ---- annotations

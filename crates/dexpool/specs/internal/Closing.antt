@@ -11,7 +11,7 @@ use Rattle.dexpool.specs.declared.marks.Marks.{Marks}
 use Rattle.dexpool.specs.Tables.{span_of}
 use Rattle.dexpool.specs.Reading.{HasSpan}
 use Rattle.dexpool.specs.Numberings.{Maps}
-use Rattle.dexpool.specs.Renumbering.{numbers_of, moved_proto, moved_field, moved_method}
+use Rattle.dexpool.specs.internal.Renumbering.{numbers_of, moved_proto, moved_field, moved_method}
 use Rattle.dexpool.specs.Stored.{symbols_in, AreTables}
 
 -- ---- marks

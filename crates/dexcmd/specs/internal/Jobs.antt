@@ -8,9 +8,9 @@ use Rattle.dexruns.specs.Fans.{IsFanPlan}
 use Rattle.dexargs.specs.declared.words.Job.{Job}
 use Rattle.dexargs.specs.declared.words.Job.TheVariants.{Check, Dump, Normalise, Merge, KeepChecking, Digest, Count, Repair}
 use Rattle.dexcmd.specs.declared.reports.Report.{Report}
-use Rattle.dexcmd.specs.EachFile.{HasRunOverEach}
+use Rattle.dexcmd.specs.internal.EachFile.{HasRunOverEach}
 use Rattle.dexcmd.specs.declared.each_file.Task.TheVariants as each
-use Rattle.dexcmd.specs.Ran.{IsCheckRun, IsDumpRun, IsNormaliseRun, IsMergeRun, IsRepairRun, IsCountRun}
+use Rattle.dexcmd.specs.internal.Ran.{IsCheckRun, IsDumpRun, IsNormaliseRun, IsMergeRun, IsRepairRun, IsCountRun}
 use Rattle.dexcmd.specs.Reports.{standard_name, done, outcome_status, outcome_lines, IsReport}
 
 -- the report of an outcome

@@ -18,7 +18,7 @@ use Rattle.dexval.specs.Numbered.{NumberedSet, set_in, type_at, IsKnownSet}
 use Rattle.dexmembers.specs.Numbered.{NumberedField, NumberedMethod, NumberedMembers}
 use Rattle.dexclass.specs.Numbered.{NumberedClass}
 use Rattle.dexlayout.specs.ListKeys.{same_numbers}
-use Rattle.dexlayout.specs.Sharing.{SharedTo}
+use Rattle.dexlayout.specs.internal.Sharing.{SharedTo}
 
 -- ---- type lists
 

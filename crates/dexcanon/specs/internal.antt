@@ -1,0 +1,6 @@
+-- Words of the contracts of private functions: no public contract reaches them.
+pub mod Annotations
+pub mod ClassRows
+pub mod Output
+pub mod Ready
+pub mod RefLists

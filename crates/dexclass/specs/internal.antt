@@ -1,0 +1,5 @@
+-- Words of the contracts of private functions: no public contract reaches them.
+pub mod Rows
+pub mod Reading
+pub mod Stripped
+pub mod Parts

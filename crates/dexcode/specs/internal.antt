@@ -1,0 +1,2 @@
+-- Words of the contracts of private functions: no public contract reaches them.
+pub mod NamedHandlers

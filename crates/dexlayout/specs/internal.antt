@@ -1,0 +1,9 @@
+-- Words of the contracts of private functions: no public contract reaches them.
+pub mod Annotated
+pub mod Directories
+pub mod Gathering
+pub mod Parts
+pub mod Running
+pub mod SharedUses
+pub mod Sharing
+pub mod Sizes

@@ -1,0 +1,8 @@
+-- Words of the contracts of private functions: no public contract reaches them.
+pub mod Attaching
+pub mod ClassData
+pub mod EncodedMembers
+pub mod MethodCodes
+pub mod Naming
+pub mod RowParts
+pub mod StaticValues

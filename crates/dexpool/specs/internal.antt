@@ -1,0 +1,8 @@
+-- Words of the contracts of private functions: no public contract reaches them.
+pub mod Kinds
+pub mod Ranking
+pub mod Renumbering
+pub mod Closing
+pub mod Joining
+pub mod Judged
+pub mod SharedLists

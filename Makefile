@@ -68,7 +68,7 @@ install: $(PROGRAM)
 	install -D -m 644 docs/completions/dexkit.fish $(DESTDIR)$(PREFIX)/share/fish/vendor_completions.d/dexkit.fish
 	install -d $(DESTDIR)$(PREFIX)/share/doc/dexkit
 	install -m 644 README.md CHANGELOG.md LICENSE NOTICE docs/FORMAT.md docs/PROMISES.md docs/RECIPES.md \
-		crates/dexvectors/data/rows/EXAMPLES.md $(DESTDIR)$(PREFIX)/share/doc/dexkit
+		crates/dextest_calls/data/rows/EXAMPLES.md $(DESTDIR)$(PREFIX)/share/doc/dexkit
 
 dist: $(PROGRAM)
 	@rm -rf dist/stage

@@ -22,7 +22,7 @@ use dexstr::Text;
 use fault::BenchFault;
 use merges::{bytes_of, merge_all, merged, programs, read_files, sums, write};
 use numberings::{dealt, join, read_pools, symbols, symbols_of};
-use pace::tell;
+use pace::report_pace;
 use sha1::Sha1;
 use std::alloc::{AllocError, Global};
 use std::io::Read;
@@ -50,8 +50,8 @@ fn open(bytes: &[u8]) -> u64 {
 }
 
 fn time_sums(rt: &(impl CpuClock + Print), bytes: &[u8]) -> io::Result<()> {
-    tell(rt, "SHA-1", bytes.len(), "MB/s", || digest(bytes))?;
-    tell(rt, "Adler-32", bytes.len(), "MB/s", || {
+    report_pace(rt, "SHA-1", bytes.len(), "MB/s", || digest(bytes))?;
+    report_pace(rt, "Adler-32", bytes.len(), "MB/s", || {
         u64::from(adler(bytes))
     })
 }
@@ -63,8 +63,8 @@ fn time_all_texts(
     texts: &[Text<'_>],
     len: usize,
 ) -> io::Result<()> {
-    tell(rt, "reading texts", len, "MB/s", || read_each(frame))?;
-    tell(rt, "comparing neighbours", len, "MB/s", || rising(texts))
+    report_pace(rt, "reading texts", len, "MB/s", || read_each(frame))?;
+    report_pace(rt, "comparing neighbours", len, "MB/s", || rising(texts))
 }
 
 fn time_texts(
@@ -89,7 +89,7 @@ fn time_join(
     let parts = dealt(alloc, numbering, parts)?;
     let lent: Vec<&Numbering<'_>> = parts.iter().collect(alloc)?;
     let things = symbols_of(&lent);
-    Ok(tell(rt, name, things, "million symbols/s", || {
+    Ok(report_pace(rt, name, things, "million symbols/s", || {
         join(alloc, &lent)
     })?)
 }
@@ -102,7 +102,7 @@ fn time_numbering(
     numbering: &Numbering<'_>,
 ) -> Result<(), BenchFault> {
     let things = symbols(numbering);
-    tell(rt, "reading pools", things, "million symbols/s", || {
+    report_pace(rt, "reading pools", things, "million symbols/s", || {
         read_pools(alloc, frame)
     })?;
     time_join(rt, alloc, "joining 2 numberings", numbering, 2)?;
@@ -127,7 +127,7 @@ fn time_frame(
     bytes: &[u8],
     frame: &Frame<'_>,
 ) -> Result<(), BenchFault> {
-    tell(rt, "Frame::open", bytes.len(), "MB/s", || open(bytes))?;
+    report_pace(rt, "Frame::open", bytes.len(), "MB/s", || open(bytes))?;
     time_texts(rt, alloc, frame)?;
     time_pools(rt, alloc, frame)
 }
@@ -153,16 +153,16 @@ fn time_merged(
     file: &[u8],
 ) -> io::Result<()> {
     let (all, len) = (bytes_of(files), file.len());
-    tell(rt, "reading the files", all, "MB/s", || {
+    report_pace(rt, "reading the files", all, "MB/s", || {
         read_files(alloc, files)
     })?;
-    tell(rt, "merging the files", all, "MB/s", || {
+    report_pace(rt, "merging the files", all, "MB/s", || {
         merge_all(alloc, parts)
     })?;
-    tell(rt, "writing the merged file", len, "MB/s", || {
+    report_pace(rt, "writing the merged file", len, "MB/s", || {
         write(alloc, program)
     })?;
-    tell(rt, "SHA-1 and Adler-32 of it", len, "MB/s", || sums(file))
+    report_pace(rt, "SHA-1 and Adler-32 of it", len, "MB/s", || sums(file))
 }
 
 // Merges the programs of the files in one join, and times the steps.

@@ -71,9 +71,9 @@ short_at f limit xs i x h lt is =
     subst (λ (y : List ℕ). length y ≤ limit) (get_or-map f xs i x (f x) lt ∙ ap f is) (h i (f x) (omega (arith, lt, length-map xs f)))
 
 -- what holds of all holds of the first, and of those after them
-pub all_front : {X : Type 0} (P : X → Type 0) (xs ys : List X) → All P (xs ++ ys) → All P xs
-all_front P [] ys h = All-nil P
-all_front P (x ∷ xs) ys h = All-cons P x xs (All-head P x (xs ++ ys) h) (all_front P xs ys (All-tail P x (xs ++ ys) h))
+pub all_prefix : {X : Type 0} (P : X → Type 0) (xs ys : List X) → All P (xs ++ ys) → All P xs
+all_prefix P [] ys h = All-nil P
+all_prefix P (x ∷ xs) ys h = All-cons P x xs (All-head P x (xs ++ ys) h) (all_prefix P xs ys (All-tail P x (xs ++ ys) h))
 
 pub all_back : {X : Type 0} (P : X → Type 0) (xs ys : List X) → All P (xs ++ ys) → All P ys
 all_back P [] ys h = h
@@ -82,12 +82,12 @@ all_back P (x ∷ xs) ys h = all_back P xs ys (All-tail P x (xs ++ ys) h)
 module _ {T : Type 0} {gives gives_prefix : List ℕ → T → T → Type 0} {has_failed : T → Bool} {limit : ℕ} {old new : Out T} {align from at : ℕ} {xs left : List (List ℕ)} (front rest : List (List ℕ))
     (h : Aligned gives gives_prefix has_failed limit old new align from xs at left) (e : left ≡ front ++ rest) where
   -- none of the next items is longer than the limit
-  front_short : AreWithin limit front
-  front_short = all_front (λ x. length x ≤ limit) front rest (subst (AreWithin limit) e h.short)
+  prefix_short : AreWithin limit front
+  prefix_short = all_prefix (λ x. length x ≤ limit) front rest (subst (AreWithin limit) e h.short)
 
   -- they end before the last
-  front_ends : end_from align at front ≤ end_from align from xs
-  front_ends = subst (λ n. end_from align at front ≤ n) (sym (end_append align at front rest) ∙ ap (end_from align at) (sym e) ∙ h.end_is) (end_from_le align (end_from align at front) rest)
+  prefix_ends : end_from align at front ≤ end_from align from xs
+  prefix_ends = subst (λ n. end_from align at front ≤ n) (sym (end_append align at front rest) ∙ ap (end_from align at) (sym e) ∙ h.end_is) (end_from_le align (end_from align at front) rest)
 
   -- they were added, and end at a place
   pub aligned_join : {next : Out T} (end : ℕ) → end ≡ end_from align at front → Adds gives gives_prefix has_failed limit new next (bytes_from align at front) → Aligned gives gives_prefix has_failed limit old next align from xs end rest
@@ -99,12 +99,12 @@ module _ {T : Type 0} {gives gives_prefix : List ℕ → T → T → Type 0} {ha
   })
 
 -- they fit where all do
-pub front_fit : {T : Type 0} {gives gives_prefix : List ℕ → T → T → Type 0} {has_failed : T → Bool} {limit : ℕ} {old new : Out T} {from at : ℕ} {xs left : List (List ℕ)} (front rest : List (List ℕ))
+pub prefix_fit : {T : Type 0} {gives gives_prefix : List ℕ → T → T → Type 0} {has_failed : T → Bool} {limit : ℕ} {old new : Out T} {from at : ℕ} {xs left : List (List ℕ)} (front rest : List (List ℕ))
     → Aligned gives gives_prefix has_failed limit old new 4 from xs at left → left ≡ front ++ rest → FitFrom limit from xs → FitFrom limit at front
-front_fit front rest h e fit = record { least = fit.least; within = front_short front rest h e; ends = omega (arith, front_ends front rest h e, fit.ends) }
+prefix_fit front rest h e fit = record { least = fit.least; within = prefix_short front rest h e; ends = omega (arith, prefix_ends front rest h e, fit.ends) }
 
 -- the next items, which are known to be added where they fit
 pub aligned_joined : {T : Type 0} {gives gives_prefix : List ℕ → T → T → Type 0} {has_failed : T → Bool} {limit : ℕ} {old new next : Out T} {from at : ℕ} {xs left : List (List ℕ)} (front rest : List (List ℕ))
     → Aligned gives gives_prefix has_failed limit old new 4 from xs at left → left ≡ front ++ rest → FitFrom limit from xs → (end : ℕ) → end ≡ end_from 4 at front
     → ((n : ℕ) → FitFrom n at front → Adds gives gives_prefix has_failed n new next (bytes_from 4 at front)) → Aligned gives gives_prefix has_failed limit old next 4 from xs end rest
-aligned_joined {limit = limit} front rest h e fit end is a = aligned_join front rest h e end is (a limit (front_fit front rest h e fit))
+aligned_joined {limit = limit} front rest h e fit end is a = aligned_join front rest h e end is (a limit (prefix_fit front rest h e fit))

@@ -33,7 +33,7 @@ module _ {T : Type 0} {gives gives_prefix : List ℕ → T → T → Type 0} {ha
       made = λ none. absurd (let never : false ≡ true = sym (ap is_some none) ∙ fault in cc);
       prefix = λ f is. more m x start a.target (h.prefix f is);
     };
-    tells = λ t. t;
+    reports = λ t. t;
     room = λ r. r;
   }
 
@@ -50,21 +50,21 @@ module _ {T : Type 0} {gives gives_prefix : List ℕ → T → T → Type 0} {ha
         };
         prefix = λ f is. absurd (let never : None ≡ Some f = sym (none_of a.fault fine) ∙ is in cc);
       };
-      tells = λ t. record { works = t.works; fails = t.fails };
+      reports = λ t. record { works = t.works; fails = t.fails };
       room = λ r. let enough : limit ≤ vec_capacity a.buffer = r.enough in record { least = r.least; enough = omega (arith, enough, larger); never = r.never };
     }
 
     -- the allocation for it failed
-    pub wanting : (w : Vec ℕ) (x : List ℕ) → ((y : List ℕ) (s t : T) → gives y s t → gives_prefix y s t) → ((y z : List ℕ) (s t : T) → gives_prefix y s t → gives_prefix (y ++ z) s t) → (HasRoom limit a → ⊥)
+    pub out_of_memory : (w : Vec ℕ) (x : List ℕ) → ((y : List ℕ) (s t : T) → gives y s t → gives_prefix y s t) → ((y z : List ℕ) (s t : T) → gives_prefix y s t → gives_prefix (y ++ z) s t) → (HasRoom limit a → ⊥)
         → Adds gives gives_prefix has_failed limit a (record { buffer = w; limit = a.limit; fault = Some Memory; target = a.target }) x
-    wanting w x whole more never = record {
+    out_of_memory w x whole more never = record {
       written = λ start m h. record {
         made = λ e. absurd cc;
         prefix = λ f is.
             let k = h.made (none_of a.fault fine) in
             subst (λ z. gives_prefix z start a.target) (sym (append_assoc k.gone a.buffer.items x) ∙ ap (λ z. z ++ x) k.joined) (more k.gone (a.buffer.items ++ x) start a.target (whole k.gone start a.target k.given));
       };
-      tells = λ t. record { works = λ e. absurd cc; fails = λ e. absurd cc };
+      reports = λ t. record { works = λ e. absurd cc; fails = λ e. absurd cc };
       room = λ r. absurd (never r);
     }
 
@@ -80,7 +80,7 @@ module _ {T : Type 0} {gives gives_prefix : List ℕ → T → T → Type 0} {ha
         };
         prefix = λ f is. absurd (let never : None ≡ Some f = sym (none_of a.fault fine) ∙ is in cc);
       };
-      tells = λ s. record { works = λ e. works; fails = λ e. absurd (let never : None ≡ Some Io = sym (none_of a.fault fine) ∙ e in cc) };
+      reports = λ s. record { works = λ e. works; fails = λ e. absurd (let never : None ≡ Some Io = sym (none_of a.fault fine) ∙ e in cc) };
       room = λ r. let enough : limit ≤ vec_capacity a.buffer = r.enough in record { least = r.least; enough = omega (arith, enough, larger); never = r.never };
     }
 
@@ -92,6 +92,6 @@ module _ {T : Type 0} {gives gives_prefix : List ℕ → T → T → Type 0} {ha
         made = λ e. absurd cc;
         prefix = λ f is. let k = h.made (none_of a.fault fine) in subst (λ z. gives_prefix z start t) (k.joined ∙ sym (append-nil m)) (after k.gone a.buffer.items start a.target t k.given given);
       };
-      tells = λ s. record { works = λ e. absurd cc; fails = λ e. fails };
+      reports = λ s. record { works = λ e. absurd cc; fails = λ e. fails };
       room = λ r. record { least = r.least; enough = r.enough; never = λ e. absurd cc };
     }

@@ -80,5 +80,5 @@ module _ (cs : List NumberedClass) (r : ℕ) (c : NumberedClass) (x : NumberedMe
   -- the direct ones come first
   pub direct_first : (ds vs : List NumberedMethod) → ds ≡ x.direct_methods → vs ≡ x.virtual_methods → class_methods (drop r cs) ≡ ds ++ (vs ++ class_methods (drop (r + 1) cs))
   direct_first ds vs de ve =
-      let behind = class_methods (drop (r + 1) cs) in
-      next_class ∙ (λ i. (sym de i ++ sym ve i) ++ behind) ∙ append_assoc ds vs behind
+      let following = class_methods (drop (r + 1) cs) in
+      next_class ∙ (λ i. (sym de i ++ sym ve i) ++ following) ∙ append_assoc ds vs following

@@ -20,10 +20,10 @@ use Rattle.dexspec.proofs.lists.Members.{Contains-nil, Contains-first, Contains-
 use Rattle.dexspec.proofs.layout.Sums.{length-sha1}
 use Rattle.dexhead.specs.declared.head.Head.{Head}
 use Rattle.dexhead.specs.Sums.{with_sums_set}
-use Rattle.dexhead.specs.Laid.{TellsLayout, behind_header}
+use Rattle.dexhead.specs.Laid.{StatesLayout, after_header}
 use Rattle.dexhead.specs.Written.{field_bytes, head_bytes}
 use Rattle.dexcanon.specs.Digests.{class_alone, class_digest, IsFileAlone}
-use Rattle.dexcanon.proofs.Told.{behind_signature}
+use Rattle.dexcanon.proofs.Reported.{after_signature}
 
 -- ---- signatures
 
@@ -36,15 +36,15 @@ signature_is rest =
     ap (take 20) (drop-append-add magic (uint n ++ body) 4 ∙ drop_at (uint n) body 4 (length-uint n)) ∙ take_at (sha1 rest) rest 20 (length-sha1 rest)
 
 -- the digest of the bytes after the signature of the file is that signature
-pub signed_is : (l : Head) (K : Ordered) → length l.signature ≡ 20 → TellsLayout l K
+pub signed_is : (l : Head) (K : Ordered) → length l.signature ≡ 20 → StatesLayout l K
     → ((k : Head) (rest : List ℕ) → length k.signature ≡ 20 → with_sums_set (head_bytes k ++ rest) ≡ with_sums (field_bytes k ++ rest))
-    → ((k : Head) (O : Ordered) → length k.signature ≡ 20 → TellsLayout k O → with_sums_set (head_bytes k ++ behind_header O) ≡ with_sums (unsigned_file O))
-    → (signature : List ℕ) → signature ≡ sha1 (drop 32 (head_bytes l) ++ behind_header K) → signature ≡ take 20 (drop 12 (with_sums (unsigned_file K)))
-signed_is l K twenty tells set law signature e =
-    let rest = behind_header K in
-    e ∙ ap (λ z. sha1 (z ++ rest)) (behind_signature l twenty)
+    → ((k : Head) (O : Ordered) → length k.signature ≡ 20 → StatesLayout k O → with_sums_set (head_bytes k ++ after_header O) ≡ with_sums (unsigned_file O))
+    → (signature : List ℕ) → signature ≡ sha1 (drop 32 (head_bytes l) ++ after_header K) → signature ≡ take 20 (drop 12 (with_sums (unsigned_file K)))
+signed_is l K twenty reports set law signature e =
+    let rest = after_header K in
+    e ∙ ap (λ z. sha1 (z ++ rest)) (after_signature l twenty)
     ∙ sym (signature_is (field_bytes l ++ rest))
-    ∙ ap (λ z. take 20 (drop 12 z)) (sym (set l rest twenty) ∙ law l K twenty tells)
+    ∙ ap (λ z. take 20 (drop 12 z)) (sym (set l rest twenty) ∙ law l K twenty reports)
 
 -- ---- one class
 

@@ -57,14 +57,14 @@ module _ (cs : List NumberedClass) (i : ℕ) (c : NumberedClass) (x : NumberedMe
       ∷ class_directories (drop (i + 1) cs) (drop (i + 1) own) (drop (length (fields_of x)) fs) (drop (length (methods_of x)) ms) (drop (length (methods_of x)) ls)
   next_use own fs ms ls =
       let there : slice_index (drop i own) 0 ≡ slice_index own i = get_or-drop i own 0 0 ∙ ap (slice_index own) (omega arith) in
-      let behind : drop 1 (drop i own) ≡ drop (i + 1) own = drop-drop 1 i own in
+      let following : drop 1 (drop i own) ≡ drop (i + 1) own = drop-drop 1 i own in
       let step : NumberedMembers → ℕ → List ℕ → List (Option (List ℕ)) = λ y o os. directory_use y o (take (length (fields_of y)) fs) (take (length (methods_of y)) ms) (take (length (methods_of y)) ls)
       ∷ class_directories (drop (i + 1) cs) os (drop (length (fields_of y)) fs) (drop (length (methods_of y)) ms) (drop (length (methods_of y)) ls) in
-      ap (λ ds. class_directories ds (drop i own) fs ms ls) next_class ∙ (λ j. step (sym members j) (there j) (behind j))
+      ap (λ ds. class_directories ds (drop i own) fs ms ls) next_class ∙ (λ j. step (sym members j) (there j) (following j))
 
 module _ {T : Type 0} {gives gives_prefix : List ℕ → T → T → Type 0} {has_failed : T → Bool} {limit : ℕ} {old new : Out T} {from at i n k : ℕ} {cs : List NumberedClass} {own all_fields all_methods all_lists fs ms ls ffs fms fls ofs oms ols : List ℕ} (c : NumberedClass) (x : NumberedMembers)
     (h : Filing gives gives_prefix has_failed limit old new from cs own all_fields all_methods all_lists at i fs ms ls) (lt : i < length cs) (is : c ≡ get_or cs i c) (members : x ≡ c.members) (many_fields : n ≡ length (fields_of x)) (many_methods : k ≡ length (methods_of x))
-    (front_fields : ffs ≡ take n fs) (front_methods : fms ≡ take k ms) (front_lists : fls ≡ take k ls) (back_fields : ofs ≡ drop n fs) (back_methods : oms ≡ drop k ms) (back_lists : ols ≡ drop k ls) where
+    (prefix_fields : ffs ≡ take n fs) (prefix_methods : fms ≡ take k ms) (prefix_lists : fls ≡ take k ls) (back_fields : ofs ≡ drop n fs) (back_methods : oms ≡ drop k ms) (back_lists : ols ≡ drop k ls) where
   -- its bytes
   abbrev here : List ℕ
   here = numbered_directory_bytes x (slice_index own i) ffs fms fls
@@ -77,9 +77,9 @@ module _ {T : Type 0} {gives gives_prefix : List ℕ → T → T → Type 0} {ha
   left_is =
       let o = slice_index own i in
       let rest = class_directories (drop (i + 1) cs) (drop (i + 1) own) in
-      let ff = front_fields ∙ ap (λ z. take z fs) many_fields in
-      let fm = front_methods ∙ ap (λ z. take z ms) many_methods in
-      let fl = front_lists ∙ ap (λ z. take z ls) many_methods in
+      let ff = prefix_fields ∙ ap (λ z. take z fs) many_fields in
+      let fm = prefix_methods ∙ ap (λ z. take z ms) many_methods in
+      let fl = prefix_lists ∙ ap (λ z. take z ls) many_methods in
       let bf = back_fields ∙ ap (λ z. drop z fs) many_fields in
       let bm = back_methods ∙ ap (λ z. drop z ms) many_methods in
       let bl = back_lists ∙ ap (λ z. drop z ls) many_methods in
@@ -88,9 +88,9 @@ module _ {T : Type 0} {gives gives_prefix : List ℕ → T → T → Type 0} {ha
   -- there are enough offsets
   pub have_offsets : HaveOffsets x ffs fms fls
   have_offsets = record {
-    fields = omega (arith, ap (λ (os : List ℕ). length os) front_fields, length-take n fs, many_fields, h.enough_fields, fields_left cs i c x lt is members);
-    methods = omega (arith, ap (λ (os : List ℕ). length os) front_methods, length-take k ms, many_methods, h.enough_methods, methods_left cs i c x lt is members);
-    lists = omega (arith, ap (λ (os : List ℕ). length os) front_lists, length-take k ls, many_methods, h.enough_lists, methods_left cs i c x lt is members);
+    fields = omega (arith, ap (λ (os : List ℕ). length os) prefix_fields, length-take n fs, many_fields, h.enough_fields, fields_left cs i c x lt is members);
+    methods = omega (arith, ap (λ (os : List ℕ). length os) prefix_methods, length-take k ms, many_methods, h.enough_methods, methods_left cs i c x lt is members);
+    lists = omega (arith, ap (λ (os : List ℕ). length os) prefix_lists, length-take k ls, many_methods, h.enough_lists, methods_left cs i c x lt is members);
   }
 
   more_fields : length (class_fields (drop (i + 1) cs)) ≤ length ofs

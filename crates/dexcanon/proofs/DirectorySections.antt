@@ -27,7 +27,7 @@ use Rattle.dexcanon.specs.Codes.{class_methods}
 use Rattle.dexcanon.specs.Directories.{directory_use, class_directories, class_fields}
 use Rattle.dexcanon.specs.internal.Ready.{IsReady}
 use Rattle.dexcanon.proofs.RefListSections.{parts, use_offsets, length-use_offsets, set_offsets_are, class_count}
-use Rattle.dexcanon.proofs.SetSectionItems.{take_front, drop_front}
+use Rattle.dexcanon.proofs.SetSectionItems.{take_prefix, drop_prefix}
 
 -- ---- pairs
 
@@ -184,10 +184,10 @@ module _ (m : Mentions) where
       let lm = part_firsts c offs in
       let ll : length (take nm lists) ≡ nm = omega (arith, length-take nm lists, all_methods_count, many) in
       let nd : nm ≡ length (declared_methods d.1) = sym (methods_count c) in
-      let ff = take_front nf s.fields fs lf in
-      let fr = drop_front nf s.fields fs lf in
-      let mf = take_front nm (firsts s) ms lm in
-      let mr = drop_front nm (firsts s) ms lm in
+      let ff = take_prefix nf s.fields fs lf in
+      let fr = drop_prefix nf s.fields fs lf in
+      let mf = take_prefix nm (firsts s) ms lm in
+      let mr = drop_prefix nm (firsts s) ms lm in
       let here : directory_use c.members s.own (take nf (s.fields ++ fs)) (take nm (firsts s ++ ms)) (take nm lists) ≡ directory_bytes m d s (take (length (declared_methods d.1)) lists) =
       (λ i. directory_use c.members s.own (ff i) (mf i) (take nm lists))
       ∙ one_directory ranks c (All-head (IsKnownClass m) c cs known) s (take nm lists) lf (part_methods c offs) ll

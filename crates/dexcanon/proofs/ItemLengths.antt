@@ -6,7 +6,7 @@ use Rattle.dexspec.specs.Sections.{Section}
 use Rattle.dexspec.specs.Spellings.{offsets_bytes}
 use Rattle.dexspec.specs.Canonical.{map_bytes, map_entry_bytes}
 use Rattle.dexspec.proofs.numbers.ByteNumbers.{length-uint, length-ushort}
-use Rattle.dexspec.proofs.written.Stands.{length_rows}
+use Rattle.dexspec.proofs.written.PlacedBytes.{length_rows}
 use Rattle.dexhead.specs.declared.map_list.MapEntry.{MapEntry}
 use Rattle.dexhead.specs.Written.{entry_meant}
 use Rattle.std.proofs.lemmas.List.{length-append, length-map}

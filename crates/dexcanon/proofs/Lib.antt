@@ -16,13 +16,13 @@ pub mod RefListSections
 pub mod RefLists
 pub mod Rows
 pub mod RowsOfClasses
-pub mod Sealed
+pub mod HeaderSums
 pub mod SectionItems
 pub mod SetItems
 pub mod SetSectionItems
 pub mod SymbolRows
 pub mod Taken
-pub mod Told
+pub mod Reported
 pub mod TypeLists
 pub mod WholeBody
 pub mod WholeFile

@@ -11,8 +11,8 @@ piece_more old mid new bytes rest piece i k before left is after =
     written_more old mid new bytes rest i (length piece) before left (after ∙ ap (λ z. mid ++ z) own)
 
 -- a front of a piece is a front of the rest
-pub piece_front : (mid new rest piece : List ℕ) (k : ℕ) → piece ≡ take k rest → ((n : ℕ) × (new ≡ mid ++ take n piece)) → (n : ℕ) × (new ≡ mid ++ take n rest)
-piece_front mid new rest piece k is after =
+pub piece_prefix : (mid new rest piece : List ℕ) (k : ℕ) → piece ≡ take k rest → ((n : ℕ) × (new ≡ mid ++ take n piece)) → (n : ℕ) × (new ≡ mid ++ take n rest)
+piece_prefix mid new rest piece k is after =
     let whole : piece ++ drop k rest ≡ rest = ap (λ z. z ++ drop k rest) is ∙ take-append-drop k rest in
     let front = prefix_of after.0 piece (drop k rest) in
     (front.0, after.1 ∙ ap (λ z. mid ++ z) (sym front.1 ∙ ap (take front.0) whole))

@@ -22,7 +22,7 @@ use Rattle.dexcanon.specs.internal.Ready.{IsReady}
 use Rattle.dexcanon.specs.internal.RefLists.{class_parameter_counts, parameter_counts, ref_lists, total}
 use Rattle.dexcanon.specs.internal.Output.{FitFrom}
 use Rattle.dexcanon.proofs.SectionItems.{ref_lists_within, ref_lists_fit}
-use Rattle.dexcanon.proofs.SetSectionItems.{take_front, drop_front}
+use Rattle.dexcanon.proofs.SetSectionItems.{take_prefix, drop_prefix}
 
 -- ---- the sets of classes, class by class
 
@@ -74,8 +74,8 @@ cut_again : (ls : List (List ℕ)) → chunks (map (λ l. length l) ls) (flat_ma
 cut_again [] = refl
 cut_again (l ∷ ls) =
     let rest = flat_map (λ (l : List ℕ). l) ls in
-    let first = take_front (length l) l rest refl in
-    let others = ap (chunks (map (λ (l : List ℕ). length l) ls)) (drop_front (length l) l rest refl) ∙ cut_again ls in
+    let first = take_prefix (length l) l rest refl in
+    let others = ap (chunks (map (λ (l : List ℕ). length l) ls)) (drop_prefix (length l) l rest refl) ∙ cut_again ls in
     λ i. first i ∷ others i
 
 total_lengths : (ls : List (List ℕ)) → total (map (λ l. length l) ls) ≡ length (flat_map (λ l. l) ls)

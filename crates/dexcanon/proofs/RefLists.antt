@@ -11,7 +11,7 @@ use Rattle.dexclass.specs.Numbered.{NumberedClass}
 use Rattle.dexcanon.specs.declared.output.Out.{Out}
 use Rattle.dexcanon.specs.internal.Output.{Adds, AreWithin, FitFrom}
 use Rattle.dexcanon.specs.internal.RefLists.{parameter_counts, class_parameter_counts, total, ref_lists}
-use Rattle.dexcanon.proofs.Aligned.{Aligned, aligned_none, aligned_as, aligned_more, front_fit, aligned_joined}
+use Rattle.dexcanon.proofs.Aligned.{Aligned, aligned_none, aligned_as, aligned_more, prefix_fit, aligned_joined}
 
 -- ---- lists of offsets
 
@@ -51,12 +51,12 @@ total_append (m ∷ ms) ns = omega (arith, total_append ms ns)
 pub record Listing {T : Type 0} (gives gives_prefix : List ℕ → T → T → Type 0) (has_failed : T → Bool) (limit : ℕ) (old new : Out T) (from : ℕ) (ns offs : List ℕ) (at : ℕ) (left rest : List ℕ) : Type 0 where
   pub made : Aligned gives gives_prefix has_failed limit old new 4 from (ref_lists ns offs) at (ref_lists left rest)
   pub enough : total left ≤ length rest
-  pub behind : drop (total left) rest ≡ drop (total ns) offs
+  pub following : drop (total left) rest ≡ drop (total ns) offs
 
 module _ {T : Type 0} {gives gives_prefix : List ℕ → T → T → Type 0} {has_failed : T → Bool} {limit : ℕ} where
   -- at the start all are left
   pub listing_none : (old : Out T) (ns os : List ℕ) (o : ℕ) → 4 ≤ limit → AreWithin limit (ref_lists ns os) → total ns ≤ length os → Listing gives gives_prefix has_failed limit old old o ns os o ns os
-  listing_none old ns os o least within enough = record { made = aligned_none old 4 o (ref_lists ns os) least within; enough = enough; behind = refl }
+  listing_none old ns os o least within enough = record { made = aligned_none old 4 o (ref_lists ns os) least within; enough = enough; following = refl }
 
 module _ {T : Type 0} {gives gives_prefix : List ℕ → T → T → Type 0} {has_failed : T → Bool} {limit : ℕ} {old new : Out T} {from at : ℕ} {all offs left rest : List ℕ} where
   -- the next count
@@ -65,8 +65,8 @@ module _ {T : Type 0} {gives gives_prefix : List ℕ → T → T → Type 0} {ha
     enough_left : total ns ≤ length others
     enough_left = omega (arith, h.enough, ap total e, ap (λ (os : List ℕ). length os) back, length-drop n rest)
 
-    same_behind : drop (total ns) others ≡ drop (total all) offs
-    same_behind = ap (drop (total ns)) back ∙ drop_twice n (total ns) rest ∙ ap (λ ms. drop (total ms) rest) (sym e) ∙ h.behind
+    same_after : drop (total ns) others ≡ drop (total all) offs
+    same_after = ap (drop (total ns)) back ∙ drop_twice n (total ns) rest ∙ ap (λ ms. drop (total ms) rest) (sym e) ∙ h.following
 
     -- there are enough offsets for it
     pub enough_here : n ≤ length rest
@@ -81,11 +81,11 @@ module _ {T : Type 0} {gives gives_prefix : List ℕ → T → T → Type 0} {ha
 
     -- an empty one is skipped
     pub listing_skip : length list ≡ 0 → Listing gives gives_prefix has_failed limit old new from all offs at ns others
-    listing_skip none = record { made = aligned_as (ref_lists ns others) (skipped none) h.made; enough = enough_left; behind = same_behind }
+    listing_skip none = record { made = aligned_as (ref_lists ns others) (skipped none) h.made; enough = enough_left; following = same_after }
 
     -- it was added
     pub listing_more : {next : Out T} (end : ℕ) → 0 < length list → end ≡ round_up 4 at + length (offsets_bytes list) → ((n : ℕ) → 4 ≤ n → length (offsets_bytes list) ≤ n → Adds gives gives_prefix has_failed n new next (padding 4 at ++ offsets_bytes list)) → Listing gives gives_prefix has_failed limit old next from all offs end ns others
-    listing_more end some is a = record { made = aligned_more h.made (next_list some) end is a; enough = enough_left; behind = same_behind }
+    listing_more end some is a = record { made = aligned_more h.made (next_list some) end is a; enough = enough_left; following = same_after }
 
   -- the counts of the next methods
   module _ (ms ns : List ℕ) (h : Listing gives gives_prefix has_failed limit old new from all offs at left rest) (e : left ≡ ms ++ ns) where
@@ -95,7 +95,7 @@ module _ {T : Type 0} {gives gives_prefix : List ℕ → T → T → Type 0} {ha
 
     -- fit, and there are enough offsets for them
     pub lists_fit : FitFrom limit from (ref_lists all offs) → FitFrom limit at (ref_lists ms rest)
-    lists_fit fit = front_fit (ref_lists ms rest) (ref_lists ns (drop (total ms) rest)) h.made (next_lists (drop (total ms) rest) refl) fit
+    lists_fit fit = prefix_fit (ref_lists ms rest) (ref_lists ns (drop (total ms) rest)) h.made (next_lists (drop (total ms) rest) refl) fit
 
     pub lists_enough : total ms ≤ length rest
     lists_enough = omega (arith, h.enough, ap total e, total_append ms ns)
@@ -106,7 +106,7 @@ module _ {T : Type 0} {gives gives_prefix : List ℕ → T → T → Type 0} {ha
     listing_join fit end os is back a = record {
       made = aligned_joined (ref_lists ms rest) (ref_lists ns os) h.made (next_lists os back) fit end is a;
       enough = omega (arith, h.enough, ap total e, total_append ms ns, ap (λ (ks : List ℕ). length ks) back, length-drop (total ms) rest);
-      behind = ap (drop (total ns)) back ∙ drop_twice (total ms) (total ns) rest ∙ ap (λ k. drop k rest) (sym (ap total e ∙ total_append ms ns)) ∙ h.behind;
+      following = ap (drop (total ns)) back ∙ drop_twice (total ms) (total ns) rest ∙ ap (λ k. drop k rest) (sym (ap total e ∙ total_append ms ns)) ∙ h.following;
     }
 
 -- ---- methods and classes
@@ -121,7 +121,7 @@ method_counts n xs i x lt is e =
 pub class_counts : (cs : List NumberedClass) (i : ℕ) (c : NumberedClass) (x : NumberedMembers) (ds vs : List NumberedMethod) → i < length cs → c ≡ get_or cs i c → x ≡ c.members → ds ≡ x.direct_methods → vs ≡ x.virtual_methods
     → class_parameter_counts (drop i cs) ≡ parameter_counts ds ++ (parameter_counts vs ++ class_parameter_counts (drop (i + 1) cs))
 class_counts cs i c x ds vs lt is members de ve =
-    let behind = class_parameter_counts (drop (i + 1) cs) in
-    ap class_parameter_counts (drop_more cs i c lt ∙ ap (λ y. y ∷ drop (i + 1) cs) (sym is)) ∙ ap (λ y. parameter_counts (methods_of y) ++ behind) (sym members)
-    ∙ (λ k. parameter_counts (sym de k ++ sym ve k) ++ behind) ∙ ap (λ ns. ns ++ behind) (map-append (λ (y : NumberedMethod). length y.parameter_annotations) ds vs)
-    ∙ append_assoc (parameter_counts ds) (parameter_counts vs) behind
+    let following = class_parameter_counts (drop (i + 1) cs) in
+    ap class_parameter_counts (drop_more cs i c lt ∙ ap (λ y. y ∷ drop (i + 1) cs) (sym is)) ∙ ap (λ y. parameter_counts (methods_of y) ++ following) (sym members)
+    ∙ (λ k. parameter_counts (sym de k ++ sym ve k) ++ following) ∙ ap (λ ns. ns ++ following) (map-append (λ (y : NumberedMethod). length y.parameter_annotations) ds vs)
+    ∙ append_assoc (parameter_counts ds) (parameter_counts vs) following

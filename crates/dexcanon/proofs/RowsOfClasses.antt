@@ -11,13 +11,13 @@ use Rattle.dexspec.specs.Mentions.{Mentions}
 use Rattle.dexspec.specs.Spellings.{text_index, type_index}
 use Rattle.dexspec.specs.Canonical.{ClassOffsets, class_offsets, class_row_bytes}
 use Rattle.dexspec.proofs.layout.Placements.{length-zip}
-use Rattle.dexspec.proofs.layout.Laying.{get_or-zip}
+use Rattle.dexspec.proofs.layout.SectionPlaces.{get_or-zip}
 use Rattle.dexspec.proofs.numbers.ByteNumbers.{length-uint}
 use Rattle.dexpool.specs.Laws.{RanksAreNumbers}
 use Rattle.dexclass.specs.Numbered.{NumberedClass, definition_of, text_at, type_at}
 use Rattle.dexclass.specs.Uses.{IsKnownClass}
 use Rattle.dexcanon.specs.internal.ClassRows.{class_row, rows_with}
-use Rattle.dexcanon.proofs.Aligned.{all_front}
+use Rattle.dexcanon.proofs.Aligned.{all_prefix}
 use Rattle.dexcanon.proofs.OwnUses.{zip_with_at, length-zip_with}
 
 -- ---- numbers
@@ -36,7 +36,7 @@ module _ (m : Mentions) (c : NumberedClass) (h : IsKnownClass m c) where
   name_in = All-head (λ i. i < length m.types) c.name (option_to_list c.superclass ++ c.interfaces) h.types_in
 
   superclass_in : All (λ i. i < length m.types) (option_to_list c.superclass)
-  superclass_in = all_front (λ i. i < length m.types) (option_to_list c.superclass) c.interfaces (All-tail (λ i. i < length m.types) c.name (option_to_list c.superclass ++ c.interfaces) h.types_in)
+  superclass_in = all_prefix (λ i. i < length m.types) (option_to_list c.superclass) c.interfaces (All-tail (λ i. i < length m.types) c.name (option_to_list c.superclass ++ c.interfaces) h.types_in)
 
   pub name_small : length m.types < 2 ^ 32 → c.name < 2 ^ 32
   name_small lt = omega (arith, lt, name_in)

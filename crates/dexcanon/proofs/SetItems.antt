@@ -5,7 +5,7 @@ use Rattle.std.proofs.lemmas.List.{length-map, get_or-map, drop_all}
 use Rattle.dexspec.specs.Bytes.{round_up}
 use Rattle.dexspec.specs.Mentions.{Mentions}
 use Rattle.dexspec.specs.Spellings.{annotation_bytes, offsets_bytes}
-use Rattle.dexspec.proofs.layout.Laying.{get_or-zip_with}
+use Rattle.dexspec.proofs.layout.SectionPlaces.{get_or-zip_with}
 use Rattle.dexspec.proofs.layout.Placements.{length-zip_with}
 use Rattle.dexspec.proofs.layout.Places.{length-offsets_from}
 use Rattle.dexpool.specs.Numberings.{AreRising}

@@ -55,15 +55,15 @@ offsets_append from [] ys = refl
 offsets_append from (x ∷ xs) ys = ap (λ os. round_up 1 from ∷ os) (offsets_append (round_up 1 from + length x) xs ys)
 
 -- the first of what is joined, and the rest
-pub take_front : {X : Type 0} (n : ℕ) (xs ys : List X) → length xs ≡ n → take n (xs ++ ys) ≡ xs
-take_front n [] ys e = ap (λ k. take k ys) (sym e)
-take_front zero (x ∷ xs) ys e = absurd (omega (arith, e))
-take_front (suc n) (x ∷ xs) ys e = ap (λ l. x ∷ l) (take_front n xs ys (omega (arith, e)))
+pub take_prefix : {X : Type 0} (n : ℕ) (xs ys : List X) → length xs ≡ n → take n (xs ++ ys) ≡ xs
+take_prefix n [] ys e = ap (λ k. take k ys) (sym e)
+take_prefix zero (x ∷ xs) ys e = absurd (omega (arith, e))
+take_prefix (suc n) (x ∷ xs) ys e = ap (λ l. x ∷ l) (take_prefix n xs ys (omega (arith, e)))
 
-pub drop_front : {X : Type 0} (n : ℕ) (xs ys : List X) → length xs ≡ n → drop n (xs ++ ys) ≡ ys
-drop_front n [] ys e = ap (λ k. drop k ys) (sym e)
-drop_front zero (x ∷ xs) ys e = absurd (omega (arith, e))
-drop_front (suc n) (x ∷ xs) ys e = drop_front n xs ys (omega (arith, e))
+pub drop_prefix : {X : Type 0} (n : ℕ) (xs ys : List X) → length xs ≡ n → drop n (xs ++ ys) ≡ ys
+drop_prefix n [] ys e = ap (λ k. drop k ys) (sym e)
+drop_prefix zero (x ∷ xs) ys e = absurd (omega (arith, e))
+drop_prefix (suc n) (x ∷ xs) ys e = drop_prefix n xs ys (omega (arith, e))
 
 -- set by set
 pub rows_are : (m : Mentions) (from : ℕ) (ss : List AnnotationSet) → offsets_of_sets m (first_offsets m from ss) ss ≡ chunks (map (λ set. length set) ss) (offsets_from 1 from (map (annotation_bytes m) (flat_map (λ set. set) ss)))
@@ -76,9 +76,9 @@ rows_are m from (s ∷ ss) =
     let count : length own ≡ length s = length-offsets_from 1 from (map f s) ∙ length-map s f in
     let joined : offsets_from 1 from (map f (s ++ rest)) ≡ own ++ offsets_from 1 next (map f rest) =
     ap (offsets_from 1 from) (map-append f s rest) ∙ offsets_append from (map f s) (map f rest) ∙ ap (λ n. own ++ offsets_from 1 n (map f rest)) (plain_end f from s) in
-    let here : own ≡ take (length s) (offsets_from 1 from (map f (s ++ rest))) = sym (ap (take (length s)) joined ∙ take_front (length s) own (offsets_from 1 next (map f rest)) count) in
-    let behind : offsets_from 1 next (map f rest) ≡ drop (length s) (offsets_from 1 from (map f (s ++ rest))) = sym (ap (drop (length s)) joined ∙ drop_front (length s) own (offsets_from 1 next (map f rest)) count) in
-    let others : offsets_of_sets m (first_offsets m next ss) ss ≡ chunks (map (λ (set : AnnotationSet). length set) ss) (drop (length s) (offsets_from 1 from (map f (s ++ rest)))) = rows_are m next ss ∙ ap (chunks (map (λ (set : AnnotationSet). length set) ss)) behind in
+    let here : own ≡ take (length s) (offsets_from 1 from (map f (s ++ rest))) = sym (ap (take (length s)) joined ∙ take_prefix (length s) own (offsets_from 1 next (map f rest)) count) in
+    let following : offsets_from 1 next (map f rest) ≡ drop (length s) (offsets_from 1 from (map f (s ++ rest))) = sym (ap (drop (length s)) joined ∙ drop_prefix (length s) own (offsets_from 1 next (map f rest)) count) in
+    let others : offsets_of_sets m (first_offsets m next ss) ss ≡ chunks (map (λ (set : AnnotationSet). length set) ss) (drop (length s) (offsets_from 1 from (map f (s ++ rest)))) = rows_are m next ss ∙ ap (chunks (map (λ (set : AnnotationSet). length set) ss)) following in
     λ i. here i ∷ others i
 
 -- they begin before all end

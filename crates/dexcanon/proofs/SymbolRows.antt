@@ -9,11 +9,11 @@ use Rattle.dexspec.specs.Symbols.{Proto, Field, Method}
 use Rattle.dexspec.specs.Spellings.{text_index, type_index, proto_index}
 use Rattle.dexspec.specs.Canonical.{proto_row_bytes, field_row_bytes, method_row_bytes}
 use Rattle.dexspec.proofs.layout.Placements.{length-zip}
-use Rattle.dexspec.proofs.layout.Laying.{get_or-zip}
+use Rattle.dexspec.proofs.layout.SectionPlaces.{get_or-zip}
 use Rattle.dexrows.specs.Numbers.{ProtoNumbers}
 use Rattle.dexrows.specs.declared.fields.FieldRow.{FieldRow}
 use Rattle.dexrows.specs.declared.methods.MethodRow.{MethodRow}
-use Rattle.dexpool.specs.Numberings.{IsAt, StandsForProto, StandsForField, StandsForMethod}
+use Rattle.dexpool.specs.Numberings.{IsAt, DenotesProto, DenotesField, DenotesMethod}
 use Rattle.dexpool.specs.Laws.{RanksAreNumbers}
 use Rattle.dexcanon.proofs.Rows.{rows_next}
 
@@ -46,7 +46,7 @@ proto_row m p = proto_row_bytes m p.0 p.1
 
 -- the next row of protos
 pub next_proto : (m : Mentions) (offs : List ℕ) (i a b off : ℕ) (row : ProtoNumbers) (d : Proto) → RanksAreNumbers m → i < length m.protos → length offs ≡ length m.protos
-    → StandsForProto m row (get_or m.protos i d) → a ≡ row.shorty → b ≡ row.return_type → off ≡ get_or offs i off
+    → DenotesProto m row (get_or m.protos i d) → a ≡ row.shorty → b ≡ row.return_type → off ≡ get_or offs i off
     → flat_map (proto_row m) (drop i (zip m.protos offs)) ≡ flat_map uint (a ∷ b ∷ off ∷ []) ++ flat_map (proto_row m) (drop (i + 1) (zip m.protos offs))
 next_proto m offs i a b off row d ranks lt same h ea eb is =
     let p = get_or m.protos i d in
@@ -59,7 +59,7 @@ next_proto m offs i a b off row d ranks lt same h ea eb is =
     ∙ ap (λ z. (uint a ++ (uint b ++ z)) ++ rest) (sym (append-nil (uint off)))
 
 -- the next row of fields
-pub next_field : (m : Mentions) (i : ℕ) (row : FieldRow) (d : Field) → RanksAreNumbers m → i < length m.fields → StandsForField m row (get_or m.fields i d)
+pub next_field : (m : Mentions) (i : ℕ) (row : FieldRow) (d : Field) → RanksAreNumbers m → i < length m.fields → DenotesField m row (get_or m.fields i d)
     → flat_map (field_row_bytes m) (drop i m.fields) ≡ (ushort row.class ++ (ushort row.typ ++ uint row.name)) ++ flat_map (field_row_bytes m) (drop (i + 1) m.fields)
 next_field m i row d ranks lt h =
     let f = get_or m.fields i d in
@@ -71,7 +71,7 @@ next_field m i row d ranks lt h =
     ∙ ap (λ c. R row.class row.typ c) (text_number m row.name _ ranks h.name_is)
 
 -- the next row of methods
-pub next_method : (m : Mentions) (i : ℕ) (row : MethodRow) (d : Method) → RanksAreNumbers m → i < length m.methods → StandsForMethod m row (get_or m.methods i d)
+pub next_method : (m : Mentions) (i : ℕ) (row : MethodRow) (d : Method) → RanksAreNumbers m → i < length m.methods → DenotesMethod m row (get_or m.methods i d)
     → flat_map (method_row_bytes m) (drop i m.methods) ≡ (ushort row.class ++ (ushort row.proto ++ uint row.name)) ++ flat_map (method_row_bytes m) (drop (i + 1) m.methods)
 next_method m i row d ranks lt h =
     let x = get_or m.methods i d in

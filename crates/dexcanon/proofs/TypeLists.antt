@@ -8,7 +8,7 @@ use Rattle.dexspec.specs.Bytes.{ushort, uint}
 use Rattle.dexspec.specs.Mentions.{Mentions}
 use Rattle.dexspec.specs.Spellings.{type_index, type_list_bytes}
 use Rattle.dexspec.proofs.numbers.ByteNumbers.{length-uint, length-ushort}
-use Rattle.dexspec.proofs.written.Stands.{length_rows}
+use Rattle.dexspec.proofs.written.PlacedBytes.{length_rows}
 use Rattle.dexpool.specs.Laws.{RanksAreNumbers}
 use Rattle.dexcanon.specs.TypeLists.{types_at, list_bytes}
 

@@ -11,7 +11,7 @@ use Rattle.dexspec.specs.Canonical.{Layout, table_bytes, data_start, data_sectio
 use Rattle.dexspec.proofs.layout.Places.{length-padding, length-sections}
 use Rattle.dexspec.proofs.layout.Placements.{named_layout, layout_is, named_layout_full, sections_follow}
 use Rattle.dexspec.proofs.layout.Tables.{length-table_bytes}
-use Rattle.dexhead.specs.Laid.{map_list, behind_header}
+use Rattle.dexhead.specs.Laid.{map_list, after_header}
 use Rattle.dexclass.specs.Numbered.{NumberedClass}
 use Rattle.dexlayout.specs.Places.{Places}
 use Rattle.dexlayout.specs.Laid.{AreWritable, IsLaid, ordered_of, file_end, greatest_of, greatest_in, greatest_item}
@@ -34,10 +34,10 @@ greatest_in_short (p ∷ ps) =
     omega (arith, first, rest, length-append (section_bytes p) (flat_map section_bytes ps))
 
 -- what follows a header
-abbrev behind : Ordered → Layout → List ℕ → List ℕ
-behind K l m = table_bytes K l ++ (flat_map section_bytes l.sections ++ (padding 4 l.data_end ++ m))
+abbrev following : Ordered → Layout → List ℕ → List ℕ
+following K l m = table_bytes K l ++ (flat_map section_bytes l.sections ++ (padding 4 l.data_end ++ m))
 
-length_named : (K : Ordered) (m : List ℕ) → header_length + length (behind K (named_layout K) m) ≡ round_up 4 (directory_end K) + length m
+length_named : (K : Ordered) (m : List ℕ) → header_length + length (following K (named_layout K) m) ≡ round_up 4 (directory_end K) + length m
 length_named K m =
     let t = table_bytes K (named_layout K) in
     let s = flat_map section_bytes (data_sections K) in
@@ -45,10 +45,10 @@ length_named K m =
     omega (arith, length-append t (s ++ (p ++ m)), length-append s (p ++ m), length-append p m, length-table_bytes K (named_layout K) (named_layout_full K), length-sections (data_start K) (data_sections K) (directory_end K) (sections_follow K), length-padding 4 (directory_end K))
 
 -- the header and what follows it reach to the end of the file
-pub length_behind : (K : Ordered) → header_length + length (behind_header K) ≡ file_end K
-length_behind K =
+pub length_after : (K : Ordered) → header_length + length (after_header K) ≡ file_end K
+length_after K =
     let m = map_list K in
-    ap (λ (l : Layout). header_length + length (behind K l m)) (layout_is K) ∙ length_named K m ∙ ap (λ (l : Layout). round_up 4 l.data_end + length m) (sym (layout_is K))
+    ap (λ (l : Layout). header_length + length (following K l m)) (layout_is K) ∙ length_named K m ∙ ap (λ (l : Layout). round_up 4 l.data_end + length m) (sym (layout_is K))
 
 -- no item is longer than the file
 greatest_within : (K : Ordered) → greatest_item K ≤ file_end K
@@ -57,7 +57,7 @@ greatest_within K =
     let t = table_bytes K (named_layout K) in
     let s = flat_map section_bytes (data_sections K) in
     let p = padding 4 (directory_end K) in
-    let whole = sym (length_behind K) ∙ ap (λ (l : Layout). header_length + length (behind K l m)) (layout_is K) in
+    let whole = sym (length_after K) ∙ ap (λ (l : Layout). header_length + length (following K l m)) (layout_is K) in
     let items = greatest_in_short (data_sections K) in
     omega (arith, whole, items, length-append t (s ++ (p ++ m)), length-append s (p ++ m), length-append p m)
 
@@ -67,7 +67,7 @@ item_bounds {m} {cs} {p} laid =
     let K = ordered_of m cs in
     let is = laid.greatest_is in
     let within = greatest_within K in
-    let ends = laid.head_tells.file_ends in
+    let ends = laid.head_states.file_ends in
     (omega (arith, is), omega (arith, is, within, ends))
 
 -- the file can be made with such a limit
@@ -75,7 +75,7 @@ pub ready : {m M : Mentions} {cs : List NumberedClass} {p : Places} (limit : ℕ
 ready {m} {M} {cs} {p} limit same writable laid least most =
     let bounds = item_bounds laid in
     let fits = writable.fits in
-    let ends = laid.head_tells.file_ends in
+    let ends = laid.head_states.file_ends in
     subst (λ n. IsReady n cs p limit) (sym same) (record {
       writable = writable;
       laid = laid;

@@ -7,13 +7,13 @@ use Rattle.dexcanon.specs.internal.Output.{Adds, HasWritten}
 module _ {T : Type 0} {gives gives_prefix : List ℕ → T → T → Type 0} {has_failed : T → Bool} {limit : ℕ} where
   -- nothing was written
   pub adds_none : (a : Out T) → Adds gives gives_prefix has_failed limit a a []
-  adds_none a = record { written = λ start m h. subst (HasWritten gives gives_prefix start a) (sym (append-nil m)) h; tells = λ t. t; room = λ r. r }
+  adds_none a = record { written = λ start m h. subst (HasWritten gives gives_prefix start a) (sym (append-nil m)) h; reports = λ t. t; room = λ r. r }
 
   -- one after another
   pub adds_more : {a b c : Out T} {x y : List ℕ} → Adds gives gives_prefix has_failed limit a b x → Adds gives gives_prefix has_failed limit b c y → Adds gives gives_prefix has_failed limit a c (x ++ y)
   adds_more {c = c} {x = x} {y = y} h g = record {
     written = λ start m is. subst (HasWritten gives gives_prefix start c) (append_assoc m x y) (g.written start (m ++ x) (h.written start m is));
-    tells = λ t. g.tells (h.tells t);
+    reports = λ t. g.reports (h.reports t);
     room = λ r. g.room (h.room r);
   }
 

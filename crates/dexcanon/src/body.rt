@@ -3,7 +3,7 @@
 ghost use Rattle.std.specs.List.{flat_map};
 ghost use Rattle.dexspec.specs.Placing.{section_bytes};
 ghost use Rattle.dexspec.specs.Canonical.{data_sections, layout, table_bytes};
-ghost use Rattle.dexhead.specs.Laid.{behind_header};
+ghost use Rattle.dexhead.specs.Laid.{after_header};
 ghost use Rattle.dexcanon.specs.internal.Ready.{CanBeMade, ordered_in};
 ghost use Rattle.dexcanon.specs.internal.Output.{Adds};
 
@@ -56,7 +56,7 @@ fn put_data<T: Target>(contents: &Contents<'_, '_, '_, '_>, out: &mut Out<T>)
 /// All that follows the header: the rows of the tables, the sections of the data, and the map.
 pub(crate) fn put_body<T: Target>(contents: &Contents<'_, '_, '_, '_>, out: &mut Out<T>)
     requires { CanBeMade contents.now }
-    ensures { Adds T.gives T.gives_prefix T.has_failed contents.now.limit out.old out.new (behind_header (ordered_in contents.now)) }
+    ensures { Adds T.gives T.gives_prefix T.has_failed contents.now.limit out.old out.new (after_header (ordered_in contents.now)) }
 {
     put_tables(contents, out);
     put_data(contents, out);

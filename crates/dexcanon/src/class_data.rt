@@ -45,7 +45,7 @@ impl Item for ClassData<'_, '_, '_> {
 }
 
 // Whether a class declares neither fields nor methods.
-fn is_bare(class: &Class<'_>) -> bool
+fn has_no_members(class: &Class<'_>) -> bool
     ensures { (m : Mentions) → result ≡ is_empty_class (definition_of m class.now).1 }
 {
     let members = class.members();
@@ -65,7 +65,7 @@ pub(crate) fn put_class_data<T: Target>(contents: &Contents<'_, '_, '_, '_>, out
     for class in contents.classes {
         let (own, others) = rest.split_at(class.members().method_count());
         rest = others;
-        if is_bare(class) {
+        if has_no_members(class) {
             continue;
         }
         let item = ClassData {

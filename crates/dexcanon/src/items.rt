@@ -6,7 +6,7 @@ ghost use Rattle.dexspec.specs.Bytes.{ushort, uint};
 ghost use Rattle.dexspec.specs.Texts.{string_data};
 ghost use Rattle.dexspec.specs.Canonical.{map_bytes};
 ghost use Rattle.dexspec.specs.Spellings.{offsets_bytes};
-ghost use Rattle.dexspec.specs.Aside.Writing.{Puts};
+ghost use Rattle.dexspec.specs.internal.Writing.{Puts};
 ghost use Rattle.dexhead.specs.Written.{entry_meant};
 
 use dexhead::{MapEntry, MapList, push_u16, push_u32, put_u32};

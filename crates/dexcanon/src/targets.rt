@@ -70,9 +70,9 @@ pub(crate) struct Writer<'w, W> {
 impl<W: Sink> Target for Writer<'_, W> {
     ghost use Rattle.dexcanon.specs.Took.{Took, TookPrefix, took_nothing, took_both, took_whole, took_more, took_after};
 
-    ghost gives = { λ x a b. Took W.tells W.taken x a b };
+    ghost gives = { λ x a b. Took W.reports W.taken x a b };
 
-    ghost gives_prefix = { λ x a b. TookPrefix W.tells W.taken x a b };
+    ghost gives_prefix = { λ x a b. TookPrefix W.reports W.taken x a b };
 
     ghost has_failed = { λ w. W.has_failed w.sink.now };
 
@@ -83,15 +83,15 @@ impl<W: Sink> Target for Writer<'_, W> {
         write_whole(self.sink, bytes)
     }
 
-    ghost nothing = { λ a. took_nothing W.tells W.taken a };
+    ghost nothing = { λ a. took_nothing W.reports W.taken a };
 
-    ghost both = { λ x y a b c. took_both W.tells W.taken x y a b c };
+    ghost both = { λ x y a b c. took_both W.reports W.taken x y a b c };
 
-    ghost whole = { λ x a b. took_whole W.tells W.taken x a b };
+    ghost whole = { λ x a b. took_whole W.reports W.taken x a b };
 
-    ghost more = { λ x y a b. took_more W.tells W.taken x y a b };
+    ghost more = { λ x y a b. took_more W.reports W.taken x y a b };
 
-    ghost after = { λ x y a b c. took_after W.tells W.taken x y a b c };
+    ghost after = { λ x y a b c. took_after W.reports W.taken x y a b c };
 }
 
 /// No target: each write fails, and the bytes stay in their buffer.

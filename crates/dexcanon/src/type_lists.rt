@@ -8,7 +8,7 @@ ghost use Rattle.dexspec.specs.Bytes.{ushort};
 ghost use Rattle.dexspec.specs.Spellings.{type_list_bytes};
 ghost use Rattle.dexspec.specs.Placing.{section_bytes};
 ghost use Rattle.dexspec.specs.Canonical.{type_list_section};
-ghost use Rattle.dexspec.specs.Aside.Writing.{Puts};
+ghost use Rattle.dexspec.specs.internal.Writing.{Puts};
 ghost use Rattle.dexcanon.specs.internal.Ready.{CanBeMade, ordered_in};
 ghost use Rattle.dexcanon.specs.internal.Output.{Adds};
 ghost use Rattle.dexcanon.specs.TypeLists.{types_at, list_bytes, AreFewTypes};

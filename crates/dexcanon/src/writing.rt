@@ -6,7 +6,7 @@ ghost use Rattle.dexspec.specs.WellFormed.{AreWellFormed};
 ghost use Rattle.dexspec.specs.Merging.{IsGood, greatest_caps};
 ghost use Rattle.dexspec.specs.Accepted.{IsAccepted};
 ghost use Rattle.dexspec.specs.Canonical.{canonical, with_sums, unsigned_file};
-ghost use Rattle.dexhead.specs.Laid.{behind_header};
+ghost use Rattle.dexhead.specs.Laid.{after_header};
 ghost use Rattle.dexhead.specs.Written.{head_bytes};
 ghost use Rattle.dexcanon.specs.internal.Ready.{CanBeMade, ordered_in};
 ghost use Rattle.dexcanon.specs.internal.Output.{HasRoom};
@@ -88,8 +88,8 @@ pub fn write_to<W: Sink>(
     out: &mut W,
 ) -> Result<(), StoreFault>
     requires { W.has_failed out.old ≡ false }
-    ensures written { OnOk result (W.tells out.old → W.taken out.new ≡ W.taken out.old ++ canonical program.now) }
-    ensures left { IfErr result (HasLeft (W.tells out.old) out.old out.new W.taken (canonical program.now)) }
+    ensures written { OnOk result (W.reports out.old → W.taken out.new ≡ W.taken out.old ++ canonical program.now) }
+    ensures left { IfErr result (HasLeft (W.reports out.old) out.old out.new W.taken (canonical program.now)) }
     ensures device { IsErrOf result Io ↔ (W.has_failed out.new ≡ true) }
 {
     let layout = Layout::of(alloc, program)?;
@@ -105,8 +105,8 @@ fn write_contents<W: Sink>(
 ) -> Result<(), StoreFault>
     requires ready { CanBeMade contents.now }
     requires works { W.has_failed sink.old ≡ false }
-    ensures written { OnOk result (W.tells sink.old → W.taken sink.new ≡ W.taken sink.old ++ with_sums (unsigned_file (ordered_in contents.now))) }
-    ensures left { IfErr result (HasLeft (W.tells sink.old) sink.old sink.new W.taken (with_sums (unsigned_file (ordered_in contents.now)))) }
+    ensures written { OnOk result (W.reports sink.old → W.taken sink.new ≡ W.taken sink.old ++ with_sums (unsigned_file (ordered_in contents.now))) }
+    ensures left { IfErr result (HasLeft (W.reports sink.old) sink.old sink.new W.taken (with_sums (unsigned_file (ordered_in contents.now)))) }
     ensures device { IsErrOf result Io ↔ (W.has_failed sink.new ≡ true) }
 {
     if contents.layout.len() as usize <= PIECE {
@@ -115,7 +115,7 @@ fn write_contents<W: Sink>(
         return Ok(());
     }
     let buffer = Vec::with_capacity(alloc, contents.limit.max(PIECE))?;
-    let (head, mut buffer) = sealed_head(contents, buffer);
+    let (head, mut buffer) = head_with_sums(contents, buffer);
     put_head(&head, 0, &mut buffer);
     let mut out = Out {
         buffer,
@@ -143,8 +143,8 @@ fn write_through<W: Sink>(
     requires room { HasRoom contents.now.limit out.old }
     requires works { W.has_failed out.old.target.sink.now ≡ false }
     ensures same { out.new.target.sink.ghost_name ≡ out.old.target.sink.ghost_name }
-    ensures written { OnOk result (W.tells out.old.target.sink.now → W.taken out.new.target.sink.now ≡ W.taken out.old.target.sink.now ++ (out.old.buffer.items ++ behind_header (ordered_in contents.now))) }
-    ensures left { IfErr result (HasLeft (W.tells out.old.target.sink.now) out.old.target.sink.now out.new.target.sink.now W.taken (out.old.buffer.items ++ behind_header (ordered_in contents.now))) }
+    ensures written { OnOk result (W.reports out.old.target.sink.now → W.taken out.new.target.sink.now ≡ W.taken out.old.target.sink.now ++ (out.old.buffer.items ++ after_header (ordered_in contents.now))) }
+    ensures left { IfErr result (HasLeft (W.reports out.old.target.sink.now) out.old.target.sink.now out.new.target.sink.now W.taken (out.old.buffer.items ++ after_header (ordered_in contents.now))) }
     ensures device { IsErrOf result Io ↔ (W.has_failed out.new.target.sink.now ≡ true) }
 {
     write_body(contents, out);
@@ -152,11 +152,11 @@ fn write_through<W: Sink>(
 }
 
 // The header of a file with its two sums, for which the file is made in a buffer with room. The buffer is empty again.
-fn sealed_head(contents: &Contents<'_, '_, '_, '_>, mut buffer: Vec<u8>) -> (Head, Vec<u8>)
+fn head_with_sums(contents: &Contents<'_, '_, '_, '_>, mut buffer: Vec<u8>) -> (Head, Vec<u8>)
     requires ready { CanBeMade contents.now }
     requires room { contents.now.limit ≤ vec_capacity buffer }
     requires empty { vec_len buffer ≡ 0 }
-    ensures bytes { head_bytes result.0 ++ behind_header (ordered_in contents.now) ≡ with_sums (unsigned_file (ordered_in contents.now)) }
+    ensures bytes { head_bytes result.0 ++ after_header (ordered_in contents.now) ≡ with_sums (unsigned_file (ordered_in contents.now)) }
     ensures room { contents.now.limit ≤ vec_capacity result.1 }
     ensures empty { vec_len result.1 ≡ 0 }
 {

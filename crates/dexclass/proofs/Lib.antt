@@ -1,14 +1,14 @@
 pub mod Indices
 pub mod Interfaces
-pub mod Judged
+pub mod RowConditions
 pub mod RowClasses
 pub mod Marked
 pub mod OwnUses
 pub mod ClassSymbols
 pub mod Renumbered
-pub mod Alike
+pub mod EqualMapped
 pub mod Mentioned
-pub mod LedOn
+pub mod Remapped
 pub mod SameClasses
 pub mod Places
 pub mod Classed

@@ -98,29 +98,29 @@ module _ (m : Mentions) (marks : Marks) where
   abbrev pub methods_part : List Symbol
   methods_part = map MethodSymbol (kept marks.methods.items m.methods)
 
-  abbrev behind_protos : List Symbol
-  behind_protos = fields_part ++ methods_part
+  abbrev after_protos : List Symbol
+  after_protos = fields_part ++ methods_part
 
-  abbrev behind_types : List Symbol
-  behind_types = protos_part ++ behind_protos
+  abbrev after_types : List Symbol
+  after_types = protos_part ++ after_protos
 
-  abbrev behind_texts : List Symbol
-  behind_texts = types_part ++ behind_types
+  abbrev after_texts : List Symbol
+  after_texts = types_part ++ after_types
 
   -- each symbol of one of the five parts is marked
   in_types : (s : Symbol) → Contains types_part s → Contains (marked m marks) s
-  in_types s c = Contains-append_right texts_part behind_texts s (Contains-append_left types_part behind_types s c)
+  in_types s c = Contains-append_right texts_part after_texts s (Contains-append_left types_part after_types s c)
 
   in_protos : (s : Symbol) → Contains protos_part s → Contains (marked m marks) s
-  in_protos s c = Contains-append_right texts_part behind_texts s (Contains-append_right types_part behind_types s (Contains-append_left protos_part behind_protos s c))
+  in_protos s c = Contains-append_right texts_part after_texts s (Contains-append_right types_part after_types s (Contains-append_left protos_part after_protos s c))
 
-  in_members : (s : Symbol) → Contains behind_protos s → Contains (marked m marks) s
-  in_members s c = Contains-append_right texts_part behind_texts s (Contains-append_right types_part behind_types s (Contains-append_right protos_part behind_protos s c))
+  in_members : (s : Symbol) → Contains after_protos s → Contains (marked m marks) s
+  in_members s c = Contains-append_right texts_part after_texts s (Contains-append_right types_part after_types s (Contains-append_right protos_part after_protos s c))
 
   -- a symbol whose number is marked
   pub is_kept : (kind : SymbolKind) (i : ℕ) (s : Symbol) → get_or (marks_of kind marks) i false ≡ true → IsNumbered m i s → IsOfKind kind s → Contains (marked m marks) s
   is_kept kinds.Text i (TextSymbol x) e at of =
-      Contains-append_left texts_part behind_texts (TextSymbol x) (Contains-map TextSymbol (kept marks.strings.items m.texts) x (subst (Contains (kept marks.strings.items m.texts)) (at.is x) (kept_has marks.strings.items m.texts i x e at.within)))
+      Contains-append_left texts_part after_texts (TextSymbol x) (Contains-map TextSymbol (kept marks.strings.items m.texts) x (subst (Contains (kept marks.strings.items m.texts)) (at.is x) (kept_has marks.strings.items m.texts i x e at.within)))
   is_kept kinds.Typ i (TypeSymbol x) e at of =
       in_types (TypeSymbol x) (Contains-map TypeSymbol (kept marks.types.items m.types) x (subst (Contains (kept marks.types.items m.types)) (at.is x) (kept_has marks.types.items m.types i x e at.within)))
   is_kept kinds.Proto i (ProtoSymbol x) e at of =
@@ -190,11 +190,11 @@ module _ (m : Mentions) (us : List Use) (ss : List Symbol) (marks : Marks) (zip 
       subst (Contains ss) (method_is m k.at o.symbol t.0 o.number_is o.kind_is k.is ∙ t.2) o.occurs
 
   pub marked_occur : AreAmong (marked m marks) ss
-  marked_occur s c = elim (Contains-append_cases (texts_part m marks) (behind_texts m marks) s c) [
+  marked_occur s c = elim (Contains-append_cases (texts_part m marks) (after_texts m marks) s c) [
     | inl t ↦ from_texts s t
-    | inr c1 ↦ elim (Contains-append_cases (types_part m marks) (behind_types m marks) s c1) [
+    | inr c1 ↦ elim (Contains-append_cases (types_part m marks) (after_types m marks) s c1) [
       | inl t ↦ from_types s t
-      | inr c2 ↦ elim (Contains-append_cases (protos_part m marks) (behind_protos m marks) s c2) [
+      | inr c2 ↦ elim (Contains-append_cases (protos_part m marks) (after_protos m marks) s c2) [
         | inl t ↦ from_protos s t
         | inr c3 ↦ elim (Contains-append_cases (fields_part m marks) (methods_part m marks) s c3) [
           | inl t ↦ from_fields s t

@@ -28,11 +28,11 @@ Rises-mapped R f [] r = tt
 Rises-mapped R f (x ∷ xs) r = (λ y c. r.0 (f y) (Contains-map f xs y c), Rises-mapped R f xs r.1)
 
 -- lists are mapped to the same list by functions that agree on each member
-mapped_alike : {X Y : Type 0} (f g : X → Y) (xs : List X) → ((x : X) → Contains xs x → f x ≡ g x) → map f xs ≡ map g xs
-mapped_alike f g [] h = refl
-mapped_alike f g (x ∷ xs) h =
+mapped_equal : {X Y : Type 0} (f g : X → Y) (xs : List X) → ((x : X) → Contains xs x → f x ≡ g x) → map f xs ≡ map g xs
+mapped_equal f g [] h = refl
+mapped_equal f g (x ∷ xs) h =
     let first = h x (Contains-first x xs) in
-    let rest = mapped_alike f g xs (λ y c. h y (Contains-later x y xs c)) in
+    let rest = mapped_equal f g xs (λ y c. h y (Contains-later x y xs c)) in
     λ i. first i ∷ rest i
 
 module _ (D E : List Definition) (same : AreSame D E) (acyclic : IsAcyclic D) where
@@ -48,7 +48,7 @@ module _ (D E : List Definition) (same : AreSame D E) (acyclic : IsAcyclic D) wh
   one_class_order apart other =
       let first : Rises (definition_cmp D) (in_class_order D) = Rises-mapped place_cmp (class_place D) (in_class_order D) (class_places-rise D) in
       let places : map (class_place E) (in_class_order E) ≡ map (class_place D) (in_class_order E) =
-      mapped_alike (class_place E) (class_place D) (in_class_order E) (λ d c. sym (one_place d ((same d).1 (in_class_order-only E d c)))) in
+      mapped_equal (class_place E) (class_place D) (in_class_order E) (λ d c. sym (one_place d ((same d).1 (in_class_order-only E d c)))) in
       let second : Rises (definition_cmp D) (in_class_order E) = Rises-mapped place_cmp (class_place D) (in_class_order E) (subst (Rises place_cmp) places (class_places-rise E)) in
       Rises-same (definition_cmp D) (on_total (class_place D) place_total) (in_class_order D) (in_class_order E) first second
       (λ d c. in_class_order-has E d other ((same d).0 (in_class_order-only D d c)))

@@ -55,26 +55,26 @@ module _ (m : Mentions) where
     by_source (Some s) h = ((text_there s (All-head (λ i. i < length m.texts) s [] h), tt), rest)
 
     module _ (interfaces : List ℕ) (source : Option ℕ) (texts_in : All (λ i. i < length m.texts) (option_to_list source)) where
-      abbrev uses_behind : List Use
-      uses_behind = map text_use (option_to_list source) ++ us
+      abbrev uses_after : List Use
+      uses_after = map text_use (option_to_list source) ++ us
 
-      abbrev symbols_behind : List Symbol
-      symbols_behind = optional_text (option_map (text_at m) source) ++ ss
+      abbrev symbols_after : List Symbol
+      symbols_after = optional_text (option_map (text_at m) source) ++ ss
 
       by_superclass : (superclass : Option ℕ) → All (λ i. i < length m.types) (option_to_list superclass ++ interfaces)
-          → AllZip (IsUseOf m) (map type_use (option_to_list superclass ++ interfaces) ++ uses_behind) (optional_type (option_map (type_at m) superclass) ++ (map TypeSymbol (map (type_at m) interfaces) ++ symbols_behind))
-      by_superclass None h = zip_append (IsUseOf m) (map type_use interfaces) (map TypeSymbol (map (type_at m) interfaces)) uses_behind symbols_behind (types_zip interfaces h) (by_source source texts_in)
+          → AllZip (IsUseOf m) (map type_use (option_to_list superclass ++ interfaces) ++ uses_after) (optional_type (option_map (type_at m) superclass) ++ (map TypeSymbol (map (type_at m) interfaces) ++ symbols_after))
+      by_superclass None h = zip_append (IsUseOf m) (map type_use interfaces) (map TypeSymbol (map (type_at m) interfaces)) uses_after symbols_after (types_zip interfaces h) (by_source source texts_in)
       by_superclass (Some p) h =
           let first = All-head (λ i. i < length m.types) p interfaces h in
           let others = All-tail (λ i. i < length m.types) p interfaces h in (
             (type_there p first, tt),
-            zip_append (IsUseOf m) (map type_use interfaces) (map TypeSymbol (map (type_at m) interfaces)) uses_behind symbols_behind (types_zip interfaces others) (by_source source texts_in),
+            zip_append (IsUseOf m) (map type_use interfaces) (map TypeSymbol (map (type_at m) interfaces)) uses_after symbols_after (types_zip interfaces others) (by_source source texts_in),
           )
 
       -- the symbols of own types and text, and what follows
       pub own_zip : (name : ℕ) (superclass : Option ℕ) → All (λ i. i < length m.types) (name ∷ (option_to_list superclass ++ interfaces))
-          → AllZip (IsUseOf m) (map type_use (name ∷ (option_to_list superclass ++ interfaces)) ++ uses_behind)
-          (TypeSymbol (type_at m name) ∷ (optional_type (option_map (type_at m) superclass) ++ (map TypeSymbol (map (type_at m) interfaces) ++ symbols_behind)))
+          → AllZip (IsUseOf m) (map type_use (name ∷ (option_to_list superclass ++ interfaces)) ++ uses_after)
+          (TypeSymbol (type_at m name) ∷ (optional_type (option_map (type_at m) superclass) ++ (map TypeSymbol (map (type_at m) interfaces) ++ symbols_after)))
       own_zip name superclass types_in =
           let first = All-head (λ i. i < length m.types) name (option_to_list superclass ++ interfaces) types_in in
           let others = All-tail (λ i. i < length m.types) name (option_to_list superclass ++ interfaces) types_in in

@@ -68,8 +68,8 @@ module _ (m : Mentions) (cs : List NumberedClass) where
   all_good h numbering = record { known = h.known; names_differ = names_apart m cs (named m cs h numbering); good = h.good; formed = h.formed }
 
   -- the first ones are among all
-  front_within : (n : ℕ) (d : Definition) → Contains (map (definition_of m) (take n cs)) d → Contains D d
-  front_within n d c =
+  prefix_within : (n : ℕ) (d : Definition) → Contains (map (definition_of m) (take n cs)) d → Contains D d
+  prefix_within n d c =
       let there : Contains (take n D) d = subst (λ (l : List Definition). Contains l d) (sym (take-map (definition_of m) n cs)) c in
       subst (λ (l : List Definition). Contains l d) (take-append-drop n D) (Contains-append_left (take n D) (drop n D) d there)
 
@@ -80,12 +80,12 @@ module _ (m : Mentions) (cs : List NumberedClass) where
       subst (λ (l : List Definition). Contains l d) (take-append-drop n D) (Contains-append_right (take n D) (drop n D) d there)
 
   -- the first of good classes are good
-  pub front_good : AreGoodClasses m cs → (n : ℕ) → AreGoodClasses m (take n cs)
-  front_good h n = record {
+  pub prefix_good : AreGoodClasses m cs → (n : ℕ) → AreGoodClasses m (take n cs)
+  prefix_good h n = record {
     known = All-take (IsKnownClass m) n cs h.known;
     names_differ = subst AreDistinct (take-map (λ (d : Definition). d.0) n D ∙ ap (map (λ (d : Definition). d.0)) (take-map (definition_of m) n cs)) (AreDistinct-take n (map (λ (d : Definition). d.0) D) h.names_differ);
-    good = IsGood-within (map (definition_of m) (take n cs)) D (front_within n) greatest_caps h.good;
-    formed = λ d c. h.formed d (front_within n d c);
+    good = IsGood-within (map (definition_of m) (take n cs)) D (prefix_within n) greatest_caps h.good;
+    formed = λ d c. h.formed d (prefix_within n d c);
   }
 
   -- and so are the others

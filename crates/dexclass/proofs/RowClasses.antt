@@ -55,11 +55,11 @@ module _ (b : List ℕ) (m : Mentions) (pools : ArePools b m) where
   text_is i s row = one_string b i s (text_at m i) row (pools.texts_are.each i [] row.row)
 
   -- an index that may be none
-  optional_stands : (Row : List ℕ → ℕ → Text → Type 0) (at : ℕ → Text) → ((i : ℕ) (t : Text) → Row b i t → t ≡ at i) → (i : ℕ) (v : Bool) → (i == no_index) ≡ v
+  optional_encoded : (Row : List ℕ → ℕ → Text → Type 0) (at : ℕ → Text) → ((i : ℕ) (t : Text) → Row b i t → t ≡ at i) → (i : ℕ) (v : Bool) → (i == no_index) ≡ v
       → (t : Option Text) → IndexOrNone Row b i t → IndexOrNone Row b i (option_map at (if v then None else Some i))
-  optional_stands Row at one i true e t h = eqb-true i no_index e
-  optional_stands Row at one i false e None h = absurd (false≢true (sym e ∙ ap (λ (k : ℕ). k == no_index) h))
-  optional_stands Row at one i false e (Some t) h = subst (Row b i) (one i t h) h
+  optional_encoded Row at one i true e t h = eqb-true i no_index e
+  optional_encoded Row at one i false e None h = absurd (false≢true (sym e ∙ ap (λ (k : ℕ). k == no_index) h))
+  optional_encoded Row at one i false e (Some t) h = subst (Row b i) (one i t h) h
 
   -- a list of types
   listed_is : (is : List ℕ) (ts : List Text) → AllZip (TypeRow b) is ts → ts ≡ map (type_at m) is
@@ -68,9 +68,9 @@ module _ (b : List ℕ) (m : Mentions) (pools : ArePools b m) where
   listed_is (i ∷ is) [] h = absurd h
   listed_is (i ∷ is) (t ∷ ts) h = ap (λ (s : Text). s ∷ ts) (type_is i t h.0) ∙ ap (λ (l : List Text). type_at m i ∷ l) (listed_is is ts h.1)
 
-  interfaces_stand : (o : ℕ) (ts : List Text) → OrNone ClassListAt [] b o ts → OrNone ClassListAt [] b o (map (type_at m) (interface_indices b o))
-  interfaces_stand o ts (inl none) = inl (none.0, ap (λ (k : ℕ). map (type_at m) (interface_indices b k)) none.0)
-  interfaces_stand o ts (inr list) =
+  interfaces_encoded : (o : ℕ) (ts : List Text) → OrNone ClassListAt [] b o ts → OrNone ClassListAt [] b o (map (type_at m) (interface_indices b o))
+  interfaces_encoded o ts (inl none) = inl (none.0, ap (λ (k : ℕ). map (type_at m) (interface_indices b k)) none.0)
+  interfaces_encoded o ts (inr list) =
       let e : ts ≡ map (type_at m) (interface_indices b o) = listed_is (type_indices b o) ts list.1.list.types ∙ ap (map (type_at m)) (sym (listed_interfaces b o list.0)) in
       inr (list.0, subst (ClassListAt b o) e list.1)
 
@@ -79,14 +79,14 @@ module _ (b : List ℕ) (m : Mentions) (pools : ArePools b m) where
   row_name r h = subst (ClassTypeRow b (class_idx b r)) (type_is (class_idx b r) h.name h.is.row) h.is
 
   -- the row is this definition
-  pub row_stands : (r : ℕ) (z : Members) → r < table_size b ClassDefs → HasClass b r → MembersRow b r z → ClassRow b r (type_at m (class_idx b r)) (row_body b m r z)
-  row_stands r z lt h y = record {
+  pub row_encoded : (r : ℕ) (z : Members) → r < table_size b ClassDefs → HasClass b r → MembersRow b r z → ClassRow b r (type_at m (class_idx b r)) (row_body b m r z)
+  row_encoded r z lt h y = record {
     row = lt;
     class = row_name r h;
     flags = refl;
-    superclass = optional_stands ClassTypeRow (type_at m) (λ i t row. type_is i t row.row) (superclass_idx b r) (superclass_idx b r == no_index) refl h.superclass.0 h.superclass.1;
-    interfaces = interfaces_stand (interfaces_off b r) h.interfaces.0 h.interfaces.1;
-    source = optional_stands StringRow (text_at m) text_is (source_file_idx b r) (source_file_idx b r == no_index) refl h.source.0 h.source.1;
+    superclass = optional_encoded ClassTypeRow (type_at m) (λ i t row. type_is i t row.row) (superclass_idx b r) (superclass_idx b r == no_index) refl h.superclass.0 h.superclass.1;
+    interfaces = interfaces_encoded (interfaces_off b r) h.interfaces.0 h.interfaces.1;
+    source = optional_encoded StringRow (text_at m) text_is (source_file_idx b r) (source_file_idx b r == no_index) refl h.source.0 h.source.1;
     directory = y.directory;
     directory_is = y.directory_is;
     members = y.declared;

@@ -5,7 +5,7 @@ use Rattle.dexspec.specs.Classes.{Definition, class_idx, interfaces_off}
 use Rattle.dexspec.specs.Mentions.{Mentions, mentions}
 use Rattle.dexspec.specs.Weight.{weight, mentions_weight, most_weight}
 use Rattle.dexspec.specs.Conditions.{Condition, number}
-use Rattle.dexspec.specs.Accepted.{HasClass, HoldBelow, AreRows, FailsAt, place, rows_judged, IsRefused}
+use Rattle.dexspec.specs.Accepted.{HasClass, HoldBelow, AreRows, FailsAt, place, rows_checked, IsRefused}
 use Rattle.dexspec.proofs.determined.Denoted.{AreReadable}
 use Rattle.dexhead.specs.declared.refusal.Refusal.{Refusal}
 use Rattle.dexpool.specs.Pools.{ArePools}
@@ -18,7 +18,7 @@ use Rattle.dexclass.specs.Numbered.{type_at, definition_of}
 use Rattle.dexclass.specs.Programs.{IsFaultOf}
 use Rattle.dexclass.specs.internal.Reading.{bodies_weight, AreBodies, AreHeavyTogether}
 use Rattle.dexclass.specs.declared.reading.Bodies.{Bodies}
-use Rattle.dexclass.proofs.RowClasses.{row_body, row_weight, row_stands}
+use Rattle.dexclass.proofs.RowClasses.{row_body, row_weight, row_encoded}
 use Rattle.dexclass.proofs.RowsBelow.{weight_is, too_heavy, heavy_row}
 
 -- condition 16
@@ -29,7 +29,7 @@ class_fault b (Refused r) h = (Condition.Classes, r.place, h.0, refl, inl (omega
 -- ---- conditions 17 to 22
 
 -- they are checked at class rows, and their rows are reported
-late_row : (b : List ℕ) (r : ℕ) (c : Condition) → 17 ≤ number c → (rows_judged c b ≡ table_size b ClassDefs) × (r ≡ place c b r)
+late_row : (b : List ℕ) (r : ℕ) (c : Condition) → 17 ≤ number c → (rows_checked c b ≡ table_size b ClassDefs) × (r ≡ place c b r)
 late_row b r Condition.Size late = absurd (omega (arith, late))
 late_row b r Condition.Magic late = absurd (omega (arith, late))
 late_row b r Condition.Version late = absurd (omega (arith, late))
@@ -76,7 +76,7 @@ module _ (b : List ℕ) (m : Mentions) (pools : ArePools b m) (h : HoldBelow 17 
   members_heavy most left heavy =
       let D = map (definition_of m) bodies.classes.items in
       let d : Definition = (type_at m (class_idx b r), row_body b m r heavy.members) in
-      heavy_refused b r (heavy_row b h r D d lt before.readable before.rows heavy.readable (row_stands b m pools r heavy.members lt has_class heavy.row)
+      heavy_refused b r (heavy_row b h r D d lt before.readable before.rows heavy.readable (row_encoded b m pools r heavy.members lt has_class heavy.row)
       (omega (arith, left, heavy.heavy, row_weight b m r heavy.members, before.weight_is)))
 
 -- nothing weighs little

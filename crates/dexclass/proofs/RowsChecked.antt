@@ -20,7 +20,7 @@ use Rattle.dexclass.specs.internal.Rows.{interface_indices}
 use Rattle.dexclass.specs.Numbered.{type_at}
 use Rattle.dexclass.specs.Programs.{IsReadAs}
 use Rattle.dexclass.specs.Checking.{HaveBodiesOf, IsCheckedAs}
-use Rattle.dexclass.proofs.RowClasses.{row_body, row_weight, row_stands}
+use Rattle.dexclass.proofs.RowClasses.{row_body, row_weight, row_encoded}
 use Rattle.dexclass.proofs.RowsBelow.{IsRow, weight_is, bodies_more, rows_more, readable_more, rows_distinct, heavy_row, light_accepted}
 use Rattle.dexclass.proofs.RowFaults.{heavy_refused}
 use Rattle.dexclass.proofs.PoolMentions.{mentions_light}
@@ -36,7 +36,7 @@ module _ (b : List ℕ) (m : Mentions) (pools : ArePools b m) (h : HoldBelow 17 
   here = (type_at m (class_idx b r), row_body b m r is.members)
 
   row_here : IsRow b r here
-  row_here = row_stands b m pools r is.members lt (h Condition.Classes (omega arith) r lt) is.row
+  row_here = row_encoded b m pools r is.members lt (h Condition.Classes (omega arith) r lt) is.row
 
   -- with it they weigh too much
   pub checked_heavy : most_weight < new → IsRefused b 23 r

@@ -12,18 +12,18 @@ use Rattle.dexspec.specs.Weight.{body_weight}
 use Rattle.dexpool.specs.declared.symbols.SymbolKind.{SymbolKind}
 use Rattle.dexpool.specs.declared.symbols.SymbolKind.TheVariants as kinds
 use Rattle.dexpool.specs.Pools.{count_of}
-use Rattle.dexpool.specs.Laws.{LeadsAll}
-use Rattle.dexpool.specs.Numberings.{AreRising, Maps, AllLead, IsNumbered, IsOfKind, image}
-use Rattle.dexpool.specs.Uses.{Use, IsUseOf, IsLedUse}
+use Rattle.dexpool.specs.Laws.{MapsAll}
+use Rattle.dexpool.specs.Numberings.{AreRising, Maps, AllMapTo, IsNumbered, IsOfKind, image}
+use Rattle.dexpool.specs.Uses.{Use, IsUseOf, IsMappedUse}
 use Rattle.dexmembers.specs.Numbered.{NumberedMembers, members_in, members_of, AreKnownMembers, AreOrdered, AreOfClass}
 use Rattle.dexmembers.specs.Renumbering.{renumbered_members}
 use Rattle.dexmembers.specs.Uses.{members_uses}
 use Rattle.dexclass.specs.Numbered.{NumberedClass, type_at, definition_of}
 use Rattle.dexclass.specs.Uses.{type_numbers, text_numbers, type_use, text_use, IsKnownClass}
-use Rattle.dexclass.specs.Renumbering.{led, renumbered, IsLedClass, StaysSame, IsPartClass}
-use Rattle.dexpool.proofs.Parts.{all_front, all_back}
+use Rattle.dexclass.specs.Renumbering.{remapped, renumbered, IsMappedClass, StaysSame, IsPartClass}
+use Rattle.dexpool.proofs.Parts.{all_prefix, all_back}
 use Rattle.dexclass.proofs.OwnUses.{all_mapped}
-use Rattle.dexclass.proofs.LedOn.{led_is, all_led, optional_led, all_within, optional_numbers, numbers_behind, one_at, one_list, one_optional}
+use Rattle.dexclass.proofs.Remapped.{remapped_is, all_remapped, optional_remapped, all_within, optional_numbers, numbers_after, one_at, one_list, one_optional}
 
 -- ---- where all symbols have images
 
@@ -36,45 +36,45 @@ use_within m kinds.Method i (MethodSymbol x) at of = at.within
 use_within m _ i _ at of = absurd of
 
 -- those that occur do
-pub uses_led : (m : Mentions) (r : Maps) (us : List Use) (ss : List Symbol) → LeadsAll m r → AllZip (IsUseOf m) us ss → All (IsLedUse r) us
-uses_led m r [] [] all zip = All-nil (IsLedUse r)
-uses_led m r [] (s ∷ ss) all zip = absurd zip
-uses_led m r (u ∷ us) [] all zip = absurd zip
-uses_led m r (u ∷ us) (s ∷ ss) all zip = All-cons (IsLedUse r) u us (all u.kind u.number (use_within m u.kind u.number s zip.0.0 zip.0.1)) (uses_led m r us ss all zip.1)
+pub uses_remapped : (m : Mentions) (r : Maps) (us : List Use) (ss : List Symbol) → MapsAll m r → AllZip (IsUseOf m) us ss → All (IsMappedUse r) us
+uses_remapped m r [] [] all zip = All-nil (IsMappedUse r)
+uses_remapped m r [] (s ∷ ss) all zip = absurd zip
+uses_remapped m r (u ∷ us) [] all zip = absurd zip
+uses_remapped m r (u ∷ us) (s ∷ ss) all zip = All-cons (IsMappedUse r) u us (all u.kind u.number (use_within m u.kind u.number s zip.0.0 zip.0.1)) (uses_remapped m r us ss all zip.1)
 
 -- ---- a class that is remapped
 
-module _ (r : Maps) (c : NumberedClass) (leads : IsLedClass r c) where
+module _ (r : Maps) (c : NumberedClass) (maps_to : IsMappedClass r c) where
   abbrev types_used : List Use
   types_used = map type_use (type_numbers c)
 
   abbrev texts_used : List Use
   texts_used = map text_use (text_numbers c)
 
-  types_lead : All (λ i. IsSome (image r.types i)) (type_numbers c)
-  types_lead = all_mapped (λ i. IsSome (image r.types i)) (IsLedUse r) type_use (type_numbers c) (λ i h. h) (all_front (IsLedUse r) types_used (texts_used ++ members_uses c.members) leads)
+  types_mapped : All (λ i. IsSome (image r.types i)) (type_numbers c)
+  types_mapped = all_mapped (λ i. IsSome (image r.types i)) (IsMappedUse r) type_use (type_numbers c) (λ i h. h) (all_prefix (IsMappedUse r) types_used (texts_used ++ members_uses c.members) maps_to)
 
-  behind_lead : All (IsLedUse r) (texts_used ++ members_uses c.members)
-  behind_lead = all_back (IsLedUse r) types_used (texts_used ++ members_uses c.members) leads
+  after_mapped : All (IsMappedUse r) (texts_used ++ members_uses c.members)
+  after_mapped = all_back (IsMappedUse r) types_used (texts_used ++ members_uses c.members) maps_to
 
-  texts_lead : All (λ i. IsSome (image r.texts i)) (text_numbers c)
-  texts_lead = all_mapped (λ i. IsSome (image r.texts i)) (IsLedUse r) text_use (text_numbers c) (λ i h. h) (all_front (IsLedUse r) texts_used (members_uses c.members) behind_lead)
+  texts_mapped : All (λ i. IsSome (image r.texts i)) (text_numbers c)
+  texts_mapped = all_mapped (λ i. IsSome (image r.texts i)) (IsMappedUse r) text_use (text_numbers c) (λ i h. h) (all_prefix (IsMappedUse r) texts_used (members_uses c.members) after_mapped)
 
-  name_leads : IsSome (image r.types c.name)
-  name_leads = All-head (λ i. IsSome (image r.types i)) c.name (option_to_list c.superclass ++ c.interfaces) types_lead
+  name_mapped : IsSome (image r.types c.name)
+  name_mapped = All-head (λ i. IsSome (image r.types i)) c.name (option_to_list c.superclass ++ c.interfaces) types_mapped
 
-  parents_lead : All (λ i. IsSome (image r.types i)) (option_to_list c.superclass ++ c.interfaces)
-  parents_lead = All-tail (λ i. IsSome (image r.types i)) c.name (option_to_list c.superclass ++ c.interfaces) types_lead
+  parents_mapped : All (λ i. IsSome (image r.types i)) (option_to_list c.superclass ++ c.interfaces)
+  parents_mapped = All-tail (λ i. IsSome (image r.types i)) c.name (option_to_list c.superclass ++ c.interfaces) types_mapped
 
-  superclass_leads : All (λ i. IsSome (image r.types i)) (option_to_list c.superclass)
-  superclass_leads = all_front (λ i. IsSome (image r.types i)) (option_to_list c.superclass) c.interfaces parents_lead
+  superclass_mapped : All (λ i. IsSome (image r.types i)) (option_to_list c.superclass)
+  superclass_mapped = all_prefix (λ i. IsSome (image r.types i)) (option_to_list c.superclass) c.interfaces parents_mapped
 
-  interfaces_lead : All (λ i. IsSome (image r.types i)) c.interfaces
-  interfaces_lead = all_back (λ i. IsSome (image r.types i)) (option_to_list c.superclass) c.interfaces parents_lead
+  interfaces_mapped : All (λ i. IsSome (image r.types i)) c.interfaces
+  interfaces_mapped = all_back (λ i. IsSome (image r.types i)) (option_to_list c.superclass) c.interfaces parents_mapped
 
   -- what it declares
-  pub members_lead : All (IsLedUse r) (members_uses c.members)
-  members_lead = all_back (IsLedUse r) texts_used (members_uses c.members) behind_lead
+  pub members_mapped : All (IsMappedUse r) (members_uses c.members)
+  members_mapped = all_back (IsMappedUse r) texts_used (members_uses c.members) after_mapped
 
 -- what is known of members that are remapped
 pub record MembersStay (m n : Mentions) (r : Maps) (class : Text) (x : NumberedMembers) : Type 0 where
@@ -83,17 +83,17 @@ pub record MembersStay (m n : Mentions) (r : Maps) (class : Text) (x : NumberedM
   pub ordered : AreOrdered (renumbered_members r x)
   pub own : AreOfClass n class (renumbered_members r x)
 
-module _ (m n : Mentions) (r : Maps) (h : AllLead m n r) (c : NumberedClass) (leads : IsLedClass r c) where
-  pub name_led : type_at n (led r.types c.name) ≡ type_at m c.name
-  name_led = led_is m.types n.types r.types h.types_lead c.name (name_leads r c leads)
+module _ (m n : Mentions) (r : Maps) (h : AllMapTo m n r) (c : NumberedClass) (maps_to : IsMappedClass r c) where
+  pub name_remapped : type_at n (remapped r.types c.name) ≡ type_at m c.name
+  name_remapped = remapped_is m.types n.types r.types h.types_mapped c.name (name_mapped r c maps_to)
 
   module _ (stay : MembersStay m n r (type_at m c.name) c.members) where
-    definition_led : definition_of n (renumbered r c) ≡ definition_of m c
-    definition_led =
-        let superclass = optional_led m.types n.types r.types h.types_lead c.superclass (superclass_leads r c leads) in
-        let interfaces = all_led m.types n.types r.types h.types_lead c.interfaces (interfaces_lead r c leads) in
-        let source = optional_led m.texts n.texts r.texts h.texts_lead c.source (texts_lead r c leads) in
-        let name = name_led in
+    definition_remapped : definition_of n (renumbered r c) ≡ definition_of m c
+    definition_remapped =
+        let superclass = optional_remapped m.types n.types r.types h.types_mapped c.superclass (superclass_mapped r c maps_to) in
+        let interfaces = all_remapped m.types n.types r.types h.types_mapped c.interfaces (interfaces_mapped r c maps_to) in
+        let source = optional_remapped m.texts n.texts r.texts h.texts_mapped c.source (texts_mapped r c maps_to) in
+        let name = name_remapped in
         let members = stay.same in
         λ i. (
           name i,
@@ -111,20 +111,20 @@ module _ (m n : Mentions) (r : Maps) (h : AllLead m n r) (c : NumberedClass) (le
           },
         )
 
-    types_numbered : map (led r.types) (type_numbers c) ≡ type_numbers (renumbered r c)
-    types_numbered = ap (λ (l : List ℕ). led r.types c.name ∷ l) (numbers_behind (led r.types) c.superclass c.interfaces)
+    types_numbered : map (remapped r.types) (type_numbers c) ≡ type_numbers (renumbered r c)
+    types_numbered = ap (λ (l : List ℕ). remapped r.types c.name ∷ l) (numbers_after (remapped r.types) c.superclass c.interfaces)
 
     -- it denotes the same definition, by numbers of the other numbering
     pub stays_same : IsKnownClass m c → StaysSame m n r c
     stays_same known = record {
-      same = definition_led;
+      same = definition_remapped;
       known = record {
-        types_in = subst (All (λ k. k < length n.types)) types_numbered (all_within m.types n.types r.types h.types_lead (type_numbers c) (types_lead r c leads));
-        texts_in = subst (All (λ k. k < length n.texts)) (optional_numbers (led r.texts) c.source) (all_within m.texts n.texts r.texts h.texts_lead (text_numbers c) (texts_lead r c leads));
+        types_in = subst (All (λ k. k < length n.types)) types_numbered (all_within m.types n.types r.types h.types_mapped (type_numbers c) (types_mapped r c maps_to));
+        texts_in = subst (All (λ k. k < length n.texts)) (optional_numbers (remapped r.texts) c.source) (all_within m.texts n.texts r.texts h.texts_mapped (text_numbers c) (texts_mapped r c maps_to));
         members_known = stay.known;
         members_ordered = stay.ordered;
-        members_own = subst (λ t. AreOfClass n t (renumbered_members r c.members)) (sym name_led) stay.own;
-        weighed = known.weighed ∙ ap (λ (d : Definition). min (2 ^ 64 - 1) (body_weight d.1)) (sym definition_led);
+        members_own = subst (λ t. AreOfClass n t (renumbered_members r c.members)) (sym name_remapped) stay.own;
+        weighed = known.weighed ∙ ap (λ (d : Definition). min (2 ^ 64 - 1) (body_weight d.1)) (sym definition_remapped);
       };
     }
 
@@ -152,7 +152,7 @@ module _ (m n whole : Mentions) (r s : Maps) (c d : NumberedClass) (rising : Are
       let parents_theirs = All-tail P y.name (option_to_list y.superclass ++ y.interfaces) types_theirs in
       let name = one_at whole.types rising.types_rise x.name y.name (All-head P x.name (option_to_list x.superclass ++ x.interfaces) types_mine) (All-head P y.name (option_to_list y.superclass ++ y.interfaces) types_theirs) (ap (λ (z : Definition). z.0) there) in
       let flags = ap (λ (z : Definition). z.1.flags) there in
-      let superclass = one_optional whole.types rising.types_rise x.superclass y.superclass (all_front P (option_to_list x.superclass) x.interfaces parents_mine) (all_front P (option_to_list y.superclass) y.interfaces parents_theirs)
+      let superclass = one_optional whole.types rising.types_rise x.superclass y.superclass (all_prefix P (option_to_list x.superclass) x.interfaces parents_mine) (all_prefix P (option_to_list y.superclass) y.interfaces parents_theirs)
       (ap (λ (z : Definition). z.1.superclass) there) in
       let interfaces = one_list whole.types rising.types_rise x.interfaces y.interfaces (all_back P (option_to_list x.superclass) x.interfaces parents_mine) (all_back P (option_to_list y.superclass) y.interfaces parents_theirs)
       (ap (λ (z : Definition). z.1.interfaces) there) in

@@ -18,7 +18,7 @@ use Rattle.dexclass.specs.Numbered.{NumberedClass, definition_of, class_of_row}
 use Rattle.dexclass.specs.Uses.{IsKnownClass}
 use Rattle.dexclass.specs.internal.Reading.{bodies_weight, AreBodies}
 use Rattle.dexclass.specs.declared.reading.Bodies.{Bodies}
-use Rattle.dexclass.proofs.RowClasses.{row_weight, row_stands}
+use Rattle.dexclass.proofs.RowClasses.{row_weight, row_encoded}
 use Rattle.dexclass.proofs.RowsKnown.{row_known}
 use Rattle.dexclass.proofs.RowsBelow.{IsRow, bodies_more, rows_more, readable_more, heavy_row}
 use Rattle.dexclass.proofs.RowFaults.{heavy_refused}
@@ -30,7 +30,7 @@ module _ (b : List ℕ) (m : Mentions) (pools : ArePools b m) (h : HoldBelow 17 
 
   -- the row is its definition
   class_row : IsRow b r (definition_of m row_class)
-  class_row = row_stands b m pools r (members_in m x) lt (h Condition.Classes (omega arith) r lt) are.row
+  class_row = row_encoded b m pools r (members_in m x) lt (h Condition.Classes (omega arith) r lt) are.row
 
   -- it weighs what its row and its members do
   class_weight : body_weight (definition_of m row_class).1 ≡ w

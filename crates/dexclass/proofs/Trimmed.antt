@@ -7,11 +7,11 @@ use Rattle.dexspec.specs.Mentions.{Mentions, symbols_of, mentions, closed}
 use Rattle.dexspec.proofs.lists.Members.{Contains-flat_map}
 use Rattle.dexpool.specs.declared.marks.Marks.{Marks}
 use Rattle.dexpool.specs.declared.symbols.SymbolKind.TheVariants as kinds
-use Rattle.dexpool.specs.Numberings.{Maps, AllLead, Leads, image, marked}
-use Rattle.dexpool.specs.Uses.{IsUseOf, LeadsMarked}
+use Rattle.dexpool.specs.Numberings.{Maps, AllMapTo, MapsTo, image, marked}
+use Rattle.dexpool.specs.Uses.{IsUseOf, MapsMarked}
 use Rattle.dexclass.specs.Numbered.{NumberedClass, definition_of}
 use Rattle.dexclass.specs.Uses.{class_uses, IsKnownClass, HaveMarked}
-use Rattle.dexclass.specs.Renumbering.{renumbered, IsLedClass, StaysSame, Stays}
+use Rattle.dexclass.specs.Renumbering.{renumbered, IsMappedClass, StaysSame, Stays}
 use Rattle.dexclass.proofs.Mentioned.{kept_closed, is_marked}
 use Rattle.dexclass.proofs.OwnUses.{parts_zip}
 
@@ -44,17 +44,17 @@ module _ (m : Mentions) (cs : List NumberedClass) (known : All (IsKnownClass m) 
   trimmed_mentions n kept = kept ∙ kept_closed m (flat_map class_uses cs) (flat_map symbols_of (map (definition_of m) cs)) marks zipped h
 
   -- each symbol that occurs has an image
-  pub all_lead : (r : Maps) → LeadsMarked marks r → All (IsLedClass r) cs
-  all_lead r leads i d lt k e within =
+  pub all_map_to : (r : Maps) → MapsMarked marks r → All (IsMappedClass r) cs
+  all_map_to r maps_to i d lt k e within =
       let c = get_or cs i d in
       let u = get_or (class_uses c) k e in
       let has = Contains-flat_map class_uses cs c u (Contains-get_or cs i d lt) (Contains-get_or (class_uses c) k e within) in
-      leads u.kind u.number (is_marked m (flat_map class_uses cs) (flat_map symbols_of (map (definition_of m) cs)) marks zipped h u has)
+      maps_to u.kind u.number (is_marked m (flat_map class_uses cs) (flat_map symbols_of (map (definition_of m) cs)) marks zipped h u has)
 
 -- remapped, they denote the same definitions by numbers of what is kept
-module _ (m n : Mentions) (r : Maps) (cs new : List NumberedClass) (stay : (c : NumberedClass) → IsLedClass r c → IsKnownClass m c → StaysSame m n r c) (lead : All (IsLedClass r) cs) (known : All (IsKnownClass m) cs) (e : new ≡ map (renumbered r) cs) where
+module _ (m n : Mentions) (r : Maps) (cs new : List NumberedClass) (stay : (c : NumberedClass) → IsMappedClass r c → IsKnownClass m c → StaysSame m n r c) (are_mapped : All (IsMappedClass r) cs) (known : All (IsKnownClass m) cs) (e : new ≡ map (renumbered r) cs) where
   all_stay : All (StaysSame m n r) cs
-  all_stay = all_two (IsLedClass r) (IsKnownClass m) (StaysSame m n r) stay cs lead known
+  all_stay = all_two (IsMappedClass r) (IsKnownClass m) (StaysSame m n r) stay cs are_mapped known
 
   pub trimmed_same : map (definition_of n) new ≡ map (definition_of m) cs
   trimmed_same =
@@ -67,15 +67,15 @@ module _ (m n : Mentions) (r : Maps) (cs new : List NumberedClass) (stay : (c : 
 -- ---- where all is kept
 
 -- a list of which each member is kept at its place
-kept_whole : {X : Type 0} (from to : List X) (images : List (Option ℕ)) → Leads from to images → length to ≡ length from → ((i : ℕ) → i < length from → image images i ≡ Some i) → to ≡ from
-kept_whole from to images lead count each = same_lists to from count (λ k d lt. (lead.same k k d (each k (omega (arith, lt, count)))).is d)
+kept_whole : {X : Type 0} (from to : List X) (images : List (Option ℕ)) → MapsTo from to images → length to ≡ length from → ((i : ℕ) → i < length from → image images i ≡ Some i) → to ≡ from
+kept_whole from to images are_mapped count each = same_lists to from count (λ k d lt. (are_mapped.same k k d (each k (omega (arith, lt, count)))).is d)
 
 -- the numbering is what it was
-pub whole_kept : (m n : Mentions) (r : Maps) → AllLead m n r → Stays kinds.Text m n r → Stays kinds.Typ m n r → Stays kinds.Proto m n r → Stays kinds.Field m n r → Stays kinds.Method m n r → n ≡ m
-whole_kept m n r lead texts types protos fields methods =
-    let ss = kept_whole m.texts n.texts r.texts lead.texts_lead texts.count texts.each in
-    let ts = kept_whole m.types n.types r.types lead.types_lead types.count types.each in
-    let ps = kept_whole m.protos n.protos r.protos lead.protos_lead protos.count protos.each in
-    let fs = kept_whole m.fields n.fields r.fields lead.fields_lead fields.count fields.each in
-    let xs = kept_whole m.methods n.methods r.methods lead.methods_lead methods.count methods.each in
+pub whole_kept : (m n : Mentions) (r : Maps) → AllMapTo m n r → Stays kinds.Text m n r → Stays kinds.Typ m n r → Stays kinds.Proto m n r → Stays kinds.Field m n r → Stays kinds.Method m n r → n ≡ m
+whole_kept m n r are_mapped texts types protos fields methods =
+    let ss = kept_whole m.texts n.texts r.texts are_mapped.texts_mapped texts.count texts.each in
+    let ts = kept_whole m.types n.types r.types are_mapped.types_mapped types.count types.each in
+    let ps = kept_whole m.protos n.protos r.protos are_mapped.protos_mapped protos.count protos.each in
+    let fs = kept_whole m.fields n.fields r.fields are_mapped.fields_mapped fields.count fields.each in
+    let xs = kept_whole m.methods n.methods r.methods are_mapped.methods_mapped methods.count methods.each in
     λ i. record { texts = ss i; types = ts i; protos = ps i; fields = fs i; methods = xs i }

@@ -4,25 +4,25 @@ use Rattle.std.specs.Option.{option_map}
 use Rattle.dexspec.specs.Mentions.{Mentions}
 use Rattle.dexpool.specs.declared.symbols.SymbolKind.{SymbolKind}
 use Rattle.dexpool.specs.Pools.{count_of}
-use Rattle.dexpool.specs.Numberings.{Maps, AllLead, image, image_of}
-use Rattle.dexpool.specs.Laws.{LeadsAll}
-use Rattle.dexpool.specs.Uses.{IsLedUse}
+use Rattle.dexpool.specs.Numberings.{Maps, AllMapTo, image, image_of}
+use Rattle.dexpool.specs.Laws.{MapsAll}
+use Rattle.dexpool.specs.Uses.{IsMappedUse}
 use Rattle.dexmembers.specs.Renumbering.{renumbered_members, MembersHavePlaces}
 use Rattle.dexclass.specs.Numbered.{NumberedClass, definition_of}
 use Rattle.dexclass.specs.Uses.{class_uses, IsKnownClass}
 
 -- the image of a number; one that has no image stays
-abbrev pub led : List (Option ℕ) → ℕ → ℕ
-led images i = unwrap_or (image images i) i
+abbrev pub remapped : List (Option ℕ) → ℕ → ℕ
+remapped images i = unwrap_or (image images i) i
 
 -- the class with each number remapped
 abbrev pub renumbered : Maps → NumberedClass → NumberedClass
 renumbered r c = record {
-  name = led r.types c.name;
+  name = remapped r.types c.name;
   flags = c.flags;
-  superclass = option_map (led r.types) c.superclass;
-  interfaces = map (led r.types) c.interfaces;
-  source = option_map (led r.texts) c.source;
+  superclass = option_map (remapped r.types) c.superclass;
+  interfaces = map (remapped r.types) c.interfaces;
+  source = option_map (remapped r.texts) c.source;
   members = renumbered_members r c.members;
   weight = c.weight;
 }
@@ -32,13 +32,13 @@ abbrev pub ClassHasPlaces : Maps → NumberedClass → Type 0
 ClassHasPlaces r c = MembersHavePlaces r c.members
 
 -- each symbol that occurs in the class has an image
-abbrev pub IsLedClass : Maps → NumberedClass → Type 0
-IsLedClass r c = All (IsLedUse r) (class_uses c)
+abbrev pub IsMappedClass : Maps → NumberedClass → Type 0
+IsMappedClass r c = All (IsMappedUse r) (class_uses c)
 
 -- each number of the first numbering maps to that of the same symbol in the second
-pub record LeadInto (m n : Mentions) (r : Maps) : Type 0 where
-  pub lead : AllLead m n r
-  pub all : LeadsAll m r
+pub record MapsAllInto (m n : Mentions) (r : Maps) : Type 0 where
+  pub are_mapped : AllMapTo m n r
+  pub all : MapsAll m r
 
 -- remapped, the class denotes the same definition, by numbers of the second numbering
 pub record StaysSame (m n : Mentions) (r : Maps) (c : NumberedClass) : Type 0 where
@@ -47,8 +47,8 @@ pub record StaysSame (m n : Mentions) (r : Maps) (c : NumberedClass) : Type 0 wh
 
 -- the class's numbers are those of symbols, and each symbol that occurs maps to the same one of the whole
 pub record IsPartClass (whole m : Mentions) (r : Maps) (c : NumberedClass) : Type 0 where
-  pub lead : AllLead m whole r
-  pub led : IsLedClass r c
+  pub are_mapped : AllMapTo m whole r
+  pub remapped : IsMappedClass r c
   pub known : IsKnownClass m c
 
 -- each symbol of the kind keeps its number, and there is no other

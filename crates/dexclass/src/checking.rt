@@ -9,7 +9,7 @@ ghost use Rattle.dexmembers.specs.Checking.{AreChecks};
 ghost use Rattle.dexclass.specs.Programs.{IsFaultOf};
 ghost use Rattle.dexclass.specs.Checking.{HaveBodiesOf, IsCheckedAs};
 
-use crate::judging::judge_classes;
+use crate::class_checks::check_classes;
 use crate::reading::{MOST_WEIGHT, at_row, interface_count, read_rows, row_weight, too_heavy};
 use dexhead::{Frame, Table};
 use dexmembers::{Checks, ClassDef, check_members};
@@ -40,7 +40,7 @@ pub fn check_frame(alloc: Global, frame: &Frame<'_>) -> Result<usize, ReadFault>
     ensures refused { IfErr result (IsFaultOf frame.now) }
 {
     let pools = Pools::read(alloc, frame)?;
-    judge_classes(alloc, frame, &pools)?;
+    check_classes(alloc, frame, &pools)?;
     let bodies = check_rows(alloc, frame, &pools)?;
     if is_light(&pools, bodies) {
         return Ok(frame.size(Table::ClassDefs) as usize);

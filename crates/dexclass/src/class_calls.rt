@@ -6,7 +6,7 @@ ghost use Rattle.dexspec.specs.Weight.{body_weight};
 ghost use Rattle.dexpool.specs.Numberings.{AreRising};
 ghost use Rattle.dexclass.specs.Numbered.{definition_of};
 ghost use Rattle.dexclass.specs.Uses.{IsKnownClass};
-ghost use Rattle.dexclass.specs.Renumbering.{led, renumbered};
+ghost use Rattle.dexclass.specs.Renumbering.{remapped, renumbered};
 
 use crate::classes::Class;
 use crate::renumbering::{optional_text_number, optional_type_number, type_number};
@@ -62,7 +62,7 @@ impl<'a> Class<'a> {
         if optional_text_number(mine, self.source) != optional_text_number(theirs, other.source) {
             return false;
         }
-        if !lead_alike(mine, &self.interfaces, theirs, &other.interfaces) {
+        if !eq_mapped(mine, &self.interfaces, theirs, &other.interfaces) {
             return false;
         }
         self.members.same_mapped(mine, &other.members, theirs)
@@ -70,8 +70,8 @@ impl<'a> Class<'a> {
 }
 
 // Whether two lists of types are mapped to the same numbers.
-fn lead_alike(mine: &Remap, numbers: &[usize], theirs: &Remap, others: &[usize]) -> bool
-    ensures { IsTrue result ↔ (map (led mine.now.types) numbers.now ≡ map (led theirs.now.types) others.now) }
+fn eq_mapped(mine: &Remap, numbers: &[usize], theirs: &Remap, others: &[usize]) -> bool
+    ensures { IsTrue result ↔ (map (remapped mine.now.types) numbers.now ≡ map (remapped theirs.now.types) others.now) }
 {
     if numbers.len() != others.len() {
         return false;

@@ -4,15 +4,15 @@
 ghost use Rattle.std.specs.Prelude.{◌≡◌, ◌↔◌, All};
 ghost use Rattle.std.specs.List.{AllZip};
 ghost use Rattle.dexspec.specs.Mentions.{Mentions, symbols_of};
-ghost use Rattle.dexpool.specs.Laws.{LeadsAll};
-ghost use Rattle.dexpool.specs.Numberings.{AreRising, AreMarksOf, AllLead, Maps};
+ghost use Rattle.dexpool.specs.Laws.{MapsAll};
+ghost use Rattle.dexpool.specs.Numberings.{AreRising, AreMarksOf, AllMapTo, Maps};
 ghost use Rattle.dexpool.specs.Uses.{HasMark, IsUseOf};
 ghost use Rattle.dexpool.specs.declared.marks.Marks.{Marks};
 ghost use Rattle.dexclass.specs.Numbered.{NumberedClass, definition_of};
 ghost use Rattle.dexclass.specs.Uses.{IsKnownClass, class_uses};
-ghost use Rattle.dexclass.specs.Renumbering.{renumbered, IsLedClass, StaysSame, IsPartClass};
+ghost use Rattle.dexclass.specs.Renumbering.{renumbered, IsMappedClass, StaysSame, IsPartClass};
 
-use dexmembers::{members_led_law, members_same_law, members_uses_law};
+use dexmembers::{members_remapped_law, members_same_law, members_uses_law};
 
 /// The symbols that occur in a class are those of what it denotes, one for one and in their order. Where there is a
 /// mark for each symbol, there is one for each that occurs.
@@ -26,11 +26,11 @@ pub fn uses_law()
 /// A class of which each symbol that occurs is mapped to the same one in another numbering denotes the same definition
 /// there. Where all symbols of a numbering that rises have images, those of the class do.
 pub fn renumbering_law()
-    ensures same { (m n : Mentions) (r : Maps) (c : NumberedClass) → AllLead m n r → IsLedClass r c → IsKnownClass m c → StaysSame m n r c }
-    ensures all { (m : Mentions) (r : Maps) (c : NumberedClass) → AreRising m → LeadsAll m r → IsKnownClass m c → IsLedClass r c }
+    ensures same { (m n : Mentions) (r : Maps) (c : NumberedClass) → AllMapTo m n r → IsMappedClass r c → IsKnownClass m c → StaysSame m n r c }
+    ensures all { (m : Mentions) (r : Maps) (c : NumberedClass) → AreRising m → MapsAll m r → IsKnownClass m c → IsMappedClass r c }
 {
     uses_law();
-    members_led_law();
+    members_remapped_law();
 }
 
 /// Classes of two numberings denote the same definition if and only if they are mapped to the same class of a third.

@@ -9,9 +9,9 @@
 mod arranging;
 mod checking;
 mod class_calls;
+mod class_checks;
 mod class_types;
 mod classes;
-mod judging;
 mod laws;
 mod marking;
 mod ordering;

@@ -35,7 +35,7 @@ impl<'a> Model for Part<'a> {
     ghost use Rattle.std.specs.Prelude.{List, map};
     ghost use Rattle.std.specs.Coded.{coded_list};
     ghost use Rattle.dexspec.specs.Classes.{Definition};
-    ghost use Rattle.dexspec.specs.Aside.Codes.{definition_code};
+    ghost use Rattle.dexspec.specs.internal.Codes.{definition_code};
     ghost use Rattle.dexclass.specs.Numbered.{definition_of};
     ghost use Rattle.dexclass.specs.Programs.{AreMergeable};
 

@@ -44,7 +44,7 @@ impl Drop for Program<'_> {
 
 impl<'a> Model for Program<'a> {
     ghost use Rattle.dexspec.specs.Files.{Collection};
-    ghost use Rattle.dexspec.specs.Aside.Codes.{collection_code};
+    ghost use Rattle.dexspec.specs.internal.Codes.{collection_code};
     ghost use Rattle.dexclass.specs.Programs.{collection_of, IsProgram};
 
     ghost Value = { Collection };

@@ -10,8 +10,8 @@ ghost use Rattle.dexclass.specs.internal.Rows.{HasInterfaceList, interface_indic
 ghost use Rattle.dexclass.specs.Programs.{IsReadAs, IsFaultOf};
 ghost use Rattle.dexclass.specs.internal.Reading.{AreBodies, IsWhole, AreHeavyTogether};
 
+use crate::class_checks::check_classes;
 use crate::classes::{Class, class_at};
-use crate::judging::judge_classes;
 use crate::programs::Program;
 use crate::trimming::trim;
 use dexhead::{Condition, Frame, Refusal, Table};
@@ -35,7 +35,7 @@ pub fn read<'a>(alloc: Global, bytes: &'a [u8]) -> Result<Program<'a>, ReadFault
 {
     let frame = Frame::open(bytes)?;
     let pools = Pools::read(alloc, &frame)?;
-    judge_classes(alloc, &frame, &pools)?;
+    check_classes(alloc, &frame, &pools)?;
     read_rows(alloc, &frame, &pools)
 }
 
@@ -153,7 +153,7 @@ fn read_bodies<'a>(
 }
 
 // What classes that weigh so much weigh with the symbols that they mention, which is judged at the last row.
-fn judge_weight(frame: &Frame<'_>, numbering: &Numbering<'_>, bodies: u64) -> Result<u64, Refusal>
+fn check_weight(frame: &Frame<'_>, numbering: &Numbering<'_>, bodies: u64) -> Result<u64, Refusal>
     ensures accepted { IfOk result (IsWhole numbering.now bodies) }
     ensures refused { IfErr result (AreHeavyTogether frame.now numbering.now bodies) }
 {
@@ -188,6 +188,6 @@ pub(crate) fn read_rows<'a>(
         weight,
     } = read_bodies(alloc, frame, pools)?;
     let numbering = trim(alloc, pools.numbering(), &mut classes)?;
-    let total = judge_weight(frame, &numbering, weight)?;
+    let total = check_weight(frame, &numbering, weight)?;
     Ok(Program::weighing(alloc, numbering, classes, total)?)
 }

@@ -2,14 +2,14 @@
 
 ghost use Rattle.std.specs.Prelude.{◌≡◌, map};
 ghost use Rattle.std.specs.Option.{option_map};
-ghost use Rattle.dexclass.specs.Renumbering.{led, renumbered, ClassHasPlaces};
+ghost use Rattle.dexclass.specs.Renumbering.{remapped, renumbered, ClassHasPlaces};
 
 use crate::classes::Class;
 use dexpool::{Remap, SymbolKind};
 
 /// The image of the number of a type, or the number itself if it has none.
 pub(crate) fn type_number(remap: &Remap, i: usize) -> usize
-    ensures { result ≡ led remap.now.types i }
+    ensures { result ≡ remapped remap.now.types i }
 {
     match remap.image(SymbolKind::Typ, i) {
         Some(image) => image,
@@ -19,7 +19,7 @@ pub(crate) fn type_number(remap: &Remap, i: usize) -> usize
 
 // The image of the number of a text, or the number itself if it has none.
 fn text_number(remap: &Remap, i: usize) -> usize
-    ensures { result ≡ led remap.now.texts i }
+    ensures { result ≡ remapped remap.now.texts i }
 {
     match remap.image(SymbolKind::Text, i) {
         Some(image) => image,
@@ -29,7 +29,7 @@ fn text_number(remap: &Remap, i: usize) -> usize
 
 /// What [`type_number`] returns for a number, if there is one.
 pub(crate) fn optional_type_number(remap: &Remap, i: Option<usize>) -> Option<usize>
-    ensures { result ≡ option_map (led remap.now.types) i }
+    ensures { result ≡ option_map (remapped remap.now.types) i }
 {
     match i {
         Some(i) => Some(type_number(remap, i)),
@@ -39,7 +39,7 @@ pub(crate) fn optional_type_number(remap: &Remap, i: Option<usize>) -> Option<us
 
 /// What `text_number` returns for a number, if there is one.
 pub(crate) fn optional_text_number(remap: &Remap, i: Option<usize>) -> Option<usize>
-    ensures { result ≡ option_map (led remap.now.texts) i }
+    ensures { result ≡ option_map (remapped remap.now.texts) i }
 {
     match i {
         Some(i) => Some(text_number(remap, i)),
@@ -49,7 +49,7 @@ pub(crate) fn optional_text_number(remap: &Remap, i: Option<usize>) -> Option<us
 
 // Remaps numbers of types.
 fn renumber_types(remap: &Remap, numbers: &mut Vec<usize>)
-    ensures { numbers.new.items ≡ map (led remap.now.types) numbers.old.items }
+    ensures { numbers.new.items ≡ map (remapped remap.now.types) numbers.old.items }
 {
     for k in 0..numbers.len() {
         numbers[k] = type_number(remap, numbers[k]);

@@ -3,11 +3,11 @@
 ghost use Rattle.std.specs.Prelude.{◌≡◌, All, IfOk, IsTrue, map};
 ghost use Rattle.std.specs.List.{flat_map};
 ghost use Rattle.dexspec.specs.Mentions.{mentions};
-ghost use Rattle.dexpool.specs.Numberings.{AllLead, AreMarksOf};
-ghost use Rattle.dexpool.specs.Orderly.{LeadDown};
+ghost use Rattle.dexpool.specs.Numberings.{AllMapTo, AreMarksOf};
+ghost use Rattle.dexpool.specs.Orderly.{MapsDown};
 ghost use Rattle.dexclass.specs.Numbered.{definition_of};
 ghost use Rattle.dexclass.specs.Uses.{IsKnownClass, HaveMarked, class_uses};
-ghost use Rattle.dexclass.specs.Renumbering.{renumbered, IsLedClass, Stays};
+ghost use Rattle.dexclass.specs.Renumbering.{renumbered, IsMappedClass, Stays};
 
 use crate::classes::Class;
 use crate::laws::{renumbering_law, uses_law};
@@ -36,8 +36,8 @@ fn marked(
 impl<'a> Class<'a> {
     // Remaps the numbers of the class to those of a part of its numbering.
     fn cut(&mut self, remap: &Remap)
-        requires down { LeadDown remap.now }
-        requires led { IsLedClass remap.now self.old }
+        requires down { MapsDown remap.now }
+        requires remapped { IsMappedClass remap.now self.old }
         ensures { self.new ≡ renumbered remap.now self.old }
     {
         members_cut_law();
@@ -48,8 +48,8 @@ impl<'a> Class<'a> {
 
 // Remaps the numbers of the classes to those of a part of their numbering.
 fn cut_all(remap: &Remap, classes: &mut Vec<Class<'_>>)
-    requires down { LeadDown remap.now }
-    requires led { All (IsLedClass remap.now) classes.old.items }
+    requires down { MapsDown remap.now }
+    requires remapped { All (IsMappedClass remap.now) classes.old.items }
     ensures { classes.new.items ≡ map (renumbered remap.now) classes.old.items }
 {
     for i in 0..classes.len() {
@@ -81,7 +81,7 @@ fn stays(
 // Whether the numbering is kept whole, so that no number changes. A file that was written by rule has no symbol that its
 // classes do not mention.
 fn is_whole(numbering: &Numbering<'_>, trimmed: &Numbering<'_>, remap: &Remap) -> bool
-    ensures { AllLead numbering.now trimmed.now remap.now → IsTrue result → trimmed.now ≡ numbering.now }
+    ensures { AllMapTo numbering.now trimmed.now remap.now → IsTrue result → trimmed.now ≡ numbering.now }
 {
     if !stays(SymbolKind::Text, numbering, trimmed, remap) {
         return false;

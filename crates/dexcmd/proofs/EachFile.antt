@@ -4,7 +4,7 @@ use Rattle.std.specs.Prelude.{◌↔◌, OnOk, IfErr}
 use Rattle.std.proofs.lemmas.List.{drop_more, drop-map}
 use Rattle.std.proofs.lemmas.Bool.{false≢true}
 use Rattle.dexruns.specs.declared.faults.RunFault.{RunFault}
-use Rattle.dexcmd.specs.declared.reports.Report.{Report}
+use Rattle.dexcmd.specs.declared.outcome_report.Report.{Report}
 use Rattle.dexcmd.specs.Reports.{standard_name, done, outcome_status, outcome_lines}
 use Rattle.dexcmd.specs.internal.EachFile.{goes_on, AreRunOver, IsFileChecked}
 use Rattle.dexruns.specs.declared.faults.RunFault.TheVariants as fault
@@ -33,36 +33,36 @@ not_true false h = refl
 no_write : (outcome : Result (Unit {0}) RunFault) → outcome ≡ Err fault.Write → goes_on task.Digest (done outcome) ≡ true → ⊥
 no_write outcome is on = false≢true (subst (λ r. goes_on task.Digest (done r) ≡ true) is on)
 
-pub digest_works : (writer_failed : Bool) (outcome : Result (Unit {0}) RunFault) (told : Result ℕ RunFault) → told ≡ done outcome → (outcome ≡ Err fault.Write) ↔ (writer_failed ≡ true) →
-    goes_on task.Digest told ≡ true → writer_failed ≡ false
-digest_works writer_failed outcome told is write on = not_true writer_failed (λ failed. no_write outcome (write.1 failed) (subst (λ r. goes_on task.Digest r ≡ true) is on))
+pub digest_works : (writer_failed : Bool) (outcome : Result (Unit {0}) RunFault) (done_outcome : Result ℕ RunFault) → done_outcome ≡ done outcome → (outcome ≡ Err fault.Write) ↔ (writer_failed ≡ true) →
+    goes_on task.Digest done_outcome ≡ true → writer_failed ≡ false
+digest_works writer_failed outcome done_outcome is write on = not_true writer_failed (λ failed. no_write outcome (write.1 failed) (subst (λ r. goes_on task.Digest r ≡ true) is on))
 
 -- ---- one file checked
 
 module _ {In Out : Type 0} (is_input : List ℕ → In → Type 0) (is_standard : Out → Type 0) (is_closed : Out → Bool)
-    (tells : In → Type 0) (to_come : In → List ℕ) (reader_failed : In → Bool) (writes : Out → Type 0) (taken : Out → List ℕ) (writer_failed : Out → Bool)
+    (reports : In → Type 0) (to_come : In → List ℕ) (reader_failed : In → Bool) (writes : Out → Type 0) (taken : Out → List ℕ) (writer_failed : Out → Bool)
     (file : List ℕ) (input : In) (named : is_input file input) (out written : Out) (outcome : Result ℕ RunFault) where
-  pub file_checked : (inputs left : List In) → inputs ≡ input ∷ [] → IsCheckRun tells to_come reader_failed writes taken writer_failed (file ∷ []) inputs left out written outcome →
-      IsFileChecked is_input is_standard is_closed tells to_come reader_failed writes taken writer_failed file out written outcome
+  pub file_checked : (inputs left : List In) → inputs ≡ input ∷ [] → IsCheckRun reports to_come reader_failed writes taken writer_failed (file ∷ []) inputs left out written outcome →
+      IsFileChecked is_input is_standard is_closed reports to_come reader_failed writes taken writer_failed file out written outcome
   file_checked inputs left is ran = record {
     input = input;
     left = left;
     named = named;
-    ran = subst (λ l. IsCheckRun tells to_come reader_failed writes taken writer_failed (file ∷ []) l left out written outcome) is ran;
+    ran = subst (λ l. IsCheckRun reports to_come reader_failed writes taken writer_failed (file ∷ []) l left out written outcome) is ran;
   }
 
   -- out of memory before it is checked is that of the check
   pub file_unchecked : written ≡ out → outcome ≡ Err fault.Memory → reader_failed input ≡ false → writer_failed out ≡ false →
-      IsFileChecked is_input is_standard is_closed tells to_come reader_failed writes taken writer_failed file out written outcome
+      IsFileChecked is_input is_standard is_closed reports to_come reader_failed writes taken writer_failed file out written outcome
   file_unchecked same is reads works = record {
     input = input;
     left = input ∷ [];
     named = named;
-    ran = subst (λ w. IsCheckRun tells to_come reader_failed writes taken writer_failed (file ∷ []) (input ∷ []) (input ∷ []) out w outcome) (sym same)
-        (subst (λ r. IsCheckRun tells to_come reader_failed writes taken writer_failed (file ∷ []) (input ∷ []) (input ∷ []) out out r) (sym is) (record {
+    ran = subst (λ w. IsCheckRun reports to_come reader_failed writes taken writer_failed (file ∷ []) (input ∷ []) (input ∷ []) out w outcome) (sym same)
+        (subst (λ r. IsCheckRun reports to_come reader_failed writes taken writer_failed (file ∷ []) (input ∷ []) (input ∷ []) out out r) (sym is) (record {
           lines = tt;
           begun = record { verdicts = []; right = λ _. tt; written = λ _. (0, sym (append-nil (taken out))) };
-          no_further = none_moved tells to_come reader_failed (input ∷ []);
+          no_further = none_moved reports to_come reader_failed (input ∷ []);
           goes_on_telling = λ w. w;
           readers = tt;
           writer = tt;

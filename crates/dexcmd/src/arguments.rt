@@ -3,11 +3,11 @@
 ghost use Rattle.std.specs.Prelude.{◌≡◌, ◌<◌, ◌++◌, [], ◌∷◌, map, length, IfOk, IfErr, string_bytes};
 ghost use Rattle.dexargs.specs.Lists.{named_list};
 ghost use Rattle.dexcmd.specs.Reports.{IsReport};
-ghost use Rattle.dexcmd.specs.Arguments.{StandsFor, AreExpanded, IsOfList, IsOfLists, lists_status, lists_line};
+ghost use Rattle.dexcmd.specs.Arguments.{ExpandsTo, AreExpanded, IsOfList, IsOfLists, lists_status, lists_line};
 ghost use Rattle.dexcmd.specs.declared.arguments.ListsFault.TheVariants.{Memory};
 
 use crate::devices::Devices;
-use crate::reports::Report;
+use crate::outcome_report::Report;
 use dexargs::{ListFault, arguments_in, list_name};
 use dexhead::{Sink, Source};
 use dexruns::{ExitStatus, InputFault, read_whole};
@@ -46,8 +46,8 @@ fn expand<'a, D: Devices<'a>>(
     devices: &D,
     argument: &'a str,
 ) -> Result<Vec<String>, ListsFault<'a>>
-    ensures own { IfOk result (λ own. StandsFor (D.is_input devices.now) D.Input.tells D.Input.to_come argument.now (named_list argument.now) (map string_bytes own.items)) }
-    ensures fault { IfErr result (IsOfList (D.is_input devices.now) D.Input.tells D.Input.to_come argument.now) }
+    ensures own { IfOk result (λ own. ExpandsTo (D.is_input devices.now) D.Input.reports D.Input.to_come argument.now (named_list argument.now) (map string_bytes own.items)) }
+    ensures fault { IfErr result (IsOfList (D.is_input devices.now) D.Input.reports D.Input.to_come argument.now) }
 {
     let Some(name) = list_name(argument) else {
         let mut own = Vec::new(alloc);
@@ -80,8 +80,8 @@ pub fn expand_arguments<'a, D: Devices<'a>>(
     devices: &D,
     arguments: &'a [String],
 ) -> Result<Vec<String>, ListsFault<'a>>
-    ensures expanded { IfOk result (λ all. AreExpanded (D.is_input devices.now) D.Input.tells D.Input.to_come (map string_bytes arguments.now) (map string_bytes all.items)) }
-    ensures fault { IfErr result (IsOfLists (D.is_input devices.now) D.Input.tells D.Input.to_come (map string_bytes arguments.now)) }
+    ensures expanded { IfOk result (λ all. AreExpanded (D.is_input devices.now) D.Input.reports D.Input.to_come (map string_bytes arguments.now) (map string_bytes all.items)) }
+    ensures fault { IfErr result (IsOfLists (D.is_input devices.now) D.Input.reports D.Input.to_come (map string_bytes arguments.now)) }
 {
     let mut all = Vec::new(alloc);
     for argument in arguments {

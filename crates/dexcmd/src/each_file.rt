@@ -6,7 +6,7 @@ ghost use Rattle.dexcmd.specs.internal.EachFile.{passes, goes_on, IsFileChecked,
 ghost use Rattle.dexcmd.specs.declared.each_file.Task.TheVariants.{Check, Digest};
 
 use crate::devices::Devices;
-use crate::reports::{Report, STANDARD_OUTPUT, add_outcome, done, empty_report};
+use crate::outcome_report::{Report, STANDARD_OUTPUT, add_outcome, done, empty_report};
 use dexhead::{Sink, Source};
 use dexruns::{RunFault, check_run, digest_run};
 use std::alloc::{AllocError, Global};
@@ -49,7 +49,7 @@ fn check_file<'a, D: Devices<'a>>(
 ) -> Result<u8, RunFault>
     requires { D.Output.has_failed out.old ≡ false }
     ensures ran { IsFileChecked (D.is_input devices.now) (D.is_standard devices.now) D.is_closed
-        D.Input.tells D.Input.to_come D.Input.has_failed D.Output.tells D.Output.taken D.Output.has_failed file.now out.old out.new result }
+        D.Input.reports D.Input.to_come D.Input.has_failed D.Output.reports D.Output.taken D.Output.has_failed file.now out.old out.new result }
     ensures named { IfErr result (HasName 1) }
     ensures works { goes_on Check result ≡ true → D.Output.has_failed out.new ≡ false }
 {
@@ -67,7 +67,7 @@ fn digest_file<'a, D: Devices<'a>>(
 ) -> Result<u8, RunFault>
     requires { D.Output.has_failed out.old ≡ false }
     ensures ran { IsFileDigested (D.is_input devices.now) (D.is_standard devices.now) D.is_closed
-        D.Input.tells D.Input.to_come D.Input.has_failed D.Output.tells D.Output.taken D.Output.has_failed file.now out.old out.new result }
+        D.Input.reports D.Input.to_come D.Input.has_failed D.Output.reports D.Output.taken D.Output.has_failed file.now out.old out.new result }
     ensures named { IfErr result (HasName 1) }
     ensures works { goes_on Digest result ≡ true → D.Output.has_failed out.new ≡ false }
 {
@@ -85,7 +85,7 @@ fn run_over<'a, D: Devices<'a>>(
 ) -> Result<u8, RunFault>
     requires { D.Output.has_failed out.old ≡ false }
     ensures ran { IsFileRun (D.is_input devices.now) (D.is_standard devices.now) D.is_closed
-        D.Input.tells D.Input.to_come D.Input.has_failed D.Output.tells D.Output.taken D.Output.has_failed task file.now out.old out.new result }
+        D.Input.reports D.Input.to_come D.Input.has_failed D.Output.reports D.Output.taken D.Output.has_failed task file.now out.old out.new result }
     ensures named { IfErr result (HasName 1) }
     ensures works { goes_on task result ≡ true → D.Output.has_failed out.new ≡ false }
 {
@@ -103,7 +103,7 @@ pub(crate) fn run_over_each<'a, D: Devices<'a>>(
     files: &'a [String],
 ) -> Result<Report, AllocError>
     ensures { IfOk result (HasRunOverEach (D.is_input devices.now) (D.is_standard devices.now) D.is_closed
-        D.Input.tells D.Input.to_come D.Input.has_failed D.Output.tells D.Output.taken D.Output.has_failed task (map string_bytes files.now)) }
+        D.Input.reports D.Input.to_come D.Input.has_failed D.Output.reports D.Output.taken D.Output.has_failed task (map string_bytes files.now)) }
 {
     let mut report = empty_report(alloc);
     let mut out = devices.standard();

@@ -7,7 +7,7 @@ ghost use Rattle.dexcmd.specs.internal.Jobs.{HasChecked, HasDumped, HasNormalise
 
 use crate::devices::Devices;
 use crate::each_file::{Task, run_over_each};
-use crate::reports::{Report, STANDARD_OUTPUT, done, report_of};
+use crate::outcome_report::{Report, STANDARD_OUTPUT, done, report_of};
 use dexargs::Job;
 use dexhead::{Sink, Source};
 use dexmerge::Caps;
@@ -50,7 +50,7 @@ fn check<'a, D: Devices<'a>>(
     files: &'a [String],
 ) -> Result<Report, AllocError>
     ensures { IfOk result (HasChecked (D.is_input devices.now) (D.is_output devices.now) (D.is_standard devices.now) D.is_closed
-        D.Input.tells D.Input.to_come D.Input.has_failed D.Output.tells D.Output.taken D.Output.has_failed (map string_bytes files.now)) }
+        D.Input.reports D.Input.to_come D.Input.has_failed D.Output.reports D.Output.taken D.Output.has_failed (map string_bytes files.now)) }
 {
     let texts = texts(alloc, files)?;
     let names = texts.as_slice();
@@ -63,7 +63,7 @@ fn check<'a, D: Devices<'a>>(
 
 fn dump<'a, D: Devices<'a>>(alloc: Global, devices: &D, file: &'a str) -> Result<Report, AllocError>
     ensures { IfOk result (HasDumped (D.is_input devices.now) (D.is_output devices.now) (D.is_standard devices.now) D.is_closed
-        D.Input.tells D.Input.to_come D.Input.has_failed D.Output.tells D.Output.taken D.Output.has_failed file.now) }
+        D.Input.reports D.Input.to_come D.Input.has_failed D.Output.reports D.Output.taken D.Output.has_failed file.now) }
 {
     let mut input = devices.input(file);
     let mut out = devices.standard();
@@ -79,7 +79,7 @@ fn normalise<'a, D: Devices<'a>>(
     target: &'a str,
 ) -> Result<Report, AllocError>
     ensures { IfOk result (HasNormalised (D.is_input devices.now) (D.is_output devices.now) (D.is_standard devices.now) D.is_closed
-        D.Input.tells D.Input.to_come D.Input.has_failed D.Output.tells D.Output.taken D.Output.has_failed file.now target.now) }
+        D.Input.reports D.Input.to_come D.Input.has_failed D.Output.reports D.Output.taken D.Output.has_failed file.now target.now) }
 {
     let mut input = devices.input(file);
     let mut out = devices.output(target);
@@ -100,7 +100,7 @@ fn merge<'a, D: Devices<'a>>(
     requires files { 1 ≤ length files.now }
     requires fan { IfSome fan (λ fan. 2 ≤ fan) }
     ensures { IfOk result (HasMerged (D.is_input devices.now) (D.is_output devices.now) (D.is_standard devices.now) D.is_closed
-        D.Input.tells D.Input.to_come D.Input.has_failed D.Output.tells D.Output.taken D.Output.has_failed
+        D.Input.reports D.Input.to_come D.Input.has_failed D.Output.reports D.Output.taken D.Output.has_failed
         target.now fan caps.now is_stripped (map string_bytes files.now)) }
 {
     let plan = fan_plan(alloc, files.len(), fan)?;
@@ -126,7 +126,7 @@ fn count<'a, D: Devices<'a>>(
     files: &'a [String],
 ) -> Result<Report, AllocError>
     ensures { IfOk result (HasCounted (D.is_input devices.now) (D.is_output devices.now) (D.is_standard devices.now) D.is_closed
-        D.Input.tells D.Input.to_come D.Input.has_failed D.Output.tells D.Output.taken D.Output.has_failed (map string_bytes files.now)) }
+        D.Input.reports D.Input.to_come D.Input.has_failed D.Output.reports D.Output.taken D.Output.has_failed (map string_bytes files.now)) }
 {
     let texts = texts(alloc, files)?;
     let names = texts.as_slice();
@@ -144,7 +144,7 @@ fn repair<'a, D: Devices<'a>>(
     target: &'a str,
 ) -> Result<Report, AllocError>
     ensures { IfOk result (HasRepaired (D.is_input devices.now) (D.is_output devices.now) (D.is_standard devices.now) D.is_closed
-        D.Input.tells D.Input.to_come D.Input.has_failed D.Output.tells D.Output.taken D.Output.has_failed file.now target.now) }
+        D.Input.reports D.Input.to_come D.Input.has_failed D.Output.reports D.Output.taken D.Output.has_failed file.now target.now) }
 {
     let mut input = devices.input(file);
     let mut out = devices.output(target);
@@ -164,7 +164,7 @@ pub fn run_job<'a, D: Devices<'a>>(
 ) -> Result<Report, AllocError>
     requires { IsSound job.now }
     ensures { IfOk result (IsDone (D.is_input devices.now) (D.is_output devices.now) (D.is_standard devices.now) D.is_closed
-        D.Input.tells D.Input.to_come D.Input.has_failed D.Output.tells D.Output.taken D.Output.has_failed job.now) }
+        D.Input.reports D.Input.to_come D.Input.has_failed D.Output.reports D.Output.taken D.Output.has_failed job.now) }
 {
     match job {
         Job::Check(files) => check(alloc, devices, files.as_slice()),

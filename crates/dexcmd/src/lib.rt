@@ -8,7 +8,7 @@ mod devices;
 mod each_file;
 mod files;
 mod jobs;
-mod reports;
+mod outcome_report;
 mod system;
 
 pub use arguments::{ListsFault, expand_arguments, explain_lists};
@@ -20,5 +20,5 @@ pub use dexruns::{
 };
 pub use files::{NewFile, OldFile, file_len};
 pub use jobs::run_job;
-pub use reports::Report;
+pub use outcome_report::Report;
 pub use system::{NamedInput, NamedOutput, SystemDevices};

@@ -11,22 +11,22 @@ use Rattle.dexspec.specs.Code as symbolic
 use Rattle.dexspec.specs.Debug.{Debug}
 use Rattle.dexpool.specs.declared.symbols.SymbolKind.TheVariants as kinds
 use Rattle.dexpool.specs.declared.marks.Marks.{Marks}
-use Rattle.dexpool.specs.Numberings.{IsAt, AreRising, AreMarksOf, Maps, image_of, AllLead}
+use Rattle.dexpool.specs.Numberings.{IsAt, AreRising, AreMarksOf, Maps, image_of, AllMapTo}
 use Rattle.dexpool.specs.Uses.{HasMark, IsUseOf}
 use Rattle.dexinsn.specs.Numbered.{uses_of}
 use Rattle.dexinsn.proofs.Meanings as pieces
 use Rattle.dexcode.specs.declared.handlers.Catch.{Catch}
-use Rattle.dexcode.specs.Debug.{NumberedDebug, StandsForDebug, HasImage, HasPlace, renumbered_debug, debug_uses}
+use Rattle.dexcode.specs.Debug.{NumberedDebug, DenotesDebug, HasImage, HasPlace, renumbered_debug, debug_uses}
 use Rattle.dexcode.specs.Equality.{handler_decides}
-use Rattle.dexcode.specs.Numbered.{NumberedHandler, NumberedTry, NumberedItem, StandsForCatch, StandsForTry, StandsForCode, same_handler, handlers_of, catch_meant, handler_meant, try_meant}
+use Rattle.dexcode.specs.Numbered.{NumberedHandler, NumberedTry, NumberedItem, DenotesCatch, DenotesTry, DenotesCode, same_handler, handlers_of, catch_meant, handler_meant, try_meant}
 use Rattle.dexcode.specs.Renumbering.{catch_use, handler_uses, tries_uses, item_uses, HasTypePlace, HasPlaces, HasImages, renumbered_catch, renumbered_try, renumbered_item}
 use Rattle.dexcode.proofs.CodeUses.{optional_debug_uses, debug_part}
 use Rattle.dexcode.proofs.DebugMeanings as debugs
-use Rattle.dexcode.proofs.DebugMeanings.{lead_at, zip-append}
+use Rattle.dexcode.proofs.DebugMeanings.{mapped_at, zip-append}
 use Rattle.dexpool.proofs.Parts.{all_of, all_parts}
 use Rattle.dexcode.proofs.Images.{one_default, all_distinct}
 use Rattle.dexcode.proofs.TryRows.{IsInRange, handlers_meant}
-use Rattle.dexcode.proofs.TypesLed.{all_from_distinct}
+use Rattle.dexcode.proofs.TypesRemapped.{all_from_distinct}
 
 -- ---- other numbers
 
@@ -34,52 +34,52 @@ use Rattle.dexcode.proofs.TypesLed.{all_from_distinct}
 abbrev HaveTypeImages : Maps → NumberedHandler → Type 0
 HaveTypeImages r h = All (HasImage r) (handler_uses h)
 
-module _ (m n : Mentions) (r : Maps) (l : AllLead m n r) where
+module _ (m n : Mentions) (r : Maps) (l : AllMapTo m n r) where
   type_by : (i : ℕ) (o : Option ℕ) (t : Text) → image_of r kinds.Typ i ≡ o → IsSome o → IsAt m.types i t → IsAt n.types (unwrap_or o i) t
   type_by i None t e some h = absurd cc
-  type_by i (Some j) t e some h = lead_at m.types n.types r.types i j [] t l.types_lead h e
+  type_by i (Some j) t e some h = mapped_at m.types n.types r.types i j [] t l.types_mapped h e
 
-  catches_led : (cs : List Catch) (xs : List symbolic.Catch) → All (HasImage r) (map catch_use cs) → AllZip (StandsForCatch m) cs xs → AllZip (StandsForCatch n) (map (renumbered_catch r) cs) xs
-  catches_led [] [] all h = tt
-  catches_led [] (x ∷ xs) all h = absurd h
-  catches_led (c ∷ cs) [] all h = absurd h
-  catches_led (c ∷ cs) (x ∷ xs) all h = (
+  catches_remapped : (cs : List Catch) (xs : List symbolic.Catch) → All (HasImage r) (map catch_use cs) → AllZip (DenotesCatch m) cs xs → AllZip (DenotesCatch n) (map (renumbered_catch r) cs) xs
+  catches_remapped [] [] all h = tt
+  catches_remapped [] (x ∷ xs) all h = absurd h
+  catches_remapped (c ∷ cs) [] all h = absurd h
+  catches_remapped (c ∷ cs) (x ∷ xs) all h = (
     record { type_is = type_by c.typ (image_of r kinds.Typ c.typ) x.type refl (All-head (HasImage r) (catch_use c) (map catch_use cs) all) h.0.type_is; address_is = h.0.address_is },
-    catches_led cs xs (All-tail (HasImage r) (catch_use c) (map catch_use cs) all) h.1,
+    catches_remapped cs xs (All-tail (HasImage r) (catch_use c) (map catch_use cs) all) h.1,
   )
 
-  tries_led : (ts : List NumberedTry) (xs : List symbolic.Try) → All (HaveTypeImages r) (map (λ t. t.handler) ts) → AllZip (StandsForTry m) ts xs → AllZip (StandsForTry n) (map (renumbered_try r) ts) xs
-  tries_led [] [] all h = tt
-  tries_led [] (x ∷ xs) all h = absurd h
-  tries_led (t ∷ ts) [] all h = absurd h
-  tries_led (t ∷ ts) (x ∷ xs) all h =
+  tries_remapped : (ts : List NumberedTry) (xs : List symbolic.Try) → All (HaveTypeImages r) (map (λ t. t.handler) ts) → AllZip (DenotesTry m) ts xs → AllZip (DenotesTry n) (map (renumbered_try r) ts) xs
+  tries_remapped [] [] all h = tt
+  tries_remapped [] (x ∷ xs) all h = absurd h
+  tries_remapped (t ∷ ts) [] all h = absurd h
+  tries_remapped (t ∷ ts) (x ∷ xs) all h =
       let handlers = map (λ (u : NumberedTry). u.handler) ts in
       let is = h.0.handler_is in (
         record {
           start_is = h.0.start_is;
           count_is = h.0.count_is;
-          handler_is = record { catches_are = catches_led t.handler.catches x.handler.catches (All-head (HaveTypeImages r) t.handler handlers all) is.catches_are; catch_all_is = is.catch_all_is };
+          handler_is = record { catches_are = catches_remapped t.handler.catches x.handler.catches (All-head (HaveTypeImages r) t.handler handlers all) is.catches_are; catch_all_is = is.catch_all_is };
         },
-        tries_led ts xs (All-tail (HaveTypeImages r) t.handler handlers all) h.1,
+        tries_remapped ts xs (All-tail (HaveTypeImages r) t.handler handlers all) h.1,
       )
 
-  debug_led : (o : Option NumberedDebug) (x : Option Debug) → All (HasImage r) (optional_debug_uses o) → BothOrNone (StandsForDebug m) o x → BothOrNone (StandsForDebug n) (option_map (renumbered_debug r) o) x
-  debug_led None None all h = tt
-  debug_led None (Some x) all h = absurd h
-  debug_led (Some d) None all h = absurd h
-  debug_led (Some d) (Some x) all h = debugs.renumbered_stands m n r d x l (debug_part (HasImage r) (Some d) d all refl) h
+  debug_remapped : (o : Option NumberedDebug) (x : Option Debug) → All (HasImage r) (optional_debug_uses o) → BothOrNone (DenotesDebug m) o x → BothOrNone (DenotesDebug n) (option_map (renumbered_debug r) o) x
+  debug_remapped None None all h = tt
+  debug_remapped None (Some x) all h = absurd h
+  debug_remapped (Some d) None all h = absurd h
+  debug_remapped (Some d) (Some x) all h = debugs.renumbered_denotes m n r d x l (debug_part (HasImage r) (Some d) d all refl) h
 
 -- if each number has an image from one numbering to another, the code denotes what it denoted before
-pub renumbered_stands : (m n : Mentions) (r : Maps) (c : NumberedItem) (x : symbolic.Code) → AllLead m n r → HasImages r c → StandsForCode m c x → StandsForCode n (renumbered_item r c) x
-renumbered_stands m n r c x l all h =
+pub renumbered_denotes : (m n : Mentions) (r : Maps) (c : NumberedItem) (x : symbolic.Code) → AllMapTo m n r → HasImages r c → DenotesCode m c x → DenotesCode n (renumbered_item r c) x
+renumbered_denotes m n r c x l all h =
     let handlers = map (λ (t : NumberedTry). t.handler) c.tries in
     record {
       registers_are = h.registers_are;
       ins_are = h.ins_are;
       outs_are = h.outs_are;
-      pieces_are = pieces.renumbered_stand m n r c.body.pieces x.pieces l all.pieces_have h.pieces_are;
-      tries_are = tries_led m n r l c.tries x.tries (all_from_distinct same_handler handler_decides (HaveTypeImages r) handlers (all_parts (HasImage r) handler_uses (distinct same_handler handlers) all.catches_have)) h.tries_are;
-      debug_is = debug_led m n r l c.debug x.debug all.debug_has h.debug_is;
+      pieces_are = pieces.renumbered_denote m n r c.body.pieces x.pieces l all.pieces_have h.pieces_are;
+      tries_are = tries_remapped m n r l c.tries x.tries (all_from_distinct same_handler handler_decides (HaveTypeImages r) handlers (all_parts (HasImage r) handler_uses (distinct same_handler handlers) all.catches_have)) h.tries_are;
+      debug_is = debug_remapped m n r l c.debug x.debug all.debug_has h.debug_is;
     }
 
 -- numbers that have places have images
@@ -93,18 +93,18 @@ images_of_places r c h = record {
 -- ---- the symbols that occur
 
 module _ (m : Mentions) where
-  catches_meant : (cs : List Catch) (xs : List symbolic.Catch) → AllZip (StandsForCatch m) cs xs → map (catch_meant m) cs ≡ xs
+  catches_meant : (cs : List Catch) (xs : List symbolic.Catch) → AllZip (DenotesCatch m) cs xs → map (catch_meant m) cs ≡ xs
   catches_meant [] [] h = refl
   catches_meant [] (x ∷ xs) h = absurd h
   catches_meant (c ∷ cs) [] h = absurd h
   catches_meant (c ∷ cs) (x ∷ xs) h = λ i. record { type = h.0.type_is.is [] i; address = h.0.address_is i } ∷ catches_meant cs xs h.1 i
 
-  catches_in : (cs : List Catch) (xs : List symbolic.Catch) → AllZip (StandsForCatch m) cs xs → All (λ c. c.typ < length m.types) cs
+  catches_in : (cs : List Catch) (xs : List symbolic.Catch) → AllZip (DenotesCatch m) cs xs → All (λ c. c.typ < length m.types) cs
   catches_in [] xs h = All-nil (λ (c : Catch). c.typ < length m.types)
   catches_in (c ∷ cs) [] h = absurd h
   catches_in (c ∷ cs) (x ∷ xs) h = All-cons (λ (c : Catch). c.typ < length m.types) c cs h.0.type_is.within (catches_in cs xs h.1)
 
-  tries_meant : (ts : List NumberedTry) (xs : List symbolic.Try) → AllZip (StandsForTry m) ts xs → map (try_meant m) ts ≡ xs
+  tries_meant : (ts : List NumberedTry) (xs : List symbolic.Try) → AllZip (DenotesTry m) ts xs → map (try_meant m) ts ≡ xs
   tries_meant [] [] h = refl
   tries_meant [] (x ∷ xs) h = absurd h
   tries_meant (t ∷ ts) [] h = absurd h
@@ -113,12 +113,12 @@ module _ (m : Mentions) where
       let catches = catches_meant t.handler.catches x.handler.catches is.catches_are in
       λ i. record { start = h.0.start_is i; count = h.0.count_is i; handler = record { catches = catches i; catch_all = is.catch_all_is i } } ∷ tries_meant ts xs h.1 i
 
-  tries_in : (ts : List NumberedTry) (xs : List symbolic.Try) → AllZip (StandsForTry m) ts xs → All (IsInRange m) (map (λ t. t.handler) ts)
+  tries_in : (ts : List NumberedTry) (xs : List symbolic.Try) → AllZip (DenotesTry m) ts xs → All (IsInRange m) (map (λ t. t.handler) ts)
   tries_in [] xs h = All-nil (IsInRange m)
   tries_in (t ∷ ts) [] h = absurd h
   tries_in (t ∷ ts) (x ∷ xs) h = All-cons (IsInRange m) t.handler (map (λ (u : NumberedTry). u.handler) ts) (catches_in t.handler.catches x.handler.catches h.0.handler_is.catches_are) (tries_in ts xs h.1)
 
-  pub handlers_in : (ts : List NumberedTry) (xs : List symbolic.Try) → AllZip (StandsForTry m) ts xs → All (IsInRange m) (handlers_of ts)
+  pub handlers_in : (ts : List NumberedTry) (xs : List symbolic.Try) → AllZip (DenotesTry m) ts xs → All (IsInRange m) (handlers_of ts)
   handlers_in ts xs h = all_distinct (IsInRange m) same_handler (map (λ (t : NumberedTry). t.handler) ts) (tries_in ts xs h)
 
   type_used : (i : ℕ) → i < length m.types → IsUseOf m (record { kind = kinds.Typ; number = i }) (TypeSymbol (get_or m.types i []))
@@ -134,21 +134,21 @@ module _ (m : Mentions) where
       zip-append (IsUseOf m) (handler_uses h) (handler_symbols (handler_meant m h)) (flat_map handler_uses hs) (flat_map handler_symbols (map (handler_meant m) hs))
       (catches_used h.catches (All-head (IsInRange m) h hs all)) (handlers_used hs (All-tail (IsInRange m) h hs all))
 
-  pub debug_used : (o : Option NumberedDebug) (x : Option Debug) → BothOrNone (StandsForDebug m) o x → AllZip (IsUseOf m) (optional_debug_uses o) (flat_map debug_symbols (option_to_list x))
+  pub debug_used : (o : Option NumberedDebug) (x : Option Debug) → BothOrNone (DenotesDebug m) o x → AllZip (IsUseOf m) (optional_debug_uses o) (flat_map debug_symbols (option_to_list x))
   debug_used None None h = tt
   debug_used None (Some x) h = absurd h
   debug_used (Some d) None h = absurd h
-  debug_used (Some d) (Some x) h = zip-append (IsUseOf m) (debug_uses d) (debug_symbols x) [] [] (debugs.uses_stand m d x h) tt
+  debug_used (Some d) (Some x) h = zip-append (IsUseOf m) (debug_uses d) (debug_symbols x) [] [] (debugs.uses_encoded m d x h) tt
 
-  tries_used : (ts : List NumberedTry) (xs : List symbolic.Try) → AreRising m → AllZip (StandsForTry m) ts xs → AllZip (IsUseOf m) (tries_uses ts) (flat_map handler_symbols (symbolic.handlers_of xs))
+  tries_used : (ts : List NumberedTry) (xs : List symbolic.Try) → AreRising m → AllZip (DenotesTry m) ts xs → AllZip (IsUseOf m) (tries_uses ts) (flat_map handler_symbols (symbolic.handlers_of xs))
   tries_used ts xs rising h =
       let same : map (handler_meant m) (handlers_of ts) ≡ symbolic.handlers_of xs = sym (handlers_meant m rising ts (tries_in ts xs h)) ∙ ap symbolic.handlers_of (tries_meant ts xs h) in
       subst (λ ys. AllZip (IsUseOf m) (tries_uses ts) (flat_map handler_symbols ys)) same (handlers_used (handlers_of ts) (handlers_in ts xs h))
 
-  pub uses_stand : (c : NumberedItem) (x : symbolic.Code) → AreRising m → StandsForCode m c x → AllZip (IsUseOf m) (item_uses c) (code_symbols x)
-  uses_stand c x rising h =
+  pub uses_encoded : (c : NumberedItem) (x : symbolic.Code) → AreRising m → DenotesCode m c x → AllZip (IsUseOf m) (item_uses c) (code_symbols x)
+  uses_encoded c x rising h =
       zip-append (IsUseOf m) (uses_of c.body.pieces) (flat_map piece_symbols x.pieces) (tries_uses c.tries ++ optional_debug_uses c.debug) (flat_map handler_symbols (symbolic.handlers_of x.tries) ++ flat_map debug_symbols (option_to_list x.debug))
-      (pieces.uses_stand m c.body.pieces x.pieces h.pieces_are)
+      (pieces.uses_encoded m c.body.pieces x.pieces h.pieces_are)
       (zip-append (IsUseOf m) (tries_uses c.tries) (flat_map handler_symbols (symbolic.handlers_of x.tries)) (optional_debug_uses c.debug) (flat_map debug_symbols (option_to_list x.debug)) (tries_used c.tries x.tries rising h.tries_are) (debug_used c.debug x.debug h.debug_is))
 
 -- ---- marks
@@ -164,12 +164,12 @@ module _ (m : Mentions) (marks : Marks) where
   handlers_marked (h ∷ hs) are all =
       All-append (HasMark marks) (handler_uses h) (flat_map handler_uses hs) (catches_marked h.catches are (All-head (IsInRange m) h hs all)) (handlers_marked hs are (All-tail (IsInRange m) h hs all))
 
-  debug_marked : (o : Option NumberedDebug) (x : Option Debug) → AreMarksOf m marks → BothOrNone (StandsForDebug m) o x → All (HasMark marks) (optional_debug_uses o)
+  debug_marked : (o : Option NumberedDebug) (x : Option Debug) → AreMarksOf m marks → BothOrNone (DenotesDebug m) o x → All (HasMark marks) (optional_debug_uses o)
   debug_marked None x are h = All-nil (HasMark marks)
   debug_marked (Some d) None are h = absurd h
   debug_marked (Some d) (Some x) are h = All-append (HasMark marks) (debug_uses d) [] (debugs.marks_there m marks are d x h) (All-nil (HasMark marks))
 
-  pub marks_there : (c : NumberedItem) (x : symbolic.Code) → AreMarksOf m marks → StandsForCode m c x → All (HasMark marks) (item_uses c)
+  pub marks_there : (c : NumberedItem) (x : symbolic.Code) → AreMarksOf m marks → DenotesCode m c x → All (HasMark marks) (item_uses c)
   marks_there c x are h =
       All-append (HasMark marks) (uses_of c.body.pieces) (tries_uses c.tries ++ optional_debug_uses c.debug) (pieces.marks_there m marks c.body.pieces x.pieces are h.pieces_are)
       (All-append (HasMark marks) (tries_uses c.tries) (optional_debug_uses c.debug) (handlers_marked (handlers_of c.tries) are (handlers_in m c.tries x.tries h.tries_are)) (debug_marked c.debug x.debug are h.debug_is))

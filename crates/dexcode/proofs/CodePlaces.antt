@@ -9,24 +9,24 @@ use Rattle.dexspec.specs.Code as symbolic
 use Rattle.dexpool.specs.declared.symbols.SymbolKind.{SymbolKind}
 use Rattle.dexpool.specs.declared.symbols.SymbolKind.TheVariants as kinds
 use Rattle.dexpool.specs.Pools.{count_of}
-use Rattle.dexpool.specs.Laws.{LeadsAll}
-use Rattle.dexpool.specs.Numberings.{IsNumbered, IsOfKind, Maps, image_of, AllLead}
+use Rattle.dexpool.specs.Laws.{MapsAll}
+use Rattle.dexpool.specs.Numberings.{IsNumbered, IsOfKind, Maps, image_of, AllMapTo}
 use Rattle.dexpool.specs.Uses.{Use, IsUseOf}
 use Rattle.dexinsn.specs.Numbered.{uses_of}
 use Rattle.dexinsn.specs.Numbered as pieces
 use Rattle.dexinsn.proofs.Fits as insn_proofs
 use Rattle.dexinsn.proofs.Meanings as pieces_proofs
-use Rattle.dexinsn.specs.Fitting.{ImagesFit, IsGreatest, LeadsShort, short_strings}
-use Rattle.dexpool.specs.Orderly.{KeepOrder, LeadDown}
+use Rattle.dexinsn.specs.Fitting.{ImagesFit, IsGreatest, MapsShort, short_strings}
+use Rattle.dexpool.specs.Orderly.{KeepOrder, MapsDown}
 use Rattle.dexcode.specs.declared.handlers.Catch.{Catch}
 use Rattle.dexcode.specs.declared.tries.Try.{Try}
 use Rattle.dexcode.specs.declared.debug_operation.Operation.{Operation}
 use Rattle.dexcode.specs.Debug.{NumberedDebug, FitsIndex, IsFormedOperation, IsFormedDebug, HasImage, HasPlace, number_uses, operation_uses, debug_uses, name_of, type_of, signature_of}
-use Rattle.dexcode.specs.Numbered.{NumberedHandler, NumberedItem, StandsForCode, IsFormedHandler, AreStored, all_named, handlers_of}
+use Rattle.dexcode.specs.Numbered.{NumberedHandler, NumberedItem, DenotesCode, IsFormedHandler, AreStored, all_named, handlers_of}
 use Rattle.dexcode.specs.Renumbering.{catch_use, handler_uses, tries_uses, item_uses, HasTypePlace, HasPlaces, HasImages, NumbersFit}
 use Rattle.dexcode.proofs.CodeMeanings.{handlers_in, debug_used}
 use Rattle.dexcode.proofs.CodeUses.{optional_debug_uses, pieces_part, tries_part, debugs_part}
-use Rattle.dexpool.proofs.Parts.{all_of, all_front, all_map}
+use Rattle.dexpool.proofs.Parts.{all_of, all_prefix, all_map}
 use Rattle.dexcode.proofs.TryRows.{IsInRange}
 
 -- the numbers of the code have images if its symbols have
@@ -39,57 +39,57 @@ images_of_uses r c all = record {
 
 -- ---- all numbers have images
 
-module _ (m : Mentions) (r : Maps) (leads : LeadsAll m r) where
+module _ (m : Mentions) (r : Maps) (maps_to : MapsAll m r) where
   image_by : (k : SymbolKind) (i : ℕ) (s : Symbol) → IsNumbered m i s → IsOfKind k s → IsSome (image_of r k i)
-  image_by kinds.Text i (TextSymbol s) h kind = leads kinds.Text i h.within
-  image_by kinds.Typ i (TypeSymbol s) h kind = leads kinds.Typ i h.within
-  image_by kinds.Proto i (ProtoSymbol s) h kind = leads kinds.Proto i h.within
-  image_by kinds.Field i (FieldSymbol s) h kind = leads kinds.Field i h.within
-  image_by kinds.Method i (MethodSymbol s) h kind = leads kinds.Method i h.within
+  image_by kinds.Text i (TextSymbol s) h kind = maps_to kinds.Text i h.within
+  image_by kinds.Typ i (TypeSymbol s) h kind = maps_to kinds.Typ i h.within
+  image_by kinds.Proto i (ProtoSymbol s) h kind = maps_to kinds.Proto i h.within
+  image_by kinds.Field i (FieldSymbol s) h kind = maps_to kinds.Field i h.within
+  image_by kinds.Method i (MethodSymbol s) h kind = maps_to kinds.Method i h.within
   image_by k i s h kind = absurd kind
 
-  uses_lead : (us : List Use) (ss : List Symbol) → AllZip (IsUseOf m) us ss → All (HasImage r) us
-  uses_lead [] ss h = All-nil (HasImage r)
-  uses_lead (u ∷ us) [] h = absurd h
-  uses_lead (u ∷ us) (s ∷ ss) h = All-cons (HasImage r) u us (image_by u.kind u.number s h.0.0 h.0.1) (uses_lead us ss h.1)
+  uses_mapped : (us : List Use) (ss : List Symbol) → AllZip (IsUseOf m) us ss → All (HasImage r) us
+  uses_mapped [] ss h = All-nil (HasImage r)
+  uses_mapped (u ∷ us) [] h = absurd h
+  uses_mapped (u ∷ us) (s ∷ ss) h = All-cons (HasImage r) u us (image_by u.kind u.number s h.0.0 h.0.1) (uses_mapped us ss h.1)
 
-  catches_lead : (cs : List Catch) (us : List Use) → All (λ c. c.typ < length m.types) cs → All (HasImage r) us → All (HasImage r) (map catch_use cs ++ us)
-  catches_lead [] us all more = more
-  catches_lead (c ∷ cs) us all more =
-      All-cons (HasImage r) (catch_use c) (map catch_use cs ++ us) (leads kinds.Typ c.typ (All-head (λ (c : Catch). c.typ < length m.types) c cs all)) (catches_lead cs us (All-tail (λ (c : Catch). c.typ < length m.types) c cs all) more)
+  catches_mapped : (cs : List Catch) (us : List Use) → All (λ c. c.typ < length m.types) cs → All (HasImage r) us → All (HasImage r) (map catch_use cs ++ us)
+  catches_mapped [] us all more = more
+  catches_mapped (c ∷ cs) us all more =
+      All-cons (HasImage r) (catch_use c) (map catch_use cs ++ us) (maps_to kinds.Typ c.typ (All-head (λ (c : Catch). c.typ < length m.types) c cs all)) (catches_mapped cs us (All-tail (λ (c : Catch). c.typ < length m.types) c cs all) more)
 
-  handlers_lead : (hs : List NumberedHandler) → All (IsInRange m) hs → All (HasImage r) (flat_map handler_uses hs)
-  handlers_lead [] all = All-nil (HasImage r)
-  handlers_lead (h ∷ hs) all = catches_lead h.catches (flat_map handler_uses hs) (All-head (IsInRange m) h hs all) (handlers_lead hs (All-tail (IsInRange m) h hs all))
+  handlers_mapped : (hs : List NumberedHandler) → All (IsInRange m) hs → All (HasImage r) (flat_map handler_uses hs)
+  handlers_mapped [] all = All-nil (HasImage r)
+  handlers_mapped (h ∷ hs) all = catches_mapped h.catches (flat_map handler_uses hs) (All-head (IsInRange m) h hs all) (handlers_mapped hs (All-tail (IsInRange m) h hs all))
 
-pub images_there : (m : Mentions) (r : Maps) (c : NumberedItem) (x : symbolic.Code) → LeadsAll m r → StandsForCode m c x → HasImages r c
-images_there m r c x leads h = record {
-  pieces_have = insn_proofs.images_of_uses r c.body.pieces (uses_lead m r leads (uses_of c.body.pieces) (flat_map piece_symbols x.pieces) (pieces_proofs.uses_stand m c.body.pieces x.pieces h.pieces_are));
-  catches_have = handlers_lead m r leads (handlers_of c.tries) (handlers_in m c.tries x.tries h.tries_are);
-  debug_has = uses_lead m r leads (optional_debug_uses c.debug) (flat_map debug_symbols (option_to_list x.debug)) (debug_used m c.debug x.debug h.debug_is);
+pub images_there : (m : Mentions) (r : Maps) (c : NumberedItem) (x : symbolic.Code) → MapsAll m r → DenotesCode m c x → HasImages r c
+images_there m r c x maps_to h = record {
+  pieces_have = insn_proofs.images_of_uses r c.body.pieces (uses_mapped m r maps_to (uses_of c.body.pieces) (flat_map piece_symbols x.pieces) (pieces_proofs.uses_encoded m c.body.pieces x.pieces h.pieces_are));
+  catches_have = handlers_mapped m r maps_to (handlers_of c.tries) (handlers_in m c.tries x.tries h.tries_are);
+  debug_has = uses_mapped m r maps_to (optional_debug_uses c.debug) (flat_map debug_symbols (option_to_list x.debug)) (debug_used m c.debug x.debug h.debug_is);
 }
 
 -- ---- a number whose image is that of a symbol has a place
 
-image_within : (m n : Mentions) (r : Maps) (k : SymbolKind) (i j : ℕ) → AllLead m n r → image_of r k i ≡ Some j → j < count_of k n
-image_within m n r kinds.Text i j l e = (l.texts_lead.same i j [] e).within
-image_within m n r kinds.Typ i j l e = (l.types_lead.same i j [] e).within
-image_within m n r kinds.Proto i j l e = (l.protos_lead.same i j (record { return_type = []; parameters = [] }) e).within
-image_within m n r kinds.Field i j l e = (l.fields_lead.same i j (record { class = []; name = []; type = [] }) e).within
-image_within m n r kinds.Method i j l e = (l.methods_lead.same i j (record { class = []; name = []; proto = record { return_type = []; parameters = [] } }) e).within
+image_within : (m n : Mentions) (r : Maps) (k : SymbolKind) (i j : ℕ) → AllMapTo m n r → image_of r k i ≡ Some j → j < count_of k n
+image_within m n r kinds.Text i j l e = (l.texts_mapped.same i j [] e).within
+image_within m n r kinds.Typ i j l e = (l.types_mapped.same i j [] e).within
+image_within m n r kinds.Proto i j l e = (l.protos_mapped.same i j (record { return_type = []; parameters = [] }) e).within
+image_within m n r kinds.Field i j l e = (l.fields_mapped.same i j (record { class = []; name = []; type = [] }) e).within
+image_within m n r kinds.Method i j l e = (l.methods_mapped.same i j (record { class = []; name = []; proto = record { return_type = []; parameters = [] } }) e).within
 
-place_by : (m n : Mentions) (r : Maps) (k : SymbolKind) (i : ℕ) (o : Option ℕ) → AllLead m n r → image_of r k i ≡ o → IsSome o → (j : ℕ) × (image_of r k i ≡ Some j) × (j < count_of k n)
+place_by : (m n : Mentions) (r : Maps) (k : SymbolKind) (i : ℕ) (o : Option ℕ) → AllMapTo m n r → image_of r k i ≡ o → IsSome o → (j : ℕ) × (image_of r k i ≡ Some j) × (j < count_of k n)
 place_by m n r k i None l e some = absurd cc
 place_by m n r k i (Some j) l e some = (j, e, image_within m n r k i j l e)
 
-module _ (m n : Mentions) (r : Maps) (l : AllLead m n r) (few : (kind : SymbolKind) → count_of kind n < 2 ^ 32) where
+module _ (m n : Mentions) (r : Maps) (l : AllMapTo m n r) (few : (kind : SymbolKind) → count_of kind n < 2 ^ 32) where
   type_place : (u : Use) → HasImage r u → HasTypePlace r u
   type_place u some = let at = place_by m n r u.kind u.number (image_of r u.kind u.number) l refl some in (at.0, at.1, omega (arith, at.2, few u.kind))
 
   debug_place : (u : Use) → HasImage r u → HasPlace r u
   debug_place u some = let at = place_by m n r u.kind u.number (image_of r u.kind u.number) l refl some in (at.0, at.1, omega (arith, at.2, few u.kind))
 
-pub places_there : (m n : Mentions) (r : Maps) (c : NumberedItem) → AllLead m n r → ((kind : SymbolKind) → count_of kind n < 2 ^ 32) → All (pieces.HasPlace r) c.body.pieces → HasImages r c → HasPlaces r c
+pub places_there : (m n : Mentions) (r : Maps) (c : NumberedItem) → AllMapTo m n r → ((kind : SymbolKind) → count_of kind n < 2 ^ 32) → All (pieces.HasPlace r) c.body.pieces → HasImages r c → HasPlaces r c
 places_there m n r c l few fits images = record {
   pieces_have = fits;
   catches_have = all_of (HasImage r) (HasTypePlace r) (tries_uses c.tries) (type_place m n r l few) images.catches_have;
@@ -136,20 +136,20 @@ all_both : (P Q R : Use → Type 0) (us : List Use) → ((u : Use) → P u → Q
 all_both P Q R [] step p q = All-nil R
 all_both P Q R (u ∷ us) step p q = All-cons R u us (step u (All-head P u us p) (All-head Q u us q)) (all_both P Q R us step (All-tail P u us p) (All-tail Q u us q))
 
-pub debug_cut : (r : Maps) (d : NumberedDebug) → LeadDown r → IsFormedDebug d → All (HasImage r) (debug_uses d) → All (HasPlace r) (debug_uses d)
+pub debug_cut : (r : Maps) (d : NumberedDebug) → MapsDown r → IsFormedDebug d → All (HasImage r) (debug_uses d) → All (HasPlace r) (debug_uses d)
 debug_cut r d down formed images =
     all_both IsSmall (HasImage r) (HasPlace r) (debug_uses d) (λ u small some. let at = image_there r u (image_of r u.kind u.number) refl some in (at.0, at.1, omega (arith, small, down u.kind u.number at.0 at.1))) (small_uses d formed) images
 
-types_cut : (r : Maps) (us : List Use) → LeadDown r → All (λ u. u.number < 2 ^ 32) us → All (HasImage r) us → All (HasTypePlace r) us
+types_cut : (r : Maps) (us : List Use) → MapsDown r → All (λ u. u.number < 2 ^ 32) us → All (HasImage r) us → All (HasTypePlace r) us
 types_cut r us down fit images =
     all_both (λ u. u.number < 2 ^ 32) (HasImage r) (HasTypePlace r) us (λ u small some. let at = image_there r u (image_of r u.kind u.number) refl some in (at.0, at.1, omega (arith, small, down u.kind u.number at.0 at.1))) fit images
 
-optional_cut : (r : Maps) (o : Option NumberedDebug) → LeadDown r → IfSome o IsFormedDebug → All (HasImage r) (optional_debug_uses o) → All (HasPlace r) (optional_debug_uses o)
+optional_cut : (r : Maps) (o : Option NumberedDebug) → MapsDown r → IfSome o IsFormedDebug → All (HasImage r) (optional_debug_uses o) → All (HasPlace r) (optional_debug_uses o)
 optional_cut r None down formed images = All-nil (HasPlace r)
 optional_cut r (Some d) down formed images =
-    All-append (HasPlace r) (debug_uses d) [] (debug_cut r d down formed (all_front (HasImage r) (debug_uses d) [] images)) (All-nil (HasPlace r))
+    All-append (HasPlace r) (debug_uses d) [] (debug_cut r d down formed (all_prefix (HasImage r) (debug_uses d) [] images)) (All-nil (HasPlace r))
 
-pub code_cut : (r : Maps) (c : NumberedItem) → LeadDown r → NumbersFit c → All (HasImage r) (item_uses c) → HasPlaces r c
+pub code_cut : (r : Maps) (c : NumberedItem) → MapsDown r → NumbersFit c → All (HasImage r) (item_uses c) → HasPlaces r c
 code_cut r c down fit all = record {
   pieces_have = insn_proofs.places_after_cut r c.body.pieces down fit.pieces_fit (pieces_part (HasImage r) c all);
   catches_have = types_cut r (tries_uses c.tries) down fit.types_fit (tries_part (HasImage r) c all);
@@ -171,7 +171,7 @@ uses_joined r us fit images = all_of (HasImage r) (HasPlace r) us (λ u some. le
 types_joined : (r : Maps) (us : List Use) → ImagesFit r → All (HasImage r) us → All (HasTypePlace r) us
 types_joined r us fit images = all_of (HasPlace r) (HasTypePlace r) us (λ u place. (place.0, place.1, omega (arith, place.2))) (uses_joined r us fit images)
 
-pub code_joined : (r : Maps) (c : NumberedItem) (greatest : Option ℕ) → KeepOrder r → ImagesFit r → IsGreatest (short_strings c.body.pieces) greatest → LeadsShort r greatest → All (HasImage r) (item_uses c) → HasPlaces r c
+pub code_joined : (r : Maps) (c : NumberedItem) (greatest : Option ℕ) → KeepOrder r → ImagesFit r → IsGreatest (short_strings c.body.pieces) greatest → MapsShort r greatest → All (HasImage r) (item_uses c) → HasPlaces r c
 code_joined r c greatest order fit is short all = record {
   pieces_have = insn_proofs.places_after_join r c.body.pieces greatest order fit is short (pieces_part (HasImage r) c all);
   catches_have = types_joined r (tries_uses c.tries) fit (tries_part (HasImage r) c all);

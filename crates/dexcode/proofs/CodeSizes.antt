@@ -102,9 +102,9 @@ list_length hs typed = omega (arith, length-append (uleb128 (length hs)) (flat_m
 gap_length : (count : ℕ) → length (gap_bytes count) ≤ 2
 gap_length count = if-size (count % 2 == 1) 2 (ushort 0) [] (omega (arith, length-ushort 0)) (omega arith)
 
-behind_length : (count : ℕ) (ts : List NumberedTry) → All HasShortTypes (handlers_of ts) → length (numbered_tries_bytes count ts) ≤ 2 + numbered_tries_weight ts
-behind_length count [] typed = omega arith
-behind_length count (t ∷ ts) typed =
+after_length : (count : ℕ) (ts : List NumberedTry) → All HasShortTypes (handlers_of ts) → length (numbered_tries_bytes count ts) ≤ 2 + numbered_tries_weight ts
+after_length count [] typed = omega arith
+after_length count (t ∷ ts) typed =
     let hs = handlers_of (t ∷ ts) in
     let tries = flat_map (numbered_try_bytes hs) (t ∷ ts) in
     omega (arith, length-append (gap_bytes count) (tries ++ numbered_list_bytes hs), length-append tries (numbered_list_bytes hs), gap_length count, tries_length hs (t ∷ ts), list_length hs typed)
@@ -144,13 +144,13 @@ item_alone debug_off c hs ts none =
     omega (arith, item_length debug_off c (all_named hs ts), nothing)
 
 -- with tries there are these and their list
-pub item_behind : (debug_off : ℕ) (c : NumberedCode) (hs : List NumberedHandler) (ts : List Try) → AreStored hs ts → (ts ≡ [] → ⊥)
+pub item_after : (debug_off : ℕ) (c : NumberedCode) (hs : List NumberedHandler) (ts : List Try) → AreStored hs ts → (ts ≡ [] → ⊥)
     → length (numbered_item_bytes debug_off c (all_named hs ts)) ≡ 16 + 2 * unit_count c + length (gap_bytes (unit_count c)) + 8 * length ts + length (numbered_list_bytes hs)
-item_behind debug_off c hs ts stored some =
+item_after debug_off c hs ts stored some =
     let us = all_named hs ts in
     let parts = ap length (tries_parts (unit_count c) hs ts stored some) in
     omega (arith, item_length debug_off c us, parts, length-append (gap_bytes (unit_count c)) (numbered_table_bytes hs us), length-append (flat_map (numbered_try_bytes hs) us) (numbered_list_bytes hs), tries_length hs us, length-map ts (named hs))
 
 -- with the bytes of its alignment it has no more than it weighs
 pub code_length : (debug_off : ℕ) (c : NumberedItem) → All HasShortTypes (handlers_of c.tries) → length (numbered_code_bytes debug_off c) + 3 ≤ numbered_code_weight c
-code_length debug_off c typed = omega (arith, item_length debug_off c.body c.tries, behind_length (unit_count c.body) c.tries typed)
+code_length debug_off c typed = omega (arith, item_length debug_off c.body c.tries, after_length (unit_count c.body) c.tries typed)

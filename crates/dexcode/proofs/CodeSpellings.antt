@@ -18,31 +18,31 @@ use Rattle.dexspec.proofs.lists.InOrder.{Rises-from_rises, rank-get_or}
 use Rattle.dexspec.proofs.merge.SymbolOrders.{text_total}
 use Rattle.dexspec.proofs.size.SizeCode.{length-units}
 use Rattle.dexpool.specs.Numberings.{AreRising}
-use Rattle.dexinsn.specs.Numbered.{NumberedPiece, StandFor, numbered_units, numbered_bytes}
+use Rattle.dexinsn.specs.Numbered.{NumberedPiece, Denote, numbered_units, numbered_bytes}
 use Rattle.dexcode.specs.declared.handlers.Catch.{Catch}
-use Rattle.dexcode.specs.Numbered.{NumberedHandler, NumberedTry, NumberedItem, catch_meant, handler_meant, try_meant, same_handler, handlers_of, StandsForCatch, StandsForTry, StandsForCode}
+use Rattle.dexcode.specs.Numbered.{NumberedHandler, NumberedTry, NumberedItem, catch_meant, handler_meant, try_meant, same_handler, handlers_of, DenotesCatch, DenotesTry, DenotesCode}
 use Rattle.dexcode.specs.CodePut.{numbered_catch_bytes, handler_count, numbered_handler_bytes, numbered_handler_off, numbered_try_bytes, numbered_list_bytes, numbered_table_bytes, numbered_tries_bytes, unit_count, numbered_item_bytes, numbered_code_bytes, numbered_tries_weight, numbered_code_weight}
 use Rattle.dexcode.proofs.TryRows.{IsInRange, same_meant, handlers_meant, weight_meant}
 use Rattle.dexcode.proofs.Images.{all_distinct}
 
 -- ---- tries that denote others have parts that denote the parts of these
 
-catch_is : (m : Mentions) (c : Catch) (x : symbolic.Catch) → StandsForCatch m c x → catch_meant m c ≡ x
+catch_is : (m : Mentions) (c : Catch) (x : symbolic.Catch) → DenotesCatch m c x → catch_meant m c ≡ x
 catch_is m c x h = let type = h.type_is.is [] in let address = h.address_is in λ i. record { type = type i; address = address i }
 
-catches_are : (m : Mentions) (cs : List Catch) (xs : List symbolic.Catch) → AllZip (StandsForCatch m) cs xs → map (catch_meant m) cs ≡ xs
+catches_are : (m : Mentions) (cs : List Catch) (xs : List symbolic.Catch) → AllZip (DenotesCatch m) cs xs → map (catch_meant m) cs ≡ xs
 catches_are m [] [] h = refl
 catches_are m [] (x ∷ xs) h = absurd h
 catches_are m (c ∷ cs) [] h = absurd h
 catches_are m (c ∷ cs) (x ∷ xs) h = let first = catch_is m c x h.0 in let rest = catches_are m cs xs h.1 in λ i. first i ∷ rest i
 
-in_range : (m : Mentions) (cs : List Catch) (xs : List symbolic.Catch) → AllZip (StandsForCatch m) cs xs → All (λ c. c.typ < length m.types) cs
+in_range : (m : Mentions) (cs : List Catch) (xs : List symbolic.Catch) → AllZip (DenotesCatch m) cs xs → All (λ c. c.typ < length m.types) cs
 in_range m [] [] h = All-nil (λ (c : Catch). c.typ < length m.types)
 in_range m [] (x ∷ xs) h = absurd h
 in_range m (c ∷ cs) [] h = absurd h
 in_range m (c ∷ cs) (x ∷ xs) h = All-cons (λ (c : Catch). c.typ < length m.types) c cs h.0.type_is.within (in_range m cs xs h.1)
 
-try_is : (m : Mentions) (t : NumberedTry) (x : symbolic.Try) → StandsForTry m t x → try_meant m t ≡ x
+try_is : (m : Mentions) (t : NumberedTry) (x : symbolic.Try) → DenotesTry m t x → try_meant m t ≡ x
 try_is m t x h =
     let start = h.start_is in
     let count = h.count_is in
@@ -50,13 +50,13 @@ try_is m t x h =
     let all = h.handler_is.catch_all_is in
     λ i. record { start = start i; count = count i; handler = record { catches = catches i; catch_all = all i } }
 
-pub tries_are : (m : Mentions) (ts : List NumberedTry) (xs : List symbolic.Try) → AllZip (StandsForTry m) ts xs → map (try_meant m) ts ≡ xs
+pub tries_are : (m : Mentions) (ts : List NumberedTry) (xs : List symbolic.Try) → AllZip (DenotesTry m) ts xs → map (try_meant m) ts ≡ xs
 tries_are m [] [] h = refl
 tries_are m [] (x ∷ xs) h = absurd h
 tries_are m (t ∷ ts) [] h = absurd h
 tries_are m (t ∷ ts) (x ∷ xs) h = let first = try_is m t x h.0 in let rest = tries_are m ts xs h.1 in λ i. first i ∷ rest i
 
-pub tries_in_range : (m : Mentions) (ts : List NumberedTry) (xs : List symbolic.Try) → AllZip (StandsForTry m) ts xs → All (IsInRange m) (map (λ t. t.handler) ts)
+pub tries_in_range : (m : Mentions) (ts : List NumberedTry) (xs : List symbolic.Try) → AllZip (DenotesTry m) ts xs → All (IsInRange m) (map (λ t. t.handler) ts)
 tries_in_range m [] [] h = All-nil (IsInRange m)
 tries_in_range m [] (x ∷ xs) h = absurd h
 tries_in_range m (t ∷ ts) [] h = absurd h
@@ -147,9 +147,9 @@ module _ (m : Mentions) (rising : AreRising m) where
 -- ---- the whole
 
 abbrev pub UnitsLaw : Type 0
-UnitsLaw = (m : Mentions) (ps : List NumberedPiece) (qs : List pieces.Piece) → AreRising m → StandFor m ps qs → flat_map numbered_units ps ≡ flat_map (spelled.piece_units m) qs
+UnitsLaw = (m : Mentions) (ps : List NumberedPiece) (qs : List pieces.Piece) → AreRising m → Denote m ps qs → flat_map numbered_units ps ≡ flat_map (spelled.piece_units m) qs
 
-pub code_bytes_are : UnitsLaw → (m : Mentions) (debug_off : ℕ) (c : NumberedItem) (x : symbolic.Code) → AreRising m → StandsForCode m c x → numbered_code_bytes debug_off c ≡ spelled.code_bytes m debug_off x
+pub code_bytes_are : UnitsLaw → (m : Mentions) (debug_off : ℕ) (c : NumberedItem) (x : symbolic.Code) → AreRising m → DenotesCode m c x → numbered_code_bytes debug_off c ≡ spelled.code_bytes m debug_off x
 unfolding numbered_item_bytes numbered_bytes spelled.code_bytes
 code_bytes_are law m debug_off c x rising h =
     let units = law m c.body.pieces x.pieces rising h.pieces_are in
@@ -161,8 +161,8 @@ code_bytes_are law m debug_off c x rising h =
     let count : length c.tries ≡ length x.tries = sym (length-map c.tries (try_meant m)) ∙ ap length meant in
     let tries : numbered_tries_bytes (unit_count c.body) c.tries ≡ spelled.tries_bytes m (length (flat_map (spelled.piece_units m) x.pieces)) x.tries =
     sym (tries_bytes_are m rising (unit_count c.body) c.tries all) ∙ (λ i. spelled.tries_bytes m (length (units i)) (meant i)) in
-    let behind = flat_map ushort (flat_map numbered_units c.body.pieces) ++ numbered_tries_bytes (unit_count c.body) c.tries in
-    joined (ushort c.body.registers) (ushort c.body.ins) (ushort c.body.outs) (ushort (length c.tries)) (uint debug_off) (uint (unit_count c.body)) behind
+    let following = flat_map ushort (flat_map numbered_units c.body.pieces) ++ numbered_tries_bytes (unit_count c.body) c.tries in
+    joined (ushort c.body.registers) (ushort c.body.ins) (ushort c.body.outs) (ushort (length c.tries)) (uint debug_off) (uint (unit_count c.body)) following
     ∙ (λ i. ushort (registers i) ++ (ushort (ins i) ++ (ushort (outs i) ++ (ushort (count i) ++ (uint debug_off ++ (uint (length (units i)) ++ (flat_map ushort (units i) ++ tries i)))))))
   where
     joined : (a b c d e f g : List ℕ) → (a ++ (b ++ (c ++ (d ++ (e ++ f))))) ++ g ≡ a ++ (b ++ (c ++ (d ++ (e ++ (f ++ g)))))
@@ -173,7 +173,7 @@ code_bytes_are law m debug_off c x rising h =
         ∙ ap (λ (xs : List ℕ). a ++ (b ++ (c ++ xs))) (append_assoc d (e ++ f) g)
         ∙ ap (λ (xs : List ℕ). a ++ (b ++ (c ++ (d ++ xs)))) (append_assoc e f g)
 
-pub code_weighs : UnitsLaw → (m : Mentions) (c : NumberedItem) (x : symbolic.Code) → AreRising m → StandsForCode m c x → numbered_code_weight c ≡ code_weight x
+pub code_weighs : UnitsLaw → (m : Mentions) (c : NumberedItem) (x : symbolic.Code) → AreRising m → DenotesCode m c x → numbered_code_weight c ≡ code_weight x
 code_weighs law m c x rising h =
     let units : unit_count c.body ≡ length (flat_map units_of x.pieces) = ap length (law m c.body.pieces x.pieces rising h.pieces_are) ∙ length-units m x.pieces in
     let all = tries_in_range m c.tries x.tries h.tries_are in

@@ -18,16 +18,16 @@ use Rattle.dexcode.specs.Checking.{HasCodeOf, HasDebugAt, HasProgramOf, HaveTrie
 use Rattle.dexcode.specs.declared.debug_reading.DebugShape.{DebugShape}
 use Rattle.dexcode.specs.DebugReading.{HasDebugOf, IsDebugFault, IsShapeAt}
 use Rattle.dexcode.specs.CodePut.{numbered_code_weight}
-use Rattle.dexcode.specs.Numbered.{NumberedItem, StandsForCode, try_meant}
+use Rattle.dexcode.specs.Numbered.{NumberedItem, DenotesCode, try_meant}
 use Rattle.dexcode.specs.Reading.{IsCodeFault}
 use Rattle.dexcode.proofs.CodeSizes.{units_length}
 use Rattle.dexcode.proofs.CodesRead.{tries_found, tries_range}
 use Rattle.dexcode.proofs.DebugMeanings.{weights_are}
-use Rattle.dexcode.proofs.TryRows.{tries_stand}
+use Rattle.dexcode.proofs.TryRows.{tries_encoded}
 
 -- a numbered code item weighs as much as the code that it denotes
 abbrev pub WeightLaw : Type 0
-WeightLaw = (m : Mentions) (c : NumberedItem) (x : Code) → AreRising m → StandsForCode m c x → numbered_code_weight c ≡ code_weight x
+WeightLaw = (m : Mentions) (c : NumberedItem) (x : Code) → AreRising m → DenotesCode m c x → numbered_code_weight c ≡ code_weight x
 
 -- the code_item at an offset weighs what its parts weigh
 pub code_weighed : WeightLaw → (b : List ℕ) (off : ℕ) (m : Mentions) → ArePools b m → AreRising m → (starts : List Bool) → AreStartsAt b off starts → (s : PiecesShape) → HasPiecesOf b off m s
@@ -35,13 +35,13 @@ pub code_weighed : WeightLaw → (b : List ℕ) (off : ℕ) (m : Mentions) → A
 code_weighed law b off m pools rising starts starts_are s pieces tries program ts d =
     let at = pieces.at in
     let item : NumberedItem = record { body = record { registers = s.registers; ins = s.ins; outs = s.outs; pieces = pieces.pieces }; tries = ts.tries; debug = None } in
-    let bare : Code = record { registers = s.registers; ins = s.ins; outs = s.outs; pieces = at.symbolic; tries = map (try_meant m) ts.tries; debug = None } in
-    let stands : StandsForCode m item bare = record {
+    let unindexed : Code = record { registers = s.registers; ins = s.ins; outs = s.outs; pieces = at.symbolic; tries = map (try_meant m) ts.tries; debug = None } in
+    let encodes : DenotesCode m item unindexed = record {
       registers_are = refl;
       ins_are = refl;
       outs_are = refl;
-      pieces_are = at.stand;
-      tries_are = tries_stand m ts.tries (tries_range b off m pools rising starts starts_are at.cuts at.symbolic at.at ts.tries ts.at);
+      pieces_are = at.are_encoded;
+      tries_are = tries_encoded m ts.tries (tries_range b off m pools rising starts starts_are at.cuts at.symbolic at.at ts.tries ts.at);
       debug_is = tt;
     } in
     record {
@@ -53,7 +53,7 @@ code_weighed law b off m pools rising starts starts_are s pieces tries program t
         tries = tries_found b off m pools rising starts starts_are at.cuts at.symbolic at.at ts.tries ts.at;
         debug = d.at;
       };
-      weighs = omega (arith, law m item bare rising stands, units_length pieces.pieces, pieces.units, ts.weighs, d.weighs);
+      weighs = omega (arith, law m item unindexed rising encodes, units_length pieces.pieces, pieces.units, ts.weighs, d.weighs);
     }
 
 -- where there are pieces and no debug program, there is no code
@@ -68,7 +68,7 @@ debug_found b off m s is h =
     record {
       program = h.at.program;
       at = h.at.at;
-      weighs = omega (arith, weights_are m h.debug h.at.program h.at.stands, h.weighs);
+      weighs = omega (arith, weights_are m h.debug h.at.program h.at.encodes, h.weighs);
       light = omega (arith, shape.weight, shape.few, shape.operations.light, shape.operations.count, shape.operations.few);
     }
 

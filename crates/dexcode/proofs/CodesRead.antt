@@ -17,12 +17,12 @@ use Rattle.dexpool.specs.Pools.{ArePools}
 use Rattle.dexpool.specs.Numberings.{AreRising}
 use Rattle.dexinsn.specs.Numbered.{NumberedCode}
 use Rattle.dexinsn.specs.Reading.{ArePiecesAt, AreStartsAt}
-use Rattle.dexcode.specs.Debug.{NumberedDebug, StandsForDebug}
+use Rattle.dexcode.specs.Debug.{NumberedDebug, DenotesDebug}
 use Rattle.dexcode.specs.DebugReading.{IsDebugAt, IsDebugFault}
 use Rattle.dexcode.specs.Numbered.{NumberedTry, try_meant}
 use Rattle.dexcode.specs.Reading.{TryItemsAt, TriesAt, IsTriesFault, IsCodeAt, IsCodeFault}
 use Rattle.dexcode.proofs.HandlersRead.{fault_so}
-use Rattle.dexcode.proofs.TryRows.{IsInRange, items_found, items_back, items_in_range, tries_stand}
+use Rattle.dexcode.proofs.TryRows.{IsInRange, items_found, items_back, items_in_range, tries_encoded}
 
 -- ---- tries, by the number of units
 
@@ -51,21 +51,21 @@ module _ (b : List ℕ) (off : ℕ) (m : Mentions) (pools : ArePools b m) (risin
   abbrev us : List ℕ
   us = code_units b off
 
-  tell : (k : ℕ) → get_or starts k false ≡ is_instruction_start us cuts (pos k)
-  tell k = starts_are cuts ps k pieces
+  report : (k : ℕ) → get_or starts k false ≡ is_instruction_start us cuts (pos k)
+  report k = starts_are cuts ps k pieces
 
   units : length us ≡ uint_at b (off + 12)
   units = length-ushorts_at b (off + 16) (uint_at b (off + 12))
 
   pub tries_found : (ts : List NumberedTry) → TriesAt starts (length m.types) b off ts → whole.TriesAt b off cuts (map (try_meant m) ts)
   tries_found ts (inl h) = inl (h.0, ap (map (try_meant m)) h.1)
-  tries_found ts (inr (d, inl g)) = inr (d, inl (g.0, items_found b m pools rising us cuts starts tell (off + 16 + 2 * uint_at b (off + 12)) (ushort_at b (off + 6)) ts (subst (λ (n : ℕ). TryItemsAt starts (length m.types) n b (off + 16 + 2 * uint_at b (off + 12)) (ushort_at b (off + 6)) ts) (sym units) g.1)))
-  tries_found ts (inr (d, inr g)) = inr (d, inr (g.0, g.1, items_found b m pools rising us cuts starts tell (off + 18 + 2 * uint_at b (off + 12)) (ushort_at b (off + 6)) ts (subst (λ (n : ℕ). TryItemsAt starts (length m.types) n b (off + 18 + 2 * uint_at b (off + 12)) (ushort_at b (off + 6)) ts) (sym units) g.2)))
+  tries_found ts (inr (d, inl g)) = inr (d, inl (g.0, items_found b m pools rising us cuts starts report (off + 16 + 2 * uint_at b (off + 12)) (ushort_at b (off + 6)) ts (subst (λ (n : ℕ). TryItemsAt starts (length m.types) n b (off + 16 + 2 * uint_at b (off + 12)) (ushort_at b (off + 6)) ts) (sym units) g.1)))
+  tries_found ts (inr (d, inr g)) = inr (d, inr (g.0, g.1, items_found b m pools rising us cuts starts report (off + 18 + 2 * uint_at b (off + 12)) (ushort_at b (off + 6)) ts (subst (λ (n : ℕ). TryItemsAt starts (length m.types) n b (off + 18 + 2 * uint_at b (off + 12)) (ushort_at b (off + 6)) ts) (sym units) g.2)))
 
   items_range : (o count : ℕ) (ts : List NumberedTry) → TryItemsAt starts (length m.types) (uint_at b (off + 12)) b o count ts → All (IsInRange m) (map (λ t. t.handler) ts)
   items_range o count ts g =
       let h = subst (λ (n : ℕ). TryItemsAt starts (length m.types) n b o count ts) (sym units) g in
-      items_in_range b m pools rising us cuts starts tell (o + 8 * count) h.count_size h.handlers_size o (8 * count) h.handlers ts h.list h.items
+      items_in_range b m pools rising us cuts starts report (o + 8 * count) h.count_size h.handlers_size o (8 * count) h.handlers ts h.list h.items
 
   pub tries_range : (ts : List NumberedTry) → TriesAt starts (length m.types) b off ts → All (IsInRange m) (map (λ t. t.handler) ts)
   tries_range ts (inl h) = subst (λ vs. All (IsInRange m) (map (λ (t : NumberedTry). t.handler) vs)) (sym h.1) (All-nil (IsInRange m))
@@ -75,26 +75,26 @@ module _ (b : List ℕ) (off : ℕ) (m : Mentions) (pools : ArePools b m) (risin
   pub tries_back : (xs : List whole.Try) → whole.TriesAt b off cuts xs → (ts : List NumberedTry) × TriesAt starts (length m.types) b off ts
   tries_back xs (inl h) = ([], inl (h.0, refl))
   tries_back xs (inr (d, inl g)) =
-      let ts = items_back b m pools rising us cuts starts tell (off + 16 + 2 * uint_at b (off + 12)) (ushort_at b (off + 6)) xs g.1 in
+      let ts = items_back b m pools rising us cuts starts report (off + 16 + 2 * uint_at b (off + 12)) (ushort_at b (off + 6)) xs g.1 in
       (ts.0, inr (d, inl (g.0, subst (λ (n : ℕ). TryItemsAt starts (length m.types) n b (off + 16 + 2 * uint_at b (off + 12)) (ushort_at b (off + 6)) ts.0) units ts.1)))
   tries_back xs (inr (d, inr g)) =
-      let ts = items_back b m pools rising us cuts starts tell (off + 18 + 2 * uint_at b (off + 12)) (ushort_at b (off + 6)) xs g.2 in
+      let ts = items_back b m pools rising us cuts starts report (off + 18 + 2 * uint_at b (off + 12)) (ushort_at b (off + 6)) xs g.2 in
       (ts.0, inr (d, inr (g.0, g.1, subst (λ (n : ℕ). TryItemsAt starts (length m.types) n b (off + 18 + 2 * uint_at b (off + 12)) (ushort_at b (off + 6)) ts.0) units ts.1)))
 
 -- the debug program, if there is one, is that of the code_item
 pub record IsDebugOf (b : List ℕ) (off : ℕ) (m : Mentions) (d : Option NumberedDebug) : Type 0 where
   pub program : Option Debug
   pub at : OrNone (SomeAt DebugAt) None b (uint_at b (off + 8)) program
-  pub stands : BothOrNone (StandsForDebug m) d program
+  pub encodes : BothOrNone (DenotesDebug m) d program
 
 pub no_debug : (b : List ℕ) (off : ℕ) (m : Mentions) → uint_at b (off + 8) ≡ 0 → IsDebugOf b off m None
-no_debug b off m zero = record { program = None; at = inl (zero, refl); stands = tt }
+no_debug b off m zero = record { program = None; at = inl (zero, refl); encodes = tt }
 
 pub some_debug : (b : List ℕ) (off debug_off : ℕ) (m : Mentions) (d : NumberedDebug) → debug_off ≡ uint_at b (off + 8) → (debug_off ≡ 0 → ⊥) → IsDebugAt b debug_off m d → IsDebugOf b off m (Some d)
 some_debug b off debug_off m d is some h = record {
   program = Some h.program;
   at = inr ((λ e. some (is ∙ e)), subst (λ (o : ℕ). DebugAt b o h.program) is h.at);
-  stands = h.stands;
+  encodes = h.encodes;
 }
 
 pub code_found : (b : List ℕ) (off : ℕ) (m : Mentions) → ArePools b m → AreRising m → (starts : List Bool) → AreStartsAt b off starts → (body : NumberedCode) → RegistersAt b off body.registers body.ins body.outs → ArePiecesAt b off m body.pieces
@@ -108,13 +108,13 @@ code_found b off m pools rising starts starts_are body registers pieces ts tries
     tries = tries_found b off m pools rising starts starts_are pieces.cuts pieces.symbolic pieces.at ts tries;
     debug = debug.at;
   };
-  stands = record {
+  encodes = record {
     registers_are = refl;
     ins_are = refl;
     outs_are = refl;
-    pieces_are = pieces.stand;
-    tries_are = tries_stand m ts (tries_range b off m pools rising starts starts_are pieces.cuts pieces.symbolic pieces.at ts tries);
-    debug_is = debug.stands;
+    pieces_are = pieces.are_encoded;
+    tries_are = tries_encoded m ts (tries_range b off m pools rising starts starts_are pieces.cuts pieces.symbolic pieces.at ts tries);
+    debug_is = debug.encodes;
   };
 }
 

@@ -4,7 +4,7 @@ use Rattle.std.specs.List.{AllZip}
 use Rattle.std.proofs.lemmas.List.{get_or_default}
 use Rattle.std.specs.Prelude.{◌-◌, ◌^◌, Result, Ok, Err, IfOk, MatchOption}
 use Rattle.dexspec.specs.Lists.{Sequence, BothOrNone}
-use Rattle.dexspec.specs.Bytes.{Stands}
+use Rattle.dexspec.specs.Bytes.{BytesAt}
 use Rattle.dexspec.specs.Numbers.{Uleb128At, Uleb128p1At, IsChain}
 use Rattle.dexspec.specs.Texts.{Text}
 use Rattle.dexspec.specs.Header.{data_off}
@@ -18,7 +18,7 @@ use Rattle.dexcode.specs.declared.debug_operation.Operation.{Operation}
 use Rattle.dexcode.specs.declared.debug_operation.Operation.TheVariants.{AdvancePc, AdvanceLine, StartLocal, StartLocalExtended, EndLocal, RestartLocal, SetPrologueEnd, SetEpilogueBegin, SetFile, Special}
 use Rattle.dexcode.specs.declared.debug_reading.DebugShape.{DebugShape}
 use Rattle.dexcode.proofs.DebugWeights.{weight_is}
-use Rattle.dexcode.specs.Debug.{NumberedDebug, StandsForText, StandsForType, StandsForOperation}
+use Rattle.dexcode.specs.Debug.{NumberedDebug, DenotesText, DenotesType, DenotesOperation}
 use Rattle.dexcode.specs.DebugReading.{IsDebugAt, IndexAt, OperandsAt, NumberedAt, NamesAt, ProgramAt, NumberedDebugAt, IsShape, IsShapeAt, HasDebugOf, HasNoDebug, counts_of}
 
 -- the number of each symbol is its row
@@ -26,13 +26,13 @@ member_at : {X : Type 0} (xs : List X) (i : ℕ) (d : X) → i < length xs → I
 member_at xs i d lt = record { within = lt; is = λ e. get_or_default xs i e d lt }
 
 module _ (b : List ℕ) (m : Mentions) (pools : ArePools b m) where
-  text_named : (o : ℕ) (i : Option ℕ) (n : ℕ) → IndexAt (length m.texts) b o i n → (s : Option Text) × symbolic.OptionalTextAt b o s n × StandsForText m i s
+  text_named : (o : ℕ) (i : Option ℕ) (n : ℕ) → IndexAt (length m.texts) b o i n → (s : Option Text) × symbolic.OptionalTextAt b o s n × DenotesText m i s
   text_named o None n h = (None, (None, h.0, tt), tt)
   text_named o (Some k) n h =
       let count = pools.texts_are.count in
       (Some (get_or m.texts k []), (Some k, h.0, pools.texts_are.each k [] (omega (arith, h.1, count))), member_at m.texts k [] h.1)
 
-  type_named : (o : ℕ) (i : Option ℕ) (n : ℕ) → IndexAt (length m.types) b o i n → (t : Option Text) × symbolic.OptionalTypeAt b o t n × StandsForType m i t
+  type_named : (o : ℕ) (i : Option ℕ) (n : ℕ) → IndexAt (length m.types) b o i n → (t : Option Text) × symbolic.OptionalTypeAt b o t n × DenotesType m i t
   type_named o None n h = (None, (None, h.0, tt), tt)
   type_named o (Some k) n h =
       let count = pools.types_are.count in
@@ -56,10 +56,10 @@ module _ (b : List ℕ) (m : Mentions) (pools : ArePools b m) where
 
   -- ---- operations
 
-  coded : (o c k : ℕ) → c ≡ k → Stands b o (c ∷ []) → Stands b o (k ∷ [])
-  coded o c k e h = subst (λ (j : ℕ). Stands b o (j ∷ [])) e h
+  coded : (o c k : ℕ) → c ≡ k → BytesAt b o (c ∷ []) → BytesAt b o (k ∷ [])
+  coded o c k e h = subst (λ (j : ℕ). BytesAt b o (j ∷ [])) e h
 
-  operation_named : (o c : ℕ) (op : Operation) (n : ℕ) → Stands b o (c ∷ []) → c ≤ 0xff → OperandsAt (counts_of m) c b (o + 1) op n → (x : symbolic.Operation) × symbolic.OperationAt b o x (1 + n) × StandsForOperation m op x
+  operation_named : (o c : ℕ) (op : Operation) (n : ℕ) → BytesAt b o (c ∷ []) → c ≤ 0xff → OperandsAt (counts_of m) c b (o + 1) op n → (x : symbolic.Operation) × symbolic.OperationAt b o x (1 + n) × DenotesOperation m op x
   operation_named o c (AdvancePc addresses) n here byte h = (symbolic.AdvancePc addresses, (coded o c 0x01 h.0 here, n, h.1, refl), refl)
   operation_named o c (AdvanceLine lines) n here byte h = (symbolic.AdvanceLine lines, (coded o c 0x02 h.0 here, n, h.1, refl), refl)
   operation_named o c (StartLocal register i j) n here byte h =
@@ -133,7 +133,7 @@ module _ (b : List ℕ) (m : Mentions) (pools : ArePools b m) where
 
   -- ---- one after the other
 
-  operations_named : (o : ℕ) (ops : List Operation) (n : ℕ) → Sequence (NumberedAt (counts_of m)) b o ops n → (xs : List symbolic.Operation) × Sequence symbolic.OperationAt b o xs n × AllZip (StandsForOperation m) ops xs
+  operations_named : (o : ℕ) (ops : List Operation) (n : ℕ) → Sequence (NumberedAt (counts_of m)) b o ops n → (xs : List symbolic.Operation) × Sequence symbolic.OperationAt b o xs n × AllZip (DenotesOperation m) ops xs
   operations_named o [] n h = ([], h, tt)
   operations_named o (op ∷ ops) n h =
       let first = h.2 in
@@ -148,7 +148,7 @@ module _ (b : List ℕ) (m : Mentions) (pools : ArePools b m) where
       let rest = operations_numbered (o + h.0) xs h.1 h.3 in
       (op.0 ∷ rest.0, (h.0, h.1, op.1, rest.1, h.4))
 
-  names_named : (o : ℕ) (is : List (Option ℕ)) (n : ℕ) → Sequence (IndexAt (length m.texts)) b o is n → (ss : List (Option Text)) × Sequence symbolic.OptionalTextAt b o ss n × AllZip (StandsForText m) is ss × (length ss ≡ length is)
+  names_named : (o : ℕ) (is : List (Option ℕ)) (n : ℕ) → Sequence (IndexAt (length m.texts)) b o is n → (ss : List (Option Text)) × Sequence symbolic.OptionalTextAt b o ss n × AllZip (DenotesText m) is ss × (length ss ≡ length is)
   names_named o [] n h = ([], h, tt, refl)
   names_named o (i ∷ is) n h =
       let s = text_named o i h.0 h.2 in
@@ -185,7 +185,7 @@ module _ (b : List ℕ) (m : Mentions) (pools : ArePools b m) where
           operations = operations.1;
           end = program.end;
         };
-        stands = record { start_is = refl; names_are = names.2; operations_are = operations.2 };
+        encodes = record { start_is = refl; names_are = names.2; operations_are = operations.2 };
       }
 
   -- and the other way round
@@ -239,14 +239,14 @@ ok_named b m pools off in_data (Ok d) h = debug_named b m pools off d in_data h
 ok_named b m pools off in_data (Err f) h = tt
 
 -- what is returned about numbers holds of rows
-pub told : (b : List ℕ) (m : Mentions) (off : ℕ) (r : Option DebugShape) → data_off b ≤ off → off ≤ length b → length b ≤ 2 ^ 30 → MatchOption r ((d : NumberedDebug) → NumberedDebugAt (counts_of m) b off d → ⊥) (IsShape (counts_of m) b off)
+pub reported : (b : List ℕ) (m : Mentions) (off : ℕ) (r : Option DebugShape) → data_off b ≤ off → off ≤ length b → length b ≤ 2 ^ 30 → MatchOption r ((d : NumberedDebug) → NumberedDebugAt (counts_of m) b off d → ⊥) (IsShape (counts_of m) b off)
     → MatchOption r (ArePools b m → HasNoDebug b off) (IsShapeAt b off m)
-told b m off (Some s) in_data within small h = record { in_data = in_data; within = within; small = small; shape = h }
-told b m off None in_data within small h = λ pools x at. let d = debug_numbered b m pools off x at in h d.0 d.1
+reported b m off (Some s) in_data within small h = record { in_data = in_data; within = within; small = small; shape = h }
+reported b m off None in_data within small h = λ pools x at. let d = debug_numbered b m pools off x at in h d.0 d.1
 
 -- there is nothing after the last byte
-pub nothing_behind : (b : List ℕ) (off : ℕ) (x : symbolic.Debug) → length b < off → symbolic.DebugAt b off x → ⊥
-nothing_behind b off x lt h =
+pub nothing_after : (b : List ℕ) (off : ℕ) (x : symbolic.Debug) → length b < off → symbolic.DebugAt b off x → ⊥
+nothing_after b off x lt h =
     let within = h.line_start.within in
     some_chain (take h.start_size (drop off b)) h.line_start.spelled.chain (omega (arith, length-take h.start_size (drop off b), length-drop off b))
   where

@@ -10,7 +10,7 @@ use Rattle.dexcode.specs.Debug.{NumberedDebug}
 use Rattle.dexcode.specs.DebugEquality.{same_debug, same_operations}
 use Rattle.dexcode.specs.Equality.{both, option_decides}
 use Rattle.dexcode.specs.Operations.{entries_of, has_places}
-use Rattle.dexcode.proofs.KeptOperations.{told_apart}
+use Rattle.dexcode.proofs.KeptOperations.{distinguished}
 
 module _ (entry : Entry → Entry → Bool) (operation : Operation → Operation → Bool) (entries_decided : (x y : Entry) → Decides (entry x y) (x ≡ y)) (operations_decided : (x y : Operation) → Decides (operation x y) (x ≡ y)) where
   operations_decide : (xs ys : List Operation) → Decides (same_operations entry operation xs ys) (xs ≡ ys)
@@ -19,7 +19,7 @@ module _ (entry : Entry → Entry → Bool) (operation : Operation → Operation
       let named = pointwise operation (filter has_places xs) (filter has_places ys) in
       let first = pointwise_decides entries_decided (entries_of 0 xs) (entries_of 0 ys) in
       let second = pointwise_decides operations_decided (filter has_places xs) (filter has_places ys) in (
-        (λ t. told_apart xs ys (first.0 (first_so entries named t)) (second.0 (second_so entries named t))),
+        (λ t. distinguished xs ys (first.0 (first_so entries named t)) (second.0 (second_so entries named t))),
         (λ e. both entries named (first.1 (ap (entries_of 0) e)) (second.1 (ap (filter has_places) e))),
       )
 

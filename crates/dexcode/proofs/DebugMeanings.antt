@@ -21,13 +21,13 @@ use Rattle.dexspec.proofs.size.SizeItems.{uleb128-size, sleb128-size}
 use Rattle.dexspec.proofs.size.SizeSums.{sum_by-at_most}
 use Rattle.dexpool.specs.declared.symbols.SymbolKind.TheVariants as kinds
 use Rattle.dexpool.specs.declared.marks.Marks.{Marks}
-use Rattle.dexpool.specs.Numberings.{IsAt, AreRising, AreMarksOf, Maps, image_of, Leads, AllLead}
+use Rattle.dexpool.specs.Numberings.{IsAt, AreRising, AreMarksOf, Maps, image_of, MapsTo, AllMapTo}
 use Rattle.dexpool.specs.Uses.{Use, HasMark, IsUseOf}
 use Rattle.dexcode.specs.declared.debug_operation.Operation.{Operation}
 use Rattle.dexcode.specs.declared.debug_operation.Operation.TheVariants.{AdvancePc, AdvanceLine, StartLocal, StartLocalExtended, EndLocal, RestartLocal, SetPrologueEnd, SetEpilogueBegin, SetFile, Special}
-use Rattle.dexcode.specs.Debug.{NumberedDebug, StandsForText, StandsForType, StandsForOperation, StandsForDebug, bare_operation, bare, operation_weight, numbered_operation_bytes, numbered_debug_bytes, number_uses, operation_uses, debug_uses, HasImage, HasPlace, image_or_none, renumbered_operation, renumbered_debug, name_of, type_of, signature_of}
+use Rattle.dexcode.specs.Debug.{NumberedDebug, DenotesText, DenotesType, DenotesOperation, DenotesDebug, unindexed_operation, unindexed, operation_weight, numbered_operation_bytes, numbered_debug_bytes, number_uses, operation_uses, debug_uses, HasImage, HasPlace, image_or_none, renumbered_operation, renumbered_debug, name_of, type_of, signature_of}
 use Rattle.dexcode.proofs.DebugUses.{use_of}
-use Rattle.dexpool.proofs.Parts.{all_front, all_back}
+use Rattle.dexpool.proofs.Parts.{all_prefix, all_back}
 use Rattle.dexcode.proofs.DebugWeights.{weight_is}
 
 -- ---- the bytes
@@ -38,19 +38,19 @@ text_is m n s r h = ap (λ t. rank text_cmp t m.texts) (sym (h.is [])) ∙ rank-
 type_is : (m : Mentions) (n : ℕ) (s : Text) → AreRising m → IsAt m.types n s → type_index m s ≡ n
 type_is m n s r h = ap (λ t. rank text_cmp t m.types) (sym (h.is [])) ∙ rank-get_or text_cmp text_total m.types n [] (Rises-from_rises text_cmp text_total m.types r.types_rise) h.within
 
-text_bytes : (m : Mentions) (i : Option ℕ) (s : Option Text) → AreRising m → StandsForText m i s → uleb128p1 i ≡ optional_text_bytes m s
+text_bytes : (m : Mentions) (i : Option ℕ) (s : Option Text) → AreRising m → DenotesText m i s → uleb128p1 i ≡ optional_text_bytes m s
 text_bytes m None None r h = refl
 text_bytes m None (Some s) r h = absurd h
 text_bytes m (Some n) None r h = absurd h
 text_bytes m (Some n) (Some s) r h = ap (λ (k : ℕ). uleb128p1 (Some k)) (sym (text_is m n s r h))
 
-type_bytes : (m : Mentions) (i : Option ℕ) (t : Option Text) → AreRising m → StandsForType m i t → uleb128p1 i ≡ optional_type_bytes m t
+type_bytes : (m : Mentions) (i : Option ℕ) (t : Option Text) → AreRising m → DenotesType m i t → uleb128p1 i ≡ optional_type_bytes m t
 type_bytes m None None r h = refl
 type_bytes m None (Some t) r h = absurd h
 type_bytes m (Some n) None r h = absurd h
 type_bytes m (Some n) (Some t) r h = ap (λ (k : ℕ). uleb128p1 (Some k)) (sym (type_is m n t r h))
 
-operation_is : (m : Mentions) (op : Operation) (x : symbolic.Operation) → AreRising m → StandsForOperation m op x → numbered_operation_bytes op ≡ operation_bytes m x
+operation_is : (m : Mentions) (op : Operation) (x : symbolic.Operation) → AreRising m → DenotesOperation m op x → numbered_operation_bytes op ≡ operation_bytes m x
 operation_is m (AdvancePc addresses) (symbolic.AdvancePc others) r h = ap (λ (k : ℕ). 0x01 ∷ uleb128 k) h
 operation_is m (AdvanceLine lines) (symbolic.AdvanceLine others) r h = ap (λ (k : ℤ). 0x02 ∷ sleb128 k) h
 operation_is m (StartLocal register name typ) (symbolic.StartLocal other s t) r h =
@@ -78,12 +78,12 @@ same_count R [] (y ∷ ys) h = absurd h
 same_count R (x ∷ xs) [] h = absurd h
 same_count R (x ∷ xs) (y ∷ ys) h = omega (arith, same_count R xs ys h.1)
 
-pub bytes_are : (m : Mentions) (d : NumberedDebug) (x : symbolic.Debug) → AreRising m → StandsForDebug m d x → numbered_debug_bytes d ≡ debug_bytes m x
+pub bytes_are : (m : Mentions) (d : NumberedDebug) (x : symbolic.Debug) → AreRising m → DenotesDebug m d x → numbered_debug_bytes d ≡ debug_bytes m x
 unfolding numbered_debug_bytes debug_bytes
 bytes_are m d x r h =
-    let count = same_count (StandsForText m) d.parameter_names x.parameter_names h.names_are in
-    let names = joined_is (StandsForText m) uleb128p1 (optional_text_bytes m) d.parameter_names x.parameter_names (λ i s e. text_bytes m i s r e) h.names_are in
-    let operations = joined_is (StandsForOperation m) numbered_operation_bytes (operation_bytes m) d.operations x.operations (λ op y e. operation_is m op y r e) h.operations_are in
+    let count = same_count (DenotesText m) d.parameter_names x.parameter_names h.names_are in
+    let names = joined_is (DenotesText m) uleb128p1 (optional_text_bytes m) d.parameter_names x.parameter_names (λ i s e. text_bytes m i s r e) h.names_are in
+    let operations = joined_is (DenotesOperation m) numbered_operation_bytes (operation_bytes m) d.operations x.operations (λ op y e. operation_is m op y r e) h.operations_are in
     λ i. uleb128 (h.start_is i) ++ (uleb128 (count i) ++ (names i ++ (operations i ++ 0x00 ∷ [])))
 
 -- ---- how many bytes
@@ -110,7 +110,7 @@ operation-size SetEpilogueBegin = omega arith
 operation-size (SetFile name) = omega (arith, index-size name)
 operation-size (Special opcode) = omega arith
 
-pub bytes_few : (d : NumberedDebug) → length (numbered_debug_bytes d) ≤ debug_weight (bare d)
+pub bytes_few : (d : NumberedDebug) → length (numbered_debug_bytes d) ≤ debug_weight (unindexed d)
 unfolding numbered_debug_bytes
 bytes_few d =
     let names = flat_map uleb128p1 d.parameter_names in
@@ -153,7 +153,7 @@ bytes_most d = omega (arith, bytes_few d, weight_is d, sum_by-at_most operation_
 
 -- ---- weight and positions
 
-operands_are : (m : Mentions) (op : Operation) (x : symbolic.Operation) → StandsForOperation m op x → operands (bare_operation op) ≡ operands x
+operands_are : (m : Mentions) (op : Operation) (x : symbolic.Operation) → DenotesOperation m op x → operands (unindexed_operation op) ≡ operands x
 operands_are m (AdvancePc addresses) (symbolic.AdvancePc others) h = refl
 operands_are m (AdvanceLine lines) (symbolic.AdvanceLine others) h = refl
 operands_are m (StartLocal register name typ) (symbolic.StartLocal other s t) h = refl
@@ -166,23 +166,23 @@ operands_are m (SetFile name) (symbolic.SetFile s) h = refl
 operands_are m (Special opcode) (symbolic.Special other) h = refl
 operands_are m _ _ h = absurd h
 
-sums_are : (m : Mentions) (ops : List Operation) (xs : List symbolic.Operation) → AllZip (StandsForOperation m) ops xs → sum_by operation_weight ops ≡ sum_by (λ x. 1 + 5 * operands x) xs
+sums_are : (m : Mentions) (ops : List Operation) (xs : List symbolic.Operation) → AllZip (DenotesOperation m) ops xs → sum_by operation_weight ops ≡ sum_by (λ x. 1 + 5 * operands x) xs
 sums_are m [] [] h = refl
 sums_are m [] (x ∷ xs) h = absurd h
 sums_are m (op ∷ ops) [] h = absurd h
 sums_are m (op ∷ ops) (x ∷ xs) h =
     omega (arith, sum_by-cons operation_weight op ops, sum_by-cons (λ y. 1 + 5 * operands y) x xs, operands_are m op x h.0, sums_are m ops xs h.1)
 
-pub weights_are : (m : Mentions) (d : NumberedDebug) (x : symbolic.Debug) → StandsForDebug m d x → debug_weight (bare d) ≡ debug_weight x
-weights_are m d x h = omega (arith, weight_is d, same_count (StandsForText m) d.parameter_names x.parameter_names h.names_are, sums_are m d.operations x.operations h.operations_are)
+pub weights_are : (m : Mentions) (d : NumberedDebug) (x : symbolic.Debug) → DenotesDebug m d x → debug_weight (unindexed d) ≡ debug_weight x
+weights_are m d x h = omega (arith, weight_is d, same_count (DenotesText m) d.parameter_names x.parameter_names h.names_are, sums_are m d.operations x.operations h.operations_are)
 
 -- what an operation does to a position
-record MovesAlike (op x : symbolic.Operation) : Type 0 where
+record MovesEqual (op x : symbolic.Operation) : Type 0 where
   special : symbolic.is_special op ≡ symbolic.is_special x
   address : symbolic.address_step op ≡ symbolic.address_step x
   line : symbolic.line_step op ≡ symbolic.line_step x
 
-moves_are : (m : Mentions) (op : Operation) (x : symbolic.Operation) → StandsForOperation m op x → MovesAlike (bare_operation op) x
+moves_are : (m : Mentions) (op : Operation) (x : symbolic.Operation) → DenotesOperation m op x → MovesEqual (unindexed_operation op) x
 moves_are m (AdvancePc addresses) (symbolic.AdvancePc others) h = record { special = refl; address = h; line = refl }
 moves_are m (AdvanceLine lines) (symbolic.AdvanceLine others) h = record { special = refl; address = refl; line = h }
 moves_are m (StartLocal register name typ) (symbolic.StartLocal other s t) h = record { special = refl; address = refl; line = refl }
@@ -195,85 +195,85 @@ moves_are m (SetFile name) (symbolic.SetFile s) h = record { special = refl; add
 moves_are m (Special opcode) (symbolic.Special other) h = record { special = refl; address = ap (λ (k : ℕ). symbolic.address_step (symbolic.Special k)) h; line = ap (λ (k : ℕ). symbolic.line_step (symbolic.Special k)) h }
 moves_are m _ _ h = absurd h
 
-positions_from_are : (m : Mentions) (ops : List Operation) (xs : List symbolic.Operation) (address address' : ℕ) (line line' : ℤ) → address ≡ address' → line ≡ line' → AllZip (StandsForOperation m) ops xs
-    → symbolic.positions_from address line (map bare_operation ops) ≡ symbolic.positions_from address' line' xs
+positions_from_are : (m : Mentions) (ops : List Operation) (xs : List symbolic.Operation) (address address' : ℕ) (line line' : ℤ) → address ≡ address' → line ≡ line' → AllZip (DenotesOperation m) ops xs
+    → symbolic.positions_from address line (map unindexed_operation ops) ≡ symbolic.positions_from address' line' xs
 positions_from_are m [] [] address address' line line' ea el h = refl
 positions_from_are m [] (x ∷ xs) address address' line line' ea el h = absurd h
 positions_from_are m (op ∷ ops) [] address address' line line' ea el h = absurd h
 positions_from_are m (op ∷ ops) (x ∷ xs) address address' line line' ea el h =
     let moves = moves_are m op x h.0 in
-    let at : address + symbolic.address_step (bare_operation op) ≡ address' + symbolic.address_step x = λ i. ea i + moves.address i in
-    let on : line +ℤ symbolic.line_step (bare_operation op) ≡ line' +ℤ symbolic.line_step x = λ i. el i +ℤ moves.line i in
-    let rest = positions_from_are m ops xs (address + symbolic.address_step (bare_operation op)) (address' + symbolic.address_step x) (line +ℤ symbolic.line_step (bare_operation op)) (line' +ℤ symbolic.line_step x) at on h.1 in
+    let at : address + symbolic.address_step (unindexed_operation op) ≡ address' + symbolic.address_step x = λ i. ea i + moves.address i in
+    let on : line +ℤ symbolic.line_step (unindexed_operation op) ≡ line' +ℤ symbolic.line_step x = λ i. el i +ℤ moves.line i in
+    let rest = positions_from_are m ops xs (address + symbolic.address_step (unindexed_operation op)) (address' + symbolic.address_step x) (line +ℤ symbolic.line_step (unindexed_operation op)) (line' +ℤ symbolic.line_step x) at on h.1 in
     λ i. if moves.special i then (at i, on i) ∷ rest i else rest i
 
-pub positions_are : (m : Mentions) (d : NumberedDebug) (x : symbolic.Debug) → StandsForDebug m d x → symbolic.positions (bare d) ≡ symbolic.positions x
+pub positions_are : (m : Mentions) (d : NumberedDebug) (x : symbolic.Debug) → DenotesDebug m d x → symbolic.positions (unindexed d) ≡ symbolic.positions x
 positions_are m d x h = positions_from_are m d.operations x.operations 0 0 (pos d.line_start) (pos x.line_start) refl (ap pos h.start_is) h.operations_are
 
 -- ---- other numbers
 
-pub lead_at : {X : Type 0} (from to : List X) (images : List (Option ℕ)) (i j : ℕ) (d x : X) → Leads from to images → IsAt from i x → get_or images i None ≡ Some j → IsAt to j x
-lead_at from to images i j d x l h e = subst (IsAt to j) (h.is d) (l.same i j d e)
+pub mapped_at : {X : Type 0} (from to : List X) (images : List (Option ℕ)) (i j : ℕ) (d x : X) → MapsTo from to images → IsAt from i x → get_or images i None ≡ Some j → IsAt to j x
+mapped_at from to images i j d x l h e = subst (IsAt to j) (h.is d) (l.same i j d e)
 
-text_led : (m n : Mentions) (r : Maps) (i : ℕ) (o : Option ℕ) (s : Text) → AllLead m n r → image_of r kinds.Text i ≡ o → IsSome o → IsAt m.texts i s → StandsForText n o (Some s)
-text_led m n r i None s l e some h = absurd cc
-text_led m n r i (Some j) s l e some h = lead_at m.texts n.texts r.texts i j [] s l.texts_lead h e
+text_remapped : (m n : Mentions) (r : Maps) (i : ℕ) (o : Option ℕ) (s : Text) → AllMapTo m n r → image_of r kinds.Text i ≡ o → IsSome o → IsAt m.texts i s → DenotesText n o (Some s)
+text_remapped m n r i None s l e some h = absurd cc
+text_remapped m n r i (Some j) s l e some h = mapped_at m.texts n.texts r.texts i j [] s l.texts_mapped h e
 
-type_led : (m n : Mentions) (r : Maps) (i : ℕ) (o : Option ℕ) (t : Text) → AllLead m n r → image_of r kinds.Typ i ≡ o → IsSome o → IsAt m.types i t → StandsForType n o (Some t)
-type_led m n r i None t l e some h = absurd cc
-type_led m n r i (Some j) t l e some h = lead_at m.types n.types r.types i j [] t l.types_lead h e
+type_remapped : (m n : Mentions) (r : Maps) (i : ℕ) (o : Option ℕ) (t : Text) → AllMapTo m n r → image_of r kinds.Typ i ≡ o → IsSome o → IsAt m.types i t → DenotesType n o (Some t)
+type_remapped m n r i None t l e some h = absurd cc
+type_remapped m n r i (Some j) t l e some h = mapped_at m.types n.types r.types i j [] t l.types_mapped h e
 
-module _ (m n : Mentions) (r : Maps) (l : AllLead m n r) where
-  texts_led : (i : Option ℕ) (s : Option Text) → All (HasImage r) (number_uses kinds.Text i) → StandsForText m i s → StandsForText n (image_or_none r kinds.Text i) s
-  texts_led None None all h = tt
-  texts_led None (Some s) all h = absurd h
-  texts_led (Some i) None all h = absurd h
-  texts_led (Some i) (Some s) all h = text_led m n r i (image_of r kinds.Text i) s l refl (use_of (HasImage r) kinds.Text (Some i) i all refl) h
+module _ (m n : Mentions) (r : Maps) (l : AllMapTo m n r) where
+  texts_remapped : (i : Option ℕ) (s : Option Text) → All (HasImage r) (number_uses kinds.Text i) → DenotesText m i s → DenotesText n (image_or_none r kinds.Text i) s
+  texts_remapped None None all h = tt
+  texts_remapped None (Some s) all h = absurd h
+  texts_remapped (Some i) None all h = absurd h
+  texts_remapped (Some i) (Some s) all h = text_remapped m n r i (image_of r kinds.Text i) s l refl (use_of (HasImage r) kinds.Text (Some i) i all refl) h
 
-  types_led : (i : Option ℕ) (t : Option Text) → All (HasImage r) (number_uses kinds.Typ i) → StandsForType m i t → StandsForType n (image_or_none r kinds.Typ i) t
-  types_led None None all h = tt
-  types_led None (Some t) all h = absurd h
-  types_led (Some i) None all h = absurd h
-  types_led (Some i) (Some t) all h = type_led m n r i (image_of r kinds.Typ i) t l refl (use_of (HasImage r) kinds.Typ (Some i) i all refl) h
+  types_remapped : (i : Option ℕ) (t : Option Text) → All (HasImage r) (number_uses kinds.Typ i) → DenotesType m i t → DenotesType n (image_or_none r kinds.Typ i) t
+  types_remapped None None all h = tt
+  types_remapped None (Some t) all h = absurd h
+  types_remapped (Some i) None all h = absurd h
+  types_remapped (Some i) (Some t) all h = type_remapped m n r i (image_of r kinds.Typ i) t l refl (use_of (HasImage r) kinds.Typ (Some i) i all refl) h
 
-  operation_led : (op : Operation) (x : symbolic.Operation) → All (HasImage r) (number_uses kinds.Text (name_of op)) → All (HasImage r) (number_uses kinds.Typ (type_of op)) → All (HasImage r) (number_uses kinds.Text (signature_of op)) → StandsForOperation m op x → StandsForOperation n (renumbered_operation r op) x
-  operation_led (AdvancePc addresses) (symbolic.AdvancePc others) name typ signature h = h
-  operation_led (AdvanceLine lines) (symbolic.AdvanceLine others) name typ signature h = h
-  operation_led (StartLocal register i j) (symbolic.StartLocal other s t) name typ signature h = (h.0, texts_led i s name h.1, types_led j t typ h.2)
-  operation_led (StartLocalExtended register i j k) (symbolic.StartLocalExtended other s t u) name typ signature h = (h.0, texts_led i s name h.1, types_led j t typ h.2, texts_led k u signature h.3)
-  operation_led (EndLocal register) (symbolic.EndLocal other) name typ signature h = h
-  operation_led (RestartLocal register) (symbolic.RestartLocal other) name typ signature h = h
-  operation_led SetPrologueEnd symbolic.SetPrologueEnd name typ signature h = h
-  operation_led SetEpilogueBegin symbolic.SetEpilogueBegin name typ signature h = h
-  operation_led (SetFile i) (symbolic.SetFile s) name typ signature h = texts_led i s name h
-  operation_led (Special opcode) (symbolic.Special other) name typ signature h = h
-  operation_led _ _ name typ signature h = absurd h
+  operation_remapped : (op : Operation) (x : symbolic.Operation) → All (HasImage r) (number_uses kinds.Text (name_of op)) → All (HasImage r) (number_uses kinds.Typ (type_of op)) → All (HasImage r) (number_uses kinds.Text (signature_of op)) → DenotesOperation m op x → DenotesOperation n (renumbered_operation r op) x
+  operation_remapped (AdvancePc addresses) (symbolic.AdvancePc others) name typ signature h = h
+  operation_remapped (AdvanceLine lines) (symbolic.AdvanceLine others) name typ signature h = h
+  operation_remapped (StartLocal register i j) (symbolic.StartLocal other s t) name typ signature h = (h.0, texts_remapped i s name h.1, types_remapped j t typ h.2)
+  operation_remapped (StartLocalExtended register i j k) (symbolic.StartLocalExtended other s t u) name typ signature h = (h.0, texts_remapped i s name h.1, types_remapped j t typ h.2, texts_remapped k u signature h.3)
+  operation_remapped (EndLocal register) (symbolic.EndLocal other) name typ signature h = h
+  operation_remapped (RestartLocal register) (symbolic.RestartLocal other) name typ signature h = h
+  operation_remapped SetPrologueEnd symbolic.SetPrologueEnd name typ signature h = h
+  operation_remapped SetEpilogueBegin symbolic.SetEpilogueBegin name typ signature h = h
+  operation_remapped (SetFile i) (symbolic.SetFile s) name typ signature h = texts_remapped i s name h
+  operation_remapped (Special opcode) (symbolic.Special other) name typ signature h = h
+  operation_remapped _ _ name typ signature h = absurd h
 
-  names_led : (is : List (Option ℕ)) (ss : List (Option Text)) → All (HasImage r) (flat_map (number_uses kinds.Text) is) → AllZip (StandsForText m) is ss → AllZip (StandsForText n) (map (image_or_none r kinds.Text) is) ss
-  names_led [] [] all h = tt
-  names_led [] (s ∷ ss) all h = absurd h
-  names_led (i ∷ is) [] all h = absurd h
-  names_led (i ∷ is) (s ∷ ss) all h =
-      (texts_led i s (all_front (HasImage r) (number_uses kinds.Text i) (flat_map (number_uses kinds.Text) is) all) h.0, names_led is ss (all_back (HasImage r) (number_uses kinds.Text i) (flat_map (number_uses kinds.Text) is) all) h.1)
+  names_remapped : (is : List (Option ℕ)) (ss : List (Option Text)) → All (HasImage r) (flat_map (number_uses kinds.Text) is) → AllZip (DenotesText m) is ss → AllZip (DenotesText n) (map (image_or_none r kinds.Text) is) ss
+  names_remapped [] [] all h = tt
+  names_remapped [] (s ∷ ss) all h = absurd h
+  names_remapped (i ∷ is) [] all h = absurd h
+  names_remapped (i ∷ is) (s ∷ ss) all h =
+      (texts_remapped i s (all_prefix (HasImage r) (number_uses kinds.Text i) (flat_map (number_uses kinds.Text) is) all) h.0, names_remapped is ss (all_back (HasImage r) (number_uses kinds.Text i) (flat_map (number_uses kinds.Text) is) all) h.1)
 
-  operations_led : (ops : List Operation) (xs : List symbolic.Operation) → All (HasImage r) (flat_map operation_uses ops) → AllZip (StandsForOperation m) ops xs → AllZip (StandsForOperation n) (map (renumbered_operation r) ops) xs
-  operations_led [] [] all h = tt
-  operations_led [] (x ∷ xs) all h = absurd h
-  operations_led (op ∷ ops) [] all h = absurd h
-  operations_led (op ∷ ops) (x ∷ xs) all h =
-      let here = all_front (HasImage r) (operation_uses op) (flat_map operation_uses ops) all in
+  operations_remapped : (ops : List Operation) (xs : List symbolic.Operation) → All (HasImage r) (flat_map operation_uses ops) → AllZip (DenotesOperation m) ops xs → AllZip (DenotesOperation n) (map (renumbered_operation r) ops) xs
+  operations_remapped [] [] all h = tt
+  operations_remapped [] (x ∷ xs) all h = absurd h
+  operations_remapped (op ∷ ops) [] all h = absurd h
+  operations_remapped (op ∷ ops) (x ∷ xs) all h =
+      let here = all_prefix (HasImage r) (operation_uses op) (flat_map operation_uses ops) all in
       let others = all_back (HasImage r) (number_uses kinds.Text (name_of op)) (number_uses kinds.Typ (type_of op) ++ number_uses kinds.Text (signature_of op)) here in (
-        operation_led op x (all_front (HasImage r) (number_uses kinds.Text (name_of op)) (number_uses kinds.Typ (type_of op) ++ number_uses kinds.Text (signature_of op)) here)
-            (all_front (HasImage r) (number_uses kinds.Typ (type_of op)) (number_uses kinds.Text (signature_of op)) others)
+        operation_remapped op x (all_prefix (HasImage r) (number_uses kinds.Text (name_of op)) (number_uses kinds.Typ (type_of op) ++ number_uses kinds.Text (signature_of op)) here)
+            (all_prefix (HasImage r) (number_uses kinds.Typ (type_of op)) (number_uses kinds.Text (signature_of op)) others)
             (all_back (HasImage r) (number_uses kinds.Typ (type_of op)) (number_uses kinds.Text (signature_of op)) others) h.0,
-        operations_led ops xs (all_back (HasImage r) (operation_uses op) (flat_map operation_uses ops) all) h.1,
+        operations_remapped ops xs (all_back (HasImage r) (operation_uses op) (flat_map operation_uses ops) all) h.1,
       )
 
-pub renumbered_stands : (m n : Mentions) (r : Maps) (d : NumberedDebug) (x : symbolic.Debug) → AllLead m n r → All (HasImage r) (debug_uses d) → StandsForDebug m d x → StandsForDebug n (renumbered_debug r d) x
-renumbered_stands m n r d x l all h = record {
+pub renumbered_denotes : (m n : Mentions) (r : Maps) (d : NumberedDebug) (x : symbolic.Debug) → AllMapTo m n r → All (HasImage r) (debug_uses d) → DenotesDebug m d x → DenotesDebug n (renumbered_debug r d) x
+renumbered_denotes m n r d x l all h = record {
   start_is = h.start_is;
-  names_are = names_led m n r l d.parameter_names x.parameter_names (all_front (HasImage r) (flat_map (number_uses kinds.Text) d.parameter_names) (flat_map operation_uses d.operations) all) h.names_are;
-  operations_are = operations_led m n r l d.operations x.operations (all_back (HasImage r) (flat_map (number_uses kinds.Text) d.parameter_names) (flat_map operation_uses d.operations) all) h.operations_are;
+  names_are = names_remapped m n r l d.parameter_names x.parameter_names (all_prefix (HasImage r) (flat_map (number_uses kinds.Text) d.parameter_names) (flat_map operation_uses d.operations) all) h.names_are;
+  operations_are = operations_remapped m n r l d.operations x.operations (all_back (HasImage r) (flat_map (number_uses kinds.Text) d.parameter_names) (flat_map operation_uses d.operations) all) h.operations_are;
 }
 
 images_of : (r : Maps) (us : List Use) → All (HasPlace r) us → All (HasImage r) us
@@ -294,19 +294,19 @@ zip-append R (x ∷ xs) [] us vs h g = absurd h
 zip-append R (x ∷ xs) (y ∷ ys) us vs h g = (h.0, zip-append R xs ys us vs h.1 g)
 
 module _ (m : Mentions) where
-  text_used : (i : Option ℕ) (s : Option Text) → StandsForText m i s → AllZip (IsUseOf m) (number_uses kinds.Text i) (optional_text s)
+  text_used : (i : Option ℕ) (s : Option Text) → DenotesText m i s → AllZip (IsUseOf m) (number_uses kinds.Text i) (optional_text s)
   text_used None None h = tt
   text_used None (Some s) h = absurd h
   text_used (Some i) None h = absurd h
   text_used (Some i) (Some s) h = ((h, tt), tt)
 
-  type_used : (i : Option ℕ) (t : Option Text) → StandsForType m i t → AllZip (IsUseOf m) (number_uses kinds.Typ i) (optional_type t)
+  type_used : (i : Option ℕ) (t : Option Text) → DenotesType m i t → AllZip (IsUseOf m) (number_uses kinds.Typ i) (optional_type t)
   type_used None None h = tt
   type_used None (Some t) h = absurd h
   type_used (Some i) None h = absurd h
   type_used (Some i) (Some t) h = ((h, tt), tt)
 
-  operation_used : (op : Operation) (x : symbolic.Operation) → StandsForOperation m op x → AllZip (IsUseOf m) (operation_uses op) (operation_symbols x)
+  operation_used : (op : Operation) (x : symbolic.Operation) → DenotesOperation m op x → AllZip (IsUseOf m) (operation_uses op) (operation_symbols x)
   operation_used (AdvancePc addresses) (symbolic.AdvancePc others) h = tt
   operation_used (AdvanceLine lines) (symbolic.AdvanceLine others) h = tt
   operation_used (StartLocal register i j) (symbolic.StartLocal other s t) h =
@@ -329,26 +329,26 @@ module _ (m : Mentions) where
   all_used R f g (x ∷ xs) [] used h = absurd h
   all_used R f g (x ∷ xs) (y ∷ ys) used h = zip-append (IsUseOf m) (f x) (g y) (flat_map f xs) (flat_map g ys) (used x y h.0) (all_used R f g xs ys used h.1)
 
-  pub uses_stand : (d : NumberedDebug) (x : symbolic.Debug) → StandsForDebug m d x → AllZip (IsUseOf m) (debug_uses d) (debug_symbols x)
-  uses_stand d x h =
+  pub uses_encoded : (d : NumberedDebug) (x : symbolic.Debug) → DenotesDebug m d x → AllZip (IsUseOf m) (debug_uses d) (debug_symbols x)
+  uses_encoded d x h =
       zip-append (IsUseOf m) (flat_map (number_uses kinds.Text) d.parameter_names) (flat_map optional_text x.parameter_names) (flat_map operation_uses d.operations) (flat_map operation_symbols x.operations)
-      (all_used (StandsForText m) (number_uses kinds.Text) optional_text d.parameter_names x.parameter_names text_used h.names_are)
-      (all_used (StandsForOperation m) operation_uses operation_symbols d.operations x.operations operation_used h.operations_are)
+      (all_used (DenotesText m) (number_uses kinds.Text) optional_text d.parameter_names x.parameter_names text_used h.names_are)
+      (all_used (DenotesOperation m) operation_uses operation_symbols d.operations x.operations operation_used h.operations_are)
 
 -- ---- marks
 
 module _ (m : Mentions) (marks : Marks) (are : AreMarksOf m marks) where
-  text_marked : (i : Option ℕ) (s : Option Text) → StandsForText m i s → All (HasMark marks) (number_uses kinds.Text i)
+  text_marked : (i : Option ℕ) (s : Option Text) → DenotesText m i s → All (HasMark marks) (number_uses kinds.Text i)
   text_marked None s h = All-nil (HasMark marks)
   text_marked (Some i) None h = absurd h
   text_marked (Some i) (Some s) h = All-cons (HasMark marks) (record { kind = kinds.Text; number = i }) [] (omega (arith, h.within, are.strings_count)) (All-nil (HasMark marks))
 
-  type_marked : (i : Option ℕ) (t : Option Text) → StandsForType m i t → All (HasMark marks) (number_uses kinds.Typ i)
+  type_marked : (i : Option ℕ) (t : Option Text) → DenotesType m i t → All (HasMark marks) (number_uses kinds.Typ i)
   type_marked None t h = All-nil (HasMark marks)
   type_marked (Some i) None h = absurd h
   type_marked (Some i) (Some t) h = All-cons (HasMark marks) (record { kind = kinds.Typ; number = i }) [] (omega (arith, h.within, are.types_count)) (All-nil (HasMark marks))
 
-  operation_marked : (op : Operation) (x : symbolic.Operation) → StandsForOperation m op x → All (HasMark marks) (operation_uses op)
+  operation_marked : (op : Operation) (x : symbolic.Operation) → DenotesOperation m op x → All (HasMark marks) (operation_uses op)
   operation_marked (AdvancePc addresses) (symbolic.AdvancePc others) h = All-nil (HasMark marks)
   operation_marked (AdvanceLine lines) (symbolic.AdvanceLine others) h = All-nil (HasMark marks)
   operation_marked (StartLocal register i j) (symbolic.StartLocal other s t) h =
@@ -368,8 +368,8 @@ module _ (m : Mentions) (marks : Marks) (are : AreMarksOf m marks) where
   all_marked R f (x ∷ xs) [] marked h = absurd h
   all_marked R f (x ∷ xs) (y ∷ ys) marked h = All-append (HasMark marks) (f x) (flat_map f xs) (marked x y h.0) (all_marked R f xs ys marked h.1)
 
-  pub marks_there : (d : NumberedDebug) (x : symbolic.Debug) → StandsForDebug m d x → All (HasMark marks) (debug_uses d)
+  pub marks_there : (d : NumberedDebug) (x : symbolic.Debug) → DenotesDebug m d x → All (HasMark marks) (debug_uses d)
   marks_there d x h =
       All-append (HasMark marks) (flat_map (number_uses kinds.Text) d.parameter_names) (flat_map operation_uses d.operations)
-      (all_marked (StandsForText m) (number_uses kinds.Text) d.parameter_names x.parameter_names text_marked h.names_are)
-      (all_marked (StandsForOperation m) operation_uses d.operations x.operations operation_marked h.operations_are)
+      (all_marked (DenotesText m) (number_uses kinds.Text) d.parameter_names x.parameter_names text_marked h.names_are)
+      (all_marked (DenotesOperation m) operation_uses d.operations x.operations operation_marked h.operations_are)

@@ -70,32 +70,32 @@ module _ (m : Counts) (c : ℕ) (b : List ℕ) (o : ℕ) (op : Operation) (n : �
   its : (k : ℕ) → c ≡ k → op ≡ with_opcode k op
   its k e = by_opcode m c b o op n h ∙ ap (λ (j : ℕ). with_opcode j op) e
 
-  stands_as : (k : ℕ) → c ≡ k → OperandsAt m c b o (with_opcode k op) n
-  stands_as k e = subst (λ x. OperandsAt m c b o x n) (its k e) h
+  operands_with : (k : ℕ) → c ≡ k → OperandsAt m c b o (with_opcode k op) n
+  operands_with k e = subst (λ x. OperandsAt m c b o x n) (its k e) h
 
   back : (k : ℕ) → c ≡ k → r ≡ Some (with_opcode k op, n) → r ≡ Some (op, n)
   back k e s = s ∙ ap (λ x. Some (x, n)) (sym (its k e))
 
   pub only_start_local : c ≡ 0x03 → ((register : ℕ) (name typ : Option ℕ) (k : ℕ) → LocalAt m b o register name typ k → r ≡ Some (StartLocal register name typ, k)) → r ≡ Some (op, n)
-  only_start_local e only = back 0x03 e (only (number_part op) (name_of op) (type_of op) n (stands_as 0x03 e).1)
+  only_start_local e only = back 0x03 e (only (number_part op) (name_of op) (type_of op) n (operands_with 0x03 e).1)
 
   pub only_start_local_extended : c ≡ 0x04 → ((register : ℕ) (name typ signature : Option ℕ) (k : ℕ) → ExtendedAt m b o register name typ signature k → r ≡ Some (StartLocalExtended register name typ signature, k)) → r ≡ Some (op, n)
-  only_start_local_extended e only = back 0x04 e (only (number_part op) (name_of op) (type_of op) (signature_of op) n (stands_as 0x04 e).1)
+  only_start_local_extended e only = back 0x04 e (only (number_part op) (name_of op) (type_of op) (signature_of op) n (operands_with 0x04 e).1)
 
   pub only_set_file : c ≡ 0x09 → ((i : Option ℕ) (k : ℕ) → IndexAt m.texts b o i k → r ≡ Some (SetFile i, k)) → r ≡ Some (op, n)
-  only_set_file e only = back 0x09 e (only (name_of op) n (stands_as 0x09 e).1)
+  only_set_file e only = back 0x09 e (only (name_of op) n (operands_with 0x09 e).1)
 
   pub only_advance_pc : c ≡ 0x01 → ((addresses k : ℕ) → Uleb128At b o addresses k → r ≡ Some (AdvancePc addresses, k)) → r ≡ Some (op, n)
-  only_advance_pc e only = back 0x01 e (only (number_part op) n (stands_as 0x01 e).1)
+  only_advance_pc e only = back 0x01 e (only (number_part op) n (operands_with 0x01 e).1)
 
   pub only_end_local : c ≡ 0x05 → ((register k : ℕ) → Uleb128At b o register k → r ≡ Some (EndLocal register, k)) → r ≡ Some (op, n)
-  only_end_local e only = back 0x05 e (only (number_part op) n (stands_as 0x05 e).1)
+  only_end_local e only = back 0x05 e (only (number_part op) n (operands_with 0x05 e).1)
 
   pub only_restart_local : c ≡ 0x06 → ((register k : ℕ) → Uleb128At b o register k → r ≡ Some (RestartLocal register, k)) → r ≡ Some (op, n)
-  only_restart_local e only = back 0x06 e (only (number_part op) n (stands_as 0x06 e).1)
+  only_restart_local e only = back 0x06 e (only (number_part op) n (operands_with 0x06 e).1)
 
   pub only_prologue_end : c ≡ 0x07 → r ≡ Some (SetPrologueEnd, 0) → r ≡ Some (op, n)
-  only_prologue_end e is = back 0x07 e (is ∙ ap (λ k. Some (SetPrologueEnd, k)) (sym (stands_as 0x07 e).1))
+  only_prologue_end e is = back 0x07 e (is ∙ ap (λ k. Some (SetPrologueEnd, k)) (sym (operands_with 0x07 e).1))
 
   pub only_epilogue_begin : c ≡ 0x08 → r ≡ Some (SetEpilogueBegin, 0) → r ≡ Some (op, n)
-  only_epilogue_begin e is = back 0x08 e (is ∙ ap (λ k. Some (SetEpilogueBegin, k)) (sym (stands_as 0x08 e).1))
+  only_epilogue_begin e is = back 0x08 e (is ∙ ap (λ k. Some (SetEpilogueBegin, k)) (sym (operands_with 0x08 e).1))

@@ -6,28 +6,28 @@ use Rattle.std.proofs.lemmas.List.Sums.{sum_by-append}
 use Rattle.std.proofs.lemmas.List.Elements.{All-nil, All-cons, All-append}
 use Rattle.std.specs.Option.{IsSome}
 use Rattle.dexspec.specs.Lists.{Item, Sequence}
-use Rattle.dexspec.specs.Bytes.{Stands}
-use Rattle.dexspec.proofs.written.Stands.{stands_at, stands_within, same_first}
+use Rattle.dexspec.specs.Bytes.{BytesAt}
+use Rattle.dexspec.proofs.written.PlacedBytes.{is_at, is_at_within, same_first}
 use Rattle.dexcode.specs.declared.debug_operation.Operation.{Operation}
 use Rattle.dexcode.specs.declared.debug_operation.Operation.TheVariants.{AdvancePc, AdvanceLine, StartLocal, StartLocalExtended, EndLocal, RestartLocal, SetPrologueEnd, SetEpilogueBegin, SetFile, Special}
 use Rattle.dexcode.specs.declared.debug_reading.Counts.{Counts}
 use Rattle.dexspec.specs.Numbers.{Uleb128At}
 use Rattle.dexspec.specs.Weight.{operands}
-use Rattle.dexcode.specs.Debug.{NumberedDebug, FitsIndex, IsFormedOperation, bare_operation, operation_weight}
+use Rattle.dexcode.specs.Debug.{NumberedDebug, FitsIndex, IsFormedOperation, unindexed_operation, operation_weight}
 use Rattle.dexcode.specs.DebugReading.{IndexAt, OperandsAt, NumberedAt, ProgramAt, NamesAt, NumberedDebugAt, EndNames, AreTallied, HaveNames, AreTheNames, HaveOperations, AreTheOperations}
 use Rattle.dexcode.proofs.DebugRead.{some_parts}
 
 -- ---- one more
 
 -- one item after others
-pub one_behind : {X : Type 0} (At : Item X) (b : List ℕ) (o : ℕ) (xs : List X) (x : X) (n k : ℕ) → Sequence At b o xs n → At b (o + n) x k → Sequence At b o (xs ++ x ∷ []) (n + k)
-one_behind At b o [] x n k h at = (k, 0, subst (λ (p : ℕ). At b p x k) (omega (arith, h)) at, refl, omega (arith, h))
-one_behind At b o (y ∷ ys) x n k h at =
-    (h.0, h.1 + k, h.2, one_behind At b (o + h.0) ys x h.1 k h.3 (subst (λ (p : ℕ). At b p x k) (omega (arith, h.4)) at), omega (arith, h.4))
+pub one_after : {X : Type 0} (At : Item X) (b : List ℕ) (o : ℕ) (xs : List X) (x : X) (n k : ℕ) → Sequence At b o xs n → At b (o + n) x k → Sequence At b o (xs ++ x ∷ []) (n + k)
+one_after At b o [] x n k h at = (k, 0, subst (λ (p : ℕ). At b p x k) (omega (arith, h)) at, refl, omega (arith, h))
+one_after At b o (y ∷ ys) x n k h at =
+    (h.0, h.1 + k, h.2, one_after At b (o + h.0) ys x h.1 k h.3 (subst (λ (p : ℕ). At b p x k) (omega (arith, h.4)) at), omega (arith, h.4))
 
 -- the byte at a place
-pub byte_stands : (b : List ℕ) (i : ℕ) → i < length b → Stands b i (get_or b i 0 ∷ [])
-byte_stands b i lt = record { here = ap (take 1) (drop_more b i 0 lt) }
+pub byte_encoded : (b : List ℕ) (i : ℕ) → i < length b → BytesAt b i (get_or b i 0 ∷ [])
+byte_encoded b i lt = record { here = ap (take 1) (drop_more b i 0 lt) }
 
 -- ---- forms
 
@@ -70,24 +70,24 @@ name_formed = index_formed
 -- ---- operations
 
 -- a program that goes on at an offset goes on after the operation that is read there
-pub goes_on : (m : Counts) (b : List ℕ) (o c : ℕ) (r : Option (Operation × ℕ)) → Stands b o (c ∷ []) → 0 < c → ((op : Operation) (n : ℕ) → OperandsAt m c b (o + 1) op n → r ≡ Some (op, n))
+pub goes_on : (m : Counts) (b : List ℕ) (o c : ℕ) (r : Option (Operation × ℕ)) → BytesAt b o (c ∷ []) → 0 < c → ((op : Operation) (n : ℕ) → OperandsAt m c b (o + 1) op n → r ≡ Some (op, n))
     → (ops : List Operation) → ProgramAt m b o ops → (op : Operation) × (n : ℕ) × (rest : List Operation) × (r ≡ Some (op, n)) × ProgramAt m b (o + (1 + n)) rest
 goes_on m b o c r here some only [] p =
-    let zero_code = same_first c 0x00 [] [] here (stands_at (omega (arith, p.operations)) p.end) in
+    let zero_code = same_first c 0x00 [] [] here (is_at (omega (arith, p.operations)) p.end) in
     absurd (omega (arith, some, zero_code))
 goes_on m b o c r here some only (op ∷ ops) p =
     let first = p.operations.2 in
     let code : first.opcode ≡ c = same_first first.opcode c [] [] first.at_opcode here in
     let operands : OperandsAt m c b (o + 1) op first.operands_size = subst (λ (k : ℕ). OperandsAt m k b (o + 1) op first.operands_size) code first.operands in
-    let behind : o + p.operations.0 ≡ o + (1 + first.operands_size) = omega (arith, first.size) in (
+    let following : o + p.operations.0 ≡ o + (1 + first.operands_size) = omega (arith, first.size) in (
       op,
       first.operands_size,
       ops,
       only op first.operands_size operands,
       record {
         size = p.operations.1;
-        operations = subst (λ (k : ℕ). Sequence (NumberedAt m) b k ops p.operations.1) behind p.operations.3;
-        end = stands_at (omega (arith, p.operations.4, behind)) p.end;
+        operations = subst (λ (k : ℕ). Sequence (NumberedAt m) b k ops p.operations.1) following p.operations.3;
+        end = is_at (omega (arith, p.operations.4, following)) p.end;
       },
     )
 
@@ -105,8 +105,8 @@ code_some m b o (SetFile name) n c h = omega (arith, h.0)
 code_some m b o (Special opcode) n c h = omega (arith, h.0, h.1)
 
 -- an operation is where its opcode and its operands are
-pub operation_stands : (m : Counts) (b : List ℕ) (o c : ℕ) (op : Operation) (n : ℕ) → Stands b o (c ∷ []) → c ≤ 0xff → OperandsAt m c b (o + 1) op n → NumberedAt m b o op (1 + n)
-operation_stands m b o c op n here byte operands = record { opcode = c; operands_size = n; at_opcode = here; byte = byte; operands = operands; size = refl }
+pub operation_encoded : (m : Counts) (b : List ℕ) (o c : ℕ) (op : Operation) (n : ℕ) → BytesAt b o (c ∷ []) → c ≤ 0xff → OperandsAt m c b (o + 1) op n → NumberedAt m b o op (1 + n)
+operation_encoded m b o c op n here byte operands = record { opcode = c; operands_size = n; at_opcode = here; byte = byte; operands = operands; size = refl }
 
 -- ---- names
 
@@ -121,7 +121,7 @@ names_go_on texts b o count r only some (i ∷ names) n p =
 
 -- names that are read, up to a place
 pub record NamesSoFar (texts : ℕ) (b : List ℕ) (from count counter at : ℕ) (names : List (Option ℕ)) : Type 0 where
-  pub behind : from ≤ at
+  pub following : from ≤ at
   pub within : at ≤ length b
   pub counted : length names ≡ counter
   pub before : Sequence (IndexAt texts) b from names (at - from)
@@ -135,7 +135,7 @@ pub record NamesChecked (texts : ℕ) (b : List ℕ) (from count counter at : �
 
 pub no_names_yet : (texts : ℕ) (b : List ℕ) (from count : ℕ) (names : List (Option ℕ)) → from ≤ length b → names ≡ [] → NamesSoFar texts b from count 0 from names
 no_names_yet texts b from count names le e = rw e (record {
-  behind = omega arith;
+  following = omega arith;
   within = le;
   counted = refl;
   before = omega arith;
@@ -146,15 +146,15 @@ no_names_yet texts b from count names le e = rw e (record {
 pub one_name_more : (texts : ℕ) (b : List ℕ) (from count counter at : ℕ) (names more : List (Option ℕ)) (i : Option ℕ) (k : ℕ) → NamesSoFar texts b from count counter at names → counter < count → at + k ≤ length b → IndexAt texts b at i k
     → ((j : Option ℕ) (n : ℕ) → IndexAt texts b at j n → ◌≡◌ {A = Option (Option ℕ × ℕ)} (Some (i, k)) (Some (j, n))) → more ≡ names ++ i ∷ [] → NamesSoFar texts b from count (counter + 1) (at + k) more
 one_name_more texts b from count counter at names more i k h lt le here only e =
-    let behind = h.behind in
+    let following = h.following in
     let counted = h.counted in
     let place : from + (at - from) ≡ at = omega arith in
     let size : at - from + k ≡ at + k - from = omega arith in
     rw e (record {
-      behind = omega arith;
+      following = omega arith;
       within = le;
       counted = omega (arith, length-append names (i ∷ []));
-      before = subst (Sequence (IndexAt texts) b from (names ++ i ∷ [])) size (one_behind (IndexAt texts) b from names i (at - from) k h.before (subst (λ (p : ℕ). IndexAt texts b p i k) (sym place) here));
+      before = subst (Sequence (IndexAt texts) b from (names ++ i ∷ [])) size (one_after (IndexAt texts) b from names i (at - from) k h.before (subst (λ (p : ℕ). IndexAt texts b p i k) (sym place) here));
       fit = names_more names i h.fit (index_formed texts b at i k here);
       others = λ ys n p.
           let g = h.others ys n p in
@@ -169,7 +169,7 @@ all_names texts b from count counter at checked e =
     let h = checked.so_far in
     let counted = h.counted in record {
       names = checked.names;
-      before = h.behind;
+      before = h.following;
       within = h.within;
       names_at = record { many = omega (arith, counted, e); each = h.before };
       fit = h.fit;
@@ -191,7 +191,7 @@ no_name texts b from count counter at names h lt only ys n p =
 
 -- operations that are read, up to a place
 pub record OperationsSoFar (m : Counts) (b : List ℕ) (from at : ℕ) (ops : List Operation) : Type 0 where
-  pub behind : from ≤ at
+  pub following : from ≤ at
   pub within : at ≤ length b
   pub few : length ops ≤ at - from
   pub before : Sequence (NumberedAt m) b from ops (at - from)
@@ -208,20 +208,20 @@ pub record OperationsChecked (m : Counts) (b : List ℕ) (from at count weight :
   pub light : weight ≤ 21 * count
 
 pub no_operations_yet : (m : Counts) (b : List ℕ) (from : ℕ) (ops : List Operation) → from ≤ length b → ops ≡ [] → OperationsSoFar m b from from ops
-no_operations_yet m b from ops le e = rw e (record { behind = omega arith; within = le; few = omega arith; before = omega arith; formed = All-nil IsFormedOperation; others = λ xs p. (xs, p) })
+no_operations_yet m b from ops le e = rw e (record { following = omega arith; within = le; few = omega arith; before = omega arith; formed = All-nil IsFormedOperation; others = λ xs p. (xs, p) })
 
-pub one_operation_more : (m : Counts) (b : List ℕ) (from at c : ℕ) (ops more : List Operation) (op : Operation) (k : ℕ) → OperationsSoFar m b from at ops → at + 1 + k ≤ length b → Stands b at (c ∷ []) → 0 < c → c ≤ 0xff
+pub one_operation_more : (m : Counts) (b : List ℕ) (from at c : ℕ) (ops more : List Operation) (op : Operation) (k : ℕ) → OperationsSoFar m b from at ops → at + 1 + k ≤ length b → BytesAt b at (c ∷ []) → 0 < c → c ≤ 0xff
     → OperandsAt m c b (at + 1) op k → ((x : Operation) (n : ℕ) → OperandsAt m c b (at + 1) x n → ◌≡◌ {A = Option (Operation × ℕ)} (Some (op, k)) (Some (x, n))) → more ≡ ops ++ op ∷ [] → OperationsSoFar m b from (at + (1 + k)) more
 one_operation_more m b from at c ops more op k h le here some byte operands only e =
-    let behind = h.behind in
+    let following = h.following in
     let few = h.few in
     let place : from + (at - from) ≡ at = omega arith in
     let size : at - from + (1 + k) ≡ at + (1 + k) - from = omega arith in
     rw e (record {
-      behind = omega arith;
+      following = omega arith;
       within = omega arith;
       few = omega (arith, length-append ops (op ∷ []));
-      before = subst (Sequence (NumberedAt m) b from (ops ++ op ∷ [])) size (one_behind (NumberedAt m) b from ops op (at - from) (1 + k) h.before (subst (λ (p : ℕ). NumberedAt m b p op (1 + k)) (sym place) (operation_stands m b at c op k here byte operands)));
+      before = subst (Sequence (NumberedAt m) b from (ops ++ op ∷ [])) size (one_after (NumberedAt m) b from ops op (at - from) (1 + k) h.before (subst (λ (p : ℕ). NumberedAt m b p op (1 + k)) (sym place) (operation_encoded m b at c op k here byte operands)));
       formed = formed_more ops op h.formed (operands_formed m c b (at + 1) op k operands);
       others = λ xs p.
           let g = h.others xs p in
@@ -231,7 +231,7 @@ one_operation_more m b from at c ops more op k h le here some byte operands only
     })
 
 -- where no operation is read, the program does not go on
-pub no_operation : (m : Counts) (b : List ℕ) (from at c : ℕ) (ops : List Operation) → OperationsSoFar m b from at ops → Stands b at (c ∷ []) → 0 < c
+pub no_operation : (m : Counts) (b : List ℕ) (from at c : ℕ) (ops : List Operation) → OperationsSoFar m b from at ops → BytesAt b at (c ∷ []) → 0 < c
     → ((x : Operation) (n : ℕ) → OperandsAt m c b (at + 1) x n → ◌≡◌ {A = Option (Operation × ℕ)} None (Some (x, n))) → (xs : List Operation) → ProgramAt m b from xs → ⊥
 no_operation m b from at c ops h here some only xs p =
     let g = h.others xs p in
@@ -241,11 +241,11 @@ no_operation m b from at c ops h here some only xs p =
 
 -- a program does not end after the bytes
 pub no_end : (m : Counts) (b : List ℕ) (from at : ℕ) (ops : List Operation) → OperationsSoFar m b from at ops → length b ≤ at → (xs : List Operation) → ProgramAt m b from xs → ⊥
-no_end m b from at ops h end xs p = let g = h.others xs p in let within = stands_within g.1.end in omega (arith, within, end)
+no_end m b from at ops h end xs p = let g = h.others xs p in let within = is_at_within g.1.end in omega (arith, within, end)
 
 -- one operation more, with its weight
-pub one_more_checked : (m : Counts) (b : List ℕ) (from at c count weight : ℕ) (op : Operation) (k n : ℕ) → OperationsChecked m b from at count weight → at + 1 + k ≤ length b → Stands b at (c ∷ []) → 0 < c → c ≤ 0xff → OperandsAt m c b (at + 1) op k
-    → ((x : Operation) (n : ℕ) → OperandsAt m c b (at + 1) x n → ◌≡◌ {A = Option (Operation × ℕ)} (Some (op, k)) (Some (x, n))) → n ≡ operands (bare_operation op) → n < 5 → OperationsChecked m b from (at + (1 + k)) (count + 1) (weight + (1 + 5 * n))
+pub one_more_checked : (m : Counts) (b : List ℕ) (from at c count weight : ℕ) (op : Operation) (k n : ℕ) → OperationsChecked m b from at count weight → at + 1 + k ≤ length b → BytesAt b at (c ∷ []) → 0 < c → c ≤ 0xff → OperandsAt m c b (at + 1) op k
+    → ((x : Operation) (n : ℕ) → OperandsAt m c b (at + 1) x n → ◌≡◌ {A = Option (Operation × ℕ)} (Some (op, k)) (Some (x, n))) → n ≡ operands (unindexed_operation op) → n < 5 → OperationsChecked m b from (at + (1 + k)) (count + 1) (weight + (1 + 5 * n))
 one_more_checked m b from at c count weight op k n h le here some byte operands_at only is light =
     let ops = h.operations in
     let counted = h.counted in
@@ -260,14 +260,14 @@ one_more_checked m b from at c count weight op k n h le here some byte operands_
       light = omega arith;
     }
 
-pub all_operations : (m : Counts) (b : List ℕ) (from at count named weight : ℕ) → OperationsChecked m b from at count weight → Stands b at (0x00 ∷ []) → 0 < from → length b ≤ 2 ^ 30 → AreTallied m b from (record { operations = count; named = named; weight = weight })
+pub all_operations : (m : Counts) (b : List ℕ) (from at count named weight : ℕ) → OperationsChecked m b from at count weight → BytesAt b at (0x00 ∷ []) → 0 < from → length b ≤ 2 ^ 30 → AreTallied m b from (record { operations = count; named = named; weight = weight })
 all_operations m b from at count named weight checked end some small =
     let h = checked.so_far in
-    let behind = h.behind in
+    let following = h.following in
     let within = h.within in
     let few = h.few in record {
       operations = checked.operations;
-      program = record { size = at - from; operations = h.before; end = stands_at (omega arith) end };
+      program = record { size = at - from; operations = h.before; end = is_at (omega arith) end };
       formed = h.formed;
       few = omega arith;
       count = checked.counted;
@@ -339,7 +339,7 @@ pub record IsNextOperation (m : Counts) (b : List ℕ) (from count counter at c 
 
 -- there is an opcode ahead, that of an operation
 pub opcode_within : (m : Counts) (b : List ℕ) (from count counter at : ℕ) (ops : List Operation) → OperationsBuilt m b from count counter at ops → at < length b
-opcode_within m b from count counter at ops h = let p = h.ahead in let within = stands_within p.end in omega (arith, within)
+opcode_within m b from count counter at ops h = let p = h.ahead in let within = is_at_within p.end in omega (arith, within)
 
 pub opcode_some : (m : Counts) (b : List ℕ) (from count counter at : ℕ) (ops : List Operation) → OperationsBuilt m b from count counter at ops → counter < count → 0 < get_or b at 0
 opcode_some m b from count counter at ops h lt = by_rest h.rest h.left h.ahead
@@ -348,7 +348,7 @@ opcode_some m b from count counter at ops h lt = by_rest h.rest h.left h.ahead
     by_rest [] left p = absurd (omega (arith, left))
     by_rest (op ∷ rest) left p =
         let first = p.operations.2 in
-        let code = same_first first.opcode (get_or b at 0) [] [] first.at_opcode (byte_stands b at (opcode_within m b from count counter at ops h)) in
+        let code = same_first first.opcode (get_or b at 0) [] [] first.at_opcode (byte_encoded b at (opcode_within m b from count counter at ops h)) in
         let some = code_some m b at op first.operands_size first.opcode first.operands in
         omega (arith, code, some)
 
@@ -363,18 +363,18 @@ next_operation m b from count counter at ops r h lt only = by_rest h.rest h.left
     by_rest [] left p whole = absurd (omega (arith, left))
     by_rest (op ∷ rest) left p whole =
         let first = p.operations.2 in
-        let code : first.opcode ≡ c = same_first first.opcode c [] [] first.at_opcode (byte_stands b at (opcode_within m b from count counter at ops h)) in
+        let code : first.opcode ≡ c = same_first first.opcode c [] [] first.at_opcode (byte_encoded b at (opcode_within m b from count counter at ops h)) in
         let is = only op first.operands_size (subst (λ (k : ℕ). OperandsAt m k b (at + 1) op first.operands_size) code first.operands) in record {
           some = is_some r (op, first.operands_size) is;
           built = λ x more e f.
               let same = some_parts (op, first.operands_size) x (sym is ∙ e) in
-              let behind : at + p.operations.0 ≡ at + (1 + x.1) = omega (arith, first.size, same.1) in record {
+              let following : at + p.operations.0 ≡ at + (1 + x.1) = omega (arith, first.size, same.1) in record {
                 rest = rest;
                 left = omega (arith, left);
                 ahead = record {
                   size = p.operations.1;
-                  operations = subst (λ (k : ℕ). Sequence (NumberedAt m) b k rest p.operations.1) behind p.operations.3;
-                  end = stands_at (omega (arith, p.operations.4, behind)) p.end;
+                  operations = subst (λ (k : ℕ). Sequence (NumberedAt m) b k rest p.operations.1) following p.operations.3;
+                  end = is_at (omega (arith, p.operations.4, following)) p.end;
                 };
                 whole = subst (AreTheOperations m b from count) (sym (append_assoc ops (op ∷ []) rest) ∙ ap (λ y. ops ++ y ∷ [] ++ rest) same.0 ∙ ap (λ ys. ys ++ rest) (sym f)) whole;
               };
@@ -395,24 +395,24 @@ pub record Heads (b : List ℕ) (o : ℕ) (start count : ℕ × ℕ) : Type 0 wh
   pub counts : (v n : ℕ) → Uleb128At b (o + start.1) v n → Some count ≡ Some (v, n)
 
 -- the names and the operations after them
-behind_heads : (m : Counts) (b : List ℕ) (o : ℕ) (start count : ℕ × ℕ) → Heads b o start count → (d : NumberedDebug) → NumberedDebugAt m b o d
+after_heads : (m : Counts) (b : List ℕ) (o : ℕ) (start count : ℕ × ℕ) → Heads b o start count → (d : NumberedDebug) → NumberedDebugAt m b o d
     → (n : ℕ) × NamesAt m.texts b (o + start.1 + count.1) count.0 d.parameter_names n × ProgramAt m b (o + start.1 + count.1 + n) d.operations
-behind_heads m b o start count h d p =
+after_heads m b o start count h d p =
     let first = some_parts start (d.line_start, p.start_size) (h.starts d.line_start p.start_size p.at_start) in
     let second = some_parts count (length d.parameter_names, p.count_size) (h.counts (length d.parameter_names) p.count_size (subst (λ (k : ℕ). Uleb128At b (o + k) (length d.parameter_names) p.count_size) (sym first.1) p.at_count)) in
     let place : o + p.start_size + p.count_size ≡ o + start.1 + count.1 = omega (arith, first.1, second.1) in
-    let behind : o + p.start_size + p.count_size + p.names_size ≡ o + start.1 + count.1 + p.names_size = omega (arith, first.1, second.1) in (
+    let following : o + p.start_size + p.count_size + p.names_size ≡ o + start.1 + count.1 + p.names_size = omega (arith, first.1, second.1) in (
       p.names_size,
       subst (λ (k : ℕ). NamesAt m.texts b k count.0 d.parameter_names p.names_size) place (subst (λ (k : ℕ). NamesAt m.texts b (o + p.start_size + p.count_size) k d.parameter_names p.names_size) (sym second.0) p.at_names),
-      subst (λ (k : ℕ). ProgramAt m b k d.operations) behind p.program,
+      subst (λ (k : ℕ). ProgramAt m b k d.operations) following p.program,
     )
 
 -- without names there is no program
 pub no_names : (m : Counts) (b : List ℕ) (o : ℕ) (start count : ℕ × ℕ) → Heads b o start count → ((names : List (Option ℕ)) (n : ℕ) → NamesAt m.texts b (o + start.1 + count.1) count.0 names n → ⊥) → (d : NumberedDebug) → NumberedDebugAt m b o d → ⊥
-no_names m b o start count h none d p = let g = behind_heads m b o start count h d p in none d.parameter_names g.0 g.1
+no_names m b o start count h none d p = let g = after_heads m b o start count h d p in none d.parameter_names g.0 g.1
 
 -- nor is there without operations
 pub no_operations : (m : Counts) (b : List ℕ) (o end : ℕ) (start count : ℕ × ℕ) → Heads b o start count → EndNames m.texts b (o + start.1 + count.1) count.0 end → ((ops : List Operation) → ProgramAt m b end ops → ⊥) → (d : NumberedDebug) → NumberedDebugAt m b o d → ⊥
 no_operations m b o end start count h are none d p =
-    let g = behind_heads m b o start count h d p in
+    let g = after_heads m b o start count h d p in
     none d.operations (subst (λ (k : ℕ). ProgramAt m b k d.operations) (are.ends d.parameter_names g.0 g.1) g.2)

@@ -21,92 +21,92 @@ same_at f g xs ys i d lt lt' e = sym (get_or-map f xs i d (f d) lt) ∙ ap (λ z
 -- ---- operations
 
 -- the operation without numbers of symbols
-abbrev pub bared : Operation → Operation
-bared op = with_numbers op None None None
+abbrev pub unindexed_of : Operation → Operation
+unindexed_of op = with_numbers op None None None
 
 -- other numbers are not seen without numbers
-bared_with : (op : Operation) (s t u : Option ℕ) → bared (with_numbers op s t u) ≡ bared op
-bared_with (AdvancePc addresses) s t u = refl
-bared_with (AdvanceLine lines) s t u = refl
-bared_with (StartLocal register name typ) s t u = refl
-bared_with (StartLocalExtended register name typ signature) s t u = refl
-bared_with (EndLocal register) s t u = refl
-bared_with (RestartLocal register) s t u = refl
-bared_with SetPrologueEnd s t u = refl
-bared_with SetEpilogueBegin s t u = refl
-bared_with (SetFile name) s t u = refl
-bared_with (Special opcode) s t u = refl
+unindexed_with : (op : Operation) (s t u : Option ℕ) → unindexed_of (with_numbers op s t u) ≡ unindexed_of op
+unindexed_with (AdvancePc addresses) s t u = refl
+unindexed_with (AdvanceLine lines) s t u = refl
+unindexed_with (StartLocal register name typ) s t u = refl
+unindexed_with (StartLocalExtended register name typ signature) s t u = refl
+unindexed_with (EndLocal register) s t u = refl
+unindexed_with (RestartLocal register) s t u = refl
+unindexed_with SetPrologueEnd s t u = refl
+unindexed_with SetEpilogueBegin s t u = refl
+unindexed_with (SetFile name) s t u = refl
+unindexed_with (Special opcode) s t u = refl
 
 -- numbers are put in where there were others
-with_bared : (op : Operation) (s t u : Option ℕ) → with_numbers (bared op) s t u ≡ with_numbers op s t u
-with_bared (AdvancePc addresses) s t u = refl
-with_bared (AdvanceLine lines) s t u = refl
-with_bared (StartLocal register name typ) s t u = refl
-with_bared (StartLocalExtended register name typ signature) s t u = refl
-with_bared (EndLocal register) s t u = refl
-with_bared (RestartLocal register) s t u = refl
-with_bared SetPrologueEnd s t u = refl
-with_bared SetEpilogueBegin s t u = refl
-with_bared (SetFile name) s t u = refl
-with_bared (Special opcode) s t u = refl
+with_unindexed : (op : Operation) (s t u : Option ℕ) → with_numbers (unindexed_of op) s t u ≡ with_numbers op s t u
+with_unindexed (AdvancePc addresses) s t u = refl
+with_unindexed (AdvanceLine lines) s t u = refl
+with_unindexed (StartLocal register name typ) s t u = refl
+with_unindexed (StartLocalExtended register name typ signature) s t u = refl
+with_unindexed (EndLocal register) s t u = refl
+with_unindexed (RestartLocal register) s t u = refl
+with_unindexed SetPrologueEnd s t u = refl
+with_unindexed SetEpilogueBegin s t u = refl
+with_unindexed (SetFile name) s t u = refl
+with_unindexed (Special opcode) s t u = refl
 
 module _ (r : Maps) where
-  name_led : (op : Operation) → name_of (renumbered_operation r op) ≡ image_or_none r kinds.Text (name_of op)
-  name_led (AdvancePc addresses) = refl
-  name_led (AdvanceLine lines) = refl
-  name_led (StartLocal register name typ) = refl
-  name_led (StartLocalExtended register name typ signature) = refl
-  name_led (EndLocal register) = refl
-  name_led (RestartLocal register) = refl
-  name_led SetPrologueEnd = refl
-  name_led SetEpilogueBegin = refl
-  name_led (SetFile name) = refl
-  name_led (Special opcode) = refl
+  name_remapped : (op : Operation) → name_of (renumbered_operation r op) ≡ image_or_none r kinds.Text (name_of op)
+  name_remapped (AdvancePc addresses) = refl
+  name_remapped (AdvanceLine lines) = refl
+  name_remapped (StartLocal register name typ) = refl
+  name_remapped (StartLocalExtended register name typ signature) = refl
+  name_remapped (EndLocal register) = refl
+  name_remapped (RestartLocal register) = refl
+  name_remapped SetPrologueEnd = refl
+  name_remapped SetEpilogueBegin = refl
+  name_remapped (SetFile name) = refl
+  name_remapped (Special opcode) = refl
 
-  type_led : (op : Operation) → type_of (renumbered_operation r op) ≡ image_or_none r kinds.Typ (type_of op)
-  type_led (AdvancePc addresses) = refl
-  type_led (AdvanceLine lines) = refl
-  type_led (StartLocal register name typ) = refl
-  type_led (StartLocalExtended register name typ signature) = refl
-  type_led (EndLocal register) = refl
-  type_led (RestartLocal register) = refl
-  type_led SetPrologueEnd = refl
-  type_led SetEpilogueBegin = refl
-  type_led (SetFile name) = refl
-  type_led (Special opcode) = refl
+  type_remapped : (op : Operation) → type_of (renumbered_operation r op) ≡ image_or_none r kinds.Typ (type_of op)
+  type_remapped (AdvancePc addresses) = refl
+  type_remapped (AdvanceLine lines) = refl
+  type_remapped (StartLocal register name typ) = refl
+  type_remapped (StartLocalExtended register name typ signature) = refl
+  type_remapped (EndLocal register) = refl
+  type_remapped (RestartLocal register) = refl
+  type_remapped SetPrologueEnd = refl
+  type_remapped SetEpilogueBegin = refl
+  type_remapped (SetFile name) = refl
+  type_remapped (Special opcode) = refl
 
-  signature_led : (op : Operation) → signature_of (renumbered_operation r op) ≡ image_or_none r kinds.Text (signature_of op)
-  signature_led (AdvancePc addresses) = refl
-  signature_led (AdvanceLine lines) = refl
-  signature_led (StartLocal register name typ) = refl
-  signature_led (StartLocalExtended register name typ signature) = refl
-  signature_led (EndLocal register) = refl
-  signature_led (RestartLocal register) = refl
-  signature_led SetPrologueEnd = refl
-  signature_led SetEpilogueBegin = refl
-  signature_led (SetFile name) = refl
-  signature_led (Special opcode) = refl
+  signature_remapped : (op : Operation) → signature_of (renumbered_operation r op) ≡ image_or_none r kinds.Text (signature_of op)
+  signature_remapped (AdvancePc addresses) = refl
+  signature_remapped (AdvanceLine lines) = refl
+  signature_remapped (StartLocal register name typ) = refl
+  signature_remapped (StartLocalExtended register name typ signature) = refl
+  signature_remapped (EndLocal register) = refl
+  signature_remapped (RestartLocal register) = refl
+  signature_remapped SetPrologueEnd = refl
+  signature_remapped SetEpilogueBegin = refl
+  signature_remapped (SetFile name) = refl
+  signature_remapped (Special opcode) = refl
 
 -- if two operations are the same once remapped, their parts are
 module _ (r q : Maps) (x y : Operation) (e : renumbered_operation r x ≡ renumbered_operation q y) where
-  pub same_bared : bared x ≡ bared y
-  same_bared =
-      sym (bared_with x (image_or_none r kinds.Text (name_of x)) (image_or_none r kinds.Typ (type_of x)) (image_or_none r kinds.Text (signature_of x))) ∙ ap bared e
-      ∙ bared_with y (image_or_none q kinds.Text (name_of y)) (image_or_none q kinds.Typ (type_of y)) (image_or_none q kinds.Text (signature_of y))
+  pub same_unindexed : unindexed_of x ≡ unindexed_of y
+  same_unindexed =
+      sym (unindexed_with x (image_or_none r kinds.Text (name_of x)) (image_or_none r kinds.Typ (type_of x)) (image_or_none r kinds.Text (signature_of x))) ∙ ap unindexed_of e
+      ∙ unindexed_with y (image_or_none q kinds.Text (name_of y)) (image_or_none q kinds.Typ (type_of y)) (image_or_none q kinds.Text (signature_of y))
 
   pub same_name : image_or_none r kinds.Text (name_of x) ≡ image_or_none q kinds.Text (name_of y)
-  same_name = sym (name_led r x) ∙ ap name_of e ∙ name_led q y
+  same_name = sym (name_remapped r x) ∙ ap name_of e ∙ name_remapped q y
 
   pub same_type : image_or_none r kinds.Typ (type_of x) ≡ image_or_none q kinds.Typ (type_of y)
-  same_type = sym (type_led r x) ∙ ap type_of e ∙ type_led q y
+  same_type = sym (type_remapped r x) ∙ ap type_of e ∙ type_remapped q y
 
   pub same_signature : image_or_none r kinds.Text (signature_of x) ≡ image_or_none q kinds.Text (signature_of y)
-  same_signature = sym (signature_led r x) ∙ ap signature_of e ∙ signature_led q y
+  same_signature = sym (signature_remapped r x) ∙ ap signature_of e ∙ signature_remapped q y
 
 -- and the other way round
-pub same_parts : (r q : Maps) (x y : Operation) → bared x ≡ bared y → image_or_none r kinds.Text (name_of x) ≡ image_or_none q kinds.Text (name_of y) → image_or_none r kinds.Typ (type_of x) ≡ image_or_none q kinds.Typ (type_of y)
+pub same_parts : (r q : Maps) (x y : Operation) → unindexed_of x ≡ unindexed_of y → image_or_none r kinds.Text (name_of x) ≡ image_or_none q kinds.Text (name_of y) → image_or_none r kinds.Typ (type_of x) ≡ image_or_none q kinds.Typ (type_of y)
     → image_or_none r kinds.Text (signature_of x) ≡ image_or_none q kinds.Text (signature_of y) → renumbered_operation r x ≡ renumbered_operation q y
-same_parts r q x y bare name typ signature =
-    sym (with_bared x (image_or_none r kinds.Text (name_of x)) (image_or_none r kinds.Typ (type_of x)) (image_or_none r kinds.Text (signature_of x)))
-    ∙ (λ i. with_numbers (bare i) (name i) (typ i) (signature i))
-    ∙ with_bared y (image_or_none q kinds.Text (name_of y)) (image_or_none q kinds.Typ (type_of y)) (image_or_none q kinds.Text (signature_of y))
+same_parts r q x y unindexed name typ signature =
+    sym (with_unindexed x (image_or_none r kinds.Text (name_of x)) (image_or_none r kinds.Typ (type_of x)) (image_or_none r kinds.Text (signature_of x)))
+    ∙ (λ i. with_numbers (unindexed i) (name i) (typ i) (signature i))
+    ∙ with_unindexed y (image_or_none q kinds.Text (name_of y)) (image_or_none q kinds.Typ (type_of y)) (image_or_none q kinds.Text (signature_of y))

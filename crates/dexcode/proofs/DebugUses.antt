@@ -9,7 +9,7 @@ use Rattle.dexpool.specs.declared.marks.Marks.{Marks}
 use Rattle.dexpool.specs.Numberings.{Maps, image_of}
 use Rattle.dexpool.specs.Uses.{Use, AreMarkedToo}
 use Rattle.dexpool.proofs.MarksMade.{none_marked}
-use Rattle.dexpool.proofs.Parts.{all_front, all_back, all_parts, all_map}
+use Rattle.dexpool.proofs.Parts.{all_prefix, all_back, all_parts, all_map}
 use Rattle.dexcode.specs.declared.debug_operation.Operation.{Operation}
 use Rattle.dexcode.specs.declared.debug_operation.Operation.TheVariants.{AdvancePc, AdvanceLine, StartLocal, StartLocalExtended, EndLocal, RestartLocal, SetPrologueEnd, SetEpilogueBegin, SetFile, Special}
 use Rattle.dexcode.specs.Debug.{NumberedDebug, HasPlace, FitsIndex, IsFormedOperation, IsFormedDebug, IsSpecial, number_uses, operation_uses, debug_uses, image_or_none, name_of, type_of, signature_of, with_numbers, renumbered_operation, renumbered_debug}
@@ -24,13 +24,13 @@ use_of P kind (Some k) n all e =
 -- the three parts of an operation's symbols
 module _ (P : Use → Type 0) (op : Operation) (h : All P (operation_uses op)) where
   pub name_part : All P (number_uses kinds.Text (name_of op))
-  name_part = all_front P (number_uses kinds.Text (name_of op)) (number_uses kinds.Typ (type_of op) ++ number_uses kinds.Text (signature_of op)) h
+  name_part = all_prefix P (number_uses kinds.Text (name_of op)) (number_uses kinds.Typ (type_of op) ++ number_uses kinds.Text (signature_of op)) h
 
   others : All P (number_uses kinds.Typ (type_of op) ++ number_uses kinds.Text (signature_of op))
   others = all_back P (number_uses kinds.Text (name_of op)) (number_uses kinds.Typ (type_of op) ++ number_uses kinds.Text (signature_of op)) h
 
   pub type_part : All P (number_uses kinds.Typ (type_of op))
-  type_part = all_front P (number_uses kinds.Typ (type_of op)) (number_uses kinds.Text (signature_of op)) others
+  type_part = all_prefix P (number_uses kinds.Typ (type_of op)) (number_uses kinds.Text (signature_of op)) others
 
   pub signature_part : All P (number_uses kinds.Text (signature_of op))
   signature_part = all_back P (number_uses kinds.Typ (type_of op)) (number_uses kinds.Text (signature_of op)) others
@@ -73,13 +73,13 @@ operations_formed : (r : Maps) (ops : List Operation) → All (HasPlace r) (flat
 operations_formed r [] all are = All-nil IsFormedOperation
 operations_formed r (op ∷ ops) all are =
     All-cons IsFormedOperation (renumbered_operation r op) (map (renumbered_operation r) ops)
-    (operation_formed r op (all_front (HasPlace r) (operation_uses op) (flat_map operation_uses ops) all) (All-head IsFormedOperation op ops are))
+    (operation_formed r op (all_prefix (HasPlace r) (operation_uses op) (flat_map operation_uses ops) all) (All-head IsFormedOperation op ops are))
     (operations_formed r ops (all_back (HasPlace r) (operation_uses op) (flat_map operation_uses ops) all) (All-tail IsFormedOperation op ops are))
 
 -- a debug program whose numbers have small images keeps its form
 pub debug_formed : (r : Maps) (d : NumberedDebug) → All (HasPlace r) (debug_uses d) → IsFormedDebug d → IsFormedDebug (renumbered_debug r d)
 debug_formed r d all is =
-    let names = all_front (HasPlace r) (flat_map (number_uses kinds.Text) d.parameter_names) (flat_map operation_uses d.operations) all in
+    let names = all_prefix (HasPlace r) (flat_map (number_uses kinds.Text) d.parameter_names) (flat_map operation_uses d.operations) all in
     let operations = all_back (HasPlace r) (flat_map (number_uses kinds.Text) d.parameter_names) (flat_map operation_uses d.operations) all in
     record {
       names_count = simp length-map is.names_count;

@@ -4,8 +4,8 @@ use Rattle.std.proofs.lemmas.List.{length-map}
 use Rattle.dexspec.specs.Texts.{Text}
 use Rattle.dexspec.specs.Weight.{operands, debug_weight}
 use Rattle.dexspec.proofs.size.SizeSums.{sum_by-map}
-use Rattle.dexcode.specs.Debug.{NumberedDebug, bare, bare_operation, operation_weight}
+use Rattle.dexcode.specs.Debug.{NumberedDebug, unindexed, unindexed_operation, operation_weight}
 
 -- the weight, by the lists
-pub weight_is : (d : NumberedDebug) → debug_weight (bare d) ≡ 11 + 5 * length d.parameter_names + sum_by operation_weight d.operations
-weight_is d = omega (arith, length-map {A = Option ℕ} {B = Option Text} d.parameter_names (λ i. None), sum_by-map (λ op. 1 + 5 * operands op) bare_operation d.operations)
+pub weight_is : (d : NumberedDebug) → debug_weight (unindexed d) ≡ 11 + 5 * length d.parameter_names + sum_by operation_weight d.operations
+weight_is d = omega (arith, length-map {A = Option ℕ} {B = Option Text} d.parameter_names (λ i. None), sum_by-map (λ op. 1 + 5 * operands op) unindexed_operation d.operations)

@@ -12,7 +12,7 @@ use Rattle.dexcode.specs.declared.handlers.Catch.{Catch}
 use Rattle.dexcode.specs.Numbered.{NumberedHandler}
 use Rattle.dexcode.specs.internal.NamedHandlers.{HaveCatches}
 use Rattle.dexcode.specs.Reading.{IsStart, IsTriesFault, CatchAt, CatchesRead, CatchAllAt, HandlerAt}
-use Rattle.dexcode.proofs.Fronts.{sequence_more}
+use Rattle.dexcode.proofs.Prefixes.{sequence_more}
 use Rattle.dexcode.proofs.OneHandler.{one_catch}
 
 -- a fault has another reason that follows
@@ -33,7 +33,7 @@ module _ (starts : List Bool) (types : ℕ) (b : List ℕ) (o : ℕ) (count : �
       let e = one_sleb128 b o g.count count g.count_size count_size g.count_is count_is in
       let len : length h.catches ≡ length cs = sym g.many ∙ ap nat_abs e.0 ∙ sym is ∙ sym read.many in
       let same = one_sequence (CatchAt starts types) (one_catch starts types) b (o + count_size) h.catches cs g.catches_size size len
-      (subst (λ (i : ℕ). Sequence (CatchAt starts types) b (o + i) h.catches g.catches_size) e.1 g.catches_are) read.stand in
+      (subst (λ (i : ℕ). Sequence (CatchAt starts types) b (o + i) h.catches g.catches_size) e.1 g.catches_are) read.are_encoded in
       let place : o + g.count_size + g.catches_size ≡ o + count_size + size = omega (arith, e.1, same.1) in
       none h.catch_all_addr g.all_size (subst (λ (i : ℕ). CatchAllAt starts count b i h.catch_all_addr g.all_size) place (subst (λ (z : ℤ). CatchAllAt starts z b (o + g.count_size + g.catches_size) h.catch_all_addr g.all_size) e.0 g.all))
 
@@ -55,7 +55,7 @@ pub one_catch_more : (starts : List Bool) (types : ℕ) (b : List ℕ) (o count 
 one_catch_more starts types b o count size n c h at within = record {
   catches = h.catches ++ c ∷ [];
   read = record {
-    stand = sequence_more (CatchAt starts types) b o h.catches c size n h.read.stand at;
+    are_encoded = sequence_more (CatchAt starts types) b o h.catches c size n h.read.are_encoded at;
     many = omega (arith, length-append h.catches (c ∷ []), h.read.many);
     within = omega (arith, within);
   };

@@ -55,21 +55,21 @@ module _ {X : Type 0} (P : X → Type 0) where
   all_distinct same [] all = all
   all_distinct same (x ∷ xs) all = All-cons P x (filter (λ y. not (same x y)) (distinct same xs)) (All-head P x xs all) (all_kept (same x) (distinct same xs) (all_distinct same xs (All-tail P x xs all)))
 
-module _ {X Y : Type 0} (same : X → X → Bool) (alike : Y → Y → Bool) (f : X → Y) (P : X → Type 0) (agree : (x y : X) → P x → P y → alike (f x) (f y) ≡ same x y) where
-  image_by : (x y : X) (ys : List X) (b c : Bool) → c ≡ b → filter (λ z. not (alike (f x) z)) (map f ys) ≡ map f (filter (λ z. not (same x z)) ys)
-      → (if not c then f y ∷ filter (λ z. not (alike (f x) z)) (map f ys) else filter (λ z. not (alike (f x) z)) (map f ys)) ≡ map f (if not b then y ∷ filter (λ z. not (same x z)) ys else filter (λ z. not (same x z)) ys)
+module _ {X Y : Type 0} (same : X → X → Bool) (equivalent : Y → Y → Bool) (f : X → Y) (P : X → Type 0) (agree : (x y : X) → P x → P y → equivalent (f x) (f y) ≡ same x y) where
+  image_by : (x y : X) (ys : List X) (b c : Bool) → c ≡ b → filter (λ z. not (equivalent (f x) z)) (map f ys) ≡ map f (filter (λ z. not (same x z)) ys)
+      → (if not c then f y ∷ filter (λ z. not (equivalent (f x) z)) (map f ys) else filter (λ z. not (equivalent (f x) z)) (map f ys)) ≡ map f (if not b then y ∷ filter (λ z. not (same x z)) ys else filter (λ z. not (same x z)) ys)
   image_by x y ys true true e h = h
   image_by x y ys false false e h = ap (λ zs. f y ∷ zs) h
   image_by x y ys true false e h = absurd cc
   image_by x y ys false true e h = absurd cc
 
-  kept_image : (x : X) (ys : List X) → P x → All P ys → filter (λ z. not (alike (f x) z)) (map f ys) ≡ map f (filter (λ z. not (same x z)) ys)
+  kept_image : (x : X) (ys : List X) → P x → All P ys → filter (λ z. not (equivalent (f x) z)) (map f ys) ≡ map f (filter (λ z. not (same x z)) ys)
   kept_image x [] h all = refl
-  kept_image x (y ∷ ys) h all = image_by x y ys (same x y) (alike (f x) (f y)) (agree x y h (All-head P y ys all)) (kept_image x ys h (All-tail P y ys all))
+  kept_image x (y ∷ ys) h all = image_by x y ys (same x y) (equivalent (f x) (f y)) (agree x y h (All-head P y ys all)) (kept_image x ys h (All-tail P y ys all))
 
   -- the distinct images are the images of the distinct members
-  pub distinct_map : (xs : List X) → All P xs → distinct alike (map f xs) ≡ map f (distinct same xs)
+  pub distinct_map : (xs : List X) → All P xs → distinct equivalent (map f xs) ≡ map f (distinct same xs)
   distinct_map [] all = refl
   distinct_map (x ∷ xs) all =
-      ap (λ ys. f x ∷ filter (λ z. not (alike (f x) z)) ys) (distinct_map xs (All-tail P x xs all))
+      ap (λ ys. f x ∷ filter (λ z. not (equivalent (f x) z)) ys) (distinct_map xs (All-tail P x xs all))
       ∙ ap (λ ys. f x ∷ ys) (kept_image x (distinct same xs) (All-head P x xs all) (all_distinct P same xs (All-tail P x xs all)))

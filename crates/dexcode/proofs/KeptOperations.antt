@@ -55,29 +55,29 @@ without_uses (SetFile name) e = absurd cc
 without_uses (Special opcode) e = refl
 
 -- an operation is kept in the same list once renumbered
-led_places : (r : Maps) (op : Operation) → has_places (renumbered_operation r op) ≡ has_places op
-led_places r (AdvancePc addresses) = refl
-led_places r (AdvanceLine lines) = refl
-led_places r (StartLocal register name typ) = refl
-led_places r (StartLocalExtended register name typ signature) = refl
-led_places r (EndLocal register) = refl
-led_places r (RestartLocal register) = refl
-led_places r SetPrologueEnd = refl
-led_places r SetEpilogueBegin = refl
-led_places r (SetFile name) = refl
-led_places r (Special opcode) = refl
+remapped_places : (r : Maps) (op : Operation) → has_places (renumbered_operation r op) ≡ has_places op
+remapped_places r (AdvancePc addresses) = refl
+remapped_places r (AdvanceLine lines) = refl
+remapped_places r (StartLocal register name typ) = refl
+remapped_places r (StartLocalExtended register name typ signature) = refl
+remapped_places r (EndLocal register) = refl
+remapped_places r (RestartLocal register) = refl
+remapped_places r SetPrologueEnd = refl
+remapped_places r SetEpilogueBegin = refl
+remapped_places r (SetFile name) = refl
+remapped_places r (Special opcode) = refl
 
-led_entry : (r : Maps) (n : ℕ) (op : Operation) → entry_of n (renumbered_operation r op) ≡ entry_of n op
-led_entry r n (AdvancePc addresses) = refl
-led_entry r n (AdvanceLine lines) = refl
-led_entry r n (StartLocal register name typ) = refl
-led_entry r n (StartLocalExtended register name typ signature) = refl
-led_entry r n (EndLocal register) = refl
-led_entry r n (RestartLocal register) = refl
-led_entry r n SetPrologueEnd = refl
-led_entry r n SetEpilogueBegin = refl
-led_entry r n (SetFile name) = refl
-led_entry r n (Special opcode) = refl
+remapped_entry : (r : Maps) (n : ℕ) (op : Operation) → entry_of n (renumbered_operation r op) ≡ entry_of n op
+remapped_entry r n (AdvancePc addresses) = refl
+remapped_entry r n (AdvanceLine lines) = refl
+remapped_entry r n (StartLocal register name typ) = refl
+remapped_entry r n (StartLocalExtended register name typ signature) = refl
+remapped_entry r n (EndLocal register) = refl
+remapped_entry r n (RestartLocal register) = refl
+remapped_entry r n SetPrologueEnd = refl
+remapped_entry r n SetEpilogueBegin = refl
+remapped_entry r n (SetFile name) = refl
+remapped_entry r n (Special opcode) = refl
 
 -- ---- all of them
 
@@ -176,36 +176,36 @@ all_named P (op ∷ ops) all = all_by P (has_places op) op (filter has_places op
 
 -- ---- other numbers
 
-filtered_led : (r : Maps) (b c : Bool) (op : Operation) (xs ys : List Operation) → b ≡ c → xs ≡ map (renumbered_operation r) ys → (if b then renumbered_operation r op ∷ xs else xs) ≡ map (renumbered_operation r) (if c then op ∷ ys else ys)
-filtered_led r true true op xs ys e h = ap (λ l. renumbered_operation r op ∷ l) h
-filtered_led r true false op xs ys e h = absurd cc
-filtered_led r false true op xs ys e h = absurd cc
-filtered_led r false false op xs ys e h = h
+filtered_remapped : (r : Maps) (b c : Bool) (op : Operation) (xs ys : List Operation) → b ≡ c → xs ≡ map (renumbered_operation r) ys → (if b then renumbered_operation r op ∷ xs else xs) ≡ map (renumbered_operation r) (if c then op ∷ ys else ys)
+filtered_remapped r true true op xs ys e h = ap (λ l. renumbered_operation r op ∷ l) h
+filtered_remapped r true false op xs ys e h = absurd cc
+filtered_remapped r false true op xs ys e h = absurd cc
+filtered_remapped r false false op xs ys e h = h
 
-named_led : (r : Maps) (ops : List Operation) → filter has_places (map (renumbered_operation r) ops) ≡ map (renumbered_operation r) (filter has_places ops)
-named_led r [] = refl
-named_led r (op ∷ ops) = filtered_led r (has_places (renumbered_operation r op)) (has_places op) op (filter has_places (map (renumbered_operation r) ops)) (filter has_places ops) (led_places r op) (named_led r ops)
+named_remapped : (r : Maps) (ops : List Operation) → filter has_places (map (renumbered_operation r) ops) ≡ map (renumbered_operation r) (filter has_places ops)
+named_remapped r [] = refl
+named_remapped r (op ∷ ops) = filtered_remapped r (has_places (renumbered_operation r op)) (has_places op) op (filter has_places (map (renumbered_operation r) ops)) (filter has_places ops) (remapped_places r op) (named_remapped r ops)
 
-entries_led : (r : Maps) (ops : List Operation) (n : ℕ) → entries_of n (map (renumbered_operation r) ops) ≡ entries_of n ops
-entries_led r [] n = refl
-entries_led r (op ∷ ops) n =
-    let first = led_entry r n op in
+entries_remapped : (r : Maps) (ops : List Operation) (n : ℕ) → entries_of n (map (renumbered_operation r) ops) ≡ entries_of n ops
+entries_remapped r [] n = refl
+entries_remapped r (op ∷ ops) n =
+    let first = remapped_entry r n op in
     let rest : entries_of (if has_places (renumbered_operation r op) then n + 1 else n) (map (renumbered_operation r) ops) ≡ entries_of (if has_places op then n + 1 else n) ops =
-    ap (λ (b : Bool). entries_of (if b then n + 1 else n) (map (renumbered_operation r) ops)) (led_places r op) ∙ entries_led r ops (if has_places op then n + 1 else n) in
+    ap (λ (b : Bool). entries_of (if b then n + 1 else n) (map (renumbered_operation r) ops)) (remapped_places r op) ∙ entries_remapped r ops (if has_places op then n + 1 else n) in
     λ i. first i ∷ rest i
 
 -- once remapped, the operations with places are kept as they are in the remapped list
-pub kept_led : (r : Maps) (ops : List Operation) (es : List Entry) (named named' : List Operation) → AreKept ops es named → named' ≡ map (renumbered_operation r) named → AreKept (map (renumbered_operation r) ops) es named'
-kept_led r ops es named named' h e = record {
-  entries_are = h.entries_are ∙ sym (entries_led r ops 0);
-  named_are = e ∙ ap (map (renumbered_operation r)) h.named_are ∙ sym (named_led r ops);
+pub kept_remapped : (r : Maps) (ops : List Operation) (es : List Entry) (named named' : List Operation) → AreKept ops es named → named' ≡ map (renumbered_operation r) named → AreKept (map (renumbered_operation r) ops) es named'
+kept_remapped r ops es named named' h e = record {
+  entries_are = h.entries_are ∙ sym (entries_remapped r ops 0);
+  named_are = e ∙ ap (map (renumbered_operation r)) h.named_are ∙ sym (named_remapped r ops);
 }
 
 -- ---- the same operations
 
 -- operations with the same entries and the same operations with places are the same
-pub told_apart : (xs ys : List Operation) → entries_of 0 xs ≡ entries_of 0 ys → filter has_places xs ≡ filter has_places ys → xs ≡ ys
-told_apart xs ys e n = sym (given_back xs []) ∙ (λ i. map (operation_of (n i)) (e i)) ∙ given_back ys []
+pub distinguished : (xs ys : List Operation) → entries_of 0 xs ≡ entries_of 0 ys → filter has_places xs ≡ filter has_places ys → xs ≡ ys
+distinguished xs ys e n = sym (given_back xs []) ∙ (λ i. map (operation_of (n i)) (e i)) ∙ given_back ys []
 
 -- ---- operations that are built
 

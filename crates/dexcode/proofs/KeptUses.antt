@@ -19,7 +19,7 @@ use Rattle.dexpool.specs.declared.symbols.SymbolKind.{SymbolKind}
 use Rattle.dexpool.specs.declared.symbols.SymbolKind.TheVariants as kinds
 use Rattle.dexpool.specs.declared.marks.Marks.{Marks}
 use Rattle.dexpool.specs.internal.Closing.{IsMarked}
-use Rattle.dexpool.specs.Numberings.{Maps, image, image_of, Leads, AllLead, AreMarksOf, marked}
+use Rattle.dexpool.specs.Numberings.{Maps, image, image_of, MapsTo, AllMapTo, AreMarksOf, marked}
 use Rattle.dexpool.proofs.KeptRows.{mark_within, kept_has}
 use Rattle.dexpool.specs.Uses.{Use, AreMarkedToo, marks_of, same_kind, occurs}
 use Rattle.dexcode.specs.Debug.{HasImage}
@@ -76,15 +76,15 @@ some [] i lt = absurd (omega arith)
 some (x ∷ xs) i lt = x
 
 module _ {X : Type 0} (R : X → X → Ordering) (o : IsTotalOrder R) (exact : IsAntisymmetric R) (parts : Symbol → List X) (symbol : X → Symbol) (itself_in : (x : X) → Contains (parts (symbol x)) x) where
-  leads_kept : (ms : List Bool) (xs : List X) (ss : List Symbol) (images : List (Option ℕ)) (i : ℕ) → length ms ≡ length xs → IsMarked ms i → ((s : Symbol) → Contains (map symbol (kept ms xs)) s → Contains ss s) → Leads xs (in_order R (flat_map parts ss)) images → IsSome (image images i)
-  leads_kept ms xs ss images i count mark among l =
+  maps_kept : (ms : List Bool) (xs : List X) (ss : List Symbol) (images : List (Option ℕ)) (i : ℕ) → length ms ≡ length xs → IsMarked ms i → ((s : Symbol) → Contains (map symbol (kept ms xs)) s → Contains ss s) → MapsTo xs (in_order R (flat_map parts ss)) images → IsSome (image images i)
+  maps_kept ms xs ss images i count mark among l =
       let lt : i < length xs = omega (arith, count, mark_within ms i mark) in
       let d = some xs i lt in
       let x = get_or xs i d in
       let there = among (symbol x) (Contains-map symbol (kept ms xs) x (kept_has ms xs i d mark lt)) in
       some_or (image images i) (λ e. l.none i d lt e (in_order-has R o exact (flat_map parts ss) x (Contains-flat_map parts ss (symbol x) x there (itself_in x))))
 
-module _ (m : Mentions) (marks : Marks) (r : Maps) (are : AreMarksOf m marks) (l : AllLead m (closed (marked m marks)) r) where
+module _ (m : Mentions) (marks : Marks) (r : Maps) (are : AreMarksOf m marks) (l : AllMapTo m (closed (marked m marks)) r) where
   abbrev texts : List Symbol
   texts = map TextSymbol (kept marks.strings.items m.texts)
 
@@ -102,20 +102,20 @@ module _ (m : Mentions) (marks : Marks) (r : Maps) (are : AreMarksOf m marks) (l
 
   image_kept : (k : SymbolKind) (i : ℕ) → IsMarked (marks_of k marks) i → IsSome (image_of r k i)
   image_kept kinds.Text i mark =
-      leads_kept text_cmp text_total text_exact texts_in TextSymbol (λ s. Contains-first s []) marks.strings.items m.texts (marked m marks) r.texts i are.strings_count mark
-      (λ s c. Contains-append_left texts (types ++ (protos ++ (fields ++ methods))) s c) l.texts_lead
+      maps_kept text_cmp text_total text_exact texts_in TextSymbol (λ s. Contains-first s []) marks.strings.items m.texts (marked m marks) r.texts i are.strings_count mark
+      (λ s c. Contains-append_left texts (types ++ (protos ++ (fields ++ methods))) s c) l.texts_mapped
   image_kept kinds.Typ i mark =
-      leads_kept text_cmp text_total text_exact types_in TypeSymbol (λ s. Contains-first s []) marks.types.items m.types (marked m marks) r.types i are.types_count mark
-      (λ s c. Contains-append_right texts (types ++ (protos ++ (fields ++ methods))) s (Contains-append_left types (protos ++ (fields ++ methods)) s c)) l.types_lead
+      maps_kept text_cmp text_total text_exact types_in TypeSymbol (λ s. Contains-first s []) marks.types.items m.types (marked m marks) r.types i are.types_count mark
+      (λ s c. Contains-append_right texts (types ++ (protos ++ (fields ++ methods))) s (Contains-append_left types (protos ++ (fields ++ methods)) s c)) l.types_mapped
   image_kept kinds.Proto i mark =
-      leads_kept proto_cmp proto_total proto_exact protos_in ProtoSymbol (λ s. Contains-first s []) marks.protos.items m.protos (marked m marks) r.protos i are.protos_count mark
-      (λ s c. Contains-append_right texts (types ++ (protos ++ (fields ++ methods))) s (Contains-append_right types (protos ++ (fields ++ methods)) s (Contains-append_left protos (fields ++ methods) s c))) l.protos_lead
+      maps_kept proto_cmp proto_total proto_exact protos_in ProtoSymbol (λ s. Contains-first s []) marks.protos.items m.protos (marked m marks) r.protos i are.protos_count mark
+      (λ s c. Contains-append_right texts (types ++ (protos ++ (fields ++ methods))) s (Contains-append_right types (protos ++ (fields ++ methods)) s (Contains-append_left protos (fields ++ methods) s c))) l.protos_mapped
   image_kept kinds.Field i mark =
-      leads_kept field_cmp field_total field_exact fields_in FieldSymbol (λ s. Contains-first s []) marks.fields.items m.fields (marked m marks) r.fields i are.fields_count mark
-      (λ s c. Contains-append_right texts (types ++ (protos ++ (fields ++ methods))) s (Contains-append_right types (protos ++ (fields ++ methods)) s (Contains-append_right protos (fields ++ methods) s (Contains-append_left fields methods s c)))) l.fields_lead
+      maps_kept field_cmp field_total field_exact fields_in FieldSymbol (λ s. Contains-first s []) marks.fields.items m.fields (marked m marks) r.fields i are.fields_count mark
+      (λ s c. Contains-append_right texts (types ++ (protos ++ (fields ++ methods))) s (Contains-append_right types (protos ++ (fields ++ methods)) s (Contains-append_right protos (fields ++ methods) s (Contains-append_left fields methods s c)))) l.fields_mapped
   image_kept kinds.Method i mark =
-      leads_kept method_cmp method_total method_exact methods_in MethodSymbol (λ s. Contains-first s []) marks.methods.items m.methods (marked m marks) r.methods i are.methods_count mark
-      (λ s c. Contains-append_right texts (types ++ (protos ++ (fields ++ methods))) s (Contains-append_right types (protos ++ (fields ++ methods)) s (Contains-append_right protos (fields ++ methods) s (Contains-append_right fields methods s c)))) l.methods_lead
+      maps_kept method_cmp method_total method_exact methods_in MethodSymbol (λ s. Contains-first s []) marks.methods.items m.methods (marked m marks) r.methods i are.methods_count mark
+      (λ s c. Contains-append_right texts (types ++ (protos ++ (fields ++ methods))) s (Contains-append_right types (protos ++ (fields ++ methods)) s (Contains-append_right protos (fields ++ methods) s (Contains-append_right fields methods s c)))) l.methods_mapped
 
   pub uses_kept : (us : List Use) → All (IsMarkedUse marks) us → All (HasImage r) us
   uses_kept [] all = All-nil (HasImage r)

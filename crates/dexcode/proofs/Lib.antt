@@ -9,7 +9,7 @@ pub mod DebugSame
 pub mod DebugUses
 pub mod DebugWeights
 pub mod Encoded
-pub mod Fronts
+pub mod Prefixes
 pub mod HandlersRead
 pub mod Listed
 pub mod Named
@@ -20,7 +20,7 @@ pub mod Whole
 pub mod Images
 pub mod TryRows
 pub mod CodesRead
-pub mod TypesLed
+pub mod TypesRemapped
 pub mod CodeUses
 pub mod CodeMeanings
 pub mod CodePlaces

@@ -9,7 +9,7 @@ use Rattle.dexspec.proofs.lists.Sequences.{one_sequence}
 use Rattle.dexcode.specs.Numbered.{NumberedHandler}
 use Rattle.dexcode.specs.internal.NamedHandlers.{HasHandler}
 use Rattle.dexcode.specs.Reading.{HandlerAt, HandlersRead, BeginsAt, AreNumbered, IsNumberPut}
-use Rattle.dexcode.proofs.Fronts.{sequence_more}
+use Rattle.dexcode.proofs.Prefixes.{sequence_more}
 use Rattle.dexcode.proofs.OneHandler.{one_handler}
 
 -- one number is less than another, or is not
@@ -47,13 +47,13 @@ module _ (starts : List Bool) (types : ℕ) where
   begins_more : (b : List ℕ) (first : ℕ) (hs more : List NumberedHandler) (i before : ℕ) → BeginsAt starts types b first hs i before → BeginsAt starts types b first (hs ++ more) i before
   begins_more b first hs more i before begins = record {
     within = omega (arith, begins.within, length-append hs more);
-    stands = subst (λ (gs : List NumberedHandler). Sequence (HandlerAt starts types) b first gs before) (sym (take-append-le i hs more (omega (arith, begins.within)))) begins.stands;
+    encodes = subst (λ (gs : List NumberedHandler). Sequence (HandlerAt starts types) b first gs before) (sym (take-append-le i hs more (omega (arith, begins.within)))) begins.encodes;
   }
 
   begins_less : (b : List ℕ) (first : ℕ) (hs more : List NumberedHandler) (i before : ℕ) → i < length hs → BeginsAt starts types b first (hs ++ more) i before → BeginsAt starts types b first hs i before
   begins_less b first hs more i before lt begins = record {
     within = lt;
-    stands = subst (λ (gs : List NumberedHandler). Sequence (HandlerAt starts types) b first gs before) (take-append-le i hs more (omega (arith, lt))) begins.stands;
+    encodes = subst (λ (gs : List NumberedHandler). Sequence (HandlerAt starts types) b first gs before) (take-append-le i hs more (omega (arith, lt))) begins.encodes;
   }
 
   -- those before the next are all of them
@@ -63,7 +63,7 @@ module _ (starts : List Bool) (types : ℕ) where
   -- with the number of one more put where it begins, they are numbered
   pub numbered_more : (b : List ℕ) (o first n place : ℕ) (hs : List NumberedHandler) (h : NumberedHandler) (numbers numbers' : List (Option ℕ)) → Sequence (HandlerAt starts types) b first hs n → o + place ≡ first + n → length numbers ≤ place
       → AreNumbered starts types b o first hs numbers → IsNumberPut place (length hs) numbers numbers' → AreNumbered starts types b o first (hs ++ h ∷ []) numbers'
-  numbered_more b o first n place hs h numbers numbers' stand at short numbered put = record {
+  numbered_more b o first n place hs h numbers numbers' are_encoded at short numbered put = record {
     begins = λ k i e. elim (cases_eq k place) [
       | inl here ↦ elim (below_or_not place (2 ^ 16)) [
         | inl near ↦
@@ -83,8 +83,8 @@ module _ (starts : List Bool) (types : ℕ) where
           put.others k other ∙ old
       | inr ge ↦
           let last : i ≡ length hs = omega (arith, ge, begins.within, length-append hs (h ∷ [])) in
-          let all : Sequence (HandlerAt starts types) b first hs before = subst (λ (gs : List NumberedHandler). Sequence (HandlerAt starts types) b first gs before) (ap (λ (j : ℕ). take j (hs ++ h ∷ [])) last ∙ before_next hs h) begins.stands in
-          let same = one_sequence (HandlerAt starts types) (one_handler starts types) b first hs hs before n refl all stand in
+          let all : Sequence (HandlerAt starts types) b first hs before = subst (λ (gs : List NumberedHandler). Sequence (HandlerAt starts types) b first gs before) (ap (λ (j : ℕ). take j (hs ++ h ∷ [])) last ∙ before_next hs h) begins.encodes in
+          let same = one_sequence (HandlerAt starts types) (one_handler starts types) b first hs hs before n refl all are_encoded in
           let here : k ≡ place = omega (arith, at, e, same.1) in
           ap (λ (p : ℕ). get_or numbers' p None) here ∙ put.here (omega (arith, here, lt)) ∙ ap (λ (j : ℕ). Some j) (sym last)
     ];
@@ -93,7 +93,7 @@ module _ (starts : List Bool) (types : ℕ) where
       next : BeginsAt starts types b first (hs ++ h ∷ []) (length hs) n
       next = record {
         within = omega (arith, length-append hs (h ∷ []));
-        stands = subst (λ (gs : List NumberedHandler). Sequence (HandlerAt starts types) b first gs n) (sym (before_next hs h)) stand;
+        encodes = subst (λ (gs : List NumberedHandler). Sequence (HandlerAt starts types) b first gs n) (sym (before_next hs h)) are_encoded;
       }
 
   -- one handler more was numbered
@@ -102,9 +102,9 @@ module _ (starts : List Bool) (types : ℕ) where
   one_handler_more b o first count size n hs numbers numbers' order read more put =
       let place : o + (first + size - o) ≡ first + size = omega (arith, order) in
       record {
-        stand = sequence_more (HandlerAt starts types) b first hs more.handler size n read.stand more.stands;
+        are_encoded = sequence_more (HandlerAt starts types) b first hs more.handler size n read.are_encoded more.encodes;
         many = omega (arith, length-append hs (more.handler ∷ []), read.many);
         within = omega (arith, more.within);
-        short = omega (arith, put.short, handler_some b (first + size) more.handler n more.stands);
-        numbered = numbered_more b o first size (first + size - o) hs more.handler numbers numbers' read.stand place (omega (arith, read.short)) read.numbered (subst (λ (k : ℕ). IsNumberPut (first + size - o) k numbers numbers') (sym read.many) put);
+        short = omega (arith, put.short, handler_some b (first + size) more.handler n more.encodes);
+        numbered = numbered_more b o first size (first + size - o) hs more.handler numbers numbers' read.are_encoded place (omega (arith, read.short)) read.numbered (subst (λ (k : ℕ). IsNumberPut (first + size - o) k numbers numbers') (sym read.many) put);
       }

@@ -16,7 +16,7 @@ use Rattle.dexspec.specs.Code as symbolic
 use Rattle.dexpool.specs.declared.symbols.SymbolKind.{SymbolKind}
 use Rattle.dexpool.specs.declared.symbols.SymbolKind.TheVariants as kinds
 use Rattle.dexpool.specs.Laws.{RanksAreNumbers}
-use Rattle.dexpool.specs.Numberings.{Maps, AllLead}
+use Rattle.dexpool.specs.Numberings.{Maps, AllMapTo}
 use Rattle.dexpool.specs.Pools.{count_of}
 use Rattle.dexinsn.specs.Numbered.{NumberedPiece, Instruction, Payload, kind_in}
 use Rattle.dexcode.specs.declared.debug_operation.Operation.{Operation}
@@ -26,10 +26,10 @@ use Rattle.dexcode.specs.Debug.{NumberedDebug, debug_uses, HasImage, renumbered_
 use Rattle.dexcode.specs.Meaning.{text_at, type_at, symbol_at, piece_in, operation_in, debug_in, code_in, IsKnownText, IsKnownType, IsKnownPiece, IsKnownTry, IsKnownOperation, IsKnownDebug, IsKnownCode}
 use Rattle.dexcode.specs.Numbered.{NumberedTry, NumberedItem, catch_meant, try_meant}
 use Rattle.dexcode.specs.Renumbering.{HasImages, renumbered_item}
-use Rattle.dexcode.proofs.CodeMeanings as codes_led
-use Rattle.dexcode.proofs.DebugMeanings as debugs_led
-use Rattle.dexcode.proofs.MeaningDebug.{debug_known, debug_means, debug_stands}
-use Rattle.dexcode.proofs.Meanings.{code_known, code_means, code_stands}
+use Rattle.dexcode.proofs.CodeMeanings as codes_remapped
+use Rattle.dexcode.proofs.DebugMeanings as debugs_remapped
+use Rattle.dexcode.proofs.MeaningDebug.{debug_known, debug_means, debug_encoded}
+use Rattle.dexcode.proofs.Meanings.{code_known, code_means, code_encoded}
 
 -- ---- ranks instead of symbols
 
@@ -148,29 +148,29 @@ module _ (m : Mentions) (ranks : RanksAreNumbers m) where
 
 -- ---- other numbers
 
-pub debug_led : (m n : Mentions) (r : Maps) (d : NumberedDebug) → AllLead m n r → All (HasImage r) (debug_uses d) → IsKnownDebug m d → IsKnownDebug n (renumbered_debug r d) × (debug_in n (renumbered_debug r d) ≡ debug_in m d)
-debug_led m n r d leads images known =
-    let stands = debugs_led.renumbered_stands m n r d (debug_in m d) leads images (debug_stands m d known) in
-    (debug_known n (renumbered_debug r d) (debug_in m d) stands, sym (debug_means n (renumbered_debug r d) (debug_in m d) stands))
+pub debug_remapped : (m n : Mentions) (r : Maps) (d : NumberedDebug) → AllMapTo m n r → All (HasImage r) (debug_uses d) → IsKnownDebug m d → IsKnownDebug n (renumbered_debug r d) × (debug_in n (renumbered_debug r d) ≡ debug_in m d)
+debug_remapped m n r d maps_to images known =
+    let encodes = debugs_remapped.renumbered_denotes m n r d (debug_in m d) maps_to images (debug_encoded m d known) in
+    (debug_known n (renumbered_debug r d) (debug_in m d) encodes, sym (debug_means n (renumbered_debug r d) (debug_in m d) encodes))
 
-pub code_led : (m n : Mentions) (r : Maps) (c : NumberedItem) → AllLead m n r → HasImages r c → IsKnownCode m c → IsKnownCode n (renumbered_item r c) × (code_in n (renumbered_item r c) ≡ code_in m c)
-code_led m n r c leads images known =
-    let stands = codes_led.renumbered_stands m n r c (code_in m c) leads images (code_stands m c known) in
-    (code_known n (renumbered_item r c) (code_in m c) stands, sym (code_means n (renumbered_item r c) (code_in m c) stands))
+pub code_remapped : (m n : Mentions) (r : Maps) (c : NumberedItem) → AllMapTo m n r → HasImages r c → IsKnownCode m c → IsKnownCode n (renumbered_item r c) × (code_in n (renumbered_item r c) ≡ code_in m c)
+code_remapped m n r c maps_to images known =
+    let encodes = codes_remapped.renumbered_denotes m n r c (code_in m c) maps_to images (code_encoded m c known) in
+    (code_known n (renumbered_item r c) (code_in m c) encodes, sym (code_means n (renumbered_item r c) (code_in m c) encodes))
 
-module _ (m n whole : Mentions) (r s : Maps) (ranks : RanksAreNumbers whole) (from_first : AllLead m whole r) (from_second : AllLead n whole s) where
+module _ (m n whole : Mentions) (r s : Maps) (ranks : RanksAreNumbers whole) (from_first : AllMapTo m whole r) (from_second : AllMapTo n whole s) where
   pub same_debug : (d e : NumberedDebug) → All (HasImage r) (debug_uses d) → All (HasImage s) (debug_uses e) → IsKnownDebug m d → IsKnownDebug n e → (renumbered_debug r d ≡ renumbered_debug s e) ↔ (debug_in m d ≡ debug_in n e)
   same_debug d e images images' known known' =
-      let mine = debug_led m whole r d from_first images known in
-      let theirs = debug_led n whole s e from_second images' known' in (
+      let mine = debug_remapped m whole r d from_first images known in
+      let theirs = debug_remapped n whole s e from_second images' known' in (
         λ same. sym mine.1 ∙ ap (debug_in whole) same ∙ theirs.1,
         λ same. sym (debug_back whole ranks (renumbered_debug r d) mine.0) ∙ ap (ranked_debug whole) (mine.1 ∙ same ∙ sym theirs.1) ∙ debug_back whole ranks (renumbered_debug s e) theirs.0,
       )
 
   pub same_code : (c d : NumberedItem) → HasImages r c → HasImages s d → IsKnownCode m c → IsKnownCode n d → (renumbered_item r c ≡ renumbered_item s d) ↔ (code_in m c ≡ code_in n d)
   same_code c d images images' known known' =
-      let mine = code_led m whole r c from_first images known in
-      let theirs = code_led n whole s d from_second images' known' in (
+      let mine = code_remapped m whole r c from_first images known in
+      let theirs = code_remapped n whole s d from_second images' known' in (
         λ same. sym mine.1 ∙ ap (code_in whole) same ∙ theirs.1,
         λ same. sym (code_back whole ranks (renumbered_item r c) mine.0) ∙ ap (ranked_code whole) (mine.1 ∙ same ∙ sym theirs.1) ∙ code_back whole ranks (renumbered_item s d) theirs.0,
       )

@@ -10,12 +10,12 @@ use Rattle.dexpool.specs.declared.symbols.SymbolKind.{SymbolKind}
 use Rattle.dexpool.specs.declared.symbols.SymbolKind.TheVariants as kinds
 use Rattle.dexpool.specs.Numberings.{IsNumbered}
 use Rattle.dexpool.specs.Pools.{count_of}
-use Rattle.dexinsn.specs.Numbered.{NumberedPiece, Instruction, Payload, StandsFor, kind_of_pool}
+use Rattle.dexinsn.specs.Numbered.{NumberedPiece, Instruction, Payload, Denotes, kind_of_pool}
 use Rattle.dexcode.specs.declared.handlers.Catch.{Catch}
-use Rattle.dexcode.specs.Debug.{StandsForDebug}
+use Rattle.dexcode.specs.Debug.{DenotesDebug}
 use Rattle.dexcode.specs.Meaning.{symbol_at, piece_in, debug_in, code_in, IsKnownPiece, IsKnownTry, IsKnownDebug, IsKnownCode}
-use Rattle.dexcode.specs.Numbered.{NumberedTry, NumberedItem, StandsForCatch, StandsForTry, StandsForCode, catch_meant, try_meant}
-use Rattle.dexcode.proofs.MeaningDebug.{all_known, all_mean, all_stand, one_known, one_means, one_stands, at_place, debug_known, debug_means, debug_stands}
+use Rattle.dexcode.specs.Numbered.{NumberedTry, NumberedItem, DenotesCatch, DenotesTry, DenotesCode, catch_meant, try_meant}
+use Rattle.dexcode.proofs.MeaningDebug.{all_known, all_mean, all_encoded, one_known, one_means, one_encoded, at_place, debug_known, debug_means, debug_encoded}
 
 module _ (m : Mentions) where
   -- ---- pieces
@@ -40,21 +40,21 @@ module _ (m : Mentions) where
   index_named : (o : Option Pool) (n : ℕ) (s : Symbol) → o ≡ Some (pool_of s) → IsNumbered m n s → IsNamed o n s
   index_named o n s e h = subst (λ p. IsNamed p n s) (sym e) (symbol_named n s h)
 
-  symbol_stands : (o : Option Pool) (n : ℕ) → IsSome o → n < count_of (kind_named o) m → (o ≡ Some (pool_of (symbol_at m (kind_named o) n))) × IsNumbered m n (symbol_at m (kind_named o) n)
-  symbol_stands None n some lt = absurd cc
-  symbol_stands (Some Strings) n some lt = (refl, at_place m.texts n [] lt)
-  symbol_stands (Some Types) n some lt = (refl, at_place m.types n [] lt)
-  symbol_stands (Some Protos) n some lt = (refl, at_place m.protos n (record { return_type = []; parameters = [] }) lt)
-  symbol_stands (Some Fields) n some lt = (refl, at_place m.fields n (record { class = []; name = []; type = [] }) lt)
-  symbol_stands (Some Methods) n some lt = (refl, at_place m.methods n (record { class = []; name = []; proto = record { return_type = []; parameters = [] } }) lt)
+  symbol_encoded : (o : Option Pool) (n : ℕ) → IsSome o → n < count_of (kind_named o) m → (o ≡ Some (pool_of (symbol_at m (kind_named o) n))) × IsNumbered m n (symbol_at m (kind_named o) n)
+  symbol_encoded None n some lt = absurd cc
+  symbol_encoded (Some Strings) n some lt = (refl, at_place m.texts n [] lt)
+  symbol_encoded (Some Types) n some lt = (refl, at_place m.types n [] lt)
+  symbol_encoded (Some Protos) n some lt = (refl, at_place m.protos n (record { return_type = []; parameters = [] }) lt)
+  symbol_encoded (Some Fields) n some lt = (refl, at_place m.fields n (record { class = []; name = []; type = [] }) lt)
+  symbol_encoded (Some Methods) n some lt = (refl, at_place m.methods n (record { class = []; name = []; proto = record { return_type = []; parameters = [] } }) lt)
 
-  piece_known : (p : NumberedPiece) (q : Piece) → StandsFor m p q → IsKnownPiece m p
+  piece_known : (p : NumberedPiece) (q : Piece) → Denotes m p q → IsKnownPiece m p
   piece_known (Instruction us None) (pieces.Instruction xs None) h = tt
   piece_known (Instruction us (Some n)) (pieces.Instruction xs (Some s)) h = let named = index_named (index_pool us) n s h.1 h.2 in (named.some, named.within)
   piece_known (Payload us) (pieces.Payload xs) h = tt
   piece_known _ _ h = absurd h
 
-  piece_means : (p : NumberedPiece) (q : Piece) → StandsFor m p q → q ≡ piece_in m p
+  piece_means : (p : NumberedPiece) (q : Piece) → Denotes m p q → q ≡ piece_in m p
   piece_means (Instruction us None) (pieces.Instruction xs None) h = ap (λ (vs : List ℕ). pieces.Instruction vs None) (sym h)
   piece_means (Instruction us (Some n)) (pieces.Instruction xs (Some s)) h =
       let named = index_named (index_pool us) n s h.1 h.2 in
@@ -62,65 +62,65 @@ module _ (m : Mentions) where
   piece_means (Payload us) (pieces.Payload xs) h = ap pieces.Payload (sym h)
   piece_means _ _ h = absurd h
 
-  piece_stands : (p : NumberedPiece) → IsKnownPiece m p → StandsFor m p (piece_in m p)
-  piece_stands (Instruction us None) h = refl
-  piece_stands (Instruction us (Some n)) h = let stands = symbol_stands (index_pool us) n h.0 h.1 in (refl, stands.0, stands.1)
-  piece_stands (Payload us) h = refl
+  piece_encoded : (p : NumberedPiece) → IsKnownPiece m p → Denotes m p (piece_in m p)
+  piece_encoded (Instruction us None) h = refl
+  piece_encoded (Instruction us (Some n)) h = let encodes = symbol_encoded (index_pool us) n h.0 h.1 in (refl, encodes.0, encodes.1)
+  piece_encoded (Payload us) h = refl
 
   -- ---- tries
 
-  catch_means : (c : Catch) (x : symbolic.Catch) → StandsForCatch m c x → x ≡ catch_meant m c
+  catch_means : (c : Catch) (x : symbolic.Catch) → DenotesCatch m c x → x ≡ catch_meant m c
   catch_means c x h =
       let typ = sym (h.type_is.is []) in
       let address = sym h.address_is in
       λ i. record { type = typ i; address = address i }
 
-  try_known : (t : NumberedTry) (x : symbolic.Try) → StandsForTry m t x → IsKnownTry m t
-  try_known t x h = all_known (StandsForCatch m) (λ (c : Catch). c.typ < length m.types) (catch_meant m) (λ c y e. e.type_is.within) t.handler.catches x.handler.catches h.handler_is.catches_are
+  try_known : (t : NumberedTry) (x : symbolic.Try) → DenotesTry m t x → IsKnownTry m t
+  try_known t x h = all_known (DenotesCatch m) (λ (c : Catch). c.typ < length m.types) (catch_meant m) (λ c y e. e.type_is.within) t.handler.catches x.handler.catches h.handler_is.catches_are
 
-  try_means : (t : NumberedTry) (x : symbolic.Try) → StandsForTry m t x → x ≡ try_meant m t
+  try_means : (t : NumberedTry) (x : symbolic.Try) → DenotesTry m t x → x ≡ try_meant m t
   try_means t x h =
       let start = sym h.start_is in
       let count = sym h.count_is in
-      let catches = all_mean (StandsForCatch m) (λ (c : Catch). c.typ < length m.types) (catch_meant m) catch_means t.handler.catches x.handler.catches h.handler_is.catches_are in
+      let catches = all_mean (DenotesCatch m) (λ (c : Catch). c.typ < length m.types) (catch_meant m) catch_means t.handler.catches x.handler.catches h.handler_is.catches_are in
       let all = sym h.handler_is.catch_all_is in
       λ i. record { start = start i; count = count i; handler = record { catches = catches i; catch_all = all i } }
 
-  try_stands : (t : NumberedTry) → IsKnownTry m t → StandsForTry m t (try_meant m t)
-  try_stands t h = record {
+  try_encoded : (t : NumberedTry) → IsKnownTry m t → DenotesTry m t (try_meant m t)
+  try_encoded t h = record {
     start_is = refl;
     count_is = refl;
     handler_is = record {
-      catches_are = all_stand (StandsForCatch m) (λ (c : Catch). c.typ < length m.types) (catch_meant m) (λ c lt. record { type_is = at_place m.types c.typ [] lt; address_is = refl }) t.handler.catches h;
+      catches_are = all_encoded (DenotesCatch m) (λ (c : Catch). c.typ < length m.types) (catch_meant m) (λ c lt. record { type_is = at_place m.types c.typ [] lt; address_is = refl }) t.handler.catches h;
       catch_all_is = refl;
     };
   }
 
   -- ---- the whole
 
-  pub code_known : (c : NumberedItem) (x : symbolic.Code) → StandsForCode m c x → IsKnownCode m c
+  pub code_known : (c : NumberedItem) (x : symbolic.Code) → DenotesCode m c x → IsKnownCode m c
   code_known c x h = record {
-    pieces_known = all_known (StandsFor m) (IsKnownPiece m) (piece_in m) piece_known c.body.pieces x.pieces h.pieces_are;
-    tries_known = all_known (StandsForTry m) (IsKnownTry m) (try_meant m) try_known c.tries x.tries h.tries_are;
-    debug_known = one_known (StandsForDebug m) (IsKnownDebug m) (debug_in m) (debug_known m) c.debug x.debug h.debug_is;
+    pieces_known = all_known (Denotes m) (IsKnownPiece m) (piece_in m) piece_known c.body.pieces x.pieces h.pieces_are;
+    tries_known = all_known (DenotesTry m) (IsKnownTry m) (try_meant m) try_known c.tries x.tries h.tries_are;
+    debug_known = one_known (DenotesDebug m) (IsKnownDebug m) (debug_in m) (debug_known m) c.debug x.debug h.debug_is;
   }
 
-  pub code_means : (c : NumberedItem) (x : symbolic.Code) → StandsForCode m c x → x ≡ code_in m c
+  pub code_means : (c : NumberedItem) (x : symbolic.Code) → DenotesCode m c x → x ≡ code_in m c
   code_means c x h =
       let registers = sym h.registers_are in
       let ins = sym h.ins_are in
       let outs = sym h.outs_are in
-      let ps = all_mean (StandsFor m) (IsKnownPiece m) (piece_in m) piece_means c.body.pieces x.pieces h.pieces_are in
-      let tries = all_mean (StandsForTry m) (IsKnownTry m) (try_meant m) try_means c.tries x.tries h.tries_are in
-      let debug = one_means (StandsForDebug m) (IsKnownDebug m) (debug_in m) (debug_means m) c.debug x.debug h.debug_is in
+      let ps = all_mean (Denotes m) (IsKnownPiece m) (piece_in m) piece_means c.body.pieces x.pieces h.pieces_are in
+      let tries = all_mean (DenotesTry m) (IsKnownTry m) (try_meant m) try_means c.tries x.tries h.tries_are in
+      let debug = one_means (DenotesDebug m) (IsKnownDebug m) (debug_in m) (debug_means m) c.debug x.debug h.debug_is in
       λ i. record { registers = registers i; ins = ins i; outs = outs i; pieces = ps i; tries = tries i; debug = debug i }
 
-  pub code_stands : (c : NumberedItem) → IsKnownCode m c → StandsForCode m c (code_in m c)
-  code_stands c h = record {
+  pub code_encoded : (c : NumberedItem) → IsKnownCode m c → DenotesCode m c (code_in m c)
+  code_encoded c h = record {
     registers_are = refl;
     ins_are = refl;
     outs_are = refl;
-    pieces_are = all_stand (StandsFor m) (IsKnownPiece m) (piece_in m) piece_stands c.body.pieces h.pieces_known;
-    tries_are = all_stand (StandsForTry m) (IsKnownTry m) (try_meant m) try_stands c.tries h.tries_known;
-    debug_is = one_stands (StandsForDebug m) (IsKnownDebug m) (debug_in m) (debug_stands m) c.debug h.debug_known;
+    pieces_are = all_encoded (Denotes m) (IsKnownPiece m) (piece_in m) piece_encoded c.body.pieces h.pieces_known;
+    tries_are = all_encoded (DenotesTry m) (IsKnownTry m) (try_meant m) try_encoded c.tries h.tries_known;
+    debug_is = one_encoded (DenotesDebug m) (IsKnownDebug m) (debug_in m) (debug_encoded m) c.debug h.debug_known;
   }

@@ -38,7 +38,7 @@ known_more starts types b list h {off} there hs hs' more numbers numbers' number
   each = λ p k e. elim (cases_eq p off) [
     | inl here ↦
         let same : number ≡ k = ap (λ o. unwrap_or o 0) (sym put.here ∙ ap (λ (q : ℕ). get_or numbers' q None) (sym here) ∙ e) in
-        let one : (g : NumberedHandler) → IsHandlerAt starts types b (list + p) g → h ≡ g = λ g at. (one_handler starts types b (list + off) h g there.size at.size there.stands (subst (λ (q : ℕ). HandlerAt starts types b (list + q) g at.size) here at.stands)).0 in
+        let one : (g : NumberedHandler) → IsHandlerAt starts types b (list + p) g → h ≡ g = λ g at. (one_handler starts types b (list + off) h g there.size at.size there.encodes (subst (λ (q : ℕ). HandlerAt starts types b (list + q) g at.size) here at.encodes)).0 in
         (subst (λ (q : ℕ). q < length hs') same lt, λ g at. subst (λ (q : ℕ). get_or hs' q no_handler ≡ h) same is ∙ one g at)
     | inr other ↦ let old = known.each p k (sym (put.others p other) ∙ e) in (
       omega (arith, old.0, ap length grown, length-append hs more),

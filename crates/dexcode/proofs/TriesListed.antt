@@ -5,7 +5,7 @@ use Rattle.std.proofs.lemmas.List.{length-append}
 use Rattle.dexspec.specs.Lists.{Sequence}
 use Rattle.dexcode.specs.declared.tries.Try.{Try}
 use Rattle.dexcode.specs.Reading.{ListedTryAt, AreApartFrom}
-use Rattle.dexcode.proofs.Fronts.{same_front}
+use Rattle.dexcode.proofs.Prefixes.{same_prefix}
 
 -- one try
 pub one_listed_try : (units : ℕ) (numbers : List (Option ℕ)) → (b : List ℕ) (o : ℕ) (t u : Try) (n k : ℕ) → ListedTryAt units numbers b o t n → ListedTryAt units numbers b o u k → (t ≡ u) × (n ≡ k)
@@ -37,6 +37,6 @@ next_overlaps units numbers b o ts t (u ∷ us) n k to end some at h apart all l
 pub overlap : (units : ℕ) (numbers : List (Option ℕ)) → (b : List ℕ) (o : ℕ) (ts : List Try) (t : Try) (us : List Try) (n m to end : ℕ) → length ts < length us → Sequence (ListedTryAt units numbers) b o ts n → ListedTryAt units numbers b (o + n) t 8
     → AreApartFrom 0 ts to → t.start_addr < to → Sequence (ListedTryAt units numbers) b o us m → AreApartFrom 0 us end → ⊥
 overlap units numbers b o ts t us n m to end lt h at apart less g all =
-    let front = same_front (ListedTryAt units numbers) (one_listed_try units numbers) b o ts us n m (omega (arith, lt)) h g in
+    let front = same_prefix (ListedTryAt units numbers) (one_listed_try units numbers) b o ts us n m (omega (arith, lt)) h g in
     let joined : length us ≡ length ts + length front.0 = ap length front.2 ∙ length-append ts front.0 in
     next_overlaps units numbers b o ts t front.0 n front.1 to end (omega (arith, lt, joined)) at front.3 apart (subst (λ (vs : List Try). AreApartFrom 0 vs end) front.2 all) less

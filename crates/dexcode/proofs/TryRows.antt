@@ -24,7 +24,7 @@ use Rattle.dexpool.specs.Pools.{ArePools}
 use Rattle.dexpool.specs.Numberings.{AreRising}
 use Rattle.dexcode.specs.declared.handlers.Catch.{Catch}
 use Rattle.dexcode.specs.Equality.{both, option_decides, handler_decides}
-use Rattle.dexcode.specs.Numbered.{NumberedHandler, NumberedTry, no_handler, catch_meant, handler_meant, try_meant, same_handler, handlers_of, handlers_weight, StandsForCatch, StandsForTry}
+use Rattle.dexcode.specs.Numbered.{NumberedHandler, NumberedTry, no_handler, catch_meant, handler_meant, try_meant, same_handler, handlers_of, handlers_weight, DenotesCatch, DenotesTry}
 use Rattle.dexcode.specs.Reading.{CatchAt, CatchAllAt, HandlerAt, IsHandler, TryAt, AreApart, TryItemsAt}
 use Rattle.dexcode.proofs.Images.{seq_map, seq_back, seq_take, seq_all, split_at, one_default, distinct_map}
 
@@ -119,7 +119,7 @@ apart_back m (t ∷ u ∷ ts) h = (h.0, apart_back m (u ∷ ts) h.1)
 
 -- ---- what is in the file
 
-module _ (b : List ℕ) (m : Mentions) (pools : ArePools b m) (rising : AreRising m) (us : List ℕ) (cuts : List Cut) (starts : List Bool) (tell : (k : ℕ) → get_or starts k false ≡ is_instruction_start us cuts (pos k)) where
+module _ (b : List ℕ) (m : Mentions) (pools : ArePools b m) (rising : AreRising m) (us : List ℕ) (cuts : List Cut) (starts : List Bool) (report : (k : ℕ) → get_or starts k false ≡ is_instruction_start us cuts (pos k)) where
   catch_found : (o : ℕ) (c : Catch) (n : ℕ) → CatchAt starts (length m.types) b o c n → symbolic.CatchAt us cuts b o (catch_meant m c) n
   catch_found o c n h = record {
     index = c.typ;
@@ -128,7 +128,7 @@ module _ (b : List ℕ) (m : Mentions) (pools : ArePools b m) (rising : AreRisin
     index_is = h.index_is;
     type = pools.types_are.each c.typ [] (omega (arith, h.in_range, pools.types_are.count));
     address = h.address_is;
-    start = sym (tell c.addr) ∙ h.start;
+    start = sym (report c.addr) ∙ h.start;
     size = h.size;
   }
 
@@ -136,17 +136,17 @@ module _ (b : List ℕ) (m : Mentions) (pools : ArePools b m) (rising : AreRisin
   catch_back o x n h =
       let type : get_or m.types h.index [] ≡ x.type = one_type b h.index (get_or m.types h.index []) x.type (pools.types_are.each h.index [] h.type.row) h.type in (
         record { typ = h.index; addr = x.address },
-        record { index_size = h.index_size; address_size = h.address_size; index_is = h.index_is; in_range = omega (arith, h.type.row, pools.types_are.count); address_is = h.address; start = tell x.address ∙ h.start; size = h.size },
+        record { index_size = h.index_size; address_size = h.address_size; index_is = h.index_is; in_range = omega (arith, h.type.row, pools.types_are.count); address_is = h.address; start = report x.address ∙ h.start; size = h.size },
         λ i. record { type = type i; address = x.address },
       )
 
   all_found : (size : ℤ) (o : ℕ) (a : Option ℕ) (n : ℕ) → CatchAllAt starts size b o a n → symbolic.CatchAllAt us cuts size b o a n
   all_found size o None n h = h
-  all_found size o (Some a) n h = (h.0, h.1, sym (tell a) ∙ h.2)
+  all_found size o (Some a) n h = (h.0, h.1, sym (report a) ∙ h.2)
 
   all_back : (size : ℤ) (o : ℕ) (a : Option ℕ) (n : ℕ) → symbolic.CatchAllAt us cuts size b o a n → CatchAllAt starts size b o a n
   all_back size o None n h = h
-  all_back size o (Some a) n h = (h.0, h.1, tell a ∙ h.2)
+  all_back size o (Some a) n h = (h.0, h.1, report a ∙ h.2)
 
   handler_found : (o : ℕ) (h : NumberedHandler) (n : ℕ) → HandlerAt starts (length m.types) b o h n → symbolic.HandlerAt us cuts b o (handler_meant m h) n
   handler_found o h n g = record {
@@ -189,7 +189,7 @@ module _ (b : List ℕ) (m : Mentions) (pools : ArePools b m) (rising : AreRisin
         after = map (handler_meant m) (drop (suc i) hs);
         before_size = g.before;
         parts = ap (map (handler_meant m)) parts ∙ map-append (handler_meant m) (take i hs) (h ∷ drop (suc i) hs);
-        stands = seq_map (HandlerAt starts (length m.types)) (symbolic.HandlerAt us cuts) (handler_meant m) b handler_found (o + size) (take i hs) g.before g.begins.stands;
+        encodes = seq_map (HandlerAt starts (length m.types)) (symbolic.HandlerAt us cuts) (handler_meant m) b handler_found (o + size) (take i hs) g.before g.begins.encodes;
         place = g.place;
       }
 
@@ -200,23 +200,23 @@ module _ (b : List ℕ) (m : Mentions) (pools : ArePools b m) (rising : AreRisin
       let i = length g.before in
       let len : length hs ≡ i + suc (length g.after) = sym (length-map hs f) ∙ ap length g.parts ∙ length-append g.before (x ∷ g.after) in
       let lt : i < length hs = omega (arith, len) in
-      let front : map f (take i hs) ≡ g.before = front_map f hs g.before (x ∷ g.after) g.parts in
+      let front : map f (take i hs) ≡ g.before = prefix_map f hs g.before (x ∷ g.after) g.parts in
       let some = seq_take (HandlerAt starts (length m.types)) b (o + size) hs total i list in
       let found = seq_map (HandlerAt starts (length m.types)) (symbolic.HandlerAt us cuts) f b handler_found (o + size) (take i hs) some.0 some.1 in
-      let same = one_sequence (symbolic.HandlerAt us cuts) (one.one_handler us cuts) b (o + size) (map f (take i hs)) g.before some.0 g.before_size (ap length front) found g.stands in
+      let same = one_sequence (symbolic.HandlerAt us cuts) (one.one_handler us cuts) b (o + size) (map f (take i hs)) g.before some.0 g.before_size (ap length front) found g.encodes in
       let is : f (get_or hs i no_handler) ≡ x = sym (get_or-map f hs i no_handler x lt) ∙ ap (λ ys. get_or ys i x) g.parts ∙ at_seam g.before x g.after in (
         get_or hs i no_handler,
-        record { index = i; before = some.0; begins = record { within = lt; stands = some.1 }; place = omega (arith, g.place, same.1); is = λ d. one_default hs i d no_handler lt },
+        record { index = i; before = some.0; begins = record { within = lt; encodes = some.1 }; place = omega (arith, g.place, same.1); is = λ d. one_default hs i d no_handler lt },
         is,
       )
     where
-      front_map : {X Y : Type 0} (f : X → Y) (xs : List X) (ys zs : List Y) → map f xs ≡ ys ++ zs → map f (take (length ys) xs) ≡ ys
-      front_map f xs [] zs e = refl
-      front_map f [] (y ∷ ys) zs e = absurd cc
-      front_map f (x ∷ xs) (y ∷ ys) zs e =
+      prefix_map : {X Y : Type 0} (f : X → Y) (xs : List X) (ys zs : List Y) → map f xs ≡ ys ++ zs → map f (take (length ys) xs) ≡ ys
+      prefix_map f xs [] zs e = refl
+      prefix_map f [] (y ∷ ys) zs e = absurd cc
+      prefix_map f (x ∷ xs) (y ∷ ys) zs e =
           let head : f x ≡ y = cc in
           let tail : map f xs ≡ ys ++ zs = cc in
-          λ i. head i ∷ front_map f xs ys zs tail i
+          λ i. head i ∷ prefix_map f xs ys zs tail i
 
       at_seam : {X : Type 0} (xs : List X) (x : X) (ys : List X) → get_or (xs ++ x ∷ ys) (length xs) x ≡ x
       at_seam [] x ys = refl
@@ -227,8 +227,8 @@ module _ (b : List ℕ) (m : Mentions) (pools : ArePools b m) (rising : AreRisin
 
   try_back : (list size total : ℕ) (hs : List NumberedHandler) → Sequence (HandlerAt starts (length m.types)) b (list + size) hs total → (o : ℕ) (x : symbolic.Try) (n : ℕ) → symbolic.TryAt us cuts list size (map (handler_meant m) hs) b o x n
       → (t : NumberedTry) × TryAt starts (length m.types) (length us) list size hs b o t n × (try_meant m t ≡ x)
-  try_back list size total hs stand o x n h =
-      let at = place_back list size total hs _ x.handler stand h.handler in (
+  try_back list size total hs are_encoded o x n h =
+      let at = place_back list size total hs _ x.handler are_encoded h.handler in (
         record { start_addr = x.start; insn_count = x.count; handler = at.0 },
         record { start_is = h.start; count_is = h.count; some = h.some; within = h.within; handler_is = at.1; size = h.size },
         λ i. record { start = x.start; count = x.count; handler = at.2 i },
@@ -247,8 +247,8 @@ module _ (b : List ℕ) (m : Mentions) (pools : ArePools b m) (rising : AreRisin
   all_in_range (t ∷ ts) all = All-cons (IsInRange m) t.handler (map (λ t. t.handler) ts) (All-head (λ (t : NumberedTry). IsInRange m t.handler) t ts all) (all_in_range ts (All-tail (λ (t : NumberedTry). IsInRange m t.handler) t ts all))
 
   pub items_in_range : (list size total o n : ℕ) (hs : List NumberedHandler) (ts : List NumberedTry) → Sequence (HandlerAt starts (length m.types)) b (list + size) hs total → Sequence (TryAt starts (length m.types) (length us) list size hs) b o ts n → All (IsInRange m) (map (λ t. t.handler) ts)
-  items_in_range list size total o n hs ts stand items =
-      let all = seq_all (HandlerAt starts (length m.types)) (IsInRange m) b handler_in_range (list + size) hs total stand in
+  items_in_range list size total o n hs ts are_encoded items =
+      let all = seq_all (HandlerAt starts (length m.types)) (IsInRange m) b handler_in_range (list + size) hs total are_encoded in
       all_in_range ts (seq_all (TryAt starts (length m.types) (length us) list size hs) (λ t. IsInRange m t.handler) b (try_in_range list size hs all) o ts n items)
 
   same_weight : (ts : List NumberedTry) → All (IsInRange m) (map (λ t. t.handler) ts) → symbolic.handlers_weight (symbolic.handlers_of (map (try_meant m) ts)) ≡ handlers_weight (handlers_of ts)
@@ -295,16 +295,16 @@ module _ (b : List ℕ) (m : Mentions) (pools : ArePools b m) (rising : AreRisin
 
 -- ---- what tries denote
 
-catch_stands : (m : Mentions) (c : Catch) → c.typ < length m.types → StandsForCatch m c (catch_meant m c)
-catch_stands m c lt = record { type_is = record { within = lt; is = λ d. one_default m.types c.typ d [] lt }; address_is = refl }
+catch_encoded : (m : Mentions) (c : Catch) → c.typ < length m.types → DenotesCatch m c (catch_meant m c)
+catch_encoded m c lt = record { type_is = record { within = lt; is = λ d. one_default m.types c.typ d [] lt }; address_is = refl }
 
-catches_stand : (m : Mentions) (cs : List Catch) → All (λ c. c.typ < length m.types) cs → AllZip (StandsForCatch m) cs (map (catch_meant m) cs)
-catches_stand m [] all = tt
-catches_stand m (c ∷ cs) all = (catch_stands m c (All-head (λ (c : Catch). c.typ < length m.types) c cs all), catches_stand m cs (All-tail (λ (c : Catch). c.typ < length m.types) c cs all))
+catches_encoded : (m : Mentions) (cs : List Catch) → All (λ c. c.typ < length m.types) cs → AllZip (DenotesCatch m) cs (map (catch_meant m) cs)
+catches_encoded m [] all = tt
+catches_encoded m (c ∷ cs) all = (catch_encoded m c (All-head (λ (c : Catch). c.typ < length m.types) c cs all), catches_encoded m cs (All-tail (λ (c : Catch). c.typ < length m.types) c cs all))
 
-pub tries_stand : (m : Mentions) (ts : List NumberedTry) → All (IsInRange m) (map (λ t. t.handler) ts) → AllZip (StandsForTry m) ts (map (try_meant m) ts)
-tries_stand m [] all = tt
-tries_stand m (t ∷ ts) all =
+pub tries_encoded : (m : Mentions) (ts : List NumberedTry) → All (IsInRange m) (map (λ t. t.handler) ts) → AllZip (DenotesTry m) ts (map (try_meant m) ts)
+tries_encoded m [] all = tt
+tries_encoded m (t ∷ ts) all =
     let first = All-head (IsInRange m) t.handler (map (λ t. t.handler) ts) all in
     let rest = All-tail (IsInRange m) t.handler (map (λ t. t.handler) ts) all in
-    (record { start_is = refl; count_is = refl; handler_is = record { catches_are = catches_stand m t.handler.catches first; catch_all_is = refl } }, tries_stand m ts rest)
+    (record { start_is = refl; count_is = refl; handler_is = record { catches_are = catches_encoded m t.handler.catches first; catch_all_is = refl } }, tries_encoded m ts rest)

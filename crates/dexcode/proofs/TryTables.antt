@@ -120,17 +120,17 @@ tries_at units numbers b o (t ∷ ts) n h (suc j) d lt =
 
 module _ (starts : List Bool) (types : ℕ) (b : List ℕ) where
   -- a handler of a list is where those before it end
-  stands_behind : (first : ℕ) (hs : List NumberedHandler) (n : ℕ) → Sequence (HandlerAt starts types) b first hs n → (i before : ℕ) (d : NumberedHandler) → i < length hs → Sequence (HandlerAt starts types) b first (take i hs) before → IsHandlerAt starts types b (first + before) (get_or hs i d)
-  stands_behind first [] n h i before d lt g = absurd (omega (arith, lt))
-  stands_behind first (x ∷ hs) n h zero before d lt g = record { size = h.0; stands = subst (λ (p : ℕ). HandlerAt starts types b p x h.0) (omega (arith, g)) h.2 }
-  stands_behind first (x ∷ hs) n h (suc i) before d lt g =
+  is_at_end : (first : ℕ) (hs : List NumberedHandler) (n : ℕ) → Sequence (HandlerAt starts types) b first hs n → (i before : ℕ) (d : NumberedHandler) → i < length hs → Sequence (HandlerAt starts types) b first (take i hs) before → IsHandlerAt starts types b (first + before) (get_or hs i d)
+  is_at_end first [] n h i before d lt g = absurd (omega (arith, lt))
+  is_at_end first (x ∷ hs) n h zero before d lt g = record { size = h.0; encodes = subst (λ (p : ℕ). HandlerAt starts types b p x h.0) (omega (arith, g)) h.2 }
+  is_at_end first (x ∷ hs) n h (suc i) before d lt g =
       let same = (one_handler starts types b first x x g.0 h.0 g.2 h.2).1 in
-      let there = stands_behind (first + h.0) hs h.1 h.3 i g.1 d (omega (arith, lt)) (subst (λ (k : ℕ). Sequence (HandlerAt starts types) b (first + k) (take i hs) g.1) same g.3) in
+      let there = is_at_end (first + h.0) hs h.1 h.3 i g.1 d (omega (arith, lt)) (subst (λ (k : ℕ). Sequence (HandlerAt starts types) b (first + k) (take i hs) g.1) same g.3) in
       subst (λ (p : ℕ). IsHandlerAt starts types b p (get_or hs i d)) (omega (arith, same, g.4)) there
 
   -- a handler begins within the file
   pub begins_within : (o : ℕ) (h : NumberedHandler) → IsHandlerAt starts types b o h → o ≤ length b
-  begins_within o h at = omega (arith, handler_some starts types b o h at.size at.stands, at.stands.count_is.within, length-drop o b, sleb_some b o at.stands.count at.stands.count_size at.stands.count_is)
+  begins_within o h at = omega (arith, handler_some starts types b o h at.size at.encodes, at.encodes.count_is.within, length-drop o b, sleb_some b o at.encodes.count at.encodes.count_size at.encodes.count_is)
 
 module _ (starts : List Bool) (types units : ℕ) (b : List ℕ) (o count : ℕ) where
   -- what was read is at the offset
@@ -142,29 +142,29 @@ module _ (starts : List Bool) (types units : ℕ) (b : List ℕ) (o count : ℕ)
     count_size = at.count_size;
     handlers_size = at.size;
     list_count = at.count_is;
-    list = at.stand;
-    items = tries_named starts types units b (o + 8 * count) hs numbers at o ts (8 * count) read.stand;
+    list = at.are_encoded;
+    items = tries_named starts types units b (o + 8 * count) hs numbers at o ts (8 * count) read.are_encoded;
     apart = apart_named hs 0 to ts read.apart;
     few = few;
   }
 
   -- each names a handler
   found_within : (hs : List NumberedHandler) (numbers : List (Option ℕ)) (ts : List Try) (to : ℕ) → IsListAt starts types b (o + 8 * count) hs numbers → TriesRead units numbers b o count ts to → All (λ t. t.handler < length hs) ts
-  found_within hs numbers ts to at read = handlers_named starts types units b (o + 8 * count) hs numbers at o ts (8 * count) read.stand
+  found_within hs numbers ts to at read = handlers_named starts types units b (o + 8 * count) hs numbers at o ts (8 * count) read.are_encoded
 
   -- and each is formed
   found_formed : (hs : List NumberedHandler) (numbers : List (Option ℕ)) → IsListAt starts types b (o + 8 * count) hs numbers → All IsFormedHandler hs
-  found_formed hs numbers at = all_formed starts types b (o + 8 * count + at.count_size) hs at.size at.stand
+  found_formed hs numbers at = all_formed starts types b (o + 8 * count + at.count_size) hs at.size at.are_encoded
 
   -- the handlers that tries name are where these say
   pub found_listed : (hs : List NumberedHandler) (numbers : List (Option ℕ)) (ts : List Try) (to : ℕ) → IsListAt starts types b (o + 8 * count) hs numbers → TriesRead units numbers b o count ts to → AreListed starts types b o (o + 8 * count) hs ts
   found_listed hs numbers ts to at read = record {
     each = λ j d lt.
         let t = get_or ts j d in
-        let item = tries_at units numbers b o ts (8 * count) read.stand j d lt in
+        let item = tries_at units numbers b o ts (8 * count) read.are_encoded j d lt in
         let begins = at.numbered.begins (ushort_at b (o + 8 * j + 6)) t.handler item.named in
         let place : o + 8 * count + at.count_size + begins.0 ≡ o + 8 * count + ushort_at b (o + 8 * j + 6) = omega (arith, begins.2) in
-        subst (λ (p : ℕ). IsHandlerAt starts types b p (get_or hs t.handler no_handler)) place (stands_behind starts types b (o + 8 * count + at.count_size) hs at.size at.stand t.handler begins.0 no_handler begins.1.within begins.1.stands);
+        subst (λ (p : ℕ). IsHandlerAt starts types b p (get_or hs t.handler no_handler)) place (is_at_end starts types b (o + 8 * count + at.count_size) hs at.size at.are_encoded t.handler begins.0 no_handler begins.1.within begins.1.encodes);
     formed = found_formed hs numbers at;
     within = found_within hs numbers ts to at read;
   }
@@ -176,7 +176,7 @@ module _ (starts : List Bool) (types units : ℕ) (b : List ℕ) (o count : ℕ)
       let list = o + 8 * count in
       let many = one_uleb128 b list (length h.handlers) (length hs) h.count_size at.count_size h.list_count at.count_is in
       let same = one_sequence (HandlerAt starts types) (one_handler starts types) b (list + at.count_size) h.handlers hs h.handlers_size at.size many.0
-      (subst (λ (i : ℕ). Sequence (HandlerAt starts types) b (list + i) h.handlers h.handlers_size) many.1 h.list) at.stand in
+      (subst (λ (i : ℕ). Sequence (HandlerAt starts types) b (list + i) h.handlers h.handlers_size) many.1 h.list) at.are_encoded in
       let moved = subst (λ (i : ℕ). Sequence (TryAt starts types units list i h.handlers) b o ss (8 * count)) many.1 h.items in
       let items = subst (λ (gs : List NumberedHandler). Sequence (TryAt starts types units list at.count_size gs) b o ss (8 * count)) same.0 moved in
       tries_listed starts types units b list hs numbers at small o ss (8 * count) items
@@ -206,6 +206,6 @@ module _ (starts : List Bool) (types units : ℕ) (b : List ℕ) (o count : ℕ)
       → most_handlers < handlers_weight (handlers_of (all_named hs ts)) → (ss : List NumberedTry) → TryItemsAt starts types units b o count ss → ⊥
   too_heavy small hs numbers ts to at read heavy ss h =
       let there = back small hs numbers at ss h in
-      let same = one_sequence (ListedTryAt units numbers) (one_listed_try units numbers) b o there.0 ts (8 * count) (8 * count) (length-same hs there.0 ss there.2 ∙ h.many ∙ sym read.many) there.1 read.stand in
+      let same = one_sequence (ListedTryAt units numbers) (one_listed_try units numbers) b o there.0 ts (8 * count) (8 * count) (length-same hs there.0 ss there.2 ∙ h.many ∙ sym read.many) there.1 read.are_encoded in
       let named_same : ss ≡ all_named hs ts = sym there.2 ∙ ap (all_named hs) same.0 in
       omega (arith, heavy, h.few, ap (λ us. handlers_weight (handlers_of us)) named_same)

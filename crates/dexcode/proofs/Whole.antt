@@ -11,7 +11,7 @@ use Rattle.dexpool.specs.Numberings.{Maps}
 use Rattle.dexcode.specs.declared.handlers.Catch.{Catch}
 use Rattle.dexcode.specs.Numbered.{NumberedHandler, IsWhole, IsFormedHandler, same_handler, no_handler}
 use Rattle.dexcode.specs.Reading.{CatchAt, CatchAllAt, HandlerAt}
-use Rattle.dexcode.specs.Renumbering.{catch_use, handler_uses, HasTypePlace, led_type, renumbered_catch, renumbered_handler}
+use Rattle.dexcode.specs.Renumbering.{catch_use, handler_uses, HasTypePlace, remapped_type, renumbered_catch, renumbered_handler}
 use Rattle.dexcode.proofs.Images.{seq_all}
 
 -- a handler that was read is whole
@@ -48,19 +48,19 @@ pub wholes : (hs : List NumberedHandler) → All IsFormedHandler hs → All IsWh
 wholes hs all = All-weaker IsFormedHandler IsWhole (λ h formed. formed.whole) hs all
 
 -- types that have places, remapped
-types_led : (r : Maps) (cs : List Catch) → All (HasTypePlace r) (map catch_use cs) → All (λ c. c.typ < 2 ^ 32) (map (renumbered_catch r) cs)
-types_led r [] all = All-nil (λ (c : Catch). c.typ < 2 ^ 32)
-types_led r (c ∷ cs) all =
+types_remapped : (r : Maps) (cs : List Catch) → All (HasTypePlace r) (map catch_use cs) → All (λ c. c.typ < 2 ^ 32) (map (renumbered_catch r) cs)
+types_remapped r [] all = All-nil (λ (c : Catch). c.typ < 2 ^ 32)
+types_remapped r (c ∷ cs) all =
     let place = All-head (HasTypePlace r) (catch_use c) (map catch_use cs) all in
-    let is : led_type r c.typ ≡ place.0 = ap (λ o. unwrap_or o c.typ) place.1 in
-    All-cons (λ (c : Catch). c.typ < 2 ^ 32) (renumbered_catch r c) (map (renumbered_catch r) cs) (omega (arith, is, place.2)) (types_led r cs (All-tail (HasTypePlace r) (catch_use c) (map catch_use cs) all))
+    let is : remapped_type r c.typ ≡ place.0 = ap (λ o. unwrap_or o c.typ) place.1 in
+    All-cons (λ (c : Catch). c.typ < 2 ^ 32) (renumbered_catch r c) (map (renumbered_catch r) cs) (omega (arith, is, place.2)) (types_remapped r cs (All-tail (HasTypePlace r) (catch_use c) (map catch_use cs) all))
 
 -- remapped handlers are formed
-pub formed_led : (r : Maps) (hs : List NumberedHandler) → All (λ h. All (HasTypePlace r) (handler_uses h)) hs → All IsFormedHandler hs → All IsFormedHandler (map (renumbered_handler r) hs)
-formed_led r [] places all = All-nil IsFormedHandler
-formed_led r (h ∷ hs) places all =
+pub formed_remapped : (r : Maps) (hs : List NumberedHandler) → All (λ h. All (HasTypePlace r) (handler_uses h)) hs → All IsFormedHandler hs → All IsFormedHandler (map (renumbered_handler r) hs)
+formed_remapped r [] places all = All-nil IsFormedHandler
+formed_remapped r (h ∷ hs) places all =
     let formed = All-head IsFormedHandler h hs all in
     let whole : IsWhole (renumbered_handler r h) = λ none. let some = formed.whole none in omega (arith, some, length-map h.catches (renumbered_catch r)) in
     All-cons IsFormedHandler (renumbered_handler r h) (map (renumbered_handler r) hs)
-    (record { whole = whole; types_fit = types_led r h.catches (All-head (λ h. All (HasTypePlace r) (handler_uses h)) h hs places) })
-    (formed_led r hs (All-tail (λ h. All (HasTypePlace r) (handler_uses h)) h hs places) (All-tail IsFormedHandler h hs all))
+    (record { whole = whole; types_fit = types_remapped r h.catches (All-head (λ h. All (HasTypePlace r) (handler_uses h)) h hs places) })
+    (formed_remapped r hs (All-tail (λ h. All (HasTypePlace r) (handler_uses h)) h hs places) (All-tail IsFormedHandler h hs all))

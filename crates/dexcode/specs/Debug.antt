@@ -26,32 +26,32 @@ pub record NumberedDebug : Type 0 where
 -- ---- what numbers denote
 
 -- the number, if there is one, is that of the text
-abbrev pub StandsForText : Mentions → Option ℕ → Option Text → Type 0
-StandsForText m i s = BothOrNone (IsAt m.texts) i s
+abbrev pub DenotesText : Mentions → Option ℕ → Option Text → Type 0
+DenotesText m i s = BothOrNone (IsAt m.texts) i s
 
 -- the number, if there is one, is that of the type
-abbrev pub StandsForType : Mentions → Option ℕ → Option Text → Type 0
-StandsForType m i t = BothOrNone (IsAt m.types) i t
+abbrev pub DenotesType : Mentions → Option ℕ → Option Text → Type 0
+DenotesType m i t = BothOrNone (IsAt m.types) i t
 
 -- the operation is the symbolic one, where symbols are numbered so
-abbrev pub StandsForOperation : Mentions → Operation → symbolic.Operation → Type 0
-StandsForOperation m (AdvancePc addresses) (symbolic.AdvancePc others) = addresses ≡ others
-StandsForOperation m (AdvanceLine lines) (symbolic.AdvanceLine others) = lines ≡ others
-StandsForOperation m (StartLocal register name typ) (symbolic.StartLocal other s t) = (register ≡ other) × StandsForText m name s × StandsForType m typ t
-StandsForOperation m (StartLocalExtended register name typ signature) (symbolic.StartLocalExtended other s t u) = (register ≡ other) × StandsForText m name s × StandsForType m typ t × StandsForText m signature u
-StandsForOperation m (EndLocal register) (symbolic.EndLocal other) = register ≡ other
-StandsForOperation m (RestartLocal register) (symbolic.RestartLocal other) = register ≡ other
-StandsForOperation m SetPrologueEnd symbolic.SetPrologueEnd = Unit {0}
-StandsForOperation m SetEpilogueBegin symbolic.SetEpilogueBegin = Unit {0}
-StandsForOperation m (SetFile name) (symbolic.SetFile s) = StandsForText m name s
-StandsForOperation m (Special opcode) (symbolic.Special other) = opcode ≡ other
-StandsForOperation m _ _ = ⊥
+abbrev pub DenotesOperation : Mentions → Operation → symbolic.Operation → Type 0
+DenotesOperation m (AdvancePc addresses) (symbolic.AdvancePc others) = addresses ≡ others
+DenotesOperation m (AdvanceLine lines) (symbolic.AdvanceLine others) = lines ≡ others
+DenotesOperation m (StartLocal register name typ) (symbolic.StartLocal other s t) = (register ≡ other) × DenotesText m name s × DenotesType m typ t
+DenotesOperation m (StartLocalExtended register name typ signature) (symbolic.StartLocalExtended other s t u) = (register ≡ other) × DenotesText m name s × DenotesType m typ t × DenotesText m signature u
+DenotesOperation m (EndLocal register) (symbolic.EndLocal other) = register ≡ other
+DenotesOperation m (RestartLocal register) (symbolic.RestartLocal other) = register ≡ other
+DenotesOperation m SetPrologueEnd symbolic.SetPrologueEnd = Unit {0}
+DenotesOperation m SetEpilogueBegin symbolic.SetEpilogueBegin = Unit {0}
+DenotesOperation m (SetFile name) (symbolic.SetFile s) = DenotesText m name s
+DenotesOperation m (Special opcode) (symbolic.Special other) = opcode ≡ other
+DenotesOperation m _ _ = ⊥
 
 -- the debug program is the symbolic one, where symbols are numbered so
-pub record StandsForDebug (m : Mentions) (d : NumberedDebug) (x : symbolic.Debug) : Type 0 where
+pub record DenotesDebug (m : Mentions) (d : NumberedDebug) (x : symbolic.Debug) : Type 0 where
   pub start_is : d.line_start ≡ x.line_start
-  pub names_are : AllZip (StandsForText m) d.parameter_names x.parameter_names
-  pub operations_are : AllZip (StandsForOperation m) d.operations x.operations
+  pub names_are : AllZip (DenotesText m) d.parameter_names x.parameter_names
+  pub operations_are : AllZip (DenotesOperation m) d.operations x.operations
 
 -- ---- the numbers in an operation
 
@@ -109,25 +109,25 @@ pub record IsFormedDebug (d : NumberedDebug) : Type 0 where
 -- ---- without symbols
 
 -- the operation, every text and type left out
-abbrev pub bare_operation : Operation → symbolic.Operation
-bare_operation (AdvancePc addresses) = symbolic.AdvancePc addresses
-bare_operation (AdvanceLine lines) = symbolic.AdvanceLine lines
-bare_operation (StartLocal register name typ) = symbolic.StartLocal register None None
-bare_operation (StartLocalExtended register name typ signature) = symbolic.StartLocalExtended register None None None
-bare_operation (EndLocal register) = symbolic.EndLocal register
-bare_operation (RestartLocal register) = symbolic.RestartLocal register
-bare_operation SetPrologueEnd = symbolic.SetPrologueEnd
-bare_operation SetEpilogueBegin = symbolic.SetEpilogueBegin
-bare_operation (SetFile name) = symbolic.SetFile None
-bare_operation (Special opcode) = symbolic.Special opcode
+abbrev pub unindexed_operation : Operation → symbolic.Operation
+unindexed_operation (AdvancePc addresses) = symbolic.AdvancePc addresses
+unindexed_operation (AdvanceLine lines) = symbolic.AdvanceLine lines
+unindexed_operation (StartLocal register name typ) = symbolic.StartLocal register None None
+unindexed_operation (StartLocalExtended register name typ signature) = symbolic.StartLocalExtended register None None None
+unindexed_operation (EndLocal register) = symbolic.EndLocal register
+unindexed_operation (RestartLocal register) = symbolic.RestartLocal register
+unindexed_operation SetPrologueEnd = symbolic.SetPrologueEnd
+unindexed_operation SetEpilogueBegin = symbolic.SetEpilogueBegin
+unindexed_operation (SetFile name) = symbolic.SetFile None
+unindexed_operation (Special opcode) = symbolic.Special opcode
 
 -- the debug program, every text and type left out: it weighs as much and has the same positions
-abbrev pub bare : NumberedDebug → symbolic.Debug
-bare d = record { line_start = d.line_start; parameter_names = map (λ i. None) d.parameter_names; operations = map bare_operation d.operations }
+abbrev pub unindexed : NumberedDebug → symbolic.Debug
+unindexed d = record { line_start = d.line_start; parameter_names = map (λ i. None) d.parameter_names; operations = map unindexed_operation d.operations }
 
 -- what an operation weighs
 abbrev pub operation_weight : Operation → ℕ
-operation_weight op = 1 + 5 * operands (bare_operation op)
+operation_weight op = 1 + 5 * operands (unindexed_operation op)
 
 -- ---- the bytes
 

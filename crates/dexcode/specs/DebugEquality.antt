@@ -37,12 +37,12 @@ debug_equiv first second = and_equiv
 
 module _ (entry : Entry → Entry → Bool) (operation : Operation → Operation → Bool) (entry_input : Entry → fed.HashWrites) (operation_input : Operation → fed.HashWrites)
     (entries_fed : (x y : Entry) → IsTrue (entry x y) → entry_input x ≡ entry_input y) (operations_fed : (x y : Operation) → IsTrue (operation x y) → operation_input x ≡ operation_input y) where
-  pub operations_alike : (xs ys : List Operation) → IsTrue (same_operations entry operation xs ys) → operations_input entry_input operation_input xs ≡ operations_input entry_input operation_input ys
-  operations_alike = (fed.and-Alike
+  pub eq_operations : (xs ys : List Operation) → IsTrue (same_operations entry operation xs ys) → operations_input entry_input operation_input xs ≡ operations_input entry_input operation_input ys
+  eq_operations = (fed.and-Alike
       (fed.on_Alike (λ (ops : List Operation). entries_of 0 ops) (fed.items_Alike {E = entry} {F = entry_input} (record { fed = entries_fed })))
       (fed.on_Alike (λ (ops : List Operation). filter has_places ops) (fed.items_Alike {E = operation} {F = operation_input} (record { fed = operations_fed })))).fed
 
-  pub debugs_alike : (d e : NumberedDebug) → IsTrue (same_debug entry operation d e) → debug_input entry_input operation_input d ≡ debug_input entry_input operation_input e
-  debugs_alike = (fed.and-Alike
+  pub debugs_equal : (d e : NumberedDebug) → IsTrue (same_debug entry operation d e) → debug_input entry_input operation_input d ≡ debug_input entry_input operation_input e
+  debugs_equal = (fed.and-Alike
       (fed.and-Alike (fed.on_Alike (λ (d : NumberedDebug). d.line_start) (fed.same_Alike fed.u32 unsigned_Decides)) (fed.on_Alike (λ (d : NumberedDebug). d.parameter_names) (fed.items_Alike (fed.same_Alike (fed.option fed.u32) option_decides))))
-      (fed.on_Alike (λ (d : NumberedDebug). d.operations) (record { fed = operations_alike }))).fed
+      (fed.on_Alike (λ (d : NumberedDebug). d.operations) (record { fed = eq_operations }))).fed

@@ -1,7 +1,7 @@
 -- Debug programs as they are read from a file.
 use Rattle.std.specs.Prelude.{◌≡◌, ℕ, ◌+◌, ◌-◌, ◌*◌, ◌^◌, ◌<◌, ◌≤◌, List, [], ◌∷◌, All, length, sum_by, Option, IfSome}
 use Rattle.dexspec.specs.Lists.{Item, Sequence}
-use Rattle.dexspec.specs.Bytes.{Stands}
+use Rattle.dexspec.specs.Bytes.{BytesAt}
 use Rattle.dexspec.specs.Numbers.{Uleb128At, Sleb128At, Uleb128p1At}
 use Rattle.dexspec.specs.Mentions.{Mentions}
 use Rattle.dexspec.specs.Debug as symbolic
@@ -14,13 +14,13 @@ use Rattle.dexcode.specs.declared.debug_operation.Operation.TheVariants.{Advance
 use Rattle.dexcode.specs.declared.debug_reading.Counts.{Counts}
 use Rattle.dexcode.specs.declared.debug_reading.Tally.{Tally}
 use Rattle.dexcode.specs.declared.debug_reading.DebugShape.{DebugShape}
-use Rattle.dexcode.specs.Debug.{NumberedDebug, StandsForDebug, bare, FitsIndex, IsFormedOperation, operation_weight}
+use Rattle.dexcode.specs.Debug.{NumberedDebug, DenotesDebug, unindexed, FitsIndex, IsFormedOperation, operation_weight}
 
 -- the debug program is that at an offset, where symbols are numbered by their rows
 pub record IsDebugAt (b : List ℕ) (off : ℕ) (m : Mentions) (d : NumberedDebug) : Type 0 where
   pub program : symbolic.Debug
   pub at : symbolic.DebugAt b off program
-  pub stands : StandsForDebug m d program
+  pub encodes : DenotesDebug m d program
 
 -- there is no debug program at the offset
 abbrev pub HasNoDebug : List ℕ → ℕ → Type 0
@@ -72,7 +72,7 @@ OperandsAt m c b o (Special opcode) n = (c ≡ opcode) × (0x0a ≤ opcode) × (
 pub record NumberedAt (m : Counts) (b : List ℕ) (o : ℕ) (op : Operation) (n : ℕ) : Type 0 where
   pub opcode : ℕ
   pub operands_size : ℕ
-  pub at_opcode : Stands b o (opcode ∷ [])
+  pub at_opcode : BytesAt b o (opcode ∷ [])
   pub byte : opcode ≤ 0xff
   pub operands : OperandsAt m opcode b (o + 1) op operands_size
   pub size : n ≡ 1 + operands_size
@@ -81,7 +81,7 @@ pub record NumberedAt (m : Counts) (b : List ℕ) (o : ℕ) (op : Operation) (n 
 pub record ProgramAt (m : Counts) (b : List ℕ) (o : ℕ) (ops : List Operation) : Type 0 where
   pub size : ℕ
   pub operations : Sequence (NumberedAt m) b o ops size
-  pub end : Stands b (o + size) (0x00 ∷ [])
+  pub end : BytesAt b (o + size) (0x00 ∷ [])
 
 -- from offset o on are `count` names, in n bytes
 pub record NamesAt (texts : ℕ) (b : List ℕ) (o count : ℕ) (names : List (Option ℕ)) (n : ℕ) : Type 0 where
@@ -146,7 +146,7 @@ pub record IsShapeAt (b : List ℕ) (off : ℕ) (m : Mentions) (s : DebugShape) 
 pub record HasDebugOf (b : List ℕ) (off : ℕ) (m : Mentions) (weight : ℕ) : Type 0 where
   pub debug : NumberedDebug
   pub at : IsDebugAt b off m debug
-  pub weighs : debug_weight (bare debug) ≡ weight
+  pub weighs : debug_weight (unindexed debug) ≡ weight
 
 -- ---- what is built
 

@@ -58,5 +58,5 @@ handler_per = partial_equiv_from_equiv handler_equiv
 abbrev pub handler_input : NumberedHandler → fed.HashWrites
 handler_input h = fed.slice (λ c. fed.u32 c.typ ++ fed.u32 c.addr) h.catches ++ fed.option fed.u32 h.catch_all_addr
 
-pub handlers_alike : (h k : NumberedHandler) → IsTrue (same_handler h k) → handler_input h ≡ handler_input k
-handlers_alike h k same = ap handler_input ((handler_decides h k).0 same)
+pub handlers_equal : (h k : NumberedHandler) → IsTrue (same_handler h k) → handler_input h ≡ handler_input k
+handlers_equal h k same = ap handler_input ((handler_decides h k).0 same)

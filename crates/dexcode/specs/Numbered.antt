@@ -7,8 +7,8 @@ use Rattle.dexspec.specs.Lists.{distinct, BothOrNone}
 use Rattle.dexspec.specs.Mentions.{Mentions}
 use Rattle.dexspec.specs.Code as symbolic
 use Rattle.dexpool.specs.Numberings.{IsAt}
-use Rattle.dexinsn.specs.Numbered.{NumberedCode, StandFor}
-use Rattle.dexcode.specs.Debug.{NumberedDebug, StandsForDebug}
+use Rattle.dexinsn.specs.Numbered.{NumberedCode, Denote}
+use Rattle.dexcode.specs.Debug.{NumberedDebug, DenotesDebug}
 use Rattle.dexcode.specs.declared.handlers.Catch.{Catch}
 use Rattle.dexcode.specs.declared.tries.Try.{Try}
 
@@ -74,20 +74,20 @@ pub record AreStored (hs : List NumberedHandler) (ts : List Try) : Type 0 where
 -- ---- what numbers denote
 
 -- the catch is the symbolic one, where types are numbered so
-pub record StandsForCatch (m : Mentions) (c : Catch) (x : symbolic.Catch) : Type 0 where
+pub record DenotesCatch (m : Mentions) (c : Catch) (x : symbolic.Catch) : Type 0 where
   pub type_is : IsAt m.types c.typ x.type
   pub address_is : c.addr ≡ x.address
 
 -- the handler is
-pub record StandsForHandler (m : Mentions) (h : NumberedHandler) (x : symbolic.Handler) : Type 0 where
-  pub catches_are : AllZip (StandsForCatch m) h.catches x.catches
+pub record DenotesHandler (m : Mentions) (h : NumberedHandler) (x : symbolic.Handler) : Type 0 where
+  pub catches_are : AllZip (DenotesCatch m) h.catches x.catches
   pub catch_all_is : h.catch_all_addr ≡ x.catch_all
 
 -- the try is
-pub record StandsForTry (m : Mentions) (t : NumberedTry) (x : symbolic.Try) : Type 0 where
+pub record DenotesTry (m : Mentions) (t : NumberedTry) (x : symbolic.Try) : Type 0 where
   pub start_is : t.start_addr ≡ x.start
   pub count_is : t.insn_count ≡ x.count
-  pub handler_is : StandsForHandler m t.handler x.handler
+  pub handler_is : DenotesHandler m t.handler x.handler
 
 -- the catch with the type of its number
 abbrev pub catch_meant : Mentions → Catch → symbolic.Catch
@@ -110,10 +110,10 @@ pub record NumberedItem : Type 0 where
   pub debug : Option NumberedDebug
 
 -- the code is the symbolic one, where symbols are numbered so
-pub record StandsForCode (m : Mentions) (c : NumberedItem) (x : symbolic.Code) : Type 0 where
+pub record DenotesCode (m : Mentions) (c : NumberedItem) (x : symbolic.Code) : Type 0 where
   pub registers_are : c.body.registers ≡ x.registers
   pub ins_are : c.body.ins ≡ x.ins
   pub outs_are : c.body.outs ≡ x.outs
-  pub pieces_are : StandFor m c.body.pieces x.pieces
-  pub tries_are : AllZip (StandsForTry m) c.tries x.tries
-  pub debug_is : BothOrNone (StandsForDebug m) c.debug x.debug
+  pub pieces_are : Denote m c.body.pieces x.pieces
+  pub tries_are : AllZip (DenotesTry m) c.tries x.tries
+  pub debug_is : BothOrNone (DenotesDebug m) c.debug x.debug

@@ -12,7 +12,7 @@ use Rattle.dexpool.specs.declared.faults.ItemFault.{ItemFault}
 use Rattle.dexpool.specs.declared.faults.ItemFault.TheVariants.{Refused, Memory}
 use Rattle.dexcode.specs.declared.handlers.Catch.{Catch}
 use Rattle.dexcode.specs.declared.tries.Try.{Try}
-use Rattle.dexcode.specs.Numbered.{NumberedHandler, NumberedTry, NumberedItem, StandsForCode, handlers_of, handlers_weight}
+use Rattle.dexcode.specs.Numbered.{NumberedHandler, NumberedTry, NumberedItem, DenotesCode, handlers_of, handlers_weight}
 
 -- an instruction begins at the address
 abbrev pub IsStart : List Bool → ℕ → Type 0
@@ -47,7 +47,7 @@ module _ (starts : List Bool) (types : ℕ) where
 
   -- `count` catches were read from offset o on, in n bytes
   pub record CatchesRead (b : List ℕ) (o count : ℕ) (cs : List Catch) (n : ℕ) : Type 0 where
-    pub stand : Sequence CatchAt b o cs n
+    pub are_encoded : Sequence CatchAt b o cs n
     pub many : length cs ≡ count
     pub within : o + n ≤ length b
 
@@ -66,7 +66,7 @@ module _ (starts : List Bool) (types : ℕ) where
   -- handler i of those from an offset on begins `before` bytes after it
   pub record BeginsAt (b : List ℕ) (o : ℕ) (hs : List NumberedHandler) (i before : ℕ) : Type 0 where
     pub within : i < length hs
-    pub stands : Sequence HandlerAt b o (take i hs) before
+    pub encodes : Sequence HandlerAt b o (take i hs) before
 
   -- the handler begins `off` bytes from the start of the list at offset o, which begins with a count
   pub record IsHandler (b : List ℕ) (o count_size : ℕ) (hs : List NumberedHandler) (off : ℕ) (h : NumberedHandler) : Type 0 where
@@ -93,7 +93,7 @@ module _ (starts : List Bool) (types : ℕ) where
 
   -- `count` handlers were read, in n bytes
   pub record HandlersRead (b : List ℕ) (o first count : ℕ) (hs : List NumberedHandler) (numbers : List (Option ℕ)) (n : ℕ) : Type 0 where
-    pub stand : Sequence HandlerAt b first hs n
+    pub are_encoded : Sequence HandlerAt b first hs n
     pub many : length hs ≡ count
     pub within : first + n ≤ length b
     pub short : o + length numbers ≤ first + n
@@ -104,7 +104,7 @@ module _ (starts : List Bool) (types : ℕ) where
     pub count_size : ℕ
     pub size : ℕ
     pub count_is : Uleb128At b o (length hs) count_size
-    pub stand : Sequence HandlerAt b (o + count_size) hs size
+    pub are_encoded : Sequence HandlerAt b (o + count_size) hs size
     pub numbered : AreNumbered b o (o + count_size) hs numbers
 
   -- at offset o are `count` try_items, one or more, and after them the handler list
@@ -142,7 +142,7 @@ AreApartFrom from (t ∷ ts) to = (from ≤ t.start_addr) × AreApartFrom (t.sta
 
 -- `count` try_items were read
 pub record TriesRead (units : ℕ) (numbers : List (Option ℕ)) (b : List ℕ) (o count : ℕ) (ts : List Try) (to : ℕ) : Type 0 where
-  pub stand : Sequence (ListedTryAt units numbers) b o ts (8 * count)
+  pub are_encoded : Sequence (ListedTryAt units numbers) b o ts (8 * count)
   pub many : length ts ≡ count
   pub apart : AreApartFrom 0 ts to
 
@@ -160,7 +160,7 @@ TriesAt starts types b o ts =
 pub record IsCodeAt (b : List ℕ) (off : ℕ) (m : Mentions) (c : NumberedItem) : Type 0 where
   pub symbolic : Code
   pub at : CodeAt b off symbolic
-  pub stands : StandsForCode m c symbolic
+  pub encodes : DenotesCode m c symbolic
 
 -- there are pieces at the offset
 pub record HasPieces (b : List ℕ) (off : ℕ) : Type 0 where

@@ -66,12 +66,12 @@ pub record NumbersFit (c : NumberedItem) : Type 0 where
 -- ---- other numbers
 
 -- the image of a type; a type without an image stays
-abbrev pub led_type : Maps → ℕ → ℕ
-led_type r n = unwrap_or (image_of r kinds.Typ n) n
+abbrev pub remapped_type : Maps → ℕ → ℕ
+remapped_type r n = unwrap_or (image_of r kinds.Typ n) n
 
 -- the catch with the image of its type's number
 abbrev pub renumbered_catch : Maps → Catch → Catch
-renumbered_catch r c = record { typ = led_type r c.typ; addr = c.addr }
+renumbered_catch r c = record { typ = remapped_type r c.typ; addr = c.addr }
 
 -- the handler with those of its types
 abbrev pub renumbered_handler : Maps → NumberedHandler → NumberedHandler
@@ -88,5 +88,5 @@ renumbered_item r c = record { body = renumbered r c.body; tries = map (renumber
 -- ---- as they are stored
 
 -- a try with its handler, which is in a list, remapped
-abbrev pub led_try : Maps → List NumberedHandler → Try → NumberedTry
-led_try r hs t = renumbered_try r (named hs t)
+abbrev pub remapped_try : Maps → List NumberedHandler → Try → NumberedTry
+remapped_try r hs t = renumbered_try r (named hs t)

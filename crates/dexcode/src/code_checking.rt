@@ -113,8 +113,8 @@ pub fn check_code_once(
     let starts = scratch.starts();
     let tries = check_tries(alloc, frame.bytes(), off as usize, &starts, types)?;
     let program = check_program(frame, pools, off, checked)?;
-    let bare = 24 + 2 * u64::from(pieces.units()) + tries;
+    let unindexed = 24 + 2 * u64::from(pieces.units()) + tries;
     Ok(CodeShape {
-        weight: bare.saturating_add(program),
+        weight: unindexed.saturating_add(program),
     })
 }

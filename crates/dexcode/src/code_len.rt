@@ -10,7 +10,7 @@ ghost use Rattle.dexspec.specs.Spellings.{code_bytes};
 ghost use Rattle.dexpool.specs.Numberings.{AreRising};
 ghost use Rattle.dexinsn.specs.Numbered.{NumberedCode};
 ghost use Rattle.dexcode.specs.CodePut.{gap_bytes, handler_count, numbered_catch_bytes, numbered_code_bytes, numbered_handler_bytes, numbered_item_bytes, numbered_list_bytes, unit_count};
-ghost use Rattle.dexcode.specs.Numbered.{NumberedHandler, AreStored, StandsForCode, all_named, handlers_weight};
+ghost use Rattle.dexcode.specs.Numbered.{NumberedHandler, AreStored, DenotesCode, all_named, handlers_weight};
 
 use crate::code::Code;
 use crate::code_laws::code_bytes_law;
@@ -88,7 +88,7 @@ impl<'a> Code<'a> {
     /// Source: "code_item".
     pub fn item_len(&self) -> usize
         ensures numbered { (debug_off : ℕ) → result ≡ length (numbered_code_bytes debug_off self.now) }
-        ensures symbolic { (m : Mentions) (debug_off : ℕ) (x : symbolic.Code) → AreRising m → StandsForCode m self.now x → result ≡ length (code_bytes m debug_off x) }
+        ensures symbolic { (m : Mentions) (debug_off : ℕ) (x : symbolic.Code) → AreRising m → DenotesCode m self.now x → result ≡ length (code_bytes m debug_off x) }
     {
         code_bytes_law();
         let (items, handlers) = self.tries.parts();

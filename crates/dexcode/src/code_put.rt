@@ -8,11 +8,11 @@ ghost use Rattle.dexspec.specs.Code.{most_handlers};
 ghost use Rattle.dexspec.specs.Numbers.{uleb128};
 ghost use Rattle.dexspec.specs.Spellings.{code_bytes};
 ghost use Rattle.dexspec.specs.Weight.{code_weight};
-ghost use Rattle.dexspec.specs.Aside.Writing.{Puts};
+ghost use Rattle.dexspec.specs.internal.Writing.{Puts};
 ghost use Rattle.dexinsn.specs.Numbered.{numbered_bytes};
 ghost use Rattle.dexcode.specs.CodePut.{HasShortTypes, AreShort, ArePlaces, gap_bytes, handler_count, numbered_catch_bytes, numbered_handler_bytes, numbered_head_bytes, numbered_item_bytes, numbered_code_bytes, numbered_list_bytes, numbered_table_bytes, numbered_tries_bytes, placed_try_bytes, unit_count};
 ghost use Rattle.dexhead.specs.Pushing.{Pushes, HasRoomFor};
-ghost use Rattle.dexcode.specs.Numbered.{AreStored, StandsForCode, all_named, handlers_of, handlers_weight};
+ghost use Rattle.dexcode.specs.Numbered.{AreStored, DenotesCode, all_named, handlers_of, handlers_weight};
 
 use crate::code::Code;
 use crate::code_laws::{code_bytes_law, code_weight_law};
@@ -257,9 +257,9 @@ pub fn put_code(
 ) -> Result<(), AllocError>
     requires { All HasShortTypes (handlers_of code.now.tries) }
     ensures bytes { Puts (numbered_code_bytes debug_off code.now) out.old out.new result }
-    ensures symbolic { (x : symbolic.Code) → StandsForCode numbering.now code.now x → Puts (code_bytes numbering.now debug_off x) out.old out.new result }
-    ensures bound { (x : symbolic.Code) → StandsForCode numbering.now code.now x → length (numbered_code_bytes debug_off code.now) + 3 ≤ code_weight x }
-    ensures room { (x : symbolic.Code) → StandsForCode numbering.now code.now x → vec_len out.old + code_weight x ≤ vec_capacity out.old + 3 → IsOk result }
+    ensures symbolic { (x : symbolic.Code) → DenotesCode numbering.now code.now x → Puts (code_bytes numbering.now debug_off x) out.old out.new result }
+    ensures bound { (x : symbolic.Code) → DenotesCode numbering.now code.now x → length (numbered_code_bytes debug_off code.now) + 3 ≤ code_weight x }
+    ensures room { (x : symbolic.Code) → DenotesCode numbering.now code.now x → vec_len out.old + code_weight x ≤ vec_capacity out.old + 3 → IsOk result }
 {
     numbering.is_numbering();
     code_bytes_law();

@@ -33,17 +33,17 @@ pub(crate) fn read_tries(
         return Ok(Tries::none());
     }
     let units = u32_at(bytes, off + 12);
-    let behind = off + 16 + 2 * units as usize;
+    let following = off + 16 + 2 * units as usize;
     if units % 2 == 0 {
-        return read_try_table(alloc, bytes, behind, count, units, starts, types);
+        return read_try_table(alloc, bytes, following, count, units, starts, types);
     }
-    if bytes.len() < behind + 2 {
+    if bytes.len() < following + 2 {
         return Err(ItemFault::Refused(Condition::Tries as u8));
     }
-    if u16_at(bytes, behind) != 0 {
+    if u16_at(bytes, following) != 0 {
         return Err(ItemFault::Refused(Condition::Tries as u8));
     }
-    read_try_table(alloc, bytes, behind + 2, count, units, starts, types)
+    read_try_table(alloc, bytes, following + 2, count, units, starts, types)
 }
 
 /// Reads the code_item at an offset, whose indices count in the pools: those of the file. Its units are borrowed.

@@ -5,7 +5,7 @@ ghost use Rattle.dexcode.specs.contracts.operations.EntryEq.TheImpl.Laws as equa
 ghost use Rattle.dexcode.specs.contracts.operations.EntryHash.TheImpl.Laws as hashed_entries;
 ghost use Rattle.dexcode.specs.contracts.debug_operation.OperationEq.TheImpl.Laws as equal;
 ghost use Rattle.dexcode.specs.contracts.debug_operation.OperationHash.TheImpl.Laws as hashed;
-ghost use Rattle.dexcode.specs.DebugEquality.{same_debug, debug_input, debug_equiv, debugs_alike};
+ghost use Rattle.dexcode.specs.DebugEquality.{same_debug, debug_input, debug_equiv, debugs_equal};
 
 use crate::debug::Debug;
 use crate::debug_operation::Operation;
@@ -31,7 +31,7 @@ impl Eq for Debug {
 impl Hash for Debug {
     ghost hash_input = { debug_input ⟦<Entry as Hash>⟧.hash_input ⟦<Operation as Hash>⟧.hash_input };
 
-    ghost respects_eq = { debugs_alike ⟦<Entry as PartialEq>⟧.eq ⟦<Operation as PartialEq>⟧.eq ⟦<Entry as Hash>⟧.hash_input ⟦<Operation as Hash>⟧.hash_input hashed_entries.respects_eq-law hashed.respects_eq-law };
+    ghost respects_eq = { debugs_equal ⟦<Entry as PartialEq>⟧.eq ⟦<Operation as PartialEq>⟧.eq ⟦<Entry as Hash>⟧.hash_input ⟦<Operation as Hash>⟧.hash_input hashed_entries.respects_eq-law hashed.respects_eq-law };
 
     fn hash<H: Hasher>(&self, state: &mut H) {
         self.line_start.hash(state);

@@ -5,7 +5,7 @@ ghost use Rattle.std.specs.List.{FoldsTo, flat_map};
 ghost use Rattle.dexspec.specs.Weight.{debug_weight};
 ghost use Rattle.dexpool.specs.declared.symbols.SymbolKind.TheVariants as kinds;
 ghost use Rattle.dexpool.specs.Uses.{HasMark, AreMarkedToo};
-ghost use Rattle.dexcode.specs.Debug.{bare, number_uses, operation_uses, operation_weight, debug_uses, HasPlace, FitsIndex, IsFormedOperation, IsFormedDebug, image_or_none, renumbered_operation, renumbered_debug};
+ghost use Rattle.dexcode.specs.Debug.{unindexed, number_uses, operation_uses, operation_weight, debug_uses, HasPlace, FitsIndex, IsFormedOperation, IsFormedDebug, image_or_none, renumbered_operation, renumbered_debug};
 
 use crate::debug::Debug;
 use crate::debug_operation::Operation;
@@ -68,7 +68,7 @@ fn renumber_names(names: &mut Vec<Option<u32>>, remap: &Remap)
 impl Renumber for Operation {
     ghost places = { λ r op. All (HasPlace r) (operation_uses op) };
 
-    ghost led = { renumbered_operation };
+    ghost remapped = { renumbered_operation };
 
     fn renumber(&mut self, remap: &Remap) {
         *self = renumbered_operation(remap, *self);
@@ -115,7 +115,7 @@ impl Symbols for Debug {
 impl Debug {
     /// Returns the weight: as many bytes as [`put_debug`](crate::put_debug) appends, or more.
     pub fn weight(&self) -> u64
-        ensures { result ≡ debug_weight (bare self.now) }
+        ensures { result ≡ debug_weight (unindexed self.now) }
     {
         11 + 5 * self.parameter_names.len() as u64 + operations_weight(&self.operations)
     }

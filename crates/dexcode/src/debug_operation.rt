@@ -48,7 +48,7 @@ pub enum Operation {
 }
 
 impl Operation {
-    ghost use Rattle.dexcode.specs.Debug.{name_of, type_of, signature_of, with_numbers, bare_operation, operation_uses};
+    ghost use Rattle.dexcode.specs.Debug.{name_of, type_of, signature_of, with_numbers, unindexed_operation, operation_uses};
     ghost use Rattle.dexcode.specs.Operations.{has_places};
 
     /// The number of the name of a local variable or of a source file.
@@ -124,7 +124,7 @@ impl Operation {
     }
 
     // The operation without the numbers of symbols.
-    pub(crate) fn bare(&self) -> Operation
+    pub(crate) fn unindexed(&self) -> Operation
         ensures { result ≡ with_numbers self.now None None None }
     {
         self.with_numbers(None, None, None)
@@ -139,7 +139,7 @@ impl Operation {
 
     // Returns the number of operands.
     pub(crate) fn operands(&self) -> u64
-        ensures count { result ≡ weights.operands (bare_operation self.now) }
+        ensures count { result ≡ weights.operands (unindexed_operation self.now) }
         ensures few { result < 5 }
     {
         match self {

@@ -2,7 +2,7 @@
 
 ghost use Rattle.std.specs.Prelude.{◌≡◌, ◌∷◌, [], ◌++◌, ◌^◌, ◌<◌, ◌≤◌, ◌≤ℤ◌, ◌+ℤ◌, if◌then◌else◌, pos, All, IfOk, OnOk, length, map};
 ghost use Rattle.dexspec.specs.Debug as symbolic;
-ghost use Rattle.dexcode.specs.Debug.{bare, bare_operation, IsSpecial, IsFormedOperation};
+ghost use Rattle.dexcode.specs.Debug.{unindexed, unindexed_operation, IsSpecial, IsFormedOperation};
 
 use crate::debug::Debug;
 use crate::debug_operation::Operation;
@@ -12,7 +12,7 @@ use std::alloc::{AllocError, Global};
 // Returns the amount that an operation adds to the address.
 fn address_step(operation: &Operation) -> u64
     requires { IsSpecial operation.now }
-    ensures step { result ≡ symbolic.address_step (bare_operation operation.now) }
+    ensures step { result ≡ symbolic.address_step (unindexed_operation operation.now) }
     ensures small { result < 2 ^ 32 }
 {
     match operation {
@@ -25,7 +25,7 @@ fn address_step(operation: &Operation) -> u64
 // Returns the amount that an operation adds to the line.
 fn line_step(operation: &Operation) -> i64
     requires { IsSpecial operation.now }
-    ensures step { result ≡ symbolic.line_step (bare_operation operation.now) }
+    ensures step { result ≡ symbolic.line_step (unindexed_operation operation.now) }
     ensures low { pos 0 ≤ℤ (result +ℤ pos (2 ^ 31)) }
     ensures high { result ≤ℤ pos (2 ^ 31) }
 {
@@ -38,7 +38,7 @@ fn line_step(operation: &Operation) -> i64
 
 // Returns whether an operation records a position.
 fn is_special(operation: &Operation) -> bool
-    ensures { result ≡ symbolic.is_special (bare_operation operation.now) }
+    ensures { result ≡ symbolic.is_special (unindexed_operation operation.now) }
 {
     match operation {
         Operation::Special(_) => true,
@@ -51,7 +51,7 @@ fn next_line(line: i64, operation: &Operation) -> i64
     requires special { IsSpecial operation.now }
     requires low { pos 0 ≤ℤ (line +ℤ pos (2 ^ 61)) }
     requires high { line ≤ℤ pos (2 ^ 62) }
-    ensures sum { result ≡ line +ℤ symbolic.line_step (bare_operation operation.now) }
+    ensures sum { result ≡ line +ℤ symbolic.line_step (unindexed_operation operation.now) }
     ensures low { line ≤ℤ (result +ℤ pos (2 ^ 31)) }
     ensures high { result ≤ℤ (line +ℤ pos (2 ^ 31)) }
 {
@@ -81,7 +81,7 @@ fn positions_from(
 ) -> Result<Vec<(u64, i64)>, AllocError>
     requires few { length operations.now < 2 ^ 30 }
     requires formed { All IsFormedOperation operations.now }
-    ensures { IfOk result (λ found. found.items ≡ symbolic.positions_from 0 (pos line_start) (map bare_operation operations.now)) }
+    ensures { IfOk result (λ found. found.items ≡ symbolic.positions_from 0 (pos line_start) (map unindexed_operation operations.now)) }
 {
     let mut found = Vec::new(alloc);
     let mut address = 0;
@@ -100,7 +100,7 @@ fn positions_from(
 ///
 /// Source: "debug_info_item", "State machine" and "Special opcodes".
 pub fn positions(alloc: Global, debug: &Debug) -> Result<Vec<(u64, i64)>, AllocError>
-    ensures { IfOk result (λ found. found.items ≡ symbolic.positions (bare debug.now)) }
+    ensures { IfOk result (λ found. found.items ≡ symbolic.positions (unindexed debug.now)) }
 {
     positions_from(alloc, debug.line_start, &debug.operations)
 }

@@ -7,9 +7,9 @@ ghost use Rattle.dexspec.specs.Mentions.{Mentions};
 ghost use Rattle.dexspec.specs.Numbers.{uleb128, sleb128, uleb128p1};
 ghost use Rattle.dexspec.specs.Spellings.{debug_bytes};
 ghost use Rattle.dexspec.specs.Weight.{debug_weight};
-ghost use Rattle.dexspec.specs.Aside.Writing.{Puts};
+ghost use Rattle.dexspec.specs.internal.Writing.{Puts};
 ghost use Rattle.dexpool.specs.Numberings.{AreRising};
-ghost use Rattle.dexcode.specs.Debug.{StandsForDebug, FitsIndex, IsFormedOperation, bare, numbered_operation_bytes, numbered_debug_bytes};
+ghost use Rattle.dexcode.specs.Debug.{DenotesDebug, FitsIndex, IsFormedOperation, unindexed, numbered_operation_bytes, numbered_debug_bytes};
 ghost use Rattle.dexhead.specs.Pushing.{HasRoomFor};
 
 use crate::debug::Debug;
@@ -145,7 +145,7 @@ impl Debug {
     /// Source: "debug_info_item".
     pub fn item_len(&self) -> usize
         ensures numbered { result ≡ length (numbered_debug_bytes self.now) }
-        ensures symbolic { (m : Mentions) (x : symbolic.Debug) → AreRising m → StandsForDebug m self.now x → result ≡ length (debug_bytes m x) }
+        ensures symbolic { (m : Mentions) (x : symbolic.Debug) → AreRising m → DenotesDebug m self.now x → result ≡ length (debug_bytes m x) }
     {
         debug_bytes_law();
         let mut count = Count { len: 0 };
@@ -197,9 +197,9 @@ pub fn put_debug(
     out: &mut Vec<u8>,
 ) -> Result<(), AllocError>
     ensures bytes { Puts (numbered_debug_bytes debug.now) out.old out.new result }
-    ensures symbolic { (x : symbolic.Debug) → StandsForDebug numbering.now debug.now x → Puts (debug_bytes numbering.now x) out.old out.new result }
-    ensures bound { length (numbered_debug_bytes debug.now) ≤ debug_weight (bare debug.now) }
-    ensures room { vec_len out.old + debug_weight (bare debug.now) ≤ vec_capacity out.old → IsOk result }
+    ensures symbolic { (x : symbolic.Debug) → DenotesDebug numbering.now debug.now x → Puts (debug_bytes numbering.now x) out.old out.new result }
+    ensures bound { length (numbered_debug_bytes debug.now) ≤ debug_weight (unindexed debug.now) }
+    ensures room { vec_len out.old + debug_weight (unindexed debug.now) ≤ vec_capacity out.old → IsOk result }
 {
     numbering.is_numbering();
     debug_bytes_law();

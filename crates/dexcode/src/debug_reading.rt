@@ -208,7 +208,7 @@ fn names_end(bytes: &[u8], from: usize, count: u32, texts: usize) -> Option<usiz
 // The number of operations from an offset on, up to the end, and their weight.
 fn check_operations(bytes: &[u8], from: usize, counts: Counts) -> Option<Tally>
     requires within { from ≤ length bytes.now }
-    requires behind { 0 < from }
+    requires following { 0 < from }
     requires small { length bytes.now ≤ 2 ^ 30 }
     ensures { MatchOption result ((ops : List Operation) → ProgramAt counts bytes.now from ops → ⊥) (AreTallied counts bytes.now from) }
 {
@@ -279,7 +279,7 @@ fn build_names(
     texts: usize,
 ) -> Result<Vec<Option<u32>>, AllocError>
     requires within { from ≤ length bytes.now }
-    requires stand { HaveNames texts bytes.now from count }
+    requires are_encoded { HaveNames texts bytes.now from count }
     ensures { IfOk result (λ names. AreTheNames texts bytes.now from count names.items) }
 {
     let mut names = Vec::with_capacity(alloc, count as usize)?;
@@ -302,7 +302,7 @@ fn build_operations(
 ) -> Result<Operations, AllocError>
     requires within { from ≤ length bytes.now }
     requires few { tally.operations < 2 ^ 30 }
-    requires stand { HaveOperations counts bytes.now from tally.operations }
+    requires are_encoded { HaveOperations counts bytes.now from tally.operations }
     ensures { IfOk result (λ ops. AreTheOperations counts bytes.now from tally.operations ops) }
 {
     let mut entries = Vec::with_capacity(alloc, tally.operations)?;

@@ -20,7 +20,7 @@ fn image(remap: &Remap, kind: SymbolKind, number: Option<u32>) -> Option<usize>
 }
 
 // Returns whether both numbers have one image, or neither has one.
-fn leads_alike(
+fn eq_remapped(
     kind: SymbolKind,
     mine: &Remap,
     number: Option<u32>,
@@ -33,13 +33,13 @@ fn leads_alike(
 }
 
 // Returns whether two operations are equal once remapped.
-fn operations_alike(mine: &Remap, operation: &Operation, theirs: &Remap, other: &Operation) -> bool
+fn eq_operations(mine: &Remap, operation: &Operation, theirs: &Remap, other: &Operation) -> bool
     ensures { IsTrue result ↔ (renumbered_operation mine.now operation.now ≡ renumbered_operation theirs.now other.now) }
 {
-    if !operation.bare().is_same(&other.bare()) {
+    if !operation.unindexed().is_same(&other.unindexed()) {
         return false;
     }
-    if !leads_alike(
+    if !eq_remapped(
         SymbolKind::Text,
         mine,
         operation.name_idx(),
@@ -48,7 +48,7 @@ fn operations_alike(mine: &Remap, operation: &Operation, theirs: &Remap, other: 
     ) {
         return false;
     }
-    if !leads_alike(
+    if !eq_remapped(
         SymbolKind::Typ,
         mine,
         operation.type_idx(),
@@ -57,7 +57,7 @@ fn operations_alike(mine: &Remap, operation: &Operation, theirs: &Remap, other: 
     ) {
         return false;
     }
-    leads_alike(
+    eq_remapped(
         SymbolKind::Text,
         mine,
         operation.sig_idx(),
@@ -74,7 +74,7 @@ fn same_names(mine: &Remap, names: &[Option<u32>], theirs: &Remap, others: &[Opt
         return false;
     }
     for (i, name) in names.iter().enumerate() {
-        if !leads_alike(SymbolKind::Text, mine, *name, theirs, others[i]) {
+        if !eq_remapped(SymbolKind::Text, mine, *name, theirs, others[i]) {
             return false;
         }
     }
@@ -94,7 +94,7 @@ fn same_operations(
         return false;
     }
     for i in 0..operations.len() {
-        if !operations_alike(mine, &operations.at(i), theirs, &others.at(i)) {
+        if !eq_operations(mine, &operations.at(i), theirs, &others.at(i)) {
             return false;
         }
     }

@@ -88,11 +88,11 @@ impl Eq for Handler {
 }
 
 impl Hash for Handler {
-    ghost use Rattle.dexcode.specs.Equality.{handler_input, handlers_alike};
+    ghost use Rattle.dexcode.specs.Equality.{handler_input, handlers_equal};
 
     ghost hash_input = { handler_input };
 
-    ghost respects_eq = { handlers_alike };
+    ghost respects_eq = { handlers_equal };
 
     fn hash<H: Hasher>(&self, state: &mut H) {
         self.catches.hash(state);

@@ -21,7 +21,7 @@ pub use code_put::put_code;
 pub use code_reading::{read_code, read_code_in};
 pub use debug::Debug;
 pub use debug_laws::{
-    debug_bare_law, debug_bytes_law, debug_equality_law, debug_places_law, debug_renumber_law,
+    debug_bytes_law, debug_equality_law, debug_places_law, debug_renumber_law, debug_unindexed_law,
     debug_uses_law, operation_equality_law,
 };
 pub use debug_operation::Operation;
@@ -29,7 +29,9 @@ pub use debug_positions::positions;
 pub use debug_put::put_debug;
 pub use debug_reading::{DebugShape, build_debug, check_debug, read_debug};
 pub use handlers::{Catch, Handler};
-pub use meaning_laws::{code_led_law, code_meaning_law, debug_led_law, debug_meaning_law};
+pub use meaning_laws::{
+    code_meaning_law, code_remapped_law, debug_meaning_law, debug_remapped_law,
+};
 pub use operations::OperationIter;
 pub use tries::{Tries, Try};
 

@@ -7,7 +7,7 @@ ghost use Rattle.std.specs.Cmp.{partial_equiv_from_equiv};
 ghost use Rattle.dexcode.specs.declared.debug_operation.Operation.{Operation as Meant};
 ghost use Rattle.dexcode.specs.Debug.{HasPlace, operation_uses, renumbered_operation};
 ghost use Rattle.dexcode.specs.declared.operations.Entry.{Entry as Kept};
-ghost use Rattle.dexcode.specs.DebugEquality.{operations_input, operations_alike, operations_equiv, same_operations};
+ghost use Rattle.dexcode.specs.DebugEquality.{operations_input, eq_operations, operations_equiv, same_operations};
 ghost use Rattle.dexcode.specs.Operations.{entry_of, has_places, operation_of};
 
 use crate::debug_operation::Operation;
@@ -207,7 +207,7 @@ impl Hash for Operations {
 
     ghost hash_input = { operations_input ⟦<Entry as Hash>⟧.hash_input ⟦<Operation as Hash>⟧.hash_input };
 
-    ghost respects_eq = { operations_alike ⟦<Entry as PartialEq>⟧.eq ⟦<Operation as PartialEq>⟧.eq ⟦<Entry as Hash>⟧.hash_input ⟦<Operation as Hash>⟧.hash_input entries.respects_eq-law operations.respects_eq-law };
+    ghost respects_eq = { eq_operations ⟦<Entry as PartialEq>⟧.eq ⟦<Operation as PartialEq>⟧.eq ⟦<Entry as Hash>⟧.hash_input ⟦<Operation as Hash>⟧.hash_input entries.respects_eq-law operations.respects_eq-law };
 
     fn hash<H: Hasher>(&self, state: &mut H) {
         self.entries.hash(state);

@@ -11,7 +11,7 @@ use dexpool::{Remap, Renumber, SymbolKind, Symbols, Visitor, renumber_all, visit
 impl Renumber for Catch {
     ghost places = { λ r c. HasTypePlace r (catch_use c) };
 
-    ghost led = { renumbered_catch };
+    ghost remapped = { renumbered_catch };
 
     fn renumber(&mut self, remap: &Remap) {
         self.typ = match remap.image(SymbolKind::Typ, self.typ as usize) {
@@ -24,7 +24,7 @@ impl Renumber for Catch {
 impl Renumber for Handler {
     ghost places = { λ r h. All (HasTypePlace r) (handler_uses h) };
 
-    ghost led = { renumbered_handler };
+    ghost remapped = { renumbered_handler };
 
     fn renumber(&mut self, remap: &Remap) {
         renumber_all(&mut self.catches, remap);

@@ -2,15 +2,15 @@
 
 ghost use Rattle.std.specs.Prelude.{◌≡◌, ◌↔◌, ℕ, ◌<◌, IsTrue, All, length, map, slice_index_or};
 ghost use Rattle.dexcode.specs.Numbered.{no_handler};
-ghost use Rattle.dexcode.specs.Renumbering.{led_type, led_try, renumbered_catch, renumbered_handler, renumbered_try};
+ghost use Rattle.dexcode.specs.Renumbering.{remapped_type, remapped_try, renumbered_catch, renumbered_handler, renumbered_try};
 
 use crate::handlers::{Catch, Handler};
 use crate::tries::{Tries, Try};
 use dexpool::{Remap, SymbolKind};
 
 // The type that a type maps to; one that maps to none stays.
-fn led_type(remap: &Remap, typ: u32) -> usize
-    ensures { result ≡ led_type remap.now typ }
+fn remapped_type(remap: &Remap, typ: u32) -> usize
+    ensures { result ≡ remapped_type remap.now typ }
 {
     let typ = typ as usize;
     remap.image(SymbolKind::Typ, typ).unwrap_or(typ)
@@ -23,7 +23,7 @@ fn same_catch(mine: &Remap, catch: Catch, theirs: &Remap, other: Catch) -> bool
     if catch.addr != other.addr {
         return false;
     }
-    led_type(mine, catch.typ) == led_type(theirs, other.typ)
+    remapped_type(mine, catch.typ) == remapped_type(theirs, other.typ)
 }
 
 // Whether the catches are equal, one for one, once their types are remapped.
@@ -65,7 +65,7 @@ fn same_try(
     requires within { item.handler < length handlers.now }
     requires others { other.handler < length others.now }
     requires known { (k : ℕ) → k < compared → renumbered_handler mine.now (slice_index_or handlers.now k no_handler) ≡ renumbered_handler theirs.now (slice_index_or others.now k no_handler) }
-    ensures { IsTrue result ↔ (led_try mine.now handlers.now item ≡ led_try theirs.now others.now other) }
+    ensures { IsTrue result ↔ (remapped_try mine.now handlers.now item ≡ remapped_try theirs.now others.now other) }
 {
     if item.start_addr != other.start_addr {
         return false;
@@ -96,7 +96,7 @@ fn same_tries(
 ) -> bool
     requires within { All (λ t. t.handler < length handlers.now) tries.now }
     requires others { All (λ t. t.handler < length other_handlers.now) others.now }
-    ensures { IsTrue result ↔ (map (led_try mine.now handlers.now) tries.now ≡ map (led_try theirs.now other_handlers.now) others.now) }
+    ensures { IsTrue result ↔ (map (remapped_try mine.now handlers.now) tries.now ≡ map (remapped_try theirs.now other_handlers.now) others.now) }
 {
     if tries.len() != others.len() {
         return false;

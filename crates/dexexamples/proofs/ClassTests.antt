@@ -137,11 +137,11 @@ method_def_by m e =
     }
 
 -- no member of one list equals a member of the other
-abbrev are_unlike : {X : Type 0} → (X → X → Bool) → List X → List X → Bool
-are_unlike same xs ys = list_all (λ x. not (list_any (same x) ys)) xs
+abbrev are_unequal : {X : Type 0} → (X → X → Bool) → List X → List X → Bool
+are_unequal same xs ys = list_all (λ x. not (list_any (same x) ys)) xs
 
-unlike_by : {X : Type 0} (same : X → X → Bool) → ((x : X) → same x x ≡ true) → (xs ys : List X) → are_unlike same xs ys ≡ true → ShareNone xs ys
-unlike_by same self xs ys e x here there =
+unequal_by : {X : Type 0} (same : X → X → Bool) → ((x : X) → same x x ≡ true) → (xs ys : List X) → are_unequal same xs ys ≡ true → ShareNone xs ys
+unequal_by same self xs ys e x here there =
     let none : not (list_any (same x) ys) ≡ true = list_all-member (λ z. not (list_any (same z) ys)) xs x e here in
     let one : not (list_any (same x) ys) ≡ false = ap not (list_any-member (same x) ys x there (self x)) in
     absurd cc
@@ -166,9 +166,9 @@ definition_tests d =
     ∷ list_all (λ f. are_true (field_tests f)) (declared_fields d.1) ∷ list_all (λ m. are_true (method_tests m)) (declared_methods d.1)
     ∷ fits_uint (length d.1.static_fields) ∷ fits_uint (length d.1.instance_fields) ∷ fits_uint (length d.1.direct_methods) ∷ fits_uint (length d.1.virtual_methods)
     ∷ rises field_key_cmp (map field_key d.1.static_fields) ∷ rises field_key_cmp (map field_key d.1.instance_fields)
-    ∷ are_unlike same_field_key (map field_key d.1.static_fields) (map field_key d.1.instance_fields)
+    ∷ are_unequal same_field_key (map field_key d.1.static_fields) (map field_key d.1.instance_fields)
     ∷ rises method_key_cmp (map method_key d.1.direct_methods) ∷ rises method_key_cmp (map method_key d.1.virtual_methods)
-    ∷ are_unlike same_method_key (map method_key d.1.direct_methods) (map method_key d.1.virtual_methods)
+    ∷ are_unequal same_method_key (map method_key d.1.direct_methods) (map method_key d.1.virtual_methods)
     ∷ are_values d.1.static_values ∷ nat_le (values_depth d.1.static_values) most_depth ∷ nat_le (count_values d.1.static_values) (length d.1.static_fields)
     ∷ list_all is_symbol (symbols_of d) ∷ list_all is_text (flat_map texts_in (symbols_of d)) ∷ []
 
@@ -191,10 +191,10 @@ definition_by d e =
       virtual_methods_count = uint_by (length c.virtual_methods) (h 11 (omega arith));
       static_fields = h 12 (omega arith);
       instance_fields = h 13 (omega arith);
-      fields_apart = unlike_by same_field_key field_key_self (map field_key c.static_fields) (map field_key c.instance_fields) (h 14 (omega arith));
+      fields_apart = unequal_by same_field_key field_key_self (map field_key c.static_fields) (map field_key c.instance_fields) (h 14 (omega arith));
       direct_methods = h 15 (omega arith);
       virtual_methods = h 16 (omega arith);
-      methods_apart = unlike_by same_method_key method_key_self (map method_key c.direct_methods) (map method_key c.virtual_methods) (h 17 (omega arith));
+      methods_apart = unequal_by same_method_key method_key_self (map method_key c.direct_methods) (map method_key c.virtual_methods) (h 17 (omega arith));
       static_values = values_by c.static_values (h 18 (omega arith));
       shallow = leb-true (values_depth c.static_values) most_depth (h 19 (omega arith));
       few_values = leb-true (count_values c.static_values) (length c.static_fields) (h 20 (omega arith));

@@ -6,7 +6,7 @@ use Rattle.std.specs.List.{flat_map, list_all, AllZip}
 use Rattle.std.proofs.lemmas.Int.{ints}
 use Rattle.dexspec.specs.Texts.{same_text}
 use Rattle.dexspec.specs.Symbols.{Pool, Strings, Types, Protos, Fields, Methods, pool_of}
-use Rattle.dexspec.specs.Pieces.{Cut, AreCut, piece_size, has_right_targets, is_payload_ident, is_instruction_start, all_of_option, Piece, Instruction, Payload, units_of, index_pool, index_in, with_index, StandsForPiece, cut_units}
+use Rattle.dexspec.specs.Pieces.{Cut, AreCut, piece_size, has_right_targets, is_payload_ident, is_instruction_start, all_of_option, Piece, Instruction, Payload, units_of, index_pool, index_in, with_index, DenotesPiece, cut_units}
 use Rattle.dexspec.specs.Debug.{Operation, AdvancePc, AdvanceLine, StartLocal, StartLocalExtended, EndLocal, RestartLocal, SetPrologueEnd, SetEpilogueBegin, SetFile, Special, Debug}
 use Rattle.dexspec.specs.Code.{Handler, Try, Code, IsStart, AreApart, handlers_of, handlers_weight, most_handlers}
 use Rattle.dexspec.specs.WellFormed.{ArePieces, IsHandlerOf, IsTryOf, IsOperation, IsDebug, IsCodeItem}
@@ -93,7 +93,7 @@ piece_tests us (Instruction xs None) = not (is_payload_ident (slice_index us 0))
 piece_tests us (Instruction xs (Some s)) = is_pool (index_pool us) (pool_of s) ∷ (index_in us == 0) ∷ same_text xs (with_index 0 us) ∷ []
 piece_tests us (Payload xs) = is_payload_ident (slice_index us 0) ∷ same_text xs us ∷ []
 
-piece_by : (us : List ℕ) (p : Piece) → are_true (piece_tests us p) ≡ true → StandsForPiece (λ i s. i ≡ 0) us p
+piece_by : (us : List ℕ) (p : Piece) → are_true (piece_tests us p) ≡ true → DenotesPiece (λ i s. i ≡ 0) us p
 piece_by us (Instruction xs None) e =
     let h = each (piece_tests us (Instruction xs None)) e in
     (denied (is_payload_ident (slice_index us 0)) (h 0 (omega arith)), absent (index_pool us) (h 1 (omega arith)), text_is xs us (h 2 (omega arith)))
@@ -104,23 +104,23 @@ piece_by us (Payload xs) e =
     let h = each (piece_tests us (Payload xs)) e in
     (h 0 (omega arith), text_is xs us (h 1 (omega arith)))
 
-abbrev stand : List ℕ → List Cut → List Piece → Bool
-stand us [] [] = true
-stand us (c ∷ cs) (p ∷ ps) = are_true (piece_tests (cut_units us c) p) && stand us cs ps
-stand us _ _ = false
+abbrev are_encoded : List ℕ → List Cut → List Piece → Bool
+are_encoded us [] [] = true
+are_encoded us (c ∷ cs) (p ∷ ps) = are_true (piece_tests (cut_units us c) p) && are_encoded us cs ps
+are_encoded us _ _ = false
 
-stand_by : (us : List ℕ) (cs : List Cut) (ps : List Piece) → stand us cs ps ≡ true → AllZip (λ c p. StandsForPiece (λ i s. i ≡ 0) (cut_units us c) p) cs ps
-stand_by us [] [] e = tt
-stand_by us (c ∷ cs) (p ∷ ps) e =
+denoted_by : (us : List ℕ) (cs : List Cut) (ps : List Piece) → are_encoded us cs ps ≡ true → AllZip (λ c p. DenotesPiece (λ i s. i ≡ 0) (cut_units us c) p) cs ps
+denoted_by us [] [] e = tt
+denoted_by us (c ∷ cs) (p ∷ ps) e =
     let one = are_true (piece_tests (cut_units us c) p) in
-    let rest = stand us cs ps in
-    (piece_by (cut_units us c) p (and_first one rest e), stand_by us cs ps (and_second one rest e))
-stand_by us [] (p ∷ ps) e = absurd cc
-stand_by us (c ∷ cs) [] e = absurd cc
+    let rest = are_encoded us cs ps in
+    (piece_by (cut_units us c) p (and_first one rest e), denoted_by us cs ps (and_second one rest e))
+denoted_by us [] (p ∷ ps) e = absurd cc
+denoted_by us (c ∷ cs) [] e = absurd cc
 
 abbrev pieces_tests : List ℕ → List Cut → List Piece → List Bool
 pieces_tests us cs ps =
-    nat_lt 0 (length us) ∷ are_cut 0 us cs ∷ list_all (has_right_targets us cs) cs ∷ stand us cs ps ∷ list_all (λ u. nat_lt u (2 ^ 16)) us ∷ fits_uint (length us) ∷ []
+    nat_lt 0 (length us) ∷ are_cut 0 us cs ∷ list_all (has_right_targets us cs) cs ∷ are_encoded us cs ps ∷ list_all (λ u. nat_lt u (2 ^ 16)) us ∷ fits_uint (length us) ∷ []
 
 pieces_by : (ps : List Piece) (cs : List Cut) → are_true (pieces_tests (flat_map units_of ps) cs ps) ≡ true → ArePieces ps cs
 pieces_by ps cs e =
@@ -132,7 +132,7 @@ pieces_by ps cs e =
         cut = cut_by 0 us cs (h 1 (omega arith));
         targets = all_by (λ c. has_right_targets us cs c ≡ true) (has_right_targets us cs) (λ c t. t) cs (h 2 (omega arith));
       };
-      pieces = stand_by us cs ps (h 3 (omega arith));
+      pieces = denoted_by us cs ps (h 3 (omega arith));
       units = all_by (λ u. u < 2 ^ 16) (λ u. nat_lt u (2 ^ 16)) (λ u. ltb-true u (2 ^ 16)) us (h 4 (omega arith));
       count = uint_by (length us) (h 5 (omega arith));
     }

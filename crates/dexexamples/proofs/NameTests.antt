@@ -57,8 +57,8 @@ text_is s t e = (text_decides s t).0 e
 -- ---- names
 
 -- different numbers
-unlike : (m n : ℕ) → not (m == n) ≡ true → m ≢ n
-unlike m n e s = let same : not (m == n) ≡ false = ap not (eq-eqb m n s) in absurd cc
+unequal : (m n : ℕ) → not (m == n) ≡ true → m ≢ n
+unequal m n e s = let same : not (m == n) ≡ false = ap not (eq-eqb m n s) in absurd cc
 
 abbrev is_name_unit : ℕ → Bool
 is_name_unit u = not (u == 0x2e) && (not (u == 0x3b) && (not (u == 0x5b) && not (u == 0x2f)))
@@ -71,7 +71,7 @@ name_unit_by u e =
     let d = not (u == 0x2f) in
     let rest = and_second a (b && (c && d)) e in
     let last = and_second b (c && d) rest in
-    (unlike u 0x2e (and_first a (b && (c && d)) e), unlike u 0x3b (and_first b (c && d) rest), unlike u 0x5b (and_first c d last), unlike u 0x2f (and_second c d last))
+    (unequal u 0x2e (and_first a (b && (c && d)) e), unequal u 0x3b (and_first b (c && d) rest), unequal u 0x5b (and_first c d last), unequal u 0x2f (and_second c d last))
 
 abbrev pub is_member_name : Text → Bool
 is_member_name s = nat_lt 0 (length s) && list_all is_name_unit s

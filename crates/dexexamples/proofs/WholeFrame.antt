@@ -104,7 +104,7 @@ placed = All-from_recursion (IsPlaced whole_a) (map_entries whole_a)
 has_map : HasMap whole_a
 unfolding whole_a uint_at ushort_at number_of
 has_map = record {
-  in_data = record { behind = omega arith; within = omega arith };
+  in_data = record { following = omega arith; within = omega arith };
   aligned = refl;
   known = known;
   once = once;

@@ -34,23 +34,23 @@ data_of_m = record { count = 0x01 ∷ []; says = record { chain = omega arith; f
 
 string_0 : StringRow whole_p 0 (codes "LA;")
 unfolding whole_p uint_at number_of
-string_0 = record { row = omega arith; in_data = omega arith; stands = (5, record { within = omega arith; spelled = data_of_a }) }
+string_0 = record { row = omega arith; in_data = omega arith; encodes = (5, record { within = omega arith; spelled = data_of_a }) }
 
 string_1 : StringRow whole_p 1 object
 unfolding whole_p uint_at number_of
-string_1 = record { row = omega arith; in_data = omega arith; stands = (20, record { within = omega arith; spelled = data_of_object }) }
+string_1 = record { row = omega arith; in_data = omega arith; encodes = (20, record { within = omega arith; spelled = data_of_object }) }
 
 string_2 : StringRow whole_p 2 (codes "V")
 unfolding whole_p uint_at number_of
-string_2 = record { row = omega arith; in_data = omega arith; stands = (3, record { within = omega arith; spelled = data_of_v }) }
+string_2 = record { row = omega arith; in_data = omega arith; encodes = (3, record { within = omega arith; spelled = data_of_v }) }
 
 string_3 : StringRow whole_p 3 (codes "hi")
 unfolding whole_p uint_at number_of
-string_3 = record { row = omega arith; in_data = omega arith; stands = (4, record { within = omega arith; spelled = data_of_hi }) }
+string_3 = record { row = omega arith; in_data = omega arith; encodes = (4, record { within = omega arith; spelled = data_of_hi }) }
 
 string_4 : StringRow whole_p 4 (codes "m")
 unfolding whole_p uint_at number_of
-string_4 = record { row = omega arith; in_data = omega arith; stands = (3, record { within = omega arith; spelled = data_of_m }) }
+string_4 = record { row = omega arith; in_data = omega arith; encodes = (3, record { within = omega arith; spelled = data_of_m }) }
 
 type_0 : TypeRow whole_p 0 (codes "LA;")
 unfolding whole_p uint_at number_of
@@ -98,7 +98,7 @@ code_is = record {
 pieces_at : PiecesAt whole_p 232 (cut 0 2 ∷ cut 2 1 ∷ []) (string_code (codes "hi")).pieces
 unfolding whole_p uint_at ushort_at number_of opcode_of opcode_runs
 pieces_at = record {
-  in_data = record { behind = omega arith; within = omega arith };
+  in_data = record { following = omega arith; within = omega arith };
   aligned = refl;
   code = code_is;
   pieces = ((refl, string_3, refl), ((refl, refl, refl), tt));

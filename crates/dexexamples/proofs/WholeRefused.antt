@@ -5,11 +5,11 @@ use Rattle.std.proofs.lemmas.List.Elements.{All-from_recursion}
 use Rattle.dexspec.specs.Bytes.{number_of, uint_at}
 use Rattle.dexspec.specs.Header.{IsDigit, HasVersion, HasLengths, HasChecksum, adler_32}
 use Rattle.dexspec.specs.Conditions.{Condition, number}
-use Rattle.dexspec.specs.Accepted.{rows_judged, Holds, HoldBelow, place, IsRefused}
+use Rattle.dexspec.specs.Accepted.{rows_checked, Holds, HoldBelow, place, IsRefused}
 use Rattle.dexexamples.specs.Whole.{whole_a, changed_a, cut_a, later_a}
 
 -- a condition without rows that is the first to fail
-refused : (c : Condition) (b : List ℕ) (n p : ℕ) → n ≡ number c → n ≤ 16 → p ≡ place c b 0 → HoldBelow (number c) b → 0 < rows_judged c b → (Holds c b 0 → ⊥) → IsRefused b n p
+refused : (c : Condition) (b : List ℕ) (n p : ℕ) → n ≡ number c → n ≤ 16 → p ≡ place c b 0 → HoldBelow (number c) b → 0 < rows_checked c b → (Holds c b 0 → ⊥) → IsRefused b n p
 refused c b n p numbered early placed before row fails = (c, 0, numbered, placed, inl (early, record { before = before; row = row; rows = λ k lt. absurd (omega arith); fails = fails }))
 
 -- the digits 03 and a third one

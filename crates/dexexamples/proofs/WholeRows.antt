@@ -75,11 +75,11 @@ data_of_object = record { count = 0x12 ∷ []; says = record { chain = omega ari
 
 pub string_0 : StringRow whole_a 0 (codes "LA;")
 unfolding whole_a uint_at number_of
-string_0 = record { row = omega arith; in_data = omega arith; stands = (5, record { within = omega arith; spelled = data_of_a }) }
+string_0 = record { row = omega arith; in_data = omega arith; encodes = (5, record { within = omega arith; spelled = data_of_a }) }
 
 pub string_1 : StringRow whole_a 1 object
 unfolding whole_a uint_at number_of
-string_1 = record { row = omega arith; in_data = omega arith; stands = (20, record { within = omega arith; spelled = data_of_object }) }
+string_1 = record { row = omega arith; in_data = omega arith; encodes = (20, record { within = omega arith; spelled = data_of_object }) }
 
 pub type_0 : TypeRow whole_a 0 (codes "LA;")
 unfolding whole_a uint_at number_of

@@ -103,8 +103,8 @@ abbrev pub class_set_first_use : Definition
 class_set_first_use = annotated (set_v (IntValue (pos 1))) (int_field (codes "x") (set_v (IntValue (pos 2))) ∷ int_field (codes "y") (set_v (IntValue (pos 1))) ∷ [])
 
 -- the sets of `LA;` and its field have one type, and different values
-abbrev pub class_sets_alike : Definition
-class_sets_alike = annotated (set_v (IntValue (pos 1))) (int_field (codes "x") (set_v (IntValue (pos 2))) ∷ [])
+abbrev pub class_equal_sets : Definition
+class_equal_sets = annotated (set_v (IntValue (pos 1))) (int_field (codes "x") (set_v (IntValue (pos 2))) ∷ [])
 
 -- the same with one number of two kinds
 abbrev pub class_sets_kind : Definition

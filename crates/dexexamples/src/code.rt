@@ -4,7 +4,7 @@ ghost use Rattle.std.specs.Prelude.{◌≡◌, [], ◌∷◌, false, None, Some,
 ghost use Rattle.dexspec.specs.Debug.{positions, Special, AdvancePc, AdvanceLine};
 ghost use Rattle.dexspec.specs.Pieces.{IsCode, AreCut, BreaksAt, has_right_targets, piece_size};
 ghost use Rattle.dexexamples.specs.OpcodeTable.{all_formats, all_indices, all_mnemonics, expected_formats, expected_indices, expected_mnemonics};
-ghost use Rattle.dexexamples.specs.Units.{cut, packed, packed_astray, odd_payload, invoke, six_registers, array_data, array_of_threes, sparse, sparse_equal, sparse_as_packed, debug_of};
+ghost use Rattle.dexexamples.specs.Units.{cut, packed, packed_bad_target, odd_payload, invoke, six_registers, array_data, array_of_threes, sparse, sparse_equal, sparse_as_packed, debug_of};
 
 /// The table of opcodes is that of the public page, opcode by opcode.
 pub fn opcodes()
@@ -35,7 +35,7 @@ pub fn no_piece()
 
 /// Targets that are not valid: into an instruction, past the end, a payload of another kind.
 pub fn wrong_targets()
-    ensures inside { has_right_targets packed_astray (cut 0 3 ∷ cut 3 1 ∷ cut 4 6 ∷ []) (cut 0 3) ≡ false }
+    ensures inside { has_right_targets packed_bad_target (cut 0 3 ∷ cut 3 1 ∷ cut 4 6 ∷ []) (cut 0 3) ≡ false }
     ensures outside { has_right_targets (0x2028 ∷ []) (cut 0 1 ∷ []) (cut 0 1) ≡ false }
     ensures other_kind { has_right_targets sparse_as_packed (cut 0 3 ∷ cut 3 1 ∷ cut 4 10 ∷ []) (cut 0 3) ≡ false }
 {}

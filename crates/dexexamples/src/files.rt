@@ -3,8 +3,8 @@
 ghost use Rattle.std.specs.Prelude.{◌≡◌, [], ◌∷◌, ◌++◌, codes};
 ghost use Rattle.sha1.specs.Sha1.{sha1};
 ghost use Rattle.dexspec.specs.Canonical.{ordered, unsigned_file, with_sums};
-ghost use Rattle.dexexamples.specs.Examples.{class_a, class_p, class_debug_twice, class_debug_first_use, class_set_twice, class_set_first_use, class_sets_alike, class_sets_kind, classes_list_thrice, classes_sharing, class_annotation_twice};
-ghost use Rattle.dexexamples.specs.SharedFiles.{debug_twice_file, debug_first_use_file, set_twice_file, set_first_use_file, sets_alike_file, sets_kind_file, list_thrice_file, shared_by_classes_file, annotation_twice_file, code_twice_file};
+ghost use Rattle.dexexamples.specs.Examples.{class_a, class_p, class_debug_twice, class_debug_first_use, class_set_twice, class_set_first_use, class_equal_sets, class_sets_kind, classes_list_thrice, classes_sharing, class_annotation_twice};
+ghost use Rattle.dexexamples.specs.SharedFiles.{debug_twice_file, debug_first_use_file, set_twice_file, set_first_use_file, equal_sets_file, sets_kind_file, list_thrice_file, shared_by_classes_file, annotation_twice_file, code_twice_file};
 ghost use Rattle.dexspec.specs.Stripping.{strip};
 ghost use Rattle.dexspec.specs.Weight.{weight};
 ghost use Rattle.dexexamples.specs.ExpectedFiles.{empty_file, file_a, file_p, front_a, sha1_of_abc};
@@ -38,8 +38,8 @@ pub fn shared_sets()
     ensures twice_weight { weight (class_set_twice ∷ []) ≡ 1353 }
     ensures first_use { unsigned_file (ordered (class_set_first_use ∷ [])) ≡ set_first_use_file }
     ensures first_use_weight { weight (class_set_first_use ∷ []) ≡ 1456 }
-    ensures alike { unsigned_file (ordered (class_sets_alike ∷ [])) ≡ sets_alike_file }
-    ensures alike_weight { weight (class_sets_alike ∷ []) ≡ 1379 }
+    ensures equivalent { unsigned_file (ordered (class_equal_sets ∷ [])) ≡ equal_sets_file }
+    ensures equivalent_weight { weight (class_equal_sets ∷ []) ≡ 1379 }
     ensures kind { unsigned_file (ordered (class_sets_kind ∷ [])) ≡ sets_kind_file }
     ensures kind_weight { weight (class_sets_kind ∷ []) ≡ 1379 }
 {}

@@ -7,6 +7,6 @@ pub mod classes;
 pub mod code;
 pub mod files;
 pub mod good;
-pub mod numbers;
+pub mod leb128;
 pub mod texts;
 pub mod values;

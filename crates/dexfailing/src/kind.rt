@@ -1,6 +1,6 @@
 //! The kinds of lines: `bytes FILE COUNT`, the number of bytes of a file.
 
-use dexcases::{CaseFault, Cases, Folder, Outcome, first_word};
+use dextest_cases::{CaseFault, Cases, Folder, Outcome, first_word};
 use std::fmt;
 use std::rt::Files;
 

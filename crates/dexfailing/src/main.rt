@@ -9,5 +9,5 @@ use kind::Kind;
 use std::process::ExitCode;
 
 fn main(rt: HostRuntime) -> ExitCode {
-    dexcases::run::<Kind, HostRuntime>(&rt)
+    dextest_cases::run::<Kind, HostRuntime>(&rt)
 }

@@ -9,7 +9,7 @@ use Rattle.std.specs.List.{join_with_byte}
 use Rattle.bitflags.specs.Sets.{Row}
 use Rattle.dexspec.specs.Flags.{has_bit}
 use Rattle.dexflags.specs.internal.FlagNames.{Grows, listed, set_names, shown_name}
-use Rattle.dexflags.proofs.Growing.{Growing, kept_on, front_of_front}
+use Rattle.dexflags.proofs.Growing.{Growing, kept_on, prefix_of_prefix}
 
 -- an item after other items
 pub after : {T E : Type 0} (old mid new : Vec ℕ) (before item : List ℕ) (r : Result T E) → Growing old mid before → Grows item mid new r → Grows (before ++ item) old new r
@@ -116,7 +116,7 @@ no_more old mid new is_first row rows n whole (Err x) r e l g bad err =
     let sizes : length (rest_text is_first (set_names (row ∷ rows) n)) ≡ length (listed is_first (shown_name row)) + length (rest_text false names) =
     rw one (length-append (listed is_first (shown_name row)) (rest_text false names)) in
     let same : take (vec_len old) new.items ≡ old.items =
-    sym (front_of_front (vec_len old) (vec_len mid) new.items l.longer) ∙ (ap (λ xs. take (vec_len old) xs) g.err ∙ l.kept) in
+    sym (prefix_of_prefix (vec_len old) (vec_len mid) new.items l.longer) ∙ (ap (λ xs. take (vec_len old) xs) g.err ∙ l.kept) in
     record {
       ok = search rules;
       len = search rules;

@@ -20,16 +20,16 @@ front n xs ys e = take-append-le n xs ys (omega arith) ∙ take_all n xs (omega 
 pub kept : (old new : Vec ℕ) (more : List ℕ) → new.items ≡ old.items ++ more → take (vec_len old) new.items ≡ old.items
 kept old new more e = rw e (front (vec_len old) old.items more old.ok.0)
 
-pub front_of_front : (n m : ℕ) (xs : List ℕ) → n ≤ m → take n (take m xs) ≡ take n xs
-front_of_front zero m xs le = refl
-front_of_front (suc n) zero xs le = absurd (omega arith)
-front_of_front (suc n) (suc m) [] le = refl
-front_of_front (suc n) (suc m) (x ∷ xs) le = ap (λ l. x ∷ l) (front_of_front n m xs (omega arith))
+pub prefix_of_prefix : (n m : ℕ) (xs : List ℕ) → n ≤ m → take n (take m xs) ≡ take n xs
+prefix_of_prefix zero m xs le = refl
+prefix_of_prefix (suc n) zero xs le = absurd (omega arith)
+prefix_of_prefix (suc n) (suc m) [] le = refl
+prefix_of_prefix (suc n) (suc m) (x ∷ xs) le = ap (λ l. x ∷ l) (prefix_of_prefix n m xs (omega arith))
 
 -- they are still after a further call that keeps its old contents
 pub kept_on : (old mid new : Vec ℕ) (more : List ℕ) → mid.items ≡ old.items ++ more → vec_len old ≤ vec_len mid
     → take (vec_len mid) new.items ≡ mid.items → take (vec_len old) new.items ≡ old.items
-kept_on old mid new more e le k = sym (front_of_front (vec_len old) (vec_len mid) new.items le) ∙ (ap (λ xs. take (vec_len old) xs) k ∙ kept old mid more e)
+kept_on old mid new more e le k = sym (prefix_of_prefix (vec_len old) (vec_len mid) new.items le) ∙ (ap (λ xs. take (vec_len old) xs) k ∙ kept old mid more e)
 
 -- no byte is appended yet
 pub nothing_yet : (old : Vec ℕ) → Growing old old []

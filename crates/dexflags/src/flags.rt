@@ -2,7 +2,7 @@
 
 ghost use Rattle.std.specs.Prelude.{⊤, ◌≡◌, [], ◌∷◌, codes};
 ghost use Rattle.dexspec.specs.Flags.{OfClass, OfField, OfMethod, flags_text};
-ghost use Rattle.dexspec.specs.Aside.Writing.{Puts};
+ghost use Rattle.dexspec.specs.internal.Writing.{Puts};
 
 use crate::flags_text::put_text;
 use bitflags::{Flag, Flags, bitflag_items};

@@ -4,7 +4,7 @@ use Rattle.dexspec.specs.Header.{Table, StringIds, TypeIds, ProtoIds, FieldIds, 
 use Rattle.dexspec.specs.Sections.{AreLaidOut, HasLayout, HasMap}
 use Rattle.dexspec.specs.Rows.{row_at}
 use Rattle.dexspec.specs.Conditions.{Condition, number}
-use Rattle.dexspec.specs.Accepted.{rows_judged, place, Holds, HoldBelow, IsFrame, IsRefused}
+use Rattle.dexspec.specs.Accepted.{rows_checked, place, Holds, HoldBelow, IsFrame, IsRefused}
 use Rattle.dexhead.specs.declared.refusal.Refusal.{Refusal}
 use Rattle.dexhead.specs.internal.Refusals.{IsEarly}
 
@@ -65,18 +65,18 @@ none_below b c lt r row =
     absurd (let n : 1 ≡ number c = ap number s in omega arith)
 
 -- one more of them holds
-one_more : {b : List ℕ} (c : Condition) (n : ℕ) → number c ≤ 10 → rows_judged c b ≡ 1 → n ≡ suc (number c) → HoldBelow (number c) b → Holds c b 0 → HoldBelow n b
+one_more : {b : List ℕ} (c : Condition) (n : ℕ) → number c ≤ 10 → rows_checked c b ≡ 1 → n ≡ suc (number c) → HoldBelow (number c) b → Holds c b 0 → HoldBelow n b
 one_more {b = b} c n le one e before holds d lt r row =
     elim (below_or_at (number d) (number c) (omega arith)) [
       | inl l ↦ before d l r row
       | inr same ↦
           let is = same_number c d le same in
-          let zero_is : 0 ≡ r = omega (arith, one, ap (λ c. rows_judged c b) is) in
+          let zero_is : 0 ≡ r = omega (arith, one, ap (λ c. rows_checked c b) is) in
           subst (λ c. Holds c b r) (sym is) (subst (Holds c b) zero_is holds)
     ]
 
 -- or it does not
-refused : {b : List ℕ} (c : Condition) → number c ≤ 10 → rows_judged c b ≡ 1 → HoldBelow (number c) b → (Holds c b 0 → ⊥) → IsRefused b (number c) (place c b 0)
+refused : {b : List ℕ} (c : Condition) → number c ≤ 10 → rows_checked c b ≡ 1 → HoldBelow (number c) b → (Holds c b 0 → ⊥) → IsRefused b (number c) (place c b 0)
 refused c le one before fails = (c, 0, refl, refl, inl (omega arith, record { before = before; row = omega arith; rows = λ k lt. absurd (omega arith); fails = fails }))
 
 pub with_size : {b : List ℕ} → HasSize b → HoldBelow 2 b

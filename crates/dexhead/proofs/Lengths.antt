@@ -9,7 +9,7 @@ use Rattle.dexspec.specs.Bytes.{uint}
 use Rattle.dexspec.specs.Header.{header_length}
 use Rattle.dexspec.specs.Sections.{Section, type_code}
 use Rattle.dexspec.specs.Canonical.{magic, map_entry_bytes, map_bytes}
-use Rattle.dexspec.proofs.written.Stands.{length_rows}
+use Rattle.dexspec.proofs.written.PlacedBytes.{length_rows}
 use Rattle.dexspec.proofs.numbers.ByteNumbers.{length-ushort, length-uint}
 use Rattle.dexhead.specs.declared.head.Head.{Head}
 use Rattle.dexhead.specs.declared.head.Rows.{Rows}

@@ -1,7 +1,7 @@
 pub mod Encoded
 pub mod Entries
 pub mod Frames
-pub mod Judged
+pub mod HeaderChecks
 pub mod LaidOut
 pub mod Lengths
 pub mod Overwritten

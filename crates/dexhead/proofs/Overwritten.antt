@@ -6,8 +6,8 @@ use Rattle.sha1.specs.Sha1.{sha1}
 use Rattle.byteorder.specs.Endian.{little_bytes}
 use Rattle.dexspec.specs.Bytes.{uint}
 use Rattle.dexspec.specs.Header.{adler_32, HasChecksum, HasSignature}
-use Rattle.dexspec.proofs.numbers.ByteNumbers.{length-uint, uint_at-stands}
-use Rattle.dexspec.proofs.written.Stands.{stands_first, stands_later, stands_at}
+use Rattle.dexspec.proofs.numbers.ByteNumbers.{length-uint, uint_at-encodes}
+use Rattle.dexspec.proofs.written.PlacedBytes.{is_at_first, is_at_later, is_at}
 use Rattle.dexspec.proofs.layout.Sums.{length-sha1, adler_32_small}
 use Rattle.dexhead.specs.Sums.{signed, with_sums_set}
 use Rattle.dexhead.proofs.Spelled.{four_bytes}
@@ -40,7 +40,7 @@ drop_after part rest n m e = ap (λ k. drop (k + m) (part ++ rest)) (sym e) ∙ 
 checksum_is : (front body : List ℕ) → length front ≡ 8 → HasChecksum (front ++ (uint (adler_32 body) ++ body))
 checksum_is front body eight =
     let n = adler_32 body in
-    uint_at-stands (adler_32_small body) (stands_at (omega (arith, eight)) (stands_later front (stands_first (uint n) body)))
+    uint_at-encodes (adler_32_small body) (is_at (omega (arith, eight)) (is_at_later front (is_at_first (uint n) body)))
     ∙ ap adler_32 (sym (drop_after front (uint n ++ body) 8 4 eight ∙ drop_at (uint n) body 4 (length-uint n)))
 
 signature_is : (front checksum rest : List ℕ) → length front ≡ 8 → length checksum ≡ 4 → HasSignature (front ++ (checksum ++ (sha1 rest ++ rest)))

@@ -24,8 +24,8 @@ first_part : (m c s x r : List ℕ) (n : ℕ) → length m ≡ n → take n ((m 
 first_part m c s x r n e = ap (take n) (joined m c s x r) ∙ take_at m (c ++ (s ++ (x ++ r))) n e
 
 -- the rest after all three
-behind : (m c s x r : List ℕ) → length m ≡ 8 → length c ≡ 4 → length s ≡ 20 → drop 32 ((m ++ (c ++ (s ++ x))) ++ r) ≡ x ++ r
-behind m c s x r e8 e4 e20 =
+following : (m c s x r : List ℕ) → length m ≡ 8 → length c ≡ 4 → length s ≡ 20 → drop 32 ((m ++ (c ++ (s ++ x))) ++ r) ≡ x ++ r
+following m c s x r e8 e4 e20 =
     ap (drop 32) (joined m c s x r) ∙ drop_after m (c ++ (s ++ (x ++ r))) 8 24 e8 ∙ drop_after c (s ++ (x ++ r)) 4 20 e4 ∙ drop_at s (x ++ r) 20 e20
 
 -- the fields and the rest begin as a header begins
@@ -51,12 +51,12 @@ unfolding head_bytes
 head_set h rest twenty =
     sums_set ((magic ++ (uint h.checksum ++ (h.signature ++ field_bytes h))) ++ rest) (field_bytes h ++ rest)
     (first_part magic (uint h.checksum) h.signature (field_bytes h) rest 8 refl)
-    (behind magic (uint h.checksum) h.signature (field_bytes h) rest refl (length-uint h.checksum) twenty)
+    (following magic (uint h.checksum) h.signature (field_bytes h) rest refl (length-uint h.checksum) twenty)
 
 -- the bytes of a header that has the right sums are those with its sums set
-pub head_told : (h : Head) (rest : List ℕ) → h.signature ≡ sha1 (field_bytes h ++ rest) → h.checksum ≡ adler_32 (h.signature ++ (field_bytes h ++ rest)) → head_bytes h ++ rest ≡ with_sums (field_bytes h ++ rest)
+pub head_stated : (h : Head) (rest : List ℕ) → h.signature ≡ sha1 (field_bytes h ++ rest) → h.checksum ≡ adler_32 (h.signature ++ (field_bytes h ++ rest)) → head_bytes h ++ rest ≡ with_sums (field_bytes h ++ rest)
 unfolding head_bytes with_sums
-head_told h rest s c =
+head_stated h rest s c =
     joined magic (uint h.checksum) h.signature (field_bytes h) rest
     ∙ ap (λ k. magic ++ (uint k ++ (h.signature ++ (field_bytes h ++ rest)))) c
     ∙ ap (λ y. magic ++ (uint (adler_32 (y ++ (field_bytes h ++ rest))) ++ (y ++ (field_bytes h ++ rest)))) s

@@ -8,5 +8,5 @@ written_more old mid new bytes rest i n before left after =
     rw (after, before, left, take-add i n bytes, append_assoc)
 
 -- the same, where how much is not known
-pub front_more : (old mid new bytes rest : List ℕ) (i : ℕ) → mid ≡ old ++ take i bytes → rest ≡ drop i bytes → ((n : ℕ) × (new ≡ mid ++ take n rest)) → (n : ℕ) × (new ≡ old ++ take n bytes)
-front_more old mid new bytes rest i before left after = (i + after.0, written_more old mid new bytes rest i after.0 before left after.1)
+pub prefix_more : (old mid new bytes rest : List ℕ) (i : ℕ) → mid ≡ old ++ take i bytes → rest ≡ drop i bytes → ((n : ℕ) × (new ≡ mid ++ take n rest)) → (n : ℕ) × (new ≡ old ++ take n bytes)
+prefix_more old mid new bytes rest i before left after = (i + after.0, written_more old mid new bytes rest i after.0 before left after.1)

@@ -5,7 +5,7 @@ use Rattle.dexspec.specs.Bytes.{round_up, padding}
 use Rattle.dexspec.specs.Placing.{Ordered, section_bytes}
 use Rattle.dexspec.specs.Canonical.{layout, table_bytes, map_of, map_bytes}
 use Rattle.dexhead.specs.declared.head.Head.{Head}
-use Rattle.dexhead.specs.Written.{TellsTables}
+use Rattle.dexhead.specs.Written.{StatesTables}
 
 -- where the map begins
 abbrev pub map_start : Ordered → ℕ
@@ -16,11 +16,11 @@ abbrev pub map_list : Ordered → List ℕ
 map_list K = map_bytes (map_of K (layout K) (map_start K))
 
 -- what follows the header: the rows, the sections, and the map
-abbrev pub behind_header : Ordered → List ℕ
-behind_header K = table_bytes K (layout K) ++ (flat_map section_bytes (layout K).sections ++ (padding 4 (layout K).data_end ++ map_list K))
+abbrev pub after_header : Ordered → List ℕ
+after_header K = table_bytes K (layout K) ++ (flat_map section_bytes (layout K).sections ++ (padding 4 (layout K).data_end ++ map_list K))
 
 -- the header describes all that follows it, and how long that is
-pub record TellsLayout (h : Head) (K : Ordered) : Type 0 where
-  pub tables : TellsTables h K
+pub record StatesLayout (h : Head) (K : Ordered) : Type 0 where
+  pub tables : StatesTables h K
   pub map_begins : h.map_off ≡ map_start K
   pub file_ends : h.file_size ≡ map_start K + length (map_list K)

@@ -3,7 +3,7 @@ use Rattle.std.proofs.Common.{◌≡◌, ℕ, ◌+◌, ◌-◌, ◌^◌, ◌<◌
 use Rattle.std.specs.Global.{Vec}
 use Rattle.std.proofs.lemmas.List.{append-nil}
 use Rattle.dexspec.specs.Numbers.{uleb128}
-use Rattle.dexspec.specs.Aside.Writing.{Puts}
+use Rattle.dexspec.specs.internal.Writing.{Puts}
 use Rattle.dexhead.specs.Pushing.{Pushes, HasRoomFor}
 
 pub counted_nothing : (a : ℕ) → a < 2 ^ 64 → a ≡ min (2 ^ 64 - 1) (a + 0)

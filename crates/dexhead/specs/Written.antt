@@ -31,7 +31,7 @@ abbrev pub rows_meant : Rows → ℕ × ℕ
 rows_meant r = (r.size, r.off)
 
 -- the header has the offsets of the tables and the data of these classes in their file
-pub record TellsTables (h : Head) (K : Ordered) : Type 0 where
+pub record StatesTables (h : Head) (K : Ordered) : Type 0 where
   pub rows : map rows_meant h.tables ≡ map (λ t. (t.1, t.2)) (placed_tables K)
   pub data_begins : h.data_off ≡ data_start K
   pub data_ends : h.data_size ≡ h.file_size - data_start K

@@ -12,7 +12,7 @@ pub struct DeviceFault;
 /// What bytes come from. Its caller does not read on after a fault.
 pub trait Source {
     // Whether the bytes of the device are known. What is stated about them holds where they are.
-    ghost tells: { Self → Type 0 };
+    ghost reports: { Self → Type 0 };
 
     // The bytes to come.
     ghost to_come: { Self → List ℕ };
@@ -41,17 +41,17 @@ pub trait Source {
         ensures fails { OnErr result (has_failed self.new ≡ true) }
 
         ensures bound { IfOk result (λ n. n ≤ length buf.new) }
-        ensures tells { tells self.old → tells self.new }
-        ensures moved { IfOk result (λ n. tells self.old → to_come self.old ≡ take n buf.new ++ to_come self.new) }
+        ensures reports { reports self.old → reports self.new }
+        ensures moved { IfOk result (λ n. reports self.old → to_come self.old ≡ take n buf.new ++ to_come self.new) }
 
         // Only at the end are there none for a buffer that has room.
-        ensures end { IfOk result (λ n. n ≡ 0 → 0 < length buf.new → tells self.old → to_come self.old ≡ []) };
+        ensures end { IfOk result (λ n. n ≡ 0 → 0 < length buf.new → reports self.old → to_come self.old ≡ []) };
 }
 
 /// What bytes go to. Its caller does not write on after a fault.
 pub trait Sink {
     // Whether the bytes of the device are known. What is stated about them holds where they are.
-    ghost tells: { Self → Type 0 };
+    ghost reports: { Self → Type 0 };
 
     // The bytes that it has taken.
     ghost taken: { Self → List ℕ };
@@ -77,11 +77,11 @@ pub trait Sink {
 
         ensures positive { IfOk result (λ n. 0 < n) }
         ensures bound { IfOk result (λ n. n ≤ length bytes.now) }
-        ensures tells { tells self.old → tells self.new }
-        ensures appended { IfOk result (λ n. tells self.old → taken self.new ≡ taken self.old ++ take n bytes.now) }
+        ensures reports { reports self.old → reports self.new }
+        ensures appended { IfOk result (λ n. reports self.old → taken self.new ≡ taken self.old ++ take n bytes.now) }
 
         // A write that fails has appended a prefix, perhaps an empty one.
-        ensures front { OnErr result (tells self.old → (n : ℕ) × (taken self.new ≡ taken self.old ++ take n bytes.now)) };
+        ensures front { OnErr result (reports self.old → (n : ℕ) × (taken self.new ≡ taken self.old ++ take n bytes.now)) };
 }
 
 /// Writes all the bytes, by as many calls of `Sink::write` as it takes; none for no bytes.
@@ -90,9 +90,9 @@ pub trait Sink {
 /// bytes, perhaps an empty one.
 pub fn write_whole<W: Sink>(out: &mut W, bytes: &[u8]) -> Result<(), DeviceFault>
     requires { W.has_failed out.old ≡ false }
-    ensures tells { W.tells out.old → W.tells out.new }
-    ensures written { OnOk result (W.tells out.old → W.taken out.new ≡ W.taken out.old ++ bytes.now) }
-    ensures front { OnErr result (W.tells out.old → (n : ℕ) × (W.taken out.new ≡ W.taken out.old ++ take n bytes.now)) }
+    ensures reports { W.reports out.old → W.reports out.new }
+    ensures written { OnOk result (W.reports out.old → W.taken out.new ≡ W.taken out.old ++ bytes.now) }
+    ensures front { OnErr result (W.reports out.old → (n : ℕ) × (W.taken out.new ≡ W.taken out.old ++ take n bytes.now)) }
     ensures works { OnOk result (W.has_failed out.new ≡ false) }
     ensures fails { OnErr result (W.has_failed out.new ≡ true) }
 {
@@ -152,7 +152,7 @@ impl<T> Device<T> {
 impl<T: Read> Source for Device<T> {
     ghost use Rattle.dexhead.specs.Device.{expected_of};
 
-    ghost tells = { λ d. IsSome (T.remaining d.inner) };
+    ghost reports = { λ d. IsSome (T.remaining d.inner) };
 
     ghost to_come = { λ d. unwrap_or (T.remaining d.inner) [] };
 
@@ -180,7 +180,7 @@ impl<T: Read> Source for Device<T> {
 }
 
 impl<T: Write> Sink for Device<T> {
-    ghost tells = { λ d. IsSome (T.contents d.inner) };
+    ghost reports = { λ d. IsSome (T.contents d.inner) };
 
     ghost taken = { λ d. unwrap_or (T.contents d.inner) [] };
 

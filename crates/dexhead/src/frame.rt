@@ -60,10 +60,10 @@ impl<'a> Frame<'a> {
         ensures whole { IfOk result (λ frame. frame ≡ bytes.now) }
         ensures refused { IfErr result (λ refusal. IsRefused bytes.now refusal.number refusal.place) }
     {
-        judge_start(bytes)?;
-        judge_fields(bytes)?;
-        judge_sums(bytes)?;
-        judge_places(bytes)?;
+        check_start(bytes)?;
+        check_fields(bytes)?;
+        check_sums(bytes)?;
+        check_places(bytes)?;
         Ok(Frame { bytes })
     }
 
@@ -82,9 +82,9 @@ impl<'a> Frame<'a> {
         ensures whole { IfOk result (λ frame. frame ≡ bytes.now) }
         ensures refused { IfErr result (λ refusal. IsRefused bytes.now refusal.number refusal.place) }
     {
-        judge_start(bytes)?;
-        judge_fields(bytes)?;
-        judge_places(bytes)?;
+        check_start(bytes)?;
+        check_fields(bytes)?;
+        check_places(bytes)?;
         Ok(Frame { bytes })
     }
 
@@ -160,7 +160,7 @@ impl<'a> Frame<'a> {
 }
 
 // Conditions 1 to 3: the bytes begin as a file of this version.
-fn judge_start(bytes: &[u8]) -> Result<(), Refusal>
+fn check_start(bytes: &[u8]) -> Result<(), Refusal>
     ensures accepted { OnOk result (HoldBelow 4 bytes.now) }
     ensures refused { IfErr result (IsEarly bytes.now) }
 {
@@ -181,7 +181,7 @@ fn judge_start(bytes: &[u8]) -> Result<(), Refusal>
 }
 
 // Conditions 4 to 6: what the header says of itself.
-fn judge_fields(bytes: &[u8]) -> Result<(), Refusal>
+fn check_fields(bytes: &[u8]) -> Result<(), Refusal>
     requires { HoldBelow 4 bytes.now }
     ensures accepted { OnOk result (HoldBelow 7 bytes.now) }
     ensures refused { IfErr result (IsEarly bytes.now) }
@@ -199,7 +199,7 @@ fn judge_fields(bytes: &[u8]) -> Result<(), Refusal>
 }
 
 // Conditions 7 and 8: the sums, of a file that meets those before.
-fn judge_sums(bytes: &[u8]) -> Result<(), Refusal>
+fn check_sums(bytes: &[u8]) -> Result<(), Refusal>
     requires { 112 ≤ length bytes.now }
     ensures accepted { OnOk result (HoldBelow 7 bytes.now → HoldBelow 9 bytes.now) }
     ensures refused { IfErr result (λ refusal. HoldBelow 7 bytes.now → IsEarly bytes.now refusal) }
@@ -214,7 +214,7 @@ fn judge_sums(bytes: &[u8]) -> Result<(), Refusal>
 }
 
 // Conditions 9 and 10, on the offsets of a file that meets those before.
-fn judge_places(bytes: &[u8]) -> Result<(), Refusal>
+fn check_places(bytes: &[u8]) -> Result<(), Refusal>
     requires { 112 ≤ length bytes.now }
     ensures accepted { OnOk result (HoldBelow 9 bytes.now → IsFrame bytes.now) }
     ensures refused { IfErr result (λ refusal. HoldBelow 9 bytes.now → IsEarly bytes.now refusal) }

@@ -4,10 +4,10 @@ ghost use Rattle.std.specs.Prelude.{◌≡◌, ◌++◌, ◌+◌, ◌≤◌, len
 ghost use Rattle.std.specs.List.{flat_map};
 ghost use Rattle.dexspec.specs.Bytes.{uint};
 ghost use Rattle.dexspec.specs.Canonical.{magic};
-ghost use Rattle.dexspec.specs.Aside.Writing.{Puts};
+ghost use Rattle.dexspec.specs.internal.Writing.{Puts};
 
 use crate::header::{ENDIAN_CONSTANT, HEADER_SIZE};
-use crate::numbers::push_u32;
+use crate::little_endian::push_u32;
 use std::alloc::AllocError;
 
 const MAGIC: [u8; 8] = [0x64, 0x65, 0x78, 0x0a, 0x30, 0x33, 0x35, 0x00];

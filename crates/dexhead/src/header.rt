@@ -3,10 +3,10 @@
 ghost use Rattle.std.specs.Prelude.{◌≡◌, ◌↔◌, ℕ, ◌+◌, ◌-◌, ◌<◌, ◌≤◌, List, ◌∷◌, All, IsTrue, MatchOption, length, slice_index};
 ghost use Rattle.dexspec.specs.Header.{Table as SpecTable, HasSize, HasMagic, version, HasLengths, HasEndian, HasNoLink, HasChecksum, IsDigit, tables, table_size, table_off, data_off};
 ghost use Rattle.dexspec.specs.Sections.{HasLayout};
-ghost use Rattle.dexhead.specs.internal.Judged.{AreFew, IsLaidOut, has_signature};
+ghost use Rattle.dexhead.specs.internal.HeaderChecks.{AreFew, IsLaidOut, has_signature};
 ghost use Rattle.dexhead.specs.Tables.{meant};
 
-use crate::numbers::u32_at;
+use crate::little_endian::u32_at;
 use crate::tables::Table;
 use crate::whole::adler;
 use sha1::Sha1;
@@ -92,7 +92,7 @@ pub(crate) fn has_checksum(bytes: &[u8]) -> bool
     u32_at(bytes, 8) == adler(rest)
 }
 
-#[tactic(auto, unfolding(crate::specs::internal::Judged::has_signature))]
+#[tactic(auto, unfolding(crate::specs::internal::HeaderChecks::has_signature))]
 pub(crate) fn has_signature(bytes: &[u8]) -> bool
     requires { 112 ≤ length bytes.now }
     ensures { result ≡ has_signature bytes.now }
@@ -125,7 +125,7 @@ pub(crate) fn data_off(bytes: &[u8]) -> u32
     u32_at(bytes, 108)
 }
 
-#[tactic(auto, using(crate::proofs::Judged::has_layout, crate::proofs::Judged::laid_out, crate::proofs::Judged::few))]
+#[tactic(auto, using(crate::proofs::HeaderChecks::has_layout, crate::proofs::HeaderChecks::laid_out, crate::proofs::HeaderChecks::few))]
 pub(crate) fn has_layout(bytes: &[u8]) -> bool
     requires { 112 ≤ length bytes.now }
     ensures { IsTrue result ↔ HasLayout bytes.now }

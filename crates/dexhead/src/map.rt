@@ -7,7 +7,7 @@ ghost use Rattle.dexhead.specs.Tables.{meant};
 ghost use Rattle.dexhead.specs.internal.Map.{read, entry_of, IsCode, IsInPlace, IsNext, AreInOrder, BeginsWithHeader, IsThere, HaveTables, HaveMap, AreRight};
 
 use crate::header;
-use crate::numbers::{u16_at, u32_at};
+use crate::little_endian::{u16_at, u32_at};
 use crate::tables::Table;
 
 /// The bytes of an entry.

@@ -2,9 +2,9 @@
 
 ghost use Rattle.std.specs.Prelude.{◌≡◌, ◌++◌, ◌+◌, ◌*◌, ◌^◌, ◌<◌, ◌≤◌, length, map, vec_len, vec_capacity};
 ghost use Rattle.dexspec.specs.Canonical.{map_entry_bytes, map_bytes};
-ghost use Rattle.dexspec.specs.Aside.Writing.{Puts};
+ghost use Rattle.dexspec.specs.internal.Writing.{Puts};
 
-use crate::numbers::{push_u16, push_u32};
+use crate::little_endian::{push_u16, push_u32};
 use crate::sections::Section;
 use std::alloc::AllocError;
 

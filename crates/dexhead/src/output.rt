@@ -4,11 +4,11 @@ ghost use Rattle.std.specs.Prelude.{◌≡◌, ℕ, ◌+◌, ◌-◌, ◌^◌, �
 ghost use Rattle.std.specs.List.{flat_map};
 ghost use Rattle.dexspec.specs.Bytes.{ushort, uint};
 ghost use Rattle.dexspec.specs.Numbers.{uleb128, sleb128};
-ghost use Rattle.dexspec.specs.Aside.Writing.{Puts};
+ghost use Rattle.dexspec.specs.internal.Writing.{Puts};
 ghost use Rattle.dexhead.specs.Pushing.{Pushes, HasRoomFor};
 ghost use Rattle.dexhead.specs.OutputLaws.{counted_nothing, counted_both, pushed_nothing, pushed_both};
 
-use crate::numbers::{put_u16, put_u32};
+use crate::little_endian::{put_u16, put_u32};
 use dexleb::{len_s, len_u, put_s, put_u};
 use std::alloc::AllocError;
 

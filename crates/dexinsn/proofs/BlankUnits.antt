@@ -9,7 +9,7 @@ use Rattle.dexspec.specs.Pieces.{index_pool, is_payload_ident, is_wide_index, wi
 use Rattle.dexinsn.specs.declared.pieces.Index.{Index}
 use Rattle.dexinsn.specs.Numbered.{Instruction, Payload, numbered_units}
 use Rattle.dexinsn.specs.Blank.{IsCountBefore, Rise, blank_units, covers}
-use Rattle.dexinsn.specs.Stored.{AreStored, Follow, behind_index, cuts_in, index_units, left_by, parts_in, piece_with, pieces_with, spelled_from}
+use Rattle.dexinsn.specs.Stored.{AreStored, Follow, after_index, cuts_in, index_units, left_by, parts_in, piece_with, pieces_with, spelled_from}
 use Rattle.dexinsn.proofs.PutUnits.{spelled_all, stored_follow}
 use Rattle.dexinsn.proofs.StartBits.{same_answer}
 use Rattle.dexinsn.proofs.StoredRead.{first_kept, same_wide}
@@ -72,29 +72,29 @@ not_true true none = absurd (none refl)
 not_true false none = refl
 
 -- the units between its start and what is after it
-covers_within : (us : List ℕ) (i : ℕ) (x : Index) → covers us i x ≡ true → (x.unit < i) × (i < behind_index (is_wide_index (drop x.unit us)) x.unit)
+covers_within : (us : List ℕ) (i : ℕ) (x : Index) → covers us i x ≡ true → (x.unit < i) × (i < after_index (is_wide_index (drop x.unit us)) x.unit)
 covers_within us i x e = elim (cases_eq i (x.unit + 1)) [
-  | inl first ↦ one_behind (is_wide_index (drop x.unit us)) first
+  | inl first ↦ one_after (is_wide_index (drop x.unit us)) first
   | inr later ↦ elim (cases_eq i (x.unit + 2)) [
     | inl second ↦
         let wide : is_wide_index (drop x.unit us) ≡ true = second_true (i == x.unit + 2) (is_wide_index (drop x.unit us)) (rw (ne_eqb i (x.unit + 1) later) at e) in
-        (omega (arith, second), subst (λ (w : Bool). i < behind_index w x.unit) (sym wide) (omega (arith, second)))
+        (omega (arith, second), subst (λ (w : Bool). i < after_index w x.unit) (sym wide) (omega (arith, second)))
     | inr other ↦ absurd (let none = rw (ne_eqb i (x.unit + 1) later, ne_eqb i (x.unit + 2) other) at e in cc)
   ]
 ]
   where
-    one_behind : (w : Bool) → i ≡ x.unit + 1 → (x.unit < i) × (i < behind_index w x.unit)
-    one_behind true first = (omega (arith, first), omega (arith, first))
-    one_behind false first = (omega (arith, first), omega (arith, first))
+    one_after : (w : Bool) → i ≡ x.unit + 1 → (x.unit < i) × (i < after_index w x.unit)
+    one_after true first = (omega (arith, first), omega (arith, first))
+    one_after false first = (omega (arith, first), omega (arith, first))
 
 or_true : (a : Bool) → (a || true) ≡ true
 or_true true = refl
 or_true false = refl
 
-within_covers : (us : List ℕ) (i : ℕ) (x : Index) → x.unit < i → i < behind_index (is_wide_index (drop x.unit us)) x.unit → covers us i x ≡ true
+within_covers : (us : List ℕ) (i : ℕ) (x : Index) → x.unit < i → i < after_index (is_wide_index (drop x.unit us)) x.unit → covers us i x ≡ true
 within_covers us i x more below = by_width (is_wide_index (drop x.unit us)) below
   where
-    by_width : (w : Bool) → i < behind_index w x.unit → ((i == x.unit + 1) || ((i == x.unit + 2) && w)) ≡ true
+    by_width : (w : Bool) → i < after_index w x.unit → ((i == x.unit + 1) || ((i == x.unit + 2) && w)) ≡ true
     by_width false le = ap (λ (b : Bool). b || ((i == x.unit + 2) && false)) (eq-eqb i (x.unit + 1) (omega (arith, le, more)))
     by_width true le = elim (cases_eq i (x.unit + 1)) [
       | inl first ↦ ap (λ (b : Bool). b || ((i == x.unit + 2) && true)) (eq-eqb i (x.unit + 1) first)
@@ -107,27 +107,27 @@ follow_after : (us : List ℕ) (from : ℕ) (is : List Index) (l : ℕ) (d : Ind
 follow_after us from [] l d h lt = absurd (omega (arith, lt))
 follow_after us from (x ∷ is) zero d h lt = h.0
 follow_after us from (x ∷ is) (suc l) d h lt =
-    let on = follow_after us (behind_index (is_wide_index (drop x.unit us)) x.unit) is l d h.1 (omega (arith, lt)) in
-    omega (arith, h.0, on, behind_more (is_wide_index (drop x.unit us)) x.unit)
+    let on = follow_after us (after_index (is_wide_index (drop x.unit us)) x.unit) is l d h.1 (omega (arith, lt)) in
+    omega (arith, h.0, on, after_is_more (is_wide_index (drop x.unit us)) x.unit)
   where
-    behind_more : (w : Bool) (unit : ℕ) → unit < behind_index w unit
-    behind_more true unit = omega arith
-    behind_more false unit = omega arith
+    after_is_more : (w : Bool) (unit : ℕ) → unit < after_index w unit
+    after_is_more true unit = omega arith
+    after_is_more false unit = omega arith
 
-follow_order : (us : List ℕ) (from : ℕ) (is : List Index) (j l : ℕ) (d : Index) → Follow us from is → j < l → l < length is → behind_index (is_wide_index (drop (get_or is j d).unit us)) (get_or is j d).unit ≤ (get_or is l d).unit
+follow_order : (us : List ℕ) (from : ℕ) (is : List Index) (j l : ℕ) (d : Index) → Follow us from is → j < l → l < length is → after_index (is_wide_index (drop (get_or is j d).unit us)) (get_or is j d).unit ≤ (get_or is l d).unit
 follow_order us from [] j l d h less lt = absurd (omega (arith, lt))
 follow_order us from (x ∷ is) j zero d h less lt = absurd (omega (arith, less))
-follow_order us from (x ∷ is) zero (suc l) d h less lt = follow_after us (behind_index (is_wide_index (drop x.unit us)) x.unit) is l d h.1 (omega (arith, lt))
-follow_order us from (x ∷ is) (suc j) (suc l) d h less lt = follow_order us (behind_index (is_wide_index (drop x.unit us)) x.unit) is j l d h.1 (omega (arith, less)) (omega (arith, lt))
+follow_order us from (x ∷ is) zero (suc l) d h less lt = follow_after us (after_index (is_wide_index (drop x.unit us)) x.unit) is l d h.1 (omega (arith, lt))
+follow_order us from (x ∷ is) (suc j) (suc l) d h less lt = follow_order us (after_index (is_wide_index (drop x.unit us)) x.unit) is j l d h.1 (omega (arith, less)) (omega (arith, lt))
 
-behind_more : (w : Bool) (unit : ℕ) → unit < behind_index w unit
-behind_more true unit = omega arith
-behind_more false unit = omega arith
+after_is_more : (w : Bool) (unit : ℕ) → unit < after_index w unit
+after_is_more true unit = omega arith
+after_is_more false unit = omega arith
 
 pub stored_rise : (us : List ℕ) (is : List Index) → AreStored us is → Rise is
 stored_rise us is s = λ i j d less lt.
     let order = follow_order us 0 is i j d (stored_follow us is s) less lt in
-    omega (arith, order, behind_more (is_wide_index (drop (get_or is i d).unit us)) (get_or is i d).unit)
+    omega (arith, order, after_is_more (is_wide_index (drop (get_or is i d).unit us)) (get_or is i d).unit)
 
 pub any_default : (xs : List Index) (n : ℕ) (d e : Index) → n < length xs → get_or xs n d ≡ get_or xs n e
 any_default [] n d e lt = absurd (omega (arith, lt))
@@ -172,7 +172,7 @@ last_covers us is i k d s h = same_answer (covers us i (get_or is k d)) (list_an
     elim (cases_lt found.0 k) [
       | inl less ↦
           let last : (get_or is k c).unit < i = h.before k c (omega arith) in
-          let order = subst (λ (x : Index). behind_index (is_wide_index (drop x.unit us)) x.unit ≤ (get_or is k c).unit) found.3 (follow_order us 0 is found.0 k c (stored_follow us is s) less (omega (arith, h.within))) in
+          let order = subst (λ (x : Index). after_index (is_wide_index (drop x.unit us)) x.unit ≤ (get_or is k c).unit) found.3 (follow_order us 0 is found.0 k c (stored_follow us is s) less (omega (arith, h.within))) in
           absurd (omega (arith, within.1, order, last))
       | inr more ↦ elim (cases_eq found.0 k) [
         | inl same ↦
@@ -201,24 +201,24 @@ zero_units true (suc (suc k)) more lt = absurd (omega (arith, lt))
 zero_units false zero more lt = refl
 zero_units false (suc k) more lt = absurd (omega (arith, lt))
 
-units_behind : (w : Bool) (unit : ℕ) → unit + 1 + length (index_units w 0) ≡ behind_index w unit
-units_behind true unit = omega arith
-units_behind false unit = omega arith
+units_after : (w : Bool) (unit : ℕ) → unit + 1 + length (index_units w 0) ≡ after_index w unit
+units_after true unit = omega arith
+units_after false unit = omega arith
 
 blank_one : (us : List ℕ) (from i : ℕ) (is : List Index) → Follow us from is → from ≤ i → i < length us → slice_index (spelled_from us from (zeroed is)) (i - from) ≡ cond (list_any (covers us i) is) 0 (slice_index us i)
 blank_one us from i [] h le lt = let place : from + (i - from) ≡ i = omega (arith, le) in get_or-drop from us (i - from) 0 ∙ ap (slice_index us) place
 blank_one us from i (x ∷ is) h le lt =
     let w : Bool = is_wide_index (drop x.unit us) in
     let front : List ℕ = take (x.unit + 1 - from) (drop from us) in
-    let rest : List ℕ = spelled_from us (behind_index w x.unit) (zeroed is) in
-    let behind : behind_index w x.unit ≤ length us = follow_end us (behind_index w x.unit) is h.1 in
-    let long : length front ≡ x.unit + 1 - from = length-take-le (x.unit + 1 - from) (drop from us) (omega (arith, length-drop from us, behind, behind_more w x.unit)) in
+    let rest : List ℕ = spelled_from us (after_index w x.unit) (zeroed is) in
+    let following : after_index w x.unit ≤ length us = follow_end us (after_index w x.unit) is h.1 in
+    let long : length front ≡ x.unit + 1 - from = length-take-le (x.unit + 1 - from) (drop from us) (omega (arith, length-drop from us, following, after_is_more w x.unit)) in
     elim (cases_lt i (x.unit + 1)) [
       | inl below ↦
           let place : from + (i - from) ≡ i = omega (arith, le) in
           let here : i - from < x.unit + 1 - from = omega (arith, below, le) in
           let none : covers us i x ≡ false = not_true (covers us i x) (λ e. let c = covers_within us i x e in omega (arith, c.0, below)) in
-          let none_on : list_any (covers us i) is ≡ false = none_after us (behind_index w x.unit) i is h.1 (omega (arith, below, behind_more w x.unit)) in
+          let none_on : list_any (covers us i) is ≡ false = none_after us (after_index w x.unit) i is h.1 (omega (arith, below, after_is_more w x.unit)) in
           get_or_append_left front (index_units w 0 ++ rest) 0 (i - from) (omega (arith, long, here))
           ∙ get_or-take (x.unit + 1 - from) (drop from us) (i - from) 0 here
           ∙ get_or-drop from us (i - from) 0 ∙ ap (slice_index us) place
@@ -227,25 +227,25 @@ blank_one us from i (x ∷ is) h le lt =
           let moved : slice_index (front ++ (index_units w 0 ++ rest)) (i - from) ≡ slice_index (index_units w 0 ++ rest) (i - from - (x.unit + 1 - from)) =
           get_or-append_right front (index_units w 0 ++ rest) (x.unit + 1 - from) (i - from) 0 long (omega (arith, above, le, h.0)) in
           let step : i - from - (x.unit + 1 - from) ≡ i - (x.unit + 1) = omega (arith, above, le, h.0) in
-          elim (cases_lt i (behind_index w x.unit)) [
+          elim (cases_lt i (after_index w x.unit)) [
             | inl inside ↦
                 let yes : covers us i x ≡ true = within_covers us i x (omega (arith, above)) inside in
-                moved ∙ ap (slice_index (index_units w 0 ++ rest)) step ∙ zero_units w (i - (x.unit + 1)) rest (omega (arith, units_behind w x.unit, inside, above))
+                moved ∙ ap (slice_index (index_units w 0 ++ rest)) step ∙ zero_units w (i - (x.unit + 1)) rest (omega (arith, units_after w x.unit, inside, above))
                 ∙ ap (λ (b : Bool). cond (b || list_any (covers us i) is) 0 (slice_index us i)) (sym yes)
             | inr beyond ↦
                 let none : covers us i x ≡ false = not_true (covers us i x) (λ e. let c = covers_within us i x e in omega (arith, c.1, beyond)) in
                 let over : slice_index (index_units w 0 ++ rest) (i - (x.unit + 1)) ≡ slice_index rest (i - (x.unit + 1) - length (index_units w 0)) =
-                get_or-append_right (index_units w 0) rest (length (index_units w 0)) (i - (x.unit + 1)) 0 refl (omega (arith, units_behind w x.unit, beyond)) in
-                let last : i - (x.unit + 1) - length (index_units w 0) ≡ i - behind_index w x.unit = omega (arith, units_behind w x.unit, beyond) in
+                get_or-append_right (index_units w 0) rest (length (index_units w 0)) (i - (x.unit + 1)) 0 refl (omega (arith, units_after w x.unit, beyond)) in
+                let last : i - (x.unit + 1) - length (index_units w 0) ≡ i - after_index w x.unit = omega (arith, units_after w x.unit, beyond) in
                 moved ∙ ap (slice_index (index_units w 0 ++ rest)) step ∙ over ∙ ap (slice_index rest) last
-                ∙ blank_one us (behind_index w x.unit) i is h.1 beyond lt
+                ∙ blank_one us (after_index w x.unit) i is h.1 beyond lt
                 ∙ ap (λ (b : Bool). cond (b || list_any (covers us i) is) 0 (slice_index us i)) (sym none)
           ]
     ]
   where
     follow_end : (us : List ℕ) (from : ℕ) (is : List Index) → Follow us from is → from ≤ length us
     follow_end us from [] h = h
-    follow_end us from (y ∷ is) h = let on = follow_end us (behind_index (is_wide_index (drop y.unit us)) y.unit) is h.1 in omega (arith, h.0, on, behind_more (is_wide_index (drop y.unit us)) y.unit)
+    follow_end us from (y ∷ is) h = let on = follow_end us (after_index (is_wide_index (drop y.unit us)) y.unit) is h.1 in omega (arith, h.0, on, after_is_more (is_wide_index (drop y.unit us)) y.unit)
 
 -- a unit of the pieces, as it is or zero
 pub blank_unit : (us : List ℕ) (is : List Index) (i : ℕ) → AreStored us is → i < length us → slice_index (flat_map blank_units (pieces_with (parts_in us) is)) i ≡ cond (list_any (covers us i) is) 0 (slice_index us i)

@@ -15,7 +15,7 @@ use Rattle.dexinsn.specs.Stored.{FitsAt}
 use Rattle.dexinsn.specs.Reading.{AreCodeIndices, AreUnitsAt, indices_at, with_index_at}
 use Rattle.dexinsn.specs.Checking.{AreTheIndices, HaveIndices, IsChecked, IsShapeAt}
 use Rattle.dexinsn.proofs.CodeRead.{units_there}
-use Rattle.dexinsn.proofs.Halves.{uint_behind}
+use Rattle.dexinsn.proofs.Halves.{uint_after}
 use Rattle.dexinsn.proofs.Passed.{same_cuts}
 use Rattle.dexinsn.proofs.Sizes.{piece_size-fits}
 
@@ -133,9 +133,9 @@ all_built us count at is h all = λ cs cut. sym (append_none is (indices_at us h
 
 -- the bytes of the units
 pub shape_units : (b : List ℕ) (off : ℕ) (m : Mentions) (s : PiecesShape) (rest bytes : List ℕ) → IsShapeAt b off m s → rest ≡ drop 16 (drop off b) → bytes ≡ take (2 * s.units) rest → AreUnitsAt b off bytes
-shape_units b off m s rest bytes h behind front =
-    units_there b off s.units rest bytes (sym h.units ∙ sym (uint_behind b off 12)) h.few h.room.aligned
-    (subst (λ (n : ℕ). IsInData b off (16 + 2 * n)) h.units h.room.in_data) behind front
+shape_units b off m s rest bytes h following front =
+    units_there b off s.units rest bytes (sym h.units ∙ sym (uint_after b off 12)) h.few h.room.aligned
+    (subst (λ (n : ℕ). IsInData b off (16 + 2 * n)) h.units h.room.in_data) following front
 
 pub shape_checked : (b : List ℕ) (off : ℕ) (m : Mentions) (s : PiecesShape) (bytes : List ℕ) → IsShapeAt b off m s → AreUnitsAt b off bytes → IsChecked (units_in bytes) m s.indices
 shape_checked b off m s bytes h at = subst (λ (us : List ℕ). IsChecked us m s.indices) (sym at.units) h.checked

@@ -7,21 +7,21 @@ use Rattle.dexspec.specs.Pieces.{BreaksAt, Cut, IsCode}
 use Rattle.dexinsn.specs.declared.code.CodeFault.TheVariants.{Piece}
 use Rattle.dexinsn.specs.Units.{units_in}
 use Rattle.dexinsn.specs.Reading.{HasCodeRoom, AreUnitsAt}
-use Rattle.dexinsn.proofs.Halves.{uint_behind, units_of_part}
+use Rattle.dexinsn.proofs.Halves.{uint_after, units_of_part}
 use Rattle.dexinsn.proofs.Once.{answer_once}
 
 -- there is no room if there is none for n units
 pub no_room : (b : List ℕ) (off n : ℕ) → n ≡ uint_at (drop off b) 12 → (IsInData b off (16 + 2 * n) → ⊥) → HasCodeRoom b off → ⊥
-no_room b off n is none r = none (subst (λ (k : ℕ). IsInData b off (16 + 2 * k)) (sym (is ∙ uint_behind b off 12)) r.in_data)
+no_room b off n is none r = none (subst (λ (k : ℕ). IsInData b off (16 + 2 * k)) (sym (is ∙ uint_after b off 12)) r.in_data)
 
 -- the bytes after the fixed part
 pub units_there : (b : List ℕ) (off n : ℕ) (rest bytes : List ℕ) → n ≡ uint_at (drop off b) 12 → n < 2 ^ 32 → off % 4 ≡ 0 → IsInData b off (16 + 2 * n) → rest ≡ drop 16 (drop off b) → bytes ≡ take (2 * n) rest → AreUnitsAt b off bytes
-units_there b off n rest bytes is small aligned room behind front =
-    let count : n ≡ uint_at b (off + 12) = is ∙ uint_behind b off 12 in
+units_there b off n rest bytes is small aligned room following front =
+    let count : n ≡ uint_at b (off + 12) = is ∙ uint_after b off 12 in
     let within : off + (16 + 2 * n) ≤ length b = room.within in
     record {
       room = record { in_data = subst (λ (k : ℕ). IsInData b off (16 + 2 * k)) count room; aligned = aligned };
-      units = ap units_in (front ∙ ap (take (2 * n)) (behind ∙ drop-drop 16 off b)) ∙ units_of_part b (off + 16) n (omega arith) ∙ ap (ushorts_at b (off + 16)) count;
+      units = ap units_in (front ∙ ap (take (2 * n)) (following ∙ drop-drop 16 off b)) ∙ units_of_part b (off + 16) n (omega arith) ∙ ap (ushorts_at b (off + 16)) count;
       few = subst (λ (k : ℕ). k < 2 ^ 32) count small;
     }
 

@@ -16,31 +16,31 @@ use Rattle.dexspec.specs.Texts.{Text}
 use Rattle.dexspec.proofs.lists.Members.{Contains-nil, Contains-cons_cases, Contains-first, Contains-later}
 use Rattle.dexpool.specs.declared.symbols.SymbolKind.{SymbolKind}
 use Rattle.dexpool.specs.declared.symbols.SymbolKind.TheVariants as kinds
-use Rattle.dexpool.specs.Numberings.{IsAt, Maps, image, image_of, AllLead}
-use Rattle.dexpool.specs.Orderly.{KeepOrder, LeadDown}
+use Rattle.dexpool.specs.Numberings.{IsAt, Maps, image, image_of, AllMapTo}
+use Rattle.dexpool.specs.Orderly.{KeepOrder, MapsDown}
 use Rattle.dexpool.specs.Uses.{Use}
 use Rattle.dexinsn.specs.declared.pieces.Index.{Index}
-use Rattle.dexinsn.specs.Fitting.{LeadsOn, is_text, is_short_string, short_number, short_string, short_strings, HasConstString, IsGreatest, short_at, ImagesFit, IsNotTooLarge, LeadsShort}
-use Rattle.dexinsn.specs.Numbered.{NumberedPiece, Instruction, Payload, StandsFor, StandFor, kind_in, kind_of_pool, uses_of, index_room, FitsPlace, FitPlaces, HasImage, HasPlace}
+use Rattle.dexinsn.specs.Fitting.{IsMapped, is_text, is_short_string, short_number, short_string, short_strings, HasConstString, IsGreatest, short_at, ImagesFit, IsNotTooLarge, MapsShort}
+use Rattle.dexinsn.specs.Numbered.{NumberedPiece, Instruction, Payload, Denotes, Denote, kind_in, kind_of_pool, uses_of, index_room, FitsPlace, FitPlaces, HasImage, HasPlace}
 use Rattle.dexinsn.specs.Stored.{parts_in, piece_with, left_by, pieces_with, AreStored, FitsAt}
 use Rattle.dexinsn.proofs.Lined.{Heads, Lined, LinedBy, stored_lined, head_kind, head_room, head_wide}
 
 -- ---- images, piece by piece and use by use
 
-pub images_of_uses : (r : Maps) (ps : List NumberedPiece) → All (LeadsOn r) (uses_of ps) → All (HasImage r) ps
+pub images_of_uses : (r : Maps) (ps : List NumberedPiece) → All (IsMapped r) (uses_of ps) → All (HasImage r) ps
 images_of_uses r [] h = All-nil (HasImage r)
 images_of_uses r (Instruction us None ∷ ps) h = All-cons (HasImage r) (Instruction us None) ps tt (images_of_uses r ps h)
 images_of_uses r (Instruction us (Some n) ∷ ps) h =
     let u : Use = record { kind = kind_in us; number = n } in
-    All-cons (HasImage r) (Instruction us (Some n)) ps (All-head (LeadsOn r) u (uses_of ps) h) (images_of_uses r ps (All-tail (LeadsOn r) u (uses_of ps) h))
+    All-cons (HasImage r) (Instruction us (Some n)) ps (All-head (IsMapped r) u (uses_of ps) h) (images_of_uses r ps (All-tail (IsMapped r) u (uses_of ps) h))
 images_of_uses r (Payload us ∷ ps) h = All-cons (HasImage r) (Payload us) ps tt (images_of_uses r ps h)
 
-pub uses_of_images : (r : Maps) (ps : List NumberedPiece) → All (HasImage r) ps → All (LeadsOn r) (uses_of ps)
-uses_of_images r [] h = All-nil (LeadsOn r)
+pub uses_of_images : (r : Maps) (ps : List NumberedPiece) → All (HasImage r) ps → All (IsMapped r) (uses_of ps)
+uses_of_images r [] h = All-nil (IsMapped r)
 uses_of_images r (Instruction us None ∷ ps) h = uses_of_images r ps (All-tail (HasImage r) (Instruction us None) ps h)
 uses_of_images r (Instruction us (Some n) ∷ ps) h =
     let u : Use = record { kind = kind_in us; number = n } in
-    All-cons (LeadsOn r) u (uses_of ps) (All-head (HasImage r) (Instruction us (Some n)) ps h) (uses_of_images r ps (All-tail (HasImage r) (Instruction us (Some n)) ps h))
+    All-cons (IsMapped r) u (uses_of ps) (All-head (HasImage r) (Instruction us (Some n)) ps h) (uses_of_images r ps (All-tail (HasImage r) (Instruction us (Some n)) ps h))
 uses_of_images r (Payload us ∷ ps) h = uses_of_images r ps (All-tail (HasImage r) (Payload us) ps h)
 
 -- a number that has an image below the room has a place
@@ -50,29 +50,29 @@ place_by r us n (Some j) e some fits = (j, e, fits j refl)
 
 -- ---- after a cut
 
-cut_place : (r : Maps) (p : NumberedPiece) → LeadDown r → FitsPlace p → HasImage r p → HasPlace r p
+cut_place : (r : Maps) (p : NumberedPiece) → MapsDown r → FitsPlace p → HasImage r p → HasPlace r p
 cut_place r (Instruction us None) down fits image = tt
 cut_place r (Instruction us (Some n)) down fits image =
     place_by r us n (image_of r (kind_in us) n) refl image (λ j e. let le : j ≤ n = down (kind_in us) n j e in omega (arith, le, fits))
 cut_place r (Payload us) down fits image = tt
 
-cut_places : (r : Maps) (ps : List NumberedPiece) → LeadDown r → FitPlaces ps → All (HasImage r) ps → All (HasPlace r) ps
+cut_places : (r : Maps) (ps : List NumberedPiece) → MapsDown r → FitPlaces ps → All (HasImage r) ps → All (HasPlace r) ps
 cut_places r [] down fit images = All-nil (HasPlace r)
 cut_places r (p ∷ ps) down fit images =
     All-cons (HasPlace r) p ps (cut_place r p down (All-head FitsPlace p ps fit) (All-head (HasImage r) p ps images)) (cut_places r ps down (All-tail FitsPlace p ps fit) (All-tail (HasImage r) p ps images))
 
-pub places_after_cut : (r : Maps) (ps : List NumberedPiece) → LeadDown r → FitPlaces ps → All (LeadsOn r) (uses_of ps) → All (HasPlace r) ps
+pub places_after_cut : (r : Maps) (ps : List NumberedPiece) → MapsDown r → FitPlaces ps → All (IsMapped r) (uses_of ps) → All (HasPlace r) ps
 places_after_cut r ps down fit uses = cut_places r ps down fit (images_of_uses r ps uses)
 
 -- ---- after a join
 
-pub images_after_join : (m n : Mentions) (r : Maps) → AllLead m n r → IsNotTooLarge n → ImagesFit r
+pub images_after_join : (m n : Mentions) (r : Maps) → AllMapTo m n r → IsNotTooLarge n → ImagesFit r
 images_after_join m n r l few = record {
-  texts_fit = λ i j e. omega (arith, (l.texts_lead.same i j [] e).within, few.texts_few);
-  types_fit = λ i j e. omega (arith, (l.types_lead.same i j [] e).within, few.types_few);
-  protos_fit = λ i j e. omega (arith, (l.protos_lead.same i j (record { return_type = []; parameters = [] }) e).within, few.protos_few);
-  fields_fit = λ i j e. omega (arith, (l.fields_lead.same i j (record { class = []; name = []; type = [] }) e).within, few.fields_few);
-  methods_fit = λ i j e. omega (arith, (l.methods_lead.same i j (record { class = []; name = []; proto = record { return_type = []; parameters = [] } }) e).within, few.methods_few);
+  texts_fit = λ i j e. omega (arith, (l.texts_mapped.same i j [] e).within, few.texts_few);
+  types_fit = λ i j e. omega (arith, (l.types_mapped.same i j [] e).within, few.types_few);
+  protos_fit = λ i j e. omega (arith, (l.protos_mapped.same i j (record { return_type = []; parameters = [] }) e).within, few.protos_few);
+  fields_fit = λ i j e. omega (arith, (l.fields_mapped.same i j (record { class = []; name = []; type = [] }) e).within, few.fields_few);
+  methods_fit = λ i j e. omega (arith, (l.methods_mapped.same i j (record { class = []; name = []; proto = record { return_type = []; parameters = [] } }) e).within, few.methods_few);
 }
 
 -- every image has 32 bits, and those that are not of texts have 16
@@ -84,8 +84,8 @@ wide_image r kinds.Field i j fit e = omega (arith, fit.fields_fit i j e)
 wide_image r kinds.Method i j fit e = omega (arith, fit.methods_fit i j e)
 
 -- no number of a short string has an image beyond 16 bits
-abbrev pub ShortLead : Maps → List ℕ → Type 0
-ShortLead r ns = (i j : ℕ) → Contains ns i → image r.texts i ≡ Some j → j < 2 ^ 16
+abbrev pub ShortMapped : Maps → List ℕ → Type 0
+ShortMapped r ns = (i j : ℕ) → Contains ns i → image r.texts i ≡ Some j → j < 2 ^ 16
 
 image_by : (r : Maps) (w : Bool) (k : SymbolKind) (i j : ℕ) → ImagesFit r → ((is_text k && not w) ≡ true → image_of r k i ≡ Some j → j < 2 ^ 16) → image_of r k i ≡ Some j → j < cond w (2 ^ 32) (2 ^ 16)
 image_by r true k i j fit short e = wide_image r k i j fit e
@@ -106,26 +106,26 @@ first_short : (b : Bool) (n : ℕ) (ns : List ℕ) → b ≡ true → Contains (
 first_short true n ns is = Contains-first n ns
 first_short false n ns is = absurd cc
 
-joined_place : (r : Maps) (p : NumberedPiece) (ns : List ℕ) → ImagesFit r → ShortLead r (short_string p ++ ns) → HasImage r p → HasPlace r p
+joined_place : (r : Maps) (p : NumberedPiece) (ns : List ℕ) → ImagesFit r → ShortMapped r (short_string p ++ ns) → HasImage r p → HasPlace r p
 joined_place r (Instruction us None) ns fit short has = tt
 joined_place r (Instruction us (Some n)) ns fit short has =
     place_by r us n (image_of r (kind_in us) n) refl has
     (λ j e. image_by r (is_wide_index us) (kind_in us) n j fit (λ is f. short n j (first_short (is_short_string us) n ns is) (text_image r (kind_in us) (is_wide_index us) n j is f)) e)
 joined_place r (Payload us) ns fit short has = tt
 
-joined_places : (r : Maps) (ps : List NumberedPiece) → ImagesFit r → ShortLead r (short_strings ps) → All (HasImage r) ps → All (HasPlace r) ps
+joined_places : (r : Maps) (ps : List NumberedPiece) → ImagesFit r → ShortMapped r (short_strings ps) → All (HasImage r) ps → All (HasPlace r) ps
 joined_places r [] fit short images = All-nil (HasPlace r)
 joined_places r (p ∷ ps) fit short images =
     All-cons (HasPlace r) p ps (joined_place r p (short_strings ps) fit short (All-head (HasImage r) p ps images))
     (joined_places r ps fit (λ i j c e. short i j (Contains-append_right (short_string p) (short_strings ps) i c) e) (All-tail (HasImage r) p ps images))
 
 -- the number of a short string has an image if each symbol has one
-text_led : (r : Maps) (k : SymbolKind) (w : Bool) (i : ℕ) → (is_text k && not w) ≡ true → IsSome (image_of r k i) → IsSome (image r.texts i)
-text_led r kinds.Text w i is some = some
-text_led r kinds.Typ w i is some = absurd cc
-text_led r kinds.Proto w i is some = absurd cc
-text_led r kinds.Field w i is some = absurd cc
-text_led r kinds.Method w i is some = absurd cc
+text_remapped : (r : Maps) (k : SymbolKind) (w : Bool) (i : ℕ) → (is_text k && not w) ≡ true → IsSome (image_of r k i) → IsSome (image r.texts i)
+text_remapped r kinds.Text w i is some = some
+text_remapped r kinds.Typ w i is some = absurd cc
+text_remapped r kinds.Proto w i is some = absurd cc
+text_remapped r kinds.Field w i is some = absurd cc
+text_remapped r kinds.Method w i is some = absurd cc
 
 short_is : (b : Bool) (n k : ℕ) → Contains (if b then n ∷ [] else []) k → (b ≡ true) × (n ≡ k)
 short_is true n k c = elim (Contains-cons_cases n k [] c) [
@@ -134,18 +134,18 @@ short_is true n k c = elim (Contains-cons_cases n k [] c) [
 ]
 short_is false n k c = absurd (Contains-nil k c)
 
-short_led : (r : Maps) (p : NumberedPiece) (i : ℕ) → HasImage r p → Contains (short_string p) i → IsSome (image r.texts i)
-short_led r (Instruction us None) i has c = absurd (Contains-nil i c)
-short_led r (Instruction us (Some n)) i has c =
+short_remapped : (r : Maps) (p : NumberedPiece) (i : ℕ) → HasImage r p → Contains (short_string p) i → IsSome (image r.texts i)
+short_remapped r (Instruction us None) i has c = absurd (Contains-nil i c)
+short_remapped r (Instruction us (Some n)) i has c =
     let s = short_is (is_short_string us) n i c in
-    subst (λ k. IsSome (image r.texts k)) s.1 (text_led r (kind_in us) (is_wide_index us) n s.0 has)
-short_led r (Payload us) i has c = absurd (Contains-nil i c)
+    subst (λ k. IsSome (image r.texts k)) s.1 (text_remapped r (kind_in us) (is_wide_index us) n s.0 has)
+short_remapped r (Payload us) i has c = absurd (Contains-nil i c)
 
-pub shorts_led : (r : Maps) (ps : List NumberedPiece) (i : ℕ) → All (HasImage r) ps → Contains (short_strings ps) i → IsSome (image r.texts i)
-shorts_led r [] i all c = absurd (Contains-nil i c)
-shorts_led r (p ∷ ps) i all c = elim (Contains-append_cases (short_string p) (short_strings ps) i c) [
-  | inl l ↦ short_led r p i (All-head (HasImage r) p ps all) l
-  | inr l ↦ shorts_led r ps i (All-tail (HasImage r) p ps all) l
+pub shorts_remapped : (r : Maps) (ps : List NumberedPiece) (i : ℕ) → All (HasImage r) ps → Contains (short_strings ps) i → IsSome (image r.texts i)
+shorts_remapped r [] i all c = absurd (Contains-nil i c)
+shorts_remapped r (p ∷ ps) i all c = elim (Contains-append_cases (short_string p) (short_strings ps) i c) [
+  | inl l ↦ short_remapped r p i (All-head (HasImage r) p ps all) l
+  | inr l ↦ shorts_remapped r ps i (All-tail (HasImage r) p ps all) l
 ]
 
 -- of two numbers of texts the lesser has the lesser image
@@ -157,21 +157,21 @@ lesser_by r i g j k false test order e lt le f =
     let is : j ≡ k = cc in
     omega (arith, is, lt)
 
-lesser_image : (r : Maps) (i g j : ℕ) (o : Option ℕ) → KeepOrder r → image r.texts g ≡ o → IsSome o → LeadsShort r (Some g) → i ≤ g → image r.texts i ≡ Some j → j < 2 ^ 16
+lesser_image : (r : Maps) (i g j : ℕ) (o : Option ℕ) → KeepOrder r → image r.texts g ≡ o → IsSome o → MapsShort r (Some g) → i ≤ g → image r.texts i ≡ Some j → j < 2 ^ 16
 lesser_image r i g j None order e some short le f = absurd cc
 lesser_image r i g j (Some k) order e some short le f = lesser_by r i g j k (nat_lt i g) refl order e (short k e) le f
 
 below : (ns : List ℕ) (g i : ℕ) → All (λ k. k ≤ g) ns → Contains ns i → i ≤ g
 below ns g i all c = subst (λ k. k ≤ g) c.2 (All-get_or (λ k. k ≤ g) ns c.0 i c.1 all)
 
-pub short_lead : (r : Maps) (ns : List ℕ) (greatest : Option ℕ) → KeepOrder r → IsGreatest ns greatest → LeadsShort r greatest → ((i : ℕ) → Contains ns i → IsSome (image r.texts i)) → ShortLead r ns
-short_lead r ns None order is short led i j c e = absurd (Contains-nil i (subst (λ ks. Contains ks i) is c))
-short_lead r ns (Some g) order is short led i j c e = lesser_image r i g j (image r.texts g) order refl (led g is.0) short (below ns g i is.1 c) e
+pub short_mapped : (r : Maps) (ns : List ℕ) (greatest : Option ℕ) → KeepOrder r → IsGreatest ns greatest → MapsShort r greatest → ((i : ℕ) → Contains ns i → IsSome (image r.texts i)) → ShortMapped r ns
+short_mapped r ns None order is short remapped i j c e = absurd (Contains-nil i (subst (λ ks. Contains ks i) is c))
+short_mapped r ns (Some g) order is short remapped i j c e = lesser_image r i g j (image r.texts g) order refl (remapped g is.0) short (below ns g i is.1 c) e
 
-pub places_after_join : (r : Maps) (ps : List NumberedPiece) (greatest : Option ℕ) → KeepOrder r → ImagesFit r → IsGreatest (short_strings ps) greatest → LeadsShort r greatest → All (LeadsOn r) (uses_of ps) → All (HasPlace r) ps
+pub places_after_join : (r : Maps) (ps : List NumberedPiece) (greatest : Option ℕ) → KeepOrder r → ImagesFit r → IsGreatest (short_strings ps) greatest → MapsShort r greatest → All (IsMapped r) (uses_of ps) → All (HasPlace r) ps
 places_after_join r ps greatest order fit is short uses =
     let images : All (HasImage r) ps = images_of_uses r ps uses in
-    joined_places r ps fit (short_lead r (short_strings ps) greatest order is short (λ i c. shorts_led r ps i images c)) images
+    joined_places r ps fit (short_mapped r (short_strings ps) greatest order is short (λ i c. shorts_remapped r ps i images c)) images
 
 -- ---- numbers as they are stored
 
@@ -315,22 +315,22 @@ short_const us pool op = ap (λ k. is_text k && not (is_wide_index us)) (text_co
 -- ---- what short strings denote
 
 -- a piece that denotes a const-string of the text
-named_piece : (m : Mentions) (p : NumberedPiece) (us : List ℕ) (s : Text) → StandsFor m p (symbolic.Instruction us (Some (TextSymbol s))) → low_byte (slice_index us 0) ≡ 0x1a → (n : ℕ) × Contains (short_string p) n × IsAt m.texts n s
+named_piece : (m : Mentions) (p : NumberedPiece) (us : List ℕ) (s : Text) → Denotes m p (symbolic.Instruction us (Some (TextSymbol s))) → low_byte (slice_index us 0) ≡ 0x1a → (n : ℕ) × Contains (short_string p) n × IsAt m.texts n s
 named_piece m (Instruction xs None) us s h op = absurd h
 named_piece m (Instruction xs (Some n)) us s h op =
     let at : low_byte (slice_index xs 0) ≡ 0x1a = ap (λ (ys : List ℕ). low_byte (slice_index ys 0)) h.0 ∙ op in
     (n, subst (λ b. Contains (if b then n ∷ [] else []) n) (sym (short_const xs h.1 at)) (Contains-first n []), h.2)
 named_piece m (Payload xs) us s h op = absurd h
 
-named_in : (m : Mentions) (ps : List NumberedPiece) (qs : List Piece) (s : Text) (us : List ℕ) → StandFor m ps qs → Contains qs (symbolic.Instruction us (Some (TextSymbol s))) → low_byte (slice_index us 0) ≡ 0x1a → (n : ℕ) × Contains (short_strings ps) n × IsAt m.texts n s
+named_in : (m : Mentions) (ps : List NumberedPiece) (qs : List Piece) (s : Text) (us : List ℕ) → Denote m ps qs → Contains qs (symbolic.Instruction us (Some (TextSymbol s))) → low_byte (slice_index us 0) ≡ 0x1a → (n : ℕ) × Contains (short_strings ps) n × IsAt m.texts n s
 named_in m ps [] s us h c op = absurd (Contains-nil (symbolic.Instruction us (Some (TextSymbol s))) c)
 named_in m [] (q ∷ qs) s us h c op = absurd h
 named_in m (p ∷ ps) (q ∷ qs) s us h c op = elim (Contains-cons_cases q (symbolic.Instruction us (Some (TextSymbol s))) qs c) [
-  | inl e ↦ let f = named_piece m p us s (subst (StandsFor m p) e h.0) op in (f.0, Contains-append_left (short_string p) (short_strings ps) f.0 f.1, f.2)
+  | inl e ↦ let f = named_piece m p us s (subst (Denotes m p) e h.0) op in (f.0, Contains-append_left (short_string p) (short_strings ps) f.0 f.1, f.2)
   | inr l ↦ let f = named_in m ps qs s us h.1 l op in (f.0, Contains-append_right (short_string p) (short_strings ps) f.0 f.1, f.2)
 ]
 
-pub short_named : (m : Mentions) (ps : List NumberedPiece) (qs : List Piece) (s : Text) → StandFor m ps qs → HasConstString qs s → (n : ℕ) × Contains (short_strings ps) n × IsAt m.texts n s
+pub short_named : (m : Mentions) (ps : List NumberedPiece) (qs : List Piece) (s : Text) → Denote m ps qs → HasConstString qs s → (n : ℕ) × Contains (short_strings ps) n × IsAt m.texts n s
 short_named m ps qs s h has = named_in m ps qs s has.units h has.piece has.short
 
 -- the symbol of a kind that is not of texts
@@ -346,7 +346,7 @@ not_back false e = refl
 abbrev Meant : Mentions → ℕ → Piece → Type 0
 Meant m n q = (s : Text) × IsAt m.texts n s × (us : List ℕ) × (q ≡ symbolic.Instruction us (Some (TextSymbol s))) × (low_byte (slice_index us 0) ≡ 0x1a)
 
-meant_by : (m : Mentions) (us xs : List ℕ) (n : ℕ) (t : Symbol) → StandsFor m (Instruction us (Some n)) (symbolic.Instruction xs (Some t)) → is_short_string us ≡ true → Meant m n (symbolic.Instruction xs (Some t))
+meant_by : (m : Mentions) (us xs : List ℕ) (n : ℕ) (t : Symbol) → Denotes m (Instruction us (Some n)) (symbolic.Instruction xs (Some t)) → is_short_string us ≡ true → Meant m n (symbolic.Instruction xs (Some t))
 meant_by m us xs n (TextSymbol s) h short =
     let narrow : is_wide_index us ≡ false = not_back (is_wide_index us) (and_parts (is_text (kind_in us)) (not (is_wide_index us)) short).1 in
     (s, h.2, xs, refl, ap (λ (ys : List ℕ). low_byte (slice_index ys 0)) (sym h.0) ∙ const_string us h.1 narrow)
@@ -355,7 +355,7 @@ meant_by m us xs n (ProtoSymbol s) h short = let bad : false ≡ true = no_text 
 meant_by m us xs n (FieldSymbol s) h short = let bad : false ≡ true = no_text us Fields h.1 short in absurd cc
 meant_by m us xs n (MethodSymbol s) h short = let bad : false ≡ true = no_text us Methods h.1 short in absurd cc
 
-meant_piece : (m : Mentions) (p : NumberedPiece) (q : Piece) (n : ℕ) → StandsFor m p q → Contains (short_string p) n → Meant m n q
+meant_piece : (m : Mentions) (p : NumberedPiece) (q : Piece) (n : ℕ) → Denotes m p q → Contains (short_string p) n → Meant m n q
 meant_piece m (Instruction us None) q n h c = absurd (Contains-nil n c)
 meant_piece m (Instruction us (Some k)) (symbolic.Instruction xs (Some t)) n h c =
     let s = short_is (is_short_string us) k n c in
@@ -364,15 +364,15 @@ meant_piece m (Instruction us (Some k)) (symbolic.Instruction xs None) n h c = a
 meant_piece m (Instruction us (Some k)) (symbolic.Payload xs) n h c = absurd h
 meant_piece m (Payload us) q n h c = absurd (Contains-nil n c)
 
-pub short_stands : (m : Mentions) (ps : List NumberedPiece) (qs : List Piece) (n : ℕ) → StandFor m ps qs → Contains (short_strings ps) n → (s : Text) × IsAt m.texts n s × HasConstString qs s
-short_stands m [] qs n h c = absurd (Contains-nil n c)
-short_stands m (p ∷ ps) [] n h c = absurd h
-short_stands m (p ∷ ps) (q ∷ qs) n h c = elim (Contains-append_cases (short_string p) (short_strings ps) n c) [
+pub short_denoted : (m : Mentions) (ps : List NumberedPiece) (qs : List Piece) (n : ℕ) → Denote m ps qs → Contains (short_strings ps) n → (s : Text) × IsAt m.texts n s × HasConstString qs s
+short_denoted m [] qs n h c = absurd (Contains-nil n c)
+short_denoted m (p ∷ ps) [] n h c = absurd h
+short_denoted m (p ∷ ps) (q ∷ qs) n h c = elim (Contains-append_cases (short_string p) (short_strings ps) n c) [
   | inl l ↦
       let f = meant_piece m p q n h.0 l in
       (f.0, f.1, record { units = f.2; piece = subst (λ x. Contains (q ∷ qs) x) f.3 (Contains-first q qs); short = f.4 })
   | inr l ↦
-      let f = short_stands m ps qs n h.1 l in
+      let f = short_denoted m ps qs n h.1 l in
       let has : HasConstString qs f.0 = f.2 in
       (f.0, f.1, record { units = has.units; piece = Contains-later q (symbolic.Instruction has.units (Some (TextSymbol f.0))) qs has.piece; short = has.short })
 ]

@@ -21,16 +21,16 @@ pub length_from : (b : List ℕ) → length (units_in b) ≡ length b / 2
 length_from b = length-ushorts_at b 0 (length b / 2)
 
 -- a number after some bytes
-pub ushort_behind : (b : List ℕ) (k o : ℕ) → ushort_at (drop k b) o ≡ ushort_at b (k + o)
+pub ushort_after : (b : List ℕ) (k o : ℕ) → ushort_at (drop k b) o ≡ ushort_at b (k + o)
 unfolding ushort_at
-ushort_behind b k o = simp drop-drop
+ushort_after b k o = simp drop-drop
 
 -- the units after some bytes
-pub ushorts_behind : (b : List ℕ) (k o n : ℕ) → ushorts_at (drop k b) o n ≡ ushorts_at b (k + o) n
-ushorts_behind b k o zero = refl
-ushorts_behind b k o (suc n) =
+pub ushorts_after : (b : List ℕ) (k o n : ℕ) → ushorts_at (drop k b) o n ≡ ushorts_at b (k + o) n
+ushorts_after b k o zero = refl
+ushorts_after b k o (suc n) =
     let e : k + (o + 2) ≡ k + o + 2 = omega arith in
-    ap (λ (u : ℕ). u ∷ ushorts_at (drop k b) (o + 2) n) (ushort_behind b k o) ∙ ap (λ (us : List ℕ). ushort_at b (k + o) ∷ us) (ushorts_behind b k (o + 2) n ∙ ap (λ (m : ℕ). ushorts_at b m n) e)
+    ap (λ (u : ℕ). u ∷ ushorts_at (drop k b) (o + 2) n) (ushort_after b k o) ∙ ap (λ (us : List ℕ). ushort_at b (k + o) ∷ us) (ushorts_after b k (o + 2) n ∙ ap (λ (m : ℕ). ushorts_at b m n) e)
 
 -- the units from a place on
 pub ushorts_from : (b : List ℕ) (o n k : ℕ) → k ≤ n → drop k (ushorts_at b o n) ≡ ushorts_at b (o + 2 * k) (n - k)
@@ -47,26 +47,26 @@ rest_from b at le =
     let m : length (drop (2 * at) b) ≡ length b - 2 * at = length-drop (2 * at) b in
     let e : 2 * at + 0 ≡ 0 + 2 * at = omega arith in
     let f : length (drop (2 * at) b) / 2 ≡ length b / 2 - at = omega arith in
-    ushorts_behind b (2 * at) 0 (length (drop (2 * at) b) / 2) ∙ ap (λ (o : ℕ). ushorts_at b o (length (drop (2 * at) b) / 2)) e ∙ ap (ushorts_at b (0 + 2 * at)) f
+    ushorts_after b (2 * at) 0 (length (drop (2 * at) b) / 2) ∙ ap (λ (o : ℕ). ushorts_at b o (length (drop (2 * at) b) / 2)) e ∙ ap (ushorts_at b (0 + 2 * at)) f
     ∙ sym (ushorts_from b 0 (length b / 2) at (omega arith))
 
 -- the same for four bytes
-pub uint_behind : (b : List ℕ) (k o : ℕ) → uint_at (drop k b) o ≡ uint_at b (k + o)
+pub uint_after : (b : List ℕ) (k o : ℕ) → uint_at (drop k b) o ≡ uint_at b (k + o)
 unfolding uint_at
-uint_behind b k o = simp drop-drop
+uint_after b k o = simp drop-drop
 
 -- a number among the first bytes
-ushort_front : (b : List ℕ) (m o : ℕ) → o + 2 ≤ m → ushort_at (take m b) o ≡ ushort_at b o
+ushort_prefix : (b : List ℕ) (m o : ℕ) → o + 2 ≤ m → ushort_at (take m b) o ≡ ushort_at b o
 unfolding ushort_at
-ushort_front b m o le =
+ushort_prefix b m o le =
     let e : m ≡ o + (m - o) = omega arith in
     let two : 2 ≤ m - o = omega arith in
     ap number_of (ap (λ (k : ℕ). take 2 (drop o (take k b))) e ∙ ap (take 2) (drop-take o (m - o) b) ∙ take-take 2 (m - o) (drop o b) two)
 
 -- units among the first bytes
-ushorts_front : (b : List ℕ) (m o n : ℕ) → o + 2 * n ≤ m → ushorts_at (take m b) o n ≡ ushorts_at b o n
-ushorts_front b m o zero le = refl
-ushorts_front b m o (suc n) le = ap (λ (u : ℕ). u ∷ ushorts_at (take m b) (o + 2) n) (ushort_front b m o (omega arith)) ∙ ap (λ (us : List ℕ). ushort_at b o ∷ us) (ushorts_front b m (o + 2) n (omega arith))
+ushorts_prefix : (b : List ℕ) (m o n : ℕ) → o + 2 * n ≤ m → ushorts_at (take m b) o n ≡ ushorts_at b o n
+ushorts_prefix b m o zero le = refl
+ushorts_prefix b m o (suc n) le = ap (λ (u : ℕ). u ∷ ushorts_at (take m b) (o + 2) n) (ushort_prefix b m o (omega arith)) ∙ ap (λ (us : List ℕ). ushort_at b o ∷ us) (ushorts_prefix b m (o + 2) n (omega arith))
 
 -- the units of the bytes from a place on
 pub units_of_part : (b : List ℕ) (k n : ℕ) → k + 2 * n ≤ length b → units_in (take (2 * n) (drop k b)) ≡ ushorts_at b k n
@@ -75,4 +75,4 @@ units_of_part b k n le =
     let m : length (take (2 * n) (drop k b)) ≡ 2 * n = length-take-le (2 * n) (drop k b) (omega arith) in
     let h : length (take (2 * n) (drop k b)) / 2 ≡ n = omega arith in
     let z : k + 0 ≡ k = omega arith in
-    ap (ushorts_at (take (2 * n) (drop k b)) 0) h ∙ ushorts_front (drop k b) (2 * n) 0 n (omega arith) ∙ ushorts_behind b k 0 n ∙ ap (λ (o : ℕ). ushorts_at b o n) z
+    ap (ushorts_at (take (2 * n) (drop k b)) 0) h ∙ ushorts_prefix (drop k b) (2 * n) 0 n (omega arith) ∙ ushorts_after b k 0 n ∙ ap (λ (o : ℕ). ushorts_at b o n) z

@@ -81,14 +81,14 @@ has_room at us n pool size named = elim (piece_is at us n size) [
 ]
 
 -- the same of a piece that is among units
-pub room_behind : (us : List ℕ) (at n : ℕ) (pool : Pool) → piece_size at (drop at us) ≡ Some n → index_pool (drop at us) ≡ Some pool → at + 1 < length us
-room_behind us at n pool size named =
+pub room_after : (us : List ℕ) (at n : ℕ) (pool : Pool) → piece_size at (drop at us) ≡ Some n → index_pool (drop at us) ≡ Some pool → at + 1 < length us
+room_after us at n pool size named =
     let r : HasRoom (drop at us) n = has_room at (drop at us) n pool size named in
     let l : length (drop at us) ≡ length us - at = length-drop at us in
     omega (arith, r.within, r.two)
 
-pub wide_room_behind : (us : List ℕ) (at n : ℕ) (pool : Pool) → piece_size at (drop at us) ≡ Some n → index_pool (drop at us) ≡ Some pool → is_wide_index (drop at us) ≡ true → at + 2 < length us
-wide_room_behind us at n pool size named wide =
+pub wide_room_after : (us : List ℕ) (at n : ℕ) (pool : Pool) → piece_size at (drop at us) ≡ Some n → index_pool (drop at us) ≡ Some pool → is_wide_index (drop at us) ≡ true → at + 2 < length us
+wide_room_after us at n pool size named wide =
     let r : HasRoom (drop at us) n = has_room at (drop at us) n pool size named in
     let l : length (drop at us) ≡ length us - at = length-drop at us in
     omega (arith, r.within, r.three wide)

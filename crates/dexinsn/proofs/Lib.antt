@@ -20,14 +20,14 @@ pub mod Sizes
 pub mod Cuts
 pub mod Outcome
 pub mod Starts
-pub mod Leads
+pub mod RightTargets
 pub mod Once
 pub mod TargetGroups
 pub mod StartBits
 pub mod Passed
 pub mod Placed
 pub mod NextBits
-pub mod Leading
+pub mod NotedTargets
 pub mod BuiltIndices
 pub mod BlankUnits
 pub mod Plain

@@ -109,13 +109,13 @@ pub listing_on : (us : List ℕ) (at : ℕ) (is : List Index) → IsListing us a
 listing_on us at is l lt none = cut_on us at (cuts_from (length us) at (drop at us)) l.cut lt none
 
 -- the cuts after the first piece
-record Behind (us : List ℕ) (at n : ℕ) (cs : List Cut) : Type 0 where
+record IsAfter (us : List ℕ) (at n : ℕ) (cs : List Cut) : Type 0 where
   cuts : cs ≡ record { unit = at; units = n } ∷ cuts_from (length us) (at + n) (drop (at + n) us)
   cut : AreCut (at + n) (drop (at + n) us) (cuts_from (length us) (at + n) (drop (at + n) us)) []
 
-behind_first_cut : (us : List ℕ) (at n : ℕ) (cs : List Cut) → AreCut at (drop at us) cs [] → piece_size at (drop at us) ≡ Some n → Behind us at n cs
-behind_first_cut us at n [] cut size = let f : Fits (drop at us) n = piece_size-fits at (drop at us) n size in absurd (omega (arith, f.0, f.1, ap length cut))
-behind_first_cut us at n (c ∷ cs) cut size =
+after_first_cut : (us : List ℕ) (at n : ℕ) (cs : List Cut) → AreCut at (drop at us) cs [] → piece_size at (drop at us) ≡ Some n → IsAfter us at n cs
+after_first_cut us at n [] cut size = let f : Fits (drop at us) n = piece_size-fits at (drop at us) n size in absurd (omega (arith, f.0, f.1, ap length cut))
+after_first_cut us at n (c ∷ cs) cut size =
     let units : c.units ≡ n = let e : Some c.units ≡ Some n = sym cut.1 ∙ size in cc in
     let later : AreCut (at + n) (drop (at + n) us) cs [] = subst (λ (k : ℕ). AreCut (at + k) (drop (at + k) us) cs []) units (subst (λ (xs : List ℕ). AreCut (at + c.units) xs cs []) (drop-drop c.units at us) cut.2) in
     let rest : cuts_from (length us) (at + n) (drop (at + n) us) ≡ cs = cuts_from_is (length us) (at + n) (drop (at + n) us) cs later (omega (arith, length-drop (at + n) us)) in
@@ -130,7 +130,7 @@ pub listing_more : (us : List ℕ) (at n : ℕ) (is : List Index) → IsListing 
 unfolding listing
 listing_more us at n is l size =
     let c : Cut = record { unit = at; units = n } in
-    let b : Behind us at n (cuts_from (length us) at (drop at us)) = behind_first_cut us at n (cuts_from (length us) at (drop at us)) l.cut size in
+    let b : IsAfter us at n (cuts_from (length us) at (drop at us)) = after_first_cut us at n (cuts_from (length us) at (drop at us)) l.cut size in
     let f : Fits (drop at us) n = piece_size-fits at (drop at us) n size in
     let len : length (drop at us) ≡ length us - at = length-drop at us in
     let piece : IsPieceAt us (record { unit = at; units = n }) = size in

@@ -3,7 +3,7 @@ use Rattle.std.proofs.Common.{◌≡◌, ℕ, ◌<◌, List, [], ◌∷◌, ◌+
 use Rattle.std.specs.Prelude.{Result}
 use Rattle.std.specs.Global.{Vec}
 use Rattle.dexspec.specs.Bytes.{ushort}
-use Rattle.dexspec.specs.Aside.Writing.{Puts}
+use Rattle.dexspec.specs.internal.Writing.{Puts}
 use Rattle.std.specs.List.{All, AllZip, flat_map}
 use Rattle.std.specs.Option.{IsSome, option_map_or}
 use Rattle.std.proofs.lemmas.List.Elements.{All-nil, All-cons, All-head, All-tail}
@@ -18,10 +18,10 @@ use Rattle.dexspec.proofs.lists.InOrder.{Rises-from_rises, rank-get_or}
 use Rattle.dexspec.proofs.merge.SymbolOrders.{text_total, proto_total, field_total, method_total}
 use Rattle.dexpool.specs.declared.symbols.SymbolKind.{SymbolKind}
 use Rattle.dexpool.specs.declared.symbols.SymbolKind.TheVariants as kinds
-use Rattle.dexpool.specs.Numberings.{IsAt, IsNumbered, IsOfKind, AreRising, AreMarksOf, Maps, image_of, Leads, AllLead}
+use Rattle.dexpool.specs.Numberings.{IsAt, IsNumbered, IsOfKind, AreRising, AreMarksOf, Maps, image_of, MapsTo, AllMapTo}
 use Rattle.dexpool.specs.declared.marks.Marks.{Marks}
 use Rattle.dexpool.specs.Uses.{Use, HasMark, marks_of, IsUseOf}
-use Rattle.dexinsn.specs.Numbered.{NumberedPiece, Instruction, Payload, StandsFor, StandFor, kind_in, kind_of_pool, uses_of, numbered_units, numbered_bytes, HasImage, HasPlace, renumbered_piece}
+use Rattle.dexinsn.specs.Numbered.{NumberedPiece, Instruction, Payload, Denotes, Denote, kind_in, kind_of_pool, uses_of, numbered_units, numbered_bytes, HasImage, HasPlace, renumbered_piece}
 
 no_proto : Proto
 no_proto = record { return_type = []; parameters = [] }
@@ -40,7 +40,7 @@ index_is m n (ProtoSymbol s) r h = ap (λ t. rank proto_cmp t m.protos) (sym (h.
 index_is m n (FieldSymbol s) r h = ap (λ t. rank field_cmp t m.fields) (sym (h.is no_field)) ∙ rank-get_or field_cmp field_total m.fields n no_field (Rises-from_rises field_cmp field_total m.fields r.fields_rise) h.within
 index_is m n (MethodSymbol s) r h = ap (λ t. rank method_cmp t m.methods) (sym (h.is no_method)) ∙ rank-get_or method_cmp method_total m.methods n no_method (Rises-from_rises method_cmp method_total m.methods r.methods_rise) h.within
 
-piece_is : (m : Mentions) (p : NumberedPiece) (q : Piece) → AreRising m → StandsFor m p q → numbered_units p ≡ piece_units m q
+piece_is : (m : Mentions) (p : NumberedPiece) (q : Piece) → AreRising m → Denotes m p q → numbered_units p ≡ piece_units m q
 piece_is m (Instruction us None) (symbolic.Instruction xs None) r h = h
 piece_is m (Instruction us (Some n)) (symbolic.Instruction xs (Some s)) r h = ap (with_index n) h.0 ∙ ap (λ (k : ℕ). with_index k xs) (sym (index_is m n s r h.2))
 piece_is m (Payload us) (symbolic.Payload xs) r h = h
@@ -51,7 +51,7 @@ piece_is m (Instruction us (Some n)) (symbolic.Payload xs) r h = absurd h
 piece_is m (Payload us) (symbolic.Instruction xs s) r h = absurd h
 
 -- the units are those of the symbolic pieces, where each index is the rank of its symbol
-pub units_are : (m : Mentions) (ps : List NumberedPiece) (qs : List Piece) → AreRising m → StandFor m ps qs → flat_map numbered_units ps ≡ flat_map (piece_units m) qs
+pub units_are : (m : Mentions) (ps : List NumberedPiece) (qs : List Piece) → AreRising m → Denote m ps qs → flat_map numbered_units ps ≡ flat_map (piece_units m) qs
 units_are m [] [] r h = refl
 units_are m [] (q ∷ qs) r h = absurd h
 units_are m (p ∷ ps) [] r h = absurd h
@@ -60,40 +60,40 @@ units_are m (p ∷ ps) (q ∷ qs) r h =
 
 -- ---- other numbers
 
-lead_at : {X : Type 0} (from to : List X) (images : List (Option ℕ)) (i j : ℕ) (d x : X) → Leads from to images → IsAt from i x → get_or images i None ≡ Some j → IsAt to j x
-lead_at from to images i j d x l h e = subst (IsAt to j) (h.is d) (l.same i j d e)
+mapped_at : {X : Type 0} (from to : List X) (images : List (Option ℕ)) (i j : ℕ) (d x : X) → MapsTo from to images → IsAt from i x → get_or images i None ≡ Some j → IsAt to j x
+mapped_at from to images i j d x l h e = subst (IsAt to j) (h.is d) (l.same i j d e)
 
-leads : (m n : Mentions) (r : Maps) (k : SymbolKind) (i j : ℕ) (s : Symbol) → AllLead m n r → k ≡ kind_of_pool (pool_of s) → IsNumbered m i s → image_of r k i ≡ Some j → IsNumbered n j s
-leads m n r k i j (TextSymbol s) l kind h e = lead_at m.texts n.texts r.texts i j [] s l.texts_lead h (ap (λ x. image_of r x i) (sym kind) ∙ e)
-leads m n r k i j (TypeSymbol s) l kind h e = lead_at m.types n.types r.types i j [] s l.types_lead h (ap (λ x. image_of r x i) (sym kind) ∙ e)
-leads m n r k i j (ProtoSymbol s) l kind h e = lead_at m.protos n.protos r.protos i j no_proto s l.protos_lead h (ap (λ x. image_of r x i) (sym kind) ∙ e)
-leads m n r k i j (FieldSymbol s) l kind h e = lead_at m.fields n.fields r.fields i j no_field s l.fields_lead h (ap (λ x. image_of r x i) (sym kind) ∙ e)
-leads m n r k i j (MethodSymbol s) l kind h e = lead_at m.methods n.methods r.methods i j no_method s l.methods_lead h (ap (λ x. image_of r x i) (sym kind) ∙ e)
+maps_to : (m n : Mentions) (r : Maps) (k : SymbolKind) (i j : ℕ) (s : Symbol) → AllMapTo m n r → k ≡ kind_of_pool (pool_of s) → IsNumbered m i s → image_of r k i ≡ Some j → IsNumbered n j s
+maps_to m n r k i j (TextSymbol s) l kind h e = mapped_at m.texts n.texts r.texts i j [] s l.texts_mapped h (ap (λ x. image_of r x i) (sym kind) ∙ e)
+maps_to m n r k i j (TypeSymbol s) l kind h e = mapped_at m.types n.types r.types i j [] s l.types_mapped h (ap (λ x. image_of r x i) (sym kind) ∙ e)
+maps_to m n r k i j (ProtoSymbol s) l kind h e = mapped_at m.protos n.protos r.protos i j no_proto s l.protos_mapped h (ap (λ x. image_of r x i) (sym kind) ∙ e)
+maps_to m n r k i j (FieldSymbol s) l kind h e = mapped_at m.fields n.fields r.fields i j no_field s l.fields_mapped h (ap (λ x. image_of r x i) (sym kind) ∙ e)
+maps_to m n r k i j (MethodSymbol s) l kind h e = mapped_at m.methods n.methods r.methods i j no_method s l.methods_mapped h (ap (λ x. image_of r x i) (sym kind) ∙ e)
 
 kind_is : (us : List ℕ) (pool : Pool) → index_pool us ≡ Some pool → kind_in us ≡ kind_of_pool pool
 kind_is us pool e = ap (λ (o : Option Pool). option_map_or kind_of_pool o kinds.Text) e
 
-renumbered_by : (m n : Mentions) (r : Maps) (us xs : List ℕ) (i : ℕ) (s : Symbol) (o : Option ℕ) → AllLead m n r → image_of r (kind_in us) i ≡ o → IsSome o → StandsFor m (Instruction us (Some i)) (symbolic.Instruction xs (Some s)) → StandsFor n (Instruction us o) (symbolic.Instruction xs (Some s))
+renumbered_by : (m n : Mentions) (r : Maps) (us xs : List ℕ) (i : ℕ) (s : Symbol) (o : Option ℕ) → AllMapTo m n r → image_of r (kind_in us) i ≡ o → IsSome o → Denotes m (Instruction us (Some i)) (symbolic.Instruction xs (Some s)) → Denotes n (Instruction us o) (symbolic.Instruction xs (Some s))
 renumbered_by m n r us xs i s None l e some h = absurd cc
-renumbered_by m n r us xs i s (Some j) l e some h = (h.0, h.1, leads m n r (kind_in us) i j s l (kind_is us (pool_of s) h.1) h.2 e)
+renumbered_by m n r us xs i s (Some j) l e some h = (h.0, h.1, maps_to m n r (kind_in us) i j s l (kind_is us (pool_of s) h.1) h.2 e)
 
-renumbered_stands : (m n : Mentions) (r : Maps) (p : NumberedPiece) (q : Piece) → AllLead m n r → HasImage r p → StandsFor m p q → StandsFor n (renumbered_piece r p) q
-renumbered_stands m n r (Instruction us None) (symbolic.Instruction xs None) l image h = h
-renumbered_stands m n r (Instruction us (Some i)) (symbolic.Instruction xs (Some s)) l image h = renumbered_by m n r us xs i s (image_of r (kind_in us) i) l refl image h
-renumbered_stands m n r (Payload us) (symbolic.Payload xs) l image h = h
-renumbered_stands m n r (Instruction us None) (symbolic.Instruction xs (Some s)) l image h = absurd h
-renumbered_stands m n r (Instruction us None) (symbolic.Payload xs) l image h = absurd h
-renumbered_stands m n r (Instruction us (Some i)) (symbolic.Instruction xs None) l image h = absurd h
-renumbered_stands m n r (Instruction us (Some i)) (symbolic.Payload xs) l image h = absurd h
-renumbered_stands m n r (Payload us) (symbolic.Instruction xs s) l image h = absurd h
+renumbered_denotes : (m n : Mentions) (r : Maps) (p : NumberedPiece) (q : Piece) → AllMapTo m n r → HasImage r p → Denotes m p q → Denotes n (renumbered_piece r p) q
+renumbered_denotes m n r (Instruction us None) (symbolic.Instruction xs None) l image h = h
+renumbered_denotes m n r (Instruction us (Some i)) (symbolic.Instruction xs (Some s)) l image h = renumbered_by m n r us xs i s (image_of r (kind_in us) i) l refl image h
+renumbered_denotes m n r (Payload us) (symbolic.Payload xs) l image h = h
+renumbered_denotes m n r (Instruction us None) (symbolic.Instruction xs (Some s)) l image h = absurd h
+renumbered_denotes m n r (Instruction us None) (symbolic.Payload xs) l image h = absurd h
+renumbered_denotes m n r (Instruction us (Some i)) (symbolic.Instruction xs None) l image h = absurd h
+renumbered_denotes m n r (Instruction us (Some i)) (symbolic.Payload xs) l image h = absurd h
+renumbered_denotes m n r (Payload us) (symbolic.Instruction xs s) l image h = absurd h
 
 -- the pieces denote the same symbolic ones
-pub renumbered_stand : (m n : Mentions) (r : Maps) (ps : List NumberedPiece) (qs : List Piece) → AllLead m n r → All (HasImage r) ps → StandFor m ps qs → StandFor n (map (renumbered_piece r) ps) qs
-renumbered_stand m n r [] [] l images h = tt
-renumbered_stand m n r [] (q ∷ qs) l images h = absurd h
-renumbered_stand m n r (p ∷ ps) [] l images h = absurd h
-renumbered_stand m n r (p ∷ ps) (q ∷ qs) l images h =
-    (renumbered_stands m n r p q l (All-head (HasImage r) p ps images) h.0, renumbered_stand m n r ps qs l (All-tail (HasImage r) p ps images) h.1)
+pub renumbered_denote : (m n : Mentions) (r : Maps) (ps : List NumberedPiece) (qs : List Piece) → AllMapTo m n r → All (HasImage r) ps → Denote m ps qs → Denote n (map (renumbered_piece r) ps) qs
+renumbered_denote m n r [] [] l images h = tt
+renumbered_denote m n r [] (q ∷ qs) l images h = absurd h
+renumbered_denote m n r (p ∷ ps) [] l images h = absurd h
+renumbered_denote m n r (p ∷ ps) (q ∷ qs) l images h =
+    (renumbered_denotes m n r p q l (All-head (HasImage r) p ps images) h.0, renumbered_denote m n r ps qs l (All-tail (HasImage r) p ps images) h.1)
 
 image_of_place : (r : Maps) (p : NumberedPiece) → HasPlace r p → HasImage r p
 image_of_place r (Instruction us None) h = tt
@@ -107,26 +107,26 @@ images_of_places r (p ∷ ps) h = All-cons (HasImage r) p ps (image_of_place r p
 
 -- ---- the symbols that occur
 
-use_stands : (m : Mentions) (us : List ℕ) (i : ℕ) (s : Symbol) → kind_in us ≡ kind_of_pool (pool_of s) → IsNumbered m i s → IsUseOf m (record { kind = kind_in us; number = i }) s
-use_stands m us i (TextSymbol s) e h = (h, subst (λ k. IsOfKind k (TextSymbol s)) (sym e) tt)
-use_stands m us i (TypeSymbol s) e h = (h, subst (λ k. IsOfKind k (TypeSymbol s)) (sym e) tt)
-use_stands m us i (ProtoSymbol s) e h = (h, subst (λ k. IsOfKind k (ProtoSymbol s)) (sym e) tt)
-use_stands m us i (FieldSymbol s) e h = (h, subst (λ k. IsOfKind k (FieldSymbol s)) (sym e) tt)
-use_stands m us i (MethodSymbol s) e h = (h, subst (λ k. IsOfKind k (MethodSymbol s)) (sym e) tt)
+use_encoded : (m : Mentions) (us : List ℕ) (i : ℕ) (s : Symbol) → kind_in us ≡ kind_of_pool (pool_of s) → IsNumbered m i s → IsUseOf m (record { kind = kind_in us; number = i }) s
+use_encoded m us i (TextSymbol s) e h = (h, subst (λ k. IsOfKind k (TextSymbol s)) (sym e) tt)
+use_encoded m us i (TypeSymbol s) e h = (h, subst (λ k. IsOfKind k (TypeSymbol s)) (sym e) tt)
+use_encoded m us i (ProtoSymbol s) e h = (h, subst (λ k. IsOfKind k (ProtoSymbol s)) (sym e) tt)
+use_encoded m us i (FieldSymbol s) e h = (h, subst (λ k. IsOfKind k (FieldSymbol s)) (sym e) tt)
+use_encoded m us i (MethodSymbol s) e h = (h, subst (λ k. IsOfKind k (MethodSymbol s)) (sym e) tt)
 
 -- the symbols that occur are those of the symbolic pieces, one for one
-pub uses_stand : (m : Mentions) (ps : List NumberedPiece) (qs : List Piece) → StandFor m ps qs → AllZip (IsUseOf m) (uses_of ps) (flat_map piece_symbols qs)
-uses_stand m [] [] h = tt
-uses_stand m [] (q ∷ qs) h = absurd h
-uses_stand m (p ∷ ps) [] h = absurd h
-uses_stand m (Instruction us None ∷ ps) (symbolic.Instruction xs None ∷ qs) h = uses_stand m ps qs h.1
-uses_stand m (Instruction us (Some i) ∷ ps) (symbolic.Instruction xs (Some s) ∷ qs) h = (use_stands m us i s (kind_is us (pool_of s) h.0.1) h.0.2, uses_stand m ps qs h.1)
-uses_stand m (Payload us ∷ ps) (symbolic.Payload xs ∷ qs) h = uses_stand m ps qs h.1
-uses_stand m (Instruction us None ∷ ps) (symbolic.Instruction xs (Some s) ∷ qs) h = absurd h.0
-uses_stand m (Instruction us None ∷ ps) (symbolic.Payload xs ∷ qs) h = absurd h.0
-uses_stand m (Instruction us (Some i) ∷ ps) (symbolic.Instruction xs None ∷ qs) h = absurd h.0
-uses_stand m (Instruction us (Some i) ∷ ps) (symbolic.Payload xs ∷ qs) h = absurd h.0
-uses_stand m (Payload us ∷ ps) (symbolic.Instruction xs s ∷ qs) h = absurd h.0
+pub uses_encoded : (m : Mentions) (ps : List NumberedPiece) (qs : List Piece) → Denote m ps qs → AllZip (IsUseOf m) (uses_of ps) (flat_map piece_symbols qs)
+uses_encoded m [] [] h = tt
+uses_encoded m [] (q ∷ qs) h = absurd h
+uses_encoded m (p ∷ ps) [] h = absurd h
+uses_encoded m (Instruction us None ∷ ps) (symbolic.Instruction xs None ∷ qs) h = uses_encoded m ps qs h.1
+uses_encoded m (Instruction us (Some i) ∷ ps) (symbolic.Instruction xs (Some s) ∷ qs) h = (use_encoded m us i s (kind_is us (pool_of s) h.0.1) h.0.2, uses_encoded m ps qs h.1)
+uses_encoded m (Payload us ∷ ps) (symbolic.Payload xs ∷ qs) h = uses_encoded m ps qs h.1
+uses_encoded m (Instruction us None ∷ ps) (symbolic.Instruction xs (Some s) ∷ qs) h = absurd h.0
+uses_encoded m (Instruction us None ∷ ps) (symbolic.Payload xs ∷ qs) h = absurd h.0
+uses_encoded m (Instruction us (Some i) ∷ ps) (symbolic.Instruction xs None ∷ qs) h = absurd h.0
+uses_encoded m (Instruction us (Some i) ∷ ps) (symbolic.Payload xs ∷ qs) h = absurd h.0
+uses_encoded m (Payload us ∷ ps) (symbolic.Instruction xs s ∷ qs) h = absurd h.0
 
 -- so are the bytes
 pub bytes_put : {T E : Type 0} (m : Mentions) (ps : List NumberedPiece) (qs : List Piece) (old new : Vec ℕ) (r : Result T E) → flat_map numbered_units ps ≡ flat_map (piece_units m) qs → Puts (numbered_bytes ps) old new r → Puts (flat_map ushort (flat_map (piece_units m) qs)) old new r
@@ -152,5 +152,5 @@ all_marked m marks [] ss are h = All-nil (HasMark marks)
 all_marked m marks (u ∷ us) [] are h = absurd h
 all_marked m marks (u ∷ us) (s ∷ ss) are h = All-cons (HasMark marks) u us (mark_for m marks u s are h.0) (all_marked m marks us ss are h.1)
 
-pub marks_there : (m : Mentions) (marks : Marks) (ps : List NumberedPiece) (qs : List Piece) → AreMarksOf m marks → StandFor m ps qs → All (HasMark marks) (uses_of ps)
-marks_there m marks ps qs are h = all_marked m marks (uses_of ps) (flat_map piece_symbols qs) are (uses_stand m ps qs h)
+pub marks_there : (m : Mentions) (marks : Marks) (ps : List NumberedPiece) (qs : List Piece) → AreMarksOf m marks → Denote m ps qs → All (HasMark marks) (uses_of ps)
+marks_there m marks ps qs are h = all_marked m marks (uses_of ps) (flat_map piece_symbols qs) are (uses_encoded m ps qs h)

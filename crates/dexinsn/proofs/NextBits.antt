@@ -11,11 +11,11 @@ use Rattle.dexinsn.proofs.StartBits.{low_part}
 
 -- no bit is set from one unit up to another
 pub record NoneUpTo (words : List ℕ) (from at : ℕ) : Type 0 where
-  pub behind : from ≤ at
+  pub following : from ≤ at
   pub none : (k : ℕ) → from ≤ k → k < at → HasBit words k → ⊥
 
 pub none_yet : (words : List ℕ) (from : ℕ) → NoneUpTo words from from
-none_yet words from = record { behind = omega arith; none = λ k le lt has. omega (arith, le, lt) }
+none_yet words from = record { following = omega arith; none = λ k le lt has. omega (arith, le, lt) }
 
 -- the bits of a word from one on
 rest_of : (words : List ℕ) (at k : ℕ) → at ≤ k → k / 64 ≡ at / 64 → HasBit words k → bit_at (slice_index words (at / 64) / 2 ^ (at % 64)) (k - at) ≡ 1
@@ -33,7 +33,7 @@ bit_back words at k le word is =
 -- nothing is left of a word
 pub word_done : (words : List ℕ) (from at : ℕ) → NoneUpTo words from at → slice_index words (at / 64) / 2 ^ (at % 64) ≡ 0 → NoneUpTo words from ((at / 64 + 1) * 64)
 word_done words from at h is = record {
-  behind = let b = h.behind in omega arith;
+  following = let b = h.following in omega arith;
   none = λ k le lt has. elim (cases_lt k at) [
     | inl below ↦ h.none k le below has
     | inr beyond ↦ let one = rest_of words at k beyond (omega arith) has in let none = ap (λ w. bit_at w (k - at)) is ∙ bit_at-zero (k - at) in omega (arith, one, none)
@@ -55,7 +55,7 @@ word_has words from at rest h is some fits =
     ] in
     let same : at + tz - at ≡ tz = omega arith in
     record {
-      behind = let b = h.behind in omega arith;
+      following = let b = h.following in omega arith;
       has = bit_back words at (at + tz) (omega arith) (omega (arith, in_word)) (ap (bit_at (slice_index words (at / 64) / 2 ^ (at % 64))) same ∙ here);
       first = λ k le lt has. elim (cases_lt k at) [
         | inl below ↦ h.none k le below has

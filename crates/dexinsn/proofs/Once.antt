@@ -12,7 +12,7 @@ use Rattle.std.specs.declared.alloc.Global.{Global}
 use Rattle.dexinsn.specs.declared.code.Cut.{Cut as CutOfCode}
 use Rattle.dexinsn.specs.declared.code.CodeFault.{CodeFault}
 use Rattle.dexinsn.specs.declared.code.CodeFault.TheVariants.{Empty, Piece, Target, Memory}
-use Rattle.dexinsn.specs.Split.{cuts_of, units_of_all, first_astray, first_astray_of, GoesAstrayAt, IsFault, IsCutFault, IsAnswer, IsAnswered}
+use Rattle.dexinsn.specs.Split.{cuts_of, units_of_all, first_bad_target, first_bad_target_of, HasBadTargetAt, IsFault, IsCutFault, IsAnswer, IsAnswered}
 use Rattle.dexinsn.proofs.Sizes.{piece_size-fits}
 
 -- the pieces, and what is left, where no piece begins
@@ -107,31 +107,31 @@ breaks_once us n m b d =
     omega arith
 
 -- where all targets are right no piece is found with a wrong one
-none_astray : (us : List ℕ) (cs some : List Cut) → All (λ c. IsTrue (has_right_targets us cs c)) some → first_astray_of us cs some ≡ None
-none_astray us cs [] right = refl
-none_astray us cs (c ∷ some) right =
+no_bad_target : (us : List ℕ) (cs some : List Cut) → All (λ c. IsTrue (has_right_targets us cs c)) some → first_bad_target_of us cs some ≡ None
+no_bad_target us cs [] right = refl
+no_bad_target us cs (c ∷ some) right =
     ap (λ (t : Bool). option_map (λ (d : Cut). d.unit) (cond (not t) (Some c) (find (λ (d : Cut). not (has_right_targets us cs d)) some))) (All-head (λ d. IsTrue (has_right_targets us cs d)) c some right)
-    ∙ none_astray us cs some (All-tail (λ d. IsTrue (has_right_targets us cs d)) c some right)
+    ∙ no_bad_target us cs some (All-tail (λ d. IsTrue (has_right_targets us cs d)) c some right)
 
 -- code has no instruction with a wrong target
-not_astray : (us : List ℕ) (cs : List Cut) (n : ℕ) → IsCode us cs → GoesAstrayAt us n → ⊥
-not_astray us cs n code a =
+is_no_bad_target : (us : List ℕ) (cs : List Cut) (n : ℕ) → IsCode us cs → HasBadTargetAt us n → ⊥
+is_no_bad_target us cs n code a =
     let same : cs ≡ a.cuts = whole_once us cs a.cuts code.cut a.cut in
-    let both : None ≡ Some n = sym (none_astray us cs cs code.targets) ∙ ap (first_astray us) same ∙ a.first in
+    let both : None ≡ Some n = sym (no_bad_target us cs cs code.targets) ∙ ap (first_bad_target us) same ∙ a.first in
     cc
 
 -- one instruction is the first with a wrong target
-astray_once : (us : List ℕ) (n m : ℕ) → GoesAstrayAt us n → GoesAstrayAt us m → n ≡ m
-astray_once us n m a b = same_Some n m (sym a.first ∙ ap (first_astray us) (whole_once us a.cuts b.cuts a.cut b.cut) ∙ b.first)
+bad_target_once : (us : List ℕ) (n m : ℕ) → HasBadTargetAt us n → HasBadTargetAt us m → n ≡ m
+bad_target_once us n m a b = same_Some n m (sym a.first ∙ ap (first_bad_target us) (whole_once us a.cuts b.cuts a.cut b.cut) ∙ b.first)
 
 -- where there are no units there are no pieces
 empty_cut : (us : List ℕ) (cs : List Cut) → us ≡ [] → AreCut 0 us cs [] → cs ≡ []
 empty_cut us cs empty cut = whole_once us cs [] cut empty
 
 -- where there are no units no target is wrong
-empty_astray : (us : List ℕ) (n : ℕ) → us ≡ [] → GoesAstrayAt us n → ⊥
-empty_astray us n empty a =
-    let both : None ≡ Some n = sym (ap (first_astray us) (empty_cut us a.cuts empty a.cut)) ∙ a.first in
+empty_bad_target : (us : List ℕ) (n : ℕ) → us ≡ [] → HasBadTargetAt us n → ⊥
+empty_bad_target us n empty a =
+    let both : None ≡ Some n = sym (ap (first_bad_target us) (empty_cut us a.cuts empty a.cut)) ∙ a.first in
     cc
 
 -- where there are no units no cut breaks
@@ -153,22 +153,22 @@ pub answer_once : (us : List ℕ) (a b : Result (List Cut) CodeFault) → IsAnsw
 answer_once us (Ok cs) (Ok ds) x y = ap Ok (whole_once us cs ds x.cut y.cut)
 answer_once us (Ok cs) (Err Empty) x y = absurd (empty_code us cs y x)
 answer_once us (Ok cs) (Err (Piece n)) x y = absurd (not_both us cs n x.cut y)
-answer_once us (Ok cs) (Err (Target n)) x y = absurd (not_astray us cs n x y)
+answer_once us (Ok cs) (Err (Target n)) x y = absurd (is_no_bad_target us cs n x y)
 answer_once us (Ok cs) (Err Memory) x y = absurd y
 answer_once us (Err Empty) (Ok ds) x y = absurd (empty_code us ds x y)
 answer_once us (Err Empty) (Err Empty) x y = refl
 answer_once us (Err Empty) (Err (Piece m)) x y = absurd (empty_breaks us m x y)
-answer_once us (Err Empty) (Err (Target m)) x y = absurd (empty_astray us m x y)
+answer_once us (Err Empty) (Err (Target m)) x y = absurd (empty_bad_target us m x y)
 answer_once us (Err Empty) (Err Memory) x y = absurd y
 answer_once us (Err (Piece n)) (Ok ds) x y = absurd (not_both us ds n y.cut x)
 answer_once us (Err (Piece n)) (Err Empty) x y = absurd (empty_breaks us n y x)
 answer_once us (Err (Piece n)) (Err (Piece m)) x y = ap (λ (k : ℕ). Err (Piece k)) (breaks_once us n m x y)
 answer_once us (Err (Piece n)) (Err (Target m)) x y = absurd (not_both us y.cuts n y.cut x)
 answer_once us (Err (Piece n)) (Err Memory) x y = absurd y
-answer_once us (Err (Target n)) (Ok ds) x y = absurd (not_astray us ds n y x)
-answer_once us (Err (Target n)) (Err Empty) x y = absurd (empty_astray us n y x)
+answer_once us (Err (Target n)) (Ok ds) x y = absurd (is_no_bad_target us ds n y x)
+answer_once us (Err (Target n)) (Err Empty) x y = absurd (empty_bad_target us n y x)
 answer_once us (Err (Target n)) (Err (Piece m)) x y = absurd (not_both us x.cuts m x.cut y)
-answer_once us (Err (Target n)) (Err (Target m)) x y = ap (λ (k : ℕ). Err (Target k)) (astray_once us n m x y)
+answer_once us (Err (Target n)) (Err (Target m)) x y = ap (λ (k : ℕ). Err (Target k)) (bad_target_once us n m x y)
 answer_once us (Err (Target n)) (Err Memory) x y = absurd y
 answer_once us (Err Memory) b x y = absurd x
 

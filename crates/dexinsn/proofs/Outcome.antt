@@ -8,10 +8,10 @@ use Rattle.std.proofs.lemmas.List.{length-map}
 use Rattle.std.proofs.Math.ListN.{get_or-map}
 use Rattle.dexspec.specs.Pieces.{Cut, IsCode, has_right_targets, piece_size}
 use Rattle.dexinsn.specs.declared.code.Cut.{Cut as CutOfCode}
-use Rattle.dexinsn.specs.Split.{GoesAstrayAt, IsPieceAt, cut_of, cuts_of, first_astray, first_astray_of}
+use Rattle.dexinsn.specs.Split.{HasBadTargetAt, IsPieceAt, cut_of, cuts_of, first_bad_target, first_bad_target_of}
 use Rattle.dexinsn.specs.Checking.{AreCutWith, AreNoted}
 use Rattle.dexinsn.proofs.Passed.{whole_cut}
-use Rattle.dexinsn.proofs.Leading.{bits_noted}
+use Rattle.dexinsn.proofs.NotedTargets.{bits_noted}
 
 -- where no element fails the test, each passes
 found_none : {X : Type 0} (test : X → Bool) (unit : X → ℕ) (x : X) (xs : List X) (b : Bool) → test x ≡ b → option_map unit (cond (not b) (Some x) (find (λ y. not (test y)) xs)) ≡ None
@@ -23,15 +23,15 @@ All-find : {X : Type 0} (test : X → Bool) (unit : X → ℕ) (xs : List X) →
 All-find test unit [] none = All-nil (λ y. IsTrue (test y))
 All-find test unit (x ∷ xs) none = found_none test unit x xs (test x) refl none (All-find test unit xs)
 
-pub cut_code : (us : List ℕ) (cs : List Cut) (starts noted : List ℕ) → 0 < length us → AreCutWith us cs starts noted (length us) → first_astray us cs ≡ None → IsCode us cs
+pub cut_code : (us : List ℕ) (cs : List Cut) (starts noted : List ℕ) → 0 < length us → AreCutWith us cs starts noted (length us) → first_bad_target us cs ≡ None → IsCode us cs
 cut_code us cs starts noted some h none = record {
   some = some;
   cut = whole_cut us cs starts noted h;
   targets = All-find (has_right_targets us cs) (λ c. c.unit) cs none;
 }
 
-pub cut_astray : (us : List ℕ) (cs : List Cut) (starts noted : List ℕ) (n : ℕ) → AreCutWith us cs starts noted (length us) → first_astray us cs ≡ Some n → GoesAstrayAt us n
-cut_astray us cs starts noted n h first = record { cuts = cs; cut = whole_cut us cs starts noted h; first = first }
+pub cut_bad_target : (us : List ℕ) (cs : List Cut) (starts noted : List ℕ) (n : ℕ) → AreCutWith us cs starts noted (length us) → first_bad_target us cs ≡ Some n → HasBadTargetAt us n
+cut_bad_target us cs starts noted n h first = record { cuts = cs; cut = whole_cut us cs starts noted h; first = first }
 
 -- each bit is that of a piece
 pub cut_noted : (us : List ℕ) (cs : List Cut) (starts noted : List ℕ) → AreCutWith us cs starts noted (length us) → AreNoted us noted
@@ -42,18 +42,18 @@ cut_noted us cs starts noted h = bits_noted us cs noted h.pieces h.noted_are
 rest_is : (cuts : List CutOfCode) (i : ℕ) (d : CutOfCode) → i < length cuts → cuts_of (drop i cuts) ≡ cut_of (get_or cuts i d) ∷ cuts_of (drop (i + 1) cuts)
 rest_is cuts i d lt = ap cuts_of (drop-cons cuts i d lt ∙ ap (λ (k : ℕ). get_or cuts i d ∷ drop k cuts) (sym (add-one i)))
 
-pub astray_here : (us : List ℕ) (cs : List Cut) (cuts : List CutOfCode) (i : ℕ) (d : CutOfCode) → i < length cuts → false ≡ has_right_targets us cs (cut_of (get_or cuts i d)) → first_astray_of us cs (cuts_of (drop i cuts)) ≡ Some (get_or cuts i d).unit
-astray_here us cs cuts i d lt wrong =
+pub bad_target_here : (us : List ℕ) (cs : List Cut) (cuts : List CutOfCode) (i : ℕ) (d : CutOfCode) → i < length cuts → false ≡ has_right_targets us cs (cut_of (get_or cuts i d)) → first_bad_target_of us cs (cuts_of (drop i cuts)) ≡ Some (get_or cuts i d).unit
+bad_target_here us cs cuts i d lt wrong =
     let c : Cut = cut_of (get_or cuts i d) in
     let rest : List Cut = cuts_of (drop (i + 1) cuts) in
-    ap (first_astray_of us cs) (rest_is cuts i d lt)
+    ap (first_bad_target_of us cs) (rest_is cuts i d lt)
     ∙ ap (λ (b : Bool). option_map (λ (e : Cut). e.unit) (cond (not b) (Some c) (find (λ e. not (has_right_targets us cs e)) rest))) (sym wrong)
 
-pub astray_on : (us : List ℕ) (cs : List Cut) (cuts : List CutOfCode) (i : ℕ) (d : CutOfCode) → i < length cuts → true ≡ has_right_targets us cs (cut_of (get_or cuts i d)) → first_astray_of us cs (cuts_of (drop i cuts)) ≡ first_astray_of us cs (cuts_of (drop (i + 1) cuts))
-astray_on us cs cuts i d lt right =
+pub bad_target_on : (us : List ℕ) (cs : List Cut) (cuts : List CutOfCode) (i : ℕ) (d : CutOfCode) → i < length cuts → true ≡ has_right_targets us cs (cut_of (get_or cuts i d)) → first_bad_target_of us cs (cuts_of (drop i cuts)) ≡ first_bad_target_of us cs (cuts_of (drop (i + 1) cuts))
+bad_target_on us cs cuts i d lt right =
     let c : Cut = cut_of (get_or cuts i d) in
     let rest : List Cut = cuts_of (drop (i + 1) cuts) in
-    ap (first_astray_of us cs) (rest_is cuts i d lt)
+    ap (first_bad_target_of us cs) (rest_is cuts i d lt)
     ∙ ap (λ (b : Bool). option_map (λ (e : Cut). e.unit) (cond (not b) (Some c) (find (λ e. not (has_right_targets us cs e)) rest))) (sym right)
 
 -- each of the pieces begins where it says

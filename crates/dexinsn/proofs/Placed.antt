@@ -18,7 +18,7 @@ use Rattle.dexinsn.specs.declared.payload.PayloadKind.TheVariants.{PackedSwitch,
 use Rattle.dexinsn.specs.Payload.{ident_of}
 use Rattle.dexinsn.specs.internal.LongSwitches.{HasBit, HasPlace}
 use Rattle.dexinsn.specs.Split.{starts_with}
-use Rattle.dexinsn.specs.Checking.{AreBitsOf, is_noted, leads}
+use Rattle.dexinsn.specs.Checking.{AreBitsOf, is_noted, has_targets}
 use Rattle.dexinsn.proofs.StartBits.{same_answer}
 use Rattle.dexinsn.proofs.Starts.{starts_with-negsuc, starts_with-pos}
 
@@ -54,7 +54,7 @@ bit_is words unit z at = (λ e. subst (HasPlace words) (sym at) ((read_bit words
 -- ---- payloads
 
 payload_noted : (u : ℕ) → is_payload_ident u ≡ true → is_noted u ≡ true
-payload_noted u is = ap (λ (b : Bool). b || leads u) is
+payload_noted u is = ap (λ (b : Bool). b || has_targets u) is
 
 second_true : (a b : Bool) → (a && b) ≡ true → b ≡ true
 second_true true b e = e

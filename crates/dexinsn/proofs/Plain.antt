@@ -157,7 +157,7 @@ some_units u row row_is least =
 
 pub plain_step : (us : List ℕ) (m : Mentions) (at : ℕ) (row : Row) (size count : ℕ) (noted : Bool) → IsRowOf (low_byte (slice_index us at)) row → size ≡ row.units → at + size < length us → slice_index us at ≤ row.greatest → slice_index us (at + 1) < limit_of m (kind_of_index row.index) → slice_index us (at + 1) < 2 ^ 16
     → count ≡ count_of_index (kind_of_index row.index) → noted ≡ row.branches → IsStep us m at (record { units = size; indices = count; is_instruction = true; is_noted = noted })
-plain_step us m at row size count noted row_is size_is within least below small count_is leads =
+plain_step us m at row size count noted row_is size_is within least below small count_is has_targets =
     let u = slice_index us at in
     let least_at : u ≤ greatest_at (low_byte u) = omega (arith, least, row_is.greatest) in
     let there = opcode_there u (opcode_of (low_byte u)) refl least_at in
@@ -176,5 +176,5 @@ plain_step us m at row size count noted row_is size_is within least below small 
       some = omega (arith, units, units_in-some o.format);
       index = subst (λ (n : ℕ). IndexCount us m at n) (ap count_of_index (sym index) ∙ sym count_is) counted;
       start_is = rw ident refl;
-      noted_is = leads ∙ row_is.branches ∙ rw ident refl;
+      noted_is = has_targets ∙ row_is.branches ∙ rw ident refl;
     }

@@ -12,7 +12,7 @@ use Rattle.dexinsn.specs.declared.pieces.Index.{Index}
 use Rattle.dexinsn.specs.Units.{units_in}
 use Rattle.dexinsn.specs.Split.{IsPieceAt}
 use Rattle.dexinsn.specs.Numbered.{Instruction, Payload, numbered_units, numbered_bytes}
-use Rattle.dexinsn.specs.Stored.{cuts_in, parts_in, piece_with, left_by, pieces_with, with_place, index_places, AreStored, index_units, behind_index, spelled_from, Follow}
+use Rattle.dexinsn.specs.Stored.{cuts_in, parts_in, piece_with, left_by, pieces_with, with_place, index_places, AreStored, index_units, after_index, spelled_from, Follow}
 use Rattle.dexinsn.proofs.Sizes.{Fits, piece_size-fits}
 use Rattle.dexinsn.proofs.IndexRoom.{HasRoom, has_room}
 use Rattle.dexinsn.proofs.Halves.{length_from, ushorts_from}
@@ -37,7 +37,7 @@ put_wide (a ∷ b ∷ c ∷ ys) n m (suc (suc zero)) j long e = absurd (omega ar
 put_wide (a ∷ b ∷ c ∷ ys) n m (suc (suc (suc k))) j long e = let same : k ≡ j = omega arith in ap (λ (x : ℕ). a ∷ n ∷ m ∷ take x ys) same
 
 put_by : (w : Bool) (ys : List ℕ) (n k : ℕ) → HasRoom ys k → is_wide_index ys ≡ w → is_wide_index (take k ys) ≡ w → is_wide_index (with_index 0 (take k ys)) ≡ w
-    → with_index n (with_index 0 (take k ys)) ≡ take 1 ys ++ (index_units w n ++ take (k - behind_index w 0) (drop (behind_index w 0) ys))
+    → with_index n (with_index 0 (take k ys)) ≡ take 1 ys ++ (index_units w n ++ take (k - after_index w 0) (drop (after_index w 0) ys))
 put_by true ys n k r e f g =
     let three : 3 ≤ k = r.three e in
     let j : k ≡ k - 3 + 3 = omega arith in
@@ -56,23 +56,23 @@ follow_less : (us : List ℕ) (from to : ℕ) (is : List Index) → from ≤ to 
 follow_less us from to [] le h = omega (arith, h)
 follow_less us from to (i ∷ is) le h = (omega (arith, h.0), h.1)
 
-pub behind_by : (w : Bool) (at n : ℕ) → (w ≡ true → 3 ≤ n) → 2 ≤ n → behind_index w at ≤ at + n
-behind_by true at n three two = let t : 3 ≤ n = three refl in omega arith
-behind_by false at n three two = omega arith
+pub after_by : (w : Bool) (at n : ℕ) → (w ≡ true → 3 ≤ n) → 2 ≤ n → after_index w at ≤ at + n
+after_by true at n three two = let t : 3 ≤ n = three refl in omega arith
+after_by false at n three two = omega arith
 
-behind_is : (w : Bool) (unit : ℕ) → behind_index w unit ≡ unit + behind_index w 0
-behind_is true unit = refl
-behind_is false unit = refl
+after_is : (w : Bool) (unit : ℕ) → after_index w unit ≡ unit + after_index w 0
+after_is true unit = refl
+after_is false unit = refl
 
 -- units without an index of the list
 skip : (us : List ℕ) (from k : ℕ) (is : List Index) → Follow us (from + k) is → spelled_from us from is ≡ take k (drop from us) ++ spelled_from us (from + k) is
 skip us from k [] h = sym (take-append-drop k (drop from us)) ∙ ap (λ (xs : List ℕ). take k (drop from us) ++ xs) (drop-drop k from us)
 skip us from k (i ∷ is) h =
-    let rest : List ℕ = index_units (is_wide_index (drop i.unit us)) i.number ++ spelled_from us (behind_index (is_wide_index (drop i.unit us)) i.unit) is in
+    let rest : List ℕ = index_units (is_wide_index (drop i.unit us)) i.number ++ spelled_from us (after_index (is_wide_index (drop i.unit us)) i.unit) is in
     let e : i.unit + 1 - from ≡ k + (i.unit + 1 - (from + k)) = omega (arith, h.0) in
-    ap (λ (xs : List ℕ). xs ++ (index_units (is_wide_index (drop i.unit us)) i.number ++ spelled_from us (behind_index (is_wide_index (drop i.unit us)) i.unit) is))
+    ap (λ (xs : List ℕ). xs ++ (index_units (is_wide_index (drop i.unit us)) i.number ++ spelled_from us (after_index (is_wide_index (drop i.unit us)) i.unit) is))
     (ap (λ (n : ℕ). take n (drop from us)) e ∙ take-add k (i.unit + 1 - (from + k)) (drop from us) ∙ ap (λ (xs : List ℕ). take k (drop from us) ++ take (i.unit + 1 - (from + k)) xs) (drop-drop k from us))
-    ∙ append_assoc (take k (drop from us)) (take (i.unit + 1 - (from + k)) (drop (from + k) us)) (index_units (is_wide_index (drop i.unit us)) i.number ++ spelled_from us (behind_index (is_wide_index (drop i.unit us)) i.unit) is)
+    ∙ append_assoc (take k (drop from us)) (take (i.unit + 1 - (from + k)) (drop (from + k) us)) (index_units (is_wide_index (drop i.unit us)) i.number ++ spelled_from us (after_index (is_wide_index (drop i.unit us)) i.unit) is)
 
 follow_by : (o : Option Pool) (us : List ℕ) (c : Cut) (at : ℕ) (places : List ℕ) (is : List Index) → c.unit ≡ at → IsPieceAt us c → index_pool (drop c.unit us) ≡ o → map (λ (i : Index). i.unit) is ≡ with_place o at places
     → ((js : List Index) → map (λ (i : Index). i.unit) js ≡ places → Follow us (at + c.units) js) → Follow us at is
@@ -83,9 +83,9 @@ follow_by (Some pool) us c at places (i ∷ is) unit piece e same on =
     let rest : map (λ (i : Index). i.unit) is ≡ places = cc in
     let there : i.unit ≡ c.unit = here ∙ sym unit in
     let r : HasRoom (drop c.unit us) c.units = has_room c.unit (drop c.unit us) c.units pool piece e in
-    let next : behind_index (is_wide_index (drop c.unit us)) c.unit ≤ c.unit + c.units = behind_by (is_wide_index (drop c.unit us)) c.unit c.units r.three r.two in
-    let same_next : behind_index (is_wide_index (drop i.unit us)) i.unit ≡ behind_index (is_wide_index (drop c.unit us)) c.unit = ap (λ (k : ℕ). behind_index (is_wide_index (drop k us)) k) there in
-    (omega (arith, here), follow_less us (behind_index (is_wide_index (drop i.unit us)) i.unit) (at + c.units) is (omega (arith, next, same_next, unit)) (on is rest))
+    let next : after_index (is_wide_index (drop c.unit us)) c.unit ≤ c.unit + c.units = after_by (is_wide_index (drop c.unit us)) c.unit c.units r.three r.two in
+    let same_next : after_index (is_wide_index (drop i.unit us)) i.unit ≡ after_index (is_wide_index (drop c.unit us)) c.unit = ap (λ (k : ℕ). after_index (is_wide_index (drop k us)) k) there in
+    (omega (arith, here), follow_less us (after_index (is_wide_index (drop i.unit us)) i.unit) (at + c.units) is (omega (arith, next, same_next, unit)) (on is rest))
 
 pub follow_from : (us : List ℕ) (at : ℕ) (cs : List Cut) (is : List Index) → at ≤ length us → AreCut at (drop at us) cs [] → map (λ (i : Index). i.unit) is ≡ index_places at (map (cut_units us) cs) → Follow us at is
 follow_from us at [] [] le cut same = le
@@ -128,22 +128,22 @@ spelled_by (Some pool) us c at parts places (i ∷ is) unit piece e same on =
     let first : slice_index (take c.units (drop i.unit us)) 0 ≡ slice_index (drop i.unit us) 0 = subst (λ (k : ℕ). slice_index (take c.units (drop k us)) 0 ≡ slice_index (drop k us) 0) there (cut_first us c piece) in
     let kept : is_wide_index (take c.units (drop i.unit us)) ≡ is_wide_index (drop i.unit us) = same_wide (take c.units (drop i.unit us)) (drop i.unit us) first in
     let blank : is_wide_index (with_index 0 (take c.units (drop i.unit us))) ≡ is_wide_index (drop i.unit us) = same_wide (with_index 0 (take c.units (drop i.unit us))) (drop i.unit us) (first_kept 0 (take c.units (drop i.unit us)) ∙ first) in
-    let next : behind_index (is_wide_index (drop i.unit us)) i.unit ≤ i.unit + c.units = behind_by (is_wide_index (drop i.unit us)) i.unit c.units rr.three rr.two in
-    let j : behind_index (is_wide_index (drop i.unit us)) i.unit ≡ i.unit + behind_index (is_wide_index (drop i.unit us)) 0 = behind_is (is_wide_index (drop i.unit us)) i.unit in
-    let k : ℕ = c.units - behind_index (is_wide_index (drop i.unit us)) 0 in
-    let to : behind_index (is_wide_index (drop i.unit us)) i.unit + (c.units - behind_index (is_wide_index (drop i.unit us)) 0) ≡ at + c.units = omega (arith, next, j, here) in
+    let next : after_index (is_wide_index (drop i.unit us)) i.unit ≤ i.unit + c.units = after_by (is_wide_index (drop i.unit us)) i.unit c.units rr.three rr.two in
+    let j : after_index (is_wide_index (drop i.unit us)) i.unit ≡ i.unit + after_index (is_wide_index (drop i.unit us)) 0 = after_is (is_wide_index (drop i.unit us)) i.unit in
+    let k : ℕ = c.units - after_index (is_wide_index (drop i.unit us)) 0 in
+    let to : after_index (is_wide_index (drop i.unit us)) i.unit + (c.units - after_index (is_wide_index (drop i.unit us)) 0) ≡ at + c.units = omega (arith, next, j, here) in
     let one : i.unit + 1 - at ≡ 1 = omega (arith, here) in
     ap (λ (x : ℕ). with_index i.number (with_index 0 (take c.units (drop x us))) ++ flat_map numbered_units (pieces_with parts is)) there
     ∙ ap (λ (xs : List ℕ). xs ++ flat_map numbered_units (pieces_with parts is)) (put_by (is_wide_index (drop i.unit us)) (drop i.unit us) i.number c.units rr refl kept blank)
-    ∙ append_assoc (take 1 (drop i.unit us)) (index_units (is_wide_index (drop i.unit us)) i.number ++ take (c.units - behind_index (is_wide_index (drop i.unit us)) 0) (drop (behind_index (is_wide_index (drop i.unit us)) 0) (drop i.unit us))) (flat_map numbered_units (pieces_with parts is))
+    ∙ append_assoc (take 1 (drop i.unit us)) (index_units (is_wide_index (drop i.unit us)) i.number ++ take (c.units - after_index (is_wide_index (drop i.unit us)) 0) (drop (after_index (is_wide_index (drop i.unit us)) 0) (drop i.unit us))) (flat_map numbered_units (pieces_with parts is))
     ∙ ap (λ (xs : List ℕ). take 1 (drop i.unit us) ++ xs) (
-    append_assoc (index_units (is_wide_index (drop i.unit us)) i.number) (take (c.units - behind_index (is_wide_index (drop i.unit us)) 0) (drop (behind_index (is_wide_index (drop i.unit us)) 0) (drop i.unit us))) (flat_map numbered_units (pieces_with parts is))
+    append_assoc (index_units (is_wide_index (drop i.unit us)) i.number) (take (c.units - after_index (is_wide_index (drop i.unit us)) 0) (drop (after_index (is_wide_index (drop i.unit us)) 0) (drop i.unit us))) (flat_map numbered_units (pieces_with parts is))
     ∙ ap (λ (xs : List ℕ). index_units (is_wide_index (drop i.unit us)) i.number ++ xs) (
-    ap (λ (xs : List ℕ). take (c.units - behind_index (is_wide_index (drop i.unit us)) 0) xs ++ flat_map numbered_units (pieces_with parts is)) (drop-drop (behind_index (is_wide_index (drop i.unit us)) 0) i.unit us ∙ ap (λ (x : ℕ). drop x us) (sym j))
-    ∙ ap (λ (xs : List ℕ). take (c.units - behind_index (is_wide_index (drop i.unit us)) 0) (drop (behind_index (is_wide_index (drop i.unit us)) i.unit) us) ++ xs) (o.1 ∙ ap (λ (x : ℕ). spelled_from us x is) (sym to))
-    ∙ sym (skip us (behind_index (is_wide_index (drop i.unit us)) i.unit) (c.units - behind_index (is_wide_index (drop i.unit us)) 0) is (subst (λ (x : ℕ). Follow us x is) (sym to) o.0))))
-    ∙ ap (λ (x : ℕ). take 1 (drop x us) ++ (index_units (is_wide_index (drop i.unit us)) i.number ++ spelled_from us (behind_index (is_wide_index (drop i.unit us)) i.unit) is)) here
-    ∙ ap (λ (x : ℕ). take x (drop at us) ++ (index_units (is_wide_index (drop i.unit us)) i.number ++ spelled_from us (behind_index (is_wide_index (drop i.unit us)) i.unit) is)) (sym one)
+    ap (λ (xs : List ℕ). take (c.units - after_index (is_wide_index (drop i.unit us)) 0) xs ++ flat_map numbered_units (pieces_with parts is)) (drop-drop (after_index (is_wide_index (drop i.unit us)) 0) i.unit us ∙ ap (λ (x : ℕ). drop x us) (sym j))
+    ∙ ap (λ (xs : List ℕ). take (c.units - after_index (is_wide_index (drop i.unit us)) 0) (drop (after_index (is_wide_index (drop i.unit us)) i.unit) us) ++ xs) (o.1 ∙ ap (λ (x : ℕ). spelled_from us x is) (sym to))
+    ∙ sym (skip us (after_index (is_wide_index (drop i.unit us)) i.unit) (c.units - after_index (is_wide_index (drop i.unit us)) 0) is (subst (λ (x : ℕ). Follow us x is) (sym to) o.0))))
+    ∙ ap (λ (x : ℕ). take 1 (drop x us) ++ (index_units (is_wide_index (drop i.unit us)) i.number ++ spelled_from us (after_index (is_wide_index (drop i.unit us)) i.unit) is)) here
+    ∙ ap (λ (x : ℕ). take x (drop at us) ++ (index_units (is_wide_index (drop i.unit us)) i.number ++ spelled_from us (after_index (is_wide_index (drop i.unit us)) i.unit) is)) (sym one)
 
 pub spelled_all : (us : List ℕ) (at : ℕ) (cs : List Cut) (is : List Index) → at ≤ length us → AreCut at (drop at us) cs [] → map (λ (i : Index). i.unit) is ≡ index_places at (map (cut_units us) cs) → flat_map numbered_units (pieces_with (map (cut_units us) cs) is) ≡ spelled_from us at is
 spelled_all us at [] [] le cut same = sym cut
@@ -227,19 +227,19 @@ one_half n = append_nil (ushort n)
 
 -- ---- the loop
 
-pub index_length : (w : Bool) (n unit : ℕ) → unit + 1 + length (index_units w n) ≡ behind_index w unit
+pub index_length : (w : Bool) (n unit : ℕ) → unit + 1 + length (index_units w n) ≡ after_index w unit
 index_length true n unit = omega arith
 index_length false n unit = omega arith
 
-behind_more : (w : Bool) (unit : ℕ) → unit + 1 < behind_index w unit
-behind_more true unit = omega arith
-behind_more false unit = omega arith
+after_is_more : (w : Bool) (unit : ℕ) → unit + 1 < after_index w unit
+after_is_more true unit = omega arith
+after_is_more false unit = omega arith
 
 pub follow_within : (us : List ℕ) (from : ℕ) (is : List Index) → Follow us from is → from ≤ length us
 follow_within us from [] h = h
 follow_within us from (i ∷ is) h =
-    let on : behind_index (is_wide_index (drop i.unit us)) i.unit ≤ length us = follow_within us (behind_index (is_wide_index (drop i.unit us)) i.unit) is h.1 in
-    omega (arith, h.0, behind_more (is_wide_index (drop i.unit us)) i.unit)
+    let on : after_index (is_wide_index (drop i.unit us)) i.unit ≤ length us = follow_within us (after_index (is_wide_index (drop i.unit us)) i.unit) is h.1 in
+    omega (arith, h.0, after_is_more (is_wide_index (drop i.unit us)) i.unit)
 
 pub next_is : (is : List Index) (i : ℕ) (d : Index) → i < length is → drop i is ≡ get_or is i d ∷ drop (i + 1) is
 next_is is i d lt = drop-cons is i d lt ∙ ap (λ (k : ℕ). get_or is i d ∷ drop k is) (sym (add-one i))
@@ -248,37 +248,37 @@ next_is is i d lt = drop-cons is i d lt ∙ ap (λ (k : ℕ). get_or is i d ∷ 
 pub record Next (us : List ℕ) (from : ℕ) (x : Index) (rest : List Index) : Type 0 where
   pub first : from ≤ x.unit
   pub inside : x.unit + 1 < length us
-  pub later : Follow us (behind_index (is_wide_index (drop x.unit us)) x.unit) rest
-  pub end : behind_index (is_wide_index (drop x.unit us)) x.unit ≤ length us
+  pub later : Follow us (after_index (is_wide_index (drop x.unit us)) x.unit) rest
+  pub end : after_index (is_wide_index (drop x.unit us)) x.unit ≤ length us
 
 pub next_index : (us : List ℕ) (from : ℕ) (is : List Index) (i : ℕ) (d : Index) → i < length is → Follow us from (drop i is) → Next us from (get_or is i d) (drop (i + 1) is)
 next_index us from is i d lt h =
     let g : Follow us from (get_or is i d ∷ drop (i + 1) is) = subst (Follow us from) (next_is is i d lt) h in
-    let on : behind_index (is_wide_index (drop (get_or is i d).unit us)) (get_or is i d).unit ≤ length us = follow_within us (behind_index (is_wide_index (drop (get_or is i d).unit us)) (get_or is i d).unit) (drop (i + 1) is) g.1 in
-    record { first = g.0; inside = omega (arith, on, behind_more (is_wide_index (drop (get_or is i d).unit us)) (get_or is i d).unit); later = g.1; end = on }
+    let on : after_index (is_wide_index (drop (get_or is i d).unit us)) (get_or is i d).unit ≤ length us = follow_within us (after_index (is_wide_index (drop (get_or is i d).unit us)) (get_or is i d).unit) (drop (i + 1) is) g.1 in
+    record { first = g.0; inside = omega (arith, on, after_is_more (is_wide_index (drop (get_or is i d).unit us)) (get_or is i d).unit); later = g.1; end = on }
 
 -- a part and an index more
 pub put_more : (us : List ℕ) (from : ℕ) (is : List Index) (i : ℕ) (d : Index) (w : Bool) (all out one two : List ℕ) → i < length is → w ≡ is_wide_index (drop (get_or is i d).unit us)
     → out ++ flat_map ushort (spelled_from us from (drop i is)) ≡ all
     → one ≡ out ++ flat_map ushort (take ((get_or is i d).unit + 1 - from) (drop from us))
     → two ≡ one ++ flat_map ushort (index_units w (get_or is i d).number)
-    → two ++ flat_map ushort (spelled_from us (behind_index w (get_or is i d).unit) (drop (i + 1) is)) ≡ all
+    → two ++ flat_map ushort (spelled_from us (after_index w (get_or is i d).unit) (drop (i + 1) is)) ≡ all
 put_more us from is i d w all out one two lt wide before first second =
     let x : Index = get_or is i d in
     let part : List ℕ = take ((get_or is i d).unit + 1 - from) (drop from us) in
     let index : List ℕ = index_units w (get_or is i d).number in
-    let rest : List ℕ = spelled_from us (behind_index w (get_or is i d).unit) (drop (i + 1) is) in
-    let all_is : spelled_from us from (drop i is) ≡ take ((get_or is i d).unit + 1 - from) (drop from us) ++ (index_units w (get_or is i d).number ++ spelled_from us (behind_index w (get_or is i d).unit) (drop (i + 1) is)) =
+    let rest : List ℕ = spelled_from us (after_index w (get_or is i d).unit) (drop (i + 1) is) in
+    let all_is : spelled_from us from (drop i is) ≡ take ((get_or is i d).unit + 1 - from) (drop from us) ++ (index_units w (get_or is i d).number ++ spelled_from us (after_index w (get_or is i d).unit) (drop (i + 1) is)) =
     ap (spelled_from us from) (next_is is i d lt)
-    ∙ ap (λ (v : Bool). take ((get_or is i d).unit + 1 - from) (drop from us) ++ (index_units v (get_or is i d).number ++ spelled_from us (behind_index v (get_or is i d).unit) (drop (i + 1) is))) (sym wide) in
-    ap (λ (xs : List ℕ). xs ++ flat_map ushort (spelled_from us (behind_index w (get_or is i d).unit) (drop (i + 1) is)))
+    ∙ ap (λ (v : Bool). take ((get_or is i d).unit + 1 - from) (drop from us) ++ (index_units v (get_or is i d).number ++ spelled_from us (after_index v (get_or is i d).unit) (drop (i + 1) is))) (sym wide) in
+    ap (λ (xs : List ℕ). xs ++ flat_map ushort (spelled_from us (after_index w (get_or is i d).unit) (drop (i + 1) is)))
     (second ∙ ap (λ (xs : List ℕ). xs ++ flat_map ushort (index_units w (get_or is i d).number)) first
     ∙ append_assoc out (flat_map ushort (take ((get_or is i d).unit + 1 - from) (drop from us))) (flat_map ushort (index_units w (get_or is i d).number)))
-    ∙ append_assoc out (flat_map ushort (take ((get_or is i d).unit + 1 - from) (drop from us)) ++ flat_map ushort (index_units w (get_or is i d).number)) (flat_map ushort (spelled_from us (behind_index w (get_or is i d).unit) (drop (i + 1) is)))
+    ∙ append_assoc out (flat_map ushort (take ((get_or is i d).unit + 1 - from) (drop from us)) ++ flat_map ushort (index_units w (get_or is i d).number)) (flat_map ushort (spelled_from us (after_index w (get_or is i d).unit) (drop (i + 1) is)))
     ∙ ap (λ (xs : List ℕ). out ++ xs) (
-    append_assoc (flat_map ushort (take ((get_or is i d).unit + 1 - from) (drop from us))) (flat_map ushort (index_units w (get_or is i d).number)) (flat_map ushort (spelled_from us (behind_index w (get_or is i d).unit) (drop (i + 1) is)))
-    ∙ ap (λ (xs : List ℕ). flat_map ushort (take ((get_or is i d).unit + 1 - from) (drop from us)) ++ xs) (sym (flat_map-append ushort (index_units w (get_or is i d).number) (spelled_from us (behind_index w (get_or is i d).unit) (drop (i + 1) is))))
-    ∙ sym (flat_map-append ushort (take ((get_or is i d).unit + 1 - from) (drop from us)) (index_units w (get_or is i d).number ++ spelled_from us (behind_index w (get_or is i d).unit) (drop (i + 1) is)))
+    append_assoc (flat_map ushort (take ((get_or is i d).unit + 1 - from) (drop from us))) (flat_map ushort (index_units w (get_or is i d).number)) (flat_map ushort (spelled_from us (after_index w (get_or is i d).unit) (drop (i + 1) is)))
+    ∙ ap (λ (xs : List ℕ). flat_map ushort (take ((get_or is i d).unit + 1 - from) (drop from us)) ++ xs) (sym (flat_map-append ushort (index_units w (get_or is i d).number) (spelled_from us (after_index w (get_or is i d).unit) (drop (i + 1) is))))
+    ∙ sym (flat_map-append ushort (take ((get_or is i d).unit + 1 - from) (drop from us)) (index_units w (get_or is i d).number ++ spelled_from us (after_index w (get_or is i d).unit) (drop (i + 1) is)))
     ∙ ap (flat_map ushort) (sym all_is))
     ∙ before
 
@@ -295,14 +295,14 @@ spelled_length : (us : List ℕ) (from : ℕ) (is : List Index) → Follow us fr
 spelled_length us from [] h = length-drop from us
 spelled_length us from (i ∷ is) h =
     let w : Bool = is_wide_index (drop i.unit us) in
-    let later : length (spelled_from us (behind_index (is_wide_index (drop i.unit us)) i.unit) is) ≡ length us - behind_index (is_wide_index (drop i.unit us)) i.unit = spelled_length us (behind_index (is_wide_index (drop i.unit us)) i.unit) is h.1 in
-    let end : behind_index (is_wide_index (drop i.unit us)) i.unit ≤ length us = follow_within us (behind_index (is_wide_index (drop i.unit us)) i.unit) is h.1 in
-    let more : i.unit + 1 < behind_index (is_wide_index (drop i.unit us)) i.unit = behind_more (is_wide_index (drop i.unit us)) i.unit in
-    let width : i.unit + 1 + length (index_units (is_wide_index (drop i.unit us)) i.number) ≡ behind_index (is_wide_index (drop i.unit us)) i.unit = index_length (is_wide_index (drop i.unit us)) i.number i.unit in
+    let later : length (spelled_from us (after_index (is_wide_index (drop i.unit us)) i.unit) is) ≡ length us - after_index (is_wide_index (drop i.unit us)) i.unit = spelled_length us (after_index (is_wide_index (drop i.unit us)) i.unit) is h.1 in
+    let end : after_index (is_wide_index (drop i.unit us)) i.unit ≤ length us = follow_within us (after_index (is_wide_index (drop i.unit us)) i.unit) is h.1 in
+    let more : i.unit + 1 < after_index (is_wide_index (drop i.unit us)) i.unit = after_is_more (is_wide_index (drop i.unit us)) i.unit in
+    let width : i.unit + 1 + length (index_units (is_wide_index (drop i.unit us)) i.number) ≡ after_index (is_wide_index (drop i.unit us)) i.unit = index_length (is_wide_index (drop i.unit us)) i.number i.unit in
     let l : length (drop from us) ≡ length us - from = length-drop from us in
     let part : length (take (i.unit + 1 - from) (drop from us)) ≡ i.unit + 1 - from = length-take-le (i.unit + 1 - from) (drop from us) (omega (arith, h.0)) in
-    let a = length-append (take (i.unit + 1 - from) (drop from us)) (index_units (is_wide_index (drop i.unit us)) i.number ++ spelled_from us (behind_index (is_wide_index (drop i.unit us)) i.unit) is) in
-    let b = length-append (index_units (is_wide_index (drop i.unit us)) i.number) (spelled_from us (behind_index (is_wide_index (drop i.unit us)) i.unit) is) in
+    let a = length-append (take (i.unit + 1 - from) (drop from us)) (index_units (is_wide_index (drop i.unit us)) i.number ++ spelled_from us (after_index (is_wide_index (drop i.unit us)) i.unit) is) in
+    let b = length-append (index_units (is_wide_index (drop i.unit us)) i.number) (spelled_from us (after_index (is_wide_index (drop i.unit us)) i.unit) is) in
     omega (arith, a, b, h.0)
 
 length-ushorts : (xs : List ℕ) → length (flat_map ushort xs) ≡ 2 * length xs

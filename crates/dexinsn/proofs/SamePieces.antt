@@ -12,13 +12,13 @@ use Rattle.dexpool.specs.Numberings.{Maps, image_of}
 use Rattle.dexinsn.specs.declared.pieces.Index.{Index}
 use Rattle.dexinsn.specs.Split.{IsPieceAt}
 use Rattle.dexinsn.specs.Numbered.{NumberedPiece, Instruction, Payload, kind_in, renumbered_piece}
-use Rattle.dexinsn.specs.Stored.{cuts_in, parts_in, piece_with, left_by, pieces_with, with_place, index_places, behind_index, AreStored, Follow}
-use Rattle.dexinsn.specs.internal.Same.{Agree, AgreeBeside, LeadAlike, AreAlike}
+use Rattle.dexinsn.specs.Stored.{cuts_in, parts_in, piece_with, left_by, pieces_with, with_place, index_places, after_index, AreStored, Follow}
+use Rattle.dexinsn.specs.internal.Same.{Agree, AgreeBeside, AreEqualMapped, AreEquivalent}
 use Rattle.dexinsn.proofs.Sizes.{Fits, piece_size-fits}
 use Rattle.dexinsn.proofs.IndexRoom.{HasRoom, has_room}
 use Rattle.dexinsn.proofs.StoredRead.{cuts_in_is, same_pool, same_wide, first_kept, cut_pool, cut_first, cut_length}
 use Rattle.dexinsn.proofs.Lined.{same_kind_in}
-use Rattle.dexinsn.proofs.PutUnits.{follow_from, behind_by}
+use Rattle.dexinsn.proofs.PutUnits.{follow_from, after_by}
 
 -- ---- units that agree
 
@@ -73,11 +73,11 @@ blank_first : (w : Bool) (xs : List ℕ) → slice_index (blank_by w xs) 0 ≡ s
 blank_first true xs = get_or-set_other (slice_set xs 1 0) 2 0 0 0 (λ e. omega arith) ∙ get_or-set_other xs 1 0 0 0 (λ e. omega arith)
 blank_first false xs = get_or-set_other xs 1 0 0 0 (λ e. omega arith)
 
-blank_behind : (w : Bool) (xs : List ℕ) (k : ℕ) → behind_index w 0 ≤ k → slice_index (blank_by w xs) k ≡ slice_index xs k
-blank_behind true xs k le = get_or-set_other (slice_set xs 1 0) 2 k 0 0 (λ e. omega arith) ∙ get_or-set_other xs 1 k 0 0 (λ e. omega arith)
-blank_behind false xs k le = get_or-set_other xs 1 k 0 0 (λ e. omega arith)
+blank_after : (w : Bool) (xs : List ℕ) (k : ℕ) → after_index w 0 ≤ k → slice_index (blank_by w xs) k ≡ slice_index xs k
+blank_after true xs k le = get_or-set_other (slice_set xs 1 0) 2 k 0 0 (λ e. omega arith) ∙ get_or-set_other xs 1 k 0 0 (λ e. omega arith)
+blank_after false xs k le = get_or-set_other xs 1 k 0 0 (λ e. omega arith)
 
-blank_inside : (w : Bool) (xs : List ℕ) (k : ℕ) → 0 < k → k < behind_index w 0 → k < length xs → slice_index (blank_by w xs) k ≡ 0
+blank_inside : (w : Bool) (xs : List ℕ) (k : ℕ) → 0 < k → k < after_index w 0 → k < length xs → slice_index (blank_by w xs) k ≡ 0
 blank_inside w xs zero some lt within = absurd (omega arith)
 blank_inside true xs (suc zero) some lt within = get_or-set_other (slice_set xs 1 0) 2 1 0 0 (λ e. omega arith) ∙ get_or-set_same xs 1 0 0 within
 blank_inside false xs (suc zero) some lt within = get_or-set_same xs 1 0 0 within
@@ -87,14 +87,14 @@ blank_inside true xs (suc (suc (suc k))) some lt within = absurd (omega arith)
 blank_inside false xs (suc (suc (suc k))) some lt within = absurd (omega arith)
 
 -- units that are the same but for the index
-blank_unit : (w : Bool) (xs ys : List ℕ) (k : ℕ) → k < length xs → length xs ≡ length ys → slice_index xs 0 ≡ slice_index ys 0 → ((j : ℕ) → behind_index w 0 ≤ j → j < length xs → slice_index xs j ≡ slice_index ys j) → slice_index (blank_by w xs) k ≡ slice_index (blank_by w ys) k
+blank_unit : (w : Bool) (xs ys : List ℕ) (k : ℕ) → k < length xs → length xs ≡ length ys → slice_index xs 0 ≡ slice_index ys 0 → ((j : ℕ) → after_index w 0 ≤ j → j < length xs → slice_index xs j ≡ slice_index ys j) → slice_index (blank_by w xs) k ≡ slice_index (blank_by w ys) k
 blank_unit w xs ys zero lt same first rest = blank_first w xs ∙ first ∙ sym (blank_first w ys)
-blank_unit w xs ys (suc k) lt same first rest = elim (cases_lt (suc k) (behind_index w 0)) [
+blank_unit w xs ys (suc k) lt same first rest = elim (cases_lt (suc k) (after_index w 0)) [
   | inl inside ↦ blank_inside w xs (suc k) (omega arith) inside lt ∙ sym (blank_inside w ys (suc k) (omega arith) inside (omega (arith, lt, same)))
-  | inr behind ↦ blank_behind w xs (suc k) behind ∙ rest (suc k) behind lt ∙ sym (blank_behind w ys (suc k) behind)
+  | inr following ↦ blank_after w xs (suc k) following ∙ rest (suc k) following lt ∙ sym (blank_after w ys (suc k) following)
 ]
 
-blank_same : (w : Bool) (xs ys : List ℕ) → is_wide_index xs ≡ w → length xs ≡ length ys → slice_index xs 0 ≡ slice_index ys 0 → ((j : ℕ) → behind_index w 0 ≤ j → j < length xs → slice_index xs j ≡ slice_index ys j) → with_index 0 xs ≡ with_index 0 ys
+blank_same : (w : Bool) (xs ys : List ℕ) → is_wide_index xs ≡ w → length xs ≡ length ys → slice_index xs 0 ≡ slice_index ys 0 → ((j : ℕ) → after_index w 0 ≤ j → j < length xs → slice_index xs j ≡ slice_index ys j) → with_index 0 xs ≡ with_index 0 ys
 blank_same w xs ys e same first rest =
     blank_is w xs e
     ∙ same_number_lists (blank_by w xs) (blank_by w ys) (length-blank w xs ∙ same ∙ sym (length-blank w ys)) (λ k lt. blank_unit w xs ys k (omega (arith, lt, length-blank w xs)) same first rest)
@@ -107,22 +107,22 @@ blank_lengths xs ys e = sym (length-blank (is_wide_index xs) xs) ∙ ap length e
 blank_firsts : (xs ys : List ℕ) → with_index 0 xs ≡ with_index 0 ys → slice_index xs 0 ≡ slice_index ys 0
 blank_firsts xs ys e = sym (first_kept 0 xs) ∙ ap (λ (zs : List ℕ). slice_index zs 0) e ∙ first_kept 0 ys
 
-blank_rest : (xs ys : List ℕ) (k : ℕ) → with_index 0 xs ≡ with_index 0 ys → behind_index (is_wide_index xs) 0 ≤ k → slice_index xs k ≡ slice_index ys k
+blank_rest : (xs ys : List ℕ) (k : ℕ) → with_index 0 xs ≡ with_index 0 ys → after_index (is_wide_index xs) 0 ≤ k → slice_index xs k ≡ slice_index ys k
 blank_rest xs ys k e le =
     let w : is_wide_index xs ≡ is_wide_index ys = same_wide xs ys (blank_firsts xs ys e) in
-    sym (blank_behind (is_wide_index xs) xs k le) ∙ ap (λ (zs : List ℕ). slice_index zs k) e ∙ blank_behind (is_wide_index ys) ys k (subst (λ (v : Bool). behind_index v 0 ≤ k) w le)
+    sym (blank_after (is_wide_index xs) xs k le) ∙ ap (λ (zs : List ℕ). slice_index zs k) e ∙ blank_after (is_wide_index ys) ys k (subst (λ (v : Bool). after_index v 0 ≤ k) w le)
 
 -- ---- one piece
 
-behind_is : (w : Bool) (unit : ℕ) → behind_index w unit ≡ unit + behind_index w 0
-behind_is true unit = refl
-behind_is false unit = refl
+after_is : (w : Bool) (unit : ℕ) → after_index w unit ≡ unit + after_index w 0
+after_is true unit = refl
+after_is false unit = refl
 
 -- what agreeing beside indices says of the next piece
 record Step (o : Option Pool) (us vs : List ℕ) (c : Cut) (is : List Index) : Type 0 where
   first : slice_index us c.unit ≡ slice_index vs c.unit
   whole : o ≡ None → Agree us vs c.unit (c.unit + c.units)
-  behind : (pool : Pool) → o ≡ Some pool → Agree us vs (behind_index (is_wide_index (drop c.unit us)) c.unit) (c.unit + c.units)
+  following : (pool : Pool) → o ≡ Some pool → Agree us vs (after_index (is_wide_index (drop c.unit us)) c.unit) (c.unit + c.units)
   later : AgreeBeside us vs (c.unit + c.units) (left_by o is)
 
 step_by : (o : Option Pool) (us vs : List ℕ) (c : Cut) (places : List ℕ) (is : List Index) → IsPieceAt us c → index_pool (drop c.unit us) ≡ o → map (λ (i : Index). i.unit) is ≡ with_place o c.unit places
@@ -133,7 +133,7 @@ step_by None us vs c places is piece e same on h =
     record {
       first = s.0 c.unit (omega arith) (omega (arith, f.0));
       whole = λ none. s.0;
-      behind = λ pool some. absurd cc;
+      following = λ pool some. absurd cc;
       later = s.1;
     }
 step_by (Some pool) us vs c places [] piece e same on h = absurd cc
@@ -141,13 +141,13 @@ step_by (Some pool) us vs c places (i ∷ is) piece e same on h =
     let here : i.unit ≡ c.unit = cc in
     let rest : map (λ (i : Index). i.unit) is ≡ places = cc in
     let r : HasRoom (drop c.unit us) c.units = has_room c.unit (drop c.unit us) c.units pool piece e in
-    let end : behind_index (is_wide_index (drop c.unit us)) c.unit ≤ c.unit + c.units = behind_by (is_wide_index (drop c.unit us)) c.unit c.units r.three r.two in
-    let later : AgreeBeside us vs (behind_index (is_wide_index (drop c.unit us)) c.unit) is = subst (λ (k : ℕ). AgreeBeside us vs (behind_index (is_wide_index (drop k us)) k) is) here h.1 in
-    let s = beside_split us vs (behind_index (is_wide_index (drop c.unit us)) c.unit) (c.unit + c.units) is end (on is rest) later in
+    let end : after_index (is_wide_index (drop c.unit us)) c.unit ≤ c.unit + c.units = after_by (is_wide_index (drop c.unit us)) c.unit c.units r.three r.two in
+    let later : AgreeBeside us vs (after_index (is_wide_index (drop c.unit us)) c.unit) is = subst (λ (k : ℕ). AgreeBeside us vs (after_index (is_wide_index (drop k us)) k) is) here h.1 in
+    let s = beside_split us vs (after_index (is_wide_index (drop c.unit us)) c.unit) (c.unit + c.units) is end (on is rest) later in
     record {
       first = h.0 c.unit (omega arith) (omega (arith, here));
       whole = λ none. absurd cc;
-      behind = λ other some. s.0;
+      following = λ other some. s.0;
       later = s.1;
     }
 
@@ -213,9 +213,9 @@ same_cuts us vs at (c ∷ cs) is count le cut same h =
 -- ---- pieces with equal units and images are the same
 
 -- the two plain pieces
-plain_alike : (r q : Maps) (t : Bool) (xs : List ℕ) → renumbered_piece r (cond t (Payload xs) (Instruction xs None)) ≡ renumbered_piece q (cond t (Payload xs) (Instruction xs None))
-plain_alike r q true xs = refl
-plain_alike r q false xs = refl
+plain_equivalent : (r q : Maps) (t : Bool) (xs : List ℕ) → renumbered_piece r (cond t (Payload xs) (Instruction xs None)) ≡ renumbered_piece q (cond t (Payload xs) (Instruction xs None))
+plain_equivalent r q true xs = refl
+plain_equivalent r q false xs = refl
 
 -- what is to be shown of the pieces of these units
 abbrev Same : Maps → Maps → List (List ℕ) → List (List ℕ) → List Index → List Index → Type 0
@@ -236,22 +236,22 @@ blank_step us vs c is pool count piece e s =
     (part_read us c.unit c.units 0 f.0 ∙ ap (slice_index us) z ∙ s.first ∙ ap (slice_index vs) (sym z) ∙ sym (part_read vs c.unit c.units 0 f.0))
     (λ j le lt.
     part_read us c.unit c.units j (omega (arith, lt, n))
-    ∙ s.behind pool refl (c.unit + j) (omega (arith, le, behind_is (is_wide_index (drop c.unit us)) c.unit)) (omega (arith, lt, n))
+    ∙ s.following pool refl (c.unit + j) (omega (arith, le, after_is (is_wide_index (drop c.unit us)) c.unit)) (omega (arith, lt, n))
     ∙ sym (part_read vs c.unit c.units j (omega (arith, lt, n))))
 
-alike_by : (r q : Maps) (o : Option Pool) (us vs : List ℕ) (c : Cut) (ps ts : List (List ℕ)) (places : List ℕ) (is js : List Index) → length us ≡ length vs → IsPieceAt us c → index_pool (drop c.unit us) ≡ o → Step o us vs c is → map (λ (i : Index). i.unit) is ≡ with_place o c.unit places
-    → AllZip (LeadAlike r q us) is js → ((ks ls : List Index) → map (λ (i : Index). i.unit) ks ≡ places → AllZip (LeadAlike r q us) ks ls → AgreeBeside us vs (c.unit + c.units) ks → Same r q ps ts ks ls)
+equivalent_by : (r q : Maps) (o : Option Pool) (us vs : List ℕ) (c : Cut) (ps ts : List (List ℕ)) (places : List ℕ) (is js : List Index) → length us ≡ length vs → IsPieceAt us c → index_pool (drop c.unit us) ≡ o → Step o us vs c is → map (λ (i : Index). i.unit) is ≡ with_place o c.unit places
+    → AllZip (AreEqualMapped r q us) is js → ((ks ls : List Index) → map (λ (i : Index). i.unit) ks ≡ places → AllZip (AreEqualMapped r q us) ks ls → AgreeBeside us vs (c.unit + c.units) ks → Same r q ps ts ks ls)
     → (renumbered_piece r (piece_with o (cut_units us c) is) ∷ map (renumbered_piece r) (pieces_with ps (left_by o is))) ≡ (renumbered_piece q (piece_with o (cut_units vs c) js) ∷ map (renumbered_piece q) (pieces_with ts (left_by o js)))
-alike_by r q None us vs c ps ts places is js count piece e s same zip on =
+equivalent_by r q None us vs c ps ts places is js count piece e s same zip on =
     let f : Fits (drop c.unit us) c.units = piece_size-fits c.unit (drop c.unit us) c.units piece in
     let l : length (drop c.unit us) ≡ length us - c.unit = length-drop c.unit us in
     let units : cut_units us c ≡ cut_units vs c = agree_part us vs c.unit c.units (omega (arith, f.0, f.1)) (omega (arith, f.0, f.1, count)) (s.whole refl) in
-    ap (λ (p : NumberedPiece). p ∷ map (renumbered_piece r) (pieces_with ps is)) (plain_alike r q (is_payload_ident (slice_index (cut_units us c) 0)) (cut_units us c))
+    ap (λ (p : NumberedPiece). p ∷ map (renumbered_piece r) (pieces_with ps is)) (plain_equivalent r q (is_payload_ident (slice_index (cut_units us c) 0)) (cut_units us c))
     ∙ ap (λ (xs : List ℕ). renumbered_piece q (cond (is_payload_ident (slice_index xs 0)) (Payload xs) (Instruction xs None)) ∷ map (renumbered_piece r) (pieces_with ps is)) units
     ∙ ap (λ (rest : List NumberedPiece). renumbered_piece q (cond (is_payload_ident (slice_index (cut_units vs c) 0)) (Payload (cut_units vs c)) (Instruction (cut_units vs c) None)) ∷ rest) (on is js same zip s.later)
-alike_by r q (Some pool) us vs c ps ts places [] js count piece e s same zip on = absurd cc
-alike_by r q (Some pool) us vs c ps ts places (i ∷ is) [] count piece e s same zip on = absurd zip
-alike_by r q (Some pool) us vs c ps ts places (i ∷ is) (j ∷ js) count piece e s same zip on =
+equivalent_by r q (Some pool) us vs c ps ts places [] js count piece e s same zip on = absurd cc
+equivalent_by r q (Some pool) us vs c ps ts places (i ∷ is) [] count piece e s same zip on = absurd zip
+equivalent_by r q (Some pool) us vs c ps ts places (i ∷ is) (j ∷ js) count piece e s same zip on =
     let here : i.unit ≡ c.unit = cc in
     let rest : map (λ (i : Index). i.unit) is ≡ places = cc in
     let units : with_index 0 (cut_units us c) ≡ with_index 0 (cut_units vs c) = blank_step us vs c (i ∷ is) pool count piece e s in
@@ -261,10 +261,10 @@ alike_by r q (Some pool) us vs c ps ts places (i ∷ is) (j ∷ js) count piece 
     ∙ ap (λ (xs : List ℕ). Instruction xs (image_of q (kind_in xs) j.number) ∷ map (renumbered_piece r) (pieces_with ps is)) units
     ∙ ap (λ (rest : List NumberedPiece). Instruction (with_index 0 (cut_units vs c)) (image_of q (kind_in (with_index 0 (cut_units vs c))) j.number) ∷ rest) (on is js rest zip.1 s.later)
 
-alike_same : (r q : Maps) (us vs : List ℕ) (at : ℕ) (cs : List Cut) (is js : List Index) → length us ≡ length vs → at ≤ length us → AreCut at (drop at us) cs [] → AreCut at (drop at vs) cs [] → map (λ (i : Index). i.unit) is ≡ index_places at (map (cut_units us) cs)
-    → AllZip (LeadAlike r q us) is js → AgreeBeside us vs at is → Same r q (map (cut_units us) cs) (map (cut_units vs) cs) is js
-alike_same r q us vs at [] is js count le cut other same zip h = refl
-alike_same r q us vs at (c ∷ cs) is js count le cut other same zip h =
+equivalent_same : (r q : Maps) (us vs : List ℕ) (at : ℕ) (cs : List Cut) (is js : List Index) → length us ≡ length vs → at ≤ length us → AreCut at (drop at us) cs [] → AreCut at (drop at vs) cs [] → map (λ (i : Index). i.unit) is ≡ index_places at (map (cut_units us) cs)
+    → AllZip (AreEqualMapped r q us) is js → AgreeBeside us vs at is → Same r q (map (cut_units us) cs) (map (cut_units vs) cs) is js
+equivalent_same r q us vs at [] is js count le cut other same zip h = refl
+equivalent_same r q us vs at (c ∷ cs) is js count le cut other same zip h =
     let piece : IsPieceAt us c = subst (λ (k : ℕ). piece_size k (drop k us) ≡ Some c.units) (sym cut.0) cut.1 in
     let match : IsPieceAt vs c = subst (λ (k : ℕ). piece_size k (drop k vs) ≡ Some c.units) (sym other.0) other.1 in
     let f : Fits (drop at us) c.units = piece_size-fits at (drop at us) c.units cut.1 in
@@ -275,17 +275,17 @@ alike_same r q us vs at (c ∷ cs) is js count le cut other same zip h =
     let mate : index_pool (cut_units vs c) ≡ index_pool (drop c.unit us) = cut_pool vs c match ∙ same_pool (drop c.unit vs) (drop c.unit us) kept.first in
     let places : map (λ (i : Index). i.unit) is ≡ with_place (index_pool (drop c.unit us)) c.unit (index_places (at + length (cut_units us c)) (map (cut_units us) cs)) =
     same ∙ ap (λ (o : Option Pool). with_place o at (index_places (at + length (cut_units us c)) (map (cut_units us) cs))) pool ∙ ap (λ (k : ℕ). with_place (index_pool (drop c.unit us)) k (index_places (at + length (cut_units us c)) (map (cut_units us) cs))) (sym cut.0) in
-    let on = λ (ks ls : List Index) (e : map (λ (i : Index). i.unit) ks ≡ index_places (at + length (cut_units us c)) (map (cut_units us) cs)) (zip : AllZip (LeadAlike r q us) ks ls) (h : AgreeBeside us vs (c.unit + c.units) ks).
-    alike_same r q us vs (at + c.units) cs ks ls count (omega (arith, f.1)) (subst (λ (xs : List ℕ). AreCut (at + c.units) xs cs []) (drop-drop c.units at us) cut.2) (subst (λ (xs : List ℕ). AreCut (at + c.units) xs cs []) (drop-drop c.units at vs) other.2)
+    let on = λ (ks ls : List Index) (e : map (λ (i : Index). i.unit) ks ≡ index_places (at + length (cut_units us c)) (map (cut_units us) cs)) (zip : AllZip (AreEqualMapped r q us) ks ls) (h : AgreeBeside us vs (c.unit + c.units) ks).
+    equivalent_same r q us vs (at + c.units) cs ks ls count (omega (arith, f.1)) (subst (λ (xs : List ℕ). AreCut (at + c.units) xs cs []) (drop-drop c.units at us) cut.2) (subst (λ (xs : List ℕ). AreCut (at + c.units) xs cs []) (drop-drop c.units at vs) other.2)
     (e ∙ ap (λ (n : ℕ). index_places (at + n) (map (cut_units us) cs)) (cut_length us c piece)) zip (subst (λ (k : ℕ). AgreeBeside us vs (k + c.units) ks) cut.0 h) in
     ap (λ (o : Option Pool). renumbered_piece r (piece_with o (cut_units us c) is) ∷ map (renumbered_piece r) (pieces_with (map (cut_units us) cs) (left_by o is))) pool
-    ∙ alike_by r q (index_pool (drop c.unit us)) us vs c (map (cut_units us) cs) (map (cut_units vs) cs) (index_places (at + length (cut_units us c)) (map (cut_units us) cs)) is js count piece refl s places zip on
+    ∙ equivalent_by r q (index_pool (drop c.unit us)) us vs c (map (cut_units us) cs) (map (cut_units vs) cs) (index_places (at + length (cut_units us c)) (map (cut_units us) cs)) is js count piece refl s places zip on
     ∙ ap (λ (o : Option Pool). renumbered_piece q (piece_with o (cut_units vs c) js) ∷ map (renumbered_piece q) (pieces_with (map (cut_units vs) cs) (left_by o js))) (sym mate)
 
-pub same_from_alike : (r q : Maps) (us vs : List ℕ) (is js : List Index) → AreStored us is → AreStored vs js → AreAlike r q us vs is js → Same r q (parts_in us) (parts_in vs) is js
-same_from_alike r q us vs is js s t h =
+pub same_from_equivalent : (r q : Maps) (us vs : List ℕ) (is js : List Index) → AreStored us is → AreStored vs js → AreEquivalent r q us vs is js → Same r q (parts_in us) (parts_in vs) is js
+same_from_equivalent r q us vs is js s t h =
     let cut : AreCut 0 vs (cuts_in us) [] = same_cuts us vs 0 (cuts_in us) is h.count (omega arith) s.cut s.places h.agree in
-    alike_same r q us vs 0 (cuts_in us) is js h.count (omega arith) s.cut cut s.places h.lead h.agree
+    equivalent_same r q us vs 0 (cuts_in us) is js h.count (omega arith) s.cut cut s.places h.are_mapped h.agree
     ∙ ap (λ (cs : List Cut). map (renumbered_piece q) (pieces_with (map (cut_units vs) cs) js)) (sym (cuts_in_is vs (cuts_in us) cut))
 
 -- ---- and pieces that are the same have equal units and images
@@ -301,27 +301,27 @@ plain_named r true xs ys n e = absurd cc
 plain_named r false xs ys n e = let f : xs ≡ with_index 0 ys = cc in ap (λ (zs : List ℕ). slice_index zs 0) f ∙ first_kept 0 ys
 
 -- what is to be shown of the units and the indices
-record Alike (r q : Maps) (us vs : List ℕ) (at : ℕ) (is js : List Index) : Type 0 where
+record PiecesEqualMapped (r q : Maps) (us vs : List ℕ) (at : ℕ) (is js : List Index) : Type 0 where
   left : length (drop at us) ≡ length (drop at vs)
   agree : AgreeBeside us vs at is
-  lead : AllZip (LeadAlike r q us) is js
+  are_mapped : AllZip (AreEqualMapped r q us) is js
 
 same_by : (r q : Maps) (o p : Option Pool) (us vs : List ℕ) (c d : Cut) (ps ts : List (List ℕ)) (places more : List ℕ) (is js : List Index) → IsPieceAt us c → IsPieceAt vs d → c.unit ≡ d.unit → index_pool (cut_units us c) ≡ o → index_pool (cut_units vs d) ≡ p
     → map (λ (i : Index). i.unit) is ≡ with_place o c.unit places → map (λ (i : Index). i.unit) js ≡ with_place p d.unit more
     → renumbered_piece r (piece_with o (cut_units us c) is) ≡ renumbered_piece q (piece_with p (cut_units vs d) js)
-    → (c.units ≡ d.units → map (λ (i : Index). i.unit) (left_by o is) ≡ places → map (λ (i : Index). i.unit) (left_by p js) ≡ more → Alike r q us vs (c.unit + c.units) (left_by o is) (left_by p js))
-    → Alike r q us vs c.unit is js
+    → (c.units ≡ d.units → map (λ (i : Index). i.unit) (left_by o is) ≡ places → map (λ (i : Index). i.unit) (left_by p js) ≡ more → PiecesEqualMapped r q us vs (c.unit + c.units) (left_by o is) (left_by p js))
+    → PiecesEqualMapped r q us vs c.unit is js
 same_by r q None None us vs c d ps ts places more is js piece mate unit e g same other head on =
     let xs : cut_units us c ≡ cut_units vs d = plain_units r q (is_payload_ident (slice_index (cut_units us c) 0)) (is_payload_ident (slice_index (cut_units vs d) 0)) (cut_units us c) (cut_units vs d) head in
     let units : c.units ≡ d.units = sym (cut_length us c piece) ∙ ap length xs ∙ cut_length vs d mate in
-    let later : Alike r q us vs (c.unit + c.units) is js = on units same other in
+    let later : PiecesEqualMapped r q us vs (c.unit + c.units) is js = on units same other in
     let a : Agree us vs c.unit (c.unit + c.units) = part_agrees us vs c.unit c.units (xs ∙ ap (λ (k : ℕ). take d.units (drop k vs)) (sym unit) ∙ ap (λ (k : ℕ). take k (drop c.unit vs)) (sym units)) in
     let f : Fits (drop c.unit us) c.units = piece_size-fits c.unit (drop c.unit us) c.units piece in
     let h : Fits (drop d.unit vs) d.units = piece_size-fits d.unit (drop d.unit vs) d.units mate in
     record {
       left = omega (arith, later.left, f.0, f.1, h.0, h.1, length-drop (c.unit + c.units) us, length-drop (c.unit + c.units) vs, length-drop c.unit us, length-drop c.unit vs, length-drop d.unit vs);
       agree = beside_join us vs c.unit (c.unit + c.units) is a later.agree;
-      lead = later.lead;
+      are_mapped = later.are_mapped;
     }
 same_by r q None (Some pool) us vs c d ps ts places more is [] piece mate unit e g same other head on = absurd cc
 same_by r q None (Some pool) us vs c d ps ts places more is (j ∷ js) piece mate unit e g same other head on =
@@ -343,7 +343,7 @@ same_by r q (Some pool) (Some other_pool) us vs c d ps ts places more (i ∷ is)
     let blank : with_index 0 (cut_units us c) ≡ with_index 0 (cut_units vs d) = cc in
     let image : image_of r (kind_in (with_index 0 (cut_units us c))) i.number ≡ image_of q (kind_in (with_index 0 (cut_units vs d))) j.number = cc in
     let units : c.units ≡ d.units = sym (cut_length us c piece) ∙ blank_lengths (cut_units us c) (cut_units vs d) blank ∙ cut_length vs d mate in
-    let later : Alike r q us vs (c.unit + c.units) is js = on units rest other_rest in
+    let later : PiecesEqualMapped r q us vs (c.unit + c.units) is js = on units rest other_rest in
     let f : Fits (drop c.unit us) c.units = piece_size-fits c.unit (drop c.unit us) c.units piece in
     let h : Fits (drop d.unit vs) d.units = piece_size-fits d.unit (drop d.unit vs) d.units mate in
     let cut : cut_units vs d ≡ take c.units (drop c.unit vs) = ap (λ (k : ℕ). take d.units (drop k vs)) (sym unit) ∙ ap (λ (k : ℕ). take k (drop c.unit vs)) (sym units) in
@@ -351,9 +351,9 @@ same_by r q (Some pool) (Some other_pool) us vs c d ps ts places more (i ∷ is)
     let first : slice_index us c.unit ≡ slice_index vs c.unit =
     ap (slice_index us) (sym z) ∙ sym (part_read us c.unit c.units 0 f.0) ∙ blank_firsts (cut_units us c) (cut_units vs d) blank ∙ ap (λ (ys : List ℕ). slice_index ys 0) cut ∙ part_read vs c.unit c.units 0 f.0 ∙ ap (slice_index vs) z in
     let wide : is_wide_index (cut_units us c) ≡ is_wide_index (drop c.unit us) = same_wide (cut_units us c) (drop c.unit us) (cut_first us c piece) in
-    let behind : Agree us vs (behind_index (is_wide_index (drop c.unit us)) c.unit) (c.unit + c.units) = λ k le lt.
-    let n : c.unit + (k - c.unit) ≡ k = omega (arith, le, behind_is (is_wide_index (drop c.unit us)) c.unit) in
-    let past : behind_index (is_wide_index (cut_units us c)) 0 ≤ k - c.unit = subst (λ (v : Bool). behind_index v 0 ≤ k - c.unit) (sym wide) (omega (arith, le, behind_is (is_wide_index (drop c.unit us)) c.unit)) in
+    let following : Agree us vs (after_index (is_wide_index (drop c.unit us)) c.unit) (c.unit + c.units) = λ k le lt.
+    let n : c.unit + (k - c.unit) ≡ k = omega (arith, le, after_is (is_wide_index (drop c.unit us)) c.unit) in
+    let past : after_index (is_wide_index (cut_units us c)) 0 ≤ k - c.unit = subst (λ (v : Bool). after_index v 0 ≤ k - c.unit) (sym wide) (omega (arith, le, after_is (is_wide_index (drop c.unit us)) c.unit)) in
     ap (slice_index us) (sym n) ∙ sym (part_read us c.unit c.units (k - c.unit) (omega (arith, n, lt))) ∙ blank_rest (cut_units us c) (cut_units vs d) (k - c.unit) blank past
     ∙ ap (λ (ys : List ℕ). slice_index ys (k - c.unit)) cut ∙ part_read vs c.unit c.units (k - c.unit) (omega (arith, n, lt)) ∙ ap (slice_index vs) n in
     let kind : kind_in (with_index 0 (cut_units us c)) ≡ kind_in (drop i.unit us) = head_kind us c i piece here in
@@ -361,51 +361,51 @@ same_by r q (Some pool) (Some other_pool) us vs c d ps ts places more (i ∷ is)
       left = omega (arith, later.left, f.0, f.1, h.0, h.1, length-drop (c.unit + c.units) us, length-drop (c.unit + c.units) vs, length-drop c.unit us, length-drop c.unit vs, length-drop d.unit vs);
       agree = (
         λ k le lt. let at : k ≡ c.unit = omega (arith, here) in ap (slice_index us) at ∙ first ∙ ap (slice_index vs) (sym at),
-        subst (λ (k : ℕ). AgreeBeside us vs (behind_index (is_wide_index (drop k us)) k) is) (sym here) (beside_join us vs (behind_index (is_wide_index (drop c.unit us)) c.unit) (c.unit + c.units) is behind later.agree),
+        subst (λ (k : ℕ). AgreeBeside us vs (after_index (is_wide_index (drop k us)) k) is) (sym here) (beside_join us vs (after_index (is_wide_index (drop c.unit us)) c.unit) (c.unit + c.units) is following later.agree),
       );
-      lead = (
+      are_mapped = (
         record {
           place = here ∙ unit ∙ sym there;
           image = ap (λ k. image_of r k i.number) (sym kind) ∙ image ∙ ap (λ (xs : List ℕ). image_of q (kind_in xs) j.number) (sym blank) ∙ ap (λ k. image_of q k j.number) kind;
         },
-        later.lead,
+        later.are_mapped,
       );
     }
 
-alike_from : (r q : Maps) (us vs : List ℕ) (at : ℕ) (cs ds : List Cut) (is js : List Index) → AreCut at (drop at us) cs [] → AreCut at (drop at vs) ds [] → map (λ (i : Index). i.unit) is ≡ index_places at (map (cut_units us) cs) → map (λ (i : Index). i.unit) js ≡ index_places at (map (cut_units vs) ds)
-    → Same r q (map (cut_units us) cs) (map (cut_units vs) ds) is js → Alike r q us vs at is js
-alike_from r q us vs at [] [] [] [] cut other same mate e =
+equivalent_from : (r q : Maps) (us vs : List ℕ) (at : ℕ) (cs ds : List Cut) (is js : List Index) → AreCut at (drop at us) cs [] → AreCut at (drop at vs) ds [] → map (λ (i : Index). i.unit) is ≡ index_places at (map (cut_units us) cs) → map (λ (i : Index). i.unit) js ≡ index_places at (map (cut_units vs) ds)
+    → Same r q (map (cut_units us) cs) (map (cut_units vs) ds) is js → PiecesEqualMapped r q us vs at is js
+equivalent_from r q us vs at [] [] [] [] cut other same mate e =
     let n : length (drop at us) ≡ 0 = ap length cut in
     let m : length (drop at vs) ≡ 0 = ap length other in
     record {
       left = n ∙ sym m;
       agree = λ k le lt. absurd (omega (arith, n, length-drop at us));
-      lead = tt;
+      are_mapped = tt;
     }
-alike_from r q us vs at [] [] (i ∷ is) js cut other same mate e = absurd cc
-alike_from r q us vs at [] [] [] (j ∷ js) cut other same mate e = absurd cc
-alike_from r q us vs at [] (d ∷ ds) is js cut other same mate e = absurd cc
-alike_from r q us vs at (c ∷ cs) [] is js cut other same mate e = absurd cc
-alike_from r q us vs at (c ∷ cs) (d ∷ ds) is js cut other same mate e =
+equivalent_from r q us vs at [] [] (i ∷ is) js cut other same mate e = absurd cc
+equivalent_from r q us vs at [] [] [] (j ∷ js) cut other same mate e = absurd cc
+equivalent_from r q us vs at [] (d ∷ ds) is js cut other same mate e = absurd cc
+equivalent_from r q us vs at (c ∷ cs) [] is js cut other same mate e = absurd cc
+equivalent_from r q us vs at (c ∷ cs) (d ∷ ds) is js cut other same mate e =
     let piece : IsPieceAt us c = subst (λ (k : ℕ). piece_size k (drop k us) ≡ Some c.units) (sym cut.0) cut.1 in
     let match : IsPieceAt vs d = subst (λ (k : ℕ). piece_size k (drop k vs) ≡ Some d.units) (sym other.0) other.1 in
     let head : renumbered_piece r (piece_with (index_pool (cut_units us c)) (cut_units us c) is) ≡ renumbered_piece q (piece_with (index_pool (cut_units vs d)) (cut_units vs d) js) = cc in
     let tail : Same r q (map (cut_units us) cs) (map (cut_units vs) ds) (left_by (index_pool (cut_units us c)) is) (left_by (index_pool (cut_units vs d)) js) = cc in
     let on = λ (units : c.units ≡ d.units) (left : map (λ (i : Index). i.unit) (left_by (index_pool (cut_units us c)) is) ≡ index_places (at + length (cut_units us c)) (map (cut_units us) cs)) (right : map (λ (i : Index). i.unit) (left_by (index_pool (cut_units vs d)) js) ≡ index_places (at + length (cut_units vs d)) (map (cut_units vs) ds)).
-    subst (λ (k : ℕ). Alike r q us vs (k + c.units) (left_by (index_pool (cut_units us c)) is) (left_by (index_pool (cut_units vs d)) js)) (sym cut.0)
-    (alike_from r q us vs (at + c.units) cs ds (left_by (index_pool (cut_units us c)) is) (left_by (index_pool (cut_units vs d)) js)
+    subst (λ (k : ℕ). PiecesEqualMapped r q us vs (k + c.units) (left_by (index_pool (cut_units us c)) is) (left_by (index_pool (cut_units vs d)) js)) (sym cut.0)
+    (equivalent_from r q us vs (at + c.units) cs ds (left_by (index_pool (cut_units us c)) is) (left_by (index_pool (cut_units vs d)) js)
     (subst (λ (xs : List ℕ). AreCut (at + c.units) xs cs []) (drop-drop c.units at us) cut.2)
     (subst (λ (n : ℕ). AreCut (at + n) (drop (at + n) vs) ds []) (sym units) (subst (λ (xs : List ℕ). AreCut (at + d.units) xs ds []) (drop-drop d.units at vs) other.2))
     (left ∙ ap (λ (n : ℕ). index_places (at + n) (map (cut_units us) cs)) (cut_length us c piece))
     (right ∙ ap (λ (n : ℕ). index_places (at + n) (map (cut_units vs) ds)) (cut_length vs d match ∙ sym units))
     tail) in
-    subst (λ (k : ℕ). Alike r q us vs k is js) cut.0
+    subst (λ (k : ℕ). PiecesEqualMapped r q us vs k is js) cut.0
     (same_by r q (index_pool (cut_units us c)) (index_pool (cut_units vs d)) us vs c d (map (cut_units us) cs) (map (cut_units vs) ds) (index_places (at + length (cut_units us c)) (map (cut_units us) cs)) (index_places (at + length (cut_units vs d)) (map (cut_units vs) ds)) is js piece match (cut.0 ∙ sym other.0) refl refl
     (same ∙ ap (λ (k : ℕ). with_place (index_pool (cut_units us c)) k (index_places (at + length (cut_units us c)) (map (cut_units us) cs))) (sym cut.0))
     (mate ∙ ap (λ (k : ℕ). with_place (index_pool (cut_units vs d)) k (index_places (at + length (cut_units vs d)) (map (cut_units vs) ds))) (sym other.0))
     head on)
 
-pub alike_from_same : (r q : Maps) (us vs : List ℕ) (is js : List Index) → AreStored us is → AreStored vs js → Same r q (parts_in us) (parts_in vs) is js → AreAlike r q us vs is js
-alike_from_same r q us vs is js s t e =
-    let a : Alike r q us vs 0 is js = alike_from r q us vs 0 (cuts_in us) (cuts_in vs) is js s.cut t.cut s.places t.places e in
-    record { count = a.left; agree = a.agree; lead = a.lead }
+pub equivalent_from_same : (r q : Maps) (us vs : List ℕ) (is js : List Index) → AreStored us is → AreStored vs js → Same r q (parts_in us) (parts_in vs) is js → AreEquivalent r q us vs is js
+equivalent_from_same r q us vs is js s t e =
+    let a : PiecesEqualMapped r q us vs 0 is js = equivalent_from r q us vs 0 (cuts_in us) (cuts_in vs) is js s.cut t.cut s.places t.places e in
+    record { count = a.left; agree = a.agree; are_mapped = a.are_mapped }

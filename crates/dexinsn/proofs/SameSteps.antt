@@ -6,7 +6,7 @@ use Rattle.dexspec.specs.Bytes.{ushort, ushorts_at}
 use Rattle.dexspec.specs.Pieces.{is_wide_index}
 use Rattle.dexinsn.specs.declared.pieces.Index.{Index}
 use Rattle.dexinsn.specs.Units.{units_in}
-use Rattle.dexinsn.specs.Stored.{behind_index}
+use Rattle.dexinsn.specs.Stored.{after_index}
 use Rattle.dexinsn.specs.internal.Same.{Agree, AgreeBeside}
 use Rattle.dexinsn.proofs.Halves.{length_from, ushorts_from, units_of_part}
 use Rattle.dexinsn.proofs.PutUnits.{next_is, ushorts_taken, part_bytes}
@@ -39,11 +39,11 @@ bytes_agree a b from to le one two small few h =
 
 -- the part before the next index, and what is after it
 pub beside_next : (us vs : List ℕ) (from : ℕ) (is : List Index) (k : ℕ) (d : Index) → k < length is → AgreeBeside us vs from (drop k is)
-    → Agree us vs from ((get_or is k d).unit + 1) × AgreeBeside us vs (behind_index (is_wide_index (drop (get_or is k d).unit us)) (get_or is k d).unit) (drop (k + 1) is)
+    → Agree us vs from ((get_or is k d).unit + 1) × AgreeBeside us vs (after_index (is_wide_index (drop (get_or is k d).unit us)) (get_or is k d).unit) (drop (k + 1) is)
 beside_next us vs from is k d lt h = subst (AgreeBeside us vs from) (next_is is k d lt) h
 
 pub beside_before : (us vs : List ℕ) (from : ℕ) (is : List Index) (k : ℕ) (d : Index) → k < length is → Agree us vs from ((get_or is k d).unit + 1)
-    → AgreeBeside us vs (behind_index (is_wide_index (drop (get_or is k d).unit us)) (get_or is k d).unit) (drop (k + 1) is) → AgreeBeside us vs from (drop k is)
+    → AgreeBeside us vs (after_index (is_wide_index (drop (get_or is k d).unit us)) (get_or is k d).unit) (drop (k + 1) is) → AgreeBeside us vs from (drop k is)
 beside_before us vs from is k d lt a h = let both : AgreeBeside us vs from (get_or is k d ∷ drop (k + 1) is) = (a, h) in subst (AgreeBeside us vs from) (sym (next_is is k d lt)) both
 
 -- after the last index

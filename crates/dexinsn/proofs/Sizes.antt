@@ -38,8 +38,8 @@ units_in-some F3rc = omega arith
 units_in-some F51l = omega arith
 
 -- a size is returned only where it fits
-told : (us : List ℕ) (size n : ℕ) (rest : Bool) → 0 < size → cond (nat_le size (length us) && rest) (Some size) None ≡ Some n → Fits us n
-told us size n rest some is =
+reported : (us : List ℕ) (size n : ℕ) (rest : Bool) → 0 < size → cond (nat_le size (length us) && rest) (Some size) None ≡ Some n → Fits us n
+reported us size n rest some is =
     let parts : ((nat_le size (length us) && rest) ≡ true) × (size ≡ n) = cond_some (nat_le size (length us) && rest) size n is in
     let within : size ≤ length us = leb-true size (length us) (and_parts (nat_le size (length us)) rest parts.0).0 in
     let same : size ≡ n = parts.1 in
@@ -54,12 +54,12 @@ payload_units-some : (us : List ℕ) → 0 < payload_units us
 payload_units-some us = cond_some_at (slice_index us 0 == packed_switch_ident) (slice_index us 0 == sparse_switch_ident) _ _ _ (omega arith) (omega arith) (omega arith)
 
 pub payload_size-fits : (us : List ℕ) (n : ℕ) → payload_size us ≡ Some n → Fits us n
-payload_size-fits us n is = told us (payload_units us) n (is_payload_in_order us) (payload_units-some us) is
+payload_size-fits us n is = reported us (payload_units us) n (is_payload_in_order us) (payload_units-some us) is
 
 pub instruction_size-fits : (us : List ℕ) (n : ℕ) → instruction_size us ≡ Some n → Fits us n
 instruction_size-fits us n is =
     option_and_then_some (λ (o : Opcode). cond (nat_le (units_in o.format) (length us) && is_first_unit o.format (slice_index us 0)) (Some (units_in o.format)) None) (opcode_of (low_byte (slice_index us 0))) n is
-    (λ o at same. told us (units_in o.format) n (is_first_unit o.format (slice_index us 0)) (units_in-some o.format) same)
+    (λ o at same. reported us (units_in o.format) n (is_first_unit o.format (slice_index us 0)) (units_in-some o.format) same)
 
 by_kind : (us : List ℕ) (n : ℕ) (payload even : Bool) → cond payload (cond even (payload_size us) None) (instruction_size us) ≡ Some n → Fits us n
 by_kind us n true true is = payload_size-fits us n is

@@ -13,7 +13,7 @@ use Rattle.std.proofs.lemmas.Nat.{and_le_l, shr-shr, shr_split, pow_pos}
 use Rattle.std.proofs.lemmas.Nat.Bits.{bit_at_and, bit_at_or, bit_at_not, bit_at-lt, bit_at-zero, bit_at_above, bit_at_cat_low, bit_at_cat_high, bit_at_set_same, bit_at_set_other, same_from_bits_below}
 use Rattle.dexspec.specs.Pieces.{Cut, is_instruction_start, is_payload_ident}
 use Rattle.dexinsn.specs.internal.LongSwitches.{AllInGroup, AreGrouped, AreStartBits, HasBit, HasPlace, HasPlaces, EndsEmpty}
-use Rattle.dexinsn.specs.Split.{lead_right}
+use Rattle.dexinsn.specs.Split.{are_right_targets}
 use Rattle.dexinsn.specs.declared.target_group.TargetGroup.{TargetGroup}
 use Rattle.dexinsn.specs.Checking.{AreBitsOf, begins_instruction}
 use Rattle.dexinsn.proofs.Starts.{starts_with-below}
@@ -245,10 +245,10 @@ group_is us cs words at g starts = (
 
 -- targets are right exactly where those of their groups are
 pub groups_are : (us : List ℕ) (cs : List Cut) (words : List ℕ) (at : ℕ) (ts : List ℤ) (groups : List TargetGroup) (r : Bool) → AreStartBits us cs words → AreGrouped ts groups
-    → (r ≡ true) ↔ All (λ g. HasPlaces words (pos at +ℤ g.first) g.bits) groups → r ≡ lead_right us cs at ts
+    → (r ≡ true) ↔ All (λ g. HasPlaces words (pos at +ℤ g.first) g.bits) groups → r ≡ are_right_targets us cs at ts
 groups_are us cs words at ts groups r starts grouped says =
     let test : ℤ → Bool = λ t. is_instruction_start us cs (pos at +ℤ t) in
-    same_answer r (lead_right us cs at ts)
+    same_answer r (are_right_targets us cs at ts)
     (λ e. (grouped test).1 (All-weaker (λ (g : TargetGroup). HasPlaces words (pos at +ℤ g.first) g.bits) (AllInGroup test) (λ g. (group_is us cs words at g starts).0) groups (says.0 e)))
     (λ e. says.1 (All-weaker (AllInGroup test) (λ (g : TargetGroup). HasPlaces words (pos at +ℤ g.first) g.bits) (λ g. (group_is us cs words at g starts).1) groups ((grouped test).0 e)))
 

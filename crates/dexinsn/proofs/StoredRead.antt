@@ -9,7 +9,7 @@ use Rattle.dexspec.specs.Opcodes.{opcode_of}
 use Rattle.dexspec.specs.Symbols.{Pool, Strings, Types, Protos, Fields, Methods, Proto, Symbol, TextSymbol, TypeSymbol, ProtoSymbol, FieldSymbol, MethodSymbol, pool_of}
 use Rattle.dexspec.specs.Rows.{SymbolRow}
 use Rattle.dexspec.specs.Mentions.{Mentions}
-use Rattle.dexspec.specs.Pieces.{Cut, AreCut, IsCode, Piece, StandsForPiece, piece_size, cut_units, index_pool, index_in, is_wide_index, is_payload_ident, with_index, low_byte, two_units}
+use Rattle.dexspec.specs.Pieces.{Cut, AreCut, IsCode, Piece, DenotesPiece, piece_size, cut_units, index_pool, index_in, is_wide_index, is_payload_ident, with_index, low_byte, two_units}
 use Rattle.dexspec.specs.Pieces as symbolic
 use Rattle.dexspec.specs.Code.{PiecesAt}
 use Rattle.dexspec.proofs.wellformed.FormedRows.{length-ushorts_at}
@@ -18,7 +18,7 @@ use Rattle.dexpool.specs.Numberings.{IsNumbered}
 use Rattle.dexinsn.specs.declared.pieces.Index.{Index}
 use Rattle.dexinsn.specs.Units.{units_in}
 use Rattle.dexinsn.specs.Split.{IsPieceAt}
-use Rattle.dexinsn.specs.Numbered.{Instruction, Payload, kind_of_pool, StandsFor, StandFor}
+use Rattle.dexinsn.specs.Numbered.{Instruction, Payload, kind_of_pool, Denotes, Denote}
 use Rattle.dexinsn.specs.Stored.{cuts_from, cuts_in, parts_in, piece_with, left_by, pieces_with, with_place, index_places, AreStored}
 use Rattle.dexinsn.specs.Reading.{ArePiecesAt, AreUnitsAt, with_index_at, indices_at, IsInRange, AreCodeIndices}
 use Rattle.dexinsn.proofs.Sizes.{Fits, piece_size-fits}
@@ -178,14 +178,14 @@ named_by (Some pool) m xs n = symbolic.Instruction (with_index 0 xs) (Some (symb
 abbrev named : Mentions → List ℕ → Cut → Piece
 named m us c = named_by (index_pool (drop c.unit us)) m (cut_units us c) (index_in (drop c.unit us))
 
-plain_stands : (t : Bool) (Names : ℕ → Symbol → Type 0) (xs : List ℕ) → is_payload_ident (slice_index xs 0) ≡ t → index_pool xs ≡ None → StandsForPiece Names xs (cond t (symbolic.Payload xs) (symbolic.Instruction xs None))
-plain_stands true Names xs e none = (e, refl)
-plain_stands false Names xs e none = (e, none, refl)
+plain_encoded : (t : Bool) (Names : ℕ → Symbol → Type 0) (xs : List ℕ) → is_payload_ident (slice_index xs 0) ≡ t → index_pool xs ≡ None → DenotesPiece Names xs (cond t (symbolic.Payload xs) (symbolic.Instruction xs None))
+plain_encoded true Names xs e none = (e, refl)
+plain_encoded false Names xs e none = (e, none, refl)
 
-piece_stands : (b : List ℕ) (m : Mentions) (us : List ℕ) (c : Cut) (o : Option Pool) → ArePools b m → IsPieceAt us c → index_pool (drop c.unit us) ≡ o → IsInRange us m c → StandsForPiece (SymbolRow b) (cut_units us c) (named_by o m (cut_units us c) (index_in (drop c.unit us)))
+piece_encoded : (b : List ℕ) (m : Mentions) (us : List ℕ) (c : Cut) (o : Option Pool) → ArePools b m → IsPieceAt us c → index_pool (drop c.unit us) ≡ o → IsInRange us m c → DenotesPiece (SymbolRow b) (cut_units us c) (named_by o m (cut_units us c) (index_in (drop c.unit us)))
 unfolding named_by
-piece_stands b m us c None pools is e range = plain_stands (is_payload_ident (slice_index (cut_units us c) 0)) (SymbolRow b) (cut_units us c) refl (cut_pool us c is ∙ e)
-piece_stands b m us c (Some pool) pools is e range =
+piece_encoded b m us c None pools is e range = plain_encoded (is_payload_ident (slice_index (cut_units us c) 0)) (SymbolRow b) (cut_units us c) refl (cut_pool us c is ∙ e)
+piece_encoded b m us c (Some pool) pools is e range =
     let n : ℕ = index_in (drop c.unit us) in
     let small : index_in (drop c.unit us) < count_of (kind_of_pool pool) m = subst (λ (o : Option Pool). MatchOption o (Unit {0}) (λ p. index_in (drop c.unit us) < count_of (kind_of_pool p) m)) e range in (
       cut_pool us c is ∙ e ∙ ap Some (sym (symbol_pool m pool (index_in (drop c.unit us)))),
@@ -193,11 +193,11 @@ piece_stands b m us c (Some pool) pools is e range =
       refl,
     )
 
-pieces_stand : (b : List ℕ) (m : Mentions) (us : List ℕ) (cs : List Cut) → ArePools b m → All (IsPieceAt us) cs → All (IsInRange us m) cs → AllZip (λ c p. StandsForPiece (SymbolRow b) (cut_units us c) p) cs (map (named m us) cs)
-pieces_stand b m us [] pools pieces range = tt
-pieces_stand b m us (c ∷ cs) pools pieces range = (
-  piece_stands b m us c (index_pool (drop c.unit us)) pools (All-head (IsPieceAt us) c cs pieces) refl (All-head (IsInRange us m) c cs range),
-  pieces_stand b m us cs pools (All-tail (IsPieceAt us) c cs pieces) (All-tail (IsInRange us m) c cs range),
+pieces_encoded : (b : List ℕ) (m : Mentions) (us : List ℕ) (cs : List Cut) → ArePools b m → All (IsPieceAt us) cs → All (IsInRange us m) cs → AllZip (λ c p. DenotesPiece (SymbolRow b) (cut_units us c) p) cs (map (named m us) cs)
+pieces_encoded b m us [] pools pieces range = tt
+pieces_encoded b m us (c ∷ cs) pools pieces range = (
+  piece_encoded b m us c (index_pool (drop c.unit us)) pools (All-head (IsPieceAt us) c cs pieces) refl (All-head (IsInRange us m) c cs range),
+  pieces_encoded b m us cs pools (All-tail (IsPieceAt us) c cs pieces) (All-tail (IsInRange us m) c cs range),
 )
 
 -- an index that is put in leaves the first unit
@@ -208,11 +208,11 @@ first_by false xs i j k = get_or-set_other xs 1 0 k 0 (λ e. omega arith)
 pub first_kept : (i : ℕ) (xs : List ℕ) → slice_index (with_index i xs) 0 ≡ slice_index xs 0
 first_kept i xs = first_by (is_wide_index xs) xs (i % 65536) (i / 65536) i
 
-plain_for : (t : Bool) (m : Mentions) (xs : List ℕ) → StandsFor m (cond t (Payload xs) (Instruction xs None)) (cond t (symbolic.Payload xs) (symbolic.Instruction xs None))
+plain_for : (t : Bool) (m : Mentions) (xs : List ℕ) → Denotes m (cond t (Payload xs) (Instruction xs None)) (cond t (symbolic.Payload xs) (symbolic.Instruction xs None))
 plain_for true m xs = refl
 plain_for false m xs = refl
 
-piece_for : (m : Mentions) (us : List ℕ) (c : Cut) (o : Option Pool) (is : List Index) → IsPieceAt us c → index_pool (drop c.unit us) ≡ o → IsInRange us m c → StandsFor m (piece_with o (cut_units us c) (with_index_at o us c is)) (named_by o m (cut_units us c) (index_in (drop c.unit us)))
+piece_for : (m : Mentions) (us : List ℕ) (c : Cut) (o : Option Pool) (is : List Index) → IsPieceAt us c → index_pool (drop c.unit us) ≡ o → IsInRange us m c → Denotes m (piece_with o (cut_units us c) (with_index_at o us c is)) (named_by o m (cut_units us c) (index_in (drop c.unit us)))
 unfolding named_by
 piece_for m us c None is piece e range = plain_for (is_payload_ident (slice_index (cut_units us c) 0)) m (cut_units us c)
 piece_for m us c (Some pool) is piece e range =
@@ -226,16 +226,16 @@ left_is : (o : Option Pool) (us : List ℕ) (c : Cut) (is : List Index) → left
 left_is None us c is = refl
 left_is (Some pool) us c is = refl
 
-pieces_for : (m : Mentions) (us : List ℕ) (cs : List Cut) → All (IsPieceAt us) cs → All (IsInRange us m) cs → StandFor m (pieces_with (map (cut_units us) cs) (indices_at us cs)) (map (named m us) cs)
+pieces_for : (m : Mentions) (us : List ℕ) (cs : List Cut) → All (IsPieceAt us) cs → All (IsInRange us m) cs → Denote m (pieces_with (map (cut_units us) cs) (indices_at us cs)) (map (named m us) cs)
 pieces_for m us [] pieces range = tt
 pieces_for m us (c ∷ cs) pieces range =
     let piece : IsPieceAt us c = All-head (IsPieceAt us) c cs pieces in
     let o : Option Pool = index_pool (drop c.unit us) in
     let same : index_pool (cut_units us c) ≡ index_pool (drop c.unit us) = cut_pool us c piece in
     let is : List Index = with_index_at (index_pool (drop c.unit us)) us c (indices_at us cs) in (
-      subst (λ (p : Option Pool). StandsFor m (piece_with p (cut_units us c) (with_index_at (index_pool (drop c.unit us)) us c (indices_at us cs))) (named m us c)) (sym same)
+      subst (λ (p : Option Pool). Denotes m (piece_with p (cut_units us c) (with_index_at (index_pool (drop c.unit us)) us c (indices_at us cs))) (named m us c)) (sym same)
           (piece_for m us c (index_pool (drop c.unit us)) (indices_at us cs) piece refl (All-head (IsInRange us m) c cs range)),
-      subst (λ (js : List Index). StandFor m (pieces_with (map (cut_units us) cs) js) (map (named m us) cs))
+      subst (λ (js : List Index). Denote m (pieces_with (map (cut_units us) cs) js) (map (named m us) cs))
           (sym (ap (λ (p : Option Pool). left_by p (with_index_at (index_pool (drop c.unit us)) us c (indices_at us cs))) same ∙ left_is (index_pool (drop c.unit us)) us c (indices_at us cs)))
           (pieces_for m us cs (All-tail (IsPieceAt us) c cs pieces) (All-tail (IsInRange us m) c cs range)),
     )
@@ -253,10 +253,10 @@ read_pieces b off m bytes is pools at r =
         in_data = at.room.in_data;
         aligned = at.room.aligned;
         code = subst (λ (us : List ℕ). IsCode us r.cuts) at.units r.code;
-        pieces = subst (λ (vs : List ℕ). AllZip (λ c p. StandsForPiece (SymbolRow b) (cut_units vs c) p) r.cuts (map (named m (units_in bytes)) r.cuts)) at.units (pieces_stand b m (units_in bytes) r.cuts pools pieces r.read.in_range);
+        pieces = subst (λ (vs : List ℕ). AllZip (λ c p. DenotesPiece (SymbolRow b) (cut_units vs c) p) r.cuts (map (named m (units_in bytes)) r.cuts)) at.units (pieces_encoded b m (units_in bytes) r.cuts pools pieces r.read.in_range);
       };
-      stand = subst (λ (cs : List Cut). StandFor m (pieces_with (map (cut_units (units_in bytes)) cs) is) (map (named m (units_in bytes)) r.cuts)) (sym same)
-          (subst (λ (js : List Index). StandFor m (pieces_with (map (cut_units (units_in bytes)) r.cuts) js) (map (named m (units_in bytes)) r.cuts)) (sym r.read.are) (pieces_for m (units_in bytes) r.cuts pieces r.read.in_range));
+      are_encoded = subst (λ (cs : List Cut). Denote m (pieces_with (map (cut_units (units_in bytes)) cs) is) (map (named m (units_in bytes)) r.cuts)) (sym same)
+          (subst (λ (js : List Index). Denote m (pieces_with (map (cut_units (units_in bytes)) r.cuts) js) (map (named m (units_in bytes)) r.cuts)) (sym r.read.are) (pieces_for m (units_in bytes) r.cuts pieces r.read.in_range));
     }
 
 -- ---- and where none are read there are none
@@ -267,7 +267,7 @@ payload_pool us e = ap (λ (t : Bool). cond t None (option_and_then (λ op. op.i
 in_range_by : (us : List ℕ) (m : Mentions) (c : Cut) (o : Option Pool) → index_pool (drop c.unit us) ≡ o → MatchOption o (Unit {0}) (λ pool. index_in (drop c.unit us) < count_of (kind_of_pool pool) m) → IsInRange us m c
 in_range_by us m c o e h = subst (λ (p : Option Pool). MatchOption p (Unit {0}) (λ pool. index_in (drop c.unit us) < count_of (kind_of_pool pool) m)) (sym e) h
 
-piece_in_range : (b : List ℕ) (m : Mentions) (us : List ℕ) (c : Cut) (p : Piece) → ArePools b m → IsPieceAt us c → StandsForPiece (SymbolRow b) (cut_units us c) p → IsInRange us m c
+piece_in_range : (b : List ℕ) (m : Mentions) (us : List ℕ) (c : Cut) (p : Piece) → ArePools b m → IsPieceAt us c → DenotesPiece (SymbolRow b) (cut_units us c) p → IsInRange us m c
 piece_in_range b m us c (symbolic.Instruction xs None) pools piece h = in_range_by us m c None (sym (cut_pool us c piece) ∙ h.1) tt
 piece_in_range b m us c (symbolic.Instruction xs (Some s)) pools piece h =
     let named : index_pool (drop c.unit us) ≡ Some (pool_of s) = sym (cut_pool us c piece) ∙ h.0 in
@@ -275,7 +275,7 @@ piece_in_range b m us c (symbolic.Instruction xs (Some s)) pools piece h =
     (subst (λ (n : ℕ). n < count_of (kind_of_pool (pool_of s)) m) (cut_index us c (pool_of s) piece named) (row_counted b m (index_in (cut_units us c)) s pools h.1))
 piece_in_range b m us c (symbolic.Payload xs) pools piece h = in_range_by us m c None (sym (cut_pool us c piece) ∙ payload_pool (cut_units us c) h.0) tt
 
-all_in_range : (b : List ℕ) (m : Mentions) (us : List ℕ) (cs : List Cut) (ps : List Piece) → ArePools b m → All (IsPieceAt us) cs → AllZip (λ c p. StandsForPiece (SymbolRow b) (cut_units us c) p) cs ps → All (IsInRange us m) cs
+all_in_range : (b : List ℕ) (m : Mentions) (us : List ℕ) (cs : List Cut) (ps : List Piece) → ArePools b m → All (IsPieceAt us) cs → AllZip (λ c p. DenotesPiece (SymbolRow b) (cut_units us c) p) cs ps → All (IsInRange us m) cs
 all_in_range b m us [] ps pools pieces h = All-nil (IsInRange us m)
 all_in_range b m us (c ∷ cs) [] pools pieces h = absurd h
 all_in_range b m us (c ∷ cs) (p ∷ ps) pools pieces h =
@@ -287,7 +287,7 @@ none_read b off m bytes pools at none cuts ps h =
     let code : IsCode (units_in bytes) cuts = subst (λ (us : List ℕ). IsCode us cuts) (sym at.units) h.code in
     none cuts code
     (all_in_range b m (units_in bytes) cuts ps pools (code_pieces (units_in bytes) cuts code)
-    (subst (λ (us : List ℕ). AllZip (λ c p. StandsForPiece (SymbolRow b) (cut_units us c) p) cuts ps) (sym at.units) h.pieces))
+    (subst (λ (us : List ℕ). AllZip (λ c p. DenotesPiece (SymbolRow b) (cut_units us c) p) cuts ps) (sym at.units) h.pieces))
 
 pub few_units : (b : List ℕ) (off : ℕ) (bytes : List ℕ) → AreUnitsAt b off bytes → length (units_in bytes) < 2 ^ 32
 few_units b off bytes at =

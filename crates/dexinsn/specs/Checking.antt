@@ -32,8 +32,8 @@ branches F31t = true
 branches _ = false
 
 -- an instruction that begins with this unit has a target
-abbrev pub leads : ℕ → Bool
-leads u = option_map_or (λ o. branches o.format) (opcode_of (low_byte u)) false
+abbrev pub has_targets : ℕ → Bool
+has_targets u = option_map_or (λ o. branches o.format) (opcode_of (low_byte u)) false
 
 -- an instruction begins with this unit, and no payload
 abbrev pub begins_instruction : ℕ → Bool
@@ -41,7 +41,7 @@ begins_instruction u = not (is_payload_ident u)
 
 -- a payload begins with it, or an instruction that has a target
 abbrev pub is_noted : ℕ → Bool
-is_noted u = is_payload_ident u || leads u
+is_noted u = is_payload_ident u || has_targets u
 
 -- ---- bits
 
@@ -57,8 +57,8 @@ pub record AreNoted (us : List ℕ) (words : List ℕ) : Type 0 where
   pub pieces : (k : ℕ) → HasBit words k → IsSome (piece_size k (drop k us))
 
 -- the answer says whether the piece at a unit has no target or a valid one
-abbrev pub LeadsAt : List ℕ → List ℕ → List ℕ → ℕ → Bool → Type 0
-LeadsAt us starts noted at answer = (cs : List Cut) (n : ℕ) → AreBitsOf begins_instruction us cs starts → AreBitsOf is_noted us cs noted → answer ≡ has_right_targets us cs (record { unit = at; units = n })
+abbrev pub HasTargetsAt : List ℕ → List ℕ → List ℕ → ℕ → Bool → Type 0
+HasTargetsAt us starts noted at answer = (cs : List Cut) (n : ℕ) → AreBitsOf begins_instruction us cs starts → AreBitsOf is_noted us cs noted → answer ≡ has_right_targets us cs (record { unit = at; units = n })
 
 -- from a unit on no bit is set
 abbrev pub HasNoBit : List ℕ → ℕ → Type 0
@@ -66,7 +66,7 @@ HasNoBit words from = (k : ℕ) → from ≤ k → HasBit words k → ⊥
 
 -- from a unit on this is the first bit that is set
 pub record IsNextBit (words : List ℕ) (from unit : ℕ) : Type 0 where
-  pub behind : from ≤ unit
+  pub following : from ≤ unit
   pub has : HasBit words unit
   pub first : (k : ℕ) → from ≤ k → k < unit → HasBit words k → ⊥
 

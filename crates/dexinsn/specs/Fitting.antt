@@ -15,8 +15,8 @@ use Rattle.dexinsn.specs.declared.pieces.Index.{Index}
 use Rattle.dexinsn.specs.Numbered.{NumberedPiece, Instruction, kind_in}
 
 -- the symbol's number has an image
-abbrev pub LeadsOn : Maps → Use → Type 0
-LeadsOn r u = IsSome (image_of r u.kind u.number)
+abbrev pub IsMapped : Maps → Use → Type 0
+IsMapped r u = IsSome (image_of r u.kind u.number)
 
 -- ---- texts whose numbers have 16 bits
 
@@ -76,5 +76,5 @@ pub record IsNotTooLarge (m : Mentions) : Type 0 where
   pub methods_few : length m.methods ≤ 2 ^ 16
 
 -- the image of a text's number, if there is one, is below 2^16
-abbrev pub LeadsShort : Maps → Option ℕ → Type 0
-LeadsShort r o = IfSome o (λ n. (j : ℕ) → image r.texts n ≡ Some j → j < 2 ^ 16)
+abbrev pub MapsShort : Maps → Option ℕ → Type 0
+MapsShort r o = IfSome o (λ n. (j : ℕ) → image r.texts n ≡ Some j → j < 2 ^ 16)

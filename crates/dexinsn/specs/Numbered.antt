@@ -29,15 +29,15 @@ pub record NumberedCode : Type 0 where
 -- ---- what numbers denote
 
 -- the piece is the symbolic one, where symbols are numbered so
-abbrev pub StandsFor : Mentions → NumberedPiece → Piece → Type 0
-StandsFor m (Instruction us None) (symbolic.Instruction xs None) = us ≡ xs
-StandsFor m (Instruction us (Some n)) (symbolic.Instruction xs (Some s)) = (us ≡ xs) × (index_pool us ≡ Some (pool_of s)) × IsNumbered m n s
-StandsFor m (Payload us) (symbolic.Payload xs) = us ≡ xs
-StandsFor m _ _ = ⊥
+abbrev pub Denotes : Mentions → NumberedPiece → Piece → Type 0
+Denotes m (Instruction us None) (symbolic.Instruction xs None) = us ≡ xs
+Denotes m (Instruction us (Some n)) (symbolic.Instruction xs (Some s)) = (us ≡ xs) × (index_pool us ≡ Some (pool_of s)) × IsNumbered m n s
+Denotes m (Payload us) (symbolic.Payload xs) = us ≡ xs
+Denotes m _ _ = ⊥
 
 -- the pieces are the symbolic ones, where symbols are numbered so
-abbrev pub StandFor : Mentions → List NumberedPiece → List Piece → Type 0
-StandFor m ps qs = AllZip (StandsFor m) ps qs
+abbrev pub Denote : Mentions → List NumberedPiece → List Piece → Type 0
+Denote m ps qs = AllZip (Denotes m) ps qs
 
 -- ---- the symbols that occur
 

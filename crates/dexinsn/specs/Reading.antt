@@ -12,14 +12,14 @@ use Rattle.dexpool.specs.Pools.{count_of}
 use Rattle.dexinsn.specs.declared.pieces.Index.{Index}
 use Rattle.dexinsn.specs.Stored.{FitsAt}
 use Rattle.dexinsn.specs.Units.{units_in}
-use Rattle.dexinsn.specs.Numbered.{NumberedPiece, StandFor, kind_of_pool}
+use Rattle.dexinsn.specs.Numbered.{NumberedPiece, Denote, kind_of_pool}
 
 -- the pieces are those of the code_item at an offset, where symbols are numbered by their rows
 pub record ArePiecesAt (b : List ℕ) (off : ℕ) (m : Mentions) (ps : List NumberedPiece) : Type 0 where
   pub cuts : List Cut
   pub symbolic : List Piece
   pub at : PiecesAt b off cuts symbolic
-  pub stand : StandFor m ps symbolic
+  pub are_encoded : Denote m ps symbolic
 
 -- there are no pieces at the offset; a failed allocation says nothing
 abbrev pub IsPiecesFault : List ℕ → ℕ → ItemFault → Type 0

@@ -5,7 +5,7 @@ use Rattle.std.specs.declared.alloc.Global.{Global}
 use Rattle.std.specs.Option.{option_map}
 use Rattle.std.specs.Ordering.{int_eq}
 use Rattle.dexspec.specs.Opcodes.{Format}
-use Rattle.dexspec.specs.Pieces.{all_of_option, IsCode, branch_offset, leads_right, Cut, AreCut, BreaksAt, has_right_targets, is_instruction_start, is_payload_start, payload_targets, piece_size}
+use Rattle.dexspec.specs.Pieces.{all_of_option, IsCode, branch_offset, is_right_target, Cut, AreCut, BreaksAt, has_right_targets, is_instruction_start, is_payload_start, payload_targets, piece_size}
 use Rattle.dexinsn.specs.declared.code.Cut.{Cut as CutOfCode}
 use Rattle.dexinsn.specs.declared.code.CodeFault.{CodeFault}
 use Rattle.dexinsn.specs.declared.code.CodeFault.TheVariants.{Empty, Piece, Target, Memory}
@@ -32,38 +32,38 @@ abbrev pub starts_with : (ℕ → Bool) → List ℕ → List Cut → ℤ → Bo
 starts_with test us cs z = list_any (λ c. int_eq (pos c.unit) z && test (slice_index us c.unit)) cs
 
 -- the targets, counted from the instruction at a unit, are starts of instructions
-abbrev pub lead_right : List ℕ → List Cut → ℕ → List ℤ → Bool
-lead_right us cs at targets = list_all (λ target. is_instruction_start us cs (pos at +ℤ target)) targets
+abbrev pub are_right_targets : List ℕ → List Cut → ℕ → List ℤ → Bool
+are_right_targets us cs at targets = list_all (λ target. is_instruction_start us cs (pos at +ℤ target)) targets
 
 -- a payload with this first unit begins at the place, and its targets are right
-abbrev pub leads_to_payload : ℕ → List ℕ → List Cut → ℕ → ℤ → Bool
-leads_to_payload ident us cs at z = is_payload_start ident us cs z && lead_right us cs at (payload_targets us (nat_abs z))
+abbrev pub targets_payload : ℕ → List ℕ → List Cut → ℕ → ℤ → Bool
+targets_payload ident us cs at z = is_payload_start ident us cs z && are_right_targets us cs at (payload_targets us (nat_abs z))
 
 -- the instruction at a unit, which has this format, has no target or a valid one
 abbrev pub branches_right : List ℕ → List Cut → ℕ → Format → Bool
-branches_right us cs at format = all_of_option (leads_right us cs at format) (branch_offset format us at)
+branches_right us cs at format = all_of_option (is_right_target us cs at format) (branch_offset format us at)
 
 -- ---- faults
 
 -- the unit of the first of these pieces with a wrong target, if there is one
-abbrev pub first_astray_of : List ℕ → List Cut → List Cut → Option ℕ
-first_astray_of us cs some = option_map (λ c. c.unit) (find (λ c. not (has_right_targets us cs c)) some)
+abbrev pub first_bad_target_of : List ℕ → List Cut → List Cut → Option ℕ
+first_bad_target_of us cs some = option_map (λ c. c.unit) (find (λ c. not (has_right_targets us cs c)) some)
 
 -- the same of all pieces
-abbrev pub first_astray : List ℕ → List Cut → Option ℕ
-first_astray us cs = first_astray_of us cs cs
+abbrev pub first_bad_target : List ℕ → List Cut → Option ℕ
+first_bad_target us cs = first_bad_target_of us cs cs
 
 -- all units are cut, and the first piece with a wrong target is at unit n
-pub record GoesAstrayAt (us : List ℕ) (n : ℕ) : Type 0 where
+pub record HasBadTargetAt (us : List ℕ) (n : ℕ) : Type 0 where
   pub cuts : List Cut
   pub cut : AreCut 0 us cuts []
-  pub first : first_astray us cuts ≡ Some n
+  pub first : first_bad_target us cuts ≡ Some n
 
 -- why the units are no code; a failed allocation says nothing
 abbrev pub IsFault : List ℕ → CodeFault → Type 0
 IsFault us Empty = us ≡ []
 IsFault us (Piece n) = BreaksAt us n
-IsFault us (Target n) = GoesAstrayAt us n
+IsFault us (Target n) = HasBadTargetAt us n
 IsFault us Memory = Unit {0}
 
 -- the fault's number, and the unit at which it is found
@@ -91,7 +91,7 @@ abbrev pub IsAnswer : List ℕ → Result (List Cut) CodeFault → Type 0
 IsAnswer us (Ok cs) = IsCode us cs
 IsAnswer us (Err Empty) = us ≡ []
 IsAnswer us (Err (Piece n)) = BreaksAt us n
-IsAnswer us (Err (Target n)) = GoesAstrayAt us n
+IsAnswer us (Err (Target n)) = HasBadTargetAt us n
 IsAnswer us (Err Memory) = ⊥
 
 -- what is returned is this, unless an allocation failed

@@ -28,9 +28,9 @@ first_number [] = None
 first_number (i ∷ is) = Some i.number
 
 -- the indices after the first
-abbrev pub behind_first : List Index → List Index
-behind_first [] = []
-behind_first (i ∷ is) = is
+abbrev pub after_first : List Index → List Index
+after_first [] = []
+after_first (i ∷ is) = is
 
 -- a piece of these units, which takes the first number if it has an index of a pool
 abbrev pub piece_with : Option Pool → List ℕ → List Index → NumberedPiece
@@ -40,7 +40,7 @@ piece_with (Some pool) xs is = Instruction (with_index 0 xs) (first_number is)
 -- the numbers that it leaves
 abbrev pub left_by : Option Pool → List Index → List Index
 left_by None is = is
-left_by (Some pool) is = behind_first is
+left_by (Some pool) is = after_first is
 
 -- pieces of these units, which take numbers in order
 abbrev pub pieces_with : List (List ℕ) → List Index → List NumberedPiece
@@ -95,16 +95,16 @@ index_units true n = n % 65536 ∷ n / 65536 ∷ []
 index_units false n = n ∷ []
 
 -- the unit after the index of the instruction at a unit
-abbrev pub behind_index : Bool → ℕ → ℕ
-behind_index true unit = unit + 3
-behind_index false unit = unit + 2
+abbrev pub after_index : Bool → ℕ → ℕ
+after_index true unit = unit + 3
+after_index false unit = unit + 2
 
 -- the units from a place on, with these numbers put in
 abbrev pub spelled_from : List ℕ → ℕ → List Index → List ℕ
 spelled_from us from [] = drop from us
-spelled_from us from (i ∷ is) = take (i.unit + 1 - from) (drop from us) ++ (index_units (is_wide_index (drop i.unit us)) i.number ++ spelled_from us (behind_index (is_wide_index (drop i.unit us)) i.unit) is)
+spelled_from us from (i ∷ is) = take (i.unit + 1 - from) (drop from us) ++ (index_units (is_wide_index (drop i.unit us)) i.number ++ spelled_from us (after_index (is_wide_index (drop i.unit us)) i.unit) is)
 
 -- the indices are one after the other, from a place on
 abbrev pub Follow : List ℕ → ℕ → List Index → Type 0
 Follow us from [] = from ≤ length us
-Follow us from (i ∷ is) = (from ≤ i.unit) × Follow us (behind_index (is_wide_index (drop i.unit us)) i.unit) is
+Follow us from (i ∷ is) = (from ≤ i.unit) × Follow us (after_index (is_wide_index (drop i.unit us)) i.unit) is

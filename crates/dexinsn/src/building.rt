@@ -7,7 +7,7 @@ ghost use Rattle.dexinsn.specs.Reading.{ArePiecesAt};
 ghost use Rattle.dexinsn.specs.Checking.{AreTheIndices, HaveIndices, IsShapeAt};
 
 use crate::code_units::Units;
-use crate::indexed::{index_at, kind_at};
+use crate::instruction_index::{index_at, kind_at};
 use crate::piece::piece_size;
 use crate::pieces::{Index, Pieces};
 use crate::shape::PiecesShape;

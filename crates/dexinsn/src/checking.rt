@@ -10,20 +10,20 @@ ghost use Rattle.dexinsn.specs.Bits.{bits_in};
 ghost use Rattle.dexinsn.specs.Opcode.{format_of};
 ghost use Rattle.dexinsn.specs.Payload.{ident_of};
 ghost use Rattle.dexinsn.specs.internal.LongSwitches.{ArePayloads, EndsEmpty};
-ghost use Rattle.dexinsn.specs.Split.{IsPieceAt, branches_right, lead_right, leads_to_payload};
-ghost use Rattle.dexinsn.specs.Checking.{AreBitsOf, AreCodeStarts, AreNoted, ArePassed, HasNoCode, AreAllRight, HasPiecesOf, IndexCount, IsOutside, IsChecked, IsShapeAt, LeadsAt, begins_instruction, branches, is_noted, leads};
+ghost use Rattle.dexinsn.specs.Split.{IsPieceAt, branches_right, are_right_targets, targets_payload};
+ghost use Rattle.dexinsn.specs.Checking.{AreBitsOf, AreCodeStarts, AreNoted, ArePassed, HasNoCode, AreAllRight, HasPiecesOf, IndexCount, IsOutside, IsChecked, IsShapeAt, HasTargetsAt, begins_instruction, branches, is_noted, has_targets};
 
 use crate::code_units::Units;
 use crate::format::Format;
-use crate::indexed::{index_at, kind_at};
 use crate::instruction::branch_offset;
+use crate::instruction_index::{index_at, kind_at};
 use crate::long_switches::{LongSwitches, targets_at};
 use crate::payload::PayloadKind;
 use crate::piece_step::{Limits, step_at};
 use crate::reading::units_at;
 use crate::scratch::{Scratch, wipe};
 use crate::shape::PiecesShape;
-use crate::start_bits::{groups_lead_right, has_place, next_bit, put_bit, set_bit};
+use crate::start_bits::{groups_right, has_place, next_bit, put_bit, set_bit};
 use crate::units::{int_at, opcode_in};
 use dexhead::{Condition, Frame, u16_at};
 use dexpool::{ItemFault, Pools};
@@ -47,8 +47,8 @@ impl Format {
 }
 
 /// Returns whether an instruction that begins with this unit has a target.
-pub(crate) fn leads(first: u16) -> bool
-    ensures { result ≡ leads first }
+pub(crate) fn has_targets(first: u16) -> bool
+    ensures { result ≡ has_targets first }
 {
     match Format::of(opcode_in(first)) {
         Some(format) => format.branches(),
@@ -57,7 +57,7 @@ pub(crate) fn leads(first: u16) -> bool
 }
 
 /// Returns the number of indices of the piece at a unit, one or none, if what it has is in range.
-#[tactic(auto, using(crate::proofs::IndexRoom::room_behind, crate::proofs::IndexRoom::wide_room_behind))]
+#[tactic(auto, using(crate::proofs::IndexRoom::room_after, crate::proofs::IndexRoom::wide_room_after))]
 pub(crate) fn index_count(
     units: &Units<'_>,
     at: usize,
@@ -93,7 +93,7 @@ pub(crate) fn note(units: &Units<'_>, at: usize, starts: &mut Vec<u64>, noted: &
         return;
     }
     set_bit(starts, at);
-    if leads(first) {
+    if has_targets(first) {
         set_bit(noted, at);
     }
 }
@@ -128,11 +128,17 @@ fn pass(
 
 // Returns whether `count` targets of two units each, from unit `first` on, counted from the instruction at unit `at`,
 // are starts of instructions.
-fn targets_lead(units: &Units<'_>, starts: &[u64], at: usize, first: usize, count: usize) -> bool
+fn listed_targets_right(
+    units: &Units<'_>,
+    starts: &[u64],
+    at: usize,
+    first: usize,
+    count: usize,
+) -> bool
     requires small { length units.now < 2 ^ 62 }
     requires from { at < length units.now }
     requires within { first + 2 * count ≤ length units.now }
-    ensures { (cs : List Cut) → AreBitsOf begins_instruction units.now cs starts.now → result ≡ lead_right units.now cs at (ints_in units.now first count) }
+    ensures { (cs : List Cut) → AreBitsOf begins_instruction units.now cs starts.now → result ≡ are_right_targets units.now cs at (ints_in units.now first count) }
 {
     for i in 0..count {
         let offset = int_at(units, first + 2 * i);
@@ -145,7 +151,7 @@ fn targets_lead(units: &Units<'_>, starts: &[u64], at: usize, first: usize, coun
 
 // Returns whether a payload of the kind begins at the place, and its targets, counted from the instruction at unit
 // `at`, are starts of instructions.
-fn payload_leads(
+fn payload_targets_right(
     units: &Units<'_>,
     starts: &[u64],
     noted: &[u64],
@@ -159,7 +165,7 @@ fn payload_leads(
     requires switches { ArePayloads units.now switches.now.groups }
     requires from { at < length units.now }
     requires noted { AreNoted units.now noted.now }
-    ensures { (cs : List Cut) → AreBitsOf begins_instruction units.now cs starts.now → AreBitsOf is_noted units.now cs noted.now → result ≡ leads_to_payload (ident_of kind) units.now cs at place }
+    ensures { (cs : List Cut) → AreBitsOf begins_instruction units.now cs starts.now → AreBitsOf is_noted units.now cs noted.now → result ≡ targets_payload (ident_of kind) units.now cs at place }
 {
     if !has_place(noted, place) {
         return false;
@@ -169,16 +175,16 @@ fn payload_leads(
         return false;
     }
     if let Some(groups) = switches.groups.get(&unit) {
-        return groups_lead_right(starts, groups, at);
+        return groups_right(starts, groups, at);
     }
     match targets_at(units, kind, unit) {
-        Some(targets) => targets_lead(units, starts, at, targets.first, targets.count),
+        Some(targets) => listed_targets_right(units, starts, at, targets.first, targets.count),
         None => true,
     }
 }
 
 // Returns whether the instruction at unit `at`, which has this format, has no target or a valid one.
-fn branch_leads(
+fn branch_targets_right(
     units: &Units<'_>,
     starts: &[u64],
     noted: &[u64],
@@ -201,15 +207,15 @@ fn branch_leads(
     let target = at as i64 + i64::from(offset);
     match format {
         Format::Format31t => {
-            let kind = PayloadKind::led_to_by(opcode_in(units.at(at)));
-            payload_leads(units, starts, noted, switches, at, kind, target)
+            let kind = PayloadKind::payload_kind_of(opcode_in(units.at(at)));
+            payload_targets_right(units, starts, noted, switches, at, kind, target)
         }
         _ => has_place(starts, target),
     }
 }
 
 /// Returns whether the piece at a unit is a payload, or an instruction that has no target or a valid one.
-pub(crate) fn piece_leads(
+pub(crate) fn piece_targets_right(
     units: &Units<'_>,
     starts: &[u64],
     noted: &[u64],
@@ -221,20 +227,25 @@ pub(crate) fn piece_leads(
     requires switches { ArePayloads units.now switches.now.groups }
     requires piece { IsSome (piece_size at (drop at units.now)) }
     requires noted { AreNoted units.now noted.now }
-    ensures { LeadsAt units.now starts.now noted.now at result }
+    ensures { HasTargetsAt units.now starts.now noted.now at result }
 {
     let first = units.at(at);
     if PayloadKind::of(first).is_some() {
         return true;
     }
     match Format::of(opcode_in(first)) {
-        Some(format) => branch_leads(units, starts, noted, switches, at, format),
+        Some(format) => branch_targets_right(units, starts, noted, switches, at, format),
         None => true,
     }
 }
 
 // Returns whether each piece has no target or a valid one.
-fn all_lead(units: &Units<'_>, starts: &[u64], noted: &[u64], switches: &LongSwitches) -> bool
+fn all_targets_right(
+    units: &Units<'_>,
+    starts: &[u64],
+    noted: &[u64],
+    switches: &LongSwitches,
+) -> bool
     requires small { length units.now < 2 ^ 62 }
     requires last { EndsEmpty starts.now }
     requires switches { ArePayloads units.now switches.now.groups }
@@ -248,7 +259,7 @@ fn all_lead(units: &Units<'_>, starts: &[u64], noted: &[u64], switches: &LongSwi
             Some(unit) => unit,
             None => return true,
         };
-        if !piece_leads(units, starts, noted, switches, unit) {
+        if !piece_targets_right(units, starts, noted, switches, unit) {
             return false;
         }
         at = unit + 1;
@@ -277,7 +288,7 @@ fn check_with(
         None => return Ok(None),
     };
     let switches = LongSwitches::find(alloc, units, noted)?;
-    if all_lead(units, starts, noted, &switches) {
+    if all_targets_right(units, starts, noted, &switches) {
         Ok(Some(indices))
     } else {
         Ok(None)

@@ -3,9 +3,9 @@ ghost use Rattle.dexspec.specs.Pieces.{Cut as Meant, IsCode};
 ghost use Rattle.dexinsn.specs.declared.code.CodeFault.TheVariants.{Memory};
 ghost use Rattle.dexinsn.specs.internal.LongSwitches.{ArePayloads};
 ghost use Rattle.dexinsn.specs.Checking.{AreBitsOf, AreCutWith, begins_instruction, is_noted};
-ghost use Rattle.dexinsn.specs.Split.{IsAnswer, IsAnswered, IsCutFault, IsFault, cuts_of, first_astray, kind_of, unit_of};
+ghost use Rattle.dexinsn.specs.Split.{IsAnswer, IsAnswered, IsCutFault, IsFault, cuts_of, first_bad_target, kind_of, unit_of};
 
-use crate::checking::{note, piece_leads};
+use crate::checking::{note, piece_targets_right};
 use crate::code_units::Units;
 use crate::long_switches::LongSwitches;
 use crate::piece::piece_size;
@@ -90,7 +90,7 @@ fn cut_units(
 }
 
 // The unit of the first of the pieces with a wrong target, if there is one.
-fn first_astray(
+fn first_bad_target(
     units: &Units<'_>,
     cuts: &[Cut],
     starts: &[u64],
@@ -100,10 +100,10 @@ fn first_astray(
     requires small { length units.now < 2 ^ 62 }
     requires cuts { AreCutWith units.now (cuts_of cuts.now) starts.now noted.now (length units.now) }
     requires switches { ArePayloads units.now switches.now.groups }
-    ensures { result ≡ first_astray units.now (cuts_of cuts.now) }
+    ensures { result ≡ first_bad_target units.now (cuts_of cuts.now) }
 {
     for cut in cuts {
-        if !piece_leads(units, starts, noted, switches, cut.unit) {
+        if !piece_targets_right(units, starts, noted, switches, cut.unit) {
             return Some(cut.unit);
         }
     }
@@ -123,7 +123,7 @@ fn split_units(alloc: Global, units: &Units<'_>) -> Result<Vec<Cut>, CodeFault>
     wipe(&mut noted, words)?;
     let cuts = cut_units(alloc, units, &mut starts, &mut noted)?;
     let switches = LongSwitches::find(alloc, units, &noted)?;
-    match first_astray(units, &cuts, &starts, &noted, &switches) {
+    match first_bad_target(units, &cuts, &starts, &noted, &switches) {
         Some(unit) => Err(CodeFault::Target(unit)),
         None => Ok(cuts),
     }

@@ -17,7 +17,6 @@ pub use laws::{
     units_law, uses_law,
 };
 pub use listing::{Piece, PieceIter, PieceKind};
-pub use numbers::renumber;
 pub use opcodes::{index_kind, mnemonic};
 pub use payload::PayloadKind;
 pub use pieces::Pieces;
@@ -25,19 +24,19 @@ pub use put::put_pieces;
 pub use reading::read_pieces;
 pub use scratch::Scratch;
 pub use shape::PiecesShape;
+pub use symbol_indices::renumber;
 
 mod building;
 mod checking;
 mod code;
 mod code_units;
 mod format;
-mod indexed;
 mod instruction;
+mod instruction_index;
 mod instruction_starts;
 mod laws;
 mod listing;
 mod long_switches;
-mod numbers;
 mod opcodes;
 mod payload;
 mod piece;
@@ -49,6 +48,7 @@ mod same;
 mod scratch;
 mod shape;
 mod start_bits;
+mod symbol_indices;
 mod target_group;
 mod target_groups;
 mod unit;

@@ -9,7 +9,7 @@ ghost use Rattle.dexinsn.specs.Stored.{AreStored, left_by, parts_in, pieces_with
 ghost use Rattle.dexinsn.specs.Listing.{payload_shown, kind_from, symbol_by, listed, listing, IsListing, ListsFirst};
 
 use crate::code_units::Units;
-use crate::indexed::kind_at;
+use crate::instruction_index::kind_at;
 use crate::payload::PayloadKind;
 use crate::piece::piece_size;
 use crate::pieces::{Index, Pieces};

@@ -44,7 +44,7 @@ impl PayloadKind {
     }
 
     /// The kind of payload that an instruction of the format 31t refers to.
-    pub(crate) fn led_to_by(op: u8) -> PayloadKind
+    pub(crate) fn payload_kind_of(op: u8) -> PayloadKind
         ensures { ident_of result ≡ payload_ident op }
     {
         match op {

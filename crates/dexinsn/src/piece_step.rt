@@ -5,7 +5,7 @@ ghost use Rattle.dexspec.specs.Mentions.{Mentions};
 ghost use Rattle.dexinsn.specs.Opcode.{kind_of_index};
 ghost use Rattle.dexinsn.specs.Checking.{AreLimits, HasNoStep, IsStep, count_of_index, limit_of, slot_of};
 
-use crate::checking::{index_count, leads};
+use crate::checking::{has_targets, index_count};
 use crate::code_units::Units;
 use crate::opcodes::{IndexKind, row_of};
 use crate::payload::PayloadKind;
@@ -123,7 +123,7 @@ fn any_step(units: &Units<'_>, pools: &Pools<'_>, at: usize) -> Option<Step>
         units: size,
         indices,
         is_instruction,
-        is_noted: !is_instruction || leads(first),
+        is_noted: !is_instruction || has_targets(first),
     })
 }
 

@@ -5,13 +5,13 @@ ghost use Rattle.std.specs.List.{flat_map};
 ghost use Rattle.dexspec.specs.Bytes.{ushort};
 ghost use Rattle.dexspec.specs.Pieces.{Piece};
 ghost use Rattle.dexspec.specs.Spellings.{piece_units};
-ghost use Rattle.dexspec.specs.Aside.Writing.{Puts};
+ghost use Rattle.dexspec.specs.internal.Writing.{Puts};
 ghost use Rattle.dexinsn.specs.Units.{units_in};
-ghost use Rattle.dexinsn.specs.Numbered.{numbered_bytes, StandFor};
-ghost use Rattle.dexinsn.specs.Stored.{AreStored, index_units, behind_index, spelled_from};
+ghost use Rattle.dexinsn.specs.Numbered.{numbered_bytes, Denote};
+ghost use Rattle.dexinsn.specs.Stored.{AreStored, index_units, after_index, spelled_from};
 
 use crate::code_units::{Units, unit_bytes};
-use crate::indexed::is_wide_at;
+use crate::instruction_index::is_wide_at;
 use crate::laws::units_law;
 use crate::pieces::{Index, Pieces};
 use dexhead::{put_u16, put_u32};
@@ -46,9 +46,9 @@ fn push_number(is_wide: bool, number: u32, out: &mut Vec<u8>)
 }
 
 // Returns the unit after the index of the instruction at a unit.
-pub(crate) fn behind_index(is_wide: bool, unit: usize) -> usize
+pub(crate) fn after_index(is_wide: bool, unit: usize) -> usize
     requires { unit < 2 ^ 62 }
-    ensures { result ≡ behind_index is_wide unit }
+    ensures { result ≡ after_index is_wide unit }
 {
     if is_wide { unit + 3 } else { unit + 2 }
 }
@@ -78,7 +78,7 @@ fn push_numbered(bytes: &[u8], indices: &[Index], out: &mut Vec<u8>)
         let is_wide = is_wide_at(&units, unit);
         push_part(bytes, from, unit + 1, out);
         push_number(is_wide, index.number, out);
-        from = behind_index(is_wide, unit);
+        from = after_index(is_wide, unit);
     }
     push_part(bytes, from, units.len(), out);
 }
@@ -96,7 +96,7 @@ pub fn put_pieces(
     out: &mut Vec<u8>,
 ) -> Result<(), AllocError>
     ensures bytes { Puts (numbered_bytes pieces.now.pieces) out.old out.new result }
-    ensures symbolic { (symbolic : List Piece) → StandFor numbering.now pieces.now.pieces symbolic → Puts (flat_map ushort (flat_map (piece_units numbering.now) symbolic)) out.old out.new result }
+    ensures symbolic { (symbolic : List Piece) → Denote numbering.now pieces.now.pieces symbolic → Puts (flat_map ushort (flat_map (piece_units numbering.now) symbolic)) out.old out.new result }
 {
     numbering.is_numbering();
     units_law();

@@ -5,12 +5,12 @@ ghost use Rattle.std.specs.List.{AllZip};
 ghost use Rattle.dexinsn.specs.Units.{units_in};
 ghost use Rattle.dexinsn.specs.Numbered.{renumbered, renumbered_piece};
 ghost use Rattle.dexinsn.specs.Stored.{AreStored, IsIndexed, Follow, parts_in, pieces_with};
-ghost use Rattle.dexinsn.specs.internal.Same.{Agree, AgreeBeside, LeadAlike};
+ghost use Rattle.dexinsn.specs.internal.Same.{Agree, AgreeBeside, AreEqualMapped};
 
 use crate::code_units::{Units, unit_bytes};
-use crate::indexed::{index_kind_at, is_wide_at};
+use crate::instruction_index::{index_kind_at, is_wide_at};
 use crate::pieces::{Index, Pieces};
-use crate::put::behind_index;
+use crate::put::after_index;
 use dexpool::Remap;
 
 // Returns whether the units from one place up to another are the same.
@@ -36,13 +36,13 @@ fn agree_beside(bytes: &[u8], others: &[u8], indices: &[Index]) -> bool
         if !agree(bytes, others, from, unit + 1) {
             return false;
         }
-        from = behind_index(is_wide_at(&units, unit), unit);
+        from = after_index(is_wide_at(&units, unit), unit);
     }
     agree(bytes, others, from, units.len())
 }
 
 // Returns whether both indices are at one unit and have one image, or neither has one.
-fn leads_alike(
+fn eq_remapped(
     units: &Units<'_>,
     index: Index,
     remap: &Remap,
@@ -50,7 +50,7 @@ fn leads_alike(
     other_remap: &Remap,
 ) -> bool
     requires { IsIndexed units.now index }
-    ensures { IsTrue result ↔ LeadAlike remap.now other_remap.now units.now index other }
+    ensures { IsTrue result ↔ AreEqualMapped remap.now other_remap.now units.now index other }
 {
     if index.unit != other.unit {
         return false;
@@ -61,7 +61,7 @@ fn leads_alike(
 }
 
 // Returns whether the indices are at the same units and have the same images.
-fn lead_alike(
+fn eq_mapped(
     units: &Units<'_>,
     indices: &[Index],
     remap: &Remap,
@@ -69,13 +69,13 @@ fn lead_alike(
     other_remap: &Remap,
 ) -> bool
     requires { All (IsIndexed units.now) indices.now }
-    ensures { IsTrue result ↔ AllZip (LeadAlike remap.now other_remap.now units.now) indices.now others.now }
+    ensures { IsTrue result ↔ AllZip (AreEqualMapped remap.now other_remap.now units.now) indices.now others.now }
 {
     if indices.len() != others.len() {
         return false;
     }
     for (i, index) in indices.iter().enumerate() {
-        if !leads_alike(units, *index, remap, others[i], other_remap) {
+        if !eq_remapped(units, *index, remap, others[i], other_remap) {
             return false;
         }
     }
@@ -102,7 +102,7 @@ fn same_pieces(
     if !agree_beside(bytes, other_bytes, indices) {
         return false;
     }
-    lead_alike(&units, indices, remap, other_indices, other_remap)
+    eq_mapped(&units, indices, remap, other_indices, other_remap)
 }
 
 impl<'a> Pieces<'a> {

@@ -60,7 +60,7 @@ fn are_set(words: &[u64], place: i64, mask: u64) -> bool
 }
 
 /// Returns whether the bits of all targets of the groups are set, counted from the instruction at unit `at`.
-pub(crate) fn groups_lead_right(words: &[u64], groups: &[TargetGroup], at: usize) -> bool
+pub(crate) fn groups_right(words: &[u64], groups: &[TargetGroup], at: usize) -> bool
     requires small { at < 2 ^ 62 }
     requires last { EndsEmpty words.now }
     ensures { (result ≡ true) ↔ All (λ g. HasPlaces words.now (pos at +ℤ g.first) g.bits) groups.now }

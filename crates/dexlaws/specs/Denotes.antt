@@ -14,5 +14,5 @@ abbrev pub AreReadable : List ℕ → Type 0
 AreReadable b = (r : ℕ) → r < table_size b ClassDefs → IsReadable b r
 
 -- the symbol of a later row is greater
-abbrev pub StandInOrder : {X : Type 0} → (X → X → Ordering) → (ℕ → X → Type 0) → Type 0
-StandInOrder {X} R Row = (i j : ℕ) (x y : X) → i < j → Row i x → Row j y → R x y ≡ Less
+abbrev pub RowsInOrder : {X : Type 0} → (X → X → Ordering) → (ℕ → X → Type 0) → Type 0
+RowsInOrder {X} R Row = (i j : ℕ) (x y : X) → i < j → Row i x → Row j y → R x y ≡ Less

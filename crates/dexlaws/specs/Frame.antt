@@ -1,7 +1,7 @@
 -- The statements of the laws of canonical files.
 use Rattle.std.specs.Prelude.{◌≡◌, ℕ, ◌+◌, ◌%◌, ◌<◌, ◌≤◌, List, ◌++◌, length, slice_index, slice_index_or}
 use Rattle.std.specs.List.{Contains}
-use Rattle.dexspec.specs.Bytes.{uint, Stands, round_up}
+use Rattle.dexspec.specs.Bytes.{uint, BytesAt, round_up}
 use Rattle.dexspec.specs.Texts.{Text}
 use Rattle.dexspec.specs.Symbols.{Proto, Field, Method, Symbol, TextSymbol, TypeSymbol, ProtoSymbol, FieldSymbol, MethodSymbol}
 use Rattle.dexspec.specs.Header.{Table, StringIds, TypeIds, ProtoIds, FieldIds, MethodIds, ClassDefs, table_size, data_off, data_size, file_size, map_off, header_length, HasSize, HasMagic, HasVersion, HasLengths, HasEndian, HasNoLink, HasChecksum, HasSignature}
@@ -30,23 +30,23 @@ pub record HasFields (K : Ordered) (b : List ℕ) : Type 0 where
 
 -- each row of each table is at the offset that the header gives
 pub record HasRows (K : Ordered) (b : List ℕ) : Type 0 where
-  pub strings : (i : ℕ) → i < length K.pools.texts → Stands b (row_at b StringIds i) (uint (slice_index (layout K).strings i))
-  pub types : (i : ℕ) (d : Text) → i < length K.pools.types → Stands b (row_at b TypeIds i) (uint (text_index K.pools (slice_index_or K.pools.types i d)))
-  pub protos : (i : ℕ) (d : Proto) → i < length K.pools.protos → Stands b (row_at b ProtoIds i) (proto_row_bytes K.pools (slice_index_or K.pools.protos i d) (slice_index (layout K).parameters i))
-  pub fields : (i : ℕ) (d : Field) → i < length K.pools.fields → Stands b (row_at b FieldIds i) (field_row_bytes K.pools (slice_index_or K.pools.fields i d))
-  pub methods : (i : ℕ) (d : Method) → i < length K.pools.methods → Stands b (row_at b MethodIds i) (method_row_bytes K.pools (slice_index_or K.pools.methods i d))
-  pub classes : (r : ℕ) (d : Definition) (e : ClassOffsets) → r < length K.classes → Stands b (row_at b ClassDefs r) (class_row_bytes K.pools (slice_index_or K.classes r d) (slice_index_or (layout K).classes r e))
+  pub strings : (i : ℕ) → i < length K.pools.texts → BytesAt b (row_at b StringIds i) (uint (slice_index (layout K).strings i))
+  pub types : (i : ℕ) (d : Text) → i < length K.pools.types → BytesAt b (row_at b TypeIds i) (uint (text_index K.pools (slice_index_or K.pools.types i d)))
+  pub protos : (i : ℕ) (d : Proto) → i < length K.pools.protos → BytesAt b (row_at b ProtoIds i) (proto_row_bytes K.pools (slice_index_or K.pools.protos i d) (slice_index (layout K).parameters i))
+  pub fields : (i : ℕ) (d : Field) → i < length K.pools.fields → BytesAt b (row_at b FieldIds i) (field_row_bytes K.pools (slice_index_or K.pools.fields i d))
+  pub methods : (i : ℕ) (d : Method) → i < length K.pools.methods → BytesAt b (row_at b MethodIds i) (method_row_bytes K.pools (slice_index_or K.pools.methods i d))
+  pub classes : (r : ℕ) (d : Definition) (e : ClassOffsets) → r < length K.classes → BytesAt b (row_at b ClassDefs r) (class_row_bytes K.pools (slice_index_or K.classes r d) (slice_index_or (layout K).classes r e))
 
 -- the bytes are at the offset, in the data, at a multiple of the alignment
-pub record StandsAligned (b : List ℕ) (align o : ℕ) (x : List ℕ) : Type 0 where
-  pub stands : Stands b o x
+pub record BytesAligned (b : List ℕ) (align o : ℕ) (x : List ℕ) : Type 0 where
+  pub encodes : BytesAt b o x
   pub in_data : IsInData b o (length x)
   pub multiple : o % align ≡ 0
 
 -- each item of each section is at its offset, and the map after them
 pub record HasItems (K : Ordered) (b : List ℕ) : Type 0 where
-  pub items : (p : Placed) → Contains (layout K).sections p → (i : ℕ) (d : List ℕ) → i < length p.items → StandsAligned b p.align (slice_index (offsets p) i) (slice_index_or p.items i d)
-  pub map_list : StandsAligned b 4 (map_off b) (map_bytes (map_of K (layout K) (map_off b)))
+  pub items : (p : Placed) → Contains (layout K).sections p → (i : ℕ) (d : List ℕ) → i < length p.items → BytesAligned b p.align (slice_index (offsets p) i) (slice_index_or p.items i d)
+  pub map_list : BytesAligned b 4 (map_off b) (map_bytes (map_of K (layout K) (map_off b)))
 
 -- the five numbers after the signature of a header, and the rest of it
 abbrev pub opening : ℕ → List ℕ → List ℕ

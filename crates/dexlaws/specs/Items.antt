@@ -13,19 +13,19 @@ abbrev pub IsOne : {X : Type 0} → (List ℕ → ℕ → X → Type 0) → Type
 IsOne {X} Row = (b : List ℕ) (i : ℕ) (x y : X) → Row b i x → Row b i y → x ≡ y
 
 -- the test passes exactly if the values are equal
-abbrev pub TellsEqual : {X : Type 0} → (X → X → Bool) → Type 0
-TellsEqual {X} same = (x y : X) → (same x y ≡ true) ↔ (x ≡ y)
+abbrev pub ReportsEqual : {X : Type 0} → (X → X → Bool) → Type 0
+ReportsEqual {X} same = (x y : X) → (same x y ≡ true) ↔ (x ≡ y)
 
 -- an empty use has no number; another use has the number of the item that equals it
-abbrev pub LeadsTo : {X : Type 0} → List X → Option X → Option ℕ → Type 0
-LeadsTo written None number = number ≡ None
-LeadsTo written (Some x) number = (i : ℕ) × (i < length written) × (number ≡ Some i) × (slice_index_or written i x ≡ x)
+abbrev pub PointsTo : {X : Type 0} → List X → Option X → Option ℕ → Type 0
+PointsTo written None number = number ≡ None
+PointsTo written (Some x) number = (i : ℕ) × (i < length written) × (number ≡ Some i) × (slice_index_or written i x ≡ x)
 
 -- each use has the number of an item that equals it, and no two items are equal
 pub record AreShared {X : Type 0} (uses : List (Option X)) (items : Items X) : Type 0 where
   pub distinct : AreDistinct items.written
   pub used : (x : X) → Contains items.written x → Contains uses (Some x)
   pub count : length items.numbers ≡ length uses
-  pub lead : (k : ℕ) → k < length uses → LeadsTo items.written (slice_index_or uses k None) (slice_index_or items.numbers k None)
+  pub are_mapped : (k : ℕ) → k < length uses → PointsTo items.written (slice_index_or uses k None) (slice_index_or items.numbers k None)
   -- before a use of an item there is a use of the item before it
   pub in_order : (k i : ℕ) → k < length uses → slice_index_or items.numbers k None ≡ Some (suc i) → (j : ℕ) × (j < k) × (slice_index_or items.numbers j None ≡ Some i)

@@ -20,12 +20,12 @@ abbrev pub AreListed : {X : Type 0} → (ℕ → X → Type 0) → List X → Ty
 AreListed {X} Row xs = (i : ℕ) (x : X) → Row i x ↔ IsAt xs i x
 
 -- each element of the list is at its rank
-abbrev pub StandAtRanks : {X : Type 0} → (X → X → Ordering) → (ℕ → X → Type 0) → List X → Type 0
-StandAtRanks {X} R Row xs = (x : X) → Contains xs x → Row (rank R x xs) x
+abbrev pub AreAtRanks : {X : Type 0} → (X → X → Ordering) → (ℕ → X → Type 0) → List X → Type 0
+AreAtRanks {X} R Row xs = (x : X) → Contains xs x → Row (rank R x xs) x
 
 -- each symbol is in the row of its index in its pool, and the index plus one fits 32 bits
-abbrev pub StandInRows : List ℕ → Mentions → List Symbol → Type 0
-StandInRows b m ss = (s : Symbol) → Contains ss s → SymbolRow b (symbol_index m s) s × (symbol_index m s + 1 < 2 ^ 32)
+abbrev pub HaveRows : List ℕ → Mentions → List Symbol → Type 0
+HaveRows b m ss = (s : Symbol) → Contains ss s → SymbolRow b (symbol_index m s) s × (symbol_index m s + 1 < 2 ^ 32)
 
 -- the bytes are an accepted file that denotes the collection
 pub record IsAcceptedAs (b : List ℕ) (K : Collection) : Type 0 where

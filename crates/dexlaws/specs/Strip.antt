@@ -31,7 +31,7 @@ abbrev pub HasNoDebug : MethodDef → Type 0
 HasNoDebug m = IfSome m.code (λ c. c.debug ≡ None)
 
 -- nothing can be stripped from it
-pub record IsBare (c : Body) : Type 0 where
+pub record IsWithoutDebug (c : Body) : Type 0 where
   pub source : c.source ≡ None
   pub direct_methods : All HasNoDebug c.direct_methods
   pub virtual_methods : All HasNoDebug c.virtual_methods

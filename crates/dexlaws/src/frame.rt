@@ -1,6 +1,6 @@
 //! Canonical files: the offset of each part, and the conditions that header, map and rows meet.
 ghost use Rattle.std.specs.Prelude.{List, ℕ, ◌+◌, ◌≡◌, ◌<◌, ◌≤◌, ◌^◌, length, map, All};
-ghost use Rattle.dexspec.specs.Bytes.{ushort, uint, ushort_at, uint_at, Stands};
+ghost use Rattle.dexspec.specs.Bytes.{ushort, uint, ushort_at, uint_at, BytesAt};
 ghost use Rattle.dexspec.specs.Header.{HasMagic, HasVersion, HasChecksum, HasSignature};
 ghost use Rattle.dexspec.specs.Sections.{Section, entries_at};
 ghost use Rattle.dexspec.specs.Accepted.{HoldBelow, IsFrame};
@@ -17,8 +17,8 @@ ghost use Rattle.dexlaws.specs.Frame.{IsMentioned, HasFewSymbols, HasFields, Has
 
 /// A number is read at the offset of its bytes.
 pub fn numbers_law()
-    ensures two { (b : List ℕ) (o n : ℕ) → n < 2 ^ 16 → Stands b o (ushort n) → ushort_at b o ≡ n }
-    ensures four { (b : List ℕ) (o n : ℕ) → n < 2 ^ 32 → Stands b o (uint n) → uint_at b o ≡ n }
+    ensures two { (b : List ℕ) (o n : ℕ) → n < 2 ^ 16 → BytesAt b o (ushort n) → ushort_at b o ≡ n }
+    ensures four { (b : List ℕ) (o n : ℕ) → n < 2 ^ 32 → BytesAt b o (uint n) → uint_at b o ≡ n }
 {}
 
 /// The magic and the two sums before any bytes are valid.
@@ -51,8 +51,8 @@ pub fn header_law()
 
 /// A map is read at its offset: the number of its entries, and each entry.
 pub fn map_law()
-    ensures count { (b : List ℕ) (o : ℕ) (es : List (Section × ℕ × ℕ)) → length es < 2 ^ 32 → All (λ e. (e.1 < 2 ^ 32) × (e.2 < 2 ^ 32)) es → Stands b o (map_bytes es) → uint_at b o ≡ length es }
-    ensures entries { (b : List ℕ) (o : ℕ) (es : List (Section × ℕ × ℕ)) → length es < 2 ^ 32 → All (λ e. (e.1 < 2 ^ 32) × (e.2 < 2 ^ 32)) es → Stands b o (map_bytes es) → entries_at b (o + 4) (length es) ≡ map entry_of es }
+    ensures count { (b : List ℕ) (o : ℕ) (es : List (Section × ℕ × ℕ)) → length es < 2 ^ 32 → All (λ e. (e.1 < 2 ^ 32) × (e.2 < 2 ^ 32)) es → BytesAt b o (map_bytes es) → uint_at b o ≡ length es }
+    ensures entries { (b : List ℕ) (o : ℕ) (es : List (Section × ℕ × ℕ)) → length es < 2 ^ 32 → All (λ e. (e.1 < 2 ^ 32) × (e.2 < 2 ^ 32)) es → BytesAt b o (map_bytes es) → entries_at b (o + 4) (length es) ≡ map entry_of es }
 {}
 
 /// The canonical file of well-formed definitions that fit caps meets conditions 1 to 15, and each symbol that

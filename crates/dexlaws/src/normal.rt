@@ -15,46 +15,46 @@ ghost use Rattle.dexspec.specs.Merging.{Caps, AreCaps, greatest_caps, Fits, IsGo
 ghost use Rattle.dexspec.specs.Conditions.{Condition};
 ghost use Rattle.dexspec.specs.Accepted.{HoldsThroughout, HoldBelow, IsReadable, IsAccepted};
 ghost use Rattle.dexspec.specs.Canonical.{canonical};
-ghost use Rattle.dexlaws.specs.Normal.{AreListed, StandAtRanks, StandInRows, IsAcceptedAs};
+ghost use Rattle.dexlaws.specs.Normal.{AreListed, AreAtRanks, HaveRows, IsAcceptedAs};
 
 /// The string rows of the canonical file of definitions that fit are the mentioned texts, in order.
-pub fn strings_stand()
+pub fn strings_at_ranks()
     ensures rows { (K : Collection) → Fits greatest_caps (definitions K) → AreWellFormed (definitions K) → AreListed (StringRow (canonical K)) (mentions (definitions K)).texts }
-    ensures ranks { (K : Collection) → Fits greatest_caps (definitions K) → AreWellFormed (definitions K) → StandAtRanks text_cmp (StringRow (canonical K)) (mentions (definitions K)).texts }
+    ensures ranks { (K : Collection) → Fits greatest_caps (definitions K) → AreWellFormed (definitions K) → AreAtRanks text_cmp (StringRow (canonical K)) (mentions (definitions K)).texts }
     ensures holds { (K : Collection) → Fits greatest_caps (definitions K) → AreWellFormed (definitions K) → HoldsThroughout Condition.Strings (canonical K) }
 {}
 
 /// The type rows are the mentioned types, in order.
-pub fn types_stand()
+pub fn types_at_ranks()
     ensures rows { (K : Collection) → Fits greatest_caps (definitions K) → AreWellFormed (definitions K) → AreListed (TypeRow (canonical K)) (mentions (definitions K)).types }
-    ensures ranks { (K : Collection) → Fits greatest_caps (definitions K) → AreWellFormed (definitions K) → StandAtRanks text_cmp (TypeRow (canonical K)) (mentions (definitions K)).types }
+    ensures ranks { (K : Collection) → Fits greatest_caps (definitions K) → AreWellFormed (definitions K) → AreAtRanks text_cmp (TypeRow (canonical K)) (mentions (definitions K)).types }
     ensures holds { (K : Collection) → Fits greatest_caps (definitions K) → AreWellFormed (definitions K) → HoldsThroughout Condition.Types (canonical K) }
 {}
 
 /// The proto rows are the mentioned protos, in order, with their lists of parameters.
-pub fn protos_stand()
+pub fn protos_at_ranks()
     ensures rows { (K : Collection) → Fits greatest_caps (definitions K) → AreWellFormed (definitions K) → AreListed (ProtoRow (canonical K)) (mentions (definitions K)).protos }
-    ensures ranks { (K : Collection) → Fits greatest_caps (definitions K) → AreWellFormed (definitions K) → StandAtRanks proto_cmp (ProtoRow (canonical K)) (mentions (definitions K)).protos }
+    ensures ranks { (K : Collection) → Fits greatest_caps (definitions K) → AreWellFormed (definitions K) → AreAtRanks proto_cmp (ProtoRow (canonical K)) (mentions (definitions K)).protos }
     ensures holds { (K : Collection) → Fits greatest_caps (definitions K) → AreWellFormed (definitions K) → HoldsThroughout Condition.Protos (canonical K) }
 {}
 
 /// The field rows are the mentioned fields, in order.
-pub fn fields_stand()
+pub fn fields_at_ranks()
     ensures rows { (K : Collection) → Fits greatest_caps (definitions K) → AreWellFormed (definitions K) → AreListed (FieldRow (canonical K)) (mentions (definitions K)).fields }
-    ensures ranks { (K : Collection) → Fits greatest_caps (definitions K) → AreWellFormed (definitions K) → StandAtRanks field_cmp (FieldRow (canonical K)) (mentions (definitions K)).fields }
+    ensures ranks { (K : Collection) → Fits greatest_caps (definitions K) → AreWellFormed (definitions K) → AreAtRanks field_cmp (FieldRow (canonical K)) (mentions (definitions K)).fields }
     ensures holds { (K : Collection) → Fits greatest_caps (definitions K) → AreWellFormed (definitions K) → HoldsThroughout Condition.Fields (canonical K) }
 {}
 
 /// The method rows are the mentioned methods, in order.
-pub fn methods_stand()
+pub fn methods_at_ranks()
     ensures rows { (K : Collection) → Fits greatest_caps (definitions K) → AreWellFormed (definitions K) → AreListed (MethodRow (canonical K)) (mentions (definitions K)).methods }
-    ensures ranks { (K : Collection) → Fits greatest_caps (definitions K) → AreWellFormed (definitions K) → StandAtRanks method_cmp (MethodRow (canonical K)) (mentions (definitions K)).methods }
+    ensures ranks { (K : Collection) → Fits greatest_caps (definitions K) → AreWellFormed (definitions K) → AreAtRanks method_cmp (MethodRow (canonical K)) (mentions (definitions K)).methods }
     ensures holds { (K : Collection) → Fits greatest_caps (definitions K) → AreWellFormed (definitions K) → HoldsThroughout Condition.Methods (canonical K) }
 {}
 
 /// The class rows of the canonical file of a good collection are its definitions, in order, and all items of the rows
 /// can be read.
-pub fn classes_stand()
+pub fn classes_at_ranks()
     ensures holds { (K : Collection) → IsGood greatest_caps (definitions K) → AreWellFormed (definitions K) → HoldsThroughout Condition.Classes (canonical K) }
     ensures rows { (K : Collection) → IsGood greatest_caps (definitions K) → AreWellFormed (definitions K) → AreListed (λ r (d : Definition). ClassRow (canonical K) r d.0 d.1) (in_class_order (definitions K)) }
     ensures readable { (K : Collection) → IsGood greatest_caps (definitions K) → AreWellFormed (definitions K) → (r : ℕ) → r < table_size (canonical K) ClassDefs → IsReadable (canonical K) r }
@@ -63,8 +63,8 @@ pub fn classes_stand()
 
 /// Each symbol that occurs in a definition of a collection that fits is, in the canonical file, in the row
 /// of its index, and the index plus one fits 32 bits.
-pub fn symbols_stand()
-    ensures { (K : Collection) → Fits greatest_caps (definitions K) → AreWellFormed (definitions K) → (d : Definition) → Contains (definitions K) d → StandInRows (canonical K) (mentions (definitions K)) (symbols_of d) }
+pub fn symbols_at_ranks()
+    ensures { (K : Collection) → Fits greatest_caps (definitions K) → AreWellFormed (definitions K) → (d : Definition) → Contains (definitions K) d → HaveRows (canonical K) (mentions (definitions K)) (symbols_of d) }
 {}
 
 /// The canonical file of any collection that is good and well formed meets conditions 1 to 16.

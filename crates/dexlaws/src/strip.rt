@@ -11,7 +11,7 @@ ghost use Rattle.dexspec.specs.WellFormed.{IsWellFormed, AreWellFormed};
 ghost use Rattle.dexspec.specs.Weight.{body_weight, weight};
 ghost use Rattle.dexspec.specs.Merging.{Caps, HasShortString, Fits, IsConsistent, IsConflict, IsGood, Cause, IsCause, Plan, union};
 ghost use Rattle.dexspec.specs.Stripping.{strip_body, strip_definition, strip, strip_collection};
-ghost use Rattle.dexlaws.specs.Strip.{IsLeft, IsBare, KeepsDefinition, KeepsDepths, AreParts, HasHeavier, StripsCollection, StripCommutes};
+ghost use Rattle.dexlaws.specs.Strip.{IsLeft, IsWithoutDebug, KeepsDefinition, KeepsDepths, AreParts, HasHeavier, StripsCollection, StripCommutes};
 
 /// A stripped union is the union of the stripped parts: of the files that a plan names, of two lists, and by members
 /// alone.
@@ -25,9 +25,9 @@ pub fn strip_union()
 
 /// A stripped definition has no source text and no debug program, and only definitions that have one change: so
 /// stripping twice is stripping once.
-pub fn strip_bare()
-    ensures bare { (c : Body) → IsBare (strip_body c) }
-    ensures unchanged { (c : Body) → IsBare c → strip_body c ≡ c }
+pub fn strip_without_debug()
+    ensures without_debug { (c : Body) → IsWithoutDebug (strip_body c) }
+    ensures unchanged { (c : Body) → IsWithoutDebug c → strip_body c ≡ c }
     ensures twice { (D : List Definition) → strip (strip D) ≡ strip D }
 {}
 

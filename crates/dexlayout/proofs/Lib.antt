@@ -11,8 +11,8 @@ pub mod SetDirectories
 pub mod SetItems
 pub mod SetLists
 pub mod SetParts
-pub mod SetsGathered
-pub mod SetsStand
+pub mod SetsCollected
+pub mod SetsAreAt
 pub mod SharedIdentity
 pub mod SharedKinds
 pub mod SharedPlaces

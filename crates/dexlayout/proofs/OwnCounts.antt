@@ -23,9 +23,9 @@ use Rattle.dexlayout.specs.Places.{ItemPlaces}
 use Rattle.dexlayout.specs.internal.Running.{none_from, pass, put_at, place_uses}
 use Rattle.dexlayout.specs.internal.Parts.{AreData, count_placed}
 use Rattle.dexlayout.specs.declared.data.Data.{Data}
-use Rattle.dexlayout.specs.Laid.{StandSo, ordered_of}
+use Rattle.dexlayout.specs.Laid.{AreLaidSo, ordered_of}
 use Rattle.dexlayout.proofs.Ends.{EndInFile, chained}
-use Rattle.dexlayout.proofs.Owned.{sizes, own_stand}
+use Rattle.dexlayout.proofs.Owned.{sizes, own_encoded}
 
 -- ---- the greatest of several
 
@@ -72,7 +72,7 @@ module _ {X : Type 0} (f : X → List ℕ) (align : ℕ) where
   -- as many as items
   pub own_count : (from : ℕ) (us : List (Option X)) → 0 < from
       → count_placed (uses_offsets (own_items us).numbers (offsets_from align from (map f (own_items us).written))) ≡ length (map f (own_items us).written)
-  own_count from us some = ap count_placed (sym (own_stand f align from us).offsets_are) ∙ count_go us (none_from from) some ∙ plus_zero (length (present us)) ∙ sym (length-map (present us) f)
+  own_count from us some = ap count_placed (sym (own_encoded f align from us).offsets_are) ∙ count_go us (none_from from) some ∙ plus_zero (length (present us)) ∙ sym (length-map (present us) f)
 
 -- ---- those of each section
 
@@ -141,15 +141,15 @@ counted m cs {d} h =
     let K = ordered_of m cs in
     let items = (set_items K).written in
     record {
-      type_lists = sym (length-map d.front.type_lists.written (map (type_at m))) ∙ ap (λ xs. length xs) h.front_are.type_lists_are.written_are ∙ sym (length-map (type_list_items K).written (type_list_bytes m));
-      annotations = sym (length-annotations m d.front.annotations.written) ∙ ap (λ (xs : List AnnotationSet). length (flat_map (λ (set : AnnotationSet). set) xs)) h.front_are.annotations_are.written_are
+      type_lists = sym (length-map d.front.type_lists.written (map (type_at m))) ∙ ap (λ xs. length xs) h.first_sections_are.type_lists_are.written_are ∙ sym (length-map (type_list_items K).written (type_list_bytes m));
+      annotations = sym (length-annotations m d.front.annotations.written) ∙ ap (λ (xs : List AnnotationSet). length (flat_map (λ (set : AnnotationSet). set) xs)) h.first_sections_are.annotations_are.written_are
           ∙ sym (length-map (flat_map (λ (set : AnnotationSet). set) items) (annotation_bytes m));
-      arrays = ap count_placed h.front_are.static_values_are.offsets_are ∙ array_count K;
+      arrays = ap count_placed h.first_sections_are.static_values_are.offsets_are ∙ array_count K;
       strings = sym (length-map m.texts string_data);
       debugs = h.bodies_are.debugs_are.count_is;
       codes = ap count_placed h.bodies_are.codes_are.offsets_are ∙ code_count K;
       class_data = ap count_placed h.bodies_are.class_data_are.offsets_are ∙ class_data_count K;
-      sets = sym (length-map d.front.annotations.written (set_in m)) ∙ ap (λ (xs : List AnnotationSet). length xs) h.front_are.annotations_are.written_are ∙ sym (set_count K);
+      sets = sym (length-map d.front.annotations.written (set_in m)) ∙ ap (λ (xs : List AnnotationSet). length xs) h.first_sections_are.annotations_are.written_are ∙ sym (set_count K);
       ref_lists = ap count_placed h.back_are.ref_lists_are.offsets_are ∙ ref_list_count K;
       directories = ap count_placed h.back_are.directories_are.offsets_are ∙ directory_count K;
     }
@@ -192,10 +192,10 @@ few_items K ends =
 -- ---- texts
 
 -- the texts stand behind the static values
-pub strings_stand : (K : Ordered) (from : ℕ) {p : ItemPlaces} → from ≡ array_end K
-    → StandSo (offsets_from 1 from (map string_data K.pools.texts)) (end_from 1 from (map string_data K.pools.texts)) (map string_data K.pools.texts) p
-    → StandSo (offsets (string_section K)) (string_end K) (string_section K).items p
-strings_stand K from {p} e h = record {
+pub strings_at_ranks : (K : Ordered) (from : ℕ) {p : ItemPlaces} → from ≡ array_end K
+    → AreLaidSo (offsets_from 1 from (map string_data K.pools.texts)) (end_from 1 from (map string_data K.pools.texts)) (map string_data K.pools.texts) p
+    → AreLaidSo (offsets (string_section K)) (string_end K) (string_section K).items p
+strings_at_ranks K from {p} e h = record {
   offsets_are = h.offsets_are ∙ ap (λ n. offsets_from 1 n (map string_data K.pools.texts)) e;
   end_is = h.end_is ∙ ap (λ n. end_from 1 n (map string_data K.pools.texts)) e ∙ sym (sections_follow K).1.1.1.1.0;
   greatest_is = h.greatest_is;

@@ -12,14 +12,14 @@ use Rattle.dexspec.specs.Merging.{Caps, greatest_caps, AreCaps, Fits}
 use Rattle.dexspec.specs.Placing.{Ordered, EqualOnce, section_bytes}
 use Rattle.dexspec.specs.Canonical.{layout, map_of, map_bytes, map_entry_bytes, unsigned_file, with_sums, ordered, canonical, data_start, type_list_items, type_list_section, type_list_offsets, type_list_end, set_items, annotation_section, annotation_end, array_section, array_offsets, array_end, string_section, string_end, debug_section, debug_offsets, debug_end, code_section, code_offsets, code_end, class_data_section, class_data_offsets, class_data_end, set_section, set_offsets, set_end, ref_list_section, ref_list_offsets, ref_list_end, directory_section, directory_offsets, directory_end}
 use Rattle.dexspec.proofs.numbers.ByteNumbers.{length-uint, length-ushort}
-use Rattle.dexspec.proofs.written.Stands.{length_rows}
-use Rattle.dexspec.proofs.layout.Laying.{data_before_map, map_place, map_place_is, map_list_named, parts}
-use Rattle.dexhead.specs.Laid.{TellsLayout, map_start, map_list}
+use Rattle.dexspec.proofs.written.PlacedBytes.{length_rows}
+use Rattle.dexspec.proofs.layout.SectionPlaces.{data_before_map, map_place, map_place_is, map_list_named, parts}
+use Rattle.dexhead.specs.Laid.{StatesLayout, map_start, map_list}
 use Rattle.dexpool.specs.Numberings.{IsNumbering}
 use Rattle.dexclass.specs.Numbered.{NumberedClass}
 use Rattle.dexclass.specs.Programs.{AreClassesOf}
 use Rattle.dexlayout.specs.Places.{TypeListPlaces, AnnotationPlaces, DebugPlaces, SetPlaces, Places}
-use Rattle.dexlayout.specs.Laid.{ordered_of, file_end, AreWritable, greatest_of, greatest_item, first_offsets, StandSo, AreTypeLists, AreAnnotations, AreDebugs, AreSets, IsLaid}
+use Rattle.dexlayout.specs.Laid.{ordered_of, file_end, AreWritable, greatest_of, greatest_item, first_offsets, AreLaidSo, AreTypeLists, AreAnnotations, AreDebugs, AreSets, IsLaid}
 use Rattle.dexlayout.specs.internal.Parts.{entry_of, table_parts, section_parts}
 use Rattle.dexlayout.proofs.Ends.{map_start_is}
 use Rattle.dexlayout.proofs.OwnParts.{map_parts}
@@ -42,7 +42,7 @@ places_same K = map_place_is K ∙ sym (map_start_is K)
 length_file : (K : Ordered) → length (with_sums (unsigned_file K)) ≡ file_end K
 length_file K =
     let list = ap (λ es. length (map_bytes es)) (map_list_named K ∙ ap (map_of K (layout K)) (places_same K)) in
-    (parts K).size ∙ ap (λ n. n + length (map_bytes (Rattle.dexspec.proofs.layout.Laying.map_list K))) (places_same K) ∙ ap (λ n. map_start K + n) list
+    (parts K).size ∙ ap (λ n. n + length (map_bytes (Rattle.dexspec.proofs.layout.SectionPlaces.map_list K))) (places_same K) ∙ ap (λ n. map_start K + n) list
 
 -- and so does a canonical file
 pub length_canonical : (C : Collection) → length (canonical C) ≡ file_end (ordered (definitions C))
@@ -77,21 +77,21 @@ module _ (m : Mentions) (cs ds : List NumberedClass) (e : ordered_of m cs ≡ or
   type_lists_same {p} h = record {
     written_are = h.written_are ∙ ap (λ (K : Ordered). (type_list_items K).written) e;
     known = h.known;
-    places_are = subst (λ (K : Ordered). StandSo (type_list_offsets K) (type_list_end K) (type_list_section K).items p.places) e h.places_are;
+    places_are = subst (λ (K : Ordered). AreLaidSo (type_list_offsets K) (type_list_end K) (type_list_section K).items p.places) e h.places_are;
   }
 
   annotations_same : {p : AnnotationPlaces} → AreAnnotations m cs p → AreAnnotations m ds p
   annotations_same {p} h = record {
     written_are = h.written_are ∙ ap (λ (K : Ordered). (set_items K).written) e;
     known = h.known;
-    places_are = subst (λ (K : Ordered). StandSo (first_offsets m (type_list_end K) (set_items K).written) (annotation_end K) (annotation_section K).items p.places) e h.places_are;
+    places_are = subst (λ (K : Ordered). AreLaidSo (first_offsets m (type_list_end K) (set_items K).written) (annotation_end K) (annotation_section K).items p.places) e h.places_are;
   }
 
   debugs_same : {p : DebugPlaces} → AreDebugs m cs p → AreDebugs m ds p
   debugs_same {p} h = record {
     bytes_are = h.bytes_are ∙ ap (λ (K : Ordered). section_bytes (debug_section K)) e;
     count_is = h.count_is ∙ ap (λ (K : Ordered). length (debug_section K).items) e;
-    places_are = subst (λ (K : Ordered). StandSo (debug_offsets K) (debug_end K) (debug_section K).items p.places) e h.places_are;
+    places_are = subst (λ (K : Ordered). AreLaidSo (debug_offsets K) (debug_end K) (debug_section K).items p.places) e h.places_are;
   }
 
   sets_same : {p : SetPlaces} → AreSets m cs p → AreSets m ds p
@@ -106,18 +106,18 @@ module _ (m : Mentions) (cs ds : List NumberedClass) (e : ordered_of m cs ≡ or
 
   pub laid_same : {p : Places} → IsLaid m cs p → IsLaid m ds p
   laid_same {p} h = record {
-    head_tells = subst (TellsLayout p.head) e h.head_tells;
+    head_states = subst (StatesLayout p.head) e h.head_states;
     signature_length = h.signature_length;
     type_lists_are = type_lists_same h.type_lists_are;
     annotations_are = annotations_same h.annotations_are;
-    static_values_are = subst (λ (K : Ordered). StandSo (array_offsets K) (array_end K) (array_section K).items p.static_values) e h.static_values_are;
-    strings_are = subst (λ (K : Ordered). StandSo (layout K).strings (string_end K) (string_section K).items p.strings) e h.strings_are;
+    static_values_are = subst (λ (K : Ordered). AreLaidSo (array_offsets K) (array_end K) (array_section K).items p.static_values) e h.static_values_are;
+    strings_are = subst (λ (K : Ordered). AreLaidSo (layout K).strings (string_end K) (string_section K).items p.strings) e h.strings_are;
     debugs_are = debugs_same h.debugs_are;
-    codes_are = subst (λ (K : Ordered). StandSo (code_offsets K) (code_end K) (code_section K).items p.codes) e h.codes_are;
-    class_data_are = subst (λ (K : Ordered). StandSo (class_data_offsets K) (class_data_end K) (class_data_section K).items p.class_data) e h.class_data_are;
+    codes_are = subst (λ (K : Ordered). AreLaidSo (code_offsets K) (code_end K) (code_section K).items p.codes) e h.codes_are;
+    class_data_are = subst (λ (K : Ordered). AreLaidSo (class_data_offsets K) (class_data_end K) (class_data_section K).items p.class_data) e h.class_data_are;
     sets_are = sets_same h.sets_are;
-    ref_lists_are = subst (λ (K : Ordered). StandSo (ref_list_offsets K) (ref_list_end K) (ref_list_section K).items p.ref_lists) e h.ref_lists_are;
-    directories_are = subst (λ (K : Ordered). StandSo (directory_offsets K) (directory_end K) (directory_section K).items p.directories) e h.directories_are;
+    ref_lists_are = subst (λ (K : Ordered). AreLaidSo (ref_list_offsets K) (ref_list_end K) (ref_list_section K).items p.ref_lists) e h.ref_lists_are;
+    directories_are = subst (λ (K : Ordered). AreLaidSo (directory_offsets K) (directory_end K) (directory_section K).items p.directories) e h.directories_are;
     entries_are = h.entries_are ∙ ap (λ (K : Ordered). map_of K (layout K) (map_start K)) e;
     greatest_is = h.greatest_is ∙ ap greatest_item e;
   }

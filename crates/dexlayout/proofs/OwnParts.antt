@@ -36,10 +36,10 @@ entries_mapped part entries each [] = refl
 entries_mapped part entries each (x ∷ xs) = ap (λ es. es ++ flat_map entry_of (map part xs)) (each x) ∙ ap (λ es. entries x ++ es) (entries_mapped part entries each xs)
 
 -- the offset of the first item, if there is one
-first_stands : (kind : Section) (align from : ℕ) (items : List (List ℕ))
+first_encoded : (kind : Section) (align from : ℕ) (items : List (List ℕ))
     → entry_of (kind, length items, round_up align from) ≡ (if length items == 0 then [] else (kind, length items, slice_index (offsets_from align from items) 0) ∷ [])
-first_stands kind align from [] = refl
-first_stands kind align from (x ∷ xs) = refl
+first_encoded kind align from [] = refl
+first_encoded kind align from (x ∷ xs) = refl
 
 -- the map by its parts
 pub map_parts : (K : Ordered) (map_off : ℕ) → (HeaderItem, 1, 0) ∷ (flat_map entry_of (table_parts K) ++ (flat_map entry_of (section_parts K) ++ (MapList, 1, map_off) ∷ [])) ≡ map_of K (layout K) map_off
@@ -48,5 +48,5 @@ map_parts K map_off =
     let sections : Placed → List (Section × ℕ × ℕ) = λ p. if length p.items == 0 then [] else (p.kind, length p.items, slice_index (offsets p) 0) ∷ [] in
     ap (λ es. (HeaderItem, 1, 0) ∷ (es ++ (flat_map entry_of (section_parts K) ++ (MapList, 1, map_off) ∷ []))) (entries_mapped (λ t. (TableOf t.0, t.1, t.2)) tables (λ t. refl) (placed_tables K))
     ∙ ap (λ es. (HeaderItem, 1, 0) ∷ (flat_map tables (placed_tables K) ++ (es ++ (MapList, 1, map_off) ∷ [])))
-    (entries_mapped (λ p. (p.kind, length p.items, round_up p.align p.from)) sections (λ p. first_stands p.kind p.align p.from p.items) (data_sections K))
+    (entries_mapped (λ p. (p.kind, length p.items, round_up p.align p.from)) sections (λ p. first_encoded p.kind p.align p.from p.items) (data_sections K))
     ∙ ap (λ (l : Layout). map_of K l map_off) (sym (layout_is K))

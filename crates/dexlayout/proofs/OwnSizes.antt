@@ -20,20 +20,20 @@ use Rattle.dexpool.specs.Numberings.{AreRising}
 use Rattle.dexpool.proofs.UnionLaws.{ranks_are_numbers}
 use Rattle.dexval.specs.Numbered.{NumberedValues, NoValue, ThenNext, values_in, AreKnown}
 use Rattle.dexval.proofs.Spelling.{array_lengths_are}
-use Rattle.dexcode.specs.Numbered.{NumberedItem, StandsForCode}
+use Rattle.dexcode.specs.Numbered.{NumberedItem, DenotesCode}
 use Rattle.dexcode.specs.Meaning.{code_in, IsKnownCode}
 use Rattle.dexcode.specs.CodePut.{numbered_code_bytes}
-use Rattle.dexcode.proofs.Meanings.{code_stands}
+use Rattle.dexcode.proofs.Meanings.{code_encoded}
 use Rattle.dexmembers.specs.Numbered.{NumberedMethod, method_in, field_in, IsKnownMethod, fields_of, methods_of}
 use Rattle.dexmembers.specs.Spelled.{numbered_class_data_bytes}
 use Rattle.dexmembers.proofs.ClassDataSpelled.{class_data_spelled}
 use Rattle.dexclass.specs.Numbered.{NumberedClass, definition_of, type_at}
 use Rattle.dexclass.specs.Uses.{IsKnownClass}
-use Rattle.dexlayout.specs.Laid.{AreWritable, StandSo, ordered_of}
+use Rattle.dexlayout.specs.Laid.{AreWritable, AreLaidSo, ordered_of}
 use Rattle.dexlayout.specs.Places.{ItemPlaces}
 use Rattle.dexlayout.specs.internal.Running.{none_from, place_use, place_uses}
 use Rattle.dexlayout.specs.internal.Sizes.{array_size, static_size, code_size, class_code_sizes, class_data_size, class_data_sizes}
-use Rattle.dexlayout.proofs.Owned.{sizes, own_stand, place_grows}
+use Rattle.dexlayout.proofs.Owned.{sizes, own_encoded, place_grows}
 
 -- ---- static values
 
@@ -49,14 +49,14 @@ statics_same m rising (c ∷ cs) known =
     ∙ ap (λ n. n ∷ us) (array_same m rising c.members.static_values (All-head (IsKnownClass m) c cs known).members_known.values_known)
 
 -- the offsets of the arrays
-pub arrays_stand : (m : Mentions) (cs : List NumberedClass) → AreWritable m cs → (from : ℕ) → from ≡ annotation_end (ordered_of m cs)
-    → StandSo (array_offsets (ordered_of m cs)) (array_end (ordered_of m cs)) (array_section (ordered_of m cs)).items (place_uses 1 (none_from from) (map static_size cs))
+pub arrays_encoded : (m : Mentions) (cs : List NumberedClass) → AreWritable m cs → (from : ℕ) → from ≡ annotation_end (ordered_of m cs)
+    → AreLaidSo (array_offsets (ordered_of m cs)) (array_end (ordered_of m cs)) (array_section (ordered_of m cs)).items (place_uses 1 (none_from from) (map static_size cs))
 unfolding array_offsets array_end
-arrays_stand m cs w from e =
+arrays_encoded m cs w from e =
     let K = ordered_of m cs in
     let same = statics_same m w.numbering.rising cs w.known in
-    subst (StandSo (array_offsets K) (array_end K) (array_section K).items) (ap (λ ns. place_uses 1 (none_from (annotation_end K)) ns) (sym same) ∙ ap (λ n. place_uses 1 (none_from n) (map static_size cs)) (sym e))
-    (own_stand (encoded_array_bytes m) 1 (annotation_end K) (static_values_uses K))
+    subst (AreLaidSo (array_offsets K) (array_end K) (array_section K).items) (ap (λ ns. place_uses 1 (none_from (annotation_end K)) ns) (sym same) ∙ ap (λ n. place_uses 1 (none_from n) (map static_size cs)) (sym e))
+    (own_encoded (encoded_array_bytes m) 1 (annotation_end K) (static_values_uses K))
 
 -- ---- code
 
@@ -87,11 +87,11 @@ sizes_joined (c ∷ cs) = ap (λ ns. class_code_sizes c ++ ns) (sizes_joined cs)
 
 -- numbered code has the bytes of the code that it denotes
 abbrev pub CodeBytesAre : Type 0
-CodeBytesAre = (m : Mentions) (debug_off : ℕ) (c : NumberedItem) (x : symbolic.Code) → AreRising m → StandsForCode m c x → numbered_code_bytes debug_off c ≡ code_bytes m debug_off x
+CodeBytesAre = (m : Mentions) (debug_off : ℕ) (c : NumberedItem) (x : symbolic.Code) → AreRising m → DenotesCode m c x → numbered_code_bytes debug_off c ≡ code_bytes m debug_off x
 
 -- lists after others, and before others
-behind : (a u v : List ℕ) → length u ≡ length v → length (a ++ u) ≡ length (a ++ v)
-behind a u v e = length-append a u ∙ ap (λ n. length a + n) e ∙ sym (length-append a v)
+following : (a u v : List ℕ) → length u ≡ length v → length (a ++ u) ≡ length (a ++ v)
+following a u v e = length-append a u ∙ ap (λ n. length a + n) e ∙ sym (length-append a v)
 
 before : (u v a : List ℕ) → length u ≡ length v → length (u ++ a) ≡ length (v ++ a)
 before u v a e = length-append u a ∙ ap (λ n. n + length a) e ∙ sym (length-append v a)
@@ -99,7 +99,7 @@ before u v a e = length-append u a ∙ ap (λ n. n + length a) e ∙ sym (length
 -- the length of code does not depend on the offset of its debug program
 code_length_same : (m : Mentions) (o p : ℕ) (x : symbolic.Code) → length (code_bytes m o x) ≡ length (code_bytes m p x)
 unfolding code_bytes
-code_length_same m o p x = behind (ushort x.registers) _ _ (behind (ushort x.ins) _ _ (behind (ushort x.outs) _ _ (behind (ushort (length x.tries)) _ _ (before (uint o) (uint p) _ (length-uint o ∙ sym (length-uint p))))))
+code_length_same m o p x = following (ushort x.registers) _ _ (following (ushort x.ins) _ _ (following (ushort x.outs) _ _ (following (ushort (length x.tries)) _ _ (before (uint o) (uint p) _ (length-uint o ∙ sym (length-uint p))))))
 
 module _ (m : Mentions) (rising : AreRising m) (bytes : CodeBytesAre) where
   abbrev use_of : MethodDef → ℕ → Option (symbolic.Code × ℕ)
@@ -110,7 +110,7 @@ module _ (m : Mentions) (rising : AreRising m) (bytes : CodeBytesAre) where
 
   code_same : (code : Option NumberedItem) (o : ℕ) → IfSome code (IsKnownCode m) → option_map (λ c. length (numbered_code_bytes 0 c)) code ≡ option_map (λ p. length (item_of p)) (option_map_or (λ c. Some (c, o)) (option_map (code_in m) code) None)
   code_same None o known = refl
-  code_same (Some c) o known = ap Some (ap (λ (bs : List ℕ). length bs) (bytes m 0 c (code_in m c) rising (code_stands m c known)) ∙ code_length_same m 0 o (code_in m c))
+  code_same (Some c) o known = ap Some (ap (λ (bs : List ℕ). length bs) (bytes m 0 c (code_in m c) rising (code_encoded m c known)) ∙ code_length_same m 0 o (code_in m c))
 
   codes_same : (xs : List NumberedMethod) (offs : List ℕ) → length offs ≡ length xs → All (IsKnownMethod m) xs → map code_size xs ≡ sizes item_of (zip_with use_of (map (method_in m) xs) offs)
   codes_same [] offs e known = refl
@@ -130,10 +130,10 @@ unfolding code_offsets
 length-code_offsets K = length-uses_offsets (code_uses K (debug_offsets K)) (offsets (code_section K)) ∙ length-zip_with _ (all_methods K.classes) (debug_offsets K) (length (all_methods K.classes)) refl (length-debug_offsets K)
 
 -- the offsets of code
-pub codes_stand : (m : Mentions) (cs : List NumberedClass) → AreWritable m cs → CodeBytesAre → (from : ℕ) → from ≡ debug_end (ordered_of m cs)
-    → StandSo (code_offsets (ordered_of m cs)) (code_end (ordered_of m cs)) (code_section (ordered_of m cs)).items (place_uses 4 (none_from from) (flat_map class_code_sizes cs))
+pub codes_encoded : (m : Mentions) (cs : List NumberedClass) → AreWritable m cs → CodeBytesAre → (from : ℕ) → from ≡ debug_end (ordered_of m cs)
+    → AreLaidSo (code_offsets (ordered_of m cs)) (code_end (ordered_of m cs)) (code_section (ordered_of m cs)).items (place_uses 4 (none_from from) (flat_map class_code_sizes cs))
 unfolding code_offsets code_end
-codes_stand m cs w bytes from e =
+codes_encoded m cs w bytes from e =
     let K = ordered_of m cs in
     let item = λ (p : symbolic.Code × ℕ). code_bytes m p.1 p.0 in
     let offs = debug_offsets K in
@@ -142,8 +142,8 @@ codes_stand m cs w bytes from e =
     let same : flat_map class_code_sizes cs ≡ sizes item (code_uses K offs) =
     sizes_joined cs ∙ codes_same m w.numbering.rising bytes (methods_in_all cs) offs count (methods_known m cs w.known)
     ∙ ap (λ xs. sizes item (zip_with (use_of m w.numbering.rising bytes) xs offs)) (sym mean) in
-    subst (StandSo (code_offsets K) (code_end K) (code_section K).items) (ap (λ ns. place_uses 4 (none_from (debug_end K)) ns) (sym same) ∙ ap (λ n. place_uses 4 (none_from n) (flat_map class_code_sizes cs)) (sym e))
-    (own_stand item 4 (debug_end K) (code_uses K offs))
+    subst (AreLaidSo (code_offsets K) (code_end K) (code_section K).items) (ap (λ ns. place_uses 4 (none_from (debug_end K)) ns) (sym same) ∙ ap (λ n. place_uses 4 (none_from n) (flat_map class_code_sizes cs)) (sym e))
+    (own_encoded item 4 (debug_end K) (code_uses K offs))
 
 -- ---- class data
 
@@ -185,16 +185,16 @@ module _ (m : Mentions) (rising : AreRising m) where
       ∙ ap (λ k. option_map (λ p. length (data_of p)) (data_use (definition_of m c) (take k offs)) ∷ rest k) (sym (method_count c))
 
 -- the offsets of class data
-pub class_data_stand : (m : Mentions) (cs : List NumberedClass) → AreWritable m cs → (offs : List ℕ) → offs ≡ code_offsets (ordered_of m cs) → (from : ℕ) → from ≡ code_end (ordered_of m cs)
-    → StandSo (class_data_offsets (ordered_of m cs)) (class_data_end (ordered_of m cs)) (class_data_section (ordered_of m cs)).items (place_uses 1 (none_from from) (class_data_sizes cs offs))
+pub class_data_encoded : (m : Mentions) (cs : List NumberedClass) → AreWritable m cs → (offs : List ℕ) → offs ≡ code_offsets (ordered_of m cs) → (from : ℕ) → from ≡ code_end (ordered_of m cs)
+    → AreLaidSo (class_data_offsets (ordered_of m cs)) (class_data_end (ordered_of m cs)) (class_data_section (ordered_of m cs)).items (place_uses 1 (none_from from) (class_data_sizes cs offs))
 unfolding class_data_offsets class_data_end
-class_data_stand m cs w offs eo from e =
+class_data_encoded m cs w offs eo from e =
     let K = ordered_of m cs in
     let item = λ (p : Definition × List ℕ). class_data_bytes m p.0 p.1 in
     let same : class_data_sizes cs offs ≡ sizes item (class_data_uses K (code_offsets K)) = ap (class_data_sizes cs) eo ∙ datas_same m w.numbering.rising cs (code_offsets K) w.known in
-    subst (StandSo (class_data_offsets K) (class_data_end K) (class_data_section K).items)
+    subst (AreLaidSo (class_data_offsets K) (class_data_end K) (class_data_section K).items)
     (ap (λ ns. place_uses 1 (none_from (code_end K)) ns) (sym same) ∙ ap (λ n. place_uses 1 (none_from n) (class_data_sizes cs offs)) (sym e))
-    (own_stand item 1 (code_end K) (class_data_uses K (code_offsets K)))
+    (own_encoded item 1 (code_end K) (class_data_uses K (code_offsets K)))
 
 -- as many offsets of code as methods
 pub code_offsets_count : (m : Mentions) (cs : List NumberedClass) (offs : List ℕ) → offs ≡ code_offsets (ordered_of m cs) → length offs ≡ length (methods_in_all cs)
@@ -204,12 +204,12 @@ code_offsets_count m cs offs e =
 -- placing the class data that are left, with the offsets of code that are left, gives the whole
 pub record DataLeft (p : ItemPlaces) (cs : List NumberedClass) (offs : List ℕ) (all : ItemPlaces) : Type 0 where
   pub count : length offs ≡ length (methods_in_all cs)
-  pub leads : place_uses 1 p (class_data_sizes cs offs) ≡ all
+  pub maps_to : place_uses 1 p (class_data_sizes cs offs) ≡ all
 
 -- the next of them
 pub data_next : {p all : ItemPlaces} {offs : List ℕ} (cs : List NumberedClass) (i : ℕ) (c : NumberedClass) → i < length cs → get_or cs i c ≡ c → DataLeft p (drop i cs) offs all
     → place_uses 1 (place_use 1 p (class_data_size c (take (length (methods_of c.members)) offs))) (class_data_sizes (drop (i + 1) cs) (drop (length (methods_of c.members)) offs)) ≡ all
-data_next {p} {all} {offs} cs i c lt is h = sym (ap (λ ds. place_uses 1 p (class_data_sizes ds offs)) (drop_more cs i c lt ∙ ap (λ d. d ∷ drop (i + 1) cs) is)) ∙ h.leads
+data_next {p} {all} {offs} cs i c lt is h = sym (ap (λ ds. place_uses 1 p (class_data_sizes ds offs)) (drop_more cs i c lt ∙ ap (λ d. d ∷ drop (i + 1) cs) is)) ∙ h.maps_to
 
 -- it fits
 pub data_fits : {p all : ItemPlaces} {offs : List ℕ} (cs : List NumberedClass) (i : ℕ) (c : NumberedClass) → i < length cs → get_or cs i c ≡ c → DataLeft p (drop i cs) offs all

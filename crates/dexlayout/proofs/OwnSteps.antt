@@ -6,7 +6,7 @@ use Rattle.dexspec.specs.Bytes.{round_up}
 use Rattle.dexspec.specs.Placing.{offsets_from, end_from}
 use Rattle.dexlayout.specs.Places.{ItemPlaces}
 use Rattle.dexlayout.specs.internal.Running.{none_from, put_at, place_use, place_uses}
-use Rattle.dexlayout.specs.Laid.{greatest_of, StandSo}
+use Rattle.dexlayout.specs.Laid.{greatest_of, AreLaidSo}
 use Rattle.dexlayout.proofs.Owned.{place_append, place_grows}
 
 -- an item that is not aligned begins at the end of the one before it
@@ -21,8 +21,8 @@ left_next align size p xs i x lt is = ap (λ ys. place_uses align p (map size ys
 -- it fits
 pub left_fits : {X : Type 0} {all : ItemPlaces} (align : ℕ) (size : X → Option ℕ) (p : ItemPlaces) (xs : List X) (i : ℕ) (x : X) → i < length xs → get_or xs i x ≡ x → place_uses align p (map size (drop i xs)) ≡ all
     → (place_use align p (size x)).end ≤ all.end
-left_fits align size p xs i x lt is leads =
-    let e = ap (λ (q : ItemPlaces). q.end) (sym (left_next align size p xs i x lt is) ∙ leads) in
+left_fits align size p xs i x lt is maps_to =
+    let e = ap (λ (q : ItemPlaces). q.end) (sym (left_next align size p xs i x lt is) ∙ maps_to) in
     omega (arith, e, place_grows align (place_use align p (size x)) (map size (drop (i + 1) xs)))
 
 -- the same where each has several uses
@@ -33,8 +33,8 @@ several_next align several p xs i x lt is =
 
 pub several_fit : {X : Type 0} {all : ItemPlaces} (align : ℕ) (several : X → List (Option ℕ)) (p : ItemPlaces) (xs : List X) (i : ℕ) (x : X) → i < length xs → get_or xs i x ≡ x → place_uses align p (flat_map several (drop i xs)) ≡ all
     → (place_uses align p (several x)).end ≤ all.end
-several_fit align several p xs i x lt is leads =
-    let e = ap (λ (q : ItemPlaces). q.end) (sym (several_next align several p xs i x lt is) ∙ leads) in
+several_fit align several p xs i x lt is maps_to =
+    let e = ap (λ (q : ItemPlaces). q.end) (sym (several_next align several p xs i x lt is) ∙ maps_to) in
     omega (arith, e, place_grows align (place_uses align p (several x)) (flat_map several (drop (i + 1) xs)))
 
 -- none is left
@@ -62,8 +62,8 @@ module _ {X : Type 0} (f : X → List ℕ) (align : ℕ) where
   greatest_all (x ∷ xs) p = let rest = greatest_all xs (put_at p (round_up align p.end) (length (f x))) in omega (arith, rest)
 
   -- the offsets of items where each use has one
-  pub all_stand : (from : ℕ) (xs : List X) → StandSo (offsets_from align from (map f xs)) (end_from align from (map f xs)) (map f xs) (place_uses align (none_from from) (map size xs))
-  all_stand from xs = record {
+  pub all_encoded : (from : ℕ) (xs : List X) → AreLaidSo (offsets_from align from (map f xs)) (end_from align from (map f xs)) (map f xs) (place_uses align (none_from from) (map size xs))
+  all_encoded from xs = record {
     offsets_are = offsets_all xs (none_from from);
     end_is = end_all xs (none_from from);
     greatest_is = greatest_all xs (none_from from) ∙ omega arith;

@@ -10,7 +10,7 @@ use Rattle.dexspec.specs.Placing.{own_numbers, own_items, offsets_from, end_from
 use Rattle.dexspec.proofs.layout.Places.{length-padding}
 use Rattle.dexlayout.specs.Places.{ItemPlaces}
 use Rattle.dexlayout.specs.internal.Running.{none_from, pass, put_at, place_use, place_uses}
-use Rattle.dexlayout.specs.Laid.{greatest_of, StandSo}
+use Rattle.dexlayout.specs.Laid.{greatest_of, AreLaidSo}
 
 -- how many bytes each use has, if it has an item
 abbrev pub sizes : {X : Type 0} → (X → List ℕ) → List (Option X) → List (Option ℕ)
@@ -82,10 +82,10 @@ module _ {X : Type 0} (f : X → List ℕ) (align : ℕ) where
       omega (arith, rest)
 
   -- the offsets of items that are not shared
-  pub own_stand : (from : ℕ) (us : List (Option X))
-      → StandSo (uses_offsets (own_items us).numbers (offsets_from align from (map f (own_items us).written))) (end_from align from (map f (own_items us).written)) (map f (own_items us).written)
+  pub own_encoded : (from : ℕ) (us : List (Option X))
+      → AreLaidSo (uses_offsets (own_items us).numbers (offsets_from align from (map f (own_items us).written))) (end_from align from (map f (own_items us).written)) (map f (own_items us).written)
       (place_uses align (none_from from) (sizes f us))
-  own_stand from us = record {
+  own_encoded from us = record {
     offsets_are = offsets_go us [] (none_from from);
     end_is = end_go us (none_from from);
     greatest_is = greatest_go us (none_from from) ∙ omega arith;

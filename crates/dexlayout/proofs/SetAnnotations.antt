@@ -16,7 +16,7 @@ use Rattle.dexval.specs.Spelled.{numbered_annotation_bytes}
 use Rattle.dexval.proofs.Spelling.{annotation_lengths_are}
 use Rattle.dexclass.specs.Numbered.{NumberedClass}
 use Rattle.dexlayout.specs.Places.{ItemPlaces}
-use Rattle.dexlayout.specs.Laid.{ordered_of, greatest_of, first_offsets, StandSo, AreWritable}
+use Rattle.dexlayout.specs.Laid.{ordered_of, greatest_of, first_offsets, AreLaidSo, AreWritable}
 use Rattle.dexlayout.specs.internal.Running.{none_from}
 use Rattle.dexlayout.specs.internal.Annotated.{annotation_lens, begin_set, lengthen, lengthen_all, place_set, place_sets}
 use Rattle.dexlayout.proofs.Ends.{end_in_file}
@@ -33,9 +33,9 @@ sets_grow p [] = omega arith
 sets_grow p (s ∷ ss) = omega (arith, lengthen_grows (place_set p []) (annotation_lens s), sets_grow (place_set p (annotation_lens s)) ss)
 
 -- the lengths of mapped annotations
-pub lens_behind : {X : Type 0} (g : X → NumberedAnnotation) (xs : List X) → map (λ x. length (numbered_annotation_bytes (g x))) xs ≡ annotation_lens (map g xs)
-lens_behind g [] = refl
-lens_behind g (x ∷ xs) = ap (λ l. length (numbered_annotation_bytes (g x)) ∷ l) (lens_behind g xs)
+pub lens_after : {X : Type 0} (g : X → NumberedAnnotation) (xs : List X) → map (λ x. length (numbered_annotation_bytes (g x))) xs ≡ annotation_lens (map g xs)
+lens_after g [] = refl
+lens_after g (x ∷ xs) = ap (λ l. length (numbered_annotation_bytes (g x)) ∷ l) (lens_after g xs)
 
 -- the next annotation
 module _ {X : Type 0} (len : X → ℕ) (xs : List X) (i : ℕ) (x : X) (lt : i < length xs) (is : get_or xs i x ≡ x) where
@@ -121,16 +121,16 @@ module _ (m : Mentions) where
       ap (λ r. place_sets r ss) first ∙ others ∙ (λ i. record { offsets = o i; end = e i; greatest = g i })
 
 -- sets that are mapped by a function
-pub sets_behind : {X : Type 0} (m : Mentions) (g : X → NumberedSet) (xs : List X) → map (set_in m) (map g xs) ≡ map (λ x. set_in m (g x)) xs
-sets_behind m g [] = refl
-sets_behind m g (x ∷ xs) = ap (λ l. set_in m (g x) ∷ l) (sets_behind m g xs)
+pub sets_after : {X : Type 0} (m : Mentions) (g : X → NumberedSet) (xs : List X) → map (set_in m) (map g xs) ≡ map (λ x. set_in m (g x)) xs
+sets_after m g [] = refl
+sets_after m g (x ∷ xs) = ap (λ l. set_in m (g x) ∷ l) (sets_after m g xs)
 
 -- the offsets of the annotations of the sets of a file
-pub annotations_stand : (m : Mentions) (cs : List NumberedClass) (ss : List NumberedSet) (from : ℕ) → AreWritable m cs → map (set_in m) ss ≡ (set_items (ordered_of m cs)).written → All (IsKnownSet m) ss
+pub annotations_encoded : (m : Mentions) (cs : List NumberedClass) (ss : List NumberedSet) (from : ℕ) → AreWritable m cs → map (set_in m) ss ≡ (set_items (ordered_of m cs)).written → All (IsKnownSet m) ss
     → from ≡ type_list_end (ordered_of m cs)
-    → StandSo (first_offsets m (type_list_end (ordered_of m cs)) (set_items (ordered_of m cs)).written) (annotation_end (ordered_of m cs)) (annotation_section (ordered_of m cs)).items (place_sets (none_from from) ss)
+    → AreLaidSo (first_offsets m (type_list_end (ordered_of m cs)) (set_items (ordered_of m cs)).written) (annotation_end (ordered_of m cs)) (annotation_section (ordered_of m cs)).items (place_sets (none_from from) ss)
 unfolding annotation_end
-annotations_stand m cs ss from w are known is =
+annotations_encoded m cs ss from w are known is =
     let K = ordered_of m cs in
     let placed = placed_sets m w.numbering.rising (none_from from) ss known in
     record {
@@ -142,4 +142,4 @@ annotations_stand m cs ss from w are known is =
 -- they end within the file
 pub annotations_fit : (m : Mentions) (cs : List NumberedClass) (ss : List NumberedSet) (from : ℕ) → AreWritable m cs → map (set_in m) ss ≡ (set_items (ordered_of m cs)).written → All (IsKnownSet m) ss
     → from ≡ type_list_end (ordered_of m cs) → (place_sets (none_from from) ss).end ≤ 2 ^ 30
-annotations_fit m cs ss from w are known is = omega (arith, (annotations_stand m cs ss from w are known is).end_is, (end_in_file (ordered_of m cs) w.fits).annotations)
+annotations_fit m cs ss from w are known is = omega (arith, (annotations_encoded m cs ss from w are known is).end_is, (end_in_file (ordered_of m cs) w.fits).annotations)

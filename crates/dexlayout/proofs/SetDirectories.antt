@@ -28,13 +28,13 @@ use Rattle.dexmembers.proofs.DirectorySpelled as spelled
 use Rattle.dexclass.specs.Numbered.{NumberedClass, definition_of, type_at}
 use Rattle.dexclass.specs.Uses.{IsKnownClass}
 use Rattle.dexlayout.specs.Places.{ItemPlaces, SetPlaces}
-use Rattle.dexlayout.specs.Laid.{ordered_of, StandSo, AreSets, AreWritable}
+use Rattle.dexlayout.specs.Laid.{ordered_of, AreLaidSo, AreSets, AreWritable}
 use Rattle.dexlayout.specs.internal.Running.{none_from, pass, put_at, place_use, place_uses}
 use Rattle.dexlayout.specs.internal.Directories.{entry_count, directory_size, directory_sizes}
-use Rattle.dexlayout.specs.internal.Gathering.{list_size, list_sizes, class_list_sizes, sets_of_method, sets_of_class, parts_of_class, parts_of_classes}
-use Rattle.dexlayout.proofs.Owned.{sizes, own_stand, place_grows}
+use Rattle.dexlayout.specs.internal.Collecting.{list_size, list_sizes, class_list_sizes, sets_of_method, sets_of_class, parts_of_class, parts_of_classes}
+use Rattle.dexlayout.proofs.Owned.{sizes, own_encoded, place_grows}
 use Rattle.dexlayout.proofs.SetLists.{set_use_offsets, length-set_use_offsets, set_offsets_are, ref_list_lengths}
-use Rattle.dexlayout.proofs.SetsGathered.{class_sets_count, classes_are_long, classes_parts, fields_count, methods_are}
+use Rattle.dexlayout.proofs.SetsCollected.{class_sets_count, classes_are_long, classes_parts, fields_count, methods_are}
 
 -- ---- pairs
 
@@ -137,9 +137,9 @@ module _ (cs : List NumberedClass) (i : ℕ) (c : NumberedClass) (lt : i < lengt
         let nf = length (fields_of c.members) in
         let nm = length (methods_of c.members) in
         let there : slice_index (drop i own) 0 ≡ slice_index own i = get_or-drop i own 0 0 ∙ ap (slice_index own) (omega arith) in
-        let behind : drop 1 (drop i own) ≡ drop (i + 1) own = drop-drop 1 i own in
+        let following : drop 1 (drop i own) ≡ drop (i + 1) own = drop-drop 1 i own in
         ap (λ l. place_uses 4 p (directory_sizes l (drop i own) fs ms ls)) next_class
-        ∙ (λ j. place_uses 4 (place_use 4 p (directory_size (there j) (entry_count (take nf fs) (take nm ms) (take nm ls)))) (directory_sizes (drop (i + 1) cs) (behind j) (drop nf fs) (drop nm ms) (drop nm ls)))
+        ∙ (λ j. place_uses 4 (place_use 4 p (directory_size (there j) (entry_count (take nf fs) (take nm ms) (take nm ls)))) (directory_sizes (drop (i + 1) cs) (following j) (drop nf fs) (drop nm ms) (drop nm ls)))
 
     pub directory_within : (last : ℕ) → (place_uses 4 p (directory_sizes (drop i cs) (drop i own) fs ms ls)).end ≤ last → next_places.end ≤ last
     directory_within last le = omega (arith, le, ap (λ (q : ItemPlaces). q.end) next_directory, place_grows 4 next_places left_sizes)
@@ -313,13 +313,13 @@ module _ (m : Mentions) (cs : List NumberedClass) (sets : SetPlaces) (are : AreS
       ∙ ap (λ (ss : List SetOffsets). sizes (λ x. x) (directory_uses K ss lists)) (sym set_parts)
 
   -- their offsets
-  pub directories_stand : AreWritable m cs → RanksAreNumbers m
-      → StandSo (directory_offsets (ordered_of m cs)) (directory_end (ordered_of m cs)) (directory_section (ordered_of m cs)).items
+  pub directories_encoded : AreWritable m cs → RanksAreNumbers m
+      → AreLaidSo (directory_offsets (ordered_of m cs)) (directory_end (ordered_of m cs)) (directory_section (ordered_of m cs)).items
       (place_uses 4 (none_from (ref_list_end (ordered_of m cs))) (directory_sizes cs sets.own sets.fields sets.methods (ref_list_offsets (ordered_of m cs))))
   unfolding directory_offsets directory_end
-  directories_stand w ranks =
+  directories_encoded w ranks =
       let K = ordered_of m cs in
       let from = ref_list_end K in
       let us = directory_uses K (set_offsets K) (ref_list_offsets K) in
-      subst (λ ns. StandSo (directory_offsets K) (directory_end K) (directory_section K).items (place_uses 4 (none_from from) ns)) (sym (directory_lengths w ranks))
-      (subst (λ l. StandSo (uses_offsets (own_items us).numbers (offsets_from 4 from l)) (end_from 4 from l) l (place_uses 4 (none_from from) (sizes (λ x. x) us))) (map-id (present us)) (own_stand (λ x. x) 4 from us))
+      subst (λ ns. AreLaidSo (directory_offsets K) (directory_end K) (directory_section K).items (place_uses 4 (none_from from) ns)) (sym (directory_lengths w ranks))
+      (subst (λ l. AreLaidSo (uses_offsets (own_items us).numbers (offsets_from 4 from l)) (end_from 4 from l) l (place_uses 4 (none_from from) (sizes (λ x. x) us))) (map-id (present us)) (own_encoded (λ x. x) 4 from us))

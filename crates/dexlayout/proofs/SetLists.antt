@@ -17,10 +17,10 @@ use Rattle.dexval.specs.Numbered.{set_in}
 use Rattle.dexmembers.specs.Numbered.{NumberedMethod, method_in, methods_of}
 use Rattle.dexclass.specs.Numbered.{NumberedClass, definition_of}
 use Rattle.dexlayout.specs.Places.{ItemPlaces}
-use Rattle.dexlayout.specs.Laid.{ordered_of, StandSo}
+use Rattle.dexlayout.specs.Laid.{ordered_of, AreLaidSo}
 use Rattle.dexlayout.specs.internal.Running.{none_from, pass, put_at, place_use, place_uses}
-use Rattle.dexlayout.specs.internal.Gathering.{list_size, list_sizes, class_list_sizes}
-use Rattle.dexlayout.proofs.Owned.{sizes, own_stand, place_grows, place_append}
+use Rattle.dexlayout.specs.internal.Collecting.{list_size, list_sizes, class_list_sizes}
+use Rattle.dexlayout.proofs.Owned.{sizes, own_encoded, place_grows, place_append}
 use Rattle.dexlayout.proofs.SetItems.{offsets_length}
 use Rattle.dexlayout.proofs.SetParts.{list_of, parts, class_lists}
 
@@ -132,9 +132,9 @@ ref_list_lengths m cs =
     ap (λ ss. sizes offsets_bytes (ref_list_uses K ss)) (set_offsets_are K) ∙ class_lists K.classes (set_use_offsets K) (length-set_use_offsets K) ∙ all_declared m cs
 
 -- their offsets
-pub ref_lists_stand : (m : Mentions) (cs : List NumberedClass)
-    → StandSo (ref_list_offsets (ordered_of m cs)) (ref_list_end (ordered_of m cs)) (ref_list_section (ordered_of m cs)).items (place_uses 4 (none_from (set_end (ordered_of m cs))) (class_list_sizes cs))
+pub ref_lists_encoded : (m : Mentions) (cs : List NumberedClass)
+    → AreLaidSo (ref_list_offsets (ordered_of m cs)) (ref_list_end (ordered_of m cs)) (ref_list_section (ordered_of m cs)).items (place_uses 4 (none_from (set_end (ordered_of m cs))) (class_list_sizes cs))
 unfolding ref_list_offsets ref_list_end
-ref_lists_stand m cs =
+ref_lists_encoded m cs =
     let K = ordered_of m cs in
-    subst (λ us. StandSo (ref_list_offsets K) (ref_list_end K) (ref_list_section K).items (place_uses 4 (none_from (set_end K)) us)) (ref_list_lengths m cs) (own_stand offsets_bytes 4 (set_end K) (ref_list_uses K (set_offsets K)))
+    subst (λ us. AreLaidSo (ref_list_offsets K) (ref_list_end K) (ref_list_section K).items (place_uses 4 (none_from (set_end K)) us)) (ref_list_lengths m cs) (own_encoded offsets_bytes 4 (set_end K) (ref_list_uses K (set_offsets K)))

@@ -10,7 +10,7 @@ use Rattle.dexspec.specs.Classes.{Definition, MethodDef, declared_fields, declar
 use Rattle.dexspec.specs.Placing.{SetOffsets, set_offsets_of, class_sets, method_sets, unless_empty}
 use Rattle.dexspec.specs.Spellings.{offsets_bytes}
 use Rattle.dexspec.proofs.sharing.Shorter.{not_zero}
-use Rattle.dexlayout.specs.internal.Gathering.{list_size}
+use Rattle.dexlayout.specs.internal.Collecting.{list_size}
 use Rattle.dexlayout.proofs.SetItems.{offsets_length}
 use Rattle.dexlayout.proofs.Owned.{sizes}
 

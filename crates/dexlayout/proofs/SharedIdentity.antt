@@ -8,15 +8,15 @@ use Rattle.std.proofs.lemmas.List.Elements.{All-nil, All-cons, All-append, All-h
 use Rattle.dexspec.specs.Mentions.{Mentions}
 use Rattle.dexpool.specs.declared.symbols.SymbolKind.{SymbolKind}
 use Rattle.dexpool.specs.declared.symbols.SymbolKind.TheVariants as kinds
-use Rattle.dexpool.specs.Laws.{LeadsAll}
-use Rattle.dexpool.specs.Numberings.{Leads, Maps, AllLead, image, image_of}
+use Rattle.dexpool.specs.Laws.{MapsAll}
+use Rattle.dexpool.specs.Numberings.{MapsTo, Maps, AllMapTo, image, image_of}
 use Rattle.dexpool.specs.Pools.{count_of}
 use Rattle.dexcode.specs.declared.debug_operation.Operation.{Operation}
 use Rattle.dexcode.specs.declared.debug_operation.Operation.TheVariants.{AdvancePc, AdvanceLine, StartLocal, StartLocalExtended, EndLocal, RestartLocal, SetPrologueEnd, SetEpilogueBegin, SetFile, Special}
 use Rattle.dexcode.specs.Debug.{NumberedDebug, name_of, type_of, signature_of, with_numbers, number_uses, operation_uses, debug_uses, HasImage, image_or_none, renumbered_operation, renumbered_debug}
 use Rattle.dexcode.specs.Meaning.{IsKnownText, IsKnownOperation, IsKnownDebug}
 use Rattle.dexval.specs.Numbered.{NumberedValue, NumberedValues, NumberedElements, NumberedAnnotation, NumberedSet, Plain, Named, Array, Annotated, NoValue, ThenNext, NoElement, ThenNamed, kind_of_reference}
-use Rattle.dexval.specs.Renumbering.{led, renumbered, renumbered_values, renumbered_elements, renumbered_set}
+use Rattle.dexval.specs.Renumbering.{remapped, renumbered, renumbered_values, renumbered_elements, renumbered_set}
 
 -- ---- each number maps to itself
 
@@ -34,27 +34,27 @@ at_upto from zero i lt = absurd (omega (arith, lt))
 at_upto from (suc n) zero lt = ap Some (omega arith)
 at_upto from (suc n) (suc i) lt = at_upto (from + 1) n i (omega (arith, lt)) ∙ ap Some (omega arith)
 
-behind_upto : (from n i : ℕ) → n ≤ i → get_or (upto from n) i None ≡ None
-behind_upto from zero i le = refl
-behind_upto from (suc n) zero le = absurd (omega (arith, le))
-behind_upto from (suc n) (suc i) le = behind_upto (from + 1) n i (omega (arith, le))
+after_upto : (from n i : ℕ) → n ≤ i → get_or (upto from n) i None ≡ None
+after_upto from zero i le = refl
+after_upto from (suc n) zero le = absurd (omega (arith, le))
+after_upto from (suc n) (suc i) le = after_upto (from + 1) n i (omega (arith, le))
 
 from_none : (n i : ℕ) → i < n → image (upto 0 n) i ≡ Some i
 from_none n i lt = at_upto 0 n i lt ∙ ap Some (omega arith)
 
 -- the image of a number that has one
-leads_there : (n i j : ℕ) → image (upto 0 n) i ≡ Some j → (i < n) × (i ≡ j)
-leads_there n i j e = elim (cases_lt i n) [
+maps_there : (n i j : ℕ) → image (upto 0 n) i ≡ Some j → (i < n) × (i ≡ j)
+maps_there n i j e = elim (cases_lt i n) [
   | inl lt ↦ (lt, let same : Some i ≡ Some j = sym (from_none n i lt) ∙ e in cc)
-  | inr ge ↦ let nothing : None ≡ Some j = sym (behind_upto 0 n i ge) ∙ e in absurd cc
+  | inr ge ↦ let nothing : None ≡ Some j = sym (after_upto 0 n i ge) ∙ e in absurd cc
 ]
 
-leads_itself : {X : Type 0} (xs : List X) → Leads xs xs (upto 0 (length xs))
-leads_itself xs = record {
+maps_itself : {X : Type 0} (xs : List X) → MapsTo xs xs (upto 0 (length xs))
+maps_itself xs = record {
   count = length-upto 0 (length xs);
-  same = λ i j d e. let h = leads_there (length xs) i j e in record { within = omega (arith, h.0, h.1); is = λ x. ap (λ n. get_or xs n x) (sym h.1) ∙ get_or_default xs i x d h.0 };
+  same = λ i j d e. let h = maps_there (length xs) i j e in record { within = omega (arith, h.0, h.1); is = λ x. ap (λ n. get_or xs n x) (sym h.1) ∙ get_or_default xs i x d h.0 };
   none = λ i d lt e there. let nothing : Some i ≡ None = sym (from_none (length xs) i lt) ∙ e in absurd cc;
-  rising = λ h i j k less e f. omega (arith, less, (leads_there (length xs) h j e).1, (leads_there (length xs) i k f).1);
+  rising = λ h i j k less e f. omega (arith, less, (maps_there (length xs) h j e).1, (maps_there (length xs) i k f).1);
 }
 
 -- the map of a numbering to itself
@@ -67,13 +67,13 @@ itself m = record {
   methods = upto 0 (length m.methods);
 }
 
-pub all_lead_itself : (m : Mentions) → AllLead m m (itself m)
-all_lead_itself m = record {
-  texts_lead = leads_itself m.texts;
-  types_lead = leads_itself m.types;
-  protos_lead = leads_itself m.protos;
-  fields_lead = leads_itself m.fields;
-  methods_lead = leads_itself m.methods;
+pub all_map_to_itself : (m : Mentions) → AllMapTo m m (itself m)
+all_map_to_itself m = record {
+  texts_mapped = maps_itself m.texts;
+  types_mapped = maps_itself m.types;
+  protos_mapped = maps_itself m.protos;
+  fields_mapped = maps_itself m.fields;
+  methods_mapped = maps_itself m.methods;
 }
 
 -- the image of a number of the numbering
@@ -86,19 +86,19 @@ image_is m kinds.Method i lt = from_none (length m.methods) i lt
 
 -- and of any other
 no_image : (m : Mentions) (kind : SymbolKind) (i : ℕ) → count_of kind m ≤ i → image_of (itself m) kind i ≡ None
-no_image m kinds.Text i le = behind_upto 0 (length m.texts) i le
-no_image m kinds.Typ i le = behind_upto 0 (length m.types) i le
-no_image m kinds.Proto i le = behind_upto 0 (length m.protos) i le
-no_image m kinds.Field i le = behind_upto 0 (length m.fields) i le
-no_image m kinds.Method i le = behind_upto 0 (length m.methods) i le
+no_image m kinds.Text i le = after_upto 0 (length m.texts) i le
+no_image m kinds.Typ i le = after_upto 0 (length m.types) i le
+no_image m kinds.Proto i le = after_upto 0 (length m.protos) i le
+no_image m kinds.Field i le = after_upto 0 (length m.fields) i le
+no_image m kinds.Method i le = after_upto 0 (length m.methods) i le
 
-pub leads_all_itself : (m : Mentions) → LeadsAll m (itself m)
-leads_all_itself m kind i lt = ap is_some (image_is m kind i lt)
+pub maps_all_itself : (m : Mentions) → MapsAll m (itself m)
+maps_all_itself m kind i lt = ap is_some (image_is m kind i lt)
 
 -- ---- sets
 
 module _ (m : Mentions) where
-  stays : (kind : SymbolKind) (i : ℕ) → led (itself m) kind i ≡ i
+  stays : (kind : SymbolKind) (i : ℕ) → remapped (itself m) kind i ≡ i
   stays kind i = elim (cases_lt i (count_of kind m)) [
     | inl lt ↦ ap (λ o. unwrap_or o i) (image_is m kind i lt)
     | inr ge ↦ ap (λ o. unwrap_or o i) (no_image m kind i ge)
@@ -173,21 +173,21 @@ module _ (m : Mentions) where
       ∙ ap (debug_with d.line_start d.parameter_names) (list_stays (renumbered_operation (itself m)) (IsKnownOperation m) operation_stays d.operations h.operations_known)
 
   -- each number of it has an image
-  optional_led : (kind : SymbolKind) (o : Option ℕ) → IfSome o (λ n. n < count_of kind m) → All (HasImage (itself m)) (number_uses kind o)
-  optional_led kind None h = All-nil (HasImage (itself m))
-  optional_led kind (Some n) h = All-cons (HasImage (itself m)) (record { kind = kind; number = n }) [] (leads_all_itself m kind n h) (All-nil (HasImage (itself m)))
+  optional_remapped : (kind : SymbolKind) (o : Option ℕ) → IfSome o (λ n. n < count_of kind m) → All (HasImage (itself m)) (number_uses kind o)
+  optional_remapped kind None h = All-nil (HasImage (itself m))
+  optional_remapped kind (Some n) h = All-cons (HasImage (itself m)) (record { kind = kind; number = n }) [] (maps_all_itself m kind n h) (All-nil (HasImage (itself m)))
 
-  operation_led : (op : Operation) → IsKnownOperation m op → All (HasImage (itself m)) (operation_uses op)
-  operation_led op h =
-      All-append (HasImage (itself m)) (number_uses kinds.Text (name_of op)) (number_uses kinds.Typ (type_of op) ++ number_uses kinds.Text (signature_of op)) (optional_led kinds.Text (name_of op) h.name_known)
-      (All-append (HasImage (itself m)) (number_uses kinds.Typ (type_of op)) (number_uses kinds.Text (signature_of op)) (optional_led kinds.Typ (type_of op) h.type_known) (optional_led kinds.Text (signature_of op) h.signature_known))
+  operation_remapped : (op : Operation) → IsKnownOperation m op → All (HasImage (itself m)) (operation_uses op)
+  operation_remapped op h =
+      All-append (HasImage (itself m)) (number_uses kinds.Text (name_of op)) (number_uses kinds.Typ (type_of op) ++ number_uses kinds.Text (signature_of op)) (optional_remapped kinds.Text (name_of op) h.name_known)
+      (All-append (HasImage (itself m)) (number_uses kinds.Typ (type_of op)) (number_uses kinds.Text (signature_of op)) (optional_remapped kinds.Typ (type_of op) h.type_known) (optional_remapped kinds.Text (signature_of op) h.signature_known))
 
-  parts_led : {X Y : Type 0} (P : Y → Type 0) (f : X → List Y) (K : X → Type 0) → ((x : X) → K x → All P (f x)) → (xs : List X) → All K xs → All P (flat_map f xs)
-  parts_led P f K each [] h = All-nil P
-  parts_led P f K each (x ∷ xs) h = All-append P (f x) (flat_map f xs) (each x (All-head K x xs h)) (parts_led P f K each xs (All-tail K x xs h))
+  parts_mapped : {X Y : Type 0} (P : Y → Type 0) (f : X → List Y) (K : X → Type 0) → ((x : X) → K x → All P (f x)) → (xs : List X) → All K xs → All P (flat_map f xs)
+  parts_mapped P f K each [] h = All-nil P
+  parts_mapped P f K each (x ∷ xs) h = All-append P (f x) (flat_map f xs) (each x (All-head K x xs h)) (parts_mapped P f K each xs (All-tail K x xs h))
 
-  pub debug_led : (d : NumberedDebug) → IsKnownDebug m d → All (HasImage (itself m)) (debug_uses d)
-  debug_led d h =
+  pub debug_remapped : (d : NumberedDebug) → IsKnownDebug m d → All (HasImage (itself m)) (debug_uses d)
+  debug_remapped d h =
       All-append (HasImage (itself m)) (flat_map (number_uses kinds.Text) d.parameter_names) (flat_map operation_uses d.operations)
-      (parts_led (HasImage (itself m)) (number_uses kinds.Text) (IsKnownText m) (optional_led kinds.Text) d.parameter_names h.names_known)
-      (parts_led (HasImage (itself m)) operation_uses (IsKnownOperation m) operation_led d.operations h.operations_known)
+      (parts_mapped (HasImage (itself m)) (number_uses kinds.Text) (IsKnownText m) (optional_remapped kinds.Text) d.parameter_names h.names_known)
+      (parts_mapped (HasImage (itself m)) operation_uses (IsKnownOperation m) operation_remapped d.operations h.operations_known)

@@ -18,12 +18,12 @@ use Rattle.dexspec.specs.Sameness.{same_types, same_set, same_debug}
 use Rattle.dexspec.specs.Spellings.{type_index, type_list_bytes, debug_bytes}
 use Rattle.dexspec.proofs.numbers.ByteNumbers.{length-uint, length-ushort}
 use Rattle.dexspec.proofs.sharing.Sameness.{types_decide, debug_decides}
-use Rattle.dexspec.proofs.written.Stands.{length_rows}
+use Rattle.dexspec.proofs.written.PlacedBytes.{length_rows}
 use Rattle.dexcode.specs.Debug.{NumberedDebug, numbered_debug_bytes}
 use Rattle.dexcode.specs.Meaning.{code_in, debug_in, IsKnownDebug}
 use Rattle.dexcode.specs.Numbered.{NumberedItem}
 use Rattle.dexcode.proofs.DebugMeanings.{bytes_are}
-use Rattle.dexcode.proofs.MeaningDebug.{debug_stands}
+use Rattle.dexcode.proofs.MeaningDebug.{debug_encoded}
 use Rattle.dexval.specs.declared.set.AnnotationSet.{AnnotationSet as CodeSet}
 use Rattle.dexval.specs.Code.{set_of}
 use Rattle.dexval.specs.Equality.{equal_sets, set_decides}
@@ -32,13 +32,13 @@ use Rattle.dexmembers.specs.Numbered.{NumberedField, NumberedMethod, field_in, m
 use Rattle.dexpool.specs.Numberings.{AreRising}
 use Rattle.dexclass.specs.Numbered.{NumberedClass, definition_of, type_at}
 use Rattle.dexlayout.specs.Places.{ItemPlaces}
-use Rattle.dexlayout.specs.Laid.{AreShared, AreTypeLists, AreDebugs, AreWritable, StandSo, ordered_of}
+use Rattle.dexlayout.specs.Laid.{AreShared, AreTypeLists, AreDebugs, AreWritable, AreLaidSo, ordered_of}
 use Rattle.dexlayout.specs.internal.Running.{none_from}
 use Rattle.dexlayout.specs.internal.Sharing.{list_len}
 use Rattle.dexlayout.specs.internal.SharedUses.{AreTypes, SharesLists, SharesSets, SharesDebugs, interfaces_use, set_use, field_uses, method_uses, methods_uses, members_uses, equal_debugs, debugs_uses}
 use Rattle.dexlayout.proofs.EncodedItems.{encoded_are}
 use Rattle.dexlayout.proofs.Ends.{end_in_file}
-use Rattle.dexlayout.proofs.SharedPlaces.{placed, written_stand, by_numbers, uses_stand, numbers_within, offsets_count}
+use Rattle.dexlayout.proofs.SharedPlaces.{placed, written_encoded, by_numbers, uses_encoded, numbers_within, offsets_count}
 use Rattle.dexlayout.proofs.SharedSame.{lists_agree, sets_agree, debugs_agree}
 use Rattle.dexlayout.proofs.SharedUses.{shared_are}
 
@@ -63,28 +63,28 @@ module _ (m : Mentions) (cs : List NumberedClass) (from : ℕ) (is : from ≡ da
   abbrev pub list_places : ItemPlaces
   list_places = placed list_len 4 (none_from from) written
 
-  lists_stand : StandSo (offsets (type_list_section (ordered_of m cs))) (type_list_end (ordered_of m cs)) (type_list_section (ordered_of m cs)).items list_places
+  lists_encoded : AreLaidSo (offsets (type_list_section (ordered_of m cs))) (type_list_end (ordered_of m cs)) (type_list_section (ordered_of m cs)).items list_places
   unfolding type_list_end
-  lists_stand =
+  lists_encoded =
       let items = (type_list_section (ordered_of m cs)).items in
-      subst (λ n. StandSo (offsets_from 4 n items) (end_from 4 n items) items list_places) is
-      (written_stand 4 from list_len (type_list_bytes m) (map (type_at m)) (AreTypes m) written (type_list_items (ordered_of m cs)).written (λ ns _. list_len_is m ns) known h.written_are)
+      subst (λ n. AreLaidSo (offsets_from 4 n items) (end_from 4 n items) items list_places) is
+      (written_encoded 4 from list_len (type_list_bytes m) (map (type_at m)) (AreTypes m) written (type_list_items (ordered_of m cs)).written (λ ns _. list_len_is m ns) known h.written_are)
 
   -- they end within the file
   pub lists_fit : AreWritable m cs → list_places.end ≤ 2 ^ 30
-  lists_fit w = omega (arith, lists_stand.end_is, (end_in_file (ordered_of m cs) w.fits).type_lists)
+  lists_fit w = omega (arith, lists_encoded.end_is, (end_in_file (ordered_of m cs) w.fits).type_lists)
 
   -- each use has the number of one of them
   pub lists_numbered : All (λ n. IfSome n (λ i. i < length list_places.offsets)) numbers
   lists_numbered =
       let items = type_list_items (ordered_of m cs) in
       numbers_within same_types types_decide (type_list_uses (ordered_of m cs)) numbers (length list_places.offsets) h.numbers_are
-      (offsets_count 4 (data_start (ordered_of m cs)) lists_stand ∙ length-map items.written (type_list_bytes m))
+      (offsets_count 4 (data_start (ordered_of m cs)) lists_encoded ∙ length-map items.written (type_list_bytes m))
 
   -- the type lists of the file
   pub lists_laid : AreTypeLists m cs (record { written = written; places = by_numbers numbers list_places })
   unfolding type_list_offsets
-  lists_laid = record { written_are = h.written_are; known = known; places_are = uses_stand numbers (type_list_items (ordered_of m cs)).numbers h.numbers_are lists_stand }
+  lists_laid = record { written_are = h.written_are; known = known; places_are = uses_encoded numbers (type_list_items (ordered_of m cs)).numbers h.numbers_are lists_encoded }
 
 -- ---- annotation sets
 
@@ -170,28 +170,28 @@ module _ (m : Mentions) (cs : List NumberedClass) (w : AreWritable m cs) (from :
   debug_places = placed debug_len 1 (none_from from) written
 
   debug_code_is : (d : Bor NumberedDebug) → IsKnownDebug m d.now → numbered_debug_bytes d.now ≡ debug_bytes m (debug_in m d.now)
-  debug_code_is d k = bytes_are m d.now (debug_in m d.now) w.numbering.rising (debug_stands m d.now k)
+  debug_code_is d k = bytes_are m d.now (debug_in m d.now) w.numbering.rising (debug_encoded m d.now k)
 
   debug_len_is : (d : Bor NumberedDebug) → IsKnownDebug m d.now → debug_len d ≡ length (debug_bytes m (debug_in m d.now))
   debug_len_is d k = ap (λ (l : List ℕ). length l) (debug_code_is d k)
 
-  debugs_stand : StandSo (offsets (debug_section (ordered_of m cs))) (debug_end (ordered_of m cs)) (debug_section (ordered_of m cs)).items debug_places
+  debugs_encoded : AreLaidSo (offsets (debug_section (ordered_of m cs))) (debug_end (ordered_of m cs)) (debug_section (ordered_of m cs)).items debug_places
   unfolding debug_end
-  debugs_stand =
+  debugs_encoded =
       let items = (debug_section (ordered_of m cs)).items in
-      subst (λ n. StandSo (offsets_from 1 n items) (end_from 1 n items) items debug_places) is
-      (written_stand 1 from debug_len (debug_bytes m) (λ d. debug_in m d.now) (λ d. IsKnownDebug m d.now) written (debug_items (ordered_of m cs)).written debug_len_is known h.written_are)
+      subst (λ n. AreLaidSo (offsets_from 1 n items) (end_from 1 n items) items debug_places) is
+      (written_encoded 1 from debug_len (debug_bytes m) (λ d. debug_in m d.now) (λ d. IsKnownDebug m d.now) written (debug_items (ordered_of m cs)).written debug_len_is known h.written_are)
 
   -- they end within the file
   pub debugs_fit : debug_places.end ≤ 2 ^ 30
-  debugs_fit = omega (arith, debugs_stand.end_is, (end_in_file (ordered_of m cs) w.fits).debugs)
+  debugs_fit = omega (arith, debugs_encoded.end_is, (end_in_file (ordered_of m cs) w.fits).debugs)
 
   -- each use has the number of one of them
   pub debugs_numbered : All (λ n. IfSome n (λ i. i < length debug_places.offsets)) numbers
   debugs_numbered =
       let items = debug_items (ordered_of m cs) in
       numbers_within same_debug debug_decides (debug_uses (ordered_of m cs)) numbers (length debug_places.offsets) h.numbers_are
-      (offsets_count 1 (string_end (ordered_of m cs)) debugs_stand ∙ length-map items.written (debug_bytes m))
+      (offsets_count 1 (string_end (ordered_of m cs)) debugs_encoded ∙ length-map items.written (debug_bytes m))
 
   -- the debug programs of the file
   pub debugs_laid : AreDebugs m cs (record { bytes = flat_map (λ (d : Bor NumberedDebug). numbered_debug_bytes d.now) written; count = length written; places = by_numbers numbers debug_places })
@@ -200,5 +200,5 @@ module _ (m : Mentions) (cs : List NumberedClass) (w : AreWritable m cs) (from :
     bytes_are = encoded_are (string_end (ordered_of m cs)) (λ (d : Bor NumberedDebug). numbered_debug_bytes d.now) (debug_bytes m) (λ (d : Bor NumberedDebug). debug_in m d.now) (λ (d : Bor NumberedDebug). IsKnownDebug m d.now) written
         (debug_items (ordered_of m cs)).written debug_code_is known h.written_are;
     count_is = sym (length-map written (λ (d : Bor NumberedDebug). debug_in m d.now)) ∙ ap (λ xs. length xs) h.written_are ∙ sym (length-map (debug_items (ordered_of m cs)).written (debug_bytes m));
-    places_are = uses_stand numbers (debug_items (ordered_of m cs)).numbers h.numbers_are debugs_stand;
+    places_are = uses_encoded numbers (debug_items (ordered_of m cs)).numbers h.numbers_are debugs_encoded;
   }

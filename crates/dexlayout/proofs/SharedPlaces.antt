@@ -15,7 +15,7 @@ use Rattle.dexspec.proofs.layout.Places.{length-offsets_from}
 use Rattle.dexspec.proofs.sharing.Sharing.{position_is}
 use Rattle.dexlayout.specs.Places.{ItemPlaces}
 use Rattle.dexlayout.specs.internal.Running.{none_from, put_at, place_uses}
-use Rattle.dexlayout.specs.Laid.{greatest_of, StandSo}
+use Rattle.dexlayout.specs.Laid.{greatest_of, AreLaidSo}
 use Rattle.dexlayout.proofs.Owned.{place_more, place_within}
 
 -- ---- one item more
@@ -33,15 +33,15 @@ module _ {X : Type 0} (len : X → ℕ) (align : ℕ) (p : ItemPlaces) where
       ∙ place_more align p (map (λ x. Some (len x)) (take i xs)) (Some (len x))
 
   -- the first end before the end of all
-  pub placed_front : (xs : List X) (i : ℕ) → (placed (take i xs)).end ≤ (placed xs).end
-  placed_front xs i =
+  pub placed_first_sections : (xs : List X) (i : ℕ) → (placed (take i xs)).end ≤ (placed xs).end
+  placed_first_sections xs i =
       let whole : map (λ x. Some (len x)) (take i xs) ++ map (λ x. Some (len x)) (drop i xs) ≡ map (λ x. Some (len x)) xs =
       sym (map-append (λ x. Some (len x)) (take i xs) (drop i xs)) ∙ ap (map (λ x. Some (len x))) (take-append-drop i xs) in
       omega (arith, place_within align p (map (λ x. Some (len x)) (take i xs)) (map (λ x. Some (len x)) (drop i xs)), ap (λ us. (place_uses align p us).end) whole)
 
   -- and so does the next
   pub placed_within : (xs : List X) (i : ℕ) (x : X) → i < length xs → get_or xs i x ≡ x → round_up align (placed (take i xs)).end + len x ≤ (placed xs).end
-  placed_within xs i x lt is = omega (arith, placed_front xs (i + 1), ap (λ (q : ItemPlaces). q.end) (placed_next xs i x lt is))
+  placed_within xs i x lt is = omega (arith, placed_first_sections xs (i + 1), ap (λ (q : ItemPlaces). q.end) (placed_next xs i x lt is))
 
 -- ---- they are those of a section
 
@@ -63,8 +63,8 @@ module _ {X : Type 0} (f : X → List ℕ) (align : ℕ) where
       omega (arith, rest)
 
   -- the offsets of the items of a section
-  pub all_stand : (from : ℕ) (xs : List X) → StandSo (offsets_from align from (map f xs)) (end_from align from (map f xs)) (map f xs) (placed (λ x. length (f x)) align (none_from from) xs)
-  all_stand from xs = record {
+  pub all_encoded : (from : ℕ) (xs : List X) → AreLaidSo (offsets_from align from (map f xs)) (end_from align from (map f xs)) (map f xs) (placed (λ x. length (f x)) align (none_from from) xs)
+  all_encoded from xs = record {
     offsets_are = offsets_all xs (none_from from);
     end_is = end_all xs (none_from from);
     greatest_is = greatest_all xs (none_from from) ∙ omega arith;
@@ -81,20 +81,20 @@ sizes_agree len bytes meant IsKnown same (x ∷ xs) known =
     ∙ ap (λ us. Some (length (bytes (meant x))) ∷ us) (sizes_agree len bytes meant IsKnown same xs (All-tail IsKnown x xs known))
 
 -- the offsets of the items that are written
-pub written_stand : {X Y : Type 0} (align from : ℕ) (len : X → ℕ) (bytes : Y → List ℕ) (meant : X → Y) (IsKnown : X → Type 0) (written : List X) (symbols : List Y) → ((x : X) → IsKnown x → len x ≡ length (bytes (meant x)))
+pub written_encoded : {X Y : Type 0} (align from : ℕ) (len : X → ℕ) (bytes : Y → List ℕ) (meant : X → Y) (IsKnown : X → Type 0) (written : List X) (symbols : List Y) → ((x : X) → IsKnown x → len x ≡ length (bytes (meant x)))
     → All IsKnown written → map meant written ≡ symbols
-    → StandSo (offsets_from align from (map bytes symbols)) (end_from align from (map bytes symbols)) (map bytes symbols) (placed len align (none_from from) written)
-written_stand align from len bytes meant IsKnown written symbols same known is =
-    subst (λ ys. StandSo (offsets_from align from (map bytes ys)) (end_from align from (map bytes ys)) (map bytes ys) (placed len align (none_from from) written)) is
-    (subst (λ us. StandSo (offsets_from align from (map bytes (map meant written))) (end_from align from (map bytes (map meant written))) (map bytes (map meant written)) (place_uses align (none_from from) us))
-    (sym (sizes_agree len bytes meant IsKnown same written known)) (all_stand bytes align from (map meant written)))
+    → AreLaidSo (offsets_from align from (map bytes symbols)) (end_from align from (map bytes symbols)) (map bytes symbols) (placed len align (none_from from) written)
+written_encoded align from len bytes meant IsKnown written symbols same known is =
+    subst (λ ys. AreLaidSo (offsets_from align from (map bytes ys)) (end_from align from (map bytes ys)) (map bytes ys) (placed len align (none_from from) written)) is
+    (subst (λ us. AreLaidSo (offsets_from align from (map bytes (map meant written))) (end_from align from (map bytes (map meant written))) (map bytes (map meant written)) (place_uses align (none_from from) us))
+    (sym (sizes_agree len bytes meant IsKnown same written known)) (all_encoded bytes align from (map meant written)))
 
 -- the offsets of the uses' items, by their numbers
 abbrev pub by_numbers : List (Option ℕ) → ItemPlaces → ItemPlaces
 by_numbers numbers p = record { offsets = uses_offsets numbers p.offsets; end = p.end; greatest = p.greatest }
 
-pub uses_stand : {offs : List ℕ} {end : ℕ} {items : List (List ℕ)} {p : ItemPlaces} (numbers ns : List (Option ℕ)) → numbers ≡ ns → StandSo offs end items p → StandSo (uses_offsets ns offs) end items (by_numbers numbers p)
-uses_stand {offs} {end} {items} {p} numbers ns is h = record {
+pub uses_encoded : {offs : List ℕ} {end : ℕ} {items : List (List ℕ)} {p : ItemPlaces} (numbers ns : List (Option ℕ)) → numbers ≡ ns → AreLaidSo offs end items p → AreLaidSo (uses_offsets ns offs) end items (by_numbers numbers p)
+uses_encoded {offs} {end} {items} {p} numbers ns is h = record {
   offsets_are = ap (uses_offsets numbers) h.offsets_are ∙ ap (λ ks. uses_offsets ks offs) is;
   end_is = h.end_is;
   greatest_is = h.greatest_is;
@@ -117,5 +117,5 @@ numbers_within same exact us numbers count en ec =
     (subst (All (λ n. IfSome n (λ i. i < length ds))) (sym en) (numbers_among same exact ds us (distinct_has same (λ x y. (exact x y).0) (present us))))
 
 -- as many offsets as items
-pub offsets_count : {end : ℕ} (align from : ℕ) {items : List (List ℕ)} {p : ItemPlaces} → StandSo (offsets_from align from items) end items p → length p.offsets ≡ length items
+pub offsets_count : {end : ℕ} (align from : ℕ) {items : List (List ℕ)} {p : ItemPlaces} → AreLaidSo (offsets_from align from items) end items p → length p.offsets ≡ length items
 offsets_count align from {items} h = ap (λ (l : List ℕ). length l) h.offsets_are ∙ length-offsets_from align from items

@@ -16,16 +16,16 @@ use Rattle.dexcode.specs.Debug.{NumberedDebug}
 use Rattle.dexcode.specs.Meaning.{debug_in, IsKnownDebug}
 use Rattle.dexcode.proofs.MeaningRanked as debugs
 use Rattle.dexval.specs.Numbered.{NumberedSet, set_in, type_at, IsKnownSet}
-use Rattle.dexval.proofs.Images.{known_set_led}
+use Rattle.dexval.proofs.Images.{known_set_remapped}
 use Rattle.dexval.proofs.Ranked as sets
 use Rattle.dexlayout.specs.ListKeys.{same_numbers, same_numbers_decides}
-use Rattle.dexlayout.proofs.SharedIdentity.{itself, all_lead_itself, leads_all_itself, set_stays, debug_stays, debug_led}
+use Rattle.dexlayout.proofs.SharedIdentity.{itself, all_map_to_itself, maps_all_itself, set_stays, debug_stays, debug_remapped}
 
 -- ---- tests of what is mapped one to one
 
 -- where numbers are equal if and only if they denote equal things, the tests agree
-agree : {X Y : Type 0} (f : X → Y) (same : Bool) (alike : Y → Y → Bool) → IsEquality alike → (x y : X) → Decides same (x ≡ y) → (f x ≡ f y → x ≡ y) → alike (f x) (f y) ≡ same
-agree f same alike exact x y is one = same_from_decides (alike (f x) (f y)) same (exact (f x) (f y)) ((λ e. ap f (is.0 e)), (λ e. is.1 (one e)))
+agree : {X Y : Type 0} (f : X → Y) (same : Bool) (equivalent : Y → Y → Bool) → IsEquality equivalent → (x y : X) → Decides same (x ≡ y) → (f x ≡ f y → x ≡ y) → equivalent (f x) (f y) ≡ same
+agree f same equivalent exact x y is one = same_from_decides (equivalent (f x) (f y)) same (exact (f x) (f y)) ((λ e. ap f (is.0 e)), (λ e. is.1 (one e)))
 
 module _ (m : Mentions) (rising : AreRising m) where
   -- ---- type lists
@@ -50,14 +50,14 @@ module _ (m : Mentions) (rising : AreRising m) where
   pub sets_agree : (same : Bool) (x y : NumberedSet) → Decides same (x ≡ y) → IsKnownSet m x → IsKnownSet m y → same_set (set_in m x) (set_in m y) ≡ same
   sets_agree same x y is hx hy =
       let r = itself m in
-      let led = sets.same_set m m m r r (ranks_are_numbers m rising) (all_lead_itself m) (all_lead_itself m) x y (set_in m x) (set_in m y)
-      (known_set_led m r (leads_all_itself m) x hx) (known_set_led m r (leads_all_itself m) y hy) (record { known = hx; means = refl }) (record { known = hy; means = refl }) in
-      agree (set_in m) same same_set set_decides x y is (λ e. sym (set_stays m x) ∙ led.1 e ∙ set_stays m y)
+      let remapped = sets.same_set m m m r r (ranks_are_numbers m rising) (all_map_to_itself m) (all_map_to_itself m) x y (set_in m x) (set_in m y)
+      (known_set_remapped m r (maps_all_itself m) x hx) (known_set_remapped m r (maps_all_itself m) y hy) (record { known = hx; means = refl }) (record { known = hy; means = refl }) in
+      agree (set_in m) same same_set set_decides x y is (λ e. sym (set_stays m x) ∙ remapped.1 e ∙ set_stays m y)
 
   -- ---- debug programs
 
   pub debugs_agree : (same : Bool) (d e : NumberedDebug) → Decides same (d ≡ e) → IsKnownDebug m d → IsKnownDebug m e → same_debug (debug_in m d) (debug_in m e) ≡ same
   debugs_agree same d e is hd he =
       let r = itself m in
-      let led = debugs.same_debug m m m r r (ranks_are_numbers m rising) (all_lead_itself m) (all_lead_itself m) d e (debug_led m d hd) (debug_led m e he) hd he in
-      agree (debug_in m) same same_debug debug_decides d e is (λ h. sym (debug_stays m d hd) ∙ led.1 h ∙ debug_stays m e he)
+      let remapped = debugs.same_debug m m m r r (ranks_are_numbers m rising) (all_map_to_itself m) (all_map_to_itself m) d e (debug_remapped m d hd) (debug_remapped m e he) hd he in
+      agree (debug_in m) same same_debug debug_decides d e is (λ h. sym (debug_stays m d hd) ∙ remapped.1 h ∙ debug_stays m e he)

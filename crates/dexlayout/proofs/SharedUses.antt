@@ -10,10 +10,10 @@ use Rattle.std.proofs.lemmas.List.Elements.{filter-append, All-nil, All-cons, Al
 use Rattle.std.proofs.lemmas.Map.Views.{any-filter_same}
 use Rattle.dexspec.specs.Lists.{present, distinct}
 use Rattle.dexspec.specs.Placing.{shared_items, unless_empty}
-use Rattle.dexspec.proofs.lists.Distinct.{with_last, distinct_led}
-use Rattle.dexspec.proofs.lists.FirstPlaces.{position_within, position_stays, position_last, position_none, position_alike, any_alike}
+use Rattle.dexspec.proofs.lists.Distinct.{with_last, distinct_mapped}
+use Rattle.dexspec.proofs.lists.FirstPlaces.{position_within, position_stays, position_last, position_none, position_equal, any_equal}
 use Rattle.dexspec.proofs.lists.Members.{Contains-nil, Contains-first, Contains-later, Contains-cons_cases, list_any-source}
-use Rattle.dexspec.proofs.sharing.Sharing.{present-append, numbers_led}
+use Rattle.dexspec.proofs.sharing.Sharing.{present-append, numbers_mapped}
 use Rattle.dexspec.proofs.lists.Sources.{distinct_source}
 use Rattle.dexlayout.specs.Laid.{AreShared}
 use Rattle.dexlayout.specs.internal.Sharing.{HaveItems, SharedTo}
@@ -57,9 +57,9 @@ module _ {X : Type 0} (same : X → X → Bool) (laws : IsEquivalence same) wher
       ∙ ap (λ b. if (b || list_any (same x) (filter (λ z. not (same y z)) (distinct same ys))) then distinct same (y ∷ ys) else distinct same (y ∷ ys) ++ x ∷ []) (laws.symm y x)
 
   -- one that is the same as a member is among them
-  alike_in : (xs : List X) (x : X) → Contains xs x → list_any (λ y. same y x) (distinct same xs) ≡ true
-  alike_in [] x c = absurd (Contains-nil x c)
-  alike_in (z ∷ xs) x c = by (same z x) refl (Contains-cons_cases z x xs c) (alike_in xs x)
+  equivalent_in : (xs : List X) (x : X) → Contains xs x → list_any (λ y. same y x) (distinct same xs) ≡ true
+  equivalent_in [] x c = absurd (Contains-nil x c)
+  equivalent_in (z ∷ xs) x c = by (same z x) refl (Contains-cons_cases z x xs c) (equivalent_in xs x)
     where
       by : (b : Bool) → same z x ≡ b → (z ≡ x) ⊎ Contains xs x → (Contains xs x → list_any (λ y. same y x) (distinct same xs) ≡ true) → list_any (λ y. same y x) (distinct same (z ∷ xs)) ≡ true
       by true h there rest = ap (λ b. b || list_any (λ y. same y x) (filter (λ y. not (same z y)) (distinct same xs))) h
@@ -87,9 +87,9 @@ module _ {X : Type 0} (same : X → X → Bool) (laws : IsEquivalence same) wher
 
   -- the number of a new use
   number_of : (b : Bool) (ds : List X) (x : X) → list_any (same x) ds ≡ b → number_in (if b then ds else ds ++ x ∷ []) x ≡ position_or_len (same x) ds
-  number_of true ds x any = position_alike (λ y. same y x) (same x) (λ y. laws.symm y x) ds
+  number_of true ds x any = position_equal (λ y. same y x) (same x) (λ y. laws.symm y x) ds
   number_of false ds x any =
-      position_last (λ y. same y x) ds x (any_alike (λ y. same y x) (same x) (λ y. laws.symm y x) ds ∙ any) (laws.refl x)
+      position_last (λ y. same y x) ds x (any_equal (λ y. same y x) (same x) (λ y. laws.symm y x) ds ∙ any) (laws.refl x)
       ∙ sym (position_none (same x) ds any)
 
   -- a list only grows at its end
@@ -120,7 +120,7 @@ module _ {X : Type 0} (same : X → X → Bool) (laws : IsEquivalence same) wher
         let all = with_last same ds x in
         let more = grows_by (list_any (same x) ds) ds x in
         let stay : map (option_map (number_in all)) uses ≡ map (option_map (number_in ds)) uses =
-        ap (λ es. map (option_map (number_in es)) uses) more.1 ∙ numbers_stay ds more.0 uses (alike_in (present uses)) in
+        ap (λ es. map (option_map (number_in es)) uses) more.1 ∙ numbers_stay ds more.0 uses (equivalent_in (present uses)) in
         let last : number_in all x ≡ number = number_of (list_any (same x) ds) ds x refl ∙ ap (position_or_len (same x)) (sym h.written_are) ∙ sym e in
         record {
           written_are = ap (λ ks. with_last same ks x) h.written_are ∙ sym is;
@@ -138,16 +138,16 @@ present-map f (None ∷ us) = present-map f us
 present-map f (Some x ∷ us) = ap (λ ys. f x ∷ ys) (present-map f us)
 
 -- where the uses are mapped one to one, both sides share the same items
-pub shared_led : {X Y : Type 0} (f : X → Y) (same : X → X → Bool) (alike : Y → Y → Bool) (uses : List (Option X)) (written : List X) (numbers : List (Option ℕ))
-    → ((x y : X) → Contains (present uses) x → Contains (present uses) y → alike (f x) (f y) ≡ same x y)
-    → HaveItems same uses written numbers → AreShared f (shared_items alike (map (option_map f) uses)) written numbers
-shared_led f same alike uses written numbers agree h =
+pub shared_mapped : {X Y : Type 0} (f : X → Y) (same : X → X → Bool) (equivalent : Y → Y → Bool) (uses : List (Option X)) (written : List X) (numbers : List (Option ℕ))
+    → ((x y : X) → Contains (present uses) x → Contains (present uses) y → equivalent (f x) (f y) ≡ same x y)
+    → HaveItems same uses written numbers → AreShared f (shared_items equivalent (map (option_map f) uses)) written numbers
+shared_mapped f same equivalent uses written numbers agree h =
     let ds = distinct same (present uses) in
-    let is : distinct alike (present (map (option_map f) uses)) ≡ map f ds = ap (distinct alike) (present-map f uses) ∙ distinct_led f same alike (present uses) agree in
+    let is : distinct equivalent (present (map (option_map f) uses)) ≡ map f ds = ap (distinct equivalent) (present-map f uses) ∙ distinct_mapped f same equivalent (present uses) agree in
     record {
       written_are = ap (map f) h.written_are ∙ sym is;
-      numbers_are = h.numbers_are ∙ sym (numbers_led f same alike uses ds (λ x y cy cx. agree y x (distinct_source same (present uses) y cy) cx))
-          ∙ ap (λ es. map (option_map (λ x. position_or_len (λ y. alike y x) es)) (map (option_map f) uses)) (sym is);
+      numbers_are = h.numbers_are ∙ sym (numbers_mapped f same equivalent uses ds (λ x y cy cx. agree y x (distinct_source same (present uses) y cy) cx))
+          ∙ ap (λ es. map (option_map (λ x. position_or_len (λ y. equivalent y x) es)) (map (option_map f) uses)) (sym is);
     }
 
 -- ---- uses that denote others
@@ -197,10 +197,10 @@ module _ {X Y : Type 0} {same : X → X → Bool} {meant : X → Y} {IsKnown : X
         subst (All IsKnown) (sym h.items.written_are) (λ k d lt. All-contains IsKnown (present h.used) (get_or ds k d) h.known (distinct_source same (present h.used) (get_or ds k d) (Contains-get_or ds k d lt)))
 
     -- and is shared as what it denotes, where equal uses denote equal items and only these
-    pub shared_are : (alike : Y → Y → Bool) → ((x y : X) → IsKnown x → IsKnown y → alike (meant x) (meant y) ≡ same x y) → AreShared meant (shared_items alike uses) written numbers
-    shared_are alike agree =
-        subst (λ us. AreShared meant (shared_items alike us) written numbers) h.mean
-        (shared_led meant same alike h.used written numbers (λ x y cx cy. agree x y (All-contains IsKnown (present h.used) x h.known cx) (All-contains IsKnown (present h.used) y h.known cy)) h.items)
+    pub shared_are : (equivalent : Y → Y → Bool) → ((x y : X) → IsKnown x → IsKnown y → equivalent (meant x) (meant y) ≡ same x y) → AreShared meant (shared_items equivalent uses) written numbers
+    shared_are equivalent agree =
+        subst (λ us. AreShared meant (shared_items equivalent us) written numbers) h.mean
+        (shared_mapped meant same equivalent h.used written numbers (λ x y cx cy. agree x y (All-contains IsKnown (present h.used) x h.known cx) (All-contains IsKnown (present h.used) y h.known cy)) h.items)
 
 -- ---- lists that are used unless they are empty
 

@@ -7,7 +7,7 @@ use Rattle.dexspec.specs.Placing.{Ordered, EqualOnce, Placed, Items, section_byt
 use Rattle.dexspec.specs.Spellings.{annotation_bytes}
 use Rattle.dexspec.specs.Annotations.{AnnotationSet}
 use Rattle.dexspec.specs.Canonical.{layout, map_of, data_sections, type_list_items, type_list_section, type_list_offsets, type_list_end, set_items, annotation_section, annotation_end, array_section, array_offsets, array_end, string_section, string_end, debug_section, debug_offsets, debug_end, code_section, code_offsets, code_end, class_data_section, class_data_offsets, class_data_end, set_section, set_offsets, set_end, ref_list_section, ref_list_offsets, ref_list_end, directory_section, directory_offsets, directory_end}
-use Rattle.dexhead.specs.Laid.{TellsLayout, map_start, map_list}
+use Rattle.dexhead.specs.Laid.{StatesLayout, map_start, map_list}
 use Rattle.dexpool.specs.Numberings.{IsNumbering}
 use Rattle.dexval.specs.Numbered.{set_in, IsKnownSet}
 use Rattle.dexclass.specs.Numbered.{NumberedClass, definition_of, type_at}
@@ -51,7 +51,7 @@ greatest_item K = max header_length (max (length (map_list K)) (greatest_in (dat
 -- ---- parts of a layout
 
 -- items of one kind stand so
-pub record StandSo (offsets : List ℕ) (end : ℕ) (items : List (List ℕ)) (p : ItemPlaces) : Type 0 where
+pub record AreLaidSo (offsets : List ℕ) (end : ℕ) (items : List (List ℕ)) (p : ItemPlaces) : Type 0 where
   pub offsets_are : p.offsets ≡ offsets
   pub end_is : p.end ≡ end
   pub greatest_is : p.greatest ≡ greatest_of items
@@ -60,7 +60,7 @@ pub record StandSo (offsets : List ℕ) (end : ℕ) (items : List (List ℕ)) (p
 pub record AreTypeLists (m : Mentions) (cs : List NumberedClass) (p : TypeListPlaces) : Type 0 where
   pub written_are : map (map (type_at m)) p.written ≡ (type_list_items (ordered_of m cs)).written
   pub known : All (All (λ i. i < length m.types)) p.written
-  pub places_are : StandSo (type_list_offsets (ordered_of m cs)) (type_list_end (ordered_of m cs)) (type_list_section (ordered_of m cs)).items p.places
+  pub places_are : AreLaidSo (type_list_offsets (ordered_of m cs)) (type_list_end (ordered_of m cs)) (type_list_section (ordered_of m cs)).items p.places
 
 -- where the first annotation of each set stands, if the first of all stands at a place
 abbrev pub first_offsets : Mentions → ℕ → List AnnotationSet → List ℕ
@@ -71,13 +71,13 @@ first_offsets m from (s ∷ ss) = from ∷ first_offsets m (from + length (flat_
 pub record AreAnnotations (m : Mentions) (cs : List NumberedClass) (p : AnnotationPlaces) : Type 0 where
   pub written_are : map (set_in m) p.written ≡ (set_items (ordered_of m cs)).written
   pub known : All (IsKnownSet m) p.written
-  pub places_are : StandSo (first_offsets m (type_list_end (ordered_of m cs)) (set_items (ordered_of m cs)).written) (annotation_end (ordered_of m cs)) (annotation_section (ordered_of m cs)).items p.places
+  pub places_are : AreLaidSo (first_offsets m (type_list_end (ordered_of m cs)) (set_items (ordered_of m cs)).written) (annotation_end (ordered_of m cs)) (annotation_section (ordered_of m cs)).items p.places
 
 -- the debug programs
 pub record AreDebugs (m : Mentions) (cs : List NumberedClass) (p : DebugPlaces) : Type 0 where
   pub bytes_are : p.bytes ≡ section_bytes (debug_section (ordered_of m cs))
   pub count_is : p.count ≡ length (debug_section (ordered_of m cs)).items
-  pub places_are : StandSo (debug_offsets (ordered_of m cs)) (debug_end (ordered_of m cs)) (debug_section (ordered_of m cs)).items p.places
+  pub places_are : AreLaidSo (debug_offsets (ordered_of m cs)) (debug_end (ordered_of m cs)) (debug_section (ordered_of m cs)).items p.places
 
 -- the sets
 pub record AreSets (m : Mentions) (cs : List NumberedClass) (p : SetPlaces) : Type 0 where
@@ -92,18 +92,18 @@ pub record AreSets (m : Mentions) (cs : List NumberedClass) (p : SetPlaces) : Ty
 
 -- the layout tells where everything stands in the file of these classes
 pub record IsLaid (m : Mentions) (cs : List NumberedClass) (p : Places) : Type 0 where
-  pub head_tells : TellsLayout p.head (ordered_of m cs)
+  pub head_states : StatesLayout p.head (ordered_of m cs)
   pub signature_length : length p.head.signature ≡ 20
   pub type_lists_are : AreTypeLists m cs p.type_lists
   pub annotations_are : AreAnnotations m cs p.annotations
-  pub static_values_are : StandSo (array_offsets (ordered_of m cs)) (array_end (ordered_of m cs)) (array_section (ordered_of m cs)).items p.static_values
-  pub strings_are : StandSo (layout (ordered_of m cs)).strings (string_end (ordered_of m cs)) (string_section (ordered_of m cs)).items p.strings
+  pub static_values_are : AreLaidSo (array_offsets (ordered_of m cs)) (array_end (ordered_of m cs)) (array_section (ordered_of m cs)).items p.static_values
+  pub strings_are : AreLaidSo (layout (ordered_of m cs)).strings (string_end (ordered_of m cs)) (string_section (ordered_of m cs)).items p.strings
   pub debugs_are : AreDebugs m cs p.debugs
-  pub codes_are : StandSo (code_offsets (ordered_of m cs)) (code_end (ordered_of m cs)) (code_section (ordered_of m cs)).items p.codes
-  pub class_data_are : StandSo (class_data_offsets (ordered_of m cs)) (class_data_end (ordered_of m cs)) (class_data_section (ordered_of m cs)).items p.class_data
+  pub codes_are : AreLaidSo (code_offsets (ordered_of m cs)) (code_end (ordered_of m cs)) (code_section (ordered_of m cs)).items p.codes
+  pub class_data_are : AreLaidSo (class_data_offsets (ordered_of m cs)) (class_data_end (ordered_of m cs)) (class_data_section (ordered_of m cs)).items p.class_data
   pub sets_are : AreSets m cs p.sets
-  pub ref_lists_are : StandSo (ref_list_offsets (ordered_of m cs)) (ref_list_end (ordered_of m cs)) (ref_list_section (ordered_of m cs)).items p.ref_lists
-  pub directories_are : StandSo (directory_offsets (ordered_of m cs)) (directory_end (ordered_of m cs)) (directory_section (ordered_of m cs)).items p.directories
+  pub ref_lists_are : AreLaidSo (ref_list_offsets (ordered_of m cs)) (ref_list_end (ordered_of m cs)) (ref_list_section (ordered_of m cs)).items p.ref_lists
+  pub directories_are : AreLaidSo (directory_offsets (ordered_of m cs)) (directory_end (ordered_of m cs)) (directory_section (ordered_of m cs)).items p.directories
   pub entries_are : p.entries ≡ map_of (ordered_of m cs) (layout (ordered_of m cs)) (map_start (ordered_of m cs))
   pub greatest_is : p.greatest ≡ greatest_item (ordered_of m cs)
 

@@ -1,7 +1,7 @@
 -- Words of the contracts of private functions: no public contract reaches them.
 pub mod Annotated
 pub mod Directories
-pub mod Gathering
+pub mod Collecting
 pub mod Parts
 pub mod Running
 pub mod SharedUses

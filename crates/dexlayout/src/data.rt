@@ -9,7 +9,7 @@ ghost use Rattle.dexval.specs.Code.{set_of};
 ghost use Rattle.dexval.specs.Numbered.{IsKnownSet, set_in};
 ghost use Rattle.dexclass.specs.Numbered.{NumberedClass};
 ghost use Rattle.dexlayout.specs.Laid.{AreWritable, greatest_in, ordered_of};
-ghost use Rattle.dexlayout.specs.internal.Parts.{AreBack, AreBodies, AreData, AreFront, section_parts};
+ghost use Rattle.dexlayout.specs.internal.Parts.{AreBack, AreBodies, AreData, AreFirstSections, section_parts};
 
 use crate::annotations::{Annotations, place_annotations};
 use crate::class_data::place_class_data;
@@ -34,7 +34,7 @@ use std::alloc::{AllocError, Global};
 
 /// Where the items of each section of the data stand, in the order of the file.
 pub(crate) struct Data<'p> {
-    pub(crate) front: Front<'p>,
+    pub(crate) front: FirstSections<'p>,
     pub(crate) bodies: Bodies,
     pub(crate) back: Back,
 }
@@ -52,7 +52,7 @@ impl Drop for Data<'_> {
 
 /// Where the items of the first sections stand.
 #[derive(Drop)]
-pub(crate) struct Front<'p> {
+pub(crate) struct FirstSections<'p> {
     pub(crate) type_lists: TypeLists<'p>,
     pub(crate) annotations: Annotations<'p>,
     pub(crate) static_values: Offsets,
@@ -76,24 +76,24 @@ pub(crate) struct Back {
 }
 
 // Where the items of the sections up to the string data stand, behind the tables. `written` are the sets that are written.
-fn place_front<'p>(
+fn place_first_sections<'p>(
     alloc: Global,
     numbering: &'p Numbering<'_>,
     classes: &'p [Class<'_>],
     written: Vec<&'p AnnotationSet>,
     from: u32,
-) -> Result<Front<'p>, AllocError>
+) -> Result<FirstSections<'p>, AllocError>
     requires classes { AreWritable numbering.now classes.now }
     requires written { map (λ s. set_in numbering.now (set_of s.now)) written.items ≡ (set_items (ordered_of numbering.now classes.now)).written }
     requires known { All (λ s. IsKnownSet numbering.now (set_of s.now)) written.items }
     requires from { from ≡ data_start (ordered_of numbering.now classes.now) }
-    ensures { IfOk result (AreFront numbering.now classes.now) }
+    ensures { IfOk result (AreFirstSections numbering.now classes.now) }
 {
     let type_lists = place_type_lists(alloc, numbering, classes, from)?;
     let annotations = place_annotations(alloc, written, type_lists.places().end())?;
     let static_values = place_static_values(alloc, classes, annotations.places().end())?;
     let strings = place_strings(alloc, numbering, static_values.end())?;
-    Ok(Front {
+    Ok(FirstSections {
         type_lists,
         annotations,
         static_values,
@@ -127,12 +127,12 @@ fn place_back(
     alloc: Global,
     numbering: &Numbering<'_>,
     classes: &[Class<'_>],
-    front: &Front<'_>,
+    front: &FirstSections<'_>,
     numbers: &[Option<usize>],
     from: u32,
 ) -> Result<Back, AllocError>
     requires classes { AreWritable numbering.now classes.now }
-    requires front { AreFront numbering.now classes.now front.now }
+    requires front { AreFirstSections numbering.now classes.now front.now }
     requires numbers { numbers.now ≡ (set_items (ordered_of numbering.now classes.now)).numbers }
     requires from { from ≡ class_data_end (ordered_of numbering.now classes.now) }
     ensures { IfOk result (AreBack numbering.now classes.now) }
@@ -168,7 +168,7 @@ pub(crate) fn place_data<'p>(
     ensures { IfOk result (AreData numbering.now classes.now) }
 {
     let Shared { written, numbers } = share_sets(alloc, classes)?;
-    let front = place_front(alloc, numbering, classes, written, from)?;
+    let front = place_first_sections(alloc, numbering, classes, written, from)?;
     let bodies = place_bodies(alloc, numbering, classes, front.strings.end())?;
     let back = place_back(
         alloc,

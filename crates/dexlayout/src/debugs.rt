@@ -12,7 +12,7 @@ ghost use Rattle.dexlayout.specs.Laid.{AreDebugs, AreShared, AreWritable, ordere
 ghost use Rattle.dexlayout.specs.internal.Running.{none_from, place_uses};
 ghost use Rattle.dexlayout.specs.internal.SharedUses.{SharesDebugs, debug_of, debugs_uses};
 
-use crate::encoded::Encoded;
+use crate::encodings::Encoded;
 use crate::offsets::Offsets;
 use crate::sharing::{Shared, Sharing, place_shared};
 use dexclass::Class;

@@ -4,7 +4,7 @@ ghost use Rattle.std.specs.Prelude.{◌≡◌, ◌^◌, ◌≤◌, IfOk, OnOk, l
 ghost use Rattle.dexspec.specs.Canonical.{directory_end, directory_offsets, directory_section, ref_list_end, ref_list_offsets};
 ghost use Rattle.dexmembers.specs.Numbered.{fields_of, methods_of};
 ghost use Rattle.dexlayout.specs.internal.Directories.{entry_count, directory_size};
-ghost use Rattle.dexlayout.specs.Laid.{AreWritable, AreSets, StandSo, ordered_of};
+ghost use Rattle.dexlayout.specs.Laid.{AreWritable, AreSets, AreLaidSo, ordered_of};
 ghost use Rattle.dexlayout.specs.internal.Running.{place_use};
 
 use crate::offsets::{Offsets, round_up};
@@ -54,7 +54,7 @@ pub(crate) fn place_directories(
     requires sets { AreSets numbering.now classes.now sets.now }
     requires lists { ref_lists.now ≡ ref_list_offsets (ordered_of numbering.now classes.now) }
     requires from { from ≡ ref_list_end (ordered_of numbering.now classes.now) }
-    ensures { IfOk result (StandSo (directory_offsets (ordered_of numbering.now classes.now)) (directory_end (ordered_of numbering.now classes.now)) (directory_section (ordered_of numbering.now classes.now)).items) }
+    ensures { IfOk result (AreLaidSo (directory_offsets (ordered_of numbering.now classes.now)) (directory_end (ordered_of numbering.now classes.now)) (directory_section (ordered_of numbering.now classes.now)).items) }
 {
     number_law();
     let own = sets.own();

@@ -2,7 +2,7 @@
 
 ghost use Rattle.std.specs.Prelude.{◌≡◌, ◌+◌, ◌<◌, ◌≤◌, ◌^◌, IfOk, length};
 ghost use Rattle.dexspec.specs.Placing.{Ordered};
-ghost use Rattle.dexhead.specs.Laid.{TellsLayout, map_list, map_start};
+ghost use Rattle.dexhead.specs.Laid.{StatesLayout, map_list, map_start};
 ghost use Rattle.dexlayout.specs.Laid.{AreWritable, IsLaid};
 ghost use Rattle.dexlayout.specs.internal.Parts.{AreTables};
 
@@ -18,9 +18,9 @@ use std::alloc::{AllocError, Global};
 
 // The header of a file with these tables and with a map of so many bytes at a place, with sums of 0.
 fn head_of(tables: &Tables, map_off: u32, map_size: u32) -> Head
-    requires behind { tables.now.end ≤ map_off }
+    requires following { tables.now.end ≤ map_off }
     requires fits { map_off + map_size < 2 ^ 32 }
-    ensures tells { (K : Ordered) → AreTables K tables.now → map_off ≡ map_start K → map_size ≡ length (map_list K) → TellsLayout result K }
+    ensures reports { (K : Ordered) → AreTables K tables.now → map_off ≡ map_start K → map_size ≡ length (map_list K) → StatesLayout result K }
     ensures signature { length result.signature ≡ 20 }
 {
     let file_size = map_off + map_size;

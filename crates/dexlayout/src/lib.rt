@@ -12,7 +12,7 @@ mod codes;
 mod data;
 mod debugs;
 mod directories;
-mod encoded;
+mod encodings;
 mod layout;
 mod layout_build;
 mod list_keys;

@@ -4,7 +4,7 @@ ghost use Rattle.dexspec.specs.Rows.{key_cmp};
 ghost use Rattle.std.specs.Prelude.{◌≡◌};
 ghost use Rattle.std.specs.Cmp.{partial_equiv_from_equiv};
 ghost use Rattle.std.specs.Hash as fed;
-ghost use Rattle.dexlayout.specs.ListKeys.{same_numbers, same_numbers_equiv, same_numbers_alike};
+ghost use Rattle.dexlayout.specs.ListKeys.{same_numbers, same_numbers_equiv, same_numbers_agree};
 
 use dexrows::TypeNumbers;
 use std::hash::{Hash, Hasher};
@@ -41,7 +41,7 @@ impl Eq for ListKey<'_> {
 impl Hash for ListKey<'_> {
     ghost hash_input = { fed.slice fed.usize };
 
-    ghost respects_eq = { same_numbers_alike };
+    ghost respects_eq = { same_numbers_agree };
 
     fn hash<H: Hasher>(&self, state: &mut H) {
         let count = self.list.len();

@@ -3,8 +3,8 @@
 ghost use Rattle.std.specs.Prelude.{◌≡◌, ◌^◌, ◌≤◌, IfOk, OnOk, length};
 ghost use Rattle.dexspec.specs.Canonical.{ref_list_end, ref_list_offsets, ref_list_section, set_end};
 ghost use Rattle.dexmembers.specs.Numbered.{methods_of};
-ghost use Rattle.dexlayout.specs.internal.Gathering.{list_size, list_sizes};
-ghost use Rattle.dexlayout.specs.Laid.{AreWritable, StandSo, ordered_of};
+ghost use Rattle.dexlayout.specs.internal.Collecting.{list_size, list_sizes};
+ghost use Rattle.dexlayout.specs.Laid.{AreWritable, AreLaidSo, ordered_of};
 ghost use Rattle.dexlayout.specs.internal.Running.{place_use, place_uses};
 
 use crate::offsets::{Offsets, round_up};
@@ -59,7 +59,7 @@ pub(crate) fn place_ref_lists(
 ) -> Result<Offsets, AllocError>
     requires classes { AreWritable numbering.now classes.now }
     requires from { from ≡ set_end (ordered_of numbering.now classes.now) }
-    ensures { IfOk result (StandSo (ref_list_offsets (ordered_of numbering.now classes.now)) (ref_list_end (ordered_of numbering.now classes.now)) (ref_list_section (ordered_of numbering.now classes.now)).items) }
+    ensures { IfOk result (AreLaidSo (ref_list_offsets (ordered_of numbering.now classes.now)) (ref_list_end (ordered_of numbering.now classes.now)) (ref_list_section (ordered_of numbering.now classes.now)).items) }
 {
     let mut places = Offsets::starting_at(alloc, from, methods)?;
     for class in classes {

@@ -4,7 +4,7 @@ ghost use Rattle.std.specs.Prelude.{◌≡◌, ◌^◌, ◌≤◌, List, [], ◌
 ghost use Rattle.std.specs.List.{flat_map};
 ghost use Rattle.dexspec.specs.Canonical.{class_data_end, set_items};
 ghost use Rattle.dexval.specs.Code.{set_of};
-ghost use Rattle.dexlayout.specs.internal.Gathering.{set_len, sets_of_method, sets_of_class, parts_of_methods, parts_of_class, gather_own, gather_method, gather_methods, gather_class};
+ghost use Rattle.dexlayout.specs.internal.Collecting.{set_len, sets_of_method, sets_of_class, parts_of_methods, parts_of_class, collect_own, collect_method, collect_methods, collect_class};
 ghost use Rattle.dexlayout.specs.Laid.{AreWritable, AreAnnotations, AreSets, ordered_of};
 ghost use Rattle.dexlayout.specs.internal.Running.{none_from, place_uses};
 
@@ -99,8 +99,8 @@ impl Sets {
     }
 
     // Adds the offset of a class's own set and those of the sets of its fields.
-    fn gather_own(&mut self, own: u32, fields: &[u32]) -> Result<(), AllocError>
-        ensures { OnOk result (self.new ≡ gather_own self.old own fields.now) }
+    fn collect_own(&mut self, own: u32, fields: &[u32]) -> Result<(), AllocError>
+        ensures { OnOk result (self.new ≡ collect_own self.old own fields.now) }
     {
         self.own.push(own)?;
         self.fields.extend_from_slice(fields)?;
@@ -108,9 +108,9 @@ impl Sets {
     }
 
     // Adds the offsets of a method's own set and of those of its parameters.
-    fn gather_method(&mut self, offs: &[u32]) -> Result<(), AllocError>
+    fn collect_method(&mut self, offs: &[u32]) -> Result<(), AllocError>
         requires { 1 ≤ length offs.now }
-        ensures { OnOk result (self.new ≡ gather_method self.old offs.now) }
+        ensures { OnOk result (self.new ≡ collect_method self.old offs.now) }
     {
         let (_, parameters) = offs.split_at(1);
         self.methods.push(offs[0])?;
@@ -119,41 +119,41 @@ impl Sets {
     }
 
     // Adds the offsets of the sets of methods, and returns those that are left.
-    fn gather_methods<'o>(
+    fn collect_methods<'o>(
         &mut self,
         methods: &Methods<'_, '_>,
         offs: &'o [u32],
     ) -> Result<&'o [u32], AllocError>
         requires { length (flat_map sets_of_method methods.now) ≤ length offs.now }
-        ensures gathered { OnOk result (self.new ≡ gather_methods self.old (parts_of_methods methods.now offs.now)) }
+        ensures collected { OnOk result (self.new ≡ collect_methods self.old (parts_of_methods methods.now offs.now)) }
         ensures left { IfOk result (λ rest. rest.now ≡ drop (length (flat_map sets_of_method methods.now)) offs.now) }
     {
         let mut rest = offs;
         for i in 0..methods.len() {
             let parameters = methods.get(i).parameter_annotations();
-            let (sets, behind) = rest.split_at(1 + parameters.len());
-            self.gather_method(sets)?;
-            rest = behind;
+            let (sets, following) = rest.split_at(1 + parameters.len());
+            self.collect_method(sets)?;
+            rest = following;
         }
         Ok(rest)
     }
 
     // Adds the offsets of the sets of a class, and returns those that are left.
-    fn gather_class<'o>(
+    fn collect_class<'o>(
         &mut self,
         class: &Class<'_>,
         offs: &'o [u32],
     ) -> Result<&'o [u32], AllocError>
         requires { length (sets_of_class class.now) ≤ length offs.now }
-        ensures gathered { OnOk result (self.new ≡ gather_class self.old (parts_of_class class.now offs.now)) }
+        ensures collected { OnOk result (self.new ≡ collect_class self.old (parts_of_class class.now offs.now)) }
         ensures left { IfOk result (λ rest. rest.now ≡ drop (length (sets_of_class class.now)) offs.now) }
     {
         let members = class.members();
         let (_, rest) = offs.split_at(1);
         let (fields, rest) = rest.split_at(members.field_count());
-        self.gather_own(offs[0], fields)?;
-        let rest = self.gather_methods(&members.direct_methods(), rest)?;
-        self.gather_methods(&members.virtual_methods(), rest)
+        self.collect_own(offs[0], fields)?;
+        let rest = self.collect_methods(&members.direct_methods(), rest)?;
+        self.collect_methods(&members.virtual_methods(), rest)
     }
 }
 
@@ -194,7 +194,7 @@ pub(crate) fn place_sets(
     let mut sets = Sets::none(alloc, classes.len(), written)?;
     let mut rest = uses.offsets();
     for class in classes {
-        rest = sets.gather_class(class, rest)?;
+        rest = sets.collect_class(class, rest)?;
     }
     Ok(sets)
 }

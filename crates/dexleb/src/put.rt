@@ -1,6 +1,6 @@
 ghost use Rattle.std.specs.Prelude.{◌≡◌, ◌+◌, ◌*◌, ◌^◌, ◌<◌, ◌≤◌, length, IsOk, vec_len, vec_capacity};
 ghost use Rattle.dexspec.specs.Numbers.{uleb128, uleb128p1, sleb128, groups, plus_one, magnitude, held_in};
-ghost use Rattle.dexspec.specs.Aside.Writing.{Puts};
+ghost use Rattle.dexspec.specs.internal.Writing.{Puts};
 
 use crate::MAX_LEN;
 use std::alloc::AllocError;

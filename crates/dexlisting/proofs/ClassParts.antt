@@ -6,9 +6,9 @@ use Rattle.dexspec.specs.Mentions.{Mentions}
 use Rattle.dexclass.specs.Numbered.{NumberedClass}
 use Rattle.dexclass.specs.Uses.{IsKnownClass}
 
-behind : (n : ℕ) (xs ys : List ℕ) → All (λ i. i < n) (xs ++ ys) → All (λ i. i < n) ys
-behind n [] ys all = all
-behind n (x ∷ xs) ys all = behind n xs ys (All-tail (λ i. i < n) x (xs ++ ys) all)
+following : (n : ℕ) (xs ys : List ℕ) → All (λ i. i < n) (xs ++ ys) → All (λ i. i < n) ys
+following n [] ys all = all
+following n (x ∷ xs) ys all = following n xs ys (All-tail (λ i. i < n) x (xs ++ ys) all)
 
 optional : (n : ℕ) (x : Option ℕ) (ys : List ℕ) (k : ℕ) → All (λ i. i < n) (option_to_list x ++ ys) → x ≡ Some k → k < n
 optional n None ys k all e = absurd (search rules)
@@ -32,7 +32,7 @@ pub superclass_in : (m : Mentions) (c : NumberedClass) (k : ℕ) → IsKnownClas
 superclass_in m c k known e = optional (length m.types) c.superclass c.interfaces k (others_in m c known) e
 
 pub interface_in : (m : Mentions) (c : NumberedClass) (i d : ℕ) → IsKnownClass m c → i < length c.interfaces → slice_index_or c.interfaces i d < length m.types
-interface_in m c i d known lt = All-get_or (λ k. k < length m.types) c.interfaces i d lt (behind (length m.types) (option_to_list c.superclass) c.interfaces (others_in m c known))
+interface_in m c i d known lt = All-get_or (λ k. k < length m.types) c.interfaces i d lt (following (length m.types) (option_to_list c.superclass) c.interfaces (others_in m c known))
 
 pub source_in : (m : Mentions) (c : NumberedClass) (k : ℕ) → IsKnownClass m c → c.source ≡ Some k → k < length m.texts
 source_in m c k known e = one_text (length m.texts) c.source k known.texts_in e

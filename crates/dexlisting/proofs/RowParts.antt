@@ -9,7 +9,7 @@ use Rattle.dexspec.specs.Mentions.{Mentions}
 use Rattle.dexrows.specs.Numbers.{ProtoNumbers}
 use Rattle.dexrows.specs.declared.fields.FieldRow.{FieldRow}
 use Rattle.dexrows.specs.declared.methods.MethodRow.{MethodRow}
-use Rattle.dexpool.specs.Numberings.{IsAt, StandsForProto, StandsForField, StandsForMethod}
+use Rattle.dexpool.specs.Numberings.{IsAt, DenotesProto, DenotesField, DenotesMethod}
 
 no_proto : Proto
 no_proto = record { return_type = []; parameters = [] }
@@ -20,9 +20,9 @@ pub record FieldParts (m : Mentions) (row : FieldRow) : Type 0 where
   pub name_in : row.name < length m.texts
   pub type_in : row.typ < length m.types
 
-pub field_parts : (m : Mentions) (i : ℕ) (row : FieldRow) → ((d : Field) → StandsForField m row (slice_index_or m.fields i d)) → FieldParts m row
-field_parts m i row stands =
-    let s = stands (record { class = []; name = []; type = [] }) in
+pub field_parts : (m : Mentions) (i : ℕ) (row : FieldRow) → ((d : Field) → DenotesField m row (slice_index_or m.fields i d)) → FieldParts m row
+field_parts m i row encodes =
+    let s = encodes (record { class = []; name = []; type = [] }) in
     record { class_in = s.class_is.within; name_in = s.name_is.within; type_in = s.type_is.within }
 
 -- the class, the name and the proto of a method
@@ -31,9 +31,9 @@ pub record MethodParts (m : Mentions) (row : MethodRow) : Type 0 where
   pub name_in : row.name < length m.texts
   pub proto_in : row.proto < length m.protos
 
-pub method_parts : (m : Mentions) (i : ℕ) (row : MethodRow) → ((d : Method) → StandsForMethod m row (slice_index_or m.methods i d)) → MethodParts m row
-method_parts m i row stands =
-    let s = stands (record { class = []; name = []; proto = no_proto }) in
+pub method_parts : (m : Mentions) (i : ℕ) (row : MethodRow) → ((d : Method) → DenotesMethod m row (slice_index_or m.methods i d)) → MethodParts m row
+method_parts m i row encodes =
+    let s = encodes (record { class = []; name = []; proto = no_proto }) in
     record { class_in = s.class_is.within; name_in = s.name_is.within; proto_in = s.proto_is.within }
 
 all_within : (xs : List Text) (numbers : List ℕ) (texts : List Text) → AllZip (IsAt xs) numbers texts → All (λ n. n < length xs) numbers
@@ -46,9 +46,9 @@ pub record ProtoParts (m : Mentions) (row : ProtoNumbers) : Type 0 where
   pub return_in : row.return_type < length m.types
   pub parameters_in : All (λ n. n < length m.types) row.parameters
 
-pub proto_parts : (m : Mentions) (i : ℕ) (row : ProtoNumbers) → ((d : Proto) → StandsForProto m row (slice_index_or m.protos i d)) → ProtoParts m row
-proto_parts m i row stands =
-    let s = stands no_proto in
+pub proto_parts : (m : Mentions) (i : ℕ) (row : ProtoNumbers) → ((d : Proto) → DenotesProto m row (slice_index_or m.protos i d)) → ProtoParts m row
+proto_parts m i row encodes =
+    let s = encodes no_proto in
     record { return_in = s.return_is.within; parameters_in = all_within m.types row.parameters (slice_index_or m.protos i no_proto).parameters s.parameters_are }
 
 -- and each of them

@@ -1,4 +1,4 @@
 -- Words of the contracts of private functions: no public contract reaches them.
-pub mod Gathering
+pub mod Buffering
 pub mod Going
 pub mod Known

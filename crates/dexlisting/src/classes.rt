@@ -6,7 +6,7 @@ ghost use Rattle.std.specs.Prelude.{◌≡◌, false, All};
 ghost use Rattle.dexclass.specs.Uses.{IsKnownClass};
 ghost use Rattle.dexlisting.specs.internal.Going.{GoesOn};
 
-use crate::gathering::Listing;
+use crate::listing_buffer::Listing;
 use dexclass::Class;
 use dexhead::{DeviceFault, Sink};
 

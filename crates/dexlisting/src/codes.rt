@@ -8,7 +8,7 @@ ghost use Rattle.dexcode.specs.Meaning.{IsKnownCode};
 ghost use Rattle.dexlisting.specs.internal.Going.{GoesOn};
 ghost use Rattle.dexlisting.specs.internal.Known.{IsKnownKind};
 
-use crate::gathering::Listing;
+use crate::listing_buffer::Listing;
 use dexcode::Code;
 use dexhead::{DeviceFault, Sink};
 use dexinsn::{Piece, PieceKind, mnemonic};

@@ -2,7 +2,7 @@
 
 ghost use Rattle.std.specs.Prelude.{ℕ, List, length, ◌≤◌};
 ghost use Rattle.dexspec.specs.Flags.{OfClass, OfField, OfMethod, flags_text};
-ghost use Rattle.dexspec.specs.Aside.Writing.{Puts};
+ghost use Rattle.dexspec.specs.internal.Writing.{Puts};
 
 use dexflags::{ClassFlags, FieldFlags, MethodFlags};
 use std::alloc::AllocError;

@@ -8,10 +8,10 @@ mod classes;
 mod codes;
 mod faults;
 mod flags;
-mod gathering;
 mod listing;
+mod listing_buffer;
 mod members;
-mod numbers;
+mod number_format;
 mod symbols;
 mod texts;
 

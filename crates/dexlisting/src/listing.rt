@@ -4,7 +4,7 @@ ghost use Rattle.std.specs.Prelude.{◌≡◌, ◌↔◌, true, false, IsErrOf};
 ghost use Rattle.dexlisting.specs.declared.faults.ListingFault.TheVariants.{Memory, Io};
 
 use crate::faults::ListingFault;
-use crate::gathering::{Listing, ROOM};
+use crate::listing_buffer::{Listing, ROOM};
 use dexclass::Program;
 use dexhead::Sink;
 use std::alloc::Global;
@@ -29,13 +29,13 @@ pub fn write_listing<W: Sink>(
 {
     let mut listing = Listing {
         numbering: program.numbering(),
-        gathered: Vec::with_capacity(alloc, ROOM)?,
+        buffered: Vec::with_capacity(alloc, ROOM)?,
         out,
     };
     let result = listing.put_classes(program.classes());
     let Listing {
         numbering: _numbering,
-        gathered: _gathered,
+        buffered: _buffered,
         out: _out,
     } = listing;
     result?;

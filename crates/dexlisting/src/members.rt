@@ -6,7 +6,7 @@ ghost use Rattle.std.specs.Prelude.{◌≡◌, false, All};
 ghost use Rattle.dexmembers.specs.Numbered.{AreKnownMembers, IsKnownField, IsKnownMethod};
 ghost use Rattle.dexlisting.specs.internal.Going.{GoesOn};
 
-use crate::gathering::Listing;
+use crate::listing_buffer::Listing;
 use dexhead::{DeviceFault, Sink};
 use dexmembers::{Fields, Members, Method, Methods};
 

@@ -4,7 +4,7 @@ ghost use Rattle.std.specs.Prelude.{◌≡◌, ◌<◌, length, false};
 ghost use Rattle.dexpool.specs.Pools.{count_of};
 ghost use Rattle.dexlisting.specs.internal.Going.{GoesOn};
 
-use crate::gathering::Listing;
+use crate::listing_buffer::Listing;
 use dexhead::{DeviceFault, Sink};
 use dexpool::SymbolKind;
 

@@ -3,7 +3,7 @@
 ghost use Rattle.std.specs.Prelude.{◌≡◌, false};
 ghost use Rattle.dexlisting.specs.internal.Going.{GoesOn};
 
-use crate::gathering::Listing;
+use crate::listing_buffer::Listing;
 use dexhead::{DeviceFault, Sink};
 use dexstr::Text;
 

@@ -91,14 +91,14 @@ methods_end last xs offs i le = ap (λ (l : List NumberedMethod). numbered_metho
 -- ---- symbols
 
 -- what holds of all members of a list holds of those of a prefix
-pub all_front : {X : Type 0} (P : X → Type 0) (xs ys : List X) → All P (xs ++ ys) → All P xs
-all_front P [] ys h = All-nil P
-all_front P (x ∷ xs) ys h = All-cons P x xs (All-head P x (xs ++ ys) h) (all_front P xs ys (All-tail P x (xs ++ ys) h))
+pub all_prefix : {X : Type 0} (P : X → Type 0) (xs ys : List X) → All P (xs ++ ys) → All P xs
+all_prefix P [] ys h = All-nil P
+all_prefix P (x ∷ xs) ys h = All-cons P x xs (All-head P x (xs ++ ys) h) (all_prefix P xs ys (All-tail P x (xs ++ ys) h))
 
 -- and of those after the prefix
-pub all_behind : {X : Type 0} (P : X → Type 0) (xs ys : List X) → All P (xs ++ ys) → All P ys
-all_behind P [] ys h = h
-all_behind P (x ∷ xs) ys h = all_behind P xs ys (All-tail P x (xs ++ ys) h)
+pub all_suffix : {X : Type 0} (P : X → Type 0) (xs ys : List X) → All P (xs ++ ys) → All P ys
+all_suffix P [] ys h = h
+all_suffix P (x ∷ xs) ys h = all_suffix P xs ys (All-tail P x (xs ++ ys) h)
 
 module _ (m : Mentions) (ranks : RanksAreNumbers m) (name : Text) where
   -- the index of a declared field is its number
@@ -156,10 +156,10 @@ module _ (m : Mentions) (ranks : RanksAreNumbers m) (name : Text) where
   class_data_spelled c x offs h k same =
       let OfFields : NumberedField → Type 0 = λ f. (field_at m f.number).class ≡ name in
       let OfMethods : NumberedMethod → Type 0 = λ y. (method_at m y.number).class ≡ name in
-      let k0 = all_front OfFields x.static_fields x.instance_fields k.fields_of_class in
-      let k1 = all_behind OfFields x.static_fields x.instance_fields k.fields_of_class in
-      let k2 = all_front OfMethods x.direct_methods x.virtual_methods k.methods_of_class in
-      let k3 = all_behind OfMethods x.direct_methods x.virtual_methods k.methods_of_class in
+      let k0 = all_prefix OfFields x.static_fields x.instance_fields k.fields_of_class in
+      let k1 = all_suffix OfFields x.static_fields x.instance_fields k.fields_of_class in
+      let k2 = all_prefix OfMethods x.direct_methods x.virtual_methods k.methods_of_class in
+      let k3 = all_suffix OfMethods x.direct_methods x.virtual_methods k.methods_of_class in
       let l0 = sym (length-map x.static_fields (field_in m)) in
       let l1 = sym (length-map x.instance_fields (field_in m)) in
       let l2 = sym (length-map x.direct_methods (method_in m)) in

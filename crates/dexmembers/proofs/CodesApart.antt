@@ -9,7 +9,7 @@ use Rattle.dexval.specs.Numbered.{NumberedSet, NumberedDirectory, NumberedValues
 use Rattle.dexmembers.specs.Numbered.{NumberedMethod, NumberedMembers, methods_of}
 use Rattle.dexmembers.specs.internal.Attaching.{method_with}
 use Rattle.dexmembers.specs.internal.RowParts.{attached}
-use Rattle.dexmembers.specs.Weighing.{numbered_whole_weight, numbered_method_weight, numbered_members_weight, codes_weight, codes_of, method_code_weight, bare_method_weight, bare_members_weight}
+use Rattle.dexmembers.specs.Weighing.{numbered_whole_weight, numbered_method_weight, numbered_members_weight, codes_weight, codes_of, method_code_weight, own_method_weight, own_members_weight}
 use Rattle.dexmembers.specs.declared.class_data.EncodedMethod.{EncodedMethod as MethodRead}
 use Rattle.dexmembers.specs.declared.class_data.ClassData.{ClassData as DataRead}
 
@@ -30,19 +30,19 @@ codes_by_method : (xs : List NumberedMethod) → codes_weight (map code_of xs) �
 codes_by_method [] = refl
 codes_by_method (x ∷ xs) = omega (arith, codes_by_method xs, sum_by-cons method_code_weight x xs, sum_by-cons optional_weight x.code (map code_of xs))
 
-methods_apart : (xs : List NumberedMethod) → sum_by numbered_method_weight xs ≡ sum_by method_code_weight xs + sum_by bare_method_weight xs
+methods_apart : (xs : List NumberedMethod) → sum_by numbered_method_weight xs ≡ sum_by method_code_weight xs + sum_by own_method_weight xs
 methods_apart [] = refl
 methods_apart (x ∷ xs) =
-    let one : numbered_method_weight x ≡ method_code_weight x + bare_method_weight x = omega arith in
-    omega (arith, one, methods_apart xs, sum_by-cons numbered_method_weight x xs, sum_by-cons bare_method_weight x xs, sum_by-cons method_code_weight x xs)
+    let one : numbered_method_weight x ≡ method_code_weight x + own_method_weight x = omega arith in
+    omega (arith, one, methods_apart xs, sum_by-cons numbered_method_weight x xs, sum_by-cons own_method_weight x xs, sum_by-cons method_code_weight x xs)
 
 -- all that is declared
-pub members_apart : (x : NumberedMembers) → numbered_members_weight x ≡ codes_weight (codes_of x) + bare_members_weight x
+pub members_apart : (x : NumberedMembers) → numbered_members_weight x ≡ codes_weight (codes_of x) + own_members_weight x
 members_apart x = omega (arith, methods_apart (methods_of x), codes_by_method (methods_of x))
 
 -- by what the code of direct and of virtual methods weighs
 pub weighed_apart : (x : NumberedMembers) (direct virtual weight : ℕ) → direct ≡ min (2 ^ 64 - 1) (sum_by method_code_weight x.direct_methods) → virtual ≡ min (2 ^ 64 - 1) (sum_by method_code_weight x.virtual_methods)
-    → weight ≡ min (2 ^ 64 - 1) (min (2 ^ 64 - 1) (direct + virtual) + bare_members_weight x) → weight ≡ min (2 ^ 64 - 1) (numbered_members_weight x)
+    → weight ≡ min (2 ^ 64 - 1) (min (2 ^ 64 - 1) (direct + virtual) + own_members_weight x) → weight ≡ min (2 ^ 64 - 1) (numbered_members_weight x)
 weighed_apart x direct virtual weight d v w = omega (arith, methods_apart (methods_of x), sum_by-append method_code_weight x.direct_methods x.virtual_methods, d, v, w)
 
 -- methods have the code that is put into them

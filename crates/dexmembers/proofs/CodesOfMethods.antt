@@ -10,7 +10,7 @@ use Rattle.dexspec.specs.Code.{Code, CodeAt}
 use Rattle.dexspec.specs.Mentions.{Mentions}
 use Rattle.dexpool.specs.declared.faults.ItemFault.{ItemFault}
 use Rattle.dexpool.specs.declared.faults.ItemFault.TheVariants.{Refused, Memory}
-use Rattle.dexcode.specs.Numbered.{NumberedItem, StandsForCode}
+use Rattle.dexcode.specs.Numbered.{NumberedItem, DenotesCode}
 use Rattle.dexcode.specs.Reading.{IsCodeAt}
 use Rattle.dexmembers.specs.declared.class_data.EncodedMethod.{EncodedMethod}
 use Rattle.dexmembers.specs.internal.MethodCodes.{AreCodesAt, HaveCodes, IsCodeOrNone, IsCodeOrNoneFault, AreCodesOf, AreHeavyCodes, IsCodesFault, optional_code_weight}
@@ -31,7 +31,7 @@ zip_append R (a ∷ xs) (b ∷ ys) us vs all more = (all.0, zip_append R xs ys u
 
 -- code that was read is code or none
 pub some_code : (b : List ℕ) (off : ℕ) (m : Mentions) (code : NumberedItem) → off ≢ 0 → IsCodeAt b off m code → IsCodeOrNone b off m (Some code)
-some_code b off m code some is = record { symbolic = Some is.symbolic; at = inr (some, is.at); stands = is.stands }
+some_code b off m code some is = record { symbolic = Some is.symbolic; at = inr (some, is.at); encodes = is.encodes }
 
 -- a fault at the offset of one of the methods is one of their faults
 pub fault_among : (b : List ℕ) (xs : List EncodedMethod) (x : EncodedMethod) (fault : ItemFault) → Contains xs x → IsCodeOrNoneFault b x.code_off fault → IsCodesFault b xs fault
@@ -42,12 +42,12 @@ fault_among b xs x (Refused number) among is = record { method = x; among = amon
 pub record HaveReadCodes (b : List ℕ) (m : Mentions) (xs : List EncodedMethod) (most left : ℕ) (codes : List (Option NumberedItem)) : Type 0 where
   pub symbolic : List (Option Code)
   pub at : AreCodesAt b xs symbolic
-  pub stand : AllZip (BothOrNone (StandsForCode m)) codes symbolic
+  pub are_encoded : AllZip (BothOrNone (DenotesCode m)) codes symbolic
   pub weight : left + sum_by optional_code_weight symbolic ≡ most
 
 -- of none
 pub none_read : (b : List ℕ) (m : Mentions) (most : ℕ) → HaveReadCodes b m [] most most []
-none_read b m most = record { symbolic = []; at = tt; stand = tt; weight = omega arith }
+none_read b m most = record { symbolic = []; at = tt; are_encoded = tt; weight = omega arith }
 
 -- of one more
 pub one_more_read : (b : List ℕ) (m : Mentions) (xs : List EncodedMethod) (most left rest : ℕ) (codes : List (Option NumberedItem)) (x : EncodedMethod) (code : Option NumberedItem)
@@ -55,13 +55,13 @@ pub one_more_read : (b : List ℕ) (m : Mentions) (xs : List EncodedMethod) (mos
 one_more_read b m xs most left rest codes x code read is weight = record {
   symbolic = read.symbolic ++ is.symbolic ∷ [];
   at = zip_more (λ (x : EncodedMethod) c. OrNone (SomeAt CodeAt) None b x.code_off c) xs read.symbolic x is.symbolic read.at is.at;
-  stand = zip_more (BothOrNone (StandsForCode m)) codes read.symbolic code is.symbolic read.stand is.stands;
+  are_encoded = zip_more (BothOrNone (DenotesCode m)) codes read.symbolic code is.symbolic read.are_encoded is.encodes;
   weight = omega (arith, read.weight, weight, sum_by_push optional_code_weight read.symbolic is.symbolic);
 }
 
 -- all of them
 pub all_read : (b : List ℕ) (m : Mentions) (xs : List EncodedMethod) (most left : ℕ) (codes : List (Option NumberedItem)) → HaveReadCodes b m xs most left codes → AreCodesOf b m xs most codes
-all_read b m xs most left codes read = record { symbolic = read.symbolic; at = read.at; stand = read.stand; light = omega (arith, read.weight) }
+all_read b m xs most left codes read = record { symbolic = read.symbolic; at = read.at; are_encoded = read.are_encoded; light = omega (arith, read.weight) }
 
 -- the next is heavier than what is left
 pub heavy_read : (b : List ℕ) (m : Mentions) (xs : List EncodedMethod) (most left : ℕ) (codes : List (Option NumberedItem)) (x : EncodedMethod) (code : Option NumberedItem) (rest : List EncodedMethod)
@@ -87,8 +87,8 @@ pub rest_within : {A : Type 0} (xs : List A) (i : ℕ) (d x : A) → i < length 
 rest_within xs i d x lt among = subst (λ l. Contains l x) (split_here xs i d lt) (Contains-append_right (take i xs) (get_or xs i d ∷ drop (i + 1) xs) x (Contains-append_right (get_or xs i d ∷ []) (drop (i + 1) xs) x among))
 
 -- a fault of the methods from a place on is one of all
-pub fault_behind : (b : List ℕ) (xs : List EncodedMethod) (i : ℕ) (d : EncodedMethod) (fault : ItemFault) → i < length xs → IsCodesFault b (take (length xs - (i + 1)) (drop (i + 1) xs)) fault → IsCodesFault b xs fault
-fault_behind b xs i d Memory lt is = tt
-fault_behind b xs i d (Refused number) lt is =
+pub fault_after : (b : List ℕ) (xs : List EncodedMethod) (i : ℕ) (d : EncodedMethod) (fault : ItemFault) → i < length xs → IsCodesFault b (take (length xs - (i + 1)) (drop (i + 1) xs)) fault → IsCodesFault b xs fault
+fault_after b xs i d Memory lt is = tt
+fault_after b xs i d (Refused number) lt is =
     let here = subst (λ l. IsCodesFault b l (Refused number)) (rest_here xs (i + 1) (omega (arith, lt))) is in
     record { method = here.method; among = rest_within xs i d here.method lt here.among; coded = here.coded; failed = here.failed }

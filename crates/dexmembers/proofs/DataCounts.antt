@@ -5,7 +5,7 @@ use Rattle.dexspec.specs.Numbers.{Uleb128At}
 use Rattle.dexspec.specs.Mentions.{Mentions}
 use Rattle.dexspec.proofs.determined.OneNumber.{one_uleb128}
 use Rattle.dexspec.proofs.lists.Sequences.{one_sequence}
-use Rattle.dexcode.proofs.Fronts.{stuck, sequence_more}
+use Rattle.dexcode.proofs.Prefixes.{stuck, sequence_more}
 use Rattle.dexmembers.specs.declared.class_data.EncodedField.{EncodedField}
 use Rattle.dexmembers.specs.internal.EncodedMembers.{FieldAt, MethodAt, ListsAt, AreListsRead, NoLists, NoData}
 use Rattle.dexmembers.proofs.OneMember.{one_field}
@@ -35,7 +35,7 @@ module _ (m : Mentions) (class : ℕ) (b : List ℕ) (o a c d e size : ℕ) (cou
       let same = one_sequence Uleb128At one_uleb128 b o (length ss ∷ length is ∷ length ds ∷ length vs ∷ []) (a ∷ c ∷ d ∷ e ∷ []) g.counts_size size refl g.counts counts in
       let moved = subst (λ (i : ℕ). ListsAt (FieldAt m class) (λ f. f.index) b (o + i) ss is g.fields_size) same.1 g.fields in
       let fields = one_pair (FieldAt m class) (λ f. f.index) (one_field m class) b (o + size) ss is xs ys g.fields_size n
-      (ap (λ (l : List ℕ). get_or l 0 0) same.0 ∙ sym read.many) (ap (λ (l : List ℕ). get_or l 1 0) same.0 ∙ sym read.others) moved read.stand in
+      (ap (λ (l : List ℕ). get_or l 0 0) same.0 ∙ sym read.many) (ap (λ (l : List ℕ). get_or l 1 0) same.0 ∙ sym read.others) moved read.are_encoded in
       let place : o + g.counts_size + g.fields_size ≡ o + size + n = omega (arith, same.1, fields.2) in
       none ds vs g.methods_size (ap (λ (l : List ℕ). get_or l 2 0) same.0) (ap (λ (l : List ℕ). get_or l 3 0) same.0)
       (subst (λ (i : ℕ). ListsAt (MethodAt m class) (λ x. x.index) b i ds vs g.methods_size) place g.methods)

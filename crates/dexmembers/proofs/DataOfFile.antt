@@ -216,7 +216,7 @@ module _ (b : List ℕ) (m : Mentions) (pools : ArePools b m) (is : IsNumbering 
       let p2 : o + x.counts_size + fields.first_size ≡ o + c0 + c1 + c2 + c3 + fields.first_size = omega (arith, p1) in
       let p3 : o + x.counts_size + x.fields_size ≡ o + c0 + c1 + c2 + c3 + fields.first_size + fields.second_size = omega (arith, p1, fields.size) in
       let p4 : o + x.counts_size + x.fields_size + methods.first_size ≡ o + c0 + c1 + c2 + c3 + fields.first_size + fields.second_size + methods.first_size = omega (arith, p3) in
-      let stands : ClassDataAt b o (class_data_in m d) = record {
+      let encodes : ClassDataAt b o (class_data_in m d) = record {
         in_data = in_data;
         static_count_size = c0;
         instance_count_size = c1;
@@ -242,7 +242,7 @@ module _ (b : List ℕ) (m : Mentions) (pools : ArePools b m) (is : IsNumbering 
         methods_apart = apart_symbols enc_method (λ (e : items.EncodedMethod). e.method) method_index (method_at m) (λ y. refl) (IsOwnMethod m class) one_method_number ds vs d_own v_own methods.apart;
       } in
       record {
-        declared = record { name = h.name; class = h.is; is = inr (some, stands); own = own };
+        declared = record { name = h.name; class = h.is; is = inr (some, encodes); own = own };
         static_fields_are = record { fields_in = λ k d lt. (s_own k d lt).within; fields_rise = chain_rises (FieldAt m class) field_index (field_follows m class) b (o + x.counts_size) None ss fields.first_size fields.first };
         instance_fields_are = record { fields_in = λ k d lt. (i_own k d lt).within; fields_rise = chain_rises (FieldAt m class) field_index (field_follows m class) b (o + x.counts_size + fields.first_size) None is' fields.second_size fields.second };
         direct_methods_are = record { methods_in = λ k d lt. (d_own k d lt).within; methods_rise = chain_rises (MethodAt m class) method_index (method_follows m class) b (o + x.counts_size + x.fields_size) None ds methods.first_size methods.first };
@@ -334,7 +334,7 @@ module _ (b : List ℕ) (m n : Mentions) (r class off : ℕ) (bytes : List ℕ) 
   -- what is read is what the row declares
   pub read_answer : HasClass b r → IsInData b off 1 → (result : Result ClassData ItemFault) → IfOk result (λ d. DataAt m class bytes off d.static_fields.items d.instance_fields.items d.direct_methods.items d.virtual_methods.items) → IfOk result (IsDataOf b r m)
   read_answer h within result read =
-      let in_data : data_off b ≤ class_data_off b r = subst (λ (o : ℕ). data_off b ≤ o) off_is within.behind in
+      let in_data : data_off b ≤ class_data_off b r = subst (λ (o : ℕ). data_off b ≤ o) off_is within.following in
       read_so (λ d x. data_read b m pools (subst IsNumbering numbering is) r h (λ e. some (off_is ∙ e)) in_data d (data_moved m class_is bytes_are off_is d.static_fields.items d.instance_fields.items d.direct_methods.items d.virtual_methods.items x)) result read
 
   -- what is refused it does not declare

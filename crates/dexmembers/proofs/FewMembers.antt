@@ -7,7 +7,7 @@ use Rattle.dexspec.specs.Mentions.{Mentions}
 use Rattle.dexspec.specs.Weight.{field_weight, method_weight}
 use Rattle.dexmembers.specs.Numbered.{NumberedField, NumberedMethod, NumberedMembers, AreFew, field_in, method_in, members_in, fields_of, methods_of}
 use Rattle.dexmembers.specs.Weight.{members_weight}
-use Rattle.dexmembers.specs.Weighing.{numbered_field_weight, bare_method_weight, bare_members_weight}
+use Rattle.dexmembers.specs.Weighing.{numbered_field_weight, own_method_weight, own_members_weight}
 
 fields_weigh : (fs : List FieldDef) → 18 * length fs ≤ sum_by field_weight fs
 fields_weigh [] = omega arith
@@ -44,15 +44,15 @@ numbered_fields_weigh : (fs : List NumberedField) → 18 * length fs ≤ sum_by 
 numbered_fields_weigh [] = omega arith
 numbered_fields_weigh (f ∷ fs) = omega (arith, sum_by-cons numbered_field_weight f fs, numbered_fields_weigh fs)
 
-bare_methods_weigh : (xs : List NumberedMethod) → 31 * length xs ≤ sum_by bare_method_weight xs
-bare_methods_weigh [] = omega arith
-bare_methods_weigh (x ∷ xs) = omega (arith, sum_by-cons bare_method_weight x xs, bare_methods_weigh xs)
+own_methods_weigh : (xs : List NumberedMethod) → 31 * length xs ≤ sum_by own_method_weight xs
+own_methods_weigh [] = omega arith
+own_methods_weigh (x ∷ xs) = omega (arith, sum_by-cons own_method_weight x xs, own_methods_weigh xs)
 
 -- what weighs less than 2 ^ 32 without its code has few members
-pub weighed_few : (x : NumberedMembers) → bare_members_weight x < 2 ^ 32 → AreFew x.static_fields x.instance_fields x.direct_methods x.virtual_methods
+pub weighed_few : (x : NumberedMembers) → own_members_weight x < 2 ^ 32 → AreFew x.static_fields x.instance_fields x.direct_methods x.virtual_methods
 weighed_few x light =
     let fs = numbered_fields_weigh (fields_of x) in
-    let ms = bare_methods_weigh (methods_of x) in
+    let ms = own_methods_weigh (methods_of x) in
     let fields = length-append x.static_fields x.instance_fields in
     let methods = length-append x.direct_methods x.virtual_methods in
     record {

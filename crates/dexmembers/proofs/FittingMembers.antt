@@ -13,9 +13,9 @@ use Rattle.dexcode.specs.Numbered.{NumberedItem}
 use Rattle.dexcode.specs.Renumbering.{HasPlaces}
 use Rattle.dexval.specs.Numbered.{NumberedSet, NumberedValues, IsKnownSet, AreKnown}
 use Rattle.dexval.specs.Renumbering.{SetHasPlaces, HavePlaces}
-use Rattle.dexpool.specs.Images.{LeadsOn}
+use Rattle.dexpool.specs.Images.{IsMapped}
 use Rattle.dexmembers.specs.Numbered.{NumberedField, NumberedMethod, NumberedMembers, IsKnownField, IsKnownMethod, AreKnownMembers}
-use Rattle.dexmembers.specs.Renumbering.{FieldHasPlaces, MethodHasPlaces, MembersHavePlaces, LeadsInto}
+use Rattle.dexmembers.specs.Renumbering.{FieldHasPlaces, MethodHasPlaces, MembersHavePlaces, MapsInto}
 use Rattle.dexmembers.proofs.RenumberingLists.{all_both}
 use Rattle.dexmembers.proofs.RenumberingKept.{no_field, no_method}
 
@@ -31,33 +31,33 @@ SetsPlaced m r = (xs : NumberedSet) → IsKnownSet m xs → SetHasPlaces r xs
 abbrev pub ValuesPlaced : Mentions → Maps → Type 0
 ValuesPlaced m r = (xs : NumberedValues) → AreKnown m xs → HavePlaces r xs
 
-module _ (m n : Mentions) (r : Maps) (into : LeadsInto m n r) where
-  field_goes : (i : ℕ) → i < count_of kinds.Field m → LeadsOn r kinds.Field i
+module _ (m n : Mentions) (r : Maps) (into : MapsInto m n r) where
+  field_goes : (i : ℕ) → i < count_of kinds.Field m → IsMapped r kinds.Field i
   field_goes i lt =
       let some = some_of (image_of r kinds.Field i) (into.all kinds.Field i lt) in
       let room = into.few kinds.Field in
-      let at = into.leads.fields_lead.same i some.0 no_field some.1 in
+      let at = into.maps_to.fields_mapped.same i some.0 no_field some.1 in
       let within = at.within in
       (some.0, some.1, omega (arith, within, room))
 
-  method_goes : (i : ℕ) → i < count_of kinds.Method m → LeadsOn r kinds.Method i
+  method_goes : (i : ℕ) → i < count_of kinds.Method m → IsMapped r kinds.Method i
   method_goes i lt =
       let some = some_of (image_of r kinds.Method i) (into.all kinds.Method i lt) in
       let room = into.few kinds.Method in
-      let at = into.leads.methods_lead.same i some.0 no_method some.1 in
+      let at = into.maps_to.methods_mapped.same i some.0 no_method some.1 in
       let within = at.within in
       (some.0, some.1, omega (arith, within, room))
 
   field_placed : SetsPlaced m r → (f : NumberedField) → IsKnownField m f → FieldHasPlaces r f
-  field_placed sets f known = record { number_leads = field_goes f.number known.number_in; annotations_lead = sets f.annotations known.annotations_known }
+  field_placed sets f known = record { number_mapped = field_goes f.number known.number_in; annotations_mapped = sets f.annotations known.annotations_known }
 
   -- a method whose code has places
   pub method_placed : SetsPlaced m r → (x : NumberedMethod) → IsKnownMethod m x → IfSome x.code (HasPlaces r) → MethodHasPlaces r x
   method_placed sets x known code = record {
-    number_leads = method_goes x.number known.number_in;
-    code_leads = code;
-    annotations_lead = sets x.annotations known.annotations_known;
-    parameters_lead = all_both (IsKnownSet m) (IsKnownSet m) (SetHasPlaces r) (λ s is same. sets s is) x.parameter_annotations known.parameters_known known.parameters_known;
+    number_mapped = method_goes x.number known.number_in;
+    code_mapped = code;
+    annotations_mapped = sets x.annotations known.annotations_known;
+    parameters_mapped = all_both (IsKnownSet m) (IsKnownSet m) (SetHasPlaces r) (λ s is same. sets s is) x.parameter_annotations known.parameters_known known.parameters_known;
   }
 
   -- members whose methods have places
@@ -65,16 +65,16 @@ module _ (m n : Mentions) (r : Maps) (into : LeadsInto m n r) where
   members_placed sets values x known directs virtuals =
       let fields = λ (fs : List NumberedField) (are : All (IsKnownField m) fs). all_both (IsKnownField m) (IsKnownField m) (FieldHasPlaces r) (λ f is same. field_placed sets f is) fs are are in
       record {
-        annotations_lead = sets x.annotations known.annotations_known;
-        static_fields_lead = fields x.static_fields known.static_fields_known;
-        instance_fields_lead = fields x.instance_fields known.instance_fields_known;
-        direct_methods_lead = directs;
-        virtual_methods_lead = virtuals;
-        values_lead = values x.static_values known.values_known;
+        annotations_mapped = sets x.annotations known.annotations_known;
+        static_fields_mapped = fields x.static_fields known.static_fields_known;
+        instance_fields_mapped = fields x.instance_fields known.instance_fields_known;
+        direct_methods_mapped = directs;
+        virtual_methods_mapped = virtuals;
+        values_mapped = values x.static_values known.values_known;
       }
 
 -- there are no more than 2^32 symbols of a kind
-pub few_enough : (m n : Mentions) (r : Maps) → LeadsInto m n r → (kind : SymbolKind) → count_of kind n ≤ 2 ^ 32
+pub few_enough : (m n : Mentions) (r : Maps) → MapsInto m n r → (kind : SymbolKind) → count_of kind n ≤ 2 ^ 32
 few_enough m n r into kind = let few = into.few kind in omega (arith, few)
 
 -- ---- what is decided
@@ -86,11 +86,11 @@ list_decided K P ys xs b e each known =
     ((λ t. subst (All P) e (one.0 t)), (λ h. one.1 (subst (All P) (sym e) h)))
 
 -- of a method with code, by that of the code
-pub method_decided : (m n : Mentions) (r : Maps) → LeadsInto m n r → SetsPlaced m r → (x : NumberedMethod) (c : NumberedItem) (b : Bool) → x.code ≡ Some c → (IsKnownCode m c → IsTrue b ↔ HasPlaces r c) → IsKnownMethod m x → IsTrue b ↔ MethodHasPlaces r x
+pub method_decided : (m n : Mentions) (r : Maps) → MapsInto m n r → SetsPlaced m r → (x : NumberedMethod) (c : NumberedItem) (b : Bool) → x.code ≡ Some c → (IsKnownCode m c → IsTrue b ↔ HasPlaces r c) → IsKnownMethod m x → IsTrue b ↔ MethodHasPlaces r x
 method_decided m n r into sets x c b e each known =
     let one = each (subst (λ (o : Option NumberedItem). IfSome o (IsKnownCode m)) e known.code_known) in
-    ((λ t. method_placed m n r into sets x known (subst (λ (o : Option NumberedItem). IfSome o (HasPlaces r)) (sym e) (one.0 t))), (λ h. one.1 (subst (λ (o : Option NumberedItem). IfSome o (HasPlaces r)) e h.code_leads)))
+    ((λ t. method_placed m n r into sets x known (subst (λ (o : Option NumberedItem). IfSome o (HasPlaces r)) (sym e) (one.0 t))), (λ h. one.1 (subst (λ (o : Option NumberedItem). IfSome o (HasPlaces r)) e h.code_mapped)))
 
 -- a method without code has places
-pub bare_placed : (m n : Mentions) (r : Maps) → LeadsInto m n r → SetsPlaced m r → (x : NumberedMethod) → x.code ≡ None → IsKnownMethod m x → MethodHasPlaces r x
-bare_placed m n r into sets x e known = method_placed m n r into sets x known (subst (λ (o : Option NumberedItem). IfSome o (HasPlaces r)) (sym e) tt)
+pub placed_without_code : (m n : Mentions) (r : Maps) → MapsInto m n r → SetsPlaced m r → (x : NumberedMethod) → x.code ≡ None → IsKnownMethod m x → MethodHasPlaces r x
+placed_without_code m n r into sets x e known = method_placed m n r into sets x known (subst (λ (o : Option NumberedItem). IfSome o (HasPlaces r)) (sym e) tt)

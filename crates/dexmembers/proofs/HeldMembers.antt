@@ -10,54 +10,54 @@ use Rattle.dexcode.specs.Renumbering.{item_uses}
 use Rattle.dexcode.specs.Numbered.{NumberedItem}
 use Rattle.dexval.specs.Numbered.{NumberedSet}
 use Rattle.dexval.specs.Renumbering.{renumbered_set, SetHasPlaces}
-use Rattle.dexval.specs.Tables.{NumberedTable, IsPlaceIn, IsLedSet, set_at, places_at}
+use Rattle.dexval.specs.Tables.{NumberedTable, IsPlaceIn, IsRemappedSet, set_at, places_at}
 use Rattle.dexmembers.specs.Numbered.{NumberedField, NumberedMethod, AreFew}
 use Rattle.dexmembers.specs.Held.{HeldField, HeldMethod, field_of, method_of, IsHeldField, IsHeldMethod}
-use Rattle.dexmembers.specs.Renumbering.{renumbered_field, renumbered_method, led_field, led_method, FieldHasPlaces, MethodHasPlaces, HeldFieldLeads, HeldMethodLeads}
+use Rattle.dexmembers.specs.Renumbering.{renumbered_field, renumbered_method, remapped_field, remapped_method, FieldHasPlaces, MethodHasPlaces, IsHeldFieldMapped, IsHeldMethodMapped}
 use Rattle.dexmembers.specs.Stripped.{stripped_held, stripped_method}
 
 -- ---- the images of the numbers of members
 
-pub fields_lead : (r : Maps) (sets : List NumberedSet) (fs : List HeldField) → All (FieldHasPlaces r) (map (field_of sets) fs) → All (HeldFieldLeads r) fs
-fields_lead r sets [] h = All-nil (HeldFieldLeads r)
-fields_lead r sets (f ∷ fs) h = All-cons (HeldFieldLeads r) f fs (All-head (FieldHasPlaces r) (field_of sets f) (map (field_of sets) fs) h).number_leads (fields_lead r sets fs (All-tail (FieldHasPlaces r) (field_of sets f) (map (field_of sets) fs) h))
+pub fields_mapped : (r : Maps) (sets : List NumberedSet) (fs : List HeldField) → All (FieldHasPlaces r) (map (field_of sets) fs) → All (IsHeldFieldMapped r) fs
+fields_mapped r sets [] h = All-nil (IsHeldFieldMapped r)
+fields_mapped r sets (f ∷ fs) h = All-cons (IsHeldFieldMapped r) f fs (All-head (FieldHasPlaces r) (field_of sets f) (map (field_of sets) fs) h).number_mapped (fields_mapped r sets fs (All-tail (FieldHasPlaces r) (field_of sets f) (map (field_of sets) fs) h))
 
-pub methods_lead : (r : Maps) (t : NumberedTable) (xs : List HeldMethod) → All (MethodHasPlaces r) (map (method_of t) xs) → All (HeldMethodLeads r) xs
-methods_lead r t [] h = All-nil (HeldMethodLeads r)
-methods_lead r t (x ∷ xs) h =
+pub methods_mapped : (r : Maps) (t : NumberedTable) (xs : List HeldMethod) → All (MethodHasPlaces r) (map (method_of t) xs) → All (IsHeldMethodMapped r) xs
+methods_mapped r t [] h = All-nil (IsHeldMethodMapped r)
+methods_mapped r t (x ∷ xs) h =
     let one = All-head (MethodHasPlaces r) (method_of t x) (map (method_of t) xs) h in
-    All-cons (HeldMethodLeads r) x xs (record { number_leads = one.number_leads; code_leads = one.code_leads }) (methods_lead r t xs (All-tail (MethodHasPlaces r) (method_of t x) (map (method_of t) xs) h))
+    All-cons (IsHeldMethodMapped r) x xs (record { number_mapped = one.number_mapped; code_mapped = one.code_mapped }) (methods_mapped r t xs (All-tail (MethodHasPlaces r) (method_of t x) (map (method_of t) xs) h))
 
 -- ---- remapped
 
-module _ (r : Maps) (sets sets' : List NumberedSet) (led : (place : Option ℕ) → IsLedSet r (set_at sets place) (set_at sets' place)) where
+module _ (r : Maps) (sets sets' : List NumberedSet) (remapped : (place : Option ℕ) → IsRemappedSet r (set_at sets place) (set_at sets' place)) where
   -- the fields of a list, and their sets in the table
-  pub fields_led : (fs : List HeldField) → All (FieldHasPlaces r) (map (field_of sets) fs) → map (field_of sets') (map (led_field r) fs) ≡ map (renumbered_field r) (map (field_of sets) fs)
-  fields_led [] h = refl
-  fields_led (f ∷ fs) h =
-      let set = (led f.set).0 (All-head (FieldHasPlaces r) (field_of sets f) (map (field_of sets) fs) h).annotations_lead in
-      let rest = fields_led fs (All-tail (FieldHasPlaces r) (field_of sets f) (map (field_of sets) fs) h) in
-      λ i. record { number = (led_field r f).number; flags = f.flags; annotations = set i } ∷ rest i
+  pub fields_remapped : (fs : List HeldField) → All (FieldHasPlaces r) (map (field_of sets) fs) → map (field_of sets') (map (remapped_field r) fs) ≡ map (renumbered_field r) (map (field_of sets) fs)
+  fields_remapped [] h = refl
+  fields_remapped (f ∷ fs) h =
+      let set = (remapped f.set).0 (All-head (FieldHasPlaces r) (field_of sets f) (map (field_of sets) fs) h).annotations_mapped in
+      let rest = fields_remapped fs (All-tail (FieldHasPlaces r) (field_of sets f) (map (field_of sets) fs) h) in
+      λ i. record { number = (remapped_field r f).number; flags = f.flags; annotations = set i } ∷ rest i
 
   -- the sets of a list
-  list_led : (places : List (Option ℕ)) → All (SetHasPlaces r) (map (set_at sets) places) → map (set_at sets') places ≡ map (renumbered_set r) (map (set_at sets) places)
-  list_led [] h = refl
-  list_led (p ∷ ps) h =
-      let first = (led p).0 (All-head (SetHasPlaces r) (set_at sets p) (map (set_at sets) ps) h) in
-      let rest = list_led ps (All-tail (SetHasPlaces r) (set_at sets p) (map (set_at sets) ps) h) in
+  list_remapped : (places : List (Option ℕ)) → All (SetHasPlaces r) (map (set_at sets) places) → map (set_at sets') places ≡ map (renumbered_set r) (map (set_at sets) places)
+  list_remapped [] h = refl
+  list_remapped (p ∷ ps) h =
+      let first = (remapped p).0 (All-head (SetHasPlaces r) (set_at sets p) (map (set_at sets) ps) h) in
+      let rest = list_remapped ps (All-tail (SetHasPlaces r) (set_at sets p) (map (set_at sets) ps) h) in
       λ i. first i ∷ rest i
 
   -- the methods of a list
-  pub methods_led : (lists lists' : List (List (Option ℕ))) → lists' ≡ lists → (xs : List HeldMethod) → All (MethodHasPlaces r) (map (method_of (record { sets = sets; lists = lists })) xs)
-      → map (method_of (record { sets = sets'; lists = lists' })) (map (led_method r) xs) ≡ map (renumbered_method r) (map (method_of (record { sets = sets; lists = lists })) xs)
-  methods_led lists lists' same [] h = refl
-  methods_led lists lists' same (x ∷ xs) h =
+  pub methods_remapped : (lists lists' : List (List (Option ℕ))) → lists' ≡ lists → (xs : List HeldMethod) → All (MethodHasPlaces r) (map (method_of (record { sets = sets; lists = lists })) xs)
+      → map (method_of (record { sets = sets'; lists = lists' })) (map (remapped_method r) xs) ≡ map (renumbered_method r) (map (method_of (record { sets = sets; lists = lists })) xs)
+  methods_remapped lists lists' same [] h = refl
+  methods_remapped lists lists' same (x ∷ xs) h =
       let t : NumberedTable = record { sets = sets; lists = lists } in
       let one = All-head (MethodHasPlaces r) (method_of t x) (map (method_of t) xs) h in
-      let set = (led x.set).0 one.annotations_lead in
-      let list = ap (λ (ls : List (List (Option ℕ))). map (set_at sets') (places_at ls x.list)) same ∙ list_led (places_at lists x.list) one.parameters_lead in
-      let rest = methods_led lists lists' same xs (All-tail (MethodHasPlaces r) (method_of t x) (map (method_of t) xs) h) in
-      λ i. record { number = (led_method r x).number; flags = x.flags; code = (led_method r x).code; annotations = set i; parameter_annotations = list i } ∷ rest i
+      let set = (remapped x.set).0 one.annotations_mapped in
+      let list = ap (λ (ls : List (List (Option ℕ))). map (set_at sets') (places_at ls x.list)) same ∙ list_remapped (places_at lists x.list) one.parameters_mapped in
+      let rest = methods_remapped lists lists' same xs (All-tail (MethodHasPlaces r) (method_of t x) (map (method_of t) xs) h) in
+      λ i. record { number = (remapped_method r x).number; flags = x.flags; code = (remapped_method r x).code; annotations = set i; parameter_annotations = list i } ∷ rest i
 
 -- ---- places in a table of the same size
 
@@ -68,16 +68,16 @@ place_kept xs ys size (Some i) h = omega (arith, size, h)
 pub own_kept : (sets sets' : List NumberedSet) → length sets' ≡ length sets → (place : Option ℕ) → IsPlaceIn sets place → IsPlaceIn sets' place
 own_kept sets sets' size place h = place_kept sets sets' size place h
 
-pub fields_kept : (r : Maps) (sets sets' : List NumberedSet) → length sets' ≡ length sets → (fs : List HeldField) → All (IsHeldField sets) fs → All (IsHeldField sets') (map (led_field r) fs)
+pub fields_kept : (r : Maps) (sets sets' : List NumberedSet) → length sets' ≡ length sets → (fs : List HeldField) → All (IsHeldField sets) fs → All (IsHeldField sets') (map (remapped_field r) fs)
 fields_kept r sets sets' size [] h = All-nil (IsHeldField sets')
 fields_kept r sets sets' size (f ∷ fs) h =
-    All-cons (IsHeldField sets') (led_field r f) (map (led_field r) fs) (place_kept sets sets' size f.set (All-head (IsHeldField sets) f fs h)) (fields_kept r sets sets' size fs (All-tail (IsHeldField sets) f fs h))
+    All-cons (IsHeldField sets') (remapped_field r f) (map (remapped_field r) fs) (place_kept sets sets' size f.set (All-head (IsHeldField sets) f fs h)) (fields_kept r sets sets' size fs (All-tail (IsHeldField sets) f fs h))
 
-pub methods_kept : (r : Maps) (t t' : NumberedTable) → length t'.sets ≡ length t.sets → t'.lists ≡ t.lists → (xs : List HeldMethod) → All (IsHeldMethod t) xs → All (IsHeldMethod t') (map (led_method r) xs)
+pub methods_kept : (r : Maps) (t t' : NumberedTable) → length t'.sets ≡ length t.sets → t'.lists ≡ t.lists → (xs : List HeldMethod) → All (IsHeldMethod t) xs → All (IsHeldMethod t') (map (remapped_method r) xs)
 methods_kept r t t' size same [] h = All-nil (IsHeldMethod t')
 methods_kept r t t' size same (x ∷ xs) h =
     let one = All-head (IsHeldMethod t) x xs h in
-    All-cons (IsHeldMethod t') (led_method r x) (map (led_method r) xs) (record { set_held = place_kept t.sets t'.sets size x.set one.set_held; list_held = place_kept t.lists t'.lists (ap length same) x.list one.list_held })
+    All-cons (IsHeldMethod t') (remapped_method r x) (map (remapped_method r) xs) (record { set_held = place_kept t.sets t'.sets size x.set one.set_held; list_held = place_kept t.lists t'.lists (ap length same) x.list one.list_held })
     (methods_kept r t t' size same xs (All-tail (IsHeldMethod t) x xs h))
 
 -- as many members are few

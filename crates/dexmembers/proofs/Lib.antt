@@ -10,7 +10,7 @@ pub mod FewMembers
 pub mod FittingMembers
 pub mod HeldMembers
 pub mod Images
-pub mod Judged
+pub mod DirectoryCache
 pub mod Made
 pub mod Meant
 pub mod MemberChains
@@ -31,7 +31,7 @@ pub mod RenumberingSteps
 pub mod RowAnnotations
 pub mod RowChecked
 pub mod RowRead
-pub mod RowStands
+pub mod RowsAreAt
 pub mod RowSummed
 pub mod RowWeighed
 pub mod SameMembers

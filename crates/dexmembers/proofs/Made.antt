@@ -10,7 +10,7 @@ use Rattle.dexspec.specs.Classes.{StaticValuesAt, annotations_off, static_values
 use Rattle.dexspec.specs.Code.{Code}
 use Rattle.dexspec.specs.Mentions.{Mentions}
 use Rattle.dexpool.specs.Numberings.{AreRising}
-use Rattle.dexcode.specs.Numbered.{NumberedItem, StandsForCode}
+use Rattle.dexcode.specs.Numbered.{NumberedItem, DenotesCode}
 use Rattle.dexcode.specs.Meaning.{code_in, IsKnownCode}
 use Rattle.dexval.specs.Numbered.{NumberedSet, NumberedDirectory, NumberedValues, IsKnownDirectory, AreKnown, directory_in, values_in}
 use Rattle.dexmembers.specs.Numbered.{NumberedField, NumberedMethod, NumberedMembers, AreKnownMembers, AreOrdered, members_in}
@@ -29,7 +29,7 @@ field_numbers sets [] = refl
 field_numbers sets (x ∷ xs) = ap (λ (l : List ℕ). x.index ∷ l) (field_numbers sets xs)
 
 -- and so do methods
-method_numbers : (b : List ℕ) (m : Mentions) (sets : List (ℕ × NumberedSet)) (lists : List (ℕ × List NumberedSet)) (xs : List MethodRead) (codes : List (Option NumberedItem)) (symbolic : List (Option Code)) → AreCodesAt b xs symbolic → AllZip (BothOrNone (StandsForCode m)) codes symbolic
+method_numbers : (b : List ℕ) (m : Mentions) (sets : List (ℕ × NumberedSet)) (lists : List (ℕ × List NumberedSet)) (xs : List MethodRead) (codes : List (Option NumberedItem)) (symbolic : List (Option Code)) → AreCodesAt b xs symbolic → AllZip (BothOrNone (DenotesCode m)) codes symbolic
     → map (λ (y : NumberedMethod). y.number) (zip_with (method_with sets lists) xs codes) ≡ map (λ (x : MethodRead). x.index) xs
 method_numbers b m sets lists [] codes symbolic h s = refl
 method_numbers b m sets lists (x ∷ xs) codes [] h s = absurd h
@@ -37,10 +37,10 @@ method_numbers b m sets lists (x ∷ xs) [] (y ∷ symbolic) h s = absurd s
 method_numbers b m sets lists (x ∷ xs) (c ∷ codes) (y ∷ symbolic) h s = ap (λ (l : List ℕ). x.index ∷ l) (method_numbers b m sets lists xs codes symbolic h.1 s.1)
 
 module _ (b : List ℕ) (r : ℕ) (m : Mentions) (rising : AreRising m) (dir : NumberedDirectory) (known : IsKnownDirectory m dir) (read : DataRead) (is : IsDataOf b r m read)
-    (is_known : (c : NumberedItem) (x : Code) → StandsForCode m c x → IsKnownCode m c) (is_meant : (c : NumberedItem) (x : Code) → StandsForCode m c x → x ≡ code_in m c)
+    (is_known : (c : NumberedItem) (x : Code) → DenotesCode m c x → IsKnownCode m c) (is_meant : (c : NumberedItem) (x : Code) → DenotesCode m c x → x ≡ code_in m c)
     (direct virtual : List (Option NumberedItem)) (direct_codes virtual_codes : List (Option Code))
-    (direct_at : AreCodesAt b read.direct_methods.items direct_codes) (direct_stand : AllZip (BothOrNone (StandsForCode m)) direct direct_codes)
-    (virtual_at : AreCodesAt b read.virtual_methods.items virtual_codes) (virtual_stand : AllZip (BothOrNone (StandsForCode m)) virtual virtual_codes)
+    (direct_at : AreCodesAt b read.direct_methods.items direct_codes) (direct_encoded : AllZip (BothOrNone (DenotesCode m)) direct direct_codes)
+    (virtual_at : AreCodesAt b read.virtual_methods.items virtual_codes) (virtual_encoded : AllZip (BothOrNone (DenotesCode m)) virtual virtual_codes)
     (values : NumberedValues) where
   -- all of it
   abbrev pub made : NumberedMembers
@@ -63,8 +63,8 @@ module _ (b : List ℕ) (r : ℕ) (m : Mentions) (rising : AreRising m) (dir : N
     annotations = refl;
     static_fields = fields_meant m rising dir known read.static_fields.items is.static_fields_are.fields_in;
     instance_fields = fields_meant m rising dir known read.instance_fields.items is.instance_fields_are.fields_in;
-    direct_methods = methods_meant m rising dir known b is_known is_meant read.direct_methods.items direct direct_codes is.direct_methods_are.methods_in direct_at direct_stand;
-    virtual_methods = methods_meant m rising dir known b is_known is_meant read.virtual_methods.items virtual virtual_codes is.virtual_methods_are.methods_in virtual_at virtual_stand;
+    direct_methods = methods_meant m rising dir known b is_known is_meant read.direct_methods.items direct direct_codes is.direct_methods_are.methods_in direct_at direct_encoded;
+    virtual_methods = methods_meant m rising dir known b is_known is_meant read.virtual_methods.items virtual virtual_codes is.virtual_methods_are.methods_in virtual_at virtual_encoded;
     static_values = values_at;
   }
 
@@ -74,8 +74,8 @@ module _ (b : List ℕ) (r : ℕ) (m : Mentions) (rising : AreRising m) (dir : N
     annotations_known = known.own_known;
     static_fields_known = fields_known m rising dir known read.static_fields.items is.static_fields_are.fields_in;
     instance_fields_known = fields_known m rising dir known read.instance_fields.items is.instance_fields_are.fields_in;
-    direct_methods_known = methods_known m rising dir known b is_known is_meant read.direct_methods.items direct direct_codes is.direct_methods_are.methods_in direct_at direct_stand;
-    virtual_methods_known = methods_known m rising dir known b is_known is_meant read.virtual_methods.items virtual virtual_codes is.virtual_methods_are.methods_in virtual_at virtual_stand;
+    direct_methods_known = methods_known m rising dir known b is_known is_meant read.direct_methods.items direct direct_codes is.direct_methods_are.methods_in direct_at direct_encoded;
+    virtual_methods_known = methods_known m rising dir known b is_known is_meant read.virtual_methods.items virtual virtual_codes is.virtual_methods_are.methods_in virtual_at virtual_encoded;
     values_known = values_known;
   }
 
@@ -84,8 +84,8 @@ module _ (b : List ℕ) (r : ℕ) (m : Mentions) (rising : AreRising m) (dir : N
   made_ordered =
       let statics = field_numbers dir.fields read.static_fields.items in
       let instances = field_numbers dir.fields read.instance_fields.items in
-      let directs = method_numbers b m dir.methods dir.parameters read.direct_methods.items direct direct_codes direct_at direct_stand in
-      let virtuals = method_numbers b m dir.methods dir.parameters read.virtual_methods.items virtual virtual_codes virtual_at virtual_stand in
+      let directs = method_numbers b m dir.methods dir.parameters read.direct_methods.items direct direct_codes direct_at direct_encoded in
+      let virtuals = method_numbers b m dir.methods dir.parameters read.virtual_methods.items virtual virtual_codes virtual_at virtual_encoded in
       record {
         static_fields_rise = ap (rises nat_cmp) statics ∙ is.static_fields_are.fields_rise;
         instance_fields_rise = ap (rises nat_cmp) instances ∙ is.instance_fields_are.fields_rise;

@@ -16,7 +16,7 @@ use Rattle.dexspec.specs.Mentions.{Mentions}
 use Rattle.dexspec.proofs.merge.SymbolOrders.{field_total, method_total}
 use Rattle.dexpool.specs.Numberings.{AreRising}
 use Rattle.dexpool.proofs.NumberOrder.{places_agree}
-use Rattle.dexcode.specs.Numbered.{NumberedItem, StandsForCode}
+use Rattle.dexcode.specs.Numbered.{NumberedItem, DenotesCode}
 use Rattle.dexcode.specs.Meaning.{code_in, IsKnownCode}
 use Rattle.dexval.specs.Numbered.{NumberedSet, IsKnownAnnotation, IsKnownSet, NumberedDirectory, IsKnownDirectory, annotation_in, set_in, directory_in, field_at, method_at}
 use Rattle.dexmembers.specs.Numbered.{IsKnownField, IsKnownMethod, field_in, method_in}
@@ -108,22 +108,22 @@ module _ (m : Mentions) (rising : AreRising m) (dir : NumberedDirectory) (known 
       } in
       All-cons (IsKnownField m) (field_with dir.fields x) (map (field_with dir.fields) xs) first (fields_known xs (All-tail (λ (y : FieldRead). y.index < length m.fields) x xs h))
 
-  module _ (b : List ℕ) (is_known : (c : NumberedItem) (x : Code) → StandsForCode m c x → IsKnownCode m c) (is_meant : (c : NumberedItem) (x : Code) → StandsForCode m c x → x ≡ code_in m c) where
+  module _ (b : List ℕ) (is_known : (c : NumberedItem) (x : Code) → DenotesCode m c x → IsKnownCode m c) (is_meant : (c : NumberedItem) (x : Code) → DenotesCode m c x → x ≡ code_in m c) where
     -- the code of a method
-    code_meant : (o : ℕ) (c : Option NumberedItem) (x : Option Code) → OrNone (SomeAt CodeAt) None b o x → BothOrNone (StandsForCode m) c x → OrNone (SomeAt CodeAt) None b o (option_map (code_in m) c)
+    code_meant : (o : ℕ) (c : Option NumberedItem) (x : Option Code) → OrNone (SomeAt CodeAt) None b o x → BothOrNone (DenotesCode m) c x → OrNone (SomeAt CodeAt) None b o (option_map (code_in m) c)
     code_meant o None None h s = h
     code_meant o None (Some x) h s = absurd s
     code_meant o (Some c) None h s = absurd s
     code_meant o (Some c) (Some x) h s = subst (λ (y : Code). OrNone (SomeAt CodeAt) None b o (Some y)) (is_meant c x s) h
 
-    code_known : (c : Option NumberedItem) (x : Option Code) → BothOrNone (StandsForCode m) c x → IfSome c (IsKnownCode m)
+    code_known : (c : Option NumberedItem) (x : Option Code) → BothOrNone (DenotesCode m) c x → IfSome c (IsKnownCode m)
     code_known None None s = tt
     code_known None (Some x) s = absurd s
     code_known (Some c) None s = absurd s
     code_known (Some c) (Some x) s = is_known c x s
 
     -- methods mean what their indices, code and sets make
-    pub methods_meant : (xs : List MethodRead) (codes : List (Option NumberedItem)) (symbolic : List (Option Code)) → All (λ (x : MethodRead). x.index < length m.methods) xs → AreCodesAt b xs symbolic → AllZip (BothOrNone (StandsForCode m)) codes symbolic
+    pub methods_meant : (xs : List MethodRead) (codes : List (Option NumberedItem)) (symbolic : List (Option Code)) → All (λ (x : MethodRead). x.index < length m.methods) xs → AreCodesAt b xs symbolic → AllZip (BothOrNone (DenotesCode m)) codes symbolic
         → AllZip (MakesMethod b (directory_in m dir)) (map (encoded_method_in m) xs) (map (method_in m) (zip_with (method_with dir.methods dir.parameters) xs codes))
     methods_meant [] codes symbolic h at s = tt
     methods_meant (x ∷ xs) codes [] h at s = absurd at
@@ -142,7 +142,7 @@ module _ (m : Mentions) (rising : AreRising m) (dir : NumberedDirectory) (known 
         )
 
     -- and their numbers are those of symbols
-    pub methods_known : (xs : List MethodRead) (codes : List (Option NumberedItem)) (symbolic : List (Option Code)) → All (λ (x : MethodRead). x.index < length m.methods) xs → AreCodesAt b xs symbolic → AllZip (BothOrNone (StandsForCode m)) codes symbolic
+    pub methods_known : (xs : List MethodRead) (codes : List (Option NumberedItem)) (symbolic : List (Option Code)) → All (λ (x : MethodRead). x.index < length m.methods) xs → AreCodesAt b xs symbolic → AllZip (BothOrNone (DenotesCode m)) codes symbolic
         → All (IsKnownMethod m) (zip_with (method_with dir.methods dir.parameters) xs codes)
     methods_known [] codes symbolic h at s = All-nil (IsKnownMethod m)
     methods_known (x ∷ xs) codes [] h at s = absurd at

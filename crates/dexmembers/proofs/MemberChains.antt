@@ -73,14 +73,14 @@ module _ {X : Type 0} (At : Member X) (index : X → ℕ) where
     -- without the second list
     pub no_second : (b : List ℕ) (o count other_count : ℕ) (xs : List X) (n : ℕ) → IsListRead At index b o count xs n → NoList At index b (o + n) other_count → NoLists At index b o count other_count
     no_second b o count other_count xs n read none us vs k len lens g =
-        let first = one_chain b o None us xs g.first_size n (len ∙ sym read.many) g.first read.stand in
+        let first = one_chain b o None us xs g.first_size n (len ∙ sym read.many) g.first read.are_encoded in
         none vs g.second_size lens (subst (λ (i : ℕ). Chain At index b (o + i) None vs g.second_size) first.1 g.second)
 
     -- where an index is in both
     pub not_apart : (b : List ℕ) (o count other_count : ℕ) (xs ys : List X) (n k : ℕ) → IsListRead At index b o count xs n → IsListRead At index b (o + n) other_count ys k → (ShareNone (map index xs) (map index ys) → ⊥) → NoLists At index b o count other_count
     not_apart b o count other_count xs ys n k read others shared us vs m len lens g =
-        let first = one_chain b o None us xs g.first_size n (len ∙ sym read.many) g.first read.stand in
-        let second = one_chain b (o + n) None vs ys g.second_size k (lens ∙ sym others.many) (subst (λ (i : ℕ). Chain At index b (o + i) None vs g.second_size) first.1 g.second) others.stand in
+        let first = one_chain b o None us xs g.first_size n (len ∙ sym read.many) g.first read.are_encoded in
+        let second = one_chain b (o + n) None vs ys g.second_size k (lens ∙ sym others.many) (subst (λ (i : ℕ). Chain At index b (o + i) None vs g.second_size) first.1 g.second) others.are_encoded in
         let apart = subst (λ (zs : List X). ShareNone (map index zs) (map index vs)) first.0 g.apart in
         shared (subst (λ (zs : List X). ShareNone (map index xs) (map index zs)) second.0 apart)
 

@@ -13,7 +13,7 @@ use Rattle.dexpool.specs.Numberings.{IsAt, AreMarksOf}
 use Rattle.dexpool.specs.Uses.{Use, HasMark, IsUseOf}
 use Rattle.dexval.specs.Numbered.{NumberedSet, set_in, values_in, field_at, method_at, IsKnownSet}
 use Rattle.dexval.specs.Uses.{set_uses, values_uses}
-use Rattle.dexval.proofs.Meanings.{set_stands, values_stand, set_marks, values_marks}
+use Rattle.dexval.proofs.Meanings.{set_encoded, values_encoded, set_marks, values_marks}
 use Rattle.dexcode.specs.Numbered.{NumberedItem}
 use Rattle.dexcode.specs.Meaning.{code_in, IsKnownCode}
 use Rattle.dexcode.specs.Renumbering.{item_uses}
@@ -39,7 +39,7 @@ parts_all P Q f step (x ∷ xs) all = All-append Q (f x) (flat_map f xs) (step x
 
 module _ (m : Mentions) where
   set_used : (s : NumberedSet) → IsKnownSet m s → AllZip (IsUseOf m) (set_uses s) (set_symbols (set_in m s))
-  set_used s known = set_stands m s (set_in m s) (record { known = known; means = refl })
+  set_used s known = set_encoded m s (set_in m s) (record { known = known; means = refl })
 
   sets_used : (ss : List NumberedSet) → All (IsKnownSet m) ss → AllZip (IsUseOf m) (flat_map set_uses ss) (flat_map set_symbols (map (set_in m) ss))
   sets_used ss known = parts_zip (IsUseOf m) (IsKnownSet m) (IsKnownSet m) set_uses set_symbols (set_in m) (λ s k l. set_used s k) ss known known
@@ -83,7 +83,7 @@ module _ (m : Mentions) (code_used : (c : NumberedItem) → IsKnownCode m c → 
       let ds = parts_zip (IsUseOf m) (IsKnownMethod m) (λ y. (method_at m y.number).class ≡ class) method_uses (method_symbols class) (method_in m) (method_used class) (methods_of x)
       (All-append (IsKnownMethod m) x.direct_methods x.virtual_methods known.direct_methods_known known.virtual_methods_known) of.methods_of_class in
       let es = subst (λ l. AllZip (IsUseOf m) (flat_map method_uses (methods_of x)) (flat_map (method_symbols class) l)) (map-append (method_in m) x.direct_methods x.virtual_methods) ds in
-      let vs = values_stand m x.static_values (values_in m x.static_values) (record { known = known.values_known; mean = refl }) in
+      let vs = values_encoded m x.static_values (values_in m x.static_values) (record { known = known.values_known; mean = refl }) in
       let fields_meant = map (field_in m) x.static_fields ++ map (field_in m) x.instance_fields in
       let methods_meant = map (method_in m) x.direct_methods ++ map (method_in m) x.virtual_methods in
       let last = zip-append (IsUseOf m) (flat_map method_uses (methods_of x)) (flat_map (method_symbols class) methods_meant) (values_uses x.static_values) (values_symbols (values_in m x.static_values)) es vs in

@@ -8,10 +8,10 @@ use Rattle.dexspec.specs.Texts.{Text}
 use Rattle.dexspec.specs.ClassData.{EncodedField, EncodedMethod, fields_of, methods_of}
 use Rattle.dexspec.specs.Classes.{ClassTypeRow, class_idx}
 use Rattle.dexspec.proofs.determined.OneRow.{one_type}
-use Rattle.dexpool.proofs.Parts.{all_front, all_back}
+use Rattle.dexpool.proofs.Parts.{all_prefix, all_back}
 use Rattle.dexspec.specs.Code.{Code}
 use Rattle.dexspec.specs.Mentions.{Mentions}
-use Rattle.dexcode.specs.Numbered.{NumberedItem, StandsForCode}
+use Rattle.dexcode.specs.Numbered.{NumberedItem, DenotesCode}
 use Rattle.dexval.specs.Numbered.{NumberedSet, NumberedDirectory, NumberedValues, field_at, method_at}
 use Rattle.dexmembers.specs.Numbered.{NumberedField, NumberedMethod, AreOfClass}
 use Rattle.dexmembers.specs.internal.ClassData.{encoded_field_in, encoded_method_in, class_data_in, IsDataOf}
@@ -31,7 +31,7 @@ fields_of_class m name sets (x ∷ xs) h =
     (fields_of_class m name sets xs (All-tail (λ (y : EncodedField). y.field.class ≡ name) (encoded_field_in m x) (map (encoded_field_in m) xs) h))
 
 -- the methods
-pub methods_of_class : (b : List ℕ) (m : Mentions) (name : Text) (sets : List (ℕ × NumberedSet)) (lists : List (ℕ × List NumberedSet)) (xs : List MethodRead) (codes : List (Option NumberedItem)) (symbolic : List (Option Code)) → AreCodesAt b xs symbolic → AllZip (BothOrNone (StandsForCode m)) codes symbolic
+pub methods_of_class : (b : List ℕ) (m : Mentions) (name : Text) (sets : List (ℕ × NumberedSet)) (lists : List (ℕ × List NumberedSet)) (xs : List MethodRead) (codes : List (Option NumberedItem)) (symbolic : List (Option Code)) → AreCodesAt b xs symbolic → AllZip (BothOrNone (DenotesCode m)) codes symbolic
     → All (λ (x : EncodedMethod). x.method.class ≡ name) (map (encoded_method_in m) xs) → All (λ (y : NumberedMethod). (method_at m y.number).class ≡ name) (zip_with (method_with sets lists) xs codes)
 methods_of_class b m name sets lists [] codes symbolic at s h = All-nil (λ (y : NumberedMethod). (method_at m y.number).class ≡ name)
 methods_of_class b m name sets lists (x ∷ xs) codes [] at s h = absurd at
@@ -52,9 +52,9 @@ module _ (b : List ℕ) (r : ℕ) (m : Mentions) (read : DataRead) (is : IsDataO
   own_methods = subst (λ (t : Text). All (λ (x : EncodedMethod). x.method.class ≡ t) (methods_of (class_data_in m read))) name_is is.declared.own.methods
 
   -- so are those that are put together
-  pub attached_of_class : (a : NumberedDirectory) (direct virtual : List (Option NumberedItem)) (vs : NumberedValues) (direct_codes virtual_codes : List (Option Code)) → AreCodesAt b read.direct_methods.items direct_codes → AllZip (BothOrNone (StandsForCode m)) direct direct_codes
-      → AreCodesAt b read.virtual_methods.items virtual_codes → AllZip (BothOrNone (StandsForCode m)) virtual virtual_codes → AreOfClass m name (attached read a direct virtual vs)
-  attached_of_class a direct virtual vs direct_codes virtual_codes direct_at direct_stand virtual_at virtual_stand =
+  pub attached_of_class : (a : NumberedDirectory) (direct virtual : List (Option NumberedItem)) (vs : NumberedValues) (direct_codes virtual_codes : List (Option Code)) → AreCodesAt b read.direct_methods.items direct_codes → AllZip (BothOrNone (DenotesCode m)) direct direct_codes
+      → AreCodesAt b read.virtual_methods.items virtual_codes → AllZip (BothOrNone (DenotesCode m)) virtual virtual_codes → AreOfClass m name (attached read a direct virtual vs)
+  attached_of_class a direct virtual vs direct_codes virtual_codes direct_at direct_encoded virtual_at virtual_encoded =
       let F = λ (x : EncodedField). x.field.class ≡ name in
       let M = λ (x : EncodedMethod). x.method.class ≡ name in
       let statics = map (encoded_field_in m) read.static_fields.items in
@@ -64,8 +64,8 @@ module _ (b : List ℕ) (r : ℕ) (m : Mentions) (read : DataRead) (is : IsDataO
       let made = attached read a direct virtual vs in
       record {
         fields_of_class = All-append (λ (f : NumberedField). (field_at m f.number).class ≡ name) made.static_fields made.instance_fields
-            (fields_of_class m name a.fields read.static_fields.items (all_front F statics instances own_fields)) (fields_of_class m name a.fields read.instance_fields.items (all_back F statics instances own_fields));
+            (fields_of_class m name a.fields read.static_fields.items (all_prefix F statics instances own_fields)) (fields_of_class m name a.fields read.instance_fields.items (all_back F statics instances own_fields));
         methods_of_class = All-append (λ (y : NumberedMethod). (method_at m y.number).class ≡ name) made.direct_methods made.virtual_methods
-            (methods_of_class b m name a.methods a.parameters read.direct_methods.items direct direct_codes direct_at direct_stand (all_front M directs virtuals own_methods))
-            (methods_of_class b m name a.methods a.parameters read.virtual_methods.items virtual virtual_codes virtual_at virtual_stand (all_back M directs virtuals own_methods));
+            (methods_of_class b m name a.methods a.parameters read.direct_methods.items direct direct_codes direct_at direct_encoded (all_prefix M directs virtuals own_methods))
+            (methods_of_class b m name a.methods a.parameters read.virtual_methods.items virtual virtual_codes virtual_at virtual_encoded (all_back M directs virtuals own_methods));
       }

@@ -122,15 +122,15 @@ merged_more p ps (q ∷ qs) h ne rise =
           kept_first p (merged ps (q ∷ qs)) (merged_all Above ps (q ∷ qs) h (All-cons Above q qs lt (lower_above p.0 q lt qs rise.0)))
           ∙ ap (λ (b : Bool). kept (if b then first else later)) (sym (lt-ltb p.0 q.0 lt))
       | inr le ↦
-          let more : q.0 < p.0 = behind p.0 q.0 le (All-head Other q qs ne) in
+          let more : q.0 < p.0 = following p.0 q.0 le (All-head Other q qs ne) in
           ap (λ (l : List (ℕ × ℕ)). add_kept (p.1 == 0) p (kept l)) (merged_second ps q qs (lower_above q.0 p more ps h))
           ∙ kept_later p q (kept (merged ps qs)) more
           ∙ ap (λ (l : List (ℕ × ℕ)). kept_pair q ++ l) (merged_more p ps qs h (All-tail Other q qs ne) rise.1)
           ∙ ap (λ (b : Bool). kept (if b then first else later)) (sym (le-ltb p.0 q.0 le))
     ]
   where
-    behind : (x y : ℕ) → y ≤ x → x ≢ y → y < x
-    behind x y le ne = elim (cases_lt y x) [ inl lt ↦ lt | inr ge ↦ absurd (ne (omega (arith, le, ge))) ]
+    following : (x y : ℕ) → y ≤ x → x ≢ y → y < x
+    following x y le ne = elim (cases_lt y x) [ inl lt ↦ lt | inr ge ↦ absurd (ne (omega (arith, le, ge))) ]
 
 -- one list alone
 kept_in_order : (qs : List (ℕ × ℕ)) → Ascend qs → in_order pair_cmp (kept qs) ≡ kept qs

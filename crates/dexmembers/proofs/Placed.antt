@@ -10,14 +10,14 @@ use Rattle.dexpool.specs.declared.symbols.SymbolKind.{SymbolKind}
 use Rattle.dexpool.specs.declared.symbols.SymbolKind.TheVariants as kinds
 use Rattle.dexpool.specs.Numberings.{Maps, image, image_of}
 use Rattle.dexpool.specs.Orderly.{KeepOrder}
-use Rattle.dexinsn.specs.Fitting.{ImagesFit, IsGreatest, LeadsShort, short_strings}
-use Rattle.dexinsn.proofs.Fits.{ShortLead, short_lead, shorts_led}
+use Rattle.dexinsn.specs.Fitting.{ImagesFit, IsGreatest, MapsShort, short_strings}
+use Rattle.dexinsn.proofs.Fits.{ShortMapped, short_mapped, shorts_remapped}
 use Rattle.dexcode.specs.Numbered.{NumberedItem}
 use Rattle.dexcode.specs.Renumbering.{item_uses, HasPlaces, HasImages}
 use Rattle.dexcode.specs.Renumbering as code
 use Rattle.dexval.specs.Numbered.{NumberedSet, NumberedValues}
-use Rattle.dexval.specs.Renumbering.{LeadsNarrow, SetHasPlaces, HavePlaces}
-use Rattle.dexpool.specs.Images.{LeadsOn}
+use Rattle.dexval.specs.Renumbering.{MapsNarrow, SetHasPlaces, HavePlaces}
+use Rattle.dexpool.specs.Images.{IsMapped}
 use Rattle.dexmembers.specs.Numbered.{NumberedField, NumberedMethod, NumberedMembers, methods_of}
 use Rattle.dexmembers.specs.Renumbering.{FieldHasPlaces, MethodHasPlaces, MembersHavePlaces}
 use Rattle.dexmembers.specs.Fitting.{MethodFits, NumbersFit, code_short_strings, method_short_strings, members_short_strings}
@@ -35,39 +35,39 @@ coded (Some c) step h k = step c h k
 
 -- ---- from code that has places to members that have
 
-module _ (r : Maps) (narrow : LeadsNarrow r) (sets : (s : NumberedSet) → SetHasImages r s → SetHasPlaces r s) (values : (xs : NumberedValues) → HaveImages r xs → HavePlaces r xs) where
-  on : (kind : SymbolKind) (i : ℕ) → IsSome (image_of r kind i) → LeadsOn r kind i
+module _ (r : Maps) (narrow : MapsNarrow r) (sets : (s : NumberedSet) → SetHasImages r s → SetHasPlaces r s) (values : (xs : NumberedValues) → HaveImages r xs → HavePlaces r xs) where
+  on : (kind : SymbolKind) (i : ℕ) → IsSome (image_of r kind i) → IsMapped r kind i
   on kind i h = let at = some_of (image_of r kind i) h in (at.0, at.1, λ lt. narrow kind i at.0 at.1 lt)
 
   field_placed : (f : NumberedField) → FieldHasImages r f → FieldHasPlaces r f
-  field_placed f h = record { number_leads = on kinds.Field f.number h.number_leads; annotations_lead = sets f.annotations h.annotations_lead }
+  field_placed f h = record { number_mapped = on kinds.Field f.number h.number_mapped; annotations_mapped = sets f.annotations h.annotations_mapped }
 
   method_placed : (x : NumberedMethod) → MethodHasImages r x → CodePlaced r x → MethodHasPlaces r x
   method_placed x h placed = record {
-    number_leads = on kinds.Method x.number h.number_leads;
-    code_leads = placed;
-    annotations_lead = sets x.annotations h.annotations_lead;
-    parameters_lead = All-weaker (SetHasImages r) (SetHasPlaces r) sets x.parameter_annotations h.parameters_lead;
+    number_mapped = on kinds.Method x.number h.number_mapped;
+    code_mapped = placed;
+    annotations_mapped = sets x.annotations h.annotations_mapped;
+    parameters_mapped = All-weaker (SetHasImages r) (SetHasPlaces r) sets x.parameter_annotations h.parameters_mapped;
   }
 
   pub members_placed : (x : NumberedMembers) → MembersHaveImages r x → All (CodePlaced r) (methods_of x) → MembersHavePlaces r x
   members_placed x h placed = record {
-    annotations_lead = sets x.annotations h.annotations_lead;
-    static_fields_lead = All-weaker (FieldHasImages r) (FieldHasPlaces r) field_placed x.static_fields h.static_fields_lead;
-    instance_fields_lead = All-weaker (FieldHasImages r) (FieldHasPlaces r) field_placed x.instance_fields h.instance_fields_lead;
-    direct_methods_lead = all_both (MethodHasImages r) (CodePlaced r) (MethodHasPlaces r) method_placed x.direct_methods h.direct_methods_lead (all_left (CodePlaced r) x.direct_methods x.virtual_methods placed);
-    virtual_methods_lead = all_both (MethodHasImages r) (CodePlaced r) (MethodHasPlaces r) method_placed x.virtual_methods h.virtual_methods_lead (all_right (CodePlaced r) x.direct_methods x.virtual_methods placed);
-    values_lead = values x.static_values h.values_lead;
+    annotations_mapped = sets x.annotations h.annotations_mapped;
+    static_fields_mapped = All-weaker (FieldHasImages r) (FieldHasPlaces r) field_placed x.static_fields h.static_fields_mapped;
+    instance_fields_mapped = All-weaker (FieldHasImages r) (FieldHasPlaces r) field_placed x.instance_fields h.instance_fields_mapped;
+    direct_methods_mapped = all_both (MethodHasImages r) (CodePlaced r) (MethodHasPlaces r) method_placed x.direct_methods h.direct_methods_mapped (all_left (CodePlaced r) x.direct_methods x.virtual_methods placed);
+    virtual_methods_mapped = all_both (MethodHasImages r) (CodePlaced r) (MethodHasPlaces r) method_placed x.virtual_methods h.virtual_methods_mapped (all_right (CodePlaced r) x.direct_methods x.virtual_methods placed);
+    values_mapped = values x.static_values h.values_mapped;
   }
 
 -- all methods have images
-methods_lead : (r : Maps) (x : NumberedMembers) → MembersHaveImages r x → All (MethodHasImages r) (methods_of x)
-methods_lead r x h = All-append (MethodHasImages r) x.direct_methods x.virtual_methods h.direct_methods_lead h.virtual_methods_lead
+methods_mapped : (r : Maps) (x : NumberedMembers) → MembersHaveImages r x → All (MethodHasImages r) (methods_of x)
+methods_mapped r x h = All-append (MethodHasImages r) x.direct_methods x.virtual_methods h.direct_methods_mapped h.virtual_methods_mapped
 
 -- ---- after a cut
 
 pub code_cut : (r : Maps) (x : NumberedMembers) → ((c : NumberedItem) → HasImages r c → code.NumbersFit c → HasPlaces r c) → MembersHaveImages r x → NumbersFit x → All (CodePlaced r) (methods_of x)
-code_cut r x cut h fit = all_both (MethodHasImages r) MethodFits (CodePlaced r) (λ y leads fits. coded y.code cut leads.code_leads fits) (methods_of x) (methods_lead r x h) fit
+code_cut r x cut h fit = all_both (MethodHasImages r) MethodFits (CodePlaced r) (λ y maps_to fits. coded y.code cut maps_to.code_mapped fits) (methods_of x) (methods_mapped r x h) fit
 
 -- ---- the greatest of numbers
 
@@ -107,47 +107,47 @@ has_greatest (n ∷ ns) = let rest = has_greatest ns in with_greatest n ns rest.
 -- ---- after a join
 
 -- the short strings of the code of a method have images
-code_shorts_led : (r : Maps) (o : Option NumberedItem) (i : ℕ) → IfSome o (HasImages r) → Contains (flat_map code_short_strings (option_to_list o)) i → IsSome (image r.texts i)
-code_shorts_led r None i h c = absurd (Contains-nil i c)
-code_shorts_led r (Some x) i h c = shorts_led r x.body.pieces i h.pieces_have (subst (λ ns. Contains ns i) (append-nil (short_strings x.body.pieces)) c)
+code_shorts_remapped : (r : Maps) (o : Option NumberedItem) (i : ℕ) → IfSome o (HasImages r) → Contains (flat_map code_short_strings (option_to_list o)) i → IsSome (image r.texts i)
+code_shorts_remapped r None i h c = absurd (Contains-nil i c)
+code_shorts_remapped r (Some x) i h c = shorts_remapped r x.body.pieces i h.pieces_have (subst (λ ns. Contains ns i) (append-nil (short_strings x.body.pieces)) c)
 
-methods_shorts_led : (r : Maps) (xs : List NumberedMethod) (i : ℕ) → All (MethodHasImages r) xs → Contains (flat_map method_short_strings xs) i → IsSome (image r.texts i)
-methods_shorts_led r [] i h c = absurd (Contains-nil i c)
-methods_shorts_led r (x ∷ xs) i h c = elim (Contains-append_cases (method_short_strings x) (flat_map method_short_strings xs) i c) [
-  | inl l ↦ code_shorts_led r x.code i (All-head (MethodHasImages r) x xs h).code_leads l
-  | inr l ↦ methods_shorts_led r xs i (All-tail (MethodHasImages r) x xs h) l
+methods_shorts_remapped : (r : Maps) (xs : List NumberedMethod) (i : ℕ) → All (MethodHasImages r) xs → Contains (flat_map method_short_strings xs) i → IsSome (image r.texts i)
+methods_shorts_remapped r [] i h c = absurd (Contains-nil i c)
+methods_shorts_remapped r (x ∷ xs) i h c = elim (Contains-append_cases (method_short_strings x) (flat_map method_short_strings xs) i c) [
+  | inl l ↦ code_shorts_remapped r x.code i (All-head (MethodHasImages r) x xs h).code_mapped l
+  | inr l ↦ methods_shorts_remapped r xs i (All-tail (MethodHasImages r) x xs h) l
 ]
 
 -- if all short strings have images of 16 bits, those of each method do
-each_short : (r : Maps) (xs : List NumberedMethod) → ShortLead r (flat_map method_short_strings xs) → All (λ x. ShortLead r (method_short_strings x)) xs
-each_short r [] h = All-nil (λ x. ShortLead r (method_short_strings x))
+each_short : (r : Maps) (xs : List NumberedMethod) → ShortMapped r (flat_map method_short_strings xs) → All (λ x. ShortMapped r (method_short_strings x)) xs
+each_short r [] h = All-nil (λ x. ShortMapped r (method_short_strings x))
 each_short r (x ∷ xs) h =
-    All-cons (λ y. ShortLead r (method_short_strings y)) x xs
+    All-cons (λ y. ShortMapped r (method_short_strings y)) x xs
     (λ i j c e. h i j (Contains-append_left (method_short_strings x) (flat_map method_short_strings xs) i c) e)
     (each_short r xs (λ i j c e. h i j (Contains-append_right (method_short_strings x) (flat_map method_short_strings xs) i c) e))
 
 -- the greatest of them has such an image
-greatest_short : (r : Maps) (ns : List ℕ) (g : Option ℕ) → ShortLead r ns → IsGreatest ns g → LeadsShort r g
+greatest_short : (r : Maps) (ns : List ℕ) (g : Option ℕ) → ShortMapped r ns → IsGreatest ns g → MapsShort r g
 greatest_short r ns None h is = tt
 greatest_short r ns (Some g) h is = λ j e. h g j is.0 e
 
-module _ (r : Maps) (joined : (c : NumberedItem) (g : Option ℕ) → IsGreatest (short_strings c.body.pieces) g → LeadsShort r g → HasImages r c → HasPlaces r c) where
-  code_joined : (o : Option NumberedItem) → IfSome o (HasImages r) → ShortLead r (flat_map code_short_strings (option_to_list o)) → IfSome o (HasPlaces r)
+module _ (r : Maps) (joined : (c : NumberedItem) (g : Option ℕ) → IsGreatest (short_strings c.body.pieces) g → MapsShort r g → HasImages r c → HasPlaces r c) where
+  code_joined : (o : Option NumberedItem) → IfSome o (HasImages r) → ShortMapped r (flat_map code_short_strings (option_to_list o)) → IfSome o (HasPlaces r)
   code_joined None h short = tt
   code_joined (Some c) h short =
       let ns = short_strings c.body.pieces in
-      let mine : ShortLead r ns = subst (ShortLead r) (append-nil ns) short in
+      let mine : ShortMapped r ns = subst (ShortMapped r) (append-nil ns) short in
       let g = has_greatest ns in
       joined c g.0 g.1 (greatest_short r ns g.0 mine g.1) h
 
-  pub codes_joined : (x : NumberedMembers) (greatest : Option ℕ) → KeepOrder r → MembersHaveImages r x → IsGreatest (members_short_strings x) greatest → LeadsShort r greatest → All (CodePlaced r) (methods_of x)
+  pub codes_joined : (x : NumberedMembers) (greatest : Option ℕ) → KeepOrder r → MembersHaveImages r x → IsGreatest (members_short_strings x) greatest → MapsShort r greatest → All (CodePlaced r) (methods_of x)
   codes_joined x greatest order h is short =
-      let all = methods_lead r x h in
-      let lead : ShortLead r (members_short_strings x) = short_lead r (members_short_strings x) greatest order is short (λ i c. methods_shorts_led r (methods_of x) i all c) in
-      all_both (MethodHasImages r) (λ y. ShortLead r (method_short_strings y)) (CodePlaced r) (λ y leads shorts. code_joined y.code leads.code_leads shorts) (methods_of x) all (each_short r (methods_of x) lead)
+      let all = methods_mapped r x h in
+      let are_mapped : ShortMapped r (members_short_strings x) = short_mapped r (members_short_strings x) greatest order is short (λ i c. methods_shorts_remapped r (methods_of x) i all c) in
+      all_both (MethodHasImages r) (λ y. ShortMapped r (method_short_strings y)) (CodePlaced r) (λ y maps_to shorts. code_joined y.code maps_to.code_mapped shorts) (methods_of x) all (each_short r (methods_of x) are_mapped)
 
 -- numbers of 32 bits have images of 32 bits
-pub fit_narrow : (r : Maps) → ImagesFit r → LeadsNarrow r
+pub fit_narrow : (r : Maps) → ImagesFit r → MapsNarrow r
 fit_narrow r fit kinds.Text i j e lt = let z = fit.texts_fit i j e in omega (arith, z)
 fit_narrow r fit kinds.Typ i j e lt = let z = fit.types_fit i j e in omega (arith, z)
 fit_narrow r fit kinds.Proto i j e lt = let z = fit.protos_fit i j e in omega (arith, z)

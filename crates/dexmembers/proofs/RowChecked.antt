@@ -17,7 +17,7 @@ use Rattle.dexcode.specs.Checking.{HasCodeOf}
 use Rattle.dexval.specs.Checking.{HasStaticsOf}
 use Rattle.dexval.specs.CheckedSets.{HasDirectoryOf}
 use Rattle.dexval.specs.Numbered.{directory_in, values_in}
-use Rattle.dexval.proofs.JudgedSets.{from_before}
+use Rattle.dexval.proofs.CachedSets.{from_before}
 use Rattle.dexmembers.specs.internal.ClassData.{encoded_field_in, class_data_in, IsDataOf}
 use Rattle.dexmembers.specs.internal.Naming.{NamesRead}
 use Rattle.dexmembers.specs.internal.MethodCodes.{HaveCodes}
@@ -30,7 +30,7 @@ use Rattle.dexmembers.proofs.StaticValuesRead.{none_there}
 use Rattle.dexmembers.proofs.NamesKept.{named_members, directory_rises}
 use Rattle.dexmembers.proofs.RowAnnotations.{directory_here}
 use Rattle.dexmembers.proofs.RowWeighed.{members_made}
-use Rattle.dexmembers.proofs.RowStands.{HasDirectory, symbols_coded, row_readable, row_made}
+use Rattle.dexmembers.proofs.RowsAreAt.{HasDirectory, symbols_coded, row_readable, row_made}
 use Rattle.dexmembers.proofs.RowSummed.{parts_sum, declared_fields_apart, declared_methods_apart}
 
 -- ---- code

@@ -6,7 +6,7 @@ use Rattle.dexspec.specs.Lists.{BothOrNone}
 use Rattle.dexspec.specs.Code.{Code}
 use Rattle.dexspec.specs.Mentions.{Mentions}
 use Rattle.dexpool.specs.Numberings.{AreRising}
-use Rattle.dexcode.specs.Numbered.{NumberedItem, StandsForCode}
+use Rattle.dexcode.specs.Numbered.{NumberedItem, DenotesCode}
 use Rattle.dexcode.specs.Meaning.{code_in, IsKnownCode}
 use Rattle.dexval.specs.Shared.{shared_directory_of}
 use Rattle.dexval.specs.Numbered.{NumberedValues, directory_in, values_in}
@@ -21,7 +21,7 @@ use Rattle.dexmembers.specs.declared.class_data.EncodedMethod.{EncodedMethod as 
 use Rattle.dexmembers.specs.declared.class_data.ClassData.{ClassData as DataRead}
 use Rattle.dexmembers.proofs.Made.{made_row, made_known, made_ordered}
 use Rattle.dexmembers.proofs.OfClass.{attached_of_class}
-use Rattle.dexmembers.proofs.RowStands.{row_readable}
+use Rattle.dexmembers.proofs.RowsAreAt.{row_readable}
 
 -- lists that are paired have one length
 zip_many : {A B : Type 0} (R : A → B → Type 0) (xs : List A) (ys : List B) → AllZip R xs ys → length xs ≡ length ys
@@ -31,28 +31,28 @@ zip_many R (x ∷ xs) [] h = absurd h
 zip_many R (x ∷ xs) (y ∷ ys) h = ap suc (zip_many R xs ys h.1)
 
 -- there is code or none for each method
-codes_many : (b : List ℕ) (m : Mentions) (xs : List MethodRead) (codes : List (Option NumberedItem)) (symbolic : List (Option Code)) → AreCodesAt b xs symbolic → AllZip (BothOrNone (StandsForCode m)) codes symbolic → length codes ≡ length xs
-codes_many b m xs codes symbolic at stand = zip_many (BothOrNone (StandsForCode m)) codes symbolic stand ∙ sym (zip_many _ xs symbolic at)
+codes_many : (b : List ℕ) (m : Mentions) (xs : List MethodRead) (codes : List (Option NumberedItem)) (symbolic : List (Option Code)) → AreCodesAt b xs symbolic → AllZip (BothOrNone (DenotesCode m)) codes symbolic → length codes ≡ length xs
+codes_many b m xs codes symbolic at are_encoded = zip_many (BothOrNone (DenotesCode m)) codes symbolic are_encoded ∙ sym (zip_many _ xs symbolic at)
 
 module _ (b : List ℕ) (r : ℕ) (m : Mentions) (rising : AreRising m) (read : DataRead) (is : IsDataOf b r m read) (most : ℕ) (a : SharedDirectory) (direct virtual : List (Option NumberedItem)) (vs : NumberedValues) (parts : ArePartsOf b r m read most a direct virtual vs) where
   -- the parts can be put together
   pub parts_attachable : AreAttachable read a direct virtual
   parts_attachable = record {
     entered = parts.annotations.entered;
-    direct_many = codes_many b m read.direct_methods.items direct parts.direct_codes.symbolic parts.direct_codes.at parts.direct_codes.stand;
-    virtual_many = codes_many b m read.virtual_methods.items virtual parts.virtual_codes.symbolic parts.virtual_codes.at parts.virtual_codes.stand;
+    direct_many = codes_many b m read.direct_methods.items direct parts.direct_codes.symbolic parts.direct_codes.at parts.direct_codes.are_encoded;
+    virtual_many = codes_many b m read.virtual_methods.items virtual parts.virtual_codes.symbolic parts.virtual_codes.at parts.virtual_codes.are_encoded;
   }
 
-  module _ (is_known : (c : NumberedItem) (x : Code) → StandsForCode m c x → IsKnownCode m c) (is_meant : (c : NumberedItem) (x : Code) → StandsForCode m c x → x ≡ code_in m c) where
+  module _ (is_known : (c : NumberedItem) (x : Code) → DenotesCode m c x → IsKnownCode m c) (is_meant : (c : NumberedItem) (x : Code) → DenotesCode m c x → x ≡ code_in m c) where
     -- their numbers are those of symbols
     pub parts_known : AreKnownMembers m (attached read (shared_directory_of a) direct virtual vs)
     parts_known =
-        made_known b r m rising (shared_directory_of a) parts.annotations.known read is is_known is_meant direct virtual parts.direct_codes.symbolic parts.virtual_codes.symbolic parts.direct_codes.at parts.direct_codes.stand parts.virtual_codes.at parts.virtual_codes.stand vs parts.values.known
+        made_known b r m rising (shared_directory_of a) parts.annotations.known read is is_known is_meant direct virtual parts.direct_codes.symbolic parts.virtual_codes.symbolic parts.direct_codes.at parts.direct_codes.are_encoded parts.virtual_codes.at parts.virtual_codes.are_encoded vs parts.values.known
 
     -- the row declares what they mean
     parts_row : MembersRow b r (members_in m (attached read (shared_directory_of a) direct virtual vs))
     parts_row =
-        made_row b r m rising (shared_directory_of a) parts.annotations.known read is is_known is_meant direct virtual parts.direct_codes.symbolic parts.virtual_codes.symbolic parts.direct_codes.at parts.direct_codes.stand parts.virtual_codes.at parts.virtual_codes.stand vs parts.annotations.at parts.values.are.at
+        made_row b r m rising (shared_directory_of a) parts.annotations.known read is is_known is_meant direct virtual parts.direct_codes.symbolic parts.virtual_codes.symbolic parts.direct_codes.at parts.direct_codes.are_encoded parts.virtual_codes.at parts.virtual_codes.are_encoded vs parts.annotations.at parts.values.are.at
 
     -- what is returned for them
     pub parts_answer : (made : NumberedMembers) → made ≡ attached read (shared_directory_of a) direct virtual vs → (found : Option (NumberedMembers × ℕ)) → MatchOption found (most < members_weight (members_in m made)) (λ (x : NumberedMembers × ℕ). (x.0 ≡ made) × (x.1 ≡ members_weight (members_in m made)) × (x.1 ≤ most))
@@ -71,8 +71,8 @@ module _ (b : List ℕ) (r : ℕ) (m : Mentions) (rising : AreRising m) (read : 
             readable = row_readable b r m read is (record { directory = directory_in m (shared_directory_of a); at = parts.annotations.at; named = parts.annotations.named }) (parts.direct_codes.symbolic, parts.direct_codes.at) (parts.virtual_codes.symbolic, parts.virtual_codes.at) (values_in m vs, parts.values.are);
             known = parts_known;
             row = parts_row;
-            ordered = made_ordered b r m rising (shared_directory_of a) parts.annotations.known read is is_known is_meant direct virtual parts.direct_codes.symbolic parts.virtual_codes.symbolic parts.direct_codes.at parts.direct_codes.stand parts.virtual_codes.at parts.virtual_codes.stand vs;
-            of_class = λ name at. attached_of_class b r m read is name at (shared_directory_of a) direct virtual vs parts.direct_codes.symbolic parts.virtual_codes.symbolic parts.direct_codes.at parts.direct_codes.stand parts.virtual_codes.at parts.virtual_codes.stand;
+            ordered = made_ordered b r m rising (shared_directory_of a) parts.annotations.known read is is_known is_meant direct virtual parts.direct_codes.symbolic parts.virtual_codes.symbolic parts.direct_codes.at parts.direct_codes.are_encoded parts.virtual_codes.at parts.virtual_codes.are_encoded vs;
+            of_class = λ name at. attached_of_class b r m read is name at (shared_directory_of a) direct virtual vs parts.direct_codes.symbolic parts.virtual_codes.symbolic parts.direct_codes.at parts.direct_codes.are_encoded parts.virtual_codes.at parts.virtual_codes.are_encoded;
             light = subst (λ (n : ℕ). n ≤ most) weighs h.2;
           },
           weighs,

@@ -9,38 +9,38 @@ use Rattle.dexspec.specs.Symbols.{Field, Method, field_cmp, method_cmp}
 use Rattle.dexspec.specs.Mentions.{Mentions}
 use Rattle.dexpool.specs.declared.symbols.SymbolKind.TheVariants as kinds
 use Rattle.dexpool.specs.Laws.{RanksAreNumbers}
-use Rattle.dexpool.specs.Numberings.{Maps, AllLead}
-use Rattle.dexpool.specs.Uses.{IsLedUse}
+use Rattle.dexpool.specs.Numberings.{Maps, AllMapTo}
+use Rattle.dexpool.specs.Uses.{IsMappedUse}
 use Rattle.dexcode.specs.Numbered.{NumberedItem}
 use Rattle.dexcode.specs.Meaning.{code_in, IsKnownCode}
 use Rattle.dexcode.specs.Renumbering.{renumbered_item, HasImages}
 use Rattle.dexval.specs.Numbered.{NumberedSet, NumberedValues, field_at, method_at, set_in, values_in, IsKnownSet, AreKnown}
-use Rattle.dexval.specs.Renumbering.{led, renumbered_set, renumbered_values}
+use Rattle.dexval.specs.Renumbering.{remapped, renumbered_set, renumbered_values}
 use Rattle.dexmembers.specs.Numbered.{NumberedField, NumberedMethod, NumberedMembers, field_in, method_in, members_in, IsKnownField, IsKnownMethod, AreKnownMembers, AreOfClass}
 use Rattle.dexmembers.specs.Renumbering.{renumbered_field, renumbered_method, renumbered_members}
 use Rattle.dexmembers.proofs.Images.{field_use, method_use, SetHasImages, HaveImages, FieldHasImages, MethodHasImages, MembersHaveImages}
 use Rattle.dexmembers.proofs.RenumberingLists.{all_left, all_right, all_both, maps_same, options_same, options_both}
-use Rattle.dexmembers.proofs.RenumberingKept.{no_field, no_method, field_led, method_led, FieldIsOf, MethodIsOf}
+use Rattle.dexmembers.proofs.RenumberingKept.{no_field, no_method, field_remapped, method_remapped, FieldIsOf, MethodIsOf}
 
 -- what is known of a set: its numbers have images, and are those of symbols
 record IsPartSet (m : Mentions) (r : Maps) (xs : NumberedSet) : Type 0 where
-  pub leads : SetHasImages r xs
+  pub maps_to : SetHasImages r xs
   pub known : IsKnownSet m xs
 
 -- of code
 record IsPartCode (m : Mentions) (r : Maps) (c : NumberedItem) : Type 0 where
-  pub leads : HasImages r c
+  pub maps_to : HasImages r c
   pub known : IsKnownCode m c
 
 -- of a field, which is one of a class
 record IsPartField (m : Mentions) (r : Maps) (class : Text) (f : NumberedField) : Type 0 where
-  pub leads : FieldHasImages r f
+  pub maps_to : FieldHasImages r f
   pub known : IsKnownField m f
   pub is_of : FieldIsOf m class f
 
 -- of a method
 record IsPartMethod (m : Mentions) (r : Maps) (class : Text) (x : NumberedMethod) : Type 0 where
-  pub leads : MethodHasImages r x
+  pub maps_to : MethodHasImages r x
   pub known : IsKnownMethod m x
   pub is_of : MethodIsOf m class x
 
@@ -61,43 +61,43 @@ CodesSame m n r s = (c d : NumberedItem) → HasImages r c → HasImages s d →
 module _ (m n : Mentions) (r s : Maps) where
   code_same : CodesSame m n r s → (o u : Option NumberedItem) → IfSome o (HasImages r) → IfSome u (HasImages s) → IfSome o (IsKnownCode m) → IfSome u (IsKnownCode n)
       → (option_map (renumbered_item r) o ≡ option_map (renumbered_item s) u) ↔ (option_map (code_in m) o ≡ option_map (code_in n) u)
-  code_same codes o u leads leads' known known' =
-      options_same (renumbered_item r) (renumbered_item s) (code_in m) (code_in n) (IsPartCode m r) (IsPartCode n s) (λ c d h k. codes c d h.leads k.leads h.known k.known) o u
-      (options_both (HasImages r) (IsKnownCode m) (IsPartCode m r) (λ c a b. record { leads = a; known = b }) o leads known)
-      (options_both (HasImages s) (IsKnownCode n) (IsPartCode n s) (λ c a b. record { leads = a; known = b }) u leads' known')
+  code_same codes o u maps_to maps_to' known known' =
+      options_same (renumbered_item r) (renumbered_item s) (code_in m) (code_in n) (IsPartCode m r) (IsPartCode n s) (λ c d h k. codes c d h.maps_to k.maps_to h.known k.known) o u
+      (options_both (HasImages r) (IsKnownCode m) (IsPartCode m r) (λ c a b. record { maps_to = a; known = b }) o maps_to known)
+      (options_both (HasImages s) (IsKnownCode n) (IsPartCode n s) (λ c a b. record { maps_to = a; known = b }) u maps_to' known')
 
   parameters_same : SetsSame m n r s → (xs ys : List NumberedSet) → All (SetHasImages r) xs → All (SetHasImages s) ys → All (IsKnownSet m) xs → All (IsKnownSet n) ys
       → (map (renumbered_set r) xs ≡ map (renumbered_set s) ys) ↔ (map (set_in m) xs ≡ map (set_in n) ys)
-  parameters_same sets xs ys leads leads' known known' =
-      maps_same (renumbered_set r) (renumbered_set s) (set_in m) (set_in n) (IsPartSet m r) (IsPartSet n s) (λ x y h k. sets x y h.leads k.leads h.known k.known) xs ys
-      (all_both (SetHasImages r) (IsKnownSet m) (IsPartSet m r) (λ x a b. record { leads = a; known = b }) xs leads known)
-      (all_both (SetHasImages s) (IsKnownSet n) (IsPartSet n s) (λ x a b. record { leads = a; known = b }) ys leads' known')
+  parameters_same sets xs ys maps_to maps_to' known known' =
+      maps_same (renumbered_set r) (renumbered_set s) (set_in m) (set_in n) (IsPartSet m r) (IsPartSet n s) (λ x y h k. sets x y h.maps_to k.maps_to h.known k.known) xs ys
+      (all_both (SetHasImages r) (IsKnownSet m) (IsPartSet m r) (λ x a b. record { maps_to = a; known = b }) xs maps_to known)
+      (all_both (SetHasImages s) (IsKnownSet n) (IsPartSet n s) (λ x a b. record { maps_to = a; known = b }) ys maps_to' known')
 
 -- ---- numbers
 
-module _ (m n whole : Mentions) (r s : Maps) (ranks : RanksAreNumbers whole) (from_first : AllLead m whole r) (from_second : AllLead n whole s) where
-  fields_same : (i j : ℕ) → IsLedUse r (field_use i) → IsLedUse s (field_use j) → (led r kinds.Field i ≡ led s kinds.Field j) ↔ (field_at m i ≡ field_at n j)
+module _ (m n whole : Mentions) (r s : Maps) (ranks : RanksAreNumbers whole) (from_first : AllMapTo m whole r) (from_second : AllMapTo n whole s) where
+  fields_same : (i j : ℕ) → IsMappedUse r (field_use i) → IsMappedUse s (field_use j) → (remapped r kinds.Field i ≡ remapped s kinds.Field j) ↔ (field_at m i ≡ field_at n j)
   fields_same i j h k =
-      let mine = field_led m whole r from_first i h in
-      let theirs = field_led n whole s from_second j k in (
+      let mine = field_remapped m whole r from_first i h in
+      let theirs = field_remapped n whole s from_second j k in (
         (λ e. sym mine.1 ∙ ap (field_at whole) e ∙ theirs.1),
-        (λ e. sym (ranks.fields_are (led r kinds.Field i) no_field mine.0) ∙ ap (λ (f : Field). rank field_cmp f whole.fields) (mine.1 ∙ e ∙ sym theirs.1) ∙ ranks.fields_are (led s kinds.Field j) no_field theirs.0),
+        (λ e. sym (ranks.fields_are (remapped r kinds.Field i) no_field mine.0) ∙ ap (λ (f : Field). rank field_cmp f whole.fields) (mine.1 ∙ e ∙ sym theirs.1) ∙ ranks.fields_are (remapped s kinds.Field j) no_field theirs.0),
       )
 
-  methods_same : (i j : ℕ) → IsLedUse r (method_use i) → IsLedUse s (method_use j) → (led r kinds.Method i ≡ led s kinds.Method j) ↔ (method_at m i ≡ method_at n j)
+  methods_same : (i j : ℕ) → IsMappedUse r (method_use i) → IsMappedUse s (method_use j) → (remapped r kinds.Method i ≡ remapped s kinds.Method j) ↔ (method_at m i ≡ method_at n j)
   methods_same i j h k =
-      let mine = method_led m whole r from_first i h in
-      let theirs = method_led n whole s from_second j k in (
+      let mine = method_remapped m whole r from_first i h in
+      let theirs = method_remapped n whole s from_second j k in (
         (λ e. sym mine.1 ∙ ap (method_at whole) e ∙ theirs.1),
-        (λ e. sym (ranks.methods_are (led r kinds.Method i) no_method mine.0) ∙ ap (λ (x : Method). rank method_cmp x whole.methods) (mine.1 ∙ e ∙ sym theirs.1) ∙ ranks.methods_are (led s kinds.Method j) no_method theirs.0),
+        (λ e. sym (ranks.methods_are (remapped r kinds.Method i) no_method mine.0) ∙ ap (λ (x : Method). rank method_cmp x whole.methods) (mine.1 ∙ e ∙ sym theirs.1) ∙ ranks.methods_are (remapped s kinds.Method j) no_method theirs.0),
       )
 
   -- ---- members
 
   same_field : SetsSame m n r s → (class : Text) (f g : NumberedField) → IsPartField m r class f → IsPartField n s class g → (renumbered_field r f ≡ renumbered_field s g) ↔ (field_in m f ≡ field_in n g)
   same_field sets class f g h k =
-      let numbers = fields_same f.number g.number h.leads.number_leads k.leads.number_leads in
-      let set = sets f.annotations g.annotations h.leads.annotations_lead k.leads.annotations_lead h.known.annotations_known k.known.annotations_known in (
+      let numbers = fields_same f.number g.number h.maps_to.number_mapped k.maps_to.number_mapped in
+      let set = sets f.annotations g.annotations h.maps_to.annotations_mapped k.maps_to.annotations_mapped h.known.annotations_known k.known.annotations_known in (
         (λ e.
             let at = numbers.0 (ap (λ x. x.number) e) in
             let flags = ap (λ x. x.flags) e in
@@ -116,10 +116,10 @@ module _ (m n whole : Mentions) (r s : Maps) (ranks : RanksAreNumbers whole) (fr
 
   same_method : SetsSame m n r s → CodesSame m n r s → (class : Text) (x y : NumberedMethod) → IsPartMethod m r class x → IsPartMethod n s class y → (renumbered_method r x ≡ renumbered_method s y) ↔ (method_in m x ≡ method_in n y)
   same_method sets codes class x y h k =
-      let numbers = methods_same x.number y.number h.leads.number_leads k.leads.number_leads in
-      let set = sets x.annotations y.annotations h.leads.annotations_lead k.leads.annotations_lead h.known.annotations_known k.known.annotations_known in
-      let code = code_same m n r s codes x.code y.code h.leads.code_leads k.leads.code_leads h.known.code_known k.known.code_known in
-      let parameters = parameters_same m n r s sets x.parameter_annotations y.parameter_annotations h.leads.parameters_lead k.leads.parameters_lead h.known.parameters_known k.known.parameters_known in (
+      let numbers = methods_same x.number y.number h.maps_to.number_mapped k.maps_to.number_mapped in
+      let set = sets x.annotations y.annotations h.maps_to.annotations_mapped k.maps_to.annotations_mapped h.known.annotations_known k.known.annotations_known in
+      let code = code_same m n r s codes x.code y.code h.maps_to.code_mapped k.maps_to.code_mapped h.known.code_known k.known.code_known in
+      let parameters = parameters_same m n r s sets x.parameter_annotations y.parameter_annotations h.maps_to.parameters_mapped k.maps_to.parameters_mapped h.known.parameters_known k.known.parameters_known in (
         (λ e.
             let at = numbers.0 (ap (λ z. z.number) e) in
             let flags = ap (λ z. z.flags) e in
@@ -143,14 +143,14 @@ module _ (m n whole : Mentions) (r s : Maps) (ranks : RanksAreNumbers whole) (fr
 -- ---- parts
 
 fields_part : (m : Mentions) (r : Maps) (class : Text) (fs : List NumberedField) → All (FieldHasImages r) fs → All (IsKnownField m) fs → All (FieldIsOf m class) fs → All (IsPartField m r class) fs
-fields_part m r class fs leads known are =
-    all_both (λ (f : NumberedField). FieldHasImages r f × IsKnownField m f) (FieldIsOf m class) (IsPartField m r class) (λ f a b. record { leads = a.0; known = a.1; is_of = b }) fs
-    (all_both (FieldHasImages r) (IsKnownField m) (λ (f : NumberedField). FieldHasImages r f × IsKnownField m f) (λ f a b. (a, b)) fs leads known) are
+fields_part m r class fs maps_to known are =
+    all_both (λ (f : NumberedField). FieldHasImages r f × IsKnownField m f) (FieldIsOf m class) (IsPartField m r class) (λ f a b. record { maps_to = a.0; known = a.1; is_of = b }) fs
+    (all_both (FieldHasImages r) (IsKnownField m) (λ (f : NumberedField). FieldHasImages r f × IsKnownField m f) (λ f a b. (a, b)) fs maps_to known) are
 
 methods_part : (m : Mentions) (r : Maps) (class : Text) (xs : List NumberedMethod) → All (MethodHasImages r) xs → All (IsKnownMethod m) xs → All (MethodIsOf m class) xs → All (IsPartMethod m r class) xs
-methods_part m r class xs leads known are =
-    all_both (λ (x : NumberedMethod). MethodHasImages r x × IsKnownMethod m x) (MethodIsOf m class) (IsPartMethod m r class) (λ x a b. record { leads = a.0; known = a.1; is_of = b }) xs
-    (all_both (MethodHasImages r) (IsKnownMethod m) (λ (x : NumberedMethod). MethodHasImages r x × IsKnownMethod m x) (λ x a b. (a, b)) xs leads known) are
+methods_part m r class xs maps_to known are =
+    all_both (λ (x : NumberedMethod). MethodHasImages r x × IsKnownMethod m x) (MethodIsOf m class) (IsPartMethod m r class) (λ x a b. record { maps_to = a.0; known = a.1; is_of = b }) xs
+    (all_both (MethodHasImages r) (IsKnownMethod m) (λ (x : NumberedMethod). MethodHasImages r x × IsKnownMethod m x) (λ x a b. (a, b)) xs maps_to known) are
 
 -- all that is known of the members of a class
 record AreParts (m : Mentions) (r : Maps) (class : Text) (x : NumberedMembers) : Type 0 where
@@ -160,30 +160,30 @@ record AreParts (m : Mentions) (r : Maps) (class : Text) (x : NumberedMembers) :
   pub virtuals : All (IsPartMethod m r class) x.virtual_methods
 
 are_parts : (m : Mentions) (r : Maps) (class : Text) (x : NumberedMembers) → MembersHaveImages r x → AreKnownMembers m x → AreOfClass m class x → AreParts m r class x
-are_parts m r class x leads known are = record {
-  statics = fields_part m r class x.static_fields leads.static_fields_lead known.static_fields_known (all_left (FieldIsOf m class) x.static_fields x.instance_fields are.fields_of_class);
-  instances = fields_part m r class x.instance_fields leads.instance_fields_lead known.instance_fields_known (all_right (FieldIsOf m class) x.static_fields x.instance_fields are.fields_of_class);
-  directs = methods_part m r class x.direct_methods leads.direct_methods_lead known.direct_methods_known (all_left (MethodIsOf m class) x.direct_methods x.virtual_methods are.methods_of_class);
-  virtuals = methods_part m r class x.virtual_methods leads.virtual_methods_lead known.virtual_methods_known (all_right (MethodIsOf m class) x.direct_methods x.virtual_methods are.methods_of_class);
+are_parts m r class x maps_to known are = record {
+  statics = fields_part m r class x.static_fields maps_to.static_fields_mapped known.static_fields_known (all_left (FieldIsOf m class) x.static_fields x.instance_fields are.fields_of_class);
+  instances = fields_part m r class x.instance_fields maps_to.instance_fields_mapped known.instance_fields_known (all_right (FieldIsOf m class) x.static_fields x.instance_fields are.fields_of_class);
+  directs = methods_part m r class x.direct_methods maps_to.direct_methods_mapped known.direct_methods_known (all_left (MethodIsOf m class) x.direct_methods x.virtual_methods are.methods_of_class);
+  virtuals = methods_part m r class x.virtual_methods maps_to.virtual_methods_mapped known.virtual_methods_known (all_right (MethodIsOf m class) x.direct_methods x.virtual_methods are.methods_of_class);
 }
 
 -- ---- all members
 
-pub members_same : (m n whole : Mentions) (r s : Maps) (class : Text) (x y : NumberedMembers) → RanksAreNumbers whole → AllLead m whole r → AllLead n whole s → SetsSame m n r s → CodesSame m n r s → ValuesSame m n r s
+pub members_same : (m n whole : Mentions) (r s : Maps) (class : Text) (x y : NumberedMembers) → RanksAreNumbers whole → AllMapTo m whole r → AllMapTo n whole s → SetsSame m n r s → CodesSame m n r s → ValuesSame m n r s
     → MembersHaveImages r x → MembersHaveImages s y → AreKnownMembers m x → AreKnownMembers n y → AreOfClass m class x → AreOfClass n class y → (renumbered_members r x ≡ renumbered_members s y) ↔ (members_in m x ≡ members_in n y)
-members_same m n whole r s class x y ranks from_first from_second sets codes values leads leads' known known' are are' =
-    let mine = are_parts m r class x leads known are in
-    let theirs = are_parts n s class y leads' known' are' in
+members_same m n whole r s class x y ranks from_first from_second sets codes values maps_to maps_to' known known' are are' =
+    let mine = are_parts m r class x maps_to known are in
+    let theirs = are_parts n s class y maps_to' known' are' in
     let field = same_field m n whole r s ranks from_first from_second sets class in
     let method = same_method m n whole r s ranks from_first from_second sets codes class in
     let fields = maps_same (renumbered_field r) (renumbered_field s) (field_in m) (field_in n) (IsPartField m r class) (IsPartField n s class) field in
     let methods = maps_same (renumbered_method r) (renumbered_method s) (method_in m) (method_in n) (IsPartMethod m r class) (IsPartMethod n s class) method in
-    let set = sets x.annotations y.annotations leads.annotations_lead leads'.annotations_lead known.annotations_known known'.annotations_known in
+    let set = sets x.annotations y.annotations maps_to.annotations_mapped maps_to'.annotations_mapped known.annotations_known known'.annotations_known in
     let statics = fields x.static_fields y.static_fields mine.statics theirs.statics in
     let instances = fields x.instance_fields y.instance_fields mine.instances theirs.instances in
     let directs = methods x.direct_methods y.direct_methods mine.directs theirs.directs in
     let virtuals = methods x.virtual_methods y.virtual_methods mine.virtuals theirs.virtuals in
-    let beginnings = values x.static_values y.static_values leads.values_lead leads'.values_lead known.values_known known'.values_known in (
+    let beginnings = values x.static_values y.static_values maps_to.values_mapped maps_to'.values_mapped known.values_known known'.values_known in (
       (λ e.
           let a = set.0 (ap (λ z. z.annotations) e) in
           let b = statics.0 (ap (λ z. z.static_fields) e) in

@@ -135,8 +135,8 @@ entry_searched {X} es n (Err i) o e bound h =
 -- ---- lists, member by member
 
 -- the images of a prefix, and the next
-pub front_more : {T Z : Type 0} (f : T → Z) (xs : List T) (i : ℕ) (x : T) → i < length xs → ((d : T) → get_or xs i d ≡ x) → map f (take (i + 1) xs) ≡ map f (take i xs) ++ f x ∷ []
-front_more f xs i x lt is = ap (map f) (take_more xs i x lt ∙ ap (λ (y : _). take i xs ++ y ∷ []) (is x)) ∙ map-append f (take i xs) (x ∷ [])
+pub prefix_more : {T Z : Type 0} (f : T → Z) (xs : List T) (i : ℕ) (x : T) → i < length xs → ((d : T) → get_or xs i d ≡ x) → map f (take (i + 1) xs) ≡ map f (take i xs) ++ f x ∷ []
+prefix_more f xs i x lt is = ap (map f) (take_more xs i x lt ∙ ap (λ (y : _). take i xs ++ y ∷ []) (is x)) ∙ map-append f (take i xs) (x ∷ [])
 
 zip_next : {A B C : Type 0} (f : A → B → C) (xs : List A) (ys : List B) (i : ℕ) (x : A) (y : B) → i < length xs → i < length ys → ((d : A) → get_or xs i d ≡ x) → ((d : B) → get_or ys i d ≡ y)
     → zip_with f (take (suc i) xs) (take (suc i) ys) ≡ zip_with f (take i xs) (take i ys) ++ f x y ∷ []

@@ -4,13 +4,13 @@ use Rattle.std.specs.Option.{option_map}
 use Rattle.dexspec.specs.Mentions.{Mentions}
 use Rattle.dexpool.specs.declared.symbols.SymbolKind.{SymbolKind}
 use Rattle.dexpool.specs.declared.symbols.SymbolKind.TheVariants as kinds
-use Rattle.dexpool.specs.Laws.{LeadsAll}
-use Rattle.dexpool.specs.Numberings.{Maps, AllLead}
+use Rattle.dexpool.specs.Laws.{MapsAll}
+use Rattle.dexpool.specs.Numberings.{Maps, AllMapTo}
 use Rattle.dexpool.specs.Pools.{count_of}
 use Rattle.dexcode.specs.Renumbering.{renumbered_item}
 use Rattle.dexcode.specs.Renumbering as code
-use Rattle.dexval.specs.Renumbering.{led, renumbered_set, renumbered_values, SetHasPlaces, HavePlaces}
-use Rattle.dexpool.specs.Images.{LeadsOn}
+use Rattle.dexval.specs.Renumbering.{remapped, renumbered_set, renumbered_values, SetHasPlaces, HavePlaces}
+use Rattle.dexpool.specs.Images.{IsMapped}
 use Rattle.dexmembers.specs.Numbered.{NumberedField, NumberedMethod, NumberedMembers}
 use Rattle.dexmembers.specs.Held.{HeldField, HeldMethod}
 
@@ -18,12 +18,12 @@ use Rattle.dexmembers.specs.Held.{HeldField, HeldMethod}
 
 -- the field with each number remapped
 abbrev pub renumbered_field : Maps → NumberedField → NumberedField
-renumbered_field r f = record { number = led r kinds.Field f.number; flags = f.flags; annotations = renumbered_set r f.annotations }
+renumbered_field r f = record { number = remapped r kinds.Field f.number; flags = f.flags; annotations = renumbered_set r f.annotations }
 
 -- the method
 abbrev pub renumbered_method : Maps → NumberedMethod → NumberedMethod
 renumbered_method r x = record {
-  number = led r kinds.Method x.number;
+  number = remapped r kinds.Method x.number;
   flags = x.flags;
   code = option_map (renumbered_item r) x.code;
   annotations = renumbered_set r x.annotations;
@@ -42,48 +42,48 @@ renumbered_members r x = record {
 }
 
 -- the field as it is held, its number remapped
-abbrev pub led_field : Maps → HeldField → HeldField
-led_field r f = record { number = led r kinds.Field f.number; flags = f.flags; set = f.set }
+abbrev pub remapped_field : Maps → HeldField → HeldField
+remapped_field r f = record { number = remapped r kinds.Field f.number; flags = f.flags; set = f.set }
 
 -- the method as it is held, its number and those of its code remapped
-abbrev pub led_method : Maps → HeldMethod → HeldMethod
-led_method r x = record { number = led r kinds.Method x.number; flags = x.flags; code = option_map (renumbered_item r) x.code; set = x.set; list = x.list }
+abbrev pub remapped_method : Maps → HeldMethod → HeldMethod
+remapped_method r x = record { number = remapped r kinds.Method x.number; flags = x.flags; code = option_map (renumbered_item r) x.code; set = x.set; list = x.list }
 
 -- ---- places of numbers
 
 -- the image of the field's number fits its place
-abbrev pub HeldFieldLeads : Maps → HeldField → Type 0
-HeldFieldLeads r f = LeadsOn r kinds.Field f.number
+abbrev pub IsHeldFieldMapped : Maps → HeldField → Type 0
+IsHeldFieldMapped r f = IsMapped r kinds.Field f.number
 
 -- the number of the method, and each of its code
-pub record HeldMethodLeads (r : Maps) (x : HeldMethod) : Type 0 where
-  pub number_leads : LeadsOn r kinds.Method x.number
-  pub code_leads : IfSome x.code (code.HasPlaces r)
+pub record IsHeldMethodMapped (r : Maps) (x : HeldMethod) : Type 0 where
+  pub number_mapped : IsMapped r kinds.Method x.number
+  pub code_mapped : IfSome x.code (code.HasPlaces r)
 
 -- the image of each number of the field fits its place
 pub record FieldHasPlaces (r : Maps) (f : NumberedField) : Type 0 where
-  pub number_leads : LeadsOn r kinds.Field f.number
-  pub annotations_lead : SetHasPlaces r f.annotations
+  pub number_mapped : IsMapped r kinds.Field f.number
+  pub annotations_mapped : SetHasPlaces r f.annotations
 
 -- of the method
 pub record MethodHasPlaces (r : Maps) (x : NumberedMethod) : Type 0 where
-  pub number_leads : LeadsOn r kinds.Method x.number
-  pub code_leads : IfSome x.code (code.HasPlaces r)
-  pub annotations_lead : SetHasPlaces r x.annotations
-  pub parameters_lead : All (SetHasPlaces r) x.parameter_annotations
+  pub number_mapped : IsMapped r kinds.Method x.number
+  pub code_mapped : IfSome x.code (code.HasPlaces r)
+  pub annotations_mapped : SetHasPlaces r x.annotations
+  pub parameters_mapped : All (SetHasPlaces r) x.parameter_annotations
 
 -- of all of them
 pub record MembersHavePlaces (r : Maps) (x : NumberedMembers) : Type 0 where
-  pub annotations_lead : SetHasPlaces r x.annotations
-  pub static_fields_lead : All (FieldHasPlaces r) x.static_fields
-  pub instance_fields_lead : All (FieldHasPlaces r) x.instance_fields
-  pub direct_methods_lead : All (MethodHasPlaces r) x.direct_methods
-  pub virtual_methods_lead : All (MethodHasPlaces r) x.virtual_methods
-  pub values_lead : HavePlaces r x.static_values
+  pub annotations_mapped : SetHasPlaces r x.annotations
+  pub static_fields_mapped : All (FieldHasPlaces r) x.static_fields
+  pub instance_fields_mapped : All (FieldHasPlaces r) x.instance_fields
+  pub direct_methods_mapped : All (MethodHasPlaces r) x.direct_methods
+  pub virtual_methods_mapped : All (MethodHasPlaces r) x.virtual_methods
+  pub values_mapped : HavePlaces r x.static_values
 
 -- the image of each number of the first numbering is that of the same symbol in the second, which has less than 2^32 of
 -- each kind
-pub record LeadsInto (m n : Mentions) (r : Maps) : Type 0 where
-  pub leads : AllLead m n r
-  pub all : LeadsAll m r
+pub record MapsInto (m n : Mentions) (r : Maps) : Type 0 where
+  pub maps_to : AllMapTo m n r
+  pub all : MapsAll m r
   pub few : (kind : SymbolKind) → count_of kind n < 2 ^ 32

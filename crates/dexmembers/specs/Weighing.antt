@@ -2,7 +2,7 @@
 use Rattle.std.specs.Prelude.{ℕ, ◌+◌, List, Option, map, sum_by, option_to_list}
 use Rattle.dexspec.specs.Weight.{debug_weight}
 use Rattle.dexval.specs.Spelled.{numbered_set_weight, numbered_sets_weight, numbered_statics_weight}
-use Rattle.dexcode.specs.Debug.{NumberedDebug, bare}
+use Rattle.dexcode.specs.Debug.{NumberedDebug, unindexed}
 use Rattle.dexcode.specs.Numbered.{NumberedItem}
 use Rattle.dexcode.specs.CodePut.{numbered_code_weight}
 use Rattle.dexmembers.specs.Numbered.{NumberedField, NumberedMethod, NumberedMembers, fields_of, methods_of}
@@ -13,7 +13,7 @@ numbered_field_weight f = 18 + numbered_set_weight f.annotations
 
 -- a debug program
 abbrev pub numbered_debug_weight : NumberedDebug → ℕ
-numbered_debug_weight d = debug_weight (bare d)
+numbered_debug_weight d = debug_weight (unindexed d)
 
 -- code with its debug program
 abbrev pub numbered_whole_weight : NumberedItem → ℕ
@@ -42,9 +42,9 @@ abbrev pub method_code_weight : NumberedMethod → ℕ
 method_code_weight x = sum_by numbered_whole_weight (option_to_list x.code)
 
 -- a declared method without its code
-abbrev pub bare_method_weight : NumberedMethod → ℕ
-bare_method_weight x = 31 + numbered_set_weight x.annotations + numbered_sets_weight x.parameter_annotations
+abbrev pub own_method_weight : NumberedMethod → ℕ
+own_method_weight x = 31 + numbered_set_weight x.annotations + numbered_sets_weight x.parameter_annotations
 
 -- all that a class declares, without code
-abbrev pub bare_members_weight : NumberedMembers → ℕ
-bare_members_weight x = numbered_set_weight x.annotations + sum_by numbered_field_weight (fields_of x) + sum_by bare_method_weight (methods_of x) + numbered_statics_weight x.static_values
+abbrev pub own_members_weight : NumberedMembers → ℕ
+own_members_weight x = numbered_set_weight x.annotations + sum_by numbered_field_weight (fields_of x) + sum_by own_method_weight (methods_of x) + numbered_statics_weight x.static_values

@@ -10,8 +10,8 @@ ghost use Rattle.dexmembers.specs.internal.ClassData.{IsDataOf, IsDataFault};
 ghost use Rattle.dexmembers.specs.ClassDefs.{IsClassDef};
 
 use crate::class_def::ClassDef;
-use crate::encoded::Owner;
 use crate::encoded_lists::read_lists;
+use crate::encodings::Owner;
 use dexhead::{Condition, Frame};
 use dexleb::read_u;
 use dexpool::{ItemFault, Pools};

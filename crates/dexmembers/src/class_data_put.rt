@@ -5,7 +5,7 @@ ghost use Rattle.dexspec.specs.Texts.{Text};
 ghost use Rattle.dexspec.specs.Classes.{Body};
 ghost use Rattle.dexspec.specs.Mentions.{Mentions};
 ghost use Rattle.dexspec.specs.Spellings.{class_data_bytes};
-ghost use Rattle.dexspec.specs.Aside.Writing.{Puts};
+ghost use Rattle.dexspec.specs.internal.Writing.{Puts};
 ghost use Rattle.dexpool.specs.Numberings.{AreRising};
 ghost use Rattle.dexmembers.specs.Numbered.{AreKnownMembers, AreOfClass, fields_of, methods_of, members_in, members_of};
 ghost use Rattle.dexmembers.specs.Spelled.{numbered_field_bytes, numbered_fields_bytes, numbered_method_bytes, numbered_methods_bytes, numbered_class_data_bytes};

@@ -7,14 +7,14 @@ ghost use Rattle.dexspec.specs.Mentions.{Mentions};
 ghost use Rattle.dexpool.specs.Numberings.{AreRising};
 ghost use Rattle.dexpool.specs.Pools.{ArePools};
 ghost use Rattle.dexcode.specs.Checking.{one_code_weight};
-ghost use Rattle.dexcode.specs.Numbered.{StandsForCode};
+ghost use Rattle.dexcode.specs.Numbered.{DenotesCode};
 ghost use Rattle.dexmembers.specs.Weighing.{numbered_whole_weight, codes_weight};
 ghost use Rattle.dexmembers.specs.internal.MethodCodes.{IsCodeOrNone, IsCodeOrNoneFault, AreCodesOf, AreHeavyCodes, IsCodesFault, optional_code_weight};
 
 use crate::class_data::EncodedMethod;
 use crate::code_checking::{CheckedCodes, check_codes};
 use crate::encoded_lists::room;
-use dexcode::{Code, debug_bare_law, read_code};
+use dexcode::{Code, debug_unindexed_law, read_code};
 use dexhead::Frame;
 use dexpool::{ItemFault, Pools};
 use std::alloc::Global;
@@ -39,11 +39,11 @@ fn code_or_none<'a>(
 }
 
 // Returns what is left of a weight after the code with its debug program, or `None` if the code weighs more.
-fn left_behind(left: u64, code: &Code<'_>) -> Option<u64>
-    ensures symbolic { (m : Mentions) (x : symbolic.Code) → AreRising m → StandsForCode m code.now x → MatchOption result (left < one_code_weight x) (λ rest. rest + one_code_weight x ≡ left) }
+fn left_after(left: u64, code: &Code<'_>) -> Option<u64>
+    ensures symbolic { (m : Mentions) (x : symbolic.Code) → AreRising m → DenotesCode m code.now x → MatchOption result (left < one_code_weight x) (λ rest. rest + one_code_weight x ≡ left) }
     ensures numbered { IfSome result (λ rest. rest + numbered_whole_weight code.now ≡ left) }
 {
-    debug_bare_law();
+    debug_unindexed_law();
     let rest = left.checked_sub(code.weight())?;
     match code.debug() {
         Some(debug) => rest.checked_sub(debug.weight()),
@@ -52,12 +52,12 @@ fn left_behind(left: u64, code: &Code<'_>) -> Option<u64>
 }
 
 // Returns what is left after the code of a method that may have none.
-fn left_behind_any(left: u64, code: &Option<Code<'_>>) -> Option<u64>
-    ensures symbolic { (m : Mentions) (x : Option symbolic.Code) → AreRising m → BothOrNone (StandsForCode m) code.now x → MatchOption result (left < optional_code_weight x) (λ rest. rest + optional_code_weight x ≡ left) }
+fn left_after_any(left: u64, code: &Option<Code<'_>>) -> Option<u64>
+    ensures symbolic { (m : Mentions) (x : Option symbolic.Code) → AreRising m → BothOrNone (DenotesCode m) code.now x → MatchOption result (left < optional_code_weight x) (λ rest. rest + optional_code_weight x ≡ left) }
     ensures numbered { IfSome result (λ rest. rest + codes_weight (code.now ∷ []) ≡ left) }
 {
     match code {
-        Some(code) => left_behind(left, code),
+        Some(code) => left_after(left, code),
         None => Some(left),
     }
 }
@@ -91,7 +91,7 @@ pub(crate) fn read_codes<'a>(
             Ok(code) => code,
             Err(fault) => return Err(fault),
         };
-        match left_behind_any(left, &code) {
+        match left_after_any(left, &code) {
             Some(rest) => left = rest,
             None => {
                 let mut checked = CheckedCodes::none(alloc);

@@ -5,7 +5,7 @@ ghost use Rattle.dexspec.specs.ClassData.{ShareNone};
 ghost use Rattle.dexmembers.specs.Numbered.{NumbersRise};
 ghost use Rattle.dexmembers.specs.internal.EncodedMembers.{IsDataRefusal, IsListRead, NoList, AreListsRead, NoLists};
 
-use crate::encoded::{Encoded, Owner};
+use crate::encodings::{Encoded, Owner};
 use dexhead::Condition;
 use dexpool::ItemFault;
 use std::alloc::Global;
@@ -31,8 +31,8 @@ fn read_list<T: Encoded>(
     count: u32,
 ) -> Result<(Vec<T>, usize), ItemFault>
     requires { at ≤ length bytes.now }
-    ensures list { IfOk result (λ x. IsListRead (T.stands owner.entry.pools.now owner.entry.class) T.index_of bytes.now at count x.0.items x.1) }
-    ensures fault { IfErr result (IsDataRefusal (NoList (T.stands owner.entry.pools.now owner.entry.class) T.index_of bytes.now at count)) }
+    ensures list { IfOk result (λ x. IsListRead (T.encodes owner.entry.pools.now owner.entry.class) T.index_of bytes.now at count x.0.items x.1) }
+    ensures fault { IfErr result (IsDataRefusal (NoList (T.encodes owner.entry.pools.now owner.entry.class) T.index_of bytes.now at count)) }
 {
     T::law();
     let mut members = Vec::with_capacity(alloc, room(count as usize))?;
@@ -81,8 +81,8 @@ pub(crate) fn read_lists<T: Encoded>(
     other_count: u32,
 ) -> Result<(Vec<T>, Vec<T>, usize), ItemFault>
     requires { at ≤ length bytes.now }
-    ensures lists { IfOk result (λ x. AreListsRead (T.stands owner.entry.pools.now owner.entry.class) T.index_of bytes.now at count other_count x.0.items x.1.items x.2) }
-    ensures fault { IfErr result (IsDataRefusal (NoLists (T.stands owner.entry.pools.now owner.entry.class) T.index_of bytes.now at count other_count)) }
+    ensures lists { IfOk result (λ x. AreListsRead (T.encodes owner.entry.pools.now owner.entry.class) T.index_of bytes.now at count other_count x.0.items x.1.items x.2) }
+    ensures fault { IfErr result (IsDataRefusal (NoLists (T.encodes owner.entry.pools.now owner.entry.class) T.index_of bytes.now at count other_count)) }
 {
     T::law();
     let (members, size) = read_list(alloc, owner, bytes, at, count)?;

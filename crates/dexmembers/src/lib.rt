@@ -17,8 +17,8 @@ mod code_checking;
 mod codes;
 mod copying;
 mod directory_put;
-mod encoded;
 mod encoded_lists;
+mod encodings;
 mod field_views;
 mod fitting;
 mod marking;
@@ -47,7 +47,7 @@ pub use method_views::{Method, Methods, ParameterSets};
 pub use put_laws::{few_members_law, members_bytes_law};
 pub use reading::read_members;
 pub use renumbering_laws::{
-    members_cut_law, members_joined_law, members_led_law, members_same_law,
+    members_cut_law, members_joined_law, members_remapped_law, members_same_law,
 };
 pub use stripping::members_stripped_law;
 pub use uses_laws::members_uses_law;

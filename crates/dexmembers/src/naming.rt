@@ -5,7 +5,7 @@ ghost use Rattle.std.specs.List.{Contains};
 ghost use Rattle.dexmembers.specs.Numbered.{NumbersRise};
 ghost use Rattle.dexmembers.specs.internal.Naming.{NamesOnly, BothRise};
 
-use crate::encoded::Encoded;
+use crate::encodings::Encoded;
 use dexhead::{Frame, u32_at};
 
 // Returns whether a member of the list has this index.

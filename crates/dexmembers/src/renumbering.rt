@@ -1,31 +1,31 @@
 //! What classes declare, with its numbers mapped to those of another numbering.
 
 ghost use Rattle.std.specs.Prelude.{◌≡◌};
-ghost use Rattle.dexmembers.specs.Renumbering.{led_field, led_method, renumbered_members, HeldFieldLeads, HeldMethodLeads, MembersHavePlaces};
+ghost use Rattle.dexmembers.specs.Renumbering.{remapped_field, remapped_method, renumbered_members, IsHeldFieldMapped, IsHeldMethodMapped, MembersHavePlaces};
 
 use crate::members::{DeclaredField, DeclaredMethod, Members};
 use dexpool::{Remap, Renumber, SymbolKind, renumber_all};
-use dexval::{led, renumber_values};
+use dexval::{remapped, renumber_values};
 
 impl Renumber for DeclaredField {
-    ghost places = { HeldFieldLeads };
+    ghost places = { IsHeldFieldMapped };
 
-    ghost led = { led_field };
+    ghost remapped = { remapped_field };
 
     // The sets are remapped in their table.
     fn renumber(&mut self, remap: &Remap) {
-        self.number = led(remap, SymbolKind::Field, self.number);
+        self.number = remapped(remap, SymbolKind::Field, self.number);
     }
 }
 
 impl Renumber for DeclaredMethod<'_> {
-    ghost places = { HeldMethodLeads };
+    ghost places = { IsHeldMethodMapped };
 
-    ghost led = { led_method };
+    ghost remapped = { remapped_method };
 
     // The sets are remapped in their table.
     fn renumber(&mut self, remap: &Remap) {
-        self.number = led(remap, SymbolKind::Method, self.number);
+        self.number = remapped(remap, SymbolKind::Method, self.number);
         if let Some(code) = &mut self.code {
             code.renumber(remap);
         }

@@ -15,7 +15,7 @@ use crate::members::Members;
 use crate::method_views::{Method, Methods, ParameterSets};
 use dexcode::Code;
 use dexpool::{Remap, SymbolKind};
-use dexval::{AnnotationSet, ends_alike, same_values_mapped};
+use dexval::{AnnotationSet, eq_ends, same_values_mapped};
 
 // Returns whether the code of two methods, if there is some, is the same once remapped.
 fn same_code(
@@ -111,7 +111,7 @@ impl Field<'_> {
         ensures { IsTrue result ↔ (renumbered_field mine.now self.now ≡ renumbered_field theirs.now other.now) }
     {
         let number = other.number();
-        if !ends_alike(SymbolKind::Field, mine, self.number(), theirs, number) {
+        if !eq_ends(SymbolKind::Field, mine, self.number(), theirs, number) {
             return false;
         }
         if self.flags() != other.flags() {
@@ -127,7 +127,7 @@ impl Method<'_, '_> {
         ensures { IsTrue result ↔ (renumbered_method mine.now self.now ≡ renumbered_method theirs.now other.now) }
     {
         let number = other.number();
-        if !ends_alike(SymbolKind::Method, mine, self.number(), theirs, number) {
+        if !eq_ends(SymbolKind::Method, mine, self.number(), theirs, number) {
             return false;
         }
         if self.flags() != other.flags() {

@@ -10,12 +10,12 @@ ghost use Rattle.dexval.specs.Spelled.{numbered_set_weight, numbered_sets_weight
 ghost use Rattle.dexmembers.specs.Numbered.{NumberedMembers, AreKnownMembers, members_in};
 ghost use Rattle.dexmembers.specs.Weight.{members_weight};
 ghost use Rattle.dexmembers.specs.Contents.{contents_in, AreHeld};
-ghost use Rattle.dexmembers.specs.Weighing.{numbered_field_weight, numbered_whole_weight, numbered_members_weight, method_code_weight, bare_method_weight, bare_members_weight};
+ghost use Rattle.dexmembers.specs.Weighing.{numbered_field_weight, numbered_whole_weight, numbered_members_weight, method_code_weight, own_method_weight, own_members_weight};
 
 use crate::field_views::{Field, Fields};
 use crate::members::{Contents, Members};
 use crate::method_views::{Method, Methods, ParameterSets};
-use dexcode::{Code, code_meaning_law, code_weight_law, debug_bare_law, debug_meaning_law};
+use dexcode::{Code, code_meaning_law, code_weight_law, debug_meaning_law, debug_unindexed_law};
 use dexval::{AnnotationSet, Value, statics_weight};
 
 // Returns the weight of a set, or 2^64 - 1 where that is more.
@@ -91,7 +91,7 @@ fn fields_weight(fields: &Fields<'_>) -> u64
 
 // Returns the weight of methods without their code.
 fn methods_weight(methods: &Methods<'_, '_>) -> u64
-    ensures { result ≡ min (2 ^ 64 - 1) (sum_by bare_method_weight methods.now) }
+    ensures { result ≡ min (2 ^ 64 - 1) (sum_by own_method_weight methods.now) }
 {
     let mut weight: u64 = 0;
     for i in 0..methods.len() {
@@ -123,7 +123,7 @@ impl Field<'_> {
 impl Method<'_, '_> {
     // Returns the weight of the method without its code.
     fn weight(&self) -> u64
-        ensures { result ≡ min (2 ^ 64 - 1) (bare_method_weight self.now) }
+        ensures { result ≡ min (2 ^ 64 - 1) (own_method_weight self.now) }
     {
         31u64
             .saturating_add(optional_weight(self.annotations()))
@@ -167,7 +167,7 @@ pub fn members_weight_law()
 {
     code_weight_law();
     code_meaning_law();
-    debug_bare_law();
+    debug_unindexed_law();
     debug_meaning_law();
 }
 
@@ -189,7 +189,7 @@ impl Contents<'_> {
     /// Condition: the places are the table's.
     pub(crate) fn weight_with(&self, codes: u64) -> u64
         requires { AreHeld self.now }
-        ensures { result ≡ min (2 ^ 64 - 1) (codes + bare_members_weight (contents_in self.now)) }
+        ensures { result ≡ min (2 ^ 64 - 1) (codes + own_members_weight (contents_in self.now)) }
     {
         codes
             .saturating_add(optional_weight(self.annotations()))

@@ -10,7 +10,7 @@ use Rattle.dexorder.specs.Parents.{AreByType, IsHierarchyOf}
 use Rattle.dexorder.proofs.ByType.{map-after, present-append}
 use Rattle.dexclass.specs.Parents.{no_class, name_number, parent_numbers, ArePlaces, IsHierarchy}
 use Rattle.dexclass.proofs.Places.{places_some}
-use Rattle.dexmerge.specs.Candidates.{class_of, classes_of, class_at, kept_classes, IsAlike}
+use Rattle.dexmerge.specs.Candidates.{class_of, classes_of, class_at, kept_classes, IsEqualCopy}
 use Rattle.dexmerge.specs.declared.candidates.Candidate.{Candidate}
 
 -- the class of the candidate at a place
@@ -41,11 +41,11 @@ hierarchy_of cs H h =
 pub kept_within : (cs : List Candidate) (places : List (Option ℕ)) (t i : ℕ) → ArePlaces (classes_of cs) places → get_or places t None ≡ Some i → i < length cs
 kept_within cs places t i h e = omega (arith, (places_some (classes_of cs) places h t i e).0, count_classes cs)
 
--- P decides `IsAlike` where it decides whether class i is equal to the class that is kept of its name
-pub alike_by : (cs : List NumberedClass) (places : List (Option ℕ)) (i k : ℕ) (P : Type 0) → get_or places (name_number cs i) None ≡ Some k → P ↔ (class_at cs i ≡ class_at cs k) → P ↔ IsAlike cs places i
-alike_by cs places i k P e h = (
+-- P decides `IsEqualCopy` where it decides whether class i is equal to the class that is kept of its name
+pub equivalent_by : (cs : List NumberedClass) (places : List (Option ℕ)) (i k : ℕ) (P : Type 0) → get_or places (name_number cs i) None ≡ Some k → P ↔ (class_at cs i ≡ class_at cs k) → P ↔ IsEqualCopy cs places i
+equivalent_by cs places i k P e h = (
   λ p. λ j is. let same : k ≡ j = (let both : Some k ≡ Some j = sym e ∙ is in cc) in subst (λ (n : ℕ). class_at cs i ≡ class_at cs n) same (h.0 p),
-  λ alike. h.1 (alike k e),
+  λ equivalent. h.1 (equivalent k e),
 )
 
 -- one place more

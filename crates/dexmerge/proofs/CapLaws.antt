@@ -11,7 +11,7 @@ use Rattle.dexspec.specs.Files.{AreWithin}
 use Rattle.dexspec.specs.Mentions.{Mentions, mentions}
 use Rattle.dexspec.specs.Depth.{IsAcyclic}
 use Rattle.dexspec.specs.Weight.{weight, body_weight, mentions_weight}
-use Rattle.dexspec.specs.Merging.{Caps, AreCaps, greatest_caps, Cap, Types, Protos, Fields, Methods, ShortStrings, Weight, cap_number, HasShortString, Exceeds, IsConsistent, IsGood, Cause, Conflict, Cycle, Exceeded, IsCause, IsToldBefore, IsFirstCause}
+use Rattle.dexspec.specs.Merging.{Caps, AreCaps, greatest_caps, Cap, Types, Protos, Fields, Methods, ShortStrings, Weight, cap_number, HasShortString, Exceeds, IsConsistent, IsGood, Cause, Conflict, Cycle, Exceeded, IsCause, IsReportedBefore, IsFirstCause}
 use Rattle.dexspec.proofs.lists.Members.{list_any-member, list_any-source}
 use Rattle.dexspec.proofs.merge.WeightGrowth.{weight-within}
 use Rattle.dexspec.proofs.merge.Conflicts.{consistent-apart}
@@ -21,7 +21,7 @@ use Rattle.dexclass.specs.Numbered.{NumberedClass, definition_of}
 use Rattle.dexclass.specs.Uses.{IsKnownClass}
 use Rattle.dexmerge.specs.internal.Amounts.{weight_over, short_numbers, has_from, first_over}
 use Rattle.dexmerge.specs.Faults.{IsOfCap}
-use Rattle.dexmerge.proofs.ShortStrings.{short_named_by, short_stands_for, rank_is}
+use Rattle.dexmerge.proofs.ShortStrings.{short_named_by, short_denotes_text, rank_is}
 
 -- a number that is no less
 not_less : (a b : ℕ) → ltb a b ≡ false → b ≤ a
@@ -46,10 +46,10 @@ none_from cap ns n none has = elim (cases_lt n cap) [
 ]
 
 -- where no conflict and no cycle is, and no cap before it is exceeded, a cap is the first cause
-cap_told : (caps : Caps) (E : List Definition) (cap : Cap) → IsConsistent E → IsAcyclic E → Exceeds caps E cap → ((other : Cap) → Exceeds caps E other → cap_number other < cap_number cap → ⊥) → IsFirstCause caps E (Exceeded cap)
-cap_told caps E cap h a exceeds least = record { is = exceeds; first = before }
+cap_reported : (caps : Caps) (E : List Definition) (cap : Cap) → IsConsistent E → IsAcyclic E → Exceeds caps E cap → ((other : Cap) → Exceeds caps E other → cap_number other < cap_number cap → ⊥) → IsFirstCause caps E (Exceeded cap)
+cap_reported caps E cap h a exceeds least = record { is = exceeds; first = before }
   where
-    before : (other : Cause) → IsCause caps E other → IsToldBefore other (Exceeded cap) → ⊥
+    before : (other : Cause) → IsCause caps E other → IsReportedBefore other (Exceeded cap) → ⊥
     before (Conflict n) x _ = consistent-apart E n h x
     before (Cycle n) x _ = acyclic-apart E n a x
     before (Exceeded k) x less = least k x less
@@ -90,7 +90,7 @@ module _ (caps : Caps) (m : Mentions) (cs : List NumberedClass) (distinct : AreD
   too_far : has_from caps.short_strings (short_numbers cs) ≡ true → Exceeds caps E ShortStrings
   too_far test =
       let n = list_any-source (λ (k : ℕ). not (nat_lt k caps.short_strings)) (short_numbers cs) test in
-      let f = short_stands_for m cs known n.0 n.1 in
+      let f = short_denotes_text m cs known n.0 n.1 in
       (f.0, f.2, omega (arith, rank_there n.0 f.0 f.1, not_less n.0 caps.short_strings (not_true (nat_lt n.0 caps.short_strings) n.2)))
 
   not_far : has_from caps.short_strings (short_numbers cs) ≡ false → (s : Text) → HasShortString E s → rank text_cmp s (mentions E).texts < caps.short_strings
@@ -116,11 +116,11 @@ module _ (caps : Caps) (m : Mentions) (cs : List NumberedClass) (distinct : AreD
   none_before number most h Weight x less = omega (arith, less, most)
 
   module _ (h : IsConsistent E) (a : IsAcyclic E) where
-    told : (cap : Cap) (number : ℕ) → cap_number cap ≡ number → number ≤ 6 → AreKeptBelow number → Exceeds caps E cap → IsOfCap (IsFirstCause caps E) number
-    told cap number is most kept x = record {
+    distinguished : (cap : Cap) (number : ℕ) → cap_number cap ≡ number → number ≤ 6 → AreKeptBelow number → Exceeds caps E cap → IsOfCap (IsFirstCause caps E) number
+    distinguished cap number is most kept x = record {
       cap = cap;
       number_is = is;
-      holds = cap_told caps E cap h a x (λ other y less. none_before number most kept other y (omega (arith, less, is)));
+      holds = cap_reported caps E cap h a x (λ other y less. none_before number most kept other y (omega (arith, less, is)));
     }
 
     -- by which of the caps are exceeded
@@ -128,22 +128,22 @@ module _ (caps : Caps) (m : Mentions) (cs : List NumberedClass) (distinct : AreD
         → (found : Option ℕ) → found ≡ cond t (Some 1) (cond p (Some 2) (cond f (Some 3) (cond e (Some 4) (cond s (Some 5) (cond w (Some 6) None))))) → MatchOption found (IsGood caps E) (IsOfCap (IsFirstCause caps E))
     by_caps true p f e s w it ip ifs ie is iw found answer =
         subst (λ (o : Option ℕ). MatchOption o (IsGood caps E) (IsOfCap (IsFirstCause caps E))) (sym answer)
-        (told Types 1 refl (omega arith) (record { types = λ l. absurd (omega (arith, l)); protos = λ l. absurd (omega (arith, l)); fields = λ l. absurd (omega (arith, l)); methods = λ l. absurd (omega (arith, l)); short_strings = λ l. absurd (omega (arith, l)) }) (let x = ltb-true caps.types (length m.types) it in omega (arith, x, types_count)))
+        (distinguished Types 1 refl (omega arith) (record { types = λ l. absurd (omega (arith, l)); protos = λ l. absurd (omega (arith, l)); fields = λ l. absurd (omega (arith, l)); methods = λ l. absurd (omega (arith, l)); short_strings = λ l. absurd (omega (arith, l)) }) (let x = ltb-true caps.types (length m.types) it in omega (arith, x, types_count)))
     by_caps false true f e s w it ip ifs ie is iw found answer =
         subst (λ (o : Option ℕ). MatchOption o (IsGood caps E) (IsOfCap (IsFirstCause caps E))) (sym answer)
-        (told Protos 2 refl (omega arith) (record { types = λ l. not_less caps.types (length m.types) it; protos = λ l. absurd (omega (arith, l)); fields = λ l. absurd (omega (arith, l)); methods = λ l. absurd (omega (arith, l)); short_strings = λ l. absurd (omega (arith, l)) }) (let x = ltb-true caps.protos (length m.protos) ip in omega (arith, x, protos_count)))
+        (distinguished Protos 2 refl (omega arith) (record { types = λ l. not_less caps.types (length m.types) it; protos = λ l. absurd (omega (arith, l)); fields = λ l. absurd (omega (arith, l)); methods = λ l. absurd (omega (arith, l)); short_strings = λ l. absurd (omega (arith, l)) }) (let x = ltb-true caps.protos (length m.protos) ip in omega (arith, x, protos_count)))
     by_caps false false true e s w it ip ifs ie is iw found answer =
         subst (λ (o : Option ℕ). MatchOption o (IsGood caps E) (IsOfCap (IsFirstCause caps E))) (sym answer)
-        (told Fields 3 refl (omega arith) (record { types = λ l. not_less caps.types (length m.types) it; protos = λ l. not_less caps.protos (length m.protos) ip; fields = λ l. absurd (omega (arith, l)); methods = λ l. absurd (omega (arith, l)); short_strings = λ l. absurd (omega (arith, l)) }) (let x = ltb-true caps.fields (length m.fields) ifs in omega (arith, x, fields_count)))
+        (distinguished Fields 3 refl (omega arith) (record { types = λ l. not_less caps.types (length m.types) it; protos = λ l. not_less caps.protos (length m.protos) ip; fields = λ l. absurd (omega (arith, l)); methods = λ l. absurd (omega (arith, l)); short_strings = λ l. absurd (omega (arith, l)) }) (let x = ltb-true caps.fields (length m.fields) ifs in omega (arith, x, fields_count)))
     by_caps false false false true s w it ip ifs ie is iw found answer =
         subst (λ (o : Option ℕ). MatchOption o (IsGood caps E) (IsOfCap (IsFirstCause caps E))) (sym answer)
-        (told Methods 4 refl (omega arith) (record { types = λ l. not_less caps.types (length m.types) it; protos = λ l. not_less caps.protos (length m.protos) ip; fields = λ l. not_less caps.fields (length m.fields) ifs; methods = λ l. absurd (omega (arith, l)); short_strings = λ l. absurd (omega (arith, l)) }) (let x = ltb-true caps.methods (length m.methods) ie in omega (arith, x, methods_count)))
+        (distinguished Methods 4 refl (omega arith) (record { types = λ l. not_less caps.types (length m.types) it; protos = λ l. not_less caps.protos (length m.protos) ip; fields = λ l. not_less caps.fields (length m.fields) ifs; methods = λ l. absurd (omega (arith, l)); short_strings = λ l. absurd (omega (arith, l)) }) (let x = ltb-true caps.methods (length m.methods) ie in omega (arith, x, methods_count)))
     by_caps false false false false true w it ip ifs ie is iw found answer =
         subst (λ (o : Option ℕ). MatchOption o (IsGood caps E) (IsOfCap (IsFirstCause caps E))) (sym answer)
-        (told ShortStrings 5 refl (omega arith) (record { types = λ l. not_less caps.types (length m.types) it; protos = λ l. not_less caps.protos (length m.protos) ip; fields = λ l. not_less caps.fields (length m.fields) ifs; methods = λ l. not_less caps.methods (length m.methods) ie; short_strings = λ l. absurd (omega (arith, l)) }) (too_far is))
+        (distinguished ShortStrings 5 refl (omega arith) (record { types = λ l. not_less caps.types (length m.types) it; protos = λ l. not_less caps.protos (length m.protos) ip; fields = λ l. not_less caps.fields (length m.fields) ifs; methods = λ l. not_less caps.methods (length m.methods) ie; short_strings = λ l. absurd (omega (arith, l)) }) (too_far is))
     by_caps false false false false false true it ip ifs ie is iw found answer =
         subst (λ (o : Option ℕ). MatchOption o (IsGood caps E) (IsOfCap (IsFirstCause caps E))) (sym answer)
-        (told Weight 6 refl (omega arith) (record { types = λ l. not_less caps.types (length m.types) it; protos = λ l. not_less caps.protos (length m.protos) ip; fields = λ l. not_less caps.fields (length m.fields) ifs; methods = λ l. not_less caps.methods (length m.methods) ie; short_strings = λ l. is }) (too_heavy (ltb-true caps.weight (weight_over m cs) iw)))
+        (distinguished Weight 6 refl (omega arith) (record { types = λ l. not_less caps.types (length m.types) it; protos = λ l. not_less caps.protos (length m.protos) ip; fields = λ l. not_less caps.fields (length m.fields) ifs; methods = λ l. not_less caps.methods (length m.methods) ie; short_strings = λ l. is }) (too_heavy (ltb-true caps.weight (weight_over m cs) iw)))
     by_caps false false false false false false it ip ifs ie is iw found answer =
         subst (λ (o : Option ℕ). MatchOption o (IsGood caps E) (IsOfCap (IsFirstCause caps E))) (sym answer)
         (record {

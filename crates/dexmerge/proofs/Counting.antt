@@ -19,7 +19,7 @@ use Rattle.dexmembers.specs.Fitting.{members_short_strings}
 use Rattle.dexmembers.specs.Renumbering.{renumbered_members}
 use Rattle.dexclass.specs.Numbered.{NumberedClass, definition_of}
 use Rattle.dexclass.specs.Parents.{no_class}
-use Rattle.dexclass.specs.Renumbering.{IsLedClass}
+use Rattle.dexclass.specs.Renumbering.{IsMappedClass}
 use Rattle.dexclass.specs.Uses.{IsKnownClass}
 use Rattle.dexmerge.specs.declared.candidates.Candidate.{Candidate}
 use Rattle.dexmerge.specs.declared.measuring.Counts.{Counts}
@@ -28,9 +28,9 @@ use Rattle.dexmerge.specs.Candidates.{classes_of, class_at}
 use Rattle.dexmerge.specs.Counting.{AreCounts, AreCountsOver, Decides, IsShortBound, above_it, is_from}
 use Rattle.dexmerge.specs.internal.Unions.{AreOnce}
 use Rattle.dexmerge.proofs.CapLaws.{none_from, weight_is}
-use Rattle.dexmerge.proofs.FarTexts.{few_texts, greatest_decides, none_led}
+use Rattle.dexmerge.proofs.FarTexts.{few_texts, greatest_decides, none_remapped}
 use Rattle.dexmerge.proofs.MergeLaws.{once_apart, once_own}
-use Rattle.dexmerge.proofs.ShortStrings.{short_named_by, short_stands_for, rank_is}
+use Rattle.dexmerge.proofs.ShortStrings.{short_named_by, short_denotes_text, rank_is}
 
 -- nothing is not below what is above it
 over : (greatest : Option ℕ) → is_from (above_it greatest) greatest ≡ false
@@ -59,9 +59,9 @@ pub within_texts : (m : Mentions) (cs : List NumberedClass) (greatest : Option �
 within_texts m cs greatest known decides = below_cap (length m.texts) greatest (sym (decides (length m.texts)) ∙ few_texts m cs (length m.texts) known (omega arith))
 
 -- the image of the greatest decides
-pub image_decides : (r : Maps) (x : NumberedClass) → IsLedClass r x → (g : ℕ) (o : Option ℕ) → KeepOrder r → IsGreatest (members_short_strings x.members) (Some g) → image r.texts g ≡ o → Decides o (members_short_strings (renumbered_members r x.members))
-image_decides r x led g None order is e = absurd (none_led r x led g is e)
-image_decides r x led g (Some k) order is e = λ cap. greatest_decides r x led g k cap order is e
+pub image_decides : (r : Maps) (x : NumberedClass) → IsMappedClass r x → (g : ℕ) (o : Option ℕ) → KeepOrder r → IsGreatest (members_short_strings x.members) (Some g) → image r.texts g ≡ o → Decides o (members_short_strings (renumbered_members r x.members))
+image_decides r x remapped g None order is e = absurd (none_remapped r x remapped g is e)
+image_decides r x remapped g (Some k) order is e = λ cap. greatest_decides r x remapped g k cap order is e
 
 -- one class more
 pub decides_more : (cs : List NumberedClass) (i : ℕ) (a b c : Option ℕ) → i < length cs → Decides a (short_numbers (take i cs)) → Decides b (members_short_strings (class_at cs i).members) → ((cap : ℕ) → is_from cap c ≡ (is_from cap a || is_from cap b)) → Decides c (short_numbers (take (i + 1) cs))
@@ -101,7 +101,7 @@ module _ (m : Mentions) (D : List Definition) (cs : List Candidate) (h : AreOnce
   least None decides lt = absurd (omega (arith, lt))
   least (Some g) decides lt =
       let n = list_any-source (λ (k : ℕ). not (nat_lt k g)) (short_numbers Ks) (decides g ∙ not_self g (nat_lt g g) refl) in
-      let f = short_stands_for m Ks h.copies.members.known n.0 n.1 in
+      let f = short_denotes_text m Ks h.copies.members.known n.0 n.1 in
       let high = ltb-false n.0 g (not_true (nat_lt n.0 g) n.2) in
       let low = none_from (g + 1) (short_numbers Ks) n.0 (decides (g + 1) ∙ over (Some g)) n.1 in
       (f.0, in_all f.0 f.2, omega (arith, rank_in n.0 f.0 f.1, high, low))

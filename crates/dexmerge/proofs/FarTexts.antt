@@ -10,9 +10,9 @@ use Rattle.dexspec.specs.Mentions.{Mentions}
 use Rattle.dexspec.proofs.lists.Members.{Contains-nil, list_any-member, list_any-source, Contains-flat_map, Contains-flat_map_source}
 use Rattle.dexpool.specs.Numberings.{Maps, image}
 use Rattle.dexpool.specs.Orderly.{KeepOrder}
-use Rattle.dexpool.specs.Uses.{IsLedUse}
+use Rattle.dexpool.specs.Uses.{IsMappedUse}
 use Rattle.dexinsn.specs.Fitting.{IsGreatest}
-use Rattle.dexinsn.proofs.Fits.{shorts_led}
+use Rattle.dexinsn.proofs.Fits.{shorts_remapped}
 use Rattle.dexcode.specs.Numbered.{NumberedItem}
 use Rattle.dexcode.specs.Renumbering.{HasImages}
 use Rattle.dexcode.proofs.CodePlaces.{images_of_uses}
@@ -24,11 +24,11 @@ use Rattle.dexmembers.proofs.Images.{MethodHasImages, members_images}
 use Rattle.dexmembers.proofs.RenumberingLists.{all_right}
 use Rattle.dexclass.specs.Numbered.{NumberedClass}
 use Rattle.dexclass.specs.Parents.{no_class}
-use Rattle.dexclass.specs.Renumbering.{IsLedClass}
+use Rattle.dexclass.specs.Renumbering.{IsMappedClass}
 use Rattle.dexclass.specs.Uses.{IsKnownClass, type_use, text_use, type_numbers, text_numbers}
 use Rattle.dexmerge.specs.Candidates.{class_at}
 use Rattle.dexmerge.specs.internal.Amounts.{short_numbers, has_from}
-use Rattle.dexmerge.proofs.ShortStrings.{led_short, leads_short, option_source, short_stands_for}
+use Rattle.dexmerge.proofs.ShortStrings.{remapped_short, maps_short, option_source, short_denotes_text}
 
 -- ---- by cases
 
@@ -62,31 +62,31 @@ at_least a b = elim (cases_lt b a) [
 all_member : {X : Type 0} (P : X → Type 0) (xs : List X) (x : X) → All P xs → Contains xs x → P x
 all_member P xs x all c = subst P c.2 (All-get_or P xs c.0 x c.1 all)
 
-module _ (r : Maps) (c : NumberedClass) (led : IsLedClass r c) where
+module _ (r : Maps) (c : NumberedClass) (remapped : IsMappedClass r c) where
   -- each symbol in what it declares has an image
-  members_led : All (IsLedUse r) (members_uses c.members)
-  members_led = all_right (IsLedUse r) (map text_use (text_numbers c)) (members_uses c.members) (all_right (IsLedUse r) (map type_use (type_numbers c)) (map text_use (text_numbers c) ++ members_uses c.members) led)
+  members_remapped : All (IsMappedUse r) (members_uses c.members)
+  members_remapped = all_right (IsMappedUse r) (map text_use (text_numbers c)) (members_uses c.members) (all_right (IsMappedUse r) (map type_use (type_numbers c)) (map text_use (text_numbers c) ++ members_uses c.members) remapped)
 
   -- so does each text that a const-string names
-  pub text_led : (n : ℕ) → Contains (members_short_strings c.members) n → IsSome (image r.texts n)
-  text_led n has =
-      let images = members_images r (images_of_uses r) c.members members_led in
+  pub text_remapped : (n : ℕ) → Contains (members_short_strings c.members) n → IsSome (image r.texts n)
+  text_remapped n has =
+      let images = members_images r (images_of_uses r) c.members members_remapped in
       let method = Contains-flat_map_source method_short_strings (methods_of c.members) n has in
       let y : NumberedMethod = method.0 in
-      let own : MethodHasImages r y = all_member (MethodHasImages r) (methods_of c.members) y (All-append (MethodHasImages r) c.members.direct_methods c.members.virtual_methods images.direct_methods_lead images.virtual_methods_lead) method.1 in
+      let own : MethodHasImages r y = all_member (MethodHasImages r) (methods_of c.members) y (All-append (MethodHasImages r) c.members.direct_methods c.members.virtual_methods images.direct_methods_mapped images.virtual_methods_mapped) method.1 in
       let code = Contains-flat_map_source code_short_strings (option_to_list y.code) n method.2 in
       let k : NumberedItem = code.0 in
-      let there : HasImages r k = subst (λ (o : Option NumberedItem). IfSome o (HasImages r)) (option_source y.code k code.1) own.code_leads in
-      shorts_led r k.body.pieces n there.pieces_have code.2
+      let there : HasImages r k = subst (λ (o : Option NumberedItem). IfSome o (HasImages r)) (option_source y.code k code.1) own.code_mapped in
+      shorts_remapped r k.body.pieces n there.pieces_have code.2
 
   -- no text is named
   pub none_named : (cap : ℕ) → IsGreatest (members_short_strings c.members) None → has_from cap (members_short_strings (renumbered_members r c.members)) ≡ false
   none_named cap none = none_far cap (members_short_strings (renumbered_members r c.members)) (λ j has.
-      let s = led_short r c.members j has in absurd (Contains-nil s.0 (subst (λ (l : List ℕ). Contains l s.0) none s.1)))
+      let s = remapped_short r c.members j has in absurd (Contains-nil s.0 (subst (λ (l : List ℕ). Contains l s.0) none s.1)))
 
   -- the greatest has no image
-  pub none_led : (g : ℕ) → IsGreatest (members_short_strings c.members) (Some g) → image r.texts g ≡ None → ⊥
-  none_led g is e = some_none (image r.texts g) (text_led g is.0) e
+  pub none_remapped : (g : ℕ) → IsGreatest (members_short_strings c.members) (Some g) → image r.texts g ≡ None → ⊥
+  none_remapped g is e = some_none (image r.texts g) (text_remapped g is.0) e
     where
       some_none : (o : Option ℕ) → IsSome o → o ≡ None → ⊥
       some_none None s e = absurd cc
@@ -95,7 +95,7 @@ module _ (r : Maps) (c : NumberedClass) (led : IsLedClass r c) where
   -- no image of another is greater than the image of the greatest
   no_greater : (g k j : ℕ) → KeepOrder r → IsGreatest (members_short_strings c.members) (Some g) → image r.texts g ≡ Some k → Contains (members_short_strings (renumbered_members r c.members)) j → j ≤ k
   no_greater g k j order is to has =
-      let s = led_short r c.members j has in
+      let s = remapped_short r c.members j has in
       let le : s.0 ≤ g = all_member (λ n. n ≤ g) (members_short_strings c.members) s.0 is.1 s.1 in
       elim (cases_lt s.0 g) [
         | inl less ↦ (let lt = order.texts_keep s.0 g j k less s.2 to in omega (arith, lt))
@@ -108,7 +108,7 @@ module _ (r : Maps) (c : NumberedClass) (led : IsLedClass r c) where
   -- the greatest decides
   by_greatest : (g k cap : ℕ) (b : Bool) → nat_lt k cap ≡ b → KeepOrder r → IsGreatest (members_short_strings c.members) (Some g) → image r.texts g ≡ Some k → has_from cap (members_short_strings (renumbered_members r c.members)) ≡ not b
   by_greatest g k cap true test order is to = none_far cap (members_short_strings (renumbered_members r c.members)) (λ j has. omega (arith, no_greater g k j order is to has, ltb-true k cap test))
-  by_greatest g k cap false test order is to = one_far cap (members_short_strings (renumbered_members r c.members)) k (leads_short r c.members g k is.0 to) test
+  by_greatest g k cap false test order is to = one_far cap (members_short_strings (renumbered_members r c.members)) k (maps_short r c.members g k is.0 to) test
 
   pub greatest_decides : (g k cap : ℕ) → KeepOrder r → IsGreatest (members_short_strings c.members) (Some g) → image r.texts g ≡ Some k → has_from cap (members_short_strings (renumbered_members r c.members)) ≡ not (nat_lt k cap)
   greatest_decides g k cap order is to = by_greatest g k cap (nat_lt k cap) refl order is to
@@ -117,7 +117,7 @@ module _ (r : Maps) (c : NumberedClass) (led : IsLedClass r c) where
 
 -- where there are no more texts than the cap, each number is below it
 pub few_texts : (m : Mentions) (cs : List NumberedClass) (cap : ℕ) → All (IsKnownClass m) cs → length m.texts ≤ cap → has_from cap (short_numbers cs) ≡ false
-few_texts m cs cap known few = none_far cap (short_numbers cs) (λ n has. let s = short_stands_for m cs known n has in omega (arith, s.1.within, few))
+few_texts m cs cap known few = none_far cap (short_numbers cs) (λ n has. let s = short_denotes_text m cs known n has in omega (arith, s.1.within, few))
 
 -- where one class names a text from the cap on, they do
 pub one_names : (cs : List NumberedClass) (i cap : ℕ) → i < length cs → has_from cap (members_short_strings (class_at cs i).members) ≡ true → has_from cap (short_numbers cs) ≡ true

@@ -5,9 +5,9 @@ use Rattle.std.specs.List.{AllZip, flat_map}
 use Rattle.dexspec.specs.Classes.{Definition}
 use Rattle.dexspec.specs.Files.{Collection, definitions}
 use Rattle.dexspec.specs.Mentions.{Mentions, mentions}
-use Rattle.dexpool.specs.Numberings.{AreRising, Maps, AllLead, union_of}
-use Rattle.dexpool.specs.Laws.{LeadsAll}
-use Rattle.dexclass.specs.Renumbering.{LeadInto}
+use Rattle.dexpool.specs.Numberings.{AreRising, Maps, AllMapTo, union_of}
+use Rattle.dexpool.specs.Laws.{MapsAll}
+use Rattle.dexclass.specs.Renumbering.{MapsAllInto}
 use Rattle.dexmerge.specs.internal.Unions.{IsJoined}
 
 abbrev own : Bor Collection → Mentions
@@ -26,12 +26,12 @@ flat_are [] = refl
 flat_are (K ∷ Ks) = ap (λ (l : List Definition). definitions K ++ l) (flat_are Ks)
 
 -- each part is mapped into the whole
-all_lead : (parts : List (Bor Collection)) (m : Mentions) (remaps : List Maps) → AllZip (λ n r. AllLead n m r) (map own parts) remaps → AllZip LeadsAll (map own parts) remaps
-    → AllZip (λ part r. LeadInto (mentions (definitions part)) m r) (map now_of parts) remaps
-all_lead [] m [] f g = tt
-all_lead [] m (r ∷ rs) f g = absurd f
-all_lead (p ∷ ps) m [] f g = absurd f
-all_lead (p ∷ ps) m (r ∷ rs) f g = (record { lead = f.0; all = g.0 }, all_lead ps m rs f.1 g.1)
+all_map_to : (parts : List (Bor Collection)) (m : Mentions) (remaps : List Maps) → AllZip (λ n r. AllMapTo n m r) (map own parts) remaps → AllZip MapsAll (map own parts) remaps
+    → AllZip (λ part r. MapsAllInto (mentions (definitions part)) m r) (map now_of parts) remaps
+all_map_to [] m [] f g = tt
+all_map_to [] m (r ∷ rs) f g = absurd f
+all_map_to (p ∷ ps) m [] f g = absurd f
+all_map_to (p ∷ ps) m (r ∷ rs) f g = (record { are_mapped = f.0; all = g.0 }, all_map_to ps m rs f.1 g.1)
 
 zip_length : {A B : Type 0} (R : A → B → Type 0) (xs : List A) (ys : List B) → AllZip R xs ys → length ys ≡ length xs
 zip_length R [] [] h = refl
@@ -40,15 +40,15 @@ zip_length R (x ∷ xs) [] h = absurd h
 zip_length R (x ∷ xs) (y ∷ ys) h = ap suc (zip_length R xs ys h.1)
 
 pub joined_is : (parts : List (Bor Collection)) (ms : List Mentions) (m : Mentions) (remaps : List Maps) → ms ≡ map own parts → m ≡ union_of ms → AreRising m
-    → ((lists : List (List Definition)) → mentions (flat_map (λ (l : List Definition). l) lists) ≡ union_of (map mentions lists)) → AllZip (λ n r. AllLead n m r) ms remaps → AllZip LeadsAll ms remaps → IsJoined (map now_of parts) m remaps
-joined_is parts ms m remaps given union rising law lead whole =
+    → ((lists : List (List Definition)) → mentions (flat_map (λ (l : List Definition). l) lists) ≡ union_of (map mentions lists)) → AllZip (λ n r. AllMapTo n m r) ms remaps → AllZip MapsAll ms remaps → IsJoined (map now_of parts) m remaps
+joined_is parts ms m remaps given union rising law are_mapped whole =
     let Ks = map now_of parts in
-    let zip = all_lead parts m remaps (subst (λ (l : List Mentions). AllZip (λ n r. AllLead n m r) l remaps) given lead) (subst (λ (l : List Mentions). AllZip LeadsAll l remaps) given whole) in
+    let zip = all_map_to parts m remaps (subst (λ (l : List Mentions). AllZip (λ n r. AllMapTo n m r) l remaps) given are_mapped) (subst (λ (l : List Mentions). AllZip MapsAll l remaps) given whole) in
     record {
       mentions_are = union ∙ ap union_of given ∙ ap union_of (sym (lists_are parts)) ∙ sym (law (map definitions Ks)) ∙ ap mentions (flat_are Ks);
       rising = rising;
-      count = zip_length (λ part r. LeadInto (mentions (definitions part)) m r) Ks remaps zip;
-      lead = zip;
+      count = zip_length (λ part r. MapsAllInto (mentions (definitions part)) m r) Ks remaps zip;
+      are_mapped = zip;
     }
 
 -- one borrowed part more

@@ -17,10 +17,10 @@ use Rattle.dexspec.proofs.merge.Growth.{mentions-same}
 use Rattle.dexspec.proofs.lists.Members.{Contains-nil, Contains-first, Contains-later, Contains-cons_cases, Contains-flat_map}
 use Rattle.dexspec.proofs.lists.Searches.{once_of}
 use Rattle.dexspec.proofs.size.SizeClasses.{mentions-cover}
-use Rattle.dexpool.specs.Numberings.{Maps, AllLead}
+use Rattle.dexpool.specs.Numberings.{Maps, AllMapTo}
 use Rattle.dexpool.specs.Orderly.{KeepOrder}
-use Rattle.dexpool.specs.Uses.{IsLedUse}
-use Rattle.dexinsn.specs.Fitting.{ImagesFit, IsGreatest, IsNotTooLarge, LeadsShort}
+use Rattle.dexpool.specs.Uses.{IsMappedUse}
+use Rattle.dexinsn.specs.Fitting.{ImagesFit, IsGreatest, IsNotTooLarge, MapsShort}
 use Rattle.dexmembers.specs.Numbered.{NumberedMembers}
 use Rattle.dexmembers.specs.Uses.{members_uses}
 use Rattle.dexmembers.specs.Fitting.{members_short_strings}
@@ -29,9 +29,9 @@ use Rattle.dexmembers.proofs.RenumberingLists.{all_right}
 use Rattle.dexclass.specs.Numbered.{NumberedClass, definition_of}
 use Rattle.dexclass.specs.Uses.{IsKnownClass, type_use, text_use, type_numbers, text_numbers}
 use Rattle.dexclass.specs.Renumbering.{renumbered, ClassHasPlaces, StaysSame}
-use Rattle.dexmerge.specs.internal.Gathering.{IsPartOf}
-use Rattle.dexmerge.proofs.PartMembers.{KeepMeaning, LeadClasses, led_class}
-use Rattle.dexmerge.proofs.ShortStrings.{leads_short, short_stands_for, rank_is}
+use Rattle.dexmerge.specs.internal.Collecting.{IsPartOf}
+use Rattle.dexmerge.proofs.PartMembers.{KeepMeaning, MapClasses, remapped_class}
+use Rattle.dexmerge.proofs.ShortStrings.{maps_short, short_denotes_text, rank_is}
 
 -- ---- the greatest of numbers
 
@@ -48,23 +48,23 @@ greatest_is (n ∷ ns) = let rest = greatest_is ns in one_more n ns rest.0 rest.
 
 -- ---- maps of a join
 
-keep_order : (m n : Mentions) (r : Maps) → AllLead m n r → KeepOrder r
+keep_order : (m n : Mentions) (r : Maps) → AllMapTo m n r → KeepOrder r
 keep_order m n r l = record {
-  texts_keep = l.texts_lead.rising;
-  types_keep = l.types_lead.rising;
-  protos_keep = l.protos_lead.rising;
-  fields_keep = l.fields_lead.rising;
-  methods_keep = l.methods_lead.rising;
+  texts_keep = l.texts_mapped.rising;
+  types_keep = l.types_mapped.rising;
+  protos_keep = l.protos_mapped.rising;
+  fields_keep = l.fields_mapped.rising;
+  methods_keep = l.methods_mapped.rising;
 }
 
 -- maps into a numbering that is not too large map to numbers that fit
 abbrev pub MapsFit : Type 0
-MapsFit = (m n : Mentions) (r : Maps) → AllLead m n r → IsNotTooLarge n → ImagesFit r
+MapsFit = (m n : Mentions) (r : Maps) → AllMapTo m n r → IsNotTooLarge n → ImagesFit r
 
 -- where the greatest short string maps to a number that is low enough, each number of members maps to one that fits its
 -- place
 abbrev pub MembersFit : Type 0
-MembersFit = (r : Maps) (x : NumberedMembers) (greatest : Option ℕ) → KeepOrder r → ImagesFit r → IsGreatest (members_short_strings x) greatest → LeadsShort r greatest → All (IsLedUse r) (members_uses x) → MembersHavePlaces r x
+MembersFit = (r : Maps) (x : NumberedMembers) (greatest : Option ℕ) → KeepOrder r → ImagesFit r → IsGreatest (members_short_strings x) greatest → MapsShort r greatest → All (IsMappedUse r) (members_uses x) → MembersHavePlaces r x
 
 -- what definitions weigh bounds the number of texts that they mention
 texts_weigh : (E : List Definition) → 4 * length (mentions E).texts ≤ weight E
@@ -85,7 +85,7 @@ not_too_large m D own good =
       methods_few = omega (arith, good.fits.methods, ap (λ (n : Mentions). length n.methods) own);
     }
 
-module _ (maps_fit : MapsFit) (members_fit : MembersFit) (keep : KeepMeaning) (leads : LeadClasses) (m : Mentions) (K : Collection) (r : Maps) (p : IsPartOf m K r) where
+module _ (maps_fit : MapsFit) (members_fit : MembersFit) (keep : KeepMeaning) (maps_to : MapClasses) (m : Mentions) (K : Collection) (r : Maps) (p : IsPartOf m K r) where
   abbrev own : Mentions
   own = mentions (definitions K)
 
@@ -94,7 +94,7 @@ module _ (maps_fit : MapsFit) (members_fit : MembersFit) (keep : KeepMeaning) (l
     to = renumbered r c
 
     stays : StaysSame own m r c
-    stays = keep own m r c p.lead.lead (led_class leads K r c p.lead.all known) known
+    stays = keep own m r c p.are_mapped.are_mapped (remapped_class maps_to K r c p.are_mapped.all known) known
 
     -- remapped, it denotes a definition of the whole
     is_within : AreWithin (map (definition_of m) (to ∷ [])) p.whole
@@ -106,22 +106,22 @@ module _ (maps_fit : MapsFit) (members_fit : MembersFit) (keep : KeepMeaning) (l
     -- the text of a const-string has a number of 16 bits
     short_below : (j : ℕ) → Contains (members_short_strings to.members) j → j < 2 ^ 16
     short_below j in_class =
-        let f = short_stands_for m (to ∷ []) (All-cons (IsKnownClass m) to [] stays.known (All-nil (IsKnownClass m))) j
+        let f = short_denotes_text m (to ∷ []) (All-cons (IsKnownClass m) to [] stays.known (All-nil (IsKnownClass m))) j
         (Contains-flat_map (λ (x : NumberedClass). members_short_strings x.members) (to ∷ []) to j (Contains-first to []) in_class) in
         let low : rank text_cmp f.0 (mentions p.whole).texts < 65536 = p.good.fits.short_strings f.0 (HasShortString-within (map (definition_of m) (to ∷ [])) p.whole is_within f.0 f.2) in
         let is : rank text_cmp f.0 (mentions p.whole).texts ≡ j = ap (λ (n : Mentions). rank text_cmp f.0 n.texts) (sym p.mentions_are) ∙ rank_is m p.rising j f.0 f.1 in
         omega (arith, low, is)
 
     -- no short string maps to a number that is too large
-    leads_low : (g : Option ℕ) → IsGreatest (members_short_strings c.members) g → LeadsShort r g
-    leads_low None is = tt
-    leads_low (Some g) is = λ j there. short_below j (leads_short r c.members g j is.0 there)
+    maps_low : (g : Option ℕ) → IsGreatest (members_short_strings c.members) g → MapsShort r g
+    maps_low None is = tt
+    maps_low (Some g) is = λ j there. short_below j (maps_short r c.members g j is.0 there)
 
     -- each number of the class has its place
     pub places_by : ClassHasPlaces r c
     places_by =
         let x : NumberedMembers = c.members in
         let g = greatest_is (members_short_strings x) in
-        let all = led_class leads K r c p.lead.all known in
-        let uses : All (IsLedUse r) (members_uses x) = all_right (IsLedUse r) (map text_use (text_numbers c)) (members_uses x) (all_right (IsLedUse r) (map type_use (type_numbers c)) (map text_use (text_numbers c) ++ members_uses x) all) in
-        members_fit r x g.0 (keep_order own m r p.lead.lead) (maps_fit own m r p.lead.lead (not_too_large m p.whole p.mentions_are p.good)) g.1 (leads_low g.0 g.1) uses
+        let all = remapped_class maps_to K r c p.are_mapped.all known in
+        let uses : All (IsMappedUse r) (members_uses x) = all_right (IsMappedUse r) (map text_use (text_numbers c)) (members_uses x) (all_right (IsMappedUse r) (map type_use (type_numbers c)) (map text_use (text_numbers c) ++ members_uses x) all) in
+        members_fit r x g.0 (keep_order own m r p.are_mapped.are_mapped) (maps_fit own m r p.are_mapped.are_mapped (not_too_large m p.whole p.mentions_are p.good)) g.1 (maps_low g.0 g.1) uses

@@ -1,7 +1,7 @@
 pub mod Marked
 pub mod PlanForms
 pub mod PartMembers
-pub mod Unlike
+pub mod ConflictLaws
 pub mod CandidatePlaces
 pub mod CycleLaws
 pub mod Weighing
@@ -12,7 +12,7 @@ pub mod ShortStrings
 pub mod FarTexts
 pub mod Counting
 pub mod JoinedPlaces
-pub mod Gathered
+pub mod Collected
 pub mod JoinLaws
-pub mod PlanJudged
+pub mod PlanChecked
 pub mod PlannedLaws

@@ -7,7 +7,7 @@ use Rattle.std.proofs.lemmas.List.Elements.{All-append, Contains-append_left, Co
 use Rattle.dexspec.proofs.lists.Members.{Contains-nil, Contains-cons_cases}
 use Rattle.dexspec.specs.Merging.{Plan, Node, leaves, all_leaves, plan_depth, plans_depth}
 use Rattle.dexmerge.specs.Plans.{plans_of}
-use Rattle.dexmerge.specs.internal.Judging.{AreMarkedBy, IsMarkedBy, IsNoPlan}
+use Rattle.dexmerge.specs.internal.UnionChecks.{AreMarkedBy, IsMarkedBy, IsNoPlan}
 
 -- the parts are less deep, name only files that there are, and just these are marked beside those that were
 pub record ArePartsMarked (parts : List Plan) (depth : ℕ) (old new : List Bool) : Type 0 where

@@ -15,14 +15,14 @@ use Rattle.dexspec.proofs.merge.Absorption.{IsGood-within}
 use Rattle.dexpool.specs.Numberings.{AreRising, AreIn, Maps}
 use Rattle.dexclass.specs.Numbered.{NumberedClass, type_at, definition_of}
 use Rattle.dexclass.specs.Parents.{no_class, name_number, ArePlaces, AreDepthsByName}
-use Rattle.dexclass.specs.Renumbering.{renumbered, LeadInto, IsPartClass}
+use Rattle.dexclass.specs.Renumbering.{renumbered, MapsAllInto, IsPartClass}
 use Rattle.dexmerge.specs.Faults.{IsOfCap}
 use Rattle.dexmerge.specs.declared.candidates.Candidate.{Candidate}
-use Rattle.dexmerge.specs.Candidates.{AreMembers, IsOfPart, IsAlike, IsLeastUnlike, kept_classes, class_of, classes_of, class_at}
+use Rattle.dexmerge.specs.Candidates.{AreMembers, IsOfPart, IsEqualCopy, IsFirstConflict, kept_classes, class_of, classes_of, class_at}
 use Rattle.dexmerge.specs.internal.Cycles.{AreKept, AreAcyclic, IsFirstCycle}
 use Rattle.dexmerge.specs.internal.Amounts.{first_over}
 use Rattle.dexmerge.specs.internal.Unions.{AreCopies, AreOnce, IsJoined}
-use Rattle.dexmerge.proofs.UnionLaws.{AreTold, name_in, conflict_told, kept_members, kept_rise, are_kept, definitions_differ, consistent, cycle_told}
+use Rattle.dexmerge.proofs.UnionLaws.{AreDistinguished, name_in, conflict_reported, kept_members, kept_rise, are_kept, definitions_differ, consistent, cycle_reported}
 use Rattle.dexmerge.proofs.CapLaws.{found_cap}
 use Rattle.dexmerge.proofs.CycleLaws.{depths_same}
 
@@ -35,13 +35,13 @@ all_member : {X : Type 0} (P : X → Type 0) (xs : List X) (x : X) → All P xs 
 all_member P xs x all c = subst P c.2 (All-get_or P xs c.0 x c.1 all)
 
 -- the copies of joined parts
-pub are_copies : (parts : List Collection) (m : Mentions) (remaps : List Maps) (cs : List Candidate) → IsJoined parts m remaps → (AllZip (λ part remap. LeadInto (mentions (definitions part)) m remap) parts remaps → AreMembers m (flat_map definitions parts) (classes_of cs))
-    → (AllZip (λ part remap. LeadInto (mentions (definitions part)) m remap) parts remaps → All (IsOfPart m) cs) → AreCopies m (flat_map definitions parts) cs
-are_copies parts m remaps cs j members of_parts = record { mentions_are = j.mentions_are; rising = j.rising; of_parts = of_parts j.lead; members = members j.lead }
+pub are_copies : (parts : List Collection) (m : Mentions) (remaps : List Maps) (cs : List Candidate) → IsJoined parts m remaps → (AllZip (λ part remap. MapsAllInto (mentions (definitions part)) m remap) parts remaps → AreMembers m (flat_map definitions parts) (classes_of cs))
+    → (AllZip (λ part remap. MapsAllInto (mentions (definitions part)) m remap) parts remaps → All (IsOfPart m) cs) → AreCopies m (flat_map definitions parts) cs
+are_copies parts m remaps cs j members of_parts = record { mentions_are = j.mentions_are; rising = j.rising; of_parts = of_parts j.are_mapped; members = members j.are_mapped }
 
 -- classes of two numberings are equal once remapped if and only if they denote the same
-abbrev pub TellApart : Type 0
-TellApart = (m n whole : Mentions) (r s : Maps) (c d : NumberedClass) → AreRising whole → IsPartClass whole m r c → IsPartClass whole n s d → (renumbered r c ≡ renumbered s d) ↔ (definition_of m c ≡ definition_of n d)
+abbrev pub Distinguishes : Type 0
+Distinguishes = (m n whole : Mentions) (r s : Maps) (c d : NumberedClass) → AreRising whole → IsPartClass whole m r c → IsPartClass whole n s d → (renumbered r c ≡ renumbered s d) ↔ (definition_of m c ≡ definition_of n d)
 
 module _ (m : Mentions) (D : List Definition) (cs : List Candidate) (h : AreCopies m D cs) where
   abbrev Cs : List NumberedClass
@@ -52,35 +52,35 @@ module _ (m : Mentions) (D : List Definition) (cs : List Candidate) (h : AreCopi
   copy_names i d lt = (h.members.known i d lt).types_in 0 0 (omega arith)
 
   -- different classes denote different definitions
-  told_by : TellApart → (a b : Candidate) → IsOfPart m a → IsOfPart m b → definition_of m (class_of a) ≡ definition_of m (class_of b) → class_of a ≡ class_of b
-  told_by tell a b p q e = (tell p.part q.part m a.remap.now b.remap.now a.class.now b.class.now h.rising p.is q.is).1 (sym p.same ∙ e ∙ q.same)
+  distinguished_by : Distinguishes → (a b : Candidate) → IsOfPart m a → IsOfPart m b → definition_of m (class_of a) ≡ definition_of m (class_of b) → class_of a ≡ class_of b
+  distinguished_by report a b p q e = (report p.part q.part m a.remap.now b.remap.now a.class.now b.class.now h.rising p.is q.is).1 (sym p.same ∙ e ∙ q.same)
 
-  told_at : TellApart → (i j : ℕ) (d : Candidate) → i < length cs → j < length cs → definition_of m (class_at Cs i) ≡ definition_of m (class_at Cs j) → class_at Cs i ≡ class_at Cs j
-  told_at tell i j d li lj e =
+  reported_at : Distinguishes → (i j : ℕ) (d : Candidate) → i < length cs → j < length cs → definition_of m (class_at Cs i) ≡ definition_of m (class_at Cs j) → class_at Cs i ≡ class_at Cs j
+  reported_at report i j d li lj e =
       let at : class_at Cs i ≡ class_of (get_or cs i d) = get_or-map class_of cs i d no_class li in
       let to : class_at Cs j ≡ class_of (get_or cs j d) = get_or-map class_of cs j d no_class lj in
-      at ∙ told_by tell (get_or cs i d) (get_or cs j d) (h.of_parts i d li) (h.of_parts j d lj) (ap (definition_of m) (sym at) ∙ e ∙ ap (definition_of m) to) ∙ sym to
+      at ∙ distinguished_by report (get_or cs i d) (get_or cs j d) (h.of_parts i d li) (h.of_parts j d lj) (ap (definition_of m) (sym at) ∙ e ∙ ap (definition_of m) to) ∙ sym to
 
   -- where there is a class, there is a candidate
   some_candidate : (i : ℕ) → i < length Cs → Candidate
   some_candidate i lt = first_of cs (omega (arith, lt, length-map cs class_of))
 
-  told : TellApart → AreTold m Cs
-  told tell i j li lj e = told_at tell i j (some_candidate i li) (omega (arith, li, length-map cs class_of)) (omega (arith, lj, length-map cs class_of)) e
+  distinguished : Distinguishes → AreDistinguished m Cs
+  distinguished report i j li lj e = reported_at report i j (some_candidate i li) (omega (arith, li, length-map cs class_of)) (omega (arith, lj, length-map cs class_of)) e
 
   module _ (places : List (Option ℕ)) (p : ArePlaces Cs places) where
     -- a conflict
-    pub copies_conflict : TellApart → (caps : Caps) (name : ℕ) → IsLeastUnlike Cs places name → IsFirstCause caps D (Conflict (type_at m name))
-    copies_conflict tell caps name l = first_cause-same caps (map (definition_of m) Cs) D (Conflict (type_at m name)) h.members.same (conflict_told m h.rising Cs h.members.known places p (told tell) caps name l)
+    pub copies_conflict : Distinguishes → (caps : Caps) (name : ℕ) → IsFirstConflict Cs places name → IsFirstCause caps D (Conflict (type_at m name))
+    copies_conflict report caps name l = first_cause-same caps (map (definition_of m) Cs) D (Conflict (type_at m name)) h.members.same (conflict_reported m h.rising Cs h.members.known places p (distinguished report) caps name l)
 
     -- the name of a conflict is a type
-    pub conflict_name : (name : ℕ) → IsLeastUnlike Cs places name → name < length m.types
+    pub conflict_name : (name : ℕ) → IsFirstConflict Cs places name → name < length m.types
     conflict_name name l = subst (λ (n : ℕ). n < length m.types) l.is.name_is (name_in m h.rising Cs h.members.known l.is.place l.is.within)
 
     -- one of each name
-    pub copies_once : (ks : List Candidate) → classes_of ks ≡ kept_classes Cs places → AreIn ks cs → ((i : ℕ) → i < length Cs → IsAlike Cs places i) → AreOnce m D ks
-    copies_once ks are within alike =
-        let members = kept_members m h.rising Cs h.members.known places p D h.members alike in
+    pub copies_once : (ks : List Candidate) → classes_of ks ≡ kept_classes Cs places → AreIn ks cs → ((i : ℕ) → i < length Cs → IsEqualCopy Cs places i) → AreOnce m D ks
+    copies_once ks are within equivalent =
+        let members = kept_members m h.rising Cs h.members.known places p D h.members equivalent in
         record {
           copies = record {
             mentions_are = h.mentions_are;
@@ -112,12 +112,12 @@ module _ (m : Mentions) (D : List Definition) (cs : List Candidate) (h : AreOnce
 
   -- a cycle
   pub once_cycle : (caps : Caps) (i : ℕ) → IsFirstCycle m Ks i → IsFirstCause caps D (Cycle (type_at m (name_number Ks i)))
-  once_cycle caps i f = first_cause-same caps E D (Cycle (type_at m (name_number Ks i))) same (cycle_told m h.copies.rising Ks h.copies.members.known h.kept.rise caps i f)
+  once_cycle caps i f = first_cause-same caps E D (Cycle (type_at m (name_number Ks i))) same (cycle_reported m h.copies.rising Ks h.copies.members.known h.kept.rise caps i f)
 
   -- the first cap, if one is exceeded
   by_cap : (caps : Caps) (found : Option ℕ) → MatchOption found (IsGood caps E) (IsOfCap (IsFirstCause caps E)) → MatchOption found (IsGood caps D) (IsOfCap (IsFirstCause caps D))
   by_cap caps None good = IsGood-within D E (λ d. (same d).1) caps good
-  by_cap caps (Some n) told = record { cap = told.cap; number_is = told.number_is; holds = first_cause-same caps E D _ same told.holds }
+  by_cap caps (Some n) distinguished = record { cap = distinguished.cap; number_is = distinguished.number_is; holds = first_cause-same caps E D _ same distinguished.holds }
 
   pub once_cap : (caps : Caps) (found : Option ℕ) → AreAcyclic m Ks → found ≡ first_over caps m Ks → MatchOption found (IsGood caps D) (IsOfCap (IsFirstCause caps D))
   once_cap caps found acyclic is = by_cap caps found (found_cap caps m Ks once_apart once_own h.copies.rising h.copies.members.known one_each acyclic found is)

@@ -17,12 +17,12 @@ use Rattle.dexspec.proofs.merge.Growth.{mentions-rising}
 use Rattle.dexspec.proofs.lists.InOrder.{rises-from_Rises}
 use Rattle.dexspec.proofs.normal.ClassOrder.{definitions-distinct}
 use Rattle.dexspec.proofs.normal.ClassPlaces.{in_class_order-only, in_class_order-has}
-use Rattle.dexpool.specs.Numberings.{AreRising, Maps, AllLead}
-use Rattle.dexpool.specs.Laws.{LeadsAll}
+use Rattle.dexpool.specs.Numberings.{AreRising, Maps, AllMapTo}
+use Rattle.dexpool.specs.Laws.{MapsAll}
 use Rattle.dexclass.specs.Numbered.{NumberedClass, definition_of}
 use Rattle.dexclass.specs.Uses.{IsKnownClass}
 use Rattle.dexclass.specs.Programs.{AreClassesOf}
-use Rattle.dexclass.specs.Renumbering.{renumbered, LeadInto, IsLedClass, StaysSame}
+use Rattle.dexclass.specs.Renumbering.{renumbered, MapsAllInto, IsMappedClass, StaysSame}
 use Rattle.dexmerge.specs.Candidates.{AreMembers, IsOfPart}
 use Rattle.dexmerge.specs.declared.candidates.Candidate.{Candidate}
 
@@ -43,11 +43,11 @@ no_members m = record {
 
 -- classes of which each symbol maps to the same one denote the same
 abbrev pub KeepMeaning : Type 0
-KeepMeaning = (m n : Mentions) (r : Maps) (c : NumberedClass) → AllLead m n r → IsLedClass r c → IsKnownClass m c → StaysSame m n r c
+KeepMeaning = (m n : Mentions) (r : Maps) (c : NumberedClass) → AllMapTo m n r → IsMappedClass r c → IsKnownClass m c → StaysSame m n r c
 
 -- where all symbols have images, those of a class do
-abbrev pub LeadClasses : Type 0
-LeadClasses = (m : Mentions) (r : Maps) (c : NumberedClass) → AreRising m → LeadsAll m r → IsKnownClass m c → IsLedClass r c
+abbrev pub MapClasses : Type 0
+MapClasses = (m : Mentions) (r : Maps) (c : NumberedClass) → AreRising m → MapsAll m r → IsKnownClass m c → IsMappedClass r c
 
 -- what is mentioned rises
 pub mentions_rise : (D : List Definition) → AreRising (mentions D)
@@ -62,24 +62,24 @@ mentions_rise D =
     }
 
 -- of a class of a part each symbol has an image
-pub led_class : LeadClasses → (K : Collection) (r : Maps) (c : NumberedClass) → LeadsAll (mentions (definitions K)) r → IsKnownClass (mentions (definitions K)) c → IsLedClass r c
-led_class leads K r c all known = leads (mentions (definitions K)) r c (mentions_rise (definitions K)) all known
+pub remapped_class : MapClasses → (K : Collection) (r : Maps) (c : NumberedClass) → MapsAll (mentions (definitions K)) r → IsKnownClass (mentions (definitions K)) c → IsMappedClass r c
+remapped_class maps_to K r c all known = maps_to (mentions (definitions K)) r c (mentions_rise (definitions K)) all known
 
-module _ (keep : KeepMeaning) (leads : LeadClasses) (m : Mentions) (K : Collection) (r : Maps) (lead : LeadInto (mentions (definitions K)) m r) where
+module _ (keep : KeepMeaning) (maps_to : MapClasses) (m : Mentions) (K : Collection) (r : Maps) (are_mapped : MapsAllInto (mentions (definitions K)) m r) where
   abbrev own : Mentions
   own = mentions (definitions K)
 
   -- a class of the part stays the same
   stays : (c : NumberedClass) → IsKnownClass own c → StaysSame own m r c
-  stays c known = keep own m r c lead.lead (led_class leads K r c lead.all known) known
+  stays c known = keep own m r c are_mapped.are_mapped (remapped_class maps_to K r c are_mapped.all known) known
 
   -- one part more
   pub members_more : (D : List Definition) (cs ps : List NumberedClass) → AreMembers m D cs → AreClassesOf K ps → AreWellFormed (definitions K) → AreMembers m (D ++ definitions K) (cs ++ map (renumbered r) ps)
   members_more D cs ps h are formed =
-      let led : map (definition_of m) (map (renumbered r) ps) ≡ in_class_order (definitions K) =
+      let remapped : map (definition_of m) (map (renumbered r) ps) ≡ in_class_order (definitions K) =
       same_each (definition_of m) (renumbered r) (definition_of own) (IsKnownClass own) ps are.known (λ c known. (stays c known).same) ∙ are.are in
       let all : map (definition_of m) (cs ++ map (renumbered r) ps) ≡ map (definition_of m) cs ++ in_class_order (definitions K) =
-      map-append (definition_of m) cs (map (renumbered r) ps) ∙ ap (λ (l : List Definition). map (definition_of m) cs ++ l) led in
+      map-append (definition_of m) cs (map (renumbered r) ps) ∙ ap (λ (l : List Definition). map (definition_of m) cs ++ l) remapped in
       record {
         known = All-append (IsKnownClass m) cs (map (renumbered r) ps) h.known (All-map (IsKnownClass m) (renumbered r) ps (λ i d lt. (stays (get_or ps i d) (are.known i d lt)).known));
         same = λ d. (
@@ -100,14 +100,14 @@ pub class_known : (K : Collection) (ps : List NumberedClass) (c : NumberedClass)
 class_known K ps c are has = subst (IsKnownClass (mentions (definitions K))) has.2 (are.known has.0 c has.1)
 
 -- a class of a part, and maps of the part into the whole
-pub of_part : KeepMeaning → LeadClasses → (m : Mentions) (K : Collection) (c : Candidate) → LeadInto (mentions (definitions K)) m c.remap.now → IsKnownClass (mentions (definitions K)) c.class.now → IsOfPart m c
-of_part keep leads m K c lead known =
+pub of_part : KeepMeaning → MapClasses → (m : Mentions) (K : Collection) (c : Candidate) → MapsAllInto (mentions (definitions K)) m c.remap.now → IsKnownClass (mentions (definitions K)) c.class.now → IsOfPart m c
+of_part keep maps_to m K c are_mapped known =
     let own = mentions (definitions K) in
     record {
       part = own;
       rising = mentions_rise (definitions K);
-      is = record { lead = lead.lead; led = led_class leads K c.remap.now c.class.now lead.all known; known = known };
-      same = (stays keep leads m K c.remap.now lead c.class.now known).same;
+      is = record { are_mapped = are_mapped.are_mapped; remapped = remapped_class maps_to K c.remap.now c.class.now are_mapped.all known; known = known };
+      same = (stays keep maps_to m K c.remap.now are_mapped c.class.now known).same;
     }
 
 -- the definitions of one part more
@@ -127,7 +127,7 @@ pub part_at : (parts : List (Bor Collection)) (i : ℕ) (d : Bor Collection) →
 part_at parts i d lt e = ap (λ (p : Bor Collection). p.now) e ∙ sym (get_or-map (λ (p : Bor Collection). p.now) parts i d d.now lt)
 
 -- the maps at a place map the part there into the whole
-pub lead_at : (m : Mentions) (Ks : List Collection) (remaps : List Maps) (i : ℕ) (K : Collection) (r : Maps) → i < length Ks → K ≡ get_or Ks i K → r ≡ get_or remaps i r → AllZip (λ part remap. LeadInto (mentions (definitions part)) m remap) Ks remaps → LeadInto (mentions (definitions K)) m r
-lead_at m Ks remaps i K r lt at to zip =
-    let lead : LeadInto (mentions (definitions (get_or Ks i K))) m (get_or remaps i r) = zip_at (λ part remap. LeadInto (mentions (definitions part)) m remap) Ks remaps i K r zip lt in
-    subst (λ (L : Collection). LeadInto (mentions (definitions L)) m r) (sym at) (subst (LeadInto (mentions (definitions (get_or Ks i K))) m) (sym to) lead)
+pub mapped_at : (m : Mentions) (Ks : List Collection) (remaps : List Maps) (i : ℕ) (K : Collection) (r : Maps) → i < length Ks → K ≡ get_or Ks i K → r ≡ get_or remaps i r → AllZip (λ part remap. MapsAllInto (mentions (definitions part)) m remap) Ks remaps → MapsAllInto (mentions (definitions K)) m r
+mapped_at m Ks remaps i K r lt at to zip =
+    let are_mapped : MapsAllInto (mentions (definitions (get_or Ks i K))) m (get_or remaps i r) = zip_at (λ part remap. MapsAllInto (mentions (definitions part)) m remap) Ks remaps i K r zip lt in
+    subst (λ (L : Collection). MapsAllInto (mentions (definitions L)) m r) (sym at) (subst (MapsAllInto (mentions (definitions (get_or Ks i K))) m) (sym to) are_mapped)

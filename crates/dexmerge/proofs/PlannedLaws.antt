@@ -16,16 +16,16 @@ use Rattle.dexmerge.specs.declared.faults.MergeFault.{MergeFault}
 use Rattle.dexmerge.specs.declared.faults.MergeFault.TheVariants as fault
 use Rattle.dexmerge.proofs.Marked.{part_leaves}
 use Rattle.dexmerge.specs.Plans.{plans_of}
-use Rattle.dexmerge.specs.Faults.{IsMerged, Tells, planned}
+use Rattle.dexmerge.specs.Faults.{IsMerged, Reports, planned}
 use Rattle.dexmerge.specs.internal.Parts.{files_in, nodes_in, of_files, of_plans, AreKnown, IsCauseOf}
 
 -- ---- what faults report
 
-pub tells_other : (P Q : Cause → Type 0) → ((cause : Cause) → P cause → Q cause) → (f : MergeFault) → Tells P f → Tells Q f
-tells_other P Q h (fault.Conflict name) x = h (merging.Conflict name) x
-tells_other P Q h (fault.Cycle name) x = h (merging.Cycle name) x
-tells_other P Q h (fault.Cap number) x = record { cap = x.cap; number_is = x.number_is; holds = h (merging.Exceeded x.cap) x.holds }
-tells_other P Q h fault.Memory x = tt
+pub reports_other : (P Q : Cause → Type 0) → ((cause : Cause) → P cause → Q cause) → (f : MergeFault) → Reports P f → Reports Q f
+reports_other P Q h (fault.Conflict name) x = h (merging.Conflict name) x
+reports_other P Q h (fault.Cycle name) x = h (merging.Cycle name) x
+reports_other P Q h (fault.Cap number) x = record { cap = x.cap; number_is = x.number_is; holds = h (merging.Exceeded x.cap) x.holds }
+reports_other P Q h fault.Memory x = tt
 
 -- ---- definitions of the same members
 
@@ -35,8 +35,8 @@ merged_same caps D E K same h = record {
   collection = λ name c. (λ e. (same (name, c)).0 ((h.collection name c).0 e), λ has. (h.collection name c).1 ((same (name, c)).1 has));
 }
 
-pub tells_same : (caps : Caps) (D E : List Definition) (f : MergeFault) → AreSame D E → Tells (IsFirstCause caps D) f → Tells (IsFirstCause caps E) f
-tells_same caps D E f same = tells_other (IsFirstCause caps D) (IsFirstCause caps E) (λ cause x. first_cause-same caps D E cause same x) f
+pub reports_same : (caps : Caps) (D E : List Definition) (f : MergeFault) → AreSame D E → Reports (IsFirstCause caps D) f → Reports (IsFirstCause caps E) f
+reports_same caps D E f same = reports_other (IsFirstCause caps D) (IsFirstCause caps E) (λ cause x. first_cause-same caps D E cause same x) f
 
 -- ---- the parts of a node
 
@@ -100,15 +100,15 @@ module _ (files : List Collection) where
   no_leaves (Node rs ∷ ps) qs has never = never
 
   -- the cause of a node among the parts is one of the whole
-  pub part_tells : (caps : Caps) (ps : List Plan) (qs : merging.Plans) (f : MergeFault) → Contains ps (Node qs) → Tells (IsCauseOf caps files (Node qs)) f → Tells (IsCauseOf caps files (Node (plans_of ps))) f
-  part_tells caps ps qs f has = tells_other (IsCauseOf caps files (Node qs)) (IsCauseOf caps files (Node (plans_of ps))) (λ cause x. record {
+  pub part_reports : (caps : Caps) (ps : List Plan) (qs : merging.Plans) (f : MergeFault) → Contains ps (Node qs) → Reports (IsCauseOf caps files (Node qs)) f → Reports (IsCauseOf caps files (Node (plans_of ps))) f
+  part_reports caps ps qs f has = reports_other (IsCauseOf caps files (Node qs)) (IsCauseOf caps files (Node (plans_of ps))) (λ cause x. record {
     holds = IsCause-within (planned files (Node qs)) (planned files (Node (plans_of ps))) (part_within ps (Node qs) has) caps cause x.holds;
     first = λ flat. absurd (no_leaves ps qs has flat);
   }) f
 
   -- the first cause is a cause
-  pub first_tells : (caps : Caps) (p : Plan) (f : MergeFault) → Tells (IsFirstCause caps (planned files p)) f → Tells (IsCauseOf caps files p) f
-  first_tells caps p f = tells_other (IsFirstCause caps (planned files p)) (IsCauseOf caps files p) (λ cause x. record { holds = x.is; first = λ flat. x }) f
+  pub first_reports : (caps : Caps) (p : Plan) (f : MergeFault) → Reports (IsFirstCause caps (planned files p)) f → Reports (IsCauseOf caps files p) f
+  first_reports caps p f = reports_other (IsFirstCause caps (planned files p)) (IsCauseOf caps files p) (λ cause x. record { holds = x.is; first = λ flat. x }) f
 
   -- ---- part by part
 

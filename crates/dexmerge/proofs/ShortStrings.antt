@@ -24,11 +24,11 @@ use Rattle.dexpool.specs.declared.symbols.SymbolKind.TheVariants as kinds
 use Rattle.dexpool.specs.Numberings.{IsAt, AreRising, Maps, image, image_of}
 use Rattle.dexinsn.specs.Fitting.{is_text, is_short_string, short_string, HasConstString}
 use Rattle.dexinsn.specs.Numbered.{NumberedPiece, Instruction, Payload, kind_in, renumbered_piece}
-use Rattle.dexinsn.proofs.Fits.{short_named, short_stands}
+use Rattle.dexinsn.proofs.Fits.{short_named, short_denoted}
 use Rattle.dexcode.specs.Numbered.{NumberedItem}
 use Rattle.dexcode.specs.Meaning.{code_in, IsKnownCode}
 use Rattle.dexcode.specs.Renumbering.{renumbered_item}
-use Rattle.dexcode.proofs.Meanings.{code_stands}
+use Rattle.dexcode.proofs.Meanings.{code_encoded}
 use Rattle.dexmembers.specs.Numbered.{NumberedMethod, NumberedMembers, methods_of, method_in, IsKnownMethod, AreKnownMembers}
 use Rattle.dexmembers.specs.Renumbering.{renumbered_method, renumbered_members}
 use Rattle.dexmembers.specs.Fitting.{code_short_strings, method_short_strings, members_short_strings}
@@ -82,14 +82,14 @@ module _ (m : Mentions) (cs : List NumberedClass) (known : All (IsKnownClass m) 
       let k : NumberedItem = code.0 in
       let own : IsKnownCode m k = known_code m y k (known_one (IsKnownMethod m) (methods_of c.members) y (known_methods m c.members (known_one (IsKnownClass m) cs c known class.1).members_known) method.1) code.1 in
       let named : HasConstString (code_in m k).pieces s = record { units = h.units; piece = subst (λ (x : Code). Contains x.pieces (symbolic.Instruction h.units (Some (TextSymbol s)))) (sym code.2) h.piece; short = h.short } in
-      let f = short_named m k.body.pieces (code_in m k).pieces s (code_stands m k own).pieces_are named in
+      let f = short_named m k.body.pieces (code_in m k).pieces s (code_encoded m k own).pieces_are named in
       let in_method : Contains (method_short_strings y) f.0 = subst (λ (o : Option NumberedItem). Contains (flat_map code_short_strings (option_to_list o)) f.0) (sym code.1) (Contains-flat_map code_short_strings (k ∷ []) k f.0 (Contains-first k []) f.1) in
       let in_class : Contains (members_short_strings c.members) f.0 = Contains-flat_map method_short_strings (methods_of c.members) y f.0 method.1 in_method in
       (f.0, Contains-flat_map (λ (x : NumberedClass). members_short_strings x.members) cs c f.0 class.1 in_class, f.2)
 
   -- and each number is that of such a text
-  pub short_stands_for : (n : ℕ) → Contains (short_numbers cs) n → (s : Text) × IsAt m.texts n s × HasShortString (map (definition_of m) cs) s
-  short_stands_for n has =
+  pub short_denotes_text : (n : ℕ) → Contains (short_numbers cs) n → (s : Text) × IsAt m.texts n s × HasShortString (map (definition_of m) cs) s
+  short_denotes_text n has =
       let class = Contains-flat_map_source (λ (x : NumberedClass). members_short_strings x.members) cs n has in
       let c : NumberedClass = class.0 in
       let method = Contains-flat_map_source method_short_strings (methods_of c.members) n class.2 in
@@ -98,7 +98,7 @@ module _ (m : Mentions) (cs : List NumberedClass) (known : All (IsKnownClass m) 
       let k : NumberedItem = code.0 in
       let is : y.code ≡ Some k = option_source y.code k code.1 in
       let own : IsKnownCode m k = known_code m y k (known_one (IsKnownMethod m) (methods_of c.members) y (known_methods m c.members (known_one (IsKnownClass m) cs c known class.1).members_known) method.1) is in
-      let f = short_stands m k.body.pieces (code_in m k).pieces n (code_stands m k own).pieces_are code.2 in
+      let f = short_denoted m k.body.pieces (code_in m k).pieces n (code_encoded m k own).pieces_are code.2 in
       let named : HasConstString (code_in m k).pieces f.0 = f.2 in (
         f.0,
         f.1,
@@ -122,8 +122,8 @@ rank_is m rising n s h = ap (λ (t : Text). rank text_cmp t m.texts) (sym (h.is 
 -- ---- remapped
 
 -- the number of a text maps to another
-abbrev TextLeads : Maps → ℕ → ℕ → Type 0
-TextLeads r n j = image r.texts n ≡ Some j
+abbrev TextMapsTo : Maps → ℕ → ℕ → Type 0
+TextMapsTo r n j = image r.texts n ≡ Some j
 
 module _ {X : Type 0} (f : X → X) (s : X → List ℕ) (R : ℕ → ℕ → Type 0) where
   -- each number of a remapped list is the image of one of the list
@@ -136,9 +136,9 @@ module _ {X : Type 0} (f : X → X) (s : X → List ℕ) (R : ℕ → ℕ → Ty
 
   -- and back
   lowered : ((x : X) (n j : ℕ) → Contains (s x) n → R n j → Contains (s (f x)) j) → (xs : List X) (n j : ℕ) → Contains (flat_map s xs) n → R n j → Contains (flat_map s (map f xs)) j
-  lowered each xs n j c leads =
+  lowered each xs n j c maps_to =
       let a = Contains-flat_map_source s xs n c in
-      Contains-flat_map s (map f xs) (f a.0) j (Contains-map f xs a.0 a.1) (each a.0 n j a.2 leads)
+      Contains-flat_map s (map f xs) (f a.0) j (Contains-map f xs a.0 a.1) (each a.0 n j a.2 maps_to)
 
 -- a number that is there under a condition
 one_if : (b : Bool) (n k : ℕ) → Contains (if b then n ∷ [] else []) k → (b ≡ true) × (n ≡ k)
@@ -162,51 +162,51 @@ as_text r kinds.Method w n is = absurd cc
 
 module _ (r : Maps) where
   -- a piece
-  led_by : (us : List ℕ) (n j : ℕ) (o : Option ℕ) → image_of r (kind_in us) n ≡ o → Contains (short_string (Instruction us o)) j → (k : ℕ) × Contains (short_string (Instruction us (Some n))) k × TextLeads r k j
-  led_by us n j None e c = absurd (Contains-nil j c)
-  led_by us n j (Some i) e c =
+  remapped_by : (us : List ℕ) (n j : ℕ) (o : Option ℕ) → image_of r (kind_in us) n ≡ o → Contains (short_string (Instruction us o)) j → (k : ℕ) × Contains (short_string (Instruction us (Some n))) k × TextMapsTo r k j
+  remapped_by us n j None e c = absurd (Contains-nil j c)
+  remapped_by us n j (Some i) e c =
       let is = one_if (is_short_string us) i j c in
       (n, has_if (is_short_string us) n is.0, sym (as_text r (kind_in us) (is_wide_index us) n is.0) ∙ e ∙ ap Some is.1)
 
-  led_piece : (p : NumberedPiece) (j : ℕ) → Contains (short_string (renumbered_piece r p)) j → (n : ℕ) × Contains (short_string p) n × TextLeads r n j
-  led_piece (Instruction us None) j c = absurd (Contains-nil j c)
-  led_piece (Instruction us (Some n)) j c = led_by us n j (image_of r (kind_in us) n) refl c
-  led_piece (Payload us) j c = absurd (Contains-nil j c)
+  remapped_piece : (p : NumberedPiece) (j : ℕ) → Contains (short_string (renumbered_piece r p)) j → (n : ℕ) × Contains (short_string p) n × TextMapsTo r n j
+  remapped_piece (Instruction us None) j c = absurd (Contains-nil j c)
+  remapped_piece (Instruction us (Some n)) j c = remapped_by us n j (image_of r (kind_in us) n) refl c
+  remapped_piece (Payload us) j c = absurd (Contains-nil j c)
 
-  leads_piece : (p : NumberedPiece) (n j : ℕ) → Contains (short_string p) n → TextLeads r n j → Contains (short_string (renumbered_piece r p)) j
-  leads_piece (Instruction us None) n j c leads = absurd (Contains-nil n c)
-  leads_piece (Instruction us (Some i)) n j c leads =
+  maps_piece : (p : NumberedPiece) (n j : ℕ) → Contains (short_string p) n → TextMapsTo r n j → Contains (short_string (renumbered_piece r p)) j
+  maps_piece (Instruction us None) n j c maps_to = absurd (Contains-nil n c)
+  maps_piece (Instruction us (Some i)) n j c maps_to =
       let is = one_if (is_short_string us) i n c in
-      let to : image_of r (kind_in us) i ≡ Some j = as_text r (kind_in us) (is_wide_index us) i is.0 ∙ ap (image r.texts) is.1 ∙ leads in
+      let to : image_of r (kind_in us) i ≡ Some j = as_text r (kind_in us) (is_wide_index us) i is.0 ∙ ap (image r.texts) is.1 ∙ maps_to in
       subst (λ (o : Option ℕ). Contains (short_string (Instruction us o)) j) (sym to) (has_if (is_short_string us) j is.0)
-  leads_piece (Payload us) n j c leads = absurd (Contains-nil n c)
+  maps_piece (Payload us) n j c maps_to = absurd (Contains-nil n c)
 
   -- code
-  led_code : (k : NumberedItem) (j : ℕ) → Contains (code_short_strings (renumbered_item r k)) j → (n : ℕ) × Contains (code_short_strings k) n × TextLeads r n j
-  led_code k j c = lifted (renumbered_piece r) short_string (TextLeads r) led_piece k.body.pieces j c
+  remapped_code : (k : NumberedItem) (j : ℕ) → Contains (code_short_strings (renumbered_item r k)) j → (n : ℕ) × Contains (code_short_strings k) n × TextMapsTo r n j
+  remapped_code k j c = lifted (renumbered_piece r) short_string (TextMapsTo r) remapped_piece k.body.pieces j c
 
-  leads_code : (k : NumberedItem) (n j : ℕ) → Contains (code_short_strings k) n → TextLeads r n j → Contains (code_short_strings (renumbered_item r k)) j
-  leads_code k n j c leads = lowered (renumbered_piece r) short_string (TextLeads r) leads_piece k.body.pieces n j c leads
+  maps_code : (k : NumberedItem) (n j : ℕ) → Contains (code_short_strings k) n → TextMapsTo r n j → Contains (code_short_strings (renumbered_item r k)) j
+  maps_code k n j c maps_to = lowered (renumbered_piece r) short_string (TextMapsTo r) maps_piece k.body.pieces n j c maps_to
 
   optional : (o : Option NumberedItem) → option_to_list (option_map (renumbered_item r) o) ≡ map (renumbered_item r) (option_to_list o)
   optional None = refl
   optional (Some k) = refl
 
   -- a method
-  led_method : (y : NumberedMethod) (j : ℕ) → Contains (method_short_strings (renumbered_method r y)) j → (n : ℕ) × Contains (method_short_strings y) n × TextLeads r n j
-  led_method y j c = lifted (renumbered_item r) code_short_strings (TextLeads r) led_code (option_to_list y.code) j (subst (λ (l : List NumberedItem). Contains (flat_map code_short_strings l) j) (optional y.code) c)
+  remapped_method : (y : NumberedMethod) (j : ℕ) → Contains (method_short_strings (renumbered_method r y)) j → (n : ℕ) × Contains (method_short_strings y) n × TextMapsTo r n j
+  remapped_method y j c = lifted (renumbered_item r) code_short_strings (TextMapsTo r) remapped_code (option_to_list y.code) j (subst (λ (l : List NumberedItem). Contains (flat_map code_short_strings l) j) (optional y.code) c)
 
-  leads_method : (y : NumberedMethod) (n j : ℕ) → Contains (method_short_strings y) n → TextLeads r n j → Contains (method_short_strings (renumbered_method r y)) j
-  leads_method y n j c leads = subst (λ (l : List NumberedItem). Contains (flat_map code_short_strings l) j) (sym (optional y.code)) (lowered (renumbered_item r) code_short_strings (TextLeads r) leads_code (option_to_list y.code) n j c leads)
+  maps_method : (y : NumberedMethod) (n j : ℕ) → Contains (method_short_strings y) n → TextMapsTo r n j → Contains (method_short_strings (renumbered_method r y)) j
+  maps_method y n j c maps_to = subst (λ (l : List NumberedItem). Contains (flat_map code_short_strings l) j) (sym (optional y.code)) (lowered (renumbered_item r) code_short_strings (TextMapsTo r) maps_code (option_to_list y.code) n j c maps_to)
 
   -- all members
-  methods_led : (x : NumberedMembers) → methods_of (renumbered_members r x) ≡ map (renumbered_method r) (methods_of x)
-  methods_led x = sym (map-append (renumbered_method r) x.direct_methods x.virtual_methods)
+  methods_remapped : (x : NumberedMembers) → methods_of (renumbered_members r x) ≡ map (renumbered_method r) (methods_of x)
+  methods_remapped x = sym (map-append (renumbered_method r) x.direct_methods x.virtual_methods)
 
   -- each short string of remapped members is the image of one of theirs
-  pub led_short : (x : NumberedMembers) (j : ℕ) → Contains (members_short_strings (renumbered_members r x)) j → (n : ℕ) × Contains (members_short_strings x) n × TextLeads r n j
-  led_short x j c = lifted (renumbered_method r) method_short_strings (TextLeads r) led_method (methods_of x) j (subst (λ (l : List NumberedMethod). Contains (flat_map method_short_strings l) j) (methods_led x) c)
+  pub remapped_short : (x : NumberedMembers) (j : ℕ) → Contains (members_short_strings (renumbered_members r x)) j → (n : ℕ) × Contains (members_short_strings x) n × TextMapsTo r n j
+  remapped_short x j c = lifted (renumbered_method r) method_short_strings (TextMapsTo r) remapped_method (methods_of x) j (subst (λ (l : List NumberedMethod). Contains (flat_map method_short_strings l) j) (methods_remapped x) c)
 
   -- and each image of one of theirs is one
-  pub leads_short : (x : NumberedMembers) (n j : ℕ) → Contains (members_short_strings x) n → TextLeads r n j → Contains (members_short_strings (renumbered_members r x)) j
-  leads_short x n j c leads = subst (λ (l : List NumberedMethod). Contains (flat_map method_short_strings l) j) (sym (methods_led x)) (lowered (renumbered_method r) method_short_strings (TextLeads r) leads_method (methods_of x) n j c leads)
+  pub maps_short : (x : NumberedMembers) (n j : ℕ) → Contains (members_short_strings x) n → TextMapsTo r n j → Contains (members_short_strings (renumbered_members r x)) j
+  maps_short x n j c maps_to = subst (λ (l : List NumberedMethod). Contains (flat_map method_short_strings l) j) (sym (methods_remapped x)) (lowered (renumbered_method r) method_short_strings (TextMapsTo r) maps_method (methods_of x) n j c maps_to)

@@ -9,7 +9,7 @@ use Rattle.dexspec.specs.Lists.{present, AreDistinct}
 use Rattle.dexspec.specs.Texts.{Text, text_cmp}
 use Rattle.dexspec.specs.Classes.{Body, Definition}
 use Rattle.dexspec.specs.Mentions.{Mentions}
-use Rattle.dexspec.specs.Merging.{Caps, IsConflict, IsConsistent, Cause, Conflict, Cycle, Exceeded, IsCause, IsToldBefore, IsFirstCause}
+use Rattle.dexspec.specs.Merging.{Caps, IsConflict, IsConsistent, Cause, Conflict, Cycle, Exceeded, IsCause, IsReportedBefore, IsFirstCause}
 use Rattle.dexspec.proofs.lists.Members.{Contains-nil, Contains-first, Contains-later, Contains-cons_cases}
 use Rattle.dexspec.proofs.lists.InOrder.{Rises-from_rises, Rises-places, irreflexive, asymmetric}
 use Rattle.dexspec.proofs.merge.SymbolOrders.{text_total}
@@ -21,7 +21,7 @@ use Rattle.dexclass.specs.Numbered.{NumberedClass, type_at, definition_of}
 use Rattle.dexclass.specs.Uses.{IsKnownClass}
 use Rattle.dexclass.specs.Parents.{no_class, name_number, parent_numbers, ArePlaces}
 use Rattle.dexclass.proofs.Places.{places_some, places_all}
-use Rattle.dexmerge.specs.Candidates.{AreMembers, class_at, IsAlike, IsLeastUnlike, kept_classes}
+use Rattle.dexmerge.specs.Candidates.{AreMembers, class_at, IsEqualCopy, IsFirstConflict, kept_classes}
 use Rattle.dexmerge.specs.internal.Cycles.{AreKept, IsFirstCycle}
 
 option_is : (o : Option ℕ) → IsSome o → (k : ℕ) × (o ≡ Some k)
@@ -60,12 +60,12 @@ module _ (name : ℕ → ℕ) where
   names_rise (Some x ∷ ps) from h (suc i) (suc j) less lt = names_rise ps (from + 1) (λ t k e. omega (arith, h (suc t) k e)) i j (omega (arith, less)) (omega (arith, lt))
 
 -- what holds of all holds of all but the first
-all_behind : (P : ℕ → Type 0) (x : ℕ) (xs : List ℕ) → All P (x ∷ xs) → All P xs
-all_behind P x xs h i d lt = h (suc i) d (omega (arith, lt))
+all_suffix : (P : ℕ → Type 0) (x : ℕ) (xs : List ℕ) → All P (x ∷ xs) → All P xs
+all_suffix P x xs h i d lt = h (suc i) d (omega (arith, lt))
 
 -- different classes denote different definitions
-abbrev pub AreTold : Mentions → List NumberedClass → Type 0
-AreTold m cs = (i j : ℕ) → i < length cs → j < length cs → definition_of m (class_at cs i) ≡ definition_of m (class_at cs j) → class_at cs i ≡ class_at cs j
+abbrev pub AreDistinguished : Mentions → List NumberedClass → Type 0
+AreDistinguished m cs = (i j : ℕ) → i < length cs → j < length cs → definition_of m (class_at cs i) ≡ definition_of m (class_at cs j) → class_at cs i ≡ class_at cs j
 
 -- ---- numbers of types
 
@@ -131,14 +131,14 @@ module _ (m : Mentions) (rising : AreRising m) where
 
     module _ (places : List (Option ℕ)) (h : ArePlaces cs places) where
       -- classes of one name that are equal to the kept one are equal
-      alike_same : (i j : ℕ) → i < length cs → name_number cs i ≡ name_number cs j → IsAlike cs places i → IsAlike cs places j → class_at cs i ≡ class_at cs j
-      alike_same i j lt e f g =
+      equivalent_same : (i j : ℕ) → i < length cs → name_number cs i ≡ name_number cs j → IsEqualCopy cs places i → IsEqualCopy cs places j → class_at cs i ≡ class_at cs j
+      equivalent_same i j lt e f g =
           let k = option_is (get_or places (name_number cs i) None) (places_all cs places h i lt) in
           f k.0 k.1 ∙ sym (g k.0 (ap (λ (n : ℕ). get_or places n None) (sym e) ∙ k.1))
 
       -- the least name of different classes is the first cause
-      pub conflict_told : AreTold m cs → (caps : Caps) (name : ℕ) → IsLeastUnlike cs places name → IsFirstCause caps E (Conflict (type_at m name))
-      conflict_told told caps name l = record { is = conflict; first = before }
+      pub conflict_reported : AreDistinguished m cs → (caps : Caps) (name : ℕ) → IsFirstConflict cs places name → IsFirstCause caps E (Conflict (type_at m name))
+      conflict_reported distinguished caps name l = record { is = conflict; first = before }
         where
           kept_at : (l.is.kept < length cs) × (name_number cs l.is.kept ≡ name)
           kept_at = places_some cs places h name l.is.kept l.is.kept_is
@@ -152,16 +152,16 @@ module _ (m : Mentions) (rising : AreRising m) where
             other = (definition_of m (class_at cs l.is.kept)).1;
             one_in = at_name l.is.place l.is.within l.is.name_is;
             other_in = at_name l.is.kept kept_at.0 kept_at.1;
-            unlike = λ e. l.is.unlike (told l.is.place l.is.kept l.is.within kept_at.0 (λ i. (type_at m ((l.is.name_is ∙ sym kept_at.1) i), e i)));
+            unequal = λ e. l.is.unequal (distinguished l.is.place l.is.kept l.is.within kept_at.0 (λ i. (type_at m ((l.is.name_is ∙ sym kept_at.1) i), e i)));
           }
 
-          before : (other : Cause) → IsCause caps E other → IsToldBefore other (Conflict (type_at m name)) → ⊥
+          before : (other : Cause) → IsCause caps E other → IsReportedBefore other (Conflict (type_at m name)) → ⊥
           before (Conflict n) x less =
               let a = source n x.one x.one_in in
               let b = source n x.other x.other_in in
               let same = one_name n x.one x.other a b in
               let number : name_number cs a.place < name = less_number (name_number cs a.place) name (name_in a.place a.within) (subst (λ (k : ℕ). k < length m.types) l.is.name_is (name_in l.is.place l.is.within)) (subst (λ (t : Text). text_cmp t (type_at m name) ≡ Less) (sym (name_of n x.one a)) less) in
-              x.unlike (one_body n x.one x.other a b (alike_same a.place b.place a.within same (l.least a.place a.within number) (l.least b.place b.within (omega (arith, number, same)))))
+              x.unequal (one_body n x.one x.other a b (equivalent_same a.place b.place a.within same (l.least a.place a.within number) (l.least b.place b.within (omega (arith, number, same)))))
           before (Cycle n) x never = never
           before (Exceeded k) x never = never
 
@@ -190,20 +190,20 @@ module _ (m : Mentions) (rising : AreRising m) where
           subst (Contains cs) s.2 (Contains-get_or cs s.0 no_class (source_place s.0 s.1))
 
       -- and each class that is equal to the kept one is kept
-      kept_has : (i : ℕ) → i < length cs → IsAlike cs places i → Contains (kept_classes cs places) (class_at cs i)
-      kept_has i lt alike =
+      kept_has : (i : ℕ) → i < length cs → IsEqualCopy cs places i → Contains (kept_classes cs places) (class_at cs i)
+      kept_has i lt equivalent =
           let k = option_is (get_or places (name_number cs i) None) (places_all cs places h i lt) in
-          subst (Contains (kept_classes cs places)) (sym (alike k.0 k.1)) (Contains-map (class_at cs) (present places) k.0 (placed (name_number cs i) k.0 k.1))
+          subst (Contains (kept_classes cs places)) (sym (equivalent k.0 k.1)) (Contains-map (class_at cs) (present places) k.0 (placed (name_number cs i) k.0 k.1))
 
       -- where all classes of each name are equal, those that are kept denote the same definitions
-      pub kept_members : (D : List Definition) → AreMembers m D cs → ((i : ℕ) → i < length cs → IsAlike cs places i) → AreMembers m D (kept_classes cs places)
-      kept_members D members alike = record {
+      pub kept_members : (D : List Definition) → AreMembers m D cs → ((i : ℕ) → i < length cs → IsEqualCopy cs places i) → AreMembers m D (kept_classes cs places)
+      kept_members D members equivalent = record {
         known = λ i d lt. let has = kept_source (get_or (kept_classes cs places) i d) (Contains-get_or (kept_classes cs places) i d lt) in subst (IsKnownClass m) has.2 (range has.0 (get_or (kept_classes cs places) i d) has.1);
         same = λ d. (
           λ c. (members.same d).0 (let s = Contains-map_source (definition_of m) (kept_classes cs places) d c in subst (Contains E) s.2 (Contains-map (definition_of m) cs s.0 (kept_source s.0 s.1))),
           λ c. let s = Contains-map_source (definition_of m) cs d ((members.same d).1 c) in
               let at : class_at cs s.1.0 ≡ s.0 = get_or_default cs s.1.0 no_class s.0 s.1.1 ∙ s.1.2 in
-              subst (Contains (map (definition_of m) (kept_classes cs places))) (ap (definition_of m) at ∙ s.2) (Contains-map (definition_of m) (kept_classes cs places) (class_at cs s.1.0) (kept_has s.1.0 s.1.1 (alike s.1.0 s.1.1))),
+              subst (Contains (map (definition_of m) (kept_classes cs places))) (ap (definition_of m) at ∙ s.2) (Contains-map (definition_of m) (kept_classes cs places) (class_at cs s.1.0) (kept_has s.1.0 s.1.1 (equivalent s.1.0 s.1.1))),
         );
         formed = members.formed;
       }
@@ -252,7 +252,7 @@ module _ (m : Mentions) (rising : AreRising m) where
       named = record {
         rising = rising.types_rise;
         names = name_in cs range;
-        parents_in = λ c has. all_behind (λ p. p < length m.types) c.name (parent_numbers c) (subst (IsKnownClass m) has.2 (range has.0 c has.1)).types_in;
+        parents_in = λ c has. all_suffix (λ p. p < length m.types) c.name (parent_numbers c) (subst (IsKnownClass m) has.2 (range has.0 c has.1)).types_in;
         distinct = names_differ;
       };
       rise = rise;
@@ -267,10 +267,10 @@ module _ (m : Mentions) (rising : AreRising m) where
         one_body cs range name one other x y (ap (class_at cs) place)
 
     -- the first cycle is the first cause
-    pub cycle_told : (caps : Caps) (i : ℕ) → IsFirstCycle m cs i → IsFirstCause caps (map (definition_of m) cs) (Cycle (type_at m (name_number cs i)))
-    cycle_told caps i f = record { is = f.is; first = before }
+    pub cycle_reported : (caps : Caps) (i : ℕ) → IsFirstCycle m cs i → IsFirstCause caps (map (definition_of m) cs) (Cycle (type_at m (name_number cs i)))
+    cycle_reported caps i f = record { is = f.is; first = before }
       where
-        before : (other : Cause) → IsCause caps (map (definition_of m) cs) other → IsToldBefore other (Cycle (type_at m (name_number cs i))) → ⊥
+        before : (other : Cause) → IsCause caps (map (definition_of m) cs) other → IsReportedBefore other (Cycle (type_at m (name_number cs i))) → ⊥
         before (Conflict n) x _ = consistent-apart (map (definition_of m) cs) n consistent x
         before (Cycle n) x less = f.least n x less
         before (Exceeded k) x never = never

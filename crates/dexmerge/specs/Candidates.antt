@@ -38,22 +38,22 @@ abbrev pub class_at : List NumberedClass → ℕ → NumberedClass
 class_at cs i = slice_index_or cs i no_class
 
 -- class i is the one that is kept of its name
-abbrev pub IsAlike : List NumberedClass → List (Option ℕ) → ℕ → Type 0
-IsAlike cs places i = (k : ℕ) → slice_index_or places (name_number cs i) None ≡ Some k → class_at cs i ≡ class_at cs k
+abbrev pub IsEqualCopy : List NumberedClass → List (Option ℕ) → ℕ → Type 0
+IsEqualCopy cs places i = (k : ℕ) → slice_index_or places (name_number cs i) None ≡ Some k → class_at cs i ≡ class_at cs k
 
 -- some class of this name is not the one that is kept of the name
-pub record IsUnlike (cs : List NumberedClass) (places : List (Option ℕ)) (name : ℕ) : Type 0 where
+pub record IsConflicting (cs : List NumberedClass) (places : List (Option ℕ)) (name : ℕ) : Type 0 where
   pub place : ℕ
   pub kept : ℕ
   pub within : place < length cs
   pub name_is : name_number cs place ≡ name
   pub kept_is : slice_index_or places name None ≡ Some kept
-  pub unlike : class_at cs place ≢ class_at cs kept
+  pub unequal : class_at cs place ≢ class_at cs kept
 
 -- the least name that has different classes, if there is one
-pub record IsLeastUnlike (cs : List NumberedClass) (places : List (Option ℕ)) (name : ℕ) : Type 0 where
-  pub is : IsUnlike cs places name
-  pub least : (i : ℕ) → i < length cs → name_number cs i < name → IsAlike cs places i
+pub record IsFirstConflict (cs : List NumberedClass) (places : List (Option ℕ)) (name : ℕ) : Type 0 where
+  pub is : IsConflicting cs places name
+  pub least : (i : ℕ) → i < length cs → name_number cs i < name → IsEqualCopy cs places i
 
 -- the classes that are kept, by name
 abbrev pub kept_classes : List NumberedClass → List (Option ℕ) → List NumberedClass

@@ -16,11 +16,11 @@ pub record IsOfCap (P : Cause → Type 0) (number : ℕ) : Type 0 where
   pub holds : P (merging.Exceeded cap)
 
 -- this holds of the cause that the fault reports; out of memory reports none
-abbrev pub Tells : (Cause → Type 0) → MergeFault → Type 0
-Tells P (merge.Conflict name) = P (merging.Conflict name)
-Tells P (merge.Cycle name) = P (merging.Cycle name)
-Tells P (merge.Cap number) = IsOfCap P number
-Tells P merge.Memory = Unit {0}
+abbrev pub Reports : (Cause → Type 0) → MergeFault → Type 0
+Reports P (merge.Conflict name) = P (merging.Conflict name)
+Reports P (merge.Cycle name) = P (merging.Cycle name)
+Reports P (merge.Cap number) = IsOfCap P number
+Reports P merge.Memory = Unit {0}
 
 -- the definitions can be merged under the caps, and are the collection
 pub record IsMerged (caps : Caps) (D : List Definition) (K : Collection) : Type 0 where
@@ -45,4 +45,4 @@ pub record IsPlannedCause (caps : Caps) (files : List Collection) (p : merging.P
 -- a bad plan is none for the files; another fault reports a cause
 abbrev pub IsPlanFault : Caps → List Collection → merging.Plan → PlanFault → Type 0
 IsPlanFault caps files p plan.BadPlan = IsPlanFor (length files) p → ⊥
-IsPlanFault caps files p (plan.Merge fault) = Tells (IsPlannedCause caps files p) fault
+IsPlanFault caps files p (plan.Merge fault) = Reports (IsPlannedCause caps files p) fault

@@ -8,7 +8,7 @@ ghost use Rattle.dexspec.specs.Mentions.{Mentions, mentions};
 ghost use Rattle.dexspec.specs.Weight.{body_weight};
 ghost use Rattle.dexmembers.specs.Fitting.{members_short_strings};
 ghost use Rattle.dexclass.specs.Numbered.{definition_of};
-ghost use Rattle.dexclass.specs.Renumbering.{LeadInto, IsLedClass, led};
+ghost use Rattle.dexclass.specs.Renumbering.{MapsAllInto, IsMappedClass, remapped};
 ghost use Rattle.dexmerge.specs.Candidates.{AreMembers, IsOfPart, class_of, classes_of};
 ghost use Rattle.dexmerge.specs.Counting.{Decides};
 
@@ -26,8 +26,8 @@ pub(crate) struct Candidate<'a, 'b> {
 
 impl<'a, 'b> Candidate<'a, 'b> {
     /// The number in the union of a type of the part.
-    fn led(&self, typ: usize) -> usize
-        ensures { result ≡ led self.now.remap.now.types typ }
+    fn remapped(&self, typ: usize) -> usize
+        ensures { result ≡ remapped self.now.remap.now.types typ }
     {
         match self.remap.image(SymbolKind::Typ, typ) {
             Some(image) => image,
@@ -56,7 +56,7 @@ impl<'a, 'b> Candidate<'a, 'b> {
     ///
     /// Source: "Instruction Formats", the 16 bits of an index.
     pub(crate) fn greatest_short_string(&self) -> Option<usize>
-        requires { IsLedClass self.now.remap.now self.now.class.now }
+        requires { IsMappedClass self.now.remap.now self.now.class.now }
         ensures { Decides result (members_short_strings (class_of self.now).members) }
     {
         self.remap.keeps_order();
@@ -79,12 +79,12 @@ impl<'a, 'b> HasParents for Candidate<'a, 'b> {
     ghost interfaces_of = { λ c. (class_of c).interfaces };
 
     fn name(&self) -> usize {
-        self.led(self.class.name())
+        self.remapped(self.class.name())
     }
 
     fn superclass(&self) -> Option<usize> {
         match self.class.superclass() {
-            Some(superclass) => Some(self.led(superclass)),
+            Some(superclass) => Some(self.remapped(superclass)),
             None => None,
         }
     }
@@ -94,7 +94,7 @@ impl<'a, 'b> HasParents for Candidate<'a, 'b> {
     }
 
     fn interface(&self, k: usize) -> usize {
-        self.led(self.class.interfaces()[k])
+        self.remapped(self.class.interfaces()[k])
     }
 }
 
@@ -104,8 +104,8 @@ fn push_classes<'a, 'b>(
     remap: &'b Remap,
     candidates: &mut Vec<Candidate<'a, 'b>>,
 ) -> Result<(), AllocError>
-    ensures members { OnOk result ((m : Mentions) (D : List Definition) → LeadInto (mentions (definitions part.now)) m remap.now → AreMembers m D (classes_of candidates.old.items) → AreMembers m (D ++ definitions part.now) (classes_of candidates.new.items)) }
-    ensures parts { OnOk result ((m : Mentions) → LeadInto (mentions (definitions part.now)) m remap.now → All (IsOfPart m) candidates.old.items → All (IsOfPart m) candidates.new.items) }
+    ensures members { OnOk result ((m : Mentions) (D : List Definition) → MapsAllInto (mentions (definitions part.now)) m remap.now → AreMembers m D (classes_of candidates.old.items) → AreMembers m (D ++ definitions part.now) (classes_of candidates.new.items)) }
+    ensures parts { OnOk result ((m : Mentions) → MapsAllInto (mentions (definitions part.now)) m remap.now → All (IsOfPart m) candidates.old.items → All (IsOfPart m) candidates.new.items) }
 {
     renumbering_law();
     part.is_good();
@@ -124,8 +124,8 @@ pub(crate) fn candidates<'a, 'b>(
     remaps: &'b [Remap],
 ) -> Result<Vec<Candidate<'a, 'b>>, AllocError>
     requires { length remaps.now ≡ length parts.now }
-    ensures members { IfOk result (λ candidates. (m : Mentions) → AllZip (λ part remap. LeadInto (mentions (definitions part)) m remap) (map (λ part. part.now) parts.now) remaps.now → AreMembers m (flat_map definitions (map (λ part. part.now) parts.now)) (classes_of candidates.items)) }
-    ensures parts { IfOk result (λ candidates. (m : Mentions) → AllZip (λ part remap. LeadInto (mentions (definitions part)) m remap) (map (λ part. part.now) parts.now) remaps.now → All (IsOfPart m) candidates.items) }
+    ensures members { IfOk result (λ candidates. (m : Mentions) → AllZip (λ part remap. MapsAllInto (mentions (definitions part)) m remap) (map (λ part. part.now) parts.now) remaps.now → AreMembers m (flat_map definitions (map (λ part. part.now) parts.now)) (classes_of candidates.items)) }
+    ensures parts { IfOk result (λ candidates. (m : Mentions) → AllZip (λ part remap. MapsAllInto (mentions (definitions part)) m remap) (map (λ part. part.now) parts.now) remaps.now → All (IsOfPart m) candidates.items) }
 {
     let mut candidates = Vec::new(alloc);
     for i in 0..parts.len() {

@@ -4,7 +4,7 @@ ghost use Rattle.std.specs.Prelude.{◌≡◌, ◌↔◌, ◌<◌, ◌++◌, ◌
 ghost use Rattle.dexspec.specs.Lists.{present};
 ghost use Rattle.dexpool.specs.Numberings.{AreIn};
 ghost use Rattle.dexclass.specs.Parents.{ArePlaces};
-ghost use Rattle.dexmerge.specs.Candidates.{classes_of, class_at, kept_classes, IsAlike, IsLeastUnlike, lesser_of};
+ghost use Rattle.dexmerge.specs.Candidates.{classes_of, class_at, kept_classes, IsEqualCopy, IsFirstConflict, lesser_of};
 
 use crate::candidates::Candidate;
 use dexorder::{HasParents, class_of_type};
@@ -23,10 +23,10 @@ fn are_same(candidates: &[Candidate<'_, '_>], i: usize, k: usize) -> bool
 }
 
 // Whether the candidate is the same class as the one that is kept of its name.
-fn is_alike(candidates: &[Candidate<'_, '_>], places: &[Option<usize>], i: usize) -> bool
+fn is_equal_copy(candidates: &[Candidate<'_, '_>], places: &[Option<usize>], i: usize) -> bool
     requires within { i < length candidates.now }
     requires places { ArePlaces (classes_of candidates.now) places.now }
-    ensures { IsTrue result ↔ IsAlike (classes_of candidates.now) places.now i }
+    ensures { IsTrue result ↔ IsEqualCopy (classes_of candidates.now) places.now i }
 {
     match class_of_type(places, candidates[i].name()) {
         Some(kept) => are_same(candidates, i, kept),
@@ -47,16 +47,16 @@ fn lesser(least: Option<usize>, name: usize) -> Option<usize>
 /// The least name of different candidates, if there is one.
 ///
 /// Condition: the places are those of the candidates.
-pub(crate) fn least_unlike(
+pub(crate) fn first_conflict(
     candidates: &[Candidate<'_, '_>],
     places: &[Option<usize>],
 ) -> Option<usize>
     requires { ArePlaces (classes_of candidates.now) places.now }
-    ensures { MatchOption result ((i : ℕ) → i < length candidates.now → IsAlike (classes_of candidates.now) places.now i) (IsLeastUnlike (classes_of candidates.now) places.now) }
+    ensures { MatchOption result ((i : ℕ) → i < length candidates.now → IsEqualCopy (classes_of candidates.now) places.now i) (IsFirstConflict (classes_of candidates.now) places.now) }
 {
     let mut least = None;
     for i in 0..candidates.len() {
-        if !is_alike(candidates, places, i) {
+        if !is_equal_copy(candidates, places, i) {
             least = lesser(least, candidates[i].name());
         }
     }

@@ -9,16 +9,16 @@
 mod candidates;
 mod cap_kind;
 mod caps;
+mod class_union;
 mod copies;
 mod cycles;
 mod faults;
 mod fitting;
-mod gathering;
-mod judging;
 mod measuring;
 mod merging;
 mod plan;
-mod planned;
+mod plan_union;
+mod union_checks;
 
 pub use cap_kind::CapKind;
 pub use caps::Caps;
@@ -26,4 +26,4 @@ pub use faults::{MergeFault, PlanFault};
 pub use measuring::{Counts, measure};
 pub use merging::merge;
 pub use plan::{Plan, is_plan_for};
-pub use planned::{merge_files, merge_plan};
+pub use plan_union::{merge_files, merge_plan};

@@ -9,15 +9,15 @@ ghost use Rattle.dexspec.specs.Merging.{IsFirstCause};
 ghost use Rattle.dexclass.specs.Uses.{IsKnownClass};
 ghost use Rattle.dexmerge.specs.Candidates.{IsOfPart, classes_of};
 ghost use Rattle.dexmerge.specs.Counting.{AreCounts, AreCountsOver, above_it};
-ghost use Rattle.dexmerge.specs.Faults.{Tells};
+ghost use Rattle.dexmerge.specs.Faults.{Reports};
 ghost use Rattle.dexmerge.specs.internal.Unions.{AreOnce};
 
 use crate::candidates::{Candidate, candidates};
 use crate::cycles::class_depths;
 use crate::faults::MergeFault;
 use crate::fitting::{greatest_short_string, weight};
-use crate::judging::{name_of, one_of_each};
 use crate::merging::joined;
+use crate::union_checks::{name_of, one_of_each};
 use dexclass::Program;
 use dexpool::{Numbering, SymbolKind};
 use std::alloc::Global;
@@ -81,7 +81,7 @@ fn measure_once(
 ) -> Result<Counts, MergeFault>
     requires { (D : List Definition) × AreOnce numbering.now D classes.now }
     ensures counts { IfOk result (λ counts. (D : List Definition) → AreOnce numbering.now D classes.now → AreCounts D counts) }
-    ensures fault { IfErr result (λ fault. (caps : merging.Caps) (D : List Definition) → AreOnce numbering.now D classes.now → Tells (IsFirstCause caps D) fault) }
+    ensures fault { IfErr result (λ fault. (caps : merging.Caps) (D : List Definition) → AreOnce numbering.now D classes.now → Reports (IsFirstCause caps D) fault) }
 {
     let types = numbering.count(SymbolKind::Typ);
     let _depths = match class_depths(alloc, classes, types)? {
@@ -98,7 +98,7 @@ fn measure_once(
 /// that is above itself or below such a class; or `Memory` if an allocation failed. `Cap` is never returned.
 pub fn measure(alloc: Global, parts: &[&Program<'_>]) -> Result<Counts, MergeFault>
     ensures counts { IfOk result (AreCounts (flat_map definitions (map (λ part. part.now) parts.now))) }
-    ensures fault { IfErr result (λ fault. (caps : merging.Caps) → Tells (IsFirstCause caps (flat_map definitions (map (λ part. part.now) parts.now))) fault) }
+    ensures fault { IfErr result (λ fault. (caps : merging.Caps) → Reports (IsFirstCause caps (flat_map definitions (map (λ part. part.now) parts.now))) fault) }
 {
     let (numbering, remaps) = joined(alloc, parts)?;
     let copies = candidates(alloc, parts, &remaps)?;

@@ -7,13 +7,13 @@ ghost use Rattle.dexspec.specs.Files.{definitions, AreWithin};
 ghost use Rattle.dexspec.specs.Merging.{Cause, IsCause, IsFirstCause, IsGood};
 ghost use Rattle.dexlaws.specs.Growth.{Absorbs};
 ghost use Rattle.dexclass.specs.Parents.{AreDepthsByName};
-ghost use Rattle.dexmerge.specs.Faults.{IsMerged, Tells};
-ghost use Rattle.dexmerge.specs.internal.Unions.{IsJoined, IsJudged};
+ghost use Rattle.dexmerge.specs.Faults.{IsMerged, Reports};
+ghost use Rattle.dexmerge.specs.internal.Unions.{IsJoined, IsChecked};
 
 use crate::caps::Caps;
+use crate::class_union::collect_classes;
 use crate::faults::MergeFault;
-use crate::gathering::gather;
-use crate::judging::judge;
+use crate::union_checks::check;
 use dexclass::Program;
 use dexpool::{Numbering, Remap, SymbolKind};
 use std::alloc::{AllocError, Global};
@@ -65,19 +65,19 @@ pub(crate) fn joined<'a>(
 }
 
 // What is found of parts, where they can be merged.
-fn judged<'a>(
+fn checked<'a>(
     alloc: Global,
     owned: &[Program<'a>],
     files: &[&Program<'a>],
     caps: &Caps,
 ) -> Result<Mergeable<'a>, MergeFault>
-    ensures good { IfOk result (λ judged. IsJudged caps.now (owned.now ++ map (λ file. file.now) files.now) judged.numbering judged.remaps.items) }
-    ensures depths { IfOk result (λ judged. AreDepthsByName judged.numbering (flat_map definitions (owned.now ++ map (λ file. file.now) files.now)) judged.depths.items) }
-    ensures fault { IfErr result (Tells (IsFirstCause caps.now (flat_map definitions (owned.now ++ map (λ file. file.now) files.now)))) }
+    ensures good { IfOk result (λ checked. IsChecked caps.now (owned.now ++ map (λ file. file.now) files.now) checked.numbering checked.remaps.items) }
+    ensures depths { IfOk result (λ checked. AreDepthsByName checked.numbering (flat_map definitions (owned.now ++ map (λ file. file.now) files.now)) checked.depths.items) }
+    ensures fault { IfErr result (Reports (IsFirstCause caps.now (flat_map definitions (owned.now ++ map (λ file. file.now) files.now)))) }
 {
     let parts = all_parts(alloc, owned, files)?;
     let (numbering, remaps) = joined(alloc, &parts)?;
-    match judge(alloc, &numbering, &parts, &remaps, caps) {
+    match check(alloc, &numbering, &parts, &remaps, caps) {
         Ok(depths) => Ok(Mergeable {
             numbering,
             remaps,
@@ -96,19 +96,19 @@ pub(crate) fn merge_all<'a>(
     caps: &Caps,
 ) -> Result<Program<'a>, MergeFault>
     ensures merged { IfOk result (IsMerged caps.now (flat_map definitions (owned.entry.items ++ map (λ file. file.now) files.now))) }
-    ensures fault { IfErr result (Tells (IsFirstCause caps.now (flat_map definitions (owned.entry.items ++ map (λ file. file.now) files.now)))) }
+    ensures fault { IfErr result (Reports (IsFirstCause caps.now (flat_map definitions (owned.entry.items ++ map (λ file. file.now) files.now)))) }
 {
     let Mergeable {
         numbering,
         remaps,
         depths,
-    } = match judged(alloc, &owned, files, caps) {
-        Ok(judged) => judged,
+    } = match checked(alloc, &owned, files, caps) {
+        Ok(checked) => checked,
         Err(fault) => return Err(fault),
     };
     caps.are_caps();
     let types = numbering.count(SymbolKind::Typ);
-    let classes = gather(alloc, owned, files, &remaps, types)?;
+    let classes = collect_classes(alloc, owned, files, &remaps, types)?;
     Ok(Program::of_known(alloc, numbering, classes, &depths)?)
 }
 
@@ -124,7 +124,7 @@ pub fn merge<'a>(
     caps: &Caps,
 ) -> Result<Program<'a>, MergeFault>
     ensures merged { IfOk result (IsMerged caps.now (flat_map definitions (map (λ part. part.now) parts.now))) }
-    ensures fault { IfErr result (Tells (IsFirstCause caps.now (flat_map definitions (map (λ part. part.now) parts.now)))) }
+    ensures fault { IfErr result (Reports (IsFirstCause caps.now (flat_map definitions (map (λ part. part.now) parts.now)))) }
     ensures law { (part whole : List Definition) → AreWithin part whole → Absorbs part whole }
     ensures apart { (classes : List Definition) (cause : Cause) → IsGood caps.now classes → IsCause caps.now classes cause → ⊥ }
 {

@@ -3,7 +3,7 @@
 ghost use Rattle.std.specs.Prelude.{◌≡◌, ◌<◌, ℕ, length, IfOk, MatchBool};
 ghost use Rattle.dexspec.specs.Merging.{IsPlanFor};
 ghost use Rattle.dexmerge.specs.Plans.{plan_of};
-ghost use Rattle.dexmerge.specs.internal.Judging.{IsMarkedBy, IsNamed, IsNoPlan, HasUnnamed};
+ghost use Rattle.dexmerge.specs.internal.UnionChecks.{IsMarkedBy, IsNamed, IsNoPlan, HasUnnamed};
 
 use std::alloc::{AllocError, Global};
 
@@ -22,7 +22,7 @@ pub enum Plan {
 // Marks the files that a plan names. Returns whether it names only files that there are, and is at most `depth` deep.
 fn mark_files(plan: &Plan, depth: usize, is_named: &mut Vec<bool>) -> bool
     ensures count { length is_named.new.items ≡ length is_named.old.items }
-    ensures judged { MatchBool result (IsMarkedBy (plan_of plan.now) depth is_named.old.items is_named.new.items) (IsNoPlan (plan_of plan.now) depth (length is_named.old.items)) }
+    ensures checked { MatchBool result (IsMarkedBy (plan_of plan.now) depth is_named.old.items is_named.new.items) (IsNoPlan (plan_of plan.now) depth (length is_named.old.items)) }
 {
     if depth == 0 {
         return false;

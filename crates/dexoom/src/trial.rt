@@ -77,7 +77,7 @@ impl<'a> Compare<'a> {
 }
 
 impl Sink for Compare<'_> {
-    ghost tells = { λ _. ⊥ };
+    ghost reports = { λ _. ⊥ };
 
     ghost taken = { λ _. [] };
 

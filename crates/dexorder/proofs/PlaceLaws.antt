@@ -30,8 +30,8 @@ pub class_total : IsTotalOrder class_cmp
 class_total = then_total (on_total (λ (p : ℕ × ℕ). p.0) nat_cmp_total) (on_total (λ (p : ℕ × ℕ). p.1) nat_cmp_total)
 
 -- different numbers are not equal by order
-unlike : (m n : ℕ) → m ≢ n → nat_cmp m n ≢ Equal
-unlike m n ne e = ne (subst (λ o. MatchOrdering o (m < n) (m ≡ n) (n < m)) e (ranked m n (nat_cmp m n) refl))
+unequal : (m n : ℕ) → m ≢ n → nat_cmp m n ≢ Equal
+unequal m n ne e = ne (subst (λ o. MatchOrdering o (m < n) (m ≡ n) (n < m)) e (ranked m n (nat_cmp m n) refl))
 
 -- if the second order decides, the third does not count
 third_unasked : (a b c : Ordering) → b ≢ Equal → ordering_then a (ordering_then b c) ≡ ordering_then a b
@@ -67,7 +67,7 @@ place_cmp x y = ordering_then (nat_cmp x.depth y.depth) (ordering_then (nat_cmp 
 pair_less : (x y : Place) → x.name ≢ y.name → is_lt (place_cmp y x) ≡ false → class_cmp (pair x) (pair y) ≡ Less
 unfolding pair
 pair_less x y ne e =
-    let apart : nat_cmp y.name x.name ≢ Equal = unlike y.name x.name (λ same. ne (sym same)) in
+    let apart : nat_cmp y.name x.name ≢ Equal = unequal y.name x.name (λ same. ne (sym same)) in
     let by_two = third_unasked (nat_cmp y.depth x.depth) (nat_cmp y.name x.name) (nat_cmp y.class x.class) apart in
     let more : class_cmp (pair y) (pair x) ≡ Greater = greater (class_cmp (pair y) (pair x)) (ap is_lt (sym by_two) ∙ e) (λ tie. apart (tied_second (nat_cmp y.depth x.depth) (nat_cmp y.name x.name) tie)) in
     class_total.antisymm (pair x) (pair y) ∙ ap ordering_reverse more
@@ -135,6 +135,6 @@ module _ (depths : List (Option ℕ)) (names : List ℕ) where
       let one = get_or-map pair ys k none d (omega arith) in
       let other = get_or-map pair ys (suc k) none d less in
       let ne : (get_or ys k none).name ≢ (get_or ys (suc k) none).name = eqb-false (get_or ys k none).name (get_or ys (suc k) none).name (apart_from_distinct same_name ys k (suc k) none apart (omega arith) less) in
-      let behind : is_lt (place_cmp (get_or ys (suc k) none) (get_or ys k none)) ≡ false = subst (λ j. is_lt (place_cmp (get_or ys j none) (get_or ys k none)) ≡ false) (add-one k) (sorted k none (omega arith) (omega arith)) in
-      (λ i. class_cmp (one i) (other i)) ∙ pair_less (get_or ys k none) (get_or ys (suc k) none) ne behind in
+      let following : is_lt (place_cmp (get_or ys (suc k) none) (get_or ys k none)) ≡ false = subst (λ j. is_lt (place_cmp (get_or ys j none) (get_or ys k none)) ≡ false) (add-one k) (sorted k none (omega arith) (omega arith)) in
+      (λ i. class_cmp (one i) (other i)) ∙ pair_less (get_or ys k none) (get_or ys (suc k) none) ne following in
       ap (rises class_cmp) (pairs_of ys places) ∙ rises_adjacent class_cmp (map pair ys) next_rises

@@ -80,11 +80,11 @@ module _ (classes : List (List ℕ)) where
     last_visit = subst (IsVisit classes) (get_or-append_seam path v [] v) (h.visits (length path) v (omega (arith, length-append path (v ∷ []))))
 
     -- the visits before it
-    front_visits : All (IsVisit classes) path
-    front_visits k d lt = subst (IsVisit classes) (get_or-append path (v ∷ []) d k lt) (h.visits k d (omega (arith, length-append path (v ∷ []))))
+    prefix_visits : All (IsVisit classes) path
+    prefix_visits k d lt = subst (IsVisit classes) (get_or-append path (v ∷ []) d k lt) (h.visits k d (omega (arith, length-append path (v ∷ []))))
 
-    front_waiting : AllPairs (λ u w. IsWaitingFor classes w.class u) path
-    front_waiting i j d ij lt =
+    prefix_waiting : AllPairs (λ u w. IsWaitingFor classes w.class u) path
+    prefix_waiting i j d ij lt =
         let less : i < length path = omega arith in
         let one = get_or-append path (v ∷ []) d i less in
         let other = get_or-append path (v ∷ []) d j lt in
@@ -138,8 +138,8 @@ module _ (classes : List (List ℕ)) where
               | inr none ↦ inr none
             ]
           ];
-          visits = front_visits;
-          waiting = front_waiting;
+          visits = prefix_visits;
+          waiting = prefix_waiting;
         }
 
     module _ (p : ℕ) (left : List ℕ) (next : v.left.now ≡ p ∷ left) where
@@ -185,8 +185,8 @@ module _ (classes : List (List ℕ)) where
               ])
               | inr none ↦ inr none
             ];
-            visits = All-push (IsVisit classes) path w front_visits (deeper d w (h.known p d known) class rest depth);
-            waiting = all_pairs_push (λ u x. IsWaitingFor classes x.class u) path w front_waiting (λ k e lt. subst (λ c. IsWaitingFor classes c (get_or path k e)) (sym class) (waits_last k e lt));
+            visits = All-push (IsVisit classes) path w prefix_visits (deeper d w (h.known p d known) class rest depth);
+            waiting = all_pairs_push (λ u x. IsWaitingFor classes x.class u) path w prefix_waiting (λ k e lt. subst (λ c. IsWaitingFor classes c (get_or path k e)) (sym class) (waits_last k e lt));
           })
 
       -- ---- the parent has no depth, and was seen
@@ -220,6 +220,6 @@ module _ (classes : List (List ℕ)) where
           ]
           | inr none ↦ inr none
         ];
-        visits = front_visits;
-        waiting = front_waiting;
+        visits = prefix_visits;
+        waiting = prefix_waiting;
       }

@@ -31,7 +31,7 @@ unfolding ushort_at
 ushort_at_rest b rest o p q e at = ap (λ (r : List ℕ). number_of (take 2 (drop p r))) e ∙ ap (λ (r : List ℕ). number_of (take 2 r)) (drop-drop p o b) ∙ ap (λ (m : ℕ). number_of (take 2 (drop m b))) at
 
 -- there is no text after the end
-pub no_text_behind : (b : List ℕ) (o n : ℕ) (s : List ℕ) → length b < o → StringDataAt b o s n → ⊥
-no_text_behind b o n s lt h =
+pub no_text_after : (b : List ℕ) (o n : ℕ) (s : List ℕ) → length b < o → StringDataAt b o s n → ⊥
+no_text_after b o n s lt h =
     let item = h.spelled in
     omega (arith, h.within, length-drop o b, length-take n (drop o b), ap length item.parts, length-append item.count (spelling s ++ 0 ∷ []), length-append (spelling s) (0 ∷ []))

@@ -111,26 +111,26 @@ module _ (texts types : List Text) (protos : List Proto) (fields : List Field) (
   has_text : (x : Text) → Contains texts x → Contains all_symbols (TextSymbol x)
   has_text x c = Contains-append_left (map TextSymbol texts) (map TypeSymbol types ++ (map ProtoSymbol protos ++ (map FieldSymbol fields ++ map MethodSymbol methods))) (TextSymbol x) (Contains-map TextSymbol texts x c)
 
-  behind_texts : (s : Symbol) → Contains (map TypeSymbol types ++ (map ProtoSymbol protos ++ (map FieldSymbol fields ++ map MethodSymbol methods))) s → Contains all_symbols s
-  behind_texts s c = Contains-append_right (map TextSymbol texts) (map TypeSymbol types ++ (map ProtoSymbol protos ++ (map FieldSymbol fields ++ map MethodSymbol methods))) s c
+  after_texts : (s : Symbol) → Contains (map TypeSymbol types ++ (map ProtoSymbol protos ++ (map FieldSymbol fields ++ map MethodSymbol methods))) s → Contains all_symbols s
+  after_texts s c = Contains-append_right (map TextSymbol texts) (map TypeSymbol types ++ (map ProtoSymbol protos ++ (map FieldSymbol fields ++ map MethodSymbol methods))) s c
 
   has_type : (x : Text) → Contains types x → Contains all_symbols (TypeSymbol x)
-  has_type x c = behind_texts (TypeSymbol x) (Contains-append_left (map TypeSymbol types) (map ProtoSymbol protos ++ (map FieldSymbol fields ++ map MethodSymbol methods)) (TypeSymbol x) (Contains-map TypeSymbol types x c))
+  has_type x c = after_texts (TypeSymbol x) (Contains-append_left (map TypeSymbol types) (map ProtoSymbol protos ++ (map FieldSymbol fields ++ map MethodSymbol methods)) (TypeSymbol x) (Contains-map TypeSymbol types x c))
 
-  behind_types : (s : Symbol) → Contains (map ProtoSymbol protos ++ (map FieldSymbol fields ++ map MethodSymbol methods)) s → Contains all_symbols s
-  behind_types s c = behind_texts s (Contains-append_right (map TypeSymbol types) (map ProtoSymbol protos ++ (map FieldSymbol fields ++ map MethodSymbol methods)) s c)
+  after_types : (s : Symbol) → Contains (map ProtoSymbol protos ++ (map FieldSymbol fields ++ map MethodSymbol methods)) s → Contains all_symbols s
+  after_types s c = after_texts s (Contains-append_right (map TypeSymbol types) (map ProtoSymbol protos ++ (map FieldSymbol fields ++ map MethodSymbol methods)) s c)
 
   has_proto : (x : Proto) → Contains protos x → Contains all_symbols (ProtoSymbol x)
-  has_proto x c = behind_types (ProtoSymbol x) (Contains-append_left (map ProtoSymbol protos) (map FieldSymbol fields ++ map MethodSymbol methods) (ProtoSymbol x) (Contains-map ProtoSymbol protos x c))
+  has_proto x c = after_types (ProtoSymbol x) (Contains-append_left (map ProtoSymbol protos) (map FieldSymbol fields ++ map MethodSymbol methods) (ProtoSymbol x) (Contains-map ProtoSymbol protos x c))
 
-  behind_protos : (s : Symbol) → Contains (map FieldSymbol fields ++ map MethodSymbol methods) s → Contains all_symbols s
-  behind_protos s c = behind_types s (Contains-append_right (map ProtoSymbol protos) (map FieldSymbol fields ++ map MethodSymbol methods) s c)
+  after_protos : (s : Symbol) → Contains (map FieldSymbol fields ++ map MethodSymbol methods) s → Contains all_symbols s
+  after_protos s c = after_types s (Contains-append_right (map ProtoSymbol protos) (map FieldSymbol fields ++ map MethodSymbol methods) s c)
 
   has_field : (x : Field) → Contains fields x → Contains all_symbols (FieldSymbol x)
-  has_field x c = behind_protos (FieldSymbol x) (Contains-append_left (map FieldSymbol fields) (map MethodSymbol methods) (FieldSymbol x) (Contains-map FieldSymbol fields x c))
+  has_field x c = after_protos (FieldSymbol x) (Contains-append_left (map FieldSymbol fields) (map MethodSymbol methods) (FieldSymbol x) (Contains-map FieldSymbol fields x c))
 
   has_method : (x : Method) → Contains methods x → Contains all_symbols (MethodSymbol x)
-  has_method x c = behind_protos (MethodSymbol x) (Contains-append_right (map FieldSymbol fields) (map MethodSymbol methods) (MethodSymbol x) (Contains-map MethodSymbol methods x c))
+  has_method x c = after_protos (MethodSymbol x) (Contains-append_right (map FieldSymbol fields) (map MethodSymbol methods) (MethodSymbol x) (Contains-map MethodSymbol methods x c))
 
   -- each of them is one of the five kinds
   each_symbol : (P : Symbol → Type 0) → ((x : Text) → Contains texts x → P (TextSymbol x)) → ((x : Text) → Contains types x → P (TypeSymbol x)) → ((x : Proto) → Contains protos x → P (ProtoSymbol x)) → ((x : Field) → Contains fields x → P (FieldSymbol x))

@@ -25,7 +25,7 @@ use Rattle.dexpool.specs.declared.protos.Protos.{Protos}
 use Rattle.dexpool.specs.Tables.{text_of, type_of, proto_of, field_of, method_of, type_cmp, proto_cmp, field_key, method_key}
 use Rattle.dexpool.specs.Numberings.{IsNumbering}
 use Rattle.dexpool.specs.internal.Renumbering.{numbers_of, numbers_in, HasSpans, IsEntryWithin, IsFieldWithin, IsMethodWithin}
-use Rattle.dexpool.specs.internal.Joining.{IsUnion, StandFor, AreJoinedTexts, AreJoinedTypes, AreJoinedProtos, AreJoinedFields, AreJoinedMethods, proto_of_row, IsRowOf}
+use Rattle.dexpool.specs.internal.Joining.{IsUnion, Denote, AreJoinedTexts, AreJoinedTypes, AreJoinedProtos, AreJoinedFields, AreJoinedMethods, proto_of_row, IsRowOf}
 use Rattle.dexpool.proofs.NumberOrder as order
 use Rattle.dexpool.proofs.NumberOrder.{HasTypeNumbers, HasFieldNumbers, HasMethodNumbers, slices-map}
 use Rattle.dexpool.proofs.Pairs.{map_both}
@@ -42,7 +42,7 @@ same_union of R parts xs ys images e u = subst (λ zs. IsUnion of R parts zs ima
 module _ (parts : List Mentions) (numberings : All IsNumbering parts) where
   -- ---- texts
 
-  texts_of_parts : (ms : List Mentions) → AllZip (λ (part : Mentions) rows. StandFor (λ (t : Text). t) (λ (t : Text). Unit {0}) part.texts rows) ms (map (λ (m : Mentions). m.texts) ms)
+  texts_of_parts : (ms : List Mentions) → AllZip (λ (part : Mentions) rows. Denote (λ (t : Text). t) (λ (t : Text). Unit {0}) part.texts rows) ms (map (λ (m : Mentions). m.texts) ms)
   texts_of_parts [] = tt
   texts_of_parts (m ∷ ms) = (record { same = map-id m.texts; within = λ k d lt. tt }, texts_of_parts ms)
 
@@ -59,13 +59,13 @@ module _ (parts : List Mentions) (numberings : All IsNumbering parts) where
 
     -- ---- types
 
-    module _ (rows : List (List TypeRow)) (stand : AllZip (λ (part : Mentions) xs. StandFor (λ (row : TypeRow). text_of texts row.descriptor) (λ (row : TypeRow). row.descriptor < length texts) part.types xs) parts rows) where
+    module _ (rows : List (List TypeRow)) (are_encoded : AllZip (λ (part : Mentions) xs. Denote (λ (row : TypeRow). text_of texts row.descriptor) (λ (row : TypeRow). row.descriptor < length texts) part.types xs) parts rows) where
       pub types_joined : (joined : List TypeRow) (images : List (List ℕ)) (numbers : List ℕ) → IsJoin (λ (row : TypeRow). row.descriptor ∷ []) rows joined images → numbers ≡ map (λ (row : TypeRow). row.descriptor) joined → AreJoinedTypes parts texts numbers images
       types_joined joined images numbers j is =
           let u = union (λ (row : TypeRow). row.descriptor ∷ []) (λ (row : TypeRow). text_of texts row.descriptor) (λ (row : TypeRow). row.descriptor < length texts) text_cmp text_total text_exact
-          (λ x y p q. order.type_rows_agree texts texts_rise x.descriptor y.descriptor p q) (λ (m : Mentions). m.types) parts rows stand joined images j in
+          (λ x y p q. order.type_rows_agree texts texts_rise x.descriptor y.descriptor p q) (λ (m : Mentions). m.types) parts rows are_encoded joined images j in
           let w = joined_within (λ (row : TypeRow). row.descriptor ∷ []) (λ (row : TypeRow). text_of texts row.descriptor) (λ (row : TypeRow). row.descriptor < length texts) text_cmp text_total text_exact
-          (λ x y p q. order.type_rows_agree texts texts_rise x.descriptor y.descriptor p q) (λ (m : Mentions). m.types) parts rows stand joined images j in
+          (λ x y p q. order.type_rows_agree texts texts_rise x.descriptor y.descriptor p q) (λ (m : Mentions). m.types) parts rows are_encoded joined images j in
           record {
             union = same_union (λ (m : Mentions). m.types) text_cmp parts (map (λ (row : TypeRow). text_of texts row.descriptor) joined) (map (text_of texts) numbers) images
                 (sym (ap (map (text_of texts)) is ∙ map_both (λ (row : TypeRow). row.descriptor) (text_of texts) (λ (row : TypeRow). text_of texts row.descriptor) joined (λ k d lt. refl))) u;
@@ -77,7 +77,7 @@ module _ (parts : List Mentions) (numberings : All IsNumbering parts) where
       type_texts_rise = union_rises (λ (m : Mentions). m.types) text_cmp text_total text_exact parts (map (text_of texts) types) type_images jy.union
 
       pub types_rise : rises type_cmp types ≡ true
-      types_rise = order.types_rise_alike texts texts_rise types jy.within ∙ type_texts_rise
+      types_rise = order.types_rise_equally texts texts_rise types jy.within ∙ type_texts_rise
 
       types_agree : (m n : ℕ) → m < length types → n < length types → nat_cmp m n ≡ text_cmp (type_of texts types m) (type_of texts types n)
       types_agree = order.types_agree texts texts_rise types jy.within types_rise
@@ -91,14 +91,14 @@ module _ (parts : List Mentions) (numberings : All IsNumbering parts) where
           slices-map nat_cmp text_cmp (type_of texts types) (λ n. n < length types) types_agree x.parameters y.parameters p.parameters_in q.parameters_in in
           λ i. ordering_then (e i) (r i)
 
-      module _ (rows : List (List ProtoNumbers)) (stand : AllZip (λ (part : Mentions) xs. StandFor (proto_of_row texts types) (IsRowOf texts types) part.protos xs) parts rows) where
+      module _ (rows : List (List ProtoNumbers)) (are_encoded : AllZip (λ (part : Mentions) xs. Denote (proto_of_row texts types) (IsRowOf texts types) part.protos xs) parts rows) where
         pub protos_joined : (joined : List ProtoNumbers) (images : List (List ℕ)) (table : Protos) → IsJoin (λ (row : ProtoNumbers). row.return_type ∷ row.parameters) rows joined images → HasSpans table → numbers_in table ≡ joined
             → AreJoinedProtos parts texts types table.parameters.items table.rows.items images
         protos_joined joined images table j spans is =
             let ps = table.parameters.items in
             let entries = table.rows.items in
-            let u = union (λ (row : ProtoNumbers). row.return_type ∷ row.parameters) (proto_of_row texts types) (IsRowOf texts types) symbols.proto_cmp proto_total proto_exact rows_agree (λ (m : Mentions). m.protos) parts rows stand joined images j in
-            let w = joined_within (λ (row : ProtoNumbers). row.return_type ∷ row.parameters) (proto_of_row texts types) (IsRowOf texts types) symbols.proto_cmp proto_total proto_exact rows_agree (λ (m : Mentions). m.protos) parts rows stand joined images j in
+            let u = union (λ (row : ProtoNumbers). row.return_type ∷ row.parameters) (proto_of_row texts types) (IsRowOf texts types) symbols.proto_cmp proto_total proto_exact rows_agree (λ (m : Mentions). m.protos) parts rows are_encoded joined images j in
+            let w = joined_within (λ (row : ProtoNumbers). row.return_type ∷ row.parameters) (proto_of_row texts types) (IsRowOf texts types) symbols.proto_cmp proto_total proto_exact rows_agree (λ (m : Mentions). m.protos) parts rows are_encoded joined images j in
             let each : All (λ p. IsRowOf texts types (numbers_of ps p)) entries = composing.all_seen (numbers_of ps) (IsRowOf texts types) entries (subst (All (IsRowOf texts types)) (sym is) w) in
             record {
               union = same_union (λ (m : Mentions). m.protos) symbols.proto_cmp parts (map (proto_of_row texts types) joined) (map (proto_of texts types ps) entries) images
@@ -115,11 +115,11 @@ module _ (parts : List Mentions) (numberings : All IsNumbering parts) where
       fields_agree : (f g : FieldRow) → IsFieldWithin (length texts) (length types) f → IsFieldWithin (length texts) (length types) g → row_cmp field_key f g ≡ symbols.field_cmp (field_of texts types f) (field_of texts types g)
       fields_agree f g h k = order.field_rows_agree texts texts_rise types jy.within types_rise f g (field_numbers f h) (field_numbers g k)
 
-      module _ (rows : List (List FieldRow)) (stand : AllZip (λ (part : Mentions) xs. StandFor (field_of texts types) (IsFieldWithin (length texts) (length types)) part.fields xs) parts rows) where
+      module _ (rows : List (List FieldRow)) (are_encoded : AllZip (λ (part : Mentions) xs. Denote (field_of texts types) (IsFieldWithin (length texts) (length types)) part.fields xs) parts rows) where
         pub fields_joined : (joined : List FieldRow) (images : List (List ℕ)) → IsJoin field_key rows joined images → AreJoinedFields parts texts types joined images
         fields_joined joined images j = record {
-          union = union field_key (field_of texts types) (IsFieldWithin (length texts) (length types)) symbols.field_cmp field_total field_exact fields_agree (λ (m : Mentions). m.fields) parts rows stand joined images j;
-          within = joined_within field_key (field_of texts types) (IsFieldWithin (length texts) (length types)) symbols.field_cmp field_total field_exact fields_agree (λ (m : Mentions). m.fields) parts rows stand joined images j;
+          union = union field_key (field_of texts types) (IsFieldWithin (length texts) (length types)) symbols.field_cmp field_total field_exact fields_agree (λ (m : Mentions). m.fields) parts rows are_encoded joined images j;
+          within = joined_within field_key (field_of texts types) (IsFieldWithin (length texts) (length types)) symbols.field_cmp field_total field_exact fields_agree (λ (m : Mentions). m.fields) parts rows are_encoded joined images j;
         }
 
       -- ---- methods
@@ -132,7 +132,7 @@ module _ (parts : List Mentions) (numberings : All IsNumbering parts) where
         proto_symbols_rise = union_rises (λ (m : Mentions). m.protos) symbols.proto_cmp proto_total proto_exact parts (map (proto_of texts types ps) protos) proto_images jp.union
 
         pub protos_rise : rises (proto_cmp ps) protos ≡ true
-        protos_rise = order.protos_rise_alike texts texts_rise types jy.within types_rise ps protos entries_in ∙ proto_symbols_rise
+        protos_rise = order.protos_rise_equally texts texts_rise types jy.within types_rise ps protos entries_in ∙ proto_symbols_rise
 
         method_numbers : (m : MethodRow) → IsMethodWithin (length texts) (length types) (length protos) m → HasMethodNumbers (length types) (length texts) (length protos) m
         method_numbers m h = record { class_in = h.class_in; name_in = h.name_in; proto_in = h.proto_in }
@@ -141,19 +141,19 @@ module _ (parts : List Mentions) (numberings : All IsNumbering parts) where
             → row_cmp method_key m n ≡ symbols.method_cmp (method_of texts types ps protos m) (method_of texts types ps protos n)
         methods_agree m n h k = order.method_rows_agree texts texts_rise types jy.within types_rise ps protos entries_in protos_rise m n (method_numbers m h) (method_numbers n k)
 
-        module _ (rows : List (List MethodRow)) (stand : AllZip (λ (part : Mentions) xs. StandFor (method_of texts types ps protos) (IsMethodWithin (length texts) (length types) (length protos)) part.methods xs) parts rows) where
+        module _ (rows : List (List MethodRow)) (are_encoded : AllZip (λ (part : Mentions) xs. Denote (method_of texts types ps protos) (IsMethodWithin (length texts) (length types) (length protos)) part.methods xs) parts rows) where
           pub methods_joined : (joined : List MethodRow) (images : List (List ℕ)) → IsJoin method_key rows joined images → AreJoinedMethods parts texts types ps protos joined images
           methods_joined joined images j = record {
-            union = union method_key (method_of texts types ps protos) (IsMethodWithin (length texts) (length types) (length protos)) symbols.method_cmp method_total method_exact methods_agree (λ (m : Mentions). m.methods) parts rows stand joined images j;
-            within = joined_within method_key (method_of texts types ps protos) (IsMethodWithin (length texts) (length types) (length protos)) symbols.method_cmp method_total method_exact methods_agree (λ (m : Mentions). m.methods) parts rows stand joined images j;
+            union = union method_key (method_of texts types ps protos) (IsMethodWithin (length texts) (length types) (length protos)) symbols.method_cmp method_total method_exact methods_agree (λ (m : Mentions). m.methods) parts rows are_encoded joined images j;
+            within = joined_within method_key (method_of texts types ps protos) (IsMethodWithin (length texts) (length types) (length protos)) symbols.method_cmp method_total method_exact methods_agree (λ (m : Mentions). m.methods) parts rows are_encoded joined images j;
           }
 
         pub method_rows_rise : (methods : List MethodRow) (method_images : List (List ℕ)) → AreJoinedMethods parts texts types ps protos methods method_images → rises (row_cmp method_key) methods ≡ true
-        method_rows_rise methods method_images jm = order.methods_rise_alike texts texts_rise types jy.within types_rise ps protos entries_in protos_rise methods
+        method_rows_rise methods method_images jm = order.methods_rise_equally texts texts_rise types jy.within types_rise ps protos entries_in protos_rise methods
             (All-weaker (IsMethodWithin (length texts) (length types) (length protos)) (HasMethodNumbers (length types) (length texts) (length protos)) method_numbers methods jm.within)
             ∙ union_rises (λ (m : Mentions). m.methods) symbols.method_cmp method_total method_exact parts (map (method_of texts types ps protos) methods) method_images jm.union
 
       pub field_rows_rise : (fields : List FieldRow) (field_images : List (List ℕ)) → AreJoinedFields parts texts types fields field_images → rises (row_cmp field_key) fields ≡ true
-      field_rows_rise fields field_images jf = order.fields_rise_alike texts texts_rise types jy.within types_rise fields
+      field_rows_rise fields field_images jf = order.fields_rise_equally texts texts_rise types jy.within types_rise fields
           (All-weaker (IsFieldWithin (length texts) (length types)) (HasFieldNumbers (length types) (length texts)) field_numbers fields jf.within)
           ∙ union_rises (λ (m : Mentions). m.fields) symbols.field_cmp field_total field_exact parts (map (field_of texts types) fields) field_images jf.union

@@ -16,13 +16,13 @@ use Rattle.dexspec.proofs.merge.SymbolOrders.{text_total, text_exact, proto_tota
 use Rattle.dexrows.proofs.Composing.{all_seen}
 use Rattle.dexpool.specs.declared.tables.Tables.{Tables}
 use Rattle.dexpool.specs.Tables.{text_of, type_of, span_of, proto_of, field_of, method_of}
-use Rattle.dexpool.specs.Numberings.{IsNumbering, Maps, Leads, AllLead, union_of}
+use Rattle.dexpool.specs.Numberings.{IsNumbering, Maps, MapsTo, AllMapTo, union_of}
 use Rattle.dexpool.specs.Orderly.{KeepsOrder}
 use Rattle.dexpool.specs.internal.Joining.{Moves, IsUnion, AreJoinedTexts, AreJoinedTypes, AreJoinedProtos, AreJoinedFields, AreJoinedMethods, AreMapsOf}
 use Rattle.dexpool.specs.Stored.{symbols_in, AreTables}
 use Rattle.dexpool.proofs.Pairs.{zip_length, zip_at, zip_from}
 use Rattle.dexpool.proofs.Unions.{some, all_union}
-use Rattle.dexpool.proofs.Leading.{leads}
+use Rattle.dexpool.proofs.Mapping.{maps_to}
 use Rattle.dexpool.proofs.JoinedLevels.{union_rises, texts_rise, types_rise, protos_rise, field_rows_rise, method_rows_rise}
 
 -- there are images for each part
@@ -32,15 +32,15 @@ images_count of R to S f g parts xs ys images others u v =
     omega (arith, zip_length (λ p image. Moves (of p) xs image) parts (map f images) u.moves, zip_length (λ p image. Moves (to p) ys image) parts (map g others) v.moves, length-map images f, length-map others g)
 
 -- the images of a part are a map
-one_leads : {X : Type 0} (of : Mentions → List X) (R : X → X → Ordering) (o : IsTotalOrder R) (exact : IsAntisymmetric R) (parts : List Mentions) (to : List X) (images : List (List ℕ)) → IsUnion of R parts to images → All (λ m. rises R (of m) ≡ true) parts
-    → (seen : Maps → List (Option ℕ)) (maps : List Maps) → map seen maps ≡ map (map Some) images → (i : ℕ) (d : Mentions) (e : Maps) → i < length parts → Leads (of (get_or parts i d)) to (seen (get_or maps i e))
-one_leads of R o exact parts to images u rise seen maps is i d e lt =
+one_mapped : {X : Type 0} (of : Mentions → List X) (R : X → X → Ordering) (o : IsTotalOrder R) (exact : IsAntisymmetric R) (parts : List Mentions) (to : List X) (images : List (List ℕ)) → IsUnion of R parts to images → All (λ m. rises R (of m) ≡ true) parts
+    → (seen : Maps → List (Option ℕ)) (maps : List Maps) → map seen maps ≡ map (map Some) images → (i : ℕ) (d : Mentions) (e : Maps) → i < length parts → MapsTo (of (get_or parts i d)) to (seen (get_or maps i e))
+one_mapped of R o exact parts to images u rise seen maps is i d e lt =
     let n : length images ≡ length parts = sym (zip_length (λ m image. Moves (of m) to image) parts images u.moves) in
     let k : length maps ≡ length images = sym (length-map maps seen) ∙ ap (λ (l : List (List (Option ℕ))). length l) is ∙ length-map images (map Some) in
     let same : seen (get_or maps i e) ≡ map Some (get_or images i []) =
     sym (get_or-map seen maps i e (seen e) (omega (arith, lt, n, k))) ∙ ap (λ (l : List (List (Option ℕ))). get_or l i (seen e)) is ∙ get_or-map (map Some) images i [] (seen e) (omega (arith, lt, n)) in
-    subst (Leads (of (get_or parts i d)) to) (sym same)
-    (leads R o (of (get_or parts i d)) to (All-get_or (λ m. rises R (of m) ≡ true) parts i d lt rise) (union_rises of R o exact parts to images u) (get_or images i [])
+    subst (MapsTo (of (get_or parts i d)) to) (sym same)
+    (maps_to R o (of (get_or parts i d)) to (All-get_or (λ m. rises R (of m) ≡ true) parts i d lt rise) (union_rises of R o exact parts to images u) (get_or images i [])
     (zip_at (λ m image. Moves (of m) to image) parts images i d [] u.moves lt))
 
 -- the images of each part keep the order of its numbers
@@ -52,7 +52,7 @@ images_keep of R o exact parts to items images u rise i d lt =
     let part = some parts i less in
     let same : get_or (map items images) i [] ≡ items (get_or images i d) = get_or-map items images i d [] lt in
     let moves : Moves (of (get_or parts i part)) to (items (get_or images i d)) = subst (Moves (of (get_or parts i part)) to) same (zip_at (λ m image. Moves (of m) to image) parts (map items images) i part [] u.moves less) in
-    (leads R o (of (get_or parts i part)) to (All-get_or (λ m. rises R (of m) ≡ true) parts i part less rise) (union_rises of R o exact parts to (map items images) u) (items (get_or images i d)) moves).rising
+    (maps_to R o (of (get_or parts i part)) to (All-get_or (λ m. rises R (of m) ≡ true) parts i part less rise) (union_rises of R o exact parts to (map items images) u) (items (get_or images i d)) moves).rising
 
 -- the map of one part more
 pub maps_more : {Z : Type 0} (items : Z → List ℕ) (seen : Maps → List (Option ℕ)) (old new : List Maps) (m : Maps) (images : List Z) (i : ℕ) (d : Z) → new ≡ old ++ m ∷ [] → map seen old ≡ map (map (λ (k : ℕ). Some k)) (map items (take i images)) → i < length images
@@ -91,8 +91,8 @@ module _ (parts : List Mentions) (numberings : All IsNumbering parts) (t : Table
     protos_rise = protos_rise parts numberings t.strings.items strings jt t.types.items types jy t.parameters t.protos.items protos jp;
     fields_rise = field_rows_rise parts numberings t.strings.items strings jt t.types.items types jy t.fields.items fields jf;
     methods_rise = method_rows_rise parts numberings t.strings.items strings jt t.types.items types jy t.parameters t.protos.items protos jp t.methods.items methods jm;
-    types_stand = λ k d lt. record { text_in = jy.within k d lt; descriptor = descriptors k d lt };
-    protos_stand = λ k d lt.
+    types_at_ranks = λ k d lt. record { text_in = jy.within k d lt; descriptor = descriptors k d lt };
+    protos_at_ranks = λ k d lt.
         let w = jp.within k d lt in
         let formed = protos_formed k d lt in
         record {
@@ -105,11 +105,11 @@ module _ (parts : List Mentions) (numberings : All IsNumbering parts) (t : Table
           shorty_in = w.shorty_in;
           shorty_is = jp.shorties k d lt;
         };
-    fields_stand = λ k d lt.
+    fields_at_ranks = λ k d lt.
         let w = jf.within k d lt in
         let formed = fields_formed k d lt in
         record { class_is = record { type_in = w.class_in; is = formed.class }; name_in = w.name_in; name_is = formed.name; type_is = record { type_in = w.type_in; is = formed.type } };
-    methods_stand = λ k d lt.
+    methods_at_ranks = λ k d lt.
         let w = jm.within k d lt in
         let formed = methods_formed k d lt in
         record { class_is = record { type_in = w.class_in; is = formed.class }; name_in = w.name_in; name_is = formed.name; proto_in = w.proto_in };
@@ -118,18 +118,18 @@ module _ (parts : List Mentions) (numberings : All IsNumbering parts) (t : Table
   pub are_union : symbols_in t ≡ union_of parts
   are_union = λ i. record { texts = jt.all i; types = jy.union.all i; protos = jp.union.all i; fields = jf.union.all i; methods = jm.union.all i }
 
-  pub all_lead : (maps : List Maps) → AreMapsOf strings types protos fields methods maps → AllZip (λ part r. AllLead part (symbols_in t) r) parts maps
-  all_lead maps h =
-      zip_from (λ part r. AllLead part (symbols_in t) r) parts maps
+  pub all_map_to : (maps : List Maps) → AreMapsOf strings types protos fields methods maps → AllZip (λ part r. AllMapTo part (symbols_in t) r) parts maps
+  all_map_to maps h =
+      zip_from (λ part r. AllMapTo part (symbols_in t) r) parts maps
       (omega (arith, zip_length (λ (m : Mentions) image. Moves m.texts t.strings.items image) parts strings jt.moves, length-map maps (λ m. m.texts), ap (λ (l : List (List (Option ℕ))). length l) h.texts_are, length-map strings (map (λ (k : ℕ). Some k))))
       (λ i d e lt. record {
-        texts_lead = one_leads (λ (m : Mentions). m.texts) text_cmp text_total text_exact parts t.strings.items strings jt (All-weaker IsNumbering (λ m. rises text_cmp m.texts ≡ true) (λ m n. n.rising.texts_rise) parts numberings) (λ m. m.texts) maps h.texts_are i d e lt;
-        types_lead = one_leads (λ (m : Mentions). m.types) text_cmp text_total text_exact parts (map (text_of t.strings.items) t.types.items) types jy.union (All-weaker IsNumbering (λ m. rises text_cmp m.types ≡ true) (λ m n. n.rising.types_rise) parts numberings) (λ m. m.types) maps h.types_are i d e lt;
-        protos_lead = one_leads (λ (m : Mentions). m.protos) symbols.proto_cmp proto_total proto_exact parts (map (proto_of t.strings.items t.types.items t.parameters) t.protos.items) protos jp.union
+        texts_mapped = one_mapped (λ (m : Mentions). m.texts) text_cmp text_total text_exact parts t.strings.items strings jt (All-weaker IsNumbering (λ m. rises text_cmp m.texts ≡ true) (λ m n. n.rising.texts_rise) parts numberings) (λ m. m.texts) maps h.texts_are i d e lt;
+        types_mapped = one_mapped (λ (m : Mentions). m.types) text_cmp text_total text_exact parts (map (text_of t.strings.items) t.types.items) types jy.union (All-weaker IsNumbering (λ m. rises text_cmp m.types ≡ true) (λ m n. n.rising.types_rise) parts numberings) (λ m. m.types) maps h.types_are i d e lt;
+        protos_mapped = one_mapped (λ (m : Mentions). m.protos) symbols.proto_cmp proto_total proto_exact parts (map (proto_of t.strings.items t.types.items t.parameters) t.protos.items) protos jp.union
             (All-weaker IsNumbering (λ m. rises symbols.proto_cmp m.protos ≡ true) (λ m n. n.rising.protos_rise) parts numberings) (λ m. m.protos) maps h.protos_are i d e lt;
-        fields_lead = one_leads (λ (m : Mentions). m.fields) symbols.field_cmp field_total field_exact parts (map (field_of t.strings.items t.types.items) t.fields.items) fields jf.union
+        fields_mapped = one_mapped (λ (m : Mentions). m.fields) symbols.field_cmp field_total field_exact parts (map (field_of t.strings.items t.types.items) t.fields.items) fields jf.union
             (All-weaker IsNumbering (λ m. rises symbols.field_cmp m.fields ≡ true) (λ m n. n.rising.fields_rise) parts numberings) (λ m. m.fields) maps h.fields_are i d e lt;
-        methods_lead = one_leads (λ (m : Mentions). m.methods) symbols.method_cmp method_total method_exact parts (map (method_of t.strings.items t.types.items t.parameters t.protos.items) t.methods.items) methods jm.union
+        methods_mapped = one_mapped (λ (m : Mentions). m.methods) symbols.method_cmp method_total method_exact parts (map (method_of t.strings.items t.types.items t.parameters t.protos.items) t.methods.items) methods jm.union
             (All-weaker IsNumbering (λ m. rises symbols.method_cmp m.methods ≡ true) (λ m n. n.rising.methods_rise) parts numberings) (λ m. m.methods) maps h.methods_are i d e lt;
       })
 

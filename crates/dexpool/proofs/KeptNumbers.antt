@@ -14,10 +14,10 @@ use Rattle.dexpool.specs.declared.tables.Tables.{Tables}
 use Rattle.dexpool.specs.declared.marks.Marks.{Marks}
 use Rattle.dexpool.specs.declared.symbols.SymbolKind.{SymbolKind}
 use Rattle.dexpool.specs.declared.symbols.SymbolKind.TheVariants as kinds
-use Rattle.dexpool.specs.Numberings.{Maps, AllLead, image}
-use Rattle.dexpool.specs.Orderly.{LeadDown}
-use Rattle.dexpool.specs.Laws.{LeadsWithin}
-use Rattle.dexpool.specs.Uses.{Use, AreMarkedToo, IsMarkedUse, IsLedUse, LeadsMarked, marks_of, same_kind, occurs}
+use Rattle.dexpool.specs.Numberings.{Maps, AllMapTo, image}
+use Rattle.dexpool.specs.Orderly.{MapsDown}
+use Rattle.dexpool.specs.Laws.{MapsWithin}
+use Rattle.dexpool.specs.Uses.{Use, AreMarkedToo, IsMarkedUse, IsMappedUse, MapsMarked, marks_of, same_kind, occurs}
 use Rattle.dexpool.specs.internal.Closing.{IsMarked, AreClosure, kept_places, mark_all, field_types, entry_types}
 use Rattle.dexpool.proofs.KeptRows.{mark_within, mark_stays}
 
@@ -34,7 +34,7 @@ places_down (false ∷ marks) n zero j e = absurd cc
 places_down (false ∷ marks) n (suc i) j e = omega (arith, places_down marks n i j e)
 
 -- a cut has no greater images
-pub kept_down : (marks : Marks) → LeadDown (kept_places marks)
+pub kept_down : (marks : Marks) → MapsDown (kept_places marks)
 kept_down marks kinds.Text i j e = omega (arith, places_down marks.strings.items 0 i j e)
 kept_down marks kinds.Typ i j e = omega (arith, places_down marks.types.items 0 i j e)
 kept_down marks kinds.Proto i j e = omega (arith, places_down marks.protos.items 0 i j e)
@@ -57,7 +57,7 @@ stays_too : (marks closed : List Bool) (ks ms ns : List ℕ) → closed ≡ mark
 stays_too marks closed ks ms ns e i marked = stays (mark_all (mark_all marks ks) ms) closed ns e i (mark_stays (mark_all marks ks) ms i (mark_stays marks ks i marked))
 
 -- what is marked has an image by the closed marks
-pub kept_marked : (t : Tables) (marks closed : Marks) → AreClosure t marks closed → LeadsMarked marks (kept_places closed)
+pub kept_marked : (t : Tables) (marks closed : Marks) → AreClosure t marks closed → MapsMarked marks (kept_places closed)
 kept_marked t marks closed is kinds.Text i e =
     let methods = map (λ (m : MethodRow). m.name) (kept marks.methods.items t.methods.items) in
     let fields = map (λ (f : FieldRow). f.name) (kept marks.fields.items t.fields.items) in
@@ -76,12 +76,12 @@ kept_marked t marks closed is kinds.Method i e = has_image closed.methods.items 
 
 -- ---- within the other numbering
 
-pub leads_within : (m n : Mentions) (r : Maps) → AllLead m n r → LeadsWithin n r
-leads_within m n r l kinds.Text i j e = (l.texts_lead.same i j [] e).within
-leads_within m n r l kinds.Typ i j e = (l.types_lead.same i j [] e).within
-leads_within m n r l kinds.Proto i j e = (l.protos_lead.same i j (record { return_type = []; parameters = [] }) e).within
-leads_within m n r l kinds.Field i j e = (l.fields_lead.same i j (record { class = []; name = []; type = [] }) e).within
-leads_within m n r l kinds.Method i j e = (l.methods_lead.same i j (record { class = []; name = []; proto = record { return_type = []; parameters = [] } }) e).within
+pub maps_within : (m n : Mentions) (r : Maps) → AllMapTo m n r → MapsWithin n r
+maps_within m n r l kinds.Text i j e = (l.texts_mapped.same i j [] e).within
+maps_within m n r l kinds.Typ i j e = (l.types_mapped.same i j [] e).within
+maps_within m n r l kinds.Proto i j e = (l.protos_mapped.same i j (record { return_type = []; parameters = [] }) e).within
+maps_within m n r l kinds.Field i j e = (l.fields_mapped.same i j (record { class = []; name = []; type = [] }) e).within
+maps_within m n r l kinds.Method i j e = (l.methods_mapped.same i j (record { class = []; name = []; proto = record { return_type = []; parameters = [] } }) e).within
 
 -- ---- what occurs
 
@@ -117,5 +117,5 @@ are_marked us old new is k d lt =
 pub stay_marked : (us : List Use) (old new : Marks) → AreMarkedToo us old new → (vs : List Use) → All (IsMarkedUse old) vs → All (IsMarkedUse new) vs
 stay_marked us old new is vs h = All-weaker (IsMarkedUse old) (IsMarkedUse new) (λ u e. is.each u.kind u.number ∙ true_or (get_or (marks_of u.kind old) u.number false) (occurs us u.kind u.number) e) vs h
 
-pub marked_led : (marks : Marks) (r : Maps) → LeadsMarked marks r → (us : List Use) → All (IsMarkedUse marks) us → All (IsLedUse r) us
-marked_led marks r lead us h = All-weaker (IsMarkedUse marks) (IsLedUse r) (λ u e. lead u.kind u.number e) us h
+pub marked_remapped : (marks : Marks) (r : Maps) → MapsMarked marks r → (us : List Use) → All (IsMarkedUse marks) us → All (IsMappedUse r) us
+marked_remapped marks r are_mapped us h = All-weaker (IsMarkedUse marks) (IsMappedUse r) (λ u e. are_mapped u.kind u.number e) us h

@@ -8,8 +8,8 @@ use Rattle.dexspec.proofs.lists.Members.{Contains-nil, Contains-first, Contains-
 use Rattle.dexspec.proofs.lists.Mapped.{All-among}
 use Rattle.dexspec.proofs.lists.InOrder.{Rises, AreDistinct-from_Rises}
 use Rattle.dexrows.specs.Cut.{kept, places}
-use Rattle.dexrows.proofs.KeptPlaces.{kept_among, length_places, marked_has, stands_at, places_rise}
-use Rattle.dexpool.specs.Numberings.{Leads, image}
+use Rattle.dexrows.proofs.KeptPlaces.{kept_among, length_places, marked_has, is_at, places_rise}
+use Rattle.dexpool.specs.Numberings.{MapsTo, image}
 use Rattle.dexpool.specs.Orderly.{KeepsOrder}
 use Rattle.dexpool.specs.internal.Closing.{IsMarked, mark_all, number_or_none, new_numbers}
 
@@ -82,7 +82,7 @@ pub is_moved : {X : Type 0} (marks : List Bool) (xs : List X) (n : ℕ) → leng
 is_moved marks xs n count marked =
     let lt = mark_within marks n marked in
     let place = marked_has marks n 0 false None lt marked in
-    let at = stands_at marks xs n 0 place.0 None count lt place.1 in
+    let at = is_at marks xs n 0 place.0 None count lt place.1 in
     let is : slice_index (new_numbers marks) n ≡ at.among =
     get_or-map number_or_none (places 0 marks) n None 0 (omega (arith, length_places 0 marks, lt)) ∙ ap number_or_none place.1 ∙ omega (arith, at.place_is) in
     record {
@@ -118,12 +118,12 @@ two_places R o xs rising i j d lt less apart e = elim (cases_order i j) [
 ]
 
 -- of a list without repeats a cut has just the marked members, whose numbers have images in their order
-pub kept_leads : {X : Type 0} (R : X → X → Ordering) → IsTotalOrder R → (marks : List Bool) (xs : List X) → length marks ≡ length xs → Rises R xs → Leads xs (kept marks xs) (places 0 marks)
-kept_leads R o marks xs count rising = record {
+pub kept_maps : {X : Type 0} (R : X → X → Ordering) → IsTotalOrder R → (marks : List Bool) (xs : List X) → length marks ≡ length xs → Rises R xs → MapsTo xs (kept marks xs) (places 0 marks)
+kept_maps R o marks xs count rising = record {
   count = length_places 0 marks ∙ count;
   same = λ i j d e.
       let lt = image_within marks i j e in
-      let at = stands_at marks xs i 0 j None count lt e in
+      let at = is_at marks xs i 0 j None count lt e in
       let is : j ≡ at.among = omega (arith, at.place_is) in
       record {
         within = omega (arith, is, at.within);

@@ -20,12 +20,12 @@ use Rattle.dexpool.specs.declared.rows.ProtoEntry.{ProtoEntry}
 use Rattle.dexpool.specs.declared.tables.Tables.{Tables}
 use Rattle.dexpool.specs.declared.marks.Marks.{Marks}
 use Rattle.dexpool.specs.Tables.{text_of, type_of, span_of, proto_of, field_of, method_of}
-use Rattle.dexpool.specs.Numberings.{AreMarksOf, AllLead, marked}
+use Rattle.dexpool.specs.Numberings.{AreMarksOf, AllMapTo, marked}
 use Rattle.dexpool.specs.Stored.{symbols_in, IsTypeNumber, IsTypeOf, IsProtoEntry, IsFieldRow, IsMethodRow, AreTables}
 use Rattle.dexpool.specs.internal.Closing.{IsMarked, mark_all, field_types, entry_types, AreClosure, AreClosed, HasMarkedEntry, HasMarkedField, HasMarkedMethod, kept_symbols, kept_places}
-use Rattle.dexpool.proofs.KeptRows.{kept_all, kept-map, kept_rises, kept_leads, length-mark_all, mark_comes, mark_all-append}
+use Rattle.dexpool.proofs.KeptRows.{kept_all, kept-map, kept_rises, kept_maps, length-mark_all, mark_comes, mark_all-append}
 use Rattle.dexpool.proofs.ClosedMarks.{Same, kept_grown, named, named_flat, mentioned}
-use Rattle.dexpool.proofs.TablesStand.{are_rising}
+use Rattle.dexpool.proofs.TablesAreAt.{are_rising}
 
 -- ---- any lists
 
@@ -57,16 +57,16 @@ module _ (t : Tables) (ok : AreTables t) (marks : Marks) (count : AreMarksOf (sy
   types = kept c.types.items t.types.items
 
   are_methods : All (IsMethodRow t) methods
-  are_methods = kept_all (IsMethodRow t) marks.methods.items t.methods.items ok.methods_stand
+  are_methods = kept_all (IsMethodRow t) marks.methods.items t.methods.items ok.methods_at_ranks
 
   are_fields : All (IsFieldRow t) fields
-  are_fields = kept_all (IsFieldRow t) marks.fields.items t.fields.items ok.fields_stand
+  are_fields = kept_all (IsFieldRow t) marks.fields.items t.fields.items ok.fields_at_ranks
 
   are_entries : All (IsProtoEntry t) protos
-  are_entries = kept_all (IsProtoEntry t) c.protos.items t.protos.items ok.protos_stand
+  are_entries = kept_all (IsProtoEntry t) c.protos.items t.protos.items ok.protos_at_ranks
 
   are_types : All (IsTypeNumber t) types
-  are_types = kept_all (IsTypeNumber t) c.types.items t.types.items ok.types_stand
+  are_types = kept_all (IsTypeNumber t) c.types.items t.types.items ok.types_at_ranks
 
   -- ---- protos
 
@@ -289,14 +289,14 @@ module _ (t : Tables) (ok : AreTables t) (marks : Marks) (count : AreMarksOf (sy
       (kept_rises method_cmp marks.methods.items m.methods (Rises-from_rises method_cmp method_total m.methods r.methods_rise))
 
   -- and the map is from the old numbering to the new one
-  pub kept_lead : AllLead (symbols_in t) (kept_symbols c (symbols_in t)) (kept_places c)
-  kept_lead =
+  pub kept_mapped : AllMapTo (symbols_in t) (kept_symbols c (symbols_in t)) (kept_places c)
+  kept_mapped =
       let m = symbols_in t in
       let r = are_rising t ok in
       record {
-        texts_lead = kept_leads text_cmp text_total c.strings.items m.texts closed_count.strings_count (Rises-from_rises text_cmp text_total m.texts r.texts_rise);
-        types_lead = kept_leads text_cmp text_total c.types.items m.types closed_count.types_count (Rises-from_rises text_cmp text_total m.types r.types_rise);
-        protos_lead = kept_leads proto_cmp proto_total c.protos.items m.protos closed_count.protos_count (Rises-from_rises proto_cmp proto_total m.protos r.protos_rise);
-        fields_lead = kept_leads field_cmp field_total c.fields.items m.fields closed_count.fields_count (Rises-from_rises field_cmp field_total m.fields r.fields_rise);
-        methods_lead = kept_leads method_cmp method_total c.methods.items m.methods closed_count.methods_count (Rises-from_rises method_cmp method_total m.methods r.methods_rise);
+        texts_mapped = kept_maps text_cmp text_total c.strings.items m.texts closed_count.strings_count (Rises-from_rises text_cmp text_total m.texts r.texts_rise);
+        types_mapped = kept_maps text_cmp text_total c.types.items m.types closed_count.types_count (Rises-from_rises text_cmp text_total m.types r.types_rise);
+        protos_mapped = kept_maps proto_cmp proto_total c.protos.items m.protos closed_count.protos_count (Rises-from_rises proto_cmp proto_total m.protos r.protos_rise);
+        fields_mapped = kept_maps field_cmp field_total c.fields.items m.fields closed_count.fields_count (Rises-from_rises field_cmp field_total m.fields r.fields_rise);
+        methods_mapped = kept_maps method_cmp method_total c.methods.items m.methods closed_count.methods_count (Rises-from_rises method_cmp method_total m.methods r.methods_rise);
       }

@@ -107,12 +107,12 @@ module _ (t : Tables) (ok : AreTables t) (marks : Marks) (count : AreMarksOf (sy
       mapped_twice (slice_index (new_numbers marks.types.items)) (type_of cut.strings.items cut.types.items) (type_of t.strings.items t.types.items) ns
       (All-weaker (IsMarked marks.types.items) (λ n. type_of cut.strings.items cut.types.items (slice_index (new_numbers marks.types.items) n) ≡ type_of t.strings.items t.types.items n) type_moved ns m)
 
-  cut_types_stand : All (IsTypeNumber cut) cut.types.items
-  cut_types_stand =
+  cut_types_are_rows : All (IsTypeNumber cut) cut.types.items
+  cut_types_are_rows =
       let ns = new_numbers marks.strings.items in
       let rows = kept marks.types.items t.types.items in
       subst (All (IsTypeNumber cut)) (sym is.types_are) (All-map (IsTypeNumber cut) (slice_index ns) rows
-      (all_both (IsMarked marks.strings.items) (IsTypeNumber t) (λ n. IsTypeNumber cut (slice_index ns n)) rows closed.types_closed (kept_all (IsTypeNumber t) marks.types.items t.types.items ok.types_stand)
+      (all_both (IsMarked marks.strings.items) (IsTypeNumber t) (λ n. IsTypeNumber cut (slice_index ns n)) rows closed.types_closed (kept_all (IsTypeNumber t) marks.types.items t.types.items ok.types_at_ranks)
       (λ n m k. record { text_in = text_within n m; descriptor = subst IsDescriptor (sym (text_moved n m)) k.descriptor })))
 
   is_type_of : (Is : List ℕ → Type 0) (n : ℕ) → IsMarked marks.types.items n → IsTypeOf Is t n → IsTypeOf Is cut (slice_index (new_numbers marks.types.items) n)
@@ -153,14 +153,14 @@ module _ (t : Tables) (ok : AreTables t) (marks : Marks) (count : AreMarksOf (sy
       sym (get_or-map of_cut cut.protos.items k _ none (proto_within n m)) ∙ ap (λ ps. get_or ps k none) protos_same
       ∙ (is_moved marks.protos.items (symbols_in t).protos n count.protos_count m).same none ∙ get_or-map of_t t.protos.items n _ none lt
 
-  cut_rows_stand : All (λ p. IsRow cut (numbers_of cut.parameters p)) cut.protos.items
-  cut_rows_stand =
+  cut_rows_are_rows : All (λ p. IsRow cut (numbers_of cut.parameters p)) cut.protos.items
+  cut_rows_are_rows =
       let ns = new_numbers marks.strings.items in
       let nt = new_numbers marks.types.items in
       let ps = t.parameters in
       let rows = kept marks.protos.items t.protos.items in
       all_seen (numbers_of cut.parameters) (IsRow cut) cut.protos.items (subst (All (IsRow cut)) (sym is.protos_are) (All-map (IsRow cut) (moved_proto ns nt ps) rows
-      (all_both (HasMarkedEntry t marks) (IsProtoEntry t) (λ p. IsRow cut (moved_proto ns nt ps p)) rows closed.protos_closed (kept_all (IsProtoEntry t) marks.protos.items t.protos.items ok.protos_stand)
+      (all_both (HasMarkedEntry t marks) (IsProtoEntry t) (λ p. IsRow cut (moved_proto ns nt ps p)) rows closed.protos_closed (kept_all (IsProtoEntry t) marks.protos.items t.protos.items ok.protos_at_ranks)
       (λ p m k. record {
         return_in = type_within p.return_type m.return_marked;
         parameters_in = All-map (IsTypeOf IsValueType cut) (slice_index nt) (span_of ps p.parameters)
@@ -170,9 +170,9 @@ module _ (t : Tables) (ok : AreTables t) (marks : Marks) (count : AreMarksOf (sy
             ∙ sym (λ i. shorty (type_moved p.return_type m.return_marked i) (all_moved (span_of ps p.parameters) m.parameters_marked i));
       }))))
 
-  cut_protos_stand : All (IsProtoEntry cut) cut.protos.items
-  cut_protos_stand =
-      all_both (λ p. HasSpan cut.parameters p.parameters) (λ p. IsRow cut (numbers_of cut.parameters p)) (IsProtoEntry cut) cut.protos.items is.spans cut_rows_stand
+  cut_protos_are_rows : All (IsProtoEntry cut) cut.protos.items
+  cut_protos_are_rows =
+      all_both (λ p. HasSpan cut.parameters p.parameters) (λ p. IsRow cut (numbers_of cut.parameters p)) (IsProtoEntry cut) cut.protos.items is.spans cut_rows_are_rows
       (λ p s r. record { span = s; return_in = r.return_in; parameters_in = r.parameters_in; shorty_in = r.shorty_in; shorty_is = r.shorty_is })
 
   -- ---- fields
@@ -190,13 +190,13 @@ module _ (t : Tables) (ok : AreTables t) (marks : Marks) (count : AreMarksOf (sy
       (λ f m. λ i. record { class = type_moved f.class m.class_marked i; name = text_moved f.name m.name_marked i; type = type_moved f.typ m.type_marked i }) rows closed.fields_closed)
       ∙ sym (kept-map of_t marks.fields.items t.fields.items)
 
-  cut_fields_stand : All (IsFieldRow cut) cut.fields.items
-  cut_fields_stand =
+  cut_fields_are_rows : All (IsFieldRow cut) cut.fields.items
+  cut_fields_are_rows =
       let ns = new_numbers marks.strings.items in
       let nt = new_numbers marks.types.items in
       let rows = kept marks.fields.items t.fields.items in
       subst (All (IsFieldRow cut)) (sym is.fields_are) (All-map (IsFieldRow cut) (moved_field ns nt) rows
-      (all_both (HasMarkedField marks) (IsFieldRow t) (λ f. IsFieldRow cut (moved_field ns nt f)) rows closed.fields_closed (kept_all (IsFieldRow t) marks.fields.items t.fields.items ok.fields_stand)
+      (all_both (HasMarkedField marks) (IsFieldRow t) (λ f. IsFieldRow cut (moved_field ns nt f)) rows closed.fields_closed (kept_all (IsFieldRow t) marks.fields.items t.fields.items ok.fields_at_ranks)
       (λ f m k. record {
         class_is = is_type_of names.IsClass f.class m.class_marked k.class_is;
         name_in = text_within f.name m.name_marked;
@@ -220,14 +220,14 @@ module _ (t : Tables) (ok : AreTables t) (marks : Marks) (count : AreMarksOf (sy
       (λ x m. λ i. record { class = type_moved x.class m.class_marked i; name = text_moved x.name m.name_marked i; proto = proto_moved x.proto m.proto_marked i }) rows closed.methods_closed)
       ∙ sym (kept-map of_t marks.methods.items t.methods.items)
 
-  cut_methods_stand : All (IsMethodRow cut) cut.methods.items
-  cut_methods_stand =
+  cut_methods_are_rows : All (IsMethodRow cut) cut.methods.items
+  cut_methods_are_rows =
       let ns = new_numbers marks.strings.items in
       let nt = new_numbers marks.types.items in
       let np = new_numbers marks.protos.items in
       let rows = kept marks.methods.items t.methods.items in
       subst (All (IsMethodRow cut)) (sym is.methods_are) (All-map (IsMethodRow cut) (moved_method ns nt np) rows
-      (all_both (HasMarkedMethod marks) (IsMethodRow t) (λ x. IsMethodRow cut (moved_method ns nt np x)) rows closed.methods_closed (kept_all (IsMethodRow t) marks.methods.items t.methods.items ok.methods_stand)
+      (all_both (HasMarkedMethod marks) (IsMethodRow t) (λ x. IsMethodRow cut (moved_method ns nt np x)) rows closed.methods_closed (kept_all (IsMethodRow t) marks.methods.items t.methods.items ok.methods_at_ranks)
       (λ x m k. record {
         class_is = is_type_of names.IsReferenceType x.class m.class_marked k.class_is;
         name_in = text_within x.name m.name_marked;
@@ -274,10 +274,10 @@ module _ (t : Tables) (ok : AreTables t) (marks : Marks) (count : AreMarksOf (sy
       protos_rise = cut_protos_rise;
       fields_rise = cut_fields_rise;
       methods_rise = cut_methods_rise;
-      types_stand = cut_types_stand;
-      protos_stand = cut_protos_stand;
-      fields_stand = cut_fields_stand;
-      methods_stand = cut_methods_stand;
+      types_at_ranks = cut_types_are_rows;
+      protos_at_ranks = cut_protos_are_rows;
+      fields_at_ranks = cut_fields_are_rows;
+      methods_at_ranks = cut_methods_are_rows;
     }
 
   -- ---- the whole
@@ -290,7 +290,7 @@ module _ (t : Tables) (ok : AreTables t) (marks : Marks) (count : AreMarksOf (sy
 
 module _ (t : Tables) (ok : AreTables t) (ss : List ℕ) (strings : length ss ≡ length t.strings.items) where
   pub types_within : (marks : List Bool) (types : List ℕ) → types ≡ kept marks t.types.items → All (λ n. n < length ss) types
-  types_within marks types e = subst (All (λ n. n < length ss)) (sym e) (kept_all (λ n. n < length ss) marks t.types.items (All-weaker (IsTypeNumber t) (λ n. n < length ss) (λ n k. omega (arith, k.text_in, strings)) t.types.items ok.types_stand))
+  types_within marks types e = subst (All (λ n. n < length ss)) (sym e) (kept_all (λ n. n < length ss) marks t.types.items (All-weaker (IsTypeNumber t) (λ n. n < length ss) (λ n k. omega (arith, k.text_in, strings)) t.types.items ok.types_at_ranks))
 
   module _ (ts : List ℕ) (types : length ts ≡ length t.types.items) (marks : List Bool) where
     pub protos_within : (protos : List ProtoEntry) → protos ≡ kept marks t.protos.items → All (IsEntryWithin (length ss) (length ts) t.parameters) protos
@@ -301,7 +301,7 @@ module _ (t : Tables) (ok : AreTables t) (ss : List ℕ) (strings : length ss �
           return_in = omega (arith, k.return_in, types);
           span = k.span;
           parameters_in = All-weaker (IsTypeOf IsValueType t) (λ n. n < length ts) (λ n i. omega (arith, i.type_in, types)) (span_of t.parameters p.parameters) k.parameters_in;
-        }) t.protos.items ok.protos_stand))
+        }) t.protos.items ok.protos_at_ranks))
 
     pub fields_within : (fields : List FieldRow) → fields ≡ kept marks t.fields.items → All (IsFieldWithin (length ss) (length ts)) fields
     fields_within fields e =
@@ -310,7 +310,7 @@ module _ (t : Tables) (ok : AreTables t) (ss : List ℕ) (strings : length ss �
           class_in = omega (arith, k.class_is.type_in, types);
           name_in = omega (arith, k.name_in, strings);
           type_in = omega (arith, k.type_is.type_in, types);
-        }) t.fields.items ok.fields_stand))
+        }) t.fields.items ok.fields_at_ranks))
 
     pub methods_within : (ps : List ℕ) → length ps ≡ length t.protos.items → (methods : List MethodRow) → methods ≡ kept marks t.methods.items → All (IsMethodWithin (length ss) (length ts) (length ps)) methods
     methods_within ps protos methods e =
@@ -319,7 +319,7 @@ module _ (t : Tables) (ok : AreTables t) (ss : List ℕ) (strings : length ss �
           class_in = omega (arith, k.class_is.type_in, types);
           name_in = omega (arith, k.name_in, strings);
           proto_in = omega (arith, k.proto_in, protos);
-        }) t.methods.items ok.methods_stand))
+        }) t.methods.items ok.methods_at_ranks))
 
 -- as many new numbers as marks
 pub numbers_count : (ns : List ℕ) (marks : List Bool) (n : ℕ) → ns ≡ new_numbers marks → length marks ≡ n → length ns ≡ n

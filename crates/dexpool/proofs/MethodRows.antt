@@ -10,27 +10,27 @@ use Rattle.dexspec.proofs.determined.OneRow.{one_string, one_type}
 use Rattle.dexpool.specs.declared.rows.ProtoEntry.{ProtoEntry}
 use Rattle.dexrows.specs.declared.methods.MethodRow.{MethodRow}
 use Rattle.dexpool.specs.Tables.{method_of, method_key, method_cmp}
-use Rattle.dexpool.specs.Reading.{ReadTo, is_above_last, IsText, IsType, AreProtos, MethodStands, HasMethodNumbers, AreMethodNames}
+use Rattle.dexpool.specs.Reading.{ReadTo, is_above_last, IsText, IsType, AreProtos, MethodRowAt, HasMethodNumbers, AreMethodNames}
 use Rattle.dexpool.proofs.Steps.{follows_if, follows_not}
 
 module _ (texts : List Text) (types ps : List ℕ) (protos : List ProtoEntry) (b : List ℕ) where
-  pub method_key_is : (k : ℕ) (m : MethodRow) → MethodStands texts types ps protos b k m → method_row_key b k ≡ method_key m
+  pub method_key_is : (k : ℕ) (m : MethodRow) → MethodRowAt texts types ps protos b k m → method_row_key b k ≡ method_key m
   method_key_is k m s = λ i. s.numbers.class i ∷ s.numbers.name i ∷ s.numbers.proto i ∷ []
 
-  pub has_method : (xs : List MethodRow) (i : ℕ) (m : MethodRow) → ReadTo (MethodStands texts types ps protos) HasMethod b xs i → MethodStands texts types ps protos b i m → is_above_last method_cmp m xs ≡ true → HasMethod b i
+  pub has_method : (xs : List MethodRow) (i : ℕ) (m : MethodRow) → ReadTo (MethodRowAt texts types ps protos) HasMethod b xs i → MethodRowAt texts types ps protos b i m → is_above_last method_cmp m xs ≡ true → HasMethod b i
   has_method xs i m h is above = record {
     method = method_of texts types ps protos m;
     is = is.is;
-    follows = follows_if (MethodStands texts types ps protos) HasMethod b method_row_key method_key method_key_is xs i m h is above;
+    follows = follows_if (MethodRowAt texts types ps protos) HasMethod b method_row_key method_key method_key_is xs i m h is above;
   }
 
-  pub no_method : (xs : List MethodRow) (i : ℕ) (m : MethodRow) → ReadTo (MethodStands texts types ps protos) HasMethod b xs i → MethodStands texts types ps protos b i m → is_above_last method_cmp m xs ≡ false → HasMethod b i → ⊥
-  no_method xs i m h is above holds = follows_not (MethodStands texts types ps protos) HasMethod b method_row_key method_key method_key_is xs i m h is above holds.follows
+  pub no_method : (xs : List MethodRow) (i : ℕ) (m : MethodRow) → ReadTo (MethodRowAt texts types ps protos) HasMethod b xs i → MethodRowAt texts types ps protos b i m → is_above_last method_cmp m xs ≡ false → HasMethod b i → ⊥
+  no_method xs i m h is above holds = follows_not (MethodRowAt texts types ps protos) HasMethod b method_row_key method_key method_key_is xs i m h is above holds.follows
 
   -- a row that is read
-  pub method_stands : (i : ℕ) (m : MethodRow) (class name : Text) → i < table_size b MethodIds → AreProtos b texts types ps protos → HasMethodNumbers b i m → IsType b texts types m.class class → IsText b texts m.name name
-      → m.proto < length protos → AreMethodNames class name → MethodStands texts types ps protos b i m
-  method_stands i m class name lt are n c s within formed =
+  pub method_has_row : (i : ℕ) (m : MethodRow) (class name : Text) → i < table_size b MethodIds → AreProtos b texts types ps protos → HasMethodNumbers b i m → IsType b texts types m.class class → IsText b texts m.name name
+      → m.proto < length protos → AreMethodNames class name → MethodRowAt texts types ps protos b i m
+  method_has_row i m class name lt are n c s within formed =
       let of = method_of texts types ps protos m in
       let proto = (are.each m.proto (record { shorty = 0; return_type = 0; parameters = record { start = 0; end = 0 } }) (omega (arith, within, are.count))).is in
       record {

@@ -13,10 +13,10 @@ use Rattle.dexpool.specs.declared.rows.ProtoEntry.{ProtoEntry}
 use Rattle.dexpool.specs.declared.tables.Tables.{Tables}
 use Rattle.dexpool.specs.Tables.{text_of, type_of, span_of, proto_of, field_of, proto_at, method_of}
 use Rattle.dexpool.specs.internal.Renumbering.{moved_type, moved_proto, moved_field, moved_method, IsEntryWithin, IsFieldWithin, IsMethodWithin}
-use Rattle.dexpool.specs.internal.Joining.{Moves, StandFor, proto_of_row, IsRowOf}
+use Rattle.dexpool.specs.internal.Joining.{Moves, Denote, proto_of_row, IsRowOf}
 use Rattle.dexpool.specs.Stored.{symbols_in, IsTypeOf, IsProtoEntry, IsFieldRow, IsMethodRow, AreTables}
 use Rattle.dexpool.proofs.Pairs.{map_both}
-use Rattle.dexpool.proofs.TablesStand.{types_in}
+use Rattle.dexpool.proofs.TablesAreAt.{types_in}
 
 module _ (t : Tables) (ok : AreTables t) (texts : List Text) (strings : List ℕ) (by_texts : Moves t.strings.items texts strings) where
   text_moved : (n : ℕ) → n < length t.strings.items → text_of texts (slice_index strings n) ≡ text_of t.strings.items n
@@ -29,8 +29,8 @@ module _ (t : Tables) (ok : AreTables t) (texts : List Text) (strings : List ℕ
   pub types_movable : All (λ n. n < length strings) t.types.items
   types_movable = All-weaker (λ n. n < length t.strings.items) (λ n. n < length strings) (λ n lt. omega (arith, lt, by_texts.count)) t.types.items (types_in t ok)
 
-  pub types_stand : (rows : List TypeRow) → rows ≡ map (moved_type strings) t.types.items → StandFor (λ (row : TypeRow). text_of texts row.descriptor) (λ row. row.descriptor < length texts) (symbols_in t).types rows
-  types_stand rows is = record {
+  pub types_at_ranks : (rows : List TypeRow) → rows ≡ map (moved_type strings) t.types.items → Denote (λ (row : TypeRow). text_of texts row.descriptor) (λ row. row.descriptor < length texts) (symbols_in t).types rows
+  types_at_ranks rows is = record {
     same = ap (map (λ (row : TypeRow). text_of texts row.descriptor)) is
         ∙ map_both (moved_type strings) (λ (row : TypeRow). text_of texts row.descriptor) (text_of t.strings.items) t.types.items
         (All-weaker (λ n. n < length t.strings.items) (λ n. text_of texts (slice_index strings n) ≡ text_of t.strings.items n) text_moved t.types.items (types_in t ok));
@@ -67,7 +67,7 @@ module _ (t : Tables) (ok : AreTables t) (texts : List Text) (strings : List ℕ
 
     -- the parts of protos have images
     pub protos_movable : All (IsEntryWithin (length strings) (length images) t.parameters) t.protos.items
-    protos_movable = All-weaker (IsProtoEntry t) (IsEntryWithin (length strings) (length images) t.parameters) entry_within t.protos.items ok.protos_stand
+    protos_movable = All-weaker (IsProtoEntry t) (IsEntryWithin (length strings) (length images) t.parameters) entry_within t.protos.items ok.protos_at_ranks
 
     proto_moved : (p : ProtoEntry) → IsProtoEntry t p → proto_of_row texts types (moved_proto strings images t.parameters p) ≡ proto_of t.strings.items t.types.items t.parameters p
     proto_moved p h =
@@ -87,14 +87,14 @@ module _ (t : Tables) (ok : AreTables t) (texts : List Text) (strings : List ℕ
           shorty_is = text_moved p.shorty h.shorty_in ∙ h.shorty_is ∙ sym (λ i. shorty (r i) (ps i));
         }
 
-    pub protos_stand : (rows : List ProtoNumbers) → rows ≡ map (moved_proto strings images t.parameters) t.protos.items → StandFor (proto_of_row texts types) (IsRowOf texts types) (symbols_in t).protos rows
-    protos_stand rows is = record {
+    pub protos_at_ranks : (rows : List ProtoNumbers) → rows ≡ map (moved_proto strings images t.parameters) t.protos.items → Denote (proto_of_row texts types) (IsRowOf texts types) (symbols_in t).protos rows
+    protos_at_ranks rows is = record {
       same = ap (map (proto_of_row texts types)) is
           ∙ map_both (moved_proto strings images t.parameters) (proto_of_row texts types) (proto_of t.strings.items t.types.items t.parameters) t.protos.items
-          (All-weaker (IsProtoEntry t) (λ p. proto_of_row texts types (moved_proto strings images t.parameters p) ≡ proto_of t.strings.items t.types.items t.parameters p) proto_moved t.protos.items ok.protos_stand);
+          (All-weaker (IsProtoEntry t) (λ p. proto_of_row texts types (moved_proto strings images t.parameters p) ≡ proto_of t.strings.items t.types.items t.parameters p) proto_moved t.protos.items ok.protos_at_ranks);
       within = subst (All (IsRowOf texts types)) (sym is)
           (All-map (IsRowOf texts types) (moved_proto strings images t.parameters) t.protos.items
-          (All-weaker (IsProtoEntry t) (λ p. IsRowOf texts types (moved_proto strings images t.parameters p)) row_within t.protos.items ok.protos_stand));
+          (All-weaker (IsProtoEntry t) (λ p. IsRowOf texts types (moved_proto strings images t.parameters p)) row_within t.protos.items ok.protos_at_ranks));
     }
 
     -- ---- fields
@@ -104,7 +104,7 @@ module _ (t : Tables) (ok : AreTables t) (texts : List Text) (strings : List ℕ
 
     -- the parts of fields have images
     pub fields_movable : All (IsFieldWithin (length strings) (length images)) t.fields.items
-    fields_movable = All-weaker (IsFieldRow t) (IsFieldWithin (length strings) (length images)) field_within t.fields.items ok.fields_stand
+    fields_movable = All-weaker (IsFieldRow t) (IsFieldWithin (length strings) (length images)) field_within t.fields.items ok.fields_at_ranks
 
     field_moved : (f : FieldRow) → IsFieldRow t f → field_of texts types (moved_field strings images f) ≡ field_of t.strings.items t.types.items f
     field_moved f h =
@@ -116,14 +116,14 @@ module _ (t : Tables) (ok : AreTables t) (texts : List Text) (strings : List ℕ
     moved_field_within : (f : FieldRow) → IsFieldRow t f → IsFieldWithin (length texts) (length types) (moved_field strings images f)
     moved_field_within f h = record { class_in = type_within f.class h.class_is.type_in; name_in = text_within f.name h.name_in; type_in = type_within f.typ h.type_is.type_in }
 
-    pub fields_stand : (rows : List FieldRow) → rows ≡ map (moved_field strings images) t.fields.items → StandFor (field_of texts types) (IsFieldWithin (length texts) (length types)) (symbols_in t).fields rows
-    fields_stand rows is = record {
+    pub fields_at_ranks : (rows : List FieldRow) → rows ≡ map (moved_field strings images) t.fields.items → Denote (field_of texts types) (IsFieldWithin (length texts) (length types)) (symbols_in t).fields rows
+    fields_at_ranks rows is = record {
       same = ap (map (field_of texts types)) is
           ∙ map_both (moved_field strings images) (field_of texts types) (field_of t.strings.items t.types.items) t.fields.items
-          (All-weaker (IsFieldRow t) (λ f. field_of texts types (moved_field strings images f) ≡ field_of t.strings.items t.types.items f) field_moved t.fields.items ok.fields_stand);
+          (All-weaker (IsFieldRow t) (λ f. field_of texts types (moved_field strings images f) ≡ field_of t.strings.items t.types.items f) field_moved t.fields.items ok.fields_at_ranks);
       within = subst (All (IsFieldWithin (length texts) (length types))) (sym is)
           (All-map (IsFieldWithin (length texts) (length types)) (moved_field strings images) t.fields.items
-          (All-weaker (IsFieldRow t) (λ f. IsFieldWithin (length texts) (length types) (moved_field strings images f)) moved_field_within t.fields.items ok.fields_stand));
+          (All-weaker (IsFieldRow t) (λ f. IsFieldWithin (length texts) (length types) (moved_field strings images f)) moved_field_within t.fields.items ok.fields_at_ranks));
     }
 
     -- ---- methods
@@ -148,7 +148,7 @@ module _ (t : Tables) (ok : AreTables t) (texts : List Text) (strings : List ℕ
 
       -- the parts of methods have images
       pub methods_movable : All (IsMethodWithin (length strings) (length images) (length places)) t.methods.items
-      methods_movable = All-weaker (IsMethodRow t) (IsMethodWithin (length strings) (length images) (length places)) method_within t.methods.items ok.methods_stand
+      methods_movable = All-weaker (IsMethodRow t) (IsMethodWithin (length strings) (length images) (length places)) method_within t.methods.items ok.methods_at_ranks
 
       method_moved : (m : MethodRow) → IsMethodRow t m → method_of texts types parameters protos (moved_method strings images places m) ≡ method_of t.strings.items t.types.items t.parameters t.protos.items m
       method_moved m h =
@@ -160,13 +160,13 @@ module _ (t : Tables) (ok : AreTables t) (texts : List Text) (strings : List ℕ
       moved_method_within : (m : MethodRow) → IsMethodRow t m → IsMethodWithin (length texts) (length types) (length protos) (moved_method strings images places m)
       moved_method_within m h = record { class_in = type_within m.class h.class_is.type_in; name_in = text_within m.name h.name_in; proto_in = proto_within m.proto h.proto_in }
 
-      pub methods_stand : (rows : List MethodRow) → rows ≡ map (moved_method strings images places) t.methods.items
-          → StandFor (method_of texts types parameters protos) (IsMethodWithin (length texts) (length types) (length protos)) (symbols_in t).methods rows
-      methods_stand rows is = record {
+      pub methods_at_ranks : (rows : List MethodRow) → rows ≡ map (moved_method strings images places) t.methods.items
+          → Denote (method_of texts types parameters protos) (IsMethodWithin (length texts) (length types) (length protos)) (symbols_in t).methods rows
+      methods_at_ranks rows is = record {
         same = ap (map (method_of texts types parameters protos)) is
             ∙ map_both (moved_method strings images places) (method_of texts types parameters protos) (method_of t.strings.items t.types.items t.parameters t.protos.items) t.methods.items
-            (All-weaker (IsMethodRow t) (λ m. method_of texts types parameters protos (moved_method strings images places m) ≡ method_of t.strings.items t.types.items t.parameters t.protos.items m) method_moved t.methods.items ok.methods_stand);
+            (All-weaker (IsMethodRow t) (λ m. method_of texts types parameters protos (moved_method strings images places m) ≡ method_of t.strings.items t.types.items t.parameters t.protos.items m) method_moved t.methods.items ok.methods_at_ranks);
         within = subst (All (IsMethodWithin (length texts) (length types) (length protos))) (sym is)
             (All-map (IsMethodWithin (length texts) (length types) (length protos)) (moved_method strings images places) t.methods.items
-            (All-weaker (IsMethodRow t) (λ m. IsMethodWithin (length texts) (length types) (length protos) (moved_method strings images places m)) moved_method_within t.methods.items ok.methods_stand));
+            (All-weaker (IsMethodRow t) (λ m. IsMethodWithin (length texts) (length types) (length protos) (moved_method strings images places m)) moved_method_within t.methods.items ok.methods_at_ranks));
       }

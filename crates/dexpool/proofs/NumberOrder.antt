@@ -109,8 +109,8 @@ module _ (texts : List Text) (texts_rise : rises text_cmp texts ≡ true) where
   type_rows_agree m n lt lt' = then_equal (nat_cmp m n) ∙ texts_agree m n lt lt'
 
   -- a table of types rises by numbers as by texts
-  pub types_rise_alike : (types : List ℕ) → All (λ n. n < length texts) types → rises type_cmp types ≡ rises text_cmp (map (text_of texts) types)
-  types_rise_alike types h = rises-map type_cmp text_cmp (text_of texts) (λ n. n < length texts) type_rows_agree types h
+  pub types_rise_equally : (types : List ℕ) → All (λ n. n < length texts) types → rises type_cmp types ≡ rises text_cmp (map (text_of texts) types)
+  types_rise_equally types h = rises-map type_cmp text_cmp (text_of texts) (λ n. n < length texts) type_rows_agree types h
 
   module _ (types : List ℕ) (types_in : All (λ n. n < length texts) types) (types_rise : rises type_cmp types ≡ true) where
     -- numbers of types
@@ -127,16 +127,16 @@ module _ (texts : List Text) (texts_rise : rises text_cmp texts ≡ true) where
         λ i. ordering_then (e i) (r i)
 
     -- a table of protos rises by numbers as by texts
-    pub protos_rise_alike : (ps : List ℕ) (protos : List ProtoEntry) → All (HasTypeNumbers ps (length types)) protos → rises (proto_cmp ps) protos ≡ rises symbols.proto_cmp (map (proto_of texts types ps) protos)
-    protos_rise_alike ps protos h = rises-map (proto_cmp ps) symbols.proto_cmp (proto_of texts types ps) (HasTypeNumbers ps (length types)) (proto_rows_agree ps) protos h
+    pub protos_rise_equally : (ps : List ℕ) (protos : List ProtoEntry) → All (HasTypeNumbers ps (length types)) protos → rises (proto_cmp ps) protos ≡ rises symbols.proto_cmp (map (proto_of texts types ps) protos)
+    protos_rise_equally ps protos h = rises-map (proto_cmp ps) symbols.proto_cmp (proto_of texts types ps) (HasTypeNumbers ps (length types)) (proto_rows_agree ps) protos h
 
     -- rows of fields
     pub field_rows_agree : (f g : FieldRow) → HasFieldNumbers (length types) (length texts) f → HasFieldNumbers (length types) (length texts) g → field_cmp f g ≡ symbols.field_cmp (field_of texts types f) (field_of texts types g)
     field_rows_agree f g h k = three_keys (types_agree f.class g.class h.class_in k.class_in) (texts_agree f.name g.name h.name_in k.name_in) (types_agree f.typ g.typ h.type_in k.type_in)
 
     -- a table of fields rises by numbers as by texts
-    pub fields_rise_alike : (fields : List FieldRow) → All (HasFieldNumbers (length types) (length texts)) fields → rises field_cmp fields ≡ rises symbols.field_cmp (map (field_of texts types) fields)
-    fields_rise_alike fields h = rises-map field_cmp symbols.field_cmp (field_of texts types) (HasFieldNumbers (length types) (length texts)) field_rows_agree fields h
+    pub fields_rise_equally : (fields : List FieldRow) → All (HasFieldNumbers (length types) (length texts)) fields → rises field_cmp fields ≡ rises symbols.field_cmp (map (field_of texts types) fields)
+    fields_rise_equally fields h = rises-map field_cmp symbols.field_cmp (field_of texts types) (HasFieldNumbers (length types) (length texts)) field_rows_agree fields h
 
     module _ (ps : List ℕ) (protos : List ProtoEntry) (protos_in : All (HasTypeNumbers ps (length types)) protos) (protos_rise : rises (proto_cmp ps) protos ≡ true) where
       -- numbers of protos
@@ -150,5 +150,5 @@ module _ (texts : List Text) (texts_rise : rises text_cmp texts ≡ true) where
       method_rows_agree m n h k = three_keys (types_agree m.class n.class h.class_in k.class_in) (texts_agree m.name n.name h.name_in k.name_in) (protos_agree m.proto n.proto h.proto_in k.proto_in)
 
       -- a table of methods rises by numbers as by texts
-      pub methods_rise_alike : (methods : List MethodRow) → All (HasMethodNumbers (length types) (length texts) (length protos)) methods → rises method_cmp methods ≡ rises symbols.method_cmp (map (method_of texts types ps protos) methods)
-      methods_rise_alike methods h = rises-map method_cmp symbols.method_cmp (method_of texts types ps protos) (HasMethodNumbers (length types) (length texts) (length protos)) method_rows_agree methods h
+      pub methods_rise_equally : (methods : List MethodRow) → All (HasMethodNumbers (length types) (length texts) (length protos)) methods → rises method_cmp methods ≡ rises symbols.method_cmp (map (method_of texts types ps protos) methods)
+      methods_rise_equally methods h = rises-map method_cmp symbols.method_cmp (method_of texts types ps protos) (HasMethodNumbers (length types) (length texts) (length protos)) method_rows_agree methods h

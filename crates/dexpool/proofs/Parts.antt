@@ -3,9 +3,9 @@ use Rattle.std.proofs.Common.{ℕ, ◌<◌, List, [], ◌∷◌, ◌++◌, lengt
 use Rattle.std.specs.List.{All, flat_map}
 use Rattle.std.proofs.lemmas.List.Elements.{All-nil, All-cons, All-head, All-tail, All-get_or}
 
-pub all_front : {X : Type 0} (P : X → Type 0) (xs ys : List X) → All P (xs ++ ys) → All P xs
-all_front P [] ys h = All-nil P
-all_front P (x ∷ xs) ys h = All-cons P x xs (All-head P x (xs ++ ys) h) (all_front P xs ys (All-tail P x (xs ++ ys) h))
+pub all_prefix : {X : Type 0} (P : X → Type 0) (xs ys : List X) → All P (xs ++ ys) → All P xs
+all_prefix P [] ys h = All-nil P
+all_prefix P (x ∷ xs) ys h = All-cons P x xs (All-head P x (xs ++ ys) h) (all_prefix P xs ys (All-tail P x (xs ++ ys) h))
 
 pub all_back : {X : Type 0} (P : X → Type 0) (xs ys : List X) → All P (xs ++ ys) → All P ys
 all_back P [] ys h = h
@@ -14,7 +14,7 @@ all_back P (x ∷ xs) ys h = all_back P xs ys (All-tail P x (xs ++ ys) h)
 -- what holds of all that members give holds of what each gives
 pub all_parts : {X Y : Type 0} (P : Y → Type 0) (f : X → List Y) (xs : List X) → All P (flat_map f xs) → All (λ x. All P (f x)) xs
 all_parts P f [] h = All-nil (λ x. All P (f x))
-all_parts P f (x ∷ xs) h = All-cons (λ x. All P (f x)) x xs (all_front P (f x) (flat_map f xs) h) (all_parts P f xs (all_back P (f x) (flat_map f xs) h))
+all_parts P f (x ∷ xs) h = All-cons (λ x. All P (f x)) x xs (all_prefix P (f x) (flat_map f xs) h) (all_parts P f xs (all_back P (f x) (flat_map f xs) h))
 
 pub all_part : {X Y : Type 0} (P : Y → Type 0) (f : X → List Y) (xs : List X) (i : ℕ) (d : X) → i < length xs → All P (flat_map f xs) → All P (f (get_or xs i d))
 all_part P f xs i d lt h = All-get_or (λ x. All P (f x)) xs i d lt (all_parts P f xs h)

@@ -12,7 +12,7 @@ use Rattle.dexspec.specs.Rows.{row_at, StringRow, TypeRow, TypeListAt, type_indi
 use Rattle.dexspec.proofs.determined.OneRow.{one_string, one_type}
 use Rattle.dexpool.specs.declared.rows.ProtoEntry.{ProtoEntry}
 use Rattle.dexpool.specs.Tables.{type_of, span_of, proto_of, proto_key, proto_cmp}
-use Rattle.dexpool.specs.Reading.{ReadTo, is_above_last, IsText, IsType, HasIndices, ProtoStands, IsListed, AllTypes, listed, file_numbers}
+use Rattle.dexpool.specs.Reading.{ReadTo, is_above_last, IsText, IsType, HasIndices, ProtoRowAt, IsListed, AllTypes, listed, file_numbers}
 use Rattle.dexpool.proofs.Steps.{follows_if, follows_not}
 use Rattle.dexpool.proofs.TypeLists.{listed_is}
 
@@ -38,9 +38,9 @@ shorty_same b i n m off l p s t at h sr tr letter =
     text ∙ ap (λ (k : ℕ). k ∷ map shorty_letter p.parameters) first
 
 -- a row that is read
-pub stands_there : (b : List ℕ) (texts : List Text) (types : List ℕ) (i off : ℕ) (p : ProtoEntry) (s t : Text) → i < table_size b ProtoIds → HasIndices b i p.shorty p.return_type off
-    → IsText b texts p.shorty s → IsType b texts types p.return_type t → IsListed b texts types off p.parameters → s ≡ shorty t (map (type_of texts types) (span_of (file_numbers b) p.parameters)) → ProtoStands texts types (file_numbers b) b i p
-stands_there b texts types i off p s t lt at sr tr ps is =
+pub is_at_there : (b : List ℕ) (texts : List Text) (types : List ℕ) (i off : ℕ) (p : ProtoEntry) (s t : Text) → i < table_size b ProtoIds → HasIndices b i p.shorty p.return_type off
+    → IsText b texts p.shorty s → IsType b texts types p.return_type t → IsListed b texts types off p.parameters → s ≡ shorty t (map (type_of texts types) (span_of (file_numbers b) p.parameters)) → ProtoRowAt texts types (file_numbers b) b i p
+is_at_there b texts types i off p s t lt at sr tr ps is =
     let list : map (type_of texts types) (listed b off) ≡ map (type_of texts types) (span_of (file_numbers b) p.parameters) = ap (map (type_of texts types)) (sym ps.is) in
     let text : s ≡ shorty (type_of texts types p.return_type) (map (type_of texts types) (span_of (file_numbers b) p.parameters)) = is ∙ ap (λ (r : Text). shorty r (map (type_of texts types) (span_of (file_numbers b) p.parameters))) tr.is in
     record {
@@ -61,18 +61,18 @@ stands_there b texts types i off p s t lt at sr tr ps is =
 
 -- ---- the rows so far
 
-pub proto_key_is : (texts : List Text) (types ps : List ℕ) (b : List ℕ) (k : ℕ) (p : ProtoEntry) → ProtoStands texts types ps b k p → proto_row_key b k ≡ proto_key ps p
+pub proto_key_is : (texts : List Text) (types ps : List ℕ) (b : List ℕ) (k : ℕ) (p : ProtoEntry) → ProtoRowAt texts types ps b k p → proto_row_key b k ≡ proto_key ps p
 proto_key_is texts types ps b k p s = λ i. s.numbers.return_type i ∷ s.numbers.parameters_are i
 
-pub has_proto : (texts : List Text) (types ps : List ℕ) (b : List ℕ) (xs : List ProtoEntry) (i : ℕ) (p : ProtoEntry) → ReadTo (ProtoStands texts types ps) HasProto b xs i → ProtoStands texts types ps b i p → is_above_last (proto_cmp ps) p xs ≡ true → HasProto b i
+pub has_proto : (texts : List Text) (types ps : List ℕ) (b : List ℕ) (xs : List ProtoEntry) (i : ℕ) (p : ProtoEntry) → ReadTo (ProtoRowAt texts types ps) HasProto b xs i → ProtoRowAt texts types ps b i p → is_above_last (proto_cmp ps) p xs ≡ true → HasProto b i
 has_proto texts types ps b xs i p h is above = record {
   proto = proto_of texts types ps p;
   is = is.is;
-  follows = follows_if (ProtoStands texts types ps) HasProto b proto_row_key (proto_key ps) (proto_key_is texts types ps b) xs i p h is above;
+  follows = follows_if (ProtoRowAt texts types ps) HasProto b proto_row_key (proto_key ps) (proto_key_is texts types ps b) xs i p h is above;
 }
 
-pub no_proto : (texts : List Text) (types ps : List ℕ) (b : List ℕ) (xs : List ProtoEntry) (i : ℕ) (p : ProtoEntry) → ReadTo (ProtoStands texts types ps) HasProto b xs i → ProtoStands texts types ps b i p → is_above_last (proto_cmp ps) p xs ≡ false → HasProto b i → ⊥
-no_proto texts types ps b xs i p h is above holds = follows_not (ProtoStands texts types ps) HasProto b proto_row_key (proto_key ps) (proto_key_is texts types ps b) xs i p h is above holds.follows
+pub no_proto : (texts : List Text) (types ps : List ℕ) (b : List ℕ) (xs : List ProtoEntry) (i : ℕ) (p : ProtoEntry) → ReadTo (ProtoRowAt texts types ps) HasProto b xs i → ProtoRowAt texts types ps b i p → is_above_last (proto_cmp ps) p xs ≡ false → HasProto b i → ⊥
+no_proto texts types ps b xs i p h is above holds = follows_not (ProtoRowAt texts types ps) HasProto b proto_row_key (proto_key ps) (proto_key_is texts types ps b) xs i p h is above holds.follows
 
-pub told_proto : (ps qs : List ℕ) (xs ys : List ProtoEntry) (p : ProtoEntry) (r : Bool) → ps ≡ qs → ys ≡ xs → r ≡ is_above_last (proto_cmp ps) p ys → is_above_last (proto_cmp qs) p xs ≡ r
-told_proto ps qs xs ys p r e f is = ap (λ (zs : List ProtoEntry). is_above_last (proto_cmp qs) p zs) (sym f) ∙ ap (λ (l : List ℕ). is_above_last (proto_cmp l) p ys) (sym e) ∙ sym is
+pub reported_proto : (ps qs : List ℕ) (xs ys : List ProtoEntry) (p : ProtoEntry) (r : Bool) → ps ≡ qs → ys ≡ xs → r ≡ is_above_last (proto_cmp ps) p ys → is_above_last (proto_cmp qs) p xs ≡ r
+reported_proto ps qs xs ys p r e f is = ap (λ (zs : List ProtoEntry). is_above_last (proto_cmp qs) p zs) (sym f) ∙ ap (λ (l : List ℕ). is_above_last (proto_cmp l) p ys) (sym e) ∙ sym is

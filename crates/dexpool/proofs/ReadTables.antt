@@ -18,7 +18,7 @@ use Rattle.dexrows.specs.declared.methods.MethodRow.{MethodRow}
 use Rattle.dexpool.specs.declared.rows.ProtoEntry.{ProtoEntry}
 use Rattle.dexpool.specs.declared.tables.Tables.{Tables}
 use Rattle.dexpool.specs.Tables.{type_of, span_of, proto_key, field_key, method_key}
-use Rattle.dexpool.specs.Reading.{ReadTo, AreTexts, AreNames, AreProtos, TypeStands, ProtoStands, FieldStands, MethodStands, listed}
+use Rattle.dexpool.specs.Reading.{ReadTo, AreTexts, AreNames, AreProtos, TypeRowAt, ProtoRowAt, FieldRowAt, MethodRowAt, listed}
 use Rattle.dexpool.specs.Stored.{IsTypeNumber, IsTypeOf, IsProtoEntry, IsFieldRow, IsMethodRow, AreTables}
 use Rattle.dexpool.proofs.AllPools.{AreRead}
 use Rattle.dexpool.proofs.Steps.{text_row, type_key_is}
@@ -53,10 +53,10 @@ module _ {X : Type 0} (Row : List ℕ → ℕ → X → Type 0) (Holds : List �
 -- ---- rows are in range
 
 module _ (b : List ℕ) (t : Tables) (names : AreNames b t.strings.items t.types.items) where
-  type_number : (k n : ℕ) → TypeStands t.strings.items b k n → IsTypeNumber t n
+  type_number : (k n : ℕ) → TypeRowAt t.strings.items b k n → IsTypeNumber t n
   type_number k n s = record { text_in = omega (arith, s.is.text.row, s.index, names.texts_are.count); descriptor = s.is.descriptor }
 
-  field_row : (k : ℕ) (f : FieldRow) → FieldStands t.strings.items t.types.items b k f → IsFieldRow t f
+  field_row : (k : ℕ) (f : FieldRow) → FieldRowAt t.strings.items t.types.items b k f → IsFieldRow t f
   field_row k f s = record {
     class_is = record { type_in = omega (arith, s.is.class.row, s.numbers.class, names.types_are.count); is = s.is.formed.class };
     name_in = omega (arith, s.is.name.row, s.numbers.name, names.texts_are.count);
@@ -64,7 +64,7 @@ module _ (b : List ℕ) (t : Tables) (names : AreNames b t.strings.items t.types
     type_is = record { type_in = omega (arith, s.is.type.row, s.numbers.type, names.types_are.count); is = s.is.formed.type };
   }
 
-  proto_entry : (k : ℕ) (p : ProtoEntry) → ProtoStands t.strings.items t.types.items t.parameters b k p → IsProtoEntry t p
+  proto_entry : (k : ℕ) (p : ProtoEntry) → ProtoRowAt t.strings.items t.types.items t.parameters b k p → IsProtoEntry t p
   proto_entry k p s =
       let type = type_of t.strings.items t.types.items in
       let ns = span_of t.parameters p.parameters in
@@ -84,7 +84,7 @@ module _ (b : List ℕ) (t : Tables) (names : AreNames b t.strings.items t.types
         shorty_is = one_string b _ _ _ (text_row b t.strings.items p.shorty _ names.texts_are shorty_in s.numbers.shorty) s.is.shorty;
       }
 
-  method_row : (k : ℕ) (m : MethodRow) → AreProtos b t.strings.items t.types.items t.parameters t.protos.items → MethodStands t.strings.items t.types.items t.parameters t.protos.items b k m → IsMethodRow t m
+  method_row : (k : ℕ) (m : MethodRow) → AreProtos b t.strings.items t.types.items t.parameters t.protos.items → MethodRowAt t.strings.items t.types.items t.parameters t.protos.items b k m → IsMethodRow t m
   method_row k m p s = record {
     class_is = record { type_in = omega (arith, s.is.class.row, s.numbers.class, names.types_are.count); is = s.is.formed.class };
     name_in = omega (arith, s.is.name.row, s.numbers.name, names.texts_are.count);
@@ -102,12 +102,12 @@ read_tables b t h =
     let protos = t.protos.items in
     record {
       texts_rise = texts_rise b texts h.names.texts_are;
-      types_rise = rows_rise (TypeStands texts) HasType b type_row_key (λ n. n ∷ []) (type_key_is texts b) (λ k r. r.follows) types _ 0 h.names.types_are;
-      protos_rise = rows_rise (ProtoStands texts types ps) HasProto b proto_row_key (proto_key ps) (proto_key_is texts types ps b) (λ k r. r.follows) protos _ (record { shorty = 0; return_type = 0; parameters = record { start = 0; end = 0 } }) h.protos_are;
-      fields_rise = rows_rise (FieldStands texts types) HasField b field_row_key field_key (field_key_is texts types b) (λ k r. r.follows) t.fields.items _ (record { class = 0; name = 0; typ = 0 }) h.fields_are;
-      methods_rise = rows_rise (MethodStands texts types ps protos) HasMethod b method_row_key method_key (method_key_is texts types ps protos b) (λ k r. r.follows) t.methods.items _ (record { class = 0; name = 0; proto = 0 }) h.methods_are;
-      types_stand = λ k d lt. type_number b t h.names k (get_or types k d) (h.names.types_are.each k d (omega (arith, lt, h.names.types_are.count)));
-      protos_stand = λ k d lt. proto_entry b t h.names k (get_or protos k d) (h.protos_are.each k d (omega (arith, lt, h.protos_are.count)));
-      fields_stand = λ k d lt. field_row b t h.names k (get_or t.fields.items k d) (h.fields_are.each k d (omega (arith, lt, h.fields_are.count)));
-      methods_stand = λ k d lt. method_row b t h.names k (get_or t.methods.items k d) h.protos_are (h.methods_are.each k d (omega (arith, lt, h.methods_are.count)));
+      types_rise = rows_rise (TypeRowAt texts) HasType b type_row_key (λ n. n ∷ []) (type_key_is texts b) (λ k r. r.follows) types _ 0 h.names.types_are;
+      protos_rise = rows_rise (ProtoRowAt texts types ps) HasProto b proto_row_key (proto_key ps) (proto_key_is texts types ps b) (λ k r. r.follows) protos _ (record { shorty = 0; return_type = 0; parameters = record { start = 0; end = 0 } }) h.protos_are;
+      fields_rise = rows_rise (FieldRowAt texts types) HasField b field_row_key field_key (field_key_is texts types b) (λ k r. r.follows) t.fields.items _ (record { class = 0; name = 0; typ = 0 }) h.fields_are;
+      methods_rise = rows_rise (MethodRowAt texts types ps protos) HasMethod b method_row_key method_key (method_key_is texts types ps protos b) (λ k r. r.follows) t.methods.items _ (record { class = 0; name = 0; proto = 0 }) h.methods_are;
+      types_at_ranks = λ k d lt. type_number b t h.names k (get_or types k d) (h.names.types_are.each k d (omega (arith, lt, h.names.types_are.count)));
+      protos_at_ranks = λ k d lt. proto_entry b t h.names k (get_or protos k d) (h.protos_are.each k d (omega (arith, lt, h.protos_are.count)));
+      fields_at_ranks = λ k d lt. field_row b t h.names k (get_or t.fields.items k d) (h.fields_are.each k d (omega (arith, lt, h.fields_are.count)));
+      methods_at_ranks = λ k d lt. method_row b t h.names k (get_or t.methods.items k d) h.protos_are (h.methods_are.each k d (omega (arith, lt, h.methods_are.count)));
     }

@@ -25,11 +25,11 @@ use Rattle.dexpool.specs.internal.Joining.{Moves, proto_key}
 use Rattle.dexpool.specs.Stored.{symbols_in, AreTables}
 use Rattle.dexpool.specs.internal.Closing.{IsMarked, new_numbers, number_or_none}
 use Rattle.dexpool.proofs.KeptRows.{mark_within, places_keep}
-use Rattle.dexpool.proofs.Leading.{leads}
+use Rattle.dexpool.proofs.Mapping.{maps_to}
 use Rattle.dexpool.proofs.Moved.{types_movable, protos_movable, fields_movable, methods_movable}
 use Rattle.dexpool.proofs.NumberOrder.{rises-map}
 use Rattle.dexpool.proofs.Pairs.{map_both}
-use Rattle.dexpool.proofs.TablesStand.{are_rising}
+use Rattle.dexpool.proofs.TablesAreAt.{are_rising}
 
 -- ---- what the law says of each kind
 
@@ -97,7 +97,7 @@ images_rise : {X : Type 0} (R : X → X → Ordering) (o : IsTotalOrder R) (from
 images_rise R o from to from_rises to_rises images moves m n p q before =
     let some : (i : ℕ) → has_image images i ≡ true → get_or (map (λ (k : ℕ). Some k) images) i None ≡ Some (slice_index images i) =
     λ i lt. get_or-map {X = ℕ} {Y = Option ℕ} (λ k. Some k) images i 0 None (ltb-true i (length images) lt) in
-    (leads R o from to from_rises to_rises images moves).rising m n (slice_index images m) (slice_index images n) before (some m p) (some n q)
+    (maps_to R o from to from_rises to_rises images moves).rising m n (slice_index images m) (slice_index images n) before (some m p) (some n q)
 
 module _ (t : Tables) (ok : AreTables t) (texts : List Text) (texts_rise : rises text_cmp texts ≡ true) (strings : List ℕ) (by_texts : Moves t.strings.items texts strings) where
   strings_rise : RisesOn (has_image strings) (slice_index strings)

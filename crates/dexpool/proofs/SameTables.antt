@@ -72,15 +72,15 @@ module _ (t u : Tables) (s : HaveSameRows t u) where
   -- rows that are in range of the one are in range of the other
   pub same_tables : AreTables t → AreTables u
   same_tables h =
-      let protos_alike : rises (proto_cmp t.parameters) t.protos.items ≡ rises (proto_cmp u.parameters) u.protos.items = λ i. rises (proto_cmp (s.parameters i)) (s.protos i) in
+      let protos_equal : rises (proto_cmp t.parameters) t.protos.items ≡ rises (proto_cmp u.parameters) u.protos.items = λ i. rises (proto_cmp (s.parameters i)) (s.protos i) in
       record {
         texts_rise = subst (λ (l : List Text). rises text_cmp l ≡ true) s.strings h.texts_rise;
         types_rise = subst (λ (l : List ℕ). rises type_cmp l ≡ true) s.types h.types_rise;
-        protos_rise = sym protos_alike ∙ h.protos_rise;
+        protos_rise = sym protos_equal ∙ h.protos_rise;
         fields_rise = subst (λ (l : List FieldRow). rises field_cmp l ≡ true) s.fields h.fields_rise;
         methods_rise = subst (λ (l : List MethodRow). rises method_cmp l ≡ true) s.methods h.methods_rise;
-        types_stand = subst (All (IsTypeNumber u)) s.types (All-weaker (IsTypeNumber t) (IsTypeNumber u) type_number t.types.items h.types_stand);
-        protos_stand = subst (All (IsProtoEntry u)) s.protos (All-weaker (IsProtoEntry t) (IsProtoEntry u) proto_entry t.protos.items h.protos_stand);
-        fields_stand = subst (All (IsFieldRow u)) s.fields (All-weaker (IsFieldRow t) (IsFieldRow u) field_row t.fields.items h.fields_stand);
-        methods_stand = subst (All (IsMethodRow u)) s.methods (All-weaker (IsMethodRow t) (IsMethodRow u) method_row t.methods.items h.methods_stand);
+        types_at_ranks = subst (All (IsTypeNumber u)) s.types (All-weaker (IsTypeNumber t) (IsTypeNumber u) type_number t.types.items h.types_at_ranks);
+        protos_at_ranks = subst (All (IsProtoEntry u)) s.protos (All-weaker (IsProtoEntry t) (IsProtoEntry u) proto_entry t.protos.items h.protos_at_ranks);
+        fields_at_ranks = subst (All (IsFieldRow u)) s.fields (All-weaker (IsFieldRow t) (IsFieldRow u) field_row t.fields.items h.fields_at_ranks);
+        methods_at_ranks = subst (All (IsMethodRow u)) s.methods (All-weaker (IsMethodRow t) (IsMethodRow u) method_row t.methods.items h.methods_at_ranks);
       }

@@ -12,16 +12,16 @@ use Rattle.dexspec.specs.Rows.{TypeRow, TypeListAt}
 use Rattle.dexspec.proofs.determined.OneRow.{one_type}
 use Rattle.dexstr.specs.Units.{IsAscii}
 use Rattle.dexpool.specs.declared.rows.Span.{Span}
-use Rattle.dexpool.specs.declared.judged.Judged.{Judged}
+use Rattle.dexpool.specs.declared.checked_lists.CheckedList.{CheckedList}
 use Rattle.dexpool.specs.Tables.{text_of, type_of, span_of}
 use Rattle.dexpool.specs.Reading.{AreNames, IsParameter, IsPlaced, file_numbers, listed, letters_of}
-use Rattle.dexpool.specs.internal.Judged.{AreLetters, letter_in, letters_in, NoVoid, IsSpelled, IsJudged, NotListedAs}
+use Rattle.dexpool.specs.internal.CheckedLists.{AreLetters, letter_in, letters_in, NoVoid, IsSpelled, IsChecked, NotListedAs}
 use Rattle.dexpool.proofs.FirstUnits.{letter_void, void_letter, letters_ascii}
 use Rattle.dexpool.proofs.TypeLists.{listed_is}
 
 -- a list that was checked, whose shorty is the same
-pub known_judged : (b : List ℕ) (texts : List Text) (types : List ℕ) (o : ℕ) (known j : Judged) → IsJudged b texts types o known → IsPlaced b o j.span → known.shorty ≡ j.shorty → known.letter ≡ j.letter → IsJudged b texts types o j
-known_judged b texts types o known j h placed number letter =
+pub known_checked : (b : List ℕ) (texts : List Text) (types : List ℕ) (o : ℕ) (known j : CheckedList) → IsChecked b texts types o known → IsPlaced b o j.span → known.shorty ≡ j.shorty → known.letter ≡ j.letter → IsChecked b texts types o j
+known_checked b texts types o known j h placed number letter =
     let same : span_of (file_numbers b) known.span ≡ span_of (file_numbers b) j.span = h.listed.is ∙ sym placed.is in
     record {
       listed = record { parameters = h.listed.parameters; span = placed.span; is = placed.is };
@@ -66,8 +66,8 @@ module _ (b : List ℕ) (texts : List Text) (types letters : List ℕ) (names : 
       let rest = spelled_letters ns (All-tail (λ m. letter_in letters m ≢ 0x56) n ns h) in
       λ i. first i ∷ rest i
 
-  list_stands : (o : ℕ) (s : Span) → IsPlaced b o s → NoVoid letters (listed b o) → OrNone TypeListAt [] b o (map (type_of texts types) (listed b o))
-  list_stands o s placed h = elim (cases_eq o 0) [
+  list_encoded : (o : ℕ) (s : Span) → IsPlaced b o s → NoVoid letters (listed b o) → OrNone TypeListAt [] b o (map (type_of texts types) (listed b o))
+  list_encoded o s placed h = elim (cases_eq o 0) [
     | inl none ↦ inl (none, ap (λ (n : ℕ). map (type_of texts types) (listed b n)) none)
     | inr some ↦ inr (
       some,
@@ -80,12 +80,12 @@ module _ (b : List ℕ) (texts : List Text) (types letters : List ℕ) (names : 
   ]
 
   -- a list whose letters are spelled
-  pub spelled_judged : (o : ℕ) (j : Judged) (text ns : List ℕ) → IsPlaced b o j.span → text ≡ text_of texts j.shorty → ns ≡ span_of (file_numbers b) j.span → IsSpelled letters text j.letter ns → IsJudged b texts types o j
-  spelled_judged o j text ns placed is part h =
+  pub spelled_checked : (o : ℕ) (j : CheckedList) (text ns : List ℕ) → IsPlaced b o j.span → text ≡ text_of texts j.shorty → ns ≡ span_of (file_numbers b) j.span → IsSpelled letters text j.letter ns → IsChecked b texts types o j
+  spelled_checked o j text ns placed is part h =
       let no_void : NoVoid letters (listed b o) = subst (NoVoid letters) (part ∙ placed.is) h.no_void in
       record {
         listed = record {
-          parameters = record { list = list_stands o j.span placed no_void; values = spelled_values (listed b o) no_void };
+          parameters = record { list = list_encoded o j.span placed no_void; values = spelled_values (listed b o) no_void };
           span = placed.span;
           is = placed.is;
         };

@@ -3,7 +3,7 @@ use Rattle.std.proofs.Common.{◌≡◌, ◌≢◌, ◌↔◌, ℕ, ◌+◌, ◌
 use Rattle.std.specs.Bool.{IsTrue}
 use Rattle.std.proofs.lemmas.List.{drop_more}
 use Rattle.std.proofs.lemmas.List.Elements.{All-cons, All-head, All-tail}
-use Rattle.dexpool.specs.internal.Judged.{letter_in, IsLetter, SpellNumbers}
+use Rattle.dexpool.specs.internal.CheckedLists.{letter_in, IsLetter, SpellNumbers}
 
 module _ (letters : List ℕ) where
   spell_first : (u n : ℕ) (us ns : List ℕ) → SpellNumbers letters (u ∷ us) (n ∷ ns) → IsLetter letters n u
@@ -27,10 +27,10 @@ module _ (letters : List ℕ) where
     -- after a unit that is its number's letter, the rest decides
     pub spell_more : (r : Bool) → (IsTrue r ↔ IsLetter letters n (get_or units i 0)) → r ≡ true → (SpellNumbers letters units ns ↔ SpellNumbers letters (drop i units) (drop i ns))
         → (SpellNumbers letters units ns ↔ SpellNumbers letters (drop (i + 1) units) (drop (i + 1) ns))
-    spell_more r told e all =
-        (λ s. spell_rest _ n _ _ (into (all.0 s)), λ s. all.1 (back (spell_both _ n _ _ (told.0 e) s)))
+    spell_more r reported e all =
+        (λ s. spell_rest _ n _ _ (into (all.0 s)), λ s. all.1 (back (spell_both _ n _ _ (reported.0 e) s)))
 
     -- at one that is not, nothing is spelled
     pub spell_not : (r : Bool) → (IsTrue r ↔ IsLetter letters n (get_or units i 0)) → r ≡ false → (SpellNumbers letters units ns ↔ SpellNumbers letters (drop i units) (drop i ns))
         → (IsTrue false ↔ SpellNumbers letters units ns)
-    spell_not r told e all = (λ t. absurd cc, λ s. sym e ∙ told.1 (spell_first _ n _ _ (into (all.0 s))))
+    spell_not r reported e all = (λ t. absurd cc, λ s. sym e ∙ reported.1 (spell_first _ n _ _ (into (all.0 s))))

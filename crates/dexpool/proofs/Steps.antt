@@ -14,7 +14,7 @@ use Rattle.dexspec.specs.Names.{IsDescriptor}
 use Rattle.dexspec.specs.Header.{TypeIds, table_size}
 use Rattle.dexspec.specs.Rows.{key_cmp, Follows, row_at, type_row_key, StringRow, TypeRow, HasString, HasType}
 use Rattle.dexpool.specs.Tables.{text_of, type_cmp}
-use Rattle.dexpool.specs.Reading.{ReadTo, is_above_last, AreTexts, TypeStands}
+use Rattle.dexpool.specs.Reading.{ReadTo, is_above_last, AreTexts, TypeRowAt}
 
 -- ---- the last row
 
@@ -23,8 +23,8 @@ not_empty [] e = absurd cc
 not_empty (x ∷ xs) e = omega arith
 
 -- what the code returns for a list that equals another
-pub told : {X : Type 0} (R : X → X → Ordering) (xs ys : List X) (x : X) (r : Bool) → ys ≡ xs → r ≡ is_above_last R x ys → is_above_last R x xs ≡ r
-told R xs ys x r e is = ap (is_above_last R x) (sym e) ∙ sym is
+pub reported : {X : Type 0} (R : X → X → Ordering) (xs ys : List X) (x : X) (r : Bool) → ys ≡ xs → r ≡ is_above_last R x ys → is_above_last R x xs ≡ r
+reported R xs ys x r e is = ap (is_above_last R x) (sym e) ∙ sym is
 
 then_equal : (o : Ordering) → o ≡ ordering_then o Equal
 then_equal Less = refl
@@ -119,25 +119,25 @@ no_string b xs i s h is above holds =
 
 -- ---- types
 
-pub type_key_is : (texts : List Text) (b : List ℕ) (k n : ℕ) → TypeStands texts b k n → type_row_key b k ≡ n ∷ []
+pub type_key_is : (texts : List Text) (b : List ℕ) (k n : ℕ) → TypeRowAt texts b k n → type_row_key b k ≡ n ∷ []
 type_key_is texts b k n s = ap (λ (m : ℕ). m ∷ []) s.index
 
-pub has_type : (texts : List Text) (b : List ℕ) (xs : List ℕ) (i n : ℕ) → ReadTo (TypeStands texts) HasType b xs i → TypeStands texts b i n → is_above_last type_cmp n xs ≡ true → HasType b i
+pub has_type : (texts : List Text) (b : List ℕ) (xs : List ℕ) (i n : ℕ) → ReadTo (TypeRowAt texts) HasType b xs i → TypeRowAt texts b i n → is_above_last type_cmp n xs ≡ true → HasType b i
 has_type texts b xs i n h is above = record {
   type = text_of texts n;
   is = is.is;
-  follows = follows_if (TypeStands texts) HasType b type_row_key (λ m. m ∷ []) (type_key_is texts b) xs i n h is above;
+  follows = follows_if (TypeRowAt texts) HasType b type_row_key (λ m. m ∷ []) (type_key_is texts b) xs i n h is above;
 }
 
-pub no_type : (texts : List Text) (b : List ℕ) (xs : List ℕ) (i n : ℕ) → ReadTo (TypeStands texts) HasType b xs i → TypeStands texts b i n → is_above_last type_cmp n xs ≡ false → HasType b i → ⊥
-no_type texts b xs i n h is above holds = follows_not (TypeStands texts) HasType b type_row_key (λ m. m ∷ []) (type_key_is texts b) xs i n h is above holds.follows
+pub no_type : (texts : List Text) (b : List ℕ) (xs : List ℕ) (i n : ℕ) → ReadTo (TypeRowAt texts) HasType b xs i → TypeRowAt texts b i n → is_above_last type_cmp n xs ≡ false → HasType b i → ⊥
+no_type texts b xs i n h is above holds = follows_not (TypeRowAt texts) HasType b type_row_key (λ m. m ∷ []) (type_key_is texts b) xs i n h is above holds.follows
 
 -- the text of a number that is in range
 pub text_row : (b : List ℕ) (texts : List Text) (n m : ℕ) → AreTexts b texts → n < length texts → m ≡ n → StringRow b m (text_of texts n)
 text_row b texts n m strings lt e = subst (λ k. StringRow b k (text_of texts n)) (sym e) (strings.each n [] (omega (arith, strings.count, lt)))
 
-pub type_stands : (b : List ℕ) (texts : List Text) (i n : ℕ) (t : Text) → AreTexts b texts → i < table_size b TypeIds → n ≡ uint_at b (row_at b TypeIds i) → n < length texts → t ≡ get_or texts n t → IsDescriptor t → TypeStands texts b i n
-type_stands b texts i n t strings row index lt at is = record {
+pub type_encoded : (b : List ℕ) (texts : List Text) (i n : ℕ) (t : Text) → AreTexts b texts → i < table_size b TypeIds → n ≡ uint_at b (row_at b TypeIds i) → n < length texts → t ≡ get_or texts n t → IsDescriptor t → TypeRowAt texts b i n
+type_encoded b texts i n t strings row index lt at is = record {
   index = sym index;
   is = record { row = row; text = text_row b texts n _ strings lt (sym index); descriptor = subst IsDescriptor (at ∙ get_or_default texts n t [] lt) is };
 }

@@ -15,7 +15,7 @@ use Rattle.dexspec.proofs.lists.Mapped.{Contains-map_source}
 use Rattle.dexspec.proofs.merge.Depths.{Contains-map}
 use Rattle.dexspec.proofs.merge.SymbolOrders.{text_total}
 use Rattle.dexrows.specs.Join.{row_cmp, IsImage, IsOfParts, IsJoin}
-use Rattle.dexpool.specs.internal.Joining.{Moves, IsUnion, StandFor}
+use Rattle.dexpool.specs.internal.Joining.{Moves, IsUnion, Denote}
 use Rattle.dexpool.proofs.NumberOrder.{rises-map}
 use Rattle.dexpool.proofs.Pairs.{zip_source, zip_target, zip_along}
 
@@ -33,20 +33,20 @@ all_union of R o exact Q parts joined is h =
 
 module _ {P R X : Type 0} (key : R → List ℕ) (symbol : R → X) (Within : R → Type 0) (S : X → X → Ordering) (o : IsTotalOrder S) (exact : IsAntisymmetric S)
     (agree : (x y : R) → Within x → Within y → row_cmp key x y ≡ S (symbol x) (symbol y)) (of : P → List X) where
-  module _ (parts : List P) (rows : List (List R)) (stand : AllZip (λ p xs. StandFor symbol Within (of p) xs) parts rows) where
+  module _ (parts : List P) (rows : List (List R)) (are_encoded : AllZip (λ p xs. Denote symbol Within (of p) xs) parts rows) where
     module _ (joined : List R) (images : List (List ℕ)) (j : IsJoin key rows joined images) where
       -- the joined rows' numbers are in range
       pub joined_within : All Within joined
       joined_within =
           All-weaker (IsOfParts rows) Within (λ row w.
-          let s = zip_source (λ p ys. StandFor symbol Within (of p) ys) parts rows w.part stand w.is_part in
+          let s = zip_source (λ p ys. Denote symbol Within (of p) ys) parts rows w.part are_encoded w.is_part in
           All-contains Within w.part row s.2.within w.has) joined j.rows_of
 
       -- rows of one key have one symbol
       one_symbol : (x y : R) → Within x → Within y → key x ≡ key y → symbol x ≡ symbol y
       one_symbol x y p q e = exact (symbol x) (symbol y) (sym (agree x y p q) ∙ ap (λ k. key_cmp k (key y)) e ∙ tied_itself text_total (key y))
 
-      moved : (p : P) (xs : List R) (image : List ℕ) → StandFor symbol Within (of p) xs → IsImage key joined xs image → Moves (of p) (map symbol joined) image
+      moved : (p : P) (xs : List R) (image : List ℕ) → Denote symbol Within (of p) xs → IsImage key joined xs image → Moves (of p) (map symbol joined) image
       moved p xs image s i =
           let lengths : length xs ≡ length (of p) = sym (length-map xs symbol) ∙ ap (λ (ys : List X). length ys) s.same in
           record {
@@ -64,13 +64,13 @@ module _ {P R X : Type 0} (key : R → List ℕ) (symbol : R → X) (Within : R 
           }
 
       moves : AllZip (λ p image. Moves (of p) (map symbol joined) image) parts images
-      moves = zip_along (λ p xs. StandFor symbol Within (of p) xs) (IsImage key joined) (λ p image. Moves (of p) (map symbol joined) image) moved parts rows images stand j.parts_in
+      moves = zip_along (λ p xs. Denote symbol Within (of p) xs) (IsImage key joined) (λ p image. Moves (of p) (map symbol joined) image) moved parts rows images are_encoded j.parts_in
 
       only : AreAmong (map symbol joined) (flat_map of parts)
       only x c =
           let row = Contains-map_source symbol joined x c in
           let w = All-contains (IsOfParts rows) joined row.0 j.rows_of row.1 in
-          let s = zip_source (λ p ys. StandFor symbol Within (of p) ys) parts rows w.part stand w.is_part in
+          let s = zip_source (λ p ys. Denote symbol Within (of p) ys) parts rows w.part are_encoded w.is_part in
           Contains-flat_map of parts s.0 x s.1 (subst (λ ys. Contains ys x) s.2.same (subst (Contains (map symbol w.part)) row.2 (Contains-map symbol w.part row.0 w.has)))
 
       every : AreAmong (flat_map of parts) (map symbol joined)

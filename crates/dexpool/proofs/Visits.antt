@@ -8,7 +8,7 @@ use Rattle.std.proofs.lemmas.Grind.{flat_map-append}
 use Rattle.dexpool.specs.declared.marks.Marks.{Marks}
 use Rattle.dexpool.specs.declared.visiting.Fits.{Fits}
 use Rattle.dexpool.specs.Uses.{Use, HasMark, AreMarkedToo, marks_of, same_kind, occurs}
-use Rattle.dexpool.specs.Images.{LeadsOn, LeadsUse}
+use Rattle.dexpool.specs.Images.{IsMapped, MapsUse}
 use Rattle.dexpool.proofs.MarksMade.{none_marked, still_marked}
 use Rattle.dexpool.proofs.Parts.{all_of}
 
@@ -61,14 +61,14 @@ all_marked (u ∷ us) a b all h =
     marked_both (u ∷ []) us a h.0 b first (all_marked us h.0 b (still_all (u ∷ []) us a h.0 first (All-tail (HasMark a) u us all)) h.2)
 
 -- whether each number that was visited has an image
-pub all_fit : (us : List Use) (a b : Fits) → FoldsTo (λ p u q. (q.remap.now ≡ p.remap.now) × (IsTrue q.fit ↔ IsTrue p.fit × LeadsOn p.remap.now u.kind u.number)) a us b → IsTrue a.fit → IsTrue b.fit ↔ All (LeadsUse a.remap.now) us
+pub all_fit : (us : List Use) (a b : Fits) → FoldsTo (λ p u q. (q.remap.now ≡ p.remap.now) × (IsTrue q.fit ↔ IsTrue p.fit × IsMapped p.remap.now u.kind u.number)) a us b → IsTrue a.fit → IsTrue b.fit ↔ All (MapsUse a.remap.now) us
 all_fit us a b h start = let both = all_fit_from us a b h in ((λ t. (both.0 t).1), (λ all. both.1 (start, all)))
   where
-    all_fit_from : (us : List Use) (a b : Fits) → FoldsTo (λ p u q. (q.remap.now ≡ p.remap.now) × (IsTrue q.fit ↔ IsTrue p.fit × LeadsOn p.remap.now u.kind u.number)) a us b → IsTrue b.fit ↔ IsTrue a.fit × All (LeadsUse a.remap.now) us
-    all_fit_from [] a b h = ((λ t. (subst (λ f. IsTrue f.fit) (sym h) t, All-nil (LeadsUse a.remap.now))), (λ t. subst (λ f. IsTrue f.fit) h t.0))
+    all_fit_from : (us : List Use) (a b : Fits) → FoldsTo (λ p u q. (q.remap.now ≡ p.remap.now) × (IsTrue q.fit ↔ IsTrue p.fit × IsMapped p.remap.now u.kind u.number)) a us b → IsTrue b.fit ↔ IsTrue a.fit × All (MapsUse a.remap.now) us
+    all_fit_from [] a b h = ((λ t. (subst (λ f. IsTrue f.fit) (sym h) t, All-nil (MapsUse a.remap.now))), (λ t. subst (λ f. IsTrue f.fit) h t.0))
     all_fit_from (u ∷ us) a b h =
         let step = h.1 in
         let rest = all_fit_from us h.0 b h.2 in (
-          (λ t. let more = rest.0 t in let here = step.1.0 more.0 in (here.0, All-cons (LeadsUse a.remap.now) u us here.1 (subst (λ r. All (LeadsUse r) us) step.0 more.1))),
-          (λ t. rest.1 (step.1.1 (t.0, All-head (LeadsUse a.remap.now) u us t.1), subst (λ r. All (LeadsUse r) us) (sym step.0) (All-tail (LeadsUse a.remap.now) u us t.1))),
+          (λ t. let more = rest.0 t in let here = step.1.0 more.0 in (here.0, All-cons (MapsUse a.remap.now) u us here.1 (subst (λ r. All (MapsUse r) us) step.0 more.1))),
+          (λ t. rest.1 (step.1.1 (t.0, All-head (MapsUse a.remap.now) u us t.1), subst (λ r. All (MapsUse r) us) (sym step.0) (All-tail (MapsUse a.remap.now) u us t.1))),
         )

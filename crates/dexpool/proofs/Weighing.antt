@@ -33,9 +33,9 @@ pub tables_weight : (t : Tables) → AreTables t → mentions_weight (symbols_in
     ≡ sum_by text_weight t.strings.items + 4 * length t.types.items + sum_by (λ p. 20 + 2 * (p.parameters.end - p.parameters.start)) t.protos.items + 8 * length t.fields.items + 8 * length t.methods.items
 tables_weight t h =
     let weighs = λ (p : ProtoEntry). 20 + 2 * (p.parameters.end - p.parameters.start) in
-    let stand = proto_of t.strings.items t.types.items t.parameters in
-    let protos : sum_by proto_weight (map stand t.protos.items) ≡ sum_by weighs t.protos.items =
-    sum_by-mapped proto_weight stand weighs t.protos.items (All-weaker (IsProtoEntry t) (λ p. proto_weight (stand p) ≡ weighs p) (λ p e. entry_weight t.strings.items t.types.items t.parameters p e.span) t.protos.items h.protos_stand) in
+    let are_encoded = proto_of t.strings.items t.types.items t.parameters in
+    let protos : sum_by proto_weight (map are_encoded t.protos.items) ≡ sum_by weighs t.protos.items =
+    sum_by-mapped proto_weight are_encoded weighs t.protos.items (All-weaker (IsProtoEntry t) (λ p. proto_weight (are_encoded p) ≡ weighs p) (λ p e. entry_weight t.strings.items t.types.items t.parameters p e.span) t.protos.items h.protos_at_ranks) in
     omega (
       arith,
       protos,

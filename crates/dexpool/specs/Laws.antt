@@ -10,12 +10,12 @@ use Rattle.dexpool.specs.Pools.{count_of}
 use Rattle.dexpool.specs.Numberings.{Maps, image_of}
 
 -- each number of the numbering has an image
-abbrev pub LeadsAll : Mentions → Maps → Type 0
-LeadsAll m r = (kind : SymbolKind) (i : ℕ) → i < count_of kind m → IsSome (image_of r kind i)
+abbrev pub MapsAll : Mentions → Maps → Type 0
+MapsAll m r = (kind : SymbolKind) (i : ℕ) → i < count_of kind m → IsSome (image_of r kind i)
 
 -- each image is a number of the numbering
-abbrev pub LeadsWithin : Mentions → Maps → Type 0
-LeadsWithin n r = (kind : SymbolKind) (i j : ℕ) → image_of r kind i ≡ Some j → j < count_of kind n
+abbrev pub MapsWithin : Mentions → Maps → Type 0
+MapsWithin n r = (kind : SymbolKind) (i j : ℕ) → image_of r kind i ≡ Some j → j < count_of kind n
 
 -- no rank in the first list is greater than in the second
 abbrev pub RanksGrow : {K : Type 0} → (K → K → Ordering) → List K → List K → Type 0

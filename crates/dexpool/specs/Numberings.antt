@@ -42,19 +42,19 @@ IsOfKind _ _ = ⊥
 -- ---- rows of numbers
 
 -- the row's numbers are those of the proto's shorty and types
-pub record StandsForProto (m : Mentions) (row : ProtoNumbers) (p : Proto) : Type 0 where
+pub record DenotesProto (m : Mentions) (row : ProtoNumbers) (p : Proto) : Type 0 where
   pub shorty_is : IsAt m.texts row.shorty (shorty p.return_type p.parameters)
   pub return_is : IsAt m.types row.return_type p.return_type
   pub parameters_are : AllZip (IsAt m.types) row.parameters p.parameters
 
 -- the row's numbers are those of the field's class, name and type
-pub record StandsForField (m : Mentions) (row : FieldRow) (f : Field) : Type 0 where
+pub record DenotesField (m : Mentions) (row : FieldRow) (f : Field) : Type 0 where
   pub class_is : IsAt m.types row.class f.class
   pub name_is : IsAt m.texts row.name f.name
   pub type_is : IsAt m.types row.typ f.type
 
 -- the row's numbers are those of the method's class, name and proto
-pub record StandsForMethod (m : Mentions) (row : MethodRow) (x : Method) : Type 0 where
+pub record DenotesMethod (m : Mentions) (row : MethodRow) (x : Method) : Type 0 where
   pub class_is : IsAt m.types row.class x.class
   pub name_is : IsAt m.texts row.name x.name
   pub proto_is : IsAt m.protos row.proto x.proto
@@ -125,19 +125,19 @@ image_of r kinds.Field i = image r.fields i
 image_of r kinds.Method i = image r.methods i
 
 -- The image of each number is that of the same member, if the other list has it. Images keep the order of numbers.
-pub record Leads {X : Type 0} (from to : List X) (images : List (Option ℕ)) : Type 0 where
+pub record MapsTo {X : Type 0} (from to : List X) (images : List (Option ℕ)) : Type 0 where
   pub count : length images ≡ length from
   pub same : (i j : ℕ) (d : X) → image images i ≡ Some j → IsAt to j (slice_index_or from i d)
   pub none : (i : ℕ) (d : X) → i < length from → image images i ≡ None → Contains to (slice_index_or from i d) → ⊥
   pub rising : (h i j k : ℕ) → h < i → image images h ≡ Some j → image images i ≡ Some k → j < k
 
 -- the five maps map one numbering to the other
-pub record AllLead (from to : Mentions) (r : Maps) : Type 0 where
-  pub texts_lead : Leads from.texts to.texts r.texts
-  pub types_lead : Leads from.types to.types r.types
-  pub protos_lead : Leads from.protos to.protos r.protos
-  pub fields_lead : Leads from.fields to.fields r.fields
-  pub methods_lead : Leads from.methods to.methods r.methods
+pub record AllMapTo (from to : Mentions) (r : Maps) : Type 0 where
+  pub texts_mapped : MapsTo from.texts to.texts r.texts
+  pub types_mapped : MapsTo from.types to.types r.types
+  pub protos_mapped : MapsTo from.protos to.protos r.protos
+  pub fields_mapped : MapsTo from.fields to.fields r.fields
+  pub methods_mapped : MapsTo from.methods to.methods r.methods
 
 -- ---- joining
 

@@ -16,5 +16,5 @@ pub record KeepOrder (r : Maps) : Type 0 where
   pub methods_keep : KeepsOrder r.methods
 
 -- No image is greater than its number, as in a map into a part.
-abbrev pub LeadDown : Maps → Type 0
-LeadDown r = (k : SymbolKind) (i j : ℕ) → image_of r k i ≡ Some j → j ≤ i
+abbrev pub MapsDown : Maps → Type 0
+MapsDown r = (k : SymbolKind) (i j : ℕ) → image_of r k i ≡ Some j → j ≤ i

@@ -36,13 +36,13 @@ abbrev pub AreTexts : List ℕ → List Text → Type 0
 AreTexts b texts = ReadTo StringRow HasString b texts (table_size b StringIds)
 
 -- row i is the type that text n is
-pub record TypeStands (texts : List Text) (b : List ℕ) (i n : ℕ) : Type 0 where
+pub record TypeRowAt (texts : List Text) (b : List ℕ) (i n : ℕ) : Type 0 where
   pub index : uint_at b (row_at b TypeIds i) ≡ n
   pub is : TypeRow b i (text_of texts n)
 
 -- the types of all rows
 abbrev pub AreTypes : List ℕ → List Text → List ℕ → Type 0
-AreTypes b texts types = ReadTo (TypeStands texts) HasType b types (table_size b TypeIds)
+AreTypes b texts types = ReadTo (TypeRowAt texts) HasType b types (table_size b TypeIds)
 
 -- the texts and types of a file
 pub record AreNames (b : List ℕ) (texts : List Text) (types : List ℕ) : Type 0 where
@@ -69,13 +69,13 @@ pub record HasFieldNumbers (b : List ℕ) (i : ℕ) (f : FieldRow) : Type 0 wher
   pub name : uint_at b (row_at b FieldIds i + 4) ≡ f.name
 
 -- row i is the field of these numbers
-pub record FieldStands (texts : List Text) (types : List ℕ) (b : List ℕ) (i : ℕ) (f : FieldRow) : Type 0 where
+pub record FieldRowAt (texts : List Text) (types : List ℕ) (b : List ℕ) (i : ℕ) (f : FieldRow) : Type 0 where
   pub numbers : HasFieldNumbers b i f
   pub is : rows.FieldRow b i (field_of texts types f)
 
 -- the fields of all rows
 abbrev pub AreFields : List ℕ → List Text → List ℕ → List FieldRow → Type 0
-AreFields b texts types fields = ReadTo (FieldStands texts types) HasField b fields (table_size b FieldIds)
+AreFields b texts types fields = ReadTo (FieldRowAt texts types) HasField b fields (table_size b FieldIds)
 
 -- ---- protos
 
@@ -138,7 +138,7 @@ pub record HasProtoNumbers (b : List ℕ) (parameters : List ℕ) (i : ℕ) (p :
   pub span : HasSpan parameters p.parameters
 
 -- row i is the proto of these numbers
-pub record ProtoStands (texts : List Text) (types : List ℕ) (parameters : List ℕ) (b : List ℕ) (i : ℕ) (p : ProtoEntry) : Type 0 where
+pub record ProtoRowAt (texts : List Text) (types : List ℕ) (parameters : List ℕ) (b : List ℕ) (i : ℕ) (p : ProtoEntry) : Type 0 where
   pub numbers : HasProtoNumbers b parameters i p
   pub is : rows.ProtoRow b i (proto_of texts types parameters p)
 
@@ -152,7 +152,7 @@ letters_of texts types ns = map shorty_letter (map (type_of texts types) ns)
 
 -- the protos of all rows
 abbrev pub AreProtos : List ℕ → List Text → List ℕ → List ℕ → List ProtoEntry → Type 0
-AreProtos b texts types parameters protos = ReadTo (ProtoStands texts types parameters) HasProto b protos (table_size b ProtoIds)
+AreProtos b texts types parameters protos = ReadTo (ProtoRowAt texts types parameters) HasProto b protos (table_size b ProtoIds)
 
 -- ---- methods
 
@@ -168,10 +168,10 @@ pub record HasMethodNumbers (b : List ℕ) (i : ℕ) (m : MethodRow) : Type 0 wh
   pub name : uint_at b (row_at b MethodIds i + 4) ≡ m.name
 
 -- row i is the method of these numbers
-pub record MethodStands (texts : List Text) (types : List ℕ) (parameters : List ℕ) (protos : List ProtoEntry) (b : List ℕ) (i : ℕ) (m : MethodRow) : Type 0 where
+pub record MethodRowAt (texts : List Text) (types : List ℕ) (parameters : List ℕ) (protos : List ProtoEntry) (b : List ℕ) (i : ℕ) (m : MethodRow) : Type 0 where
   pub numbers : HasMethodNumbers b i m
   pub is : rows.MethodRow b i (method_of texts types parameters protos m)
 
 -- the methods of all rows
 abbrev pub AreMethods : List ℕ → List Text → List ℕ → List ℕ → List ProtoEntry → List MethodRow → Type 0
-AreMethods b texts types parameters protos methods = ReadTo (MethodStands texts types parameters protos) HasMethod b methods (table_size b MethodIds)
+AreMethods b texts types parameters protos methods = ReadTo (MethodRowAt texts types parameters protos) HasMethod b methods (table_size b MethodIds)

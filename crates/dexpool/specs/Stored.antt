@@ -55,7 +55,7 @@ pub record AreTables (t : Tables) : Type 0 where
   pub protos_rise : rises (proto_cmp t.parameters) t.protos.items ≡ true
   pub fields_rise : rises field_cmp t.fields.items ≡ true
   pub methods_rise : rises method_cmp t.methods.items ≡ true
-  pub types_stand : All (IsTypeNumber t) t.types.items
-  pub protos_stand : All (IsProtoEntry t) t.protos.items
-  pub fields_stand : All (IsFieldRow t) t.fields.items
-  pub methods_stand : All (IsMethodRow t) t.methods.items
+  pub types_at_ranks : All (IsTypeNumber t) t.types.items
+  pub protos_at_ranks : All (IsProtoEntry t) t.protos.items
+  pub fields_at_ranks : All (IsFieldRow t) t.fields.items
+  pub methods_at_ranks : All (IsMethodRow t) t.methods.items

@@ -52,9 +52,9 @@ abbrev pub IsMarkedUse : Marks → Use → Type 0
 IsMarkedUse marks u = slice_index_or (marks_of u.kind marks) u.number false ≡ true
 
 -- its number has an image
-abbrev pub IsLedUse : Maps → Use → Type 0
-IsLedUse r u = IsSome (image_of r u.kind u.number)
+abbrev pub IsMappedUse : Maps → Use → Type 0
+IsMappedUse r u = IsSome (image_of r u.kind u.number)
 
 -- each number that is marked has an image
-abbrev pub LeadsMarked : Marks → Maps → Type 0
-LeadsMarked marks r = (kind : SymbolKind) (i : ℕ) → slice_index_or (marks_of kind marks) i false ≡ true → IsSome (image_of r kind i)
+abbrev pub MapsMarked : Marks → Maps → Type 0
+MapsMarked marks r = (kind : SymbolKind) (i : ℕ) → slice_index_or (marks_of kind marks) i false ≡ true → IsSome (image_of r kind i)

@@ -4,5 +4,5 @@ pub mod Ranking
 pub mod Renumbering
 pub mod Closing
 pub mod Joining
-pub mod Judged
+pub mod CheckedLists
 pub mod SharedLists

@@ -10,7 +10,7 @@ ghost use Rattle.dexspec.specs.Rows.{row_at};
 ghost use Rattle.dexspec.specs.Conditions.{Condition};
 ghost use Rattle.dexspec.specs.Accepted.{HoldsThroughout};
 ghost use Rattle.dexpool.specs.Tables.{field_cmp};
-ghost use Rattle.dexpool.specs.Reading.{is_above_last, AreNames, AreFields, FieldStands, HasFieldNumbers};
+ghost use Rattle.dexpool.specs.Reading.{is_above_last, AreNames, AreFields, FieldRowAt, HasFieldNumbers};
 ghost use Rattle.dexpool.specs.Faults.{IsFault};
 
 use crate::faults::{ReadFault, refused};
@@ -47,7 +47,7 @@ fn is_field(class: &Text<'_>, name: &Text<'_>, typ: &Text<'_>) -> bool
 fn field_at(names: &Names<'_, '_>, i: u32) -> Option<FieldRow>
     requires names { AreNames names.now.frame.now names.now.strings.now names.now.types.now }
     requires row { i < table_size names.now.frame.now FieldIds }
-    ensures { MatchOption result ((f : Field) → rows.FieldRow names.now.frame.now i f → ⊥) (FieldStands names.now.strings.now names.now.types.now names.now.frame.now i) }
+    ensures { MatchOption result ((f : Field) → rows.FieldRow names.now.frame.now i f → ⊥) (FieldRowAt names.now.strings.now names.now.types.now names.now.frame.now i) }
 {
     let field = field_numbers(names.frame, i);
     let class = match names.typ(field.class) {

@@ -4,10 +4,10 @@
 ghost use Rattle.std.specs.Prelude.{◌≡◌, length, map, All, IfOk, Some};
 ghost use Rattle.std.specs.List.{AllZip};
 ghost use Rattle.dexrows.specs.Join.{AreSorted, IsJoin};
-ghost use Rattle.dexpool.specs.Numberings.{IsNumbering, union_of, AllLead};
+ghost use Rattle.dexpool.specs.Numberings.{IsNumbering, union_of, AllMapTo};
 ghost use Rattle.dexpool.specs.Orderly.{KeepsOrder};
 ghost use Rattle.dexpool.specs.internal.Renumbering.{numbers_in, HasSpans};
-ghost use Rattle.dexpool.specs.internal.Joining.{StandFor, proto_of_row, proto_key, IsRowOf, AreJoinedTexts, AreJoinedTypes, AreJoinedProtos, AreJoinedFields, AreJoinedMethods, AreMapsOf};
+ghost use Rattle.dexpool.specs.internal.Joining.{Denote, proto_of_row, proto_key, IsRowOf, AreJoinedTexts, AreJoinedTypes, AreJoinedProtos, AreJoinedFields, AreJoinedMethods, AreMapsOf};
 ghost use Rattle.dexpool.specs.Stored.{symbols_in, AreTables};
 
 use crate::images::Images;
@@ -47,7 +47,7 @@ pub(crate) fn join_tables<'a>(
 ) -> Result<(Tables<'a>, Vec<Remap>), AllocError>
     ensures tables { IfOk result (λ joined. AreTables joined.0) }
     ensures union { IfOk result (λ joined. symbols_in joined.0 ≡ union_of (map (λ part. part.now) parts.now)) }
-    ensures maps { IfOk result (λ joined. AllZip (λ part remap. AllLead part (symbols_in joined.0) remap) (map (λ part. part.now) parts.now) joined.1.items) }
+    ensures maps { IfOk result (λ joined. AllZip (λ part remap. AllMapTo part (symbols_in joined.0) remap) (map (λ part. part.now) parts.now) joined.1.items) }
 {
     let strings = join_strings(alloc, parts)?;
     let types = join_types(alloc, parts, &strings)?;
@@ -136,7 +136,7 @@ fn renumbered_tables<'a>(
     requires types { AreJoinedTypes (map (λ part. part.now) parts.now) strings.now.rows.items types.now.numbers.items (map (λ image. image.items) types.now.images.items) }
     ensures spans { IfOk result (λ tables. All HasSpans tables.items) }
     ensures sorted { IfOk result (λ tables. All (λ table. AreSorted proto_key (numbers_in table)) tables.items) }
-    ensures rows { IfOk result (λ tables. AllZip (λ part rows. StandFor (proto_of_row strings.now.rows.items types.now.numbers.items) (IsRowOf strings.now.rows.items types.now.numbers.items) part.protos rows) (map (λ part. part.now) parts.now) (map numbers_in tables.items)) }
+    ensures rows { IfOk result (λ tables. AllZip (λ part rows. Denote (proto_of_row strings.now.rows.items types.now.numbers.items) (IsRowOf strings.now.rows.items types.now.numbers.items) part.protos rows) (map (λ part. part.now) parts.now) (map numbers_in tables.items)) }
 {
     sorted_law::<ProtoRow<'_>>();
     let mut tables = Vec::with_capacity(alloc, parts.len())?;

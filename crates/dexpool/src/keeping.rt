@@ -2,9 +2,9 @@
 
 ghost use Rattle.std.specs.Prelude.{◌≡◌, IfOk};
 ghost use Rattle.dexspec.specs.Mentions.{closed};
-ghost use Rattle.dexpool.specs.Numberings.{AreMarksOf, marked, AllLead};
-ghost use Rattle.dexpool.specs.Orderly.{LeadDown};
-ghost use Rattle.dexpool.specs.Uses.{LeadsMarked};
+ghost use Rattle.dexpool.specs.Numberings.{AreMarksOf, marked, AllMapTo};
+ghost use Rattle.dexpool.specs.Orderly.{MapsDown};
+ghost use Rattle.dexpool.specs.Uses.{MapsMarked};
 
 use crate::closing::closed;
 use crate::kept_tables::keep_marked;
@@ -23,9 +23,9 @@ impl<'a> Numbering<'a> {
     pub fn keep(&self, alloc: Global, marks: &Marks) -> Result<(Numbering<'a>, Remap), AllocError>
         requires { AreMarksOf self.now marks.now }
         ensures kept { IfOk result (λ cut. cut.0 ≡ closed (marked self.now marks.now)) }
-        ensures map { IfOk result (λ cut. AllLead self.now cut.0 cut.1) }
-        ensures marked { IfOk result (λ cut. LeadsMarked marks.now cut.1) }
-        ensures down { IfOk result (λ cut. LeadDown cut.1) }
+        ensures map { IfOk result (λ cut. AllMapTo self.now cut.0 cut.1) }
+        ensures marked { IfOk result (λ cut. MapsMarked marks.now cut.1) }
+        ensures down { IfOk result (λ cut. MapsDown cut.1) }
     {
         let tables = self.tables();
         let marks = closed(tables, marks)?;

@@ -8,9 +8,9 @@ ghost use Rattle.dexspec.specs.Mentions.{Mentions, mentions};
 ghost use Rattle.dexpool.specs.declared.symbols.SymbolKind.{SymbolKind};
 ghost use Rattle.dexpool.specs.declared.marks.Marks.{Marks};
 ghost use Rattle.dexpool.specs.Pools.{count_of};
-ghost use Rattle.dexpool.specs.Numberings.{AreRising, union_of, Maps, AllLead};
-ghost use Rattle.dexpool.specs.Laws.{AllRanksGrow, RanksAreNumbers, LeadsWithin};
-ghost use Rattle.dexpool.specs.Uses.{Use, AreMarkedToo, IsMarkedUse, IsLedUse, LeadsMarked};
+ghost use Rattle.dexpool.specs.Numberings.{AreRising, union_of, Maps, AllMapTo};
+ghost use Rattle.dexpool.specs.Laws.{AllRanksGrow, RanksAreNumbers, MapsWithin};
+ghost use Rattle.dexpool.specs.Uses.{Use, AreMarkedToo, IsMarkedUse, IsMappedUse, MapsMarked};
 
 /// In a union no symbol has a lesser rank than in a part, and of no kind are there more symbols than in the parts
 /// together.
@@ -32,7 +32,7 @@ pub fn number_law()
 /// A map from one numbering to another has images in the other: each image is below the count of its kind. So it is for
 /// what a join or a keep returns.
 pub fn within_law()
-    ensures { (m n : Mentions) (r : Maps) → AllLead m n r → LeadsWithin n r }
+    ensures { (m n : Mentions) (r : Maps) → AllMapTo m n r → MapsWithin n r }
 {}
 
 /// What is marked with others is marked, and what was marked stays so; and where each marked number has an image, as
@@ -40,5 +40,5 @@ pub fn within_law()
 pub fn marked_law()
     ensures marked { (us : List Use) (old new : Marks) → AreMarkedToo us old new → All (IsMarkedUse new) us }
     ensures stays { (us : List Use) (old new : Marks) → AreMarkedToo us old new → (vs : List Use) → All (IsMarkedUse old) vs → All (IsMarkedUse new) vs }
-    ensures images { (marks : Marks) (r : Maps) → LeadsMarked marks r → (us : List Use) → All (IsMarkedUse marks) us → All (IsLedUse r) us }
+    ensures images { (marks : Marks) (r : Maps) → MapsMarked marks r → (us : List Use) → All (IsMarkedUse marks) us → All (IsMappedUse r) us }
 {}

@@ -9,13 +9,13 @@
 //! "type_id_item", "proto_id_item", "field_id_item", "method_id_item" and "type_list".
 #![tactic(auto)]
 
+mod checked_lists;
 mod closing;
 mod faults;
 mod fields;
 mod images;
 mod joined_tables;
 mod joining;
-mod judged;
 mod keeping;
 mod kept_tables;
 mod kinds;

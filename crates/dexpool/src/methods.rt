@@ -8,7 +8,7 @@ ghost use Rattle.dexspec.specs.Rows as rows;
 ghost use Rattle.dexspec.specs.Conditions.{Condition};
 ghost use Rattle.dexspec.specs.Accepted.{HoldsThroughout};
 ghost use Rattle.dexpool.specs.Tables.{method_cmp};
-ghost use Rattle.dexpool.specs.Reading.{is_above_last, AreNames, AreProtos, AreMethods, MethodStands, HasMethodNumbers, AreMethodNames, file_numbers};
+ghost use Rattle.dexpool.specs.Reading.{is_above_last, AreNames, AreProtos, AreMethods, MethodRowAt, HasMethodNumbers, AreMethodNames, file_numbers};
 ghost use Rattle.dexpool.specs.Faults.{IsFault};
 
 use crate::faults::{ReadFault, refused};
@@ -46,7 +46,7 @@ fn method_at(names: &Names<'_, '_>, protos: &[ProtoEntry], i: u32) -> Option<Met
     requires names { AreNames names.now.frame.now names.now.strings.now names.now.types.now }
     requires protos { AreProtos names.now.frame.now names.now.strings.now names.now.types.now (file_numbers names.now.frame.now) protos.now }
     requires row { i < table_size names.now.frame.now MethodIds }
-    ensures { MatchOption result ((m : Method) → rows.MethodRow names.now.frame.now i m → ⊥) (MethodStands names.now.strings.now names.now.types.now (file_numbers names.now.frame.now) protos.now names.now.frame.now i) }
+    ensures { MatchOption result ((m : Method) → rows.MethodRow names.now.frame.now i m → ⊥) (MethodRowAt names.now.strings.now names.now.types.now (file_numbers names.now.frame.now) protos.now names.now.frame.now i) }
 {
     let method = method_numbers(names.frame, i);
     let class = match names.typ(method.class) {

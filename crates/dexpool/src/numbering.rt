@@ -3,7 +3,7 @@
 ghost use Rattle.std.specs.Prelude.{◌≡◌, ◌<◌, ℕ, List, length, slice_index_or, IfOk, []};
 ghost use Rattle.dexspec.specs.Symbols.{Proto, Field, Method};
 ghost use Rattle.dexpool.specs.Pools.{count_of};
-ghost use Rattle.dexpool.specs.Numberings.{IsAt, IsNumbering, StandsForProto, StandsForField, StandsForMethod};
+ghost use Rattle.dexpool.specs.Numberings.{IsAt, IsNumbering, DenotesProto, DenotesField, DenotesMethod};
 
 use crate::lists::Parameters;
 use crate::pools::Pools;
@@ -149,7 +149,7 @@ impl<'a> Numbering<'a> {
     /// Condition: `i` is below the number of protos. Source: "proto_id_item".
     pub fn proto(&self, i: usize) -> ProtoRow<'_>
         requires { i < length self.now.protos }
-        ensures { (d : Proto) → StandsForProto self.now result (slice_index_or self.now.protos i d) }
+        ensures { (d : Proto) → DenotesProto self.now result (slice_index_or self.now.protos i d) }
     {
         let entry = self.tables.protos[i];
         let parameters = self.tables.parameters.part(entry.parameters);
@@ -161,7 +161,7 @@ impl<'a> Numbering<'a> {
     /// Condition: `i` is below the number of fields. Source: "field_id_item".
     pub fn field(&self, i: usize) -> &FieldRow
         requires { i < length self.now.fields }
-        ensures { (d : Field) → StandsForField self.now result.now (slice_index_or self.now.fields i d) }
+        ensures { (d : Field) → DenotesField self.now result.now (slice_index_or self.now.fields i d) }
     {
         &self.tables.fields[i]
     }
@@ -171,7 +171,7 @@ impl<'a> Numbering<'a> {
     /// Condition: `i` is below the number of methods. Source: "method_id_item".
     pub fn method(&self, i: usize) -> &MethodRow
         requires { i < length self.now.methods }
-        ensures { (d : Method) → StandsForMethod self.now result.now (slice_index_or self.now.methods i d) }
+        ensures { (d : Method) → DenotesMethod self.now result.now (slice_index_or self.now.methods i d) }
     {
         &self.tables.methods[i]
     }

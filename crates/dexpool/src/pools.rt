@@ -5,7 +5,7 @@ ghost use Rattle.dexspec.specs.Accepted.{HoldBelow, IsFrame};
 ghost use Rattle.dexspec.specs.Symbols.{Proto, Field, Method};
 ghost use Rattle.dexpool.specs.Pools.{ArePools, count_of};
 ghost use Rattle.dexpool.specs.Reading.{AreNames, AreProtos, AreFields, AreMethods, file_numbers};
-ghost use Rattle.dexpool.specs.Numberings.{IsAt, IsNumbered, IsOfKind, IsNumbering, StandsForProto, StandsForField, StandsForMethod};
+ghost use Rattle.dexpool.specs.Numberings.{IsAt, IsNumbered, IsOfKind, IsNumbering, DenotesProto, DenotesField, DenotesMethod};
 ghost use Rattle.dexpool.specs.Owned.{symbol_of};
 ghost use Rattle.dexpool.specs.Faults.{IsFault};
 
@@ -64,7 +64,7 @@ impl<'a> Pools<'a> {
         ensures rows { IfOk result (ArePools frame.now) }
         ensures refused { IfErr result (IsFault frame.now) }
     {
-        judged(frame);
+        checked(frame);
         let strings = read_strings(alloc, frame)?;
         let types = read_types(alloc, frame, &strings)?;
         let names = Names {
@@ -127,7 +127,7 @@ impl<'a> Pools<'a> {
     /// Condition: `i` is below the number of protos. Source: "proto_id_item".
     pub fn proto(&self, i: u32) -> ProtoRow<'_>
         requires { i < length self.now.protos }
-        ensures { (d : Proto) → StandsForProto self.now result (slice_index_or self.now.protos i d) }
+        ensures { (d : Proto) → DenotesProto self.now result (slice_index_or self.now.protos i d) }
     {
         self.numbering.proto(i as usize)
     }
@@ -137,7 +137,7 @@ impl<'a> Pools<'a> {
     /// Condition: `i` is below the number of fields. Source: "field_id_item".
     pub fn field(&self, i: u32) -> &FieldRow
         requires { i < length self.now.fields }
-        ensures { (d : Field) → StandsForField self.now result.now (slice_index_or self.now.fields i d) }
+        ensures { (d : Field) → DenotesField self.now result.now (slice_index_or self.now.fields i d) }
     {
         self.numbering.field(i as usize)
     }
@@ -147,7 +147,7 @@ impl<'a> Pools<'a> {
     /// Condition: `i` is below the number of methods. Source: "method_id_item".
     pub fn method(&self, i: u32) -> &MethodRow
         requires { i < length self.now.methods }
-        ensures { (d : Method) → StandsForMethod self.now result.now (slice_index_or self.now.methods i d) }
+        ensures { (d : Method) → DenotesMethod self.now result.now (slice_index_or self.now.methods i d) }
     {
         self.numbering.method(i as usize)
     }
@@ -200,7 +200,7 @@ fn read_rows(
 }
 
 // A frame meets the conditions before those of the pools.
-fn judged(frame: &Frame<'_>)
+fn checked(frame: &Frame<'_>)
     ensures { IsFrame frame.now }
 {
     let _bytes = frame.bytes();

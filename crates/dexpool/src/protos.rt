@@ -5,12 +5,12 @@ ghost use Rattle.dexspec.specs.Header.{ProtoIds, table_size};
 ghost use Rattle.dexspec.specs.Symbols.{Proto};
 ghost use Rattle.dexspec.specs.Rows as rows;
 ghost use Rattle.dexpool.specs.Tables.{span_of, proto_cmp};
-ghost use Rattle.dexpool.specs.Reading.{is_above_last, AreNames, AreProtos, HasIndices, HasSpan, ProtoStands, file_numbers};
-ghost use Rattle.dexpool.specs.internal.Judged.{AreLetters, AreJudged};
+ghost use Rattle.dexpool.specs.Reading.{is_above_last, AreNames, AreProtos, HasIndices, HasSpan, ProtoRowAt, file_numbers};
+ghost use Rattle.dexpool.specs.internal.CheckedLists.{AreLetters, AreChecked};
 ghost use Rattle.dexpool.specs.Faults.{IsFault};
 
+use crate::checked_lists::{CheckedList, has_shorty, note};
 use crate::faults::{ReadFault, refused};
-use crate::judged::{Judged, has_shorty, note};
 use crate::kinds::letter;
 use crate::lists::Parameters;
 use crate::names::Names;
@@ -54,16 +54,16 @@ fn proto_at(
     names: &Names<'_, '_>,
     letters: &[u16],
     file: &Parameters<'_>,
-    lists: &mut HashMap<u32, Judged>,
+    lists: &mut HashMap<u32, CheckedList>,
     i: u32,
 ) -> Result<Option<ProtoEntry>, AllocError>
     requires names { AreNames names.now.frame.now names.now.strings.now names.now.types.now }
     requires letters { AreLetters names.now.strings.now names.now.types.now letters.now }
     requires file { file.now ≡ file_numbers names.now.frame.now }
-    requires lists { AreJudged names.now.frame.now names.now.strings.now names.now.types.now lists.old }
+    requires lists { AreChecked names.now.frame.now names.now.strings.now names.now.types.now lists.old }
     requires row { i < table_size names.now.frame.now ProtoIds }
-    ensures lists { IfOk result (λ _. AreJudged names.now.frame.now names.now.strings.now names.now.types.now lists.new) }
-    ensures proto { IfOk result (λ found. MatchOption found ((p : Proto) → rows.ProtoRow names.now.frame.now i p → ⊥) (ProtoStands names.now.strings.now names.now.types.now (file_numbers names.now.frame.now) names.now.frame.now i)) }
+    ensures lists { IfOk result (λ _. AreChecked names.now.frame.now names.now.strings.now names.now.types.now lists.new) }
+    ensures proto { IfOk result (λ found. MatchOption found ((p : Proto) → rows.ProtoRow names.now.frame.now i p → ⊥) (ProtoRowAt names.now.strings.now names.now.types.now (file_numbers names.now.frame.now) names.now.frame.now i)) }
 {
     let indices = indices_at(names.frame, i);
     let shorty = match names.text(indices.shorty) {
@@ -78,15 +78,15 @@ fn proto_at(
         Some(span) => span,
         None => return Ok(None),
     };
-    let judged = Judged {
+    let checked = CheckedList {
         span,
         shorty: indices.shorty,
         letter: letter(return_type),
     };
-    if !has_shorty(names, letters, file, lists, indices.off, judged, shorty) {
+    if !has_shorty(names, letters, file, lists, indices.off, checked, shorty) {
         return Ok(None);
     }
-    note(names, lists, indices.off, judged)?;
+    note(names, lists, indices.off, checked)?;
     Ok(Some(ProtoEntry {
         shorty: indices.shorty,
         return_type: indices.return_type,
@@ -114,7 +114,7 @@ fn compare(parameters: &Parameters<'_>, left: &ProtoEntry, right: &ProtoEntry) -
         Ordering::Equal => parameters
             .part(left.parameters)
             .compare(&parameters.part(right.parameters)),
-        unlike => unlike,
+        unequal => unequal,
     }
 }
 

@@ -58,7 +58,7 @@ impl<'a> Numbering<'a> {
         for i in 0..numbers.len().min(descriptors.len()) {
             match self.compare_type(numbers.at(i), &descriptors[i].text()) {
                 Ordering::Equal => {}
-                unlike => return unlike,
+                unequal => return unequal,
             }
         }
         numbers.len().cmp(&descriptors.len())
@@ -72,7 +72,7 @@ impl<'a> Numbering<'a> {
         let row = self.proto(i);
         match self.compare_type(row.return_type(), &proto.return_type.text()) {
             Ordering::Equal => self.compare_types(&row.parameters(), &proto.parameters),
-            unlike => unlike,
+            unequal => unequal,
         }
     }
 
@@ -85,9 +85,9 @@ impl<'a> Numbering<'a> {
         match self.compare_type(row.class, &field.class.text()) {
             Ordering::Equal => match self.compare_string(row.name, &field.name.text()) {
                 Ordering::Equal => self.compare_type(row.typ, &field.typ.text()),
-                unlike => unlike,
+                unequal => unequal,
             },
-            unlike => unlike,
+            unequal => unequal,
         }
     }
 
@@ -100,9 +100,9 @@ impl<'a> Numbering<'a> {
         match self.compare_type(row.class, &method.class.text()) {
             Ordering::Equal => match self.compare_string(row.name, &method.name.text()) {
                 Ordering::Equal => self.compare_proto(row.proto, &method.proto),
-                unlike => unlike,
+                unequal => unequal,
             },
-            unlike => unlike,
+            unequal => unequal,
         }
     }
 

@@ -4,7 +4,7 @@ ghost use Rattle.std.specs.Prelude.{◌≡◌, ◌↔◌, ◌<◌, IsTrue, IfOk,
 ghost use Rattle.dexspec.specs.Names.{shorty_letter};
 ghost use Rattle.dexpool.specs.Tables.{type_of};
 ghost use Rattle.dexpool.specs.Reading.{AreNames};
-ghost use Rattle.dexpool.specs.internal.Judged.{AreLetters, IsLetter, SpellNumbers, IsSpelled};
+ghost use Rattle.dexpool.specs.internal.CheckedLists.{AreLetters, IsLetter, SpellNumbers, IsSpelled};
 
 use crate::kinds::{VOID, letter};
 use crate::names::Names;

@@ -38,7 +38,7 @@ pub(crate) fn read_strings<'a>(alloc: Global, frame: &Frame<'a>) -> Result<Vec<T
 }
 
 // The text of a row, if it is one.
-#[tactic(auto, using(crate::proofs::Bytes::uint_at_row, crate::proofs::Bytes::no_text_behind))]
+#[tactic(auto, using(crate::proofs::Bytes::uint_at_row, crate::proofs::Bytes::no_text_after))]
 fn string_at<'a>(frame: &Frame<'a>, i: u32) -> Option<Text<'a>>
     requires { i < table_size frame.now StringIds }
     ensures { MatchOption result ((s : List ℕ) → StringRow frame.now i s → ⊥) (λ s. StringRow frame.now i s) }

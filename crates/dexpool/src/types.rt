@@ -5,7 +5,7 @@ ghost use Rattle.dexspec.specs.Header.{TypeIds, table_size};
 ghost use Rattle.dexspec.specs.Rows.{TypeRow, row_at};
 ghost use Rattle.dexspec.specs.Bytes.{uint_at};
 ghost use Rattle.dexspec.specs.Accepted.{IsFrame};
-ghost use Rattle.dexpool.specs.Reading.{is_above_last, AreTexts, AreTypes, TypeStands};
+ghost use Rattle.dexpool.specs.Reading.{is_above_last, AreTexts, AreTypes, TypeRowAt};
 ghost use Rattle.dexpool.specs.Tables.{type_cmp};
 ghost use Rattle.dexpool.specs.Faults.{IsFault};
 
@@ -45,11 +45,11 @@ pub(crate) fn read_types(
 }
 
 // The index of the text of a row, if it is a type.
-#[tactic(auto, using(crate::proofs::Steps::type_stands))]
+#[tactic(auto, using(crate::proofs::Steps::type_encoded))]
 fn type_at(frame: &Frame<'_>, strings: &[Text<'_>], i: u32) -> Option<usize>
     requires strings { AreTexts frame.now strings.now }
     requires row { i < table_size frame.now TypeIds }
-    ensures { MatchOption result ((t : List ℕ) → TypeRow frame.now i t → ⊥) (TypeStands strings.now frame.now i) }
+    ensures { MatchOption result ((t : List ℕ) → TypeRow frame.now i t → ⊥) (TypeRowAt strings.now frame.now i) }
 {
     let index = type_index(frame, i);
     if strings.len() <= index {

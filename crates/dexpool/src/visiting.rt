@@ -3,7 +3,7 @@
 ghost use Rattle.std.specs.Prelude.{◌≡◌, ◌∷◌, ◌↔◌, [], List, All, IsTrue, length, map};
 ghost use Rattle.std.specs.List.{FoldsTo, flat_map};
 ghost use Rattle.dexpool.specs.Numberings.{Maps};
-ghost use Rattle.dexpool.specs.Images.{LeadsOn, LeadsUse};
+ghost use Rattle.dexpool.specs.Images.{IsMapped, MapsUse};
 ghost use Rattle.dexpool.specs.Uses.{Use, HasMark, AreMarkedToo, marks_of};
 
 use crate::marks::Marks;
@@ -84,8 +84,8 @@ pub struct Fits<'a> {
 }
 
 // Returns whether a number has an image below 2^32.
-fn leads_on(remap: &Remap, kind: SymbolKind, number: u32) -> bool
-    ensures { IsTrue result ↔ LeadsOn remap.now kind number }
+fn is_mapped(remap: &Remap, kind: SymbolKind, number: u32) -> bool
+    ensures { IsTrue result ↔ IsMapped remap.now kind number }
 {
     match remap.image(kind, number as usize) {
         Some(image) => image < 0x1_0000_0000,
@@ -94,10 +94,10 @@ fn leads_on(remap: &Remap, kind: SymbolKind, number: u32) -> bool
 }
 
 impl Visitor for Fits<'_> {
-    ghost step = { λ a u b. (b.remap.now ≡ a.remap.now) × (IsTrue b.fit ↔ IsTrue a.fit × LeadsOn a.remap.now u.kind u.number) };
+    ghost step = { λ a u b. (b.remap.now ≡ a.remap.now) × (IsTrue b.fit ↔ IsTrue a.fit × IsMapped a.remap.now u.kind u.number) };
 
     fn symbol(&mut self, kind: SymbolKind, number: u32) {
-        if !leads_on(self.remap, kind, number) {
+        if !is_mapped(self.remap, kind, number) {
             self.fit = false;
         }
     }
@@ -106,7 +106,7 @@ impl Visitor for Fits<'_> {
 /// Returns whether each number in the item has an image below 2^32.
 #[tactic(auto, using(crate::proofs::Visits::all_fit))]
 pub fn all_fit<T: Symbols>(item: &T, remap: &Remap) -> bool
-    ensures { IsTrue result ↔ All (LeadsUse remap.now) (T.uses item.now) }
+    ensures { IsTrue result ↔ All (MapsUse remap.now) (T.uses item.now) }
 {
     let mut fits = Fits { remap, fit: true };
     item.visit(&mut fits);
@@ -119,14 +119,14 @@ pub trait Renumber {
     ghost places: { Maps → Self → Type 0 };
 
     // the item with the images
-    ghost led: { Maps → Self → Self };
+    ghost remapped: { Maps → Self → Self };
 
     /// Replaces each number by its image.
     ///
     /// Condition: each has an image that fits its place.
     fn renumber(&mut self, remap: &Remap)
         requires { places remap.now self.old }
-        ensures { self.new ≡ led remap.now self.old };
+        ensures { self.new ≡ remapped remap.now self.old };
 }
 
 /// Replaces each number of each item by its image.
@@ -134,7 +134,7 @@ pub trait Renumber {
 /// Condition: each has an image that fits its place.
 pub fn renumber_all<T: Renumber>(items: &mut Vec<T>, remap: &Remap)
     requires { All (T.places remap.now) items.old.items }
-    ensures { items.new.items ≡ map (T.led remap.now) items.old.items }
+    ensures { items.new.items ≡ map (T.remapped remap.now) items.old.items }
 {
     for i in 0..items.len() {
         items[i].renumber(remap);

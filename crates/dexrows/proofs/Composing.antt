@@ -25,8 +25,8 @@ each_more g F xs ys i v d lt less done rest is =
 pub rest_more : {X : Type 0} (xs ys : List X) (i : ℕ) (v d : X) → i < length xs → i < length ys → drop i ys ≡ drop i xs → drop (i + 1) (set ys i v) ≡ drop (i + 1) xs
 rest_more xs ys i v d lt less rest =
     let both : get_or ys i d ∷ drop (i + 1) ys ≡ get_or xs i d ∷ drop (i + 1) xs = sym (drop_more ys i d less) ∙ rest ∙ drop_more xs i d lt in
-    let behind : drop (i + 1) ys ≡ drop (i + 1) xs = cc in
-    drop-set-lt (i + 1) ys i v (omega arith) ∙ behind
+    let following : drop (i + 1) ys ≡ drop (i + 1) xs = cc in
+    drop-set-lt (i + 1) ys i v (omega arith) ∙ following
 
 -- what holds of what the values are seen as
 pub all_seen : {X Y : Type 0} (g : X → Y) (P : Y → Type 0) (xs : List X) → All P (map g xs) → All (λ x. P (g x)) xs

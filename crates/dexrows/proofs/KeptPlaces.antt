@@ -34,7 +34,7 @@ length_places n (true ∷ marks) = ap suc (length_places (suc n) marks)
 length_places n (false ∷ marks) = ap suc (length_places n marks)
 
 -- the row of a place is at that place among the kept rows, where n are before them
-pub record StandsAt {R : Type 0} (marks : List Bool) (rows : List R) (i n place : ℕ) : Type 0 where
+pub record IsKeptAt {R : Type 0} (marks : List Bool) (rows : List R) (i n place : ℕ) : Type 0 where
   pub among : ℕ
   pub place_is : place ≡ n + among
   pub marked : (d : Bool) → get_or marks i d ≡ true
@@ -44,15 +44,15 @@ pub record StandsAt {R : Type 0} (marks : List Bool) (rows : List R) (i n place 
 some_same : (m n : ℕ) → Some m ≡ Some n → m ≡ n
 some_same m n e = cc
 
-stands_later : {R : Type 0} (mark : Bool) (marks : List Bool) (row : R) (rows : List R) (i n m place : ℕ) → (mark ≡ true → m ≡ n + 1) → (mark ≡ false → m ≡ n) → StandsAt marks rows i m place → StandsAt (mark ∷ marks) (row ∷ rows) (suc i) n place
-stands_later true marks row rows i n m place up same h = record {
+is_at_later : {R : Type 0} (mark : Bool) (marks : List Bool) (row : R) (rows : List R) (i n m place : ℕ) → (mark ≡ true → m ≡ n + 1) → (mark ≡ false → m ≡ n) → IsKeptAt marks rows i m place → IsKeptAt (mark ∷ marks) (row ∷ rows) (suc i) n place
+is_at_later true marks row rows i n m place up same h = record {
   among = suc h.among;
   place_is = omega (arith, h.place_is, up refl);
   marked = h.marked;
   within = omega (arith, h.within);
   same = h.same;
 }
-stands_later false marks row rows i n m place up same h = record {
+is_at_later false marks row rows i n m place up same h = record {
   among = h.among;
   place_is = omega (arith, h.place_is, same refl);
   marked = h.marked;
@@ -60,19 +60,19 @@ stands_later false marks row rows i n m place up same h = record {
   same = h.same;
 }
 
-pub stands_at : {R : Type 0} (marks : List Bool) (rows : List R) (i n place : ℕ) (o : Option ℕ) → length marks ≡ length rows → i < length marks → get_or (places n marks) i o ≡ Some place → StandsAt marks rows i n place
-stands_at [] rows i n place o e lt is = absurd (omega arith)
-stands_at (mark ∷ marks) [] i n place o e lt is = absurd (omega arith)
-stands_at (true ∷ marks) (row ∷ rows) zero n place o e lt is = record {
+pub is_at : {R : Type 0} (marks : List Bool) (rows : List R) (i n place : ℕ) (o : Option ℕ) → length marks ≡ length rows → i < length marks → get_or (places n marks) i o ≡ Some place → IsKeptAt marks rows i n place
+is_at [] rows i n place o e lt is = absurd (omega arith)
+is_at (mark ∷ marks) [] i n place o e lt is = absurd (omega arith)
+is_at (true ∷ marks) (row ∷ rows) zero n place o e lt is = record {
   among = 0;
   place_is = omega (arith, some_same n place is);
   marked = λ d. refl;
   within = omega arith;
   same = λ d. refl;
 }
-stands_at (true ∷ marks) (row ∷ rows) (suc i) n place o e lt is = stands_later true marks row rows i n (suc n) place (λ t. omega arith) (λ f. absurd cc) (stands_at marks rows i (suc n) place o (omega arith) (omega arith) is)
-stands_at (false ∷ marks) (row ∷ rows) zero n place o e lt is = absurd cc
-stands_at (false ∷ marks) (row ∷ rows) (suc i) n place o e lt is = stands_later false marks row rows i n n place (λ t. absurd cc) (λ f. refl) (stands_at marks rows i n place o (omega arith) (omega arith) is)
+is_at (true ∷ marks) (row ∷ rows) (suc i) n place o e lt is = is_at_later true marks row rows i n (suc n) place (λ t. omega arith) (λ f. absurd cc) (is_at marks rows i (suc n) place o (omega arith) (omega arith) is)
+is_at (false ∷ marks) (row ∷ rows) zero n place o e lt is = absurd cc
+is_at (false ∷ marks) (row ∷ rows) (suc i) n place o e lt is = is_at_later false marks row rows i n n place (λ t. absurd cc) (λ f. refl) (is_at marks rows i n place o (omega arith) (omega arith) is)
 
 -- a marked row has a place
 pub marked_has : (marks : List Bool) (i n : ℕ) (d : Bool) (o : Option ℕ) → i < length marks → get_or marks i d ≡ true → (place : ℕ) × (get_or (places n marks) i o ≡ Some place)

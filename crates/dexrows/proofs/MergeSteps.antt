@@ -56,12 +56,12 @@ module _ {R : Type 0} (key : R → List ℕ) where
     ];
     less = λ d more.
         let n : length (places ++ length rows ∷ []) ≡ length places + 1 = length_push places (length rows) in
-        let behind : row_cmp key (get_or part (length places) d) (get_or part (length places + 1) d) ≡ Less = next_less part (length places) d sorted (omega arith) in
+        let following : row_cmp key (get_or part (length places) d) (get_or part (length places + 1) d) ≡ Less = next_less part (length places) d sorted (omega arith) in
         let at : key x ≡ key (get_or part (length places) d) = is ∙ ap key (get_or_default part (length places) x d lt) in
         rw n (All-push (λ row. row_cmp key row (get_or part (length places + 1) d) ≡ Less) rows x
         (All-weaker (λ row. row_cmp key row (get_or part (length places) d) ≡ Less) (λ row. row_cmp key row (get_or part (length places + 1) d) ≡ Less)
-        (λ row l. row_total.trans row (get_or part (length places) d) (get_or part (length places + 1) d) l behind) rows (h.less d lt))
-        (subst (λ k. key_cmp k (key (get_or part (length places + 1) d)) ≡ Less) (sym at) behind));
+        (λ row l. row_total.trans row (get_or part (length places) d) (get_or part (length places + 1) d) l following) rows (h.less d lt))
+        (subst (λ k. key_cmp k (key (get_or part (length places + 1) d)) ≡ Less) (sym at) following));
   }
 
   -- a row before the next one of the part is taken from another

@@ -4,8 +4,8 @@ ghost use Rattle.std.specs.Prelude.{◌≡◌, ◌∷◌, [], true, All, map, le
 ghost use Rattle.dexrows.specs.KeyOrders.{both_same, same_number, same_numbers};
 
 use crate::lower::LowerPlaces;
-use crate::numbers::TypeNumbers;
 use crate::rows::Row;
+use crate::type_numbers::TypeNumbers;
 use std::cmp::Ordering;
 use std::marker::Model;
 

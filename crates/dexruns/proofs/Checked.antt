@@ -55,16 +55,16 @@ same_head xs ys i x rest lt lt' at =
     cc
 
 -- a verdict that is right of an input's bytes is right of the file with its number
-pub right_at : {R : Type 0} (tells : R → Type 0) (f : R → List ℕ) (inputs : List R) (i : ℕ) (x : R) (v : Verdict) →
-    i < length inputs → x ≡ get_or inputs i x → (tells x → IsVerdict (f x) v) → All tells inputs → IsVerdict (get_or (map f inputs) i []) v
-right_at tells f inputs i x v lt at right all = rw (get_or-map f inputs i x [] lt, ← at) (right (subst tells (sym at) (all i x lt)))
+pub right_at : {R : Type 0} (reports : R → Type 0) (f : R → List ℕ) (inputs : List R) (i : ℕ) (x : R) (v : Verdict) →
+    i < length inputs → x ≡ get_or inputs i x → (reports x → IsVerdict (f x) v) → All reports inputs → IsVerdict (get_or (map f inputs) i []) v
+right_at reports f inputs i x v lt at right all = rw (get_or-map f inputs i x [] lt, ← at) (right (subst reports (sym at) (all i x lt)))
 
 -- the same, where the readers before this one have been read
-pub right_now : {R : Type 0} (tells : R → Type 0) (f : R → List ℕ) (now inputs : List R) (i : ℕ) (x : R) (v : Verdict) →
+pub right_now : {R : Type 0} (reports : R → Type 0) (f : R → List ℕ) (now inputs : List R) (i : ℕ) (x : R) (v : Verdict) →
     drop i now ≡ drop i inputs → i < length now → i < length inputs → x ≡ get_or now i x →
-    (tells (get_or now i x) → IsVerdict (f (get_or now i x)) v) → All tells inputs → IsVerdict (get_or (map f inputs) i []) v
-right_now tells f now inputs i x v rest lt lt' at right =
-    right_at tells f inputs i x v lt' (same_head now inputs i x rest lt lt' at) (subst (λ y. tells y → IsVerdict (f y) v) (sym at) right)
+    (reports (get_or now i x) → IsVerdict (f (get_or now i x)) v) → All reports inputs → IsVerdict (get_or (map f inputs) i []) v
+right_now reports f now inputs i x v rest lt lt' at right =
+    right_at reports f inputs i x v lt' (same_head now inputs i x rest lt lt' at) (subst (λ y. reports y → IsVerdict (f y) v) (sym at) right)
 
 -- the line of the file with this number
 pub line_is : {N : Type 0} (text : N → List ℕ) (names : List N) (i : ℕ) (d : N) (v : Verdict) (bytes line : List ℕ) →

@@ -31,4 +31,4 @@ none_exceeded D Weight more = omega (arith, more.3, weight-within more.0 D more.
 
 -- no cap is a cause under any caps
 pub no_cap : (D : List Definition) (number : ℕ) → ((caps : Caps) → IsOfCap (IsFirstCause caps D) number) → ⊥
-no_cap D number told = let here = told (ample D) in none_exceeded D here.cap here.holds.is
+no_cap D number reported = let here = reported (ample D) in none_exceeded D here.cap here.holds.is

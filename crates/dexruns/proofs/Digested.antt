@@ -55,12 +55,12 @@ name_in m cs i c known lt at = let here : IsKnownClass m c = subst (λ x. IsKnow
 
 pub written_is : (one : (b : List ℕ) (K L : Collection) → Denotes b K → Denotes b L → K ≡ L) (file b bytes lines : List ℕ) (K L : Collection) (old new : List ℕ) →
     bytes ≡ b → IsReadAs bytes L → Denotes b K → lines ≡ digest_lines file L → new ≡ old ++ lines → new ≡ old ++ digest_lines file K
-written_is one file b bytes lines K L old new same stands denotes made written =
-    written ∙ ap (λ x. old ++ x) made ∙ ap (λ J. old ++ digest_lines file J) (read_is one b bytes K L same stands denotes)
+written_is one file b bytes lines K L old new same encodes denotes made written =
+    written ∙ ap (λ x. old ++ x) made ∙ ap (λ J. old ++ digest_lines file J) (read_is one b bytes K L same encodes denotes)
 
-pub front_is : (one : (b : List ℕ) (K L : Collection) → Denotes b K → Denotes b L → K ≡ L) (file b bytes lines : List ℕ) (K L : Collection) (old new : List ℕ) →
+pub prefix_is : (one : (b : List ℕ) (K L : Collection) → Denotes b K → Denotes b L → K ≡ L) (file b bytes lines : List ℕ) (K L : Collection) (old new : List ℕ) →
     bytes ≡ b → IsReadAs bytes L → Denotes b K → lines ≡ digest_lines file L → ((n : ℕ) × (new ≡ old ++ take n lines)) → (n : ℕ) × (new ≡ old ++ take n (digest_lines file K))
-front_is one file b bytes lines K L old new same stands denotes made front = (
+prefix_is one file b bytes lines K L old new same encodes denotes made front = (
   front.0,
-  front.1 ∙ ap (λ x. old ++ take front.0 x) made ∙ ap (λ J. old ++ take front.0 (digest_lines file J)) (read_is one b bytes K L same stands denotes),
+  front.1 ∙ ap (λ x. old ++ take front.0 x) made ∙ ap (λ J. old ++ take front.0 (digest_lines file J)) (read_is one b bytes K L same encodes denotes),
 )

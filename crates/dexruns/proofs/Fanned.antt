@@ -26,10 +26,10 @@ pub record IsCut (fan : ℕ) (ps groups last : List Plan) (n : ℕ) : Type 0 whe
 -- one plan more is in the last group
 pub one_more : (fan : ℕ) (ps groups last : List Plan) (n : ℕ) (p : Plan) → IsCut fan ps groups last n → length last < fan → n < length ps → p ≡ get_or ps n p → IsCut fan ps groups (last ++ p ∷ []) (n + 1)
 one_more fan ps groups last n p cut few lt e =
-    let behind : fan * length groups ≤ length (take n ps) = omega (arith, cut.count, length-take-le n ps (omega arith)) in
+    let following : fan * length groups ≤ length (take n ps) = omega (arith, cut.count, length-take-le n ps (omega arith)) in
     record {
       full = cut.full;
-      rest = ap (λ (l : List Plan). l ++ p ∷ []) cut.rest ∙ sym (drop-append-le (fan * length groups) (take n ps) (p ∷ []) behind)
+      rest = ap (λ (l : List Plan). l ++ p ∷ []) cut.rest ∙ sym (drop-append-le (fan * length groups) (take n ps) (p ∷ []) following)
           ∙ ap (λ (x : Plan). drop (fan * length groups) (take n ps ++ x ∷ [])) e ∙ ap (drop (fan * length groups)) (sym (take_more ps n p lt));
       count = omega (arith, cut.count, length-append last (p ∷ []));
       few = omega (arith, few, length-append last (p ∷ []));

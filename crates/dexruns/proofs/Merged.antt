@@ -16,7 +16,7 @@ use Rattle.dexruns.specs.declared.faults.MergeCause.TheVariants as cause
 use Rattle.dexruns.specs.declared.faults.RunFault.{RunFault}
 use Rattle.dexruns.specs.declared.faults.RunFault.TheVariants as run
 use Rattle.dexruns.specs.Runs.{AllWork, IsLeft}
-use Rattle.dexruns.specs.Merges.{AreReadFrom, TellsCause, IsTrueCause, IsUnionFault, IsUnited, IsUnitedFault, IsFileOf, IsFrontAppended, IsMergedFile, IsMergeFault, IsWriteFault, AreUncalled, IsOfWriter, IsOfDevices}
+use Rattle.dexruns.specs.Merges.{AreReadFrom, ReportsCause, IsTrueCause, IsUnionFault, IsUnited, IsUnitedFault, IsFileOf, IsPrefixAppended, IsMergedFile, IsMergeFault, IsWriteFault, AreUncalled, IsOfWriter, IsOfDevices}
 use Rattle.dexruns.proofs.Checked.{zip_more, same_head}
 
 -- ---- inputs one after the other
@@ -46,8 +46,8 @@ zip_length P (x ∷ xs) (y ∷ ys) all = ap suc (zip_length P xs ys all.1)
 -- ---- their union
 
 -- where the union is good no cause is true of it
-pub true_cause : (caps : Caps) (apart : (D : List Definition) (c : Cause) → IsGood caps D → IsCause caps D c → ⊥) (collections : List Collection) (plan : Plan) (told : MergeCause) →
-    TellsCause (IsPlannedCause caps collections plan) told → IsTrueCause caps collections plan told
+pub true_cause : (caps : Caps) (apart : (D : List Definition) (c : Cause) → IsGood caps D → IsCause caps D c → ⊥) (collections : List Collection) (plan : Plan) (reported : MergeCause) →
+    ReportsCause (IsPlannedCause caps collections plan) reported → IsTrueCause caps collections plan reported
 true_cause caps apart collections plan (cause.Conflict name) holds = record { cause = holds; bad = λ good. apart (planned collections plan) (merging.Conflict name) good holds.holds }
 true_cause caps apart collections plan (cause.Cycle name) holds = record { cause = holds; bad = λ good. apart (planned collections plan) (merging.Cycle name) good holds.holds }
 true_cause caps apart collections plan (cause.Cap number) holds = record { cause = holds; bad = λ good. apart (planned collections plan) (merging.Exceeded holds.cap) good holds.holds.holds }
@@ -57,20 +57,20 @@ plan_for_collections : {R : Type 0} (P : R → Collection → Type 0) (inputs : 
 plan_for_collections P inputs collections plan all is = subst (λ n. IsPlanFor n plan) (sym (zip_length P inputs collections all)) is
 
 -- a fault of merging is one of uniting
-pub fault_of_merging : {R : Type 0} (tells : R → Type 0) (to_come : R → List ℕ) (inputs : List R) (collections : List Collection) (caps : Caps) (plan : Plan) (f : RunFault) →
-    IsPlanFor (length inputs) plan → AreReadFrom tells to_come inputs collections → IsUnionFault caps collections plan f → IsUnitedFault tells to_come inputs caps plan f
-fault_of_merging tells to_come inputs collections caps plan (run.Input i refusal) is read fault = absurd fault
-fault_of_merging tells to_come inputs collections caps plan run.Plan is read fault = absurd (fault (plan_for_collections _ inputs collections plan read is))
-fault_of_merging tells to_come inputs collections caps plan (run.Merge told) is read fault = record { collections = collections; read = read; cause = fault }
-fault_of_merging tells to_come inputs collections caps plan (run.Read i) is read fault = absurd fault
-fault_of_merging tells to_come inputs collections caps plan run.Write is read fault = absurd fault
-fault_of_merging tells to_come inputs collections caps plan run.Memory is read fault = tt
+pub fault_of_merging : {R : Type 0} (reports : R → Type 0) (to_come : R → List ℕ) (inputs : List R) (collections : List Collection) (caps : Caps) (plan : Plan) (f : RunFault) →
+    IsPlanFor (length inputs) plan → AreReadFrom reports to_come inputs collections → IsUnionFault caps collections plan f → IsUnitedFault reports to_come inputs caps plan f
+fault_of_merging reports to_come inputs collections caps plan (run.Input i refusal) is read fault = absurd fault
+fault_of_merging reports to_come inputs collections caps plan run.Plan is read fault = absurd (fault (plan_for_collections _ inputs collections plan read is))
+fault_of_merging reports to_come inputs collections caps plan (run.Merge reported) is read fault = record { collections = collections; read = read; cause = fault }
+fault_of_merging reports to_come inputs collections caps plan (run.Read i) is read fault = absurd fault
+fault_of_merging reports to_come inputs collections caps plan run.Write is read fault = absurd fault
+fault_of_merging reports to_come inputs collections caps plan run.Memory is read fault = tt
 
 pub uncalled_by_merging : {R : Type 0} (P : R → Collection → Type 0) (inputs now : List R) (collections : List Collection) (caps : Caps) (plan : Plan) (f : RunFault) →
     IsPlanFor (length inputs) plan → AllZip P inputs collections → IsUnionFault caps collections plan f → AreUncalled inputs now f
 uncalled_by_merging P inputs now collections caps plan (run.Input i refusal) is read fault = tt
 uncalled_by_merging P inputs now collections caps plan run.Plan is read fault = absurd (fault (plan_for_collections P inputs collections plan read is))
-uncalled_by_merging P inputs now collections caps plan (run.Merge told) is read fault = tt
+uncalled_by_merging P inputs now collections caps plan (run.Merge reported) is read fault = tt
 uncalled_by_merging P inputs now collections caps plan (run.Read i) is read fault = tt
 uncalled_by_merging P inputs now collections caps plan run.Write is read fault = tt
 uncalled_by_merging P inputs now collections caps plan run.Memory is read fault = tt
@@ -79,13 +79,13 @@ uncalled_by_merging P inputs now collections caps plan run.Memory is read fault 
 
 -- a fault of which one thing holds, and so another
 pub if_err : {T E : Type 0} (P Q : E → Type 0) (r : Result T E) → ((e : E) → P e → Q e) → IfErr r P → IfErr r Q
-if_err P Q (Ok x) leads holds = tt
-if_err P Q (Err e) leads holds = leads e holds
+if_err P Q (Ok x) maps_to holds = tt
+if_err P Q (Err e) maps_to holds = maps_to e holds
 
 -- what holds where all was done, and so something else
 pub on_ok : {T E : Type 0} (A B : Type 0) (r : Result T E) → (A → B) → OnOk r A → OnOk r B
-on_ok A B (Ok x) leads holds = leads holds
-on_ok A B (Err e) leads holds = tt
+on_ok A B (Ok x) maps_to holds = maps_to holds
+on_ok A B (Err e) maps_to holds = tt
 
 -- the canonical file of what is good and well formed is accepted, and denotes it
 pub file_is : (accepted : (K : Collection) → IsGood greatest_caps (definitions K) → AreWellFormed (definitions K) → IsAccepted (canonical K)) →
@@ -94,26 +94,26 @@ pub file_is : (accepted : (K : Collection) → IsGood greatest_caps (definitions
 file_is accepted denotes K good formed = record { accepted = accepted K good formed; denotes = denotes K good formed }
 
 -- a fault of writing is one of the run
-pub fault_of_writing : {R W : Type 0} (tells : R → Type 0) (to_come : R → List ℕ) (inputs : List R) (caps : Caps) (plan : Plan) (kept : Collection → Collection)
+pub fault_of_writing : {R W : Type 0} (reports : R → Type 0) (to_come : R → List ℕ) (inputs : List R) (caps : Caps) (plan : Plan) (kept : Collection → Collection)
     (writes : W → Type 0) (taken : W → List ℕ) (old new : W) (whole program : Collection) (f : RunFault) →
-    IsUnited tells to_come inputs caps plan whole → program ≡ kept whole → IsFileOf program → IsWriteFault writes taken old new (canonical program) f →
-    IsMergeFault tells to_come inputs caps plan kept (IsFrontAppended (writes old) (taken old) (taken new)) f
-fault_of_writing tells to_come inputs caps plan kept writes taken old new whole program (run.Input i refusal) united is file fault = absurd fault
-fault_of_writing tells to_come inputs caps plan kept writes taken old new whole program run.Plan united is file fault = absurd fault
-fault_of_writing tells to_come inputs caps plan kept writes taken old new whole program (run.Merge told) united is file fault = absurd fault
-fault_of_writing tells to_come inputs caps plan kept writes taken old new whole program (run.Read i) united is file fault = absurd fault
-fault_of_writing tells to_come inputs caps plan kept writes taken old new whole program run.Write united is file fault = record {
+    IsUnited reports to_come inputs caps plan whole → program ≡ kept whole → IsFileOf program → IsWriteFault writes taken old new (canonical program) f →
+    IsMergeFault reports to_come inputs caps plan kept (IsPrefixAppended (writes old) (taken old) (taken new)) f
+fault_of_writing reports to_come inputs caps plan kept writes taken old new whole program (run.Input i refusal) united is file fault = absurd fault
+fault_of_writing reports to_come inputs caps plan kept writes taken old new whole program run.Plan united is file fault = absurd fault
+fault_of_writing reports to_come inputs caps plan kept writes taken old new whole program (run.Merge reported) united is file fault = absurd fault
+fault_of_writing reports to_come inputs caps plan kept writes taken old new whole program (run.Read i) united is file fault = absurd fault
+fault_of_writing reports to_come inputs caps plan kept writes taken old new whole program run.Write united is file fault = record {
   whole = whole;
   united = united;
   read_back = subst IsFileOf is file;
-  written = subst (λ K. IsFrontAppended (writes old) (taken old) (taken new) (canonical K)) is fault;
+  written = subst (λ K. IsPrefixAppended (writes old) (taken old) (taken new) (canonical K)) is fault;
 }
-fault_of_writing tells to_come inputs caps plan kept writes taken old new whole program run.Memory united is file fault = tt
+fault_of_writing reports to_come inputs caps plan kept writes taken old new whole program run.Memory united is file fault = tt
 
 -- what was written is what the run says of it
-pub merged_by_writing : {R : Type 0} (tells : R → Type 0) (to_come : R → List ℕ) (inputs : List R) (caps : Caps) (plan : Plan) (kept : Collection → Collection) (Written : List ℕ → Type 0) (whole program : Collection) →
-    IsUnited tells to_come inputs caps plan whole → program ≡ kept whole → IsFileOf program → Written (canonical program) → IsMergedFile tells to_come inputs caps plan kept Written
-merged_by_writing tells to_come inputs caps plan kept Written whole program united is file written = record {
+pub merged_by_writing : {R : Type 0} (reports : R → Type 0) (to_come : R → List ℕ) (inputs : List R) (caps : Caps) (plan : Plan) (kept : Collection → Collection) (Written : List ℕ → Type 0) (whole program : Collection) →
+    IsUnited reports to_come inputs caps plan whole → program ≡ kept whole → IsFileOf program → Written (canonical program) → IsMergedFile reports to_come inputs caps plan kept Written
+merged_by_writing reports to_come inputs caps plan kept Written whole program united is file written = record {
   whole = whole;
   united = united;
   read_back = subst IsFileOf is file;
@@ -123,7 +123,7 @@ merged_by_writing tells to_come inputs caps plan kept Written whole program unit
 pub left_by_writing : {W : Type 0} (writes : W → Type 0) (taken : W → List ℕ) (old new : W) (bytes : List ℕ) (f : RunFault) → IsWriteFault writes taken old new bytes f → IsLeft old new f
 left_by_writing writes taken old new bytes (run.Input i refusal) fault = absurd fault
 left_by_writing writes taken old new bytes run.Plan fault = absurd fault
-left_by_writing writes taken old new bytes (run.Merge told) fault = absurd fault
+left_by_writing writes taken old new bytes (run.Merge reported) fault = absurd fault
 left_by_writing writes taken old new bytes (run.Read i) fault = absurd fault
 left_by_writing writes taken old new bytes run.Write fault = tt
 left_by_writing writes taken old new bytes run.Memory fault = fault
@@ -131,7 +131,7 @@ left_by_writing writes taken old new bytes run.Memory fault = fault
 pub uncalled_by_writing : {R : Type 0} (inputs now : List R) (writer_failed : Bool) (f : RunFault) → IsOfWriter writer_failed f → AreUncalled inputs now f
 uncalled_by_writing inputs now writer_failed (run.Input i refusal) fault = tt
 uncalled_by_writing inputs now writer_failed run.Plan fault = absurd fault
-uncalled_by_writing inputs now writer_failed (run.Merge told) fault = tt
+uncalled_by_writing inputs now writer_failed (run.Merge reported) fault = tt
 uncalled_by_writing inputs now writer_failed (run.Read i) fault = tt
 uncalled_by_writing inputs now writer_failed run.Write fault = tt
 uncalled_by_writing inputs now writer_failed run.Memory fault = tt
@@ -139,7 +139,7 @@ uncalled_by_writing inputs now writer_failed run.Memory fault = tt
 pub devices_of_writing : {R : Type 0} (has_failed : R → Bool) (inputs : List R) (writer_failed : Bool) (f : RunFault) → AllWork has_failed inputs → IsOfWriter writer_failed f → IsOfDevices has_failed inputs writer_failed f
 devices_of_writing has_failed inputs writer_failed (run.Input i refusal) all fault = absurd fault
 devices_of_writing has_failed inputs writer_failed run.Plan all fault = absurd fault
-devices_of_writing has_failed inputs writer_failed (run.Merge told) all fault = absurd fault
+devices_of_writing has_failed inputs writer_failed (run.Merge reported) all fault = absurd fault
 devices_of_writing has_failed inputs writer_failed (run.Read i) all fault = absurd fault
 devices_of_writing has_failed inputs writer_failed run.Write all fault = (all, fault)
 devices_of_writing has_failed inputs writer_failed run.Memory all fault = (all, fault)

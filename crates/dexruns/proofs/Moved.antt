@@ -8,9 +8,9 @@ use Rattle.dexruns.specs.Runs.{AllWork, HasFailed}
 use Rattle.dexruns.proofs.Checked.{same_head}
 
 -- no input is read yet
-pub none_moved : {R : Type 0} (tells : R → Type 0) (to_come : R → List ℕ) (has_failed : R → Bool) (inputs : List R) → AllZip (IsReadNoFurther tells to_come has_failed) inputs inputs
-none_moved tells to_come has_failed [] = tt
-none_moved tells to_come has_failed (x ∷ xs) = ((λ t works. record { count = 0; within = omega arith; others = refl }), none_moved tells to_come has_failed xs)
+pub none_moved : {R : Type 0} (reports : R → Type 0) (to_come : R → List ℕ) (has_failed : R → Bool) (inputs : List R) → AllZip (IsReadNoFurther reports to_come has_failed) inputs inputs
+none_moved reports to_come has_failed [] = tt
+none_moved reports to_come has_failed (x ∷ xs) = ((λ t works. record { count = 0; within = omega arith; others = refl }), none_moved reports to_come has_failed xs)
 
 -- this input is read too
 pub moved_more : {R : Type 0} (P : R → R → Type 0) (inputs now : List R) (i : ℕ) (x y : R) → AllZip P inputs now → i < length inputs → x ≡ get_or inputs i x → P x y → AllZip P inputs (set now i y)

@@ -8,15 +8,15 @@ use Rattle.dexclass.specs.Programs.{IsReadAs}
 -- what was read is what the bytes denote
 pub read_is : (one : (b : List ℕ) (K L : Collection) → Denotes b K → Denotes b L → K ≡ L) (b bytes : List ℕ) (K L : Collection) →
     bytes ≡ b → IsReadAs bytes L → Denotes b K → L ≡ K
-read_is one b bytes K L same stands denotes = one b L K (subst (λ x. Denotes x L) same stands.denotes) denotes
+read_is one b bytes K L same encodes denotes = one b L K (subst (λ x. Denotes x L) same encodes.denotes) denotes
 
 pub written_is : (one : (b : List ℕ) (K L : Collection) → Denotes b K → Denotes b L → K ≡ L) (b bytes : List ℕ) (K L : Collection) (old new : List ℕ) →
     bytes ≡ b → IsReadAs bytes L → Denotes b K → new ≡ old ++ canonical L → new ≡ old ++ canonical K
-written_is one b bytes K L old new same stands denotes written = written ∙ ap (λ J. old ++ canonical J) (read_is one b bytes K L same stands denotes)
+written_is one b bytes K L old new same encodes denotes written = written ∙ ap (λ J. old ++ canonical J) (read_is one b bytes K L same encodes denotes)
 
-pub front_is : (one : (b : List ℕ) (K L : Collection) → Denotes b K → Denotes b L → K ≡ L) (b bytes : List ℕ) (K L : Collection) (old new : List ℕ) →
+pub prefix_is : (one : (b : List ℕ) (K L : Collection) → Denotes b K → Denotes b L → K ≡ L) (b bytes : List ℕ) (K L : Collection) (old new : List ℕ) →
     bytes ≡ b → IsReadAs bytes L → Denotes b K → ((n : ℕ) × (new ≡ old ++ take n (canonical L))) → (n : ℕ) × (new ≡ old ++ take n (canonical K))
-front_is one b bytes K L old new same stands denotes front = (front.0, front.1 ∙ ap (λ J. old ++ take front.0 (canonical J)) (read_is one b bytes K L same stands denotes))
+prefix_is one b bytes K L old new same encodes denotes front = (front.0, front.1 ∙ ap (λ J. old ++ take front.0 (canonical J)) (read_is one b bytes K L same encodes denotes))
 
 pub accepted_file : (b bytes : List ℕ) (L : Collection) → bytes ≡ b → IsReadAs bytes L → IsAccepted b
-accepted_file b bytes L same stands = subst (λ x. IsAccepted x) same stands.accepted
+accepted_file b bytes L same encodes = subst (λ x. IsAccepted x) same encodes.accepted

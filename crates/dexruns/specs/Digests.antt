@@ -29,5 +29,5 @@ abbrev pub digest_lines : List ℕ → Collection → List ℕ
 digest_lines file K = digest_lines_of file (in_class_order (definitions K))
 
 -- the file is accepted, and a prefix of the lines of its classes was appended
-abbrev pub IsDigestFront : Type 0 → Type 0 → List ℕ → List ℕ → List ℕ → List ℕ → Type 0
-IsDigestFront reads writes file old new b = reads → IsAccepted b × (writes → (K : Collection) → Denotes b K → (n : ℕ) × (new ≡ old ++ take n (digest_lines file K)))
+abbrev pub IsDigestPrefix : Type 0 → Type 0 → List ℕ → List ℕ → List ℕ → List ℕ → Type 0
+IsDigestPrefix reads writes file old new b = reads → IsAccepted b × (writes → (K : Collection) → Denotes b K → (n : ℕ) × (new ≡ old ++ take n (digest_lines file K)))

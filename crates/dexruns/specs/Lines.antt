@@ -91,7 +91,7 @@ cause_text (Cap number) = codes "cap " ++ cap_name number
 abbrev pub HasName : ℕ → RunFault → Type 0
 HasName count (Input i refusal) = i < count
 HasName count Plan = Unit {0}
-HasName count (Merge told) = Unit {0}
+HasName count (Merge reported) = Unit {0}
 HasName count (Read i) = i < count
 HasName count Write = Unit {0}
 HasName count Memory = Unit {0}
@@ -100,7 +100,7 @@ HasName count Memory = Unit {0}
 abbrev pub exit_status : RunFault → ℕ
 exit_status (Input i refusal) = 1
 exit_status Plan = 1
-exit_status (Merge told) = 1
+exit_status (Merge reported) = 1
 exit_status (Read i) = 3
 exit_status Write = 3
 exit_status Memory = 4
@@ -109,7 +109,7 @@ exit_status Memory = 4
 abbrev pub fault_line : List (List ℕ) → List ℕ → RunFault → List ℕ
 fault_line files out (Input i refusal) = codes "dexkit: " ++ (slice_index_or files i [] ++ (codes ": " ++ refusal_text refusal))
 fault_line files out Plan = codes "dexkit: bad plan"
-fault_line files out (Merge told) = codes "dexkit: " ++ cause_text told
+fault_line files out (Merge reported) = codes "dexkit: " ++ cause_text reported
 fault_line files out (Read i) = codes "dexkit: " ++ (slice_index_or files i [] ++ codes ": cannot be read")
 fault_line files out Write = codes "dexkit: " ++ (out ++ codes ": cannot be written")
 fault_line files out Memory = codes "dexkit: out of memory"

@@ -2,7 +2,7 @@
 use Rattle.std.specs.Prelude.{◌≡◌, ℕ, nat_lt, if◌then◌else◌, List, length, take, drop}
 use Rattle.dexspec.specs.Accepted.{IsAccepted}
 use Rattle.dexhead.specs.Sums.{with_sums_set}
-use Rattle.dexruns.specs.Merges.{IsFrontAppended}
+use Rattle.dexruns.specs.Merges.{IsPrefixAppended}
 
 -- the bytes with the signature and then the checksum of their header set right; fewer than 32 bytes are left
 unfoldable pub repaired : List ℕ → List ℕ
@@ -15,5 +15,5 @@ pub record AreEqualButForSums (old new : List ℕ) : Type 0 where
   pub after : drop 32 new ≡ drop 32 old
 
 -- the repaired bytes are accepted, and a prefix of them was appended
-abbrev pub IsRepairedFront : Type 0 → Type 0 → List ℕ → List ℕ → List ℕ → Type 0
-IsRepairedFront reads writes old new b = reads → IsAccepted (repaired b) × IsFrontAppended writes old new (repaired b)
+abbrev pub IsRepairedPrefix : Type 0 → Type 0 → List ℕ → List ℕ → List ℕ → Type 0
+IsRepairedPrefix reads writes old new b = reads → IsAccepted (repaired b) × IsPrefixAppended writes old new (repaired b)

@@ -16,19 +16,19 @@ use Rattle.dexruns.specs.Lines.{check_lines, check_status}
 -- a fault of a run with one input: the input is refused as `read` refuses it, and no other input and no plan is
 -- reported
 abbrev pub IsOfInput : Type 0 → List ℕ → RunFault → Type 0
-IsOfInput tells b (Input i refusal) = (i ≡ 0) × (tells → IsRefused b refusal.number refusal.place)
-IsOfInput tells b Plan = ⊥
-IsOfInput tells b (Merge told) = ⊥
-IsOfInput tells b (Read i) = i ≡ 0
-IsOfInput tells b Write = Unit {0}
-IsOfInput tells b Memory = Unit {0}
+IsOfInput reports b (Input i refusal) = (i ≡ 0) × (reports → IsRefused b refusal.number refusal.place)
+IsOfInput reports b Plan = ⊥
+IsOfInput reports b (Merge reported) = ⊥
+IsOfInput reports b (Read i) = i ≡ 0
+IsOfInput reports b Write = Unit {0}
+IsOfInput reports b Memory = Unit {0}
 
 -- after a fault of the writer the file is one to be written, and the writer has taken a prefix of the canonical file of
 -- what the bytes denote; after any other fault it is unchanged
 abbrev pub HasLeft : {W : Type 0} → Type 0 → Type 0 → W → W → (W → List ℕ) → List ℕ → RunFault → Type 0
 HasLeft reads writes old new taken b (Input i refusal) = new ≡ old
 HasLeft reads writes old new taken b Plan = new ≡ old
-HasLeft reads writes old new taken b (Merge told) = new ≡ old
+HasLeft reads writes old new taken b (Merge reported) = new ≡ old
 HasLeft reads writes old new taken b (Read i) = new ≡ old
 HasLeft reads writes old new taken b Write = reads → IsAccepted b × (writes → (K : Collection) → Denotes b K → (n : ℕ) × (taken new ≡ taken old ++ take n (canonical K)))
 HasLeft reads writes old new taken b Memory = new ≡ old
@@ -39,7 +39,7 @@ HasLeft reads writes old new taken b Memory = new ≡ old
 abbrev pub IsLeft : {W : Type 0} → W → W → RunFault → Type 0
 IsLeft old new (Input i refusal) = new ≡ old
 IsLeft old new Plan = new ≡ old
-IsLeft old new (Merge told) = new ≡ old
+IsLeft old new (Merge reported) = new ≡ old
 IsLeft old new (Read i) = new ≡ old
 IsLeft old new Write = Unit {0}
 IsLeft old new Memory = new ≡ old
@@ -48,7 +48,7 @@ IsLeft old new Memory = new ≡ old
 abbrev pub IsLeftWith : {W : Type 0} → Type 0 → W → W → RunFault → Type 0
 IsLeftWith P old new (Input i refusal) = new ≡ old
 IsLeftWith P old new Plan = new ≡ old
-IsLeftWith P old new (Merge told) = new ≡ old
+IsLeftWith P old new (Merge reported) = new ≡ old
 IsLeftWith P old new (Read i) = new ≡ old
 IsLeftWith P old new Write = P
 IsLeftWith P old new Memory = new ≡ old
@@ -90,7 +90,7 @@ pub record HasFailed {R : Type 0} (has_failed : R → Bool) (inputs : List R) (i
 abbrev pub IsOfCheck : {R : Type 0} → (R → Bool) → List R → Bool → RunFault → Type 0
 IsOfCheck has_failed inputs writer_failed (Input i refusal) = ⊥
 IsOfCheck has_failed inputs writer_failed Plan = ⊥
-IsOfCheck has_failed inputs writer_failed (Merge told) = ⊥
+IsOfCheck has_failed inputs writer_failed (Merge reported) = ⊥
 IsOfCheck has_failed inputs writer_failed (Read i) = HasFailed has_failed inputs i × (writer_failed ≡ false)
 IsOfCheck has_failed inputs writer_failed Write = AllWork has_failed inputs × (writer_failed ≡ true)
 IsOfCheck has_failed inputs writer_failed Memory = AllWork has_failed inputs × (writer_failed ≡ false)

@@ -2,7 +2,7 @@
 
 ghost use Rattle.std.specs.Prelude.{◌≡◌, ◌≤◌, true, false, length, map, All, OnOk, IfOk, IfErr};
 ghost use Rattle.std.specs.List.{AllZip};
-ghost use Rattle.dexruns.specs.Inputs.{bytes_read, IsReadNoFurther, TellsOf};
+ghost use Rattle.dexruns.specs.Inputs.{bytes_read, IsReadNoFurther, ReportsOf};
 ghost use Rattle.dexruns.specs.Lines.{status_after};
 ghost use Rattle.dexruns.specs.Runs.{IsVerdict, AreChecked, AreBegun, AllWork, IsOfCheck};
 
@@ -15,12 +15,12 @@ use dexpool::ReadFault;
 use std::alloc::Global;
 
 // What is reported of an input.
-fn judge<R: Source>(alloc: Global, input: &mut R) -> Result<Verdict, InputFault>
+fn check_input<R: Source>(alloc: Global, input: &mut R) -> Result<Verdict, InputFault>
     requires { R.has_failed input.old ≡ false }
-    ensures verdict { IfOk result (λ verdict. R.tells input.old → IsVerdict (bytes_read (R.to_come input.old)) verdict) }
-    ensures no_further { IsReadNoFurther R.tells R.to_come R.has_failed input.old input.new }
+    ensures verdict { IfOk result (λ verdict. R.reports input.old → IsVerdict (bytes_read (R.to_come input.old)) verdict) }
+    ensures no_further { IsReadNoFurther R.reports R.to_come R.has_failed input.old input.new }
     ensures works { OnOk result (R.has_failed input.new ≡ false) }
-    ensures fault { IfErr result (TellsOf (R.has_failed input.new)) }
+    ensures fault { IfErr result (ReportsOf (R.has_failed input.new)) }
 {
     let bytes = read_whole(alloc, input)?;
     match dexclass::check(alloc, bytes.as_slice()) {
@@ -58,12 +58,12 @@ pub fn check_run<R: Source, W: Sink>(
     requires names { length names.now ≡ length inputs.old }
     requires inputs { AllWork R.has_failed inputs.old }
     requires out { W.has_failed out.old ≡ false }
-    ensures lines { IfOk result (AreChecked (All R.tells inputs.old) (W.tells out.old) (map (λ name. name.now) names.now)
+    ensures lines { IfOk result (AreChecked (All R.reports inputs.old) (W.reports out.old) (map (λ name. name.now) names.now)
         (map (λ input. bytes_read (R.to_come input)) inputs.old) (W.taken out.old) (W.taken out.new)) }
-    ensures begun { IfErr result (λ _. AreBegun (All R.tells inputs.old) (W.tells out.old) (map (λ name. name.now) names.now)
+    ensures begun { IfErr result (λ _. AreBegun (All R.reports inputs.old) (W.reports out.old) (map (λ name. name.now) names.now)
         (map (λ input. bytes_read (R.to_come input)) inputs.old) (W.taken out.old) (W.taken out.new)) }
-    ensures no_further { AllZip (IsReadNoFurther R.tells R.to_come R.has_failed) inputs.old inputs.new }
-    ensures tells { W.tells out.old → W.tells out.new }
+    ensures no_further { AllZip (IsReadNoFurther R.reports R.to_come R.has_failed) inputs.old inputs.new }
+    ensures reports { W.reports out.old → W.reports out.new }
 
     // It reports the faults of the devices exactly where they are.
     ensures readers { OnOk result (AllWork R.has_failed inputs.new) }
@@ -72,7 +72,7 @@ pub fn check_run<R: Source, W: Sink>(
 {
     let mut status = ExitStatus::Done as u8;
     for i in 0..inputs.len() {
-        let verdict = match judge(alloc, &mut inputs[i]) {
+        let verdict = match check_input(alloc, &mut inputs[i]) {
             Ok(verdict) => verdict,
             Err(InputFault::Read) => return Err(RunFault::Read(i)),
             Err(InputFault::Memory) => return Err(RunFault::Memory),

@@ -6,7 +6,7 @@ ghost use Rattle.dexspec.specs.Files.{definitions};
 ghost use Rattle.dexmerge.specs.Counting.{AreCounts};
 ghost use Rattle.dexruns.specs.Counts.{cap_line, number_line, capped_lines, count_lines, IsUncountedFault, HaveCounts, AreCounted, IsCountFault};
 ghost use Rattle.dexruns.specs.Inputs.{IsReadNoFurther};
-ghost use Rattle.dexruns.specs.Merges.{IsAppended, IsFrontAppended, IsOfDevices};
+ghost use Rattle.dexruns.specs.Merges.{IsAppended, IsPrefixAppended, IsOfDevices};
 ghost use Rattle.dexruns.specs.Runs.{AllWork, IsLeft};
 
 use crate::faults::{MergeCause, RunFault};
@@ -100,9 +100,9 @@ fn counts_of(alloc: Global, programs: &[Program<'_>]) -> Result<Counts, RunFault
 // The numbers of the union of inputs, which are read one after the other.
 fn read_counts<R: Source>(alloc: Global, inputs: &mut [R]) -> Result<Counts, RunFault>
     requires { AllWork R.has_failed inputs.old }
-    ensures counts { IfOk result (HaveCounts R.tells R.to_come inputs.old) }
-    ensures fault { IfErr result (IsCountFault R.tells R.to_come inputs.old (λ lines. ⊥)) }
-    ensures no_further { AllZip (IsReadNoFurther R.tells R.to_come R.has_failed) inputs.old inputs.new }
+    ensures counts { IfOk result (HaveCounts R.reports R.to_come inputs.old) }
+    ensures fault { IfErr result (IsCountFault R.reports R.to_come inputs.old (λ lines. ⊥)) }
+    ensures no_further { AllZip (IsReadNoFurther R.reports R.to_come R.has_failed) inputs.old inputs.new }
     ensures works { OnOk result (AllWork R.has_failed inputs.new) }
     ensures devices { IfErr result (IsOfDevices R.has_failed inputs.new false) }
 {
@@ -135,11 +135,11 @@ pub fn count_run<R: Source, W: Sink>(
 ) -> Result<(), RunFault>
     requires inputs { AllWork R.has_failed inputs.old }
     requires out { W.has_failed out.old ≡ false }
-    ensures counted { OnOk result (AreCounted R.tells R.to_come inputs.old (IsAppended (W.tells out.old) (W.taken out.old) (W.taken out.new))) }
-    ensures fault { IfErr result (IsCountFault R.tells R.to_come inputs.old (IsFrontAppended (W.tells out.old) (W.taken out.old) (W.taken out.new))) }
+    ensures counted { OnOk result (AreCounted R.reports R.to_come inputs.old (IsAppended (W.reports out.old) (W.taken out.old) (W.taken out.new))) }
+    ensures fault { IfErr result (IsCountFault R.reports R.to_come inputs.old (IsPrefixAppended (W.reports out.old) (W.taken out.old) (W.taken out.new))) }
     ensures left { IfErr result (IsLeft out.old out.new) }
-    ensures tells { W.tells out.old → W.tells out.new }
-    ensures no_further { AllZip (IsReadNoFurther R.tells R.to_come R.has_failed) inputs.old inputs.new }
+    ensures reports { W.reports out.old → W.reports out.new }
+    ensures no_further { AllZip (IsReadNoFurther R.reports R.to_come R.has_failed) inputs.old inputs.new }
 
     // The faults of the devices are reported exactly where they are.
     ensures readers { OnOk result (AllWork R.has_failed inputs.new) }

@@ -5,7 +5,7 @@ ghost use Rattle.dexspec.specs.Accepted.{IsAccepted};
 ghost use Rattle.dexspec.specs.Files.{Collection, definitions, Denotes};
 ghost use Rattle.dexspec.specs.Mentions.{mentions};
 ghost use Rattle.dexclass.specs.Numbered.{type_at};
-ghost use Rattle.dexruns.specs.Digests.{hexadecimal, digest_line, digest_lines, IsDigestFront};
+ghost use Rattle.dexruns.specs.Digests.{hexadecimal, digest_line, digest_lines, IsDigestPrefix};
 ghost use Rattle.dexruns.specs.Inputs.{bytes_read, IsReadNoFurther};
 ghost use Rattle.dexruns.specs.Runs.{IsOfInput, IsLeftWith};
 ghost use Rattle.dexruns.specs.declared.faults.RunFault.TheVariants.{Read, Write};
@@ -96,14 +96,14 @@ pub fn digest_run<R: Source, W: Sink>(
 ) -> Result<(), RunFault>
     requires input { R.has_failed input.old ≡ false }
     requires out { W.has_failed out.old ≡ false }
-    ensures accepted { OnOk result (R.tells input.old → IsAccepted (bytes_read (R.to_come input.old))) }
-    ensures written { OnOk result (R.tells input.old → W.tells out.old → (K : Collection) → Denotes (bytes_read (R.to_come input.old)) K →
+    ensures accepted { OnOk result (R.reports input.old → IsAccepted (bytes_read (R.to_come input.old))) }
+    ensures written { OnOk result (R.reports input.old → W.reports out.old → (K : Collection) → Denotes (bytes_read (R.to_come input.old)) K →
         W.taken out.new ≡ W.taken out.old ++ digest_lines name.now K) }
-    ensures fault { IfErr result (IsOfInput (R.tells input.old) (bytes_read (R.to_come input.old))) }
-    ensures left { IfErr result (IsLeftWith (IsDigestFront (R.tells input.old) (W.tells out.old) name.now (W.taken out.old) (W.taken out.new)
+    ensures fault { IfErr result (IsOfInput (R.reports input.old) (bytes_read (R.to_come input.old))) }
+    ensures left { IfErr result (IsLeftWith (IsDigestPrefix (R.reports input.old) (W.reports out.old) name.now (W.taken out.old) (W.taken out.new)
         (bytes_read (R.to_come input.old))) out.old out.new) }
-    ensures tells { W.tells out.old → W.tells out.new }
-    ensures no_further { IsReadNoFurther R.tells R.to_come R.has_failed input.old input.new }
+    ensures reports { W.reports out.old → W.reports out.new }
+    ensures no_further { IsReadNoFurther R.reports R.to_come R.has_failed input.old input.new }
 
     // The faults of the devices are reported exactly where they are.
     ensures read { IsErrOf result (Read 0) ↔ (R.has_failed input.new ≡ true) }

@@ -174,8 +174,8 @@ pub fn explain(
     out: &str,
 ) -> Result<(u8, String), AllocError>
     requires { HasName (length names.now) fault.now }
-    ensures status { IfOk result (λ told. told.0 ≡ exit_status fault.now) }
-    ensures line { IfOk result (λ told. string_bytes told.1 ≡ fault_line (map (λ name. name.now) names.now) out.now fault.now) }
+    ensures status { IfOk result (λ reported. reported.0 ≡ exit_status fault.now) }
+    ensures line { IfOk result (λ reported. string_bytes reported.1 ≡ fault_line (map (λ name. name.now) names.now) out.now fault.now) }
 {
     let line = fault_line(alloc, fault, names, out)?;
     Ok((exit_status(fault), line))

@@ -1,7 +1,7 @@
 //! Inputs, read whole.
 
 ghost use Rattle.std.specs.Prelude.{◌≡◌, ◌<◌, ◌≤◌, ◌+◌, ◌++◌, [], true, false, length, take, drop, OnOk, OnErr, IfOk, IfErr, vec_len};
-ghost use Rattle.dexruns.specs.Inputs.{bytes_read, IsReadNoFurther, IsUnread, TellsOf};
+ghost use Rattle.dexruns.specs.Inputs.{bytes_read, IsReadNoFurther, IsUnread, ReportsOf};
 ghost use Rattle.dexruns.specs.declared.inputs.InputFault.TheVariants.{Memory};
 
 use dexhead::{DeviceFault, Source};
@@ -74,9 +74,9 @@ fn read_at<R: Source>(input: &mut R, bytes: &mut [u8], at: usize) -> Result<usiz
     ensures fails { OnErr result (R.has_failed input.new ≡ true) }
     ensures front { take at bytes.new ≡ take at bytes.old }
     ensures fits { IfOk result (λ n. at + n ≤ length bytes.new) }
-    ensures tells { R.tells input.old → R.tells input.new }
-    ensures moved { IfOk result (λ n. R.tells input.old → R.to_come input.old ≡ take n (drop at bytes.new) ++ R.to_come input.new) }
-    ensures end { IfOk result (λ n. n ≡ 0 → R.tells input.old → R.to_come input.old ≡ []) }
+    ensures reports { R.reports input.old → R.reports input.new }
+    ensures moved { IfOk result (λ n. R.reports input.old → R.to_come input.old ≡ take n (drop at bytes.new) ++ R.to_come input.new) }
+    ensures end { IfOk result (λ n. n ≡ 0 → R.reports input.old → R.to_come input.old ≡ []) }
 {
     input.read(&mut bytes[at..])
 }
@@ -92,14 +92,14 @@ fn read_more<R: Source>(
     requires most { filled < 1073741825 }
     requires bound { vec_len bytes.old ≤ 1073741825 }
     ensures works { OnOk result (R.has_failed input.new ≡ false) }
-    ensures fault { IfErr result (TellsOf (R.has_failed input.new)) }
+    ensures fault { IfErr result (ReportsOf (R.has_failed input.new)) }
     ensures unread { IfErr result (IsUnread input.old input.new) }
     ensures bound { OnOk result (vec_len bytes.new ≤ 1073741825) }
     ensures front { OnOk result (take filled bytes.new.items ≡ take filled bytes.old.items) }
     ensures fits { IfOk result (λ n. filled + n ≤ vec_len bytes.new) }
-    ensures tells { R.tells input.old → R.tells input.new }
-    ensures moved { IfOk result (λ n. R.tells input.old → R.to_come input.old ≡ take n (drop filled bytes.new.items) ++ R.to_come input.new) }
-    ensures end { IfOk result (λ n. n ≡ 0 → R.tells input.old → R.to_come input.old ≡ []) }
+    ensures reports { R.reports input.old → R.reports input.new }
+    ensures moved { IfOk result (λ n. R.reports input.old → R.to_come input.old ≡ take n (drop filled bytes.new.items) ++ R.to_come input.new) }
+    ensures end { IfOk result (λ n. n ≡ 0 → R.reports input.old → R.to_come input.old ≡ []) }
 {
     make_room(bytes, filled, input.expected())?;
     match read_at(input, bytes.as_mut_slice(), filled) {
@@ -115,10 +115,10 @@ fn read_more<R: Source>(
 /// failed.
 pub fn read_whole<R: Source>(alloc: Global, input: &mut R) -> Result<Vec<u8>, InputFault>
     requires { R.has_failed input.old ≡ false }
-    ensures bytes { IfOk result (λ bytes. R.tells input.old → bytes.items ≡ bytes_read (R.to_come input.old)) }
-    ensures no_further { IsReadNoFurther R.tells R.to_come R.has_failed input.old input.new }
+    ensures bytes { IfOk result (λ bytes. R.reports input.old → bytes.items ≡ bytes_read (R.to_come input.old)) }
+    ensures no_further { IsReadNoFurther R.reports R.to_come R.has_failed input.old input.new }
     ensures works { OnOk result (R.has_failed input.new ≡ false) }
-    ensures fault { IfErr result (TellsOf (R.has_failed input.new)) }
+    ensures fault { IfErr result (ReportsOf (R.has_failed input.new)) }
 {
     let mut bytes = Vec::new(alloc);
     let mut filled = 0;

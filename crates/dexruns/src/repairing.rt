@@ -5,7 +5,7 @@ ghost use Rattle.dexspec.specs.Header.{HasChecksum, HasSignature};
 ghost use Rattle.dexspec.specs.Accepted.{IsAccepted};
 ghost use Rattle.dexclass.specs.Programs.{IsFaultOf};
 ghost use Rattle.dexruns.specs.Inputs.{bytes_read, IsReadNoFurther};
-ghost use Rattle.dexruns.specs.Repairs.{repaired, AreEqualButForSums, IsRepairedFront};
+ghost use Rattle.dexruns.specs.Repairs.{repaired, AreEqualButForSums, IsRepairedPrefix};
 ghost use Rattle.dexruns.specs.Runs.{IsOfInput, IsLeftWith};
 ghost use Rattle.dexruns.specs.declared.faults.RunFault.TheVariants.{Read, Write};
 
@@ -60,15 +60,15 @@ pub fn repair_run<R: Source, W: Sink>(
 ) -> Result<(), RunFault>
     requires input { R.has_failed input.old ≡ false }
     requires out { W.has_failed out.old ≡ false }
-    ensures accepted { OnOk result (R.tells input.old → IsAccepted (repaired (bytes_read (R.to_come input.old)))) }
-    ensures written { OnOk result (R.tells input.old → W.tells out.old →
+    ensures accepted { OnOk result (R.reports input.old → IsAccepted (repaired (bytes_read (R.to_come input.old)))) }
+    ensures written { OnOk result (R.reports input.old → W.reports out.old →
         W.taken out.new ≡ W.taken out.old ++ repaired (bytes_read (R.to_come input.old))) }
     ensures only_sums { AreEqualButForSums (bytes_read (R.to_come input.old)) (repaired (bytes_read (R.to_come input.old))) }
-    ensures fault { IfErr result (IsOfInput (R.tells input.old) (repaired (bytes_read (R.to_come input.old)))) }
-    ensures left { IfErr result (IsLeftWith (IsRepairedFront (R.tells input.old) (W.tells out.old) (W.taken out.old) (W.taken out.new)
+    ensures fault { IfErr result (IsOfInput (R.reports input.old) (repaired (bytes_read (R.to_come input.old)))) }
+    ensures left { IfErr result (IsLeftWith (IsRepairedPrefix (R.reports input.old) (W.reports out.old) (W.taken out.old) (W.taken out.new)
         (bytes_read (R.to_come input.old))) out.old out.new) }
-    ensures tells { W.tells out.old → W.tells out.new }
-    ensures no_further { IsReadNoFurther R.tells R.to_come R.has_failed input.old input.new }
+    ensures reports { W.reports out.old → W.reports out.new }
+    ensures no_further { IsReadNoFurther R.reports R.to_come R.has_failed input.old input.new }
 
     // The faults of the devices are reported exactly where they are.
     ensures read { IsErrOf result (Read 0) ↔ (R.has_failed input.new ≡ true) }

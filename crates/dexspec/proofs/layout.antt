@@ -3,14 +3,14 @@ pub mod Sums
 pub mod Places
 pub mod Placements
 pub mod Tables
-pub mod Laying
+pub mod SectionPlaces
 pub mod HeaderLaws
 pub mod MapEntries
 pub mod MapLaws
 pub mod Frames
 pub mod Uses
 pub mod RowsRead
-pub mod PoolsStand
+pub mod PoolsAreAt
 pub mod PoolsInOrder
 pub mod PlainHeaders
 pub mod PoolsFormed

@@ -6,5 +6,5 @@ pub mod StripGood
 pub mod StripWellFormed
 pub mod StripCollection
 pub mod StripOrder
-pub mod StripBare
+pub mod StripWithoutDebug
 pub mod StripKept

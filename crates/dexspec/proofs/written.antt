@@ -1,5 +1,5 @@
 -- The canonical bytes of an item encode the item.
-pub mod Stands
+pub mod PlacedBytes
 pub mod NumbersWritten
 pub mod ValuesWritten
 pub mod DebugWritten

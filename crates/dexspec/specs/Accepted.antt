@@ -117,21 +117,21 @@ HasWeight b r = (D : List Definition) → ((k : ℕ) → k ≤ r → IsReadable 
 -- ---- all of them
 
 -- the number of rows at which a condition is checked
-abbrev pub rows_judged : Condition → List ℕ → ℕ
-rows_judged Condition.Strings b = table_size b StringIds
-rows_judged Condition.Types b = table_size b TypeIds
-rows_judged Condition.Protos b = table_size b ProtoIds
-rows_judged Condition.Fields b = table_size b FieldIds
-rows_judged Condition.Methods b = table_size b MethodIds
-rows_judged Condition.Classes b = table_size b ClassDefs
-rows_judged Condition.Members b = table_size b ClassDefs
-rows_judged Condition.Code b = table_size b ClassDefs
-rows_judged Condition.Tries b = table_size b ClassDefs
-rows_judged Condition.Debug b = table_size b ClassDefs
-rows_judged Condition.Values b = table_size b ClassDefs
-rows_judged Condition.Annotations b = table_size b ClassDefs
-rows_judged Condition.Weight b = table_size b ClassDefs
-rows_judged _ b = 1
+abbrev pub rows_checked : Condition → List ℕ → ℕ
+rows_checked Condition.Strings b = table_size b StringIds
+rows_checked Condition.Types b = table_size b TypeIds
+rows_checked Condition.Protos b = table_size b ProtoIds
+rows_checked Condition.Fields b = table_size b FieldIds
+rows_checked Condition.Methods b = table_size b MethodIds
+rows_checked Condition.Classes b = table_size b ClassDefs
+rows_checked Condition.Members b = table_size b ClassDefs
+rows_checked Condition.Code b = table_size b ClassDefs
+rows_checked Condition.Tries b = table_size b ClassDefs
+rows_checked Condition.Debug b = table_size b ClassDefs
+rows_checked Condition.Values b = table_size b ClassDefs
+rows_checked Condition.Annotations b = table_size b ClassDefs
+rows_checked Condition.Weight b = table_size b ClassDefs
+rows_checked _ b = 1
 
 -- the condition holds for the bytes at a row; the first ten have no rows
 abbrev pub Holds : Condition → List ℕ → ℕ → Type 0
@@ -161,7 +161,7 @@ Holds Condition.Weight b r = HasWeight b r
 
 -- the condition holds at each of its rows
 abbrev pub HoldsThroughout : Condition → List ℕ → Type 0
-HoldsThroughout c b = (r : ℕ) → r < rows_judged c b → Holds c b r
+HoldsThroughout c b = (r : ℕ) → r < rows_checked c b → Holds c b r
 
 -- the conditions below this number hold
 abbrev pub HoldBelow : ℕ → List ℕ → Type 0
@@ -180,7 +180,7 @@ IsAccepted b = (c : Condition) → HoldsThroughout c b
 -- the conditions before it hold, and the condition fails first at this row
 pub record FailsFirst (c : Condition) (b : List ℕ) (r : ℕ) : Type 0 where
   pub before : HoldBelow (number c) b
-  pub row : r < rows_judged c b
+  pub row : r < rows_checked c b
   pub rows : (k : ℕ) → k < r → Holds c b k
   pub fails : Holds c b r → ⊥
 
@@ -188,7 +188,7 @@ pub record FailsFirst (c : Condition) (b : List ℕ) (r : ℕ) : Type 0 where
 pub record FailsAt (c : Condition) (b : List ℕ) (r : ℕ) : Type 0 where
   pub before : HoldBelow 17 b
   pub late : 17 ≤ number c
-  pub row : r < rows_judged c b
+  pub row : r < rows_checked c b
   pub fails : Holds c b r → ⊥
 
 -- the place that is reported for row r: the version if it is wrong, 0 for a condition on the whole file, and otherwise

@@ -7,7 +7,7 @@ use Rattle.std.specs.Ordering.{nat_cmp}
 use Rattle.std.specs.FinMap.Entries.{find}
 use Rattle.std.specs.declared.cmp.Ordering.{Ordering}
 use Rattle.dexspec.specs.Lists.{rises, OrNone}
-use Rattle.dexspec.specs.Bytes.{uint_at, uints_at, Stands}
+use Rattle.dexspec.specs.Bytes.{uint_at, uints_at, BytesAt}
 use Rattle.dexspec.specs.Texts.{Text, text_cmp}
 use Rattle.dexspec.specs.Symbols.{Field, Method}
 use Rattle.dexspec.specs.Header.{data_off}
@@ -29,7 +29,7 @@ AnnotationSet = List Annotation
 pub record AnnotationAt (b : List ℕ) (o : ℕ) (a : Annotation) : Type 0 where
   pub in_data : data_off b ≤ o
   pub known : a.visibility ≤ 2
-  pub visibility : Stands b o (a.visibility ∷ [])
+  pub visibility : BytesAt b o (a.visibility ∷ [])
   pub annotation : (n : ℕ) × EncodedAnnotationAt a.type b (o + 1) a.elements n
   pub shallow : elements_depth a.elements ≤ most_depth
 

@@ -43,7 +43,7 @@ uints_at b o zero = []
 uints_at b o (suc n) = uint_at b o ∷ uints_at b (o + 4) n
 
 -- the bytes x are at offset o of b
-pub record Stands (b : List ℕ) (o : ℕ) (x : List ℕ) : Type 0 where
+pub record BytesAt (b : List ℕ) (o : ℕ) (x : List ℕ) : Type 0 where
   pub here : take (length x) (drop o b) ≡ x
 
 -- the least multiple of the alignment that is not less than the offset

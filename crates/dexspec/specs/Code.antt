@@ -12,7 +12,7 @@ use Rattle.dexspec.specs.Numbers.{Uleb128At, Sleb128At}
 use Rattle.dexspec.specs.Texts.{Text, same_text}
 use Rattle.dexspec.specs.Sections.{IsInData}
 use Rattle.dexspec.specs.Rows.{TypeRow, SymbolRow}
-use Rattle.dexspec.specs.Pieces.{Cut, IsCode, Piece, StandsForPiece, cut_units, is_instruction_start}
+use Rattle.dexspec.specs.Pieces.{Cut, IsCode, Piece, DenotesPiece, cut_units, is_instruction_start}
 use Rattle.dexspec.specs.Debug.{Debug, DebugAt}
 
 -- a type that is caught, and the address of its handler, in units
@@ -85,7 +85,7 @@ pub record PiecesAt (b : List ℕ) (o : ℕ) (cuts : List Cut) (ps : List Piece)
   pub in_data : IsInData b o (16 + 2 * insns_size b o)
   pub aligned : o % 4 ≡ 0
   pub code : IsCode (code_units b o) cuts
-  pub pieces : AllZip (λ c p. StandsForPiece (SymbolRow b) (cut_units (code_units b o) c) p) cuts ps
+  pub pieces : AllZip (λ c p. DenotesPiece (SymbolRow b) (cut_units (code_units b o) c) p) cuts ps
 
 -- ---- tries and handlers
 
@@ -128,7 +128,7 @@ module _ (us : List ℕ) (cuts : List Cut) where
     pub after : List Handler
     pub before_size : ℕ
     pub parts : hs ≡ before ++ h ∷ after
-    pub stands : Sequence HandlerAt b (o + count_size) before before_size
+    pub encodes : Sequence HandlerAt b (o + count_size) before before_size
     pub place : off ≡ count_size + before_size
 
   -- a try_item is at offset o: a start address, a count of units that is not 0, and the distance from the offset `list`

@@ -3,7 +3,7 @@
 -- and addresses are not checked (this project's rule).
 use Rattle.std.specs.Prelude.{◌≡◌, ℕ, ℤ, pos, ◌+ℤ◌, ◌-ℤ◌, ◌+◌, ◌-◌, ◌/◌, ◌%◌, ◌≤◌, Bool, true, false, if◌then◌else◌, List, [], ◌∷◌, length, Option}
 use Rattle.dexspec.specs.Lists.{Item, Sequence, BothOrNone}
-use Rattle.dexspec.specs.Bytes.{Stands}
+use Rattle.dexspec.specs.Bytes.{BytesAt}
 use Rattle.dexspec.specs.Numbers.{Uleb128At, Sleb128At, Uleb128p1At}
 use Rattle.dexspec.specs.Texts.{Text}
 use Rattle.dexspec.specs.Header.{data_off}
@@ -40,19 +40,19 @@ OptionalTypeAt b o t n = (i : Option ℕ) × Uleb128p1At b o i n × BothOrNone (
 
 -- the operation is at offset o
 abbrev pub OperationAt : Item Operation
-OperationAt b o (AdvancePc addresses) n = Stands b o (0x01 ∷ []) × (k : ℕ) × Uleb128At b (o + 1) addresses k × (n ≡ 1 + k)
-OperationAt b o (AdvanceLine lines) n = Stands b o (0x02 ∷ []) × (k : ℕ) × Sleb128At b (o + 1) lines k × (n ≡ 1 + k)
-OperationAt b o (StartLocal register name type) n = Stands b o (0x03 ∷ [])
+OperationAt b o (AdvancePc addresses) n = BytesAt b o (0x01 ∷ []) × (k : ℕ) × Uleb128At b (o + 1) addresses k × (n ≡ 1 + k)
+OperationAt b o (AdvanceLine lines) n = BytesAt b o (0x02 ∷ []) × (k : ℕ) × Sleb128At b (o + 1) lines k × (n ≡ 1 + k)
+OperationAt b o (StartLocal register name type) n = BytesAt b o (0x03 ∷ [])
     × (i : ℕ) × (j : ℕ) × (k : ℕ) × Uleb128At b (o + 1) register i × OptionalTextAt b (o + 1 + i) name j × OptionalTypeAt b (o + 1 + i + j) type k × (n ≡ 1 + i + j + k)
-OperationAt b o (StartLocalExtended register name type signature) n = Stands b o (0x04 ∷ [])
+OperationAt b o (StartLocalExtended register name type signature) n = BytesAt b o (0x04 ∷ [])
     × (i : ℕ) × (j : ℕ) × (k : ℕ) × (l : ℕ) × Uleb128At b (o + 1) register i × OptionalTextAt b (o + 1 + i) name j × OptionalTypeAt b (o + 1 + i + j) type k
     × OptionalTextAt b (o + 1 + i + j + k) signature l × (n ≡ 1 + i + j + k + l)
-OperationAt b o (EndLocal register) n = Stands b o (0x05 ∷ []) × (k : ℕ) × Uleb128At b (o + 1) register k × (n ≡ 1 + k)
-OperationAt b o (RestartLocal register) n = Stands b o (0x06 ∷ []) × (k : ℕ) × Uleb128At b (o + 1) register k × (n ≡ 1 + k)
-OperationAt b o SetPrologueEnd n = Stands b o (0x07 ∷ []) × (n ≡ 1)
-OperationAt b o SetEpilogueBegin n = Stands b o (0x08 ∷ []) × (n ≡ 1)
-OperationAt b o (SetFile name) n = Stands b o (0x09 ∷ []) × (k : ℕ) × OptionalTextAt b (o + 1) name k × (n ≡ 1 + k)
-OperationAt b o (Special opcode) n = Stands b o (opcode ∷ []) × (0x0a ≤ opcode) × (opcode ≤ 0xff) × (n ≡ 1)
+OperationAt b o (EndLocal register) n = BytesAt b o (0x05 ∷ []) × (k : ℕ) × Uleb128At b (o + 1) register k × (n ≡ 1 + k)
+OperationAt b o (RestartLocal register) n = BytesAt b o (0x06 ∷ []) × (k : ℕ) × Uleb128At b (o + 1) register k × (n ≡ 1 + k)
+OperationAt b o SetPrologueEnd n = BytesAt b o (0x07 ∷ []) × (n ≡ 1)
+OperationAt b o SetEpilogueBegin n = BytesAt b o (0x08 ∷ []) × (n ≡ 1)
+OperationAt b o (SetFile name) n = BytesAt b o (0x09 ∷ []) × (k : ℕ) × OptionalTextAt b (o + 1) name k × (n ≡ 1 + k)
+OperationAt b o (Special opcode) n = BytesAt b o (opcode ∷ []) × (0x0a ≤ opcode) × (opcode ≤ 0xff) × (n ≡ 1)
 
 -- a debug_info_item is at offset o of the data
 pub record DebugAt (b : List ℕ) (o : ℕ) (d : Debug) : Type 0 where
@@ -65,7 +65,7 @@ pub record DebugAt (b : List ℕ) (o : ℕ) (d : Debug) : Type 0 where
   pub count : Uleb128At b (o + start_size) (length d.parameter_names) count_size
   pub names : Sequence OptionalTextAt b (o + start_size + count_size) d.parameter_names names_size
   pub operations : Sequence OperationAt b (o + start_size + count_size + names_size) d.operations operations_size
-  pub end : Stands b (o + start_size + count_size + names_size + operations_size) (0x00 ∷ [])
+  pub end : BytesAt b (o + start_size + count_size + names_size + operations_size) (0x00 ∷ [])
 
 -- ---- positions
 

@@ -29,4 +29,4 @@ pub mod Placing
 pub mod Canonical
 pub mod Merging
 pub mod Stripping
-pub mod Aside
+pub mod internal

@@ -93,7 +93,7 @@ pub record IsConflict (D : List Definition) (name : Text) : Type 0 where
   pub other : Body
   pub one_in : Contains D (name, one)
   pub other_in : Contains D (name, other)
-  pub unlike : one ≢ other
+  pub unequal : one ≢ other
 
 -- no name has two definitions
 abbrev pub IsConsistent : List Definition → Type 0
@@ -124,19 +124,19 @@ IsCause caps D (Cycle name) = IsCycle D name
 IsCause caps D (Exceeded cap) = Exceeds caps D cap
 
 -- of two causes the one that is reported: a conflict before a cycle before a cap, then the least
-abbrev pub IsToldBefore : Cause → Cause → Type 0
-IsToldBefore (Conflict m) (Conflict n) = text_cmp m n ≡ Less
-IsToldBefore (Conflict m) _ = Unit {0}
-IsToldBefore (Cycle m) (Conflict n) = ⊥
-IsToldBefore (Cycle m) (Cycle n) = text_cmp m n ≡ Less
-IsToldBefore (Cycle m) (Exceeded k) = Unit {0}
-IsToldBefore (Exceeded j) (Exceeded k) = cap_number j < cap_number k
-IsToldBefore (Exceeded j) _ = ⊥
+abbrev pub IsReportedBefore : Cause → Cause → Type 0
+IsReportedBefore (Conflict m) (Conflict n) = text_cmp m n ≡ Less
+IsReportedBefore (Conflict m) _ = Unit {0}
+IsReportedBefore (Cycle m) (Conflict n) = ⊥
+IsReportedBefore (Cycle m) (Cycle n) = text_cmp m n ≡ Less
+IsReportedBefore (Cycle m) (Exceeded k) = Unit {0}
+IsReportedBefore (Exceeded j) (Exceeded k) = cap_number j < cap_number k
+IsReportedBefore (Exceeded j) _ = ⊥
 
 -- the first cause that holds for the definitions
 pub record IsFirstCause (caps : Caps) (D : List Definition) (cause : Cause) : Type 0 where
   pub is : IsCause caps D cause
-  pub first : (other : Cause) → IsCause caps D other → IsToldBefore other cause → ⊥
+  pub first : (other : Cause) → IsCause caps D other → IsReportedBefore other cause → ⊥
 
 -- ---- plans
 

@@ -160,11 +160,11 @@ payload_targets us at =
 
 -- A branch has the start of an instruction as its target. A 31t has the start of a payload of its kind, whose targets,
 -- counted from the instruction, are starts of instructions.
-abbrev pub leads_right : List ℕ → List Cut → ℕ → Format → ℤ → Bool
-leads_right us cs at F31t offset =
+abbrev pub is_right_target : List ℕ → List Cut → ℕ → Format → ℤ → Bool
+is_right_target us cs at F31t offset =
     is_payload_start (payload_ident (low_byte (slice_index us at))) us cs (pos at +ℤ offset)
     && list_all (λ target. is_instruction_start us cs (pos at +ℤ target)) (payload_targets us (nat_abs (pos at +ℤ offset)))
-leads_right us cs at _ offset = is_instruction_start us cs (pos at +ℤ offset)
+is_right_target us cs at _ offset = is_instruction_start us cs (pos at +ℤ offset)
 
 -- the value, if there is one, passes the test
 abbrev pub all_of_option : {X : Type 0} → (X → Bool) → Option X → Bool
@@ -173,7 +173,7 @@ all_of_option p (Some x) = p x
 
 -- the target of the instruction of this opcode at a unit, if it has one, is valid
 abbrev pub has_right_branch : List ℕ → List Cut → ℕ → Opcode → Bool
-has_right_branch us cs at op = all_of_option (leads_right us cs at op.format) (branch_offset op.format us at)
+has_right_branch us cs at op = all_of_option (is_right_target us cs at op.format) (branch_offset op.format us at)
 
 -- the piece is a payload, or an instruction whose targets are valid
 unfoldable pub has_right_targets : List ℕ → List Cut → Cut → Bool
@@ -216,10 +216,10 @@ abbrev pub with_index : ℕ → List ℕ → List ℕ
 with_index i us = if is_wide_index us then slice_set (slice_set us 1 (i % 65536)) 2 (i / 65536) else slice_set us 1 i
 
 -- the units encode the piece, if indices and symbols are related in this way
-abbrev pub StandsForPiece : (ℕ → Symbol → Type 0) → List ℕ → Piece → Type 0
-StandsForPiece Names us (Instruction xs None) = (is_payload_ident (slice_index us 0) ≡ false) × (index_pool us ≡ None) × (xs ≡ us)
-StandsForPiece Names us (Instruction xs (Some s)) = (index_pool us ≡ Some (pool_of s)) × Names (index_in us) s × (xs ≡ with_index 0 us)
-StandsForPiece Names us (Payload xs) = (is_payload_ident (slice_index us 0) ≡ true) × (xs ≡ us)
+abbrev pub DenotesPiece : (ℕ → Symbol → Type 0) → List ℕ → Piece → Type 0
+DenotesPiece Names us (Instruction xs None) = (is_payload_ident (slice_index us 0) ≡ false) × (index_pool us ≡ None) × (xs ≡ us)
+DenotesPiece Names us (Instruction xs (Some s)) = (index_pool us ≡ Some (pool_of s)) × Names (index_in us) s × (xs ≡ with_index 0 us)
+DenotesPiece Names us (Payload xs) = (is_payload_ident (slice_index us 0) ≡ true) × (xs ≡ us)
 
 -- the units of the piece at a cut
 abbrev pub cut_units : List ℕ → Cut → List ℕ

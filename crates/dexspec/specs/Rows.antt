@@ -24,7 +24,7 @@ row_at b t i = table_off b t + row_size t * i
 pub record StringRow (b : List ℕ) (i : ℕ) (s : Text) : Type 0 where
   pub row : i < table_size b StringIds
   pub in_data : data_off b ≤ uint_at b (row_at b StringIds i)
-  pub stands : (n : ℕ) × StringDataAt b (uint_at b (row_at b StringIds i)) s n
+  pub encodes : (n : ℕ) × StringDataAt b (uint_at b (row_at b StringIds i)) s n
 
 -- row i is the type t
 pub record TypeRow (b : List ℕ) (i : ℕ) (t : Text) : Type 0 where

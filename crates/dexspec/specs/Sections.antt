@@ -24,7 +24,7 @@ pub record HasLayout (b : List ℕ) : Type 0 where
 
 -- the n bytes from o on are in the data
 pub record IsInData (b : List ℕ) (o n : ℕ) : Type 0 where
-  pub behind : data_off b ≤ o
+  pub following : data_off b ≤ o
   pub within : o + n ≤ length b
 
 -- ---- the map

@@ -3,7 +3,7 @@
 -- is accepted, and arrays and annotations nest at most 32 deep.
 use Rattle.std.specs.Prelude.{◌≡◌, ℕ, ℤ, ◌+◌, ◌-◌, ◌*◌, ◌^◌, ◌<◌, ◌≤◌, max, Bool, true, false, IsTrue, List, [], ◌∷◌, length}
 use Rattle.dexspec.specs.Lists.{Item, rises}
-use Rattle.dexspec.specs.Bytes.{number_of, signed_in, Stands}
+use Rattle.dexspec.specs.Bytes.{number_of, signed_in, BytesAt}
 use Rattle.dexspec.specs.Numbers.{Uleb128At}
 use Rattle.dexspec.specs.Texts.{Text, text_cmp}
 use Rattle.dexspec.specs.Symbols.{Field, Method}
@@ -161,7 +161,7 @@ value_byte arg code = 32 * arg + code
 pub record SizedAt (code width : ℕ) (b : List ℕ) (o : ℕ) (bytes : List ℕ) (n : ℕ) : Type 0 where
   pub some : 0 < length bytes
   pub few : length bytes ≤ width
-  pub stands : Stands b o (value_byte (length bytes - 1) code ∷ bytes)
+  pub encodes : BytesAt b o (value_byte (length bytes - 1) code ∷ bytes)
   pub size : n ≡ 1 + length bytes
 
 -- a signed number, extended by the sign of its highest byte
@@ -205,13 +205,13 @@ abbrev mutual
   ValueAt b o (FieldValue f) n = IndexAt field_value_type FieldRow b o f n
   ValueAt b o (MethodValue m) n = IndexAt method_value_type MethodRow b o m n
   ValueAt b o (EnumValue f) n = IndexAt enum_value_type FieldRow b o f n
-  ValueAt b o (ArrayValue vs) n = Stands b o (value_byte 0 array_value_type ∷ [])
+  ValueAt b o (ArrayValue vs) n = BytesAt b o (value_byte 0 array_value_type ∷ [])
       × (m : ℕ) × ArrayAround (λ p k. ValuesAt b p vs k) (count_values vs) b (o + 1) m × (n ≡ 1 + m)
-  ValueAt b o (AnnotationValue t es) n = Stands b o (value_byte 0 annotation_value_type ∷ [])
+  ValueAt b o (AnnotationValue t es) n = BytesAt b o (value_byte 0 annotation_value_type ∷ [])
       × (m : ℕ) × AnnotationAround (λ p k. ElementsAt b p es k) t (names_of es) b (o + 1) m × (n ≡ 1 + m)
-  ValueAt b o NullValue n = Stands b o (value_byte 0 null_value_type ∷ []) × (n ≡ 1)
-  ValueAt b o (BooleanValue false) n = Stands b o (value_byte 0 boolean_value_type ∷ []) × (n ≡ 1)
-  ValueAt b o (BooleanValue true) n = Stands b o (value_byte 1 boolean_value_type ∷ []) × (n ≡ 1)
+  ValueAt b o NullValue n = BytesAt b o (value_byte 0 null_value_type ∷ []) × (n ≡ 1)
+  ValueAt b o (BooleanValue false) n = BytesAt b o (value_byte 0 boolean_value_type ∷ []) × (n ≡ 1)
+  ValueAt b o (BooleanValue true) n = BytesAt b o (value_byte 1 boolean_value_type ∷ []) × (n ≡ 1)
 
   -- the values are in sequence at offset o
   pub ValuesAt : List ℕ → ℕ → Values → ℕ → Type 0
@@ -237,7 +237,7 @@ EncodedAnnotationAt t b o es n = AnnotationAround (λ p k. ElementsAt b p es k) 
 -- an encoded_value that nests at most `most_depth` deep is at offset o of the data
 pub record EncodedValueAt (b : List ℕ) (o : ℕ) (v : Value) (n : ℕ) : Type 0 where
   pub in_data : data_off b ≤ o
-  pub stands : ValueAt b o v n
+  pub encodes : ValueAt b o v n
   pub shallow : value_depth v ≤ most_depth
 
 -- an encoded_array_item whose values nest at most `most_depth` deep is at offset o of the data

@@ -49,4 +49,4 @@ module _ (bytes s : List ℕ) (spelled : IsSpelling bytes) (is : units_of bytes 
   ascii_is e = sym same ∙ one_byte_each s (rw is at spelled.units) (ap length same ∙ sym e)
 
   pub not_ascii : length s ≢ length bytes → ¬ All IsAscii s
-  not_ascii unlike all = unlike (ap length (sym (ascii_spelling s all) ∙ same))
+  not_ascii unequal all = unequal (ap length (sym (ascii_spelling s all) ∙ same))

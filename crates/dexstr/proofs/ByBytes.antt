@@ -52,9 +52,9 @@ cmp_greater (a ∷ p) [] x y before = absurd before
 cmp_greater (a ∷ p) (b ∷ q) x y (inl lt) = rw (nat_cmp-greater (place_of b) (place_of a) lt) refl
 cmp_greater (a ∷ p) (b ∷ q) x y (inr same) = rw (same.0, nat_cmp-same (place_of b)) (cmp_greater p q x y same.1)
 
-cmp_same_front : (p x y : List ℕ) → slice_cmp byte_cmp (p ++ x) (p ++ y) ≡ slice_cmp byte_cmp x y
-cmp_same_front [] x y = refl
-cmp_same_front (a ∷ p) x y = rw (nat_cmp-same (place_of a)) (cmp_same_front p x y)
+cmp_same_prefix : (p x y : List ℕ) → slice_cmp byte_cmp (p ++ x) (p ++ y) ≡ slice_cmp byte_cmp x y
+cmp_same_prefix [] x y = refl
+cmp_same_prefix (a ∷ p) x y = rw (nat_cmp-same (place_of a)) (cmp_same_prefix p x y)
 
 -- ---- units
 
@@ -109,7 +109,7 @@ text_cmp-spelling [] [] a b = refl
 text_cmp-spelling [] (v ∷ t) a b = some_right (form v ++ spelling t) v (spelling t) (shape_of v (spelling t) (b 0 0 (omega arith)))
 text_cmp-spelling (u ∷ s) [] a b = some_left (form u ++ spelling s) u (spelling s) (shape_of u (spelling s) (a 0 0 (omega arith)))
 text_cmp-spelling (u ∷ s) (v ∷ t) a b = elim (cases_order u v) [
-  | inl same ↦ rw (same, nat_cmp-same v, cmp_same_front (form v) (spelling s) (spelling t)) (text_cmp-spelling s t (λ k d lt. a (suc k) d (omega arith)) (λ k d lt. b (suc k) d (omega arith)))
+  | inl same ↦ rw (same, nat_cmp-same v, cmp_same_prefix (form v) (spelling s) (spelling t)) (text_cmp-spelling s t (λ k d lt. a (suc k) d (omega arith)) (λ k d lt. b (suc k) d (omega arith)))
   | inr (inl lt) ↦ rw (nat_cmp-less u v lt) (cmp_less (form u) (form v) (spelling s) (spelling t) (precedes u v lt (b 0 0 (omega arith))))
   | inr (inr lt) ↦ rw (nat_cmp-greater u v lt) (cmp_greater (form v) (form u) (spelling t) (spelling s) (precedes v u lt (a 0 0 (omega arith))))
 ]
@@ -121,7 +121,7 @@ pub after_group : (a b group x other y : List ℕ) → group ≡ take 8 a → x 
 after_group a b group x other y group_is x_is other_is y_is same =
     let left : group ++ x ≡ a = (λ i. group_is i ++ x_is i) ∙ take-append-drop 8 a in
     let right : group ++ y ≡ b = (λ i. (same_text group other same ∙ other_is) i ++ y_is i) ∙ take-append-drop 8 b in
-    sym (cmp_same_front group x y) ∙ (λ i. slice_cmp byte_cmp (left i) (right i))
+    sym (cmp_same_prefix group x y) ∙ (λ i. slice_cmp byte_cmp (left i) (right i))
 
 -- bytes of which none is left on one side compare as the lengths do
 pub ended : (a b : List ℕ) (i : ℕ) → i ≡ min (length a) (length b) → nat_cmp (length a) (length b) ≡ slice_cmp byte_cmp (drop i a) (drop i b)

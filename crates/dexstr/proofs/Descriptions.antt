@@ -115,7 +115,7 @@ kind_from s k e = elim (cases_Bool (is_void s)) [
 -- what an array may hold
 record IsElement (s : List ℕ) : Type 0 where
   kind : Kind
-  told : element_kind s ≡ Some kind
+  reported : element_kind s ≡ Some kind
   flat : dimensions s ≡ 0
   no_void : is_void s ≡ false
 
@@ -126,8 +126,8 @@ class_element : (s : List ℕ) → IsClass s → (element_kind s ≡ Some Class)
 class_element s is = rw (is.is, class_to is.name is.named) (refl, refl, refl)
 
 element : (s : List ℕ) → IsPrimitive s ⊎ IsClass s → IsElement s
-element s (inl is) = let facts = primitive_element s is in record { kind = Primitive; told = facts.0; flat = facts.1; no_void = facts.2 }
-element s (inr is) = let facts = class_element s is in record { kind = Class; told = facts.0; flat = facts.1; no_void = facts.2 }
+element s (inl is) = let facts = primitive_element s is in record { kind = Primitive; reported = facts.0; flat = facts.1; no_void = facts.2 }
+element s (inr is) = let facts = class_element s is in record { kind = Class; reported = facts.0; flat = facts.1; no_void = facts.2 }
 
 flat_kind : (s : List ℕ) (k : Kind) → (element_kind s ≡ Some k) × (dimensions s ≡ 0) × (is_void s ≡ false) → kind_of s ≡ Some k
 flat_kind s k facts = rw (facts.2, facts.1) facts.0
@@ -146,7 +146,7 @@ no_void-brackets (suc d) s some = refl
 
 array_kind : (d : ℕ) (s : List ℕ) → 1 ≤ d → d ≤ 255 → IsElement s → kind_of (replicate d 0x5b ++ s) ≡ Some Array
 array_kind d s some few is =
-    rw (no_void-brackets d s some, dimensions-brackets d s is.flat, ne_eqb d 0 (omega arith), le-leb d 255 few, drop-brackets d s, is.told) refl
+    rw (no_void-brackets d s some, dimensions-brackets d s is.flat, ne_eqb d 0 (omega arith), le-leb d 255 few, drop-brackets d s, is.reported) refl
 
 pub kind_to : (s : List ℕ) (k : Kind) → HasKind (type_kind k) s → kind_of s ≡ Some k
 kind_to s Void has = rw has refl
@@ -197,21 +197,21 @@ is_void-spelling (u ∷ s) units =
 -- as many brackets, and the same after them
 record SameBrackets (bytes s : List ℕ) : Type 0 where
   count : dimensions bytes ≡ dimensions s
-  behind : drop (dimensions s) bytes ≡ spelling (drop (dimensions s) s)
+  following : drop (dimensions s) bytes ≡ spelling (drop (dimensions s) s)
 
 brackets_one : (u : ℕ) (rest s : List ℕ) → spelling (u ∷ s) ≡ u ∷ rest → SameBrackets rest s → SameBrackets (u ∷ rest) (u ∷ s)
 brackets_one u rest s whole same = elim (cases_eq u 0x5b) [
-  | inl bracket ↦ rw bracket (record { count = ap suc same.count; behind = same.behind })
+  | inl bracket ↦ rw bracket (record { count = ap suc same.count; following = same.following })
   | inr other ↦ record {
     count = rw (ne_eqb u 0x5b other) refl;
-    behind = rw (ne_eqb u 0x5b other) (sym whole);
+    following = rw (ne_eqb u 0x5b other) (sym whole);
   }
 ]
 
 brackets_none : (u b : ℕ) (bs s : List ℕ) → spelling (u ∷ s) ≡ b ∷ bs → (u ≡ 0) ⊎ (0x80 ≤ u) → 0x80 ≤ b → SameBrackets (b ∷ bs) (u ∷ s)
 brackets_none u b bs s whole which high = record {
   count = no_brackets b bs (inr high) ∙ sym (no_brackets u s which);
-  behind = rw (no_brackets u s which) (sym whole);
+  following = rw (no_brackets u s which) (sym whole);
 }
 
 brackets_step : (bytes : List ℕ) (u : ℕ) (rest s : List ℕ) → spelling (u ∷ s) ≡ bytes → Shape bytes u rest → SameBrackets rest s → SameBrackets bytes (u ∷ s)
@@ -220,7 +220,7 @@ brackets_step bytes u rest s whole (Two which small e) same = rw e (brackets_non
 brackets_step bytes u rest s whole (Three large small e) same = rw e (brackets_none u (0xe0 + u / 4096) ((0x80 + u / 64 % 64) ∷ (0x80 + u % 64) ∷ rest) s (whole ∙ e) (inr (omega arith)) (omega arith))
 
 same_brackets : (s : List ℕ) → AreUnits s → SameBrackets (spelling s) s
-same_brackets [] units = record { count = refl; behind = refl }
+same_brackets [] units = record { count = refl; following = refl }
 same_brackets (u ∷ s) units =
     brackets_step (form u ++ spelling s) u (spelling s) s refl (shape_of u (spelling s) (units 0 0 (omega arith))) (same_brackets s (λ k d lt. units (suc k) d (omega arith)))
 
@@ -228,8 +228,8 @@ same_brackets (u ∷ s) units =
 pub kind_of-spelling : (s : List ℕ) → AreUnits s → kind_of (spelling s) ≡ kind_of s
 kind_of-spelling s units =
     let same = same_brackets s units in
-    let behind : AreUnits (drop (dimensions s) s) = All-drop (λ u. u < 2 ^ 16) (dimensions s) s units in
-    rw (is_void-spelling s units, same.count, same.behind, element_kind-spelling s units, element_kind-spelling (drop (dimensions s) s) behind) refl
+    let following : AreUnits (drop (dimensions s) s) = All-drop (λ u. u < 2 ^ 16) (dimensions s) s units in
+    rw (is_void-spelling s units, same.count, same.following, element_kind-spelling s units, element_kind-spelling (drop (dimensions s) s) following) refl
 
 -- ---- what the call returns
 
@@ -239,7 +239,7 @@ kind_in bytes s spelled is =
     rw (← same) (kind_of-spelling s (rw is at spelled.units))
 
 -- what a result says of a text
-pub record Tells (r : Option Kind) (s : Text) : Type 0 where
+pub record Reports (r : Option Kind) (s : Text) : Type 0 where
   pub found : IfSome r (λ kind. HasKind (type_kind kind) s)
   pub some : (kind : Kind) → (r ≡ Some kind) ↔ HasKind (type_kind kind) s
   pub none : (r ≡ None) ↔ (¬ IsDescriptor s)
@@ -253,20 +253,20 @@ named_kind s ArrayType has = (Array, kind_to s Array has)
 not_both : (k : Kind) (r : Option Kind) → r ≡ None → r ≡ Some k → ⊥
 not_both k r none some = cc
 
-tells_by : (r : Option Kind) (s : Text) → r ≡ kind_of s → Tells r s
-tells_by None s e = record {
+reports_by : (r : Option Kind) (s : Text) → r ≡ kind_of s → Reports r s
+reports_by None s e = record {
   found = tt;
   some = λ kind. (λ is. kind_from s kind (sym e ∙ is), λ has. e ∙ kind_to s kind has);
   none = (λ no is. let named = named_kind s is.0 is.1 in not_both named.0 None refl (e ∙ named.1), λ no. refl);
 }
-tells_by (Some k) s e = record {
+reports_by (Some k) s e = record {
   found = kind_from s k (sym e);
   some = λ kind. (λ is. kind_from s kind (sym e ∙ is), λ has. e ∙ kind_to s kind has);
   none = (λ no is. not_both k (Some k) no refl, λ no. absurd (no (type_kind k, kind_from s k (sym e))));
 }
 
-pub tells : (r : Option Kind) (bytes s : List ℕ) → IsSpelling bytes → units_of bytes ≡ s → r ≡ kind_of bytes → Tells r s
-tells r bytes s spelled is e = tells_by r s (e ∙ kind_in bytes s spelled is)
+pub reports : (r : Option Kind) (bytes s : List ℕ) → IsSpelling bytes → units_of bytes ≡ s → r ≡ kind_of bytes → Reports r s
+reports r bytes s spelled is e = reports_by r s (e ∙ kind_in bytes s spelled is)
 
 -- ---- letters of a shorty
 

@@ -14,16 +14,16 @@ spelling_is us units =
     let e = units_of-spelling us units in
     record { parts = ap spelling e; units = rw e units }
 
-pub spelled_front : (body : List ℕ) (n : ℕ) (rest : List ℕ) (after : AfterUnits body n rest) → take (length body - length rest) body ≡ spelling after.us
-spelled_front body n rest after =
+pub spelled_prefix : (body : List ℕ) (n : ℕ) (rest : List ℕ) (after : AfterUnits body n rest) → take (length body - length rest) body ≡ spelling after.us
+spelled_prefix body n rest after =
     let len : length body - length rest ≡ length (spelling after.us) = omega (arith, ap length after.parts, length-append (spelling after.us) rest) in
     rw len (ap (take (length (spelling after.us))) after.parts ∙ take_at (spelling after.us) rest (length (spelling after.us)) refl)
 
 -- the bytes before the rest spell a text
-pub spells_front : (bytes body : List ℕ) (count len n : ℕ) (rest : List ℕ) → BeginsWith IsUleb128 bytes count len → AfterUnits body n rest → n ≡ count → SpellsText (take (length body - length rest) body)
-spells_front bytes body count len n rest begins after same =
+pub spells_prefix : (bytes body : List ℕ) (count len n : ℕ) (rest : List ℕ) → BeginsWith IsUleb128 bytes count len → AfterUnits body n rest → n ≡ count → SpellsText (take (length body - length rest) body)
+spells_prefix bytes body count len n rest begins after same =
     let e = units_of-spelling after.us after.units in
-    rw (spelled_front body n rest after) (record { spelled = spelling_is after.us after.units; few = omega (arith, ap length e, after.len, same, begins.spelled.in_range) })
+    rw (spelled_prefix body n rest after) (record { spelled = spelling_is after.us after.units; few = omega (arith, ap length e, after.len, same, begins.spelled.in_range) })
 
 zero_first : (rest : List ℕ) → 1 ≤ length rest → get_or rest 0 0 ≡ 0 → rest ≡ 0 ∷ drop 1 rest
 zero_first [] some is = absurd (omega arith)
@@ -39,7 +39,7 @@ pub item_found : (bytes : List ℕ) (count len n : ℕ) (rest : List ℕ) → Be
     → 1 ≤ length rest → get_or rest 0 0 ≡ 0 → (spelled : List ℕ) → spelled ≡ take (length (drop len bytes) - length rest) (drop len bytes)
     → BeginsWith IsStringData bytes (units_of spelled) (len + length spelled + 1)
 item_found bytes count len n rest begins after same some first spelled is =
-    let e : spelled ≡ spelling after.us = is ∙ spelled_front (drop len bytes) n rest after in
+    let e : spelled ≡ spelling after.us = is ∙ spelled_prefix (drop len bytes) n rest after in
     let us : units_of spelled ≡ after.us = ap units_of e ∙ units_of-spelling after.us after.units in
     let z = zero_first rest some first in
     let whole : bytes ≡ item_of len bytes after.us ++ drop 1 rest = sym (take-append-drop len bytes) ∙ ap (λ (x : List ℕ). take len bytes ++ x) (after.parts ∙ ap (λ (x : List ℕ). spelling after.us ++ x) z) ∙ sym (regroup (take len bytes) (spelling after.us) (drop 1 rest)) in

@@ -5,7 +5,7 @@ use Rattle.std.proofs.lemmas.List.{append-nil}
 use Rattle.dexspec.specs.Numbers.{BeginsWith, sum_of_groups}
 use Rattle.dexspec.specs.Texts.{form, IsStringData}
 use Rattle.dexspec.proofs.numbers.Spellings.{not_cut_off}
-use Rattle.dexstr.specs.Faults.{HasBody, StartsWithZero, IsPart, IsProperFront, LooksCutOff, IsShort, IsBad, IsFault}
+use Rattle.dexstr.specs.Faults.{HasBody, StartsWithZero, IsPart, IsProperPrefix, LooksCutOff, IsShort, IsBad, IsFault}
 use Rattle.dexstr.specs.declared.reading.TextFault.{TextFault}
 use Rattle.dexstr.specs.declared.reading.TextFault.TheVariants.{Short, Bad, Count}
 use Rattle.dexspec.proofs.determined.OneText.{Shape, One, Two, Three, shape_of, one_string_data}
@@ -33,39 +33,39 @@ three_bytes u more small = three_of (form u) u more (part_shape (form u) u small
     three_of bytes u more (Three large less e) = sym e
 
 -- the beginning of a unit's spelling, by the unit
-front_of_two : (b u : ℕ) → 0x80 ≤ u → u < 0x800 → 0xc0 + u / 64 ≡ b → IsProperFront (b ∷ [])
-front_of_two b u more small is = record { more = (0x80 + u % 64) ∷ []; some = omega arith; part = inr (u, omega arith, rw (← is) (two_bytes u more small)) }
+prefix_of_two : (b u : ℕ) → 0x80 ≤ u → u < 0x800 → 0xc0 + u / 64 ≡ b → IsProperPrefix (b ∷ [])
+prefix_of_two b u more small is = record { more = (0x80 + u % 64) ∷ []; some = omega arith; part = inr (u, omega arith, rw (← is) (two_bytes u more small)) }
 
-front_of_three : (b u : ℕ) → 0x800 ≤ u → u < 2 ^ 16 → 0xe0 + u / 4096 ≡ b → IsProperFront (b ∷ [])
-front_of_three b u more small is = record { more = (0x80 + u / 64 % 64) ∷ (0x80 + u % 64) ∷ []; some = omega arith; part = inr (u, small, rw (← is) (three_bytes u more small)) }
+prefix_of_three : (b u : ℕ) → 0x800 ≤ u → u < 2 ^ 16 → 0xe0 + u / 4096 ≡ b → IsProperPrefix (b ∷ [])
+prefix_of_three b u more small is = record { more = (0x80 + u / 64 % 64) ∷ (0x80 + u % 64) ∷ []; some = omega arith; part = inr (u, small, rw (← is) (three_bytes u more small)) }
 
-two_of_three : (b c u : ℕ) → 0x800 ≤ u → u < 2 ^ 16 → 0xe0 + u / 4096 ≡ b → 0x80 + u / 64 % 64 ≡ c → IsProperFront (b ∷ c ∷ [])
+two_of_three : (b c u : ℕ) → 0x800 ≤ u → u < 2 ^ 16 → 0xe0 + u / 4096 ≡ b → 0x80 + u / 64 % 64 ≡ c → IsProperPrefix (b ∷ c ∷ [])
 two_of_three b c u more small is is' = record { more = (0x80 + u % 64) ∷ []; some = omega arith; part = inr (u, small, rw (← is, ← is') (three_bytes u more small)) }
 
-one_byte : (b : ℕ) → (b ≡ 0xc0) ⊎ ((0xc2 ≤ b) × (b ≤ 0xef)) → IsProperFront (b ∷ [])
+one_byte : (b : ℕ) → (b ≡ 0xc0) ⊎ ((0xc2 ≤ b) × (b ≤ 0xef)) → IsProperPrefix (b ∷ [])
 one_byte b (inl zero_lead) = record { more = 0x80 ∷ []; some = omega arith; part = inr (0, omega arith, rw zero_lead refl) }
 one_byte b (inr (low, high)) = elim (cases_lt b 0xe0) [
-  | inl two ↦ front_of_two b (64 * (b - 0xc0)) (omega arith) (omega arith) (omega arith)
+  | inl two ↦ prefix_of_two b (64 * (b - 0xc0)) (omega arith) (omega arith) (omega arith)
   | inr three ↦ elim (cases_eq b 0xe0) [
-    | inl least ↦ front_of_three b 0x800 (omega arith) (omega arith) (omega arith)
-    | inr other ↦ front_of_three b (4096 * (b - 0xe0)) (omega arith) (omega arith) (omega arith)
+    | inl least ↦ prefix_of_three b 0x800 (omega arith) (omega arith) (omega arith)
+    | inr other ↦ prefix_of_three b (4096 * (b - 0xe0)) (omega arith) (omega arith) (omega arith)
   ]
 ]
 
-pub front_from : (bytes : List ℕ) → LooksCutOff bytes → IsProperFront bytes
-front_from [] looks = record { more = 0 ∷ []; some = omega arith; part = inl refl }
-front_from (b ∷ []) (inl none) = absurd (omega arith)
-front_from (b ∷ []) (inr (inl (len, lead))) = one_byte b lead
-front_from (b ∷ []) (inr (inr (inl two))) = absurd (omega (arith, two.0))
-front_from (b ∷ []) (inr (inr (inr two))) = absurd (omega (arith, two.0))
-front_from (b ∷ c ∷ []) (inl none) = absurd (omega arith)
-front_from (b ∷ c ∷ []) (inr (inl (len, lead))) = absurd (omega arith)
-front_from (b ∷ c ∷ []) (inr (inr (inl (len, lead, low, high)))) = two_of_three b c (64 * (c - 0x80)) (omega arith) (omega arith) (omega arith) (omega arith)
-front_from (b ∷ c ∷ []) (inr (inr (inr (len, least, most, low, high)))) = two_of_three b c (4096 * (b - 0xe0) + 64 * (c - 0x80)) (omega arith) (omega arith) (omega arith) (omega arith)
-front_from (b ∷ c ∷ d ∷ bytes) (inl none) = absurd (omega arith)
-front_from (b ∷ c ∷ d ∷ bytes) (inr (inl (len, lead))) = absurd (omega arith)
-front_from (b ∷ c ∷ d ∷ bytes) (inr (inr (inl two))) = absurd (omega (arith, two.0))
-front_from (b ∷ c ∷ d ∷ bytes) (inr (inr (inr two))) = absurd (omega (arith, two.0))
+pub prefix_from : (bytes : List ℕ) → LooksCutOff bytes → IsProperPrefix bytes
+prefix_from [] looks = record { more = 0 ∷ []; some = omega arith; part = inl refl }
+prefix_from (b ∷ []) (inl none) = absurd (omega arith)
+prefix_from (b ∷ []) (inr (inl (len, lead))) = one_byte b lead
+prefix_from (b ∷ []) (inr (inr (inl two))) = absurd (omega (arith, two.0))
+prefix_from (b ∷ []) (inr (inr (inr two))) = absurd (omega (arith, two.0))
+prefix_from (b ∷ c ∷ []) (inl none) = absurd (omega arith)
+prefix_from (b ∷ c ∷ []) (inr (inl (len, lead))) = absurd (omega arith)
+prefix_from (b ∷ c ∷ []) (inr (inr (inl (len, lead, low, high)))) = two_of_three b c (64 * (c - 0x80)) (omega arith) (omega arith) (omega arith) (omega arith)
+prefix_from (b ∷ c ∷ []) (inr (inr (inr (len, least, most, low, high)))) = two_of_three b c (4096 * (b - 0xe0) + 64 * (c - 0x80)) (omega arith) (omega arith) (omega arith) (omega arith)
+prefix_from (b ∷ c ∷ d ∷ bytes) (inl none) = absurd (omega arith)
+prefix_from (b ∷ c ∷ d ∷ bytes) (inr (inl (len, lead))) = absurd (omega arith)
+prefix_from (b ∷ c ∷ d ∷ bytes) (inr (inr (inl two))) = absurd (omega (arith, two.0))
+prefix_from (b ∷ c ∷ d ∷ bytes) (inr (inr (inr two))) = absurd (omega (arith, two.0))
 
 two_heads : (a b c d : ℕ) (x y : List ℕ) → a ∷ b ∷ x ≡ c ∷ d ∷ y → (a ≡ c) × (b ≡ d)
 two_heads a b c d x y e = let p : a ≡ c = cc in let q : b ≡ d = cc in (p, q)
@@ -104,13 +104,13 @@ looks_from (b ∷ c ∷ d ∷ bytes) more some (inl end) = absurd (omega (arith,
 looks_from (b ∷ c ∷ d ∷ bytes) more some (inr (u, small, e)) =
     absurd (omega (arith, not_three (b ∷ c ∷ d ∷ (bytes ++ more)) u (part_shape (b ∷ c ∷ d ∷ (bytes ++ more)) u small e), length-append bytes more))
 
-pub front_to : (bytes : List ℕ) → IsProperFront bytes → LooksCutOff bytes
-front_to bytes front = looks_from bytes front.more front.some front.part
+pub prefix_to : (bytes : List ℕ) → IsProperPrefix bytes → LooksCutOff bytes
+prefix_to bytes front = looks_from bytes front.more front.some front.part
 
 -- ---- no two at once
 
-no_front_zero : (rest : List ℕ) → IsProperFront rest → StartsWithZero rest → ⊥
-no_front_zero rest front (more, e) = looks_zero more (rw e at (front_to rest front))
+no_prefix_zero : (rest : List ℕ) → IsProperPrefix rest → StartsWithZero rest → ⊥
+no_prefix_zero rest front (more, e) = looks_zero more (rw e at (prefix_to rest front))
   where
     looks_zero : (more : List ℕ) → LooksCutOff (0 ∷ more) → ⊥
     looks_zero more (inl none) = omega arith
@@ -125,17 +125,17 @@ Ends Q bytes = HasBody (λ count units rest. StartsWithZero rest × Q count unit
 
 short_ends : (Q : ℕ → ℕ → Type 0) (bytes : List ℕ) → IsShort bytes → Ends Q bytes → ⊥
 short_ends Q bytes (inl cut) ends = not_cut_off sum_of_groups (λ v. v < 2 ^ 32) bytes ends.count ends.len ends.begins cut
-short_ends Q bytes (inr body) ends = no_front_zero ends.rest (body_once (λ count units rest. IsProperFront rest) (λ count units rest. StartsWithZero rest × Q count units) bytes body ends) ends.is.0
+short_ends Q bytes (inr body) ends = no_prefix_zero ends.rest (body_once (λ count units rest. IsProperPrefix rest) (λ count units rest. StartsWithZero rest × Q count units) bytes body ends) ends.is.0
 
 bad_ends : (Q : ℕ → ℕ → Type 0) (bytes : List ℕ) → IsBad bytes → Ends Q bytes → ⊥
 bad_ends Q bytes (inl none) ends = none.1 ends.count ends.len ends.begins
-bad_ends Q bytes (inr body) ends = (body_once (λ count units rest. (¬ IsProperFront rest) × ¬ StartsWithZero rest) (λ count units rest. StartsWithZero rest × Q count units) bytes body ends).1 ends.is.0
+bad_ends Q bytes (inr body) ends = (body_once (λ count units rest. (¬ IsProperPrefix rest) × ¬ StartsWithZero rest) (λ count units rest. StartsWithZero rest × Q count units) bytes body ends).1 ends.is.0
 
 short_bad : (bytes : List ℕ) → IsShort bytes → IsBad bytes → ⊥
 short_bad bytes (inl cut) (inl none) = none.0 cut
 short_bad bytes (inl cut) (inr body) = not_cut_off sum_of_groups (λ v. v < 2 ^ 32) bytes body.count body.len body.begins cut
 short_bad bytes (inr body) (inl none) = none.1 body.count body.len body.begins
-short_bad bytes (inr body) (inr other) = other.is.0 (body_once (λ count units rest. IsProperFront rest) (λ count units rest. (¬ IsProperFront rest) × ¬ StartsWithZero rest) bytes body other)
+short_bad bytes (inr body) (inr other) = other.is.0 (body_once (λ count units rest. IsProperPrefix rest) (λ count units rest. (¬ IsProperPrefix rest) × ¬ StartsWithZero rest) bytes body other)
 
 one_fault : (e f : TextFault) (bytes : List ℕ) → IsFault e bytes → IsFault f bytes → e ≡ f
 one_fault Short Short bytes one other = refl
@@ -171,10 +171,10 @@ pub exact : (bytes : List ℕ) (r : Result (List ℕ × ℕ) TextFault) → IfOk
 exact bytes (Ok (s, n)) found fault = record {
   only = λ t m item. let same = one_string_data bytes s t n m found item in rw (same.0, same.1) refl;
   none = tt;
-  fault = λ e. (λ err. absurd (not_both (s, n) e (Ok (s, n)) refl err), λ told. absurd (no_fault e bytes s n found told));
+  fault = λ e. (λ err. absurd (not_both (s, n) e (Ok (s, n)) refl err), λ reported. absurd (no_fault e bytes s n found reported));
 }
 exact bytes (Err f) found fault = record {
   only = λ t m item. absurd (no_fault f bytes t m item fault);
   none = λ t m item. no_fault f bytes t m item fault;
-  fault = λ e. (λ err. rw (one_err e f (Err f) err refl) fault, λ told. rw (one_fault f e bytes fault told) refl);
+  fault = λ e. (λ err. rw (one_err e f (Err f) err refl) fault, λ reported. rw (one_fault f e bytes fault reported) refl);
 }

@@ -11,7 +11,7 @@ abbrev pub IsPart : List ℕ → Type 0
 IsPart bytes = (bytes ≡ 0 ∷ []) ⊎ ((u : ℕ) × (u < 2 ^ 16) × (bytes ≡ form u))
 
 -- with one byte more or several they are such a part
-pub record IsProperFront (bytes : List ℕ) : Type 0 where
+pub record IsProperPrefix (bytes : List ℕ) : Type 0 where
   pub more : List ℕ
   pub some : 0 < length more
   pub part : IsPart (bytes ++ more)
@@ -31,12 +31,12 @@ pub record HasBody (P : ℕ → ℕ → List ℕ → Type 0) (bytes : List ℕ) 
 
 -- the count may go on after the bytes, or a unit or the zero byte may
 abbrev pub IsShort : List ℕ → Type 0
-IsShort bytes = IsCutOff bytes ⊎ HasBody (λ count units rest. IsProperFront rest) bytes
+IsShort bytes = IsCutOff bytes ⊎ HasBody (λ count units rest. IsProperPrefix rest) bytes
 
 -- the bytes do not begin with a count, nor may one go on after them; or what follows the units begins neither a unit
 -- nor the zero byte
 abbrev pub IsBad : List ℕ → Type 0
-IsBad bytes = ((¬ IsCutOff bytes) × ((v n : ℕ) → ¬ BeginsWith IsUleb128 bytes v n)) ⊎ HasBody (λ count units rest. (¬ IsProperFront rest) × ¬ StartsWithZero rest) bytes
+IsBad bytes = ((¬ IsCutOff bytes) × ((v n : ℕ) → ¬ BeginsWith IsUleb128 bytes v n)) ⊎ HasBody (λ count units rest. (¬ IsProperPrefix rest) × ¬ StartsWithZero rest) bytes
 
 -- the zero byte follows other than as many units as the count says
 abbrev pub IsMiscounted : List ℕ → Type 0

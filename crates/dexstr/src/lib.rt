@@ -9,15 +9,15 @@
 #![tactic(auto)]
 
 pub use descriptors::{Kind, descriptor_kind, is_member_name, shorty_letter};
-pub use owned::Name;
+pub use names::Name;
 pub use reading::TextFault;
 pub use texts::Text;
 pub use units::Units;
 pub use writing::put_text;
 
 mod descriptors;
+mod names;
 mod order;
-mod owned;
 mod reading;
 mod texts;
 mod units;

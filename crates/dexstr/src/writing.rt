@@ -1,6 +1,6 @@
 ghost use Rattle.std.specs.Prelude.{◌≡◌, ◌+◌, ◌*◌, ◌≤◌, length, IsOk, vec_len, vec_capacity};
 ghost use Rattle.dexspec.specs.Texts.{IsStringData, string_data};
-ghost use Rattle.dexspec.specs.Aside.Writing.{Puts};
+ghost use Rattle.dexspec.specs.internal.Writing.{Puts};
 
 use crate::texts::Text;
 use dexleb::{len_u, put_u};
@@ -25,7 +25,7 @@ impl Text<'_> {
 /// Source: the heading "string_data_item" of the Android page "Dalvik Executable format".
 pub fn put_text(text: &Text, out: &mut Vec<u8>) -> Result<(), AllocError>
     ensures puts { Puts (string_data text.now) out.old out.new result }
-    ensures stands_for_text { IsStringData (string_data text.now) text.now }
+    ensures encodes_text { IsStringData (string_data text.now) text.now }
     ensures bound { length (string_data text.now) ≤ 6 + 3 * length text.now }
     ensures room_for_all { vec_len out.old + (6 + 3 * length text.now) ≤ vec_capacity out.old → IsOk result }
 {

@@ -1,4 +1,4 @@
-//! The files of the tests. They are also cases of `dexvectors`. A program that shares no code with this repository
+//! The files of the tests. They are also cases of `dextest_calls`. A program that shares no code with this repository
 //! wrote them.
 
 use dexhead::set_sums;

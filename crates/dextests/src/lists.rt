@@ -10,7 +10,7 @@ fn are_listed(alloc: Global, bytes: &str, arguments: &str) -> Option<bool> {
 }
 
 #[test]
-fn lists_stand_for_their_lines(rt: HostRuntime) {
+fn list_files_denote_their_lines(rt: HostRuntime) {
     for (bytes, arguments) in [
         ("", "[]"),
         ("\n\r\n\n", "[]"),

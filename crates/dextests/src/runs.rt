@@ -250,7 +250,7 @@ fn calls_of_file(len: usize, most: usize) -> usize {
 
 // Returns whether a run reports the reader's fault if and only if the script fails one of the reader's calls. After the
 // fault the run makes no further call and writes no more.
-fn tells_the_reader(alloc: Global, run: Run, reads: Script) -> Option<bool> {
+fn reports_the_reader(alloc: Global, run: Run, reads: Script) -> Option<bool> {
     let right = run.right(alloc)?;
     let ran = run.done(alloc, reads, WHOLE)?;
     let (last, calls, written) = run.before_last();
@@ -278,7 +278,7 @@ fn readers_fail_at_each_call(rt: HostRuntime) {
                         ..failing(most, call)
                     };
                     assert!(rt;
-                        tells_the_reader(rt.alloc(), run, reads) == Some(true),
+                        reports_the_reader(rt.alloc(), run, reads) == Some(true),
                         "call {call}"
                     );
                 }
@@ -289,7 +289,7 @@ fn readers_fail_at_each_call(rt: HostRuntime) {
 
 // Returns whether a run reports the writer's fault if and only if the writer fails. After the fault the run makes no
 // further call, and what was written is a prefix of the output: all bytes of the calls before.
-fn tells_the_writer(alloc: Global, run: Run, writes: Script) -> Option<bool> {
+fn reports_the_writer(alloc: Global, run: Run, writes: Script) -> Option<bool> {
     let right = run.right(alloc)?;
     let ran = run.done(alloc, WHOLE, writes)?;
     if !ran.write_failed {
@@ -321,7 +321,7 @@ fn writers_fail_at_each_call(rt: HostRuntime) {
                         fault,
                     };
                     assert!(rt;
-                        tells_the_writer(rt.alloc(), run, writes) == Some(true),
+                        reports_the_writer(rt.alloc(), run, writes) == Some(true),
                         "call {failing}"
                     );
                 }
@@ -427,7 +427,7 @@ fn cut_and_failing(alloc: Global, is_cut_first: bool) -> Option<Ran> {
 }
 
 #[test]
-fn the_first_file_that_fails_is_told(rt: HostRuntime) {
+fn the_first_file_that_fails_is_reported(rt: HostRuntime) {
     let first = cut_and_failing(rt.alloc(), true);
     assert!(rt;
         first.is_some_and(|merged| merged.writes == 0
@@ -440,7 +440,7 @@ fn the_first_file_that_fails_is_told(rt: HostRuntime) {
     );
 }
 
-fn is_bad_plan_told(alloc: Global) -> Option<bool> {
+fn is_bad_plan_reported(alloc: Global) -> Option<bool> {
     let file = letter_a(alloc)?;
     let files = [(file.as_slice(), failing(100, 0)), (file.as_slice(), WHOLE)];
     let ran = merged(alloc, files, [0, 2], false, WHOLE)?;
@@ -448,8 +448,8 @@ fn is_bad_plan_told(alloc: Global) -> Option<bool> {
 }
 
 #[test]
-fn a_bad_plan_is_told_before_a_reader_is_called(rt: HostRuntime) {
-    assert!(rt; is_bad_plan_told(rt.alloc()) == Some(true));
+fn a_bad_plan_is_reported_before_a_reader_is_called(rt: HostRuntime) {
+    assert!(rt; is_bad_plan_reported(rt.alloc()) == Some(true));
 }
 
 // Returns the line that reports a conflict of two classes `LA;` with different flags, if nothing was written.
@@ -468,28 +468,31 @@ fn conflict_line(alloc: Global) -> Option<String> {
 }
 
 #[test]
-fn a_conflict_is_told(rt: HostRuntime) {
+fn a_conflict_is_reported(rt: HostRuntime) {
     let line = conflict_line(rt.alloc());
     assert!(rt; line.is_some_and(|line| line.as_str() == "dexkit: conflict LA;"));
 }
 
 // Returns whether two equal files with a source text are merged and stripped to the file without it, and a file with
 // the text and one without it are a conflict, as in a merge that does not strip.
-fn is_stripped_behind_the_merge(alloc: Global) -> Option<bool> {
+fn is_stripped_after_the_merge(alloc: Global) -> Option<bool> {
     let (with, without) = (source_of_a(alloc)?, letter_a(alloc)?);
-    let (with, bare) = ((with.as_slice(), WHOLE), (without.as_slice(), WHOLE));
+    let (with, without_debug) = ((with.as_slice(), WHOLE), (without.as_slice(), WHOLE));
     let equal = merged(alloc, [with, with], [1, 0], true, WHOLE)?;
-    let unlike = merged(alloc, [with, bare], [0, 1], true, WHOLE)?;
+    let unequal = merged(alloc, [with, without_debug], [0, 1], true, WHOLE)?;
     Some(
         is_done(&equal, &without)
-            && unlike.writes == 0
-            && matches!(unlike.answer, Err(RunFault::Merge(MergeCause::Conflict(_)))),
+            && unequal.writes == 0
+            && matches!(
+                unequal.answer,
+                Err(RunFault::Merge(MergeCause::Conflict(_)))
+            ),
     )
 }
 
 #[test]
-fn a_merge_is_judged_before_it_is_stripped(rt: HostRuntime) {
-    assert!(rt; is_stripped_behind_the_merge(rt.alloc()) == Some(true));
+fn a_merge_is_checked_before_it_is_stripped(rt: HostRuntime) {
+    assert!(rt; is_stripped_after_the_merge(rt.alloc()) == Some(true));
 }
 
 // Returns whether files that no sums make acceptable are refused, and nothing is written: a cut file, a file of 31
@@ -517,11 +520,14 @@ fn a_repair_sets_sums_alone_right(rt: HostRuntime) {
 fn is_uncounted(alloc: Global) -> Option<bool> {
     let (first, second, cut) = (letter_a(alloc)?, final_a(alloc)?, cut_a(alloc)?);
     let first = (first.as_slice(), WHOLE);
-    let unlike = counted(alloc, [first, (second.as_slice(), WHOLE)], WHOLE)?;
+    let unequal = counted(alloc, [first, (second.as_slice(), WHOLE)], WHOLE)?;
     let refused = counted(alloc, [first, (cut.as_slice(), WHOLE)], WHOLE)?;
     Some(
-        unlike.writes == 0
-            && matches!(unlike.answer, Err(RunFault::Merge(MergeCause::Conflict(_))))
+        unequal.writes == 0
+            && matches!(
+                unequal.answer,
+                Err(RunFault::Merge(MergeCause::Conflict(_)))
+            )
             && refused.writes == 0
             && matches!(refused.answer, Err(RunFault::Input(1, refusal)) if refusal.number == 4),
     )

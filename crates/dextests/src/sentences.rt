@@ -9,11 +9,11 @@ use dexmerge::Plan;
 use std::alloc::{AllocError, Global};
 
 // Returns whether the fault has this status and this line, among two inputs.
-fn is_told(alloc: Global, fault: &RunFault, status: u8, line: &str) -> Option<bool>
+fn is_reported(alloc: Global, fault: &RunFault, status: u8, line: &str) -> Option<bool>
     requires { HasName 2 fault.now }
 {
-    let told = explain(alloc, fault, &["a.dex", "b c"], "out.dex").ok()?;
-    Some(told.0 == status && told.1.as_str() == line)
+    let reported = explain(alloc, fault, &["a.dex", "b c"], "out.dex").ok()?;
+    Some(reported.0 == status && reported.1.as_str() == line)
 }
 
 // Returns a fault with its status and its line.
@@ -48,8 +48,8 @@ fn fault(case: u8) -> (RunFault, u8, &'static str)
 fn faults_have_a_status_and_a_line(rt: HostRuntime) {
     for case in 0..8 {
         let (fault, status, line) = fault(case);
-        let told = is_told(rt.alloc(), &fault, status, line);
-        assert!(rt; told == Some(true), "{line}");
+        let reported = is_reported(rt.alloc(), &fault, status, line);
+        assert!(rt; reported == Some(true), "{line}");
     }
 }
 

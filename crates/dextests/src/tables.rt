@@ -10,7 +10,7 @@ fn typ(descriptor: usize) -> TypeRow {
 }
 
 // Returns the order of two rows, and whether a copy of the first compares equal to it.
-fn told<R: Row>(row: &R, other: &R) -> (Ordering, bool) {
+fn reported<R: Row>(row: &R, other: &R) -> (Ordering, bool) {
     (row.compare(other), row.copied().compare(row).is_eq())
 }
 
@@ -27,17 +27,17 @@ fn rows_are_ordered_by_their_keys(rt: HostRuntime) {
         name: 3,
         typ: 0,
     };
-    assert!(rt; told(&field, &other) == (Ordering::Less, true));
+    assert!(rt; reported(&field, &other) == (Ordering::Less, true));
     let method = MethodRow {
         class,
         name,
         proto: 9,
     };
     let other = MethodRow { class: 0, ..method };
-    assert!(rt; told(&method, &other) == (Ordering::Greater, true));
+    assert!(rt; reported(&method, &other) == (Ordering::Greater, true));
     let (short, long) = (ProtoRow::new(9, 1, &[4]), ProtoRow::new(0, 1, &[4, 0]));
-    assert!(rt; told(&short, &long) == (Ordering::Less, true));
-    assert!(rt; told(&typ(3), &typ(3)) == (Ordering::Equal, true));
+    assert!(rt; reported(&short, &long) == (Ordering::Less, true));
+    assert!(rt; reported(&typ(3), &typ(3)) == (Ordering::Equal, true));
 }
 
 // Joins two tables of texts, and returns the number of rows and the images of both tables.

@@ -18,7 +18,7 @@ fn fits(alloc: Global, value: &Value) -> Option<bool> {
 }
 
 #[test]
-fn numbers_that_lead_nowhere_do_not_fit(rt: HostRuntime) {
+fn numbers_without_images_do_not_fit(rt: HostRuntime) {
     assert_eq!(rt; fits(rt.alloc(), &Value::String(0)), Some(false));
     assert_eq!(rt; fits(rt.alloc(), &Value::Typ(0)), Some(false));
     assert_eq!(rt; fits(rt.alloc(), &Value::Field(0)), Some(false));
@@ -45,7 +45,7 @@ fn same(alloc: Global, value: &Value, other: &Value) -> Option<bool> {
 }
 
 #[test]
-fn kinds_tell_values_apart(rt: HostRuntime) {
+fn kinds_distinguish_values(rt: HostRuntime) {
     let alloc = rt.alloc();
     assert_eq!(rt; same(alloc, &Value::Int(5), &Value::Int(5)), Some(true));
     assert_eq!(rt; same(alloc, &Value::Int(5), &Value::Float(5)), Some(false));
@@ -61,7 +61,7 @@ fn kinds_tell_values_apart(rt: HostRuntime) {
 }
 
 #[test]
-fn numbers_that_lead_nowhere_stay(rt: HostRuntime) {
+fn numbers_without_images_stay(rt: HostRuntime) {
     let alloc = rt.alloc();
     assert_eq!(rt;
         same(alloc, &Value::String(1), &Value::String(1)),

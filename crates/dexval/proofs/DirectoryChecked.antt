@@ -13,7 +13,7 @@ use Rattle.dexval.specs.Nesting.{AreFilePools}
 use Rattle.dexval.specs.Numbered.{NumberedDirectory, IsKnownSet, set_in}
 use Rattle.dexval.specs.Reading.{IsSetAt}
 use Rattle.dexval.proofs.DirectoryRead.{directory_read}
-use Rattle.dexval.proofs.JudgedSets.{from_before}
+use Rattle.dexval.proofs.CachedSets.{from_before}
 use Rattle.dexval.proofs.Keeping.{parts_weigh}
 
 -- ---- weights

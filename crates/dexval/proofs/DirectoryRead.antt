@@ -52,14 +52,14 @@ no_set_is b off other none s h = none s (inr (other, h))
 -- a member that has the property R
 record MemberAt {X : Type 0} (R : X → Type 0) : Type 0 where
   member : X
-  stands : R member
+  encodes : R member
 
 one_of : {X : Type 0} (R : ℕ → X → Type 0) (b : List ℕ) (p count i : ℕ) (xs : List X) → i < count → AllZip R (uints_at b p count) xs → MemberAt (R (uint_at b (p + 4 * i)))
 one_of R b p zero i xs lt h = absurd (omega arith)
 one_of R b p (suc n) i [] lt h = absurd h
 one_of R b p (suc n) zero (x ∷ xs) lt h =
     let place : p ≡ p + 4 * zero = omega arith in
-    subst (λ (o : ℕ). MemberAt (R (uint_at b o))) place (record { member = x; stands = h.0 })
+    subst (λ (o : ℕ). MemberAt (R (uint_at b o))) place (record { member = x; encodes = h.0 })
 one_of R b p (suc n) (suc i) (x ∷ xs) lt h =
     let place : p + 4 + 4 * i ≡ p + 4 * suc i = omega arith in
     subst (λ (o : ℕ). MemberAt (R (uint_at b o))) place (one_of R b (p + 4) n i xs (omega arith) h.1)
@@ -67,10 +67,10 @@ one_of R b p (suc n) (suc i) (x ∷ xs) lt h =
 -- the first i sets were read
 pub record HaveReadList (b : List ℕ) (p : ℕ) (m : Mentions) (i : ℕ) (ss : List NumberedSet) : Type 0 where
   pub known : All (IsKnownSet m) ss
-  pub stand : AllZip (OrNone SetAt [] b) (uints_at b p i) (map (set_in m) ss)
+  pub are_encoded : AllZip (OrNone SetAt [] b) (uints_at b p i) (map (set_in m) ss)
 
 pub no_list_yet : (b : List ℕ) (p : ℕ) (m : Mentions) → HaveReadList b p m 0 []
-no_list_yet b p m = record { known = All-nil (IsKnownSet m); stand = tt }
+no_list_yet b p m = record { known = All-nil (IsKnownSet m); are_encoded = tt }
 
 -- one more set was read
 pub one_set_more : (b : List ℕ) (p : ℕ) (m : Mentions) (i : ℕ) (ss : List NumberedSet) (s : NumberedSet) → HaveReadList b p m i ss → IsSetOrEmptyAt b (uint_at b (p + 4 * i)) m s → HaveReadList b p m (i + 1) (ss ++ s ∷ [])
@@ -79,15 +79,15 @@ one_set_more b p m i ss s h r =
     let count_more : i + 1 ≡ suc i = omega arith in
     record {
       known = All-append (IsKnownSet m) ss (s ∷ []) h.known (All-cons (IsKnownSet m) s [] r.known (All-nil (IsKnownSet m)));
-      stand = subst (λ (l : List ℕ). AllZip R l (map (set_in m) (ss ++ s ∷ []))) (sym (ap (uints_at b p) count_more ∙ uints_more b p i))
-          (subst (λ (l : List AnnotationSet). AllZip R (uints_at b p i ++ uint_at b (p + 4 * i) ∷ []) l) (sym (map-append (set_in m) ss (s ∷ []))) (zip_more R (uints_at b p i) (map (set_in m) ss) (uint_at b (p + 4 * i)) (set_in m s) h.stand r.at));
+      are_encoded = subst (λ (l : List ℕ). AllZip R l (map (set_in m) (ss ++ s ∷ []))) (sym (ap (uints_at b p) count_more ∙ uints_more b p i))
+          (subst (λ (l : List AnnotationSet). AllZip R (uints_at b p i ++ uint_at b (p + 4 * i) ∷ []) l) (sym (map-append (set_in m) ss (s ∷ []))) (zip_more R (uints_at b p i) (map (set_in m) ss) (uint_at b (p + 4 * i)) (set_in m s) h.are_encoded r.at));
     }
 
 -- the next offset has no set
 pub no_set_next : (b : List ℕ) (o i : ℕ) → i < uint_at b o → NoSetOrEmptyAt b (uint_at b (o + 4 + 4 * i)) → NoRefListAt b o
 no_set_next b o i lt none ss h =
     let x = one_of (OrNone SetAt [] b) b (o + 4) (uint_at b o) i ss lt h.sets in
-    none x.member x.stands
+    none x.member x.encodes
 
 -- all were read
 pub list_read : (b : List ℕ) (o : ℕ) (m : Mentions) (i : ℕ) (ss : List NumberedSet) → HasOffsets b o → i ≡ uint_at b o → HaveReadList b (o + 4) m i ss → IsRefListAt b o m ss
@@ -96,7 +96,7 @@ list_read b o m i ss has e h = record {
   at = record {
     in_data = has.in_data;
     aligned = has.aligned;
-    sets = subst (λ (n : ℕ). AllZip (OrNone SetAt [] b) (uints_at b (o + 4) n) (map (set_in m) ss)) e h.stand;
+    sets = subst (λ (n : ℕ). AllZip (OrNone SetAt [] b) (uints_at b (o + 4) n) (map (set_in m) ss)) e h.are_encoded;
   };
 }
 
@@ -119,7 +119,7 @@ pair_of R b p zero i xs lt h = absurd (omega arith)
 pair_of R b p (suc n) i [] lt h = absurd h
 pair_of R b p (suc n) zero (x ∷ xs) lt h =
     let place : p ≡ p + 8 * zero = omega arith in
-    subst (λ (o : ℕ). MemberAt (R (uint_at b o, uint_at b (o + 4)))) place (record { member = x; stands = h.0 })
+    subst (λ (o : ℕ). MemberAt (R (uint_at b o, uint_at b (o + 4)))) place (record { member = x; encodes = h.0 })
 pair_of R b p (suc n) (suc i) (x ∷ xs) lt h =
     let place : p + 8 + 8 * i ≡ p + 8 * suc i = omega arith in
     subst (λ (o : ℕ). MemberAt (R (uint_at b o, uint_at b (o + 4)))) place (pair_of R b (p + 8) n i xs (omega arith) h.1)
@@ -163,26 +163,26 @@ rise_at b p (suc (suc n)) (suc i) lt h =
     subst (λ (o : ℕ). uint_at b (p + 8 * suc i) < uint_at b o) two (subst (λ (o : ℕ). uint_at b o < uint_at b (p + 8 + 8 * suc i)) one less)
 
 -- the least value of the next index
-abbrev pub least_behind : List ℕ → ℕ → ℕ → ℕ
-least_behind b p zero = 0
-least_behind b p (suc k) = uint_at b (p + 8 * k) + 1
+abbrev pub least_after : List ℕ → ℕ → ℕ → ℕ
+least_after b p zero = 0
+least_after b p (suc k) = uint_at b (p + 8 * k) + 1
 
-rise_on : (b : List ℕ) (p i least : ℕ) → least ≡ least_behind b p i → least ≤ uint_at b (p + 8 * i) → rises nat_cmp (indices_at b p i) ≡ true → rises nat_cmp (indices_at b p (suc i)) ≡ true
+rise_on : (b : List ℕ) (p i least : ℕ) → least ≡ least_after b p i → least ≤ uint_at b (p + 8 * i) → rises nat_cmp (indices_at b p i) ≡ true → rises nat_cmp (indices_at b p (suc i)) ≡ true
 rise_on b p zero least e le h = refl
 rise_on b p (suc k) least e le h = rise_more b p k h (omega (arith, e, le))
 
-least_at : (b : List ℕ) (p n i least : ℕ) → i < n → least ≡ least_behind b p i → rises nat_cmp (indices_at b p n) ≡ true → least ≤ uint_at b (p + 8 * i)
+least_at : (b : List ℕ) (p n i least : ℕ) → i < n → least ≡ least_after b p i → rises nat_cmp (indices_at b p n) ≡ true → least ≤ uint_at b (p + 8 * i)
 least_at b p n zero least lt e h = omega (arith, e)
 least_at b p n (suc k) least lt e h = omega (arith, e, rise_at b p n k lt h)
 
 -- the first i pairs were read
 pub record HaveReadPairs {X Y : Type 0} (Known : X → Type 0) (inside : X → Y) (At : List ℕ → ℕ → Y → Type 0) (b : List ℕ) (p limit i least : ℕ) (xs : List (ℕ × X)) : Type 0 where
   pub pairs_read : ArePairsAt Known inside At b p i limit xs
-  pub least_is : least ≡ least_behind b p i
+  pub least_is : least ≡ least_after b p i
 
 pub no_pair_yet : {X Y : Type 0} (Known : X → Type 0) (inside : X → Y) (At : List ℕ → ℕ → Y → Type 0) (b : List ℕ) (p limit : ℕ) → HaveReadPairs Known inside At b p limit 0 0 []
 no_pair_yet Known inside At b p limit = record {
-  pairs_read = record { members_known = All-nil _; pairs_stand = record { pairs = tt; rise = refl } };
+  pairs_read = record { members_known = All-nil _; pairs_encoded = record { pairs = tt; rise = refl } };
   least_is = refl;
 }
 
@@ -190,7 +190,7 @@ no_pair_yet Known inside At b p limit = record {
 pub one_pair_more : {X Y : Type 0} (Known : X → Type 0) (inside : X → Y) (At : List ℕ → ℕ → Y → Type 0) (b : List ℕ) (p limit i least : ℕ) (xs : List (ℕ × X)) (number : ℕ) (x : X)
     → HaveReadPairs Known inside At b p limit i least xs → HasPair b (p + 8 * i) least limit → number ≡ uint_at b (p + 8 * i) → Known x → At b (uint_at b (p + 8 * i + 4)) (inside x)
     → HaveReadPairs Known inside At b p limit (i + 1) (number + 1) (xs ++ (number, x) ∷ [])
-one_pair_more {X} {Y} Known inside At b p limit i least xs number x h pair is known stands =
+one_pair_more {X} {Y} Known inside At b p limit i least xs number x h pair is known encodes =
     let R = PairAt (IsIndexBelow limit) At b in
     let KnownPair = λ (e : ℕ × X). (e.0 < limit) × Known e.1 in
     let entry : ℕ × X → ℕ × Y = λ e. (e.0, inside e.1) in
@@ -198,16 +198,16 @@ one_pair_more {X} {Y} Known inside At b p limit i least xs number x h pair is kn
     let count_more : suc i ≡ i + 1 = omega arith in
     let below : number < limit = omega (arith, is, pair.below) in
     let index : IsIndexBelow limit b (uint_at b (p + 8 * i)) number = record { is = is; below = pair.below } in
-    let both : IsIndexBelow limit b (uint_at b (p + 8 * i)) number × (uint_at b (p + 8 * i + 4) ≢ 0) × At b (uint_at b (p + 8 * i + 4)) (inside x) = (index, pair.offset, stands) in
+    let both : IsIndexBelow limit b (uint_at b (p + 8 * i)) number × (uint_at b (p + 8 * i + 4) ≢ 0) × At b (uint_at b (p + 8 * i + 4)) (inside x) = (index, pair.offset, encodes) in
     subst (λ (k : ℕ). HaveReadPairs Known inside At b p limit k (number + 1) (xs ++ new ∷ [])) count_more
     (record {
       pairs_read = record {
         members_known = All-append KnownPair xs (new ∷ []) h.pairs_read.members_known (All-cons KnownPair new [] (below, known) (All-nil KnownPair));
-        pairs_stand = record {
+        pairs_encoded = record {
           pairs = subst (λ (l : List (ℕ × ℕ)). AllZip R l (map entry (xs ++ new ∷ []))) (sym (pairs_more b p i))
               (subst (λ (l : List (ℕ × Y)). AllZip R (pairs_at b p i ++ (uint_at b (p + 8 * i), uint_at b (p + 8 * i + 4)) ∷ []) l) (sym (map-append entry xs (new ∷ [])))
-              (zip_more R (pairs_at b p i) (map entry xs) (uint_at b (p + 8 * i), uint_at b (p + 8 * i + 4)) (entry new) h.pairs_read.pairs_stand.pairs both));
-          rise = rise_on b p i least h.least_is pair.above h.pairs_read.pairs_stand.rise;
+              (zip_more R (pairs_at b p i) (map entry xs) (uint_at b (p + 8 * i), uint_at b (p + 8 * i + 4)) (entry new) h.pairs_read.pairs_encoded.pairs both));
+          rise = rise_on b p i least h.least_is pair.above h.pairs_read.pairs_encoded.rise;
         };
       };
       least_is = ap (λ (k : ℕ). k + 1) is;
@@ -218,13 +218,13 @@ pub no_pair_next : {X Y : Type 0} (Known : X → Type 0) (inside : X → Y) (At 
     → (HasPair b (p + 8 * i) least limit → ⊥) → NoPairsAt At b p n limit
 no_pair_next Known inside At b p n limit i least xs lt h none entries g =
     let x = pair_of (PairAt (IsIndexBelow limit) At b) b p n i entries lt g.pairs in
-    none (record { above = least_at b p n i least lt h.least_is g.rise; below = x.stands.0.below; offset = x.stands.1 })
+    none (record { above = least_at b p n i least lt h.least_is g.rise; below = x.encodes.0.below; offset = x.encodes.1 })
 
 -- or its offset has no item
 pub no_item_next : {Y : Type 0} (At : List ℕ → ℕ → Y → Type 0) (b : List ℕ) (p n limit i : ℕ) → i < n → ((y : Y) → At b (uint_at b (p + 8 * i + 4)) y → ⊥) → NoPairsAt At b p n limit
 no_item_next At b p n limit i lt none entries g =
     let x = pair_of (PairAt (IsIndexBelow limit) At b) b p n i entries lt g.pairs in
-    none x.member.1 x.stands.2
+    none x.member.1 x.encodes.2
 
 -- all were read
 pub pairs_end : {X Y : Type 0} (Known : X → Type 0) (inside : X → Y) (At : List ℕ → ℕ → Y → Type 0) (b : List ℕ) (p n limit i least : ℕ) (xs : List (ℕ × X)) → i ≡ n → HaveReadPairs Known inside At b p limit i least xs → ArePairsAt Known inside At b p n limit xs
@@ -242,13 +242,13 @@ no_pairs_moved At b {p} {q} {n} {k} {limit} {most} place count bound none =
 -- ---- members
 
 -- the pairs name the members of their numbers
-rows_stand : {M X Y : Type 0} (Row : List ℕ → ℕ → M → Type 0) (member : ℕ → M) (inside : X → Y) (At : List ℕ → ℕ → Y → Type 0) (b : List ℕ) (limit : ℕ) → ((i : ℕ) → i < limit → Row b i (member i)) → (ps : List (ℕ × ℕ)) (xs : List (ℕ × X))
+rows_encoded : {M X Y : Type 0} (Row : List ℕ → ℕ → M → Type 0) (member : ℕ → M) (inside : X → Y) (At : List ℕ → ℕ → Y → Type 0) (b : List ℕ) (limit : ℕ) → ((i : ℕ) → i < limit → Row b i (member i)) → (ps : List (ℕ × ℕ)) (xs : List (ℕ × X))
     → AllZip (PairAt (IsIndexBelow limit) At b) ps (map (λ e. (e.0, inside e.1)) xs) → AllZip (PairAt Row At b) ps (map (λ e. (member e.0, inside e.1)) xs)
-rows_stand Row member inside At b limit row [] [] h = tt
-rows_stand Row member inside At b limit row [] (x ∷ xs) h = absurd h
-rows_stand Row member inside At b limit row (p ∷ ps) [] h = absurd h
-rows_stand Row member inside At b limit row (p ∷ ps) (x ∷ xs) h =
-    ((subst (λ (i : ℕ). Row b p.0 (member i)) (sym h.0.0.is) (row p.0 h.0.0.below), h.0.1, h.0.2), rows_stand Row member inside At b limit row ps xs h.1)
+rows_encoded Row member inside At b limit row [] [] h = tt
+rows_encoded Row member inside At b limit row [] (x ∷ xs) h = absurd h
+rows_encoded Row member inside At b limit row (p ∷ ps) [] h = absurd h
+rows_encoded Row member inside At b limit row (p ∷ ps) (x ∷ xs) h =
+    ((subst (λ (i : ℕ). Row b p.0 (member i)) (sym h.0.0.is) (row p.0 h.0.0.below), h.0.1, h.0.2), rows_encoded Row member inside At b limit row ps xs h.1)
 
 -- members by number
 abbrev numbered : {M Y : Type 0} → List (ℕ × ℕ) → List (M × Y) → List (ℕ × Y)
@@ -256,19 +256,19 @@ numbered [] es = []
 numbered (p ∷ ps) [] = []
 numbered (p ∷ ps) (e ∷ es) = (p.0, e.1) ∷ numbered ps es
 
-numbers_stand : {M Y : Type 0} (Row : List ℕ → ℕ → M → Type 0) (At : List ℕ → ℕ → Y → Type 0) (b : List ℕ) (limit : ℕ) → ((i : ℕ) (x : M) → Row b i x → i < limit) → (ps : List (ℕ × ℕ)) (es : List (M × Y))
+numbers_encoded : {M Y : Type 0} (Row : List ℕ → ℕ → M → Type 0) (At : List ℕ → ℕ → Y → Type 0) (b : List ℕ) (limit : ℕ) → ((i : ℕ) (x : M) → Row b i x → i < limit) → (ps : List (ℕ × ℕ)) (es : List (M × Y))
     → AllZip (PairAt Row At b) ps es → AllZip (PairAt (IsIndexBelow limit) At b) ps (numbered ps es)
-numbers_stand Row At b limit below [] [] h = tt
-numbers_stand Row At b limit below [] (e ∷ es) h = absurd h
-numbers_stand Row At b limit below (p ∷ ps) [] h = absurd h
-numbers_stand Row At b limit below (p ∷ ps) (e ∷ es) h = ((record { is = refl; below = below p.0 e.0 h.0.0 }, h.0.1, h.0.2), numbers_stand Row At b limit below ps es h.1)
+numbers_encoded Row At b limit below [] [] h = tt
+numbers_encoded Row At b limit below [] (e ∷ es) h = absurd h
+numbers_encoded Row At b limit below (p ∷ ps) [] h = absurd h
+numbers_encoded Row At b limit below (p ∷ ps) (e ∷ es) h = ((record { is = refl; below = below p.0 e.0 h.0.0 }, h.0.1, h.0.2), numbers_encoded Row At b limit below ps es h.1)
 
 pairs_named : {M X Y : Type 0} (Row : List ℕ → ℕ → M → Type 0) (member : ℕ → M) (Known : X → Type 0) (inside : X → Y) (At : List ℕ → ℕ → Y → Type 0) (b : List ℕ) (p n limit : ℕ) → ((i : ℕ) → i < limit → Row b i (member i)) → (xs : List (ℕ × X))
     → ArePairsAt Known inside At b p n limit xs → PairsAt Row At b p n (map (λ e. (member e.0, inside e.1)) xs)
-pairs_named Row member Known inside At b p n limit row xs h = record { pairs = rows_stand Row member inside At b limit row (pairs_at b p n) xs h.pairs_stand.pairs; rise = h.pairs_stand.rise }
+pairs_named Row member Known inside At b p n limit row xs h = record { pairs = rows_encoded Row member inside At b limit row (pairs_at b p n) xs h.pairs_encoded.pairs; rise = h.pairs_encoded.rise }
 
 no_rows : {M Y : Type 0} (Row : List ℕ → ℕ → M → Type 0) (At : List ℕ → ℕ → Y → Type 0) (b : List ℕ) (p n limit : ℕ) → ((i : ℕ) (x : M) → Row b i x → i < limit) → NoPairsAt At b p n limit → (es : List (M × Y)) → PairsAt Row At b p n es → ⊥
-no_rows Row At b p n limit below none es h = none (numbered (pairs_at b p n) es) (record { pairs = numbers_stand Row At b limit below (pairs_at b p n) es h.pairs; rise = h.rise })
+no_rows Row At b p n limit below none es h = none (numbered (pairs_at b p n) es) (record { pairs = numbers_encoded Row At b limit below (pairs_at b p n) es h.pairs; rise = h.rise })
 
 -- ---- directories
 

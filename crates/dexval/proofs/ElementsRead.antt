@@ -27,7 +27,7 @@ IsAbove b least (ThenElement name v es) = (index : ℕ) → StringRow b index na
 pub record RestOf (b : List ℕ) (o depth count least : ℕ) : Type 0 where
   pub elements : Elements
   pub size : ℕ
-  pub stand : ElementsAt b o elements size
+  pub are_encoded : ElementsAt b o elements size
   pub number : length (names_of elements) ≡ count
   pub rise : rises text_cmp (names_of elements) ≡ true
   pub above : IsAbove b least elements
@@ -38,7 +38,7 @@ pub record RestOf (b : List ℕ) (o depth count least : ℕ) : Type 0 where
 pub record HaveReadOf (b : List ℕ) (o : ℕ) (m : Mentions) (depth count i least : ℕ) (es : List (ℕ × NumberedValue)) (k : ℕ) : Type 0 where
   pub number : length es ≡ i
   pub known : HaveKnown m (elements_of_list es)
-  pub stand : ElementsAt b o (elements_in m (elements_of_list es)) k
+  pub are_encoded : ElementsAt b o (elements_in m (elements_of_list es)) k
   pub shallow : elements_depth (elements_in m (elements_of_list es)) ≤ depth
   pub rise : rises text_cmp (names_of (elements_in m (elements_of_list es))) ≡ true
   pub below : (index : ℕ) → least ≤ index → index < length m.texts → rises text_cmp (names_of (elements_in m (elements_of_list es)) ++ text_at m index ∷ []) ≡ true
@@ -59,11 +59,11 @@ module _ (b : List ℕ) (m : Mentions) (file : AreFilePools b m) where
   row_within : (index : ℕ) (name : Text) → StringRow b index name → index < length m.texts
   row_within index name r = omega (arith, r.row, file.pools.texts_are.count)
 
-  row_stands : (index : ℕ) → index < length m.texts → StringRow b index (text_at m index)
-  row_stands index lt = file.pools.texts_are.each index [] (omega (arith, lt, file.pools.texts_are.count))
+  row_encoded : (index : ℕ) → index < length m.texts → StringRow b index (text_at m index)
+  row_encoded index lt = file.pools.texts_are.each index [] (omega (arith, lt, file.pools.texts_are.count))
 
   row_text : (index : ℕ) (name : Text) → StringRow b index name → name ≡ text_at m index
-  row_text index name r = one_string b index name (text_at m index) r (row_stands index (row_within index name r))
+  row_text index name r = one_string b index name (text_at m index) r (row_encoded index (row_within index name r))
 
   known_more : (es : List (ℕ × NumberedValue)) (e : ℕ × NumberedValue) → HaveKnown m (elements_of_list es) → e.0 < length m.texts → IsKnown m e.1 → HaveKnown m (elements_of_list (es ++ e ∷ []))
   known_more [] e h lt k = (lt, k, tt)
@@ -88,21 +88,21 @@ module _ (b : List ℕ) (m : Mentions) (file : AreFilePools b m) where
   rises_more (n ∷ o ∷ ns) s t h lt =
       and_both (is_lt (text_cmp n o)) (rises text_cmp ((o ∷ ns ++ s ∷ []) ++ t ∷ [])) (and_first (is_lt (text_cmp n o)) (rises text_cmp (o ∷ ns ++ s ∷ [])) h) (rises_more (o ∷ ns) s t (and_second (is_lt (text_cmp n o)) (rises text_cmp (o ∷ ns ++ s ∷ [])) h) lt)
 
-  stand_more : (o : ℕ) (es : List (ℕ × NumberedValue)) (e : ℕ × NumberedValue) (k head size : ℕ) → ElementsAt b o (elements_in m (elements_of_list es)) k
+  encoded_more : (o : ℕ) (es : List (ℕ × NumberedValue)) (e : ℕ × NumberedValue) (k head size : ℕ) → ElementsAt b o (elements_in m (elements_of_list es)) k
       → Uleb128At b (o + k) e.0 head → e.0 < length m.texts → ValueAt b (o + k + head) (value_in m e.1) size → ElementsAt b o (elements_in m (elements_of_list (es ++ e ∷ []))) (k + (head + size))
-  stand_more o [] e k head size h u lt v =
+  encoded_more o [] e k head size h u lt v =
       let none : o + k ≡ o = omega (arith, h) in (
         head,
         size,
         0,
         e.0,
         subst (λ (p : ℕ). Uleb128At b p e.0 head) none u,
-        row_stands e.0 lt,
+        row_encoded e.0 lt,
         subst (λ (p : ℕ). ValueAt b (p + head) (value_in m e.1) size) none v,
         refl,
         omega (arith, h),
       )
-  stand_more o (f ∷ fs) e k head size h u lt v =
+  encoded_more o (f ∷ fs) e k head size h u lt v =
       let place : o + k ≡ o + h.0 + h.1 + h.2 = omega (arith, h.8) in (
         h.0,
         h.1,
@@ -111,7 +111,7 @@ module _ (b : List ℕ) (m : Mentions) (file : AreFilePools b m) where
         h.4,
         h.5,
         h.6,
-        stand_more (o + h.0 + h.1) fs e h.2 head size h.7 (subst (λ (p : ℕ). Uleb128At b p e.0 head) place u) lt (subst (λ (p : ℕ). ValueAt b (p + head) (value_in m e.1) size) place v),
+        encoded_more (o + h.0 + h.1) fs e h.2 head size h.7 (subst (λ (p : ℕ). Uleb128At b p e.0 head) place u) lt (subst (λ (p : ℕ). ValueAt b (p + head) (value_in m e.1) size) place v),
         omega (arith, h.8),
       )
 
@@ -125,9 +125,9 @@ module _ (b : List ℕ) (m : Mentions) (file : AreFilePools b m) where
     names : Uleb128At b o index head
     row : StringRow b index name
     above : least ≤ index
-    stands : ValueAt b (o + head) value size
+    encodes : ValueAt b (o + head) value size
     shallow : value_depth value ≤ depth
-    behind : RestOf b (o + head + size) depth (left - 1) (index + 1)
+    following : RestOf b (o + head + size) depth (left - 1) (index + 1)
 
   above_next : (index : ℕ) (name : Text) (es : Elements) → StringRow b index name → rises text_cmp (name ∷ names_of es) ≡ true → IsAbove b (index + 1) es
   above_next index name NoElements r h = tt
@@ -151,20 +151,20 @@ module _ (b : List ℕ) (m : Mentions) (file : AreFilePools b m) where
     names = h.4;
     row = h.5;
     above = a h.3 h.5;
-    stands = h.6;
+    encodes = h.6;
     shallow = omega (arith, d);
-    behind = record { elements = es; size = h.2; stand = h.7; number = omega (arith, e); rise = rise_next name es r; above = above_next h.3 name es h.5 r; shallow = omega (arith, d) };
+    following = record { elements = es; size = h.2; are_encoded = h.7; number = omega (arith, e); rise = rise_next name es r; above = above_next h.3 name es h.5 r; shallow = omega (arith, d) };
   }
 
   next : (o depth left least : ℕ) → 0 < left → RestOf b o depth left least → Next o depth left least
-  next o depth left least lt r = next_of o depth left least r.size r.elements lt r.stand r.number r.rise r.above r.shallow
+  next o depth left least lt r = next_of o depth left least r.size r.elements lt r.are_encoded r.number r.rise r.above r.shallow
 
   -- no element was read yet
   pub no_element_read : (o depth count : ℕ) → HaveReadOf b o m depth count 0 0 [] 0
   no_element_read o depth count = record {
     number = refl;
     known = tt;
-    stand = refl;
+    are_encoded = refl;
     shallow = omega arith;
     rise = refl;
     below = λ index le lt. refl;
@@ -180,26 +180,26 @@ module _ (b : List ℕ) (m : Mentions) (file : AreFilePools b m) where
       record {
         number = simp length-append (omega (arith, h.number));
         known = known_more es e h.known r.name_known r.value.known;
-        stand = subst (λ (n : ℕ). ElementsAt b o (elements_in m (elements_of_list (es ++ e ∷ []))) (k + n)) (sym r.sum) (stand_more o es e k r.head r.size h.stand r.index r.name_known r.value.stands);
+        are_encoded = subst (λ (n : ℕ). ElementsAt b o (elements_in m (elements_of_list (es ++ e ∷ []))) (k + n)) (sym r.sum) (encoded_more o es e k r.head r.size h.are_encoded r.index r.name_known r.value.encodes);
         shallow = omega (arith, depth_more es e, h.shallow, r.value.shallow);
         rise = ap (rises text_cmp) (names_more es e) ∙ risen;
         below = λ index le within. ap (λ (l : List Text). rises text_cmp (l ++ text_at m index ∷ [])) (names_more es e) ∙ rises_more ns (text_at m e.0) (text_at m index) risen (is_less e.0 index (omega (arith, le)) within);
         rest = λ all.
             let n = next (o + k) depth (count - i) least (omega arith) (h.rest all) in
             let name = one_uleb128 b (o + k) n.index e.0 n.head r.head n.names r.index in
-            let same = one_value b (o + k + r.head) n.value (value_in m e.1) n.size r.size (subst (λ (x : ℕ). ValueAt b (o + k + x) n.value n.size) name.1 n.stands) r.value.stands in
+            let same = one_value b (o + k + r.head) n.value (value_in m e.1) n.size r.size (subst (λ (x : ℕ). ValueAt b (o + k + x) n.value n.size) name.1 n.encodes) r.value.encodes in
             let place : o + k + n.head + n.size ≡ o + (k + j) = omega (arith, name.1, same.1, r.sum) in
             let left : count - i - 1 ≡ count - (i + 1) = omega arith in
             subst (λ (x : ℕ). RestOf b (o + (k + j)) depth (count - (i + 1)) (x + 1)) name.0
-            (subst (λ (c : ℕ). RestOf b (o + (k + j)) depth c (n.index + 1)) left (subst (λ (p : ℕ). RestOf b p depth (count - i - 1) (n.index + 1)) place n.behind));
+            (subst (λ (c : ℕ). RestOf b (o + (k + j)) depth c (n.index + 1)) left (subst (λ (p : ℕ). RestOf b p depth (count - i - 1) (n.index + 1)) place n.following));
       }
 
   -- the next bytes are no element
   pub no_next_element : (o depth count i least : ℕ) (es : List (ℕ × NumberedValue)) (k : ℕ) → i < count → HaveReadOf b o m depth count i least es k → NoElementAt b (o + k) depth least → NoElementsAt b o depth count
-  no_next_element o depth count i least es k lt h none fs n stand number rise shallow =
-      let all : RestOf b o depth count 0 = record { elements = fs; size = n; stand = stand; number = number; rise = rise; above = above_all fs; shallow = shallow } in
+  no_next_element o depth count i least es k lt h none fs n are_encoded number rise shallow =
+      let all : RestOf b o depth count 0 = record { elements = fs; size = n; are_encoded = are_encoded; number = number; rise = rise; above = above_all fs; shallow = shallow } in
       let x = next (o + k) depth (count - i) least (omega arith) (h.rest all) in
-      none x.index x.name x.value x.head x.size x.names x.row x.above x.stands x.shallow
+      none x.index x.name x.value x.head x.size x.names x.row x.above x.encodes x.shallow
     where
       above_all : (gs : Elements) → IsAbove b 0 gs
       above_all NoElements = tt
@@ -209,7 +209,7 @@ module _ (b : List ℕ) (m : Mentions) (file : AreFilePools b m) where
   pub all_elements_read : (o depth count i least : ℕ) (es : List (ℕ × NumberedValue)) (k : ℕ) → i ≡ count → HaveReadOf b o m depth count i least es k → AreElementsReadAt b o m depth count (elements_of_list es) k
   all_elements_read o depth count i least es k e h = record {
     known = h.known;
-    stands = h.stand;
+    encodes = h.are_encoded;
     number = number_is es ∙ h.number ∙ e;
     rise = h.rise;
     shallow = h.shallow;
@@ -237,8 +237,8 @@ module _ (b : List ℕ) (m : Mentions) (file : AreFilePools b m) where
   type_within : (index : ℕ) (t : Text) → TypeRow b index t → index < length m.types
   type_within index t r = omega (arith, r.row, file.pools.types_are.count)
 
-  type_stands : (index : ℕ) → index < length m.types → TypeRow b index (type_at m index)
-  type_stands index lt = file.pools.types_are.each index [] (omega (arith, lt, file.pools.types_are.count))
+  type_encoded : (index : ℕ) → index < length m.types → TypeRow b index (type_at m index)
+  type_encoded index lt = file.pools.types_are.each index [] (omega (arith, lt, file.pools.types_are.count))
 
   pub no_type : (o depth : ℕ) → ((index i : ℕ) → Uleb128At b o index i → ⊥) → NoAnnotationAt b o depth
   no_type o depth none t es n h shallow = none h.3 h.0 h.4
@@ -265,6 +265,6 @@ module _ (b : List ℕ) (m : Mentions) (file : AreFilePools b m) where
   annotation_read o depth index head count second es k u lt w r = record {
     type_known = lt;
     known = r.known;
-    stands = (head, second, k, index, u, type_stands index lt, subst (λ (c : ℕ). Uleb128At b (o + head) c second) (sym r.number) w, r.stands, r.rise, refl);
+    encodes = (head, second, k, index, u, type_encoded index lt, subst (λ (c : ℕ). Uleb128At b (o + head) c second) (sym r.number) w, r.encodes, r.rise, refl);
     shallow = r.shallow;
   }

@@ -12,7 +12,7 @@ use Rattle.dexval.proofs.Weights.{weight_is, values_weight_is}
 pub value_checked : (b : List ℕ) (off : ℕ) (m : Mentions) (n weight : ℕ) → data_off b ≤ off → HasValue b off m most_depth n weight → HasValueOf b off m n weight
 value_checked b off m n weight in_data h = record {
   value = h.value;
-  at = record { known = h.read.known; at = record { in_data = in_data; stands = h.read.stands; shallow = h.read.shallow } };
+  at = record { known = h.read.known; at = record { in_data = in_data; encodes = h.read.encodes; shallow = h.read.shallow } };
   weighs = sym (weight_is m h.value) ∙ h.weighs;
 }
 
@@ -33,7 +33,7 @@ pub statics_checked : (b : List ℕ) (off : ℕ) (m : Mentions) (count n weight 
 statics_checked b off m count n weight total in_data none some h = record {
   values = h.values;
   known = h.read.known;
-  at = record { in_data = in_data; array = h.read.stands; shallow = h.read.shallow };
+  at = record { in_data = in_data; array = h.read.encodes; shallow = h.read.shallow };
   counted = counted_in m h.values ∙ h.counted;
   weighs = weighs_by count h.counted none some;
 }

@@ -19,7 +19,7 @@ pub file_pools : (b : List ℕ) (m n : Mentions) → n ≡ m → IsNumbering n �
 file_pools b m n e is pools = record { pools = pools; rising = (subst IsNumbering e is).rising }
 
 pub no_value : (b : List ℕ) (off : ℕ) → NoValueAt b off most_depth → (v : Value) (n : ℕ) → EncodedValueAt b off v n → ⊥
-no_value b off none v n h = none v n h.stands h.shallow
+no_value b off none v n h = none v n h.encodes h.shallow
 
 pub no_statics : (b : List ℕ) (off : ℕ) → NoArrayAt b off most_depth → (vs : Values) (n : ℕ) → EncodedArrayItemAt b off vs n → ⊥
 no_statics b off none vs n h = none vs n h.array h.shallow

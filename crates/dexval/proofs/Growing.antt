@@ -21,22 +21,22 @@ pub elements_more : (xs : List Element) (i : ℕ) (d : Element) → i < length x
 elements_more xs i d lt e = ap (map element_of) (take_more xs i d lt ∙ ap (λ (x : Element). take i xs ++ x ∷ []) (sym e)) ∙ map-append element_of (take i xs) (d ∷ [])
 
 -- the weight of one more value
-values_weight_behind : (xs : List NumberedValue) (x : NumberedValue) → numbered_values_weight (values_of_list (xs ++ x ∷ [])) ≡ numbered_values_weight (values_of_list xs) + numbered_weight x
-values_weight_behind [] x = omega arith
-values_weight_behind (y ∷ ys) x = omega (arith, values_weight_behind ys x)
+values_weight_after : (xs : List NumberedValue) (x : NumberedValue) → numbered_values_weight (values_of_list (xs ++ x ∷ [])) ≡ numbered_values_weight (values_of_list xs) + numbered_weight x
+values_weight_after [] x = omega arith
+values_weight_after (y ∷ ys) x = omega (arith, values_weight_after ys x)
 
 pub values_weight_more : (xs : List Value) (i : ℕ) (d : Value) → i < length xs → d ≡ get_or xs i d
     → numbered_values_weight (values_of_list (map value_of (take (i + 1) xs))) ≡ numbered_values_weight (values_of_list (map value_of (take i xs))) + numbered_weight (value_of d)
-values_weight_more xs i d lt e = ap (λ l. numbered_values_weight (values_of_list l)) (values_more xs i d lt e) ∙ values_weight_behind (map value_of (take i xs)) (value_of d)
+values_weight_more xs i d lt e = ap (λ l. numbered_values_weight (values_of_list l)) (values_more xs i d lt e) ∙ values_weight_after (map value_of (take i xs)) (value_of d)
 
 -- the weight of one more element
-elements_weight_behind : (xs : List (ℕ × NumberedValue)) (x : ℕ × NumberedValue) → numbered_elements_weight (elements_of_list (xs ++ x ∷ [])) ≡ numbered_elements_weight (elements_of_list xs) + (5 + numbered_weight x.1)
-elements_weight_behind [] (n, x) = omega arith
-elements_weight_behind ((m, y) ∷ ys) x = omega (arith, elements_weight_behind ys x)
+elements_weight_after : (xs : List (ℕ × NumberedValue)) (x : ℕ × NumberedValue) → numbered_elements_weight (elements_of_list (xs ++ x ∷ [])) ≡ numbered_elements_weight (elements_of_list xs) + (5 + numbered_weight x.1)
+elements_weight_after [] (n, x) = omega arith
+elements_weight_after ((m, y) ∷ ys) x = omega (arith, elements_weight_after ys x)
 
 pub elements_weight_more : (xs : List Element) (i : ℕ) (d : Element) → i < length xs → d ≡ get_or xs i d
     → numbered_elements_weight (elements_of_list (map element_of (take (i + 1) xs))) ≡ numbered_elements_weight (elements_of_list (map element_of (take i xs))) + (5 + numbered_weight (value_of d.value))
-elements_weight_more xs i d lt e = ap (λ l. numbered_elements_weight (elements_of_list l)) (elements_more xs i d lt e) ∙ elements_weight_behind (map element_of (take i xs)) (element_of d)
+elements_weight_more xs i d lt e = ap (λ l. numbered_elements_weight (elements_of_list l)) (elements_more xs i d lt e) ∙ elements_weight_after (map element_of (take i xs)) (element_of d)
     ∙ ap (λ (x : ℕ × NumberedValue). numbered_elements_weight (elements_of_list (map element_of (take i xs))) + (5 + numbered_weight x.1)) (element_is d)
 
 -- the copy of one more element

@@ -52,32 +52,32 @@ same_parts x y h v e =
 
 -- ---- the contents of a value, remapped
 
-values_led : (r : Maps) (x : NumberedValue) → held_values (renumbered r x) ≡ renumbered_values r (held_values x)
-values_led r (Plain literal) = refl
-values_led r (Named reference i) = refl
-values_led r (Array xs) = refl
-values_led r (Annotated t es) = refl
+values_remapped : (r : Maps) (x : NumberedValue) → held_values (renumbered r x) ≡ renumbered_values r (held_values x)
+values_remapped r (Plain literal) = refl
+values_remapped r (Named reference i) = refl
+values_remapped r (Array xs) = refl
+values_remapped r (Annotated t es) = refl
 
-elements_led : (r : Maps) (x : NumberedValue) → held_elements (renumbered r x) ≡ renumbered_elements r (held_elements x)
-elements_led r (Plain literal) = refl
-elements_led r (Named reference i) = refl
-elements_led r (Array xs) = refl
-elements_led r (Annotated t es) = refl
+elements_remapped : (r : Maps) (x : NumberedValue) → held_elements (renumbered r x) ≡ renumbered_elements r (held_elements x)
+elements_remapped r (Plain literal) = refl
+elements_remapped r (Named reference i) = refl
+elements_remapped r (Array xs) = refl
+elements_remapped r (Annotated t es) = refl
 
 module _ (r q : Maps) (x y : NumberedValue) where
   -- values that are equal once remapped hold equal values
   pub held_values_same : (xs ys : NumberedValues) → xs ≡ held_values x → ys ≡ held_values y → renumbered r x ≡ renumbered q y → renumbered_values r xs ≡ renumbered_values q ys
-  held_values_same xs ys is was e = ap (renumbered_values r) is ∙ sym (values_led r x) ∙ ap held_values e ∙ values_led q y ∙ ap (renumbered_values q) (sym was)
+  held_values_same xs ys is was e = ap (renumbered_values r) is ∙ sym (values_remapped r x) ∙ ap held_values e ∙ values_remapped q y ∙ ap (renumbered_values q) (sym was)
 
   -- and equal elements
   pub held_elements_same : (es fs : NumberedElements) → es ≡ held_elements x → fs ≡ held_elements y → renumbered r x ≡ renumbered q y → renumbered_elements r es ≡ renumbered_elements q fs
-  held_elements_same es fs is was e = ap (renumbered_elements r) is ∙ sym (elements_led r x) ∙ ap held_elements e ∙ elements_led q y ∙ ap (renumbered_elements q) (sym was)
+  held_elements_same es fs is was e = ap (renumbered_elements r) is ∙ sym (elements_remapped r x) ∙ ap held_elements e ∙ elements_remapped q y ∙ ap (renumbered_elements q) (sym was)
 
   -- and conversely
   pub parts_same : (xs ys : NumberedValues) (es fs : NumberedElements) → xs ≡ held_values x → ys ≡ held_values y → es ≡ held_elements x → fs ≡ held_elements y → head_of (renumbered r x) ≡ head_of (renumbered q y) → renumbered_values r xs ≡ renumbered_values q ys → renumbered_elements r es ≡ renumbered_elements q fs → renumbered r x ≡ renumbered q y
   parts_same xs ys es fs vx vy ex ey h v e =
-      same_parts (renumbered r x) (renumbered q y) h (values_led r x ∙ ap (renumbered_values r) (sym vx) ∙ v ∙ ap (renumbered_values q) vy ∙ sym (values_led q y))
-      (elements_led r x ∙ ap (renumbered_elements r) (sym ex) ∙ e ∙ ap (renumbered_elements q) ey ∙ sym (elements_led q y))
+      same_parts (renumbered r x) (renumbered q y) h (values_remapped r x ∙ ap (renumbered_values r) (sym vx) ∙ v ∙ ap (renumbered_values q) vy ∙ sym (values_remapped q y))
+      (elements_remapped r x ∙ ap (renumbered_elements r) (sym ex) ∙ e ∙ ap (renumbered_elements q) ey ∙ sym (elements_remapped q y))
 
 -- ---- contents weigh less than the value
 

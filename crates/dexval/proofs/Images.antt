@@ -7,16 +7,16 @@ use Rattle.std.proofs.lemmas.List.Elements.{All-nil, All-cons, All-head, All-tai
 use Rattle.dexspec.specs.Mentions.{Mentions}
 use Rattle.dexpool.specs.declared.symbols.SymbolKind.{SymbolKind}
 use Rattle.dexpool.specs.declared.symbols.SymbolKind.TheVariants as kinds
-use Rattle.dexpool.specs.Laws.{LeadsAll, LeadsWithin}
+use Rattle.dexpool.specs.Laws.{MapsAll, MapsWithin}
 use Rattle.dexpool.specs.Numberings.{Maps, image_of}
-use Rattle.dexpool.specs.Orderly.{LeadDown}
+use Rattle.dexpool.specs.Orderly.{MapsDown}
 use Rattle.dexpool.specs.Pools.{count_of}
-use Rattle.dexpool.specs.Uses.{Use, IsLedUse}
-use Rattle.dexpool.specs.Images.{LeadsOn, LeadsUse}
+use Rattle.dexpool.specs.Uses.{Use, IsMappedUse}
+use Rattle.dexpool.specs.Images.{IsMapped, MapsUse}
 use Rattle.dexval.specs.Numbered.{NumberedValue, NumberedValues, NumberedElements, NumberedAnnotation, NumberedSet, Plain, Named, Array, Annotated, NoValue, ThenNext, NoElement, ThenNamed, kind_of_reference, IsKnown, AreKnown, HaveKnown, IsKnownAnnotation, IsKnownSet}
-use Rattle.dexval.specs.Renumbering.{LeadsNarrow, HasPlaces, HavePlaces, SetHasPlaces}
+use Rattle.dexval.specs.Renumbering.{MapsNarrow, HasPlaces, HavePlaces, SetHasPlaces}
 use Rattle.dexval.specs.Uses.{value_uses, values_uses, elements_uses, annotation_uses, set_uses}
-use Rattle.dexpool.proofs.Parts.{all_front, all_back}
+use Rattle.dexpool.proofs.Parts.{all_prefix, all_back}
 
 -- a symbol that occurs
 abbrev use_of : SymbolKind → ℕ → Use
@@ -24,10 +24,10 @@ use_of kind i = record { kind = kind; number = i }
 
 -- ---- maps from numbers of 32 bits to numbers of 32 bits
 
-pub cut_within : (r : Maps) → LeadDown r → LeadsNarrow r
+pub cut_within : (r : Maps) → MapsDown r → MapsNarrow r
 cut_within r down kind i j e lt = omega (arith, down kind i j e, lt)
 
-pub join_within : (n : Mentions) (r : Maps) → LeadsWithin n r → ((kind : SymbolKind) → count_of kind n ≤ 2 ^ 32) → LeadsNarrow r
+pub join_within : (n : Mentions) (r : Maps) → MapsWithin n r → ((kind : SymbolKind) → count_of kind n ≤ 2 ^ 32) → MapsNarrow r
 join_within n r within few kind i j e lt = omega (arith, within kind i j e, few kind)
 
 -- ---- from images to places
@@ -36,59 +36,59 @@ some_of : (o : Option ℕ) → IsSome o → (j : ℕ) × (o ≡ Some j)
 some_of None h = absurd cc
 some_of (Some j) h = (j, refl)
 
-module _ (r : Maps) (within : LeadsNarrow r) where
-  leads_on : (kind : SymbolKind) (i : ℕ) → IsSome (image_of r kind i) → LeadsOn r kind i
-  leads_on kind i h = let at = some_of (image_of r kind i) h in (at.0, at.1, λ lt. within kind i at.0 at.1 lt)
+module _ (r : Maps) (within : MapsNarrow r) where
+  is_mapped : (kind : SymbolKind) (i : ℕ) → IsSome (image_of r kind i) → IsMapped r kind i
+  is_mapped kind i h = let at = some_of (image_of r kind i) h in (at.0, at.1, λ lt. within kind i at.0 at.1 lt)
 
   -- if each number that occurs has an image, each maps to a place
-  pub uses_placed : (us : List Use) → All (IsLedUse r) us → All (LeadsUse r) us
-  uses_placed [] h = All-nil (LeadsUse r)
-  uses_placed (u ∷ us) h = All-cons (LeadsUse r) u us (leads_on u.kind u.number (All-head (IsLedUse r) u us h)) (uses_placed us (All-tail (IsLedUse r) u us h))
+  pub uses_placed : (us : List Use) → All (IsMappedUse r) us → All (MapsUse r) us
+  uses_placed [] h = All-nil (MapsUse r)
+  uses_placed (u ∷ us) h = All-cons (MapsUse r) u us (is_mapped u.kind u.number (All-head (IsMappedUse r) u us h)) (uses_placed us (All-tail (IsMappedUse r) u us h))
 
-  pub sets_placed : (ss : List NumberedSet) → All (IsLedUse r) (flat_map set_uses ss) → All (SetHasPlaces r) ss
+  pub sets_placed : (ss : List NumberedSet) → All (IsMappedUse r) (flat_map set_uses ss) → All (SetHasPlaces r) ss
   sets_placed [] h = All-nil (SetHasPlaces r)
-  sets_placed (s ∷ ss) h = All-cons (SetHasPlaces r) s ss (uses_placed (set_uses s) (all_front (IsLedUse r) (set_uses s) (flat_map set_uses ss) h)) (sets_placed ss (all_back (IsLedUse r) (set_uses s) (flat_map set_uses ss) h))
+  sets_placed (s ∷ ss) h = All-cons (SetHasPlaces r) s ss (uses_placed (set_uses s) (all_prefix (IsMappedUse r) (set_uses s) (flat_map set_uses ss) h)) (sets_placed ss (all_back (IsMappedUse r) (set_uses s) (flat_map set_uses ss) h))
 
 -- ---- from places to images
 
-pub uses_led : (r : Maps) (us : List Use) → All (LeadsUse r) us → All (IsLedUse r) us
-uses_led r [] h = All-nil (IsLedUse r)
-uses_led r (u ∷ us) h = All-cons (IsLedUse r) u us (subst IsSome (sym (All-head (LeadsUse r) u us h).1) refl) (uses_led r us (All-tail (LeadsUse r) u us h))
+pub uses_remapped : (r : Maps) (us : List Use) → All (MapsUse r) us → All (IsMappedUse r) us
+uses_remapped r [] h = All-nil (IsMappedUse r)
+uses_remapped r (u ∷ us) h = All-cons (IsMappedUse r) u us (subst IsSome (sym (All-head (MapsUse r) u us h).1) refl) (uses_remapped r us (All-tail (MapsUse r) u us h))
 
 -- ---- numbers of symbols, in a map that has an image for each number
 
-module _ (m : Mentions) (r : Maps) (all : LeadsAll m r) where
+module _ (m : Mentions) (r : Maps) (all : MapsAll m r) where
   mutual
-    pub known_value_led : (x : NumberedValue) → IsKnown m x → All (IsLedUse r) (value_uses x)
-    known_value_led (Plain l) h = All-nil (IsLedUse r)
-    known_value_led (Named x i) h = All-cons (IsLedUse r) (use_of (kind_of_reference x) i) [] (all (kind_of_reference x) i h) (All-nil (IsLedUse r))
-    known_value_led (Array xs) h = known_values_led xs h
-    known_value_led (Annotated t es) h = All-cons (IsLedUse r) (use_of kinds.Typ t) (elements_uses es) (all kinds.Typ t h.0) (known_elements_led es h.1)
+    pub known_value_remapped : (x : NumberedValue) → IsKnown m x → All (IsMappedUse r) (value_uses x)
+    known_value_remapped (Plain l) h = All-nil (IsMappedUse r)
+    known_value_remapped (Named x i) h = All-cons (IsMappedUse r) (use_of (kind_of_reference x) i) [] (all (kind_of_reference x) i h) (All-nil (IsMappedUse r))
+    known_value_remapped (Array xs) h = known_values_remapped xs h
+    known_value_remapped (Annotated t es) h = All-cons (IsMappedUse r) (use_of kinds.Typ t) (elements_uses es) (all kinds.Typ t h.0) (known_elements_remapped es h.1)
 
-    pub known_values_led : (xs : NumberedValues) → AreKnown m xs → All (IsLedUse r) (values_uses xs)
-    known_values_led NoValue h = All-nil (IsLedUse r)
-    known_values_led (ThenNext x xs) h = All-append (IsLedUse r) (value_uses x) (values_uses xs) (known_value_led x h.0) (known_values_led xs h.1)
+    pub known_values_remapped : (xs : NumberedValues) → AreKnown m xs → All (IsMappedUse r) (values_uses xs)
+    known_values_remapped NoValue h = All-nil (IsMappedUse r)
+    known_values_remapped (ThenNext x xs) h = All-append (IsMappedUse r) (value_uses x) (values_uses xs) (known_value_remapped x h.0) (known_values_remapped xs h.1)
 
-    known_elements_led : (es : NumberedElements) → HaveKnown m es → All (IsLedUse r) (elements_uses es)
-    known_elements_led NoElement h = All-nil (IsLedUse r)
-    known_elements_led (ThenNamed name x es) h =
-        All-cons (IsLedUse r) (use_of kinds.Text name) (value_uses x ++ elements_uses es) (all kinds.Text name h.0)
-        (All-append (IsLedUse r) (value_uses x) (elements_uses es) (known_value_led x h.1) (known_elements_led es h.2))
+    known_elements_remapped : (es : NumberedElements) → HaveKnown m es → All (IsMappedUse r) (elements_uses es)
+    known_elements_remapped NoElement h = All-nil (IsMappedUse r)
+    known_elements_remapped (ThenNamed name x es) h =
+        All-cons (IsMappedUse r) (use_of kinds.Text name) (value_uses x ++ elements_uses es) (all kinds.Text name h.0)
+        (All-append (IsMappedUse r) (value_uses x) (elements_uses es) (known_value_remapped x h.1) (known_elements_remapped es h.2))
 
-  known_annotation_led : (a : NumberedAnnotation) → IsKnownAnnotation m a → All (IsLedUse r) (annotation_uses a)
-  known_annotation_led a h = All-cons (IsLedUse r) (use_of kinds.Typ a.type) (elements_uses a.elements) (all kinds.Typ a.type h.type_in) (known_elements_led a.elements h.elements_known)
+  known_annotation_remapped : (a : NumberedAnnotation) → IsKnownAnnotation m a → All (IsMappedUse r) (annotation_uses a)
+  known_annotation_remapped a h = All-cons (IsMappedUse r) (use_of kinds.Typ a.type) (elements_uses a.elements) (all kinds.Typ a.type h.type_in) (known_elements_remapped a.elements h.elements_known)
 
-  pub known_set_led : (xs : NumberedSet) → IsKnownSet m xs → All (IsLedUse r) (set_uses xs)
-  known_set_led [] h = All-nil (IsLedUse r)
-  known_set_led (x ∷ xs) h =
-      All-append (IsLedUse r) (annotation_uses x) (set_uses xs) (known_annotation_led x (All-head (IsKnownAnnotation m) x xs h)) (known_set_led xs (All-tail (IsKnownAnnotation m) x xs h))
+  pub known_set_remapped : (xs : NumberedSet) → IsKnownSet m xs → All (IsMappedUse r) (set_uses xs)
+  known_set_remapped [] h = All-nil (IsMappedUse r)
+  known_set_remapped (x ∷ xs) h =
+      All-append (IsMappedUse r) (annotation_uses x) (set_uses xs) (known_annotation_remapped x (All-head (IsKnownAnnotation m) x xs h)) (known_set_remapped xs (All-tail (IsKnownAnnotation m) x xs h))
 
 -- each number of a value maps to a number of 32 bits
-pub value_has_places : (m n : Mentions) (r : Maps) (x : NumberedValue) → LeadsWithin n r → LeadsAll m r → ((kind : SymbolKind) → count_of kind n ≤ 2 ^ 32) → IsKnown m x → HasPlaces r x
-value_has_places m n r x within all few known = uses_placed r (join_within n r within few) (value_uses x) (known_value_led m r all x known)
+pub value_has_places : (m n : Mentions) (r : Maps) (x : NumberedValue) → MapsWithin n r → MapsAll m r → ((kind : SymbolKind) → count_of kind n ≤ 2 ^ 32) → IsKnown m x → HasPlaces r x
+value_has_places m n r x within all few known = uses_placed r (join_within n r within few) (value_uses x) (known_value_remapped m r all x known)
 
-pub values_have_places : (m n : Mentions) (r : Maps) (xs : NumberedValues) → LeadsWithin n r → LeadsAll m r → ((kind : SymbolKind) → count_of kind n ≤ 2 ^ 32) → AreKnown m xs → HavePlaces r xs
-values_have_places m n r xs within all few known = uses_placed r (join_within n r within few) (values_uses xs) (known_values_led m r all xs known)
+pub values_have_places : (m n : Mentions) (r : Maps) (xs : NumberedValues) → MapsWithin n r → MapsAll m r → ((kind : SymbolKind) → count_of kind n ≤ 2 ^ 32) → AreKnown m xs → HavePlaces r xs
+values_have_places m n r xs within all few known = uses_placed r (join_within n r within few) (values_uses xs) (known_values_remapped m r all xs known)
 
-pub set_has_places : (m n : Mentions) (r : Maps) (xs : NumberedSet) → LeadsWithin n r → LeadsAll m r → ((kind : SymbolKind) → count_of kind n ≤ 2 ^ 32) → IsKnownSet m xs → SetHasPlaces r xs
-set_has_places m n r xs within all few known = uses_placed r (join_within n r within few) (set_uses xs) (known_set_led m r all xs known)
+pub set_has_places : (m n : Mentions) (r : Maps) (xs : NumberedSet) → MapsWithin n r → MapsAll m r → ((kind : SymbolKind) → count_of kind n ≤ 2 ^ 32) → IsKnownSet m xs → SetHasPlaces r xs
+set_has_places m n r xs within all few known = uses_placed r (join_within n r within few) (set_uses xs) (known_set_remapped m r all xs known)

@@ -55,7 +55,7 @@ known_kept {X} Read weighs most before after item r passed counted =
       early = early;
       grown = λ within. counted (early within);
       heavy = λ over. elim (cases_lt most before) [
-        | inl passed_before ↦ omega (arith, passed_before)
+        | inl skipped_before ↦ omega (arith, skipped_before)
         | inr le ↦ omega (arith, over, counted le)
       ];
       whole = λ within. refl;
@@ -122,7 +122,7 @@ weights_join m list (s ∷ ss) none some =
 -- all sets with the list
 pub list_weighs : (b : List ℕ) (p : ℕ) (m : Mentions) (i list : ℕ) (ss : List NumberedSet) → (i ≡ 0 → list ≡ 0) → (0 < i → list ≡ 8 + 4 * i) → HaveReadList b p m i ss → list + sum_by (set_weight_in m) ss ≡ sets_weight_in m ss
 list_weighs b p m i list ss none some h =
-    let count : length ss ≡ i = omega (arith, length-zip (OrNone SetAt [] b) (uints_at b p i) (map (set_in m) ss) h.stand, length-uints_at b p i, length-map ss (set_in m)) in
+    let count : length ss ≡ i = omega (arith, length-zip (OrNone SetAt [] b) (uints_at b p i) (map (set_in m) ss) h.are_encoded, length-uints_at b p i, length-map ss (set_in m)) in
     weights_join m list ss (λ e. none (omega (arith, count, e))) (λ lt. omega (arith, count, lt, some (omega (arith, count, lt))))
 
 -- ---- members

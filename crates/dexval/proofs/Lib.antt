@@ -13,7 +13,7 @@ pub mod Growing
 pub mod Hashed
 pub mod Heads
 pub mod Images
-pub mod JudgedSets
+pub mod CachedSets
 pub mod Keeping
 pub mod LowBytes
 pub mod Marked
@@ -35,7 +35,7 @@ pub mod Spelled
 pub mod Spelling
 pub mod TableGrowth
 pub mod Tables
-pub mod TablesLed
+pub mod TablesRemapped
 pub mod ValueForms
 pub mod ValuesRead
 pub mod Weights

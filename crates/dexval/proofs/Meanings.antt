@@ -13,12 +13,12 @@ use Rattle.dexpool.specs.declared.symbols.SymbolKind.{SymbolKind}
 use Rattle.dexpool.specs.declared.symbols.SymbolKind.TheVariants as kinds
 use Rattle.dexpool.specs.declared.marks.Marks.{Marks}
 use Rattle.std.specs.Option.{IsSome}
-use Rattle.dexpool.specs.Numberings.{IsAt, IsNumbered, IsOfKind, AreMarksOf, Maps, image, image_of, Leads, AllLead}
-use Rattle.dexval.specs.Numbered.{Literal, ByteLiteral, ShortLiteral, CharLiteral, IntLiteral, LongLiteral, FloatLiteral, DoubleLiteral, NullLiteral, BooleanLiteral, Reference, StringReference, TypeReference, FieldReference, MethodReference, EnumReference, NumberedValue, NumberedValues, NumberedElements, NumberedAnnotation, NumberedSet, Plain, Named, Array, Annotated, NoValue, ThenNext, NoElement, ThenNamed, text_at, type_at, field_at, method_at, plain_value, named_value, kind_of_reference, value_in, values_in, elements_in, annotation_in, set_in, IsKnown, AreKnown, HaveKnown, IsKnownAnnotation, IsKnownSet, StandsFor, StandFor, StandsForSet}
-use Rattle.dexval.specs.Renumbering.{led, renumbered, renumbered_values, renumbered_elements, renumbered_annotation, renumbered_set}
-use Rattle.dexpool.specs.Uses.{Use, IsUseOf, IsLedUse, HasMark, marks_of}
+use Rattle.dexpool.specs.Numberings.{IsAt, IsNumbered, IsOfKind, AreMarksOf, Maps, image, image_of, MapsTo, AllMapTo}
+use Rattle.dexval.specs.Numbered.{Literal, ByteLiteral, ShortLiteral, CharLiteral, IntLiteral, LongLiteral, FloatLiteral, DoubleLiteral, NullLiteral, BooleanLiteral, Reference, StringReference, TypeReference, FieldReference, MethodReference, EnumReference, NumberedValue, NumberedValues, NumberedElements, NumberedAnnotation, NumberedSet, Plain, Named, Array, Annotated, NoValue, ThenNext, NoElement, ThenNamed, text_at, type_at, field_at, method_at, plain_value, named_value, kind_of_reference, value_in, values_in, elements_in, annotation_in, set_in, IsKnown, AreKnown, HaveKnown, IsKnownAnnotation, IsKnownSet, Denotes, Denote, DenotesSet}
+use Rattle.dexval.specs.Renumbering.{remapped, renumbered, renumbered_values, renumbered_elements, renumbered_annotation, renumbered_set}
+use Rattle.dexpool.specs.Uses.{Use, IsUseOf, IsMappedUse, HasMark, marks_of}
 use Rattle.dexval.specs.Uses.{value_uses, values_uses, elements_uses, annotation_uses, set_uses}
-use Rattle.dexpool.proofs.Parts.{all_front, all_back}
+use Rattle.dexpool.proofs.Parts.{all_prefix, all_back}
 
 abbrev no_field : Field
 no_field = record { class = []; name = []; type = [] }
@@ -37,9 +37,9 @@ annotation_with v t es = record { visibility = v; type = t; elements = es }
 -- ---- other numbers
 
 -- a number is mapped to the number of the same member
-led_on : {X : Type 0} (from to : List X) (images : List (Option ℕ)) (i j : ℕ) (d : X) → Leads from to images → image images i ≡ Some j
+remapped_to : {X : Type 0} (from to : List X) (images : List (Option ℕ)) (i j : ℕ) (d : X) → MapsTo from to images → image images i ≡ Some j
     → (unwrap_or (image images i) i < length to) × (get_or to (unwrap_or (image images i) i) d ≡ get_or from i d)
-led_on from to images i j d l e =
+remapped_to from to images i j d l e =
     let at = l.same i j d e in
     let is : unwrap_or (image images i) i ≡ j = ap (λ (o : Option ℕ). unwrap_or o i) e in
     (subst (λ (k : ℕ). k < length to) (sym is) at.within, ap (λ (k : ℕ). get_or to k d) is ∙ at.is d)
@@ -48,82 +48,82 @@ some_of : (o : Option ℕ) → IsSome o → (j : ℕ) × (o ≡ Some j)
 some_of None h = absurd cc
 some_of (Some j) h = (j, refl)
 
-module _ (m n : Mentions) (r : Maps) (leads : AllLead m n r) where
-  text_led : (i : ℕ) → IsSome (image r.texts i) → (led r kinds.Text i < length n.texts) × (text_at n (led r kinds.Text i) ≡ text_at m i)
-  text_led i h = let at = some_of (image r.texts i) h in led_on m.texts n.texts r.texts i at.0 [] leads.texts_lead at.1
+module _ (m n : Mentions) (r : Maps) (maps_to : AllMapTo m n r) where
+  text_remapped : (i : ℕ) → IsSome (image r.texts i) → (remapped r kinds.Text i < length n.texts) × (text_at n (remapped r kinds.Text i) ≡ text_at m i)
+  text_remapped i h = let at = some_of (image r.texts i) h in remapped_to m.texts n.texts r.texts i at.0 [] maps_to.texts_mapped at.1
 
-  type_led : (i : ℕ) → IsSome (image r.types i) → (led r kinds.Typ i < length n.types) × (type_at n (led r kinds.Typ i) ≡ type_at m i)
-  type_led i h = let at = some_of (image r.types i) h in led_on m.types n.types r.types i at.0 [] leads.types_lead at.1
+  type_remapped : (i : ℕ) → IsSome (image r.types i) → (remapped r kinds.Typ i < length n.types) × (type_at n (remapped r kinds.Typ i) ≡ type_at m i)
+  type_remapped i h = let at = some_of (image r.types i) h in remapped_to m.types n.types r.types i at.0 [] maps_to.types_mapped at.1
 
-  field_led : (i : ℕ) → IsSome (image r.fields i) → (led r kinds.Field i < length n.fields) × (field_at n (led r kinds.Field i) ≡ field_at m i)
-  field_led i h = let at = some_of (image r.fields i) h in led_on m.fields n.fields r.fields i at.0 no_field leads.fields_lead at.1
+  field_remapped : (i : ℕ) → IsSome (image r.fields i) → (remapped r kinds.Field i < length n.fields) × (field_at n (remapped r kinds.Field i) ≡ field_at m i)
+  field_remapped i h = let at = some_of (image r.fields i) h in remapped_to m.fields n.fields r.fields i at.0 no_field maps_to.fields_mapped at.1
 
-  method_led : (i : ℕ) → IsSome (image r.methods i) → (led r kinds.Method i < length n.methods) × (method_at n (led r kinds.Method i) ≡ method_at m i)
-  method_led i h = let at = some_of (image r.methods i) h in led_on m.methods n.methods r.methods i at.0 no_method leads.methods_lead at.1
+  method_remapped : (i : ℕ) → IsSome (image r.methods i) → (remapped r kinds.Method i < length n.methods) × (method_at n (remapped r kinds.Method i) ≡ method_at m i)
+  method_remapped i h = let at = some_of (image r.methods i) h in remapped_to m.methods n.methods r.methods i at.0 no_method maps_to.methods_mapped at.1
 
-  named_led : (x : Reference) (i : ℕ) → IsSome (image_of r (kind_of_reference x) i) → IsKnown n (renumbered r (Named x i)) × (value_in n (renumbered r (Named x i)) ≡ value_in m (Named x i))
-  named_led StringReference i h = let t = text_led i h in (t.0, ap StringValue t.1)
-  named_led TypeReference i h = let t = type_led i h in (t.0, ap TypeValue t.1)
-  named_led FieldReference i h = let t = field_led i h in (t.0, ap FieldValue t.1)
-  named_led MethodReference i h = let t = method_led i h in (t.0, ap MethodValue t.1)
-  named_led EnumReference i h = let t = field_led i h in (t.0, ap EnumValue t.1)
+  named_remapped : (x : Reference) (i : ℕ) → IsSome (image_of r (kind_of_reference x) i) → IsKnown n (renumbered r (Named x i)) × (value_in n (renumbered r (Named x i)) ≡ value_in m (Named x i))
+  named_remapped StringReference i h = let t = text_remapped i h in (t.0, ap StringValue t.1)
+  named_remapped TypeReference i h = let t = type_remapped i h in (t.0, ap TypeValue t.1)
+  named_remapped FieldReference i h = let t = field_remapped i h in (t.0, ap FieldValue t.1)
+  named_remapped MethodReference i h = let t = method_remapped i h in (t.0, ap MethodValue t.1)
+  named_remapped EnumReference i h = let t = field_remapped i h in (t.0, ap EnumValue t.1)
 
   mutual
-    value_led : (x : NumberedValue) → All (IsLedUse r) (value_uses x) → IsKnown n (renumbered r x) × (value_in n (renumbered r x) ≡ value_in m x)
-    value_led (Plain l) h = (tt, refl)
-    value_led (Named x i) h = named_led x i (All-head (IsLedUse r) (use_of (kind_of_reference x) i) [] h)
-    value_led (Array xs) h = let t = values_led xs h in (t.0, ap ArrayValue t.1)
-    value_led (Annotated t es) h =
-        let typ = type_led t (All-head (IsLedUse r) (use_of kinds.Typ t) (elements_uses es) h) in
-        let elements = elements_led es (All-tail (IsLedUse r) (use_of kinds.Typ t) (elements_uses es) h) in
+    value_remapped : (x : NumberedValue) → All (IsMappedUse r) (value_uses x) → IsKnown n (renumbered r x) × (value_in n (renumbered r x) ≡ value_in m x)
+    value_remapped (Plain l) h = (tt, refl)
+    value_remapped (Named x i) h = named_remapped x i (All-head (IsMappedUse r) (use_of (kind_of_reference x) i) [] h)
+    value_remapped (Array xs) h = let t = values_remapped xs h in (t.0, ap ArrayValue t.1)
+    value_remapped (Annotated t es) h =
+        let typ = type_remapped t (All-head (IsMappedUse r) (use_of kinds.Typ t) (elements_uses es) h) in
+        let elements = elements_remapped es (All-tail (IsMappedUse r) (use_of kinds.Typ t) (elements_uses es) h) in
         ((typ.0, elements.0), ap (λ (s : Text). AnnotationValue s (elements_in n (renumbered_elements r es))) typ.1 ∙ ap (AnnotationValue (type_at m t)) elements.1)
 
-    values_led : (xs : NumberedValues) → All (IsLedUse r) (values_uses xs) → AreKnown n (renumbered_values r xs) × (values_in n (renumbered_values r xs) ≡ values_in m xs)
-    values_led NoValue h = (tt, refl)
-    values_led (ThenNext x xs) h =
-        let first = value_led x (all_front (IsLedUse r) (value_uses x) (values_uses xs) h) in
-        let rest = values_led xs (all_back (IsLedUse r) (value_uses x) (values_uses xs) h) in
+    values_remapped : (xs : NumberedValues) → All (IsMappedUse r) (values_uses xs) → AreKnown n (renumbered_values r xs) × (values_in n (renumbered_values r xs) ≡ values_in m xs)
+    values_remapped NoValue h = (tt, refl)
+    values_remapped (ThenNext x xs) h =
+        let first = value_remapped x (all_prefix (IsMappedUse r) (value_uses x) (values_uses xs) h) in
+        let rest = values_remapped xs (all_back (IsMappedUse r) (value_uses x) (values_uses xs) h) in
         ((first.0, rest.0), ap (λ (v : Value). ThenValue v (values_in n (renumbered_values r xs))) first.1 ∙ ap (ThenValue (value_in m x)) rest.1)
 
-    elements_led : (es : NumberedElements) → All (IsLedUse r) (elements_uses es) → HaveKnown n (renumbered_elements r es) × (elements_in n (renumbered_elements r es) ≡ elements_in m es)
-    elements_led NoElement h = (tt, refl)
-    elements_led (ThenNamed name x es) h =
-        let named = text_led name (All-head (IsLedUse r) (use_of kinds.Text name) (value_uses x ++ elements_uses es) h) in
-        let behind = All-tail (IsLedUse r) (use_of kinds.Text name) (value_uses x ++ elements_uses es) h in
-        let first = value_led x (all_front (IsLedUse r) (value_uses x) (elements_uses es) behind) in
-        let rest = elements_led es (all_back (IsLedUse r) (value_uses x) (elements_uses es) behind) in (
+    elements_remapped : (es : NumberedElements) → All (IsMappedUse r) (elements_uses es) → HaveKnown n (renumbered_elements r es) × (elements_in n (renumbered_elements r es) ≡ elements_in m es)
+    elements_remapped NoElement h = (tt, refl)
+    elements_remapped (ThenNamed name x es) h =
+        let named = text_remapped name (All-head (IsMappedUse r) (use_of kinds.Text name) (value_uses x ++ elements_uses es) h) in
+        let following = All-tail (IsMappedUse r) (use_of kinds.Text name) (value_uses x ++ elements_uses es) h in
+        let first = value_remapped x (all_prefix (IsMappedUse r) (value_uses x) (elements_uses es) following) in
+        let rest = elements_remapped es (all_back (IsMappedUse r) (value_uses x) (elements_uses es) following) in (
           (named.0, first.0, rest.0),
           ap (λ (s : Text). ThenElement s (value_in n (renumbered r x)) (elements_in n (renumbered_elements r es))) named.1
               ∙ ap (λ (v : Value). ThenElement (text_at m name) v (elements_in n (renumbered_elements r es))) first.1
               ∙ ap (ThenElement (text_at m name) (value_in m x)) rest.1,
         )
 
-  annotation_led : (a : NumberedAnnotation) → All (IsLedUse r) (annotation_uses a) → IsKnownAnnotation n (renumbered_annotation r a) × (annotation_in n (renumbered_annotation r a) ≡ annotation_in m a)
-  annotation_led a h =
-      let typ = type_led a.type (All-head (IsLedUse r) (use_of kinds.Typ a.type) (elements_uses a.elements) h) in
-      let elements = elements_led a.elements (All-tail (IsLedUse r) (use_of kinds.Typ a.type) (elements_uses a.elements) h) in (
+  annotation_remapped : (a : NumberedAnnotation) → All (IsMappedUse r) (annotation_uses a) → IsKnownAnnotation n (renumbered_annotation r a) × (annotation_in n (renumbered_annotation r a) ≡ annotation_in m a)
+  annotation_remapped a h =
+      let typ = type_remapped a.type (All-head (IsMappedUse r) (use_of kinds.Typ a.type) (elements_uses a.elements) h) in
+      let elements = elements_remapped a.elements (All-tail (IsMappedUse r) (use_of kinds.Typ a.type) (elements_uses a.elements) h) in (
         record { type_in = typ.0; elements_known = elements.0 },
         ap (λ (t : Text). annotation_with a.visibility t (elements_in n (renumbered_elements r a.elements))) typ.1 ∙ ap (annotation_with a.visibility (type_at m a.type)) elements.1,
       )
 
-  set_led : (xs : NumberedSet) → All (IsLedUse r) (set_uses xs) → IsKnownSet n (renumbered_set r xs) × (set_in n (renumbered_set r xs) ≡ set_in m xs)
-  set_led [] h = (All-nil (IsKnownAnnotation n), refl)
-  set_led (x ∷ xs) h =
-      let first = annotation_led x (all_front (IsLedUse r) (annotation_uses x) (set_uses xs) h) in
-      let rest = set_led xs (all_back (IsLedUse r) (annotation_uses x) (set_uses xs) h) in
+  set_remapped : (xs : NumberedSet) → All (IsMappedUse r) (set_uses xs) → IsKnownSet n (renumbered_set r xs) × (set_in n (renumbered_set r xs) ≡ set_in m xs)
+  set_remapped [] h = (All-nil (IsKnownAnnotation n), refl)
+  set_remapped (x ∷ xs) h =
+      let first = annotation_remapped x (all_prefix (IsMappedUse r) (annotation_uses x) (set_uses xs) h) in
+      let rest = set_remapped xs (all_back (IsMappedUse r) (annotation_uses x) (set_uses xs) h) in
       (All-cons (IsKnownAnnotation n) (renumbered_annotation r x) (renumbered_set r xs) first.0 rest.0, ap (λ (a : Annotation). a ∷ set_in n (renumbered_set r xs)) first.1 ∙ ap (λ (l : AnnotationSet). annotation_in m x ∷ l) rest.1)
 
 -- a remapped value denotes the same value
-pub value_keeps : (m n : Mentions) (r : Maps) (x : NumberedValue) (v : Value) → AllLead m n r → All (IsLedUse r) (value_uses x) → StandsFor m x v → StandsFor n (renumbered r x) v
-value_keeps m n r x v leads images h = let t = value_led m n r leads x images in record { known = t.0; means = t.1 ∙ h.means }
+pub value_keeps : (m n : Mentions) (r : Maps) (x : NumberedValue) (v : Value) → AllMapTo m n r → All (IsMappedUse r) (value_uses x) → Denotes m x v → Denotes n (renumbered r x) v
+value_keeps m n r x v maps_to images h = let t = value_remapped m n r maps_to x images in record { known = t.0; means = t.1 ∙ h.means }
 
 -- values
-pub values_keep : (m n : Mentions) (r : Maps) (xs : NumberedValues) (vs : Values) → AllLead m n r → All (IsLedUse r) (values_uses xs) → StandFor m xs vs → StandFor n (renumbered_values r xs) vs
-values_keep m n r xs vs leads images h = let t = values_led m n r leads xs images in record { known = t.0; mean = t.1 ∙ h.mean }
+pub values_keep : (m n : Mentions) (r : Maps) (xs : NumberedValues) (vs : Values) → AllMapTo m n r → All (IsMappedUse r) (values_uses xs) → Denote m xs vs → Denote n (renumbered_values r xs) vs
+values_keep m n r xs vs maps_to images h = let t = values_remapped m n r maps_to xs images in record { known = t.0; mean = t.1 ∙ h.mean }
 
 -- a set
-pub set_keeps : (m n : Mentions) (r : Maps) (xs : NumberedSet) (s : AnnotationSet) → AllLead m n r → All (IsLedUse r) (set_uses xs) → StandsForSet m xs s → StandsForSet n (renumbered_set r xs) s
-set_keeps m n r xs s leads images h = let t = set_led m n r leads xs images in record { known = t.0; means = t.1 ∙ h.means }
+pub set_keeps : (m n : Mentions) (r : Maps) (xs : NumberedSet) (s : AnnotationSet) → AllMapTo m n r → All (IsMappedUse r) (set_uses xs) → DenotesSet m xs s → DenotesSet n (renumbered_set r xs) s
+set_keeps m n r xs s maps_to images h = let t = set_remapped m n r maps_to xs images in record { known = t.0; means = t.1 ∙ h.means }
 
 -- ---- the symbols that occur
 
@@ -180,16 +180,16 @@ module _ (m : Mentions) where
       zip_both (IsUseOf m) (annotation_uses x) (set_uses xs) (annotation_symbols (annotation_in m x)) (set_symbols (set_in m xs)) (annotation_used x (All-head (IsKnownAnnotation m) x xs h)) (set_used xs (All-tail (IsKnownAnnotation m) x xs h))
 
 -- the symbols of a value, one for one
-pub value_stands : (m : Mentions) (x : NumberedValue) (v : Value) → StandsFor m x v → AllZip (IsUseOf m) (value_uses x) (value_symbols v)
-value_stands m x v h = subst (λ (w : Value). AllZip (IsUseOf m) (value_uses x) (value_symbols w)) h.means (value_used m x h.known)
+pub value_encoded : (m : Mentions) (x : NumberedValue) (v : Value) → Denotes m x v → AllZip (IsUseOf m) (value_uses x) (value_symbols v)
+value_encoded m x v h = subst (λ (w : Value). AllZip (IsUseOf m) (value_uses x) (value_symbols w)) h.means (value_used m x h.known)
 
 -- of values
-pub values_stand : (m : Mentions) (xs : NumberedValues) (vs : Values) → StandFor m xs vs → AllZip (IsUseOf m) (values_uses xs) (values_symbols vs)
-values_stand m xs vs h = subst (λ (w : Values). AllZip (IsUseOf m) (values_uses xs) (values_symbols w)) h.mean (values_used m xs h.known)
+pub values_encoded : (m : Mentions) (xs : NumberedValues) (vs : Values) → Denote m xs vs → AllZip (IsUseOf m) (values_uses xs) (values_symbols vs)
+values_encoded m xs vs h = subst (λ (w : Values). AllZip (IsUseOf m) (values_uses xs) (values_symbols w)) h.mean (values_used m xs h.known)
 
 -- of a set
-pub set_stands : (m : Mentions) (xs : NumberedSet) (s : AnnotationSet) → StandsForSet m xs s → AllZip (IsUseOf m) (set_uses xs) (set_symbols s)
-set_stands m xs s h = subst (λ (w : AnnotationSet). AllZip (IsUseOf m) (set_uses xs) (set_symbols w)) h.means (set_used m xs h.known)
+pub set_encoded : (m : Mentions) (xs : NumberedSet) (s : AnnotationSet) → DenotesSet m xs s → AllZip (IsUseOf m) (set_uses xs) (set_symbols s)
+set_encoded m xs s h = subst (λ (w : AnnotationSet). AllZip (IsUseOf m) (set_uses xs) (set_symbols w)) h.means (set_used m xs h.known)
 
 -- ---- marks
 

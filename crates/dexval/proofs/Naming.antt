@@ -2,19 +2,19 @@
 use Rattle.std.proofs.Common.{◌≡◌, ◌⊎◌, ℕ, ◌<◌, List, [], ◌∷◌, ◌++◌, length, ap, sym, subst, inl, inr, arith, Option, Some}
 use Rattle.std.specs.List.{All, Contains}
 use Rattle.std.proofs.lemmas.List.Elements.{All-append, All-cons, All-nil, Contains-append_left, Contains-push}
-use Rattle.dexval.specs.declared.judged.Judged.{Judged}
-use Rattle.dexval.specs.Judged.{IsNoted, IsNamedOf}
+use Rattle.dexval.specs.declared.directory_cache.DirectoryCache.{DirectoryCache}
+use Rattle.dexval.specs.DirectoryCache.{IsNoted, IsNamedOf}
 use Rattle.dexval.specs.Numbered.{NumberedSet}
 use Rattle.dexval.specs.Shared.{HoldsPlaces, NamesAll, IsNamedBy, sets_of_members}
 use Rattle.dexval.specs.Tables.{NumberedTable, Extends, IsListed, IsPlaceIn, set_at}
-use Rattle.dexval.proofs.JudgedSets.{one_place}
+use Rattle.dexval.proofs.CachedSets.{one_place}
 use Rattle.dexval.proofs.TableGrowth.{extends_then, new_then}
 use Rattle.dexval.proofs.Tables.{map_stays, all_as}
 
 -- ---- lists of sets
 
 -- one more set is read, and its place is put into the list, or not all is kept
-pub list_step : {W V : Type 0} (old mid new : Judged) (ps qs : List (Option ℕ)) (place : Option ℕ) → (V → W)
+pub list_step : {W V : Type 0} (old mid new : DirectoryCache) (ps qs : List (Option ℕ)) (place : Option ℕ) → (V → W)
     → IsNoted (λ i. Contains ps (Some i)) (λ i. ⊥) (All (IsPlaceIn mid.table.sets) ps) W old mid → IsNoted (λ i. place ≡ Some i) (λ i. ⊥) (IsPlaceIn new.table.sets place) V mid new
     → (qs ≡ ps ++ place ∷ []) ⊎ ((qs ≡ ps) × (V → ⊥)) → IsNoted (λ i. Contains qs (Some i)) (λ i. ⊥) (All (IsPlaceIn new.table.sets) qs) V old new
 list_step {W} {V} old mid new ps qs place early h g next =
@@ -34,13 +34,13 @@ list_step {W} {V} old mid new ps qs place early h g next =
 -- ---- members
 
 -- the property holds for each of these members
-abbrev pub AreNoted : (NumberedTable → Option ℕ → Type 0) → (NumberedTable → Option ℕ → ℕ → Type 0) → (Option ℕ → ℕ → Type 0) → Type 0 → Judged → Judged → List (ℕ × ℕ) → Type 0
+abbrev pub AreNoted : (NumberedTable → Option ℕ → Type 0) → (NumberedTable → Option ℕ → ℕ → Type 0) → (Option ℕ → ℕ → Type 0) → Type 0 → DirectoryCache → DirectoryCache → List (ℕ × ℕ) → Type 0
 AreNoted is_held names_set names_list W old new es = IsNoted (IsNamedOf (names_set new.table) es) (IsNamedOf names_list es) (All (λ e. is_held new.table (Some e.1)) es) W old new
 
 module _ (is_held : NumberedTable → Option ℕ → Type 0) (names_set : NumberedTable → Option ℕ → ℕ → Type 0) (names_list : Option ℕ → ℕ → Type 0) (holds : (t u : NumberedTable) (place : Option ℕ) → Extends t u → is_held t place → is_held u place)
     (names : (t u : NumberedTable) (place : Option ℕ) (i : ℕ) → Extends t u → names_set t place i → names_set u place i) where
   -- one more member is read and added, or not all is kept
-  pub members_step : {W V : Type 0} (old mid new : Judged) (es fs : List (ℕ × ℕ)) (number : ℕ) (place : Option ℕ) → (V → W) → AreNoted is_held names_set names_list W old mid es → IsNoted (names_set new.table place) (names_list place) (is_held new.table place) V mid new
+  pub members_step : {W V : Type 0} (old mid new : DirectoryCache) (es fs : List (ℕ × ℕ)) (number : ℕ) (place : Option ℕ) → (V → W) → AreNoted is_held names_set names_list W old mid es → IsNoted (names_set new.table place) (names_list place) (is_held new.table place) V mid new
       → ((p : ℕ) × (place ≡ Some p) × (fs ≡ es ++ (number, p) ∷ [])) ⊎ ((fs ≡ es) × (V → ⊥)) → AreNoted is_held names_set names_list V old new fs
   members_step {W} {V} old mid new es fs number place early h g next =
       let extended = extends_then old.table mid.table new.table h.extended g.extended in
@@ -73,7 +73,7 @@ named_by es i h = (h.0, subst (λ (p : ℕ). Contains es (h.0, p)) (one_place h.
 none_in : {X : Type 0} (xs : List X) (i : ℕ) → xs ≡ [] → i < length xs → ⊥
 none_in xs i e lt = let n : length xs ≡ 0 = ap length e in omega (arith, n, lt)
 
-module _ (old first second third new : Judged) (own : Option ℕ) (fields methods parameters : List (ℕ × ℕ)) {OwnKept FieldsKept MethodsKept ParametersKept : Type 0} (of_own : IsNoted (λ i. own ≡ Some i) (λ i. ⊥) (IsPlaceIn first.table.sets own) OwnKept old first)
+module _ (old first second third new : DirectoryCache) (own : Option ℕ) (fields methods parameters : List (ℕ × ℕ)) {OwnKept FieldsKept MethodsKept ParametersKept : Type 0} (of_own : IsNoted (λ i. own ≡ Some i) (λ i. ⊥) (IsPlaceIn first.table.sets own) OwnKept old first)
     (of_fields : IsNoted (IsNamedOf (λ place i. place ≡ Some i) fields) (IsNamedOf (λ place i. ⊥) fields) (All (λ e. IsPlaceIn second.table.sets (Some e.1)) fields) FieldsKept first second)
     (of_methods : IsNoted (IsNamedOf (λ place i. place ≡ Some i) methods) (IsNamedOf (λ place i. ⊥) methods) (All (λ e. IsPlaceIn third.table.sets (Some e.1)) methods) MethodsKept second third)
     (of_parameters : IsNoted (IsNamedOf (λ place i. IsListed new.table i) parameters) (IsNamedOf (λ place i. place ≡ Some i) parameters) (All (λ e. IsPlaceIn new.table.lists (Some e.1)) parameters) ParametersKept third new) where

@@ -11,7 +11,7 @@ use Rattle.dexval.specs.Numbered.{NumberedValue, Plain, Named, Array, Annotated,
 use Rattle.dexval.specs.internal.Scalars.{NoValueAt, IsReadAt}
 use Rattle.dexval.specs.Spelled.{values_count, numbered_weight, numbered_values_weight, numbered_elements_weight}
 use Rattle.dexval.proofs.ElementsRead.{HaveReadOf, no_element_read, one_element_more, no_next_element, all_elements_read, annotation_read}
-use Rattle.dexval.proofs.NestedRead.{array_stands, annotation_stands}
+use Rattle.dexval.proofs.NestedRead.{array_encoded, annotation_encoded}
 use Rattle.dexval.proofs.ValuesRead.{HaveRead, none_read, one_more, no_next, no_values, all_read}
 
 -- a value that holds no other value weighs 9
@@ -22,15 +22,15 @@ flat_weight m (Array xs) flat = absurd (omega (arith, flat))
 flat_weight m (Annotated t es) flat = absurd (omega (arith, flat))
 
 pub flat_checked : (b : List ℕ) (o : ℕ) (m : Mentions) (depth : ℕ) (x : NumberedValue) (n : ℕ) → IsReadAt b o m 0 x n → HasValue b o m depth n 9
-flat_checked b o m depth x n h = record { value = x; read = record { known = h.known; stands = h.stands; shallow = omega (arith, h.shallow) }; weighs = flat_weight m x h.shallow }
+flat_checked b o m depth x n h = record { value = x; read = record { known = h.known; encodes = h.encodes; shallow = omega (arith, h.shallow) }; weighs = flat_weight m x h.shallow }
 
 -- an array and an annotation as values
 module _ (b : List ℕ) (o : ℕ) (m : Mentions) (depth : ℕ) (pools : ArePools b m) where
   pub array_checked : (count n weight : ℕ) → o < length b → slice_index b o ≡ 28 → depth ≢ 0 → HasArray b (o + 1) m (depth - 1) count n weight → HasValue b o m depth (1 + n) (6 + weight)
-  array_checked count n weight lt is some h = record { value = Array h.values; read = array_stands b o depth m pools h.values n lt is some h.read; weighs = ap (λ (k : ℕ). 6 + k) h.weighs }
+  array_checked count n weight lt is some h = record { value = Array h.values; read = array_encoded b o depth m pools h.values n lt is some h.read; weighs = ap (λ (k : ℕ). 6 + k) h.weighs }
 
   pub annotation_checked : (typ n weight : ℕ) → o < length b → slice_index b o ≡ 29 → depth ≢ 0 → HasAnnotation b (o + 1) m (depth - 1) typ n weight → HasValue b o m depth (1 + n) weight
-  annotation_checked typ n weight lt is some h = record { value = Annotated typ h.elements; read = annotation_stands b o depth m pools typ h.elements n lt is some h.read; weighs = h.weighs }
+  annotation_checked typ n weight lt is some h = record { value = Annotated typ h.elements; read = annotation_encoded b o depth m pools typ h.elements n lt is some h.read; weighs = h.weighs }
 
 -- ---- values
 

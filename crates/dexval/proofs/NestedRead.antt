@@ -7,7 +7,7 @@ use Rattle.dexpool.specs.Pools.{ArePools}
 use Rattle.dexval.specs.Numbered.{NumberedValue, NumberedValues, NumberedElements, Array, Annotated}
 use Rattle.dexval.specs.internal.Scalars.{NoValueAt, IsReadAt}
 use Rattle.dexval.specs.Nesting.{NoArrayAt, AreReadAt, NoAnnotationAt, IsAnnotationReadAt}
-use Rattle.dexval.proofs.Shapes.{stands_byte, value_within, array_only, annotation_only}
+use Rattle.dexval.proofs.Shapes.{is_at_byte, value_within, array_only, annotation_only}
 
 -- a result is not both a value and an error
 pub ok_no_err : {A E : Type 0} (r : Result A E) (x : A) (e : E) → r ≡ Ok x → r ≡ Err e → ⊥
@@ -15,8 +15,8 @@ ok_no_err r x e p q = absurd cc
 
 module _ (b : List ℕ) (o depth : ℕ) (m : Mentions) (p : ArePools b m) where
   -- there is no value after the end
-  pub nothing_behind : length b ≤ o → NoValueAt b o depth
-  nothing_behind le v n h d = omega (arith, value_within b o m v n p h)
+  pub nothing_after : length b ≤ o → NoValueAt b o depth
+  nothing_after le v n h d = omega (arith, value_within b o m v n p h)
 
   -- without depth there is no value that holds other values
   pub no_deep_array : slice_index b o ≡ 28 → depth ≡ 0 → NoValueAt b o depth
@@ -32,8 +32,8 @@ module _ (b : List ℕ) (o depth : ℕ) (m : Mentions) (p : ArePools b m) where
       omega (arith, deep)
 
   -- an array after its first byte
-  pub array_stands : (xs : NumberedValues) (n : ℕ) → o < length b → slice_index b o ≡ 28 → depth ≢ 0 → AreReadAt b (o + 1) m (depth - 1) xs n → IsReadAt b o m depth (Array xs) (1 + n)
-  array_stands xs n lt is some r = record { known = r.known; stands = (stands_byte b o 28 lt is, n, r.stands, refl); shallow = omega (arith, r.shallow, some) }
+  pub array_encoded : (xs : NumberedValues) (n : ℕ) → o < length b → slice_index b o ≡ 28 → depth ≢ 0 → AreReadAt b (o + 1) m (depth - 1) xs n → IsReadAt b o m depth (Array xs) (1 + n)
+  array_encoded xs n lt is some r = record { known = r.known; encodes = (is_at_byte b o 28 lt is, n, r.encodes, refl); shallow = omega (arith, r.shallow, some) }
 
   pub no_array : slice_index b o ≡ 28 → NoArrayAt b (o + 1) (depth - 1) → NoValueAt b o depth
   no_array is none v n h d =
@@ -43,8 +43,8 @@ module _ (b : List ℕ) (o depth : ℕ) (m : Mentions) (p : ArePools b m) where
       none a.0 w.1 w.2 (omega (arith, deep))
 
   -- an annotation after its first byte
-  pub annotation_stands : (t : ℕ) (es : NumberedElements) (n : ℕ) → o < length b → slice_index b o ≡ 29 → depth ≢ 0 → IsAnnotationReadAt b (o + 1) m (depth - 1) t es n → IsReadAt b o m depth (Annotated t es) (1 + n)
-  annotation_stands t es n lt is some r = record { known = (r.type_known, r.known); stands = (stands_byte b o 29 lt is, n, r.stands, refl); shallow = omega (arith, r.shallow, some) }
+  pub annotation_encoded : (t : ℕ) (es : NumberedElements) (n : ℕ) → o < length b → slice_index b o ≡ 29 → depth ≢ 0 → IsAnnotationReadAt b (o + 1) m (depth - 1) t es n → IsReadAt b o m depth (Annotated t es) (1 + n)
+  annotation_encoded t es n lt is some r = record { known = (r.type_known, r.known); encodes = (is_at_byte b o 29 lt is, n, r.encodes, refl); shallow = omega (arith, r.shallow, some) }
 
   pub no_annotation : slice_index b o ≡ 29 → NoAnnotationAt b (o + 1) (depth - 1) → NoValueAt b o depth
   no_annotation is none v n h d =
@@ -56,4 +56,4 @@ module _ (b : List ℕ) (o depth : ℕ) (m : Mentions) (p : ArePools b m) where
   -- a value that holds no other value nests at most as deep as any bound
   pub deeper : {X : Type 0} (x_of : X → NumberedValue) (n_of : X → ℕ) (r : Option X) → MatchOption r ((d : ℕ) → NoValueAt b o d) (λ x. IsReadAt b o m 0 (x_of x) (n_of x)) → MatchOption r (NoValueAt b o depth) (λ x. IsReadAt b o m depth (x_of x) (n_of x))
   deeper x_of n_of None h = h depth
-  deeper x_of n_of (Some x) h = record { known = h.known; stands = h.stands; shallow = omega (arith, h.shallow) }
+  deeper x_of n_of (Some x) h = record { known = h.known; encodes = h.encodes; shallow = omega (arith, h.shallow) }

@@ -15,11 +15,11 @@ use Rattle.dexspec.proofs.size.SizeItems.{offsets_bytes-size}
 use Rattle.dexspec.specs.Annotations.{AnnotationSet}
 use Rattle.dexspec.specs.Mentions.{Mentions}
 use Rattle.dexspec.specs.Spellings.{annotation_bytes, offsets_bytes}
-use Rattle.dexspec.specs.Aside.Writing.{Puts}
+use Rattle.dexspec.specs.internal.Writing.{Puts}
 use Rattle.dexpool.specs.Numberings.{AreRising}
 use Rattle.dexval.specs.declared.annotation.Annotation.{Annotation}
 use Rattle.dexval.specs.Code.{annotation_of}
-use Rattle.dexval.specs.Numbered.{NumberedAnnotation, NumberedSet, IsKnownSet, annotation_in, set_in, StandsForSet}
+use Rattle.dexval.specs.Numbered.{NumberedAnnotation, NumberedSet, IsKnownSet, annotation_in, set_in, DenotesSet}
 use Rattle.dexval.specs.Spelled.{elements_count, count_bytes, numbered_elements_bytes, numbered_annotation_bytes, numbered_offsets, numbered_set_bytes, numbered_annotation_weight, numbered_set_weight}
 use Rattle.dexval.proofs.Spelling.{annotation_lengths_are}
 
@@ -29,14 +29,14 @@ pub here : (at : ℕ) → round_up 1 at ≡ at
 here at = omega arith
 
 -- one more item has one more offset
-offsets_behind : (from : ℕ) (xs : List (List ℕ)) (x : List ℕ) → offsets_from 1 from (xs ++ x ∷ []) ≡ offsets_from 1 from xs ++ end_from 1 from xs ∷ []
-offsets_behind from [] x = ap (λ (n : ℕ). n ∷ []) (here from)
-offsets_behind from (y ∷ ys) x = ap (λ (l : List ℕ). round_up 1 from ∷ l) (offsets_behind (round_up 1 from + length y) ys x)
+offsets_after : (from : ℕ) (xs : List (List ℕ)) (x : List ℕ) → offsets_from 1 from (xs ++ x ∷ []) ≡ offsets_from 1 from xs ++ end_from 1 from xs ∷ []
+offsets_after from [] x = ap (λ (n : ℕ). n ∷ []) (here from)
+offsets_after from (y ∷ ys) x = ap (λ (l : List ℕ). round_up 1 from ∷ l) (offsets_after (round_up 1 from + length y) ys x)
 
 -- and moves the end by its length
-end_behind : (from : ℕ) (xs : List (List ℕ)) (x : List ℕ) → end_from 1 from (xs ++ x ∷ []) ≡ end_from 1 from xs + length x
-end_behind from [] x = ap (λ (n : ℕ). n + length x) (here from)
-end_behind from (y ∷ ys) x = end_behind (round_up 1 from + length y) ys x
+end_after : (from : ℕ) (xs : List (List ℕ)) (x : List ℕ) → end_from 1 from (xs ++ x ∷ []) ≡ end_from 1 from xs + length x
+end_after from [] x = ap (λ (n : ℕ). n + length x) (here from)
+end_after from (y ∷ ys) x = end_after (round_up 1 from + length y) ys x
 
 -- an item begins at the end of the items before it
 offset_at : (from i : ℕ) (xs : List (List ℕ)) → i < length xs → get_or (offsets_from 1 from xs) i 0 ≡ end_from 1 from (take i xs)
@@ -69,13 +69,13 @@ pub one_offset : (first : ℕ) (xs : List Annotation) (i : ℕ) (d : Annotation)
 one_offset first xs i d lt e =
     let before = items_of (take i xs) in
     ap (λ (l : List (List ℕ)). flat_map uint (offsets_from 1 first l)) (one_item xs i d lt e)
-    ∙ ap (λ (l : List ℕ). flat_map uint l) (offsets_behind first before (numbered_annotation_bytes (annotation_of d)))
+    ∙ ap (λ (l : List ℕ). flat_map uint l) (offsets_after first before (numbered_annotation_bytes (annotation_of d)))
     ∙ flat_map-append uint (offsets_from 1 first before) (end_from 1 first before ∷ [])
     ∙ ap (λ (l : List ℕ). flat_map uint (offsets_from 1 first before) ++ l) (append-nil (uint (end_from 1 first before)))
 
 -- and moves the end by its length
 pub next_offset : (first : ℕ) (xs : List Annotation) (i : ℕ) (d : Annotation) → i < length xs → d ≡ get_or xs i d → end_of first (take (i + 1) xs) ≡ end_of first (take i xs) + length (numbered_annotation_bytes (annotation_of d))
-next_offset first xs i d lt e = ap (λ (l : List (List ℕ)). end_from 1 first l) (one_item xs i d lt e) ∙ end_behind first (items_of (take i xs)) (numbered_annotation_bytes (annotation_of d))
+next_offset first xs i d lt e = ap (λ (l : List (List ℕ)). end_from 1 first l) (one_item xs i d lt e) ∙ end_after first (items_of (take i xs)) (numbered_annotation_bytes (annotation_of d))
 
 -- if all offsets are below 2 ^ 32, so is the end of the items before one of them
 pub offset_fits : (first : ℕ) (xs : List Annotation) (i : ℕ) → i < length xs → All (λ n. n < 2 ^ 32) (numbered_offsets first (map annotation_of xs)) → end_of first (take i xs) < 2 ^ 32
@@ -135,7 +135,7 @@ offsets_are m from (a ∷ s) rising known =
     ap (λ (l : List ℕ). round_up 1 from ∷ l) (ap (λ (n : ℕ). numbered_offsets (round_up 1 from + n) s) size ∙ rest)
 
 -- the set that the numbers denote
-pub set_put_is : {T E : Type 0} {u w : Vec ℕ} {r : Result T E} (m : Mentions) (first : ℕ) (x : NumberedSet) → AreRising m → Puts (numbered_set_bytes first x) u w r → (s : AnnotationSet) → StandsForSet m x s
+pub set_put_is : {T E : Type 0} {u w : Vec ℕ} {r : Result T E} (m : Mentions) (first : ℕ) (x : NumberedSet) → AreRising m → Puts (numbered_set_bytes first x) u w r → (s : AnnotationSet) → DenotesSet m x s
     → Puts (offsets_bytes (offsets_from 1 first (map (annotation_bytes m) s))) u w r
-set_put_is {u = u} {w = w} {r = r} m first x rising h s stands =
-    subst (λ (l : List ℕ). Puts l u w r) (ap (λ (l : List ℕ). offsets_bytes l) (offsets_are m first x rising stands.known ∙ ap (λ (l : AnnotationSet). offsets_from 1 first (map (annotation_bytes m) l)) stands.means)) h
+set_put_is {u = u} {w = w} {r = r} m first x rising h s encodes =
+    subst (λ (l : List ℕ). Puts l u w r) (ap (λ (l : List ℕ). offsets_bytes l) (offsets_are m first x rising encodes.known ∙ ap (λ (l : AnnotationSet). offsets_from 1 first (map (annotation_bytes m) l)) encodes.means)) h

@@ -9,9 +9,9 @@ use Rattle.dexspec.specs.Values.{Value, ByteValue, ShortValue, CharValue, IntVal
 use Rattle.dexspec.specs.Annotations.{Annotation, AnnotationSet}
 use Rattle.dexspec.specs.Mentions.{Mentions}
 use Rattle.dexpool.specs.Laws.{RanksAreNumbers}
-use Rattle.dexpool.specs.Numberings.{Maps, AllLead}
-use Rattle.dexpool.specs.Uses.{IsLedUse}
-use Rattle.dexval.specs.Numbered.{Literal, ByteLiteral, ShortLiteral, CharLiteral, IntLiteral, LongLiteral, FloatLiteral, DoubleLiteral, NullLiteral, BooleanLiteral, Reference, StringReference, TypeReference, FieldReference, MethodReference, EnumReference, NumberedValue, NumberedValues, NumberedElements, NumberedAnnotation, NumberedSet, Plain, Named, Array, Annotated, NoValue, ThenNext, NoElement, ThenNamed, plain_value, named_value, value_in, values_in, elements_in, annotation_in, set_in, IsKnown, AreKnown, HaveKnown, IsKnownAnnotation, IsKnownSet, StandsFor, StandFor, StandsForSet}
+use Rattle.dexpool.specs.Numberings.{Maps, AllMapTo}
+use Rattle.dexpool.specs.Uses.{IsMappedUse}
+use Rattle.dexval.specs.Numbered.{Literal, ByteLiteral, ShortLiteral, CharLiteral, IntLiteral, LongLiteral, FloatLiteral, DoubleLiteral, NullLiteral, BooleanLiteral, Reference, StringReference, TypeReference, FieldReference, MethodReference, EnumReference, NumberedValue, NumberedValues, NumberedElements, NumberedAnnotation, NumberedSet, Plain, Named, Array, Annotated, NoValue, ThenNext, NoElement, ThenNamed, plain_value, named_value, value_in, values_in, elements_in, annotation_in, set_in, IsKnown, AreKnown, HaveKnown, IsKnownAnnotation, IsKnownSet, Denotes, Denote, DenotesSet}
 use Rattle.dexval.specs.Renumbering.{renumbered, renumbered_values, renumbered_set}
 use Rattle.dexval.specs.Uses.{value_uses, values_uses, set_uses}
 use Rattle.dexval.proofs.Meanings.{value_keeps, values_keep, set_keeps}
@@ -101,38 +101,38 @@ module _ (m : Mentions) (ranks : RanksAreNumbers m) where
       ap (λ (a : NumberedAnnotation). a ∷ map (ranked_annotation m) (set_in m xs)) (annotation_ranked x (All-head (IsKnownAnnotation m) x xs h)) ∙ ap (λ (l : NumberedSet). x ∷ l) (set_ranked xs (All-tail (IsKnownAnnotation m) x xs h))
 
   -- numbered values that denote the same value are equal
-  one_value : (x y : NumberedValue) (v : Value) → StandsFor m x v → StandsFor m y v → x ≡ y
+  one_value : (x y : NumberedValue) (v : Value) → Denotes m x v → Denotes m y v → x ≡ y
   one_value x y v h k = sym (value_ranked x h.known) ∙ ap (ranked m) (h.means ∙ sym k.means) ∙ value_ranked y k.known
 
-  one_list : (xs ys : NumberedValues) (vs : Values) → StandFor m xs vs → StandFor m ys vs → xs ≡ ys
+  one_list : (xs ys : NumberedValues) (vs : Values) → Denote m xs vs → Denote m ys vs → xs ≡ ys
   one_list xs ys vs h k = sym (values_ranked xs h.known) ∙ ap (ranked_values m) (h.mean ∙ sym k.mean) ∙ values_ranked ys k.known
 
-  one_set : (xs ys : NumberedSet) (s : AnnotationSet) → StandsForSet m xs s → StandsForSet m ys s → xs ≡ ys
+  one_set : (xs ys : NumberedSet) (s : AnnotationSet) → DenotesSet m xs s → DenotesSet m ys s → xs ≡ ys
   one_set xs ys s h k = sym (set_ranked xs h.known) ∙ ap (map (ranked_annotation m)) (h.means ∙ sym k.means) ∙ set_ranked ys k.known
 
 -- ---- values of two numberings, remapped to a third
 
-module _ (m n whole : Mentions) (r s : Maps) (ranks : RanksAreNumbers whole) (from_first : AllLead m whole r) (from_second : AllLead n whole s) where
-  pub same_value : (x y : NumberedValue) (v w : Value) → All (IsLedUse r) (value_uses x) → All (IsLedUse s) (value_uses y) → StandsFor m x v → StandsFor n y w → (renumbered r x ≡ renumbered s y) ↔ (v ≡ w)
+module _ (m n whole : Mentions) (r s : Maps) (ranks : RanksAreNumbers whole) (from_first : AllMapTo m whole r) (from_second : AllMapTo n whole s) where
+  pub same_value : (x y : NumberedValue) (v w : Value) → All (IsMappedUse r) (value_uses x) → All (IsMappedUse s) (value_uses y) → Denotes m x v → Denotes n y w → (renumbered r x ≡ renumbered s y) ↔ (v ≡ w)
   same_value x y v w images images' h k =
       let mine = value_keeps m whole r x v from_first images h in
       let theirs = value_keeps n whole s y w from_second images' k in (
         (λ e. sym mine.means ∙ ap (value_in whole) e ∙ theirs.means),
-        (λ e. one_value whole ranks (renumbered r x) (renumbered s y) w (subst (StandsFor whole (renumbered r x)) e mine) theirs),
+        (λ e. one_value whole ranks (renumbered r x) (renumbered s y) w (subst (Denotes whole (renumbered r x)) e mine) theirs),
       )
 
-  pub same_values : (xs ys : NumberedValues) (vs ws : Values) → All (IsLedUse r) (values_uses xs) → All (IsLedUse s) (values_uses ys) → StandFor m xs vs → StandFor n ys ws → (renumbered_values r xs ≡ renumbered_values s ys) ↔ (vs ≡ ws)
+  pub same_values : (xs ys : NumberedValues) (vs ws : Values) → All (IsMappedUse r) (values_uses xs) → All (IsMappedUse s) (values_uses ys) → Denote m xs vs → Denote n ys ws → (renumbered_values r xs ≡ renumbered_values s ys) ↔ (vs ≡ ws)
   same_values xs ys vs ws images images' h k =
       let mine = values_keep m whole r xs vs from_first images h in
       let theirs = values_keep n whole s ys ws from_second images' k in (
         (λ e. sym mine.mean ∙ ap (values_in whole) e ∙ theirs.mean),
-        (λ e. one_list whole ranks (renumbered_values r xs) (renumbered_values s ys) ws (subst (StandFor whole (renumbered_values r xs)) e mine) theirs),
+        (λ e. one_list whole ranks (renumbered_values r xs) (renumbered_values s ys) ws (subst (Denote whole (renumbered_values r xs)) e mine) theirs),
       )
 
-  pub same_set : (xs ys : NumberedSet) (a b : AnnotationSet) → All (IsLedUse r) (set_uses xs) → All (IsLedUse s) (set_uses ys) → StandsForSet m xs a → StandsForSet n ys b → (renumbered_set r xs ≡ renumbered_set s ys) ↔ (a ≡ b)
+  pub same_set : (xs ys : NumberedSet) (a b : AnnotationSet) → All (IsMappedUse r) (set_uses xs) → All (IsMappedUse s) (set_uses ys) → DenotesSet m xs a → DenotesSet n ys b → (renumbered_set r xs ≡ renumbered_set s ys) ↔ (a ≡ b)
   same_set xs ys a b images images' h k =
       let mine = set_keeps m whole r xs a from_first images h in
       let theirs = set_keeps n whole s ys b from_second images' k in (
         (λ e. sym mine.means ∙ ap (set_in whole) e ∙ theirs.means),
-        (λ e. one_set whole ranks (renumbered_set r xs) (renumbered_set s ys) b (subst (StandsForSet whole (renumbered_set r xs)) e mine) theirs),
+        (λ e. one_set whole ranks (renumbered_set r xs) (renumbered_set s ys) b (subst (DenotesSet whole (renumbered_set r xs)) e mine) theirs),
       )

@@ -6,14 +6,14 @@ use Rattle.std.proofs.lemmas.List.Elements.{All-nil, All-cons, All-get_or}
 use Rattle.dexpool.specs.Numberings.{Maps}
 use Rattle.dexval.specs.Numbered.{NumberedValue, NumberedAnnotation, values_of_list, elements_of_list, ThenNext, ThenNamed}
 use Rattle.dexval.specs.Renumbering.{renumbered, renumbered_values, renumbered_elements, renumbered_element, HasPlaces, HavePlaces, ElementsHavePlaces, ElementHasPlaces, AnnotationHasPlaces, SetHasPlaces}
-use Rattle.dexpool.specs.Images.{LeadsUse}
+use Rattle.dexpool.specs.Images.{MapsUse}
 use Rattle.dexval.specs.Uses.{value_uses, values_uses, element_uses, elements_uses, annotation_uses, set_uses}
-use Rattle.dexpool.proofs.Parts.{all_front, all_back}
+use Rattle.dexpool.proofs.Parts.{all_prefix, all_back}
 
 -- ---- a list that is changed member by member
 
 -- the models of the first i members are changed, the other members are unchanged
-pub record AreLed {X Y : Type 0} (of : X → Y) (f : Y → Y) (i : ℕ) (old new : List X) : Type 0 where
+pub record AreRemapped {X Y : Type 0} (of : X → Y) (f : Y → Y) (i : ℕ) (old new : List X) : Type 0 where
   pub front : map of (take i new) ≡ map f (map of (take i old))
   pub rest : drop i new ≡ drop i old
   pub size : length new ≡ length old
@@ -24,18 +24,18 @@ same_member xs ys i d e =
     ap (λ (k : ℕ). get_or xs k d) (sym z) ∙ sym (get_or-drop i xs 0 d) ∙ ap (λ zs. get_or zs 0 d) e ∙ get_or-drop i ys 0 d ∙ ap (λ (k : ℕ). get_or ys k d) z
 
 -- the next member is the old one
-pub next_is : {X Y : Type 0} (of : X → Y) (f : Y → Y) (old new : List X) (i : ℕ) (x : X) → AreLed of f i old new → x ≡ get_or new i x → x ≡ get_or old i x
+pub next_is : {X Y : Type 0} (of : X → Y) (f : Y → Y) (old new : List X) (i : ℕ) (x : X) → AreRemapped of f i old new → x ≡ get_or new i x → x ≡ get_or old i x
 next_is of f old new i x h e = e ∙ same_member new old i x h.rest
 
 -- a property of all old models holds for the next one
-pub next_member : {X Y : Type 0} (of : X → Y) (f : Y → Y) (P : Y → Type 0) (old new : List X) (i : ℕ) (x : X) → AreLed of f i old new → i < length old → All P (map of old) → x ≡ get_or new i x → P (of x)
+pub next_member : {X Y : Type 0} (of : X → Y) (f : Y → Y) (P : Y → Type 0) (old new : List X) (i : ℕ) (x : X) → AreRemapped of f i old new → i < length old → All P (map of old) → x ≡ get_or new i x → P (of x)
 next_member of f P old new i x h lt all e =
     let inside : i < length (map of old) = omega (arith, length-map old of) in
     subst P (get_or-map of old i x (of x) lt ∙ ap of (sym (next_is of f old new i x h e))) (All-get_or P (map of old) i (of x) inside all)
 
 -- one more member
-pub led_more : {X Y : Type 0} (of : X → Y) (f : Y → Y) (old new : List X) (i : ℕ) (x y : X) → AreLed of f i old new → i < length old → x ≡ get_or new i x → of y ≡ f (of x) → AreLed of f (i + 1) old (set new i y)
-led_more of f old new i x y h lt e is =
+pub remapped_more : {X Y : Type 0} (of : X → Y) (f : Y → Y) (old new : List X) (i : ℕ) (x y : X) → AreRemapped of f i old new → i < length old → x ≡ get_or new i x → of y ≡ f (of x) → AreRemapped of f (i + 1) old (set new i y)
+remapped_more of f old new i x y h lt e is =
     let inside : i < length new = omega (arith, h.size) in
     let more : i < i + 1 = omega arith in
     let here : of y ≡ f (of (get_or old i x)) = is ∙ ap (λ z. f (of z)) (next_is of f old new i x h e) in
@@ -47,8 +47,8 @@ led_more of f old new i x y h lt e is =
     }
 
 -- all of them
-pub all_led : {X Y : Type 0} (of : X → Y) (f : Y → Y) (old new : List X) (i : ℕ) → AreLed of f i old new → length old ≤ i → map of new ≡ map f (map of old)
-all_led of f old new i h end = ap (map of) (sym (take_all i new (omega (arith, h.size)))) ∙ h.front ∙ ap (λ zs. map f (map of zs)) (take_all i old end)
+pub all_remapped : {X Y : Type 0} (of : X → Y) (f : Y → Y) (old new : List X) (i : ℕ) → AreRemapped of f i old new → length old ≤ i → map of new ≡ map f (map of old)
+all_remapped of f old new i h end = ap (map of) (sym (take_all i new (omega (arith, h.size)))) ∙ h.front ∙ ap (λ zs. map f (map of zs)) (take_all i old end)
 
 -- ---- values and elements, as lists
 
@@ -65,16 +65,16 @@ values_placed r [] h = All-nil (HasPlaces r)
 values_placed r (y ∷ ys) h =
     let us = value_uses y in
     let vs = values_uses (values_of_list ys) in
-    All-cons (HasPlaces r) y ys (all_front (LeadsUse r) us vs h) (values_placed r ys (all_back (LeadsUse r) us vs h))
+    All-cons (HasPlaces r) y ys (all_prefix (MapsUse r) us vs h) (values_placed r ys (all_back (MapsUse r) us vs h))
 
 pub elements_placed : (r : Maps) (ys : List (ℕ × NumberedValue)) → ElementsHavePlaces r (elements_of_list ys) → All (ElementHasPlaces r) ys
 elements_placed r [] h = All-nil (ElementHasPlaces r)
 elements_placed r ((name, y) ∷ ys) h =
     let us = element_uses (name, y) in
     let vs = elements_uses (elements_of_list ys) in
-    All-cons (ElementHasPlaces r) (name, y) ys (all_front (LeadsUse r) us vs h) (elements_placed r ys (all_back (LeadsUse r) us vs h))
+    All-cons (ElementHasPlaces r) (name, y) ys (all_prefix (MapsUse r) us vs h) (elements_placed r ys (all_back (MapsUse r) us vs h))
 
 pub annotations_placed : (r : Maps) (xs : List NumberedAnnotation) → SetHasPlaces r xs → All (AnnotationHasPlaces r) xs
 annotations_placed r [] h = All-nil (AnnotationHasPlaces r)
 annotations_placed r (x ∷ xs) h =
-    All-cons (AnnotationHasPlaces r) x xs (all_front (LeadsUse r) (annotation_uses x) (set_uses xs) h) (annotations_placed r xs (all_back (LeadsUse r) (annotation_uses x) (set_uses xs) h))
+    All-cons (AnnotationHasPlaces r) x xs (all_prefix (MapsUse r) (annotation_uses x) (set_uses xs) h) (annotations_placed r xs (all_back (MapsUse r) (annotation_uses x) (set_uses xs) h))

@@ -64,7 +64,7 @@ module _ (b : List ℕ) (m : Mentions) (file : AreFilePools b m) where
 
   -- all were checked
   how_many : (o i least weight : ℕ) (h : SetChecked b (o + 4) m (uint_at b o) i least weight) → length h.annotations ≡ i
-  how_many o i least weight h = omega (arith, length-zip (AnnotationAt b) (uints_at b (o + 4) i) (set_in m h.annotations) h.so_far.stand, length-uints_at b (o + 4) i, length-map h.annotations (annotation_in m))
+  how_many o i least weight h = omega (arith, length-zip (AnnotationAt b) (uints_at b (o + 4) i) (set_in m h.annotations) h.so_far.are_encoded, length-uints_at b (o + 4) i, length-map h.annotations (annotation_in m))
 
   pub some_set_checked : (o i least weight count : ℕ) → HasOffsets b o → i ≡ uint_at b o → i ≡ count → 0 < i → SetChecked b (o + 4) m (uint_at b o) i least weight → HasSetOf b o m count weight
   some_set_checked o i least weight count has all is some h =

@@ -23,7 +23,7 @@ use Rattle.dexval.specs.Numbered.{NumberedAnnotation, NumberedElements, IsKnownS
 use Rattle.dexval.specs.Nesting.{AreFilePools, NoAnnotationAt, IsAnnotationReadAt}
 use Rattle.dexval.specs.Items.{IsItemAt, NoItemAt, NoSetAt, HasOffsets}
 use Rattle.dexval.specs.Reading.{IsSetAt}
-use Rattle.dexval.proofs.Shapes.{first_is, stands_byte}
+use Rattle.dexval.proofs.Shapes.{first_is, is_at_byte}
 
 -- ---- one annotation
 
@@ -31,7 +31,7 @@ module _ (b : List ℕ) (off : ℕ) (m : Mentions) where
   pub item_read : (visibility t : ℕ) (es : NumberedElements) (n : ℕ) → data_off b ≤ off → off < length b → slice_index b off ≡ visibility → visibility ≤ 2 → IsAnnotationReadAt b (off + 1) m most_depth t es n → IsItemAt b off m (record { visibility = visibility; type = t; elements = es })
   item_read visibility t es n in_data lt is known r = record {
     known = record { type_in = r.type_known; elements_known = r.known };
-    at = record { in_data = in_data; known = known; visibility = stands_byte b off visibility lt is; annotation = (n, r.stands); shallow = r.shallow };
+    at = record { in_data = in_data; known = known; visibility = is_at_byte b off visibility lt is; annotation = (n, r.encodes); shallow = r.shallow };
   }
 
   pub no_visibility : (v : ℕ) → slice_index b off ≡ v → 2 < v → NoItemAt b off
@@ -70,7 +70,7 @@ IsAbove b least (a ∷ s) = (index : ℕ) → TypeRow b index a.type → least �
 -- `count` annotations are at the offsets from here on, and their types rise from `least` on
 pub record RestOf (b : List ℕ) (p count least : ℕ) : Type 0 where
   pub set : AnnotationSet
-  pub stand : AllZip (AnnotationAt b) (uints_at b p count) set
+  pub are_encoded : AllZip (AnnotationAt b) (uints_at b p count) set
   pub rise : rises text_cmp (map (λ a. a.type) set) ≡ true
   pub above : IsAbove b least set
 
@@ -78,7 +78,7 @@ pub record RestOf (b : List ℕ) (p count least : ℕ) : Type 0 where
 -- annotations are in the file, the other annotations come after these
 pub record HaveReadSet (b : List ℕ) (p : ℕ) (m : Mentions) (count i least : ℕ) (xs : List NumberedAnnotation) : Type 0 where
   pub known : IsKnownSet m xs
-  pub stand : AllZip (AnnotationAt b) (uints_at b p i) (set_in m xs)
+  pub are_encoded : AllZip (AnnotationAt b) (uints_at b p i) (set_in m xs)
   pub rise : rises text_cmp (map (λ x. type_at m x.type) xs) ≡ true
   pub below : (index : ℕ) → least ≤ index → index < length m.types → rises text_cmp (map (λ x. type_at m x.type) xs ++ type_at m index ∷ []) ≡ true
   pub rest : RestOf b p count 0 → RestOf b (p + 4 * i) (count - i) least
@@ -114,10 +114,10 @@ module _ (b : List ℕ) (m : Mentions) (file : AreFilePools b m) where
   record Next (p left least : ℕ) : Type 0 where
     first : Annotation
     index : ℕ
-    stands : AnnotationAt b (uint_at b p) first
+    encodes : AnnotationAt b (uint_at b p) first
     row : TypeRow b index first.type
     above : least ≤ index
-    behind : RestOf b (p + 4) (left - 1) (index + 1)
+    following : RestOf b (p + 4) (left - 1) (index + 1)
 
   next_of : (p left least : ℕ) (s : AnnotationSet) → AllZip (AnnotationAt b) (uints_at b p (suc left)) s → rises text_cmp (map (λ a. a.type) s) ≡ true → IsAbove b least s → Next p (suc left) least
   next_of p left least [] h r a = absurd h
@@ -128,20 +128,20 @@ module _ (b : List ℕ) (m : Mentions) (file : AreFilePools b m) where
       record {
         first = x;
         index = index;
-        stands = h.0;
+        encodes = h.0;
         row = row;
         above = a index row;
-        behind = record { set = s; stand = subst (λ (n : ℕ). AllZip (AnnotationAt b) (uints_at b (p + 4) n) s) one h.1; rise = rise_next x.type s r; above = above_next index x.type s row r };
+        following = record { set = s; are_encoded = subst (λ (n : ℕ). AllZip (AnnotationAt b) (uints_at b (p + 4) n) s) one h.1; rise = rise_next x.type s r; above = above_next index x.type s row r };
       }
 
   next : (p left least : ℕ) → 0 < left → RestOf b p left least → Next p left least
   next p zero least lt r = absurd (omega arith)
-  next p (suc left) least lt r = next_of p left least r.set r.stand r.rise r.above
+  next p (suc left) least lt r = next_of p left least r.set r.are_encoded r.rise r.above
 
   pub none_read : (p count : ℕ) → HaveReadSet b p m count 0 0 []
   none_read p count = record {
     known = All-nil (IsKnownAnnotation m);
-    stand = tt;
+    are_encoded = tt;
     rise = refl;
     below = λ index le lt. refl;
     rest = λ r. let at : p ≡ p + 4 * 0 = omega arith in let left : count ≡ count - 0 = omega arith in subst (λ (o : ℕ). RestOf b o (count - 0) 0) at (subst (λ (c : ℕ). RestOf b p c 0) left r);
@@ -156,18 +156,18 @@ module _ (b : List ℕ) (m : Mentions) (file : AreFilePools b m) where
       let count_more : i + 1 ≡ suc i = omega arith in
       record {
         known = All-append (IsKnownAnnotation m) xs (x ∷ []) h.known (All-cons (IsKnownAnnotation m) x [] r.known (All-nil (IsKnownAnnotation m)));
-        stand = subst (λ (l : List ℕ). AllZip (AnnotationAt b) l (set_in m (xs ++ x ∷ []))) (sym (ap (uints_at b p) count_more ∙ uints_more b p i))
-            (subst (λ (s : AnnotationSet). AllZip (AnnotationAt b) (uints_at b p i ++ uint_at b (p + 4 * i) ∷ []) s) (sym (map-append (annotation_in m) xs (x ∷ []))) (zip_more (AnnotationAt b) (uints_at b p i) (set_in m xs) (uint_at b (p + 4 * i)) (annotation_in m x) h.stand r.at));
+        are_encoded = subst (λ (l : List ℕ). AllZip (AnnotationAt b) l (set_in m (xs ++ x ∷ []))) (sym (ap (uints_at b p) count_more ∙ uints_more b p i))
+            (subst (λ (s : AnnotationSet). AllZip (AnnotationAt b) (uints_at b p i ++ uint_at b (p + 4 * i) ∷ []) s) (sym (map-append (annotation_in m) xs (x ∷ []))) (zip_more (AnnotationAt b) (uints_at b p i) (set_in m xs) (uint_at b (p + 4 * i)) (annotation_in m x) h.are_encoded r.at));
         rise = ap (rises text_cmp) more ∙ risen;
         below = λ index above within. ap (λ (l : List Text). rises text_cmp (l ++ type_at m index ∷ [])) more ∙ rises_more (types xs) (type_at m x.type) (type_at m index) risen (is_less x.type index (omega (arith, above)) within);
         rest = λ all.
             let n = next (p + 4 * i) (count - i) least (omega arith) (h.rest all) in
-            let same = one_annotation_item b (uint_at b (p + 4 * i)) n.first (annotation_in m x) n.stands r.at in
+            let same = one_annotation_item b (uint_at b (p + 4 * i)) n.first (annotation_in m x) n.encodes r.at in
             let name : n.index ≡ x.type = same_index n.index x.type (row_within n.index n.first.type n.row) r.known.type_in (sym (row_type n.index n.first.type n.row) ∙ ap (λ (a : Annotation). a.type) same) in
             let place : p + 4 * i + 4 ≡ p + 4 * (i + 1) = omega arith in
             let left : count - i - 1 ≡ count - (i + 1) = omega arith in
             subst (λ (k : ℕ). RestOf b (p + 4 * (i + 1)) (count - (i + 1)) (k + 1)) name
-            (subst (λ (c : ℕ). RestOf b (p + 4 * (i + 1)) c (n.index + 1)) left (subst (λ (o : ℕ). RestOf b o (count - i - 1) (n.index + 1)) place n.behind));
+            (subst (λ (c : ℕ). RestOf b (p + 4 * (i + 1)) c (n.index + 1)) left (subst (λ (o : ℕ). RestOf b o (count - i - 1) (n.index + 1)) place n.following));
       }
     where
       same_index : (j k : ℕ) → j < length m.types → k < length m.types → type_at m j ≡ type_at m k → j ≡ k
@@ -180,19 +180,19 @@ module _ (b : List ℕ) (m : Mentions) (file : AreFilePools b m) where
   all_above (a ∷ s) = λ index row. omega arith
 
   rest_of : (o : ℕ) (s : AnnotationSet) → SetAt b o s → RestOf b (o + 4) (uint_at b o) 0
-  rest_of o s h = record { set = s; stand = h.annotations; rise = h.rise; above = all_above s }
+  rest_of o s h = record { set = s; are_encoded = h.annotations; rise = h.rise; above = all_above s }
 
   -- the next item is no annotation
   pub no_next : (o i least : ℕ) (xs : List NumberedAnnotation) → i < uint_at b o → HaveReadSet b (o + 4) m (uint_at b o) i least xs → NoItemAt b (uint_at b (o + 4 + 4 * i)) → NoSetAt b o
   no_next o i least xs lt h none s set =
       let n = next (o + 4 + 4 * i) (uint_at b o - i) least (omega arith) (h.rest (rest_of o s set)) in
-      none n.first n.stands
+      none n.first n.encodes
 
   -- or its type is not greater
   pub no_order : (o i least : ℕ) (xs : List NumberedAnnotation) (x : NumberedAnnotation) → i < uint_at b o → HaveReadSet b (o + 4) m (uint_at b o) i least xs → IsItemAt b (uint_at b (o + 4 + 4 * i)) m x → x.type < least → NoSetAt b o
   no_order o i least xs x lt h r less s set =
       let n = next (o + 4 + 4 * i) (uint_at b o - i) least (omega arith) (h.rest (rest_of o s set)) in
-      let same = one_annotation_item b (uint_at b (o + 4 + 4 * i)) n.first (annotation_in m x) n.stands r.at in
+      let same = one_annotation_item b (uint_at b (o + 4 + 4 * i)) n.first (annotation_in m x) n.encodes r.at in
       let row : TypeRow b n.index (type_at m x.type) = subst (TypeRow b n.index) (ap (λ (a : Annotation). a.type) same) n.row in
       let is : x.type ≡ n.index = same_row x.type n.index r.known.type_in row in
       omega (arith, n.above, is, less)
@@ -210,7 +210,7 @@ module _ (b : List ℕ) (m : Mentions) (file : AreFilePools b m) where
     at = record {
       in_data = has.in_data;
       aligned = has.aligned;
-      annotations = subst (λ (n : ℕ). AllZip (AnnotationAt b) (uints_at b (o + 4) n) (set_in m xs)) e h.stand;
+      annotations = subst (λ (n : ℕ). AllZip (AnnotationAt b) (uints_at b (o + 4) n) (set_in m xs)) e h.are_encoded;
       rise = ap (rises text_cmp) (types_of xs) ∙ h.rise;
     };
   }

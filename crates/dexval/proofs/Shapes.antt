@@ -2,11 +2,11 @@
 use Rattle.std.proofs.Common.{◌≡◌, ◌≢◌, ◌⊎◌, ℕ, suc, ◌-◌, ◌%◌, ◌<◌, List, [], ◌∷◌, length, drop, take, get_or, Some, None, refl, ap, subst, ◌∙◌, arith, inl, inr}
 use Rattle.std.specs.Prelude.{true, false, slice_index}
 use Rattle.std.proofs.Math.Seq.{drop-cons}
-use Rattle.dexspec.specs.Bytes.{number_of, Stands}
+use Rattle.dexspec.specs.Bytes.{number_of, BytesAt}
 use Rattle.dexspec.specs.Texts.{Text}
 use Rattle.dexspec.specs.Values.{Value, ByteValue, ShortValue, CharValue, IntValue, LongValue, FloatValue, DoubleValue, StringValue, TypeValue, FieldValue, MethodValue, EnumValue, ArrayValue, AnnotationValue, NullValue, BooleanValue, Values, Elements, byte_value_type, short_value_type, char_value_type, int_value_type, long_value_type, float_value_type, double_value_type, string_value_type, type_value_type, field_value_type, method_value_type, enum_value_type, value_byte, SizedAt, ValueAt}
 use Rattle.dexspec.specs.Mentions.{Mentions}
-use Rattle.dexspec.proofs.written.Stands.{same_first, same_standing, stands_within}
+use Rattle.dexspec.proofs.written.PlacedBytes.{same_first, same_bytes_at, is_at_within}
 use Rattle.dexpool.specs.declared.symbols.SymbolKind.{SymbolKind}
 use Rattle.dexpool.specs.declared.symbols.SymbolKind.TheVariants as kinds
 use Rattle.dexpool.specs.Pools.{ArePools, count_of}
@@ -15,25 +15,25 @@ use Rattle.dexval.specs.internal.Scalars.{width_of, kind_of_code}
 -- ---- the first byte
 
 -- bytes that are at an offset begin there
-pub within_is : (b : List ℕ) (o x : ℕ) (xs : List ℕ) → Stands b o (x ∷ xs) → o < length b
-within_is b o x xs h = omega (arith, stands_within h)
+pub within_is : (b : List ℕ) (o x : ℕ) (xs : List ℕ) → BytesAt b o (x ∷ xs) → o < length b
+within_is b o x xs h = omega (arith, is_at_within h)
 
 -- the first of them is the byte at the offset
-pub first_is : (b : List ℕ) (o x : ℕ) (xs : List ℕ) → Stands b o (x ∷ xs) → slice_index b o ≡ x
+pub first_is : (b : List ℕ) (o x : ℕ) (xs : List ℕ) → BytesAt b o (x ∷ xs) → slice_index b o ≡ x
 first_is b o x xs h =
-    let own : Stands b o (get_or b o 0 ∷ []) = record { here = ap (take 1) (drop-cons b o 0 (within_is b o x xs h)) } in
+    let own : BytesAt b o (get_or b o 0 ∷ []) = record { here = ap (take 1) (drop-cons b o 0 (within_is b o x xs h)) } in
     same_first (get_or b o 0) x [] xs own h
 
 -- a single byte is at its offset
-pub stands_byte : (b : List ℕ) (o x : ℕ) → o < length b → slice_index b o ≡ x → Stands b o (x ∷ [])
-stands_byte b o x lt e = record { here = ap (take 1) (drop-cons b o 0 lt) ∙ ap (λ (y : ℕ). y ∷ []) e }
+pub is_at_byte : (b : List ℕ) (o x : ℕ) → o < length b → slice_index b o ≡ x → BytesAt b o (x ∷ [])
+is_at_byte b o x lt e = record { here = ap (take 1) (drop-cons b o 0 lt) ∙ ap (λ (y : ℕ). y ∷ []) e }
 
 -- the bytes of the number are the bytes of the file at the offset
 pub one_number : (code width wide : ℕ) (b : List ℕ) (o : ℕ) (xs ys : List ℕ) (n k : ℕ) → SizedAt code width b o xs n → SizedAt code wide b o ys k → xs ≡ ys
 one_number code width wide b o xs ys n k h g =
-    let first = same_first (value_byte (length xs - 1) code) (value_byte (length ys - 1) code) xs ys h.stands g.stands in
+    let first = same_first (value_byte (length xs - 1) code) (value_byte (length ys - 1) code) xs ys h.encodes g.encodes in
     let len : length xs ≡ length ys = omega (arith, first, h.some, g.some) in
-    ap (λ (z : List ℕ). drop 1 z) (same_standing (value_byte (length xs - 1) code ∷ xs) (value_byte (length ys - 1) code ∷ ys) h.stands g.stands (ap suc len))
+    ap (λ (z : List ℕ). drop 1 z) (same_bytes_at (value_byte (length xs - 1) code ∷ xs) (value_byte (length ys - 1) code ∷ ys) h.encodes g.encodes (ap suc len))
 
 -- ---- the shapes
 
@@ -44,9 +44,9 @@ IsFixed first = (first ≡ 0x1e) ⊎ (first ≡ 0x1f) ⊎ (first ≡ 0x3f)
 -- a value is a number of some bytes (perhaps that of a symbol), a single byte, an array, or an annotation
 data Shape (b : List ℕ) (o : ℕ) (m : Mentions) (v : Value) (n : ℕ) : Type 0 where
   sized : (code width : ℕ) (bytes : List ℕ) → code < 32 → width_of code ≡ Some width → SizedAt code width b o bytes n → ((kind : SymbolKind) → kind_of_code code ≡ Some kind → number_of bytes < count_of kind m) → Shape b o m v n
-  fixed : (first : ℕ) → IsFixed first → Stands b o (first ∷ []) → Shape b o m v n
-  array : (vs : Values) → v ≡ ArrayValue vs → Stands b o (0x1c ∷ []) → Shape b o m v n
-  annotation : (t : Text) (es : Elements) → v ≡ AnnotationValue t es → Stands b o (0x1d ∷ []) → Shape b o m v n
+  fixed : (first : ℕ) → IsFixed first → BytesAt b o (first ∷ []) → Shape b o m v n
+  array : (vs : Values) → v ≡ ArrayValue vs → BytesAt b o (0x1c ∷ []) → Shape b o m v n
+  annotation : (t : Text) (es : Elements) → v ≡ AnnotationValue t es → BytesAt b o (0x1d ∷ []) → Shape b o m v n
 
 -- a number that denotes no symbol
 plain : {b : List ℕ} {o : ℕ} {m : Mentions} {v : Value} {n : ℕ} (code width : ℕ) (bytes : List ℕ) → code < 32 → width_of code ≡ Some width → kind_of_code code ≡ None → SizedAt code width b o bytes n → Shape b o m v n
@@ -86,7 +86,7 @@ no_width_of first code width len lt e w c is = let same : code ≡ c = omega ari
 pub value_within : (b : List ℕ) (o : ℕ) (m : Mentions) (v : Value) (n : ℕ) → ArePools b m → ValueAt b o v n → o < length b
 value_within b o m v n p h =
     elim (shape b o m v n p h) [
-      | sized code width bytes lt w s known ↦ within_is b o _ bytes s.stands
+      | sized code width bytes lt w s known ↦ within_is b o _ bytes s.encodes
       | fixed first is s ↦ within_is b o first [] s
       | array vs e s ↦ within_is b o 0x1c [] s
       | annotation t es e s ↦ within_is b o 0x1d [] s
@@ -96,7 +96,7 @@ value_within b o m v n p h =
 pub array_only : (b : List ℕ) (o : ℕ) (m : Mentions) (v : Value) (n : ℕ) → ArePools b m → slice_index b o ≡ 0x1c → ValueAt b o v n → (vs : Values) × (v ≡ ArrayValue vs)
 array_only b o m v n p is h =
     elim (shape b o m v n p h) [
-      | sized code width bytes lt w s known ↦ absurd (let e = no_width_of (slice_index b o) code width (length bytes) lt (first_is b o _ bytes s.stands) w 28 (ap (λ (x : ℕ). x % 32) is) in cc)
+      | sized code width bytes lt w s known ↦ absurd (let e = no_width_of (slice_index b o) code width (length bytes) lt (first_is b o _ bytes s.encodes) w 28 (ap (λ (x : ℕ). x % 32) is) in cc)
       | fixed first f s ↦ absurd (let e = first_is b o first [] s in elim f [ inl x ↦ omega (arith, x) | inr y ↦ elim y [ inl x ↦ omega (arith, x) | inr x ↦ omega (arith, x) ] ])
       | array vs e s ↦ (vs, e)
       | annotation t es e s ↦ absurd (let e = first_is b o 0x1d [] s in omega arith)
@@ -106,7 +106,7 @@ array_only b o m v n p is h =
 pub annotation_only : (b : List ℕ) (o : ℕ) (m : Mentions) (v : Value) (n : ℕ) → ArePools b m → slice_index b o ≡ 0x1d → ValueAt b o v n → (t : Text) × (es : Elements) × (v ≡ AnnotationValue t es)
 annotation_only b o m v n p is h =
     elim (shape b o m v n p h) [
-      | sized code width bytes lt w s known ↦ absurd (let e = no_width_of (slice_index b o) code width (length bytes) lt (first_is b o _ bytes s.stands) w 29 (ap (λ (x : ℕ). x % 32) is) in cc)
+      | sized code width bytes lt w s known ↦ absurd (let e = no_width_of (slice_index b o) code width (length bytes) lt (first_is b o _ bytes s.encodes) w 29 (ap (λ (x : ℕ). x % 32) is) in cc)
       | fixed first f s ↦ absurd (let e = first_is b o first [] s in elim f [ inl x ↦ omega (arith, x) | inr y ↦ elim y [ inl x ↦ omega (arith, x) | inr x ↦ omega (arith, x) ] ])
       | array vs e s ↦ absurd (let e = first_is b o 0x1c [] s in omega arith)
       | annotation t es e s ↦ (t, es, e)
@@ -117,7 +117,7 @@ pub record IsSized (b : List ℕ) (o : ℕ) (m : Mentions) (n : ℕ) : Type 0 wh
   pub width : ℕ
   pub bytes : List ℕ
   pub wide : width_of (slice_index b o % 32) ≡ Some width
-  pub stands : SizedAt (slice_index b o % 32) width b o bytes n
+  pub encodes : SizedAt (slice_index b o % 32) width b o bytes n
   pub known : (kind : SymbolKind) → kind_of_code (slice_index b o % 32) ≡ Some kind → number_of bytes < count_of kind m
 
 -- after any other first byte comes a number
@@ -125,12 +125,12 @@ pub sized_only : (b : List ℕ) (o : ℕ) (m : Mentions) (v : Value) (n : ℕ) �
 sized_only b o m v n p c d e f t h =
     elim (shape b o m v n p h) [
       | sized code width bytes lt w s known ↦
-          let is : code ≡ slice_index b o % 32 = let x = first_is b o (value_byte (length bytes - 1) code) bytes s.stands in omega arith in
+          let is : code ≡ slice_index b o % 32 = let x = first_is b o (value_byte (length bytes - 1) code) bytes s.encodes in omega arith in
           record {
             width = width;
             bytes = bytes;
             wide = subst (λ (k : ℕ). width_of k ≡ Some width) is w;
-            stands = subst (λ (k : ℕ). SizedAt k width b o bytes n) is s;
+            encodes = subst (λ (k : ℕ). SizedAt k width b o bytes n) is s;
             known = subst (λ (k : ℕ). (kind : SymbolKind) → kind_of_code k ≡ Some kind → number_of bytes < count_of kind m) is known;
           }
       | fixed first x s ↦ absurd (let at = first_is b o first [] s in elim x [ inl y ↦ e (at ∙ y) | inr y ↦ elim y [ inl z ↦ f (at ∙ z) | inr z ↦ t (at ∙ z) ] ])

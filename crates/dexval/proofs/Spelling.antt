@@ -11,13 +11,13 @@ use Rattle.dexspec.specs.Values.{Value, Values, ByteValue, ShortValue, CharValue
 use Rattle.dexspec.specs.Annotations.{Annotation}
 use Rattle.dexspec.specs.Mentions.{Mentions}
 use Rattle.dexspec.specs.Spellings.{text_index, type_index, field_index, method_index, unsigned_bytes, value_bytes, values_bytes, elements_bytes, encoded_array_bytes, annotation_bytes}
-use Rattle.dexspec.specs.Aside.Writing.{Puts}
+use Rattle.dexspec.specs.internal.Writing.{Puts}
 use Rattle.dexspec.proofs.lists.InOrder.{Rises-from_rises, rank-get_or}
 use Rattle.dexspec.proofs.merge.SymbolOrders.{text_total, field_total, method_total}
 use Rattle.dexspec.proofs.size.SizeItems.{uleb128-size, value_bytes-size}
 use Rattle.dexpool.specs.Pools.{count_of}
 use Rattle.dexpool.specs.Numberings.{AreRising}
-use Rattle.dexval.specs.Numbered.{Literal, ByteLiteral, ShortLiteral, CharLiteral, IntLiteral, LongLiteral, FloatLiteral, DoubleLiteral, NullLiteral, BooleanLiteral, Reference, StringReference, TypeReference, FieldReference, MethodReference, EnumReference, NumberedValue, NumberedValues, NumberedElements, NumberedAnnotation, Plain, Named, Array, Annotated, NoValue, ThenNext, NoElement, ThenNamed, text_at, type_at, field_at, method_at, plain_value, named_value, value_in, values_in, elements_in, annotation_in, kind_of_reference, IsKnown, AreKnown, HaveKnown, IsKnownAnnotation, StandsFor, StandFor, StandsForAnnotation}
+use Rattle.dexval.specs.Numbered.{Literal, ByteLiteral, ShortLiteral, CharLiteral, IntLiteral, LongLiteral, FloatLiteral, DoubleLiteral, NullLiteral, BooleanLiteral, Reference, StringReference, TypeReference, FieldReference, MethodReference, EnumReference, NumberedValue, NumberedValues, NumberedElements, NumberedAnnotation, Plain, Named, Array, Annotated, NoValue, ThenNext, NoElement, ThenNamed, text_at, type_at, field_at, method_at, plain_value, named_value, value_in, values_in, elements_in, annotation_in, kind_of_reference, IsKnown, AreKnown, HaveKnown, IsKnownAnnotation, Denotes, Denote, DenotesAnnotation}
 use Rattle.dexval.specs.Spelled.{IsCounted, AreCounted, HaveCounted, IsCountedAnnotation, values_count, elements_count, count_bytes, literal_bytes, reference_code, numbered_bytes, numbered_values_bytes, numbered_elements_bytes, numbered_array_bytes, encoded_annotation_bytes, numbered_annotation_bytes, numbered_weight, numbered_values_weight, numbered_elements_weight, numbered_annotation_weight}
 use Rattle.dexval.proofs.Counts.{count_is, count_length, count-size}
 
@@ -109,14 +109,14 @@ annotation_bytes_are m x rising counted known = ap (λ (l : List ℕ). x.visibil
 
 -- ---- appended bytes
 
-pub value_put_is : {T E : Type 0} {u w : Vec ℕ} {r : Result T E} (m : Mentions) (x : NumberedValue) → AreRising m → Puts (numbered_bytes x) u w r → (v : Value) → IsCounted x → StandsFor m x v → Puts (value_bytes m v) u w r
-value_put_is {u = u} {w = w} {r = r} m x rising h v counted stands = subst (λ (l : List ℕ). Puts l u w r) (bytes_are m x rising counted stands.known ∙ ap (value_bytes m) stands.means) h
+pub value_put_is : {T E : Type 0} {u w : Vec ℕ} {r : Result T E} (m : Mentions) (x : NumberedValue) → AreRising m → Puts (numbered_bytes x) u w r → (v : Value) → IsCounted x → Denotes m x v → Puts (value_bytes m v) u w r
+value_put_is {u = u} {w = w} {r = r} m x rising h v counted encodes = subst (λ (l : List ℕ). Puts l u w r) (bytes_are m x rising counted encodes.known ∙ ap (value_bytes m) encodes.means) h
 
-pub array_put_is : {T E : Type 0} {u w : Vec ℕ} {r : Result T E} (m : Mentions) (xs : NumberedValues) → AreRising m → Puts (numbered_array_bytes xs) u w r → (vs : Values) → values_count xs < 2 ^ 32 → AreCounted xs → StandFor m xs vs → Puts (encoded_array_bytes m vs) u w r
-array_put_is {u = u} {w = w} {r = r} m xs rising h vs few counted stand = subst (λ (l : List ℕ). Puts l u w r) (array_bytes_are m xs rising few counted stand.known ∙ ap (encoded_array_bytes m) stand.mean) h
+pub array_put_is : {T E : Type 0} {u w : Vec ℕ} {r : Result T E} (m : Mentions) (xs : NumberedValues) → AreRising m → Puts (numbered_array_bytes xs) u w r → (vs : Values) → values_count xs < 2 ^ 32 → AreCounted xs → Denote m xs vs → Puts (encoded_array_bytes m vs) u w r
+array_put_is {u = u} {w = w} {r = r} m xs rising h vs few counted are_encoded = subst (λ (l : List ℕ). Puts l u w r) (array_bytes_are m xs rising few counted are_encoded.known ∙ ap (encoded_array_bytes m) are_encoded.mean) h
 
-pub annotation_put_is : {T E : Type 0} {u w : Vec ℕ} {r : Result T E} (m : Mentions) (x : NumberedAnnotation) → AreRising m → Puts (numbered_annotation_bytes x) u w r → (a : Annotation) → IsCountedAnnotation x → StandsForAnnotation m x a → Puts (annotation_bytes m a) u w r
-annotation_put_is {u = u} {w = w} {r = r} m x rising h a counted stands = subst (λ (l : List ℕ). Puts l u w r) (annotation_bytes_are m x rising counted stands.known ∙ ap (annotation_bytes m) stands.means) h
+pub annotation_put_is : {T E : Type 0} {u w : Vec ℕ} {r : Result T E} (m : Mentions) (x : NumberedAnnotation) → AreRising m → Puts (numbered_annotation_bytes x) u w r → (a : Annotation) → IsCountedAnnotation x → DenotesAnnotation m x a → Puts (annotation_bytes m a) u w r
+annotation_put_is {u = u} {w = w} {r = r} m x rising h a counted encodes = subst (λ (l : List ℕ). Puts l u w r) (annotation_bytes_are m x rising counted encodes.known ∙ ap (annotation_bytes m) encodes.means) h
 
 -- ---- lengths, whatever the counts
 
@@ -176,14 +176,14 @@ mutual
       )
 
 -- static values
-pub array_lengths_are : (m : Mentions) (xs : NumberedValues) (vs : Values) → AreRising m → StandFor m xs vs → length (numbered_array_bytes xs) ≡ length (encoded_array_bytes m vs)
-array_lengths_are m xs vs rising stand = count_lengths m xs (values_lengths_are m xs rising stand.known) ∙ ap (λ (l : Values). length (encoded_array_bytes m l)) stand.mean
+pub array_lengths_are : (m : Mentions) (xs : NumberedValues) (vs : Values) → AreRising m → Denote m xs vs → length (numbered_array_bytes xs) ≡ length (encoded_array_bytes m vs)
+array_lengths_are m xs vs rising are_encoded = count_lengths m xs (values_lengths_are m xs rising are_encoded.known) ∙ ap (λ (l : Values). length (encoded_array_bytes m l)) are_encoded.mean
 
 -- an annotation
-pub annotation_lengths_are : (m : Mentions) (x : NumberedAnnotation) (a : Annotation) → AreRising m → StandsForAnnotation m x a → length (numbered_annotation_bytes x) ≡ length (annotation_bytes m a)
-annotation_lengths_are m x a rising stands =
-    ap suc (annotation_lengths m x.type x.elements rising stands.known.type_in (elements_lengths_are m x.elements rising stands.known.elements_known))
-    ∙ ap (λ (b : Annotation). length (annotation_bytes m b)) stands.means
+pub annotation_lengths_are : (m : Mentions) (x : NumberedAnnotation) (a : Annotation) → AreRising m → DenotesAnnotation m x a → length (numbered_annotation_bytes x) ≡ length (annotation_bytes m a)
+annotation_lengths_are m x a rising encodes =
+    ap suc (annotation_lengths m x.type x.elements rising encodes.known.type_in (elements_lengths_are m x.elements rising encodes.known.elements_known))
+    ∙ ap (λ (b : Annotation). length (annotation_bytes m b)) encodes.means
 
 -- ---- sizes
 

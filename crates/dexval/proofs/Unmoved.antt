@@ -6,13 +6,13 @@ use Rattle.dexpool.specs.declared.symbols.SymbolKind.{SymbolKind}
 use Rattle.dexpool.specs.declared.symbols.SymbolKind.TheVariants as kinds
 use Rattle.dexpool.specs.Numberings.{Maps}
 use Rattle.dexval.specs.Numbered.{NumberedValue, NumberedValues, NumberedElements, NumberedAnnotation, NumberedSet, Plain, Named, Array, Annotated, NoValue, ThenNext, NoElement, ThenNamed, kind_of_reference}
-use Rattle.dexval.specs.Renumbering.{led, renumbered, renumbered_values, renumbered_elements, renumbered_set}
+use Rattle.dexval.specs.Renumbering.{remapped, renumbered, renumbered_values, renumbered_elements, renumbered_set}
 
 -- the map without images
 abbrev pub nowhere : Maps
 nowhere = record { texts = []; types = []; protos = []; fields = []; methods = [] }
 
-stays : (kind : SymbolKind) (i : ℕ) → led nowhere kind i ≡ i
+stays : (kind : SymbolKind) (i : ℕ) → remapped nowhere kind i ≡ i
 stays kinds.Text i = refl
 stays kinds.Typ i = refl
 stays kinds.Proto i = refl

@@ -15,7 +15,7 @@ use Rattle.dexval.specs.Nesting.{NoArrayAt, AreReadAt}
 pub record Rest (b : List ℕ) (o depth count : ℕ) : Type 0 where
   pub values : Values
   pub size : ℕ
-  pub stand : ValuesAt b o values size
+  pub are_encoded : ValuesAt b o values size
   pub number : count_values values ≡ count
   pub shallow : values_depth values ≤ depth
 
@@ -23,7 +23,7 @@ pub record Rest (b : List ℕ) (o depth count : ℕ) : Type 0 where
 pub record HaveRead (b : List ℕ) (o : ℕ) (m : Mentions) (depth count i : ℕ) (xs : List NumberedValue) (k : ℕ) : Type 0 where
   pub number : length xs ≡ i
   pub known : AreKnown m (values_of_list xs)
-  pub stand : ValuesAt b o (values_in m (values_of_list xs)) k
+  pub are_encoded : ValuesAt b o (values_in m (values_of_list xs)) k
   pub shallow : values_depth (values_in m (values_of_list xs)) ≤ depth
   pub rest : Rest b o depth count → Rest b (o + k) depth (count - i)
 
@@ -36,9 +36,9 @@ module _ (b : List ℕ) (m : Mentions) where
   depth_more [] x = omega arith
   depth_more (y ∷ ys) x = omega (arith, depth_more ys x)
 
-  stand_more : (o : ℕ) (xs : List NumberedValue) (x : NumberedValue) (k j : ℕ) → ValuesAt b o (values_in m (values_of_list xs)) k → ValueAt b (o + k) (value_in m x) j → ValuesAt b o (values_in m (values_of_list (xs ++ x ∷ []))) (k + j)
-  stand_more o [] x k j h v = (j, 0, subst (λ (p : ℕ). ValueAt b p (value_in m x) j) (omega (arith, h)) v, refl, omega (arith, h))
-  stand_more o (y ∷ ys) x k j h v = (h.0, h.1 + j, h.2, stand_more (o + h.0) ys x h.1 j h.3 (subst (λ (p : ℕ). ValueAt b p (value_in m x) j) (omega (arith, h.4)) v), omega (arith, h.4))
+  encoded_more : (o : ℕ) (xs : List NumberedValue) (x : NumberedValue) (k j : ℕ) → ValuesAt b o (values_in m (values_of_list xs)) k → ValueAt b (o + k) (value_in m x) j → ValuesAt b o (values_in m (values_of_list (xs ++ x ∷ []))) (k + j)
+  encoded_more o [] x k j h v = (j, 0, subst (λ (p : ℕ). ValueAt b p (value_in m x) j) (omega (arith, h)) v, refl, omega (arith, h))
+  encoded_more o (y ∷ ys) x k j h v = (h.0, h.1 + j, h.2, encoded_more (o + h.0) ys x h.1 j h.3 (subst (λ (p : ℕ). ValueAt b p (value_in m x) j) (omega (arith, h.4)) v), omega (arith, h.4))
 
   count_is : (xs : List NumberedValue) → count_values (values_in m (values_of_list xs)) ≡ length xs
   count_is [] = refl
@@ -48,29 +48,29 @@ module _ (b : List ℕ) (m : Mentions) where
   record Next (o depth left : ℕ) : Type 0 where
     value : Value
     size : ℕ
-    stands : ValueAt b o value size
+    encodes : ValueAt b o value size
     shallow : value_depth value ≤ depth
-    behind : Rest b (o + size) depth (left - 1)
+    following : Rest b (o + size) depth (left - 1)
 
   next_of : (o depth left n : ℕ) (vs : Values) → 0 < left → ValuesAt b o vs n → count_values vs ≡ left → values_depth vs ≤ depth → Next o depth left
   next_of o depth left n NoValues lt h e d = absurd (omega (arith, e, lt))
   next_of o depth left n (ThenValue v vs) lt h e d = record {
     value = v;
     size = h.0;
-    stands = h.2;
+    encodes = h.2;
     shallow = omega (arith, d);
-    behind = record { values = vs; size = h.1; stand = h.3; number = omega (arith, e); shallow = omega (arith, d) };
+    following = record { values = vs; size = h.1; are_encoded = h.3; number = omega (arith, e); shallow = omega (arith, d) };
   }
 
   next : (o depth left : ℕ) → 0 < left → Rest b o depth left → Next o depth left
-  next o depth left lt r = next_of o depth left r.size r.values lt r.stand r.number r.shallow
+  next o depth left lt r = next_of o depth left r.size r.values lt r.are_encoded r.number r.shallow
 
   -- no value was read yet
   pub none_read : (o depth count : ℕ) → HaveRead b o m depth count 0 [] 0
   none_read o depth count = record {
     number = refl;
     known = tt;
-    stand = refl;
+    are_encoded = refl;
     shallow = omega arith;
     rest = λ r. let at : o ≡ o + 0 = omega arith in let left : count ≡ count - 0 = omega arith in subst (λ (p : ℕ). Rest b p depth (count - 0)) at (subst (λ (c : ℕ). Rest b o depth c) left r);
   }
@@ -80,21 +80,21 @@ module _ (b : List ℕ) (m : Mentions) where
   one_more o depth count i xs k x j lt h r = record {
     number = simp length-append (omega (arith, h.number));
     known = known_more xs x h.known r.known;
-    stand = stand_more o xs x k j h.stand r.stands;
+    are_encoded = encoded_more o xs x k j h.are_encoded r.encodes;
     shallow = omega (arith, depth_more xs x, h.shallow, r.shallow);
     rest = λ all.
         let n = next (o + k) depth (count - i) (omega arith) (h.rest all) in
-        let same = one_value b (o + k) n.value (value_in m x) n.size j n.stands r.stands in
+        let same = one_value b (o + k) n.value (value_in m x) n.size j n.encodes r.encodes in
         let place : o + k + n.size ≡ o + (k + j) = omega (arith, same.1) in
         let left : count - i - 1 ≡ count - (i + 1) = omega arith in
-        subst (λ (c : ℕ). Rest b (o + (k + j)) depth c) left (subst (λ (p : ℕ). Rest b p depth (count - i - 1)) place n.behind);
+        subst (λ (c : ℕ). Rest b (o + (k + j)) depth c) left (subst (λ (p : ℕ). Rest b p depth (count - i - 1)) place n.following);
   }
 
   -- the next bytes are no value
   pub no_next : (o depth count i : ℕ) (xs : List NumberedValue) (k : ℕ) → i < count → HaveRead b o m depth count i xs k → NoValueAt b (o + k) depth → Rest b o depth count → ⊥
   no_next o depth count i xs k lt h none all =
       let n = next (o + k) depth (count - i) (omega arith) (h.rest all) in
-      none n.value n.size n.stands n.shallow
+      none n.value n.size n.encodes n.shallow
 
   -- without a count there is no array
   pub no_count : (o depth : ℕ) → ((count i : ℕ) → Uleb128At b o count i → ⊥) → NoArrayAt b o depth
@@ -104,7 +104,7 @@ module _ (b : List ℕ) (m : Mentions) where
   pub no_values : (o depth count head : ℕ) → Uleb128At b o count head → (Rest b (o + head) depth count → ⊥) → NoArrayAt b o depth
   no_values o depth count head u none vs n h shallow =
       let same = one_uleb128 b o (count_values vs) count h.0 head h.2 u in
-      none (record { values = vs; size = h.1; stand = subst (λ (i : ℕ). ValuesAt b (o + i) vs h.1) same.1 h.3; number = same.0; shallow = shallow })
+      none (record { values = vs; size = h.1; are_encoded = subst (λ (i : ℕ). ValuesAt b (o + i) vs h.1) same.1 h.3; number = same.0; shallow = shallow })
 
   -- all of them were read
   pub all_read : (o depth count i head : ℕ) (xs : List NumberedValue) (k : ℕ) → Uleb128At b o count head → i ≡ count → HaveRead b (o + head) m depth count i xs k → AreReadAt b o m depth (values_of_list xs) (head + k)
@@ -112,6 +112,6 @@ module _ (b : List ℕ) (m : Mentions) where
       let all : count ≡ count_values (values_in m (values_of_list xs)) = omega (arith, count_is xs, h.number, e) in
       record {
         known = h.known;
-        stands = (head, k, subst (λ (c : ℕ). Uleb128At b o c head) all u, h.stand, refl);
+        encodes = (head, k, subst (λ (c : ℕ). Uleb128At b o c head) all u, h.are_encoded, refl);
         shallow = h.shallow;
       }

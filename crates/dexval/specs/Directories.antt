@@ -47,7 +47,7 @@ pub record HasPair (b : List ℕ) (at least limit : ℕ) : Type 0 where
 -- n pairs from an offset on: members by their numbers, which are below the limit, and their items
 pub record ArePairsAt {X Y : Type 0} (Known : X → Type 0) (inside : X → Y) (At : List ℕ → ℕ → Y → Type 0) (b : List ℕ) (p n limit : ℕ) (xs : List (ℕ × X)) : Type 0 where
   pub members_known : All (λ e. (e.0 < limit) × Known e.1) xs
-  pub pairs_stand : PairsAt (IsIndexBelow limit) At b p n (map (λ e. (e.0, inside e.1)) xs)
+  pub pairs_encoded : PairsAt (IsIndexBelow limit) At b p n (map (λ e. (e.0, inside e.1)) xs)
 
 -- no n such pairs are there
 abbrev pub NoPairsAt : {Y : Type 0} → (List ℕ → ℕ → Y → Type 0) → List ℕ → ℕ → ℕ → ℕ → Type 0

@@ -227,5 +227,5 @@ annotation_input a = fed.u8 a.visibility ++ (fed.u32 a.type ++ (fed.usize (eleme
 abbrev pub set_input : AnnotationSet → fed.HashWrites
 set_input s = fed.slice annotation_input (set_of s)
 
-pub equal_sets_alike : (x y : AnnotationSet) → IsTrue (equal_sets x y) → set_input x ≡ set_input y
-equal_sets_alike x y h = ap (fed.slice annotation_input) ((set_decides (set_of x) (set_of y)).0 h)
+pub equal_sets_agree : (x y : AnnotationSet) → IsTrue (equal_sets x y) → set_input x ≡ set_input y
+equal_sets_agree x y h = ap (fed.slice annotation_input) ((set_decides (set_of x) (set_of y)).0 h)

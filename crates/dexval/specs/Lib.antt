@@ -4,7 +4,7 @@ pub mod Code
 pub mod Directories
 pub mod Equality
 pub mod Items
-pub mod Judged
+pub mod DirectoryCache
 pub mod Nesting
 pub mod Numbered
 pub mod Reading

@@ -23,7 +23,7 @@ NoArrayAt b o depth = (vs : Values) (n : ℕ) → EncodedArrayAt b o vs n → va
 -- an encoded_array of the values that the numbers denote is at the offset; the values nest at most `depth` deep
 pub record AreReadAt (b : List ℕ) (o : ℕ) (m : Mentions) (depth : ℕ) (xs : NumberedValues) (n : ℕ) : Type 0 where
   pub known : AreKnown m xs
-  pub stands : EncodedArrayAt b o (values_in m xs) n
+  pub encodes : EncodedArrayAt b o (values_in m xs) n
   pub shallow : values_depth (values_in m xs) ≤ depth
 
 -- no element whose name has at least the number `least`, and whose value nests at most `depth` deep, is at the offset
@@ -48,7 +48,7 @@ NoElementsAt b o depth count = (es : Elements) (n : ℕ) → ElementsAt b o es n
 -- `depth` deep
 pub record AreElementsReadAt (b : List ℕ) (o : ℕ) (m : Mentions) (depth count : ℕ) (es : NumberedElements) (n : ℕ) : Type 0 where
   pub known : HaveKnown m es
-  pub stands : ElementsAt b o (elements_in m es) n
+  pub encodes : ElementsAt b o (elements_in m es) n
   pub number : length (names_of (elements_in m es)) ≡ count
   pub rise : IsTrue (rises text_cmp (names_of (elements_in m es)))
   pub shallow : elements_depth (elements_in m es) ≤ depth
@@ -62,5 +62,5 @@ NoAnnotationAt b o depth = (t : Text) (es : Elements) (n : ℕ) → EncodedAnnot
 pub record IsAnnotationReadAt (b : List ℕ) (o : ℕ) (m : Mentions) (depth : ℕ) (t : ℕ) (es : NumberedElements) (n : ℕ) : Type 0 where
   pub type_known : t < length m.types
   pub known : HaveKnown m es
-  pub stands : EncodedAnnotationAt (type_at m t) b o (elements_in m es) n
+  pub encodes : EncodedAnnotationAt (type_at m t) b o (elements_in m es) n
   pub shallow : elements_depth (elements_in m es) ≤ depth

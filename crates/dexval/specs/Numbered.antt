@@ -202,26 +202,26 @@ pub record IsKnownDirectory (m : Mentions) (d : NumberedDirectory) : Type 0 wher
 -- ---- denoting
 
 -- the numbers are those of symbols, and denote the value
-pub record StandsFor (m : Mentions) (x : NumberedValue) (v : Value) : Type 0 where
+pub record Denotes (m : Mentions) (x : NumberedValue) (v : Value) : Type 0 where
   pub known : IsKnown m x
   pub means : value_in m x ≡ v
 
 -- and denote the values
-pub record StandFor (m : Mentions) (xs : NumberedValues) (vs : Values) : Type 0 where
+pub record Denote (m : Mentions) (xs : NumberedValues) (vs : Values) : Type 0 where
   pub known : AreKnown m xs
   pub mean : values_in m xs ≡ vs
 
 -- and denote the annotation
-pub record StandsForAnnotation (m : Mentions) (x : NumberedAnnotation) (a : Annotation) : Type 0 where
+pub record DenotesAnnotation (m : Mentions) (x : NumberedAnnotation) (a : Annotation) : Type 0 where
   pub known : IsKnownAnnotation m x
   pub means : annotation_in m x ≡ a
 
 -- and denote the set
-pub record StandsForSet (m : Mentions) (x : NumberedSet) (s : AnnotationSet) : Type 0 where
+pub record DenotesSet (m : Mentions) (x : NumberedSet) (s : AnnotationSet) : Type 0 where
   pub known : IsKnownSet m x
   pub means : set_in m x ≡ s
 
 -- and denote the directory
-pub record StandsForDirectory (m : Mentions) (x : NumberedDirectory) (d : Directory) : Type 0 where
+pub record DenotesDirectory (m : Mentions) (x : NumberedDirectory) (d : Directory) : Type 0 where
   pub known : IsKnownDirectory m x
   pub means : directory_in m x ≡ d

@@ -38,8 +38,8 @@ abbrev pub IsListed : NumberedTable → ℕ → Type 0
 IsListed t i = (places : List (Option ℕ)) × Contains t.lists places × Contains places (Some i)
 
 -- if each number has a place, the new set is the old one remapped; otherwise it is the old one
-abbrev pub IsLedSet : Maps → NumberedSet → NumberedSet → Type 0
-IsLedSet r old new = (SetHasPlaces r old → new ≡ renumbered_set r old) × ((SetHasPlaces r old → ⊥) → new ≡ old)
+abbrev pub IsRemappedSet : Maps → NumberedSet → NumberedSet → Type 0
+IsRemappedSet r old new = (SetHasPlaces r old → new ≡ renumbered_set r old) × ((SetHasPlaces r old → ⊥) → new ≡ old)
 
 -- ---- a table that grows
 

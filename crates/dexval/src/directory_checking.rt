@@ -133,7 +133,7 @@ trait CheckedMember {
 
     ghost inside: { Mentions → Numbered → Meant };
 
-    ghost stands: { List ℕ → ℕ → Meant → Type 0 };
+    ghost encodes: { List ℕ → ℕ → Meant → Type 0 };
 
     ghost weighs: { Mentions → Numbered → ℕ };
 
@@ -147,8 +147,8 @@ trait CheckedMember {
         requires other { off ≢ 0 }
         requires checked { AreFilePools frame.now pools.now → AreChecked frame.now pools.now checked.old }
         ensures checked { AreFilePools frame.now pools.now → OnOk result (AreChecked frame.now pools.now checked.new) }
-        ensures weight { AreFilePools frame.now pools.now → IfOk result (IsWeighed (IsKnownAt (is_known pools.now) (inside pools.now) (stands frame.now off)) (weighs pools.now)) }
-        ensures refused { AreFilePools frame.now pools.now → IfErr result (IsRefusal ((meant : Meant) → stands frame.now off meant → ⊥)) };
+        ensures weight { AreFilePools frame.now pools.now → IfOk result (IsWeighed (IsKnownAt (is_known pools.now) (inside pools.now) (encodes frame.now off)) (weighs pools.now)) }
+        ensures refused { AreFilePools frame.now pools.now → IfErr result (IsRefusal ((meant : Meant) → encodes frame.now off meant → ⊥)) };
 }
 
 // The set of a field or a method.
@@ -163,7 +163,7 @@ impl CheckedMember for CheckedSet {
 
     ghost inside = { set_in };
 
-    ghost stands = { SetAt };
+    ghost encodes = { SetAt };
 
     ghost weighs = { set_weight_in };
 
@@ -189,7 +189,7 @@ impl CheckedMember for CheckedList {
 
     ghost inside = { λ m. map (set_in m) };
 
-    ghost stands = { RefListAt };
+    ghost encodes = { RefListAt };
 
     ghost weighs = { sets_weight_in };
 
@@ -214,8 +214,8 @@ fn members_weight<T: CheckedMember>(
     requires fits { pairs.now.at < 2 ^ 40 }
     requires checked { AreFilePools frame.now pools.now → AreChecked frame.now pools.now checked.old }
     ensures checked { AreFilePools frame.now pools.now → OnOk result (AreChecked frame.now pools.now checked.new) }
-    ensures weight { AreFilePools frame.now pools.now → IfOk result (IsWeighed (ArePairsAt (T.is_known pools.now) (T.inside pools.now) T.stands frame.now pairs.now.at pairs.now.count pairs.now.limit) (sum_by (λ e. T.weighs pools.now e.1))) }
-    ensures refused { AreFilePools frame.now pools.now → IfErr result (IsRefusal (NoPairsAt T.stands frame.now pairs.now.at pairs.now.count pairs.now.limit)) }
+    ensures weight { AreFilePools frame.now pools.now → IfOk result (IsWeighed (ArePairsAt (T.is_known pools.now) (T.inside pools.now) T.encodes frame.now pairs.now.at pairs.now.count pairs.now.limit) (sum_by (λ e. T.weighs pools.now e.1))) }
+    ensures refused { AreFilePools frame.now pools.now → IfErr result (IsRefusal (NoPairsAt T.encodes frame.now pairs.now.at pairs.now.count pairs.now.limit)) }
 {
     let mut weight: u64 = 0;
     let mut least = 0;

@@ -11,15 +11,15 @@ ghost use Rattle.dexval.specs.Numbered.{NumberedSet, IsKnownSet, set_in, directo
 ghost use Rattle.dexval.specs.Nesting.{AreFilePools};
 ghost use Rattle.dexval.specs.Items.{IsRefusal};
 ghost use Rattle.dexval.specs.Directories.{IsKnownAt, IsRefListAt, NoRefListAt, HasPair, ArePairsAt, NoPairsAt, HasMembers, directory_weight, set_weight_in, sets_weight_in, IsKept};
-ghost use Rattle.dexval.specs.Judged.{AreHeld, AreJudged, IsNoted, IsNamedOf};
+ghost use Rattle.dexval.specs.DirectoryCache.{AreHeld, AreCached, IsNoted, IsNamedOf};
 ghost use Rattle.dexval.specs.Reading.{IsDirectoryAt, IsDirectoryFault, IsDirectoryWithin, HasHeavyDirectory};
 ghost use Rattle.dexval.specs.Shared.{HoldsPlaces, NamesAll, IsTight, looked_up, shared_directory_of};
 ghost use Rattle.dexval.specs.Tables.{NumberedTable, Extends, IsListed, IsPlaceIn, set_at, sets_at};
 
 use crate::budget::Budget;
 use crate::directory::{Directory, MemberCounts, SharedDirectory};
+use crate::directory_cache::{DirectoryCache, count_list, counted_set_at, note_list};
 use crate::file_source::FileSource;
-use crate::judged::{Judged, count_list, counted_set_at, note_list};
 use crate::set_reading::count_at;
 use dexhead::{Condition, Frame, u32_at};
 use dexpool::{ItemFault, Pools, SymbolKind};
@@ -100,16 +100,16 @@ pub(crate) fn list_weight(count: u32) -> u64
 fn listed_sets_at(
     source: &FileSource<'_, '_, '_>,
     off: u32,
-    judged: &mut Judged,
+    cache: &mut DirectoryCache,
     budget: &mut Budget,
 ) -> Result<Vec<Option<u32>>, ItemFault>
-    requires held { AreHeld judged.old }
-    requires judged { AreFilePools source.now.frame.now source.now.pools.now → AreJudged source.now.frame.now source.now.pools.now judged.old }
+    requires held { AreHeld cache.old }
+    requires cache { AreFilePools source.now.frame.now source.now.pools.now → AreCached source.now.frame.now source.now.pools.now cache.old }
     ensures most { budget.new.most ≡ budget.old.most }
     ensures grows { budget.old.weight ≤ budget.new.weight }
-    ensures noted { IfOk result (λ places. IsNoted (λ i. Contains places.items (Some i)) (λ _. ⊥) (All (IsPlaceIn judged.new.table.sets) places.items) (budget.new.weight ≤ budget.new.most) judged.old judged.new) }
-    ensures judged { AreFilePools source.now.frame.now source.now.pools.now → OnOk result (AreJudged source.now.frame.now source.now.pools.now judged.new) }
-    ensures read { AreFilePools source.now.frame.now source.now.pools.now → IfOk result (λ places. IsKept (IsRefListAt source.now.frame.now off source.now.pools.now) (sets_weight_in source.now.pools.now) budget.old.most budget.old.weight budget.new.weight (map (set_at judged.new.table.sets) places.items)) }
+    ensures noted { IfOk result (λ places. IsNoted (λ i. Contains places.items (Some i)) (λ _. ⊥) (All (IsPlaceIn cache.new.table.sets) places.items) (budget.new.weight ≤ budget.new.most) cache.old cache.new) }
+    ensures cache { AreFilePools source.now.frame.now source.now.pools.now → OnOk result (AreCached source.now.frame.now source.now.pools.now cache.new) }
+    ensures read { AreFilePools source.now.frame.now source.now.pools.now → IfOk result (λ places. IsKept (IsRefListAt source.now.frame.now off source.now.pools.now) (sets_weight_in source.now.pools.now) budget.old.most budget.old.weight budget.new.weight (map (set_at cache.new.table.sets) places.items)) }
     ensures refused { AreFilePools source.now.frame.now source.now.pools.now → IfErr result (IsRefusal (NoRefListAt source.now.frame.now off)) }
 {
     let count = count_at(source.frame, off)?;
@@ -119,7 +119,7 @@ fn listed_sets_at(
     let mut places = Vec::with_capacity(source.alloc, room(count, budget))?;
     for i in 0..count {
         let set_off = u32_at(bytes, off as usize + 4 + 4 * i as usize);
-        let place = counted_set_at(source, set_off, judged, budget)?;
+        let place = counted_set_at(source, set_off, cache, budget)?;
         if budget.is_within() {
             places.push(place)?;
         }
@@ -132,29 +132,29 @@ fn listed_sets_at(
 fn counted_list_at(
     source: &FileSource<'_, '_, '_>,
     off: u32,
-    judged: &mut Judged,
+    cache: &mut DirectoryCache,
     budget: &mut Budget,
 ) -> Result<Option<u32>, ItemFault>
-    requires held { AreHeld judged.old }
-    requires judged { AreFilePools source.now.frame.now source.now.pools.now → AreJudged source.now.frame.now source.now.pools.now judged.old }
+    requires held { AreHeld cache.old }
+    requires cache { AreFilePools source.now.frame.now source.now.pools.now → AreCached source.now.frame.now source.now.pools.now cache.old }
     ensures most { budget.new.most ≡ budget.old.most }
     ensures grows { budget.old.weight ≤ budget.new.weight }
     ensures kept { IfOk result (λ place. budget.new.weight ≤ budget.new.most → IsSome place) }
-    ensures noted { IfOk result (λ place. IsNoted (IsListed judged.new.table) (λ i. place ≡ Some i) (IsPlaceIn judged.new.table.lists place) (budget.new.weight ≤ budget.new.most) judged.old judged.new) }
-    ensures judged { AreFilePools source.now.frame.now source.now.pools.now → OnOk result (AreJudged source.now.frame.now source.now.pools.now judged.new) }
-    ensures read { AreFilePools source.now.frame.now source.now.pools.now → IfOk result (λ place. IsKept (IsRefListAt source.now.frame.now off source.now.pools.now) (sets_weight_in source.now.pools.now) budget.old.most budget.old.weight budget.new.weight (sets_at judged.new.table place)) }
+    ensures noted { IfOk result (λ place. IsNoted (IsListed cache.new.table) (λ i. place ≡ Some i) (IsPlaceIn cache.new.table.lists place) (budget.new.weight ≤ budget.new.most) cache.old cache.new) }
+    ensures cache { AreFilePools source.now.frame.now source.now.pools.now → OnOk result (AreCached source.now.frame.now source.now.pools.now cache.new) }
+    ensures read { AreFilePools source.now.frame.now source.now.pools.now → IfOk result (λ place. IsKept (IsRefListAt source.now.frame.now off source.now.pools.now) (sets_weight_in source.now.pools.now) budget.old.most budget.old.weight budget.new.weight (sets_at cache.new.table place)) }
     ensures refused { AreFilePools source.now.frame.now source.now.pools.now → IfErr result (IsRefusal (NoRefListAt source.now.frame.now off)) }
 {
-    if let Some(place) = judged.lists.get(&off) {
+    if let Some(place) = cache.lists.get(&off) {
         let place = *place;
-        count_list(&judged.table, place, budget);
+        count_list(&cache.table, place, budget);
         return Ok(Some(place));
     }
-    if !budget.is_within() && judged.passed_lists.contains(&off) {
+    if !budget.is_within() && cache.skipped_lists.contains(&off) {
         return Ok(None);
     }
-    let places = listed_sets_at(source, off, judged, budget)?;
-    Ok(note_list(off, places, judged, budget)?)
+    let places = listed_sets_at(source, off, cache, budget)?;
+    Ok(note_list(off, places, cache, budget)?)
 }
 
 // A part of a directory for a member, by its place in the table: a set of annotations, or the sets of its parameters.
@@ -178,7 +178,7 @@ trait OfMember {
 
     ghost inside: { Mentions → Numbered → Meant };
 
-    ghost stands: { List ℕ → ℕ → Meant → Type 0 };
+    ghost encodes: { List ℕ → ℕ → Meant → Type 0 };
 
     ghost weighs: { Mentions → Numbered → ℕ };
 
@@ -187,19 +187,19 @@ trait OfMember {
     fn counted_at(
         source: &FileSource<'_, '_, '_>,
         off: u32,
-        judged: &mut Judged,
+        cache: &mut DirectoryCache,
         budget: &mut Budget,
     ) -> Result<Option<u32>, ItemFault>
         requires other { off ≢ 0 }
-        requires held { AreHeld judged.old }
-        requires judged { AreFilePools source.now.frame.now source.now.pools.now → AreJudged source.now.frame.now source.now.pools.now judged.old }
+        requires held { AreHeld cache.old }
+        requires cache { AreFilePools source.now.frame.now source.now.pools.now → AreCached source.now.frame.now source.now.pools.now cache.old }
         ensures most { budget.new.most ≡ budget.old.most }
         ensures grows { budget.old.weight ≤ budget.new.weight }
         ensures kept { IfOk result (λ place. budget.new.weight ≤ budget.new.most → IsSome place) }
-        ensures noted { IfOk result (λ place. IsNoted (names_set judged.new.table place) (names_list place) (is_held judged.new.table place) (budget.new.weight ≤ budget.new.most) judged.old judged.new) }
-        ensures judged { AreFilePools source.now.frame.now source.now.pools.now → OnOk result (AreJudged source.now.frame.now source.now.pools.now judged.new) }
-        ensures read { AreFilePools source.now.frame.now source.now.pools.now → IfOk result (λ place. IsKept (IsKnownAt (is_known source.now.pools.now) (inside source.now.pools.now) (stands source.now.frame.now off)) (weighs source.now.pools.now) budget.old.most budget.old.weight budget.new.weight (of judged.new.table place)) }
-        ensures refused { AreFilePools source.now.frame.now source.now.pools.now → IfErr result (IsRefusal ((meant : Meant) → stands source.now.frame.now off meant → ⊥)) };
+        ensures noted { IfOk result (λ place. IsNoted (names_set cache.new.table place) (names_list place) (is_held cache.new.table place) (budget.new.weight ≤ budget.new.most) cache.old cache.new) }
+        ensures cache { AreFilePools source.now.frame.now source.now.pools.now → OnOk result (AreCached source.now.frame.now source.now.pools.now cache.new) }
+        ensures read { AreFilePools source.now.frame.now source.now.pools.now → IfOk result (λ place. IsKept (IsKnownAt (is_known source.now.pools.now) (inside source.now.pools.now) (encodes source.now.frame.now off)) (weighs source.now.pools.now) budget.old.most budget.old.weight budget.new.weight (of cache.new.table place)) }
+        ensures refused { AreFilePools source.now.frame.now source.now.pools.now → IfErr result (IsRefusal ((meant : Meant) → encodes source.now.frame.now off meant → ⊥)) };
 
     // After a table grew, a place still holds and names the same item.
     ghost stays: { (t u : NumberedTable) (place : Option ℕ) → Extends t u → is_held t place → is_held u place × (of u place ≡ of t place) };
@@ -227,17 +227,17 @@ impl OfMember for SetOfMember {
 
     ghost inside = { set_in };
 
-    ghost stands = { SetAt };
+    ghost encodes = { SetAt };
 
     ghost weighs = { set_weight_in };
 
     fn counted_at(
         source: &FileSource<'_, '_, '_>,
         off: u32,
-        judged: &mut Judged,
+        cache: &mut DirectoryCache,
         budget: &mut Budget,
     ) -> Result<Option<u32>, ItemFault> {
-        counted_set_at(source, off, judged, budget)
+        counted_set_at(source, off, cache, budget)
     }
 
     ghost stays = { λ t u place extended held. (extended.sets_hold place held, extended.sets_stay place held) };
@@ -265,17 +265,17 @@ impl OfMember for ListOfMember {
 
     ghost inside = { λ m. map (set_in m) };
 
-    ghost stands = { RefListAt };
+    ghost encodes = { RefListAt };
 
     ghost weighs = { sets_weight_in };
 
     fn counted_at(
         source: &FileSource<'_, '_, '_>,
         off: u32,
-        judged: &mut Judged,
+        cache: &mut DirectoryCache,
         budget: &mut Budget,
     ) -> Result<Option<u32>, ItemFault> {
-        counted_list_at(source, off, judged, budget)
+        counted_list_at(source, off, cache, budget)
     }
 
     ghost stays = { λ t u place extended held. (extended.lists_hold place held, extended.lists_stay place held) };
@@ -296,25 +296,25 @@ pub(crate) struct PairRange {
 fn members_at<T: OfMember>(
     source: &FileSource<'_, '_, '_>,
     pairs: &PairRange,
-    judged: &mut Judged,
+    cache: &mut DirectoryCache,
     budget: &mut Budget,
 ) -> Result<Vec<(u32, u32)>, ItemFault>
     requires within { pairs.now.at + 8 * pairs.now.count ≤ length source.now.frame.now }
     requires fits { pairs.now.at < 2 ^ 40 }
-    requires held { AreHeld judged.old }
-    requires judged { AreFilePools source.now.frame.now source.now.pools.now → AreJudged source.now.frame.now source.now.pools.now judged.old }
+    requires held { AreHeld cache.old }
+    requires cache { AreFilePools source.now.frame.now source.now.pools.now → AreCached source.now.frame.now source.now.pools.now cache.old }
     ensures most { budget.new.most ≡ budget.old.most }
     ensures grows { budget.old.weight ≤ budget.new.weight }
-    ensures noted { IfOk result (λ members. IsNoted (IsNamedOf (T.names_set judged.new.table) members.items) (IsNamedOf T.names_list members.items) (All (λ e. T.is_held judged.new.table (Some e.1)) members.items) (budget.new.weight ≤ budget.new.most) judged.old judged.new) }
-    ensures judged { AreFilePools source.now.frame.now source.now.pools.now → OnOk result (AreJudged source.now.frame.now source.now.pools.now judged.new) }
-    ensures read { AreFilePools source.now.frame.now source.now.pools.now → IfOk result (λ members. IsKept (ArePairsAt (T.is_known source.now.pools.now) (T.inside source.now.pools.now) T.stands source.now.frame.now pairs.now.at pairs.now.count pairs.now.limit) (sum_by (λ e. T.weighs source.now.pools.now e.1)) budget.old.most budget.old.weight budget.new.weight (map (λ e. (e.0, T.of judged.new.table (Some e.1))) members.items)) }
-    ensures refused { AreFilePools source.now.frame.now source.now.pools.now → IfErr result (IsRefusal (NoPairsAt T.stands source.now.frame.now pairs.now.at pairs.now.count pairs.now.limit)) }
+    ensures noted { IfOk result (λ members. IsNoted (IsNamedOf (T.names_set cache.new.table) members.items) (IsNamedOf T.names_list members.items) (All (λ e. T.is_held cache.new.table (Some e.1)) members.items) (budget.new.weight ≤ budget.new.most) cache.old cache.new) }
+    ensures cache { AreFilePools source.now.frame.now source.now.pools.now → OnOk result (AreCached source.now.frame.now source.now.pools.now cache.new) }
+    ensures read { AreFilePools source.now.frame.now source.now.pools.now → IfOk result (λ members. IsKept (ArePairsAt (T.is_known source.now.pools.now) (T.inside source.now.pools.now) T.encodes source.now.frame.now pairs.now.at pairs.now.count pairs.now.limit) (sum_by (λ e. T.weighs source.now.pools.now e.1)) budget.old.most budget.old.weight budget.new.weight (map (λ e. (e.0, T.of cache.new.table (Some e.1))) members.items)) }
+    ensures refused { AreFilePools source.now.frame.now source.now.pools.now → IfErr result (IsRefusal (NoPairsAt T.encodes source.now.frame.now pairs.now.at pairs.now.count pairs.now.limit)) }
 {
     let mut members = Vec::with_capacity(source.alloc, room(pairs.count, budget))?;
     let mut least = 0;
     for i in 0..pairs.count {
         let (number, off) = pair_at(source.frame, pairs.at + 8 * i as usize, least, pairs.limit)?;
-        let place = T::counted_at(source, off, judged, budget)?;
+        let place = T::counted_at(source, off, cache, budget)?;
         least = u64::from(number) + 1;
         if let Some(place) = place {
             members.push((number, place))?;
@@ -337,17 +337,17 @@ struct Places {
 fn counted_directory_at(
     source: &FileSource<'_, '_, '_>,
     off: u32,
-    judged: &mut Judged,
+    cache: &mut DirectoryCache,
     budget: &mut Budget,
 ) -> Result<Places, ItemFault>
     requires unused { budget.old.weight ≡ 0 }
-    requires held { AreHeld judged.old }
-    requires judged { AreFilePools source.now.frame.now source.now.pools.now → AreJudged source.now.frame.now source.now.pools.now judged.old }
-    requires none { judged.old.table ≡ record { sets = []; lists = [] } }
+    requires held { AreHeld cache.old }
+    requires cache { AreFilePools source.now.frame.now source.now.pools.now → AreCached source.now.frame.now source.now.pools.now cache.old }
+    requires none { cache.old.table ≡ record { sets = []; lists = [] } }
     ensures most { budget.new.most ≡ budget.old.most }
-    ensures held { IfOk result (λ places. HoldsPlaces judged.new.table places.own places.fields.items places.methods.items places.parameters.items) }
-    ensures named { IfOk result (λ places. budget.new.weight ≤ budget.new.most → NamesAll judged.new.table places.own places.fields.items places.methods.items places.parameters.items) }
-    ensures read { AreFilePools source.now.frame.now source.now.pools.now → IfOk result (λ places. IsKept (IsDirectoryAt source.now.frame.now off source.now.pools.now) (λ d. directory_weight (directory_in source.now.pools.now d)) budget.old.most 0 budget.new.weight (looked_up judged.new.table places.own places.fields.items places.methods.items places.parameters.items)) }
+    ensures held { IfOk result (λ places. HoldsPlaces cache.new.table places.own places.fields.items places.methods.items places.parameters.items) }
+    ensures named { IfOk result (λ places. budget.new.weight ≤ budget.new.most → NamesAll cache.new.table places.own places.fields.items places.methods.items places.parameters.items) }
+    ensures read { AreFilePools source.now.frame.now source.now.pools.now → IfOk result (λ places. IsKept (IsDirectoryAt source.now.frame.now off source.now.pools.now) (λ d. directory_weight (directory_in source.now.pools.now d)) budget.old.most 0 budget.new.weight (looked_up cache.new.table places.own places.fields.items places.methods.items places.parameters.items)) }
     ensures refused { AreFilePools source.now.frame.now source.now.pools.now → IfErr result (IsDirectoryFault source.now.frame.now off) }
 {
     let counts = match member_counts(source.frame, off) {
@@ -356,27 +356,27 @@ fn counted_directory_at(
     };
     let bytes = source.frame.bytes();
     let own_off = u32_at(bytes, off as usize);
-    let own = counted_set_at(source, own_off, judged, budget)?;
+    let own = counted_set_at(source, own_off, cache, budget)?;
     let limit = source.pools.len(SymbolKind::Field);
     let field_pairs = PairRange {
         at: off as usize + 16,
         count: counts.fields,
         limit,
     };
-    let fields = members_at::<SetOfMember>(source, &field_pairs, judged, budget)?;
+    let fields = members_at::<SetOfMember>(source, &field_pairs, cache, budget)?;
     let limit = source.pools.len(SymbolKind::Method);
     let method_pairs = PairRange {
         at: field_pairs.at + 8 * counts.fields as usize,
         count: counts.methods,
         limit,
     };
-    let methods = members_at::<SetOfMember>(source, &method_pairs, judged, budget)?;
+    let methods = members_at::<SetOfMember>(source, &method_pairs, cache, budget)?;
     let parameter_pairs = PairRange {
         at: method_pairs.at + 8 * counts.methods as usize,
         count: counts.parameters,
         limit,
     };
-    let parameters = members_at::<ListOfMember>(source, &parameter_pairs, judged, budget)?;
+    let parameters = members_at::<ListOfMember>(source, &parameter_pairs, cache, budget)?;
     Ok(Places {
         own,
         fields,
@@ -398,16 +398,16 @@ fn directory_at(
     ensures read { AreFilePools frame.now pools.now → IfOk result (λ read. IsKept (IsDirectoryAt frame.now off pools.now) (λ d. directory_weight (directory_in pools.now d)) most 0 read.1 (shared_directory_of read.0)) }
     ensures refused { AreFilePools frame.now pools.now → IfErr result (IsDirectoryFault frame.now off) }
 {
-    let mut judged = Judged::none(alloc);
+    let mut cache = DirectoryCache::none(alloc);
     let mut budget = Budget { weight: 0, most };
     let source = FileSource {
         alloc,
         frame,
         pools,
     };
-    let places = counted_directory_at(&source, off, &mut judged, &mut budget)?;
+    let places = counted_directory_at(&source, off, &mut cache, &mut budget)?;
     let directory = SharedDirectory {
-        table: judged.table,
+        table: cache.table,
         own: places.own,
         fields: places.fields,
         methods: places.methods,

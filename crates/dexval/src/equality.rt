@@ -3,7 +3,7 @@
 ghost use Rattle.std.specs.Prelude.{◌≡◌, ◌↔◌, IsTrue};
 ghost use Rattle.std.specs.Cmp.{partial_equiv_from_equiv};
 ghost use Rattle.dexval.specs.Code.{set_of};
-ghost use Rattle.dexval.specs.Equality.{equal_sets, equal_sets_equiv, set_input, equal_sets_alike};
+ghost use Rattle.dexval.specs.Equality.{equal_sets, equal_sets_equiv, set_input, equal_sets_agree};
 
 use crate::hashing::hash_annotations;
 use crate::set::AnnotationSet;
@@ -28,7 +28,7 @@ impl Eq for AnnotationSet {
 impl Hash for AnnotationSet {
     ghost hash_input = { set_input };
 
-    ghost respects_eq = { equal_sets_alike };
+    ghost respects_eq = { equal_sets_agree };
 
     fn hash<H: Hasher>(&self, state: &mut H) {
         hash_annotations(self.annotations(), state);

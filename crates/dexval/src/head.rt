@@ -58,7 +58,7 @@ impl Head {
 }
 
 /// Whether the heads of two values are equal, once the numbers of each are remapped by its own map.
-pub(crate) fn heads_alike(value: &Value, mine: &Remap, other: &Value, theirs: &Remap) -> bool
+pub(crate) fn eq_heads(value: &Value, mine: &Remap, other: &Value, theirs: &Remap) -> bool
     ensures { IsTrue result ↔ (head_of (renumbered mine.now (value_of value.now)) ≡ head_of (renumbered theirs.now (value_of other.now))) }
 {
     Head::of(value, mine) == Head::of(other, theirs)

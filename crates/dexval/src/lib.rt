@@ -2,7 +2,7 @@
 //! parameters.
 //!
 //! Public contracts use the definitions of `specs/CheckedSets`, `specs/Checking`, `specs/Code`, `specs/Directories`,
-//! `specs/Equality`, `specs/Items`, `specs/Judged`, `specs/Nesting`, `specs/Numbered`, `specs/Reading`,
+//! `specs/Equality`, `specs/Items`, `specs/DirectoryCache`, `specs/Nesting`, `specs/Numbered`, `specs/Reading`,
 //! `specs/Renumbering`, `specs/Shared`, `specs/Spelled`, `specs/Stored`, `specs/Tables` and `specs/Uses`.
 //!
 //! Source: the Android page "Dalvik Executable format", under the headings "encoded_value encoding",
@@ -22,8 +22,8 @@ pub use laws::{
 };
 pub use marking::mark_values;
 pub use put::{put_annotation, put_statics, put_value};
-pub use renumbering::{led, renumber, renumber_set, renumber_values};
-pub use same::{ends_alike, same_values_mapped};
+pub use renumbering::{remapped, renumber, renumber_set, renumber_values};
+pub use same::{eq_ends, same_values_mapped};
 pub use set::AnnotationSet;
 pub use set_checking::{SetShape, check_set};
 pub use set_put::put_set;
@@ -40,6 +40,7 @@ mod annotation;
 mod budget;
 mod copying;
 mod directory;
+mod directory_cache;
 mod directory_checking;
 mod directory_reading;
 mod encoding;
@@ -48,12 +49,10 @@ mod file_source;
 mod fitting;
 mod hashing;
 mod head;
-mod judged;
 mod laws;
 mod marking;
 mod nested_checking;
 mod nesting;
-mod numbers;
 mod put;
 mod renumbering;
 mod same;
@@ -63,6 +62,7 @@ mod set_checking;
 mod set_put;
 mod set_reading;
 mod set_table;
+mod sized_numbers;
 mod sizes;
 mod type_codes;
 mod value;

@@ -6,9 +6,9 @@ ghost use Rattle.dexspec.specs.Annotations.{Annotation as AnnotationMeant};
 ghost use Rattle.dexspec.specs.Mentions.{Mentions};
 ghost use Rattle.dexspec.specs.Spellings.{value_bytes, encoded_array_bytes, annotation_bytes};
 ghost use Rattle.dexspec.specs.Weight.{value_weight, static_values_weight, annotation_weight};
-ghost use Rattle.dexspec.specs.Aside.Writing.{Puts};
+ghost use Rattle.dexspec.specs.internal.Writing.{Puts};
 ghost use Rattle.dexval.specs.Code.{value_of, annotation_of};
-ghost use Rattle.dexval.specs.Numbered.{value_in, values_in, annotation_in, values_of_list, StandsFor, StandFor, StandsForAnnotation};
+ghost use Rattle.dexval.specs.Numbered.{value_in, values_in, annotation_in, values_of_list, Denotes, Denote, DenotesAnnotation};
 ghost use Rattle.dexval.specs.Spelled.{IsCounted, AreCounted, IsCountedAnnotation, numbered_bytes, numbered_array_bytes, numbered_annotation_bytes};
 
 use crate::annotation::Annotation;
@@ -32,7 +32,7 @@ pub fn put_value(
     out: &mut Vec<u8>,
 ) -> Result<(), AllocError>
     ensures bytes { Puts (numbered_bytes (value_of value.now)) out.old out.new result }
-    ensures symbolic { (symbolic : ValueMeant) → IsCounted (value_of value.now) → StandsFor numbering.now (value_of value.now) symbolic → Puts (value_bytes numbering.now symbolic) out.old out.new result }
+    ensures symbolic { (symbolic : ValueMeant) → IsCounted (value_of value.now) → Denotes numbering.now (value_of value.now) symbolic → Puts (value_bytes numbering.now symbolic) out.old out.new result }
     ensures bound { (m : Mentions) → length (numbered_bytes (value_of value.now)) ≤ value_weight (value_in m (value_of value.now)) }
     ensures room { (m : Mentions) → vec_len out.old + value_weight (value_in m (value_of value.now)) ≤ vec_capacity out.old → IsOk result }
 {
@@ -54,7 +54,7 @@ pub fn put_statics(
     out: &mut Vec<u8>,
 ) -> Result<(), AllocError>
     ensures bytes { Puts (numbered_array_bytes (values_of_list (map value_of values.now))) out.old out.new result }
-    ensures symbolic { (symbolic : ValuesMeant) → length values.now < 2 ^ 32 → AreCounted (values_of_list (map value_of values.now)) → StandFor numbering.now (values_of_list (map value_of values.now)) symbolic → Puts (encoded_array_bytes numbering.now symbolic) out.old out.new result }
+    ensures symbolic { (symbolic : ValuesMeant) → length values.now < 2 ^ 32 → AreCounted (values_of_list (map value_of values.now)) → Denote numbering.now (values_of_list (map value_of values.now)) symbolic → Puts (encoded_array_bytes numbering.now symbolic) out.old out.new result }
     ensures bound { (m : Mentions) → 0 < length values.now → length (numbered_array_bytes (values_of_list (map value_of values.now))) ≤ static_values_weight (values_in m (values_of_list (map value_of values.now))) }
     ensures room { (m : Mentions) → 0 < length values.now → vec_len out.old + static_values_weight (values_in m (values_of_list (map value_of values.now))) ≤ vec_capacity out.old → IsOk result }
 {
@@ -76,7 +76,7 @@ pub fn put_annotation(
     out: &mut Vec<u8>,
 ) -> Result<(), AllocError>
     ensures bytes { Puts (numbered_annotation_bytes (annotation_of annotation.now)) out.old out.new result }
-    ensures symbolic { (symbolic : AnnotationMeant) → IsCountedAnnotation (annotation_of annotation.now) → StandsForAnnotation numbering.now (annotation_of annotation.now) symbolic → Puts (annotation_bytes numbering.now symbolic) out.old out.new result }
+    ensures symbolic { (symbolic : AnnotationMeant) → IsCountedAnnotation (annotation_of annotation.now) → DenotesAnnotation numbering.now (annotation_of annotation.now) symbolic → Puts (annotation_bytes numbering.now symbolic) out.old out.new result }
     ensures bound { (m : Mentions) → length (numbered_annotation_bytes (annotation_of annotation.now)) ≤ annotation_weight (annotation_in m (annotation_of annotation.now)) }
     ensures room { (m : Mentions) → vec_len out.old + annotation_weight (annotation_in m (annotation_of annotation.now)) ≤ vec_capacity out.old → IsOk result }
 {

@@ -4,8 +4,8 @@ ghost use Rattle.std.specs.Prelude.{◌≡◌, ◌<◌, ◌^◌, All, map};
 ghost use Rattle.dexpool.specs.declared.symbols.SymbolKind.TheVariants as kinds;
 ghost use Rattle.dexval.specs.Code.{value_of, element_of, annotation_of, set_of};
 ghost use Rattle.dexval.specs.Numbered.{values_of_list, elements_of_list};
-ghost use Rattle.dexval.specs.Renumbering.{led, renumbered, renumbered_values, renumbered_elements, renumbered_element, renumbered_annotation, renumbered_set, HasPlaces, HavePlaces, ElementHasPlaces, ElementsHavePlaces, AnnotationHasPlaces, SetHasPlaces};
-ghost use Rattle.dexpool.specs.Images.{LeadsOn};
+ghost use Rattle.dexval.specs.Renumbering.{remapped, renumbered, renumbered_values, renumbered_elements, renumbered_element, renumbered_annotation, renumbered_set, HasPlaces, HavePlaces, ElementHasPlaces, ElementsHavePlaces, AnnotationHasPlaces, SetHasPlaces};
+ghost use Rattle.dexpool.specs.Images.{IsMapped};
 
 use crate::annotation::Annotation;
 use crate::set::AnnotationSet;
@@ -15,9 +15,9 @@ use dexpool::{Remap, SymbolKind};
 /// The number that the number of a symbol of a kind maps to.
 ///
 /// Condition: it maps to a number below 2^32.
-pub fn led(remap: &Remap, kind: SymbolKind, number: u32) -> u32
-    requires { LeadsOn remap.now kind number }
-    ensures { result ≡ led remap.now kind number }
+pub fn remapped(remap: &Remap, kind: SymbolKind, number: u32) -> u32
+    requires { IsMapped remap.now kind number }
+    ensures { result ≡ remapped remap.now kind number }
 {
     match remap.image(kind, number as usize) {
         Some(image) => image as u32,
@@ -59,14 +59,14 @@ impl Value {
         ensures { value_of self.new ≡ renumbered remap.now (value_of self.old) }
     {
         match self {
-            Value::String(number) => *number = led(remap, SymbolKind::Text, *number),
-            Value::Typ(number) => *number = led(remap, SymbolKind::Typ, *number),
-            Value::Field(number) => *number = led(remap, SymbolKind::Field, *number),
-            Value::Method(number) => *number = led(remap, SymbolKind::Method, *number),
-            Value::Enum(number) => *number = led(remap, SymbolKind::Field, *number),
+            Value::String(number) => *number = remapped(remap, SymbolKind::Text, *number),
+            Value::Typ(number) => *number = remapped(remap, SymbolKind::Typ, *number),
+            Value::Field(number) => *number = remapped(remap, SymbolKind::Field, *number),
+            Value::Method(number) => *number = remapped(remap, SymbolKind::Method, *number),
+            Value::Enum(number) => *number = remapped(remap, SymbolKind::Field, *number),
             Value::Array(values) => renumber_values(values, remap),
             Value::Annotation(typ, elements) => {
-                *typ = led(remap, SymbolKind::Typ, *typ);
+                *typ = remapped(remap, SymbolKind::Typ, *typ);
                 renumber_elements(elements, remap);
             }
             _ => {}
@@ -83,7 +83,7 @@ impl Element {
         requires { ElementHasPlaces remap.now (element_of self.old) }
         ensures { element_of self.new ≡ renumbered_element remap.now (element_of self.old) }
     {
-        self.name = led(remap, SymbolKind::Text, self.name);
+        self.name = remapped(remap, SymbolKind::Text, self.name);
         self.value.renumber(remap);
     }
 }
@@ -96,7 +96,7 @@ impl Annotation {
         requires { AnnotationHasPlaces remap.now (annotation_of self.old) }
         ensures { annotation_of self.new ≡ renumbered_annotation remap.now (annotation_of self.old) }
     {
-        self.typ = led(remap, SymbolKind::Typ, self.typ);
+        self.typ = remapped(remap, SymbolKind::Typ, self.typ);
         renumber_elements(&mut self.elements, remap);
     }
 }

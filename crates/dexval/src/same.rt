@@ -4,17 +4,17 @@ ghost use Rattle.std.specs.Prelude.{◌≡◌, ◌↔◌, IsTrue, map};
 ghost use Rattle.dexpool.specs.declared.symbols.SymbolKind.TheVariants as kinds;
 ghost use Rattle.dexval.specs.Code.{value_of, element_of, annotation_of, set_of};
 ghost use Rattle.dexval.specs.Numbered.{values_of_list, elements_of_list};
-ghost use Rattle.dexval.specs.Renumbering.{led, renumbered, renumbered_values, renumbered_elements, renumbered_element, renumbered_annotation, renumbered_set};
+ghost use Rattle.dexval.specs.Renumbering.{remapped, renumbered, renumbered_values, renumbered_elements, renumbered_element, renumbered_annotation, renumbered_set};
 
 use crate::annotation::Annotation;
-use crate::head::heads_alike;
+use crate::head::eq_heads;
 use crate::set::AnnotationSet;
 use crate::value::{Element, Value};
 use dexpool::{Remap, SymbolKind};
 
 /// The number that a number maps to; a number without an image is unchanged.
 pub(crate) fn end(remap: &Remap, kind: SymbolKind, number: u32) -> usize
-    ensures { result ≡ led remap.now kind number }
+    ensures { result ≡ remapped remap.now kind number }
 {
     match remap.image(kind, number as usize) {
         Some(image) => image,
@@ -24,8 +24,8 @@ pub(crate) fn end(remap: &Remap, kind: SymbolKind, number: u32) -> usize
 
 /// Whether two numbers of symbols of a kind are equal, once each is remapped by its own map. A number without an image
 /// is unchanged.
-pub fn ends_alike(kind: SymbolKind, mine: &Remap, number: u32, theirs: &Remap, other: u32) -> bool
-    ensures { IsTrue result ↔ (led mine.now kind number ≡ led theirs.now kind other) }
+pub fn eq_ends(kind: SymbolKind, mine: &Remap, number: u32, theirs: &Remap, other: u32) -> bool
+    ensures { IsTrue result ↔ (remapped mine.now kind number ≡ remapped theirs.now kind other) }
 {
     end(mine, kind, number) == end(theirs, kind, other)
 }
@@ -72,7 +72,7 @@ impl Value {
     pub fn same_mapped(&self, mine: &Remap, other: &Value, theirs: &Remap) -> bool
         ensures { IsTrue result ↔ (renumbered mine.now (value_of self.now) ≡ renumbered theirs.now (value_of other.now)) }
     {
-        if !heads_alike(self, mine, other, theirs) {
+        if !eq_heads(self, mine, other, theirs) {
             return false;
         }
         if !same_values_mapped(self.held_values(), mine, other.held_values(), theirs) {
@@ -89,7 +89,7 @@ impl Element {
     pub fn same_mapped(&self, mine: &Remap, other: &Element, theirs: &Remap) -> bool
         ensures { IsTrue result ↔ (renumbered_element mine.now (element_of self.now) ≡ renumbered_element theirs.now (element_of other.now)) }
     {
-        if !ends_alike(SymbolKind::Text, mine, self.name, theirs, other.name) {
+        if !eq_ends(SymbolKind::Text, mine, self.name, theirs, other.name) {
             return false;
         }
         self.value.same_mapped(mine, &other.value, theirs)
@@ -105,7 +105,7 @@ impl Annotation {
         if self.visibility != other.visibility {
             return false;
         }
-        if !ends_alike(SymbolKind::Typ, mine, self.typ, theirs, other.typ) {
+        if !eq_ends(SymbolKind::Typ, mine, self.typ, theirs, other.typ) {
             return false;
         }
         same_elements(mine, &self.elements, theirs, &other.elements)

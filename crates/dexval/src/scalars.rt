@@ -7,7 +7,7 @@ ghost use Rattle.dexpool.specs.Pools.{ArePools, count_of};
 ghost use Rattle.dexval.specs.Code.{value_of};
 ghost use Rattle.dexval.specs.internal.Scalars.{width_of, HasNumber, Spells, IsUnknown, NoValueAt, IsReadAt};
 
-use crate::numbers::{bits, signed, unsigned};
+use crate::sized_numbers::{bits, signed, unsigned};
 use crate::type_codes::{
     BOOLEAN, BYTE, CHAR, DOUBLE, ENUM, FIELD, FLOAT, INT, LONG, METHOD, NULL, SHORT, STRING, TYPE,
 };

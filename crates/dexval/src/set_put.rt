@@ -8,9 +8,9 @@ ghost use Rattle.dexspec.specs.Mentions.{Mentions};
 ghost use Rattle.dexspec.specs.Placing.{offsets_from};
 ghost use Rattle.dexspec.specs.Spellings.{annotation_bytes, offsets_bytes};
 ghost use Rattle.dexspec.specs.Weight.{set_weight};
-ghost use Rattle.dexspec.specs.Aside.Writing.{Puts};
+ghost use Rattle.dexspec.specs.internal.Writing.{Puts};
 ghost use Rattle.dexval.specs.Code.{annotation_of, set_of};
-ghost use Rattle.dexval.specs.Numbered.{set_in, StandsForSet};
+ghost use Rattle.dexval.specs.Numbered.{set_in, DenotesSet};
 ghost use Rattle.dexval.specs.Spelled.{numbered_offsets, numbered_set_bytes};
 
 use crate::annotation::Annotation;
@@ -64,7 +64,7 @@ pub fn put_set(
 ) -> Result<(), AllocError>
     requires { All (λ offset. offset < 2 ^ 32) (numbered_offsets first (set_of set.now)) }
     ensures bytes { Puts (numbered_set_bytes first (set_of set.now)) out.old out.new result }
-    ensures symbolic { (symbolic : SetMeant) → StandsForSet numbering.now (set_of set.now) symbolic → Puts (offsets_bytes (offsets_from 1 first (map (annotation_bytes numbering.now) symbolic))) out.old out.new result }
+    ensures symbolic { (symbolic : SetMeant) → DenotesSet numbering.now (set_of set.now) symbolic → Puts (offsets_bytes (offsets_from 1 first (map (annotation_bytes numbering.now) symbolic))) out.old out.new result }
     ensures bound { vec_len out.old + (4 + 4 * length (set_of set.now)) ≤ vec_capacity out.old → IsOk result }
     ensures most { length (numbered_set_bytes first (set_of set.now)) ≤ 4 + 4 * length (set_of set.now) }
     ensures room { (m : Mentions) → 0 < length (set_of set.now) → vec_len out.old + set_weight (set_in m (set_of set.now)) ≤ vec_capacity out.old → IsOk result }

@@ -4,7 +4,7 @@ ghost use Rattle.std.specs.Prelude.{◌≡◌, ◌≢◌, ◌<◌, ◌-◌, ◌^
 ghost use Rattle.dexspec.specs.Mentions.{Mentions};
 ghost use Rattle.dexval.specs.Code.{set_of};
 ghost use Rattle.dexval.specs.Directories.{set_weight_in, sets_weight_in};
-ghost use Rattle.dexval.specs.Tables.{Extends, IsLedSet, IsPlaceIn, set_at, places_at, sets_at};
+ghost use Rattle.dexval.specs.Tables.{Extends, IsRemappedSet, IsPlaceIn, set_at, places_at, sets_at};
 
 use crate::set::AnnotationSet;
 use dexpool::Remap;
@@ -40,7 +40,7 @@ impl Model for SetTable {
 // Replaces each number of a symbol in the sets by the one that it maps to, in each set that fits.
 fn renumber_sets(sets: &mut Vec<AnnotationSet>, remap: &Remap)
     ensures size { length sets.new.items ≡ length sets.old.items }
-    ensures sets { (place : Option ℕ) → IsLedSet remap.now (set_at (map set_of sets.old.items) place) (set_at (map set_of sets.new.items) place) }
+    ensures sets { (place : Option ℕ) → IsRemappedSet remap.now (set_at (map set_of sets.old.items) place) (set_at (map set_of sets.new.items) place) }
 {
     for i in 0..sets.len() {
         if sets[i].fits(remap) {
@@ -184,7 +184,7 @@ impl SetTable {
     pub fn renumber(&mut self, remap: &Remap)
         ensures size { length self.new.sets ≡ length self.old.sets }
         ensures lists { self.new.lists ≡ self.old.lists }
-        ensures sets { (place : Option ℕ) → IsLedSet remap.now (set_at self.old.sets place) (set_at self.new.sets place) }
+        ensures sets { (place : Option ℕ) → IsRemappedSet remap.now (set_at self.old.sets place) (set_at self.new.sets place) }
     {
         renumber_sets(&mut self.sets, remap);
     }

@@ -7,7 +7,7 @@ ghost use Rattle.dexspec.specs.Mentions.{Mentions};
 ghost use Rattle.dexspec.specs.Spellings.{encoded_array_bytes, annotation_bytes, offsets_bytes};
 ghost use Rattle.dexpool.specs.Numberings.{AreRising};
 ghost use Rattle.dexval.specs.Code.{value_of, annotation_of, set_of};
-ghost use Rattle.dexval.specs.Numbered.{values_of_list, StandFor, StandsForAnnotation};
+ghost use Rattle.dexval.specs.Numbered.{values_of_list, Denote, DenotesAnnotation};
 ghost use Rattle.dexval.specs.Spelled.{numbered_array_bytes, numbered_annotation_bytes, numbered_set_bytes};
 
 use crate::annotation::Annotation;
@@ -22,7 +22,7 @@ use dexhead::encoded_len;
 /// Source: "annotation_item" and "encoded_annotation format".
 pub fn annotation_size(annotation: &Annotation) -> u64
     ensures size { result ≡ min (2 ^ 64 - 1) (length (numbered_annotation_bytes (annotation_of annotation.now))) }
-    ensures symbolic { (m : Mentions) (symbolic : AnnotationMeant) → AreRising m → StandsForAnnotation m (annotation_of annotation.now) symbolic → result ≡ min (2 ^ 64 - 1) (length (annotation_bytes m symbolic)) }
+    ensures symbolic { (m : Mentions) (symbolic : AnnotationMeant) → AreRising m → DenotesAnnotation m (annotation_of annotation.now) symbolic → result ≡ min (2 ^ 64 - 1) (length (annotation_bytes m symbolic)) }
 {
     encoded_len(annotation) as u64
 }
@@ -33,7 +33,7 @@ pub fn annotation_size(annotation: &Annotation) -> u64
 /// Source: "encoded_array_item" and "encoded_array format".
 pub fn statics_size(values: &[Value]) -> u64
     ensures size { result ≡ min (2 ^ 64 - 1) (length (numbered_array_bytes (values_of_list (map value_of values.now)))) }
-    ensures symbolic { (m : Mentions) (symbolic : ValuesMeant) → AreRising m → StandFor m (values_of_list (map value_of values.now)) symbolic → result ≡ min (2 ^ 64 - 1) (length (encoded_array_bytes m symbolic)) }
+    ensures symbolic { (m : Mentions) (symbolic : ValuesMeant) → AreRising m → Denote m (values_of_list (map value_of values.now)) symbolic → result ≡ min (2 ^ 64 - 1) (length (encoded_array_bytes m symbolic)) }
 {
     encoded_len(&ArrayItem { values }) as u64
 }

@@ -22,7 +22,7 @@ result_of None = Ok tt
 result_of (Some fault) = Err fault
 
 -- the fault is reported exactly where the target has failed
-pub record TellsFault {T : Type 0} (has_failed : T → Bool) (out : Out T) : Type 0 where
+pub record ReportsFault {T : Type 0} (has_failed : T → Bool) (out : Out T) : Type 0 where
   pub works : out.fault ≡ None → has_failed out.target ≡ false
   pub fails : out.fault ≡ Some Io → has_failed out.target ≡ true
 
@@ -35,7 +35,7 @@ pub record HasRoom {T : Type 0} (limit : ℕ) (out : Out T) : Type 0 where
 -- x was written
 pub record Adds {T : Type 0} (gives gives_prefix : List ℕ → T → T → Type 0) (has_failed : T → Bool) (limit : ℕ) (old new : Out T) (x : List ℕ) : Type 0 where
   pub written : (start : T) (m : List ℕ) → HasWritten gives gives_prefix start old m → HasWritten gives gives_prefix start new (m ++ x)
-  pub tells : TellsFault has_failed old → TellsFault has_failed new
+  pub reports : ReportsFault has_failed old → ReportsFault has_failed new
   pub room : HasRoom limit old → HasRoom limit new
 
 -- none of the items is longer than the limit

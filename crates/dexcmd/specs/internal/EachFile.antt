@@ -4,7 +4,7 @@ use Rattle.dexruns.specs.declared.faults.RunFault.{RunFault}
 use Rattle.dexruns.specs.declared.faults.RunFault.TheVariants.{Input, Plan, Merge, Read, Write, Memory}
 use Rattle.dexcmd.specs.declared.each_file.Task.{Task}
 use Rattle.dexcmd.specs.declared.each_file.Task.TheVariants.{Check, Digest}
-use Rattle.dexcmd.specs.declared.reports.Report.{Report}
+use Rattle.dexcmd.specs.declared.outcome_report.Report.{Report}
 use Rattle.dexcmd.specs.internal.Ran.{IsCheckRun, IsDigestRun}
 use Rattle.dexcmd.specs.Reports.{standard_name, done, outcome_status, outcome_lines, IsReport}
 
@@ -40,13 +40,13 @@ module _ {Out : Type 0} (is_closed : Out → Bool) (goes_on : Result ℕ RunFaul
       × (goes_on outcome ≡ false → IsReport (max status (outcome_status outcome)) (lines ++ outcome_lines (file ∷ []) standard_name (is_closed written) outcome) report)
 
 module _ {In Out : Type 0} (is_input : List ℕ → In → Type 0) (is_standard : Out → Type 0) (is_closed : Out → Bool)
-    (tells : In → Type 0) (to_come : In → List ℕ) (reader_failed : In → Bool) (writes : Out → Type 0) (taken : Out → List ℕ) (writer_failed : Out → Bool) where
+    (reports : In → Type 0) (to_come : In → List ℕ) (reader_failed : In → Bool) (writes : Out → Type 0) (taken : Out → List ℕ) (writer_failed : Out → Bool) where
   -- `check_run` over the one file
   pub record IsFileChecked (file : List ℕ) (out written : Out) (outcome : Result ℕ RunFault) : Type 0 where
     pub input : In
     pub left : List In
     pub named : is_input file input
-    pub ran : IsCheckRun tells to_come reader_failed writes taken writer_failed (file ∷ []) (input ∷ []) left out written outcome
+    pub ran : IsCheckRun reports to_come reader_failed writes taken writer_failed (file ∷ []) (input ∷ []) left out written outcome
 
   -- `digest_run` over the file
   pub record IsFileDigested (file : List ℕ) (out written : Out) (outcome : Result ℕ RunFault) : Type 0 where
@@ -54,7 +54,7 @@ module _ {In Out : Type 0} (is_input : List ℕ → In → Type 0) (is_standard 
     pub left : In
     pub ended : Result (Unit {0}) RunFault
     pub named : is_input file input
-    pub ran : IsDigestRun tells to_come reader_failed writes taken writer_failed file input left out written ended
+    pub ran : IsDigestRun reports to_come reader_failed writes taken writer_failed file input left out written ended
     pub is : outcome ≡ done ended
 
   -- the task's run over the file

@@ -16,13 +16,13 @@ module _ (starts : List Bool) (types : ℕ) where
   -- at offset o is an encoded_catch_handler of n bytes
   pub record HasHandler (b : List ℕ) (o n : ℕ) : Type 0 where
     pub handler : NumberedHandler
-    pub stands : HandlerAt starts types b o handler n
+    pub encodes : HandlerAt starts types b o handler n
     pub within : o + n ≤ length b
 
   -- at offset o is this handler
   pub record IsHandlerAt (b : List ℕ) (o : ℕ) (h : NumberedHandler) : Type 0 where
     pub size : ℕ
-    pub stands : HandlerAt starts types b o h size
+    pub encodes : HandlerAt starts types b o h size
 
   -- at offset o is a handler list, whose handlers are numbered so by its bytes
   pub record HasList (b : List ℕ) (o : ℕ) (numbers : List (Option ℕ)) : Type 0 where

@@ -8,15 +8,15 @@ ghost use Rattle.dexspec.specs.Rows.{StringRow, TypeRow, ProtoRow, FieldRow, Met
 ghost use Rattle.dexspec.specs.Classes.{Body, ClassRow};
 ghost use Rattle.dexspec.specs.Mentions.{symbols_of};
 ghost use Rattle.dexspec.specs.Accepted.{HasMembers, HoldBelow};
-ghost use Rattle.dexlaws.specs.Denotes.{StandInOrder};
+ghost use Rattle.dexlaws.specs.Denotes.{RowsInOrder};
 
 /// If the first sixteen conditions hold, the rows of each pool are in order.
-pub fn rows_stand_in_order()
-    ensures texts { (b : List ℕ) → HoldBelow 17 b → StandInOrder text_cmp (StringRow b) }
-    ensures types { (b : List ℕ) → HoldBelow 17 b → StandInOrder text_cmp (TypeRow b) }
-    ensures protos { (b : List ℕ) → HoldBelow 17 b → StandInOrder proto_cmp (ProtoRow b) }
-    ensures fields { (b : List ℕ) → HoldBelow 17 b → StandInOrder field_cmp (FieldRow b) }
-    ensures methods { (b : List ℕ) → HoldBelow 17 b → StandInOrder method_cmp (MethodRow b) }
+pub fn rows_are_in_order()
+    ensures texts { (b : List ℕ) → HoldBelow 17 b → RowsInOrder text_cmp (StringRow b) }
+    ensures types { (b : List ℕ) → HoldBelow 17 b → RowsInOrder text_cmp (TypeRow b) }
+    ensures protos { (b : List ℕ) → HoldBelow 17 b → RowsInOrder proto_cmp (ProtoRow b) }
+    ensures fields { (b : List ℕ) → HoldBelow 17 b → RowsInOrder field_cmp (FieldRow b) }
+    ensures methods { (b : List ℕ) → HoldBelow 17 b → RowsInOrder method_cmp (MethodRow b) }
 {}
 
 /// If the first sixteen conditions and the condition on members hold, each symbol of a class row's definition has a

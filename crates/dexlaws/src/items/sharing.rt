@@ -6,13 +6,13 @@ ghost use Rattle.dexspec.specs.Debug.{Debug};
 ghost use Rattle.dexspec.specs.Annotations.{AnnotationSet};
 ghost use Rattle.dexspec.specs.Sameness.{same_types, same_debug, same_set};
 ghost use Rattle.dexspec.specs.Placing.{shared_items};
-ghost use Rattle.dexlaws.specs.Items.{TellsEqual, AreShared};
+ghost use Rattle.dexlaws.specs.Items.{ReportsEqual, AreShared};
 
 /// Two type lists, two debug programs or two sets are the same by their test exactly if they are equal.
 pub fn sameness_is_equality()
-    ensures type_lists { TellsEqual same_types }
-    ensures debugs { TellsEqual same_debug }
-    ensures sets { TellsEqual same_set }
+    ensures type_lists { ReportsEqual same_types }
+    ensures debugs { ReportsEqual same_debug }
+    ensures sets { ReportsEqual same_set }
 {}
 
 /// No two written items are equal, and each has a use. Each use that is not empty has the number of the item that

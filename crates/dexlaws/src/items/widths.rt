@@ -1,7 +1,7 @@
 //! Numbers in encoded values: they are written in the fewest bytes, and are read back.
 ghost use Rattle.std.specs.Prelude.{◌≡◌, ℕ, ℤ, All, ◌+◌, ◌-◌, ◌*◌, ◌/◌, ◌^◌, ◌<◌, ◌≤◌, List, length, FitsSigned};
 ghost use Rattle.std.specs.Int.{w64};
-ghost use Rattle.dexspec.specs.Bytes.{number_of, bytes_of, signed_in, Stands};
+ghost use Rattle.dexspec.specs.Bytes.{number_of, bytes_of, signed_in, BytesAt};
 ghost use Rattle.dexspec.specs.Numbers.{magnitude};
 ghost use Rattle.dexspec.specs.Values.{UnsignedAt, SignedAt, BitsAt};
 ghost use Rattle.dexspec.specs.Spellings.{unsigned_width, signed_width, bits_width, complement, unsigned_bytes, signed_bytes, bits_bytes};
@@ -23,8 +23,8 @@ pub fn width_is_least()
 
 /// The bytes that are written for a number or a bit pattern that fits a type's width encode it, and are one more than
 /// its least width.
-pub fn written_number_stands()
-    ensures unsigned { (code width : ℕ) (b : List ℕ) (o v : ℕ) → 1 ≤ width → width ≤ 8 → v < 256 ^ width → Stands b o (unsigned_bytes code v) → UnsignedAt code width b o v (1 + unsigned_width v) }
-    ensures signed { (code width : ℕ) (b : List ℕ) (o : ℕ) (z : ℤ) → 1 ≤ width → width ≤ 8 → 2 * magnitude z < 256 ^ width → Stands b o (signed_bytes code z) → SignedAt code width b o z (1 + signed_width z) }
-    ensures bits { (code width : ℕ) (b : List ℕ) (o v : ℕ) → 1 ≤ width → width ≤ 8 → v < 256 ^ width → Stands b o (bits_bytes code width v) → BitsAt code width b o v (1 + bits_width width v) }
+pub fn written_number_encoded()
+    ensures unsigned { (code width : ℕ) (b : List ℕ) (o v : ℕ) → 1 ≤ width → width ≤ 8 → v < 256 ^ width → BytesAt b o (unsigned_bytes code v) → UnsignedAt code width b o v (1 + unsigned_width v) }
+    ensures signed { (code width : ℕ) (b : List ℕ) (o : ℕ) (z : ℤ) → 1 ≤ width → width ≤ 8 → 2 * magnitude z < 256 ^ width → BytesAt b o (signed_bytes code z) → SignedAt code width b o z (1 + signed_width z) }
+    ensures bits { (code width : ℕ) (b : List ℕ) (o v : ℕ) → 1 ≤ width → width ≤ 8 → v < 256 ^ width → BytesAt b o (bits_bytes code width v) → BitsAt code width b o v (1 + bits_width width v) }
 {}

@@ -11,9 +11,9 @@ use Rattle.dexclass.specs.Numbered.{NumberedClass}
 use Rattle.dexlayout.specs.declared.data.Back.{Back}
 use Rattle.dexlayout.specs.declared.data.Bodies.{Bodies}
 use Rattle.dexlayout.specs.declared.data.Data.{Data}
-use Rattle.dexlayout.specs.declared.data.Front.{Front}
+use Rattle.dexlayout.specs.declared.data.FirstSections.{FirstSections}
 use Rattle.dexlayout.specs.declared.tables.Tables.{Tables}
-use Rattle.dexlayout.specs.Laid.{ordered_of, StandSo, AreTypeLists, AreAnnotations, AreDebugs, AreSets}
+use Rattle.dexlayout.specs.Laid.{ordered_of, AreLaidSo, AreTypeLists, AreAnnotations, AreDebugs, AreSets}
 
 -- a table of `size` rows, and where it begins if it is not empty
 abbrev pub rows_from : ℕ → ℕ → ℕ × ℕ
@@ -47,26 +47,26 @@ abbrev pub count_placed : List ℕ → ℕ
 count_placed offs = count_by (λ o. not (o == 0)) offs
 
 -- the items of the sections up to the string data have the offsets that they have in the file of these classes
-pub record AreFront (m : Mentions) (cs : List NumberedClass) (f : Front) : Type 0 where
+pub record AreFirstSections (m : Mentions) (cs : List NumberedClass) (f : FirstSections) : Type 0 where
   pub type_lists_are : AreTypeLists m cs f.type_lists
   pub annotations_are : AreAnnotations m cs f.annotations
-  pub static_values_are : StandSo (array_offsets (ordered_of m cs)) (array_end (ordered_of m cs)) (array_section (ordered_of m cs)).items f.static_values
-  pub strings_are : StandSo (offsets (string_section (ordered_of m cs))) (string_end (ordered_of m cs)) (string_section (ordered_of m cs)).items f.strings
+  pub static_values_are : AreLaidSo (array_offsets (ordered_of m cs)) (array_end (ordered_of m cs)) (array_section (ordered_of m cs)).items f.static_values
+  pub strings_are : AreLaidSo (offsets (string_section (ordered_of m cs))) (string_end (ordered_of m cs)) (string_section (ordered_of m cs)).items f.strings
 
 -- the same of the sections from the debug programs to the class data
 pub record AreBodies (m : Mentions) (cs : List NumberedClass) (b : Bodies) : Type 0 where
   pub debugs_are : AreDebugs m cs b.debugs
-  pub codes_are : StandSo (code_offsets (ordered_of m cs)) (code_end (ordered_of m cs)) (code_section (ordered_of m cs)).items b.codes
-  pub class_data_are : StandSo (class_data_offsets (ordered_of m cs)) (class_data_end (ordered_of m cs)) (class_data_section (ordered_of m cs)).items b.class_data
+  pub codes_are : AreLaidSo (code_offsets (ordered_of m cs)) (code_end (ordered_of m cs)) (code_section (ordered_of m cs)).items b.codes
+  pub class_data_are : AreLaidSo (class_data_offsets (ordered_of m cs)) (class_data_end (ordered_of m cs)) (class_data_section (ordered_of m cs)).items b.class_data
 
 -- and of the last sections
 pub record AreBack (m : Mentions) (cs : List NumberedClass) (b : Back) : Type 0 where
   pub sets_are : AreSets m cs b.sets
-  pub ref_lists_are : StandSo (ref_list_offsets (ordered_of m cs)) (ref_list_end (ordered_of m cs)) (ref_list_section (ordered_of m cs)).items b.ref_lists
-  pub directories_are : StandSo (directory_offsets (ordered_of m cs)) (directory_end (ordered_of m cs)) (directory_section (ordered_of m cs)).items b.directories
+  pub ref_lists_are : AreLaidSo (ref_list_offsets (ordered_of m cs)) (ref_list_end (ordered_of m cs)) (ref_list_section (ordered_of m cs)).items b.ref_lists
+  pub directories_are : AreLaidSo (directory_offsets (ordered_of m cs)) (directory_end (ordered_of m cs)) (directory_section (ordered_of m cs)).items b.directories
 
 -- the items of each section of the data have these offsets
 pub record AreData (m : Mentions) (cs : List NumberedClass) (d : Data) : Type 0 where
-  pub front_are : AreFront m cs d.front
+  pub first_sections_are : AreFirstSections m cs d.front
   pub bodies_are : AreBodies m cs d.bodies
   pub back_are : AreBack m cs d.back

@@ -1,6 +1,6 @@
 -- How a listing goes on.
 use Rattle.std.specs.Prelude.{◌≡◌, Bool, true, false, Result, OnOk, OnErr}
-use Rattle.dexlisting.specs.declared.gathering.Listing.{Listing}
+use Rattle.dexlisting.specs.declared.listing_buffer.Listing.{Listing}
 
 -- the writer has not failed; it and the symbols are the same as before
 pub record Works {W : Type 0} (has_failed : W → Bool) (old new : Listing W) : Type 0 where

@@ -34,7 +34,7 @@ last_index index last (x ∷ xs) = last_index index (Some (index x)) xs
 
 -- `count` members were read from offset o on, in n bytes
 pub record IsListRead {X : Type 0} (At : Member X) (index : X → ℕ) (b : List ℕ) (o count : ℕ) (xs : List X) (n : ℕ) : Type 0 where
-  pub stand : Chain At index b o None xs n
+  pub are_encoded : Chain At index b o None xs n
   pub many : length xs ≡ count
   pub within : o + n ≤ length b
 
@@ -53,7 +53,7 @@ pub record ListsAt {X : Type 0} (At : Member X) (index : X → ℕ) (b : List �
 
 -- two lists of `count` and `other_count` members were read
 pub record AreListsRead {X : Type 0} (At : Member X) (index : X → ℕ) (b : List ℕ) (o count other_count : ℕ) (xs ys : List X) (n : ℕ) : Type 0 where
-  pub stand : ListsAt At index b o xs ys n
+  pub are_encoded : ListsAt At index b o xs ys n
   pub many : length xs ≡ count
   pub others : length ys ≡ other_count
   pub within : o + n ≤ length b

@@ -7,7 +7,7 @@ use Rattle.dexspec.specs.Mentions.{Mentions}
 use Rattle.dexpool.specs.declared.faults.ItemFault.{ItemFault}
 use Rattle.dexpool.specs.declared.faults.ItemFault.TheVariants.{Refused, Memory}
 use Rattle.dexcode.specs.Checking.{one_code_weight}
-use Rattle.dexcode.specs.Numbered.{NumberedItem, StandsForCode}
+use Rattle.dexcode.specs.Numbered.{NumberedItem, DenotesCode}
 use Rattle.dexcode.specs.Reading.{IsCodeFault}
 use Rattle.dexmembers.specs.declared.class_data.EncodedMethod.{EncodedMethod}
 
@@ -27,7 +27,7 @@ HaveCodes b xs = (codes : List (Option Code)) × AreCodesAt b xs codes
 pub record IsCodeOrNone (b : List ℕ) (off : ℕ) (m : Mentions) (code : Option NumberedItem) : Type 0 where
   pub symbolic : Option Code
   pub at : OrNone (SomeAt CodeAt) None b off symbolic
-  pub stands : BothOrNone (StandsForCode m) code symbolic
+  pub encodes : BothOrNone (DenotesCode m) code symbolic
 
 -- the offset is that of code which is refused; a failed allocation says nothing
 abbrev pub IsCodeOrNoneFault : List ℕ → ℕ → ItemFault → Type 0
@@ -38,7 +38,7 @@ IsCodeOrNoneFault b off (Refused number) = (off ≢ 0) × IsCodeFault b off (Ref
 pub record AreCodesOf (b : List ℕ) (m : Mentions) (xs : List EncodedMethod) (most : ℕ) (codes : List (Option NumberedItem)) : Type 0 where
   pub symbolic : List (Option Code)
   pub at : AreCodesAt b xs symbolic
-  pub stand : AllZip (BothOrNone (StandsForCode m)) codes symbolic
+  pub are_encoded : AllZip (BothOrNone (DenotesCode m)) codes symbolic
   pub light : sum_by optional_code_weight symbolic ≤ most
 
 -- the methods have code that weighs more

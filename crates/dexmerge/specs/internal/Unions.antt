@@ -6,7 +6,7 @@ use Rattle.dexspec.specs.Files.{Collection, definitions}
 use Rattle.dexspec.specs.Mentions.{Mentions, mentions}
 use Rattle.dexspec.specs.Merging.{Caps, IsGood}
 use Rattle.dexpool.specs.Numberings.{AreRising, Maps}
-use Rattle.dexclass.specs.Renumbering.{LeadInto}
+use Rattle.dexclass.specs.Renumbering.{MapsAllInto}
 use Rattle.dexmerge.specs.Candidates.{AreMembers, IsOfPart, classes_of}
 use Rattle.dexmerge.specs.internal.Cycles.{AreKept}
 use Rattle.dexmerge.specs.declared.candidates.Candidate.{Candidate}
@@ -28,9 +28,9 @@ pub record IsJoined (parts : List Collection) (m : Mentions) (remaps : List Maps
   pub mentions_are : m ≡ mentions (flat_map definitions parts)
   pub rising : AreRising m
   pub count : length remaps ≡ length parts
-  pub lead : AllZip (λ part remap. LeadInto (mentions (definitions part)) m remap) parts remaps
+  pub are_mapped : AllZip (λ part remap. MapsAllInto (mentions (definitions part)) m remap) parts remaps
 
 -- the same, of parts that can be merged
-pub record IsJudged (caps : Caps) (parts : List Collection) (m : Mentions) (remaps : List Maps) : Type 0 where
+pub record IsChecked (caps : Caps) (parts : List Collection) (m : Mentions) (remaps : List Maps) : Type 0 where
   pub joined : IsJoined parts m remaps
   pub good : IsGood caps (flat_map definitions parts)

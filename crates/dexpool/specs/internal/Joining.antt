@@ -26,7 +26,7 @@ pub record IsUnion {P X : Type 0} (of : P → List X) (R : X → X → Ordering)
   pub moves : AllZip (λ part image. Moves (of part) joined image) parts images
 
 -- the rows denote these symbols, and their numbers are in range
-pub record StandFor {R X : Type 0} (symbol : R → X) (Within : R → Type 0) (xs : List X) (rows : List R) : Type 0 where
+pub record Denote {R X : Type 0} (symbol : R → X) (Within : R → Type 0) (xs : List X) (rows : List R) : Type 0 where
   pub same : map symbol rows ≡ xs
   pub within : All Within rows
 

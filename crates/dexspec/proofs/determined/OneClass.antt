@@ -15,7 +15,7 @@ use Rattle.dexspec.specs.ClassData.{EncodedField, EncodedMethod, ClassData, no_c
 use Rattle.dexspec.specs.Classes.{MethodDef, Body, class_idx, superclass_idx, interfaces_off, source_file_idx, annotations_off, class_data_off, static_values_off, no_index, IndexOrNone, ClassTypeRow, ClassListAt, StaticValuesAt, field_def, MakesMethod, ClassRow}
 use Rattle.dexspec.specs.Header.{Table, StringIds, TypeIds, table_size, size_place}
 use Rattle.dexspec.proofs.numbers.ByteNumbers.{number_bound}
-use Rattle.dexspec.proofs.written.Stands.{same_first}
+use Rattle.dexspec.proofs.written.PlacedBytes.{same_first}
 use Rattle.dexspec.proofs.determined.OneNumber.{one_uleb128}
 use Rattle.dexspec.proofs.determined.OneRow.{one_string, one_type, one_type_list, one_field, one_method, one_all_zip, one_or_none}
 use Rattle.dexspec.proofs.determined.OneValue.{one_array, one_annotation}
@@ -88,8 +88,8 @@ one_encoded_methods b o last (x ∷ xs) (y ∷ ys) n k len h g =
     let code = one_uleb128 b (o + g.0 + g.1) x.code_off y.code_off h.2 g.2 (subst (λ (p : ℕ). Uleb128At b p x.code_off h.2) place h.8) g.8 in
     let index = one_next last h.4 g.4 h.5 g.5 difference.0 h.9 g.9 in
     let method = one_method b g.5 x.method y.method (subst (λ (i : ℕ). MethodRow b i x.method) index h.10) g.10 in
-    let behind : o + h.0 + h.1 + h.2 ≡ o + g.0 + g.1 + g.2 = omega (arith, place, code.1) in
-    let moved = subst (λ (p : ℕ). EncodedMethodsAt b p (Some h.5) xs h.3) behind h.11 in
+    let following : o + h.0 + h.1 + h.2 ≡ o + g.0 + g.1 + g.2 = omega (arith, place, code.1) in
+    let moved = subst (λ (p : ℕ). EncodedMethodsAt b p (Some h.5) xs h.3) following h.11 in
     let rest = one_encoded_methods b (o + g.0 + g.1 + g.2) (Some g.5) xs ys h.3 g.3 (omega arith) (subst (λ (i : ℕ). EncodedMethodsAt b (o + g.0 + g.1 + g.2) (Some i) xs h.3) index moved) g.11 in
     ((λ i. record { method = method i; flags = flags.0 i; code_off = code.0 i } ∷ rest.0 i), omega (arith, difference.1, flags.1, code.1, rest.1, h.12, g.12))
 
@@ -128,10 +128,10 @@ HasFewRows b = (t : Table) → table_size b t ≤ no_index
 pub few_rows : (b : List ℕ) → All (λ byte. byte < 256) b → HasFewRows b
 unfolding uint_at
 few_rows b bytes t =
-    let behind = drop (size_place t) b in
-    let small = number_bound (take 4 behind) (All-take (λ (x : ℕ). x < 256) 4 behind (All-drop (λ (x : ℕ). x < 256) (size_place t) b bytes)) in
-    let size : length (take 4 behind) ≤ 4 = omega (arith, length-take 4 behind) in
-    let most : 256 ^ length (take 4 behind) ≤ 256 ^ 4 = pow-le-pow_right (omega arith) size in
+    let following = drop (size_place t) b in
+    let small = number_bound (take 4 following) (All-take (λ (x : ℕ). x < 256) 4 following (All-drop (λ (x : ℕ). x < 256) (size_place t) b bytes)) in
+    let size : length (take 4 following) ≤ 4 = omega (arith, length-take 4 following) in
+    let most : 256 ^ length (take 4 following) ≤ 256 ^ 4 = pow-le-pow_right (omega arith) size in
     omega (arith, small, most)
 
 module _ (b : List ℕ) (few : HasFewRows b) where

@@ -10,7 +10,7 @@ use Rattle.dexspec.specs.Numbers.{Uleb128At, Sleb128At}
 use Rattle.dexspec.specs.Symbols.{pool_of}
 use Rattle.dexspec.specs.Opcodes.{opcode_of}
 use Rattle.dexspec.specs.Rows.{TypeRow, SymbolRow}
-use Rattle.dexspec.specs.Pieces.{Cut, AreCut, piece_size, Piece, Instruction, Payload, StandsForPiece, index_pool, index_in, is_payload_ident, low_byte, cut_units}
+use Rattle.dexspec.specs.Pieces.{Cut, AreCut, piece_size, Piece, Instruction, Payload, DenotesPiece, index_pool, index_in, is_payload_ident, low_byte, cut_units}
 use Rattle.dexspec.specs.Debug.{DebugAt}
 use Rattle.dexspec.specs.Code.{Catch, Handler, Try, Code, code_units, PiecesAt, CatchAt, CatchAllAt, HandlerAt, IsHandler, TryAt, TryItemsAt, TriesAt, CodeAt}
 use Rattle.dexspec.proofs.lists.Sequences.{one_sequence}
@@ -47,7 +47,7 @@ no_pool : (us : List ℕ) → is_payload_ident (slice_index us 0) ≡ true → i
 no_pool us e = ap (λ (t : Bool). if t then None else option_and_then (λ op. op.index) (opcode_of (low_byte (slice_index us 0)))) e
 
 -- units encode at most one piece
-pub one_piece : (b us : List ℕ) (p q : Piece) → StandsForPiece (SymbolRow b) us p → StandsForPiece (SymbolRow b) us q → p ≡ q
+pub one_piece : (b us : List ℕ) (p q : Piece) → DenotesPiece (SymbolRow b) us p → DenotesPiece (SymbolRow b) us q → p ≡ q
 one_piece b us (Instruction xs None) (Instruction ys None) h g = ap (λ (zs : List ℕ). Instruction zs None) (h.2 ∙ sym g.2)
 one_piece b us (Instruction xs None) (Instruction ys (Some t)) h g = absurd (let z : None ≡ Some (pool_of t) = sym h.1 ∙ g.0 in cc)
 one_piece b us (Instruction xs None) (Payload ys) h g = absurd (let z : false ≡ true = sym h.0 ∙ g.0 in cc)
@@ -65,8 +65,8 @@ one_piece b us (Payload xs) (Payload ys) h g = ap Payload (h.1 ∙ sym g.1)
 pub one_pieces : (b : List ℕ) (o : ℕ) (cs ds : List Cut) (ps qs : List Piece) → PiecesAt b o cs ps → PiecesAt b o ds qs → (cs ≡ ds) × (ps ≡ qs)
 one_pieces b o cs ds ps qs h g =
     let cuts = one_cut 0 (code_units b o) cs ds h.code.cut g.code.cut in
-    let stands = λ (c : Cut) (p : Piece). StandsForPiece (SymbolRow b) (cut_units (code_units b o) c) p in
-    (cuts, one_all_zip stands (λ c p q x y. one_piece b (cut_units (code_units b o) c) p q x y) ds ps qs (subst (λ (zs : List Cut). AllZip stands zs ps) cuts h.pieces) g.pieces)
+    let encodes = λ (c : Cut) (p : Piece). DenotesPiece (SymbolRow b) (cut_units (code_units b o) c) p in
+    (cuts, one_all_zip encodes (λ c p q x y. one_piece b (cut_units (code_units b o) c) p q x y) ds ps qs (subst (λ (zs : List Cut). AllZip encodes zs ps) cuts h.pieces) g.pieces)
 
 -- ---- handlers
 
@@ -123,7 +123,7 @@ module _ (us : List ℕ) (cuts : List Cut) where
   one_offset : (b : List ℕ) (o size : ℕ) (hs : List Handler) (off : ℕ) (x y : Handler) → IsHandler us cuts b o size hs off x → IsHandler us cuts b o size hs off y → x ≡ y
   one_offset b o size hs off x y h g =
       one_place (HandlerAt us cuts) (one_handler us cuts) (λ b o x n at. omega (arith, at.size, sleb_some b o at.count at.count_size at.count_is))
-      b (o + size) h.before g.before x y h.after g.after h.before_size g.before_size (sym h.parts ∙ g.parts) (omega (arith, h.place, g.place)) h.stands g.stands
+      b (o + size) h.before g.before x y h.after g.after h.before_size g.before_size (sym h.parts ∙ g.parts) (omega (arith, h.place, g.place)) h.encodes g.encodes
 
   -- one try
   one_try : (list size : ℕ) (hs : List Handler) (b : List ℕ) (o : ℕ) (t u : Try) (n k : ℕ) → TryAt us cuts list size hs b o t n → TryAt us cuts list size hs b o u k → (t ≡ u) × (n ≡ k)

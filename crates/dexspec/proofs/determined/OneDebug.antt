@@ -4,12 +4,12 @@ use Rattle.std.proofs.Common.{◌≡◌, ℕ, ◌+◌, ◌≤◌, List, [], ◌�
 use Rattle.std.specs.Prelude.{ℤ, pos, if◌then◌else◌, nat_lt, ◌==◌}
 use Rattle.std.proofs.lemmas.Bool.{le-ltb}
 use Rattle.dexspec.specs.Lists.{Sequence, BothOrNone}
-use Rattle.dexspec.specs.Bytes.{Stands}
+use Rattle.dexspec.specs.Bytes.{BytesAt}
 use Rattle.dexspec.specs.Numbers.{Uleb128At, Uleb128p1At}
 use Rattle.dexspec.specs.Texts.{Text}
 use Rattle.dexspec.specs.Rows.{StringRow, TypeRow}
 use Rattle.dexspec.specs.Debug.{Operation, AdvancePc, AdvanceLine, StartLocal, StartLocalExtended, EndLocal, RestartLocal, SetPrologueEnd, SetEpilogueBegin, SetFile, Special, Debug, OptionalTextAt, OptionalTypeAt, OperationAt, DebugAt}
-use Rattle.dexspec.proofs.written.Stands.{same_first, stands_at}
+use Rattle.dexspec.proofs.written.PlacedBytes.{same_first, is_at}
 use Rattle.dexspec.proofs.lists.Sequences.{one_sequence}
 use Rattle.dexspec.proofs.determined.OneNumber.{one_uleb128, one_sleb128, one_uleb128p1}
 use Rattle.dexspec.proofs.determined.OneRow.{one_string, one_type}
@@ -109,29 +109,29 @@ special_code c op high = rw (le-ltb c 0x0a high) refl
 
 -- an operation by its opcode: the first byte, and the operation that is rebuilt from it
 record ByOpcode (b : List ℕ) (o : ℕ) (op : Operation) : Type 0 where
-  stands : Stands b o (opcode_of op ∷ [])
+  encodes : BytesAt b o (opcode_of op ∷ [])
   some : 1 ≤ opcode_of op
   own : with_opcode (opcode_of op) op ≡ op
 
 -- each operation in a file is determined by its opcode
 by_opcode : (b : List ℕ) (o : ℕ) (op : Operation) (n : ℕ) → OperationAt b o op n → ByOpcode b o op
-by_opcode b o (AdvancePc addresses) n h = record { stands = h.0; some = omega arith; own = refl }
-by_opcode b o (AdvanceLine lines) n h = record { stands = h.0; some = omega arith; own = refl }
-by_opcode b o (StartLocal register name type) n h = record { stands = h.0; some = omega arith; own = refl }
-by_opcode b o (StartLocalExtended register name type signature) n h = record { stands = h.0; some = omega arith; own = refl }
-by_opcode b o (EndLocal register) n h = record { stands = h.0; some = omega arith; own = refl }
-by_opcode b o (RestartLocal register) n h = record { stands = h.0; some = omega arith; own = refl }
-by_opcode b o SetPrologueEnd n h = record { stands = h.0; some = omega arith; own = refl }
-by_opcode b o SetEpilogueBegin n h = record { stands = h.0; some = omega arith; own = refl }
-by_opcode b o (SetFile name) n h = record { stands = h.0; some = omega arith; own = refl }
-by_opcode b o (Special opcode) n h = record { stands = h.0; some = omega (arith, h.1); own = special_code opcode (Special opcode) h.1 }
+by_opcode b o (AdvancePc addresses) n h = record { encodes = h.0; some = omega arith; own = refl }
+by_opcode b o (AdvanceLine lines) n h = record { encodes = h.0; some = omega arith; own = refl }
+by_opcode b o (StartLocal register name type) n h = record { encodes = h.0; some = omega arith; own = refl }
+by_opcode b o (StartLocalExtended register name type signature) n h = record { encodes = h.0; some = omega arith; own = refl }
+by_opcode b o (EndLocal register) n h = record { encodes = h.0; some = omega arith; own = refl }
+by_opcode b o (RestartLocal register) n h = record { encodes = h.0; some = omega arith; own = refl }
+by_opcode b o SetPrologueEnd n h = record { encodes = h.0; some = omega arith; own = refl }
+by_opcode b o SetEpilogueBegin n h = record { encodes = h.0; some = omega arith; own = refl }
+by_opcode b o (SetFile name) n h = record { encodes = h.0; some = omega arith; own = refl }
+by_opcode b o (Special opcode) n h = record { encodes = h.0; some = omega (arith, h.1); own = special_code opcode (Special opcode) h.1 }
 
 -- operations at one offset have the same kind
 same_kind : (b : List ℕ) (o : ℕ) (x y : Operation) (n k : ℕ) → OperationAt b o x n → OperationAt b o y k → y ≡ with_opcode (opcode_of x) y
 same_kind b o x y n k h g =
     let p = by_opcode b o x n h in
     let q = by_opcode b o y k g in
-    sym q.own ∙ ap (λ (c : ℕ). with_opcode c y) (same_first (opcode_of y) (opcode_of x) [] [] q.stands p.stands)
+    sym q.own ∙ ap (λ (c : ℕ). with_opcode c y) (same_first (opcode_of y) (opcode_of x) [] [] q.encodes p.encodes)
 
 -- ---- operations at an offset
 
@@ -197,20 +197,20 @@ one_operation b o (Special opcode) y n k h g =
 -- ---- programs
 
 -- there is no operation where a program ends
-not_end : (b : List ℕ) (o p : ℕ) (op : Operation) (n : ℕ) → p ≡ o → Stands b p (0x00 ∷ []) → ¬ OperationAt b o op n
+not_end : (b : List ℕ) (o p : ℕ) (op : Operation) (n : ℕ) → p ≡ o → BytesAt b p (0x00 ∷ []) → ¬ OperationAt b o op n
 not_end b o p op n e end h =
     let q = by_opcode b o op n h in
-    let zero_code = same_first (opcode_of op) 0x00 [] [] q.stands (stands_at e end) in
+    let zero_code = same_first (opcode_of op) 0x00 [] [] q.encodes (is_at e end) in
     omega (arith, q.some, zero_code)
 
 -- operations up to the end
-pub one_program : (b : List ℕ) (o : ℕ) (xs ys : List Operation) (n k : ℕ) → Sequence OperationAt b o xs n → Sequence OperationAt b o ys k → Stands b (o + n) (0x00 ∷ []) → Stands b (o + k) (0x00 ∷ []) → (xs ≡ ys) × (n ≡ k)
+pub one_program : (b : List ℕ) (o : ℕ) (xs ys : List Operation) (n k : ℕ) → Sequence OperationAt b o xs n → Sequence OperationAt b o ys k → BytesAt b (o + n) (0x00 ∷ []) → BytesAt b (o + k) (0x00 ∷ []) → (xs ≡ ys) × (n ≡ k)
 one_program b o [] [] n k h g end end' = (refl, h ∙ sym g)
 one_program b o [] (y ∷ ys) n k h g end end' = absurd (not_end b o (o + n) y g.0 (omega arith) end g.2)
 one_program b o (x ∷ xs) [] n k h g end end' = absurd (not_end b o (o + k) x h.0 (omega arith) end' h.2)
 one_program b o (x ∷ xs) (y ∷ ys) n k h g end end' =
     let first = one_operation b o x y h.0 g.0 h.2 g.2 in
-    let rest = one_program b (o + g.0) xs ys h.1 g.1 (subst (λ (i : ℕ). Sequence OperationAt b (o + i) xs h.1) first.1 h.3) g.3 (stands_at (omega (arith, first.1, h.4)) end) (stands_at (omega (arith, g.4)) end') in
+    let rest = one_program b (o + g.0) xs ys h.1 g.1 (subst (λ (i : ℕ). Sequence OperationAt b (o + i) xs h.1) first.1 h.3) g.3 (is_at (omega (arith, first.1, h.4)) end) (is_at (omega (arith, g.4)) end') in
     ((λ i. first.0 i ∷ rest.0 i), omega (arith, h.4, g.4, first.1, rest.1))
 
 -- there is at most one debug program at an offset
@@ -225,5 +225,5 @@ one_debug b o d e h g =
     let at_operations : o + h.start_size + h.count_size + h.names_size ≡ o + g.start_size + g.count_size + g.names_size = omega (arith, at_names, names.1) in
     let operations = one_program b (o + g.start_size + g.count_size + g.names_size) d.operations e.operations h.operations_size g.operations_size
     (subst (λ (p : ℕ). Sequence OperationAt b p d.operations h.operations_size) at_operations h.operations) g.operations
-    (stands_at (omega (arith, at_operations)) h.end) g.end in
+    (is_at (omega (arith, at_operations)) h.end) g.end in
     λ i. record { line_start = start.0 i; parameter_names = names.0 i; operations = operations.0 i }

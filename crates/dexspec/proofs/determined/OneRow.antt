@@ -11,7 +11,7 @@ use Rattle.dexspec.proofs.determined.OneText.{one_string_data}
 
 -- row i is at most one text
 pub one_string : (b : List ℕ) (i : ℕ) (s t : Text) → StringRow b i s → StringRow b i t → s ≡ t
-one_string b i s t h g = (one_string_data (drop (uint_at b (row_at b StringIds i)) b) s t h.stands.0 g.stands.0 h.stands.1 g.stands.1).0
+one_string b i s t h g = (one_string_data (drop (uint_at b (row_at b StringIds i)) b) s t h.encodes.0 g.encodes.0 h.encodes.1 g.encodes.1).0
 
 -- row i is at most one type
 pub one_type : (b : List ℕ) (i : ℕ) (s t : Text) → TypeRow b i s → TypeRow b i t → s ≡ t

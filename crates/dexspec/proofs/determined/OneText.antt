@@ -5,7 +5,7 @@ use Rattle.std.proofs.lemmas.List.{append_cancel_left}
 use Rattle.std.proofs.lemmas.List.Concat.{flat_map-cons}
 use Rattle.dexspec.specs.Numbers.{IsUleb128, BeginsWith, sum_of_groups}
 use Rattle.dexspec.specs.Texts.{Text, AreUnits, form, spelling, IsStringData, string_data}
-use Rattle.dexspec.proofs.written.Stands.{same_heads}
+use Rattle.dexspec.proofs.written.PlacedBytes.{same_heads}
 use Rattle.dexspec.proofs.numbers.Spellings.{same_number, uleb128_is}
 
 -- the encoding of a unit and the bytes after it, by cases on the first bytes

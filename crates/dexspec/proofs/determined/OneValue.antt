@@ -2,13 +2,13 @@
 -- value, and its argument the number of bytes that follow.
 use Rattle.std.proofs.Common.{◌≡◌, ℕ, suc, ◌+◌, ◌-◌, ◌*◌, ◌%◌, ◌^◌, ◌<◌, List, [], ◌∷◌, length, drop, refl, ap, sym, subst, ◌∙◌, arith}
 use Rattle.std.specs.Prelude.{ℤ, pos, Bool, true, false, if◌then◌else◌, ◌==◌}
-use Rattle.dexspec.specs.Bytes.{number_of, signed_in, Stands}
+use Rattle.dexspec.specs.Bytes.{number_of, signed_in, BytesAt}
 use Rattle.dexspec.specs.Numbers.{Uleb128At}
 use Rattle.dexspec.specs.Texts.{Text}
 use Rattle.dexspec.specs.Symbols.{Field, Method}
 use Rattle.dexspec.specs.Rows.{StringRow, TypeRow, FieldRow, MethodRow}
 use Rattle.dexspec.specs.Values.{Value, ByteValue, ShortValue, CharValue, IntValue, LongValue, FloatValue, DoubleValue, StringValue, TypeValue, FieldValue, MethodValue, EnumValue, ArrayValue, AnnotationValue, NullValue, BooleanValue, Values, NoValues, ThenValue, Elements, NoElements, ThenElement, count_values, names_of, byte_value_type, short_value_type, char_value_type, int_value_type, long_value_type, float_value_type, double_value_type, string_value_type, type_value_type, field_value_type, method_value_type, enum_value_type, array_value_type, annotation_value_type, null_value_type, boolean_value_type, value_byte, SizedAt, IndexAt, ArrayAround, AnnotationAround, ValueAt, ValuesAt, ElementsAt, EncodedArrayAt, EncodedAnnotationAt}
-use Rattle.dexspec.proofs.written.Stands.{same_first, same_standing}
+use Rattle.dexspec.proofs.written.PlacedBytes.{same_first, same_bytes_at}
 use Rattle.dexspec.proofs.determined.OneNumber.{one_uleb128}
 use Rattle.dexspec.proofs.determined.OneRow.{one_string, one_type, one_field, one_method}
 
@@ -18,24 +18,24 @@ use Rattle.dexspec.proofs.determined.OneRow.{one_string, one_type, one_field, on
 record HasCode (b : List ℕ) (o code : ℕ) : Type 0 where
   first : ℕ
   rest : List ℕ
-  stands : Stands b o (first ∷ rest)
+  encodes : BytesAt b o (first ∷ rest)
   is : first % 32 ≡ code
 
 -- there is one type code at an offset
 one_code : (b : List ℕ) (o c d : ℕ) → HasCode b o c → HasCode b o d → c ≡ d
-one_code b o c d h g = sym h.is ∙ ap (λ (x : ℕ). x % 32) (same_first h.first g.first h.rest g.rest h.stands g.stands) ∙ g.is
+one_code b o c d h g = sym h.is ∙ ap (λ (x : ℕ). x % 32) (same_first h.first g.first h.rest g.rest h.encodes g.encodes) ∙ g.is
 
 -- a value with bytes of its own has its type code
 sized_code : (b : List ℕ) (o code width : ℕ) (bytes : List ℕ) (n : ℕ) → code < 32 → SizedAt code width b o bytes n → HasCode b o code
-sized_code b o code width bytes n lt h = record { first = value_byte (length bytes - 1) code; rest = bytes; stands = h.stands; is = omega arith }
+sized_code b o code width bytes n lt h = record { first = value_byte (length bytes - 1) code; rest = bytes; encodes = h.encodes; is = omega arith }
 
 -- the number in the bytes after a first byte
 one_sized : {X : Type 0} (read : List ℕ → X) (code width : ℕ) (b : List ℕ) (o : ℕ) (x y : X) (n k : ℕ)
     → (bytes : List ℕ) × SizedAt code width b o bytes n × (x ≡ read bytes) → (bytes : List ℕ) × SizedAt code width b o bytes k × (y ≡ read bytes) → (x ≡ y) × (n ≡ k)
 one_sized read code width b o x y n k h g =
-    let first = same_first (value_byte (length h.0 - 1) code) (value_byte (length g.0 - 1) code) h.0 g.0 h.1.stands g.1.stands in
+    let first = same_first (value_byte (length h.0 - 1) code) (value_byte (length g.0 - 1) code) h.0 g.0 h.1.encodes g.1.encodes in
     let len : length h.0 ≡ length g.0 = omega (arith, first, h.1.some, g.1.some) in
-    let all = same_standing (value_byte (length h.0 - 1) code ∷ h.0) (value_byte (length g.0 - 1) code ∷ g.0) h.1.stands g.1.stands (ap suc len) in
+    let all = same_bytes_at (value_byte (length h.0 - 1) code ∷ h.0) (value_byte (length g.0 - 1) code ∷ g.0) h.1.encodes g.1.encodes (ap suc len) in
     let bytes : h.0 ≡ g.0 = ap (λ (z : List ℕ). drop 1 z) all in
     (h.2 ∙ ap read bytes ∙ sym g.2, omega (arith, len, h.1.size, g.1.size))
 
@@ -88,11 +88,11 @@ value_code b o (TypeValue t) n h = sized_code b o type_value_type 4 h.1.0 n (ome
 value_code b o (FieldValue f) n h = sized_code b o field_value_type 4 h.1.0 n (omega arith) h.1.1
 value_code b o (MethodValue m) n h = sized_code b o method_value_type 4 h.1.0 n (omega arith) h.1.1
 value_code b o (EnumValue f) n h = sized_code b o enum_value_type 4 h.1.0 n (omega arith) h.1.1
-value_code b o (ArrayValue vs) n h = record { first = value_byte 0 array_value_type; rest = []; stands = h.0; is = refl }
-value_code b o (AnnotationValue t es) n h = record { first = value_byte 0 annotation_value_type; rest = []; stands = h.0; is = refl }
-value_code b o NullValue n h = record { first = value_byte 0 null_value_type; rest = []; stands = h.0; is = refl }
-value_code b o (BooleanValue false) n h = record { first = value_byte 0 boolean_value_type; rest = []; stands = h.0; is = refl }
-value_code b o (BooleanValue true) n h = record { first = value_byte 1 boolean_value_type; rest = []; stands = h.0; is = refl }
+value_code b o (ArrayValue vs) n h = record { first = value_byte 0 array_value_type; rest = []; encodes = h.0; is = refl }
+value_code b o (AnnotationValue t es) n h = record { first = value_byte 0 annotation_value_type; rest = []; encodes = h.0; is = refl }
+value_code b o NullValue n h = record { first = value_byte 0 null_value_type; rest = []; encodes = h.0; is = refl }
+value_code b o (BooleanValue false) n h = record { first = value_byte 0 boolean_value_type; rest = []; encodes = h.0; is = refl }
+value_code b o (BooleanValue true) n h = record { first = value_byte 1 boolean_value_type; rest = []; encodes = h.0; is = refl }
 
 -- the parts of a value of any kind
 abbrev signed_part : Value → ℤ

@@ -8,10 +8,10 @@ use Rattle.dexspec.specs.WellFormed.{AreWellFormed}
 use Rattle.dexspec.specs.Merging.{Caps, AreCaps, Fits}
 use Rattle.dexspec.specs.Placing.{Ordered}
 use Rattle.dexspec.specs.Canonical.{canonical}
-use Rattle.dexspec.proofs.layout.Laying.{Laid}
+use Rattle.dexspec.proofs.layout.SectionPlaces.{Laid}
 use Rattle.dexspec.proofs.layout.HeaderLaws.{AreFew}
 use Rattle.dexspec.proofs.layout.Frames.{fits_few, fitting_laid, fitting_frame}
-use Rattle.dexspec.proofs.layout.PoolsStand.{ArePools}
+use Rattle.dexspec.proofs.layout.PoolsAreAt.{ArePools}
 use Rattle.dexspec.proofs.layout.PoolsInOrder.{string_holds, type_holds, proto_holds, field_holds, method_holds}
 use Rattle.dexspec.proofs.layout.PoolsFormed.{mentions_pools}
 

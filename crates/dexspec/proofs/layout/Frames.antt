@@ -8,7 +8,7 @@ use Rattle.dexspec.specs.Merging.{Caps, AreCaps, Fits}
 use Rattle.dexspec.specs.Placing.{Ordered}
 use Rattle.dexspec.specs.Canonical.{with_sums, unsigned_file, ordered, canonical}
 use Rattle.dexspec.proofs.layout.Sums.{with_sums_magic, with_sums_version, with_sums_checksum, with_sums_signature}
-use Rattle.dexspec.proofs.layout.Laying.{Laid, laid, data_before_map}
+use Rattle.dexspec.proofs.layout.SectionPlaces.{Laid, laid, data_before_map}
 use Rattle.dexspec.proofs.size.SizeFile.{canonical-has_size}
 use Rattle.dexspec.proofs.layout.HeaderLaws.{AreFew, laid_lengths, laid_endian, laid_no_link, laid_layout}
 use Rattle.dexspec.proofs.layout.MapLaws.{laid_map}

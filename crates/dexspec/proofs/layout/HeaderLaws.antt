@@ -6,7 +6,7 @@ use Rattle.dexspec.specs.Header.{Table, StringIds, TypeIds, ProtoIds, FieldIds, 
 use Rattle.dexspec.specs.Sections.{AreLaidOut, HasLayout}
 use Rattle.dexspec.specs.Placing.{Ordered}
 use Rattle.dexspec.specs.Canonical.{table_count, tables_from, placed_tables}
-use Rattle.dexspec.proofs.layout.Laying.{Laid}
+use Rattle.dexspec.proofs.layout.SectionPlaces.{Laid}
 
 -- 4 Lengths
 pub laid_lengths : {K : Ordered} {b : List ℕ} → Laid K b → HasLengths b
@@ -23,9 +23,9 @@ laid_no_link h = record { size = h.no_link_bytes; off = h.no_link_place }
 -- ---- the layout of the tables
 
 -- the header has the sizes and offsets of these tables
-abbrev pub AreTold : List ℕ → List (Table × ℕ × ℕ) → Type 0
-AreTold b [] = Unit {0}
-AreTold b (e ∷ es) = (table_size b e.0 ≡ e.1) × ((table_off b e.0 ≡ e.2) × AreTold b es)
+abbrev pub AreStated : List ℕ → List (Table × ℕ × ℕ) → Type 0
+AreStated b [] = Unit {0}
+AreStated b (e ∷ es) = (table_size b e.0 ≡ e.1) × ((table_off b e.0 ≡ e.2) × AreStated b es)
 
 -- the end of the tables that begin at an offset
 abbrev pub tables_end : Ordered → ℕ → List Table → ℕ
@@ -53,15 +53,15 @@ one_laid b t ts from n false is four size off rest =
     inr (λ none. eqb-false n 0 is (sym size ∙ none), ap (λ k. k % 4) off ∙ four, omega (arith, off), subst (λ k. AreLaidOut b (k + row_size t * table_size b t) ts) (sym off) (subst (λ k. AreLaidOut b (from + row_size t * k) ts) (sym size) rest))
 
 -- tables whose offsets follow one another are laid out
-all_laid : (b : List ℕ) (K : Ordered) (from : ℕ) (ts : List Table) → from % 4 ≡ 0 → AreTold b (tables_from K from ts) → tables_end K from ts ≡ data_off b → AreLaidOut b from ts
-all_laid b K from [] four told end = omega (arith, end)
-all_laid b K from (t ∷ ts) four told end =
-    one_laid b t ts from (table_count K t) (table_count K t == 0) refl four told.0 told.1.0
-    (all_laid b K (from + row_size t * table_count K t) ts (rows_aligned t from (table_count K t) four) told.1.1 end)
+all_laid : (b : List ℕ) (K : Ordered) (from : ℕ) (ts : List Table) → from % 4 ≡ 0 → AreStated b (tables_from K from ts) → tables_end K from ts ≡ data_off b → AreLaidOut b from ts
+all_laid b K from [] four reported end = omega (arith, end)
+all_laid b K from (t ∷ ts) four reported end =
+    one_laid b t ts from (table_count K t) (table_count K t == 0) refl four reported.0 reported.1.0
+    (all_laid b K (from + row_size t * table_count K t) ts (rows_aligned t from (table_count K t) four) reported.1.1 end)
 
 -- the header has those of the six tables
-pub laid_told : {K : Ordered} {b : List ℕ} → Laid K b → AreTold b (placed_tables K)
-laid_told h = (
+pub laid_stated : {K : Ordered} {b : List ℕ} → Laid K b → AreStated b (placed_tables K)
+laid_stated h = (
   h.count StringIds,
   (h.place StringIds, (h.count TypeIds, (h.place TypeIds, (h.count ProtoIds, (h.place ProtoIds, (h.count FieldIds, (h.place FieldIds, (h.count MethodIds, (h.place MethodIds, (h.count ClassDefs, (h.place ClassDefs, tt))))))))))),
 )
@@ -73,7 +73,7 @@ AreFew K = (t : Table) → MayHave t (table_count K t)
 -- 9 Layout
 pub laid_layout : {K : Ordered} {b : List ℕ} → Laid K b → AreFew K → HasLayout b
 laid_layout {K} {b} h few = record {
-  tables = all_laid b K header_length tables refl (laid_told h) (omega (arith, h.data_from));
+  tables = all_laid b K header_length tables refl (laid_stated h) (omega (arith, h.data_from));
   data_end = h.data_to ∙ sym h.file;
   few = λ t. subst (MayHave t) (sym (h.count t)) (few t);
 }

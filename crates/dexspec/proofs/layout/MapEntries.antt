@@ -9,14 +9,14 @@ use Rattle.std.proofs.lemmas.List.Elements.{All-nil, All-cons, All-head, All-tai
 use Rattle.std.proofs.lemmas.List.Kept.{AllPairs-cons}
 use Rattle.std.proofs.lemmas.Bool.{true≢false, cond-true, lt-ltb, eqb-false, not-true}
 use Rattle.dexspec.specs.Lists.{rises, AreDistinct}
-use Rattle.dexspec.specs.Bytes.{ushort, uint, ushort_at, uint_at, Stands}
+use Rattle.dexspec.specs.Bytes.{ushort, uint, ushort_at, uint_at, BytesAt}
 use Rattle.dexspec.specs.Header.{StringIds, TypeIds, ProtoIds, FieldIds, MethodIds, ClassDefs}
 use Rattle.dexspec.specs.Sections.{Section, HeaderItem, TableOf, MapList, TypeLists, AnnotationSetRefLists, AnnotationSets, ClassDataItems, CodeItems, StringDataItems, DebugInfoItems, AnnotationItems, EncodedArrayItems, AnnotationsDirectories, type_code, MapEntry, entries_at}
 use Rattle.dexspec.specs.Canonical.{map_entry_bytes, map_bytes}
-use Rattle.dexspec.proofs.written.Stands.{stands_at, length_rows}
-use Rattle.dexspec.proofs.numbers.ByteNumbers.{length-uint, length-ushort, ushort_at-stands, uint_at-stands}
+use Rattle.dexspec.proofs.written.PlacedBytes.{is_at, length_rows}
+use Rattle.dexspec.proofs.numbers.ByteNumbers.{length-uint, length-ushort, ushort_at-encodes, uint_at-encodes}
 use Rattle.dexspec.proofs.lists.Members.{and_first, and_second, and_both}
-use Rattle.dexspec.proofs.layout.Tables.{stands_here, stands_behind}
+use Rattle.dexspec.proofs.layout.Tables.{is_at_here, is_at_end}
 
 -- ---- read back
 
@@ -64,19 +64,19 @@ same_entries : (kind kind' size size' off off' : ℕ) (es fs : List MapEntry) �
 same_entries kind kind' size size' off off' es fs a b c d = cc
 
 -- the entries that were written are read
-pub entries_at-stands : {b : List ℕ} (o : ℕ) (es : List (Section × ℕ × ℕ)) → All IsSmall es → Stands b o (flat_map map_entry_bytes es) → entries_at b o (length es) ≡ map entry_of es
-entries_at-stands o [] small h = refl
-entries_at-stands {b} o (e ∷ es) small h0 =
+pub entries_at-encodes : {b : List ℕ} (o : ℕ) (es : List (Section × ℕ × ℕ)) → All IsSmall es → BytesAt b o (flat_map map_entry_bytes es) → entries_at b o (length es) ≡ map entry_of es
+entries_at-encodes o [] small h = refl
+entries_at-encodes {b} o (e ∷ es) small h0 =
     let rest = flat_map map_entry_bytes es in
     let s = All-head IsSmall e es small in
-    let here : Stands b o (map_entry_bytes e) = stands_here (map_entry_bytes e) rest h0 in
-    let h1 : Stands b (o + 2) (ushort 0 ++ (uint e.1 ++ uint e.2)) = stands_behind (ushort (type_code e.0)) (ushort 0 ++ (uint e.1 ++ uint e.2)) 2 (length-ushort (type_code e.0)) here in
-    let h2 : Stands b (o + 4) (uint e.1 ++ uint e.2) = stands_at (omega arith) (stands_behind (ushort 0) (uint e.1 ++ uint e.2) 2 (length-ushort 0) h1) in
-    let h3 : Stands b (o + 8) (uint e.2) = stands_at (omega arith) (stands_behind (uint e.1) (uint e.2) 4 (length-uint e.1) h2) in
+    let here : BytesAt b o (map_entry_bytes e) = is_at_here (map_entry_bytes e) rest h0 in
+    let h1 : BytesAt b (o + 2) (ushort 0 ++ (uint e.1 ++ uint e.2)) = is_at_end (ushort (type_code e.0)) (ushort 0 ++ (uint e.1 ++ uint e.2)) 2 (length-ushort (type_code e.0)) here in
+    let h2 : BytesAt b (o + 4) (uint e.1 ++ uint e.2) = is_at (omega arith) (is_at_end (ushort 0) (uint e.1 ++ uint e.2) 2 (length-ushort 0) h1) in
+    let h3 : BytesAt b (o + 8) (uint e.2) = is_at (omega arith) (is_at_end (uint e.1) (uint e.2) 4 (length-uint e.1) h2) in
     same_entries (ushort_at b o) (type_code e.0) (uint_at b (o + 4)) e.1 (uint_at b (o + 8)) e.2 (entries_at b (o + 12) (length es)) (map entry_of es)
-    (ushort_at-stands (type_code_small e.0) (stands_here (ushort (type_code e.0)) (ushort 0 ++ (uint e.1 ++ uint e.2)) here))
-    (uint_at-stands s.count (stands_here (uint e.1) (uint e.2) h2)) (uint_at-stands s.place h3)
-    (entries_at-stands (o + 12) es (All-tail IsSmall e es small) (stands_behind (map_entry_bytes e) rest 12 (length-map_entry_bytes e) h0))
+    (ushort_at-encodes (type_code_small e.0) (is_at_here (ushort (type_code e.0)) (ushort 0 ++ (uint e.1 ++ uint e.2)) here))
+    (uint_at-encodes s.count (is_at_here (uint e.1) (uint e.2) h2)) (uint_at-encodes s.place h3)
+    (entries_at-encodes (o + 12) es (All-tail IsSmall e es small) (is_at_end (map_entry_bytes e) rest 12 (length-map_entry_bytes e) h0))
 
 -- ---- optional entries
 

@@ -9,18 +9,18 @@ use Rattle.std.proofs.lemmas.List.Folds.{flat_map-map}
 use Rattle.std.proofs.lemmas.List.Elements.{All-nil, All-cons, All-head, All-tail, All-append, All-map}
 use Rattle.std.proofs.lemmas.Bool.{eqb-true, eqb-false}
 use Rattle.dexspec.specs.Lists.{rises, AreDistinct}
-use Rattle.dexspec.specs.Bytes.{uint, uint_at, Stands}
+use Rattle.dexspec.specs.Bytes.{uint, uint_at, BytesAt}
 use Rattle.dexspec.specs.Header.{Table, StringIds, TypeIds, ProtoIds, FieldIds, MethodIds, ClassDefs, tables, header_length, row_size, table_off, map_off}
 use Rattle.dexspec.specs.Sections.{Section, HeaderItem, TableOf, MapList, type_code, MapEntry, map_entries, entries_at, IsKnown, HasTable, IsPlaced, HasMap}
 use Rattle.dexspec.specs.Placing.{Ordered, Placed, offsets, end}
 use Rattle.dexspec.specs.Canonical.{table_count, tables_from, placed_tables, data_start, Layout, map_of, map_bytes, map_entry_bytes, data_sections, directory_end}
-use Rattle.dexspec.proofs.written.Stands.{stands_at}
-use Rattle.dexspec.proofs.numbers.ByteNumbers.{uint_at-stands}
+use Rattle.dexspec.proofs.written.PlacedBytes.{is_at}
+use Rattle.dexspec.proofs.numbers.ByteNumbers.{uint_at-encodes}
 use Rattle.dexspec.proofs.layout.Places.{IsAlign, items_within, items_few, FollowFrom, last_end, round_up_four, length-padding}
 use Rattle.dexspec.proofs.layout.Placements.{layout_is, sections_follow, sections_have_bytes, sections_aligned, HasBytes}
-use Rattle.dexspec.proofs.layout.Tables.{stands_here, stands_next, table_place}
-use Rattle.dexspec.proofs.layout.Laying.{Laid, map_place, map_list, map_place_is, file_length, table_few, data_before_map}
-use Rattle.dexspec.proofs.layout.MapEntries.{entry_of, length-map_bytes, IsSmall, entries_at-stands, Candidate, pick, picked, code_of, picked_there, differ, picked_differ, left_out, RisesTo, rises_append, rises_from_less, rises_between, rises_strictly}
+use Rattle.dexspec.proofs.layout.Tables.{is_at_here, is_at_next, table_place}
+use Rattle.dexspec.proofs.layout.SectionPlaces.{Laid, map_place, map_list, map_place_is, file_length, table_few, data_before_map}
+use Rattle.dexspec.proofs.layout.MapEntries.{entry_of, length-map_bytes, IsSmall, entries_at-encodes, Candidate, pick, picked, code_of, picked_there, differ, picked_differ, left_out, RisesTo, rises_append, rises_from_less, rises_between, rises_strictly}
 use Rattle.dexspec.proofs.layout.HeaderLaws.{tables_end}
 
 -- ---- the entries of tables and of sections
@@ -103,7 +103,7 @@ section_rises p false is some align =
     let lt : 0 < length p.items = omega (arith, none) in
     let h = items_within p.align p.from p.items 0 [] align lt in
     let more : 0 < length (get_or p.items 0 []) = some 0 [] lt in
-    (h.behind, omega (arith, h.before, more))
+    (h.following, omega (arith, h.before, more))
 
 -- the offsets of consecutive sections
 sections_rise : (at : ℕ) (ps : List Placed) (last : ℕ) → FollowFrom at ps last → All HasBytes ps → All (λ p. IsAlign p.align) ps → RisesTo at (flat_map section_entries ps) last
@@ -293,23 +293,23 @@ module _ {K : Ordered} {b : List ℕ} (h : Laid K b) where
   -- the number of entries
   map_size : uint_at b (map_off b) ≡ length (map_list K)
   map_size =
-      let at : Stands b (map_off b) (map_bytes (map_list K)) = stands_at (sym h.map_from) h.entries in
-      uint_at-stands (omega (arith, h.small, h.size, length-map_bytes (map_list K))) (stands_here (uint (length (map_list K))) (flat_map map_entry_bytes (map_list K)) at)
+      let at : BytesAt b (map_off b) (map_bytes (map_list K)) = is_at (sym h.map_from) h.entries in
+      uint_at-encodes (omega (arith, h.small, h.size, length-map_bytes (map_list K))) (is_at_here (uint (length (map_list K))) (flat_map map_entry_bytes (map_list K)) at)
 
   -- the entries that are read
   pub map_read : map_entries b ≡ map entry_of (map_list K)
   map_read =
-      let at : Stands b (map_off b) (map_bytes (map_list K)) = stands_at (sym h.map_from) h.entries in
+      let at : BytesAt b (map_off b) (map_bytes (map_list K)) = is_at (sym h.map_from) h.entries in
       let small : All IsSmall (map_list K) = subst (All IsSmall) (sym (map_list_is K)) (all_small K (omega (arith, h.small, h.size))) in
       ap (entries_at b (map_off b + 4)) map_size
-      ∙ entries_at-stands (map_off b + 4) (map_list K) small (stands_next (length (map_list K)) (flat_map map_entry_bytes (map_list K)) at)
+      ∙ entries_at-encodes (map_off b + 4) (map_list K) small (is_at_next (length (map_list K)) (flat_map map_entry_bytes (map_list K)) at)
 
   -- 10 Map
   pub laid_map : HasMap b
   laid_map =
       let right : IsMap b (map_entries b) = subst (IsMap b) (sym (map_read ∙ ap (map entry_of) (map_list_is K))) all_right in
       record {
-        in_data = record { behind = omega (arith, h.map_in_data.behind, h.map_from); within = omega (arith, h.size, h.map_from, map_size, length-map_bytes (map_list K)) };
+        in_data = record { following = omega (arith, h.map_in_data.following, h.map_from); within = omega (arith, h.size, h.map_from, map_size, length-map_bytes (map_list K)) };
         aligned = ap (λ n. n % 4) (h.map_from ∙ map_place_is K) ∙ round_up_four (directory_end K);
         known = right.known;
         once = right.once;

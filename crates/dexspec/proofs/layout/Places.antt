@@ -4,9 +4,9 @@ use Rattle.std.specs.List.{flat_map, All}
 use Rattle.std.specs.Prelude.{slice_index}
 use Rattle.std.proofs.lemmas.List.{length-append, length-replicate}
 use Rattle.std.proofs.lemmas.List.Elements.{All-head, All-tail}
-use Rattle.dexspec.specs.Bytes.{Stands, round_up, padding}
+use Rattle.dexspec.specs.Bytes.{BytesAt, round_up, padding}
 use Rattle.dexspec.specs.Placing.{Placed, offsets_from, end_from, bytes_from, end, section_bytes}
-use Rattle.dexspec.proofs.written.Stands.{stands_first, stands_whole, stands_later, stands_in, stands_at}
+use Rattle.dexspec.proofs.written.PlacedBytes.{is_at_first, is_at_whole, is_at_later, is_at_in, is_at}
 
 -- ---- alignment
 
@@ -49,22 +49,22 @@ pub end_from_le : (align from : ℕ) (xs : List (List ℕ)) → from ≤ end_fro
 end_from_le align from xs = omega (arith, length-bytes_from align from xs)
 
 -- each item is at its offset
-pub items_stand : {b : List ℕ} (align from : ℕ) (xs : List (List ℕ)) (i : ℕ) (d : List ℕ) → Stands b from (bytes_from align from xs) → i < length xs
-    → Stands b (slice_index (offsets_from align from xs) i) (get_or xs i d)
-items_stand align from [] i d h lt = absurd (omega arith)
-items_stand align from (x ∷ xs) zero d h lt =
+pub items_are_at : {b : List ℕ} (align from : ℕ) (xs : List (List ℕ)) (i : ℕ) (d : List ℕ) → BytesAt b from (bytes_from align from xs) → i < length xs
+    → BytesAt b (slice_index (offsets_from align from xs) i) (get_or xs i d)
+items_are_at align from [] i d h lt = absurd (omega arith)
+items_are_at align from (x ∷ xs) zero d h lt =
     let rest = bytes_from align (round_up align from + length x) xs in
     let at : from + (length (padding align from) + 0) ≡ round_up align from = omega (arith, length-padding align from) in
-    stands_at at (stands_in h (stands_later (padding align from) (stands_first x rest)))
-items_stand align from (x ∷ xs) (suc i) d h lt =
+    is_at at (is_at_in h (is_at_later (padding align from) (is_at_first x rest)))
+items_are_at align from (x ∷ xs) (suc i) d h lt =
     let next = round_up align from + length x in
     let rest = bytes_from align next xs in
     let at : from + (length (padding align from) + (length x + 0)) ≡ next = omega (arith, length-padding align from) in
-    items_stand align next xs i d (stands_at at (stands_in h (stands_later (padding align from) (stands_later x (stands_whole rest))))) (omega arith)
+    items_are_at align next xs i d (is_at at (is_at_in h (is_at_later (padding align from) (is_at_later x (is_at_whole rest))))) (omega arith)
 
 -- the offset of an item: a multiple of the alignment, between the section's ends
 pub record IsWithin (align from : ℕ) (last off size : ℕ) : Type 0 where
-  pub behind : from ≤ off
+  pub following : from ≤ off
   pub before : off + size ≤ last
   pub multiple : off % align ≡ 0
 
@@ -74,10 +74,10 @@ pub items_within : (align from : ℕ) (xs : List (List ℕ)) (i : ℕ) (d : List
 items_within align from [] i d is lt = absurd (omega arith)
 items_within align from (x ∷ xs) zero d is lt =
     let after : round_up align from + length x ≤ end_from align (round_up align from + length x) xs = end_from_le align (round_up align from + length x) xs in
-    record { behind = omega (arith, length-padding align from); before = after; multiple = round_up_aligned align from is }
+    record { following = omega (arith, length-padding align from); before = after; multiple = round_up_aligned align from is }
 items_within align from (x ∷ xs) (suc i) d is lt =
     let h = items_within align (round_up align from + length x) xs i d is (omega arith) in
-    record { behind = omega (arith, length-padding align from, h.behind); before = h.before; multiple = h.multiple }
+    record { following = omega (arith, length-padding align from, h.following); before = h.before; multiple = h.multiple }
 
 -- if each item has bytes, there are at most as many items as bytes
 pub items_few : (align from : ℕ) (xs : List (List ℕ)) → All (λ x. 0 < length x) xs → from + length xs ≤ end_from align from xs
@@ -127,13 +127,13 @@ length-sections at (p ∷ ps) last h =
     omega (arith, length-append (section_bytes p) (flat_map section_bytes ps), rest, here, h.0)
 
 -- each section is at its offset
-pub sections_stand : {b : List ℕ} (at : ℕ) (ps : List Placed) (last : ℕ) (j : ℕ) (d : Placed) → FollowFrom at ps last → Stands b at (flat_map section_bytes ps) → j < length ps
-    → Stands b (get_or ps j d).from (section_bytes (get_or ps j d))
-sections_stand at [] last j d h s lt = absurd (omega arith)
-sections_stand at (p ∷ ps) last zero d h s lt = stands_at (omega (arith, h.0)) (stands_in s (stands_first (section_bytes p) (flat_map section_bytes ps)))
-sections_stand at (p ∷ ps) last (suc j) d h s lt =
+pub sections_are_at : {b : List ℕ} (at : ℕ) (ps : List Placed) (last : ℕ) (j : ℕ) (d : Placed) → FollowFrom at ps last → BytesAt b at (flat_map section_bytes ps) → j < length ps
+    → BytesAt b (get_or ps j d).from (section_bytes (get_or ps j d))
+sections_are_at at [] last j d h s lt = absurd (omega arith)
+sections_are_at at (p ∷ ps) last zero d h s lt = is_at (omega (arith, h.0)) (is_at_in s (is_at_first (section_bytes p) (flat_map section_bytes ps)))
+sections_are_at at (p ∷ ps) last (suc j) d h s lt =
     let here : p.from + length (section_bytes p) ≡ end p = length-bytes_from p.align p.from p.items in
-    sections_stand (end p) ps last j d h.1 (stands_at (omega (arith, here, h.0)) (stands_in s (stands_later (section_bytes p) (stands_whole (flat_map section_bytes ps))))) (omega arith)
+    sections_are_at (end p) ps last j d h.1 (is_at (omega (arith, here, h.0)) (is_at_in s (is_at_later (section_bytes p) (is_at_whole (flat_map section_bytes ps))))) (omega arith)
 
 -- the last end is at or after each section's end
 pub last_end : (at : ℕ) (ps : List Placed) (last : ℕ) → FollowFrom at ps last → at ≤ last

@@ -22,11 +22,11 @@ use Rattle.dexspec.proofs.lists.Members.{Contains-first, Contains-later}
 use Rattle.dexspec.proofs.lists.InOrder.{Rises, rank-place, rank-get_or}
 use Rattle.dexspec.proofs.merge.SymbolOrders.{text_total, proto_total, field_total, method_total}
 use Rattle.dexspec.proofs.determined.OneText.{one_string_data}
-use Rattle.dexspec.proofs.layout.Laying.{Laid}
+use Rattle.dexspec.proofs.layout.SectionPlaces.{Laid}
 use Rattle.dexspec.proofs.layout.HeaderLaws.{AreFew}
-use Rattle.dexspec.proofs.layout.Uses.{UseStands}
+use Rattle.dexspec.proofs.layout.Uses.{UseIsAt}
 use Rattle.dexspec.proofs.layout.RowsRead.{type_read, proto_read, field_read, method_read, type_list_indices}
-use Rattle.dexspec.proofs.layout.PoolsStand.{ArePools, text_row_at, type_row, proto_row, field_row, method_row}
+use Rattle.dexspec.proofs.layout.PoolsAreAt.{ArePools, text_row_at, type_row, proto_row, field_row, method_row}
 
 -- ---- ranks are in the order of the symbols
 
@@ -91,7 +91,7 @@ module _ {X : Type 0} (R : X → X → Ordering) where
 -- ---- the rows are in order
 
 -- the key of a proto's list of types
-key_of_list : {K : Ordered} {b : List ℕ} → Laid K b → AreFew K → (ts : List Text) (o : ℕ) → UseStands b 4 (type_list_bytes K.pools) (unless_empty ts) o
+key_of_list : {K : Ordered} {b : List ℕ} → Laid K b → AreFew K → (ts : List Text) (o : ℕ) → UseIsAt b 4 (type_list_bytes K.pools) (unless_empty ts) o
     → (if o == 0 then [] else type_indices b o) ≡ map (type_index K.pools) ts
 key_of_list {K} {b} h few [] o s = cond-true (o == 0) [] (type_indices b o) (eq-eqb o 0 s)
 key_of_list {K} {b} h few (t ∷ ts) o s = cond-false (o == 0) [] (type_indices b o) (ne_eqb o 0 s.some) ∙ type_list_indices h few (t ∷ ts) s
@@ -117,7 +117,7 @@ module _ {K : Ordered} {b : List ℕ} (h : Laid K b) (few : AreFew K) (p : ArePo
     follows = λ j before e row.
         let less : j < i = omega (arith, e) in
         let own = text_row_at h few p j [] (omega (arith, less, lt)) in
-        let same = (one_string_data (drop (uint_at b (row_at b StringIds j)) b) before (get_or K.pools.texts j []) row.stands.0 own.stands.0 row.stands.1 own.stands.1).0 in
+        let same = (one_string_data (drop (uint_at b (row_at b StringIds j)) b) before (get_or K.pools.texts j []) row.encodes.0 own.encodes.0 row.encodes.1 own.encodes.1).0 in
         ap (λ (s : Text). text_cmp s (get_or K.pools.texts i [])) same ∙ rises_at text_cmp K.pools.texts j i [] p.texts_rise less lt;
   }
 

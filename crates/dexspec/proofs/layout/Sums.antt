@@ -6,11 +6,11 @@ use Rattle.std.proofs.lemmas.List.{length-append, take_at, drop_at}
 use Rattle.std.proofs.lemmas.List.Elements.{All-nil, All-cons}
 use Rattle.std.proofs.Math.Seq.{drop-append-add}
 use Rattle.sha1.specs.Sha1.{sha1, digest_bytes, hash_after, padded_message}
-use Rattle.dexspec.specs.Bytes.{uint, Stands}
+use Rattle.dexspec.specs.Bytes.{uint, BytesAt}
 use Rattle.dexspec.specs.Header.{adler_step, adler_sums, adler_32, HasMagic, HasVersion, HasChecksum, HasSignature, IsDigit}
 use Rattle.dexspec.specs.Canonical.{magic, with_sums}
-use Rattle.dexspec.proofs.written.Stands.{stands_first, stands_later, stands_at}
-use Rattle.dexspec.proofs.numbers.ByteNumbers.{length-uint, uint_at-stands}
+use Rattle.dexspec.proofs.written.PlacedBytes.{is_at_first, is_at_later, is_at}
+use Rattle.dexspec.proofs.numbers.ByteNumbers.{length-uint, uint_at-encodes}
 
 -- ---- SHA-1
 
@@ -47,15 +47,15 @@ adler_32_small bytes = let h = sums_stay bytes (1, 0) (record { first = omega ar
 -- ---- a file with its sums
 
 -- the bytes after a list and more
-drop_behind : (p q : List ℕ) (n m : ℕ) → length p ≡ n → drop (n + m) (p ++ q) ≡ drop m q
-drop_behind p q n m e = ap (λ k. drop (k + m) (p ++ q)) (sym e) ∙ drop-append-add p q m
+drop_after : (p q : List ℕ) (n m : ℕ) → length p ≡ n → drop (n + m) (p ++ q) ≡ drop m q
+drop_after p q n m e = ap (λ k. drop (k + m) (p ++ q)) (sym e) ∙ drop-append-add p q m
 
 -- the bytes after the sums
-pub with_sums_stands : {rest x : List ℕ} {o : ℕ} → Stands rest o x → Stands (with_sums rest) (32 + o) x
+pub with_sums_is_at : {rest x : List ℕ} {o : ℕ} → BytesAt rest o x → BytesAt (with_sums rest) (32 + o) x
 unfolding with_sums
-with_sums_stands {rest} {x} {o} h =
+with_sums_is_at {rest} {x} {o} h =
     let s = uint (adler_32 (sha1 rest ++ rest)) in
-    stands_at (omega (arith, length-uint (adler_32 (sha1 rest ++ rest)), length-sha1 rest)) (stands_later magic (stands_later s (stands_later (sha1 rest) h)))
+    is_at (omega (arith, length-uint (adler_32 (sha1 rest ++ rest)), length-sha1 rest)) (is_at_later magic (is_at_later s (is_at_later (sha1 rest) h)))
 
 -- magic and sums have 32 bytes
 pub length-with_sums : (rest : List ℕ) → length (with_sums rest) ≡ 32 + length rest
@@ -84,7 +84,7 @@ unfolding with_sums
 with_sums_checksum rest =
     let body = sha1 rest ++ rest in
     let n = adler_32 body in
-    uint_at-stands (adler_32_small body) (stands_at refl (stands_later magic (stands_first (uint n) body)))
+    uint_at-encodes (adler_32_small body) (is_at refl (is_at_later magic (is_at_first (uint n) body)))
     ∙ ap adler_32 (sym (drop_at (uint n) body 4 (length-uint n)))
 
 -- 8 Signature
@@ -94,4 +94,4 @@ with_sums_signature rest =
     let body = sha1 rest ++ rest in
     let n = adler_32 body in
     ap (take 20) (drop_at (uint n) body 4 (length-uint n)) ∙ take_at (sha1 rest) rest 20 (length-sha1 rest)
-    ∙ ap sha1 (sym (drop_behind (uint n) body 4 20 (length-uint n) ∙ drop_at (sha1 rest) rest 20 (length-sha1 rest)))
+    ∙ ap sha1 (sym (drop_after (uint n) body 4 20 (length-uint n) ∙ drop_at (sha1 rest) rest 20 (length-sha1 rest)))

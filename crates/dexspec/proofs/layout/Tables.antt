@@ -4,7 +4,7 @@ use Rattle.std.specs.Prelude.{◌==◌, if◌then◌else◌}
 use Rattle.std.specs.List.{flat_map, concat}
 use Rattle.std.proofs.lemmas.List.{length-append}
 use Rattle.dexspec.specs.Lists.{zip_with}
-use Rattle.dexspec.specs.Bytes.{uint, Stands}
+use Rattle.dexspec.specs.Bytes.{uint, BytesAt}
 use Rattle.dexspec.specs.Symbols.{Proto, Field, Method}
 use Rattle.dexspec.specs.Classes.{Definition}
 use Rattle.dexspec.specs.Header.{Table, StringIds, TypeIds, ProtoIds, FieldIds, MethodIds, ClassDefs, header_length, size_place, row_size}
@@ -12,23 +12,23 @@ use Rattle.dexspec.specs.Mentions.{Mentions}
 use Rattle.dexspec.specs.Spellings.{text_index}
 use Rattle.dexspec.specs.Placing.{Ordered}
 use Rattle.dexspec.specs.Canonical.{table_count, placed_tables, data_start, proto_row_bytes, field_row_bytes, method_row_bytes, ClassOffsets, class_row_bytes, Layout, table_bytes, header_bytes}
-use Rattle.dexspec.proofs.written.Stands.{stands_first, stands_whole, stands_later, stands_in, stands_at, stands_row, length_rows}
+use Rattle.dexspec.proofs.written.PlacedBytes.{is_at_first, is_at_whole, is_at_later, is_at_in, is_at, is_at_row, length_rows}
 use Rattle.dexspec.proofs.numbers.ByteNumbers.{length-uint, length-ushort}
 use Rattle.dexspec.proofs.layout.Placements.{AreFull}
 
 -- ---- in sequence
 
 -- the first of two
-pub stands_here : {b : List ℕ} {o : ℕ} (x r : List ℕ) → Stands b o (x ++ r) → Stands b o x
-stands_here x r h = stands_at (omega arith) (stands_in h (stands_first x r))
+pub is_at_here : {b : List ℕ} {o : ℕ} (x r : List ℕ) → BytesAt b o (x ++ r) → BytesAt b o x
+is_at_here x r h = is_at (omega arith) (is_at_in h (is_at_first x r))
 
 -- the second, after a first of n bytes
-pub stands_behind : {b : List ℕ} {o : ℕ} (x r : List ℕ) (n : ℕ) → length x ≡ n → Stands b o (x ++ r) → Stands b (o + n) r
-stands_behind x r n e h = stands_at (omega (arith, e)) (stands_in h (stands_later x (stands_whole r)))
+pub is_at_end : {b : List ℕ} {o : ℕ} (x r : List ℕ) (n : ℕ) → length x ≡ n → BytesAt b o (x ++ r) → BytesAt b (o + n) r
+is_at_end x r n e h = is_at (omega (arith, e)) (is_at_in h (is_at_later x (is_at_whole r)))
 
 -- after four bytes
-pub stands_next : {b : List ℕ} {o : ℕ} (n : ℕ) (r : List ℕ) → Stands b o (uint n ++ r) → Stands b (o + 4) r
-stands_next n r h = stands_behind (uint n) r 4 (length-uint n) h
+pub is_at_next : {b : List ℕ} {o : ℕ} (n : ℕ) (r : List ℕ) → BytesAt b o (uint n ++ r) → BytesAt b (o + 4) r
+is_at_next n r h = is_at_end (uint n) r 4 (length-uint n) h
 
 -- ---- rows of two lists
 
@@ -41,13 +41,13 @@ length_zip_rows f w each (x ∷ xs) (y ∷ ys) e =
     length-append (f x y) (concat (zip_with f xs ys)) ∙ omega (arith, each x y, length_zip_rows f w each xs ys (omega (arith, e)))
 
 -- the i-th row
-pub stands_zip_row : {X Y : Type 0} (f : X → Y → List ℕ) (w : ℕ) → ((x : X) (y : Y) → length (f x y) ≡ w) → (xs : List X) (ys : List Y) (i : ℕ) (d : X) (e : Y) → i < length xs → length ys ≡ length xs
-    → Stands (concat (zip_with f xs ys)) (w * i) (f (get_or xs i d) (get_or ys i e))
-stands_zip_row f w each [] ys i d e lt same = absurd (omega arith)
-stands_zip_row f w each (x ∷ xs) [] i d e lt same = absurd (omega (arith, same))
-stands_zip_row f w each (x ∷ xs) (y ∷ ys) zero d e lt same = stands_at (omega arith) (stands_first (f x y) (concat (zip_with f xs ys)))
-stands_zip_row f w each (x ∷ xs) (y ∷ ys) (suc i) d e lt same =
-    stands_at (omega (arith, each x y)) (stands_later (f x y) (stands_zip_row f w each xs ys i d e (omega arith) (omega (arith, same))))
+pub is_at_zip_row : {X Y : Type 0} (f : X → Y → List ℕ) (w : ℕ) → ((x : X) (y : Y) → length (f x y) ≡ w) → (xs : List X) (ys : List Y) (i : ℕ) (d : X) (e : Y) → i < length xs → length ys ≡ length xs
+    → BytesAt (concat (zip_with f xs ys)) (w * i) (f (get_or xs i d) (get_or ys i e))
+is_at_zip_row f w each [] ys i d e lt same = absurd (omega arith)
+is_at_zip_row f w each (x ∷ xs) [] i d e lt same = absurd (omega (arith, same))
+is_at_zip_row f w each (x ∷ xs) (y ∷ ys) zero d e lt same = is_at (omega arith) (is_at_first (f x y) (concat (zip_with f xs ys)))
+is_at_zip_row f w each (x ∷ xs) (y ∷ ys) (suc i) d e lt same =
+    is_at (omega (arith, each x y)) (is_at_later (f x y) (is_at_zip_row f w each xs ys i d e (omega arith) (omega (arith, same))))
 
 -- ---- the sizes of rows
 
@@ -97,8 +97,8 @@ table_start K MethodIds = header_length + row_size StringIds * table_count K Str
 table_start K ClassDefs = header_length + row_size StringIds * table_count K StringIds + row_size TypeIds * table_count K TypeIds + row_size ProtoIds * table_count K ProtoIds + row_size FieldIds * table_count K FieldIds + row_size MethodIds * table_count K MethodIds
 
 -- the rows of each table are at this offset
-pub table_stands : {b : List ℕ} (K : Ordered) (l : Layout) → AreFull K l → Stands b header_length (table_bytes K l) → (t : Table) → Stands b (table_start K t) (rows_bytes K l t)
-table_stands {b} K l full h = at
+pub table_is_at : {b : List ℕ} (K : Ordered) (l : Layout) → AreFull K l → BytesAt b header_length (table_bytes K l) → (t : Table) → BytesAt b (table_start K t) (rows_bytes K l t)
+table_is_at {b} K l full h = at
   where
     r : Table → List ℕ
     r = rows_bytes K l
@@ -106,25 +106,25 @@ table_stands {b} K l full h = at
     n : (t : Table) → length (rows_bytes K l t) ≡ row_size t * table_count K t
     n = length_rows_bytes K l full
 
-    h1 : Stands b (table_start K TypeIds) (r TypeIds ++ (r ProtoIds ++ (r FieldIds ++ (r MethodIds ++ r ClassDefs))))
-    h1 = stands_behind (r StringIds) (r TypeIds ++ (r ProtoIds ++ (r FieldIds ++ (r MethodIds ++ r ClassDefs)))) (row_size StringIds * table_count K StringIds) (n StringIds) h
+    h1 : BytesAt b (table_start K TypeIds) (r TypeIds ++ (r ProtoIds ++ (r FieldIds ++ (r MethodIds ++ r ClassDefs))))
+    h1 = is_at_end (r StringIds) (r TypeIds ++ (r ProtoIds ++ (r FieldIds ++ (r MethodIds ++ r ClassDefs)))) (row_size StringIds * table_count K StringIds) (n StringIds) h
 
-    h2 : Stands b (table_start K ProtoIds) (r ProtoIds ++ (r FieldIds ++ (r MethodIds ++ r ClassDefs)))
-    h2 = stands_behind (r TypeIds) (r ProtoIds ++ (r FieldIds ++ (r MethodIds ++ r ClassDefs))) (row_size TypeIds * table_count K TypeIds) (n TypeIds) h1
+    h2 : BytesAt b (table_start K ProtoIds) (r ProtoIds ++ (r FieldIds ++ (r MethodIds ++ r ClassDefs)))
+    h2 = is_at_end (r TypeIds) (r ProtoIds ++ (r FieldIds ++ (r MethodIds ++ r ClassDefs))) (row_size TypeIds * table_count K TypeIds) (n TypeIds) h1
 
-    h3 : Stands b (table_start K FieldIds) (r FieldIds ++ (r MethodIds ++ r ClassDefs))
-    h3 = stands_behind (r ProtoIds) (r FieldIds ++ (r MethodIds ++ r ClassDefs)) (row_size ProtoIds * table_count K ProtoIds) (n ProtoIds) h2
+    h3 : BytesAt b (table_start K FieldIds) (r FieldIds ++ (r MethodIds ++ r ClassDefs))
+    h3 = is_at_end (r ProtoIds) (r FieldIds ++ (r MethodIds ++ r ClassDefs)) (row_size ProtoIds * table_count K ProtoIds) (n ProtoIds) h2
 
-    h4 : Stands b (table_start K MethodIds) (r MethodIds ++ r ClassDefs)
-    h4 = stands_behind (r FieldIds) (r MethodIds ++ r ClassDefs) (row_size FieldIds * table_count K FieldIds) (n FieldIds) h3
+    h4 : BytesAt b (table_start K MethodIds) (r MethodIds ++ r ClassDefs)
+    h4 = is_at_end (r FieldIds) (r MethodIds ++ r ClassDefs) (row_size FieldIds * table_count K FieldIds) (n FieldIds) h3
 
-    at : (t : Table) → Stands b (table_start K t) (rows_bytes K l t)
-    at StringIds = stands_here (r StringIds) (r TypeIds ++ (r ProtoIds ++ (r FieldIds ++ (r MethodIds ++ r ClassDefs)))) h
-    at TypeIds = stands_here (r TypeIds) (r ProtoIds ++ (r FieldIds ++ (r MethodIds ++ r ClassDefs))) h1
-    at ProtoIds = stands_here (r ProtoIds) (r FieldIds ++ (r MethodIds ++ r ClassDefs)) h2
-    at FieldIds = stands_here (r FieldIds) (r MethodIds ++ r ClassDefs) h3
-    at MethodIds = stands_here (r MethodIds) (r ClassDefs) h4
-    at ClassDefs = stands_behind (r MethodIds) (r ClassDefs) (row_size MethodIds * table_count K MethodIds) (n MethodIds) h4
+    at : (t : Table) → BytesAt b (table_start K t) (rows_bytes K l t)
+    at StringIds = is_at_here (r StringIds) (r TypeIds ++ (r ProtoIds ++ (r FieldIds ++ (r MethodIds ++ r ClassDefs)))) h
+    at TypeIds = is_at_here (r TypeIds) (r ProtoIds ++ (r FieldIds ++ (r MethodIds ++ r ClassDefs))) h1
+    at ProtoIds = is_at_here (r ProtoIds) (r FieldIds ++ (r MethodIds ++ r ClassDefs)) h2
+    at FieldIds = is_at_here (r FieldIds) (r MethodIds ++ r ClassDefs) h3
+    at MethodIds = is_at_here (r MethodIds) (r ClassDefs) h4
+    at ClassDefs = is_at_end (r MethodIds) (r ClassDefs) (row_size MethodIds * table_count K MethodIds) (n MethodIds) h4
 
 -- all rows are the bytes from the header to the data
 pub length-table_bytes : (K : Ordered) (l : Layout) → AreFull K l → header_length + length (table_bytes K l) ≡ data_start K
@@ -139,16 +139,16 @@ abbrev pub table_place : Ordered → Table → ℕ
 table_place K t = if table_count K t == 0 then 0 else table_start K t
 
 -- the contents of the header after the sums
-pub record HeaderStands (b : List ℕ) (K : Ordered) (map_place size : ℕ) : Type 0 where
-  pub file : Stands b 32 (uint size)
-  pub own : Stands b 36 (uint header_length)
-  pub endian : Stands b 40 (uint 0x12345678)
-  pub link_bytes : Stands b 44 (uint 0)
-  pub link_place : Stands b 48 (uint 0)
-  pub map_list : Stands b 52 (uint map_place)
-  pub table : (t : Table) → Stands b (size_place t) (uint (table_count K t) ++ uint (table_place K t))
-  pub data_bytes : Stands b 104 (uint (size - data_start K))
-  pub data_place : Stands b 108 (uint (data_start K))
+pub record HeaderIsAt (b : List ℕ) (K : Ordered) (map_place size : ℕ) : Type 0 where
+  pub file : BytesAt b 32 (uint size)
+  pub own : BytesAt b 36 (uint header_length)
+  pub endian : BytesAt b 40 (uint 0x12345678)
+  pub link_bytes : BytesAt b 44 (uint 0)
+  pub link_place : BytesAt b 48 (uint 0)
+  pub map_list : BytesAt b 52 (uint map_place)
+  pub table : (t : Table) → BytesAt b (size_place t) (uint (table_count K t) ++ uint (table_place K t))
+  pub data_bytes : BytesAt b 104 (uint (size - data_start K))
+  pub data_place : BytesAt b 108 (uint (data_start K))
 
 -- the size and the offset of a table
 abbrev place_bytes : Table × ℕ × ℕ → List ℕ
@@ -159,17 +159,17 @@ length-place_bytes : (t : Table × ℕ × ℕ) → length (place_bytes t) ≡ 8
 length-place_bytes t = omega (arith, length-append (uint t.1) (uint t.2), length-uint t.1, length-uint t.2)
 
 -- of each table, at their place
-places_stand : {b : List ℕ} (K : Ordered) → Stands b 56 (flat_map place_bytes (placed_tables K)) → (t : Table) → Stands b (size_place t) (uint (table_count K t) ++ uint (table_place K t))
-places_stand K h StringIds = stands_in h (stands_row place_bytes 8 length-place_bytes (placed_tables K) 0 (StringIds, 0, 0) (omega arith))
-places_stand K h TypeIds = stands_in h (stands_row place_bytes 8 length-place_bytes (placed_tables K) 1 (StringIds, 0, 0) (omega arith))
-places_stand K h ProtoIds = stands_in h (stands_row place_bytes 8 length-place_bytes (placed_tables K) 2 (StringIds, 0, 0) (omega arith))
-places_stand K h FieldIds = stands_in h (stands_row place_bytes 8 length-place_bytes (placed_tables K) 3 (StringIds, 0, 0) (omega arith))
-places_stand K h MethodIds = stands_in h (stands_row place_bytes 8 length-place_bytes (placed_tables K) 4 (StringIds, 0, 0) (omega arith))
-places_stand K h ClassDefs = stands_in h (stands_row place_bytes 8 length-place_bytes (placed_tables K) 5 (StringIds, 0, 0) (omega arith))
+offsets_are_at : {b : List ℕ} (K : Ordered) → BytesAt b 56 (flat_map place_bytes (placed_tables K)) → (t : Table) → BytesAt b (size_place t) (uint (table_count K t) ++ uint (table_place K t))
+offsets_are_at K h StringIds = is_at_in h (is_at_row place_bytes 8 length-place_bytes (placed_tables K) 0 (StringIds, 0, 0) (omega arith))
+offsets_are_at K h TypeIds = is_at_in h (is_at_row place_bytes 8 length-place_bytes (placed_tables K) 1 (StringIds, 0, 0) (omega arith))
+offsets_are_at K h ProtoIds = is_at_in h (is_at_row place_bytes 8 length-place_bytes (placed_tables K) 2 (StringIds, 0, 0) (omega arith))
+offsets_are_at K h FieldIds = is_at_in h (is_at_row place_bytes 8 length-place_bytes (placed_tables K) 3 (StringIds, 0, 0) (omega arith))
+offsets_are_at K h MethodIds = is_at_in h (is_at_row place_bytes 8 length-place_bytes (placed_tables K) 4 (StringIds, 0, 0) (omega arith))
+offsets_are_at K h ClassDefs = is_at_in h (is_at_row place_bytes 8 length-place_bytes (placed_tables K) 5 (StringIds, 0, 0) (omega arith))
 
 -- each number of the header, at its place
-pub header_stands : {b : List ℕ} (K : Ordered) (map_place size : ℕ) → Stands b 32 (header_bytes K map_place size) → HeaderStands b K map_place size
-header_stands {b} K map_place size h0 =
+pub header_is_at : {b : List ℕ} (K : Ordered) (map_place size : ℕ) → BytesAt b 32 (header_bytes K map_place size) → HeaderIsAt b K map_place size
+header_is_at {b} K map_place size h0 =
     let sizes = uint (size - data_start K) ++ uint (data_start K) in
     let tables = flat_map place_bytes (placed_tables K) in
     let six : length tables ≡ 48 = length_rows place_bytes 8 length-place_bytes (placed_tables K) in
@@ -179,23 +179,23 @@ header_stands {b} K map_place size h0 =
     let r3 = uint 0 ++ r4 in
     let r2 = uint 0x12345678 ++ r3 in
     let r1 = uint header_length ++ r2 in
-    let h1 : Stands b 36 r1 = stands_next size r1 h0 in
-    let h2 : Stands b 40 r2 = stands_next header_length r2 h1 in
-    let h3 : Stands b 44 r3 = stands_next 0x12345678 r3 h2 in
-    let h4 : Stands b 48 r4 = stands_next 0 r4 h3 in
-    let h5 : Stands b 52 r5 = stands_next 0 r5 h4 in
-    let h6 : Stands b 56 r6 = stands_next map_place r6 h5 in
-    let h7 : Stands b 104 sizes = stands_behind tables sizes 48 six h6 in
+    let h1 : BytesAt b 36 r1 = is_at_next size r1 h0 in
+    let h2 : BytesAt b 40 r2 = is_at_next header_length r2 h1 in
+    let h3 : BytesAt b 44 r3 = is_at_next 0x12345678 r3 h2 in
+    let h4 : BytesAt b 48 r4 = is_at_next 0 r4 h3 in
+    let h5 : BytesAt b 52 r5 = is_at_next 0 r5 h4 in
+    let h6 : BytesAt b 56 r6 = is_at_next map_place r6 h5 in
+    let h7 : BytesAt b 104 sizes = is_at_end tables sizes 48 six h6 in
     record {
-      file = stands_here (uint size) r1 h0;
-      own = stands_here (uint header_length) r2 h1;
-      endian = stands_here (uint 0x12345678) r3 h2;
-      link_bytes = stands_here (uint 0) r4 h3;
-      link_place = stands_here (uint 0) r5 h4;
-      map_list = stands_here (uint map_place) r6 h5;
-      table = places_stand K (stands_here tables sizes h6);
-      data_bytes = stands_here (uint (size - data_start K)) (uint (data_start K)) h7;
-      data_place = stands_next (size - data_start K) (uint (data_start K)) h7;
+      file = is_at_here (uint size) r1 h0;
+      own = is_at_here (uint header_length) r2 h1;
+      endian = is_at_here (uint 0x12345678) r3 h2;
+      link_bytes = is_at_here (uint 0) r4 h3;
+      link_place = is_at_here (uint 0) r5 h4;
+      map_list = is_at_here (uint map_place) r6 h5;
+      table = offsets_are_at K (is_at_here tables sizes h6);
+      data_bytes = is_at_here (uint (size - data_start K)) (uint (data_start K)) h7;
+      data_place = is_at_next (size - data_start K) (uint (data_start K)) h7;
     }
 
 -- it has 80 bytes

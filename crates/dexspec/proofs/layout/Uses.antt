@@ -25,7 +25,7 @@ use Rattle.dexspec.proofs.lists.Distinct.{distinct_has}
 use Rattle.dexspec.proofs.lists.Equality.{IsEquality}
 use Rattle.dexspec.proofs.sharing.Sharing.{present_has, position_is}
 use Rattle.dexspec.proofs.sharing.Sameness.{types_decide, debug_decides, set_decides}
-use Rattle.dexspec.proofs.layout.Laying.{ItemStands, SectionStands, Laid, get_or-zip_with, get_or-zip}
+use Rattle.dexspec.proofs.layout.SectionPlaces.{ItemIsAt, SectionIsAt, Laid, get_or-zip_with, get_or-zip}
 
 -- ---- items and their numbers
 
@@ -96,29 +96,29 @@ items_numbered EachForItself same exact uses = own_numbered uses
 -- ---- uses and offsets
 
 -- the offset is 0 if there is no item, and otherwise the item is there
-abbrev pub UseStands : {X : Type 0} → List ℕ → ℕ → (X → List ℕ) → Option X → ℕ → Type 0
-UseStands b align g None o = o ≡ 0
-UseStands b align g (Some x) o = ItemStands b align o (g x)
+abbrev pub UseIsAt : {X : Type 0} → List ℕ → ℕ → (X → List ℕ) → Option X → ℕ → Type 0
+UseIsAt b align g None o = o ≡ 0
+UseIsAt b align g (Some x) o = ItemIsAt b align o (g x)
 
 -- the offset of a number
 pub number_offset : (its : List (Option ℕ)) (offs : List ℕ) (k : ℕ) → k < length its → slice_index (uses_offsets its offs) k ≡ option_map_or (slice_index offs) (get_or its k None) 0
 number_offset its offs k lt = get_or-map (λ n. option_map_or (slice_index offs) n 0) its k None 0 lt
 
 -- case split on the use and its number
-use_by : {X : Type 0} {b : List ℕ} (p : Placed) (g : X → List ℕ) (xs : List X) → p.items ≡ map g xs → SectionStands b p → (u : Option X) (n : Option ℕ) → IsNumber u n xs
-    → UseStands b p.align g u (option_map_or (slice_index (offsets p)) n 0)
+use_by : {X : Type 0} {b : List ℕ} (p : Placed) (g : X → List ℕ) (xs : List X) → p.items ≡ map g xs → SectionIsAt b p → (u : Option X) (n : Option ℕ) → IsNumber u n xs
+    → UseIsAt b p.align g u (option_map_or (slice_index (offsets p)) n 0)
 use_by p g xs is s None n h = ap (λ m. option_map_or (slice_index (offsets p)) m 0) h
 use_by {b = b} p g xs is s (Some x) n h =
     let lt : h.0 < length p.items = omega (arith, ap length is, length-map xs g, h.1) in
     let item : get_or p.items h.0 (g x) ≡ g x = ap (λ l. get_or l h.0 (g x)) is ∙ get_or-map g xs h.0 x (g x) h.1 ∙ ap g h.3 in
-    subst (λ y. ItemStands b p.align (option_map_or (slice_index (offsets p)) n 0) y) item
-    (subst (λ m. ItemStands b p.align (option_map_or (slice_index (offsets p)) m 0) (get_or p.items h.0 (g x))) (sym h.2) (s h.0 (g x) lt))
+    subst (λ y. ItemIsAt b p.align (option_map_or (slice_index (offsets p)) n 0) y) item
+    (subst (λ m. ItemIsAt b p.align (option_map_or (slice_index (offsets p)) m 0) (get_or p.items h.0 (g x))) (sym h.2) (s h.0 (g x) lt))
 
 -- each use's item is at its offset
-pub use_stands : {X : Type 0} {b : List ℕ} (p : Placed) (g : X → List ℕ) (its : Items X) (uses : List (Option X)) → AreNumbered uses its → p.items ≡ map g its.written → SectionStands b p
-    → (k : ℕ) → k < length uses → UseStands b p.align g (get_or uses k None) (slice_index (uses_offsets its.numbers (offsets p)) k)
-use_stands {b = b} p g its uses are is s k lt =
-    subst (λ o. UseStands b p.align g (get_or uses k None) o) (sym (number_offset its.numbers (offsets p) k (omega (arith, are.count, lt))))
+pub use_encoded : {X : Type 0} {b : List ℕ} (p : Placed) (g : X → List ℕ) (its : Items X) (uses : List (Option X)) → AreNumbered uses its → p.items ≡ map g its.written → SectionIsAt b p
+    → (k : ℕ) → k < length uses → UseIsAt b p.align g (get_or uses k None) (slice_index (uses_offsets its.numbers (offsets p)) k)
+use_encoded {b = b} p g its uses are is s k lt =
+    subst (λ o. UseIsAt b p.align g (get_or uses k None) o) (sym (number_offset its.numbers (offsets p) k (omega (arith, are.count, lt))))
     (use_by p g its.written is s (get_or uses k None) (get_or its.numbers k None) (are.each k lt))
 
 -- ---- parts of lists
@@ -193,100 +193,100 @@ class_data_of d offs = if is_empty_class d.1 then None else Some (d, offs)
 
 module _ {K : Ordered} {b : List ℕ} (h : Laid K b) where
   -- each type list
-  type_list_use : (k : ℕ) → k < length (type_list_uses K) → UseStands b 4 (type_list_bytes K.pools) (get_or (type_list_uses K) k None) (slice_index (type_list_offsets K) k)
+  type_list_use : (k : ℕ) → k < length (type_list_uses K) → UseIsAt b 4 (type_list_bytes K.pools) (get_or (type_list_uses K) k None) (slice_index (type_list_offsets K) k)
   unfolding type_list_offsets
-  type_list_use k lt = use_stands (type_list_section K) (type_list_bytes K.pools) (type_list_items K) (type_list_uses K) (items_numbered K.sharing same_types types_decide (type_list_uses K)) refl h.type_lists k lt
+  type_list_use k lt = use_encoded (type_list_section K) (type_list_bytes K.pools) (type_list_items K) (type_list_uses K) (items_numbered K.sharing same_types types_decide (type_list_uses K)) refl h.type_lists k lt
 
   -- the parameters of a proto
-  pub parameters_stand : (i : ℕ) (d : Proto) → i < length K.pools.protos → UseStands b 4 (type_list_bytes K.pools) (unless_empty (get_or K.pools.protos i d).parameters) (slice_index (type_list_offsets K) i)
-  parameters_stand i d lt =
+  pub parameters_encoded : (i : ℕ) (d : Proto) → i < length K.pools.protos → UseIsAt b 4 (type_list_bytes K.pools) (unless_empty (get_or K.pools.protos i d).parameters) (slice_index (type_list_offsets K) i)
+  parameters_encoded i d lt =
       let f = λ (p : Proto). unless_empty p.parameters in
       let g = λ (d : Definition). unless_empty d.1.interfaces in
       let len : length (map f K.pools.protos) ≡ length K.pools.protos = length-map K.pools.protos f in
-      subst (λ u. UseStands b 4 (type_list_bytes K.pools) u (slice_index (type_list_offsets K) i))
+      subst (λ u. UseIsAt b 4 (type_list_bytes K.pools) u (slice_index (type_list_offsets K) i))
       (get_or_append_left (map f K.pools.protos) (map g K.classes) None i (omega (arith, len)) ∙ get_or-map f K.pools.protos i d None lt)
       (type_list_use i (omega (arith, len, length-append (map f K.pools.protos) (map g K.classes))))
 
   -- the interfaces of a class
-  pub interfaces_stand : (r : ℕ) (d : Definition) → r < length K.classes
-      → UseStands b 4 (type_list_bytes K.pools) (unless_empty (get_or K.classes r d).1.interfaces) (slice_index (type_list_offsets K) (length K.pools.protos + r))
-  interfaces_stand r d lt =
+  pub interfaces_encoded : (r : ℕ) (d : Definition) → r < length K.classes
+      → UseIsAt b 4 (type_list_bytes K.pools) (unless_empty (get_or K.classes r d).1.interfaces) (slice_index (type_list_offsets K) (length K.pools.protos + r))
+  interfaces_encoded r d lt =
       let f = λ (p : Proto). unless_empty p.parameters in
       let g = λ (d : Definition). unless_empty d.1.interfaces in
       let len : length (map f K.pools.protos) ≡ length K.pools.protos = length-map K.pools.protos f in
       let len2 : length (map g K.classes) ≡ length K.classes = length-map K.classes g in
-      subst (λ u. UseStands b 4 (type_list_bytes K.pools) u (slice_index (type_list_offsets K) (length K.pools.protos + r)))
+      subst (λ u. UseIsAt b 4 (type_list_bytes K.pools) u (slice_index (type_list_offsets K) (length K.pools.protos + r)))
       (ap (λ n. get_or (map f K.pools.protos ++ map g K.classes) (n + r) None) (sym len) ∙ get_or-append-add (map f K.pools.protos) (map g K.classes) r None ∙ get_or-map g K.classes r d None lt)
       (type_list_use (length K.pools.protos + r) (omega (arith, len, len2, length-append (map f K.pools.protos) (map g K.classes))))
 
   -- the static values of a class
-  pub static_values_stand : (r : ℕ) (d : Definition) → r < length K.classes → UseStands b 1 (encoded_array_bytes K.pools) (values_unless_empty (get_or K.classes r d).1.static_values) (slice_index (array_offsets K) r)
+  pub static_values_encoded : (r : ℕ) (d : Definition) → r < length K.classes → UseIsAt b 1 (encoded_array_bytes K.pools) (values_unless_empty (get_or K.classes r d).1.static_values) (slice_index (array_offsets K) r)
   unfolding array_offsets
-  static_values_stand r d lt =
+  static_values_encoded r d lt =
       let f = λ (d : Definition). values_unless_empty d.1.static_values in
-      subst (λ u. UseStands b 1 (encoded_array_bytes K.pools) u (slice_index (array_offsets K) r)) (get_or-map f K.classes r d None lt)
-      (use_stands (array_section K) (encoded_array_bytes K.pools) (own_items (static_values_uses K)) (static_values_uses K) (own_numbered (static_values_uses K)) refl h.arrays r (omega (arith, lt, length-map K.classes f)))
+      subst (λ u. UseIsAt b 1 (encoded_array_bytes K.pools) u (slice_index (array_offsets K) r)) (get_or-map f K.classes r d None lt)
+      (use_encoded (array_section K) (encoded_array_bytes K.pools) (own_items (static_values_uses K)) (static_values_uses K) (own_numbered (static_values_uses K)) refl h.arrays r (omega (arith, lt, length-map K.classes f)))
 
   -- the debug program of a method
-  debug_use : (k : ℕ) (x : MethodDef) → k < length (all_methods K.classes) → UseStands b 1 (debug_bytes K.pools) (debug_of (get_or (all_methods K.classes) k x)) (slice_index (debug_offsets K) k)
+  debug_use : (k : ℕ) (x : MethodDef) → k < length (all_methods K.classes) → UseIsAt b 1 (debug_bytes K.pools) (debug_of (get_or (all_methods K.classes) k x)) (slice_index (debug_offsets K) k)
   unfolding debug_offsets
   debug_use k x lt =
-      subst (λ u. UseStands b 1 (debug_bytes K.pools) u (slice_index (debug_offsets K) k)) (get_or-map debug_of (all_methods K.classes) k x None lt)
-      (use_stands (debug_section K) (debug_bytes K.pools) (debug_items K) (debug_uses K) (items_numbered K.sharing same_debug debug_decides (debug_uses K)) refl h.debugs k (omega (arith, lt, length-map (all_methods K.classes) debug_of)))
+      subst (λ u. UseIsAt b 1 (debug_bytes K.pools) u (slice_index (debug_offsets K) k)) (get_or-map debug_of (all_methods K.classes) k x None lt)
+      (use_encoded (debug_section K) (debug_bytes K.pools) (debug_items K) (debug_uses K) (items_numbered K.sharing same_debug debug_decides (debug_uses K)) refl h.debugs k (omega (arith, lt, length-map (all_methods K.classes) debug_of)))
 
   -- the code of a method
   code_use : (k : ℕ) (x : MethodDef) → k < length (all_methods K.classes)
-      → UseStands b 4 (λ (p : Code × ℕ). code_bytes K.pools p.1 p.0) (code_of_method (slice_index (debug_offsets K) k) (get_or (all_methods K.classes) k x)) (slice_index (code_offsets K) k)
+      → UseIsAt b 4 (λ (p : Code × ℕ). code_bytes K.pools p.1 p.0) (code_of_method (slice_index (debug_offsets K) k) (get_or (all_methods K.classes) k x)) (slice_index (code_offsets K) k)
   unfolding code_offsets
   code_use k x lt =
       let f : MethodDef → ℕ → Option (Code × ℕ) = λ x o. code_of_method o x in
       let g : Code × ℕ → List ℕ = λ p. code_bytes K.pools p.1 p.0 in
       let len : length (code_uses K (debug_offsets K)) ≡ length (all_methods K.classes) = length-zip_with f (all_methods K.classes) (debug_offsets K) (length (all_methods K.classes)) refl (length-debug_offsets K) in
-      subst (λ u. UseStands b 4 g u (slice_index (code_offsets K) k)) (get_or-zip_with f (all_methods K.classes) (debug_offsets K) k x 0 None lt (omega (arith, lt, length-debug_offsets K)))
-      (use_stands (code_section K) g (own_items (code_uses K (debug_offsets K))) (code_uses K (debug_offsets K)) (own_numbered (code_uses K (debug_offsets K))) refl h.codes k (omega (arith, lt, len)))
+      subst (λ u. UseIsAt b 4 g u (slice_index (code_offsets K) k)) (get_or-zip_with f (all_methods K.classes) (debug_offsets K) k x 0 None lt (omega (arith, lt, length-debug_offsets K)))
+      (use_encoded (code_section K) g (own_items (code_uses K (debug_offsets K))) (code_uses K (debug_offsets K)) (own_numbered (code_uses K (debug_offsets K))) refl h.codes k (omega (arith, lt, len)))
 
   -- the debug program of the j-th method of class r
-  pub debug_stands : (r : ℕ) (d : Definition) (j : ℕ) (x : MethodDef) → r < length K.classes → j < length (declared_methods (get_or K.classes r d).1)
-      → UseStands b 1 (debug_bytes K.pools) (debug_of (get_or (declared_methods (get_or K.classes r d).1) j x)) (slice_index (debug_offsets K) (method_place K r j))
-  debug_stands r d j x lt less =
-      subst (λ y. UseStands b 1 (debug_bytes K.pools) (debug_of y) (slice_index (debug_offsets K) (method_place K r j))) (method_at K r d j x lt less)
+  pub debug_encoded : (r : ℕ) (d : Definition) (j : ℕ) (x : MethodDef) → r < length K.classes → j < length (declared_methods (get_or K.classes r d).1)
+      → UseIsAt b 1 (debug_bytes K.pools) (debug_of (get_or (declared_methods (get_or K.classes r d).1) j x)) (slice_index (debug_offsets K) (method_place K r j))
+  debug_encoded r d j x lt less =
+      subst (λ y. UseIsAt b 1 (debug_bytes K.pools) (debug_of y) (slice_index (debug_offsets K) (method_place K r j))) (method_at K r d j x lt less)
       (debug_use (method_place K r j) x (method_within K r d j lt less))
 
   -- its code, at the offset that the class's data has for it
-  pub code_stands : (r : ℕ) (d : Definition) (j : ℕ) (x : MethodDef) → r < length K.classes → j < length (declared_methods (get_or K.classes r d).1)
-      → UseStands b 4 (λ (p : Code × ℕ). code_bytes K.pools p.1 p.0) (code_of_method (slice_index (debug_offsets K) (method_place K r j)) (get_or (declared_methods (get_or K.classes r d).1) j x))
+  pub code_encoded : (r : ℕ) (d : Definition) (j : ℕ) (x : MethodDef) → r < length K.classes → j < length (declared_methods (get_or K.classes r d).1)
+      → UseIsAt b 4 (λ (p : Code × ℕ). code_bytes K.pools p.1 p.0) (code_of_method (slice_index (debug_offsets K) (method_place K r j)) (get_or (declared_methods (get_or K.classes r d).1) j x))
       (slice_index (get_or (by_class K (code_offsets K)) r []) j)
-  code_stands r d j x lt less =
+  code_encoded r d j x lt less =
       let g : Code × ℕ → List ℕ = λ p. code_bytes K.pools p.1 p.0 in
-      subst (λ o. UseStands b 4 g (code_of_method (slice_index (debug_offsets K) (method_place K r j)) (get_or (declared_methods (get_or K.classes r d).1) j x)) o) (sym (by_class_at K (code_offsets K) r d j 0 lt less))
-      (subst (λ y. UseStands b 4 g (code_of_method (slice_index (debug_offsets K) (method_place K r j)) y) (slice_index (code_offsets K) (method_place K r j))) (method_at K r d j x lt less)
+      subst (λ o. UseIsAt b 4 g (code_of_method (slice_index (debug_offsets K) (method_place K r j)) (get_or (declared_methods (get_or K.classes r d).1) j x)) o) (sym (by_class_at K (code_offsets K) r d j 0 lt less))
+      (subst (λ y. UseIsAt b 4 g (code_of_method (slice_index (debug_offsets K) (method_place K r j)) y) (slice_index (code_offsets K) (method_place K r j))) (method_at K r d j x lt less)
       (code_use (method_place K r j) x (method_within K r d j lt less)))
 
   -- the class data of a class
-  pub class_data_stands : (r : ℕ) (d : Definition) → r < length K.classes
-      → UseStands b 1 (λ (p : Definition × List ℕ). class_data_bytes K.pools p.0 p.1) (class_data_of (get_or K.classes r d) (get_or (by_class K (code_offsets K)) r [])) (slice_index (class_data_offsets K) r)
+  pub class_data_encoded : (r : ℕ) (d : Definition) → r < length K.classes
+      → UseIsAt b 1 (λ (p : Definition × List ℕ). class_data_bytes K.pools p.0 p.1) (class_data_of (get_or K.classes r d) (get_or (by_class K (code_offsets K)) r [])) (slice_index (class_data_offsets K) r)
   unfolding class_data_offsets
-  class_data_stands r d lt =
+  class_data_encoded r d lt =
       let g : Definition × List ℕ → List ℕ = λ p. class_data_bytes K.pools p.0 p.1 in
       let uses = class_data_uses K (code_offsets K) in
       let len : length uses ≡ length K.classes = length-zip_with class_data_of K.classes (by_class K (code_offsets K)) (length K.classes) refl (length-by_class K (code_offsets K)) in
-      subst (λ u. UseStands b 1 g u (slice_index (class_data_offsets K) r))
+      subst (λ u. UseIsAt b 1 g u (slice_index (class_data_offsets K) r))
       (get_or-zip_with class_data_of K.classes (by_class K (code_offsets K)) r d [] None lt (omega (arith, lt, length-by_class K (code_offsets K))))
-      (use_stands (class_data_section K) g (own_items uses) uses (own_numbered uses) refl h.class_data r (omega (arith, lt, len)))
+      (use_encoded (class_data_section K) g (own_items uses) uses (own_numbered uses) refl h.class_data r (omega (arith, lt, len)))
 
 -- ---- annotation sets
 
 -- an annotation_set_item is at the offset, and the annotations of the set are at the offsets in it
 pub record SetItems (b : List ℕ) (m : Mentions) (o : ℕ) (x : AnnotationSet) : Type 0 where
   pub offs : List ℕ
-  pub set : ItemStands b 4 o (offsets_bytes offs)
+  pub set : ItemIsAt b 4 o (offsets_bytes offs)
   pub count : length offs ≡ length x
-  pub each : (j : ℕ) (d : Annotation) → j < length x → ItemStands b 1 (slice_index offs j) (annotation_bytes m (get_or x j d))
+  pub each : (j : ℕ) (d : Annotation) → j < length x → ItemIsAt b 1 (slice_index offs j) (annotation_bytes m (get_or x j d))
 
 -- an empty set has offset 0
-abbrev pub SetStands : List ℕ → Mentions → AnnotationSet → ℕ → Type 0
-SetStands b m [] o = o ≡ 0
-SetStands b m (a ∷ x) o = SetItems b m o (a ∷ x)
+abbrev pub SetIsAt : List ℕ → Mentions → AnnotationSet → ℕ → Type 0
+SetIsAt b m [] o = o ≡ 0
+SetIsAt b m (a ∷ x) o = SetItems b m o (a ∷ x)
 
 -- the offset of each set, of all classes
 abbrev pub set_use_offsets : Ordered → List ℕ
@@ -329,7 +329,7 @@ module _ {K : Ordered} {b : List ℕ} (h : Laid K b) where
       let n = length (flat_map f (take i xs)) in
       record {
         offs = offs;
-        set = subst (λ y. ItemStands b 4 (slice_index (offsets (set_section K)) i) y) (get_or-map offsets_bytes (annotation_offsets K) i [] (offsets_bytes []) (omega (arith, len, lt)))
+        set = subst (λ y. ItemIsAt b 4 (slice_index (offsets (set_section K)) i) y) (get_or-map offsets_bytes (annotation_offsets K) i [] (offsets_bytes []) (omega (arith, len, lt)))
             (h.sets i (offsets_bytes []) (omega (arith, len, lt, length-map (annotation_offsets K) offsets_bytes)));
         count = ap (λ (l : List ℕ). length l) (chunk_at f xs zs i x lt) ∙ length-take (length (get_or xs i x)) (drop n zs) ∙ omega (arith, length-drop n zs, total, room, same);
         each = λ j d less.
@@ -338,41 +338,41 @@ module _ {K : Ordered} {b : List ℕ} (h : Laid K b) where
             let off : slice_index offs j ≡ slice_index zs (n + j) = chunk_item f xs zs i x j 0 lt within in
             let item : get_or (annotation_section K).items (n + j) [] ≡ annotation_bytes K.pools (get_or x j d) =
             get_or-map (annotation_bytes K.pools) all (n + j) d [] place ∙ ap (annotation_bytes K.pools) (get_or-flat_map f xs i j x d lt within ∙ ap (λ (y : AnnotationSet). get_or y j d) is) in
-            subst (λ o. ItemStands b 1 o (annotation_bytes K.pools (get_or x j d))) (sym off)
-            (subst (λ y. ItemStands b 1 (slice_index zs (n + j)) y) item (h.annotations (n + j) [] (omega (arith, place, length-map all (annotation_bytes K.pools)))));
+            subst (λ o. ItemIsAt b 1 o (annotation_bytes K.pools (get_or x j d))) (sym off)
+            (subst (λ y. ItemIsAt b 1 (slice_index zs (n + j)) y) item (h.annotations (n + j) [] (omega (arith, place, length-map all (annotation_bytes K.pools)))));
       }
 
   -- a set by its number
-  set_by : (x : AnnotationSet) (n : Option ℕ) → IsNumber (unless_empty x) n (set_items K).written → SetStands b K.pools x (option_map_or (slice_index (offsets (set_section K))) n 0)
+  set_by : (x : AnnotationSet) (n : Option ℕ) → IsNumber (unless_empty x) n (set_items K).written → SetIsAt b K.pools x (option_map_or (slice_index (offsets (set_section K))) n 0)
   set_by [] n is = ap (λ m. option_map_or (slice_index (offsets (set_section K))) m 0) is
   set_by (a ∷ x) n is = subst (λ m. SetItems b K.pools (option_map_or (slice_index (offsets (set_section K))) m 0) (a ∷ x)) (sym is.2) (set_written is.0 (a ∷ x) is.1 is.3)
 
   -- each set of all classes
-  set_use : (k : ℕ) → k < length (flat_map class_sets K.classes) → SetStands b K.pools (get_or (flat_map class_sets K.classes) k []) (slice_index (set_use_offsets K) k)
+  set_use : (k : ℕ) → k < length (flat_map class_sets K.classes) → SetIsAt b K.pools (get_or (flat_map class_sets K.classes) k []) (slice_index (set_use_offsets K) k)
   set_use k lt =
       let are = items_numbered K.sharing same_set set_decides (set_uses K) in
       let sets = flat_map class_sets K.classes in
       let within : k < length (set_uses K) = omega (arith, lt, length-map sets (unless_empty {X = Annotation})) in
       let number : IsNumber (unless_empty (get_or sets k [])) (get_or (set_items K).numbers k None) (set_items K).written =
       subst (λ u. IsNumber u (get_or (set_items K).numbers k None) (set_items K).written) (get_or-map (unless_empty {X = Annotation}) sets k [] None lt) (are.each k within) in
-      subst (λ o. SetStands b K.pools (get_or sets k []) o) (sym (number_offset (set_items K).numbers (offsets (set_section K)) k (omega (arith, are.count, within)))) (set_by (get_or sets k []) (get_or (set_items K).numbers k None) number)
+      subst (λ o. SetIsAt b K.pools (get_or sets k []) o) (sym (number_offset (set_items K).numbers (offsets (set_section K)) k (omega (arith, are.count, within)))) (set_by (get_or sets k []) (get_or (set_items K).numbers k None) number)
 
   -- the n-th set of class r
-  class_set : (r : ℕ) (d : Definition) (n : ℕ) → r < length K.classes → n < length (class_sets (get_or K.classes r d)) → SetStands b K.pools (get_or (class_sets (get_or K.classes r d)) n []) (slice_index (class_chunk K r) n)
+  class_set : (r : ℕ) (d : Definition) (n : ℕ) → r < length K.classes → n < length (class_sets (get_or K.classes r d)) → SetIsAt b K.pools (get_or (class_sets (get_or K.classes r d)) n []) (slice_index (class_chunk K r) n)
   class_set r d n lt less =
       let at = length (flat_map class_sets (take r K.classes)) + n in
-      subst (λ o. SetStands b K.pools (get_or (class_sets (get_or K.classes r d)) n []) o) (sym (chunk_item class_sets K.classes (set_use_offsets K) r d n 0 lt less))
-      (subst (λ x. SetStands b K.pools x (slice_index (set_use_offsets K) at)) (get_or-flat_map class_sets K.classes r n d [] lt less) (set_use at (part_within class_sets K.classes r d n lt less)))
+      subst (λ o. SetIsAt b K.pools (get_or (class_sets (get_or K.classes r d)) n []) o) (sym (chunk_item class_sets K.classes (set_use_offsets K) r d n 0 lt less))
+      (subst (λ x. SetIsAt b K.pools x (slice_index (set_use_offsets K) at)) (get_or-flat_map class_sets K.classes r n d [] lt less) (set_use at (part_within class_sets K.classes r d n lt less)))
 
   -- the class's own set
-  pub own_set_stands : (r : ℕ) (d : Definition) → r < length K.classes → SetStands b K.pools (get_or K.classes r d).1.annotations (class_set_offsets K r).own
-  own_set_stands r d lt =
-      subst (λ (s : SetOffsets). SetStands b K.pools (get_or K.classes r d).1.annotations s.own) (sym (class_set_offsets_is K r d lt)) (class_set r d 0 lt (omega arith))
+  pub own_set_encoded : (r : ℕ) (d : Definition) → r < length K.classes → SetIsAt b K.pools (get_or K.classes r d).1.annotations (class_set_offsets K r).own
+  own_set_encoded r d lt =
+      subst (λ (s : SetOffsets). SetIsAt b K.pools (get_or K.classes r d).1.annotations s.own) (sym (class_set_offsets_is K r d lt)) (class_set r d 0 lt (omega arith))
 
   -- the set of its j-th field
-  pub field_set_stands : (r : ℕ) (d : Definition) (j : ℕ) (f : FieldDef) → r < length K.classes → j < length (declared_fields (get_or K.classes r d).1)
-      → SetStands b K.pools (get_or (declared_fields (get_or K.classes r d).1) j f).annotations (slice_index (class_set_offsets K r).fields j)
-  field_set_stands r d j f lt less =
+  pub field_set_encoded : (r : ℕ) (d : Definition) (j : ℕ) (f : FieldDef) → r < length K.classes → j < length (declared_fields (get_or K.classes r d).1)
+      → SetIsAt b K.pools (get_or (declared_fields (get_or K.classes r d).1) j f).annotations (slice_index (class_set_offsets K r).fields j)
+  field_set_encoded r d j f lt less =
       let c = get_or K.classes r d in
       let fs = declared_fields c.1 in
       let g : FieldDef → AnnotationSet = λ f. f.annotations in
@@ -381,15 +381,15 @@ module _ {K : Ordered} {b : List ℕ} (h : Laid K b) where
       let set : get_or (class_sets c) (suc j) [] ≡ (get_or fs j f).annotations = get_or_append_left (map g fs) rest [] j (omega (arith, len, less)) ∙ get_or-map g fs j f [] less in
       let off : slice_index (take (length fs) (drop 1 (class_chunk K r))) j ≡ slice_index (class_chunk K r) (suc j) =
       get_or-take (length fs) (drop 1 (class_chunk K r)) j 0 less ∙ get_or-drop 1 (class_chunk K r) j 0 ∙ ap (slice_index (class_chunk K r)) (omega arith) in
-      subst (λ (s : SetOffsets). SetStands b K.pools (get_or fs j f).annotations (slice_index s.fields j)) (sym (class_set_offsets_is K r d lt))
-      (subst (λ o. SetStands b K.pools (get_or fs j f).annotations o) (sym off)
-      (subst (λ x. SetStands b K.pools x (slice_index (class_chunk K r) (suc j))) set (class_set r d (suc j) lt (omega (arith, length-append (map g fs) rest, len, less)))))
+      subst (λ (s : SetOffsets). SetIsAt b K.pools (get_or fs j f).annotations (slice_index s.fields j)) (sym (class_set_offsets_is K r d lt))
+      (subst (λ o. SetIsAt b K.pools (get_or fs j f).annotations o) (sym off)
+      (subst (λ x. SetIsAt b K.pools x (slice_index (class_chunk K r) (suc j))) set (class_set r d (suc j) lt (omega (arith, length-append (map g fs) rest, len, less)))))
 
   -- the i-th set of its j-th method: its own, then those of its parameters
-  pub method_set_stands : (r : ℕ) (d : Definition) (j : ℕ) (x : MethodDef) (i : ℕ) → r < length K.classes → j < length (declared_methods (get_or K.classes r d).1)
+  pub method_set_encoded : (r : ℕ) (d : Definition) (j : ℕ) (x : MethodDef) (i : ℕ) → r < length K.classes → j < length (declared_methods (get_or K.classes r d).1)
       → i < length (method_sets (get_or (declared_methods (get_or K.classes r d).1) j x))
-      → SetStands b K.pools (get_or (method_sets (get_or (declared_methods (get_or K.classes r d).1) j x)) i []) (slice_index (get_or (class_set_offsets K r).methods j []) i)
-  method_set_stands r d j x i lt less within =
+      → SetIsAt b K.pools (get_or (method_sets (get_or (declared_methods (get_or K.classes r d).1) j x)) i []) (slice_index (get_or (class_set_offsets K r).methods j []) i)
+  method_set_encoded r d j x i lt less within =
       let c = get_or K.classes r d in
       let fs = declared_fields c.1 in
       let xs = declared_methods c.1 in
@@ -403,9 +403,9 @@ module _ {K : Ordered} {b : List ℕ} (h : Laid K b) where
       ap (λ k. get_or (map g fs ++ rest) (k + n) []) (sym len) ∙ get_or-append-add (map g fs) rest n [] ∙ get_or-flat_map method_sets xs j i x [] less within in
       let off : slice_index (get_or (chunks (map (λ x. length (method_sets x)) xs) (drop (1 + length fs) all)) j []) i ≡ slice_index all (suc (length fs + n)) =
       chunk_item method_sets xs (drop (1 + length fs) all) j x i 0 less within ∙ get_or-drop (1 + length fs) all n 0 ∙ ap (slice_index all) (omega arith) in
-      subst (λ (s : SetOffsets). SetStands b K.pools set (slice_index (get_or s.methods j []) i)) (sym (class_set_offsets_is K r d lt))
-      (subst (λ o. SetStands b K.pools set o) (sym off)
-      (subst (λ y. SetStands b K.pools y (slice_index all (suc (length fs + n)))) is
+      subst (λ (s : SetOffsets). SetIsAt b K.pools set (slice_index (get_or s.methods j []) i)) (sym (class_set_offsets_is K r d lt))
+      (subst (λ o. SetIsAt b K.pools set o) (sym off)
+      (subst (λ y. SetIsAt b K.pools y (slice_index all (suc (length fs + n)))) is
       (class_set r d (suc (length fs + n)) lt (omega (arith, length-append (map g fs) rest, len, part_within method_sets xs j x i less within)))))
 
 -- ---- ref lists and directories
@@ -441,10 +441,10 @@ ref_place K r =
 
 module _ {K : Ordered} {b : List ℕ} (h : Laid K b) where
   -- the ref list of the j-th method of class r
-  pub ref_list_stands : (r : ℕ) (d : Definition) (j : ℕ) → r < length K.classes → j < length (declared_methods (get_or K.classes r d).1)
-      → UseStands b 4 offsets_bytes (unless_empty (drop 1 (get_or (class_set_offsets K r).methods j []))) (slice_index (get_or (by_class K (ref_list_offsets K)) r []) j)
+  pub ref_list_encoded : (r : ℕ) (d : Definition) (j : ℕ) → r < length K.classes → j < length (declared_methods (get_or K.classes r d).1)
+      → UseIsAt b 4 offsets_bytes (unless_empty (drop 1 (get_or (class_set_offsets K r).methods j []))) (slice_index (get_or (by_class K (ref_list_offsets K)) r []) j)
   unfolding ref_list_offsets
-  ref_list_stands r d j lt less =
+  ref_list_encoded r d j lt less =
       let sets = set_offsets K in
       let s = class_set_offsets K r in
       let uses = ref_list_uses K sets in
@@ -458,14 +458,14 @@ module _ {K : Ordered} {b : List ℕ} (h : Laid K b) where
       let one : get_or uses n None ≡ unless_empty (drop 1 (get_or s.methods j [])) =
       ap (λ k. get_or uses k None) (sym same) ∙ get_or-flat_map ref_uses_of sets r j no_set_offsets None here among
       ∙ get_or-map (λ offs. unless_empty (drop 1 offs)) s.methods j [] None (omega (arith, among, length-map s.methods (λ offs. unless_empty (drop 1 offs)))) in
-      subst (λ o. UseStands b 4 offsets_bytes (unless_empty (drop 1 (get_or s.methods j []))) o) (sym (by_class_at K (ref_list_offsets K) r d j 0 lt less))
-      (subst (λ u. UseStands b 4 offsets_bytes u (slice_index (ref_list_offsets K) n)) one (use_stands (ref_list_section K) offsets_bytes (own_items uses) uses (own_numbered uses) refl h.ref_lists n within))
+      subst (λ o. UseIsAt b 4 offsets_bytes (unless_empty (drop 1 (get_or s.methods j []))) o) (sym (by_class_at K (ref_list_offsets K) r d j 0 lt less))
+      (subst (λ u. UseIsAt b 4 offsets_bytes u (slice_index (ref_list_offsets K) n)) one (use_encoded (ref_list_section K) offsets_bytes (own_items uses) uses (own_numbered uses) refl h.ref_lists n within))
 
   -- the directory of class r
-  pub directory_stands : (r : ℕ) (d : Definition) → r < length K.classes
-      → UseStands b 4 (λ (x : List ℕ). x) (directory_bytes K.pools (get_or K.classes r d) (class_set_offsets K r) (get_or (by_class K (ref_list_offsets K)) r [])) (slice_index (directory_offsets K) r)
+  pub directory_encoded : (r : ℕ) (d : Definition) → r < length K.classes
+      → UseIsAt b 4 (λ (x : List ℕ). x) (directory_bytes K.pools (get_or K.classes r d) (class_set_offsets K r) (get_or (by_class K (ref_list_offsets K)) r [])) (slice_index (directory_offsets K) r)
   unfolding directory_offsets
-  directory_stands r d lt =
+  directory_encoded r d lt =
       let sets = set_offsets K in
       let refs = by_class K (ref_list_offsets K) in
       let g : List ℕ → List ℕ = λ x. x in
@@ -477,8 +477,8 @@ module _ {K : Ordered} {b : List ℕ} (h : Laid K b) where
       get_or-zip sets refs r no_set_offsets [] (omega (arith, lt, length-set_offsets K)) (omega (arith, lt, length-by_class K (ref_list_offsets K))) in
       let one : get_or uses r None ≡ put (get_or K.classes r d) (class_set_offsets K r, get_or refs r []) =
       get_or-zip_with put K.classes (zip sets refs) r d (no_set_offsets, []) None lt (omega (arith, lt, both)) ∙ ap (put (get_or K.classes r d)) pair in
-      subst (λ u. UseStands b 4 g u (slice_index (directory_offsets K) r)) one
-      (use_stands (directory_section K) g (own_items uses) uses (own_numbered uses) (sym (map-id (own_items uses).written)) h.directories r (omega (arith, lt, len)))
+      subst (λ u. UseIsAt b 4 g u (slice_index (directory_offsets K) r)) one
+      (use_encoded (directory_section K) g (own_items uses) uses (own_numbered uses) (sym (map-id (own_items uses).written)) h.directories r (omega (arith, lt, len)))
 
 -- ---- counts
 

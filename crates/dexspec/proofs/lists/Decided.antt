@@ -12,7 +12,7 @@ use Rattle.dexspec.specs.Values.{Value, Values, Elements}
 use Rattle.dexspec.specs.Annotations.{Annotation, AnnotationSet}
 use Rattle.dexspec.specs.Classes.{FieldDef, MethodDef, Body, Definition}
 use Rattle.dexspec.specs.Files.{Collection}
-use Rattle.dexspec.specs.Aside.Codes as codes
+use Rattle.dexspec.specs.internal.Codes as codes
 
 -- two values are equal or not
 abbrev pub SameOrNot : {X : Type 0} → X → X → Type 0

@@ -64,11 +64,11 @@ module _ {X : Type 0} (same : X → X → Bool) (exact : IsEquality same) where
   distinct_more (y ∷ ys) x = ap (λ ds. y ∷ filter (λ z. not (same y z)) ds) (distinct_more ys x) ∙ added_by (same x y) y (distinct same ys) x refl
 
   -- the distinct members of a longer list are those of its prefix, and more
-  pub distinct_front : (xs ys : List X) → (more : List X) × (distinct same (xs ++ ys) ≡ distinct same xs ++ more)
-  distinct_front xs [] = ([], ap (distinct same) (append-nil xs) ∙ sym (append-nil (distinct same xs)))
-  distinct_front xs (y ∷ ys) =
+  pub distinct_prefix : (xs ys : List X) → (more : List X) × (distinct same (xs ++ ys) ≡ distinct same xs ++ more)
+  distinct_prefix xs [] = ([], ap (distinct same) (append-nil xs) ∙ sym (append-nil (distinct same xs)))
+  distinct_prefix xs (y ∷ ys) =
       let one = insert_grows same (distinct same xs) y in
-      let rest = distinct_front (xs ++ y ∷ []) ys in
+      let rest = distinct_prefix (xs ++ y ∷ []) ys in
       (one.0 ++ rest.0, ap (distinct same) (sym (append_assoc xs (y ∷ []) ys)) ∙ rest.1 ∙ ap (λ ds. ds ++ rest.0) (distinct_more xs y ∙ one.1) ∙ append_assoc (distinct same xs) one.0 rest.0)
 
 -- ---- each once
@@ -115,9 +115,9 @@ distinct_once {X = X} same again (x ∷ xs) =
 -- ---- members under an injective map
 
 -- a filter of a mapped list
-filter_led : {X Y : Type 0} (f : X → Y) (p : Y → Bool) (xs : List X) → filter p (map f xs) ≡ map f (filter (λ x. p (f x)) xs)
-filter_led f p [] = refl
-filter_led f p (x ∷ xs) = by (p (f x)) (filter_led f p xs)
+filter_mapped : {X Y : Type 0} (f : X → Y) (p : Y → Bool) (xs : List X) → filter p (map f xs) ≡ map f (filter (λ x. p (f x)) xs)
+filter_mapped f p [] = refl
+filter_mapped f p (x ∷ xs) = by (p (f x)) (filter_mapped f p xs)
   where
     by : (b : Bool) → filter p (map f xs) ≡ map f (filter (λ x. p (f x)) xs) → cond b (f x ∷ filter p (map f xs)) (filter p (map f xs)) ≡ map f (cond b (x ∷ filter (λ x. p (f x)) xs) (filter (λ x. p (f x)) xs))
     by true again = ap (λ ys. f x ∷ ys) again
@@ -131,10 +131,10 @@ filter_agrees p q (x ∷ xs) e =
     ∙ ap (λ ys. cond (q x) (x ∷ ys) ys) (filter_agrees p q xs (λ y c. e y (Contains-later x y xs c)))
 
 -- the distinct members of a mapped list are the images of the distinct members
-pub distinct_led : {X Y : Type 0} (f : X → Y) (same : X → X → Bool) (alike : Y → Y → Bool) (xs : List X) → ((x y : X) → Contains xs x → Contains xs y → alike (f x) (f y) ≡ same x y) → distinct alike (map f xs) ≡ map f (distinct same xs)
-distinct_led f same alike [] e = refl
-distinct_led f same alike (x ∷ xs) e =
+pub distinct_mapped : {X Y : Type 0} (f : X → Y) (same : X → X → Bool) (equivalent : Y → Y → Bool) (xs : List X) → ((x y : X) → Contains xs x → Contains xs y → equivalent (f x) (f y) ≡ same x y) → distinct equivalent (map f xs) ≡ map f (distinct same xs)
+distinct_mapped f same equivalent [] e = refl
+distinct_mapped f same equivalent (x ∷ xs) e =
     let ds = distinct same xs in
-    ap (λ zs. f x ∷ filter (λ z. not (alike (f x) z)) zs) (distinct_led f same alike xs (λ y z cy cz. e y z (Contains-later x y xs cy) (Contains-later x z xs cz)))
-    ∙ ap (λ zs. f x ∷ zs) (filter_led f (λ z. not (alike (f x) z)) ds)
-    ∙ ap (λ zs. f x ∷ map f zs) (filter_agrees (λ z. not (alike (f x) (f z))) (λ z. not (same x z)) ds (λ z c. ap not (e x z (Contains-first x xs) (Contains-later x z xs (distinct_source same xs z c)))))
+    ap (λ zs. f x ∷ filter (λ z. not (equivalent (f x) z)) zs) (distinct_mapped f same equivalent xs (λ y z cy cz. e y z (Contains-later x y xs cy) (Contains-later x z xs cz)))
+    ∙ ap (λ zs. f x ∷ zs) (filter_mapped f (λ z. not (equivalent (f x) z)) ds)
+    ∙ ap (λ zs. f x ∷ map f zs) (filter_agrees (λ z. not (equivalent (f x) (f z))) (λ z. not (same x z)) ds (λ z c. ap not (e x z (Contains-first x xs) (Contains-later x z xs (distinct_source same xs z c)))))

@@ -12,8 +12,8 @@ abbrev pub IsEquality : {X : Type 0} → (X → X → Bool) → Type 0
 IsEquality {X} same = (x y : X) → Decides (same x y) (x ≡ y)
 
 -- a test that passes only for equal values, and for each value and itself
-pub tells : {X : Type 0} (same : X → X → Bool) → ((x y : X) → same x y ≡ true → x ≡ y) → ((x : X) → same x x ≡ true) → IsEquality same
-tells same only again x y = (only x y, λ e. subst (λ z. same x z ≡ true) e (again x))
+pub reports : {X : Type 0} (same : X → X → Bool) → ((x y : X) → same x y ≡ true → x ≡ y) → ((x : X) → same x x ≡ true) → IsEquality same
+reports same only again x y = (only x y, λ e. subst (λ z. same x z ≡ true) e (again x))
 
 module _ {X : Type 0} (same : X → X → Bool) (exact : IsEquality same) where
   -- a value is equal to itself

@@ -70,12 +70,12 @@ position_agrees p q (x ∷ xs) e =
     ∙ ap (λ n. cond (not (q x)) (1 + n) 0) (position_agrees p q xs (λ y c. e y (Contains-later x y xs c)))
 
 -- on all values
-pub position_alike : {X : Type 0} (p q : X → Bool) → ((x : X) → p x ≡ q x) → (xs : List X) → position_or_len p xs ≡ position_or_len q xs
-position_alike p q e xs = position_agrees p q xs (λ x c. e x)
+pub position_equal : {X : Type 0} (p q : X → Bool) → ((x : X) → p x ≡ q x) → (xs : List X) → position_or_len p xs ≡ position_or_len q xs
+position_equal p q e xs = position_agrees p q xs (λ x c. e x)
 
-pub any_alike : {X : Type 0} (p q : X → Bool) → ((x : X) → p x ≡ q x) → (xs : List X) → list_any p xs ≡ list_any q xs
-any_alike p q e [] = refl
-any_alike p q e (x ∷ xs) = ap (λ b. b || list_any p xs) (e x) ∙ ap (λ b. q x || b) (any_alike p q e xs)
+pub any_equal : {X : Type 0} (p q : X → Bool) → ((x : X) → p x ≡ q x) → (xs : List X) → list_any p xs ≡ list_any q xs
+any_equal p q e [] = refl
+any_equal p q e (x ∷ xs) = ap (λ b. b || list_any p xs) (e x) ∙ ap (λ b. q x || b) (any_equal p q e xs)
 
 pub position_mapped : {K X : Type 0} (f : K → X) (p : X → Bool) (ks : List K) → position_or_len p (map f ks) ≡ position_or_len (λ k. p (f k)) ks
 position_mapped f p [] = refl

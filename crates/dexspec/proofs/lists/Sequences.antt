@@ -4,19 +4,19 @@ use Rattle.std.proofs.Common.{◌≡◌, ℕ, ◌+◌, List, [], ◌∷◌, leng
 use Rattle.std.specs.List.{flat_map}
 use Rattle.std.proofs.lemmas.List.{length-append}
 use Rattle.dexspec.specs.Lists.{Item, Sequence}
-use Rattle.dexspec.specs.Bytes.{Stands}
-use Rattle.dexspec.proofs.written.Stands.{stands_first, stands_whole, stands_later, stands_in, stands_at}
+use Rattle.dexspec.specs.Bytes.{BytesAt}
+use Rattle.dexspec.proofs.written.PlacedBytes.{is_at_first, is_at_whole, is_at_later, is_at_in, is_at}
 
 -- items that are written one after the other are in sequence
-pub sequence_written : {X : Type 0} (At : Item X) (f : X → List ℕ) → ((b : List ℕ) (o : ℕ) (x : X) → Stands b o (f x) → At b o x (length (f x)))
-    → (b : List ℕ) (o : ℕ) (xs : List X) → Stands b o (flat_map f xs) → Sequence At b o xs (length (flat_map f xs))
+pub sequence_written : {X : Type 0} (At : Item X) (f : X → List ℕ) → ((b : List ℕ) (o : ℕ) (x : X) → BytesAt b o (f x) → At b o x (length (f x)))
+    → (b : List ℕ) (o : ℕ) (xs : List X) → BytesAt b o (flat_map f xs) → Sequence At b o xs (length (flat_map f xs))
 sequence_written At f each b o [] h = refl
 sequence_written At f each b o (x ∷ xs) h =
     let rest = flat_map f xs in (
       length (f x),
       length rest,
-      each b o x (stands_at (omega arith) (stands_in h (stands_first (f x) rest))),
-      sequence_written At f each b (o + length (f x)) xs (stands_at (omega arith) (stands_in h (stands_later (f x) (stands_whole rest)))),
+      each b o x (is_at (omega arith) (is_at_in h (is_at_first (f x) rest))),
+      sequence_written At f each b (o + length (f x)) xs (is_at (omega arith) (is_at_in h (is_at_later (f x) (is_at_whole rest)))),
       length-append (f x) rest,
     )
 

@@ -68,7 +68,7 @@ module _ (D E : List Definition) (h : AreWithin D E) where
   }
 
   pub IsCause-within : (caps : Caps) (cause : Cause) → IsCause caps D cause → IsCause caps E cause
-  IsCause-within caps (Conflict name) x = record { one = x.one; other = x.other; one_in = h (name, x.one) x.one_in; other_in = h (name, x.other) x.other_in; unlike = x.unlike }
+  IsCause-within caps (Conflict name) x = record { one = x.one; other = x.other; one_in = h (name, x.one) x.one_in; other_in = h (name, x.other) x.other_in; unequal = x.unequal }
   IsCause-within caps (Cycle name) x = record { defined = is_defined-within D E h name x.defined; deep = λ w. x.deep (HasDepth-within D E h name w) }
   IsCause-within caps (Exceeded clause) x = Exceeds-within caps clause x
 
@@ -83,6 +83,6 @@ Fits-apart caps D Weight f x = omega (arith, f.weight x.0 x.1 x.2, x.3)
 
 -- mergeable definitions have no cause against them
 pub IsGood-apart : (caps : Caps) (D : List Definition) (cause : Cause) → IsGood caps D → IsCause caps D cause → ⊥
-IsGood-apart caps D (Conflict name) g x = x.unlike (g.consistent name x.one x.other x.one_in x.other_in)
+IsGood-apart caps D (Conflict name) g x = x.unequal (g.consistent name x.one x.other x.one_in x.other_in)
 IsGood-apart caps D (Cycle name) g x = x.deep (g.acyclic name x.defined)
 IsGood-apart caps D (Exceeded clause) g x = Fits-apart caps D clause g.fits x

@@ -10,25 +10,25 @@ use Rattle.dexspec.proofs.lists.Decided.{text_same_or_not, body_same_or_not}
 
 module _ (D : List Definition) (name : Text) where
   -- the second has the name, and a body different from the first's
-  abbrev IsUnlike : Definition → Definition → Type 0
-  IsUnlike d e = (e.0 ≡ name) × (d.1 ≢ e.1)
+  abbrev IsConflicting : Definition → Definition → Type 0
+  IsConflicting d e = (e.0 ≡ name) × (d.1 ≢ e.1)
 
   -- the first has the name, and some definition differs from it
   abbrev IsOne : Definition → Type 0
   IsOne d = (d.0 ≡ name) × (e : Definition) × Contains D e × (e.0 ≡ name) × (d.1 ≢ e.1)
 
   -- the first property is decidable
-  unlike_or_not : (d e : Definition) → IsUnlike d e ⊎ (¬ (IsUnlike d e))
-  unlike_or_not d e = elim (text_same_or_not e.0 name) [
+  conflicting_or_not : (d e : Definition) → IsConflicting d e ⊎ (¬ (IsConflicting d e))
+  conflicting_or_not d e = elim (text_same_or_not e.0 name) [
     | inr other ↦ inr (λ u. other u.0)
-    | inl s ↦ elim (body_same_or_not d.1 e.1) [ inl like ↦ inr (λ u. u.1 like) | inr unlike ↦ inl (s, unlike) ]
+    | inl s ↦ elim (body_same_or_not d.1 e.1) [ inl like ↦ inr (λ u. u.1 like) | inr unequal ↦ inl (s, unequal) ]
   ]
 
   -- the second property is decidable
   one_or_not : (d : Definition) → IsOne d ⊎ (¬ (IsOne d))
   one_or_not d = elim (text_same_or_not d.0 name) [
     | inr other ↦ inr (λ u. other u.0)
-    | inl s ↦ elim (some_or_none (IsUnlike d) D (unlike_or_not d)) [
+    | inl s ↦ elim (some_or_none (IsConflicting d) D (conflicting_or_not d)) [
       | inl t ↦ inl (s, t.0, t.1, t.2.0, t.2.1)
       | inr none ↦ inr (λ u. none u.1 u.2 (u.3, u.4))
     ]
@@ -44,8 +44,8 @@ module _ (D : List Definition) (name : Text) where
     | inl s ↦
         let d = s.0 in
         let e = s.2.1 in
-        inl (record { one = d.1; other = e.1; one_in = named d s.1 s.2.0; other_in = named e s.2.2 s.2.3; unlike = s.2.4 })
-    | inr none ↦ inr (λ x. none (name, x.one) x.one_in (refl, (name, x.other), x.other_in, refl, x.unlike))
+        inl (record { one = d.1; other = e.1; one_in = named d s.1 s.2.0; other_in = named e s.2.2 s.2.3; unequal = s.2.4 })
+    | inr none ↦ inr (λ x. none (name, x.one) x.one_in (refl, (name, x.other), x.other_in, refl, x.unequal))
   ]
 
   -- a name that has a conflict is that of a definition
@@ -56,9 +56,9 @@ module _ (D : List Definition) (name : Text) where
 pub consistent-from_none : (D : List Definition) → ((name : Text) → ¬ (IsConflict D name)) → IsConsistent D
 consistent-from_none D none name one other c d = elim (body_same_or_not one other) [
   | inl like ↦ like
-  | inr unlike ↦ absurd (none name (record { one = one; other = other; one_in = c; other_in = d; unlike = unlike }))
+  | inr unequal ↦ absurd (none name (record { one = one; other = other; one_in = c; other_in = d; unequal = unequal }))
 ]
 
 -- if no name has two definitions, no name has a conflict
 pub consistent-apart : (D : List Definition) (name : Text) → IsConsistent D → IsConflict D name → ⊥
-consistent-apart D name h x = x.unlike (h name x.one x.other x.one_in x.other_in)
+consistent-apart D name h x = x.unequal (h name x.one x.other x.one_in x.other_in)

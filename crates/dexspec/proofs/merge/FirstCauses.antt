@@ -9,7 +9,7 @@ use Rattle.dexspec.specs.Texts.{Text, text_cmp}
 use Rattle.dexspec.specs.Classes.{Definition}
 use Rattle.dexspec.specs.Files.{AreSame}
 use Rattle.dexspec.specs.Depth.{IsAcyclic}
-use Rattle.dexspec.specs.Merging.{Caps, Cap, Types, Protos, Fields, Methods, ShortStrings, Weight, cap_number, Exceeds, Fits, IsConflict, IsConsistent, IsCycle, IsGood, Cause, Conflict, Cycle, Exceeded, IsCause, IsToldBefore, IsFirstCause}
+use Rattle.dexspec.specs.Merging.{Caps, Cap, Types, Protos, Fields, Methods, ShortStrings, Weight, cap_number, Exceeds, Fits, IsConflict, IsConsistent, IsCycle, IsGood, Cause, Conflict, Cycle, Exceeded, IsCause, IsReportedBefore, IsFirstCause}
 use Rattle.dexspec.proofs.merge.SymbolOrders.{text_total, text_exact}
 use Rattle.dexspec.proofs.lists.Searches.{least_or_none}
 use Rattle.dexspec.proofs.merge.Absorption.{IsCause-within}
@@ -86,7 +86,7 @@ module _ (caps : Caps) (D : List Definition) where
   conflict_first : (name : Text) → IsLeastOf text_cmp (IsConflict D) name → IsFirstCause caps D (Conflict name)
   conflict_first name l = record { is = l.is; first = before }
     where
-      before : (other : Cause) → IsCause caps D other → IsToldBefore other (Conflict name) → ⊥
+      before : (other : Cause) → IsCause caps D other → IsReportedBefore other (Conflict name) → ⊥
       before (Conflict m) x less = l.none_less m x less
       before (Cycle m) x never = never
       before (Exceeded j) x never = never
@@ -95,7 +95,7 @@ module _ (caps : Caps) (D : List Definition) where
   cycle_first : (name : Text) → IsConsistent D → IsLeastOf text_cmp (IsCycle D) name → IsFirstCause caps D (Cycle name)
   cycle_first name h l = record { is = l.is; first = before }
     where
-      before : (other : Cause) → IsCause caps D other → IsToldBefore other (Cycle name) → ⊥
+      before : (other : Cause) → IsCause caps D other → IsReportedBefore other (Cycle name) → ⊥
       before (Conflict m) x _ = consistent-apart D m h x
       before (Cycle m) x less = l.none_less m x less
       before (Exceeded j) x never = never
@@ -104,7 +104,7 @@ module _ (caps : Caps) (D : List Definition) where
   cap_first : (cap : Cap) → IsConsistent D → IsAcyclic D → IsLeastOf cap_cmp (Exceeds caps D) cap → IsFirstCause caps D (Exceeded cap)
   cap_first cap h a l = record { is = l.is; first = before }
     where
-      before : (other : Cause) → IsCause caps D other → IsToldBefore other (Exceeded cap) → ⊥
+      before : (other : Cause) → IsCause caps D other → IsReportedBefore other (Exceeded cap) → ⊥
       before (Conflict m) x _ = consistent-apart D m h x
       before (Cycle m) x _ = acyclic-apart D m a x
       before (Exceeded j) x less = l.none_less j x (cap_less j cap less)
@@ -161,7 +161,7 @@ one_cap : (j k : Cap) → (cap_number j < cap_number k → ⊥) → (cap_number 
 one_cap j k f g = sym (numbered-is j) ∙ ap numbered (one_number (cap_number j) (cap_number k) f g) ∙ numbered-is k
 
 -- two causes of which neither is reported before the other are equal
-one_cause : (c d : Cause) → (IsToldBefore c d → ⊥) → (IsToldBefore d c → ⊥) → c ≡ d
+one_cause : (c d : Cause) → (IsReportedBefore c d → ⊥) → (IsReportedBefore d c → ⊥) → c ≡ d
 one_cause (Conflict m) (Conflict n) f g = ap Conflict (one_text m n (text_cmp m n) refl f g)
 one_cause (Conflict m) (Cycle n) f g = absurd (f tt)
 one_cause (Conflict m) (Exceeded k) f g = absurd (f tt)

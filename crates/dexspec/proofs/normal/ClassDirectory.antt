@@ -20,14 +20,14 @@ use Rattle.dexspec.specs.WellFormed.{IsSet, IsAnnotation, IsFieldDef, IsMethodDe
 use Rattle.dexspec.specs.Placing.{unless_empty, Ordered, by_class, method_sets, SetOffsets, pairs, directory_bytes}
 use Rattle.dexspec.specs.Canonical.{ordered, ref_list_offsets}
 use Rattle.dexspec.specs.Depth.{in_class_order}
-use Rattle.dexspec.specs.Aside.OwnDirectories.{StandsIfSome, HasSetsAt, entries_of, field_sets, own_method_sets, parameter_sets, own_directory}
+use Rattle.dexspec.specs.internal.OwnDirectories.{BytesIfSome, HasSetsAt, entries_of, field_sets, own_method_sets, parameter_sets, own_directory}
 use Rattle.dexspec.proofs.lists.Members.{Contains-flat_map}
 use Rattle.dexspec.proofs.merge.Depths.{Contains-map}
 use Rattle.dexspec.proofs.lists.Sources.{map_source}
 use Rattle.dexspec.proofs.lists.InOrder.{Rises-from_rises, AreDistinct-from_Rises}
 use Rattle.dexspec.proofs.merge.SymbolOrders.{field_total, field_exact, method_total, method_exact}
 use Rattle.dexspec.proofs.merge.Growth.{mentions-rising}
-use Rattle.dexspec.proofs.layout.Uses.{UseStands, SetStands, class_set_offsets, own_set_stands, field_set_stands, method_set_stands, ref_list_stands, length-field_set_offsets, length-method_set_offsets, length-one_method_set_offsets, length-class_part, length-ref_list_offsets}
+use Rattle.dexspec.proofs.layout.Uses.{UseIsAt, SetIsAt, class_set_offsets, own_set_encoded, field_set_encoded, method_set_encoded, ref_list_encoded, length-field_set_offsets, length-method_set_offsets, length-one_method_set_offsets, length-class_part, length-ref_list_offsets}
 use Rattle.dexspec.proofs.layout.RowsRead.{class_read}
 use Rattle.dexspec.proofs.written.NumbersWritten.{AreInRows}
 use Rattle.dexspec.proofs.written.ValuesWritten.{annotation_written}
@@ -37,9 +37,9 @@ use Rattle.dexspec.proofs.written.DirectoryEntries.{pairs_are, no_entries, own_e
 use Rattle.dexspec.proofs.written.ClassDataWritten.{field_occurs, method_occurs}
 use Rattle.std.specs.Ordering.{nat_cmp}
 use Rattle.std.specs.Prelude.{◌≤◌, Option}
-use Rattle.dexspec.specs.Bytes.{Stands}
+use Rattle.dexspec.specs.Bytes.{BytesAt}
 use Rattle.dexspec.specs.Header.{data_off}
-use Rattle.dexspec.proofs.normal.MemberRanks.{rank_cmp, rises_alike, field_cmp_key, method_cmp_key, symbols_in_rows, field_mentioned, method_mentioned, own_set_occurs, field_set_occurs, method_set_occurs, parameter_set_occurs}
+use Rattle.dexspec.proofs.normal.MemberRanks.{rank_cmp, rises_equally, field_cmp_key, method_cmp_key, symbols_in_rows, field_mentioned, method_mentioned, own_set_occurs, field_set_occurs, method_set_occurs, parameter_set_occurs}
 use Rattle.dexspec.proofs.normal.NormalClasses.{AreNormal, class_member}
 
 -- ---- lists, place by place
@@ -63,10 +63,10 @@ AreDistinct-append : {X : Type 0} (xs ys : List X) → AreDistinct xs → AreDis
 AreDistinct-append xs ys d e share i j z lt le same =
     elim (cases_lt j (length xs)) [
       | inl both ↦ d i j z lt both (sym (get_or_append_left xs ys z i (omega (arith, lt, both))) ∙ same ∙ get_or_append_left xs ys z j both)
-      | inr behind ↦
+      | inr following ↦
           let k = j - length xs in
-          let second : get_or (xs ++ ys) j z ≡ get_or ys k z = ap (λ n. get_or (xs ++ ys) n z) (let back : j ≡ length xs + k = omega (arith, behind) in back) ∙ get_or-append-add xs ys k z in
-          let within : k < length ys = omega (arith, behind, le, length-append xs ys) in
+          let second : get_or (xs ++ ys) j z ≡ get_or ys k z = ap (λ n. get_or (xs ++ ys) n z) (let back : j ≡ length xs + k = omega (arith, following) in back) ∙ get_or-append-add xs ys k z in
+          let within : k < length ys = omega (arith, following, le, length-append xs ys) in
           elim (cases_lt i (length xs)) [
             | inl first ↦
                 let one : get_or (xs ++ ys) i z ≡ get_or xs i z = get_or_append_left xs ys z i first in
@@ -74,7 +74,7 @@ AreDistinct-append xs ys d e share i j z lt le same =
             | inr later ↦
                 let l = i - length xs in
                 let one : get_or (xs ++ ys) i z ≡ get_or ys l z = ap (λ n. get_or (xs ++ ys) n z) (let back : i ≡ length xs + l = omega (arith, later) in back) ∙ get_or-append-add xs ys l z in
-                e l k z (omega (arith, lt, later, behind)) within (sym one ∙ same ∙ second)
+                e l k z (omega (arith, lt, later, following)) within (sym one ∙ same ∙ second)
           ]
     ]
 
@@ -85,7 +85,7 @@ pub fields_distinct : (name : Text) (c : Body) → IsWellFormed (name, c) → Ar
 fields_distinct name c is =
     let f = field_of name in
     let part : (fs : List FieldDef) → IsTrue (rises field_key_cmp (map field_key fs)) → AreDistinct (map f fs) = λ fs rise.
-    AreDistinct-from_Rises field_cmp field_total (map f fs) (Rises-from_rises field_cmp field_total (map f fs) (rises_alike field_cmp field_key_cmp f field_key fs (λ x y k l. field_cmp_key name x y) ∙ rise)) in
+    AreDistinct-from_Rises field_cmp field_total (map f fs) (Rises-from_rises field_cmp field_total (map f fs) (rises_equally field_cmp field_key_cmp f field_key fs (λ x y k l. field_cmp_key name x y) ∙ rise)) in
     let share : ShareNone (map f c.static_fields) (map f c.instance_fields) = λ x k l.
     let u = map_source f c.static_fields x k in
     let v = map_source f c.instance_fields x l in
@@ -98,7 +98,7 @@ pub methods_distinct : (name : Text) (c : Body) → IsWellFormed (name, c) → A
 methods_distinct name c is =
     let f = method_of name in
     let part : (xs : List MethodDef) → IsTrue (rises method_key_cmp (map method_key xs)) → AreDistinct (map f xs) = λ xs rise.
-    AreDistinct-from_Rises method_cmp method_total (map f xs) (Rises-from_rises method_cmp method_total (map f xs) (rises_alike method_cmp method_key_cmp f method_key xs (λ x y k l. method_cmp_key name x y) ∙ rise)) in
+    AreDistinct-from_Rises method_cmp method_total (map f xs) (Rises-from_rises method_cmp method_total (map f xs) (rises_equally method_cmp method_key_cmp f method_key xs (λ x y k l. method_cmp_key name x y) ∙ rise)) in
     let share : ShareNone (map f c.direct_methods) (map f c.virtual_methods) = λ x k l.
     let u = map_source f c.direct_methods x k in
     let v = map_source f c.virtual_methods x l in
@@ -109,35 +109,35 @@ methods_distinct name c is =
 -- ---- written items
 
 -- an item that is present, or nothing
-pub or_none : {X : Type 0} (At : List ℕ → ℕ → List X → Type 0) (b : List ℕ) (o : ℕ) (xs : List X) → StandsIfSome (At b) o xs → OrNone At [] b o xs
+pub or_none : {X : Type 0} (At : List ℕ → ℕ → List X → Type 0) (b : List ℕ) (o : ℕ) (xs : List X) → BytesIfSome (At b) o xs → OrNone At [] b o xs
 or_none At b o [] h = inl (h, refl)
 or_none At b o (x ∷ xs) h = inr h
 
 -- nothing at offset 0
-none_at : {X : Type 0} (At : ℕ → List X → Type 0) (o : ℕ) (xs : List X) → StandsIfSome At o xs → o ≡ 0 → xs ≡ []
+none_at : {X : Type 0} (At : ℕ → List X → Type 0) (o : ℕ) (xs : List X) → BytesIfSome At o xs → o ≡ 0 → xs ≡ []
 none_at At o [] h e = refl
 none_at At o (x ∷ xs) h e = absurd (h.0 e)
 
 module _ (b : List ℕ) (m : Mentions) (short : length b < 2 ^ 32) where
   -- a set is at its offset, or is empty
-  pub set_stands : (o : ℕ) (set : AnnotationSet) → IsSet set → AreInRows b m (set_symbols set) → SetStands b m set o → StandsIfSome (SetAt b) o set
-  set_stands o [] is rows h = h
-  set_stands o (a ∷ x) is rows h =
+  pub set_encoded : (o : ℕ) (set : AnnotationSet) → IsSet set → AreInRows b m (set_symbols set) → SetIsAt b m set o → BytesIfSome (SetAt b) o set
+  set_encoded o [] is rows h = h
+  set_encoded o (a ∷ x) is rows h =
       let set = a ∷ x in
       let are : AllZip (AnnotationAt b) h.offs set =
       zip_from_places (AnnotationAt b) h.offs set h.count (λ j d lt.
       let item = h.each j d lt in
       let k = get_or set j d in
       let in_set = Contains-get_or set j d lt in
-      annotation_written b m (slice_index h.offs j) k (All-contains IsAnnotation set k is.annotations in_set) (λ s c. rows s (Contains-flat_map annotation_symbols set k s in_set c)) item.in_data.behind item.stands) in
-      (h.set.some, set_written b short o h.offs set h.set.in_data.behind h.set.multiple are is.rise h.set.stands)
+      annotation_written b m (slice_index h.offs j) k (All-contains IsAnnotation set k is.annotations in_set) (λ s c. rows s (Contains-flat_map annotation_symbols set k s in_set c)) item.in_data.following item.encodes) in
+      (h.set.some, set_written b short o h.offs set h.set.in_data.following h.set.multiple are is.rise h.set.encodes)
 
   -- a ref list is at its offset, or is empty
-  pub ref_list_use : (o : ℕ) (offs : List ℕ) (list : List AnnotationSet) → AllZip (OrNone SetAt [] b) offs list → UseStands b 4 offsets_bytes (unless_empty offs) o → StandsIfSome (RefListAt b) o list
+  pub ref_list_use : (o : ℕ) (offs : List ℕ) (list : List AnnotationSet) → AllZip (OrNone SetAt [] b) offs list → UseIsAt b 4 offsets_bytes (unless_empty offs) o → BytesIfSome (RefListAt b) o list
   ref_list_use o [] [] are h = h
   ref_list_use o [] (s ∷ list) are h = absurd are
   ref_list_use o (p ∷ offs) [] are h = absurd are
-  ref_list_use o (p ∷ offs) (s ∷ list) are h = (h.some, ref_list_written b short o (p ∷ offs) (s ∷ list) h.in_data.behind h.multiple are h.stands)
+  ref_list_use o (p ∷ offs) (s ∷ list) are h = (h.some, ref_list_written b short o (p ∷ offs) (s ∷ list) h.in_data.following h.multiple are h.encodes)
 
 -- ---- the directory of a definition
 
@@ -151,7 +151,7 @@ module _ (D : List Definition) (b : List ℕ) (short : length b < 2 ^ 32) (name 
   method_indices = map (λ x. method_index (mentions D) (method_of name x)) (declared_methods c)
 
   -- pairs of fields with their sets
-  field_pairs : (offs : List ℕ) → AllZip (λ o (x : Field × AnnotationSet). StandsIfSome (SetAt b) o x.1) offs (field_sets name c) → ArePairs FieldRow SetAt b (pairs field_indices offs) (entries_of field_cmp (field_sets name c))
+  field_pairs : (offs : List ℕ) → AllZip (λ o (x : Field × AnnotationSet). BytesIfSome (SetAt b) o x.1) offs (field_sets name c) → ArePairs FieldRow SetAt b (pairs field_indices offs) (entries_of field_cmp (field_sets name c))
   field_pairs offs are =
       let fs = declared_fields c in
       let own = field_of name in
@@ -171,7 +171,7 @@ module _ (D : List Definition) (b : List ℕ) (short : length b < 2 ^ 32) (name 
       (λ x k. subst (λ (l : List Field). Contains l x.0) (map-map (λ (y : Field × AnnotationSet). y.0) g fs) (Contains-map (λ (y : Field × AnnotationSet). y.0) (field_sets name c) x k)) are)
 
   -- pairs of methods with their items
-  method_pairs : {X : Type 0} (At : List ℕ → ℕ → List X → Type 0) (has : MethodDef → List X) (offs : List ℕ) → AllZip (λ o (x : Method × List X). StandsIfSome (At b) o x.1) offs (map (λ x. (method_of name x, has x)) (declared_methods c))
+  method_pairs : {X : Type 0} (At : List ℕ → ℕ → List X → Type 0) (has : MethodDef → List X) (offs : List ℕ) → AllZip (λ o (x : Method × List X). BytesIfSome (At b) o x.1) offs (map (λ x. (method_of name x, has x)) (declared_methods c))
       → ArePairs MethodRow At b (pairs method_indices offs) (entries_of method_cmp (map (λ x. (method_of name x, has x)) (declared_methods c)))
   method_pairs {X} At has offs are =
       let xs = declared_methods c in
@@ -193,8 +193,8 @@ module _ (D : List Definition) (b : List ℕ) (short : length b < 2 ^ 32) (name 
 
   module _ (sets : SetOffsets) (refs : List ℕ) (are : HasSetsAt b name c sets refs) where
     -- the bytes of a directory are those of the pairs
-    pub directory_put : (o : ℕ) (bytes : List ℕ) → directory_bytes (mentions D) (name, c) sets refs ≡ Some bytes → data_off b ≤ o → o % 4 ≡ 0 → Stands b o bytes → DirectoryAt b o (own_directory name c)
-    directory_put o bytes e behind aligned h =
+    pub directory_put : (o : ℕ) (bytes : List ℕ) → directory_bytes (mentions D) (name, c) sets refs ≡ Some bytes → data_off b ≤ o → o % 4 ≡ 0 → BytesAt b o bytes → DirectoryAt b o (own_directory name c)
+    directory_put o bytes e following aligned h =
         let fs = pairs field_indices sets.fields in
         let ms = pairs method_indices (map (λ offs. slice_index offs 0) sets.methods) in
         let ps = pairs method_indices refs in
@@ -204,8 +204,8 @@ module _ (D : List Definition) (b : List ℕ) (short : length b < 2 ^ 32) (name 
           | inl some ↦
               let is : Some bytes ≡ Some all = sym e ∙ cond-false (n == 0) None (Some all) (ne_eqb n 0 (λ z. omega (arith, z, some))) in
               let same : bytes ≡ all = cc in
-              directory_written b o sets.own fs ms ps (own_directory name c) short behind aligned (or_none SetAt b sets.own c.annotations are.own) (field_pairs sets.fields are.fields)
-              (method_pairs SetAt (λ x. x.annotations) (map (λ offs. slice_index offs 0) sets.methods) are.methods) (method_pairs RefListAt (λ x. x.parameter_annotations) refs are.parameters) (subst (Stands b o) same h)
+              directory_written b o sets.own fs ms ps (own_directory name c) short following aligned (or_none SetAt b sets.own c.annotations are.own) (field_pairs sets.fields are.fields)
+              (method_pairs SetAt (λ x. x.annotations) (map (λ offs. slice_index offs 0) sets.methods) are.methods) (method_pairs RefListAt (λ x. x.parameter_annotations) refs are.parameters) (subst (BytesAt b o) same h)
           | inr none ↦ absurd (let z : Some bytes ≡ None = sym e ∙ cond-true (n == 0) None (Some all) (eq-eqb n 0 (omega (arith, none))) in cc)
         ]
 
@@ -229,12 +229,12 @@ module _ (D : List Definition) (b : List ℕ) (short : length b < 2 ^ 32) (name 
         ]
 
     -- a directory is at its offset, or there is none
-    pub directory_use : (o : ℕ) → UseStands b 4 (λ (x : List ℕ). x) (directory_bytes (mentions D) (name, c) sets refs) o → OrNone DirectoryAt no_directory b o (own_directory name c)
+    pub directory_use : (o : ℕ) → UseIsAt b 4 (λ (x : List ℕ). x) (directory_bytes (mentions D) (name, c) sets refs) o → OrNone DirectoryAt no_directory b o (own_directory name c)
     directory_use o h = by (directory_bytes (mentions D) (name, c) sets refs) refl h
       where
-        by : (u : Option (List ℕ)) → directory_bytes (mentions D) (name, c) sets refs ≡ u → UseStands b 4 (λ (x : List ℕ). x) u o → OrNone DirectoryAt no_directory b o (own_directory name c)
+        by : (u : Option (List ℕ)) → directory_bytes (mentions D) (name, c) sets refs ≡ u → UseIsAt b 4 (λ (x : List ℕ). x) u o → OrNone DirectoryAt no_directory b o (own_directory name c)
         by None e k = inl (k, directory_none e)
-        by (Some bytes) e k = inr (k.some, directory_put o bytes e k.in_data.behind k.multiple k.stands)
+        by (Some bytes) e k = inr (k.some, directory_put o bytes e k.in_data.following k.multiple k.encodes)
 
 module _ (name : Text) (c : Body) (formed : IsWellFormed (name, c)) where
   -- the set of the directory for a field
@@ -288,40 +288,40 @@ module _ (D : List Definition) (b : List ℕ) (n : AreNormal D b) (r : ℕ) (e :
   rows = symbols_in_rows D b n.file (name, body) in_file
 
   -- its own set
-  own_set : StandsIfSome (SetAt b) sets.own body.annotations
-  own_set = set_stands b (mentions D) n.file.laid.small sets.own body.annotations formed.annotations (λ s k. rows s (own_set_occurs name body s k)) (own_set_stands n.file.laid r e lt)
+  own_set : BytesIfSome (SetAt b) sets.own body.annotations
+  own_set = set_encoded b (mentions D) n.file.laid.small sets.own body.annotations formed.annotations (λ s k. rows s (own_set_occurs name body s k)) (own_set_encoded n.file.laid r e lt)
 
   -- the sets of its fields
-  fields_are : AllZip (λ o (x : Field × AnnotationSet). StandsIfSome (SetAt b) o x.1) sets.fields (field_sets name body)
+  fields_are : AllZip (λ o (x : Field × AnnotationSet). BytesIfSome (SetAt b) o x.1) sets.fields (field_sets name body)
   fields_are =
       let fs = declared_fields body in
-      zip_mapped (λ o (x : Field × AnnotationSet). StandsIfSome (SetAt b) o x.1) (λ (f : FieldDef). (field_of name f, f.annotations)) sets.fields fs
-      (zip_from_places (λ o (f : FieldDef). StandsIfSome (SetAt b) o f.annotations) sets.fields fs (length-field_set_offsets K r e lt) (λ j d less.
+      zip_mapped (λ o (x : Field × AnnotationSet). BytesIfSome (SetAt b) o x.1) (λ (f : FieldDef). (field_of name f, f.annotations)) sets.fields fs
+      (zip_from_places (λ o (f : FieldDef). BytesIfSome (SetAt b) o f.annotations) sets.fields fs (length-field_set_offsets K r e lt) (λ j d less.
       let f = get_or fs j d in
       let k = Contains-get_or fs j d less in
-      set_stands b (mentions D) n.file.laid.small (slice_index sets.fields j) f.annotations (All-contains IsFieldDef fs f formed.fields k).annotations (λ s l. rows s (field_set_occurs name body f s k l)) (field_set_stands n.file.laid r e j d lt less)))
+      set_encoded b (mentions D) n.file.laid.small (slice_index sets.fields j) f.annotations (All-contains IsFieldDef fs f formed.fields k).annotations (λ s l. rows s (field_set_occurs name body f s k l)) (field_set_encoded n.file.laid r e j d lt less)))
 
   -- the sets of its methods
-  methods_are : AllZip (λ o (x : Method × AnnotationSet). StandsIfSome (SetAt b) o x.1) (map (λ offs. slice_index offs 0) sets.methods) (own_method_sets name body)
+  methods_are : AllZip (λ o (x : Method × AnnotationSet). BytesIfSome (SetAt b) o x.1) (map (λ offs. slice_index offs 0) sets.methods) (own_method_sets name body)
   methods_are =
       let xs = declared_methods body in
       let first : List ℕ → ℕ = λ offs. slice_index offs 0 in
       let offs = map first sets.methods in
       let len : length sets.methods ≡ length xs = length-method_set_offsets K r e lt in
-      zip_mapped (λ o (x : Method × AnnotationSet). StandsIfSome (SetAt b) o x.1) (λ (x : MethodDef). (method_of name x, x.annotations)) offs xs
-      (zip_from_places (λ o (x : MethodDef). StandsIfSome (SetAt b) o x.annotations) offs xs (length-map sets.methods first ∙ len) (λ j d less.
+      zip_mapped (λ o (x : Method × AnnotationSet). BytesIfSome (SetAt b) o x.1) (λ (x : MethodDef). (method_of name x, x.annotations)) offs xs
+      (zip_from_places (λ o (x : MethodDef). BytesIfSome (SetAt b) o x.annotations) offs xs (length-map sets.methods first ∙ len) (λ j d less.
       let x = get_or xs j d in
       let k = Contains-get_or xs j d less in
       let off : slice_index offs j ≡ slice_index (get_or sets.methods j []) 0 = get_or-map first sets.methods j [] 0 (omega (arith, len, less)) in
-      subst (λ o. StandsIfSome (SetAt b) o x.annotations) (sym off)
-      (set_stands b (mentions D) n.file.laid.small (slice_index (get_or sets.methods j []) 0) x.annotations (All-contains IsMethodDef xs x formed.methods k).annotations (λ s l. rows s (method_set_occurs name body x s k l)) (method_set_stands n.file.laid r e j d 0 lt less (omega arith)))))
+      subst (λ o. BytesIfSome (SetAt b) o x.annotations) (sym off)
+      (set_encoded b (mentions D) n.file.laid.small (slice_index (get_or sets.methods j []) 0) x.annotations (All-contains IsMethodDef xs x formed.methods k).annotations (λ s l. rows s (method_set_occurs name body x s k l)) (method_set_encoded n.file.laid r e j d 0 lt less (omega arith)))))
 
   -- the ref lists of its methods
-  parameters_are : AllZip (λ o (x : Method × List AnnotationSet). StandsIfSome (RefListAt b) o x.1) refs (parameter_sets name body)
+  parameters_are : AllZip (λ o (x : Method × List AnnotationSet). BytesIfSome (RefListAt b) o x.1) refs (parameter_sets name body)
   parameters_are =
       let xs = declared_methods body in
-      zip_mapped (λ o (x : Method × List AnnotationSet). StandsIfSome (RefListAt b) o x.1) (λ (x : MethodDef). (method_of name x, x.parameter_annotations)) refs xs
-      (zip_from_places (λ o (x : MethodDef). StandsIfSome (RefListAt b) o x.parameter_annotations) refs xs (length-class_part K (ref_list_offsets K) r e lt (length-ref_list_offsets K)) (λ j d less.
+      zip_mapped (λ o (x : Method × List AnnotationSet). BytesIfSome (RefListAt b) o x.1) (λ (x : MethodDef). (method_of name x, x.parameter_annotations)) refs xs
+      (zip_from_places (λ o (x : MethodDef). BytesIfSome (RefListAt b) o x.parameter_annotations) refs xs (length-class_part K (ref_list_offsets K) r e lt (length-ref_list_offsets K)) (λ j d less.
       let x = get_or xs j d in
       let k = Contains-get_or xs j d less in
       let offs = get_or sets.methods j [] in
@@ -334,11 +334,11 @@ module _ (D : List Definition) (b : List ℕ) (n : AreNormal D b) (r : ℕ) (e :
       let l = Contains-get_or list i z within in
       let off : slice_index (drop 1 offs) i ≡ slice_index offs (suc i) = get_or-drop 1 offs i 0 ∙ ap (slice_index offs) (let s : 1 + i ≡ suc i = omega arith in s) in
       let same : get_or (method_sets x) (suc i) [] ≡ set = get_or_default list i [] z within in
-      let there = subst (λ (y : AnnotationSet). SetStands b (mentions D) y (slice_index offs (suc i))) same (method_set_stands n.file.laid r e j d (suc i) lt less (omega (arith, within))) in
+      let there = subst (λ (y : AnnotationSet). SetIsAt b (mentions D) y (slice_index offs (suc i))) same (method_set_encoded n.file.laid r e j d (suc i) lt less (omega (arith, within))) in
       subst (λ o. OrNone SetAt [] b o set) (sym off)
       (or_none SetAt b (slice_index offs (suc i)) set
-      (set_stands b (mentions D) n.file.laid.small (slice_index offs (suc i)) set (All-contains IsSet list set is.parameters l) (λ s y. rows s (parameter_set_occurs name body x set s k l y)) there))) in
-      ref_list_use b (mentions D) n.file.laid.small (slice_index refs j) (drop 1 offs) list are (ref_list_stands n.file.laid r e j lt less)))
+      (set_encoded b (mentions D) n.file.laid.small (slice_index offs (suc i)) set (All-contains IsSet list set is.parameters l) (λ s y. rows s (parameter_set_occurs name body x set s k l y)) there))) in
+      ref_list_use b (mentions D) n.file.laid.small (slice_index refs j) (drop 1 offs) list are (ref_list_encoded n.file.laid r e j lt less)))
 
   -- the directory is at the offset of the row
   pub directory_there : OrNone DirectoryAt no_directory b (annotations_off b r) (own_directory name body)

@@ -11,8 +11,8 @@ use Rattle.dexspec.specs.Lists.{OrNone, SomeAt, zip_with}
 use Rattle.dexspec.specs.Texts.{Text}
 use Rattle.dexspec.specs.Symbols.{field_cmp, method_cmp}
 use Rattle.dexspec.specs.Header.{data_off}
-use Rattle.dexspec.specs.Bytes.{Stands}
-use Rattle.dexspec.proofs.layout.Laying.{ItemStands}
+use Rattle.dexspec.specs.Bytes.{BytesAt}
+use Rattle.dexspec.proofs.layout.SectionPlaces.{ItemIsAt}
 use Rattle.dexspec.specs.Debug.{Debug, DebugAt}
 use Rattle.dexspec.specs.Code.{Code, CodeAt, handlers_of}
 use Rattle.dexspec.specs.Values.{Values, NoValues, ThenValue, values_depth, most_depth, count_values}
@@ -22,15 +22,15 @@ use Rattle.dexspec.specs.Classes.{FieldDef, MethodDef, Body, Definition, MakesMe
 use Rattle.dexspec.specs.Mentions.{Mentions, mentions, symbols_of, field_of, method_of, debug_symbols, code_symbols, handler_symbols, piece_symbols, values_symbols}
 use Rattle.dexspec.specs.Spellings.{code_bytes, debug_bytes, encoded_array_bytes, class_data_bytes}
 use Rattle.dexspec.specs.WellFormed.{IsDebug, IsCodeItem, IsMethodDef, IsWellFormed, AreValues}
-use Rattle.dexspec.specs.Aside.IndexPlaces.{IndexFits}
+use Rattle.dexspec.specs.internal.IndexPlaces.{IndexFits}
 use Rattle.dexspec.specs.Placing.{values_unless_empty, by_class, Ordered}
 use Rattle.dexspec.specs.Canonical.{ordered, debug_offsets, code_offsets}
 use Rattle.dexspec.specs.Depth.{in_class_order}
 use Rattle.dexspec.specs.Merging.{greatest_caps, Fits}
-use Rattle.dexspec.specs.Aside.OwnDirectories.{own_directory}
+use Rattle.dexspec.specs.internal.OwnDirectories.{own_directory}
 use Rattle.dexspec.proofs.lists.Members.{Contains-first, Contains-later}
 use Rattle.dexspec.proofs.layout.Uses as uses
-use Rattle.dexspec.proofs.layout.Uses.{UseStands, method_place, debug_of, code_of_method, debug_stands, code_stands, length-class_part, length-code_offsets}
+use Rattle.dexspec.proofs.layout.Uses.{UseIsAt, method_place, debug_of, code_of_method, debug_encoded, code_encoded, length-class_part, length-code_offsets}
 use Rattle.dexspec.proofs.layout.RowsRead.{use_small, class_read}
 use Rattle.dexspec.proofs.written.NumbersWritten.{AreInRows, back_in_rows}
 use Rattle.dexspec.proofs.written.ValuesWritten.{array_written}
@@ -46,29 +46,29 @@ use Rattle.dexspec.proofs.normal.ClassDirectory.{zip_from_places, directory_ther
 
 module _ (b : List ℕ) (m : Mentions) (short : length b < 2 ^ 32) where
   -- static values are at their offset, or there are none
-  values_use : (o : ℕ) (vs : Values) → AreValues vs → values_depth vs ≤ most_depth → count_values vs < 2 ^ 32 → AreInRows b m (values_symbols vs) → UseStands b 1 (encoded_array_bytes m) (values_unless_empty vs) o → OrNone StaticValuesAt NoValues b o vs
+  values_use : (o : ℕ) (vs : Values) → AreValues vs → values_depth vs ≤ most_depth → count_values vs < 2 ^ 32 → AreInRows b m (values_symbols vs) → UseIsAt b 1 (encoded_array_bytes m) (values_unless_empty vs) o → OrNone StaticValuesAt NoValues b o vs
   values_use o NoValues are shallow few rows h = inl (h, refl)
   values_use o (ThenValue v vs) are shallow few rows h =
-      inr (h.some, (length (encoded_array_bytes m (ThenValue v vs)), record { in_data = h.in_data.behind; array = array_written b m o (ThenValue v vs) are few rows h.stands; shallow = shallow }))
+      inr (h.some, (length (encoded_array_bytes m (ThenValue v vs)), record { in_data = h.in_data.following; array = array_written b m o (ThenValue v vs) are few rows h.encodes; shallow = shallow }))
 
   -- a debug program is at its offset, or there is none
-  debug_use : (o : ℕ) (d : Option Debug) → IfSome d IsDebug → ((x : Debug) → d ≡ Some x → AreInRows b m (debug_symbols x)) → UseStands b 1 (debug_bytes m) d o → OrNone (SomeAt DebugAt) None b o d
+  debug_use : (o : ℕ) (d : Option Debug) → IfSome d IsDebug → ((x : Debug) → d ≡ Some x → AreInRows b m (debug_symbols x)) → UseIsAt b 1 (debug_bytes m) d o → OrNone (SomeAt DebugAt) None b o d
   debug_use o None is rows h = inl (h, refl)
-  debug_use o (Some x) is rows h = inr (h.some, debug_written b m o x is (rows x refl) h.in_data.behind h.stands)
+  debug_use o (Some x) is rows h = inr (h.some, debug_written b m o x is (rows x refl) h.in_data.following h.encodes)
 
   -- the debug symbols of code
   code_debug_rows : (c : Code) (x : Debug) → c.debug ≡ Some x → AreInRows b m (code_symbols c) → AreInRows b m (debug_symbols x)
   code_debug_rows c x e rows =
-      let behind = back_in_rows b m (flat_map handler_symbols (handlers_of c.tries)) (flat_map debug_symbols (option_to_list c.debug)) (back_in_rows b m (flat_map piece_symbols c.pieces) (flat_map handler_symbols (handlers_of c.tries) ++ flat_map debug_symbols (option_to_list c.debug)) rows) in
-      λ s k. behind s (subst (λ (o : Option Debug). Contains (flat_map debug_symbols (option_to_list o)) s) (sym e) (Contains-append_left (debug_symbols x) [] s k))
+      let following = back_in_rows b m (flat_map handler_symbols (handlers_of c.tries)) (flat_map debug_symbols (option_to_list c.debug)) (back_in_rows b m (flat_map piece_symbols c.pieces) (flat_map handler_symbols (handlers_of c.tries) ++ flat_map debug_symbols (option_to_list c.debug)) rows) in
+      λ s k. following s (subst (λ (o : Option Debug). Contains (flat_map debug_symbols (option_to_list o)) s) (sym e) (Contains-append_left (debug_symbols x) [] s k))
 
   -- code is at its offset, or there is none
   code_use : (o debug_off : ℕ) (c : Option Code) → length m.types ≤ 65536 → IfSome c IsCodeItem → ((k : Code) → c ≡ Some k → AreInRows b m (code_symbols k) × All (IndexFits m) k.pieces)
-      → UseStands b 1 (debug_bytes m) (option_map_or (λ k. k.debug) c None) debug_off → UseStands b 4 (λ (p : Code × ℕ). code_bytes m p.1 p.0) (option_map_or (λ k. Some (k, debug_off)) c None) o → OrNone (SomeAt CodeAt) None b o c
+      → UseIsAt b 1 (debug_bytes m) (option_map_or (λ k. k.debug) c None) debug_off → UseIsAt b 4 (λ (p : Code × ℕ). code_bytes m p.1 p.0) (option_map_or (λ k. Some (k, debug_off)) c None) o → OrNone (SomeAt CodeAt) None b o c
   code_use o debug_off None few is rows d h = inl (h, refl)
   code_use o debug_off (Some k) few is rows d h =
       let own = rows k refl in
-      inr (h.some, code_written b m o debug_off k short few is own.0 own.1 h.in_data.behind h.multiple (debug_use debug_off k.debug is.debug (λ x e. code_debug_rows k x e own.0) d) h.stands)
+      inr (h.some, code_written b m o debug_off k short few is own.0 own.1 h.in_data.following h.multiple (debug_use debug_off k.debug is.debug (λ x e. code_debug_rows k x e own.0) d) h.encodes)
 
 -- ---- members
 
@@ -107,17 +107,17 @@ zip_with-none : {X Y Z : Type 0} (f : X → Y → Z) (xs : List X) (ys : List Y)
 zip_with-none f xs ys e = ap (λ l. zip_with f l ys) e
 
 -- class data is at its offset, or the class has no members
-class_data_use : (b : List ℕ) (m : Mentions) (o : ℕ) (name : Text) (c : Body) (offs : List ℕ) → (0 < length (declared_fields c) + length (declared_methods c) → data_off b ≤ o → Stands b o (class_data_bytes m (name, c) offs) → ClassDataAt b o (class_data_of name c offs))
-    → UseStands b 1 (λ (p : Definition × List ℕ). class_data_bytes m p.0 p.1) (uses.class_data_of (name, c) offs) o → OrNone ClassDataAt no_class_data b o (class_data_of name c offs)
+class_data_use : (b : List ℕ) (m : Mentions) (o : ℕ) (name : Text) (c : Body) (offs : List ℕ) → (0 < length (declared_fields c) + length (declared_methods c) → data_off b ≤ o → BytesAt b o (class_data_bytes m (name, c) offs) → ClassDataAt b o (class_data_of name c offs))
+    → UseIsAt b 1 (λ (p : Definition × List ℕ). class_data_bytes m p.0 p.1) (uses.class_data_of (name, c) offs) o → OrNone ClassDataAt no_class_data b o (class_data_of name c offs)
 class_data_use b m o name c offs written h =
     let n = length (declared_fields c) + length (declared_methods c) in
-    let leads = UseStands b 1 (λ (p : Definition × List ℕ). class_data_bytes m p.0 p.1) in
+    let maps_to = UseIsAt b 1 (λ (p : Definition × List ℕ). class_data_bytes m p.0 p.1) in
     elim (cases_lt 0 n) [
       | inl some ↦
-          let item : ItemStands b 1 o (class_data_bytes m (name, c) offs) = subst (λ u. leads u o) (cond-false (n == 0) None (Some ((name, c), offs)) (ne_eqb n 0 (λ e. omega (arith, e, some)))) h in
-          inr (item.some, written some item.in_data.behind item.stands)
+          let item : ItemIsAt b 1 o (class_data_bytes m (name, c) offs) = subst (λ u. maps_to u o) (cond-false (n == 0) None (Some ((name, c), offs)) (ne_eqb n 0 (λ e. omega (arith, e, some)))) h in
+          inr (item.some, written some item.in_data.following item.encodes)
       | inr none ↦
-          let zero_is : o ≡ 0 = subst (λ u. leads u o) (cond-true (n == 0) None (Some ((name, c), offs)) (eq-eqb n 0 (omega (arith, none)))) h in
+          let zero_is : o ≡ 0 = subst (λ u. maps_to u o) (cond-true (n == 0) None (Some ((name, c), offs)) (eq-eqb n 0 (omega (arith, none)))) h in
           let fields = length-append c.static_fields c.instance_fields in
           let methods = length-append c.direct_methods c.virtual_methods in
           let e0 : c.static_fields ≡ [] = nil_from_length c.static_fields (omega (arith, none, fields)) in
@@ -179,7 +179,7 @@ module _ (D : List Definition) (b : List ℕ) (n : AreNormal D b) (fits : Fits g
         (λ s l. rows s (code_occurs name body x c s k has l)),
         indices_fit D fits (name, body) x c in_file k has (subst (λ (o : Option Code). IfSome o IsCodeItem) has is),
       ))
-      (debug_stands n.file.laid r e j d lt less) (code_stands n.file.laid r e j d lt less))
+      (debug_encoded n.file.laid r e j d lt less) (code_encoded n.file.laid r e j d lt less))
 
   -- each offset has 32 bits
   codes_small : All (λ p. p < 2 ^ 32) codes
@@ -193,13 +193,13 @@ module _ (D : List Definition) (b : List ℕ) (n : AreNormal D b) (fits : Fits g
         where
           by : (xs : List MethodDef) → declared_methods body ≡ xs → slice_index codes j < 2 ^ 32
           by [] same = absurd (omega (arith, within, ap (λ (l : List MethodDef). length l) same))
-          by (x ∷ xs) same = use_small b 4 (λ (p : Code × ℕ). code_bytes (mentions D) p.1 p.0) (code_of_method (slice_index (debug_offsets K) (method_place K r j)) (get_or (declared_methods body) j x)) (slice_index codes j) n.file.laid.small (code_stands n.file.laid r e j x lt within)
+          by (x ∷ xs) same = use_small b 4 (λ (p : Code × ℕ). code_bytes (mentions D) p.1 p.0) (code_of_method (slice_index (debug_offsets K) (method_place K r j)) (get_or (declared_methods body) j x)) (slice_index codes j) n.file.laid.small (code_encoded n.file.laid r e j x lt within)
 
   -- its class data is at the offset of its row
   pub members_there : OrNone ClassDataAt no_class_data b (class_data_off b r) own_members
   members_there =
       class_data_use b (mentions D) (class_data_off b r) name body codes
-      (λ some behind s. class_data_written b (mentions D) (class_data_off b r) name body codes formed (indices_rise D name body in_file formed) rows codes_count codes_small behind s)
+      (λ some following s. class_data_written b (mentions D) (class_data_off b r) name body codes formed (indices_rise D name body in_file formed) rows codes_count codes_small following s)
       (class_read n.file.laid r e lt).class_data_is
 
   -- its static values are at the offset of its row

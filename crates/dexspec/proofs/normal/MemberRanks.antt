@@ -59,12 +59,12 @@ rank_cmp R o xs rising s t c d =
     ]
 
 -- if the members of two lists compare in the same way, both lists rise or neither does
-pub rises_alike : {A B X : Type 0} (R : A → A → Ordering) (S : B → B → Ordering) (f : X → A) (g : X → B) (xs : List X) → ((x y : X) → Contains xs x → Contains xs y → R (f x) (f y) ≡ S (g x) (g y)) → rises R (map f xs) ≡ rises S (map g xs)
-rises_alike R S f g [] h = refl
-rises_alike R S f g (x ∷ []) h = refl
-rises_alike R S f g (x ∷ y ∷ xs) h =
+pub rises_equally : {A B X : Type 0} (R : A → A → Ordering) (S : B → B → Ordering) (f : X → A) (g : X → B) (xs : List X) → ((x y : X) → Contains xs x → Contains xs y → R (f x) (f y) ≡ S (g x) (g y)) → rises R (map f xs) ≡ rises S (map g xs)
+rises_equally R S f g [] h = refl
+rises_equally R S f g (x ∷ []) h = refl
+rises_equally R S f g (x ∷ y ∷ xs) h =
     let first = h x y (Contains-first x (y ∷ xs)) (Contains-later x y (y ∷ xs) (Contains-first y xs)) in
-    let rest = rises_alike R S f g (y ∷ xs) (λ z w c d. h z w (Contains-later x z (y ∷ xs) c) (Contains-later x w (y ∷ xs) d)) in
+    let rest = rises_equally R S f g (y ∷ xs) (λ z w c d. h z w (Contains-later x z (y ∷ xs) c) (Contains-later x w (y ∷ xs) d)) in
     λ i. is_lt (first i) && rest i
 
 -- ---- members
@@ -105,14 +105,14 @@ module _ (D : List Definition) (name : Text) (c : Body) (in_file : Contains D (n
   -- the indices of rising fields rise
   field_indices_rise : (fs : List FieldDef) → ((f : FieldDef) → Contains fs f → Contains (declared_fields c) f) → IsTrue (rises field_key_cmp (map field_key fs)) → IsTrue (rises nat_cmp (map (λ f. field_index (mentions D) (field_of name f)) fs))
   field_indices_rise fs among rise =
-      rises_alike nat_cmp field_key_cmp (λ f. field_index (mentions D) (field_of name f)) field_key fs
+      rises_equally nat_cmp field_key_cmp (λ f. field_index (mentions D) (field_of name f)) field_key fs
       (λ f g k l. rank_cmp field_cmp field_total (mentions D).fields (mentions-rising D).fields (field_of name f) (field_of name g) (field_mentioned f (among f k)) (field_mentioned g (among g l)) ∙ field_cmp_key name f g)
       ∙ rise
 
   -- the indices of rising methods rise
   method_indices_rise : (xs : List MethodDef) → ((x : MethodDef) → Contains xs x → Contains (declared_methods c) x) → IsTrue (rises method_key_cmp (map method_key xs)) → IsTrue (rises nat_cmp (map (λ x. method_index (mentions D) (method_of name x)) xs))
   method_indices_rise xs among rise =
-      rises_alike nat_cmp method_key_cmp (λ x. method_index (mentions D) (method_of name x)) method_key xs
+      rises_equally nat_cmp method_key_cmp (λ x. method_index (mentions D) (method_of name x)) method_key xs
       (λ x y k l. rank_cmp method_cmp method_total (mentions D).methods (mentions-rising D).methods (method_of name x) (method_of name y) (method_mentioned x (among x k)) (method_mentioned y (among y l)) ∙ method_cmp_key name x y)
       ∙ rise
 
@@ -168,9 +168,9 @@ module _ (name : Text) (c : Body) where
   in_method x s k is =
       let fields = flat_map (field_symbols name) (declared_fields c) in
       let methods = flat_map (method_symbols name) (declared_methods c) in
-      let behind = flat_map code_symbols (option_to_list x.code) ++ (set_symbols x.annotations ++ flat_map set_symbols x.parameter_annotations) in
+      let following = flat_map code_symbols (option_to_list x.code) ++ (set_symbols x.annotations ++ flat_map set_symbols x.parameter_annotations) in
       own_first name c s (Contains-append_right fields (methods ++ values_symbols c.static_values) s
-      (Contains-append_left methods (values_symbols c.static_values) s (Contains-flat_map (method_symbols name) (declared_methods c) x s k (Contains-later (MethodSymbol (method_of name x)) s behind is))))
+      (Contains-append_left methods (values_symbols c.static_values) s (Contains-flat_map (method_symbols name) (declared_methods c) x s k (Contains-later (MethodSymbol (method_of name x)) s following is))))
 
   -- the symbols of its code
   pub code_occurs : (x : MethodDef) (k : Code) (s : Symbol) → Contains (declared_methods c) x → x.code ≡ Some k → Contains (code_symbols k) s → Contains (symbols_of (name, c)) s

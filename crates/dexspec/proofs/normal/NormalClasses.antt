@@ -32,9 +32,9 @@ use Rattle.dexspec.proofs.merge.Growth.{mentions-rising}
 use Rattle.dexspec.proofs.merge.MentionMembers.{texts-listed, types-listed}
 use Rattle.dexspec.proofs.merge.Depths.{Contains-map, depth-parent}
 use Rattle.dexspec.proofs.lists.RankOrder.{rank_one}
-use Rattle.dexspec.proofs.layout.Uses.{UseStands}
+use Rattle.dexspec.proofs.layout.Uses.{UseIsAt}
 use Rattle.dexspec.proofs.layout.RowsRead.{ClassRead, class_read, type_index_small, type_list_indices}
-use Rattle.dexspec.proofs.layout.PoolsStand.{type_list_or_none}
+use Rattle.dexspec.proofs.layout.PoolsAreAt.{type_list_or_none}
 use Rattle.dexspec.proofs.normal.NormalRows.{IsNormal, string_ranked, type_ranked}
 use Rattle.dexspec.proofs.normal.ClassPlaces.{in_class_order-only, class_names-apart, class_depths-before}
 
@@ -165,9 +165,9 @@ module _ (D : List Definition) (b : List ℕ) (n : AreNormal D b) where
       class_list (interfaces_off b r) d.1.interfaces (n.formed d c).interfaces (type_list_or_none n.file.laid n.file.few n.file.pools d.1.interfaces (interfaces_off b r) (interfaces_mentioned d c) (class_numbers r e lt).interfaces_are)
 
   -- row r is the r-th class, if its items are at its offsets
-  pub class_stands : (r : ℕ) (e : Definition) → r < length (in_class_order D) → BelongsAt b r (get_or (in_class_order D) r e).1
+  pub class_encoded : (r : ℕ) (e : Definition) → r < length (in_class_order D) → BelongsAt b r (get_or (in_class_order D) r e).1
       → ClassRow b r (get_or (in_class_order D) r e).0 (get_or (in_class_order D) r e).1
-  class_stands r e lt has =
+  class_encoded r e lt has =
       let nums = class_numbers r e lt in
       record {
         row = omega (arith, lt, n.file.laid.count ClassDefs);
@@ -191,7 +191,7 @@ module _ (D : List Definition) (b : List ℕ) (n : AreNormal D b) where
   -- ---- condition 16
 
   -- the indices of a list, or none
-  list_indices : (o : ℕ) (ts : List Text) → UseStands b 4 (type_list_bytes (mentions D)) (unless_empty ts) o → (if o == 0 then [] else type_indices b o) ≡ map (type_index (mentions D)) ts
+  list_indices : (o : ℕ) (ts : List Text) → UseIsAt b 4 (type_list_bytes (mentions D)) (unless_empty ts) o → (if o == 0 then [] else type_indices b o) ≡ map (type_index (mentions D)) ts
   list_indices o [] h = ap (λ k. if k == 0 then [] else type_indices b k) h
   list_indices o (t ∷ ts) item = cond-false (o == 0) [] (type_indices b o) (ne_eqb o 0 item.some) ∙ type_list_indices n.file.laid n.file.few (t ∷ ts) item
 

@@ -22,7 +22,7 @@ use Rattle.dexspec.proofs.layout.Frames.{fits_few, canonical_laid, canonical_fra
 use Rattle.dexspec.proofs.wellformed.Formed.{mentions-pools}
 use Rattle.dexspec.proofs.normal.NormalRows.{IsNormal, count_small, has_string, has_type, has_proto, has_field, has_method}
 use Rattle.dexspec.proofs.normal.ClassPlaces.{in_class_order-only, in_class_order-has, class_names-apart}
-use Rattle.dexspec.proofs.normal.NormalClasses.{BelongsAt, AreNormal, class_stands, has_class}
+use Rattle.dexspec.proofs.normal.NormalClasses.{BelongsAt, AreNormal, class_encoded, has_class}
 
 -- a definition for places past the end
 abbrev pub some_class : Definition
@@ -53,7 +53,7 @@ pub record ItemsAreRight (D : List Definition) (b : List ℕ) : Type 0 where
 module _ (D : List Definition) (b : List ℕ) (n : AreNormal D b) (items : ItemsAreRight D b) where
   -- row r is the r-th class
   pub class_row_is : (r : ℕ) (e : Definition) → r < length (in_class_order D) → ClassRow b r (get_or (in_class_order D) r e).0 (get_or (in_class_order D) r e).1
-  class_row_is r e lt = class_stands D b n r e lt (items.belong r e lt)
+  class_row_is r e lt = class_encoded D b n r e lt (items.belong r e lt)
 
   -- and no other class
   pub only_class : (r : ℕ) (d : Definition) → ClassRow b r d.0 d.1 → (r < length (in_class_order D)) × (get_or (in_class_order D) r d ≡ d)

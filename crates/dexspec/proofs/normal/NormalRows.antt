@@ -12,9 +12,9 @@ use Rattle.dexspec.specs.Canonical.{table_count, ordered}
 use Rattle.dexspec.proofs.determined.OneRow.{one_string, one_type, one_proto, one_field, one_method}
 use Rattle.dexspec.proofs.merge.SymbolOrders.{text_total, proto_total, field_total, method_total}
 use Rattle.dexspec.proofs.merge.Growth.{mentions-rising}
-use Rattle.dexspec.proofs.layout.Laying.{Laid, table_few}
+use Rattle.dexspec.proofs.layout.SectionPlaces.{Laid, table_few}
 use Rattle.dexspec.proofs.layout.HeaderLaws.{AreFew}
-use Rattle.dexspec.proofs.layout.PoolsStand.{ArePools, text_row, type_row, proto_row, field_row, method_row}
+use Rattle.dexspec.proofs.layout.PoolsAreAt.{ArePools, text_row, type_row, proto_row, field_row, method_row}
 use Rattle.dexspec.proofs.layout.PoolsInOrder.{string_holds, type_holds, proto_holds, field_holds, method_holds}
 use Rattle.dexspec.proofs.lists.RankOrder.{at_places}
 
@@ -36,14 +36,14 @@ module _ (D : List Definition) (b : List ℕ) (n : IsNormal D b) where
   string_ranked = text_row n.laid n.few n.pools
 
   -- row i is the i-th text
-  pub string_stands : (i : ℕ) (d : Text) → i < length (mentions D).texts → StringRow b i (get_or (mentions D).texts i d)
-  string_stands = at_places text_cmp text_total (mentions D).texts (mentions-rising D).texts (StringRow b) string_ranked
+  pub string_has_row : (i : ℕ) (d : Text) → i < length (mentions D).texts → StringRow b i (get_or (mentions D).texts i d)
+  string_has_row = at_places text_cmp text_total (mentions D).texts (mentions-rising D).texts (StringRow b) string_ranked
 
   -- and no other text
   pub only_string : (i : ℕ) (s : Text) → StringRow b i s → (i < length (mentions D).texts) × (get_or (mentions D).texts i s ≡ s)
   only_string i s h =
       let lt : i < length (mentions D).texts = omega (arith, h.row, n.laid.count StringIds) in
-      (lt, one_string b i (get_or (mentions D).texts i s) s (string_stands i s lt) h)
+      (lt, one_string b i (get_or (mentions D).texts i s) s (string_has_row i s lt) h)
 
   -- 11 Strings
   pub has_string : (i : ℕ) → i < table_size b StringIds → HasString b i
@@ -56,14 +56,14 @@ module _ (D : List Definition) (b : List ℕ) (n : IsNormal D b) where
   type_ranked = type_row n.laid n.few n.pools
 
   -- row i is the i-th type
-  pub type_stands : (i : ℕ) (d : Text) → i < length (mentions D).types → TypeRow b i (get_or (mentions D).types i d)
-  type_stands = at_places text_cmp text_total (mentions D).types (mentions-rising D).types (TypeRow b) type_ranked
+  pub type_encoded : (i : ℕ) (d : Text) → i < length (mentions D).types → TypeRow b i (get_or (mentions D).types i d)
+  type_encoded = at_places text_cmp text_total (mentions D).types (mentions-rising D).types (TypeRow b) type_ranked
 
   -- and no other type
   pub only_type : (i : ℕ) (t : Text) → TypeRow b i t → (i < length (mentions D).types) × (get_or (mentions D).types i t ≡ t)
   only_type i t h =
       let lt : i < length (mentions D).types = omega (arith, h.row, n.laid.count TypeIds) in
-      (lt, one_type b i (get_or (mentions D).types i t) t (type_stands i t lt) h)
+      (lt, one_type b i (get_or (mentions D).types i t) t (type_encoded i t lt) h)
 
   -- 12 Types
   pub has_type : (i : ℕ) → i < table_size b TypeIds → HasType b i
@@ -76,14 +76,14 @@ module _ (D : List Definition) (b : List ℕ) (n : IsNormal D b) where
   proto_ranked = proto_row n.laid n.few n.pools
 
   -- row i is the i-th proto
-  pub proto_stands : (i : ℕ) (d : Proto) → i < length (mentions D).protos → ProtoRow b i (get_or (mentions D).protos i d)
-  proto_stands = at_places proto_cmp proto_total (mentions D).protos (mentions-rising D).protos (ProtoRow b) proto_ranked
+  pub proto_has_row : (i : ℕ) (d : Proto) → i < length (mentions D).protos → ProtoRow b i (get_or (mentions D).protos i d)
+  proto_has_row = at_places proto_cmp proto_total (mentions D).protos (mentions-rising D).protos (ProtoRow b) proto_ranked
 
   -- and no other proto
   pub only_proto : (i : ℕ) (p : Proto) → ProtoRow b i p → (i < length (mentions D).protos) × (get_or (mentions D).protos i p ≡ p)
   only_proto i p h =
       let lt : i < length (mentions D).protos = omega (arith, h.row, n.laid.count ProtoIds) in
-      (lt, one_proto b i (get_or (mentions D).protos i p) p (proto_stands i p lt) h)
+      (lt, one_proto b i (get_or (mentions D).protos i p) p (proto_has_row i p lt) h)
 
   -- 13 Protos
   pub has_proto : (i : ℕ) → i < table_size b ProtoIds → HasProto b i
@@ -96,14 +96,14 @@ module _ (D : List Definition) (b : List ℕ) (n : IsNormal D b) where
   field_ranked = field_row n.laid n.few n.pools
 
   -- row i is the i-th field
-  pub field_stands : (i : ℕ) (d : Field) → i < length (mentions D).fields → FieldRow b i (get_or (mentions D).fields i d)
-  field_stands = at_places field_cmp field_total (mentions D).fields (mentions-rising D).fields (FieldRow b) field_ranked
+  pub field_has_row : (i : ℕ) (d : Field) → i < length (mentions D).fields → FieldRow b i (get_or (mentions D).fields i d)
+  field_has_row = at_places field_cmp field_total (mentions D).fields (mentions-rising D).fields (FieldRow b) field_ranked
 
   -- and no other field
   pub only_field : (i : ℕ) (f : Field) → FieldRow b i f → (i < length (mentions D).fields) × (get_or (mentions D).fields i f ≡ f)
   only_field i f h =
       let lt : i < length (mentions D).fields = omega (arith, h.row, n.laid.count FieldIds) in
-      (lt, one_field b i (get_or (mentions D).fields i f) f (field_stands i f lt) h)
+      (lt, one_field b i (get_or (mentions D).fields i f) f (field_has_row i f lt) h)
 
   -- 14 Fields
   pub has_field : (i : ℕ) → i < table_size b FieldIds → HasField b i
@@ -116,14 +116,14 @@ module _ (D : List Definition) (b : List ℕ) (n : IsNormal D b) where
   method_ranked = method_row n.laid n.few n.pools
 
   -- row i is the i-th method
-  pub method_stands : (i : ℕ) (d : Method) → i < length (mentions D).methods → MethodRow b i (get_or (mentions D).methods i d)
-  method_stands = at_places method_cmp method_total (mentions D).methods (mentions-rising D).methods (MethodRow b) method_ranked
+  pub method_has_row : (i : ℕ) (d : Method) → i < length (mentions D).methods → MethodRow b i (get_or (mentions D).methods i d)
+  method_has_row = at_places method_cmp method_total (mentions D).methods (mentions-rising D).methods (MethodRow b) method_ranked
 
   -- and no other method
   pub only_method : (i : ℕ) (x : Method) → MethodRow b i x → (i < length (mentions D).methods) × (get_or (mentions D).methods i x ≡ x)
   only_method i x h =
       let lt : i < length (mentions D).methods = omega (arith, h.row, n.laid.count MethodIds) in
-      (lt, one_method b i (get_or (mentions D).methods i x) x (method_stands i x lt) h)
+      (lt, one_method b i (get_or (mentions D).methods i x) x (method_has_row i x lt) h)
 
   -- 15 Methods
   pub has_method : (i : ℕ) → i < table_size b MethodIds → HasMethod b i

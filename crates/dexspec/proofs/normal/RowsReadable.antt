@@ -24,7 +24,7 @@ use Rattle.dexspec.specs.Canonical.{ordered, canonical, code_offsets}
 use Rattle.dexspec.specs.Depth.{in_class_order}
 use Rattle.dexspec.specs.Files.{Collection, definitions}
 use Rattle.dexspec.specs.Merging.{greatest_caps, Fits, IsGood}
-use Rattle.dexspec.specs.Aside.OwnDirectories.{field_sets, own_method_sets, parameter_sets, own_directory}
+use Rattle.dexspec.specs.internal.OwnDirectories.{field_sets, own_method_sets, parameter_sets, own_directory}
 use Rattle.dexspec.proofs.lists.Members.{Contains-nil, Contains-first, Contains-later, Contains-cons_cases}
 use Rattle.dexspec.proofs.merge.Depths.{Contains-map}
 use Rattle.dexspec.proofs.lists.Sources.{map_source}

@@ -7,7 +7,7 @@ use Rattle.std.proofs.lemmas.Nat.{pow-add, pow_pos}
 use Rattle.std.proofs.lemmas.Int.{ints}
 use Rattle.std.proofs.lemmas.Bool.{cases_lt, lt-ltb, le-ltb}
 use Rattle.std.proofs.lemmas.List.Elements.{All-nil, All-cons}
-use Rattle.dexspec.specs.Bytes.{number_of, bytes_of, signed_in, ushort, uint, ushort_at, uint_at, Stands}
+use Rattle.dexspec.specs.Bytes.{number_of, bytes_of, signed_in, ushort, uint, ushort_at, uint_at, BytesAt}
 use Rattle.dexspec.specs.Numbers.{magnitude}
 use Rattle.dexspec.specs.Spellings.{complement}
 
@@ -63,14 +63,14 @@ unfolding uint
 length-uint n = length-bytes_of 4 n
 
 -- a ushort is read at the offset of its bytes
-pub ushort_at-stands : {b : List ℕ} {o n : ℕ} → n < 2 ^ 16 → Stands b o (ushort n) → ushort_at b o ≡ n
+pub ushort_at-encodes : {b : List ℕ} {o n : ℕ} → n < 2 ^ 16 → BytesAt b o (ushort n) → ushort_at b o ≡ n
 unfolding ushort ushort_at bytes_of
-ushort_at-stands {b} {o} {n} lt h = ap number_of h.here ∙ number_of-bytes_of 2 n lt
+ushort_at-encodes {b} {o} {n} lt h = ap number_of h.here ∙ number_of-bytes_of 2 n lt
 
 -- a uint is read at the offset of its bytes
-pub uint_at-stands : {b : List ℕ} {o n : ℕ} → n < 2 ^ 32 → Stands b o (uint n) → uint_at b o ≡ n
+pub uint_at-encodes : {b : List ℕ} {o n : ℕ} → n < 2 ^ 32 → BytesAt b o (uint n) → uint_at b o ≡ n
 unfolding uint uint_at bytes_of
-uint_at-stands {b} {o} {n} lt h = ap number_of h.here ∙ number_of-bytes_of 4 n lt
+uint_at-encodes {b} {o} {n} lt h = ap number_of h.here ∙ number_of-bytes_of 4 n lt
 
 -- ---- signs
 

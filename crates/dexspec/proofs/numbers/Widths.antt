@@ -5,7 +5,7 @@ use Rattle.std.specs.List.{find}
 use Rattle.std.proofs.Math.Nat.{pow-le-pow_right, div-add-mod, div-lt_iff_lt-mul, mul-mod_right}
 use Rattle.std.proofs.lemmas.Nat.{pow-add}
 use Rattle.std.proofs.lemmas.Bool.{both_ways, cases_lt, cases_eq, lt-ltb, ltb-true, eq-eqb, eqb-true}
-use Rattle.dexspec.specs.Bytes.{number_of, bytes_of, signed_in, Stands}
+use Rattle.dexspec.specs.Bytes.{number_of, bytes_of, signed_in, BytesAt}
 use Rattle.dexspec.specs.Numbers.{magnitude}
 use Rattle.dexspec.specs.Values.{SizedAt, SignedAt, UnsignedAt, BitsAt, value_byte}
 use Rattle.dexspec.specs.Spellings.{unsigned_width, signed_width, bits_width, complement, unsigned_bytes, signed_bytes, bits_bytes}
@@ -152,26 +152,26 @@ bits_least width v one few bytes some is =
 -- ---- written bytes are read as the number
 
 -- w bytes after a first byte that counts them
-sized : (code width w : ℕ) (b : List ℕ) (o x : ℕ) → 1 ≤ w → w ≤ width → Stands b o (value_byte (w - 1) code ∷ bytes_of w x) → SizedAt code width b o (bytes_of w x) (1 + w)
+sized : (code width w : ℕ) (b : List ℕ) (o x : ℕ) → 1 ≤ w → w ≤ width → BytesAt b o (value_byte (w - 1) code ∷ bytes_of w x) → SizedAt code width b o (bytes_of w x) (1 + w)
 sized code width w b o x some few h =
     let len = length-bytes_of w x in
-    record { some = omega (arith, len); few = omega (arith, len); stands = rw len h; size = omega (arith, len) }
+    record { some = omega (arith, len); few = omega (arith, len); encodes = rw len h; size = omega (arith, len) }
 
 -- a number that fits a width of at most 8 fits 8 bytes
 wide : (width x : ℕ) → width ≤ 8 → x < 256 ^ width → x < 256 ^ 8
 wide width x few lt = let grows : 256 ^ width ≤ 256 ^ 8 = pow-le-pow_right (omega arith) few in omega arith
 
 -- an unsigned number, in its least width
-unsigned_by_width : (code width : ℕ) (b : List ℕ) (o v w : ℕ) → 1 ≤ width → v < 256 ^ width → IsUnsignedWidth v w → Stands b o (value_byte (w - 1) code ∷ bytes_of w v) → UnsignedAt code width b o v (1 + w)
+unsigned_by_width : (code width : ℕ) (b : List ℕ) (o v w : ℕ) → 1 ≤ width → v < 256 ^ width → IsUnsignedWidth v w → BytesAt b o (value_byte (w - 1) code ∷ bytes_of w v) → UnsignedAt code width b o v (1 + w)
 unsigned_by_width code width b o v w one lt is h = (bytes_of w v, sized code width w b o v is.some (is.least width one lt) h, sym (number_of-bytes_of w v is.holds))
 
 -- an unsigned number
-pub unsigned_at : (code width : ℕ) (b : List ℕ) (o v : ℕ) → 1 ≤ width → width ≤ 8 → v < 256 ^ width → Stands b o (unsigned_bytes code v) → UnsignedAt code width b o v (1 + unsigned_width v)
+pub unsigned_at : (code width : ℕ) (b : List ℕ) (o v : ℕ) → 1 ≤ width → width ≤ 8 → v < 256 ^ width → BytesAt b o (unsigned_bytes code v) → UnsignedAt code width b o v (1 + unsigned_width v)
 unsigned_at code width b o v one few lt h = unsigned_by_width code width b o v (unsigned_width v) one lt (unsigned_width_is v (wide width v few lt)) h
 
 -- a signed number, in its least width
 signed_by_width : (code width : ℕ) (b : List ℕ) (o : ℕ) (z : ℤ) (w : ℕ) → 1 ≤ width → 2 * magnitude z < 256 ^ width → IsUnsignedWidth (2 * magnitude z) w
-    → Stands b o (value_byte (w - 1) code ∷ bytes_of w (complement w z)) → SignedAt code width b o z (1 + w)
+    → BytesAt b o (value_byte (w - 1) code ∷ bytes_of w (complement w z)) → SignedAt code width b o z (1 + w)
 signed_by_width code width b o z w one lt is h = (
   bytes_of w (complement w z),
   sized code width w b o (complement w z) is.some (is.least width one lt) h,
@@ -179,12 +179,12 @@ signed_by_width code width b o z w one lt is h = (
 )
 
 -- a signed number
-pub signed_at : (code width : ℕ) (b : List ℕ) (o : ℕ) (z : ℤ) → 1 ≤ width → width ≤ 8 → 2 * magnitude z < 256 ^ width → Stands b o (signed_bytes code z) → SignedAt code width b o z (1 + signed_width z)
+pub signed_at : (code width : ℕ) (b : List ℕ) (o : ℕ) (z : ℤ) → 1 ≤ width → width ≤ 8 → 2 * magnitude z < 256 ^ width → BytesAt b o (signed_bytes code z) → SignedAt code width b o z (1 + signed_width z)
 signed_at code width b o z one few lt h = signed_by_width code width b o z (signed_width z) one lt (signed_width_is z (wide width (2 * magnitude z) few lt)) h
 
 -- a bit pattern, in its least width
 bits_at_width : (code width : ℕ) (b : List ℕ) (o v w : ℕ) → v < 256 ^ width → IsBitsWidth width v w
-    → Stands b o (value_byte (w - 1) code ∷ bytes_of w (v / 256 ^ (width - w))) → BitsAt code width b o v (1 + w)
+    → BytesAt b o (value_byte (w - 1) code ∷ bytes_of w (v / 256 ^ (width - w))) → BitsAt code width b o v (1 + w)
 bits_at_width code width b o v w lt is h =
     let x = v / 256 ^ (width - w) in (
       bytes_of w x,
@@ -193,5 +193,5 @@ bits_at_width code width b o v w lt is h =
     )
 
 -- a bit pattern
-pub bits_at : (code width : ℕ) (b : List ℕ) (o v : ℕ) → 1 ≤ width → width ≤ 8 → v < 256 ^ width → Stands b o (bits_bytes code width v) → BitsAt code width b o v (1 + bits_width width v)
+pub bits_at : (code width : ℕ) (b : List ℕ) (o v : ℕ) → 1 ≤ width → width ≤ 8 → v < 256 ^ width → BytesAt b o (bits_bytes code width v) → BitsAt code width b o v (1 + bits_width width v)
 bits_at code width b o v one few lt h = bits_at_width code width b o v (bits_width width v) lt (bits_width_is width v one few) h

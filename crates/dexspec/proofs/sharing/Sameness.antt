@@ -8,7 +8,7 @@ use Rattle.dexspec.specs.Debug.{Operation, AdvancePc, AdvanceLine, StartLocal, S
 use Rattle.dexspec.specs.Values.{Value, ByteValue, ShortValue, CharValue, IntValue, LongValue, FloatValue, DoubleValue, StringValue, TypeValue, FieldValue, MethodValue, EnumValue, ArrayValue, AnnotationValue, NullValue, BooleanValue, Values, NoValues, ThenValue, Elements, NoElements, ThenElement}
 use Rattle.dexspec.specs.Sameness.{same_types, same_proto, same_field, same_method, same_optional, same_operation, same_debug, same_value, same_values, same_elements, same_annotation, same_set}
 use Rattle.dexspec.proofs.lists.Members.{and_first, and_second, and_both}
-use Rattle.dexspec.proofs.lists.Equality.{IsEquality, tells, lists_decide, options_decide, text_decides}
+use Rattle.dexspec.proofs.lists.Equality.{IsEquality, reports, lists_decide, options_decide, text_decides}
 
 -- a value is equal to itself
 again : {X : Type 0} {same : X → X → Bool} → IsEquality same → (x : X) → same x x ≡ true
@@ -20,7 +20,7 @@ pub types_decide : IsEquality same_types
 types_decide = lists_decide same_text text_decides
 
 pub proto_decides : IsEquality same_proto
-proto_decides = tells same_proto
+proto_decides = reports same_proto
     (λ p q e.
     let a = (text_decides p.return_type q.return_type).0 (and_first (same_text p.return_type q.return_type) (same_types p.parameters q.parameters) e) in
     let b = (types_decide p.parameters q.parameters).0 (and_second (same_text p.return_type q.return_type) (same_types p.parameters q.parameters) e) in
@@ -40,7 +40,7 @@ all_three : (a b c : Bool) → a ≡ true → b ≡ true → c ≡ true → (a &
 all_three a b c e f g = and_both a (b && c) e (and_both b c f g)
 
 pub field_decides : IsEquality same_field
-field_decides = tells same_field
+field_decides = reports same_field
     (λ f g e.
     let h = three (same_text f.class g.class) (same_text f.name g.name) (same_text f.type g.type) e in
     let a = (text_decides f.class g.class).0 h.first in
@@ -50,7 +50,7 @@ field_decides = tells same_field
     (λ f. all_three (same_text f.class f.class) (same_text f.name f.name) (same_text f.type f.type) (again text_decides f.class) (again text_decides f.name) (again text_decides f.type))
 
 pub method_decides : IsEquality same_method
-method_decides = tells same_method
+method_decides = reports same_method
     (λ x y e.
     let h = three (same_text x.class y.class) (same_text x.name y.name) (same_proto x.proto y.proto) e in
     let a = (text_decides x.class y.class).0 h.first in
@@ -103,7 +103,7 @@ operation_again (SetFile s) = again optional_decides s
 operation_again (Special m) = again Decides-eqb m
 
 operation_decides : IsEquality same_operation
-operation_decides = tells same_operation operation_only operation_again
+operation_decides = reports same_operation operation_only operation_again
 
 names_decide : IsEquality (pointwise same_optional)
 names_decide = lists_decide same_optional optional_decides
@@ -112,7 +112,7 @@ operations_decide : IsEquality (pointwise same_operation)
 operations_decide = lists_decide same_operation operation_decides
 
 pub debug_decides : IsEquality same_debug
-debug_decides = tells same_debug
+debug_decides = reports same_debug
     (λ d e h.
     let t = three (d.line_start == e.line_start) (pointwise same_optional d.parameter_names e.parameter_names) (pointwise same_operation d.operations e.operations) h in
     let a = eqb-true d.line_start e.line_start t.first in
@@ -203,10 +203,10 @@ mutual
   elements_again (ThenElement s v es) = all_three (same_text s s) (same_value v v) (same_elements es es) (again text_decides s) (value_again v) (elements_again es)
 
 elements_decide : IsEquality same_elements
-elements_decide = tells same_elements elements_only elements_again
+elements_decide = reports same_elements elements_only elements_again
 
 pub annotation_decides : IsEquality same_annotation
-annotation_decides = tells same_annotation
+annotation_decides = reports same_annotation
     (λ a b e.
     let h = three (a.visibility == b.visibility) (same_text a.type b.type) (same_elements a.elements b.elements) e in
     let p = eqb-true a.visibility b.visibility h.first in

@@ -13,8 +13,8 @@ use Rattle.dexspec.specs.Placing.{shared_items, Sharing, EqualOnce, EachForItsel
 use Rattle.dexspec.proofs.lists.Equality.{IsEquality, self, turned}
 use Rattle.dexspec.proofs.lists.Members.{Contains-nil, Contains-first, Contains-later, Contains-cons_cases, list_any-source}
 use Rattle.dexspec.proofs.lists.Sources.{distinct_source}
-use Rattle.dexspec.proofs.lists.FirstPlaces.{any_alike, position_within, position_stays, position_last, position_mapped, position_agrees}
-use Rattle.dexspec.proofs.lists.Distinct.{with_last, distinct_more, distinct_front, distinct_has, distinct_once}
+use Rattle.dexspec.proofs.lists.FirstPlaces.{any_equal, position_within, position_stays, position_last, position_mapped, position_agrees}
+use Rattle.dexspec.proofs.lists.Distinct.{with_last, distinct_more, distinct_prefix, distinct_has, distinct_once}
 
 -- ---- present values
 
@@ -71,7 +71,7 @@ module _ {X : Type 0} (same : X → X → Bool) (exact : IsEquality same) where
       omega (arith, lt, position_stays (λ y. same y x) ds more lt, e)
   before_next false front x more i any e =
       let ds = distinct same front in
-      let none : list_any (λ y. same y x) ds ≡ false = any_alike (λ y. same y x) (same x) (λ y. turned same exact y x) ds ∙ any in
+      let none : list_any (λ y. same y x) ds ≡ false = any_equal (λ y. same y x) (same x) (λ y. turned same exact y x) ds ∙ any in
       let last : position_or_len (λ y. same y x) (ds ++ x ∷ []) ≡ length ds = position_last (λ y. same y x) ds x none (self same exact x) in
       let lt : position_or_len (λ y. same y x) (ds ++ x ∷ []) < length (ds ++ x ∷ []) = omega (arith, last, length-append ds (x ∷ [])) in
       omega (arith, last, position_stays (λ y. same y x) (ds ++ x ∷ []) more lt, e)
@@ -81,11 +81,11 @@ module _ {X : Type 0} (same : X → X → Bool) (exact : IsEquality same) where
       → Contains front (get_or (distinct same (front ++ x ∷ rest)) i d)
   item_before front x rest i d e =
       let ds = distinct same front in
-      let more = distinct_front same exact (front ++ x ∷ []) rest in
+      let more = distinct_prefix same exact (front ++ x ∷ []) rest in
       let parts : distinct same (front ++ x ∷ rest) ≡ with_last same ds x ++ more.0 =
       ap (distinct same) (sym (append_assoc front (x ∷ []) rest)) ∙ more.1 ∙ ap (λ ys. ys ++ more.0) (distinct_more same exact front x) in
       let lt : i < length ds = before_next (list_any (same x) ds) front x more.0 i refl (ap (position_or_len (λ y. same y x)) (sym parts) ∙ e) in
-      let first = distinct_front same exact front (x ∷ rest) in
+      let first = distinct_prefix same exact front (x ∷ rest) in
       let item : get_or (distinct same (front ++ x ∷ rest)) i d ≡ get_or ds i d = ap (λ ys. get_or ys i d) first.1 ∙ get_or_append_left ds first.0 d i lt in
       subst (Contains front) (sym item) (distinct_source same front (get_or ds i d) (Contains-get_or ds i d lt))
 
@@ -124,14 +124,14 @@ module _ {X : Type 0} (same : X → X → Bool) (exact : IsEquality same) where
       (s.0, s.1, get_or-map number uses s.0 None None (omega (arith, s.1, lt)) ∙ s.2)
 
 -- uses under an injective map have the same numbers
-pub numbers_led : {X Y : Type 0} (f : X → Y) (same : X → X → Bool) (alike : Y → Y → Bool) (us : List (Option X)) (ds : List X) → ((x y : X) → Contains ds y → Contains (present us) x → alike (f y) (f x) ≡ same y x)
-    → map (option_map (λ x. position_or_len (λ y. alike y x) (map f ds))) (map (option_map f) us) ≡ map (option_map (λ x. position_or_len (λ y. same y x) ds)) us
-numbers_led f same alike [] ds e = refl
-numbers_led f same alike (None ∷ us) ds e = ap (λ ns. None ∷ ns) (numbers_led f same alike us ds e)
-numbers_led f same alike (Some x ∷ us) ds e =
-    let rest = map (option_map (λ x. position_or_len (λ y. alike y x) (map f ds))) (map (option_map f) us) in
-    ap (λ n. Some n ∷ rest) (position_mapped f (λ y. alike y (f x)) ds ∙ position_agrees (λ y. alike (f y) (f x)) (λ y. same y x) ds (λ y c. e x y c (Contains-first x (present us))))
-    ∙ ap (λ ns. Some (position_or_len (λ y. same y x) ds) ∷ ns) (numbers_led f same alike us ds (λ z y cy cz. e z y cy (Contains-later x z (present us) cz)))
+pub numbers_mapped : {X Y : Type 0} (f : X → Y) (same : X → X → Bool) (equivalent : Y → Y → Bool) (us : List (Option X)) (ds : List X) → ((x y : X) → Contains ds y → Contains (present us) x → equivalent (f y) (f x) ≡ same y x)
+    → map (option_map (λ x. position_or_len (λ y. equivalent y x) (map f ds))) (map (option_map f) us) ≡ map (option_map (λ x. position_or_len (λ y. same y x) ds)) us
+numbers_mapped f same equivalent [] ds e = refl
+numbers_mapped f same equivalent (None ∷ us) ds e = ap (λ ns. None ∷ ns) (numbers_mapped f same equivalent us ds e)
+numbers_mapped f same equivalent (Some x ∷ us) ds e =
+    let rest = map (option_map (λ x. position_or_len (λ y. equivalent y x) (map f ds))) (map (option_map f) us) in
+    ap (λ n. Some n ∷ rest) (position_mapped f (λ y. equivalent y (f x)) ds ∙ position_agrees (λ y. equivalent (f y) (f x)) (λ y. same y x) ds (λ y c. e x y c (Contains-first x (present us))))
+    ∙ ap (λ ns. Some (position_or_len (λ y. same y x) ds) ∷ ns) (numbers_mapped f same equivalent us ds (λ z y cy cz. e z y cy (Contains-later x z (present us) cz)))
 
 -- ---- sums
 

@@ -42,9 +42,9 @@ covered_more [] ys more h = tt
 covered_more (x ∷ xs) ys [] h = h
 covered_more (x ∷ xs) ys (y ∷ more) h = inr (covered_more (x ∷ xs) ys more h)
 
-covered_behind : (front xs ys : List (List ℕ)) → IsCovered xs ys → IsCovered (front ++ xs) (front ++ ys)
-covered_behind [] xs ys h = h
-covered_behind (x ∷ front) xs ys h = inl (omega arith, covered_behind front xs ys h)
+covered_after : (front xs ys : List (List ℕ)) → IsCovered xs ys → IsCovered (front ++ xs) (front ++ ys)
+covered_after [] xs ys h = h
+covered_after (x ∷ front) xs ys h = inl (omega arith, covered_after front xs ys h)
 
 pub covered_few : (xs ys : List (List ℕ)) → IsCovered xs ys → length xs ≤ length ys
 covered_few [] ys h = omega arith
@@ -58,7 +58,7 @@ module _ {X : Type 0} (f : X → List (List ℕ)) where
   covered_filter p (x ∷ xs) = by (p x) (covered_filter p xs)
     where
       by : (b : Bool) → IsCovered (flat_map f (filter p xs)) (flat_map f xs) → IsCovered (flat_map f (cond b (x ∷ filter p xs) (filter p xs))) (f x ++ flat_map f xs)
-      by true h = covered_behind (f x) (flat_map f (filter p xs)) (flat_map f xs) h
+      by true h = covered_after (f x) (flat_map f (filter p xs)) (flat_map f xs) h
       by false h = covered_more (flat_map f (filter p xs)) (flat_map f xs) (f x) h
 
   -- the bytes of the distinct members are covered by the bytes of all members
@@ -67,7 +67,7 @@ module _ {X : Type 0} (f : X → List (List ℕ)) where
   covered_distinct same (x ∷ xs) =
       let ds = distinct same xs in
       let kept = filter (λ y. not (same x y)) ds in
-      covered_behind (f x) (flat_map f kept) (flat_map f xs) (covered_then (flat_map f kept) (flat_map f ds) (flat_map f xs) (covered_filter (λ y. not (same x y)) ds) (covered_distinct same xs))
+      covered_after (f x) (flat_map f kept) (flat_map f xs) (covered_then (flat_map f kept) (flat_map f ds) (flat_map f xs) (covered_filter (λ y. not (same x y)) ds) (covered_distinct same xs))
 
 module _ {X : Type 0} (g : X → List ℕ) where
   one_each : (xs : List X) → flat_map (λ x. g x ∷ []) xs ≡ map g xs
@@ -173,8 +173,8 @@ uleb128_most v w le = omega (arith, size_u_most v w le, length-groups (size_u v)
 -- ---- offsets that are zero at the same places
 
 -- both are zero, or neither is
-abbrev pub AreAlike : ℕ → ℕ → Type 0
-AreAlike o p = ((o ≡ 0) × (p ≡ 0)) ⊎ ((0 < o) × (0 < p))
+abbrev pub AreEquivalent : ℕ → ℕ → Type 0
+AreEquivalent o p = ((o ≡ 0) × (p ≡ 0)) ⊎ ((0 < o) × (0 < p))
 
 pub not_zero : (o : ℕ) → 0 < o → (o == 0) ≡ false
 not_zero o some = by (o == 0) refl
@@ -183,83 +183,83 @@ not_zero o some = by (o == 0) refl
     by true e = absurd (omega (arith, some, eqb-true o 0 e))
     by false e = refl
 
-pub zero_alike : (o p : ℕ) → AreAlike o p → (o == 0) ≡ (p == 0)
-zero_alike o p (inl h) = ap (λ n. n == 0) (h.0 ∙ sym h.1)
-zero_alike o p (inr h) = not_zero o h.0 ∙ sym (not_zero p h.1)
+pub zero_equivalent : (o p : ℕ) → AreEquivalent o p → (o == 0) ≡ (p == 0)
+zero_equivalent o p (inl h) = ap (λ n. n == 0) (h.0 ∙ sym h.1)
+zero_equivalent o p (inr h) = not_zero o h.0 ∙ sym (not_zero p h.1)
 
 -- at each place
-abbrev pub AllAlike : List ℕ → List ℕ → Type 0
-AllAlike [] [] = Unit {0}
-AllAlike [] (p ∷ ps) = ⊥
-AllAlike (o ∷ os) [] = ⊥
-AllAlike (o ∷ os) (p ∷ ps) = AreAlike o p × AllAlike os ps
+abbrev pub AllEquivalent : List ℕ → List ℕ → Type 0
+AllEquivalent [] [] = Unit {0}
+AllEquivalent [] (p ∷ ps) = ⊥
+AllEquivalent (o ∷ os) [] = ⊥
+AllEquivalent (o ∷ os) (p ∷ ps) = AreEquivalent o p × AllEquivalent os ps
 
 -- in each list
-abbrev pub ListsAlike : List (List ℕ) → List (List ℕ) → Type 0
-ListsAlike [] [] = Unit {0}
-ListsAlike [] (ps ∷ pss) = ⊥
-ListsAlike (os ∷ oss) [] = ⊥
-ListsAlike (os ∷ oss) (ps ∷ pss) = AllAlike os ps × ListsAlike oss pss
+abbrev pub ListsEquivalent : List (List ℕ) → List (List ℕ) → Type 0
+ListsEquivalent [] [] = Unit {0}
+ListsEquivalent [] (ps ∷ pss) = ⊥
+ListsEquivalent (os ∷ oss) [] = ⊥
+ListsEquivalent (os ∷ oss) (ps ∷ pss) = AllEquivalent os ps × ListsEquivalent oss pss
 
-pub alike_from : (os ps : List ℕ) → length os ≡ length ps → ((k : ℕ) → k < length os → AreAlike (slice_index os k) (slice_index ps k)) → AllAlike os ps
-alike_from [] [] e each = tt
-alike_from [] (p ∷ ps) e each = absurd (omega (arith, e))
-alike_from (o ∷ os) [] e each = absurd (omega (arith, e))
-alike_from (o ∷ os) (p ∷ ps) e each = (each 0 (omega arith), alike_from os ps (omega (arith, e)) (λ k lt. each (suc k) (omega (arith, lt))))
+pub equivalent_from : (os ps : List ℕ) → length os ≡ length ps → ((k : ℕ) → k < length os → AreEquivalent (slice_index os k) (slice_index ps k)) → AllEquivalent os ps
+equivalent_from [] [] e each = tt
+equivalent_from [] (p ∷ ps) e each = absurd (omega (arith, e))
+equivalent_from (o ∷ os) [] e each = absurd (omega (arith, e))
+equivalent_from (o ∷ os) (p ∷ ps) e each = (each 0 (omega arith), equivalent_from os ps (omega (arith, e)) (λ k lt. each (suc k) (omega (arith, lt))))
 
-pub alike_length : (os ps : List ℕ) → AllAlike os ps → length os ≡ length ps
-alike_length [] [] h = refl
-alike_length [] (p ∷ ps) h = absurd h
-alike_length (o ∷ os) [] h = absurd h
-alike_length (o ∷ os) (p ∷ ps) h = ap suc (alike_length os ps h.1)
+pub equivalent_length : (os ps : List ℕ) → AllEquivalent os ps → length os ≡ length ps
+equivalent_length [] [] h = refl
+equivalent_length [] (p ∷ ps) h = absurd h
+equivalent_length (o ∷ os) [] h = absurd h
+equivalent_length (o ∷ os) (p ∷ ps) h = ap suc (equivalent_length os ps h.1)
 
-pub alike_first : (os ps : List ℕ) → AllAlike os ps → AreAlike (slice_index os 0) (slice_index ps 0)
-alike_first [] [] h = inl (refl, refl)
-alike_first [] (p ∷ ps) h = absurd h
-alike_first (o ∷ os) [] h = absurd h
-alike_first (o ∷ os) (p ∷ ps) h = h.0
+pub equivalent_first : (os ps : List ℕ) → AllEquivalent os ps → AreEquivalent (slice_index os 0) (slice_index ps 0)
+equivalent_first [] [] h = inl (refl, refl)
+equivalent_first [] (p ∷ ps) h = absurd h
+equivalent_first (o ∷ os) [] h = absurd h
+equivalent_first (o ∷ os) (p ∷ ps) h = h.0
 
-pub take_alike : (n : ℕ) (os ps : List ℕ) → AllAlike os ps → AllAlike (take n os) (take n ps)
-take_alike zero os ps h = tt
-take_alike (suc n) [] [] h = tt
-take_alike (suc n) [] (p ∷ ps) h = absurd h
-take_alike (suc n) (o ∷ os) [] h = absurd h
-take_alike (suc n) (o ∷ os) (p ∷ ps) h = (h.0, take_alike n os ps h.1)
+pub take_equivalent : (n : ℕ) (os ps : List ℕ) → AllEquivalent os ps → AllEquivalent (take n os) (take n ps)
+take_equivalent zero os ps h = tt
+take_equivalent (suc n) [] [] h = tt
+take_equivalent (suc n) [] (p ∷ ps) h = absurd h
+take_equivalent (suc n) (o ∷ os) [] h = absurd h
+take_equivalent (suc n) (o ∷ os) (p ∷ ps) h = (h.0, take_equivalent n os ps h.1)
 
-pub drop_alike : (n : ℕ) (os ps : List ℕ) → AllAlike os ps → AllAlike (drop n os) (drop n ps)
-drop_alike zero os ps h = h
-drop_alike (suc n) [] [] h = tt
-drop_alike (suc n) [] (p ∷ ps) h = absurd h
-drop_alike (suc n) (o ∷ os) [] h = absurd h
-drop_alike (suc n) (o ∷ os) (p ∷ ps) h = drop_alike n os ps h.1
+pub drop_equivalent : (n : ℕ) (os ps : List ℕ) → AllEquivalent os ps → AllEquivalent (drop n os) (drop n ps)
+drop_equivalent zero os ps h = h
+drop_equivalent (suc n) [] [] h = tt
+drop_equivalent (suc n) [] (p ∷ ps) h = absurd h
+drop_equivalent (suc n) (o ∷ os) [] h = absurd h
+drop_equivalent (suc n) (o ∷ os) (p ∷ ps) h = drop_equivalent n os ps h.1
 
-pub chunks_alike : (ns os ps : List ℕ) → AllAlike os ps → ListsAlike (chunks ns os) (chunks ns ps)
-chunks_alike [] os ps h = tt
-chunks_alike (n ∷ ns) os ps h = (take_alike n os ps h, chunks_alike ns (drop n os) (drop n ps) (drop_alike n os ps h))
+pub chunks_equivalent : (ns os ps : List ℕ) → AllEquivalent os ps → ListsEquivalent (chunks ns os) (chunks ns ps)
+chunks_equivalent [] os ps h = tt
+chunks_equivalent (n ∷ ns) os ps h = (take_equivalent n os ps h, chunks_equivalent ns (drop n os) (drop n ps) (drop_equivalent n os ps h))
 
-pub firsts_alike : (oss pss : List (List ℕ)) → ListsAlike oss pss → AllAlike (map (λ os. slice_index os 0) oss) (map (λ ps. slice_index ps 0) pss)
-firsts_alike [] [] h = tt
-firsts_alike [] (ps ∷ pss) h = absurd h
-firsts_alike (os ∷ oss) [] h = absurd h
-firsts_alike (os ∷ oss) (ps ∷ pss) h = (alike_first os ps h.0, firsts_alike oss pss h.1)
+pub firsts_equivalent : (oss pss : List (List ℕ)) → ListsEquivalent oss pss → AllEquivalent (map (λ os. slice_index os 0) oss) (map (λ ps. slice_index ps 0) pss)
+firsts_equivalent [] [] h = tt
+firsts_equivalent [] (ps ∷ pss) h = absurd h
+firsts_equivalent (os ∷ oss) [] h = absurd h
+firsts_equivalent (os ∷ oss) (ps ∷ pss) h = (equivalent_first os ps h.0, firsts_equivalent oss pss h.1)
 
 -- two lists of items of one length, from offsets that are not 0, have offsets that are zero at the same places
-pub offsets_alike : (align m n : ℕ) (xs ys : List (List ℕ)) → length xs ≡ length ys → 0 < m → 0 < n → (i : ℕ) → AreAlike (slice_index (offsets_from align m xs) i) (slice_index (offsets_from align n ys) i)
-offsets_alike align m n [] [] e some other i = inl (refl, refl)
-offsets_alike align m n [] (y ∷ ys) e some other i = absurd (omega (arith, e))
-offsets_alike align m n (x ∷ xs) [] e some other i = absurd (omega (arith, e))
-offsets_alike align m n (x ∷ xs) (y ∷ ys) e some other zero = inr (omega (arith, some, length-padding align m), omega (arith, other, length-padding align n))
-offsets_alike align m n (x ∷ xs) (y ∷ ys) e some other (suc i) =
-    offsets_alike align (round_up align m + length x) (round_up align n + length y) xs ys (omega (arith, e)) (omega (arith, some, length-padding align m)) (omega (arith, other, length-padding align n)) i
+pub offsets_equivalent : (align m n : ℕ) (xs ys : List (List ℕ)) → length xs ≡ length ys → 0 < m → 0 < n → (i : ℕ) → AreEquivalent (slice_index (offsets_from align m xs) i) (slice_index (offsets_from align n ys) i)
+offsets_equivalent align m n [] [] e some other i = inl (refl, refl)
+offsets_equivalent align m n [] (y ∷ ys) e some other i = absurd (omega (arith, e))
+offsets_equivalent align m n (x ∷ xs) [] e some other i = absurd (omega (arith, e))
+offsets_equivalent align m n (x ∷ xs) (y ∷ ys) e some other zero = inr (omega (arith, some, length-padding align m), omega (arith, other, length-padding align n))
+offsets_equivalent align m n (x ∷ xs) (y ∷ ys) e some other (suc i) =
+    offsets_equivalent align (round_up align m + length x) (round_up align n + length y) xs ys (omega (arith, e)) (omega (arith, some, length-padding align m)) (omega (arith, other, length-padding align n)) i
 
-number_alike : (os ps : List ℕ) → ((i : ℕ) → AreAlike (slice_index os i) (slice_index ps i)) → (n : Option ℕ) → AreAlike (option_map_or (slice_index os) n 0) (option_map_or (slice_index ps) n 0)
-number_alike os ps each None = inl (refl, refl)
-number_alike os ps each (Some i) = each i
+number_equivalent : (os ps : List ℕ) → ((i : ℕ) → AreEquivalent (slice_index os i) (slice_index ps i)) → (n : Option ℕ) → AreEquivalent (option_map_or (slice_index os) n 0) (option_map_or (slice_index ps) n 0)
+number_equivalent os ps each None = inl (refl, refl)
+number_equivalent os ps each (Some i) = each i
 
 -- also for uses with the same numbers
-pub uses_alike : (os ps : List ℕ) → ((i : ℕ) → AreAlike (slice_index os i) (slice_index ps i)) → (numbers : List (Option ℕ)) → AllAlike (uses_offsets numbers os) (uses_offsets numbers ps)
-uses_alike os ps each [] = tt
-uses_alike os ps each (n ∷ numbers) = (number_alike os ps each n, uses_alike os ps each numbers)
+pub uses_equivalent : (os ps : List ℕ) → ((i : ℕ) → AreEquivalent (slice_index os i) (slice_index ps i)) → (numbers : List (Option ℕ)) → AllEquivalent (uses_offsets numbers os) (uses_offsets numbers ps)
+uses_equivalent os ps each [] = tt
+uses_equivalent os ps each (n ∷ numbers) = (number_equivalent os ps each n, uses_equivalent os ps each numbers)
 
 -- ---- uses that are covered
 
@@ -348,19 +348,19 @@ kept_by true false i o p os ps same e = absurd cc
 kept_by false true i o p os ps same e = absurd cc
 kept_by false false i o p os ps same e = ap (λ is. i ∷ is) e
 
-firsts_alike_pairs : (indices os ps : List ℕ) → AllAlike os ps → map (λ (p : ℕ × ℕ). p.0) (some_pairs indices os) ≡ map (λ (p : ℕ × ℕ). p.0) (some_pairs indices ps)
-firsts_alike_pairs [] os ps h = refl
-firsts_alike_pairs (i ∷ indices) [] [] h = refl
-firsts_alike_pairs (i ∷ indices) [] (p ∷ ps) h = absurd h
-firsts_alike_pairs (i ∷ indices) (o ∷ os) [] h = absurd h
-firsts_alike_pairs (i ∷ indices) (o ∷ os) (p ∷ ps) h = kept_by (o == 0) (p == 0) i o p (some_pairs indices os) (some_pairs indices ps) (zero_alike o p h.0) (firsts_alike_pairs indices os ps h.1)
+firsts_equivalent_pairs : (indices os ps : List ℕ) → AllEquivalent os ps → map (λ (p : ℕ × ℕ). p.0) (some_pairs indices os) ≡ map (λ (p : ℕ × ℕ). p.0) (some_pairs indices ps)
+firsts_equivalent_pairs [] os ps h = refl
+firsts_equivalent_pairs (i ∷ indices) [] [] h = refl
+firsts_equivalent_pairs (i ∷ indices) [] (p ∷ ps) h = absurd h
+firsts_equivalent_pairs (i ∷ indices) (o ∷ os) [] h = absurd h
+firsts_equivalent_pairs (i ∷ indices) (o ∷ os) (p ∷ ps) h = kept_by (o == 0) (p == 0) i o p (some_pairs indices os) (some_pairs indices ps) (zero_equivalent o p h.0) (firsts_equivalent_pairs indices os ps h.1)
 
 length-firsts : (ps : List (ℕ × ℕ)) → length (map (λ (p : ℕ × ℕ). p.0) ps) ≡ length ps
 length-firsts [] = refl
 length-firsts (p ∷ ps) = ap suc (length-firsts ps)
 
 -- offsets that are zero at the same places make as many pairs
-pub pairs_alike : (indices os ps : List ℕ) → AllAlike os ps → length (pairs indices os) ≡ length (pairs indices ps)
-pairs_alike indices os ps h =
-    sym (length-firsts (pairs indices os)) ∙ ap (λ (is : List ℕ). length is) (firsts_ordered (some_pairs indices os) ∙ ap (in_order nat_cmp) (firsts_alike_pairs indices os ps h) ∙ sym (firsts_ordered (some_pairs indices ps)))
+pub pairs_equivalent : (indices os ps : List ℕ) → AllEquivalent os ps → length (pairs indices os) ≡ length (pairs indices ps)
+pairs_equivalent indices os ps h =
+    sym (length-firsts (pairs indices os)) ∙ ap (λ (is : List ℕ). length is) (firsts_ordered (some_pairs indices os) ∙ ap (in_order nat_cmp) (firsts_equivalent_pairs indices os ps h) ∙ sym (firsts_ordered (some_pairs indices ps)))
     ∙ length-firsts (pairs indices ps)

@@ -20,7 +20,7 @@ use Rattle.dexspec.specs.Spellings.{type_list_bytes, annotation_bytes, debug_byt
 use Rattle.dexspec.specs.Placing.{EqualOnce, EachForItself, Items, Placed, offsets, offsets_from, uses_offsets, Ordered, is_empty_class, method_sets, class_sets, all_methods, type_list_uses, set_uses, debug_uses, code_uses, class_data_uses, by_class, SetOffsets, set_offsets_of, ref_list_uses, directory_uses, directory_bytes, unless_empty, section_bytes, own_numbers, pairs, pairs_bytes}
 use Rattle.dexspec.specs.Canonical.{data_start, type_list_section, type_list_end, set_items, annotation_section, annotation_end, annotation_offsets, array_section, array_end, string_section, string_end, debug_section, debug_end, debug_offsets, code_section, code_end, code_offsets, class_data_section, class_data_end, set_section, set_end, set_offsets, ref_list_section, ref_list_end, ref_list_offsets, directory_section, directory_end, data_sections, Layout, layout, placed_tables, table_bytes, map_of, map_bytes, header_bytes, unsigned_file, with_sums, ordered, canonical}
 use Rattle.dexspec.proofs.numbers.ByteNumbers.{length-uint, length-ushort}
-use Rattle.dexspec.proofs.written.Stands.{length_rows}
+use Rattle.dexspec.proofs.written.PlacedBytes.{length_rows}
 use Rattle.dexspec.proofs.layout.Places.{length-padding, length-offsets_from, length-sections, sections_between}
 use Rattle.dexspec.proofs.layout.Placements.{layout_is, named_layout_full, AreFull, sections_follow, length-chunks, length-items_offsets}
 use Rattle.dexspec.proofs.layout.Tables.{length-table_bytes, length-header_bytes}
@@ -28,7 +28,7 @@ use Rattle.dexspec.proofs.size.SizeFile.{with_sums-size}
 use Rattle.dexspec.proofs.layout.MapEntries.{length-map_bytes}
 use Rattle.dexspec.proofs.sharing.Sameness.{set_decides}
 use Rattle.dexspec.proofs.layout.Uses.{IsNumber, AreNumbered, items_numbered, number_offset, length-debug_offsets}
-use Rattle.dexspec.proofs.sharing.Shorter.{IsCovered, covered_itself, covered_then, covered_few, covered_items, covered_lists, end_covered, AreBelow, uses_below, take_below, drop_below, uleb128_most, AreAlike, AllAlike, ListsAlike, not_zero, zero_alike, alike_from, alike_length, alike_first, take_alike, drop_alike, chunks_alike, firsts_alike, offsets_alike, uses_alike, IsCoveredUse, AreCoveredUses, covered_present, covered_numbers, covered_count, offsets_below, pairs_alike}
+use Rattle.dexspec.proofs.sharing.Shorter.{IsCovered, covered_itself, covered_then, covered_few, covered_items, covered_lists, end_covered, AreBelow, uses_below, take_below, drop_below, uleb128_most, AreEquivalent, AllEquivalent, ListsEquivalent, not_zero, zero_equivalent, equivalent_from, equivalent_length, equivalent_first, take_equivalent, drop_equivalent, chunks_equivalent, firsts_equivalent, offsets_equivalent, uses_equivalent, IsCoveredUse, AreCoveredUses, covered_present, covered_numbers, covered_count, offsets_below, pairs_equivalent}
 
 -- ---- code
 
@@ -192,9 +192,9 @@ marked uses its offs are some k lt =
     subst (IsMarked (get_or uses k None)) (sym (number_offset its.numbers offs k (omega (arith, are.count, lt))))
     (marked_by its.written offs some (get_or uses k None) (get_or its.numbers k None) (are.each k lt))
 
-marks_alike : {X : Type 0} (u : Option X) (o p : ℕ) → IsMarked u o → IsMarked u p → AreAlike o p
-marks_alike None o p h k = inl (h, k)
-marks_alike (Some x) o p h k = inr (h, k)
+marks_equivalent : {X : Type 0} (u : Option X) (o p : ℕ) → IsMarked u o → IsMarked u p → AreEquivalent o p
+marks_equivalent None o p h k = inl (h, k)
+marks_equivalent (Some x) o p h k = inr (h, k)
 
 -- items after 0 begin after 0
 offset_some : (align from : ℕ) (xs : List (List ℕ)) → 0 < from → (i : ℕ) → i < length xs → 0 < slice_index (offsets_from align from xs) i
@@ -203,33 +203,33 @@ offset_some align from (x ∷ xs) some zero lt = omega (arith, some, length-padd
 offset_some align from (x ∷ xs) some (suc i) lt = offset_some align (round_up align from + length x) xs (omega (arith, some, length-padding align from)) i (omega (arith, lt))
 
 -- the sets of one class
-record AreSetsAlike (s t : SetOffsets) : Type 0 where
-  own : AreAlike s.own t.own
-  fields : AllAlike s.fields t.fields
-  methods : ListsAlike s.methods t.methods
+record AreSetsEquivalent (s t : SetOffsets) : Type 0 where
+  own : AreEquivalent s.own t.own
+  fields : AllEquivalent s.fields t.fields
+  methods : ListsEquivalent s.methods t.methods
 
 -- the sets of each class
-abbrev AllSetsAlike : List SetOffsets → List SetOffsets → Type 0
-AllSetsAlike [] [] = Unit {0}
-AllSetsAlike [] (t ∷ ts) = ⊥
-AllSetsAlike (s ∷ ss) [] = ⊥
-AllSetsAlike (s ∷ ss) (t ∷ ts) = AreSetsAlike s t × AllSetsAlike ss ts
+abbrev AllSetsEquivalent : List SetOffsets → List SetOffsets → Type 0
+AllSetsEquivalent [] [] = Unit {0}
+AllSetsEquivalent [] (t ∷ ts) = ⊥
+AllSetsEquivalent (s ∷ ss) [] = ⊥
+AllSetsEquivalent (s ∷ ss) (t ∷ ts) = AreSetsEquivalent s t × AllSetsEquivalent ss ts
 
-sets_of_alike : (d : Definition) (os ps : List ℕ) → AllAlike os ps → AreSetsAlike (set_offsets_of d os) (set_offsets_of d ps)
-sets_of_alike d os ps h =
+sets_of_equivalent : (d : Definition) (os ps : List ℕ) → AllEquivalent os ps → AreSetsEquivalent (set_offsets_of d os) (set_offsets_of d ps)
+sets_of_equivalent d os ps h =
     let n = length (declared_fields d.1) in
     record {
-      own = alike_first os ps h;
-      fields = take_alike n (drop 1 os) (drop 1 ps) (drop_alike 1 os ps h);
-      methods = chunks_alike (map (λ x. length (method_sets x)) (declared_methods d.1)) (drop (1 + n) os) (drop (1 + n) ps) (drop_alike (1 + n) os ps h);
+      own = equivalent_first os ps h;
+      fields = take_equivalent n (drop 1 os) (drop 1 ps) (drop_equivalent 1 os ps h);
+      methods = chunks_equivalent (map (λ x. length (method_sets x)) (declared_methods d.1)) (drop (1 + n) os) (drop (1 + n) ps) (drop_equivalent (1 + n) os ps h);
     }
 
-sets_by_alike : (cs : List Definition) (oss pss : List (List ℕ)) → ListsAlike oss pss → AllSetsAlike (zip_with set_offsets_of cs oss) (zip_with set_offsets_of cs pss)
-sets_by_alike [] oss pss h = tt
-sets_by_alike (d ∷ cs) [] [] h = tt
-sets_by_alike (d ∷ cs) [] (ps ∷ pss) h = absurd h
-sets_by_alike (d ∷ cs) (os ∷ oss) [] h = absurd h
-sets_by_alike (d ∷ cs) (os ∷ oss) (ps ∷ pss) h = (sets_of_alike d os ps h.0, sets_by_alike cs oss pss h.1)
+sets_by_equivalent : (cs : List Definition) (oss pss : List (List ℕ)) → ListsEquivalent oss pss → AllSetsEquivalent (zip_with set_offsets_of cs oss) (zip_with set_offsets_of cs pss)
+sets_by_equivalent [] oss pss h = tt
+sets_by_equivalent (d ∷ cs) [] [] h = tt
+sets_by_equivalent (d ∷ cs) [] (ps ∷ pss) h = absurd h
+sets_by_equivalent (d ∷ cs) (os ∷ oss) [] h = absurd h
+sets_by_equivalent (d ∷ cs) (os ∷ oss) (ps ∷ pss) h = (sets_of_equivalent d os ps h.0, sets_by_equivalent cs oss pss h.1)
 
 -- ---- ref lists
 
@@ -245,13 +245,13 @@ uses_append g h [] us' (v ∷ vs) vs' c d = absurd c
 uses_append g h (u ∷ us) us' [] vs' c d = absurd c
 uses_append g h (u ∷ us) us' (v ∷ vs) vs' c d = (c.0, uses_append g h us us' vs vs' c.1 d)
 
-refs_of : (oss pss : List (List ℕ)) → ListsAlike oss pss → AreCoveredUses offsets_bytes offsets_bytes (map (λ offs. unless_empty (drop 1 offs)) oss) (map (λ offs. unless_empty (drop 1 offs)) pss)
+refs_of : (oss pss : List (List ℕ)) → ListsEquivalent oss pss → AreCoveredUses offsets_bytes offsets_bytes (map (λ offs. unless_empty (drop 1 offs)) oss) (map (λ offs. unless_empty (drop 1 offs)) pss)
 refs_of [] [] h = tt
 refs_of [] (ps ∷ pss) h = absurd h
 refs_of (os ∷ oss) [] h = absurd h
-refs_of (os ∷ oss) (ps ∷ pss) h = (ref_use (drop 1 os) (drop 1 ps) (alike_length (drop 1 os) (drop 1 ps) (drop_alike 1 os ps h.0)), refs_of oss pss h.1)
+refs_of (os ∷ oss) (ps ∷ pss) h = (ref_use (drop 1 os) (drop 1 ps) (equivalent_length (drop 1 os) (drop 1 ps) (drop_equivalent 1 os ps h.0)), refs_of oss pss h.1)
 
-refs_covered : (ss ts : List SetOffsets) → AllSetsAlike ss ts
+refs_covered : (ss ts : List SetOffsets) → AllSetsEquivalent ss ts
     → AreCoveredUses offsets_bytes offsets_bytes (flat_map (λ s. map (λ offs. unless_empty (drop 1 offs)) s.methods) ss) (flat_map (λ s. map (λ offs. unless_empty (drop 1 offs)) s.methods) ts)
 refs_covered [] [] h = tt
 refs_covered [] (t ∷ ts) h = absurd h
@@ -275,15 +275,15 @@ unless_by true false x y e le = absurd cc
 unless_by false true x y e le = absurd cc
 unless_by false false x y e le = le
 
-sum_alike : (o p n k : ℕ) → AreAlike o p → n ≡ k → (o + n == 0) ≡ (p + k == 0)
-sum_alike o p n k (inl h) e = zero_alike (o + n) (p + k) (by n k e h)
+sum_equivalent : (o p n k : ℕ) → AreEquivalent o p → n ≡ k → (o + n == 0) ≡ (p + k == 0)
+sum_equivalent o p n k (inl h) e = zero_equivalent (o + n) (p + k) (by n k e h)
   where
-    by : (n k : ℕ) → n ≡ k → (o ≡ 0) × (p ≡ 0) → AreAlike (o + n) (p + k)
+    by : (n k : ℕ) → n ≡ k → (o ≡ 0) × (p ≡ 0) → AreEquivalent (o + n) (p + k)
     by zero zero e h = inl (omega (arith, h.0), omega (arith, h.1))
     by zero (suc k) e h = absurd (omega (arith, e))
     by (suc n) zero e h = absurd (omega (arith, e))
     by (suc n) (suc k) e h = inr (omega arith, omega arith)
-sum_alike o p n k (inr h) e = zero_alike (o + n) (p + k) (inr (omega (arith, h.0), omega (arith, h.1)))
+sum_equivalent o p n k (inr h) e = zero_equivalent (o + n) (p + k) (inr (omega (arith, h.0), omega (arith, h.1)))
 
 directory_parts : (own : ℕ) (x y z : List (ℕ × ℕ)) → length (uint own ++ (uint (length x) ++ (uint (length y) ++ (uint (length z) ++ (pairs_bytes x ++ (pairs_bytes y ++ pairs_bytes z)))))) ≡ 16 + (8 * length x + (8 * length y + 8 * length z))
 directory_parts own x y z =
@@ -305,20 +305,20 @@ directory_parts own x y z =
       length-pairs_bytes z,
     )
 
-directory_use : (m : Mentions) (d : Definition) (s t : SetOffsets) (os ps : List ℕ) → AreSetsAlike s t → AllAlike os ps → IsCoveredUse bytes bytes (directory_bytes m d s os) (directory_bytes m d t ps)
+directory_use : (m : Mentions) (d : Definition) (s t : SetOffsets) (os ps : List ℕ) → AreSetsEquivalent s t → AllEquivalent os ps → IsCoveredUse bytes bytes (directory_bytes m d s os) (directory_bytes m d t ps)
 directory_use m (name, c) s t os ps h k =
     let fields = map (λ f. field_index m (field_of name f)) (declared_fields c) in
     let methods = map (λ x. method_index m (method_of name x)) (declared_methods c) in
     let sm = map (λ (offs : List ℕ). slice_index offs 0) s.methods in
     let tm = map (λ (offs : List ℕ). slice_index offs 0) t.methods in
-    let one : length (pairs fields s.fields) ≡ length (pairs fields t.fields) = pairs_alike fields s.fields t.fields h.fields in
-    let two : length (pairs methods sm) ≡ length (pairs methods tm) = pairs_alike methods sm tm (firsts_alike s.methods t.methods h.methods) in
-    let three : length (pairs methods os) ≡ length (pairs methods ps) = pairs_alike methods os ps k in
+    let one : length (pairs fields s.fields) ≡ length (pairs fields t.fields) = pairs_equivalent fields s.fields t.fields h.fields in
+    let two : length (pairs methods sm) ≡ length (pairs methods tm) = pairs_equivalent methods sm tm (firsts_equivalent s.methods t.methods h.methods) in
+    let three : length (pairs methods os) ≡ length (pairs methods ps) = pairs_equivalent methods os ps k in
     let all : length (pairs fields s.fields) + (length (pairs methods sm) + length (pairs methods os)) ≡ length (pairs fields t.fields) + (length (pairs methods tm) + length (pairs methods ps)) = omega (arith, one, two, three) in
-    unless_by _ _ _ _ (sum_alike s.own t.own _ _ h.own all)
+    unless_by _ _ _ _ (sum_equivalent s.own t.own _ _ h.own all)
     (omega (arith, directory_parts s.own (pairs fields s.fields) (pairs methods sm) (pairs methods os), directory_parts t.own (pairs fields t.fields) (pairs methods tm) (pairs methods ps), one, two, three))
 
-directories_covered : (m : Mentions) (cs : List Definition) (ss ts : List SetOffsets) (oss pss : List (List ℕ)) → AllSetsAlike ss ts → ListsAlike oss pss
+directories_covered : (m : Mentions) (cs : List Definition) (ss ts : List SetOffsets) (oss pss : List (List ℕ)) → AllSetsEquivalent ss ts → ListsEquivalent oss pss
     → AreCoveredUses bytes bytes (zip_with (λ d p. directory_bytes m d p.0 p.1) cs (zip ss oss)) (zip_with (λ d p. directory_bytes m d p.0 p.1) cs (zip ts pss))
 directories_covered m [] ss ts oss pss h k = tt
 directories_covered m (d ∷ cs) [] [] oss pss h k = tt
@@ -521,21 +521,21 @@ module _ (cs : List Definition) (m : Mentions) where
   length-set_places : (J : Ordered) → length (set_places J) ≡ length (set_uses J)
   length-set_places J = length-items_offsets J.sharing same_set (set_uses J) (offsets (set_section J))
 
-  set_places_alike : AllAlike (set_places K) (set_places L)
-  set_places_alike =
-      alike_from (set_places K) (set_places L) (length-set_places K ∙ sym (length-set_places L))
+  set_places_equivalent : AllEquivalent (set_places K) (set_places L)
+  set_places_equivalent =
+      equivalent_from (set_places K) (set_places L) (length-set_places K ∙ sym (length-set_places L))
       (λ k lt.
       let less : k < length (set_uses K) = omega (arith, lt, length-set_places K) in
-      marks_alike (get_or (set_uses K) k None) (slice_index (set_places K) k) (slice_index (set_places L) k) (set_marked K k less) (set_marked L k less))
+      marks_equivalent (get_or (set_uses K) k None) (slice_index (set_places K) k) (slice_index (set_places L) k) (set_marked K k less) (set_marked L k less))
 
-  sets_alike : AllSetsAlike (set_offsets K) (set_offsets L)
+  sets_equivalent : AllSetsEquivalent (set_offsets K) (set_offsets L)
   unfolding set_offsets
-  sets_alike =
+  sets_equivalent =
       let counts = map (λ d. length (class_sets d)) cs in
-      sets_by_alike cs (chunks counts (set_places K)) (chunks counts (set_places L)) (chunks_alike counts (set_places K) (set_places L) set_places_alike)
+      sets_by_equivalent cs (chunks counts (set_places K)) (chunks counts (set_places L)) (chunks_equivalent counts (set_places K) (set_places L) set_places_equivalent)
 
   ref_uses_covered : AreCoveredUses offsets_bytes offsets_bytes (ref_list_uses K (set_offsets K)) (ref_list_uses L (set_offsets L))
-  ref_uses_covered = refs_covered (set_offsets K) (set_offsets L) sets_alike
+  ref_uses_covered = refs_covered (set_offsets K) (set_offsets L) sets_equivalent
 
   ref_lists_covered : IsCovered (ref_list_section K).items (ref_list_section L).items
   ref_lists_covered = covered_present offsets_bytes offsets_bytes (ref_list_uses K (set_offsets K)) (ref_list_uses L (set_offsets L)) ref_uses_covered
@@ -544,19 +544,19 @@ module _ (cs : List Definition) (m : Mentions) where
   unfolding ref_list_end
   ref_list_end_most = end_covered 4 (inl refl) (set_end K) (set_end L) (ref_list_section K).items (ref_list_section L).items ref_lists_covered set_end_most
 
-  ref_places_alike : AllAlike (ref_list_offsets K) (ref_list_offsets L)
+  ref_places_equivalent : AllEquivalent (ref_list_offsets K) (ref_list_offsets L)
   unfolding ref_list_offsets
-  ref_places_alike =
+  ref_places_equivalent =
       let us = ref_list_uses K (set_offsets K) in
       let vs = ref_list_uses L (set_offsets L) in
-      subst (λ ns. AllAlike (uses_offsets (own_numbers 0 us) (offsets (ref_list_section K))) (uses_offsets ns (offsets (ref_list_section L)))) (covered_numbers offsets_bytes offsets_bytes 0 us vs ref_uses_covered)
-      (uses_alike (offsets (ref_list_section K)) (offsets (ref_list_section L))
-      (offsets_alike 4 (set_end K) (set_end L) (ref_list_section K).items (ref_list_section L).items (covered_count offsets_bytes offsets_bytes us vs ref_uses_covered) (ref_from_some K) (ref_from_some L)) (own_numbers 0 us))
+      subst (λ ns. AllEquivalent (uses_offsets (own_numbers 0 us) (offsets (ref_list_section K))) (uses_offsets ns (offsets (ref_list_section L)))) (covered_numbers offsets_bytes offsets_bytes 0 us vs ref_uses_covered)
+      (uses_equivalent (offsets (ref_list_section K)) (offsets (ref_list_section L))
+      (offsets_equivalent 4 (set_end K) (set_end L) (ref_list_section K).items (ref_list_section L).items (covered_count offsets_bytes offsets_bytes us vs ref_uses_covered) (ref_from_some K) (ref_from_some L)) (own_numbers 0 us))
 
   directory_uses_covered : AreCoveredUses bytes bytes (directory_uses K (set_offsets K) (ref_list_offsets K)) (directory_uses L (set_offsets L) (ref_list_offsets L))
   directory_uses_covered =
-      directories_covered m cs (set_offsets K) (set_offsets L) (by_class K (ref_list_offsets K)) (by_class L (ref_list_offsets L)) sets_alike
-      (chunks_alike (map (λ d. length (declared_methods d.1)) cs) (ref_list_offsets K) (ref_list_offsets L) ref_places_alike)
+      directories_covered m cs (set_offsets K) (set_offsets L) (by_class K (ref_list_offsets K)) (by_class L (ref_list_offsets L)) sets_equivalent
+      (chunks_equivalent (map (λ d. length (declared_methods d.1)) cs) (ref_list_offsets K) (ref_list_offsets L) ref_places_equivalent)
 
   directories_are_covered : IsCovered (directory_section K).items (directory_section L).items
   directories_are_covered =

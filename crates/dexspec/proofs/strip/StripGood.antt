@@ -39,7 +39,7 @@ module _ (D : List Definition) where
   IsConflict-strip name x =
       let a = original D name x.one x.one_in in
       let b = original D name x.other x.other_in in
-      record { one = a.of; other = b.of; one_in = a.member; other_in = b.member; unlike = λ e. x.unlike (sym a.stripped ∙ ap strip_body e ∙ b.stripped) }
+      record { one = a.of; other = b.of; one_in = a.member; other_in = b.member; unequal = λ e. x.unequal (sym a.stripped ∙ ap strip_body e ∙ b.stripped) }
 
   -- ---- depths
 

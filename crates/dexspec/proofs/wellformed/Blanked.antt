@@ -11,7 +11,7 @@ use Rattle.dexspec.specs.Lists.{rises}
 use Rattle.dexspec.specs.Bytes.{signed_in}
 use Rattle.dexspec.specs.Symbols.{Pool, Symbol, pool_of}
 use Rattle.dexspec.specs.Opcodes.{Format, F10x, F12x, F11n, F11x, F10t, F20t, F22x, F21t, F21s, F21h, F21c, F23x, F22b, F22s, F22t, F22c, F30t, F32x, F31i, F31t, F31c, F35c, F3rc, F51l, Opcode, opcode_of, units_in}
-use Rattle.dexspec.specs.Pieces.{piece_size, payload_size, instruction_size, payload_units, is_payload_in_order, packed_switch_ident, sparse_switch_ident, is_payload_ident, is_first_unit, ints_in, Piece, Instruction, Payload, units_of, StandsForPiece, index_pool, index_in, is_wide_index, with_index, two_units, low_byte}
+use Rattle.dexspec.specs.Pieces.{piece_size, payload_size, instruction_size, payload_units, is_payload_in_order, packed_switch_ident, sparse_switch_ident, is_payload_ident, is_first_unit, ints_in, Piece, Instruction, Payload, units_of, DenotesPiece, index_pool, index_in, is_wide_index, with_index, two_units, low_byte}
 use Rattle.dexspec.proofs.lists.Members.{and_first, and_second, and_both}
 use Rattle.dexspec.proofs.wellformed.ShortStrings.{first_kept}
 
@@ -41,7 +41,7 @@ length_put w true = length-set (slice_set w 1 0) 2 0 ∙ length-set w 1 0
 length_put w false = length-set w 1 0
 
 -- units that encode a piece have this relation
-pub blank : (N : ℕ → Symbol → Type 0) (w : List ℕ) (p : Piece) → StandsForPiece N w p → Blank w (units_of p)
+pub blank : (N : ℕ → Symbol → Type 0) (w : List ℕ) (p : Piece) → DenotesPiece N w p → Blank w (units_of p)
 blank N w (Instruction xs None) h = record { size = ap length h.2; first = ap (λ (ys : List ℕ). slice_index ys 0) h.2; same = λ _. h.2 }
 blank N w (Instruction xs (Some s)) h = record {
   size = ap length h.2 ∙ length_put w (is_wide_index w);
@@ -78,7 +78,7 @@ put_again w true =
 put_again w false = zero_again (slice_set w 1 0) 1 (set_zero w 1)
 
 -- without its index a piece encodes itself, with zero for the index
-pub zeroed : (N : ℕ → Symbol → Type 0) (w : List ℕ) (p : Piece) → StandsForPiece N w p → StandsForPiece IsZero (units_of p) p
+pub zeroed : (N : ℕ → Symbol → Type 0) (w : List ℕ) (p : Piece) → DenotesPiece N w p → DenotesPiece IsZero (units_of p) p
 zeroed N w (Instruction xs None) h = (subst (λ (ys : List ℕ). is_payload_ident (slice_index ys 0) ≡ false) (sym h.2) h.0, subst (λ (ys : List ℕ). index_pool ys ≡ None) (sym h.2) h.1, refl)
 zeroed N w (Instruction xs (Some s)) h =
     let t = is_wide_index w in

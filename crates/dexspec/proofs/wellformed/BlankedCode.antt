@@ -10,7 +10,7 @@ use Rattle.std.proofs.lemmas.List.{get_or-take, get_or-drop, drop-drop}
 use Rattle.dexspec.specs.Bytes.{signed_in}
 use Rattle.dexspec.specs.Symbols.{Pool, Symbol}
 use Rattle.dexspec.specs.Opcodes.{Format, F10t, F20t, F21t, F22t, F30t, F31t, Opcode, OpcodeRun, opcode_runs, opcode_of, units_in, is_in_run}
-use Rattle.dexspec.specs.Pieces.{Cut, AreCut, piece_size, packed_switch_ident, sparse_switch_ident, array_data_ident, is_payload_ident, payload_ident, payload_targets, ints_in, branch_offset, leads_right, all_of_option, is_instruction_start, is_payload_start, has_right_targets, IsCode, Piece, units_of, StandsForPiece, low_byte, high_byte, cut_units}
+use Rattle.dexspec.specs.Pieces.{Cut, AreCut, piece_size, packed_switch_ident, sparse_switch_ident, array_data_ident, is_payload_ident, payload_ident, payload_targets, ints_in, branch_offset, is_right_target, all_of_option, is_instruction_start, is_payload_start, has_right_targets, IsCode, Piece, units_of, DenotesPiece, low_byte, high_byte, cut_units}
 use Rattle.dexspec.proofs.lists.Members.{and_first, and_second, and_both, Contains-nil, Contains-first, Contains-later, Contains-cons_cases, list_any-source, list_all-member, list_all-from_members}
 use Rattle.std.specs.Prelude.{IsTrue}
 use Rattle.std.proofs.lemmas.List.Elements.{All-contains}
@@ -20,30 +20,30 @@ use Rattle.dexspec.proofs.wellformed.Blanked.{IsZero, pool_at, blank, zeroed, if
 -- ---- pieces in sequence
 
 -- the units encode the pieces in sequence
-abbrev pub AreStanding : (ℕ → Symbol → Type 0) → List ℕ → List Cut → List Piece → Type 0
-AreStanding N us [] [] = Unit {0}
-AreStanding N us [] (p ∷ ps) = ⊥
-AreStanding N us (c ∷ cs) [] = ⊥
-AreStanding N us (c ∷ cs) (p ∷ ps) = StandsForPiece N (take c.units us) p × AreStanding N (drop c.units us) cs ps
+abbrev pub AreDenoted : (ℕ → Symbol → Type 0) → List ℕ → List Cut → List Piece → Type 0
+AreDenoted N us [] [] = Unit {0}
+AreDenoted N us [] (p ∷ ps) = ⊥
+AreDenoted N us (c ∷ cs) [] = ⊥
+AreDenoted N us (c ∷ cs) (p ∷ ps) = DenotesPiece N (take c.units us) p × AreDenoted N (drop c.units us) cs ps
 
 -- from the whole to the rest
-pub standing : (N : ℕ → Symbol → Type 0) (all : List ℕ) (at : ℕ) (us : List ℕ) (cs : List Cut) (ps : List Piece) → drop at all ≡ us → AreCut at us cs [] → AllZip (λ c p. StandsForPiece N (cut_units all c) p) cs ps → AreStanding N us cs ps
-standing N all at us [] [] e h g = tt
-standing N all at us [] (p ∷ ps) e h g = absurd g
-standing N all at us (c ∷ cs) [] e h g = absurd g
-standing N all at us (c ∷ cs) (p ∷ ps) e h g = (
-  subst (λ (ys : List ℕ). StandsForPiece N (take c.units ys) p) (ap (λ (k : ℕ). drop k all) h.0 ∙ e) g.0,
-  standing N all (at + c.units) (drop c.units us) cs ps (sym (drop-drop c.units at all) ∙ ap (drop c.units) e) h.2 g.1,
+pub pieces_denoted : (N : ℕ → Symbol → Type 0) (all : List ℕ) (at : ℕ) (us : List ℕ) (cs : List Cut) (ps : List Piece) → drop at all ≡ us → AreCut at us cs [] → AllZip (λ c p. DenotesPiece N (cut_units all c) p) cs ps → AreDenoted N us cs ps
+pieces_denoted N all at us [] [] e h g = tt
+pieces_denoted N all at us [] (p ∷ ps) e h g = absurd g
+pieces_denoted N all at us (c ∷ cs) [] e h g = absurd g
+pieces_denoted N all at us (c ∷ cs) (p ∷ ps) e h g = (
+  subst (λ (ys : List ℕ). DenotesPiece N (take c.units ys) p) (ap (λ (k : ℕ). drop k all) h.0 ∙ e) g.0,
+  pieces_denoted N all (at + c.units) (drop c.units us) cs ps (sym (drop-drop c.units at all) ∙ ap (drop c.units) e) h.2 g.1,
 )
 
 -- from the rest to the whole
-pub standing_back : (N : ℕ → Symbol → Type 0) (all : List ℕ) (at : ℕ) (us : List ℕ) (cs : List Cut) (ps : List Piece) → drop at all ≡ us → AreCut at us cs [] → AreStanding N us cs ps → AllZip (λ c p. StandsForPiece N (cut_units all c) p) cs ps
-standing_back N all at us [] [] e h g = tt
-standing_back N all at us [] (p ∷ ps) e h g = absurd g
-standing_back N all at us (c ∷ cs) [] e h g = absurd g
-standing_back N all at us (c ∷ cs) (p ∷ ps) e h g = (
-  subst (λ (ys : List ℕ). StandsForPiece N (take c.units ys) p) (sym (ap (λ (k : ℕ). drop k all) h.0 ∙ e)) g.0,
-  standing_back N all (at + c.units) (drop c.units us) cs ps (sym (drop-drop c.units at all) ∙ ap (drop c.units) e) h.2 g.1,
+pub pieces_denoted_back : (N : ℕ → Symbol → Type 0) (all : List ℕ) (at : ℕ) (us : List ℕ) (cs : List Cut) (ps : List Piece) → drop at all ≡ us → AreCut at us cs [] → AreDenoted N us cs ps → AllZip (λ c p. DenotesPiece N (cut_units all c) p) cs ps
+pieces_denoted_back N all at us [] [] e h g = tt
+pieces_denoted_back N all at us [] (p ∷ ps) e h g = absurd g
+pieces_denoted_back N all at us (c ∷ cs) [] e h g = absurd g
+pieces_denoted_back N all at us (c ∷ cs) (p ∷ ps) e h g = (
+  subst (λ (ys : List ℕ). DenotesPiece N (take c.units ys) p) (sym (ap (λ (k : ℕ). drop k all) h.0 ∙ e)) g.0,
+  pieces_denoted_back N all (at + c.units) (drop c.units us) cs ps (sym (drop-drop c.units at all) ∙ ap (drop c.units) e) h.2 g.1,
 )
 
 -- an element of the first part
@@ -62,11 +62,11 @@ pub record KeptCut (at : ℕ) (us vs : List ℕ) (c : Cut) : Type 0 where
 record Blanked (at : ℕ) (us vs : List ℕ) (cs : List Cut) (ps : List Piece) : Type 0 where
   size : length vs ≡ length us
   cut : AreCut at vs cs []
-  stands : AreStanding IsZero vs cs ps
+  encodes : AreDenoted IsZero vs cs ps
   kept : (c : Cut) → Contains cs c → KeptCut at us vs c
 
 -- one piece is kept
-kept_first : (N : ℕ → Symbol → Type 0) (us rest : List ℕ) (p : Piece) (n : ℕ) → n ≤ length us → 0 < n → StandsForPiece N (take n us) p → Kept us (units_of p ++ rest) n
+kept_first : (N : ℕ → Symbol → Type 0) (us rest : List ℕ) (p : Piece) (n : ℕ) → n ≤ length us → 0 < n → DenotesPiece N (take n us) p → Kept us (units_of p ++ rest) n
 kept_first N us rest p n le some h =
     let b = blank N (take n us) p h in
     let size : length (units_of p) ≡ n = omega (arith, b.size, length-take n us, le) in
@@ -79,8 +79,8 @@ kept_first N us rest p n le some h =
     }
 
 -- pieces without their indices are cut as they were
-blanked : (N : ℕ → Symbol → Type 0) (at : ℕ) (us : List ℕ) (cs : List Cut) (ps : List Piece) → AreCut at us cs [] → AreStanding N us cs ps → Blanked at us (flat_map units_of ps) cs ps
-blanked N at us [] [] h g = record { size = ap length (sym h); cut = refl; stands = tt; kept = λ c m. absurd (Contains-nil c m) }
+blanked : (N : ℕ → Symbol → Type 0) (at : ℕ) (us : List ℕ) (cs : List Cut) (ps : List Piece) → AreCut at us cs [] → AreDenoted N us cs ps → Blanked at us (flat_map units_of ps) cs ps
+blanked N at us [] [] h g = record { size = ap length (sym h); cut = refl; encodes = tt; kept = λ c m. absurd (Contains-nil c m) }
 blanked N at us [] (p ∷ ps) h g = absurd g
 blanked N at us (c ∷ cs) [] h g = absurd g
 blanked N at us (c ∷ cs) (p ∷ ps) h g =
@@ -106,7 +106,7 @@ blanked N at us (c ∷ cs) (p ∷ ps) h g =
     record {
       size = size;
       cut = (h.0, piece, subst (λ (ys : List ℕ). AreCut (at + c.units) ys cs []) (sym dropped) r.cut);
-      stands = (subst (λ (ys : List ℕ). StandsForPiece IsZero ys p) (sym taken) (zeroed N (take c.units us) p g.0), subst (λ (ys : List ℕ). AreStanding IsZero ys cs ps) (sym dropped) r.stands);
+      encodes = (subst (λ (ys : List ℕ). DenotesPiece IsZero ys p) (sym taken) (zeroed N (take c.units us) p g.0), subst (λ (ys : List ℕ). AreDenoted IsZero ys cs ps) (sym dropped) r.encodes);
       kept = λ d m. elim (Contains-cons_cases c d cs m) [
         | inl e ↦ subst (KeptCut at us vs) e here
         | inr l ↦
@@ -289,8 +289,8 @@ module _ (us vs : List ℕ) (cs : List Cut) (keeps : (c : Cut) → Contains cs c
       ]
 
   -- valid targets stay valid
-  leads_same : (c : Cut) → Contains cs c → (f : Format) (offset : ℤ) → leads_right us cs c.unit f offset ≡ true → leads_right vs cs c.unit f offset ≡ true
-  leads_same c m F31t offset e =
+  same_target : (c : Cut) → Contains cs c → (f : Format) (offset : ℤ) → is_right_target us cs c.unit f offset ≡ true → is_right_target vs cs c.unit f offset ≡ true
+  same_target c m F31t offset e =
       let z = pos c.unit +ℤ offset in
       let ident = payload_ident (low_byte (slice_index us c.unit)) in
       let start = and_first (is_payload_start ident us cs z) (list_all (λ target. is_instruction_start us cs (pos c.unit +ℤ target)) (payload_targets us (nat_abs z))) e in
@@ -308,11 +308,11 @@ module _ (us vs : List ℕ) (cs : List Cut) (keeps : (c : Cut) → Contains cs c
       instruction_same (pos c.unit +ℤ target) ∙ list_all-member (λ goal. is_instruction_start us cs (pos c.unit +ℤ goal)) (payload_targets us (nat_abs z)) target goes k) in
       let all_vs : list_all (λ target. is_instruction_start vs cs (pos c.unit +ℤ target)) (payload_targets vs (nat_abs z)) ≡ true = ap (list_all (λ target. is_instruction_start vs cs (pos c.unit +ℤ target))) targets ∙ all_us in
       and_both (is_payload_start (payload_ident (low_byte (slice_index vs c.unit))) vs cs z) (list_all (λ target. is_instruction_start vs cs (pos c.unit +ℤ target)) (payload_targets vs (nat_abs z))) starts all_vs
-  leads_same c m f offset e = instruction_same (pos c.unit +ℤ offset) ∙ e
+  same_target c m f offset e = instruction_same (pos c.unit +ℤ offset) ∙ e
 
   -- the targets of a piece in units
   abbrev Right : List ℕ → Cut → Bool
-  Right xs c = all_of_option (λ op. all_of_option (leads_right xs cs c.unit op.format) (branch_offset op.format xs c.unit)) (opcode_of (low_byte (slice_index xs c.unit)))
+  Right xs c = all_of_option (λ op. all_of_option (is_right_target xs cs c.unit op.format) (branch_offset op.format xs c.unit)) (opcode_of (low_byte (slice_index xs c.unit)))
 
   -- case split on whether it is a payload
   right_by : (c : Cut) → Contains cs c → (t : Bool) → is_payload_ident (slice_index us c.unit) ≡ t → (is_payload_ident (slice_index us c.unit) || Right us c) ≡ true → (is_payload_ident (slice_index vs c.unit) || Right vs c) ≡ true
@@ -324,12 +324,12 @@ module _ (us vs : List ℕ) (cs : List Cut) (keeps : (c : Cut) → Contains cs c
         let is : opcode_of (low_byte (slice_index us c.unit)) ≡ Some op = ap (λ (u : ℕ). opcode_of (low_byte u)) (sym (read us c.unit)) ∙ p.is in
         let is_too : opcode_of (low_byte (slice_index vs c.unit)) ≡ Some op = ap (λ (u : ℕ). opcode_of (low_byte u)) (unit_at c m) ∙ is in
         let pool : pool_at (slice_index us c.unit) ≡ op.index = if_false (is_payload_ident (slice_index us c.unit)) None (option_and_then (λ (o : Opcode). o.index) (opcode_of (low_byte (slice_index us c.unit)))) e ∙ ap (option_and_then (λ (o : Opcode). o.index)) is in
-        let own : all_of_option (leads_right us cs c.unit op.format) (branch_offset op.format us c.unit) ≡ true =
-        sym (ap (all_of_option (λ (o : Opcode). all_of_option (leads_right us cs c.unit o.format) (branch_offset o.format us c.unit))) is) ∙ or_other (is_payload_ident (slice_index us c.unit)) (Right us c) e h in
+        let own : all_of_option (is_right_target us cs c.unit op.format) (branch_offset op.format us c.unit) ≡ true =
+        sym (ap (all_of_option (λ (o : Opcode). all_of_option (is_right_target us cs c.unit o.format) (branch_offset o.format us c.unit))) is) ∙ or_other (is_payload_ident (slice_index us c.unit)) (Right us c) e h in
         let branch = branch_by us vs c.unit op.format op.index (opcode_goes_alone (low_byte (slice_index us c.unit)) op is) (unit_at c m) (λ none k le lt. unit_within c m (pool ∙ none) k le (omega (arith, lt, p.units))) in
-        let still : all_of_option (leads_right vs cs c.unit op.format) (branch_offset op.format vs c.unit) ≡ true =
-        ap (all_of_option (leads_right vs cs c.unit op.format)) branch ∙ all_weaker (leads_right us cs c.unit op.format) (leads_right vs cs c.unit op.format) (branch_offset op.format us c.unit) (leads_same c m op.format) own in
-        or_right (is_payload_ident (slice_index vs c.unit)) (Right vs c) (ap (all_of_option (λ (o : Opcode). all_of_option (leads_right vs cs c.unit o.format) (branch_offset o.format vs c.unit))) is_too ∙ still)
+        let still : all_of_option (is_right_target vs cs c.unit op.format) (branch_offset op.format vs c.unit) ≡ true =
+        ap (all_of_option (is_right_target vs cs c.unit op.format)) branch ∙ all_weaker (is_right_target us cs c.unit op.format) (is_right_target vs cs c.unit op.format) (branch_offset op.format us c.unit) (same_target c m op.format) own in
+        or_right (is_payload_ident (slice_index vs c.unit)) (Right vs c) (ap (all_of_option (λ (o : Opcode). all_of_option (is_right_target vs cs c.unit o.format) (branch_offset o.format vs c.unit))) is_too ∙ still)
   ]
 
   -- valid targets stay valid
@@ -343,14 +343,14 @@ module _ (us vs : List ℕ) (cs : List Cut) (keeps : (c : Cut) → Contains cs c
 pub record BlankedCode (us : List ℕ) (cs : List Cut) (ps : List Piece) : Type 0 where
   pub size : length (flat_map units_of ps) ≡ length us
   pub code : IsCode (flat_map units_of ps) cs
-  pub pieces : AllZip (λ c p. StandsForPiece IsZero (cut_units (flat_map units_of ps) c) p) cs ps
+  pub pieces : AllZip (λ c p. DenotesPiece IsZero (cut_units (flat_map units_of ps) c) p) cs ps
   pub starts : (z : ℤ) → is_instruction_start (flat_map units_of ps) cs z ≡ is_instruction_start us cs z
 
 -- code without its indices is code
-pub blanked_code : (N : ℕ → Symbol → Type 0) (us : List ℕ) (cs : List Cut) (ps : List Piece) → IsCode us cs → AllZip (λ c p. StandsForPiece N (cut_units us c) p) cs ps → BlankedCode us cs ps
+pub blanked_code : (N : ℕ → Symbol → Type 0) (us : List ℕ) (cs : List Cut) (ps : List Piece) → IsCode us cs → AllZip (λ c p. DenotesPiece N (cut_units us c) p) cs ps → BlankedCode us cs ps
 blanked_code N us cs ps code pieces =
     let vs = flat_map units_of ps in
-    let b = blanked N 0 us cs ps code.cut (standing N us 0 us cs ps refl code.cut pieces) in
+    let b = blanked N 0 us cs ps code.cut (pieces_denoted N us 0 us cs ps refl code.cut pieces) in
     let keeps = λ (c : Cut) (m : Contains cs c). kept_piece us vs c (b.kept c m) in
     record {
       size = b.size;
@@ -359,6 +359,6 @@ blanked_code N us cs ps code pieces =
         cut = b.cut;
         targets = all_from (λ (c : Cut). IsTrue (has_right_targets vs cs c)) cs (λ c m. right_same us vs cs keeps c m (All-contains (λ (d : Cut). IsTrue (has_right_targets us cs d)) cs c code.targets m));
       };
-      pieces = standing_back IsZero vs 0 vs cs ps refl b.cut b.stands;
+      pieces = pieces_denoted_back IsZero vs 0 vs cs ps refl b.cut b.encodes;
       starts = instruction_same us vs cs keeps;
     }

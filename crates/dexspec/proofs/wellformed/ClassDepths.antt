@@ -31,7 +31,7 @@ module _ (b : List ℕ) (h : HasClasses b) where
   same_class_index : (r s : ℕ) → r < table_size b ClassDefs → s < table_size b ClassDefs → class_idx b r ≡ class_idx b s → r ≡ s
   same_class_index r s lt less e = elim (cases_lt r s) [
     | inl before ↦ absurd ((h.classes s less).first r before e)
-    | inr ge ↦ elim (cases_lt s r) [ inl behind ↦ absurd ((h.classes r lt).first s behind (sym e)) | inr le ↦ omega arith ]
+    | inr ge ↦ elim (cases_lt s r) [ inl following ↦ absurd ((h.classes r lt).first s following (sym e)) | inr le ↦ omega arith ]
   ]
 
   -- the superclass has an index

@@ -11,16 +11,16 @@ use Rattle.dexspec.specs.Texts.{AreUnits}
 use Rattle.dexspec.specs.Symbols.{Pool, pool_of}
 use Rattle.dexspec.specs.Opcodes.{Format, F31c, Opcode, OpcodeRun, opcode_runs, opcode_of, units_in, is_in_run}
 use Rattle.dexspec.specs.Rows.{SymbolRow}
-use Rattle.dexspec.specs.Pieces.{Cut, AreCut, piece_size, is_payload_ident, is_instruction_start, has_right_targets, IsCode, Piece, Instruction, Payload, units_of, StandsForPiece, index_pool, index_in, is_wide_index, with_index, two_units, low_byte, cut_units}
+use Rattle.dexspec.specs.Pieces.{Cut, AreCut, piece_size, is_payload_ident, is_instruction_start, has_right_targets, IsCode, Piece, Instruction, Payload, units_of, DenotesPiece, index_pool, index_in, is_wide_index, with_index, two_units, low_byte, cut_units}
 use Rattle.dexspec.specs.Mentions.{Mentions, piece_symbols}
 use Rattle.dexspec.specs.Spellings.{symbol_index, piece_units}
-use Rattle.dexspec.specs.Aside.IndexPlaces.{IndexFits}
+use Rattle.dexspec.specs.internal.IndexPlaces.{IndexFits}
 use Rattle.dexspec.proofs.lists.Members.{Contains-nil, Contains-first, Contains-later, Contains-cons_cases, Contains-flat_map, Contains-flat_map_source}
 use Rattle.dexspec.proofs.wellformed.FormedRows.{all_from}
 use Rattle.dexspec.proofs.wellformed.ShortStrings.{first_kept}
 use Rattle.dexspec.proofs.wellformed.Blanked.{IsZero, pool_at, Blank, zeroed, if_true, if_false, piece_is, Kept, piece_same, piece_bounds}
-use Rattle.dexspec.proofs.wellformed.BlankedCode.{AreStanding, standing, standing_back, append_left, KeptCut, kept_piece, found_passes, mapped_some, instruction_same, right_same}
-use Rattle.dexspec.proofs.written.NumbersWritten.{AreInRows, first_in_row, front_in_rows, back_in_rows}
+use Rattle.dexspec.proofs.wellformed.BlankedCode.{AreDenoted, pieces_denoted, pieces_denoted_back, append_left, KeptCut, kept_piece, found_passes, mapped_some, instruction_same, right_same}
+use Rattle.dexspec.proofs.written.NumbersWritten.{AreInRows, first_in_row, prefix_in_rows, back_in_rows}
 
 -- ---- an index that is set
 
@@ -117,7 +117,7 @@ index_room at n us p h e = elim (piece_is at us n h) [
 
 module _ (b : List ℕ) (m : Mentions) where
   -- a piece with its index, related to the units without it
-  fill : (w : List ℕ) (p : Piece) → StandsForPiece IsZero w p → Blank w (piece_units m p)
+  fill : (w : List ℕ) (p : Piece) → DenotesPiece IsZero w p → Blank w (piece_units m p)
   fill w (Instruction xs None) h = record { size = ap length h.2; first = ap (λ (ys : List ℕ). slice_index ys 0) h.2; same = λ _. h.2 }
   fill w (Instruction xs (Some s)) h =
       let i = symbol_index m s in record {
@@ -128,7 +128,7 @@ module _ (b : List ℕ) (m : Mentions) where
   fill w (Payload xs) h = record { size = ap length h.1; first = ap (λ (ys : List ℕ). slice_index ys 0) h.1; same = λ _. h.1 }
 
   -- it encodes the piece
-  named : (at n : ℕ) (us : List ℕ) (p : Piece) → n ≤ length us → 0 < n → piece_size at us ≡ Some n → StandsForPiece IsZero (take n us) p → AreInRows b m (piece_symbols p) → IndexFits m p → StandsForPiece (SymbolRow b) (piece_units m p) p
+  named : (at n : ℕ) (us : List ℕ) (p : Piece) → n ≤ length us → 0 < n → piece_size at us ≡ Some n → DenotesPiece IsZero (take n us) p → AreInRows b m (piece_symbols p) → IndexFits m p → DenotesPiece (SymbolRow b) (piece_units m p) p
   named at n us (Instruction xs None) le some size h are fits = zeroed IsZero (take n us) (Instruction xs None) h
   named at n us (Instruction xs (Some s)) le some size h are fits =
       let w = take n us in
@@ -154,11 +154,11 @@ module _ (b : List ℕ) (m : Mentions) where
   record Filled (at : ℕ) (us vs : List ℕ) (cs : List Cut) (ps : List Piece) : Type 0 where
     size : length vs ≡ length us
     cut : AreCut at vs cs []
-    stands : AreStanding (SymbolRow b) vs cs ps
+    encodes : AreDenoted (SymbolRow b) vs cs ps
     kept : (c : Cut) → Contains cs c → KeptCut at us vs c
 
   -- one piece is kept
-  kept_first : (us rest : List ℕ) (p : Piece) (n : ℕ) → n ≤ length us → 0 < n → StandsForPiece IsZero (take n us) p → Kept us (piece_units m p ++ rest) n
+  kept_first : (us rest : List ℕ) (p : Piece) (n : ℕ) → n ≤ length us → 0 < n → DenotesPiece IsZero (take n us) p → Kept us (piece_units m p ++ rest) n
   kept_first us rest p n le some h =
       let x = piece_units m p in
       let f = fill (take n us) p h in
@@ -172,8 +172,8 @@ module _ (b : List ℕ) (m : Mentions) where
       }
 
   -- pieces with their indices are cut as they were
-  filled : (at : ℕ) (us : List ℕ) (cs : List Cut) (ps : List Piece) → AreCut at us cs [] → AreStanding IsZero us cs ps → AreInRows b m (flat_map piece_symbols ps) → ((p : Piece) → Contains ps p → IndexFits m p) → Filled at us (flat_map (piece_units m) ps) cs ps
-  filled at us [] [] h g are fits = record { size = ap length (sym h); cut = refl; stands = tt; kept = λ c m. absurd (Contains-nil c m) }
+  filled : (at : ℕ) (us : List ℕ) (cs : List Cut) (ps : List Piece) → AreCut at us cs [] → AreDenoted IsZero us cs ps → AreInRows b m (flat_map piece_symbols ps) → ((p : Piece) → Contains ps p → IndexFits m p) → Filled at us (flat_map (piece_units m) ps) cs ps
+  filled at us [] [] h g are fits = record { size = ap length (sym h); cut = refl; encodes = tt; kept = λ c m. absurd (Contains-nil c m) }
   filled at us [] (p ∷ ps) h g are fits = absurd g
   filled at us (c ∷ cs) [] h g are fits = absurd g
   filled at us (c ∷ cs) (p ∷ ps) h g are fits =
@@ -190,7 +190,7 @@ module _ (b : List ℕ) (m : Mentions) where
       let piece = piece_same at c.units us vs size kept h.1 in
       let taken : take c.units vs ≡ x = ap (λ (k : ℕ). take k vs) (sym len) ∙ take_at x others (length x) refl in
       let dropped : drop c.units vs ≡ others = ap (λ (k : ℕ). drop k vs) (sym len) ∙ drop_at x others (length x) refl in
-      let stands = named at c.units us p bounds.1 bounds.0 h.1 g.0 (front_in_rows b m (piece_symbols p) (flat_map piece_symbols ps) are) (fits p (Contains-first p ps)) in
+      let encodes = named at c.units us p bounds.1 bounds.0 h.1 g.0 (prefix_in_rows b m (piece_symbols p) (flat_map piece_symbols ps) are) (fits p (Contains-first p ps)) in
       let here : KeptCut at us vs c =
       let none : 0 ≡ c.unit - at = omega (arith, h.0) in
       record {
@@ -201,7 +201,7 @@ module _ (b : List ℕ) (m : Mentions) where
       record {
         size = size;
         cut = (h.0, piece, subst (λ (ys : List ℕ). AreCut (at + c.units) ys cs []) (sym dropped) r.cut);
-        stands = (subst (λ (ys : List ℕ). StandsForPiece (SymbolRow b) ys p) (sym taken) stands, subst (λ (ys : List ℕ). AreStanding (SymbolRow b) ys cs ps) (sym dropped) r.stands);
+        encodes = (subst (λ (ys : List ℕ). DenotesPiece (SymbolRow b) ys p) (sym taken) encodes, subst (λ (ys : List ℕ). AreDenoted (SymbolRow b) ys cs ps) (sym dropped) r.encodes);
         kept = λ d k. elim (Contains-cons_cases c d cs k) [
           | inl e ↦ subst (KeptCut at us vs) e here
           | inr l ↦
@@ -224,17 +224,17 @@ module _ (b : List ℕ) (m : Mentions) where
 pub record FilledCode (b : List ℕ) (us vs : List ℕ) (cs : List Cut) (ps : List Piece) : Type 0 where
   pub size : length vs ≡ length us
   pub code : IsCode vs cs
-  pub pieces : AllZip (λ c p. StandsForPiece (SymbolRow b) (cut_units vs c) p) cs ps
+  pub pieces : AllZip (λ c p. DenotesPiece (SymbolRow b) (cut_units vs c) p) cs ps
   pub starts : (z : ℤ) → is_instruction_start vs cs z ≡ is_instruction_start us cs z
   pub within : (c : Cut) → Contains cs c → c.unit < length vs
 
 -- code with its indices is code
-pub filled_code : (b : List ℕ) (m : Mentions) (cs : List Cut) (ps : List Piece) → IsCode (flat_map units_of ps) cs → AllZip (λ c p. StandsForPiece IsZero (cut_units (flat_map units_of ps) c) p) cs ps → AreInRows b m (flat_map piece_symbols ps)
+pub filled_code : (b : List ℕ) (m : Mentions) (cs : List Cut) (ps : List Piece) → IsCode (flat_map units_of ps) cs → AllZip (λ c p. DenotesPiece IsZero (cut_units (flat_map units_of ps) c) p) cs ps → AreInRows b m (flat_map piece_symbols ps)
     → ((p : Piece) → Contains ps p → IndexFits m p) → FilledCode b (flat_map units_of ps) (flat_map (piece_units m) ps) cs ps
 filled_code b m cs ps code pieces are fits =
     let us = flat_map units_of ps in
     let vs = flat_map (piece_units m) ps in
-    let f = filled b m 0 us cs ps code.cut (standing IsZero us 0 us cs ps refl code.cut pieces) are fits in
+    let f = filled b m 0 us cs ps code.cut (pieces_denoted IsZero us 0 us cs ps refl code.cut pieces) are fits in
     let keeps = λ (c : Cut) (k : Contains cs c). kept_piece us vs c (f.kept c k) in
     record {
       size = f.size;
@@ -243,7 +243,7 @@ filled_code b m cs ps code pieces are fits =
         cut = f.cut;
         targets = all_from (λ (c : Cut). IsTrue (has_right_targets vs cs c)) cs (λ c k. right_same us vs cs keeps c k (All-contains (λ (d : Cut). IsTrue (has_right_targets us cs d)) cs c code.targets k));
       };
-      pieces = standing_back (SymbolRow b) vs 0 vs cs ps refl f.cut f.stands;
+      pieces = pieces_denoted_back (SymbolRow b) vs 0 vs cs ps refl f.cut f.encodes;
       starts = instruction_same us vs cs keeps;
       within = λ c k. let bounds = piece_bounds c.unit c.units (drop c.unit us) (keeps c k).piece in omega (arith, bounds.0, bounds.1, length-drop c.unit us, f.size);
     }

@@ -9,7 +9,7 @@ use Rattle.dexspec.specs.Bytes.{uint_at, ushort_at}
 use Rattle.dexspec.specs.Texts.{Text, AreUnits}
 use Rattle.dexspec.specs.Symbols.{Symbol}
 use Rattle.dexspec.specs.Rows.{SymbolRow}
-use Rattle.dexspec.specs.Pieces.{Cut, Piece, Instruction, Payload, units_of, StandsForPiece, cut_units, is_wide_index}
+use Rattle.dexspec.specs.Pieces.{Cut, Piece, Instruction, Payload, units_of, DenotesPiece, cut_units, is_wide_index}
 use Rattle.dexspec.specs.Debug.{Operation, AdvancePc, AdvanceLine, StartLocal, StartLocalExtended, EndLocal, RestartLocal, SetPrologueEnd, SetEpilogueBegin, SetFile, Special, Debug, DebugAt, OperationAt}
 use Rattle.dexspec.specs.Code.{Catch, Handler, Try, Code, IsStart, AreApart, handlers_of, handlers_weight, most_handlers, code_units, CatchAt, CatchAllAt, HandlerAt, TryAt, TryItemsAt, TriesAt, CodeAt}
 use Rattle.dexspec.specs.Classes.{MethodDef, Body, ClassRow, MakesMethod, declared_methods}
@@ -18,7 +18,7 @@ use Rattle.dexspec.specs.WellFormed.{FitsUshort, IsHandlerOf, IsTryOf, IsOperati
 use Rattle.dexspec.specs.Conditions.{Condition}
 use Rattle.dexspec.specs.Accepted.{IsAccepted}
 use Rattle.dexspec.proofs.lists.Members.{Contains-first, Contains-flat_map_source}
-use Rattle.dexspec.proofs.written.Stands.{stands_within}
+use Rattle.dexspec.proofs.written.PlacedBytes.{is_at_within}
 use Rattle.dexspec.proofs.wellformed.Fitting.{zip_source}
 use Rattle.dexspec.proofs.lists.Sources.{sequence_source}
 use Rattle.dexspec.proofs.wellformed.ShortStrings.{ushort_bound, ushorts_bound}
@@ -68,7 +68,7 @@ debug_formed b o d small h =
       line_start = h.line_start.spelled.in_range;
       names = h.count.spelled.in_range;
       operations = all_from IsOperation d.operations (λ op c. let w = sequence_source OperationAt b place d.operations h.operations_size op h.operations c in operation_formed b w.0 op w.1 w.2);
-      few = omega (arith, operations_few b place d.operations h.operations_size h.operations, stands_within h.end, small);
+      few = omega (arith, operations_few b place d.operations h.operations_size h.operations, is_at_within h.end, small);
     }
 
 -- an optional debug program
@@ -85,7 +85,7 @@ put_units w true h = All-set (λ (u : ℕ). u < 65536) (slice_set w 1 0) 2 0 (om
 put_units w false h = All-set (λ (u : ℕ). u < 65536) w 1 0 (omega arith) h
 
 -- the units of a piece are units
-piece_units : (N : ℕ → Symbol → Type 0) (w : List ℕ) (p : Piece) → StandsForPiece N w p → AreUnits w → AreUnits (units_of p)
+piece_units : (N : ℕ → Symbol → Type 0) (w : List ℕ) (p : Piece) → DenotesPiece N w p → AreUnits w → AreUnits (units_of p)
 piece_units N w (Instruction xs None) h units = subst AreUnits (sym h.2) units
 piece_units N w (Instruction xs (Some s)) h units = subst AreUnits (sym h.2) (put_units w (is_wide_index w) units)
 piece_units N w (Payload xs) h units = subst AreUnits (sym h.1) units
@@ -174,7 +174,7 @@ code_formed b o c bytes small h =
         pieces = blanked.pieces;
         units = all_from unit vs (λ u m.
             let w = Contains-flat_map_source units_of c.pieces u m in
-            let v = zip_source (λ (cut : Cut) (q : Piece). StandsForPiece (SymbolRow b) (cut_units us cut) q) h.cuts c.pieces w.0 h.pieces.pieces w.1 in
+            let v = zip_source (λ (cut : Cut) (q : Piece). DenotesPiece (SymbolRow b) (cut_units us cut) q) h.cuts c.pieces w.0 h.pieces.pieces w.1 in
             All-contains unit (units_of w.0) u (piece_units (SymbolRow b) (cut_units us v.0) w.0 v.2 (All-take unit v.0.units (drop v.0.unit us) (All-drop unit v.0.unit us all))) w.2);
         count = omega (arith, blanked.size, length-ushorts_at b (o + 16) (uint_at b (o + 12)), uint_bound b (o + 12) bytes);
       };

@@ -52,7 +52,7 @@ module _ (b : List ℕ) where
 
   -- a text with a row
   pub text_formed : (i : ℕ) (s : Text) → StringRow b i s → IsText s
-  text_formed i s h = record { units = h.stands.1.spelled.units; count = h.stands.1.spelled.says.in_range }
+  text_formed i s h = record { units = h.encodes.1.spelled.units; count = h.encodes.1.spelled.says.in_range }
 
   -- a symbol with a row
   pub symbol_formed : (s : Symbol) → HasRow b s → IsSymbol s

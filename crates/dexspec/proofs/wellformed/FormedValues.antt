@@ -8,7 +8,7 @@ use Rattle.std.proofs.lemmas.Nat.{pow-add}
 use Rattle.std.proofs.lemmas.Int.{ints}
 use Rattle.std.proofs.lemmas.List.Elements.{All-take, All-drop}
 use Rattle.dexspec.specs.Lists.{OrNone}
-use Rattle.dexspec.specs.Bytes.{number_of, Stands, uint_at, uints_at}
+use Rattle.dexspec.specs.Bytes.{number_of, BytesAt, uint_at, uints_at}
 use Rattle.dexspec.specs.Numbers.{magnitude}
 use Rattle.dexspec.specs.Symbols.{Field, Method}
 use Rattle.dexspec.specs.Rows.{FieldRow, MethodRow}
@@ -76,7 +76,7 @@ shifted l w n le lt =
 
 module _ (b : List ℕ) (bytes : All (λ byte. byte < 256) b) where
   -- the bytes at an offset are bytes
-  bytes_in : (o first : ℕ) (xs : List ℕ) → Stands b o (first ∷ xs) → All (λ x. x < 256) xs
+  bytes_in : (o first : ℕ) (xs : List ℕ) → BytesAt b o (first ∷ xs) → All (λ x. x < 256) xs
   bytes_in o first xs h =
       let small = λ (x : ℕ). x < 256 in
       let all : All small (first ∷ xs) = subst (λ (ys : List ℕ). All small ys) h.here (All-take small (length (first ∷ xs)) (drop o b) (All-drop small o b bytes)) in
@@ -85,21 +85,21 @@ module _ (b : List ℕ) (bytes : All (λ byte. byte < 256) b) where
   -- a signed number fits the bytes of its type
   signed_room_at : (code width o : ℕ) (z : ℤ) (n : ℕ) → SignedAt code width b o z n → 2 * magnitude z < 256 ^ width
   signed_room_at code width o z n h =
-      let own = signed_in_room h.0 z (bytes_in o (value_byte (length h.0 - 1) code) h.0 h.1.stands) h.1.some (sym h.2) in
+      let own = signed_in_room h.0 z (bytes_in o (value_byte (length h.0 - 1) code) h.0 h.1.encodes) h.1.some (sym h.2) in
       let most : 256 ^ length h.0 ≤ 256 ^ width = pow-le-pow_right (omega arith) h.1.few in
       omega (arith, own, most)
 
   -- an unsigned number fits
   unsigned_room_at : (code width o v n : ℕ) → UnsignedAt code width b o v n → v < 256 ^ width
   unsigned_room_at code width o v n h =
-      let own = number_bound h.0 (bytes_in o (value_byte (length h.0 - 1) code) h.0 h.1.stands) in
+      let own = number_bound h.0 (bytes_in o (value_byte (length h.0 - 1) code) h.0 h.1.encodes) in
       let most : 256 ^ length h.0 ≤ 256 ^ width = pow-le-pow_right (omega arith) h.1.few in
       omega (arith, own, most, h.2)
 
   -- a bit pattern fits
   bits_room_at : (code width o v n : ℕ) → BitsAt code width b o v n → v < 256 ^ width
   bits_room_at code width o v n h =
-      let own = number_bound h.0 (bytes_in o (value_byte (length h.0 - 1) code) h.0 h.1.stands) in
+      let own = number_bound h.0 (bytes_in o (value_byte (length h.0 - 1) code) h.0 h.1.encodes) in
       let most = shifted (length h.0) width (number_of h.0) h.1.few own in
       subst (λ (x : ℕ). x < 256 ^ width) (sym h.2) most
 

@@ -9,13 +9,13 @@ use Rattle.dexspec.specs.Symbols.{Pool, Strings, Symbol, TextSymbol, TypeSymbol,
 use Rattle.dexspec.specs.Symbols.{field_cmp, method_cmp, proto_cmp}
 use Rattle.dexspec.specs.Texts.{text_cmp}
 use Rattle.dexspec.specs.Opcodes.{Opcode, OpcodeRun, opcode_runs, opcode_of, is_in_run}
-use Rattle.dexspec.specs.Pieces.{Cut, is_payload_ident, Piece, Instruction, Payload, units_of, StandsForPiece, index_pool, is_wide_index, low_byte, cut_units}
+use Rattle.dexspec.specs.Pieces.{Cut, is_payload_ident, Piece, Instruction, Payload, units_of, DenotesPiece, index_pool, is_wide_index, low_byte, cut_units}
 use Rattle.dexspec.specs.Code.{Code}
 use Rattle.dexspec.specs.Classes.{MethodDef, Definition, declared_methods}
 use Rattle.dexspec.specs.Mentions.{mentions, piece_symbols}
 use Rattle.dexspec.specs.WellFormed.{IsCodeItem}
 use Rattle.dexspec.specs.Merging.{greatest_caps, Fits}
-use Rattle.dexspec.specs.Aside.IndexPlaces.{IndexFits}
+use Rattle.dexspec.specs.internal.IndexPlaces.{IndexFits}
 use Rattle.dexspec.proofs.lists.Members.{and_first, and_second, Contains-first, Contains-flat_map}
 use Rattle.std.proofs.lemmas.List.Elements.{Contains-append_left}
 use Rattle.dexspec.proofs.lists.InOrder.{rank-place}
@@ -101,7 +101,7 @@ module _ (D : List Definition) (fits : Fits greatest_caps D) (d : Definition) (x
       by : (s : Symbol) → Contains c.pieces (Instruction us (Some s)) → is_wide_index us ≡ false → IsMentioned (mentions D) s → symbol_index (mentions D) s < 2 ^ 16
       by (TextSymbol s) k short m =
           let units = flat_map units_of c.pieces in
-          let w = zip_source (λ (cut : Cut) (q : Piece). StandsForPiece IsZero (cut_units units cut) q) is.cuts c.pieces (Instruction us (Some (TextSymbol s))) is.pieces.pieces k in
+          let w = zip_source (λ (cut : Cut) (q : Piece). DenotesPiece IsZero (cut_units units cut) q) is.cuts c.pieces (Instruction us (Some (TextSymbol s))) is.pieces.pieces k in
           let z = zeroed IsZero (cut_units units w.0) (Instruction us (Some (TextSymbol s))) w.2 in
           let byte = short_string us z.0 short in
           fits.short_strings s (record { definition = d; method = x; code = c; units = us; member = in_file; declared = declared; has_code = has; piece = k; short = byte })

@@ -13,7 +13,7 @@ use Rattle.dexspec.specs.Bytes.{uint_at, ushort_at, ushorts_at}
 use Rattle.dexspec.specs.Texts.{Text}
 use Rattle.dexspec.specs.Symbols.{TextSymbol}
 use Rattle.dexspec.specs.Rows.{StringRow, SymbolRow}
-use Rattle.dexspec.specs.Pieces.{Cut, Piece, Instruction, StandsForPiece, cut_units, index_in, is_wide_index, with_index, two_units, low_byte}
+use Rattle.dexspec.specs.Pieces.{Cut, Piece, Instruction, DenotesPiece, cut_units, index_in, is_wide_index, with_index, two_units, low_byte}
 use Rattle.dexspec.specs.Code.{Code, CodeAt, code_units}
 use Rattle.dexspec.specs.ClassData.{EncodedMethod}
 use Rattle.dexspec.specs.Classes.{MethodDef, Body, ClassRow, MakesMethod, declared_methods}
@@ -74,7 +74,7 @@ module _ (b : List ℕ) (bytes : All (λ byte. byte < 256) b) where
   in_code : (o : ℕ) (k : Code) (xs : List ℕ) (s : Text) → CodeAt b o k → Contains k.pieces (Instruction xs (Some (TextSymbol s))) → low_byte (slice_index xs 0) ≡ 0x1a → (i : ℕ) × (i < 65536) × StringRow b i s
   in_code o k xs s h c low =
       let units = code_units b o in
-      let w = zip_source (λ (cut : Cut) (q : Piece). StandsForPiece (SymbolRow b) (cut_units units cut) q) h.cuts k.pieces (Instruction xs (Some (TextSymbol s))) h.pieces.pieces c in
+      let w = zip_source (λ (cut : Cut) (q : Piece). DenotesPiece (SymbolRow b) (cut_units units cut) q) h.cuts k.pieces (Instruction xs (Some (TextSymbol s))) h.pieces.pieces c in
       let us = cut_units units w.0 in
       let small = λ (x : ℕ). x < 65536 in
       let all = All-take small w.0.units (drop w.0.unit units) (All-drop small w.0.unit units (ushorts_bound b (o + 16) (uint_at b (o + 12)) bytes)) in

@@ -7,7 +7,7 @@ use Rattle.dexspec.specs.Bytes.{uint_at, ushort_at, uints_at}
 use Rattle.dexspec.specs.Texts.{Text}
 use Rattle.dexspec.specs.Symbols.{Field, Method, Symbol, TextSymbol, TypeSymbol, FieldSymbol, MethodSymbol, field_cmp, method_cmp}
 use Rattle.dexspec.specs.Rows.{StringRow, TypeRow, FieldRow, MethodRow, SymbolRow, type_indices}
-use Rattle.dexspec.specs.Pieces.{Cut, Piece, Instruction, Payload, StandsForPiece, cut_units, index_in}
+use Rattle.dexspec.specs.Pieces.{Cut, Piece, Instruction, Payload, DenotesPiece, cut_units, index_in}
 use Rattle.dexspec.specs.Debug.{Operation, AdvancePc, AdvanceLine, StartLocal, StartLocalExtended, EndLocal, RestartLocal, SetPrologueEnd, SetEpilogueBegin, SetFile, Special, Debug, DebugAt, OptionalTextAt, OptionalTypeAt, OperationAt}
 use Rattle.dexspec.specs.Code.{Catch, Handler, Try, Code, same_handler, handlers_of, code_units, CatchAt, HandlerAt, TryAt, TryItemsAt, TriesAt, CodeAt}
 use Rattle.dexspec.specs.Values.{Value, ByteValue, ShortValue, CharValue, IntValue, LongValue, FloatValue, DoubleValue, StringValue, TypeValue, FieldValue, MethodValue, EnumValue, ArrayValue, AnnotationValue, NullValue, BooleanValue, Values, NoValues, ThenValue, Elements, NoElements, ThenElement, ValueAt, ValuesAt, ElementsAt}
@@ -114,7 +114,7 @@ module _ (b : List ℕ) where
   some_debug_rows o (Some d) (inr h) = have_both (debug_symbols d) [] (debug_rows o d h.1) have_none
 
   -- the symbol of a piece
-  piece_rows : (us : List ℕ) (p : Piece) → StandsForPiece (SymbolRow b) us p → HaveRows b (piece_symbols p)
+  piece_rows : (us : List ℕ) (p : Piece) → DenotesPiece (SymbolRow b) us p → HaveRows b (piece_symbols p)
   piece_rows us (Instruction xs None) h = have_none
   piece_rows us (Instruction xs (Some s)) h = have_first s [] (index_in us, h.1) have_none
   piece_rows us (Payload xs) h = have_none
@@ -145,7 +145,7 @@ module _ (b : List ℕ) where
       let handlers = flat_map handler_symbols (handlers_of k.tries) in
       let debug = flat_map debug_symbols (option_to_list k.debug) in
       have_both (flat_map piece_symbols k.pieces) (handlers ++ debug)
-      (have_all piece_symbols k.pieces (λ p c. let w = zip_source (λ (cut : Cut) (q : Piece). StandsForPiece (SymbolRow b) (cut_units (code_units b o) cut) q) h.cuts k.pieces p h.pieces.pieces c in piece_rows (cut_units (code_units b o) w.0) p w.2))
+      (have_all piece_symbols k.pieces (λ p c. let w = zip_source (λ (cut : Cut) (q : Piece). DenotesPiece (SymbolRow b) (cut_units (code_units b o) cut) q) h.cuts k.pieces p h.pieces.pieces c in piece_rows (cut_units (code_units b o) w.0) p w.2))
       (have_both handlers debug
       (have_all handler_symbols (handlers_of k.tries) (λ x c.
       let w = map_source (λ (t : Try). t.handler) k.tries x (distinct_source same_handler (map (λ (t : Try). t.handler) k.tries) x c) in

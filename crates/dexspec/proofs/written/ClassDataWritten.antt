@@ -10,7 +10,7 @@ use Rattle.std.specs.Prelude.{option_to_list}
 use Rattle.std.proofs.lemmas.List.{length-append, length-map}
 use Rattle.std.proofs.lemmas.List.Elements.{All-contains, All-take, All-drop, Contains-append_left, Contains-append_right}
 use Rattle.dexspec.specs.Lists.{rises, zip_with}
-use Rattle.dexspec.specs.Bytes.{Stands}
+use Rattle.dexspec.specs.Bytes.{BytesAt}
 use Rattle.dexspec.specs.Numbers.{uleb128}
 use Rattle.dexspec.specs.Texts.{Text}
 use Rattle.dexspec.specs.Symbols.{Symbol, TypeSymbol, FieldSymbol, MethodSymbol}
@@ -22,8 +22,8 @@ use Rattle.dexspec.specs.WellFormed.{IsFieldDef, IsMethodDef, IsWellFormed}
 use Rattle.dexspec.specs.Mentions.{Mentions, field_of, method_of, optional_type, optional_text, set_symbols, field_symbols, method_symbols, values_symbols, code_symbols, symbols_of}
 use Rattle.dexspec.specs.Spellings.{field_index, method_index, differences, encoded_method_bytes, class_data_bytes}
 use Rattle.dexspec.proofs.lists.Members.{and_first, and_second, Contains-first, Contains-later, Contains-flat_map}
-use Rattle.dexspec.proofs.written.Stands.{stands_at}
-use Rattle.dexspec.proofs.written.NumbersWritten.{front_stands, back_stands, uleb128_written, AreInRows, IsInRow}
+use Rattle.dexspec.proofs.written.PlacedBytes.{is_at}
+use Rattle.dexspec.proofs.written.NumbersWritten.{prefix_is_at, suffix_is_at, uleb128_written, AreInRows, IsInRow}
 
 -- ---- rising indices and their differences
 
@@ -87,7 +87,7 @@ module _ (b : List ℕ) (m : Mentions) (name : Text) where
 
   -- fields are at the offset of their bytes
   pub fields_written : (last : Option ℕ) (o : ℕ) (fs : List FieldDef) → AreRising last (field_indices fs) → ((f : FieldDef) → Contains fs f → IsInRow b m (FieldSymbol (field_of name f)))
-      → ((f : FieldDef) → Contains fs f → f.flags < 2 ^ 32) → Stands b o (fields_bytes (from_index last) fs) → EncodedFieldsAt b o last (map (encoded_field name) fs) (length (fields_bytes (from_index last) fs))
+      → ((f : FieldDef) → Contains fs f → f.flags < 2 ^ 32) → BytesAt b o (fields_bytes (from_index last) fs) → EncodedFieldsAt b o last (map (encoded_field name) fs) (length (fields_bytes (from_index last) fs))
   fields_written last o [] rise are flags h = refl
   fields_written last o (f ∷ fs) rise are flags h =
       let i = field_index m (field_of name f) in
@@ -95,24 +95,24 @@ module _ (b : List ℕ) (m : Mentions) (name : Text) where
       let y = uleb128 f.flags in
       let rest = fields_bytes i fs in
       let row = are f (Contains-first f fs) in
-      let head = front_stands (x ++ y) rest h in (
+      let head = prefix_is_at (x ++ y) rest h in (
         length x,
         length y,
         length rest,
         i - from_index last,
         i,
-        uleb128_written b o (i - from_index last) (omega (arith, row.1)) (front_stands x y head),
-        uleb128_written b (o + length x) f.flags (flags f (Contains-first f fs)) (back_stands x y head),
+        uleb128_written b o (i - from_index last) (omega (arith, row.1)) (prefix_is_at x y head),
+        uleb128_written b (o + length x) f.flags (flags f (Contains-first f fs)) (suffix_is_at x y head),
         next_index last i (field_indices fs) rise,
         row.0,
         fields_written (Some i) (o + length x + length y) fs (next_rising last i (field_indices fs) rise) (λ g c. are g (Contains-later f g fs c)) (λ g c. flags g (Contains-later f g fs c))
-            (stands_at (omega (arith, length-append x y)) (back_stands (x ++ y) rest h)),
+            (is_at (omega (arith, length-append x y)) (suffix_is_at (x ++ y) rest h)),
         omega (arith, length-append (x ++ y) rest, length-append x y),
       )
 
   -- methods are at the offset of their bytes, with the offsets of their code
   pub methods_written : (last : Option ℕ) (o : ℕ) (xs : List MethodDef) (offs : List ℕ) → length offs ≡ length xs → AreRising last (method_indices xs) → ((x : MethodDef) → Contains xs x → IsInRow b m (MethodSymbol (method_of name x)))
-      → ((x : MethodDef) → Contains xs x → x.flags < 2 ^ 32) → ((p : ℕ) → Contains offs p → p < 2 ^ 32) → Stands b o (methods_bytes (from_index last) xs offs)
+      → ((x : MethodDef) → Contains xs x → x.flags < 2 ^ 32) → ((p : ℕ) → Contains offs p → p < 2 ^ 32) → BytesAt b o (methods_bytes (from_index last) xs offs)
       → EncodedMethodsAt b o last (zip_with (encoded_method name) xs offs) (length (methods_bytes (from_index last) xs offs))
   methods_written last o [] offs len rise are flags small h = refl
   methods_written last o (x ∷ xs) [] len rise are flags small h = absurd (omega arith)
@@ -123,21 +123,21 @@ module _ (b : List ℕ) (m : Mentions) (name : Text) where
       let w = uleb128 p in
       let rest = methods_bytes i xs offs in
       let row = are x (Contains-first x xs) in
-      let head = front_stands (u ++ (v ++ w)) rest h in
-      let behind = back_stands u (v ++ w) head in (
+      let head = prefix_is_at (u ++ (v ++ w)) rest h in
+      let following = suffix_is_at u (v ++ w) head in (
         length u,
         length v,
         length w,
         length rest,
         i - from_index last,
         i,
-        uleb128_written b o (i - from_index last) (omega (arith, row.1)) (front_stands u (v ++ w) head),
-        uleb128_written b (o + length u) x.flags (flags x (Contains-first x xs)) (front_stands v w behind),
-        uleb128_written b (o + length u + length v) p (small p (Contains-first p offs)) (back_stands v w behind),
+        uleb128_written b o (i - from_index last) (omega (arith, row.1)) (prefix_is_at u (v ++ w) head),
+        uleb128_written b (o + length u) x.flags (flags x (Contains-first x xs)) (prefix_is_at v w following),
+        uleb128_written b (o + length u + length v) p (small p (Contains-first p offs)) (suffix_is_at v w following),
         next_index last i (method_indices xs) rise,
         row.0,
         methods_written (Some i) (o + length u + length v + length w) xs offs (omega arith) (next_rising last i (method_indices xs) rise) (λ y c. are y (Contains-later x y xs c)) (λ y c. flags y (Contains-later x y xs c)) (λ q c. small q (Contains-later p q offs c))
-            (stands_at (omega (arith, length-append u (v ++ w), length-append v w)) (back_stands (u ++ (v ++ w)) rest h)),
+            (is_at (omega (arith, length-append u (v ++ w), length-append v w)) (suffix_is_at (u ++ (v ++ w)) rest h)),
         omega (arith, length-append (u ++ (v ++ w)) rest, length-append u (v ++ w), length-append v w),
       )
 
@@ -170,9 +170,9 @@ method_occurs name c x is =
     let s = MethodSymbol (method_of name x) in
     let fields = flat_map (field_symbols name) (declared_fields c) in
     let methods = flat_map (method_symbols name) (declared_methods c) in
-    let behind = flat_map code_symbols (option_to_list x.code) ++ (set_symbols x.annotations ++ flat_map set_symbols x.parameter_annotations) in
+    let following = flat_map code_symbols (option_to_list x.code) ++ (set_symbols x.annotations ++ flat_map set_symbols x.parameter_annotations) in
     own_first name c s
-    (Contains-append_right fields (methods ++ values_symbols c.static_values) s (Contains-append_left methods (values_symbols c.static_values) s (Contains-flat_map (method_symbols name) (declared_methods c) x s is (Contains-first s behind))))
+    (Contains-append_right fields (methods ++ values_symbols c.static_values) s (Contains-append_left methods (values_symbols c.static_values) s (Contains-flat_map (method_symbols name) (declared_methods c) x s is (Contains-first s following))))
 
 -- ---- class data
 
@@ -198,9 +198,9 @@ length-zip_with f (x ∷ xs) (y ∷ ys) e = let rest = length-zip_with f xs ys (
 
 -- class data is at the offset of its bytes
 pub class_data_written : (b : List ℕ) (m : Mentions) (o : ℕ) (name : Text) (c : Body) (code_offs : List ℕ) → IsWellFormed (name, c) → IndicesRise m name c → AreInRows b m (symbols_of (name, c))
-    → length code_offs ≡ length (declared_methods c) → All (λ p. p < 2 ^ 32) code_offs → data_off b ≤ o → Stands b o (class_data_bytes m (name, c) code_offs) → ClassDataAt b o (class_data_of name c code_offs)
+    → length code_offs ≡ length (declared_methods c) → All (λ p. p < 2 ^ 32) code_offs → data_off b ≤ o → BytesAt b o (class_data_bytes m (name, c) code_offs) → ClassDataAt b o (class_data_of name c code_offs)
 unfolding class_data_bytes
-class_data_written b m o name c code_offs formed rise are many small behind h =
+class_data_written b m o name c code_offs formed rise are many small following h =
     let statics = c.static_fields in
     let instances = c.instance_fields in
     let directs = c.direct_methods in
@@ -229,13 +229,13 @@ class_data_written b m o name c code_offs formed rise are many small behind h =
     let r3 = n3 ++ r4 in
     let r2 = n2 ++ r3 in
     let r1 = n1 ++ r2 in
-    let h1 = back_stands n0 r1 h in
-    let h2 = back_stands n1 r2 h1 in
-    let h3 = back_stands n2 r3 h2 in
-    let h4 = back_stands n3 r4 h3 in
-    let h5 = back_stands x0 r5 h4 in
-    let h6 = back_stands x1 r6 h5 in
-    let h7 = back_stands x2 x3 h6 in
+    let h1 = suffix_is_at n0 r1 h in
+    let h2 = suffix_is_at n1 r2 h1 in
+    let h3 = suffix_is_at n2 r3 h2 in
+    let h4 = suffix_is_at n3 r4 h3 in
+    let h5 = suffix_is_at x0 r5 h4 in
+    let h6 = suffix_is_at x1 r6 h5 in
+    let h7 = suffix_is_at x2 x3 h6 in
     let p1 = o + length n0 in
     let p2 = p1 + length n1 in
     let p3 = p2 + length n2 in
@@ -244,7 +244,7 @@ class_data_written b m o name c code_offs formed rise are many small behind h =
     let p6 = p5 + length x1 in
     let p7 = p6 + length x2 in
     record {
-      in_data = behind;
+      in_data = following;
       static_count_size = length n0;
       instance_count_size = length n1;
       direct_count_size = length n2;
@@ -253,15 +253,15 @@ class_data_written b m o name c code_offs formed rise are many small behind h =
       instance_fields_size = length x1;
       direct_methods_size = length x2;
       virtual_methods_size = length x3;
-      static_count = subst (λ n. Uleb128At b o n (length n0)) (sym (length-map statics (encoded_field name))) (uleb128_written b o (length statics) formed.static_fields_count (front_stands n0 r1 h));
-      instance_count = subst (λ n. Uleb128At b p1 n (length n1)) (sym (length-map instances (encoded_field name))) (uleb128_written b p1 (length instances) formed.instance_fields_count (front_stands n1 r2 h1));
-      direct_count = subst (λ n. Uleb128At b p2 n (length n2)) (sym (length-zip_with (encoded_method name) directs direct_offs direct_many)) (uleb128_written b p2 (length directs) formed.direct_methods_count (front_stands n2 r3 h2));
-      virtual_count = subst (λ n. Uleb128At b p3 n (length n3)) (sym (length-zip_with (encoded_method name) virtuals virtual_offs virtual_many)) (uleb128_written b p3 (length virtuals) formed.virtual_methods_count (front_stands n3 r4 h3));
-      static_fields = fields_written b m name None p4 statics rise.0 (λ f d. field_row f (Contains-append_left statics instances f d)) (λ f d. field_flags f (Contains-append_left statics instances f d)) (front_stands x0 r5 h4);
-      instance_fields = fields_written b m name None p5 instances rise.1 (λ f d. field_row f (Contains-append_right statics instances f d)) (λ f d. field_flags f (Contains-append_right statics instances f d)) (front_stands x1 r6 h5);
+      static_count = subst (λ n. Uleb128At b o n (length n0)) (sym (length-map statics (encoded_field name))) (uleb128_written b o (length statics) formed.static_fields_count (prefix_is_at n0 r1 h));
+      instance_count = subst (λ n. Uleb128At b p1 n (length n1)) (sym (length-map instances (encoded_field name))) (uleb128_written b p1 (length instances) formed.instance_fields_count (prefix_is_at n1 r2 h1));
+      direct_count = subst (λ n. Uleb128At b p2 n (length n2)) (sym (length-zip_with (encoded_method name) directs direct_offs direct_many)) (uleb128_written b p2 (length directs) formed.direct_methods_count (prefix_is_at n2 r3 h2));
+      virtual_count = subst (λ n. Uleb128At b p3 n (length n3)) (sym (length-zip_with (encoded_method name) virtuals virtual_offs virtual_many)) (uleb128_written b p3 (length virtuals) formed.virtual_methods_count (prefix_is_at n3 r4 h3));
+      static_fields = fields_written b m name None p4 statics rise.0 (λ f d. field_row f (Contains-append_left statics instances f d)) (λ f d. field_flags f (Contains-append_left statics instances f d)) (prefix_is_at x0 r5 h4);
+      instance_fields = fields_written b m name None p5 instances rise.1 (λ f d. field_row f (Contains-append_right statics instances f d)) (λ f d. field_flags f (Contains-append_right statics instances f d)) (prefix_is_at x1 r6 h5);
       direct_methods =
           methods_written b m name None p6 directs direct_offs direct_many rise.2 (λ x d. method_row x (Contains-append_left directs virtuals x d)) (λ x d. method_flags x (Contains-append_left directs virtuals x d))
-          (λ p d. All-contains fits direct_offs p (All-take fits (length directs) code_offs small) d) (front_stands x2 x3 h6);
+          (λ p d. All-contains fits direct_offs p (All-take fits (length directs) code_offs small) d) (prefix_is_at x2 x3 h6);
       virtual_methods =
           methods_written b m name None p7 virtuals virtual_offs virtual_many rise.3 (λ x d. method_row x (Contains-append_right directs virtuals x d)) (λ x d. method_flags x (Contains-append_right directs virtuals x d))
           (λ p d. All-contains fits virtual_offs p (All-drop fits (length directs) code_offs small) d) h7;

@@ -13,7 +13,7 @@ use Rattle.std.proofs.lemmas.List.Elements.{All-nil, All-cons}
 use Rattle.dexspec.specs.Lists.{AreDistinct, rises, in_order, add_in_order}
 use Rattle.dexspec.specs.Annotations.{PairAt, annotated}
 use Rattle.dexspec.specs.Placing.{pair_cmp, pairs}
-use Rattle.dexspec.specs.Aside.OwnDirectories.{StandsIfSome, entries_of}
+use Rattle.dexspec.specs.internal.OwnDirectories.{BytesIfSome, entries_of}
 use Rattle.dexspec.proofs.lists.Members.{Contains-nil, Contains-first, Contains-later, Contains-cons_cases, AreDistinct-first, AreDistinct-rest}
 use Rattle.dexspec.proofs.merge.Depths.{Contains-map}
 use Rattle.dexspec.proofs.lists.InOrder.{rises-in_order}
@@ -160,7 +160,7 @@ module _ {M X : Type 0} (R : M → M → Ordering) (exact : IsAntisymmetric R) (
   indices ms = map (λ e. index e.0) ms
 
   -- the written pairs are those of the entries
-  pairs_of : (o : IsTotalOrder R) (ms : List (M × List X)) (offs : List ℕ) → AreDistinct (map (λ e. e.0) ms) → ((e : M × List X) → Contains ms e → Known e.0) → AllZip (λ o e. StandsIfSome At o e.1) offs ms → AllZip IsPairOf (pairs (indices ms) offs) (entries_of R ms)
+  pairs_of : (o : IsTotalOrder R) (ms : List (M × List X)) (offs : List ℕ) → AreDistinct (map (λ e. e.0) ms) → ((e : M × List X) → Contains ms e → Known e.0) → AllZip (λ o e. BytesIfSome At o e.1) offs ms → AllZip IsPairOf (pairs (indices ms) offs) (entries_of R ms)
   pairs_of o [] [] d known are = tt
   pairs_of o [] (p ∷ offs) d known are = absurd are
   pairs_of o (m ∷ ms) [] d known are = absurd are
@@ -180,7 +180,7 @@ module _ {M X : Type 0} (R : M → M → Ordering) (exact : IsAntisymmetric R) (
 -- the pairs name the entries, in order
 pub pairs_are : {M X : Type 0} (R : M → M → Ordering) → IsTotalOrder R → IsAntisymmetric R → (Row : List ℕ → ℕ → M → Type 0) (At : List ℕ → ℕ → List X → Type 0) (b : List ℕ) (index : M → ℕ) (Known : M → Type 0)
     → ((m n : M) → Known m → Known n → nat_cmp (index m) (index n) ≡ R m n) → ((m : M) → Known m → Row b (index m) m × (index m < 2 ^ 32))
-    → (ms : List (M × List X)) (offs : List ℕ) → AreDistinct (map (λ e. e.0) ms) → ((e : M × List X) → Contains ms e → Known e.0) → AllZip (λ o e. StandsIfSome (At b) o e.1) offs ms
+    → (ms : List (M × List X)) (offs : List ℕ) → AreDistinct (map (λ e. e.0) ms) → ((e : M × List X) → Contains ms e → Known e.0) → AllZip (λ o e. BytesIfSome (At b) o e.1) offs ms
     → ArePairs Row At b (pairs (map (λ e. index e.0) ms) offs) (entries_of R ms)
 pairs_are {M} {X} R o exact Row At b index Known compare row ms offs d known are =
     let is = map (λ (e : M × List X). index e.0) ms in

@@ -7,7 +7,7 @@ use Rattle.std.proofs.lemmas.Int.{ints}
 use Rattle.std.proofs.lemmas.List.{length-append}
 use Rattle.std.proofs.lemmas.List.Elements.{All-contains}
 use Rattle.dexspec.specs.Lists.{Sequence}
-use Rattle.dexspec.specs.Bytes.{Stands}
+use Rattle.dexspec.specs.Bytes.{BytesAt}
 use Rattle.dexspec.specs.Numbers.{uleb128, sleb128}
 use Rattle.dexspec.specs.Symbols.{TypeSymbol}
 use Rattle.dexspec.specs.Pieces.{Cut}
@@ -16,11 +16,11 @@ use Rattle.dexspec.specs.Mentions.{Mentions, handler_symbols}
 use Rattle.dexspec.specs.Spellings.{type_index, catch_bytes, handler_bytes}
 use Rattle.dexspec.specs.WellFormed.{IsHandlerOf}
 use Rattle.dexspec.proofs.lists.Members.{Contains-first, Contains-later}
-use Rattle.dexspec.proofs.written.NumbersWritten.{front_stands, back_stands, uleb128_written, sleb128_written, AreInRows, IsInRow, first_in_row, rest_in_rows}
+use Rattle.dexspec.proofs.written.NumbersWritten.{prefix_is_at, suffix_is_at, uleb128_written, sleb128_written, AreInRows, IsInRow, first_in_row, rest_in_rows}
 
 module _ (us : List ℕ) (cuts : List Cut) (b : List ℕ) (m : Mentions) where
   -- a catch is at the offset of its bytes
-  pub catch_written : (o : ℕ) (c : Catch) → IsInRow b m (TypeSymbol c.type) → c.address < 2 ^ 32 → IsStart us cuts c.address → Stands b o (catch_bytes m c) → CatchAt us cuts b o c (length (catch_bytes m c))
+  pub catch_written : (o : ℕ) (c : Catch) → IsInRow b m (TypeSymbol c.type) → c.address < 2 ^ 32 → IsStart us cuts c.address → BytesAt b o (catch_bytes m c) → CatchAt us cuts b o c (length (catch_bytes m c))
   catch_written o c row lt start h =
       let x = uleb128 (type_index m c.type) in
       let y = uleb128 c.address in
@@ -28,15 +28,15 @@ module _ (us : List ℕ) (cuts : List Cut) (b : List ℕ) (m : Mentions) where
         index = type_index m c.type;
         index_size = length x;
         address_size = length y;
-        index_is = uleb128_written b o (type_index m c.type) (omega (arith, row.1)) (front_stands x y h);
+        index_is = uleb128_written b o (type_index m c.type) (omega (arith, row.1)) (prefix_is_at x y h);
         type = row.0;
-        address = uleb128_written b (o + length x) c.address lt (back_stands x y h);
+        address = uleb128_written b (o + length x) c.address lt (suffix_is_at x y h);
         start = start;
         size = length-append x y;
       }
 
   -- catches are at the offset of their bytes
-  catches_written : (o : ℕ) (cs : List Catch) → AreInRows b m (map (λ c. TypeSymbol c.type) cs) → ((c : Catch) → Contains cs c → c.address < 2 ^ 32) → ((c : Catch) → Contains cs c → IsStart us cuts c.address) → Stands b o (flat_map (catch_bytes m) cs)
+  catches_written : (o : ℕ) (cs : List Catch) → AreInRows b m (map (λ c. TypeSymbol c.type) cs) → ((c : Catch) → Contains cs c → c.address < 2 ^ 32) → ((c : Catch) → Contains cs c → IsStart us cuts c.address) → BytesAt b o (flat_map (catch_bytes m) cs)
       → Sequence (CatchAt us cuts) b o cs (length (flat_map (catch_bytes m) cs))
   catches_written o [] are few starts h = refl
   catches_written o (c ∷ cs) are few starts h =
@@ -46,8 +46,8 @@ module _ (us : List ℕ) (cuts : List Cut) (b : List ℕ) (m : Mentions) where
       let ss = map (λ c. TypeSymbol c.type) cs in (
         length x,
         length rest,
-        catch_written o c (first_in_row b m s ss are) (few c (Contains-first c cs)) (starts c (Contains-first c cs)) (front_stands x rest h),
-        catches_written (o + length x) cs (rest_in_rows b m s ss are) (λ d l. few d (Contains-later c d cs l)) (λ d l. starts d (Contains-later c d cs l)) (back_stands x rest h),
+        catch_written o c (first_in_row b m s ss are) (few c (Contains-first c cs)) (starts c (Contains-first c cs)) (prefix_is_at x rest h),
+        catches_written (o + length x) cs (rest_in_rows b m s ss are) (λ d l. few d (Contains-later c d cs l)) (λ d l. starts d (Contains-later c d cs l)) (suffix_is_at x rest h),
         length-append x rest,
       )
 
@@ -58,21 +58,21 @@ module _ (us : List ℕ) (cuts : List Cut) (b : List ℕ) (m : Mentions) where
 
   -- a handler from its catches and the catch-all address
   handler_by : (o : ℕ) (cs : List Catch) (catch_all : Option ℕ) → IsHandlerOf us cuts (record { catches = cs; catch_all = catch_all }) → length cs < 2 ^ 31 → ((c : Catch) → Contains cs c → c.address < 2 ^ 32) → IfSome catch_all (λ p. p < 2 ^ 32)
-      → AreInRows b m (map (λ c. TypeSymbol c.type) cs) → Stands b o (handler_bytes m (record { catches = cs; catch_all = catch_all }))
+      → AreInRows b m (map (λ c. TypeSymbol c.type) cs) → BytesAt b o (handler_bytes m (record { catches = cs; catch_all = catch_all }))
       → HandlerAt us cuts b o (record { catches = cs; catch_all = catch_all }) (length (handler_bytes m (record { catches = cs; catch_all = catch_all })))
   handler_by o cs None is few small all are h =
       let n = pos (length cs) in
       let x = sleb128 n in
       let y = flat_map (catch_bytes m) cs in
-      let behind = back_stands x (y ++ []) h in
+      let following = suffix_is_at x (y ++ []) h in
       record {
         count = n;
         count_size = length x;
         catches_size = length y;
         all_size = 0;
-        count_is = sleb128_written b o n (count_fits (length cs) few).0 (front_stands x (y ++ []) h);
+        count_is = sleb128_written b o n (count_fits (length cs) few).0 (prefix_is_at x (y ++ []) h);
         many = refl;
-        catches = catches_written (o + length x) cs are small (λ c l. All-contains (λ (c : Catch). IsStart us cuts c.address) cs c is.catches l) (front_stands y [] behind);
+        catches = catches_written (o + length x) cs are small (λ c l. All-contains (λ (c : Catch). IsStart us cuts c.address) cs c is.catches l) (prefix_is_at y [] following);
         all = (let some = is.some in omega (arith, ints, some), refl);
         size = omega (arith, length-append x (y ++ []), length-append y []);
       }
@@ -81,7 +81,7 @@ module _ (us : List ℕ) (cuts : List Cut) (b : List ℕ) (m : Mentions) where
       let x = sleb128 n in
       let y = flat_map (catch_bytes m) cs in
       let z = uleb128 p ++ [] in
-      let behind = back_stands x (y ++ z) h in
+      let following = suffix_is_at x (y ++ z) h in
       let fits = count_fits (length cs) few in
       let size : length z ≡ length (uleb128 p) = omega (arith, length-append (uleb128 p) []) in
       record {
@@ -89,14 +89,14 @@ module _ (us : List ℕ) (cuts : List Cut) (b : List ℕ) (m : Mentions) where
         count_size = length x;
         catches_size = length y;
         all_size = length (uleb128 p);
-        count_is = sleb128_written b o n fits.1 (front_stands x (y ++ z) h);
+        count_is = sleb128_written b o n fits.1 (prefix_is_at x (y ++ z) h);
         many = fits.2;
-        catches = catches_written (o + length x) cs are small (λ c l. All-contains (λ (c : Catch). IsStart us cuts c.address) cs c is.catches l) (front_stands y z behind);
-        all = (fits.3, uleb128_written b (o + length x + length y) p all (front_stands (uleb128 p) [] (back_stands y z behind)), is.catch_all);
+        catches = catches_written (o + length x) cs are small (λ c l. All-contains (λ (c : Catch). IsStart us cuts c.address) cs c is.catches l) (prefix_is_at y z following);
+        all = (fits.3, uleb128_written b (o + length x + length y) p all (prefix_is_at (uleb128 p) [] (suffix_is_at y z following)), is.catch_all);
         size = omega (arith, length-append x (y ++ z), length-append y z, size);
       }
 
   -- a handler is at the offset of its bytes
-  pub handler_written : (o : ℕ) (h : Handler) → IsHandlerOf us cuts h → length h.catches < 2 ^ 31 → All (λ c. c.address < 2 ^ 32) h.catches → IfSome h.catch_all (λ p. p < 2 ^ 32) → AreInRows b m (handler_symbols h) → Stands b o (handler_bytes m h)
+  pub handler_written : (o : ℕ) (h : Handler) → IsHandlerOf us cuts h → length h.catches < 2 ^ 31 → All (λ c. c.address < 2 ^ 32) h.catches → IfSome h.catch_all (λ p. p < 2 ^ 32) → AreInRows b m (handler_symbols h) → BytesAt b o (handler_bytes m h)
       → HandlerAt us cuts b o h (length (handler_bytes m h))
   handler_written o h is few small all are s = handler_by o h.catches h.catch_all is few (λ c l. All-contains (λ (c : Catch). c.address < 2 ^ 32) h.catches c small l) all are s

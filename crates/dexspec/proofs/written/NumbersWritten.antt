@@ -4,47 +4,47 @@ use Rattle.std.specs.Prelude.{ℤ, FitsSigned}
 use Rattle.std.specs.Int.{w32}
 use Rattle.std.specs.List.{Contains}
 use Rattle.std.proofs.lemmas.List.Elements.{Contains-append_left, Contains-append_right}
-use Rattle.dexspec.specs.Bytes.{Stands}
+use Rattle.dexspec.specs.Bytes.{BytesAt}
 use Rattle.dexspec.specs.Numbers.{Uleb128At, Sleb128At, Uleb128p1At, IsUleb128, IsSleb128, IsUleb128p1, plus_one, uleb128, sleb128, uleb128p1}
 use Rattle.dexspec.specs.Symbols.{Symbol}
 use Rattle.dexspec.specs.Rows.{SymbolRow}
 use Rattle.dexspec.specs.Mentions.{Mentions}
 use Rattle.dexspec.specs.Spellings.{symbol_index}
-use Rattle.dexspec.proofs.written.Stands.{stands_first, stands_whole, stands_later, stands_in, stands_at}
+use Rattle.dexspec.proofs.written.PlacedBytes.{is_at_first, is_at_whole, is_at_later, is_at_in, is_at}
 use Rattle.dexspec.proofs.lists.Members.{Contains-first, Contains-later}
 use Rattle.dexspec.proofs.numbers.Spellings.{uleb128_is, sleb128_is, uleb128p1_is}
-use Rattle.dexspec.proofs.layout.PoolsStand.{begins_with}
+use Rattle.dexspec.proofs.layout.PoolsAreAt.{begins_with}
 
 -- ---- parts of bytes at an offset
 
 -- the prefix of the bytes at an offset
-pub front_stands : {b : List ℕ} {o : ℕ} (x y : List ℕ) → Stands b o (x ++ y) → Stands b o x
-front_stands x y h = stands_at (omega arith) (stands_in h (stands_first x y))
+pub prefix_is_at : {b : List ℕ} {o : ℕ} (x y : List ℕ) → BytesAt b o (x ++ y) → BytesAt b o x
+prefix_is_at x y h = is_at (omega arith) (is_at_in h (is_at_first x y))
 
 -- the bytes after the prefix
-pub back_stands : {b : List ℕ} {o : ℕ} (x y : List ℕ) → Stands b o (x ++ y) → Stands b (o + length x) y
-back_stands x y h = stands_at (omega arith) (stands_in h (stands_later x (stands_whole y)))
+pub suffix_is_at : {b : List ℕ} {o : ℕ} (x y : List ℕ) → BytesAt b o (x ++ y) → BytesAt b (o + length x) y
+suffix_is_at x y h = is_at (omega arith) (is_at_in h (is_at_later x (is_at_whole y)))
 
 -- the first of the bytes at an offset
-pub head_stands : {b : List ℕ} {o : ℕ} (x : ℕ) (y : List ℕ) → Stands b o (x ∷ y) → Stands b o (x ∷ [])
-head_stands x y h = front_stands (x ∷ []) y h
+pub head_is_at : {b : List ℕ} {o : ℕ} (x : ℕ) (y : List ℕ) → BytesAt b o (x ∷ y) → BytesAt b o (x ∷ [])
+head_is_at x y h = prefix_is_at (x ∷ []) y h
 
 -- the bytes after the first
-pub tail_stands : {b : List ℕ} {o : ℕ} (x : ℕ) (y : List ℕ) → Stands b o (x ∷ y) → Stands b (o + 1) y
-tail_stands x y h = stands_at (omega arith) (back_stands (x ∷ []) y h)
+pub tail_is_at : {b : List ℕ} {o : ℕ} (x : ℕ) (y : List ℕ) → BytesAt b o (x ∷ y) → BytesAt b (o + 1) y
+tail_is_at x y h = is_at (omega arith) (suffix_is_at (x ∷ []) y h)
 
 -- ---- numbers
 
 -- a uleb128
-pub uleb128_written : (b : List ℕ) (o v : ℕ) → v < 2 ^ 32 → Stands b o (uleb128 v) → Uleb128At b o v (length (uleb128 v))
+pub uleb128_written : (b : List ℕ) (o v : ℕ) → v < 2 ^ 32 → BytesAt b o (uleb128 v) → Uleb128At b o v (length (uleb128 v))
 uleb128_written b o v lt h = begins_with IsUleb128 b o (uleb128 v) v h (uleb128_is v lt).spelled
 
 -- an sleb128
-pub sleb128_written : (b : List ℕ) (o : ℕ) (z : ℤ) → FitsSigned w32 z → Stands b o (sleb128 z) → Sleb128At b o z (length (sleb128 z))
+pub sleb128_written : (b : List ℕ) (o : ℕ) (z : ℤ) → FitsSigned w32 z → BytesAt b o (sleb128 z) → Sleb128At b o z (length (sleb128 z))
 sleb128_written b o z fits h = begins_with IsSleb128 b o (sleb128 z) z h (sleb128_is z fits).spelled
 
 -- a uleb128p1
-pub uleb128p1_written : (b : List ℕ) (o : ℕ) (v : Option ℕ) → plus_one v < 2 ^ 32 → Stands b o (uleb128p1 v) → Uleb128p1At b o v (length (uleb128p1 v))
+pub uleb128p1_written : (b : List ℕ) (o : ℕ) (v : Option ℕ) → plus_one v < 2 ^ 32 → BytesAt b o (uleb128p1 v) → Uleb128p1At b o v (length (uleb128p1 v))
 uleb128p1_written b o v lt h = begins_with IsUleb128p1 b o (uleb128p1 v) v h (uleb128p1_is v lt).spelled
 
 -- ---- symbols in the rows of their indices
@@ -67,8 +67,8 @@ module _ (b : List ℕ) (m : Mentions) where
   rest_in_rows s ss are = λ t c. are t (Contains-later s t ss c)
 
   -- the symbols of a prefix
-  pub front_in_rows : (ss ts : List Symbol) → AreInRows b m (ss ++ ts) → AreInRows b m ss
-  front_in_rows ss ts are = λ t c. are t (Contains-append_left ss ts t c)
+  pub prefix_in_rows : (ss ts : List Symbol) → AreInRows b m (ss ++ ts) → AreInRows b m ss
+  prefix_in_rows ss ts are = λ t c. are t (Contains-append_left ss ts t c)
 
   -- the symbols after the prefix
   pub back_in_rows : (ss ts : List Symbol) → AreInRows b m (ss ++ ts) → AreInRows b m ts

@@ -82,9 +82,9 @@ same::same_values_mapped-returns t c =
       (λ e. search rules),
     )
 
-pub value::Value::same_mapped-returns-then-not-heads_alike : goal.value::Value::same_mapped-returns-then-not-heads_alike
-value::Value::same_mapped-returns-then-not-heads_alike t c =
-    ((λ t. absurd cc), (λ e. let found = c.heads_alike.ensures.1 (ap head_of e) in cc))
+pub value::Value::same_mapped-returns-then-not-eq_heads : goal.value::Value::same_mapped-returns-then-not-eq_heads
+value::Value::same_mapped-returns-then-not-eq_heads t c =
+    ((λ t. absurd cc), (λ e. let found = c.eq_heads.ensures.1 (ap head_of e) in cc))
 
 pub value::Value::same_mapped-same_values_mapped-requires : goal.value::Value::same_mapped-same_values_mapped-requires
 value::Value::same_mapped-same_values_mapped-requires t c =
@@ -109,7 +109,7 @@ value::Value::same_mapped-returns t c =
     let q = c.args.theirs.now in
     let x = value_of c.args.self.now in
     let y = value_of c.args.other.now in
-    let heads = c.heads_alike.ensures.0 c.if-not-heads_alike.false in
+    let heads = c.eq_heads.ensures.0 c.if-not-eq_heads.false in
     let values = c.same_values_mapped.ensures.0 c.if-not-same_values_mapped.false in (
       (λ t. parts_same r q x y _ _ _ _ c.held_values.ensures c.held_values-2.ensures c.held_elements.ensures c.held_elements-2.ensures heads values (c.same_elements.ensures.0 t)),
       (λ e. c.same_elements.ensures.1 (held_elements_same r q x y _ _ c.held_elements.ensures c.held_elements-2.ensures e)),

@@ -3,14 +3,14 @@ use Rattle.dexval.specs.Code.{value_of, element_of}
 use Rattle.dexval.specs.Numbered.{values_of_list, elements_of_list}
 use Rattle.dexval.specs.Renumbering.{renumbered, renumbered_element}
 use Rattle.dexval.specs.Spelled.{numbered_weight, numbered_values_weight, numbered_elements_weight}
-use Rattle.dexval.proofs.Renumbered.{AreLed}
+use Rattle.dexval.proofs.Renumbered.{AreRemapped}
 use Rattle.dexval.proofs.+renumbering.Given as goal
 
 abbrev pub invariant-renumbering::renumber_elements-loop-i : goal.invariant-renumbering::renumber_elements-loop-i
-invariant-renumbering::renumber_elements-loop-i l = AreLed element_of (renumbered_element l.remap) l.i l.initial.elements.items l.elements.items
+invariant-renumbering::renumber_elements-loop-i l = AreRemapped element_of (renumbered_element l.remap) l.i l.initial.elements.items l.elements.items
 
 abbrev pub invariant-renumbering::renumber_values-loop-i : goal.invariant-renumbering::renumber_values-loop-i
-invariant-renumbering::renumber_values-loop-i l = AreLed value_of (renumbered l.remap) l.i l.initial.values.items l.values.items
+invariant-renumbering::renumber_values-loop-i l = AreRemapped value_of (renumbered l.remap) l.i l.initial.values.items l.values.items
 
 abbrev pub decreases-value::Value::renumber : goal.decreases-value::Value::renumber
 decreases-value::Value::renumber l = numbered_weight (value_of l.self.now)

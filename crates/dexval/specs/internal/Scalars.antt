@@ -80,5 +80,5 @@ NoValueAt b o depth = (v : Value) (n : ℕ) → ValueAt b o v n → value_depth 
 -- the value that the numbers denote is at the offset, in n bytes, and nests at most `depth` deep
 pub record IsReadAt (b : List ℕ) (o : ℕ) (m : Mentions) (depth : ℕ) (x : NumberedValue) (n : ℕ) : Type 0 where
   pub known : IsKnown m x
-  pub stands : ValueAt b o (value_in m x) n
+  pub encodes : ValueAt b o (value_in m x) n
   pub shallow : value_depth (value_in m x) ≤ depth

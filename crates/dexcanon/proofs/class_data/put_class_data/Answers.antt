@@ -21,15 +21,15 @@ loop-class-init g c = record {
   count = ap (λ (os : List ℕ). length os) (c.offsets-rest.ensures ∙ ap (λ (p : ItemPlaces). p.offsets) c.codes.ensures ∙ c.requires.laid.codes_are.offsets_are) ∙ count_code_offsets c.args.contents.now.numbering.now c.args.contents.now.classes.now;
 }
 
-pub loop-class-preserved-then-is_bare : goal.loop-class-preserved-then-is_bare
-loop-class-preserved-then-is_bare g c = record {
-  made = plainly_skip c.loop-class.invariant.made (data_uses c.args.contents.now.numbering.now (drop (c.loop-class.class-index + 1) c.args.contents.now.classes.now) c.split_at.result.1.now) (data_none c.args.contents.now.numbering.now c.args.contents.now.classes.now c.loop-class.rest.now c.split_at.result.0.now c.split_at.result.1.now c.loop-class.class-index c.method_count.result c.class-item.result c.members.result.now c.loop-class-test.true c.class-item.is c.members.ensures c.method_count.ensures c.split_at.ensures.front c.split_at.ensures.back (sym (c.is_bare.ensures c.args.contents.now.numbering.now) ∙ c.if-is_bare.true));
+pub loop-class-preserved-then-has_no_members : goal.loop-class-preserved-then-has_no_members
+loop-class-preserved-then-has_no_members g c = record {
+  made = plainly_skip c.loop-class.invariant.made (data_uses c.args.contents.now.numbering.now (drop (c.loop-class.class-index + 1) c.args.contents.now.classes.now) c.split_at.result.1.now) (data_none c.args.contents.now.numbering.now c.args.contents.now.classes.now c.loop-class.rest.now c.split_at.result.0.now c.split_at.result.1.now c.loop-class.class-index c.method_count.result c.class-item.result c.members.result.now c.loop-class-test.true c.class-item.is c.members.ensures c.method_count.ensures c.split_at.ensures.front c.split_at.ensures.back (sym (c.has_no_members.ensures c.args.contents.now.numbering.now) ∙ c.if-has_no_members.true));
   count = class_rest c.args.contents.now.classes.now c.loop-class.class-index c.class-item.result c.members.result.now c.loop-class-test.true c.class-item.is c.members.ensures c.method_count.result c.loop-class.rest.now c.split_at.result.1.now c.method_count.ensures c.split_at.ensures.back c.loop-class.invariant.count;
 }
 
 pub loop-class-preserved : goal.loop-class-preserved
 loop-class-preserved g c = record {
-  made = plainly_more c.loop-class.invariant.made (definition_of c.args.contents.now.numbering.now c.class-item.result, c.split_at.result.0.now) (data_uses c.args.contents.now.numbering.now (drop (c.loop-class.class-index + 1) c.args.contents.now.classes.now) c.split_at.result.1.now) (data_some c.args.contents.now.numbering.now c.args.contents.now.classes.now c.loop-class.rest.now c.split_at.result.0.now c.split_at.result.1.now c.loop-class.class-index c.method_count.result c.class-item.result c.members.result.now c.loop-class-test.true c.class-item.is c.members.ensures c.method_count.ensures c.split_at.ensures.front c.split_at.ensures.back (sym (c.is_bare.ensures c.args.contents.now.numbering.now) ∙ c.if-is_bare.false)) c.put.ensures.adds;
+  made = plainly_more c.loop-class.invariant.made (definition_of c.args.contents.now.numbering.now c.class-item.result, c.split_at.result.0.now) (data_uses c.args.contents.now.numbering.now (drop (c.loop-class.class-index + 1) c.args.contents.now.classes.now) c.split_at.result.1.now) (data_some c.args.contents.now.numbering.now c.args.contents.now.classes.now c.loop-class.rest.now c.split_at.result.0.now c.split_at.result.1.now c.loop-class.class-index c.method_count.result c.class-item.result c.members.result.now c.loop-class-test.true c.class-item.is c.members.ensures c.method_count.ensures c.split_at.ensures.front c.split_at.ensures.back (sym (c.has_no_members.ensures c.args.contents.now.numbering.now) ∙ c.if-has_no_members.false)) c.put.ensures.adds;
   count = class_rest c.args.contents.now.classes.now c.loop-class.class-index c.class-item.result c.members.result.now c.loop-class-test.true c.class-item.is c.members.ensures c.method_count.result c.loop-class.rest.now c.split_at.result.1.now c.method_count.ensures c.split_at.ensures.back c.loop-class.invariant.count;
 }
 

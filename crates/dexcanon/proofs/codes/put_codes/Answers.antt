@@ -5,7 +5,7 @@ use Rattle.dexmembers.specs.Numbered.{AreKnownMembers, IsKnownMethod, NumberedMe
 use Rattle.dexclass.specs.Uses.{IsKnownClass}
 use Rattle.dexlayout.specs.Places.{DebugPlaces}
 use Rattle.dexcanon.specs.Codes.{class_methods, method_codes}
-use Rattle.dexcanon.proofs.Aligned.{Aligned, aligned_none, front_fit, aligned_joined, aligned_all}
+use Rattle.dexcanon.proofs.Aligned.{Aligned, aligned_none, prefix_fit, aligned_joined, aligned_all}
 use Rattle.dexcanon.proofs.CodeItems.{codes_split, direct_first}
 use Rattle.dexcanon.proofs.Written.{adds_as}
 use Rattle.dexcanon.proofs.SectionItems.{laid_codes_bytes, laid_codes_count, laid_codes_fit}
@@ -66,7 +66,7 @@ put_method_codes-at-requires-clause-known g c = subst (All (IsKnownMethod c.args
 pub put_method_codes-at-requires-clause-fit : goal.put_method_codes-at-requires-clause-fit
 put_method_codes-at-requires-clause-fit g c =
     let here = goal.at.put_method_codes-at-requires-clause-fit g c in
-    (c.args.contents.now.limit, front_fit (method_codes c.args.contents.now.numbering.now c.direct_methods-direct.result c.split_at.result.0.now) (method_codes c.args.contents.now.numbering.now (c.virtual_methods-virtuals.result ++ class_methods (drop (c.loop-class.class-index + 1) c.args.contents.now.classes.now)) c.split_at.result.1.now) c.loop-class.invariant.made (direct_codes g here.After-split_at (methods g here.After-virtual_methods-virtuals)) (laid_codes_fit c.requires (c.places-places.ensures ∙ ap (λ (d : DebugPlaces). d.places) c.debugs.ensures) c.offsets-rest.ensures c.end-at.ensures))
+    (c.args.contents.now.limit, prefix_fit (method_codes c.args.contents.now.numbering.now c.direct_methods-direct.result c.split_at.result.0.now) (method_codes c.args.contents.now.numbering.now (c.virtual_methods-virtuals.result ++ class_methods (drop (c.loop-class.class-index + 1) c.args.contents.now.classes.now)) c.split_at.result.1.now) c.loop-class.invariant.made (direct_codes g here.After-split_at (methods g here.After-virtual_methods-virtuals)) (laid_codes_fit c.requires (c.places-places.ensures ∙ ap (λ (d : DebugPlaces). d.places) c.debugs.ensures) c.offsets-rest.ensures c.end-at.ensures))
 
 pub split_at-requires-in-loop-class : goal.split_at-requires-in-loop-class
 split_at-requires-in-loop-class g c =
@@ -79,7 +79,7 @@ put_method_codes-at-requires-in-loop-class-clause-known g c =
 pub put_method_codes-at-requires-in-loop-class-clause-fit : goal.put_method_codes-at-requires-in-loop-class-clause-fit
 put_method_codes-at-requires-in-loop-class-clause-fit g c =
     let here = goal.at.put_method_codes-at-requires-in-loop-class-clause-fit g c in
-    (c.args.contents.now.limit, front_fit (method_codes c.args.contents.now.numbering.now c.virtual_methods-virtuals.result c.split_at-in-loop-class.result.0.now) (method_codes c.args.contents.now.numbering.now (class_methods (drop (c.loop-class.class-index + 1) c.args.contents.now.classes.now)) c.split_at-in-loop-class.result.1.now) (between g here.After-put_method_codes-at (direct_codes g here.After-split_at (methods g here.After-virtual_methods-virtuals))) (virtual_codes g here.After-split_at-in-loop-class) (laid_codes_fit c.requires (c.places-places.ensures ∙ ap (λ (d : DebugPlaces). d.places) c.debugs.ensures) c.offsets-rest.ensures c.end-at.ensures))
+    (c.args.contents.now.limit, prefix_fit (method_codes c.args.contents.now.numbering.now c.virtual_methods-virtuals.result c.split_at-in-loop-class.result.0.now) (method_codes c.args.contents.now.numbering.now (class_methods (drop (c.loop-class.class-index + 1) c.args.contents.now.classes.now)) c.split_at-in-loop-class.result.1.now) (between g here.After-put_method_codes-at (direct_codes g here.After-split_at (methods g here.After-virtual_methods-virtuals))) (virtual_codes g here.After-split_at-in-loop-class) (laid_codes_fit c.requires (c.places-places.ensures ∙ ap (λ (d : DebugPlaces). d.places) c.debugs.ensures) c.offsets-rest.ensures c.end-at.ensures))
 
 pub loop-class-preserved : goal.loop-class-preserved
 loop-class-preserved g c =

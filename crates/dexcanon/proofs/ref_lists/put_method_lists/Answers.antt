@@ -56,7 +56,7 @@ returns-clause-end g c =
 
 pub returns-clause-left : goal.returns-clause-left
 returns-clause-left g c =
-    sym (ap (λ xs. drop (total (parameter_counts xs)) c.loop-i.rest.now) (drop_all c.loop-i.i c.args.methods.now (omega (arith, c.loop-i-test.false, c.len-i-end.ensures)))) ∙ (c.loop-i.invariant c.requires.fit.0 c.requires.fit.1).behind
+    sym (ap (λ xs. drop (total (parameter_counts xs)) c.loop-i.rest.now) (drop_all c.loop-i.i c.args.methods.now (omega (arith, c.loop-i-test.false, c.len-i-end.ensures)))) ∙ (c.loop-i.invariant c.requires.fit.0 c.requires.fit.1).following
 
 pub returns-clause-adds : goal.returns-clause-adds
 returns-clause-adds g c =

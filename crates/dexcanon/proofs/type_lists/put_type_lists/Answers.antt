@@ -30,11 +30,11 @@ put_aligned-at-requires-clause-fits g c =
     record {
       known = subst (All (λ i. i < length m.types)) (sym c.types-item.is) (subst (All (All (λ i. i < length m.types))) (sym (c.written-written.ensures ∙ ap (λ (d : TypeListPlaces). d.written) c.type_lists.ensures)) c.requires.laid.type_lists_are.known c.loop-types.types-index ns c.loop-types-test.true);
       types_few = omega (arith, c.requires.writable.types_few);
-      count_few = omega (arith, length_type_list m ns, next_ends c.loop-types.invariant (next g (goal.at.put_aligned-at-requires-clause-fits g c).After-types-item), subst (λ n. n ≤ 1073741824) (sym (ap (λ n. end_from 4 n (map (type_list_bytes c.args.contents.now.numbering.now) (map (types_at c.args.contents.now.numbering.now) c.written-written.result.now))) (ap (λ (h : Head). h.data_off) c.head-at.ensures ∙ c.requires.laid.head_tells.tables.data_begins) ∙ ap (end_from 4 (data_start (ordered_of c.args.contents.now.numbering.now c.args.contents.now.classes.now))) (ap (λ ls. map (type_list_bytes c.args.contents.now.numbering.now) (map (types_at c.args.contents.now.numbering.now) ls)) (c.written-written.ensures ∙ ap (λ (d : TypeListPlaces). d.written) c.type_lists.ensures) ∙ ap (map (type_list_bytes c.args.contents.now.numbering.now)) c.requires.laid.type_lists_are.written_are))) (type_lists_fit (ordered_of c.args.contents.now.numbering.now c.args.contents.now.classes.now) c.requires.writable.fits));
+      count_few = omega (arith, length_type_list m ns, next_ends c.loop-types.invariant (next g (goal.at.put_aligned-at-requires-clause-fits g c).After-types-item), subst (λ n. n ≤ 1073741824) (sym (ap (λ n. end_from 4 n (map (type_list_bytes c.args.contents.now.numbering.now) (map (types_at c.args.contents.now.numbering.now) c.written-written.result.now))) (ap (λ (h : Head). h.data_off) c.head-at.ensures ∙ c.requires.laid.head_states.tables.data_begins) ∙ ap (end_from 4 (data_start (ordered_of c.args.contents.now.numbering.now c.args.contents.now.classes.now))) (ap (λ ls. map (type_list_bytes c.args.contents.now.numbering.now) (map (types_at c.args.contents.now.numbering.now) ls)) (c.written-written.ensures ∙ ap (λ (d : TypeListPlaces). d.written) c.type_lists.ensures) ∙ ap (map (type_list_bytes c.args.contents.now.numbering.now)) c.requires.laid.type_lists_are.written_are))) (type_lists_fit (ordered_of c.args.contents.now.numbering.now c.args.contents.now.classes.now) c.requires.writable.fits));
     }
 
 pub put_aligned-at-requires-clause-small : goal.put_aligned-at-requires-clause-small
-put_aligned-at-requires-clause-small g c = omega (arith, next_ends c.loop-types.invariant (next g (goal.at.put_aligned-at-requires-clause-small g c).After-types-item), subst (λ n. n ≤ 1073741824) (sym (ap (λ n. end_from 4 n (map (type_list_bytes c.args.contents.now.numbering.now) (map (types_at c.args.contents.now.numbering.now) c.written-written.result.now))) (ap (λ (h : Head). h.data_off) c.head-at.ensures ∙ c.requires.laid.head_tells.tables.data_begins) ∙ ap (end_from 4 (data_start (ordered_of c.args.contents.now.numbering.now c.args.contents.now.classes.now))) (ap (λ ls. map (type_list_bytes c.args.contents.now.numbering.now) (map (types_at c.args.contents.now.numbering.now) ls)) (c.written-written.ensures ∙ ap (λ (d : TypeListPlaces). d.written) c.type_lists.ensures) ∙ ap (map (type_list_bytes c.args.contents.now.numbering.now)) c.requires.laid.type_lists_are.written_are))) (type_lists_fit (ordered_of c.args.contents.now.numbering.now c.args.contents.now.classes.now) c.requires.writable.fits))
+put_aligned-at-requires-clause-small g c = omega (arith, next_ends c.loop-types.invariant (next g (goal.at.put_aligned-at-requires-clause-small g c).After-types-item), subst (λ n. n ≤ 1073741824) (sym (ap (λ n. end_from 4 n (map (type_list_bytes c.args.contents.now.numbering.now) (map (types_at c.args.contents.now.numbering.now) c.written-written.result.now))) (ap (λ (h : Head). h.data_off) c.head-at.ensures ∙ c.requires.laid.head_states.tables.data_begins) ∙ ap (end_from 4 (data_start (ordered_of c.args.contents.now.numbering.now c.args.contents.now.classes.now))) (ap (λ ls. map (type_list_bytes c.args.contents.now.numbering.now) (map (types_at c.args.contents.now.numbering.now) ls)) (c.written-written.ensures ∙ ap (λ (d : TypeListPlaces). d.written) c.type_lists.ensures) ∙ ap (map (type_list_bytes c.args.contents.now.numbering.now)) c.requires.laid.type_lists_are.written_are))) (type_lists_fit (ordered_of c.args.contents.now.numbering.now c.args.contents.now.classes.now) c.requires.writable.fits))
 
 pub loop-types-preserved : goal.loop-types-preserved
 loop-types-preserved g c =
@@ -42,5 +42,5 @@ loop-types-preserved g c =
 
 pub returns : goal.returns
 returns g c =
-    adds_as (ap (λ n. bytes_from 4 n (map (type_list_bytes c.args.contents.now.numbering.now) (map (types_at c.args.contents.now.numbering.now) c.written-written.result.now))) (ap (λ (h : Head). h.data_off) c.head-at.ensures ∙ c.requires.laid.head_tells.tables.data_begins) ∙ ap (bytes_from 4 (data_start (ordered_of c.args.contents.now.numbering.now c.args.contents.now.classes.now))) (ap (λ ls. map (type_list_bytes c.args.contents.now.numbering.now) (map (types_at c.args.contents.now.numbering.now) ls)) (c.written-written.ensures ∙ ap (λ (d : TypeListPlaces). d.written) c.type_lists.ensures) ∙ ap (map (type_list_bytes c.args.contents.now.numbering.now)) c.requires.laid.type_lists_are.written_are))
+    adds_as (ap (λ n. bytes_from 4 n (map (type_list_bytes c.args.contents.now.numbering.now) (map (types_at c.args.contents.now.numbering.now) c.written-written.result.now))) (ap (λ (h : Head). h.data_off) c.head-at.ensures ∙ c.requires.laid.head_states.tables.data_begins) ∙ ap (bytes_from 4 (data_start (ordered_of c.args.contents.now.numbering.now c.args.contents.now.classes.now))) (ap (λ ls. map (type_list_bytes c.args.contents.now.numbering.now) (map (types_at c.args.contents.now.numbering.now) ls)) (c.written-written.ensures ∙ ap (λ (d : TypeListPlaces). d.written) c.type_lists.ensures) ∙ ap (map (type_list_bytes c.args.contents.now.numbering.now)) c.requires.laid.type_lists_are.written_are))
     (aligned_all c.loop-types.invariant (mapped_twice_all (type_list_bytes c.args.contents.now.numbering.now) (types_at c.args.contents.now.numbering.now) c.written-written.result.now c.loop-types.types-index c.loop-types-test.false))

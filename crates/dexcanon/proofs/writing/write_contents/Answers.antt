@@ -1,24 +1,24 @@
 use Rattle.std.proofs.Common.{rules, ◌≡◌, ◌++◌, OnOk, IfErr, ap, arith, subst, ◌∙◌}
 use Rattle.dexspec.specs.Canonical.{with_sums, unsigned_file}
-use Rattle.dexhead.specs.Laid.{behind_header}
+use Rattle.dexhead.specs.Laid.{after_header}
 use Rattle.dexcanon.specs.internal.Ready.{ordered_in}
 use Rattle.dexcanon.specs.Written.{HasLeft}
 use Rattle.dexcanon.proofs.writing.write_contents.Goals as goal
 use Rattle.dexcanon.proofs.writing.write_contents.Goals.{After-put_head}
 
 pub put_head-requires-clause-room : goal.put_head-requires-clause-room
-put_head-requires-clause-room g c = omega (arith, c.sealed_head-buffer.ensures.room, c.requires.ready.least)
+put_head-requires-clause-room g c = omega (arith, c.head_with_sums-buffer.ensures.room, c.requires.ready.least)
 
 -- the file is what is buffered and what follows
-whole : (g : _) (c : After-put_head g) → c.put_head.new.buffer.items ++ behind_header (ordered_in c.args.contents.now) ≡ with_sums (unsigned_file (ordered_in c.args.contents.now))
-whole g c = ap (λ z. z ++ behind_header (ordered_in c.args.contents.now)) c.put_head.ensures.items ∙ c.sealed_head-buffer.ensures.bytes
+whole : (g : _) (c : After-put_head g) → c.put_head.new.buffer.items ++ after_header (ordered_in c.args.contents.now) ≡ with_sums (unsigned_file (ordered_in c.args.contents.now))
+whole g c = ap (λ z. z ++ after_header (ordered_in c.args.contents.now)) c.put_head.ensures.items ∙ c.head_with_sums-buffer.ensures.bytes
 
 pub returns-clause-written : goal.returns-clause-written
 returns-clause-written g c =
-    let written = subst (λ z. OnOk c.write_through-result.result (g.W.Sink.tells c.args.sink.now → g.W.Sink.taken c.write_through-result.new.out.target.sink.now ≡ g.W.Sink.taken c.args.sink.now ++ z)) (whole g (goal.at.returns-clause-written g c).After-put_head) c.write_through-result.ensures.written in
+    let written = subst (λ z. OnOk c.write_through-result.result (g.W.Sink.reports c.args.sink.now → g.W.Sink.taken c.write_through-result.new.out.target.sink.now ≡ g.W.Sink.taken c.args.sink.now ++ z)) (whole g (goal.at.returns-clause-written g c).After-put_head) c.write_through-result.ensures.written in
     search rules
 
 pub returns-clause-left : goal.returns-clause-left
 returns-clause-left g c =
-    let left = subst (λ z. IfErr c.write_through-result.result (HasLeft (g.W.Sink.tells c.args.sink.now) c.args.sink.now c.write_through-result.new.out.target.sink.now g.W.Sink.taken z)) (whole g (goal.at.returns-clause-left g c).After-put_head) c.write_through-result.ensures.left in
+    let left = subst (λ z. IfErr c.write_through-result.result (HasLeft (g.W.Sink.reports c.args.sink.now) c.args.sink.now c.write_through-result.new.out.target.sink.now g.W.Sink.taken z)) (whole g (goal.at.returns-clause-left g c).After-put_head) c.write_through-result.ensures.left in
     search rules

@@ -1,19 +1,19 @@
 use Rattle.dexspec.specs.Mentions.{symbols_of}
 use Rattle.dexclass.specs.Numbered.{type_at, definition_of}
 use Rattle.dexclass.specs.Uses.{class_uses}
-use Rattle.dexclass.proofs.SameClasses.{uses_led, members_lead, stays_same}
+use Rattle.dexclass.proofs.SameClasses.{uses_remapped, members_mapped, stays_same}
 use Rattle.dexclass.proofs.laws.renumbering_law.Goals as goal
 
 pub returns-clause-same : goal.returns-clause-same
-returns-clause-same c = λ m n r class lead leads known.
-    let uses = members_lead r class leads in
-    let keeps = c.members_led_law.ensures.keeps m n r class.members lead uses known.members_known in
-    stays_same m n r lead class leads (record {
+returns-clause-same c = λ m n r class are_mapped maps_to known.
+    let uses = members_mapped r class maps_to in
+    let keeps = c.members_remapped_law.ensures.keeps m n r class.members are_mapped uses known.members_known in
+    stays_same m n r are_mapped class maps_to (record {
       known = keeps.0;
       same = keeps.1;
-      ordered = c.members_led_law.ensures.order m n r class.members lead uses known.members_ordered;
-      own = c.members_led_law.ensures.class m n r (type_at m class.name) class.members lead uses known.members_own;
+      ordered = c.members_remapped_law.ensures.order m n r class.members are_mapped uses known.members_ordered;
+      own = c.members_remapped_law.ensures.class m n r (type_at m class.name) class.members are_mapped uses known.members_own;
     }) known
 
 pub returns-clause-all : goal.returns-clause-all
-returns-clause-all c = λ m r class rising all known. uses_led m r (class_uses class) (symbols_of (definition_of m class)) all (c.uses_law.ensures.uses m class rising known)
+returns-clause-all c = λ m r class rising all known. uses_remapped m r (class_uses class) (symbols_of (definition_of m class)) all (c.uses_law.ensures.uses m class rising known)

@@ -1,6 +1,6 @@
 use Rattle.dexclass.specs.Renumbering.{renumbered}
-use Rattle.dexclass.proofs.Renumbered.{LedTo}
+use Rattle.dexclass.proofs.Renumbered.{RemappedAt}
 use Rattle.dexclass.proofs.trimming.cut_all.Given as goal
 
 abbrev pub invariant-loop-i : goal.invariant-loop-i
-invariant-loop-i l = LedTo (renumbered l.remap) l.classes.items l.fn.classes.items l.i
+invariant-loop-i l = RemappedAt (renumbered l.remap) l.classes.items l.fn.classes.items l.i

@@ -7,7 +7,7 @@ use Rattle.dexcmd.proofs.each_file.run_over_each.Goals as goal
 pub loop-file-init : goal.loop-file-init
 loop-file-init g c = record {
   works = c.standard-out.ensures.works;
-  so_far = at_start g.D.Devices.is_closed (goes_on c.args.task) (IsFileRun (g.D.Devices.is_input c.args.devices.now) (g.D.Devices.is_standard c.args.devices.now) g.D.Devices.is_closed g.D.Input.Source.tells g.D.Input.Source.to_come g.D.Input.Source.has_failed g.D.Output.Sink.tells g.D.Output.Sink.taken g.D.Output.Sink.has_failed c.args.task) (map string_bytes c.args.files.now) c.standard-out.result
+  so_far = at_start g.D.Devices.is_closed (goes_on c.args.task) (IsFileRun (g.D.Devices.is_input c.args.devices.now) (g.D.Devices.is_standard c.args.devices.now) g.D.Devices.is_closed g.D.Input.Source.reports g.D.Input.Source.to_come g.D.Input.Source.has_failed g.D.Output.Sink.reports g.D.Output.Sink.taken g.D.Output.Sink.has_failed c.args.task) (map string_bytes c.args.files.now) c.standard-out.result
       c.empty_report-report.result.status (map string_bytes c.empty_report-report.result.lines.items) c.empty_report-report.ensures.exit c.empty_report-report.ensures.printed;
 }
 
@@ -17,7 +17,7 @@ loop-file-preserved g c =
     let on : goes_on c.args.task c.run_over-outcome.result ≡ true = sym c.goes_on.ensures ∙ c.if-not-goes_on.false in
     record {
       works = c.run_over-outcome.ensures.works on;
-      so_far = one_more g.D.Devices.is_closed (goes_on c.args.task) (IsFileRun (g.D.Devices.is_input c.args.devices.now) (g.D.Devices.is_standard c.args.devices.now) g.D.Devices.is_closed g.D.Input.Source.tells g.D.Input.Source.to_come g.D.Input.Source.has_failed g.D.Output.Sink.tells g.D.Output.Sink.taken g.D.Output.Sink.has_failed c.args.task) (map string_bytes c.args.files.now) c.standard-out.result
+      so_far = one_more g.D.Devices.is_closed (goes_on c.args.task) (IsFileRun (g.D.Devices.is_input c.args.devices.now) (g.D.Devices.is_standard c.args.devices.now) g.D.Devices.is_closed g.D.Input.Source.reports g.D.Input.Source.to_come g.D.Input.Source.has_failed g.D.Output.Sink.reports g.D.Output.Sink.taken g.D.Output.Sink.has_failed c.args.task) (map string_bytes c.args.files.now) c.standard-out.result
           (drop c.loop-file.file-index (map string_bytes c.args.files.now)) (drop (c.loop-file.file-index + 1) (map string_bytes c.args.files.now)) c.as_str-name.result.now c.loop-file.out
           c.run_over-outcome.new.out c.run_over-outcome.result c.loop-file.report.status (map string_bytes c.loop-file.report.lines.items)
           (next_name string_bytes c.args.files.now c.loop-file.file-index c.file-item.result c.as_str-name.result.now lt c.file-item.is c.as_str-name.ensures.value) c.run_over-outcome.ensures.ran
@@ -31,7 +31,7 @@ returns-then-not-goes_on g c =
     let lt : c.loop-file.file-index < length c.args.files.now = omega arith in record {
       out = c.standard-out.result;
       standard = c.standard-out.ensures.standard;
-      each = one_last g.D.Devices.is_closed (goes_on c.args.task) (IsFileRun (g.D.Devices.is_input c.args.devices.now) (g.D.Devices.is_standard c.args.devices.now) g.D.Devices.is_closed g.D.Input.Source.tells g.D.Input.Source.to_come g.D.Input.Source.has_failed g.D.Output.Sink.tells g.D.Output.Sink.taken g.D.Output.Sink.has_failed c.args.task) (map string_bytes c.args.files.now) c.standard-out.result
+      each = one_last g.D.Devices.is_closed (goes_on c.args.task) (IsFileRun (g.D.Devices.is_input c.args.devices.now) (g.D.Devices.is_standard c.args.devices.now) g.D.Devices.is_closed g.D.Input.Source.reports g.D.Input.Source.to_come g.D.Input.Source.has_failed g.D.Output.Sink.reports g.D.Output.Sink.taken g.D.Output.Sink.has_failed c.args.task) (map string_bytes c.args.files.now) c.standard-out.result
           (drop c.loop-file.file-index (map string_bytes c.args.files.now)) (drop (c.loop-file.file-index + 1) (map string_bytes c.args.files.now)) c.as_str-name.result.now c.loop-file.out
           c.run_over-outcome.new.out c.run_over-outcome.result c.loop-file.report.status (map string_bytes c.loop-file.report.lines.items)
           (next_name string_bytes c.args.files.now c.loop-file.file-index c.file-item.result c.as_str-name.result.now lt c.file-item.is c.as_str-name.ensures.value) c.run_over-outcome.ensures.ran
@@ -43,6 +43,6 @@ returns g c =
     let past : length (map string_bytes c.args.files.now) ≤ c.loop-file.file-index = omega (arith, length-map c.args.files.now string_bytes) in record {
       out = c.standard-out.result;
       standard = c.standard-out.ensures.standard;
-      each = c.loop-file.invariant.so_far c.loop-file.report (at_end g.D.Devices.is_closed (goes_on c.args.task) (IsFileRun (g.D.Devices.is_input c.args.devices.now) (g.D.Devices.is_standard c.args.devices.now) g.D.Devices.is_closed g.D.Input.Source.tells g.D.Input.Source.to_come g.D.Input.Source.has_failed g.D.Output.Sink.tells g.D.Output.Sink.taken g.D.Output.Sink.has_failed c.args.task)
+      each = c.loop-file.invariant.so_far c.loop-file.report (at_end g.D.Devices.is_closed (goes_on c.args.task) (IsFileRun (g.D.Devices.is_input c.args.devices.now) (g.D.Devices.is_standard c.args.devices.now) g.D.Devices.is_closed g.D.Input.Source.reports g.D.Input.Source.to_come g.D.Input.Source.has_failed g.D.Output.Sink.reports g.D.Output.Sink.taken g.D.Output.Sink.has_failed c.args.task)
           (drop c.loop-file.file-index (map string_bytes c.args.files.now)) c.loop-file.out c.loop-file.report (drop_all c.loop-file.file-index (map string_bytes c.args.files.now) past));
     }

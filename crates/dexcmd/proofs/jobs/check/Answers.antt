@@ -9,8 +9,8 @@ report_of-requires g c =
 
 pub returns : goal.returns
 returns g c =
-    checked (g.D.Devices.is_input c.args.devices.now) (g.D.Devices.is_output c.args.devices.now) (g.D.Devices.is_standard c.args.devices.now) g.D.Devices.is_closed g.D.Input.Source.tells g.D.Input.Source.to_come g.D.Input.Source.has_failed
-    g.D.Output.Sink.tells g.D.Output.Sink.taken g.D.Output.Sink.has_failed c.report_of.result c.close-is_closed.result c.standard-out.result c.check_run-outcome.new.out c.close-is_closed.ensures
+    checked (g.D.Devices.is_input c.args.devices.now) (g.D.Devices.is_output c.args.devices.now) (g.D.Devices.is_standard c.args.devices.now) g.D.Devices.is_closed g.D.Input.Source.reports g.D.Input.Source.to_come g.D.Input.Source.has_failed
+    g.D.Output.Sink.reports g.D.Output.Sink.taken g.D.Output.Sink.has_failed c.report_of.result c.close-is_closed.result c.standard-out.result c.check_run-outcome.new.out c.close-is_closed.ensures
     (map string_bytes c.args.files.now) (map (λ name. name.now) c.as_slice-names.result.now) c.as_mut_slice.result.now c.in_ok-inputs.inputs.items c.check_run-outcome.new.inputs c.check_run-outcome.result
     (ap (map (λ name. name.now)) c.as_slice-names.ensures.value ∙ c.in_ok-texts.ensures) c.as_mut_slice.ensures.value c.in_ok-inputs.ensures.named c.standard-out.ensures.standard
-    (record { lines = c.check_run-outcome.ensures.lines; begun = c.check_run-outcome.ensures.begun; no_further = c.check_run-outcome.ensures.no_further; readers = c.check_run-outcome.ensures.readers; writer = c.check_run-outcome.ensures.writer; fault = c.check_run-outcome.ensures.fault; goes_on_telling = c.check_run-outcome.ensures.tells }) c.report_of.ensures
+    (record { lines = c.check_run-outcome.ensures.lines; begun = c.check_run-outcome.ensures.begun; no_further = c.check_run-outcome.ensures.no_further; readers = c.check_run-outcome.ensures.readers; writer = c.check_run-outcome.ensures.writer; fault = c.check_run-outcome.ensures.fault; goes_on_telling = c.check_run-outcome.ensures.reports }) c.report_of.ensures

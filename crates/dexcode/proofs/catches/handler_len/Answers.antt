@@ -21,14 +21,14 @@ returns-in-Some-read_catch_all c =
     let read = c.in-Some.ensures.read in
     record {
       handler = record { catches = c.in-Some.ensures.catches; catch_all_addr = c.in-Some-read_catch_all.field-0-0 };
-      stands = record {
+      encodes = record {
         count = c.in-Ok.read.0;
         count_size = c.in-Ok.read.1;
         catches_size = c.in-Some.size;
         all_size = c.in-Some-read_catch_all.all_size;
         count_is = c.in-Ok.ensures.found;
         many = sym (read.many ∙ c.unsigned_abs-many.ensures.value ∙ ap nat_abs same);
-        catches_are = read.stand;
+        catches_are = read.are_encoded;
         all = subst (λ z. CatchAllAt c.args.starts.now z c.args.bytes.now (c.args.at + c.in-Ok.read.1 + c.in-Some.size) c.in-Some-read_catch_all.field-0-0 c.in-Some-read_catch_all.all_size) same c.in-Some-read_catch_all.ensures.some;
         size = refl;
       };

@@ -30,7 +30,7 @@ returns-clause-handler c =
       all_size = c.in-Some.read.1;
       count_is = c.in-Ok.ensures.found;
       many = sym (c.in_ok-catches.ensures.catches.many ∙ c.unsigned_abs-many.ensures.value ∙ ap nat_abs same);
-      catches_are = c.in_ok-catches.ensures.catches.stand;
+      catches_are = c.in_ok-catches.ensures.catches.are_encoded;
       all = subst (λ z. CatchAllAt c.args.starts.now z c.args.bytes.now (c.args.at + c.in-Ok.read.1 + c.in_ok-catches.catches_size) c.in-Some.read.0 c.in-Some.read.1) same c.in-Some.ensures.some;
       size = refl;
     }

@@ -3,4 +3,4 @@ use Rattle.dexcode.proofs.HandlerPlaces.{named_short}
 use Rattle.dexcode.proofs.code_laws.code_types_law.Goals as goal
 
 pub returns : goal.returns
-returns c = λ m d x stands few. named_short m d.tries few (tries_in_range m d.tries x.tries stands.tries_are)
+returns c = λ m d x encodes few. named_short m d.tries few (tries_in_range m d.tries x.tries encodes.tries_are)

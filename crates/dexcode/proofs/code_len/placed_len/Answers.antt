@@ -1,7 +1,7 @@
 use Rattle.std.proofs.Common.{◌≡◌, [], length, ap, arith}
 use Rattle.std.proofs.lemmas.Grind.{common_steps}
 use Rattle.dexcode.specs.CodePut.{gap_bytes}
-use Rattle.dexcode.proofs.CodeSizes.{item_alone, item_behind}
+use Rattle.dexcode.proofs.CodeSizes.{item_alone, item_after}
 use Rattle.dexcode.proofs.code_len.placed_len.Goals as goal
 
 pub returns-then-is_empty : goal.returns-then-is_empty
@@ -12,4 +12,4 @@ returns-then-is_empty c = λ debug_off code hs stored units list.
 pub returns : goal.returns
 returns c = λ debug_off code hs stored units list.
     let some : c.args.tries.now ≡ [] → ⊥ = λ e. grind (arith, common_steps) in
-    omega (arith, item_behind debug_off code hs c.args.tries.now stored some, units, list, c.gap_len.ensures.len, ap (λ n. length (gap_bytes n)) units)
+    omega (arith, item_after debug_off code hs c.args.tries.now stored some, units, list, c.gap_len.ensures.len, ap (λ n. length (gap_bytes n)) units)

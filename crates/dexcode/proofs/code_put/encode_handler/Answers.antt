@@ -17,5 +17,5 @@ returns g c =
     let count = subst (λ (n : ℤ). gives (sleb128 n) c.args.out.now c.sleb.new.self) is c.sleb.ensures in
     let catches = subst (λ (cs : List Catch). gives (flat_map numbered_catch_bytes cs) c.sleb.new.self c.encode_all.new.out) c.catches.ensures c.encode_all.ensures in
     let all = subst (λ a. gives (flat_map uleb128 (option_to_list a)) c.encode_all.new.out c.encode_catch_all.new.out) c.catch_all_addr.ensures c.encode_catch_all.ensures in
-    let behind = g.met.O.Output.both (flat_map numbered_catch_bytes h.catches) (flat_map uleb128 (option_to_list h.catch_all_addr)) c.sleb.new.self c.encode_all.new.out c.encode_catch_all.new.out catches all in
-    g.met.O.Output.both (sleb128 (handler_count h)) (flat_map numbered_catch_bytes h.catches ++ flat_map uleb128 (option_to_list h.catch_all_addr)) c.args.out.now c.sleb.new.self c.encode_catch_all.new.out count behind
+    let following = g.met.O.Output.both (flat_map numbered_catch_bytes h.catches) (flat_map uleb128 (option_to_list h.catch_all_addr)) c.sleb.new.self c.encode_all.new.out c.encode_catch_all.new.out catches all in
+    g.met.O.Output.both (sleb128 (handler_count h)) (flat_map numbered_catch_bytes h.catches ++ flat_map uleb128 (option_to_list h.catch_all_addr)) c.args.out.now c.sleb.new.self c.encode_catch_all.new.out count following

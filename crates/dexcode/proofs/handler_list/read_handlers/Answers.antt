@@ -1,6 +1,6 @@
 use Rattle.std.proofs.Common.{◌∷◌, [], ◌++◌, ◌+◌, ◌-◌, refl, rules, arith}
 use Rattle.dexcode.specs.Reading.{HandlerAt, IsNumberPut}
-use Rattle.dexcode.proofs.Fronts.{stuck}
+use Rattle.dexcode.proofs.Prefixes.{stuck}
 use Rattle.dexcode.proofs.OneHandler.{one_handler}
 use Rattle.dexcode.proofs.Listed.{one_handler_more}
 use Rattle.dexcode.proofs.handler_list.read_handlers.Goals as goal
@@ -10,7 +10,7 @@ returns-in-None-clause-fault c = (
   refl,
   λ hs n many h. let read = c.loop-number.invariant.1 in
       stuck (HandlerAt c.args.starts.now c.args.types) (one_handler c.args.starts.now c.args.types) c.args.bytes.now c.args.first c.loop-number.invariant.0 hs c.loop-number.size n
-      (omega (arith, many, read.many, c.loop-number-test.true)) read.stand c.in-None.ensures h,
+      (omega (arith, many, read.many, c.loop-number-test.true)) read.are_encoded c.in-None.ensures h,
 )
 
 pub loop-number-preserved : goal.loop-number-preserved

@@ -26,7 +26,7 @@ pub returns-in_err-handler-clause-fault : goal.returns-in_err-handler-clause-fau
 returns-in_err-handler-clause-fault c =
     let p = err_from_is_err_and c.from_residual.result c.from_residual.ensures.1 in
     let at = HandlerAt c.args.starts.now c.args.types c.args.bytes.now in
-    rw (p.1, p.2) (fault_so (λ none h there. none h there.size (subst (λ k. at (c.args.list + k) h there.size) (sym c.from.ensures) there.stands)) c.in_err-handler.field-0.0 c.in_err-handler.ensures.fault)
+    rw (p.1, p.2) (fault_so (λ none h there. none h there.size (subst (λ k. at (c.args.list + k) h there.size) (sym c.from.ensures) there.encodes)) c.in_err-handler.field-0.0 c.in_err-handler.ensures.fault)
 
 pub returns-clause-number : goal.returns-clause-number
 returns-clause-number c = λ h there known.
@@ -35,7 +35,7 @@ returns-clause-number c = λ h there known.
     let put = c.in_ok-number.ensures in
     let read = subst (λ k. HandlerAt c.args.starts.now c.args.types c.args.bytes.now (c.args.list + k) c.in_ok-handler.handler c.in_ok-handler.field-0-1) c.from.ensures c.in_ok-handler.ensures.handler in
     let same : c.in_ok-handler.handler ≡ h =
-    (one_handler c.args.starts.now c.args.types c.args.bytes.now (c.args.list + c.args.off) c.in_ok-handler.handler h c.in_ok-handler.field-0-1 there.size read there.stands).0 in
+    (one_handler c.args.starts.now c.args.types c.args.bytes.now (c.args.list + c.args.off) c.in_ok-handler.handler h c.in_ok-handler.field-0-1 there.size read there.encodes).0 in
     let keys : new ≡ insert_key same_handler old h = put.keys ∙ ap (insert_key same_handler old) same in
     let is : get_or new c.in_ok-number.number no_handler ≡ h =
     get_or_from_slice_get new c.in_ok-number.number put.stored.0 no_handler put.stored.1 ∙ sym ((handler_decides c.in_ok-handler.handler put.stored.0).0 put.stored.2) ∙ same in

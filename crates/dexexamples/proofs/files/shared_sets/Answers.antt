@@ -24,13 +24,13 @@ pub returns-clause-first_use_weight : goal.returns-clause-first_use_weight
 unfolding weight mentions symbols_of
 returns-clause-first_use_weight c = refl
 
-pub returns-clause-alike : goal.returns-clause-alike
+pub returns-clause-equivalent : goal.returns-clause-equivalent
 unfolding unsigned_file layout type_list_end type_list_offsets annotation_end annotation_offsets array_end array_offsets string_end debug_end debug_offsets code_end code_offsets class_data_end class_data_offsets set_end set_offsets ref_list_end ref_list_offsets directory_end directory_offsets mentions symbols_of in_class_order depth code_bytes debug_bytes class_data_bytes ushort uint bytes_of opcode_of opcode_runs
-returns-clause-alike c = refl
+returns-clause-equivalent c = refl
 
-pub returns-clause-alike_weight : goal.returns-clause-alike_weight
+pub returns-clause-equivalent_weight : goal.returns-clause-equivalent_weight
 unfolding weight mentions symbols_of
-returns-clause-alike_weight c = refl
+returns-clause-equivalent_weight c = refl
 
 pub returns-clause-kind : goal.returns-clause-kind
 unfolding unsigned_file layout type_list_end type_list_offsets annotation_end annotation_offsets array_end array_offsets string_end debug_end debug_offsets code_end code_offsets class_data_end class_data_offsets set_end set_offsets ref_list_end ref_list_offsets directory_end directory_offsets mentions symbols_of in_class_order depth code_bytes debug_bytes class_data_bytes ushort uint bytes_of opcode_of opcode_runs

@@ -1,17 +1,17 @@
 use Rattle.std.proofs.Common.{rules}
 use Rattle.std.proofs.lemmas.Result.{err_from_is_err_and}
-use Rattle.dexhead.proofs.WrittenPieces.{written_more, front_more}
+use Rattle.dexhead.proofs.WrittenPieces.{written_more, prefix_more}
 use Rattle.dexhead.proofs.device.write_whole.Goals as goal
 
 pub pieces-preserved : goal.pieces-preserved
 pieces-preserved g c = record {
   works = search rules;
   fits = search rules;
-  tells = λ t. c.in_ok-done.ensures.tells (c.pieces.invariant.tells t);
-  front = λ t. written_more _ _ _ _ _ _ _ (c.pieces.invariant.front t) c.split_at.ensures.back (c.in_ok-done.ensures.appended (c.pieces.invariant.tells t));
+  reports = λ t. c.in_ok-done.ensures.reports (c.pieces.invariant.reports t);
+  front = λ t. written_more _ _ _ _ _ _ _ (c.pieces.invariant.front t) c.split_at.ensures.back (c.in_ok-done.ensures.appended (c.pieces.invariant.reports t));
 }
 
 pub returns-in_err-done-clause-front : goal.returns-in_err-done-clause-front
 returns-in_err-done-clause-front g c =
     let p = err_from_is_err_and c.from_residual.result c.from_residual.ensures.1 in
-    rw (p.1) (λ tells. front_more _ _ _ _ _ _ (c.pieces.invariant.front tells) c.split_at.ensures.back (c.in_err-done.ensures.front (c.pieces.invariant.tells tells)))
+    rw (p.1) (λ reports. prefix_more _ _ _ _ _ _ (c.pieces.invariant.front reports) c.split_at.ensures.back (c.in_err-done.ensures.front (c.pieces.invariant.reports reports)))

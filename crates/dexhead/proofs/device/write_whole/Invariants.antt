@@ -6,8 +6,8 @@ abbrev pub invariant-pieces : goal.invariant-pieces
 invariant-pieces g l = record {
   works : g.W.Sink.has_failed l.out ≡ false;
   fits : l.done ≤ length l.bytes;
-  tells : g.W.Sink.tells l.fn.out → g.W.Sink.tells l.out;
-  front : g.W.Sink.tells l.fn.out →
+  reports : g.W.Sink.reports l.fn.out → g.W.Sink.reports l.out;
+  front : g.W.Sink.reports l.fn.out →
       g.W.Sink.taken l.out ≡ g.W.Sink.taken l.fn.out ++ take l.done l.bytes;
 }
 

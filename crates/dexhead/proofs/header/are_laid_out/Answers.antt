@@ -1,7 +1,7 @@
 use Rattle.std.proofs.Common.{arith, false, IsTrue, List, [], ◌∷◌}
 use Rattle.dexhead.specs.declared.tables.Table.{Table}
 use Rattle.dexhead.specs.declared.tables.Table.TheVariants.{StringIds, TypeIds, ProtoIds, FieldIds, MethodIds, ClassDefs}
-use Rattle.dexhead.proofs.Judged.{laid_more, laid_no_more}
+use Rattle.dexhead.proofs.HeaderChecks.{laid_more, laid_no_more}
 use Rattle.dexhead.proofs.header.are_laid_out.Goals as goal
 
 abbrev all : List Table

@@ -1,6 +1,6 @@
 use Rattle.std.proofs.Common.{◌↔◌, map, drop}
 use Rattle.dexspec.specs.Header.{tables}
-use Rattle.dexhead.specs.internal.Judged.{IsLaidOut}
+use Rattle.dexhead.specs.internal.HeaderChecks.{IsLaidOut}
 use Rattle.dexhead.specs.Tables.{meant}
 use Rattle.dexhead.proofs.header.are_laid_out.Given as goal
 

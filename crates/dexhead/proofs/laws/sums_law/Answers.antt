@@ -1,5 +1,5 @@
 use Rattle.std.proofs.Common.{drop, refl}
-use Rattle.dexhead.proofs.PutHeads.{sums_set, head_set, head_told}
+use Rattle.dexhead.proofs.PutHeads.{sums_set, head_set, head_stated}
 use Rattle.dexhead.proofs.laws.sums_law.Goals as goal
 
 pub returns-clause-file : goal.returns-clause-file
@@ -8,5 +8,5 @@ returns-clause-file c = λ file begins. sums_set file (drop 32 file) begins refl
 pub returns-clause-head : goal.returns-clause-head
 returns-clause-head c = head_set
 
-pub returns-clause-told : goal.returns-clause-told
-returns-clause-told c = head_told
+pub returns-clause-reported : goal.returns-clause-reported
+returns-clause-reported c = head_stated

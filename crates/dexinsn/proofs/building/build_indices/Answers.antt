@@ -2,7 +2,7 @@ use Rattle.std.proofs.Common.{◌≡◌, ◌-◌, true, false, length, length-dr
 use Rattle.std.specs.Option.{is_some}
 use Rattle.dexspec.specs.Pieces.{index_pool, piece_size}
 use Rattle.dexinsn.proofs.BuiltIndices.{all_built, index_built, next_begins, next_piece, next_size, next_within, no_pool, none_built, plain_built, some_pool, some_units}
-use Rattle.dexinsn.proofs.IndexRoom.{room_behind, wide_room_behind}
+use Rattle.dexinsn.proofs.IndexRoom.{room_after, wide_room_after}
 use Rattle.dexinsn.proofs.building.build_indices.Goals as goal
 use Rattle.dexinsn.proofs.building.build_indices.Goals.{then-is_some, else-is_some}
 
@@ -28,14 +28,14 @@ index_at-number-requires-clause-some c =
     let next = next_piece c.args.units.now c.args.count c.loop-size.at c.loop-size.indices.items c.loop-size.invariant.built (omega arith) in
     let some : is_some c.kind_at.result ≡ true = sym c.is_some.ensures ∙ c.if-is_some.true in
     let pool = some_pool (index_pool (drop c.loop-size.at c.args.units.now)) (ap is_some (sym c.kind_at.ensures) ∙ some) in
-    room_behind c.args.units.now c.loop-size.at next.piece.units pool.0 next.size pool.1
+    room_after c.args.units.now c.loop-size.at next.piece.units pool.0 next.size pool.1
 
 pub index_at-number-requires-clause-wide : goal.index_at-number-requires-clause-wide
 index_at-number-requires-clause-wide c =
     let next = next_piece c.args.units.now c.args.count c.loop-size.at c.loop-size.indices.items c.loop-size.invariant.built (omega arith) in
     let some : is_some c.kind_at.result ≡ true = sym c.is_some.ensures ∙ c.if-is_some.true in
     let pool = some_pool (index_pool (drop c.loop-size.at c.args.units.now)) (ap is_some (sym c.kind_at.ensures) ∙ some) in
-    wide_room_behind c.args.units.now c.loop-size.at next.piece.units pool.0 next.size pool.1
+    wide_room_after c.args.units.now c.loop-size.at next.piece.units pool.0 next.size pool.1
 
 pub overflow_cast-unit : goal.overflow_cast-unit
 overflow_cast-unit c =

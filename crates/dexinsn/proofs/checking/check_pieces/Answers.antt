@@ -6,8 +6,8 @@ use Rattle.dexspec.proofs.wellformed.FormedRows.{length-ushorts_at}
 use Rattle.dexinsn.specs.Units.{units_in}
 use Rattle.dexinsn.specs.Reading.{AreStartsAt}
 use Rattle.dexinsn.proofs.FaultsRead.{pieces_fault}
-use Rattle.dexinsn.proofs.Halves.{ushort_behind}
-use Rattle.dexinsn.proofs.Leading.{pieces_there, shape_there}
+use Rattle.dexinsn.proofs.Halves.{ushort_after}
+use Rattle.dexinsn.proofs.NotedTargets.{pieces_there, shape_there}
 use Rattle.dexinsn.proofs.StartsRead.{starts_there}
 use Rattle.dexinsn.proofs.StoredRead.{few_units}
 use Rattle.dexinsn.proofs.checking.check_pieces.Goals as goal
@@ -27,9 +27,9 @@ returns c =
     let bytes = c.in-Some.bytes.now in
     let first : off + 0 ≡ off = omega arith in
     let registers : RegistersAt b off c.u16_at.result c.u16_at-2.result c.u16_at-3.result = record {
-      registers_size = ap (ushort_at b) (sym first) ∙ sym (rw c.rest-code.ensures at c.u16_at.ensures ∙ ushort_behind b off 0);
-      ins_size = sym (rw c.rest-code.ensures at c.u16_at-2.ensures ∙ ushort_behind b off 2);
-      outs_size = sym (rw c.rest-code.ensures at c.u16_at-3.ensures ∙ ushort_behind b off 4);
+      registers_size = ap (ushort_at b) (sym first) ∙ sym (rw c.rest-code.ensures at c.u16_at.ensures ∙ ushort_after b off 0);
+      ins_size = sym (rw c.rest-code.ensures at c.u16_at-2.ensures ∙ ushort_after b off 2);
+      outs_size = sym (rw c.rest-code.ensures at c.u16_at-3.ensures ∙ ushort_after b off 4);
     } in
     let count : length bytes / 2 ≡ length (units_in bytes) = sym (length-ushorts_at bytes 0 (length bytes / 2)) in
     let starts = c.in_ok-indices.ensures.starts in

@@ -1,7 +1,7 @@
 use Rattle.std.proofs.Common.{◌≡◌, ◌/◌, ◌+◌, length, ap, sym, subst, arith}
 use Rattle.dexinsn.specs.Split.{cuts_of}
 use Rattle.dexinsn.specs.Checking.{AreNoted, begins_instruction, is_noted}
-use Rattle.dexinsn.proofs.Outcome.{cut_astray, cut_code, cut_noted}
+use Rattle.dexinsn.proofs.Outcome.{cut_bad_target, cut_code, cut_noted}
 use Rattle.dexinsn.proofs.Passed.{none_bits}
 use Rattle.dexinsn.proofs.code.split_units.Goals as goal
 
@@ -20,13 +20,13 @@ find-requires-clause-few c =
     let same : length c.deref.result.now ≡ length c.cut_units.new.noted.items = ap length c.deref.ensures.value in
     omega (arith, same, c.in_ok-cuts.ensures.cuts.noted_are.room, c.len.ensures.small)
 
-pub first_astray-requires-clause-cuts : goal.first_astray-requires-clause-cuts
-first_astray-requires-clause-cuts c =
+pub first_bad_target-requires-clause-cuts : goal.first_bad_target-requires-clause-cuts
+first_bad_target-requires-clause-cuts c =
     rw (sym c.deref-2.ensures.value, sym c.deref-3.ensures.value, sym c.deref-4.ensures.value) at c.in_ok-cuts.ensures.cuts
 
 pub returns-in-Some-clause-fault : goal.returns-in-Some-clause-fault
 returns-in-Some-clause-fault c =
-    cut_astray c.args.units.now (cuts_of c.in_ok-cuts.cuts.items) c.cut_units.new.starts.items c.cut_units.new.noted.items c.in-Some.unit c.in_ok-cuts.ensures.cuts
+    cut_bad_target c.args.units.now (cuts_of c.in_ok-cuts.cuts.items) c.cut_units.new.starts.items c.cut_units.new.noted.items c.in-Some.unit c.in_ok-cuts.ensures.cuts
     (sym (rw c.deref-2.ensures.value at c.in-Some.ensures))
 
 pub returns-clause-code : goal.returns-clause-code

@@ -1,7 +1,7 @@
 use Rattle.std.proofs.Common.{◌≡◌, ◌+◌, ◌<◌, Bool, length, drop, get_or, ap, sym, ◌∙◌, subst, arith}
 use Rattle.dexspec.specs.Pieces.{is_wide_index}
 use Rattle.dexinsn.specs.Units.{units_in}
-use Rattle.dexinsn.specs.Stored.{behind_index, Follow}
+use Rattle.dexinsn.specs.Stored.{after_index, Follow}
 use Rattle.dexinsn.specs.internal.Same.{Agree, AgreeBeside}
 use Rattle.dexinsn.proofs.Halves.{length_from}
 use Rattle.dexinsn.proofs.PutUnits.{Next, next_index}
@@ -33,8 +33,8 @@ pub loop-index-preserved : goal.loop-index-preserved
 loop-index-preserved c =
     let n : Next (units_in c.args.bytes.now) c.loop-index.from (get_or c.args.indices.now c.loop-index.index-index (record { unit = 0; number = 0 })) (drop (c.loop-index.index-index + 1) c.args.indices.now) = next_index (units_in c.args.bytes.now) c.loop-index.from c.args.indices.now c.loop-index.index-index (record { unit = 0; number = 0 }) c.loop-index-test.true c.loop-index.invariant.follow in
     let w : c.is_wide_at.result ≡ is_wide_index (drop (get_or c.args.indices.now c.loop-index.index-index (record { unit = 0; number = 0 })).unit (units_in c.args.bytes.now)) = rw c.of_bytes-units.ensures at c.is_wide_at.ensures in
-    let from : behind_index (is_wide_index (drop (get_or c.args.indices.now c.loop-index.index-index (record { unit = 0; number = 0 })).unit (units_in c.args.bytes.now))) (get_or c.args.indices.now c.loop-index.index-index (record { unit = 0; number = 0 })).unit ≡ c.behind_index-from.result =
-    ap (λ (b : Bool). behind_index b (get_or c.args.indices.now c.loop-index.index-index (record { unit = 0; number = 0 })).unit) (sym w) ∙ sym c.behind_index-from.ensures in
+    let from : after_index (is_wide_index (drop (get_or c.args.indices.now c.loop-index.index-index (record { unit = 0; number = 0 })).unit (units_in c.args.bytes.now))) (get_or c.args.indices.now c.loop-index.index-index (record { unit = 0; number = 0 })).unit ≡ c.after_index-from.result =
+    ap (λ (b : Bool). after_index b (get_or c.args.indices.now c.loop-index.index-index (record { unit = 0; number = 0 })).unit) (sym w) ∙ sym c.after_index-from.ensures in
     record {
       follow = subst (λ k. Follow (units_in c.args.bytes.now) k (drop (c.loop-index.index-index + 1) c.args.indices.now)) from n.later;
       onward = λ h. subst (λ k. AgreeBeside (units_in c.args.bytes.now) (units_in c.args.others.now) k (drop (c.loop-index.index-index + 1) c.args.indices.now)) from

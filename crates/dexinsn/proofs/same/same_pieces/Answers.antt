@@ -1,8 +1,8 @@
 use Rattle.std.proofs.Common.{◌≡◌, length, subst, sym, ap, ◌∙◌, refl}
 use Rattle.std.specs.List.{AllZip}
 use Rattle.dexinsn.specs.Units.{units_in}
-use Rattle.dexinsn.specs.internal.Same.{AreAlike, LeadAlike}
-use Rattle.dexinsn.proofs.SamePieces.{same_from_alike, alike_from_same}
+use Rattle.dexinsn.specs.internal.Same.{AreEquivalent, AreEqualMapped}
+use Rattle.dexinsn.proofs.SamePieces.{same_from_equivalent, equivalent_from_same}
 use Rattle.dexinsn.proofs.PutUnits.{stored_follow}
 use Rattle.dexinsn.proofs.Lined.{indexed_for}
 use Rattle.dexinsn.proofs.same.same_pieces.Goals as goal
@@ -10,15 +10,15 @@ use Rattle.dexinsn.proofs.same.same_pieces.Goals as goal
 pub agree_beside-requires-clause-follow : goal.agree_beside-requires-clause-follow
 agree_beside-requires-clause-follow c = stored_follow (units_in c.args.bytes.now) c.args.indices.now c.requires.stored
 
-pub lead_alike-requires : goal.lead_alike-requires
-lead_alike-requires c = indexed_for (units_in c.args.bytes.now) c.of_bytes-units.result c.args.indices.now c.args.indices.now c.requires.stored c.of_bytes-units.ensures refl
+pub eq_mapped-requires : goal.eq_mapped-requires
+eq_mapped-requires c = indexed_for (units_in c.args.bytes.now) c.of_bytes-units.result c.args.indices.now c.args.indices.now c.requires.stored c.of_bytes-units.ensures refl
 
 pub returns-then-len : goal.returns-then-len
 returns-then-len c = (
   λ f. absurd cc,
   λ same.
-      let a : AreAlike c.args.remap.now c.args.other_remap.now (units_in c.args.bytes.now) (units_in c.args.other_bytes.now) c.args.indices.now c.args.other_indices.now =
-      alike_from_same c.args.remap.now c.args.other_remap.now (units_in c.args.bytes.now) (units_in c.args.other_bytes.now) c.args.indices.now c.args.other_indices.now c.requires.stored c.requires.others same in
+      let a : AreEquivalent c.args.remap.now c.args.other_remap.now (units_in c.args.bytes.now) (units_in c.args.other_bytes.now) c.args.indices.now c.args.other_indices.now =
+      equivalent_from_same c.args.remap.now c.args.other_remap.now (units_in c.args.bytes.now) (units_in c.args.other_bytes.now) c.args.indices.now c.args.other_indices.now c.requires.stored c.requires.others same in
       absurd (c.if-len.true (c.len.ensures.len ∙ ap length c.of_bytes-units.ensures ∙ a.count ∙ sym (c.len-2.ensures.len ∙ ap length c.of_bytes.ensures))),
 )
 
@@ -26,8 +26,8 @@ pub returns-then-not-agree_beside : goal.returns-then-not-agree_beside
 returns-then-not-agree_beside c = (
   λ f. absurd cc,
   λ same.
-      let a : AreAlike c.args.remap.now c.args.other_remap.now (units_in c.args.bytes.now) (units_in c.args.other_bytes.now) c.args.indices.now c.args.other_indices.now =
-      alike_from_same c.args.remap.now c.args.other_remap.now (units_in c.args.bytes.now) (units_in c.args.other_bytes.now) c.args.indices.now c.args.other_indices.now c.requires.stored c.requires.others same in
+      let a : AreEquivalent c.args.remap.now c.args.other_remap.now (units_in c.args.bytes.now) (units_in c.args.other_bytes.now) c.args.indices.now c.args.other_indices.now =
+      equivalent_from_same c.args.remap.now c.args.other_remap.now (units_in c.args.bytes.now) (units_in c.args.other_bytes.now) c.args.indices.now c.args.other_indices.now c.requires.stored c.requires.others same in
       sym c.if-not-agree_beside.true ∙ c.agree_beside.ensures.1 a.agree,
 )
 
@@ -36,14 +36,14 @@ returns c = (
   λ yes.
       let count : length (units_in c.args.bytes.now) ≡ length (units_in c.args.other_bytes.now) =
       sym (c.len.ensures.len ∙ ap length c.of_bytes-units.ensures) ∙ c.if-len.false ∙ c.len-2.ensures.len ∙ ap length c.of_bytes.ensures in
-      same_from_alike c.args.remap.now c.args.other_remap.now (units_in c.args.bytes.now) (units_in c.args.other_bytes.now) c.args.indices.now c.args.other_indices.now c.requires.stored c.requires.others
+      same_from_equivalent c.args.remap.now c.args.other_remap.now (units_in c.args.bytes.now) (units_in c.args.other_bytes.now) c.args.indices.now c.args.other_indices.now c.requires.stored c.requires.others
       (record {
         count = count;
         agree = c.agree_beside.ensures.0 c.if-not-agree_beside.false;
-        lead = subst (λ us. AllZip (LeadAlike c.args.remap.now c.args.other_remap.now us) c.args.indices.now c.args.other_indices.now) c.of_bytes-units.ensures (c.lead_alike.ensures.0 yes);
+        are_mapped = subst (λ us. AllZip (AreEqualMapped c.args.remap.now c.args.other_remap.now us) c.args.indices.now c.args.other_indices.now) c.of_bytes-units.ensures (c.eq_mapped.ensures.0 yes);
       }),
   λ same.
-      let a : AreAlike c.args.remap.now c.args.other_remap.now (units_in c.args.bytes.now) (units_in c.args.other_bytes.now) c.args.indices.now c.args.other_indices.now =
-      alike_from_same c.args.remap.now c.args.other_remap.now (units_in c.args.bytes.now) (units_in c.args.other_bytes.now) c.args.indices.now c.args.other_indices.now c.requires.stored c.requires.others same in
-      c.lead_alike.ensures.1 (subst (λ us. AllZip (LeadAlike c.args.remap.now c.args.other_remap.now us) c.args.indices.now c.args.other_indices.now) (sym c.of_bytes-units.ensures) a.lead),
+      let a : AreEquivalent c.args.remap.now c.args.other_remap.now (units_in c.args.bytes.now) (units_in c.args.other_bytes.now) c.args.indices.now c.args.other_indices.now =
+      equivalent_from_same c.args.remap.now c.args.other_remap.now (units_in c.args.bytes.now) (units_in c.args.other_bytes.now) c.args.indices.now c.args.other_indices.now c.requires.stored c.requires.others same in
+      c.eq_mapped.ensures.1 (subst (λ us. AllZip (AreEqualMapped c.args.remap.now c.args.other_remap.now us) c.args.indices.now c.args.other_indices.now) (sym c.of_bytes-units.ensures) a.are_mapped),
 )

@@ -2,7 +2,7 @@ use Rattle.std.proofs.Common.{◌<◌, ◌^◌, ℕ, List}
 use Rattle.std.specs.Prelude.{All}
 use Rattle.dexspec.specs.Sections.{Section}
 use Rattle.dexspec.proofs.layout.MapEntries.{IsSmall}
-use Rattle.dexspec.proofs.layout.PlainHeaders.{map_stands}
+use Rattle.dexspec.proofs.layout.PlainHeaders.{map_is_at}
 use Rattle.dexlaws.proofs.frame.map_law.Goals as goal
 
 -- numbers that fit four bytes, entry by entry
@@ -10,7 +10,7 @@ small : (es : List (Section × ℕ × ℕ)) → All (λ e. (e.1 < 2 ^ 32) × (e.
 small es h = λ k d lt. let p = h k d lt in record { count = p.0; place = p.1 }
 
 pub returns-clause-count : goal.returns-clause-count
-returns-clause-count c = λ b o es few h s. (map_stands b o es few (small es h) s).0
+returns-clause-count c = λ b o es few h s. (map_is_at b o es few (small es h) s).0
 
 pub returns-clause-entries : goal.returns-clause-entries
-returns-clause-entries c = λ b o es few h s. (map_stands b o es few (small es h) s).1
+returns-clause-entries c = λ b o es few h s. (map_is_at b o es few (small es h) s).1

@@ -4,10 +4,10 @@ use Rattle.dexspec.specs.Rows.{SymbolRow}
 use Rattle.dexspec.specs.Files.{definitions}
 use Rattle.dexspec.specs.Spellings.{symbol_index}
 use Rattle.dexspec.specs.Placing.{Ordered}
-use Rattle.dexspec.proofs.layout.Laying.{Laid}
+use Rattle.dexspec.proofs.layout.SectionPlaces.{Laid}
 use Rattle.dexspec.proofs.layout.HeaderLaws.{AreFew}
 use Rattle.dexspec.proofs.layout.Frames.{fits_few, fitting_laid}
-use Rattle.dexspec.proofs.layout.PoolsStand.{ArePools, text_row, type_row, proto_row, field_row, method_row}
+use Rattle.dexspec.proofs.layout.PoolsAreAt.{ArePools, text_row, type_row, proto_row, field_row, method_row}
 use Rattle.dexspec.proofs.layout.PoolsFormed.{mentions_pools}
 use Rattle.dexspec.proofs.layout.FileRows.{canonical_rows}
 use Rattle.dexlaws.specs.Frame.{IsMentioned}

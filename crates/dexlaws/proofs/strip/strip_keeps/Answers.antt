@@ -4,7 +4,7 @@ use Rattle.std.specs.List.{AllZip}
 use Rattle.dexspec.specs.Code.{Code}
 use Rattle.dexspec.specs.Classes.{MethodDef}
 use Rattle.dexspec.specs.Stripping.{strip_code, strip_method}
-use Rattle.dexspec.proofs.strip.StripBare.{no_debug}
+use Rattle.dexspec.proofs.strip.StripWithoutDebug.{no_debug}
 use Rattle.dexspec.proofs.strip.StripWellFormed.{method_keys-strip}
 use Rattle.dexlaws.specs.Strip.{code_parts, IsMethodLeft}
 use Rattle.dexlaws.proofs.strip.strip_keeps.Goals as goal

@@ -2,17 +2,17 @@ use Rattle.std.proofs.Common.{◌≡◌, length, take, arith, ap, sym, subst, �
 use Rattle.std.proofs.lemmas.List.{drop_all}
 use Rattle.dexspec.specs.Canonical.{class_data_section, class_data_offsets, class_data_end}
 use Rattle.dexmembers.specs.Numbered.{NumberedMembers, methods_of}
-use Rattle.dexlayout.specs.Laid.{StandSo, ordered_of}
+use Rattle.dexlayout.specs.Laid.{AreLaidSo, ordered_of}
 use Rattle.dexlayout.specs.internal.Running.{place_use, place_uses}
 use Rattle.dexlayout.specs.internal.Sizes.{class_data_size, class_data_sizes}
 use Rattle.dexlayout.proofs.Ends.{end_in_file}
-use Rattle.dexlayout.proofs.OwnSizes.{class_data_stand, code_offsets_count, data_fits}
+use Rattle.dexlayout.proofs.OwnSizes.{class_data_encoded, code_offsets_count, data_fits}
 use Rattle.dexlayout.proofs.class_data.place_class_data.Goals as goal
 
 pub loop-class-init : goal.loop-class-init
 loop-class-init c = record {
   count = code_offsets_count c.requires.0 c.args.classes.now c.args.code_offs.now c.requires.2;
-  leads = ap (λ p. place_uses 1 p (class_data_sizes c.args.classes.now c.args.code_offs.now)) c.in_ok-places.ensures;
+  maps_to = ap (λ p. place_uses 1 p (class_data_sizes c.args.classes.now c.args.code_offs.now)) c.in_ok-places.ensures;
 }
 
 pub place_item-requires-clause-fits : goal.place_item-requires-clause-fits
@@ -26,7 +26,7 @@ place_item-requires-clause-fits c =
       arith,
       end,
       data_fits cs c.loop-class.class-index k c.loop-class-test.true (sym c.class-item.is) c.loop-class.invariant,
-      (class_data_stand c.requires.0 cs c.requires.1 c.args.code_offs.now c.requires.2 c.args.from c.requires.3).end_is,
+      (class_data_encoded c.requires.0 cs c.requires.1 c.args.code_offs.now c.requires.2 c.args.from c.requires.3).end_is,
       (end_in_file (ordered_of c.requires.0 cs) c.requires.1.fits).class_data,
     )
 
@@ -34,5 +34,5 @@ pub returns : goal.returns
 returns c = λ m w eo e.
     let cs = c.args.classes.now in
     let K = ordered_of m cs in
-    let placed = sym (ap (λ ks. place_uses 1 c.loop-class.places (class_data_sizes ks c.loop-class.rest.now)) (drop_all c.loop-class.class-index cs c.loop-class-test.false)) ∙ c.loop-class.invariant.leads in
-    subst (StandSo (class_data_offsets K) (class_data_end K) (class_data_section K).items) (sym placed) (class_data_stand m cs w c.args.code_offs.now eo c.args.from e)
+    let placed = sym (ap (λ ks. place_uses 1 c.loop-class.places (class_data_sizes ks c.loop-class.rest.now)) (drop_all c.loop-class.class-index cs c.loop-class-test.false)) ∙ c.loop-class.invariant.maps_to in
+    subst (AreLaidSo (class_data_offsets K) (class_data_end K) (class_data_section K).items) (sym placed) (class_data_encoded m cs w c.args.code_offs.now eo c.args.from e)

@@ -1,11 +1,11 @@
 use Rattle.std.proofs.Common.{◌+◌, drop, arith, ap, sym, subst, ◌∙◌}
 use Rattle.std.specs.List.{flat_map}
 use Rattle.dexspec.specs.Canonical.{code_section, code_offsets, code_end}
-use Rattle.dexlayout.specs.Laid.{StandSo, ordered_of}
+use Rattle.dexlayout.specs.Laid.{AreLaidSo, ordered_of}
 use Rattle.dexlayout.specs.internal.Running.{place_uses}
 use Rattle.dexlayout.specs.internal.Sizes.{class_code_sizes}
 use Rattle.dexlayout.proofs.Ends.{end_in_file}
-use Rattle.dexlayout.proofs.OwnSizes.{codes_stand}
+use Rattle.dexlayout.proofs.OwnSizes.{codes_encoded}
 use Rattle.dexlayout.proofs.OwnSteps.{several_fit, several_next, several_none}
 use Rattle.dexlayout.proofs.codes.place_codes.Goals as goal
 
@@ -15,7 +15,7 @@ place_class-requires c =
     omega (
       arith,
       several_fit 4 class_code_sizes c.loop-class.places cs c.loop-class.class-index c.class-item.result c.loop-class-test.true (sym c.class-item.is) c.loop-class.invariant,
-      (codes_stand c.requires.0 cs c.requires.1 c.code_bytes_law.ensures.bytes c.args.from c.requires.2).end_is,
+      (codes_encoded c.requires.0 cs c.requires.1 c.code_bytes_law.ensures.bytes c.args.from c.requires.2).end_is,
       (end_in_file (ordered_of c.requires.0 cs) c.requires.1.fits).codes,
     )
 
@@ -31,4 +31,4 @@ returns c = λ m w e.
     let cs = c.args.classes.now in
     let K = ordered_of m cs in
     let placed = sym (several_none 4 class_code_sizes c.loop-class.places cs c.loop-class.class-index c.loop-class-test.false) ∙ c.loop-class.invariant in
-    subst (StandSo (code_offsets K) (code_end K) (code_section K).items) (sym placed) (codes_stand m cs w c.code_bytes_law.ensures.bytes c.args.from e)
+    subst (AreLaidSo (code_offsets K) (code_end K) (code_section K).items) (sym placed) (codes_encoded m cs w c.code_bytes_law.ensures.bytes c.args.from e)

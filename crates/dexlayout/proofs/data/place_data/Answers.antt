@@ -1,11 +1,11 @@
 use Rattle.std.proofs.Common.{◌∙◌}
 use Rattle.dexlayout.proofs.data.place_data.Goals as goal
 
-pub place_front-requires-clause-written : goal.place_front-requires-clause-written
-place_front-requires-clause-written c = (c.in_ok-written.ensures.shared _ c.requires.classes).written_are
+pub place_first_sections-requires-clause-written : goal.place_first_sections-requires-clause-written
+place_first_sections-requires-clause-written c = (c.in_ok-written.ensures.shared _ c.requires.classes).written_are
 
-pub place_front-requires-clause-known : goal.place_front-requires-clause-known
-place_front-requires-clause-known c = c.in_ok-written.ensures.known _ c.requires.classes
+pub place_first_sections-requires-clause-known : goal.place_first_sections-requires-clause-known
+place_first_sections-requires-clause-known c = c.in_ok-written.ensures.known _ c.requires.classes
 
 pub place_bodies-requires : goal.place_bodies-requires
 place_bodies-requires c = (c.args.numbering.now, c.requires.classes, c.end.ensures ∙ c.in_ok-front.ensures.strings_are.end_is)
@@ -20,7 +20,7 @@ place_back-requires-clause-from c =
 
 pub returns : goal.returns
 returns c = record {
-  front_are = c.in_ok-front.ensures;
+  first_sections_are = c.in_ok-front.ensures;
   bodies_are = c.in_ok-bodies.ensures c.args.numbering.now c.requires.classes (c.end.ensures ∙ c.in_ok-front.ensures.strings_are.end_is);
   back_are = c.in_ok-back.ensures;
 }

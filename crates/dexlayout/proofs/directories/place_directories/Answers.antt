@@ -4,11 +4,11 @@ use Rattle.std.proofs.lemmas.List.{length-drop, drop_all}
 use Rattle.dexspec.specs.Canonical.{ref_list_offsets, ref_list_end, directory_section, directory_offsets, directory_end}
 use Rattle.dexmembers.specs.Numbered.{NumberedMembers, fields_of, methods_of}
 use Rattle.dexlayout.specs.internal.Directories.{entry_count, directory_size, directory_sizes}
-use Rattle.dexlayout.specs.Laid.{ordered_of, StandSo}
+use Rattle.dexlayout.specs.Laid.{ordered_of, AreLaidSo}
 use Rattle.dexlayout.specs.Places.{ItemPlaces}
 use Rattle.dexlayout.specs.internal.Running.{none_from, place_use, place_uses}
 use Rattle.dexlayout.proofs.Ends.{end_in_file}
-use Rattle.dexlayout.proofs.SetDirectories.{next_fields, next_methods, next_places, next_directory, directory_within, own_count, field_count, method_count, length-ref_list_offsets, directories_stand}
+use Rattle.dexlayout.proofs.SetDirectories.{next_fields, next_methods, next_places, next_directory, directory_within, own_count, field_count, method_count, length-ref_list_offsets, directories_encoded}
 use Rattle.dexlayout.proofs.directories.place_directories.Goals as goal
 
 pub loop-i-init : goal.loop-i-init
@@ -44,7 +44,7 @@ place_directory-requires-clause-fits c =
     let w = c.requires.classes in
     let sets = c.args.sets.now in
     let are = c.requires.sets in
-    let stand = directories_stand m cs sets are w (c.number_law.ensures m w.numbering.rising) in
+    let are_encoded = directories_encoded m cs sets are w (c.number_law.ensures m w.numbering.rising) in
     let all : place_uses 4 c.in_ok-places.places (directory_sizes cs c.own-own.result.now c.fields-fields.result.now c.methods-methods.result.now c.args.ref_lists.now)
     ≡ place_uses 4 (none_from (ref_list_end K)) (directory_sizes cs sets.own sets.fields sets.methods (ref_list_offsets K)) =
     ap (λ p. place_uses 4 p (directory_sizes cs c.own-own.result.now c.fields-fields.result.now c.methods-methods.result.now c.args.ref_lists.now)) c.in_ok-places.ensures
@@ -63,7 +63,7 @@ place_directory-requires-clause-fits c =
     ≡ next_places cs i x lt is c.own-own.result.now c.loop-i.fields.now c.loop-i.methods.now c.loop-i.lists.now c.loop-i.places =
     λ j. place_use 4 c.loop-i.places (directory_size (slice_index c.own-own.result.now i) (entry_count (ff j) (mf j) (lf j))) in
     let within = directory_within cs i x lt is c.own-own.result.now c.loop-i.fields.now c.loop-i.methods.now c.loop-i.lists.now c.loop-i.places (2 ^ 30)
-    (omega (arith, ap (λ (q : ItemPlaces). q.end) (c.loop-i.invariant.placed ∙ all), stand.end_is, (end_in_file K w.fits).directories)) in
+    (omega (arith, ap (λ (q : ItemPlaces). q.end) (c.loop-i.invariant.placed ∙ all), are_encoded.end_is, (end_in_file K w.fits).directories)) in
     omega (arith, within, ap (λ (q : ItemPlaces). q.end) here)
 
 pub loop-i-preserved : goal.loop-i-preserved
@@ -108,11 +108,11 @@ returns c =
     let w = c.requires.classes in
     let sets = c.args.sets.now in
     let are = c.requires.sets in
-    let stand = directories_stand m cs sets are w (c.number_law.ensures m w.numbering.rising) in
+    let are_encoded = directories_encoded m cs sets are w (c.number_law.ensures m w.numbering.rising) in
     let all : place_uses 4 c.in_ok-places.places (directory_sizes cs c.own-own.result.now c.fields-fields.result.now c.methods-methods.result.now c.args.ref_lists.now)
     ≡ place_uses 4 (none_from (ref_list_end K)) (directory_sizes cs sets.own sets.fields sets.methods (ref_list_offsets K)) =
     ap (λ p. place_uses 4 p (directory_sizes cs c.own-own.result.now c.fields-fields.result.now c.methods-methods.result.now c.args.ref_lists.now)) c.in_ok-places.ensures
     ∙ (λ j. place_uses 4 (none_from (c.requires.from j)) (directory_sizes cs (c.own-own.ensures j) (c.fields-fields.ensures j) (c.methods-methods.ensures j) (c.requires.lists j))) in
     let nothing : place_uses 4 c.loop-i.places (directory_sizes (drop c.loop-i.i cs) (drop c.loop-i.i c.own-own.result.now) c.loop-i.fields.now c.loop-i.methods.now c.loop-i.lists.now) ≡ c.loop-i.places =
     ap (λ l. place_uses 4 c.loop-i.places (directory_sizes l (drop c.loop-i.i c.own-own.result.now) c.loop-i.fields.now c.loop-i.methods.now c.loop-i.lists.now)) (drop_all c.loop-i.i cs c.loop-i-test.false) in
-    subst (StandSo (directory_offsets K) (directory_end K) (directory_section K).items) (sym (sym nothing ∙ c.loop-i.invariant.placed ∙ all)) stand
+    subst (AreLaidSo (directory_offsets K) (directory_end K) (directory_section K).items) (sym (sym nothing ∙ c.loop-i.invariant.placed ∙ all)) are_encoded

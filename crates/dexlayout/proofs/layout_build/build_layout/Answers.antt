@@ -49,8 +49,8 @@ overflow_mul-map_size c = omega (arith, small ((goal.at.overflow_mul-map_size c)
 pub overflow_add-map_size : goal.overflow_add-map_size
 overflow_add-map_size c = omega (arith, small ((goal.at.overflow_add-map_size c).After-len))
 
-pub head_of-head-requires-clause-behind : goal.head_of-head-requires-clause-behind
-head_of-head-requires-clause-behind c =
+pub head_of-head-requires-clause-following : goal.head_of-head-requires-clause-following
+head_of-head-requires-clause-following c =
     let K = ordered_of c.args.numbering.now c.args.classes.now in
     let map_is = c.round_up-map_off.ensures ∙ ap (round_up 4) (c.end.ensures ∙ c.in_ok-data.ensures.back_are.directories_are.end_is) ∙ sym (map_start_is K) in
     omega (arith, c.of-tables.ensures.end_is, map_is, data_before K)
@@ -70,12 +70,12 @@ returns c =
     let size = map_size here in
     let texts = ap (λ (l : Layout). l.strings) (layout_is K) in
     record {
-      head_tells = c.head_of-head.ensures.tells K t map_is size;
+      head_states = c.head_of-head.ensures.reports K t map_is size;
       signature_length = c.head_of-head.ensures.signature;
-      type_lists_are = d.front_are.type_lists_are;
-      annotations_are = d.front_are.annotations_are;
-      static_values_are = d.front_are.static_values_are;
-      strings_are = record { offsets_are = d.front_are.strings_are.offsets_are ∙ sym texts; end_is = d.front_are.strings_are.end_is; greatest_is = d.front_are.strings_are.greatest_is };
+      type_lists_are = d.first_sections_are.type_lists_are;
+      annotations_are = d.first_sections_are.annotations_are;
+      static_values_are = d.first_sections_are.static_values_are;
+      strings_are = record { offsets_are = d.first_sections_are.strings_are.offsets_are ∙ sym texts; end_is = d.first_sections_are.strings_are.end_is; greatest_is = d.first_sections_are.strings_are.greatest_is };
       debugs_are = d.bodies_are.debugs_are;
       codes_are = d.bodies_are.codes_are;
       class_data_are = d.bodies_are.class_data_are;

@@ -2,8 +2,8 @@ use Rattle.std.proofs.Common.{◌+◌, ◌-◌, ap, ◌∙◌}
 use Rattle.dexhead.specs.Laid.{map_start}
 use Rattle.dexlayout.proofs.layout_build.head_of.Goals as goal
 
-pub returns-clause-tells : goal.returns-clause-tells
-returns-clause-tells c = λ K t begins size. record {
+pub returns-clause-reports : goal.returns-clause-reports
+returns-clause-reports c = λ K t begins size. record {
   tables = record {
     rows = c.rows.ensures K t;
     data_begins = t.end_is;

@@ -1,7 +1,7 @@
 use Rattle.std.proofs.Common.{◌≡◌, ◌^◌, ◌≤◌, List, sym, ap, subst, ◌∙◌, arith}
 use Rattle.std.proofs.lemmas.Result.{on_ok_weaker}
 use Rattle.dexmembers.specs.Numbered.{NumberedMethod, NumberedMembers, methods_of}
-use Rattle.dexlayout.specs.internal.Gathering.{list_sizes}
+use Rattle.dexlayout.specs.internal.Collecting.{list_sizes}
 use Rattle.dexlayout.specs.Places.{ItemPlaces}
 use Rattle.dexlayout.specs.internal.Running.{place_uses}
 use Rattle.dexlayout.proofs.SetLists.{both_lists, first_within}

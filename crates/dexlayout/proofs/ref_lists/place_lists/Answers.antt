@@ -1,5 +1,5 @@
 use Rattle.std.proofs.Common.{◌+◌, ◌^◌, drop, sym, ap, ◌∙◌, arith}
-use Rattle.dexlayout.specs.internal.Gathering.{list_sizes}
+use Rattle.dexlayout.specs.internal.Collecting.{list_sizes}
 use Rattle.dexlayout.specs.Places.{ItemPlaces}
 use Rattle.dexlayout.specs.internal.Running.{place_uses}
 use Rattle.dexlayout.proofs.SetLists.{next_list, list_within}

@@ -1,5 +1,5 @@
 use Rattle.std.proofs.Common.{◌≡◌, drop}
-use Rattle.dexlayout.specs.internal.Gathering.{list_sizes}
+use Rattle.dexlayout.specs.internal.Collecting.{list_sizes}
 use Rattle.dexlayout.specs.internal.Running.{place_uses}
 use Rattle.dexlayout.proofs.ref_lists.place_lists.Given as goal
 

@@ -1,11 +1,11 @@
 use Rattle.std.proofs.Common.{◌≡◌, ◌+◌, ◌^◌, drop, sym, ap, subst, ◌∙◌, arith}
 use Rattle.dexspec.specs.Canonical.{ref_list_end, ref_list_offsets, ref_list_section}
-use Rattle.dexlayout.specs.internal.Gathering.{class_list_sizes}
-use Rattle.dexlayout.specs.Laid.{StandSo, ordered_of}
+use Rattle.dexlayout.specs.internal.Collecting.{class_list_sizes}
+use Rattle.dexlayout.specs.Laid.{AreLaidSo, ordered_of}
 use Rattle.dexlayout.specs.Places.{ItemPlaces}
 use Rattle.dexlayout.specs.internal.Running.{none_from, place_uses}
 use Rattle.dexlayout.proofs.Ends.{end_in_file}
-use Rattle.dexlayout.proofs.SetLists.{next_lists, lists_within, lists_done, ref_lists_stand}
+use Rattle.dexlayout.proofs.SetLists.{next_lists, lists_within, lists_done, ref_lists_encoded}
 use Rattle.dexlayout.proofs.ref_lists.place_ref_lists.Goals as goal
 
 pub place_class_lists-requires : goal.place_class_lists-requires
@@ -17,7 +17,7 @@ place_class_lists-requires c =
       arith,
       ap (λ (q : ItemPlaces). q.end) c.loop-class.invariant,
       ap (λ n. (place_uses 4 (none_from n) (class_list_sizes c.args.classes.now)).end) c.requires.from,
-      (ref_lists_stand c.args.numbering.now c.args.classes.now).end_is,
+      (ref_lists_encoded c.args.numbering.now c.args.classes.now).end_is,
       (end_in_file K w.fits).ref_lists,
     ))
 
@@ -35,4 +35,4 @@ returns c =
     let K = ordered_of m cs in
     let placed : c.loop-class.places ≡ place_uses 4 (none_from c.args.from) (class_list_sizes cs) = lists_done cs c.loop-class.class-index c.loop-class.places _ c.loop-class-test.false c.loop-class.invariant in
     let all = placed ∙ ap (λ n. place_uses 4 (none_from n) (class_list_sizes cs)) c.requires.from in
-    subst (StandSo (ref_list_offsets K) (ref_list_end K) (ref_list_section K).items) (sym all) (ref_lists_stand m cs)
+    subst (AreLaidSo (ref_list_offsets K) (ref_list_end K) (ref_list_section K).items) (sym all) (ref_lists_encoded m cs)

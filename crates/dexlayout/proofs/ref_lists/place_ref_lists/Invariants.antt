@@ -1,5 +1,5 @@
 use Rattle.std.proofs.Common.{◌≡◌, drop}
-use Rattle.dexlayout.specs.internal.Gathering.{class_list_sizes}
+use Rattle.dexlayout.specs.internal.Collecting.{class_list_sizes}
 use Rattle.dexlayout.specs.internal.Running.{none_from, place_uses}
 use Rattle.dexlayout.proofs.ref_lists.place_ref_lists.Given as goal
 

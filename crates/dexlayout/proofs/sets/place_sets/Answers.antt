@@ -1,7 +1,7 @@
 use Rattle.std.proofs.Common.{◌≡◌, ℕ, ◌<◌, List, [], length, drop, refl, sym, ap, subst, ◌∙◌, arith}
 use Rattle.std.proofs.lemmas.List.{length-map, drop_all}
 use Rattle.dexval.specs.Code.{set_of}
-use Rattle.dexlayout.specs.internal.Gathering.{parts_of_classes, gather_classes}
+use Rattle.dexlayout.specs.internal.Collecting.{parts_of_classes, collect_classes}
 use Rattle.dexlayout.specs.Places.{ItemPlaces}
 use Rattle.std.proofs.Common.{All}
 use Rattle.std.specs.Prelude.{Option, IfSome}
@@ -9,11 +9,11 @@ use Rattle.dexspec.specs.Canonical.{set_items, set_section, set_end, annotation_
 use Rattle.dexspec.specs.Placing.{uses_offsets, offsets}
 use Rattle.dexspec.specs.Spellings.{offsets_bytes}
 use Rattle.dexspec.proofs.layout.Places.{length-offsets_from}
-use Rattle.dexlayout.specs.Laid.{ordered_of, StandSo}
+use Rattle.dexlayout.specs.Laid.{ordered_of, AreLaidSo}
 use Rattle.dexlayout.proofs.Ends.{end_in_file}
 use Rattle.dexlayout.proofs.SetLists.{set_use_offsets, length-set_use_offsets}
-use Rattle.dexlayout.proofs.SetsGathered.{classes_are_long}
-use Rattle.dexlayout.proofs.SetsStand.{written_stand, numbers_within, sets_are, length-annotation_offsets}
+use Rattle.dexlayout.proofs.SetsCollected.{classes_are_long}
+use Rattle.dexlayout.proofs.SetsAreAt.{written_encoded, numbers_within, sets_are, length-annotation_offsets}
 use Rattle.dexlayout.proofs.sets.place_sets.Goals as goal
 
 pub place_written-requires : goal.place_written-requires
@@ -21,17 +21,17 @@ place_written-requires c =
     let m = c.args.numbering.now in
     let cs = c.args.classes.now in
     let K = ordered_of m cs in
-    let stand = written_stand m cs (λ s. set_of s.now) c.written.result.now c.args.annotations.now.written c.args.from c.written.ensures c.requires.annotations.written_are c.requires.from in
-    omega (arith, stand.end_is, (end_in_file K c.requires.classes.fits).sets)
+    let are_encoded = written_encoded m cs (λ s. set_of s.now) c.written.result.now c.args.annotations.now.written c.args.from c.written.ensures c.requires.annotations.written_are c.requires.from in
+    omega (arith, are_encoded.end_is, (end_in_file K c.requires.classes.fits).sets)
 
 pub place_shared-requires : goal.place_shared-requires
 place_shared-requires c =
     let m = c.args.numbering.now in
     let cs = c.args.classes.now in
     let K = ordered_of m cs in
-    let stand = written_stand m cs (λ s. set_of s.now) c.written.result.now c.args.annotations.now.written c.args.from c.written.ensures c.requires.annotations.written_are c.requires.from in
+    let are_encoded = written_encoded m cs (λ s. set_of s.now) c.written.result.now c.args.annotations.now.written c.args.from c.written.ensures c.requires.annotations.written_are c.requires.from in
     let written = c.in_ok-written.written in
-    let placed : StandSo (offsets (set_section K)) (set_end K) (set_section K).items written = subst (StandSo (offsets (set_section K)) (set_end K) (set_section K).items) (sym c.in_ok-written.ensures) stand in
+    let placed : AreLaidSo (offsets (set_section K)) (set_end K) (set_section K).items written = subst (AreLaidSo (offsets (set_section K)) (set_end K) (set_section K).items) (sym c.in_ok-written.ensures) are_encoded in
     let count : length (set_items K).written ≡ length written.offsets =
     omega (arith, ap (λ (l : List ℕ). length l) placed.offsets_are, length-offsets_from 4 (set_section K).from (set_section K).items, length-annotation_offsets K, length-map (annotation_offsets K) offsets_bytes) in
     subst (λ n. All (λ (o : Option ℕ). IfSome o (λ i. i < n)) c.args.numbers.now) count
@@ -42,12 +42,12 @@ loop-class-init c =
     let m = c.args.numbering.now in
     let cs = c.args.classes.now in
     let K = ordered_of m cs in
-    let stand = written_stand m cs (λ s. set_of s.now) c.written.result.now c.args.annotations.now.written c.args.from c.written.ensures c.requires.annotations.written_are c.requires.from in
+    let are_encoded = written_encoded m cs (λ s. set_of s.now) c.written.result.now c.args.annotations.now.written c.args.from c.written.ensures c.requires.annotations.written_are c.requires.from in
     let written = c.in_ok-written.written in
-    let placed : StandSo (offsets (set_section K)) (set_end K) (set_section K).items written = subst (StandSo (offsets (set_section K)) (set_end K) (set_section K).items) (sym c.in_ok-written.ensures) stand in
+    let placed : AreLaidSo (offsets (set_section K)) (set_end K) (set_section K).items written = subst (AreLaidSo (offsets (set_section K)) (set_end K) (set_section K).items) (sym c.in_ok-written.ensures) are_encoded in
     let uses : c.offsets-rest.result.now ≡ set_use_offsets K = c.offsets-rest.ensures ∙ ap (λ (p : ItemPlaces). p.offsets) c.in_ok-uses.ensures ∙ (λ i. uses_offsets (c.requires.numbers i) (placed.offsets_are i)) in
     record {
-      gathered = refl;
+      collected = refl;
       enough = omega (arith, ap (λ (l : List ℕ). length l) uses, length-set_use_offsets K, classes_are_long m cs);
     }
 
@@ -56,11 +56,11 @@ returns c =
     let m = c.args.numbering.now in
     let cs = c.args.classes.now in
     let K = ordered_of m cs in
-    let stand = written_stand m cs (λ s. set_of s.now) c.written.result.now c.args.annotations.now.written c.args.from c.written.ensures c.requires.annotations.written_are c.requires.from in
+    let are_encoded = written_encoded m cs (λ s. set_of s.now) c.written.result.now c.args.annotations.now.written c.args.from c.written.ensures c.requires.annotations.written_are c.requires.from in
     let written = c.in_ok-written.written in
-    let placed : StandSo (offsets (set_section K)) (set_end K) (set_section K).items written = subst (StandSo (offsets (set_section K)) (set_end K) (set_section K).items) (sym c.in_ok-written.ensures) stand in
+    let placed : AreLaidSo (offsets (set_section K)) (set_end K) (set_section K).items written = subst (AreLaidSo (offsets (set_section K)) (set_end K) (set_section K).items) (sym c.in_ok-written.ensures) are_encoded in
     let uses : c.offsets-rest.result.now ≡ set_use_offsets K = c.offsets-rest.ensures ∙ ap (λ (p : ItemPlaces). p.offsets) c.in_ok-uses.ensures ∙ (λ i. uses_offsets (c.requires.numbers i) (placed.offsets_are i)) in
     let nothing : parts_of_classes (drop c.loop-class.class-index cs) c.loop-class.rest.now ≡ [] = ap (λ l. parts_of_classes l c.loop-class.rest.now) (drop_all c.loop-class.class-index cs c.loop-class-test.false) in
-    let all : c.loop-class.sets ≡ gather_classes (record { own = []; fields = []; methods = []; parameters = []; end = written.end; greatest = written.greatest }) (parts_of_classes cs c.offsets-rest.result.now) =
-    ap (gather_classes c.loop-class.sets) (sym nothing) ∙ c.loop-class.invariant.gathered ∙ ap (λ q. gather_classes q (parts_of_classes cs c.offsets-rest.result.now)) c.in_ok-sets.ensures in
+    let all : c.loop-class.sets ≡ collect_classes (record { own = []; fields = []; methods = []; parameters = []; end = written.end; greatest = written.greatest }) (parts_of_classes cs c.offsets-rest.result.now) =
+    ap (collect_classes c.loop-class.sets) (sym nothing) ∙ c.loop-class.invariant.collected ∙ ap (λ q. collect_classes q (parts_of_classes cs c.offsets-rest.result.now)) c.in_ok-sets.ensures in
     sets_are m cs c.offsets-rest.result.now written.end written.greatest c.loop-class.sets all uses placed.end_is placed.greatest_is

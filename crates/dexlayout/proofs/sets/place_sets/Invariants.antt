@@ -1,11 +1,11 @@
 use Rattle.std.proofs.Common.{◌≡◌, ◌≤◌, length, drop}
 use Rattle.std.specs.List.{flat_map}
-use Rattle.dexlayout.specs.internal.Gathering.{sets_of_class, parts_of_classes, gather_classes}
+use Rattle.dexlayout.specs.internal.Collecting.{sets_of_class, parts_of_classes, collect_classes}
 use Rattle.dexlayout.proofs.sets.place_sets.Given as goal
 
 -- placing what is left gives the whole
 abbrev pub invariant-loop-class : goal.invariant-loop-class
 invariant-loop-class l = record {
-  gathered : gather_classes l.sets (parts_of_classes (drop l.class-index l.classes) l.rest) ≡ gather_classes l.initial.sets (parts_of_classes l.classes l.initial.rest);
+  collected : collect_classes l.sets (parts_of_classes (drop l.class-index l.classes) l.rest) ≡ collect_classes l.initial.sets (parts_of_classes l.classes l.initial.rest);
   enough : length (flat_map sets_of_class (drop l.class-index l.classes)) ≤ length l.rest;
 }

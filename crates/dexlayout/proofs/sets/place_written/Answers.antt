@@ -2,7 +2,7 @@ use Rattle.std.proofs.Common.{◌≡◌, ◌+◌, ◌^◌, ◌≤◌, length, ta
 use Rattle.dexspec.specs.Bytes.{round_up}
 use Rattle.dexspec.proofs.layout.Places.{length-padding}
 use Rattle.dexval.specs.Code.{set_of}
-use Rattle.dexlayout.specs.internal.Gathering.{set_len}
+use Rattle.dexlayout.specs.internal.Collecting.{set_len}
 use Rattle.dexlayout.specs.Places.{ItemPlaces}
 use Rattle.dexlayout.specs.internal.Running.{none_from, put_at}
 use Rattle.dexlayout.proofs.SharedPlaces.{placed, placed_next, placed_within}

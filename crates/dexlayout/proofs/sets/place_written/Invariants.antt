@@ -1,6 +1,6 @@
 use Rattle.std.proofs.Common.{◌≡◌, take}
 use Rattle.dexval.specs.Code.{set_of}
-use Rattle.dexlayout.specs.internal.Gathering.{set_len}
+use Rattle.dexlayout.specs.internal.Collecting.{set_len}
 use Rattle.dexlayout.specs.internal.Running.{none_from}
 use Rattle.dexlayout.proofs.SharedPlaces.{placed}
 use Rattle.dexlayout.proofs.sets.place_written.Given as goal

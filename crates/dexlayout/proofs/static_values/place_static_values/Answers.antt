@@ -1,9 +1,9 @@
 use Rattle.std.proofs.Common.{arith, sym, subst, ◌∙◌}
 use Rattle.dexspec.specs.Canonical.{array_section, array_offsets, array_end}
-use Rattle.dexlayout.specs.Laid.{StandSo, ordered_of}
+use Rattle.dexlayout.specs.Laid.{AreLaidSo, ordered_of}
 use Rattle.dexlayout.specs.internal.Sizes.{static_size}
 use Rattle.dexlayout.proofs.Ends.{end_in_file}
-use Rattle.dexlayout.proofs.OwnSizes.{arrays_stand}
+use Rattle.dexlayout.proofs.OwnSizes.{arrays_encoded}
 use Rattle.dexlayout.proofs.OwnSteps.{left_fits, left_none}
 use Rattle.dexlayout.proofs.static_values.place_static_values.Goals as goal
 
@@ -13,7 +13,7 @@ place_array-requires c =
     omega (
       arith,
       left_fits 1 static_size c.loop-class.places cs c.loop-class.class-index c.class-item.result c.loop-class-test.true (sym c.class-item.is) c.loop-class.invariant,
-      (arrays_stand c.requires.0 cs c.requires.1 c.args.from c.requires.2).end_is,
+      (arrays_encoded c.requires.0 cs c.requires.1 c.args.from c.requires.2).end_is,
       (end_in_file (ordered_of c.requires.0 cs) c.requires.1.fits).arrays,
     )
 
@@ -22,4 +22,4 @@ returns c = λ m w e.
     let cs = c.args.classes.now in
     let K = ordered_of m cs in
     let placed = sym (left_none 1 static_size c.loop-class.places cs c.loop-class.class-index c.loop-class-test.false) ∙ c.loop-class.invariant in
-    subst (StandSo (array_offsets K) (array_end K) (array_section K).items) (sym placed) (arrays_stand m cs w c.args.from e)
+    subst (AreLaidSo (array_offsets K) (array_end K) (array_section K).items) (sym placed) (arrays_encoded m cs w c.args.from e)

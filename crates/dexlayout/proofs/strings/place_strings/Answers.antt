@@ -3,9 +3,9 @@ use Rattle.dexspec.specs.Texts.{Text, string_data}
 use Rattle.dexspec.specs.Placing.{offsets_from, end_from}
 use Rattle.dexlayout.specs.Places.{ItemPlaces}
 use Rattle.dexlayout.specs.internal.Running.{none_from, put_at, place_uses}
-use Rattle.dexlayout.specs.Laid.{StandSo}
+use Rattle.dexlayout.specs.Laid.{AreLaidSo}
 use Rattle.dexlayout.proofs.Owned.{place_grows}
-use Rattle.dexlayout.proofs.OwnSteps.{all_stand, left_next, left_none, put_plain}
+use Rattle.dexlayout.proofs.OwnSteps.{all_encoded, left_next, left_none, put_plain}
 use Rattle.dexlayout.proofs.strings.place_strings.Goals as goal
 use Rattle.dexlayout.proofs.strings.place_strings.Goals.{After-item_len-len}
 
@@ -25,7 +25,7 @@ fits c =
     let texts = c.args.numbering.now.texts in
     let grown = place_grows 1 (put_at c.loop-i.places c.loop-i.places.end (length (string_data c.string.result.now))) (map (λ s. Some (length (string_data s))) (drop (c.loop-i.i + 1) texts)) in
     let all = ap (λ (p : ItemPlaces). p.end) (next c) in
-    omega (arith, grown, all, (all_stand string_data 1 c.args.from texts).end_is, c.requires)
+    omega (arith, grown, all, (all_encoded string_data 1 c.args.from texts).end_is, c.requires)
 
 pub overflow_cast-len : goal.overflow_cast-len
 overflow_cast-len c = omega (arith, fits ((goal.at.overflow_cast-len c).After-item_len-len), c.item_len-len.ensures.len)
@@ -45,4 +45,4 @@ pub returns : goal.returns
 returns c =
     let texts = c.args.numbering.now.texts in
     let all = sym (left_none 1 (λ (s : Text). Some (length (string_data s))) c.loop-i.places texts c.loop-i.i (omega (arith, c.loop-i-test.false, c.count-count.ensures))) ∙ c.loop-i.invariant in
-    subst (StandSo (offsets_from 1 c.args.from (map string_data texts)) (end_from 1 c.args.from (map string_data texts)) (map string_data texts)) (sym all) (all_stand string_data 1 c.args.from texts)
+    subst (AreLaidSo (offsets_from 1 c.args.from (map string_data texts)) (end_from 1 c.args.from (map string_data texts)) (map string_data texts)) (sym all) (all_encoded string_data 1 c.args.from texts)

@@ -3,12 +3,12 @@ use Rattle.dexspec.specs.Bytes.{round_up}
 use Rattle.dexlayout.specs.Places.{ItemPlaces}
 use Rattle.dexlayout.specs.internal.Running.{none_from, put_at}
 use Rattle.dexlayout.specs.internal.Sharing.{list_len}
-use Rattle.dexlayout.proofs.SharedPlaces.{placed, placed_next, placed_front, placed_within}
+use Rattle.dexlayout.proofs.SharedPlaces.{placed, placed_next, placed_first_sections, placed_within}
 use Rattle.dexlayout.proofs.type_lists.place_lists.Goals as goal
 use Rattle.dexlayout.proofs.type_lists.place_lists.Goals.{After-round_up-off, After-len}
 
 pub round_up-off-requires : goal.round_up-off-requires
-round_up-off-requires c = omega (arith, placed_front list_len 4 (none_from c.args.from) c.args.lists.now c.loop-i.i, c.requires, c.end.ensures, ap (λ (q : ItemPlaces). q.end) c.loop-i.invariant)
+round_up-off-requires c = omega (arith, placed_first_sections list_len 4 (none_from c.args.from) c.args.lists.now c.loop-i.i, c.requires, c.end.ensures, ap (λ (q : ItemPlaces). q.end) c.loop-i.invariant)
 
 -- where the next list begins
 begins : (c : After-round_up-off) → c.round_up-off.result ≡ round_up 4 (placed list_len 4 (none_from c.args.from) (take c.loop-i.i c.args.lists.now)).end

@@ -4,8 +4,8 @@ use Rattle.dexmembers.specs.internal.MethodCodes.{IsCodesFault}
 use Rattle.dexmembers.specs.internal.StaticValues.{IsValuesFault}
 use Rattle.dexmembers.specs.Checking.{HaveCodesOf, HasValuesOf}
 use Rattle.dexmembers.specs.declared.class_data.EncodedMethod.{EncodedMethod}
-use Rattle.dexmembers.proofs.Judged.{data_refused, direct_refused, virtual_refused}
-use Rattle.dexmembers.proofs.RowStands.{annotations_refused, values_refused}
+use Rattle.dexmembers.proofs.DirectoryCache.{data_refused, direct_refused, virtual_refused}
+use Rattle.dexmembers.proofs.RowsAreAt.{annotations_refused, values_refused}
 use Rattle.dexmembers.proofs.RowChecked.{members_of}
 use Rattle.dexmembers.proofs.checking.check_members.Goals as goal
 

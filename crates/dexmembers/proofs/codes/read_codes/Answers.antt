@@ -7,7 +7,7 @@ use Rattle.dexmembers.specs.declared.class_data.EncodedMethod.{EncodedMethod}
 use Rattle.dexmembers.specs.internal.MethodCodes.{AreHeavyCodes, HaveCodes}
 use Rattle.dexmembers.specs.Weighing.{codes_weight}
 use Rattle.dexmembers.proofs.CodesApart.{codes_append}
-use Rattle.dexmembers.proofs.CodesOfMethods.{HaveReadCodes, fault_among, fault_behind, heavy_read, one_more_read, split_here, rest_here}
+use Rattle.dexmembers.proofs.CodesOfMethods.{HaveReadCodes, fault_among, fault_after, heavy_read, one_more_read, split_here, rest_here}
 use Rattle.dexmembers.proofs.codes.read_codes.Goals as goal
 
 -- used instead of a method that is missing
@@ -32,10 +32,10 @@ returns-in-Ok-check_codes-clause-read c = λ pools.
     let rest = subst (HaveCodes b) (rest_here xs (i + 1) (omega (arith, c.loop-i-test.true))) (h.item, h.is_read) in
     subst (λ (l : List EncodedMethod). AreHeavyCodes b l c.args.most) (split_here xs i nothing c.loop-i-test.true)
     (heavy_read b m (take i xs) c.args.most c.loop-i.left c.loop-i.codes.items (get_or xs i nothing) c.in-Ok.code (drop (i + 1) xs) (c.loop-i.invariant.read pools) is
-    (c.in-None.ensures.symbolic m is.symbolic rising is.stands) rest)
+    (c.in-None.ensures.symbolic m is.symbolic rising is.encodes) rest)
 
 pub returns-in-Err-check_codes-clause-refused : goal.returns-in-Err-check_codes-clause-refused
-returns-in-Err-check_codes-clause-refused c = λ pools. fault_behind c.args.frame.now c.args.methods.now c.loop-i.i nothing c.in-Err-check_codes.fault c.loop-i-test.true (c.in-Err-check_codes.ensures.refused pools)
+returns-in-Err-check_codes-clause-refused c = λ pools. fault_after c.args.frame.now c.args.methods.now c.loop-i.i nothing c.in-Err-check_codes.fault c.loop-i-test.true (c.in-Err-check_codes.ensures.refused pools)
 
 pub loop-i-preserved : goal.loop-i-preserved
 loop-i-preserved c = record {
@@ -48,7 +48,7 @@ loop-i-preserved c = record {
       let is = c.in-Ok.ensures.read pools in
       subst (λ (l : List EncodedMethod). HaveReadCodes b m l c.args.most c.in-Some.rest c.push.new.self.items) (sym (take_more xs i nothing c.loop-i-test.true))
       (subst (λ (l : List (Option NumberedItem)). HaveReadCodes b m (take i xs ++ get_or xs i nothing ∷ []) c.args.most c.in-Some.rest l) (sym c.in_ok-push.ensures.items)
-      (one_more_read b m (take i xs) c.args.most c.loop-i.left c.in-Some.rest c.loop-i.codes.items (get_or xs i nothing) c.in-Ok.code (c.loop-i.invariant.read pools) is (c.in-Some.ensures.symbolic m is.symbolic rising is.stands)));
+      (one_more_read b m (take i xs) c.args.most c.loop-i.left c.in-Some.rest c.loop-i.codes.items (get_or xs i nothing) c.in-Ok.code (c.loop-i.invariant.read pools) is (c.in-Some.ensures.symbolic m is.symbolic rising is.encodes)));
   weight =
       let all : codes_weight c.push.new.self.items ≡ codes_weight c.loop-i.codes.items + codes_weight (c.in-Ok.code ∷ []) = ap codes_weight c.in_ok-push.ensures.items ∙ codes_append c.loop-i.codes.items (c.in-Ok.code ∷ []) in
       omega (arith, all, c.in-Some.ensures.numbered, c.loop-i.invariant.weight);

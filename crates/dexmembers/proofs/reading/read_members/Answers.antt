@@ -11,8 +11,8 @@ use Rattle.dexmembers.specs.Weighing.{codes_weight, codes_of}
 use Rattle.dexval.specs.Shared.{shared_directory_of}
 use Rattle.dexmembers.proofs.CodesApart.{attached_codes}
 use Rattle.dexmembers.specs.Weight.{members_weight}
-use Rattle.dexmembers.proofs.Judged.{data_refused}
-use Rattle.dexmembers.proofs.RowStands.{some_kept}
+use Rattle.dexmembers.proofs.DirectoryCache.{data_refused}
+use Rattle.dexmembers.proofs.RowsAreAt.{some_kept}
 use Rattle.dexmembers.proofs.RowRead.{parts_attachable, parts_known, parts_answer}
 use Rattle.dexmembers.proofs.reading.read_members.Goals as goal
 

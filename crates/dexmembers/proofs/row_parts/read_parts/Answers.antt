@@ -9,8 +9,8 @@ use Rattle.dexmembers.specs.internal.MethodCodes.{AreHeavyCodes, AreCodesOf, IsC
 use Rattle.dexmembers.specs.internal.RowParts.{AreAnnotationsOf, AreHeavyAnnotations}
 use Rattle.dexmembers.specs.internal.StaticValues.{AreHeavyValues, AreValuesOf, IsValuesFault}
 use Rattle.dexmembers.specs.declared.class_data.EncodedMethod.{EncodedMethod}
-use Rattle.dexmembers.proofs.Judged.{direct_refused, virtual_refused}
-use Rattle.dexmembers.proofs.RowStands.{annotations_refused, values_refused, any_directory, any_codes, any_values, annotations_heavy, direct_heavy, virtual_heavy, values_heavy, codes_here, values_here, none_kept}
+use Rattle.dexmembers.proofs.DirectoryCache.{direct_refused, virtual_refused}
+use Rattle.dexmembers.proofs.RowsAreAt.{annotations_refused, values_refused, any_directory, any_codes, any_values, annotations_heavy, direct_heavy, virtual_heavy, values_heavy, codes_here, values_here, none_kept}
 use Rattle.dexmembers.proofs.row_parts.read_parts.Goals as goal
 
 -- the items of a vector of code, which stands beside its weight

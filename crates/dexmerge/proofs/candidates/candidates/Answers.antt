@@ -4,7 +4,7 @@ use Rattle.std.proofs.lemmas.List.{length-map}
 use Rattle.dexspec.specs.Classes.{Definition}
 use Rattle.dexspec.specs.Files.{Collection, definitions}
 use Rattle.dexmerge.specs.Candidates.{AreMembers, classes_of}
-use Rattle.dexmerge.proofs.PartMembers.{parts_more, part_at, lead_at}
+use Rattle.dexmerge.proofs.PartMembers.{parts_more, part_at, mapped_at}
 use Rattle.dexmerge.proofs.candidates.candidates.Goals as goal
 
 pub loop-i-preserved : goal.loop-i-preserved
@@ -17,6 +17,6 @@ loop-i-preserved c =
     record {
       members = λ m zip.
           subst (λ (D : List Definition). AreMembers m D (classes_of c.push_classes.new.candidates.items)) (sym (parts_more Ks c.loop-i.i K few ∙ ap (λ (L : Collection). flat_map definitions (take c.loop-i.i Ks) ++ definitions L) (sym at)))
-          (c.in_ok-push_classes.ensures.members m (flat_map definitions (take c.loop-i.i Ks)) (lead_at m Ks c.args.remaps.now c.loop-i.i K c.index-remaps-i.result few at c.index-remaps-i.is zip) (c.loop-i.invariant.members m zip));
-      parts = λ m zip. c.in_ok-push_classes.ensures.parts m (lead_at m Ks c.args.remaps.now c.loop-i.i K c.index-remaps-i.result few at c.index-remaps-i.is zip) (c.loop-i.invariant.parts m zip);
+          (c.in_ok-push_classes.ensures.members m (flat_map definitions (take c.loop-i.i Ks)) (mapped_at m Ks c.args.remaps.now c.loop-i.i K c.index-remaps-i.result few at c.index-remaps-i.is zip) (c.loop-i.invariant.members m zip));
+      parts = λ m zip. c.in_ok-push_classes.ensures.parts m (mapped_at m Ks c.args.remaps.now c.loop-i.i K c.index-remaps-i.result few at c.index-remaps-i.is zip) (c.loop-i.invariant.parts m zip);
     }

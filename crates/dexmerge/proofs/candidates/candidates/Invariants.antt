@@ -2,12 +2,12 @@ use Rattle.std.specs.Prelude.{All, map, take}
 use Rattle.std.specs.List.{AllZip, flat_map}
 use Rattle.dexspec.specs.Files.{definitions}
 use Rattle.dexspec.specs.Mentions.{Mentions, mentions}
-use Rattle.dexclass.specs.Renumbering.{LeadInto}
+use Rattle.dexclass.specs.Renumbering.{MapsAllInto}
 use Rattle.dexmerge.specs.Candidates.{AreMembers, IsOfPart, classes_of}
 use Rattle.dexmerge.proofs.candidates.candidates.Given as goal
 
 abbrev pub invariant-loop-i : goal.invariant-loop-i
 invariant-loop-i l = record {
-  members : (m : Mentions) → AllZip (λ part remap. LeadInto (mentions (definitions part)) m remap) (map (λ part. part.now) l.parts) l.remaps → AreMembers m (flat_map definitions (take l.i (map (λ part. part.now) l.parts))) (classes_of l.candidates.items);
-  parts : (m : Mentions) → AllZip (λ part remap. LeadInto (mentions (definitions part)) m remap) (map (λ part. part.now) l.parts) l.remaps → All (IsOfPart m) l.candidates.items;
+  members : (m : Mentions) → AllZip (λ part remap. MapsAllInto (mentions (definitions part)) m remap) (map (λ part. part.now) l.parts) l.remaps → AreMembers m (flat_map definitions (take l.i (map (λ part. part.now) l.parts))) (classes_of l.candidates.items);
+  parts : (m : Mentions) → AllZip (λ part remap. MapsAllInto (mentions (definitions part)) m remap) (map (λ part. part.now) l.parts) l.remaps → All (IsOfPart m) l.candidates.items;
 }

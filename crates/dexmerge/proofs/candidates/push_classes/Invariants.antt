@@ -1,12 +1,12 @@
 use Rattle.std.specs.Prelude.{◌≡◌, ◌++◌, All, map, take}
 use Rattle.dexspec.specs.Files.{definitions}
 use Rattle.dexspec.specs.Mentions.{Mentions, mentions}
-use Rattle.dexclass.specs.Renumbering.{LeadInto, renumbered}
+use Rattle.dexclass.specs.Renumbering.{MapsAllInto, renumbered}
 use Rattle.dexmerge.specs.Candidates.{IsOfPart, classes_of}
 use Rattle.dexmerge.proofs.candidates.push_classes.Given as goal
 
 abbrev pub invariant-loop-class : goal.invariant-loop-class
 invariant-loop-class l = record {
   classes : classes_of l.candidates.items ≡ classes_of l.fn.candidates.items ++ map (renumbered l.remap) (take l.class-index l.class-items);
-  parts : (m : Mentions) → LeadInto (mentions (definitions l.part)) m l.remap → All (IsOfPart m) l.fn.candidates.items → All (IsOfPart m) l.candidates.items;
+  parts : (m : Mentions) → MapsAllInto (mentions (definitions l.part)) m l.remap → All (IsOfPart m) l.fn.candidates.items → All (IsOfPart m) l.candidates.items;
 }

@@ -3,28 +3,28 @@ use Rattle.std.proofs.lemmas.List.{take_all}
 use Rattle.dexspec.specs.Merging as merging
 use Rattle.dexmerge.specs.declared.plan.Plan.{Plan}
 use Rattle.dexmerge.specs.Plans.{plan_of, plans_of}
-use Rattle.dexmerge.specs.internal.Judging.{IsMarkedBy, IsNoPlan}
+use Rattle.dexmerge.specs.internal.UnionChecks.{IsMarkedBy, IsNoPlan}
 use Rattle.dexmerge.proofs.Marked.{ArePartsMarked, one_more_marked, all_marked, no_part}
 use Rattle.dexmerge.proofs.PlanForms.{node_is, part_member, parts_more}
 use Rattle.dexmerge.proofs.plan.+mark_files.Goals as goal
 
-pub returns-then-not-mark_files-clause-judged : goal.returns-then-not-mark_files-clause-judged
-returns-then-not-mark_files-clause-judged t c =
+pub returns-then-not-mark_files-clause-checked : goal.returns-then-not-mark_files-clause-checked
+returns-then-not-mark_files-clause-checked t c =
     let parts = c.deref-part-items.result.now in
     let is : plan_of c.args.plan.now ≡ merging.Node (plans_of (map plan_of parts)) = node_is c.args.plan.now c.in-Node.parts c.in-Node.is ∙ ap (λ (l : List Plan). merging.Node (plans_of (map plan_of l))) (sym c.deref-part-items.ensures.value) in
     subst (λ (p : merging.Plan). IsNoPlan p c.args.depth (length c.args.is_named.now.items)) (sym is)
     (no_part (map plan_of parts) (plan_of c.part-item.result) c.args.depth (length c.args.is_named.now.items) (part_member parts c.loop-part.part-index c.part-item.result c.loop-part-test.true c.part-item.is) (omega arith)
-    (subst (IsNoPlan (plan_of c.part-item.result) (c.args.depth - 1)) c.loop-part.invariant.count c.if-not-mark_files.ensures.judged))
+    (subst (IsNoPlan (plan_of c.part-item.result) (c.args.depth - 1)) c.loop-part.invariant.count c.if-not-mark_files.ensures.checked))
 
 pub loop-part-preserved : goal.loop-part-preserved
 loop-part-preserved t c =
     let parts = c.deref-part-items.result.now in
     subst (λ (l : List merging.Plan). ArePartsMarked l c.args.depth c.args.is_named.now.items c.mark_files.new.is_named.items) (sym (parts_more parts c.loop-part.part-index c.part-item.result c.loop-part-test.true c.part-item.is))
     (one_more_marked (map plan_of (take c.loop-part.part-index parts)) (plan_of c.part-item.result) c.args.depth c.args.is_named.now.items c.loop-part.is_named.items c.mark_files.new.is_named.items c.loop-part.invariant (omega arith)
-    c.mark_files.ensures.count c.if-not-mark_files.ensures.judged)
+    c.mark_files.ensures.count c.if-not-mark_files.ensures.checked)
 
-pub returns-after-loop-part-clause-judged : goal.returns-after-loop-part-clause-judged
-returns-after-loop-part-clause-judged t c =
+pub returns-after-loop-part-clause-checked : goal.returns-after-loop-part-clause-checked
+returns-after-loop-part-clause-checked t c =
     let parts = c.deref-part-items.result.now in
     let is : plan_of c.args.plan.now ≡ merging.Node (plans_of (map plan_of parts)) = node_is c.args.plan.now c.in-Node.parts c.in-Node.is ∙ ap (λ (l : List Plan). merging.Node (plans_of (map plan_of l))) (sym c.deref-part-items.ensures.value) in
     subst (λ (p : merging.Plan). IsMarkedBy p c.args.depth c.args.is_named.now.items c.loop-part.is_named.items) (sym is)

@@ -1,5 +1,5 @@
 use Rattle.std.specs.Prelude.{ℕ, ◌<◌}
-use Rattle.dexmerge.specs.internal.Judging.{IsNamed}
+use Rattle.dexmerge.specs.internal.UnionChecks.{IsNamed}
 use Rattle.dexmerge.proofs.plan.are_all_named.Given as goal
 
 abbrev pub invariant-loop-i : goal.invariant-loop-i

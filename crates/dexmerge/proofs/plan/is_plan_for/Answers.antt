@@ -1,8 +1,8 @@
 use Rattle.std.proofs.Common.{◌≡◌, ◌∙◌, List, Bool, length, false, ap, subst, replicate}
 use Rattle.std.specs.Prelude.{ℕ, ◌<◌, MatchBool}
 use Rattle.dexmerge.specs.Plans.{plan_of}
-use Rattle.dexmerge.specs.internal.Judging.{IsMarkedBy, IsNamed, HasUnnamed}
-use Rattle.dexmerge.proofs.PlanJudged.{judged_by}
+use Rattle.dexmerge.specs.internal.UnionChecks.{IsMarkedBy, IsNamed, HasUnnamed}
+use Rattle.dexmerge.proofs.PlanChecked.{checked_by}
 use Rattle.dexmerge.proofs.plan.is_plan_for.Goals as goal
 
 pub returns : goal.returns
@@ -10,5 +10,5 @@ returns c =
     let p = plan_of c.args.plan.now in
     let marks = c.mark_files.new.is_named.items in
     let old : c.in_ok-is_named.is_named.items ≡ replicate c.args.files false = c.in_ok-is_named.ensures.items_if_clones_equal (λ y e. e) in
-    judged_by p c.args.files marks (subst (λ (l : List Bool). IsMarkedBy p 64 l marks) old c.if-not-mark_files.ensures.judged) (c.mark_files.ensures.count ∙ ap length old) c.are_all_named.result
+    checked_by p c.args.files marks (subst (λ (l : List Bool). IsMarkedBy p 64 l marks) old c.if-not-mark_files.ensures.checked) (c.mark_files.ensures.count ∙ ap length old) c.are_all_named.result
     (subst (λ (l : List Bool). MatchBool c.are_all_named.result ((i : ℕ) → i < length l → IsNamed l i) (HasUnnamed l)) c.deref.ensures.value c.are_all_named.ensures)

@@ -3,10 +3,10 @@ use Rattle.dexspec.specs.Mentions.{Mentions}
 use Rattle.dexrows.specs.Join.{AreSorted}
 use Rattle.dexpool.specs.Tables.{text_of, field_of, field_key}
 use Rattle.dexpool.specs.internal.Renumbering.{moved_field, IsFieldWithin}
-use Rattle.dexpool.specs.internal.Joining.{Moves, StandFor}
+use Rattle.dexpool.specs.internal.Joining.{Moves, Denote}
 use Rattle.dexpool.proofs.Pairs.{zip_seen, within_other, zip_more, zip_all, all_pushed}
 use Rattle.dexpool.proofs.TypeLists.{if_ok_map}
-use Rattle.dexpool.proofs.Moved.{fields_movable, fields_stand}
+use Rattle.dexpool.proofs.Moved.{fields_movable, fields_at_ranks}
 use Rattle.dexpool.proofs.RowOrder.{fields_sorted}
 use Rattle.dexpool.proofs.JoinedLevels.{texts_rise, type_texts_rise, fields_joined}
 use Rattle.dexpool.proofs.joined_tables.join_fields.Goals as goal
@@ -33,11 +33,11 @@ loop-i-preserved c =
     let by_types = subst (λ (m : Mentions). Moves m.types (map (text_of c.args.strings.now.rows.items) c.args.types.now.numbers.items) c.index-in-loop-i.result.now.items) (sym c.tables.ensures.symbols) seen_types in
     let rows = c.in_ok-renumbered_fields.field-0.items in
     let is = c.in_ok-renumbered_fields.ensures ∙ (λ i. map (moved_field (c.deref-in-loop-i.ensures.value i) (c.deref-in-loop-i-2.ensures.value i)) (c.deref.ensures.value i)) in
-    let stand = fields_stand c.tables.result.now c.tables.ensures.tables c.args.strings.now.rows.items c.index.result.now.items by_strings c.args.types.now.numbers.items c.index-in-loop-i.result.now.items by_types rows is in
+    let are_encoded = fields_at_ranks c.tables.result.now c.tables.ensures.tables c.args.strings.now.rows.items c.index.result.now.items by_strings c.args.types.now.numbers.items c.index-in-loop-i.result.now.items by_types rows is in
     record {
-      stand = zip_more (λ (part : Mentions) xs. StandFor (field_of c.args.strings.now.rows.items c.args.types.now.numbers.items) (IsFieldWithin (length c.args.strings.now.rows.items) (length c.args.types.now.numbers.items)) part.fields xs) (λ part. part.now) (λ xs. xs.items)
-          c.args.parts.now c.loop-i.rows.items c.push.new.self.items c.loop-i.i c.index-parts-i.result c.in_ok-renumbered_fields.field-0 c.loop-i.invariant.stand c.loop-i-test.true c.index-parts-i.is c.in_ok-push.ensures.items
-          (subst (λ (m : Mentions). StandFor (field_of c.args.strings.now.rows.items c.args.types.now.numbers.items) (IsFieldWithin (length c.args.strings.now.rows.items) (length c.args.types.now.numbers.items)) m.fields rows) c.tables.ensures.symbols stand);
+      are_encoded = zip_more (λ (part : Mentions) xs. Denote (field_of c.args.strings.now.rows.items c.args.types.now.numbers.items) (IsFieldWithin (length c.args.strings.now.rows.items) (length c.args.types.now.numbers.items)) part.fields xs) (λ part. part.now) (λ xs. xs.items)
+          c.args.parts.now c.loop-i.rows.items c.push.new.self.items c.loop-i.i c.index-parts-i.result c.in_ok-renumbered_fields.field-0 c.loop-i.invariant.are_encoded c.loop-i-test.true c.index-parts-i.is c.in_ok-push.ensures.items
+          (subst (λ (m : Mentions). Denote (field_of c.args.strings.now.rows.items c.args.types.now.numbers.items) (IsFieldWithin (length c.args.strings.now.rows.items) (length c.args.types.now.numbers.items)) m.fields rows) c.tables.ensures.symbols are_encoded);
       sorted = all_pushed (AreSorted field_key) (λ rows. rows.items) c.loop-i.rows.items c.push.new.self.items c.in_ok-renumbered_fields.field-0 c.in_ok-push.ensures.items c.loop-i.invariant.sorted
           (fields_sorted c.tables.result.now c.tables.ensures.tables c.args.strings.now.rows.items (texts_rise (map (λ part. part.now) c.args.parts.now) c.requires.numberings c.args.strings.now.rows.items (map (λ image. image.items) c.args.strings.now.images.items) c.requires.strings) c.index.result.now.items by_strings
           c.args.types.now.numbers.items (type_texts_rise (map (λ part. part.now) c.args.parts.now) c.requires.numberings c.args.strings.now.rows.items (map (λ image. image.items) c.args.strings.now.images.items) c.requires.strings c.args.types.now.numbers.items (map (λ image. image.items) c.args.types.now.images.items) c.requires.types) c.index-in-loop-i.result.now.items by_types
@@ -49,6 +49,6 @@ join_rows-requires c = rw c.deref-2.ensures.value c.loop-i.invariant.sorted
 
 pub returns : goal.returns
 returns c =
-    let stand = zip_all (λ (part : Mentions) xs. StandFor (field_of c.args.strings.now.rows.items c.args.types.now.numbers.items) (IsFieldWithin (length c.args.strings.now.rows.items) (length c.args.types.now.numbers.items)) part.fields xs) (λ part. part.now) (λ xs. xs.items)
-    c.args.parts.now c.loop-i.rows.items c.deref-2.result.now c.loop-i.i c.loop-i-test.false c.deref-2.ensures.value c.loop-i.invariant.stand in
-    if_ok_map _ _ c.join_rows.result (λ joined j. fields_joined (map (λ part. part.now) c.args.parts.now) c.requires.numberings c.args.strings.now.rows.items (map (λ image. image.items) c.args.strings.now.images.items) c.requires.strings c.args.types.now.numbers.items (map (λ image. image.items) c.args.types.now.images.items) c.requires.types (map (λ rows. rows.items) c.deref-2.result.now) stand joined.rows.items (map (λ image. image.items) joined.images.items) j) c.join_rows.ensures
+    let are_encoded = zip_all (λ (part : Mentions) xs. Denote (field_of c.args.strings.now.rows.items c.args.types.now.numbers.items) (IsFieldWithin (length c.args.strings.now.rows.items) (length c.args.types.now.numbers.items)) part.fields xs) (λ part. part.now) (λ xs. xs.items)
+    c.args.parts.now c.loop-i.rows.items c.deref-2.result.now c.loop-i.i c.loop-i-test.false c.deref-2.ensures.value c.loop-i.invariant.are_encoded in
+    if_ok_map _ _ c.join_rows.result (λ joined j. fields_joined (map (λ part. part.now) c.args.parts.now) c.requires.numberings c.args.strings.now.rows.items (map (λ image. image.items) c.args.strings.now.images.items) c.requires.strings c.args.types.now.numbers.items (map (λ image. image.items) c.args.types.now.images.items) c.requires.types (map (λ rows. rows.items) c.deref-2.result.now) are_encoded joined.rows.items (map (λ image. image.items) joined.images.items) j) c.join_rows.ensures

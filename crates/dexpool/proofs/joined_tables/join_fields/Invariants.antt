@@ -3,11 +3,11 @@ use Rattle.std.specs.List.{All, AllZip}
 use Rattle.dexrows.specs.Join.{AreSorted}
 use Rattle.dexpool.specs.Tables.{field_of, field_key}
 use Rattle.dexpool.specs.internal.Renumbering.{IsFieldWithin}
-use Rattle.dexpool.specs.internal.Joining.{StandFor}
+use Rattle.dexpool.specs.internal.Joining.{Denote}
 use Rattle.dexpool.proofs.joined_tables.join_fields.Given as goal
 
 abbrev pub invariant-loop-i : goal.invariant-loop-i
 invariant-loop-i l = record {
-  stand : AllZip (λ part rows. StandFor (field_of l.strings.rows.items l.types.numbers.items) (IsFieldWithin (length l.strings.rows.items) (length l.types.numbers.items)) part.fields rows) (map (λ part. part.now) (take l.i l.parts)) (map (λ rows. rows.items) l.rows.items);
+  are_encoded : AllZip (λ part rows. Denote (field_of l.strings.rows.items l.types.numbers.items) (IsFieldWithin (length l.strings.rows.items) (length l.types.numbers.items)) part.fields rows) (map (λ part. part.now) (take l.i l.parts)) (map (λ rows. rows.items) l.rows.items);
   sorted : All (λ rows. AreSorted field_key rows.items) l.rows.items;
 }

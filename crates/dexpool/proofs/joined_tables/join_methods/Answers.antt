@@ -3,10 +3,10 @@ use Rattle.dexspec.specs.Mentions.{Mentions}
 use Rattle.dexrows.specs.Join.{AreSorted}
 use Rattle.dexpool.specs.Tables.{text_of, proto_of, method_of, method_key}
 use Rattle.dexpool.specs.internal.Renumbering.{moved_method, IsMethodWithin}
-use Rattle.dexpool.specs.internal.Joining.{Moves, StandFor}
+use Rattle.dexpool.specs.internal.Joining.{Moves, Denote}
 use Rattle.dexpool.proofs.Pairs.{zip_seen, within_other, zip_more, zip_all, all_pushed}
 use Rattle.dexpool.proofs.TypeLists.{if_ok_map}
-use Rattle.dexpool.proofs.Moved.{methods_movable, methods_stand}
+use Rattle.dexpool.proofs.Moved.{methods_movable, methods_at_ranks}
 use Rattle.dexpool.proofs.RowOrder.{methods_sorted}
 use Rattle.dexpool.proofs.JoinedLevels.{texts_rise, type_texts_rise, proto_symbols_rise, methods_joined}
 use Rattle.dexpool.proofs.joined_tables.join_methods.Goals as goal
@@ -40,11 +40,11 @@ loop-i-preserved c =
     let by_protos = subst (λ (m : Mentions). Moves m.protos (map (proto_of c.args.strings.now.rows.items c.args.types.now.numbers.items c.args.protos.now.table.parameters.items) c.args.protos.now.table.rows.items) c.index-in-loop-i-2.result.now.items) (sym c.tables.ensures.symbols) seen_protos in
     let rows = c.in_ok-renumbered_methods.field-0.items in
     let is = c.in_ok-renumbered_methods.ensures ∙ (λ i. map (moved_method (c.deref-in-loop-i.ensures.value i) (c.deref-in-loop-i-2.ensures.value i) (c.deref-in-loop-i-3.ensures.value i)) (c.deref.ensures.value i)) in
-    let stand = methods_stand c.tables.result.now c.tables.ensures.tables c.args.strings.now.rows.items c.index.result.now.items by_strings c.args.types.now.numbers.items c.index-in-loop-i.result.now.items by_types c.args.protos.now.table.parameters.items c.args.protos.now.table.rows.items c.index-in-loop-i-2.result.now.items by_protos rows is in
+    let are_encoded = methods_at_ranks c.tables.result.now c.tables.ensures.tables c.args.strings.now.rows.items c.index.result.now.items by_strings c.args.types.now.numbers.items c.index-in-loop-i.result.now.items by_types c.args.protos.now.table.parameters.items c.args.protos.now.table.rows.items c.index-in-loop-i-2.result.now.items by_protos rows is in
     record {
-      stand = zip_more (λ (part : Mentions) xs. StandFor (method_of c.args.strings.now.rows.items c.args.types.now.numbers.items c.args.protos.now.table.parameters.items c.args.protos.now.table.rows.items) (IsMethodWithin (length c.args.strings.now.rows.items) (length c.args.types.now.numbers.items) (length c.args.protos.now.table.rows.items)) part.methods xs) (λ part. part.now) (λ xs. xs.items)
-          c.args.parts.now c.loop-i.rows.items c.push.new.self.items c.loop-i.i c.index-parts-i.result c.in_ok-renumbered_methods.field-0 c.loop-i.invariant.stand c.loop-i-test.true c.index-parts-i.is c.in_ok-push.ensures.items
-          (subst (λ (m : Mentions). StandFor (method_of c.args.strings.now.rows.items c.args.types.now.numbers.items c.args.protos.now.table.parameters.items c.args.protos.now.table.rows.items) (IsMethodWithin (length c.args.strings.now.rows.items) (length c.args.types.now.numbers.items) (length c.args.protos.now.table.rows.items)) m.methods rows) c.tables.ensures.symbols stand);
+      are_encoded = zip_more (λ (part : Mentions) xs. Denote (method_of c.args.strings.now.rows.items c.args.types.now.numbers.items c.args.protos.now.table.parameters.items c.args.protos.now.table.rows.items) (IsMethodWithin (length c.args.strings.now.rows.items) (length c.args.types.now.numbers.items) (length c.args.protos.now.table.rows.items)) part.methods xs) (λ part. part.now) (λ xs. xs.items)
+          c.args.parts.now c.loop-i.rows.items c.push.new.self.items c.loop-i.i c.index-parts-i.result c.in_ok-renumbered_methods.field-0 c.loop-i.invariant.are_encoded c.loop-i-test.true c.index-parts-i.is c.in_ok-push.ensures.items
+          (subst (λ (m : Mentions). Denote (method_of c.args.strings.now.rows.items c.args.types.now.numbers.items c.args.protos.now.table.parameters.items c.args.protos.now.table.rows.items) (IsMethodWithin (length c.args.strings.now.rows.items) (length c.args.types.now.numbers.items) (length c.args.protos.now.table.rows.items)) m.methods rows) c.tables.ensures.symbols are_encoded);
       sorted = all_pushed (AreSorted method_key) (λ rows. rows.items) c.loop-i.rows.items c.push.new.self.items c.in_ok-renumbered_methods.field-0 c.in_ok-push.ensures.items c.loop-i.invariant.sorted
           (methods_sorted c.tables.result.now c.tables.ensures.tables c.args.strings.now.rows.items (texts_rise (map (λ part. part.now) c.args.parts.now) c.requires.numberings c.args.strings.now.rows.items (map (λ image. image.items) c.args.strings.now.images.items) c.requires.strings) c.index.result.now.items by_strings
           c.args.types.now.numbers.items (type_texts_rise (map (λ part. part.now) c.args.parts.now) c.requires.numberings c.args.strings.now.rows.items (map (λ image. image.items) c.args.strings.now.images.items) c.requires.strings c.args.types.now.numbers.items (map (λ image. image.items) c.args.types.now.images.items) c.requires.types) c.index-in-loop-i.result.now.items by_types
@@ -57,6 +57,6 @@ join_rows-requires c = rw c.deref-2.ensures.value c.loop-i.invariant.sorted
 
 pub returns : goal.returns
 returns c =
-    let stand = zip_all (λ (part : Mentions) xs. StandFor (method_of c.args.strings.now.rows.items c.args.types.now.numbers.items c.args.protos.now.table.parameters.items c.args.protos.now.table.rows.items) (IsMethodWithin (length c.args.strings.now.rows.items) (length c.args.types.now.numbers.items) (length c.args.protos.now.table.rows.items)) part.methods xs) (λ part. part.now) (λ xs. xs.items)
-    c.args.parts.now c.loop-i.rows.items c.deref-2.result.now c.loop-i.i c.loop-i-test.false c.deref-2.ensures.value c.loop-i.invariant.stand in
-    if_ok_map _ _ c.join_rows.result (λ joined j. methods_joined (map (λ part. part.now) c.args.parts.now) c.requires.numberings c.args.strings.now.rows.items (map (λ image. image.items) c.args.strings.now.images.items) c.requires.strings c.args.types.now.numbers.items (map (λ image. image.items) c.args.types.now.images.items) c.requires.types c.args.protos.now.table.parameters.items c.args.protos.now.table.rows.items (map (λ image. image.items) c.args.protos.now.images.items) c.requires.protos (map (λ rows. rows.items) c.deref-2.result.now) stand joined.rows.items (map (λ image. image.items) joined.images.items) j) c.join_rows.ensures
+    let are_encoded = zip_all (λ (part : Mentions) xs. Denote (method_of c.args.strings.now.rows.items c.args.types.now.numbers.items c.args.protos.now.table.parameters.items c.args.protos.now.table.rows.items) (IsMethodWithin (length c.args.strings.now.rows.items) (length c.args.types.now.numbers.items) (length c.args.protos.now.table.rows.items)) part.methods xs) (λ part. part.now) (λ xs. xs.items)
+    c.args.parts.now c.loop-i.rows.items c.deref-2.result.now c.loop-i.i c.loop-i-test.false c.deref-2.ensures.value c.loop-i.invariant.are_encoded in
+    if_ok_map _ _ c.join_rows.result (λ joined j. methods_joined (map (λ part. part.now) c.args.parts.now) c.requires.numberings c.args.strings.now.rows.items (map (λ image. image.items) c.args.strings.now.images.items) c.requires.strings c.args.types.now.numbers.items (map (λ image. image.items) c.args.types.now.images.items) c.requires.types c.args.protos.now.table.parameters.items c.args.protos.now.table.rows.items (map (λ image. image.items) c.args.protos.now.images.items) c.requires.protos (map (λ rows. rows.items) c.deref-2.result.now) are_encoded joined.rows.items (map (λ image. image.items) joined.images.items) j) c.join_rows.ensures

@@ -8,7 +8,7 @@ use Rattle.dexrows.proofs.Composing.{all_seen as seen_all}
 use Rattle.dexpool.specs.Numberings.{IsNumbering}
 use Rattle.dexpool.proofs.Pairs.{all_seen, seen_more, All_more, map_both}
 use Rattle.dexpool.proofs.TypeLists.{if_ok_map}
-use Rattle.dexpool.proofs.TablesStand.{are_numbering}
+use Rattle.dexpool.proofs.TablesAreAt.{are_numbering}
 use Rattle.dexpool.proofs.JoinedLevels.{texts_joined}
 use Rattle.dexpool.proofs.joined_tables.join_strings.Goals as goal
 

@@ -4,7 +4,7 @@ use Rattle.dexspec.specs.Symbols.{proto_cmp, field_cmp, method_cmp}
 use Rattle.dexspec.specs.Mentions.{Mentions}
 use Rattle.dexpool.specs.internal.Joining.{AreJoinedProtos, AreJoinedMethods}
 use Rattle.dexpool.specs.Tables.{text_of, proto_of, field_of, method_of}
-use Rattle.dexpool.proofs.JoinedTables.{images_count, are_tables, are_union, all_lead, texts_keep, types_keep, protos_keep, fields_keep, methods_keep}
+use Rattle.dexpool.proofs.JoinedTables.{images_count, are_tables, are_union, all_map_to, texts_keep, types_keep, protos_keep, fields_keep, methods_keep}
 use Rattle.dexpool.proofs.joined_tables.join_tables.Goals as goal
 
 pub remaps-requires-clause-types : goal.remaps-requires-clause-types
@@ -61,7 +61,7 @@ returns-clause-union c = are_union (map (λ part. part.now) c.args.parts.now) c.
     c.in_ok-strings.ensures.texts c.in_ok-types.ensures (own_protos c) c.in_ok-fields.ensures (own_methods c)
 
 pub returns-clause-maps : goal.returns-clause-maps
-returns-clause-maps c = all_lead (map (λ part. part.now) c.args.parts.now) c.in_ok-strings.ensures.numberings (record { strings = c.in_ok-strings.strings.rows; types = c.in_ok-types.types.numbers; protos = c.in_ok-protos.protos.table.rows; parameters = c.own.result; fields = c.in_ok-fields.fields.rows; methods = c.in_ok-methods.methods.rows })
+returns-clause-maps c = all_map_to (map (λ part. part.now) c.args.parts.now) c.in_ok-strings.ensures.numberings (record { strings = c.in_ok-strings.strings.rows; types = c.in_ok-types.types.numbers; protos = c.in_ok-protos.protos.table.rows; parameters = c.own.result; fields = c.in_ok-fields.fields.rows; methods = c.in_ok-methods.methods.rows })
     (map (λ image. image.items) c.in_ok-strings.strings.images.items) (map (λ image. image.items) c.in_ok-types.types.images.items) (map (λ image. image.items) c.in_ok-protos.protos.images.items) (map (λ image. image.items) c.in_ok-fields.fields.images.items) (map (λ image. image.items) c.in_ok-methods.methods.images.items)
     c.in_ok-strings.ensures.texts c.in_ok-types.ensures (own_protos c) c.in_ok-fields.ensures (own_methods c)
     c.in_ok-remaps.remaps.items (rw (c.deref.ensures.value, c.deref-2.ensures.value, c.deref-3.ensures.value, c.deref-4.ensures.value, c.deref-5.ensures.value) at c.in_ok-remaps.ensures)

@@ -4,9 +4,9 @@ use Rattle.dexrows.specs.Join.{AreSorted}
 use Rattle.dexrows.specs.declared.types.TypeRow.{TypeRow}
 use Rattle.dexpool.specs.Tables.{text_of}
 use Rattle.dexpool.specs.internal.Renumbering.{moved_type}
-use Rattle.dexpool.specs.internal.Joining.{Moves, StandFor}
+use Rattle.dexpool.specs.internal.Joining.{Moves, Denote}
 use Rattle.dexpool.proofs.Pairs.{zip_seen, within_other, zip_more, zip_all, all_pushed}
-use Rattle.dexpool.proofs.Moved.{types_movable, types_stand}
+use Rattle.dexpool.proofs.Moved.{types_movable, types_at_ranks}
 use Rattle.dexpool.proofs.RowOrder.{types_sorted}
 use Rattle.dexpool.proofs.JoinedLevels.{texts_rise, types_joined}
 use Rattle.dexpool.proofs.joined_tables.join_types.Goals as goal
@@ -27,11 +27,11 @@ loop-i-preserved c =
     let by_texts = subst (λ (m : Mentions). Moves m.texts texts c.index.result.now.items) (sym c.tables.ensures.symbols) m in
     let rows = c.in_ok-renumbered_types.field-0.items in
     let is = c.in_ok-renumbered_types.ensures ∙ (λ i. map (moved_type (c.deref-in-loop-i.ensures.value i)) (c.deref.ensures.value i)) in
-    let stand = types_stand c.tables.result.now c.tables.ensures.tables texts c.index.result.now.items by_texts rows is in
+    let are_encoded = types_at_ranks c.tables.result.now c.tables.ensures.tables texts c.index.result.now.items by_texts rows is in
     record {
-      stand = zip_more (λ (part : Mentions) xs. StandFor (λ (row : TypeRow). text_of texts row.descriptor) (λ (row : TypeRow). row.descriptor < length texts) part.types xs) (λ part. part.now) (λ xs. xs.items)
-          c.args.parts.now c.loop-i.rows.items c.push.new.self.items c.loop-i.i c.index-parts-i.result c.in_ok-renumbered_types.field-0 c.loop-i.invariant.stand c.loop-i-test.true c.index-parts-i.is c.in_ok-push.ensures.items
-          (subst (λ (m : Mentions). StandFor (λ (row : TypeRow). text_of texts row.descriptor) (λ (row : TypeRow). row.descriptor < length texts) m.types rows) c.tables.ensures.symbols stand);
+      are_encoded = zip_more (λ (part : Mentions) xs. Denote (λ (row : TypeRow). text_of texts row.descriptor) (λ (row : TypeRow). row.descriptor < length texts) part.types xs) (λ part. part.now) (λ xs. xs.items)
+          c.args.parts.now c.loop-i.rows.items c.push.new.self.items c.loop-i.i c.index-parts-i.result c.in_ok-renumbered_types.field-0 c.loop-i.invariant.are_encoded c.loop-i-test.true c.index-parts-i.is c.in_ok-push.ensures.items
+          (subst (λ (m : Mentions). Denote (λ (row : TypeRow). text_of texts row.descriptor) (λ (row : TypeRow). row.descriptor < length texts) m.types rows) c.tables.ensures.symbols are_encoded);
       sorted = all_pushed (AreSorted (λ (row : TypeRow). row.descriptor ∷ [])) (λ rows. rows.items) c.loop-i.rows.items c.push.new.self.items c.in_ok-renumbered_types.field-0 c.in_ok-push.ensures.items c.loop-i.invariant.sorted
           (types_sorted c.tables.result.now c.tables.ensures.tables texts (texts_rise (map (λ part. part.now) c.args.parts.now) c.requires.numberings c.args.strings.now.rows.items (map (λ image. image.items) c.args.strings.now.images.items) c.requires.strings) c.index.result.now.items by_texts c.sorted_law.ensures rows is);
     }
@@ -42,7 +42,7 @@ join_rows-requires c = rw c.deref-2.ensures.value c.loop-i.invariant.sorted
 pub returns : goal.returns
 returns c =
     let texts = c.args.strings.now.rows.items in
-    let stand = zip_all (λ (part : Mentions) xs. StandFor (λ (row : TypeRow). text_of texts row.descriptor) (λ (row : TypeRow). row.descriptor < length texts) part.types xs) (λ part. part.now) (λ xs. xs.items)
-    c.args.parts.now c.loop-i.rows.items c.deref-2.result.now c.loop-i.i c.loop-i-test.false c.deref-2.ensures.value c.loop-i.invariant.stand in
-    types_joined (map (λ part. part.now) c.args.parts.now) c.requires.numberings texts (map (λ image. image.items) c.args.strings.now.images.items) c.requires.strings (map (λ rows. rows.items) c.deref-2.result.now) stand
+    let are_encoded = zip_all (λ (part : Mentions) xs. Denote (λ (row : TypeRow). text_of texts row.descriptor) (λ (row : TypeRow). row.descriptor < length texts) part.types xs) (λ part. part.now) (λ xs. xs.items)
+    c.args.parts.now c.loop-i.rows.items c.deref-2.result.now c.loop-i.i c.loop-i-test.false c.deref-2.ensures.value c.loop-i.invariant.are_encoded in
+    types_joined (map (λ part. part.now) c.args.parts.now) c.requires.numberings texts (map (λ image. image.items) c.args.strings.now.images.items) c.requires.strings (map (λ rows. rows.items) c.deref-2.result.now) are_encoded
     c.in_ok-joined.joined.rows.items (map (λ image. image.items) c.in_ok-joined.joined.images.items) c.in_ok-descriptors.field-0.items c.in_ok-joined.ensures (c.in_ok-descriptors.ensures ∙ ap (map (λ (row : TypeRow). row.descriptor)) c.deref-3.ensures.value)

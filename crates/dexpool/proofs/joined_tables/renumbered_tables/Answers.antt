@@ -5,9 +5,9 @@ use Rattle.dexspec.specs.Mentions.{Mentions}
 use Rattle.dexrows.specs.Join.{AreSorted}
 use Rattle.dexpool.specs.Tables.{text_of}
 use Rattle.dexpool.specs.internal.Renumbering.{moved_proto, numbers_in, HasSpans}
-use Rattle.dexpool.specs.internal.Joining.{Moves, StandFor, proto_of_row, proto_key, IsRowOf}
+use Rattle.dexpool.specs.internal.Joining.{Moves, Denote, proto_of_row, proto_key, IsRowOf}
 use Rattle.dexpool.proofs.Pairs.{zip_seen, within_other, zip_more, zip_all, all_pushed}
-use Rattle.dexpool.proofs.Moved.{protos_movable, protos_stand}
+use Rattle.dexpool.proofs.Moved.{protos_movable, protos_at_ranks}
 use Rattle.dexpool.proofs.RowOrder.{protos_sorted}
 use Rattle.dexpool.proofs.JoinedLevels.{texts_rise, type_texts_rise}
 use Rattle.dexpool.proofs.joined_tables.renumbered_tables.Goals as goal
@@ -34,16 +34,16 @@ loop-i-preserved c =
     let by_types = subst (λ (m : Mentions). Moves m.types (map (text_of c.args.strings.now.rows.items) c.args.types.now.numbers.items) c.index-in-loop-i.result.now.items) (sym c.tables-part.ensures.symbols) seen_types in
     let table = c.in_ok-renumbered_protos.field-0 in
     let is = c.in_ok-renumbered_protos.ensures.rows ∙ (λ i. map (moved_proto (c.deref-in-loop-i.ensures.value i) (c.deref-in-loop-i-2.ensures.value i) c.tables-part.result.now.parameters) (c.deref.ensures.value i)) in
-    let stand = protos_stand c.tables-part.result.now c.tables-part.ensures.tables c.args.strings.now.rows.items c.index.result.now.items by_strings c.args.types.now.numbers.items c.index-in-loop-i.result.now.items by_types (numbers_in table) is in
+    let are_encoded = protos_at_ranks c.tables-part.result.now c.tables-part.ensures.tables c.args.strings.now.rows.items c.index.result.now.items by_strings c.args.types.now.numbers.items c.index-in-loop-i.result.now.items by_types (numbers_in table) is in
     record {
       spans = subst (All HasSpans) (sym c.in_ok-push.ensures.items) (All-push HasSpans c.loop-i.tables.items table c.loop-i.invariant.spans c.in_ok-renumbered_protos.ensures.spans);
       sorted = all_pushed (AreSorted proto_key) numbers_in c.loop-i.tables.items c.push.new.self.items table c.in_ok-push.ensures.items c.loop-i.invariant.sorted
           (protos_sorted c.tables-part.result.now c.tables-part.ensures.tables c.args.strings.now.rows.items (texts_rise (map (λ part. part.now) c.args.parts.now) c.requires.numberings c.args.strings.now.rows.items (map (λ image. image.items) c.args.strings.now.images.items) c.requires.strings) c.index.result.now.items by_strings
           c.args.types.now.numbers.items (type_texts_rise (map (λ part. part.now) c.args.parts.now) c.requires.numberings c.args.strings.now.rows.items (map (λ image. image.items) c.args.strings.now.images.items) c.requires.strings c.args.types.now.numbers.items (map (λ image. image.items) c.args.types.now.images.items) c.requires.types) c.index-in-loop-i.result.now.items by_types
           c.sorted_law.ensures (numbers_in table) is);
-      rows = zip_more (λ (part : Mentions) xs. StandFor (proto_of_row c.args.strings.now.rows.items c.args.types.now.numbers.items) (IsRowOf c.args.strings.now.rows.items c.args.types.now.numbers.items) part.protos xs) (λ part. part.now) numbers_in
+      rows = zip_more (λ (part : Mentions) xs. Denote (proto_of_row c.args.strings.now.rows.items c.args.types.now.numbers.items) (IsRowOf c.args.strings.now.rows.items c.args.types.now.numbers.items) part.protos xs) (λ part. part.now) numbers_in
           c.args.parts.now c.loop-i.tables.items c.push.new.self.items c.loop-i.i c.index-parts-i.result table c.loop-i.invariant.rows c.loop-i-test.true c.index-parts-i.is c.in_ok-push.ensures.items
-          (subst (λ (m : Mentions). StandFor (proto_of_row c.args.strings.now.rows.items c.args.types.now.numbers.items) (IsRowOf c.args.strings.now.rows.items c.args.types.now.numbers.items) m.protos (numbers_in table)) c.tables-part.ensures.symbols stand);
+          (subst (λ (m : Mentions). Denote (proto_of_row c.args.strings.now.rows.items c.args.types.now.numbers.items) (IsRowOf c.args.strings.now.rows.items c.args.types.now.numbers.items) m.protos (numbers_in table)) c.tables-part.ensures.symbols are_encoded);
     }
 
 pub returns-clause-spans : goal.returns-clause-spans
@@ -53,5 +53,5 @@ pub returns-clause-sorted : goal.returns-clause-sorted
 returns-clause-sorted c = c.loop-i.invariant.sorted
 
 pub returns-clause-rows : goal.returns-clause-rows
-returns-clause-rows c = zip_all (λ (part : Mentions) xs. StandFor (proto_of_row c.args.strings.now.rows.items c.args.types.now.numbers.items) (IsRowOf c.args.strings.now.rows.items c.args.types.now.numbers.items) part.protos xs) (λ part. part.now) numbers_in
+returns-clause-rows c = zip_all (λ (part : Mentions) xs. Denote (proto_of_row c.args.strings.now.rows.items c.args.types.now.numbers.items) (IsRowOf c.args.strings.now.rows.items c.args.types.now.numbers.items) part.protos xs) (λ part. part.now) numbers_in
     c.args.parts.now c.loop-i.tables.items c.loop-i.tables.items c.loop-i.i c.loop-i-test.false refl c.loop-i.invariant.rows

@@ -2,12 +2,12 @@ use Rattle.std.proofs.Common.{map, take}
 use Rattle.std.specs.List.{All, AllZip}
 use Rattle.dexrows.specs.Join.{AreSorted}
 use Rattle.dexpool.specs.internal.Renumbering.{numbers_in, HasSpans}
-use Rattle.dexpool.specs.internal.Joining.{StandFor, proto_of_row, proto_key, IsRowOf}
+use Rattle.dexpool.specs.internal.Joining.{Denote, proto_of_row, proto_key, IsRowOf}
 use Rattle.dexpool.proofs.joined_tables.renumbered_tables.Given as goal
 
 abbrev pub invariant-loop-i : goal.invariant-loop-i
 invariant-loop-i l = record {
   spans : All HasSpans l.tables.items;
   sorted : All (λ table. AreSorted proto_key (numbers_in table)) l.tables.items;
-  rows : AllZip (λ part rows. StandFor (proto_of_row l.strings.rows.items l.types.numbers.items) (IsRowOf l.strings.rows.items l.types.numbers.items) part.protos rows) (map (λ part. part.now) (take l.i l.parts)) (map numbers_in l.tables.items);
+  rows : AllZip (λ part rows. Denote (proto_of_row l.strings.rows.items l.types.numbers.items) (IsRowOf l.strings.rows.items l.types.numbers.items) part.protos rows) (map (λ part. part.now) (take l.i l.parts)) (map numbers_in l.tables.items);
 }

@@ -2,7 +2,7 @@ use Rattle.std.proofs.Common.{subst, refl, arith}
 use Rattle.std.proofs.lemmas.Bool.{false≢true}
 use Rattle.dexspec.specs.Rows.{StringRow, TypeRow}
 use Rattle.dexpool.specs.Reading.{file_numbers}
-use Rattle.dexpool.proofs.MethodRows.{method_names, no_proto_row, method_stands}
+use Rattle.dexpool.proofs.MethodRows.{method_names, no_proto_row, method_has_row}
 use Rattle.dexpool.proofs.methods.method_at.Goals as goal
 
 pub returns-in-None : goal.returns-in-None
@@ -21,6 +21,6 @@ returns-then-protos-method c = λ m h.
 
 pub returns : goal.returns
 returns c =
-    method_stands c.args.names.now.strings.now c.args.names.now.types.now (file_numbers c.args.names.now.frame.now) c.args.protos.now c.args.names.now.frame.now c.args.i c.method_numbers-method.result
+    method_has_row c.args.names.now.strings.now c.args.names.now.types.now (file_numbers c.args.names.now.frame.now) c.args.protos.now c.args.names.now.frame.now c.args.i c.method_numbers-method.result
     c.in-Some.class.now c.in-Some-text.name.now c.requires.row c.requires.protos c.method_numbers-method.ensures c.in-Some.ensures c.in-Some-text.ensures
     (omega (arith, c.if-protos-method.false)) (c.if-not-is_method.ensures.0 refl)

@@ -6,7 +6,7 @@ use Rattle.dexpool.specs.Tables.{span_of}
 use Rattle.dexpool.specs.Reading.{letters_of, file_numbers}
 use Rattle.dexstr.specs.Units.{IsAscii}
 use Rattle.dexpool.proofs.FirstUnits.{letter_ascii}
-use Rattle.dexpool.proofs.ProtoRows.{shorty_same, stands_there}
+use Rattle.dexpool.proofs.ProtoRows.{shorty_same, is_at_there}
 use Rattle.dexpool.proofs.protos.proto_at.Goals as goal
 
 pub returns-in-None-clause-proto : goal.returns-in-None-clause-proto
@@ -27,15 +27,15 @@ returns-then-not-has_shorty-clause-proto c = λ p h.
 pub has_shorty-requires-clause-letter : goal.has_shorty-requires-clause-letter
 has_shorty-requires-clause-letter c = subst IsAscii (sym c.letter.ensures) (letter_ascii c.in-Some-typ.return_type.now c.in-Some-typ.ensures.row.descriptor)
 
-pub note-requires-clause-judged : goal.note-requires-clause-judged
-note-requires-clause-judged c = c.if-not-has_shorty.ensures.yes refl
+pub note-requires-clause-checked : goal.note-requires-clause-checked
+note-requires-clause-checked c = c.if-not-has_shorty.ensures.yes refl
 
 pub returns-clause-proto : goal.returns-clause-proto
 returns-clause-proto c =
     let b = c.args.names.now.frame.now in
     let texts = c.args.names.now.strings.now in
     let types = c.args.names.now.types.now in
-    let judged = c.if-not-has_shorty.ensures.yes refl in
-    stands_there b texts types c.args.i c.indices_at-indices.result.off _ c.in-Some.shorty.now c.in-Some-typ.return_type.now
-    c.requires.row c.indices_at-indices.ensures c.in-Some.ensures c.in-Some-typ.ensures judged.listed
-    (c.in-Some.ensures.is ∙ judged.shorty ∙ ap (λ (l : ℕ). l ∷ letters_of texts types (span_of (file_numbers b) c.in-Some-place_at.span)) c.letter.ensures)
+    let checked = c.if-not-has_shorty.ensures.yes refl in
+    is_at_there b texts types c.args.i c.indices_at-indices.result.off _ c.in-Some.shorty.now c.in-Some-typ.return_type.now
+    c.requires.row c.indices_at-indices.ensures c.in-Some.ensures c.in-Some-typ.ensures checked.listed
+    (c.in-Some.ensures.is ∙ checked.shorty ∙ ap (λ (l : ℕ). l ∷ letters_of texts types (span_of (file_numbers b) c.in-Some-place_at.span)) c.letter.ensures)

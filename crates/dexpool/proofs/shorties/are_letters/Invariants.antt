@@ -1,5 +1,5 @@
 use Rattle.std.specs.Prelude.{◌↔◌, drop}
-use Rattle.dexpool.specs.internal.Judged.{SpellNumbers}
+use Rattle.dexpool.specs.internal.CheckedLists.{SpellNumbers}
 use Rattle.dexpool.proofs.shorties.are_letters.Given as goal
 
 abbrev pub invariant-loop-i : goal.invariant-loop-i

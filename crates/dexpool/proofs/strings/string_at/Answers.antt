@@ -3,7 +3,7 @@ use Rattle.dexspec.specs.Bytes.{uint_at}
 use Rattle.dexspec.specs.Header.{StringIds}
 use Rattle.dexspec.specs.Rows.{row_at}
 use Rattle.dexspec.specs.Texts.{StringDataAt}
-use Rattle.dexpool.proofs.Bytes.{uint_at_row, no_text_behind}
+use Rattle.dexpool.proofs.Bytes.{uint_at_row, no_text_after}
 use Rattle.dexpool.proofs.strings.string_at.Goals as goal
 
 at_is : (b row : List ℕ) (i at : ℕ) → at ≡ uint_at row 0 → row ≡ take 4 (drop (row_at b StringIds i) b) → at ≡ uint_at b (row_at b StringIds i)
@@ -16,7 +16,7 @@ pub returns-then-bytes-at : goal.returns-then-bytes-at
 returns-then-bytes-at c = λ s h.
     let at = at_is c.args.frame.now c.row.result.now c.args.i _ c.u32_at-at.ensures c.row.ensures.bytes in
     let len : length c.bytes-bytes.result.now ≡ length c.args.frame.now = ap (λ (b : List ℕ). length b) c.bytes-bytes.ensures.bytes in
-    no_text_behind c.args.frame.now _ h.stands.0 s (omega (arith, c.if-bytes-at.true, at, len)) h.stands.1
+    no_text_after c.args.frame.now _ h.encodes.0 s (omega (arith, c.if-bytes-at.true, at, len)) h.encodes.1
 
 pub returns-in-Ok : goal.returns-in-Ok
 returns-in-Ok c =
@@ -24,10 +24,10 @@ returns-in-Ok c =
     record {
       row = c.requires;
       in_data = omega (arith, c.if-at-data_off.false, at, c.data_off.ensures.off);
-      stands = (c.in-Ok.field-0-1, subst (λ o. StringDataAt c.args.frame.now o c.in-Ok.text c.in-Ok.field-0-1) at (subst (λ b. StringDataAt b c.u32_at-at.result c.in-Ok.text c.in-Ok.field-0-1) c.bytes-bytes.ensures.bytes c.in-Ok.ensures.found));
+      encodes = (c.in-Ok.field-0-1, subst (λ o. StringDataAt c.args.frame.now o c.in-Ok.text c.in-Ok.field-0-1) at (subst (λ b. StringDataAt b c.u32_at-at.result c.in-Ok.text c.in-Ok.field-0-1) c.bytes-bytes.ensures.bytes c.in-Ok.ensures.found));
     }
 
 pub returns-in-Err : goal.returns-in-Err
 returns-in-Err c = λ s h.
     let at = at_is c.args.frame.now c.row.result.now c.args.i _ c.u32_at-at.ensures c.row.ensures.bytes in
-    c.in-Err.ensures.none s h.stands.0 (subst (λ b. StringDataAt b c.u32_at-at.result s h.stands.0) (sym c.bytes-bytes.ensures.bytes) (subst (λ o. StringDataAt c.args.frame.now o s h.stands.0) (sym at) h.stands.1))
+    c.in-Err.ensures.none s h.encodes.0 (subst (λ b. StringDataAt b c.u32_at-at.result s h.encodes.0) (sym c.bytes-bytes.ensures.bytes) (subst (λ o. StringDataAt c.args.frame.now o s h.encodes.0) (sym at) h.encodes.1))

@@ -11,7 +11,7 @@ pub loop-i-init : goal.loop-i-init
 loop-i-init g c = record {
   readers = c.requires.inputs;
   writer = c.requires.out;
-  tells = λ t. t;
+  reports = λ t. t;
   rest = refl;
   moved = none_moved _ _ _ c.args.inputs.now;
   checked = none_checked _ _ _ _;
@@ -45,11 +45,11 @@ returns-in-Err-write_whole-clause-begun g c =
     let inside : c.loop-i.i < length (map (λ input. bytes_read (g.R.Source.to_come input)) c.args.inputs.now) = omega (arith, count) in
     let same : length (map (λ name. name.now) c.args.names.now) ≡ length (map (λ input. bytes_read (g.R.Source.to_come input)) c.args.inputs.now) = omega (arith, count, names) in
     begun_more _ _ (map (λ name. name.now) c.args.names.now) (map (λ input. bytes_read (g.R.Source.to_come input)) c.args.inputs.now) _ _ _ _ c.loop-i.i c.in-Ok.verdict inside same c.loop-i.invariant.checked
-    (right_now g.R.Source.tells (λ input. bytes_read (g.R.Source.to_come input)) c.loop-i.inputs c.args.inputs.now c.loop-i.i c.index-inputs-i.result c.in-Ok.verdict
+    (right_now g.R.Source.reports (λ input. bytes_read (g.R.Source.to_come input)) c.loop-i.inputs c.args.inputs.now c.loop-i.i c.index-inputs-i.result c.in-Ok.verdict
     c.loop-i.invariant.rest now lt c.index-inputs-i.is c.in-Ok.ensures.verdict)
     c.as_bytes.result.now
     (line_is (λ name. name.now) c.args.names.now c.loop-i.i _ c.in-Ok.verdict _ _ named c.as_bytes.ensures.value c.in-Ok-check_line.ensures)
-    (λ w. c.in-Err-write_whole.ensures.front (c.loop-i.invariant.tells w))
+    (λ w. c.in-Err-write_whole.ensures.front (c.loop-i.invariant.reports w))
 
 pub loop-i-preserved : goal.loop-i-preserved
 loop-i-preserved g c =
@@ -64,51 +64,51 @@ loop-i-preserved g c =
     record {
       readers = All-set (λ s. g.R.Source.has_failed s ≡ false) _ _ _ c.in-Ok.ensures.works c.loop-i.invariant.readers;
       writer = c.in-Ok-write_whole.ensures.works;
-      tells = λ w. c.in-Ok-write_whole.ensures.tells (c.loop-i.invariant.tells w);
+      reports = λ w. c.in-Ok-write_whole.ensures.reports (c.loop-i.invariant.reports w);
       rest = rw drop-set-lt (drop_more_same c.loop-i.inputs c.args.inputs.now c.loop-i.i c.loop-i.invariant.rest);
-      moved = moved_now (IsReadNoFurther g.R.Source.tells g.R.Source.to_come g.R.Source.has_failed) c.args.inputs.now c.loop-i.inputs c.loop-i.i c.index-inputs-i.result c.judge.new.input
-          c.loop-i.invariant.moved c.loop-i.invariant.rest now lt c.index-inputs-i.is c.judge.ensures.no_further;
+      moved = moved_now (IsReadNoFurther g.R.Source.reports g.R.Source.to_come g.R.Source.has_failed) c.args.inputs.now c.loop-i.inputs c.loop-i.i c.index-inputs-i.result c.check_input.new.input
+          c.loop-i.invariant.moved c.loop-i.invariant.rest now lt c.index-inputs-i.is c.check_input.ensures.no_further;
       checked = rw c.status_after-status.ensures (checked_more _ _ (map (λ name. name.now) c.args.names.now) (map (λ input. bytes_read (g.R.Source.to_come input)) c.args.inputs.now) _ _ _ _ c.loop-i.i c.in-Ok.verdict inside same c.loop-i.invariant.checked
-          (right_now g.R.Source.tells (λ input. bytes_read (g.R.Source.to_come input)) c.loop-i.inputs c.args.inputs.now c.loop-i.i c.index-inputs-i.result c.in-Ok.verdict
+          (right_now g.R.Source.reports (λ input. bytes_read (g.R.Source.to_come input)) c.loop-i.inputs c.args.inputs.now c.loop-i.i c.index-inputs-i.result c.in-Ok.verdict
           c.loop-i.invariant.rest now lt c.index-inputs-i.is c.in-Ok.ensures.verdict)
           c.as_bytes.result.now
           (line_is (λ name. name.now) c.args.names.now c.loop-i.i _ c.in-Ok.verdict _ _ named c.as_bytes.ensures.value c.in-Ok-check_line.ensures)
-          (λ w. c.in-Ok-write_whole.ensures.written (c.loop-i.invariant.tells w)));
+          (λ w. c.in-Ok-write_whole.ensures.written (c.loop-i.invariant.reports w)));
     }
 
 pub returns-in-Err-Read-clause-no_further : goal.returns-in-Err-Read-clause-no_further
 returns-in-Err-Read-clause-no_further g c =
     let lt : c.loop-i.i < length c.args.inputs.now = omega arith in
     let now : c.loop-i.i < length c.loop-i.inputs = omega arith in
-    moved_now (IsReadNoFurther g.R.Source.tells g.R.Source.to_come g.R.Source.has_failed) c.args.inputs.now c.loop-i.inputs c.loop-i.i c.index-inputs-i.result c.judge.new.input
-    c.loop-i.invariant.moved c.loop-i.invariant.rest now lt c.index-inputs-i.is c.judge.ensures.no_further
+    moved_now (IsReadNoFurther g.R.Source.reports g.R.Source.to_come g.R.Source.has_failed) c.args.inputs.now c.loop-i.inputs c.loop-i.i c.index-inputs-i.result c.check_input.new.input
+    c.loop-i.invariant.moved c.loop-i.invariant.rest now lt c.index-inputs-i.is c.check_input.ensures.no_further
 
 pub returns-in-Err-Memory-clause-no_further : goal.returns-in-Err-Memory-clause-no_further
 returns-in-Err-Memory-clause-no_further g c =
     let lt : c.loop-i.i < length c.args.inputs.now = omega arith in
     let now : c.loop-i.i < length c.loop-i.inputs = omega arith in
-    moved_now (IsReadNoFurther g.R.Source.tells g.R.Source.to_come g.R.Source.has_failed) c.args.inputs.now c.loop-i.inputs c.loop-i.i c.index-inputs-i.result c.judge.new.input
-    c.loop-i.invariant.moved c.loop-i.invariant.rest now lt c.index-inputs-i.is c.judge.ensures.no_further
+    moved_now (IsReadNoFurther g.R.Source.reports g.R.Source.to_come g.R.Source.has_failed) c.args.inputs.now c.loop-i.inputs c.loop-i.i c.index-inputs-i.result c.check_input.new.input
+    c.loop-i.invariant.moved c.loop-i.invariant.rest now lt c.index-inputs-i.is c.check_input.ensures.no_further
 
 pub returns-in-Err-clause-no_further : goal.returns-in-Err-clause-no_further
 returns-in-Err-clause-no_further g c =
     let lt : c.loop-i.i < length c.args.inputs.now = omega arith in
     let now : c.loop-i.i < length c.loop-i.inputs = omega arith in
-    moved_now (IsReadNoFurther g.R.Source.tells g.R.Source.to_come g.R.Source.has_failed) c.args.inputs.now c.loop-i.inputs c.loop-i.i c.index-inputs-i.result c.judge.new.input
-    c.loop-i.invariant.moved c.loop-i.invariant.rest now lt c.index-inputs-i.is c.judge.ensures.no_further
+    moved_now (IsReadNoFurther g.R.Source.reports g.R.Source.to_come g.R.Source.has_failed) c.args.inputs.now c.loop-i.inputs c.loop-i.i c.index-inputs-i.result c.check_input.new.input
+    c.loop-i.invariant.moved c.loop-i.invariant.rest now lt c.index-inputs-i.is c.check_input.ensures.no_further
 
 pub returns-in-Err-write_whole-clause-no_further : goal.returns-in-Err-write_whole-clause-no_further
 returns-in-Err-write_whole-clause-no_further g c =
     let lt : c.loop-i.i < length c.args.inputs.now = omega arith in
     let now : c.loop-i.i < length c.loop-i.inputs = omega arith in
-    moved_now (IsReadNoFurther g.R.Source.tells g.R.Source.to_come g.R.Source.has_failed) c.args.inputs.now c.loop-i.inputs c.loop-i.i c.index-inputs-i.result c.judge.new.input
-    c.loop-i.invariant.moved c.loop-i.invariant.rest now lt c.index-inputs-i.is c.judge.ensures.no_further
+    moved_now (IsReadNoFurther g.R.Source.reports g.R.Source.to_come g.R.Source.has_failed) c.args.inputs.now c.loop-i.inputs c.loop-i.i c.index-inputs-i.result c.check_input.new.input
+    c.loop-i.invariant.moved c.loop-i.invariant.rest now lt c.index-inputs-i.is c.check_input.ensures.no_further
 
 pub returns-in-Err-Read-clause-fault : goal.returns-in-Err-Read-clause-fault
 returns-in-Err-Read-clause-fault g c =
     let now : c.loop-i.i < length c.loop-i.inputs = omega arith in
     let failed = rw c.in-Err-Read.field-0-is at c.in-Err-Read.ensures.fault in
-    (one_failed g.R.Source.has_failed c.loop-i.inputs c.loop-i.i c.judge.new.input c.loop-i.invariant.readers now failed, c.loop-i.invariant.writer)
+    (one_failed g.R.Source.has_failed c.loop-i.inputs c.loop-i.i c.check_input.new.input c.loop-i.invariant.readers now failed, c.loop-i.invariant.writer)
 
 pub returns-in-Err-Memory-clause-fault : goal.returns-in-Err-Memory-clause-fault
 returns-in-Err-Memory-clause-fault g c =
@@ -121,5 +121,5 @@ returns-in-Err-clause-fault g c = (All-set (λ s. g.R.Source.has_failed s ≡ fa
 pub returns-in-Err-write_whole-clause-fault : goal.returns-in-Err-write_whole-clause-fault
 returns-in-Err-write_whole-clause-fault g c = (All-set (λ s. g.R.Source.has_failed s ≡ false) _ _ _ c.in-Ok.ensures.works c.loop-i.invariant.readers, c.in-Err-write_whole.ensures.fails)
 
-pub returns-in-Err-write_whole-clause-tells : goal.returns-in-Err-write_whole-clause-tells
-returns-in-Err-write_whole-clause-tells g c = λ w. c.in-Err-write_whole.ensures.tells (c.loop-i.invariant.tells w)
+pub returns-in-Err-write_whole-clause-reports : goal.returns-in-Err-write_whole-clause-reports
+returns-in-Err-write_whole-clause-reports g c = λ w. c.in-Err-write_whole.ensures.reports (c.loop-i.invariant.reports w)

@@ -9,9 +9,9 @@ pieces-preserved g c = record {
   works = c.in_ok-taken.ensures.works;
   filled = c.in_ok-taken.ensures.fits;
   bound = c.in_ok-taken.ensures.bound;
-  tells = λ t. c.in_ok-taken.ensures.tells (c.pieces.invariant.tells t);
+  reports = λ t. c.in_ok-taken.ensures.reports (c.pieces.invariant.reports t);
   joined = λ t. joined_more _ _ _ c.pieces.bytes.items c.read_more.new.bytes.items c.pieces.filled c.in_ok-taken.taken (omega (arith, c.pieces.invariant.filled, c.pieces.bytes.ok.0))
-      (omega (arith, c.in_ok-taken.ensures.fits, c.read_more.new.bytes.ok.0)) (c.pieces.invariant.joined t) c.in_ok-taken.ensures.front (c.in_ok-taken.ensures.moved (c.pieces.invariant.tells t));
+      (omega (arith, c.in_ok-taken.ensures.fits, c.read_more.new.bytes.ok.0)) (c.pieces.invariant.joined t) c.in_ok-taken.ensures.front (c.in_ok-taken.ensures.moved (c.pieces.invariant.reports t));
 }
 
 pub returns-clause-bytes : goal.returns-clause-bytes
@@ -24,9 +24,9 @@ returns-clause-bytes g c =
       | else-pieces-test w ↦ ap (λ (v : Vec ℕ). take filled v.items) w.bytes-is
       | then-pieces-test+in_ok-taken+then-taken-eq0 w ↦ ap (λ (v : Vec ℕ). take filled v.items) w.bytes-is ∙ w.in_ok-taken.ensures.front
     ] in
-    λ tells. read_to_end filled 1073741825 bytes c.pieces-test.bytes.items c.truncate.new.self.items (g.R.Source.to_come c.pieces.input) (g.R.Source.to_come c.args.input.now) c.truncate.ensures.items same
-    (c.pieces.invariant.joined tells) (omega (arith, long, c.pieces.invariant.filled, c.pieces.invariant.bound))
+    λ reports. read_to_end filled 1073741825 bytes c.pieces-test.bytes.items c.truncate.new.self.items (g.R.Source.to_come c.pieces.input) (g.R.Source.to_come c.args.input.now) c.truncate.ensures.items same
+    (c.pieces.invariant.joined reports) (omega (arith, long, c.pieces.invariant.filled, c.pieces.invariant.bound))
     (elim c.pieces-test.branch [
       | else-pieces-test w ↦ inr (omega (arith, long))
-      | then-pieces-test+in_ok-taken+then-taken-eq0 w ↦ inl (w.in_ok-taken.ensures.end w.if-taken-eq0.true (c.pieces.invariant.tells tells))
+      | then-pieces-test+in_ok-taken+then-taken-eq0 w ↦ inl (w.in_ok-taken.ensures.end w.if-taken-eq0.true (c.pieces.invariant.reports reports))
     ])

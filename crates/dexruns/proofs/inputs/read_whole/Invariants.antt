@@ -7,8 +7,8 @@ invariant-pieces g l = record {
   works : g.R.Source.has_failed l.input ≡ false;
   filled : l.filled ≤ vec_len l.bytes;
   bound : vec_len l.bytes ≤ 1073741825;
-  tells : g.R.Source.tells l.fn.input → g.R.Source.tells l.input;
-  joined : g.R.Source.tells l.fn.input → g.R.Source.to_come l.fn.input ≡ take l.filled l.bytes.items ++ g.R.Source.to_come l.input;
+  reports : g.R.Source.reports l.fn.input → g.R.Source.reports l.input;
+  joined : g.R.Source.reports l.fn.input → g.R.Source.to_come l.fn.input ≡ take l.filled l.bytes.items ++ g.R.Source.to_come l.input;
 }
 
 abbrev pub decreases-pieces : goal.decreases-pieces

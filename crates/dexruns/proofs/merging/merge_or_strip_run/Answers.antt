@@ -10,21 +10,21 @@ returns-in_err-files-clause-no_further g c = none_moved _ _ _ c.args.inputs.now
 
 pub returns-clause-merged : goal.returns-clause-merged
 returns-clause-merged g c =
-    on_ok (IsAppended (g.W.Sink.tells c.args.out.now) (g.W.Sink.taken c.args.out.now) (g.W.Sink.taken c.write_program.new.out) (canonical c.in_ok-program.program)) _ c.write_program.result
-    (λ h. merged_by_writing g.R.Source.tells g.R.Source.to_come c.args.inputs.now c.args.caps.now (plan_of c.args.plan.now) (kept c.args.is_stripped) _ c.in-Ok.whole c.in_ok-program.program c.in-Ok.ensures.united c.in_ok-program.ensures c.write_program.ensures.read_back h)
+    on_ok (IsAppended (g.W.Sink.reports c.args.out.now) (g.W.Sink.taken c.args.out.now) (g.W.Sink.taken c.write_program.new.out) (canonical c.in_ok-program.program)) _ c.write_program.result
+    (λ h. merged_by_writing g.R.Source.reports g.R.Source.to_come c.args.inputs.now c.args.caps.now (plan_of c.args.plan.now) (kept c.args.is_stripped) _ c.in-Ok.whole c.in_ok-program.program c.in-Ok.ensures.united c.in_ok-program.ensures c.write_program.ensures.read_back h)
     c.write_program.ensures.written
 
 pub returns-clause-fault : goal.returns-clause-fault
 returns-clause-fault g c =
-    if_err (IsWriteFault g.W.Sink.tells g.W.Sink.taken c.args.out.now c.write_program.new.out (canonical c.in_ok-program.program)) _ c.write_program.result
-    (λ f h. fault_of_writing g.R.Source.tells g.R.Source.to_come c.args.inputs.now c.args.caps.now (plan_of c.args.plan.now) (kept c.args.is_stripped) g.W.Sink.tells g.W.Sink.taken c.args.out.now c.write_program.new.out
+    if_err (IsWriteFault g.W.Sink.reports g.W.Sink.taken c.args.out.now c.write_program.new.out (canonical c.in_ok-program.program)) _ c.write_program.result
+    (λ f h. fault_of_writing g.R.Source.reports g.R.Source.to_come c.args.inputs.now c.args.caps.now (plan_of c.args.plan.now) (kept c.args.is_stripped) g.W.Sink.reports g.W.Sink.taken c.args.out.now c.write_program.new.out
     c.in-Ok.whole c.in_ok-program.program f c.in-Ok.ensures.united c.in_ok-program.ensures c.write_program.ensures.read_back h)
     c.write_program.ensures.fault
 
 pub returns-clause-left : goal.returns-clause-left
 returns-clause-left g c =
-    if_err (IsWriteFault g.W.Sink.tells g.W.Sink.taken c.args.out.now c.write_program.new.out (canonical c.in_ok-program.program)) _ c.write_program.result
-    (λ f h. left_by_writing g.W.Sink.tells g.W.Sink.taken c.args.out.now c.write_program.new.out (canonical c.in_ok-program.program) f h)
+    if_err (IsWriteFault g.W.Sink.reports g.W.Sink.taken c.args.out.now c.write_program.new.out (canonical c.in_ok-program.program)) _ c.write_program.result
+    (λ f h. left_by_writing g.W.Sink.reports g.W.Sink.taken c.args.out.now c.write_program.new.out (canonical c.in_ok-program.program) f h)
     c.write_program.ensures.fault
 
 pub returns-clause-uncalled : goal.returns-clause-uncalled

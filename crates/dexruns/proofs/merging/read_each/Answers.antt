@@ -23,35 +23,35 @@ pub returns-in-Err-Read-clause-no_further : goal.returns-in-Err-Read-clause-no_f
 returns-in-Err-Read-clause-no_further g c =
     let lt : c.loop-i.i < length c.args.inputs.now = omega (arith, c.requires.places) in
     let now : c.loop-i.i < length c.loop-i.inputs = omega (arith, c.requires.places) in
-    moved_now (IsReadNoFurther g.R.Source.tells g.R.Source.to_come g.R.Source.has_failed) c.args.inputs.now c.loop-i.inputs c.loop-i.i c.index-inputs-i.result c.read_whole.new.input
+    moved_now (IsReadNoFurther g.R.Source.reports g.R.Source.to_come g.R.Source.has_failed) c.args.inputs.now c.loop-i.inputs c.loop-i.i c.index-inputs-i.result c.read_whole.new.input
     c.loop-i.invariant.moved c.loop-i.invariant.rest now lt c.index-inputs-i.is c.read_whole.ensures.no_further
 
 pub returns-in-Err-Memory-clause-no_further : goal.returns-in-Err-Memory-clause-no_further
 returns-in-Err-Memory-clause-no_further g c =
     let lt : c.loop-i.i < length c.args.inputs.now = omega (arith, c.requires.places) in
     let now : c.loop-i.i < length c.loop-i.inputs = omega (arith, c.requires.places) in
-    moved_now (IsReadNoFurther g.R.Source.tells g.R.Source.to_come g.R.Source.has_failed) c.args.inputs.now c.loop-i.inputs c.loop-i.i c.index-inputs-i.result c.read_whole.new.input
+    moved_now (IsReadNoFurther g.R.Source.reports g.R.Source.to_come g.R.Source.has_failed) c.args.inputs.now c.loop-i.inputs c.loop-i.i c.index-inputs-i.result c.read_whole.new.input
     c.loop-i.invariant.moved c.loop-i.invariant.rest now lt c.index-inputs-i.is c.read_whole.ensures.no_further
 
 pub returns-in_err-push-in-Ok-read-clause-no_further : goal.returns-in_err-push-in-Ok-read-clause-no_further
 returns-in_err-push-in-Ok-read-clause-no_further g c =
     let lt : c.loop-i.i < length c.args.inputs.now = omega (arith, c.requires.places) in
     let now : c.loop-i.i < length c.loop-i.inputs = omega (arith, c.requires.places) in
-    moved_now (IsReadNoFurther g.R.Source.tells g.R.Source.to_come g.R.Source.has_failed) c.args.inputs.now c.loop-i.inputs c.loop-i.i c.index-inputs-i.result c.read_whole.new.input
+    moved_now (IsReadNoFurther g.R.Source.reports g.R.Source.to_come g.R.Source.has_failed) c.args.inputs.now c.loop-i.inputs c.loop-i.i c.index-inputs-i.result c.read_whole.new.input
     c.loop-i.invariant.moved c.loop-i.invariant.rest now lt c.index-inputs-i.is c.read_whole.ensures.no_further
 
 pub returns-in-Err-Refused-clause-no_further : goal.returns-in-Err-Refused-clause-no_further
 returns-in-Err-Refused-clause-no_further g c =
     let lt : c.loop-i.i < length c.args.inputs.now = omega (arith, c.requires.places) in
     let now : c.loop-i.i < length c.loop-i.inputs = omega (arith, c.requires.places) in
-    moved_now (IsReadNoFurther g.R.Source.tells g.R.Source.to_come g.R.Source.has_failed) c.args.inputs.now c.loop-i.inputs c.loop-i.i c.index-inputs-i.result c.read_whole.new.input
+    moved_now (IsReadNoFurther g.R.Source.reports g.R.Source.to_come g.R.Source.has_failed) c.args.inputs.now c.loop-i.inputs c.loop-i.i c.index-inputs-i.result c.read_whole.new.input
     c.loop-i.invariant.moved c.loop-i.invariant.rest now lt c.index-inputs-i.is c.read_whole.ensures.no_further
 
 pub returns-in-Err-Memory-read-clause-no_further : goal.returns-in-Err-Memory-read-clause-no_further
 returns-in-Err-Memory-read-clause-no_further g c =
     let lt : c.loop-i.i < length c.args.inputs.now = omega (arith, c.requires.places) in
     let now : c.loop-i.i < length c.loop-i.inputs = omega (arith, c.requires.places) in
-    moved_now (IsReadNoFurther g.R.Source.tells g.R.Source.to_come g.R.Source.has_failed) c.args.inputs.now c.loop-i.inputs c.loop-i.i c.index-inputs-i.result c.read_whole.new.input
+    moved_now (IsReadNoFurther g.R.Source.reports g.R.Source.to_come g.R.Source.has_failed) c.args.inputs.now c.loop-i.inputs c.loop-i.i c.index-inputs-i.result c.read_whole.new.input
     c.loop-i.invariant.moved c.loop-i.invariant.rest now lt c.index-inputs-i.is c.read_whole.ensures.no_further
 
 pub returns-in-Err-Read-clause-fault : goal.returns-in-Err-Read-clause-fault
@@ -81,10 +81,10 @@ loop-i-preserved g c =
     record {
       readers = All-set (λ s. g.R.Source.has_failed s ≡ false) _ _ _ c.in-Ok.ensures.works c.loop-i.invariant.readers;
       rest = rw drop-set-lt (drop_more_same c.loop-i.inputs c.args.inputs.now c.loop-i.i c.loop-i.invariant.rest);
-      moved = moved_now (IsReadNoFurther g.R.Source.tells g.R.Source.to_come g.R.Source.has_failed) c.args.inputs.now c.loop-i.inputs c.loop-i.i c.index-inputs-i.result c.read_whole.new.input
+      moved = moved_now (IsReadNoFurther g.R.Source.reports g.R.Source.to_come g.R.Source.has_failed) c.args.inputs.now c.loop-i.inputs c.loop-i.i c.index-inputs-i.result c.read_whole.new.input
           c.loop-i.invariant.moved c.loop-i.invariant.rest now lt c.index-inputs-i.is c.read_whole.ensures.no_further;
-      read = rw c.in_ok-push-in-Ok-read.ensures.items (read_more (IsReadFrom g.R.Source.tells g.R.Source.to_come) c.args.inputs.now c.loop-i.i c.index-inputs-i.result c.loop-i.programs.items c.in-Ok-read.program lt c.loop-i.invariant.read
-          (held_first (λ x. IsReadFrom g.R.Source.tells g.R.Source.to_come x c.in-Ok-read.program) c.loop-i.inputs c.args.inputs.now c.loop-i.i c.index-inputs-i.result c.loop-i.invariant.rest now lt c.index-inputs-i.is
+      read = rw c.in_ok-push-in-Ok-read.ensures.items (read_more (IsReadFrom g.R.Source.reports g.R.Source.to_come) c.args.inputs.now c.loop-i.i c.index-inputs-i.result c.loop-i.programs.items c.in-Ok-read.program lt c.loop-i.invariant.read
+          (held_first (λ x. IsReadFrom g.R.Source.reports g.R.Source.to_come x c.in-Ok-read.program) c.loop-i.inputs c.args.inputs.now c.loop-i.i c.index-inputs-i.result c.loop-i.invariant.rest now lt c.index-inputs-i.is
           (λ t. subst (λ b. IsReadAs b c.in-Ok-read.program) (c.as_slice.ensures.value ∙ c.in-Ok.ensures.bytes t) c.in-Ok-read.ensures.accepted)));
     }
 

@@ -14,12 +14,12 @@ pub returns-clause-fault : goal.returns-clause-fault
 returns-clause-fault g c =
     let is = rw c.if-not-branch.false at c.in_ok-is_plan_for.ensures in
     if_err (IsUnionFault c.args.caps.now c.in-Ok.programs.items (plan_of c.args.plan.now)) _ c.united.result
-    (λ f h. fault_of_merging g.R.Source.tells g.R.Source.to_come c.args.inputs.now c.in-Ok.programs.items c.args.caps.now (plan_of c.args.plan.now) f is c.in-Ok.ensures.read h)
+    (λ f h. fault_of_merging g.R.Source.reports g.R.Source.to_come c.args.inputs.now c.in-Ok.programs.items c.args.caps.now (plan_of c.args.plan.now) f is c.in-Ok.ensures.read h)
     c.united.ensures.fault
 
 pub returns-clause-uncalled : goal.returns-clause-uncalled
 returns-clause-uncalled g c =
     let is = rw c.if-not-branch.false at c.in_ok-is_plan_for.ensures in
     if_err (IsUnionFault c.args.caps.now c.in-Ok.programs.items (plan_of c.args.plan.now)) _ c.united.result
-    (λ f h. uncalled_by_merging (IsReadFrom g.R.Source.tells g.R.Source.to_come) c.args.inputs.now c.read_each.new.inputs c.in-Ok.programs.items c.args.caps.now (plan_of c.args.plan.now) f is c.in-Ok.ensures.read h)
+    (λ f h. uncalled_by_merging (IsReadFrom g.R.Source.reports g.R.Source.to_come) c.args.inputs.now c.read_each.new.inputs c.in-Ok.programs.items c.args.caps.now (plan_of c.args.plan.now) f is c.in-Ok.ensures.read h)
     c.united.ensures.fault

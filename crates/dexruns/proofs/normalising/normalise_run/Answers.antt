@@ -1,5 +1,5 @@
 use Rattle.std.proofs.Common.{◌∙◌}
-use Rattle.dexruns.proofs.Normalised.{written_is, front_is, accepted_file}
+use Rattle.dexruns.proofs.Normalised.{written_is, prefix_is, accepted_file}
 use Rattle.dexruns.proofs.normalising.normalise_run.Goals as goal
 
 pub returns-in-Ok-write_to-clause-written : goal.returns-in-Ok-write_to-clause-written
@@ -12,5 +12,5 @@ returns-in-Err-Io-clause-left g c =
     λ reads. (
       accepted_file _ _ _ (c.as_slice.ensures.value ∙ c.in-Ok.ensures.bytes reads) c.in-Ok-read.ensures.accepted,
       (λ writes K denotes.
-          front_is c.one_collection.ensures _ _ K _ _ _ (c.as_slice.ensures.value ∙ c.in-Ok.ensures.bytes reads) c.in-Ok-read.ensures.accepted denotes (left writes)),
+          prefix_is c.one_collection.ensures _ _ K _ _ _ (c.as_slice.ensures.value ∙ c.in-Ok.ensures.bytes reads) c.in-Ok-read.ensures.accepted denotes (left writes)),
     )

@@ -1,6 +1,6 @@
 use Rattle.std.proofs.Common.{◌∙◌}
 use Rattle.dexruns.specs.Inputs.{bytes_read}
-use Rattle.dexruns.proofs.Repaired.{repaired_only, accepted_is, front_is, has_checksum, has_signature}
+use Rattle.dexruns.proofs.Repaired.{repaired_only, accepted_is, prefix_is, has_checksum, has_signature}
 use Rattle.dexruns.proofs.repairing.repair_run.Goals as goal
 
 pub check-requires-clause-checksum : goal.check-requires-clause-checksum
@@ -30,5 +30,5 @@ returns-clause-only_sums g c = repaired_only (bytes_read (g.R.Source.to_come c.a
 pub returns-clause-left : goal.returns-clause-left
 returns-clause-left g c = λ reads. (
   accepted_is _ _ _ (c.as_slice.ensures.value ∙ c.repaired-file.ensures) (c.in-Ok.ensures.bytes reads) c.in-Ok-check.ensures.accepted,
-  (λ writes. front_is _ _ _ _ _ (c.as_slice-2.ensures.value ∙ c.repaired-file.ensures) (c.in-Ok.ensures.bytes reads) (c.in-Err.ensures.front writes)),
+  (λ writes. prefix_is _ _ _ _ _ (c.as_slice-2.ensures.value ∙ c.repaired-file.ensures) (c.in-Ok.ensures.bytes reads) (c.in-Err.ensures.front writes)),
 )

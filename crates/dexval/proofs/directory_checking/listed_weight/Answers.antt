@@ -34,13 +34,13 @@ loop-i-preserved c =
     let p4 = c.args.off + 4 in
     let i = c.loop-i.i in
     let list = c.list_weight-list.result in
-    let stand : c.u32_at-set_off.result ≡ uint_at b (c.args.off + 4 + 4 * i) = c.u32_at-set_off.ensures ∙ ap (λ (x : List ℕ). uint_at x (c.args.off + 4 + 4 * i)) c.bytes-bytes.ensures.bytes in
+    let are_encoded : c.u32_at-set_off.result ≡ uint_at b (c.args.off + 4 + 4 * i) = c.u32_at-set_off.ensures ∙ ap (λ (x : List ℕ). uint_at x (c.args.off + 4 + 4 * i)) c.bytes-bytes.ensures.bytes in
     record {
       checked = λ p. c.in_ok-set.ensures.checked p;
       weighed = λ p.
           let r = c.in_ok-set.ensures.weight p in
-          let stands : IsSetOrEmptyAt b (uint_at b (c.args.off + 4 + 4 * i)) m r.item = subst (λ (x : ℕ). IsSetOrEmptyAt b x m r.item) stand r.is_read in
-          one_weighed (HaveReadList b p4 m i) (HaveReadList b p4 m (i + 1)) (λ (ss : List NumberedSet). list + sum_by (set_weight_in m) ss) (set_weight_in m) r.item (λ ss k. one_set_more b p4 m i ss r.item k stands) (list_adds m list r.item) (c.loop-i.invariant.weighed p) r.weight_is (omega (arith, c.saturating_add-weight.ensures));
+          let encodes : IsSetOrEmptyAt b (uint_at b (c.args.off + 4 + 4 * i)) m r.item = subst (λ (x : ℕ). IsSetOrEmptyAt b x m r.item) are_encoded r.is_read in
+          one_weighed (HaveReadList b p4 m i) (HaveReadList b p4 m (i + 1)) (λ (ss : List NumberedSet). list + sum_by (set_weight_in m) ss) (set_weight_in m) r.item (λ ss k. one_set_more b p4 m i ss r.item k encodes) (list_adds m list r.item) (c.loop-i.invariant.weighed p) r.weight_is (omega (arith, c.saturating_add-weight.ensures));
     }
 
 pub returns-clause-weight : goal.returns-clause-weight

@@ -16,14 +16,14 @@ returns-in_err-number-clause-refused g c = λ p.
     let m = c.args.pools.now in
     let h = c.loop-i.invariant.weighed p in
     let e = err_from_is_err_and c.from_residual.result c.from_residual.ensures.1 in
-    rw (e.1, e.2) (refused_so (no_pair_next (g.T.CheckedMember.is_known m) (g.T.CheckedMember.inside m) g.T.CheckedMember.stands c.args.frame.now c.args.pairs.now.at c.args.pairs.now.count c.args.pairs.now.limit c.loop-i.i c.loop-i.least h.item (omega arith) h.is_read) c.in_err-number.field-0.0 c.in_err-number.ensures.refused)
+    rw (e.1, e.2) (refused_so (no_pair_next (g.T.CheckedMember.is_known m) (g.T.CheckedMember.inside m) g.T.CheckedMember.encodes c.args.frame.now c.args.pairs.now.at c.args.pairs.now.count c.args.pairs.now.limit c.loop-i.i c.loop-i.least h.item (omega arith) h.is_read) c.in_err-number.field-0.0 c.in_err-number.ensures.refused)
 
 pub returns-in_err-item-clause-refused : goal.returns-in_err-item-clause-refused
 returns-in_err-item-clause-refused g c = λ p.
-    let stands = g.T.CheckedMember.stands in
+    let encodes = g.T.CheckedMember.encodes in
     let b = c.args.frame.now in
     let e = err_from_is_err_and c.from_residual-in_err-item.result c.from_residual-in_err-item.ensures.1 in
-    rw (e.1, e.2) (refused_so (λ none. no_item_next stands b c.args.pairs.now.at c.args.pairs.now.count c.args.pairs.now.limit c.loop-i.i (omega arith) (subst (λ (o : ℕ). (y : g.T.CheckedMember.Meant) → stands b o y → ⊥) c.in_ok-number.ensures.pair.2 none)) c.in_err-item.field-0.0 (c.in_err-item.ensures.refused p))
+    rw (e.1, e.2) (refused_so (λ none. no_item_next encodes b c.args.pairs.now.at c.args.pairs.now.count c.args.pairs.now.limit c.loop-i.i (omega arith) (subst (λ (o : ℕ). (y : g.T.CheckedMember.Meant) → encodes b o y → ⊥) c.in_ok-number.ensures.pair.2 none)) c.in_err-item.field-0.0 (c.in_err-item.ensures.refused p))
 
 pub loop-i-init : goal.loop-i-init
 loop-i-init g c = record {
@@ -31,13 +31,13 @@ loop-i-init g c = record {
   checked = c.requires.checked;
   weighed = λ p.
       let m = c.args.pools.now in
-      record { item = []; is_read = no_pair_yet (g.T.CheckedMember.is_known m) (g.T.CheckedMember.inside m) g.T.CheckedMember.stands c.args.frame.now c.args.pairs.now.at c.args.pairs.now.limit; weight_is = omega arith };
+      record { item = []; is_read = no_pair_yet (g.T.CheckedMember.is_known m) (g.T.CheckedMember.inside m) g.T.CheckedMember.encodes c.args.frame.now c.args.pairs.now.at c.args.pairs.now.limit; weight_is = omega arith };
 }
 
 pub loop-i-preserved : goal.loop-i-preserved
 loop-i-preserved g c =
     let Numbered = g.T.CheckedMember.Numbered in
-    let stands = g.T.CheckedMember.stands in
+    let encodes = g.T.CheckedMember.encodes in
     let b = c.args.frame.now in
     let m = c.args.pools.now in
     let i = c.loop-i.i in
@@ -45,25 +45,25 @@ loop-i-preserved g c =
     let inside = g.T.CheckedMember.inside m in
     let weighs = g.T.CheckedMember.weighs m in
     let number = c.in_ok-number.number in
-    let Read = HaveReadPairs Known inside stands b c.args.pairs.now.at c.args.pairs.now.limit in
+    let Read = HaveReadPairs Known inside encodes b c.args.pairs.now.at c.args.pairs.now.limit in
     let least : number ≡ c.from-least.result = omega (arith, c.from-least.ensures) in
     record {
       least_fits = omega (arith, c.from-least.ensures);
       checked = λ p. c.in_ok-item.ensures.checked p;
       weighed = λ p.
           let r = c.in_ok-item.ensures.weight p in
-          let there : stands b (uint_at b (c.args.pairs.now.at + 8 * i + 4)) (inside r.item) = subst (λ (o : ℕ). stands b o (inside r.item)) c.in_ok-number.ensures.pair.2 r.is_read.at in
+          let there : encodes b (uint_at b (c.args.pairs.now.at + 8 * i + 4)) (inside r.item) = subst (λ (o : ℕ). encodes b o (inside r.item)) c.in_ok-number.ensures.pair.2 r.is_read.at in
           one_weighed (Read i c.loop-i.least) (Read (i + 1) (c.from-least.result + 1)) (sum_by (λ (e : ℕ × Numbered). weighs e.1)) (λ (e : ℕ × Numbered). weighs e.1) (number, r.item)
-          (λ xs k. subst (λ (x : ℕ). Read (i + 1) (x + 1) (xs ++ (number, r.item) ∷ [])) least (one_pair_more Known inside stands b c.args.pairs.now.at c.args.pairs.now.limit i c.loop-i.least xs number r.item k c.in_ok-number.ensures.pair.0 c.in_ok-number.ensures.pair.1 r.is_read.known there))
+          (λ xs k. subst (λ (x : ℕ). Read (i + 1) (x + 1) (xs ++ (number, r.item) ∷ [])) least (one_pair_more Known inside encodes b c.args.pairs.now.at c.args.pairs.now.limit i c.loop-i.least xs number r.item k c.in_ok-number.ensures.pair.0 c.in_ok-number.ensures.pair.1 r.is_read.known there))
           (members_add weighs (number, r.item)) (c.loop-i.invariant.weighed p) r.weight_is (omega (arith, c.saturating_add-weight.ensures));
     }
 
 pub returns-clause-weight : goal.returns-clause-weight
 returns-clause-weight g c = λ p.
-    let stands = g.T.CheckedMember.stands in
+    let encodes = g.T.CheckedMember.encodes in
     let b = c.args.frame.now in
     let m = c.args.pools.now in
     let Known = g.T.CheckedMember.is_known m in
     let inside = g.T.CheckedMember.inside m in
     let weighs = sum_by (λ (e : ℕ × g.T.CheckedMember.Numbered). g.T.CheckedMember.weighs m e.1) in
-    weighed_as (HaveReadPairs Known inside stands b c.args.pairs.now.at c.args.pairs.now.limit c.loop-i.i c.loop-i.least) (ArePairsAt Known inside stands b c.args.pairs.now.at c.args.pairs.now.count c.args.pairs.now.limit) weighs weighs (λ xs k. pairs_end Known inside stands b c.args.pairs.now.at c.args.pairs.now.count c.args.pairs.now.limit c.loop-i.i c.loop-i.least xs (omega arith) k) (λ xs k. refl) (c.loop-i.invariant.weighed p)
+    weighed_as (HaveReadPairs Known inside encodes b c.args.pairs.now.at c.args.pairs.now.limit c.loop-i.i c.loop-i.least) (ArePairsAt Known inside encodes b c.args.pairs.now.at c.args.pairs.now.count c.args.pairs.now.limit) weighs weighs (λ xs k. pairs_end Known inside encodes b c.args.pairs.now.at c.args.pairs.now.count c.args.pairs.now.limit c.loop-i.i c.loop-i.least xs (omega arith) k) (λ xs k. refl) (c.loop-i.invariant.weighed p)

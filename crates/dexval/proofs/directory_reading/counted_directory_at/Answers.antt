@@ -43,7 +43,7 @@ returns-in_err-parameters-clause-refused c = λ p.
 
 pub returns-clause-held : goal.returns-clause-held
 returns-clause-held c =
-    directory_held c.args.judged.now c.counted_set_at.new.judged c.members_at.new.judged c.members_at-2.new.judged c.members_at-3.new.judged c.in_ok-own.own c.in_ok-fields.fields.items c.in_ok-methods.methods.items c.in_ok-parameters.parameters.items
+    directory_held c.args.cache.now c.counted_set_at.new.cache c.members_at.new.cache c.members_at-2.new.cache c.members_at-3.new.cache c.in_ok-own.own c.in_ok-fields.fields.items c.in_ok-methods.methods.items c.in_ok-parameters.parameters.items
     c.in_ok-own.ensures.noted c.in_ok-fields.ensures.noted c.in_ok-methods.ensures.noted c.in_ok-parameters.ensures.noted
 
 pub returns-clause-named : goal.returns-clause-named
@@ -51,7 +51,7 @@ returns-clause-named c = λ fourth.
     let third : c.members_at-2.new.budget.weight ≤ c.members_at-2.new.budget.most = omega (arith, fourth, c.in_ok-parameters.ensures.grows, c.in_ok-parameters.ensures.most) in
     let second : c.members_at.new.budget.weight ≤ c.members_at.new.budget.most = omega (arith, third, c.in_ok-methods.ensures.grows, c.in_ok-methods.ensures.most) in
     let first : c.counted_set_at.new.budget.weight ≤ c.counted_set_at.new.budget.most = omega (arith, second, c.in_ok-fields.ensures.grows, c.in_ok-fields.ensures.most) in
-    directory_named c.args.judged.now c.counted_set_at.new.judged c.members_at.new.judged c.members_at-2.new.judged c.members_at-3.new.judged c.in_ok-own.own c.in_ok-fields.fields.items c.in_ok-methods.methods.items c.in_ok-parameters.parameters.items
+    directory_named c.args.cache.now c.counted_set_at.new.cache c.members_at.new.cache c.members_at-2.new.cache c.members_at-3.new.cache c.in_ok-own.own c.in_ok-fields.fields.items c.in_ok-methods.methods.items c.in_ok-parameters.parameters.items
     c.in_ok-own.ensures.noted c.in_ok-fields.ensures.noted c.in_ok-methods.ensures.noted c.in_ok-parameters.ensures.noted (ap (λ t. t.sets) c.requires.none) (ap (λ t. t.lists) c.requires.none) first second third fourth
 
 pub returns-clause-read : goal.returns-clause-read
@@ -60,10 +60,10 @@ returns-clause-read c = λ p.
     let m = c.args.source.now.pools.now in
     let o = c.args.off in
     let most = c.args.budget.now.most in
-    let first = c.counted_set_at.new.judged in
-    let second = c.members_at.new.judged in
-    let third = c.members_at-2.new.judged in
-    let new = c.members_at-3.new.judged in
+    let first = c.counted_set_at.new.cache in
+    let second = c.members_at.new.cache in
+    let third = c.members_at-2.new.cache in
+    let new = c.members_at-3.new.cache in
     let own = c.in_ok-own.own in
     let fields = c.in_ok-fields.fields.items in
     let methods = c.in_ok-methods.methods.items in
@@ -90,7 +90,7 @@ returns-clause-read c = λ p.
     (kept_moved _ _ (sum_by (λ (e : ℕ × NumberedSet). set_weight_in m e.1)) bound2 (λ xs k. pairs_moved (IsKnownSet m) (set_in m) SetAt b (omega (arith, c.in-Some.ensures.some.1)) c.in-Some.ensures.some.2 c.len-limit-2.ensures k) r3)
     (kept_moved _ _ (sum_by (λ (e : ℕ × List NumberedSet). sets_weight_in m e.1)) bound3 (λ xs k. pairs_moved (All (IsKnownSet m)) (map (set_in m)) RefListAt b (omega (arith, c.in-Some.ensures.some.1, c.in-Some.ensures.some.2)) c.in-Some.ensures.some.3 c.len-limit-2.ensures k) r4)
     in
-    let old = c.args.judged.now in
+    let old = c.args.cache.now in
     let own_is = own_stays old first second third new own fields methods parameters n1 n2 n3 n4 in
     let fields_are = fields_stay old first second third new own fields methods parameters n1 n2 n3 n4 in
     let methods_are = methods_stay old first second third new own fields methods parameters n1 n2 n3 n4 in

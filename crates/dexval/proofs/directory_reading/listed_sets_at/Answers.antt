@@ -7,7 +7,7 @@ use Rattle.std.proofs.lemmas.Result.{err_from_is_err_and}
 use Rattle.dexspec.specs.Bytes.{uint_at}
 use Rattle.dexval.specs.Numbered.{NumberedSet}
 use Rattle.dexval.specs.Directories.{IsKept, IsSetOrEmptyAt, NoSetOrEmptyAt, IsRefListAt, set_weight_in, sets_weight_in}
-use Rattle.dexval.specs.Judged.{IsNoted}
+use Rattle.dexval.specs.DirectoryCache.{IsNoted}
 use Rattle.dexval.specs.Tables.{IsPlaceIn, set_at}
 use Rattle.dexval.proofs.DirectoryRead.{HaveReadList, no_list_yet, one_set_more, no_set_next, no_list_room, list_read}
 use Rattle.dexval.proofs.Keeping.{none_kept, one_kept, kept_as, kept_moved, list_adds, list_weighs, not_within}
@@ -32,14 +32,14 @@ returns-in_err-place-clause-refused c = λ p.
 
 pub loop-i-init : goal.loop-i-init
 loop-i-init c =
-    let judged = c.args.judged.now in
-    let table = judged.table in
-    let Noted = λ (l : List (Option ℕ)). IsNoted (λ i. Contains l (Some i)) (λ i. ⊥) (All (IsPlaceIn table.sets) l) (c.add.new.self.weight ≤ c.add.new.self.most) judged judged in
+    let cache = c.args.cache.now in
+    let table = cache.table in
+    let Noted = λ (l : List (Option ℕ)). IsNoted (λ i. Contains l (Some i)) (λ i. ⊥) (All (IsPlaceIn table.sets) l) (c.add.new.self.weight ≤ c.add.new.self.most) cache cache in
     record {
       bound = c.add.ensures.most;
       grows = c.add.ensures.grows;
       noted = subst Noted (sym c.in_ok-places.ensures.items) (record { extended = extends_same table; noted_held = c.requires.held; held = All-nil (IsPlaceIn table.sets); named = λ within. none_new (λ i. Contains [] (Some i)) (λ i. ⊥) table });
-      judged = c.requires.judged;
+      cache = c.requires.cache;
       read = λ p.
           let b = c.args.source.now.frame.now in
           let m = c.args.source.now.pools.now in
@@ -60,8 +60,8 @@ loop-i-preserved c =
     let list = c.list_weight-list.result in
     let most = c.args.budget.now.most in
     let budget = c.counted_set_at.new.budget in
-    let mid = c.loop-i.judged in
-    let new = c.counted_set_at.new.judged in
+    let mid = c.loop-i.cache in
+    let new = c.counted_set_at.new.cache in
     let place = c.in_ok-place.place in
     let before = c.loop-i.places.items in
     let after = c.if-is_within.places.items in
@@ -70,7 +70,7 @@ loop-i-preserved c =
     let old = map (set_at mid.table.sets) before in
     let next = map (set_at new.table.sets) after in
     let bound : budget.most ≡ most = c.in_ok-place.ensures.most ∙ c.loop-i.invariant.bound in
-    let stand : c.u32_at-set_off.result ≡ uint_at b (c.args.off + 4 + 4 * i) = c.u32_at-set_off.ensures ∙ ap (λ (x : List ℕ). uint_at x (c.args.off + 4 + 4 * i)) c.bytes-bytes.ensures.bytes in
+    let are_encoded : c.u32_at-set_off.result ≡ uint_at b (c.args.off + 4 + 4 * i) = c.u32_at-set_off.ensures ∙ ap (λ (x : List ℕ). uint_at x (c.args.off + 4 + 4 * i)) c.bytes-bytes.ensures.bytes in
     let put : (after ≡ before ++ place ∷ []) ⊎ ((after ≡ before) × (budget.weight ≤ budget.most → ⊥)) = elim c.if-is_within.branch [
       | then-is_within+in_ok-push w ↦ inl (ap (λ v. v.items) w.places-is ∙ w.in_ok-push.ensures.items)
       | else-is_within w ↦ inr (ap (λ v. v.items) w.places-is, not_within c.is_within.result c.is_within.ensures.within w.if-is_within.false)
@@ -83,14 +83,14 @@ loop-i-preserved c =
     record {
       bound = bound;
       grows = omega (arith, c.loop-i.invariant.grows, c.in_ok-place.ensures.grows);
-      noted = list_step c.args.judged.now mid new before after place (λ le. omega (arith, le, c.in_ok-place.ensures.grows, c.in_ok-place.ensures.most)) c.loop-i.invariant.noted noted put;
-      judged = λ p. c.in_ok-place.ensures.judged p;
+      noted = list_step c.args.cache.now mid new before after place (λ le. omega (arith, le, c.in_ok-place.ensures.grows, c.in_ok-place.ensures.most)) c.loop-i.invariant.noted noted put;
+      cache = λ p. c.in_ok-place.ensures.cache p;
       read = λ p.
           let o = c.u32_at-set_off.result in
           let r = kept_moved (IsSetOrEmptyAt b o m) (IsSetOrEmptyAt b o m) (set_weight_in m) c.loop-i.invariant.bound (λ s k. k) (c.in_ok-place.ensures.read p) in
-          let stands : IsSetOrEmptyAt b (uint_at b (c.args.off + 4 + 4 * i)) m r.item = subst (λ (x : ℕ). IsSetOrEmptyAt b x m r.item) stand r.is_read in
+          let encodes : IsSetOrEmptyAt b (uint_at b (c.args.off + 4 + 4 * i)) m r.item = subst (λ (x : ℕ). IsSetOrEmptyAt b x m r.item) are_encoded r.is_read in
           one_kept (HaveReadList b p4 m i) (HaveReadList b p4 m (i + 1)) (λ (ss : List NumberedSet). list + sum_by (set_weight_in m) ss) (set_weight_in m) most c.args.budget.now.weight c.loop-i.budget.weight budget.weight old next r.item set
-          (λ ss k. one_set_more b p4 m i ss r.item k stands) (list_adds m list r.item) (c.loop-i.invariant.read p) r.early r.grown r.heavy r.whole pushed;
+          (λ ss k. one_set_more b p4 m i ss r.item k encodes) (list_adds m list r.item) (c.loop-i.invariant.read p) r.early r.grown r.heavy r.whole pushed;
     }
 
 pub returns-clause-read : goal.returns-clause-read
@@ -101,7 +101,7 @@ returns-clause-read c = λ p.
     let i = c.loop-i.i in
     let count : i ≡ uint_at b c.args.off = omega (arith, c.in_ok-count.ensures.count.1) in
     let is_count : i ≡ c.in_ok-count.count = omega arith in
-    kept_as (HaveReadList b (c.args.off + 4) m i) (IsRefListAt b c.args.off m) (λ (ss : List NumberedSet). list + sum_by (set_weight_in m) ss) (sets_weight_in m) c.args.budget.now.most c.args.budget.now.weight c.loop-i.budget.weight (map (set_at c.loop-i.judged.table.sets) c.loop-i.places.items)
+    kept_as (HaveReadList b (c.args.off + 4) m i) (IsRefListAt b c.args.off m) (λ (ss : List NumberedSet). list + sum_by (set_weight_in m) ss) (sets_weight_in m) c.args.budget.now.most c.args.budget.now.weight c.loop-i.budget.weight (map (set_at c.loop-i.cache.table.sets) c.loop-i.places.items)
     (λ ss k. list_read b c.args.off m i ss c.in_ok-count.ensures.count.0 count k)
     (λ ss k. list_weighs b (c.args.off + 4) m i list ss (λ e. c.list_weight-list.ensures.none (omega (arith, e, is_count))) (λ lt. omega (arith, is_count, c.list_weight-list.ensures.some (omega (arith, lt, is_count)))) k)
     (c.loop-i.invariant.read p)

@@ -4,7 +4,7 @@ use Rattle.std.proofs.lemmas.List.Elements.{All-nil}
 use Rattle.std.proofs.lemmas.Result.{err_from_is_err_and}
 use Rattle.dexspec.specs.Bytes.{uint_at}
 use Rattle.dexval.specs.Directories.{IsKept, IsKnownAt, ArePairsAt}
-use Rattle.dexval.specs.Judged.{IsNamedOf}
+use Rattle.dexval.specs.DirectoryCache.{IsNamedOf}
 use Rattle.dexval.specs.Tables.{NumberedTable}
 use Rattle.dexval.proofs.DirectoryRead.{HaveReadPairs, no_pair_yet, one_pair_more, no_pair_next, no_item_next, pairs_end}
 use Rattle.dexval.proofs.Keeping.{none_kept, one_kept, kept_as, kept_moved, members_add}
@@ -23,44 +23,44 @@ returns-in_err-number-clause-refused g c = λ p.
     let m = c.args.source.now.pools.now in
     let h = c.loop-i.invariant.read p in
     let e = err_from_is_err_and c.from_residual-in_err-number.result c.from_residual-in_err-number.ensures.1 in
-    rw (e.1, e.2) (refused_so (no_pair_next (g.T.OfMember.is_known m) (g.T.OfMember.inside m) g.T.OfMember.stands c.args.source.now.frame.now c.args.pairs.now.at c.args.pairs.now.count c.args.pairs.now.limit c.loop-i.i c.loop-i.least h.item (omega arith) h.is_read) c.in_err-number.field-0.0 c.in_err-number.ensures.refused)
+    rw (e.1, e.2) (refused_so (no_pair_next (g.T.OfMember.is_known m) (g.T.OfMember.inside m) g.T.OfMember.encodes c.args.source.now.frame.now c.args.pairs.now.at c.args.pairs.now.count c.args.pairs.now.limit c.loop-i.i c.loop-i.least h.item (omega arith) h.is_read) c.in_err-number.field-0.0 c.in_err-number.ensures.refused)
 
 pub returns-in_err-place-clause-refused : goal.returns-in_err-place-clause-refused
 returns-in_err-place-clause-refused g c = λ p.
-    let stands = g.T.OfMember.stands in
+    let encodes = g.T.OfMember.encodes in
     let b = c.args.source.now.frame.now in
     let e = err_from_is_err_and c.from_residual-in_err-place.result c.from_residual-in_err-place.ensures.1 in
-    rw (e.1, e.2) (refused_so (λ none. no_item_next stands b c.args.pairs.now.at c.args.pairs.now.count c.args.pairs.now.limit c.loop-i.i (omega arith) (subst (λ (o : ℕ). (y : g.T.OfMember.Meant) → stands b o y → ⊥) c.in_ok-number.ensures.pair.2 none)) c.in_err-place.field-0.0 (c.in_err-place.ensures.refused p))
+    rw (e.1, e.2) (refused_so (λ none. no_item_next encodes b c.args.pairs.now.at c.args.pairs.now.count c.args.pairs.now.limit c.loop-i.i (omega arith) (subst (λ (o : ℕ). (y : g.T.OfMember.Meant) → encodes b o y → ⊥) c.in_ok-number.ensures.pair.2 none)) c.in_err-place.field-0.0 (c.in_err-place.ensures.refused p))
 
 pub loop-i-init : goal.loop-i-init
 loop-i-init g c =
     let m = c.args.source.now.pools.now in
     let budget = c.args.budget.now in
-    let judged = c.args.judged.now in
-    let table = judged.table in
+    let cache = c.args.cache.now in
+    let table = cache.table in
     record {
       least_fits = omega arith;
       bound = refl;
       grows = omega arith;
-      noted = subst (AreNoted g.T.OfMember.is_held g.T.OfMember.names_set g.T.OfMember.names_list (budget.weight ≤ budget.most) judged judged) (sym c.in_ok-members.ensures.items)
+      noted = subst (AreNoted g.T.OfMember.is_held g.T.OfMember.names_set g.T.OfMember.names_list (budget.weight ≤ budget.most) cache cache) (sym c.in_ok-members.ensures.items)
           (record {
             extended = extends_same table;
             noted_held = c.requires.held;
             held = All-nil (λ (e : ℕ × ℕ). g.T.OfMember.is_held table (Some e.1));
             named = λ within. none_new (IsNamedOf (g.T.OfMember.names_set table) []) (IsNamedOf g.T.OfMember.names_list []) table;
           });
-      judged = c.requires.judged;
+      cache = c.requires.cache;
       read = λ p.
-          let Read = HaveReadPairs (g.T.OfMember.is_known m) (g.T.OfMember.inside m) g.T.OfMember.stands c.args.source.now.frame.now c.args.pairs.now.at c.args.pairs.now.limit 0 0 in
+          let Read = HaveReadPairs (g.T.OfMember.is_known m) (g.T.OfMember.inside m) g.T.OfMember.encodes c.args.source.now.frame.now c.args.pairs.now.at c.args.pairs.now.limit 0 0 in
           let weighs = sum_by (λ (e : ℕ × g.T.OfMember.Numbered). g.T.OfMember.weighs m e.1) in
           subst (λ l. IsKept Read weighs budget.most budget.weight budget.weight (map (λ e. (e.0, g.T.OfMember.of table (Some e.1))) l)) (sym c.in_ok-members.ensures.items)
-          (none_kept Read weighs budget.most budget.weight budget.weight (no_pair_yet (g.T.OfMember.is_known m) (g.T.OfMember.inside m) g.T.OfMember.stands c.args.source.now.frame.now c.args.pairs.now.at c.args.pairs.now.limit) (omega arith) (omega arith));
+          (none_kept Read weighs budget.most budget.weight budget.weight (no_pair_yet (g.T.OfMember.is_known m) (g.T.OfMember.inside m) g.T.OfMember.encodes c.args.source.now.frame.now c.args.pairs.now.at c.args.pairs.now.limit) (omega arith) (omega arith));
     }
 
 pub loop-i-preserved : goal.loop-i-preserved
 loop-i-preserved g c =
     let Numbered = g.T.OfMember.Numbered in
-    let stands = g.T.OfMember.stands in
+    let encodes = g.T.OfMember.encodes in
     let is_held = g.T.OfMember.is_held in
     let of = g.T.OfMember.of in
     let b = c.args.source.now.frame.now in
@@ -70,8 +70,8 @@ loop-i-preserved g c =
     let weighs = g.T.OfMember.weighs m in
     let most = c.args.budget.now.most in
     let budget = c.counted_at.new.budget in
-    let mid = c.loop-i.judged in
-    let new = c.counted_at.new.judged in
+    let mid = c.loop-i.cache in
+    let new = c.counted_at.new.cache in
     let number = c.in_ok-number.number in
     let off = c.in_ok-number.off in
     let place = c.in_ok-place.place in
@@ -80,7 +80,7 @@ loop-i-preserved g c =
     let noted = c.in_ok-place.ensures.noted in
     let item = of new.table place in
     let entry : NumberedTable → ℕ × ℕ → ℕ × Numbered = λ t e. (e.0, of t (Some e.1)) in
-    let Read = HaveReadPairs Known inside stands b c.args.pairs.now.at c.args.pairs.now.limit in
+    let Read = HaveReadPairs Known inside encodes b c.args.pairs.now.at c.args.pairs.now.limit in
     let least : number ≡ c.from-least.result = omega (arith, c.from-least.ensures) in
     let bound : budget.most ≡ most = c.in_ok-place.ensures.most ∙ c.loop-i.invariant.bound in
     let put : ((p : ℕ) × (place ≡ Some p) × (after ≡ before ++ (number, p) ∷ [])) ⊎ ((after ≡ before) × (budget.weight ≤ budget.most → ⊥)) = elim c.match-place.branch [
@@ -100,26 +100,26 @@ loop-i-preserved g c =
       least_fits = omega (arith, c.from-least.ensures);
       bound = bound;
       grows = omega (arith, c.loop-i.invariant.grows, c.in_ok-place.ensures.grows);
-      noted = members_step is_held g.T.OfMember.names_set g.T.OfMember.names_list (λ t u o extended h. (g.met.T.OfMember.stays t u o extended h).0) g.met.T.OfMember.naming_stays c.args.judged.now mid new before after number place
+      noted = members_step is_held g.T.OfMember.names_set g.T.OfMember.names_list (λ t u o extended h. (g.met.T.OfMember.stays t u o extended h).0) g.met.T.OfMember.naming_stays c.args.cache.now mid new before after number place
           (λ le. omega (arith, le, c.in_ok-place.ensures.grows, c.in_ok-place.ensures.most)) c.loop-i.invariant.noted noted put;
-      judged = λ p. c.in_ok-place.ensures.judged p;
+      cache = λ p. c.in_ok-place.ensures.cache p;
       read = λ p.
-          let r = kept_moved (IsKnownAt Known inside (stands b off)) (IsKnownAt Known inside (stands b off)) weighs c.loop-i.invariant.bound (λ x k. k) (c.in_ok-place.ensures.read p) in
-          let there : stands b (uint_at b (c.args.pairs.now.at + 8 * c.loop-i.i + 4)) (inside r.item) = subst (λ (o : ℕ). stands b o (inside r.item)) c.in_ok-number.ensures.pair.2 r.is_read.at in
+          let r = kept_moved (IsKnownAt Known inside (encodes b off)) (IsKnownAt Known inside (encodes b off)) weighs c.loop-i.invariant.bound (λ x k. k) (c.in_ok-place.ensures.read p) in
+          let there : encodes b (uint_at b (c.args.pairs.now.at + 8 * c.loop-i.i + 4)) (inside r.item) = subst (λ (o : ℕ). encodes b o (inside r.item)) c.in_ok-number.ensures.pair.2 r.is_read.at in
           one_kept (Read c.loop-i.i c.loop-i.least) (Read (c.loop-i.i + 1) (c.from-least.result + 1)) (sum_by (λ (e : ℕ × Numbered). weighs e.1)) (λ (e : ℕ × Numbered). weighs e.1) most c.args.budget.now.weight c.loop-i.budget.weight budget.weight
           (map (entry mid.table) before) (map (entry new.table) after) (number, r.item) (number, item)
           (λ xs k. subst (λ (x : ℕ). Read (c.loop-i.i + 1) (x + 1) (xs ++ (number, r.item) ∷ [])) least
-          (one_pair_more Known inside stands b c.args.pairs.now.at c.args.pairs.now.limit c.loop-i.i c.loop-i.least xs number r.item k c.in_ok-number.ensures.pair.0 c.in_ok-number.ensures.pair.1 r.is_read.known there))
+          (one_pair_more Known inside encodes b c.args.pairs.now.at c.args.pairs.now.limit c.loop-i.i c.loop-i.least xs number r.item k c.in_ok-number.ensures.pair.0 c.in_ok-number.ensures.pair.1 r.is_read.known there))
           (members_add weighs (number, r.item)) (c.loop-i.invariant.read p) r.early r.grown r.heavy (λ le. ap (λ (x : Numbered). (number, x)) (r.whole le)) pushed;
     }
 
 pub returns-clause-read : goal.returns-clause-read
 returns-clause-read g c = λ p.
-    let stands = g.T.OfMember.stands in
+    let encodes = g.T.OfMember.encodes in
     let b = c.args.source.now.frame.now in
     let m = c.args.source.now.pools.now in
     let Known = g.T.OfMember.is_known m in
     let inside = g.T.OfMember.inside m in
     let weighs = sum_by (λ (e : ℕ × g.T.OfMember.Numbered). g.T.OfMember.weighs m e.1) in
-    kept_as (HaveReadPairs Known inside stands b c.args.pairs.now.at c.args.pairs.now.limit c.loop-i.i c.loop-i.least) (ArePairsAt Known inside stands b c.args.pairs.now.at c.args.pairs.now.count c.args.pairs.now.limit) weighs weighs c.args.budget.now.most c.args.budget.now.weight c.loop-i.budget.weight
-    (map (λ e. (e.0, g.T.OfMember.of c.loop-i.judged.table (Some e.1))) c.loop-i.members.items) (λ xs k. pairs_end Known inside stands b c.args.pairs.now.at c.args.pairs.now.count c.args.pairs.now.limit c.loop-i.i c.loop-i.least xs (omega arith) k) (λ xs k. refl) (c.loop-i.invariant.read p)
+    kept_as (HaveReadPairs Known inside encodes b c.args.pairs.now.at c.args.pairs.now.limit c.loop-i.i c.loop-i.least) (ArePairsAt Known inside encodes b c.args.pairs.now.at c.args.pairs.now.count c.args.pairs.now.limit) weighs weighs c.args.budget.now.most c.args.budget.now.weight c.loop-i.budget.weight
+    (map (λ e. (e.0, g.T.OfMember.of c.loop-i.cache.table (Some e.1))) c.loop-i.members.items) (λ xs k. pairs_end Known inside encodes b c.args.pairs.now.at c.args.pairs.now.count c.args.pairs.now.limit c.loop-i.i c.loop-i.least xs (omega arith) k) (λ xs k. refl) (c.loop-i.invariant.read p)

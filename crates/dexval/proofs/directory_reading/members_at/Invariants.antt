@@ -1,7 +1,7 @@
 use Rattle.std.specs.Prelude.{◌≡◌, ◌^◌, ◌≤◌, Some, map, sum_by}
 use Rattle.dexval.specs.Nesting.{AreFilePools}
 use Rattle.dexval.specs.Directories.{IsKept}
-use Rattle.dexval.specs.Judged.{AreJudged}
+use Rattle.dexval.specs.DirectoryCache.{AreCached}
 use Rattle.dexval.proofs.DirectoryRead.{HaveReadPairs}
 use Rattle.dexval.proofs.Naming.{AreNoted}
 use Rattle.dexval.proofs.directory_reading.members_at.Given as goal
@@ -11,7 +11,7 @@ invariant-loop-i g l = record {
   least_fits : l.least ≤ 2 ^ 32;
   bound : l.budget.most ≡ l.fn.budget.most;
   grows : l.fn.budget.weight ≤ l.budget.weight;
-  noted : AreNoted g.T.OfMember.is_held g.T.OfMember.names_set g.T.OfMember.names_list (l.budget.weight ≤ l.budget.most) l.fn.judged l.judged l.members.items;
-  judged : AreFilePools l.source.frame.now l.source.pools.now → AreJudged l.source.frame.now l.source.pools.now l.judged;
-  read : AreFilePools l.source.frame.now l.source.pools.now → IsKept (HaveReadPairs (g.T.OfMember.is_known l.source.pools.now) (g.T.OfMember.inside l.source.pools.now) g.T.OfMember.stands l.source.frame.now l.pairs.at l.pairs.limit l.i l.least) (sum_by (λ e. g.T.OfMember.weighs l.source.pools.now e.1)) l.fn.budget.most l.fn.budget.weight l.budget.weight (map (λ e. (e.0, g.T.OfMember.of l.judged.table (Some e.1))) l.members.items);
+  noted : AreNoted g.T.OfMember.is_held g.T.OfMember.names_set g.T.OfMember.names_list (l.budget.weight ≤ l.budget.most) l.fn.cache l.cache l.members.items;
+  cache : AreFilePools l.source.frame.now l.source.pools.now → AreCached l.source.frame.now l.source.pools.now l.cache;
+  read : AreFilePools l.source.frame.now l.source.pools.now → IsKept (HaveReadPairs (g.T.OfMember.is_known l.source.pools.now) (g.T.OfMember.inside l.source.pools.now) g.T.OfMember.encodes l.source.frame.now l.pairs.at l.pairs.limit l.i l.least) (sum_by (λ e. g.T.OfMember.weighs l.source.pools.now e.1)) l.fn.budget.most l.fn.budget.weight l.budget.weight (map (λ e. (e.0, g.T.OfMember.of l.cache.table (Some e.1))) l.members.items);
 }

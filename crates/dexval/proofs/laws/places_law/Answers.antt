@@ -3,7 +3,7 @@ use Rattle.dexval.proofs.laws.places_law.Goals as goal
 
 pub returns : goal.returns
 returns c = record {
-  value = λ m n r x leads. value_has_places m n r x (c.within_law.ensures m n r leads);
-  values = λ m n r xs leads. values_have_places m n r xs (c.within_law.ensures m n r leads);
-  set = λ m n r xs leads. set_has_places m n r xs (c.within_law.ensures m n r leads);
+  value = λ m n r x maps_to. value_has_places m n r x (c.within_law.ensures m n r maps_to);
+  values = λ m n r xs maps_to. values_have_places m n r xs (c.within_law.ensures m n r maps_to);
+  set = λ m n r xs maps_to. set_has_places m n r xs (c.within_law.ensures m n r maps_to);
 }

@@ -1,5 +1,5 @@
 use Rattle.std.proofs.Common.{◌≡◌, ◌+◌, ℕ, refl, ap, subst, arith}
-use Rattle.dexval.proofs.NestedRead.{nothing_behind, no_deep_array, no_deep_annotation, no_array, no_annotation}
+use Rattle.dexval.proofs.NestedRead.{nothing_after, no_deep_array, no_deep_annotation, no_array, no_annotation}
 use Rattle.dexval.proofs.ValuesRead.{no_count}
 use Rattle.dexval.proofs.ElementsRead.{no_such_name, no_such_type, no_name, no_value, no_type, no_element_count, no_elements}
 use Rattle.dexval.proofs.NestedChecked.{array_checked, annotation_checked, no_value_yet, one_value_checked, no_value_next, values_checked, no_element_yet, one_element_checked, no_element_next, elements_checked, annotation_of_elements, ElementsChecked}
@@ -7,7 +7,7 @@ use Rattle.dexval.proofs.nested_checking.+checking.Goals.{element_measure-then-f
 use Rattle.dexval.proofs.nested_checking.+checking.Goals as goal
 
 pub value_measure-returns-then-at-bytes-clause-checked : goal.value_measure-returns-then-at-bytes-clause-checked
-value_measure-returns-then-at-bytes-clause-checked t c = λ p. nothing_behind c.args.bytes.now c.args.at c.args.depth c.args.pools.now p.pools (omega arith)
+value_measure-returns-then-at-bytes-clause-checked t c = λ p. nothing_after c.args.bytes.now c.args.at c.args.depth c.args.pools.now p.pools (omega arith)
 
 pub value_measure-returns-then-depth-eq0-clause-checked : goal.value_measure-returns-then-depth-eq0-clause-checked
 value_measure-returns-then-depth-eq0-clause-checked t c = λ p. no_deep_array c.args.bytes.now c.args.at c.args.depth c.args.pools.now p.pools c.in-28.is c.if-depth-eq0.true

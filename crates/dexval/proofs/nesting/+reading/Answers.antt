@@ -5,7 +5,7 @@ use Rattle.dexval.specs.Numbered.{NumberedValue, values_of_list, elements_of_lis
 use Rattle.dexval.specs.internal.Scalars.{IsReadAt}
 use Rattle.dexval.specs.Nesting.{IsElementReadAt}
 use Rattle.dexval.proofs.CodeForms.{array_is, annotation_is, element_is}
-use Rattle.dexval.proofs.NestedRead.{ok_no_err, nothing_behind, no_deep_array, no_deep_annotation, array_stands, no_array, annotation_stands, no_annotation, deeper}
+use Rattle.dexval.proofs.NestedRead.{ok_no_err, nothing_after, no_deep_array, no_deep_annotation, array_encoded, no_array, annotation_encoded, no_annotation, deeper}
 use Rattle.dexval.proofs.ValuesRead.{HaveRead, one_more, no_next, no_count, no_values, all_read}
 use Rattle.dexval.proofs.ElementsRead.{HaveReadOf, no_such_name, no_such_type, one_element_more, no_next_element, all_elements_read, no_name, no_value, no_type, no_element_count, no_elements, annotation_read}
 use Rattle.dexval.proofs.nesting.+reading.Goals.{element_at-then-from-least-via-then-from-least, element_at-then-from-least-via-else-from-least+then-name-len}
@@ -99,7 +99,7 @@ elements_at-returns-clause-read t c = λ p.
     all_elements_read c.args.bytes.now c.args.pools.now p c.args.at c.args.depth c.args.count c.loop-i._i c.loop-i.least (map element_of c.loop-i.elements.items) c.loop-i.size (omega arith) (c.loop-i.invariant.read p)
 
 pub value_at-returns-then-at-bytes-clause-read : goal.value_at-returns-then-at-bytes-clause-read
-value_at-returns-then-at-bytes-clause-read t c = λ p. nothing_behind c.args.bytes.now c.args.at c.args.depth c.args.pools.now p.pools (omega arith)
+value_at-returns-then-at-bytes-clause-read t c = λ p. nothing_after c.args.bytes.now c.args.at c.args.depth c.args.pools.now p.pools (omega arith)
 
 pub value_at-returns-then-depth-eq0-clause-read : goal.value_at-returns-then-depth-eq0-clause-read
 value_at-returns-then-depth-eq0-clause-read t c = λ p. no_deep_array c.args.bytes.now c.args.at c.args.depth c.args.pools.now p.pools c.in-28.is c.if-depth-eq0.true
@@ -112,7 +112,7 @@ value_at-returns-in-Some-clause-read t c = λ p.
     let h = c.in_ok-values-in-28.ensures.read p in
     let r = rw c.in-Some.is at h in
     subst (λ (x : NumberedValue). IsReadAt c.args.bytes.now c.args.at c.args.pools.now c.args.depth x (1 + c.in-Some.size)) (sym (array_is c.in-Some.values))
-    (array_stands c.args.bytes.now c.args.at c.args.depth c.args.pools.now p.pools (values_of_list (map value_of c.in-Some.values.items)) c.in-Some.size (omega arith) c.in-28.is c.if-depth-eq0.false r)
+    (array_encoded c.args.bytes.now c.args.at c.args.depth c.args.pools.now p.pools (values_of_list (map value_of c.in-Some.values.items)) c.in-Some.size (omega arith) c.in-28.is c.if-depth-eq0.false r)
 
 pub value_at-returns-in-None-clause-read : goal.value_at-returns-in-None-clause-read
 value_at-returns-in-None-clause-read t c = λ p.
@@ -125,7 +125,7 @@ value_at-returns-in-Some-2-clause-read t c = λ p.
     let h = c.in_ok-typ-in-29.ensures.read p in
     let r = rw c.in-Some-2.is at h in
     subst (λ (x : NumberedValue). IsReadAt c.args.bytes.now c.args.at c.args.pools.now c.args.depth x (1 + c.in-Some-2.size)) (sym (annotation_is c.in-Some-2.typ c.in-Some-2.elements))
-    (annotation_stands c.args.bytes.now c.args.at c.args.depth c.args.pools.now p.pools c.in-Some-2.typ (elements_of_list (map element_of c.in-Some-2.elements.items)) c.in-Some-2.size (omega arith) c.in-29.is c.if-depth-eq0-2.false r)
+    (annotation_encoded c.args.bytes.now c.args.at c.args.depth c.args.pools.now p.pools c.in-Some-2.typ (elements_of_list (map element_of c.in-Some-2.elements.items)) c.in-Some-2.size (omega arith) c.in-29.is c.if-depth-eq0-2.false r)
 
 pub value_at-returns-in-None-2-clause-read : goal.value_at-returns-in-None-2-clause-read
 value_at-returns-in-None-2-clause-read t c = λ p.

@@ -1,7 +1,7 @@
 use Rattle.std.proofs.Common.{map, arith}
 use Rattle.dexval.specs.Code.{annotation_of}
 use Rattle.dexval.specs.Renumbering.{renumbered_annotation, AnnotationHasPlaces}
-use Rattle.dexval.proofs.Renumbered.{next_member, led_more, annotations_placed}
+use Rattle.dexval.proofs.Renumbered.{next_member, remapped_more, annotations_placed}
 use Rattle.dexval.proofs.renumbering.renumber_annotations.Goals as goal
 
 pub renumber-requires : goal.renumber-requires
@@ -11,4 +11,4 @@ renumber-requires c =
 
 pub loop-i-preserved : goal.loop-i-preserved
 loop-i-preserved c =
-    led_more annotation_of (renumbered_annotation c.args.remap.now) c.args.annotations.now.items c.loop-i.annotations.items c.loop-i.i c.index_mut.result.now c.renumber.new.self c.loop-i.invariant (omega arith) c.index_mut.ensures.value c.renumber.ensures
+    remapped_more annotation_of (renumbered_annotation c.args.remap.now) c.args.annotations.now.items c.loop-i.annotations.items c.loop-i.i c.index_mut.result.now c.renumber.new.self c.loop-i.invariant (omega arith) c.index_mut.ensures.value c.renumber.ensures

@@ -1,5 +1,5 @@
 use Rattle.std.proofs.Common.{sym}
-use Rattle.dexval.proofs.ScalarsRead.{spelled_stands, no_width, no_number, no_symbol}
+use Rattle.dexval.proofs.ScalarsRead.{spelled_encoded, no_width, no_number, no_symbol}
 use Rattle.dexval.proofs.scalars.sized_at.Goals as goal
 
 pub returns-in_err-width-clause-read : goal.returns-in_err-width-clause-read
@@ -15,4 +15,4 @@ returns-in_err-value-clause-read c = λ p.
     rw c.from_residual-in_err-value.ensures (λ depth. no_symbol c.args.bytes.now c.args.at c.args.pools.now p c.requires.array c.requires.annotation c.requires.null c.requires.no c.requires.yes depth c.in_ok-width.width c.in_ok-number.number.now _ (sym c.in_ok-width.ensures) c.in_ok-number.ensures c.in_err-value.ensures)
 
 pub returns-clause-read : goal.returns-clause-read
-returns-clause-read c = λ p. spelled_stands c.args.bytes.now c.args.at c.args.pools.now p _ c.in_ok-width.width c.in_ok-number.number.now _ _ (sym c.in_ok-width.ensures) c.in_ok-number.ensures c.in_ok-value.ensures
+returns-clause-read c = λ p. spelled_encoded c.args.bytes.now c.args.at c.args.pools.now p _ c.in_ok-width.width c.in_ok-number.number.now _ _ (sym c.in_ok-width.ensures) c.in_ok-number.ensures c.in_ok-value.ensures

@@ -1,7 +1,7 @@
 use Rattle.std.proofs.Common.{◌≡◌, ◌+◌, true, false, sym, subst, ◌∙◌, arith}
 use Rattle.dexval.specs.Code.{set_of}
 use Rattle.dexval.specs.Renumbering.{SetHasPlaces}
-use Rattle.dexval.proofs.TablesLed.{AreSettled, settled_stays, settled_led, all_settled, one_here}
+use Rattle.dexval.proofs.TablesRemapped.{AreSettled, settled_stays, settled_remapped, all_settled, one_here}
 use Rattle.dexval.proofs.set_table.renumber_sets.Goals as goal
 use Rattle.dexval.proofs.set_table.renumber_sets.Goals.{then-fits, else-fits}
 
@@ -13,7 +13,7 @@ pub loop-i-preserved : goal.loop-i-preserved
 loop-i-preserved c = elim c.if-fits.branch [
   | then-fits w ↦
       subst (λ xs. AreSettled c.args.remap.now (c.loop-i.i + 1) c.args.sets.now.items xs.items) (sym w.sets-is)
-      (settled_led c.args.remap.now c.args.sets.now.items c.loop-i.sets.items c.loop-i.i w.index_mut.result.now w.renumber.new.self c.loop-i.invariant (omega arith) w.index_mut.ensures.value
+      (settled_remapped c.args.remap.now c.args.sets.now.items c.loop-i.sets.items c.loop-i.i w.index_mut.result.now w.renumber.new.self c.loop-i.invariant (omega arith) w.index_mut.ensures.value
       (subst (λ x. SetHasPlaces c.args.remap.now (set_of x)) (one_here c.loop-i.sets.items c.loop-i.i c.index.result.now w.index_mut.result.now c.index.ensures w.index_mut.ensures.value (omega arith)) (c.fits.ensures.0 w.if-fits.true)) w.renumber.ensures)
   | else-fits w ↦
       subst (λ xs. AreSettled c.args.remap.now (c.loop-i.i + 1) c.args.sets.now.items xs.items) (sym w.sets-is)

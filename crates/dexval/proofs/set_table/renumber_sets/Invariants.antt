@@ -1,4 +1,4 @@
-use Rattle.dexval.proofs.TablesLed.{AreSettled}
+use Rattle.dexval.proofs.TablesRemapped.{AreSettled}
 use Rattle.dexval.proofs.set_table.renumber_sets.Given as goal
 
 abbrev pub invariant-loop-i : goal.invariant-loop-i

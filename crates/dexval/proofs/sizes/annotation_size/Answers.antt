@@ -4,5 +4,5 @@ use Rattle.dexval.proofs.Spelling.{annotation_lengths_are}
 use Rattle.dexval.proofs.sizes.annotation_size.Goals as goal
 
 pub returns-clause-symbolic : goal.returns-clause-symbolic
-returns-clause-symbolic c = λ m symbolic rising stands.
-    c.encoded_len.ensures ∙ ap (λ (n : ℕ). min (2 ^ 64 - 1) n) (annotation_lengths_are m (annotation_of c.args.annotation.now) symbolic rising stands)
+returns-clause-symbolic c = λ m symbolic rising encodes.
+    c.encoded_len.ensures ∙ ap (λ (n : ℕ). min (2 ^ 64 - 1) n) (annotation_lengths_are m (annotation_of c.args.annotation.now) symbolic rising encodes)

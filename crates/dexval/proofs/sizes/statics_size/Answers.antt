@@ -5,5 +5,5 @@ use Rattle.dexval.proofs.Spelling.{array_lengths_are}
 use Rattle.dexval.proofs.sizes.statics_size.Goals as goal
 
 pub returns-clause-symbolic : goal.returns-clause-symbolic
-returns-clause-symbolic c = λ m symbolic rising stand.
-    c.encoded_len.ensures ∙ ap (λ (n : ℕ). min (2 ^ 64 - 1) n) (array_lengths_are m (values_of_list (map value_of c.args.values.now)) symbolic rising stand)
+returns-clause-symbolic c = λ m symbolic rising are_encoded.
+    c.encoded_len.ensures ∙ ap (λ (n : ℕ). min (2 ^ 64 - 1) n) (array_lengths_are m (values_of_list (map value_of c.args.values.now)) symbolic rising are_encoded)

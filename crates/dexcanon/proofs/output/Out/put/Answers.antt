@@ -1,5 +1,5 @@
 use Rattle.std.proofs.Common.{sym, ◌∙◌}
-use Rattle.dexcanon.proofs.Buffered.{stopped, buffered, wanting, of_ok, none_of, not_both}
+use Rattle.dexcanon.proofs.Buffered.{stopped, buffered, out_of_memory, of_ok, none_of, not_both}
 use Rattle.dexcanon.proofs.Written.{adds_more}
 use Rattle.dexcanon.proofs.output.Out.put.Goals as goal
 
@@ -10,7 +10,7 @@ pub returns-then-is_err-clause-adds : goal.returns-then-is_err-clause-adds
 returns-then-is_err-clause-adds g c = λ limit le.
     let fine = sym c.is_some.ensures ∙ c.if-is_some.false in
     adds_more (c.make_room.ensures.adds limit)
-    (wanting c.make_room.new.self fine c.put.new.out (g.I.Item.bytes c.args.item.now) g.met.T.Target.whole g.met.T.Target.more
+    (out_of_memory c.make_room.new.self fine c.put.new.out (g.I.Item.bytes c.args.item.now) g.met.T.Target.whole g.met.T.Target.more
     (λ r. not_both c.put.result (c.put.ensures.room (c.make_room.ensures.room limit le r (none_of c.make_room.new.self.fault fine))) (sym c.is_err.ensures.value ∙ c.if-is_err.true)))
 
 pub returns-clause-adds : goal.returns-clause-adds

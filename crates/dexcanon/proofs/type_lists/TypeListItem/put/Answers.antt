@@ -1,5 +1,5 @@
 use Rattle.std.proofs.Common.{subst}
-use Rattle.dexspec.specs.Aside.Writing.{Puts}
+use Rattle.dexspec.specs.internal.Writing.{Puts}
 use Rattle.dexcanon.proofs.TypeLists.{type_list_numbers}
 use Rattle.dexcanon.proofs.type_lists.TypeListItem.put.Goals as goal
 

@@ -5,7 +5,7 @@ use Rattle.std.proofs.lemmas.List.Elements.{All-nil, All-push}
 use Rattle.dexspec.specs.Classes.{Definition}
 use Rattle.dexclass.specs.Numbered.{definition_of}
 use Rattle.dexclass.specs.internal.Parts.{AreGoodClasses}
-use Rattle.dexclass.proofs.PartsOf.{all_good, front_good, back_good, one_more_part}
+use Rattle.dexclass.proofs.PartsOf.{all_good, prefix_good, back_good, one_more_part}
 use Rattle.dexclass.proofs.parts.Part.split.Goals as goal
 
 -- the definitions of all parts
@@ -25,7 +25,7 @@ loop-alloc-init c =
 pub trimmed-requires : goal.trimmed-requires
 trimmed-requires c =
     let m = c.self.inside.numbering in
-    subst (AreGoodClasses m) (sym c.in_ok-others.ensures.items) (front_good m c.loop-alloc.classes.items c.loop-alloc.invariant.good c.min.result)
+    subst (AreGoodClasses m) (sym c.in_ok-others.ensures.items) (prefix_good m c.loop-alloc.classes.items c.loop-alloc.invariant.good c.min.result)
 
 pub loop-alloc-preserved : goal.loop-alloc-preserved
 loop-alloc-preserved c =

@@ -9,4 +9,4 @@ returns-clause-numbered c = λ debug_off.
     ∙ ap (λ code. length (numbered_code_bytes debug_off code)) c.self.view_is
 
 pub returns-clause-symbolic : goal.returns-clause-symbolic
-returns-clause-symbolic c = λ m debug_off x rising stands. returns-clause-numbered c debug_off ∙ ap length (c.code_bytes_law.ensures.bytes m debug_off c.args.self.now x rising stands)
+returns-clause-symbolic c = λ m debug_off x rising encodes. returns-clause-numbered c debug_off ∙ ap length (c.code_bytes_law.ensures.bytes m debug_off c.args.self.now x rising encodes)

@@ -7,4 +7,4 @@ returns-clause-numbered c =
     omega (arith, c.encode.ensures.bytes zero, c.encode.ensures.few)
 
 pub returns-clause-symbolic : goal.returns-clause-symbolic
-returns-clause-symbolic c = λ m x rising stands. returns-clause-numbered c ∙ ap length (c.debug_bytes_law.ensures.bytes m c.args.self.now x rising stands)
+returns-clause-symbolic c = λ m x rising encodes. returns-clause-numbered c ∙ ap length (c.debug_bytes_law.ensures.bytes m c.args.self.now x rising encodes)

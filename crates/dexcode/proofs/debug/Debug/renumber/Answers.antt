@@ -3,12 +3,12 @@ use Rattle.std.specs.List.{All, flat_map}
 use Rattle.dexpool.specs.declared.symbols.SymbolKind.TheVariants as kinds
 use Rattle.dexcode.specs.Debug.{NumberedDebug, HasPlace, IsFormedDebug, number_uses, operation_uses, debug_uses, image_or_none, renumbered_debug}
 use Rattle.dexcode.proofs.DebugUses.{debug_formed}
-use Rattle.dexpool.proofs.Parts.{all_front, all_back}
+use Rattle.dexpool.proofs.Parts.{all_prefix, all_back}
 use Rattle.dexcode.proofs.debug.Debug.renumber.Goals as goal
 
 pub renumber_names-requires : goal.renumber_names-requires
 renumber_names-requires c =
-    all_front (HasPlace c.args.remap.now) (flat_map (number_uses kinds.Text) c.self.inside.parameter_names.items) (flat_map operation_uses c.self.inside.operations)
+    all_prefix (HasPlace c.args.remap.now) (flat_map (number_uses kinds.Text) c.self.inside.parameter_names.items) (flat_map operation_uses c.self.inside.operations)
     (subst (λ d. All (HasPlace c.args.remap.now) (debug_uses d)) (sym c.self.view_is) c.requires)
 
 pub renumber-requires : goal.renumber-requires

@@ -1,6 +1,6 @@
 use Rattle.std.proofs.Common.{ap, arith}
 use Rattle.dexspec.specs.Weight.{debug_weight}
-use Rattle.dexcode.specs.Debug.{NumberedDebug, bare}
+use Rattle.dexcode.specs.Debug.{NumberedDebug, unindexed}
 use Rattle.dexcode.proofs.DebugWeights.{weight_is}
 use Rattle.dexcode.proofs.debug.Debug.weight.Goals as goal
 
@@ -11,4 +11,4 @@ overflow_add-result-2 c =
 pub returns : goal.returns
 returns c =
     let d : NumberedDebug = record { line_start = c.self.inside.line_start; parameter_names = c.self.inside.parameter_names.items; operations = c.self.inside.operations } in
-    omega (arith, weight_is d, c.operations_weight.ensures.sum, c.len.ensures, c.self.inside.parameter_names.ok.0, ap (λ x. debug_weight (bare x)) c.self.view_is)
+    omega (arith, weight_is d, c.operations_weight.ensures.sum, c.len.ensures, c.self.inside.parameter_names.ok.0, ap (λ x. debug_weight (unindexed x)) c.self.view_is)

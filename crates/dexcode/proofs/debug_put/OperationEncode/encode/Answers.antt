@@ -13,8 +13,8 @@ returns-in-StartLocal g c =
 pub returns-in-StartLocalExtended : goal.returns-in-StartLocalExtended
 returns-in-StartLocalExtended g c =
     let op = c.in-StartLocalExtended in
-    let behind = g.met.O.Output.both (uleb128 op.register_num ++ (uleb128p1 op.name_idx ++ uleb128p1 op.type_idx)) (uleb128p1 op.sig_idx) c.byte-in-StartLocalExtended.new.self c.encode_local-in-StartLocalExtended.new.out c.encode_index.new.out c.encode_local-in-StartLocalExtended.ensures c.encode_index.ensures in
-    let all = g.met.O.Output.both (0x04 ∷ []) _ c.args.out.now c.byte-in-StartLocalExtended.new.self c.encode_index.new.out c.byte-in-StartLocalExtended.ensures behind in
+    let following = g.met.O.Output.both (uleb128 op.register_num ++ (uleb128p1 op.name_idx ++ uleb128p1 op.type_idx)) (uleb128p1 op.sig_idx) c.byte-in-StartLocalExtended.new.self c.encode_local-in-StartLocalExtended.new.out c.encode_index.new.out c.encode_local-in-StartLocalExtended.ensures c.encode_index.ensures in
+    let all = g.met.O.Output.both (0x04 ∷ []) _ c.args.out.now c.byte-in-StartLocalExtended.new.self c.encode_index.new.out c.byte-in-StartLocalExtended.ensures following in
     subst (λ op. g.O.Output.gives (numbered_operation_bytes op) c.args.out.now c.encode_index.new.out) (sym op.is)
     (subst (λ bytes. g.O.Output.gives (0x04 ∷ bytes) c.args.out.now c.encode_index.new.out) (regrouped (uleb128 op.register_num) (uleb128p1 op.name_idx) (uleb128p1 op.type_idx) (uleb128p1 op.sig_idx)) all)
 

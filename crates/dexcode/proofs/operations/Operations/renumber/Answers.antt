@@ -4,7 +4,7 @@ use Rattle.dexpool.proofs.Parts.{all_parts}
 use Rattle.dexcode.specs.declared.debug_operation.Operation.{Operation}
 use Rattle.dexcode.specs.Debug.{HasPlace, operation_uses, renumbered_operation}
 use Rattle.dexcode.specs.Operations.{operation_of}
-use Rattle.dexcode.proofs.KeptOperations.{all_named, kept_led, kept_so, kept_view}
+use Rattle.dexcode.proofs.KeptOperations.{all_named, kept_remapped, kept_so, kept_view}
 use Rattle.dexcode.proofs.operations.Operations.renumber.Goals as goal
 
 pub renumber_all-requires : goal.renumber_all-requires
@@ -17,10 +17,10 @@ renumber_all-requires c =
 pub invariant_of-self : goal.invariant_of-self
 invariant_of-self c =
     let ops = map (operation_of c.self.inside.named.items) c.self.inside.entries.items in
-    kept_so (map (renumbered_operation c.args.remap.now) ops) c.self.inside.entries.items c.renumber_all.new.items.items (kept_led c.args.remap.now ops c.self.inside.entries.items c.self.inside.named.items c.renumber_all.new.items.items c.self.invariant c.renumber_all.ensures)
+    kept_so (map (renumbered_operation c.args.remap.now) ops) c.self.inside.entries.items c.renumber_all.new.items.items (kept_remapped c.args.remap.now ops c.self.inside.entries.items c.self.inside.named.items c.renumber_all.new.items.items c.self.invariant c.renumber_all.ensures)
 
 pub returns : goal.returns
 returns c =
     let ops = map (operation_of c.self.inside.named.items) c.self.inside.entries.items in
-    kept_view (map (renumbered_operation c.args.remap.now) ops) c.self.inside.entries.items c.renumber_all.new.items.items (kept_led c.args.remap.now ops c.self.inside.entries.items c.self.inside.named.items c.renumber_all.new.items.items c.self.invariant c.renumber_all.ensures)
+    kept_view (map (renumbered_operation c.args.remap.now) ops) c.self.inside.entries.items c.renumber_all.new.items.items (kept_remapped c.args.remap.now ops c.self.inside.entries.items c.self.inside.named.items c.renumber_all.new.items.items c.self.invariant c.renumber_all.ensures)
     ∙ ap (map (renumbered_operation c.args.remap.now)) c.self.view_is

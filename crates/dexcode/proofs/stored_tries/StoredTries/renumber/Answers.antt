@@ -3,7 +3,7 @@ use Rattle.std.specs.List.{All, flat_map}
 use Rattle.dexcode.specs.Numbered.{AreStored, handlers_of, all_named}
 use Rattle.dexcode.specs.Renumbering.{handler_uses, tries_uses, HasTypePlace, renumbered_try}
 use Rattle.dexpool.proofs.Parts.{all_parts}
-use Rattle.dexcode.proofs.TypesLed.{types_apart, stored_led, named_led}
+use Rattle.dexcode.proofs.TypesRemapped.{types_apart, stored_remapped, named_remapped}
 use Rattle.dexcode.proofs.stored_tries.StoredTries.renumber.Goals as goal
 
 pub renumber_all-requires : goal.renumber_all-requires
@@ -14,10 +14,10 @@ renumber_all-requires c =
 pub invariant_of-self : goal.invariant_of-self
 invariant_of-self c =
     subst (λ hs. AreStored hs c.self.inside.tries.items) (sym c.renumber_all.ensures)
-    (stored_led c.args.remap.now c.self.inside.handlers.items c.self.inside.tries.items (types_apart c.args.remap.now c.keeps_order.ensures) (subst (λ ts. All (HasTypePlace c.args.remap.now) (tries_uses ts)) (sym c.self.view_is) c.requires) c.self.invariant)
+    (stored_remapped c.args.remap.now c.self.inside.handlers.items c.self.inside.tries.items (types_apart c.args.remap.now c.keeps_order.ensures) (subst (λ ts. All (HasTypePlace c.args.remap.now) (tries_uses ts)) (sym c.self.view_is) c.requires) c.self.invariant)
 
 pub returns : goal.returns
 returns c =
     ap (λ hs. all_named hs c.self.inside.tries.items) c.renumber_all.ensures
-    ∙ named_led c.args.remap.now c.self.inside.handlers.items c.self.inside.tries.items c.self.invariant.within
+    ∙ named_remapped c.args.remap.now c.self.inside.handlers.items c.self.inside.tries.items c.self.invariant.within
     ∙ ap (map (renumbered_try c.args.remap.now)) c.self.view_is

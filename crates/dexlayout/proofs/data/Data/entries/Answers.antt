@@ -207,10 +207,10 @@ returns c = λ cs w d from.
     let n = counted m cs d in
     ten_same _ _ _ _ _ _ _ _ _ _ _ _ _ _ _ _ _ _ _ _
     (c.entry.ensures ∙ same_entry TypeLists _ _ _ _ (ap (λ xs. length xs) c.written.ensures ∙ n.type_lists) (c.round_up.ensures ∙ ap (round_up 4) from))
-    (c.entry-2.ensures ∙ same_entry AnnotationItems _ _ _ _ (c.count_annotations.ensures ∙ annotations_flat c.written-written.result.now c.args.self.now.front.annotations.written c.written-written.ensures ∙ n.annotations) (c.end.ensures ∙ ap (λ (q : ItemPlaces). q.end) c.places.ensures ∙ d.front_are.type_lists_are.places_are.end_is ∙ plain _))
-    (c.entry-3.ensures ∙ same_entry EncodedArrayItems _ _ _ _ (c.count_placed.ensures ∙ ap count_placed c.offsets.ensures ∙ n.arrays) (c.end-2.ensures ∙ ap (λ (q : ItemPlaces). q.end) c.places-2.ensures ∙ d.front_are.annotations_are.places_are.end_is ∙ plain _))
-    (c.entry-4.ensures ∙ same_entry StringDataItems _ _ _ _ (c.count.ensures ∙ n.strings) (c.end-3.ensures ∙ d.front_are.static_values_are.end_is ∙ plain _))
-    (c.entry-5.ensures ∙ same_entry DebugInfoItems _ _ _ _ (c.count-2.ensures ∙ n.debugs) (c.end-4.ensures ∙ d.front_are.strings_are.end_is ∙ plain _))
+    (c.entry-2.ensures ∙ same_entry AnnotationItems _ _ _ _ (c.count_annotations.ensures ∙ annotations_flat c.written-written.result.now c.args.self.now.front.annotations.written c.written-written.ensures ∙ n.annotations) (c.end.ensures ∙ ap (λ (q : ItemPlaces). q.end) c.places.ensures ∙ d.first_sections_are.type_lists_are.places_are.end_is ∙ plain _))
+    (c.entry-3.ensures ∙ same_entry EncodedArrayItems _ _ _ _ (c.count_placed.ensures ∙ ap count_placed c.offsets.ensures ∙ n.arrays) (c.end-2.ensures ∙ ap (λ (q : ItemPlaces). q.end) c.places-2.ensures ∙ d.first_sections_are.annotations_are.places_are.end_is ∙ plain _))
+    (c.entry-4.ensures ∙ same_entry StringDataItems _ _ _ _ (c.count.ensures ∙ n.strings) (c.end-3.ensures ∙ d.first_sections_are.static_values_are.end_is ∙ plain _))
+    (c.entry-5.ensures ∙ same_entry DebugInfoItems _ _ _ _ (c.count-2.ensures ∙ n.debugs) (c.end-4.ensures ∙ d.first_sections_are.strings_are.end_is ∙ plain _))
     (c.entry-6.ensures ∙ same_entry CodeItems _ _ _ _ (c.count_placed-2.ensures ∙ ap count_placed c.offsets-2.ensures ∙ n.codes) (c.round_up-2.ensures ∙ ap (round_up 4) (c.end-5.ensures ∙ ap (λ (q : ItemPlaces). q.end) c.places-3.ensures ∙ d.bodies_are.debugs_are.places_are.end_is)))
     (c.entry-7.ensures ∙ same_entry ClassDataItems _ _ _ _ (c.count_placed-3.ensures ∙ ap count_placed c.offsets-3.ensures ∙ n.class_data) (c.end-6.ensures ∙ d.bodies_are.codes_are.end_is ∙ plain _))
     (c.entry-8.ensures ∙ same_entry AnnotationSets _ _ _ _ (sym (length-map c.written-written.result.now (λ p. set_of p.now)) ∙ ap (λ ps. length ps) c.written-written.ensures ∙ n.sets) (c.round_up-3.ensures ∙ ap (round_up 4) (c.end-7.ensures ∙ d.bodies_are.class_data_are.end_is)))

@@ -9,13 +9,13 @@ pub returns : goal.returns
 returns c = λ m cs d.
     let K = ordered_of m cs in
     let g0 = greatest_of (type_list_section K).items in
-    let h0 : c.greatest.result ≡ max_of (g0 ∷ []) = c.greatest.ensures ∙ ap (λ (q : ItemPlaces). q.greatest) c.places.ensures ∙ d.front_are.type_lists_are.places_are.greatest_is ∙ omega arith in
+    let h0 : c.greatest.result ≡ max_of (g0 ∷ []) = c.greatest.ensures ∙ ap (λ (q : ItemPlaces). q.greatest) c.places.ensures ∙ d.first_sections_are.type_lists_are.places_are.greatest_is ∙ omega arith in
     let g1 = greatest_of (annotation_section K).items in
-    let h1 = max_more (g0 ∷ []) c.greatest.result c.max.result g1 c.greatest-2.result c.greatest-2.result h0 c.max.ensures refl (c.greatest-2.ensures ∙ ap (λ (q : ItemPlaces). q.greatest) c.places-2.ensures ∙ d.front_are.annotations_are.places_are.greatest_is) in
+    let h1 = max_more (g0 ∷ []) c.greatest.result c.max.result g1 c.greatest-2.result c.greatest-2.result h0 c.max.ensures refl (c.greatest-2.ensures ∙ ap (λ (q : ItemPlaces). q.greatest) c.places-2.ensures ∙ d.first_sections_are.annotations_are.places_are.greatest_is) in
     let g2 = greatest_of (array_section K).items in
-    let h2 = max_more (g0 ∷ g1 ∷ []) c.max.result c.max-2.result g2 c.greatest-3.result c.greatest-3.result h1 c.max-2.ensures refl (c.greatest-3.ensures ∙ d.front_are.static_values_are.greatest_is) in
+    let h2 = max_more (g0 ∷ g1 ∷ []) c.max.result c.max-2.result g2 c.greatest-3.result c.greatest-3.result h1 c.max-2.ensures refl (c.greatest-3.ensures ∙ d.first_sections_are.static_values_are.greatest_is) in
     let g3 = greatest_of (string_section K).items in
-    let h3 = max_more (g0 ∷ g1 ∷ g2 ∷ []) c.max-2.result c.max-3.result g3 c.greatest-4.result c.greatest-4.result h2 c.max-3.ensures refl (c.greatest-4.ensures ∙ d.front_are.strings_are.greatest_is) in
+    let h3 = max_more (g0 ∷ g1 ∷ g2 ∷ []) c.max-2.result c.max-3.result g3 c.greatest-4.result c.greatest-4.result h2 c.max-3.ensures refl (c.greatest-4.ensures ∙ d.first_sections_are.strings_are.greatest_is) in
     let g4 = greatest_of (debug_section K).items in
     let h4 = max_more (g0 ∷ g1 ∷ g2 ∷ g3 ∷ []) c.max-3.result c.max-4.result g4 c.greatest-5.result c.greatest-5.result h3 c.max-4.ensures refl (c.greatest-5.ensures ∙ ap (λ (q : ItemPlaces). q.greatest) c.places-3.ensures ∙ d.bodies_are.debugs_are.places_are.greatest_is) in
     let g5 = greatest_of (code_section K).items in

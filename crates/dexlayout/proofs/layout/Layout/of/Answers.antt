@@ -38,4 +38,4 @@ returns-clause-len c =
     let C = c.args.program.now in
     let here = c.classes.result.now in
     let laid = subst (λ n. IsLaid n here c.in_ok-layout.layout) c.numbering-numbering.ensures c.in_ok-layout.ensures in
-    laid.head_tells.file_ends ∙ ap file_end (ordered_is C here c.classes.ensures) ∙ sym (length_canonical C)
+    laid.head_states.file_ends ∙ ap file_end (ordered_is C here c.classes.ensures) ∙ sym (length_canonical C)

@@ -4,7 +4,7 @@ use Rattle.dexval.specs.Numbered.{NumberedSet}
 use Rattle.dexval.specs.Spelled.{numbered_annotation_bytes}
 use Rattle.dexlayout.specs.internal.Annotated.{annotation_lens, begin_set, lengthen, lengthen_all}
 use Rattle.dexlayout.specs.Places.{ItemPlaces}
-use Rattle.dexlayout.proofs.SetAnnotations.{lens_behind, next_annotation, annotation_within}
+use Rattle.dexlayout.proofs.SetAnnotations.{lens_after, next_annotation, annotation_within}
 use Rattle.dexlayout.proofs.offsets.Offsets.place_set.Goals as goal
 
 -- the next annotation ends within the file, and `annotation_size` returns its length
@@ -17,7 +17,7 @@ next c =
 pub loop-annotation-init : goal.loop-annotation-init
 loop-annotation-init c =
     ap (λ p. lengthen_all p (map (λ a. length (numbered_annotation_bytes (annotation_of a))) c.annotations-annotation-items.result.now)) c.in_ok-begin_set.ensures
-    ∙ ap (lengthen_all (begin_set c.args.self.now)) (lens_behind annotation_of c.annotations-annotation-items.result.now ∙ ap (λ (s : NumberedSet). annotation_lens s) c.annotations-annotation-items.ensures)
+    ∙ ap (lengthen_all (begin_set c.args.self.now)) (lens_after annotation_of c.annotations-annotation-items.result.now ∙ ap (λ (s : NumberedSet). annotation_lens s) c.annotations-annotation-items.ensures)
 
 pub overflow_cast-annotation_size : goal.overflow_cast-annotation_size
 overflow_cast-annotation_size c = let n = next c in omega (arith, n.0, n.1)

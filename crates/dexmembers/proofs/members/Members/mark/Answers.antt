@@ -1,7 +1,7 @@
 use Rattle.std.proofs.Common.{◌++◌, append_assoc, sym, subst}
 use Rattle.std.specs.List.{All, flat_map}
 use Rattle.dexpool.specs.Uses.{HasMark}
-use Rattle.dexpool.proofs.Parts.{all_front}
+use Rattle.dexpool.proofs.Parts.{all_prefix}
 use Rattle.dexval.specs.Numbered.{NumberedValues}
 use Rattle.dexval.specs.Uses.{set_uses, values_uses}
 use Rattle.dexmembers.specs.Numbered.{fields_of, methods_of}
@@ -18,7 +18,7 @@ mark_methods-requires c =
     let fs = flat_map field_uses (fields_of x) in
     let ms = flat_map method_uses (methods_of x) in
     let xs = values_uses x.static_values in
-    all_front (HasMark b) ms xs (rest_marked (own ++ fs) (ms ++ xs) m b (visit_marks (own ++ fs) m b c.visit_fields.ensures) (subst (All (HasMark m)) (sym (append_assoc own fs (ms ++ xs))) c.requires))
+    all_prefix (HasMark b) ms xs (rest_marked (own ++ fs) (ms ++ xs) m b (visit_marks (own ++ fs) m b c.visit_fields.ensures) (subst (All (HasMark m)) (sym (append_assoc own fs (ms ++ xs))) c.requires))
 
 pub returns : goal.returns
 returns c =

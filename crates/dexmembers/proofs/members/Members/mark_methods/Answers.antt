@@ -2,7 +2,7 @@ use Rattle.std.proofs.Common.{◌≡◌, ◌++◌, List, sym, ◌∙◌, subst}
 use Rattle.std.specs.List.{All, flat_map}
 use Rattle.std.proofs.lemmas.List.Concat.{flat_map-append}
 use Rattle.dexpool.specs.Uses.{HasMark, AreMarkedToo}
-use Rattle.dexpool.proofs.Parts.{all_front}
+use Rattle.dexpool.proofs.Parts.{all_prefix}
 use Rattle.dexmembers.specs.Numbered.{NumberedMethod}
 use Rattle.dexmembers.specs.Uses.{method_uses}
 use Rattle.dexmembers.proofs.MembersMarked.{rest_marked, marked_both_if}
@@ -18,7 +18,7 @@ mark_methods-requires c =
     let m = c.args.marks.now in
     let ds = c.direct_methods.result in
     let vs = flat_map method_uses x.virtual_methods in
-    all_front (HasMark m) (flat_map method_uses ds) vs (subst (All (HasMark m)) (uses_of_both x.direct_methods x.virtual_methods ds x.virtual_methods c.direct_methods.ensures (λ i. x.virtual_methods)) c.requires)
+    all_prefix (HasMark m) (flat_map method_uses ds) vs (subst (All (HasMark m)) (uses_of_both x.direct_methods x.virtual_methods ds x.virtual_methods c.direct_methods.ensures (λ i. x.virtual_methods)) c.requires)
 
 pub mark_methods-requires-2 : goal.mark_methods-requires-2
 mark_methods-requires-2 c =

@@ -1,5 +1,5 @@
 use Rattle.std.proofs.Common.{ℕ, List, subst, arith}
-use Rattle.dexspec.specs.Aside.Writing.{Puts}
+use Rattle.dexspec.specs.internal.Writing.{Puts}
 use Rattle.dexmembers.proofs.DirectorySpelled.{directory_size}
 use Rattle.dexmembers.proofs.members.Members.put_directory.Goals as goal
 

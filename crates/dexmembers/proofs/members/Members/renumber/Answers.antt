@@ -6,20 +6,20 @@ use Rattle.dexmembers.specs.Numbered.{NumberedMembers}
 use Rattle.dexmembers.specs.Held.{field_of, method_of, IsHeldField, IsHeldMethod}
 use Rattle.dexmembers.specs.Contents.{contents_in}
 use Rattle.dexmembers.specs.Renumbering.{renumbered_field, renumbered_method, renumbered_members, MembersHavePlaces}
-use Rattle.dexmembers.proofs.HeldMembers.{fields_lead, methods_lead, fields_led, methods_led, own_kept, fields_kept, methods_kept, few_mapped, same_few}
+use Rattle.dexmembers.proofs.HeldMembers.{fields_mapped, methods_mapped, fields_remapped, methods_remapped, own_kept, fields_kept, methods_kept, few_mapped, same_few}
 use Rattle.dexmembers.proofs.members.Members.renumber.Goals as goal
 
 pub renumber_all-requires : goal.renumber_all-requires
-renumber_all-requires c = fields_lead c.args.remap.now c.self.inside.contents.table.sets c.self.inside.contents.static_fields.items (subst (MembersHavePlaces c.args.remap.now) (sym c.self.view_is) c.requires).static_fields_lead
+renumber_all-requires c = fields_mapped c.args.remap.now c.self.inside.contents.table.sets c.self.inside.contents.static_fields.items (subst (MembersHavePlaces c.args.remap.now) (sym c.self.view_is) c.requires).static_fields_mapped
 
 pub renumber_all-requires-2 : goal.renumber_all-requires-2
-renumber_all-requires-2 c = fields_lead c.args.remap.now c.self.inside.contents.table.sets c.self.inside.contents.instance_fields.items (subst (MembersHavePlaces c.args.remap.now) (sym c.self.view_is) c.requires).instance_fields_lead
+renumber_all-requires-2 c = fields_mapped c.args.remap.now c.self.inside.contents.table.sets c.self.inside.contents.instance_fields.items (subst (MembersHavePlaces c.args.remap.now) (sym c.self.view_is) c.requires).instance_fields_mapped
 
 pub renumber_all-requires-3 : goal.renumber_all-requires-3
-renumber_all-requires-3 c = methods_lead c.args.remap.now c.self.inside.contents.table c.self.inside.contents.direct_methods.items (subst (MembersHavePlaces c.args.remap.now) (sym c.self.view_is) c.requires).direct_methods_lead
+renumber_all-requires-3 c = methods_mapped c.args.remap.now c.self.inside.contents.table c.self.inside.contents.direct_methods.items (subst (MembersHavePlaces c.args.remap.now) (sym c.self.view_is) c.requires).direct_methods_mapped
 
 pub renumber_all-requires-4 : goal.renumber_all-requires-4
-renumber_all-requires-4 c = methods_lead c.args.remap.now c.self.inside.contents.table c.self.inside.contents.virtual_methods.items (subst (MembersHavePlaces c.args.remap.now) (sym c.self.view_is) c.requires).virtual_methods_lead
+renumber_all-requires-4 c = methods_mapped c.args.remap.now c.self.inside.contents.table c.self.inside.contents.virtual_methods.items (subst (MembersHavePlaces c.args.remap.now) (sym c.self.view_is) c.requires).virtual_methods_mapped
 
 pub invariant_of-self : goal.invariant_of-self
 invariant_of-self c =
@@ -30,12 +30,12 @@ invariant_of-self c =
     let has = subst (MembersHavePlaces r) (sym c.self.view_is) c.requires in
     let size = c.renumber.ensures.size in
     let lists = c.renumber.ensures.lists in
-    let led = c.renumber.ensures.sets in
+    let remapped = c.renumber.ensures.sets in
     let few = few_mapped (renumbered_field r) (renumbered_method r) _ _ _ _ kept.few in
-    let statics = ap (map (field_of t'.sets)) c.renumber_all.ensures ∙ fields_led r x.table.sets t'.sets led x.static_fields.items has.static_fields_lead in
-    let instances = ap (map (field_of t'.sets)) c.renumber_all-2.ensures ∙ fields_led r x.table.sets t'.sets led x.instance_fields.items has.instance_fields_lead in
-    let directs = ap (map (method_of t')) c.renumber_all-3.ensures ∙ methods_led r x.table.sets t'.sets led x.table.lists t'.lists lists x.direct_methods.items has.direct_methods_lead in
-    let virtuals = ap (map (method_of t')) c.renumber_all-4.ensures ∙ methods_led r x.table.sets t'.sets led x.table.lists t'.lists lists x.virtual_methods.items has.virtual_methods_lead in
+    let statics = ap (map (field_of t'.sets)) c.renumber_all.ensures ∙ fields_remapped r x.table.sets t'.sets remapped x.static_fields.items has.static_fields_mapped in
+    let instances = ap (map (field_of t'.sets)) c.renumber_all-2.ensures ∙ fields_remapped r x.table.sets t'.sets remapped x.instance_fields.items has.instance_fields_mapped in
+    let directs = ap (map (method_of t')) c.renumber_all-3.ensures ∙ methods_remapped r x.table.sets t'.sets remapped x.table.lists t'.lists lists x.direct_methods.items has.direct_methods_mapped in
+    let virtuals = ap (map (method_of t')) c.renumber_all-4.ensures ∙ methods_remapped r x.table.sets t'.sets remapped x.table.lists t'.lists lists x.virtual_methods.items has.virtual_methods_mapped in
     record {
       few = same_few (sym statics) (sym instances) (sym directs) (sym virtuals) few;
       held = record {
@@ -54,12 +54,12 @@ returns c =
     let t' = c.renumber.new.self in
     let has = subst (MembersHavePlaces r) (sym c.self.view_is) c.requires in
     let lists = c.renumber.ensures.lists in
-    let led = c.renumber.ensures.sets in
-    let own = (led x.set).0 has.annotations_lead in
-    let statics = ap (map (field_of t'.sets)) c.renumber_all.ensures ∙ fields_led r x.table.sets t'.sets led x.static_fields.items has.static_fields_lead in
-    let instances = ap (map (field_of t'.sets)) c.renumber_all-2.ensures ∙ fields_led r x.table.sets t'.sets led x.instance_fields.items has.instance_fields_lead in
-    let directs = ap (map (method_of t')) c.renumber_all-3.ensures ∙ methods_led r x.table.sets t'.sets led x.table.lists t'.lists lists x.direct_methods.items has.direct_methods_lead in
-    let virtuals = ap (map (method_of t')) c.renumber_all-4.ensures ∙ methods_led r x.table.sets t'.sets led x.table.lists t'.lists lists x.virtual_methods.items has.virtual_methods_lead in
+    let remapped = c.renumber.ensures.sets in
+    let own = (remapped x.set).0 has.annotations_mapped in
+    let statics = ap (map (field_of t'.sets)) c.renumber_all.ensures ∙ fields_remapped r x.table.sets t'.sets remapped x.static_fields.items has.static_fields_mapped in
+    let instances = ap (map (field_of t'.sets)) c.renumber_all-2.ensures ∙ fields_remapped r x.table.sets t'.sets remapped x.instance_fields.items has.instance_fields_mapped in
+    let directs = ap (map (method_of t')) c.renumber_all-3.ensures ∙ methods_remapped r x.table.sets t'.sets remapped x.table.lists t'.lists lists x.direct_methods.items has.direct_methods_mapped in
+    let virtuals = ap (map (method_of t')) c.renumber_all-4.ensures ∙ methods_remapped r x.table.sets t'.sets remapped x.table.lists t'.lists lists x.virtual_methods.items has.virtual_methods_mapped in
     let new : NumberedMembers = record {
       annotations = set_at t'.sets x.set;
       static_fields = map (field_of t'.sets) c.renumber_all.new.items.items;
@@ -73,4 +73,4 @@ returns c =
     all ∙ ap (renumbered_members r) c.self.view_is
 
 pub renumber_values-requires : goal.renumber_values-requires
-renumber_values-requires c = (subst (MembersHavePlaces c.args.remap.now) (sym c.self.view_is) c.requires).values_lead
+renumber_values-requires c = (subst (MembersHavePlaces c.args.remap.now) (sym c.self.view_is) c.requires).values_mapped

@@ -2,7 +2,7 @@ use Rattle.std.proofs.Common.{◌∷◌, [], ◌++◌, ℕ, List, option_to_list
 use Rattle.std.specs.List.{All, flat_map}
 use Rattle.dexpool.specs.declared.symbols.SymbolKind.TheVariants as kinds
 use Rattle.dexpool.specs.Uses.{Use, HasMark}
-use Rattle.dexpool.proofs.Parts.{all_front}
+use Rattle.dexpool.proofs.Parts.{all_prefix}
 use Rattle.dexval.specs.Numbered.{NumberedSet}
 use Rattle.dexval.specs.Uses.{set_uses}
 use Rattle.dexcode.specs.Renumbering.{item_uses}
@@ -23,7 +23,7 @@ mark_code-requires c =
     let rest = set_uses x.annotations ++ flat_map set_uses x.parameter_annotations in
     let all = subst (λ n. All (HasMark m) (method_use n ∷ (code ++ rest))) (sym c.number.ensures) c.requires in
     code_marked (HasMark b) c.code.result x.code c.code.ensures
-    (all_front (HasMark b) code rest (rest_marked (method_use c.number.result ∷ []) (code ++ rest) m b (visit_marks (method_use c.number.result ∷ []) m b (b, c.symbol.ensures, λ i. b)) all))
+    (all_prefix (HasMark b) code rest (rest_marked (method_use c.number.result ∷ []) (code ++ rest) m b (visit_marks (method_use c.number.result ∷ []) m b (b, c.symbol.ensures, λ i. b)) all))
 
 pub returns : goal.returns
 returns c =

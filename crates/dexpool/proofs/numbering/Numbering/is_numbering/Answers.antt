@@ -1,6 +1,6 @@
 use Rattle.std.proofs.Common.{subst}
 use Rattle.dexpool.specs.Numberings.{IsNumbering}
-use Rattle.dexpool.proofs.TablesStand.{are_numbering}
+use Rattle.dexpool.proofs.TablesAreAt.{are_numbering}
 use Rattle.dexpool.proofs.numbering.Numbering.is_numbering.Goals as goal
 
 pub returns : goal.returns

@@ -1,12 +1,12 @@
 use Rattle.std.proofs.Common.{◌∙◌, sym, ap, subst}
 use Rattle.dexspec.specs.Mentions.{Mentions, closed}
 use Rattle.dexpool.specs.Stored.{symbols_in}
-use Rattle.dexpool.specs.Numberings.{AreMarksOf, AllLead, Maps, marked}
+use Rattle.dexpool.specs.Numberings.{AreMarksOf, AllMapTo, Maps, marked}
 use Rattle.dexpool.specs.internal.Closing.{kept_places}
-use Rattle.dexpool.specs.Orderly.{LeadDown}
-use Rattle.dexpool.specs.Uses.{LeadsMarked}
+use Rattle.dexpool.specs.Orderly.{MapsDown}
+use Rattle.dexpool.specs.Uses.{MapsMarked}
 use Rattle.dexpool.proofs.KeptNumbers.{kept_down, kept_marked}
-use Rattle.dexpool.proofs.KeptSymbols.{are_closed, closed_count, kept_mentioned, kept_lead}
+use Rattle.dexpool.proofs.KeptSymbols.{are_closed, closed_count, kept_mentioned, kept_mapped}
 use Rattle.dexpool.proofs.numbering.Numbering.keep.Goals as goal
 
 pub keep_marked-requires-clause-marks : goal.keep_marked-requires-clause-marks
@@ -34,13 +34,13 @@ returns-clause-map c =
     let t = c.tables-tables.result.now in
     let count = subst (λ (m : Mentions). AreMarksOf m marks) (sym c.tables-tables.ensures.symbols) c.requires in
     let k = c.in_ok-tables.ensures in
-    let lead = kept_lead t c.tables-tables.ensures.tables marks count c.in_ok-marks.marks c.in_ok-marks.ensures in
-    let there = subst (λ (m : Mentions). AllLead (symbols_in t) m (kept_places c.in_ok-marks.marks)) (sym k.symbols_are) lead in
-    let maps = subst (λ (r : Maps). AllLead (symbols_in t) (symbols_in c.in_ok-tables.tables) r) (sym k.maps_are) there in
-    subst (λ (m : Mentions). AllLead m (symbols_in c.in_ok-tables.tables) c.in_ok-tables.remap) c.tables-tables.ensures.symbols maps
+    let are_mapped = kept_mapped t c.tables-tables.ensures.tables marks count c.in_ok-marks.marks c.in_ok-marks.ensures in
+    let there = subst (λ (m : Mentions). AllMapTo (symbols_in t) m (kept_places c.in_ok-marks.marks)) (sym k.symbols_are) are_mapped in
+    let maps = subst (λ (r : Maps). AllMapTo (symbols_in t) (symbols_in c.in_ok-tables.tables) r) (sym k.maps_are) there in
+    subst (λ (m : Mentions). AllMapTo m (symbols_in c.in_ok-tables.tables) c.in_ok-tables.remap) c.tables-tables.ensures.symbols maps
 
 pub returns-clause-marked : goal.returns-clause-marked
-returns-clause-marked c = subst (LeadsMarked c.args.marks.now) (sym c.in_ok-tables.ensures.maps_are) (kept_marked c.tables-tables.result.now c.args.marks.now c.in_ok-marks.marks c.in_ok-marks.ensures)
+returns-clause-marked c = subst (MapsMarked c.args.marks.now) (sym c.in_ok-tables.ensures.maps_are) (kept_marked c.tables-tables.result.now c.args.marks.now c.in_ok-marks.marks c.in_ok-marks.ensures)
 
 pub returns-clause-down : goal.returns-clause-down
-returns-clause-down c = subst LeadDown (sym c.in_ok-tables.ensures.maps_are) (kept_down c.in_ok-marks.marks)
+returns-clause-down c = subst MapsDown (sym c.in_ok-tables.ensures.maps_are) (kept_down c.in_ok-marks.marks)

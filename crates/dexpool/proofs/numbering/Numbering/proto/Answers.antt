@@ -1,13 +1,13 @@
 use Rattle.std.proofs.Common.{◌≡◌, ◌<◌, get_or, length, sym, ◌∙◌, subst}
 use Rattle.dexpool.specs.Tables.{span_of}
-use Rattle.dexpool.specs.Numberings.{StandsForProto}
-use Rattle.dexpool.proofs.RowParts.{row_stands}
+use Rattle.dexpool.specs.Numberings.{DenotesProto}
+use Rattle.dexpool.proofs.RowParts.{row_encoded}
 use Rattle.dexpool.proofs.numbering.Numbering.proto.Goals as goal
 
 pub returns : goal.returns
 returns c = λ d.
     let entry = c.index-entry.result.now in
     let parameters : c.part-parameters.result ≡ span_of c.self.inside.tables.parameters entry.parameters = c.part-parameters.ensures in
-    subst (λ m. StandsForProto m c.of.result (get_or m.protos c.args.i d)) c.self.view_is (row_stands c.self.inside.tables c.self.invariant c.args.i entry c.of.result d
+    subst (λ m. DenotesProto m c.of.result (get_or m.protos c.args.i d)) c.self.view_is (row_encoded c.self.inside.tables c.self.invariant c.args.i entry c.of.result d
     (subst (λ m. c.args.i < length m.protos) (sym c.self.view_is) c.requires) c.index-entry.ensures
     (c.of.ensures ∙ (λ i. record { shorty = entry.shorty; return_type = entry.return_type; parameters = parameters i })))

@@ -1,6 +1,6 @@
 use Rattle.std.proofs.Common.{get_or, subst}
-use Rattle.dexpool.specs.Numberings.{StandsForField}
+use Rattle.dexpool.specs.Numberings.{DenotesField}
 use Rattle.dexpool.proofs.pools.Pools.field.Goals as goal
 
 pub returns : goal.returns
-returns c = λ d. subst (λ m. StandsForField m c.field.result.now (get_or m.fields c.args.i d)) c.self.view_is (c.field.ensures d)
+returns c = λ d. subst (λ m. DenotesField m c.field.result.now (get_or m.fields c.args.i d)) c.self.view_is (c.field.ensures d)

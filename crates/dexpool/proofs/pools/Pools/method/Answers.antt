@@ -1,6 +1,6 @@
 use Rattle.std.proofs.Common.{get_or, subst}
-use Rattle.dexpool.specs.Numberings.{StandsForMethod}
+use Rattle.dexpool.specs.Numberings.{DenotesMethod}
 use Rattle.dexpool.proofs.pools.Pools.method.Goals as goal
 
 pub returns : goal.returns
-returns c = λ d. subst (λ m. StandsForMethod m c.method.result.now (get_or m.methods c.args.i d)) c.self.view_is (c.method.ensures d)
+returns c = λ d. subst (λ m. DenotesMethod m c.method.result.now (get_or m.methods c.args.i d)) c.self.view_is (c.method.ensures d)

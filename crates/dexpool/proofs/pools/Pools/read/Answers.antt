@@ -13,7 +13,7 @@ are_read c =
     let rows = c.in_ok-rows.rows in
     let read = all_read b c.in_ok-strings.strings.items c.deref.result.now c.deref-2.result.now c.in_ok-types.types.items c.deref-3.result.now
     (file_numbers b) rows.protos.items rows.fields.items rows.methods.items
-    c.judged.ensures c.in_ok-strings.ensures.ok c.in_ok-types.ensures.ok c.in_ok-rows.ensures.protos c.in_ok-rows.ensures.fields c.in_ok-rows.ensures.methods
+    c.checked.ensures c.in_ok-strings.ensures.ok c.in_ok-types.ensures.ok c.in_ok-rows.ensures.protos c.in_ok-rows.ensures.fields c.in_ok-rows.ensures.methods
     c.deref.ensures.value c.deref-2.ensures.value c.deref-3.ensures.value in
     subst (λ (ps : List ℕ). AreRead b c.in_ok-strings.strings.items c.in_ok-types.types.items ps rows.protos.items rows.fields.items rows.methods.items) (sym (c.of_file-parameters.ensures ∙ ap file_numbers c.bytes.ensures.bytes)) read
 

@@ -1,0 +1,14 @@
+use Rattle.std.proofs.Common.{refl, sym, subst}
+use Rattle.dexclass.specs.internal.Rows.{AreDefinedMarks}
+use Rattle.dexclass.proofs.RowConditions.{rows_more}
+use Rattle.dexclass.proofs.class_checks.check_classes.Goals as goal
+
+pub loop-r-preserved : goal.loop-r-preserved
+loop-r-preserved c =
+    let b = c.args.frame.now in
+    let r = c.loop-r.r in
+    let seen = subst (AreDefinedMarks b r) (sym c.deref-in-loop-r.ensures.value) c.loop-r.invariant.marks in
+    record {
+      marks = c.mark.ensures b r c.at-row.ensures.class_is c.loop-r.invariant.marks;
+      rows = rows_more b r c.loop-r.invariant.rows ((c.if-not-holds.ensures r seen c.at-row.ensures).0 refl);
+    }

@@ -1,0 +1,10 @@
+use Rattle.std.specs.Prelude.{◌<◌, ℕ}
+use Rattle.dexspec.specs.Accepted.{HasClass}
+use Rattle.dexclass.specs.internal.Rows.{AreDefinedMarks}
+use Rattle.dexclass.proofs.class_checks.check_classes.Given as goal
+
+abbrev pub invariant-loop-r : goal.invariant-loop-r
+invariant-loop-r l = record {
+  marks : AreDefinedMarks l.frame l.r l.seen.items;
+  rows : (k : ℕ) → k < l.r → HasClass l.frame k;
+}

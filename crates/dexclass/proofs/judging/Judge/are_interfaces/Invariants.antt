@@ -1,7 +1,0 @@
-use Rattle.std.specs.Prelude.{◌+◌, ◌*◌, ◌<◌, ℕ}
-use Rattle.dexspec.specs.Bytes.{ushort_at}
-use Rattle.dexclass.specs.internal.Rows.{AreDefinedMarks, IsInterfaceIndex}
-use Rattle.dexclass.proofs.judging.Judge.are_interfaces.Given as goal
-
-abbrev pub invariant-loop-k : goal.invariant-loop-k
-invariant-loop-k l = (r : ℕ) → AreDefinedMarks l.self.frame.now r l.seen → (j : ℕ) → j < l.k → IsInterfaceIndex l.self.frame.now r (ushort_at l.self.frame.now (l.off + 4 + 2 * j))

@@ -1,0 +1,144 @@
+-- The types of handlers, remapped: which handlers stay distinct, and what tries name then.
+use Rattle.std.proofs.Common.{◌≡◌, ℕ, ◌+◌, ◌*◌, ◌<◌, Bool, true, false, not, List, [], ◌∷◌, length, map, get_or, filter, Some, refl, ap, sym, ◌∙◌, subst, if◌then◌else◌, arith, inl, inr}
+use Rattle.std.specs.Prelude.{sum_by}
+use Rattle.std.specs.Bool.{Decides, one_answer}
+use Rattle.std.specs.Option.{unwrap_or}
+use Rattle.std.specs.List.{All, flat_map}
+use Rattle.std.proofs.lemmas.List.{length-map, get_or-map}
+use Rattle.std.proofs.lemmas.List.Elements.{All-nil, All-cons, All-head, All-tail}
+use Rattle.std.proofs.lemmas.List.Sums.{sum_by-cons}
+use Rattle.dexspec.specs.Lists.{distinct}
+use Rattle.dexpool.specs.declared.symbols.SymbolKind.TheVariants as kinds
+use Rattle.dexpool.specs.Numberings.{Maps}
+use Rattle.dexpool.specs.Orderly.{KeepOrder}
+use Rattle.dexcode.specs.declared.handlers.Catch.{Catch}
+use Rattle.dexcode.specs.declared.tries.Try.{Try}
+use Rattle.dexcode.specs.Equality.{handler_decides}
+use Rattle.dexcode.specs.Numbered.{NumberedHandler, NumberedTry, AreStored, same_handler, handlers_of, handlers_weight, no_handler, all_named}
+use Rattle.dexcode.specs.Renumbering.{catch_use, handler_uses, tries_uses, HasTypePlace, AreTypesApart, remapped_type, remapped_try, renumbered_catch, renumbered_handler, renumbered_try}
+use Rattle.dexpool.proofs.Parts.{all_parts}
+use Rattle.dexcode.proofs.Images.{distinct_map}
+use Rattle.dexcode.proofs.Listed.{below_or_not}
+use Rattle.dexcode.proofs.Whole.{formed_remapped}
+
+-- what holds of the images holds of the members
+pub all_back_map : {X Y : Type 0} (P : Y → Type 0) (f : X → Y) (xs : List X) → All P (map f xs) → All (λ x. P (f x)) xs
+all_back_map P f [] h = All-nil (λ x. P (f x))
+all_back_map P f (x ∷ xs) h = All-cons (λ x. P (f x)) x xs (All-head P (f x) (map f xs) h) (all_back_map P f xs (All-tail P (f x) (map f xs) h))
+
+-- ---- distinct members
+
+module _ {X : Type 0} (same : X → X → Bool) (decides : (x y : X) → Decides (same x y) (x ≡ y)) (P : X → Type 0) where
+  heads_by : (x y : X) (b : Bool) (zs : List X) → same x y ≡ b → P x → All P (if not b then y ∷ zs else zs) → P y
+  heads_by x y true zs e p h = subst P ((decides x y).0 e) p
+  heads_by x y false zs e p h = All-head P y zs h
+
+  tails_by : (y : X) (b : Bool) (zs : List X) → All P (if not b then y ∷ zs else zs) → All P zs
+  tails_by y true zs h = h
+  tails_by y false zs h = All-tail P y zs h
+
+  -- what holds of a member and of those that are not the same holds of all
+  all_others : (x : X) (ys : List X) → P x → All P (filter (λ y. not (same x y)) ys) → All P ys
+  all_others x [] p h = All-nil P
+  all_others x (y ∷ ys) p h =
+      let rest = filter (λ z. not (same x z)) ys in
+      All-cons P y ys (heads_by x y (same x y) rest refl p h) (all_others x ys p (tails_by y (same x y) rest h))
+
+  -- what holds of the distinct members holds of all
+  pub all_from_distinct : (xs : List X) → All P (distinct same xs) → All P xs
+  all_from_distinct [] h = All-nil P
+  all_from_distinct (x ∷ xs) h =
+      let p = All-head P x (filter (λ y. not (same x y)) (distinct same xs)) h in
+      All-cons P x xs p (all_from_distinct xs (all_others x (distinct same xs) p (All-tail P x (filter (λ y. not (same x y)) (distinct same xs)) h)))
+
+-- ---- handlers remapped
+
+-- each caught type has a place
+abbrev pub HaveTypePlaces : Maps → NumberedHandler → Type 0
+HaveTypePlaces r h = All (HasTypePlace r) (handler_uses h)
+
+-- no two types have one image
+pub types_apart : (r : Maps) → KeepOrder r → AreTypesApart r
+types_apart r keep = λ i j k e f. elim (below_or_not i j) [
+  | inl lt ↦ absurd (omega (arith, keep.types_keep i j k k lt e f))
+  | inr le ↦ elim (below_or_not j i) [ inl gt ↦ absurd (omega (arith, keep.types_keep j i k k gt f e)) | inr ge ↦ omega (arith, le, ge) ]
+]
+
+module _ (r : Maps) (apart : AreTypesApart r) where
+  one_type : (i j : ℕ) → HasTypePlace r (record { kind = kinds.Typ; number = i }) → HasTypePlace r (record { kind = kinds.Typ; number = j }) → remapped_type r i ≡ remapped_type r j → i ≡ j
+  one_type i j p q e =
+      let first : remapped_type r i ≡ p.0 = ap (λ o. unwrap_or o i) p.1 in
+      let second : remapped_type r j ≡ q.0 = ap (λ o. unwrap_or o j) q.1 in
+      apart i j p.0 p.1 (q.1 ∙ ap Some (sym second ∙ sym e ∙ first))
+
+  one_list : (cs ds : List Catch) → All (HasTypePlace r) (map catch_use cs) → All (HasTypePlace r) (map catch_use ds) → map (renumbered_catch r) cs ≡ map (renumbered_catch r) ds → cs ≡ ds
+  one_list [] [] h g e = refl
+  one_list [] (d ∷ ds) h g e = absurd cc
+  one_list (c ∷ cs) [] h g e = absurd cc
+  one_list (c ∷ cs) (d ∷ ds) h g e =
+      let heads : renumbered_catch r c ≡ renumbered_catch r d = ap (λ xs. get_or xs 0 (renumbered_catch r c)) e in
+      let tails : map (renumbered_catch r) cs ≡ map (renumbered_catch r) ds = cc in
+      let typ : c.typ ≡ d.typ = one_type c.typ d.typ (All-head (HasTypePlace r) (catch_use c) (map catch_use cs) h) (All-head (HasTypePlace r) (catch_use d) (map catch_use ds) g) (ap (λ x. x.typ) heads) in
+      let addr : c.addr ≡ d.addr = ap (λ x. x.addr) heads in
+      let rest = one_list cs ds (All-tail (HasTypePlace r) (catch_use c) (map catch_use cs) h) (All-tail (HasTypePlace r) (catch_use d) (map catch_use ds) g) tails in
+      λ i. record { typ = typ i; addr = addr i } ∷ rest i
+
+  one_handler : (h k : NumberedHandler) → HaveTypePlaces r h → HaveTypePlaces r k → renumbered_handler r h ≡ renumbered_handler r k → h ≡ k
+  one_handler h k p q e =
+      let catches = one_list h.catches k.catches p q (ap (λ x. x.catches) e) in
+      let all : h.catch_all_addr ≡ k.catch_all_addr = ap (λ x. x.catch_all_addr) e in
+      λ i. record { catches = catches i; catch_all_addr = all i }
+
+  same_remapped : (h k : NumberedHandler) → HaveTypePlaces r h → HaveTypePlaces r k → same_handler (renumbered_handler r h) (renumbered_handler r k) ≡ same_handler h k
+  same_remapped h k p q =
+      let s = handler_decides (renumbered_handler r h) (renumbered_handler r k) in
+      one_answer (same_handler (renumbered_handler r h) (renumbered_handler r k)) (same_handler h k) ((λ e. one_handler h k p q (s.0 e)), (λ e. s.1 (ap (renumbered_handler r) e))) (handler_decides h k)
+
+  handlers_map : (ts : List NumberedTry) → map (λ (t : NumberedTry). t.handler) (map (renumbered_try r) ts) ≡ map (renumbered_handler r) (map (λ (t : NumberedTry). t.handler) ts)
+  handlers_map [] = refl
+  handlers_map (t ∷ ts) = ap (λ hs. renumbered_handler r t.handler ∷ hs) (handlers_map ts)
+
+  -- the distinct handlers, once remapped, are those of the remapped tries
+  pub handlers_remapped : (ts : List NumberedTry) → All (HasTypePlace r) (tries_uses ts) → handlers_of (map (renumbered_try r) ts) ≡ map (renumbered_handler r) (handlers_of ts)
+  handlers_remapped ts all =
+      let handlers = map (λ (t : NumberedTry). t.handler) ts in
+      let each = all_from_distinct same_handler handler_decides (HaveTypePlaces r) handlers (all_parts (HasTypePlace r) handler_uses (distinct same_handler handlers) all) in
+      ap (distinct same_handler) (handlers_map ts) ∙ distinct_map same_handler same_handler (renumbered_handler r) (HaveTypePlaces r) same_remapped handlers each
+
+-- ---- as they are stored
+
+sum_remapped : (r : Maps) (hs : List NumberedHandler) → sum_by (λ (h : NumberedHandler). 10 + 8 * length h.catches) (map (renumbered_handler r) hs) ≡ sum_by (λ (h : NumberedHandler). 10 + 8 * length h.catches) hs
+sum_remapped r [] = refl
+sum_remapped r (h ∷ hs) =
+    let first = sum_by-cons (λ (h : NumberedHandler). 10 + 8 * length h.catches) (renumbered_handler r h) (map (renumbered_handler r) hs) in
+    let second = sum_by-cons (λ (h : NumberedHandler). 10 + 8 * length h.catches) h hs in
+    omega (arith, first, second, sum_remapped r hs, length-map h.catches (renumbered_catch r))
+
+weight_remapped : (r : Maps) (hs : List NumberedHandler) → handlers_weight (map (renumbered_handler r) hs) ≡ handlers_weight hs
+weight_remapped r hs = ap (λ (n : ℕ). 5 + n) (sum_remapped r hs)
+
+-- tries of remapped handlers are the remapped tries
+pub named_remapped : (r : Maps) (hs : List NumberedHandler) (ts : List Try) → All (λ t. t.handler < length hs) ts → all_named (map (renumbered_handler r) hs) ts ≡ map (renumbered_try r) (all_named hs ts)
+named_remapped r hs [] all = refl
+named_remapped r hs (t ∷ ts) all =
+    let handler = get_or-map (renumbered_handler r) hs t.handler no_handler no_handler (All-head (λ (x : Try). x.handler < length hs) t ts all) in
+    let rest = named_remapped r hs ts (All-tail (λ (x : Try). x.handler < length hs) t ts all) in
+    λ i. record { start_addr = t.start_addr; insn_count = t.insn_count; handler = handler i } ∷ rest i
+
+within_remapped : (r : Maps) (hs : List NumberedHandler) (ts : List Try) → All (λ t. t.handler < length hs) ts → All (λ t. t.handler < length (map (renumbered_handler r) hs)) ts
+within_remapped r hs ts all = subst (λ (n : ℕ). All (λ (t : Try). t.handler < n) ts) (sym (length-map hs (renumbered_handler r))) all
+
+-- stored tries are still stored once their handlers are remapped
+pub stored_remapped : (r : Maps) (hs : List NumberedHandler) (ts : List Try) → AreTypesApart r → All (HasTypePlace r) (tries_uses (all_named hs ts)) → AreStored hs ts → AreStored (map (renumbered_handler r) hs) ts
+stored_remapped r hs ts apart all are = record {
+  within = within_remapped r hs ts are.within;
+  used = ap (map (renumbered_handler r)) are.used ∙ sym (handlers_remapped r apart (all_named hs ts) all) ∙ ap handlers_of (sym (named_remapped r hs ts are.within));
+  few = are.few;
+  light = omega (arith, weight_remapped r hs, are.light);
+  formed = formed_remapped r hs (all_parts (HasTypePlace r) handler_uses hs (subst (λ ks. All (HasTypePlace r) (flat_map handler_uses ks)) (sym are.used) all)) are.formed;
+}
+
+-- tries with their handlers, remapped
+pub all_remapped : (r : Maps) (hs : List NumberedHandler) (ts : List Try) → map (renumbered_try r) (all_named hs ts) ≡ map (remapped_try r hs) ts
+all_remapped r hs [] = refl
+all_remapped r hs (t ∷ ts) = ap (λ us. remapped_try r hs t ∷ us) (all_remapped r hs ts)

@@ -1,7 +1,0 @@
-use Rattle.std.proofs.Common.{◌∷◌, [], take}
-use Rattle.std.specs.List.{FoldsTo, flat_map}
-use Rattle.dexinsn.specs.Stored.{use_at}
-use Rattle.dexinsn.proofs.numbers.visit_indices.Given as goal
-
-abbrev pub invariant-loop-index : goal.invariant-loop-index
-invariant-loop-index g l = FoldsTo g.V.Visitor.step l.initial.visitor (flat_map (λ index. use_at l.units index ∷ []) (take l.index-index l.indices)) l.visitor

@@ -1,0 +1,7 @@
+use Rattle.std.proofs.Common.{take, pos, ◌+ℤ◌}
+use Rattle.std.specs.List.{All}
+use Rattle.dexinsn.specs.internal.LongSwitches.{HasPlaces}
+use Rattle.dexinsn.proofs.start_bits.groups_right.Given as goal
+
+abbrev pub invariant-loop-group : goal.invariant-loop-group
+invariant-loop-group l = All (λ g. HasPlaces l.words (pos l.at +ℤ g.first) g.bits) (take l.group-index l.groups)

@@ -1,0 +1,17 @@
+use Rattle.std.proofs.Common.{ap, subst, sym, ◌∙◌}
+use Rattle.std.specs.List.{FoldsTo}
+use Rattle.dexinsn.specs.Units.{units_in}
+use Rattle.dexinsn.specs.Numbered.{uses_of}
+use Rattle.dexinsn.specs.Stored.{use_at}
+use Rattle.dexpool.proofs.Visits.{one_each}
+use Rattle.dexinsn.proofs.Lined.{indexed_for, uses_for}
+use Rattle.dexinsn.proofs.symbol_indices.PiecesSymbols.visit.Goals as goal
+
+pub visit_indices-requires : goal.visit_indices-requires
+visit_indices-requires g c = indexed_for (units_in c.self.inside.bytes.now) c.of_bytes-units.result c.self.inside.indices.items c.deref.result.now c.self.invariant c.of_bytes-units.ensures c.deref.ensures.value
+
+pub returns : goal.returns
+returns g c =
+    let each = one_each (use_at c.of_bytes-units.result) c.deref.result.now in
+    let uses = uses_for (units_in c.self.inside.bytes.now) c.of_bytes-units.result c.self.inside.indices.items c.deref.result.now c.self.invariant c.of_bytes-units.ensures c.deref.ensures.value in
+    subst (λ us. FoldsTo g.V.Visitor.step c.args.visitor.now us c.visit_indices.new.visitor) (each ∙ sym uses ∙ ap (λ code. uses_of code.pieces) c.self.view_is) c.visit_indices.ensures

@@ -1,0 +1,7 @@
+use Rattle.std.proofs.Common.{take}
+use Rattle.std.specs.List.{flat_map}
+use Rattle.dexinsn.specs.Fitting.{IsGreatest, short_at}
+use Rattle.dexinsn.proofs.symbol_indices.greatest_short_string.Given as goal
+
+abbrev pub invariant-loop-index : goal.invariant-loop-index
+invariant-loop-index l = IsGreatest (flat_map (short_at l.units) (take l.index-index l.indices)) l.greatest

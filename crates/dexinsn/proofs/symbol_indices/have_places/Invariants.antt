@@ -1,0 +1,7 @@
+use Rattle.std.proofs.Common.{take}
+use Rattle.std.specs.List.{All}
+use Rattle.dexinsn.specs.Stored.{HasPlaceAt}
+use Rattle.dexinsn.proofs.symbol_indices.have_places.Given as goal
+
+abbrev pub invariant-loop-index : goal.invariant-loop-index
+invariant-loop-index l = All (HasPlaceAt l.remap l.units) (take l.index-index l.indices)

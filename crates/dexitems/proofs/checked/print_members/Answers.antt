@@ -1,4 +1,0 @@
-use Rattle.dexitems.proofs.checked.print_members.Goals as goal
-
-pub check_members-requires-clause-checks : goal.check_members-requires-clause-checks
-check_members-requires-clause-checks c = λ _. c.none-checks.ensures c.args.file.now.frame c.args.file.now.pools

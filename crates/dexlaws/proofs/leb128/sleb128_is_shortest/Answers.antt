@@ -1,0 +1,5 @@
+use Rattle.dexspec.proofs.numbers.Spellings.{sleb128_is}
+use Rattle.dexlaws.proofs.leb128.sleb128_is_shortest.Goals as goal
+
+pub returns : goal.returns
+returns c = sleb128_is

@@ -1,0 +1,20 @@
+use Rattle.std.proofs.Common.{subst}
+use Rattle.dexspec.specs.Rows.{MethodRow}
+use Rattle.dexspec.specs.Files.{definitions}
+use Rattle.dexspec.specs.Canonical.{canonical}
+use Rattle.dexspec.proofs.normal.NormalRows.{method_has_row, method_ranked, only_method, has_method}
+use Rattle.dexspec.proofs.normal.NormalForm.{canonical_normal}
+use Rattle.dexlaws.proofs.normal.methods_at_ranks.Goals as goal
+
+pub returns-clause-rows : goal.returns-clause-rows
+returns-clause-rows c = λ K fits formed i x.
+    let n = canonical_normal K fits formed in (
+      (λ h. let p = only_method (definitions K) (canonical K) n i x h in record { within = p.0; there = p.1 }),
+      (λ h. subst (MethodRow (canonical K) i) h.there (method_has_row (definitions K) (canonical K) n i x h.within)),
+    )
+
+pub returns-clause-ranks : goal.returns-clause-ranks
+returns-clause-ranks c = λ K fits formed. method_ranked (definitions K) (canonical K) (canonical_normal K fits formed)
+
+pub returns-clause-holds : goal.returns-clause-holds
+returns-clause-holds c = λ K fits formed. has_method (definitions K) (canonical K) (canonical_normal K fits formed)

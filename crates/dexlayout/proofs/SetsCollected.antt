@@ -1,0 +1,222 @@
+-- The offsets of the sets of classes, collected method by method and class by class.
+use Rattle.std.proofs.Common.{◌≡◌, ℕ, ◌+◌, ◌<◌, List, [], ◌∷◌, ◌++◌, length, get_or, map, take, drop, refl, sym, ap, ◌∙◌, arith, append_assoc}
+use Rattle.std.specs.Prelude.{slice_index}
+use Rattle.std.specs.List.{flat_map}
+use Rattle.std.proofs.lemmas.List.{append-nil, length-append, length-map, map-append, take-take, drop-take, drop-drop, get_or-take, drop_more}
+use Rattle.std.proofs.lemmas.Grind.{flat_map-append}
+use Rattle.dexspec.specs.Lists.{chunks}
+use Rattle.dexspec.specs.Classes.{MethodDef, FieldDef, declared_fields, declared_methods}
+use Rattle.dexspec.specs.Mentions.{Mentions}
+use Rattle.dexspec.specs.Placing.{SetOffsets, set_offsets_of, class_sets, method_sets}
+use Rattle.dexval.specs.Numbered.{NumberedSet, set_in}
+use Rattle.dexmembers.specs.Numbered.{NumberedField, NumberedMethod, field_in, method_in, fields_of, methods_of}
+use Rattle.dexclass.specs.Numbered.{NumberedClass, definition_of}
+use Rattle.dexlayout.specs.Places.{SetPlaces}
+use Rattle.dexlayout.specs.internal.Collecting.{sets_of_method, sets_of_class, parts_of_methods, parts_of_class, parts_of_classes, collect_own, collect_method, collect_methods, collect_class, collect_classes}
+use Rattle.dexlayout.proofs.SetParts.{parts, class_count}
+
+-- ---- what has been collected
+
+-- of methods
+pub collected_methods : (p : SetPlaces) (oss : List (List ℕ)) → collect_methods p oss ≡ record {
+  own = p.own;
+  fields = p.fields;
+  methods = p.methods ++ map (λ os. slice_index os 0) oss;
+  parameters = p.parameters ++ flat_map (drop 1) oss;
+  end = p.end;
+  greatest = p.greatest;
+}
+collected_methods p [] =
+    let a = append-nil p.methods in
+    let b = append-nil p.parameters in
+    λ i. record { own = p.own; fields = p.fields; methods = sym a i; parameters = sym b i; end = p.end; greatest = p.greatest }
+collected_methods p (os ∷ oss) =
+    let a = append_assoc p.methods (slice_index os 0 ∷ []) (map (λ os. slice_index os 0) oss) in
+    let b = append_assoc p.parameters (drop 1 os) (flat_map (drop 1) oss) in
+    collected_methods (collect_method p os) oss ∙ (λ i. record { own = p.own; fields = p.fields; methods = a i; parameters = b i; end = p.end; greatest = p.greatest })
+
+-- methods after others
+pub collect_both : (p : SetPlaces) (oss pss : List (List ℕ)) → collect_methods p (oss ++ pss) ≡ collect_methods (collect_methods p oss) pss
+collect_both p [] pss = refl
+collect_both p (os ∷ oss) pss = collect_both (collect_method p os) oss pss
+
+-- of classes
+pub collected_classes : (p : SetPlaces) (ss : List SetOffsets) → collect_classes p ss ≡ record {
+  own = p.own ++ map (λ (s : SetOffsets). s.own) ss;
+  fields = p.fields ++ flat_map (λ (s : SetOffsets). s.fields) ss;
+  methods = p.methods ++ flat_map (λ (s : SetOffsets). map (λ os. slice_index os 0) s.methods) ss;
+  parameters = p.parameters ++ flat_map (λ (s : SetOffsets). flat_map (drop 1) s.methods) ss;
+  end = p.end;
+  greatest = p.greatest;
+}
+collected_classes p [] =
+    let a = append-nil p.own in
+    let b = append-nil p.fields in
+    let c = append-nil p.methods in
+    let d = append-nil p.parameters in
+    λ i. record { own = sym a i; fields = sym b i; methods = sym c i; parameters = sym d i; end = p.end; greatest = p.greatest }
+collected_classes p (s ∷ ss) =
+    let q = collect_own p s.own s.fields in
+    let a = append_assoc p.own (s.own ∷ []) (map (λ (s : SetOffsets). s.own) ss) in
+    let b = append_assoc p.fields s.fields (flat_map (λ (s : SetOffsets). s.fields) ss) in
+    let c = append_assoc p.methods (map (λ os. slice_index os 0) s.methods) (flat_map (λ (s : SetOffsets). map (λ os. slice_index os 0) s.methods) ss) in
+    let d = append_assoc p.parameters (flat_map (drop 1) s.methods) (flat_map (λ (s : SetOffsets). flat_map (drop 1) s.methods) ss) in
+    ap (λ r. collect_classes r ss) (collected_methods q s.methods)
+    ∙ collected_classes (record { own = q.own; fields = q.fields; methods = q.methods ++ map (λ os. slice_index os 0) s.methods; parameters = q.parameters ++ flat_map (drop 1) s.methods; end = q.end; greatest = q.greatest }) ss
+    ∙ (λ i. record { own = a i; fields = b i; methods = c i; parameters = d i; end = p.end; greatest = p.greatest })
+
+-- ---- the offsets that are left
+
+-- those of methods after others
+pub parts_both : (xs ys : List NumberedMethod) (offs : List ℕ) → parts_of_methods (xs ++ ys) offs ≡ parts_of_methods xs offs ++ parts_of_methods ys (drop (length (flat_map sets_of_method xs)) offs)
+parts_both [] ys offs = refl
+parts_both (x ∷ xs) ys offs =
+    let n = length (sets_of_method x) in
+    let k : drop (length (flat_map sets_of_method xs)) (drop n offs) ≡ drop (length (sets_of_method x ++ flat_map sets_of_method xs)) offs =
+    drop-drop (length (flat_map sets_of_method xs)) n offs ∙ ap (λ k. drop k offs) (sym (length-append (sets_of_method x) (flat_map sets_of_method xs))) in
+    ap (λ l. take n offs ∷ l) (parts_both xs ys (drop n offs)) ∙ ap (λ l. take n offs ∷ (parts_of_methods xs (drop n offs) ++ parts_of_methods ys l)) k
+
+module _ (xs : List NumberedMethod) (i : ℕ) (x : NumberedMethod) (lt : i < length xs) (is : get_or xs i x ≡ x) where
+  -- a method and those after it
+  next_method : drop i xs ≡ x ∷ drop (i + 1) xs
+  next_method = drop_more xs i x lt ∙ ap (λ y. y ∷ drop (i + 1) xs) is
+
+  pub next_parts : (p : SetPlaces) (offs : List ℕ) → collect_methods p (parts_of_methods (drop i xs) offs) ≡ collect_methods (collect_method p (take (length (sets_of_method x)) offs)) (parts_of_methods (drop (i + 1) xs) (drop (length (sets_of_method x)) offs))
+  next_parts p offs = ap (λ l. collect_methods p (parts_of_methods l offs)) next_method
+
+  pub next_count : length (flat_map sets_of_method (drop i xs)) ≡ length (sets_of_method x) + length (flat_map sets_of_method (drop (i + 1) xs))
+  next_count = ap (λ l. length (flat_map sets_of_method l)) next_method ∙ length-append (sets_of_method x) (flat_map sets_of_method (drop (i + 1) xs))
+
+module _ (cs : List NumberedClass) (i : ℕ) (c : NumberedClass) (lt : i < length cs) (is : get_or cs i c ≡ c) where
+  -- a class and those after it
+  next_class : drop i cs ≡ c ∷ drop (i + 1) cs
+  next_class = drop_more cs i c lt ∙ ap (λ d. d ∷ drop (i + 1) cs) is
+
+  pub next_class_parts : (p : SetPlaces) (offs : List ℕ) → collect_classes p (parts_of_classes (drop i cs) offs) ≡ collect_classes (collect_class p (parts_of_class c offs)) (parts_of_classes (drop (i + 1) cs) (drop (length (sets_of_class c)) offs))
+  next_class_parts p offs = ap (λ l. collect_classes p (parts_of_classes l offs)) next_class
+
+  pub next_class_count : length (flat_map sets_of_class (drop i cs)) ≡ length (sets_of_class c) + length (flat_map sets_of_class (drop (i + 1) cs))
+  next_class_count = ap (λ l. length (flat_map sets_of_class l)) next_class ∙ length-append (sets_of_class c) (flat_map sets_of_class (drop (i + 1) cs))
+
+-- how many sets a class has
+pub class_sets_count : (c : NumberedClass) → length (sets_of_class c) ≡ 1 + (length (fields_of c.members) + length (flat_map sets_of_method (methods_of c.members)))
+class_sets_count c =
+    let fs = map (λ (f : NumberedField). f.annotations) (fields_of c.members) in
+    omega (arith, length-append fs (flat_map sets_of_method (methods_of c.members)), length-map (fields_of c.members) (λ (f : NumberedField). f.annotations))
+
+-- the methods of a class, in two steps
+pub collected_class : (c : NumberedClass) (offs fs rest following : List ℕ) (xs ys : List NumberedMethod) (p p0 p1 p2 : SetPlaces)
+    → xs ≡ c.members.direct_methods → ys ≡ c.members.virtual_methods → fs ≡ take (length (fields_of c.members)) (drop 1 offs) → rest ≡ drop (length (fields_of c.members)) (drop 1 offs)
+    → following ≡ drop (length (flat_map sets_of_method xs)) rest
+    → p0 ≡ collect_own p (slice_index offs 0) fs → p1 ≡ collect_methods p0 (parts_of_methods xs rest) → p2 ≡ collect_methods p1 (parts_of_methods ys following) → p2 ≡ collect_class p (parts_of_class c offs)
+collected_class c offs fs rest following xs ys p p0 p1 p2 ex ey ef er eb e0 e1 e2 =
+    let own = collect_own p (slice_index offs 0) fs in
+    let first : p1 ≡ collect_methods own (parts_of_methods xs rest) = e1 ∙ ap (λ q. collect_methods q (parts_of_methods xs rest)) e0 in
+    e2 ∙ (λ i. collect_methods (first i) (parts_of_methods ys (eb i)))
+    ∙ sym (collect_both own (parts_of_methods xs rest) (parts_of_methods ys (drop (length (flat_map sets_of_method xs)) rest)))
+    ∙ ap (collect_methods own) (sym (parts_both xs ys rest))
+    ∙ (λ i. collect_methods (collect_own p (slice_index offs 0) (ef i)) (parts_of_methods (ex i ++ ey i) (er i)))
+
+-- what is left after them
+pub left_of_class : (c : NumberedClass) (offs rest following last : List ℕ) (xs ys : List NumberedMethod)
+    → xs ≡ c.members.direct_methods → ys ≡ c.members.virtual_methods → rest ≡ drop (length (fields_of c.members)) (drop 1 offs)
+    → following ≡ drop (length (flat_map sets_of_method xs)) rest → last ≡ drop (length (flat_map sets_of_method ys)) following → last ≡ drop (length (sets_of_class c)) offs
+left_of_class c offs rest following last xs ys ex ey er eb el =
+    let k = length (fields_of c.members) in
+    let a = length (flat_map sets_of_method xs) in
+    let b = length (flat_map sets_of_method ys) in
+    let mine : methods_of c.members ≡ xs ++ ys = λ i. sym ex i ++ sym ey i in
+    let counts : length (flat_map sets_of_method (methods_of c.members)) ≡ a + b =
+    ap (λ (l : List NumberedMethod). length (flat_map sets_of_method l)) mine ∙ ap (λ (l : List NumberedSet). length l) (flat_map-append sets_of_method xs ys) ∙ length-append (flat_map sets_of_method xs) (flat_map sets_of_method ys) in
+    let all : 1 + k + a + b ≡ length (sets_of_class c) = omega (arith, counts, class_sets_count c) in
+    el ∙ ap (drop b) (eb ∙ ap (drop a) (er ∙ drop-drop k 1 offs) ∙ drop-drop a (1 + k) offs) ∙ drop-drop b (1 + k + a) offs ∙ ap (λ j. drop j offs) all
+
+-- ---- they are those of the file
+
+-- what a list is cut into does not hang on what follows
+chunks_prefix : {X Y : Type 0} (f : X → List Y) (xs : List X) (zs : List ℕ) → chunks (map (λ x. length (f x)) xs) (take (length (flat_map f xs)) zs) ≡ chunks (map (λ x. length (f x)) xs) zs
+chunks_prefix f [] zs = refl
+chunks_prefix f (x ∷ xs) zs =
+    let n = length (f x) in
+    let r = length (flat_map f xs) in
+    let all : length (f x ++ flat_map f xs) ≡ n + r = length-append (f x) (flat_map f xs) in
+    let ns = map (λ x. length (f x)) xs in
+    let here : take n (take (length (f x ++ flat_map f xs)) zs) ≡ take n zs = take-take n (length (f x ++ flat_map f xs)) zs (omega (arith, all)) in
+    let following : drop n (take (length (f x ++ flat_map f xs)) zs) ≡ take r (drop n zs) = ap (λ k. drop n (take k zs)) all ∙ drop-take n r zs in
+    let rest = ap (chunks ns) following ∙ chunks_prefix f xs (drop n zs) in
+    λ i. here i ∷ rest i
+
+module _ (m : Mentions) where
+  -- the fields of a class
+  pub fields_count : (c : NumberedClass) → length (declared_fields (definition_of m c).1) ≡ length (fields_of c.members)
+  fields_count c =
+      ap (λ (l : List FieldDef). length l) (sym (map-append (field_in m) c.members.static_fields c.members.instance_fields)) ∙ length-map (fields_of c.members) (field_in m)
+
+  -- its methods
+  pub methods_are : (c : NumberedClass) → declared_methods (definition_of m c).1 ≡ map (method_in m) (methods_of c.members)
+  methods_are c = sym (map-append (method_in m) c.members.direct_methods c.members.virtual_methods)
+
+  -- the sets of a method
+  method_count : (x : NumberedMethod) → length (method_sets (method_in m x)) ≡ length (sets_of_method x)
+  method_count x = length-map (sets_of_method x) (set_in m)
+
+  method_counts : (xs : List NumberedMethod) → map (λ x. length (method_sets x)) (map (method_in m) xs) ≡ map (λ x. length (sets_of_method x)) xs
+  method_counts [] = refl
+  method_counts (x ∷ xs) = let here = method_count x in let rest = method_counts xs in λ i. here i ∷ rest i
+
+  methods_count : (xs : List NumberedMethod) → length (flat_map method_sets (map (method_in m) xs)) ≡ length (flat_map sets_of_method xs)
+  methods_count [] = refl
+  methods_count (x ∷ xs) =
+      omega (
+        arith,
+        length-append (method_sets (method_in m x)) (flat_map method_sets (map (method_in m) xs)),
+        length-append (sets_of_method x) (flat_map sets_of_method xs),
+        method_count x,
+        methods_count xs,
+      )
+
+  -- the sets of a class
+  pub class_is_long : (c : NumberedClass) → length (class_sets (definition_of m c)) ≡ length (sets_of_class c)
+  class_is_long c =
+      let methods : length (flat_map method_sets (declared_methods (definition_of m c).1)) ≡ length (flat_map sets_of_method (methods_of c.members)) =
+      ap (λ (l : List MethodDef). length (flat_map method_sets l)) (methods_are c) ∙ methods_count (methods_of c.members) in
+      omega (arith, class_count (definition_of m c), class_sets_count c, fields_count c, methods)
+
+  pub classes_are_long : (cs : List NumberedClass) → length (flat_map class_sets (map (definition_of m) cs)) ≡ length (flat_map sets_of_class cs)
+  classes_are_long [] = refl
+  classes_are_long (c ∷ cs) =
+      omega (
+        arith,
+        length-append (class_sets (definition_of m c)) (flat_map class_sets (map (definition_of m) cs)),
+        length-append (sets_of_class c) (flat_map sets_of_class cs),
+        class_is_long c,
+        classes_are_long cs,
+      )
+
+  -- the offsets of the sets of a class
+  class_parts : (c : NumberedClass) (offs : List ℕ) → set_offsets_of (definition_of m c) (take (length (class_sets (definition_of m c))) offs) ≡ parts_of_class c offs
+  class_parts c offs =
+      let d = definition_of m c in
+      let n = length (class_sets d) in
+      let k = length (fields_of c.members) in
+      let kd = length (declared_fields d.1) in
+      let xs = methods_of c.members in
+      let q = length (flat_map method_sets (declared_methods d.1)) in
+      let all : n ≡ 1 + (kd + q) = class_count d in
+      let own : slice_index (take n offs) 0 ≡ slice_index offs 0 = get_or-take n offs 0 0 (omega (arith, all)) in
+      let following : drop 1 (take n offs) ≡ take (kd + q) (drop 1 offs) = ap (λ j. drop 1 (take j offs)) all ∙ drop-take 1 (kd + q) offs in
+      let fields : take kd (drop 1 (take n offs)) ≡ take k (drop 1 offs) = ap (take kd) following ∙ take-take kd (kd + q) (drop 1 offs) (omega arith) ∙ ap (λ j. take j (drop 1 offs)) (fields_count c) in
+      let rest : drop (1 + kd) (take n offs) ≡ take q (drop (1 + kd) offs) = ap (λ j. drop (1 + kd) (take j offs)) (all ∙ omega arith) ∙ drop-take (1 + kd) q offs in
+      let there : drop (1 + kd) offs ≡ drop k (drop 1 offs) = ap (λ j. drop (1 + j) offs) (fields_count c) ∙ sym (drop-drop k 1 offs) in
+      let counts : map (λ x. length (method_sets x)) (declared_methods d.1) ≡ map (λ x. length (sets_of_method x)) xs = ap (map (λ x. length (method_sets x))) (methods_are c) ∙ method_counts xs in
+      let methods : chunks (map (λ x. length (method_sets x)) (declared_methods d.1)) (drop (1 + kd) (take n offs)) ≡ parts_of_methods xs (drop k (drop 1 offs)) =
+      ap (chunks (map (λ x. length (method_sets x)) (declared_methods d.1))) rest ∙ chunks_prefix method_sets (declared_methods d.1) (drop (1 + kd) offs) ∙ (λ i. chunks (counts i) (there i)) in
+      λ i. record { own = own i; fields = fields i; methods = methods i }
+
+  -- of all classes
+  pub classes_parts : (cs : List NumberedClass) (offs : List ℕ) → parts (map (definition_of m) cs) offs ≡ parts_of_classes cs offs
+  classes_parts [] offs = refl
+  classes_parts (c ∷ cs) offs =
+      let here = class_parts c offs in
+      let rest = ap (λ k. parts (map (definition_of m) cs) (drop k offs)) (class_is_long c) ∙ classes_parts cs (drop (length (sets_of_class c)) offs) in
+      λ i. here i ∷ rest i

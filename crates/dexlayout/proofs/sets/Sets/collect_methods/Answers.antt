@@ -1,0 +1,39 @@
+use Rattle.std.proofs.Common.{◌≡◌, ℕ, ◌+◌, ◌<◌, List, length, take, drop, sym, ap, ◌∙◌, arith}
+use Rattle.std.proofs.lemmas.List.{length-drop, drop-drop}
+use Rattle.std.specs.List.{flat_map}
+use Rattle.dexval.specs.Numbered.{NumberedSet}
+use Rattle.dexlayout.specs.internal.Collecting.{sets_of_method, parts_of_methods, collect_method, collect_methods}
+use Rattle.dexlayout.proofs.SetsCollected.{next_parts, next_count}
+use Rattle.dexlayout.proofs.sets.Sets.collect_methods.Goals as goal
+
+pub split_at-requires : goal.split_at-requires
+split_at-requires c =
+    let many : c.len.result ≡ length c.get.result.parameter_annotations = c.len.ensures ∙ ap (λ (l : List NumberedSet). length l) c.parameter_annotations-parameters.ensures in
+    omega (arith, many, next_count c.args.methods.now c.loop-i.i c.get.result (omega (arith, c.loop-i-test.true, c.len-i-end.ensures)) (sym c.get.ensures), c.loop-i.invariant.enough)
+
+pub collect_method-requires : goal.collect_method-requires
+collect_method-requires c = omega (arith, c.split_at.ensures.front_len)
+
+pub loop-i-preserved : goal.loop-i-preserved
+loop-i-preserved c =
+    let xs = c.args.methods.now in
+    let i = c.loop-i.i in
+    let x = c.get.result in
+    let rest = c.loop-i.rest.now in
+    let lt : i < length xs = omega (arith, c.loop-i-test.true, c.len-i-end.ensures) in
+    let is = sym c.get.ensures in
+    let n = length (sets_of_method x) in
+    let more = drop (i + 1) xs in
+    let k = length (flat_map sets_of_method more) in
+    let h = c.loop-i.invariant in
+    let many : c.len.result ≡ length x.parameter_annotations = c.len.ensures ∙ ap (λ (l : List NumberedSet). length l) c.parameter_annotations-parameters.ensures in
+    let count : 1 + c.len.result ≡ n = omega (arith, many) in
+    let front : c.split_at.result.0.now ≡ take n rest = c.split_at.ensures.front ∙ ap (λ j. take j rest) count in
+    let back : c.split_at.result.1.now ≡ drop n rest = c.split_at.ensures.back ∙ ap (λ j. drop j rest) count in
+    let self : c.collect_method.new.self ≡ collect_method c.loop-i.self (take n rest) = c.in_ok-collect_method.ensures ∙ ap (collect_method c.loop-i.self) front in
+    let counts : n + k ≡ length (flat_map sets_of_method (drop i xs)) = sym (next_count xs i x lt is) in
+    record {
+      collected = (λ j. collect_methods (self j) (parts_of_methods more (back j))) ∙ sym (next_parts xs i x lt is c.loop-i.self rest) ∙ h.collected;
+      left = ap (drop k) back ∙ drop-drop k n rest ∙ ap (λ j. drop j rest) counts ∙ h.left;
+      enough = omega (arith, ap (λ (l : List ℕ). length l) back, length-drop n rest, counts, h.enough);
+    }

@@ -1,0 +1,78 @@
+-- The sets of classes and their lists, class by class and method by method: their offsets and lengths.
+use Rattle.std.specs.Prelude.{ℕ, ◌+◌, ◌*◌, ◌==◌, if◌then◌else◌, List, [], ◌∷◌, ◌++◌, length, map, take, drop, slice_index, Option, Some, None}
+use Rattle.std.specs.List.{flat_map}
+use Rattle.dexspec.specs.Lists.{chunks}
+use Rattle.dexspec.specs.Placing.{SetOffsets}
+use Rattle.dexval.specs.Numbered.{NumberedSet}
+use Rattle.dexmembers.specs.Numbered.{NumberedMethod, fields_of, methods_of}
+use Rattle.dexclass.specs.Numbered.{NumberedClass}
+use Rattle.dexlayout.specs.Places.{SetPlaces}
+
+-- ---- lists of sets of parameters
+
+-- how many bytes a list of `n` sets has, unless it is empty
+abbrev pub list_size : ℕ → Option ℕ
+list_size n = if n == 0 then None else Some (4 + 4 * n)
+
+-- how many those of methods have
+abbrev pub list_sizes : List NumberedMethod → List (Option ℕ)
+list_sizes xs = map (λ x. list_size (length x.parameter_annotations)) xs
+
+-- how many those of classes have
+abbrev pub class_list_sizes : List NumberedClass → List (Option ℕ)
+class_list_sizes cs = flat_map (λ c. list_sizes (methods_of c.members)) cs
+
+-- ---- sets
+
+-- the sets of a method: its own, and those of its parameters
+abbrev pub sets_of_method : NumberedMethod → List NumberedSet
+sets_of_method x = x.annotations ∷ x.parameter_annotations
+
+-- those of a class: its own, those of its fields, those of its methods
+abbrev pub sets_of_class : NumberedClass → List NumberedSet
+sets_of_class c = c.members.annotations ∷ (map (λ f. f.annotations) (fields_of c.members) ++ flat_map sets_of_method (methods_of c.members))
+
+-- the offsets of the sets of methods, method by method
+abbrev pub parts_of_methods : List NumberedMethod → List ℕ → List (List ℕ)
+parts_of_methods xs offs = chunks (map (λ x. length (sets_of_method x)) xs) offs
+
+-- the offsets of the sets of a class, split into its own, its fields' and its methods', whatever follows them
+abbrev pub parts_of_class : NumberedClass → List ℕ → SetOffsets
+parts_of_class c offs = record {
+  own = slice_index offs 0;
+  fields = take (length (fields_of c.members)) (drop 1 offs);
+  methods = parts_of_methods (methods_of c.members) (drop (length (fields_of c.members)) (drop 1 offs));
+}
+
+-- those of classes
+abbrev pub parts_of_classes : List NumberedClass → List ℕ → List SetOffsets
+parts_of_classes [] offs = []
+parts_of_classes (c ∷ cs) offs = parts_of_class c offs ∷ parts_of_classes cs (drop (length (sets_of_class c)) offs)
+
+-- the offsets of one method more
+abbrev pub collect_method : SetPlaces → List ℕ → SetPlaces
+collect_method p os = record { own = p.own; fields = p.fields; methods = p.methods ++ slice_index os 0 ∷ []; parameters = p.parameters ++ drop 1 os; end = p.end; greatest = p.greatest }
+
+-- of more methods
+abbrev pub collect_methods : SetPlaces → List (List ℕ) → SetPlaces
+collect_methods p [] = p
+collect_methods p (os ∷ oss) = collect_methods (collect_method p os) oss
+
+-- the offsets of a class's own set and of those of its fields
+abbrev pub collect_own : SetPlaces → ℕ → List ℕ → SetPlaces
+collect_own p own fields = record { own = p.own ++ own ∷ []; fields = p.fields ++ fields; methods = p.methods; parameters = p.parameters; end = p.end; greatest = p.greatest }
+
+-- of one class more
+abbrev pub collect_class : SetPlaces → SetOffsets → SetPlaces
+collect_class p s = collect_methods (collect_own p s.own s.fields) s.methods
+
+-- of more classes
+abbrev pub collect_classes : SetPlaces → List SetOffsets → SetPlaces
+collect_classes p [] = p
+collect_classes p (s ∷ ss) = collect_classes (collect_class p s) ss
+
+-- ---- sets that are written
+
+-- how many bytes a set has, whatever the offsets of its annotations
+abbrev pub set_len : NumberedSet → ℕ
+set_len s = 4 + 4 * length s

@@ -1,0 +1,159 @@
+//! Members of class data as they are encoded, one by one.
+
+ghost use Rattle.std.specs.Prelude.{◌≡◌, ◌↔◌, ◌^◌, ◌<◌, ◌≤◌, ◌+◌, ℕ, List, Option, Some, length, IsTrue, IfSome, IfNone, MatchOption};
+ghost use Rattle.dexspec.specs.Mentions.{Mentions};
+ghost use Rattle.dexspec.specs.ClassData.{IsNextIndex};
+ghost use Rattle.dexmembers.specs.internal.EncodedMembers.{IsOwnField, IsOwnMethod, HeadAt, FieldAt, MethodAt};
+
+use crate::class_data::{EncodedField, EncodedMethod};
+use dexleb::read_u;
+use dexpool::{Pools, SymbolKind};
+
+/// A class whose members are read: its number among the types of the pools.
+#[derive(Clone, Copy)]
+pub(crate) struct Owner<'p, 'a> {
+    pub(crate) pools: &'p Pools<'a>,
+    pub(crate) class: u32,
+}
+
+/// A member of a list of class data.
+pub(crate) trait Encoded: Copy {
+    // The index of the member.
+    ghost index_of: { Self → ℕ };
+
+    // A member of a class is at an offset of the bytes, after an index, if there is one, and has this many bytes.
+    ghost encodes: { Mentions → ℕ → List ℕ → ℕ → Option ℕ → Self → ℕ → Type 0 };
+
+    /// The index of the member.
+    fn index(&self) -> u32
+        ensures { result ≡ index_of self.now };
+
+    /// Reads the member at an offset, after a member with the index `last`, if there is one. Returns it with the number
+    /// of bytes that encode it, or `None` if there is no member of the class.
+    fn read(
+        owner: Owner<'_, '_>,
+        bytes: &[u8],
+        at: usize,
+        last: Option<u32>,
+    ) -> Option<(Self, usize)>
+        requires { at ≤ length bytes.now }
+        ensures none { IfNone result ((x : Self) (n : ℕ) → encodes owner.entry.pools.now owner.entry.class bytes.now at last x n → ⊥) }
+        ensures some { IfSome result (λ x. encodes owner.entry.pools.now owner.entry.class bytes.now at last x.0 x.1) }
+        ensures within { IfSome result (λ x. at + x.1 ≤ length bytes.now) };
+
+    // There is at most one member at an offset, it has one size, and its index is above the one before it.
+    fn law()
+        ensures one { (m : Mentions) (class : ℕ) (b : List ℕ) (o : ℕ) (last : Option ℕ) (x y : Self) (n k : ℕ) → encodes m class b o last x n → encodes m class b o last y k → (x ≡ y) × (n ≡ k) }
+        ensures follows { (m : Mentions) (class : ℕ) (b : List ℕ) (o i : ℕ) (x : Self) (n : ℕ) → encodes m class b o (Some i) x n → i < index_of x };
+}
+
+impl Encoded for EncodedField {
+    ghost index_of = { λ f. f.index };
+
+    ghost encodes = { FieldAt };
+
+    fn index(&self) -> u32 {
+        self.index
+    }
+
+    fn law() {}
+
+    fn read(
+        owner: Owner<'_, '_>,
+        bytes: &[u8],
+        at: usize,
+        last: Option<u32>,
+    ) -> Option<(EncodedField, usize)> {
+        let (index, flags, size) = head_at(bytes, at, last)?;
+        if !owner.has_field(index) {
+            return None;
+        }
+        Some((EncodedField { index, flags }, size))
+    }
+}
+
+impl Encoded for EncodedMethod {
+    ghost index_of = { λ x. x.index };
+
+    ghost encodes = { MethodAt };
+
+    fn index(&self) -> u32 {
+        self.index
+    }
+
+    fn law() {}
+
+    fn read(
+        owner: Owner<'_, '_>,
+        bytes: &[u8],
+        at: usize,
+        last: Option<u32>,
+    ) -> Option<(EncodedMethod, usize)> {
+        let (index, flags, head_size) = head_at(bytes, at, last)?;
+        if !owner.has_method(index) {
+            return None;
+        }
+        let (code_off, code_size) = match read_u(bytes, at + head_size) {
+            Ok(read) => read,
+            Err(_) => return None,
+        };
+        let method = EncodedMethod {
+            index,
+            flags,
+            code_off,
+        };
+        Some((method, head_size + code_size))
+    }
+}
+
+// Reads the index of a member, after one with the index `last`, if there is one, and its access flags. Returns them
+// with the number of bytes that encode both.
+fn head_at(bytes: &[u8], at: usize, last: Option<u32>) -> Option<(u32, u32, usize)>
+    requires { at ≤ length bytes.now }
+    ensures some { IfSome result (λ x. HeadAt bytes.now at last x.0 x.1 x.2) }
+    ensures only { (index flags size : ℕ) → index < 2 ^ 32 → HeadAt bytes.now at last index flags size → result ≡ Some (index, flags, size) }
+    ensures within { IfSome result (λ x. at + x.2 ≤ length bytes.now) }
+{
+    let (difference, index_size) = match read_u(bytes, at) {
+        Ok(read) => read,
+        Err(_) => return None,
+    };
+    let index = next_index(last, difference)?;
+    let (flags, flags_size) = match read_u(bytes, at + index_size) {
+        Ok(read) => read,
+        Err(_) => return None,
+    };
+    Some((index, flags, index_size + flags_size))
+}
+
+// Returns the index after another one, or `None` where the difference is 0, or the index has more than 32 bits. The
+// first index is the difference itself.
+fn next_index(last: Option<u32>, difference: u32) -> Option<u32>
+    ensures { MatchOption result ((i : ℕ) → i < 2 ^ 32 → IsNextIndex last difference i → ⊥) (IsNextIndex last difference) }
+{
+    match last {
+        None => Some(difference),
+        Some(_) if difference == 0 => None,
+        Some(index) => index.checked_add(difference),
+    }
+}
+
+impl<'p, 'a> Owner<'p, 'a> {
+    // Returns whether the index is that of a field of the class.
+    fn has_field(&self, index: u32) -> bool
+        ensures { IsTrue result ↔ IsOwnField self.now.pools.now self.now.class index }
+    {
+        self.pools.numbering().is_numbering();
+        (index as usize) < self.pools.len(SymbolKind::Field)
+            && self.pools.field(index).class == self.class as usize
+    }
+
+    // Returns whether the index is that of a method of the class.
+    fn has_method(&self, index: u32) -> bool
+        ensures { IsTrue result ↔ IsOwnMethod self.now.pools.now self.now.class index }
+    {
+        self.pools.numbering().is_numbering();
+        (index as usize) < self.pools.len(SymbolKind::Method)
+            && self.pools.method(index).class == self.class as usize
+    }
+}

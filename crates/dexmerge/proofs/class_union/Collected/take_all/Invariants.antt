@@ -1,0 +1,14 @@
+use Rattle.std.specs.Prelude.{◌≡◌, ◌++◌, List, length, map}
+use Rattle.dexspec.specs.Classes.{Definition}
+use Rattle.dexspec.specs.Files.{definitions}
+use Rattle.dexspec.specs.Mentions.{Mentions, mentions}
+use Rattle.dexclass.specs.Numbered.{definition_of}
+use Rattle.dexmerge.specs.internal.Collecting.{IsPartOf, AreCollected}
+use Rattle.dexmerge.proofs.class_union.Collected.take_all.Given as goal
+
+abbrev pub invariant-loop-class : goal.invariant-loop-class
+invariant-loop-class l = record {
+  count : length l.self.is_name.items ≡ length l.fn.self.is_name.items;
+  collected : (m : Mentions) (D : List Definition) → IsPartOf m l.fn.part l.remap → AreCollected m D l.fn.self.classes.items l.fn.self.is_name.items
+      → AreCollected m (D ++ map (definition_of (mentions (definitions l.fn.part))) l.yielded) l.self.classes.items l.self.is_name.items;
+}

@@ -1,0 +1,44 @@
+use Rattle.std.proofs.Common.{◌≡◌, ◌<◌, ◌∙◌, ◌++◌, ◌∷◌, [], List, length, get_or, take, sym, ap, subst, arith}
+use Rattle.std.specs.List.{flat_map}
+use Rattle.std.proofs.lemmas.List.{length-append, take_all}
+use Rattle.std.proofs.lemmas.Iterator.Adapters.{YieldsList-from_vec}
+use Rattle.std.proofs.lemmas.Iterator.Consumers.{YieldsList-turn, YieldsList-end}
+use Rattle.dexspec.specs.Files.{Collection, definitions}
+use Rattle.dexmerge.specs.internal.Collecting.{AreCollected}
+use Rattle.dexmerge.proofs.Collected.{part_is, more_parts}
+use Rattle.dexmerge.proofs.class_union.Collected.take_parts.Goals as goal
+
+pub bounds-remaps-i : goal.bounds-remaps-i
+bounds-remaps-i c =
+    let Ks : List Collection = c.args.parts.items in
+    let t = YieldsList-turn (YieldsList-from_vec {s = c.into_iter-part-iterator.result} Ks c.into_iter-part-iterator.ensures.into_iter_gives.0 (omega (arith, c.into_iter-part-iterator.ensures.into_iter_gives.1))) c.loop-part.yielded c.loop-part.part-iterator c.loop-part.yielded_by c.next.result c.next.new.self c.in-Some.part c.in-Some.is c.next.ensures.steps in
+    omega (arith, t.0, c.loop-part.invariant.place, c.requires.1.count)
+
+pub take_all-requires : goal.take_all-requires
+take_all-requires c =
+    let Ks : List Collection = c.args.parts.items in
+    let K = c.in-Some.part in
+    let t = YieldsList-turn (YieldsList-from_vec {s = c.into_iter-part-iterator.result} Ks c.into_iter-part-iterator.ensures.into_iter_gives.0 (omega (arith, c.into_iter-part-iterator.ensures.into_iter_gives.1))) c.loop-part.yielded c.loop-part.part-iterator c.loop-part.yielded_by c.next.result c.next.new.self K c.in-Some.is c.next.ensures.steps in
+    let few : c.loop-part.i < length Ks = omega (arith, t.0, c.loop-part.invariant.place) in
+    let at : K ≡ get_or Ks c.loop-part.i K = t.1 ∙ ap (λ n. get_or Ks n K) (sym c.loop-part.invariant.place) in
+    (c.requires.0, part_is c.requires.0 Ks c.args.remaps.now c.loop-part.i K c.index-remaps-i.result c.requires.1 few at c.index-remaps-i.is, c.loop-part.invariant.count ∙ c.requires.2)
+
+pub loop-part-preserved : goal.loop-part-preserved
+loop-part-preserved c =
+    let Ks : List Collection = c.args.parts.items in
+    let K = c.in-Some.part in
+    let t = YieldsList-turn (YieldsList-from_vec {s = c.into_iter-part-iterator.result} Ks c.into_iter-part-iterator.ensures.into_iter_gives.0 (omega (arith, c.into_iter-part-iterator.ensures.into_iter_gives.1))) c.loop-part.yielded c.loop-part.part-iterator c.loop-part.yielded_by c.next.result c.next.new.self K c.in-Some.is c.next.ensures.steps in
+    let few : c.loop-part.i < length Ks = omega (arith, t.0, c.loop-part.invariant.place) in
+    let at : K ≡ get_or Ks c.loop-part.i K = t.1 ∙ ap (λ n. get_or Ks n K) (sym c.loop-part.invariant.place) in
+    record {
+      place = omega (arith, c.loop-part.invariant.place, length-append c.loop-part.yielded (K ∷ []));
+      count = c.in_ok-take_all.ensures.count ∙ c.loop-part.invariant.count;
+      collected = λ m D all h. more_parts m D Ks c.loop-part.i K c.take_all.new.self.classes.items c.take_all.new.self.is_name.items few at
+          (c.in_ok-take_all.ensures.collected m (D ++ flat_map definitions (take c.loop-part.i Ks)) (part_is m Ks c.args.remaps.now c.loop-part.i K c.index-remaps-i.result all few at c.index-remaps-i.is) (c.loop-part.invariant.collected m D all h));
+    }
+
+pub returns-clause-collected : goal.returns-clause-collected
+returns-clause-collected c = λ m D all h.
+    let Ks : List Collection = c.args.parts.items in
+    let t = YieldsList-end (YieldsList-from_vec {s = c.into_iter-part-iterator.result} Ks c.into_iter-part-iterator.ensures.into_iter_gives.0 (omega (arith, c.into_iter-part-iterator.ensures.into_iter_gives.1))) c.loop-part.yielded c.loop-part.part-iterator c.loop-part.yielded_by c.next.result c.next.new.self c.in-None.is c.next.ensures.steps in
+    subst (λ (l : List Collection). AreCollected m (D ++ flat_map definitions l) c.loop-part.self.classes.items c.loop-part.self.is_name.items) (take_all c.loop-part.i Ks (omega (arith, t.1, c.loop-part.invariant.place))) (c.loop-part.invariant.collected m D all h)

@@ -1,6 +1,0 @@
-use Rattle.dexmerge.specs.Candidates.{classes_of}
-use Rattle.dexmerge.proofs.Unlike.{IsLeastTo}
-use Rattle.dexmerge.proofs.copies.least_unlike.Given as goal
-
-abbrev pub invariant-loop-i : goal.invariant-loop-i
-invariant-loop-i l = IsLeastTo (classes_of l.candidates) l.places l.i l.least

@@ -1,9 +1,0 @@
-use Rattle.std.proofs.Common.{List, [], sym, subst}
-use Rattle.dexclass.specs.Numbered.{NumberedClass}
-use Rattle.dexmerge.specs.internal.Gathering.{AreGathered}
-use Rattle.dexmerge.proofs.Gathered.{none_gathered}
-use Rattle.dexmerge.proofs.gathering.Gathered.none.Goals as goal
-
-pub returns : goal.returns
-returns c = λ m count. subst (λ (l : List NumberedClass). AreGathered m [] l c.in_ok-is_name.is_name.items) (sym c.new.ensures.items)
-    (none_gathered m c.args.types c.in_ok-is_name.is_name.items count (c.in_ok-is_name.ensures.items_if_clones_equal (λ y e. e)))

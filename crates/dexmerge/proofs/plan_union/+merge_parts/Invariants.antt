@@ -1,0 +1,9 @@
+use Rattle.std.specs.Prelude.{map, take}
+use Rattle.std.specs.List.{flat_map}
+use Rattle.dexspec.specs.Files.{definitions, AreSame}
+use Rattle.dexmerge.specs.Plans.{plan_of}
+use Rattle.dexmerge.specs.internal.Parts.{nodes_in, of_plans}
+use Rattle.dexmerge.proofs.plan_union.+merge_parts.Given as goal
+
+abbrev pub invariant-loop-part : goal.invariant-loop-part
+invariant-loop-part l = AreSame (flat_map definitions l.inner.items) (of_plans l.files (nodes_in (map plan_of (take l.part-index l.part-items))))

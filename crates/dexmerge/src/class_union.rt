@@ -1,0 +1,176 @@
+//! One class of each name of a union: moved from the parts that are owned, copied from those that are borrowed.
+
+ghost use Rattle.std.specs.Prelude.{◌≡◌, ◌++◌, ◌∷◌, [], ◌<◌, true, false, List, IfOk, OnOk, length, map, slice_index_or, slice_set};
+ghost use Rattle.std.specs.List.{Contains, flat_map};
+ghost use Rattle.dexspec.specs.Classes.{Definition};
+ghost use Rattle.dexspec.specs.Files.{Collection, definitions};
+ghost use Rattle.dexspec.specs.Mentions.{Mentions, mentions};
+ghost use Rattle.dexspec.specs.Merging.{greatest_caps};
+ghost use Rattle.dexpool.specs.Numberings.{Maps};
+ghost use Rattle.dexclass.specs.Numbered.{NumberedClass, definition_of};
+ghost use Rattle.dexclass.specs.Renumbering.{ClassHasPlaces, remapped, renumbered};
+ghost use Rattle.dexclass.specs.Uses.{IsKnownClass};
+ghost use Rattle.dexmerge.specs.internal.Unions.{IsChecked};
+ghost use Rattle.dexmerge.specs.internal.Collecting.{AreCollected, AreOneOfEach, ArePartsOf, IsAdded, IsPartOf};
+
+use dexclass::{Class, Program, renumbering_law};
+use dexinsn::joined_places_law;
+use dexmembers::members_joined_law;
+use dexpool::{Remap, SymbolKind};
+use std::alloc::{AllocError, Global};
+
+/// Classes of a union, one of each name.
+#[derive(Drop)]
+struct Collected<'a> {
+    classes: Vec<Class<'a>>,
+    /// For each type of the union whether a class has it as its name.
+    is_name: Vec<bool>,
+}
+
+// In a part of a union that is good each number in what a class declares maps to one that fits its place. It does
+// nothing: its contract is the law, for the calls that remap classes.
+fn places_law()
+    ensures { (m : Mentions) (K : Collection) (r : Maps) (c : NumberedClass) → IsPartOf m K r → IsKnownClass (mentions (definitions K)) c → Contains (definitions K) (definition_of (mentions (definitions K)) c) → ClassHasPlaces r c }
+{
+    renumbering_law();
+    joined_places_law();
+    members_joined_law();
+}
+
+impl<'a> Collected<'a> {
+    // No class yet.
+    fn none(alloc: Global, types: usize) -> Result<Collected<'a>, AllocError>
+        ensures { IfOk result (λ collected. (m : Mentions) → length m.types ≡ types → AreCollected m [] collected.classes.items collected.is_name.items) }
+    {
+        let is_name = vec![in alloc; false; types]?;
+        Ok(Collected {
+            classes: Vec::new(alloc),
+            is_name,
+        })
+    }
+
+    // Whether there is a class of the name that a class has in the union.
+    fn has_name_of(&self, class: &Class<'a>, remap: &Remap) -> bool
+        ensures { result ≡ slice_index_or self.now.is_name.items (remapped remap.now.types class.now.name) false }
+    {
+        let name = match remap.image(SymbolKind::Typ, class.name()) {
+            Some(image) => image,
+            None => class.name(),
+        };
+        name < self.is_name.len() && self.is_name[name]
+    }
+
+    // Adds a class of a part, with its numbers remapped.
+    fn push(&mut self, mut class: Class<'a>, remap: &Remap) -> Result<(), AllocError>
+        requires places { ClassHasPlaces remap.now class }
+        requires name { remapped remap.now.types class.name < length self.old.is_name.items }
+        ensures classes { OnOk result (self.new.classes.items ≡ self.old.classes.items ++ renumbered remap.now class.entry ∷ []) }
+        ensures names { OnOk result (self.new.is_name.items ≡ slice_set self.old.is_name.items (remapped remap.now.types class.entry.name) true) }
+    {
+        class.renumber(remap);
+        self.is_name[class.name()] = true;
+        self.classes.push(class)?;
+        Ok(())
+    }
+
+    // Adds a class of a part, with its numbers remapped, unless there is one of its name.
+    fn take(&mut self, class: Class<'a>, remap: &Remap) -> Result<(), AllocError>
+        requires places { ClassHasPlaces remap.now class }
+        requires name { remapped remap.now.types class.name < length self.old.is_name.items }
+        ensures count { OnOk result (length self.new.is_name.items ≡ length self.old.is_name.items) }
+        ensures added { OnOk result (IsAdded (renumbered remap.now class.entry) self.old self.new) }
+    {
+        if !self.has_name_of(&class, remap) {
+            self.push(class, remap)?;
+        }
+        Ok(())
+    }
+
+    // Adds a copy of a class of a part, with its numbers remapped, unless there is one of its name.
+    fn copy(&mut self, class: &Class<'a>, remap: &Remap) -> Result<(), AllocError>
+        requires places { ClassHasPlaces remap.now class.now }
+        requires name { remapped remap.now.types class.now.name < length self.old.is_name.items }
+        ensures count { OnOk result (length self.new.is_name.items ≡ length self.old.is_name.items) }
+        ensures added { OnOk result (IsAdded (renumbered remap.now class.now) self.old self.new) }
+    {
+        if !self.has_name_of(class, remap) {
+            self.push(class.copy()?, remap)?;
+        }
+        Ok(())
+    }
+
+    // Adds the classes of a part whose names are not there yet. They are moved.
+    fn take_all(&mut self, part: Program<'a>, remap: &Remap) -> Result<(), AllocError>
+        requires { (m : Mentions) × IsPartOf m part remap.now × (length self.old.is_name.items ≡ length m.types) }
+        ensures count { OnOk result (length self.new.is_name.items ≡ length self.old.is_name.items) }
+        ensures collected { OnOk result ((m : Mentions) (D : List Definition) → IsPartOf m part.entry remap.now → AreCollected m D self.old.classes.items self.old.is_name.items → AreCollected m (D ++ definitions part.entry) self.new.classes.items self.new.is_name.items) }
+    {
+        renumbering_law();
+        places_law();
+        part.is_good();
+        for class in part.into_classes() {
+            self.take(class, remap)?;
+        }
+        Ok(())
+    }
+
+    // Adds copies of the classes of a part whose names are not there yet.
+    fn copy_all(&mut self, part: &Program<'a>, remap: &Remap) -> Result<(), AllocError>
+        requires { (m : Mentions) × IsPartOf m part.now remap.now × (length self.old.is_name.items ≡ length m.types) }
+        ensures count { OnOk result (length self.new.is_name.items ≡ length self.old.is_name.items) }
+        ensures collected { OnOk result ((m : Mentions) (D : List Definition) → IsPartOf m part.now remap.now → AreCollected m D self.old.classes.items self.old.is_name.items → AreCollected m (D ++ definitions part.now) self.new.classes.items self.new.is_name.items) }
+    {
+        renumbering_law();
+        places_law();
+        part.is_good();
+        for class in part.classes() {
+            self.copy(class, remap)?;
+        }
+        Ok(())
+    }
+
+    // Adds the classes of parts whose names are not there yet. They are moved.
+    fn take_parts(&mut self, parts: Vec<Program<'a>>, remaps: &[Remap]) -> Result<(), AllocError>
+        requires { (m : Mentions) × ArePartsOf m parts.items remaps.now × (length self.old.is_name.items ≡ length m.types) }
+        ensures count { OnOk result (length self.new.is_name.items ≡ length self.old.is_name.items) }
+        ensures collected { OnOk result ((m : Mentions) (D : List Definition) → ArePartsOf m parts.entry.items remaps.now → AreCollected m D self.old.classes.items self.old.is_name.items → AreCollected m (D ++ flat_map definitions parts.entry.items) self.new.classes.items self.new.is_name.items) }
+    {
+        let mut i = 0;
+        for part in parts {
+            self.take_all(part, &remaps[i])?;
+            i += 1;
+        }
+        Ok(())
+    }
+
+    // Adds copies of the classes of parts whose names are not there yet.
+    fn copy_parts(&mut self, parts: &[&Program<'a>], remaps: &[Remap]) -> Result<(), AllocError>
+        requires { (m : Mentions) × ArePartsOf m (map (λ part. part.now) parts.now) remaps.now × (length self.old.is_name.items ≡ length m.types) }
+        ensures { OnOk result ((m : Mentions) (D : List Definition) → ArePartsOf m (map (λ part. part.now) parts.now) remaps.now → AreCollected m D self.old.classes.items self.old.is_name.items → AreCollected m (D ++ flat_map definitions (map (λ part. part.now) parts.now)) self.new.classes.items self.new.is_name.items) }
+    {
+        for i in 0..parts.len() {
+            self.copy_all(parts[i], &remaps[i])?;
+        }
+        Ok(())
+    }
+}
+
+/// One class of each name, with the numbers of the union.
+///
+/// Condition: a map for each part, first those that are owned, into a union of `types` types that is good.
+pub(crate) fn collect_classes<'a>(
+    alloc: Global,
+    owned: Vec<Program<'a>>,
+    files: &[&Program<'a>],
+    remaps: &[Remap],
+    types: usize,
+) -> Result<Vec<Class<'a>>, AllocError>
+    requires { (m : Mentions) × (length m.types ≡ types) × IsChecked greatest_caps (owned.items ++ map (λ file. file.now) files.now) m remaps.now }
+    ensures { IfOk result (λ classes. (m : Mentions) → length m.types ≡ types → IsChecked greatest_caps (owned.entry.items ++ map (λ file. file.now) files.now) m remaps.now → AreOneOfEach m (flat_map definitions (owned.entry.items ++ map (λ file. file.now) files.now)) classes.items) }
+{
+    let (own, rest) = remaps.split_at(owned.len());
+    let mut all = Collected::none(alloc, types)?;
+    all.take_parts(owned, own)?;
+    all.copy_parts(files, rest)?;
+    Ok(all.classes)
+}

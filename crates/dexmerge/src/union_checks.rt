@@ -1,0 +1,104 @@
+//! Whether the classes of parts can be merged: conflicts are checked first, then cycles, and then caps.
+
+ghost use Rattle.std.specs.Prelude.{◌≡◌, ◌<◌, length, List, IfOk, IfErr, map};
+ghost use Rattle.std.specs.List.{flat_map};
+ghost use Rattle.dexspec.specs.Classes.{Definition};
+ghost use Rattle.dexspec.specs.Files.{definitions};
+ghost use Rattle.dexspec.specs.Merging as merging;
+ghost use Rattle.dexspec.specs.Merging.{IsGood, IsFirstCause};
+ghost use Rattle.dexclass.specs.Numbered.{type_at};
+ghost use Rattle.dexclass.specs.Parents.{name_number, AreDepthsByName};
+ghost use Rattle.dexmerge.specs.Faults.{Reports};
+ghost use Rattle.dexmerge.specs.Candidates.{classes_of};
+ghost use Rattle.dexmerge.specs.internal.Unions.{AreCopies, AreOnce, IsJoined};
+
+use crate::candidates::{Candidate, candidates};
+use crate::caps::Caps;
+use crate::copies::{first_conflict, kept};
+use crate::cycles::{class_depths, depths_by_name};
+use crate::faults::MergeFault;
+use crate::fitting::first_exceeded;
+use dexclass::{Program, same_law};
+use dexorder::{HasParents, classes_by_type};
+use dexpool::{Numbering, Remap, SymbolKind};
+use dexstr::Name;
+use std::alloc::{AllocError, Global};
+
+/// One class of each name. Different classes of one name are a conflict.
+pub(crate) fn one_of_each<'a, 'b>(
+    alloc: Global,
+    numbering: &Numbering<'_>,
+    candidates: &[Candidate<'a, 'b>],
+) -> Result<Vec<Candidate<'a, 'b>>, MergeFault>
+    requires { (D : List Definition) × AreCopies numbering.now D candidates.now }
+    ensures kept { IfOk result (λ kept. (D : List Definition) → AreCopies numbering.now D candidates.now → AreOnce numbering.now D kept.items) }
+    ensures fault { IfErr result (λ fault. (caps : merging.Caps) (D : List Definition) → AreCopies numbering.now D candidates.now → Reports (IsFirstCause caps D) fault) }
+{
+    same_law();
+    let places = classes_by_type(alloc, candidates, numbering.count(SymbolKind::Typ))?;
+    match first_conflict(candidates, &places) {
+        Some(name) => Err(MergeFault::Conflict(Name::of(alloc, numbering.typ(name))?)),
+        None => Ok(kept(alloc, candidates, &places)?),
+    }
+}
+
+/// The name of a class.
+pub(crate) fn name_of(
+    alloc: Global,
+    numbering: &Numbering<'_>,
+    classes: &[Candidate<'_, '_>],
+    i: usize,
+) -> Result<Name, AllocError>
+    requires class { i < length classes.now }
+    requires name { name_number (classes_of classes.now) i < length numbering.now.types }
+    ensures { IfOk result (λ name. name ≡ type_at numbering.now (name_number (classes_of classes.now) i)) }
+{
+    Name::of(alloc, numbering.typ(classes[i].name()))
+}
+
+// Whether classes, one of each name, can be merged: cycles are checked, and then caps. Returns the depths of the
+// classes, at the numbers of their names.
+fn check_once(
+    alloc: Global,
+    numbering: &Numbering<'_>,
+    classes: &[Candidate<'_, '_>],
+    caps: &Caps,
+) -> Result<Vec<Option<usize>>, MergeFault>
+    requires { (D : List Definition) × AreOnce numbering.now D classes.now }
+    ensures good { IfOk result (λ depths. (D : List Definition) → AreOnce numbering.now D classes.now → IsGood caps.now D × AreDepthsByName numbering.now D depths.items) }
+    ensures fault { IfErr result (λ fault. (D : List Definition) → AreOnce numbering.now D classes.now → Reports (IsFirstCause caps.now D) fault) }
+{
+    let types = numbering.count(SymbolKind::Typ);
+    let depths = match class_depths(alloc, classes, types)? {
+        Ok(depths) => depths,
+        Err(i) => return Err(MergeFault::Cycle(name_of(alloc, numbering, classes, i)?)),
+    };
+    match first_exceeded(numbering, classes, caps) {
+        Some(cap) => Err(MergeFault::Cap(cap)),
+        None => Ok(depths_by_name(alloc, classes, &depths, types)?),
+    }
+}
+
+/// Whether the classes of parts can be merged. Returns the depths of the classes: there is a place for each type of the
+/// numbering, and at the number of each class's name the depth of that class.
+///
+/// Condition: the numbering is that of all parts, and there is a map of each part into it. Error: the first cause
+/// why they cannot; or `Memory` if an allocation failed.
+pub(crate) fn check(
+    alloc: Global,
+    numbering: &Numbering<'_>,
+    parts: &[&Program<'_>],
+    remaps: &[Remap],
+    caps: &Caps,
+) -> Result<Vec<Option<usize>>, MergeFault>
+    requires { IsJoined (map (λ part. part.now) parts.now) numbering.now remaps.now }
+    ensures good { IfOk result (λ depths. IsGood caps.now (flat_map definitions (map (λ part. part.now) parts.now)) × AreDepthsByName numbering.now (flat_map definitions (map (λ part. part.now) parts.now)) depths.items) }
+    ensures fault { IfErr result (Reports (IsFirstCause caps.now (flat_map definitions (map (λ part. part.now) parts.now)))) }
+{
+    let copies = candidates(alloc, parts, remaps)?;
+    let classes = match one_of_each(alloc, numbering, &copies) {
+        Ok(classes) => classes,
+        Err(fault) => return Err(fault),
+    };
+    check_once(alloc, numbering, &classes, caps)
+}

@@ -1,0 +1,51 @@
+-- In a union each number of a part has an image.
+use Rattle.std.proofs.Common.{◌≡◌, ℕ, ◌<◌, List, [], ◌∷◌, length, get_or, Option, Some, None, IsSome, refl, subst, arith}
+use Rattle.std.specs.List.{AllZip, Contains, flat_map}
+use Rattle.std.specs.Cmp.{IsTotalOrder}
+use Rattle.std.specs.FinMap.{IsAntisymmetric}
+use Rattle.std.specs.declared.cmp.Ordering.{Ordering}
+use Rattle.std.proofs.lemmas.List.Elements.{Contains-get_or}
+use Rattle.dexspec.specs.Lists.{in_order}
+use Rattle.dexspec.specs.Texts.{text_cmp}
+use Rattle.dexspec.specs.Symbols.{proto_cmp, field_cmp, method_cmp}
+use Rattle.dexspec.specs.Mentions.{Mentions}
+use Rattle.dexspec.proofs.lists.Members.{Contains-first, Contains-later, Contains-flat_map}
+use Rattle.dexspec.proofs.merge.SymbolOrders.{text_total, text_exact, proto_total, proto_exact, field_total, field_exact, method_total, method_exact}
+use Rattle.dexspec.proofs.lists.InOrder.{in_order-has}
+use Rattle.dexpool.specs.declared.symbols.SymbolKind.TheVariants as kinds
+use Rattle.dexpool.specs.Numberings.{Maps, image, MapsTo, AllMapTo, union_of}
+use Rattle.dexpool.specs.Laws.{MapsAll}
+
+-- there is a value, or there is none
+some_or : (o : Option ℕ) → (o ≡ None → ⊥) → IsSome o
+some_or None h = absurd (h refl)
+some_or (Some j) h = refl
+
+-- any member of a list that has one
+some : {X : Type 0} (xs : List X) (i : ℕ) → i < length xs → X
+some [] i lt = absurd (omega arith)
+some (x ∷ xs) i lt = x
+
+module _ {X : Type 0} (R : X → X → Ordering) (o : IsTotalOrder R) (exact : IsAntisymmetric R) (of : Mentions → List X) where
+  maps_somewhere : (ms : List Mentions) (m : Mentions) (images : List (Option ℕ)) → Contains ms m → MapsTo (of m) (in_order R (flat_map of ms)) images → (i : ℕ) → i < length (of m) → IsSome (image images i)
+  maps_somewhere ms m images c l i lt =
+      let d = some (of m) i lt in
+      let x = get_or (of m) i d in
+      some_or (image images i) (λ e. l.none i d lt e (in_order-has R o exact (flat_map of ms) x (Contains-flat_map of ms m x c (Contains-get_or (of m) i d lt))))
+
+maps_all : (ms : List Mentions) (m : Mentions) (r : Maps) → Contains ms m → AllMapTo m (union_of ms) r → MapsAll m r
+maps_all ms m r c l kinds.Text i lt = maps_somewhere text_cmp text_total text_exact (λ n. n.texts) ms m r.texts c l.texts_mapped i lt
+maps_all ms m r c l kinds.Typ i lt = maps_somewhere text_cmp text_total text_exact (λ n. n.types) ms m r.types c l.types_mapped i lt
+maps_all ms m r c l kinds.Proto i lt = maps_somewhere proto_cmp proto_total proto_exact (λ n. n.protos) ms m r.protos c l.protos_mapped i lt
+maps_all ms m r c l kinds.Field i lt = maps_somewhere field_cmp field_total field_exact (λ n. n.fields) ms m r.fields c l.fields_mapped i lt
+maps_all ms m r c l kinds.Method i lt = maps_somewhere method_cmp method_total method_exact (λ n. n.methods) ms m r.methods c l.methods_mapped i lt
+
+-- what holds of the members that belong together
+zip_members : {A B : Type 0} (R S : A → B → Type 0) (xs : List A) (ys : List B) → ((x : A) (y : B) → Contains xs x → R x y → S x y) → AllZip R xs ys → AllZip S xs ys
+zip_members R S [] [] f h = tt
+zip_members R S [] (y ∷ ys) f h = absurd h
+zip_members R S (x ∷ xs) [] f h = absurd h
+zip_members R S (x ∷ xs) (y ∷ ys) f h = (f x y (Contains-first x xs) h.0, zip_members R S xs ys (λ z w c. f z w (Contains-later x z xs c)) h.1)
+
+pub all_map_to_all : (ms : List Mentions) (all : Mentions) (rs : List Maps) → all ≡ union_of ms → AllZip (λ m r. AllMapTo m all r) ms rs → AllZip MapsAll ms rs
+all_map_to_all ms all rs e h = zip_members (λ m r. AllMapTo m all r) MapsAll ms rs (λ m r c l. maps_all ms m r c (subst (λ n. AllMapTo m n r) e l)) h

@@ -1,6 +1,0 @@
-use Rattle.std.proofs.Common.{◌≡◌, drop}
-use Rattle.dexspec.specs.Rows.{key_cmp}
-use Rattle.dexrows.proofs.numbers.TypeNumbers.compare.Given as goal
-
-abbrev pub invariant-loop-i : goal.invariant-loop-i
-invariant-loop-i l = key_cmp (drop l.i l.self) (drop l.i l.other) ≡ key_cmp l.self l.other

@@ -1,9 +1,0 @@
-use Rattle.std.proofs.Common.{◌∙◌, ◌/◌, length, sym, ap}
-use Rattle.dexspec.proofs.wellformed.FormedRows.{length-ushorts_at}
-use Rattle.dexrows.specs.Listed.{numbers_in}
-use Rattle.dexrows.proofs.numbers.TypeNumbers.len.Goals as goal
-
-pub returns-in-Shorts : goal.returns-in-Shorts
-returns-in-Shorts c =
-    let b = c.in-Shorts.bytes.now in
-    sym (length-ushorts_at b 0 (length b / 2)) ∙ ap length (sym (ap numbers_in c.in-Shorts.is) ∙ c.self.view_is)

@@ -1,0 +1,38 @@
+//! Files checked as the program does: `checkrun FILE STATUS LINE`, with the status and the line that is written for the
+//! file.
+
+use dexhead::Device;
+use dexruns::{RunFault, check_run};
+use dextest_cases::{CaseFault, Outcome, first_word};
+use std::alloc::Global;
+
+/// Runs a line, given the name of the file and its bytes. `right` is the text after the name.
+pub fn run(alloc: Global, name: &str, bytes: &[u8], right: &str) -> Result<Outcome, CaseFault> {
+    let (status, line) = first_word(right)?;
+    if is_checked_as(alloc, name, bytes, status.parse()?, line)? {
+        return Ok(Outcome::Passed);
+    }
+    Err(CaseFault::failed(alloc, "another line or status"))
+}
+
+// Returns whether the check of a file of this name has this status, and writes this line only.
+fn is_checked_as(
+    alloc: Global,
+    name: &str,
+    bytes: &[u8],
+    right: u8,
+    line: &str,
+) -> Result<bool, CaseFault> {
+    let mut inputs = [Device::new(bytes)];
+    let mut out = Device::new(Vec::new(alloc));
+    match check_run(alloc, &[name], &mut inputs, &mut out) {
+        Ok(status) => Ok(status == right && is_line(out.into_inner().as_slice(), line)),
+        Err(RunFault::Memory) => Err(CaseFault::Memory),
+        Err(_) => Ok(false),
+    }
+}
+
+// Returns whether bytes are a line, with its line feed.
+fn is_line(bytes: &[u8], line: &str) -> bool {
+    bytes.strip_suffix(b"\n") == Some(line.as_bytes())
+}

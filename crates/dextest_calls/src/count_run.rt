@@ -1,0 +1,63 @@
+//! Unions counted as the program does: `countrun files FILE.. is T P F M S W C N`, the numbers of types, protos,
+//! fields, methods, short strings, weight, classes and strings of the union of the files, or `.. is CAUSE`. `-` denotes
+//! no files.
+
+use crate::devices::devices;
+use crate::files::files_of;
+use crate::run_answer::RunAnswer;
+use dexhead::Device;
+use dexruns::count_run;
+use dextest_cases::{CaseFault, Folder, Outcome, Printed};
+use std::alloc::{AllocError, Global};
+use std::rt::Files;
+
+// The text before and after the number of each line.
+const LINES: [(&str, &str); 8] = [
+    ("types ", " of 65535\n"),
+    ("protos ", " of 65535\n"),
+    ("fields ", " of 65536\n"),
+    ("methods ", " of 65536\n"),
+    ("short-strings ", " of 65536\n"),
+    ("weight ", " of 1073741824\n"),
+    ("classes ", "\n"),
+    ("strings ", "\n"),
+];
+
+/// Runs a line. `case` is the text after the word of its kind.
+pub fn run<R: Files + AllocGlobal>(
+    folder: Folder<'_, R>,
+    case: &str,
+) -> Result<Outcome, CaseFault> {
+    let files = case.strip_prefix("files ").ok_or(CaseFault::Form)?;
+    let (names, right) = files.split_once(" is ").ok_or(CaseFault::Form)?;
+    let files = files_of(folder, names)?;
+    run_over(folder.alloc(), &files, right)
+}
+
+/// Counts the union of files, and returns the outcome of a line with this right answer.
+pub fn run_over(alloc: Global, files: &[Vec<u8>], right: &str) -> Result<Outcome, CaseFault> {
+    let right = answer_in(alloc, right)?;
+    let mut inputs = devices(alloc, files)?;
+    let mut out = Device::new(Vec::new(alloc));
+    let returned = count_run(alloc, inputs.as_mut_slice(), &mut out);
+    right.outcome(alloc, &returned, out.into_inner().as_slice())
+}
+
+// Parses what is right.
+fn answer_in(alloc: Global, right: &str) -> Result<RunAnswer<'_>, AllocError> {
+    if right.starts_with(|letter: char| letter.is_ascii_digit()) {
+        return Ok(RunAnswer::Written(lines_of(alloc, right)?.into_bytes()));
+    }
+    Ok(RunAnswer::Cause(right))
+}
+
+// Returns the lines of these numbers.
+fn lines_of(alloc: Global, counts: &str) -> Result<String, AllocError> {
+    let mut lines = Printed::new(alloc);
+    for ((name, cap), count) in LINES.iter().zip(counts.split(' ')) {
+        lines.add(name);
+        lines.add(count);
+        lines.add(cap);
+    }
+    lines.finish()
+}

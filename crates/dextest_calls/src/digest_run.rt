@@ -1,0 +1,47 @@
+//! Classes digested as the program does: `digestrun FILE ok CLASSES`, with the digest and the name of each class in
+//! canonical order, all separated by tabs, or `-` if there is no class; or `digestrun FILE fault CAUSE`.
+
+use crate::run_answer::RunAnswer;
+use dexhead::Device;
+use dexruns::digest_run;
+use dextest_cases::{CaseFault, Outcome, Printed};
+use std::alloc::{AllocError, Global};
+
+/// Runs a line, given the name of the file and its bytes. `right` is the text after the name.
+pub fn run(alloc: Global, name: &str, bytes: &[u8], right: &str) -> Result<Outcome, CaseFault> {
+    let right = answer_in(alloc, name, right)?;
+    let mut input = Device::new(bytes);
+    let mut out = Device::new(Vec::new(alloc));
+    let returned = digest_run(alloc, name, &mut input, &mut out);
+    right.outcome(alloc, &returned, out.into_inner().as_slice())
+}
+
+// Parses what is right.
+fn answer_in<'a>(alloc: Global, name: &str, right: &'a str) -> Result<RunAnswer<'a>, CaseFault> {
+    if let Some(classes) = right.strip_prefix("ok ") {
+        return Ok(RunAnswer::Written(lines_of(alloc, name, classes)?.into_bytes()));
+    }
+    match right.strip_prefix("fault ") {
+        Some(cause) => Ok(RunAnswer::Cause(cause)),
+        None => Err(CaseFault::Form),
+    }
+}
+
+// Returns the lines of classes, given by their digests and names.
+fn lines_of(alloc: Global, name: &str, classes: &str) -> Result<String, AllocError> {
+    let mut lines = Printed::new(alloc);
+    if classes == "-" {
+        return lines.finish();
+    }
+    let mut is_digest = true;
+    for part in classes.split('\t') {
+        lines.add(part);
+        lines.add("\t");
+        if !is_digest {
+            lines.add(name);
+            lines.add("\n");
+        }
+        is_digest = !is_digest;
+    }
+    lines.finish()
+}

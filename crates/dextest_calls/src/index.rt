@@ -1,0 +1,64 @@
+//! Lines of an index: cases over the files in its folder.
+
+use crate::kind::Kind;
+use crate::{
+    check, check_run, class, count_run, cuts, digest_run, dump, join, measure, merge, normalise,
+    regroup, repair_run, slices, strip, symbol, weight,
+};
+use dextest_cases::{CaseFault, Folder, Outcome, first_word};
+use std::alloc::Global;
+use std::rt::Files;
+
+/// Runs a line of the index of a folder. `case` is the text after the word of its kind.
+pub fn run_case<R: Files + AllocGlobal>(
+    folder: Folder<'_, R>,
+    kind: Kind,
+    case: &str,
+) -> Result<Outcome, CaseFault> {
+    match kind {
+        Kind::Merge => merge::run(folder, case),
+        Kind::MergeStrip => merge::run_stripped(folder, case),
+        Kind::Measure => measure::run(folder, case),
+        Kind::CountRun => count_run::run(folder, case),
+        Kind::RepairRun => repair_run::run(folder, case),
+        Kind::Join => join::run(folder, case),
+        Kind::Regroup => regroup::run(folder, case),
+        Kind::Slices => slices::run(folder, case),
+        Kind::Unknown => Err(CaseFault::Form),
+        _ => {
+            let (name, asked) = first_word(case)?;
+            let bytes = folder.read(name)?;
+            match kind {
+                Kind::Normalise | Kind::Strip | Kind::Dump => {
+                    let right = folder.read(asked)?;
+                    compare(folder.alloc(), kind, &bytes, &right)
+                }
+                Kind::CheckRun => check_run::run(folder.alloc(), name, &bytes, asked),
+                Kind::DigestRun => digest_run::run(folder.alloc(), name, &bytes, asked),
+                _ => ask(folder.alloc(), kind, &bytes, asked),
+            }
+        }
+    }
+}
+
+// Runs a line that names a file and the file that the call must give.
+fn compare(alloc: Global, kind: Kind, bytes: &[u8], right: &[u8]) -> Result<Outcome, CaseFault> {
+    match kind {
+        Kind::Normalise => normalise::run(alloc, bytes, right),
+        Kind::Strip => strip::run(alloc, bytes, right),
+        Kind::Dump => dump::run(alloc, bytes, right),
+        _ => Err(CaseFault::Form),
+    }
+}
+
+// Runs a line over one file.
+fn ask(alloc: Global, kind: Kind, bytes: &[u8], asked: &str) -> Result<Outcome, CaseFault> {
+    match kind {
+        Kind::Check => check::run(alloc, bytes, asked),
+        Kind::Cuts => cuts::run(alloc, bytes, asked),
+        Kind::Symbol => symbol::run(alloc, bytes, asked),
+        Kind::Weight => weight::run(alloc, bytes, asked),
+        Kind::Class => class::run(alloc, bytes, asked),
+        _ => Err(CaseFault::Form),
+    }
+}

@@ -1,0 +1,103 @@
+//! Draws a thousand merges of files, and asserts what must hold of each.
+//!
+//! The arguments are the names of the files to draw from. A generator whose seed is the number of the merge draws its
+//! files, its plan and its caps. The program asserts the following of each merge, and prints the number of each merge
+//! of which one does not hold:
+//!
+//! - merged at once, in any order, the files give the same bytes or the same cause;
+//! - merged by the plan, over devices, they give the bytes that they give merged at once; or both merges are refused,
+//!   and the cause of the plan is that of files that the plan merges in one node;
+//! - stripped before the merge, between two merges, after the merge or twice, they give the same bytes;
+//! - they merge under caps of just what they need, and do not merge if one of these caps is one less;
+//! - no call returns that allocation failed.
+//!
+//! The status is 0 if all of this holds and enough merges ended in each way, 1 if something does not hold, 2 if no file
+//! is named, 3 if a file cannot be read or is refused, and 4 if the output cannot be written or allocation failed.
+#![tactic(auto)]
+
+mod causes;
+mod checks;
+mod drawing;
+mod fault;
+mod files;
+mod merging;
+mod needs;
+mod plans;
+mod stripping;
+mod tally;
+
+use checks::check;
+use dexclass::Program;
+use drawing::draw;
+use fault::{Fault, Trouble};
+use files::{programs, stored_files};
+use std::alloc::Global;
+use std::process::ExitCode;
+use std::rt::{Env, Files};
+use std::{env, io};
+use tally::{Ending, Tally};
+
+/// How many merges are drawn.
+const MERGES: u64 = 1000;
+
+// Draws the merge of this number, checks it, and returns how it ends, or what does not hold of it.
+fn ending(
+    alloc: Global,
+    number: u64,
+    stored: &[Vec<u8>],
+    programs: &[&Program<'_>],
+) -> Result<Ending, Trouble> {
+    let drawn = draw(alloc, number, programs)?;
+    check(alloc, &drawn, stored, programs)
+}
+
+// Runs all merges, and prints each that does not hold.
+fn run_merges<R: Print + AllocGlobal>(
+    rt: &R,
+    stored: &[Vec<u8>],
+    programs: &[&Program<'_>],
+) -> io::Result<Tally> {
+    let mut tally = Tally::default();
+    for number in 0..MERGES {
+        match ending(rt.alloc(), number, stored, programs) {
+            Ok(ending) => tally.count(ending),
+            Err(trouble) => {
+                println!(rt; "merge {number}: {trouble}")?;
+                tally.count(Ending::Wrong);
+            }
+        }
+    }
+    if tally.is_right() {
+        println!(rt; "{MERGES} merges are right")?;
+    } else {
+        println!(rt; "{tally:?}")?;
+    }
+    Ok(tally)
+}
+
+// Runs all merges over the files of these names.
+fn run_named<R: Files + Print + AllocGlobal>(rt: &R, names: &[String]) -> Result<Tally, Fault> {
+    let stored = stored_files(rt, names)?;
+    let programs = programs(rt.alloc(), names, &stored)?;
+    let lent: Vec<&Program<'_>> = programs.iter().collect(rt.alloc())?;
+    Ok(run_merges(rt, &stored, &lent)?)
+}
+
+fn run<R: Files + Print + Env + AllocGlobal>(rt: &R) -> Result<Tally, Fault> {
+    let words: Vec<String> = env::args(rt)?.collect(rt.alloc())?;
+    match words.as_slice() {
+        [] | [_] => Err(Fault::Words),
+        [_, names @ ..] => run_named(rt, names),
+    }
+}
+
+fn main(rt: HostRuntime) -> ExitCode {
+    match run(&rt) {
+        Ok(tally) if tally.is_right() => ExitCode::SUCCESS,
+        Ok(_) => ExitCode::FAILURE,
+        Err(fault) => {
+            let _ = eprintln!(rt; "dextest_merges: {fault}");
+            ExitCode::from(fault.status())
+        }
+    }
+}

@@ -16,7 +16,7 @@ bytes_plain f from (x ∷ xs) =
     ap (λ n. replicate n 0 ++ (f x ++ bytes_from 1 (round_up 1 from + length (f x)) (map f xs))) none
     ∙ ap (λ ys. f x ++ ys) (bytes_plain f (round_up 1 from + length (f x)) xs)
 
--- the same bytes as those of what they stand for
+-- the same bytes as those of what they denote
 codes_agree : {X Y : Type 0} (code : X → List ℕ) (bytes : Y → List ℕ) (meant : X → Y) (IsKnown : X → Type 0) → ((x : X) → IsKnown x → code x ≡ bytes (meant x)) → (xs : List X) → All IsKnown xs
     → flat_map code xs ≡ flat_map bytes (map meant xs)
 codes_agree code bytes meant IsKnown same [] known = refl

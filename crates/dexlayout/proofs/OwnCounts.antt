@@ -76,7 +76,7 @@ module _ {X : Type 0} (f : X → List ℕ) (align : ℕ) where
 
 -- ---- those of each section
 
--- the data begins behind the header
+-- the data begins after the header
 starts : (K : Ordered) → 0 < data_start K
 starts K = omega arith
 
@@ -117,13 +117,13 @@ set_count : (K : Ordered) → length (set_section K).items ≡ length (set_items
 unfolding annotation_offsets
 set_count K = length-map (annotation_offsets K) offsets_bytes ∙ length-chunks (map (λ (set : AnnotationSet). length set) (set_items K).written) _ ∙ length-map (set_items K).written _
 
--- annotations of sets that stand for others
+-- sets of symbols have as many annotations as the sets of numbers that denote them
 length-annotations : (m : Mentions) (ws : List NumberedSet) → length (flat_map (λ (set : AnnotationSet). set) (map (set_in m) ws)) ≡ length (flat_map (λ (set : NumberedSet). set) ws)
 length-annotations m [] = refl
 length-annotations m (w ∷ ws) =
     omega (arith, length-append (set_in m w) (flat_map (λ (set : AnnotationSet). set) (map (set_in m) ws)), length-append w (flat_map (λ (set : NumberedSet). set) ws), length-map w (annotation_in m), length-annotations m ws)
 
--- what is told of the items of each section says how many there are
+-- the data has as many items of each section as the file
 pub record AreCounted (K : Ordered) (d : Data) : Type 0 where
   pub type_lists : length d.front.type_lists.written ≡ length (type_list_section K).items
   pub annotations : length (flat_map (λ set. set) d.front.annotations.written) ≡ length (annotation_section K).items
@@ -191,7 +191,7 @@ few_items K ends =
 
 -- ---- texts
 
--- the texts stand behind the static values
+-- the texts are after the static values
 pub strings_at_ranks : (K : Ordered) (from : ℕ) {p : ItemPlaces} → from ≡ array_end K
     → AreLaidSo (offsets_from 1 from (map string_data K.pools.texts)) (end_from 1 from (map string_data K.pools.texts)) (map string_data K.pools.texts) p
     → AreLaidSo (offsets (string_section K)) (string_end K) (string_section K).items p

@@ -1,4 +1,4 @@
--- The file of a program's classes: it is written where the program is good, and is as long as a layout tells.
+-- The file of a program's classes: if the program is good, it can be written, and its length is that of its layout.
 use Rattle.std.proofs.Common.{◌≡◌, ℕ, ◌+◌, ◌*◌, ◌≤◌, List, [], ◌∷◌, ◌++◌, length, map, sym, ap, subst, ◌∙◌, arith}
 use Rattle.std.specs.List.{flat_map}
 use Rattle.std.specs.Prelude.{slice_index, drop}
@@ -38,7 +38,7 @@ length-map_bytes es = length-append (uint (length es)) (flat_map map_entry_bytes
 places_same : (K : Ordered) → map_place K ≡ map_start K
 places_same K = map_place_is K ∙ sym (map_start_is K)
 
--- the file ends where it is told to
+-- the file ends at `file_end`
 length_file : (K : Ordered) → length (with_sums (unsigned_file K)) ≡ file_end K
 length_file K =
     let list = ap (λ es. length (map_bytes es)) (map_list_named K ∙ ap (map_of K (layout K)) (places_same K)) in

@@ -59,7 +59,7 @@ list_len_is m ns =
 
 module _ (m : Mentions) (cs : List NumberedClass) (from : ℕ) (is : from ≡ data_start (ordered_of m cs)) (written : List (List ℕ)) (numbers : List (Option ℕ)) (known : All (AreTypes m) written)
     (h : AreShared (map (type_at m)) (type_list_items (ordered_of m cs)) written numbers) where
-  -- where those stand that are written
+  -- the offsets of those that are written
   abbrev pub list_places : ItemPlaces
   list_places = placed list_len 4 (none_from from) written
 
@@ -165,7 +165,7 @@ debug_len d = length (numbered_debug_bytes d.now)
 
 module _ (m : Mentions) (cs : List NumberedClass) (w : AreWritable m cs) (from : ℕ) (is : from ≡ string_end (ordered_of m cs)) (written : List (Bor NumberedDebug)) (numbers : List (Option ℕ))
     (known : All (λ d. IsKnownDebug m d.now) written) (h : AreShared (λ (d : Bor NumberedDebug). debug_in m d.now) (debug_items (ordered_of m cs)) written numbers) where
-  -- where those stand that are written
+  -- the offsets of those that are written
   abbrev pub debug_places : ItemPlaces
   debug_places = placed debug_len 1 (none_from from) written
 

@@ -1,4 +1,4 @@
--- What a layout tells of the canonical file of classes.
+-- When a layout is that of the canonical file of classes.
 use Rattle.std.specs.Prelude.{◌≡◌, ℕ, ◌+◌, ◌^◌, ◌<◌, ◌≤◌, max, Option, List, [], ◌∷◌, map, length, All, drop, slice_index}
 use Rattle.std.specs.List.{flat_map}
 use Rattle.dexspec.specs.Mentions.{Mentions}
@@ -50,7 +50,7 @@ greatest_item K = max header_length (max (length (map_list K)) (greatest_in (dat
 
 -- ---- parts of a layout
 
--- items of one kind stand so
+-- items of one kind have these offsets and this end
 pub record AreLaidSo (offsets : List ℕ) (end : ℕ) (items : List (List ℕ)) (p : ItemPlaces) : Type 0 where
   pub offsets_are : p.offsets ≡ offsets
   pub end_is : p.end ≡ end
@@ -62,7 +62,7 @@ pub record AreTypeLists (m : Mentions) (cs : List NumberedClass) (p : TypeListPl
   pub known : All (All (λ i. i < length m.types)) p.written
   pub places_are : AreLaidSo (type_list_offsets (ordered_of m cs)) (type_list_end (ordered_of m cs)) (type_list_section (ordered_of m cs)).items p.places
 
--- where the first annotation of each set stands, if the first of all stands at a place
+-- the offset of the first annotation of each set, for sets from an offset on
 abbrev pub first_offsets : Mentions → ℕ → List AnnotationSet → List ℕ
 first_offsets m from [] = []
 first_offsets m from (s ∷ ss) = from ∷ first_offsets m (from + length (flat_map (annotation_bytes m) s)) ss
@@ -90,7 +90,7 @@ pub record AreSets (m : Mentions) (cs : List NumberedClass) (p : SetPlaces) : Ty
 
 -- ---- the whole
 
--- the layout tells where everything stands in the file of these classes
+-- the layout is that of the file of these classes
 pub record IsLaid (m : Mentions) (cs : List NumberedClass) (p : Places) : Type 0 where
   pub head_states : StatesLayout p.head (ordered_of m cs)
   pub signature_length : length p.head.signature ≡ 20

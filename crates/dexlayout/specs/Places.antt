@@ -1,4 +1,4 @@
--- Where everything stands in a canonical file, as a layout tells it: by numbers.
+-- A layout of a canonical file: the offsets of its items, and the shared items that are written.
 use Rattle.std.specs.Prelude.{ℕ, List}
 use Rattle.dexspec.specs.Sections.{Section}
 use Rattle.dexhead.specs.declared.head.Head.{Head}
@@ -10,23 +10,23 @@ pub record ItemPlaces : Type 0 where
   pub end : ℕ
   pub greatest : ℕ
 
--- The type lists that are written, by numbers of types, and where they stand: for each proto, and then for each class.
+-- The type lists that are written, by numbers of types, and their offsets: for each proto, and then for each class.
 pub record TypeListPlaces : Type 0 where
   pub written : List (List ℕ)
   pub places : ItemPlaces
 
--- The annotation sets that are written, and for each of them where the first of its annotations stands.
+-- The annotation sets that are written, and for each of them the offset of its first annotation.
 pub record AnnotationPlaces : Type 0 where
   pub written : List NumberedSet
   pub places : ItemPlaces
 
--- The debug programs that are written: their bytes, how many they are, and where they stand: for each method.
+-- The debug programs that are written: their bytes, how many they are, and their offsets: for each method.
 pub record DebugPlaces : Type 0 where
   pub bytes : List ℕ
   pub count : ℕ
   pub places : ItemPlaces
 
--- Where annotation sets stand: the own one of each class, that of each field, that of each method, and those of the
+-- The offsets of annotation sets: the own one of each class, that of each field, that of each method, and those of the
 -- parameters of each method.
 pub record SetPlaces : Type 0 where
   pub own : List ℕ

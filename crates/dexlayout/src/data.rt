@@ -1,4 +1,4 @@
-//! The sections of the data, one behind the other.
+//! The sections of the data, one after the other.
 
 ghost use Rattle.std.specs.Prelude.{◌≡◌, ◌^◌, ◌≤◌, All, List, IfOk, length, map};
 ghost use Rattle.std.specs.List.{flat_map};
@@ -32,14 +32,14 @@ use dexpool::{Numbering, SymbolKind};
 use dexval::AnnotationSet;
 use std::alloc::{AllocError, Global};
 
-/// Where the items of each section of the data stand, in the order of the file.
+/// The offsets of the items of each section of the data, in the order of the file.
 pub(crate) struct Data<'p> {
     pub(crate) front: FirstSections<'p>,
     pub(crate) bodies: Bodies,
     pub(crate) back: Back,
 }
 
-// So that a value is let go by one call.
+// So that a value is dropped by one call.
 impl Drop for Data<'_> {
     fn drop(self) {
         let Data {
@@ -50,7 +50,7 @@ impl Drop for Data<'_> {
     }
 }
 
-/// Where the items of the first sections stand.
+/// The offsets of the items of the first sections.
 #[derive(Drop)]
 pub(crate) struct FirstSections<'p> {
     pub(crate) type_lists: TypeLists<'p>,
@@ -59,7 +59,7 @@ pub(crate) struct FirstSections<'p> {
     pub(crate) strings: Offsets,
 }
 
-/// Where the items of code, of its debug programs and of class data stand.
+/// The offsets of code items, of their debug programs and of class data.
 #[derive(Drop)]
 pub(crate) struct Bodies {
     pub(crate) debugs: DebugPrograms,
@@ -67,7 +67,7 @@ pub(crate) struct Bodies {
     pub(crate) class_data: Offsets,
 }
 
-/// Where the items of the last sections stand: annotation sets, lists of sets, and annotations directories.
+/// The offsets of the items of the last sections: annotation sets, lists of sets, and annotations directories.
 #[derive(Drop)]
 pub(crate) struct Back {
     pub(crate) sets: Sets,
@@ -75,7 +75,7 @@ pub(crate) struct Back {
     pub(crate) directories: Offsets,
 }
 
-// Where the items of the sections up to the string data stand, behind the tables. `written` are the sets that are written.
+// Lays out the sections up to the string data, after the tables. `written` has the sets that are written.
 fn place_first_sections<'p>(
     alloc: Global,
     numbering: &'p Numbering<'_>,
@@ -101,7 +101,7 @@ fn place_first_sections<'p>(
     })
 }
 
-// Where the items of the sections from the debug programs to the class data stand, behind the string data.
+// Lays out the sections from the debug programs to the class data, after the string data.
 fn place_bodies(
     alloc: Global,
     numbering: &Numbering<'_>,
@@ -121,8 +121,8 @@ fn place_bodies(
     })
 }
 
-// Where the items of the last sections stand, behind the class data. `numbers` has for each use the number of its set among
-// those that are written.
+// Lays out the last sections, after the class data. `numbers` has for each use the number of its set among those that
+// are written.
 fn place_back(
     alloc: Global,
     numbering: &Numbering<'_>,
@@ -154,9 +154,7 @@ fn place_back(
     })
 }
 
-/// Where the items of each section stand, behind the tables.
-///
-/// Error: memory was refused.
+/// Lays out the sections of the data, after the tables.
 pub(crate) fn place_data<'p>(
     alloc: Global,
     numbering: &'p Numbering<'_>,

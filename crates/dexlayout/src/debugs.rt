@@ -1,4 +1,4 @@
-//! Where debug programs stand.
+//! The offsets of debug programs.
 
 ghost use Rattle.std.specs.Prelude.{◌≡◌, ◌++◌, ◌^◌, ◌≤◌, All, IfOk, List, MatchOption, None, OnOk, Option, Some, length, map};
 ghost use Rattle.std.specs.List.{flat_map};
@@ -56,7 +56,7 @@ impl DebugPrograms {
         self.count
     }
 
-    /// Where they stand: for each method of each class, or 0 where it has none.
+    /// Their offsets: one for each method of each class, or 0 where it has none.
     pub fn places(&self) -> &Offsets
         ensures { result.now ≡ self.now.places }
     {
@@ -137,9 +137,7 @@ fn encode_written(
     Ok(Encoded { bytes, places })
 }
 
-/// The debug programs, encoded behind the texts.
-///
-/// Error: the allocation failed.
+/// The debug programs, encoded, and their offsets. They are after the texts.
 pub(crate) fn place_debugs(
     alloc: Global,
     numbering: &Numbering<'_>,

@@ -22,10 +22,10 @@ use dexlaws::size::fitting_size_law;
 use std::alloc::{AllocError, Global};
 use std::marker::Model;
 
-/// Where everything stands in the canonical file of a program, and how long the file is. Equal type lists, debug programs and
-/// annotation sets have one item, in the place of the first use.
+/// The offset of each item of the canonical file of a program, and the length of the file. Equal type lists, debug
+/// programs and annotation sets are one item, at the first use.
 ///
-/// Source: "Overall file layout"; the order of what stands in each section is this project's rule.
+/// Source: "Overall file layout"; the order of the items in each section is this project's rule.
 pub struct Layout<'p> {
     pub(crate) head: Head,
     pub(crate) placed: Data<'p>,
@@ -33,7 +33,7 @@ pub struct Layout<'p> {
     pub(crate) greatest: usize,
 }
 
-// So that a layout is let go by one call, in the crates above too.
+// So that a layout is dropped by one call, in the crates above too.
 impl Drop for Layout<'_> {
     fn drop(self) {
         let Layout {
@@ -62,8 +62,6 @@ impl<'p> Model for Layout<'p> {
 impl<'p> Layout<'p> {
     /// The layout of a program's canonical file. Time is linear in what is written, memory some 8 bytes for each
     /// use and item, and the bytes of the debug programs.
-    ///
-    /// Error: the memory for it was refused.
     pub fn of(alloc: Global, program: &'p Program<'_>) -> Result<Layout<'p>, AllocError>
         ensures laid { IfOk result (λ layout. (cs : List NumberedClass) → AreClassesOf program.now cs → IsLaid (mentions (definitions program.now)) cs layout) }
         ensures writable { (cs : List NumberedClass) → AreClassesOf program.now cs → AreWritable (mentions (definitions program.now)) cs × (ordered_of (mentions (definitions program.now)) cs ≡ ordered (definitions program.now)) }
@@ -91,70 +89,70 @@ impl<'p> Layout<'p> {
         self.head.file_size
     }
 
-    /// The type lists that are written, and where they stand, for each proto and then for each class.
+    /// The type lists that are written, and their offsets: for each proto, and then for each class.
     pub fn type_lists(&self) -> &TypeLists<'p>
         ensures { result.now ≡ self.now.type_lists }
     {
         &self.placed.front.type_lists
     }
 
-    /// The annotation sets that are written, and where the first annotation of each stands.
+    /// The annotation sets that are written, and the offset of the first annotation of each.
     pub fn annotations(&self) -> &Annotations<'p>
         ensures { result.now ≡ self.now.annotations }
     {
         &self.placed.front.annotations
     }
 
-    /// Where the static values of each class stand.
+    /// The offset of the static values of each class.
     pub fn static_values(&self) -> &Offsets
         ensures { result.now ≡ self.now.static_values }
     {
         &self.placed.front.static_values
     }
 
-    /// Where each text stands.
+    /// The offset of each text.
     pub fn strings(&self) -> &Offsets
         ensures { result.now ≡ self.now.strings }
     {
         &self.placed.front.strings
     }
 
-    /// The debug programs, encoded, and where they stand, for each method.
+    /// The debug programs, encoded, and their offsets: for each method.
     pub fn debugs(&self) -> &DebugPrograms
         ensures { result.now ≡ self.now.debugs }
     {
         &self.placed.bodies.debugs
     }
 
-    /// Where the code of each method stands.
+    /// The offset of the code of each method.
     pub fn codes(&self) -> &Offsets
         ensures { result.now ≡ self.now.codes }
     {
         &self.placed.bodies.codes
     }
 
-    /// Where the class data of each class stand.
+    /// The offset of the class data of each class.
     pub fn class_data(&self) -> &Offsets
         ensures { result.now ≡ self.now.class_data }
     {
         &self.placed.bodies.class_data
     }
 
-    /// Where the annotation sets stand.
+    /// The offsets of the annotation sets.
     pub fn sets(&self) -> &Sets
         ensures { result.now ≡ self.now.sets }
     {
         &self.placed.back.sets
     }
 
-    /// Where the list of the sets of the parameters of each method stands.
+    /// The offset of the list of the sets of the parameters of each method.
     pub fn ref_lists(&self) -> &Offsets
         ensures { result.now ≡ self.now.ref_lists }
     {
         &self.placed.back.ref_lists
     }
 
-    /// Where the annotations directory of each class stands; they end where the sections before the map end.
+    /// The offset of the annotations directory of each class. Their end is the end of the sections before the map.
     pub fn directories(&self) -> &Offsets
         ensures { result.now ≡ self.now.directories }
     {

@@ -16,7 +16,7 @@ use dexhead::Head;
 use dexpool::Numbering;
 use std::alloc::{AllocError, Global};
 
-// The header of a file with these tables and with a map of so many bytes at a place, with sums of 0.
+// The header of a file with these tables and with a map of `map_size` bytes at `map_off`. Its sums are 0.
 fn head_of(tables: &Tables, map_off: u32, map_size: u32) -> Head
     requires following { tables.now.end ≤ map_off }
     requires fits { map_off + map_size < 2 ^ 32 }
@@ -36,8 +36,6 @@ fn head_of(tables: &Tables, map_off: u32, map_size: u32) -> Head
 }
 
 /// The layout of the file of classes.
-///
-/// Error: memory was refused.
 pub(crate) fn build_layout<'p>(
     alloc: Global,
     numbering: &'p Numbering<'_>,

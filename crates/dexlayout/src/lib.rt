@@ -1,9 +1,9 @@
-//! Where everything stands in the canonical file of a program.
+//! The layout of the canonical file of a program: the offset of each item, and the length of the file.
 //!
 //! Public contracts use the definitions of `specs/Laid`, `specs/ListKeys` and `specs/Places`.
 //!
-//! Source: the Android page "Dalvik Executable format", "Overall file layout"; the order of what stands in each section, and that
-//! equal type lists, debug programs and annotation sets are written once, is this project's rule.
+//! Source: the Android page "Dalvik Executable format", "Overall file layout". This project's rules are the order of
+//! the items in each section, and that equal type lists, debug programs and annotation sets are written once.
 #![tactic(auto)]
 
 mod annotations;

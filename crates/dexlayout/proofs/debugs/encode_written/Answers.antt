@@ -15,7 +15,7 @@ code d = numbered_debug_bytes d.now
 abbrev size : Bor NumberedDebug → ℕ
 size d = length (code d)
 
--- so many were put
+-- the bytes of this one were put
 put : (c : After-len) → c.len.result - c.len-before.result ≡ size c.index-debugs-i.result
 put c = omega (arith, c.len.ensures, c.len-before.ensures, c.in_ok-put_debug.ensures.bytes.len)
 

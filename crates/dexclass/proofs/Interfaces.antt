@@ -89,7 +89,7 @@ listed_interfaces b o ne = rw (ne_eqb o 0 ne) refl
 pub interfaces_count : (b : List ℕ) (off count : ℕ) → off ≢ 0 → HasRoom b off count → count ≡ length (interface_indices b off)
 interfaces_count b off count some room = room.count ∙ sym (length-ushorts b (off + 4) (uint_at b off)) ∙ ap length (sym (listed_interfaces b off some))
 
--- a list that stands there has room
+-- a list at an offset has room
 pub listed_room : (b : List ℕ) (off : ℕ) → off ≢ 0 → HasInterfaceList b off → HasRoom b off (uint_at b off)
 listed_room b off some (ts, inl none) = absurd (some none.0)
 listed_room b off some (ts, inr list) = record { count = refl; in_data = list.1.list.in_data; aligned = list.1.list.aligned }
@@ -99,7 +99,7 @@ pub row_interfaces : (b : List ℕ) (r : ℕ) (row : ClassDef) (n : ℕ) → IsC
 row_interfaces b r row n is e = e ∙ ap (λ (o : ℕ). length (interface_indices b o)) (sym is.interfaces_are)
 
 module _ (b : List ℕ) (off count : ℕ) (list : HasInterfaceList b off) (counted : count ≡ length (interface_indices b off)) where
-  -- a list of some interfaces has room for so many
+  -- a list at an offset has room for `count` interfaces
   counted_room : off ≢ 0 → HasRoom b off count
   counted_room some =
       let room = listed_room b off some list in
@@ -119,7 +119,7 @@ module _ (b : List ℕ) (off count : ℕ) (list : HasInterfaceList b off) (count
     | inr there ↦ let room = counted_room there.0 in omega (arith, room.count, room.in_data.within, lt)
   ]
 
-  -- so many indices are those of the list
+  -- the `count` indices at the offset are those of the list
   pub counted_indices : ushorts_at b (off + 4) count ≡ interface_indices b off
   counted_indices = elim list.1 [
     | inl none ↦

@@ -1,4 +1,4 @@
-//! Class rows judged: condition 16.
+//! Checks of class rows: condition 16.
 
 ghost use Rattle.std.specs.Prelude.{◌≡◌, ◌≢◌, ◌↔◌, ◌+◌, ◌<◌, IsTrue, IfErr, OnOk, List, ℕ, All};
 ghost use Rattle.dexspec.specs.Header.{ClassDefs, TypeIds, table_size};
@@ -16,7 +16,7 @@ use dexmembers::ClassDef;
 use dexpool::{Pools, ReadFault, SymbolKind, type_list_len};
 use std::alloc::Global;
 
-/// What is known of a file before its class rows are judged.
+/// What is known of a file before its class rows are checked.
 #[derive(Clone, Copy)]
 pub(crate) struct KnownFile<'j, 'a> {
     pub(crate) frame: &'j Frame<'a>,
@@ -64,7 +64,7 @@ impl<'j, 'a> KnownFile<'j, 'a> {
 }
 
 impl<'j, 'a> KnownFile<'j, 'a> {
-    // Whether the index is that of a class, which stands before row `r` if the file defines it.
+    // Whether the index is that of a class, which is defined before row `r` if the file defines it.
     fn is_interface(&self, seen: &[bool], index: u32) -> bool
         requires known { IsKnown self.now.frame.now self.now.pools.now self.now.class_types.now self.now.defined.now }
         requires seen { (r : ℕ) × AreDefinedMarks self.now.frame.now r seen.now }
@@ -73,7 +73,7 @@ impl<'j, 'a> KnownFile<'j, 'a> {
         self.is_class(index) && self.is_before(seen, index)
     }
 
-    // Whether each index of the list is that of a class, which stands before row `r` if the file defines it.
+    // Whether each index of the list is that of a class, which is defined before row `r` if the file defines it.
     fn are_interfaces(&self, seen: &[bool], off: u32, count: u32) -> bool
         requires known { IsKnown self.now.frame.now self.now.pools.now self.now.class_types.now self.now.defined.now }
         requires seen { (r : ℕ) × AreDefinedMarks self.now.frame.now r seen.now }
@@ -90,7 +90,7 @@ impl<'j, 'a> KnownFile<'j, 'a> {
         true
     }
 
-    // Whether a list of interfaces stands at an offset, or none.
+    // Whether the offset is 0 or that of a list of interfaces.
     fn has_interfaces(&self, seen: &[bool], off: u32) -> bool
         requires known { IsKnown self.now.frame.now self.now.pools.now self.now.class_types.now self.now.defined.now }
         requires seen { (r : ℕ) × AreDefinedMarks self.now.frame.now r seen.now }
@@ -105,7 +105,7 @@ impl<'j, 'a> KnownFile<'j, 'a> {
         }
     }
 
-    // Whether a superclass that the file defines stands before row `r`; none does.
+    // Whether the superclass, if there is one and the file defines it, is defined before row `r`.
     fn has_parent_before(&self, seen: &[bool], index: u32) -> bool
         requires known { IsKnown self.now.frame.now self.now.pools.now self.now.class_types.now self.now.defined.now }
         requires seen { (r : ℕ) × AreDefinedMarks self.now.frame.now r seen.now }
@@ -140,9 +140,9 @@ impl<'j, 'a> KnownFile<'j, 'a> {
     }
 }
 
-/// Judges condition 16 at each class row, from row 0 on.
+/// Checks condition 16 at each class row, from row 0 on.
 ///
-/// Error: `Refused` with the least row that does not meet it; `Memory` where a growth was refused.
+/// Error: `Refused` with the least row that does not meet it; `Memory` if an allocation failed.
 ///
 /// Source: "class_def_item".
 pub(crate) fn check_classes(

@@ -38,7 +38,7 @@ pub(crate) fn class_types(alloc: Global, pools: &Pools<'_>) -> Result<Vec<bool>,
     Ok(tests)
 }
 
-/// Marks, for each type, of a file before any class row is judged: none.
+/// A mark for each type of a file, none of them set: no class row is checked yet.
 pub(crate) fn no_marks(alloc: Global, frame: &Frame<'_>) -> Result<Vec<bool>, AllocError>
     ensures { IfOk result (λ marks. AreDefinedMarks frame.now 0 marks.items) }
 {

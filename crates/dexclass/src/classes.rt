@@ -1,4 +1,4 @@
-//! Class definitions with numbers in the place of symbols.
+//! Class definitions with numbers instead of symbols.
 
 ghost use Rattle.std.specs.Prelude.{◌≡◌, ℕ, length, IfOk};
 ghost use Rattle.dexmembers.specs.ClassDefs.{IsClassDef};
@@ -31,7 +31,7 @@ pub struct Class<'a> {
     pub(crate) weight: u64,
 }
 
-// So that a class is let go by one call, in the crates above too.
+// So that a class is dropped by one call, in the crates above too.
 impl Drop for Class<'_> {
     fn drop(self) {
         let Class {

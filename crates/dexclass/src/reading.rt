@@ -25,8 +25,8 @@ pub(crate) const MOST_WEIGHT: u64 = 1 << 30;
 
 /// Reads a file: the program of its class definitions.
 ///
-/// Error: `Refused` with the number of a condition and the row at which it fails, as [`ReadFault`] says; `Memory` where a
-/// growth was refused. Nothing is kept then.
+/// Error: `Refused` with the number of a condition and the row at which it fails, as [`ReadFault`] says; `Memory` if an
+/// allocation failed. Nothing is kept then.
 ///
 /// Source: "Dalvik Executable format".
 pub fn read<'a>(alloc: Global, bytes: &'a [u8]) -> Result<Program<'a>, ReadFault>
@@ -55,7 +55,7 @@ pub(crate) fn interface_count(frame: &Frame<'_>, off: u32) -> u32
     }
 }
 
-/// What a class row of so many interfaces weighs without what it declares.
+/// The weight of a class row with `interfaces` interfaces, without what it declares.
 pub(crate) fn row_weight(interfaces: u32) -> u64
     ensures { result ≡ 96 + 2 * interfaces }
 {
@@ -90,7 +90,7 @@ struct Bodies<'a> {
     weight: u64,
 }
 
-// Reads class row `r`, behind the rows before it.
+// Reads class row `r` and adds it to the classes of the rows before it.
 fn read_row<'a>(
     alloc: Global,
     frame: &Frame<'a>,
@@ -152,7 +152,8 @@ fn read_bodies<'a>(
     Ok(bodies)
 }
 
-// What classes that weigh so much weigh with the symbols that they mention, which is judged at the last row.
+// The weight of classes with the symbols that they mention; `bodies` is that of the classes alone. If it is too much,
+// the refusal names the last row.
 fn check_weight(frame: &Frame<'_>, numbering: &Numbering<'_>, bodies: u64) -> Result<u64, Refusal>
     ensures accepted { IfOk result (IsWhole numbering.now bodies) }
     ensures refused { IfErr result (AreHeavyTogether frame.now numbering.now bodies) }

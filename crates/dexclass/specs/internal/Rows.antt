@@ -1,4 +1,4 @@
--- Class rows as they are judged.
+-- Class rows as they are checked.
 use Rattle.std.specs.Prelude.{◌≡◌, ◌↔◌, ℕ, ◌<◌, ◌==◌, Bool, false, IsTrue, List, [], ◌∷◌, length, if◌then◌else◌, Option, All, slice_index_or}
 use Rattle.dexspec.specs.Lists.{OrNone}
 use Rattle.dexspec.specs.Texts.{Text}
@@ -13,7 +13,7 @@ use Rattle.dexpool.specs.Pools.{ArePools}
 use Rattle.dexpool.specs.declared.faults.ReadFault.{ReadFault}
 use Rattle.dexpool.specs.declared.faults.ReadFault.TheVariants.{Refused, Memory}
 
--- the tests tell of each type whether it is a class
+-- the tests say for each type whether it is a class
 pub record AreClassTests (types : List Text) (tests : List Bool) : Type 0 where
   pub count : length tests ≡ length types
   pub each : (i : ℕ) → i < length types → IsTrue (slice_index_or tests i false) ↔ IsClass (slice_index_or types i [])
@@ -26,12 +26,12 @@ IsClassIndex b i = (t : Text) × ClassTypeRow b i t
 abbrev pub IsDefinedBelow : List ℕ → ℕ → ℕ → Type 0
 IsDefinedBelow b n index = (k : ℕ) × (k < n) × (class_idx b k ≡ index)
 
--- the marks tell of each type whether one of the class rows before row n is of it
+-- the marks say for each type whether one of the class rows before row n is of it
 pub record AreDefinedMarks (b : List ℕ) (n : ℕ) (marks : List Bool) : Type 0 where
   pub count : length marks ≡ table_size b TypeIds
   pub each : (i : ℕ) → i < table_size b TypeIds → IsTrue (slice_index_or marks i false) ↔ IsDefinedBelow b n i
 
--- what is known of a file before its class rows are judged
+-- what is known of a file before its class rows are checked
 pub record IsKnown (b : List ℕ) (m : Mentions) (class_types defined : List Bool) : Type 0 where
   pub frame : IsFrame b
   pub pools : ArePools b m
@@ -46,7 +46,7 @@ IsParentIndex b i = (t : Option Text) × IndexOrNone ClassTypeRow b i t
 abbrev pub IsSourceIndex : List ℕ → ℕ → Type 0
 IsSourceIndex b i = (s : Option Text) × IndexOrNone StringRow b i s
 
--- the index is that of a class, which stands before row r if the file defines it
+-- the index is that of a class, which is defined before row r if the file defines it
 pub record IsInterfaceIndex (b : List ℕ) (r i : ℕ) : Type 0 where
   pub class_is : IsClassIndex b i
   pub before : IsDefinedBefore b r i
@@ -59,17 +59,17 @@ superclass_indices i = if i == no_index then [] else i ∷ []
 abbrev pub interface_indices : List ℕ → ℕ → List ℕ
 interface_indices b o = if o == 0 then [] else type_indices b o
 
--- a list of classes stands there, or none
+-- at the offset is a list of classes, or none
 abbrev pub HasInterfaceList : List ℕ → ℕ → Type 0
 HasInterfaceList b o = (ts : List Text) × OrNone ClassListAt [] b o ts
 
--- a list of classes stands there, or none, and those that the file defines stand before row r
+-- at the offset is a list of classes, or none, and those that the file defines are defined before row r
 pub record HasInterfaces (b : List ℕ) (r o : ℕ) : Type 0 where
   pub types : List Text
   pub list : OrNone ClassListAt [] b o types
   pub before : All (IsDefinedBefore b r) (interface_indices b o)
 
--- condition 16 is the first that fails, at its least row; want of memory says nothing of the file
+-- condition 16 is the first that fails, at its least row; `Memory` says nothing of the file
 abbrev pub IsClassFault : List ℕ → ReadFault → Type 0
 IsClassFault b Memory = Unit {0}
 IsClassFault b (Refused r) = (r.number ≡ 16) × FailsFirst Condition.Classes b r.place

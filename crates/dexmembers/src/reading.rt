@@ -40,13 +40,13 @@ fn within(unweighed: Contents<'_>, codes: u64, most: u32) -> Option<(Members<'_>
     Some((members, weight as u32))
 }
 
-/// Reads what class row `row` declares: its members with their code and annotations, its own annotations, and its static
-/// values. Beside them stands what they weigh, in the bytes of [`Members::weight`]. Where that is more than `most`, they are
-/// judged only, and none is answered.
-/// What is kept at a time weighs at most four times `most`, beside the lists of members and one item.
+/// Reads what class row `row` declares: its members with their code and annotations, its own annotations, and its
+/// static values. It returns them with their weight, in the bytes of [`Members::weight`]. If they weigh more than
+/// `most`, they are checked only, and none is returned. What is kept at a time weighs at most four times `most`,
+/// besides the lists of members and one item.
 ///
-/// Condition: the row is one of the file's. What is told of the answer is told of rows that meet condition 16. Error: `Refused`
-/// with a number from 17 to 22, a condition that fails at the row; the memory for what is kept was refused.
+/// Condition: the row is one of the file's. What the contract says of the result holds for rows that meet condition 16.
+/// Error: `Refused` with a number from 17 to 22, a condition that fails at the row; `Memory` if an allocation failed.
 ///
 /// Source: "class_def_item", the fields `annotations_off`, `class_data_off` and `static_values_off`.
 pub fn read_members<'a>(

@@ -13,7 +13,7 @@ use Rattle.dexmembers.proofs.DirectoryCache.{direct_refused, virtual_refused}
 use Rattle.dexmembers.proofs.RowsAreAt.{annotations_refused, values_refused, any_directory, any_codes, any_values, annotations_heavy, direct_heavy, virtual_heavy, values_heavy, codes_here, values_here, none_kept}
 use Rattle.dexmembers.proofs.row_parts.read_parts.Goals as goal
 
--- the items of a vector of code, which stands beside its weight
+-- the items of a vector of code that is paired with its weight
 abbrev code_items : Vec (Option NumberedItem) × ℕ → List (Option NumberedItem)
 code_items v = v.0.items
 

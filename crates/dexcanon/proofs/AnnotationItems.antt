@@ -30,18 +30,18 @@ flat_all P f [] i x h lt is = absurd (omega (arith, lt))
 flat_all P f (y ∷ ys) zero x h lt is = subst (λ z. All P (f z)) is (all_left P (f y) (flat_map f ys) h)
 flat_all P f (y ∷ ys) (suc i) x h lt is = flat_all P f ys i x (all_right P (f y) (flat_map f ys) h) (omega (arith, lt)) is
 
--- a map behind a flat_map
+-- a map after a flat_map
 pub map_flat : {X Y Z : Type 0} (f : Y → Z) (g : X → List Y) (xs : List X) → map f (flat_map g xs) ≡ flat_map (λ x. map f (g x)) xs
 map_flat f g [] = refl
 map_flat f g (x ∷ xs) = map-append f (g x) (flat_map g xs) ∙ ap (λ ys. map f (g x) ++ ys) (map_flat f g xs)
 
--- a flat_map behind a flat_map
+-- a flat_map after a flat_map
 pub flat_flat : {X Y Z : Type 0} (f : Y → List Z) (g : X → List Y) (xs : List X) → flat_map f (flat_map g xs) ≡ flat_map (λ x. flat_map f (g x)) xs
 flat_flat f g [] = refl
 flat_flat f g (x ∷ xs) = flat_map-append f (g x) (flat_map g xs) ∙ ap (λ ys. flat_map f (g x) ++ ys) (flat_flat f g xs)
 
 module _ (m : Mentions) where
-  -- the sets that numbers stand for, of sets behind a function
+  -- the sets of symbols that the results of a function denote
   abbrev pub sets_in : {X : Type 0} → (X → NumberedSet) → List X → List AnnotationSet
   sets_in now xs = map (set_in m) (map now xs)
 
@@ -74,10 +74,10 @@ module _ (m : Mentions) where
       ∙ flat_map-map (λ s. map (annotation_bytes m) (set_in m s)) now xs
       ∙ each_items now xs
 
--- ---- lists behind a function
+-- ---- mapped lists
 
 module _ {X Y : Type 0} (g : X → Y) (xs : List X) (i : ℕ) (x : X) (lt : i < length xs) (is : get_or xs i x ≡ x) where
-  -- what stands there
+  -- the element at the index
   mapped_is : get_or (map g xs) i (g x) ≡ g x
   mapped_is = get_or-map g xs i x (g x) lt ∙ ap g is
 
@@ -100,11 +100,11 @@ module _ {X Y : Type 0} (g : X → Y) (xs : List X) (i : ℕ) (x : X) (lt : i < 
   pub mapped_short : (f : Y → List ℕ) (limit : ℕ) → AreWithin limit (map f (map g xs)) → length (f (g x)) ≤ limit
   mapped_short f limit h = short_at f limit (map g xs) i (g x) h mapped_lt mapped_is
 
--- nothing is left behind the last
+-- nothing is left after the last
 pub mapped_none : {X Y : Type 0} (g : X → Y) (xs : List X) (i : ℕ) (f : Y → List ℕ) → length xs ≤ i → flat_map f (drop i (map g xs)) ≡ []
 mapped_none g xs i f le = ap (flat_map f) (drop_all i (map g xs) (omega (arith, le, length-map xs g)))
 
--- ---- sets behind a function
+-- ---- mapped sets
 
 module _ {X : Type 0} (now : X → NumberedSet) (m : Mentions) (xs : List X) where
   -- the annotations of the sets from a place on
@@ -115,7 +115,7 @@ module _ {X : Type 0} (now : X → NumberedSet) (m : Mentions) (xs : List X) whe
   pub next_set : (i : ℕ) (x : X) (s : NumberedSet) → i < length xs → get_or xs i x ≡ x → s ≡ now x → sets_left i ≡ set_annotations m s ++ sets_left (i + 1)
   next_set i x s lt is e = rows_next (λ x. set_annotations m (now x)) xs i x lt is ∙ ap (λ t. set_annotations m t ++ sets_left (i + 1)) (sym e)
 
-  -- none are left behind the last
+  -- none are left after the last
   pub no_set : (i : ℕ) → length xs ≤ i → sets_left i ≡ []
   no_set i le = ap (flat_map (λ x. set_annotations m (now x))) (drop_all i xs le)
 

@@ -9,7 +9,7 @@ use Rattle.dexcanon.specs.internal.Output.{Adds, AreWithin}
 use Rattle.dexcanon.proofs.Written.{Writing, written_none, written_more, written_all, adds_as}
 use Rattle.dexlayout.proofs.EncodedItems.{bytes_plain}
 
--- A front of the items was added, and the rest is left; none of the rest is longer than the limit.
+-- A prefix of the items was added, and the rest is left; none of the rest is longer than the limit.
 pub record Plainly {T X : Type 0} (gives gives_prefix : List ℕ → T → T → Type 0) (has_failed : T → Bool) (limit : ℕ) (old new : Out T) (f : X → List ℕ) (us left : List (Option X)) : Type 0 where
   pub made : Writing gives gives_prefix has_failed limit old new (flat_map f (present us)) (flat_map f (present left))
   pub short : AreWithin limit (map f (present left))

@@ -1,4 +1,4 @@
--- Items one after the other: what is left of them before and behind the next.
+-- Items one after the other: what is left of them before and after the next.
 use Rattle.std.proofs.Common.{◌≡◌, ℕ, ◌+◌, ◌<◌, ◌≤◌, List, [], ◌∷◌, ◌++◌, length, get_or, drop, refl, sym, ap, ◌∙◌, append_assoc, zip}
 use Rattle.std.specs.List.{flat_map, concat}
 use Rattle.std.proofs.lemmas.List.{drop_more}

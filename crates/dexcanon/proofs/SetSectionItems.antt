@@ -28,7 +28,7 @@ use Rattle.dexlayout.proofs.EncodedItems.{bytes_plain}
 pub annotations_fit : (K : Ordered) → file_end K ≤ 2 ^ 30 → end_from 1 (type_list_end K) (annotation_section K).items ≤ 2 ^ 30
 annotations_fit K fits = omega (arith, (end_in_file K fits).annotations, (sections_follow K).1.1.0)
 
--- items one behind the other end behind all their bytes
+-- items one after the other end after all their bytes
 pub plain_end : {X : Type 0} (f : X → List ℕ) (from : ℕ) (xs : List X) → end_from 1 from (map f xs) ≡ from + length (flat_map f xs)
 plain_end f from xs = sym (length-bytes_from 1 from (map f xs)) ∙ ap (λ (y : List ℕ). from + length y) (bytes_plain f from xs)
 

@@ -26,8 +26,8 @@ pub(crate) trait Item {
         requires { fits self.now }
         ensures { result ≡ length (bytes self.now) };
 
-    /// Appends its bytes. It fails only for want of memory, and not where there is room for them; the vector is then
-    /// as it was.
+    /// Appends its bytes. If the vector has room for them, this succeeds; if an allocation fails, the vector is
+    /// unchanged.
     fn put(&self, out: &mut Vec<u8>) -> Result<(), AllocError>
         requires { fits self.now }
         ensures { Puts (bytes self.now) out.old out.new result };

@@ -8,7 +8,7 @@ use crate::faults::StoreFault;
 use crate::items::{Bytes, Item, Zeros};
 use dexhead::DeviceFault;
 
-// Bytes that are encoded already are written so many at a time. No longest item has fewer.
+// How many bytes that are encoded already are written at a time. The longest item of a file has at least this many.
 const PART: usize = 112;
 
 /// Where the bytes of a file go to.

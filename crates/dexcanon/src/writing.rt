@@ -26,13 +26,11 @@ use dexlayout::Layout;
 use sha1::Sha1;
 use std::alloc::{AllocError, Global};
 
-/// A writer is given no more bytes at a time, but for longer items.
+/// The most bytes that a writer gets at a time, except for a longer item.
 pub(crate) const PIECE: usize = 65536;
 
-/// The canonical file of a program. It is accepted, and stands for just the program's definitions. The memory for it is
-/// reserved at once, before its first byte is made; the layout takes some 8 bytes for each use and item besides.
-///
-/// Error: the memory for it was refused.
+/// The canonical file of a program. It is accepted, and denotes exactly the program's definitions. The memory for it is
+/// allocated at once, before its first byte is encoded; the layout takes some 8 bytes more for each use and item.
 ///
 /// Source: "Dalvik Executable format", "Overall file layout".
 pub fn to_bytes(alloc: Global, program: &Program<'_>) -> Result<Vec<u8>, AllocError>
@@ -74,12 +72,13 @@ fn whole_file(alloc: Global, contents: &Contents<'_, '_, '_, '_>) -> Result<Vec<
     Ok(file)
 }
 
-/// Writes the canonical file of a program. A file of more than 65,536 bytes is made twice: for its two sums, both in one
-/// making, and for the writer. Its bytes are buffered in one vector, which has its room before anything is written; the writer
-/// is given no slice that is longer than 65,536 bytes, or than the longest item of the file where that has more.
+/// Writes the canonical file of a program. A file of more than 65,536 bytes is encoded in two passes: the first
+/// computes its two sums, the second writes it. Its bytes are buffered in one vector, which is allocated before
+/// anything is written. The writer gets no slice that is longer than 65,536 bytes, or than the longest item of the
+/// file if that is longer.
 ///
-/// Condition: the writer has not failed. Error: `Memory` where a growth was refused, and then nothing was written;
-/// `Io` exactly where the writer failed in this call, and then a front of the file was written.
+/// Condition: the writer has not failed. Error: `Memory` if an allocation failed, and then nothing was written; `Io`
+/// exactly if the writer failed in this call, and then a prefix of the file was written.
 ///
 /// Source: "Dalvik Executable format", "header_item", the fields `checksum` and `signature`.
 pub fn write_to<W: Sink>(
@@ -97,7 +96,7 @@ pub fn write_to<W: Sink>(
     write_contents(alloc, &contents, out)
 }
 
-// Writes the file of its contents, as `write_to` says: a short one is made once, a longer one twice.
+// Writes the file of its contents, as `write_to` says: a short one is encoded once, a longer one twice.
 fn write_contents<W: Sink>(
     alloc: Global,
     contents: &Contents<'_, '_, '_, '_>,
@@ -133,7 +132,7 @@ fn write_contents<W: Sink>(
     result
 }
 
-// Writes what is buffered and all that stands behind the header to a writer.
+// Writes what is buffered, and then all that is after the header.
 fn write_through<W: Sink>(
     contents: &Contents<'_, '_, '_, '_>,
     out: &mut Out<Writer<'_, W>>,
@@ -151,7 +150,8 @@ fn write_through<W: Sink>(
     out.result()
 }
 
-// The header of a file with its two sums, for which the file is made in a buffer with room. The buffer is empty again.
+// The header of a file with its two sums, which are computed over the file as it is encoded into a buffer with room.
+// The buffer is returned empty.
 fn head_with_sums(contents: &Contents<'_, '_, '_, '_>, mut buffer: Vec<u8>) -> (Head, Vec<u8>)
     requires ready { CanBeMade contents.now }
     requires room { contents.now.limit ≤ vec_capacity buffer }

@@ -2,7 +2,7 @@ use Rattle.std.proofs.Common.{ℕ, ◌≤◌, ◌-◌, length, drop}
 use Rattle.dexcanon.proofs.Written.{Writing}
 use Rattle.dexcanon.proofs.output.Out.put_bytes.Given as goal
 
--- a front was written, and the rest is left
+-- a prefix was written, and the rest is left
 abbrev pub invariant-parts : goal.invariant-parts
 invariant-parts g l = record {
   fits : l.done ≤ length l.bytes;

@@ -16,7 +16,7 @@ Examples:
   dexkit repair a.dex whole.dex           Sets checksum and signature right
   dexkit help check                       What each refusal means
 
-As an argument of any command, @LIST stands for the lines of the file LIST, one
+In any command an argument @LIST is replaced by the lines of the file LIST, one
 argument a line; ./@LIST is a file named @LIST. As FILE, - is standard input,
 and as OUT, standard output; ./- is a file named -.
 

@@ -13,12 +13,12 @@ pub record Growing (old new : Vec ℕ) (so_far : List ℕ) : Type 0 where
   pub len : vec_len new ≡ vec_len old + length so_far
   pub capacity : vec_capacity old ≤ vec_capacity new
 
-front : (n : ℕ) (xs ys : List ℕ) → n ≡ length xs → take n (xs ++ ys) ≡ xs
-front n xs ys e = take-append-le n xs ys (omega arith) ∙ take_all n xs (omega arith)
+prefix_taken : (n : ℕ) (xs ys : List ℕ) → n ≡ length xs → take n (xs ++ ys) ≡ xs
+prefix_taken n xs ys e = take-append-le n xs ys (omega arith) ∙ take_all n xs (omega arith)
 
 -- the old contents are a prefix of the new contents
 pub kept : (old new : Vec ℕ) (more : List ℕ) → new.items ≡ old.items ++ more → take (vec_len old) new.items ≡ old.items
-kept old new more e = rw e (front (vec_len old) old.items more old.ok.0)
+kept old new more e = rw e (prefix_taken (vec_len old) old.items more old.ok.0)
 
 pub prefix_of_prefix : (n m : ℕ) (xs : List ℕ) → n ≤ m → take n (take m xs) ≡ take n xs
 prefix_of_prefix zero m xs le = refl

@@ -1,13 +1,14 @@
 -- The statements of the laws that definitions are mergeable or have a first cause against it.
-use Rattle.std.specs.Prelude.{◌≡◌, ℕ, suc, ◌<◌, ◌≤◌, max, List, [], ◌∷◌, map, true, false, IsTrue}
+use Rattle.std.specs.Prelude.{◌≡◌, ◌⊎◌, ℕ, suc, ◌+◌, ◌<◌, ◌≤◌, max, List, [], ◌∷◌, map, true, false, IsTrue}
+use Rattle.std.specs.List.{Contains}
 use Rattle.std.specs.declared.cmp.Ordering.TheVariants.{Less}
 use Rattle.dexspec.specs.Lists.{AreDistinct, rises}
 use Rattle.dexspec.specs.Texts.{Text, text_cmp}
 use Rattle.dexspec.specs.Classes.{Definition}
 use Rattle.dexspec.specs.Files.{Collection, definitions, AreSame, AreWithin}
-use Rattle.dexspec.specs.Depth.{is_below, HasDepth, depth}
+use Rattle.dexspec.specs.Depth.{is_defined, above, is_below, HasDepth, depth}
 use Rattle.dexspec.specs.Weight.{weight}
-use Rattle.dexspec.specs.Merging.{Caps, Cap, cap_number, Exceeds, Cause, IsFirstCause}
+use Rattle.dexspec.specs.Merging.{Caps, Cap, cap_number, Exceeds, IsGood, Cause, IsCause, IsFirstCause}
 
 -- the property holds for some name, and for no lesser name
 pub record HasLeast (P : Text → Type 0) : Type 0 where
@@ -25,10 +26,26 @@ pub record IsDepth (D : List Definition) (name : Text) (n : ℕ) : Type 0 where
   pub below : is_below D (suc n) name ≡ true
   pub not_below : is_below D n name ≡ false
 
+-- the depth of the name is one more than the greatest depth of its defined parents, or 0 if there are none
+abbrev pub IsOneMore : List Definition → Text → Type 0
+IsOneMore D name = depth D name ≡ greatest (map (λ parent. depth D parent + 1) (above D name))
+
+-- if the name is defined and has a depth, the fact holds
+abbrev pub OnDepth : List Definition → Text → Type 0 → Type 0
+OnDepth D name fact = is_defined D name ≡ true → HasDepth D name → fact
+
 -- the first name has a depth, which is less than that of the second
 pub record IsLessDeep (D : List Definition) (name other : Text) : Type 0 where
   pub deep : HasDepth D name
   pub less : depth D name < depth D other
+
+-- if this is a defined parent of the name, its depth is less
+abbrev pub IsDeeperThan : List Definition → Text → Text → Type 0
+IsDeeperThan D name parent = Contains (above D name) parent → IsLessDeep D parent name
+
+-- if the name has a depth among the first definitions, it has the same among the second
+abbrev pub KeepsDepth : List Definition → List Definition → Text → Type 0
+KeepsDepth D E name = HasDepth D name → depth D name ≡ depth E name
 
 -- some cap is exceeded, and none that is reported before it is
 pub record HasFirstExceeded (caps : Caps) (D : List Definition) : Type 0 where
@@ -42,6 +59,23 @@ pub record HasMembersOnce (D : List Definition) : Type 0 where
   pub distinct : AreDistinct once
   pub same : AreSame once D
   pub most : (E : List Definition) → AreDistinct E → AreWithin E D → weight E ≤ weight once
+
+-- each cause against the first definitions is a cause against the second
+abbrev pub KeepsCauses : Caps → List Definition → List Definition → Type 0
+KeepsCauses caps D E = (cause : Cause) → IsCause caps D cause → IsCause caps E cause
+
+-- mergeable definitions have no cause against them
+abbrev pub GoodHasNoCause : Caps → Type 0
+GoodHasNoCause caps = (D : List Definition) (cause : Cause) → IsGood caps D → IsCause caps D cause → ⊥
+
+-- definitions with the same members have the same first cause
+abbrev pub FirstCauseRestsOnMembers : Caps → Type 0
+FirstCauseRestsOnMembers caps = (D E : List Definition) (cause : Cause) → AreSame D E → IsFirstCause caps D cause
+    → IsFirstCause caps E cause
+
+-- the fact holds, or it does not
+abbrev pub IsDecided : Type 0 → Type 0
+IsDecided fact = fact ⊎ (fact → ⊥)
 
 -- there is a first cause
 pub record HasFirstCause (caps : Caps) (D : List Definition) : Type 0 where

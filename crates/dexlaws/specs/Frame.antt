@@ -1,17 +1,37 @@
 -- The statements of the laws of canonical files.
-use Rattle.std.specs.Prelude.{◌≡◌, ℕ, ◌+◌, ◌%◌, ◌<◌, ◌≤◌, List, ◌++◌, length, slice_index, slice_index_or}
+use Rattle.std.specs.Prelude.{◌≡◌, ℕ, ◌+◌, ◌%◌, ◌^◌, ◌<◌, ◌≤◌, List, ◌++◌, length, map, All, slice_index, slice_index_or}
 use Rattle.std.specs.List.{Contains}
 use Rattle.dexspec.specs.Bytes.{uint, BytesAt, round_up}
 use Rattle.dexspec.specs.Texts.{Text}
 use Rattle.dexspec.specs.Symbols.{Proto, Field, Method, Symbol, TextSymbol, TypeSymbol, ProtoSymbol, FieldSymbol, MethodSymbol}
 use Rattle.dexspec.specs.Header.{Table, StringIds, TypeIds, ProtoIds, FieldIds, MethodIds, ClassDefs, table_size, data_off, data_size, file_size, map_off, header_length, HasSize, HasMagic, HasVersion, HasLengths, HasEndian, HasNoLink, HasChecksum, HasSignature}
-use Rattle.dexspec.specs.Sections.{IsInData, Section, MapEntry, type_code}
-use Rattle.dexspec.specs.Rows.{row_at}
+use Rattle.dexspec.specs.Sections.{IsInData, Section, MapEntry, type_code, entries_at}
+use Rattle.dexspec.specs.Rows.{row_at, SymbolRow}
 use Rattle.dexspec.specs.Classes.{Definition}
-use Rattle.dexspec.specs.Mentions.{Mentions}
-use Rattle.dexspec.specs.Spellings.{text_index}
+use Rattle.dexspec.specs.Files.{Collection, definitions}
+use Rattle.dexspec.specs.Mentions.{Mentions, mentions}
+use Rattle.dexspec.specs.Spellings.{text_index, symbol_index}
 use Rattle.dexspec.specs.Placing.{Ordered, Placed, offsets}
-use Rattle.dexspec.specs.Canonical.{table_count, data_start, ClassOffsets, layout, map_of, map_bytes, proto_row_bytes, field_row_bytes, method_row_bytes, class_row_bytes}
+use Rattle.dexspec.specs.Canonical.{with_sums, unsigned_file, canonical, table_count, data_start, ClassOffsets, layout, map_of, map_bytes, proto_row_bytes, field_row_bytes, method_row_bytes, class_row_bytes}
+use Rattle.dexspec.specs.WellFormed.{AreWellFormed}
+use Rattle.dexspec.specs.Merging.{Caps, AreCaps, Fits}
+use Rattle.dexspec.specs.Accepted.{IsFrame}
+
+-- the file of classes in order, with its two sums
+abbrev pub signed_file : Ordered → List ℕ
+signed_file K = with_sums (unsigned_file K)
+
+-- if the canonical file is not too long, it meets conditions 1 to 10
+abbrev pub IsFrameIfShort : Collection → Type 0
+IsFrameIfShort K = length (canonical K) ≤ 2 ^ 30 → IsFrame (canonical K)
+
+-- if the caps are possible and the collection fits them, the fact holds
+abbrev pub OnFits : Caps → Collection → Type 0 → Type 0
+OnFits caps K fact = AreCaps caps → Fits caps (definitions K) → fact
+
+-- if also its definitions are well formed, the fact holds
+abbrev pub OnFitsFormed : Caps → Collection → Type 0 → Type 0
+OnFitsFormed caps K fact = OnFits caps K (AreWellFormed (definitions K) → fact)
 
 -- no pool has more symbols than its indices can denote
 pub record HasFewSymbols (m : Mentions) : Type 0 where
@@ -63,9 +83,21 @@ pub record IsOpened (b : List ℕ) : Type 0 where
   pub checksum : HasChecksum b
   pub signature : HasSignature b
 
+-- a header that has the length of the file is opened
+abbrev pub IsOpenedAtSize : ℕ → List ℕ → Type 0
+IsOpenedAtSize size b = size ≡ length b → 112 ≤ size → size ≤ 2 ^ 30 → IsOpened b
+
 -- an entry of a map by its section
 abbrev pub entry_of : Section × ℕ × ℕ → MapEntry
 entry_of e = record { kind = type_code e.0; size = e.1; off = e.2 }
+
+-- if a map whose numbers fit 32 bits is at the offset, the fact holds
+abbrev pub OnMap : List ℕ → ℕ → List (Section × ℕ × ℕ) → Type 0 → Type 0
+OnMap b o es fact = length es < 2 ^ 32 → All (λ e. (e.1 < 2 ^ 32) × (e.2 < 2 ^ 32)) es → BytesAt b o (map_bytes es) → fact
+
+-- the entries of the map at the offset
+abbrev pub HasEntries : List ℕ → ℕ → List (Section × ℕ × ℕ) → Type 0
+HasEntries b o es = entries_at b (o + 4) (length es) ≡ map entry_of es
 
 -- the symbol is a member of its pool
 abbrev pub IsMentioned : Mentions → Symbol → Type 0
@@ -74,3 +106,7 @@ IsMentioned m (TypeSymbol t) = Contains m.types t
 IsMentioned m (ProtoSymbol p) = Contains m.protos p
 IsMentioned m (FieldSymbol f) = Contains m.fields f
 IsMentioned m (MethodSymbol x) = Contains m.methods x
+
+-- a symbol that the collection mentions is in the row of its index
+abbrev pub HasItsRow : Collection → Symbol → Type 0
+HasItsRow K s = IsMentioned (mentions (definitions K)) s → SymbolRow (canonical K) (symbol_index (mentions (definitions K)) s) s

@@ -3,6 +3,7 @@ pub mod Denotes
 pub mod Frame
 pub mod Growth
 pub mod Items
+pub mod Leb128
 pub mod Merge
 pub mod Normal
 pub mod Size

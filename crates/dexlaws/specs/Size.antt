@@ -9,16 +9,27 @@ use Rattle.dexspec.specs.Values.{Value, Values, ThenValue, Elements}
 use Rattle.dexspec.specs.Annotations.{Annotation}
 use Rattle.dexspec.specs.Classes.{Definition, declared_fields, declared_methods}
 use Rattle.dexspec.specs.Mentions.{Mentions, mentions}
-use Rattle.dexspec.specs.Weight.{code_weight, value_weight, values_weight, elements_weight, annotation_weight, static_values_weight, mentions_weight, body_weight}
+use Rattle.dexspec.specs.Weight.{weight, code_weight, value_weight, values_weight, elements_weight, annotation_weight, static_values_weight, mentions_weight, body_weight}
 use Rattle.dexspec.specs.Depth.{in_class_order}
 use Rattle.dexspec.specs.Spellings.{type_index, handler_off, handler_list_bytes, code_bytes, value_bytes, values_bytes, elements_bytes, encoded_array_bytes, annotation_bytes, class_data_bytes}
-use Rattle.dexspec.specs.Placing.{EachForItself, SetOffsets, end_from, section_bytes, directory_bytes, Ordered}
-use Rattle.dexspec.specs.Canonical.{layout, table_bytes}
+use Rattle.dexspec.specs.Placing.{EachForItself, SetOffsets, end_from, bytes_from, section_bytes, directory_bytes, Ordered}
+use Rattle.dexspec.specs.Canonical.{layout, table_bytes, ordered, canonical}
+use Rattle.dexspec.specs.Files.{Collection, definitions}
+use Rattle.dexspec.specs.Merging.{Caps, Fits}
+use Rattle.dexlaws.specs.Frame.{signed_file}
 
 -- Definitions of different names in class order, with what they mention, as in the canonical file; but each use of a
 -- type list, a debug program or a set has its own item.
 abbrev pub unshared : List Definition → Ordered
 unshared D = record { classes = in_class_order D; pools = mentions D; sharing = EachForItself }
+
+-- the canonical file of the definitions
+abbrev pub ordered_file : List Definition → List ℕ
+ordered_file D = signed_file (ordered D)
+
+-- the file of the same definitions in which each use has its own item
+abbrev pub unshared_file : List Definition → List ℕ
+unshared_file D = signed_file (unshared D)
 
 -- types whose indices have at most three bytes as a uleb128
 abbrev pub HasFewTypes : Mentions → Type 0
@@ -56,6 +67,22 @@ TypeListHas m ts = length (uint (length ts) ++ flat_map (λ t. ushort (type_inde
 -- a section ends no later than its items reach, each with the bytes of its alignment
 abbrev pub EndsWithin : ℕ → ℕ → List (List ℕ) → Type 0
 EndsWithin align from items = end_from align from items ≤ from + sum_by (λ item. length item + (align - 1)) items
+
+-- the section's bytes extend from its start to its end
+abbrev pub ExtendsToEnd : ℕ → ℕ → List (List ℕ) → Type 0
+ExtendsToEnd align from items = from + length (bytes_from align from items) ≡ end_from align from items
+
+-- a sum over the definitions is the same in class order
+abbrev pub KeepsSum : (Definition → ℕ) → List Definition → Type 0
+KeepsSum f D = sum_by f (in_class_order D) ≡ sum_by f D
+
+-- the canonical file has at most as many bytes as the definitions weigh
+abbrev pub IsWithinWeight : Collection → Type 0
+IsWithinWeight K = length (canonical K) ≤ weight (definitions K)
+
+-- definitions that fit the caps have a canonical file of at most as many bytes as the cap on weight
+abbrev pub IsWithinCap : Caps → List Definition → Type 0
+IsWithinCap caps D = Fits caps D → length (ordered_file D) ≤ caps.weight
 
 -- the rows and the sections together
 abbrev pub PartsAreWithin : Ordered → Type 0

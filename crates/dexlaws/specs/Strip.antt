@@ -5,12 +5,12 @@ use Rattle.std.specs.Option.{option_map}
 use Rattle.std.specs.FinMap as finite
 use Rattle.dexspec.specs.Lists.{AreDistinct}
 use Rattle.dexspec.specs.Texts.{Text, text_cmp}
-use Rattle.dexspec.specs.Symbols.{proto_cmp, field_cmp, method_cmp}
+use Rattle.dexspec.specs.Symbols.{Symbol, proto_cmp, field_cmp, method_cmp}
 use Rattle.dexspec.specs.Pieces.{Piece}
 use Rattle.dexspec.specs.Code.{Try, Code}
 use Rattle.dexspec.specs.Classes.{MethodDef, Body, Definition}
 use Rattle.dexspec.specs.Files.{Collection, definitions, AreWithin, IsCollectionOf}
-use Rattle.dexspec.specs.Mentions.{Mentions}
+use Rattle.dexspec.specs.Mentions.{Mentions, symbols_of}
 use Rattle.dexspec.specs.WellFormed.{method_key}
 use Rattle.dexspec.specs.Weight.{weight}
 use Rattle.dexspec.specs.Depth.{parents, is_defined, above, is_below, HasDepth, IsAcyclic, depth, in_class_order}
@@ -25,6 +25,10 @@ pub record IsLeft (D : List Definition) (d : Definition) : Type 0 where
   pub original : Definition
   pub member : Contains D original
   pub left : strip_definition original ≡ d
+
+-- the stripped union is the union of the stripped files
+abbrev pub StripsUnion : List (List Definition) → Plan → Type 0
+StripsUnion files plan = strip (union files plan) ≡ union (map strip files) plan
 
 -- a method's code has no debug program
 abbrev pub HasNoDebug : MethodDef → Type 0
@@ -79,6 +83,10 @@ pub record KeepsDepths (D : List Definition) : Type 0 where
 
 -- ---- mentions
 
+-- each symbol of the first definition is a symbol of the second
+abbrev pub HasSymbolsOf : Definition → Definition → Type 0
+HasSymbolsOf d e = (s : Symbol) → Contains (symbols_of d) s → Contains (symbols_of e) s
+
 -- each of the five lists of the first is part of that of the second
 pub record AreParts (m n : Mentions) : Type 0 where
   pub texts : IsPartOf text_cmp m.texts n.texts
@@ -107,6 +115,10 @@ pub record StripsCollection (K : Collection) : Type 0 where
   pub found : (name : Text) → finite.get (strip_collection K) name ≡ option_map strip_body (finite.get K name)
   pub twice : strip_collection (strip_collection K) ≡ strip_collection K
 
+-- the stripped list forms the stripped collection
+abbrev pub FormsStripped : List Definition → Collection → Type 0
+FormsStripped D K = IsCollectionOf (strip D) (strip_collection K)
+
 -- If the collections merge to K, the stripped ones are mergeable under the caps if these are, and merge only to K
 -- stripped.
 pub record StripCommutes (caps : Caps) (Ks : List Collection) (plan : Plan) (K : Collection) : Type 0 where
@@ -114,3 +126,7 @@ pub record StripCommutes (caps : Caps) (Ks : List Collection) (plan : Plan) (K :
   pub good : IsGood caps (union (map definitions Ks) plan) → IsGood caps (union (map definitions (map strip_collection Ks)) plan)
   pub is : IsCollectionOf (union (map definitions (map strip_collection Ks)) plan) (strip_collection K)
   pub alone : (L : Collection) → IsCollectionOf (union (map definitions (map strip_collection Ks)) plan) L → L ≡ strip_collection K
+
+-- stripping commutes with this merge
+abbrev pub MergesStripped : Caps → List Collection → Plan → Type 0
+MergesStripped caps Ks plan = (K : Collection) → IsCollectionOf (union (map definitions Ks) plan) K → StripCommutes caps Ks plan K

@@ -1,13 +1,13 @@
 //! Class definitions are mergeable, or there is a cause against it, and among all such causes a first one.
-ghost use Rattle.std.specs.Prelude.{◌≡◌, ◌⊎◌, ◌+◌, ◌<◌, List, length, map, true};
-ghost use Rattle.std.specs.List.{Contains};
+ghost use Rattle.std.specs.Prelude.{◌≡◌, ◌⊎◌, ◌<◌, List, length, map, true};
 ghost use Rattle.std.specs.FinMap as map;
 ghost use Rattle.dexspec.specs.Texts.{Text};
 ghost use Rattle.dexspec.specs.Classes.{Definition};
 ghost use Rattle.dexspec.specs.Files.{Collection, definitions, AreSame, IsCollectionOf};
-ghost use Rattle.dexspec.specs.Depth.{is_defined, above, is_below, HasDepth, IsAcyclic, depth};
+ghost use Rattle.dexspec.specs.Depth.{is_below, HasDepth, IsAcyclic, depth};
 ghost use Rattle.dexspec.specs.Merging.{Caps, Cap, Exceeds, Fits, IsConflict, IsConsistent, IsCycle, IsGood, Cause, IsCause, IsFirstCause};
-ghost use Rattle.dexlaws.specs.Causes.{HasLeast, greatest, IsDepth, IsLessDeep, HasFirstExceeded, HasMembersOnce, HasFirstCause, AreDefinitionsOf};
+ghost use Rattle.dexlaws.specs.Causes.{HasLeast, IsDepth, IsOneMore, OnDepth, IsDeeperThan, KeepsDepth, HasFirstExceeded, HasMembersOnce, HasFirstCause, GoodHasNoCause, FirstCauseRestsOnMembers, IsDecided, AreDefinitionsOf};
+ghost use Rattle.dexlaws.specs.Items.{HasAtMostOne};
 
 /// Either no name has two definitions, or some name has a conflict, and then there is a least such name.
 pub fn consistent_or_conflict()
@@ -24,12 +24,12 @@ pub fn acyclic_or_cycle()
 /// A depth is found within as many rounds as there are definitions. It is one more than the greatest depth of the
 /// defined parents, or 0 if there are none, so a defined parent has a lesser depth. Depths depend on the members alone.
 pub fn depth_is_found()
-    ensures rounds { (D : List Definition) (name : Text) → is_defined D name ≡ true → HasDepth D name → is_below D (length D) name ≡ true }
+    ensures rounds { (D : List Definition) (name : Text) → OnDepth D name (is_below D (length D) name ≡ true) }
     ensures depth { (D : List Definition) (name : Text) → HasDepth D name → IsDepth D name (depth D name) }
-    ensures one_more { (D : List Definition) (name : Text) → HasDepth D name → depth D name ≡ greatest (map (λ parent. depth D parent + 1) (above D name)) }
-    ensures bound { (D : List Definition) (name : Text) → is_defined D name ≡ true → HasDepth D name → depth D name < length D }
-    ensures parents { (D : List Definition) (name parent : Text) → HasDepth D name → Contains (above D name) parent → IsLessDeep D parent name }
-    ensures alone { (D E : List Definition) (name : Text) → AreSame D E → HasDepth D name → depth D name ≡ depth E name }
+    ensures one_more { (D : List Definition) (name : Text) → HasDepth D name → IsOneMore D name }
+    ensures bound { (D : List Definition) (name : Text) → OnDepth D name (depth D name < length D) }
+    ensures parents { (D : List Definition) (name parent : Text) → HasDepth D name → IsDeeperThan D name parent }
+    ensures alone { (D E : List Definition) (name : Text) → AreSame D E → KeepsDepth D E name }
 {}
 
 /// Each list of definitions has a list of the same members without repeats, and no distinct members weigh more.
@@ -47,10 +47,10 @@ pub fn fits_or_exceeds()
 /// members alone. Whether a cause holds for them is decidable.
 pub fn good_or_first_cause()
     ensures decided { (caps : Caps) (D : List Definition) → IsGood caps D ⊎ HasFirstCause caps D }
-    ensures apart { (caps : Caps) (D : List Definition) (cause : Cause) → IsGood caps D → IsCause caps D cause → ⊥ }
-    ensures each { (caps : Caps) (D : List Definition) (cause : Cause) → IsCause caps D cause ⊎ (IsCause caps D cause → ⊥) }
-    ensures one { (caps : Caps) (D : List Definition) (c d : Cause) → IsFirstCause caps D c → IsFirstCause caps D d → c ≡ d }
-    ensures alone { (caps : Caps) (D E : List Definition) (cause : Cause) → AreSame D E → IsFirstCause caps D cause → IsFirstCause caps E cause }
+    ensures apart { (caps : Caps) → GoodHasNoCause caps }
+    ensures each { (caps : Caps) (D : List Definition) (cause : Cause) → IsDecided (IsCause caps D cause) }
+    ensures one { (caps : Caps) (D : List Definition) → HasAtMostOne (IsFirstCause caps D) }
+    ensures alone { (caps : Caps) → FirstCauseRestsOnMembers caps }
 {}
 
 /// Definitions without two of a name form exactly one collection; its definitions are the members of the list, by name.

@@ -1,7 +1,8 @@
 //! LEB128 numbers: the encoding that is written is the shortest, and no encoding is a prefix of another.
-ghost use Rattle.std.specs.Prelude.{◌≡◌, ◌↔◌, ℕ, ℤ, ◌^◌, ◌<◌, ◌≤◌, List, ◌++◌, length, Option, FitsSigned};
+ghost use Rattle.std.specs.Prelude.{ℕ, ℤ, ◌^◌, ◌<◌, ◌≤◌, length, Option, FitsSigned};
 ghost use Rattle.std.specs.Int.{w32};
-ghost use Rattle.dexspec.specs.Numbers.{BeginsWith, IsShortest, IsUleb128, IsSleb128, IsUleb128p1, uleb128, sleb128, uleb128p1, plus_one};
+ghost use Rattle.dexspec.specs.Numbers.{IsShortest, IsUleb128, IsSleb128, IsUleb128p1, uleb128, sleb128, uleb128p1, plus_one};
+ghost use Rattle.dexlaws.specs.Leb128.{BeginsWithOne};
 
 /// The bytes that are written for an unsigned number encode it, and no shorter bytes do.
 pub fn uleb128_is_shortest()
@@ -28,7 +29,7 @@ pub fn shortest_has_one_to_five_bytes()
 /// Bytes of which an encoding is a prefix begin with its number, in the encoding's length, and with no other: no
 /// encoding is a prefix of another, and a written number is read back.
 pub fn one_number_begins()
-    ensures unsigned { (a rest : List ℕ) (v w n : ℕ) → IsUleb128 a v → BeginsWith IsUleb128 (a ++ rest) w n ↔ ((w ≡ v) × (n ≡ length a)) }
-    ensures signed { (a rest : List ℕ) (v w : ℤ) (n : ℕ) → IsSleb128 a v → BeginsWith IsSleb128 (a ++ rest) w n ↔ ((w ≡ v) × (n ≡ length a)) }
-    ensures one_more { (a rest : List ℕ) (v w : Option ℕ) (n : ℕ) → IsUleb128p1 a v → BeginsWith IsUleb128p1 (a ++ rest) w n ↔ ((w ≡ v) × (n ≡ length a)) }
+    ensures unsigned { BeginsWithOne IsUleb128 }
+    ensures signed { BeginsWithOne IsSleb128 }
+    ensures one_more { BeginsWithOne IsUleb128p1 }
 {}

@@ -2,7 +2,7 @@
 //! needs a law calls it. The definitions that state the laws are in `specs`, one module for each module here.
 //!
 //! Public contracts use the definitions of `specs/Causes`, `specs/Denotes`, `specs/Frame`, `specs/Growth`,
-//! `specs/Items`, `specs/Merge`, `specs/Normal`, `specs/Size`, `specs/Strip` and `specs/Written`.
+//! `specs/Items`, `specs/Leb128`, `specs/Merge`, `specs/Normal`, `specs/Size`, `specs/Strip` and `specs/Written`.
 #![tactic(auto)]
 
 pub mod causes;

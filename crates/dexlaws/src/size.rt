@@ -1,6 +1,6 @@
 //! The canonical file has at most as many bytes as its definitions weigh, item by item, section by section and as a
 //! whole, and no more than if equal items were not shared.
-ghost use Rattle.std.specs.Prelude.{◌≡◌, ℕ, ◌+◌, ◌*◌, ◌<◌, ◌≤◌, List, length, map, sum_by};
+ghost use Rattle.std.specs.Prelude.{◌≡◌, ℕ, ◌+◌, ◌*◌, ◌<◌, ◌≤◌, List, length, map};
 ghost use Rattle.dexspec.specs.Lists.{AreDistinct};
 ghost use Rattle.dexspec.specs.Texts.{Text, string_data};
 ghost use Rattle.dexspec.specs.Debug.{Debug};
@@ -9,12 +9,12 @@ ghost use Rattle.dexspec.specs.Files.{Collection, definitions};
 ghost use Rattle.dexspec.specs.Mentions.{Mentions, mentions};
 ghost use Rattle.dexspec.specs.Weight.{text_weight, debug_weight, weight};
 ghost use Rattle.dexspec.specs.Spellings.{debug_bytes, offsets_bytes};
-ghost use Rattle.dexspec.specs.Placing.{end_from, bytes_from, Ordered};
-ghost use Rattle.dexspec.specs.Depth.{in_class_order};
-ghost use Rattle.dexspec.specs.Canonical.{unsigned_file, with_sums, ordered, canonical};
-ghost use Rattle.dexspec.specs.Merging.{Caps, AreCaps, Fits};
+ghost use Rattle.dexspec.specs.Placing.{Ordered};
+ghost use Rattle.dexspec.specs.Canonical.{canonical};
+ghost use Rattle.dexspec.specs.Merging.{Caps, AreCaps};
 ghost use Rattle.dexspec.specs.Header.{HasSize};
-ghost use Rattle.dexlaws.specs.Size.{unshared, HasFewTypes, ValuesAreWithin, CodeIsWithin, HandlersAreWithin, ClassDataIsWithin, DirectoryIsWithin, TypeListHas, EndsWithin, PartsAreWithin};
+ghost use Rattle.dexlaws.specs.Size.{ordered_file, unshared_file, HasFewTypes, ValuesAreWithin, CodeIsWithin, HandlersAreWithin, ClassDataIsWithin, DirectoryIsWithin, TypeListHas, ExtendsToEnd, EndsWithin, KeepsSum, IsWithinWeight, IsWithinCap, PartsAreWithin};
+ghost use Rattle.dexlaws.specs.Frame.{OnFits};
 
 /// Each item has at most as many bytes as it weighs, or as its number of members allows: a text without its row, code
 /// with the bytes of its alignment, the others without.
@@ -33,7 +33,7 @@ pub fn item_size_law()
 /// The bytes of a section extend from its start to its end, which is no later than its items reach, each with the bytes
 /// of its alignment.
 pub fn section_size_law()
-    ensures bytes { (align from : ℕ) (items : List (List ℕ)) → from + length (bytes_from align from items) ≡ end_from align from items }
+    ensures bytes { (align from : ℕ) (items : List (List ℕ)) → ExtendsToEnd align from items }
     ensures end { (align from : ℕ) (items : List (List ℕ)) → 0 < align → EndsWithin align from items }
 {}
 
@@ -41,7 +41,7 @@ pub fn section_size_law()
 /// collection have different names.
 pub fn class_order_law()
     ensures names { (K : Collection) → AreDistinct (map (λ d. d.0) (definitions K)) }
-    ensures sums { (f : Definition → ℕ) (D : List Definition) → AreDistinct (map (λ d. d.0) D) → sum_by f (in_class_order D) ≡ sum_by f D }
+    ensures sums { (f : Definition → ℕ) (D : List Definition) → AreDistinct (map (λ d. d.0) D) → KeepsSum f D }
 {}
 
 /// All rows and sections have at most as many bytes as their contents weigh.
@@ -51,20 +51,20 @@ pub fn parts_size_law()
 
 /// The canonical file has at most as many bytes as its class definitions weigh.
 pub fn size_law()
-    ensures ordered { (D : List Definition) → HasFewTypes (mentions D) → length (with_sums (unsigned_file (ordered D))) ≤ weight D }
-    ensures canonical { (K : Collection) → HasFewTypes (mentions (definitions K)) → length (canonical K) ≤ weight (definitions K) }
+    ensures ordered { (D : List Definition) → HasFewTypes (mentions D) → length (ordered_file D) ≤ weight D }
+    ensures canonical { (K : Collection) → HasFewTypes (mentions (definitions K)) → IsWithinWeight K }
 {}
 
 /// The canonical file is at most as long as the file of the same definitions in which each use of a type list, of a
 /// debug program and of an annotation set has its own item.
 pub fn sharing_law()
-    ensures ordered { (D : List Definition) → length (with_sums (unsigned_file (ordered D))) ≤ length (with_sums (unsigned_file (unshared D))) }
-    ensures canonical { (K : Collection) → length (canonical K) ≤ length (with_sums (unsigned_file (unshared (definitions K)))) }
+    ensures ordered { (D : List Definition) → length (ordered_file D) ≤ length (unshared_file D) }
+    ensures canonical { (K : Collection) → length (canonical K) ≤ length (unshared_file (definitions K)) }
 {}
 
 /// Distinct definitions that fit caps have a canonical file of at most as many bytes as the cap on weight. The
 /// canonical file of a collection meets the condition on size.
 pub fn fitting_size_law()
-    ensures ordered { (caps : Caps) (D : List Definition) → AreCaps caps → AreDistinct D → Fits caps D → length (with_sums (unsigned_file (ordered D))) ≤ caps.weight }
-    ensures canonical { (caps : Caps) (K : Collection) → AreCaps caps → Fits caps (definitions K) → HasSize (canonical K) }
+    ensures ordered { (caps : Caps) (D : List Definition) → AreCaps caps → AreDistinct D → IsWithinCap caps D }
+    ensures canonical { (caps : Caps) (K : Collection) → OnFits caps K (HasSize (canonical K)) }
 {}

@@ -1,22 +1,22 @@
 //! How class definitions change when their debug programs and source texts are dropped.
-ghost use Rattle.std.specs.Prelude.{List, ◌≡◌, ◌↔◌, ◌≤◌, ◌++◌, map};
+ghost use Rattle.std.specs.Prelude.{List, ◌≡◌, ◌↔◌, ◌≤◌, ◌++◌};
 ghost use Rattle.std.specs.List.{Contains};
 ghost use Rattle.dexspec.specs.Lists.{AreDistinct};
 ghost use Rattle.dexspec.specs.Texts.{Text};
-ghost use Rattle.dexspec.specs.Symbols.{Symbol};
-ghost use Rattle.dexspec.specs.Classes.{MethodDef, Body, Definition};
-ghost use Rattle.dexspec.specs.Files.{Collection, definitions, AreSame, AreWithin, IsCollectionOf};
-ghost use Rattle.dexspec.specs.Mentions.{mentions, symbols_of};
+ghost use Rattle.dexspec.specs.Classes.{Body, Definition};
+ghost use Rattle.dexspec.specs.Files.{Collection, AreSame, AreWithin, IsCollectionOf};
+ghost use Rattle.dexspec.specs.Mentions.{mentions};
 ghost use Rattle.dexspec.specs.WellFormed.{IsWellFormed, AreWellFormed};
 ghost use Rattle.dexspec.specs.Weight.{body_weight, weight};
-ghost use Rattle.dexspec.specs.Merging.{Caps, HasShortString, Fits, IsConsistent, IsConflict, IsGood, Cause, IsCause, Plan, union};
-ghost use Rattle.dexspec.specs.Stripping.{strip_body, strip_definition, strip, strip_collection};
-ghost use Rattle.dexlaws.specs.Strip.{IsLeft, IsWithoutDebug, KeepsDefinition, KeepsDepths, AreParts, HasHeavier, StripsCollection, StripCommutes};
+ghost use Rattle.dexspec.specs.Merging.{Caps, HasShortString, Fits, IsConsistent, IsConflict, IsGood, Plan};
+ghost use Rattle.dexspec.specs.Stripping.{strip_body, strip_definition, strip};
+ghost use Rattle.dexlaws.specs.Causes.{KeepsCauses};
+ghost use Rattle.dexlaws.specs.Strip.{IsLeft, StripsUnion, IsWithoutDebug, KeepsDefinition, KeepsDepths, HasSymbolsOf, AreParts, HasHeavier, StripsCollection, FormsStripped, MergesStripped};
 
 /// A stripped union is the union of the stripped parts: of the files that a plan names, of two lists, and by members
 /// alone.
 pub fn strip_union()
-    ensures plan { (files : List (List Definition)) (plan : Plan) → strip (union files plan) ≡ union (map strip files) plan }
+    ensures plan { (files : List (List Definition)) (plan : Plan) → StripsUnion files plan }
     ensures join { (D E : List Definition) → strip (D ++ E) ≡ strip D ++ strip E }
     ensures members { (D : List Definition) (d : Definition) → Contains (strip D) d ↔ IsLeft D d }
     ensures within { (D E : List Definition) → AreWithin D E → AreWithin (strip D) (strip E) }
@@ -45,7 +45,7 @@ pub fn strip_depth()
 /// The mentions of stripped definitions are part of the mentions of the definitions, all but some texts and types, so
 /// no rank increases. The same texts are short strings.
 pub fn strip_mentions()
-    ensures symbols { (d : Definition) (s : Symbol) → Contains (symbols_of (strip_definition d)) s → Contains (symbols_of d) s }
+    ensures symbols { (d : Definition) → HasSymbolsOf (strip_definition d) d }
     ensures lists { (D : List Definition) → AreParts (mentions (strip D)) (mentions D) }
     ensures protos { (D : List Definition) → (mentions (strip D)).protos ≡ (mentions D).protos }
     ensures fields { (D : List Definition) → (mentions (strip D)).fields ≡ (mentions D).fields }
@@ -68,7 +68,7 @@ pub fn strip_good()
     ensures fits { (caps : Caps) (D : List Definition) → Fits caps D → Fits caps (strip D) }
     ensures consistent { (D : List Definition) → IsConsistent D → IsConsistent (strip D) }
     ensures conflict { (D : List Definition) (name : Text) → IsConflict (strip D) name → IsConflict D name }
-    ensures cause { (caps : Caps) (D : List Definition) (cause : Cause) → IsCause caps (strip D) cause → IsCause caps D cause }
+    ensures cause { (caps : Caps) (D : List Definition) → KeepsCauses caps (strip D) D }
     ensures definition { (d : Definition) → IsWellFormed d → IsWellFormed (strip_definition d) }
     ensures well_formed { (D : List Definition) → AreWellFormed D → AreWellFormed (strip D) }
 {}
@@ -77,11 +77,11 @@ pub fn strip_good()
 /// collection in another order.
 pub fn strip_collection_law()
     ensures whole { (K : Collection) → StripsCollection K }
-    ensures listed { (D : List Definition) (K : Collection) → IsCollectionOf D K → IsCollectionOf (strip D) (strip_collection K) }
+    ensures listed { (D : List Definition) (K : Collection) → IsCollectionOf D K → FormsStripped D K }
 {}
 
 /// If collections merge to a collection by a plan, the stripped collections merge by this plan to the stripped one, and
 /// to no other, and fit the caps that the collections fit.
 pub fn strip_merge_law()
-    ensures { (caps : Caps) (Ks : List Collection) (plan : Plan) (K : Collection) → IsCollectionOf (union (map definitions Ks) plan) K → StripCommutes caps Ks plan K }
+    ensures { (caps : Caps) (Ks : List Collection) (plan : Plan) → MergesStripped caps Ks plan }
 {}

@@ -1,12 +1,11 @@
 //! Collections: what a file denotes.
 ghost use Rattle.std.specs.Prelude.{◌≡◌, ℕ, List};
 ghost use Rattle.dexspec.specs.Texts.{Text};
-ghost use Rattle.dexspec.specs.Header.{ClassDefs, table_size};
 ghost use Rattle.dexspec.specs.Rows.{TypeRow};
-ghost use Rattle.dexspec.specs.Classes.{Body, Definition, ClassRow};
-ghost use Rattle.dexspec.specs.Files.{Collection, definitions, Denotes, AreSame};
-ghost use Rattle.dexspec.specs.Accepted.{AreRows, HoldBelow, IsAccepted};
-ghost use Rattle.dexlaws.specs.Denotes.{AreReadable};
+ghost use Rattle.dexspec.specs.Classes.{Definition};
+ghost use Rattle.dexspec.specs.Files.{Collection, Denotes};
+ghost use Rattle.dexspec.specs.Accepted.{HoldBelow, IsAccepted};
+ghost use Rattle.dexlaws.specs.Denotes.{AreReadable, NamesHaveOneRow, DenotesRows};
 
 /// A file denotes at most one collection.
 pub fn one_collection()
@@ -16,7 +15,7 @@ pub fn one_collection()
 /// If the first sixteen conditions hold, a type has one row, and a name has one class row.
 pub fn one_row_each()
     ensures types { (b : List ℕ) (i j : ℕ) (t : Text) → HoldBelow 17 b → TypeRow b i t → TypeRow b j t → i ≡ j }
-    ensures classes { (b : List ℕ) (r s : ℕ) (name : Text) (c d : Body) → HoldBelow 17 b → ClassRow b r name c → ClassRow b s name d → r ≡ s }
+    ensures classes { (b : List ℕ) → NamesHaveOneRow b }
 {}
 
 /// If the first sixteen conditions hold and all class rows can be read, the file denotes a collection.
@@ -31,5 +30,5 @@ pub fn denotes_some()
 
 /// The definitions of the denoted collection are those of the class rows.
 pub fn denoted_rows()
-    ensures { (b : List ℕ) (D : List Definition) (K : Collection) → HoldBelow 17 b → AreRows b (table_size b ClassDefs) D → Denotes b K → AreSame (definitions K) D }
+    ensures { (b : List ℕ) (D : List Definition) (K : Collection) → HoldBelow 17 b → DenotesRows b D K }
 {}

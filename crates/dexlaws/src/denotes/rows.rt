@@ -1,14 +1,10 @@
 //! Rows of the five pools: they are in the order of their symbols, and each symbol of a definition has a row.
-ghost use Rattle.std.specs.Prelude.{◌≡◌, ℕ, ◌<◌, List};
-ghost use Rattle.std.specs.List.{Contains};
-ghost use Rattle.std.specs.declared.cmp.Ordering.TheVariants.{Less};
-ghost use Rattle.dexspec.specs.Texts.{Text, text_cmp};
-ghost use Rattle.dexspec.specs.Symbols.{Symbol, proto_cmp, field_cmp, method_cmp};
-ghost use Rattle.dexspec.specs.Rows.{StringRow, TypeRow, ProtoRow, FieldRow, MethodRow, SymbolRow};
-ghost use Rattle.dexspec.specs.Classes.{Body, ClassRow};
-ghost use Rattle.dexspec.specs.Mentions.{symbols_of};
-ghost use Rattle.dexspec.specs.Accepted.{HasMembers, HoldBelow};
-ghost use Rattle.dexlaws.specs.Denotes.{RowsInOrder};
+ghost use Rattle.std.specs.Prelude.{ℕ, List};
+ghost use Rattle.dexspec.specs.Texts.{text_cmp};
+ghost use Rattle.dexspec.specs.Symbols.{proto_cmp, field_cmp, method_cmp};
+ghost use Rattle.dexspec.specs.Rows.{StringRow, TypeRow, ProtoRow, FieldRow, MethodRow};
+ghost use Rattle.dexspec.specs.Accepted.{HoldBelow};
+ghost use Rattle.dexlaws.specs.Denotes.{RowsInOrder, SymbolsAreInRows};
 
 /// If the first sixteen conditions hold, the rows of each pool are in order.
 pub fn rows_are_in_order()
@@ -22,5 +18,5 @@ pub fn rows_are_in_order()
 /// If the first sixteen conditions and the condition on members hold, each symbol of a class row's definition has a
 /// row.
 pub fn symbols_have_rows()
-    ensures { (b : List ℕ) (r : ℕ) (name : Text) (c : Body) (s : Symbol) → HoldBelow 17 b → HasMembers b r → ClassRow b r name c → Contains (symbols_of (name, c)) s → (i : ℕ) × SymbolRow b i s }
+    ensures { (b : List ℕ) (r : ℕ) → SymbolsAreInRows b r }
 {}

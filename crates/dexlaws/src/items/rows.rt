@@ -1,8 +1,7 @@
 //! Rows of the five pools: the bytes determine the symbol of a row.
-ghost use Rattle.std.specs.Prelude.{◌≡◌, ℕ, List};
-ghost use Rattle.dexspec.specs.Symbols.{Symbol, pool_of};
-ghost use Rattle.dexspec.specs.Rows.{StringRow, TypeRow, TypeListAt, ProtoRow, FieldRow, MethodRow, SymbolRow};
-ghost use Rattle.dexlaws.specs.Items.{IsOne};
+ghost use Rattle.std.specs.Prelude.{ℕ, List};
+ghost use Rattle.dexspec.specs.Rows.{StringRow, TypeRow, TypeListAt, ProtoRow, FieldRow, MethodRow};
+ghost use Rattle.dexlaws.specs.Items.{IsOne, HasOneSymbolEach};
 
 /// A row of a pool denotes at most one text, type, proto, field or method.
 pub fn row_is_determined()
@@ -20,5 +19,5 @@ pub fn type_list_is_determined()
 
 /// A row of a given pool denotes at most one symbol.
 pub fn symbol_row_is_determined()
-    ensures { (b : List ℕ) (i : ℕ) (x y : Symbol) → pool_of x ≡ pool_of y → SymbolRow b i x → SymbolRow b i y → x ≡ y }
+    ensures { (b : List ℕ) (i : ℕ) → HasOneSymbolEach b i }
 {}

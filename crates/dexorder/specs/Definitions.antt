@@ -1,11 +1,16 @@
 -- Numbers of definitions: how depths and order of numbered classes relate to class definitions.
 use Rattle.std.specs.Prelude.{◌≡◌, ◌↔◌, ℕ, ◌<◌, List, [], length, map, slice_index, slice_index_or, Option, None, Some}
-use Rattle.std.specs.List.{Contains}
+use Rattle.std.specs.List.{Contains, filter, range_with_len}
+use Rattle.std.specs.List.Sorted.{IsPermutation}
 use Rattle.std.specs.declared.cmp.Ordering.TheVariants.{Less}
+use Rattle.dexspec.specs.Lists.{AreDistinct}
 use Rattle.dexspec.specs.Texts.{Text, text_cmp}
 use Rattle.dexspec.specs.Classes.{Definition}
-use Rattle.dexspec.specs.Depth.{above, depth}
-use Rattle.dexorder.specs.Depths.{parents_of, AreWithin}
+use Rattle.dexspec.specs.Depth.{parents, is_defined, above, HasDepth, IsAcyclic, depth, in_class_order}
+use Rattle.dexspec.specs.Merging.{IsCycle}
+use Rattle.dexorder.specs.Depths.{parents_of, AreWithin, IsDepth, HasNone, AreDepths}
+use Rattle.dexorder.specs.Parents.{AllHaveDepths}
+use Rattle.dexorder.specs.Places.{AreInPlaceOrder}
 
 -- the name of definition i
 abbrev pub name_at : List Definition → ℕ → Text
@@ -30,3 +35,57 @@ pub record AreNamesOf (D : List Definition) (names : List ℕ) : Type 0 where
 -- a definition of this name is a class without a depth
 abbrev pub IsCycleClass : List Definition → List (Option ℕ) → Text → Type 0
 IsCycleClass D depths name = (i : ℕ) × (i < length depths) × (name_at D i ≡ name) × (slice_index_or depths i None ≡ None)
+
+-- the definitions have different names
+abbrev pub HaveDistinctNames : List Definition → Type 0
+HaveDistinctNames D = AreDistinct (map (λ d. d.0) D)
+
+-- the parents of each class are the numbers of the superclass and interfaces that are defined, in their order
+abbrev pub AreParentsNumbered : List Definition → List (List ℕ) → Definition → Type 0
+AreParentsNumbered D classes e =
+    (i : ℕ) → i < length D → map (name_at D) (parents_of classes i) ≡ filter (is_defined D) (parents (slice_index_or D i e).1)
+
+-- classes with these parents number the definitions
+abbrev pub AreNumberedByParents : List Definition → Type 0
+AreNumberedByParents D = (classes : List (List ℕ)) (e : Definition) → HaveDistinctNames D → length classes ≡ length D → AreWithin classes
+    → AreParentsNumbered D classes e → AreClassesOf D classes
+
+-- each class that has a depth is a definition of this depth
+abbrev pub ClassesHaveDepths : List Definition → Type 0
+ClassesHaveDepths D = (classes : List (List ℕ)) → AreClassesOf D classes → (i d : ℕ) → i < length classes → IsDepth classes i d
+    → HasDepth D (name_at D i) × (depth D (name_at D i) ≡ d)
+
+-- each class without a depth is a definition whose name is on or below a cycle
+abbrev pub ClassesHaveCycles : List Definition → Type 0
+ClassesHaveCycles D = (classes : List (List ℕ)) → AreClassesOf D classes → (i : ℕ) → i < length classes → HasNone classes i
+    → IsCycle D (name_at D i)
+
+-- what holds of the depths of the classes of the definitions
+abbrev pub OnDepths : List Definition → (List (Option ℕ) → Type 0) → Type 0
+OnDepths D P = (classes : List (List ℕ)) (depths : List (Option ℕ)) → AreClassesOf D classes → AreDepths classes depths → P depths
+
+-- each name on or below a cycle is that of a class without a depth
+abbrev pub AreCyclesFound : List Definition → List (Option ℕ) → Type 0
+AreCyclesFound D depths = (name : Text) → IsCycle D name → IsCycleClass D depths name
+
+-- if all classes have depths, there is no cycle
+abbrev pub KnownAreAcyclic : List Definition → List (Option ℕ) → Type 0
+KnownAreAcyclic D depths = AllHaveDepths depths → IsAcyclic D
+
+-- if all classes have depths, these are the depths of the definitions
+abbrev pub KnownAreOwn : List Definition → List (Option ℕ) → Type 0
+KnownAreOwn D depths = AllHaveDepths depths → AreDepthsOf D depths
+
+-- if there is no cycle, all classes have depths
+abbrev pub AcyclicAreKnown : List Definition → List (Option ℕ) → Type 0
+AcyclicAreKnown D depths = IsAcyclic D → AllHaveDepths depths
+
+-- if the numbers are those of the names of definitions of different names, they are different
+abbrev pub AreNumbersDistinct : List Definition → List ℕ → Type 0
+AreNumbersDistinct D names = AreNamesOf D names → HaveDistinctNames D → AreDistinct names
+
+-- the classes in order are the definitions in class order
+abbrev pub IsClassOrder : List Definition → List (Option ℕ) → Type 0
+IsClassOrder D depths = (names order : List ℕ) → AreDepthsOf D depths → AreNamesOf D names → HaveDistinctNames D
+    → IsPermutation (range_with_len 0 (length names)) order → AreInPlaceOrder depths names order
+    → (e : Definition) → map (λ i. slice_index_or D i e) order ≡ in_class_order D

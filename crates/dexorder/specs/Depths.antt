@@ -1,7 +1,7 @@
 -- The depths of numbered classes. Source: "Dalvik Executable format", "class_defs": a class comes after its superclass
 -- and interfaces. Depth is a term of this project.
 use Rattle.std.specs.Prelude.{◌≡◌, ℕ, zero, suc, ◌<◌, Bool, true, false, List, [], length, All, Option, None, Some, slice_index_or}
-use Rattle.std.specs.List.{list_all}
+use Rattle.std.specs.List.{Contains, list_all}
 
 -- the parents of class i
 abbrev pub parents_of : List (List ℕ) → ℕ → List ℕ
@@ -35,3 +35,19 @@ IsAnswer classes i (Some d) = IsDepth classes i d
 pub record AreDepths (classes : List (List ℕ)) (answers : List (Option ℕ)) : Type 0 where
   pub count : length answers ≡ length classes
   pub answer : (i : ℕ) → i < length classes → IsAnswer classes i (slice_index_or answers i None)
+
+-- if p is a parent of class i, it has a lesser depth
+abbrev pub IsDeeperThan : List (List ℕ) → ℕ → ℕ → ℕ → Type 0
+IsDeeperThan classes i p d = Contains (parents_of classes i) p → (e : ℕ) × IsDepth classes p e × (e < d)
+
+-- some parent of class i has this depth
+abbrev pub HasParentAt : List (List ℕ) → ℕ → ℕ → Type 0
+HasParentAt classes i d = (p : ℕ) × Contains (parents_of classes i) p × IsDepth classes p d
+
+-- a class below one without a depth has none
+abbrev pub PassesOnNone : List (List ℕ) → ℕ → ℕ → Type 0
+PassesOnNone classes i p = Contains (parents_of classes i) p → HasNone classes p → HasNone classes i
+
+-- a depth is less than the number of classes
+abbrev pub AreDepthsBounded : List (List ℕ) → Type 0
+AreDepthsBounded classes = (i d : ℕ) → AreWithin classes → i < length classes → IsDepth classes i d → d < length classes

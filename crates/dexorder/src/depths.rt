@@ -3,7 +3,7 @@
 ghost use Rattle.std.specs.Prelude.{◌≡◌, ◌<◌, ◌+◌, ◌++◌, [], ◌∷◌, length, slice_index_or, true, false, All, IfOk, OnOk, MatchOption};
 ghost use Rattle.dexorder.specs.Depths.{AreWithin, AreDepths};
 ghost use Rattle.dexorder.specs.Parents.{AllHaveDepths, IsFirstWithout};
-ghost use Rattle.dexorder.specs.internal.Searching.{IsSearch, IsWaitingFor, AreStillSeen, work};
+ghost use Rattle.dexorder.specs.internal.Searching.{IsSearch, IsWaitingFor, AreStillSeen, IsNearer};
 
 use crate::hierarchy::Hierarchy;
 use std::alloc::{AllocError, Global};
@@ -39,7 +39,7 @@ impl<'a> Search<'a> {
         ensures search { OnOk result (IsSearch classes.now self.new self.new.path.items) }
         ensures seen { OnOk result (AreStillSeen self.old self.new) }
         ensures begun { OnOk result (slice_index_or self.new.is_seen.items class false ≡ true) }
-        ensures nearer { OnOk result (work classes.now self.new self.new.path.items < work classes.now self.old self.old.path.items) }
+        ensures nearer { OnOk result (IsNearer classes.now self.old self.old.path.items self.new) }
     {
         self.is_seen[class] = true;
         self.path.push(Visit {
@@ -58,7 +58,7 @@ impl<'a> Search<'a> {
         requires search { IsSearch classes.now self.old (self.old.path.items ++ visit ∷ []) }
         ensures search { OnOk result (IsSearch classes.now self.new self.new.path.items) }
         ensures seen { OnOk result (AreStillSeen self.old self.new) }
-        ensures nearer { OnOk result (work classes.now self.new self.new.path.items < work classes.now self.old (self.old.path.items ++ visit.entry ∷ [])) }
+        ensures nearer { OnOk result (IsNearer classes.now self.old (self.old.path.items ++ visit.entry ∷ []) self.new) }
     {
         let Some((parent, left)) = visit.left.split_first() else {
             self.depths[visit.class] = Some(visit.depth);

@@ -1,10 +1,10 @@
 //! The order of classes: by depth, then by name.
 
-ghost use Rattle.std.specs.Prelude.{◌≡◌, length, map, true, IfOk};
+ghost use Rattle.std.specs.Prelude.{◌≡◌, length, map, IfOk};
 ghost use Rattle.std.specs.List.{range_with_len};
 ghost use Rattle.std.specs.List.Sorted.{IsPermutation};
-ghost use Rattle.dexspec.specs.Lists.{AreDistinct, rises};
-ghost use Rattle.dexorder.specs.Places.{class_place, class_cmp, place_of};
+ghost use Rattle.dexspec.specs.Lists.{AreDistinct};
+ghost use Rattle.dexorder.specs.Places.{places_of, AreInPlaceOrder};
 
 use std::alloc::{AllocError, Global};
 
@@ -23,7 +23,7 @@ fn places(
     names: &[usize],
 ) -> Result<Vec<Place>, AllocError>
     requires { length depths.now ≡ length names.now }
-    ensures { IfOk result (λ places. places.items ≡ map (place_of depths.now names.now) (range_with_len 0 (length names.now))) }
+    ensures { IfOk result (λ places. places.items ≡ places_of depths.now names.now) }
 {
     let mut places = Vec::with_capacity(alloc, names.len())?;
     for class in 0..names.len() {
@@ -57,7 +57,7 @@ pub fn class_order(
     requires count { length depths.now ≡ length names.now }
     requires names { AreDistinct names.now }
     ensures classes { IfOk result (λ order. IsPermutation (range_with_len 0 (length names.now)) order.items) }
-    ensures rises { IfOk result (λ order. rises class_cmp (map (class_place depths.now names.now) order.items) ≡ true) }
+    ensures rises { IfOk result (λ order. AreInPlaceOrder depths.now names.now order.items) }
 {
     let mut places = places(alloc, depths, names)?;
     places.sort_unstable();

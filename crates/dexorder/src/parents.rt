@@ -1,7 +1,7 @@
 //! Classes that name their parents by types, and the parents that are classes among them.
 
 ghost use Rattle.std.specs.Prelude.{◌≡◌, ◌<◌, ◌++◌, ◌∷◌, [], ℕ, List, Option, None, All, IfOk, OnOk, length, map, slice_index, slice_index_or};
-ghost use Rattle.dexorder.specs.Parents.{AreByType, IsHierarchyOf, classes_of_types, parent_types};
+ghost use Rattle.dexorder.specs.Parents.{AreByType, AreParentsOf, IsHierarchyOfClasses, classes_of_types};
 
 use crate::hierarchy::Hierarchy;
 use std::alloc::{AllocError, Global};
@@ -87,7 +87,7 @@ fn collect_parents<C: HasParents>(
     class: &C,
     parents: &mut Vec<usize>,
 ) -> Result<(), AllocError>
-    ensures { OnOk result (parents.new.items ≡ classes_of_types by_type.now (parent_types (C.superclass_of class.now) (C.interfaces_of class.now))) }
+    ensures { OnOk result (AreParentsOf by_type.now C.superclass_of C.interfaces_of class.now parents.new.items) }
 {
     parents.clear();
     if let Some(superclass) = class.superclass() {
@@ -111,7 +111,7 @@ impl Hierarchy {
         types: usize,
     ) -> Result<Hierarchy, AllocError>
         requires { All (λ c. C.name_of c < types) classes.now }
-        ensures { IfOk result (IsHierarchyOf (map C.name_of classes.now) (map (λ c. parent_types (C.superclass_of c) (C.interfaces_of c)) classes.now)) }
+        ensures { IfOk result (IsHierarchyOfClasses C.name_of C.superclass_of C.interfaces_of classes.now) }
     {
         let by_type = classes_by_type(alloc, classes, types)?;
         let mut hierarchy = Hierarchy::new(alloc);

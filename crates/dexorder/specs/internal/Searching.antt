@@ -52,3 +52,7 @@ work_left path = sum_by (λ v. 1 + length v.left.now) path
 -- an upper bound on the steps to the end of a search that has these visits on its path
 abbrev pub work : List (List ℕ) → Search → List Visit → ℕ
 work classes s path = work_unseen classes s.is_seen.items + work_left path
+
+-- less work is left for the second search than for the first with these visits on its path
+abbrev pub IsNearer : List (List ℕ) → Search → List Visit → Search → Type 0
+IsNearer classes s path t = work classes t t.path.items < work classes s path

@@ -1,5 +1,6 @@
 -- Small classes whose files, weights and ranks are known from other sources.
 use Rattle.std.specs.Prelude.{ℕ, List, [], ◌∷◌, ◌++◌, Some, None, codes, pos}
+use Rattle.std.specs.FinMap.{from_entries}
 use Rattle.dexspec.specs.Texts.{Text}
 use Rattle.dexspec.specs.Symbols.{Proto, TextSymbol}
 use Rattle.dexspec.specs.Pieces.{Instruction}
@@ -8,6 +9,7 @@ use Rattle.dexspec.specs.Debug.{Special}
 use Rattle.dexspec.specs.Values.{Value, ShortValue, IntValue, NoValues, ThenValue, NoElements, ThenElement}
 use Rattle.dexspec.specs.Annotations.{AnnotationSet}
 use Rattle.dexspec.specs.Classes.{Body, Definition, FieldDef, MethodDef}
+use Rattle.dexspec.specs.Files.{Collection}
 
 abbrev pub object : Text
 object = codes "Ljava/lang/Object;"
@@ -162,3 +164,11 @@ class_sharing name = (
 -- three of them
 abbrev pub classes_sharing : List Definition
 classes_sharing = class_sharing (codes "LA;") ∷ class_sharing (codes "LB;") ∷ class_sharing (codes "LC;") ∷ []
+
+-- the collection of `class_p` with the text "hi"
+abbrev pub with_hi : Collection
+with_hi = from_entries (class_p (codes "hi") ∷ [])
+
+-- the collection of `class_debug_twice`
+abbrev pub with_debug_twice : Collection
+with_debug_twice = from_entries (class_debug_twice ∷ [])

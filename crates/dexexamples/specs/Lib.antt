@@ -5,4 +5,5 @@ pub mod Units
 pub mod OpcodeTable
 pub mod Varied
 pub mod Valued
+pub mod Values
 pub mod Whole

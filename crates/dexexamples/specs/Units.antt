@@ -1,7 +1,7 @@
 -- Units of code, and debug programs.
-use Rattle.std.specs.Prelude.{ℕ, List, [], ◌∷◌}
+use Rattle.std.specs.Prelude.{ℕ, List, [], ◌∷◌, negsuc}
 use Rattle.dexspec.specs.Pieces.{Cut}
-use Rattle.dexspec.specs.Debug.{Debug, Operation}
+use Rattle.dexspec.specs.Debug.{Debug, Operation, Special, AdvancePc, AdvanceLine}
 
 abbrev pub cut : ℕ → ℕ → Cut
 cut unit units = record { unit = unit; units = units }
@@ -36,6 +36,10 @@ array_of_threes = 0x0300 ∷ 0x0003 ∷ 0x0001 ∷ 0x0000 ∷ 0x00ff ∷ []
 abbrev pub sparse : List ℕ
 sparse = 0x002c ∷ 0x0004 ∷ 0x0000 ∷ 0x000e ∷ 0x0200 ∷ 0x0002 ∷ 0xffff ∷ 0xffff ∷ 0x0000 ∷ 0x0000 ∷ 0x0003 ∷ 0x0000 ∷ 0x0003 ∷ 0x0000 ∷ []
 
+-- the cuts of `sparse`
+abbrev pub sparse_cuts : List Cut
+sparse_cuts = cut 0 3 ∷ cut 3 1 ∷ cut 4 10 ∷ []
+
 -- its payload with the key 1 twice
 abbrev pub sparse_equal : List ℕ
 sparse_equal = 0x0200 ∷ 0x0002 ∷ 0x0001 ∷ 0x0000 ∷ 0x0001 ∷ 0x0000 ∷ 0x0003 ∷ 0x0000 ∷ 0x0003 ∷ 0x0000 ∷ []
@@ -47,3 +51,7 @@ sparse_as_packed = 0x002b ∷ 0x0004 ∷ 0x0000 ∷ 0x000e ∷ 0x0200 ∷ 0x0002
 -- a debug program without names
 abbrev pub debug_of : ℕ → List Operation → Debug
 debug_of line operations = record { line_start = line; parameter_names = []; operations = operations }
+
+-- five addresses on and three lines back from line 10
+abbrev pub five_on : Debug
+five_on = debug_of 10 (AdvancePc 5 ∷ AdvanceLine (negsuc 2) ∷ Special 0x0e ∷ [])

@@ -8,7 +8,7 @@ ghost use Rattle.dexspec.specs.Mentions.{mentions};
 ghost use Rattle.dexspec.specs.Stripping.{strip};
 ghost use Rattle.dexspec.specs.Texts.{text_cmp};
 ghost use Rattle.dexspec.specs.Weight.{weight};
-ghost use Rattle.dexexamples.specs.Examples.{class_a, class_b, class_d, class_p, class_f, class_z, class_b_under_z, class_debug_twice};
+ghost use Rattle.dexexamples.specs.Examples.{object, class_a, class_b, class_d, class_p, class_f, class_z, class_b_under_z, class_debug_twice};
 
 /// The weights of no class, of a class without members, of two classes, of a class with a method, of a class with a
 /// static field, a static value and an annotation, and of a class with debug programs, as it is and stripped.
@@ -26,7 +26,7 @@ pub fn weights()
 pub fn ranks()
     ensures alone { rank text_cmp (codes "zz") (mentions (class_p (codes "zz") ∷ [])).texts ≡ 4 }
     ensures together { rank text_cmp (codes "zz") (mentions (class_p (codes "zz") ∷ class_d ∷ [])).texts ≡ 5 }
-    ensures types { (mentions (class_a ∷ class_b ∷ [])).types ≡ codes "LA;" ∷ codes "LB;" ∷ codes "Ljava/lang/Object;" ∷ [] }
+    ensures types { (mentions (class_a ∷ class_b ∷ [])).types ≡ codes "LA;" ∷ codes "LB;" ∷ object ∷ [] }
 {}
 
 /// A class comes after its superclass, whatever their names are and in whatever order they are given.

@@ -1,10 +1,10 @@
 //! Opcodes, pieces of code, targets, and positions of debug programs.
 
-ghost use Rattle.std.specs.Prelude.{◌≡◌, [], ◌∷◌, false, None, Some, pos, negsuc};
-ghost use Rattle.dexspec.specs.Debug.{positions, Special, AdvancePc, AdvanceLine};
-ghost use Rattle.dexspec.specs.Pieces.{IsCode, AreCut, BreaksAt, has_right_targets, piece_size};
+ghost use Rattle.std.specs.Prelude.{◌≡◌, [], ◌∷◌, false, None, pos, negsuc};
+ghost use Rattle.dexspec.specs.Debug.{positions, Special};
+ghost use Rattle.dexspec.specs.Pieces.{IsCode, BreaksAt, has_right_targets, piece_size};
 ghost use Rattle.dexexamples.specs.OpcodeTable.{all_formats, all_indices, all_mnemonics, expected_formats, expected_indices, expected_mnemonics};
-ghost use Rattle.dexexamples.specs.Units.{cut, packed, packed_bad_target, odd_payload, invoke, six_registers, array_data, array_of_threes, sparse, sparse_equal, sparse_as_packed, debug_of};
+ghost use Rattle.dexexamples.specs.Units.{cut, packed, packed_bad_target, odd_payload, invoke, six_registers, array_data, array_of_threes, sparse, sparse_equal, sparse_as_packed, sparse_cuts, debug_of, five_on};
 
 /// The table of opcodes is that of the public page, opcode by opcode.
 pub fn opcodes()
@@ -16,7 +16,7 @@ pub fn opcodes()
 /// Code with valid cuts and targets.
 pub fn code_is_cut()
     ensures packed_switch { IsCode packed (cut 0 3 ∷ cut 3 1 ∷ cut 4 6 ∷ []) }
-    ensures sparse_switch { IsCode sparse (cut 0 3 ∷ cut 3 1 ∷ cut 4 10 ∷ []) }
+    ensures sparse_switch { IsCode sparse sparse_cuts }
     ensures array { IsCode array_data (cut 0 3 ∷ cut 3 1 ∷ cut 4 5 ∷ []) }
     ensures invoke { IsCode invoke (cut 0 3 ∷ []) }
 {}
@@ -37,13 +37,13 @@ pub fn no_piece()
 pub fn wrong_targets()
     ensures inside { has_right_targets packed_bad_target (cut 0 3 ∷ cut 3 1 ∷ cut 4 6 ∷ []) (cut 0 3) ≡ false }
     ensures outside { has_right_targets (0x2028 ∷ []) (cut 0 1 ∷ []) (cut 0 1) ≡ false }
-    ensures other_kind { has_right_targets sparse_as_packed (cut 0 3 ∷ cut 3 1 ∷ cut 4 10 ∷ []) (cut 0 3) ≡ false }
+    ensures other_kind { has_right_targets sparse_as_packed sparse_cuts (cut 0 3) ≡ false }
 {}
 
 /// Addresses and lines that debug programs record.
 pub fn positions_are()
     ensures two { positions (debug_of 10 (Special 0x0e ∷ Special 0x1e ∷ [])) ≡ (0, pos 10) ∷ (1, pos 11) ∷ [] }
-    ensures advanced { positions (debug_of 10 (AdvancePc 5 ∷ AdvanceLine (negsuc 2) ∷ Special 0x0e ∷ [])) ≡ (5, pos 7) ∷ [] }
+    ensures advanced { positions five_on ≡ (5, pos 7) ∷ [] }
     ensures greatest { positions (debug_of 0 (Special 0xff ∷ [])) ≡ (16, pos 1) ∷ [] }
     ensures negative { positions (debug_of 0 (Special 0x0a ∷ [])) ≡ (0, negsuc 3) ∷ [] }
 {}

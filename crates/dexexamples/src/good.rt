@@ -1,21 +1,21 @@
 //! Collections that are well formed and good under the greatest caps: their canonical files are accepted.
 
-ghost use Rattle.std.specs.Prelude.{[], ◌∷◌, codes};
+ghost use Rattle.std.specs.Prelude.{[], ◌∷◌};
 ghost use Rattle.std.specs.FinMap.{from_entries};
 ghost use Rattle.dexspec.specs.Accepted.{IsAccepted};
 ghost use Rattle.dexspec.specs.Canonical.{canonical};
 ghost use Rattle.dexspec.specs.Files.{definitions, Denotes};
 ghost use Rattle.dexspec.specs.Merging.{IsGood, greatest_caps};
 ghost use Rattle.dexspec.specs.WellFormed.{AreWellFormed};
-ghost use Rattle.dexexamples.specs.Examples.{class_f, class_p, class_debug_twice};
+ghost use Rattle.dexexamples.specs.Examples.{class_f, with_hi, with_debug_twice};
 ghost use Rattle.dexexamples.specs.Varied.{varied};
 
 /// A class with code.
 pub fn with_code()
-    ensures formed { AreWellFormed (definitions (from_entries (class_p (codes "hi") ∷ []))) }
-    ensures good { IsGood greatest_caps (definitions (from_entries (class_p (codes "hi") ∷ []))) }
-    ensures accepted { IsAccepted (canonical (from_entries (class_p (codes "hi") ∷ []))) }
-    ensures denotes { Denotes (canonical (from_entries (class_p (codes "hi") ∷ []))) (from_entries (class_p (codes "hi") ∷ [])) }
+    ensures formed { AreWellFormed (definitions with_hi) }
+    ensures good { IsGood greatest_caps (definitions with_hi) }
+    ensures accepted { IsAccepted (canonical with_hi) }
+    ensures denotes { Denotes (canonical with_hi) with_hi }
 {
     dexlaws::normal::normal_form();
 }
@@ -32,10 +32,10 @@ pub fn with_annotations()
 
 /// A class with two equal debug programs.
 pub fn with_equal_debug()
-    ensures formed { AreWellFormed (definitions (from_entries (class_debug_twice ∷ []))) }
-    ensures good { IsGood greatest_caps (definitions (from_entries (class_debug_twice ∷ []))) }
-    ensures accepted { IsAccepted (canonical (from_entries (class_debug_twice ∷ []))) }
-    ensures denotes { Denotes (canonical (from_entries (class_debug_twice ∷ []))) (from_entries (class_debug_twice ∷ [])) }
+    ensures formed { AreWellFormed (definitions with_debug_twice) }
+    ensures good { IsGood greatest_caps (definitions with_debug_twice) }
+    ensures accepted { IsAccepted (canonical with_debug_twice) }
+    ensures denotes { Denotes (canonical with_debug_twice) with_debug_twice }
 {
     dexlaws::normal::normal_form();
 }

@@ -1,13 +1,17 @@
 -- The statements of the laws of numberings: what a union has of its parts, and numbers as ranks.
-use Rattle.std.specs.Prelude.{◌≡◌, ℕ, ◌<◌, ◌≤◌, List, length, slice_index_or, Some, IsSome}
+use Rattle.std.specs.Prelude.{◌≡◌, ℕ, ◌<◌, ◌≤◌, List, length, slice_index_or, Some, IsSome, map, sum_by, All}
 use Rattle.std.specs.declared.cmp.Ordering.{Ordering}
+use Rattle.std.specs.List.{Contains, flat_map}
+use Rattle.dexspec.specs.Classes.{Definition}
 use Rattle.dexspec.specs.Lists.{rank}
 use Rattle.dexspec.specs.Texts.{text_cmp}
 use Rattle.dexspec.specs.Symbols.{proto_cmp, field_cmp, method_cmp}
-use Rattle.dexspec.specs.Mentions.{Mentions}
+use Rattle.dexspec.specs.Mentions.{Mentions, mentions}
 use Rattle.dexpool.specs.declared.symbols.SymbolKind.{SymbolKind}
+use Rattle.dexpool.specs.declared.marks.Marks.{Marks}
 use Rattle.dexpool.specs.Pools.{count_of}
-use Rattle.dexpool.specs.Numberings.{Maps, image_of}
+use Rattle.dexpool.specs.Numberings.{Maps, image_of, AreRising, union_of}
+use Rattle.dexpool.specs.Uses.{Use, AreMarkedToo, IsMarkedUse, IsMappedUse, MapsMarked}
 
 -- each number of the numbering has an image
 abbrev pub MapsAll : Mentions → Maps → Type 0
@@ -40,3 +44,27 @@ pub record RanksAreNumbers (m : Mentions) : Type 0 where
   pub protos_are : RanksArePlaces proto_cmp m.protos
   pub fields_are : RanksArePlaces field_cmp m.fields
   pub methods_are : RanksArePlaces method_cmp m.methods
+
+-- ---- unions
+
+-- in a union no symbol has a lesser rank than in a part
+abbrev pub RanksGrowInUnions : Type 0
+RanksGrowInUnions = (ms : List Mentions) (m : Mentions) → Contains ms m → AreRising m → AllRanksGrow m (union_of ms)
+
+-- of no kind are there more symbols in a union than in its parts together
+abbrev pub UnionsAddNone : Type 0
+UnionsAddNone = (ms : List Mentions) (kind : SymbolKind) → count_of kind (union_of ms) ≤ sum_by (λ m. count_of kind m) ms
+
+-- what definitions of several lists mention is the union of what those of each list mention
+abbrev pub MentionsAreUnions : Type 0
+MentionsAreUnions = (parts : List (List Definition)) → mentions (flat_map (λ part. part) parts) ≡ union_of (map mentions parts)
+
+-- ---- marks
+
+-- what was marked stays marked
+abbrev pub MarksStay : Type 0
+MarksStay = (us : List Use) (old new : Marks) → AreMarkedToo us old new → (vs : List Use) → All (IsMarkedUse old) vs → All (IsMarkedUse new) vs
+
+-- where each marked number has an image, so has each symbol that is marked
+abbrev pub MarkedAreMapped : Type 0
+MarkedAreMapped = (marks : Marks) (r : Maps) → MapsMarked marks r → (us : List Use) → All (IsMarkedUse marks) us → All (IsMappedUse r) us

@@ -1,6 +1,7 @@
 -- Numberings: five sets of symbols, each symbol numbered by its place in its order; and maps from the numbers of one
 -- to those of another.
 use Rattle.std.specs.Prelude.{◌≡◌, ℕ, ◌<◌, ◌++◌, true, List, length, map, All, slice_index_or, Option, Some, None}
+use Rattle.std.specs.Borrow.{Bor}
 use Rattle.std.specs.List.{AllZip, Contains, flat_map}
 use Rattle.dexspec.specs.Lists.{rises, in_order}
 use Rattle.dexspec.specs.Texts.{text_cmp}
@@ -150,6 +151,10 @@ union_of ms = record {
   fields = in_order field_cmp (flat_map (λ m. m.fields) ms);
   methods = in_order method_cmp (flat_map (λ m. m.methods) ms);
 }
+
+-- each map maps its part to the whole
+abbrev pub PartsMapTo : List (Bor Mentions) → Mentions → List Maps → Type 0
+PartsMapTo parts whole maps = AllZip (λ part r. AllMapTo part whole r) (map (λ part. part.now) parts) maps
 
 -- ---- keeping
 

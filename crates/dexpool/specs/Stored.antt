@@ -1,20 +1,35 @@
 -- The tables of a numbering as they are stored: rows of numbers of rows below them.
 use Rattle.std.specs.Prelude.{◌≡◌, ℕ, ◌<◌, true, List, length, map, All}
 use Rattle.dexspec.specs.Lists.{rises}
-use Rattle.dexspec.specs.Texts.{text_cmp}
+use Rattle.dexspec.specs.Texts.{text_cmp, Text}
 use Rattle.dexspec.specs.Names.{IsDescriptor, IsValueType, IsReferenceType, IsClass, IsMemberName, shorty}
 use Rattle.dexspec.specs.Mentions.{Mentions}
+use Rattle.dexspec.specs.Symbols as symbols
 use Rattle.dexrows.specs.declared.fields.FieldRow.{FieldRow}
 use Rattle.dexrows.specs.declared.methods.MethodRow.{MethodRow}
 use Rattle.dexpool.specs.declared.rows.ProtoEntry.{ProtoEntry}
 use Rattle.dexpool.specs.declared.tables.Tables.{Tables}
-use Rattle.dexpool.specs.Tables.{text_of, type_of, span_of, type_cmp, proto_cmp, field_cmp, method_cmp}
+use Rattle.dexpool.specs.Tables.{text_of, type_of, span_of, type_cmp, proto_cmp, field_cmp, method_cmp, proto_of, field_of, method_of}
 use Rattle.dexpool.specs.Reading.{HasSpan}
 use Rattle.dexpool.specs.Pools.{symbols_of}
 
 -- what the tables denote
 abbrev pub symbols_in : Tables → Mentions
 symbols_in t = symbols_of t.strings.items t.types.items t.parameters t.protos.items t.fields.items t.methods.items
+
+-- the type of a number
+abbrev pub stored_type : Tables → ℕ → Text
+stored_type t n = type_of t.strings.items t.types.items n
+
+-- the proto, field and method of a row
+abbrev pub stored_proto : Tables → ProtoEntry → symbols.Proto
+stored_proto t p = proto_of t.strings.items t.types.items t.parameters p
+
+abbrev pub stored_field : Tables → FieldRow → symbols.Field
+stored_field t f = field_of t.strings.items t.types.items f
+
+abbrev pub stored_method : Tables → MethodRow → symbols.Method
+stored_method t m = method_of t.strings.items t.types.items t.parameters t.protos.items m
 
 -- the number is that of a text which is a descriptor
 pub record IsTypeNumber (t : Tables) (n : ℕ) : Type 0 where

@@ -5,4 +5,6 @@ pub mod Renumbering
 pub mod Closing
 pub mod Joining
 pub mod CheckedLists
+pub mod FileRows
 pub mod SharedLists
+pub mod Weights

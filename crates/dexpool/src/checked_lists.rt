@@ -4,7 +4,8 @@ ghost use Rattle.std.specs.Prelude.{◌≡◌, true, false, OnOk};
 ghost use Rattle.dexstr.specs.Units.{IsAscii};
 ghost use Rattle.dexpool.specs.Tables.{text_of};
 ghost use Rattle.dexpool.specs.Reading.{AreNames, IsPlaced, file_numbers};
-ghost use Rattle.dexpool.specs.internal.CheckedLists.{AreLetters, IsChecked, AreChecked, NotListedAs};
+ghost use Rattle.dexpool.specs.internal.CheckedLists.{AreLetters, NotListedAs};
+ghost use Rattle.dexpool.specs.internal.FileRows.{IsFileList, AreFileLists};
 
 use crate::lists::Parameters;
 use crate::names::Names;
@@ -40,11 +41,11 @@ pub(crate) fn has_shorty(
     requires names { AreNames names.now.frame.now names.now.strings.now names.now.types.now }
     requires letters { AreLetters names.now.strings.now names.now.types.now letters.now }
     requires file { file.now ≡ file_numbers names.now.frame.now }
-    requires lists { AreChecked names.now.frame.now names.now.strings.now names.now.types.now lists.now }
+    requires lists { AreFileLists names.now lists.now }
     requires placed { IsPlaced names.now.frame.now off checked.span }
     requires text { text.now ≡ text_of names.now.strings.now checked.shorty }
     requires letter { IsAscii checked.letter }
-    ensures yes { result ≡ true → IsChecked names.now.frame.now names.now.strings.now names.now.types.now off checked }
+    ensures yes { result ≡ true → IsFileList names.now off checked }
     ensures no { result ≡ false → NotListedAs names.now.frame.now off checked.letter text.now }
 {
     if let Some(known) = lists.get(&off) {
@@ -65,9 +66,9 @@ pub(crate) fn note(
     off: u32,
     checked: CheckedList,
 ) -> Result<(), AllocError>
-    requires lists { AreChecked names.now.frame.now names.now.strings.now names.now.types.now lists.old }
-    requires checked { IsChecked names.now.frame.now names.now.strings.now names.now.types.now off checked }
-    ensures { OnOk result (AreChecked names.now.frame.now names.now.strings.now names.now.types.now lists.new) }
+    requires lists { AreFileLists names.now lists.old }
+    requires checked { IsFileList names.now off checked }
+    ensures { OnOk result (AreFileLists names.now lists.new) }
 {
     if checked.span.end.saturating_sub(checked.span.start) > SHORT {
         lists.insert(off, checked)?;

@@ -5,8 +5,8 @@ ghost use Rattle.std.specs.List.{flat_map};
 ghost use Rattle.dexrows.specs.Cut.{kept};
 ghost use Rattle.dexpool.specs.Numberings.{AreMarksOf};
 ghost use Rattle.dexpool.specs.Stored.{symbols_in, AreTables};
-ghost use Rattle.dexpool.specs.internal.Renumbering.{IsEntryWithin, IsFieldWithin, IsMethodWithin};
-ghost use Rattle.dexpool.specs.internal.Closing.{mark_all, field_types, entry_types, AreClosure};
+ghost use Rattle.dexpool.specs.internal.Renumbering.{IsEntryWithin, IsFieldWithin};
+ghost use Rattle.dexpool.specs.internal.Closing.{mark_all, field_types, AreClosure, method_protos, protos_types, marked_types, marked_texts, HasMethodMarks};
 
 use crate::lists::Parameters;
 use crate::marks::Marks;
@@ -66,9 +66,9 @@ fn mark_below(
     requires strings { length strings.old ≡ length tables.now.strings.items }
     requires types { length types.old ≡ length tables.now.types.items }
     requires protos { length protos.old ≡ length tables.now.protos.items }
-    ensures protos { protos.new ≡ mark_all protos.old (map (λ m. m.proto) (kept methods.now tables.now.methods.items)) }
-    ensures types { types.new ≡ mark_all (mark_all (mark_all types.old (map (λ m. m.class) (kept methods.now tables.now.methods.items))) (flat_map field_types (kept fields.now tables.now.fields.items))) (flat_map (entry_types tables.now.parameters) (kept protos.new tables.now.protos.items)) }
-    ensures strings { strings.new ≡ mark_all (mark_all (mark_all (mark_all strings.old (map (λ m. m.name) (kept methods.now tables.now.methods.items))) (map (λ f. f.name) (kept fields.now tables.now.fields.items))) (map (λ p. p.shorty) (kept protos.new tables.now.protos.items))) (kept types.new tables.now.types.items) }
+    ensures protos { protos.new ≡ mark_all protos.old (method_protos tables.now methods.now) }
+    ensures types { types.new ≡ marked_types tables.now methods.now fields.now protos.new types.old }
+    ensures strings { strings.new ≡ marked_texts tables.now methods.now fields.now protos.new types.new strings.old }
 {
     mark_by_methods(&tables.methods, methods, strings, types, protos);
     mark_by_fields(&tables.fields, fields, strings, types);
@@ -85,7 +85,7 @@ fn mark_by_methods(
     protos: &mut [bool],
 )
     requires marks { length marks.now ≡ length methods.now }
-    requires within { All (IsMethodWithin (length strings.old) (length types.old) (length protos.old)) methods.now }
+    requires within { All (HasMethodMarks strings.old types.old protos.old) methods.now }
     ensures strings { strings.new ≡ mark_all strings.old (map (λ m. m.name) (kept marks.now methods.now)) }
     ensures types { types.new ≡ mark_all types.old (map (λ m. m.class) (kept marks.now methods.now)) }
     ensures protos { protos.new ≡ mark_all protos.old (map (λ m. m.proto) (kept marks.now methods.now)) }
@@ -126,7 +126,7 @@ fn mark_by_protos(
     requires marks { length marks.now ≡ length protos.now }
     requires within { All (IsEntryWithin (length strings.old) (length types.old) parameters.now) protos.now }
     ensures strings { strings.new ≡ mark_all strings.old (map (λ p. p.shorty) (kept marks.now protos.now)) }
-    ensures types { types.new ≡ mark_all types.old (flat_map (entry_types parameters.now) (kept marks.now protos.now)) }
+    ensures types { types.new ≡ mark_all types.old (protos_types parameters.now protos.now marks.now) }
 {
     for (i, proto) in protos.iter().enumerate() {
         if marks[i] {

@@ -4,13 +4,13 @@ ghost use Rattle.std.specs.Prelude.{◌≡◌, ◌↔◌, ◌+◌, ◌<◌, ℕ,
 ghost use Rattle.dexspec.specs.Bytes.{uint_at, ushort_at};
 ghost use Rattle.dexspec.specs.Header.{FieldIds, table_size};
 ghost use Rattle.dexspec.specs.Names.{IsDescriptor};
-ghost use Rattle.dexspec.specs.Symbols.{Field, IsField};
-ghost use Rattle.dexspec.specs.Rows as rows;
+ghost use Rattle.dexspec.specs.Symbols.{IsField};
 ghost use Rattle.dexspec.specs.Rows.{row_at};
 ghost use Rattle.dexspec.specs.Conditions.{Condition};
 ghost use Rattle.dexspec.specs.Accepted.{HoldsThroughout};
 ghost use Rattle.dexpool.specs.Tables.{field_cmp};
-ghost use Rattle.dexpool.specs.Reading.{is_above_last, AreNames, AreFields, FieldRowAt, HasFieldNumbers};
+ghost use Rattle.dexpool.specs.Reading.{is_above_last, AreNames, HasFieldNumbers};
+ghost use Rattle.dexpool.specs.internal.FileRows.{NoFileField, IsFileField, AreFileFields};
 ghost use Rattle.dexpool.specs.Faults.{IsFault};
 
 use crate::faults::{ReadFault, refused};
@@ -47,7 +47,7 @@ fn is_field(class: &Text<'_>, name: &Text<'_>, typ: &Text<'_>) -> bool
 fn field_at(names: &Names<'_, '_>, i: u32) -> Option<FieldRow>
     requires names { AreNames names.now.frame.now names.now.strings.now names.now.types.now }
     requires row { i < table_size names.now.frame.now FieldIds }
-    ensures { MatchOption result ((f : Field) → rows.FieldRow names.now.frame.now i f → ⊥) (FieldRowAt names.now.strings.now names.now.types.now names.now.frame.now i) }
+    ensures { MatchOption result (NoFileField names.now i) (IsFileField names.now i) }
 {
     let field = field_numbers(names.frame, i);
     let class = match names.typ(field.class) {
@@ -86,7 +86,7 @@ fn is_above(fields: &[FieldRow], field: &FieldRow) -> bool
 pub(crate) fn read_fields(alloc: Global, names: &Names<'_, '_>) -> Result<Vec<FieldRow>, ReadFault>
     requires names { AreNames names.now.frame.now names.now.strings.now names.now.types.now }
     requires protos { HoldsThroughout Condition.Protos names.now.frame.now }
-    ensures ok { IfOk result (λ fields. AreFields names.now.frame.now names.now.strings.now names.now.types.now fields.items) }
+    ensures ok { IfOk result (λ fields. AreFileFields names.now fields.items) }
     ensures err { IfErr result (IsFault names.now.frame.now) }
 {
     let count = names.frame.size(Table::FieldIds);

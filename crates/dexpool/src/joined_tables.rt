@@ -2,12 +2,11 @@
 //! kinds below them, in which they rise still, and then joined.
 
 ghost use Rattle.std.specs.Prelude.{◌≡◌, length, map, All, IfOk, Some};
-ghost use Rattle.std.specs.List.{AllZip};
-ghost use Rattle.dexrows.specs.Join.{AreSorted, IsJoin};
-ghost use Rattle.dexpool.specs.Numberings.{IsNumbering, union_of, AllMapTo};
+ghost use Rattle.dexrows.specs.Join.{AreSorted};
+ghost use Rattle.dexpool.specs.Numberings.{IsNumbering, union_of, PartsMapTo};
 ghost use Rattle.dexpool.specs.Orderly.{KeepsOrder};
 ghost use Rattle.dexpool.specs.internal.Renumbering.{numbers_in, HasSpans};
-ghost use Rattle.dexpool.specs.internal.Joining.{Denote, proto_of_row, proto_key, IsRowOf, AreJoinedTexts, AreJoinedTypes, AreJoinedProtos, AreJoinedFields, AreJoinedMethods, AreMapsOf};
+ghost use Rattle.dexpool.specs.internal.Joining.{proto_key, JoinsRows, JoinsProtos, AreTextsOf, AreTypesOf, AreProtosOf, AreFieldsOf, AreMethodsOf, AreTablesOf, total_maps, AreRemapsOf};
 ghost use Rattle.dexpool.specs.Stored.{symbols_in, AreTables};
 
 use crate::images::Images;
@@ -47,7 +46,7 @@ pub(crate) fn join_tables<'a>(
 ) -> Result<(Tables<'a>, Vec<Remap>), AllocError>
     ensures tables { IfOk result (λ joined. AreTables joined.0) }
     ensures union { IfOk result (λ joined. symbols_in joined.0 ≡ union_of (map (λ part. part.now) parts.now)) }
-    ensures maps { IfOk result (λ joined. AllZip (λ part remap. AllMapTo part (symbols_in joined.0) remap) (map (λ part. part.now) parts.now) joined.1.items) }
+    ensures maps { IfOk result (λ joined. PartsMapTo parts.now (symbols_in joined.0) joined.1.items) }
 {
     let strings = join_strings(alloc, parts)?;
     let types = join_types(alloc, parts, &strings)?;
@@ -76,7 +75,7 @@ pub(crate) fn join_tables<'a>(
 // The texts of all parts.
 fn join_strings<'a>(alloc: Global, parts: &[&Numbering<'a>]) -> Result<Joined<Text<'a>>, AllocError>
     ensures numberings { IfOk result (λ _. All IsNumbering (map (λ part. part.now) parts.now)) }
-    ensures texts { IfOk result (λ texts. AreJoinedTexts (map (λ part. part.now) parts.now) texts.rows.items (map (λ image. image.items) texts.images.items)) }
+    ensures texts { IfOk result (AreTextsOf parts.now) }
 {
     let mut rows = Vec::with_capacity(alloc, parts.len())?;
     for part in parts {
@@ -92,8 +91,8 @@ fn join_types<'a>(
     strings: &Joined<Text<'a>>,
 ) -> Result<JoinedTypes, AllocError>
     requires numberings { All IsNumbering (map (λ part. part.now) parts.now) }
-    requires strings { AreJoinedTexts (map (λ part. part.now) parts.now) strings.now.rows.items (map (λ image. image.items) strings.now.images.items) }
-    ensures { IfOk result (λ types. AreJoinedTypes (map (λ part. part.now) parts.now) strings.now.rows.items types.numbers.items (map (λ image. image.items) types.images.items)) }
+    requires strings { AreTextsOf parts.now strings.now }
+    ensures { IfOk result (AreTypesOf parts.now strings.now) }
 {
     sorted_law::<TypeRow>();
     let mut rows = Vec::with_capacity(alloc, parts.len())?;
@@ -115,9 +114,9 @@ fn join_protos<'a>(
     types: &JoinedTypes,
 ) -> Result<JoinedProtos, AllocError>
     requires numberings { All IsNumbering (map (λ part. part.now) parts.now) }
-    requires strings { AreJoinedTexts (map (λ part. part.now) parts.now) strings.now.rows.items (map (λ image. image.items) strings.now.images.items) }
-    requires types { AreJoinedTypes (map (λ part. part.now) parts.now) strings.now.rows.items types.now.numbers.items (map (λ image. image.items) types.now.images.items) }
-    ensures { IfOk result (λ protos. AreJoinedProtos (map (λ part. part.now) parts.now) strings.now.rows.items types.now.numbers.items protos.table.parameters.items protos.table.rows.items (map (λ image. image.items) protos.images.items)) }
+    requires strings { AreTextsOf parts.now strings.now }
+    requires types { AreTypesOf parts.now strings.now types.now }
+    ensures { IfOk result (AreProtosOf parts.now strings.now types.now) }
 {
     let tables = renumbered_tables(alloc, parts, strings, types)?;
     let rows = rows_of_tables(alloc, &tables)?;
@@ -132,11 +131,11 @@ fn renumbered_tables<'a>(
     types: &JoinedTypes,
 ) -> Result<Vec<Protos>, AllocError>
     requires numberings { All IsNumbering (map (λ part. part.now) parts.now) }
-    requires strings { AreJoinedTexts (map (λ part. part.now) parts.now) strings.now.rows.items (map (λ image. image.items) strings.now.images.items) }
-    requires types { AreJoinedTypes (map (λ part. part.now) parts.now) strings.now.rows.items types.now.numbers.items (map (λ image. image.items) types.now.images.items) }
+    requires strings { AreTextsOf parts.now strings.now }
+    requires types { AreTypesOf parts.now strings.now types.now }
     ensures spans { IfOk result (λ tables. All HasSpans tables.items) }
     ensures sorted { IfOk result (λ tables. All (λ table. AreSorted proto_key (numbers_in table)) tables.items) }
-    ensures rows { IfOk result (λ tables. AllZip (λ part rows. Denote (proto_of_row strings.now.rows.items types.now.numbers.items) (IsRowOf strings.now.rows.items types.now.numbers.items) part.protos rows) (map (λ part. part.now) parts.now) (map numbers_in tables.items)) }
+    ensures rows { IfOk result (λ tables. AreTablesOf parts.now strings.now types.now tables.items) }
 {
     sorted_law::<ProtoRow<'_>>();
     let mut tables = Vec::with_capacity(alloc, parts.len())?;
@@ -157,7 +156,7 @@ fn renumbered_tables<'a>(
 fn joined_protos(alloc: Global, parts: &[Vec<ProtoRow<'_>>]) -> Result<JoinedProtos, AllocError>
     requires { All (λ part. AreSorted proto_key part.items) parts.now }
     ensures spans { IfOk result (λ protos. HasSpans protos.table) }
-    ensures joined { IfOk result (λ protos. IsJoin proto_key (map (λ part. part.items) parts.now) (numbers_in protos.table) (map (λ image. image.items) protos.images.items)) }
+    ensures joined { IfOk result (JoinsProtos parts.now) }
 {
     let joined = join_rows(alloc, parts)?;
     let table = stored(alloc, &joined.rows)?;
@@ -187,9 +186,9 @@ fn join_fields<'a>(
     types: &JoinedTypes,
 ) -> Result<Joined<FieldRow>, AllocError>
     requires numberings { All IsNumbering (map (λ part. part.now) parts.now) }
-    requires strings { AreJoinedTexts (map (λ part. part.now) parts.now) strings.now.rows.items (map (λ image. image.items) strings.now.images.items) }
-    requires types { AreJoinedTypes (map (λ part. part.now) parts.now) strings.now.rows.items types.now.numbers.items (map (λ image. image.items) types.now.images.items) }
-    ensures { IfOk result (λ fields. AreJoinedFields (map (λ part. part.now) parts.now) strings.now.rows.items types.now.numbers.items fields.rows.items (map (λ image. image.items) fields.images.items)) }
+    requires strings { AreTextsOf parts.now strings.now }
+    requires types { AreTypesOf parts.now strings.now types.now }
+    ensures { IfOk result (AreFieldsOf parts.now strings.now types.now) }
 {
     sorted_law::<FieldRow>();
     let mut rows = Vec::with_capacity(alloc, parts.len())?;
@@ -213,10 +212,10 @@ fn join_methods<'a>(
     protos: &JoinedProtos,
 ) -> Result<Joined<MethodRow>, AllocError>
     requires numberings { All IsNumbering (map (λ part. part.now) parts.now) }
-    requires strings { AreJoinedTexts (map (λ part. part.now) parts.now) strings.now.rows.items (map (λ image. image.items) strings.now.images.items) }
-    requires types { AreJoinedTypes (map (λ part. part.now) parts.now) strings.now.rows.items types.now.numbers.items (map (λ image. image.items) types.now.images.items) }
-    requires protos { AreJoinedProtos (map (λ part. part.now) parts.now) strings.now.rows.items types.now.numbers.items protos.now.table.parameters.items protos.now.table.rows.items (map (λ image. image.items) protos.now.images.items) }
-    ensures { IfOk result (λ methods. AreJoinedMethods (map (λ part. part.now) parts.now) strings.now.rows.items types.now.numbers.items protos.now.table.parameters.items protos.now.table.rows.items methods.rows.items (map (λ image. image.items) methods.images.items)) }
+    requires strings { AreTextsOf parts.now strings.now }
+    requires types { AreTypesOf parts.now strings.now types.now }
+    requires protos { AreProtosOf parts.now strings.now types.now protos.now }
+    ensures { IfOk result (AreMethodsOf parts.now strings.now types.now protos.now) }
 {
     sorted_law::<MethodRow>();
     let mut rows = Vec::with_capacity(alloc, parts.len())?;
@@ -235,7 +234,7 @@ fn join_methods<'a>(
 // The rows of each part, which are sorted, joined.
 fn join_rows<R: Row>(alloc: Global, parts: &[Vec<R>]) -> Result<Joined<R>, AllocError>
     requires { All (λ part. AreSorted R.key_of part.items) parts.now }
-    ensures { IfOk result (λ joined. IsJoin R.key_of (map (λ part. part.items) parts.now) joined.rows.items (map (λ image. image.items) joined.images.items)) }
+    ensures { IfOk result (JoinsRows R.key_of parts.now) }
 {
     let slices = slices_of(alloc, parts)?;
     join(alloc, &slices)
@@ -270,7 +269,7 @@ fn remaps(
     requires protos_keep { All (λ image. KeepsOrder (map Some image.items)) protos.now }
     requires fields_keep { All (λ image. KeepsOrder (map Some image.items)) fields.now }
     requires methods_keep { All (λ image. KeepsOrder (map Some image.items)) methods.now }
-    ensures { IfOk result (λ remaps. AreMapsOf (map (λ image. image.items) strings.now) (map (λ image. image.items) types.now) (map (λ image. image.items) protos.now) (map (λ image. image.items) fields.now) (map (λ image. image.items) methods.now) remaps.items) }
+    ensures { IfOk result (AreRemapsOf strings.now types.now protos.now fields.now methods.now) }
 {
     let mut remaps = Vec::with_capacity(alloc, strings.len())?;
     for i in 0..strings.len() {
@@ -300,7 +299,7 @@ fn remap(
     requires protos_keep { KeepsOrder (map Some protos.now) }
     requires fields_keep { KeepsOrder (map Some fields.now) }
     requires methods_keep { KeepsOrder (map Some methods.now) }
-    ensures { IfOk result (λ remap. remap ≡ record { texts = map Some strings.now; types = map Some types.now; protos = map Some protos.now; fields = map Some fields.now; methods = map Some methods.now }) }
+    ensures { IfOk result (λ remap. remap ≡ total_maps strings.now types.now protos.now fields.now methods.now) }
 {
     Ok(Remap {
         strings: total(alloc, strings)?,

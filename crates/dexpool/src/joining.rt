@@ -2,7 +2,7 @@
 
 ghost use Rattle.std.specs.Prelude.{◌≡◌, map, IfOk};
 ghost use Rattle.std.specs.List.{AllZip};
-ghost use Rattle.dexpool.specs.Numberings.{union_of, AllMapTo};
+ghost use Rattle.dexpool.specs.Numberings.{union_of, PartsMapTo};
 ghost use Rattle.dexpool.specs.Laws.{MapsAll};
 
 use crate::joined_tables::join_tables;
@@ -24,7 +24,7 @@ impl<'a> Numbering<'a> {
         parts: &[&Numbering<'a>],
     ) -> Result<(Numbering<'a>, Vec<Remap>), AllocError>
         ensures union { IfOk result (λ joined. joined.0 ≡ union_of (map (λ part. part.now) parts.now)) }
-        ensures maps { IfOk result (λ joined. AllZip (λ part remap. AllMapTo part joined.0 remap) (map (λ part. part.now) parts.now) joined.1.items) }
+        ensures maps { IfOk result (λ joined. PartsMapTo parts.now joined.0 joined.1.items) }
         ensures whole { IfOk result (λ joined. AllZip MapsAll (map (λ part. part.now) parts.now) joined.1.items) }
     {
         let (tables, remaps) = join_tables(alloc, parts)?;

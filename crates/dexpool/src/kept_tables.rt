@@ -1,12 +1,12 @@
 //! Tables cut down to their marked rows: each table is cut, and the rows that are left are renumbered by the places
 //! of the rows below them.
 
-ghost use Rattle.std.specs.Prelude.{◌≡◌, length, map, slice_index, IfOk};
+ghost use Rattle.std.specs.Prelude.{◌≡◌, length, IfOk};
 ghost use Rattle.dexrows.specs.Cut.{kept, places};
 ghost use Rattle.dexpool.specs.Numberings.{AreMarksOf};
 ghost use Rattle.dexpool.specs.Stored.{symbols_in, AreTables};
-ghost use Rattle.dexpool.specs.internal.Renumbering.{HasSpans, numbers_in, moved_proto, moved_field, moved_method};
-ghost use Rattle.dexpool.specs.internal.Closing.{AreClosed, AreKept, IsCut, kept_places};
+ghost use Rattle.dexpool.specs.internal.Renumbering.{HasSpans, numbers_in};
+ghost use Rattle.dexpool.specs.internal.Closing.{AreClosed, AreKept, IsCut, kept_places, cut_types, cut_protos, cut_fields, cut_methods};
 
 use crate::images::Images;
 use crate::lists::Parameters;
@@ -116,7 +116,7 @@ fn kept_types(
     requires tables { AreTables tables.now }
     requires marks { length marks.now ≡ length tables.now.types.items }
     requires strings { length strings.now ≡ length tables.now.strings.items }
-    ensures { IfOk result (λ types. types.items ≡ map (slice_index strings.now) (kept marks.now tables.now.types.items)) }
+    ensures { IfOk result (λ types. types.items ≡ cut_types tables.now marks.now strings.now) }
 {
     let rows = marked(alloc, &tables.types, marks)?;
     images_of(alloc, &rows, strings)
@@ -135,7 +135,7 @@ fn kept_protos(
     requires strings { length strings.now ≡ length tables.now.strings.items }
     requires types { length types.now ≡ length tables.now.types.items }
     ensures spans { IfOk result HasSpans }
-    ensures rows { IfOk result (λ protos. numbers_in protos ≡ map (moved_proto strings.now types.now tables.now.parameters) (kept marks.now tables.now.protos.items)) }
+    ensures rows { IfOk result (λ left. numbers_in left ≡ cut_protos tables.now marks.now strings.now types.now) }
 {
     let rows = marked(alloc, &tables.protos, marks)?;
     renumbered_protos(alloc, &rows, &tables.parameters, strings, types)
@@ -153,7 +153,7 @@ fn kept_fields(
     requires marks { length marks.now ≡ length tables.now.fields.items }
     requires strings { length strings.now ≡ length tables.now.strings.items }
     requires types { length types.now ≡ length tables.now.types.items }
-    ensures { IfOk result (λ fields. fields.items ≡ map (moved_field strings.now types.now) (kept marks.now tables.now.fields.items)) }
+    ensures { IfOk result (λ fields. fields.items ≡ cut_fields tables.now marks.now strings.now types.now) }
 {
     let rows = marked(alloc, &tables.fields, marks)?;
     renumbered_fields(alloc, &rows, strings, types)
@@ -171,7 +171,7 @@ fn kept_methods(
     requires strings { length lower.strings.now ≡ length tables.now.strings.items }
     requires types { length lower.types.now ≡ length tables.now.types.items }
     requires protos { length lower.protos.now ≡ length tables.now.protos.items }
-    ensures { IfOk result (λ methods. methods.items ≡ map (moved_method lower.entry.strings.now lower.entry.types.now lower.entry.protos.now) (kept marks.now tables.now.methods.items)) }
+    ensures { IfOk result (λ methods. methods.items ≡ cut_methods tables.now marks.now lower.entry) }
 {
     let rows = marked(alloc, &tables.methods, marks)?;
     renumbered_methods(alloc, &rows, lower.strings, lower.types, lower.protos)

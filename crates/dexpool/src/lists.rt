@@ -3,7 +3,7 @@
 ghost use Rattle.std.specs.Prelude.{◌≡◌, ◌/◌, length, IfOk};
 ghost use Rattle.dexspec.specs.Bytes.{ushorts_at};
 ghost use Rattle.dexpool.specs.Tables.{span_of};
-ghost use Rattle.dexpool.specs.Reading.{HasSpan};
+ghost use Rattle.dexpool.specs.Reading.{HasSpan, file_numbers};
 
 use crate::rows::Span;
 use dexrows::TypeNumbers;
@@ -47,8 +47,8 @@ fn own_part(numbers: &[usize], span: Span) -> &[usize]
 
 // Returns the bytes that encode a part of the numbers.
 fn file_part(bytes: &[u8], span: Span) -> &[u8]
-    requires { HasSpan (ushorts_at bytes.now 0 (length bytes.now / 2)) span }
-    ensures { ushorts_at result.now 0 (length result.now / 2) ≡ span_of (ushorts_at bytes.now 0 (length bytes.now / 2)) span }
+    requires { HasSpan (file_numbers bytes.now) span }
+    ensures { file_numbers result.now ≡ span_of (file_numbers bytes.now) span }
 {
     let (_, rest) = bytes.split_at(2 * span.start);
     let (part, _) = rest.split_at(2 * (span.end - span.start));

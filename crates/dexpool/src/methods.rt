@@ -3,12 +3,11 @@
 ghost use Rattle.std.specs.Prelude.{◌≡◌, ◌↔◌, ◌+◌, ◌<◌, ℕ, List, MatchOption, IfOk, IfErr, IsTrue};
 ghost use Rattle.dexspec.specs.Header.{MethodIds, table_size};
 ghost use Rattle.dexspec.specs.Names.{IsDescriptor, IsReferenceType, IsMemberName};
-ghost use Rattle.dexspec.specs.Symbols.{Method};
-ghost use Rattle.dexspec.specs.Rows as rows;
 ghost use Rattle.dexspec.specs.Conditions.{Condition};
 ghost use Rattle.dexspec.specs.Accepted.{HoldsThroughout};
 ghost use Rattle.dexpool.specs.Tables.{method_cmp};
-ghost use Rattle.dexpool.specs.Reading.{is_above_last, AreNames, AreProtos, AreMethods, MethodRowAt, HasMethodNumbers, AreMethodNames, file_numbers};
+ghost use Rattle.dexpool.specs.Reading.{is_above_last, AreNames, HasMethodNumbers, AreMethodNames};
+ghost use Rattle.dexpool.specs.internal.FileRows.{AreFileProtos, NoFileMethod, IsFileMethod, AreFileMethods};
 ghost use Rattle.dexpool.specs.Faults.{IsFault};
 
 use crate::faults::{ReadFault, refused};
@@ -44,9 +43,9 @@ fn is_method(class: &Text<'_>, name: &Text<'_>) -> bool
 // The numbers of a row, if it is a method.
 fn method_at(names: &Names<'_, '_>, protos: &[ProtoEntry], i: u32) -> Option<MethodRow>
     requires names { AreNames names.now.frame.now names.now.strings.now names.now.types.now }
-    requires protos { AreProtos names.now.frame.now names.now.strings.now names.now.types.now (file_numbers names.now.frame.now) protos.now }
+    requires protos { AreFileProtos names.now protos.now }
     requires row { i < table_size names.now.frame.now MethodIds }
-    ensures { MatchOption result ((m : Method) → rows.MethodRow names.now.frame.now i m → ⊥) (MethodRowAt names.now.strings.now names.now.types.now (file_numbers names.now.frame.now) protos.now names.now.frame.now i) }
+    ensures { MatchOption result (NoFileMethod names.now i) (IsFileMethod names.now protos.now i) }
 {
     let method = method_numbers(names.frame, i);
     let class = match names.typ(method.class) {
@@ -87,9 +86,9 @@ pub(crate) fn read_methods(
     protos: &[ProtoEntry],
 ) -> Result<Vec<MethodRow>, ReadFault>
     requires names { AreNames names.now.frame.now names.now.strings.now names.now.types.now }
-    requires protos { AreProtos names.now.frame.now names.now.strings.now names.now.types.now (file_numbers names.now.frame.now) protos.now }
+    requires protos { AreFileProtos names.now protos.now }
     requires fields { HoldsThroughout Condition.Fields names.now.frame.now }
-    ensures ok { IfOk result (λ methods. AreMethods names.now.frame.now names.now.strings.now names.now.types.now (file_numbers names.now.frame.now) protos.now methods.items) }
+    ensures ok { IfOk result (λ methods. AreFileMethods names.now protos.now methods.items) }
     ensures err { IfErr result (IsFault names.now.frame.now) }
 {
     let count = names.frame.size(Table::MethodIds);

@@ -1,8 +1,8 @@
 //! What the rows of protos, fields and methods name.
 
-ghost use Rattle.std.specs.Prelude.{ℕ, List, MatchOption};
-ghost use Rattle.dexspec.specs.Rows.{StringRow, TypeRow};
-ghost use Rattle.dexpool.specs.Reading.{AreNames, IsText, IsType};
+ghost use Rattle.std.specs.Prelude.{MatchOption};
+ghost use Rattle.dexpool.specs.Reading.{AreNames};
+ghost use Rattle.dexpool.specs.internal.FileRows.{NoFileText, IsFileText, NoFileType, IsFileType};
 
 use dexhead::Frame;
 use dexstr::Text;
@@ -19,7 +19,7 @@ impl<'p, 'a> Names<'p, 'a> {
     /// The text of a row, if there is the row.
     pub(crate) fn text(&self, index: usize) -> Option<&'p Text<'a>>
         requires { AreNames self.now.frame.now self.now.strings.now self.now.types.now }
-        ensures { MatchOption result ((s : List ℕ) → StringRow self.now.frame.now index s → ⊥) (λ t. IsText self.now.frame.now self.now.strings.now index t.now) }
+        ensures { MatchOption result (NoFileText self.now index) (λ t. IsFileText self.now index t.now) }
     {
         if self.strings.len() <= index {
             return None;
@@ -30,7 +30,7 @@ impl<'p, 'a> Names<'p, 'a> {
     /// The type of a row, if there is the row.
     pub(crate) fn typ(&self, index: usize) -> Option<&'p Text<'a>>
         requires { AreNames self.now.frame.now self.now.strings.now self.now.types.now }
-        ensures { MatchOption result ((t : List ℕ) → TypeRow self.now.frame.now index t → ⊥) (λ t. IsType self.now.frame.now self.now.strings.now self.now.types.now index t.now) }
+        ensures { MatchOption result (NoFileType self.now index) (λ t. IsFileType self.now index t.now) }
     {
         if self.types.len() <= index {
             return None;

@@ -4,7 +4,8 @@ ghost use Rattle.std.specs.Prelude.{◌≡◌, ◌<◌, ℕ, List, length, slice
 ghost use Rattle.dexspec.specs.Accepted.{HoldBelow, IsFrame};
 ghost use Rattle.dexspec.specs.Symbols.{Proto, Field, Method};
 ghost use Rattle.dexpool.specs.Pools.{ArePools, count_of};
-ghost use Rattle.dexpool.specs.Reading.{AreNames, AreProtos, AreFields, AreMethods, file_numbers};
+ghost use Rattle.dexpool.specs.Reading.{AreNames, file_numbers};
+ghost use Rattle.dexpool.specs.internal.FileRows.{AreFileProtos, AreFileFields, AreFileMethods};
 ghost use Rattle.dexpool.specs.Numberings.{IsAt, IsNumbered, IsOfKind, IsNumbering, DenotesProto, DenotesField, DenotesMethod};
 ghost use Rattle.dexpool.specs.Owned.{symbol_of};
 ghost use Rattle.dexpool.specs.Faults.{IsFault};
@@ -184,9 +185,9 @@ fn read_rows(
 ) -> Result<Rows, ReadFault>
     requires names { AreNames names.now.frame.now names.now.strings.now names.now.types.now }
     requires file { parameters.now ≡ file_numbers names.now.frame.now }
-    ensures protos { IfOk result (λ rows. AreProtos names.now.frame.now names.now.strings.now names.now.types.now (file_numbers names.now.frame.now) rows.protos.items) }
-    ensures fields { IfOk result (λ rows. AreFields names.now.frame.now names.now.strings.now names.now.types.now rows.fields.items) }
-    ensures methods { IfOk result (λ rows. AreMethods names.now.frame.now names.now.strings.now names.now.types.now (file_numbers names.now.frame.now) rows.protos.items rows.methods.items) }
+    ensures protos { IfOk result (λ rows. AreFileProtos names.now rows.protos.items) }
+    ensures fields { IfOk result (λ rows. AreFileFields names.now rows.fields.items) }
+    ensures methods { IfOk result (λ rows. AreFileMethods names.now rows.protos.items rows.methods.items) }
     ensures err { IfErr result (IsFault names.now.frame.now) }
 {
     let protos = read_protos(alloc, names, parameters)?;

@@ -1,12 +1,11 @@
 //! The pool of protos.
 
-ghost use Rattle.std.specs.Prelude.{◌≡◌, ◌<◌, ℕ, List, length, MatchOption, IfOk, IfErr, slice_index_or};
+ghost use Rattle.std.specs.Prelude.{◌≡◌, ◌<◌, MatchOption, IfOk, IfErr};
 ghost use Rattle.dexspec.specs.Header.{ProtoIds, table_size};
-ghost use Rattle.dexspec.specs.Symbols.{Proto};
-ghost use Rattle.dexspec.specs.Rows as rows;
 ghost use Rattle.dexpool.specs.Tables.{span_of, proto_cmp};
-ghost use Rattle.dexpool.specs.Reading.{is_above_last, AreNames, AreProtos, HasIndices, HasSpan, ProtoRowAt, file_numbers};
-ghost use Rattle.dexpool.specs.internal.CheckedLists.{AreLetters, AreChecked};
+ghost use Rattle.dexpool.specs.Reading.{is_above_last, AreNames, HasIndices, HasSpan, file_numbers, HaveSpans};
+ghost use Rattle.dexpool.specs.internal.CheckedLists.{AreLetters};
+ghost use Rattle.dexpool.specs.internal.FileRows.{NoFileProto, IsFileProto, AreFileProtos, AreFileLists};
 ghost use Rattle.dexpool.specs.Faults.{IsFault};
 
 use crate::checked_lists::{CheckedList, has_shorty, note};
@@ -60,10 +59,10 @@ fn proto_at(
     requires names { AreNames names.now.frame.now names.now.strings.now names.now.types.now }
     requires letters { AreLetters names.now.strings.now names.now.types.now letters.now }
     requires file { file.now ≡ file_numbers names.now.frame.now }
-    requires lists { AreChecked names.now.frame.now names.now.strings.now names.now.types.now lists.old }
+    requires lists { AreFileLists names.now lists.old }
     requires row { i < table_size names.now.frame.now ProtoIds }
-    ensures lists { IfOk result (λ _. AreChecked names.now.frame.now names.now.strings.now names.now.types.now lists.new) }
-    ensures proto { IfOk result (λ found. MatchOption found ((p : Proto) → rows.ProtoRow names.now.frame.now i p → ⊥) (ProtoRowAt names.now.strings.now names.now.types.now (file_numbers names.now.frame.now) names.now.frame.now i)) }
+    ensures lists { IfOk result (λ _. AreFileLists names.now lists.new) }
+    ensures proto { IfOk result (λ found. MatchOption found (NoFileProto names.now i) (IsFileProto names.now i)) }
 {
     let indices = indices_at(names.frame, i);
     let shorty = match names.text(indices.shorty) {
@@ -120,7 +119,7 @@ fn compare(parameters: &Parameters<'_>, left: &ProtoEntry, right: &ProtoEntry) -
 
 // Returns whether the proto comes after the last one, if there is one.
 fn is_above(parameters: &Parameters<'_>, protos: &[ProtoEntry], proto: &ProtoEntry) -> bool
-    requires protos { (k : ℕ) (d : ProtoEntry) → k < length protos.now → HasSpan parameters.now (slice_index_or protos.now k d).parameters }
+    requires protos { HaveSpans parameters.now protos.now }
     requires proto { HasSpan parameters.now proto.now.parameters }
     ensures { result ≡ is_above_last (proto_cmp parameters.now) proto.now protos.now }
 {
@@ -142,7 +141,7 @@ pub(crate) fn read_protos(
 ) -> Result<Vec<ProtoEntry>, ReadFault>
     requires names { AreNames names.now.frame.now names.now.strings.now names.now.types.now }
     requires file { file.now ≡ file_numbers names.now.frame.now }
-    ensures ok { IfOk result (λ protos. AreProtos names.now.frame.now names.now.strings.now names.now.types.now (file_numbers names.now.frame.now) protos.items) }
+    ensures ok { IfOk result (λ protos. AreFileProtos names.now protos.items) }
     ensures err { IfErr result (IsFault names.now.frame.now) }
 {
     let count = names.frame.size(Table::ProtoIds);

@@ -1,12 +1,11 @@
 //! Ranks: the number of symbols of a numbering that are less than one that need not be there.
 
-ghost use Rattle.std.specs.Prelude.{◌≡◌, ◌<◌, ◌≤◌, ℕ, Bool, List, All, length, map, slice_index_or};
-ghost use Rattle.std.specs.Ordering.{is_lt};
+ghost use Rattle.std.specs.Prelude.{◌≡◌, ◌<◌, ◌≤◌, ℕ, List, All, length, slice_index_or};
 ghost use Rattle.std.specs.Cmp.Lexicographic.{slice_cmp};
 ghost use Rattle.dexspec.specs.Texts.{text_cmp};
 ghost use Rattle.dexspec.specs.Symbols.{Proto, Field, Method, proto_cmp, field_cmp, method_cmp};
 ghost use Rattle.dexspec.specs.Lists.{rank};
-ghost use Rattle.dexpool.specs.internal.Ranking.{ComeFirst, PassBelow};
+ghost use Rattle.dexpool.specs.internal.Ranking.{CountsLess, types_or};
 
 use crate::numbering::Numbering;
 use crate::symbols::{FieldSymbol, MethodSymbol, ProtoSymbol, SymbolKind};
@@ -18,7 +17,7 @@ use std::cmp::Ordering;
 fn count_less<F: Fn(usize) -> Ordering>(count: usize, compare: F) -> usize
     requires { (i : ℕ) → i < count → F.pre compare i }
     ensures within { result ≤ count }
-    ensures less { (test : ℕ → Bool) → ((i : ℕ) (o : _) → i < count → F.post compare i o → is_lt o ≡ test i) → ComeFirst test count → PassBelow test result count }
+    ensures less { CountsLess (F.post compare) count result }
 {
     let mut low = 0;
     let mut high = count;
@@ -53,7 +52,7 @@ impl<'a> Numbering<'a> {
     // Compares the types of numbers with other types: the first that differ decide, and else a prefix comes first.
     fn compare_types(&self, numbers: &TypeNumbers<'_>, descriptors: &[Name]) -> Ordering
         requires { All (λ n. n < length self.now.types) numbers.now }
-        ensures { (d : List ℕ) → result ≡ slice_cmp text_cmp (map (λ n. slice_index_or self.now.types n d) numbers.now) descriptors.now }
+        ensures { (d : List ℕ) → result ≡ slice_cmp text_cmp (types_or self.now numbers.now d) descriptors.now }
     {
         for i in 0..numbers.len().min(descriptors.len()) {
             match self.compare_type(numbers.at(i), &descriptors[i].text()) {

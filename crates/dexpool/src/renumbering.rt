@@ -2,7 +2,7 @@
 
 ghost use Rattle.std.specs.Prelude.{◌≡◌, ◌<◌, ◌++◌, length, map, All, IfOk, OnOk, slice_index};
 ghost use Rattle.dexrows.specs.Numbers.{among_of, lower_of};
-ghost use Rattle.dexpool.specs.internal.Renumbering.{StaySorted, moved_type, IsEntryWithin, HasSpans, numbers_in, moved_proto, IsFieldWithin, moved_field, IsMethodWithin, moved_method};
+ghost use Rattle.dexpool.specs.internal.Renumbering.{StaySorted, moved_type, IsEntryWithin, HasSpans, numbers_in, moved_proto, IsFieldWithin, moved_field, IsMethodWithin, moved_method, AreMovedProtos};
 
 use crate::lists::Parameters;
 use crate::protos::{Protos, part};
@@ -84,7 +84,7 @@ pub(crate) fn renumbered_protos(
 ) -> Result<Protos, AllocError>
     requires { All (IsEntryWithin (length strings.now) (length types.now) parameters.now) protos.now }
     ensures spans { IfOk result HasSpans }
-    ensures rows { IfOk result (λ table. numbers_in table ≡ map (moved_proto strings.now types.now parameters.now) protos.now) }
+    ensures rows { IfOk result (AreMovedProtos strings.now types.now parameters.now protos.now) }
 {
     let range = covering(protos);
     if listed(protos) > range.end.saturating_sub(range.start) {

@@ -2,7 +2,7 @@
 
 ghost use Rattle.std.specs.Prelude.{◌≡◌, ◌<◌, ◌≤◌, ℕ, List, length, map, All, IfOk, slice_index};
 ghost use Rattle.dexpool.specs.Reading.{HasSpan};
-ghost use Rattle.dexpool.specs.internal.Renumbering.{IsEntryWithin, HasSpans, numbers_in, moved_proto};
+ghost use Rattle.dexpool.specs.internal.Renumbering.{IsEntryWithin, HasSpans, numbers_in, moved_proto, AreMovedProtos};
 ghost use Rattle.dexpool.specs.internal.SharedLists.{Covers, IsPlaceWithin};
 
 use crate::lists::Parameters;
@@ -97,7 +97,7 @@ pub(crate) fn renumbered_together(
     requires range { HasSpan parameters.now range }
     requires covers { All (λ p. Covers range p.parameters) protos.now }
     ensures spans { IfOk result HasSpans }
-    ensures rows { IfOk result (λ table. numbers_in table ≡ map (moved_proto strings.now types.now parameters.now) protos.now) }
+    ensures rows { IfOk result (AreMovedProtos strings.now types.now parameters.now protos.now) }
 {
     let moved = images_or_none(alloc, &parameters.part(range), types)?;
     let mut rows = Vec::with_capacity(alloc, protos.len())?;

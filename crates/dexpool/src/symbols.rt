@@ -2,8 +2,8 @@
 
 ghost use Rattle.std.specs.Prelude.{◌≡◌, ◌<◌, map, length, All, IfOk};
 ghost use Rattle.dexspec.specs.Symbols as symbols;
-ghost use Rattle.dexpool.specs.Tables.{text_of, type_of, proto_of, field_of, method_of};
-ghost use Rattle.dexpool.specs.Stored.{IsProtoEntry, IsFieldRow, IsMethodRow, AreTables};
+ghost use Rattle.dexpool.specs.Tables.{text_of};
+ghost use Rattle.dexpool.specs.Stored.{IsProtoEntry, IsFieldRow, IsMethodRow, AreTables, stored_type, stored_proto, stored_field, stored_method};
 
 use crate::rows::ProtoEntry;
 use crate::tables::Tables;
@@ -105,7 +105,7 @@ impl Model for MethodSymbol {
 pub(crate) fn type_name(alloc: Global, tables: &Tables<'_>, typ: usize) -> Result<Name, AllocError>
     requires tables { AreTables tables.now }
     requires row { typ < length tables.now.types.items }
-    ensures { IfOk result (λ name. name ≡ type_of tables.now.strings.items tables.now.types.items typ) }
+    ensures { IfOk result (λ name. name ≡ stored_type tables.now typ) }
 {
     Name::of(alloc, &tables.strings[tables.types[typ]])
 }
@@ -120,7 +120,7 @@ fn class_and_name(
     requires tables { AreTables tables.now }
     requires class { class < length tables.now.types.items }
     requires name { name < length tables.now.strings.items }
-    ensures class { IfOk result (λ names. names.0 ≡ type_of tables.now.strings.items tables.now.types.items class) }
+    ensures class { IfOk result (λ names. names.0 ≡ stored_type tables.now class) }
     ensures name { IfOk result (λ names. names.1 ≡ text_of tables.now.strings.items name) }
 {
     let class = type_name(alloc, tables, class)?;
@@ -136,7 +136,7 @@ fn type_names(
 ) -> Result<Vec<Name>, AllocError>
     requires tables { AreTables tables.now }
     requires rows { All (λ typ. typ < length tables.now.types.items) types.now }
-    ensures { IfOk result (λ names. names.items ≡ map (type_of tables.now.strings.items tables.now.types.items) types.now) }
+    ensures { IfOk result (λ names. names.items ≡ map (stored_type tables.now) types.now) }
 {
     let mut names = Vec::with_capacity(alloc, types.len())?;
     for i in 0..types.len() {
@@ -196,7 +196,7 @@ impl ProtoSymbol {
     ) -> Result<ProtoSymbol, AllocError>
         requires tables { AreTables tables.now }
         requires row { IsProtoEntry tables.now row.now }
-        ensures { IfOk result (λ symbol. symbol ≡ proto_of tables.now.strings.items tables.now.types.items tables.now.parameters row.now) }
+        ensures { IfOk result (λ symbol. symbol ≡ stored_proto tables.now row.now) }
     {
         Ok(ProtoSymbol {
             return_type: type_name(alloc, tables, row.return_type)?,
@@ -226,7 +226,7 @@ impl FieldSymbol {
     ) -> Result<FieldSymbol, AllocError>
         requires tables { AreTables tables.now }
         requires row { IsFieldRow tables.now row.now }
-        ensures { IfOk result (λ symbol. symbol ≡ field_of tables.now.strings.items tables.now.types.items row.now) }
+        ensures { IfOk result (λ symbol. symbol ≡ stored_field tables.now row.now) }
     {
         let (class, name) = class_and_name(alloc, tables, row.class, row.name)?;
         let typ = type_name(alloc, tables, row.typ)?;
@@ -255,7 +255,7 @@ impl MethodSymbol {
     ) -> Result<MethodSymbol, AllocError>
         requires tables { AreTables tables.now }
         requires row { IsMethodRow tables.now row.now }
-        ensures { IfOk result (λ symbol. symbol ≡ method_of tables.now.strings.items tables.now.types.items tables.now.parameters tables.now.protos.items row.now) }
+        ensures { IfOk result (λ symbol. symbol ≡ stored_method tables.now row.now) }
     {
         let (class, name) = class_and_name(alloc, tables, row.class, row.name)?;
         let proto = ProtoSymbol::of(alloc, tables, &tables.protos[row.proto])?;

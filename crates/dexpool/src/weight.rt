@@ -1,7 +1,8 @@
 //! The weight of the symbols of a numbering.
 
-ghost use Rattle.std.specs.Prelude.{◌≡◌, ◌^◌, ◌-◌, ◌+◌, ◌*◌, min, sum_by, length};
+ghost use Rattle.std.specs.Prelude.{◌≡◌, ◌^◌, ◌-◌, min, sum_by, length};
 ghost use Rattle.dexspec.specs.Weight.{mentions_weight, text_weight};
+ghost use Rattle.dexpool.specs.internal.Weights.{entry_weight};
 
 use crate::numbering::Numbering;
 use crate::rows::ProtoEntry;
@@ -20,7 +21,7 @@ fn texts_weight(texts: &[Text<'_>]) -> u64
 
 // Returns the weight of protos: each a proto_id and a type_list.
 fn protos_weight(protos: &[ProtoEntry]) -> u64
-    ensures { result ≡ min (2 ^ 64 - 1) (sum_by (λ p. 20 + 2 * (p.parameters.end - p.parameters.start)) protos.now) }
+    ensures { result ≡ min (2 ^ 64 - 1) (sum_by entry_weight protos.now) }
 {
     let mut weight: u64 = 0;
     for proto in protos {

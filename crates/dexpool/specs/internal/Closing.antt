@@ -1,17 +1,19 @@
 -- Marks closed downwards, and what tables keep by them.
-use Rattle.std.specs.Prelude.{◌≡◌, ℕ, Bool, true, false, List, [], ◌∷◌, map, All, Option, unwrap_or, slice_index, slice_index_or, slice_set}
+use Rattle.std.specs.Prelude.{◌≡◌, ℕ, Bool, true, false, List, [], ◌∷◌, map, All, Option, unwrap_or, slice_index, slice_index_or, slice_set, length}
 use Rattle.std.specs.List.{flat_map}
 use Rattle.dexspec.specs.Mentions.{Mentions}
 use Rattle.dexrows.specs.Cut.{kept, places}
 use Rattle.dexrows.specs.declared.fields.FieldRow.{FieldRow}
 use Rattle.dexrows.specs.declared.methods.MethodRow.{MethodRow}
+use Rattle.dexrows.specs.declared.lower.LowerPlaces.{LowerPlaces}
+use Rattle.dexrows.specs.Numbers.{ProtoNumbers}
 use Rattle.dexpool.specs.declared.rows.ProtoEntry.{ProtoEntry}
 use Rattle.dexpool.specs.declared.tables.Tables.{Tables}
 use Rattle.dexpool.specs.declared.marks.Marks.{Marks}
 use Rattle.dexpool.specs.Tables.{span_of}
 use Rattle.dexpool.specs.Reading.{HasSpan}
 use Rattle.dexpool.specs.Numberings.{Maps}
-use Rattle.dexpool.specs.internal.Renumbering.{numbers_of, moved_proto, moved_field, moved_method}
+use Rattle.dexpool.specs.internal.Renumbering.{numbers_of, moved_proto, moved_field, moved_method, IsMethodWithin}
 use Rattle.dexpool.specs.Stored.{symbols_in, AreTables}
 
 -- ---- marks
@@ -35,15 +37,37 @@ field_types f = f.class ∷ f.typ ∷ []
 abbrev pub entry_types : List ℕ → ProtoEntry → List ℕ
 entry_types parameters p = p.return_type ∷ span_of parameters p.parameters
 
+-- ---- what marked rows name
+
+-- the protos of marked methods
+abbrev pub method_protos : Tables → List Bool → List ℕ
+method_protos t methods = map (λ m. m.proto) (kept methods t.methods.items)
+
+-- the types of marked protos
+abbrev pub protos_types : List ℕ → List ProtoEntry → List Bool → List ℕ
+protos_types parameters protos marks = flat_map (entry_types parameters) (kept marks protos)
+
+-- the marks of types, and marks on those of marked methods, fields and protos
+abbrev pub marked_types : Tables → List Bool → List Bool → List Bool → List Bool → List Bool
+marked_types t methods fields protos types = mark_all (mark_all (mark_all types (map (λ m. m.class) (kept methods t.methods.items))) (flat_map field_types (kept fields t.fields.items))) (protos_types t.parameters t.protos.items protos)
+
+-- the marks of texts, and marks on those of marked methods, fields, protos and types
+abbrev pub marked_texts : Tables → List Bool → List Bool → List Bool → List Bool → List Bool → List Bool
+marked_texts t methods fields protos types strings = mark_all (mark_all (mark_all (mark_all strings (map (λ m. m.name) (kept methods t.methods.items))) (map (λ f. f.name) (kept fields t.fields.items))) (map (λ p. p.shorty) (kept protos t.protos.items))) (kept types t.types.items)
+
+-- there are marks for the numbers of a method
+abbrev pub HasMethodMarks : List Bool → List Bool → List Bool → MethodRow → Type 0
+HasMethodMarks strings types protos = IsMethodWithin (length strings) (length types) (length protos)
+
 -- ---- closed downwards
 
 -- the marks, and marks on what marked rows name
 pub record AreClosure (t : Tables) (marks closed : Marks) : Type 0 where
   pub methods_are : closed.methods.items ≡ marks.methods.items
   pub fields_are : closed.fields.items ≡ marks.fields.items
-  pub protos_are : closed.protos.items ≡ mark_all marks.protos.items (map (λ m. m.proto) (kept marks.methods.items t.methods.items))
-  pub types_are : closed.types.items ≡ mark_all (mark_all (mark_all marks.types.items (map (λ m. m.class) (kept marks.methods.items t.methods.items))) (flat_map field_types (kept marks.fields.items t.fields.items))) (flat_map (entry_types t.parameters) (kept closed.protos.items t.protos.items))
-  pub strings_are : closed.strings.items ≡ mark_all (mark_all (mark_all (mark_all marks.strings.items (map (λ m. m.name) (kept marks.methods.items t.methods.items))) (map (λ f. f.name) (kept marks.fields.items t.fields.items))) (map (λ p. p.shorty) (kept closed.protos.items t.protos.items))) (kept closed.types.items t.types.items)
+  pub protos_are : closed.protos.items ≡ mark_all marks.protos.items (method_protos t marks.methods.items)
+  pub types_are : closed.types.items ≡ marked_types t marks.methods.items marks.fields.items closed.protos.items marks.types.items
+  pub strings_are : closed.strings.items ≡ marked_texts t marks.methods.items marks.fields.items closed.protos.items closed.types.items marks.strings.items
 
 -- the numbers of an entry are marked
 pub record HasMarkedEntry (t : Tables) (marks : Marks) (p : ProtoEntry) : Type 0 where
@@ -106,11 +130,27 @@ number_or_none o = unwrap_or o 0xffffffff
 abbrev pub new_numbers : List Bool → List ℕ
 new_numbers marks = map number_or_none (places 0 marks)
 
+-- the kept rows of types, by these new numbers
+abbrev pub cut_types : Tables → List Bool → List ℕ → List ℕ
+cut_types t marks strings = map (slice_index strings) (kept marks t.types.items)
+
+-- those of protos
+abbrev pub cut_protos : Tables → List Bool → List ℕ → List ℕ → List ProtoNumbers
+cut_protos t marks strings types = map (moved_proto strings types t.parameters) (kept marks t.protos.items)
+
+-- those of fields
+abbrev pub cut_fields : Tables → List Bool → List ℕ → List ℕ → List FieldRow
+cut_fields t marks strings types = map (moved_field strings types) (kept marks t.fields.items)
+
+-- those of methods
+abbrev pub cut_methods : Tables → List Bool → LowerPlaces → List MethodRow
+cut_methods t marks lower = map (moved_method lower.strings.now lower.types.now lower.protos.now) (kept marks t.methods.items)
+
 -- the kept rows, by their new numbers
 pub record IsCut (t : Tables) (marks : Marks) (cut : Tables) : Type 0 where
   pub strings_are : cut.strings.items ≡ kept marks.strings.items t.strings.items
-  pub types_are : cut.types.items ≡ map (slice_index (new_numbers marks.strings.items)) (kept marks.types.items t.types.items)
-  pub protos_are : map (numbers_of cut.parameters) cut.protos.items ≡ map (moved_proto (new_numbers marks.strings.items) (new_numbers marks.types.items) t.parameters) (kept marks.protos.items t.protos.items)
+  pub types_are : cut.types.items ≡ cut_types t marks.types.items (new_numbers marks.strings.items)
+  pub protos_are : map (numbers_of cut.parameters) cut.protos.items ≡ cut_protos t marks.protos.items (new_numbers marks.strings.items) (new_numbers marks.types.items)
   pub spans : All (λ p. HasSpan cut.parameters p.parameters) cut.protos.items
-  pub fields_are : cut.fields.items ≡ map (moved_field (new_numbers marks.strings.items) (new_numbers marks.types.items)) (kept marks.fields.items t.fields.items)
+  pub fields_are : cut.fields.items ≡ cut_fields t marks.fields.items (new_numbers marks.strings.items) (new_numbers marks.types.items)
   pub methods_are : cut.methods.items ≡ map (moved_method (new_numbers marks.strings.items) (new_numbers marks.types.items) (new_numbers marks.protos.items)) (kept marks.methods.items t.methods.items)

@@ -1,5 +1,7 @@
 -- Tables joined, one kind of symbol after the other.
 use Rattle.std.specs.Prelude.{◌≡◌, ℕ, ◌<◌, List, ◌∷◌, map, length, slice_index, slice_index_or, All, Some}
+use Rattle.std.specs.Borrow.{Bor}
+use Rattle.std.specs.Global.{Vec}
 use Rattle.std.specs.List.{AllZip, flat_map}
 use Rattle.std.specs.declared.cmp.Ordering.{Ordering}
 use Rattle.dexspec.specs.Lists.{in_order}
@@ -8,12 +10,17 @@ use Rattle.dexspec.specs.Names.{shorty}
 use Rattle.dexspec.specs.Symbols as symbols
 use Rattle.dexspec.specs.Mentions.{Mentions}
 use Rattle.dexrows.specs.Numbers.{ProtoNumbers}
+use Rattle.dexrows.specs.Join.{IsJoin}
+use Rattle.dexrows.specs.declared.joining.Joined.{Joined}
 use Rattle.dexrows.specs.declared.fields.FieldRow.{FieldRow}
 use Rattle.dexrows.specs.declared.methods.MethodRow.{MethodRow}
 use Rattle.dexpool.specs.declared.rows.ProtoEntry.{ProtoEntry}
+use Rattle.dexpool.specs.declared.protos.Protos.{Protos}
+use Rattle.dexpool.specs.declared.joined_tables.JoinedTypes.{JoinedTypes}
+use Rattle.dexpool.specs.declared.joined_tables.JoinedProtos.{JoinedProtos}
 use Rattle.dexpool.specs.Tables.{text_of, type_of, span_of, proto_of, field_of, method_of}
 use Rattle.dexpool.specs.Numberings.{IsAt, Maps}
-use Rattle.dexpool.specs.internal.Renumbering.{IsEntryWithin, IsFieldWithin, IsMethodWithin}
+use Rattle.dexpool.specs.internal.Renumbering.{IsEntryWithin, IsFieldWithin, IsMethodWithin, numbers_in}
 
 -- the image of each number is that of the same member
 pub record Moves {X : Type 0} (from to : List X) (image : List ℕ) : Type 0 where
@@ -81,3 +88,55 @@ pub record AreMapsOf (strings types protos fields methods : List (List ℕ)) (ma
   pub protos_are : map (λ m. m.protos) maps ≡ map (map Some) protos
   pub fields_are : map (λ m. m.fields) maps ≡ map (map Some) fields
   pub methods_are : map (λ m. m.methods) maps ≡ map (map Some) methods
+
+-- ---- the tables of all parts
+
+-- the numberings that are joined
+abbrev pub numberings_of : List (Bor Mentions) → List Mentions
+numberings_of parts = map (λ part. part.now) parts
+
+-- the lists that vectors have
+abbrev pub lists_in : {X : Type 0} → List (Vec X) → List (List X)
+lists_in vectors = map (λ v. v.items) vectors
+
+-- the joined rows are those of the parts
+abbrev pub JoinsRows : {R : Type 0} → (R → List ℕ) → List (Vec R) → Joined R → Type 0
+JoinsRows key parts joined = IsJoin key (lists_in parts) joined.rows.items (lists_in joined.images.items)
+
+-- the joined table is that of the parts
+abbrev pub JoinsProtos : List (Vec ProtoNumbers) → JoinedProtos → Type 0
+JoinsProtos parts joined = IsJoin proto_key (lists_in parts) (numbers_in joined.table) (lists_in joined.images.items)
+
+-- the texts of all parts
+abbrev pub AreTextsOf : List (Bor Mentions) → Joined Text → Type 0
+AreTextsOf parts texts = AreJoinedTexts (numberings_of parts) texts.rows.items (lists_in texts.images.items)
+
+-- the types of all parts, by these texts
+abbrev pub AreTypesOf : List (Bor Mentions) → Joined Text → JoinedTypes → Type 0
+AreTypesOf parts texts types = AreJoinedTypes (numberings_of parts) texts.rows.items types.numbers.items (lists_in types.images.items)
+
+-- the protos of all parts, by these texts and types
+abbrev pub AreProtosOf : List (Bor Mentions) → Joined Text → JoinedTypes → JoinedProtos → Type 0
+AreProtosOf parts texts types protos = AreJoinedProtos (numberings_of parts) texts.rows.items types.numbers.items protos.table.parameters.items protos.table.rows.items (lists_in protos.images.items)
+
+-- the fields of all parts, by these texts and types
+abbrev pub AreFieldsOf : List (Bor Mentions) → Joined Text → JoinedTypes → Joined FieldRow → Type 0
+AreFieldsOf parts texts types fields = AreJoinedFields (numberings_of parts) texts.rows.items types.numbers.items fields.rows.items (lists_in fields.images.items)
+
+-- the methods of all parts, by these texts, types and protos
+abbrev pub AreMethodsOf : List (Bor Mentions) → Joined Text → JoinedTypes → JoinedProtos → Joined MethodRow → Type 0
+AreMethodsOf parts texts types protos methods = AreJoinedMethods (numberings_of parts) texts.rows.items types.numbers.items protos.table.parameters.items protos.table.rows.items methods.rows.items (lists_in methods.images.items)
+
+-- each table has the protos of its part, by these texts and types
+abbrev pub AreTablesOf : List (Bor Mentions) → Joined Text → JoinedTypes → List Protos → Type 0
+AreTablesOf parts texts types tables = AllZip (λ part rows. Denote (proto_of_row texts.rows.items types.numbers.items) (IsRowOf texts.rows.items types.numbers.items) part.protos rows) (numberings_of parts) (map numbers_in tables)
+
+-- ---- the maps of all parts
+
+-- the map by these images, one for each number
+abbrev pub total_maps : List ℕ → List ℕ → List ℕ → List ℕ → List ℕ → Maps
+total_maps strings types protos fields methods = record { texts = map Some strings; types = map Some types; protos = map Some protos; fields = map Some fields; methods = map Some methods }
+
+-- the maps have the images of each part
+abbrev pub AreRemapsOf : (strings types protos fields methods : List (Vec ℕ)) → Vec Maps → Type 0
+AreRemapsOf strings types protos fields methods maps = AreMapsOf (lists_in strings) (lists_in types) (lists_in protos) (lists_in fields) (lists_in methods) maps.items

@@ -1,5 +1,5 @@
 -- Rows whose numbers are replaced: by the numbers at their places in the images.
-use Rattle.std.specs.Prelude.{ℕ, ◌<◌, List, map, slice_index, All}
+use Rattle.std.specs.Prelude.{ℕ, ◌<◌, List, map, slice_index, All, ◌≡◌}
 use Rattle.dexrows.specs.Join.{AreSorted}
 use Rattle.dexrows.specs.Numbers.{Among, Lower, RiseAmong, ProtoNumbers}
 use Rattle.dexrows.specs.declared.types.TypeRow.{TypeRow}
@@ -50,6 +50,10 @@ moved_proto strings types parameters p = record {
   return_type = slice_index types p.return_type;
   parameters = map (slice_index types) (span_of parameters p.parameters);
 }
+
+-- the table has these entries renumbered
+abbrev pub AreMovedProtos : List ℕ → List ℕ → List ℕ → List ProtoEntry → Protos → Type 0
+AreMovedProtos strings types parameters protos t = numbers_in t ≡ map (moved_proto strings types parameters) protos
 
 -- ---- rows of fields and methods
 

@@ -1,0 +1,79 @@
+-- Rows of a file whose texts and types are read.
+use Rattle.std.specs.Prelude.{ℕ, List}
+use Rattle.std.specs.HashMap.{HashMap}
+use Rattle.dexspec.specs.Texts.{Text}
+use Rattle.dexspec.specs.Symbols.{Proto, Field, Method}
+use Rattle.dexspec.specs.Rows as rows
+use Rattle.dexpool.specs.declared.names.Names.{Names}
+use Rattle.dexpool.specs.declared.rows.ProtoEntry.{ProtoEntry}
+use Rattle.dexpool.specs.declared.checked_lists.CheckedList.{CheckedList}
+use Rattle.dexrows.specs.declared.fields.FieldRow.{FieldRow}
+use Rattle.dexrows.specs.declared.methods.MethodRow.{MethodRow}
+use Rattle.dexpool.specs.Reading.{IsText, IsType, FieldRowAt, ProtoRowAt, MethodRowAt, AreFields, AreProtos, AreMethods, file_numbers}
+use Rattle.dexpool.specs.internal.CheckedLists.{IsChecked, AreChecked}
+
+-- ---- texts and types
+
+-- row i is no text
+abbrev pub NoFileText : Names → ℕ → Type 0
+NoFileText names i = (s : Text) → rows.StringRow names.frame.now i s → ⊥
+
+-- row i is this text, of this number
+abbrev pub IsFileText : Names → ℕ → Text → Type 0
+IsFileText names = IsText names.frame.now names.strings.now
+
+-- row i is no type
+abbrev pub NoFileType : Names → ℕ → Type 0
+NoFileType names i = (t : Text) → rows.TypeRow names.frame.now i t → ⊥
+
+-- row i is this type, of this number
+abbrev pub IsFileType : Names → ℕ → Text → Type 0
+IsFileType names = IsType names.frame.now names.strings.now names.types.now
+
+-- ---- protos
+
+-- row i is no proto
+abbrev pub NoFileProto : Names → ℕ → Type 0
+NoFileProto names i = (p : Proto) → rows.ProtoRow names.frame.now i p → ⊥
+
+-- row i is the proto of these numbers
+abbrev pub IsFileProto : Names → ℕ → ProtoEntry → Type 0
+IsFileProto names = ProtoRowAt names.strings.now names.types.now (file_numbers names.frame.now) names.frame.now
+
+-- the protos of all rows
+abbrev pub AreFileProtos : Names → List ProtoEntry → Type 0
+AreFileProtos names = AreProtos names.frame.now names.strings.now names.types.now (file_numbers names.frame.now)
+
+-- the list is there, and its shorty is the text of this number after this letter
+abbrev pub IsFileList : Names → ℕ → CheckedList → Type 0
+IsFileList names = IsChecked names.frame.now names.strings.now names.types.now
+
+-- so it is for each list that is noted
+abbrev pub AreFileLists : {S : Type 0} → Names → HashMap ℕ CheckedList S → Type 0
+AreFileLists names lists = AreChecked names.frame.now names.strings.now names.types.now lists
+
+-- ---- fields and methods
+
+-- row i is no field
+abbrev pub NoFileField : Names → ℕ → Type 0
+NoFileField names i = (f : Field) → rows.FieldRow names.frame.now i f → ⊥
+
+-- row i is the field of these numbers
+abbrev pub IsFileField : Names → ℕ → FieldRow → Type 0
+IsFileField names = FieldRowAt names.strings.now names.types.now names.frame.now
+
+-- the fields of all rows
+abbrev pub AreFileFields : Names → List FieldRow → Type 0
+AreFileFields names = AreFields names.frame.now names.strings.now names.types.now
+
+-- row i is no method
+abbrev pub NoFileMethod : Names → ℕ → Type 0
+NoFileMethod names i = (m : Method) → rows.MethodRow names.frame.now i m → ⊥
+
+-- row i is the method of these numbers, by these protos
+abbrev pub IsFileMethod : Names → List ProtoEntry → ℕ → MethodRow → Type 0
+IsFileMethod names protos = MethodRowAt names.strings.now names.types.now (file_numbers names.frame.now) protos names.frame.now
+
+-- the methods of all rows, by these protos
+abbrev pub AreFileMethods : Names → List ProtoEntry → List MethodRow → Type 0
+AreFileMethods names protos = AreMethods names.frame.now names.strings.now names.types.now (file_numbers names.frame.now) protos

@@ -3,10 +3,12 @@ pub mod Payload
 pub mod Split
 pub mod Units
 pub mod Numbered
+pub mod Put
 pub mod Stored
 pub mod Reading
 pub mod Listing
 pub mod Fitting
+pub mod Laws
 pub mod Checking
 pub mod Bits
 pub mod Blank

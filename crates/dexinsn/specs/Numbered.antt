@@ -1,6 +1,6 @@
 -- Pieces whose symbols are numbers: what they denote under a numbering, and what becomes of them when the numbers
 -- change.
-use Rattle.std.specs.Prelude.{◌≡◌, ℕ, ◌^◌, ◌<◌, if◌then◌else◌, List, [], ◌∷◌, map, All, Option, Some, None}
+use Rattle.std.specs.Prelude.{◌≡◌, ℕ, ◌^◌, ◌<◌, if◌then◌else◌, List, [], ◌∷◌, map, All, Option, Some, None, slice_index_or}
 use Rattle.std.specs.List.{AllZip, flat_map}
 use Rattle.std.specs.Option.{IsSome, option_map_or}
 use Rattle.dexspec.specs.Bytes.{ushort}
@@ -61,6 +61,10 @@ piece_uses _ = []
 -- those of all pieces, in order
 abbrev pub uses_of : List NumberedPiece → List Use
 uses_of ps = flat_map piece_uses ps
+
+-- the symbol at a place among them has this kind and this number
+abbrev pub IsUseAt : List Use → ℕ → SymbolKind × ℕ → Type 0
+IsUseAt us i symbol = (d : Use) → slice_index_or us i d ≡ record { kind = symbol.0; number = symbol.1 }
 
 -- ---- places of numbers
 

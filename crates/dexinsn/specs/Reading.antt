@@ -5,14 +5,14 @@ use Rattle.dexspec.specs.Sections.{IsInData}
 use Rattle.dexspec.specs.Symbols.{Pool}
 use Rattle.dexspec.specs.Mentions.{Mentions}
 use Rattle.dexspec.specs.Pieces.{Cut, Piece, IsCode, index_pool, index_in, is_instruction_start}
-use Rattle.dexspec.specs.Code.{code_units, PiecesAt}
+use Rattle.dexspec.specs.Code.{code_units, PiecesAt, RegistersAt}
 use Rattle.dexpool.specs.declared.faults.ItemFault.{ItemFault}
 use Rattle.dexpool.specs.declared.faults.ItemFault.TheVariants.{Refused, Memory}
 use Rattle.dexpool.specs.Pools.{count_of}
 use Rattle.dexinsn.specs.declared.pieces.Index.{Index}
 use Rattle.dexinsn.specs.Stored.{FitsAt}
 use Rattle.dexinsn.specs.Units.{units_in}
-use Rattle.dexinsn.specs.Numbered.{NumberedPiece, Denote, kind_of_pool}
+use Rattle.dexinsn.specs.Numbered.{NumberedPiece, Denote, kind_of_pool, NumberedCode}
 
 -- the pieces are those of the code_item at an offset, where symbols are numbered by their rows
 pub record ArePiecesAt (b : List ℕ) (off : ℕ) (m : Mentions) (ps : List NumberedPiece) : Type 0 where
@@ -20,6 +20,14 @@ pub record ArePiecesAt (b : List ℕ) (off : ℕ) (m : Mentions) (ps : List Numb
   pub symbolic : List Piece
   pub at : PiecesAt b off cuts symbolic
   pub are_encoded : Denote m ps symbolic
+
+-- the counts of registers are those of the code_item at an offset
+abbrev pub HasRegistersAt : List ℕ → ℕ → NumberedCode → Type 0
+HasRegistersAt b off code = RegistersAt b off code.registers code.ins code.outs
+
+-- its pieces are those of the code_item
+abbrev pub HasPiecesAt : List ℕ → ℕ → Mentions → NumberedCode → Type 0
+HasPiecesAt b off m code = ArePiecesAt b off m code.pieces
 
 -- there are no pieces at the offset; a failed allocation says nothing
 abbrev pub IsPiecesFault : List ℕ → ℕ → ItemFault → Type 0

@@ -101,3 +101,7 @@ IsAnswered answer (Err Empty) = Err Empty ≡ answer
 IsAnswered answer (Err (Piece n)) = Err (Piece n) ≡ answer
 IsAnswered answer (Err (Target n)) = Err (Target n) ≡ answer
 IsAnswered answer (Err Memory) = Unit {0}
+
+-- each answer that is true of the units is what is returned, unless an allocation failed
+abbrev pub IsOnlyAnswer : List ℕ → Result (Vec CutOfCode Global) CodeFault → Type 0
+IsOnlyAnswer us result = (answer : Result (List Cut) CodeFault) → IsAnswer us answer → IsAnswered answer result

@@ -2,6 +2,7 @@
 -- at which its instruction begins.
 use Rattle.std.specs.Prelude.{◌≡◌, ℕ, zero, suc, ◌+◌, ◌-◌, ◌/◌, ◌%◌, ◌^◌, ◌<◌, ◌≤◌, Bool, false, if◌then◌else◌, List, [], ◌∷◌, ◌++◌, length, take, drop, map, All, slice_index, Option, Some, None, true, unwrap_or}
 use Rattle.std.specs.Option.{option_map_or}
+use Rattle.std.specs.List.{flat_map}
 use Rattle.dexspec.specs.Symbols.{Pool}
 use Rattle.dexspec.specs.Pieces.{Cut, AreCut, cut_units, piece_size, index_pool, is_payload_ident, is_wide_index, with_index}
 use Rattle.dexinsn.specs.declared.pieces.Index.{Index}
@@ -73,6 +74,10 @@ pub record AreStored (us : List ℕ) (is : List Index) : Type 0 where
 -- the symbol that it names
 abbrev pub use_at : List ℕ → Index → Use
 use_at us i = record { kind = kind_in (drop i.unit us); number = i.number }
+
+-- the symbols that they all name
+abbrev pub uses_at : List ℕ → List Index → List Use
+uses_at us is = flat_map (λ i. use_at us i ∷ []) is
 
 -- its number has an image that fits the place
 abbrev pub HasPlaceAt : Maps → List ℕ → Index → Type 0

@@ -1,4 +1,6 @@
 -- Words of the contracts of private functions: no public contract reaches them.
+pub mod Checking
 pub mod Props
 pub mod Same
 pub mod LongSwitches
+pub mod Writing

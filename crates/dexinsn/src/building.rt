@@ -1,9 +1,8 @@
 //! Pieces built from units that are checked.
 
 ghost use Rattle.std.specs.Prelude.{◌≡◌, ◌^◌, ◌<◌, length, IfOk};
-ghost use Rattle.dexspec.specs.Code.{RegistersAt};
 ghost use Rattle.dexpool.specs.Pools.{ArePools};
-ghost use Rattle.dexinsn.specs.Reading.{ArePiecesAt};
+ghost use Rattle.dexinsn.specs.Reading.{HasPiecesAt, HasRegistersAt};
 ghost use Rattle.dexinsn.specs.Checking.{AreTheIndices, HaveIndices, IsShapeAt};
 
 use crate::code_units::Units;
@@ -49,8 +48,8 @@ pub fn build_pieces<'a>(
     shape: PiecesShape,
 ) -> Result<Pieces<'a>, AllocError>
     requires { IsShapeAt frame.now off pools.now shape }
-    ensures registers { IfOk result (λ pieces. RegistersAt frame.now off pieces.registers pieces.ins pieces.outs) }
-    ensures pieces { ArePools frame.now pools.now → IfOk result (λ pieces. ArePiecesAt frame.now off pools.now pieces.pieces) }
+    ensures registers { IfOk result (HasRegistersAt frame.now off) }
+    ensures pieces { ArePools frame.now pools.now → IfOk result (HasPiecesAt frame.now off pools.now) }
 {
     let (_, rest) = frame.rest(off).split_at(16);
     let (bytes, _) = rest.split_at(2 * shape.units as usize);

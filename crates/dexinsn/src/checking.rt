@@ -1,17 +1,17 @@
 //! Code units checked in one pass, with bits in words that are lent: nothing is kept of the units.
 
-ghost use Rattle.std.specs.Prelude.{◌≡◌, ◌^◌, ◌+◌, ◌*◌, ◌/◌, ◌<◌, ◌≤◌, ℕ, List, [], ◌∷◌, ◌++◌, IsSome, drop, length, IfOk, IfErr, MatchOption, OnOk, replicate};
+ghost use Rattle.std.specs.Prelude.{◌≡◌, ◌^◌, ◌+◌, ◌*◌, ◌/◌, ◌<◌, ◌≤◌, [], IsSome, drop, length, IfOk, IfErr, MatchOption, OnOk, replicate, IfNone, IfSome};
 ghost use Rattle.dexspec.specs.Opcodes as opcodes;
-ghost use Rattle.dexspec.specs.Pieces.{Cut, ints_in, piece_size};
+ghost use Rattle.dexspec.specs.Pieces.{ints_in, piece_size};
 ghost use Rattle.dexpool.specs.Pools.{ArePools};
 ghost use Rattle.dexinsn.specs.Units.{units_in};
 ghost use Rattle.dexinsn.specs.Reading.{AreStartsAt, IsCodeFault, IsPiecesFault};
-ghost use Rattle.dexinsn.specs.Bits.{bits_in};
 ghost use Rattle.dexinsn.specs.Opcode.{format_of};
 ghost use Rattle.dexinsn.specs.Payload.{ident_of};
 ghost use Rattle.dexinsn.specs.internal.LongSwitches.{ArePayloads, EndsEmpty};
-ghost use Rattle.dexinsn.specs.Split.{IsPieceAt, branches_right, are_right_targets, targets_payload};
-ghost use Rattle.dexinsn.specs.Checking.{AreBitsOf, AreCodeStarts, AreNoted, ArePassed, HasNoCode, AreAllRight, HasPiecesOf, IndexCount, IsOutside, IsChecked, IsShapeAt, HasTargetsAt, begins_instruction, branches, is_noted, has_targets};
+ghost use Rattle.dexinsn.specs.Split.{IsPieceAt};
+ghost use Rattle.dexinsn.specs.Checking.{AreBitsOf, AreNoted, HasNoCode, AreAllRight, HasPiecesOf, IndexCount, IsOutside, IsChecked, IsShapeAt, HasTargetsAt, begins_instruction, branches, is_noted, has_targets};
+ghost use Rattle.dexinsn.specs.internal.Checking.{AreCodeStartBits, ArePassedWhole, GainPiece, HasBranchAt, HasListedTargets, HasPayloadAt, IsFoundWith};
 
 use crate::code_units::Units;
 use crate::format::Format;
@@ -84,8 +84,8 @@ pub(crate) fn note(units: &Units<'_>, at: usize, starts: &mut Vec<u64>, noted: &
     requires within { at < length units.now }
     requires starts { length starts.old.items ≡ length units.now / 64 + 2 }
     requires noted { length noted.old.items ≡ length units.now / 64 + 2 }
-    ensures starts { (cs : List Cut) (n : ℕ) → AreBitsOf begins_instruction units.now cs starts.old.items → AreBitsOf begins_instruction units.now (cs ++ record { unit = at; units = n } ∷ []) starts.new.items }
-    ensures noted { (cs : List Cut) (n : ℕ) → AreBitsOf is_noted units.now cs noted.old.items → AreBitsOf is_noted units.now (cs ++ record { unit = at; units = n } ∷ []) noted.new.items }
+    ensures starts { GainPiece begins_instruction units.now at starts.old.items starts.new.items }
+    ensures noted { GainPiece is_noted units.now at noted.old.items noted.new.items }
 {
     let first = units.at(at);
     if PayloadKind::of(first).is_some() {
@@ -108,7 +108,8 @@ fn pass(
     requires few { length units.now < 2 ^ 32 }
     requires starts { AreBitsOf begins_instruction units.now [] starts.old.items }
     requires noted { AreBitsOf is_noted units.now [] noted.old.items }
-    ensures { MatchOption result (HasNoCode units.now pools.now) (ArePassed units.now pools.now starts.new.items noted.new.items (length units.now)) }
+    ensures none { IfNone result (HasNoCode units.now pools.now) }
+    ensures some { IfSome result (ArePassedWhole units.now pools.now starts.new.items noted.new.items) }
 {
     let limits = Limits::of(pools);
     let mut at = 0;
@@ -138,7 +139,7 @@ fn listed_targets_right(
     requires small { length units.now < 2 ^ 62 }
     requires from { at < length units.now }
     requires within { first + 2 * count ≤ length units.now }
-    ensures { (cs : List Cut) → AreBitsOf begins_instruction units.now cs starts.now → result ≡ are_right_targets units.now cs at (ints_in units.now first count) }
+    ensures { HasListedTargets units.now starts.now at (ints_in units.now first count) result }
 {
     for i in 0..count {
         let offset = int_at(units, first + 2 * i);
@@ -165,7 +166,7 @@ fn payload_targets_right(
     requires switches { ArePayloads units.now switches.now.groups }
     requires from { at < length units.now }
     requires noted { AreNoted units.now noted.now }
-    ensures { (cs : List Cut) → AreBitsOf begins_instruction units.now cs starts.now → AreBitsOf is_noted units.now cs noted.now → result ≡ targets_payload (ident_of kind) units.now cs at place }
+    ensures { HasPayloadAt units.now starts.now noted.now (ident_of kind) at place result }
 {
     if !has_place(noted, place) {
         return false;
@@ -198,7 +199,7 @@ fn branch_targets_right(
     requires from { at < length units.now }
     requires within { at + opcodes.units_in (format_of format) ≤ length units.now }
     requires noted { AreNoted units.now noted.now }
-    ensures { (cs : List Cut) → AreBitsOf begins_instruction units.now cs starts.now → AreBitsOf is_noted units.now cs noted.now → result ≡ branches_right units.now cs at (format_of format) }
+    ensures { HasBranchAt units.now starts.now noted.now at (format_of format) result }
 {
     let offset = match branch_offset(format, units, at) {
         Some(offset) => offset,
@@ -278,7 +279,7 @@ fn check_with(
     requires few { length units.now < 2 ^ 32 }
     requires starts { AreBitsOf begins_instruction units.now [] starts.old.items }
     requires noted { AreBitsOf is_noted units.now [] noted.old.items }
-    ensures { IfOk result (λ found. MatchOption found (HasNoCode units.now pools.now) (λ indices. IsChecked units.now pools.now indices × AreCodeStarts units.now starts.new.items)) }
+    ensures { IfOk result (IsFoundWith units.now pools.now starts.new.items) }
 {
     if units.len() == 0 {
         return Ok(None);
@@ -299,7 +300,7 @@ fn check_with(
 fn check_units(bytes: &[u8], pools: &Pools<'_>, scratch: &mut Scratch) -> Result<usize, ItemFault>
     requires { length (units_in bytes.now) < 2 ^ 32 }
     ensures indices { IfOk result (IsChecked (units_in bytes.now) pools.now) }
-    ensures starts { OnOk result ((words : List ℕ) × (scratch.new ≡ bits_in words) × AreCodeStarts (units_in bytes.now) words) }
+    ensures starts { OnOk result (AreCodeStartBits (units_in bytes.now) scratch.new) }
     ensures fault { IfErr result (IsCodeFault (units_in bytes.now) pools.now) }
 {
     let units = Units::of_bytes(bytes);

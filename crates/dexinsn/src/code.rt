@@ -1,9 +1,10 @@
-ghost use Rattle.std.specs.Prelude.{◌≡◌, ◌<◌, ◌^◌, List, [], Result, IfErr, IfOk, length};
-ghost use Rattle.dexspec.specs.Pieces.{Cut as Meant, IsCode};
+ghost use Rattle.std.specs.Prelude.{◌≡◌, ◌<◌, ◌^◌, [], Result, IfErr, IfOk, length};
+ghost use Rattle.dexspec.specs.Pieces.{IsCode};
 ghost use Rattle.dexinsn.specs.declared.code.CodeFault.TheVariants.{Memory};
 ghost use Rattle.dexinsn.specs.internal.LongSwitches.{ArePayloads};
-ghost use Rattle.dexinsn.specs.Checking.{AreBitsOf, AreCutWith, begins_instruction, is_noted};
-ghost use Rattle.dexinsn.specs.Split.{IsAnswer, IsAnswered, IsCutFault, IsFault, cuts_of, first_bad_target, kind_of, unit_of};
+ghost use Rattle.dexinsn.specs.Checking.{AreBitsOf, begins_instruction, is_noted};
+ghost use Rattle.dexinsn.specs.Split.{IsCutFault, IsFault, cuts_of, first_bad_target, kind_of, unit_of, IsOnlyAnswer};
+ghost use Rattle.dexinsn.specs.internal.Checking.{AreCutWhole};
 
 use crate::checking::{note, piece_targets_right};
 use crate::code_units::Units;
@@ -66,7 +67,7 @@ fn cut_units(
 ) -> Result<Vec<Cut>, CodeFault>
     requires starts { AreBitsOf begins_instruction units.now [] starts.old.items }
     requires noted { AreBitsOf is_noted units.now [] noted.old.items }
-    ensures cuts { IfOk result (λ cuts. AreCutWith units.now (cuts_of cuts.items) starts.new.items noted.new.items (length units.now)) }
+    ensures cuts { IfOk result (λ cuts. AreCutWhole units.now starts.new.items noted.new.items cuts.items) }
     ensures fault { IfErr result (IsCutFault units.now) }
 {
     let mut cuts = Vec::new(alloc);
@@ -98,7 +99,7 @@ fn first_bad_target(
     switches: &LongSwitches,
 ) -> Option<usize>
     requires small { length units.now < 2 ^ 62 }
-    requires cuts { AreCutWith units.now (cuts_of cuts.now) starts.now noted.now (length units.now) }
+    requires cuts { AreCutWhole units.now starts.now noted.now cuts.now }
     requires switches { ArePayloads units.now switches.now.groups }
     ensures { result ≡ first_bad_target units.now (cuts_of cuts.now) }
 {
@@ -151,7 +152,7 @@ impl From<AllocError> for CodeFault {
 pub fn split(alloc: Global, units: &[u16]) -> Result<Vec<Cut>, CodeFault>
     ensures code { IfOk result (λ cuts. IsCode units.now (cuts_of cuts.items)) }
     ensures fault { IfErr result (IsFault units.now) }
-    ensures only { (answer : Result (List Meant) CodeFault) → IsAnswer units.now answer → IsAnswered answer result }
+    ensures only { IsOnlyAnswer units.now result }
 {
     if units.is_empty() {
         return Err(CodeFault::Empty);

@@ -1,14 +1,14 @@
 //! Pieces written.
 
-ghost use Rattle.std.specs.Prelude.{◌≡◌, ◌++◌, ◌+◌, ◌*◌, ◌-◌, ◌^◌, ◌<◌, ◌≤◌, All, List, length, take, drop, false, vec_len, vec_capacity};
+ghost use Rattle.std.specs.Prelude.{◌≡◌, ◌++◌, ◌+◌, ◌*◌, ◌-◌, ◌^◌, ◌<◌, ◌≤◌, All, length, false, vec_len, vec_capacity};
 ghost use Rattle.std.specs.List.{flat_map};
 ghost use Rattle.dexspec.specs.Bytes.{ushort};
-ghost use Rattle.dexspec.specs.Pieces.{Piece};
-ghost use Rattle.dexspec.specs.Spellings.{piece_units};
 ghost use Rattle.dexspec.specs.internal.Writing.{Puts};
 ghost use Rattle.dexinsn.specs.Units.{units_in};
-ghost use Rattle.dexinsn.specs.Numbered.{numbered_bytes, Denote};
-ghost use Rattle.dexinsn.specs.Stored.{AreStored, index_units, after_index, spelled_from};
+ghost use Rattle.dexinsn.specs.Numbered.{numbered_bytes};
+ghost use Rattle.dexinsn.specs.Stored.{AreStored, index_units, after_index};
+ghost use Rattle.dexinsn.specs.internal.Writing.{bytes_between, bytes_with};
+ghost use Rattle.dexinsn.specs.Put.{PutsDenoted};
 
 use crate::code_units::{Units, unit_bytes};
 use crate::instruction_index::is_wide_at;
@@ -23,7 +23,7 @@ fn push_part(bytes: &[u8], from: usize, to: usize, out: &mut Vec<u8>)
     requires order { from ≤ to }
     requires within { 2 * to ≤ length bytes.now }
     requires room { vec_len out.old + 2 * (to - from) ≤ vec_capacity out.old }
-    ensures items { out.new.items ≡ out.old.items ++ flat_map ushort (take (to - from) (drop from (units_in bytes.now))) }
+    ensures items { out.new.items ≡ out.old.items ++ bytes_between (units_in bytes.now) from to }
     ensures len { vec_len out.new ≡ vec_len out.old + 2 * (to - from) }
     ensures capacity { vec_capacity out.old ≤ vec_capacity out.new }
 {
@@ -67,7 +67,7 @@ fn put_numbered(pieces: &Pieces<'_>, out: &mut Vec<u8>) -> Result<(), AllocError
 fn push_numbered(bytes: &[u8], indices: &[Index], out: &mut Vec<u8>)
     requires stored { AreStored (units_in bytes.now) indices.now }
     requires room { vec_len out.old + 2 * length (units_in bytes.now) ≤ vec_capacity out.old }
-    ensures items { out.new.items ≡ out.old.items ++ flat_map ushort (spelled_from (units_in bytes.now) 0 indices.now) }
+    ensures items { out.new.items ≡ out.old.items ++ bytes_with (units_in bytes.now) indices.now }
     ensures len { vec_len out.new ≡ vec_len out.old + 2 * length (units_in bytes.now) }
     ensures capacity { vec_capacity out.old ≤ vec_capacity out.new }
 {
@@ -96,7 +96,7 @@ pub fn put_pieces(
     out: &mut Vec<u8>,
 ) -> Result<(), AllocError>
     ensures bytes { Puts (numbered_bytes pieces.now.pieces) out.old out.new result }
-    ensures symbolic { (symbolic : List Piece) → Denote numbering.now pieces.now.pieces symbolic → Puts (flat_map ushort (flat_map (piece_units numbering.now) symbolic)) out.old out.new result }
+    ensures symbolic { PutsDenoted numbering.now pieces.now.pieces out.old out.new result }
 {
     numbering.is_numbering();
     units_law();

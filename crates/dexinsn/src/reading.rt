@@ -1,9 +1,8 @@
 //! Pieces read from a file.
 
 ghost use Rattle.std.specs.Prelude.{IfOk, IfErr, MatchOption};
-ghost use Rattle.dexspec.specs.Code.{RegistersAt};
 ghost use Rattle.dexpool.specs.Pools.{ArePools};
-ghost use Rattle.dexinsn.specs.Reading.{ArePiecesAt, IsPiecesFault, HasCodeRoom, AreUnitsAt};
+ghost use Rattle.dexinsn.specs.Reading.{IsPiecesFault, HasCodeRoom, AreUnitsAt, HasPiecesAt, HasRegistersAt};
 
 use crate::building::build_pieces;
 use crate::checking::check_pieces;
@@ -44,8 +43,8 @@ pub fn read_pieces<'a>(
     pools: &Pools<'_>,
     off: u32,
 ) -> Result<Pieces<'a>, ItemFault>
-    ensures registers { IfOk result (λ pieces. RegistersAt frame.now off pieces.registers pieces.ins pieces.outs) }
-    ensures pieces { ArePools frame.now pools.now → IfOk result (λ pieces. ArePiecesAt frame.now off pools.now pieces.pieces) }
+    ensures registers { IfOk result (HasRegistersAt frame.now off) }
+    ensures pieces { ArePools frame.now pools.now → IfOk result (HasPiecesAt frame.now off pools.now) }
     ensures refused { ArePools frame.now pools.now → IfErr result (IsPiecesFault frame.now off) }
 {
     let mut scratch = Scratch::new(alloc);

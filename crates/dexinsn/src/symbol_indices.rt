@@ -1,11 +1,11 @@
 //! Numbers of symbols, and what becomes of them.
 
-ghost use Rattle.std.specs.Prelude.{◌≡◌, ◌↔◌, ◌<◌, ◌++◌, ℕ, IsTrue, IfOk, All, List, map, drop, ◌∷◌, [], length, slice_index_or};
+ghost use Rattle.std.specs.Prelude.{◌≡◌, ◌↔◌, ◌<◌, ◌++◌, ℕ, IsTrue, IfOk, All, List, map, drop, ◌∷◌, [], length};
 ghost use Rattle.std.specs.List.{FoldsTo, flat_map};
-ghost use Rattle.dexpool.specs.Uses.{HasMark, AreMarkedToo, Use};
+ghost use Rattle.dexpool.specs.Uses.{HasMark, AreMarkedToo};
 ghost use Rattle.dexinsn.specs.Fitting.{is_short_string, short_at, short_strings, IsGreatest};
-ghost use Rattle.dexinsn.specs.Numbered.{uses_of, HasPlace, FitPlaces, renumbered};
-ghost use Rattle.dexinsn.specs.Stored.{HasPlaceAt, IsIndexed, renumbered_index, use_at};
+ghost use Rattle.dexinsn.specs.Numbered.{uses_of, HasPlace, FitPlaces, renumbered, IsUseAt};
+ghost use Rattle.dexinsn.specs.Stored.{HasPlaceAt, IsIndexed, renumbered_index, uses_at};
 
 use crate::code_units::Units;
 use crate::instruction_index::{index_kind_at, is_wide_at};
@@ -74,7 +74,7 @@ fn have_places(units: &Units<'_>, indices: &[Index], remap: &Remap) -> bool
 // Passes the symbols of all indices to the visitor.
 fn visit_indices<V: Visitor>(units: &Units<'_>, indices: &[Index], visitor: &mut V)
     requires { All (IsIndexed units.now) indices.now }
-    ensures { FoldsTo V.step visitor.old (flat_map (λ index. use_at units.now index ∷ []) indices.now) visitor.new }
+    ensures { FoldsTo V.step visitor.old (uses_at units.now indices.now) visitor.new }
 {
     for index in indices {
         visitor.symbol(index_kind_at(units, index.unit as usize), index.number);
@@ -204,7 +204,7 @@ impl<'a> Pieces<'a> {
     /// Condition: `i` is below [`symbol_count`](Pieces::symbol_count).
     pub fn symbol(&self, i: usize) -> (SymbolKind, usize)
         requires { i < length (uses_of self.now.pieces) }
-        ensures { (d : Use) → slice_index_or (uses_of self.now.pieces) i d ≡ record { kind = result.0; number = result.1 } }
+        ensures { IsUseAt (uses_of self.now.pieces) i result }
     {
         let units = Units::of_bytes(self.bytes);
         let index = self.indices[i];

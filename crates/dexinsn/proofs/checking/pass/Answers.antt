@@ -10,8 +10,8 @@ put_bit-requires c = omega (arith, c.loop-at.invariant.starts_are.room)
 pub put_bit-requires-in-loop-at : goal.put_bit-requires-in-loop-at
 put_bit-requires-in-loop-at c = omega (arith, c.loop-at.invariant.noted_are.room)
 
-pub returns-in-None : goal.returns-in-None
-returns-in-None c = no_step c.args.units.now c.args.pools.now c.loop-at.starts.items c.loop-at.noted.items c.loop-at.at c.loop-at.indices c.loop-at.invariant (omega arith) c.in-None.ensures
+pub returns-in-None-clause-none : goal.returns-in-None-clause-none
+returns-in-None-clause-none c = no_step c.args.units.now c.args.pools.now c.loop-at.starts.items c.loop-at.noted.items c.loop-at.at c.loop-at.indices c.loop-at.invariant (omega arith) c.in-None.ensures
 
 pub loop-at-preserved : goal.loop-at-preserved
 loop-at-preserved c =

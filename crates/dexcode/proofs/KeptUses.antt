@@ -14,7 +14,7 @@ use Rattle.dexspec.proofs.lists.Members.{Contains-first, Contains-flat_map}
 use Rattle.dexspec.proofs.merge.Depths.{Contains-map}
 use Rattle.dexspec.proofs.merge.SymbolOrders.{text_total, text_exact, proto_total, proto_exact, field_total, field_exact, method_total, method_exact}
 use Rattle.dexspec.proofs.lists.InOrder.{in_order-has}
-use Rattle.dexrows.specs.Cut.{kept}
+use Rattle.dexpool.specs.Cut.{kept}
 use Rattle.dexpool.specs.declared.symbols.SymbolKind.{SymbolKind}
 use Rattle.dexpool.specs.declared.symbols.SymbolKind.TheVariants as kinds
 use Rattle.dexpool.specs.declared.marks.Marks.{Marks}

@@ -15,7 +15,7 @@ use Rattle.dexspec.proofs.merge.Depths.{Contains-map}
 use Rattle.dexspec.proofs.lists.Mapped.{Contains-map_source}
 use Rattle.dexspec.proofs.lists.InOrder.{Rises, Rises-same, Rises-in_order, in_order-has, in_order-only}
 use Rattle.dexspec.proofs.merge.SymbolOrders.{text_total, text_exact, proto_total, proto_exact, field_total, field_exact, method_total, method_exact}
-use Rattle.dexrows.specs.Cut.{kept}
+use Rattle.dexpool.specs.Cut.{kept}
 use Rattle.dexpool.specs.internal.Closing.{mark_all}
 use Rattle.dexpool.proofs.KeptRows.{kept_from, kept_has, mark_stays, mark_comes, mark_from}
 use Rattle.dexpool.proofs.KeptTables.{mapped_twice}

@@ -5,11 +5,11 @@ use Rattle.std.specs.List.{All, Contains, flat_map}
 use Rattle.std.proofs.lemmas.List.Elements.{All-weaker, Contains-get_or}
 use Rattle.dexspec.proofs.lists.Members.{list_any-member}
 use Rattle.dexspec.specs.Mentions.{Mentions}
-use Rattle.dexrows.specs.Cut.{kept, places}
+use Rattle.dexpool.specs.Cut.{kept, places}
 use Rattle.dexrows.specs.declared.fields.FieldRow.{FieldRow}
 use Rattle.dexrows.specs.declared.methods.MethodRow.{MethodRow}
 use Rattle.dexpool.specs.declared.rows.ProtoEntry.{ProtoEntry}
-use Rattle.dexrows.proofs.KeptPlaces.{marked_has}
+use Rattle.dexpool.proofs.KeptPlaces.{marked_has}
 use Rattle.dexpool.specs.declared.tables.Tables.{Tables}
 use Rattle.dexpool.specs.declared.marks.Marks.{Marks}
 use Rattle.dexpool.specs.declared.symbols.SymbolKind.{SymbolKind}

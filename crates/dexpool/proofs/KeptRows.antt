@@ -7,8 +7,8 @@ use Rattle.std.proofs.lemmas.List.{length-set, length-map, get_or-map, get_or-se
 use Rattle.dexspec.proofs.lists.Members.{Contains-nil, Contains-first, Contains-later, Contains-cons_cases}
 use Rattle.dexspec.proofs.lists.Mapped.{All-among}
 use Rattle.dexspec.proofs.lists.InOrder.{Rises, AreDistinct-from_Rises}
-use Rattle.dexrows.specs.Cut.{kept, places}
-use Rattle.dexrows.proofs.KeptPlaces.{kept_among, length_places, marked_has, is_at, places_rise}
+use Rattle.dexpool.specs.Cut.{kept, places}
+use Rattle.dexpool.proofs.KeptPlaces.{kept_among, length_places, marked_has, is_at, places_rise}
 use Rattle.dexpool.specs.Numberings.{MapsTo, image}
 use Rattle.dexpool.specs.Orderly.{KeepsOrder}
 use Rattle.dexpool.specs.internal.Closing.{IsMarked, mark_all, number_or_none, new_numbers}

@@ -11,7 +11,7 @@ use Rattle.dexspec.specs.Names as names
 use Rattle.dexspec.specs.Symbols as symbols
 use Rattle.dexspec.proofs.lists.InOrder.{Rises-from_rises, rises-from_Rises}
 use Rattle.dexspec.proofs.merge.SymbolOrders.{text_total}
-use Rattle.dexrows.specs.Cut.{kept}
+use Rattle.dexpool.specs.Cut.{kept}
 use Rattle.dexrows.specs.Join.{row_cmp, AreSorted}
 use Rattle.dexrows.specs.Numbers.{ProtoNumbers}
 use Rattle.dexrows.specs.declared.fields.FieldRow.{FieldRow}

@@ -40,3 +40,5 @@ pub mod FileLists
 pub mod ListedPlaces
 pub mod SpelledLists
 pub mod StoredImages
+pub mod CutRows
+pub mod KeptPlaces

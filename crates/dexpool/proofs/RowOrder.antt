@@ -9,13 +9,13 @@ use Rattle.dexspec.specs.Lists.{rises}
 use Rattle.dexspec.specs.Texts.{Text, text_cmp}
 use Rattle.dexspec.specs.Symbols as symbols
 use Rattle.dexspec.proofs.merge.SymbolOrders.{text_total, proto_total}
-use Rattle.dexrows.specs.Cut.{places}
+use Rattle.dexpool.specs.Cut.{places}
 use Rattle.dexrows.specs.Join.{row_cmp, AreSorted}
 use Rattle.dexrows.specs.Numbers.{Among, Lower, RisesOn, RiseAmong, ProtoNumbers}
 use Rattle.dexrows.specs.declared.types.TypeRow.{TypeRow}
 use Rattle.dexrows.specs.declared.fields.FieldRow.{FieldRow}
 use Rattle.dexrows.specs.declared.methods.MethodRow.{MethodRow}
-use Rattle.dexrows.proofs.KeptPlaces.{length_places, marked_has}
+use Rattle.dexpool.proofs.KeptPlaces.{length_places, marked_has}
 use Rattle.dexpool.specs.declared.rows.ProtoEntry.{ProtoEntry}
 use Rattle.dexpool.specs.declared.tables.Tables.{Tables}
 use Rattle.dexpool.specs.declared.marks.Marks.{Marks}

@@ -11,4 +11,5 @@ pub mod Uses
 pub mod Images
 pub mod Packed
 pub mod Lists
+pub mod Cut
 pub mod internal

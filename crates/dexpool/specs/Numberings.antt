@@ -9,7 +9,7 @@ use Rattle.dexspec.specs.Names.{IsDescriptor, shorty}
 use Rattle.dexspec.specs.Symbols.{Proto, Field, Method, Symbol, TextSymbol, TypeSymbol, ProtoSymbol, FieldSymbol, MethodSymbol, IsProto, IsField, IsMethod, proto_cmp, field_cmp, method_cmp}
 use Rattle.dexspec.specs.Mentions.{Mentions, proto_types}
 use Rattle.dexrows.specs.Numbers.{ProtoNumbers}
-use Rattle.dexrows.specs.Cut.{kept}
+use Rattle.dexpool.specs.Cut.{kept}
 use Rattle.dexrows.specs.declared.fields.FieldRow.{FieldRow}
 use Rattle.dexrows.specs.declared.methods.MethodRow.{MethodRow}
 use Rattle.dexpool.specs.declared.symbols.SymbolKind.{SymbolKind}

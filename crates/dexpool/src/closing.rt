@@ -2,7 +2,7 @@
 
 ghost use Rattle.std.specs.Prelude.{◌≡◌, ◌<◌, length, map, All, IfOk};
 ghost use Rattle.std.specs.List.{flat_map};
-ghost use Rattle.dexrows.specs.Cut.{kept};
+ghost use Rattle.dexpool.specs.Cut.{kept};
 ghost use Rattle.dexpool.specs.Numberings.{AreMarksOf};
 ghost use Rattle.dexpool.specs.Stored.{symbols_in, AreTables};
 ghost use Rattle.dexpool.specs.internal.Renumbering.{IsEntryWithin, IsFieldWithin};

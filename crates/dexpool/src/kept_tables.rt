@@ -2,7 +2,7 @@
 //! of the rows below them.
 
 ghost use Rattle.std.specs.Prelude.{◌≡◌, length, IfOk};
-ghost use Rattle.dexrows.specs.Cut.{kept, places};
+ghost use Rattle.dexpool.specs.Cut.{kept, places};
 ghost use Rattle.dexpool.specs.Numberings.{AreMarksOf};
 ghost use Rattle.dexpool.specs.Stored.{symbols_in, AreTables};
 ghost use Rattle.dexpool.specs.internal.Renumbering.{HasSpans, numbers_in};

@@ -1,7 +1,7 @@
 //! The five pools of a file: texts, types, protos, fields and methods, each in a sorted table whose rows
 //! name rows of the tables before it.
 //!
-//! Public contracts use the definitions of `specs/Faults`, `specs/Images`, `specs/Laws`, `specs/Lists`,
+//! Public contracts use the definitions of `specs/Cut`, `specs/Faults`, `specs/Images`, `specs/Laws`, `specs/Lists`,
 //! `specs/Numberings`, `specs/Orderly`, `specs/Owned`, `specs/Packed`, `specs/Pools`, `specs/Reading`, `specs/Stored`
 //! and `specs/Uses`.
 //!

@@ -1,6 +1,5 @@
 pub mod Numbers
 pub mod KeyOrders
 pub mod Join
-pub mod Cut
 pub mod Listed
 pub mod internal

@@ -1,13 +1,11 @@
-//! Sorted tables of rows, whose keys are numbers of rows of lower tables: a join of many, and a cut of one.
+//! Sorted tables of rows, whose keys are numbers of rows of lower tables, and a join of many.
 //!
-//! Public contracts use the definitions of `specs/Cut`, `specs/Join`, `specs/KeyOrders`, `specs/Listed` and
-//! `specs/Numbers`.
+//! Public contracts use the definitions of `specs/Join`, `specs/KeyOrders`, `specs/Listed` and `specs/Numbers`.
 //!
 //! Source: the Android page "Dalvik Executable format", under the headings "string_id_item",
 //! "type_id_item", "proto_id_item", "field_id_item" and "method_id_item".
 #![tactic(auto)]
 
-mod cutting;
 mod fields;
 mod joining;
 mod lower;
@@ -21,7 +19,6 @@ mod texts;
 mod type_numbers;
 mod types;
 
-pub use cutting::{Kept, cut};
 pub use fields::FieldRow;
 pub use joining::{Joined, join};
 pub use lower::LowerPlaces;

@@ -1,6 +1,6 @@
-//! Joined and cut tables of rows, and the order of each kind of row. The right answers were worked out by hand.
+//! Joined tables of rows, and the order of each kind of row. The right answers were worked out by hand.
 
-use dexrows::{FieldRow, MethodRow, ProtoRow, Row, TypeRow, cut, is_sorted, join};
+use dexrows::{FieldRow, MethodRow, ProtoRow, Row, TypeRow, is_sorted, join};
 use dexstr::Text;
 use std::alloc::Global;
 use std::cmp::Ordering;
@@ -100,17 +100,3 @@ fn three_tables_of_types_are_joined(rt: HostRuntime) {
     assert!(rt; are_types_joined(rt.alloc()) == Some(true));
 }
 
-// Returns whether the marked rows are kept, and the others have no image.
-fn are_marked_kept(alloc: Global) -> Option<bool> {
-    let rows = [typ(1), typ(4), typ(6), typ(9)];
-    let kept = cut(alloc, &rows, &[false, true, false, true]).ok()?;
-    Some(
-        kept.rows.as_slice() == [typ(4), typ(9)].as_slice()
-            && kept.images.as_slice() == [None, Some(0), None, Some(1)].as_slice(),
-    )
-}
-
-#[test]
-fn a_table_is_cut(rt: HostRuntime) {
-    assert!(rt; are_marked_kept(rt.alloc()) == Some(true));
-}

@@ -2,7 +2,7 @@
 use Rattle.std.specs.Prelude.{◌≡◌, ℕ, Bool, true, false, List, [], ◌∷◌, map, All, Option, unwrap_or, slice_index, slice_index_or, slice_set, length}
 use Rattle.std.specs.List.{flat_map}
 use Rattle.dexspec.specs.Mentions.{Mentions}
-use Rattle.dexrows.specs.Cut.{kept, places}
+use Rattle.dexpool.specs.Cut.{kept, places}
 use Rattle.dexrows.specs.declared.fields.FieldRow.{FieldRow}
 use Rattle.dexrows.specs.declared.methods.MethodRow.{MethodRow}
 use Rattle.dexrows.specs.declared.lower.LowerPlaces.{LowerPlaces}

@@ -1,5 +1,5 @@
 use Rattle.std.proofs.Common.{◌∙◌, ap}
-use Rattle.dexrows.specs.Cut.{kept}
+use Rattle.dexpool.specs.Cut.{kept}
 use Rattle.dexpool.proofs.KeptTables.{fields_within}
 use Rattle.dexpool.proofs.kept_tables.kept_fields.Goals as goal
 

@@ -1,7 +1,7 @@
 use Rattle.std.proofs.Common.{ℕ, List, sym, ◌∙◌, ap, map, subst, slice_index}
 use Rattle.std.specs.List.{All}
 use Rattle.std.proofs.lemmas.List.{length-map}
-use Rattle.dexrows.specs.Cut.{kept}
+use Rattle.dexpool.specs.Cut.{kept}
 use Rattle.dexpool.specs.declared.rows.ProtoEntry.{ProtoEntry}
 use Rattle.dexpool.specs.Numberings.{Maps}
 use Rattle.dexpool.specs.Reading.{HasSpan}

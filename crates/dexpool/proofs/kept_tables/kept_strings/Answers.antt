@@ -1,5 +1,5 @@
 use Rattle.std.proofs.Common.{[], ◌∷◌, ◌++◌, arith, ap, ◌∙◌}
-use Rattle.dexrows.proofs.CutRows.{keeps, leaves}
+use Rattle.dexpool.proofs.CutRows.{keeps, leaves}
 use Rattle.dexpool.proofs.kept_tables.kept_strings.Goals.{then-marks-i+in_ok-push, else-marks-i}
 use Rattle.dexpool.proofs.kept_tables.kept_strings.Goals as goal
 

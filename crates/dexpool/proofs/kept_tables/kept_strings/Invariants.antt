@@ -1,5 +1,5 @@
 use Rattle.std.proofs.Common.{◌≡◌, ◌++◌, drop}
-use Rattle.dexrows.specs.Cut.{kept}
+use Rattle.dexpool.specs.Cut.{kept}
 use Rattle.dexpool.proofs.kept_tables.kept_strings.Given as goal
 
 abbrev pub invariant-loop-i : goal.invariant-loop-i

@@ -1,5 +1,5 @@
 use Rattle.std.proofs.Common.{arith}
-use Rattle.dexrows.proofs.CutRows.{keeps, leaves}
+use Rattle.dexpool.proofs.CutRows.{keeps, leaves}
 use Rattle.dexpool.proofs.kept_tables.marked.Goals.{then-marks-i+in_ok-push, else-marks-i}
 use Rattle.dexpool.proofs.kept_tables.marked.Goals as goal
 

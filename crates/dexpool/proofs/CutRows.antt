@@ -1,7 +1,7 @@
 -- What is kept of a table, and where.
 use Rattle.std.proofs.Common.{◌≡◌, ℕ, ◌+◌, ◌<◌, Bool, true, false, List, [], ◌∷◌, ◌++◌, length, get_or, drop, refl, sym, ap, ◌∙◌, arith, append_assoc, add-one, Option, Some, None}
 use Rattle.std.proofs.lemmas.List.{length-drop, drop_more}
-use Rattle.dexrows.specs.Cut.{kept, places}
+use Rattle.dexpool.specs.Cut.{kept, places}
 
 first_of : {X : Type 0} (xs : List X) → 0 < length xs → X
 first_of [] lt = absurd (omega arith)

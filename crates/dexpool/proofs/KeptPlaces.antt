@@ -3,7 +3,7 @@ use Rattle.std.proofs.Common.{◌≡◌, ℕ, zero, suc, ◌+◌, ◌<◌, ◌�
 use Rattle.dexspec.proofs.lists.Members.{AreAmong, Contains-nil, Contains-later, Contains-cons_cases}
 use Rattle.dexspec.proofs.lists.InOrder.{Rises, rises-from_Rises, Rises-from_rises}
 use Rattle.dexrows.specs.Join.{row_cmp, AreSorted}
-use Rattle.dexrows.specs.Cut.{kept, places}
+use Rattle.dexpool.specs.Cut.{kept, places}
 use Rattle.dexrows.proofs.MergeSteps.{row_total}
 
 -- a kept row is a row

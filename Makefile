@@ -4,7 +4,8 @@
 #   make unproved           builds crates/dexkit/out/dexkit-unproved: the program with checks at run time and no proof
 #   make                    proves the program and all that it depends on, crate by crate, and builds crates/dexkit/out/dexkit;
 #                           what is proved is kept, so a run that was interrupted goes on where it was
-#   make check              the gate: proves what it has not passed on this machine, and runs all cases
+#   make check              the gate: proves what it has not passed on this machine, runs all cases, and makes each
+#                           allocation, read and write of the proved program fail once
 #   make documents          checks links, sizes, names and versions in the documents
 #   make install PREFIX=..  installs the proved program, its manual, completions and notices; PREFIX is /usr/local if not given
 #   make dist               packs them as a tar file and a Debian package in dist/
@@ -48,8 +49,14 @@ $(UNPROVED): $(SOURCES)
 	@echo "Compiling dexkit without proofs: a minute and a half on four idle cores, several beside other work."
 	@tools/unproved
 
+# A line is printed for a failing call that was handled wrong, and none otherwise: the last line is that of `rt ci`. The
+# faults need a C compiler.
 check:
 	rt ci
+	@said=$$(mktemp) && trap 'rm -f "$$said"' EXIT; \
+	if [ -x $(PROGRAM) ] && command -v cc >/dev/null; then \
+		tests/faults/run $(PROGRAM) >"$$said" || { cat "$$said"; exit 1; }; \
+	fi
 
 documents:
 	tests/documents/run

@@ -99,4 +99,3 @@ fn are_types_joined(alloc: Global) -> Option<bool> {
 fn three_tables_of_types_are_joined(rt: HostRuntime) {
     assert!(rt; are_types_joined(rt.alloc()) == Some(true));
 }
-

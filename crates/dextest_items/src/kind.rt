@@ -5,7 +5,7 @@ ghost use Rattle.dexpool.specs.Pools.{ArePools};
 use crate::dex_file::DexFile;
 use crate::item_kind::ItemKind;
 use crate::line::Line;
-use crate::{canonical, checked, puts, reads, sameness, texts, units, weights};
+use crate::{canonical, checked_lines, puts, reads, sameness, texts, units, weights};
 use dextest_cases::{CaseFault, Cases, Folder, Outcome};
 use std::alloc::Global;
 use std::fmt;

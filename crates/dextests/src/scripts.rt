@@ -53,7 +53,7 @@ impl<T> Scripted<T> {
     }
 
     // Returns how many of `len` bytes this call moves.
-    fn answer(&mut self, len: usize) -> io::Result<usize>
+    fn moved(&mut self, len: usize) -> io::Result<usize>
         ensures { IfOk result (λ n. n ≤ len) }
     {
         let call = self.calls;
@@ -70,14 +70,14 @@ impl<T> Scripted<T> {
 
 impl<T: Read> Read for Scripted<T> {
     fn read(&mut self, buf: &mut [u8]) -> io::Result<usize> {
-        let n = self.answer(buf.len())?;
+        let n = self.moved(buf.len())?;
         self.inner.read(&mut buf[..n])
     }
 }
 
 impl<T: Write> Write for Scripted<T> {
     fn write(&mut self, bytes: &[u8]) -> io::Result<usize> {
-        let n = self.answer(bytes.len())?;
+        let n = self.moved(bytes.len())?;
         self.inner.write(&bytes[..n])
     }
 

@@ -6,7 +6,7 @@
 #                           what is proved is kept, so a run that was interrupted goes on where it was
 #   make check              the gate: proves what it has not passed on this machine, runs all cases, and makes each
 #                           allocation, read and write of the proved program fail once
-#   make documents          checks links, sizes, names and versions in the documents
+#   make documents          checks links, sizes, names and versions in the documents, and words in all text and names
 #   make install PREFIX=..  installs the proved program, its manual, completions and notices; PREFIX is /usr/local if not given
 #   make dist               packs them as a tar file and a Debian package in dist/
 #   make clean              removes what checks and builds keep
@@ -60,6 +60,7 @@ check:
 
 documents:
 	tests/documents/run
+	tests/words/run
 	[ ! -x tests/cases/run ] || tests/cases/run
 
 $(PROGRAM):

@@ -55,6 +55,14 @@ abbrev pub MentionsAreAtRanks : {X : Type 0} → (X → X → Ordering) → (Lis
 MentionsAreAtRanks R Row kind = (K : Collection)
     → OnFitting K (AreAtRanks R (Row (canonical K)) (kind (mentions (definitions K))))
 
+-- the canonical file of the collection is accepted
+abbrev pub HasAcceptedFile : Collection → Type 0
+HasAcceptedFile K = IsAccepted (canonical K)
+
+-- the canonical file of the collection denotes it
+abbrev pub IsDenotedByFile : Collection → Type 0
+IsDenotedByFile K = Denotes (canonical K) K
+
 -- the class rows of the canonical file are the definitions, in class order
 abbrev pub RowsAreClasses : Collection → Type 0
 RowsAreClasses K = AreListed (λ r (d : Definition). ClassRow (canonical K) r d.0 d.1) (in_class_order (definitions K))

@@ -1,10 +1,10 @@
 -- The statements of the laws of written items.
-use Rattle.std.specs.Prelude.{◌≡◌, ℕ, ◌+◌, ◌%◌, ◌^◌, ◌<◌, ◌≤◌, IsTrue, All, List, [], ◌++◌, length, map, take, drop, Some, None, IfSome}
+use Rattle.std.specs.Prelude.{◌≡◌, ℕ, ◌+◌, ◌%◌, ◌^◌, ◌<◌, ◌≤◌, IsTrue, All, List, [], ◌++◌, length, map, take, drop, Option, Some, None, IfSome}
 use Rattle.std.specs.List.{Contains, AllZip}
 use Rattle.std.specs.Ordering.{nat_cmp}
 use Rattle.dexspec.specs.Lists.{rises, zip_with, OrNone, SomeAt, Item}
 use Rattle.dexspec.specs.Bytes.{uint, BytesAt}
-use Rattle.dexspec.specs.Numbers.{uleb128}
+use Rattle.dexspec.specs.Numbers.{Uleb128p1At, plus_one, uleb128, uleb128p1}
 use Rattle.dexspec.specs.Texts.{Text, text_cmp}
 use Rattle.dexspec.specs.Symbols.{Symbol, field_cmp, method_cmp}
 use Rattle.dexspec.specs.Header.{data_off}
@@ -39,6 +39,10 @@ ArePairs Row At b ps entries = AllZip (PairAt Row At b) ps entries × IsTrue (ri
 -- if the bytes are at the offset, so is the item, in their length
 abbrev pub Encodes : {X : Type 0} → Item X → List ℕ → ℕ → X → List ℕ → Type 0
 Encodes At b o x bytes = BytesAt b o bytes → At b o x (length bytes)
+
+-- the bytes that are written for a number plus one, or for none, encode it
+abbrev pub PlusOnesAreWritten : List ℕ → ℕ → Type 0
+PlusOnesAreWritten b o = (v : Option ℕ) → plus_one v < 2 ^ 32 → Encodes Uleb128p1At b o v (uleb128p1 v)
 
 -- the bytes of a well-formed item whose symbols are in their rows encode it
 abbrev pub AreWritten : {X : Type 0} → Item X → (X → Type 0) → (X → List Symbol) → (Mentions → X → List ℕ) → Type 0

@@ -5,13 +5,13 @@ ghost use Rattle.dexspec.specs.Texts.{text_cmp};
 ghost use Rattle.dexspec.specs.Symbols.{proto_cmp, field_cmp, method_cmp};
 ghost use Rattle.dexspec.specs.Rows.{StringRow, TypeRow, ProtoRow, FieldRow, MethodRow};
 ghost use Rattle.dexspec.specs.Classes.{Definition};
-ghost use Rattle.dexspec.specs.Files.{Collection, Denotes, IsCollectionOf};
+ghost use Rattle.dexspec.specs.Files.{Collection, IsCollectionOf};
 ghost use Rattle.dexspec.specs.Merging.{Caps, IsGood};
 ghost use Rattle.dexspec.specs.Conditions.{Condition};
-ghost use Rattle.dexspec.specs.Accepted.{HoldsThroughout, HoldBelow, IsAccepted};
+ghost use Rattle.dexspec.specs.Accepted.{HoldsThroughout, HoldBelow};
 ghost use Rattle.dexspec.specs.Canonical.{canonical};
 ghost use Rattle.dexlaws.specs.Denotes.{OnAccepted, AreReadable};
-ghost use Rattle.dexlaws.specs.Normal.{OnFitting, OnGood, RowsAreMentions, MentionsAreAtRanks, RowsAreClasses, DefinitionsHaveRows, FilesTellApart, IsCanonicalAgain, OnUnion};
+ghost use Rattle.dexlaws.specs.Normal.{OnFitting, OnGood, RowsAreMentions, MentionsAreAtRanks, RowsAreClasses, DefinitionsHaveRows, FilesTellApart, IsCanonicalAgain, HasAcceptedFile, IsDenotedByFile, OnUnion};
 
 /// The string rows of the canonical file of definitions that fit are the mentioned texts, in order.
 pub fn strings_at_ranks()
@@ -71,8 +71,8 @@ pub fn rows_hold()
 /// The canonical file of a collection that is good and well formed is accepted, and denotes it. So two different such
 /// collections have different canonical files.
 pub fn normal_form()
-    ensures accepted { (K : Collection) → OnGood K (IsAccepted (canonical K)) }
-    ensures denotes { (K : Collection) → OnGood K (Denotes (canonical K) K) }
+    ensures accepted { (K : Collection) → OnGood K (HasAcceptedFile K) }
+    ensures denotes { (K : Collection) → OnGood K (IsDenotedByFile K) }
     ensures one { (K L : Collection) → OnGood K (OnGood L (canonical K ≡ canonical L → K ≡ L)) }
 {}
 
@@ -80,8 +80,8 @@ pub fn normal_form()
 /// denotes it too. So accepted files have the same normal form exactly if they denote the same collection, and the
 /// normal form of a normal form is the same bytes.
 pub fn files_normal_form()
-    ensures accepted { (b : List ℕ) (K : Collection) → OnAccepted b K (IsAccepted (canonical K)) }
-    ensures denotes { (b : List ℕ) (K : Collection) → OnAccepted b K (Denotes (canonical K) K) }
+    ensures accepted { (b : List ℕ) (K : Collection) → OnAccepted b K (HasAcceptedFile K) }
+    ensures denotes { (b : List ℕ) (K : Collection) → OnAccepted b K (IsDenotedByFile K) }
     ensures same { (a b : List ℕ) (K L : Collection) → OnAccepted a K (OnAccepted b L (FilesTellApart K L)) }
     ensures twice { (b : List ℕ) (K L : Collection) → OnAccepted b K (IsCanonicalAgain K L) }
 {}
@@ -89,7 +89,7 @@ pub fn files_normal_form()
 /// If the definitions of some accepted files are mergeable under caps of the format, the canonical file of their
 /// collection is accepted and denotes it; and there is such a collection.
 pub fn union_normal_form()
-    ensures accepted { (caps : Caps) (files : List (List ℕ)) → OnUnion caps files (λ K. IsAccepted (canonical K)) }
-    ensures denotes { (caps : Caps) (files : List (List ℕ)) → OnUnion caps files (λ K. Denotes (canonical K) K) }
+    ensures accepted { (caps : Caps) (files : List (List ℕ)) → OnUnion caps files HasAcceptedFile }
+    ensures denotes { (caps : Caps) (files : List (List ℕ)) → OnUnion caps files IsDenotedByFile }
     ensures some { (caps : Caps) (D : List Definition) → IsGood caps D → (K : Collection) × IsCollectionOf D K }
 {}

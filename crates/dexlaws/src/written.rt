@@ -1,7 +1,7 @@
 //! The canonical bytes of an item encode the item, in a file in which each symbol is in the row of its index.
-ghost use Rattle.std.specs.Prelude.{ℕ, ℤ, ◌^◌, ◌<◌, List, Option, FitsSigned};
+ghost use Rattle.std.specs.Prelude.{ℕ, ℤ, ◌^◌, ◌<◌, List, FitsSigned};
 ghost use Rattle.std.specs.Int.{w32};
-ghost use Rattle.dexspec.specs.Numbers.{Uleb128At, Sleb128At, Uleb128p1At, plus_one, uleb128, sleb128, uleb128p1};
+ghost use Rattle.dexspec.specs.Numbers.{Uleb128At, Sleb128At, uleb128, sleb128};
 ghost use Rattle.dexspec.specs.Texts.{Text};
 ghost use Rattle.dexspec.specs.Values.{Values, ValueAt, ValuesAt, ElementsAt};
 ghost use Rattle.dexspec.specs.Annotations.{AnnotationAt};
@@ -12,13 +12,13 @@ ghost use Rattle.dexspec.specs.Classes.{Body, Definition};
 ghost use Rattle.dexspec.specs.Mentions.{Mentions, value_symbols, values_symbols, elements_symbols, annotation_symbols, operation_symbols, debug_symbols};
 ghost use Rattle.dexspec.specs.Spellings.{value_bytes, values_bytes, elements_bytes, annotation_bytes, operation_bytes, debug_bytes};
 ghost use Rattle.dexspec.specs.WellFormed.{IsValue, AreValues, AreElements, IsAnnotation, IsOperation, IsDebug};
-ghost use Rattle.dexlaws.specs.Written.{Encodes, AreWritten, AreWrittenInData, ArrayIsWritten, SetsAreWritten, RefListsAreWritten, DirectoriesAreWritten, HandlersAreWritten, CodeIsWritten, ClassDataIsWritten, MemberIndicesRise, OwnDirectoryIsWritten, OwnDirectoryIsEmpty, HasFieldAnnotations, HasMethodAnnotations, HasParameterAnnotations, IndicesFit, HandlerOffsetsFit};
+ghost use Rattle.dexlaws.specs.Written.{Encodes, PlusOnesAreWritten, AreWritten, AreWrittenInData, ArrayIsWritten, SetsAreWritten, RefListsAreWritten, DirectoriesAreWritten, HandlersAreWritten, CodeIsWritten, ClassDataIsWritten, MemberIndicesRise, OwnDirectoryIsWritten, OwnDirectoryIsEmpty, HasFieldAnnotations, HasMethodAnnotations, HasParameterAnnotations, IndicesFit, HandlerOffsetsFit};
 
 /// The shortest LEB128 of a number in range encodes the number.
 pub fn numbers_written()
     ensures unsigned { (b : List ℕ) (o v : ℕ) → v < 2 ^ 32 → Encodes Uleb128At b o v (uleb128 v) }
     ensures signed { (b : List ℕ) (o : ℕ) (z : ℤ) → FitsSigned w32 z → Encodes Sleb128At b o z (sleb128 z) }
-    ensures one_more { (b : List ℕ) (o : ℕ) (v : Option ℕ) → plus_one v < 2 ^ 32 → Encodes Uleb128p1At b o v (uleb128p1 v) }
+    ensures one_more { (b : List ℕ) (o : ℕ) → PlusOnesAreWritten b o }
 {}
 
 /// The bytes of values, of elements of an annotation and of an array encode them.

@@ -3,7 +3,7 @@
 ghost use Rattle.std.specs.Prelude.{◌≡◌, ◌<◌, ◌+◌, ◌++◌, [], ◌∷◌, length, slice_index_or, true, false, All, IfOk, OnOk, MatchOption};
 ghost use Rattle.dexorder.specs.Depths.{AreWithin, AreDepths};
 ghost use Rattle.dexorder.specs.Parents.{AllHaveDepths, IsFirstWithout};
-ghost use Rattle.dexorder.specs.internal.Searching.{IsSearch, IsWaitingFor, AreStillSeen, IsNearer};
+ghost use Rattle.dexorder.specs.internal.Searching.{IsSearch, IsWaitingFor, AreStillSeen, IsNearer, IsNearerFrom};
 
 use crate::hierarchy::Hierarchy;
 use std::alloc::{AllocError, Global};
@@ -58,7 +58,7 @@ impl<'a> Search<'a> {
         requires search { IsSearch classes.now self.old (self.old.path.items ++ visit ∷ []) }
         ensures search { OnOk result (IsSearch classes.now self.new self.new.path.items) }
         ensures seen { OnOk result (AreStillSeen self.old self.new) }
-        ensures nearer { OnOk result (IsNearer classes.now self.old (self.old.path.items ++ visit.entry ∷ []) self.new) }
+        ensures nearer { OnOk result (IsNearerFrom classes.now visit.entry self.old self.new) }
     {
         let Some((parent, left)) = visit.left.split_first() else {
             self.depths[visit.class] = Some(visit.depth);

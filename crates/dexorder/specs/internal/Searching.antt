@@ -56,3 +56,7 @@ work classes s path = work_unseen classes s.is_seen.items + work_left path
 -- less work is left for the second search than for the first with these visits on its path
 abbrev pub IsNearer : List (List ℕ) → Search → List Visit → Search → Type 0
 IsNearer classes s path t = work classes t t.path.items < work classes s path
+
+-- so it is where this visit was the last on the path
+abbrev pub IsNearerFrom : List (List ℕ) → Visit → Search → Search → Type 0
+IsNearerFrom classes visit s t = IsNearer classes s (s.path.items ++ visit ∷ []) t

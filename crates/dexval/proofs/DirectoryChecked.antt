@@ -9,7 +9,7 @@ use Rattle.dexval.specs.declared.directory_checking.CheckedSets.{CheckedSets}
 use Rattle.dexval.specs.Checking.{HasSetOf}
 use Rattle.dexval.specs.CheckedSets.{IsWeighed, AreChecked, HasDirectoryOf}
 use Rattle.dexval.specs.Directories.{IsSetOrEmptyAt, IsRefListAt, ArePairsAt, HasMembers, set_weight_in, sets_weight_in}
-use Rattle.dexval.specs.Nesting.{AreFilePools}
+use Rattle.dexval.specs.Nesting.{HasPools}
 use Rattle.dexval.specs.Numbered.{NumberedDirectory, IsKnownSet, set_in}
 use Rattle.dexval.specs.Reading.{IsSetAt}
 use Rattle.dexval.proofs.DirectoryRead.{directory_read}
@@ -60,7 +60,7 @@ module _ (b : List ℕ) (m : Mentions) (j k : CheckedSets) (o weight : ℕ) wher
 -- ---- directories
 
 -- all parts were checked
-pub directory_checked : (b : List ℕ) (o : ℕ) (m : Mentions) → AreFilePools b m → (w1 w2 w3 w4 weight : ℕ) → HasMembers b o
+pub directory_checked : (b : List ℕ) (o : ℕ) (m : Mentions) → HasPools b m → (w1 w2 w3 w4 weight : ℕ) → HasMembers b o
     → IsWeighed (IsSetOrEmptyAt b (uint_at b o) m) (set_weight_in m) w1
     → IsWeighed (ArePairsAt (IsKnownSet m) (set_in m) SetAt b (o + 16) (fields_count b o) (length m.fields)) (sum_by (λ e. set_weight_in m e.1)) w2
     → IsWeighed (ArePairsAt (IsKnownSet m) (set_in m) SetAt b (o + 16 + 8 * fields_count b o) (methods_count b o) (length m.methods)) (sum_by (λ e. set_weight_in m e.1)) w3

@@ -13,7 +13,7 @@ use Rattle.dexspec.specs.Annotations.{AnnotationSet, SetAt, RefListAt, PairAt, P
 use Rattle.dexspec.specs.Mentions.{Mentions}
 use Rattle.dexspec.proofs.lists.Members.{and_first, and_second, and_both}
 use Rattle.dexval.specs.Numbered.{NumberedSet, IsKnownSet, set_in, field_at, method_at}
-use Rattle.dexval.specs.Nesting.{AreFilePools}
+use Rattle.dexval.specs.Nesting.{HasPools}
 use Rattle.dexval.specs.Items.{NoSetAt, HasOffsets}
 use Rattle.dexval.specs.Directories.{IsKnownAt, IsSetOrEmptyAt, NoSetOrEmptyAt, IsRefListAt, NoRefListAt, IsIndexBelow, HasPair, ArePairsAt, NoPairsAt, HasMembers, NoDirectoryAt}
 use Rattle.dexval.specs.Reading.{IsSetAt, IsDirectoryAt}
@@ -280,7 +280,7 @@ no_members b o none d h = none (record { in_data = h.in_data; aligned = h.aligne
 pub no_own : (b : List ℕ) (o : ℕ) → NoSetOrEmptyAt b (uint_at b o) → NoDirectoryAt b o
 no_own b o none d h = none d.own h.own
 
-module _ (b : List ℕ) (o : ℕ) (m : Mentions) (file : AreFilePools b m) where
+module _ (b : List ℕ) (o : ℕ) (m : Mentions) (file : HasPools b m) where
   field_row : (i : ℕ) → i < length m.fields → FieldRow b i (field_at m i)
   field_row i lt = file.pools.fields_are.each i (record { class = []; name = []; type = [] }) (omega (arith, lt, file.pools.fields_are.count))
 

@@ -16,7 +16,7 @@ use Rattle.dexspec.proofs.determined.OneValue.{one_value}
 use Rattle.dexspec.proofs.merge.SymbolOrders.{text_total}
 use Rattle.dexpool.proofs.NumberOrder.{places_agree}
 use Rattle.dexval.specs.Numbered.{NumberedValue, NumberedElements, HaveKnown, IsKnown, elements_in, value_in, elements_of_list, text_at, type_at}
-use Rattle.dexval.specs.Nesting.{AreFilePools, NoElementAt, IsElementReadAt, NoElementsAt, AreElementsReadAt, NoAnnotationAt, IsAnnotationReadAt}
+use Rattle.dexval.specs.Nesting.{HasPools, NoElementAt, IsElementReadAt, NoElementsAt, AreElementsReadAt, NoAnnotationAt, IsAnnotationReadAt}
 
 -- the name of the first element, if there is one, has at least this number
 abbrev pub IsAbove : List ℕ → ℕ → Elements → Type 0
@@ -44,7 +44,7 @@ pub record HaveReadOf (b : List ℕ) (o : ℕ) (m : Mentions) (depth count i lea
   pub below : (index : ℕ) → least ≤ index → index < length m.texts → rises text_cmp (names_of (elements_in m (elements_of_list es)) ++ text_at m index ∷ []) ≡ true
   pub rest : RestOf b o depth count 0 → RestOf b (o + k) depth (count - i) least
 
-module _ (b : List ℕ) (m : Mentions) (file : AreFilePools b m) where
+module _ (b : List ℕ) (m : Mentions) (file : HasPools b m) where
   -- texts are in the order of their numbers
   texts_agree : (i j : ℕ) → i < length m.texts → j < length m.texts → nat_cmp i j ≡ text_cmp (text_at m i) (text_at m j)
   texts_agree i j lt lt' = places_agree text_cmp text_total m.texts file.rising.texts_rise i j [] [] lt lt'

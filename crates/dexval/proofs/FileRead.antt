@@ -8,14 +8,14 @@ use Rattle.dexspec.specs.Mentions.{Mentions}
 use Rattle.dexpool.specs.Pools.{ArePools}
 use Rattle.dexpool.specs.Numberings.{IsNumbering}
 use Rattle.dexval.specs.internal.Scalars.{NoValueAt}
-use Rattle.dexval.specs.Nesting.{AreFilePools, NoArrayAt}
+use Rattle.dexval.specs.Nesting.{HasPools, NoArrayAt}
 
 -- a file has at most 2 ^ 30 bytes
 pub few_bytes : (b : List ℕ) → IsFrame b → length b ≤ 2 ^ 30
 few_bytes b frame = (frame Condition.Size (omega arith) 0 (omega arith)).most
 
 -- the pools of a file
-pub file_pools : (b : List ℕ) (m n : Mentions) → n ≡ m → IsNumbering n → ArePools b m → AreFilePools b m
+pub file_pools : (b : List ℕ) (m n : Mentions) → n ≡ m → IsNumbering n → ArePools b m → HasPools b m
 file_pools b m n e is pools = record { pools = pools; rising = (subst IsNumbering e is).rising }
 
 pub no_value : (b : List ℕ) (off : ℕ) → NoValueAt b off most_depth → (v : Value) (n : ℕ) → EncodedValueAt b off v n → ⊥

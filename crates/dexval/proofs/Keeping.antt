@@ -13,7 +13,7 @@ use Rattle.dexspec.specs.Weight.{set_weight, ref_list_weight}
 use Rattle.dexspec.proofs.wellformed.FormedRows.{length-uints_at, length-zip}
 use Rattle.dexspec.proofs.size.SizeSums.{sum_by-map}
 use Rattle.dexval.specs.Numbered.{NumberedSet, NumberedDirectory, IsKnownSet, set_in, directory_in, field_at, method_at}
-use Rattle.dexval.specs.Nesting.{AreFilePools}
+use Rattle.dexval.specs.Nesting.{HasPools}
 use Rattle.dexval.specs.Directories.{IsSetOrEmptyAt, ArePairsAt, HasMembers, directory_weight, set_weight_in, sets_weight_in, IsKept}
 use Rattle.dexval.specs.Reading.{IsDirectoryAt}
 use Rattle.dexval.proofs.DirectoryRead.{HaveReadList, directory_read}
@@ -149,7 +149,7 @@ pub same_parts : {a b : NumberedSet} {c d e f : List (ℕ × NumberedSet)} {g h 
 same_parts own fields methods parameters = cc
 
 -- all parts were read, and kept if the weight of all allows it
-pub directory_kept : (b : List ℕ) (o : ℕ) (m : Mentions) → AreFilePools b m → (most w1 w2 w3 w4 : ℕ) (own : NumberedSet) (fields methods : List (ℕ × NumberedSet)) (parameters : List (ℕ × List NumberedSet)) → HasMembers b o
+pub directory_kept : (b : List ℕ) (o : ℕ) (m : Mentions) → HasPools b m → (most w1 w2 w3 w4 : ℕ) (own : NumberedSet) (fields methods : List (ℕ × NumberedSet)) (parameters : List (ℕ × List NumberedSet)) → HasMembers b o
     → IsKept (IsSetOrEmptyAt b (uint_at b o) m) (set_weight_in m) most 0 w1 own
     → IsKept (ArePairsAt (IsKnownSet m) (set_in m) SetAt b (o + 16) (fields_count b o) (length m.fields)) (sum_by (λ e. set_weight_in m e.1)) most w1 w2 fields
     → IsKept (ArePairsAt (IsKnownSet m) (set_in m) SetAt b (o + 16 + 8 * fields_count b o) (methods_count b o) (length m.methods)) (sum_by (λ e. set_weight_in m e.1)) most w2 w3 methods

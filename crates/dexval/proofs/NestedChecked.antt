@@ -6,7 +6,7 @@ use Rattle.dexspec.specs.Values.{value_depth}
 use Rattle.dexspec.specs.Mentions.{Mentions}
 use Rattle.dexpool.specs.Pools.{ArePools}
 use Rattle.dexval.specs.Checking.{HasValue, HasArray, HasElement, HasElements, HasAnnotation}
-use Rattle.dexval.specs.Nesting.{AreFilePools, NoArrayAt, NoElementsAt, NoElementAt}
+use Rattle.dexval.specs.Nesting.{HasPools, NoArrayAt, NoElementsAt, NoElementAt}
 use Rattle.dexval.specs.Numbered.{NumberedValue, Plain, Named, Array, Annotated, values_of_list, elements_of_list, value_in}
 use Rattle.dexval.specs.internal.Scalars.{NoValueAt, IsReadAt}
 use Rattle.dexval.specs.Spelled.{values_count, numbered_weight, numbered_values_weight, numbered_elements_weight}
@@ -86,7 +86,7 @@ pub record ElementsChecked (b : List ℕ) (o : ℕ) (m : Mentions) (depth count 
   pub so_far : HaveReadOf b o m depth count i least elements k
   pub weighed : numbered_elements_weight (elements_of_list elements) ≡ weight
 
-module _ (b : List ℕ) (m : Mentions) (file : AreFilePools b m) (o depth count : ℕ) where
+module _ (b : List ℕ) (m : Mentions) (file : HasPools b m) (o depth count : ℕ) where
   pub no_element_yet : ElementsChecked b o m depth count 0 0 0 0
   no_element_yet = record { elements = []; so_far = no_element_read b m file o depth count; weighed = refl }
 
@@ -110,7 +110,7 @@ module _ (b : List ℕ) (m : Mentions) (file : AreFilePools b m) (o depth count 
   }
 
 -- an annotation of a type and elements
-pub annotation_of_elements : (b : List ℕ) (m : Mentions) (file : AreFilePools b m) (o depth index head count second k weight : ℕ) → Uleb128At b o index head → index < length m.types → Uleb128At b (o + head) count second
+pub annotation_of_elements : (b : List ℕ) (m : Mentions) (file : HasPools b m) (o depth index head count second k weight : ℕ) → Uleb128At b o index head → index < length m.types → Uleb128At b (o + head) count second
     → HasElements b (o + head + second) m depth count k weight → HasAnnotation b o m depth index (head + second + k) (12 + weight)
 annotation_of_elements b m file o depth index head count second k weight type known number h = record {
   elements = h.elements;

@@ -11,7 +11,7 @@ use Rattle.dexspec.specs.Mentions.{Mentions}
 use Rattle.dexspec.proofs.wellformed.FormedRows.{length-uints_at, length-zip}
 use Rattle.dexval.specs.Checking.{HasAnnotation, HasItem, HasSetOf}
 use Rattle.dexval.specs.Items.{NoItemAt, NoSetAt, HasOffsets}
-use Rattle.dexval.specs.Nesting.{AreFilePools}
+use Rattle.dexval.specs.Nesting.{HasPools}
 use Rattle.dexval.specs.Numbered.{NumberedAnnotation, NumberedSet, annotation_in, set_in}
 use Rattle.dexval.specs.Spelled.{numbered_annotation_weight, numbered_set_weight}
 use Rattle.dexval.proofs.SetsRead.{HaveReadSet, item_read, none_read, one_more, no_next, no_order, all_read}
@@ -44,7 +44,7 @@ no_weight : (xs : NumberedSet) → length xs ≡ 0 → numbered_set_weight xs �
 no_weight [] none = refl
 no_weight (x ∷ xs) none = absurd (omega (arith, none))
 
-module _ (b : List ℕ) (m : Mentions) (file : AreFilePools b m) where
+module _ (b : List ℕ) (m : Mentions) (file : HasPools b m) where
   pub none_checked : (p count : ℕ) → SetChecked b p m count 0 0 8
   none_checked p count = record { annotations = []; so_far = none_read b m file p count; weighed = refl }
 

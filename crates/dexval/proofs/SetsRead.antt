@@ -20,7 +20,7 @@ use Rattle.dexspec.proofs.determined.OneRow.{one_type}
 use Rattle.dexspec.proofs.merge.SymbolOrders.{text_total}
 use Rattle.dexpool.proofs.NumberOrder.{places_agree}
 use Rattle.dexval.specs.Numbered.{NumberedAnnotation, NumberedElements, IsKnownSet, IsKnownAnnotation, annotation_in, set_in, type_at}
-use Rattle.dexval.specs.Nesting.{AreFilePools, NoAnnotationAt, IsAnnotationReadAt}
+use Rattle.dexval.specs.Nesting.{HasPools, NoAnnotationAt, IsAnnotationReadAt}
 use Rattle.dexval.specs.Items.{IsItemAt, NoItemAt, NoSetAt, HasOffsets}
 use Rattle.dexval.specs.Reading.{IsSetAt}
 use Rattle.dexval.proofs.Shapes.{first_is, is_at_byte}
@@ -83,7 +83,7 @@ pub record HaveReadSet (b : List ℕ) (p : ℕ) (m : Mentions) (count i least : 
   pub below : (index : ℕ) → least ≤ index → index < length m.types → rises text_cmp (map (λ x. type_at m x.type) xs ++ type_at m index ∷ []) ≡ true
   pub rest : RestOf b p count 0 → RestOf b (p + 4 * i) (count - i) least
 
-module _ (b : List ℕ) (m : Mentions) (file : AreFilePools b m) where
+module _ (b : List ℕ) (m : Mentions) (file : HasPools b m) where
   types_agree : (i j : ℕ) → i < length m.types → j < length m.types → nat_cmp i j ≡ text_cmp (type_at m i) (type_at m j)
   types_agree i j lt lt' = places_agree text_cmp text_total m.types file.rising.types_rise i j [] [] lt lt'
 

@@ -1,5 +1,6 @@
 -- The values, annotations, sets and directories of the code, as contracts see them.
-use Rattle.std.specs.Prelude.{ℕ, map}
+use Rattle.std.specs.Prelude.{ℕ, List, map}
+use Rattle.std.specs.Global.{Vec}
 use Rattle.dexval.specs.declared.value.Value.{Value}
 use Rattle.dexval.specs.declared.value.Value.TheOpen.{Value-F, Element-F, Byte, Short, Char, Int, Long, Float, Double, String, Typ, Field, Method, Enum, Array, Annotation, Null, Boolean}
 use Rattle.dexval.specs.declared.value.Value.TheFolds.{fold-Value, fold-Element}
@@ -9,7 +10,7 @@ use Rattle.dexval.specs.declared.annotation.Visibility.TheVariants.{Build, Runti
 use Rattle.dexval.specs.declared.annotation.Annotation.{Annotation as CodeAnnotation}
 use Rattle.dexval.specs.declared.set.AnnotationSet.{AnnotationSet}
 use Rattle.dexval.specs.declared.directory.Directory.{Directory}
-use Rattle.dexval.specs.Numbered.{NumberedValue, NumberedAnnotation, NumberedSet, NumberedDirectory, Plain, Named, Annotated, ByteLiteral, ShortLiteral, CharLiteral, IntLiteral, LongLiteral, FloatLiteral, DoubleLiteral, NullLiteral, BooleanLiteral, StringReference, TypeReference, FieldReference, MethodReference, EnumReference, values_of_list, elements_of_list}
+use Rattle.dexval.specs.Numbered.{NumberedValue, NumberedValues, NumberedElements, NumberedAnnotation, NumberedSet, NumberedDirectory, Plain, Named, Annotated, ByteLiteral, ShortLiteral, CharLiteral, IntLiteral, LongLiteral, FloatLiteral, DoubleLiteral, NullLiteral, BooleanLiteral, StringReference, TypeReference, FieldReference, MethodReference, EnumReference, values_of_list, elements_of_list}
 use Rattle.dexval.specs.Numbered as numbered
 
 -- one value, whose inner values are models
@@ -43,6 +44,14 @@ value_of = fold-Value NumberedValue (ℕ × NumberedValue) value_step element_st
 abbrev pub element_of : Element → ℕ × NumberedValue
 element_of = fold-Element NumberedValue (ℕ × NumberedValue) value_step element_step
 
+-- the values
+abbrev pub values_of : List Value → NumberedValues
+values_of values = values_of_list (map value_of values)
+
+-- the elements
+abbrev pub elements_of : List Element → NumberedElements
+elements_of elements = elements_of_list (map element_of elements)
+
 -- the number of a visibility
 abbrev pub visibility_of : Visibility → ℕ
 visibility_of Build = 0
@@ -53,9 +62,21 @@ visibility_of System = 2
 abbrev pub annotation_of : CodeAnnotation → NumberedAnnotation
 annotation_of a = record { visibility = visibility_of a.visibility; type = a.typ; elements = elements_of_list (map element_of a.elements.items) }
 
+-- the set of these annotations
+abbrev pub set_from : List CodeAnnotation → NumberedSet
+set_from annotations = map annotation_of annotations
+
 -- the set
 abbrev pub set_of : AnnotationSet → NumberedSet
 set_of s = map annotation_of s.annotations.items
+
+-- members with their sets
+abbrev pub member_sets : List (ℕ × AnnotationSet) → List (ℕ × NumberedSet)
+member_sets members = map (λ e. (e.0, set_of e.1)) members
+
+-- members with their lists of sets
+abbrev pub member_lists : List (ℕ × Vec AnnotationSet) → List (ℕ × List NumberedSet)
+member_lists members = map (λ e. (e.0, map set_of e.1.items)) members
 
 -- the directory
 abbrev pub directory_of : Directory → NumberedDirectory

@@ -1,5 +1,5 @@
 -- Sets of annotations that are the same are equal by `==`, and have equal hash input.
-use Rattle.std.specs.Prelude.{◌≡◌, ℕ, ◌==◌, ◌&&◌, ◌++◌, Bool, true, false, IsTrue, []}
+use Rattle.std.specs.Prelude.{◌≡◌, ◌↔◌, ℕ, ◌==◌, ◌&&◌, ◌++◌, Bool, true, false, IsTrue, []}
 use Rattle.std.proofs.Common.{refl, ap, ◌∙◌, subst}
 use Rattle.std.specs.Bool.{Decides}
 use Rattle.std.specs.Cmp.{IsEquivalence, decided, on_equiv, unsigned_Decides, signed_Decides, booleans_Decides, first_so, second_so}
@@ -229,3 +229,13 @@ set_input s = fed.slice annotation_input (set_of s)
 
 pub equal_sets_agree : (x y : AnnotationSet) → IsTrue (equal_sets x y) → set_input x ≡ set_input y
 equal_sets_agree x y h = ap (fed.slice annotation_input) ((set_decides (set_of x) (set_of y)).0 h)
+
+-- ---- what a test and a hash see
+
+-- the test answers whether the sets have the same annotations
+abbrev pub IsSetEquality : (AnnotationSet → AnnotationSet → Bool) → Type 0
+IsSetEquality eq = (x y : AnnotationSet) → IsTrue (eq x y) ↔ (set_of x ≡ set_of y)
+
+-- the function returns the same for sets that have the same annotations
+abbrev pub DependsOnSet : {Y : Type 0} → (AnnotationSet → Y) → Type 0
+DependsOnSet f = (x y : AnnotationSet) → set_of x ≡ set_of y → f x ≡ f y

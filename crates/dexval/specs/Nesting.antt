@@ -12,7 +12,7 @@ use Rattle.dexval.specs.Numbered.{NumberedValue, NumberedValues, NumberedElement
 use Rattle.dexval.specs.internal.Scalars.{IsReadAt}
 
 -- the pools are those of the file, and rise
-pub record AreFilePools (b : List ℕ) (m : Mentions) : Type 0 where
+pub record HasPools (b : List ℕ) (m : Mentions) : Type 0 where
   pub pools : ArePools b m
   pub rising : AreRising m
 

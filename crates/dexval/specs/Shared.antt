@@ -33,6 +33,10 @@ pub record HoldsPlaces (t : NumberedTable) (own : Option ℕ) (fields methods pa
   pub methods_held : All (λ e. IsPlaceIn t.sets (Some e.1)) methods
   pub parameters_held : All (λ e. IsPlaceIn t.lists (Some e.1)) parameters
 
+-- each place of the directory is one of its table's
+abbrev pub HoldsItsPlaces : SharedDirectory → Type 0
+HoldsItsPlaces d = HoldsPlaces d.table d.own d.fields.items d.methods.items d.parameters.items
+
 -- some member has the place
 abbrev pub IsNamedBy : List (ℕ × ℕ) → ℕ → Type 0
 IsNamedBy members i = (number : ℕ) × Contains members (number, i)

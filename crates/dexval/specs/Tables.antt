@@ -1,5 +1,5 @@
 -- Sets of annotations, and lists of them, that are each kept once and named by their places.
-use Rattle.std.specs.Prelude.{◌≡◌, ◌⊎◌, ℕ, ◌<◌, List, [], length, map, All, Option, Some, None, slice_index_or}
+use Rattle.std.specs.Prelude.{◌≡◌, ◌⊎◌, ℕ, ◌<◌, List, [], ◌∷◌, ◌++◌, length, map, All, Option, Some, None, slice_index_or}
 use Rattle.std.specs.List.{Contains}
 use Rattle.dexpool.specs.Numberings.{Maps}
 use Rattle.dexval.specs.Numbered.{NumberedSet}
@@ -41,7 +41,19 @@ IsListed t i = (places : List (Option ℕ)) × Contains t.lists places × Contai
 abbrev pub IsRemappedSet : Maps → NumberedSet → NumberedSet → Type 0
 IsRemappedSet r old new = (SetHasPlaces r old → new ≡ renumbered_set r old) × ((SetHasPlaces r old → ⊥) → new ≡ old)
 
+-- at each place the new set is the old one remapped, if each number has a place
+abbrev pub AreRemappedSets : Maps → List NumberedSet → List NumberedSet → Type 0
+AreRemappedSets r old new = (place : Option ℕ) → IsRemappedSet r (set_at old place) (set_at new place)
+
 -- ---- a table that grows
+
+-- the table with one more set at its end
+abbrev pub with_set : NumberedTable → NumberedSet → NumberedTable
+with_set t set = record { sets = t.sets ++ set ∷ []; lists = t.lists }
+
+-- the table with one more list at its end
+abbrev pub with_list : NumberedTable → List (Option ℕ) → NumberedTable
+with_list t places = record { sets = t.sets; lists = t.lists ++ places ∷ [] }
 
 -- the items of the first table are in the second, at the same places
 pub record Extends (t u : NumberedTable) : Type 0 where

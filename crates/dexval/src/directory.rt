@@ -1,8 +1,8 @@
 //! The annotations of a class and its members.
 
 ghost use Rattle.std.specs.Prelude.{◌≡◌, All, IfOk, Some, map};
-ghost use Rattle.dexval.specs.Code.{set_of, directory_of};
-ghost use Rattle.dexval.specs.Shared.{HoldsPlaces, sets_of_members, lists_of_members, shared_directory_of};
+ghost use Rattle.dexval.specs.Code.{set_of, directory_of, member_sets, member_lists};
+ghost use Rattle.dexval.specs.Shared.{sets_of_members, lists_of_members, shared_directory_of, HoldsItsPlaces};
 ghost use Rattle.dexval.specs.Tables.{IsPlaceIn, set_at, sets_at};
 
 use crate::set::AnnotationSet;
@@ -94,7 +94,7 @@ fn copied_sets(
     members: &Vec<(u32, u32)>,
 ) -> Result<Vec<(u32, AnnotationSet)>, AllocError>
     requires { All (λ e. IsPlaceIn table.now.sets (Some e.1)) members.now.items }
-    ensures { IfOk result (λ copies. sets_of_members table.now members.now.items ≡ map (λ e. (e.0, set_of e.1)) copies.items) }
+    ensures { IfOk result (λ copies. sets_of_members table.now members.now.items ≡ member_sets copies.items) }
 {
     let alloc = *members.allocator();
     let mut copies = Vec::with_capacity(alloc, members.len())?;
@@ -111,7 +111,7 @@ fn copied_lists(
     members: &Vec<(u32, u32)>,
 ) -> Result<Vec<(u32, Vec<AnnotationSet>)>, AllocError>
     requires { All (λ e. IsPlaceIn table.now.lists (Some e.1)) members.now.items }
-    ensures { IfOk result (λ copies. lists_of_members table.now members.now.items ≡ map (λ e. (e.0, map set_of e.1.items)) copies.items) }
+    ensures { IfOk result (λ copies. lists_of_members table.now members.now.items ≡ member_lists copies.items) }
 {
     let alloc = *members.allocator();
     let mut copies = Vec::with_capacity(alloc, members.len())?;
@@ -127,7 +127,7 @@ impl SharedDirectory {
     ///
     /// Condition: each place is one of the table's.
     pub(crate) fn unshared(&self) -> Result<Directory, AllocError>
-        requires { HoldsPlaces self.now.table self.now.own self.now.fields.items self.now.methods.items self.now.parameters.items }
+        requires { HoldsItsPlaces self.now }
         ensures { IfOk result (λ directory. directory_of directory ≡ shared_directory_of self.now) }
     {
         Ok(Directory {

@@ -1,16 +1,13 @@
 //! The sets and lists that a directory of annotations names, each read once even if several members name it.
 
-ghost use Rattle.std.specs.Prelude.{◌≡◌, ◌≢◌, ◌<◌, ◌+◌, ◌-◌, ◌^◌, ◌≤◌, ℕ, List, [], Some, All, length, min, map, IfOk, IfErr, IsSome, OnOk};
-ghost use Rattle.std.specs.List.{Contains};
-ghost use Rattle.dexspec.specs.Annotations.{SetAt};
+ghost use Rattle.std.specs.Prelude.{◌≡◌, ◌≢◌, ◌<◌, ◌≤◌, ℕ, List, [], All, length, IfOk, IfErr, IsSome, OnOk};
 ghost use Rattle.dexspec.specs.Mentions.{Mentions};
 ghost use Rattle.dexval.specs.Code.{set_of};
-ghost use Rattle.dexval.specs.Nesting.{AreFilePools};
-ghost use Rattle.dexval.specs.Reading.{IsSetAt};
 ghost use Rattle.dexval.specs.Items.{IsRefusal};
-ghost use Rattle.dexval.specs.Directories.{IsSetOrEmptyAt, NoSetOrEmptyAt, IsRefListAt, set_weight_in, sets_weight_in, IsKept};
-ghost use Rattle.dexval.specs.DirectoryCache.{AreHeld, AreCached, IsNoted};
-ghost use Rattle.dexval.specs.Tables.{IsListed, IsPlaceIn, set_at, sets_at};
+ghost use Rattle.dexval.specs.Directories.{NoSetOrEmptyAt};
+ghost use Rattle.dexval.specs.DirectoryCache.{AreHeld, AreCached};
+ghost use Rattle.dexval.specs.Tables.{IsPlaceIn};
+ghost use Rattle.dexval.specs.internal.Counting.{IsFile, IsCacheOf, IsWithin, CountsSet, CountsList, IsSetNoted, IsOneListNoted, ListsPlaces, KeepsSetCached, KeepsSet, KeepsListCached, KeepsList, IsSetKept};
 
 use crate::budget::Budget;
 use crate::file_source::FileSource;
@@ -60,7 +57,7 @@ fn count_set(table: &SetTable, place: u32, budget: &mut Budget)
     ensures most { budget.new.most ≡ budget.old.most }
     ensures grows { budget.old.weight ≤ budget.new.weight }
     ensures passed { budget.old.most < budget.old.weight → budget.new.weight ≡ budget.old.weight }
-    ensures counted { budget.old.weight ≤ budget.old.most → (m : Mentions) → budget.new.weight ≡ min (2 ^ 64 - 1) (budget.old.weight + set_weight_in m (set_at table.now.sets (Some place))) }
+    ensures counted { IsWithin budget.old → CountsSet table.now place budget.old budget.new }
 {
     if budget.is_within() {
         budget.add(table.set_weight(Some(place)));
@@ -73,7 +70,7 @@ pub(crate) fn count_list(table: &SetTable, place: u32, budget: &mut Budget)
     ensures most { budget.new.most ≡ budget.old.most }
     ensures grows { budget.old.weight ≤ budget.new.weight }
     ensures passed { budget.old.most < budget.old.weight → budget.new.weight ≡ budget.old.weight }
-    ensures counted { budget.old.weight ≤ budget.old.most → (m : Mentions) → budget.new.weight ≡ min (2 ^ 64 - 1) (budget.old.weight + sets_weight_in m (sets_at table.now (Some place))) }
+    ensures counted { IsWithin budget.old → CountsList table.now place budget.old budget.new }
 {
     if budget.is_within() {
         budget.add(table.list_weight(Some(place)));
@@ -93,9 +90,9 @@ fn note_set(
     ensures grows { budget.old.weight ≤ budget.new.weight }
     ensures passed { budget.new.most < budget.new.weight → cache.new.table ≡ cache.old.table }
     ensures kept { IfOk result (λ place. budget.new.weight ≤ budget.new.most → IsSome place) }
-    ensures noted { IfOk result (λ place. IsNoted (λ i. place ≡ Some i) (λ _. ⊥) (IsPlaceIn cache.new.table.sets place) (budget.new.weight ≤ budget.new.most) cache.old cache.new) }
-    ensures cache { (b : List ℕ) (m : Mentions) → IsSetAt b off m (set_of set) → AreCached b m cache.old → OnOk result (AreCached b m cache.new) }
-    ensures read { (b : List ℕ) (m : Mentions) → IsSetAt b off m (set_of set) → IfOk result (λ place. IsKept (IsSetAt b off m) (set_weight_in m) budget.old.most budget.old.weight budget.new.weight (set_at cache.new.table.sets place)) }
+    ensures noted { IfOk result (IsSetNoted budget.new cache.old cache.new) }
+    ensures cache { KeepsSetCached off (set_of set) cache.old cache.new result }
+    ensures read { KeepsSet off (set_of set) budget.old budget.new cache.new result }
 {
     budget.add(set.weight());
     if !budget.is_within() {
@@ -116,14 +113,14 @@ pub(crate) fn counted_set_at(
     budget: &mut Budget,
 ) -> Result<Option<u32>, ItemFault>
     requires held { AreHeld cache.old }
-    requires cache { AreFilePools source.now.frame.now source.now.pools.now → AreCached source.now.frame.now source.now.pools.now cache.old }
+    requires cache { IsFile source.now → IsCacheOf source.now cache.old }
     ensures most { budget.new.most ≡ budget.old.most }
     ensures grows { budget.old.weight ≤ budget.new.weight }
     ensures kept { off ≢ 0 → IfOk result (λ place. budget.new.weight ≤ budget.new.most → IsSome place) }
-    ensures noted { IfOk result (λ place. IsNoted (λ i. place ≡ Some i) (λ _. ⊥) (IsPlaceIn cache.new.table.sets place) (budget.new.weight ≤ budget.new.most) cache.old cache.new) }
-    ensures cache { AreFilePools source.now.frame.now source.now.pools.now → OnOk result (AreCached source.now.frame.now source.now.pools.now cache.new) }
-    ensures read { AreFilePools source.now.frame.now source.now.pools.now → IfOk result (λ place. IsKept (IsSetOrEmptyAt source.now.frame.now off source.now.pools.now) (set_weight_in source.now.pools.now) budget.old.most budget.old.weight budget.new.weight (set_at cache.new.table.sets place)) }
-    ensures refused { AreFilePools source.now.frame.now source.now.pools.now → IfErr result (IsRefusal (NoSetOrEmptyAt source.now.frame.now off)) }
+    ensures noted { IfOk result (IsSetNoted budget.new cache.old cache.new) }
+    ensures cache { IsFile source.now → OnOk result (IsCacheOf source.now cache.new) }
+    ensures read { IsFile source.now → IfOk result (IsSetKept source.now off budget.old budget.new cache.new) }
+    ensures refused { IsFile source.now → IfErr result (IsRefusal (NoSetOrEmptyAt source.now.frame.now off)) }
 {
     let within = budget.is_within();
     if off == 0 {
@@ -153,10 +150,10 @@ pub(crate) fn note_list(
     requires places { All (IsPlaceIn cache.old.table.sets) places.items }
     ensures passed { budget.now.most < budget.now.weight → cache.new.table ≡ cache.old.table }
     ensures kept { IfOk result (λ place. budget.now.weight ≤ budget.now.most → IsSome place) }
-    ensures noted { IfOk result (λ place. IsNoted (λ _. ⊥) (λ i. place ≡ Some i) (IsPlaceIn cache.new.table.lists place) (budget.now.weight ≤ budget.now.most) cache.old cache.new) }
-    ensures listed { OnOk result (budget.now.weight ≤ budget.now.most → (i : ℕ) → Contains places.items (Some i) → IsListed cache.new.table i) }
-    ensures cache { (b : List ℕ) (m : Mentions) (before : ℕ) → IsKept (IsRefListAt b off m) (sets_weight_in m) budget.now.most before budget.now.weight (map (set_at cache.old.table.sets) places.items) → AreCached b m cache.old → OnOk result (AreCached b m cache.new) }
-    ensures read { (b : List ℕ) (m : Mentions) (before : ℕ) → IsKept (IsRefListAt b off m) (sets_weight_in m) budget.now.most before budget.now.weight (map (set_at cache.old.table.sets) places.items) → IfOk result (λ place. IsKept (IsRefListAt b off m) (sets_weight_in m) budget.now.most before budget.now.weight (sets_at cache.new.table place)) }
+    ensures noted { IfOk result (IsOneListNoted budget.now cache.old cache.new) }
+    ensures listed { OnOk result (IsWithin budget.now → ListsPlaces cache.new.table places.items) }
+    ensures cache { KeepsListCached off budget.now places.items cache.old cache.new result }
+    ensures read { KeepsList off budget.now places.items cache.old cache.new result }
 {
     if !budget.is_within() {
         cache.skipped_lists.insert(off)?;

@@ -1,15 +1,17 @@
 //! Checks directories of annotations in place in a file.
 
-ghost use Rattle.std.specs.Prelude.{ℕ, List, ◌≡◌, ◌≢◌, ◌<◌, ◌+◌, ◌*◌, ◌^◌, ◌≤◌, All, IfOk, IfErr, OnOk, map, sum_by, length};
-ghost use Rattle.dexspec.specs.Annotations.{AnnotationSet as SetMeant, SetAt, RefListAt, fields_count, methods_count, parameters_count};
+ghost use Rattle.std.specs.Prelude.{ℕ, List, ◌≢◌, ◌<◌, ◌+◌, ◌*◌, ◌^◌, ◌≤◌, All, IfOk, IfErr, OnOk, map, length};
+ghost use Rattle.dexspec.specs.Annotations.{AnnotationSet as SetMeant, SetAt, RefListAt};
 ghost use Rattle.dexspec.specs.Mentions.{Mentions};
 ghost use Rattle.dexpool.specs.Pools.{ArePools};
 ghost use Rattle.dexval.specs.Numbered.{NumberedSet, IsKnownSet, set_in};
-ghost use Rattle.dexval.specs.Nesting.{AreFilePools};
+ghost use Rattle.dexval.specs.Nesting.{HasPools};
 ghost use Rattle.dexval.specs.Items.{IsRefusal};
-ghost use Rattle.dexval.specs.Directories.{IsKnownAt, IsSetOrEmptyAt, NoSetOrEmptyAt, IsRefListAt, NoRefListAt, ArePairsAt, NoPairsAt, HasMembers, set_weight_in, sets_weight_in};
+ghost use Rattle.dexval.specs.Directories.{NoSetOrEmptyAt, NoRefListAt, set_weight_in, sets_weight_in};
 ghost use Rattle.dexval.specs.Reading.{IsDirectoryFault};
-ghost use Rattle.dexval.specs.CheckedSets.{AreChecked, IsWeighed, HasDirectoryOf};
+ghost use Rattle.dexval.specs.CheckedSets.{AreChecked};
+ghost use Rattle.dexval.specs.Results.{HasDirectoryShape, AreMemberCounts};
+ghost use Rattle.dexval.specs.internal.Counting.{IsFaultAt, IsFaultOf, HasSetOrEmptyOf, HasRefListOf, HasItemOf, HasPairsOf};
 
 use crate::directory::MemberCounts;
 use crate::directory_reading::{PairRange, list_weight, member_counts, pair_at};
@@ -60,10 +62,10 @@ fn checked_set_at(
     off: u32,
     checked: &mut CheckedSets,
 ) -> Result<u64, ItemFault>
-    requires { AreFilePools frame.now pools.now → AreChecked frame.now pools.now checked.old }
-    ensures checked { AreFilePools frame.now pools.now → OnOk result (AreChecked frame.now pools.now checked.new) }
-    ensures weight { AreFilePools frame.now pools.now → IfOk result (IsWeighed (IsSetOrEmptyAt frame.now off pools.now) (set_weight_in pools.now)) }
-    ensures refused { AreFilePools frame.now pools.now → IfErr result (IsRefusal (NoSetOrEmptyAt frame.now off)) }
+    requires { HasPools frame.now pools.now → AreChecked frame.now pools.now checked.old }
+    ensures checked { HasPools frame.now pools.now → OnOk result (AreChecked frame.now pools.now checked.new) }
+    ensures weight { HasPools frame.now pools.now → IfOk result (HasSetOrEmptyOf frame.now off pools.now) }
+    ensures refused { HasPools frame.now pools.now → IfErr result (IsRefusal (NoSetOrEmptyAt frame.now off)) }
 {
     if off == 0 {
         return Ok(0);
@@ -84,10 +86,10 @@ fn listed_weight(
     off: u32,
     checked: &mut CheckedSets,
 ) -> Result<u64, ItemFault>
-    requires { AreFilePools frame.now pools.now → AreChecked frame.now pools.now checked.old }
-    ensures checked { AreFilePools frame.now pools.now → OnOk result (AreChecked frame.now pools.now checked.new) }
-    ensures weight { AreFilePools frame.now pools.now → IfOk result (IsWeighed (IsRefListAt frame.now off pools.now) (sets_weight_in pools.now)) }
-    ensures refused { AreFilePools frame.now pools.now → IfErr result (IsRefusal (NoRefListAt frame.now off)) }
+    requires { HasPools frame.now pools.now → AreChecked frame.now pools.now checked.old }
+    ensures checked { HasPools frame.now pools.now → OnOk result (AreChecked frame.now pools.now checked.new) }
+    ensures weight { HasPools frame.now pools.now → IfOk result (HasRefListOf frame.now off pools.now) }
+    ensures refused { HasPools frame.now pools.now → IfErr result (IsRefusal (NoRefListAt frame.now off)) }
 {
     let count = count_at(frame, off)?;
     let bytes = frame.bytes();
@@ -108,10 +110,10 @@ fn checked_list_at(
     off: u32,
     checked: &mut CheckedSets,
 ) -> Result<u64, ItemFault>
-    requires { AreFilePools frame.now pools.now → AreChecked frame.now pools.now checked.old }
-    ensures checked { AreFilePools frame.now pools.now → OnOk result (AreChecked frame.now pools.now checked.new) }
-    ensures weight { AreFilePools frame.now pools.now → IfOk result (IsWeighed (IsRefListAt frame.now off pools.now) (sets_weight_in pools.now)) }
-    ensures refused { AreFilePools frame.now pools.now → IfErr result (IsRefusal (NoRefListAt frame.now off)) }
+    requires { HasPools frame.now pools.now → AreChecked frame.now pools.now checked.old }
+    ensures checked { HasPools frame.now pools.now → OnOk result (AreChecked frame.now pools.now checked.new) }
+    ensures weight { HasPools frame.now pools.now → IfOk result (HasRefListOf frame.now off pools.now) }
+    ensures refused { HasPools frame.now pools.now → IfErr result (IsRefusal (NoRefListAt frame.now off)) }
 {
     if let Some(weight) = checked.lists.get(&off) {
         return Ok(*weight);
@@ -145,10 +147,10 @@ trait CheckedMember {
         checked: &mut CheckedSets,
     ) -> Result<u64, ItemFault>
         requires other { off ≢ 0 }
-        requires checked { AreFilePools frame.now pools.now → AreChecked frame.now pools.now checked.old }
-        ensures checked { AreFilePools frame.now pools.now → OnOk result (AreChecked frame.now pools.now checked.new) }
-        ensures weight { AreFilePools frame.now pools.now → IfOk result (IsWeighed (IsKnownAt (is_known pools.now) (inside pools.now) (encodes frame.now off)) (weighs pools.now)) }
-        ensures refused { AreFilePools frame.now pools.now → IfErr result (IsRefusal ((meant : Meant) → encodes frame.now off meant → ⊥)) };
+        requires checked { HasPools frame.now pools.now → AreChecked frame.now pools.now checked.old }
+        ensures checked { HasPools frame.now pools.now → OnOk result (AreChecked frame.now pools.now checked.new) }
+        ensures weight { HasPools frame.now pools.now → IfOk result (HasItemOf is_known inside encodes weighs frame.now off pools.now) }
+        ensures refused { HasPools frame.now pools.now → IfErr result (IsFaultAt encodes frame.now off) };
 }
 
 // The set of a field or a method.
@@ -212,10 +214,10 @@ fn members_weight<T: CheckedMember>(
 ) -> Result<u64, ItemFault>
     requires within { pairs.now.at + 8 * pairs.now.count ≤ length frame.now }
     requires fits { pairs.now.at < 2 ^ 40 }
-    requires checked { AreFilePools frame.now pools.now → AreChecked frame.now pools.now checked.old }
-    ensures checked { AreFilePools frame.now pools.now → OnOk result (AreChecked frame.now pools.now checked.new) }
-    ensures weight { AreFilePools frame.now pools.now → IfOk result (IsWeighed (ArePairsAt (T.is_known pools.now) (T.inside pools.now) T.encodes frame.now pairs.now.at pairs.now.count pairs.now.limit) (sum_by (λ e. T.weighs pools.now e.1))) }
-    ensures refused { AreFilePools frame.now pools.now → IfErr result (IsRefusal (NoPairsAt T.encodes frame.now pairs.now.at pairs.now.count pairs.now.limit)) }
+    requires checked { HasPools frame.now pools.now → AreChecked frame.now pools.now checked.old }
+    ensures checked { HasPools frame.now pools.now → OnOk result (AreChecked frame.now pools.now checked.new) }
+    ensures weight { HasPools frame.now pools.now → IfOk result (HasPairsOf T.is_known T.inside T.encodes T.weighs frame.now pairs.now pools.now) }
+    ensures refused { HasPools frame.now pools.now → IfErr result (IsFaultOf T.encodes frame.now pairs.now) }
 {
     let mut weight: u64 = 0;
     let mut least = 0;
@@ -246,8 +248,8 @@ pub fn check_directory(
 ) -> Result<DirectoryShape, ItemFault>
     requires { ArePools frame.now pools.now → AreChecked frame.now pools.now checked.old }
     ensures checked { ArePools frame.now pools.now → OnOk result (AreChecked frame.now pools.now checked.new) }
-    ensures members { IfOk result (λ shape. HasMembers frame.now off × (shape.counts.fields ≡ fields_count frame.now off) × (shape.counts.methods ≡ methods_count frame.now off) × (shape.counts.parameters ≡ parameters_count frame.now off)) }
-    ensures directory { ArePools frame.now pools.now → IfOk result (λ shape. HasDirectoryOf frame.now off pools.now shape.weight) }
+    ensures members { IfOk result (λ shape. AreMemberCounts frame.now off shape.counts) }
+    ensures directory { ArePools frame.now pools.now → IfOk result (HasDirectoryShape frame.now off pools.now) }
     ensures refused { ArePools frame.now pools.now → IfErr result (IsDirectoryFault frame.now off) }
 {
     pools.numbering().is_numbering();

@@ -1,20 +1,19 @@
 //! Reads directories of annotations from a file.
 
-ghost use Rattle.std.specs.Prelude.{ℕ, List, [], ◌^◌, ◌<◌, ◌≡◌, ◌≢◌, ◌+◌, ◌*◌, ◌≤◌, Option, Some, IsSome, All, IfOk, IfErr, OnOk, IfSome, IfNone, MatchOption, length, map, sum_by};
-ghost use Rattle.std.specs.List.{Contains};
-ghost use Rattle.dexspec.specs.Bytes.{uint_at};
-ghost use Rattle.dexspec.specs.Annotations.{AnnotationSet as SetMeant, SetAt, RefListAt, fields_count, methods_count, parameters_count};
+ghost use Rattle.std.specs.Prelude.{ℕ, List, [], ◌^◌, ◌<◌, ◌≡◌, ◌≢◌, ◌+◌, ◌*◌, ◌≤◌, Option, Some, IsSome, All, IfOk, IfErr, OnOk, IfSome, IfNone, length, map};
+ghost use Rattle.dexspec.specs.Annotations.{AnnotationSet as SetMeant, SetAt, RefListAt};
 ghost use Rattle.dexspec.specs.Mentions.{Mentions};
 ghost use Rattle.dexpool.specs.Pools.{ArePools};
-ghost use Rattle.dexval.specs.Code.{directory_of};
-ghost use Rattle.dexval.specs.Numbered.{NumberedSet, IsKnownSet, set_in, directory_in};
-ghost use Rattle.dexval.specs.Nesting.{AreFilePools};
+ghost use Rattle.dexval.specs.Numbered.{NumberedSet, IsKnownSet, set_in};
+ghost use Rattle.dexval.specs.Nesting.{HasPools};
 ghost use Rattle.dexval.specs.Items.{IsRefusal};
-ghost use Rattle.dexval.specs.Directories.{IsKnownAt, IsRefListAt, NoRefListAt, HasPair, ArePairsAt, NoPairsAt, HasMembers, directory_weight, set_weight_in, sets_weight_in, IsKept};
-ghost use Rattle.dexval.specs.DirectoryCache.{AreHeld, AreCached, IsNoted, IsNamedOf};
-ghost use Rattle.dexval.specs.Reading.{IsDirectoryAt, IsDirectoryFault, IsDirectoryWithin, HasHeavyDirectory};
-ghost use Rattle.dexval.specs.Shared.{HoldsPlaces, NamesAll, IsTight, looked_up, shared_directory_of};
+ghost use Rattle.dexval.specs.Directories.{NoRefListAt, HasPair, HasMembers, set_weight_in, sets_weight_in};
+ghost use Rattle.dexval.specs.DirectoryCache.{AreHeld};
+ghost use Rattle.dexval.specs.Reading.{IsDirectoryFault};
+ghost use Rattle.dexval.specs.Shared.{IsTight};
 ghost use Rattle.dexval.specs.Tables.{NumberedTable, Extends, IsListed, IsPlaceIn, set_at, sets_at};
+ghost use Rattle.dexval.specs.Results.{IsReadDirectory, IsReadWithin, AreMemberCounts};
+ghost use Rattle.dexval.specs.internal.Counting.{IsFile, IsCacheOf, IsWithin, AreSetsNoted, IsListNoted, IsItemNoted, AreAllNoted, AreSetsKept, IsListKept, IsItemKept, ArePairsKept, ArePartsKept, IsDirectoryKept, ArePlacesHeld, NamesAllPlaces, IsPairAt, IsFaultAt, IsFaultOf};
 
 use crate::budget::Budget;
 use crate::directory::{Directory, MemberCounts, SharedDirectory};
@@ -42,7 +41,7 @@ fn room(count: u32, budget: &Budget) -> usize {
 ///
 /// Source: "annotations_directory_item".
 pub fn member_counts(frame: &Frame<'_>, off: u32) -> Option<MemberCounts>
-    ensures some { IfSome result (λ counts. HasMembers frame.now off × (counts.fields ≡ fields_count frame.now off) × (counts.methods ≡ methods_count frame.now off) × (counts.parameters ≡ parameters_count frame.now off)) }
+    ensures some { IfSome result (AreMemberCounts frame.now off) }
     ensures none { IfNone result (HasMembers frame.now off → ⊥) }
 {
     if off % 4 != 0 || !frame.is_in_data(off, 16) {
@@ -72,7 +71,7 @@ pub(crate) fn pair_at(
     limit: usize,
 ) -> Result<(u32, u32), ItemFault>
     requires { at + 8 ≤ length frame.now }
-    ensures pair { IfOk result (λ pair. HasPair frame.now at least limit × (pair.0 ≡ uint_at frame.now at) × (pair.1 ≡ uint_at frame.now (at + 4))) }
+    ensures pair { IfOk result (IsPairAt frame.now at least limit) }
     ensures refused { IfErr result (IsRefusal (HasPair frame.now at least limit → ⊥)) }
 {
     let bytes = frame.bytes();
@@ -104,13 +103,13 @@ fn listed_sets_at(
     budget: &mut Budget,
 ) -> Result<Vec<Option<u32>>, ItemFault>
     requires held { AreHeld cache.old }
-    requires cache { AreFilePools source.now.frame.now source.now.pools.now → AreCached source.now.frame.now source.now.pools.now cache.old }
+    requires cache { IsFile source.now → IsCacheOf source.now cache.old }
     ensures most { budget.new.most ≡ budget.old.most }
     ensures grows { budget.old.weight ≤ budget.new.weight }
-    ensures noted { IfOk result (λ places. IsNoted (λ i. Contains places.items (Some i)) (λ _. ⊥) (All (IsPlaceIn cache.new.table.sets) places.items) (budget.new.weight ≤ budget.new.most) cache.old cache.new) }
-    ensures cache { AreFilePools source.now.frame.now source.now.pools.now → OnOk result (AreCached source.now.frame.now source.now.pools.now cache.new) }
-    ensures read { AreFilePools source.now.frame.now source.now.pools.now → IfOk result (λ places. IsKept (IsRefListAt source.now.frame.now off source.now.pools.now) (sets_weight_in source.now.pools.now) budget.old.most budget.old.weight budget.new.weight (map (set_at cache.new.table.sets) places.items)) }
-    ensures refused { AreFilePools source.now.frame.now source.now.pools.now → IfErr result (IsRefusal (NoRefListAt source.now.frame.now off)) }
+    ensures noted { IfOk result (AreSetsNoted budget.new cache.old cache.new) }
+    ensures cache { IsFile source.now → OnOk result (IsCacheOf source.now cache.new) }
+    ensures read { IsFile source.now → IfOk result (AreSetsKept source.now off budget.old budget.new cache.new) }
+    ensures refused { IsFile source.now → IfErr result (IsRefusal (NoRefListAt source.now.frame.now off)) }
 {
     let count = count_at(source.frame, off)?;
     let bytes = source.frame.bytes();
@@ -136,14 +135,14 @@ fn counted_list_at(
     budget: &mut Budget,
 ) -> Result<Option<u32>, ItemFault>
     requires held { AreHeld cache.old }
-    requires cache { AreFilePools source.now.frame.now source.now.pools.now → AreCached source.now.frame.now source.now.pools.now cache.old }
+    requires cache { IsFile source.now → IsCacheOf source.now cache.old }
     ensures most { budget.new.most ≡ budget.old.most }
     ensures grows { budget.old.weight ≤ budget.new.weight }
     ensures kept { IfOk result (λ place. budget.new.weight ≤ budget.new.most → IsSome place) }
-    ensures noted { IfOk result (λ place. IsNoted (IsListed cache.new.table) (λ i. place ≡ Some i) (IsPlaceIn cache.new.table.lists place) (budget.new.weight ≤ budget.new.most) cache.old cache.new) }
-    ensures cache { AreFilePools source.now.frame.now source.now.pools.now → OnOk result (AreCached source.now.frame.now source.now.pools.now cache.new) }
-    ensures read { AreFilePools source.now.frame.now source.now.pools.now → IfOk result (λ place. IsKept (IsRefListAt source.now.frame.now off source.now.pools.now) (sets_weight_in source.now.pools.now) budget.old.most budget.old.weight budget.new.weight (sets_at cache.new.table place)) }
-    ensures refused { AreFilePools source.now.frame.now source.now.pools.now → IfErr result (IsRefusal (NoRefListAt source.now.frame.now off)) }
+    ensures noted { IfOk result (IsListNoted budget.new cache.old cache.new) }
+    ensures cache { IsFile source.now → OnOk result (IsCacheOf source.now cache.new) }
+    ensures read { IsFile source.now → IfOk result (IsListKept source.now off budget.old budget.new cache.new) }
+    ensures refused { IsFile source.now → IfErr result (IsRefusal (NoRefListAt source.now.frame.now off)) }
 {
     if let Some(place) = cache.lists.get(&off) {
         let place = *place;
@@ -192,14 +191,14 @@ trait OfMember {
     ) -> Result<Option<u32>, ItemFault>
         requires other { off ≢ 0 }
         requires held { AreHeld cache.old }
-        requires cache { AreFilePools source.now.frame.now source.now.pools.now → AreCached source.now.frame.now source.now.pools.now cache.old }
+        requires cache { IsFile source.now → IsCacheOf source.now cache.old }
         ensures most { budget.new.most ≡ budget.old.most }
         ensures grows { budget.old.weight ≤ budget.new.weight }
         ensures kept { IfOk result (λ place. budget.new.weight ≤ budget.new.most → IsSome place) }
-        ensures noted { IfOk result (λ place. IsNoted (names_set cache.new.table place) (names_list place) (is_held cache.new.table place) (budget.new.weight ≤ budget.new.most) cache.old cache.new) }
-        ensures cache { AreFilePools source.now.frame.now source.now.pools.now → OnOk result (AreCached source.now.frame.now source.now.pools.now cache.new) }
-        ensures read { AreFilePools source.now.frame.now source.now.pools.now → IfOk result (λ place. IsKept (IsKnownAt (is_known source.now.pools.now) (inside source.now.pools.now) (encodes source.now.frame.now off)) (weighs source.now.pools.now) budget.old.most budget.old.weight budget.new.weight (of cache.new.table place)) }
-        ensures refused { AreFilePools source.now.frame.now source.now.pools.now → IfErr result (IsRefusal ((meant : Meant) → encodes source.now.frame.now off meant → ⊥)) };
+        ensures noted { IfOk result (IsItemNoted is_held names_set names_list budget.new cache.old cache.new) }
+        ensures cache { IsFile source.now → OnOk result (IsCacheOf source.now cache.new) }
+        ensures read { IsFile source.now → IfOk result (IsItemKept is_known inside encodes weighs of source.now off budget.old budget.new cache.new) }
+        ensures refused { IsFile source.now → IfErr result (IsFaultAt encodes source.now.frame.now off) };
 
     // After a table grew, a place still holds and names the same item.
     ghost stays: { (t u : NumberedTable) (place : Option ℕ) → Extends t u → is_held t place → is_held u place × (of u place ≡ of t place) };
@@ -302,13 +301,13 @@ fn members_at<T: OfMember>(
     requires within { pairs.now.at + 8 * pairs.now.count ≤ length source.now.frame.now }
     requires fits { pairs.now.at < 2 ^ 40 }
     requires held { AreHeld cache.old }
-    requires cache { AreFilePools source.now.frame.now source.now.pools.now → AreCached source.now.frame.now source.now.pools.now cache.old }
+    requires cache { IsFile source.now → IsCacheOf source.now cache.old }
     ensures most { budget.new.most ≡ budget.old.most }
     ensures grows { budget.old.weight ≤ budget.new.weight }
-    ensures noted { IfOk result (λ members. IsNoted (IsNamedOf (T.names_set cache.new.table) members.items) (IsNamedOf T.names_list members.items) (All (λ e. T.is_held cache.new.table (Some e.1)) members.items) (budget.new.weight ≤ budget.new.most) cache.old cache.new) }
-    ensures cache { AreFilePools source.now.frame.now source.now.pools.now → OnOk result (AreCached source.now.frame.now source.now.pools.now cache.new) }
-    ensures read { AreFilePools source.now.frame.now source.now.pools.now → IfOk result (λ members. IsKept (ArePairsAt (T.is_known source.now.pools.now) (T.inside source.now.pools.now) T.encodes source.now.frame.now pairs.now.at pairs.now.count pairs.now.limit) (sum_by (λ e. T.weighs source.now.pools.now e.1)) budget.old.most budget.old.weight budget.new.weight (map (λ e. (e.0, T.of cache.new.table (Some e.1))) members.items)) }
-    ensures refused { AreFilePools source.now.frame.now source.now.pools.now → IfErr result (IsRefusal (NoPairsAt T.encodes source.now.frame.now pairs.now.at pairs.now.count pairs.now.limit)) }
+    ensures noted { IfOk result (AreAllNoted T.is_held T.names_set T.names_list budget.new cache.old cache.new) }
+    ensures cache { IsFile source.now → OnOk result (IsCacheOf source.now cache.new) }
+    ensures read { IsFile source.now → IfOk result (ArePairsKept T.is_known T.inside T.encodes T.weighs T.of source.now pairs.now budget.old budget.new cache.new) }
+    ensures refused { IsFile source.now → IfErr result (IsFaultOf T.encodes source.now.frame.now pairs.now) }
 {
     let mut members = Vec::with_capacity(source.alloc, room(pairs.count, budget))?;
     let mut least = 0;
@@ -342,13 +341,13 @@ fn counted_directory_at(
 ) -> Result<Places, ItemFault>
     requires unused { budget.old.weight ≡ 0 }
     requires held { AreHeld cache.old }
-    requires cache { AreFilePools source.now.frame.now source.now.pools.now → AreCached source.now.frame.now source.now.pools.now cache.old }
+    requires cache { IsFile source.now → IsCacheOf source.now cache.old }
     requires none { cache.old.table ≡ record { sets = []; lists = [] } }
     ensures most { budget.new.most ≡ budget.old.most }
-    ensures held { IfOk result (λ places. HoldsPlaces cache.new.table places.own places.fields.items places.methods.items places.parameters.items) }
-    ensures named { IfOk result (λ places. budget.new.weight ≤ budget.new.most → NamesAll cache.new.table places.own places.fields.items places.methods.items places.parameters.items) }
-    ensures read { AreFilePools source.now.frame.now source.now.pools.now → IfOk result (λ places. IsKept (IsDirectoryAt source.now.frame.now off source.now.pools.now) (λ d. directory_weight (directory_in source.now.pools.now d)) budget.old.most 0 budget.new.weight (looked_up cache.new.table places.own places.fields.items places.methods.items places.parameters.items)) }
-    ensures refused { AreFilePools source.now.frame.now source.now.pools.now → IfErr result (IsDirectoryFault source.now.frame.now off) }
+    ensures held { IfOk result (ArePlacesHeld cache.new.table) }
+    ensures named { IfOk result (λ places. IsWithin budget.new → NamesAllPlaces cache.new.table places) }
+    ensures read { IsFile source.now → IfOk result (ArePartsKept source.now off budget.old budget.new cache.new) }
+    ensures refused { IsFile source.now → IfErr result (IsDirectoryFault source.now.frame.now off) }
 {
     let counts = match member_counts(source.frame, off) {
         Some(counts) => counts,
@@ -395,8 +394,8 @@ fn directory_at(
     most: u64,
 ) -> Result<(SharedDirectory, u64), ItemFault>
     ensures tight { IfOk result (λ read. read.1 ≤ most → IsTight read.0) }
-    ensures read { AreFilePools frame.now pools.now → IfOk result (λ read. IsKept (IsDirectoryAt frame.now off pools.now) (λ d. directory_weight (directory_in pools.now d)) most 0 read.1 (shared_directory_of read.0)) }
-    ensures refused { AreFilePools frame.now pools.now → IfErr result (IsDirectoryFault frame.now off) }
+    ensures read { HasPools frame.now pools.now → IfOk result (IsDirectoryKept frame.now off pools.now most) }
+    ensures refused { HasPools frame.now pools.now → IfErr result (IsDirectoryFault frame.now off) }
 {
     let mut cache = DirectoryCache::none(alloc);
     let mut budget = Budget { weight: 0, most };
@@ -433,7 +432,7 @@ pub fn read_directory(
     pools: &Pools<'_>,
     off: u32,
 ) -> Result<Directory, ItemFault>
-    ensures directory { ArePools frame.now pools.now → IfOk result (λ directory. IsDirectoryAt frame.now off pools.now (directory_of directory)) }
+    ensures directory { ArePools frame.now pools.now → IfOk result (IsReadDirectory frame.now off pools.now) }
     ensures refused { ArePools frame.now pools.now → IfErr result (IsDirectoryFault frame.now off) }
 {
     pools.numbering().is_numbering();
@@ -459,7 +458,7 @@ pub fn read_shared_directory_within(
     off: u32,
     most: u64,
 ) -> Result<Option<SharedDirectory>, ItemFault>
-    ensures directory { ArePools frame.now pools.now → IfOk result (λ found. MatchOption found (HasHeavyDirectory frame.now off most) (λ directory. IsDirectoryWithin frame.now off pools.now most (shared_directory_of directory))) }
+    ensures directory { ArePools frame.now pools.now → IfOk result (IsReadWithin frame.now off pools.now most) }
     ensures tight { IfOk result (λ found. IfSome found IsTight) }
     ensures refused { ArePools frame.now pools.now → IfErr result (IsDirectoryFault frame.now off) }
 {

@@ -4,7 +4,7 @@ ghost use Rattle.std.specs.Prelude.{◌≡◌, ◌-◌, ◌<◌, ◌≤◌, ◌�
 ghost use Rattle.dexspec.specs.Bytes.{bytes_of};
 ghost use Rattle.dexspec.specs.Values.{value_byte};
 ghost use Rattle.dexspec.specs.Spellings.{complement, unsigned_bytes, signed_bytes, bits_bytes};
-ghost use Rattle.dexval.specs.Code.{value_of, element_of, annotation_of};
+ghost use Rattle.dexval.specs.Code.{value_of, element_of, annotation_of, elements_of};
 ghost use Rattle.dexval.specs.Numbered.{values_of_list, elements_of_list};
 ghost use Rattle.dexval.specs.Spelled.{count_bytes, numbered_bytes, numbered_array_bytes, numbered_values_bytes, numbered_elements_bytes, encoded_annotation_bytes, numbered_annotation_bytes};
 
@@ -130,7 +130,7 @@ fn encode_values<O: Output>(values: &[Value], out: &mut O)
 // Writes an encoded_annotation.
 #[cycle(encoding)]
 fn encode_annotation<O: Output>(typ: u32, elements: &[Element], out: &mut O)
-    ensures { O.gives (encoded_annotation_bytes typ (elements_of_list (map element_of elements.now))) out.old out.new }
+    ensures { O.gives (encoded_annotation_bytes typ (elements_of elements.now)) out.old out.new }
 {
     out.uleb(typ);
     encode_count(elements.len(), out);

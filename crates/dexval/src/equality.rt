@@ -1,9 +1,7 @@
 //! Sets of annotations that are the same are equal by `==`, and have equal hash input.
 
-ghost use Rattle.std.specs.Prelude.{◌≡◌, ◌↔◌, IsTrue};
 ghost use Rattle.std.specs.Cmp.{partial_equiv_from_equiv};
-ghost use Rattle.dexval.specs.Code.{set_of};
-ghost use Rattle.dexval.specs.Equality.{equal_sets, equal_sets_equiv, set_input, equal_sets_agree};
+ghost use Rattle.dexval.specs.Equality.{equal_sets, equal_sets_equiv, set_input, equal_sets_agree, IsSetEquality, DependsOnSet};
 
 use crate::hashing::hash_annotations;
 use crate::set::AnnotationSet;
@@ -38,6 +36,6 @@ impl Hash for AnnotationSet {
 /// Sets are equal exactly if their annotations are the same, one for one: visibilities, types, names and values. Equal
 /// sets have equal hash input.
 pub fn set_equality_law()
-    ensures equal { (x y : AnnotationSet) → IsTrue (⟦<AnnotationSet as PartialEq>⟧.eq x y) ↔ (set_of x ≡ set_of y) }
-    ensures hashed { (x y : AnnotationSet) → set_of x ≡ set_of y → ⟦<AnnotationSet as Hash>⟧.hash_input x ≡ ⟦<AnnotationSet as Hash>⟧.hash_input y }
+    ensures equal { IsSetEquality ⟦<AnnotationSet as PartialEq>⟧.eq }
+    ensures hashed { DependsOnSet ⟦<AnnotationSet as Hash>⟧.hash_input }
 {}

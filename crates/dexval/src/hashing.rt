@@ -1,10 +1,10 @@
 //! Feeds values and annotations to a hasher.
 
-ghost use Rattle.std.specs.Prelude.{◌≡◌, ◌++◌, fold, length, map};
+ghost use Rattle.std.specs.Prelude.{◌≡◌, ◌++◌, fold, map};
 ghost use Rattle.std.specs.Hash as fed;
-ghost use Rattle.dexval.specs.Code.{value_of, element_of, annotation_of};
+ghost use Rattle.dexval.specs.Code.{value_of, annotation_of, elements_of, set_from};
 ghost use Rattle.dexval.specs.Equality.{value_input, values_input, elements_input, annotation_input};
-ghost use Rattle.dexval.specs.Numbered.{values_of_list, elements_of_list};
+ghost use Rattle.dexval.specs.Numbered.{values_of_list};
 
 use crate::annotation::Annotation;
 use crate::type_codes::{
@@ -67,7 +67,7 @@ fn hash_values<H: Hasher>(values: &[Value], state: &mut H)
 // Feeds the names of elements and their values.
 #[cycle(hashing)]
 fn hash_elements<H: Hasher>(elements: &[Element], state: &mut H)
-    ensures { state.new ≡ fold H.write state.old (elements_input (elements_of_list (map element_of elements.now))) }
+    ensures { state.new ≡ fold H.write state.old (elements_input (elements_of elements.now)) }
 {
     for element in elements {
         element.name.hash(state);
@@ -87,7 +87,7 @@ fn hash_annotation<H: Hasher>(annotation: &Annotation, state: &mut H)
 
 /// Feeds annotations, after their count.
 pub(crate) fn hash_annotations<H: Hasher>(annotations: &[Annotation], state: &mut H)
-    ensures { state.new ≡ fold H.write state.old (fed.slice annotation_input (map annotation_of annotations.now)) }
+    ensures { state.new ≡ fold H.write state.old (fed.slice annotation_input (set_from annotations.now)) }
 {
     annotations.len().hash(state);
     for annotation in annotations {

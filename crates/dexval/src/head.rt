@@ -2,7 +2,7 @@
 
 ghost use Rattle.std.specs.Prelude.{◌≡◌, ◌↔◌, IsTrue, map};
 ghost use Rattle.dexval.specs.Code.{value_of, element_of};
-ghost use Rattle.dexval.specs.internal.Heads.{head_of, held_values, held_elements};
+ghost use Rattle.dexval.specs.internal.Heads.{head_of, held_values, held_elements, mapped_head};
 ghost use Rattle.dexval.specs.Numbered.{values_of_list, elements_of_list};
 ghost use Rattle.dexval.specs.Renumbering.{renumbered};
 
@@ -59,7 +59,7 @@ impl Head {
 
 /// Whether the heads of two values are equal, once the numbers of each are remapped by its own map.
 pub(crate) fn eq_heads(value: &Value, mine: &Remap, other: &Value, theirs: &Remap) -> bool
-    ensures { IsTrue result ↔ (head_of (renumbered mine.now (value_of value.now)) ≡ head_of (renumbered theirs.now (value_of other.now))) }
+    ensures { IsTrue result ↔ (mapped_head mine.now value.now ≡ mapped_head theirs.now other.now) }
 {
     Head::of(value, mine) == Head::of(other, theirs)
 }

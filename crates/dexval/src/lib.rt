@@ -2,8 +2,9 @@
 //! parameters.
 //!
 //! Public contracts use the definitions of `specs/CheckedSets`, `specs/Checking`, `specs/Code`, `specs/Directories`,
-//! `specs/Equality`, `specs/Items`, `specs/DirectoryCache`, `specs/Nesting`, `specs/Numbered`, `specs/Reading`,
-//! `specs/Renumbering`, `specs/Shared`, `specs/Spelled`, `specs/Stored`, `specs/Tables` and `specs/Uses`.
+//! `specs/Equality`, `specs/Items`, `specs/Laws`, `specs/DirectoryCache`, `specs/Nesting`, `specs/Numbered`,
+//! `specs/Reading`, `specs/Renumbering`, `specs/Results`, `specs/Same`, `specs/Shared`, `specs/Spelled`,
+//! `specs/Stored`, `specs/Tables`, `specs/Uses` and `specs/Writing`.
 //!
 //! Source: the Android page "Dalvik Executable format", under the headings "encoded_value encoding",
 //! "encoded_array format", "encoded_annotation format", "annotation_item", "annotation_set_item",

@@ -1,11 +1,9 @@
 //! Checks nested values, arrays and annotations in place in a file. Nothing is kept, and no memory is allocated.
 
-ghost use Rattle.std.specs.Prelude.{ℕ, ◌≢◌, ◌+◌, ◌*◌, ◌^◌, ◌<◌, ◌≤◌, MatchOption, IfSome, length, slice_index};
-ghost use Rattle.dexspec.specs.Numbers.{Uleb128At};
+ghost use Rattle.std.specs.Prelude.{◌≢◌, ◌+◌, ◌*◌, ◌^◌, ◌<◌, ◌≤◌, IfSome, length, slice_index};
 ghost use Rattle.dexpool.specs.Pools.{ArePools};
-ghost use Rattle.dexval.specs.internal.Scalars.{NoValueAt};
-ghost use Rattle.dexval.specs.Nesting.{AreFilePools, NoArrayAt, NoElementAt, NoElementsAt, NoAnnotationAt};
-ghost use Rattle.dexval.specs.Checking.{HasValue, HasArray, HasElement, HasElements, HasAnnotation};
+ghost use Rattle.dexval.specs.Nesting.{HasPools};
+ghost use Rattle.dexval.specs.internal.Found.{FindsUleb128, MeasuresValue, MeasuresScalar, MeasuresArray, MeasuresElement, MeasuresElements, MeasuresAnnotation};
 
 use crate::scalars::scalar_at;
 use crate::type_codes::{ANNOTATION, ARRAY};
@@ -23,7 +21,7 @@ pub(crate) struct Measure {
 #[inline(always)]
 fn number_at(bytes: &[u8], at: usize) -> Option<(u32, usize)>
     requires { at ≤ length bytes.now }
-    ensures found { MatchOption result ((v n : ℕ) → Uleb128At bytes.now at v n → ⊥) (λ read. Uleb128At bytes.now at read.0 read.1) }
+    ensures found { FindsUleb128 bytes.now at result }
     ensures some { IfSome result (λ read. 1 ≤ read.1) }
     ensures within { IfSome result (λ read. at + read.1 ≤ length bytes.now) }
 {
@@ -38,7 +36,7 @@ fn scalar_measure(bytes: &[u8], pools: &Pools<'_>, at: usize) -> Option<Measure>
     requires within { at < length bytes.now }
     requires array { slice_index bytes.now at ≢ 0x1c }
     requires annotation { slice_index bytes.now at ≢ 0x1d }
-    ensures checked { ArePools bytes.now pools.now → (depth : ℕ) → MatchOption result (NoValueAt bytes.now at depth) (λ value. HasValue bytes.now at pools.now depth value.size value.weight) }
+    ensures checked { ArePools bytes.now pools.now → MeasuresScalar bytes.now at pools.now result }
     ensures within { IfSome result (λ value. at + value.size ≤ length bytes.now) }
     ensures light { IfSome result (λ value. value.weight ≤ 9 * value.size) }
 {
@@ -58,7 +56,7 @@ pub(crate) fn value_measure(
     depth: u32,
 ) -> Option<Measure>
     requires small { length bytes.now ≤ 2 ^ 30 }
-    ensures checked { AreFilePools bytes.now pools.now → MatchOption result (NoValueAt bytes.now at depth) (λ value. HasValue bytes.now at pools.now depth value.size value.weight) }
+    ensures checked { HasPools bytes.now pools.now → MeasuresValue bytes.now at pools.now depth result }
     ensures within { IfSome result (λ value. at + value.size ≤ length bytes.now) }
     ensures light { IfSome result (λ value. value.weight ≤ 9 * value.size) }
 {
@@ -105,7 +103,7 @@ pub(crate) fn array_measure(
 ) -> Option<(u32, Measure)>
     requires at { at ≤ length bytes.now }
     requires small { length bytes.now ≤ 2 ^ 30 }
-    ensures checked { AreFilePools bytes.now pools.now → MatchOption result (NoArrayAt bytes.now at depth) (λ array. HasArray bytes.now at pools.now depth array.0 array.1.size array.1.weight) }
+    ensures checked { HasPools bytes.now pools.now → MeasuresArray bytes.now at pools.now depth result }
     ensures within { IfSome result (λ array. at + array.1.size ≤ length bytes.now) }
     ensures light { IfSome result (λ array. array.1.weight ≤ 9 * array.1.size) }
 {
@@ -140,7 +138,7 @@ fn element_measure(
 ) -> Option<(u32, Measure)>
     requires at { at ≤ length bytes.now }
     requires small { length bytes.now ≤ 2 ^ 30 }
-    ensures checked { AreFilePools bytes.now pools.now → MatchOption result (NoElementAt bytes.now at depth least) (λ element. HasElement bytes.now at pools.now depth least element.0 element.1.size element.1.weight) }
+    ensures checked { HasPools bytes.now pools.now → MeasuresElement bytes.now at pools.now depth least result }
     ensures name { IfSome result (λ element. element.0 < 2 ^ 32) }
     ensures within { IfSome result (λ element. at + element.1.size ≤ length bytes.now) }
     ensures light { IfSome result (λ element. element.1.weight ≤ 9 * element.1.size) }
@@ -174,7 +172,7 @@ fn elements_measure(
 ) -> Option<Measure>
     requires at { at ≤ length bytes.now }
     requires small { length bytes.now ≤ 2 ^ 30 }
-    ensures checked { AreFilePools bytes.now pools.now → MatchOption result (NoElementsAt bytes.now at depth count) (λ elements. HasElements bytes.now at pools.now depth count elements.size elements.weight) }
+    ensures checked { HasPools bytes.now pools.now → MeasuresElements bytes.now at pools.now depth count result }
     ensures within { IfSome result (λ elements. at + elements.size ≤ length bytes.now) }
     ensures light { IfSome result (λ elements. elements.weight ≤ 9 * elements.size) }
 {
@@ -205,7 +203,7 @@ pub(crate) fn annotation_measure(
 ) -> Option<(u32, Measure)>
     requires at { at ≤ length bytes.now }
     requires small { length bytes.now ≤ 2 ^ 30 }
-    ensures checked { AreFilePools bytes.now pools.now → MatchOption result (NoAnnotationAt bytes.now at depth) (λ annotation. HasAnnotation bytes.now at pools.now depth annotation.0 annotation.1.size annotation.1.weight) }
+    ensures checked { HasPools bytes.now pools.now → MeasuresAnnotation bytes.now at pools.now depth result }
     ensures within { IfSome result (λ annotation. at + annotation.1.size ≤ length bytes.now) }
     ensures light { IfSome result (λ annotation. annotation.1.weight ≤ 9 * annotation.1.size) }
 {

@@ -1,10 +1,9 @@
 //! Reads nested values, arrays and annotations from a file.
 
-ghost use Rattle.std.specs.Prelude.{◌≡◌, ◌+◌, ◌^◌, ◌<◌, ◌≤◌, MatchOption, IfOk, IfSome, length, map};
-ghost use Rattle.dexval.specs.Code.{value_of, element_of};
-ghost use Rattle.dexval.specs.Numbered.{values_of_list, elements_of_list};
-ghost use Rattle.dexval.specs.internal.Scalars.{NoValueAt, IsReadAt};
-ghost use Rattle.dexval.specs.Nesting.{AreFilePools, NoArrayAt, AreReadAt, NoElementAt, IsElementReadAt, NoElementsAt, AreElementsReadAt, NoAnnotationAt, IsAnnotationReadAt};
+ghost use Rattle.std.specs.Prelude.{◌+◌, ◌^◌, ◌<◌, ◌≤◌, IfOk, IfSome, length};
+ghost use Rattle.dexval.specs.Code.{element_of};
+ghost use Rattle.dexval.specs.Nesting.{HasPools};
+ghost use Rattle.dexval.specs.internal.Found.{FindsValue, FindsArray, FindsElement, FindsElements, FindsAnnotation};
 
 use crate::scalars::scalar_at;
 use crate::type_codes::{ANNOTATION, ARRAY};
@@ -32,7 +31,7 @@ pub(crate) fn value_at(
     at: usize,
     depth: u32,
 ) -> Result<Option<(Value, usize)>, AllocError>
-    ensures read { AreFilePools bytes.now pools.now → IfOk result (λ found. MatchOption found (NoValueAt bytes.now at depth) (λ read. IsReadAt bytes.now at pools.now depth (value_of read.0) read.1)) }
+    ensures read { HasPools bytes.now pools.now → IfOk result (FindsValue bytes.now at pools.now depth) }
     ensures within { IfOk result (λ found. IfSome found (λ read. at + read.1 ≤ length bytes.now)) }
 {
     if at >= bytes.len() {
@@ -74,7 +73,7 @@ pub(crate) fn array_at(
     depth: u32,
 ) -> Result<Option<(Vec<Value>, usize)>, AllocError>
     requires { at ≤ length bytes.now }
-    ensures read { AreFilePools bytes.now pools.now → IfOk result (λ found. MatchOption found (NoArrayAt bytes.now at depth) (λ read. AreReadAt bytes.now at pools.now depth (values_of_list (map value_of read.0.items)) read.1)) }
+    ensures read { HasPools bytes.now pools.now → IfOk result (FindsArray bytes.now at pools.now depth) }
     ensures within { IfOk result (λ found. IfSome found (λ read. at + read.1 ≤ length bytes.now)) }
 {
     let (count, head) = match read_u(bytes, at) {
@@ -107,7 +106,7 @@ fn element_at(
     least: u64,
 ) -> Result<Option<(Element, usize)>, AllocError>
     requires { at ≤ length bytes.now }
-    ensures read { AreFilePools bytes.now pools.now → IfOk result (λ found. MatchOption found (NoElementAt bytes.now at depth least) (λ read. IsElementReadAt bytes.now at pools.now depth least (element_of read.0) read.1)) }
+    ensures read { HasPools bytes.now pools.now → IfOk result (FindsElement bytes.now at pools.now depth least) }
     ensures name { IfOk result (λ found. IfSome found (λ read. (element_of read.0).0 < 2 ^ 32)) }
     ensures within { IfOk result (λ found. IfSome found (λ read. at + read.1 ≤ length bytes.now)) }
 {
@@ -136,7 +135,7 @@ fn elements_at(
     count: u32,
 ) -> Result<Option<(Vec<Element>, usize)>, AllocError>
     requires { at ≤ length bytes.now }
-    ensures read { AreFilePools bytes.now pools.now → IfOk result (λ found. MatchOption found (NoElementsAt bytes.now at depth count) (λ read. AreElementsReadAt bytes.now at pools.now depth count (elements_of_list (map element_of read.0.items)) read.1)) }
+    ensures read { HasPools bytes.now pools.now → IfOk result (FindsElements bytes.now at pools.now depth count) }
     ensures within { IfOk result (λ found. IfSome found (λ read. at + read.1 ≤ length bytes.now)) }
 {
     let mut elements = Vec::with_capacity(alloc, room(count, bytes.len() - at))?;
@@ -166,7 +165,7 @@ pub(crate) fn annotation_at(
     depth: u32,
 ) -> Result<Option<(u32, Vec<Element>, usize)>, AllocError>
     requires { at ≤ length bytes.now }
-    ensures read { AreFilePools bytes.now pools.now → IfOk result (λ found. MatchOption found (NoAnnotationAt bytes.now at depth) (λ read. IsAnnotationReadAt bytes.now at pools.now depth read.0 (elements_of_list (map element_of read.1.items)) read.2)) }
+    ensures read { HasPools bytes.now pools.now → IfOk result (FindsAnnotation bytes.now at pools.now depth) }
     ensures within { IfOk result (λ found. IfSome found (λ read. at + read.2 ≤ length bytes.now)) }
 {
     let (typ, first) = match read_u(bytes, at) {

@@ -1,15 +1,11 @@
 //! Writes values and annotations.
 
-ghost use Rattle.std.specs.Prelude.{◌≡◌, ◌+◌, ◌^◌, ◌<◌, ◌≤◌, map, length, IsOk, vec_len, vec_capacity};
-ghost use Rattle.dexspec.specs.Values.{Value as ValueMeant, Values as ValuesMeant};
-ghost use Rattle.dexspec.specs.Annotations.{Annotation as AnnotationMeant};
+ghost use Rattle.std.specs.Prelude.{◌<◌, ◌≤◌, length, IsOk};
 ghost use Rattle.dexspec.specs.Mentions.{Mentions};
-ghost use Rattle.dexspec.specs.Spellings.{value_bytes, encoded_array_bytes, annotation_bytes};
-ghost use Rattle.dexspec.specs.Weight.{value_weight, static_values_weight, annotation_weight};
 ghost use Rattle.dexspec.specs.internal.Writing.{Puts};
-ghost use Rattle.dexval.specs.Code.{value_of, annotation_of};
-ghost use Rattle.dexval.specs.Numbered.{value_in, values_in, annotation_in, values_of_list, Denotes, Denote, DenotesAnnotation};
-ghost use Rattle.dexval.specs.Spelled.{IsCounted, AreCounted, IsCountedAnnotation, numbered_bytes, numbered_array_bytes, numbered_annotation_bytes};
+ghost use Rattle.dexval.specs.Code.{value_of, annotation_of, values_of};
+ghost use Rattle.dexval.specs.Spelled.{numbered_bytes, numbered_array_bytes, numbered_annotation_bytes};
+ghost use Rattle.dexval.specs.Writing.{PutsValue, PutsStatics, PutsAnnotation, statics_length, annotation_length, weight_of_value, weight_of_statics, weight_of_annotation, HasRoom, HasRoomForStatics};
 
 use crate::annotation::Annotation;
 use crate::encoding::{ArrayItem, ValueItem};
@@ -32,9 +28,9 @@ pub fn put_value(
     out: &mut Vec<u8>,
 ) -> Result<(), AllocError>
     ensures bytes { Puts (numbered_bytes (value_of value.now)) out.old out.new result }
-    ensures symbolic { (symbolic : ValueMeant) → IsCounted (value_of value.now) → Denotes numbering.now (value_of value.now) symbolic → Puts (value_bytes numbering.now symbolic) out.old out.new result }
-    ensures bound { (m : Mentions) → length (numbered_bytes (value_of value.now)) ≤ value_weight (value_in m (value_of value.now)) }
-    ensures room { (m : Mentions) → vec_len out.old + value_weight (value_in m (value_of value.now)) ≤ vec_capacity out.old → IsOk result }
+    ensures symbolic { PutsValue numbering.now (value_of value.now) out.old out.new result }
+    ensures bound { (m : Mentions) → length (numbered_bytes (value_of value.now)) ≤ weight_of_value m value.now }
+    ensures room { (m : Mentions) → HasRoom out.old (weight_of_value m value.now) → IsOk result }
 {
     numbering.is_numbering();
     put_encoded(&ValueItem { value }, out)
@@ -53,10 +49,10 @@ pub fn put_statics(
     numbering: &Numbering<'_>,
     out: &mut Vec<u8>,
 ) -> Result<(), AllocError>
-    ensures bytes { Puts (numbered_array_bytes (values_of_list (map value_of values.now))) out.old out.new result }
-    ensures symbolic { (symbolic : ValuesMeant) → length values.now < 2 ^ 32 → AreCounted (values_of_list (map value_of values.now)) → Denote numbering.now (values_of_list (map value_of values.now)) symbolic → Puts (encoded_array_bytes numbering.now symbolic) out.old out.new result }
-    ensures bound { (m : Mentions) → 0 < length values.now → length (numbered_array_bytes (values_of_list (map value_of values.now))) ≤ static_values_weight (values_in m (values_of_list (map value_of values.now))) }
-    ensures room { (m : Mentions) → 0 < length values.now → vec_len out.old + static_values_weight (values_in m (values_of_list (map value_of values.now))) ≤ vec_capacity out.old → IsOk result }
+    ensures bytes { Puts (numbered_array_bytes (values_of values.now)) out.old out.new result }
+    ensures symbolic { PutsStatics numbering.now values.now out.old out.new result }
+    ensures bound { (m : Mentions) → 0 < length values.now → statics_length values.now ≤ weight_of_statics m values.now }
+    ensures room { (m : Mentions) → 0 < length values.now → HasRoomForStatics out.old m values.now → IsOk result }
 {
     numbering.is_numbering();
     put_encoded(&ArrayItem { values }, out)
@@ -76,9 +72,9 @@ pub fn put_annotation(
     out: &mut Vec<u8>,
 ) -> Result<(), AllocError>
     ensures bytes { Puts (numbered_annotation_bytes (annotation_of annotation.now)) out.old out.new result }
-    ensures symbolic { (symbolic : AnnotationMeant) → IsCountedAnnotation (annotation_of annotation.now) → DenotesAnnotation numbering.now (annotation_of annotation.now) symbolic → Puts (annotation_bytes numbering.now symbolic) out.old out.new result }
-    ensures bound { (m : Mentions) → length (numbered_annotation_bytes (annotation_of annotation.now)) ≤ annotation_weight (annotation_in m (annotation_of annotation.now)) }
-    ensures room { (m : Mentions) → vec_len out.old + annotation_weight (annotation_in m (annotation_of annotation.now)) ≤ vec_capacity out.old → IsOk result }
+    ensures symbolic { PutsAnnotation numbering.now (annotation_of annotation.now) out.old out.new result }
+    ensures bound { (m : Mentions) → annotation_length annotation.now ≤ weight_of_annotation m annotation.now }
+    ensures room { (m : Mentions) → HasRoom out.old (weight_of_annotation m annotation.now) → IsOk result }
 {
     numbering.is_numbering();
     put_encoded(annotation, out)

@@ -1,8 +1,8 @@
 //! Remaps the numbers of values and sets of annotations to those of another numbering.
 
-ghost use Rattle.std.specs.Prelude.{◌≡◌, ◌<◌, ◌^◌, All, map};
+ghost use Rattle.std.specs.Prelude.{◌≡◌, map};
 ghost use Rattle.dexpool.specs.declared.symbols.SymbolKind.TheVariants as kinds;
-ghost use Rattle.dexval.specs.Code.{value_of, element_of, annotation_of, set_of};
+ghost use Rattle.dexval.specs.Code.{value_of, element_of, annotation_of, set_of, values_of, elements_of, set_from};
 ghost use Rattle.dexval.specs.Numbered.{values_of_list, elements_of_list};
 ghost use Rattle.dexval.specs.Renumbering.{remapped, renumbered, renumbered_values, renumbered_elements, renumbered_element, renumbered_annotation, renumbered_set, HasPlaces, HavePlaces, ElementHasPlaces, ElementsHavePlaces, AnnotationHasPlaces, SetHasPlaces};
 ghost use Rattle.dexpool.specs.Images.{IsMapped};
@@ -29,7 +29,7 @@ pub fn remapped(remap: &Remap, kind: SymbolKind, number: u32) -> u32
 #[cycle(renumbering)]
 fn renumber_elements(elements: &mut Vec<Element>, remap: &Remap)
     requires { ElementsHavePlaces remap.now (elements_of_list (map element_of elements.old.items)) }
-    ensures { elements_of_list (map element_of elements.new.items) ≡ renumbered_elements remap.now (elements_of_list (map element_of elements.old.items)) }
+    ensures { elements_of elements.new.items ≡ renumbered_elements remap.now (elements_of elements.old.items) }
 {
     for i in 0..elements.len() {
         elements[i].renumber(remap);
@@ -42,7 +42,7 @@ fn renumber_elements(elements: &mut Vec<Element>, remap: &Remap)
 #[cycle(renumbering)]
 pub fn renumber_values(values: &mut Vec<Value>, remap: &Remap)
     requires { HavePlaces remap.now (values_of_list (map value_of values.old.items)) }
-    ensures { values_of_list (map value_of values.new.items) ≡ renumbered_values remap.now (values_of_list (map value_of values.old.items)) }
+    ensures { values_of values.new.items ≡ renumbered_values remap.now (values_of values.old.items) }
 {
     for i in 0..values.len() {
         values[i].renumber(remap);
@@ -104,7 +104,7 @@ impl Annotation {
 // Replaces each number of annotations by the one that it maps to.
 fn renumber_annotations(annotations: &mut Vec<Annotation>, remap: &Remap)
     requires { SetHasPlaces remap.now (map annotation_of annotations.old.items) }
-    ensures { map annotation_of annotations.new.items ≡ renumbered_set remap.now (map annotation_of annotations.old.items) }
+    ensures { set_from annotations.new.items ≡ renumbered_set remap.now (set_from annotations.old.items) }
 {
     for i in 0..annotations.len() {
         annotations[i].renumber(remap);

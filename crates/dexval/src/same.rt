@@ -1,10 +1,9 @@
 //! Whether values and sets of annotations are equal once their numbers are remapped.
 
-ghost use Rattle.std.specs.Prelude.{◌≡◌, ◌↔◌, IsTrue, map};
+ghost use Rattle.std.specs.Prelude.{◌≡◌, ◌↔◌, IsTrue};
 ghost use Rattle.dexpool.specs.declared.symbols.SymbolKind.TheVariants as kinds;
-ghost use Rattle.dexval.specs.Code.{value_of, element_of, annotation_of, set_of};
-ghost use Rattle.dexval.specs.Numbered.{values_of_list, elements_of_list};
-ghost use Rattle.dexval.specs.Renumbering.{remapped, renumbered, renumbered_values, renumbered_elements, renumbered_element, renumbered_annotation, renumbered_set};
+ghost use Rattle.dexval.specs.Renumbering.{remapped};
+ghost use Rattle.dexval.specs.Same.{SameValue, SameValues, SameElement, SameElements, SameAnnotation, SameAnnotations, SameSet};
 
 use crate::annotation::Annotation;
 use crate::head::eq_heads;
@@ -33,7 +32,7 @@ pub fn eq_ends(kind: SymbolKind, mine: &Remap, number: u32, theirs: &Remap, othe
 // Whether the elements are equal, one for one, once their numbers are remapped.
 #[cycle(comparing)]
 fn same_elements(mine: &Remap, elements: &[Element], theirs: &Remap, others: &[Element]) -> bool
-    ensures { IsTrue result ↔ (renumbered_elements mine.now (elements_of_list (map element_of elements.now)) ≡ renumbered_elements theirs.now (elements_of_list (map element_of others.now))) }
+    ensures { IsTrue result ↔ SameElements mine.now elements.now theirs.now others.now }
 {
     if elements.len() != others.len() {
         return false;
@@ -52,7 +51,7 @@ fn same_elements(mine: &Remap, elements: &[Element], theirs: &Remap, others: &[E
 /// Source: "encoded_array format".
 #[cycle(comparing)]
 pub fn same_values_mapped(values: &[Value], mine: &Remap, others: &[Value], theirs: &Remap) -> bool
-    ensures { IsTrue result ↔ (renumbered_values mine.now (values_of_list (map value_of values.now)) ≡ renumbered_values theirs.now (values_of_list (map value_of others.now))) }
+    ensures { IsTrue result ↔ SameValues mine.now values.now theirs.now others.now }
 {
     if values.len() != others.len() {
         return false;
@@ -70,7 +69,7 @@ impl Value {
     /// an image is unchanged.
     #[cycle(comparing)]
     pub fn same_mapped(&self, mine: &Remap, other: &Value, theirs: &Remap) -> bool
-        ensures { IsTrue result ↔ (renumbered mine.now (value_of self.now) ≡ renumbered theirs.now (value_of other.now)) }
+        ensures { IsTrue result ↔ SameValue mine.now self.now theirs.now other.now }
     {
         if !eq_heads(self, mine, other, theirs) {
             return false;
@@ -87,7 +86,7 @@ impl Element {
     /// map. A number without an image is unchanged.
     #[cycle(comparing)]
     pub fn same_mapped(&self, mine: &Remap, other: &Element, theirs: &Remap) -> bool
-        ensures { IsTrue result ↔ (renumbered_element mine.now (element_of self.now) ≡ renumbered_element theirs.now (element_of other.now)) }
+        ensures { IsTrue result ↔ SameElement mine.now self.now theirs.now other.now }
     {
         if !eq_ends(SymbolKind::Text, mine, self.name, theirs, other.name) {
             return false;
@@ -100,7 +99,7 @@ impl Annotation {
     /// Whether this and another annotation have equal visibilities, types and elements, once the numbers of each are
     /// remapped by its own map. A number without an image is unchanged.
     pub fn same_mapped(&self, mine: &Remap, other: &Annotation, theirs: &Remap) -> bool
-        ensures { IsTrue result ↔ (renumbered_annotation mine.now (annotation_of self.now) ≡ renumbered_annotation theirs.now (annotation_of other.now)) }
+        ensures { IsTrue result ↔ SameAnnotation mine.now self.now theirs.now other.now }
     {
         if self.visibility != other.visibility {
             return false;
@@ -119,7 +118,7 @@ fn same_annotations(
     theirs: &Remap,
     others: &[Annotation],
 ) -> bool
-    ensures { IsTrue result ↔ (renumbered_set mine.now (map annotation_of annotations.now) ≡ renumbered_set theirs.now (map annotation_of others.now)) }
+    ensures { IsTrue result ↔ SameAnnotations mine.now annotations.now theirs.now others.now }
 {
     if annotations.len() != others.len() {
         return false;
@@ -136,7 +135,7 @@ impl AnnotationSet {
     /// Whether this and another set are equal, once the numbers of each are remapped by its own map. A number without
     /// an image is unchanged.
     pub fn same_mapped(&self, mine: &Remap, other: &AnnotationSet, theirs: &Remap) -> bool
-        ensures { IsTrue result ↔ (renumbered_set mine.now (set_of self.now) ≡ renumbered_set theirs.now (set_of other.now)) }
+        ensures { IsTrue result ↔ SameSet mine.now self.now theirs.now other.now }
     {
         same_annotations(mine, &self.annotations, theirs, &other.annotations)
     }

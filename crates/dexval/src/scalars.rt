@@ -1,11 +1,9 @@
 //! Values that hold no other value.
 
-ghost use Rattle.std.specs.Prelude.{◌≡◌, ◌≢◌, ◌%◌, ◌+◌, ◌<◌, ◌≤◌, ℕ, List, Some, MatchOption, IfSome, length, slice_index};
-ghost use Rattle.dexspec.specs.Bytes.{number_of};
-ghost use Rattle.dexspec.specs.Values.{SizedAt};
-ghost use Rattle.dexpool.specs.Pools.{ArePools, count_of};
-ghost use Rattle.dexval.specs.Code.{value_of};
-ghost use Rattle.dexval.specs.internal.Scalars.{width_of, HasNumber, Spells, IsUnknown, NoValueAt, IsReadAt};
+ghost use Rattle.std.specs.Prelude.{◌≡◌, ◌≢◌, ◌+◌, ◌<◌, ◌≤◌, MatchOption, IfSome, length, slice_index};
+ghost use Rattle.dexpool.specs.Pools.{ArePools};
+ghost use Rattle.dexval.specs.internal.Scalars.{width_of, HasNumber, IsUnknown, HasNoSymbol};
+ghost use Rattle.dexval.specs.internal.Found.{FindsNumber, SpellsValue, FindsScalar};
 
 use crate::sized_numbers::{bits, signed, unsigned};
 use crate::type_codes::{
@@ -43,7 +41,7 @@ fn width_of(code: u8) -> Option<usize>
 // The bytes of a number, which are after the first byte of a value.
 fn number_at(bytes: &[u8], at: usize, width: usize) -> Option<&[u8]>
     requires { at < length bytes.now }
-    ensures { MatchOption result ((xs : List ℕ) (n : ℕ) → SizedAt (slice_index bytes.now at % 32) width bytes.now at xs n → ⊥) (λ number. SizedAt (slice_index bytes.now at % 32) width bytes.now at number.now (1 + length number.now)) }
+    ensures { FindsNumber bytes.now at width result }
 {
     let size = usize::from(bytes[at] / 32) + 1;
     let (_, rest) = bytes.split_at(at + 1);
@@ -58,7 +56,7 @@ fn number_at(bytes: &[u8], at: usize, width: usize) -> Option<&[u8]>
 fn index_of(number: &[u8], kind: SymbolKind, pools: &Pools<'_>) -> Option<u32>
     requires some { 0 < length number.now }
     requires few { length number.now ≤ 4 }
-    ensures { MatchOption result (count_of kind pools.now ≤ number_of number.now) (λ index. HasNumber pools.now kind number.now index) }
+    ensures { MatchOption result (HasNoSymbol pools.now kind number.now) (HasNumber pools.now kind number.now) }
 {
     let index = unsigned(number) as u32;
     if (index as usize) < pools.len(kind) {
@@ -72,7 +70,7 @@ fn index_of(number: &[u8], kind: SymbolKind, pools: &Pools<'_>) -> Option<u32>
 fn spelled(code: u8, number: &[u8], pools: &Pools<'_>) -> Option<Value>
     requires some { 0 < length number.now }
     requires few { IfSome (width_of code) (λ width. length number.now ≤ width) }
-    ensures { MatchOption result (IsUnknown pools.now code number.now) (λ value. Spells pools.now code number.now (value_of value)) }
+    ensures { MatchOption result (IsUnknown pools.now code number.now) (SpellsValue pools.now code number.now) }
 {
     match code {
         BYTE => Some(Value::Byte(signed(number) as i8)),
@@ -99,7 +97,7 @@ fn sized_at(bytes: &[u8], pools: &Pools<'_>, at: usize) -> Option<(Value, usize)
     requires null { slice_index bytes.now at ≢ 0x1e }
     requires no { slice_index bytes.now at ≢ 0x1f }
     requires yes { slice_index bytes.now at ≢ 0x3f }
-    ensures read { ArePools bytes.now pools.now → MatchOption result ((depth : ℕ) → NoValueAt bytes.now at depth) (λ read. IsReadAt bytes.now at pools.now 0 (value_of read.0) read.1) }
+    ensures read { ArePools bytes.now pools.now → FindsScalar bytes.now at pools.now result }
     ensures within { IfSome result (λ read. at + read.1 ≤ length bytes.now) }
     ensures some { IfSome result (λ read. 1 ≤ read.1) }
 {
@@ -120,7 +118,7 @@ pub(crate) fn scalar_at(bytes: &[u8], pools: &Pools<'_>, at: usize) -> Option<(V
     requires within { at < length bytes.now }
     requires array { slice_index bytes.now at ≢ 0x1c }
     requires annotation { slice_index bytes.now at ≢ 0x1d }
-    ensures read { ArePools bytes.now pools.now → MatchOption result ((depth : ℕ) → NoValueAt bytes.now at depth) (λ read. IsReadAt bytes.now at pools.now 0 (value_of read.0) read.1) }
+    ensures read { ArePools bytes.now pools.now → FindsScalar bytes.now at pools.now result }
     ensures within { IfSome result (λ read. at + read.1 ≤ length bytes.now) }
     ensures some { IfSome result (λ read. 1 ≤ read.1) }
 {

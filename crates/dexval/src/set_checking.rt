@@ -1,12 +1,12 @@
 //! Checks sets of annotations in place in a file.
 
-ghost use Rattle.std.specs.Prelude.{◌≡◌, ◌*◌, ◌^◌, ◌≤◌, IfOk, IfErr, IfSome, MatchOption};
+ghost use Rattle.std.specs.Prelude.{◌≡◌, ◌*◌, ◌^◌, ◌≤◌, IfOk, IfErr, IfSome};
 ghost use Rattle.dexpool.specs.Pools.{ArePools};
 ghost use Rattle.dexpool.specs.declared.faults.ItemFault.TheVariants.{Refused};
-ghost use Rattle.dexval.specs.Checking.{HasItem, HasSetOf};
-ghost use Rattle.dexval.specs.Items.{NoItemAt, NoSetAt};
-ghost use Rattle.dexval.specs.Nesting.{AreFilePools};
+ghost use Rattle.dexval.specs.Nesting.{HasPools};
 ghost use Rattle.dexval.specs.Reading.{IsSetFault};
+ghost use Rattle.dexval.specs.Results.{HasSetShape};
+ghost use Rattle.dexval.specs.internal.Found.{MeasuresItem, MeasuresSet};
 
 use crate::nested_checking::annotation_measure;
 use crate::set_reading::offset_count;
@@ -28,7 +28,7 @@ pub struct SetShape {
 
 // The number of the type of the annotation_item at an offset, and its weight, or `None` if there is no such item.
 fn item_weight(frame: &Frame<'_>, pools: &Pools<'_>, off: u32) -> Option<(u32, u64)>
-    ensures checked { AreFilePools frame.now pools.now → MatchOption result (NoItemAt frame.now off) (λ item. HasItem frame.now off pools.now item.0 item.1) }
+    ensures checked { HasPools frame.now pools.now → MeasuresItem frame.now off pools.now result }
     ensures light { IfSome result (λ item. item.1 ≤ 9 * 2 ^ 30) }
 {
     let bytes = frame.bytes();
@@ -47,7 +47,7 @@ fn item_weight(frame: &Frame<'_>, pools: &Pools<'_>, off: u32) -> Option<(u32, u
 
 // The shape of the annotation_set_item at an offset, or `None` if there is no such item.
 fn set_shape(frame: &Frame<'_>, pools: &Pools<'_>, off: u32) -> Option<SetShape>
-    ensures { AreFilePools frame.now pools.now → MatchOption result (NoSetAt frame.now off) (λ shape. HasSetOf frame.now off pools.now shape.count shape.weight) }
+    ensures { HasPools frame.now pools.now → MeasuresSet frame.now off pools.now result }
 {
     let count = match offset_count(frame, off) {
         Some(count) => count,
@@ -81,7 +81,7 @@ fn set_shape(frame: &Frame<'_>, pools: &Pools<'_>, off: u32) -> Option<SetShape>
 ///
 /// Source: "annotation_set_item" and "annotation_item".
 pub fn check_set(frame: &Frame<'_>, pools: &Pools<'_>, off: u32) -> Result<SetShape, ItemFault>
-    ensures set { ArePools frame.now pools.now → IfOk result (λ shape. HasSetOf frame.now off pools.now shape.count shape.weight) }
+    ensures set { ArePools frame.now pools.now → IfOk result (HasSetShape frame.now off pools.now) }
     ensures refused { ArePools frame.now pools.now → IfErr result (IsSetFault frame.now off) }
     ensures number { IfErr result (λ fault. fault ≡ Refused 22) }
 {

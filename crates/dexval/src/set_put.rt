@@ -3,15 +3,11 @@
 ghost use Rattle.std.specs.Prelude.{◌+◌, ◌*◌, ◌^◌, ◌<◌, ◌≤◌, All, map, length, IsOk, vec_len, vec_capacity};
 ghost use Rattle.std.specs.List.{flat_map};
 ghost use Rattle.dexspec.specs.Bytes.{uint};
-ghost use Rattle.dexspec.specs.Annotations.{AnnotationSet as SetMeant};
 ghost use Rattle.dexspec.specs.Mentions.{Mentions};
-ghost use Rattle.dexspec.specs.Placing.{offsets_from};
-ghost use Rattle.dexspec.specs.Spellings.{annotation_bytes, offsets_bytes};
-ghost use Rattle.dexspec.specs.Weight.{set_weight};
 ghost use Rattle.dexspec.specs.internal.Writing.{Puts};
-ghost use Rattle.dexval.specs.Code.{annotation_of, set_of};
-ghost use Rattle.dexval.specs.Numbered.{set_in, DenotesSet};
+ghost use Rattle.dexval.specs.Code.{annotation_of, set_of, set_from};
 ghost use Rattle.dexval.specs.Spelled.{numbered_offsets, numbered_set_bytes};
+ghost use Rattle.dexval.specs.Writing.{PutsSet, HasRoomForSet};
 
 use crate::annotation::Annotation;
 use crate::set::AnnotationSet;
@@ -24,7 +20,7 @@ use std::alloc::AllocError;
 // before it.
 fn encode_offsets<O: Output>(annotations: &[Annotation], first: u32, out: &mut O)
     requires { All (λ offset. offset < 2 ^ 32) (numbered_offsets first (map annotation_of annotations.now)) }
-    ensures { O.gives (flat_map uint (numbered_offsets first (map annotation_of annotations.now))) out.old out.new }
+    ensures { O.gives (flat_map uint (numbered_offsets first (set_from annotations.now))) out.old out.new }
 {
     let mut offset = u64::from(first);
     for annotation in annotations {
@@ -64,10 +60,10 @@ pub fn put_set(
 ) -> Result<(), AllocError>
     requires { All (λ offset. offset < 2 ^ 32) (numbered_offsets first (set_of set.now)) }
     ensures bytes { Puts (numbered_set_bytes first (set_of set.now)) out.old out.new result }
-    ensures symbolic { (symbolic : SetMeant) → DenotesSet numbering.now (set_of set.now) symbolic → Puts (offsets_bytes (offsets_from 1 first (map (annotation_bytes numbering.now) symbolic))) out.old out.new result }
+    ensures symbolic { PutsSet numbering.now first (set_of set.now) out.old out.new result }
     ensures bound { vec_len out.old + (4 + 4 * length (set_of set.now)) ≤ vec_capacity out.old → IsOk result }
     ensures most { length (numbered_set_bytes first (set_of set.now)) ≤ 4 + 4 * length (set_of set.now) }
-    ensures room { (m : Mentions) → 0 < length (set_of set.now) → vec_len out.old + set_weight (set_in m (set_of set.now)) ≤ vec_capacity out.old → IsOk result }
+    ensures room { (m : Mentions) → 0 < length (set_of set.now) → HasRoomForSet out.old m set.now → IsOk result }
 {
     numbering.is_numbering();
     put_offsets(set.annotations(), first, out)

@@ -3,10 +3,12 @@
 ghost use Rattle.std.specs.Prelude.{◌≡◌, ◌<◌, IfOk, IfErr, MatchOption};
 ghost use Rattle.dexspec.specs.Bytes.{uint_at};
 ghost use Rattle.dexpool.specs.Pools.{ArePools};
-ghost use Rattle.dexval.specs.Code.{annotation_of, set_of, visibility_of};
-ghost use Rattle.dexval.specs.Nesting.{AreFilePools};
-ghost use Rattle.dexval.specs.Reading.{IsSetAt, IsSetFault};
-ghost use Rattle.dexval.specs.Items.{IsItemAt, NoItemAt, HasOffsets, IsRefusal};
+ghost use Rattle.dexval.specs.Code.{visibility_of};
+ghost use Rattle.dexval.specs.Nesting.{HasPools};
+ghost use Rattle.dexval.specs.Reading.{IsSetFault};
+ghost use Rattle.dexval.specs.Items.{NoItemAt, HasOffsets, IsRefusal};
+ghost use Rattle.dexval.specs.Results.{IsReadSet};
+ghost use Rattle.dexval.specs.internal.Found.{IsOffsetCount, IsReadItem};
 
 use crate::annotation::{Annotation, Visibility};
 use crate::nesting::annotation_at;
@@ -36,8 +38,8 @@ fn item_at(
     pools: &Pools<'_>,
     off: u32,
 ) -> Result<Annotation, ItemFault>
-    ensures read { AreFilePools frame.now pools.now → IfOk result (λ annotation. IsItemAt frame.now off pools.now (annotation_of annotation)) }
-    ensures refused { AreFilePools frame.now pools.now → IfErr result (IsRefusal (NoItemAt frame.now off)) }
+    ensures read { HasPools frame.now pools.now → IfOk result (IsReadItem frame.now off pools.now) }
+    ensures refused { HasPools frame.now pools.now → IfErr result (IsRefusal (NoItemAt frame.now off)) }
 {
     let bytes = frame.bytes();
     let at = off as usize;
@@ -58,7 +60,7 @@ fn item_at(
 /// The number of offsets of an annotation_set_item or an annotation_set_ref_list at an offset, or `None` if the item is
 /// not inside the data at a multiple of 4.
 pub(crate) fn offset_count(frame: &Frame<'_>, off: u32) -> Option<u32>
-    ensures { MatchOption result (HasOffsets frame.now off → ⊥) (λ count. HasOffsets frame.now off × (count ≡ uint_at frame.now off)) }
+    ensures { MatchOption result (HasOffsets frame.now off → ⊥) (IsOffsetCount frame.now off) }
 {
     if off % 4 != 0 || !frame.is_in_data(off, 4) {
         return None;
@@ -96,7 +98,7 @@ pub fn read_set(
     pools: &Pools<'_>,
     off: u32,
 ) -> Result<AnnotationSet, ItemFault>
-    ensures set { ArePools frame.now pools.now → IfOk result (λ set. IsSetAt frame.now off pools.now (set_of set)) }
+    ensures set { ArePools frame.now pools.now → IfOk result (IsReadSet frame.now off pools.now) }
     ensures refused { ArePools frame.now pools.now → IfErr result (IsSetFault frame.now off) }
 {
     pools.numbering().is_numbering();

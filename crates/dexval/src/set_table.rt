@@ -1,10 +1,10 @@
 //! Sets of annotations that several members share, each kept once.
 
-ghost use Rattle.std.specs.Prelude.{◌≡◌, ◌≢◌, ◌<◌, ◌-◌, ◌^◌, ℕ, Option, [], ◌∷◌, ◌++◌, All, IfNone, IfOk, IfSome, IsOk, OnOk, length, map, min};
+ghost use Rattle.std.specs.Prelude.{◌≡◌, ◌≢◌, ◌<◌, ◌-◌, ◌^◌, [], All, IfNone, IfOk, IfSome, IsOk, OnOk, length, map, min};
 ghost use Rattle.dexspec.specs.Mentions.{Mentions};
 ghost use Rattle.dexval.specs.Code.{set_of};
 ghost use Rattle.dexval.specs.Directories.{set_weight_in, sets_weight_in};
-ghost use Rattle.dexval.specs.Tables.{Extends, IsRemappedSet, IsPlaceIn, set_at, places_at, sets_at};
+ghost use Rattle.dexval.specs.Tables.{Extends, IsPlaceIn, set_at, places_at, sets_at, AreRemappedSets, with_set, with_list};
 
 use crate::set::AnnotationSet;
 use dexpool::Remap;
@@ -40,7 +40,7 @@ impl Model for SetTable {
 // Replaces each number of a symbol in the sets by the one that it maps to, in each set that fits.
 fn renumber_sets(sets: &mut Vec<AnnotationSet>, remap: &Remap)
     ensures size { length sets.new.items ≡ length sets.old.items }
-    ensures sets { (place : Option ℕ) → IsRemappedSet remap.now (set_at (map set_of sets.old.items) place) (set_at (map set_of sets.new.items) place) }
+    ensures sets { AreRemappedSets remap.now (map set_of sets.old.items) (map set_of sets.new.items) }
 {
     for i in 0..sets.len() {
         if sets[i].fits(remap) {
@@ -157,7 +157,7 @@ impl SetTable {
     /// Adds a set. Returns its place.
     pub(crate) fn add_set(&mut self, set: AnnotationSet) -> Result<u32, AllocError>
         ensures place { IfOk result (λ place. place ≡ length self.old.sets) }
-        ensures table { OnOk result (self.new ≡ record { sets = self.old.sets ++ set_of set ∷ []; lists = self.old.lists }) }
+        ensures table { OnOk result (self.new ≡ with_set self.old (set_of set)) }
         ensures extends { OnOk result (Extends self.old self.new) }
     {
         let place = place_of(self.sets.len())?;
@@ -171,7 +171,7 @@ impl SetTable {
     pub(crate) fn add_list(&mut self, list: Vec<Option<u32>>) -> Result<u32, AllocError>
         requires { All (IsPlaceIn self.old.sets) list.items }
         ensures place { IfOk result (λ place. place ≡ length self.old.lists) }
-        ensures table { OnOk result (self.new ≡ record { sets = self.old.sets; lists = self.old.lists ++ list.items ∷ [] }) }
+        ensures table { OnOk result (self.new ≡ with_list self.old list.items) }
         ensures extends { OnOk result (Extends self.old self.new) }
     {
         let place = place_of(self.lists.len())?;
@@ -184,7 +184,7 @@ impl SetTable {
     pub fn renumber(&mut self, remap: &Remap)
         ensures size { length self.new.sets ≡ length self.old.sets }
         ensures lists { self.new.lists ≡ self.old.lists }
-        ensures sets { (place : Option ℕ) → IsRemappedSet remap.now (set_at self.old.sets place) (set_at self.new.sets place) }
+        ensures sets { AreRemappedSets remap.now self.old.sets self.new.sets }
     {
         renumber_sets(&mut self.sets, remap);
     }

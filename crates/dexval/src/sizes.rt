@@ -1,14 +1,10 @@
 //! The sizes of values and annotations in their shortest encoding.
 
-ghost use Rattle.std.specs.Prelude.{◌≡◌, ℕ, ◌-◌, ◌^◌, List, min, map, length};
-ghost use Rattle.dexspec.specs.Values.{Values as ValuesMeant};
-ghost use Rattle.dexspec.specs.Annotations.{Annotation as AnnotationMeant};
-ghost use Rattle.dexspec.specs.Mentions.{Mentions};
-ghost use Rattle.dexspec.specs.Spellings.{encoded_array_bytes, annotation_bytes, offsets_bytes};
-ghost use Rattle.dexpool.specs.Numberings.{AreRising};
-ghost use Rattle.dexval.specs.Code.{value_of, annotation_of, set_of};
-ghost use Rattle.dexval.specs.Numbered.{values_of_list, Denote, DenotesAnnotation};
-ghost use Rattle.dexval.specs.Spelled.{numbered_array_bytes, numbered_annotation_bytes, numbered_set_bytes};
+ghost use Rattle.std.specs.Prelude.{◌≡◌, ℕ, ◌-◌, ◌^◌, List, min, length};
+ghost use Rattle.dexspec.specs.Spellings.{offsets_bytes};
+ghost use Rattle.dexval.specs.Code.{annotation_of, set_of, values_of};
+ghost use Rattle.dexval.specs.Spelled.{numbered_annotation_bytes, numbered_set_bytes};
+ghost use Rattle.dexval.specs.Writing.{statics_length, IsStaticsSize, IsAnnotationSize, IsSizeOfOffsets};
 
 use crate::annotation::Annotation;
 use crate::encoding::ArrayItem;
@@ -22,7 +18,7 @@ use dexhead::encoded_len;
 /// Source: "annotation_item" and "encoded_annotation format".
 pub fn annotation_size(annotation: &Annotation) -> u64
     ensures size { result ≡ min (2 ^ 64 - 1) (length (numbered_annotation_bytes (annotation_of annotation.now))) }
-    ensures symbolic { (m : Mentions) (symbolic : AnnotationMeant) → AreRising m → DenotesAnnotation m (annotation_of annotation.now) symbolic → result ≡ min (2 ^ 64 - 1) (length (annotation_bytes m symbolic)) }
+    ensures symbolic { IsAnnotationSize (annotation_of annotation.now) result }
 {
     encoded_len(annotation) as u64
 }
@@ -32,8 +28,8 @@ pub fn annotation_size(annotation: &Annotation) -> u64
 ///
 /// Source: "encoded_array_item" and "encoded_array format".
 pub fn statics_size(values: &[Value]) -> u64
-    ensures size { result ≡ min (2 ^ 64 - 1) (length (numbered_array_bytes (values_of_list (map value_of values.now)))) }
-    ensures symbolic { (m : Mentions) (symbolic : ValuesMeant) → AreRising m → Denote m (values_of_list (map value_of values.now)) symbolic → result ≡ min (2 ^ 64 - 1) (length (encoded_array_bytes m symbolic)) }
+    ensures size { result ≡ min (2 ^ 64 - 1) (statics_length values.now) }
+    ensures symbolic { IsStaticsSize (values_of values.now) result }
 {
     encoded_len(&ArrayItem { values }) as u64
 }
@@ -44,7 +40,7 @@ pub fn statics_size(values: &[Value]) -> u64
 /// Source: "annotation_set_item".
 pub fn set_size(set: &AnnotationSet) -> u64
     ensures size { (first : ℕ) → result ≡ length (numbered_set_bytes first (set_of set.now)) }
-    ensures symbolic { (offsets : List ℕ) → length offsets ≡ length (set_of set.now) → result ≡ length (offsets_bytes offsets) }
+    ensures symbolic { IsSizeOfOffsets (length (set_of set.now)) result }
 {
     4 + 4 * set.annotations().len() as u64
 }

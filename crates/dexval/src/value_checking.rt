@@ -1,11 +1,11 @@
 //! Checks values in place in a file.
 
-ghost use Rattle.std.specs.Prelude.{◌≡◌, ℕ, IfOk, IfErr, MatchOption};
-ghost use Rattle.dexspec.specs.Values.{Value, Values, EncodedValueAt, EncodedArrayItemAt};
+ghost use Rattle.std.specs.Prelude.{◌≡◌, IfOk, IfErr};
 ghost use Rattle.dexpool.specs.Pools.{ArePools};
 ghost use Rattle.dexpool.specs.declared.faults.ItemFault.TheVariants.{Refused};
-ghost use Rattle.dexval.specs.Checking.{HasValueOf, HasStaticsOf};
 ghost use Rattle.dexval.specs.Reading.{IsValueFault, IsStaticsFault};
+ghost use Rattle.dexval.specs.Results.{HasValueShape, HasStaticsShape};
+ghost use Rattle.dexval.specs.internal.Found.{MeasuresEncodedValue, MeasuresStatics};
 
 use crate::nested_checking::{array_measure, value_measure};
 use crate::value_reading::MOST_DEPTH;
@@ -34,7 +34,7 @@ pub struct StaticsShape {
 
 // The shape of the encoded_value at an offset, or `None` if there is none.
 fn value_shape(frame: &Frame<'_>, pools: &Pools<'_>, off: u32) -> Option<ValueShape>
-    ensures { ArePools frame.now pools.now → MatchOption result ((v : Value) (n : ℕ) → EncodedValueAt frame.now off v n → ⊥) (λ shape. HasValueOf frame.now off pools.now shape.size shape.weight) }
+    ensures { ArePools frame.now pools.now → MeasuresEncodedValue frame.now off pools.now result }
 {
     if off < frame.data_off() {
         return None;
@@ -56,7 +56,7 @@ fn value_shape(frame: &Frame<'_>, pools: &Pools<'_>, off: u32) -> Option<ValueSh
 ///
 /// Source: "encoded_value encoding", "encoded_array format" and "encoded_annotation format".
 pub fn check_value(frame: &Frame<'_>, pools: &Pools<'_>, off: u32) -> Result<ValueShape, ItemFault>
-    ensures value { ArePools frame.now pools.now → IfOk result (λ shape. HasValueOf frame.now off pools.now shape.size shape.weight) }
+    ensures value { ArePools frame.now pools.now → IfOk result (HasValueShape frame.now off pools.now) }
     ensures refused { ArePools frame.now pools.now → IfErr result (IsValueFault frame.now off) }
     ensures number { IfErr result (λ fault. fault ≡ Refused 21) }
 {
@@ -68,7 +68,7 @@ pub fn check_value(frame: &Frame<'_>, pools: &Pools<'_>, off: u32) -> Result<Val
 
 // The shape of the encoded_array_item at an offset, or `None` if there is none.
 fn statics_shape(frame: &Frame<'_>, pools: &Pools<'_>, off: u32) -> Option<StaticsShape>
-    ensures { ArePools frame.now pools.now → MatchOption result ((vs : Values) (n : ℕ) → EncodedArrayItemAt frame.now off vs n → ⊥) (λ shape. HasStaticsOf frame.now off pools.now shape.count shape.size shape.weight) }
+    ensures { ArePools frame.now pools.now → MeasuresStatics frame.now off pools.now result }
 {
     let bytes = frame.bytes();
     let at = off as usize;
@@ -97,7 +97,7 @@ pub fn check_statics(
     pools: &Pools<'_>,
     off: u32,
 ) -> Result<StaticsShape, ItemFault>
-    ensures values { ArePools frame.now pools.now → IfOk result (λ shape. HasStaticsOf frame.now off pools.now shape.count shape.size shape.weight) }
+    ensures values { ArePools frame.now pools.now → IfOk result (HasStaticsShape frame.now off pools.now) }
     ensures refused { ArePools frame.now pools.now → IfErr result (IsStaticsFault frame.now off) }
     ensures number { IfErr result (λ fault. fault ≡ Refused 21) }
 {

@@ -1,10 +1,9 @@
 //! Reads values from a file.
 
-ghost use Rattle.std.specs.Prelude.{IfOk, IfErr, map};
+ghost use Rattle.std.specs.Prelude.{IfOk, IfErr};
 ghost use Rattle.dexpool.specs.Pools.{ArePools};
-ghost use Rattle.dexval.specs.Code.{value_of};
-ghost use Rattle.dexval.specs.Numbered.{values_of_list};
-ghost use Rattle.dexval.specs.Reading.{IsValueAt, IsValueFault, AreStaticsAt, IsStaticsFault};
+ghost use Rattle.dexval.specs.Reading.{IsValueFault, IsStaticsFault};
+ghost use Rattle.dexval.specs.Results.{IsReadValue, AreReadStatics};
 
 use crate::nesting::{array_at, value_at};
 use crate::value::Value;
@@ -30,7 +29,7 @@ pub fn read_value(
     pools: &Pools<'_>,
     off: u32,
 ) -> Result<(Value, u32), ItemFault>
-    ensures value { ArePools frame.now pools.now → IfOk result (λ read. IsValueAt frame.now off pools.now (value_of read.0) read.1) }
+    ensures value { ArePools frame.now pools.now → IfOk result (IsReadValue frame.now off pools.now) }
     ensures refused { ArePools frame.now pools.now → IfErr result (IsValueFault frame.now off) }
 {
     if off < frame.data_off() {
@@ -54,7 +53,7 @@ pub fn read_statics(
     pools: &Pools<'_>,
     off: u32,
 ) -> Result<Vec<Value>, ItemFault>
-    ensures values { ArePools frame.now pools.now → IfOk result (λ values. AreStaticsAt frame.now off pools.now (values_of_list (map value_of values.items))) }
+    ensures values { ArePools frame.now pools.now → IfOk result (AreReadStatics frame.now off pools.now) }
     ensures refused { ArePools frame.now pools.now → IfErr result (IsStaticsFault frame.now off) }
 {
     let bytes = frame.bytes();

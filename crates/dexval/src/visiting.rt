@@ -2,8 +2,8 @@
 
 ghost use Rattle.std.specs.Prelude.{map};
 ghost use Rattle.std.specs.List.{FoldsTo};
-ghost use Rattle.dexval.specs.Code.{value_of, element_of, annotation_of, set_of};
-ghost use Rattle.dexval.specs.Numbered.{values_of_list, elements_of_list};
+ghost use Rattle.dexval.specs.Code.{value_of, element_of, annotation_of, set_of, elements_of};
+ghost use Rattle.dexval.specs.Numbered.{values_of_list};
 ghost use Rattle.dexval.specs.Uses.{value_uses, values_uses, element_uses, elements_uses, annotation_uses, set_uses};
 
 use crate::annotation::Annotation;
@@ -14,7 +14,7 @@ use dexpool::{SymbolKind, Symbols, Visitor, visit_all};
 // Passes the names of elements, and the symbols that occur in their values, to the visitor.
 #[cycle(visiting)]
 fn visit_elements<V: Visitor>(elements: &[Element], visitor: &mut V)
-    ensures { FoldsTo V.step visitor.old (elements_uses (elements_of_list (map element_of elements.now))) visitor.new }
+    ensures { FoldsTo V.step visitor.old (elements_uses (elements_of elements.now)) visitor.new }
 {
     for element in elements {
         element.visit(visitor);

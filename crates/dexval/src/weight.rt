@@ -1,12 +1,14 @@
 //! The weights of values and annotations.
 
-ghost use Rattle.std.specs.Prelude.{◌≡◌, ◌+◌, ◌-◌, ◌*◌, ◌^◌, ℕ, min, map, sum_by};
+ghost use Rattle.std.specs.Prelude.{◌≡◌, ◌+◌, ◌-◌, ◌^◌, ℕ, min, map, sum_by};
 ghost use Rattle.std.specs.Fn.{FnReturnsAt};
 ghost use Rattle.dexspec.specs.Mentions.{Mentions};
-ghost use Rattle.dexspec.specs.Weight.{value_weight, set_weight, ref_list_weight, static_values_weight};
-ghost use Rattle.dexval.specs.Code.{value_of, element_of, annotation_of, set_of};
-ghost use Rattle.dexval.specs.Numbered.{value_in, values_in, set_in, values_of_list, elements_of_list};
+ghost use Rattle.dexspec.specs.Weight.{value_weight, set_weight};
+ghost use Rattle.dexval.specs.Code.{value_of, annotation_of, set_of, elements_of};
+ghost use Rattle.dexval.specs.Numbered.{value_in, set_in, values_of_list};
 ghost use Rattle.dexval.specs.Spelled.{numbered_weight, numbered_values_weight, numbered_elements_weight, numbered_annotation_weight, numbered_set_weight};
+ghost use Rattle.dexval.specs.Writing.{weight_of_statics, weight_of_sets};
+ghost use Rattle.dexval.specs.internal.Weights.{weight_of_annotations};
 
 use crate::annotation::Annotation;
 use crate::set::AnnotationSet;
@@ -39,7 +41,7 @@ fn values_weight(values: &[Value]) -> u64
 // The weight of elements together.
 #[cycle(weighing)]
 fn elements_weight(elements: &[Element]) -> u64
-    ensures { result ≡ min (2 ^ 64 - 1) (numbered_elements_weight (elements_of_list (map element_of elements.now))) }
+    ensures { result ≡ min (2 ^ 64 - 1) (numbered_elements_weight (elements_of elements.now)) }
 {
     let mut weight: u64 = 0;
     for element in elements {
@@ -71,7 +73,7 @@ fn annotation_weight(annotation: &Annotation) -> u64
 
 // The weight of annotations in a set: each has an annotation_item and an offset.
 fn annotations_weight(annotations: &[Annotation]) -> u64
-    ensures { result ≡ min (2 ^ 64 - 1) (8 + sum_by (λ a. 4 + numbered_annotation_weight (annotation_of a)) annotations.now) }
+    ensures { result ≡ min (2 ^ 64 - 1) (weight_of_annotations annotations.now) }
 {
     listed_weight(annotations, |annotation| annotation_weight(annotation))
 }
@@ -115,7 +117,7 @@ impl AnnotationSet {
 /// The weight of the sets of a method's parameters, with the list of them, or 2^64 - 1 if they weigh more. An empty
 /// list weighs nothing.
 pub fn parameter_sets_weight(sets: &[AnnotationSet]) -> u64
-    ensures { (m : Mentions) → result ≡ min (2 ^ 64 - 1) (ref_list_weight (map (set_in m) (map set_of sets.now))) }
+    ensures { (m : Mentions) → result ≡ min (2 ^ 64 - 1) (weight_of_sets m sets.now) }
 {
     if sets.is_empty() {
         return 0;
@@ -125,7 +127,7 @@ pub fn parameter_sets_weight(sets: &[AnnotationSet]) -> u64
 
 /// The weight of the initial values of static fields, or 2^64 - 1 if they weigh more. An empty list weighs nothing.
 pub fn statics_weight(values: &[Value]) -> u64
-    ensures { (m : Mentions) → result ≡ min (2 ^ 64 - 1) (static_values_weight (values_in m (values_of_list (map value_of values.now)))) }
+    ensures { (m : Mentions) → result ≡ min (2 ^ 64 - 1) (weight_of_statics m values.now) }
 {
     if values.is_empty() {
         return 0;

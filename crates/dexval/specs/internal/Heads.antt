@@ -2,6 +2,10 @@
 use Rattle.std.specs.Prelude.{ℕ}
 use Rattle.dexval.specs.declared.head.Head.{Head}
 use Rattle.dexval.specs.declared.head.Head.TheVariants as heads
+use Rattle.dexpool.specs.Numberings.{Maps}
+use Rattle.dexval.specs.declared.value.Value.{Value}
+use Rattle.dexval.specs.Code.{value_of}
+use Rattle.dexval.specs.Renumbering.{renumbered}
 use Rattle.dexval.specs.Numbered.{NumberedValue, NumberedValues, NumberedElements, NoValue, NoElement, Plain, Named, Array, Annotated, Literal, ByteLiteral, ShortLiteral, CharLiteral, IntLiteral, LongLiteral, FloatLiteral, DoubleLiteral, NullLiteral, BooleanLiteral, Reference, StringReference, TypeReference, FieldReference, MethodReference, EnumReference}
 
 -- the head of a literal
@@ -30,6 +34,10 @@ head_of (Plain literal) = literal_head literal
 head_of (Named reference i) = reference_head reference i
 head_of (Array xs) = heads.Array
 head_of (Annotated t es) = heads.Annotation t
+
+-- the head of a value of the code, its number remapped
+abbrev pub mapped_head : Maps → Value → Head
+mapped_head r value = head_of (renumbered r (value_of value))
 
 -- the values of an array
 abbrev pub held_values : NumberedValue → NumberedValues

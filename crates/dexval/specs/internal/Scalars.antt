@@ -40,6 +40,10 @@ pub record HasNumber (m : Mentions) (kind : SymbolKind) (bytes : List ℕ) (i : 
   pub is : i ≡ number_of bytes
   pub known : i < count_of kind m
 
+-- the bytes encode the number of no symbol
+abbrev pub HasNoSymbol : Mentions → SymbolKind → List ℕ → Type 0
+HasNoSymbol m kind bytes = count_of kind m ≤ number_of bytes
+
 -- the type code names a kind of symbol and the bytes encode the number of no symbol of it, or the code names no kind
 -- and has no width
 pub record IsUnknown (m : Mentions) (code : ℕ) (bytes : List ℕ) : Type 0 where

@@ -1,12 +1,12 @@
 use Rattle.std.specs.Prelude.{◌+◌, sum_by}
 use Rattle.dexval.specs.CheckedSets.{AreChecked, IsWeighed}
-use Rattle.dexval.specs.Nesting.{AreFilePools}
+use Rattle.dexval.specs.Nesting.{HasPools}
 use Rattle.dexval.specs.Directories.{set_weight_in}
 use Rattle.dexval.proofs.DirectoryRead.{HaveReadList}
 use Rattle.dexval.proofs.directory_checking.listed_weight.Given as goal
 
 abbrev pub invariant-loop-i : goal.invariant-loop-i
 invariant-loop-i l = record {
-  checked : AreFilePools l.frame l.pools → AreChecked l.frame l.pools l.checked;
-  weighed : AreFilePools l.frame l.pools → IsWeighed (HaveReadList l.frame (l.off + 4) l.pools l.i) (λ ss. l.list + sum_by (set_weight_in l.pools) ss) l.weight;
+  checked : HasPools l.frame l.pools → AreChecked l.frame l.pools l.checked;
+  weighed : HasPools l.frame l.pools → IsWeighed (HaveReadList l.frame (l.off + 4) l.pools l.i) (λ ss. l.list + sum_by (set_weight_in l.pools) ss) l.weight;
 }

@@ -1,12 +1,12 @@
 use Rattle.std.specs.Prelude.{◌^◌, ◌≤◌, sum_by}
 use Rattle.dexval.specs.CheckedSets.{AreChecked, IsWeighed}
-use Rattle.dexval.specs.Nesting.{AreFilePools}
+use Rattle.dexval.specs.Nesting.{HasPools}
 use Rattle.dexval.proofs.DirectoryRead.{HaveReadPairs}
 use Rattle.dexval.proofs.directory_checking.members_weight.Given as goal
 
 abbrev pub invariant-loop-i : goal.invariant-loop-i
 invariant-loop-i g l = record {
   least_fits : l.least ≤ 2 ^ 32;
-  checked : AreFilePools l.frame l.pools → AreChecked l.frame l.pools l.checked;
-  weighed : AreFilePools l.frame l.pools → IsWeighed (HaveReadPairs (g.T.CheckedMember.is_known l.pools) (g.T.CheckedMember.inside l.pools) g.T.CheckedMember.encodes l.frame l.pairs.at l.pairs.limit l.i l.least) (sum_by (λ e. g.T.CheckedMember.weighs l.pools e.1)) l.weight;
+  checked : HasPools l.frame l.pools → AreChecked l.frame l.pools l.checked;
+  weighed : HasPools l.frame l.pools → IsWeighed (HaveReadPairs (g.T.CheckedMember.is_known l.pools) (g.T.CheckedMember.inside l.pools) g.T.CheckedMember.encodes l.frame l.pairs.at l.pairs.limit l.i l.least) (sum_by (λ e. g.T.CheckedMember.weighs l.pools e.1)) l.weight;
 }

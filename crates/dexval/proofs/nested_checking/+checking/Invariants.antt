@@ -1,5 +1,5 @@
 use Rattle.std.specs.Prelude.{◌+◌, ◌*◌, ◌^◌, ◌≤◌, length}
-use Rattle.dexval.specs.Nesting.{AreFilePools}
+use Rattle.dexval.specs.Nesting.{HasPools}
 use Rattle.dexval.proofs.NestedChecked.{ValuesChecked, ElementsChecked}
 use Rattle.dexval.proofs.nested_checking.+checking.Given as goal
 
@@ -22,7 +22,7 @@ abbrev pub invariant-array_measure-loop-i : goal.invariant-array_measure-loop-i
 invariant-array_measure-loop-i l = record {
   within : l.at + l.head + l.size ≤ length l.bytes;
   light : l.weight ≤ 9 * l.size;
-  checked : AreFilePools l.bytes l.pools → ValuesChecked l.bytes (l.at + l.head) l.pools l.depth l.count l._i l.size l.weight;
+  checked : HasPools l.bytes l.pools → ValuesChecked l.bytes (l.at + l.head) l.pools l.depth l.count l._i l.size l.weight;
 }
 
 abbrev pub invariant-elements_measure-loop-i : goal.invariant-elements_measure-loop-i
@@ -30,5 +30,5 @@ invariant-elements_measure-loop-i l = record {
   within : l.at + l.size ≤ length l.bytes;
   light : l.weight ≤ 9 * l.size;
   least_fits : l.least ≤ 2 ^ 32;
-  checked : AreFilePools l.bytes l.pools → ElementsChecked l.bytes l.at l.pools l.depth l.count l._i l.least l.size l.weight;
+  checked : HasPools l.bytes l.pools → ElementsChecked l.bytes l.at l.pools l.depth l.count l._i l.least l.size l.weight;
 }

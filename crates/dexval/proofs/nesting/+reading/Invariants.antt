@@ -1,6 +1,6 @@
 use Rattle.std.specs.Prelude.{◌+◌, ◌*◌, ◌^◌, ◌≤◌, length, map}
 use Rattle.dexval.specs.Code.{value_of, element_of}
-use Rattle.dexval.specs.Nesting.{AreFilePools}
+use Rattle.dexval.specs.Nesting.{HasPools}
 use Rattle.dexval.proofs.ValuesRead.{HaveRead}
 use Rattle.dexval.proofs.ElementsRead.{HaveReadOf}
 use Rattle.dexval.proofs.nesting.+reading.Given as goal
@@ -23,12 +23,12 @@ decreases-annotation_at l = 5 * l.depth + 3
 abbrev pub invariant-array_at-loop-i : goal.invariant-array_at-loop-i
 invariant-array_at-loop-i l = record {
   within : l.at + l.head + l.size ≤ length l.bytes;
-  read : AreFilePools l.bytes l.pools → HaveRead l.bytes (l.at + l.head) l.pools l.depth l.count l._i (map value_of l.values.items) l.size;
+  read : HasPools l.bytes l.pools → HaveRead l.bytes (l.at + l.head) l.pools l.depth l.count l._i (map value_of l.values.items) l.size;
 }
 
 abbrev pub invariant-elements_at-loop-i : goal.invariant-elements_at-loop-i
 invariant-elements_at-loop-i l = record {
   within : l.at + l.size ≤ length l.bytes;
   least_fits : l.least ≤ 2 ^ 32;
-  read : AreFilePools l.bytes l.pools → HaveReadOf l.bytes l.at l.pools l.depth l.count l._i l.least (map element_of l.elements.items) l.size;
+  read : HasPools l.bytes l.pools → HaveReadOf l.bytes l.at l.pools l.depth l.count l._i l.least (map element_of l.elements.items) l.size;
 }

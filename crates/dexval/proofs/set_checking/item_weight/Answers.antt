@@ -3,7 +3,7 @@ use Rattle.std.specs.Prelude.{slice_index}
 use Rattle.dexspec.specs.Header.{data_off}
 use Rattle.dexval.specs.Checking.{HasItem}
 use Rattle.dexval.specs.Items.{NoItemAt}
-use Rattle.dexval.specs.Nesting.{AreFilePools}
+use Rattle.dexval.specs.Nesting.{HasPools}
 use Rattle.dexval.proofs.SetsChecked.{item_checked}
 use Rattle.dexval.proofs.SetsRead.{no_item, no_visibility}
 use Rattle.dexval.proofs.set_checking.item_weight.Goals as goal
@@ -17,12 +17,12 @@ pub returns-in-Some-clause-checked : goal.returns-in-Some-clause-checked
 returns-in-Some-clause-checked c = λ p.
     let e = c.bytes-bytes.ensures.bytes in
     let b = c.bytes-bytes.result.now in
-    let q = subst (λ (b : List ℕ). AreFilePools b c.args.pools.now) (sym e) p in
+    let q = subst (λ (b : List ℕ). HasPools b c.args.pools.now) (sym e) p in
     subst (λ (b : List ℕ). HasItem b c.args.off c.args.pools.now c.in-Some.typ c.in-Some.annotation.weight) e
     (item_checked b c.args.off c.args.pools.now (slice_index b c.args.off) c.in-Some.typ c.in-Some.annotation.size c.in-Some.annotation.weight (omega (arith, ap data_off e)) (omega arith) refl (omega arith) (c.in-Some.ensures.checked q))
 
 pub returns-in-None-clause-checked : goal.returns-in-None-clause-checked
 returns-in-None-clause-checked c = λ p.
     let e = c.bytes-bytes.ensures.bytes in
-    let q = subst (λ (b : List ℕ). AreFilePools b c.args.pools.now) (sym e) p in
+    let q = subst (λ (b : List ℕ). HasPools b c.args.pools.now) (sym e) p in
     subst (λ (b : List ℕ). NoItemAt b c.args.off) e (no_item c.bytes-bytes.result.now c.args.off c.args.pools.now (c.in-None.ensures.checked q))

@@ -6,7 +6,7 @@ use Rattle.dexval.specs.declared.annotation.Visibility.{Visibility}
 use Rattle.dexval.specs.declared.annotation.Visibility.TheVariants.{Build, Runtime, System}
 use Rattle.dexval.specs.Code.{element_of, visibility_of}
 use Rattle.dexval.specs.Numbered.{NumberedAnnotation, elements_of_list}
-use Rattle.dexval.specs.Nesting.{AreFilePools}
+use Rattle.dexval.specs.Nesting.{HasPools}
 use Rattle.dexval.specs.Items.{NoItemAt, IsItemAt}
 use Rattle.dexval.proofs.Refusals.{refused_so}
 use Rattle.dexval.proofs.SetsRead.{item_read, no_item, no_visibility}
@@ -20,7 +20,7 @@ known System = omega arith
 pub returns-in-Some-clause-read : goal.returns-in-Some-clause-read
 returns-in-Some-clause-read c = λ p.
     let e = c.bytes-bytes.ensures.bytes in
-    let q = subst (λ (b : List ℕ). AreFilePools b c.args.pools.now) (sym e) p in
+    let q = subst (λ (b : List ℕ). HasPools b c.args.pools.now) (sym e) p in
     let h = c.in_ok-typ.ensures.read q in
     let r = rw c.in-Some.is at h in
     let x : NumberedAnnotation = record { visibility = visibility_of c.in_ok-visibility.visibility; type = c.in-Some.typ; elements = elements_of_list (map element_of c.in-Some.elements.items) } in
@@ -30,7 +30,7 @@ returns-in-Some-clause-read c = λ p.
 pub returns-in-None-clause-refused : goal.returns-in-None-clause-refused
 returns-in-None-clause-refused c = λ p.
     let e = c.bytes-bytes.ensures.bytes in
-    let q = subst (λ (b : List ℕ). AreFilePools b c.args.pools.now) (sym e) p in
+    let q = subst (λ (b : List ℕ). HasPools b c.args.pools.now) (sym e) p in
     let h = c.in_ok-typ.ensures.read q in
     let none = rw c.in-None.is at h in
     (refl, subst (λ (b : List ℕ). NoItemAt b c.args.off) e (no_item c.bytes-bytes.result.now c.args.off c.args.pools.now none))

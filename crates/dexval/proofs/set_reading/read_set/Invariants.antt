@@ -1,12 +1,12 @@
 use Rattle.std.specs.Prelude.{◌+◌, ◌^◌, ◌≤◌, map}
 use Rattle.dexspec.specs.Bytes.{uint_at}
 use Rattle.dexval.specs.Code.{annotation_of}
-use Rattle.dexval.specs.Nesting.{AreFilePools}
+use Rattle.dexval.specs.Nesting.{HasPools}
 use Rattle.dexval.proofs.SetsRead.{HaveReadSet}
 use Rattle.dexval.proofs.set_reading.read_set.Given as goal
 
 abbrev pub invariant-loop-i : goal.invariant-loop-i
 invariant-loop-i l = record {
   least_fits : l.least ≤ 2 ^ 32;
-  read : AreFilePools l.frame l.pools → HaveReadSet l.frame (l.off + 4) l.pools (uint_at l.frame l.off) l.i l.least (map annotation_of l.annotations.items);
+  read : HasPools l.frame l.pools → HaveReadSet l.frame (l.off + 4) l.pools (uint_at l.frame l.off) l.i l.least (map annotation_of l.annotations.items);
 }

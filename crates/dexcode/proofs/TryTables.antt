@@ -17,6 +17,7 @@ use Rattle.dexcode.proofs.Listed.{handler_some, sleb_some}
 use Rattle.dexcode.proofs.OneHandler.{one_handler}
 use Rattle.dexcode.proofs.TriesListed.{one_listed_try}
 use Rattle.dexcode.proofs.Whole.{all_formed}
+use Rattle.dexcode.specs.internal.TriesReading.{NoTries}
 
 -- ---- addresses
 
@@ -33,10 +34,6 @@ apart_back hs from t (u ∷ ts) le h = let rest = apart_back hs (t.start_addr + 
 apart_from : (hs : List NumberedHandler) (ts : List Try) → AreApart (all_named hs ts) → (to : ℕ) × AreApartFrom 0 ts to
 apart_from hs [] h = (0, refl)
 apart_from hs (t ∷ ts) h = apart_back hs 0 t ts (omega arith) h
-
--- there are not `count` tries that are apart
-abbrev pub NoTries : ℕ → List (Option ℕ) → List ℕ → ℕ → ℕ → Type 0
-NoTries units numbers b o count = (ts : List Try) (n to : ℕ) → length ts ≡ count → Sequence (ListedTryAt units numbers) b o ts n → AreApartFrom 0 ts to → ⊥
 
 -- ---- offsets
 

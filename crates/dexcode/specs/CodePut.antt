@@ -1,14 +1,21 @@
 -- The bytes of code items whose symbols are numbers, and what these weigh.
-use Rattle.std.specs.Prelude.{◌≡◌, ℕ, ℤ, pos, ◌-ℤ◌, ◌+◌, ◌*◌, ◌%◌, ◌^◌, ◌<◌, ◌≤◌, ◌==◌, if◌then◌else◌, List, [], ◌∷◌, ◌++◌, length, take, All, slice_index_or, option_to_list}
+use Rattle.std.specs.Prelude.{◌≡◌, ℕ, ℤ, pos, ◌-ℤ◌, ◌+◌, ◌*◌, ◌%◌, ◌^◌, ◌<◌, ◌≤◌, ◌==◌, if◌then◌else◌, List, [], ◌∷◌, ◌++◌, length, take, All, slice_index_or, option_to_list, IsOk, Result, vec_capacity, vec_len}
 use Rattle.std.specs.List.{flat_map}
 use Rattle.std.specs.Option.{option_map_or}
+use Rattle.std.specs.Global.{Vec}
 use Rattle.dexspec.specs.Bytes.{ushort, uint}
 use Rattle.dexspec.specs.Numbers.{uleb128, sleb128}
 use Rattle.dexspec.specs.Code.{most_handlers}
+use Rattle.dexspec.specs.Code as symbolic
+use Rattle.dexspec.specs.Mentions.{Mentions}
+use Rattle.dexspec.specs.Spellings.{code_bytes}
+use Rattle.dexspec.specs.Weight.{code_weight}
+use Rattle.dexspec.specs.internal.Writing.{Puts}
 use Rattle.dexinsn.specs.Numbered.{NumberedCode, numbered_units, numbered_bytes}
 use Rattle.dexcode.specs.declared.handlers.Catch.{Catch}
 use Rattle.dexcode.specs.declared.tries.Try.{Try}
-use Rattle.dexcode.specs.Numbered.{NumberedHandler, NumberedTry, NumberedItem, same_handler, handlers_of, handlers_weight}
+use Rattle.dexcode.specs.Numbered.{NumberedHandler, NumberedTry, NumberedItem, same_handler, handlers_of, handlers_weight, DenotesCode}
+use Rattle.dexpool.specs.Numberings.{AreRising}
 
 -- an encoded_type_addr_pair
 abbrev pub numbered_catch_bytes : Catch → List ℕ
@@ -98,3 +105,21 @@ pub record ArePlaces (hs : List NumberedHandler) (places : List ℕ) : Type 0 wh
 -- a try_item whose handler begins at one of the places
 abbrev pub placed_try_bytes : List ℕ → Try → List ℕ
 placed_try_bytes places t = uint t.start_addr ++ (ushort t.insn_count ++ ushort (slice_index_or places t.handler 0))
+
+-- ---- the code that numbers denote
+
+-- the length is that of the code_item of each code that the numbers denote, under a numbering whose symbols rise
+abbrev pub IsCodeLen : NumberedItem → ℕ → Type 0
+IsCodeLen c len = (m : Mentions) (debug_off : ℕ) (x : symbolic.Code) → AreRising m → DenotesCode m c x → len ≡ length (code_bytes m debug_off x)
+
+-- what is put is the code_item of the code that the numbers denote
+abbrev pub PutsDenotedCode : {T E : Type 0} → Mentions → ℕ → NumberedItem → Vec ℕ → Vec ℕ → Result T E → Type 0
+PutsDenotedCode m debug_off c old new r = (x : symbolic.Code) → DenotesCode m c x → Puts (code_bytes m debug_off x) old new r
+
+-- the code that the numbers denote weighs at least 3 more than the bytes
+abbrev pub DenotedWeighsMore : Mentions → ℕ → NumberedItem → Type 0
+DenotedWeighsMore m debug_off c = (x : symbolic.Code) → DenotesCode m c x → length (numbered_code_bytes debug_off c) + 3 ≤ code_weight x
+
+-- the call succeeds if the spare capacity is the weight of the code that the numbers denote, less 3
+abbrev pub IsOkWithRoomForDenoted : {T E : Type 0} → Mentions → NumberedItem → Vec ℕ → Result T E → Type 0
+IsOkWithRoomForDenoted m c old r = (x : symbolic.Code) → DenotesCode m c x → vec_len old + code_weight x ≤ vec_capacity old + 3 → IsOk r

@@ -1,17 +1,20 @@
 -- Debug programs whose symbols are numbers: what they denote under a numbering, and what becomes of them when the
 -- numbers change.
-use Rattle.std.specs.Prelude.{◌≡◌, ℕ, ◌+◌, ◌*◌, ◌^◌, ◌<◌, ◌≤◌, List, [], ◌∷◌, ◌++◌, length, map, All, Option, Some, None, option_to_list}
+use Rattle.std.specs.Prelude.{◌≡◌, ℕ, ◌+◌, ◌*◌, ◌^◌, ◌<◌, ◌≤◌, List, [], ◌∷◌, ◌++◌, length, map, All, Option, Some, None, option_to_list, Result}
 use Rattle.std.specs.List.{AllZip, flat_map}
 use Rattle.std.specs.Option.{IsSome}
+use Rattle.std.specs.Global.{Vec}
 use Rattle.dexspec.specs.Lists.{BothOrNone}
 use Rattle.dexspec.specs.Numbers.{plus_one, uleb128, sleb128, uleb128p1}
 use Rattle.dexspec.specs.Texts.{Text}
 use Rattle.dexspec.specs.Mentions.{Mentions}
 use Rattle.dexspec.specs.Debug as symbolic
 use Rattle.dexspec.specs.Weight.{operands}
+use Rattle.dexspec.specs.Spellings.{debug_bytes}
+use Rattle.dexspec.specs.internal.Writing.{Puts}
 use Rattle.dexpool.specs.declared.symbols.SymbolKind.{SymbolKind}
 use Rattle.dexpool.specs.declared.symbols.SymbolKind.TheVariants as kinds
-use Rattle.dexpool.specs.Numberings.{IsAt, Maps, image_of}
+use Rattle.dexpool.specs.Numberings.{IsAt, Maps, image_of, AreRising}
 use Rattle.dexpool.specs.Uses.{Use}
 use Rattle.dexcode.specs.declared.debug_operation.Operation.{Operation}
 use Rattle.dexcode.specs.declared.debug_operation.Operation.TheVariants.{AdvancePc, AdvanceLine, StartLocal, StartLocalExtended, EndLocal, RestartLocal, SetPrologueEnd, SetEpilogueBegin, SetFile, Special}
@@ -52,6 +55,14 @@ pub record DenotesDebug (m : Mentions) (d : NumberedDebug) (x : symbolic.Debug) 
   pub start_is : d.line_start ≡ x.line_start
   pub names_are : AllZip (DenotesText m) d.parameter_names x.parameter_names
   pub operations_are : AllZip (DenotesOperation m) d.operations x.operations
+
+-- it holds of each debug program that the numbers denote under a numbering whose symbols rise
+abbrev pub ForDenotedDebug : NumberedDebug → (Mentions → symbolic.Debug → Type 0) → Type 0
+ForDenotedDebug d P = (m : Mentions) (x : symbolic.Debug) → AreRising m → DenotesDebug m d x → P m x
+
+-- what is put is the debug_info_item of the debug program that the numbers denote
+abbrev pub PutsDenotedDebug : {T E : Type 0} → Mentions → NumberedDebug → Vec ℕ → Vec ℕ → Result T E → Type 0
+PutsDenotedDebug m d old new r = (x : symbolic.Debug) → DenotesDebug m d x → Puts (debug_bytes m x) old new r
 
 -- ---- the numbers in an operation
 

@@ -148,6 +148,10 @@ pub record HasDebugOf (b : List ℕ) (off : ℕ) (m : Mentions) (weight : ℕ) :
   pub at : IsDebugAt b off m debug
   pub weighs : debug_weight (unindexed debug) ≡ weight
 
+-- at the offset is a debug program of the shape's weight
+abbrev pub HasDebugOfShape : List ℕ → ℕ → Mentions → DebugShape → Type 0
+HasDebugOfShape b off m s = HasDebugOf b off m s.weight
+
 -- ---- what is built
 
 -- at offset o are these `count` names

@@ -4,6 +4,7 @@ pub mod Debug
 pub mod DebugEquality
 pub mod DebugReading
 pub mod Equality
+pub mod Laws
 pub mod Meaning
 pub mod Numbered
 pub mod Operations

@@ -6,7 +6,7 @@ use Rattle.std.specs.List.{AllZip}
 use Rattle.dexspec.specs.Lists.{distinct, BothOrNone}
 use Rattle.dexspec.specs.Mentions.{Mentions}
 use Rattle.dexspec.specs.Code as symbolic
-use Rattle.dexpool.specs.Numberings.{IsAt}
+use Rattle.dexpool.specs.Numberings.{IsAt, AreRising}
 use Rattle.dexinsn.specs.Numbered.{NumberedCode, Denote}
 use Rattle.dexcode.specs.Debug.{NumberedDebug, DenotesDebug}
 use Rattle.dexcode.specs.declared.handlers.Catch.{Catch}
@@ -117,3 +117,7 @@ pub record DenotesCode (m : Mentions) (c : NumberedItem) (x : symbolic.Code) : T
   pub pieces_are : Denote m c.body.pieces x.pieces
   pub tries_are : AllZip (DenotesTry m) c.tries x.tries
   pub debug_is : BothOrNone (DenotesDebug m) c.debug x.debug
+
+-- it holds of each code that the numbers denote under a numbering whose symbols rise
+abbrev pub ForDenoted : NumberedItem → (Mentions → symbolic.Code → Type 0) → Type 0
+ForDenoted c P = (m : Mentions) (x : symbolic.Code) → AreRising m → DenotesCode m c x → P m x

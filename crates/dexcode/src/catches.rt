@@ -1,12 +1,11 @@
 //! Handlers read from a file.
 
-ghost use Rattle.std.specs.Prelude.{◌≡◌, ◌<◌, ◌≤◌, ◌+◌, ℕ, ℤ, List, Option, length, nat_abs, IfOk, IfErr, IfSome, IfNone, MatchOption};
-ghost use Rattle.dexspec.specs.Lists.{Sequence};
-ghost use Rattle.dexcode.specs.Numbered.{NumberedHandler};
+ghost use Rattle.std.specs.Prelude.{◌<◌, ◌≤◌, ◌+◌, ℕ, ℤ, Option, length, nat_abs, IfOk, IfErr, IfSome, IfNone};
 ghost use Rattle.dexspec.specs.Numbers.{Uleb128At};
 ghost use Rattle.dexcode.specs.internal.NamedHandlers.{HasHandler, HaveCatches};
 ghost use Rattle.dexcode.specs.Reading.{IsStart, CatchAt, CatchesRead, CatchAllAt, HandlerAt, IsTriesFault};
 ghost use Rattle.dexcode.specs.declared.handlers.Catch.{Catch as Caught};
+ghost use Rattle.dexcode.specs.internal.TriesReading.{NoCatches, NoHandlerAt};
 
 use crate::handlers::{Catch, Handler};
 use dexhead::Condition;
@@ -71,7 +70,8 @@ fn catches_len(
     types: usize,
 ) -> Option<usize>
     requires { at ≤ length bytes.now }
-    ensures { MatchOption result ((cs : List Caught) (n : ℕ) → length cs ≡ count → Sequence (CatchAt starts.now types) bytes.now at cs n → ⊥) (HaveCatches starts.now types bytes.now at count) }
+    ensures none { IfNone result (NoCatches starts.now types bytes.now at count) }
+    ensures some { IfSome result (HaveCatches starts.now types bytes.now at count) }
 {
     let mut size = 0;
     for _ in 0..count {
@@ -94,7 +94,7 @@ fn read_catches(
 ) -> Result<(Vec<Catch>, usize), ItemFault>
     requires { at ≤ length bytes.now }
     ensures catches { IfOk result (λ x. CatchesRead starts.now types bytes.now at count x.0.items x.1) }
-    ensures fault { IfErr result (IsTriesFault ((cs : List Caught) (n : ℕ) → length cs ≡ count → Sequence (CatchAt starts.now types) bytes.now at cs n → ⊥)) }
+    ensures fault { IfErr result (IsTriesFault (NoCatches starts.now types bytes.now at count)) }
 {
     let mut catches = Vec::with_capacity(alloc, count)?;
     let mut size = 0;
@@ -140,7 +140,8 @@ pub(crate) fn handler_len(
     types: usize,
 ) -> Option<usize>
     requires { at ≤ length bytes.now }
-    ensures { MatchOption result ((h : NumberedHandler) (n : ℕ) → HandlerAt starts.now types bytes.now at h n → ⊥) (HasHandler starts.now types bytes.now at) }
+    ensures none { IfNone result (NoHandlerAt starts.now types bytes.now at) }
+    ensures some { IfSome result (HasHandler starts.now types bytes.now at) }
 {
     let (count, count_size) = match read_s(bytes, at) {
         Ok(read) => read,
@@ -169,7 +170,7 @@ pub(crate) fn read_handler(
     requires { at ≤ length bytes.now }
     ensures handler { IfOk result (λ x. HandlerAt starts.now types bytes.now at x.0 x.1) }
     ensures within { IfOk result (λ x. at + x.1 ≤ length bytes.now) }
-    ensures fault { IfErr result (IsTriesFault ((h : NumberedHandler) (n : ℕ) → HandlerAt starts.now types bytes.now at h n → ⊥)) }
+    ensures fault { IfErr result (IsTriesFault (NoHandlerAt starts.now types bytes.now at)) }
 {
     let (count, count_size) = match read_s(bytes, at) {
         Ok(read) => read,

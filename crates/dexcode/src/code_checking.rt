@@ -1,11 +1,11 @@
 //! Code items checked, with nothing kept of them.
 
-ghost use Rattle.std.specs.Prelude.{◌≡◌, ◌^◌, ◌<◌, ◌≤◌, ◌+◌, ◌*◌, length, List, IfOk, IfErr, OnOk};
+ghost use Rattle.std.specs.Prelude.{◌≡◌, ◌^◌, ◌<◌, ◌≤◌, ◌+◌, ◌*◌, length, IfOk, IfErr, OnOk};
 ghost use Rattle.dexspec.specs.Bytes.{uint_at};
 ghost use Rattle.dexpool.specs.Pools.{ArePools};
 ghost use Rattle.dexcode.specs.Checking.{AreCheckedDebugs, HasCodeOf, HasProgramOf, HaveTriesOf, IsProgramFault};
-ghost use Rattle.dexcode.specs.Numbered.{NumberedTry};
-ghost use Rattle.dexcode.specs.Reading.{IsCodeFault, IsTriesFault, TriesAt};
+ghost use Rattle.dexcode.specs.Reading.{IsCodeFault, IsTriesFault};
+ghost use Rattle.dexcode.specs.internal.TriesReading.{HasNoTries};
 
 use crate::checked_debugs::{CheckedDebugs, checked_debug_at};
 use crate::code_laws::code_weight_law;
@@ -34,7 +34,7 @@ fn check_tries(
     requires { off + 16 + 2 * uint_at bytes.now (off + 12) ≤ length bytes.now }
     ensures tries { IfOk result (HaveTriesOf starts.now types bytes.now off) }
     ensures light { IfOk result (λ weight. weight < 2 ^ 20) }
-    ensures fault { IfErr result (IsTriesFault ((ts : List NumberedTry) → TriesAt starts.now types bytes.now off ts → ⊥)) }
+    ensures fault { IfErr result (IsTriesFault (HasNoTries starts.now types bytes.now off)) }
 {
     match read_tries(alloc, bytes, off, starts, types) {
         Ok(tries) => Ok(tries_weight(&tries)),

@@ -1,16 +1,12 @@
 //! The lengths of code items.
 
-ghost use Rattle.std.specs.Prelude.{◌≡◌, ◌+◌, ◌*◌, ◌^◌, ◌<◌, ◌≤◌, ℕ, List, length, option_to_list};
+ghost use Rattle.std.specs.Prelude.{◌≡◌, ◌+◌, ◌*◌, ◌^◌, ◌<◌, ◌≤◌, ℕ, length, option_to_list};
 ghost use Rattle.std.specs.List.{flat_map};
-ghost use Rattle.dexspec.specs.Code as symbolic;
 ghost use Rattle.dexspec.specs.Code.{most_handlers};
-ghost use Rattle.dexspec.specs.Mentions.{Mentions};
 ghost use Rattle.dexspec.specs.Numbers.{uleb128};
-ghost use Rattle.dexspec.specs.Spellings.{code_bytes};
-ghost use Rattle.dexpool.specs.Numberings.{AreRising};
-ghost use Rattle.dexinsn.specs.Numbered.{NumberedCode};
-ghost use Rattle.dexcode.specs.CodePut.{gap_bytes, handler_count, numbered_catch_bytes, numbered_code_bytes, numbered_handler_bytes, numbered_item_bytes, numbered_list_bytes, unit_count};
-ghost use Rattle.dexcode.specs.Numbered.{NumberedHandler, AreStored, DenotesCode, all_named, handlers_weight};
+ghost use Rattle.dexcode.specs.CodePut.{gap_bytes, handler_count, numbered_catch_bytes, numbered_code_bytes, numbered_handler_bytes, numbered_list_bytes, unit_count, IsCodeLen};
+ghost use Rattle.dexcode.specs.Numbered.{handlers_weight};
+ghost use Rattle.dexcode.specs.internal.Writing.{IsPlacedLen};
 
 use crate::code::Code;
 use crate::code_laws::code_bytes_law;
@@ -73,7 +69,7 @@ pub(crate) fn unit_count(pieces: &Pieces<'_>) -> u32
 pub(crate) fn placed_len(units: u32, tries: &[Try], list: usize) -> usize
     requires few { list < 2 ^ 18 }
     requires tries { length tries.now < 2 ^ 16 }
-    ensures { (debug_off : ℕ) (c : NumberedCode) (hs : List NumberedHandler) → AreStored hs tries.now → units ≡ unit_count c → list ≡ length (numbered_list_bytes hs) → result ≡ length (numbered_item_bytes debug_off c (all_named hs tries.now)) }
+    ensures { IsPlacedLen units tries.now list result }
 {
     let front = 16 + 2 * units as usize;
     if tries.is_empty() {
@@ -88,7 +84,7 @@ impl<'a> Code<'a> {
     /// Source: "code_item".
     pub fn item_len(&self) -> usize
         ensures numbered { (debug_off : ℕ) → result ≡ length (numbered_code_bytes debug_off self.now) }
-        ensures symbolic { (m : Mentions) (debug_off : ℕ) (x : symbolic.Code) → AreRising m → DenotesCode m self.now x → result ≡ length (code_bytes m debug_off x) }
+        ensures symbolic { IsCodeLen self.now result }
     {
         code_bytes_law();
         let (items, handlers) = self.tries.parts();

@@ -1,40 +1,32 @@
 //! Laws of numbered code items. Each function does nothing: its contract is the law, for the callers that cite it.
 
-ghost use Rattle.std.specs.Prelude.{◌↔◌, ◌^◌, ◌<◌, ℕ, List, All, Option};
-ghost use Rattle.std.specs.List.{AllZip};
-ghost use Rattle.dexspec.specs.Code as symbolic;
-ghost use Rattle.dexspec.specs.Mentions.{Mentions, closed, code_symbols};
-ghost use Rattle.dexpool.specs.Numberings.{AreRising, AreMarksOf, Maps, AllMapTo, marked};
-ghost use Rattle.dexpool.specs.Laws.{MapsAll};
-ghost use Rattle.dexpool.specs.Orderly.{KeepOrder, MapsDown};
-ghost use Rattle.dexpool.specs.Pools.{count_of};
-ghost use Rattle.dexpool.specs.declared.symbols.SymbolKind.{SymbolKind};
+ghost use Rattle.std.specs.Prelude.{◌↔◌, List, All};
+ghost use Rattle.dexpool.specs.Numberings.{Maps};
 ghost use Rattle.dexpool.specs.declared.marks.Marks.{Marks};
-ghost use Rattle.dexpool.specs.Uses.{Use, HasMark, AreMarkedToo, IsUseOf};
-ghost use Rattle.dexinsn.specs.Fitting.{ImagesFit, IsGreatest, MapsShort, short_strings};
-ghost use Rattle.dexinsn.specs.Numbered.{HasPlace};
+ghost use Rattle.dexpool.specs.Uses.{Use, AreMarkedToo};
 ghost use Rattle.dexcode.specs.Debug.{HasImage};
-ghost use Rattle.dexcode.specs.Numbered.{NumberedItem, DenotesCode};
-ghost use Rattle.dexcode.specs.Renumbering.{item_uses, IsMarkedUse, HasPlaces, HasImages, NumbersFit, renumbered_item};
+ghost use Rattle.dexcode.specs.Numbered.{NumberedItem};
+ghost use Rattle.dexcode.specs.Renumbering.{item_uses, IsMarkedUse, HasPlaces, HasImages};
+ghost use Rattle.dexcode.specs.Laws.{RenumberedCodeDenotes, MappedCodeHasImages, CodeHasPlaces, MarkedUsesHaveImages, CodeFitsMappedDown, CodeFitsWhereGreatestDoes, CodeUsesAreDenoted, CodeUsesHaveMarks};
 
 /// Once renumbered, the code denotes what it denoted before. Numbers that have places have images.
 pub fn code_renumber_law()
-    ensures keeps { (m n : Mentions) (r : Maps) (c : NumberedItem) (x : symbolic.Code) → AllMapTo m n r → HasImages r c → DenotesCode m c x → DenotesCode n (renumbered_item r c) x }
+    ensures keeps { RenumberedCodeDenotes }
     ensures places { (r : Maps) (c : NumberedItem) → HasPlaces r c → HasImages r c }
 {}
 
 /// Where each number of a numbering has an image, those in the code do. They have places in a numbering of less than
 /// 2^32 symbols of each kind, where those of instructions do.
 pub fn code_places_law()
-    ensures images { (m : Mentions) (r : Maps) (c : NumberedItem) (x : symbolic.Code) → MapsAll m r → DenotesCode m c x → HasImages r c }
-    ensures places { (m n : Mentions) (r : Maps) (c : NumberedItem) → AllMapTo m n r → ((kind : SymbolKind) → count_of kind n < 2 ^ 32) → All (HasPlace r) c.body.pieces → HasImages r c → HasPlaces r c }
+    ensures images { MappedCodeHasImages }
+    ensures places { CodeHasPlaces }
 {}
 
 /// Each symbol that a call marks is marked afterwards. Where a numbering keeps just the symbols that are marked, and
 /// those that they name, the number of each has an image. So the numbers in code have images if its symbols are marked.
 pub fn code_kept_law()
     ensures marked { (us : List Use) (old new : Marks) → AreMarkedToo us old new → All (IsMarkedUse new) us }
-    ensures images { (m : Mentions) (marks : Marks) (r : Maps) (us : List Use) → AreMarksOf m marks → AllMapTo m (closed (marked m marks)) r → All (IsMarkedUse marks) us → All (HasImage r) us }
+    ensures images { MarkedUsesHaveImages }
     ensures code { (r : Maps) (c : NumberedItem) → All (HasImage r) (item_uses c) → HasImages r c }
 {}
 
@@ -46,19 +38,19 @@ pub fn code_images_law()
 /// After a cut: where numbers fit their places, as those of all code do ([`Code::numbers_fit`]), and each that occurs
 /// has an image, none of them greater than its number, each image fits the place.
 pub fn code_cut_law()
-    ensures { (r : Maps) (c : NumberedItem) → MapsDown r → NumbersFit c → All (HasImage r) (item_uses c) → HasPlaces r c }
+    ensures { CodeFitsMappedDown }
 {}
 
 /// After a join: where the numbering is not too large, and the image of the greatest short string
 /// ([`Code::greatest_short_string`]) is below 2^16, the image of each number that has one fits its place.
 /// [`joined_places_law`](dexinsn::joined_places_law) says of the maps of a join that they fit.
 pub fn code_joined_law()
-    ensures { (r : Maps) (c : NumberedItem) (greatest : Option ℕ) → KeepOrder r → ImagesFit r → IsGreatest (short_strings c.body.pieces) greatest → MapsShort r greatest → All (HasImage r) (item_uses c) → HasPlaces r c }
+    ensures { CodeFitsWhereGreatestDoes }
 {}
 
 /// Where the symbols rise, those that occur are those of the code that it denotes, one for one and in their order.
 /// Where there is a mark for each symbol, there is one for each that occurs.
 pub fn code_uses_law()
-    ensures uses { (m : Mentions) (c : NumberedItem) (x : symbolic.Code) → AreRising m → DenotesCode m c x → AllZip (IsUseOf m) (item_uses c) (code_symbols x) }
-    ensures marks { (m : Mentions) (marks : Marks) (c : NumberedItem) (x : symbolic.Code) → AreMarksOf m marks → DenotesCode m c x → All (HasMark marks) (item_uses c) }
+    ensures uses { CodeUsesAreDenoted }
+    ensures marks { CodeUsesHaveMarks }
 {}

@@ -1,18 +1,15 @@
 //! Code items written.
 
-ghost use Rattle.std.specs.Prelude.{◌≡◌, ◌++◌, ◌+◌, ◌*◌, ◌^◌, ◌<◌, ◌≤◌, ℕ, All, IsOk, ⊤, length, option_to_list, vec_len, vec_capacity};
+ghost use Rattle.std.specs.Prelude.{◌≡◌, ◌++◌, ◌*◌, ◌^◌, ◌<◌, ◌≤◌, ℕ, All, ⊤, length, option_to_list};
 ghost use Rattle.std.specs.List.{flat_map};
 ghost use Rattle.dexspec.specs.Bytes.{ushort, uint};
-ghost use Rattle.dexspec.specs.Code as symbolic;
 ghost use Rattle.dexspec.specs.Code.{most_handlers};
 ghost use Rattle.dexspec.specs.Numbers.{uleb128};
-ghost use Rattle.dexspec.specs.Spellings.{code_bytes};
-ghost use Rattle.dexspec.specs.Weight.{code_weight};
 ghost use Rattle.dexspec.specs.internal.Writing.{Puts};
 ghost use Rattle.dexinsn.specs.Numbered.{numbered_bytes};
-ghost use Rattle.dexcode.specs.CodePut.{HasShortTypes, AreShort, ArePlaces, gap_bytes, handler_count, numbered_catch_bytes, numbered_handler_bytes, numbered_head_bytes, numbered_item_bytes, numbered_code_bytes, numbered_list_bytes, numbered_table_bytes, numbered_tries_bytes, placed_try_bytes, unit_count};
-ghost use Rattle.dexhead.specs.Pushing.{Pushes, HasRoomFor};
-ghost use Rattle.dexcode.specs.Numbered.{AreStored, DenotesCode, all_named, handlers_of, handlers_weight};
+ghost use Rattle.dexcode.specs.CodePut.{HasShortTypes, AreShort, ArePlaces, gap_bytes, handler_count, numbered_catch_bytes, numbered_handler_bytes, numbered_head_bytes, numbered_item_bytes, numbered_code_bytes, numbered_list_bytes, numbered_table_bytes, numbered_tries_bytes, placed_try_bytes, unit_count, DenotedWeighsMore, IsOkWithRoomForDenoted, PutsDenotedCode};
+ghost use Rattle.dexcode.specs.Numbered.{AreStored, all_named, handlers_of, handlers_weight};
+ghost use Rattle.dexcode.specs.internal.Writing.{PushesWithRoom};
 
 use crate::code::Code;
 use crate::code_laws::{code_bytes_law, code_weight_law};
@@ -176,7 +173,7 @@ fn push_item(
     out: &mut Vec<u8>,
 )
     requires { ArePlaces (handlers_of tries.now) places.now }
-    ensures { HasRoomFor (numbered_item_bytes debug_off pieces.now tries.now) out.old → Pushes (numbered_item_bytes debug_off pieces.now tries.now) out.old out.new }
+    ensures { PushesWithRoom (numbered_item_bytes debug_off pieces.now tries.now) out.old out.new }
 {
     let (items, handlers) = tries.parts();
     encode_head(pieces, items.len() as u16, debug_off, out);
@@ -257,9 +254,9 @@ pub fn put_code(
 ) -> Result<(), AllocError>
     requires { All HasShortTypes (handlers_of code.now.tries) }
     ensures bytes { Puts (numbered_code_bytes debug_off code.now) out.old out.new result }
-    ensures symbolic { (x : symbolic.Code) → DenotesCode numbering.now code.now x → Puts (code_bytes numbering.now debug_off x) out.old out.new result }
-    ensures bound { (x : symbolic.Code) → DenotesCode numbering.now code.now x → length (numbered_code_bytes debug_off code.now) + 3 ≤ code_weight x }
-    ensures room { (x : symbolic.Code) → DenotesCode numbering.now code.now x → vec_len out.old + code_weight x ≤ vec_capacity out.old + 3 → IsOk result }
+    ensures symbolic { PutsDenotedCode numbering.now debug_off code.now out.old out.new result }
+    ensures bound { DenotedWeighsMore numbering.now debug_off code.now }
+    ensures room { IsOkWithRoomForDenoted numbering.now code.now out.old result }
 {
     numbering.is_numbering();
     code_bytes_law();

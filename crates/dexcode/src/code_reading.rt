@@ -1,10 +1,10 @@
 //! Code items read from a file.
 
-ghost use Rattle.std.specs.Prelude.{◌≡◌, ◌≤◌, ◌+◌, ◌*◌, length, List, IfOk, IfErr};
+ghost use Rattle.std.specs.Prelude.{◌≡◌, ◌≤◌, ◌+◌, ◌*◌, length, IfOk, IfErr};
 ghost use Rattle.dexspec.specs.Bytes.{uint_at};
 ghost use Rattle.dexpool.specs.Pools.{ArePools};
-ghost use Rattle.dexcode.specs.Numbered.{NumberedTry};
 ghost use Rattle.dexcode.specs.Reading.{TriesAt, IsTriesFault, IsCodeAt, IsCodeFault};
+ghost use Rattle.dexcode.specs.internal.TriesReading.{HasNoTries};
 
 use crate::boxing::boxed;
 use crate::code::Code;
@@ -26,7 +26,7 @@ pub(crate) fn read_tries(
 ) -> Result<Tries, ItemFault>
     requires { off + 16 + 2 * uint_at bytes.now (off + 12) ≤ length bytes.now }
     ensures tries { IfOk result (TriesAt starts.now types bytes.now off) }
-    ensures fault { IfErr result (IsTriesFault ((ts : List NumberedTry) → TriesAt starts.now types bytes.now off ts → ⊥)) }
+    ensures fault { IfErr result (IsTriesFault (HasNoTries starts.now types bytes.now off)) }
 {
     let count = u16_at(bytes, off + 6);
     if count == 0 {

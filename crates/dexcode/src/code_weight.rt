@@ -2,11 +2,9 @@
 
 ghost use Rattle.std.specs.Prelude.{◌≡◌, ◌<◌, ◌≤◌};
 ghost use Rattle.dexspec.specs.Code as symbolic;
-ghost use Rattle.dexspec.specs.Mentions.{Mentions};
 ghost use Rattle.dexspec.specs.Weight.{code_weight};
-ghost use Rattle.dexpool.specs.Numberings.{AreRising};
 ghost use Rattle.dexcode.specs.CodePut.{numbered_code_weight, numbered_tries_weight};
-ghost use Rattle.dexcode.specs.Numbered.{DenotesCode, handlers_weight};
+ghost use Rattle.dexcode.specs.Numbered.{handlers_weight, ForDenoted};
 
 use crate::code::Code;
 use crate::code_laws::code_weight_law;
@@ -44,7 +42,7 @@ impl<'a> Code<'a> {
     /// that they name and 8 for each of its catches.
     pub fn weight(&self) -> u64
         ensures numbered { result ≡ numbered_code_weight self.now }
-        ensures symbolic { (m : Mentions) (x : symbolic.Code) → AreRising m → DenotesCode m self.now x → result ≡ code_weight x }
+        ensures symbolic { ForDenoted self.now (λ m x. result ≡ code_weight x) }
     {
         code_weight_law();
         24 + 2 * u64::from(unit_count(&self.pieces)) + tries_weight(&self.tries)

@@ -1,8 +1,9 @@
 //! The positions that a debug program records.
 
-ghost use Rattle.std.specs.Prelude.{◌≡◌, ◌∷◌, [], ◌++◌, ◌^◌, ◌<◌, ◌≤◌, ◌≤ℤ◌, ◌+ℤ◌, if◌then◌else◌, pos, All, IfOk, OnOk, length, map};
+ghost use Rattle.std.specs.Prelude.{◌≡◌, ◌^◌, ◌<◌, ◌≤◌, ◌≤ℤ◌, ◌+ℤ◌, pos, All, IfOk, OnOk, length};
 ghost use Rattle.dexspec.specs.Debug as symbolic;
 ghost use Rattle.dexcode.specs.Debug.{unindexed, unindexed_operation, IsSpecial, IsFormedOperation};
+ghost use Rattle.dexcode.specs.internal.Writing.{positions_of, with_position};
 
 use crate::debug::Debug;
 use crate::debug_operation::Operation;
@@ -65,7 +66,7 @@ fn keep(
     address: u64,
     line: i64,
 ) -> Result<(), AllocError>
-    ensures { OnOk result (found.new.items ≡ (if is_recorded then found.old.items ++ (address, line) ∷ [] else found.old.items)) }
+    ensures { OnOk result (found.new.items ≡ with_position is_recorded found.old.items address line) }
 {
     if is_recorded {
         found.push((address, line))?;
@@ -81,7 +82,7 @@ fn positions_from(
 ) -> Result<Vec<(u64, i64)>, AllocError>
     requires few { length operations.now < 2 ^ 30 }
     requires formed { All IsFormedOperation operations.now }
-    ensures { IfOk result (λ found. found.items ≡ symbolic.positions_from 0 (pos line_start) (map unindexed_operation operations.now)) }
+    ensures { IfOk result (λ found. found.items ≡ positions_of line_start operations.now) }
 {
     let mut found = Vec::new(alloc);
     let mut address = 0;

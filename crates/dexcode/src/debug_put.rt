@@ -2,14 +2,11 @@
 
 ghost use Rattle.std.specs.Prelude.{◌≡◌, ◌∷◌, [], ◌++◌, ◌+◌, ◌*◌, ◌^◌, ◌<◌, ◌≤◌, All, OnOk, IsOk, length, vec_len, vec_capacity};
 ghost use Rattle.std.specs.List.{flat_map};
-ghost use Rattle.dexspec.specs.Debug as symbolic;
-ghost use Rattle.dexspec.specs.Mentions.{Mentions};
 ghost use Rattle.dexspec.specs.Numbers.{uleb128, sleb128, uleb128p1};
 ghost use Rattle.dexspec.specs.Spellings.{debug_bytes};
 ghost use Rattle.dexspec.specs.Weight.{debug_weight};
 ghost use Rattle.dexspec.specs.internal.Writing.{Puts};
-ghost use Rattle.dexpool.specs.Numberings.{AreRising};
-ghost use Rattle.dexcode.specs.Debug.{DenotesDebug, FitsIndex, IsFormedOperation, unindexed, numbered_operation_bytes, numbered_debug_bytes};
+ghost use Rattle.dexcode.specs.Debug.{FitsIndex, IsFormedOperation, unindexed, numbered_operation_bytes, numbered_debug_bytes, ForDenotedDebug, PutsDenotedDebug};
 ghost use Rattle.dexhead.specs.Pushing.{HasRoomFor};
 
 use crate::debug::Debug;
@@ -145,7 +142,7 @@ impl Debug {
     /// Source: "debug_info_item".
     pub fn item_len(&self) -> usize
         ensures numbered { result ≡ length (numbered_debug_bytes self.now) }
-        ensures symbolic { (m : Mentions) (x : symbolic.Debug) → AreRising m → DenotesDebug m self.now x → result ≡ length (debug_bytes m x) }
+        ensures symbolic { ForDenotedDebug self.now (λ m x. result ≡ length (debug_bytes m x)) }
     {
         debug_bytes_law();
         let mut count = Count { len: 0 };
@@ -197,7 +194,7 @@ pub fn put_debug(
     out: &mut Vec<u8>,
 ) -> Result<(), AllocError>
     ensures bytes { Puts (numbered_debug_bytes debug.now) out.old out.new result }
-    ensures symbolic { (x : symbolic.Debug) → DenotesDebug numbering.now debug.now x → Puts (debug_bytes numbering.now x) out.old out.new result }
+    ensures symbolic { PutsDenotedDebug numbering.now debug.now out.old out.new result }
     ensures bound { length (numbered_debug_bytes debug.now) ≤ debug_weight (unindexed debug.now) }
     ensures room { vec_len out.old + debug_weight (unindexed debug.now) ≤ vec_capacity out.old → IsOk result }
 {

@@ -1,12 +1,12 @@
 //! Debug programs read from a file.
 
-ghost use Rattle.std.specs.Prelude.{◌≡◌, ◌↔◌, ℕ, ℤ, ◌+◌, ◌^◌, ◌<◌, ◌≤◌, List, Option, Some, IsTrue, IfOk, IfErr, IfSome, MatchOption, length};
+ghost use Rattle.std.specs.Prelude.{◌≡◌, ◌↔◌, ℕ, ℤ, ◌+◌, ◌^◌, ◌<◌, ◌≤◌, Option, Some, IsTrue, IfOk, IfErr, IfSome, MatchOption, length};
 ghost use Rattle.dexspec.specs.Numbers.{Uleb128At, Sleb128At};
 ghost use Rattle.dexpool.specs.Pools.{ArePools};
 ghost use Rattle.dexcode.specs.declared.debug_operation.Operation.{Operation};
 ghost use Rattle.dexcode.specs.declared.debug_reading.Counts.{Counts};
-ghost use Rattle.dexcode.specs.Debug.{NumberedDebug};
-ghost use Rattle.dexcode.specs.DebugReading.{IsDebugAt, IsDebugFault, IndexAt, LocalAt, OperandsAt, NumberedDebugAt, NamesAt, ProgramAt, EndNames, AreTallied, IsShape, HaveNames, AreTheNames, HaveOperations, AreTheOperations, IsShapeAt, HasDebugOf, HasNoDebug, counts_of};
+ghost use Rattle.dexcode.specs.DebugReading.{IsDebugAt, IsDebugFault, IndexAt, LocalAt, OperandsAt, NumberedDebugAt, EndNames, AreTallied, IsShape, HaveNames, AreTheNames, HaveOperations, AreTheOperations, IsShapeAt, counts_of, HasDebugOfShape};
+ghost use Rattle.dexcode.specs.internal.DebugReading.{HasNoDebugIn, IsOnlyLocal, NoNames, NoNumberedDebug, NoProgram};
 
 use crate::debug::Debug;
 use crate::debug_opcodes::{
@@ -121,7 +121,7 @@ fn local_at(
     requires { at ≤ length bytes.now }
     ensures found { IfSome result (λ read. LocalAt counts bytes.now at read.0 read.1 read.2 read.3) }
     ensures within { IfSome result (λ read. at + read.3 ≤ length bytes.now) }
-    ensures only { (register_num : ℕ) (name_idx type_idx : Option ℕ) (n : ℕ) → LocalAt counts bytes.now at register_num name_idx type_idx n → result ≡ Some (register_num, name_idx, type_idx, n) }
+    ensures only { IsOnlyLocal counts bytes.now at result }
 {
     let (register_num, register_len) = number_at(bytes, at)?;
     let (name_idx, name_len) = index_at(bytes, at + register_len, counts.texts)?;
@@ -193,7 +193,7 @@ fn operation_at(bytes: &[u8], at: usize, opcode: u8, counts: Counts) -> Option<(
 // The end of `count` names from an offset on, if they are there.
 fn names_end(bytes: &[u8], from: usize, count: u32, texts: usize) -> Option<usize>
     requires { from ≤ length bytes.now }
-    ensures { MatchOption result ((names : List (Option ℕ)) (n : ℕ) → NamesAt texts bytes.now from count names n → ⊥) (EndNames texts bytes.now from count) }
+    ensures { MatchOption result (NoNames texts bytes.now from count) (EndNames texts bytes.now from count) }
 {
     let mut at = from;
     for _ in 0..count {
@@ -210,7 +210,7 @@ fn check_operations(bytes: &[u8], from: usize, counts: Counts) -> Option<Tally>
     requires within { from ≤ length bytes.now }
     requires following { 0 < from }
     requires small { length bytes.now ≤ 2 ^ 30 }
-    ensures { MatchOption result ((ops : List Operation) → ProgramAt counts bytes.now from ops → ⊥) (AreTallied counts bytes.now from) }
+    ensures { MatchOption result (NoProgram counts bytes.now from) (AreTallied counts bytes.now from) }
 {
     let mut operations = 0;
     let mut named: usize = 0;
@@ -241,7 +241,7 @@ fn check_operations(bytes: &[u8], from: usize, counts: Counts) -> Option<Tally>
 fn check_numbered(bytes: &[u8], at: usize, counts: Counts) -> Option<DebugShape>
     requires within { at ≤ length bytes.now }
     requires small { length bytes.now ≤ 2 ^ 30 }
-    ensures { MatchOption result ((d : NumberedDebug) → NumberedDebugAt counts bytes.now at d → ⊥) (IsShape counts bytes.now at) }
+    ensures { MatchOption result (NoNumberedDebug counts bytes.now at) (IsShape counts bytes.now at) }
 {
     let (line_start, start_len) = match number_at(bytes, at) {
         Some(read) => read,
@@ -351,7 +351,7 @@ fn counts_of(pools: &Pools<'_>) -> Counts
 
 // The shape of the debug_info_item at an offset, if one is there.
 fn shape_at(frame: &Frame<'_>, pools: &Pools<'_>, off: u32) -> Option<DebugShape>
-    ensures { MatchOption result (ArePools frame.now pools.now → HasNoDebug frame.now off) (IsShapeAt frame.now off pools.now) }
+    ensures { MatchOption result (HasNoDebugIn frame.now off pools.now) (IsShapeAt frame.now off pools.now) }
 {
     let bytes = frame.bytes();
     if off < frame.data_off() || bytes.len() < off as usize {
@@ -368,7 +368,7 @@ fn shape_at(frame: &Frame<'_>, pools: &Pools<'_>, off: u32) -> Option<DebugShape
 /// Source: "debug_info_item".
 pub fn check_debug(frame: &Frame<'_>, pools: &Pools<'_>, off: u32) -> Result<DebugShape, ItemFault>
     ensures shape { IfOk result (IsShapeAt frame.now off pools.now) }
-    ensures debug { ArePools frame.now pools.now → IfOk result (λ shape. HasDebugOf frame.now off pools.now shape.weight) }
+    ensures debug { ArePools frame.now pools.now → IfOk result (HasDebugOfShape frame.now off pools.now) }
     ensures refused { ArePools frame.now pools.now → IfErr result (IsDebugFault frame.now off) }
 {
     match shape_at(frame, pools, off) {

@@ -3,6 +3,7 @@
 ghost use Rattle.std.specs.Prelude.{◌≡◌, ◌↔◌, IsTrue, map};
 ghost use Rattle.dexpool.specs.declared.symbols.SymbolKind.TheVariants as kinds;
 ghost use Rattle.dexcode.specs.Debug.{image_or_none, renumbered_operation, renumbered_debug};
+ghost use Rattle.dexcode.specs.internal.Same.{SameRemapped, EqualRemapped};
 
 use crate::debug::Debug;
 use crate::debug_operation::Operation;
@@ -34,7 +35,7 @@ fn eq_remapped(
 
 // Returns whether two operations are equal once remapped.
 fn eq_operations(mine: &Remap, operation: &Operation, theirs: &Remap, other: &Operation) -> bool
-    ensures { IsTrue result ↔ (renumbered_operation mine.now operation.now ≡ renumbered_operation theirs.now other.now) }
+    ensures { IsTrue result ↔ EqualRemapped renumbered_operation mine.now theirs.now operation.now other.now }
 {
     if !operation.unindexed().is_same(&other.unindexed()) {
         return false;
@@ -88,7 +89,7 @@ fn same_operations(
     theirs: &Remap,
     others: &Operations,
 ) -> bool
-    ensures { IsTrue result ↔ (map (renumbered_operation mine.now) operations.now ≡ map (renumbered_operation theirs.now) others.now) }
+    ensures { IsTrue result ↔ SameRemapped renumbered_operation mine.now theirs.now operations.now others.now }
 {
     if operations.len() != others.len() {
         return false;

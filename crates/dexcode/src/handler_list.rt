@@ -1,11 +1,9 @@
 //! Lists of handlers read from a file.
 
-ghost use Rattle.std.specs.Prelude.{◌≡◌, ◌≤◌, ◌+◌, ℕ, List, length, slice_index_or, Option, Some, None, IfOk, IfErr};
-ghost use Rattle.dexspec.specs.Lists.{Sequence};
-ghost use Rattle.dexspec.specs.Numbers.{Uleb128At};
-ghost use Rattle.dexcode.specs.Numbered.{NumberedHandler};
+ghost use Rattle.std.specs.Prelude.{◌≡◌, ◌≤◌, length, slice_index_or, Option, Some, None, IfOk, IfErr};
 ghost use Rattle.dexcode.specs.internal.NamedHandlers.{HasList};
-ghost use Rattle.dexcode.specs.Reading.{HandlerAt, HandlersRead, IsNumberPut, IsTriesFault};
+ghost use Rattle.dexcode.specs.Reading.{IsNumberPut, IsTriesFault};
+ghost use Rattle.dexcode.specs.internal.TriesReading.{HaveHandlers, NoHandlers, NoList};
 
 use crate::catches::handler_len;
 use dexhead::Condition;
@@ -43,8 +41,8 @@ fn read_handlers(
 ) -> Result<Vec<Option<u32>>, ItemFault>
     requires order { list ≤ first }
     requires within { first ≤ length bytes.now }
-    ensures handlers { IfOk result (λ numbers. (hs : List NumberedHandler) × (size : ℕ) × HandlersRead starts.now types bytes.now list first count hs numbers.items size) }
-    ensures fault { IfErr result (IsTriesFault ((hs : List NumberedHandler) (n : ℕ) → length hs ≡ count → Sequence (HandlerAt starts.now types) bytes.now first hs n → ⊥)) }
+    ensures handlers { IfOk result (HaveHandlers starts.now types bytes.now list first count) }
+    ensures fault { IfErr result (IsTriesFault (NoHandlers starts.now types bytes.now first count)) }
 {
     let mut numbers = Vec::new(alloc);
     let mut size = 0;
@@ -71,7 +69,7 @@ pub(crate) fn read_list(
 ) -> Result<Vec<Option<u32>>, ItemFault>
     requires { at ≤ length bytes.now }
     ensures list { IfOk result (λ numbers. HasList starts.now types bytes.now at numbers.items) }
-    ensures fault { IfErr result (IsTriesFault ((hs : List NumberedHandler) (size n : ℕ) → Uleb128At bytes.now at (length hs) size → Sequence (HandlerAt starts.now types) bytes.now (at + size) hs n → ⊥)) }
+    ensures fault { IfErr result (IsTriesFault (NoList starts.now types bytes.now at)) }
 {
     let (count, count_size) = match read_u(bytes, at) {
         Ok(read) => read,

@@ -1,8 +1,8 @@
 //! Code with its tries and handlers, and debug programs.
 //!
 //! Public contracts use the definitions of `specs/Checking`, `specs/CodePut`, `specs/Debug`, `specs/DebugEquality`,
-//! `specs/DebugReading`, `specs/Equality`, `specs/Meaning`, `specs/Numbered`, `specs/Operations`, `specs/Reading` and
-//! `specs/Renumbering`.
+//! `specs/DebugReading`, `specs/Equality`, `specs/Laws`, `specs/Meaning`, `specs/Numbered`, `specs/Operations`,
+//! `specs/Reading` and `specs/Renumbering`.
 //!
 //! Source: the Android page "Dalvik Executable format", under the headings "code_item", "try_item",
 //! "encoded_catch_handler_list", "encoded_catch_handler", "encoded_type_addr_pair" and "debug_info_item".

@@ -1,22 +1,20 @@
 //! Laws of what numbered code means. Each function does nothing: its contract is the law, for the callers that cite it.
 
-ghost use Rattle.std.specs.Prelude.{◌≡◌, ◌↔◌, All};
+ghost use Rattle.std.specs.Prelude.{◌≡◌};
 ghost use Rattle.dexspec.specs.Code as symbolic;
-ghost use Rattle.dexspec.specs.Debug as debugs;
 ghost use Rattle.dexspec.specs.Mentions.{Mentions};
-ghost use Rattle.dexpool.specs.Numberings.{AreRising, Maps, AllMapTo};
-ghost use Rattle.dexcode.specs.Debug.{NumberedDebug, DenotesDebug, debug_uses, HasImage, renumbered_debug};
+ghost use Rattle.dexcode.specs.Debug.{NumberedDebug, DenotesDebug};
 ghost use Rattle.dexcode.specs.Meaning.{code_in, debug_in, IsKnownCode, IsKnownDebug};
 ghost use Rattle.dexcode.specs.Numbered.{NumberedItem, DenotesCode};
-ghost use Rattle.dexcode.specs.Renumbering.{HasImages, renumbered_item};
+ghost use Rattle.dexcode.specs.Laws.{DenotingDebugIsKnown, DenotedDebugIsMeant, RemappedDebugIsMeant, EqualRemappedDebugs, RemappedCodeIsMeant, EqualRemappedCode};
 
 use dexpool::number_law;
 
 /// A numbered debug program denotes a debug program just where its numbers are those of texts and types, and then the
 /// one that has these texts and types for the numbers.
 pub fn debug_meaning_law()
-    ensures known { (m : Mentions) (d : NumberedDebug) (x : debugs.Debug) → DenotesDebug m d x → IsKnownDebug m d }
-    ensures meant { (m : Mentions) (d : NumberedDebug) (x : debugs.Debug) → DenotesDebug m d x → x ≡ debug_in m d }
+    ensures known { DenotingDebugIsKnown }
+    ensures meant { DenotedDebugIsMeant }
     ensures encodes { (m : Mentions) (d : NumberedDebug) → IsKnownDebug m d → DenotesDebug m d (debug_in m d) }
 {}
 
@@ -31,8 +29,8 @@ pub fn code_meaning_law()
 /// Where each number of a debug program has an image, the program denotes the same once renumbered. Debug programs of
 /// two numberings, mapped to a third whose symbols rise, are the same there just where they denote the same.
 pub fn debug_remapped_law()
-    ensures keeps { (m n : Mentions) (r : Maps) (d : NumberedDebug) → AllMapTo m n r → All (HasImage r) (debug_uses d) → IsKnownDebug m d → IsKnownDebug n (renumbered_debug r d) × (debug_in n (renumbered_debug r d) ≡ debug_in m d) }
-    ensures same { (m n whole : Mentions) (r s : Maps) (d e : NumberedDebug) → AreRising whole → AllMapTo m whole r → AllMapTo n whole s → All (HasImage r) (debug_uses d) → All (HasImage s) (debug_uses e) → IsKnownDebug m d → IsKnownDebug n e → (renumbered_debug r d ≡ renumbered_debug s e) ↔ (debug_in m d ≡ debug_in n e) }
+    ensures keeps { RemappedDebugIsMeant }
+    ensures same { EqualRemappedDebugs }
 {
     number_law();
 }
@@ -40,8 +38,8 @@ pub fn debug_remapped_law()
 /// Where each number of code has an image, the code denotes the same once renumbered. Code of two numberings, mapped to
 /// a third whose symbols rise, is the same there just where it denotes the same.
 pub fn code_remapped_law()
-    ensures keeps { (m n : Mentions) (r : Maps) (c : NumberedItem) → AllMapTo m n r → HasImages r c → IsKnownCode m c → IsKnownCode n (renumbered_item r c) × (code_in n (renumbered_item r c) ≡ code_in m c) }
-    ensures same { (m n whole : Mentions) (r s : Maps) (c d : NumberedItem) → AreRising whole → AllMapTo m whole r → AllMapTo n whole s → HasImages r c → HasImages s d → IsKnownCode m c → IsKnownCode n d → (renumbered_item r c ≡ renumbered_item s d) ↔ (code_in m c ≡ code_in n d) }
+    ensures keeps { RemappedCodeIsMeant }
+    ensures same { EqualRemappedCode }
 {
     number_law();
 }

@@ -4,6 +4,7 @@ ghost use Rattle.std.specs.Prelude.{◌≡◌, ◌+◌, ◌≤◌, length, slice
 ghost use Rattle.dexcode.specs.Numbered.{NumberedHandler};
 ghost use Rattle.dexcode.specs.internal.NamedHandlers.{AreKnown, IsHandlerAt, IsNumberOf, IsPutAt};
 ghost use Rattle.dexcode.specs.Reading.{IsTriesFault};
+ghost use Rattle.dexcode.specs.internal.TriesReading.{HasNoHandler};
 
 use crate::catches::read_handler;
 use crate::handlers::Handler;
@@ -48,7 +49,7 @@ pub(crate) fn number_of(
 ) -> Result<usize, ItemFault>
     requires { list + off ≤ length bytes.now }
     ensures number { (h : NumberedHandler) → IsHandlerAt starts.now types bytes.now (list + off) h → AreKnown starts.now types bytes.now list handlers.old.keys numbers.old.items → IfOk result (IsNumberOf starts.now types bytes.now list h handlers.old.keys handlers.new.keys numbers.new.items) }
-    ensures fault { IfErr result (IsTriesFault ((h : NumberedHandler) → IsHandlerAt starts.now types bytes.now (list + off) h → ⊥)) }
+    ensures fault { IfErr result (IsTriesFault (HasNoHandler starts.now types bytes.now (list + off))) }
 {
     if let Some(number) = number_at(numbers, off) {
         return Ok(number);

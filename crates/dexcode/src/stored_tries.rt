@@ -1,10 +1,11 @@
 //! Tries and the handlers that they name, as they are stored.
 
-ghost use Rattle.std.specs.Prelude.{◌≡◌, ◌↔◌, ◌^◌, ◌<◌, ◌≤◌, ◌+◌, ◌*◌, IsTrue, List, All, length, IfOk, IfErr, IfSome, IfNone};
+ghost use Rattle.std.specs.Prelude.{◌≡◌, ◌↔◌, ◌^◌, ◌<◌, ◌≤◌, ◌+◌, ◌*◌, IsTrue, List, All, length, IfOk, IfErr, IfSome};
 ghost use Rattle.dexspec.specs.Code.{most_handlers};
-ghost use Rattle.dexcode.specs.Numbered.{NumberedHandler, AreStored, all_named, handlers_of, handlers_weight};
-ghost use Rattle.dexcode.specs.internal.NamedHandlers.{AreListed, HaveListed};
+ghost use Rattle.dexcode.specs.Numbered.{AreStored, all_named, handlers_weight};
+ghost use Rattle.dexcode.specs.internal.NamedHandlers.{HaveListed};
 ghost use Rattle.dexcode.specs.Reading.{IsTriesFault};
+ghost use Rattle.dexcode.specs.internal.TriesReading.{HaveLightHandlers, IsFoundNamed, IsMissedHeavy};
 
 use crate::handlers::Handler;
 use crate::named_handlers::number_of;
@@ -77,9 +78,9 @@ impl StoredTries {
         requires listed { HaveListed starts.now types bytes.now at list tries.now }
         requires room { at + 8 * length tries.now ≤ length bytes.now }
         requires few { length tries.now < 2 ^ 16 }
-        ensures some { (all : List NumberedHandler) → AreListed starts.now types bytes.now at list all tries.now → IfOk result (λ found. IfSome found (λ some. some ≡ all_named all tries.now)) }
-        ensures light { IfOk result (λ found. IfSome found (λ some. handlers_weight (handlers_of some) ≤ most_handlers)) }
-        ensures heavy { (all : List NumberedHandler) → AreListed starts.now types bytes.now at list all tries.now → IfOk result (λ found. IfNone found (most_handlers < handlers_weight (handlers_of (all_named all tries.now)))) }
+        ensures some { IsFoundNamed starts.now types bytes.now at list tries.now result }
+        ensures light { IfOk result (λ found. IfSome found HaveLightHandlers) }
+        ensures heavy { IsMissedHeavy starts.now types bytes.now at list tries.now result }
         ensures fault { IfErr result (IsTriesFault ⊥) }
     {
         let mut numbers = Vec::new(alloc);

@@ -1,8 +1,8 @@
 //! Whether tries mean the same.
 
-ghost use Rattle.std.specs.Prelude.{◌≡◌, ◌↔◌, ℕ, ◌<◌, IsTrue, All, length, map, slice_index_or};
-ghost use Rattle.dexcode.specs.Numbered.{no_handler};
-ghost use Rattle.dexcode.specs.Renumbering.{remapped_type, remapped_try, renumbered_catch, renumbered_handler, renumbered_try};
+ghost use Rattle.std.specs.Prelude.{◌≡◌, ◌↔◌, ◌<◌, IsTrue, All, length};
+ghost use Rattle.dexcode.specs.Renumbering.{remapped_type, renumbered_catch, renumbered_handler, renumbered_try};
+ghost use Rattle.dexcode.specs.internal.Same.{SameRemapped, AreCompared, EqualRemapped, EqualTries, SameTries};
 
 use crate::handlers::{Catch, Handler};
 use crate::tries::{Tries, Try};
@@ -28,7 +28,7 @@ fn same_catch(mine: &Remap, catch: Catch, theirs: &Remap, other: Catch) -> bool
 
 // Whether the catches are equal, one for one, once their types are remapped.
 fn same_catches(mine: &Remap, catches: &[Catch], theirs: &Remap, others: &[Catch]) -> bool
-    ensures { IsTrue result ↔ (map (renumbered_catch mine.now) catches.now ≡ map (renumbered_catch theirs.now) others.now) }
+    ensures { IsTrue result ↔ SameRemapped renumbered_catch mine.now theirs.now catches.now others.now }
 {
     if catches.len() != others.len() {
         return false;
@@ -43,7 +43,7 @@ fn same_catches(mine: &Remap, catches: &[Catch], theirs: &Remap, others: &[Catch
 
 // Whether the handlers are equal once their types are remapped.
 fn same_handler(mine: &Remap, handler: &Handler, theirs: &Remap, other: &Handler) -> bool
-    ensures { IsTrue result ↔ (renumbered_handler mine.now handler.now ≡ renumbered_handler theirs.now other.now) }
+    ensures { IsTrue result ↔ EqualRemapped renumbered_handler mine.now theirs.now handler.now other.now }
 {
     if handler.catch_all_addr != other.catch_all_addr {
         return false;
@@ -64,8 +64,8 @@ fn same_try(
 ) -> bool
     requires within { item.handler < length handlers.now }
     requires others { other.handler < length others.now }
-    requires known { (k : ℕ) → k < compared → renumbered_handler mine.now (slice_index_or handlers.now k no_handler) ≡ renumbered_handler theirs.now (slice_index_or others.now k no_handler) }
-    ensures { IsTrue result ↔ (remapped_try mine.now handlers.now item ≡ remapped_try theirs.now others.now other) }
+    requires known { AreCompared mine.now theirs.now handlers.now others.now compared }
+    ensures { IsTrue result ↔ EqualTries mine.now handlers.now item theirs.now others.now other }
 {
     if item.start_addr != other.start_addr {
         return false;
@@ -96,7 +96,7 @@ fn same_tries(
 ) -> bool
     requires within { All (λ t. t.handler < length handlers.now) tries.now }
     requires others { All (λ t. t.handler < length other_handlers.now) others.now }
-    ensures { IsTrue result ↔ (map (remapped_try mine.now handlers.now) tries.now ≡ map (remapped_try theirs.now other_handlers.now) others.now) }
+    ensures { IsTrue result ↔ SameTries mine.now handlers.now tries.now theirs.now other_handlers.now others.now }
 {
     if tries.len() != others.len() {
         return false;
@@ -125,7 +125,7 @@ fn same_tries(
 impl Tries {
     // Whether these and other tries are equal once the types of each are remapped by a map of its own.
     pub(crate) fn same_mapped(&self, mine: &Remap, other: &Tries, theirs: &Remap) -> bool
-        ensures { IsTrue result ↔ (map (renumbered_try mine.now) self.now ≡ map (renumbered_try theirs.now) other.now) }
+        ensures { IsTrue result ↔ SameRemapped renumbered_try mine.now theirs.now self.now other.now }
     {
         let (tries, handlers) = self.parts();
         let (others, other_handlers) = other.parts();

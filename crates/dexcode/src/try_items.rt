@@ -1,9 +1,9 @@
 //! Tries read from a file.
 
-ghost use Rattle.std.specs.Prelude.{◌≡◌, ◌≤◌, ◌+◌, ◌*◌, ℕ, List, length, IfOk, IfErr, IfSome, IfNone};
-ghost use Rattle.dexspec.specs.Lists.{Sequence};
-ghost use Rattle.dexcode.specs.Reading.{ListedTryAt, AreApartFrom, TriesRead, IsTriesFault};
+ghost use Rattle.std.specs.Prelude.{◌≤◌, ◌+◌, ◌*◌, ℕ, length, IfOk, IfErr, IfSome, IfNone};
+ghost use Rattle.dexcode.specs.Reading.{ListedTryAt, IsTriesFault};
 ghost use Rattle.dexcode.specs.declared.tries.Try.{Try as Meant};
+ghost use Rattle.dexcode.specs.internal.TriesReading.{AreTriesRead, NoTries};
 
 use crate::handler_list::handler_at;
 use crate::tries::Try;
@@ -46,8 +46,8 @@ pub(crate) fn read_try_items(
     numbers: &[Option<u32>],
 ) -> Result<Vec<Try>, ItemFault>
     requires { at + 8 * count ≤ length bytes.now }
-    ensures tries { IfOk result (λ tries. (to : ℕ) × TriesRead units numbers.now bytes.now at count tries.items to) }
-    ensures fault { IfErr result (IsTriesFault ((ts : List Meant) (n to : ℕ) → length ts ≡ count → Sequence (ListedTryAt units numbers.now) bytes.now at ts n → AreApartFrom 0 ts to → ⊥)) }
+    ensures tries { IfOk result (λ tries. AreTriesRead units numbers.now bytes.now at count tries.items) }
+    ensures fault { IfErr result (IsTriesFault (NoTries units numbers.now bytes.now at count)) }
 {
     let mut tries = Vec::with_capacity(alloc, usize::from(count))?;
     let mut place = at;

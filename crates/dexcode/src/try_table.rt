@@ -1,8 +1,8 @@
 //! The tries of a code_item with the list of their handlers, read from a file.
 
-ghost use Rattle.std.specs.Prelude.{◌≤◌, List, length, IfOk, IfErr};
-ghost use Rattle.dexcode.specs.Numbered.{NumberedTry};
+ghost use Rattle.std.specs.Prelude.{◌≤◌, length, IfOk, IfErr};
 ghost use Rattle.dexcode.specs.Reading.{TryItemsAt, IsTriesFault};
+ghost use Rattle.dexcode.specs.internal.TriesReading.{NoTryItems};
 
 use crate::handler_list::read_list;
 use crate::stored_tries::StoredTries;
@@ -25,7 +25,7 @@ pub(crate) fn read_try_table(
 ) -> Result<Tries, ItemFault>
     requires { at ≤ length bytes.now }
     ensures tries { IfOk result (λ tries. TryItemsAt starts.now types units bytes.now at count tries) }
-    ensures fault { IfErr result (IsTriesFault ((ts : List NumberedTry) → TryItemsAt starts.now types units bytes.now at count ts → ⊥)) }
+    ensures fault { IfErr result (IsTriesFault (NoTryItems starts.now types units bytes.now at count)) }
 {
     let size = 8 * usize::from(count);
     if bytes.len() - at <= size {

@@ -5,8 +5,8 @@ use Rattle.dexcode.proofs.OneHandler.{one_catch}
 use Rattle.dexcode.proofs.HandlersRead.{one_catch_more}
 use Rattle.dexcode.proofs.catches.catches_len.Goals as goal
 
-pub returns-in-None : goal.returns-in-None
-returns-in-None c = λ cs n many h.
+pub returns-in-None-clause-none : goal.returns-in-None-clause-none
+returns-in-None-clause-none c = λ cs n many h.
     let read = c.loop.invariant.read in
     stuck (CatchAt c.args.starts.now c.args.types) (one_catch c.args.starts.now c.args.types) c.args.bytes.now c.args.at c.loop.invariant.catches cs c.loop.size n (omega (arith, many, read.many, c.loop-test.true)) read.are_encoded c.in-None.ensures.none h
 

@@ -5,22 +5,22 @@ use Rattle.dexcode.specs.Reading.{CatchAllAt}
 use Rattle.dexcode.proofs.HandlersRead.{no_catches, no_catch_all}
 use Rattle.dexcode.proofs.catches.handler_len.Goals as goal
 
-pub returns-in-None : goal.returns-in-None
-returns-in-None c =
-    no_catches c.args.starts.now c.args.types c.args.bytes.now c.args.at c.in-Ok.read.0 c.in-Ok.read.1 c.in-Ok.ensures.found c.unsigned_abs-many.result (c.unsigned_abs-many.ensures.value ∙ ap nat_abs (to_z-of_z w32 c.in-Ok.read.0 c.in-Ok.ensures.found.spelled.in_range)) c.in-None.ensures
+pub returns-in-None-clause-none : goal.returns-in-None-clause-none
+returns-in-None-clause-none c =
+    no_catches c.args.starts.now c.args.types c.args.bytes.now c.args.at c.in-Ok.read.0 c.in-Ok.read.1 c.in-Ok.ensures.found c.unsigned_abs-many.result (c.unsigned_abs-many.ensures.value ∙ ap nat_abs (to_z-of_z w32 c.in-Ok.read.0 c.in-Ok.ensures.found.spelled.in_range)) c.in-None.ensures.none
 
-pub returns-in-None-read_catch_all : goal.returns-in-None-read_catch_all
-returns-in-None-read_catch_all c =
+pub returns-in-None-read_catch_all-clause-none : goal.returns-in-None-read_catch_all-clause-none
+returns-in-None-read_catch_all-clause-none c =
     let same = to_z-of_z w32 c.in-Ok.read.0 c.in-Ok.ensures.found.spelled.in_range in
-    no_catch_all c.args.starts.now c.args.types c.args.bytes.now c.args.at c.in-Ok.read.0 c.in-Ok.read.1 c.in-Ok.ensures.found c.unsigned_abs-many.result (c.unsigned_abs-many.ensures.value ∙ ap nat_abs same) c.in-Some.ensures.catches c.in-Some.size c.in-Some.ensures.read
+    no_catch_all c.args.starts.now c.args.types c.args.bytes.now c.args.at c.in-Ok.read.0 c.in-Ok.read.1 c.in-Ok.ensures.found c.unsigned_abs-many.result (c.unsigned_abs-many.ensures.value ∙ ap nat_abs same) c.in-Some.ensures.some.catches c.in-Some.size c.in-Some.ensures.some.read
     (λ a n there. c.in-None-read_catch_all.ensures.none a n (subst (λ z. CatchAllAt c.args.starts.now z c.args.bytes.now (c.args.at + c.in-Ok.read.1 + c.in-Some.size) a n) (sym same) there))
 
-pub returns-in-Some-read_catch_all : goal.returns-in-Some-read_catch_all
-returns-in-Some-read_catch_all c =
+pub returns-in-Some-read_catch_all-clause-some : goal.returns-in-Some-read_catch_all-clause-some
+returns-in-Some-read_catch_all-clause-some c =
     let same = to_z-of_z w32 c.in-Ok.read.0 c.in-Ok.ensures.found.spelled.in_range in
-    let read = c.in-Some.ensures.read in
+    let read = c.in-Some.ensures.some.read in
     record {
-      handler = record { catches = c.in-Some.ensures.catches; catch_all_addr = c.in-Some-read_catch_all.field-0-0 };
+      handler = record { catches = c.in-Some.ensures.some.catches; catch_all_addr = c.in-Some-read_catch_all.field-0-0 };
       encodes = record {
         count = c.in-Ok.read.0;
         count_size = c.in-Ok.read.1;

@@ -5,8 +5,9 @@ use Rattle.dexcode.specs.Numbered.{all_named, handlers_of, handlers_weight}
 use Rattle.dexcode.specs.internal.NamedHandlers.{HasList}
 use Rattle.dexcode.specs.Reading.{TriesRead, TryItemsAt, IsTriesFault}
 use Rattle.dexcode.proofs.HandlersRead.{fault_so}
-use Rattle.dexcode.proofs.TryTables.{NoTries, found_tries, found_listed, no_tries, too_heavy}
+use Rattle.dexcode.proofs.TryTables.{found_tries, found_listed, no_tries, too_heavy}
 use Rattle.dexcode.proofs.try_table.read_try_table.Goals as goal
+use Rattle.dexcode.specs.internal.TriesReading.{NoTries}
 
 pub returns-in_err-items-clause-fault : goal.returns-in_err-items-clause-fault
 returns-in_err-items-clause-fault c =

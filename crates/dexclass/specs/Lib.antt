@@ -4,4 +4,5 @@ pub mod Uses
 pub mod Renumbering
 pub mod Parents
 pub mod Programs
+pub mod Laws
 pub mod internal

@@ -15,6 +15,10 @@ use Rattle.dexclass.specs.Uses.{class_uses, IsKnownClass}
 abbrev pub remapped : List (Option ℕ) → ℕ → ℕ
 remapped images i = unwrap_or (image images i) i
 
+-- numbers of types, each remapped
+abbrev pub remapped_types : Maps → List ℕ → List ℕ
+remapped_types r numbers = map (remapped r.types) numbers
+
 -- the class with each number remapped
 abbrev pub renumbered : Maps → NumberedClass → NumberedClass
 renumbered r c = record {

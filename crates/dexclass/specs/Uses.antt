@@ -30,6 +30,10 @@ text_use i = record { kind = kinds.Text; number = i }
 abbrev pub class_uses : NumberedClass → List Use
 class_uses c = map type_use (type_numbers c) ++ (map text_use (text_numbers c) ++ members_uses c.members)
 
+-- what the class's definition weighs without the symbols that it mentions, or 2 ^ 64 - 1 where that is more
+abbrev pub class_weight : Mentions → NumberedClass → ℕ
+class_weight m c = min (2 ^ 64 - 1) (body_weight (definition_of m c).1)
+
 -- the class's numbers are those of symbols, it declares members of its own, in order, and has its weight, or 2 ^ 64 - 1 where
 -- that is more
 pub record IsKnownClass (m : Mentions) (c : NumberedClass) : Type 0 where
@@ -38,7 +42,7 @@ pub record IsKnownClass (m : Mentions) (c : NumberedClass) : Type 0 where
   pub members_known : AreKnownMembers m c.members
   pub members_ordered : AreOrdered c.members
   pub members_own : AreOfClass m (type_at m c.name) c.members
-  pub weighed : c.weight ≡ min (2 ^ 64 - 1) (body_weight (definition_of m c).1)
+  pub weighed : c.weight ≡ class_weight m c
 
 -- just what occurs is marked
 abbrev pub HaveMarked : List Use → Marks → Type 0

@@ -1,8 +1,9 @@
 //! Classes put into another order.
 
-ghost use Rattle.std.specs.Prelude.{◌≡◌, ◌<◌, All, IfOk, length, map, slice_index_or};
+ghost use Rattle.std.specs.Prelude.{◌≡◌, ◌<◌, All, IfOk, length};
 ghost use Rattle.dexspec.specs.Lists.{AreDistinct};
 ghost use Rattle.dexclass.specs.Parents.{no_class};
+ghost use Rattle.dexclass.specs.internal.Ordered.{classes_at};
 
 use crate::classes::Class;
 use dexmembers::Members;
@@ -34,7 +35,7 @@ pub(crate) fn arrange<'a>(
 ) -> Result<Vec<Class<'a>>, AllocError>
     requires within { All (λ i. i < length classes.old.items) order.now }
     requires distinct { AreDistinct order.now }
-    ensures { IfOk result (λ arranged. arranged.items ≡ map (λ i. slice_index_or classes.old.items i no_class) order.now) }
+    ensures { IfOk result (λ arranged. arranged.items ≡ classes_at classes.old.items order.now) }
 {
     let mut arranged = Vec::with_capacity(alloc, order.len())?;
     for k in 0..order.len() {

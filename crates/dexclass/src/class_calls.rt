@@ -1,12 +1,10 @@
 //! What a class weighs, copies of classes, and classes of two numberings that are the same.
 
-ghost use Rattle.std.specs.Prelude.{◌≡◌, ◌↔◌, ◌-◌, ◌^◌, min, map, IfOk, IsTrue};
+ghost use Rattle.std.specs.Prelude.{◌≡◌, ◌↔◌, IfOk, IsTrue};
 ghost use Rattle.dexspec.specs.Mentions.{Mentions};
-ghost use Rattle.dexspec.specs.Weight.{body_weight};
 ghost use Rattle.dexpool.specs.Numberings.{AreRising};
-ghost use Rattle.dexclass.specs.Numbered.{definition_of};
-ghost use Rattle.dexclass.specs.Uses.{IsKnownClass};
-ghost use Rattle.dexclass.specs.Renumbering.{remapped, renumbered};
+ghost use Rattle.dexclass.specs.Uses.{IsKnownClass, class_weight};
+ghost use Rattle.dexclass.specs.Renumbering.{renumbered, remapped_types};
 
 use crate::classes::Class;
 use crate::renumbering::{optional_text_number, optional_type_number, type_number};
@@ -19,7 +17,7 @@ impl<'a> Class<'a> {
     /// Source: "class_def_item" and "type_list", and what [`dexmembers::Members::weight`] names, the sizes of their fields; the
     /// weight is this project's rule.
     pub fn weight(&self) -> u64
-        ensures { (m : Mentions) → AreRising m → IsKnownClass m self.now → result ≡ min (2 ^ 64 - 1) (body_weight (definition_of m self.now).1) }
+        ensures { (m : Mentions) → AreRising m → IsKnownClass m self.now → result ≡ class_weight m self.now }
     {
         self.weight
     }
@@ -71,7 +69,7 @@ impl<'a> Class<'a> {
 
 // Whether two lists of types are mapped to the same numbers.
 fn eq_mapped(mine: &Remap, numbers: &[usize], theirs: &Remap, others: &[usize]) -> bool
-    ensures { IsTrue result ↔ (map (remapped mine.now.types) numbers.now ≡ map (remapped theirs.now.types) others.now) }
+    ensures { IsTrue result ↔ (remapped_types mine.now numbers.now ≡ remapped_types theirs.now others.now) }
 {
     if numbers.len() != others.len() {
         return false;

@@ -1,13 +1,13 @@
 //! Checks of class rows: condition 16.
 
-ghost use Rattle.std.specs.Prelude.{◌≡◌, ◌≢◌, ◌↔◌, ◌+◌, ◌<◌, IsTrue, IfErr, OnOk, List, ℕ, All};
+ghost use Rattle.std.specs.Prelude.{◌≡◌, ◌≢◌, ◌↔◌, ◌+◌, ◌<◌, IsTrue, IfErr, OnOk, List, ℕ};
 ghost use Rattle.dexspec.specs.Header.{ClassDefs, TypeIds, table_size};
 ghost use Rattle.dexspec.specs.Accepted.{HasClass, HoldBelow, IsDefinedBefore};
-ghost use Rattle.dexspec.specs.Rows.{type_indices};
 ghost use Rattle.dexpool.specs.Pools.{ArePools};
 ghost use Rattle.dexpool.specs.Reading.{HasRoom};
 ghost use Rattle.dexmembers.specs.ClassDefs.{IsClassDef};
-ghost use Rattle.dexclass.specs.internal.Rows.{IsKnown, IsClassFault, AreDefinedMarks, IsClassIndex, IsParentIndex, IsSourceIndex, IsInterfaceIndex, superclass_indices, HasInterfaces};
+ghost use Rattle.dexclass.specs.internal.Rows.{IsKnown, IsClassFault, AreDefinedMarks, IsClassIndex, IsParentIndex, IsSourceIndex, HasInterfaces};
+ghost use Rattle.dexclass.specs.internal.Checked.{AreSeen, IsInterface, AreListedInterfaces, IsParentBefore};
 
 use crate::class_types::{class_types, defined, mark, no_marks};
 use crate::classes::NO_INDEX;
@@ -57,7 +57,7 @@ impl<'j, 'a> KnownFile<'j, 'a> {
         requires known { IsKnown self.now.frame.now self.now.pools.now self.now.class_types.now self.now.defined.now }
         requires index { index < table_size self.now.frame.now TypeIds }
         requires seen { (r : ℕ) × AreDefinedMarks self.now.frame.now r seen.now }
-        ensures { (r : ℕ) → AreDefinedMarks self.now.frame.now r seen.now → IsTrue result ↔ IsDefinedBefore self.now.frame.now r index }
+        ensures { (r : ℕ) → AreSeen self.now r seen.now → IsTrue result ↔ IsDefinedBefore self.now.frame.now r index }
     {
         !self.defined[index as usize] || seen[index as usize]
     }
@@ -68,7 +68,7 @@ impl<'j, 'a> KnownFile<'j, 'a> {
     fn is_interface(&self, seen: &[bool], index: u32) -> bool
         requires known { IsKnown self.now.frame.now self.now.pools.now self.now.class_types.now self.now.defined.now }
         requires seen { (r : ℕ) × AreDefinedMarks self.now.frame.now r seen.now }
-        ensures { (r : ℕ) → AreDefinedMarks self.now.frame.now r seen.now → IsTrue result ↔ IsInterfaceIndex self.now.frame.now r index }
+        ensures { (r : ℕ) → AreSeen self.now r seen.now → IsTrue result ↔ IsInterface self.now r index }
     {
         self.is_class(index) && self.is_before(seen, index)
     }
@@ -78,7 +78,7 @@ impl<'j, 'a> KnownFile<'j, 'a> {
         requires known { IsKnown self.now.frame.now self.now.pools.now self.now.class_types.now self.now.defined.now }
         requires seen { (r : ℕ) × AreDefinedMarks self.now.frame.now r seen.now }
         requires room { HasRoom self.now.frame.now off count }
-        ensures { (r : ℕ) → AreDefinedMarks self.now.frame.now r seen.now → IsTrue result ↔ All (IsInterfaceIndex self.now.frame.now r) (type_indices self.now.frame.now off) }
+        ensures { (r : ℕ) → AreSeen self.now r seen.now → IsTrue result ↔ AreListedInterfaces self.now r off }
     {
         let list = self.frame.rest(off);
         for k in 0..count {
@@ -94,7 +94,7 @@ impl<'j, 'a> KnownFile<'j, 'a> {
     fn has_interfaces(&self, seen: &[bool], off: u32) -> bool
         requires known { IsKnown self.now.frame.now self.now.pools.now self.now.class_types.now self.now.defined.now }
         requires seen { (r : ℕ) × AreDefinedMarks self.now.frame.now r seen.now }
-        ensures { (r : ℕ) → AreDefinedMarks self.now.frame.now r seen.now → IsTrue result ↔ HasInterfaces self.now.frame.now r off }
+        ensures { (r : ℕ) → AreSeen self.now r seen.now → IsTrue result ↔ HasInterfaces self.now.frame.now r off }
     {
         if off == 0 {
             return true;
@@ -110,7 +110,7 @@ impl<'j, 'a> KnownFile<'j, 'a> {
         requires known { IsKnown self.now.frame.now self.now.pools.now self.now.class_types.now self.now.defined.now }
         requires seen { (r : ℕ) × AreDefinedMarks self.now.frame.now r seen.now }
         requires index { IsParentIndex self.now.frame.now index }
-        ensures { (r : ℕ) → AreDefinedMarks self.now.frame.now r seen.now → IsTrue result ↔ All (IsDefinedBefore self.now.frame.now r) (superclass_indices index) }
+        ensures { (r : ℕ) → AreSeen self.now r seen.now → IsTrue result ↔ IsParentBefore self.now r index }
     {
         index == NO_INDEX || self.is_before(seen, index)
     }
@@ -119,7 +119,7 @@ impl<'j, 'a> KnownFile<'j, 'a> {
     fn holds(&self, seen: &[bool], row: &ClassDef) -> bool
         requires known { IsKnown self.now.frame.now self.now.pools.now self.now.class_types.now self.now.defined.now }
         requires seen { (r : ℕ) × AreDefinedMarks self.now.frame.now r seen.now }
-        ensures { (r : ℕ) → AreDefinedMarks self.now.frame.now r seen.now → IsClassDef self.now.frame.now r row.now → IsTrue result ↔ HasClass self.now.frame.now r }
+        ensures { (r : ℕ) → AreSeen self.now r seen.now → IsClassDef self.now.frame.now r row.now → IsTrue result ↔ HasClass self.now.frame.now r }
     {
         if !self.is_class(row.class_idx) {
             return false;

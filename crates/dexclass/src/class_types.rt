@@ -1,11 +1,11 @@
 //! Which types are classes, and which of them a file defines.
 
-ghost use Rattle.std.specs.Prelude.{◌≡◌, ◌↔◌, ◌+◌, ℕ, List, IsTrue, IfOk};
-ghost use Rattle.dexspec.specs.Classes.{class_idx};
+ghost use Rattle.std.specs.Prelude.{◌↔◌, IsTrue, IfOk};
 ghost use Rattle.dexspec.specs.Names.{IsClass};
 ghost use Rattle.dexspec.specs.Header.{ClassDefs, TypeIds, table_size};
 ghost use Rattle.dexpool.specs.Pools.{ArePools};
 ghost use Rattle.dexclass.specs.internal.Rows.{AreClassTests, AreDefinedMarks};
+ghost use Rattle.dexclass.specs.internal.Checked.{MarksClass};
 
 use dexhead::{Frame, Table};
 use dexmembers::ClassDef;
@@ -48,7 +48,7 @@ pub(crate) fn no_marks(alloc: Global, frame: &Frame<'_>) -> Result<Vec<bool>, Al
 
 /// Marks the type of a class row, if there is such a type.
 pub(crate) fn mark(index: u32, marks: &mut Vec<bool>)
-    ensures { (b : List ℕ) (r : ℕ) → class_idx b r ≡ index → AreDefinedMarks b r marks.old.items → AreDefinedMarks b (r + 1) marks.new.items }
+    ensures { MarksClass index marks.old.items marks.new.items }
 {
     let class = index as usize;
     if class < marks.len() {

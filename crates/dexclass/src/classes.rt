@@ -3,7 +3,7 @@
 ghost use Rattle.std.specs.Prelude.{◌≡◌, ℕ, length, IfOk};
 ghost use Rattle.dexmembers.specs.ClassDefs.{IsClassDef};
 ghost use Rattle.dexclass.specs.internal.Rows.{interface_indices, HasInterfaceList};
-ghost use Rattle.dexclass.specs.Numbered.{number_of, class_of_row};
+ghost use Rattle.dexclass.specs.Numbered.{number_of, IsOfRow};
 
 use dexflags::ClassFlags;
 use dexhead::{Frame, u16_at};
@@ -177,7 +177,7 @@ pub(crate) fn class_at<'a>(
 ) -> Result<Class<'a>, AllocError>
     requires list { HasInterfaceList frame.now row.now.interfaces_off }
     requires interfaces { interfaces ≡ length (interface_indices frame.now row.now.interfaces_off) }
-    ensures { (r : ℕ) → IsClassDef frame.now r row.now → IfOk result (λ class. class ≡ class_of_row frame.now r members.entry weight) }
+    ensures { (r : ℕ) → IsClassDef frame.now r row.now → IfOk result (IsOfRow frame.now r members.entry weight) }
 {
     Ok(Class {
         name: row.class_idx as usize,

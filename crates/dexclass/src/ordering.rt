@@ -1,12 +1,10 @@
 //! Classes in the order of a canonical file: by depth, and then by name.
 
-ghost use Rattle.std.specs.Prelude.{◌≡◌, ◌<◌, All, None, length, map, slice_index_or, IfOk};
+ghost use Rattle.std.specs.Prelude.{◌≡◌, ◌<◌, All, length, map, IfOk};
 ghost use Rattle.dexspec.specs.Mentions.{Mentions};
-ghost use Rattle.dexspec.specs.Depth.{IsAcyclic, in_class_order};
-ghost use Rattle.dexorder.specs.Definitions.{AreDepthsOf};
 ghost use Rattle.dexpool.specs.Numberings.{AreIn};
-ghost use Rattle.dexclass.specs.Numbered.{definition_of};
 ghost use Rattle.dexclass.specs.Parents.{AreNamed};
+ghost use Rattle.dexclass.specs.internal.Ordered.{AreClassDepths, depths_by_name, AreInClassOrder};
 
 use crate::arranging::arrange;
 use crate::classes::Class;
@@ -35,7 +33,7 @@ pub(crate) fn depths_of(
     types: usize,
 ) -> Result<Vec<Option<usize>>, AllocError>
     requires { (m : Mentions) × (length m.types ≡ types) × AreNamed m classes.now }
-    ensures { IfOk result (λ depths. (m : Mentions) → AreNamed m classes.now → IsAcyclic (map (definition_of m) classes.now) → AreDepthsOf (map (definition_of m) classes.now) depths.items) }
+    ensures { IfOk result (λ depths. AreClassDepths classes.now depths.items) }
 {
     Hierarchy::of(alloc, classes, types)?.depths(alloc)
 }
@@ -49,7 +47,7 @@ pub(crate) fn known_depths(
     by_name: &[Option<usize>],
 ) -> Result<Vec<Option<usize>>, AllocError>
     requires { All (λ c. c.name < length by_name.now) classes.now }
-    ensures { IfOk result (λ depths. depths.items ≡ map (λ c. slice_index_or by_name.now c.name None) classes.now) }
+    ensures { IfOk result (λ depths. depths.items ≡ depths_by_name by_name.now classes.now) }
 {
     let mut depths = Vec::with_capacity(alloc, classes.len())?;
     for i in 0..classes.len() {
@@ -71,7 +69,7 @@ pub(crate) fn in_order<'a>(
 ) -> Result<Vec<Class<'a>>, AllocError>
     requires numbering { (m : Mentions) × AreNamed m classes.old.items }
     requires count { length depths.now ≡ length classes.old.items }
-    ensures order { IfOk result (λ ordered. (m : Mentions) → AreNamed m classes.old.items → AreDepthsOf (map (definition_of m) classes.old.items) depths.now → map (definition_of m) ordered.items ≡ in_class_order (map (definition_of m) classes.old.items)) }
+    ensures order { IfOk result (λ ordered. AreInClassOrder classes.old.items depths.now ordered.items) }
     ensures members { IfOk result (λ ordered. AreIn ordered.items classes.old.items) }
 {
     let names = names(alloc, classes)?;

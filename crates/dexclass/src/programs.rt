@@ -1,11 +1,11 @@
 //! Programs: sets of class definitions.
 
-ghost use Rattle.std.specs.Prelude.{◌≡◌, ◌<◌, ◌-◌, ◌^◌, min, length, map, sum_by, All, IfOk};
+ghost use Rattle.std.specs.Prelude.{◌≡◌, ◌<◌, ◌-◌, ◌^◌, min, length, map, All, IfOk};
 ghost use Rattle.std.specs.FinMap as finite;
 ghost use Rattle.dexspec.specs.Files.{definitions, IsCollectionOf};
 ghost use Rattle.dexspec.specs.WellFormed.{AreWellFormed};
 ghost use Rattle.dexspec.specs.Mentions.{Mentions, mentions};
-ghost use Rattle.dexspec.specs.Weight.{body_weight, weight};
+ghost use Rattle.dexspec.specs.Weight.{weight};
 ghost use Rattle.dexspec.specs.Merging.{IsGood, greatest_caps};
 ghost use Rattle.dexclass.specs.Numbered.{definition_of};
 ghost use Rattle.dexorder.specs.Definitions.{AreDepthsOf};
@@ -13,6 +13,7 @@ ghost use Rattle.dexpool.specs.Numberings.{AreRising};
 ghost use Rattle.dexclass.specs.Parents.{AreDepthsByName};
 ghost use Rattle.dexclass.specs.Uses.{IsKnownClass};
 ghost use Rattle.dexclass.specs.Programs.{AreMergeable, AreClassesOf, IsClassAt};
+ghost use Rattle.dexclass.specs.internal.Ordered.{weight_of};
 
 use crate::classes::Class;
 use crate::ordering::{depths_of, in_order, known_depths};
@@ -243,7 +244,7 @@ pub(crate) fn copied<'a>(alloc: Global, classes: &[Class<'a>]) -> Result<Vec<Cla
 
 // What classes weigh without the symbols that they name, or 2^64 - 1 where that is more.
 fn bodies_weight(classes: &[Class<'_>]) -> u64
-    ensures { (m : Mentions) → AreRising m → All (IsKnownClass m) classes.now → result ≡ min (2 ^ 64 - 1) (sum_by (λ c. body_weight (definition_of m c).1) classes.now) }
+    ensures { (m : Mentions) → AreRising m → All (IsKnownClass m) classes.now → result ≡ weight_of m classes.now }
 {
     let mut weight: u64 = 0;
     for class in classes {

@@ -1,12 +1,12 @@
 //! Reading a whole file.
 
-ghost use Rattle.std.specs.Prelude.{◌≡◌, ◌+◌, ◌*◌, ◌<◌, ℕ, List, All, length, IfOk, IfErr, OnOk};
+ghost use Rattle.std.specs.Prelude.{◌≡◌, ◌+◌, ◌*◌, ◌<◌, All, length, IfOk, IfErr, OnOk};
 ghost use Rattle.dexspec.specs.Header.{ClassDefs, table_size};
 ghost use Rattle.dexspec.specs.Accepted.{HoldBelow};
 ghost use Rattle.dexpool.specs.Pools.{ArePools};
 ghost use Rattle.dexpool.specs.declared.faults.ReadFault.TheVariants.{Refused};
-ghost use Rattle.dexmembers.specs.Reading.{IsMembersFault};
 ghost use Rattle.dexclass.specs.internal.Rows.{HasInterfaceList, interface_indices};
+ghost use Rattle.dexclass.specs.internal.Checked.{IsFaultAtRow};
 ghost use Rattle.dexclass.specs.Programs.{IsReadAs, IsFaultOf};
 ghost use Rattle.dexclass.specs.internal.Reading.{AreBodies, IsWhole, AreHeavyTogether};
 
@@ -74,7 +74,7 @@ pub(crate) fn too_heavy(r: u32) -> ReadFault
 
 /// The fault of what class row `r` declares.
 pub(crate) fn at_row(fault: ItemFault, r: u32) -> ReadFault
-    ensures { (b : List ℕ) → HoldBelow 17 b → r < table_size b ClassDefs → IsMembersFault b r fault → IsFaultOf b result }
+    ensures { IsFaultAtRow fault r result }
 {
     match fault {
         ItemFault::Refused(number) => ReadFault::Refused(Refusal { number, place: r }),

@@ -2,12 +2,11 @@
 
 ghost use Rattle.std.specs.Prelude.{◌≡◌, ◌+◌, ◌-◌, ◌*◌, ◌^◌, min, length, List, map, IfOk};
 ghost use Rattle.dexspec.specs.Classes.{Definition};
-ghost use Rattle.dexspec.specs.Files.{Collection, IsCollectionOf, definitions};
-ghost use Rattle.dexspec.specs.Merging.{Caps, IsGood, Plan, union};
+ghost use Rattle.dexspec.specs.Merging.{Caps, IsGood};
 ghost use Rattle.dexspec.specs.Stripping as stripping;
 ghost use Rattle.dexspec.specs.Stripping.{strip_collection};
-ghost use Rattle.dexlaws.specs.Strip.{StripCommutes};
 ghost use Rattle.dexmembers.specs.Weighing.{numbered_members_weight};
+ghost use Rattle.dexclass.specs.Laws.{StrippedStaysGood, StripCommutesWithMerge};
 ghost use Rattle.dexclass.specs.internal.Stripped.{stripped_class};
 
 use crate::classes::Class;
@@ -70,9 +69,9 @@ pub fn into_stripped<'a>(alloc: Global, program: Program<'a>) -> Result<Program<
 /// `source_file_idx`, where NO_INDEX encodes none.
 pub fn strip<'a>(alloc: Global, program: &Program<'a>) -> Result<Program<'a>, AllocError>
     ensures stripped { IfOk result (λ stripped. stripped ≡ strip_collection program.now) }
-    ensures good { (caps : Caps) → IsGood caps (definitions program.now) → IsGood caps (definitions (strip_collection program.now)) }
+    ensures good { StrippedStaysGood program.now }
     ensures all_good { (caps : Caps) (D : List Definition) → IsGood caps D → IsGood caps (stripping.strip D) }
-    ensures merges { (caps : Caps) (Ks : List Collection) (plan : Plan) (K : Collection) → IsCollectionOf (union (map definitions Ks) plan) K → StripCommutes caps Ks plan K }
+    ensures merges { StripCommutesWithMerge }
     ensures twice { strip_collection (strip_collection program.now) ≡ strip_collection program.now }
 {
     strip_collection_law();

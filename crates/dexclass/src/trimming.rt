@@ -5,8 +5,8 @@ ghost use Rattle.std.specs.List.{flat_map};
 ghost use Rattle.dexspec.specs.Mentions.{mentions};
 ghost use Rattle.dexpool.specs.Numberings.{AllMapTo, AreMarksOf};
 ghost use Rattle.dexpool.specs.Orderly.{MapsDown};
-ghost use Rattle.dexclass.specs.Numbered.{definition_of};
 ghost use Rattle.dexclass.specs.Uses.{IsKnownClass, HaveMarked, class_uses};
+ghost use Rattle.dexclass.specs.internal.Ordered.{mentions_of, KeepsDefinitions};
 ghost use Rattle.dexclass.specs.Renumbering.{renumbered, IsMappedClass, Stays};
 
 use crate::classes::Class;
@@ -107,9 +107,9 @@ pub(crate) fn trim<'a>(
     classes: &mut Vec<Class<'a>>,
 ) -> Result<Numbering<'a>, AllocError>
     requires { All (IsKnownClass numbering.now) classes.old.items }
-    ensures mentions { IfOk result (λ trimmed. trimmed ≡ mentions (map (definition_of numbering.now) classes.old.items)) }
+    ensures mentions { IfOk result (λ trimmed. trimmed ≡ mentions_of numbering.now classes.old.items) }
     ensures numbers { IfOk result (λ trimmed. All (IsKnownClass trimmed) classes.new.items) }
-    ensures same { IfOk result (λ trimmed. map (definition_of trimmed) classes.new.items ≡ map (definition_of numbering.now) classes.old.items) }
+    ensures same { IfOk result (KeepsDefinitions numbering.now classes.old.items classes.new.items) }
 {
     uses_law();
     renumbering_law();

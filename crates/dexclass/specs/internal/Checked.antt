@@ -1,0 +1,36 @@
+-- What is checked of a class row, where the types of the rows before it are marked.
+use Rattle.std.specs.Prelude.{◌≡◌, ℕ, ◌+◌, ◌<◌, Bool, List, All}
+use Rattle.dexspec.specs.Header.{ClassDefs, table_size}
+use Rattle.dexspec.specs.Rows.{type_indices}
+use Rattle.dexspec.specs.Classes.{class_idx}
+use Rattle.dexspec.specs.Accepted.{HoldBelow, IsDefinedBefore}
+use Rattle.dexpool.specs.declared.faults.ItemFault.{ItemFault}
+use Rattle.dexpool.specs.declared.faults.ReadFault.{ReadFault}
+use Rattle.dexmembers.specs.Reading.{IsMembersFault}
+use Rattle.dexclass.specs.declared.class_checks.KnownFile.{KnownFile}
+use Rattle.dexclass.specs.Programs.{IsFaultOf}
+use Rattle.dexclass.specs.internal.Rows.{AreDefinedMarks, IsInterfaceIndex, superclass_indices}
+
+-- the types of the class rows before row r are marked
+abbrev pub AreSeen : KnownFile → ℕ → List Bool → Type 0
+AreSeen file r marks = AreDefinedMarks file.frame.now r marks
+
+-- the index is that of a class, which is defined before row r if the file defines it
+abbrev pub IsInterface : KnownFile → ℕ → ℕ → Type 0
+IsInterface file r index = IsInterfaceIndex file.frame.now r index
+
+-- so it is for each index that is listed at the offset
+abbrev pub AreListedInterfaces : KnownFile → ℕ → ℕ → Type 0
+AreListedInterfaces file r off = All (IsInterface file r) (type_indices file.frame.now off)
+
+-- a superclass that the file defines is defined before row r
+abbrev pub IsParentBefore : KnownFile → ℕ → ℕ → Type 0
+IsParentBefore file r index = All (IsDefinedBefore file.frame.now r) (superclass_indices index)
+
+-- where marks are those of the class rows before a row of this type, the new ones are those of the rows up to it
+abbrev pub MarksClass : ℕ → List Bool → List Bool → Type 0
+MarksClass index old new = (b : List ℕ) (r : ℕ) → class_idx b r ≡ index → AreDefinedMarks b r old → AreDefinedMarks b (r + 1) new
+
+-- the fault is what the fault of the members of class row r says of the file
+abbrev pub IsFaultAtRow : ItemFault → ℕ → ReadFault → Type 0
+IsFaultAtRow members r fault = (b : List ℕ) → HoldBelow 17 b → r < table_size b ClassDefs → IsMembersFault b r members → IsFaultOf b fault

@@ -1,0 +1,36 @@
+-- Classes with their depths, in the order of a canonical file.
+use Rattle.std.specs.Prelude.{◌≡◌, ℕ, ◌-◌, ◌^◌, List, Option, None, min, map, sum_by, slice_index_or}
+use Rattle.dexspec.specs.Mentions.{Mentions, mentions}
+use Rattle.dexspec.specs.Weight.{body_weight}
+use Rattle.dexspec.specs.Depth.{IsAcyclic, in_class_order}
+use Rattle.dexorder.specs.Definitions.{AreDepthsOf}
+use Rattle.dexclass.specs.Numbered.{NumberedClass, definition_of}
+use Rattle.dexclass.specs.Parents.{AreNamed, no_class}
+
+-- the depths are those of the classes' definitions, if these are acyclic
+abbrev pub AreClassDepths : List NumberedClass → List (Option ℕ) → Type 0
+AreClassDepths cs depths = (m : Mentions) → AreNamed m cs → IsAcyclic (map (definition_of m) cs) → AreDepthsOf (map (definition_of m) cs) depths
+
+-- for each class the depth at the number of its name
+abbrev pub depths_by_name : List (Option ℕ) → List NumberedClass → List (Option ℕ)
+depths_by_name by_name cs = map (λ c. slice_index_or by_name c.name None) cs
+
+-- the classes are the others in the order of a canonical file, by these depths
+abbrev pub AreInClassOrder : List NumberedClass → List (Option ℕ) → List NumberedClass → Type 0
+AreInClassOrder cs depths ordered = (m : Mentions) → AreNamed m cs → AreDepthsOf (map (definition_of m) cs) depths → map (definition_of m) ordered ≡ in_class_order (map (definition_of m) cs)
+
+-- the classes at these places
+abbrev pub classes_at : List NumberedClass → List ℕ → List NumberedClass
+classes_at cs places = map (λ i. slice_index_or cs i no_class) places
+
+-- what the classes' definitions weigh without the symbols that they mention, or 2 ^ 64 - 1 where that is more
+abbrev pub weight_of : Mentions → List NumberedClass → ℕ
+weight_of m cs = min (2 ^ 64 - 1) (sum_by (λ c. body_weight (definition_of m c).1) cs)
+
+-- what the classes' definitions mention
+abbrev pub mentions_of : Mentions → List NumberedClass → Mentions
+mentions_of m cs = mentions (map (definition_of m) cs)
+
+-- the new classes denote the same definitions, by the numbers of another numbering
+abbrev pub KeepsDefinitions : Mentions → List NumberedClass → List NumberedClass → Mentions → Type 0
+KeepsDefinitions m old new n = map (definition_of n) new ≡ map (definition_of m) old

@@ -1,6 +1,5 @@
 ghost use Rattle.std.specs.Prelude.{◌≡◌, ◌<◌, IfSome, length};
-ghost use Rattle.std.specs.Cmp.Lexicographic.{slice_cmp};
-ghost use Rattle.dexstr.specs.internal.Order.{place_of, byte_cmp};
+ghost use Rattle.dexstr.specs.internal.Order.{place_of, bytes_cmp};
 
 /// Where a byte comes in the order of texts. Bytes come in the order of the units that they spell, but for
 /// `c0`, which begins unit 0 alone: it comes first.
@@ -13,7 +12,7 @@ pub(crate) fn place_of(byte: u8) -> u16
 // What is after the first eight bytes, if these are the same in both.
 #[inline]
 fn after_common_group<'a, 'b>(left: &'a [u8], right: &'b [u8]) -> Option<(&'a [u8], &'b [u8])>
-    ensures order { IfSome result (λ rests. slice_cmp byte_cmp rests.0.now rests.1.now ≡ slice_cmp byte_cmp left.now right.now) }
+    ensures order { IfSome result (λ rests. bytes_cmp rests.0.now rests.1.now ≡ bytes_cmp left.now right.now) }
     ensures less { IfSome result (λ rests. length rests.0.now < length left.now) }
 {
     let (group, left) = left.split_first_chunk::<8>()?;
@@ -27,7 +26,7 @@ fn after_common_group<'a, 'b>(left: &'a [u8], right: &'b [u8]) -> Option<(&'a [u
 
 /// What is after the common prefix of both, but for its last bytes, of which there are fewer than eight.
 pub(crate) fn after_common_groups<'a, 'b>(left: &'a [u8], right: &'b [u8]) -> (&'a [u8], &'b [u8])
-    ensures { slice_cmp byte_cmp result.0.now result.1.now ≡ slice_cmp byte_cmp left.now right.now }
+    ensures { bytes_cmp result.0.now result.1.now ≡ bytes_cmp left.now right.now }
 {
     let (mut left, mut right) = (left, right);
     while let Some(rests) = after_common_group(left, right) {

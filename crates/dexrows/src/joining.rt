@@ -1,8 +1,9 @@
 //! Sorted tables joined.
 
-ghost use Rattle.std.specs.Prelude.{◌≡◌, map, All, IfOk};
-ghost use Rattle.dexrows.specs.Join.{AreSorted, IsJoin, AreJoined};
-ghost use Rattle.dexrows.specs.internal.Merge.{IsJoinOfTwo};
+ghost use Rattle.std.specs.Prelude.{map, All, IfOk};
+ghost use Rattle.dexrows.specs.Join.{AreSorted, AreJoined};
+ghost use Rattle.dexrows.specs.Joined.{JoinsParts};
+ghost use Rattle.dexrows.specs.internal.Merged.{JoinsTwo};
 
 use crate::merging::merge;
 use crate::places::compose_all;
@@ -25,7 +26,7 @@ pub struct Joined<R: Drop> {
 /// words for each row of a part, was refused, or the parts have 2^32 rows or more.
 pub fn join<R: Row>(alloc: Global, parts: &[&[R]]) -> Result<Joined<R>, AllocError>
     requires { All (λ part. AreSorted R.key_of part.now) parts.now }
-    ensures { IfOk result (λ joined. IsJoin R.key_of (map (λ part. part.now) parts.now) joined.rows.items (map (λ image. image.items) joined.images.items)) }
+    ensures { IfOk result (JoinsParts R.key_of parts.now) }
 {
     match parts {
         [] => Ok(Joined {
@@ -63,7 +64,7 @@ fn join_two<R: Row>(
 ) -> Result<Joined<R>, AllocError>
     requires left { AreJoined R.key_of left.rows.items (map (λ image. image.items) left.images.items) }
     requires right { AreJoined R.key_of right.rows.items (map (λ image. image.items) right.images.items) }
-    ensures { IfOk result (λ joined. IsJoinOfTwo R.key_of left.rows.items (map (λ image. image.items) left.images.items) right.rows.items (map (λ image. image.items) right.images.items) joined.rows.items (map (λ image. image.items) joined.images.items)) }
+    ensures { IfOk result (JoinsTwo R.key_of left right) }
 {
     let merged = merge(alloc, &left.rows, &right.rows)?;
     let mut images = left.images;

@@ -1,8 +1,8 @@
 //! Two sorted tables merged.
 
-ghost use Rattle.std.specs.Prelude.{◌≡◌, ◌≤◌, ◌<◌, ◌+◌, ◌^◌, length, IfOk, OnOk, MatchOption};
+ghost use Rattle.std.specs.Prelude.{◌≡◌, ◌<◌, ◌+◌, ◌^◌, length, IfOk, OnOk};
 ghost use Rattle.dexrows.specs.Join.{AreSorted};
-ghost use Rattle.dexrows.specs.internal.Merge.{IsMerge, IsMerging, IsNext};
+ghost use Rattle.dexrows.specs.internal.Merged.{Merges, HasMerged, FindsNext, ComesNext, taken_count};
 
 use crate::rows::Row;
 use std::alloc::{AllocError, Global};
@@ -23,7 +23,7 @@ pub(crate) struct Merged<R: Drop> {
 pub(crate) fn merge<R: Row>(alloc: Global, left: &[R], right: &[R]) -> Result<Merged<R>, AllocError>
     requires left_sorted { AreSorted R.key_of left.now }
     requires right_sorted { AreSorted R.key_of right.now }
-    ensures { IfOk result (λ merged. IsMerge R.key_of left.now right.now merged.rows.items merged.left_places.items merged.right_places.items) }
+    ensures { IfOk result (Merges R.key_of left.now right.now) }
 {
     if left.len().saturating_add(right.len()) > u32::MAX as usize {
         return Err(AllocError);
@@ -46,7 +46,7 @@ pub(crate) fn merge<R: Row>(alloc: Global, left: &[R], right: &[R]) -> Result<Me
 
 /// How the next rows of both compare, or which of the two has one: `Less` where it is the left one.
 fn next_order<R: Row>(left: &[R], i: usize, right: &[R], j: usize) -> Option<Ordering>
-    ensures { MatchOption result ((length left.now ≤ i) × (length right.now ≤ j)) (IsNext R.key_of left.now i right.now j) }
+    ensures { FindsNext R.key_of left.now i right.now j result }
 {
     match (left.get(i), right.get(j)) {
         (Some(row), Some(other)) => Some(row.compare(other)),
@@ -65,12 +65,12 @@ fn take_next<R: Row>(
 ) -> Result<(), AllocError>
     requires left_sorted { AreSorted R.key_of left.now }
     requires right_sorted { AreSorted R.key_of right.now }
-    requires so_far { IsMerging R.key_of left.now right.now merged.old.rows.items merged.old.left_places.items merged.old.right_places.items }
-    requires next { IsNext R.key_of left.now (length merged.old.left_places.items) right.now (length merged.old.right_places.items) order }
+    requires so_far { HasMerged R.key_of left.now right.now merged.old }
+    requires next { ComesNext R.key_of left.now right.now merged.old order }
     requires few { length merged.old.rows.items < 2 ^ 32 }
     ensures rows { OnOk result (length merged.new.rows.items ≡ length merged.old.rows.items + 1) }
-    ensures taken { OnOk result (IsMerging R.key_of left.now right.now merged.new.rows.items merged.new.left_places.items merged.new.right_places.items) }
-    ensures more { OnOk result (length merged.old.left_places.items + length merged.old.right_places.items < length merged.new.left_places.items + length merged.new.right_places.items) }
+    ensures taken { OnOk result (HasMerged R.key_of left.now right.now merged.new) }
+    ensures more { OnOk result (taken_count merged.old < taken_count merged.new) }
 {
     let place = merged.rows.len() as u32;
     match order {

@@ -6,7 +6,7 @@ use Rattle.dexspec.specs.Header.{header_length}
 use Rattle.dexspec.specs.Sections as sections
 use Rattle.dexspec.specs.Sections.{Section, type_code}
 use Rattle.dexspec.specs.Placing.{Ordered}
-use Rattle.dexspec.specs.Canonical.{magic, placed_tables, data_start}
+use Rattle.dexspec.specs.Canonical.{magic, map_bytes, placed_tables, data_start}
 use Rattle.dexhead.specs.declared.head.Head.{Head}
 use Rattle.dexhead.specs.declared.head.Rows.{Rows}
 use Rattle.dexhead.specs.declared.map_list.MapEntry.{MapEntry}
@@ -39,6 +39,10 @@ pub record StatesTables (h : Head) (K : Ordered) : Type 0 where
 -- the section of an entry, the number of its items, and the offset of the first
 abbrev pub entry_meant : MapEntry → Section × ℕ × ℕ
 entry_meant e = (section_meant e.section, e.size, e.off)
+
+-- a map of these entries
+abbrev pub map_list_bytes : List MapEntry → List ℕ
+map_list_bytes entries = map_bytes (map entry_meant entries)
 
 -- its two numbers are such as a `u32` holds
 abbrev pub HasNumbers : MapEntry → Type 0

@@ -2,6 +2,7 @@
 //! any reader or writer.
 
 ghost use Rattle.std.specs.Prelude.{◌≡◌, ◌<◌, ◌≤◌, ◌++◌, ℕ, List, [], Bool, true, false, length, take, Option, IsSome, unwrap_or, OnOk, OnErr, IfOk, IfErr};
+ghost use Rattle.dexhead.specs.Prefixes.{TakesPrefix};
 
 use std::io::{Read, Write};
 
@@ -81,7 +82,7 @@ pub trait Sink {
         ensures appended { IfOk result (λ n. reports self.old → taken self.new ≡ taken self.old ++ take n bytes.now) }
 
         // A write that fails has appended a prefix, perhaps an empty one.
-        ensures front { OnErr result (reports self.old → (n : ℕ) × (taken self.new ≡ taken self.old ++ take n bytes.now)) };
+        ensures front { OnErr result (reports self.old → TakesPrefix (taken self.old) (taken self.new) bytes.now) };
 }
 
 /// Writes all the bytes, by as many calls of `Sink::write` as it takes; none for no bytes.
@@ -92,7 +93,7 @@ pub fn write_whole<W: Sink>(out: &mut W, bytes: &[u8]) -> Result<(), DeviceFault
     requires { W.has_failed out.old ≡ false }
     ensures reports { W.reports out.old → W.reports out.new }
     ensures written { OnOk result (W.reports out.old → W.taken out.new ≡ W.taken out.old ++ bytes.now) }
-    ensures front { OnErr result (W.reports out.old → (n : ℕ) × (W.taken out.new ≡ W.taken out.old ++ take n bytes.now)) }
+    ensures front { OnErr result (W.reports out.old → TakesPrefix (W.taken out.old) (W.taken out.new) bytes.now) }
     ensures works { OnOk result (W.has_failed out.new ≡ false) }
     ensures fails { OnErr result (W.has_failed out.new ≡ true) }
 {

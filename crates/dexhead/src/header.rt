@@ -1,9 +1,9 @@
 //! Conditions 1 to 9: what the header says of the file.
 
-ghost use Rattle.std.specs.Prelude.{◌≡◌, ◌↔◌, ℕ, ◌+◌, ◌-◌, ◌<◌, ◌≤◌, List, ◌∷◌, All, IsTrue, MatchOption, length, slice_index};
-ghost use Rattle.dexspec.specs.Header.{Table as SpecTable, HasSize, HasMagic, version, HasLengths, HasEndian, HasNoLink, HasChecksum, IsDigit, tables, table_size, table_off, data_off};
+ghost use Rattle.std.specs.Prelude.{◌≡◌, ◌↔◌, ◌+◌, ◌-◌, ◌<◌, ◌≤◌, All, IsTrue, length, slice_index};
+ghost use Rattle.dexspec.specs.Header.{HasSize, HasMagic, version, HasLengths, HasEndian, HasNoLink, HasChecksum, IsDigit, tables, table_size, table_off, data_off};
 ghost use Rattle.dexspec.specs.Sections.{HasLayout};
-ghost use Rattle.dexhead.specs.internal.HeaderChecks.{AreFew, IsLaidOut, has_signature};
+ghost use Rattle.dexhead.specs.internal.HeaderChecks.{AreFew, EndsTable, IsLaidOut, has_signature};
 ghost use Rattle.dexhead.specs.Tables.{meant};
 
 use crate::little_endian::u32_at;
@@ -168,7 +168,7 @@ fn are_laid_out(bytes: &[u8]) -> bool
 /// Where the table ends, if it is well placed from here on; an empty one ends here.
 fn end_of(bytes: &[u8], table: Table, from: u64) -> Option<u64>
     requires { 112 ≤ length bytes.now }
-    ensures { (ts : List SpecTable) → IsLaidOut bytes.now from (meant table ∷ ts) ↔ MatchOption result ⊥ (λ end. IsLaidOut bytes.now end ts) }
+    ensures { EndsTable bytes.now from (meant table) result }
 {
     let size = table_size(bytes, table);
     let off = table_off(bytes, table);

@@ -1,7 +1,7 @@
 //! A map that is written.
 
-ghost use Rattle.std.specs.Prelude.{◌≡◌, ◌++◌, ◌+◌, ◌*◌, ◌^◌, ◌<◌, ◌≤◌, length, map, vec_len, vec_capacity};
-ghost use Rattle.dexspec.specs.Canonical.{map_entry_bytes, map_bytes};
+ghost use Rattle.std.specs.Prelude.{◌≡◌, ◌++◌, ◌+◌, ◌*◌, ◌^◌, ◌<◌, ◌≤◌, length, vec_len, vec_capacity};
+ghost use Rattle.dexspec.specs.Canonical.{map_entry_bytes};
 ghost use Rattle.dexspec.specs.internal.Writing.{Puts};
 
 use crate::little_endian::{push_u16, push_u32};
@@ -49,7 +49,7 @@ impl MapEntry {
 }
 
 impl MapList<'_> {
-    ghost use Rattle.dexhead.specs.Written.{entry_meant};
+    ghost use Rattle.dexhead.specs.Written.{map_list_bytes};
 
     /// Appends the map, 4 bytes and 12 for each entry.
     ///
@@ -57,8 +57,8 @@ impl MapList<'_> {
     /// unchanged.
     #[tactic(auto, using(crate::proofs::Lengths::length_map))]
     pub fn put(&self, out: &mut Vec<u8>) -> Result<(), AllocError>
-        ensures puts { Puts (map_bytes (map entry_meant self.now.entries.now)) out.old out.new result }
-        ensures len { length (map_bytes (map entry_meant self.now.entries.now)) ≡ 4 + 12 * length self.now.entries.now }
+        ensures puts { Puts (map_list_bytes self.now.entries.now) out.old out.new result }
+        ensures len { length (map_list_bytes self.now.entries.now) ≡ 4 + 12 * length self.now.entries.now }
     {
         out.reserve(4 + 12 * self.entries.len())?;
         push_u32(self.entries.len() as u32, out);

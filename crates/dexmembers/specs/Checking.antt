@@ -1,11 +1,11 @@
 -- Class rows as they are checked: what they declare is there, and weighs this much. Nothing of it is kept.
-use Rattle.std.specs.Prelude.{◌≡◌, ℕ, ◌+◌, ◌-◌, ◌^◌, min, List, Option, None, Some, nat_eq, sum_by}
+use Rattle.std.specs.Prelude.{◌≡◌, ℕ, ◌+◌, ◌-◌, ◌^◌, min, List, Option, None, Some, nat_eq, sum_by, IfOk, Result}
 use Rattle.std.specs.HashMap.{get}
 use Rattle.dexspec.specs.Lists.{OrNone, SomeAt}
 use Rattle.dexspec.specs.Code.{Code, CodeAt}
 use Rattle.dexspec.specs.Values.{Values}
 use Rattle.dexspec.specs.Annotations.{Directory, DirectoryAt, no_directory}
-use Rattle.dexspec.specs.Classes.{annotations_off}
+use Rattle.dexspec.specs.Classes.{annotations_off, static_values_off}
 use Rattle.dexspec.specs.Accepted.{NamesDeclared, IsReadable}
 use Rattle.dexspec.specs.Mentions.{Mentions}
 use Rattle.dexspec.specs.Weight.{static_values_weight}
@@ -14,7 +14,7 @@ use Rattle.dexval.specs.CheckedSets.{IsWeighed, AreChecked}
 use Rattle.dexval.specs.Directories.{directory_weight}
 use Rattle.dexmembers.specs.Numbered.{Members}
 use Rattle.dexmembers.specs.Weight.{members_weight}
-use Rattle.dexmembers.specs.internal.ClassData.{class_data_in}
+use Rattle.dexmembers.specs.internal.ClassData.{class_data_in, IsDataOf}
 use Rattle.dexmembers.specs.internal.MethodCodes.{AreCodesAt, optional_code_weight}
 use Rattle.dexmembers.specs.internal.StaticValues.{HasValuesFor}
 use Rattle.dexmembers.specs.Reading.{MembersRow}
@@ -22,6 +22,8 @@ use Rattle.dexmembers.specs.declared.class_data.EncodedMethod.{EncodedMethod}
 use Rattle.dexmembers.specs.declared.class_data.ClassData.{ClassData as DataRead}
 use Rattle.dexmembers.specs.declared.code_checking.CheckedCodes.{CheckedCodes}
 use Rattle.dexmembers.specs.declared.checking.Checks.{Checks}
+use Rattle.dexpool.specs.Pools.{ArePools}
+use Rattle.dexpool.specs.declared.faults.ItemFault.{ItemFault}
 
 -- ---- code
 
@@ -74,3 +76,13 @@ pub record HasMembersOf (b : List ℕ) (r weight : ℕ) : Type 0 where
   pub members : Members
   pub row : MembersRow b r members
   pub weight_is : weight ≡ min (2 ^ 64 - 1) (members_weight members)
+
+-- ---- as they are checked
+
+-- the directory of the row that has the offset weighs that
+abbrev pub WeighsAnnotations : List ℕ → Mentions → ℕ → DataRead → Result ℕ ItemFault → Type 0
+WeighsAnnotations b m off d result = (r : ℕ) → off ≡ annotations_off b r → ArePools b m → IsDataOf b r m d → IfOk result (HasAnnotationsOf b r m d)
+
+-- the static values of the row that has the offset weigh that
+abbrev pub WeighsValues : List ℕ → Mentions → ℕ → ℕ → Result ℕ ItemFault → Type 0
+WeighsValues b m off fields result = (r : ℕ) → off ≡ static_values_off b r → ArePools b m → IfOk result (HasValuesOf b r fields)

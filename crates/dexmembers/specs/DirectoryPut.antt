@@ -1,8 +1,10 @@
 -- Annotations directories as they are put: pairs of an index and an offset, those of two lists merged.
-use Rattle.std.specs.Prelude.{ℕ, ◌+◌, nat_lt, if◌then◌else◌, ◌==◌, List, [], ◌∷◌, ◌++◌, map, length, take, drop}
+use Rattle.std.specs.Prelude.{ℕ, ◌+◌, nat_lt, if◌then◌else◌, ◌==◌, List, [], ◌∷◌, ◌++◌, map, length, take, drop, ◌≡◌, ◌≤◌, ◌*◌, vec_capacity, vec_len}
 use Rattle.std.specs.List.{flat_map, zip}
+use Rattle.std.specs.Global.{Vec}
 use Rattle.dexspec.specs.Bytes.{uint}
 use Rattle.dexmembers.specs.Numbered.{NumberedField, NumberedMethod, NumberedMembers}
+use Rattle.dexmembers.specs.declared.directory_put.EntryCounts.{EntryCounts}
 
 -- a pair in its place among others, and the rest of its list after it
 abbrev pub put_among : ℕ × ℕ → (List (ℕ × ℕ) → List (ℕ × ℕ)) → List (ℕ × ℕ) → List (ℕ × ℕ)
@@ -35,6 +37,10 @@ pairs_of_both is js offs = merged (zip is (take (length is) offs)) (zip js (drop
 abbrev pub both_bytes : List ℕ → List ℕ → List ℕ → List ℕ
 both_bytes is js offs = flat_map pair_bytes (pairs_of_both is js offs)
 
+-- the same of the members of two lists, by their numbers
+abbrev pub both_bytes_by : {X : Type 0} → (X → ℕ) → List X → List X → List ℕ → List ℕ
+both_bytes_by number_of xs ys offs = both_bytes (map number_of xs) (map number_of ys) offs
+
 -- the numbers of fields
 abbrev pub field_numbers : List NumberedField → List ℕ
 field_numbers fs = map (λ f. f.number) fs
@@ -50,3 +56,25 @@ numbered_directory_bytes x own field_offs method_offs parameter_offs =
     uint own ++ (uint (count_placed field_offs) ++ (uint (count_placed method_offs) ++ (uint (count_placed parameter_offs)
     ++ (both_bytes (field_numbers x.static_fields) (field_numbers x.instance_fields) field_offs
     ++ (both_bytes (method_numbers x.direct_methods) (method_numbers x.virtual_methods) method_offs ++ both_bytes (method_numbers x.direct_methods) (method_numbers x.virtual_methods) parameter_offs)))))
+
+-- ---- its parts
+
+-- what is before the pairs: the offset of the class's own set, and how many pairs there are of each kind
+abbrev pub directory_head_bytes : ℕ → EntryCounts → List ℕ
+directory_head_bytes own counts = uint own ++ (uint counts.fields ++ (uint counts.methods ++ uint counts.parameters))
+
+-- the pairs of the fields
+abbrev pub field_pairs_bytes : NumberedMembers → List ℕ → List ℕ
+field_pairs_bytes x offs = both_bytes (field_numbers x.static_fields) (field_numbers x.instance_fields) offs
+
+-- pairs of the methods
+abbrev pub method_pairs_bytes : NumberedMembers → List ℕ → List ℕ
+method_pairs_bytes x offs = both_bytes (method_numbers x.direct_methods) (method_numbers x.virtual_methods) offs
+
+-- the length is that of the directory with these offsets, wherever the class's own set is
+abbrev pub IsDirectoryLen : NumberedMembers → List ℕ → List ℕ → List ℕ → ℕ → Type 0
+IsDirectoryLen x field_offs method_offs parameter_offs len = (own : ℕ) → len ≡ length (numbered_directory_bytes x own field_offs method_offs parameter_offs)
+
+-- there is spare room of 16 bytes, and of eight for each offset that is not 0
+abbrev pub HasDirectoryRoom : List ℕ → List ℕ → List ℕ → Vec ℕ → Type 0
+HasDirectoryRoom field_offs method_offs parameter_offs old = vec_len old + (16 + 8 * (count_placed field_offs + count_placed method_offs + count_placed parameter_offs)) ≤ vec_capacity old

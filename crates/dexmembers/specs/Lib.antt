@@ -1,8 +1,10 @@
+pub mod Borrowed
 pub mod Checking
 pub mod ClassDefs
 pub mod Contents
 pub mod DirectoryPut
 pub mod Held
+pub mod Laws
 pub mod Numbered
 pub mod Reading
 pub mod Renumbering

@@ -49,6 +49,10 @@ pub record AreFew (static_fields instance_fields : List NumberedField) (direct_m
   pub few_fields : length static_fields + length instance_fields < 2 ^ 32
   pub few_methods : length direct_methods + length virtual_methods < 2 ^ 32
 
+-- so few are declared
+abbrev pub HasFewMembers : NumberedMembers → Type 0
+HasFewMembers x = AreFew x.static_fields x.instance_fields x.direct_methods x.virtual_methods
+
 -- the direct methods, and then the virtual methods
 abbrev pub methods_of : NumberedMembers → List NumberedMethod
 methods_of x = x.direct_methods ++ x.virtual_methods

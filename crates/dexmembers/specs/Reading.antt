@@ -8,10 +8,11 @@ use Rattle.dexspec.specs.Annotations.{Directory, DirectoryAt, no_directory}
 use Rattle.dexspec.specs.ClassData.{ClassData, ClassDataAt, no_class_data}
 use Rattle.dexspec.specs.Classes.{MakesMethod, StaticValuesAt, ClassTypeRow, field_def, class_idx, annotations_off, class_data_off, static_values_off}
 use Rattle.dexspec.specs.Conditions.{Condition, number}
-use Rattle.dexspec.specs.Accepted.{IsReadable, Holds}
+use Rattle.dexspec.specs.Accepted.{IsReadable, Holds, HasClass}
 use Rattle.dexspec.specs.Mentions.{Mentions}
 use Rattle.dexpool.specs.declared.faults.ItemFault.{ItemFault}
 use Rattle.dexpool.specs.declared.faults.ItemFault.TheVariants.{Refused, Memory}
+use Rattle.dexpool.specs.Pools.{ArePools}
 use Rattle.dexmembers.specs.Numbered.{Members, NumberedMembers, members_in, AreKnownMembers, AreOrdered, AreOfClass}
 use Rattle.dexmembers.specs.Weight.{members_weight}
 
@@ -53,3 +54,7 @@ AreReadWithin b r m most None = AreHeavyMembers b r most
 abbrev pub IsMembersFault : List ℕ → ℕ → ItemFault → Type 0
 IsMembersFault b r Memory = Unit {0}
 IsMembersFault b r (Refused n) = (c : Condition) × (n ≡ number c) × (17 ≤ n) × (n ≤ 22) × (Holds c b r → ⊥)
+
+-- so it is where the pools are those of the file, and the row has a class
+abbrev pub InClass : List ℕ → Mentions → ℕ → Type 0 → Type 0
+InClass b m r P = ArePools b m → HasClass b r → P

@@ -1,7 +1,14 @@
 -- What a class declares, spelled in the file: class data and annotations directories, with numbers put in.
-use Rattle.std.specs.Prelude.{ℕ, ◌-◌, List, [], ◌∷◌, ◌++◌, length, take, drop}
+use Rattle.std.specs.Prelude.{ℕ, ◌-◌, List, [], ◌∷◌, ◌++◌, length, take, drop, ◌≡◌, ◌+◌, ◌*◌, Result}
+use Rattle.std.specs.Global.{Vec}
 use Rattle.dexspec.specs.Numbers.{uleb128}
-use Rattle.dexmembers.specs.Numbered.{NumberedField, NumberedMethod, NumberedMembers}
+use Rattle.dexspec.specs.Classes.{Body}
+use Rattle.dexspec.specs.Mentions.{Mentions}
+use Rattle.dexspec.specs.Spellings.{class_data_bytes}
+use Rattle.dexspec.specs.Texts.{Text}
+use Rattle.dexspec.specs.internal.Writing.{Puts}
+use Rattle.dexmembers.specs.Numbered.{NumberedField, NumberedMethod, NumberedMembers, AreKnownMembers, AreOfClass, fields_of, methods_of, members_in, members_of}
+use Rattle.dexpool.specs.Numberings.{AreRising}
 
 -- ---- class data
 
@@ -30,3 +37,11 @@ numbered_class_data_bytes x code_offs =
     uleb128 (length x.static_fields) ++ (uleb128 (length x.instance_fields) ++ (uleb128 (length x.direct_methods) ++ (uleb128 (length x.virtual_methods)
     ++ (numbered_fields_bytes 0 x.static_fields ++ (numbered_fields_bytes 0 x.instance_fields
     ++ (numbered_methods_bytes 0 x.direct_methods (take (length x.direct_methods) code_offs) ++ numbered_methods_bytes 0 x.virtual_methods (drop (length x.direct_methods) code_offs)))))))
+
+-- the room that is enough for a class_data_item: 20 bytes, ten for each field and 15 for each method
+abbrev pub class_data_room : NumberedMembers → ℕ
+class_data_room x = 20 + 10 * length (fields_of x) + 15 * length (methods_of x)
+
+-- what is put is the class_data_item of each class definition that the members denote, under a numbering whose symbols rise
+abbrev pub PutsDenotedClassData : {T E : Type 0} → NumberedMembers → List ℕ → Vec ℕ → Vec ℕ → Result T E → Type 0
+PutsDenotedClassData x code_offs old new r = (m : Mentions) (name : Text) (c : Body) → AreRising m → AreKnownMembers m x → AreOfClass m name x → members_of c ≡ members_in m x → Puts (class_data_bytes m (name, c) code_offs) old new r

@@ -4,5 +4,7 @@ pub mod ClassData
 pub mod EncodedMembers
 pub mod MethodCodes
 pub mod Naming
+pub mod Parts
 pub mod RowParts
 pub mod StaticValues
+pub mod Weighed

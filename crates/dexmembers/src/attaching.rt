@@ -1,9 +1,7 @@
 //! Fields and methods put together: what class data says of them, with their code and the places of the sets of a directory.
 
-ghost use Rattle.std.specs.Prelude.{◌≡◌, ℕ, ◌<◌, All, map, IfOk, IfSome, MatchOption, length};
-ghost use Rattle.std.specs.List.{Contains};
-ghost use Rattle.dexspec.specs.Lists.{zip_with};
-ghost use Rattle.dexmembers.specs.internal.Attaching.{place_for, EntriesRise, HasNumberAt, held_field, held_method};
+ghost use Rattle.std.specs.Prelude.{◌≡◌, ℕ, ◌<◌, IfOk, IfSome, MatchOption};
+ghost use Rattle.dexmembers.specs.internal.Attaching.{place_for, EntriesRise, HasNumberAt, AreHeldFields, AttachesMethods, HaveFieldSetsBelow, HaveListsBelow, HaveSetsBelow, LacksNumber, PlacesBelow};
 
 use crate::class_data::{EncodedField, EncodedMethod};
 use crate::members::{DeclaredField, DeclaredMethod};
@@ -13,7 +11,7 @@ use std::alloc::{AllocError, Global};
 
 // Returns the index of the entry of a number, if there is one.
 fn entry_of(entries: &[(u32, u32)], number: u32) -> Option<usize>
-    ensures { MatchOption result (EntriesRise entries.now → Contains (map (λ e. e.0) entries.now) number → ⊥) (HasNumberAt entries.now number) }
+    ensures { MatchOption result (LacksNumber entries.now number) (HasNumberAt entries.now number) }
 {
     entries.binary_search_by_key(&number, |entry| entry.0).ok()
 }
@@ -21,7 +19,7 @@ fn entry_of(entries: &[(u32, u32)], number: u32) -> Option<usize>
 // Returns the place in the entry of a number, if there is one.
 fn place_for(entries: &[(u32, u32)], number: u32) -> Option<u32>
     ensures found { EntriesRise entries.now → result ≡ place_for entries.now number }
-    ensures held { (limit : ℕ) → All (λ e. e.1 < limit) entries.now → IfSome result (λ place. place < limit) }
+    ensures held { (limit : ℕ) → PlacesBelow limit entries.now → IfSome result (λ place. place < limit) }
 {
     match entry_of(entries, number) {
         Some(at) => Some(entries[at].1),
@@ -37,8 +35,8 @@ pub(crate) fn attach_fields(
     listed: &[EncodedField],
     sets: &[(u32, u32)],
 ) -> Result<Vec<DeclaredField>, AllocError>
-    ensures fields { EntriesRise sets.now → IfOk result (λ fields. fields.items ≡ map (held_field sets.now) listed.now) }
-    ensures held { (limit : ℕ) → All (λ e. e.1 < limit) sets.now → IfOk result (λ fields. All (λ f. IfSome f.set (λ place. place < limit)) fields.items) }
+    ensures fields { EntriesRise sets.now → IfOk result (AreHeldFields sets.now listed.now) }
+    ensures held { (limit : ℕ) → PlacesBelow limit sets.now → IfOk result (HaveFieldSetsBelow limit) }
 {
     let mut fields = Vec::with_capacity(alloc, listed.len())?;
     for field in listed {
@@ -61,9 +59,9 @@ pub(crate) fn attach_methods<'a>(
     sets: &[(u32, u32)],
     lists: &[(u32, u32)],
 ) -> Result<Vec<DeclaredMethod<'a>>, AllocError>
-    ensures methods { EntriesRise sets.now → EntriesRise lists.now → length codes.entry.items ≡ length listed.now → IfOk result (λ methods. methods.items ≡ zip_with (held_method sets.now lists.now) listed.now codes.entry.items) }
-    ensures sets_held { (limit : ℕ) → All (λ e. e.1 < limit) sets.now → IfOk result (λ methods. All (λ x. IfSome x.set (λ place. place < limit)) methods.items) }
-    ensures lists_held { (limit : ℕ) → All (λ e. e.1 < limit) lists.now → IfOk result (λ methods. All (λ x. IfSome x.list (λ place. place < limit)) methods.items) }
+    ensures methods { AttachesMethods sets.now lists.now listed.now codes.entry.items result }
+    ensures sets_held { (limit : ℕ) → PlacesBelow limit sets.now → IfOk result (HaveSetsBelow limit) }
+    ensures lists_held { (limit : ℕ) → PlacesBelow limit lists.now → IfOk result (HaveListsBelow limit) }
 {
     let mut methods = Vec::with_capacity(alloc, listed.len())?;
     let mut codes = codes.into_iter();

@@ -1,12 +1,12 @@
 //! What class rows declare, checked and not kept.
 
-ghost use Rattle.std.specs.Prelude.{ℕ, List, ◌≡◌, ◌<◌, ◌+◌, ◌-◌, ◌*◌, ◌^◌, min, length, IfOk, IfErr, OnOk};
+ghost use Rattle.std.specs.Prelude.{ℕ, List, ◌≡◌, ◌<◌, ◌-◌, ◌*◌, ◌^◌, min, IfOk, IfErr, OnOk};
 ghost use Rattle.dexspec.specs.Header.{ClassDefs, table_size};
 ghost use Rattle.dexspec.specs.Mentions.{Mentions};
-ghost use Rattle.dexspec.specs.Accepted.{HasClass};
 ghost use Rattle.dexpool.specs.Pools.{ArePools};
-ghost use Rattle.dexmembers.specs.Reading.{IsMembersFault};
+ghost use Rattle.dexmembers.specs.Reading.{IsMembersFault, InClass};
 ghost use Rattle.dexmembers.specs.Checking.{AreChecks, HasMembersOf};
+ghost use Rattle.dexmembers.specs.internal.ClassData.{count_fields};
 
 use crate::class_data::{ClassData, read_class_data};
 use crate::class_def::ClassDef;
@@ -39,7 +39,7 @@ impl Checks {
 
 // What declared fields weigh without their annotations, or 2^64 - 1 where that is more.
 fn fields_weight(declared: &ClassData) -> u64
-    ensures { result ≡ min (2 ^ 64 - 1) (18 * (length declared.now.static_fields.items + length declared.now.instance_fields.items)) }
+    ensures { result ≡ min (2 ^ 64 - 1) (18 * count_fields declared.now) }
 {
     let statics = 18u64.saturating_mul(declared.static_fields.len() as u64);
     let instances = 18u64.saturating_mul(declared.instance_fields.len() as u64);
@@ -66,8 +66,8 @@ pub fn check_members(
     requires row { row < table_size frame.now ClassDefs }
     requires checks { ArePools frame.now pools.now → AreChecks frame.now pools.now checks.old }
     ensures checks { ArePools frame.now pools.now → OnOk result (AreChecks frame.now pools.now checks.new) }
-    ensures checked { ArePools frame.now pools.now → HasClass frame.now row → IfOk result (HasMembersOf frame.now row) }
-    ensures refused { ArePools frame.now pools.now → HasClass frame.now row → IfErr result (IsMembersFault frame.now row) }
+    ensures checked { InClass frame.now pools.now row (IfOk result (HasMembersOf frame.now row)) }
+    ensures refused { InClass frame.now pools.now row (IfErr result (IsMembersFault frame.now row)) }
 {
     pools.numbering().is_numbering();
     let row = ClassDef::at(frame, row);

@@ -3,11 +3,8 @@
 ghost use Rattle.std.specs.Prelude.{◌≤◌, ◌+◌, ◌∷◌, [], ℕ, length, IfOk, IfErr, IfSome, IfNone};
 ghost use Rattle.dexspec.specs.Lists.{Sequence};
 ghost use Rattle.dexspec.specs.Numbers.{Uleb128At};
-ghost use Rattle.dexspec.specs.Accepted.{HasClass};
-ghost use Rattle.dexmembers.specs.internal.EncodedMembers.{IsDataRefusal, DataAt, NoData};
-ghost use Rattle.dexpool.specs.Pools.{ArePools};
-ghost use Rattle.dexmembers.specs.internal.ClassData.{IsDataOf, IsDataFault};
-ghost use Rattle.dexmembers.specs.ClassDefs.{IsClassDef};
+ghost use Rattle.dexmembers.specs.internal.EncodedMembers.{IsDataRefusal, NoData, AreCountsAt, IsDataAt};
+ghost use Rattle.dexmembers.specs.internal.ClassData.{ReadsData, RefusesData};
 
 use crate::class_def::ClassDef;
 use crate::encoded_lists::read_lists;
@@ -60,7 +57,7 @@ struct Counts {
 fn read_counts(bytes: &[u8], at: usize) -> Option<(Counts, usize)>
     requires { at ≤ length bytes.now }
     ensures none { IfNone result ((c d e f n : ℕ) → Sequence Uleb128At bytes.now at (c ∷ d ∷ e ∷ f ∷ []) n → ⊥) }
-    ensures some { IfSome result (λ x. Sequence Uleb128At bytes.now at (x.0.static_fields ∷ x.0.instance_fields ∷ x.0.direct_methods ∷ x.0.virtual_methods ∷ []) x.1) }
+    ensures some { IfSome result (λ x. AreCountsAt bytes.now at x.0 x.1) }
     ensures within { IfSome result (λ x. at + x.1 ≤ length bytes.now) }
 {
     let (static_fields, first) = match read_u(bytes, at) {
@@ -96,7 +93,7 @@ fn read_data(
     at: usize,
 ) -> Result<ClassData, ItemFault>
     requires { at ≤ length bytes.now }
-    ensures data { IfOk result (λ d. DataAt owner.entry.pools.now owner.entry.class bytes.now at d.static_fields.items d.instance_fields.items d.direct_methods.items d.virtual_methods.items) }
+    ensures data { IfOk result (IsDataAt owner.entry.pools.now owner.entry.class bytes.now at) }
     ensures fault { IfErr result (IsDataRefusal (NoData owner.entry.pools.now owner.entry.class bytes.now at)) }
 {
     let (counts, counts_size) = match read_counts(bytes, at) {
@@ -140,8 +137,8 @@ pub(crate) fn read_class_data(
     pools: &Pools<'_>,
     row: &ClassDef,
 ) -> Result<ClassData, ItemFault>
-    ensures read { (r : ℕ) → IsClassDef frame.now r row.now → ArePools frame.now pools.now → HasClass frame.now r → IfOk result (IsDataOf frame.now r pools.now) }
-    ensures refused { (r : ℕ) → IsClassDef frame.now r row.now → ArePools frame.now pools.now → IfErr result (IsDataFault frame.now r) }
+    ensures read { ReadsData frame.now pools.now row.now result }
+    ensures refused { RefusesData frame.now pools.now row.now result }
 {
     pools.numbering().is_numbering();
     let bytes = frame.bytes();

@@ -1,14 +1,9 @@
 //! Class data written.
 
 ghost use Rattle.std.specs.Prelude.{◌≡◌, ◌+◌, ◌*◌, ◌≤◌, length, IsOk, vec_len, vec_capacity};
-ghost use Rattle.dexspec.specs.Texts.{Text};
-ghost use Rattle.dexspec.specs.Classes.{Body};
-ghost use Rattle.dexspec.specs.Mentions.{Mentions};
-ghost use Rattle.dexspec.specs.Spellings.{class_data_bytes};
 ghost use Rattle.dexspec.specs.internal.Writing.{Puts};
-ghost use Rattle.dexpool.specs.Numberings.{AreRising};
-ghost use Rattle.dexmembers.specs.Numbered.{AreKnownMembers, AreOfClass, fields_of, methods_of, members_in, members_of};
-ghost use Rattle.dexmembers.specs.Spelled.{numbered_field_bytes, numbered_fields_bytes, numbered_method_bytes, numbered_methods_bytes, numbered_class_data_bytes};
+ghost use Rattle.dexmembers.specs.Numbered.{fields_of, methods_of};
+ghost use Rattle.dexmembers.specs.Spelled.{numbered_field_bytes, numbered_fields_bytes, numbered_method_bytes, numbered_methods_bytes, numbered_class_data_bytes, PutsDenotedClassData, class_data_room};
 
 use crate::field_views::{Field, Fields};
 use crate::members::Members;
@@ -143,8 +138,8 @@ impl Members<'_> {
     pub fn put_class_data(&self, code_offs: &[u32], out: &mut Vec<u8>) -> Result<(), AllocError>
         requires offsets { length code_offs.now ≡ length (methods_of self.now) }
         ensures bytes { Puts (numbered_class_data_bytes self.now code_offs.now) out.old out.new result }
-        ensures symbolic { (m : Mentions) (name : Text) (c : Body) → AreRising m → AreKnownMembers m self.now → AreOfClass m name self.now → members_of c ≡ members_in m self.now → Puts (class_data_bytes m (name, c) code_offs.now) out.old out.new result }
-        ensures room { vec_len out.old + (20 + 10 * length (fields_of self.now) + 15 * length (methods_of self.now)) ≤ vec_capacity out.old → IsOk result }
+        ensures symbolic { PutsDenotedClassData self.now code_offs.now out.old out.new result }
+        ensures room { vec_len out.old + class_data_room self.now ≤ vec_capacity out.old → IsOk result }
     {
         members_bytes_law();
         let most = self.most_class_data_len();

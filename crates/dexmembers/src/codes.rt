@@ -1,15 +1,11 @@
 //! The code of methods.
 
-ghost use Rattle.std.specs.Prelude.{◌≡◌, ◌+◌, ◌<◌, [], ◌∷◌, Option, IfOk, IfErr, IfSome, MatchOption};
-ghost use Rattle.dexspec.specs.Lists.{BothOrNone};
-ghost use Rattle.dexspec.specs.Code as symbolic;
-ghost use Rattle.dexspec.specs.Mentions.{Mentions};
-ghost use Rattle.dexpool.specs.Numberings.{AreRising};
+ghost use Rattle.std.specs.Prelude.{◌≡◌, ◌+◌, [], ◌∷◌, IfOk, IfErr, IfSome};
 ghost use Rattle.dexpool.specs.Pools.{ArePools};
 ghost use Rattle.dexcode.specs.Checking.{one_code_weight};
-ghost use Rattle.dexcode.specs.Numbered.{DenotesCode};
+ghost use Rattle.dexcode.specs.Numbered.{ForDenoted};
 ghost use Rattle.dexmembers.specs.Weighing.{numbered_whole_weight, codes_weight};
-ghost use Rattle.dexmembers.specs.internal.MethodCodes.{IsCodeOrNone, IsCodeOrNoneFault, AreCodesOf, AreHeavyCodes, IsCodesFault, optional_code_weight};
+ghost use Rattle.dexmembers.specs.internal.MethodCodes.{IsCodeOrNone, IsCodeOrNoneFault, IsCodesFault, optional_code_weight, CodesWithin, ForDenotedOrNone, IsTaken};
 
 use crate::class_data::EncodedMethod;
 use crate::code_checking::{CheckedCodes, check_codes};
@@ -40,7 +36,7 @@ fn code_or_none<'a>(
 
 // Returns what is left of a weight after the code with its debug program, or `None` if the code weighs more.
 fn left_after(left: u64, code: &Code<'_>) -> Option<u64>
-    ensures symbolic { (m : Mentions) (x : symbolic.Code) → AreRising m → DenotesCode m code.now x → MatchOption result (left < one_code_weight x) (λ rest. rest + one_code_weight x ≡ left) }
+    ensures symbolic { ForDenoted code.now (λ m x. IsTaken left (one_code_weight x) result) }
     ensures numbered { IfSome result (λ rest. rest + numbered_whole_weight code.now ≡ left) }
 {
     debug_unindexed_law();
@@ -53,7 +49,7 @@ fn left_after(left: u64, code: &Code<'_>) -> Option<u64>
 
 // Returns what is left after the code of a method that may have none.
 fn left_after_any(left: u64, code: &Option<Code<'_>>) -> Option<u64>
-    ensures symbolic { (m : Mentions) (x : Option symbolic.Code) → AreRising m → BothOrNone (DenotesCode m) code.now x → MatchOption result (left < optional_code_weight x) (λ rest. rest + optional_code_weight x ≡ left) }
+    ensures symbolic { ForDenotedOrNone code.now (λ m x. IsTaken left (optional_code_weight x) result) }
     ensures numbered { IfSome result (λ rest. rest + codes_weight (code.now ∷ []) ≡ left) }
 {
     match code {
@@ -79,7 +75,7 @@ pub(crate) fn read_codes<'a>(
     methods: &[EncodedMethod],
     most: u64,
 ) -> Result<Option<WeighedCodes<'a>>, ItemFault>
-    ensures read { ArePools frame.now pools.now → IfOk result (λ codes. MatchOption codes (AreHeavyCodes frame.now methods.now most) (λ codes. AreCodesOf frame.now pools.now methods.now most codes.0.items)) }
+    ensures read { ArePools frame.now pools.now → IfOk result (CodesWithin frame.now pools.now methods.now most) }
     ensures weight { IfOk result (λ codes. IfSome codes (λ codes. codes.1 ≡ codes_weight codes.0.items)) }
     ensures refused { ArePools frame.now pools.now → IfErr result (IsCodesFault frame.now methods.now) }
 {

@@ -1,6 +1,6 @@
 //! Annotations directories written.
 
-ghost use Rattle.std.specs.Prelude.{⊤, ◌≡◌, ℕ, ◌*◌, List, Some, IsOk, map, slice_index, vec_len, vec_capacity, ◌+◌, ◌^◌, ◌<◌, ◌≤◌, ◌++◌, ◌==◌, if◌then◌else◌, length, slice_index_or};
+ghost use Rattle.std.specs.Prelude.{⊤, ◌≡◌, ℕ, ◌*◌, List, Some, IsOk, map, slice_index, ◌+◌, ◌^◌, ◌<◌, ◌≤◌, ◌==◌, if◌then◌else◌, length, slice_index_or};
 ghost use Rattle.dexspec.specs.Texts.{Text};
 ghost use Rattle.dexspec.specs.Classes.{Body};
 ghost use Rattle.dexspec.specs.Mentions.{Mentions};
@@ -8,9 +8,8 @@ ghost use Rattle.dexspec.specs.Placing.{SetOffsets, directory_bytes};
 ghost use Rattle.dexspec.specs.internal.Writing.{Puts};
 ghost use Rattle.dexpool.specs.Numberings.{AreRising};
 ghost use Rattle.dexmembers.specs.Numbered.{fields_of, methods_of, members_in, members_of, AreKnownMembers, AreOrdered, AreOfClass};
-ghost use Rattle.dexspec.specs.Bytes.{uint};
-ghost use Rattle.dexmembers.specs.DirectoryPut.{pair_bytes, count_placed, both_bytes, field_numbers, method_numbers, numbered_directory_bytes};
-ghost use Rattle.dexmembers.specs.FormedDirectory.{IsFormedDirectory};
+ghost use Rattle.dexmembers.specs.DirectoryPut.{pair_bytes, count_placed, numbered_directory_bytes, both_bytes_by, directory_head_bytes, field_pairs_bytes, method_pairs_bytes, HasDirectoryRoom, IsDirectoryLen};
+ghost use Rattle.dexmembers.specs.FormedDirectory.{IsFormedDirectory, item_bytes};
 
 use crate::members::{DeclaredField, DeclaredMethod, Members};
 use crate::put_laws::members_bytes_law;
@@ -91,7 +90,7 @@ fn next_number<T: HasNumber>(members: &[T], place: usize) -> u64
 // Writes the pairs of two lists of members by index.
 fn encode_pairs<T: HasNumber, O: Output>(first: &[T], second: &[T], offsets: &[u32], out: &mut O)
     requires { length offsets.now ≡ length first.now + length second.now }
-    ensures { O.gives (both_bytes (map T.number_of first.now) (map T.number_of second.now) offsets.now) out.old out.new }
+    ensures { O.gives (both_bytes_by T.number_of first.now second.now offsets.now) out.old out.new }
 {
     let (first_offsets, second_offsets) = offsets.split_at(first.len());
     let mut i = 0;
@@ -155,7 +154,7 @@ impl EntryCounts {
 
 // Writes what is before the pairs: the offset of the class's own set, and the number of pairs of each kind.
 fn encode_head<O: Output>(own_off: u32, counts: &EntryCounts, out: &mut O)
-    ensures { O.gives (uint own_off ++ (uint counts.now.fields ++ (uint counts.now.methods ++ uint counts.now.parameters))) out.old out.new }
+    ensures { O.gives (directory_head_bytes own_off counts.now) out.old out.new }
 {
     out.u32(own_off);
     out.u32(counts.fields);
@@ -167,7 +166,7 @@ impl Members<'_> {
     // Writes the pairs of the fields.
     fn encode_field_pairs<O: Output>(&self, offsets: &[u32], out: &mut O)
         requires { length offsets.now ≡ length (fields_of self.now) }
-        ensures { O.gives (both_bytes (field_numbers self.now.static_fields) (field_numbers self.now.instance_fields) offsets.now) out.old out.new }
+        ensures { O.gives (field_pairs_bytes self.now offsets.now) out.old out.new }
     {
         let own = &self.contents;
         encode_pairs(&own.static_fields, &own.instance_fields, offsets, out);
@@ -176,7 +175,7 @@ impl Members<'_> {
     // Writes pairs of the methods.
     fn encode_method_pairs<O: Output>(&self, offsets: &[u32], out: &mut O)
         requires { length offsets.now ≡ length (methods_of self.now) }
-        ensures { O.gives (both_bytes (method_numbers self.now.direct_methods) (method_numbers self.now.virtual_methods) offsets.now) out.old out.new }
+        ensures { O.gives (method_pairs_bytes self.now offsets.now) out.old out.new }
     {
         let own = &self.contents;
         encode_pairs(&own.direct_methods, &own.virtual_methods, offsets, out);
@@ -209,7 +208,7 @@ impl DirectoryItem<'_, '_> {
     // Appends the annotations_directory_item.
     fn put(&self, out: &mut Vec<u8>) -> Result<(), AllocError>
         requires { IsFormedDirectory self.now }
-        ensures { Puts (numbered_directory_bytes self.now.members.now self.now.offs.own self.now.offs.fields.now self.now.offs.methods.now self.now.offs.parameters.now) out.old out.new result }
+        ensures { Puts (item_bytes self.now) out.old out.new result }
     {
         out.reserve(self.counts.directory_len())?;
         self.encode(out);
@@ -233,7 +232,7 @@ impl Members<'_> {
         requires fields { length field_offs.now ≡ length (fields_of self.now) }
         requires methods { length method_offs.now ≡ length (methods_of self.now) }
         requires parameters { length parameter_offs.now ≡ length (methods_of self.now) }
-        ensures { (own_off : ℕ) → result ≡ length (numbered_directory_bytes self.now own_off field_offs.now method_offs.now parameter_offs.now) }
+        ensures { IsDirectoryLen self.now field_offs.now method_offs.now parameter_offs.now result }
     {
         self.are_few();
         let offs = SetOffs {
@@ -272,7 +271,7 @@ impl Members<'_> {
         requires parameters { length parameter_offs.now ≡ length (methods_of self.now) }
         ensures bytes { Puts (numbered_directory_bytes self.now own_off field_offs.now method_offs.now parameter_offs.now) out.old out.new result }
         ensures symbolic { (m : Mentions) (name : Text) (c : Body) (sets : SetOffsets) (item : List ℕ) → AreRising m → AreKnownMembers m self.now → AreOrdered self.now → AreOfClass m name self.now → members_of c ≡ members_in m self.now → sets.own ≡ own_off → sets.fields ≡ field_offs.now → map (λ offs. slice_index offs 0) sets.methods ≡ method_offs.now → directory_bytes m (name, c) sets parameter_offs.now ≡ Some item → Puts item out.old out.new result }
-        ensures room { vec_len out.old + (16 + 8 * (count_placed field_offs.now + count_placed method_offs.now + count_placed parameter_offs.now)) ≤ vec_capacity out.old → IsOk result }
+        ensures room { HasDirectoryRoom field_offs.now method_offs.now parameter_offs.now out.old → IsOk result }
     {
         members_bytes_law();
         self.are_few();

@@ -3,7 +3,7 @@
 ghost use Rattle.std.specs.Prelude.{◌↔◌, ◌≤◌, length, map, IsTrue, IfOk, IfErr};
 ghost use Rattle.dexspec.specs.ClassData.{ShareNone};
 ghost use Rattle.dexmembers.specs.Numbered.{NumbersRise};
-ghost use Rattle.dexmembers.specs.internal.EncodedMembers.{IsDataRefusal, IsListRead, NoList, AreListsRead, NoLists};
+ghost use Rattle.dexmembers.specs.internal.EncodedMembers.{ReadsList, ReadsLists, RefusesList, RefusesLists};
 
 use crate::encodings::{Encoded, Owner};
 use dexhead::Condition;
@@ -31,8 +31,8 @@ fn read_list<T: Encoded>(
     count: u32,
 ) -> Result<(Vec<T>, usize), ItemFault>
     requires { at ≤ length bytes.now }
-    ensures list { IfOk result (λ x. IsListRead (T.encodes owner.entry.pools.now owner.entry.class) T.index_of bytes.now at count x.0.items x.1) }
-    ensures fault { IfErr result (IsDataRefusal (NoList (T.encodes owner.entry.pools.now owner.entry.class) T.index_of bytes.now at count)) }
+    ensures list { IfOk result (ReadsList T.encodes T.index_of owner.entry bytes.now at count) }
+    ensures fault { IfErr result (RefusesList T.encodes T.index_of owner.entry bytes.now at count) }
 {
     T::law();
     let mut members = Vec::with_capacity(alloc, room(count as usize))?;
@@ -81,8 +81,8 @@ pub(crate) fn read_lists<T: Encoded>(
     other_count: u32,
 ) -> Result<(Vec<T>, Vec<T>, usize), ItemFault>
     requires { at ≤ length bytes.now }
-    ensures lists { IfOk result (λ x. AreListsRead (T.encodes owner.entry.pools.now owner.entry.class) T.index_of bytes.now at count other_count x.0.items x.1.items x.2) }
-    ensures fault { IfErr result (IsDataRefusal (NoLists (T.encodes owner.entry.pools.now owner.entry.class) T.index_of bytes.now at count other_count)) }
+    ensures lists { IfOk result (ReadsLists T.encodes T.index_of owner.entry bytes.now at count other_count) }
+    ensures fault { IfErr result (RefusesLists T.encodes T.index_of owner.entry bytes.now at count other_count) }
 {
     T::law();
     let (members, size) = read_list(alloc, owner, bytes, at, count)?;

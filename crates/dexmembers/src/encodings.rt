@@ -1,9 +1,9 @@
 //! Members of class data as they are encoded, one by one.
 
-ghost use Rattle.std.specs.Prelude.{◌≡◌, ◌↔◌, ◌^◌, ◌<◌, ◌≤◌, ◌+◌, ℕ, List, Option, Some, length, IsTrue, IfSome, IfNone, MatchOption};
+ghost use Rattle.std.specs.Prelude.{◌≡◌, ◌↔◌, ◌≤◌, ◌+◌, ℕ, List, Option, length, IsTrue, IfSome, IfNone, MatchOption};
 ghost use Rattle.dexspec.specs.Mentions.{Mentions};
 ghost use Rattle.dexspec.specs.ClassData.{IsNextIndex};
-ghost use Rattle.dexmembers.specs.internal.EncodedMembers.{IsOwnField, IsOwnMethod, HeadAt, FieldAt, MethodAt};
+ghost use Rattle.dexmembers.specs.internal.EncodedMembers.{IsOwnField, IsOwnMethod, HeadAt, FieldAt, MethodAt, HasGreaterIndex, IsMember, IsOneMember, IsOnlyHead, NoMember, NoNextIndex};
 
 use crate::class_data::{EncodedField, EncodedMethod};
 use dexleb::read_u;
@@ -37,14 +37,14 @@ pub(crate) trait Encoded: Copy {
         last: Option<u32>,
     ) -> Option<(Self, usize)>
         requires { at ≤ length bytes.now }
-        ensures none { IfNone result ((x : Self) (n : ℕ) → encodes owner.entry.pools.now owner.entry.class bytes.now at last x n → ⊥) }
-        ensures some { IfSome result (λ x. encodes owner.entry.pools.now owner.entry.class bytes.now at last x.0 x.1) }
+        ensures none { IfNone result (NoMember (encodes owner.entry.pools.now owner.entry.class) bytes.now at last) }
+        ensures some { IfSome result (IsMember (encodes owner.entry.pools.now owner.entry.class) bytes.now at last) }
         ensures within { IfSome result (λ x. at + x.1 ≤ length bytes.now) };
 
     // There is at most one member at an offset, it has one size, and its index is above the one before it.
     fn law()
-        ensures one { (m : Mentions) (class : ℕ) (b : List ℕ) (o : ℕ) (last : Option ℕ) (x y : Self) (n k : ℕ) → encodes m class b o last x n → encodes m class b o last y k → (x ≡ y) × (n ≡ k) }
-        ensures follows { (m : Mentions) (class : ℕ) (b : List ℕ) (o i : ℕ) (x : Self) (n : ℕ) → encodes m class b o (Some i) x n → i < index_of x };
+        ensures one { IsOneMember encodes }
+        ensures follows { HasGreaterIndex encodes index_of };
 }
 
 impl Encoded for EncodedField {
@@ -111,7 +111,7 @@ impl Encoded for EncodedMethod {
 fn head_at(bytes: &[u8], at: usize, last: Option<u32>) -> Option<(u32, u32, usize)>
     requires { at ≤ length bytes.now }
     ensures some { IfSome result (λ x. HeadAt bytes.now at last x.0 x.1 x.2) }
-    ensures only { (index flags size : ℕ) → index < 2 ^ 32 → HeadAt bytes.now at last index flags size → result ≡ Some (index, flags, size) }
+    ensures only { IsOnlyHead bytes.now at last result }
     ensures within { IfSome result (λ x. at + x.2 ≤ length bytes.now) }
 {
     let (difference, index_size) = match read_u(bytes, at) {
@@ -129,7 +129,7 @@ fn head_at(bytes: &[u8], at: usize, last: Option<u32>) -> Option<(u32, u32, usiz
 // Returns the index after another one, or `None` where the difference is 0, or the index has more than 32 bits. The
 // first index is the difference itself.
 fn next_index(last: Option<u32>, difference: u32) -> Option<u32>
-    ensures { MatchOption result ((i : ℕ) → i < 2 ^ 32 → IsNextIndex last difference i → ⊥) (IsNextIndex last difference) }
+    ensures { MatchOption result (NoNextIndex last difference) (IsNextIndex last difference) }
 {
     match last {
         None => Some(difference),

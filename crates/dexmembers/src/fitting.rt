@@ -1,11 +1,9 @@
 //! Whether the images of the numbers in what classes declare fit their places.
 
-ghost use Rattle.std.specs.Prelude.{◌↔◌, IsTrue, All};
-ghost use Rattle.dexspec.specs.Mentions.{Mentions};
 ghost use Rattle.dexcode.specs.Meaning.{IsKnownCode};
 ghost use Rattle.dexcode.specs.Renumbering.{HasPlaces};
 ghost use Rattle.dexmembers.specs.Numbered.{IsKnownMethod, AreKnownMembers};
-ghost use Rattle.dexmembers.specs.Renumbering.{MapsInto, MethodHasPlaces, MembersHavePlaces};
+ghost use Rattle.dexmembers.specs.Renumbering.{MethodHasPlaces, MembersHavePlaces, AreKnownMethods, MethodsHavePlaces, ReportsPlaces};
 
 use crate::members::Members;
 use crate::method_views::{Method, Methods};
@@ -16,7 +14,7 @@ use dexval::places_law;
 // Returns whether the image of each number in the code fits its place. Those outside of instructions fit where all
 // numbers have images.
 fn code_fits(code: &Code<'_>, remap: &Remap) -> bool
-    ensures { (m n : Mentions) → MapsInto m n remap.now → IsKnownCode m code.now → IsTrue result ↔ HasPlaces remap.now code.now }
+    ensures { ReportsPlaces IsKnownCode HasPlaces remap.now code.now result }
 {
     code_places_law();
     code_meaning_law();
@@ -25,7 +23,7 @@ fn code_fits(code: &Code<'_>, remap: &Remap) -> bool
 
 // Returns whether the image of each number of methods fits its place.
 fn methods_fit(methods: &Methods<'_, '_>, remap: &Remap) -> bool
-    ensures { (m n : Mentions) → MapsInto m n remap.now → All (IsKnownMethod m) methods.now → IsTrue result ↔ All (MethodHasPlaces remap.now) methods.now }
+    ensures { ReportsPlaces AreKnownMethods MethodsHavePlaces remap.now methods.now result }
 {
     for i in 0..methods.len() {
         if !methods.get(i).instructions_fit(remap) {
@@ -38,7 +36,7 @@ fn methods_fit(methods: &Methods<'_, '_>, remap: &Remap) -> bool
 impl Method<'_, '_> {
     // Returns whether the image of each number of the method fits its place.
     fn instructions_fit(&self, remap: &Remap) -> bool
-        ensures { (m n : Mentions) → MapsInto m n remap.now → IsKnownMethod m self.now → IsTrue result ↔ MethodHasPlaces remap.now self.now }
+        ensures { ReportsPlaces IsKnownMethod MethodHasPlaces remap.now self.now result }
     {
         places_law();
         match self.code() {
@@ -56,7 +54,7 @@ impl<'a> Members<'a> {
     ///
     /// Source: "code_item", the field `insns`.
     pub fn instructions_fit(&self, remap: &Remap) -> bool
-        ensures { (m n : Mentions) → MapsInto m n remap.now → AreKnownMembers m self.now → IsTrue result ↔ MembersHavePlaces remap.now self.now }
+        ensures { ReportsPlaces AreKnownMembers MembersHavePlaces remap.now self.now result }
     {
         places_law();
         if !methods_fit(&self.direct_methods(), remap) {

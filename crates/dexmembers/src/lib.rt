@@ -1,8 +1,9 @@
 //! What classes declare: fields and methods, their code and annotations, and the values that static fields begin with.
 //!
-//! Public contracts use the definitions of `specs/Checking`, `specs/ClassDefs`, `specs/Contents`,
-//! `specs/DirectoryPut`, `specs/Fitting`, `specs/FormedDirectory`, `specs/Held`, `specs/Numbered`, `specs/Reading`,
-//! `specs/Renumbering`, `specs/Spelled`, `specs/Stripped`, `specs/Uses`, `specs/Weighing` and `specs/Weight`.
+//! Public contracts use the definitions of `specs/Borrowed`, `specs/Checking`, `specs/ClassDefs`, `specs/Contents`,
+//! `specs/DirectoryPut`, `specs/Fitting`, `specs/FormedDirectory`, `specs/Held`, `specs/Laws`, `specs/Numbered`,
+//! `specs/Reading`, `specs/Renumbering`, `specs/Spelled`, `specs/Stripped`, `specs/Uses`, `specs/Weighing` and
+//! `specs/Weight`.
 //!
 //! Source: the Android page "Dalvik Executable format", under the headings "class_data_item", "encoded_field format",
 //! "encoded_method format" and "annotations_directory_item".

@@ -1,15 +1,14 @@
 //! Visits of the symbols that occur in what classes declare, and marks on them.
 
-ghost use Rattle.std.specs.Prelude.{◌≡◌, [], ◌++◌, All, IfSome, MatchOption, Option, Some, None, option_to_list};
+ghost use Rattle.std.specs.Prelude.{All, IfSome};
 ghost use Rattle.std.specs.List.{FoldsTo, flat_map};
 ghost use Rattle.dexpool.specs.Uses.{HasMark, AreMarkedToo};
-ghost use Rattle.dexval.specs.Code.{set_of};
-ghost use Rattle.dexval.specs.Numbered.{NumberedSet};
 ghost use Rattle.dexval.specs.Uses.{set_uses};
-ghost use Rattle.dexcode.specs.Numbered.{NumberedItem};
 ghost use Rattle.dexcode.specs.Renumbering.{item_uses};
-ghost use Rattle.dexmembers.specs.Numbered.{fields_of, methods_of};
+ghost use Rattle.dexmembers.specs.Numbered.{methods_of};
 ghost use Rattle.dexmembers.specs.Uses.{field_uses, method_uses, members_uses};
+ghost use Rattle.dexmembers.specs.Borrowed.{ForCode, ForSet};
+ghost use Rattle.dexmembers.specs.internal.Parts.{optional_code_uses, uses_before_methods};
 
 use crate::field_views::{Field, Fields};
 use crate::members::Members;
@@ -20,7 +19,7 @@ use dexval::{AnnotationSet, visit_values};
 
 // Passes the symbols of a set, if there is one, to the visitor.
 fn visit_set<V: Visitor>(set: Option<&AnnotationSet>, visitor: &mut V)
-    ensures { (visited : NumberedSet) → MatchOption set.entry (visited ≡ []) (λ set. set_of set.now ≡ visited) → FoldsTo V.step visitor.old (set_uses visited) visitor.new }
+    ensures { ForSet set.entry (λ visited. FoldsTo V.step visitor.old (set_uses visited) visitor.new) }
 {
     if let Some(set) = set {
         set.visit(visitor);
@@ -59,7 +58,7 @@ impl Symbols for Fields<'_> {
 // Marks the symbols of code, if there is some.
 fn mark_code(code: Option<&Code<'_>>, marks: &mut Marks)
     requires { IfSome code (λ code. All (HasMark marks.old) (item_uses code.now)) }
-    ensures { (marked : Option NumberedItem) → MatchOption code.entry (marked ≡ None) (λ code. marked ≡ Some code.now) → AreMarkedToo (flat_map item_uses (option_to_list marked)) marks.old marks.new }
+    ensures { ForCode code.entry (λ marked. AreMarkedToo (optional_code_uses marked) marks.old marks.new) }
 {
     if let Some(code) = code {
         code.mark(marks);
@@ -92,7 +91,7 @@ fn mark_methods(methods: &Methods<'_, '_>, marks: &mut Marks)
 impl<'a> Members<'a> {
     // Passes the symbols of the class's own set and of its fields to the visitor.
     fn visit_fields<V: Visitor>(&self, visitor: &mut V)
-        ensures { FoldsTo V.step visitor.old (set_uses self.now.annotations ++ flat_map field_uses (fields_of self.now)) visitor.new }
+        ensures { FoldsTo V.step visitor.old (uses_before_methods self.now) visitor.new }
     {
         visit_set(self.annotations(), visitor);
         self.static_fields().visit(visitor);

@@ -3,8 +3,9 @@
 ghost use Rattle.std.specs.Prelude.{◌≡◌, [], MatchOption, length, map};
 ghost use Rattle.dexval.specs.Code.{set_of, value_of};
 ghost use Rattle.dexval.specs.Numbered.{values_of_list};
-ghost use Rattle.dexmembers.specs.Numbered.{no_members, fields_of, methods_of, AreFew};
+ghost use Rattle.dexmembers.specs.Numbered.{no_members, fields_of, methods_of, HasFewMembers};
 ghost use Rattle.dexmembers.specs.Contents.{contents_in, AreHeld};
+ghost use Rattle.dexmembers.specs.Borrowed.{IsBorrowedSet};
 
 use crate::field_views::Fields;
 use crate::method_views::Methods;
@@ -109,7 +110,7 @@ impl<'a> Contents<'a> {
     /// The annotations of the class itself.
     pub(crate) fn annotations(&self) -> Option<&AnnotationSet>
         requires { AreHeld self.now }
-        ensures { MatchOption result ((contents_in self.now).annotations ≡ []) (λ set. set_of set.now ≡ (contents_in self.now).annotations) }
+        ensures { IsBorrowedSet result (contents_in self.now).annotations }
     {
         self.table.set(self.set)
     }
@@ -168,7 +169,7 @@ impl<'a> Members<'a> {
     /// A class declares fewer than 2^32 fields and fewer than 2^32 methods. The call does nothing: its contract states
     /// what holds of all that is declared, for the proofs of callers.
     pub fn are_few(&self)
-        ensures { AreFew self.now.static_fields self.now.instance_fields self.now.direct_methods self.now.virtual_methods }
+        ensures { HasFewMembers self.now }
     {
         let _fields = &self.contents.static_fields;
     }

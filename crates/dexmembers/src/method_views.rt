@@ -5,6 +5,7 @@ ghost use Rattle.dexspec.specs.Spellings.{offsets_bytes};
 ghost use Rattle.dexval.specs.Code.{set_of};
 ghost use Rattle.dexval.specs.Tables.{IsPlaceIn, set_at};
 ghost use Rattle.dexmembers.specs.Held.{method_of, IsHeldMethod};
+ghost use Rattle.dexmembers.specs.Borrowed.{IsBorrowedSet};
 
 use crate::members::DeclaredMethod;
 use dexcode::Code;
@@ -219,7 +220,7 @@ impl<'m> ParameterSets<'m> {
     /// Condition: there are more sets than that.
     pub fn get(&self, place: usize) -> Option<&'m AnnotationSet>
         requires { place < length self.now }
-        ensures { MatchOption result (slice_index_or self.now place [] ≡ []) (λ set. set_of set.now ≡ slice_index_or self.now place []) }
+        ensures { IsBorrowedSet result (slice_index_or self.now place []) }
     {
         let table = self.table;
         table.set(self.places[place])

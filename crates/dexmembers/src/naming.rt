@@ -2,8 +2,7 @@
 
 ghost use Rattle.std.specs.Prelude.{◌≤◌, ◌+◌, ◌*◌, ◌++◌, ◌^◌, ◌<◌, IsTrue, length, map};
 ghost use Rattle.std.specs.List.{Contains};
-ghost use Rattle.dexmembers.specs.Numbered.{NumbersRise};
-ghost use Rattle.dexmembers.specs.internal.Naming.{NamesOnly, BothRise};
+ghost use Rattle.dexmembers.specs.internal.Naming.{NamesOnly, FindsInBoth, FindsEach, FindsNumber, both_indices};
 
 use crate::encodings::Encoded;
 use dexhead::{Frame, u32_at};
@@ -11,7 +10,7 @@ use dexhead::{Frame, u32_at};
 // Returns whether a member of the list has this index.
 fn has_member<T: Encoded>(members: &[T], index: u32) -> bool
     ensures listed { IsTrue result → Contains (map T.index_of members.now) index }
-    ensures missing { NumbersRise (map T.index_of members.now) → Contains (map T.index_of members.now) index → IsTrue result }
+    ensures missing { FindsNumber (map T.index_of members.now) index result }
 {
     members
         .binary_search_by_key(&index, |member| member.index())
@@ -21,7 +20,7 @@ fn has_member<T: Encoded>(members: &[T], index: u32) -> bool
 // Returns whether a member of one of two lists has this index.
 fn declares_member<T: Encoded>(first: &[T], second: &[T], index: u32) -> bool
     ensures listed { IsTrue result → Contains (map T.index_of first.now ++ map T.index_of second.now) index }
-    ensures missing { BothRise (map T.index_of first.now) (map T.index_of second.now) → Contains (map T.index_of first.now ++ map T.index_of second.now) index → IsTrue result }
+    ensures missing { FindsInBoth (map T.index_of first.now) (map T.index_of second.now) index result }
 {
     if has_member(first, index) {
         return true;
@@ -42,8 +41,8 @@ pub(crate) fn names_members<T: Encoded>(
 ) -> bool
     requires within { at + 8 * count ≤ length frame.now }
     requires fits { at < 2 ^ 40 }
-    ensures listed { IsTrue result → NamesOnly frame.now at count (map T.index_of first.now ++ map T.index_of second.now) }
-    ensures missing { BothRise (map T.index_of first.now) (map T.index_of second.now) → NamesOnly frame.now at count (map T.index_of first.now ++ map T.index_of second.now) → IsTrue result }
+    ensures listed { IsTrue result → NamesOnly frame.now at count (both_indices T.index_of first.now second.now) }
+    ensures missing { FindsEach (map T.index_of first.now) (map T.index_of second.now) frame.now at count result }
 {
     let bytes = frame.bytes();
     for i in 0..count {

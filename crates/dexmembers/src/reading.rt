@@ -1,16 +1,10 @@
 //! What class rows declare, read from a file.
 
-ghost use Rattle.std.specs.Prelude.{◌≡◌, ◌-◌, ◌^◌, ◌<◌, ◌≤◌, min, IfOk, IfErr, MatchOption};
+ghost use Rattle.std.specs.Prelude.{◌<◌, IfOk, IfErr};
 ghost use Rattle.dexspec.specs.Header.{ClassDefs, table_size};
-ghost use Rattle.dexspec.specs.Mentions.{Mentions};
-ghost use Rattle.dexspec.specs.Accepted.{HasClass};
-ghost use Rattle.dexpool.specs.Numberings.{AreRising};
-ghost use Rattle.dexpool.specs.Pools.{ArePools};
-ghost use Rattle.dexmembers.specs.Numbered.{AreKnownMembers, members_in};
-ghost use Rattle.dexmembers.specs.Weight.{members_weight};
-ghost use Rattle.dexmembers.specs.Weighing.{codes_weight, codes_of};
-ghost use Rattle.dexmembers.specs.Reading.{AreReadWithin, IsMembersFault};
+ghost use Rattle.dexmembers.specs.Reading.{AreReadWithin, IsMembersFault, InClass};
 ghost use Rattle.dexmembers.specs.Contents.{contents_in, AreHeld};
+ghost use Rattle.dexmembers.specs.internal.Weighed.{IsWeighedWithin};
 
 use crate::class_data::read_class_data;
 use crate::class_def::ClassDef;
@@ -27,7 +21,7 @@ use std::alloc::Global;
 // Condition: their places are their table's.
 fn within(unweighed: Contents<'_>, codes: u64, most: u32) -> Option<(Members<'_>, u32)>
     requires { AreHeld unweighed }
-    ensures { (m : Mentions) → AreRising m → AreKnownMembers m (contents_in unweighed.entry) → codes ≡ min (2 ^ 64 - 1) (codes_weight (codes_of (contents_in unweighed.entry))) → MatchOption result (most < members_weight (members_in m (contents_in unweighed.entry))) (λ x. (x.0 ≡ contents_in unweighed.entry) × (x.1 ≡ members_weight (members_in m (contents_in unweighed.entry))) × (x.1 ≤ most)) }
+    ensures { IsWeighedWithin (contents_in unweighed.entry) codes most result }
 {
     members_weight_law();
     let weight = unweighed.weight_with(codes);
@@ -57,8 +51,8 @@ pub fn read_members<'a>(
     most: u32,
 ) -> Result<Option<(Members<'a>, u32)>, ItemFault>
     requires row { row < table_size frame.now ClassDefs }
-    ensures read { ArePools frame.now pools.now → HasClass frame.now row → IfOk result (AreReadWithin frame.now row pools.now most) }
-    ensures refused { ArePools frame.now pools.now → HasClass frame.now row → IfErr result (IsMembersFault frame.now row) }
+    ensures read { InClass frame.now pools.now row (IfOk result (AreReadWithin frame.now row pools.now most)) }
+    ensures refused { InClass frame.now pools.now row (IfErr result (IsMembersFault frame.now row)) }
 {
     pools.numbering().is_numbering();
     code_meaning_law();

@@ -1,14 +1,10 @@
 //! The annotations of a class and its members.
 
-ghost use Rattle.std.specs.Prelude.{◌≡◌, ℕ, ◌-◌, ◌^◌, ◌≤◌, min, [], IsTrue, IfOk, IfErr, IfSome, MatchOption};
-ghost use Rattle.dexspec.specs.Classes.{annotations_off};
+ghost use Rattle.std.specs.Prelude.{◌≡◌, [], IsTrue, IfOk, IfSome};
 ghost use Rattle.dexpool.specs.Pools.{ArePools};
-ghost use Rattle.dexval.specs.Directories.{HasMembers, directory_weight};
-ghost use Rattle.dexval.specs.Numbered.{directory_in};
 ghost use Rattle.dexval.specs.Shared.{shared_directory_of};
-ghost use Rattle.dexmembers.specs.internal.ClassData.{IsDataOf};
-ghost use Rattle.dexmembers.specs.internal.Naming.{NamesRead, ListsRise};
-ghost use Rattle.dexmembers.specs.internal.RowParts.{AreAnnotationsOf, AreEntered, AreHeavyAnnotations, IsAnnotationsFault, IsHeldDirectory};
+ghost use Rattle.dexmembers.specs.internal.Naming.{NamesRead, FindsNamed};
+ghost use Rattle.dexmembers.specs.internal.RowParts.{AreEntered, IsHeldDirectory, ReadsAnnotations, RefusesAnnotations, IsLight};
 
 use crate::class_data::{ClassData, EncodedField, EncodedMethod};
 use crate::naming::names_members;
@@ -20,7 +16,7 @@ use std::alloc::Global;
 /// Whether the directory at an offset names declared members alone.
 pub(crate) fn names_declared(frame: &Frame<'_>, off: u32, declared: &ClassData) -> bool
     ensures listed { IsTrue result → NamesRead frame.now off declared.now }
-    ensures missing { HasMembers frame.now off → ListsRise declared.now → NamesRead frame.now off declared.now → IsTrue result }
+    ensures missing { FindsNamed frame.now off declared.now result }
 {
     let counts = match member_counts(frame, off) {
         Some(counts) => counts,
@@ -70,10 +66,10 @@ pub(crate) fn read_annotations(
     declared: &ClassData,
     most: u64,
 ) -> Result<Option<SharedDirectory>, ItemFault>
-    ensures read { (r : ℕ) → off ≡ annotations_off frame.now r → ArePools frame.now pools.now → IsDataOf frame.now r pools.now declared.now → IfOk result (λ found. MatchOption found (AreHeavyAnnotations frame.now r pools.now declared.now most) (AreAnnotationsOf frame.now r pools.now declared.now)) }
-    ensures within { ArePools frame.now pools.now → IfOk result (λ found. IfSome found (λ directory. min (2 ^ 64 - 1) (directory_weight (directory_in pools.now (shared_directory_of directory))) ≤ most)) }
+    ensures read { ReadsAnnotations frame.now pools.now off declared.now most result }
+    ensures within { ArePools frame.now pools.now → IfOk result (λ found. IfSome found (IsLight pools.now most)) }
     ensures held { IfOk result (λ found. IfSome found IsHeldDirectory) }
-    ensures refused { (r : ℕ) → off ≡ annotations_off frame.now r → ArePools frame.now pools.now → IsDataOf frame.now r pools.now declared.now → IfErr result (IsAnnotationsFault frame.now r) }
+    ensures refused { RefusesAnnotations frame.now pools.now off declared.now result }
 {
     pools.numbering().is_numbering();
     if off == 0 {

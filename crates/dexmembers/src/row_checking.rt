@@ -1,13 +1,11 @@
 //! What is at a class row beside its class data, checked and not kept: annotations and static values.
 
-ghost use Rattle.std.specs.Prelude.{◌≡◌, ℕ, IfOk, IfErr, OnOk};
-ghost use Rattle.dexspec.specs.Classes.{annotations_off, static_values_off};
+ghost use Rattle.std.specs.Prelude.{OnOk};
 ghost use Rattle.dexpool.specs.Pools.{ArePools};
 ghost use Rattle.dexval.specs.CheckedSets.{AreChecked};
-ghost use Rattle.dexmembers.specs.internal.ClassData.{IsDataOf};
-ghost use Rattle.dexmembers.specs.internal.RowParts.{IsAnnotationsFault};
-ghost use Rattle.dexmembers.specs.internal.StaticValues.{IsValuesFault};
-ghost use Rattle.dexmembers.specs.Checking.{HasAnnotationsOf, HasValuesOf};
+ghost use Rattle.dexmembers.specs.internal.RowParts.{RefusesAnnotations};
+ghost use Rattle.dexmembers.specs.internal.StaticValues.{RefusesValues};
+ghost use Rattle.dexmembers.specs.Checking.{WeighsAnnotations, WeighsValues};
 
 use crate::class_data::ClassData;
 use crate::row_annotations::names_declared;
@@ -32,8 +30,8 @@ pub(crate) fn check_annotations(
 ) -> Result<u64, ItemFault>
     requires checked { ArePools frame.now pools.now → AreChecked frame.now pools.now checked.old }
     ensures checked { ArePools frame.now pools.now → OnOk result (AreChecked frame.now pools.now checked.new) }
-    ensures weight { (r : ℕ) → off ≡ annotations_off frame.now r → ArePools frame.now pools.now → IsDataOf frame.now r pools.now declared.now → IfOk result (HasAnnotationsOf frame.now r pools.now declared.now) }
-    ensures refused { (r : ℕ) → off ≡ annotations_off frame.now r → ArePools frame.now pools.now → IsDataOf frame.now r pools.now declared.now → IfErr result (IsAnnotationsFault frame.now r) }
+    ensures weight { WeighsAnnotations frame.now pools.now off declared.now result }
+    ensures refused { RefusesAnnotations frame.now pools.now off declared.now result }
 {
     pools.numbering().is_numbering();
     if off == 0 {
@@ -62,8 +60,8 @@ pub(crate) fn check_static_values(
     off: u32,
     fields: usize,
 ) -> Result<u64, ItemFault>
-    ensures weight { (r : ℕ) → off ≡ static_values_off frame.now r → ArePools frame.now pools.now → IfOk result (HasValuesOf frame.now r fields) }
-    ensures refused { (r : ℕ) → off ≡ static_values_off frame.now r → ArePools frame.now pools.now → IfErr result (IsValuesFault frame.now r fields) }
+    ensures weight { WeighsValues frame.now pools.now off fields result }
+    ensures refused { RefusesValues frame.now pools.now off fields result }
 {
     if off == 0 {
         return Ok(0);

@@ -1,16 +1,8 @@
 //! What is at a class row beside its class data: annotations, code and static values.
 
-ghost use Rattle.std.specs.Prelude.{◌≡◌, ℕ, ◌+◌, ◌-◌, ◌^◌, min, IfOk, IfErr, IfSome, MatchOption, map};
-ghost use Rattle.dexpool.specs.Pools.{ArePools};
-ghost use Rattle.dexval.specs.Code.{value_of};
-ghost use Rattle.dexval.specs.Numbered.{values_of_list};
-ghost use Rattle.dexmembers.specs.internal.ClassData.{IsDataOf};
-ghost use Rattle.dexmembers.specs.ClassDefs.{IsClassDef};
-ghost use Rattle.dexmembers.specs.Reading.{AreHeavyMembers, IsMembersFault};
-ghost use Rattle.dexval.specs.Shared.{shared_directory_of};
-ghost use Rattle.dexmembers.specs.Contents.{contents_in, AreHeld};
-ghost use Rattle.dexmembers.specs.Weighing.{codes_weight};
-ghost use Rattle.dexmembers.specs.internal.RowParts.{ArePartsOf, AreAttachable, IsHeldDirectory, attached};
+ghost use Rattle.std.specs.Prelude.{IfOk, IfSome};
+ghost use Rattle.dexmembers.specs.Contents.{AreHeld};
+ghost use Rattle.dexmembers.specs.internal.RowParts.{IsHeldDirectory, CanAttach, HasCodesWeight, IsAttached, ReadsParts, RefusesParts};
 
 use crate::attaching::{attach_fields, attach_methods};
 use crate::class_data::ClassData;
@@ -53,10 +45,10 @@ pub(crate) fn read_parts<'a>(
     declared: &ClassData,
     most: u64,
 ) -> Result<Option<Parts<'a>>, ItemFault>
-    ensures read { (r : ℕ) → IsClassDef frame.now r row.now → ArePools frame.now pools.now → IsDataOf frame.now r pools.now declared.now → IfOk result (λ parts. MatchOption parts (AreHeavyMembers frame.now r most) (λ x. ArePartsOf frame.now r pools.now declared.now most x.directory x.direct_codes.items x.virtual_codes.items (values_of_list (map value_of x.static_values.items)))) }
+    ensures read { ReadsParts frame.now pools.now row.now declared.now most result }
     ensures held { IfOk result (λ parts. IfSome parts (λ x. IsHeldDirectory x.directory)) }
-    ensures weight { IfOk result (λ parts. IfSome parts (λ x. x.codes_weight ≡ min (2 ^ 64 - 1) (codes_weight x.direct_codes.items + codes_weight x.virtual_codes.items))) }
-    ensures refused { (r : ℕ) → IsClassDef frame.now r row.now → ArePools frame.now pools.now → IsDataOf frame.now r pools.now declared.now → IfErr result (IsMembersFault frame.now r) }
+    ensures weight { IfOk result (λ parts. IfSome parts HasCodesWeight) }
+    ensures refused { RefusesParts frame.now pools.now row.now declared.now result }
 {
     pools.numbering().is_numbering();
     let off = row.annotations_off;
@@ -112,7 +104,7 @@ pub(crate) fn attach<'a>(
     parts: Parts<'a>,
 ) -> Result<Contents<'a>, AllocError>
     requires { IsHeldDirectory parts.directory }
-    ensures attached { AreAttachable declared.now parts.entry.directory parts.entry.direct_codes.items parts.entry.virtual_codes.items → IfOk result (λ x. contents_in x ≡ attached declared.now (shared_directory_of parts.entry.directory) parts.entry.direct_codes.items parts.entry.virtual_codes.items (values_of_list (map value_of parts.entry.static_values.items))) }
+    ensures attached { CanAttach declared.now parts.entry → IfOk result (IsAttached declared.now parts.entry) }
     ensures held { IfOk result AreHeld }
 {
     let Parts {

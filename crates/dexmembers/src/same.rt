@@ -1,14 +1,14 @@
 //! Whether what classes declare is the same once remapped.
 
-ghost use Rattle.std.specs.Prelude.{◌≡◌, ◌↔◌, [], IsTrue, MatchOption, Option, Some, None, map};
-ghost use Rattle.dexpool.specs.declared.symbols.SymbolKind.TheVariants as kinds;
-ghost use Rattle.dexval.specs.Code.{set_of};
+ghost use Rattle.std.specs.Prelude.{◌≡◌, ◌↔◌, IsTrue, Option};
+ghost use Rattle.std.specs.Option.{option_map};
 ghost use Rattle.dexval.specs.Renumbering.{renumbered_set};
 ghost use Rattle.dexval.specs.Numbered.{NumberedSet};
 ghost use Rattle.dexcode.specs.Numbered.{NumberedItem};
 ghost use Rattle.dexcode.specs.Renumbering.{renumbered_item};
+ghost use Rattle.dexcode.specs.internal.Same.{SameRemapped};
 ghost use Rattle.dexmembers.specs.Renumbering.{renumbered_field, renumbered_method, renumbered_members};
-ghost use Rattle.std.specs.Option.{option_map};
+ghost use Rattle.dexmembers.specs.Borrowed.{IsBorrowedCode, IsBorrowedSet};
 
 use crate::field_views::{Field, Fields};
 use crate::members::Members;
@@ -24,7 +24,7 @@ fn same_code(
     theirs: &Remap,
     other: Option<&Code<'_>>,
 ) -> bool
-    ensures { (x y : Option NumberedItem) → MatchOption code.entry (x ≡ None) (λ code. x ≡ Some code.now) → MatchOption other.entry (y ≡ None) (λ code. y ≡ Some code.now) → IsTrue result ↔ (option_map (renumbered_item mine.now) x ≡ option_map (renumbered_item theirs.now) y) }
+    ensures { (x y : Option NumberedItem) → IsBorrowedCode code.entry x → IsBorrowedCode other.entry y → IsTrue result ↔ (option_map (renumbered_item mine.now) x ≡ option_map (renumbered_item theirs.now) y) }
 {
     match (code, other) {
         (Some(code), Some(other)) => code.same_mapped(mine, other, theirs),
@@ -40,7 +40,7 @@ fn same_set(
     theirs: &Remap,
     other: Option<&AnnotationSet>,
 ) -> bool
-    ensures { (x y : NumberedSet) → MatchOption set.entry (x ≡ []) (λ set. set_of set.now ≡ x) → MatchOption other.entry (y ≡ []) (λ set. set_of set.now ≡ y) → IsTrue result ↔ (renumbered_set mine.now x ≡ renumbered_set theirs.now y) }
+    ensures { (x y : NumberedSet) → IsBorrowedSet set.entry x → IsBorrowedSet other.entry y → IsTrue result ↔ (renumbered_set mine.now x ≡ renumbered_set theirs.now y) }
 {
     match (set, other) {
         (Some(set), Some(other)) => set.same_mapped(mine, other, theirs),
@@ -57,7 +57,7 @@ fn same_sets(
     theirs: &Remap,
     others: &ParameterSets<'_>,
 ) -> bool
-    ensures { IsTrue result ↔ (map (renumbered_set mine.now) sets.now ≡ map (renumbered_set theirs.now) others.now) }
+    ensures { IsTrue result ↔ SameRemapped renumbered_set mine.now theirs.now sets.now others.now }
 {
     if sets.len() != others.len() {
         return false;
@@ -72,7 +72,7 @@ fn same_sets(
 
 // Returns whether two lists of fields are the same, one for one, once remapped.
 fn same_fields(mine: &Remap, fields: &Fields<'_>, theirs: &Remap, others: &Fields<'_>) -> bool
-    ensures { IsTrue result ↔ (map (renumbered_field mine.now) fields.now ≡ map (renumbered_field theirs.now) others.now) }
+    ensures { IsTrue result ↔ SameRemapped renumbered_field mine.now theirs.now fields.now others.now }
 {
     if fields.len() != others.len() {
         return false;
@@ -92,7 +92,7 @@ fn same_methods(
     theirs: &Remap,
     others: &Methods<'_, '_>,
 ) -> bool
-    ensures { IsTrue result ↔ (map (renumbered_method mine.now) methods.now ≡ map (renumbered_method theirs.now) others.now) }
+    ensures { IsTrue result ↔ SameRemapped renumbered_method mine.now theirs.now methods.now others.now }
 {
     if methods.len() != others.len() {
         return false;

@@ -1,10 +1,11 @@
 //! Texts that a const-string names in the code of what classes declare, and numbers that fit their places.
 
-ghost use Rattle.std.specs.Prelude.{◌≡◌, ◌++◌, ℕ, List, MatchOption, Option, Some, None, option_to_list, All};
+ghost use Rattle.std.specs.Prelude.{◌++◌, ℕ, List, All};
 ghost use Rattle.std.specs.List.{flat_map};
 ghost use Rattle.dexinsn.specs.Fitting.{IsGreatest};
-ghost use Rattle.dexcode.specs.Numbered.{NumberedItem};
-ghost use Rattle.dexmembers.specs.Fitting.{MethodFits, NumbersFit, code_short_strings, method_short_strings, members_short_strings};
+ghost use Rattle.dexmembers.specs.Fitting.{MethodFits, NumbersFit, method_short_strings, members_short_strings};
+ghost use Rattle.dexmembers.specs.Borrowed.{ForCode};
+ghost use Rattle.dexmembers.specs.internal.Parts.{optional_short_strings};
 
 use crate::members::Members;
 use crate::method_views::{Method, Methods};
@@ -25,7 +26,7 @@ fn greater(left: Option<u32>, right: Option<u32>) -> Option<u32>
 
 // The greatest such number in the code, if there is some.
 fn greatest_of_code(code: Option<&Code<'_>>) -> Option<u32>
-    ensures { (known : Option NumberedItem) → MatchOption code.entry (known ≡ None) (λ code. known ≡ Some code.now) → IsGreatest (flat_map code_short_strings (option_to_list known)) result }
+    ensures { ForCode code.entry (λ known. IsGreatest (optional_short_strings known) result) }
 {
     match code {
         Some(code) => code.greatest_short_string(),

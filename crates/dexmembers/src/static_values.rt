@@ -1,11 +1,6 @@
 //! The values that static fields begin with.
 
-ghost use Rattle.std.specs.Prelude.{◌≡◌, ℕ, IfOk, IfErr, MatchOption, map};
-ghost use Rattle.dexspec.specs.Classes.{static_values_off};
-ghost use Rattle.dexpool.specs.Pools.{ArePools};
-ghost use Rattle.dexval.specs.Code.{value_of};
-ghost use Rattle.dexval.specs.Numbered.{values_of_list};
-ghost use Rattle.dexmembers.specs.internal.StaticValues.{AreValuesOf, AreHeavyValues, IsValuesFault};
+ghost use Rattle.dexmembers.specs.internal.StaticValues.{ReadsValues, RefusesValues};
 
 use crate::row_checking::check_static_values;
 use dexhead::Frame;
@@ -28,8 +23,8 @@ pub(crate) fn read_static_values(
     fields: usize,
     most: u64,
 ) -> Result<Option<Vec<Value>>, ItemFault>
-    ensures read { (r : ℕ) → off ≡ static_values_off frame.now r → ArePools frame.now pools.now → IfOk result (λ values. MatchOption values (AreHeavyValues frame.now r fields most) (λ values. AreValuesOf frame.now r pools.now fields most (values_of_list (map value_of values.items)))) }
-    ensures refused { (r : ℕ) → off ≡ static_values_off frame.now r → ArePools frame.now pools.now → IfErr result (IsValuesFault frame.now r fields) }
+    ensures read { ReadsValues frame.now pools.now off fields most result }
+    ensures refused { RefusesValues frame.now pools.now off fields result }
 {
     let weight = match check_static_values(frame, pools, off, fields) {
         Ok(weight) => weight,

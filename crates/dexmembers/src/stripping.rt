@@ -1,11 +1,9 @@
 //! What classes declare, without debug programs.
 
 ghost use Rattle.std.specs.Prelude.{◌≡◌, map};
-ghost use Rattle.dexspec.specs.Texts.{Text};
-ghost use Rattle.dexspec.specs.Mentions.{Mentions};
-ghost use Rattle.dexmembers.specs.Fitting.{members_short_strings};
-ghost use Rattle.dexmembers.specs.Numbered.{NumberedMembers, members_in, methods_of, AreKnownMembers, AreOrdered, AreOfClass};
-ghost use Rattle.dexmembers.specs.Stripped.{method_tries, stripped_held, stripped_members, strip_members};
+ghost use Rattle.dexmembers.specs.Numbered.{NumberedMembers, AreOrdered};
+ghost use Rattle.dexmembers.specs.Stripped.{stripped_held, stripped_members};
+ghost use Rattle.dexmembers.specs.Laws.{StrippedMembersAreMeant, StrippedMembersAreKnown, StrippedMembersAreOfClass, StrippedMembersKeepShortStrings, StrippedMembersKeepTries};
 
 use crate::members::{DeclaredMethod, Members};
 
@@ -47,10 +45,10 @@ impl<'a> Members<'a> {
 /// is the greatest of them, and each method keeps its tries. The call does nothing: its contract is the law, for the
 /// callers that cite it.
 pub fn members_stripped_law()
-    ensures same { (m : Mentions) (x : NumberedMembers) → members_in m (stripped_members x) ≡ strip_members (members_in m x) }
-    ensures known { (m : Mentions) (x : NumberedMembers) → AreKnownMembers m x → AreKnownMembers m (stripped_members x) }
+    ensures same { StrippedMembersAreMeant }
+    ensures known { StrippedMembersAreKnown }
     ensures ordered { (x : NumberedMembers) → AreOrdered x → AreOrdered (stripped_members x) }
-    ensures own { (m : Mentions) (class : Text) (x : NumberedMembers) → AreOfClass m class x → AreOfClass m class (stripped_members x) }
-    ensures short_strings { (x : NumberedMembers) → members_short_strings (stripped_members x) ≡ members_short_strings x }
-    ensures tries { (x : NumberedMembers) → map method_tries (methods_of (stripped_members x)) ≡ map method_tries (methods_of x) }
+    ensures own { StrippedMembersAreOfClass }
+    ensures short_strings { StrippedMembersKeepShortStrings }
+    ensures tries { StrippedMembersKeepTries }
 {}

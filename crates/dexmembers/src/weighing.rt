@@ -1,16 +1,15 @@
 //! The weight of members of classes.
 
-ghost use Rattle.std.specs.Prelude.{◌≡◌, ◌+◌, ◌-◌, ◌*◌, ◌^◌, [], length, min, map, sum_by, option_to_list, MatchOption, Option, Some, None};
-ghost use Rattle.dexspec.specs.Mentions.{Mentions};
-ghost use Rattle.dexpool.specs.Numberings.{AreRising};
+ghost use Rattle.std.specs.Prelude.{◌≡◌, ◌+◌, ◌-◌, ◌*◌, ◌^◌, length, min, map, sum_by};
 ghost use Rattle.dexval.specs.Code.{set_of, value_of};
-ghost use Rattle.dexcode.specs.Numbered.{NumberedItem};
-ghost use Rattle.dexval.specs.Numbered.{NumberedSet, values_of_list};
+ghost use Rattle.dexval.specs.Numbered.{values_of_list};
 ghost use Rattle.dexval.specs.Spelled.{numbered_set_weight, numbered_sets_weight, numbered_statics_weight};
-ghost use Rattle.dexmembers.specs.Numbered.{NumberedMembers, AreKnownMembers, members_in};
-ghost use Rattle.dexmembers.specs.Weight.{members_weight};
+ghost use Rattle.dexmembers.specs.Weight.{ForKnown, weight_in};
 ghost use Rattle.dexmembers.specs.Contents.{contents_in, AreHeld};
-ghost use Rattle.dexmembers.specs.Weighing.{numbered_field_weight, numbered_whole_weight, numbered_members_weight, method_code_weight, own_method_weight, own_members_weight};
+ghost use Rattle.dexmembers.specs.Weighing.{numbered_field_weight, numbered_members_weight, method_code_weight, own_method_weight, own_members_weight};
+ghost use Rattle.dexmembers.specs.Borrowed.{ForCode, ForSet};
+ghost use Rattle.dexmembers.specs.internal.Parts.{optional_whole_weight};
+ghost use Rattle.dexmembers.specs.Laws.{MembersWeightIsDenoted};
 
 use crate::field_views::{Field, Fields};
 use crate::members::{Contents, Members};
@@ -27,7 +26,7 @@ fn set_weight(set: &AnnotationSet) -> u64
 
 // Returns the weight of a set, if there is one, likewise.
 fn optional_weight(set: Option<&AnnotationSet>) -> u64
-    ensures { (weighed : NumberedSet) → MatchOption set.entry (weighed ≡ []) (λ set. set_of set.now ≡ weighed) → result ≡ min (2 ^ 64 - 1) (numbered_set_weight weighed) }
+    ensures { ForSet set.entry (λ weighed. result ≡ min (2 ^ 64 - 1) (numbered_set_weight weighed)) }
 {
     match set {
         Some(set) => set_weight(set),
@@ -67,7 +66,7 @@ fn values_weight(values: &[Value]) -> u64
 
 // Returns the weight of code with its debug program, if there is some.
 fn code_weight(code: Option<&Code<'_>>) -> u64
-    ensures { (weighed : Option NumberedItem) → MatchOption code.entry (weighed ≡ None) (λ code. weighed ≡ Some code.now) → result ≡ min (2 ^ 64 - 1) (sum_by numbered_whole_weight (option_to_list weighed)) }
+    ensures { ForCode code.entry (λ weighed. result ≡ min (2 ^ 64 - 1) (optional_whole_weight weighed)) }
 {
     let Some(code) = code else {
         return 0;
@@ -153,7 +152,7 @@ impl<'a> Members<'a> {
     /// fields; the weight is this project's rule.
     pub fn weight(&self) -> u64
         ensures numbered { result ≡ min (2 ^ 64 - 1) (numbered_members_weight self.now) }
-        ensures symbolic { (m : Mentions) → AreRising m → AreKnownMembers m self.now → result ≡ min (2 ^ 64 - 1) (members_weight (members_in m self.now)) }
+        ensures symbolic { ForKnown self.now (λ m. result ≡ min (2 ^ 64 - 1) (weight_in m self.now)) }
     {
         members_weight_law();
         self.numbered_weight()
@@ -163,7 +162,7 @@ impl<'a> Members<'a> {
 /// The weight of members by their numbers is that of what they denote. The call does nothing: its contract is the law,
 /// for the callers that cite it.
 pub fn members_weight_law()
-    ensures { (m : Mentions) (x : NumberedMembers) → AreRising m → AreKnownMembers m x → numbered_members_weight x ≡ members_weight (members_in m x) }
+    ensures { MembersWeightIsDenoted }
 {
     code_weight_law();
     code_meaning_law();

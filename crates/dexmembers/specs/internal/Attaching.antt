@@ -1,8 +1,12 @@
 -- Members put together: what class data, a directory and the code of methods make.
-use Rattle.std.specs.Prelude.{◌≡◌, ℕ, ◌<◌, List, map, length, slice_index_or, Option}
+use Rattle.std.specs.Prelude.{◌≡◌, ℕ, ◌<◌, List, map, length, slice_index_or, Option, All, IfOk, IfSome, Result}
 use Rattle.std.specs.FinMap.Entries.{find}
 use Rattle.std.specs.Ordering.{nat_cmp}
+use Rattle.std.specs.Global.{Vec}
+use Rattle.std.specs.List.{Contains}
+use Rattle.std.specs.declared.alloc.AllocError.{AllocError}
 use Rattle.dexspec.specs.Annotations.{annotated}
+use Rattle.dexspec.specs.Lists.{zip_with}
 use Rattle.dexval.specs.Numbered.{NumberedSet}
 use Rattle.dexcode.specs.Numbered.{NumberedItem}
 use Rattle.dexmembers.specs.Numbered.{NumberedField, NumberedMethod, NumbersRise}
@@ -19,6 +23,14 @@ pub record HasNumberAt {X : Type 0} (es : List (ℕ × X)) (number at : ℕ) : T
   pub within : at < length es
   pub is : (d : ℕ × X) → (slice_index_or es at d).0 ≡ number
 
+-- the entries, if their numbers rise, have none of the number
+abbrev pub LacksNumber : {X : Type 0} → List (ℕ × X) → ℕ → Type 0
+LacksNumber es number = EntriesRise es → Contains (map (λ e. e.0) es) number → ⊥
+
+-- the places of entries are below a limit
+abbrev pub PlacesBelow : ℕ → List (ℕ × ℕ) → Type 0
+PlacesBelow limit es = All (λ e. e.1 < limit) es
+
 -- ---- with places
 
 -- the place that the entries have for a number, if there is one
@@ -32,6 +44,26 @@ held_field sets x = record { number = x.index; flags = x.flags; set = place_for 
 -- the method with its code, and the places of its set and its list
 abbrev pub held_method : List (ℕ × ℕ) → List (ℕ × ℕ) → MethodRead → Option NumberedItem → HeldMethod
 held_method sets lists x code = record { number = x.index; flags = x.flags; code = code; set = place_for sets x.index; list = place_for lists x.index }
+
+-- the fields of a list of class data, with the places of their sets
+abbrev pub AreHeldFields : List (ℕ × ℕ) → List FieldRead → Vec HeldField → Type 0
+AreHeldFields sets listed fields = fields.items ≡ map (held_field sets) listed
+
+-- where both lists of entries rise, and there is code or none for each method, these are the methods of a list of class data
+abbrev pub AttachesMethods : List (ℕ × ℕ) → List (ℕ × ℕ) → List MethodRead → List (Option NumberedItem) → Result (Vec HeldMethod) AllocError → Type 0
+AttachesMethods sets lists listed codes result = EntriesRise sets → EntriesRise lists → length codes ≡ length listed → IfOk result (λ methods. methods.items ≡ zip_with (held_method sets lists) listed codes)
+
+-- the places of the fields' sets are below a limit
+abbrev pub HaveFieldSetsBelow : ℕ → Vec HeldField → Type 0
+HaveFieldSetsBelow limit fields = All (λ f. IfSome f.set (λ place. place < limit)) fields.items
+
+-- those of the methods' sets
+abbrev pub HaveSetsBelow : ℕ → Vec HeldMethod → Type 0
+HaveSetsBelow limit methods = All (λ x. IfSome x.set (λ place. place < limit)) methods.items
+
+-- those of their lists of sets
+abbrev pub HaveListsBelow : ℕ → Vec HeldMethod → Type 0
+HaveListsBelow limit methods = All (λ x. IfSome x.list (λ place. place < limit)) methods.items
 
 -- ---- with sets
 

@@ -1,5 +1,6 @@
 -- Lists of class data as they are read: members of one class, by their indices in the pools.
 use Rattle.std.specs.Prelude.{◌≡◌, ℕ, ◌+◌, ◌^◌, ◌<◌, ◌≤◌, List, [], ◌∷◌, length, map, Option, Some, None, slice_index_or}
+use Rattle.std.specs.Global.{Vec}
 use Rattle.dexspec.specs.Lists.{Sequence}
 use Rattle.dexspec.specs.Numbers.{Uleb128At}
 use Rattle.dexspec.specs.ClassData.{IsNextIndex, ShareNone}
@@ -10,6 +11,9 @@ use Rattle.dexpool.specs.Numberings.{IsAt}
 use Rattle.dexval.specs.Numbered.{field_at, method_at}
 use Rattle.dexmembers.specs.declared.class_data.EncodedField.{EncodedField}
 use Rattle.dexmembers.specs.declared.class_data.EncodedMethod.{EncodedMethod}
+use Rattle.dexmembers.specs.declared.class_data.ClassData.{ClassData}
+use Rattle.dexmembers.specs.declared.class_data.Counts.{Counts}
+use Rattle.dexmembers.specs.declared.encodings.Owner.{Owner}
 
 -- the members are refused for this reason; a failed allocation says nothing
 abbrev pub IsDataRefusal : Type 0 → ItemFault → Type 0
@@ -21,6 +25,26 @@ IsDataRefusal Reason Memory = Unit {0}
 -- A kind of member: at offset o of b, after a member with the index `last`, if there is one, is x, in n bytes.
 abbrev pub Member : Type 0 → Type 1
 Member X = List ℕ → ℕ → Option ℕ → X → ℕ → Type 0
+
+-- a kind of member of a class, which has this number among the types of a numbering
+abbrev pub OwnMember : Type 0 → Type 1
+OwnMember X = Mentions → ℕ → Member X
+
+-- the member, with its size, is at offset o
+abbrev pub IsMember : {X : Type 0} → Member X → List ℕ → ℕ → Option ℕ → X × ℕ → Type 0
+IsMember At b o last x = At b o last x.0 x.1
+
+-- no member is at offset o
+abbrev pub NoMember : {X : Type 0} → Member X → List ℕ → ℕ → Option ℕ → Type 0
+NoMember {X} At b o last = (x : X) (n : ℕ) → At b o last x n → ⊥
+
+-- at most one member is at an offset, and it has one size
+abbrev pub IsOneMember : {X : Type 0} → OwnMember X → Type 0
+IsOneMember {X} At = (m : Mentions) (class : ℕ) (b : List ℕ) (o : ℕ) (last : Option ℕ) (x y : X) (n k : ℕ) → At m class b o last x n → At m class b o last y k → (x ≡ y) × (n ≡ k)
+
+-- the index of a member is above the one before it
+abbrev pub HasGreaterIndex : {X : Type 0} → OwnMember X → (X → ℕ) → Type 0
+HasGreaterIndex {X} At index = (m : Mentions) (class : ℕ) (b : List ℕ) (o i : ℕ) (x : X) (n : ℕ) → At m class b o (Some i) x n → i < index x
 
 -- from o on, after the index `last`, are the members one after the other, in n bytes together
 abbrev pub Chain : {X : Type 0} → Member X → (X → ℕ) → List ℕ → ℕ → Option ℕ → List X → ℕ → Type 0
@@ -62,6 +86,24 @@ pub record AreListsRead {X : Type 0} (At : Member X) (index : X → ℕ) (b : Li
 abbrev pub NoLists : {X : Type 0} → Member X → (X → ℕ) → List ℕ → ℕ → ℕ → ℕ → Type 0
 NoLists {X} At index b o count other_count = (xs ys : List X) (n : ℕ) → length xs ≡ count → length ys ≡ other_count → ListsAt At index b o xs ys n → ⊥
 
+-- ---- lists of members of an owner
+
+-- `count` members of the owner were read from offset o on, in as many bytes
+abbrev pub ReadsList : {X : Type 0} → OwnMember X → (X → ℕ) → Owner → List ℕ → ℕ → ℕ → Vec X × ℕ → Type 0
+ReadsList At index owner b o count x = IsListRead (At owner.pools.now owner.class) index b o count x.0.items x.1
+
+-- what is refused are such members
+abbrev pub RefusesList : {X : Type 0} → OwnMember X → (X → ℕ) → Owner → List ℕ → ℕ → ℕ → ItemFault → Type 0
+RefusesList At index owner b o count fault = IsDataRefusal (NoList (At owner.pools.now owner.class) index b o count) fault
+
+-- two lists of `count` and `other_count` members of the owner were read
+abbrev pub ReadsLists : {X : Type 0} → OwnMember X → (X → ℕ) → Owner → List ℕ → ℕ → ℕ → ℕ → Vec X × Vec X × ℕ → Type 0
+ReadsLists At index owner b o count other_count x = AreListsRead (At owner.pools.now owner.class) index b o count other_count x.0.items x.1.items x.2
+
+-- what is refused are such lists
+abbrev pub RefusesLists : {X : Type 0} → OwnMember X → (X → ℕ) → Owner → List ℕ → ℕ → ℕ → ℕ → ItemFault → Type 0
+RefusesLists At index owner b o count other_count fault = IsDataRefusal (NoLists (At owner.pools.now owner.class) index b o count other_count) fault
+
 -- ---- fields and methods
 
 -- the index is that of a field of the pool, whose class has this number among the types
@@ -85,6 +127,14 @@ pub record HeadAt (b : List ℕ) (o : ℕ) (last : Option ℕ) (index flags n : 
   pub next : IsNextIndex last difference index
   pub flags_is : Uleb128At b (o + index_size) flags flags_size
   pub size : n ≡ index_size + flags_size
+
+-- what is read is the only head at offset o whose index has 32 bits
+abbrev pub IsOnlyHead : List ℕ → ℕ → Option ℕ → Option (ℕ × ℕ × ℕ) → Type 0
+IsOnlyHead b o last read = (index flags size : ℕ) → index < 2 ^ 32 → HeadAt b o last index flags size → read ≡ Some (index, flags, size)
+
+-- no index of 32 bits is so far after the index `last`
+abbrev pub NoNextIndex : Option ℕ → ℕ → Type 0
+NoNextIndex last difference = (i : ℕ) → i < 2 ^ 32 → IsNextIndex last difference i → ⊥
 
 module _ (m : Mentions) (class : ℕ) where
   -- at offset o is an encoded_field of the class
@@ -112,6 +162,14 @@ pub record DataAt (m : Mentions) (class : ℕ) (b : List ℕ) (o : ℕ) (ss is :
   pub counts : Sequence Uleb128At b o (length ss ∷ length is ∷ length ds ∷ length vs ∷ []) counts_size
   pub fields : ListsAt (FieldAt m class) (λ f. f.index) b (o + counts_size) ss is fields_size
   pub methods : ListsAt (MethodAt m class) (λ x. x.index) b (o + counts_size + fields_size) ds vs methods_size
+
+-- the four lists that were read are at offset o
+abbrev pub IsDataAt : Mentions → ℕ → List ℕ → ℕ → ClassData → Type 0
+IsDataAt m class b o d = DataAt m class b o d.static_fields.items d.instance_fields.items d.direct_methods.items d.virtual_methods.items
+
+-- the four counts are at offset o, in n bytes
+abbrev pub AreCountsAt : List ℕ → ℕ → Counts → ℕ → Type 0
+AreCountsAt b o counts n = Sequence Uleb128At b o (counts.static_fields ∷ counts.instance_fields ∷ counts.direct_methods ∷ counts.virtual_methods ∷ []) n
 
 -- there is no class data of the class at offset o
 abbrev pub NoData : Mentions → ℕ → List ℕ → ℕ → Type 0

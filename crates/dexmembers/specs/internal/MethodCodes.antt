@@ -1,11 +1,13 @@
 -- The code of methods as it is read, one after the other.
-use Rattle.std.specs.Prelude.{◌≢◌, ℕ, ◌<◌, ◌≤◌, List, Option, None, sum_by, option_to_list}
+use Rattle.std.specs.Prelude.{◌≢◌, ℕ, ◌<◌, ◌≤◌, List, Option, None, sum_by, option_to_list, ◌≡◌, ◌+◌, MatchOption}
 use Rattle.std.specs.List.{AllZip, Contains}
+use Rattle.std.specs.Global.{Vec}
 use Rattle.dexspec.specs.Lists.{OrNone, SomeAt, BothOrNone}
 use Rattle.dexspec.specs.Code.{Code, CodeAt}
 use Rattle.dexspec.specs.Mentions.{Mentions}
 use Rattle.dexpool.specs.declared.faults.ItemFault.{ItemFault}
 use Rattle.dexpool.specs.declared.faults.ItemFault.TheVariants.{Refused, Memory}
+use Rattle.dexpool.specs.Numberings.{AreRising}
 use Rattle.dexcode.specs.Checking.{one_code_weight}
 use Rattle.dexcode.specs.Numbered.{NumberedItem, DenotesCode}
 use Rattle.dexcode.specs.Reading.{IsCodeFault}
@@ -41,6 +43,14 @@ pub record AreCodesOf (b : List ℕ) (m : Mentions) (xs : List EncodedMethod) (m
   pub are_encoded : AllZip (BothOrNone (DenotesCode m)) codes symbolic
   pub light : sum_by optional_code_weight symbolic ≤ most
 
+-- a weight is taken from another, where that is not less
+abbrev pub IsTaken : ℕ → ℕ → Option ℕ → Type 0
+IsTaken left weight result = MatchOption result (left < weight) (λ rest. rest + weight ≡ left)
+
+-- it holds of each code, or none, that the numbers denote under a numbering whose symbols rise
+abbrev pub ForDenotedOrNone : Option NumberedItem → (Mentions → Option Code → Type 0) → Type 0
+ForDenotedOrNone c P = (m : Mentions) (x : Option Code) → AreRising m → BothOrNone (DenotesCode m) c x → P m x
+
 -- the methods have code that weighs more
 pub record AreHeavyCodes (b : List ℕ) (xs : List EncodedMethod) (most : ℕ) : Type 0 where
   pub symbolic : List (Option Code)
@@ -58,3 +68,9 @@ pub record HasRefusedCode (b : List ℕ) (xs : List EncodedMethod) (number : ℕ
 abbrev pub IsCodesFault : List ℕ → List EncodedMethod → ItemFault → Type 0
 IsCodesFault b xs Memory = Unit {0}
 IsCodesFault b xs (Refused number) = HasRefusedCode b xs number
+
+-- ---- as it is read
+
+-- the code of the methods with its weight; none where it weighs more than it may
+abbrev pub CodesWithin : List ℕ → Mentions → List EncodedMethod → ℕ → Option (Vec (Option NumberedItem) × ℕ) → Type 0
+CodesWithin b m xs most found = MatchOption found (AreHeavyCodes b xs most) (λ codes. AreCodesOf b m xs most codes.0.items)

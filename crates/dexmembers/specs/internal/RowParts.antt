@@ -1,5 +1,5 @@
 -- What a class row has beside its class data, as it is read: annotations, code and static values.
-use Rattle.std.specs.Prelude.{◌≡◌, ℕ, ◌<◌, List, length, map, Option}
+use Rattle.std.specs.Prelude.{◌≡◌, ℕ, ◌<◌, List, length, map, Option, ◌+◌, ◌-◌, ◌^◌, ◌≤◌, IfErr, IfOk, MatchOption, Result, min}
 use Rattle.dexspec.specs.Lists.{OrNone, zip_with}
 use Rattle.dexspec.specs.Annotations.{Directory, DirectoryAt, no_directory}
 use Rattle.dexspec.specs.Classes.{annotations_off}
@@ -7,17 +7,26 @@ use Rattle.dexspec.specs.Accepted.{NamesDeclared, HasAnnotations}
 use Rattle.dexspec.specs.Mentions.{Mentions}
 use Rattle.dexpool.specs.declared.faults.ItemFault.{ItemFault}
 use Rattle.dexpool.specs.declared.faults.ItemFault.TheVariants.{Refused, Memory}
+use Rattle.dexpool.specs.Pools.{ArePools}
 use Rattle.dexcode.specs.Numbered.{NumberedItem}
 use Rattle.dexval.specs.Shared.{HoldsPlaces, shared_directory_of}
-use Rattle.dexval.specs.Numbered.{NumberedDirectory, NumberedValues, IsKnownDirectory, directory_in}
+use Rattle.dexval.specs.Numbered.{NumberedDirectory, NumberedValues, IsKnownDirectory, directory_in, values_of_list}
 use Rattle.dexval.specs.Directories.{directory_weight}
 use Rattle.dexval.specs.declared.directory.SharedDirectory.{SharedDirectory}
+use Rattle.dexval.specs.Code.{value_of}
 use Rattle.dexmembers.specs.Numbered.{NumberedMembers}
-use Rattle.dexmembers.specs.internal.ClassData.{class_data_in}
+use Rattle.dexmembers.specs.internal.ClassData.{class_data_in, IsDataOf}
 use Rattle.dexmembers.specs.internal.Attaching.{EntriesRise, field_with, method_with}
 use Rattle.dexmembers.specs.internal.MethodCodes.{AreCodesOf}
 use Rattle.dexmembers.specs.internal.StaticValues.{AreValuesOf}
 use Rattle.dexmembers.specs.declared.class_data.ClassData.{ClassData as DataRead}
+use Rattle.dexmembers.specs.ClassDefs.{IsClassDef}
+use Rattle.dexmembers.specs.Contents.{contents_in}
+use Rattle.dexmembers.specs.Reading.{AreHeavyMembers, IsMembersFault}
+use Rattle.dexmembers.specs.Weighing.{codes_weight}
+use Rattle.dexmembers.specs.declared.class_def.ClassDef.{ClassDef}
+use Rattle.dexmembers.specs.declared.members.Contents.{Contents}
+use Rattle.dexmembers.specs.declared.row_parts.Parts.{Parts}
 
 -- ---- annotations
 
@@ -50,6 +59,18 @@ abbrev pub IsAnnotationsFault : List ℕ → ℕ → ItemFault → Type 0
 IsAnnotationsFault b r Memory = Unit {0}
 IsAnnotationsFault b r (Refused number) = (number ≡ 22) × (HasAnnotations b r → ⊥)
 
+-- the annotations of the row that has the offset; none where they weigh more than they may
+abbrev pub ReadsAnnotations : List ℕ → Mentions → ℕ → DataRead → ℕ → Result (Option SharedDirectory) ItemFault → Type 0
+ReadsAnnotations b m off d most result = (r : ℕ) → off ≡ annotations_off b r → ArePools b m → IsDataOf b r m d → IfOk result (λ found. MatchOption found (AreHeavyAnnotations b r m d most) (AreAnnotationsOf b r m d))
+
+-- what is refused are the annotations of the row that has the offset
+abbrev pub RefusesAnnotations : {X : Type 0} → List ℕ → Mentions → ℕ → DataRead → Result X ItemFault → Type 0
+RefusesAnnotations b m off d result = (r : ℕ) → off ≡ annotations_off b r → ArePools b m → IsDataOf b r m d → IfErr result (IsAnnotationsFault b r)
+
+-- the directory weighs no more than that
+abbrev pub IsLight : Mentions → ℕ → SharedDirectory → Type 0
+IsLight m most a = min (2 ^ 64 - 1) (directory_weight (directory_in m (shared_directory_of a))) ≤ most
+
 -- ---- all of it
 
 -- what the row has beside its class data
@@ -75,3 +96,25 @@ attached d a direct virtual vs = record {
   virtual_methods = zip_with (method_with a.methods a.parameters) d.virtual_methods.items virtual;
   static_values = vs;
 }
+
+-- ---- as they are read
+
+-- what the class row has beside its class data; none where a part weighs more than it may
+abbrev pub ReadsParts : List ℕ → Mentions → ClassDef → DataRead → ℕ → Result (Option Parts) ItemFault → Type 0
+ReadsParts b m row d most result = (r : ℕ) → IsClassDef b r row → ArePools b m → IsDataOf b r m d → IfOk result (λ parts. MatchOption parts (AreHeavyMembers b r most) (λ x. ArePartsOf b r m d most x.directory x.direct_codes.items x.virtual_codes.items (values_of_list (map value_of x.static_values.items))))
+
+-- what is refused is a part of the class row
+abbrev pub RefusesParts : List ℕ → Mentions → ClassDef → DataRead → Result (Option Parts) ItemFault → Type 0
+RefusesParts b m row d result = (r : ℕ) → IsClassDef b r row → ArePools b m → IsDataOf b r m d → IfErr result (IsMembersFault b r)
+
+-- the weight of code is that of both lists, or 2^64 - 1 where that is more
+abbrev pub HasCodesWeight : Parts → Type 0
+HasCodesWeight x = x.codes_weight ≡ min (2 ^ 64 - 1) (codes_weight x.direct_codes.items + codes_weight x.virtual_codes.items)
+
+-- the parts can be put together with the class data
+abbrev pub CanAttach : DataRead → Parts → Type 0
+CanAttach d x = AreAttachable d x.directory x.direct_codes.items x.virtual_codes.items
+
+-- they are put together
+abbrev pub IsAttached : DataRead → Parts → Contents → Type 0
+IsAttached d x contents = contents_in contents ≡ attached d (shared_directory_of x.directory) x.direct_codes.items x.virtual_codes.items (values_of_list (map value_of x.static_values.items))

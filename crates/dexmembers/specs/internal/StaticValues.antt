@@ -1,5 +1,6 @@
 -- Static values as they are read: what the static fields of a class begin with.
-use Rattle.std.specs.Prelude.{◌≡◌, ℕ, ◌<◌, ◌≤◌, List, length}
+use Rattle.std.specs.Prelude.{◌≡◌, ℕ, ◌<◌, ◌≤◌, List, length, IfErr, IfOk, MatchOption, Option, Result, map}
+use Rattle.std.specs.Global.{Vec}
 use Rattle.dexspec.specs.Lists.{OrNone}
 use Rattle.dexspec.specs.Values.{Values, NoValues, count_values}
 use Rattle.dexspec.specs.ClassData.{ClassData}
@@ -9,7 +10,10 @@ use Rattle.dexspec.specs.Mentions.{Mentions}
 use Rattle.dexspec.specs.Weight.{static_values_weight}
 use Rattle.dexpool.specs.declared.faults.ItemFault.{ItemFault}
 use Rattle.dexpool.specs.declared.faults.ItemFault.TheVariants.{Refused, Memory}
-use Rattle.dexval.specs.Numbered.{NumberedValues, AreKnown, values_in}
+use Rattle.dexpool.specs.Pools.{ArePools}
+use Rattle.dexval.specs.Numbered.{NumberedValues, AreKnown, values_in, values_of_list}
+use Rattle.dexval.specs.Code.{value_of}
+use Rattle.dexval.specs.declared.value.Value.{Value}
 
 -- class row r has these static values, or none, no more than `fields` of them
 pub record HasValuesFor (b : List ℕ) (r fields : ℕ) (vs : Values) : Type 0 where
@@ -33,3 +37,13 @@ pub record AreHeavyValues (b : List ℕ) (r fields most : ℕ) : Type 0 where
 abbrev pub IsValuesFault : List ℕ → ℕ → ℕ → ItemFault → Type 0
 IsValuesFault b r fields Memory = Unit {0}
 IsValuesFault b r fields (Refused number) = (number ≡ 21) × ((vs : Values) → HasValuesFor b r fields vs → ⊥) × ((d : ClassData) → Declares b r d → length d.static_fields ≡ fields → HasValues b r → ⊥)
+
+-- ---- as they are read
+
+-- the static values of the row that has the offset; none where they weigh more than they may
+abbrev pub ReadsValues : List ℕ → Mentions → ℕ → ℕ → ℕ → Result (Option (Vec Value)) ItemFault → Type 0
+ReadsValues b m off fields most result = (r : ℕ) → off ≡ static_values_off b r → ArePools b m → IfOk result (λ values. MatchOption values (AreHeavyValues b r fields most) (λ values. AreValuesOf b r m fields most (values_of_list (map value_of values.items))))
+
+-- what is refused are the static values of the row that has the offset
+abbrev pub RefusesValues : {X : Type 0} → List ℕ → Mentions → ℕ → ℕ → Result X ItemFault → Type 0
+RefusesValues b m off fields result = (r : ℕ) → off ≡ static_values_off b r → ArePools b m → IfErr result (IsValuesFault b r fields)

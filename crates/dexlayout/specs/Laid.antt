@@ -1,17 +1,19 @@
 -- When a layout is that of the canonical file of classes.
 use Rattle.std.specs.Prelude.{◌≡◌, ℕ, ◌+◌, ◌^◌, ◌<◌, ◌≤◌, max, Option, List, [], ◌∷◌, map, length, All, drop, slice_index}
 use Rattle.std.specs.List.{flat_map}
-use Rattle.dexspec.specs.Mentions.{Mentions}
+use Rattle.dexspec.specs.Mentions.{Mentions, mentions}
+use Rattle.dexspec.specs.Files.{Collection, definitions}
 use Rattle.dexspec.specs.Header.{header_length}
 use Rattle.dexspec.specs.Placing.{Ordered, EqualOnce, Placed, Items, section_bytes}
 use Rattle.dexspec.specs.Spellings.{annotation_bytes}
 use Rattle.dexspec.specs.Annotations.{AnnotationSet}
-use Rattle.dexspec.specs.Canonical.{layout, map_of, data_sections, type_list_items, type_list_section, type_list_offsets, type_list_end, set_items, annotation_section, annotation_end, array_section, array_offsets, array_end, string_section, string_end, debug_section, debug_offsets, debug_end, code_section, code_offsets, code_end, class_data_section, class_data_offsets, class_data_end, set_section, set_offsets, set_end, ref_list_section, ref_list_offsets, ref_list_end, directory_section, directory_offsets, directory_end}
+use Rattle.dexspec.specs.Canonical.{layout, map_of, data_sections, type_list_items, type_list_section, type_list_offsets, type_list_end, set_items, annotation_section, annotation_end, array_section, array_offsets, array_end, string_section, string_end, debug_section, debug_offsets, debug_end, code_section, code_offsets, code_end, class_data_section, class_data_offsets, class_data_end, set_section, set_offsets, set_end, ref_list_section, ref_list_offsets, ref_list_end, directory_section, directory_offsets, directory_end, ordered}
 use Rattle.dexhead.specs.Laid.{StatesLayout, map_start, map_list}
 use Rattle.dexpool.specs.Numberings.{IsNumbering}
 use Rattle.dexval.specs.Numbered.{set_in, IsKnownSet}
 use Rattle.dexclass.specs.Numbered.{NumberedClass, definition_of, type_at}
 use Rattle.dexclass.specs.Uses.{IsKnownClass}
+use Rattle.dexclass.specs.Programs.{AreClassesOf}
 use Rattle.dexlayout.specs.Places.{ItemPlaces, TypeListPlaces, AnnotationPlaces, DebugPlaces, SetPlaces, Places}
 
 -- ---- classes that are laid out
@@ -88,6 +90,26 @@ pub record AreSets (m : Mentions) (cs : List NumberedClass) (p : SetPlaces) : Ty
   pub end_is : p.end ≡ set_end (ordered_of m cs)
   pub greatest_is : p.greatest ≡ greatest_of (set_section (ordered_of m cs)).items
 
+-- the arrays of static values
+abbrev pub AreStaticValues : Mentions → List NumberedClass → ItemPlaces → Type 0
+AreStaticValues m cs = AreLaidSo (array_offsets (ordered_of m cs)) (array_end (ordered_of m cs)) (array_section (ordered_of m cs)).items
+
+-- the code
+abbrev pub AreCodes : Mentions → List NumberedClass → ItemPlaces → Type 0
+AreCodes m cs = AreLaidSo (code_offsets (ordered_of m cs)) (code_end (ordered_of m cs)) (code_section (ordered_of m cs)).items
+
+-- the class data
+abbrev pub AreClassData : Mentions → List NumberedClass → ItemPlaces → Type 0
+AreClassData m cs = AreLaidSo (class_data_offsets (ordered_of m cs)) (class_data_end (ordered_of m cs)) (class_data_section (ordered_of m cs)).items
+
+-- the lists of sets of parameters
+abbrev pub AreRefLists : Mentions → List NumberedClass → ItemPlaces → Type 0
+AreRefLists m cs = AreLaidSo (ref_list_offsets (ordered_of m cs)) (ref_list_end (ordered_of m cs)) (ref_list_section (ordered_of m cs)).items
+
+-- the directories
+abbrev pub AreDirectories : Mentions → List NumberedClass → ItemPlaces → Type 0
+AreDirectories m cs = AreLaidSo (directory_offsets (ordered_of m cs)) (directory_end (ordered_of m cs)) (directory_section (ordered_of m cs)).items
+
 -- ---- the whole
 
 -- the layout is that of the file of these classes
@@ -96,16 +118,24 @@ pub record IsLaid (m : Mentions) (cs : List NumberedClass) (p : Places) : Type 0
   pub signature_length : length p.head.signature ≡ 20
   pub type_lists_are : AreTypeLists m cs p.type_lists
   pub annotations_are : AreAnnotations m cs p.annotations
-  pub static_values_are : AreLaidSo (array_offsets (ordered_of m cs)) (array_end (ordered_of m cs)) (array_section (ordered_of m cs)).items p.static_values
+  pub static_values_are : AreStaticValues m cs p.static_values
   pub strings_are : AreLaidSo (layout (ordered_of m cs)).strings (string_end (ordered_of m cs)) (string_section (ordered_of m cs)).items p.strings
   pub debugs_are : AreDebugs m cs p.debugs
-  pub codes_are : AreLaidSo (code_offsets (ordered_of m cs)) (code_end (ordered_of m cs)) (code_section (ordered_of m cs)).items p.codes
-  pub class_data_are : AreLaidSo (class_data_offsets (ordered_of m cs)) (class_data_end (ordered_of m cs)) (class_data_section (ordered_of m cs)).items p.class_data
+  pub codes_are : AreCodes m cs p.codes
+  pub class_data_are : AreClassData m cs p.class_data
   pub sets_are : AreSets m cs p.sets
-  pub ref_lists_are : AreLaidSo (ref_list_offsets (ordered_of m cs)) (ref_list_end (ordered_of m cs)) (ref_list_section (ordered_of m cs)).items p.ref_lists
-  pub directories_are : AreLaidSo (directory_offsets (ordered_of m cs)) (directory_end (ordered_of m cs)) (directory_section (ordered_of m cs)).items p.directories
+  pub ref_lists_are : AreRefLists m cs p.ref_lists
+  pub directories_are : AreDirectories m cs p.directories
   pub entries_are : p.entries ≡ map_of (ordered_of m cs) (layout (ordered_of m cs)) (map_start (ordered_of m cs))
   pub greatest_is : p.greatest ≡ greatest_item (ordered_of m cs)
+
+-- the layout is that of the collection's file
+abbrev pub IsLayoutOf : Collection → Places → Type 0
+IsLayoutOf K p = (cs : List NumberedClass) → AreClassesOf K cs → IsLaid (mentions (definitions K)) cs p
+
+-- the collection's classes can be written, and are laid out as its file has them
+abbrev pub IsWritable : Collection → Type 0
+IsWritable K = (cs : List NumberedClass) → AreClassesOf K cs → AreWritable (mentions (definitions K)) cs × (ordered_of (mentions (definitions K)) cs ≡ ordered (definitions K))
 
 -- ---- before the offsets are known
 

@@ -1,8 +1,10 @@
 -- Words of the contracts of private functions: no public contract reaches them.
+pub mod Adding
 pub mod Annotated
 pub mod Directories
 pub mod Collecting
 pub mod Parts
+pub mod Placing
 pub mod Running
 pub mod SharedUses
 pub mod Sharing

@@ -1,14 +1,10 @@
 //! The offsets of annotations: those of each annotation set that is written, set by set.
 
-ghost use Rattle.std.specs.Prelude.{◌≡◌, ◌+◌, ◌<◌, ◌≤◌, ◌^◌, All, IfOk, OnOk, List, map};
-ghost use Rattle.dexspec.specs.Canonical.{set_items, type_list_end};
+ghost use Rattle.std.specs.Prelude.{◌≡◌, ◌+◌, ◌<◌, ◌≤◌, ◌^◌, IfOk, OnOk, map};
 ghost use Rattle.dexval.specs.Code.{set_of};
-ghost use Rattle.dexval.specs.Numbered.{set_in, IsKnownSet};
 ghost use Rattle.dexlayout.specs.internal.Annotated.{annotation_lens, begin_set, lengthen, place_set, place_sets};
 ghost use Rattle.dexlayout.specs.internal.Running.{none_from};
-ghost use Rattle.dexlayout.specs.Laid.{AreWritable, AreAnnotations, ordered_of};
-ghost use Rattle.dexspec.specs.Mentions.{Mentions};
-ghost use Rattle.dexclass.specs.Numbered.{NumberedClass};
+ghost use Rattle.dexlayout.specs.internal.Placing.{PlacedAnnotations};
 
 use crate::offsets::Offsets;
 use dexval::{AnnotationSet, annotation_size};
@@ -95,7 +91,7 @@ pub(crate) fn place_annotations<'p>(
     from: u32,
 ) -> Result<Annotations<'p>, AllocError>
     requires { (place_sets (none_from from) (map (λ s. set_of s.now) written.items)).end ≤ 2 ^ 30 }
-    ensures { IfOk result (λ placed. (m : Mentions) (cs : List NumberedClass) → AreWritable m cs → map (λ s. set_in m (set_of s.now)) written.entry.items ≡ (set_items (ordered_of m cs)).written → All (λ s. IsKnownSet m (set_of s.now)) written.entry.items → from ≡ type_list_end (ordered_of m cs) → AreAnnotations m cs placed) }
+    ensures { IfOk result (PlacedAnnotations from written.entry.items) }
 {
     let mut places = Offsets::starting_at(alloc, from, written.len())?;
     for set in &written {

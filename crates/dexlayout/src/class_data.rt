@@ -1,10 +1,8 @@
 //! The offsets of class data.
 
 ghost use Rattle.std.specs.Prelude.{◌≡◌, ◌+◌, ◌^◌, ◌≤◌, IfOk, OnOk, length};
-ghost use Rattle.dexspec.specs.Mentions.{Mentions};
-ghost use Rattle.dexspec.specs.Canonical.{class_data_end, class_data_offsets, class_data_section, code_end, code_offsets};
 ghost use Rattle.dexmembers.specs.Numbered.{methods_of};
-ghost use Rattle.dexlayout.specs.Laid.{AreWritable, AreLaidSo, ordered_of};
+ghost use Rattle.dexlayout.specs.internal.Placing.{CanPlaceClassData, PlacedClassData};
 ghost use Rattle.dexlayout.specs.internal.Running.{place_use};
 ghost use Rattle.dexlayout.specs.internal.Sizes.{class_data_size};
 
@@ -21,8 +19,8 @@ pub(crate) fn place_class_data(
     code_offs: &[u32],
     from: u32,
 ) -> Result<Offsets, AllocError>
-    requires { (m : Mentions) × AreWritable m classes.now × (code_offs.now ≡ code_offsets (ordered_of m classes.now)) × (from ≡ code_end (ordered_of m classes.now)) }
-    ensures { IfOk result (λ places. (m : Mentions) → AreWritable m classes.now → code_offs.now ≡ code_offsets (ordered_of m classes.now) → from ≡ code_end (ordered_of m classes.now) → AreLaidSo (class_data_offsets (ordered_of m classes.now)) (class_data_end (ordered_of m classes.now)) (class_data_section (ordered_of m classes.now)).items places) }
+    requires { CanPlaceClassData classes.now code_offs.now from }
+    ensures { IfOk result (PlacedClassData classes.now code_offs.now from) }
 {
     let mut rest = code_offs;
     let mut places = Offsets::starting_at(alloc, from, classes.len())?;

@@ -2,9 +2,10 @@
 
 ghost use Rattle.std.specs.Prelude.{◌≡◌, ◌^◌, ◌≤◌, IfOk, OnOk, map};
 ghost use Rattle.dexspec.specs.Mentions.{Mentions};
-ghost use Rattle.dexspec.specs.Canonical.{code_end, code_offsets, code_section, debug_end};
-ghost use Rattle.dexlayout.specs.Laid.{AreWritable, AreLaidSo, ordered_of};
+ghost use Rattle.dexspec.specs.Canonical.{debug_end};
+ghost use Rattle.dexlayout.specs.Laid.{AreWritable, ordered_of, AreCodes};
 ghost use Rattle.dexlayout.specs.internal.Running.{place_use, place_uses};
+ghost use Rattle.dexlayout.specs.internal.Placing.{PlacedFrom};
 ghost use Rattle.dexlayout.specs.internal.Sizes.{class_code_sizes, code_size};
 
 use crate::offsets::{Offsets, round_up};
@@ -23,7 +24,7 @@ pub(crate) fn place_codes(
     from: u32,
 ) -> Result<Offsets, AllocError>
     requires { (m : Mentions) × AreWritable m classes.now × (from ≡ debug_end (ordered_of m classes.now)) }
-    ensures { IfOk result (λ places. (m : Mentions) → AreWritable m classes.now → from ≡ debug_end (ordered_of m classes.now) → AreLaidSo (code_offsets (ordered_of m classes.now)) (code_end (ordered_of m classes.now)) (code_section (ordered_of m classes.now)).items places) }
+    ensures { IfOk result (PlacedFrom debug_end AreCodes classes.now from) }
 {
     code_bytes_law();
     let mut places = Offsets::starting_at(alloc, from, classes.len())?;

@@ -1,15 +1,14 @@
 //! The sections of the data, one after the other.
 
-ghost use Rattle.std.specs.Prelude.{◌≡◌, ◌^◌, ◌≤◌, All, List, IfOk, length, map};
+ghost use Rattle.std.specs.Prelude.{◌≡◌, ◌^◌, ◌≤◌, List, IfOk, length};
 ghost use Rattle.std.specs.List.{flat_map};
 ghost use Rattle.dexspec.specs.Mentions.{Mentions};
-ghost use Rattle.dexspec.specs.Canonical.{class_data_end, data_sections, data_start, set_items, string_end};
-ghost use Rattle.dexhead.specs.Written.{entry_meant};
+ghost use Rattle.dexspec.specs.Canonical.{class_data_end, data_start, set_items, string_end};
 ghost use Rattle.dexval.specs.Code.{set_of};
-ghost use Rattle.dexval.specs.Numbered.{IsKnownSet, set_in};
 ghost use Rattle.dexclass.specs.Numbered.{NumberedClass};
-ghost use Rattle.dexlayout.specs.Laid.{AreWritable, greatest_in, ordered_of};
-ghost use Rattle.dexlayout.specs.internal.Parts.{AreBack, AreBodies, AreData, AreFirstSections, section_parts};
+ghost use Rattle.dexlayout.specs.Laid.{AreWritable, ordered_of};
+ghost use Rattle.dexlayout.specs.internal.Parts.{AreBack, AreBodies, AreData, AreFirstSections};
+ghost use Rattle.dexlayout.specs.internal.Placing.{PlacedFrom, AreWrittenSets, AreKnownSets, IsDataFrom, AreEntriesOf, greatest_data};
 
 use crate::annotations::{Annotations, place_annotations};
 use crate::class_data::place_class_data;
@@ -84,8 +83,8 @@ fn place_first_sections<'p>(
     from: u32,
 ) -> Result<FirstSections<'p>, AllocError>
     requires classes { AreWritable numbering.now classes.now }
-    requires written { map (λ s. set_in numbering.now (set_of s.now)) written.items ≡ (set_items (ordered_of numbering.now classes.now)).written }
-    requires known { All (λ s. IsKnownSet numbering.now (set_of s.now)) written.items }
+    requires written { AreWrittenSets numbering.now classes.now written.items }
+    requires known { AreKnownSets numbering.now written.items }
     requires from { from ≡ data_start (ordered_of numbering.now classes.now) }
     ensures { IfOk result (AreFirstSections numbering.now classes.now) }
 {
@@ -109,7 +108,7 @@ fn place_bodies(
     from: u32,
 ) -> Result<Bodies, AllocError>
     requires { (m : Mentions) × AreWritable m classes.now × (from ≡ string_end (ordered_of m classes.now)) }
-    ensures { IfOk result (λ bodies. (m : Mentions) → AreWritable m classes.now → from ≡ string_end (ordered_of m classes.now) → AreBodies m classes.now bodies) }
+    ensures { IfOk result (PlacedFrom string_end AreBodies classes.now from) }
 {
     let debugs = place_debugs(alloc, numbering, classes, from)?;
     let codes = place_codes(alloc, classes, debugs.places().end())?;
@@ -198,8 +197,8 @@ fn count_annotations(sets: &[&AnnotationSet]) -> u32
 impl Data<'_> {
     /// The sections as parts of the map, from the end of the tables on.
     pub(crate) fn entries(&self, numbering: &Numbering<'_>, from: u32) -> [MapEntry; 10]
-        requires { (cs : List NumberedClass) × AreWritable numbering.now cs × AreData numbering.now cs self.now × (from ≡ data_start (ordered_of numbering.now cs)) }
-        ensures { (cs : List NumberedClass) → AreWritable numbering.now cs → AreData numbering.now cs self.now → from ≡ data_start (ordered_of numbering.now cs) → map entry_meant result ≡ section_parts (ordered_of numbering.now cs) }
+        requires { IsDataFrom numbering.now self.now from }
+        ensures { AreEntriesOf numbering.now self.now from result }
     {
         let written = self.front.annotations.written();
         [
@@ -258,7 +257,7 @@ impl Data<'_> {
 
     /// How many bytes the longest item of the sections has, or 0 where there is none.
     pub(crate) fn greatest(&self) -> usize
-        ensures { (m : Mentions) (cs : List NumberedClass) → AreData m cs self.now → result ≡ greatest_in (data_sections (ordered_of m cs)) }
+        ensures { (m : Mentions) (cs : List NumberedClass) → AreData m cs self.now → result ≡ greatest_data m cs }
     {
         self.front
             .type_lists

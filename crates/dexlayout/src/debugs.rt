@@ -1,15 +1,12 @@
 //! The offsets of debug programs.
 
-ghost use Rattle.std.specs.Prelude.{◌≡◌, ◌++◌, ◌^◌, ◌≤◌, All, IfOk, List, MatchOption, None, OnOk, Option, Some, length, map};
-ghost use Rattle.std.specs.List.{flat_map};
-ghost use Rattle.dexspec.specs.Canonical.{debug_items, string_end};
-ghost use Rattle.dexspec.specs.Debug.{Debug as DebugMeant};
+ghost use Rattle.std.specs.Prelude.{◌≡◌, ◌^◌, ◌≤◌, IfOk, MatchOption, None, Some};
+ghost use Rattle.dexspec.specs.Canonical.{string_end};
 ghost use Rattle.dexspec.specs.Mentions.{Mentions};
-ghost use Rattle.dexcode.specs.Debug.{numbered_debug_bytes};
-ghost use Rattle.dexcode.specs.Meaning.{IsKnownDebug, debug_in};
-ghost use Rattle.dexmembers.specs.Numbered.{AreKnownMembers, IsKnownMethod, methods_of};
-ghost use Rattle.dexlayout.specs.Laid.{AreDebugs, AreShared, AreWritable, ordered_of};
-ghost use Rattle.dexlayout.specs.internal.Running.{none_from, place_uses};
+ghost use Rattle.dexmembers.specs.Numbered.{AreKnownMembers};
+ghost use Rattle.dexlayout.specs.Laid.{AreDebugs, AreWritable, ordered_of};
+ghost use Rattle.dexlayout.specs.internal.Adding.{AddsUses, AreKnownMethods, members_debugs};
+ghost use Rattle.dexlayout.specs.internal.Placing.{PlacedFrom, HaveDebugs, HaveKnownDebugs, debugs_bytes, debug_places};
 ghost use Rattle.dexlayout.specs.internal.SharedUses.{SharesDebugs, debug_of, debugs_uses};
 
 use crate::encodings::Encoded;
@@ -79,7 +76,7 @@ fn add_debugs<'p>(
     sharing: &mut Sharing<&'p Debug>,
     methods: &Methods<'p, '_>,
 ) -> Result<(), AllocError>
-    ensures { (m : Mentions) (uses : List (Option DebugMeant)) → All (IsKnownMethod m) methods.now → SharesDebugs m uses sharing.old.items.keys sharing.old.numbers.items → OnOk result (SharesDebugs m (uses ++ debugs_uses m methods.now) sharing.new.items.keys sharing.new.numbers.items) }
+    ensures { AddsUses SharesDebugs result sharing.old sharing.new AreKnownMethods debugs_uses methods.now }
 {
     for i in 0..methods.len() {
         sharing.add(debug_of(&methods.get(i)))?;
@@ -92,7 +89,7 @@ fn add_members<'p>(
     sharing: &mut Sharing<&'p Debug>,
     members: &'p Members<'_>,
 ) -> Result<(), AllocError>
-    ensures { (m : Mentions) (uses : List (Option DebugMeant)) → AreKnownMembers m members.now → SharesDebugs m uses sharing.old.items.keys sharing.old.numbers.items → OnOk result (SharesDebugs m (uses ++ debugs_uses m (methods_of members.now)) sharing.new.items.keys sharing.new.numbers.items) }
+    ensures { AddsUses SharesDebugs result sharing.old sharing.new AreKnownMembers members_debugs members.now }
 {
     add_debugs(sharing, &members.direct_methods())?;
     add_debugs(sharing, &members.virtual_methods())
@@ -103,8 +100,8 @@ fn share_debugs<'p>(
     alloc: Global,
     classes: &'p [Class<'_>],
 ) -> Result<Shared<&'p Debug>, AllocError>
-    ensures shared { IfOk result (λ shared. (m : Mentions) → AreWritable m classes.now → AreShared (λ d. debug_in m d.now) (debug_items (ordered_of m classes.now)) shared.written.items shared.numbers.items) }
-    ensures known { IfOk result (λ shared. (m : Mentions) → AreWritable m classes.now → All (λ d. IsKnownDebug m d.now) shared.written.items) }
+    ensures shared { IfOk result (HaveDebugs classes.now) }
+    ensures known { IfOk result (HaveKnownDebugs classes.now) }
 {
     debug_equality_law();
     let mut sharing = Sharing::new(alloc);
@@ -121,9 +118,9 @@ fn encode_written(
     debugs: &[&Debug],
     from: u32,
 ) -> Result<Encoded, AllocError>
-    requires { (place_uses 1 (none_from from) (map (λ debug. Some (length (numbered_debug_bytes debug.now))) debugs.now)).end ≤ 2 ^ 30 }
-    ensures bytes { IfOk result (λ encoded. encoded.bytes.items ≡ flat_map (λ debug. numbered_debug_bytes debug.now) debugs.now) }
-    ensures places { IfOk result (λ encoded. encoded.places ≡ place_uses 1 (none_from from) (map (λ debug. Some (length (numbered_debug_bytes debug.now))) debugs.now)) }
+    requires { (debug_places from debugs.now).end ≤ 2 ^ 30 }
+    ensures bytes { IfOk result (λ encoded. encoded.bytes.items ≡ debugs_bytes debugs.now) }
+    ensures places { IfOk result (λ encoded. encoded.places ≡ debug_places from debugs.now) }
 {
     let mut bytes = Vec::new(alloc);
     let mut places = Offsets::starting_at(alloc, from, debugs.len())?;
@@ -145,7 +142,7 @@ pub(crate) fn place_debugs(
     from: u32,
 ) -> Result<DebugPrograms, AllocError>
     requires { (m : Mentions) × AreWritable m classes.now × (from ≡ string_end (ordered_of m classes.now)) }
-    ensures { IfOk result (λ placed. (m : Mentions) → AreWritable m classes.now → from ≡ string_end (ordered_of m classes.now) → AreDebugs m classes.now placed) }
+    ensures { IfOk result (PlacedFrom string_end AreDebugs classes.now from) }
 {
     let shared = share_debugs(alloc, classes)?;
     let Shared { written, numbers } = shared;

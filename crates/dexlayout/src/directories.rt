@@ -1,11 +1,10 @@
 //! The offsets of annotations directories.
 
 ghost use Rattle.std.specs.Prelude.{◌≡◌, ◌^◌, ◌≤◌, IfOk, OnOk, length};
-ghost use Rattle.dexspec.specs.Canonical.{directory_end, directory_offsets, directory_section, ref_list_end, ref_list_offsets};
+ghost use Rattle.dexspec.specs.Canonical.{ref_list_end, ref_list_offsets};
 ghost use Rattle.dexmembers.specs.Numbered.{fields_of, methods_of};
-ghost use Rattle.dexlayout.specs.internal.Directories.{entry_count, directory_size};
-ghost use Rattle.dexlayout.specs.Laid.{AreWritable, AreSets, AreLaidSo, ordered_of};
-ghost use Rattle.dexlayout.specs.internal.Running.{place_use};
+ghost use Rattle.dexlayout.specs.Laid.{AreWritable, AreSets, ordered_of, AreDirectories};
+ghost use Rattle.dexlayout.specs.internal.Placing.{add_directory};
 
 use crate::offsets::{Offsets, round_up};
 use crate::sets::Sets;
@@ -29,8 +28,8 @@ fn place_directory(
     requires fields { length field_offs.now ≡ length (fields_of members.now) }
     requires methods { length method_offs.now ≡ length (methods_of members.now) }
     requires lists { length list_offs.now ≡ length (methods_of members.now) }
-    requires fits { (place_use 4 places.old (directory_size own_off (entry_count field_offs.now method_offs.now list_offs.now))).end ≤ 2 ^ 30 }
-    ensures { OnOk result (places.new ≡ place_use 4 places.old (directory_size own_off (entry_count field_offs.now method_offs.now list_offs.now))) }
+    requires fits { (add_directory places.old own_off field_offs.now method_offs.now list_offs.now).end ≤ 2 ^ 30 }
+    ensures { OnOk result (places.new ≡ add_directory places.old own_off field_offs.now method_offs.now list_offs.now) }
 {
     let len = members.directory_len(field_offs, method_offs, list_offs);
     if own_off == 0 && len == EMPTY_DIRECTORY {
@@ -54,7 +53,7 @@ pub(crate) fn place_directories(
     requires sets { AreSets numbering.now classes.now sets.now }
     requires lists { ref_lists.now ≡ ref_list_offsets (ordered_of numbering.now classes.now) }
     requires from { from ≡ ref_list_end (ordered_of numbering.now classes.now) }
-    ensures { IfOk result (AreLaidSo (directory_offsets (ordered_of numbering.now classes.now)) (directory_end (ordered_of numbering.now classes.now)) (directory_section (ordered_of numbering.now classes.now)).items) }
+    ensures { IfOk result (AreDirectories numbering.now classes.now) }
 {
     number_law();
     let own = sets.own();

@@ -1,13 +1,9 @@
 //! Layouts of canonical files.
 
-ghost use Rattle.std.specs.Prelude.{◌≡◌, IfOk, List, length, map};
-ghost use Rattle.dexspec.specs.Files.{definitions};
-ghost use Rattle.dexspec.specs.Mentions.{mentions};
-ghost use Rattle.dexspec.specs.Canonical.{canonical, ordered};
+ghost use Rattle.std.specs.Prelude.{◌≡◌, IfOk, length, map};
+ghost use Rattle.dexspec.specs.Canonical.{canonical};
 ghost use Rattle.dexhead.specs.Written.{entry_meant};
-ghost use Rattle.dexclass.specs.Programs.{AreClassesOf};
-ghost use Rattle.dexclass.specs.Numbered.{NumberedClass};
-ghost use Rattle.dexlayout.specs.Laid.{AreWritable, IsLaid, ordered_of};
+ghost use Rattle.dexlayout.specs.Laid.{IsWritable, IsLayoutOf};
 
 use crate::annotations::Annotations;
 use crate::data::Data;
@@ -63,8 +59,8 @@ impl<'p> Layout<'p> {
     /// The layout of a program's canonical file. Time is linear in what is written, memory some 8 bytes for each
     /// use and item, and the bytes of the debug programs.
     pub fn of(alloc: Global, program: &'p Program<'_>) -> Result<Layout<'p>, AllocError>
-        ensures laid { IfOk result (λ layout. (cs : List NumberedClass) → AreClassesOf program.now cs → IsLaid (mentions (definitions program.now)) cs layout) }
-        ensures writable { (cs : List NumberedClass) → AreClassesOf program.now cs → AreWritable (mentions (definitions program.now)) cs × (ordered_of (mentions (definitions program.now)) cs ≡ ordered (definitions program.now)) }
+        ensures laid { IfOk result (IsLayoutOf program.now) }
+        ensures writable { IsWritable program.now }
         ensures len { IfOk result (λ layout. layout.head.file_size ≡ length (canonical program.now)) }
     {
         program.is_good();

@@ -1,10 +1,8 @@
 //! The parts of a layout put together.
 
 ghost use Rattle.std.specs.Prelude.{◌≡◌, ◌+◌, ◌<◌, ◌≤◌, ◌^◌, IfOk, length};
-ghost use Rattle.dexspec.specs.Placing.{Ordered};
-ghost use Rattle.dexhead.specs.Laid.{StatesLayout, map_list, map_start};
 ghost use Rattle.dexlayout.specs.Laid.{AreWritable, IsLaid};
-ghost use Rattle.dexlayout.specs.internal.Parts.{AreTables};
+ghost use Rattle.dexlayout.specs.internal.Placing.{StatesParts};
 
 use crate::data::place_data;
 use crate::layout::Layout;
@@ -20,7 +18,7 @@ use std::alloc::{AllocError, Global};
 fn head_of(tables: &Tables, map_off: u32, map_size: u32) -> Head
     requires following { tables.now.end ≤ map_off }
     requires fits { map_off + map_size < 2 ^ 32 }
-    ensures reports { (K : Ordered) → AreTables K tables.now → map_off ≡ map_start K → map_size ≡ length (map_list K) → StatesLayout result K }
+    ensures reports { StatesParts tables.now map_off map_size result }
     ensures signature { length result.signature ≡ 20 }
 {
     let file_size = map_off + map_size;

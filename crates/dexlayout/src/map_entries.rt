@@ -1,10 +1,9 @@
 //! The map of a file.
 
-ghost use Rattle.std.specs.Prelude.{◌≡◌, ◌<◌, ◌+◌, [], ◌∷◌, ◌++◌, length, map, IfOk, OnOk};
-ghost use Rattle.std.specs.List.{flat_map};
-ghost use Rattle.dexspec.specs.Sections as kinds;
+ghost use Rattle.std.specs.Prelude.{◌≡◌, ◌<◌, ◌+◌, ◌++◌, length, map, IfOk, OnOk};
 ghost use Rattle.dexhead.specs.Written.{entry_meant};
-ghost use Rattle.dexlayout.specs.internal.Parts.{entry_of, count_placed};
+ghost use Rattle.dexlayout.specs.internal.Parts.{count_placed};
+ghost use Rattle.dexlayout.specs.internal.Placing.{parts_in, full_parts, whole_map};
 
 use crate::tables::entry;
 use dexhead::{MapEntry, Section};
@@ -25,7 +24,7 @@ pub(crate) fn map_entries(
     map_off: u32,
 ) -> Result<Vec<MapEntry>, AllocError>
     requires few { length tables.now + length sections.now < 100 }
-    ensures { IfOk result (λ entries. map entry_meant entries.items ≡ (kinds.HeaderItem, 1, 0) ∷ (flat_map entry_of (map entry_meant tables.now) ++ (flat_map entry_of (map entry_meant sections.now) ++ (kinds.MapList, 1, map_off) ∷ []))) }
+    ensures { IfOk result (λ entries. map entry_meant entries.items ≡ whole_map tables.now sections.now map_off) }
 {
     let mut entries = Vec::with_capacity(alloc, 2 + tables.len() + sections.len())?;
     entries.push(entry(Section::HeaderItem, 1, 0))?;
@@ -37,7 +36,7 @@ pub(crate) fn map_entries(
 
 // Appends the entries of the parts that are not empty.
 fn push_parts(parts: &[MapEntry], entries: &mut Vec<MapEntry>) -> Result<(), AllocError>
-    ensures { OnOk result (map entry_meant entries.new.items ≡ map entry_meant entries.old.items ++ flat_map entry_of (map entry_meant parts.now)) }
+    ensures { OnOk result (parts_in entries.new.items ≡ parts_in entries.old.items ++ full_parts parts.now) }
 {
     for part in parts {
         if part.size > 0 {

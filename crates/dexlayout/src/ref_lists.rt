@@ -1,10 +1,10 @@
 //! The offsets of lists of sets of parameters.
 
-ghost use Rattle.std.specs.Prelude.{◌≡◌, ◌^◌, ◌≤◌, IfOk, OnOk, length};
-ghost use Rattle.dexspec.specs.Canonical.{ref_list_end, ref_list_offsets, ref_list_section, set_end};
+ghost use Rattle.std.specs.Prelude.{◌≡◌, ◌^◌, ◌≤◌, IfOk, OnOk};
+ghost use Rattle.dexspec.specs.Canonical.{set_end};
 ghost use Rattle.dexmembers.specs.Numbered.{methods_of};
-ghost use Rattle.dexlayout.specs.internal.Collecting.{list_size, list_sizes};
-ghost use Rattle.dexlayout.specs.Laid.{AreWritable, AreLaidSo, ordered_of};
+ghost use Rattle.dexlayout.specs.internal.Collecting.{list_sizes, method_list_size};
+ghost use Rattle.dexlayout.specs.Laid.{AreWritable, ordered_of, AreRefLists};
 ghost use Rattle.dexlayout.specs.internal.Running.{place_use, place_uses};
 
 use crate::offsets::{Offsets, round_up};
@@ -15,8 +15,8 @@ use std::alloc::{AllocError, Global};
 
 // Places the list of a method after those before it, unless it is empty.
 fn place_list(method: &Method<'_, '_>, places: &mut Offsets) -> Result<(), AllocError>
-    requires { (place_use 4 places.old (list_size (length method.now.parameter_annotations))).end ≤ 2 ^ 30 }
-    ensures { OnOk result (places.new ≡ place_use 4 places.old (list_size (length method.now.parameter_annotations))) }
+    requires { (place_use 4 places.old (method_list_size method.now)).end ≤ 2 ^ 30 }
+    ensures { OnOk result (places.new ≡ place_use 4 places.old (method_list_size method.now)) }
 {
     let sets = method.parameter_annotations();
     if sets.is_empty() {
@@ -59,7 +59,7 @@ pub(crate) fn place_ref_lists(
 ) -> Result<Offsets, AllocError>
     requires classes { AreWritable numbering.now classes.now }
     requires from { from ≡ set_end (ordered_of numbering.now classes.now) }
-    ensures { IfOk result (AreLaidSo (ref_list_offsets (ordered_of numbering.now classes.now)) (ref_list_end (ordered_of numbering.now classes.now)) (ref_list_section (ordered_of numbering.now classes.now)).items) }
+    ensures { IfOk result (AreRefLists numbering.now classes.now) }
 {
     let mut places = Offsets::starting_at(alloc, from, methods)?;
     for class in classes {

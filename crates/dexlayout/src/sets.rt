@@ -1,12 +1,11 @@
 //! The offsets of annotation sets.
 
-ghost use Rattle.std.specs.Prelude.{◌≡◌, ◌^◌, ◌≤◌, List, [], ◌∷◌, length, map, drop, Some, IfOk, OnOk};
+ghost use Rattle.std.specs.Prelude.{◌≡◌, ◌^◌, ◌≤◌, length, drop, IfOk, OnOk};
 ghost use Rattle.std.specs.List.{flat_map};
 ghost use Rattle.dexspec.specs.Canonical.{class_data_end, set_items};
-ghost use Rattle.dexval.specs.Code.{set_of};
-ghost use Rattle.dexlayout.specs.internal.Collecting.{set_len, sets_of_method, sets_of_class, parts_of_methods, parts_of_class, collect_own, collect_method, collect_methods, collect_class};
+ghost use Rattle.dexlayout.specs.internal.Collecting.{sets_of_method, sets_of_class, parts_of_methods, parts_of_class, collect_own, collect_method, collect_methods, collect_class};
 ghost use Rattle.dexlayout.specs.Laid.{AreWritable, AreAnnotations, AreSets, ordered_of};
-ghost use Rattle.dexlayout.specs.internal.Running.{none_from, place_uses};
+ghost use Rattle.dexlayout.specs.internal.Placing.{set_places, no_sets};
 
 use crate::annotations::Annotations;
 use crate::offsets::{Offsets, round_up};
@@ -87,7 +86,7 @@ impl Sets {
 impl Sets {
     // No sets yet, and memory for the own sets of `classes` classes; `written` has the offsets of those written.
     fn none(alloc: Global, classes: usize, written: Offsets) -> Result<Sets, AllocError>
-        ensures { IfOk result (λ sets. sets ≡ record { own = []; fields = []; methods = []; parameters = []; end = written.end; greatest = written.greatest }) }
+        ensures { IfOk result (λ sets. sets ≡ no_sets written) }
     {
         Ok(Sets {
             own: Vec::with_capacity(alloc, classes)?,
@@ -163,8 +162,8 @@ fn place_written(
     written: &[&AnnotationSet],
     from: u32,
 ) -> Result<Offsets, AllocError>
-    requires { (place_uses 4 (none_from from) (map (λ s. Some (set_len (set_of s.now))) written.now)).end ≤ 2 ^ 30 }
-    ensures { IfOk result (λ places. places ≡ place_uses 4 (none_from from) (map (λ s. Some (set_len (set_of s.now))) written.now)) }
+    requires { (set_places from written.now).end ≤ 2 ^ 30 }
+    ensures { IfOk result (λ places. places ≡ set_places from written.now) }
 {
     let mut places = Offsets::starting_at(alloc, from, written.len())?;
     for set in written {

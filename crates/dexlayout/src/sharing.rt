@@ -1,10 +1,11 @@
 //! Items that equal uses share.
 
-ghost use Rattle.std.specs.Prelude.{◌≡◌, ℕ, List, [], ◌∷◌, ◌++◌, Option, Some, None, OnOk, IfOk};
+ghost use Rattle.std.specs.Prelude.{◌≡◌, ℕ, List, [], Option, Some, None, IfOk};
 ghost use Rattle.std.specs.Prelude.{◌<◌, All, IfSome, length, slice_index};
 ghost use Rattle.std.specs.Option.{option_map_or};
-ghost use Rattle.dexspec.specs.Placing.{uses_offsets};
 ghost use Rattle.dexlayout.specs.internal.Sharing.{HaveItems};
+ghost use Rattle.dexlayout.specs.internal.Adding.{HasUses, AddsUse, AreOfUses};
+ghost use Rattle.dexlayout.specs.internal.Placing.{shared_places};
 
 use crate::offsets::Offsets;
 use indexmap::IndexSet;
@@ -48,7 +49,7 @@ impl<T: Eq + Hash + Drop> Sharing<T> {
 
     /// Adds a use, of an item or of none.
     pub(crate) fn add(&mut self, used: Option<T>) -> Result<(), AllocError>
-        ensures { (uses : List (Option T)) → HaveItems T.eq uses self.old.items.keys self.old.numbers.items → OnOk result (HaveItems T.eq (uses ++ used ∷ []) self.new.items.keys self.new.numbers.items) }
+        ensures { AddsUse T.eq result used self.old self.new }
     {
         let number = match used {
             Some(item) => {
@@ -63,7 +64,7 @@ impl<T: Eq + Hash + Drop> Sharing<T> {
 
     /// The items, and the number of each use.
     pub(crate) fn finish(self, alloc: Global) -> Result<Shared<T>, AllocError>
-        ensures { (uses : List (Option T)) → HaveItems T.eq uses self.items.keys self.numbers.items → IfOk result (λ shared. HaveItems T.eq uses shared.written.items shared.numbers.items) }
+        ensures { (uses : List (Option T)) → HasUses T.eq uses self → IfOk result (AreOfUses T.eq uses) }
     {
         let Sharing { items, numbers } = self;
         let written = items.into_iter().collect(alloc)?;
@@ -89,7 +90,7 @@ pub(crate) fn place_shared(
     written: &Offsets,
 ) -> Result<Offsets, AllocError>
     requires { All (λ number. IfSome number (λ i. i < length written.now.offsets)) numbers.now }
-    ensures { IfOk result (λ places. places ≡ record { offsets = uses_offsets numbers.now written.now.offsets; end = written.now.end; greatest = written.now.greatest }) }
+    ensures { IfOk result (λ places. places ≡ shared_places numbers.now written.now) }
 {
     let mut offsets = Vec::with_capacity(alloc, numbers.len())?;
     for number in numbers {

@@ -2,9 +2,10 @@
 
 ghost use Rattle.std.specs.Prelude.{◌≡◌, ◌^◌, ◌≤◌, IfOk, OnOk};
 ghost use Rattle.dexspec.specs.Mentions.{Mentions};
-ghost use Rattle.dexspec.specs.Canonical.{annotation_end, array_end, array_offsets, array_section};
-ghost use Rattle.dexlayout.specs.Laid.{AreWritable, AreLaidSo, ordered_of};
+ghost use Rattle.dexspec.specs.Canonical.{annotation_end};
+ghost use Rattle.dexlayout.specs.Laid.{AreWritable, ordered_of, AreStaticValues};
 ghost use Rattle.dexlayout.specs.internal.Running.{place_use};
+ghost use Rattle.dexlayout.specs.internal.Placing.{PlacedFrom};
 ghost use Rattle.dexlayout.specs.internal.Sizes.{static_size};
 
 use crate::offsets::Offsets;
@@ -21,7 +22,7 @@ pub(crate) fn place_static_values(
     from: u32,
 ) -> Result<Offsets, AllocError>
     requires { (m : Mentions) × AreWritable m classes.now × (from ≡ annotation_end (ordered_of m classes.now)) }
-    ensures { IfOk result (λ places. (m : Mentions) → AreWritable m classes.now → from ≡ annotation_end (ordered_of m classes.now) → AreLaidSo (array_offsets (ordered_of m classes.now)) (array_end (ordered_of m classes.now)) (array_section (ordered_of m classes.now)).items places) }
+    ensures { IfOk result (PlacedFrom annotation_end AreStaticValues classes.now from) }
 {
     let mut places = Offsets::starting_at(alloc, from, classes.len())?;
     for class in classes {

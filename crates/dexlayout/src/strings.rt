@@ -2,8 +2,8 @@
 
 ghost use Rattle.std.specs.Prelude.{◌≡◌, ◌^◌, ◌≤◌, IfOk, map};
 ghost use Rattle.dexspec.specs.Texts.{string_data};
-ghost use Rattle.dexspec.specs.Placing.{offsets_from, end_from};
-ghost use Rattle.dexlayout.specs.Laid.{AreLaidSo};
+ghost use Rattle.dexspec.specs.Placing.{end_from};
+ghost use Rattle.dexlayout.specs.internal.Placing.{AreStringsFrom};
 
 use crate::offsets::Offsets;
 use dexpool::{Numbering, SymbolKind};
@@ -18,7 +18,7 @@ pub(crate) fn place_strings(
     from: u32,
 ) -> Result<Offsets, AllocError>
     requires { end_from 1 from (map string_data numbering.now.texts) ≤ 2 ^ 30 }
-    ensures { IfOk result (AreLaidSo (offsets_from 1 from (map string_data numbering.now.texts)) (end_from 1 from (map string_data numbering.now.texts)) (map string_data numbering.now.texts)) }
+    ensures { IfOk result (AreStringsFrom from numbering.now) }
 {
     let count = numbering.count(SymbolKind::Text);
     let mut places = Offsets::starting_at(alloc, from, count)?;

@@ -1,7 +1,6 @@
 //! The tables of a file.
 
 ghost use Rattle.std.specs.Prelude.{◌≡◌, map};
-ghost use Rattle.dexspec.specs.Canonical.{placed_tables};
 ghost use Rattle.dexspec.specs.Placing.{Ordered};
 ghost use Rattle.dexhead.specs.Written.{entry_meant, rows_meant};
 ghost use Rattle.dexspec.specs.Sections as sections;
@@ -9,6 +8,7 @@ ghost use Rattle.dexhead.specs.Sections.{section_meant};
 ghost use Rattle.dexhead.specs.Tables.{meant};
 ghost use Rattle.dexlayout.specs.Laid.{AreWritable, ordered_of};
 ghost use Rattle.dexlayout.specs.internal.Parts.{AreTables, rows_from, table_parts};
+ghost use Rattle.dexlayout.specs.internal.Placing.{table_rows};
 
 use dexclass::Class;
 use dexhead::{MapEntry, Rows, Section, Table};
@@ -84,7 +84,7 @@ impl Tables {
 
     /// The tables in the order of the header.
     pub(crate) fn rows(&self) -> [Rows; 6]
-        ensures { (K : Ordered) → AreTables K self.now → map rows_meant result ≡ map (λ t. (t.1, t.2)) (placed_tables K) }
+        ensures { (K : Ordered) → AreTables K self.now → map rows_meant result ≡ table_rows K }
     {
         [
             self.string_ids,

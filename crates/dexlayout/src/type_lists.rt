@@ -1,16 +1,11 @@
 //! The offsets of type lists: those of the parameters of protos, and of the interfaces of classes.
 
-ghost use Rattle.std.specs.Prelude.{◌≡◌, ◌∷◌, [], ◌++◌, ◌^◌, ◌≤◌, All, IfOk, List, OnOk, Option, Some, map};
-ghost use Rattle.dexspec.specs.Canonical.{data_start, type_list_items};
-ghost use Rattle.dexspec.specs.Mentions.{Mentions};
-ghost use Rattle.dexspec.specs.Placing.{unless_empty};
-ghost use Rattle.dexspec.specs.Texts.{Text};
-ghost use Rattle.dexclass.specs.Numbered.{type_at};
-ghost use Rattle.dexclass.specs.Uses.{IsKnownClass};
-ghost use Rattle.dexlayout.specs.Laid.{AreShared, AreTypeLists, AreWritable, ordered_of};
-ghost use Rattle.dexlayout.specs.internal.Running.{none_from, place_uses};
-ghost use Rattle.dexlayout.specs.internal.SharedUses.{AreTypes, SharesLists, interfaces_use};
-ghost use Rattle.dexlayout.specs.internal.Sharing.{list_len};
+ghost use Rattle.std.specs.Prelude.{◌≡◌, ◌^◌, ◌≤◌, All, IfOk};
+ghost use Rattle.dexspec.specs.Canonical.{data_start};
+ghost use Rattle.dexlayout.specs.Laid.{AreTypeLists, AreWritable, ordered_of};
+ghost use Rattle.dexlayout.specs.internal.SharedUses.{AreTypes, SharesLists};
+ghost use Rattle.dexlayout.specs.internal.Adding.{AddsUses, AddsParameters, list_uses, AreKnownClasses, interfaces_uses};
+ghost use Rattle.dexlayout.specs.internal.Placing.{HaveTypeLists, list_places};
 
 use crate::list_keys::ListKey;
 use crate::offsets::{Offsets, round_up};
@@ -57,7 +52,7 @@ impl<'p> TypeLists<'p> {
 
 // Adds a use of a type list, which has no item where the list is empty.
 fn add_list<'p>(sharing: &mut Sharing<ListKey<'p>>, list: TypeNumbers<'p>) -> Result<(), AllocError>
-    ensures { (m : Mentions) (uses : List (Option (List Text))) → AreTypes m list.entry → SharesLists m uses sharing.old.items.keys sharing.old.numbers.items → OnOk result (SharesLists m (uses ++ unless_empty (map (type_at m) list.entry) ∷ []) sharing.new.items.keys sharing.new.numbers.items) }
+    ensures { AddsUses SharesLists result sharing.old sharing.new AreTypes list_uses list.entry }
 {
     if list.len() == 0 {
         return sharing.add(None);
@@ -70,7 +65,7 @@ fn add_parameters<'p>(
     sharing: &mut Sharing<ListKey<'p>>,
     numbering: &'p Numbering<'_>,
 ) -> Result<(), AllocError>
-    ensures { (uses : List (Option (List Text))) → SharesLists numbering.now uses sharing.old.items.keys sharing.old.numbers.items → OnOk result (SharesLists numbering.now (uses ++ map (λ p. unless_empty p.parameters) numbering.now.protos) sharing.new.items.keys sharing.new.numbers.items) }
+    ensures { AddsParameters numbering.now result sharing.old sharing.new }
 {
     for i in 0..numbering.count(SymbolKind::Proto) {
         add_list(sharing, numbering.proto(i).parameters())?;
@@ -83,7 +78,7 @@ fn add_interfaces<'p>(
     sharing: &mut Sharing<ListKey<'p>>,
     classes: &'p [Class<'_>],
 ) -> Result<(), AllocError>
-    ensures { (m : Mentions) (uses : List (Option (List Text))) → All (IsKnownClass m) classes.now → SharesLists m uses sharing.old.items.keys sharing.old.numbers.items → OnOk result (SharesLists m (uses ++ map (interfaces_use m) classes.now) sharing.new.items.keys sharing.new.numbers.items) }
+    ensures { AddsUses SharesLists result sharing.old sharing.new AreKnownClasses interfaces_uses classes.now }
 {
     for i in 0..classes.len() {
         add_list(sharing, TypeNumbers::words(classes[i].interfaces()))?;
@@ -98,7 +93,7 @@ fn share_type_lists<'p>(
     classes: &'p [Class<'_>],
 ) -> Result<Shared<ListKey<'p>>, AllocError>
     requires { AreWritable numbering.now classes.now }
-    ensures shared { IfOk result (λ shared. AreShared (map (type_at numbering.now)) (type_list_items (ordered_of numbering.now classes.now)) shared.written.items shared.numbers.items) }
+    ensures shared { IfOk result (HaveTypeLists numbering.now classes.now) }
     ensures known { IfOk result (λ shared. All (AreTypes numbering.now) shared.written.items) }
 {
     let protos = numbering.count(SymbolKind::Proto);
@@ -121,8 +116,8 @@ fn lists_of<'p>(alloc: Global, keys: Vec<ListKey<'p>>) -> Result<Vec<TypeNumbers
 
 // The offsets of the type lists that are written, from an offset on.
 fn place_lists(alloc: Global, lists: &[TypeNumbers<'_>], from: u32) -> Result<Offsets, AllocError>
-    requires { (place_uses 4 (none_from from) (map (λ list. Some (list_len list)) lists.now)).end ≤ 2 ^ 30 }
-    ensures { IfOk result (λ places. places ≡ place_uses 4 (none_from from) (map (λ list. Some (list_len list)) lists.now)) }
+    requires { (list_places from lists.now).end ≤ 2 ^ 30 }
+    ensures { IfOk result (λ places. places ≡ list_places from lists.now) }
 {
     let mut places = Offsets::starting_at(alloc, from, lists.len())?;
     for i in 0..lists.len() {

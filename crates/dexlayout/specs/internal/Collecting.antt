@@ -14,9 +14,13 @@ use Rattle.dexlayout.specs.Places.{SetPlaces}
 abbrev pub list_size : ℕ → Option ℕ
 list_size n = if n == 0 then None else Some (4 + 4 * n)
 
+-- how many that of a method has
+abbrev pub method_list_size : NumberedMethod → Option ℕ
+method_list_size x = list_size (length x.parameter_annotations)
+
 -- how many those of methods have
 abbrev pub list_sizes : List NumberedMethod → List (Option ℕ)
-list_sizes xs = map (λ x. list_size (length x.parameter_annotations)) xs
+list_sizes xs = map method_list_size xs
 
 -- how many those of classes have
 abbrev pub class_list_sizes : List NumberedClass → List (Option ℕ)

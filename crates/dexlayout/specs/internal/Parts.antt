@@ -4,7 +4,7 @@ use Rattle.dexspec.specs.Bytes.{round_up}
 use Rattle.dexspec.specs.Header.{header_length}
 use Rattle.dexspec.specs.Sections.{Section, TableOf}
 use Rattle.dexspec.specs.Placing.{Ordered, offsets}
-use Rattle.dexspec.specs.Canonical.{placed_tables, data_start, data_sections, array_section, array_offsets, array_end, string_section, string_end, code_section, code_offsets, code_end, class_data_section, class_data_offsets, class_data_end, ref_list_section, ref_list_offsets, ref_list_end, directory_section, directory_offsets, directory_end}
+use Rattle.dexspec.specs.Canonical.{placed_tables, data_start, data_sections, string_section, string_end}
 use Rattle.dexhead.specs.Written.{rows_meant}
 use Rattle.dexspec.specs.Mentions.{Mentions}
 use Rattle.dexclass.specs.Numbered.{NumberedClass}
@@ -13,7 +13,7 @@ use Rattle.dexlayout.specs.declared.data.Bodies.{Bodies}
 use Rattle.dexlayout.specs.declared.data.Data.{Data}
 use Rattle.dexlayout.specs.declared.data.FirstSections.{FirstSections}
 use Rattle.dexlayout.specs.declared.tables.Tables.{Tables}
-use Rattle.dexlayout.specs.Laid.{ordered_of, AreLaidSo, AreTypeLists, AreAnnotations, AreDebugs, AreSets}
+use Rattle.dexlayout.specs.Laid.{ordered_of, AreLaidSo, AreTypeLists, AreAnnotations, AreDebugs, AreSets, AreStaticValues, AreCodes, AreClassData, AreRefLists, AreDirectories}
 
 -- a table of `size` rows, and where it begins if it is not empty
 abbrev pub rows_from : ℕ → ℕ → ℕ × ℕ
@@ -50,20 +50,20 @@ count_placed offs = count_by (λ o. not (o == 0)) offs
 pub record AreFirstSections (m : Mentions) (cs : List NumberedClass) (f : FirstSections) : Type 0 where
   pub type_lists_are : AreTypeLists m cs f.type_lists
   pub annotations_are : AreAnnotations m cs f.annotations
-  pub static_values_are : AreLaidSo (array_offsets (ordered_of m cs)) (array_end (ordered_of m cs)) (array_section (ordered_of m cs)).items f.static_values
+  pub static_values_are : AreStaticValues m cs f.static_values
   pub strings_are : AreLaidSo (offsets (string_section (ordered_of m cs))) (string_end (ordered_of m cs)) (string_section (ordered_of m cs)).items f.strings
 
 -- the same of the sections from the debug programs to the class data
 pub record AreBodies (m : Mentions) (cs : List NumberedClass) (b : Bodies) : Type 0 where
   pub debugs_are : AreDebugs m cs b.debugs
-  pub codes_are : AreLaidSo (code_offsets (ordered_of m cs)) (code_end (ordered_of m cs)) (code_section (ordered_of m cs)).items b.codes
-  pub class_data_are : AreLaidSo (class_data_offsets (ordered_of m cs)) (class_data_end (ordered_of m cs)) (class_data_section (ordered_of m cs)).items b.class_data
+  pub codes_are : AreCodes m cs b.codes
+  pub class_data_are : AreClassData m cs b.class_data
 
 -- and of the last sections
 pub record AreBack (m : Mentions) (cs : List NumberedClass) (b : Back) : Type 0 where
   pub sets_are : AreSets m cs b.sets
-  pub ref_lists_are : AreLaidSo (ref_list_offsets (ordered_of m cs)) (ref_list_end (ordered_of m cs)) (ref_list_section (ordered_of m cs)).items b.ref_lists
-  pub directories_are : AreLaidSo (directory_offsets (ordered_of m cs)) (directory_end (ordered_of m cs)) (directory_section (ordered_of m cs)).items b.directories
+  pub ref_lists_are : AreRefLists m cs b.ref_lists
+  pub directories_are : AreDirectories m cs b.directories
 
 -- the items of each section of the data have these offsets
 pub record AreData (m : Mentions) (cs : List NumberedClass) (d : Data) : Type 0 where

@@ -1,0 +1,147 @@
+-- Items of a layout, from the offset on where those of the sections before end.
+use Rattle.std.specs.Prelude.{◌≡◌, ℕ, List, [], ◌∷◌, ◌++◌, Option, Some, map, length, All}
+use Rattle.std.specs.Borrow.{Bor}
+use Rattle.std.specs.List.{flat_map}
+use Rattle.dexspec.specs.Texts.{string_data}
+use Rattle.dexspec.specs.Mentions.{Mentions}
+use Rattle.dexspec.specs.Sections.{Section, HeaderItem, MapList}
+use Rattle.dexspec.specs.Placing.{Ordered, offsets_from, end_from, uses_offsets}
+use Rattle.dexspec.specs.Canonical.{data_start, data_sections, type_list_items, type_list_end, set_items, debug_items, code_offsets, code_end, placed_tables}
+use Rattle.dexhead.specs.declared.head.Head.{Head}
+use Rattle.dexhead.specs.declared.map_list.MapEntry.{MapEntry}
+use Rattle.dexhead.specs.Laid.{StatesLayout, map_start, map_list}
+use Rattle.dexhead.specs.Written.{entry_meant}
+use Rattle.dexcode.specs.Debug.{NumberedDebug, numbered_debug_bytes}
+use Rattle.dexcode.specs.Meaning.{debug_in, IsKnownDebug}
+use Rattle.dexval.specs.declared.set.AnnotationSet.{AnnotationSet as CodeSet}
+use Rattle.dexval.specs.Code.{set_of}
+use Rattle.dexval.specs.Numbered.{set_in, type_at, IsKnownSet}
+use Rattle.dexclass.specs.Numbered.{NumberedClass}
+use Rattle.dexlayout.specs.declared.data.Data.{Data}
+use Rattle.dexlayout.specs.declared.sharing.Shared.{Shared}
+use Rattle.dexlayout.specs.declared.tables.Tables.{Tables}
+use Rattle.dexlayout.specs.Places.{ItemPlaces, AnnotationPlaces, SetPlaces}
+use Rattle.dexlayout.specs.Laid.{ordered_of, greatest_in, AreWritable, AreLaidSo, AreAnnotations, AreClassData, AreShared}
+use Rattle.dexlayout.specs.internal.Parts.{AreTables, AreData, entry_of, section_parts}
+use Rattle.dexlayout.specs.internal.Running.{none_from, place_use, place_uses}
+use Rattle.dexlayout.specs.internal.Sharing.{list_len}
+use Rattle.dexlayout.specs.internal.Collecting.{set_len}
+use Rattle.dexlayout.specs.internal.Directories.{entry_count, directory_size}
+
+-- ---- sections
+
+-- the parts are those of these classes, over each numbering in whose file the sections before end at the offset
+abbrev pub PlacedFrom : {P : Type 0} → (Ordered → ℕ) → (Mentions → List NumberedClass → P → Type 0) → List NumberedClass → ℕ → P → Type 0
+PlacedFrom end Are cs from p = (m : Mentions) → AreWritable m cs → from ≡ end (ordered_of m cs) → Are m cs p
+
+-- the class data can be placed from the offset on, by these offsets of the code
+abbrev pub CanPlaceClassData : List NumberedClass → List ℕ → ℕ → Type 0
+CanPlaceClassData cs codes from = (m : Mentions) × AreWritable m cs × (codes ≡ code_offsets (ordered_of m cs)) × (from ≡ code_end (ordered_of m cs))
+
+-- they are placed so
+abbrev pub PlacedClassData : List NumberedClass → List ℕ → ℕ → ItemPlaces → Type 0
+PlacedClassData cs codes from p = (m : Mentions) → AreWritable m cs → codes ≡ code_offsets (ordered_of m cs) → from ≡ code_end (ordered_of m cs) → AreClassData m cs p
+
+-- the texts from the offset on
+abbrev pub AreStringsFrom : ℕ → Mentions → ItemPlaces → Type 0
+AreStringsFrom from m = AreLaidSo (offsets_from 1 from (map string_data m.texts)) (end_from 1 from (map string_data m.texts)) (map string_data m.texts)
+
+-- ---- the items of uses
+
+-- the offsets of the items that uses share, for each use
+abbrev pub shared_places : List (Option ℕ) → ItemPlaces → ItemPlaces
+shared_places numbers written = record { offsets = uses_offsets numbers written.offsets; end = written.end; greatest = written.greatest }
+
+-- type lists from the offset on
+abbrev pub list_places : ℕ → List (List ℕ) → ItemPlaces
+list_places from lists = place_uses 4 (none_from from) (map (λ list. Some (list_len list)) lists)
+
+-- the type lists are those of the file of these classes
+abbrev pub HaveTypeLists : Mentions → List NumberedClass → Shared (List ℕ) → Type 0
+HaveTypeLists m cs shared = AreShared (map (type_at m)) (type_list_items (ordered_of m cs)) shared.written.items shared.numbers.items
+
+-- ---- sets
+
+-- the sets are those that are written in the file of these classes
+abbrev pub AreWrittenSets : Mentions → List NumberedClass → List (Bor CodeSet) → Type 0
+AreWrittenSets m cs sets = map (λ s. set_in m (set_of s.now)) sets ≡ (set_items (ordered_of m cs)).written
+
+-- the numbers in the sets are known
+abbrev pub AreKnownSets : Mentions → List (Bor CodeSet) → Type 0
+AreKnownSets m sets = All (λ s. IsKnownSet m (set_of s.now)) sets
+
+-- the sets are those of the file of these classes
+abbrev pub HaveSets : List NumberedClass → Shared (Bor CodeSet) → Type 0
+HaveSets cs shared = (m : Mentions) → AreWritable m cs → AreShared (λ s. set_in m (set_of s.now)) (set_items (ordered_of m cs)) shared.written.items shared.numbers.items
+
+-- the numbers in the sets are known
+abbrev pub HaveKnownSets : List NumberedClass → Shared (Bor CodeSet) → Type 0
+HaveKnownSets cs shared = (m : Mentions) → AreWritable m cs → AreKnownSets m shared.written.items
+
+-- the annotations of sets from the offset on
+abbrev pub PlacedAnnotations : ℕ → List (Bor CodeSet) → AnnotationPlaces → Type 0
+PlacedAnnotations from sets p = (m : Mentions) (cs : List NumberedClass) → AreWritable m cs → AreWrittenSets m cs sets → AreKnownSets m sets → from ≡ type_list_end (ordered_of m cs) → AreAnnotations m cs p
+
+-- sets from the offset on
+abbrev pub set_places : ℕ → List (Bor CodeSet) → ItemPlaces
+set_places from sets = place_uses 4 (none_from from) (map (λ s. Some (set_len (set_of s.now))) sets)
+
+-- no offsets of sets yet, beside the sets that are written
+abbrev pub no_sets : ItemPlaces → SetPlaces
+no_sets written = record { own = []; fields = []; methods = []; parameters = []; end = written.end; greatest = written.greatest }
+
+-- a directory more, by the offsets that it has
+abbrev pub add_directory : ItemPlaces → ℕ → List ℕ → List ℕ → List ℕ → ItemPlaces
+add_directory p own fields methods lists = place_use 4 p (directory_size own (entry_count fields methods lists))
+
+-- ---- debug programs
+
+-- the debug programs are those of the file of these classes
+abbrev pub HaveDebugs : List NumberedClass → Shared (Bor NumberedDebug) → Type 0
+HaveDebugs cs shared = (m : Mentions) → AreWritable m cs → AreShared (λ d. debug_in m d.now) (debug_items (ordered_of m cs)) shared.written.items shared.numbers.items
+
+-- the numbers in the debug programs are known
+abbrev pub HaveKnownDebugs : List NumberedClass → Shared (Bor NumberedDebug) → Type 0
+HaveKnownDebugs cs shared = (m : Mentions) → AreWritable m cs → All (λ d. IsKnownDebug m d.now) shared.written.items
+
+-- the bytes of debug programs
+abbrev pub debugs_bytes : List (Bor NumberedDebug) → List ℕ
+debugs_bytes debugs = flat_map (λ debug. numbered_debug_bytes debug.now) debugs
+
+-- debug programs from the offset on
+abbrev pub debug_places : ℕ → List (Bor NumberedDebug) → ItemPlaces
+debug_places from debugs = place_uses 1 (none_from from) (map (λ debug. Some (length (numbered_debug_bytes debug.now))) debugs)
+
+-- ---- the header and the map
+
+-- the header tells of the file whose tables these are, and whose map has this offset and length
+abbrev pub StatesParts : Tables → ℕ → ℕ → Head → Type 0
+StatesParts tables map_off map_size head = (K : Ordered) → AreTables K tables → map_off ≡ map_start K → map_size ≡ length (map_list K) → StatesLayout head K
+
+-- how many rows each table has, and where they begin
+abbrev pub table_rows : Ordered → List (ℕ × ℕ)
+table_rows K = map (λ t. (t.1, t.2)) (placed_tables K)
+
+-- what entries say
+abbrev pub parts_in : List MapEntry → List (Section × ℕ × ℕ)
+parts_in entries = map entry_meant entries
+
+-- those of parts that are not empty
+abbrev pub full_parts : List MapEntry → List (Section × ℕ × ℕ)
+full_parts parts = flat_map entry_of (parts_in parts)
+
+-- the map of a file with these tables and sections: first the header, last the map itself
+abbrev pub whole_map : List MapEntry → List MapEntry → ℕ → List (Section × ℕ × ℕ)
+whole_map tables sections map_off = (HeaderItem, 1, 0) ∷ (full_parts tables ++ (full_parts sections ++ (MapList, 1, map_off) ∷ []))
+
+-- the data are those of some classes of the numbering, from the offset on
+abbrev pub IsDataFrom : Mentions → Data → ℕ → Type 0
+IsDataFrom m d from = (cs : List NumberedClass) × AreWritable m cs × AreData m cs d × (from ≡ data_start (ordered_of m cs))
+
+-- the entries are those of the sections of such data
+abbrev pub AreEntriesOf : Mentions → Data → ℕ → List MapEntry → Type 0
+AreEntriesOf m d from entries = (cs : List NumberedClass) → AreWritable m cs → AreData m cs d → from ≡ data_start (ordered_of m cs) → map entry_meant entries ≡ section_parts (ordered_of m cs)
+
+-- the greatest length of an item of the data
+abbrev pub greatest_data : Mentions → List NumberedClass → ℕ
+greatest_data m cs = greatest_in (data_sections (ordered_of m cs))

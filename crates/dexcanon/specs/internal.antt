@@ -1,6 +1,9 @@
 -- Words of the contracts of private functions: no public contract reaches them.
+pub mod Adding
 pub mod Annotations
+pub mod Checksums
 pub mod ClassRows
 pub mod Output
 pub mod Ready
 pub mod RefLists
+pub mod Through

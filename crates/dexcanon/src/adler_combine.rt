@@ -1,7 +1,7 @@
 //! The checksum of joined bytes.
 
-ghost use Rattle.std.specs.Prelude.{◌≡◌, ℕ, ◌%◌, ◌/◌, List, ◌++◌, length};
-ghost use Rattle.dexspec.specs.Header.{adler_32};
+ghost use Rattle.std.specs.Prelude.{◌≡◌, ◌%◌, ◌/◌};
+ghost use Rattle.dexcanon.specs.internal.Checksums.{IsChecksumOfBoth};
 
 // The greatest prime below 2^16.
 const MODULUS: u64 = 65521;
@@ -10,7 +10,7 @@ const MODULUS: u64 = 65521;
 ///
 /// Source: "Dalvik Executable format", "header_item", the field `checksum`.
 pub(crate) fn adler_combine(front: u32, back: u32, len: u32) -> u32
-    ensures { (xs ys : List ℕ) → front ≡ adler_32 xs → back ≡ adler_32 ys → len ≡ length ys → result ≡ adler_32 (xs ++ ys) }
+    ensures { IsChecksumOfBoth front back len result }
 {
     let (front_first, front_second) = halves(front);
     let (back_first, back_second) = halves(back);

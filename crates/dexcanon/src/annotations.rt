@@ -2,14 +2,13 @@
 //!
 //! Source: the heading "annotation_item" of the Android page "Dalvik Executable format".
 
-ghost use Rattle.std.specs.Prelude.{ℕ, ◌^◌, ◌<◌, length, map, All};
-ghost use Rattle.dexspec.specs.Placing.{section_bytes};
+ghost use Rattle.std.specs.Prelude.{◌^◌, ◌<◌, length, map, All};
 ghost use Rattle.dexspec.specs.Canonical.{annotation_section};
 ghost use Rattle.dexval.specs.Code.{annotation_of};
 ghost use Rattle.dexval.specs.Numbered.{IsKnownAnnotation};
-ghost use Rattle.dexcanon.specs.internal.Annotations.{annotation_item, set_annotations};
-ghost use Rattle.dexcanon.specs.internal.Ready.{CanBeMade, ordered_in};
-ghost use Rattle.dexcanon.specs.internal.Output.{AreWithin, Adds};
+ghost use Rattle.dexcanon.specs.internal.Annotations.{set_annotations};
+ghost use Rattle.dexcanon.specs.internal.Ready.{CanBeMade};
+ghost use Rattle.dexcanon.specs.internal.Adding.{AddsSection, AddsAnnotations};
 
 use crate::contents::Contents;
 use crate::output::{Out, Target};
@@ -25,7 +24,7 @@ fn put_set_annotations<T: Target>(
 )
     requires known { All (IsKnownAnnotation numbering.now) (map annotation_of annotations.now) }
     requires fits { length (set_annotations numbering.now (map annotation_of annotations.now)) < 2 ^ 32 }
-    ensures { (limit : ℕ) → AreWithin limit (map (annotation_item numbering.now) (map annotation_of annotations.now)) → Adds T.gives T.gives_prefix T.has_failed limit out.old out.new (set_annotations numbering.now (map annotation_of annotations.now)) }
+    ensures { AddsAnnotations T.gives T.gives_prefix T.has_failed out.old out.new numbering.now annotations.now }
 {
     for annotation in annotations {
         let item = AnnotationItem {
@@ -39,7 +38,7 @@ fn put_set_annotations<T: Target>(
 /// The annotations of the sets that are written.
 pub(crate) fn put_annotations<T: Target>(contents: &Contents<'_, '_, '_, '_>, out: &mut Out<T>)
     requires { CanBeMade contents.now }
-    ensures { Adds T.gives T.gives_prefix T.has_failed contents.now.limit out.old out.new (section_bytes (annotation_section (ordered_in contents.now))) }
+    ensures { AddsSection T.gives T.gives_prefix T.has_failed contents.now out.old out.new annotation_section }
 {
     let numbering = contents.numbering;
     let places = contents.layout.annotations();

@@ -1,11 +1,7 @@
 //! All that follows the header of a file.
 
-ghost use Rattle.std.specs.List.{flat_map};
-ghost use Rattle.dexspec.specs.Placing.{section_bytes};
-ghost use Rattle.dexspec.specs.Canonical.{data_sections, layout, table_bytes};
-ghost use Rattle.dexhead.specs.Laid.{after_header};
-ghost use Rattle.dexcanon.specs.internal.Ready.{CanBeMade, ordered_in};
-ghost use Rattle.dexcanon.specs.internal.Output.{Adds};
+ghost use Rattle.dexcanon.specs.internal.Ready.{CanBeMade};
+ghost use Rattle.dexcanon.specs.internal.Adding.{AddsPart, tables_of, data_of, after_header_of};
 
 use crate::annotations::put_annotations;
 use crate::class_data::put_class_data;
@@ -26,7 +22,7 @@ use crate::type_lists::put_type_lists;
 // The rows of the tables.
 fn put_tables<T: Target>(contents: &Contents<'_, '_, '_, '_>, out: &mut Out<T>)
     requires { CanBeMade contents.now }
-    ensures { Adds T.gives T.gives_prefix T.has_failed contents.now.limit out.old out.new (table_bytes (ordered_in contents.now) (layout (ordered_in contents.now))) }
+    ensures { AddsPart T.gives T.gives_prefix T.has_failed contents.now out.old out.new tables_of }
 {
     put_string_ids(contents, out);
     put_type_ids(contents, out);
@@ -39,7 +35,7 @@ fn put_tables<T: Target>(contents: &Contents<'_, '_, '_, '_>, out: &mut Out<T>)
 // The sections of the data.
 fn put_data<T: Target>(contents: &Contents<'_, '_, '_, '_>, out: &mut Out<T>)
     requires { CanBeMade contents.now }
-    ensures { Adds T.gives T.gives_prefix T.has_failed contents.now.limit out.old out.new (flat_map section_bytes (data_sections (ordered_in contents.now))) }
+    ensures { AddsPart T.gives T.gives_prefix T.has_failed contents.now out.old out.new data_of }
 {
     put_type_lists(contents, out);
     put_annotations(contents, out);
@@ -56,7 +52,7 @@ fn put_data<T: Target>(contents: &Contents<'_, '_, '_, '_>, out: &mut Out<T>)
 /// All that follows the header: the rows of the tables, the sections of the data, and the map.
 pub(crate) fn put_body<T: Target>(contents: &Contents<'_, '_, '_, '_>, out: &mut Out<T>)
     requires { CanBeMade contents.now }
-    ensures { Adds T.gives T.gives_prefix T.has_failed contents.now.limit out.old out.new (after_header (ordered_in contents.now)) }
+    ensures { AddsPart T.gives T.gives_prefix T.has_failed contents.now out.old out.new after_header_of }
 {
     put_tables(contents, out);
     put_data(contents, out);

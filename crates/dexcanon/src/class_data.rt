@@ -4,13 +4,13 @@
 
 ghost use Rattle.std.specs.Prelude.{◌≡◌};
 ghost use Rattle.dexspec.specs.Mentions.{Mentions};
-ghost use Rattle.dexspec.specs.Placing.{is_empty_class, section_bytes};
+ghost use Rattle.dexspec.specs.Placing.{is_empty_class};
 ghost use Rattle.dexspec.specs.Canonical.{class_data_section};
 ghost use Rattle.dexspec.specs.Spellings.{class_data_bytes};
 ghost use Rattle.dexclass.specs.Numbered.{definition_of};
 ghost use Rattle.dexcanon.specs.ClassItems.{IsFitClass};
-ghost use Rattle.dexcanon.specs.internal.Ready.{CanBeMade, ordered_in};
-ghost use Rattle.dexcanon.specs.internal.Output.{Adds};
+ghost use Rattle.dexcanon.specs.internal.Ready.{CanBeMade};
+ghost use Rattle.dexcanon.specs.internal.Adding.{AddsSection};
 
 use crate::contents::Contents;
 use crate::items::Item;
@@ -58,7 +58,7 @@ fn has_no_members(class: &Class<'_>) -> bool
 /// The class data.
 pub(crate) fn put_class_data<T: Target>(contents: &Contents<'_, '_, '_, '_>, out: &mut Out<T>)
     requires { CanBeMade contents.now }
-    ensures { Adds T.gives T.gives_prefix T.has_failed contents.now.limit out.old out.new (section_bytes (class_data_section (ordered_in contents.now))) }
+    ensures { AddsSection T.gives T.gives_prefix T.has_failed contents.now out.old out.new class_data_section }
 {
     let numbering = contents.numbering;
     let mut rest = contents.layout.codes().offsets();

@@ -2,14 +2,13 @@
 //!
 //! Source: the heading "class_def_item" of the Android page "Dalvik Executable format".
 
-ghost use Rattle.std.specs.Prelude.{◌≡◌, ◌<◌, ◌^◌, length, unwrap_or, slice_index, IfSome};
-ghost use Rattle.std.specs.List.{concat, flat_map};
+ghost use Rattle.std.specs.Prelude.{◌≡◌, ◌<◌, ◌^◌, length, unwrap_or, IfSome};
+ghost use Rattle.std.specs.List.{flat_map};
 ghost use Rattle.dexspec.specs.Bytes.{uint};
 ghost use Rattle.dexspec.specs.Classes.{no_index};
-ghost use Rattle.dexspec.specs.Canonical.{class_offsets, layout};
-ghost use Rattle.dexcanon.specs.internal.ClassRows.{class_row, rows_with};
-ghost use Rattle.dexcanon.specs.internal.Ready.{CanBeMade, ordered_in};
-ghost use Rattle.dexcanon.specs.internal.Output.{Adds};
+ghost use Rattle.dexcanon.specs.internal.ClassRows.{class_row};
+ghost use Rattle.dexcanon.specs.internal.Ready.{CanBeMade};
+ghost use Rattle.dexcanon.specs.internal.Adding.{AddsPart, class_rows, class_rows_by, offsets_at};
 
 use crate::contents::Contents;
 use crate::items::Numbers;
@@ -35,7 +34,7 @@ impl<'a> ClassPlaces<'a> {
         ensures annotations { length result.annotations.now ≡ length contents.now.classes.now }
         ensures class_data { length result.class_data.now ≡ length contents.now.classes.now }
         ensures static_values { length result.static_values.now ≡ length contents.now.classes.now }
-        ensures rows { concat (rows_with contents.now.numbering.now contents.now.classes.now (class_offsets result.interfaces.now result.annotations.now result.class_data.now result.static_values.now)) ≡ concat (rows_with contents.now.numbering.now contents.now.classes.now (layout (ordered_in contents.now)).classes) }
+        ensures rows { class_rows_by contents.now result ≡ class_rows contents.now }
     {
         let layout = contents.layout;
         let list_offs = layout.type_lists().places().offsets();
@@ -69,7 +68,7 @@ fn row_of(class: &Class<'_>, places: &ClassPlaces<'_>, r: usize) -> [u32; 8]
     requires annotations { r < length places.now.annotations.now }
     requires class_data { r < length places.now.class_data.now }
     requires static_values { r < length places.now.static_values.now }
-    ensures { flat_map uint result ≡ class_row class.now (record { interfaces = slice_index places.now.interfaces.now r; annotations = slice_index places.now.annotations.now r; class_data = slice_index places.now.class_data.now r; static_values = slice_index places.now.static_values.now r }) }
+    ensures { flat_map uint result ≡ class_row class.now (offsets_at places.now r) }
 {
     let superclass = index(class.superclass());
     let source = index(class.source());
@@ -88,7 +87,7 @@ fn row_of(class: &Class<'_>, places: &ClassPlaces<'_>, r: usize) -> [u32; 8]
 /// The rows of the classes.
 pub(crate) fn put_class_defs<T: Target>(contents: &Contents<'_, '_, '_, '_>, out: &mut Out<T>)
     requires { CanBeMade contents.now }
-    ensures { Adds T.gives T.gives_prefix T.has_failed contents.now.limit out.old out.new (concat (rows_with contents.now.numbering.now contents.now.classes.now (layout (ordered_in contents.now)).classes)) }
+    ensures { AddsPart T.gives T.gives_prefix T.has_failed contents.now out.old out.new class_rows }
 {
     let classes = contents.classes;
     contents.numbering.is_numbering();

@@ -4,13 +4,14 @@
 
 ghost use Rattle.std.specs.Prelude.{◌≡◌, ℕ, ◌≤◌, length, All};
 ghost use Rattle.dexspec.specs.Spellings.{code_bytes};
-ghost use Rattle.dexspec.specs.Placing.{bytes_from, end_from, section_bytes};
+ghost use Rattle.dexspec.specs.Placing.{end_from};
 ghost use Rattle.dexspec.specs.Canonical.{code_section};
 ghost use Rattle.dexcode.specs.Meaning.{code_in};
 ghost use Rattle.dexmembers.specs.Numbered.{IsKnownMethod};
 ghost use Rattle.dexcanon.specs.Codes.{IsFitCode, method_codes};
-ghost use Rattle.dexcanon.specs.internal.Ready.{CanBeMade, ordered_in};
-ghost use Rattle.dexcanon.specs.internal.Output.{FitFrom, Adds};
+ghost use Rattle.dexcanon.specs.internal.Ready.{CanBeMade};
+ghost use Rattle.dexcanon.specs.internal.Adding.{AddsSection, AddsFrom};
+ghost use Rattle.dexcanon.specs.internal.Output.{FitFrom};
 
 use crate::contents::Contents;
 use crate::items::Item;
@@ -59,7 +60,7 @@ fn put_method_codes<T: Target>(
     requires offsets { length debug_offs.now ≡ length methods.now }
     requires fit { (limit : ℕ) × FitFrom limit from (method_codes numbering.now methods.now debug_offs.now) }
     ensures end { result ≡ end_from 4 from (method_codes numbering.now methods.now debug_offs.now) }
-    ensures adds { (limit : ℕ) → FitFrom limit from (method_codes numbering.now methods.now debug_offs.now) → Adds T.gives T.gives_prefix T.has_failed limit out.old out.new (bytes_from 4 from (method_codes numbering.now methods.now debug_offs.now)) }
+    ensures adds { AddsFrom T.gives T.gives_prefix T.has_failed out.old out.new from (method_codes numbering.now methods.now debug_offs.now) }
 {
     let mut at = from;
     for i in 0..methods.len() {
@@ -81,7 +82,7 @@ fn put_method_codes<T: Target>(
 /// The code of the methods of the classes, the direct ones of each first.
 pub(crate) fn put_codes<T: Target>(contents: &Contents<'_, '_, '_, '_>, out: &mut Out<T>)
     requires { CanBeMade contents.now }
-    ensures { Adds T.gives T.gives_prefix T.has_failed contents.now.limit out.old out.new (section_bytes (code_section (ordered_in contents.now))) }
+    ensures { AddsSection T.gives T.gives_prefix T.has_failed contents.now out.old out.new code_section }
 {
     let numbering = contents.numbering;
     let places = contents.layout.debugs().places();

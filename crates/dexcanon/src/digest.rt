@@ -4,10 +4,9 @@ ghost use Rattle.std.specs.Prelude.{◌≡◌, ◌≤◌, ◌++◌, map, take, d
 ghost use Rattle.std.specs.List.{Contains};
 ghost use Rattle.dexspec.specs.Classes.{Definition};
 ghost use Rattle.dexspec.specs.Files.{definitions};
-ghost use Rattle.dexspec.specs.Depth.{in_class_order};
 ghost use Rattle.dexspec.specs.Canonical.{canonical, with_sums, unsigned_file};
 ghost use Rattle.dexcanon.specs.internal.Ready.{CanBeMade, ordered_in};
-ghost use Rattle.dexcanon.specs.Digests.{class_alone, class_digest, IsFileAlone};
+ghost use Rattle.dexcanon.specs.Digests.{class_digest, IsFileAlone, class_digests, EqualByFiles};
 
 use crate::contents::Contents;
 use crate::files::{put_head, write_body};
@@ -32,9 +31,9 @@ const WAYS: usize = 8;
 /// Source: "header_item", the field `signature`; the digest is this project's rule.
 #[tactic(auto, using(crate::proofs::Digested::one_file))]
 pub fn digests(alloc: Global, program: &Program<'_>) -> Result<Vec<[u8; 20]>, AllocError>
-    ensures digests { IfOk result (λ digests. digests.items ≡ map class_digest (in_class_order (definitions program.now))) }
+    ensures digests { IfOk result (λ digests. digests.items ≡ class_digests program.now) }
     ensures files { (d : Definition) → Contains (definitions program.now) d → IsFileAlone d }
-    ensures one { (d e : Definition) → IsFileAlone d → IsFileAlone e → canonical (class_alone d) ≡ canonical (class_alone e) → d ≡ e }
+    ensures one { EqualByFiles }
 {
     dexlaws::normal::normal_form();
     program.is_good();

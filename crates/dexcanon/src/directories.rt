@@ -2,13 +2,12 @@
 //!
 //! Source: the heading "annotations_directory_item" of the Android page "Dalvik Executable format".
 
-ghost use Rattle.std.specs.Prelude.{◌≡◌, ◌==◌, ◌&&◌, length};
-ghost use Rattle.dexspec.specs.Placing.{section_bytes};
+ghost use Rattle.std.specs.Prelude.{◌≡◌};
 ghost use Rattle.dexspec.specs.Canonical.{directory_section};
 ghost use Rattle.dexmembers.specs.DirectoryPut.{numbered_directory_bytes};
 ghost use Rattle.dexcanon.specs.Directories.{HaveOffsets};
-ghost use Rattle.dexcanon.specs.internal.Ready.{CanBeMade, ordered_in};
-ghost use Rattle.dexcanon.specs.internal.Output.{Adds};
+ghost use Rattle.dexcanon.specs.internal.Ready.{CanBeMade};
+ghost use Rattle.dexcanon.specs.internal.Adding.{AddsSection, HasOffsets, has_no_entry};
 
 use crate::contents::Contents;
 use crate::items::Item;
@@ -54,8 +53,8 @@ impl Item for DirectoryItem<'_, '_> {
 impl DirectoryItem<'_, '_> {
     // Whether all offsets are 0.
     fn is_empty(&self) -> bool
-        requires { HaveOffsets self.now.members.now self.now.field_offs.now self.now.method_offs.now self.now.list_offs.now }
-        ensures { result ≡ (self.now.own_off == 0 && length (numbered_directory_bytes self.now.members.now self.now.own_off self.now.field_offs.now self.now.method_offs.now self.now.list_offs.now) == 16) }
+        requires { HasOffsets self.now }
+        ensures { result ≡ has_no_entry self.now }
     {
         self.own_off == 0 && self.len() == EMPTY_DIRECTORY
     }
@@ -64,7 +63,7 @@ impl DirectoryItem<'_, '_> {
 /// The directories of the classes.
 pub(crate) fn put_directories<T: Target>(contents: &Contents<'_, '_, '_, '_>, out: &mut Out<T>)
     requires { CanBeMade contents.now }
-    ensures { Adds T.gives T.gives_prefix T.has_failed contents.now.limit out.old out.new (section_bytes (directory_section (ordered_in contents.now))) }
+    ensures { AddsSection T.gives T.gives_prefix T.has_failed contents.now out.old out.new directory_section }
 {
     number_law();
     let classes = contents.classes;

@@ -1,10 +1,9 @@
 //! A file from a place in its header on.
 
 ghost use Rattle.std.specs.Prelude.{◌≡◌, ◌≤◌, None, drop, vec_len, vec_capacity};
-ghost use Rattle.dexhead.specs.Laid.{after_header};
 ghost use Rattle.dexhead.specs.Written.{head_bytes};
-ghost use Rattle.dexcanon.specs.internal.Ready.{CanBeMade, ordered_in};
-ghost use Rattle.dexcanon.specs.internal.Output.{Adds};
+ghost use Rattle.dexcanon.specs.internal.Ready.{CanBeMade};
+ghost use Rattle.dexcanon.specs.internal.Adding.{AddsPart, after_header_of};
 
 use crate::body::put_body;
 use crate::contents::Contents;
@@ -26,7 +25,7 @@ pub(crate) fn put_head(head: &Head, from: usize, buffer: &mut Vec<u8>)
 /// Writes all that follows the header of a file, and flushes it.
 pub(crate) fn write_body<T: Target>(contents: &Contents<'_, '_, '_, '_>, out: &mut Out<T>)
     requires { CanBeMade contents.now }
-    ensures adds { Adds T.gives T.gives_prefix T.has_failed contents.now.limit out.old out.new (after_header (ordered_in contents.now)) }
+    ensures adds { AddsPart T.gives T.gives_prefix T.has_failed contents.now out.old out.new after_header_of }
     ensures empty { out.new.fault ≡ None → vec_len out.new.buffer ≡ 0 }
 {
     put_body(contents, out);

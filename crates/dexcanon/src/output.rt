@@ -1,8 +1,9 @@
 //! The output of a file: its bytes are buffered, item by item, and flushed to a target when the buffer is full.
 
-ghost use Rattle.std.specs.Prelude.{◌≡◌, ℕ, ◌+◌, ◌^◌, ◌<◌, ◌≤◌, List, ◌++◌, [], Bool, true, false, None, OnOk, OnErr, length, vec_len, vec_capacity};
-ghost use Rattle.dexspec.specs.Bytes.{round_up, padding};
-ghost use Rattle.dexcanon.specs.internal.Output.{Adds, HasRoom, result_of};
+ghost use Rattle.std.specs.Prelude.{◌≡◌, ℕ, ◌+◌, ◌^◌, ◌<◌, List, ◌++◌, [], Bool, true, false, None, OnOk, OnErr, length, vec_len};
+ghost use Rattle.dexspec.specs.Bytes.{round_up};
+ghost use Rattle.dexcanon.specs.internal.Output.{Adds, result_of};
+ghost use Rattle.dexcanon.specs.internal.Adding.{AddsItem, AddsAligned, AddsBytes, HasRoomFor};
 
 use crate::faults::StoreFault;
 use crate::items::{Bytes, Item, Zeros};
@@ -58,7 +59,7 @@ impl<T: Target> Out<T> {
     pub(crate) fn put<I: Item>(&mut self, item: &I) -> usize
         requires { I.fits item.now }
         ensures len { result ≡ length (I.bytes item.now) }
-        ensures adds { (limit : ℕ) → length (I.bytes item.now) ≤ limit → Adds T.gives T.gives_prefix T.has_failed limit self.old self.new (I.bytes item.now) }
+        ensures adds { AddsItem T.gives T.gives_prefix T.has_failed self.old self.new (I.bytes item.now) }
     {
         self.make_room(item);
         if self.fault.is_some() {
@@ -77,7 +78,7 @@ impl<T: Target> Out<T> {
         requires fits { I.fits item.now }
         requires small { round_up 4 at + length (I.bytes item.now) < 2 ^ 31 }
         ensures end { result ≡ round_up 4 at + length (I.bytes item.now) }
-        ensures adds { (limit : ℕ) → 4 ≤ limit → length (I.bytes item.now) ≤ limit → Adds T.gives T.gives_prefix T.has_failed limit self.old self.new (padding 4 at ++ I.bytes item.now) }
+        ensures adds { AddsAligned T.gives T.gives_prefix T.has_failed self.old self.new at (I.bytes item.now) }
     {
         let start = (at + 3) / 4 * 4;
         self.put(&Zeros((start - at) as usize));
@@ -87,7 +88,7 @@ impl<T: Target> Out<T> {
 
     /// Writes bytes that are encoded already, however many they are.
     pub(crate) fn put_bytes(&mut self, bytes: &[u8])
-        ensures { (limit : ℕ) → 112 ≤ limit → Adds T.gives T.gives_prefix T.has_failed limit self.old self.new bytes.now }
+        ensures { AddsBytes T.gives T.gives_prefix T.has_failed self.old self.new bytes.now }
     {
         let mut done = 0;
         'parts: while done < bytes.len() {
@@ -102,7 +103,7 @@ impl<T: Target> Out<T> {
     fn make_room<I: Item>(&mut self, item: &I)
         requires { I.fits item.now }
         ensures adds { (limit : ℕ) → Adds T.gives T.gives_prefix T.has_failed limit self.old self.new [] }
-        ensures room { (limit : ℕ) → length (I.bytes item.now) ≤ limit → HasRoom limit self.new → self.new.fault ≡ None → vec_len self.new.buffer + length (I.bytes item.now) ≤ vec_capacity self.new.buffer }
+        ensures room { HasRoomFor self.new (length (I.bytes item.now)) }
     {
         let spare = self.buffer.capacity() - self.buffer.len();
         if spare >= self.limit || spare >= item.len() {

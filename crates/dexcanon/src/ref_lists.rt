@@ -3,11 +3,12 @@
 //! Source: the heading "annotation_set_ref_list" of the Android page "Dalvik Executable format".
 
 ghost use Rattle.std.specs.Prelude.{◌≡◌, ℕ, ◌≤◌, length, drop};
-ghost use Rattle.dexspec.specs.Placing.{bytes_from, end_from, section_bytes};
+ghost use Rattle.dexspec.specs.Placing.{end_from};
 ghost use Rattle.dexspec.specs.Canonical.{ref_list_section};
-ghost use Rattle.dexcanon.specs.internal.Ready.{CanBeMade, ordered_in};
+ghost use Rattle.dexcanon.specs.internal.Ready.{CanBeMade};
+ghost use Rattle.dexcanon.specs.internal.Adding.{AddsSection, AddsLists};
 ghost use Rattle.dexcanon.specs.internal.RefLists.{parameter_counts, ref_lists, total};
-ghost use Rattle.dexcanon.specs.internal.Output.{FitFrom, Adds};
+ghost use Rattle.dexcanon.specs.internal.Output.{FitFrom};
 
 use crate::contents::Contents;
 use crate::items::OffsetList;
@@ -26,7 +27,7 @@ fn put_method_lists<'o, T: Target>(
     requires fit { (limit : ℕ) × FitFrom limit from (ref_lists (parameter_counts methods.now) set_offs.now) }
     ensures end { result.0 ≡ end_from 4 from (ref_lists (parameter_counts methods.now) set_offs.now) }
     ensures left { result.1.now ≡ drop (total (parameter_counts methods.now)) set_offs.now }
-    ensures adds { (limit : ℕ) → FitFrom limit from (ref_lists (parameter_counts methods.now) set_offs.now) → Adds T.gives T.gives_prefix T.has_failed limit out.old out.new (bytes_from 4 from (ref_lists (parameter_counts methods.now) set_offs.now)) }
+    ensures adds { AddsLists T.gives T.gives_prefix T.has_failed out.old out.new methods.now set_offs.now from }
 {
     let mut at = from;
     let mut rest = set_offs;
@@ -45,7 +46,7 @@ fn put_method_lists<'o, T: Target>(
 /// The lists of the sets of the parameters of the methods of the classes.
 pub(crate) fn put_ref_lists<T: Target>(contents: &Contents<'_, '_, '_, '_>, out: &mut Out<T>)
     requires { CanBeMade contents.now }
-    ensures { Adds T.gives T.gives_prefix T.has_failed contents.now.limit out.old out.new (section_bytes (ref_list_section (ordered_in contents.now))) }
+    ensures { AddsSection T.gives T.gives_prefix T.has_failed contents.now out.old out.new ref_list_section }
 {
     let sets = contents.layout.sets();
     let mut rest = sets.parameters();

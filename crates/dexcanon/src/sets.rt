@@ -3,13 +3,12 @@
 //! Source: the heading "annotation_set_item" of the Android page "Dalvik Executable format".
 
 ghost use Rattle.dexspec.specs.Spellings.{offsets_bytes};
-ghost use Rattle.dexspec.specs.Placing.{section_bytes};
 ghost use Rattle.dexspec.specs.Canonical.{set_section};
 ghost use Rattle.dexval.specs.Code.{set_of};
 ghost use Rattle.dexval.specs.Numbered.{set_in};
 ghost use Rattle.dexcanon.specs.Sets.{IsFitSet, offsets_of_set};
-ghost use Rattle.dexcanon.specs.internal.Ready.{CanBeMade, ordered_in};
-ghost use Rattle.dexcanon.specs.internal.Output.{Adds};
+ghost use Rattle.dexcanon.specs.internal.Ready.{CanBeMade};
+ghost use Rattle.dexcanon.specs.internal.Adding.{AddsSection};
 
 use crate::contents::Contents;
 use crate::items::Item;
@@ -44,7 +43,7 @@ impl Item for SetItem<'_, '_> {
 /// The sets of annotations.
 pub(crate) fn put_sets<T: Target>(contents: &Contents<'_, '_, '_, '_>, out: &mut Out<T>)
     requires { CanBeMade contents.now }
-    ensures { Adds T.gives T.gives_prefix T.has_failed contents.now.limit out.old out.new (section_bytes (set_section (ordered_in contents.now))) }
+    ensures { AddsSection T.gives T.gives_prefix T.has_failed contents.now out.old out.new set_section }
 {
     let numbering = contents.numbering;
     let places = contents.layout.annotations();

@@ -3,13 +3,8 @@
 //! Source: the headings "string_id_item", "type_id_item", "proto_id_item", "field_id_item" and "method_id_item" of the Android page
 //! "Dalvik Executable format".
 
-ghost use Rattle.std.specs.List.{flat_map, concat};
-ghost use Rattle.dexspec.specs.Lists.{zip_with};
-ghost use Rattle.dexspec.specs.Bytes.{uint};
-ghost use Rattle.dexspec.specs.Spellings.{text_index};
-ghost use Rattle.dexspec.specs.Canonical.{layout, proto_row_bytes, field_row_bytes, method_row_bytes};
-ghost use Rattle.dexcanon.specs.internal.Ready.{CanBeMade, ordered_in};
-ghost use Rattle.dexcanon.specs.internal.Output.{Adds};
+ghost use Rattle.dexcanon.specs.internal.Ready.{CanBeMade};
+ghost use Rattle.dexcanon.specs.internal.Adding.{AddsPart, string_rows, type_rows, proto_rows, field_rows, method_rows};
 
 use crate::contents::Contents;
 use crate::items::{MemberRow, Number, Numbers};
@@ -19,7 +14,7 @@ use dexpool::{SymbolKind, number_law};
 /// The rows of the texts, from the offset of each.
 pub(crate) fn put_string_ids<T: Target>(contents: &Contents<'_, '_, '_, '_>, out: &mut Out<T>)
     requires { CanBeMade contents.now }
-    ensures { Adds T.gives T.gives_prefix T.has_failed contents.now.limit out.old out.new (flat_map uint (layout (ordered_in contents.now)).strings) }
+    ensures { AddsPart T.gives T.gives_prefix T.has_failed contents.now out.old out.new string_rows }
 {
     let offsets = contents.layout.strings().offsets();
     for off in offsets {
@@ -30,7 +25,7 @@ pub(crate) fn put_string_ids<T: Target>(contents: &Contents<'_, '_, '_, '_>, out
 /// The rows of the types.
 pub(crate) fn put_type_ids<T: Target>(contents: &Contents<'_, '_, '_, '_>, out: &mut Out<T>)
     requires { CanBeMade contents.now }
-    ensures { Adds T.gives T.gives_prefix T.has_failed contents.now.limit out.old out.new (flat_map (λ t. uint (text_index contents.now.numbering.now t)) contents.now.numbering.now.types) }
+    ensures { AddsPart T.gives T.gives_prefix T.has_failed contents.now out.old out.new type_rows }
 {
     let numbering = contents.numbering;
     numbering.is_numbering();
@@ -44,7 +39,7 @@ pub(crate) fn put_type_ids<T: Target>(contents: &Contents<'_, '_, '_, '_>, out: 
 /// The rows of the protos, from where the parameters of each are listed.
 pub(crate) fn put_proto_ids<T: Target>(contents: &Contents<'_, '_, '_, '_>, out: &mut Out<T>)
     requires { CanBeMade contents.now }
-    ensures { Adds T.gives T.gives_prefix T.has_failed contents.now.limit out.old out.new (concat (zip_with (proto_row_bytes contents.now.numbering.now) contents.now.numbering.now.protos (layout (ordered_in contents.now)).parameters)) }
+    ensures { AddsPart T.gives T.gives_prefix T.has_failed contents.now out.old out.new proto_rows }
 {
     let numbering = contents.numbering;
     numbering.is_numbering();
@@ -70,7 +65,7 @@ pub(crate) fn put_proto_ids<T: Target>(contents: &Contents<'_, '_, '_, '_>, out:
 /// The rows of the fields.
 pub(crate) fn put_field_ids<T: Target>(contents: &Contents<'_, '_, '_, '_>, out: &mut Out<T>)
     requires { CanBeMade contents.now }
-    ensures { Adds T.gives T.gives_prefix T.has_failed contents.now.limit out.old out.new (flat_map (field_row_bytes contents.now.numbering.now) contents.now.numbering.now.fields) }
+    ensures { AddsPart T.gives T.gives_prefix T.has_failed contents.now out.old out.new field_rows }
 {
     let numbering = contents.numbering;
     numbering.is_numbering();
@@ -89,7 +84,7 @@ pub(crate) fn put_field_ids<T: Target>(contents: &Contents<'_, '_, '_, '_>, out:
 /// The rows of the methods.
 pub(crate) fn put_method_ids<T: Target>(contents: &Contents<'_, '_, '_, '_>, out: &mut Out<T>)
     requires { CanBeMade contents.now }
-    ensures { Adds T.gives T.gives_prefix T.has_failed contents.now.limit out.old out.new (flat_map (method_row_bytes contents.now.numbering.now) contents.now.numbering.now.methods) }
+    ensures { AddsPart T.gives T.gives_prefix T.has_failed contents.now out.old out.new method_rows }
 {
     let numbering = contents.numbering;
     numbering.is_numbering();

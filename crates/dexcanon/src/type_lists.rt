@@ -6,11 +6,10 @@ ghost use Rattle.std.specs.Prelude.{◌≡◌, ◌≤◌, ◌<◌, ◌+◌, ◌*
 ghost use Rattle.std.specs.List.{flat_map};
 ghost use Rattle.dexspec.specs.Bytes.{ushort};
 ghost use Rattle.dexspec.specs.Spellings.{type_list_bytes};
-ghost use Rattle.dexspec.specs.Placing.{section_bytes};
 ghost use Rattle.dexspec.specs.Canonical.{type_list_section};
 ghost use Rattle.dexspec.specs.internal.Writing.{Puts};
-ghost use Rattle.dexcanon.specs.internal.Ready.{CanBeMade, ordered_in};
-ghost use Rattle.dexcanon.specs.internal.Output.{Adds};
+ghost use Rattle.dexcanon.specs.internal.Ready.{CanBeMade};
+ghost use Rattle.dexcanon.specs.internal.Adding.{AddsSection};
 ghost use Rattle.dexcanon.specs.TypeLists.{types_at, list_bytes, AreFewTypes};
 
 use crate::contents::Contents;
@@ -74,7 +73,7 @@ impl Item for TypeList<'_, '_> {
 /// The type lists.
 pub(crate) fn put_type_lists<T: Target>(contents: &Contents<'_, '_, '_, '_>, out: &mut Out<T>)
     requires { CanBeMade contents.now }
-    ensures { Adds T.gives T.gives_prefix T.has_failed contents.now.limit out.old out.new (section_bytes (type_list_section (ordered_in contents.now))) }
+    ensures { AddsSection T.gives T.gives_prefix T.has_failed contents.now out.old out.new type_list_section }
 {
     let numbering = contents.numbering;
     let written = contents.layout.type_lists().written();

@@ -1,16 +1,13 @@
 //! The canonical file as bytes, and written to a device.
 
 ghost use Rattle.std.specs.Prelude.{◌≡◌, ◌↔◌, ◌≤◌, ◌++◌, true, false, IfOk, OnOk, IfErr, IsErrOf, None, vec_len, vec_capacity};
-ghost use Rattle.dexspec.specs.Files.{Collection, definitions, Denotes};
-ghost use Rattle.dexspec.specs.WellFormed.{AreWellFormed};
-ghost use Rattle.dexspec.specs.Merging.{IsGood, greatest_caps};
-ghost use Rattle.dexspec.specs.Accepted.{IsAccepted};
-ghost use Rattle.dexspec.specs.Canonical.{canonical, with_sums, unsigned_file};
-ghost use Rattle.dexhead.specs.Laid.{after_header};
+ghost use Rattle.dexspec.specs.Canonical.{canonical};
 ghost use Rattle.dexhead.specs.Written.{head_bytes};
-ghost use Rattle.dexcanon.specs.internal.Ready.{CanBeMade, ordered_in};
+ghost use Rattle.dexcanon.specs.internal.Ready.{CanBeMade};
 ghost use Rattle.dexcanon.specs.internal.Output.{HasRoom};
-ghost use Rattle.dexcanon.specs.Written.{HasLeft};
+ghost use Rattle.dexcanon.specs.internal.Adding.{file_of, after_header_of};
+ghost use Rattle.dexcanon.specs.internal.Through.{HasTakenRest, HasLeftRest};
+ghost use Rattle.dexcanon.specs.Written.{HasLeft, HasTaken, CanonicalIsAccepted, CanonicalDenotes};
 ghost use Rattle.dexcanon.specs.declared.faults.StoreFault.TheVariants.{Io};
 
 use crate::adler_combine::adler_combine;
@@ -35,8 +32,8 @@ pub(crate) const PIECE: usize = 65536;
 /// Source: "Dalvik Executable format", "Overall file layout".
 pub fn to_bytes(alloc: Global, program: &Program<'_>) -> Result<Vec<u8>, AllocError>
     ensures bytes { IfOk result (λ bytes. bytes.items ≡ canonical program.now) }
-    ensures accepted { (K : Collection) → IsGood greatest_caps (definitions K) → AreWellFormed (definitions K) → IsAccepted (canonical K) }
-    ensures denotes { (K : Collection) → IsGood greatest_caps (definitions K) → AreWellFormed (definitions K) → Denotes (canonical K) K }
+    ensures accepted { CanonicalIsAccepted }
+    ensures denotes { CanonicalDenotes }
 {
     dexlaws::normal::normal_form();
     let layout = Layout::of(alloc, program)?;
@@ -47,7 +44,7 @@ pub fn to_bytes(alloc: Global, program: &Program<'_>) -> Result<Vec<u8>, AllocEr
 // The file of its contents, in a vector that has room for all of it.
 fn whole_file(alloc: Global, contents: &Contents<'_, '_, '_, '_>) -> Result<Vec<u8>, AllocError>
     requires { CanBeMade contents.now }
-    ensures { IfOk result (λ file. file.items ≡ with_sums (unsigned_file (ordered_in contents.now))) }
+    ensures { IfOk result (λ file. file.items ≡ file_of contents.now) }
 {
     dexhead::laws::file_law();
     let mut buffer = Vec::with_capacity(alloc, contents.layout.len() as usize)?;
@@ -87,7 +84,7 @@ pub fn write_to<W: Sink>(
     out: &mut W,
 ) -> Result<(), StoreFault>
     requires { W.has_failed out.old ≡ false }
-    ensures written { OnOk result (W.reports out.old → W.taken out.new ≡ W.taken out.old ++ canonical program.now) }
+    ensures written { OnOk result (HasTaken W.reports W.taken out.old out.new (canonical program.now)) }
     ensures left { IfErr result (HasLeft (W.reports out.old) out.old out.new W.taken (canonical program.now)) }
     ensures device { IsErrOf result Io ↔ (W.has_failed out.new ≡ true) }
 {
@@ -104,8 +101,8 @@ fn write_contents<W: Sink>(
 ) -> Result<(), StoreFault>
     requires ready { CanBeMade contents.now }
     requires works { W.has_failed sink.old ≡ false }
-    ensures written { OnOk result (W.reports sink.old → W.taken sink.new ≡ W.taken sink.old ++ with_sums (unsigned_file (ordered_in contents.now))) }
-    ensures left { IfErr result (HasLeft (W.reports sink.old) sink.old sink.new W.taken (with_sums (unsigned_file (ordered_in contents.now)))) }
+    ensures written { OnOk result (HasTaken W.reports W.taken sink.old sink.new (file_of contents.now)) }
+    ensures left { IfErr result (HasLeft (W.reports sink.old) sink.old sink.new W.taken (file_of contents.now)) }
     ensures device { IsErrOf result Io ↔ (W.has_failed sink.new ≡ true) }
 {
     if contents.layout.len() as usize <= PIECE {
@@ -142,8 +139,8 @@ fn write_through<W: Sink>(
     requires room { HasRoom contents.now.limit out.old }
     requires works { W.has_failed out.old.target.sink.now ≡ false }
     ensures same { out.new.target.sink.ghost_name ≡ out.old.target.sink.ghost_name }
-    ensures written { OnOk result (W.reports out.old.target.sink.now → W.taken out.new.target.sink.now ≡ W.taken out.old.target.sink.now ++ (out.old.buffer.items ++ after_header (ordered_in contents.now))) }
-    ensures left { IfErr result (HasLeft (W.reports out.old.target.sink.now) out.old.target.sink.now out.new.target.sink.now W.taken (out.old.buffer.items ++ after_header (ordered_in contents.now))) }
+    ensures written { OnOk result (HasTakenRest W.reports W.taken contents.now out.old out.new) }
+    ensures left { IfErr result (HasLeftRest W.reports W.taken contents.now out.old out.new) }
     ensures device { IsErrOf result Io ↔ (W.has_failed out.new.target.sink.now ≡ true) }
 {
     write_body(contents, out);
@@ -156,7 +153,7 @@ fn head_with_sums(contents: &Contents<'_, '_, '_, '_>, mut buffer: Vec<u8>) -> (
     requires ready { CanBeMade contents.now }
     requires room { contents.now.limit ≤ vec_capacity buffer }
     requires empty { vec_len buffer ≡ 0 }
-    ensures bytes { head_bytes result.0 ++ after_header (ordered_in contents.now) ≡ with_sums (unsigned_file (ordered_in contents.now)) }
+    ensures bytes { head_bytes result.0 ++ after_header_of contents.now ≡ file_of contents.now }
     ensures room { contents.now.limit ≤ vec_capacity result.1 }
     ensures empty { vec_len result.1 ≡ 0 }
 {

@@ -1,0 +1,122 @@
+-- What is added to an output: the parts of a file, and items within a limit.
+use Rattle.std.specs.Prelude.{◌≡◌, ℕ, ◌+◌, ◌≤◌, Bool, ◌==◌, ◌&&◌, List, ◌++◌, None, length, map, vec_len, vec_capacity, slice_index}
+use Rattle.std.specs.List.{concat, flat_map}
+use Rattle.dexspec.specs.Lists.{zip_with}
+use Rattle.dexspec.specs.Bytes.{uint, padding}
+use Rattle.dexspec.specs.Mentions.{Mentions}
+use Rattle.dexspec.specs.Placing.{Ordered, Placed, section_bytes, bytes_from}
+use Rattle.dexspec.specs.Spellings.{text_index}
+use Rattle.dexspec.specs.Canonical.{ClassOffsets, class_offsets, layout, data_sections, table_bytes, proto_row_bytes, field_row_bytes, method_row_bytes, with_sums, unsigned_file}
+use Rattle.dexhead.specs.Laid.{after_header, map_list}
+use Rattle.dexval.specs.declared.annotation.Annotation.{Annotation as CodeAnnotation}
+use Rattle.dexval.specs.Code.{annotation_of}
+use Rattle.dexmembers.specs.Numbered.{NumberedMethod}
+use Rattle.dexmembers.specs.DirectoryPut.{numbered_directory_bytes}
+use Rattle.dexcanon.specs.declared.class_defs.ClassPlaces.{ClassPlaces}
+use Rattle.dexcanon.specs.declared.contents.Contents.{Contents}
+use Rattle.dexcanon.specs.declared.directories.DirectoryItem.{DirectoryItem}
+use Rattle.dexcanon.specs.declared.output.Out.{Out}
+use Rattle.dexcanon.specs.Directories.{HaveOffsets}
+use Rattle.dexcanon.specs.internal.Annotations.{annotation_item, set_annotations}
+use Rattle.dexcanon.specs.internal.ClassRows.{rows_with}
+use Rattle.dexcanon.specs.internal.Output.{Adds, AreWithin, FitFrom, HasRoom}
+use Rattle.dexcanon.specs.internal.Ready.{ordered_in}
+use Rattle.dexcanon.specs.internal.RefLists.{parameter_counts, ref_lists}
+
+-- ---- a file
+
+-- the file
+abbrev pub file_of : Contents → List ℕ
+file_of c = with_sums (unsigned_file (ordered_in c))
+
+-- all of it that follows the header
+abbrev pub after_header_of : Contents → List ℕ
+after_header_of c = after_header (ordered_in c)
+
+-- the rows of all tables
+abbrev pub tables_of : Contents → List ℕ
+tables_of c = table_bytes (ordered_in c) (layout (ordered_in c))
+
+-- the rows of each table
+abbrev pub string_rows : Contents → List ℕ
+string_rows c = flat_map uint (layout (ordered_in c)).strings
+
+abbrev pub type_rows : Contents → List ℕ
+type_rows c = flat_map (λ t. uint (text_index c.numbering.now t)) c.numbering.now.types
+
+abbrev pub proto_rows : Contents → List ℕ
+proto_rows c = concat (zip_with (proto_row_bytes c.numbering.now) c.numbering.now.protos (layout (ordered_in c)).parameters)
+
+abbrev pub field_rows : Contents → List ℕ
+field_rows c = flat_map (field_row_bytes c.numbering.now) c.numbering.now.fields
+
+abbrev pub method_rows : Contents → List ℕ
+method_rows c = flat_map (method_row_bytes c.numbering.now) c.numbering.now.methods
+
+abbrev pub class_rows : Contents → List ℕ
+class_rows c = concat (rows_with c.numbering.now c.classes.now (layout (ordered_in c)).classes)
+
+-- the rows of the classes by these offsets
+abbrev pub class_rows_by : Contents → ClassPlaces → List ℕ
+class_rows_by c places = concat (rows_with c.numbering.now c.classes.now (class_offsets places.interfaces.now places.annotations.now places.class_data.now places.static_values.now))
+
+-- the offsets of class r
+abbrev pub offsets_at : ClassPlaces → ℕ → ClassOffsets
+offsets_at places r = record { interfaces = slice_index places.interfaces.now r; annotations = slice_index places.annotations.now r; class_data = slice_index places.class_data.now r; static_values = slice_index places.static_values.now r }
+
+-- the sections of the data
+abbrev pub data_of : Contents → List ℕ
+data_of c = flat_map section_bytes (data_sections (ordered_in c))
+
+-- the map, which is aligned
+abbrev pub map_bytes : Contents → List ℕ
+map_bytes c = padding 4 (layout (ordered_in c)).data_end ++ map_list (ordered_in c)
+
+-- ---- directories
+
+-- there are offsets for all that a directory may name
+abbrev pub HasOffsets : DirectoryItem → Type 0
+HasOffsets d = HaveOffsets d.members.now d.field_offs.now d.method_offs.now d.list_offs.now
+
+-- the directory has no entry
+abbrev pub has_no_entry : DirectoryItem → Bool
+has_no_entry d = d.own_off == 0 && length (numbered_directory_bytes d.members.now d.own_off d.field_offs.now d.method_offs.now d.list_offs.now) == 16
+
+-- ---- what is written
+
+module _ {T : Type 0} (gives gives_prefix : List ℕ → T → T → Type 0) (has_failed : T → Bool) where
+  -- the bytes of the file that the function gives
+  abbrev pub AddsPart : Contents → Out T → Out T → (Contents → List ℕ) → Type 0
+  AddsPart c old new bytes_of = Adds gives gives_prefix has_failed c.limit old new (bytes_of c)
+
+  -- the section of the file that the function gives
+  abbrev pub AddsSection : Contents → Out T → Out T → (Ordered → Placed) → Type 0
+  AddsSection c old new section_of = Adds gives gives_prefix has_failed c.limit old new (section_bytes (section_of (ordered_in c)))
+
+  -- an item, where it is within the limit
+  abbrev pub AddsItem : Out T → Out T → List ℕ → Type 0
+  AddsItem old new item = (limit : ℕ) → length item ≤ limit → Adds gives gives_prefix has_failed limit old new item
+
+  -- zeros up to a multiple of 4, and an item
+  abbrev pub AddsAligned : Out T → Out T → ℕ → List ℕ → Type 0
+  AddsAligned old new at item = (limit : ℕ) → 4 ≤ limit → length item ≤ limit → Adds gives gives_prefix has_failed limit old new (padding 4 at ++ item)
+
+  -- bytes, in parts of at most 112
+  abbrev pub AddsBytes : Out T → Out T → List ℕ → Type 0
+  AddsBytes old new bytes = (limit : ℕ) → 112 ≤ limit → Adds gives gives_prefix has_failed limit old new bytes
+
+  -- the annotations of a set
+  abbrev pub AddsAnnotations : Out T → Out T → Mentions → List CodeAnnotation → Type 0
+  AddsAnnotations old new m annotations = (limit : ℕ) → AreWithin limit (map (annotation_item m) (map annotation_of annotations)) → Adds gives gives_prefix has_failed limit old new (set_annotations m (map annotation_of annotations))
+
+  -- items from the offset on, aligned
+  abbrev pub AddsFrom : Out T → Out T → ℕ → List (List ℕ) → Type 0
+  AddsFrom old new from items = (limit : ℕ) → FitFrom limit from items → Adds gives gives_prefix has_failed limit old new (bytes_from 4 from items)
+
+  -- the lists of methods, from the offset on
+  abbrev pub AddsLists : Out T → Out T → List NumberedMethod → List ℕ → ℕ → Type 0
+  AddsLists old new methods set_offs from = AddsFrom old new from (ref_lists (parameter_counts methods) set_offs)
+
+-- there is room for n bytes, where there is room for the longest item and nothing has failed
+abbrev pub HasRoomFor : {T : Type 0} → Out T → ℕ → Type 0
+HasRoomFor out n = (limit : ℕ) → n ≤ limit → HasRoom limit out → out.fault ≡ None → vec_len out.buffer + n ≤ vec_capacity out.buffer

@@ -1,6 +1,6 @@
 //! A listing on its way to the writer: its bytes are buffered in a vector, and are written when it is full.
 
-ghost use Rattle.std.specs.Prelude.{◌≡◌, ◌<◌, ◌≤◌, ◌+◌, ◌++◌, length, [], ◌∷◌, true, false, OnOk, OnErr};
+ghost use Rattle.std.specs.Prelude.{◌≡◌, ◌<◌, ◌≤◌, ◌+◌, length, [], ◌∷◌, true, false, OnOk, OnErr};
 ghost use Rattle.dexlisting.specs.internal.Buffering.{HasRoom};
 
 use crate::flags::{MOST_FLAGS, Shown};
@@ -25,13 +25,14 @@ pub(crate) struct Listing<'n, 't, 'w, W> {
 
 impl<W: Sink> Listing<'_, '_, '_, W> {
     ghost use Rattle.dexlisting.specs.internal.Going.{GoesOn};
+    ghost use Rattle.dexlisting.specs.internal.Adding.{Adds, AddsNone, Writes};
 
     /// Puts bytes after those that are buffered.
     pub(crate) fn put(&mut self, bytes: &[u8]) -> Result<(), DeviceFault>
         requires { W.has_failed self.old.out.now ≡ false }
         ensures goes { GoesOn W.has_failed self.old self.new result }
         ensures reports { W.reports self.old.out.now → W.reports self.new.out.now }
-        ensures added { OnOk result (W.reports self.old.out.now → W.taken self.new.out.now ++ self.new.buffered.items ≡ W.taken self.old.out.now ++ (self.old.buffered.items ++ bytes.now)) }
+        ensures added { OnOk result (Adds W.reports W.taken self.old self.new bytes.now) }
     {
         self.make_room(bytes.len())?;
         if ROOM < bytes.len() {
@@ -46,7 +47,7 @@ impl<W: Sink> Listing<'_, '_, '_, W> {
         requires { W.has_failed self.old.out.now ≡ false }
         ensures goes { GoesOn W.has_failed self.old self.new result }
         ensures reports { W.reports self.old.out.now → W.reports self.new.out.now }
-        ensures added { OnOk result (W.reports self.old.out.now → W.taken self.new.out.now ++ self.new.buffered.items ≡ W.taken self.old.out.now ++ (self.old.buffered.items ++ byte ∷ [])) }
+        ensures added { OnOk result (Adds W.reports W.taken self.old self.new (byte ∷ [])) }
     {
         self.make_room(1)?;
         self.buffered.push(byte).unwrap();
@@ -58,7 +59,7 @@ impl<W: Sink> Listing<'_, '_, '_, W> {
         requires { W.has_failed self.old.out.now ≡ false }
         ensures goes { GoesOn W.has_failed self.old self.new result }
         ensures reports { W.reports self.old.out.now → W.reports self.new.out.now }
-        ensures added { OnOk result (W.reports self.old.out.now → W.taken self.new.out.now ++ self.new.buffered.items ≡ W.taken self.old.out.now ++ (self.old.buffered.items ++ F.text flags.now)) }
+        ensures added { OnOk result (Adds W.reports W.taken self.old self.new (F.text flags.now)) }
     {
         self.make_room(MOST_FLAGS)?;
         flags.put(&mut self.buffered).unwrap();
@@ -70,7 +71,7 @@ impl<W: Sink> Listing<'_, '_, '_, W> {
         requires { W.has_failed self.old.out.now ≡ false }
         ensures goes { GoesOn W.has_failed self.old self.new result }
         ensures reports { W.reports self.old.out.now → W.reports self.new.out.now }
-        ensures written { OnOk result (W.reports self.old.out.now → W.taken self.new.out.now ≡ W.taken self.old.out.now ++ self.old.buffered.items) }
+        ensures written { OnOk result (Writes W.reports W.taken self.old self.new) }
         ensures none { OnOk result (self.new.buffered.items ≡ []) }
     {
         write_whole(self.out, &self.buffered)?;
@@ -83,7 +84,7 @@ impl<W: Sink> Listing<'_, '_, '_, W> {
         requires { W.has_failed self.old.out.now ≡ false }
         ensures goes { GoesOn W.has_failed self.old self.new result }
         ensures reports { W.reports self.old.out.now → W.reports self.new.out.now }
-        ensures kept { OnOk result (W.reports self.old.out.now → W.taken self.new.out.now ++ self.new.buffered.items ≡ W.taken self.old.out.now ++ self.old.buffered.items) }
+        ensures kept { OnOk result (AddsNone W.reports W.taken self.old self.new) }
         ensures room { OnOk result (more ≤ 65536 → length self.new.buffered.items + more ≤ 65536) }
         ensures none { OnOk result (65536 < more → self.new.buffered.items ≡ []) }
     {

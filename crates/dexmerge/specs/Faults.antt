@@ -22,6 +22,10 @@ Reports P (merge.Cycle name) = P (merging.Cycle name)
 Reports P (merge.Cap number) = IsOfCap P number
 Reports P merge.Memory = Unit {0}
 
+-- under any caps the fault reports the first cause against the definitions
+abbrev pub ReportsUnderAnyCaps : List Definition → MergeFault → Type 0
+ReportsUnderAnyCaps D fault = (caps : Caps) → Reports (IsFirstCause caps D) fault
+
 -- the definitions can be merged under the caps, and are the collection
 pub record IsMerged (caps : Caps) (D : List Definition) (K : Collection) : Type 0 where
   pub good : IsGood caps D

@@ -1,5 +1,5 @@
 -- Plans as the definitions see them.
-use Rattle.std.specs.Prelude.{List, [], ◌∷◌}
+use Rattle.std.specs.Prelude.{ℕ, Bool, List, [], ◌∷◌, map, MatchBool}
 use Rattle.dexspec.specs.Merging as merging
 use Rattle.dexmerge.specs.declared.plan.Plan.{Plan}
 use Rattle.dexmerge.specs.declared.plan.Plan.TheOpen.{Plan-F, Leaf, Node}
@@ -18,3 +18,11 @@ plan_step (Node parts) = merging.Node (plans_of parts.items)
 -- the plan
 abbrev pub plan_of : Plan → merging.Plan
 plan_of = fold-Plan merging.Plan plan_step
+
+-- the node of these parts
+abbrev pub node_of : List Plan → merging.Plan
+node_of parts = merging.Node (plans_of (map plan_of parts))
+
+-- whether the plan is one for this number of files
+abbrev pub ReportsPlanFor : ℕ → merging.Plan → Bool → Type 0
+ReportsPlanFor files plan is_plan = MatchBool is_plan (merging.IsPlanFor files plan) (merging.IsPlanFor files plan → ⊥)

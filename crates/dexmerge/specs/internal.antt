@@ -4,4 +4,5 @@ pub mod Cycles
 pub mod Amounts
 pub mod Unions
 pub mod Collecting
+pub mod CandidateLists
 pub mod Parts

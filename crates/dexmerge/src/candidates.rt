@@ -1,15 +1,12 @@
 //! Classes of several parts, with the maps of their numbers into the numbering of the union.
 
-ghost use Rattle.std.specs.Prelude.{◌≡◌, ◌++◌, ◌↔◌, ◌<◌, ◌-◌, ◌^◌, min, List, All, IfOk, OnOk, IsTrue, length, map};
-ghost use Rattle.std.specs.List.{AllZip, flat_map};
-ghost use Rattle.dexspec.specs.Classes.{Definition};
-ghost use Rattle.dexspec.specs.Files.{definitions};
-ghost use Rattle.dexspec.specs.Mentions.{Mentions, mentions};
-ghost use Rattle.dexspec.specs.Weight.{body_weight};
+ghost use Rattle.std.specs.Prelude.{◌≡◌, ◌↔◌, ◌<◌, IfOk, OnOk, IsTrue, length};
+ghost use Rattle.dexspec.specs.Mentions.{Mentions};
 ghost use Rattle.dexmembers.specs.Fitting.{members_short_strings};
-ghost use Rattle.dexclass.specs.Numbered.{definition_of};
-ghost use Rattle.dexclass.specs.Renumbering.{MapsAllInto, IsMappedClass, remapped};
-ghost use Rattle.dexmerge.specs.Candidates.{AreMembers, IsOfPart, class_of, classes_of};
+ghost use Rattle.dexclass.specs.Renumbering.{IsMappedClass, remapped};
+ghost use Rattle.dexmerge.specs.Candidates.{IsOfPart, class_of, weight_in};
+ghost use Rattle.dexmerge.specs.internal.CandidateLists.{AddsMembers, AddsPart, AreMembersOf, AreOfParts};
+ghost use Rattle.dexmerge.specs.Parts.{referents};
 ghost use Rattle.dexmerge.specs.Counting.{Decides};
 
 use dexclass::{Class, Program, renumbering_law};
@@ -44,7 +41,7 @@ impl<'a, 'b> Candidate<'a, 'b> {
 
     /// What the class weighs without the symbols that it names, or 2^64 - 1 where that is more.
     pub(crate) fn weight(&self) -> u64
-        ensures { (m : Mentions) → IsOfPart m self.now → result ≡ min (2 ^ 64 - 1) (body_weight (definition_of m (class_of self.now)).1) }
+        ensures { (m : Mentions) → IsOfPart m self.now → result ≡ weight_in m self.now }
     {
         self.class.weight()
     }
@@ -104,8 +101,8 @@ fn push_classes<'a, 'b>(
     remap: &'b Remap,
     candidates: &mut Vec<Candidate<'a, 'b>>,
 ) -> Result<(), AllocError>
-    ensures members { OnOk result ((m : Mentions) (D : List Definition) → MapsAllInto (mentions (definitions part.now)) m remap.now → AreMembers m D (classes_of candidates.old.items) → AreMembers m (D ++ definitions part.now) (classes_of candidates.new.items)) }
-    ensures parts { OnOk result ((m : Mentions) → MapsAllInto (mentions (definitions part.now)) m remap.now → All (IsOfPart m) candidates.old.items → All (IsOfPart m) candidates.new.items) }
+    ensures members { OnOk result (AddsMembers part.now remap.now candidates.old.items candidates.new.items) }
+    ensures parts { OnOk result (AddsPart part.now remap.now candidates.old.items candidates.new.items) }
 {
     renumbering_law();
     part.is_good();
@@ -124,8 +121,8 @@ pub(crate) fn candidates<'a, 'b>(
     remaps: &'b [Remap],
 ) -> Result<Vec<Candidate<'a, 'b>>, AllocError>
     requires { length remaps.now ≡ length parts.now }
-    ensures members { IfOk result (λ candidates. (m : Mentions) → AllZip (λ part remap. MapsAllInto (mentions (definitions part)) m remap) (map (λ part. part.now) parts.now) remaps.now → AreMembers m (flat_map definitions (map (λ part. part.now) parts.now)) (classes_of candidates.items)) }
-    ensures parts { IfOk result (λ candidates. (m : Mentions) → AllZip (λ part remap. MapsAllInto (mentions (definitions part)) m remap) (map (λ part. part.now) parts.now) remaps.now → All (IsOfPart m) candidates.items) }
+    ensures members { IfOk result (λ candidates. AreMembersOf (referents parts.now) remaps.now candidates.items) }
+    ensures parts { IfOk result (λ candidates. AreOfParts (referents parts.now) remaps.now candidates.items) }
 {
     let mut candidates = Vec::new(alloc);
     for i in 0..parts.len() {

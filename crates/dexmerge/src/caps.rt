@@ -1,8 +1,8 @@
 //! Caps: the most that a merged file may hold.
 
-ghost use Rattle.std.specs.Prelude.{◌≡◌, ◌≤◌, ℕ, Option, Some, None, MatchOption};
+ghost use Rattle.std.specs.Prelude.{◌≡◌, Option, Some, None};
 ghost use Rattle.dexspec.specs.Merging.{AreCaps, greatest_caps};
-ghost use Rattle.dexmerge.specs.Capping.{caps_of};
+ghost use Rattle.dexmerge.specs.Capping.{caps_of, AreReturnedIfCaps};
 
 use std::marker::Model;
 
@@ -68,7 +68,7 @@ impl Caps {
         short_strings: u32,
         weight: u32,
     ) -> Option<Caps>
-        ensures { MatchOption result (AreCaps (caps_of types protos fields methods short_strings weight) → ⊥) (λ caps. caps ≡ caps_of types protos fields methods short_strings weight) }
+        ensures { AreReturnedIfCaps (caps_of types protos fields methods short_strings weight) result }
     {
         if types > MOST_TYPES || protos > MOST_PROTOS {
             return None;

@@ -1,17 +1,14 @@
 //! One class of each name of a union: moved from the parts that are owned, copied from those that are borrowed.
 
-ghost use Rattle.std.specs.Prelude.{◌≡◌, ◌++◌, ◌∷◌, [], ◌<◌, true, false, List, IfOk, OnOk, length, map, slice_index_or, slice_set};
-ghost use Rattle.std.specs.List.{Contains, flat_map};
-ghost use Rattle.dexspec.specs.Classes.{Definition};
-ghost use Rattle.dexspec.specs.Files.{Collection, definitions};
-ghost use Rattle.dexspec.specs.Mentions.{Mentions, mentions};
-ghost use Rattle.dexspec.specs.Merging.{greatest_caps};
+ghost use Rattle.std.specs.Prelude.{◌≡◌, [], ◌<◌, true, false, IfOk, OnOk, length, slice_index_or};
+ghost use Rattle.dexspec.specs.Files.{Collection};
+ghost use Rattle.dexspec.specs.Mentions.{Mentions};
 ghost use Rattle.dexpool.specs.Numberings.{Maps};
-ghost use Rattle.dexclass.specs.Numbered.{NumberedClass, definition_of};
+ghost use Rattle.dexclass.specs.Numbered.{NumberedClass};
 ghost use Rattle.dexclass.specs.Renumbering.{ClassHasPlaces, remapped, renumbered};
-ghost use Rattle.dexclass.specs.Uses.{IsKnownClass};
-ghost use Rattle.dexmerge.specs.internal.Unions.{IsChecked};
-ghost use Rattle.dexmerge.specs.internal.Collecting.{AreCollected, AreOneOfEach, ArePartsOf, IsAdded, IsPartOf};
+ghost use Rattle.dexmerge.specs.Parts.{referents};
+ghost use Rattle.dexmerge.specs.internal.Collecting.{IsPartOf, ArePartsOf, HasCollected, HasMarks, HasPushed, HasMarked, IsAdded};
+ghost use Rattle.dexmerge.specs.internal.Collecting.{HasPlaces, CollectsPart, CollectsParts, AreMergeable, HasOneOfEach};
 
 use dexclass::{Class, Program, renumbering_law};
 use dexinsn::joined_places_law;
@@ -30,7 +27,7 @@ struct Collected<'a> {
 // In a part of a union that is good each number in what a class declares maps to one that fits its place. It does
 // nothing: its contract is the law, for the calls that remap classes.
 fn places_law()
-    ensures { (m : Mentions) (K : Collection) (r : Maps) (c : NumberedClass) → IsPartOf m K r → IsKnownClass (mentions (definitions K)) c → Contains (definitions K) (definition_of (mentions (definitions K)) c) → ClassHasPlaces r c }
+    ensures { (m : Mentions) (K : Collection) (r : Maps) (c : NumberedClass) → IsPartOf m K r → HasPlaces K r c }
 {
     renumbering_law();
     joined_places_law();
@@ -40,7 +37,7 @@ fn places_law()
 impl<'a> Collected<'a> {
     // No class yet.
     fn none(alloc: Global, types: usize) -> Result<Collected<'a>, AllocError>
-        ensures { IfOk result (λ collected. (m : Mentions) → length m.types ≡ types → AreCollected m [] collected.classes.items collected.is_name.items) }
+        ensures { IfOk result (λ collected. (m : Mentions) → length m.types ≡ types → HasCollected m [] collected) }
     {
         let is_name = vec![in alloc; false; types]?;
         Ok(Collected {
@@ -64,8 +61,8 @@ impl<'a> Collected<'a> {
     fn push(&mut self, mut class: Class<'a>, remap: &Remap) -> Result<(), AllocError>
         requires places { ClassHasPlaces remap.now class }
         requires name { remapped remap.now.types class.name < length self.old.is_name.items }
-        ensures classes { OnOk result (self.new.classes.items ≡ self.old.classes.items ++ renumbered remap.now class.entry ∷ []) }
-        ensures names { OnOk result (self.new.is_name.items ≡ slice_set self.old.is_name.items (remapped remap.now.types class.entry.name) true) }
+        ensures classes { OnOk result (HasPushed (renumbered remap.now class.entry) self.old self.new) }
+        ensures names { OnOk result (HasMarked (remapped remap.now.types class.entry.name) self.old self.new) }
     {
         class.renumber(remap);
         self.is_name[class.name()] = true;
@@ -101,9 +98,9 @@ impl<'a> Collected<'a> {
 
     // Adds the classes of a part whose names are not there yet. They are moved.
     fn take_all(&mut self, part: Program<'a>, remap: &Remap) -> Result<(), AllocError>
-        requires { (m : Mentions) × IsPartOf m part remap.now × (length self.old.is_name.items ≡ length m.types) }
+        requires { (m : Mentions) × IsPartOf m part remap.now × HasMarks m self.old }
         ensures count { OnOk result (length self.new.is_name.items ≡ length self.old.is_name.items) }
-        ensures collected { OnOk result ((m : Mentions) (D : List Definition) → IsPartOf m part.entry remap.now → AreCollected m D self.old.classes.items self.old.is_name.items → AreCollected m (D ++ definitions part.entry) self.new.classes.items self.new.is_name.items) }
+        ensures collected { OnOk result (CollectsPart part.entry remap.now self.old self.new) }
     {
         renumbering_law();
         places_law();
@@ -116,9 +113,9 @@ impl<'a> Collected<'a> {
 
     // Adds copies of the classes of a part whose names are not there yet.
     fn copy_all(&mut self, part: &Program<'a>, remap: &Remap) -> Result<(), AllocError>
-        requires { (m : Mentions) × IsPartOf m part.now remap.now × (length self.old.is_name.items ≡ length m.types) }
+        requires { (m : Mentions) × IsPartOf m part.now remap.now × HasMarks m self.old }
         ensures count { OnOk result (length self.new.is_name.items ≡ length self.old.is_name.items) }
-        ensures collected { OnOk result ((m : Mentions) (D : List Definition) → IsPartOf m part.now remap.now → AreCollected m D self.old.classes.items self.old.is_name.items → AreCollected m (D ++ definitions part.now) self.new.classes.items self.new.is_name.items) }
+        ensures collected { OnOk result (CollectsPart part.now remap.now self.old self.new) }
     {
         renumbering_law();
         places_law();
@@ -131,9 +128,9 @@ impl<'a> Collected<'a> {
 
     // Adds the classes of parts whose names are not there yet. They are moved.
     fn take_parts(&mut self, parts: Vec<Program<'a>>, remaps: &[Remap]) -> Result<(), AllocError>
-        requires { (m : Mentions) × ArePartsOf m parts.items remaps.now × (length self.old.is_name.items ≡ length m.types) }
+        requires { (m : Mentions) × ArePartsOf m parts.items remaps.now × HasMarks m self.old }
         ensures count { OnOk result (length self.new.is_name.items ≡ length self.old.is_name.items) }
-        ensures collected { OnOk result ((m : Mentions) (D : List Definition) → ArePartsOf m parts.entry.items remaps.now → AreCollected m D self.old.classes.items self.old.is_name.items → AreCollected m (D ++ flat_map definitions parts.entry.items) self.new.classes.items self.new.is_name.items) }
+        ensures collected { OnOk result (CollectsParts parts.entry.items remaps.now self.old self.new) }
     {
         let mut i = 0;
         for part in parts {
@@ -145,8 +142,8 @@ impl<'a> Collected<'a> {
 
     // Adds copies of the classes of parts whose names are not there yet.
     fn copy_parts(&mut self, parts: &[&Program<'a>], remaps: &[Remap]) -> Result<(), AllocError>
-        requires { (m : Mentions) × ArePartsOf m (map (λ part. part.now) parts.now) remaps.now × (length self.old.is_name.items ≡ length m.types) }
-        ensures { OnOk result ((m : Mentions) (D : List Definition) → ArePartsOf m (map (λ part. part.now) parts.now) remaps.now → AreCollected m D self.old.classes.items self.old.is_name.items → AreCollected m (D ++ flat_map definitions (map (λ part. part.now) parts.now)) self.new.classes.items self.new.is_name.items) }
+        requires { (m : Mentions) × ArePartsOf m (referents parts.now) remaps.now × HasMarks m self.old }
+        ensures { OnOk result (CollectsParts (referents parts.now) remaps.now self.old self.new) }
     {
         for i in 0..parts.len() {
             self.copy_all(parts[i], &remaps[i])?;
@@ -165,8 +162,8 @@ pub(crate) fn collect_classes<'a>(
     remaps: &[Remap],
     types: usize,
 ) -> Result<Vec<Class<'a>>, AllocError>
-    requires { (m : Mentions) × (length m.types ≡ types) × IsChecked greatest_caps (owned.items ++ map (λ file. file.now) files.now) m remaps.now }
-    ensures { IfOk result (λ classes. (m : Mentions) → length m.types ≡ types → IsChecked greatest_caps (owned.entry.items ++ map (λ file. file.now) files.now) m remaps.now → AreOneOfEach m (flat_map definitions (owned.entry.items ++ map (λ file. file.now) files.now)) classes.items) }
+    requires { (m : Mentions) × (length m.types ≡ types) × AreMergeable owned.items files.now m remaps.now }
+    ensures { IfOk result (λ classes. HasOneOfEach types owned.entry.items files.now remaps.now classes.items) }
 {
     let (own, rest) = remaps.split_at(owned.len());
     let mut all = Collected::none(alloc, types)?;

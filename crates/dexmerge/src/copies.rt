@@ -1,10 +1,10 @@
 //! Classes of one name: one of each name is kept, and a name of different classes is found.
 
-ghost use Rattle.std.specs.Prelude.{◌≡◌, ◌↔◌, ◌<◌, ◌++◌, ◌∷◌, [], ℕ, Option, Some, None, IfOk, OnOk, IsTrue, MatchOption, length, map};
-ghost use Rattle.dexspec.specs.Lists.{present};
+ghost use Rattle.std.specs.Prelude.{◌≡◌, ◌↔◌, ◌<◌, ℕ, Option, Some, None, IfOk, OnOk, IsTrue, MatchOption, length};
 ghost use Rattle.dexpool.specs.Numberings.{AreIn};
 ghost use Rattle.dexclass.specs.Parents.{ArePlaces};
-ghost use Rattle.dexmerge.specs.Candidates.{classes_of, class_at, kept_classes, IsEqualCopy, IsFirstConflict, lesser_of};
+ghost use Rattle.dexmerge.specs.Candidates.{classes_of, class_at, IsEqualCopy, lesser_of};
+ghost use Rattle.dexmerge.specs.internal.CandidateLists.{AllEqual, IsLeastUnequal, kept_of, AddsKept};
 
 use crate::candidates::Candidate;
 use dexorder::{HasParents, class_of_type};
@@ -52,7 +52,7 @@ pub(crate) fn first_conflict(
     places: &[Option<usize>],
 ) -> Option<usize>
     requires { ArePlaces (classes_of candidates.now) places.now }
-    ensures { MatchOption result ((i : ℕ) → i < length candidates.now → IsEqualCopy (classes_of candidates.now) places.now i) (IsFirstConflict (classes_of candidates.now) places.now) }
+    ensures { MatchOption result (AllEqual candidates.now places.now) (IsLeastUnequal candidates.now places.now) }
 {
     let mut least = None;
     for i in 0..candidates.len() {
@@ -71,7 +71,7 @@ fn push_kept<'a, 'b>(
 ) -> Result<(), AllocError>
     requires { (i : ℕ) → place ≡ Some i → i < length candidates.now }
     ensures within { OnOk result (AreIn kept.old.items candidates.now → AreIn kept.new.items candidates.now) }
-    ensures kept { OnOk result (classes_of kept.new.items ≡ classes_of kept.old.items ++ map (class_at (classes_of candidates.now)) (present (place ∷ []))) }
+    ensures kept { OnOk result (AddsKept candidates.now place kept.old.items kept.new.items) }
 {
     match place {
         Some(i) => {
@@ -92,7 +92,7 @@ pub(crate) fn kept<'a, 'b>(
 ) -> Result<Vec<Candidate<'a, 'b>>, AllocError>
     requires { ArePlaces (classes_of candidates.now) places.now }
     ensures within { IfOk result (λ kept. AreIn kept.items candidates.now) }
-    ensures kept { IfOk result (λ kept. classes_of kept.items ≡ kept_classes (classes_of candidates.now) places.now) }
+    ensures kept { IfOk result (λ kept. classes_of kept.items ≡ kept_of candidates.now places.now) }
 {
     let mut kept = Vec::new(alloc);
     for typ in 0..places.len() {

@@ -1,11 +1,9 @@
 //! The depths of classes, and classes without one.
 
-ghost use Rattle.std.specs.Prelude.{◌≡◌, IfOk, IfErr, length, map};
+ghost use Rattle.std.specs.Prelude.{◌≡◌, IfOk, IfErr, length};
 ghost use Rattle.dexspec.specs.Mentions.{Mentions};
-ghost use Rattle.dexclass.specs.Numbered.{definition_of};
-ghost use Rattle.dexclass.specs.Parents.{AreDepthsByName};
 ghost use Rattle.dexmerge.specs.Candidates.{classes_of};
-ghost use Rattle.dexmerge.specs.internal.Cycles.{AreKept, HaveDepths, IsFirstCycle};
+ghost use Rattle.dexmerge.specs.internal.Cycles.{AreKept, KeptHaveDepths, KeptHaveCycle, KeptAreByName};
 
 use crate::candidates::Candidate;
 use dexorder::{HasParents, Hierarchy, first_without_depth};
@@ -23,8 +21,8 @@ pub(crate) fn class_depths(
     types: usize,
 ) -> Result<Result<Vec<Option<usize>>, usize>, AllocError>
     requires { (m : Mentions) × (length m.types ≡ types) × AreKept m (classes_of classes.now) }
-    ensures depths { IfOk result (λ found. IfOk found (λ depths. (m : Mentions) → AreKept m (classes_of classes.now) → HaveDepths m (classes_of classes.now) depths.items)) }
-    ensures cycle { IfOk result (λ found. IfErr found (λ i. (m : Mentions) → AreKept m (classes_of classes.now) → IsFirstCycle m (classes_of classes.now) i)) }
+    ensures depths { IfOk result (λ found. IfOk found (λ depths. KeptHaveDepths classes.now depths.items)) }
+    ensures cycle { IfOk result (λ found. IfErr found (KeptHaveCycle classes.now)) }
 {
     let depths = Hierarchy::of(alloc, classes, types)?.depths(alloc)?;
     match first_without_depth(&depths) {
@@ -44,7 +42,7 @@ pub(crate) fn depths_by_name(
 ) -> Result<Vec<Option<usize>>, AllocError>
     requires kept { (m : Mentions) × (length m.types ≡ types) × AreKept m (classes_of classes.now) }
     requires count { length depths.now ≡ length classes.now }
-    ensures { IfOk result (λ by_name. (m : Mentions) → length m.types ≡ types → AreKept m (classes_of classes.now) → HaveDepths m (classes_of classes.now) depths.now → AreDepthsByName m (map (definition_of m) (classes_of classes.now)) by_name.items) }
+    ensures { IfOk result (λ by_name. KeptAreByName types classes.now depths.now by_name.items) }
 {
     let mut by_name = vec![in alloc; None; types]?;
     for i in 0..classes.len() {

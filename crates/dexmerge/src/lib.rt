@@ -3,7 +3,7 @@
 //! What can be merged, caps, plans and the causes for which there is no merged file are this project's rules.
 //!
 //! Public contracts use the definitions of `specs/Candidates`, `specs/CapKinds`, `specs/Capping`, `specs/Counting`,
-//! `specs/Faults` and `specs/Plans`.
+//! `specs/Faults`, `specs/Parts` and `specs/Plans`.
 #![tactic(auto)]
 
 mod candidates;

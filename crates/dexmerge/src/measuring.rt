@@ -1,16 +1,13 @@
 //! What a union holds, in numbers.
 
-ghost use Rattle.std.specs.Prelude.{◌≡◌, ◌≤◌, All, map, List, IfOk, IfErr};
-ghost use Rattle.std.specs.List.{flat_map};
+ghost use Rattle.std.specs.Prelude.{◌≡◌, ◌≤◌, All, List, IfOk, IfErr};
 ghost use Rattle.dexspec.specs.Classes.{Definition};
-ghost use Rattle.dexspec.specs.Files.{definitions};
-ghost use Rattle.dexspec.specs.Merging as merging;
-ghost use Rattle.dexspec.specs.Merging.{IsFirstCause};
 ghost use Rattle.dexclass.specs.Uses.{IsKnownClass};
 ghost use Rattle.dexmerge.specs.Candidates.{IsOfPart, classes_of};
 ghost use Rattle.dexmerge.specs.Counting.{AreCounts, AreCountsOver, above_it};
-ghost use Rattle.dexmerge.specs.Faults.{Reports};
-ghost use Rattle.dexmerge.specs.internal.Unions.{AreOnce};
+ghost use Rattle.dexmerge.specs.Faults.{ReportsUnderAnyCaps};
+ghost use Rattle.dexmerge.specs.Parts.{definitions_in};
+ghost use Rattle.dexmerge.specs.internal.Unions.{AreOnce, OnceReports, OnceCounted};
 
 use crate::candidates::{Candidate, candidates};
 use crate::cycles::class_depths;
@@ -80,8 +77,8 @@ fn measure_once(
     classes: &[Candidate<'_, '_>],
 ) -> Result<Counts, MergeFault>
     requires { (D : List Definition) × AreOnce numbering.now D classes.now }
-    ensures counts { IfOk result (λ counts. (D : List Definition) → AreOnce numbering.now D classes.now → AreCounts D counts) }
-    ensures fault { IfErr result (λ fault. (caps : merging.Caps) (D : List Definition) → AreOnce numbering.now D classes.now → Reports (IsFirstCause caps D) fault) }
+    ensures counts { IfOk result (OnceCounted numbering.now classes.now) }
+    ensures fault { IfErr result (OnceReports numbering.now classes.now) }
 {
     let types = numbering.count(SymbolKind::Typ);
     let _depths = match class_depths(alloc, classes, types)? {
@@ -97,8 +94,8 @@ fn measure_once(
 /// Error: `Conflict` with the least name that has two different classes; else `Cycle` with the least name of a class
 /// that is above itself or below such a class; or `Memory` if an allocation failed. `Cap` is never returned.
 pub fn measure(alloc: Global, parts: &[&Program<'_>]) -> Result<Counts, MergeFault>
-    ensures counts { IfOk result (AreCounts (flat_map definitions (map (λ part. part.now) parts.now))) }
-    ensures fault { IfErr result (λ fault. (caps : merging.Caps) → Reports (IsFirstCause caps (flat_map definitions (map (λ part. part.now) parts.now))) fault) }
+    ensures counts { IfOk result (AreCounts (definitions_in parts.now)) }
+    ensures fault { IfErr result (ReportsUnderAnyCaps (definitions_in parts.now)) }
 {
     let (numbering, remaps) = joined(alloc, parts)?;
     let copies = candidates(alloc, parts, &remaps)?;

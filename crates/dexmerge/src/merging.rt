@@ -1,14 +1,13 @@
 //! Programs merged.
 
-ghost use Rattle.std.specs.Prelude.{◌≡◌, ◌++◌, List, IfOk, IfErr, map};
-ghost use Rattle.std.specs.List.{flat_map};
+ghost use Rattle.std.specs.Prelude.{◌≡◌, List, IfOk, IfErr};
 ghost use Rattle.dexspec.specs.Classes.{Definition};
-ghost use Rattle.dexspec.specs.Files.{definitions, AreWithin};
+ghost use Rattle.dexspec.specs.Files.{AreWithin};
 ghost use Rattle.dexspec.specs.Merging.{Cause, IsCause, IsFirstCause, IsGood};
 ghost use Rattle.dexlaws.specs.Growth.{Absorbs};
-ghost use Rattle.dexclass.specs.Parents.{AreDepthsByName};
 ghost use Rattle.dexmerge.specs.Faults.{IsMerged, Reports};
-ghost use Rattle.dexmerge.specs.internal.Unions.{IsJoined, IsChecked};
+ghost use Rattle.dexmerge.specs.Parts.{referents, definitions_in, all_parts, all_definitions};
+ghost use Rattle.dexmerge.specs.internal.Unions.{IsJoined, IsMergeable, HasDepths};
 
 use crate::caps::Caps;
 use crate::class_union::collect_classes;
@@ -35,7 +34,7 @@ fn all_parts<'a, 'b>(
     owned: &'b [Program<'a>],
     files: &[&'b Program<'a>],
 ) -> Result<Vec<&'b Program<'a>>, AllocError>
-    ensures { IfOk result (λ parts. map (λ part. part.now) parts.items ≡ owned.now ++ map (λ file. file.now) files.now) }
+    ensures { IfOk result (λ parts. referents parts.items ≡ all_parts owned.now files.now) }
 {
     let mut parts = Vec::new(alloc);
     for program in owned {
@@ -52,7 +51,7 @@ pub(crate) fn joined<'a>(
     alloc: Global,
     parts: &[&Program<'a>],
 ) -> Result<(Numbering<'a>, Vec<Remap>), AllocError>
-    ensures { IfOk result (λ joined. IsJoined (map (λ part. part.now) parts.now) joined.0 joined.1.items) }
+    ensures { IfOk result (λ joined. IsJoined (referents parts.now) joined.0 joined.1.items) }
 {
     let mut numberings = Vec::with_capacity(alloc, parts.len())?;
     for i in 0..parts.len() {
@@ -71,9 +70,9 @@ fn checked<'a>(
     files: &[&Program<'a>],
     caps: &Caps,
 ) -> Result<Mergeable<'a>, MergeFault>
-    ensures good { IfOk result (λ checked. IsChecked caps.now (owned.now ++ map (λ file. file.now) files.now) checked.numbering checked.remaps.items) }
-    ensures depths { IfOk result (λ checked. AreDepthsByName checked.numbering (flat_map definitions (owned.now ++ map (λ file. file.now) files.now)) checked.depths.items) }
-    ensures fault { IfErr result (Reports (IsFirstCause caps.now (flat_map definitions (owned.now ++ map (λ file. file.now) files.now)))) }
+    ensures good { IfOk result (IsMergeable caps.now owned.now files.now) }
+    ensures depths { IfOk result (HasDepths owned.now files.now) }
+    ensures fault { IfErr result (Reports (IsFirstCause caps.now (all_definitions owned.now files.now))) }
 {
     let parts = all_parts(alloc, owned, files)?;
     let (numbering, remaps) = joined(alloc, &parts)?;
@@ -95,8 +94,8 @@ pub(crate) fn merge_all<'a>(
     files: &[&Program<'a>],
     caps: &Caps,
 ) -> Result<Program<'a>, MergeFault>
-    ensures merged { IfOk result (IsMerged caps.now (flat_map definitions (owned.entry.items ++ map (λ file. file.now) files.now))) }
-    ensures fault { IfErr result (Reports (IsFirstCause caps.now (flat_map definitions (owned.entry.items ++ map (λ file. file.now) files.now)))) }
+    ensures merged { IfOk result (IsMerged caps.now (all_definitions owned.entry.items files.now)) }
+    ensures fault { IfErr result (Reports (IsFirstCause caps.now (all_definitions owned.entry.items files.now))) }
 {
     let Mergeable {
         numbering,
@@ -123,8 +122,8 @@ pub fn merge<'a>(
     parts: &[&Program<'a>],
     caps: &Caps,
 ) -> Result<Program<'a>, MergeFault>
-    ensures merged { IfOk result (IsMerged caps.now (flat_map definitions (map (λ part. part.now) parts.now))) }
-    ensures fault { IfErr result (Reports (IsFirstCause caps.now (flat_map definitions (map (λ part. part.now) parts.now)))) }
+    ensures merged { IfOk result (IsMerged caps.now (definitions_in parts.now)) }
+    ensures fault { IfErr result (Reports (IsFirstCause caps.now (definitions_in parts.now))) }
     ensures law { (part whole : List Definition) → AreWithin part whole → Absorbs part whole }
     ensures apart { (classes : List Definition) (cause : Cause) → IsGood caps.now classes → IsCause caps.now classes cause → ⊥ }
 {

@@ -1,9 +1,8 @@
 //! Plans: the order in which files are merged.
 
-ghost use Rattle.std.specs.Prelude.{◌≡◌, ◌<◌, ℕ, length, IfOk, MatchBool};
-ghost use Rattle.dexspec.specs.Merging.{IsPlanFor};
-ghost use Rattle.dexmerge.specs.Plans.{plan_of};
-ghost use Rattle.dexmerge.specs.internal.UnionChecks.{IsMarkedBy, IsNamed, IsNoPlan, HasUnnamed};
+ghost use Rattle.std.specs.Prelude.{◌≡◌, length, IfOk, MatchBool};
+ghost use Rattle.dexmerge.specs.Plans.{plan_of, ReportsPlanFor};
+ghost use Rattle.dexmerge.specs.internal.UnionChecks.{IsMarkedIfPlan, AreAllNamed, HasUnnamed};
 
 use std::alloc::{AllocError, Global};
 
@@ -22,7 +21,7 @@ pub enum Plan {
 // Marks the files that a plan names. Returns whether it names only files that there are, and is at most `depth` deep.
 fn mark_files(plan: &Plan, depth: usize, is_named: &mut Vec<bool>) -> bool
     ensures count { length is_named.new.items ≡ length is_named.old.items }
-    ensures checked { MatchBool result (IsMarkedBy (plan_of plan.now) depth is_named.old.items is_named.new.items) (IsNoPlan (plan_of plan.now) depth (length is_named.old.items)) }
+    ensures checked { IsMarkedIfPlan (plan_of plan.now) depth is_named.old.items is_named.new.items result }
 {
     if depth == 0 {
         return false;
@@ -48,7 +47,7 @@ fn mark_files(plan: &Plan, depth: usize, is_named: &mut Vec<bool>) -> bool
 
 // Whether each mark is set.
 fn are_all_named(is_named: &[bool]) -> bool
-    ensures { MatchBool result ((i : ℕ) → i < length is_named.now → IsNamed is_named.now i) (HasUnnamed is_named.now) }
+    ensures { MatchBool result (AreAllNamed is_named.now) (HasUnnamed is_named.now) }
 {
     for i in 0..is_named.len() {
         if !is_named[i] {
@@ -60,7 +59,7 @@ fn are_all_named(is_named: &[bool]) -> bool
 
 /// Whether the plan names each of `files` files and no other, and is at most 64 deep.
 pub fn is_plan_for(alloc: Global, plan: &Plan, files: usize) -> Result<bool, AllocError>
-    ensures { IfOk result (λ is_plan. MatchBool is_plan (IsPlanFor files (plan_of plan.now)) (IsPlanFor files (plan_of plan.now) → ⊥)) }
+    ensures { IfOk result (ReportsPlanFor files (plan_of plan.now)) }
 {
     let mut is_named = vec![in alloc; false; files]?;
     if !mark_files(plan, MOST_DEPTH, &mut is_named) {

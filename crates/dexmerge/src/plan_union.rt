@@ -1,14 +1,14 @@
 //! Programs merged by a plan.
 
-ghost use Rattle.std.specs.Prelude.{◌≡◌, ◌++◌, ◌<◌, [], List, All, IfOk, IfErr, OnOk, length, map, slice_index_or};
+ghost use Rattle.std.specs.Prelude.{◌≡◌, ◌<◌, [], All, IfOk, IfErr, OnOk, length, List, map, slice_index_or};
 ghost use Rattle.std.specs.List.{flat_map};
 ghost use Rattle.dexspec.specs.Files.{definitions, AreSame};
 ghost use Rattle.dexspec.specs.Merging as merging;
-ghost use Rattle.dexspec.specs.Classes.{Definition};
 ghost use Rattle.dexspec.specs.Merging.{Cause, IsCause, IsFirstCause, IsGood, all_leaves};
-ghost use Rattle.dexmerge.specs.Plans.{plan_of, plans_of};
+ghost use Rattle.dexspec.specs.Classes.{Definition};
+ghost use Rattle.dexmerge.specs.Plans.{plan_of, plans_of, node_of};
 ghost use Rattle.dexmerge.specs.Faults.{IsMerged, IsPlanned, IsPlanFault, Reports, planned};
-ghost use Rattle.dexmerge.specs.internal.Parts.{AreKnown, IsCauseOf, files_in, nodes_in, of_files, of_plans};
+ghost use Rattle.dexmerge.specs.internal.Parts.{AreKnown, IsCauseOf, of_nodes, AppendsLeaves};
 
 use crate::caps::Caps;
 use crate::faults::{MergeFault, PlanFault};
@@ -32,7 +32,7 @@ fn push_files<'a, 'b>(
     programs: &mut Vec<&'b Program<'a>>,
 ) -> Result<(), AllocError>
     requires { All (λ i. i < length files.now) (all_leaves (plans_of (map plan_of parts.now))) }
-    ensures { OnOk result (flat_map definitions (map (λ p. p.now) programs.new.items) ≡ flat_map definitions (map (λ p. p.now) programs.old.items) ++ of_files files.now (files_in (map plan_of parts.now))) }
+    ensures { OnOk result (AppendsLeaves files.now parts.now programs.old.items programs.new.items) }
 {
     for part in parts {
         match part {
@@ -51,10 +51,10 @@ fn merge_node<'a>(
     inner: Vec<Program<'a>>,
     caps: &Caps,
 ) -> Result<Program<'a>, MergeFault>
-    requires known { AreKnown files.now (merging.Node (plans_of (map plan_of parts.now))) }
-    requires inner { AreSame (flat_map definitions inner.items) (of_plans files.now (nodes_in (map plan_of parts.now))) }
-    ensures merged { IfOk result (IsMerged caps.now (planned files.now (merging.Node (plans_of (map plan_of parts.now))))) }
-    ensures fault { IfErr result (Reports (IsFirstCause caps.now (planned files.now (merging.Node (plans_of (map plan_of parts.now)))))) }
+    requires known { AreKnown files.now (node_of parts.now) }
+    requires inner { AreSame (flat_map definitions inner.items) (of_nodes files.now parts.now) }
+    ensures merged { IfOk result (IsMerged caps.now (planned files.now (node_of parts.now))) }
+    ensures fault { IfErr result (Reports (IsFirstCause caps.now (planned files.now (node_of parts.now)))) }
 {
     let mut programs = Vec::with_capacity(alloc, parts.len())?;
     push_files(files, parts, &mut programs)?;

@@ -1,16 +1,14 @@
 //! Whether the classes of parts can be merged: conflicts are checked first, then cycles, and then caps.
 
-ghost use Rattle.std.specs.Prelude.{◌≡◌, ◌<◌, length, List, IfOk, IfErr, map};
-ghost use Rattle.std.specs.List.{flat_map};
+ghost use Rattle.std.specs.Prelude.{◌≡◌, ◌<◌, length, List, IfOk, IfErr};
 ghost use Rattle.dexspec.specs.Classes.{Definition};
-ghost use Rattle.dexspec.specs.Files.{definitions};
-ghost use Rattle.dexspec.specs.Merging as merging;
-ghost use Rattle.dexspec.specs.Merging.{IsGood, IsFirstCause};
+ghost use Rattle.dexspec.specs.Merging.{IsFirstCause};
 ghost use Rattle.dexclass.specs.Numbered.{type_at};
-ghost use Rattle.dexclass.specs.Parents.{name_number, AreDepthsByName};
+ghost use Rattle.dexclass.specs.Parents.{name_number};
 ghost use Rattle.dexmerge.specs.Faults.{Reports};
 ghost use Rattle.dexmerge.specs.Candidates.{classes_of};
-ghost use Rattle.dexmerge.specs.internal.Unions.{AreCopies, AreOnce, IsJoined};
+ghost use Rattle.dexmerge.specs.internal.Unions.{AreCopies, AreOnce, IsJoined, AreKeptOnce, CopiesReport, OnceReportsUnder, PartsAreGood, OnceGood};
+ghost use Rattle.dexmerge.specs.Parts.{referents, definitions_in};
 
 use crate::candidates::{Candidate, candidates};
 use crate::caps::Caps;
@@ -31,8 +29,8 @@ pub(crate) fn one_of_each<'a, 'b>(
     candidates: &[Candidate<'a, 'b>],
 ) -> Result<Vec<Candidate<'a, 'b>>, MergeFault>
     requires { (D : List Definition) × AreCopies numbering.now D candidates.now }
-    ensures kept { IfOk result (λ kept. (D : List Definition) → AreCopies numbering.now D candidates.now → AreOnce numbering.now D kept.items) }
-    ensures fault { IfErr result (λ fault. (caps : merging.Caps) (D : List Definition) → AreCopies numbering.now D candidates.now → Reports (IsFirstCause caps D) fault) }
+    ensures kept { IfOk result (λ kept. AreKeptOnce numbering.now candidates.now kept.items) }
+    ensures fault { IfErr result (CopiesReport numbering.now candidates.now) }
 {
     same_law();
     let places = classes_by_type(alloc, candidates, numbering.count(SymbolKind::Typ))?;
@@ -65,8 +63,8 @@ fn check_once(
     caps: &Caps,
 ) -> Result<Vec<Option<usize>>, MergeFault>
     requires { (D : List Definition) × AreOnce numbering.now D classes.now }
-    ensures good { IfOk result (λ depths. (D : List Definition) → AreOnce numbering.now D classes.now → IsGood caps.now D × AreDepthsByName numbering.now D depths.items) }
-    ensures fault { IfErr result (λ fault. (D : List Definition) → AreOnce numbering.now D classes.now → Reports (IsFirstCause caps.now D) fault) }
+    ensures good { IfOk result (λ depths. OnceGood caps.now numbering.now classes.now depths.items) }
+    ensures fault { IfErr result (OnceReportsUnder caps.now numbering.now classes.now) }
 {
     let types = numbering.count(SymbolKind::Typ);
     let depths = match class_depths(alloc, classes, types)? {
@@ -91,9 +89,9 @@ pub(crate) fn check(
     remaps: &[Remap],
     caps: &Caps,
 ) -> Result<Vec<Option<usize>>, MergeFault>
-    requires { IsJoined (map (λ part. part.now) parts.now) numbering.now remaps.now }
-    ensures good { IfOk result (λ depths. IsGood caps.now (flat_map definitions (map (λ part. part.now) parts.now)) × AreDepthsByName numbering.now (flat_map definitions (map (λ part. part.now) parts.now)) depths.items) }
-    ensures fault { IfErr result (Reports (IsFirstCause caps.now (flat_map definitions (map (λ part. part.now) parts.now)))) }
+    requires { IsJoined (referents parts.now) numbering.now remaps.now }
+    ensures good { IfOk result (λ depths. PartsAreGood caps.now numbering.now parts.now depths.items) }
+    ensures fault { IfErr result (Reports (IsFirstCause caps.now (definitions_in parts.now))) }
 {
     let copies = candidates(alloc, parts, remaps)?;
     let classes = match one_of_each(alloc, numbering, &copies) {

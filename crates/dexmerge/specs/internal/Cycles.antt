@@ -7,7 +7,9 @@ use Rattle.dexspec.specs.Depth.{IsAcyclic}
 use Rattle.dexspec.specs.Merging.{IsCycle}
 use Rattle.dexorder.specs.Definitions.{AreDepthsOf}
 use Rattle.dexclass.specs.Numbered.{NumberedClass, type_at, definition_of}
-use Rattle.dexclass.specs.Parents.{name_number, AreNamed}
+use Rattle.dexclass.specs.Parents.{name_number, AreNamed, AreDepthsByName}
+use Rattle.dexmerge.specs.Candidates.{classes_of}
+use Rattle.dexmerge.specs.declared.candidates.Candidate.{Candidate}
 
 -- the classes are those of a numbering, and their names rise
 pub record AreKept (m : Mentions) (cs : List NumberedClass) : Type 0 where
@@ -28,3 +30,16 @@ pub record IsFirstCycle (m : Mentions) (cs : List NumberedClass) (i : ℕ) : Typ
   pub within : i < length cs
   pub is : IsCycle (map (definition_of m) cs) (type_at m (name_number cs i))
   pub least : (name : Text) → IsCycle (map (definition_of m) cs) name → text_cmp name (type_at m (name_number cs i)) ≡ Less → ⊥
+
+-- kept classes have these depths
+abbrev pub KeptHaveDepths : List Candidate → List (Option ℕ) → Type 0
+KeptHaveDepths cs depths = (m : Mentions) → AreKept m (classes_of cs) → HaveDepths m (classes_of cs) depths
+
+-- of kept classes, this is the first without a depth
+abbrev pub KeptHaveCycle : List Candidate → ℕ → Type 0
+KeptHaveCycle cs i = (m : Mentions) → AreKept m (classes_of cs) → IsFirstCycle m (classes_of cs) i
+
+-- the depths of kept classes are at the numbers of their names
+abbrev pub KeptAreByName : ℕ → List Candidate → List (Option ℕ) → List (Option ℕ) → Type 0
+KeptAreByName types cs depths by_name = (m : Mentions) → length m.types ≡ types → AreKept m (classes_of cs)
+    → HaveDepths m (classes_of cs) depths → AreDepthsByName m (map (definition_of m) (classes_of cs)) by_name

@@ -49,7 +49,7 @@ pub record AreFew (static_fields instance_fields : List NumberedField) (direct_m
   pub few_fields : length static_fields + length instance_fields < 2 ^ 32
   pub few_methods : length direct_methods + length virtual_methods < 2 ^ 32
 
--- so few are declared
+-- the counts of what is declared fit 32 bits
 abbrev pub HasFewMembers : NumberedMembers → Type 0
 HasFewMembers x = AreFew x.static_fields x.instance_fields x.direct_methods x.virtual_methods
 

@@ -114,7 +114,7 @@ debug_places from debugs = place_uses 1 (none_from from) (map (λ debug. Some (l
 
 -- ---- the header and the map
 
--- the header tells of the file whose tables these are, and whose map has this offset and length
+-- the header of the file that has these tables, and a map of this length at this offset
 abbrev pub StatesParts : Tables → ℕ → ℕ → Head → Type 0
 StatesParts tables map_off map_size head = (K : Ordered) → AreTables K tables → map_off ≡ map_start K → map_size ≡ length (map_list K) → StatesLayout head K
 

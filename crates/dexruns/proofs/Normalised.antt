@@ -4,6 +4,11 @@ use Rattle.dexspec.specs.Accepted.{IsAccepted}
 use Rattle.dexspec.specs.Files.{Collection, Denotes}
 use Rattle.dexspec.specs.Canonical.{canonical}
 use Rattle.dexclass.specs.Programs.{IsReadAs}
+use Rattle.dexcanon.specs.declared.faults.StoreFault.{StoreFault}
+use Rattle.dexcanon.specs.declared.faults.StoreFault.TheVariants.{Memory, Io}
+use Rattle.dexcanon.specs.Written as store
+use Rattle.dexruns.specs.Faults.{fault_of_store}
+use Rattle.dexruns.specs.Runs.{HasLeft}
 
 -- what was read is what the bytes denote
 pub read_is : (one : (b : List ℕ) (K L : Collection) → Denotes b K → Denotes b L → K ≡ L) (b bytes : List ℕ) (K L : Collection) →
@@ -20,3 +25,12 @@ prefix_is one b bytes K L old new same encodes denotes front = (front.0, front.1
 
 pub accepted_file : (b bytes : List ℕ) (L : Collection) → bytes ≡ b → IsReadAs bytes L → IsAccepted b
 accepted_file b bytes L same encodes = subst (λ x. IsAccepted x) same encodes.accepted
+
+-- what is left after a fault of writing
+pub left_by_store : {W : Type 0} (one : (b : List ℕ) (K L : Collection) → Denotes b K → Denotes b L → K ≡ L) (reads writes : Type 0) (old new : W) (taken : W → List ℕ) (b bytes : List ℕ) (L : Collection) (f : StoreFault) →
+    (reads → bytes ≡ b) → IsReadAs bytes L → store.HasLeft writes old new taken (canonical L) f → HasLeft reads writes old new taken b (fault_of_store f)
+left_by_store one reads writes old new taken b bytes L Memory same encodes left = left
+left_by_store one reads writes old new taken b bytes L Io same encodes left = λ r. (
+  accepted_file b bytes L (same r) encodes,
+  (λ w K denotes. prefix_is one b bytes K L (taken old) (taken new) (same r) encodes denotes (left w)),
+)

@@ -7,3 +7,5 @@ pub mod Repairs
 pub mod Counts
 pub mod Digests
 pub mod Statuses
+pub mod Faults
+pub mod internal

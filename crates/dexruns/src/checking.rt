@@ -2,31 +2,32 @@
 
 ghost use Rattle.std.specs.Prelude.{◌≡◌, ◌≤◌, true, false, length, map, All, OnOk, IfOk, IfErr};
 ghost use Rattle.std.specs.List.{AllZip};
-ghost use Rattle.dexruns.specs.Inputs.{bytes_read, IsReadNoFurther, ReportsOf};
+ghost use Rattle.dexruns.specs.Inputs.{bytes_read, IsReadNoFurther};
 ghost use Rattle.dexruns.specs.Lines.{status_after};
 ghost use Rattle.dexruns.specs.Runs.{IsVerdict, AreChecked, AreBegun, AllWork, IsOfCheck};
+ghost use Rattle.dexruns.specs.internal.Unread.{AreUnread};
 
 use crate::faults::RunFault;
-use crate::inputs::{InputFault, read_whole};
+use crate::inputs::read_input;
 use crate::lines::{Verdict, check_line};
 use crate::status::ExitStatus;
 use dexhead::{Sink, Source, write_whole};
 use dexpool::ReadFault;
 use std::alloc::Global;
 
-// What is reported of an input.
-fn check_input<R: Source>(alloc: Global, input: &mut R) -> Result<Verdict, InputFault>
+// What is reported of the input with this number.
+fn check_input<R: Source>(alloc: Global, number: usize, input: &mut R) -> Result<Verdict, RunFault>
     requires { R.has_failed input.old ≡ false }
     ensures verdict { IfOk result (λ verdict. R.reports input.old → IsVerdict (bytes_read (R.to_come input.old)) verdict) }
     ensures no_further { IsReadNoFurther R.reports R.to_come R.has_failed input.old input.new }
     ensures works { OnOk result (R.has_failed input.new ≡ false) }
-    ensures fault { IfErr result (ReportsOf (R.has_failed input.new)) }
+    ensures fault { IfErr result (AreUnread number (R.has_failed input.new)) }
 {
-    let bytes = read_whole(alloc, input)?;
+    let bytes = read_input(alloc, number, input)?;
     match dexclass::check(alloc, bytes.as_slice()) {
         Ok(classes) => Ok(Verdict::Accepted(classes)),
         Err(ReadFault::Refused(refusal)) => Ok(Verdict::Refused(refusal)),
-        Err(ReadFault::Memory) => Err(InputFault::Memory),
+        Err(ReadFault::Memory) => Err(RunFault::Memory),
     }
 }
 
@@ -72,15 +73,8 @@ pub fn check_run<R: Source, W: Sink>(
 {
     let mut status = ExitStatus::Done as u8;
     for i in 0..inputs.len() {
-        let verdict = match check_input(alloc, &mut inputs[i]) {
-            Ok(verdict) => verdict,
-            Err(InputFault::Read) => return Err(RunFault::Read(i)),
-            Err(InputFault::Memory) => return Err(RunFault::Memory),
-        };
-        let line = match check_line(alloc, names[i], &verdict) {
-            Ok(line) => line,
-            Err(_) => return Err(RunFault::Memory),
-        };
+        let verdict = check_input(alloc, i, &mut inputs[i])?;
+        let line = check_line(alloc, names[i], &verdict)?;
         match write_whole(out, line.as_bytes()) {
             Ok(()) => status = status_after(status, &verdict),
             Err(_) => return Err(RunFault::Write),

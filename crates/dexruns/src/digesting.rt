@@ -12,12 +12,11 @@ ghost use Rattle.dexruns.specs.declared.faults.RunFault.TheVariants.{Read, Write
 
 use crate::explaining::{hexadecimal_digit, push_sign, push_text};
 use crate::faults::RunFault;
-use crate::inputs::{InputFault, read_whole};
+use crate::inputs::{read_input, read_program};
 use dexcanon::digests;
 use dexclass::Program;
 use dexhead::{Sink, Source, write_whole};
 use dexlaws::denotes::collections::one_collection;
-use dexpool::ReadFault;
 use dexstr::Text;
 use std::alloc::{AllocError, Global};
 
@@ -109,16 +108,8 @@ pub fn digest_run<R: Source, W: Sink>(
     ensures read { IsErrOf result (Read 0) ↔ (R.has_failed input.new ≡ true) }
     ensures write { IsErrOf result Write ↔ (W.has_failed out.new ≡ true) }
 {
-    let bytes = match read_whole(alloc, input) {
-        Ok(bytes) => bytes,
-        Err(InputFault::Read) => return Err(RunFault::Read(0)),
-        Err(InputFault::Memory) => return Err(RunFault::Memory),
-    };
-    let program = match dexclass::read(alloc, bytes.as_slice()) {
-        Ok(program) => program,
-        Err(ReadFault::Refused(refusal)) => return Err(RunFault::Input(0, refusal)),
-        Err(ReadFault::Memory) => return Err(RunFault::Memory),
-    };
+    let bytes = read_input(alloc, 0, input)?;
+    let program = read_program(alloc, 0, bytes.as_slice())?;
     one_collection();
     let lines = digest_lines(alloc, name, &program)?;
     match write_whole(out, lines.as_bytes()) {

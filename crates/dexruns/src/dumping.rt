@@ -7,10 +7,9 @@ ghost use Rattle.dexruns.specs.Runs.{IsOfInput, IsLeft};
 ghost use Rattle.dexruns.specs.declared.faults.RunFault.TheVariants.{Read, Write};
 
 use crate::faults::RunFault;
-use crate::inputs::{InputFault, read_whole};
+use crate::inputs::{read_input, read_program};
 use dexhead::{Sink, Source};
-use dexlisting::{ListingFault, write_listing};
-use dexpool::ReadFault;
+use dexlisting::write_listing;
 use std::alloc::Global;
 
 /// Writes the listing of an input: its classes, with their members and instructions.
@@ -37,19 +36,8 @@ pub fn dump_run<R: Source, W: Sink>(
     ensures read { IsErrOf result (Read 0) ↔ (R.has_failed input.new ≡ true) }
     ensures write { IsErrOf result Write ↔ (W.has_failed out.new ≡ true) }
 {
-    let bytes = match read_whole(alloc, input) {
-        Ok(bytes) => bytes,
-        Err(InputFault::Read) => return Err(RunFault::Read(0)),
-        Err(InputFault::Memory) => return Err(RunFault::Memory),
-    };
-    let program = match dexclass::read(alloc, bytes.as_slice()) {
-        Ok(program) => program,
-        Err(ReadFault::Refused(refusal)) => return Err(RunFault::Input(0, refusal)),
-        Err(ReadFault::Memory) => return Err(RunFault::Memory),
-    };
-    match write_listing(alloc, &program, out) {
-        Ok(()) => Ok(()),
-        Err(ListingFault::Io) => Err(RunFault::Write),
-        Err(ListingFault::Memory) => Err(RunFault::Memory),
-    }
+    let bytes = read_input(alloc, 0, input)?;
+    let program = read_program(alloc, 0, bytes.as_slice())?;
+    write_listing(alloc, &program, out)?;
+    Ok(())
 }

@@ -1,9 +1,12 @@
 //! Why a run ended.
 
 ghost use Rattle.std.specs.Prelude.{◌≡◌};
+ghost use Rattle.dexruns.specs.Faults.{fault_of_store, fault_of_listing};
 ghost use Rattle.dexruns.specs.declared.faults.RunFault.TheVariants.{Memory};
 
+use dexcanon::StoreFault;
 use dexhead::Refusal;
+use dexlisting::ListingFault;
 use dexstr::Name;
 use std::alloc::{AllocError, AllocFailed};
 use std::fmt;
@@ -68,5 +71,27 @@ impl<T: Drop> From<AllocFailed<T>> for RunFault {
 
     fn from(_error: AllocFailed<T>) -> RunFault {
         RunFault::Memory
+    }
+}
+
+impl From<StoreFault> for RunFault {
+    ghost from_gives = { λ fault e. e ≡ fault_of_store fault };
+
+    fn from(fault: StoreFault) -> RunFault {
+        match fault {
+            StoreFault::Io => RunFault::Write,
+            StoreFault::Memory => RunFault::Memory,
+        }
+    }
+}
+
+impl From<ListingFault> for RunFault {
+    ghost from_gives = { λ fault e. e ≡ fault_of_listing fault };
+
+    fn from(fault: ListingFault) -> RunFault {
+        match fault {
+            ListingFault::Io => RunFault::Write,
+            ListingFault::Memory => RunFault::Memory,
+        }
     }
 }

@@ -1,10 +1,15 @@
-//! Inputs, read whole.
+//! Inputs, read whole and as programs.
 
 ghost use Rattle.std.specs.Prelude.{◌≡◌, ◌<◌, ◌≤◌, ◌+◌, ◌++◌, [], true, false, length, take, drop, OnOk, OnErr, IfOk, IfErr, vec_len};
+ghost use Rattle.dexclass.specs.Programs.{IsReadAs};
 ghost use Rattle.dexruns.specs.Inputs.{bytes_read, IsReadNoFurther, IsUnread, ReportsOf};
+ghost use Rattle.dexruns.specs.internal.Unread.{AreUnread, IsNoProgram, fault_of_input};
 ghost use Rattle.dexruns.specs.declared.inputs.InputFault.TheVariants.{Memory};
 
+use crate::faults::RunFault;
+use dexclass::Program;
 use dexhead::{DeviceFault, Source};
+use dexpool::ReadFault;
 use std::alloc::{AllocError, Global};
 
 /// How many bytes of an input are read at most. It is one more than a file may have: an input of this many bytes is too
@@ -131,4 +136,48 @@ pub fn read_whole<R: Source>(alloc: Global, input: &mut R) -> Result<Vec<u8>, In
     }
     bytes.truncate(filled);
     Ok(bytes)
+}
+
+/// Reads the bytes of the input with this number as [`read_whole`] does, with its fault as one of the run.
+pub(crate) fn read_input<R: Source>(
+    alloc: Global,
+    number: usize,
+    input: &mut R,
+) -> Result<Vec<u8>, RunFault>
+    requires { R.has_failed input.old ≡ false }
+    ensures bytes { IfOk result (λ bytes. R.reports input.old → bytes.items ≡ bytes_read (R.to_come input.old)) }
+    ensures no_further { IsReadNoFurther R.reports R.to_come R.has_failed input.old input.new }
+    ensures works { OnOk result (R.has_failed input.new ≡ false) }
+    ensures fault { IfErr result (AreUnread number (R.has_failed input.new)) }
+{
+    match read_whole(alloc, input) {
+        Ok(bytes) => Ok(bytes),
+        Err(InputFault::Read) => Err(RunFault::Read(number)),
+        Err(InputFault::Memory) => Err(RunFault::Memory),
+    }
+}
+
+/// Why a run ended of which the input with this number was not read as a program.
+pub(crate) fn fault_of_input(number: usize, fault: ReadFault) -> RunFault
+    ensures { result ≡ fault_of_input number fault }
+{
+    match fault {
+        ReadFault::Refused(refusal) => RunFault::Input(number, refusal),
+        ReadFault::Memory => RunFault::Memory,
+    }
+}
+
+/// Reads the program of the input with this number, of which these are the bytes. It borrows from them.
+pub(crate) fn read_program<'a>(
+    alloc: Global,
+    number: usize,
+    bytes: &'a [u8],
+) -> Result<Program<'a>, RunFault>
+    ensures accepted { IfOk result (IsReadAs bytes.now) }
+    ensures fault { IfErr result (IsNoProgram number bytes.now) }
+{
+    match dexclass::read(alloc, bytes) {
+        Ok(program) => Ok(program),
+        Err(fault) => Err(fault_of_input(number, fault)),
+    }
 }

@@ -1,6 +1,6 @@
 //! The runs of the program `dexkit` over any readers and writer, and what it says of faults.
 //!
-//! Public contracts use the definitions of `specs/Counts`, `specs/Digests`, `specs/Fans`, `specs/Inputs`,
+//! Public contracts use the definitions of `specs/Counts`, `specs/Digests`, `specs/Fans`, `specs/Faults`, `specs/Inputs`,
 //! `specs/Lines`, `specs/Merges`, `specs/Repairs`, `specs/Runs` and `specs/Statuses`.
 #![tactic(auto)]
 

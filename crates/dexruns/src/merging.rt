@@ -11,13 +11,12 @@ ghost use Rattle.dexruns.specs.Merges.{AreReadFrom, IsReadEachFault, IsUnionFaul
 ghost use Rattle.dexruns.specs.Runs.{AllWork, IsLeft};
 
 use crate::faults::{MergeCause, RunFault};
-use crate::inputs::{InputFault, read_whole};
-use dexcanon::{StoreFault, write_to};
+use crate::inputs::{read_input, read_program};
+use dexcanon::write_to;
 use dexclass::{Program, into_stripped};
 use dexhead::{Sink, Source};
 use dexlaws::normal::normal_form;
 use dexmerge::{Caps, MergeFault, Plan, PlanFault, is_plan_for, merge_files};
-use dexpool::ReadFault;
 use std::alloc::{AllocError, Global};
 
 /// A place for the bytes of each input.
@@ -47,16 +46,9 @@ pub(crate) fn read_each<'a, R: Source>(
 {
     let mut programs = Vec::new(alloc);
     for (i, place) in places.iter_mut().enumerate() {
-        *place = match read_whole(alloc, &mut inputs[i]) {
-            Ok(bytes) => bytes,
-            Err(InputFault::Read) => return Err(RunFault::Read(i)),
-            Err(InputFault::Memory) => return Err(RunFault::Memory),
-        };
-        match dexclass::read(alloc, place.as_slice()) {
-            Ok(program) => programs.push(program)?,
-            Err(ReadFault::Refused(refusal)) => return Err(RunFault::Input(i, refusal)),
-            Err(ReadFault::Memory) => return Err(RunFault::Memory),
-        }
+        *place = read_input(alloc, i, &mut inputs[i])?;
+        let program = read_program(alloc, i, place.as_slice())?;
+        programs.push(program)?;
     }
     Ok(programs)
 }
@@ -123,11 +115,8 @@ fn write_program<W: Sink>(alloc: Global, program: &Program<'_>, out: &mut W) -> 
 {
     program.is_good();
     normal_form();
-    match write_to(alloc, program, out) {
-        Ok(()) => Ok(()),
-        Err(StoreFault::Io) => Err(RunFault::Write),
-        Err(StoreFault::Memory) => Err(RunFault::Memory),
-    }
+    write_to(alloc, program, out)?;
+    Ok(())
 }
 
 // What is kept of a union: all of it, or what is left without debug programs and source texts.

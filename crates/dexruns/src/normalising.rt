@@ -9,11 +9,10 @@ ghost use Rattle.dexruns.specs.Runs.{IsOfInput, HasLeft};
 ghost use Rattle.dexruns.specs.declared.faults.RunFault.TheVariants.{Read, Write};
 
 use crate::faults::RunFault;
-use crate::inputs::{InputFault, read_whole};
-use dexcanon::{StoreFault, write_to};
+use crate::inputs::{read_input, read_program};
+use dexcanon::write_to;
 use dexhead::{Sink, Source};
 use dexlaws::denotes::collections::one_collection;
-use dexpool::ReadFault;
 use std::alloc::Global;
 
 /// Writes the canonical file of an input: of a file that is accepted, the canonical file of the definitions that it
@@ -43,20 +42,9 @@ pub fn normalise_run<R: Source, W: Sink>(
     ensures read { IsErrOf result (Read 0) ↔ (R.has_failed input.new ≡ true) }
     ensures write { IsErrOf result Write ↔ (W.has_failed out.new ≡ true) }
 {
-    let bytes = match read_whole(alloc, input) {
-        Ok(bytes) => bytes,
-        Err(InputFault::Read) => return Err(RunFault::Read(0)),
-        Err(InputFault::Memory) => return Err(RunFault::Memory),
-    };
-    let program = match dexclass::read(alloc, bytes.as_slice()) {
-        Ok(program) => program,
-        Err(ReadFault::Refused(refusal)) => return Err(RunFault::Input(0, refusal)),
-        Err(ReadFault::Memory) => return Err(RunFault::Memory),
-    };
+    let bytes = read_input(alloc, 0, input)?;
+    let program = read_program(alloc, 0, bytes.as_slice())?;
     one_collection();
-    match write_to(alloc, &program, out) {
-        Ok(()) => Ok(()),
-        Err(StoreFault::Io) => Err(RunFault::Write),
-        Err(StoreFault::Memory) => Err(RunFault::Memory),
-    }
+    write_to(alloc, &program, out)?;
+    Ok(())
 }

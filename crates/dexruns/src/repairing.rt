@@ -10,7 +10,7 @@ ghost use Rattle.dexruns.specs.Runs.{IsOfInput, IsLeftWith};
 ghost use Rattle.dexruns.specs.declared.faults.RunFault.TheVariants.{Read, Write};
 
 use crate::faults::RunFault;
-use crate::inputs::{InputFault, read_whole};
+use crate::inputs::{fault_of_input, read_input};
 use dexclass::check_frame;
 use dexhead::{Frame, Sink, Source, set_sums, write_whole};
 use dexpool::ReadFault;
@@ -74,15 +74,11 @@ pub fn repair_run<R: Source, W: Sink>(
     ensures read { IsErrOf result (Read 0) ↔ (R.has_failed input.new ≡ true) }
     ensures write { IsErrOf result Write ↔ (W.has_failed out.new ≡ true) }
 {
-    let file = match read_whole(alloc, input) {
-        Ok(bytes) => repaired(bytes),
-        Err(InputFault::Read) => return Err(RunFault::Read(0)),
-        Err(InputFault::Memory) => return Err(RunFault::Memory),
-    };
+    let bytes = read_input(alloc, 0, input)?;
+    let file = repaired(bytes);
     match check(alloc, file.as_slice()) {
         Ok(()) => {}
-        Err(ReadFault::Refused(refusal)) => return Err(RunFault::Input(0, refusal)),
-        Err(ReadFault::Memory) => return Err(RunFault::Memory),
+        Err(fault) => return Err(fault_of_input(0, fault)),
     }
     match write_whole(out, file.as_slice()) {
         Ok(()) => Ok(()),

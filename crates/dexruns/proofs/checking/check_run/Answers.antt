@@ -2,8 +2,10 @@ use Rattle.std.proofs.Common.{arith, ◌≡◌, ◌<◌, ◌≤◌, ◌+◌, ref
 use Rattle.std.proofs.lemmas.List.{length-map, drop-set-lt}
 use Rattle.std.proofs.lemmas.List.Elements.{All-set}
 use Rattle.std.proofs.lemmas.Grind.{drop_more_same}
+use Rattle.std.proofs.lemmas.Result.{err_from_is_err_and}
 use Rattle.dexruns.specs.Inputs.{bytes_read, IsReadNoFurther}
-use Rattle.dexruns.proofs.Moved.{none_moved, moved_now, one_failed}
+use Rattle.dexruns.proofs.Moved.{none_moved, moved_now}
+use Rattle.dexruns.proofs.Unread.{check_unread}
 use Rattle.dexruns.proofs.Checked.{none_checked, checked_more, begun, begun_more, right_now, line_is}
 use Rattle.dexruns.proofs.checking.check_run.Goals as goal
 
@@ -17,26 +19,22 @@ loop-i-init g c = record {
   checked = none_checked _ _ _ _;
 }
 
-pub returns-in-Err-Read-clause-begun : goal.returns-in-Err-Read-clause-begun
-returns-in-Err-Read-clause-begun g c =
+pub returns-in_err-verdict-clause-begun : goal.returns-in_err-verdict-clause-begun
+returns-in_err-verdict-clause-begun g c =
     let count = length-map c.args.inputs.now (λ input. bytes_read (g.R.Source.to_come input)) in
     let le : c.loop-i.i ≤ length (map (λ input. bytes_read (g.R.Source.to_come input)) c.args.inputs.now) = omega (arith, count) in
-    begun _ _ _ (map (λ input. bytes_read (g.R.Source.to_come input)) c.args.inputs.now) _ _ _ _ le c.loop-i.invariant.checked
+    let p = err_from_is_err_and c.from_residual.result c.from_residual.ensures.1 in
+    rw p.1 (begun _ _ _ (map (λ input. bytes_read (g.R.Source.to_come input)) c.args.inputs.now) _ _ _ _ le c.loop-i.invariant.checked)
 
-pub returns-in-Err-Memory-clause-begun : goal.returns-in-Err-Memory-clause-begun
-returns-in-Err-Memory-clause-begun g c =
+pub returns-in_err-line-clause-begun : goal.returns-in_err-line-clause-begun
+returns-in_err-line-clause-begun g c =
     let count = length-map c.args.inputs.now (λ input. bytes_read (g.R.Source.to_come input)) in
     let le : c.loop-i.i ≤ length (map (λ input. bytes_read (g.R.Source.to_come input)) c.args.inputs.now) = omega (arith, count) in
-    begun _ _ _ (map (λ input. bytes_read (g.R.Source.to_come input)) c.args.inputs.now) _ _ _ _ le c.loop-i.invariant.checked
+    let p = err_from_is_err_and c.from_residual-in_err-line.result c.from_residual-in_err-line.ensures.1 in
+    rw p.1 (begun _ _ _ (map (λ input. bytes_read (g.R.Source.to_come input)) c.args.inputs.now) _ _ _ _ le c.loop-i.invariant.checked)
 
 pub returns-in-Err-clause-begun : goal.returns-in-Err-clause-begun
 returns-in-Err-clause-begun g c =
-    let count = length-map c.args.inputs.now (λ input. bytes_read (g.R.Source.to_come input)) in
-    let le : c.loop-i.i ≤ length (map (λ input. bytes_read (g.R.Source.to_come input)) c.args.inputs.now) = omega (arith, count) in
-    begun _ _ _ (map (λ input. bytes_read (g.R.Source.to_come input)) c.args.inputs.now) _ _ _ _ le c.loop-i.invariant.checked
-
-pub returns-in-Err-write_whole-clause-begun : goal.returns-in-Err-write_whole-clause-begun
-returns-in-Err-write_whole-clause-begun g c =
     let lt : c.loop-i.i < length c.args.inputs.now = omega arith in
     let now : c.loop-i.i < length c.loop-i.inputs = omega arith in
     let named : c.loop-i.i < length c.args.names.now = omega arith in
@@ -44,12 +42,12 @@ returns-in-Err-write_whole-clause-begun g c =
     let names = length-map c.args.names.now (λ name. name.now) in
     let inside : c.loop-i.i < length (map (λ input. bytes_read (g.R.Source.to_come input)) c.args.inputs.now) = omega (arith, count) in
     let same : length (map (λ name. name.now) c.args.names.now) ≡ length (map (λ input. bytes_read (g.R.Source.to_come input)) c.args.inputs.now) = omega (arith, count, names) in
-    begun_more _ _ (map (λ name. name.now) c.args.names.now) (map (λ input. bytes_read (g.R.Source.to_come input)) c.args.inputs.now) _ _ _ _ c.loop-i.i c.in-Ok.verdict inside same c.loop-i.invariant.checked
-    (right_now g.R.Source.reports (λ input. bytes_read (g.R.Source.to_come input)) c.loop-i.inputs c.args.inputs.now c.loop-i.i c.index-inputs-i.result c.in-Ok.verdict
-    c.loop-i.invariant.rest now lt c.index-inputs-i.is c.in-Ok.ensures.verdict)
+    begun_more _ _ (map (λ name. name.now) c.args.names.now) (map (λ input. bytes_read (g.R.Source.to_come input)) c.args.inputs.now) _ _ _ _ c.loop-i.i c.in_ok-verdict.verdict inside same c.loop-i.invariant.checked
+    (right_now g.R.Source.reports (λ input. bytes_read (g.R.Source.to_come input)) c.loop-i.inputs c.args.inputs.now c.loop-i.i c.index-inputs-i.result c.in_ok-verdict.verdict
+    c.loop-i.invariant.rest now lt c.index-inputs-i.is c.in_ok-verdict.ensures.verdict)
     c.as_bytes.result.now
-    (line_is (λ name. name.now) c.args.names.now c.loop-i.i _ c.in-Ok.verdict _ _ named c.as_bytes.ensures.value c.in-Ok-check_line.ensures)
-    (λ w. c.in-Err-write_whole.ensures.front (c.loop-i.invariant.reports w))
+    (line_is (λ name. name.now) c.args.names.now c.loop-i.i _ c.in_ok-verdict.verdict _ _ named c.as_bytes.ensures.value c.in_ok-line.ensures)
+    (λ w. c.in-Err.ensures.front (c.loop-i.invariant.reports w))
 
 pub loop-i-preserved : goal.loop-i-preserved
 loop-i-preserved g c =
@@ -62,29 +60,29 @@ loop-i-preserved g c =
     let same : length (map (λ name. name.now) c.args.names.now) ≡ length (map (λ input. bytes_read (g.R.Source.to_come input)) c.args.inputs.now) = omega (arith, count, names) in
     let less : c.loop-i.i < c.loop-i.i + 1 = omega arith in
     record {
-      readers = All-set (λ s. g.R.Source.has_failed s ≡ false) _ _ _ c.in-Ok.ensures.works c.loop-i.invariant.readers;
-      writer = c.in-Ok-write_whole.ensures.works;
-      reports = λ w. c.in-Ok-write_whole.ensures.reports (c.loop-i.invariant.reports w);
+      readers = All-set (λ s. g.R.Source.has_failed s ≡ false) _ _ _ c.in_ok-verdict.ensures.works c.loop-i.invariant.readers;
+      writer = c.in-Ok.ensures.works;
+      reports = λ w. c.in-Ok.ensures.reports (c.loop-i.invariant.reports w);
       rest = rw drop-set-lt (drop_more_same c.loop-i.inputs c.args.inputs.now c.loop-i.i c.loop-i.invariant.rest);
       moved = moved_now (IsReadNoFurther g.R.Source.reports g.R.Source.to_come g.R.Source.has_failed) c.args.inputs.now c.loop-i.inputs c.loop-i.i c.index-inputs-i.result c.check_input.new.input
           c.loop-i.invariant.moved c.loop-i.invariant.rest now lt c.index-inputs-i.is c.check_input.ensures.no_further;
-      checked = rw c.status_after-status.ensures (checked_more _ _ (map (λ name. name.now) c.args.names.now) (map (λ input. bytes_read (g.R.Source.to_come input)) c.args.inputs.now) _ _ _ _ c.loop-i.i c.in-Ok.verdict inside same c.loop-i.invariant.checked
-          (right_now g.R.Source.reports (λ input. bytes_read (g.R.Source.to_come input)) c.loop-i.inputs c.args.inputs.now c.loop-i.i c.index-inputs-i.result c.in-Ok.verdict
-          c.loop-i.invariant.rest now lt c.index-inputs-i.is c.in-Ok.ensures.verdict)
+      checked = rw c.status_after-status.ensures (checked_more _ _ (map (λ name. name.now) c.args.names.now) (map (λ input. bytes_read (g.R.Source.to_come input)) c.args.inputs.now) _ _ _ _ c.loop-i.i c.in_ok-verdict.verdict inside same c.loop-i.invariant.checked
+          (right_now g.R.Source.reports (λ input. bytes_read (g.R.Source.to_come input)) c.loop-i.inputs c.args.inputs.now c.loop-i.i c.index-inputs-i.result c.in_ok-verdict.verdict
+          c.loop-i.invariant.rest now lt c.index-inputs-i.is c.in_ok-verdict.ensures.verdict)
           c.as_bytes.result.now
-          (line_is (λ name. name.now) c.args.names.now c.loop-i.i _ c.in-Ok.verdict _ _ named c.as_bytes.ensures.value c.in-Ok-check_line.ensures)
-          (λ w. c.in-Ok-write_whole.ensures.written (c.loop-i.invariant.reports w)));
+          (line_is (λ name. name.now) c.args.names.now c.loop-i.i _ c.in_ok-verdict.verdict _ _ named c.as_bytes.ensures.value c.in_ok-line.ensures)
+          (λ w. c.in-Ok.ensures.written (c.loop-i.invariant.reports w)));
     }
 
-pub returns-in-Err-Read-clause-no_further : goal.returns-in-Err-Read-clause-no_further
-returns-in-Err-Read-clause-no_further g c =
+pub returns-in_err-verdict-clause-no_further : goal.returns-in_err-verdict-clause-no_further
+returns-in_err-verdict-clause-no_further g c =
     let lt : c.loop-i.i < length c.args.inputs.now = omega arith in
     let now : c.loop-i.i < length c.loop-i.inputs = omega arith in
     moved_now (IsReadNoFurther g.R.Source.reports g.R.Source.to_come g.R.Source.has_failed) c.args.inputs.now c.loop-i.inputs c.loop-i.i c.index-inputs-i.result c.check_input.new.input
     c.loop-i.invariant.moved c.loop-i.invariant.rest now lt c.index-inputs-i.is c.check_input.ensures.no_further
 
-pub returns-in-Err-Memory-clause-no_further : goal.returns-in-Err-Memory-clause-no_further
-returns-in-Err-Memory-clause-no_further g c =
+pub returns-in_err-line-clause-no_further : goal.returns-in_err-line-clause-no_further
+returns-in_err-line-clause-no_further g c =
     let lt : c.loop-i.i < length c.args.inputs.now = omega arith in
     let now : c.loop-i.i < length c.loop-i.inputs = omega arith in
     moved_now (IsReadNoFurther g.R.Source.reports g.R.Source.to_come g.R.Source.has_failed) c.args.inputs.now c.loop-i.inputs c.loop-i.i c.index-inputs-i.result c.check_input.new.input
@@ -97,29 +95,20 @@ returns-in-Err-clause-no_further g c =
     moved_now (IsReadNoFurther g.R.Source.reports g.R.Source.to_come g.R.Source.has_failed) c.args.inputs.now c.loop-i.inputs c.loop-i.i c.index-inputs-i.result c.check_input.new.input
     c.loop-i.invariant.moved c.loop-i.invariant.rest now lt c.index-inputs-i.is c.check_input.ensures.no_further
 
-pub returns-in-Err-write_whole-clause-no_further : goal.returns-in-Err-write_whole-clause-no_further
-returns-in-Err-write_whole-clause-no_further g c =
-    let lt : c.loop-i.i < length c.args.inputs.now = omega arith in
-    let now : c.loop-i.i < length c.loop-i.inputs = omega arith in
-    moved_now (IsReadNoFurther g.R.Source.reports g.R.Source.to_come g.R.Source.has_failed) c.args.inputs.now c.loop-i.inputs c.loop-i.i c.index-inputs-i.result c.check_input.new.input
-    c.loop-i.invariant.moved c.loop-i.invariant.rest now lt c.index-inputs-i.is c.check_input.ensures.no_further
-
-pub returns-in-Err-Read-clause-fault : goal.returns-in-Err-Read-clause-fault
-returns-in-Err-Read-clause-fault g c =
-    let now : c.loop-i.i < length c.loop-i.inputs = omega arith in
-    let failed = rw c.in-Err-Read.field-0-is at c.in-Err-Read.ensures.fault in
-    (one_failed g.R.Source.has_failed c.loop-i.inputs c.loop-i.i c.check_input.new.input c.loop-i.invariant.readers now failed, c.loop-i.invariant.writer)
-
-pub returns-in-Err-Memory-clause-fault : goal.returns-in-Err-Memory-clause-fault
-returns-in-Err-Memory-clause-fault g c =
-    let works = rw c.in-Err-Memory.field-0-is at c.in-Err-Memory.ensures.fault in
-    (All-set (λ s. g.R.Source.has_failed s ≡ false) _ _ _ works c.loop-i.invariant.readers, c.loop-i.invariant.writer)
+pub returns-in_err-line-clause-fault : goal.returns-in_err-line-clause-fault
+returns-in_err-line-clause-fault g c =
+    let p = err_from_is_err_and c.from_residual-in_err-line.result c.from_residual-in_err-line.ensures.1 in
+    rw (p.1, p.2) (All-set (λ s. g.R.Source.has_failed s ≡ false) _ _ _ c.in_ok-verdict.ensures.works c.loop-i.invariant.readers, c.loop-i.invariant.writer)
 
 pub returns-in-Err-clause-fault : goal.returns-in-Err-clause-fault
-returns-in-Err-clause-fault g c = (All-set (λ s. g.R.Source.has_failed s ≡ false) _ _ _ c.in-Ok.ensures.works c.loop-i.invariant.readers, c.loop-i.invariant.writer)
+returns-in-Err-clause-fault g c = (All-set (λ s. g.R.Source.has_failed s ≡ false) _ _ _ c.in_ok-verdict.ensures.works c.loop-i.invariant.readers, c.in-Err.ensures.fails)
 
-pub returns-in-Err-write_whole-clause-fault : goal.returns-in-Err-write_whole-clause-fault
-returns-in-Err-write_whole-clause-fault g c = (All-set (λ s. g.R.Source.has_failed s ≡ false) _ _ _ c.in-Ok.ensures.works c.loop-i.invariant.readers, c.in-Err-write_whole.ensures.fails)
+pub returns-in-Err-clause-reports : goal.returns-in-Err-clause-reports
+returns-in-Err-clause-reports g c = λ w. c.in-Err.ensures.reports (c.loop-i.invariant.reports w)
 
-pub returns-in-Err-write_whole-clause-reports : goal.returns-in-Err-write_whole-clause-reports
-returns-in-Err-write_whole-clause-reports g c = λ w. c.in-Err-write_whole.ensures.reports (c.loop-i.invariant.reports w)
+pub returns-in_err-verdict-clause-fault : goal.returns-in_err-verdict-clause-fault
+returns-in_err-verdict-clause-fault g c =
+    let now : c.loop-i.i < length c.loop-i.inputs = omega arith in
+    let p = err_from_is_err_and c.from_residual.result c.from_residual.ensures.1 in
+    rw (p.1, p.2) (check_unread g.R.Source.has_failed c.loop-i.inputs (g.W.Sink.has_failed c.loop-i.out) c.loop-i.i c.check_input.new.input c.in_err-verdict.field-0.0
+    c.loop-i.invariant.readers c.loop-i.invariant.writer now c.in_err-verdict.ensures.fault)

@@ -1,17 +1,26 @@
 use Rattle.std.proofs.Common.{◌∙◌}
+use Rattle.std.proofs.lemmas.Result.{err_from_is_err_and}
+use Rattle.dexruns.specs.Inputs.{bytes_read}
 use Rattle.dexruns.proofs.Normalised.{accepted_file}
 use Rattle.dexruns.proofs.Digested.{written_is, prefix_is}
+use Rattle.dexruns.proofs.Unread.{of_input}
 use Rattle.dexruns.proofs.digesting.digest_run.Goals as goal
 
-pub returns-in-Ok-write_whole-clause-written : goal.returns-in-Ok-write_whole-clause-written
-returns-in-Ok-write_whole-clause-written g c = λ reads writes K denotes.
-    written_is c.one_collection.ensures c.args.name.now _ _ _ K _ _ _ (c.as_slice.ensures.value ∙ c.in-Ok.ensures.bytes reads) c.in-Ok-read.ensures.accepted denotes
-    (c.as_bytes.ensures.value ∙ c.in_ok-lines.ensures) (c.in-Ok-write_whole.ensures.written writes)
+pub returns-in_err-program-clause-fault : goal.returns-in_err-program-clause-fault
+returns-in_err-program-clause-fault g c =
+    let p = err_from_is_err_and c.from_residual-in_err-program.result c.from_residual-in_err-program.ensures.1 in
+    rw (p.1, p.2) (of_input (g.R.Source.reports c.args.input.now) (bytes_read (g.R.Source.to_come c.args.input.now)) c.as_slice.result.now c.in_err-program.field-0.0
+    (λ reads. c.as_slice.ensures.value ∙ c.in_ok-bytes.ensures.bytes reads) c.in_err-program.ensures.fault)
+
+pub returns-in-Ok-clause-written : goal.returns-in-Ok-clause-written
+returns-in-Ok-clause-written g c = λ reads writes K denotes.
+    written_is c.one_collection.ensures c.args.name.now _ _ _ K _ _ _ (c.as_slice.ensures.value ∙ c.in_ok-bytes.ensures.bytes reads) c.in_ok-program.ensures.accepted denotes
+    (c.as_bytes.ensures.value ∙ c.in_ok-lines.ensures) (c.in-Ok.ensures.written writes)
 
 pub returns-clause-left : goal.returns-clause-left
 returns-clause-left g c = λ reads. (
-  accepted_file _ _ _ (c.as_slice.ensures.value ∙ c.in-Ok.ensures.bytes reads) c.in-Ok-read.ensures.accepted,
+  accepted_file _ _ _ (c.as_slice.ensures.value ∙ c.in_ok-bytes.ensures.bytes reads) c.in_ok-program.ensures.accepted,
   (λ writes K denotes.
-      prefix_is c.one_collection.ensures c.args.name.now _ _ _ K _ _ _ (c.as_slice.ensures.value ∙ c.in-Ok.ensures.bytes reads) c.in-Ok-read.ensures.accepted denotes
+      prefix_is c.one_collection.ensures c.args.name.now _ _ _ K _ _ _ (c.as_slice.ensures.value ∙ c.in_ok-bytes.ensures.bytes reads) c.in_ok-program.ensures.accepted denotes
       (c.as_bytes.ensures.value ∙ c.in_ok-lines.ensures) (c.in-Err.ensures.front writes)),
 )

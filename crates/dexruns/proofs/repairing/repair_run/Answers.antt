@@ -1,6 +1,8 @@
 use Rattle.std.proofs.Common.{◌∙◌}
 use Rattle.dexruns.specs.Inputs.{bytes_read}
-use Rattle.dexruns.proofs.Repaired.{repaired_only, accepted_is, prefix_is, has_checksum, has_signature}
+use Rattle.dexruns.specs.Repairs.{repaired}
+use Rattle.dexruns.proofs.Repaired.{repaired_only, repaired_is, accepted_is, prefix_is, has_checksum, has_signature}
+use Rattle.dexruns.proofs.Unread.{of_input, no_program}
 use Rattle.dexruns.proofs.repairing.repair_run.Goals as goal
 
 pub check-requires-clause-checksum : goal.check-requires-clause-checksum
@@ -9,17 +11,11 @@ check-requires-clause-checksum g c = has_checksum _ _ (c.as_slice.ensures.value 
 pub check-requires-clause-signature : goal.check-requires-clause-signature
 check-requires-clause-signature g c = has_signature _ _ (c.as_slice.ensures.value ∙ c.repaired-file.ensures)
 
-pub returns-in-Err-Read-clause-only_sums : goal.returns-in-Err-Read-clause-only_sums
-returns-in-Err-Read-clause-only_sums g c = repaired_only (bytes_read (g.R.Source.to_come c.args.input.now))
+pub returns-in_err-bytes-clause-only_sums : goal.returns-in_err-bytes-clause-only_sums
+returns-in_err-bytes-clause-only_sums g c = repaired_only (bytes_read (g.R.Source.to_come c.args.input.now))
 
-pub returns-in-Err-Memory-clause-only_sums : goal.returns-in-Err-Memory-clause-only_sums
-returns-in-Err-Memory-clause-only_sums g c = repaired_only (bytes_read (g.R.Source.to_come c.args.input.now))
-
-pub returns-in-Err-Refused-clause-only_sums : goal.returns-in-Err-Refused-clause-only_sums
-returns-in-Err-Refused-clause-only_sums g c = repaired_only (bytes_read (g.R.Source.to_come c.args.input.now))
-
-pub returns-in-Err-Memory-check-clause-only_sums : goal.returns-in-Err-Memory-check-clause-only_sums
-returns-in-Err-Memory-check-clause-only_sums g c = repaired_only (bytes_read (g.R.Source.to_come c.args.input.now))
+pub returns-in-Err-clause-only_sums : goal.returns-in-Err-clause-only_sums
+returns-in-Err-clause-only_sums g c = repaired_only (bytes_read (g.R.Source.to_come c.args.input.now))
 
 pub returns-in-Ok-write_whole-clause-only_sums : goal.returns-in-Ok-write_whole-clause-only_sums
 returns-in-Ok-write_whole-clause-only_sums g c = repaired_only (bytes_read (g.R.Source.to_come c.args.input.now))
@@ -27,8 +23,13 @@ returns-in-Ok-write_whole-clause-only_sums g c = repaired_only (bytes_read (g.R.
 pub returns-clause-only_sums : goal.returns-clause-only_sums
 returns-clause-only_sums g c = repaired_only (bytes_read (g.R.Source.to_come c.args.input.now))
 
+pub returns-in-Err-clause-fault : goal.returns-in-Err-clause-fault
+returns-in-Err-clause-fault g c =
+    rw c.fault_of_input.ensures (of_input (g.R.Source.reports c.args.input.now) (repaired (bytes_read (g.R.Source.to_come c.args.input.now))) c.as_slice.result.now _
+    (λ reads. repaired_is _ _ _ (c.as_slice.ensures.value ∙ c.repaired-file.ensures) (c.in_ok-bytes.ensures.bytes reads)) (no_program 0 c.as_slice.result.now c.in-Err.fault c.in-Err.ensures.refused))
+
 pub returns-clause-left : goal.returns-clause-left
 returns-clause-left g c = λ reads. (
-  accepted_is _ _ _ (c.as_slice.ensures.value ∙ c.repaired-file.ensures) (c.in-Ok.ensures.bytes reads) c.in-Ok-check.ensures.accepted,
-  (λ writes. prefix_is _ _ _ _ _ (c.as_slice-2.ensures.value ∙ c.repaired-file.ensures) (c.in-Ok.ensures.bytes reads) (c.in-Err.ensures.front writes)),
+  accepted_is _ _ _ (c.as_slice.ensures.value ∙ c.repaired-file.ensures) (c.in_ok-bytes.ensures.bytes reads) c.in-Ok.ensures.accepted,
+  (λ writes. prefix_is _ _ _ _ _ (c.as_slice-2.ensures.value ∙ c.repaired-file.ensures) (c.in_ok-bytes.ensures.bytes reads) (c.in-Err-write_whole.ensures.front writes)),
 )

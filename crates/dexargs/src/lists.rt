@@ -39,7 +39,8 @@ pub fn list_name(argument: &str) -> Option<&str>
 
 // Returns the lines of a text that are not empty, in order.
 fn arguments_of(alloc: Global, text: &str) -> Result<Vec<String>, AllocError>
-    ensures { IfOk result (λ arguments. map string_bytes arguments.items ≡ list_arguments text.now) }
+    ensures { IfOk result (λ arguments. map string_bytes arguments.items
+        ≡ list_arguments text.now) }
 {
     let mut arguments = Vec::new(alloc);
     for line in text.lines() {
@@ -55,7 +56,8 @@ fn arguments_of(alloc: Global, text: &str) -> Result<Vec<String>, AllocError>
 ///
 /// Error: `NotUtf8` if the bytes are not UTF-8; `Memory` if allocation failed.
 pub fn arguments_in(alloc: Global, bytes: &[u8]) -> Result<Vec<String>, ListFault>
-    ensures listed { IfOk result (λ arguments. map string_bytes arguments.items ≡ list_arguments bytes.now) }
+    ensures listed { IfOk result (λ arguments. map string_bytes arguments.items
+        ≡ list_arguments bytes.now) }
     ensures text { OnOk result (IsUtf8 bytes.now) }
     ensures refused { (result ≡ Err NotUtf8) ↔ (¬ IsUtf8 bytes.now) }
 {

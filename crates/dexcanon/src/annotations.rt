@@ -23,8 +23,10 @@ fn put_set_annotations<T: Target>(
     out: &mut Out<T>,
 )
     requires known { All (IsKnownAnnotation numbering.now) (map annotation_of annotations.now) }
-    requires fits { length (set_annotations numbering.now (map annotation_of annotations.now)) < 2 ^ 32 }
-    ensures { AddsAnnotations T.gives T.gives_prefix T.has_failed out.old out.new numbering.now annotations.now }
+    requires fits { length (set_annotations numbering.now (map annotation_of annotations.now))
+        < 2 ^ 32 }
+    ensures { AddsAnnotations T.gives T.gives_prefix T.has_failed out.old out.new numbering.now
+        annotations.now }
 {
     for annotation in annotations {
         let item = AnnotationItem {
@@ -38,7 +40,8 @@ fn put_set_annotations<T: Target>(
 /// The annotations of the sets that are written.
 pub(crate) fn put_annotations<T: Target>(contents: &Contents<'_, '_, '_, '_>, out: &mut Out<T>)
     requires { CanBeMade contents.now }
-    ensures { AddsSection T.gives T.gives_prefix T.has_failed contents.now out.old out.new annotation_section }
+    ensures { AddsSection T.gives T.gives_prefix T.has_failed contents.now out.old out.new
+        annotation_section }
 {
     let numbering = contents.numbering;
     let places = contents.layout.annotations();

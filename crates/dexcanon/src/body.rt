@@ -52,7 +52,8 @@ fn put_data<T: Target>(contents: &Contents<'_, '_, '_, '_>, out: &mut Out<T>)
 /// All that follows the header: the rows of the tables, the sections of the data, and the map.
 pub(crate) fn put_body<T: Target>(contents: &Contents<'_, '_, '_, '_>, out: &mut Out<T>)
     requires { CanBeMade contents.now }
-    ensures { AddsPart T.gives T.gives_prefix T.has_failed contents.now out.old out.new after_header_of }
+    ensures { AddsPart T.gives T.gives_prefix T.has_failed contents.now out.old
+        out.new after_header_of }
 {
     put_tables(contents, out);
     put_data(contents, out);

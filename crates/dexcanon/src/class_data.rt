@@ -58,7 +58,8 @@ fn has_no_members(class: &Class<'_>) -> bool
 /// The class data.
 pub(crate) fn put_class_data<T: Target>(contents: &Contents<'_, '_, '_, '_>, out: &mut Out<T>)
     requires { CanBeMade contents.now }
-    ensures { AddsSection T.gives T.gives_prefix T.has_failed contents.now out.old out.new class_data_section }
+    ensures { AddsSection T.gives T.gives_prefix T.has_failed contents.now out.old out.new
+        class_data_section }
 {
     let numbering = contents.numbering;
     let mut rest = contents.layout.codes().offsets();

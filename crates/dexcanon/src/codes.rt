@@ -58,9 +58,11 @@ fn put_method_codes<T: Target>(
     requires known { All (IsKnownMethod numbering.now) methods.now }
     requires types { length numbering.now.types ≤ 65536 }
     requires offsets { length debug_offs.now ≡ length methods.now }
-    requires fit { (limit : ℕ) × FitFrom limit from (method_codes numbering.now methods.now debug_offs.now) }
+    requires fit { (limit : ℕ)
+        × FitFrom limit from (method_codes numbering.now methods.now debug_offs.now) }
     ensures end { result ≡ end_from 4 from (method_codes numbering.now methods.now debug_offs.now) }
-    ensures adds { AddsFrom T.gives T.gives_prefix T.has_failed out.old out.new from (method_codes numbering.now methods.now debug_offs.now) }
+    ensures adds { AddsFrom T.gives T.gives_prefix T.has_failed out.old out.new from
+        (method_codes numbering.now methods.now debug_offs.now) }
 {
     let mut at = from;
     for i in 0..methods.len() {
@@ -82,7 +84,8 @@ fn put_method_codes<T: Target>(
 /// The code of the methods of the classes, the direct ones of each first.
 pub(crate) fn put_codes<T: Target>(contents: &Contents<'_, '_, '_, '_>, out: &mut Out<T>)
     requires { CanBeMade contents.now }
-    ensures { AddsSection T.gives T.gives_prefix T.has_failed contents.now out.old out.new code_section }
+    ensures { AddsSection T.gives T.gives_prefix T.has_failed contents.now out.old out.new
+        code_section }
 {
     let numbering = contents.numbering;
     let places = contents.layout.debugs().places();

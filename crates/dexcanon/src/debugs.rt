@@ -12,7 +12,8 @@ use crate::output::{Out, Target};
 /// The debug programs.
 pub(crate) fn put_debugs<T: Target>(contents: &Contents<'_, '_, '_, '_>, out: &mut Out<T>)
     requires { CanBeMade contents.now }
-    ensures { AddsSection T.gives T.gives_prefix T.has_failed contents.now out.old out.new debug_section }
+    ensures { AddsSection T.gives T.gives_prefix T.has_failed contents.now out.old out.new
+        debug_section }
 {
     out.put_bytes(contents.layout.debugs().bytes());
 }

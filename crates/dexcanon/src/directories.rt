@@ -63,7 +63,8 @@ impl DirectoryItem<'_, '_> {
 /// The directories of the classes.
 pub(crate) fn put_directories<T: Target>(contents: &Contents<'_, '_, '_, '_>, out: &mut Out<T>)
     requires { CanBeMade contents.now }
-    ensures { AddsSection T.gives T.gives_prefix T.has_failed contents.now out.old out.new directory_section }
+    ensures { AddsSection T.gives T.gives_prefix T.has_failed contents.now out.old out.new
+        directory_section }
 {
     number_law();
     let classes = contents.classes;

@@ -59,7 +59,8 @@ impl<T: Target> Out<T> {
     pub(crate) fn put<I: Item>(&mut self, item: &I) -> usize
         requires { I.fits item.now }
         ensures len { result ≡ length (I.bytes item.now) }
-        ensures adds { AddsItem T.gives T.gives_prefix T.has_failed self.old self.new (I.bytes item.now) }
+        ensures adds { AddsItem T.gives T.gives_prefix T.has_failed self.old self.new
+            (I.bytes item.now) }
     {
         self.make_room(item);
         if self.fault.is_some() {
@@ -78,7 +79,8 @@ impl<T: Target> Out<T> {
         requires fits { I.fits item.now }
         requires small { round_up 4 at + length (I.bytes item.now) < 2 ^ 31 }
         ensures end { result ≡ round_up 4 at + length (I.bytes item.now) }
-        ensures adds { AddsAligned T.gives T.gives_prefix T.has_failed self.old self.new at (I.bytes item.now) }
+        ensures adds { AddsAligned T.gives T.gives_prefix T.has_failed self.old self.new at
+            (I.bytes item.now) }
     {
         let start = (at + 3) / 4 * 4;
         self.put(&Zeros((start - at) as usize));
@@ -102,7 +104,8 @@ impl<T: Target> Out<T> {
     // for the longest.
     fn make_room<I: Item>(&mut self, item: &I)
         requires { I.fits item.now }
-        ensures adds { (limit : ℕ) → Adds T.gives T.gives_prefix T.has_failed limit self.old self.new [] }
+        ensures adds { (limit : ℕ)
+            → Adds T.gives T.gives_prefix T.has_failed limit self.old self.new [] }
         ensures room { HasRoomFor self.new (length (I.bytes item.now)) }
     {
         let spare = self.buffer.capacity() - self.buffer.len();
@@ -124,7 +127,8 @@ impl<T: Target> Out<T> {
 
     /// Writes what is buffered to the target.
     pub(crate) fn flush(&mut self)
-        ensures adds { (limit : ℕ) → Adds T.gives T.gives_prefix T.has_failed limit self.old self.new [] }
+        ensures adds { (limit : ℕ)
+            → Adds T.gives T.gives_prefix T.has_failed limit self.old self.new [] }
         ensures empty { self.new.fault ≡ None → vec_len self.new.buffer ≡ 0 }
     {
         if self.fault.is_some() {

@@ -24,10 +24,13 @@ fn put_method_lists<'o, T: Target>(
     out: &mut Out<T>,
 ) -> (u32, &'o [u32])
     requires offsets { total (parameter_counts methods.now) ≤ length set_offs.now }
-    requires fit { (limit : ℕ) × FitFrom limit from (ref_lists (parameter_counts methods.now) set_offs.now) }
-    ensures end { result.0 ≡ end_from 4 from (ref_lists (parameter_counts methods.now) set_offs.now) }
+    requires fit { (limit : ℕ)
+        × FitFrom limit from (ref_lists (parameter_counts methods.now) set_offs.now) }
+    ensures end { result.0
+        ≡ end_from 4 from (ref_lists (parameter_counts methods.now) set_offs.now) }
     ensures left { result.1.now ≡ drop (total (parameter_counts methods.now)) set_offs.now }
-    ensures adds { AddsLists T.gives T.gives_prefix T.has_failed out.old out.new methods.now set_offs.now from }
+    ensures adds { AddsLists T.gives T.gives_prefix T.has_failed out.old out.new methods.now
+        set_offs.now from }
 {
     let mut at = from;
     let mut rest = set_offs;
@@ -46,7 +49,8 @@ fn put_method_lists<'o, T: Target>(
 /// The lists of the sets of the parameters of the methods of the classes.
 pub(crate) fn put_ref_lists<T: Target>(contents: &Contents<'_, '_, '_, '_>, out: &mut Out<T>)
     requires { CanBeMade contents.now }
-    ensures { AddsSection T.gives T.gives_prefix T.has_failed contents.now out.old out.new ref_list_section }
+    ensures { AddsSection T.gives T.gives_prefix T.has_failed contents.now out.old out.new
+        ref_list_section }
 {
     let sets = contents.layout.sets();
     let mut rest = sets.parameters();

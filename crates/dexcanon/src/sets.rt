@@ -43,7 +43,8 @@ impl Item for SetItem<'_, '_> {
 /// The sets of annotations.
 pub(crate) fn put_sets<T: Target>(contents: &Contents<'_, '_, '_, '_>, out: &mut Out<T>)
     requires { CanBeMade contents.now }
-    ensures { AddsSection T.gives T.gives_prefix T.has_failed contents.now out.old out.new set_section }
+    ensures { AddsSection T.gives T.gives_prefix T.has_failed contents.now out.old out.new
+        set_section }
 {
     let numbering = contents.numbering;
     let places = contents.layout.annotations();

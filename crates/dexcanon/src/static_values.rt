@@ -13,7 +13,8 @@ use crate::value_items::StaticValues;
 /// The arrays of static values.
 pub(crate) fn put_static_values<T: Target>(contents: &Contents<'_, '_, '_, '_>, out: &mut Out<T>)
     requires { CanBeMade contents.now }
-    ensures { AddsSection T.gives T.gives_prefix T.has_failed contents.now out.old out.new array_section }
+    ensures { AddsSection T.gives T.gives_prefix T.has_failed contents.now out.old out.new
+        array_section }
 {
     let numbering = contents.numbering;
     for class in contents.classes {

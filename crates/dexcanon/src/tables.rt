@@ -14,7 +14,8 @@ use dexpool::{SymbolKind, number_law};
 /// The rows of the texts, from the offset of each.
 pub(crate) fn put_string_ids<T: Target>(contents: &Contents<'_, '_, '_, '_>, out: &mut Out<T>)
     requires { CanBeMade contents.now }
-    ensures { AddsPart T.gives T.gives_prefix T.has_failed contents.now out.old out.new string_rows }
+    ensures { AddsPart T.gives T.gives_prefix T.has_failed contents.now out.old
+        out.new string_rows }
 {
     let offsets = contents.layout.strings().offsets();
     for off in offsets {
@@ -84,7 +85,8 @@ pub(crate) fn put_field_ids<T: Target>(contents: &Contents<'_, '_, '_, '_>, out:
 /// The rows of the methods.
 pub(crate) fn put_method_ids<T: Target>(contents: &Contents<'_, '_, '_, '_>, out: &mut Out<T>)
     requires { CanBeMade contents.now }
-    ensures { AddsPart T.gives T.gives_prefix T.has_failed contents.now out.old out.new method_rows }
+    ensures { AddsPart T.gives T.gives_prefix T.has_failed contents.now out.old
+        out.new method_rows }
 {
     let numbering = contents.numbering;
     numbering.is_numbering();

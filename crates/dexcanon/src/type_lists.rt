@@ -73,7 +73,8 @@ impl Item for TypeList<'_, '_> {
 /// The type lists.
 pub(crate) fn put_type_lists<T: Target>(contents: &Contents<'_, '_, '_, '_>, out: &mut Out<T>)
     requires { CanBeMade contents.now }
-    ensures { AddsSection T.gives T.gives_prefix T.has_failed contents.now out.old out.new type_list_section }
+    ensures { AddsSection T.gives T.gives_prefix T.has_failed contents.now out.old out.new
+        type_list_section }
 {
     let numbering = contents.numbering;
     let written = contents.layout.type_lists().written();

@@ -84,8 +84,10 @@ pub fn write_to<W: Sink>(
     out: &mut W,
 ) -> Result<(), StoreFault>
     requires { W.has_failed out.old ≡ false }
-    ensures written { OnOk result (HasTaken W.reports W.taken out.old out.new (canonical program.now)) }
-    ensures left { IfErr result (HasLeft (W.reports out.old) out.old out.new W.taken (canonical program.now)) }
+    ensures written { OnOk result
+        (HasTaken W.reports W.taken out.old out.new (canonical program.now)) }
+    ensures left { IfErr result
+        (HasLeft (W.reports out.old) out.old out.new W.taken (canonical program.now)) }
     ensures device { IsErrOf result Io ↔ (W.has_failed out.new ≡ true) }
 {
     let layout = Layout::of(alloc, program)?;
@@ -101,8 +103,10 @@ fn write_contents<W: Sink>(
 ) -> Result<(), StoreFault>
     requires ready { CanBeMade contents.now }
     requires works { W.has_failed sink.old ≡ false }
-    ensures written { OnOk result (HasTaken W.reports W.taken sink.old sink.new (file_of contents.now)) }
-    ensures left { IfErr result (HasLeft (W.reports sink.old) sink.old sink.new W.taken (file_of contents.now)) }
+    ensures written { OnOk result
+        (HasTaken W.reports W.taken sink.old sink.new (file_of contents.now)) }
+    ensures left { IfErr result
+        (HasLeft (W.reports sink.old) sink.old sink.new W.taken (file_of contents.now)) }
     ensures device { IsErrOf result Io ↔ (W.has_failed sink.new ≡ true) }
 {
     if contents.layout.len() as usize <= PIECE {

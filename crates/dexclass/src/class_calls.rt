@@ -17,7 +17,8 @@ impl<'a> Class<'a> {
     /// Source: "class_def_item" and "type_list", and what [`dexmembers::Members::weight`] names, the sizes of their fields; the
     /// weight is this project's rule.
     pub fn weight(&self) -> u64
-        ensures { (m : Mentions) → AreRising m → IsKnownClass m self.now → result ≡ class_weight m self.now }
+        ensures { (m : Mentions) → AreRising m → IsKnownClass m self.now
+            → result ≡ class_weight m self.now }
     {
         self.weight
     }
@@ -69,7 +70,8 @@ impl<'a> Class<'a> {
 
 // Whether two lists of types are mapped to the same numbers.
 fn eq_mapped(mine: &Remap, numbers: &[usize], theirs: &Remap, others: &[usize]) -> bool
-    ensures { IsTrue result ↔ (remapped_types mine.now numbers.now ≡ remapped_types theirs.now others.now) }
+    ensures { IsTrue result
+        ↔ (remapped_types mine.now numbers.now ≡ remapped_types theirs.now others.now) }
 {
     if numbers.len() != others.len() {
         return false;

@@ -30,7 +30,8 @@ pub(crate) struct KnownFile<'j, 'a> {
 impl<'j, 'a> KnownFile<'j, 'a> {
     // Whether the index is that of a class.
     fn is_class(&self, index: u32) -> bool
-        requires { IsKnown self.now.frame.now self.now.pools.now self.now.class_types.now self.now.defined.now }
+        requires { IsKnown self.now.frame.now self.now.pools.now self.now.class_types.now
+            self.now.defined.now }
         ensures { IsTrue result ↔ IsClassIndex self.now.frame.now index }
     {
         (index as usize) < self.class_types.len() && self.class_types[index as usize]
@@ -38,7 +39,8 @@ impl<'j, 'a> KnownFile<'j, 'a> {
 
     // Whether the index of a superclass is none or that of a class.
     fn is_parent(&self, index: u32) -> bool
-        requires { IsKnown self.now.frame.now self.now.pools.now self.now.class_types.now self.now.defined.now }
+        requires { IsKnown self.now.frame.now self.now.pools.now self.now.class_types.now
+            self.now.defined.now }
         ensures { IsTrue result ↔ IsParentIndex self.now.frame.now index }
     {
         index == NO_INDEX || self.is_class(index)
@@ -46,7 +48,8 @@ impl<'j, 'a> KnownFile<'j, 'a> {
 
     // Whether the index of a source name is none or that of a text.
     fn is_source(&self, index: u32) -> bool
-        requires { IsKnown self.now.frame.now self.now.pools.now self.now.class_types.now self.now.defined.now }
+        requires { IsKnown self.now.frame.now self.now.pools.now self.now.class_types.now
+            self.now.defined.now }
         ensures { IsTrue result ↔ IsSourceIndex self.now.frame.now index }
     {
         index == NO_INDEX || (index as usize) < self.pools.len(SymbolKind::Text)
@@ -54,10 +57,12 @@ impl<'j, 'a> KnownFile<'j, 'a> {
 
     // Whether a type that the file defines is defined before row `r`.
     fn is_before(&self, seen: &[bool], index: u32) -> bool
-        requires known { IsKnown self.now.frame.now self.now.pools.now self.now.class_types.now self.now.defined.now }
+        requires known { IsKnown self.now.frame.now self.now.pools.now self.now.class_types.now
+            self.now.defined.now }
         requires index { index < table_size self.now.frame.now TypeIds }
         requires seen { (r : ℕ) × AreDefinedMarks self.now.frame.now r seen.now }
-        ensures { (r : ℕ) → AreSeen self.now r seen.now → IsTrue result ↔ IsDefinedBefore self.now.frame.now r index }
+        ensures { (r : ℕ) → AreSeen self.now r seen.now
+            → IsTrue result ↔ IsDefinedBefore self.now.frame.now r index }
     {
         !self.defined[index as usize] || seen[index as usize]
     }
@@ -66,19 +71,23 @@ impl<'j, 'a> KnownFile<'j, 'a> {
 impl<'j, 'a> KnownFile<'j, 'a> {
     // Whether the index is that of a class, which is defined before row `r` if the file defines it.
     fn is_interface(&self, seen: &[bool], index: u32) -> bool
-        requires known { IsKnown self.now.frame.now self.now.pools.now self.now.class_types.now self.now.defined.now }
+        requires known { IsKnown self.now.frame.now self.now.pools.now self.now.class_types.now
+            self.now.defined.now }
         requires seen { (r : ℕ) × AreDefinedMarks self.now.frame.now r seen.now }
-        ensures { (r : ℕ) → AreSeen self.now r seen.now → IsTrue result ↔ IsInterface self.now r index }
+        ensures { (r : ℕ) → AreSeen self.now r seen.now
+            → IsTrue result ↔ IsInterface self.now r index }
     {
         self.is_class(index) && self.is_before(seen, index)
     }
 
     // Whether each index of the list is that of a class, which is defined before row `r` if the file defines it.
     fn are_interfaces(&self, seen: &[bool], off: u32, count: u32) -> bool
-        requires known { IsKnown self.now.frame.now self.now.pools.now self.now.class_types.now self.now.defined.now }
+        requires known { IsKnown self.now.frame.now self.now.pools.now self.now.class_types.now
+            self.now.defined.now }
         requires seen { (r : ℕ) × AreDefinedMarks self.now.frame.now r seen.now }
         requires room { HasRoom self.now.frame.now off count }
-        ensures { (r : ℕ) → AreSeen self.now r seen.now → IsTrue result ↔ AreListedInterfaces self.now r off }
+        ensures { (r : ℕ) → AreSeen self.now r seen.now
+            → IsTrue result ↔ AreListedInterfaces self.now r off }
     {
         let list = self.frame.rest(off);
         for k in 0..count {
@@ -92,9 +101,11 @@ impl<'j, 'a> KnownFile<'j, 'a> {
 
     // Whether the offset is 0 or that of a list of interfaces.
     fn has_interfaces(&self, seen: &[bool], off: u32) -> bool
-        requires known { IsKnown self.now.frame.now self.now.pools.now self.now.class_types.now self.now.defined.now }
+        requires known { IsKnown self.now.frame.now self.now.pools.now self.now.class_types.now
+            self.now.defined.now }
         requires seen { (r : ℕ) × AreDefinedMarks self.now.frame.now r seen.now }
-        ensures { (r : ℕ) → AreSeen self.now r seen.now → IsTrue result ↔ HasInterfaces self.now.frame.now r off }
+        ensures { (r : ℕ) → AreSeen self.now r seen.now
+            → IsTrue result ↔ HasInterfaces self.now.frame.now r off }
     {
         if off == 0 {
             return true;
@@ -107,19 +118,23 @@ impl<'j, 'a> KnownFile<'j, 'a> {
 
     // Whether the superclass, if there is one and the file defines it, is defined before row `r`.
     fn has_parent_before(&self, seen: &[bool], index: u32) -> bool
-        requires known { IsKnown self.now.frame.now self.now.pools.now self.now.class_types.now self.now.defined.now }
+        requires known { IsKnown self.now.frame.now self.now.pools.now self.now.class_types.now
+            self.now.defined.now }
         requires seen { (r : ℕ) × AreDefinedMarks self.now.frame.now r seen.now }
         requires index { IsParentIndex self.now.frame.now index }
-        ensures { (r : ℕ) → AreSeen self.now r seen.now → IsTrue result ↔ IsParentBefore self.now r index }
+        ensures { (r : ℕ) → AreSeen self.now r seen.now
+            → IsTrue result ↔ IsParentBefore self.now r index }
     {
         index == NO_INDEX || self.is_before(seen, index)
     }
 
     // Whether the class row meets condition 16, where the types of the rows before it are seen.
     fn holds(&self, seen: &[bool], row: &ClassDef) -> bool
-        requires known { IsKnown self.now.frame.now self.now.pools.now self.now.class_types.now self.now.defined.now }
+        requires known { IsKnown self.now.frame.now self.now.pools.now self.now.class_types.now
+            self.now.defined.now }
         requires seen { (r : ℕ) × AreDefinedMarks self.now.frame.now r seen.now }
-        ensures { (r : ℕ) → AreSeen self.now r seen.now → IsClassDef self.now.frame.now r row.now → IsTrue result ↔ HasClass self.now.frame.now r }
+        ensures { (r : ℕ) → AreSeen self.now r seen.now → IsClassDef self.now.frame.now r row.now
+            → IsTrue result ↔ HasClass self.now.frame.now r }
     {
         if !self.is_class(row.class_idx) {
             return false;

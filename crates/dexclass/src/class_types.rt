@@ -58,7 +58,8 @@ pub(crate) fn mark(index: u32, marks: &mut Vec<bool>)
 
 /// For each type of a file whether a class row is of it.
 pub(crate) fn defined(alloc: Global, frame: &Frame<'_>) -> Result<Vec<bool>, AllocError>
-    ensures { IfOk result (λ marks. AreDefinedMarks frame.now (table_size frame.now ClassDefs) marks.items) }
+    ensures { IfOk result (λ marks.
+        AreDefinedMarks frame.now (table_size frame.now ClassDefs) marks.items) }
 {
     let mut marks = no_marks(alloc, frame)?;
     let count = frame.size(Table::ClassDefs);

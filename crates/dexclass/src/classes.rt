@@ -177,7 +177,8 @@ pub(crate) fn class_at<'a>(
 ) -> Result<Class<'a>, AllocError>
     requires list { HasInterfaceList frame.now row.now.interfaces_off }
     requires interfaces { interfaces ≡ length (interface_indices frame.now row.now.interfaces_off) }
-    ensures { (r : ℕ) → IsClassDef frame.now r row.now → IfOk result (IsOfRow frame.now r members.entry weight) }
+    ensures { (r : ℕ) → IsClassDef frame.now r row.now
+        → IfOk result (IsOfRow frame.now r members.entry weight) }
 {
     Ok(Class {
         name: row.class_idx as usize,

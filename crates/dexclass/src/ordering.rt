@@ -69,7 +69,8 @@ pub(crate) fn in_order<'a>(
 ) -> Result<Vec<Class<'a>>, AllocError>
     requires numbering { (m : Mentions) × AreNamed m classes.old.items }
     requires count { length depths.now ≡ length classes.old.items }
-    ensures order { IfOk result (λ ordered. AreInClassOrder classes.old.items depths.now ordered.items) }
+    ensures order { IfOk result (λ ordered.
+        AreInClassOrder classes.old.items depths.now ordered.items) }
     ensures members { IfOk result (λ ordered. AreIn ordered.items classes.old.items) }
 {
     let names = names(alloc, classes)?;

@@ -100,7 +100,8 @@ impl<'a> Part<'a> {
         mut classes: Vec<Class<'a>>,
     ) -> Result<Part<'a>, AllocError>
         requires { AreGoodClasses numbering.now classes.items }
-        ensures { IfOk result (λ part. part ≡ map (definition_of numbering.now) classes.entry.items) }
+        ensures { IfOk result (λ part.
+            part ≡ map (definition_of numbering.now) classes.entry.items) }
     {
         let trimmed = trim(alloc, numbering, &mut classes)?;
         Ok(Part {

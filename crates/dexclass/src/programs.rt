@@ -151,7 +151,8 @@ impl<'a> Program<'a> {
         classes: Vec<Class<'a>>,
     ) -> Result<Program<'a>, AllocError>
         requires { AreMergeable numbering classes.items }
-        ensures { IfOk result (IsCollectionOf (map (definition_of numbering.entry) classes.entry.items)) }
+        ensures { IfOk result
+            (IsCollectionOf (map (definition_of numbering.entry) classes.entry.items)) }
     {
         numbering.is_numbering();
         let weight = weight_of(&numbering, &classes);
@@ -169,8 +170,10 @@ impl<'a> Program<'a> {
         depths: &[Option<usize>],
     ) -> Result<Program<'a>, AllocError>
         requires mergeable { AreMergeable numbering classes.items }
-        requires depths { AreDepthsByName numbering (map (definition_of numbering) classes.items) depths.now }
-        ensures { IfOk result (IsCollectionOf (map (definition_of numbering.entry) classes.entry.items)) }
+        requires depths { AreDepthsByName numbering
+            (map (definition_of numbering) classes.items) depths.now }
+        ensures { IfOk result
+            (IsCollectionOf (map (definition_of numbering.entry) classes.entry.items)) }
     {
         numbering.is_numbering();
         let total = weight_of(&numbering, &classes);
@@ -189,7 +192,8 @@ impl<'a> Program<'a> {
     ) -> Result<Program<'a>, AllocError>
         requires mergeable { AreMergeable numbering classes.items }
         requires total { total ≡ weight (map (definition_of numbering) classes.items) }
-        ensures { IfOk result (IsCollectionOf (map (definition_of numbering.entry) classes.entry.items)) }
+        ensures { IfOk result
+            (IsCollectionOf (map (definition_of numbering.entry) classes.entry.items)) }
     {
         numbering.is_numbering();
         let types = numbering.count(SymbolKind::Typ);
@@ -208,7 +212,8 @@ impl<'a> Program<'a> {
         requires mergeable { AreMergeable numbering classes.items }
         requires depths { AreDepthsOf (map (definition_of numbering) classes.items) depths.now }
         requires total { total ≡ weight (map (definition_of numbering) classes.items) }
-        ensures { IfOk result (IsCollectionOf (map (definition_of numbering.entry) classes.entry.items)) }
+        ensures { IfOk result
+            (IsCollectionOf (map (definition_of numbering.entry) classes.entry.items)) }
     {
         numbering.is_numbering();
         let classes = in_order(alloc, &mut classes, depths)?;
@@ -244,7 +249,8 @@ pub(crate) fn copied<'a>(alloc: Global, classes: &[Class<'a>]) -> Result<Vec<Cla
 
 // What classes weigh without the symbols that they name, or 2^64 - 1 where that is more.
 fn bodies_weight(classes: &[Class<'_>]) -> u64
-    ensures { (m : Mentions) → AreRising m → All (IsKnownClass m) classes.now → result ≡ weight_of m classes.now }
+    ensures { (m : Mentions) → AreRising m → All (IsKnownClass m) classes.now
+        → result ≡ weight_of m classes.now }
 {
     let mut weight: u64 = 0;
     for class in classes {

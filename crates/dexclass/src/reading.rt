@@ -138,7 +138,8 @@ fn read_bodies<'a>(
 ) -> Result<Bodies<'a>, ReadFault>
     requires pools { ArePools frame.now pools.now }
     requires before { HoldBelow 17 frame.now }
-    ensures accepted { IfOk result (AreBodies frame.now pools.now (table_size frame.now ClassDefs)) }
+    ensures accepted { IfOk result
+        (AreBodies frame.now pools.now (table_size frame.now ClassDefs)) }
     ensures refused { IfErr result (IsFaultOf frame.now) }
 {
     let count = frame.size(Table::ClassDefs);

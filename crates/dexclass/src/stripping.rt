@@ -27,7 +27,8 @@ fn strip_class(class: &mut Class<'_>)
 
 // What a class with these interfaces and members weighs without the symbols that it names, or 2^64 - 1 where that is more.
 fn body_weight(interfaces: &[usize], members: &Members<'_>) -> u64
-    ensures { result ≡ min (2 ^ 64 - 1) (96 + 2 * length interfaces.now + numbered_members_weight members.now) }
+    ensures { result
+        ≡ min (2 ^ 64 - 1) (96 + 2 * length interfaces.now + numbered_members_weight members.now) }
 {
     2u64.saturating_mul(interfaces.len() as u64)
         .saturating_add(96)
@@ -70,7 +71,8 @@ pub fn into_stripped<'a>(alloc: Global, program: Program<'a>) -> Result<Program<
 pub fn strip<'a>(alloc: Global, program: &Program<'a>) -> Result<Program<'a>, AllocError>
     ensures stripped { IfOk result (λ stripped. stripped ≡ strip_collection program.now) }
     ensures good { StrippedStaysGood program.now }
-    ensures all_good { (caps : Caps) (D : List Definition) → IsGood caps D → IsGood caps (stripping.strip D) }
+    ensures all_good { (caps : Caps) (D : List Definition) → IsGood caps D
+        → IsGood caps (stripping.strip D) }
     ensures merges { StripCommutesWithMerge }
     ensures twice { strip_collection (strip_collection program.now) ≡ strip_collection program.now }
 {

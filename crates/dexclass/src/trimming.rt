@@ -81,7 +81,8 @@ fn stays(
 // Whether the numbering is kept whole, so that no number changes. A file that was written by rule has no symbol that its
 // classes do not mention.
 fn is_whole(numbering: &Numbering<'_>, trimmed: &Numbering<'_>, remap: &Remap) -> bool
-    ensures { AllMapTo numbering.now trimmed.now remap.now → IsTrue result → trimmed.now ≡ numbering.now }
+    ensures { AllMapTo numbering.now trimmed.now remap.now → IsTrue result
+        → trimmed.now ≡ numbering.now }
 {
     if !stays(SymbolKind::Text, numbering, trimmed, remap) {
         return false;
@@ -107,9 +108,11 @@ pub(crate) fn trim<'a>(
     classes: &mut Vec<Class<'a>>,
 ) -> Result<Numbering<'a>, AllocError>
     requires { All (IsKnownClass numbering.now) classes.old.items }
-    ensures mentions { IfOk result (λ trimmed. trimmed ≡ mentions_of numbering.now classes.old.items) }
+    ensures mentions { IfOk result (λ trimmed.
+        trimmed ≡ mentions_of numbering.now classes.old.items) }
     ensures numbers { IfOk result (λ trimmed. All (IsKnownClass trimmed) classes.new.items) }
-    ensures same { IfOk result (KeepsDefinitions numbering.now classes.old.items classes.new.items) }
+    ensures same { IfOk result
+        (KeepsDefinitions numbering.now classes.old.items classes.new.items) }
 {
     uses_law();
     renumbering_law();

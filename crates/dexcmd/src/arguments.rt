@@ -46,8 +46,10 @@ fn expand<'a, D: Devices<'a>>(
     devices: &D,
     argument: &'a str,
 ) -> Result<Vec<String>, ListsFault<'a>>
-    ensures own { IfOk result (λ own. ExpandsTo (D.is_input devices.now) D.Input.reports D.Input.to_come argument.now (named_list argument.now) (map string_bytes own.items)) }
-    ensures fault { IfErr result (IsOfList (D.is_input devices.now) D.Input.reports D.Input.to_come argument.now) }
+    ensures own { IfOk result (λ own. ExpandsTo (D.is_input devices.now) D.Input.reports
+        D.Input.to_come argument.now (named_list argument.now) (map string_bytes own.items)) }
+    ensures fault { IfErr result
+        (IsOfList (D.is_input devices.now) D.Input.reports D.Input.to_come argument.now) }
 {
     let Some(name) = list_name(argument) else {
         let mut own = Vec::new(alloc);
@@ -80,8 +82,10 @@ pub fn expand_arguments<'a, D: Devices<'a>>(
     devices: &D,
     arguments: &'a [String],
 ) -> Result<Vec<String>, ListsFault<'a>>
-    ensures expanded { IfOk result (λ all. AreExpanded (D.is_input devices.now) D.Input.reports D.Input.to_come (map string_bytes arguments.now) (map string_bytes all.items)) }
-    ensures fault { IfErr result (IsOfLists (D.is_input devices.now) D.Input.reports D.Input.to_come (map string_bytes arguments.now)) }
+    ensures expanded { IfOk result (λ all. AreExpanded (D.is_input devices.now) D.Input.reports
+        D.Input.to_come (map string_bytes arguments.now) (map string_bytes all.items)) }
+    ensures fault { IfErr result (IsOfLists (D.is_input devices.now) D.Input.reports D.Input.to_come
+        (map string_bytes arguments.now)) }
 {
     let mut all = Vec::new(alloc);
     for argument in arguments {

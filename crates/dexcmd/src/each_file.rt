@@ -48,8 +48,9 @@ fn check_file<'a, D: Devices<'a>>(
     out: &mut D::Output,
 ) -> Result<u8, RunFault>
     requires { D.Output.has_failed out.old ≡ false }
-    ensures ran { IsFileChecked (D.is_input devices.now) (D.is_standard devices.now) D.is_closed
-        D.Input.reports D.Input.to_come D.Input.has_failed D.Output.reports D.Output.taken D.Output.has_failed file.now out.old out.new result }
+    ensures ran { IsFileChecked (D.is_input devices.now)
+        (D.is_standard devices.now) D.is_closed D.Input.reports D.Input.to_come D.Input.has_failed
+        D.Output.reports D.Output.taken D.Output.has_failed file.now out.old out.new result }
     ensures named { IfErr result (HasName 1) }
     ensures works { goes_on Check result ≡ true → D.Output.has_failed out.new ≡ false }
 {
@@ -66,8 +67,9 @@ fn digest_file<'a, D: Devices<'a>>(
     out: &mut D::Output,
 ) -> Result<u8, RunFault>
     requires { D.Output.has_failed out.old ≡ false }
-    ensures ran { IsFileDigested (D.is_input devices.now) (D.is_standard devices.now) D.is_closed
-        D.Input.reports D.Input.to_come D.Input.has_failed D.Output.reports D.Output.taken D.Output.has_failed file.now out.old out.new result }
+    ensures ran { IsFileDigested (D.is_input devices.now)
+        (D.is_standard devices.now) D.is_closed D.Input.reports D.Input.to_come D.Input.has_failed
+        D.Output.reports D.Output.taken D.Output.has_failed file.now out.old out.new result }
     ensures named { IfErr result (HasName 1) }
     ensures works { goes_on Digest result ≡ true → D.Output.has_failed out.new ≡ false }
 {
@@ -84,8 +86,9 @@ fn run_over<'a, D: Devices<'a>>(
     out: &mut D::Output,
 ) -> Result<u8, RunFault>
     requires { D.Output.has_failed out.old ≡ false }
-    ensures ran { IsFileRun (D.is_input devices.now) (D.is_standard devices.now) D.is_closed
-        D.Input.reports D.Input.to_come D.Input.has_failed D.Output.reports D.Output.taken D.Output.has_failed task file.now out.old out.new result }
+    ensures ran { IsFileRun (D.is_input devices.now)
+        (D.is_standard devices.now) D.is_closed D.Input.reports D.Input.to_come D.Input.has_failed
+        D.Output.reports D.Output.taken D.Output.has_failed task file.now out.old out.new result }
     ensures named { IfErr result (HasName 1) }
     ensures works { goes_on task result ≡ true → D.Output.has_failed out.new ≡ false }
 {
@@ -102,8 +105,9 @@ pub(crate) fn run_over_each<'a, D: Devices<'a>>(
     task: Task,
     files: &'a [String],
 ) -> Result<Report, AllocError>
-    ensures { IfOk result (HasRunOverEach (D.is_input devices.now) (D.is_standard devices.now) D.is_closed
-        D.Input.reports D.Input.to_come D.Input.has_failed D.Output.reports D.Output.taken D.Output.has_failed task (map string_bytes files.now)) }
+    ensures { IfOk result (HasRunOverEach (D.is_input devices.now)
+        (D.is_standard devices.now) D.is_closed D.Input.reports D.Input.to_come D.Input.has_failed
+        D.Output.reports D.Output.taken D.Output.has_failed task (map string_bytes files.now)) }
 {
     let mut report = empty_report(alloc);
     let mut out = devices.standard();

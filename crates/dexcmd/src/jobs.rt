@@ -18,7 +18,8 @@ use std::alloc::{AllocError, Global};
 
 // The names as texts.
 fn texts<'a>(alloc: Global, names: &'a [String]) -> Result<Vec<&'a str>, AllocError>
-    ensures { IfOk result (λ texts. map (λ text. text.now) texts.items ≡ map string_bytes names.now) }
+    ensures { IfOk result (λ texts. map (λ text. text.now) texts.items
+        ≡ map string_bytes names.now) }
 {
     let mut texts = Vec::with_capacity(alloc, names.len())?;
     for name in names {
@@ -33,9 +34,11 @@ fn inputs_of<'a, D: Devices<'a>>(
     devices: &D,
     names: &[&'a str],
 ) -> Result<Vec<D::Input>, AllocError>
-    ensures named { IfOk result (λ inputs. AllZip (D.is_input devices.now) (map (λ name. name.now) names.now) inputs.items) }
+    ensures named { IfOk result (λ inputs.
+        AllZip (D.is_input devices.now) (map (λ name. name.now) names.now) inputs.items) }
     ensures count { IfOk result (λ inputs. length inputs.items ≡ length names.now) }
-    ensures works { IfOk result (λ inputs. All (λ input. D.Input.has_failed input ≡ false) inputs.items) }
+    ensures works { IfOk result (λ inputs.
+        All (λ input. D.Input.has_failed input ≡ false) inputs.items) }
 {
     let mut inputs = Vec::with_capacity(alloc, names.len())?;
     for name in names {
@@ -49,8 +52,9 @@ fn check<'a, D: Devices<'a>>(
     devices: &D,
     files: &'a [String],
 ) -> Result<Report, AllocError>
-    ensures { IfOk result (HasChecked (D.is_input devices.now) (D.is_output devices.now) (D.is_standard devices.now) D.is_closed
-        D.Input.reports D.Input.to_come D.Input.has_failed D.Output.reports D.Output.taken D.Output.has_failed (map string_bytes files.now)) }
+    ensures { IfOk result (HasChecked (D.is_input devices.now) (D.is_output devices.now)
+        (D.is_standard devices.now) D.is_closed D.Input.reports D.Input.to_come D.Input.has_failed
+        D.Output.reports D.Output.taken D.Output.has_failed (map string_bytes files.now)) }
 {
     let texts = texts(alloc, files)?;
     let names = texts.as_slice();
@@ -62,8 +66,9 @@ fn check<'a, D: Devices<'a>>(
 }
 
 fn dump<'a, D: Devices<'a>>(alloc: Global, devices: &D, file: &'a str) -> Result<Report, AllocError>
-    ensures { IfOk result (HasDumped (D.is_input devices.now) (D.is_output devices.now) (D.is_standard devices.now) D.is_closed
-        D.Input.reports D.Input.to_come D.Input.has_failed D.Output.reports D.Output.taken D.Output.has_failed file.now) }
+    ensures { IfOk result (HasDumped (D.is_input devices.now) (D.is_output devices.now)
+        (D.is_standard devices.now) D.is_closed D.Input.reports D.Input.to_come D.Input.has_failed
+        D.Output.reports D.Output.taken D.Output.has_failed file.now) }
 {
     let mut input = devices.input(file);
     let mut out = devices.standard();
@@ -78,8 +83,9 @@ fn normalise<'a, D: Devices<'a>>(
     file: &'a str,
     target: &'a str,
 ) -> Result<Report, AllocError>
-    ensures { IfOk result (HasNormalised (D.is_input devices.now) (D.is_output devices.now) (D.is_standard devices.now) D.is_closed
-        D.Input.reports D.Input.to_come D.Input.has_failed D.Output.reports D.Output.taken D.Output.has_failed file.now target.now) }
+    ensures { IfOk result (HasNormalised (D.is_input devices.now) (D.is_output devices.now)
+        (D.is_standard devices.now) D.is_closed D.Input.reports D.Input.to_come D.Input.has_failed
+        D.Output.reports D.Output.taken D.Output.has_failed file.now target.now) }
 {
     let mut input = devices.input(file);
     let mut out = devices.output(target);
@@ -99,9 +105,10 @@ fn merge<'a, D: Devices<'a>>(
 ) -> Result<Report, AllocError>
     requires files { 1 ≤ length files.now }
     requires fan { IfSome fan (λ fan. 2 ≤ fan) }
-    ensures { IfOk result (HasMerged (D.is_input devices.now) (D.is_output devices.now) (D.is_standard devices.now) D.is_closed
-        D.Input.reports D.Input.to_come D.Input.has_failed D.Output.reports D.Output.taken D.Output.has_failed
-        target.now fan caps.now is_stripped (map string_bytes files.now)) }
+    ensures { IfOk result (HasMerged (D.is_input devices.now) (D.is_output devices.now)
+        (D.is_standard devices.now) D.is_closed D.Input.reports D.Input.to_come D.Input.has_failed
+        D.Output.reports D.Output.taken D.Output.has_failed target.now fan caps.now is_stripped
+        (map string_bytes files.now)) }
 {
     let plan = fan_plan(alloc, files.len(), fan)?;
     let texts = texts(alloc, files)?;
@@ -125,8 +132,9 @@ fn count<'a, D: Devices<'a>>(
     devices: &D,
     files: &'a [String],
 ) -> Result<Report, AllocError>
-    ensures { IfOk result (HasCounted (D.is_input devices.now) (D.is_output devices.now) (D.is_standard devices.now) D.is_closed
-        D.Input.reports D.Input.to_come D.Input.has_failed D.Output.reports D.Output.taken D.Output.has_failed (map string_bytes files.now)) }
+    ensures { IfOk result (HasCounted (D.is_input devices.now) (D.is_output devices.now)
+        (D.is_standard devices.now) D.is_closed D.Input.reports D.Input.to_come D.Input.has_failed
+        D.Output.reports D.Output.taken D.Output.has_failed (map string_bytes files.now)) }
 {
     let texts = texts(alloc, files)?;
     let names = texts.as_slice();
@@ -143,8 +151,9 @@ fn repair<'a, D: Devices<'a>>(
     file: &'a str,
     target: &'a str,
 ) -> Result<Report, AllocError>
-    ensures { IfOk result (HasRepaired (D.is_input devices.now) (D.is_output devices.now) (D.is_standard devices.now) D.is_closed
-        D.Input.reports D.Input.to_come D.Input.has_failed D.Output.reports D.Output.taken D.Output.has_failed file.now target.now) }
+    ensures { IfOk result (HasRepaired (D.is_input devices.now) (D.is_output devices.now)
+        (D.is_standard devices.now) D.is_closed D.Input.reports D.Input.to_come D.Input.has_failed
+        D.Output.reports D.Output.taken D.Output.has_failed file.now target.now) }
 {
     let mut input = devices.input(file);
     let mut out = devices.output(target);
@@ -163,8 +172,9 @@ pub fn run_job<'a, D: Devices<'a>>(
     job: &'a Job,
 ) -> Result<Report, AllocError>
     requires { IsSound job.now }
-    ensures { IfOk result (IsDone (D.is_input devices.now) (D.is_output devices.now) (D.is_standard devices.now) D.is_closed
-        D.Input.reports D.Input.to_come D.Input.has_failed D.Output.reports D.Output.taken D.Output.has_failed job.now) }
+    ensures { IfOk result (IsDone (D.is_input devices.now) (D.is_output devices.now)
+        (D.is_standard devices.now) D.is_closed D.Input.reports D.Input.to_come D.Input.has_failed
+        D.Output.reports D.Output.taken D.Output.has_failed job.now) }
 {
     match job {
         Job::Check(files) => check(alloc, devices, files.as_slice()),

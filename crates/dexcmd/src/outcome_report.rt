@@ -59,8 +59,11 @@ fn add_fault(
     is_closed: bool,
 ) -> Result<(), AllocError>
     requires { HasName (length names.now) fault.now }
-    ensures status { OnOk result (report.new.status ≡ max report.old.status (exit_status fault.now)) }
-    ensures lines { OnOk result (map string_bytes report.new.lines.items ≡ map string_bytes report.old.lines.items ++ fault_lines (map (λ name. name.now) names.now) out.now is_closed fault.now) }
+    ensures status { OnOk result (report.new.status
+        ≡ max report.old.status (exit_status fault.now)) }
+    ensures lines { OnOk result
+        (map string_bytes report.new.lines.items ≡ map string_bytes report.old.lines.items
+        ++ fault_lines (map (λ name. name.now) names.now) out.now is_closed fault.now) }
 {
     let (status, line) = explain(alloc, fault, names, out)?;
     report.status = report.status.max(status);
@@ -80,8 +83,11 @@ pub(crate) fn add_outcome(
     is_closed: bool,
 ) -> Result<(), AllocError>
     requires { IfErr outcome (HasName (length names.now)) }
-    ensures status { OnOk result (report.new.status ≡ max report.old.status (outcome_status outcome)) }
-    ensures lines { OnOk result (map string_bytes report.new.lines.items ≡ map string_bytes report.old.lines.items ++ outcome_lines (map (λ name. name.now) names.now) out.now is_closed outcome) }
+    ensures status { OnOk result (report.new.status
+        ≡ max report.old.status (outcome_status outcome)) }
+    ensures lines { OnOk result
+        (map string_bytes report.new.lines.items ≡ map string_bytes report.old.lines.items
+        ++ outcome_lines (map (λ name. name.now) names.now) out.now is_closed outcome) }
 {
     match outcome {
         Ok(status) => {
@@ -101,7 +107,8 @@ pub(crate) fn report_of(
     is_closed: bool,
 ) -> Result<Report, AllocError>
     requires { IfErr outcome (HasName (length names.now)) }
-    ensures { IfOk result (IsReport (outcome_status outcome) (outcome_lines (map (λ name. name.now) names.now) out.now is_closed outcome)) }
+    ensures { IfOk result (IsReport (outcome_status outcome)
+        (outcome_lines (map (λ name. name.now) names.now) out.now is_closed outcome)) }
 {
     let mut report = empty_report(alloc);
     add_outcome(alloc, &mut report, outcome, names, out, is_closed)?;

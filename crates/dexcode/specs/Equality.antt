@@ -9,12 +9,12 @@ use Rattle.std.specs.Hash as fed
 use Rattle.dexcode.specs.declared.handlers.Catch.{Catch}
 use Rattle.dexcode.specs.Numbered.{NumberedHandler, same_catch, same_handler}
 
-no_answer : false ≡ true → ⊥
-no_answer e = cc
+false_is_not_true : false ≡ true → ⊥
+false_is_not_true e = cc
 
 pub both : (a b : Bool) → a ≡ true → b ≡ true → (a && b) ≡ true
 both true b h k = k
-both false b h k = absurd (no_answer h)
+both false b h k = absurd (false_is_not_true h)
 
 pub catch_decides : (c d : Catch) → Decides (same_catch c d) (c ≡ d)
 catch_decides c d = (
@@ -34,8 +34,8 @@ is_there (Some n) = true
 
 pub option_decides : (a b : Option ℕ) → Decides (option_eq ◌==◌ a b) (a ≡ b)
 option_decides None None = (λ e. refl, λ e. refl)
-option_decides None (Some b) = (λ e. absurd (no_answer e), λ e. ap is_there e)
-option_decides (Some a) None = (λ e. absurd (no_answer e), λ e. sym (ap is_there e))
+option_decides None (Some b) = (λ e. absurd (false_is_not_true e), λ e. ap is_there e)
+option_decides (Some a) None = (λ e. absurd (false_is_not_true e), λ e. sym (ap is_there e))
 option_decides (Some a) (Some b) = (λ e. ap Some ((unsigned_Decides a b).0 e), λ e. (unsigned_Decides a b).1 (ap (value_of 0) e))
 
 pub handler_decides : (h k : NumberedHandler) → Decides (same_handler h k) (h ≡ k)

@@ -18,7 +18,8 @@ use std::alloc::Global;
 #[inline(always)]
 fn read_address(bytes: &[u8], at: usize, starts: &InstructionStarts<'_>) -> Option<(u32, usize)>
     requires { at ≤ length bytes.now }
-    ensures none { IfNone result ((a n : ℕ) → Uleb128At bytes.now at a n → IsStart starts.now a → ⊥) }
+    ensures none { IfNone result ((a n : ℕ) → Uleb128At bytes.now at a n → IsStart starts.now a
+        → ⊥) }
     ensures address { IfSome result (λ x. Uleb128At bytes.now at x.0 x.1) }
     ensures start { IfSome result (λ x. IsStart starts.now x.0) }
 {
@@ -43,7 +44,8 @@ fn read_catch(
     types: usize,
 ) -> Option<(Catch, usize)>
     requires { at ≤ length bytes.now }
-    ensures none { IfNone result ((c : Caught) (n : ℕ) → CatchAt starts.now types bytes.now at c n → ⊥) }
+    ensures none { IfNone result ((c : Caught) (n : ℕ) → CatchAt starts.now types bytes.now at c n
+        → ⊥) }
     ensures some { IfSome result (λ x. CatchAt starts.now types bytes.now at x.0 x.1) }
     ensures within { IfSome result (λ x. at + x.1 ≤ length bytes.now) }
 {
@@ -93,7 +95,8 @@ fn read_catches(
     types: usize,
 ) -> Result<(Vec<Catch>, usize), ItemFault>
     requires { at ≤ length bytes.now }
-    ensures catches { IfOk result (λ x. CatchesRead starts.now types bytes.now at count x.0.items x.1) }
+    ensures catches { IfOk result (λ x.
+        CatchesRead starts.now types bytes.now at count x.0.items x.1) }
     ensures fault { IfErr result (IsTriesFault (NoCatches starts.now types bytes.now at count)) }
 {
     let mut catches = Vec::with_capacity(alloc, count)?;
@@ -119,7 +122,8 @@ fn read_catch_all(
     starts: &InstructionStarts<'_>,
 ) -> Option<(Option<u32>, usize)>
     requires { at ≤ length bytes.now }
-    ensures none { IfNone result ((a : Option ℕ) (n : ℕ) → CatchAllAt starts.now size bytes.now at a n → ⊥) }
+    ensures none { IfNone result ((a : Option ℕ) (n : ℕ)
+        → CatchAllAt starts.now size bytes.now at a n → ⊥) }
     ensures some { IfSome result (λ x. CatchAllAt starts.now size bytes.now at x.0 x.1) }
     ensures within { IfSome result (λ x. at + x.1 ≤ length bytes.now) }
 {

@@ -38,7 +38,8 @@ pub(crate) fn checked_debug_at(
     checked: &mut CheckedDebugs,
 ) -> Result<u64, ItemFault>
     requires { ArePools frame.now pools.now → AreCheckedDebugs frame.now checked.old }
-    ensures checked { ArePools frame.now pools.now → OnOk result (AreCheckedDebugs frame.now checked.new) }
+    ensures checked { ArePools frame.now pools.now
+        → OnOk result (AreCheckedDebugs frame.now checked.new) }
     ensures debug { ArePools frame.now pools.now → IfOk result (HasDebugAt frame.now off) }
     ensures refused { ArePools frame.now pools.now → IfErr result (IsDebugFault frame.now off) }
 {

@@ -65,7 +65,8 @@ impl<'a> Code<'a> {
     ///
     /// Source: "code_item", the field `debug_info_off`.
     pub fn debug(&self) -> Option<&Debug>
-        ensures { MatchOption result (self.now.debug ≡ None) (λ debug. self.now.debug ≡ Some debug.now) }
+        ensures { MatchOption result (self.now.debug ≡ None) (λ debug.
+            self.now.debug ≡ Some debug.now) }
     {
         match &self.debug {
             Some(debug) => Some(debug),

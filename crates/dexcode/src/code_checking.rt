@@ -51,7 +51,8 @@ fn check_program(
 ) -> Result<u64, ItemFault>
     requires within { off + 16 ≤ length frame.now }
     requires checked { ArePools frame.now pools.now → AreCheckedDebugs frame.now checked.old }
-    ensures checked { ArePools frame.now pools.now → OnOk result (AreCheckedDebugs frame.now checked.new) }
+    ensures checked { ArePools frame.now pools.now
+        → OnOk result (AreCheckedDebugs frame.now checked.new) }
     ensures program { ArePools frame.now pools.now → IfOk result (HasProgramOf frame.now off) }
     ensures refused { ArePools frame.now pools.now → IfErr result (IsProgramFault frame.now off) }
 {
@@ -78,7 +79,8 @@ pub fn check_code(
     off: u32,
     scratch: &mut Scratch,
 ) -> Result<CodeShape, ItemFault>
-    ensures code { ArePools frame.now pools.now → IfOk result (λ shape. HasCodeOf frame.now off shape.weight) }
+    ensures code { ArePools frame.now pools.now
+        → IfOk result (λ shape. HasCodeOf frame.now off shape.weight) }
     ensures refused { ArePools frame.now pools.now → IfErr result (IsCodeFault frame.now off) }
 {
     let mut checked = CheckedDebugs::none(alloc);
@@ -102,8 +104,10 @@ pub fn check_code_once(
     checked: &mut CheckedDebugs,
 ) -> Result<CodeShape, ItemFault>
     requires { ArePools frame.now pools.now → AreCheckedDebugs frame.now checked.old }
-    ensures checked { ArePools frame.now pools.now → OnOk result (AreCheckedDebugs frame.now checked.new) }
-    ensures code { ArePools frame.now pools.now → IfOk result (λ shape. HasCodeOf frame.now off shape.weight) }
+    ensures checked { ArePools frame.now pools.now
+        → OnOk result (AreCheckedDebugs frame.now checked.new) }
+    ensures code { ArePools frame.now pools.now
+        → IfOk result (λ shape. HasCodeOf frame.now off shape.weight) }
     ensures refused { ArePools frame.now pools.now → IfErr result (IsCodeFault frame.now off) }
 {
     code_weight_law();

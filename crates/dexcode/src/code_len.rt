@@ -83,7 +83,8 @@ impl<'a> Code<'a> {
     ///
     /// Source: "code_item".
     pub fn item_len(&self) -> usize
-        ensures numbered { (debug_off : ℕ) → result ≡ length (numbered_code_bytes debug_off self.now) }
+        ensures numbered { (debug_off : ℕ)
+            → result ≡ length (numbered_code_bytes debug_off self.now) }
         ensures symbolic { IsCodeLen self.now result }
     {
         code_bytes_law();

@@ -79,7 +79,8 @@ impl<'a> Code<'a> {
     ///
     /// Source: "code_item".
     pub fn same_mapped(&self, mine: &Remap, other: &Code<'_>, theirs: &Remap) -> bool
-        ensures { IsTrue result ↔ (renumbered_item mine.now self.now ≡ renumbered_item theirs.now other.now) }
+        ensures { IsTrue result
+            ↔ (renumbered_item mine.now self.now ≡ renumbered_item theirs.now other.now) }
     {
         if !self.pieces.same_mapped(mine, &other.pieces, theirs) {
             return false;

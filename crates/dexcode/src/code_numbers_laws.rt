@@ -25,7 +25,8 @@ pub fn code_places_law()
 /// Each symbol that a call marks is marked afterwards. Where a numbering keeps just the symbols that are marked, and
 /// those that they name, the number of each has an image. So the numbers in code have images if its symbols are marked.
 pub fn code_kept_law()
-    ensures marked { (us : List Use) (old new : Marks) → AreMarkedToo us old new → All (IsMarkedUse new) us }
+    ensures marked { (us : List Use) (old new : Marks) → AreMarkedToo us old new
+        → All (IsMarkedUse new) us }
     ensures images { MarkedUsesHaveImages }
     ensures code { (r : Maps) (c : NumberedItem) → All (HasImage r) (item_uses c) → HasImages r c }
 {}

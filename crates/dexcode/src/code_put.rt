@@ -117,7 +117,8 @@ fn encode_items<O: Output>(tries: &[Try], places: &[u16], out: &mut O)
 fn encode_table<O: Output>(tries: &[Try], handlers: &[Handler], places: &[u16], out: &mut O)
     requires stored { AreStored handlers.now tries.now }
     requires placed { ArePlaces handlers.now places.now }
-    ensures { O.gives (numbered_table_bytes handlers.now (all_named handlers.now tries.now)) out.old out.new }
+    ensures { O.gives
+        (numbered_table_bytes handlers.now (all_named handlers.now tries.now)) out.old out.new }
 {
     encode_items(tries, places, out);
     encode_list(handlers, out);
@@ -142,7 +143,8 @@ fn encode_tries<O: Output>(
 )
     requires stored { AreStored handlers.now tries.now }
     requires placed { ArePlaces handlers.now places.now }
-    ensures { O.gives (numbered_tries_bytes units (all_named handlers.now tries.now)) out.old out.new }
+    ensures { O.gives
+        (numbered_tries_bytes units (all_named handlers.now tries.now)) out.old out.new }
 {
     if tries.is_empty() {
         return;
@@ -153,7 +155,8 @@ fn encode_tries<O: Output>(
 
 // Writes the numbers before the units.
 fn encode_head<O: Output>(pieces: &Pieces<'_>, tries: u16, debug_off: u32, out: &mut O)
-    ensures { O.gives (numbered_head_bytes debug_off tries pieces.now (unit_count pieces.now)) out.old out.new }
+    ensures { O.gives
+        (numbered_head_bytes debug_off tries pieces.now (unit_count pieces.now)) out.old out.new }
 {
     out.u16(pieces.registers());
     out.u16(pieces.ins());

@@ -13,7 +13,8 @@ use crate::operations::entry_equality_law;
 /// the rank of its symbol. They are no more than it weighs.
 pub fn debug_bytes_law()
     ensures bytes { DebugBytesAreDenoted }
-    ensures few { (d : NumberedDebug) → length (numbered_debug_bytes d) ≤ debug_weight (unindexed d) }
+    ensures few { (d : NumberedDebug)
+        → length (numbered_debug_bytes d) ≤ debug_weight (unindexed d) }
 {}
 
 /// A numbered debug program weighs as much as the program that it denotes, and has the same positions.

@@ -66,7 +66,8 @@ fn keep(
     address: u64,
     line: i64,
 ) -> Result<(), AllocError>
-    ensures { OnOk result (found.new.items ≡ with_position is_recorded found.old.items address line) }
+    ensures { OnOk result (found.new.items
+        ≡ with_position is_recorded found.old.items address line) }
 {
     if is_recorded {
         found.push((address, line))?;

@@ -39,7 +39,8 @@ fn encode_local<O: Output>(
 )
     requires name { FitsIndex name_idx }
     requires typ { FitsIndex type_idx }
-    ensures { O.gives (uleb128 register_num ++ (uleb128p1 name_idx ++ uleb128p1 type_idx)) out.old out.new }
+    ensures { O.gives (uleb128 register_num
+        ++ (uleb128p1 name_idx ++ uleb128p1 type_idx)) out.old out.new }
 {
     out.uleb(register_num);
     encode_index(name_idx, out);
@@ -196,7 +197,8 @@ pub fn put_debug(
     ensures bytes { Puts (numbered_debug_bytes debug.now) out.old out.new result }
     ensures symbolic { PutsDenotedDebug numbering.now debug.now out.old out.new result }
     ensures bound { length (numbered_debug_bytes debug.now) ≤ debug_weight (unindexed debug.now) }
-    ensures room { vec_len out.old + debug_weight (unindexed debug.now) ≤ vec_capacity out.old → IsOk result }
+    ensures room { vec_len out.old + debug_weight (unindexed debug.now) ≤ vec_capacity out.old
+        → IsOk result }
 {
     numbering.is_numbering();
     debug_bytes_law();

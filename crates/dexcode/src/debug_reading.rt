@@ -119,7 +119,8 @@ fn local_at(
     counts: Counts,
 ) -> Option<(u32, Option<u32>, Option<u32>, usize)>
     requires { at ≤ length bytes.now }
-    ensures found { IfSome result (λ read. LocalAt counts bytes.now at read.0 read.1 read.2 read.3) }
+    ensures found { IfSome result (λ read.
+        LocalAt counts bytes.now at read.0 read.1 read.2 read.3) }
     ensures within { IfSome result (λ read. at + read.3 ≤ length bytes.now) }
     ensures only { IsOnlyLocal counts bytes.now at result }
 {
@@ -141,7 +142,8 @@ fn operation_at(bytes: &[u8], at: usize, opcode: u8, counts: Counts) -> Option<(
     requires some { 0 < opcode }
     ensures found { IfSome result (λ read. OperandsAt counts opcode bytes.now at read.0 read.1) }
     ensures within { IfSome result (λ read. at + read.1 ≤ length bytes.now) }
-    ensures only { (op : Operation) (n : ℕ) → OperandsAt counts opcode bytes.now at op n → result ≡ Some (op, n) }
+    ensures only { (op : Operation) (n : ℕ) → OperandsAt counts opcode bytes.now at op n
+        → result ≡ Some (op, n) }
 {
     match opcode {
         DBG_ADVANCE_PC => {
@@ -193,7 +195,8 @@ fn operation_at(bytes: &[u8], at: usize, opcode: u8, counts: Counts) -> Option<(
 // The end of `count` names from an offset on, if they are there.
 fn names_end(bytes: &[u8], from: usize, count: u32, texts: usize) -> Option<usize>
     requires { from ≤ length bytes.now }
-    ensures { MatchOption result (NoNames texts bytes.now from count) (EndNames texts bytes.now from count) }
+    ensures { MatchOption result (NoNames texts bytes.now from count)
+        (EndNames texts bytes.now from count) }
 {
     let mut at = from;
     for _ in 0..count {
@@ -210,7 +213,8 @@ fn check_operations(bytes: &[u8], from: usize, counts: Counts) -> Option<Tally>
     requires within { from ≤ length bytes.now }
     requires following { 0 < from }
     requires small { length bytes.now ≤ 2 ^ 30 }
-    ensures { MatchOption result (NoProgram counts bytes.now from) (AreTallied counts bytes.now from) }
+    ensures { MatchOption result (NoProgram counts bytes.now from)
+        (AreTallied counts bytes.now from) }
 {
     let mut operations = 0;
     let mut named: usize = 0;
@@ -241,7 +245,8 @@ fn check_operations(bytes: &[u8], from: usize, counts: Counts) -> Option<Tally>
 fn check_numbered(bytes: &[u8], at: usize, counts: Counts) -> Option<DebugShape>
     requires within { at ≤ length bytes.now }
     requires small { length bytes.now ≤ 2 ^ 30 }
-    ensures { MatchOption result (NoNumberedDebug counts bytes.now at) (IsShape counts bytes.now at) }
+    ensures { MatchOption result (NoNumberedDebug counts bytes.now at)
+        (IsShape counts bytes.now at) }
 {
     let (line_start, start_len) = match number_at(bytes, at) {
         Some(read) => read,
@@ -351,7 +356,8 @@ fn counts_of(pools: &Pools<'_>) -> Counts
 
 // The shape of the debug_info_item at an offset, if one is there.
 fn shape_at(frame: &Frame<'_>, pools: &Pools<'_>, off: u32) -> Option<DebugShape>
-    ensures { MatchOption result (HasNoDebugIn frame.now off pools.now) (IsShapeAt frame.now off pools.now) }
+    ensures { MatchOption result (HasNoDebugIn frame.now off pools.now)
+        (IsShapeAt frame.now off pools.now) }
 {
     let bytes = frame.bytes();
     if off < frame.data_off() || bytes.len() < off as usize {
@@ -368,7 +374,8 @@ fn shape_at(frame: &Frame<'_>, pools: &Pools<'_>, off: u32) -> Option<DebugShape
 /// Source: "debug_info_item".
 pub fn check_debug(frame: &Frame<'_>, pools: &Pools<'_>, off: u32) -> Result<DebugShape, ItemFault>
     ensures shape { IfOk result (IsShapeAt frame.now off pools.now) }
-    ensures debug { ArePools frame.now pools.now → IfOk result (HasDebugOfShape frame.now off pools.now) }
+    ensures debug { ArePools frame.now pools.now
+        → IfOk result (HasDebugOfShape frame.now off pools.now) }
     ensures refused { ArePools frame.now pools.now → IfErr result (IsDebugFault frame.now off) }
 {
     match shape_at(frame, pools, off) {

@@ -28,14 +28,16 @@ fn eq_remapped(
     theirs: &Remap,
     other: Option<u32>,
 ) -> bool
-    ensures { IsTrue result ↔ (image_or_none mine.now kind number ≡ image_or_none theirs.now kind other) }
+    ensures { IsTrue result
+        ↔ (image_or_none mine.now kind number ≡ image_or_none theirs.now kind other) }
 {
     image(mine, kind, number) == image(theirs, kind, other)
 }
 
 // Returns whether two operations are equal once remapped.
 fn eq_operations(mine: &Remap, operation: &Operation, theirs: &Remap, other: &Operation) -> bool
-    ensures { IsTrue result ↔ EqualRemapped renumbered_operation mine.now theirs.now operation.now other.now }
+    ensures { IsTrue result
+        ↔ EqualRemapped renumbered_operation mine.now theirs.now operation.now other.now }
 {
     if !operation.unindexed().is_same(&other.unindexed()) {
         return false;
@@ -69,7 +71,8 @@ fn eq_operations(mine: &Remap, operation: &Operation, theirs: &Remap, other: &Op
 
 // Returns whether two lists of names are equal once remapped.
 fn same_names(mine: &Remap, names: &[Option<u32>], theirs: &Remap, others: &[Option<u32>]) -> bool
-    ensures { IsTrue result ↔ (map (image_or_none mine.now kinds.Text) names.now ≡ map (image_or_none theirs.now kinds.Text) others.now) }
+    ensures { IsTrue result ↔ (map (image_or_none mine.now kinds.Text) names.now
+        ≡ map (image_or_none theirs.now kinds.Text) others.now) }
 {
     if names.len() != others.len() {
         return false;
@@ -89,7 +92,8 @@ fn same_operations(
     theirs: &Remap,
     others: &Operations,
 ) -> bool
-    ensures { IsTrue result ↔ SameRemapped renumbered_operation mine.now theirs.now operations.now others.now }
+    ensures { IsTrue result
+        ↔ SameRemapped renumbered_operation mine.now theirs.now operations.now others.now }
 {
     if operations.len() != others.len() {
         return false;
@@ -106,7 +110,8 @@ impl Debug {
     /// Returns whether two debug programs are the same after each is mapped by its own map. A number without an image
     /// counts as none.
     pub fn same_mapped(&self, mine: &Remap, other: &Debug, theirs: &Remap) -> bool
-        ensures { IsTrue result ↔ (renumbered_debug mine.now self.now ≡ renumbered_debug theirs.now other.now) }
+        ensures { IsTrue result
+            ↔ (renumbered_debug mine.now self.now ≡ renumbered_debug theirs.now other.now) }
     {
         if self.line_start != other.line_start {
             return false;

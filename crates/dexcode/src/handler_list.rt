@@ -42,7 +42,8 @@ fn read_handlers(
     requires order { list ≤ first }
     requires within { first ≤ length bytes.now }
     ensures handlers { IfOk result (HaveHandlers starts.now types bytes.now list first count) }
-    ensures fault { IfErr result (IsTriesFault (NoHandlers starts.now types bytes.now first count)) }
+    ensures fault { IfErr result
+        (IsTriesFault (NoHandlers starts.now types bytes.now first count)) }
 {
     let mut numbers = Vec::new(alloc);
     let mut size = 0;

@@ -15,15 +15,19 @@ use dexpool::number_law;
 pub fn debug_meaning_law()
     ensures known { DenotingDebugIsKnown }
     ensures meant { DenotedDebugIsMeant }
-    ensures encodes { (m : Mentions) (d : NumberedDebug) → IsKnownDebug m d → DenotesDebug m d (debug_in m d) }
+    ensures encodes { (m : Mentions) (d : NumberedDebug) → IsKnownDebug m d
+        → DenotesDebug m d (debug_in m d) }
 {}
 
 /// A numbered code item denotes code just where its numbers are those of symbols of the right kind, and then the code
 /// that has these symbols for the numbers.
 pub fn code_meaning_law()
-    ensures known { (m : Mentions) (c : NumberedItem) (x : symbolic.Code) → DenotesCode m c x → IsKnownCode m c }
-    ensures meant { (m : Mentions) (c : NumberedItem) (x : symbolic.Code) → DenotesCode m c x → x ≡ code_in m c }
-    ensures encodes { (m : Mentions) (c : NumberedItem) → IsKnownCode m c → DenotesCode m c (code_in m c) }
+    ensures known { (m : Mentions) (c : NumberedItem) (x : symbolic.Code) → DenotesCode m c x
+        → IsKnownCode m c }
+    ensures meant { (m : Mentions) (c : NumberedItem) (x : symbolic.Code) → DenotesCode m c x
+        → x ≡ code_in m c }
+    ensures encodes { (m : Mentions) (c : NumberedItem) → IsKnownCode m c
+        → DenotesCode m c (code_in m c) }
 {}
 
 /// Where each number of a debug program has an image, the program denotes the same once renumbered. Debug programs of

@@ -48,8 +48,12 @@ pub(crate) fn number_of(
     numbers: &mut Vec<Option<usize>>,
 ) -> Result<usize, ItemFault>
     requires { list + off ≤ length bytes.now }
-    ensures number { (h : NumberedHandler) → IsHandlerAt starts.now types bytes.now (list + off) h → AreKnown starts.now types bytes.now list handlers.old.keys numbers.old.items → IfOk result (IsNumberOf starts.now types bytes.now list h handlers.old.keys handlers.new.keys numbers.new.items) }
-    ensures fault { IfErr result (IsTriesFault (HasNoHandler starts.now types bytes.now (list + off))) }
+    ensures number { (h : NumberedHandler) → IsHandlerAt starts.now types bytes.now (list + off) h
+        → AreKnown starts.now types bytes.now list handlers.old.keys numbers.old.items
+        → IfOk result (IsNumberOf starts.now types bytes.now list h handlers.old.keys
+        handlers.new.keys numbers.new.items) }
+    ensures fault { IfErr result
+        (IsTriesFault (HasNoHandler starts.now types bytes.now (list + off))) }
 {
     if let Some(number) = number_at(numbers, off) {
         return Ok(number);

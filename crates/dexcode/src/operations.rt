@@ -91,7 +91,8 @@ pub(crate) fn entry_of(operation: Operation, named: usize) -> Entry
 
 // Keeps an operation, if it has places.
 pub(crate) fn keep_named(named: &mut Vec<Operation>, operation: Operation) -> Result<(), AllocError>
-    ensures { OnOk result (named.new.items ≡ named.old.items ++ filter has_places (operation ∷ [])) }
+    ensures { OnOk result (named.new.items
+        ≡ named.old.items ++ filter has_places (operation ∷ [])) }
 {
     if operation.has_places() {
         named.push(operation)?;

@@ -53,7 +53,8 @@ impl Tries {
     ///
     /// Source: "try_item".
     pub fn tries(&self) -> &[Try]
-        ensures tries { (hs : List NumberedHandler) → hs ≡ handlers_of self.now → all_named hs result.now ≡ self.now }
+        ensures tries { (hs : List NumberedHandler) → hs ≡ handlers_of self.now
+            → all_named hs result.now ≡ self.now }
         ensures within { All (λ t. t.handler < length (handlers_of self.now)) result.now }
     {
         self.parts().0

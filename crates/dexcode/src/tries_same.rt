@@ -18,7 +18,8 @@ fn remapped_type(remap: &Remap, typ: u32) -> usize
 
 // Whether the catches are equal once their types are remapped.
 fn same_catch(mine: &Remap, catch: Catch, theirs: &Remap, other: Catch) -> bool
-    ensures { IsTrue result ↔ (renumbered_catch mine.now catch ≡ renumbered_catch theirs.now other) }
+    ensures { IsTrue result
+        ↔ (renumbered_catch mine.now catch ≡ renumbered_catch theirs.now other) }
 {
     if catch.addr != other.addr {
         return false;
@@ -28,7 +29,8 @@ fn same_catch(mine: &Remap, catch: Catch, theirs: &Remap, other: Catch) -> bool
 
 // Whether the catches are equal, one for one, once their types are remapped.
 fn same_catches(mine: &Remap, catches: &[Catch], theirs: &Remap, others: &[Catch]) -> bool
-    ensures { IsTrue result ↔ SameRemapped renumbered_catch mine.now theirs.now catches.now others.now }
+    ensures { IsTrue result
+        ↔ SameRemapped renumbered_catch mine.now theirs.now catches.now others.now }
 {
     if catches.len() != others.len() {
         return false;
@@ -43,7 +45,8 @@ fn same_catches(mine: &Remap, catches: &[Catch], theirs: &Remap, others: &[Catch
 
 // Whether the handlers are equal once their types are remapped.
 fn same_handler(mine: &Remap, handler: &Handler, theirs: &Remap, other: &Handler) -> bool
-    ensures { IsTrue result ↔ EqualRemapped renumbered_handler mine.now theirs.now handler.now other.now }
+    ensures { IsTrue result
+        ↔ EqualRemapped renumbered_handler mine.now theirs.now handler.now other.now }
 {
     if handler.catch_all_addr != other.catch_all_addr {
         return false;
@@ -96,7 +99,8 @@ fn same_tries(
 ) -> bool
     requires within { All (λ t. t.handler < length handlers.now) tries.now }
     requires others { All (λ t. t.handler < length other_handlers.now) others.now }
-    ensures { IsTrue result ↔ SameTries mine.now handlers.now tries.now theirs.now other_handlers.now others.now }
+    ensures { IsTrue result
+        ↔ SameTries mine.now handlers.now tries.now theirs.now other_handlers.now others.now }
 {
     if tries.len() != others.len() {
         return false;
@@ -125,7 +129,8 @@ fn same_tries(
 impl Tries {
     // Whether these and other tries are equal once the types of each are remapped by a map of its own.
     pub(crate) fn same_mapped(&self, mine: &Remap, other: &Tries, theirs: &Remap) -> bool
-        ensures { IsTrue result ↔ SameRemapped renumbered_try mine.now theirs.now self.now other.now }
+        ensures { IsTrue result
+            ↔ SameRemapped renumbered_try mine.now theirs.now self.now other.now }
     {
         let (tries, handlers) = self.parts();
         let (others, other_handlers) = other.parts();

@@ -16,7 +16,8 @@ use std::alloc::Global;
 fn read_try(bytes: &[u8], at: usize, units: u32, numbers: &[Option<u32>]) -> Option<Try>
     requires { at + 8 ≤ length bytes.now }
     ensures some { IfSome result (λ t. ListedTryAt units numbers.now bytes.now at t 8) }
-    ensures none { IfNone result ((t : Meant) (n : ℕ) → ListedTryAt units numbers.now bytes.now at t n → ⊥) }
+    ensures none { IfNone result ((t : Meant) (n : ℕ)
+        → ListedTryAt units numbers.now bytes.now at t n → ⊥) }
 {
     let start_addr = u32_at(bytes, at);
     let insn_count = u16_at(bytes, at + 4);
@@ -46,7 +47,8 @@ pub(crate) fn read_try_items(
     numbers: &[Option<u32>],
 ) -> Result<Vec<Try>, ItemFault>
     requires { at + 8 * count ≤ length bytes.now }
-    ensures tries { IfOk result (λ tries. AreTriesRead units numbers.now bytes.now at count tries.items) }
+    ensures tries { IfOk result (λ tries.
+        AreTriesRead units numbers.now bytes.now at count tries.items) }
     ensures fault { IfErr result (IsTriesFault (NoTries units numbers.now bytes.now at count)) }
 {
     let mut tries = Vec::with_capacity(alloc, usize::from(count))?;

@@ -24,8 +24,10 @@ pub(crate) fn read_try_table(
     types: usize,
 ) -> Result<Tries, ItemFault>
     requires { at ≤ length bytes.now }
-    ensures tries { IfOk result (λ tries. TryItemsAt starts.now types units bytes.now at count tries) }
-    ensures fault { IfErr result (IsTriesFault (NoTryItems starts.now types units bytes.now at count)) }
+    ensures tries { IfOk result (λ tries.
+        TryItemsAt starts.now types units bytes.now at count tries) }
+    ensures fault { IfErr result
+        (IsTriesFault (NoTryItems starts.now types units bytes.now at count)) }
 {
     let size = 8 * usize::from(count);
     if bytes.len() - at <= size {

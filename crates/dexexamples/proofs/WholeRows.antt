@@ -17,7 +17,7 @@ use Rattle.dexspec.specs.Conditions.{Condition}
 use Rattle.dexspec.specs.Accepted.{HoldsThroughout, IsDefinedBefore, parent_indices}
 use Rattle.dexspec.proofs.determined.OneRow.{one_string}
 use Rattle.dexexamples.specs.Examples.{object, body_under}
-use Rattle.dexexamples.specs.ExpectedFiles.{front_a, file_a}
+use Rattle.dexexamples.specs.ExpectedFiles.{prefix_a, file_a}
 use Rattle.dexexamples.specs.Whole.{whole_a}
 
 -- ---- texts and types
@@ -68,7 +68,7 @@ class_of_object = record {
 pub data_of_a : IsStringData (0x03 ∷ 0x4c ∷ 0x41 ∷ 0x3b ∷ 0x00 ∷ []) (codes "LA;")
 data_of_a = record { count = 0x03 ∷ []; says = record { chain = omega arith; few = omega arith; value = refl; in_range = omega arith }; units = units_by (codes "LA;") refl; parts = refl }
 
-pub data_of_object : IsStringData (take 20 (drop 0xa5 (front_a ++ file_a))) object
+pub data_of_object : IsStringData (take 20 (drop 0xa5 (prefix_a ++ file_a))) object
 data_of_object = record { count = 0x12 ∷ []; says = record { chain = omega arith; few = omega arith; value = refl; in_range = omega arith }; units = units_by object refl; parts = refl }
 
 -- ---- conditions 11 and 12

@@ -25,14 +25,18 @@ pub fn weights()
 /// A text's index is the number of lesser texts that are mentioned, which grows with the classes.
 pub fn ranks()
     ensures alone { rank text_cmp (codes "zz") (mentions (class_p (codes "zz") ∷ [])).texts ≡ 4 }
-    ensures together { rank text_cmp (codes "zz") (mentions (class_p (codes "zz") ∷ class_d ∷ [])).texts ≡ 5 }
-    ensures types { (mentions (class_a ∷ class_b ∷ [])).types ≡ codes "LA;" ∷ codes "LB;" ∷ object ∷ [] }
+    ensures together { rank text_cmp (codes "zz")
+        (mentions (class_p (codes "zz") ∷ class_d ∷ [])).texts ≡ 5 }
+    ensures types { (mentions (class_a ∷ class_b ∷ [])).types ≡ codes "LA;" ∷ codes "LB;"
+        ∷ object ∷ [] }
 {}
 
 /// A class comes after its superclass, whatever their names are and in whatever order they are given.
 pub fn class_order()
-    ensures one_way { in_class_order (class_z ∷ class_b_under_z ∷ []) ≡ class_z ∷ class_b_under_z ∷ [] }
-    ensures other_way { in_class_order (class_b_under_z ∷ class_z ∷ []) ≡ class_z ∷ class_b_under_z ∷ [] }
+    ensures one_way { in_class_order (class_z ∷ class_b_under_z ∷ [])
+        ≡ class_z ∷ class_b_under_z ∷ [] }
+    ensures other_way { in_class_order (class_b_under_z ∷ class_z ∷ [])
+        ≡ class_z ∷ class_b_under_z ∷ [] }
     ensures by_name { in_class_order (class_d ∷ class_a ∷ []) ≡ class_a ∷ class_d ∷ [] }
 {}
 

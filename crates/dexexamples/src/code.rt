@@ -35,14 +35,16 @@ pub fn no_piece()
 
 /// Targets that are not valid: into an instruction, past the end, a payload of another kind.
 pub fn wrong_targets()
-    ensures inside { has_right_targets packed_bad_target (cut 0 3 ∷ cut 3 1 ∷ cut 4 6 ∷ []) (cut 0 3) ≡ false }
+    ensures inside { has_right_targets packed_bad_target (cut 0 3 ∷ cut 3 1 ∷ cut 4 6 ∷ [])
+        (cut 0 3) ≡ false }
     ensures outside { has_right_targets (0x2028 ∷ []) (cut 0 1 ∷ []) (cut 0 1) ≡ false }
     ensures other_kind { has_right_targets sparse_as_packed sparse_cuts (cut 0 3) ≡ false }
 {}
 
 /// Addresses and lines that debug programs record.
 pub fn positions_are()
-    ensures two { positions (debug_of 10 (Special 0x0e ∷ Special 0x1e ∷ [])) ≡ (0, pos 10) ∷ (1, pos 11) ∷ [] }
+    ensures two { positions (debug_of 10 (Special 0x0e ∷ Special 0x1e ∷ []))
+        ≡ (0, pos 10) ∷ (1, pos 11) ∷ [] }
     ensures advanced { positions five_on ≡ (5, pos 7) ∷ [] }
     ensures greatest { positions (debug_of 0 (Special 0xff ∷ [])) ≡ (16, pos 1) ∷ [] }
     ensures negative { positions (debug_of 0 (Special 0x0a ∷ [])) ≡ (0, negsuc 3) ∷ [] }

@@ -7,7 +7,7 @@ ghost use Rattle.dexexamples.specs.Examples.{class_a, class_p, class_debug_twice
 ghost use Rattle.dexexamples.specs.SharedFiles.{debug_twice_file, debug_first_use_file, set_twice_file, set_first_use_file, equal_sets_file, sets_kind_file, list_thrice_file, shared_by_classes_file, annotation_twice_file, code_twice_file};
 ghost use Rattle.dexspec.specs.Stripping.{strip};
 ghost use Rattle.dexspec.specs.Weight.{weight};
-ghost use Rattle.dexexamples.specs.ExpectedFiles.{empty_file, file_a, file_p, front_a, sha1_of_abc};
+ghost use Rattle.dexexamples.specs.ExpectedFiles.{empty_file, file_a, file_p, prefix_a, sha1_of_abc};
 ghost use Rattle.dexexamples.specs.Valued.{valued, valued_file};
 ghost use Rattle.dexexamples.specs.Varied.{varied, varied_file, varied_stripped};
 
@@ -21,13 +21,14 @@ pub fn layouts()
 /// SHA-1 of `abc`, and a whole file with both sums.
 pub fn sums()
     ensures word { sha1 (codes "abc") ≡ sha1_of_abc }
-    ensures file { with_sums file_a ≡ front_a ++ file_a }
+    ensures file { with_sums file_a ≡ prefix_a ++ file_a }
 {}
 
 /// Equal debug programs are written once, at the place of their first use.
 pub fn shared_debug()
     ensures twice { unsigned_file (ordered (class_debug_twice ∷ [])) ≡ debug_twice_file }
-    ensures first_use { unsigned_file (ordered (class_debug_first_use ∷ [])) ≡ debug_first_use_file }
+    ensures first_use { unsigned_file (ordered (class_debug_first_use ∷ []))
+        ≡ debug_first_use_file }
     ensures first_use_weight { weight (class_debug_first_use ∷ []) ≡ 1518 }
 {}
 
@@ -58,7 +59,8 @@ pub fn shared_by_classes()
 
 /// Nothing else is shared: equal annotations of different sets are written twice, and so is equal code.
 pub fn not_shared()
-    ensures annotations { unsigned_file (ordered (class_annotation_twice ∷ [])) ≡ annotation_twice_file }
+    ensures annotations { unsigned_file (ordered (class_annotation_twice ∷ []))
+        ≡ annotation_twice_file }
     ensures annotations_weight { weight (class_annotation_twice ∷ []) ≡ 1377 }
     ensures code { unsigned_file (ordered (strip (class_debug_twice ∷ []))) ≡ code_twice_file }
 {}

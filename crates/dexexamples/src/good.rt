@@ -25,7 +25,8 @@ pub fn with_annotations()
     ensures formed { AreWellFormed (definitions (from_entries (class_f ∷ []))) }
     ensures good { IsGood greatest_caps (definitions (from_entries (class_f ∷ []))) }
     ensures accepted { IsAccepted (canonical (from_entries (class_f ∷ []))) }
-    ensures denotes { Denotes (canonical (from_entries (class_f ∷ []))) (from_entries (class_f ∷ [])) }
+    ensures denotes { Denotes (canonical (from_entries (class_f ∷ [])))
+        (from_entries (class_f ∷ [])) }
 {
     dexlaws::normal::normal_form();
 }

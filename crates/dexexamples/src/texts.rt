@@ -9,12 +9,13 @@ ghost use Rattle.dexspec.specs.Texts.{text_cmp, spelling, string_data};
 pub fn order()
     ensures surrogate { text_cmp (0xd800 ∷ 0xdc00 ∷ []) (0xe000 ∷ []) ≡ Less }
     ensures zero_unit { text_cmp (0 ∷ []) (1 ∷ []) ≡ Less }
-    ensures front { text_cmp (codes "LA") (codes "LA;") ≡ Less }
+    ensures prefix { text_cmp (codes "LA") (codes "LA;") ≡ Less }
 {}
 
 /// Units of one, two and three bytes; a surrogate is encoded by itself.
 pub fn bytes()
-    ensures surrogates { spelling (0xd800 ∷ 0xdc00 ∷ []) ≡ 0xed ∷ 0xa0 ∷ 0x80 ∷ 0xed ∷ 0xb0 ∷ 0x80 ∷ [] }
+    ensures surrogates { spelling (0xd800 ∷ 0xdc00 ∷ []) ≡ 0xed ∷ 0xa0 ∷ 0x80 ∷ 0xed ∷ 0xb0
+        ∷ 0x80 ∷ [] }
     ensures private_use { spelling (0xe000 ∷ []) ≡ 0xee ∷ 0x80 ∷ 0x80 ∷ [] }
     ensures zero_unit { string_data (0 ∷ []) ≡ 0x01 ∷ 0xc0 ∷ 0x80 ∷ 0x00 ∷ [] }
     ensures one { string_data (1 ∷ []) ≡ 0x01 ∷ 0x01 ∷ 0x00 ∷ [] }
@@ -23,5 +24,6 @@ pub fn bytes()
 
 /// Every class or array type has the letter `L`.
 pub fn shorties()
-    ensures { shorty (codes "V") (codes "I" ∷ codes "[I" ∷ codes "Ljava/lang/Object;" ∷ []) ≡ codes "VILL" }
+    ensures { shorty (codes "V") (codes "I" ∷ codes "[I" ∷ codes "Ljava/lang/Object;" ∷ [])
+        ≡ codes "VILL" }
 {}

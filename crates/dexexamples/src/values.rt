@@ -14,7 +14,8 @@ pub fn least()
     ensures zero { value_bytes (closed []) (FloatValue 0) ≡ 0x10 ∷ 0x00 ∷ [] }
     ensures boolean { value_bytes (closed []) (BooleanValue true) ≡ 0x3f ∷ [] }
     ensures minus_one { value_bytes (closed []) (LongValue (negsuc 0)) ≡ 0x06 ∷ 0xff ∷ [] }
-    ensures double { value_bytes (closed []) (DoubleValue 0x3ff0000000000000) ≡ 0x31 ∷ 0xf0 ∷ 0x3f ∷ [] }
+    ensures double { value_bytes (closed []) (DoubleValue 0x3ff0000000000000)
+        ≡ 0x31 ∷ 0xf0 ∷ 0x3f ∷ [] }
     ensures array { value_bytes (closed []) null_array ≡ 0x1c ∷ 0x01 ∷ 0x1e ∷ [] }
 {}
 

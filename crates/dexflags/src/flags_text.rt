@@ -89,7 +89,8 @@ fn has_flag<F: Flags>(flags: &F, flag: &Flag<F>) -> bool
 fn grow_by_names<F: Flags>(flags: &F, out: &mut Vec<u8>) -> Result<(), AllocError>
     requires exact { F.exact }
     requires single { HasSingleBits F.table }
-    ensures { Grows (join_with_byte 0x2c (set_names F.table (F.set_of flags.now))) out.old out.new result }
+    ensures { Grows
+        (join_with_byte 0x2c (set_names F.table (F.set_of flags.now))) out.old out.new result }
 {
     let mut is_first = true;
     let named = F::flags();

@@ -29,25 +29,25 @@ unfolding with_sums_set
 sums_set f g h long e e' =
     let n : length (take 12 f) ≡ 12 = length-take-le 12 f (omega arith) in
     let back : drop 12 g ≡ signed f = ap (drop 12) e ∙ drop_at (take 12 f) (signed f) 12 n in
-    let front : take 8 g ≡ take 8 f = ap (take 8) e ∙ take-append-le 8 (take 12 f) (signed f) (omega arith) ∙ take-take 8 12 f (omega arith) in
-    e' ∙ ap (λ xs. xs ++ (uint (adler_32 (drop 12 g)) ++ drop 12 g)) front ∙ ap (λ xs. take 8 f ++ (uint (adler_32 xs) ++ xs)) back
+    let prefix : take 8 g ≡ take 8 f = ap (take 8) e ∙ take-append-le 8 (take 12 f) (signed f) (omega arith) ∙ take-take 8 12 f (omega arith) in
+    e' ∙ ap (λ xs. xs ++ (uint (adler_32 (drop 12 g)) ++ drop 12 g)) prefix ∙ ap (λ xs. take 8 f ++ (uint (adler_32 xs) ++ xs)) back
 
 -- what follows a part of this length and more
 pub drop_after : (part rest : List ℕ) (n m : ℕ) → length part ≡ n → drop (n + m) (part ++ rest) ≡ drop m rest
 drop_after part rest n m e = ap (λ k. drop (k + m) (part ++ rest)) (sym e) ∙ drop-append-add part rest m
 
 -- sums that are set are right
-checksum_is : (front body : List ℕ) → length front ≡ 8 → HasChecksum (front ++ (uint (adler_32 body) ++ body))
-checksum_is front body eight =
+checksum_is : (prefix body : List ℕ) → length prefix ≡ 8 → HasChecksum (prefix ++ (uint (adler_32 body) ++ body))
+checksum_is prefix body eight =
     let n = adler_32 body in
-    uint_at-encodes (adler_32_small body) (is_at (omega (arith, eight)) (is_at_later front (is_at_first (uint n) body)))
-    ∙ ap adler_32 (sym (drop_after front (uint n ++ body) 8 4 eight ∙ drop_at (uint n) body 4 (length-uint n)))
+    uint_at-encodes (adler_32_small body) (is_at (omega (arith, eight)) (is_at_later prefix (is_at_first (uint n) body)))
+    ∙ ap adler_32 (sym (drop_after prefix (uint n ++ body) 8 4 eight ∙ drop_at (uint n) body 4 (length-uint n)))
 
-signature_is : (front checksum rest : List ℕ) → length front ≡ 8 → length checksum ≡ 4 → HasSignature (front ++ (checksum ++ (sha1 rest ++ rest)))
-signature_is front checksum rest eight four =
+signature_is : (prefix checksum rest : List ℕ) → length prefix ≡ 8 → length checksum ≡ 4 → HasSignature (prefix ++ (checksum ++ (sha1 rest ++ rest)))
+signature_is prefix checksum rest eight four =
     let body = sha1 rest ++ rest in
-    ap (take 20) (drop_after front (checksum ++ body) 8 4 eight ∙ drop_at checksum body 4 four) ∙ take_at (sha1 rest) rest 20 (length-sha1 rest)
-    ∙ ap sha1 (sym (drop_after front (checksum ++ body) 8 24 eight ∙ drop_after checksum body 4 20 four ∙ drop_at (sha1 rest) rest 20 (length-sha1 rest)))
+    ap (take 20) (drop_after prefix (checksum ++ body) 8 4 eight ∙ drop_at checksum body 4 four) ∙ take_at (sha1 rest) rest 20 (length-sha1 rest)
+    ∙ ap sha1 (sym (drop_after prefix (checksum ++ body) 8 24 eight ∙ drop_after checksum body 4 20 four ∙ drop_at (sha1 rest) rest 20 (length-sha1 rest)))
 
 pub has_checksum_set : (file : List ℕ) → 32 ≤ length file → HasChecksum (with_sums_set file)
 unfolding with_sums_set

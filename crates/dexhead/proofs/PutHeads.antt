@@ -43,7 +43,7 @@ fields_open h rest =
 -- setting the sums keeps the magic and what they are of
 pub sums_set : (file rest : List ℕ) → take 8 file ≡ magic → drop 32 file ≡ rest → with_sums_set file ≡ with_sums rest
 unfolding with_sums_set signed with_sums
-sums_set file rest front back = ap (λ m. m ++ (uint (adler_32 (sha1 (drop 32 file) ++ drop 32 file)) ++ (sha1 (drop 32 file) ++ drop 32 file))) front ∙ ap (λ r. magic ++ (uint (adler_32 (sha1 r ++ r)) ++ (sha1 r ++ r))) back
+sums_set file rest prefix back = ap (λ m. m ++ (uint (adler_32 (sha1 (drop 32 file) ++ drop 32 file)) ++ (sha1 (drop 32 file) ++ drop 32 file))) prefix ∙ ap (λ r. magic ++ (uint (adler_32 (sha1 r ++ r)) ++ (sha1 r ++ r))) back
 
 -- a header with the sums set is the two sums before its fields and the rest
 pub head_set : (h : Head) (rest : List ℕ) → length h.signature ≡ 20 → with_sums_set (head_bytes h ++ rest) ≡ with_sums (field_bytes h ++ rest)

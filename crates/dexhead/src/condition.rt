@@ -69,7 +69,8 @@ impl Condition {
 
     /// The condition with a number, or `None` if none has it.
     pub fn of(number: u8) -> Option<Condition>
-        ensures some { IfSome result (λ condition. conditions.number (condition_meant condition) ≡ number) }
+        ensures some { IfSome result (λ condition. conditions.number (condition_meant condition)
+            ≡ number) }
         ensures none { IfNone result ((number ≡ 0) ⊎ (23 < number)) }
     {
         match number {

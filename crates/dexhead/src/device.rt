@@ -43,10 +43,12 @@ pub trait Source {
 
         ensures bound { IfOk result (λ n. n ≤ length buf.new) }
         ensures reports { reports self.old → reports self.new }
-        ensures moved { IfOk result (λ n. reports self.old → to_come self.old ≡ take n buf.new ++ to_come self.new) }
+        ensures moved { IfOk result (λ n. reports self.old
+            → to_come self.old ≡ take n buf.new ++ to_come self.new) }
 
         // Only at the end are there none for a buffer that has room.
-        ensures end { IfOk result (λ n. n ≡ 0 → 0 < length buf.new → reports self.old → to_come self.old ≡ []) };
+        ensures end { IfOk result (λ n. n ≡ 0 → 0 < length buf.new → reports self.old
+            → to_come self.old ≡ []) };
 }
 
 /// What bytes go to. Its caller does not write on after a fault.
@@ -79,10 +81,12 @@ pub trait Sink {
         ensures positive { IfOk result (λ n. 0 < n) }
         ensures bound { IfOk result (λ n. n ≤ length bytes.now) }
         ensures reports { reports self.old → reports self.new }
-        ensures appended { IfOk result (λ n. reports self.old → taken self.new ≡ taken self.old ++ take n bytes.now) }
+        ensures appended { IfOk result (λ n. reports self.old
+            → taken self.new ≡ taken self.old ++ take n bytes.now) }
 
         // A write that fails has appended a prefix, perhaps an empty one.
-        ensures front { OnErr result (reports self.old → TakesPrefix (taken self.old) (taken self.new) bytes.now) };
+        ensures prefix { OnErr result (reports self.old
+            → TakesPrefix (taken self.old) (taken self.new) bytes.now) };
 }
 
 /// Writes all the bytes, by as many calls of `Sink::write` as it takes; none for no bytes.
@@ -92,8 +96,10 @@ pub trait Sink {
 pub fn write_whole<W: Sink>(out: &mut W, bytes: &[u8]) -> Result<(), DeviceFault>
     requires { W.has_failed out.old ≡ false }
     ensures reports { W.reports out.old → W.reports out.new }
-    ensures written { OnOk result (W.reports out.old → W.taken out.new ≡ W.taken out.old ++ bytes.now) }
-    ensures front { OnErr result (W.reports out.old → TakesPrefix (W.taken out.old) (W.taken out.new) bytes.now) }
+    ensures written { OnOk result (W.reports out.old
+        → W.taken out.new ≡ W.taken out.old ++ bytes.now) }
+    ensures prefix { OnErr result (W.reports out.old
+        → TakesPrefix (W.taken out.old) (W.taken out.new) bytes.now) }
     ensures works { OnOk result (W.has_failed out.new ≡ false) }
     ensures fails { OnErr result (W.has_failed out.new ≡ true) }
 {

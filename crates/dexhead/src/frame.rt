@@ -58,7 +58,8 @@ impl<'a> Frame<'a> {
     pub fn open(bytes: &'a [u8]) -> Result<Frame<'a>, Refusal>
         ensures accepted { IsOk result ↔ IsFrame bytes.now }
         ensures whole { IfOk result (λ frame. frame ≡ bytes.now) }
-        ensures refused { IfErr result (λ refusal. IsRefused bytes.now refusal.number refusal.place) }
+        ensures refused { IfErr result (λ refusal.
+            IsRefused bytes.now refusal.number refusal.place) }
     {
         check_start(bytes)?;
         check_fields(bytes)?;
@@ -80,7 +81,8 @@ impl<'a> Frame<'a> {
         requires signature { 32 ≤ length bytes.now → HasSignature bytes.now }
         ensures accepted { IsOk result ↔ IsFrame bytes.now }
         ensures whole { IfOk result (λ frame. frame ≡ bytes.now) }
-        ensures refused { IfErr result (λ refusal. IsRefused bytes.now refusal.number refusal.place) }
+        ensures refused { IfErr result (λ refusal.
+            IsRefused bytes.now refusal.number refusal.place) }
     {
         check_start(bytes)?;
         check_fields(bytes)?;
@@ -114,7 +116,8 @@ impl<'a> Frame<'a> {
     #[tactic(auto, using(crate::proofs::Frames::row_within))]
     pub fn row(&self, table: Table, i: u32) -> &'a [u8]
         requires { i < table_size self.now (meant table) }
-        ensures bytes { result.now ≡ take (row_size (meant table)) (drop (row_at self.now (meant table) i) self.now) }
+        ensures bytes { result.now
+            ≡ take (row_size (meant table)) (drop (row_at self.now (meant table) i) self.now) }
         ensures whole { length result.now ≡ row_size (meant table) }
     {
         let size = table.row_size() as usize;

@@ -82,7 +82,8 @@ impl Head {
     // Appends the header up to the signature, 32 bytes, where there is room for them.
     fn push_sums(&self, out: &mut Vec<u8>)
         requires { vec_len out.old + 32 ≤ vec_capacity out.old }
-        ensures items { out.new.items ≡ out.old.items ++ (magic ++ (uint self.now.checksum ++ self.now.signature)) }
+        ensures items { out.new.items ≡ out.old.items
+            ++ (magic ++ (uint self.now.checksum ++ self.now.signature)) }
         ensures len { vec_len out.new ≡ vec_len out.old + 32 }
         ensures capacity { vec_capacity out.old ≤ vec_capacity out.new }
     {

@@ -18,13 +18,15 @@ pub fn head_law()
 /// A header with the offsets of the tables and the data of classes in their file has, after its signature, the fields
 /// that the canonical file has.
 pub fn fields_law()
-    ensures { (h : Head) (K : Ordered) → StatesTables h K → field_bytes h ≡ header_bytes K h.map_off h.file_size }
+    ensures { (h : Head) (K : Ordered) → StatesTables h K
+        → field_bytes h ≡ header_bytes K h.map_off h.file_size }
 {}
 
 /// A file that begins with the magic is, with the two sums set, what follows them with magic and sums before
 /// it; so is a header followed by the rest of the file, whatever sums the header told.
 pub fn sums_law()
-    ensures file { (file : List ℕ) → take 8 file ≡ magic → with_sums_set file ≡ with_sums (drop 32 file) }
+    ensures file { (file : List ℕ) → take 8 file ≡ magic
+        → with_sums_set file ≡ with_sums (drop 32 file) }
     ensures head { HeadsTakeSums }
 
     // A header with the right sums has the bytes that setting them would give.

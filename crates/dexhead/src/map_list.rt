@@ -58,7 +58,8 @@ impl MapList<'_> {
     #[tactic(auto, using(crate::proofs::Lengths::length_map))]
     pub fn put(&self, out: &mut Vec<u8>) -> Result<(), AllocError>
         ensures puts { Puts (map_list_bytes self.now.entries.now) out.old out.new result }
-        ensures len { length (map_list_bytes self.now.entries.now) ≡ 4 + 12 * length self.now.entries.now }
+        ensures len { length (map_list_bytes self.now.entries.now)
+            ≡ 4 + 12 * length self.now.entries.now }
     {
         out.reserve(4 + 12 * self.entries.len())?;
         push_u32(self.entries.len() as u32, out);

@@ -46,8 +46,8 @@ impl Adler {
     {
         let mut rest = bytes;
         'parts: while rest.len() > PART {
-            let (front, back) = rest.split_at(PART);
-            self.add(front);
+            let (prefix, back) = rest.split_at(PART);
+            self.add(prefix);
             rest = back;
         }
         self.add(rest);

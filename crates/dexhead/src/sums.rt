@@ -31,7 +31,8 @@ fn set_signature(file: &mut [u8])
 
 fn set_checksum(file: &mut [u8])
     requires { 32 ≤ length file.old }
-    ensures { file.new ≡ take 8 file.old ++ (uint (adler_32 (drop 12 file.old)) ++ drop 12 file.old) }
+    ensures { file.new
+        ≡ take 8 file.old ++ (uint (adler_32 (drop 12 file.old)) ++ drop 12 file.old) }
 {
     let mut checksum = [0; 4];
     LittleEndian::write_u32(&mut checksum, adler(&file[12..]));

@@ -11,7 +11,7 @@ use Rattle.dexinsn.specs.Numbered.{Instruction, Payload, numbered_units}
 use Rattle.dexinsn.specs.Blank.{IsCountBefore, Rise, blank_units, covers}
 use Rattle.dexinsn.specs.Stored.{AreStored, Follow, after_index, cuts_in, index_units, left_by, parts_in, piece_with, pieces_with, spelled_from}
 use Rattle.dexinsn.proofs.PutUnits.{spelled_all, stored_follow}
-use Rattle.dexinsn.proofs.StartBits.{same_answer}
+use Rattle.dexinsn.proofs.StartBits.{same_test}
 use Rattle.dexinsn.proofs.StoredRead.{first_kept, same_wide}
 
 abbrev zeroed : List Index → List Index
@@ -163,7 +163,7 @@ none_covers us is i h = sym (not_true (list_any (covers us i) is) (λ e.
     omega (arith, within.0, late)))
 
 pub last_covers : (us : List ℕ) (is : List Index) (i k : ℕ) (d : Index) → AreStored us is → IsCountBefore is i (k + 1) → covers us i (get_or is k d) ≡ list_any (covers us i) is
-last_covers us is i k d s h = same_answer (covers us i (get_or is k d)) (list_any (covers us i) is)
+last_covers us is i k d s h = same_test (covers us i (get_or is k d)) (list_any (covers us i) is)
     (λ e. list_any_at (covers us i) is k d (omega (arith, h.within)) e)
     (λ e.
     let found : Any (λ (x : Index). covers us i x ≡ true) is = Any-from_list_any (covers us i) is e in

@@ -8,7 +8,7 @@ use Rattle.dexinsn.specs.declared.code.CodeFault.TheVariants.{Piece}
 use Rattle.dexinsn.specs.Units.{units_in}
 use Rattle.dexinsn.specs.Reading.{HasCodeRoom, AreUnitsAt}
 use Rattle.dexinsn.proofs.Halves.{uint_after, units_of_part}
-use Rattle.dexinsn.proofs.Once.{answer_once}
+use Rattle.dexinsn.proofs.Once.{result_once}
 
 -- there is no room if there is none for n units
 pub no_room : (b : List ℕ) (off n : ℕ) → n ≡ uint_at (drop off b) 12 → (IsInData b off (16 + 2 * n) → ⊥) → HasCodeRoom b off → ⊥
@@ -27,4 +27,4 @@ units_there b off n rest bytes is small aligned room following front =
 
 -- units that break are no code
 pub broken_is_none : (us : List ℕ) (n : ℕ) → BreaksAt us n → (cuts : List Cut) → IsCode us cuts → ⊥
-broken_is_none us n h cuts code = let e : Ok cuts ≡ Err (Piece n) = answer_once us (Ok cuts) (Err (Piece n)) code h in cc
+broken_is_none us n h cuts code = let e : Ok cuts ≡ Err (Piece n) = result_once us (Ok cuts) (Err (Piece n)) code h in cc

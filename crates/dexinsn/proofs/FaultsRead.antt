@@ -9,7 +9,7 @@ use Rattle.dexpool.specs.declared.faults.ItemFault.TheVariants.{Refused, Memory}
 use Rattle.dexinsn.specs.declared.code.CodeFault.{CodeFault}
 use Rattle.dexinsn.specs.Units.{units_in}
 use Rattle.dexinsn.specs.Reading.{IsPiecesFault, AreUnitsAt, IsCodeFault}
-use Rattle.dexinsn.proofs.Once.{answer_once}
+use Rattle.dexinsn.proofs.Once.{result_once}
 use Rattle.dexinsn.proofs.StoredRead.{none_read}
 
 -- units are cut in one way
@@ -17,7 +17,7 @@ pub one_cut : (us : List ℕ) (cs ds : List Cut) → IsCode us cs → IsCode us 
 one_cut us cs ds x y =
     let a : Result (List Cut) CodeFault = Ok cs in
     let b : Result (List Cut) CodeFault = Ok ds in
-    let e : a ≡ b = answer_once us a b x y in
+    let e : a ≡ b = result_once us a b x y in
     cc
 
 pub pieces_fault : (b : List ℕ) (off : ℕ) (m : Mentions) (bytes : List ℕ) (f : ItemFault) → ArePools b m → AreUnitsAt b off bytes → IsCodeFault (units_in bytes) m f → IsPiecesFault b off f

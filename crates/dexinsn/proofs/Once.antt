@@ -12,7 +12,7 @@ use Rattle.std.specs.declared.alloc.Global.{Global}
 use Rattle.dexinsn.specs.declared.code.Cut.{Cut as CutOfCode}
 use Rattle.dexinsn.specs.declared.code.CodeFault.{CodeFault}
 use Rattle.dexinsn.specs.declared.code.CodeFault.TheVariants.{Empty, Piece, Target, Memory}
-use Rattle.dexinsn.specs.Split.{cuts_of, units_of_all, first_bad_target, first_bad_target_of, HasBadTargetAt, IsFault, IsCutFault, IsAnswer, IsAnswered}
+use Rattle.dexinsn.specs.Split.{cuts_of, units_of_all, first_bad_target, first_bad_target_of, HasBadTargetAt, IsFault, IsCutFault, IsResult, IsReturned}
 use Rattle.dexinsn.proofs.Sizes.{piece_size-fits}
 
 -- the pieces, and what is left, where no piece begins
@@ -149,35 +149,35 @@ empty_code us cs empty code =
     omega arith
 
 -- two answers that are true of the units are the same
-pub answer_once : (us : List ℕ) (a b : Result (List Cut) CodeFault) → IsAnswer us a → IsAnswer us b → a ≡ b
-answer_once us (Ok cs) (Ok ds) x y = ap Ok (whole_once us cs ds x.cut y.cut)
-answer_once us (Ok cs) (Err Empty) x y = absurd (empty_code us cs y x)
-answer_once us (Ok cs) (Err (Piece n)) x y = absurd (not_both us cs n x.cut y)
-answer_once us (Ok cs) (Err (Target n)) x y = absurd (is_no_bad_target us cs n x y)
-answer_once us (Ok cs) (Err Memory) x y = absurd y
-answer_once us (Err Empty) (Ok ds) x y = absurd (empty_code us ds x y)
-answer_once us (Err Empty) (Err Empty) x y = refl
-answer_once us (Err Empty) (Err (Piece m)) x y = absurd (empty_breaks us m x y)
-answer_once us (Err Empty) (Err (Target m)) x y = absurd (empty_bad_target us m x y)
-answer_once us (Err Empty) (Err Memory) x y = absurd y
-answer_once us (Err (Piece n)) (Ok ds) x y = absurd (not_both us ds n y.cut x)
-answer_once us (Err (Piece n)) (Err Empty) x y = absurd (empty_breaks us n y x)
-answer_once us (Err (Piece n)) (Err (Piece m)) x y = ap (λ (k : ℕ). Err (Piece k)) (breaks_once us n m x y)
-answer_once us (Err (Piece n)) (Err (Target m)) x y = absurd (not_both us y.cuts n y.cut x)
-answer_once us (Err (Piece n)) (Err Memory) x y = absurd y
-answer_once us (Err (Target n)) (Ok ds) x y = absurd (is_no_bad_target us ds n y x)
-answer_once us (Err (Target n)) (Err Empty) x y = absurd (empty_bad_target us n y x)
-answer_once us (Err (Target n)) (Err (Piece m)) x y = absurd (not_both us x.cuts m x.cut y)
-answer_once us (Err (Target n)) (Err (Target m)) x y = ap (λ (k : ℕ). Err (Target k)) (bad_target_once us n m x y)
-answer_once us (Err (Target n)) (Err Memory) x y = absurd y
-answer_once us (Err Memory) b x y = absurd x
+pub result_once : (us : List ℕ) (a b : Result (List Cut) CodeFault) → IsResult us a → IsResult us b → a ≡ b
+result_once us (Ok cs) (Ok ds) x y = ap Ok (whole_once us cs ds x.cut y.cut)
+result_once us (Ok cs) (Err Empty) x y = absurd (empty_code us cs y x)
+result_once us (Ok cs) (Err (Piece n)) x y = absurd (not_both us cs n x.cut y)
+result_once us (Ok cs) (Err (Target n)) x y = absurd (is_no_bad_target us cs n x y)
+result_once us (Ok cs) (Err Memory) x y = absurd y
+result_once us (Err Empty) (Ok ds) x y = absurd (empty_code us ds x y)
+result_once us (Err Empty) (Err Empty) x y = refl
+result_once us (Err Empty) (Err (Piece m)) x y = absurd (empty_breaks us m x y)
+result_once us (Err Empty) (Err (Target m)) x y = absurd (empty_bad_target us m x y)
+result_once us (Err Empty) (Err Memory) x y = absurd y
+result_once us (Err (Piece n)) (Ok ds) x y = absurd (not_both us ds n y.cut x)
+result_once us (Err (Piece n)) (Err Empty) x y = absurd (empty_breaks us n y x)
+result_once us (Err (Piece n)) (Err (Piece m)) x y = ap (λ (k : ℕ). Err (Piece k)) (breaks_once us n m x y)
+result_once us (Err (Piece n)) (Err (Target m)) x y = absurd (not_both us y.cuts n y.cut x)
+result_once us (Err (Piece n)) (Err Memory) x y = absurd y
+result_once us (Err (Target n)) (Ok ds) x y = absurd (is_no_bad_target us ds n y x)
+result_once us (Err (Target n)) (Err Empty) x y = absurd (empty_bad_target us n y x)
+result_once us (Err (Target n)) (Err (Piece m)) x y = absurd (not_both us x.cuts m x.cut y)
+result_once us (Err (Target n)) (Err (Target m)) x y = ap (λ (k : ℕ). Err (Target k)) (bad_target_once us n m x y)
+result_once us (Err (Target n)) (Err Memory) x y = absurd y
+result_once us (Err Memory) b x y = absurd x
 
 -- a fault that is reported is the only answer
-pub answered_fault : (us : List ℕ) (fault : CodeFault) (answer : Result (List Cut) CodeFault) → IsFault us fault → IsAnswer us answer → IsAnswered answer (Err fault)
-answered_fault us Empty answer is a = answer_once us (Err Empty) answer is a
-answered_fault us (Piece n) answer is a = answer_once us (Err (Piece n)) answer is a
-answered_fault us (Target n) answer is a = answer_once us (Err (Target n)) answer is a
-answered_fault us Memory answer is a = tt
+pub returned_fault : (us : List ℕ) (fault : CodeFault) (answer : Result (List Cut) CodeFault) → IsFault us fault → IsResult us answer → IsReturned answer (Err fault)
+returned_fault us Empty answer is a = result_once us (Err Empty) answer is a
+returned_fault us (Piece n) answer is a = result_once us (Err (Piece n)) answer is a
+returned_fault us (Target n) answer is a = result_once us (Err (Target n)) answer is a
+returned_fault us Memory answer is a = tt
 
 -- why the units are not cut is why they are no code
 pub cut_fault : (us : List ℕ) (fault : CodeFault) → IsCutFault us fault → IsFault us fault
@@ -187,10 +187,10 @@ cut_fault us (Target n) is = absurd is
 cut_fault us Memory is = tt
 
 -- where there are no units, that is the only answer
-pub only_empty : (us : List ℕ) → length us ≡ 0 → (answer : Result (List Cut) CodeFault) → IsAnswer us answer → IsAnswered answer (Err Empty)
-only_empty us none answer is = answer_once us (Err Empty) answer (nil_from_length us none) is
+pub only_empty : (us : List ℕ) → length us ≡ 0 → (answer : Result (List Cut) CodeFault) → IsResult us answer → IsReturned answer (Err Empty)
+only_empty us none answer is = result_once us (Err Empty) answer (nil_from_length us none) is
 
 -- what is returned is the only answer
-pub answered_all : (us : List ℕ) (r : Result (Vec CutOfCode Global) CodeFault) (answer : Result (List Cut) CodeFault) → IfOk r (λ cuts. IsCode us (cuts_of cuts.items)) → IfErr r (IsFault us) → IsAnswer us answer → IsAnswered answer r
-answered_all us (Ok cuts) answer code fault is = answer_once us (Ok (cuts_of cuts.items)) answer code is
-answered_all us (Err f) answer code fault is = answered_fault us f answer fault is
+pub returned_all : (us : List ℕ) (r : Result (Vec CutOfCode Global) CodeFault) (answer : Result (List Cut) CodeFault) → IfOk r (λ cuts. IsCode us (cuts_of cuts.items)) → IfErr r (IsFault us) → IsResult us answer → IsReturned answer r
+returned_all us (Ok cuts) answer code fault is = result_once us (Ok (cuts_of cuts.items)) answer code is
+returned_all us (Err f) answer code fault is = returned_fault us f answer fault is

@@ -19,7 +19,7 @@ use Rattle.dexinsn.specs.Payload.{ident_of}
 use Rattle.dexinsn.specs.internal.LongSwitches.{HasBit, HasPlace}
 use Rattle.dexinsn.specs.Split.{starts_with}
 use Rattle.dexinsn.specs.Checking.{AreBitsOf, is_noted, has_targets}
-use Rattle.dexinsn.proofs.StartBits.{same_answer}
+use Rattle.dexinsn.proofs.StartBits.{same_test}
 use Rattle.dexinsn.proofs.Starts.{starts_with-negsuc, starts_with-pos}
 
 -- no place is below 0
@@ -40,8 +40,8 @@ pub place_starts : (test : ℕ → Bool) (us : List ℕ) (cs : List Cut) (words 
 place_starts test us cs words (pos k) h = h.each k
 place_starts test us cs words (negsuc k) h = (λ has. absurd has, λ e. let none = starts_with-negsuc test us cs k in absurd cc)
 
-pub answer_is : (test : ℕ → Bool) (us : List ℕ) (cs : List Cut) (words : List ℕ) (z : ℤ) (r : Bool) → (r ≡ true) ↔ HasPlace words z → AreBitsOf test us cs words → r ≡ starts_with test us cs z
-answer_is test us cs words z r says h = same_answer r (starts_with test us cs z) (λ e. (place_starts test us cs words z h).0 (says.0 e)) (λ e. says.1 ((place_starts test us cs words z h).1 e))
+pub test_is : (test : ℕ → Bool) (us : List ℕ) (cs : List Cut) (words : List ℕ) (z : ℤ) (r : Bool) → (r ≡ true) ↔ HasPlace words z → AreBitsOf test us cs words → r ≡ starts_with test us cs z
+test_is test us cs words z r says h = same_test r (starts_with test us cs z) (λ e. (place_starts test us cs words z h).0 (says.0 e)) (λ e. says.1 ((place_starts test us cs words z h).1 e))
 
 -- the bit as it is read
 read_bit : (words : List ℕ) (unit : ℕ) → (slice_index words (unit / 64) / 2 ^ (unit % 64) % 2 ≡ 1) ↔ HasBit words unit

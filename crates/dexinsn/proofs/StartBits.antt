@@ -223,10 +223,10 @@ ends_empty test us cs words h = λ k past has. omega (arith, h.room, h.inside k 
 
 -- ---- targets by their groups
 
-pub same_answer : (a b : Bool) → (a ≡ true → b ≡ true) → (b ≡ true → a ≡ true) → a ≡ b
-same_answer true b f g = sym (f refl)
-same_answer false true f g = g refl
-same_answer false false f g = refl
+pub same_test : (a b : Bool) → (a ≡ true → b ≡ true) → (b ≡ true → a ≡ true) → a ≡ b
+same_test true b f g = sym (f refl)
+same_test false true f g = g refl
+same_test false false f g = refl
 
 -- a place is one of these exactly where an instruction begins there
 place_is : (us : List ℕ) (cs : List Cut) (words : List ℕ) (z : ℤ) → AreStartBits us cs words → HasPlace words z ↔ (is_instruction_start us cs z ≡ true)
@@ -248,7 +248,7 @@ pub groups_are : (us : List ℕ) (cs : List Cut) (words : List ℕ) (at : ℕ) (
     → (r ≡ true) ↔ All (λ g. HasPlaces words (pos at +ℤ g.first) g.bits) groups → r ≡ are_right_targets us cs at ts
 groups_are us cs words at ts groups r starts grouped says =
     let test : ℤ → Bool = λ t. is_instruction_start us cs (pos at +ℤ t) in
-    same_answer r (are_right_targets us cs at ts)
+    same_test r (are_right_targets us cs at ts)
     (λ e. (grouped test).1 (All-weaker (λ (g : TargetGroup). HasPlaces words (pos at +ℤ g.first) g.bits) (AllInGroup test) (λ g. (group_is us cs words at g starts).0) groups (says.0 e)))
     (λ e. says.1 (All-weaker (AllInGroup test) (λ (g : TargetGroup). HasPlaces words (pos at +ℤ g.first) g.bits) (λ g. (group_is us cs words at g starts).1) groups ((grouped test).0 e)))
 

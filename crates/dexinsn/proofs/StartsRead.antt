@@ -10,7 +10,7 @@ use Rattle.dexinsn.specs.Bits.{bits_from, bits_in, has_bit}
 use Rattle.dexinsn.specs.internal.LongSwitches.{HasBit, HasPlace}
 use Rattle.dexinsn.specs.Reading.{AreUnitsAt, AreStartsAt}
 use Rattle.dexinsn.specs.Checking.{AreCodeStarts}
-use Rattle.dexinsn.proofs.StartBits.{same_answer}
+use Rattle.dexinsn.proofs.StartBits.{same_test}
 use Rattle.dexinsn.proofs.Placed.{no_bit_past}
 
 -- the bit as an answer
@@ -45,8 +45,8 @@ bit_in words k = elim (cases_lt k (64 * length words)) [
 ]
 
 -- an answer that is right of the place is right of the bits
-pub answer_in : (words : List ℕ) (k : ℕ) (r : Bool) → (r ≡ true) ↔ HasPlace words (pos k) → r ≡ get_or (bits_in words) k false
-answer_in words k r says = same_answer r (has_bit words k) (λ e. (bit_says words k).1 (says.0 e)) (λ e. says.1 ((bit_says words k).0 e)) ∙ sym (bit_in words k)
+pub test_in : (words : List ℕ) (k : ℕ) (r : Bool) → (r ≡ true) ↔ HasPlace words (pos k) → r ≡ get_or (bits_in words) k false
+test_in words k r says = same_test r (has_bit words k) (λ e. (bit_says words k).1 (says.0 e)) (λ e. says.1 ((bit_says words k).0 e)) ∙ sym (bit_in words k)
 
 -- the starts of the code_item
 pub starts_there : (b : List ℕ) (off : ℕ) (bytes words : List ℕ) → AreUnitsAt b off bytes → AreCodeStarts (units_in bytes) words → AreStartsAt b off (bits_in words)
@@ -54,5 +54,5 @@ starts_there b off bytes words at s cuts ps k h =
     let code : IsCode (units_in bytes) cuts = subst (λ (us : List ℕ). IsCode us cuts) (sym at.units) h.code in
     let bits = (s cuts code).each k in
     bit_in words k
-    ∙ same_answer (has_bit words k) (is_instruction_start (units_in bytes) cuts (pos k)) (λ e. bits.0 ((bit_says words k).0 e)) (λ e. (bit_says words k).1 (bits.1 e))
+    ∙ same_test (has_bit words k) (is_instruction_start (units_in bytes) cuts (pos k)) (λ e. bits.0 ((bit_says words k).0 e)) (λ e. (bit_says words k).1 (bits.1 e))
     ∙ ap (λ (us : List ℕ). is_instruction_start us cuts (pos k)) at.units

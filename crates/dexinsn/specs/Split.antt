@@ -87,21 +87,21 @@ IsCutFault us (Target n) = ⊥
 IsCutFault us Memory = Unit {0}
 
 -- an answer that is true of the units: their pieces, or a fault of theirs
-abbrev pub IsAnswer : List ℕ → Result (List Cut) CodeFault → Type 0
-IsAnswer us (Ok cs) = IsCode us cs
-IsAnswer us (Err Empty) = us ≡ []
-IsAnswer us (Err (Piece n)) = BreaksAt us n
-IsAnswer us (Err (Target n)) = HasBadTargetAt us n
-IsAnswer us (Err Memory) = ⊥
+abbrev pub IsResult : List ℕ → Result (List Cut) CodeFault → Type 0
+IsResult us (Ok cs) = IsCode us cs
+IsResult us (Err Empty) = us ≡ []
+IsResult us (Err (Piece n)) = BreaksAt us n
+IsResult us (Err (Target n)) = HasBadTargetAt us n
+IsResult us (Err Memory) = ⊥
 
 -- what is returned is this, unless an allocation failed
-abbrev pub IsAnswered : Result (List Cut) CodeFault → Result (Vec CutOfCode Global) CodeFault → Type 0
-IsAnswered answer (Ok cuts) = Ok (cuts_of cuts.items) ≡ answer
-IsAnswered answer (Err Empty) = Err Empty ≡ answer
-IsAnswered answer (Err (Piece n)) = Err (Piece n) ≡ answer
-IsAnswered answer (Err (Target n)) = Err (Target n) ≡ answer
-IsAnswered answer (Err Memory) = Unit {0}
+abbrev pub IsReturned : Result (List Cut) CodeFault → Result (Vec CutOfCode Global) CodeFault → Type 0
+IsReturned answer (Ok cuts) = Ok (cuts_of cuts.items) ≡ answer
+IsReturned answer (Err Empty) = Err Empty ≡ answer
+IsReturned answer (Err (Piece n)) = Err (Piece n) ≡ answer
+IsReturned answer (Err (Target n)) = Err (Target n) ≡ answer
+IsReturned answer (Err Memory) = Unit {0}
 
 -- each answer that is true of the units is what is returned, unless an allocation failed
-abbrev pub IsOnlyAnswer : List ℕ → Result (Vec CutOfCode Global) CodeFault → Type 0
-IsOnlyAnswer us result = (answer : Result (List Cut) CodeFault) → IsAnswer us answer → IsAnswered answer result
+abbrev pub IsOnlyResult : List ℕ → Result (Vec CutOfCode Global) CodeFault → Type 0
+IsOnlyResult us result = (answer : Result (List Cut) CodeFault) → IsResult us answer → IsReturned answer result

@@ -49,7 +49,8 @@ pub fn build_pieces<'a>(
 ) -> Result<Pieces<'a>, AllocError>
     requires { IsShapeAt frame.now off pools.now shape }
     ensures registers { IfOk result (HasRegistersAt frame.now off) }
-    ensures pieces { ArePools frame.now pools.now → IfOk result (HasPiecesAt frame.now off pools.now) }
+    ensures pieces { ArePools frame.now pools.now
+        → IfOk result (HasPiecesAt frame.now off pools.now) }
 {
     let (_, rest) = frame.rest(off).split_at(16);
     let (bytes, _) = rest.split_at(2 * shape.units as usize);

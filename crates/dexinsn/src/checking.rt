@@ -65,7 +65,8 @@ pub(crate) fn index_count(
     pools: &Pools<'_>,
 ) -> Option<usize>
     requires { IsPieceAt units.now (record { unit = at; units = size }) }
-    ensures { MatchOption result (IsOutside units.now pools.now at) (IndexCount units.now pools.now at) }
+    ensures { MatchOption result (IsOutside units.now pools.now at)
+        (IndexCount units.now pools.now at) }
 {
     match kind_at(units, at) {
         Some(kind) => {
@@ -109,7 +110,8 @@ fn pass(
     requires starts { AreBitsOf begins_instruction units.now [] starts.old.items }
     requires noted { AreBitsOf is_noted units.now [] noted.old.items }
     ensures none { IfNone result (HasNoCode units.now pools.now) }
-    ensures some { IfSome result (ArePassedWhole units.now pools.now starts.new.items noted.new.items) }
+    ensures some { IfSome result
+        (ArePassedWhole units.now pools.now starts.new.items noted.new.items) }
 {
     let limits = Limits::of(pools);
     let mut at = 0;
@@ -334,7 +336,8 @@ pub fn check_pieces(
     scratch: &mut Scratch,
 ) -> Result<PiecesShape, ItemFault>
     ensures shape { IfOk result (IsShapeAt frame.now off pools.now) }
-    ensures pieces { ArePools frame.now pools.now → IfOk result (HasPiecesOf frame.now off pools.now) }
+    ensures pieces { ArePools frame.now pools.now
+        → IfOk result (HasPiecesOf frame.now off pools.now) }
     ensures starts { OnOk result (AreStartsAt frame.now off scratch.new) }
     ensures refused { ArePools frame.now pools.now → IfErr result (IsPiecesFault frame.now off) }
 {

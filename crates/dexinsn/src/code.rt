@@ -3,7 +3,7 @@ ghost use Rattle.dexspec.specs.Pieces.{IsCode};
 ghost use Rattle.dexinsn.specs.declared.code.CodeFault.TheVariants.{Memory};
 ghost use Rattle.dexinsn.specs.internal.LongSwitches.{ArePayloads};
 ghost use Rattle.dexinsn.specs.Checking.{AreBitsOf, begins_instruction, is_noted};
-ghost use Rattle.dexinsn.specs.Split.{IsCutFault, IsFault, cuts_of, first_bad_target, kind_of, unit_of, IsOnlyAnswer};
+ghost use Rattle.dexinsn.specs.Split.{IsCutFault, IsFault, cuts_of, first_bad_target, kind_of, unit_of, IsOnlyResult};
 ghost use Rattle.dexinsn.specs.internal.Checking.{AreCutWhole};
 
 use crate::checking::{note, piece_targets_right};
@@ -67,7 +67,8 @@ fn cut_units(
 ) -> Result<Vec<Cut>, CodeFault>
     requires starts { AreBitsOf begins_instruction units.now [] starts.old.items }
     requires noted { AreBitsOf is_noted units.now [] noted.old.items }
-    ensures cuts { IfOk result (λ cuts. AreCutWhole units.now starts.new.items noted.new.items cuts.items) }
+    ensures cuts { IfOk result (λ cuts.
+        AreCutWhole units.now starts.new.items noted.new.items cuts.items) }
     ensures fault { IfErr result (IsCutFault units.now) }
 {
     let mut cuts = Vec::new(alloc);
@@ -152,7 +153,7 @@ impl From<AllocError> for CodeFault {
 pub fn split(alloc: Global, units: &[u16]) -> Result<Vec<Cut>, CodeFault>
     ensures code { IfOk result (λ cuts. IsCode units.now (cuts_of cuts.items)) }
     ensures fault { IfErr result (IsFault units.now) }
-    ensures only { IsOnlyAnswer units.now result }
+    ensures only { IsOnlyResult units.now result }
 {
     if units.is_empty() {
         return Err(CodeFault::Empty);

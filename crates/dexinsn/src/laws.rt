@@ -16,7 +16,8 @@ pub fn units_law()
 /// Once renumbered, the pieces denote what they denoted before.
 pub fn renumber_law()
     ensures keeps { RenumberedDenote }
-    ensures places { (r : Maps) (ps : List NumberedPiece) → All (HasPlace r) ps → All (HasImage r) ps }
+    ensures places { (r : Maps) (ps : List NumberedPiece) → All (HasPlace r) ps
+        → All (HasImage r) ps }
 {}
 
 /// The symbols that occur are those of the pieces that they denote, one for one and in their order.
@@ -31,7 +32,8 @@ pub fn marks_law()
 
 /// Each number has an image just where the symbol that occurs has one.
 pub fn images_law()
-    ensures { (r : Maps) (ps : List NumberedPiece) → All (HasImage r) ps ↔ All (IsMapped r) (uses_of ps) }
+    ensures { (r : Maps) (ps : List NumberedPiece) → All (HasImage r) ps
+        ↔ All (IsMapped r) (uses_of ps) }
 {}
 
 /// After a cut: where numbers fit their places, and each that occurs has an image, none of them greater than its

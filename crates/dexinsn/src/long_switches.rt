@@ -32,7 +32,8 @@ pub(crate) fn targets_at(units: &Units<'_>, kind: PayloadKind, unit: usize) -> O
     requires small { length units.now < 2 ^ 62 }
     requires kind { slice_index units.now unit ≡ ident_of kind }
     requires piece { IsSome (piece_size unit (drop unit units.now)) }
-    ensures { MatchOption result (payload_targets units.now unit ≡ []) (AreTargetsAt units.now unit) }
+    ensures { MatchOption result (payload_targets units.now unit
+        ≡ []) (AreTargetsAt units.now unit) }
 {
     match kind {
         PayloadKind::PackedSwitch => {
@@ -67,7 +68,8 @@ fn sorted_targets(
 ) -> Result<Vec<i32>, AllocError>
     requires small { length units.now < 2 ^ 62 }
     requires within { targets.first + 2 * targets.count ≤ length units.now }
-    ensures { IfOk result (λ sorted. IsPermutation (ints_in units.now targets.first targets.count) sorted.items) }
+    ensures { IfOk result (λ sorted.
+        IsPermutation (ints_in units.now targets.first targets.count) sorted.items) }
 {
     let mut sorted = Vec::with_capacity(alloc, targets.count)?;
     for i in 0..targets.count {

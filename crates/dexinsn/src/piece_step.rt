@@ -72,7 +72,8 @@ impl Limits {
     // Returns the limit of an index of the kind.
     #[inline(always)]
     fn limit(&self, index: IndexKind) -> usize
-        ensures { (m : Mentions) → AreLimits m self.now → result ≡ limit_of m (kind_of_index index) }
+        ensures { (m : Mentions) → AreLimits m self.now
+            → result ≡ limit_of m (kind_of_index index) }
     {
         self.below[slot_of(index)]
     }
@@ -107,7 +108,8 @@ fn plain_step(units: &Units<'_>, limits: &Limits, at: usize) -> Option<Step>
 // The piece at a unit, if its index is in range or it has none.
 fn any_step(units: &Units<'_>, pools: &Pools<'_>, at: usize) -> Option<Step>
     requires { at < length units.now }
-    ensures { MatchOption result (HasNoStep units.now pools.now at) (IsStep units.now pools.now at) }
+    ensures { MatchOption result (HasNoStep units.now pools.now at)
+        (IsStep units.now pools.now at) }
 {
     let size = match piece_size(at, &units.rest(at)) {
         Some(size) => size,
@@ -137,7 +139,8 @@ pub(crate) fn step_at(
 ) -> Option<Step>
     requires within { at < length units.now }
     requires limits { AreLimits pools.now limits.now }
-    ensures { MatchOption result (HasNoStep units.now pools.now at) (IsStep units.now pools.now at) }
+    ensures { MatchOption result (HasNoStep units.now pools.now at)
+        (IsStep units.now pools.now at) }
 {
     match plain_step(units, limits, at) {
         Some(step) => Some(step),

@@ -33,7 +33,8 @@ fn push_part(bytes: &[u8], from: usize, to: usize, out: &mut Vec<u8>)
 // Appends the bytes of an index, where there is room for them.
 fn push_number(is_wide: bool, number: u32, out: &mut Vec<u8>)
     requires fits { is_wide ≡ false → number < 2 ^ 16 }
-    requires room { vec_len out.old + 2 * length (index_units is_wide number) ≤ vec_capacity out.old }
+    requires room { vec_len out.old + 2 * length (index_units is_wide number)
+        ≤ vec_capacity out.old }
     ensures items { out.new.items ≡ out.old.items ++ flat_map ushort (index_units is_wide number) }
     ensures len { vec_len out.new ≡ vec_len out.old + 2 * length (index_units is_wide number) }
     ensures capacity { vec_capacity out.old ≤ vec_capacity out.new }

@@ -14,7 +14,8 @@ use std::alloc::Global;
 
 // The bytes of the units of the code_item at an offset, if there is room for them in the data.
 pub(crate) fn units_at<'a>(frame: &Frame<'a>, off: u32) -> Option<&'a [u8]>
-    ensures { MatchOption result (HasCodeRoom frame.now off → ⊥) (λ bytes. AreUnitsAt frame.now off bytes.now) }
+    ensures { MatchOption result (HasCodeRoom frame.now off
+        → ⊥) (λ bytes. AreUnitsAt frame.now off bytes.now) }
 {
     if off % 4 != 0 || !frame.is_in_data(off, 16) {
         return None;
@@ -44,7 +45,8 @@ pub fn read_pieces<'a>(
     off: u32,
 ) -> Result<Pieces<'a>, ItemFault>
     ensures registers { IfOk result (HasRegistersAt frame.now off) }
-    ensures pieces { ArePools frame.now pools.now → IfOk result (HasPiecesAt frame.now off pools.now) }
+    ensures pieces { ArePools frame.now pools.now
+        → IfOk result (HasPiecesAt frame.now off pools.now) }
     ensures refused { ArePools frame.now pools.now → IfErr result (IsPiecesFault frame.now off) }
 {
     let mut scratch = Scratch::new(alloc);

@@ -69,7 +69,8 @@ fn eq_mapped(
     other_remap: &Remap,
 ) -> bool
     requires { All (IsIndexed units.now) indices.now }
-    ensures { IsTrue result ↔ AllZip (AreEqualMapped remap.now other_remap.now units.now) indices.now others.now }
+    ensures { IsTrue result
+        ↔ AllZip (AreEqualMapped remap.now other_remap.now units.now) indices.now others.now }
 {
     if indices.len() != others.len() {
         return false;
@@ -93,7 +94,9 @@ fn same_pieces(
 ) -> bool
     requires stored { AreStored (units_in bytes.now) indices.now }
     requires others { AreStored (units_in other_bytes.now) other_indices.now }
-    ensures { IsTrue result ↔ (map (renumbered_piece remap.now) (pieces_with (parts_in (units_in bytes.now)) indices.now) ≡ map (renumbered_piece other_remap.now) (pieces_with (parts_in (units_in other_bytes.now)) other_indices.now)) }
+    ensures { IsTrue result ↔ (map (renumbered_piece remap.now) (pieces_with
+        (parts_in (units_in bytes.now)) indices.now) ≡ map (renumbered_piece other_remap.now)
+        (pieces_with (parts_in (units_in other_bytes.now)) other_indices.now)) }
 {
     let units = Units::of_bytes(bytes);
     if units.len() != Units::of_bytes(other_bytes).len() {

@@ -12,7 +12,8 @@ pub(crate) fn set_bit(words: &mut Vec<u64>, unit: usize)
     requires { unit / 64 < length words.old.items }
     ensures len { length words.new.items ≡ length words.old.items }
     ensures set { HasBit words.new.items unit }
-    ensures others { (k : ℕ) → (k ≡ unit → ⊥) → HasBit words.new.items k ↔ HasBit words.old.items k }
+    ensures others { (k : ℕ) → (k ≡ unit → ⊥) → HasBit words.new.items k
+        ↔ HasBit words.old.items k }
 {
     words[unit / 64] |= 1 << (unit % 64) as u32;
 }
@@ -23,7 +24,8 @@ pub(crate) fn put_bit(words: &mut Vec<u64>, unit: usize, bit: bool)
     requires { unit / 64 < length words.old.items }
     ensures len { length words.new.items ≡ length words.old.items }
     ensures set { bit ≡ true → HasBit words.new.items unit }
-    ensures others { (k : ℕ) → (k ≡ unit → bit ≡ true → ⊥) → HasBit words.new.items k ↔ HasBit words.old.items k }
+    ensures others { (k : ℕ) → (k ≡ unit → bit ≡ true → ⊥) → HasBit words.new.items k
+        ↔ HasBit words.old.items k }
 {
     words[unit / 64] |= u64::from(bit) << (unit % 64) as u32;
 }
@@ -63,7 +65,8 @@ fn are_set(words: &[u64], place: i64, mask: u64) -> bool
 pub(crate) fn groups_right(words: &[u64], groups: &[TargetGroup], at: usize) -> bool
     requires small { at < 2 ^ 62 }
     requires last { EndsEmpty words.now }
-    ensures { (result ≡ true) ↔ All (λ g. HasPlaces words.now (pos at +ℤ g.first) g.bits) groups.now }
+    ensures { (result ≡ true)
+        ↔ All (λ g. HasPlaces words.now (pos at +ℤ g.first) g.bits) groups.now }
 {
     for group in groups {
         if !are_set(words, at as i64 + i64::from(group.first), group.bits) {

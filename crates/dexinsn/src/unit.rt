@@ -33,7 +33,8 @@ fn count_before(indices: &[Index], unit: usize) -> usize
 fn is_in_index(units: &Units<'_>, first: usize, unit: usize) -> bool
     requires few { length units.now < 2 ^ 32 }
     requires first { first < length units.now }
-    ensures { result ≡ ((unit == first + 1) || ((unit == first + 2) && is_wide_index (drop first units.now))) }
+    ensures { result
+        ≡ ((unit == first + 1) || ((unit == first + 2) && is_wide_index (drop first units.now))) }
 {
     if unit == first + 1 {
         return true;

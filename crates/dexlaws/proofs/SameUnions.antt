@@ -9,7 +9,7 @@ use Rattle.dexspec.proofs.lists.Members.{Contains-flat_map, Contains-flat_map_so
 use Rattle.dexspec.proofs.merge.Absorption.{IsGood-within, IsCause-within}
 use Rattle.dexspec.proofs.merge.FirstCauses.{first_cause-same}
 use Rattle.dexspec.proofs.merge.Collections.{collection-one, definitions-same}
-use Rattle.dexlaws.specs.Merge.{HaveSameAnswer, NamesWithin}
+use Rattle.dexlaws.specs.Merge.{HaveSameResult, NamesWithin}
 
 pub turned : (D E : List Definition) → AreSame D E → AreSame E D
 turned D E same d = ((same d).1, (same d).0)
@@ -17,8 +17,8 @@ turned D E same d = ((same d).1, (same d).0)
 collection-same : (D E : List Definition) (K : Collection) → AreSame D E → IsCollectionOf D K → IsCollectionOf E K
 collection-same D E K same h name c = (λ e. (same (name, c)).0 ((h name c).0 e), λ has. (h name c).1 ((same (name, c)).1 has))
 
-pub same_answer : (caps : Caps) (D E : List Definition) → AreSame D E → HaveSameAnswer caps D E
-same_answer caps D E same = record {
+pub same_result : (caps : Caps) (D E : List Definition) → AreSame D E → HaveSameResult caps D E
+same_result caps D E same = record {
   good = (IsGood-within E D (λ d. (same d).1) caps, IsGood-within D E (λ d. (same d).0) caps);
   collection = λ K. (collection-same D E K same, collection-same E D K (turned D E same));
   cause = λ cause. (IsCause-within D E (λ d. (same d).0) caps cause, IsCause-within E D (λ d. (same d).1) caps cause);

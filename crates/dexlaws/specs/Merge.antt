@@ -8,7 +8,7 @@ use Rattle.dexspec.specs.Merging.{Caps, IsGood, Cause, IsCause, IsFirstCause, Pl
 
 -- both lists are mergeable or neither is, they form the same collection, and have the same causes and the same first
 -- cause
-pub record HaveSameAnswer (caps : Caps) (D E : List Definition) : Type 0 where
+pub record HaveSameResult (caps : Caps) (D E : List Definition) : Type 0 where
   pub good : IsGood caps D ↔ IsGood caps E
   pub collection : (K : Collection) → IsCollectionOf D K ↔ IsCollectionOf E K
   pub cause : (cause : Cause) → IsCause caps D cause ↔ IsCause caps E cause
@@ -47,6 +47,6 @@ StepsHaveSameFile first rest = (K L M : Collection) → IsCollectionOf first K �
     → IsCollectionOf (first ++ rest) M → canonical L ≡ canonical M
 
 -- merged in two steps or at once, definitions have the same result
-abbrev pub StepsHaveSameAnswer : Caps → List Definition → List Definition → Type 0
-StepsHaveSameAnswer caps first rest = (K : Collection) → IsCollectionOf first K
-    → HaveSameAnswer caps (definitions K ++ rest) (first ++ rest)
+abbrev pub StepsHaveSameResult : Caps → List Definition → List Definition → Type 0
+StepsHaveSameResult caps first rest = (K : Collection) → IsCollectionOf first K
+    → HaveSameResult caps (definitions K ++ rest) (first ++ rest)

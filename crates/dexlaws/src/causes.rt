@@ -24,11 +24,14 @@ pub fn acyclic_or_cycle()
 /// A depth is found within as many rounds as there are definitions. It is one more than the greatest depth of the
 /// defined parents, or 0 if there are none, so a defined parent has a lesser depth. Depths depend on the members alone.
 pub fn depth_is_found()
-    ensures rounds { (D : List Definition) (name : Text) → OnDepth D name (is_below D (length D) name ≡ true) }
-    ensures depth { (D : List Definition) (name : Text) → HasDepth D name → IsDepth D name (depth D name) }
+    ensures rounds { (D : List Definition) (name : Text)
+        → OnDepth D name (is_below D (length D) name ≡ true) }
+    ensures depth { (D : List Definition) (name : Text) → HasDepth D name
+        → IsDepth D name (depth D name) }
     ensures one_more { (D : List Definition) (name : Text) → HasDepth D name → IsOneMore D name }
     ensures bound { (D : List Definition) (name : Text) → OnDepth D name (depth D name < length D) }
-    ensures parents { (D : List Definition) (name parent : Text) → HasDepth D name → IsDeeperThan D name parent }
+    ensures parents { (D : List Definition) (name parent : Text) → HasDepth D name
+        → IsDeeperThan D name parent }
     ensures alone { (D E : List Definition) (name : Text) → AreSame D E → KeepsDepth D E name }
 {}
 
@@ -40,7 +43,8 @@ pub fn members_once()
 /// Either the definitions fit the caps, or they exceed some cap, and then there is a first such cap.
 pub fn fits_or_exceeds()
     ensures decided { (caps : Caps) (D : List Definition) → Fits caps D ⊎ HasFirstExceeded caps D }
-    ensures apart { (caps : Caps) (D : List Definition) (cap : Cap) → Fits caps D → Exceeds caps D cap → ⊥ }
+    ensures apart { (caps : Caps) (D : List Definition) (cap : Cap) → Fits caps D
+        → Exceeds caps D cap → ⊥ }
 {}
 
 /// Definitions are either mergeable or have a first cause against it. The first cause is unique, and depends on the
@@ -48,7 +52,8 @@ pub fn fits_or_exceeds()
 pub fn good_or_first_cause()
     ensures decided { (caps : Caps) (D : List Definition) → IsGood caps D ⊎ HasFirstCause caps D }
     ensures apart { (caps : Caps) → GoodHasNoCause caps }
-    ensures each { (caps : Caps) (D : List Definition) (cause : Cause) → IsDecided (IsCause caps D cause) }
+    ensures each { (caps : Caps) (D : List Definition) (cause : Cause)
+        → IsDecided (IsCause caps D cause) }
     ensures one { (caps : Caps) (D : List Definition) → HasAtMostOne (IsFirstCause caps D) }
     ensures alone { (caps : Caps) → FirstCauseRestsOnMembers caps }
 {}
@@ -57,8 +62,11 @@ pub fn good_or_first_cause()
 /// Other definitions form none, and each collection is that of its definitions.
 pub fn collection_of()
     ensures is { (D : List Definition) → IsConsistent D → IsCollectionOf D (map.from_entries D) }
-    ensures one { (D : List Definition) (K L : Collection) → IsCollectionOf D K → IsCollectionOf D L → K ≡ L }
-    ensures members { (D : List Definition) (K : Collection) → IsCollectionOf D K → AreDefinitionsOf D K }
-    ensures consistent { (D : List Definition) (K : Collection) → IsCollectionOf D K → IsConsistent D }
+    ensures one { (D : List Definition) (K L : Collection) → IsCollectionOf D K → IsCollectionOf D L
+        → K ≡ L }
+    ensures members { (D : List Definition) (K : Collection) → IsCollectionOf D K
+        → AreDefinitionsOf D K }
+    ensures consistent { (D : List Definition) (K : Collection) → IsCollectionOf D K
+        → IsConsistent D }
     ensures own { (K : Collection) → IsCollectionOf (definitions K) K }
 {}

@@ -48,13 +48,17 @@ pub fn header_law()
 
 /// A map is read at its offset: the number of its entries, and each entry.
 pub fn map_law()
-    ensures count { (b : List ℕ) (o : ℕ) (es : List (Section × ℕ × ℕ)) → OnMap b o es (uint_at b o ≡ length es) }
-    ensures entries { (b : List ℕ) (o : ℕ) (es : List (Section × ℕ × ℕ)) → OnMap b o es (HasEntries b o es) }
+    ensures count { (b : List ℕ) (o : ℕ) (es : List (Section × ℕ × ℕ))
+        → OnMap b o es (uint_at b o ≡ length es) }
+    ensures entries { (b : List ℕ) (o : ℕ) (es : List (Section × ℕ × ℕ))
+        → OnMap b o es (HasEntries b o es) }
 {}
 
 /// The canonical file of well-formed definitions that fit caps meets conditions 1 to 15, and each symbol that
 /// they mention is in the row of its index.
 pub fn pools_law()
-    ensures rows { (caps : Caps) (K : Collection) → OnFitsFormed caps K (HoldBelow 16 (canonical K)) }
-    ensures symbols { (caps : Caps) (K : Collection) (s : Symbol) → OnFitsFormed caps K (HasItsRow K s) }
+    ensures rows { (caps : Caps) (K : Collection)
+        → OnFitsFormed caps K (HoldBelow 16 (canonical K)) }
+    ensures symbols { (caps : Caps) (K : Collection) (s : Symbol)
+        → OnFitsFormed caps K (HasItsRow K s) }
 {}

@@ -55,7 +55,8 @@ pub fn depth_law()
 
 /// Distinct definitions weigh at most as much as any definitions that include them, and the order does not matter.
 pub fn weight_law()
-    ensures same { (D E : List Definition) → AreDistinct D → AreDistinct E → AreSame D E → weight D ≡ weight E }
+    ensures same { (D E : List Definition) → AreDistinct D → AreDistinct E → AreSame D E
+        → weight D ≡ weight E }
     ensures grow { (D E : List Definition) → AreDistinct D → AreWithin D E → weight D ≤ weight E }
 {}
 
@@ -67,5 +68,6 @@ pub fn absorption_law()
 
 /// Definitions that are mergeable under some caps have no cause against them.
 pub fn cause_law()
-    ensures { (caps : Caps) (D : List Definition) (cause : Cause) → IsGood caps D → IsCause caps D cause → ⊥ }
+    ensures { (caps : Caps) (D : List Definition) (cause : Cause) → IsGood caps D
+        → IsCause caps D cause → ⊥ }
 {}

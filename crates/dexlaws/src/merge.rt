@@ -4,12 +4,12 @@ ghost use Rattle.dexspec.specs.Classes.{Definition};
 ghost use Rattle.dexspec.specs.Files.{AreSame};
 ghost use Rattle.dexspec.specs.Merging.{Caps};
 ghost use Rattle.dexlaws.specs.Causes.{KeepsCauses};
-ghost use Rattle.dexlaws.specs.Merge.{HaveSameAnswer, PlansHaveSameUnion, PlansHaveSameFile, PartsAreWithin, PartsGiveCauses, PartsAreGood, StepsHaveSameFile, StepsHaveSameAnswer};
+ghost use Rattle.dexlaws.specs.Merge.{HaveSameResult, PlansHaveSameUnion, PlansHaveSameFile, PartsAreWithin, PartsGiveCauses, PartsAreGood, StepsHaveSameFile, StepsHaveSameResult};
 
 /// Lists of definitions with the same members, in any order and with any repeats, have the same result: both are
 /// mergeable or neither is, they form the same collection, and have the same first cause.
-pub fn answer_rests_on_members()
-    ensures { (caps : Caps) (D E : List Definition) → AreSame D E → HaveSameAnswer caps D E }
+pub fn result_depends_on_members()
+    ensures { (caps : Caps) (D E : List Definition) → AreSame D E → HaveSameResult caps D E }
 {}
 
 /// All plans for the same files have the same result: the same definitions, the same collection, the same canonical
@@ -31,6 +31,8 @@ pub fn parts_of_plans()
 /// that of all definitions merged at once. A cause against the first definitions is a cause against all.
 pub fn steps()
     ensures bytes { (first rest : List Definition) → StepsHaveSameFile first rest }
-    ensures answer { (caps : Caps) (first rest : List Definition) → StepsHaveSameAnswer caps first rest }
-    ensures causes { (caps : Caps) (first rest : List Definition) → KeepsCauses caps first (first ++ rest) }
+    ensures result_agrees { (caps : Caps) (first rest : List Definition)
+        → StepsHaveSameResult caps first rest }
+    ensures causes { (caps : Caps) (first rest : List Definition)
+        → KeepsCauses caps first (first ++ rest) }
 {}

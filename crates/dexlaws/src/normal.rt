@@ -17,7 +17,8 @@ ghost use Rattle.dexlaws.specs.Normal.{OnFitting, OnGood, RowsAreMentions, Menti
 pub fn strings_at_ranks()
     ensures rows { RowsAreMentions StringRow (λ m. m.texts) }
     ensures ranks { MentionsAreAtRanks text_cmp StringRow (λ m. m.texts) }
-    ensures holds { (K : Collection) → OnFitting K (HoldsThroughout Condition.Strings (canonical K)) }
+    ensures holds { (K : Collection)
+        → OnFitting K (HoldsThroughout Condition.Strings (canonical K)) }
 {}
 
 /// The type rows are the mentioned types, in order.
@@ -31,21 +32,24 @@ pub fn types_at_ranks()
 pub fn protos_at_ranks()
     ensures rows { RowsAreMentions ProtoRow (λ m. m.protos) }
     ensures ranks { MentionsAreAtRanks proto_cmp ProtoRow (λ m. m.protos) }
-    ensures holds { (K : Collection) → OnFitting K (HoldsThroughout Condition.Protos (canonical K)) }
+    ensures holds { (K : Collection)
+        → OnFitting K (HoldsThroughout Condition.Protos (canonical K)) }
 {}
 
 /// The field rows are the mentioned fields, in order.
 pub fn fields_at_ranks()
     ensures rows { RowsAreMentions FieldRow (λ m. m.fields) }
     ensures ranks { MentionsAreAtRanks field_cmp FieldRow (λ m. m.fields) }
-    ensures holds { (K : Collection) → OnFitting K (HoldsThroughout Condition.Fields (canonical K)) }
+    ensures holds { (K : Collection)
+        → OnFitting K (HoldsThroughout Condition.Fields (canonical K)) }
 {}
 
 /// The method rows are the mentioned methods, in order.
 pub fn methods_at_ranks()
     ensures rows { RowsAreMentions MethodRow (λ m. m.methods) }
     ensures ranks { MentionsAreAtRanks method_cmp MethodRow (λ m. m.methods) }
-    ensures holds { (K : Collection) → OnFitting K (HoldsThroughout Condition.Methods (canonical K)) }
+    ensures holds { (K : Collection)
+        → OnFitting K (HoldsThroughout Condition.Methods (canonical K)) }
 {}
 
 /// The class rows of the canonical file of a good collection are its definitions, in order, and all items of the rows
@@ -82,7 +86,8 @@ pub fn normal_form()
 pub fn files_normal_form()
     ensures accepted { (b : List ℕ) (K : Collection) → OnAccepted b K (HasAcceptedFile K) }
     ensures denotes { (b : List ℕ) (K : Collection) → OnAccepted b K (IsDenotedByFile K) }
-    ensures same { (a b : List ℕ) (K L : Collection) → OnAccepted a K (OnAccepted b L (FilesTellApart K L)) }
+    ensures same { (a b : List ℕ) (K L : Collection)
+        → OnAccepted a K (OnAccepted b L (FilesTellApart K L)) }
     ensures twice { (b : List ℕ) (K L : Collection) → OnAccepted b K (IsCanonicalAgain K L) }
 {}
 
@@ -91,5 +96,6 @@ pub fn files_normal_form()
 pub fn union_normal_form()
     ensures accepted { (caps : Caps) (files : List (List ℕ)) → OnUnion caps files HasAcceptedFile }
     ensures denotes { (caps : Caps) (files : List (List ℕ)) → OnUnion caps files IsDenotedByFile }
-    ensures some { (caps : Caps) (D : List Definition) → IsGood caps D → (K : Collection) × IsCollectionOf D K }
+    ensures some { (caps : Caps) (D : List Definition) → IsGood caps D → (K : Collection)
+        × IsCollectionOf D K }
 {}

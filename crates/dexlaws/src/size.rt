@@ -34,14 +34,16 @@ pub fn item_size_law()
 /// of its alignment.
 pub fn section_size_law()
     ensures bytes { (align from : ℕ) (items : List (List ℕ)) → ExtendsToEnd align from items }
-    ensures end { (align from : ℕ) (items : List (List ℕ)) → 0 < align → EndsWithin align from items }
+    ensures end { (align from : ℕ) (items : List (List ℕ)) → 0 < align
+        → EndsWithin align from items }
 {}
 
 /// Definitions of different names are in class order, each once, so any sum over them is the same. Those of a
 /// collection have different names.
 pub fn class_order_law()
     ensures names { (K : Collection) → AreDistinct (map (λ d. d.0) (definitions K)) }
-    ensures sums { (f : Definition → ℕ) (D : List Definition) → AreDistinct (map (λ d. d.0) D) → KeepsSum f D }
+    ensures sums { (f : Definition → ℕ) (D : List Definition) → AreDistinct (map (λ d. d.0) D)
+        → KeepsSum f D }
 {}
 
 /// All rows and sections have at most as many bytes as their contents weigh.
@@ -51,20 +53,24 @@ pub fn parts_size_law()
 
 /// The canonical file has at most as many bytes as its class definitions weigh.
 pub fn size_law()
-    ensures ordered { (D : List Definition) → HasFewTypes (mentions D) → length (ordered_file D) ≤ weight D }
-    ensures canonical { (K : Collection) → HasFewTypes (mentions (definitions K)) → IsWithinWeight K }
+    ensures ordered { (D : List Definition) → HasFewTypes (mentions D)
+        → length (ordered_file D) ≤ weight D }
+    ensures canonical { (K : Collection) → HasFewTypes (mentions (definitions K))
+        → IsWithinWeight K }
 {}
 
 /// The canonical file is at most as long as the file of the same definitions in which each use of a type list, of a
 /// debug program and of an annotation set has its own item.
 pub fn sharing_law()
     ensures ordered { (D : List Definition) → length (ordered_file D) ≤ length (unshared_file D) }
-    ensures canonical { (K : Collection) → length (canonical K) ≤ length (unshared_file (definitions K)) }
+    ensures canonical { (K : Collection)
+        → length (canonical K) ≤ length (unshared_file (definitions K)) }
 {}
 
 /// Distinct definitions that fit caps have a canonical file of at most as many bytes as the cap on weight. The
 /// canonical file of a collection meets the condition on size.
 pub fn fitting_size_law()
-    ensures ordered { (caps : Caps) (D : List Definition) → AreCaps caps → AreDistinct D → IsWithinCap caps D }
+    ensures ordered { (caps : Caps) (D : List Definition) → AreCaps caps → AreDistinct D
+        → IsWithinCap caps D }
     ensures canonical { (caps : Caps) (K : Collection) → OnFits caps K (HasSize (canonical K)) }
 {}

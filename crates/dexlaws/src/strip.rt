@@ -50,7 +50,8 @@ pub fn strip_mentions()
     ensures protos { (D : List Definition) → (mentions (strip D)).protos ≡ (mentions D).protos }
     ensures fields { (D : List Definition) → (mentions (strip D)).fields ≡ (mentions D).fields }
     ensures methods { (D : List Definition) → (mentions (strip D)).methods ≡ (mentions D).methods }
-    ensures short { (D : List Definition) (s : Text) → HasShortString (strip D) s ↔ HasShortString D s }
+    ensures short { (D : List Definition) (s : Text) → HasShortString (strip D) s
+        ↔ HasShortString D s }
 {}
 
 /// Stripped definitions weigh at most as much as the definitions; and distinct stripped definitions come from distinct
@@ -58,7 +59,8 @@ pub fn strip_mentions()
 pub fn strip_weight()
     ensures bodies { (c : Body) → body_weight (strip_body c) ≤ body_weight c }
     ensures whole { (D : List Definition) → weight (strip D) ≤ weight D }
-    ensures parts { (D E : List Definition) → AreDistinct E → AreWithin E (strip D) → HasHeavier D E }
+    ensures parts { (D E : List Definition) → AreDistinct E → AreWithin E (strip D)
+        → HasHeavier D E }
 {}
 
 /// If definitions are mergeable under some caps, so are the stripped definitions, and stripped well-formed definitions
@@ -67,7 +69,8 @@ pub fn strip_good()
     ensures good { (caps : Caps) (D : List Definition) → IsGood caps D → IsGood caps (strip D) }
     ensures fits { (caps : Caps) (D : List Definition) → Fits caps D → Fits caps (strip D) }
     ensures consistent { (D : List Definition) → IsConsistent D → IsConsistent (strip D) }
-    ensures conflict { (D : List Definition) (name : Text) → IsConflict (strip D) name → IsConflict D name }
+    ensures conflict { (D : List Definition) (name : Text) → IsConflict (strip D) name
+        → IsConflict D name }
     ensures cause { (caps : Caps) (D : List Definition) → KeepsCauses caps (strip D) D }
     ensures definition { (d : Definition) → IsWellFormed d → IsWellFormed (strip_definition d) }
     ensures well_formed { (D : List Definition) → AreWellFormed D → AreWellFormed (strip D) }
@@ -77,7 +80,8 @@ pub fn strip_good()
 /// collection in another order.
 pub fn strip_collection_law()
     ensures whole { (K : Collection) → StripsCollection K }
-    ensures listed { (D : List Definition) (K : Collection) → IsCollectionOf D K → FormsStripped D K }
+    ensures listed { (D : List Definition) (K : Collection) → IsCollectionOf D K
+        → FormsStripped D K }
 {}
 
 /// If collections merge to a collection by a plan, the stripped collections merge by this plan to the stripped one, and

@@ -17,7 +17,8 @@ ghost use Rattle.dexlaws.specs.Written.{Encodes, PlusOnesAreWritten, AreWritten,
 /// The shortest LEB128 of a number in range encodes the number.
 pub fn numbers_written()
     ensures unsigned { (b : List ℕ) (o v : ℕ) → v < 2 ^ 32 → Encodes Uleb128At b o v (uleb128 v) }
-    ensures signed { (b : List ℕ) (o : ℕ) (z : ℤ) → FitsSigned w32 z → Encodes Sleb128At b o z (sleb128 z) }
+    ensures signed { (b : List ℕ) (o : ℕ) (z : ℤ) → FitsSigned w32 z
+        → Encodes Sleb128At b o z (sleb128 z) }
     ensures one_more { (b : List ℕ) (o : ℕ) → PlusOnesAreWritten b o }
 {}
 
@@ -26,7 +27,8 @@ pub fn values_written()
     ensures value { AreWritten ValueAt IsValue value_symbols value_bytes }
     ensures values { AreWritten ValuesAt AreValues values_symbols values_bytes }
     ensures elements { AreWritten ElementsAt AreElements elements_symbols elements_bytes }
-    ensures array { (b : List ℕ) (m : Mentions) (o : ℕ) (vs : Values) → AreValues vs → ArrayIsWritten b m o vs }
+    ensures array { (b : List ℕ) (m : Mentions) (o : ℕ) (vs : Values) → AreValues vs
+        → ArrayIsWritten b m o vs }
 {}
 
 /// The bytes of an annotation, in the data, encode it.

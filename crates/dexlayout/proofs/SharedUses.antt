@@ -237,10 +237,10 @@ uses_joined uses a b fs gs hs ks fs' gs' hs' ks' ea ef eg eh ek =
 -- ---- what is returned
 
 -- what holds of a value that is returned
-pub on_answer : {A E : Type 0} {P : A → Type 0} (r : Result A E) → ((x : A) → r ≡ Ok x → P x) → IfOk r P
-on_answer (Ok x) each = each x refl
-on_answer (Err e) each = tt
+pub on_returned : {A E : Type 0} {P : A → Type 0} (r : Result A E) → ((x : A) → r ≡ Ok x → P x) → IfOk r P
+on_returned (Ok x) each = each x refl
+on_returned (Err e) each = tt
 
 -- the value that is returned
-pub of_answer : {A E : Type 0} (P : A → Type 0) (r : Result A E) (x : A) → r ≡ Ok x → IfOk r P → P x
-of_answer P r x e h = subst (λ q. IfOk q P) e h
+pub of_returned : {A E : Type 0} (P : A → Type 0) (r : Result A E) (x : A) → r ≡ Ok x → IfOk r P → P x
+of_returned P r x e h = subst (λ q. IfOk q P) e h

@@ -35,8 +35,10 @@ pub(crate) fn place_class_data(
 // Places the data of one class after the others.
 fn place_item(class: &Class<'_>, code_offs: &[u32], places: &mut Offsets) -> Result<(), AllocError>
     requires offsets { length code_offs.now ≡ length (methods_of class.now.members) }
-    requires fits { (place_use 1 places.old (class_data_size class.now code_offs.now)).end ≤ 2 ^ 30 }
-    ensures { OnOk result (places.new ≡ place_use 1 places.old (class_data_size class.now code_offs.now)) }
+    requires fits { (place_use 1 places.old (class_data_size class.now code_offs.now)).end
+        ≤ 2 ^ 30 }
+    ensures { OnOk result (places.new
+        ≡ place_use 1 places.old (class_data_size class.now code_offs.now)) }
 {
     let members = class.members();
     if members.field_count() == 0 && members.method_count() == 0 {

@@ -23,7 +23,8 @@ pub(crate) fn place_codes(
     classes: &[Class<'_>],
     from: u32,
 ) -> Result<Offsets, AllocError>
-    requires { (m : Mentions) × AreWritable m classes.now × (from ≡ debug_end (ordered_of m classes.now)) }
+    requires { (m : Mentions) × AreWritable m classes.now
+        × (from ≡ debug_end (ordered_of m classes.now)) }
     ensures { IfOk result (PlacedFrom debug_end AreCodes classes.now from) }
 {
     code_bytes_law();

@@ -33,7 +33,7 @@ use std::alloc::{AllocError, Global};
 
 /// The offsets of the items of each section of the data, in the order of the file.
 pub(crate) struct Data<'p> {
-    pub(crate) front: FirstSections<'p>,
+    pub(crate) first_sections: FirstSections<'p>,
     pub(crate) bodies: Bodies,
     pub(crate) back: Back,
 }
@@ -42,7 +42,7 @@ pub(crate) struct Data<'p> {
 impl Drop for Data<'_> {
     fn drop(self) {
         let Data {
-            front: _,
+            first_sections: _,
             bodies: _,
             back: _,
         } = self;
@@ -107,7 +107,8 @@ fn place_bodies(
     classes: &[Class<'_>],
     from: u32,
 ) -> Result<Bodies, AllocError>
-    requires { (m : Mentions) × AreWritable m classes.now × (from ≡ string_end (ordered_of m classes.now)) }
+    requires { (m : Mentions) × AreWritable m classes.now
+        × (from ≡ string_end (ordered_of m classes.now)) }
     ensures { IfOk result (PlacedFrom string_end AreBodies classes.now from) }
 {
     let debugs = place_debugs(alloc, numbering, classes, from)?;
@@ -126,17 +127,24 @@ fn place_back(
     alloc: Global,
     numbering: &Numbering<'_>,
     classes: &[Class<'_>],
-    front: &FirstSections<'_>,
+    first_sections: &FirstSections<'_>,
     numbers: &[Option<usize>],
     from: u32,
 ) -> Result<Back, AllocError>
     requires classes { AreWritable numbering.now classes.now }
-    requires front { AreFirstSections numbering.now classes.now front.now }
+    requires first_sections { AreFirstSections numbering.now classes.now first_sections.now }
     requires numbers { numbers.now ≡ (set_items (ordered_of numbering.now classes.now)).numbers }
     requires from { from ≡ class_data_end (ordered_of numbering.now classes.now) }
     ensures { IfOk result (AreBack numbering.now classes.now) }
 {
-    let sets = place_sets(alloc, numbering, classes, &front.annotations, numbers, from)?;
+    let sets = place_sets(
+        alloc,
+        numbering,
+        classes,
+        &first_sections.annotations,
+        numbers,
+        from,
+    )?;
     let ref_lists = place_ref_lists(alloc, numbering, classes, sets.methods().len(), sets.end())?;
     let directories = place_directories(
         alloc,
@@ -165,18 +173,18 @@ pub(crate) fn place_data<'p>(
     ensures { IfOk result (AreData numbering.now classes.now) }
 {
     let Shared { written, numbers } = share_sets(alloc, classes)?;
-    let front = place_first_sections(alloc, numbering, classes, written, from)?;
-    let bodies = place_bodies(alloc, numbering, classes, front.strings.end())?;
+    let first_sections = place_first_sections(alloc, numbering, classes, written, from)?;
+    let bodies = place_bodies(alloc, numbering, classes, first_sections.strings.end())?;
     let back = place_back(
         alloc,
         numbering,
         classes,
-        &front,
+        &first_sections,
         &numbers,
         bodies.class_data.end(),
     )?;
     Ok(Data {
-        front,
+        first_sections,
         bodies,
         back,
     })
@@ -200,32 +208,32 @@ impl Data<'_> {
         requires { IsDataFrom numbering.now self.now from }
         ensures { AreEntriesOf numbering.now self.now from result }
     {
-        let written = self.front.annotations.written();
+        let written = self.first_sections.annotations.written();
         [
             entry(
                 Section::TypeLists,
-                self.front.type_lists.written().len() as u32,
+                self.first_sections.type_lists.written().len() as u32,
                 round_up(from),
             ),
             entry(
                 Section::AnnotationItems,
                 count_annotations(written),
-                self.front.type_lists.places().end(),
+                self.first_sections.type_lists.places().end(),
             ),
             entry(
                 Section::EncodedArrayItems,
-                count_placed(self.front.static_values.offsets()) as u32,
-                self.front.annotations.places().end(),
+                count_placed(self.first_sections.static_values.offsets()) as u32,
+                self.first_sections.annotations.places().end(),
             ),
             entry(
                 Section::StringDataItems,
                 numbering.count(SymbolKind::Text) as u32,
-                self.front.static_values.end(),
+                self.first_sections.static_values.end(),
             ),
             entry(
                 Section::DebugInfoItems,
                 self.bodies.debugs.count() as u32,
-                self.front.strings.end(),
+                self.first_sections.strings.end(),
             ),
             entry(
                 Section::CodeItems,
@@ -257,15 +265,16 @@ impl Data<'_> {
 
     /// How many bytes the longest item of the sections has, or 0 where there is none.
     pub(crate) fn greatest(&self) -> usize
-        ensures { (m : Mentions) (cs : List NumberedClass) → AreData m cs self.now → result ≡ greatest_data m cs }
+        ensures { (m : Mentions) (cs : List NumberedClass) → AreData m cs self.now
+            → result ≡ greatest_data m cs }
     {
-        self.front
+        self.first_sections
             .type_lists
             .places()
             .greatest()
-            .max(self.front.annotations.places().greatest())
-            .max(self.front.static_values.greatest())
-            .max(self.front.strings.greatest())
+            .max(self.first_sections.annotations.places().greatest())
+            .max(self.first_sections.static_values.greatest())
+            .max(self.first_sections.strings.greatest())
             .max(self.bodies.debugs.places().greatest())
             .max(self.bodies.codes.greatest())
             .max(self.bodies.class_data.greatest())

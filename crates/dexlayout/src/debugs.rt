@@ -63,7 +63,8 @@ impl DebugPrograms {
 
 // The debug program of a method, if it has one.
 fn debug_of<'p>(method: &Method<'p, '_>) -> Option<&'p Debug>
-    ensures { MatchOption result (debug_of method.now ≡ None) (λ debug. debug_of method.now ≡ Some debug.now) }
+    ensures { MatchOption result (debug_of method.now ≡ None) (λ debug.
+        debug_of method.now ≡ Some debug.now) }
 {
     match method.code() {
         Some(code) => code.debug(),
@@ -76,7 +77,8 @@ fn add_debugs<'p>(
     sharing: &mut Sharing<&'p Debug>,
     methods: &Methods<'p, '_>,
 ) -> Result<(), AllocError>
-    ensures { AddsUses SharesDebugs result sharing.old sharing.new AreKnownMethods debugs_uses methods.now }
+    ensures { AddsUses SharesDebugs result sharing.old sharing.new AreKnownMethods debugs_uses
+        methods.now }
 {
     for i in 0..methods.len() {
         sharing.add(debug_of(&methods.get(i)))?;
@@ -89,7 +91,8 @@ fn add_members<'p>(
     sharing: &mut Sharing<&'p Debug>,
     members: &'p Members<'_>,
 ) -> Result<(), AllocError>
-    ensures { AddsUses SharesDebugs result sharing.old sharing.new AreKnownMembers members_debugs members.now }
+    ensures { AddsUses SharesDebugs result sharing.old sharing.new AreKnownMembers members_debugs
+        members.now }
 {
     add_debugs(sharing, &members.direct_methods())?;
     add_debugs(sharing, &members.virtual_methods())
@@ -141,7 +144,8 @@ pub(crate) fn place_debugs(
     classes: &[Class<'_>],
     from: u32,
 ) -> Result<DebugPrograms, AllocError>
-    requires { (m : Mentions) × AreWritable m classes.now × (from ≡ string_end (ordered_of m classes.now)) }
+    requires { (m : Mentions) × AreWritable m classes.now
+        × (from ≡ string_end (ordered_of m classes.now)) }
     ensures { IfOk result (PlacedFrom string_end AreDebugs classes.now from) }
 {
     let shared = share_debugs(alloc, classes)?;

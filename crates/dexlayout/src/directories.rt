@@ -28,8 +28,10 @@ fn place_directory(
     requires fields { length field_offs.now ≡ length (fields_of members.now) }
     requires methods { length method_offs.now ≡ length (methods_of members.now) }
     requires lists { length list_offs.now ≡ length (methods_of members.now) }
-    requires fits { (add_directory places.old own_off field_offs.now method_offs.now list_offs.now).end ≤ 2 ^ 30 }
-    ensures { OnOk result (places.new ≡ add_directory places.old own_off field_offs.now method_offs.now list_offs.now) }
+    requires fits { (add_directory places.old own_off field_offs.now method_offs.now
+        list_offs.now).end ≤ 2 ^ 30 }
+    ensures { OnOk result (places.new
+        ≡ add_directory places.old own_off field_offs.now method_offs.now list_offs.now) }
 {
     let len = members.directory_len(field_offs, method_offs, list_offs);
     if own_off == 0 && len == EMPTY_DIRECTORY {

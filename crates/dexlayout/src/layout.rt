@@ -52,7 +52,7 @@ impl<'p> Model for Layout<'p> {
 
     ghost coded = { Prim.hlevel (codes, elements_code) };
 
-    ghost view = { λ l. record { head = l.head; type_lists = l.placed.front.type_lists; annotations = l.placed.front.annotations; static_values = l.placed.front.static_values; strings = l.placed.front.strings; debugs = l.placed.bodies.debugs; codes = l.placed.bodies.codes; class_data = l.placed.bodies.class_data; sets = l.placed.back.sets; ref_lists = l.placed.back.ref_lists; directories = l.placed.back.directories; entries = map entry_meant l.entries.items; greatest = l.greatest } };
+    ghost view = { λ l. record { head = l.head; type_lists = l.placed.first_sections.type_lists; annotations = l.placed.first_sections.annotations; static_values = l.placed.first_sections.static_values; strings = l.placed.first_sections.strings; debugs = l.placed.bodies.debugs; codes = l.placed.bodies.codes; class_data = l.placed.bodies.class_data; sets = l.placed.back.sets; ref_lists = l.placed.back.ref_lists; directories = l.placed.back.directories; entries = map entry_meant l.entries.items; greatest = l.greatest } };
 }
 
 impl<'p> Layout<'p> {
@@ -61,7 +61,8 @@ impl<'p> Layout<'p> {
     pub fn of(alloc: Global, program: &'p Program<'_>) -> Result<Layout<'p>, AllocError>
         ensures laid { IfOk result (IsLayoutOf program.now) }
         ensures writable { IsWritable program.now }
-        ensures len { IfOk result (λ layout. layout.head.file_size ≡ length (canonical program.now)) }
+        ensures len { IfOk result (λ layout.
+            layout.head.file_size ≡ length (canonical program.now)) }
     {
         program.is_good();
         let numbering = program.numbering();
@@ -89,28 +90,28 @@ impl<'p> Layout<'p> {
     pub fn type_lists(&self) -> &TypeLists<'p>
         ensures { result.now ≡ self.now.type_lists }
     {
-        &self.placed.front.type_lists
+        &self.placed.first_sections.type_lists
     }
 
     /// The annotation sets that are written, and the offset of the first annotation of each.
     pub fn annotations(&self) -> &Annotations<'p>
         ensures { result.now ≡ self.now.annotations }
     {
-        &self.placed.front.annotations
+        &self.placed.first_sections.annotations
     }
 
     /// The offset of the static values of each class.
     pub fn static_values(&self) -> &Offsets
         ensures { result.now ≡ self.now.static_values }
     {
-        &self.placed.front.static_values
+        &self.placed.first_sections.static_values
     }
 
     /// The offset of each text.
     pub fn strings(&self) -> &Offsets
         ensures { result.now ≡ self.now.strings }
     {
-        &self.placed.front.strings
+        &self.placed.first_sections.strings
     }
 
     /// The debug programs, encoded, and their offsets: for each method.

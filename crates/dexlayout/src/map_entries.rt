@@ -24,7 +24,8 @@ pub(crate) fn map_entries(
     map_off: u32,
 ) -> Result<Vec<MapEntry>, AllocError>
     requires few { length tables.now + length sections.now < 100 }
-    ensures { IfOk result (λ entries. map entry_meant entries.items ≡ whole_map tables.now sections.now map_off) }
+    ensures { IfOk result (λ entries. map entry_meant entries.items
+        ≡ whole_map tables.now sections.now map_off) }
 {
     let mut entries = Vec::with_capacity(alloc, 2 + tables.len() + sections.len())?;
     entries.push(entry(Section::HeaderItem, 1, 0))?;
@@ -36,7 +37,8 @@ pub(crate) fn map_entries(
 
 // Appends the entries of the parts that are not empty.
 fn push_parts(parts: &[MapEntry], entries: &mut Vec<MapEntry>) -> Result<(), AllocError>
-    ensures { OnOk result (parts_in entries.new.items ≡ parts_in entries.old.items ++ full_parts parts.now) }
+    ensures { OnOk result (parts_in entries.new.items ≡ parts_in entries.old.items
+        ++ full_parts parts.now) }
 {
     for part in parts {
         if part.size > 0 {

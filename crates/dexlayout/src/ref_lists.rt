@@ -39,7 +39,8 @@ fn place_lists(methods: &Methods<'_, '_>, places: &mut Offsets) -> Result<(), Al
 // Places the lists of the methods of a class.
 fn place_class_lists(class: &Class<'_>, places: &mut Offsets) -> Result<(), AllocError>
     requires { (place_uses 4 places.old (list_sizes (methods_of class.now.members))).end ≤ 2 ^ 30 }
-    ensures { OnOk result (places.new ≡ place_uses 4 places.old (list_sizes (methods_of class.now.members))) }
+    ensures { OnOk result (places.new
+        ≡ place_uses 4 places.old (list_sizes (methods_of class.now.members))) }
 {
     let members = class.members();
     place_lists(&members.direct_methods(), places)?;

@@ -124,8 +124,10 @@ impl Sets {
         offs: &'o [u32],
     ) -> Result<&'o [u32], AllocError>
         requires { length (flat_map sets_of_method methods.now) ≤ length offs.now }
-        ensures collected { OnOk result (self.new ≡ collect_methods self.old (parts_of_methods methods.now offs.now)) }
-        ensures left { IfOk result (λ rest. rest.now ≡ drop (length (flat_map sets_of_method methods.now)) offs.now) }
+        ensures collected { OnOk result (self.new
+            ≡ collect_methods self.old (parts_of_methods methods.now offs.now)) }
+        ensures left { IfOk result (λ rest.
+            rest.now ≡ drop (length (flat_map sets_of_method methods.now)) offs.now) }
     {
         let mut rest = offs;
         for i in 0..methods.len() {
@@ -144,8 +146,10 @@ impl Sets {
         offs: &'o [u32],
     ) -> Result<&'o [u32], AllocError>
         requires { length (sets_of_class class.now) ≤ length offs.now }
-        ensures collected { OnOk result (self.new ≡ collect_class self.old (parts_of_class class.now offs.now)) }
-        ensures left { IfOk result (λ rest. rest.now ≡ drop (length (sets_of_class class.now)) offs.now) }
+        ensures collected { OnOk result (self.new
+            ≡ collect_class self.old (parts_of_class class.now offs.now)) }
+        ensures left { IfOk result (λ rest.
+            rest.now ≡ drop (length (sets_of_class class.now)) offs.now) }
     {
         let members = class.members();
         let (_, rest) = offs.split_at(1);

@@ -30,7 +30,8 @@ fn add_sets<'p>(
     sharing: &mut Sharing<&'p AnnotationSet>,
     sets: &ParameterSets<'p>,
 ) -> Result<(), AllocError>
-    ensures { AddsUses SharesSets result sharing.old sharing.new AreKnownParameters set_uses sets.now }
+    ensures { AddsUses SharesSets result sharing.old sharing.new AreKnownParameters set_uses
+        sets.now }
 {
     for i in 0..sets.len() {
         add_set(sharing, sets.get(i))?;
@@ -43,7 +44,8 @@ fn add_fields<'p>(
     sharing: &mut Sharing<&'p AnnotationSet>,
     fields: &Fields<'p>,
 ) -> Result<(), AllocError>
-    ensures { AddsUses SharesSets result sharing.old sharing.new AreKnownFields field_uses fields.now }
+    ensures { AddsUses SharesSets result sharing.old sharing.new AreKnownFields field_uses
+        fields.now }
 {
     for i in 0..fields.len() {
         add_set(sharing, fields.get(i).annotations())?;
@@ -56,7 +58,8 @@ fn add_method<'p>(
     sharing: &mut Sharing<&'p AnnotationSet>,
     method: &Method<'p, '_>,
 ) -> Result<(), AllocError>
-    ensures { AddsUses SharesSets result sharing.old sharing.new IsKnownMethod method_uses method.now }
+    ensures { AddsUses SharesSets result sharing.old sharing.new IsKnownMethod method_uses
+        method.now }
 {
     add_set(sharing, method.annotations())?;
     add_sets(sharing, &method.parameter_annotations())
@@ -67,7 +70,8 @@ fn add_methods<'p>(
     sharing: &mut Sharing<&'p AnnotationSet>,
     methods: &Methods<'p, '_>,
 ) -> Result<(), AllocError>
-    ensures { AddsUses SharesSets result sharing.old sharing.new AreKnownMethods methods_uses methods.now }
+    ensures { AddsUses SharesSets result sharing.old sharing.new AreKnownMethods methods_uses
+        methods.now }
 {
     for i in 0..methods.len() {
         add_method(sharing, &methods.get(i))?;
@@ -80,7 +84,8 @@ fn add_members<'p>(
     sharing: &mut Sharing<&'p AnnotationSet>,
     members: &'p Members<'_>,
 ) -> Result<(), AllocError>
-    ensures { AddsUses SharesSets result sharing.old sharing.new AreKnownMembers members_uses members.now }
+    ensures { AddsUses SharesSets result sharing.old sharing.new AreKnownMembers members_uses
+        members.now }
 {
     add_set(sharing, members.annotations())?;
     add_fields(sharing, &members.static_fields())?;

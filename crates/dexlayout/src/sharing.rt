@@ -39,7 +39,8 @@ impl<T: Eq + Hash + Drop> Sharing<T> {
 
     /// No uses, and memory for the numbers of `uses` of them.
     pub(crate) fn for_uses(alloc: Global, uses: usize) -> Result<Sharing<T>, AllocError>
-        ensures { IfOk result (λ sharing. HaveItems T.eq [] sharing.items.keys sharing.numbers.items) }
+        ensures { IfOk result (λ sharing.
+            HaveItems T.eq [] sharing.items.keys sharing.numbers.items) }
     {
         Ok(Sharing {
             items: IndexSet::new(alloc),
@@ -64,7 +65,8 @@ impl<T: Eq + Hash + Drop> Sharing<T> {
 
     /// The items, and the number of each use.
     pub(crate) fn finish(self, alloc: Global) -> Result<Shared<T>, AllocError>
-        ensures { (uses : List (Option T)) → HasUses T.eq uses self → IfOk result (AreOfUses T.eq uses) }
+        ensures { (uses : List (Option T)) → HasUses T.eq uses self
+            → IfOk result (AreOfUses T.eq uses) }
     {
         let Sharing { items, numbers } = self;
         let written = items.into_iter().collect(alloc)?;

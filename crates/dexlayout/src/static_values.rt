@@ -21,7 +21,8 @@ pub(crate) fn place_static_values(
     classes: &[Class<'_>],
     from: u32,
 ) -> Result<Offsets, AllocError>
-    requires { (m : Mentions) × AreWritable m classes.now × (from ≡ annotation_end (ordered_of m classes.now)) }
+    requires { (m : Mentions) × AreWritable m classes.now
+        × (from ≡ annotation_end (ordered_of m classes.now)) }
     ensures { IfOk result (PlacedFrom annotation_end AreStaticValues classes.now from) }
 {
     let mut places = Offsets::starting_at(alloc, from, classes.len())?;

@@ -78,7 +78,8 @@ fn add_interfaces<'p>(
     sharing: &mut Sharing<ListKey<'p>>,
     classes: &'p [Class<'_>],
 ) -> Result<(), AllocError>
-    ensures { AddsUses SharesLists result sharing.old sharing.new AreKnownClasses interfaces_uses classes.now }
+    ensures { AddsUses SharesLists result sharing.old sharing.new AreKnownClasses interfaces_uses
+        classes.now }
 {
     for i in 0..classes.len() {
         add_list(sharing, TypeNumbers::words(classes[i].interfaces()))?;

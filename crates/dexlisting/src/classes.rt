@@ -21,7 +21,7 @@ impl<W: Sink> Listing<'_, '_, '_, W> {
         for class in classes {
             self.put_class(class)?;
         }
-        self.pass_on()
+        self.flush()
     }
 
     // Puts the lines of a class: its own, those of its interfaces and of its source, and those of what it declares.

@@ -67,7 +67,7 @@ impl<W: Sink> Listing<'_, '_, '_, W> {
     }
 
     /// Writes what is buffered.
-    pub(crate) fn pass_on(&mut self) -> Result<(), DeviceFault>
+    pub(crate) fn flush(&mut self) -> Result<(), DeviceFault>
         requires { W.has_failed self.old.out.now ≡ false }
         ensures goes { GoesOn W.has_failed self.old self.new result }
         ensures reports { W.reports self.old.out.now → W.reports self.new.out.now }
@@ -89,7 +89,7 @@ impl<W: Sink> Listing<'_, '_, '_, W> {
         ensures none { OnOk result (65536 < more → self.new.buffered.items ≡ []) }
     {
         if ROOM - self.buffered.len() < more {
-            self.pass_on()?;
+            self.flush()?;
         }
         Ok(())
     }

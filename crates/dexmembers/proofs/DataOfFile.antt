@@ -332,12 +332,12 @@ data_moved m {c} {e} {x} {y} {o} {p} same bytes at ss is ds vs h =
 
 module _ (b : List ℕ) (m n : Mentions) (r class off : ℕ) (bytes : List ℕ) (pools : ArePools b m) (numbering : n ≡ m) (is : IsNumbering n) (class_is : class ≡ class_idx b r) (off_is : off ≡ class_data_off b r) (bytes_are : bytes ≡ b) (some : off ≡ 0 → ⊥) where
   -- what is read is what the row declares
-  pub read_answer : HasClass b r → IsInData b off 1 → (result : Result ClassData ItemFault) → IfOk result (λ d. DataAt m class bytes off d.static_fields.items d.instance_fields.items d.direct_methods.items d.virtual_methods.items) → IfOk result (IsDataOf b r m)
-  read_answer h within result read =
+  pub data_returned : HasClass b r → IsInData b off 1 → (result : Result ClassData ItemFault) → IfOk result (λ d. DataAt m class bytes off d.static_fields.items d.instance_fields.items d.direct_methods.items d.virtual_methods.items) → IfOk result (IsDataOf b r m)
+  data_returned h within result read =
       let in_data : data_off b ≤ class_data_off b r = subst (λ (o : ℕ). data_off b ≤ o) off_is within.following in
       read_so (λ d x. data_read b m pools (subst IsNumbering numbering is) r h (λ e. some (off_is ∙ e)) in_data d (data_moved m class_is bytes_are off_is d.static_fields.items d.instance_fields.items d.direct_methods.items d.virtual_methods.items x)) result read
 
   -- what is refused it does not declare
-  pub refused_answer : IsFrame b → (result : Result ClassData ItemFault) → IfErr result (IsDataRefusal (NoData m class bytes off)) → IfErr result (IsDataFault b r)
-  refused_answer frame result refused =
+  pub refusal_returned : IsFrame b → (result : Result ClassData ItemFault) → IfErr result (IsDataRefusal (NoData m class bytes off)) → IfErr result (IsDataFault b r)
+  refusal_returned frame result refused =
       refused_data b r (NoData m class bytes off) (λ none. no_data b m pools (subst IsNumbering numbering is) r frame (λ e. some (off_is ∙ e)) (λ ss is ds vs x. none ss is ds vs (data_moved m (sym class_is) (sym bytes_are) (sym off_is) ss is ds vs x))) result refused

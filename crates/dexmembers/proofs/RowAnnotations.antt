@@ -64,10 +64,10 @@ module _ (b : List ℕ) (r : ℕ) (m : Mentions) (read : DataRead) (is : IsDataO
         none (record { in_data = at.in_data; aligned = at.aligned }) (lists_rise b r m read is) (named_indices b m pools rising off a.0 at r read is a.2)
 
     -- what was read is that of the row
-    pub directory_answer : (most : ℕ) (found : Option SharedDirectory) → MatchOption found (HasHeavyDirectory b off most) (λ (a : SharedDirectory). IsDirectoryWithin b off m most (shared_directory_of a)) → NamesRead b off read
+    pub directory_returned : (most : ℕ) (found : Option SharedDirectory) → MatchOption found (HasHeavyDirectory b off most) (λ (a : SharedDirectory). IsDirectoryWithin b off m most (shared_directory_of a)) → NamesRead b off read
         → MatchOption found (AreHeavyAnnotations b r m read most) (AreAnnotationsOf b r m read)
-    directory_answer most None h names = record { directory = h.directory; at = directory_here h.directory h.at; named = named_members b m pools rising off h.directory h.at r read is names; heavy = h.heavy }
-    directory_answer most (Some a) h names = record {
+    directory_returned most None h names = record { directory = h.directory; at = directory_here h.directory h.at; named = named_members b m pools rising off h.directory h.at r read is names; heavy = h.heavy }
+    directory_returned most (Some a) h names = record {
       known = h.is.known;
       at = directory_here (directory_in m (shared_directory_of a)) h.is.at;
       named = named_members b m pools rising off (directory_in m (shared_directory_of a)) h.is.at r read is names;

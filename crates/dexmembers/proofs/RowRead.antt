@@ -55,15 +55,15 @@ module _ (b : List ℕ) (r : ℕ) (m : Mentions) (rising : AreRising m) (read : 
         made_row b r m rising (shared_directory_of a) parts.annotations.known read is is_known is_meant direct virtual parts.direct_codes.symbolic parts.virtual_codes.symbolic parts.direct_codes.at parts.direct_codes.are_encoded parts.virtual_codes.at parts.virtual_codes.are_encoded vs parts.annotations.at parts.values.are.at
 
     -- what is returned for them
-    pub parts_answer : (made : NumberedMembers) → made ≡ attached read (shared_directory_of a) direct virtual vs → (found : Option (NumberedMembers × ℕ)) → MatchOption found (most < members_weight (members_in m made)) (λ (x : NumberedMembers × ℕ). (x.0 ≡ made) × (x.1 ≡ members_weight (members_in m made)) × (x.1 ≤ most))
+    pub parts_returned : (made : NumberedMembers) → made ≡ attached read (shared_directory_of a) direct virtual vs → (found : Option (NumberedMembers × ℕ)) → MatchOption found (most < members_weight (members_in m made)) (λ (x : NumberedMembers × ℕ). (x.0 ≡ made) × (x.1 ≡ members_weight (members_in m made)) × (x.1 ≤ most))
         → AreReadWithin b r m most found
-    parts_answer made same None heavy = record {
+    parts_returned made same None heavy = record {
       readable = row_readable b r m read is (record { directory = directory_in m (shared_directory_of a); at = parts.annotations.at; named = parts.annotations.named }) (parts.direct_codes.symbolic, parts.direct_codes.at) (parts.virtual_codes.symbolic, parts.virtual_codes.at) (values_in m vs, parts.values.are);
       members = members_in m (attached read (shared_directory_of a) direct virtual vs);
       row = parts_row;
       heavy = subst (λ (x : NumberedMembers). most < members_weight (members_in m x)) same heavy;
     }
-    parts_answer made same (Some y) h =
+    parts_returned made same (Some y) h =
         let whole = h.0 ∙ same in
         let weighs : y.1 ≡ members_weight (members_in m (attached read (shared_directory_of a) direct virtual vs)) = h.1 ∙ ap (λ (x : NumberedMembers). members_weight (members_in m x)) same in
         subst (λ (x : NumberedMembers). AreReadWithin b r m most (Some (x, y.1))) (sym whole) (

@@ -26,8 +26,8 @@ less_below x y e = grind arith
 pub below_less : (x y : ℕ) → x < y → nat_cmp x y ≡ Less
 below_less x y lt = grind arith
 
-answers_rise : (x y n : ℕ) → x < y → ordering_index (nat_cmp x n) ≤ ordering_index (nat_cmp y n)
-answers_rise x y n lt = grind arith
+indices_rise : (x y n : ℕ) → x < y → ordering_index (nat_cmp x n) ≤ ordering_index (nat_cmp y n)
+indices_rise x y n lt = grind arith
 
 not_tied : (m n : ℕ) → m ≢ n → is_eq (nat_cmp m n) ≡ false
 not_tied m n ne = by (nat_cmp m n) refl
@@ -53,7 +53,7 @@ module _ {T : Type 0} (key : T → ℕ) where
   -- so the answers of a search rise
   pub keys_searched : (xs : List T) (n : ℕ) → NumbersRise (map key xs) → IsNonDecreasingBy (λ x. ordering_index (nat_cmp (key x) n)) xs
   keys_searched xs n h i j d le lt = elim (cases_lt i j) [
-    | inl less ↦ answers_rise (key (get_or xs i d)) (key (get_or xs j d)) n (keys_less xs i j d h less lt)
+    | inl less ↦ indices_rise (key (get_or xs i d)) (key (get_or xs j d)) n (keys_less xs i j d h less lt)
     | inr ge ↦
         let same : i ≡ j = omega arith in
         subst (λ (k : ℕ). ordering_index (nat_cmp (key (get_or xs i d)) n) ≤ ordering_index (nat_cmp (key (get_or xs k d)) n)) same (omega arith)

@@ -19,7 +19,8 @@ fn entry_of(entries: &[(u32, u32)], number: u32) -> Option<usize>
 // Returns the place in the entry of a number, if there is one.
 fn place_for(entries: &[(u32, u32)], number: u32) -> Option<u32>
     ensures found { EntriesRise entries.now → result ≡ place_for entries.now number }
-    ensures held { (limit : ℕ) → PlacesBelow limit entries.now → IfSome result (λ place. place < limit) }
+    ensures held { (limit : ℕ) → PlacesBelow limit entries.now
+        → IfSome result (λ place. place < limit) }
 {
     match entry_of(entries, number) {
         Some(at) => Some(entries[at].1),
@@ -36,7 +37,8 @@ pub(crate) fn attach_fields(
     sets: &[(u32, u32)],
 ) -> Result<Vec<DeclaredField>, AllocError>
     ensures fields { EntriesRise sets.now → IfOk result (AreHeldFields sets.now listed.now) }
-    ensures held { (limit : ℕ) → PlacesBelow limit sets.now → IfOk result (HaveFieldSetsBelow limit) }
+    ensures held { (limit : ℕ) → PlacesBelow limit sets.now
+        → IfOk result (HaveFieldSetsBelow limit) }
 {
     let mut fields = Vec::with_capacity(alloc, listed.len())?;
     for field in listed {
@@ -60,8 +62,10 @@ pub(crate) fn attach_methods<'a>(
     lists: &[(u32, u32)],
 ) -> Result<Vec<DeclaredMethod<'a>>, AllocError>
     ensures methods { AttachesMethods sets.now lists.now listed.now codes.entry.items result }
-    ensures sets_held { (limit : ℕ) → PlacesBelow limit sets.now → IfOk result (HaveSetsBelow limit) }
-    ensures lists_held { (limit : ℕ) → PlacesBelow limit lists.now → IfOk result (HaveListsBelow limit) }
+    ensures sets_held { (limit : ℕ) → PlacesBelow limit sets.now
+        → IfOk result (HaveSetsBelow limit) }
+    ensures lists_held { (limit : ℕ) → PlacesBelow limit lists.now
+        → IfOk result (HaveListsBelow limit) }
 {
     let mut methods = Vec::with_capacity(alloc, listed.len())?;
     let mut codes = codes.into_iter();

@@ -65,9 +65,11 @@ pub fn check_members(
 ) -> Result<u64, ItemFault>
     requires row { row < table_size frame.now ClassDefs }
     requires checks { ArePools frame.now pools.now → AreChecks frame.now pools.now checks.old }
-    ensures checks { ArePools frame.now pools.now → OnOk result (AreChecks frame.now pools.now checks.new) }
+    ensures checks { ArePools frame.now pools.now
+        → OnOk result (AreChecks frame.now pools.now checks.new) }
     ensures checked { InClass frame.now pools.now row (IfOk result (HasMembersOf frame.now row)) }
-    ensures refused { InClass frame.now pools.now row (IfErr result (IsMembersFault frame.now row)) }
+    ensures refused { InClass frame.now pools.now row
+        (IfErr result (IsMembersFault frame.now row)) }
 {
     pools.numbering().is_numbering();
     let row = ClassDef::at(frame, row);

@@ -56,7 +56,8 @@ struct Counts {
 // The four counts at a place, and how many bytes spell them.
 fn read_counts(bytes: &[u8], at: usize) -> Option<(Counts, usize)>
     requires { at ≤ length bytes.now }
-    ensures none { IfNone result ((c d e f n : ℕ) → Sequence Uleb128At bytes.now at (c ∷ d ∷ e ∷ f ∷ []) n → ⊥) }
+    ensures none { IfNone result ((c d e f n : ℕ)
+        → Sequence Uleb128At bytes.now at (c ∷ d ∷ e ∷ f ∷ []) n → ⊥) }
     ensures some { IfSome result (λ x. AreCountsAt bytes.now at x.0 x.1) }
     ensures within { IfSome result (λ x. at + x.1 ≤ length bytes.now) }
 {
@@ -94,7 +95,8 @@ fn read_data(
 ) -> Result<ClassData, ItemFault>
     requires { at ≤ length bytes.now }
     ensures data { IfOk result (IsDataAt owner.entry.pools.now owner.entry.class bytes.now at) }
-    ensures fault { IfErr result (IsDataRefusal (NoData owner.entry.pools.now owner.entry.class bytes.now at)) }
+    ensures fault { IfErr result
+        (IsDataRefusal (NoData owner.entry.pools.now owner.entry.class bytes.now at)) }
 {
     let (counts, counts_size) = match read_counts(bytes, at) {
         Some(read) => read,

@@ -101,7 +101,8 @@ fn put_within<T: Encode>(item: &T, most: usize, out: &mut Vec<u8>) -> Result<(),
 impl Members<'_> {
     // No class data of as many members has more bytes.
     fn most_class_data_len(&self) -> usize
-        ensures { result ≡ 20 + 10 * length (fields_of self.now) + 15 * length (methods_of self.now) }
+        ensures { result ≡ 20 + 10 * length (fields_of self.now)
+            + 15 * length (methods_of self.now) }
     {
         self.are_few();
         20 + 10 * self.field_count() + 15 * self.method_count()
@@ -137,9 +138,11 @@ impl Members<'_> {
     /// Source: "class_data_item", "encoded_field format" and "encoded_method format".
     pub fn put_class_data(&self, code_offs: &[u32], out: &mut Vec<u8>) -> Result<(), AllocError>
         requires offsets { length code_offs.now ≡ length (methods_of self.now) }
-        ensures bytes { Puts (numbered_class_data_bytes self.now code_offs.now) out.old out.new result }
+        ensures bytes { Puts
+            (numbered_class_data_bytes self.now code_offs.now) out.old out.new result }
         ensures symbolic { PutsDenotedClassData self.now code_offs.now out.old out.new result }
-        ensures room { vec_len out.old + class_data_room self.now ≤ vec_capacity out.old → IsOk result }
+        ensures room { vec_len out.old + class_data_room self.now ≤ vec_capacity out.old
+            → IsOk result }
     {
         members_bytes_law();
         let most = self.most_class_data_len();

@@ -47,9 +47,11 @@ fn checked_code_at(
     checked: &mut CheckedCodes,
 ) -> Result<u64, ItemFault>
     requires { ArePools frame.now pools.now → AreCheckedCodes frame.now checked.old }
-    ensures checked { ArePools frame.now pools.now → OnOk result (AreCheckedCodes frame.now checked.new) }
+    ensures checked { ArePools frame.now pools.now
+        → OnOk result (AreCheckedCodes frame.now checked.new) }
     ensures weight { ArePools frame.now pools.now → IfOk result (HasCodeOrNoneOf frame.now off) }
-    ensures refused { ArePools frame.now pools.now → IfErr result (IsCodeOrNoneFault frame.now off) }
+    ensures refused { ArePools frame.now pools.now
+        → IfErr result (IsCodeOrNoneFault frame.now off) }
 {
     if off == 0 {
         return Ok(0);
@@ -82,9 +84,12 @@ pub(crate) fn check_codes(
     checked: &mut CheckedCodes,
 ) -> Result<u64, ItemFault>
     requires { ArePools frame.now pools.now → AreCheckedCodes frame.now checked.old }
-    ensures checked { ArePools frame.now pools.now → OnOk result (AreCheckedCodes frame.now checked.new) }
-    ensures weight { ArePools frame.now pools.now → IfOk result (HaveCodesOf frame.now methods.now) }
-    ensures refused { ArePools frame.now pools.now → IfErr result (IsCodesFault frame.now methods.now) }
+    ensures checked { ArePools frame.now pools.now
+        → OnOk result (AreCheckedCodes frame.now checked.new) }
+    ensures weight { ArePools frame.now pools.now
+        → IfOk result (HaveCodesOf frame.now methods.now) }
+    ensures refused { ArePools frame.now pools.now
+        → IfErr result (IsCodesFault frame.now methods.now) }
 {
     let mut weight: u64 = 0;
     for method in methods {

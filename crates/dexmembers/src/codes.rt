@@ -22,8 +22,10 @@ fn code_or_none<'a>(
     pools: &Pools<'_>,
     off: u32,
 ) -> Result<Option<Code<'a>>, ItemFault>
-    ensures read { ArePools frame.now pools.now → IfOk result (IsCodeOrNone frame.now off pools.now) }
-    ensures refused { ArePools frame.now pools.now → IfErr result (IsCodeOrNoneFault frame.now off) }
+    ensures read { ArePools frame.now pools.now
+        → IfOk result (IsCodeOrNone frame.now off pools.now) }
+    ensures refused { ArePools frame.now pools.now
+        → IfErr result (IsCodeOrNoneFault frame.now off) }
 {
     if off == 0 {
         return Ok(None);
@@ -49,7 +51,8 @@ fn left_after(left: u64, code: &Code<'_>) -> Option<u64>
 
 // Returns what is left after the code of a method that may have none.
 fn left_after_any(left: u64, code: &Option<Code<'_>>) -> Option<u64>
-    ensures symbolic { ForDenotedOrNone code.now (λ m x. IsTaken left (optional_code_weight x) result) }
+    ensures symbolic { ForDenotedOrNone code.now (λ m x.
+        IsTaken left (optional_code_weight x) result) }
     ensures numbered { IfSome result (λ rest. rest + codes_weight (code.now ∷ []) ≡ left) }
 {
     match code {
@@ -75,9 +78,12 @@ pub(crate) fn read_codes<'a>(
     methods: &[EncodedMethod],
     most: u64,
 ) -> Result<Option<WeighedCodes<'a>>, ItemFault>
-    ensures read { ArePools frame.now pools.now → IfOk result (CodesWithin frame.now pools.now methods.now most) }
-    ensures weight { IfOk result (λ codes. IfSome codes (λ codes. codes.1 ≡ codes_weight codes.0.items)) }
-    ensures refused { ArePools frame.now pools.now → IfErr result (IsCodesFault frame.now methods.now) }
+    ensures read { ArePools frame.now pools.now
+        → IfOk result (CodesWithin frame.now pools.now methods.now most) }
+    ensures weight { IfOk result (λ codes.
+        IfSome codes (λ codes. codes.1 ≡ codes_weight codes.0.items)) }
+    ensures refused { ArePools frame.now pools.now
+        → IfErr result (IsCodesFault frame.now methods.now) }
 {
     pools.numbering().is_numbering();
     let mut codes = Vec::with_capacity(alloc, room(methods.len()))?;

@@ -269,9 +269,16 @@ impl Members<'_> {
         requires fields { length field_offs.now ≡ length (fields_of self.now) }
         requires methods { length method_offs.now ≡ length (methods_of self.now) }
         requires parameters { length parameter_offs.now ≡ length (methods_of self.now) }
-        ensures bytes { Puts (numbered_directory_bytes self.now own_off field_offs.now method_offs.now parameter_offs.now) out.old out.new result }
-        ensures symbolic { (m : Mentions) (name : Text) (c : Body) (sets : SetOffsets) (item : List ℕ) → AreRising m → AreKnownMembers m self.now → AreOrdered self.now → AreOfClass m name self.now → members_of c ≡ members_in m self.now → sets.own ≡ own_off → sets.fields ≡ field_offs.now → map (λ offs. slice_index offs 0) sets.methods ≡ method_offs.now → directory_bytes m (name, c) sets parameter_offs.now ≡ Some item → Puts item out.old out.new result }
-        ensures room { HasDirectoryRoom field_offs.now method_offs.now parameter_offs.now out.old → IsOk result }
+        ensures bytes { Puts (numbered_directory_bytes self.now own_off field_offs.now
+            method_offs.now parameter_offs.now) out.old out.new result }
+        ensures symbolic { (m : Mentions) (name : Text) (c : Body) (sets : SetOffsets)
+            (item : List ℕ) → AreRising m → AreKnownMembers m self.now → AreOrdered self.now
+            → AreOfClass m name self.now → members_of c ≡ members_in m self.now → sets.own ≡ own_off
+            → sets.fields ≡ field_offs.now → map (λ offs. slice_index offs 0) sets.methods
+            ≡ method_offs.now → directory_bytes m (name, c) sets parameter_offs.now ≡ Some item
+            → Puts item out.old out.new result }
+        ensures room { HasDirectoryRoom field_offs.now method_offs.now parameter_offs.now out.old
+            → IsOk result }
     {
         members_bytes_law();
         self.are_few();

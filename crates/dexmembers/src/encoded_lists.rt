@@ -81,8 +81,10 @@ pub(crate) fn read_lists<T: Encoded>(
     other_count: u32,
 ) -> Result<(Vec<T>, Vec<T>, usize), ItemFault>
     requires { at ≤ length bytes.now }
-    ensures lists { IfOk result (ReadsLists T.encodes T.index_of owner.entry bytes.now at count other_count) }
-    ensures fault { IfErr result (RefusesLists T.encodes T.index_of owner.entry bytes.now at count other_count) }
+    ensures lists { IfOk result
+        (ReadsLists T.encodes T.index_of owner.entry bytes.now at count other_count) }
+    ensures fault { IfErr result
+        (RefusesLists T.encodes T.index_of owner.entry bytes.now at count other_count) }
 {
     T::law();
     let (members, size) = read_list(alloc, owner, bytes, at, count)?;

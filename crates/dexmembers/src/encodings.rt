@@ -37,8 +37,10 @@ pub(crate) trait Encoded: Copy {
         last: Option<u32>,
     ) -> Option<(Self, usize)>
         requires { at ≤ length bytes.now }
-        ensures none { IfNone result (NoMember (encodes owner.entry.pools.now owner.entry.class) bytes.now at last) }
-        ensures some { IfSome result (IsMember (encodes owner.entry.pools.now owner.entry.class) bytes.now at last) }
+        ensures none { IfNone result
+            (NoMember (encodes owner.entry.pools.now owner.entry.class) bytes.now at last) }
+        ensures some { IfSome result
+            (IsMember (encodes owner.entry.pools.now owner.entry.class) bytes.now at last) }
         ensures within { IfSome result (λ x. at + x.1 ≤ length bytes.now) };
 
     // There is at most one member at an offset, it has one size, and its index is above the one before it.

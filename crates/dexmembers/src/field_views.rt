@@ -123,7 +123,8 @@ impl<'m> Field<'m> {
     ///
     /// Source: "field_annotation format".
     pub fn annotations(&self) -> Option<&'m AnnotationSet>
-        ensures { MatchOption result (self.now.annotations ≡ []) (λ set. set_of set.now ≡ self.now.annotations) }
+        ensures { MatchOption result (self.now.annotations ≡ []) (λ set.
+            set_of set.now ≡ self.now.annotations) }
     {
         let (table, field) = (self.table, self.field);
         table.set(field.set)

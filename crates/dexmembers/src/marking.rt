@@ -19,7 +19,8 @@ use dexval::{AnnotationSet, visit_values};
 
 // Passes the symbols of a set, if there is one, to the visitor.
 fn visit_set<V: Visitor>(set: Option<&AnnotationSet>, visitor: &mut V)
-    ensures { ForSet set.entry (λ visited. FoldsTo V.step visitor.old (set_uses visited) visitor.new) }
+    ensures { ForSet set.entry (λ visited.
+        FoldsTo V.step visitor.old (set_uses visited) visitor.new) }
 {
     if let Some(set) = set {
         set.visit(visitor);
@@ -58,7 +59,8 @@ impl Symbols for Fields<'_> {
 // Marks the symbols of code, if there is some.
 fn mark_code(code: Option<&Code<'_>>, marks: &mut Marks)
     requires { IfSome code (λ code. All (HasMark marks.old) (item_uses code.now)) }
-    ensures { ForCode code.entry (λ marked. AreMarkedToo (optional_code_uses marked) marks.old marks.new) }
+    ensures { ForCode code.entry (λ marked.
+        AreMarkedToo (optional_code_uses marked) marks.old marks.new) }
 {
     if let Some(code) = code {
         code.mark(marks);

@@ -198,7 +198,8 @@ impl<'a> Members<'a> {
     ///
     /// Source: "annotations_directory_item", the field `class_annotations_off`.
     pub fn annotations(&self) -> Option<&AnnotationSet>
-        ensures { MatchOption result (self.now.annotations ≡ []) (λ set. set_of set.now ≡ self.now.annotations) }
+        ensures { MatchOption result (self.now.annotations ≡ []) (λ set.
+            set_of set.now ≡ self.now.annotations) }
     {
         self.contents.annotations()
     }

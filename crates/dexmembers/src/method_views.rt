@@ -153,7 +153,8 @@ impl<'m, 'a> Method<'m, 'a> {
     ///
     /// Source: "code_item".
     pub fn code(&self) -> Option<&'m Code<'a>>
-        ensures { MatchOption result (self.now.code ≡ None) (λ code. self.now.code ≡ Some code.now) }
+        ensures { MatchOption result (self.now.code ≡ None) (λ code.
+            self.now.code ≡ Some code.now) }
     {
         let method = self.method;
         method.code.as_ref()
@@ -163,7 +164,8 @@ impl<'m, 'a> Method<'m, 'a> {
     ///
     /// Source: "method_annotation format".
     pub fn annotations(&self) -> Option<&'m AnnotationSet>
-        ensures { MatchOption result (self.now.annotations ≡ []) (λ set. set_of set.now ≡ self.now.annotations) }
+        ensures { MatchOption result (self.now.annotations ≡ []) (λ set.
+            set_of set.now ≡ self.now.annotations) }
     {
         let (table, method) = (self.table, self.method);
         table.set(method.set)
@@ -210,7 +212,8 @@ impl<'m> ParameterSets<'m> {
     ///
     /// Source: "annotation_set_ref_list".
     pub fn list_size(&self) -> u64
-        ensures { (offsets : List ℕ) → length offsets ≡ length self.now → result ≡ length (offsets_bytes offsets) }
+        ensures { (offsets : List ℕ) → length offsets ≡ length self.now
+            → result ≡ length (offsets_bytes offsets) }
     {
         4 + 4 * self.places.len() as u64
     }

@@ -19,8 +19,10 @@ fn has_member<T: Encoded>(members: &[T], index: u32) -> bool
 
 // Returns whether a member of one of two lists has this index.
 fn declares_member<T: Encoded>(first: &[T], second: &[T], index: u32) -> bool
-    ensures listed { IsTrue result → Contains (map T.index_of first.now ++ map T.index_of second.now) index }
-    ensures missing { FindsInBoth (map T.index_of first.now) (map T.index_of second.now) index result }
+    ensures listed { IsTrue result
+        → Contains (map T.index_of first.now ++ map T.index_of second.now) index }
+    ensures missing { FindsInBoth (map T.index_of first.now)
+        (map T.index_of second.now) index result }
 {
     if has_member(first, index) {
         return true;
@@ -41,8 +43,10 @@ pub(crate) fn names_members<T: Encoded>(
 ) -> bool
     requires within { at + 8 * count ≤ length frame.now }
     requires fits { at < 2 ^ 40 }
-    ensures listed { IsTrue result → NamesOnly frame.now at count (both_indices T.index_of first.now second.now) }
-    ensures missing { FindsEach (map T.index_of first.now) (map T.index_of second.now) frame.now at count result }
+    ensures listed { IsTrue result
+        → NamesOnly frame.now at count (both_indices T.index_of first.now second.now) }
+    ensures missing { FindsEach (map T.index_of first.now)
+        (map T.index_of second.now) frame.now at count result }
 {
     let bytes = frame.bytes();
     for i in 0..count {

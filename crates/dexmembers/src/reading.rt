@@ -51,8 +51,10 @@ pub fn read_members<'a>(
     most: u32,
 ) -> Result<Option<(Members<'a>, u32)>, ItemFault>
     requires row { row < table_size frame.now ClassDefs }
-    ensures read { InClass frame.now pools.now row (IfOk result (AreReadWithin frame.now row pools.now most)) }
-    ensures refused { InClass frame.now pools.now row (IfErr result (IsMembersFault frame.now row)) }
+    ensures read { InClass frame.now pools.now row
+        (IfOk result (AreReadWithin frame.now row pools.now most)) }
+    ensures refused { InClass frame.now pools.now row
+        (IfErr result (IsMembersFault frame.now row)) }
 {
     pools.numbering().is_numbering();
     code_meaning_law();

@@ -38,7 +38,8 @@ pub(crate) fn names_declared(frame: &Frame<'_>, off: u32, declared: &ClassData) 
 
 // The directory of a row that has none.
 fn no_directory(alloc: Global) -> SharedDirectory
-    ensures none { shared_directory_of result ≡ record { own = []; fields = []; methods = []; parameters = [] } }
+    ensures none { shared_directory_of result
+        ≡ record { own = []; fields = []; methods = []; parameters = [] } }
     ensures entered { AreEntered result }
     ensures held { IsHeldDirectory result }
 {
@@ -67,7 +68,8 @@ pub(crate) fn read_annotations(
     most: u64,
 ) -> Result<Option<SharedDirectory>, ItemFault>
     ensures read { ReadsAnnotations frame.now pools.now off declared.now most result }
-    ensures within { ArePools frame.now pools.now → IfOk result (λ found. IfSome found (IsLight pools.now most)) }
+    ensures within { ArePools frame.now pools.now
+        → IfOk result (λ found. IfSome found (IsLight pools.now most)) }
     ensures held { IfOk result (λ found. IfSome found IsHeldDirectory) }
     ensures refused { RefusesAnnotations frame.now pools.now off declared.now result }
 {

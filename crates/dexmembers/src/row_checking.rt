@@ -29,7 +29,8 @@ pub(crate) fn check_annotations(
     checked: &mut CheckedSets,
 ) -> Result<u64, ItemFault>
     requires checked { ArePools frame.now pools.now → AreChecked frame.now pools.now checked.old }
-    ensures checked { ArePools frame.now pools.now → OnOk result (AreChecked frame.now pools.now checked.new) }
+    ensures checked { ArePools frame.now pools.now
+        → OnOk result (AreChecked frame.now pools.now checked.new) }
     ensures weight { WeighsAnnotations frame.now pools.now off declared.now result }
     ensures refused { RefusesAnnotations frame.now pools.now off declared.now result }
 {

@@ -104,7 +104,8 @@ pub(crate) fn attach<'a>(
     parts: Parts<'a>,
 ) -> Result<Contents<'a>, AllocError>
     requires { IsHeldDirectory parts.directory }
-    ensures attached { CanAttach declared.now parts.entry → IfOk result (IsAttached declared.now parts.entry) }
+    ensures attached { CanAttach declared.now parts.entry
+        → IfOk result (IsAttached declared.now parts.entry) }
     ensures held { IfOk result AreHeld }
 {
     let Parts {

@@ -24,7 +24,9 @@ fn same_code(
     theirs: &Remap,
     other: Option<&Code<'_>>,
 ) -> bool
-    ensures { (x y : Option NumberedItem) → IsBorrowedCode code.entry x → IsBorrowedCode other.entry y → IsTrue result ↔ (option_map (renumbered_item mine.now) x ≡ option_map (renumbered_item theirs.now) y) }
+    ensures { (x y : Option NumberedItem)
+        → IsBorrowedCode code.entry x → IsBorrowedCode other.entry y → IsTrue result
+        ↔ (option_map (renumbered_item mine.now) x ≡ option_map (renumbered_item theirs.now) y) }
 {
     match (code, other) {
         (Some(code), Some(other)) => code.same_mapped(mine, other, theirs),
@@ -40,7 +42,8 @@ fn same_set(
     theirs: &Remap,
     other: Option<&AnnotationSet>,
 ) -> bool
-    ensures { (x y : NumberedSet) → IsBorrowedSet set.entry x → IsBorrowedSet other.entry y → IsTrue result ↔ (renumbered_set mine.now x ≡ renumbered_set theirs.now y) }
+    ensures { (x y : NumberedSet) → IsBorrowedSet set.entry x → IsBorrowedSet other.entry y
+        → IsTrue result ↔ (renumbered_set mine.now x ≡ renumbered_set theirs.now y) }
 {
     match (set, other) {
         (Some(set), Some(other)) => set.same_mapped(mine, other, theirs),
@@ -72,7 +75,8 @@ fn same_sets(
 
 // Returns whether two lists of fields are the same, one for one, once remapped.
 fn same_fields(mine: &Remap, fields: &Fields<'_>, theirs: &Remap, others: &Fields<'_>) -> bool
-    ensures { IsTrue result ↔ SameRemapped renumbered_field mine.now theirs.now fields.now others.now }
+    ensures { IsTrue result
+        ↔ SameRemapped renumbered_field mine.now theirs.now fields.now others.now }
 {
     if fields.len() != others.len() {
         return false;
@@ -92,7 +96,8 @@ fn same_methods(
     theirs: &Remap,
     others: &Methods<'_, '_>,
 ) -> bool
-    ensures { IsTrue result ↔ SameRemapped renumbered_method mine.now theirs.now methods.now others.now }
+    ensures { IsTrue result
+        ↔ SameRemapped renumbered_method mine.now theirs.now methods.now others.now }
 {
     if methods.len() != others.len() {
         return false;
@@ -108,7 +113,8 @@ fn same_methods(
 impl Field<'_> {
     // Returns whether two fields are the same once remapped.
     fn same_mapped(&self, mine: &Remap, other: &Field<'_>, theirs: &Remap) -> bool
-        ensures { IsTrue result ↔ (renumbered_field mine.now self.now ≡ renumbered_field theirs.now other.now) }
+        ensures { IsTrue result
+            ↔ (renumbered_field mine.now self.now ≡ renumbered_field theirs.now other.now) }
     {
         let number = other.number();
         if !eq_ends(SymbolKind::Field, mine, self.number(), theirs, number) {
@@ -124,7 +130,8 @@ impl Field<'_> {
 impl Method<'_, '_> {
     // Returns whether two methods are the same once remapped.
     fn same_mapped(&self, mine: &Remap, other: &Method<'_, '_>, theirs: &Remap) -> bool
-        ensures { IsTrue result ↔ (renumbered_method mine.now self.now ≡ renumbered_method theirs.now other.now) }
+        ensures { IsTrue result
+            ↔ (renumbered_method mine.now self.now ≡ renumbered_method theirs.now other.now) }
     {
         let number = other.number();
         if !eq_ends(SymbolKind::Method, mine, self.number(), theirs, number) {
@@ -152,7 +159,8 @@ impl<'a> Members<'a> {
     /// Returns whether what two classes declare is the same after each is mapped by its own map. Of numbers without
     /// images those in instructions and debug programs count as the same, and the others stay.
     pub fn same_mapped(&self, mine: &Remap, other: &Members<'_>, theirs: &Remap) -> bool
-        ensures { IsTrue result ↔ (renumbered_members mine.now self.now ≡ renumbered_members theirs.now other.now) }
+        ensures { IsTrue result
+            ↔ (renumbered_members mine.now self.now ≡ renumbered_members theirs.now other.now) }
     {
         let fields = self.static_fields();
         if !same_fields(mine, &fields, theirs, &other.static_fields()) {

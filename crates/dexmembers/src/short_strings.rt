@@ -13,7 +13,8 @@ use dexcode::Code;
 
 // The greater of two numbers, if there are any.
 fn greater(left: Option<u32>, right: Option<u32>) -> Option<u32>
-    ensures { (ns ks : List ℕ) → IsGreatest ns left → IsGreatest ks right → IsGreatest (ns ++ ks) result }
+    ensures { (ns ks : List ℕ) → IsGreatest ns left → IsGreatest ks right
+        → IsGreatest (ns ++ ks) result }
 {
     match left {
         None => right,

@@ -26,7 +26,8 @@ fn set_weight(set: &AnnotationSet) -> u64
 
 // Returns the weight of a set, if there is one, likewise.
 fn optional_weight(set: Option<&AnnotationSet>) -> u64
-    ensures { ForSet set.entry (λ weighed. result ≡ min (2 ^ 64 - 1) (numbered_set_weight weighed)) }
+    ensures { ForSet set.entry (λ weighed.
+        result ≡ min (2 ^ 64 - 1) (numbered_set_weight weighed)) }
 {
     match set {
         Some(set) => set_weight(set),
@@ -36,7 +37,8 @@ fn optional_weight(set: Option<&AnnotationSet>) -> u64
 
 // Returns the weight of the sets of parameters in a list of them, likewise.
 fn listed_weight(sets: &ParameterSets<'_>) -> u64
-    ensures { result ≡ min (2 ^ 64 - 1) (8 + 4 * length sets.now + sum_by numbered_set_weight sets.now) }
+    ensures { result
+        ≡ min (2 ^ 64 - 1) (8 + 4 * length sets.now + sum_by numbered_set_weight sets.now) }
 {
     let mut weight: u64 = 8;
     for i in 0..sets.len() {
@@ -59,14 +61,16 @@ fn sets_weight(sets: &ParameterSets<'_>) -> u64
 
 // Returns the weight of the initial values of static fields.
 fn values_weight(values: &[Value]) -> u64
-    ensures { result ≡ min (2 ^ 64 - 1) (numbered_statics_weight (values_of_list (map value_of values.now))) }
+    ensures { result
+        ≡ min (2 ^ 64 - 1) (numbered_statics_weight (values_of_list (map value_of values.now))) }
 {
     statics_weight(values)
 }
 
 // Returns the weight of code with its debug program, if there is some.
 fn code_weight(code: Option<&Code<'_>>) -> u64
-    ensures { ForCode code.entry (λ weighed. result ≡ min (2 ^ 64 - 1) (optional_whole_weight weighed)) }
+    ensures { ForCode code.entry (λ weighed.
+        result ≡ min (2 ^ 64 - 1) (optional_whole_weight weighed)) }
 {
     let Some(code) = code else {
         return 0;
@@ -152,7 +156,8 @@ impl<'a> Members<'a> {
     /// fields; the weight is this project's rule.
     pub fn weight(&self) -> u64
         ensures numbered { result ≡ min (2 ^ 64 - 1) (numbered_members_weight self.now) }
-        ensures symbolic { ForKnown self.now (λ m. result ≡ min (2 ^ 64 - 1) (weight_in m self.now)) }
+        ensures symbolic { ForKnown self.now (λ m.
+            result ≡ min (2 ^ 64 - 1) (weight_in m self.now)) }
     {
         members_weight_law();
         self.numbered_weight()

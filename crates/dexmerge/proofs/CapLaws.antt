@@ -126,26 +126,26 @@ module _ (caps : Caps) (m : Mentions) (cs : List NumberedClass) (distinct : AreD
     -- by which of the caps are exceeded
     by_caps : (t p f e s w : Bool) → ltb caps.types (length m.types) ≡ t → ltb caps.protos (length m.protos) ≡ p → ltb caps.fields (length m.fields) ≡ f → ltb caps.methods (length m.methods) ≡ e → has_from caps.short_strings (short_numbers cs) ≡ s → ltb caps.weight (weight_over m cs) ≡ w
         → (found : Option ℕ) → found ≡ cond t (Some 1) (cond p (Some 2) (cond f (Some 3) (cond e (Some 4) (cond s (Some 5) (cond w (Some 6) None))))) → MatchOption found (IsGood caps E) (IsOfCap (IsFirstCause caps E))
-    by_caps true p f e s w it ip ifs ie is iw found answer =
-        subst (λ (o : Option ℕ). MatchOption o (IsGood caps E) (IsOfCap (IsFirstCause caps E))) (sym answer)
+    by_caps true p f e s w it ip ifs ie is iw found is_depth =
+        subst (λ (o : Option ℕ). MatchOption o (IsGood caps E) (IsOfCap (IsFirstCause caps E))) (sym is_depth)
         (distinguished Types 1 refl (omega arith) (record { types = λ l. absurd (omega (arith, l)); protos = λ l. absurd (omega (arith, l)); fields = λ l. absurd (omega (arith, l)); methods = λ l. absurd (omega (arith, l)); short_strings = λ l. absurd (omega (arith, l)) }) (let x = ltb-true caps.types (length m.types) it in omega (arith, x, types_count)))
-    by_caps false true f e s w it ip ifs ie is iw found answer =
-        subst (λ (o : Option ℕ). MatchOption o (IsGood caps E) (IsOfCap (IsFirstCause caps E))) (sym answer)
+    by_caps false true f e s w it ip ifs ie is iw found is_depth =
+        subst (λ (o : Option ℕ). MatchOption o (IsGood caps E) (IsOfCap (IsFirstCause caps E))) (sym is_depth)
         (distinguished Protos 2 refl (omega arith) (record { types = λ l. not_less caps.types (length m.types) it; protos = λ l. absurd (omega (arith, l)); fields = λ l. absurd (omega (arith, l)); methods = λ l. absurd (omega (arith, l)); short_strings = λ l. absurd (omega (arith, l)) }) (let x = ltb-true caps.protos (length m.protos) ip in omega (arith, x, protos_count)))
-    by_caps false false true e s w it ip ifs ie is iw found answer =
-        subst (λ (o : Option ℕ). MatchOption o (IsGood caps E) (IsOfCap (IsFirstCause caps E))) (sym answer)
+    by_caps false false true e s w it ip ifs ie is iw found is_depth =
+        subst (λ (o : Option ℕ). MatchOption o (IsGood caps E) (IsOfCap (IsFirstCause caps E))) (sym is_depth)
         (distinguished Fields 3 refl (omega arith) (record { types = λ l. not_less caps.types (length m.types) it; protos = λ l. not_less caps.protos (length m.protos) ip; fields = λ l. absurd (omega (arith, l)); methods = λ l. absurd (omega (arith, l)); short_strings = λ l. absurd (omega (arith, l)) }) (let x = ltb-true caps.fields (length m.fields) ifs in omega (arith, x, fields_count)))
-    by_caps false false false true s w it ip ifs ie is iw found answer =
-        subst (λ (o : Option ℕ). MatchOption o (IsGood caps E) (IsOfCap (IsFirstCause caps E))) (sym answer)
+    by_caps false false false true s w it ip ifs ie is iw found is_depth =
+        subst (λ (o : Option ℕ). MatchOption o (IsGood caps E) (IsOfCap (IsFirstCause caps E))) (sym is_depth)
         (distinguished Methods 4 refl (omega arith) (record { types = λ l. not_less caps.types (length m.types) it; protos = λ l. not_less caps.protos (length m.protos) ip; fields = λ l. not_less caps.fields (length m.fields) ifs; methods = λ l. absurd (omega (arith, l)); short_strings = λ l. absurd (omega (arith, l)) }) (let x = ltb-true caps.methods (length m.methods) ie in omega (arith, x, methods_count)))
-    by_caps false false false false true w it ip ifs ie is iw found answer =
-        subst (λ (o : Option ℕ). MatchOption o (IsGood caps E) (IsOfCap (IsFirstCause caps E))) (sym answer)
+    by_caps false false false false true w it ip ifs ie is iw found is_depth =
+        subst (λ (o : Option ℕ). MatchOption o (IsGood caps E) (IsOfCap (IsFirstCause caps E))) (sym is_depth)
         (distinguished ShortStrings 5 refl (omega arith) (record { types = λ l. not_less caps.types (length m.types) it; protos = λ l. not_less caps.protos (length m.protos) ip; fields = λ l. not_less caps.fields (length m.fields) ifs; methods = λ l. not_less caps.methods (length m.methods) ie; short_strings = λ l. absurd (omega (arith, l)) }) (too_far is))
-    by_caps false false false false false true it ip ifs ie is iw found answer =
-        subst (λ (o : Option ℕ). MatchOption o (IsGood caps E) (IsOfCap (IsFirstCause caps E))) (sym answer)
+    by_caps false false false false false true it ip ifs ie is iw found is_depth =
+        subst (λ (o : Option ℕ). MatchOption o (IsGood caps E) (IsOfCap (IsFirstCause caps E))) (sym is_depth)
         (distinguished Weight 6 refl (omega arith) (record { types = λ l. not_less caps.types (length m.types) it; protos = λ l. not_less caps.protos (length m.protos) ip; fields = λ l. not_less caps.fields (length m.fields) ifs; methods = λ l. not_less caps.methods (length m.methods) ie; short_strings = λ l. is }) (too_heavy (ltb-true caps.weight (weight_over m cs) iw)))
-    by_caps false false false false false false it ip ifs ie is iw found answer =
-        subst (λ (o : Option ℕ). MatchOption o (IsGood caps E) (IsOfCap (IsFirstCause caps E))) (sym answer)
+    by_caps false false false false false false it ip ifs ie is iw found is_depth =
+        subst (λ (o : Option ℕ). MatchOption o (IsGood caps E) (IsOfCap (IsFirstCause caps E))) (sym is_depth)
         (record {
           consistent = h;
           acyclic = a;

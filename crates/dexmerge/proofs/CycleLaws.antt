@@ -15,7 +15,7 @@ use Rattle.dexspec.proofs.merge.Depths.{depth-same}
 use Rattle.dexspec.proofs.lists.Mapped.{Contains-map_source}
 use Rattle.dexspec.proofs.lists.InOrder.{Rises-from_rises, Rises-places, irreflexive, asymmetric}
 use Rattle.dexspec.proofs.merge.SymbolOrders.{text_total}
-use Rattle.dexorder.specs.Depths.{AreDepths, AreWithin, IsAnswer, HasNone}
+use Rattle.dexorder.specs.Depths.{AreDepths, AreWithin, IsDepthOrNone, HasNone}
 use Rattle.dexorder.specs.Parents.{AllHaveDepths, IsFirstWithout}
 use Rattle.dexorder.specs.Definitions.{AreClassesOf, name_at}
 use Rattle.dexorder.proofs.DefinitionDepths.{no_cycle, is_cycle, cycle_class, same_from_equal}
@@ -105,7 +105,7 @@ module _ (m : Mentions) (cs : List NumberedClass) (kept : AreKept m cs) where
       first_is i f =
           let few : i < length cs = omega (arith, f.within, a.count, count) in
           let inside : i < length H = omega (arith, f.within, a.count) in
-          let none : HasNone H i = subst (IsAnswer H i) f.none (a.answer i inside) in
+          let none : HasNone H i = subst (IsDepthOrNone H i) f.none (a.is_depth i inside) in
           record {
             within = few;
             is = subst (IsCycle D) (name_is m cs kept.named i few) (is_cycle D H numbered i inside none);

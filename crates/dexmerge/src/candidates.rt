@@ -101,8 +101,10 @@ fn push_classes<'a, 'b>(
     remap: &'b Remap,
     candidates: &mut Vec<Candidate<'a, 'b>>,
 ) -> Result<(), AllocError>
-    ensures members { OnOk result (AddsMembers part.now remap.now candidates.old.items candidates.new.items) }
-    ensures parts { OnOk result (AddsPart part.now remap.now candidates.old.items candidates.new.items) }
+    ensures members { OnOk result
+        (AddsMembers part.now remap.now candidates.old.items candidates.new.items) }
+    ensures parts { OnOk result
+        (AddsPart part.now remap.now candidates.old.items candidates.new.items) }
 {
     renumbering_law();
     part.is_good();
@@ -121,8 +123,10 @@ pub(crate) fn candidates<'a, 'b>(
     remaps: &'b [Remap],
 ) -> Result<Vec<Candidate<'a, 'b>>, AllocError>
     requires { length remaps.now ≡ length parts.now }
-    ensures members { IfOk result (λ candidates. AreMembersOf (referents parts.now) remaps.now candidates.items) }
-    ensures parts { IfOk result (λ candidates. AreOfParts (referents parts.now) remaps.now candidates.items) }
+    ensures members { IfOk result (λ candidates.
+        AreMembersOf (referents parts.now) remaps.now candidates.items) }
+    ensures parts { IfOk result (λ candidates.
+        AreOfParts (referents parts.now) remaps.now candidates.items) }
 {
     let mut candidates = Vec::new(alloc);
     for i in 0..parts.len() {

@@ -68,7 +68,8 @@ impl Caps {
         short_strings: u32,
         weight: u32,
     ) -> Option<Caps>
-        ensures { AreReturnedIfCaps (caps_of types protos fields methods short_strings weight) result }
+        ensures { AreReturnedIfCaps
+            (caps_of types protos fields methods short_strings weight) result }
     {
         if types > MOST_TYPES || protos > MOST_PROTOS {
             return None;

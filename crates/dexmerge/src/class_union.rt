@@ -27,7 +27,8 @@ struct Collected<'a> {
 // In a part of a union that is good each number in what a class declares maps to one that fits its place. It does
 // nothing: its contract is the law, for the calls that remap classes.
 fn places_law()
-    ensures { (m : Mentions) (K : Collection) (r : Maps) (c : NumberedClass) → IsPartOf m K r → HasPlaces K r c }
+    ensures { (m : Mentions) (K : Collection) (r : Maps) (c : NumberedClass) → IsPartOf m K r
+        → HasPlaces K r c }
 {
     renumbering_law();
     joined_places_law();
@@ -37,7 +38,8 @@ fn places_law()
 impl<'a> Collected<'a> {
     // No class yet.
     fn none(alloc: Global, types: usize) -> Result<Collected<'a>, AllocError>
-        ensures { IfOk result (λ collected. (m : Mentions) → length m.types ≡ types → HasCollected m [] collected) }
+        ensures { IfOk result (λ collected. (m : Mentions) → length m.types ≡ types
+            → HasCollected m [] collected) }
     {
         let is_name = vec![in alloc; false; types]?;
         Ok(Collected {
@@ -48,7 +50,8 @@ impl<'a> Collected<'a> {
 
     // Whether there is a class of the name that a class has in the union.
     fn has_name_of(&self, class: &Class<'a>, remap: &Remap) -> bool
-        ensures { result ≡ slice_index_or self.now.is_name.items (remapped remap.now.types class.now.name) false }
+        ensures { result ≡ slice_index_or self.now.is_name.items
+            (remapped remap.now.types class.now.name) false }
     {
         let name = match remap.image(SymbolKind::Typ, class.name()) {
             Some(image) => image,
@@ -61,8 +64,10 @@ impl<'a> Collected<'a> {
     fn push(&mut self, mut class: Class<'a>, remap: &Remap) -> Result<(), AllocError>
         requires places { ClassHasPlaces remap.now class }
         requires name { remapped remap.now.types class.name < length self.old.is_name.items }
-        ensures classes { OnOk result (HasPushed (renumbered remap.now class.entry) self.old self.new) }
-        ensures names { OnOk result (HasMarked (remapped remap.now.types class.entry.name) self.old self.new) }
+        ensures classes { OnOk result
+            (HasPushed (renumbered remap.now class.entry) self.old self.new) }
+        ensures names { OnOk result
+            (HasMarked (remapped remap.now.types class.entry.name) self.old self.new) }
     {
         class.renumber(remap);
         self.is_name[class.name()] = true;
@@ -74,7 +79,8 @@ impl<'a> Collected<'a> {
     fn take(&mut self, class: Class<'a>, remap: &Remap) -> Result<(), AllocError>
         requires places { ClassHasPlaces remap.now class }
         requires name { remapped remap.now.types class.name < length self.old.is_name.items }
-        ensures count { OnOk result (length self.new.is_name.items ≡ length self.old.is_name.items) }
+        ensures count { OnOk result (length self.new.is_name.items
+            ≡ length self.old.is_name.items) }
         ensures added { OnOk result (IsAdded (renumbered remap.now class.entry) self.old self.new) }
     {
         if !self.has_name_of(&class, remap) {
@@ -87,7 +93,8 @@ impl<'a> Collected<'a> {
     fn copy(&mut self, class: &Class<'a>, remap: &Remap) -> Result<(), AllocError>
         requires places { ClassHasPlaces remap.now class.now }
         requires name { remapped remap.now.types class.now.name < length self.old.is_name.items }
-        ensures count { OnOk result (length self.new.is_name.items ≡ length self.old.is_name.items) }
+        ensures count { OnOk result (length self.new.is_name.items
+            ≡ length self.old.is_name.items) }
         ensures added { OnOk result (IsAdded (renumbered remap.now class.now) self.old self.new) }
     {
         if !self.has_name_of(class, remap) {
@@ -99,7 +106,8 @@ impl<'a> Collected<'a> {
     // Adds the classes of a part whose names are not there yet. They are moved.
     fn take_all(&mut self, part: Program<'a>, remap: &Remap) -> Result<(), AllocError>
         requires { (m : Mentions) × IsPartOf m part remap.now × HasMarks m self.old }
-        ensures count { OnOk result (length self.new.is_name.items ≡ length self.old.is_name.items) }
+        ensures count { OnOk result (length self.new.is_name.items
+            ≡ length self.old.is_name.items) }
         ensures collected { OnOk result (CollectsPart part.entry remap.now self.old self.new) }
     {
         renumbering_law();
@@ -114,7 +122,8 @@ impl<'a> Collected<'a> {
     // Adds copies of the classes of a part whose names are not there yet.
     fn copy_all(&mut self, part: &Program<'a>, remap: &Remap) -> Result<(), AllocError>
         requires { (m : Mentions) × IsPartOf m part.now remap.now × HasMarks m self.old }
-        ensures count { OnOk result (length self.new.is_name.items ≡ length self.old.is_name.items) }
+        ensures count { OnOk result (length self.new.is_name.items
+            ≡ length self.old.is_name.items) }
         ensures collected { OnOk result (CollectsPart part.now remap.now self.old self.new) }
     {
         renumbering_law();
@@ -129,8 +138,10 @@ impl<'a> Collected<'a> {
     // Adds the classes of parts whose names are not there yet. They are moved.
     fn take_parts(&mut self, parts: Vec<Program<'a>>, remaps: &[Remap]) -> Result<(), AllocError>
         requires { (m : Mentions) × ArePartsOf m parts.items remaps.now × HasMarks m self.old }
-        ensures count { OnOk result (length self.new.is_name.items ≡ length self.old.is_name.items) }
-        ensures collected { OnOk result (CollectsParts parts.entry.items remaps.now self.old self.new) }
+        ensures count { OnOk result (length self.new.is_name.items
+            ≡ length self.old.is_name.items) }
+        ensures collected { OnOk result
+            (CollectsParts parts.entry.items remaps.now self.old self.new) }
     {
         let mut i = 0;
         for part in parts {
@@ -142,7 +153,8 @@ impl<'a> Collected<'a> {
 
     // Adds copies of the classes of parts whose names are not there yet.
     fn copy_parts(&mut self, parts: &[&Program<'a>], remaps: &[Remap]) -> Result<(), AllocError>
-        requires { (m : Mentions) × ArePartsOf m (referents parts.now) remaps.now × HasMarks m self.old }
+        requires { (m : Mentions) × ArePartsOf m (referents parts.now) remaps.now
+            × HasMarks m self.old }
         ensures { OnOk result (CollectsParts (referents parts.now) remaps.now self.old self.new) }
     {
         for i in 0..parts.len() {
@@ -162,8 +174,10 @@ pub(crate) fn collect_classes<'a>(
     remaps: &[Remap],
     types: usize,
 ) -> Result<Vec<Class<'a>>, AllocError>
-    requires { (m : Mentions) × (length m.types ≡ types) × AreMergeable owned.items files.now m remaps.now }
-    ensures { IfOk result (λ classes. HasOneOfEach types owned.entry.items files.now remaps.now classes.items) }
+    requires { (m : Mentions) × (length m.types ≡ types)
+        × AreMergeable owned.items files.now m remaps.now }
+    ensures { IfOk result (λ classes.
+        HasOneOfEach types owned.entry.items files.now remaps.now classes.items) }
 {
     let (own, rest) = remaps.split_at(owned.len());
     let mut all = Collected::none(alloc, types)?;

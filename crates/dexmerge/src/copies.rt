@@ -14,7 +14,8 @@ use std::alloc::{AllocError, Global};
 fn are_same(candidates: &[Candidate<'_, '_>], i: usize, k: usize) -> bool
     requires first { i < length candidates.now }
     requires second { k < length candidates.now }
-    ensures { IsTrue result ↔ (class_at (classes_of candidates.now) i ≡ class_at (classes_of candidates.now) k) }
+    ensures { IsTrue result
+        ↔ (class_at (classes_of candidates.now) i ≡ class_at (classes_of candidates.now) k) }
 {
     if i == k {
         return true;
@@ -52,7 +53,8 @@ pub(crate) fn first_conflict(
     places: &[Option<usize>],
 ) -> Option<usize>
     requires { ArePlaces (classes_of candidates.now) places.now }
-    ensures { MatchOption result (AllEqual candidates.now places.now) (IsLeastUnequal candidates.now places.now) }
+    ensures { MatchOption result (AllEqual candidates.now places.now)
+        (IsLeastUnequal candidates.now places.now) }
 {
     let mut least = None;
     for i in 0..candidates.len() {
@@ -70,7 +72,8 @@ fn push_kept<'a, 'b>(
     kept: &mut Vec<Candidate<'a, 'b>>,
 ) -> Result<(), AllocError>
     requires { (i : ℕ) → place ≡ Some i → i < length candidates.now }
-    ensures within { OnOk result (AreIn kept.old.items candidates.now → AreIn kept.new.items candidates.now) }
+    ensures within { OnOk result (AreIn kept.old.items candidates.now
+        → AreIn kept.new.items candidates.now) }
     ensures kept { OnOk result (AddsKept candidates.now place kept.old.items kept.new.items) }
 {
     match place {

@@ -21,7 +21,8 @@ pub(crate) fn class_depths(
     types: usize,
 ) -> Result<Result<Vec<Option<usize>>, usize>, AllocError>
     requires { (m : Mentions) × (length m.types ≡ types) × AreKept m (classes_of classes.now) }
-    ensures depths { IfOk result (λ found. IfOk found (λ depths. KeptHaveDepths classes.now depths.items)) }
+    ensures depths { IfOk result (λ found.
+        IfOk found (λ depths. KeptHaveDepths classes.now depths.items)) }
     ensures cycle { IfOk result (λ found. IfErr found (KeptHaveCycle classes.now)) }
 {
     let depths = Hierarchy::of(alloc, classes, types)?.depths(alloc)?;

@@ -72,7 +72,8 @@ fn checked<'a>(
 ) -> Result<Mergeable<'a>, MergeFault>
     ensures good { IfOk result (IsMergeable caps.now owned.now files.now) }
     ensures depths { IfOk result (HasDepths owned.now files.now) }
-    ensures fault { IfErr result (Reports (IsFirstCause caps.now (all_definitions owned.now files.now))) }
+    ensures fault { IfErr result
+        (Reports (IsFirstCause caps.now (all_definitions owned.now files.now))) }
 {
     let parts = all_parts(alloc, owned, files)?;
     let (numbering, remaps) = joined(alloc, &parts)?;
@@ -95,7 +96,8 @@ pub(crate) fn merge_all<'a>(
     caps: &Caps,
 ) -> Result<Program<'a>, MergeFault>
     ensures merged { IfOk result (IsMerged caps.now (all_definitions owned.entry.items files.now)) }
-    ensures fault { IfErr result (Reports (IsFirstCause caps.now (all_definitions owned.entry.items files.now))) }
+    ensures fault { IfErr result
+        (Reports (IsFirstCause caps.now (all_definitions owned.entry.items files.now))) }
 {
     let Mergeable {
         numbering,
@@ -125,7 +127,8 @@ pub fn merge<'a>(
     ensures merged { IfOk result (IsMerged caps.now (definitions_in parts.now)) }
     ensures fault { IfErr result (Reports (IsFirstCause caps.now (definitions_in parts.now))) }
     ensures law { (part whole : List Definition) → AreWithin part whole → Absorbs part whole }
-    ensures apart { (classes : List Definition) (cause : Cause) → IsGood caps.now classes → IsCause caps.now classes cause → ⊥ }
+    ensures apart { (classes : List Definition) (cause : Cause) → IsGood caps.now classes
+        → IsCause caps.now classes cause → ⊥ }
 {
     dexlaws::causes::good_or_first_cause();
     dexlaws::growth::absorption_law();

@@ -21,7 +21,8 @@ pub enum Plan {
 // Marks the files that a plan names. Returns whether it names only files that there are, and is at most `depth` deep.
 fn mark_files(plan: &Plan, depth: usize, is_named: &mut Vec<bool>) -> bool
     ensures count { length is_named.new.items ≡ length is_named.old.items }
-    ensures checked { IsMarkedIfPlan (plan_of plan.now) depth is_named.old.items is_named.new.items result }
+    ensures checked { IsMarkedIfPlan
+        (plan_of plan.now) depth is_named.old.items is_named.new.items result }
 {
     if depth == 0 {
         return false;

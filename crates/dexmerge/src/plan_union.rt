@@ -32,7 +32,8 @@ fn push_files<'a, 'b>(
     programs: &mut Vec<&'b Program<'a>>,
 ) -> Result<(), AllocError>
     requires { All (λ i. i < length files.now) (all_leaves (plans_of (map plan_of parts.now))) }
-    ensures { OnOk result (AppendsLeaves files.now parts.now programs.old.items programs.new.items) }
+    ensures { OnOk result
+        (AppendsLeaves files.now parts.now programs.old.items programs.new.items) }
 {
     for part in parts {
         match part {
@@ -54,7 +55,8 @@ fn merge_node<'a>(
     requires known { AreKnown files.now (node_of parts.now) }
     requires inner { AreSame (flat_map definitions inner.items) (of_nodes files.now parts.now) }
     ensures merged { IfOk result (IsMerged caps.now (planned files.now (node_of parts.now))) }
-    ensures fault { IfErr result (Reports (IsFirstCause caps.now (planned files.now (node_of parts.now)))) }
+    ensures fault { IfErr result
+        (Reports (IsFirstCause caps.now (planned files.now (node_of parts.now)))) }
 {
     let mut programs = Vec::with_capacity(alloc, parts.len())?;
     push_files(files, parts, &mut programs)?;
@@ -100,7 +102,8 @@ pub fn merge_plan<'a>(
 ) -> Result<Program<'a>, PlanFault>
     ensures merged { IfOk result (IsPlanned caps.now files.now (plan_of plan.now)) }
     ensures fault { IfErr result (IsPlanFault caps.now files.now (plan_of plan.now)) }
-    ensures apart { (classes : List Definition) (cause : Cause) → IsGood caps.now classes → IsCause caps.now classes cause → ⊥ }
+    ensures apart { (classes : List Definition) (cause : Cause) → IsGood caps.now classes
+        → IsCause caps.now classes cause → ⊥ }
 {
     dexlaws::causes::good_or_first_cause();
     if !is_plan_for(alloc, plan, files.len())? {
@@ -132,7 +135,8 @@ pub fn merge_files<'a>(
 ) -> Result<Program<'a>, PlanFault>
     ensures merged { IfOk result (IsPlanned caps.now files.entry.items (plan_of plan.now)) }
     ensures fault { IfErr result (IsPlanFault caps.now files.entry.items (plan_of plan.now)) }
-    ensures apart { (classes : List Definition) (cause : Cause) → IsGood caps.now classes → IsCause caps.now classes cause → ⊥ }
+    ensures apart { (classes : List Definition) (cause : Cause) → IsGood caps.now classes
+        → IsCause caps.now classes cause → ⊥ }
 {
     dexlaws::causes::good_or_first_cause();
     if !is_flat(plan) {

@@ -49,7 +49,8 @@ pub(crate) fn name_of(
 ) -> Result<Name, AllocError>
     requires class { i < length classes.now }
     requires name { name_number (classes_of classes.now) i < length numbering.now.types }
-    ensures { IfOk result (λ name. name ≡ type_at numbering.now (name_number (classes_of classes.now) i)) }
+    ensures { IfOk result (λ name.
+        name ≡ type_at numbering.now (name_number (classes_of classes.now) i)) }
 {
     Name::of(alloc, numbering.typ(classes[i].name()))
 }
@@ -63,7 +64,8 @@ fn check_once(
     caps: &Caps,
 ) -> Result<Vec<Option<usize>>, MergeFault>
     requires { (D : List Definition) × AreOnce numbering.now D classes.now }
-    ensures good { IfOk result (λ depths. OnceGood caps.now numbering.now classes.now depths.items) }
+    ensures good { IfOk result (λ depths.
+        OnceGood caps.now numbering.now classes.now depths.items) }
     ensures fault { IfErr result (OnceReportsUnder caps.now numbering.now classes.now) }
 {
     let types = numbering.count(SymbolKind::Typ);
@@ -90,7 +92,8 @@ pub(crate) fn check(
     caps: &Caps,
 ) -> Result<Vec<Option<usize>>, MergeFault>
     requires { IsJoined (referents parts.now) numbering.now remaps.now }
-    ensures good { IfOk result (λ depths. PartsAreGood caps.now numbering.now parts.now depths.items) }
+    ensures good { IfOk result (λ depths.
+        PartsAreGood caps.now numbering.now parts.now depths.items) }
     ensures fault { IfErr result (Reports (IsFirstCause caps.now (definitions_in parts.now))) }
 {
     let copies = candidates(alloc, parts, remaps)?;

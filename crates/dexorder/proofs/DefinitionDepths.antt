@@ -13,7 +13,7 @@ use Rattle.dexspec.proofs.lists.Members.{list_all-member, list_all-from_members,
 use Rattle.dexspec.proofs.merge.Depths.{Contains-map, is_defined-name, depth-is}
 use Rattle.dexspec.proofs.normal.ClassPlaces.{Contains-map_source}
 use Rattle.dexspec.proofs.size.SizeSums.{map-length}
-use Rattle.dexorder.specs.Depths.{parents_of, is_under, IsDepth, HasNone, IsAnswer, AreDepths}
+use Rattle.dexorder.specs.Depths.{parents_of, is_under, IsDepth, HasNone, IsDepthOrNone, AreDepths}
 use Rattle.dexorder.specs.Definitions.{name_at, AreClassesOf}
 use Rattle.dexorder.proofs.DepthLaws.{less_than, parent_within}
 
@@ -70,9 +70,9 @@ module _ (D : List Definition) (classes : List (List ℕ)) (h : AreClassesOf D c
   pub no_cycle : (answers : List (Option ℕ)) → AreDepths classes answers → All (λ a. IsSome a) answers → IsAcyclic D
   no_cycle answers a some name e =
       let s = class_of name e in
-      subst (HasDepth D) s.2 (by s.0 (get_or answers s.0 None) s.1 (a.answer s.0 s.1) (some s.0 None (omega (arith, a.count, s.1))))
+      subst (HasDepth D) s.2 (by s.0 (get_or answers s.0 None) s.1 (a.is_depth s.0 s.1) (some s.0 None (omega (arith, a.count, s.1))))
     where
-      by : (i : ℕ) (o : Option ℕ) → i < length classes → IsAnswer classes i o → IsSome o → HasDepth D (name_at D i)
+      by : (i : ℕ) (o : Option ℕ) → i < length classes → IsDepthOrNone classes i o → IsSome o → HasDepth D (name_at D i)
       by i None lt k sm = absurd cc
       by i (Some d) lt k sm = has_depth i d lt k
 
@@ -94,17 +94,17 @@ module _ (D : List Definition) (classes : List (List ℕ)) (h : AreClassesOf D c
   pub cycle_class : (answers : List (Option ℕ)) (name : Text) → AreDepths classes answers → IsCycle D name → (i : ℕ) × (i < length classes) × (name_at D i ≡ name) × (get_or answers i None ≡ None)
   cycle_class answers name a x =
       let s = class_of name x.defined in
-      (s.0, s.1, s.2, by s.0 (get_or answers s.0 None) s.1 s.2 (a.answer s.0 s.1))
+      (s.0, s.1, s.2, by s.0 (get_or answers s.0 None) s.1 s.2 (a.is_depth s.0 s.1))
     where
-      by : (i : ℕ) (o : Option ℕ) → i < length classes → name_at D i ≡ name → IsAnswer classes i o → o ≡ None
+      by : (i : ℕ) (o : Option ℕ) → i < length classes → name_at D i ≡ name → IsDepthOrNone classes i o → o ≡ None
       by i None lt e k = refl
       by i (Some d) lt e k = absurd (x.deep (subst (HasDepth D) e (has_depth i d lt k)))
 
   -- if there is no cycle, each class has a depth
   pub all_known : (answers : List (Option ℕ)) → AreDepths classes answers → IsAcyclic D → All (λ a. IsSome a) answers
   all_known answers a acyclic =
-      All-from_get_or (λ o. IsSome o) answers None (λ i lt. by i (get_or answers i None) (omega (arith, lt, a.count)) (a.answer i (omega (arith, lt, a.count))))
+      All-from_get_or (λ o. IsSome o) answers None (λ i lt. by i (get_or answers i None) (omega (arith, lt, a.count)) (a.is_depth i (omega (arith, lt, a.count))))
     where
-      by : (i : ℕ) (o : Option ℕ) → i < length classes → IsAnswer classes i o → IsSome o
+      by : (i : ℕ) (o : Option ℕ) → i < length classes → IsDepthOrNone classes i o → IsSome o
       by i None lt k = absurd ((is_cycle i lt k).deep (acyclic (name_at D i) (class_defined i lt)))
       by i (Some d) lt k = refl

@@ -20,7 +20,7 @@ use Rattle.dexspec.proofs.merge.Depths.{Contains-map}
 use Rattle.dexspec.proofs.merge.SymbolOrders.{text_total, text_exact}
 use Rattle.dexspec.proofs.normal.ClassPlaces.{Contains-map_source, class_place as definition_place, in_class_order-only, in_class_order-has, class_places-rise}
 use Rattle.dexspec.proofs.size.SizeSums.{map-length}
-use Rattle.dexorder.specs.Depths.{IsAnswer, AreDepths}
+use Rattle.dexorder.specs.Depths.{IsDepthOrNone, AreDepths}
 use Rattle.dexorder.specs.Places.{class_place, class_cmp}
 use Rattle.dexorder.specs.Definitions.{name_at, AreClassesOf, AreDepthsOf, AreNamesOf}
 use Rattle.dexorder.proofs.DepthLaws.{Contains-range}
@@ -100,10 +100,10 @@ definition_total D = on_total (definition_place D) place_total
 pub own_depths : (D : List Definition) (classes : List (List ℕ)) (depths : List (Option ℕ)) → AreClassesOf D classes → AreDepths classes depths → All (λ o. IsSome o) depths → AreDepthsOf D depths
 own_depths D classes depths h a some = record {
   count = a.count ∙ h.count;
-  each = λ i lt. by i (get_or depths i None) (omega (arith, lt, h.count)) (a.answer i (omega (arith, lt, h.count))) (some i None (omega (arith, lt, h.count, a.count)));
+  each = λ i lt. by i (get_or depths i None) (omega (arith, lt, h.count)) (a.is_depth i (omega (arith, lt, h.count))) (some i None (omega (arith, lt, h.count, a.count)));
 }
   where
-    by : (i : ℕ) (o : Option ℕ) → i < length classes → IsAnswer classes i o → IsSome o → o ≡ Some (depth D (name_at D i))
+    by : (i : ℕ) (o : Option ℕ) → i < length classes → IsDepthOrNone classes i o → IsSome o → o ≡ Some (depth D (name_at D i))
     by i None lt k s = absurd cc
     by i (Some e) lt k s = ap Some (sym (same_depth D classes h i e lt k))
 

@@ -27,14 +27,14 @@ abbrev pub HasNone : List (List ℕ) → ℕ → Type 0
 HasNone classes i = (n : ℕ) → is_under classes n i ≡ false
 
 -- the depth of class i, or none if it has none
-abbrev pub IsAnswer : List (List ℕ) → ℕ → Option ℕ → Type 0
-IsAnswer classes i None = HasNone classes i
-IsAnswer classes i (Some d) = IsDepth classes i d
+abbrev pub IsDepthOrNone : List (List ℕ) → ℕ → Option ℕ → Type 0
+IsDepthOrNone classes i None = HasNone classes i
+IsDepthOrNone classes i (Some d) = IsDepth classes i d
 
 -- one result for each class
 pub record AreDepths (classes : List (List ℕ)) (answers : List (Option ℕ)) : Type 0 where
   pub count : length answers ≡ length classes
-  pub answer : (i : ℕ) → i < length classes → IsAnswer classes i (slice_index_or answers i None)
+  pub is_depth : (i : ℕ) → i < length classes → IsDepthOrNone classes i (slice_index_or answers i None)
 
 -- if p is a parent of class i, it has a lesser depth
 abbrev pub IsDeeperThan : List (List ℕ) → ℕ → ℕ → ℕ → Type 0

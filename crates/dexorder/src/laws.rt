@@ -11,10 +11,13 @@ ghost use Rattle.dexorder.specs.Definitions.{AreNumbersDistinct, IsClassOrder};
 /// The depth of a class is greater than the depths of its parents, which all have one. If it is not 0, it is one more
 /// than the depth of some parent. A class has at most one depth, and it is less than the number of classes.
 pub fn depths_of_classes()
-    ensures parents { (classes : List (List ℕ)) (i p d : ℕ) → IsDepth classes i d → IsDeeperThan classes i p d }
-    ensures greatest { (classes : List (List ℕ)) (i d : ℕ) → IsDepth classes i (suc d) → HasParentAt classes i d }
+    ensures parents { (classes : List (List ℕ)) (i p d : ℕ) → IsDepth classes i d
+        → IsDeeperThan classes i p d }
+    ensures greatest { (classes : List (List ℕ)) (i d : ℕ) → IsDepth classes i (suc d)
+        → HasParentAt classes i d }
     ensures none { (classes : List (List ℕ)) (i p : ℕ) → PassesOnNone classes i p }
-    ensures one { (classes : List (List ℕ)) (i d e : ℕ) → IsDepth classes i d → IsDepth classes i e → d ≡ e }
+    ensures one { (classes : List (List ℕ)) (i d e : ℕ) → IsDepth classes i d → IsDepth classes i e
+        → d ≡ e }
     ensures bound { (classes : List (List ℕ)) → AreDepthsBounded classes }
 {}
 
@@ -30,15 +33,20 @@ pub fn classes_of_definitions()
 pub fn depths_of_definitions()
     ensures depth { (definitions : List Definition) → ClassesHaveDepths definitions }
     ensures cycle { (definitions : List Definition) → ClassesHaveCycles definitions }
-    ensures class { (definitions : List Definition) → OnDepths definitions (AreCyclesFound definitions) }
-    ensures acyclic { (definitions : List Definition) → OnDepths definitions (KnownAreAcyclic definitions) }
+    ensures class { (definitions : List Definition)
+        → OnDepths definitions (AreCyclesFound definitions) }
+    ensures acyclic { (definitions : List Definition)
+        → OnDepths definitions (KnownAreAcyclic definitions) }
     ensures own { (definitions : List Definition) → OnDepths definitions (KnownAreOwn definitions) }
-    ensures known { (definitions : List Definition) → OnDepths definitions (AcyclicAreKnown definitions) }
+    ensures known { (definitions : List Definition)
+        → OnDepths definitions (AcyclicAreKnown definitions) }
 {}
 
 /// The definitions in the order of their classes are the definitions in class order, and the numbers of different
 /// names are different.
 pub fn order_of_definitions()
-    ensures names { (definitions : List Definition) (names : List ℕ) → AreNumbersDistinct definitions names }
-    ensures order { (definitions : List Definition) (depths : List (Option ℕ)) → IsClassOrder definitions depths }
+    ensures names { (definitions : List Definition) (names : List ℕ)
+        → AreNumbersDistinct definitions names }
+    ensures order { (definitions : List Definition) (depths : List (Option ℕ))
+        → IsClassOrder definitions depths }
 {}

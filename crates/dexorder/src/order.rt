@@ -56,7 +56,8 @@ pub fn class_order(
 ) -> Result<Vec<usize>, AllocError>
     requires count { length depths.now ≡ length names.now }
     requires names { AreDistinct names.now }
-    ensures classes { IfOk result (λ order. IsPermutation (range_with_len 0 (length names.now)) order.items) }
+    ensures classes { IfOk result (λ order.
+        IsPermutation (range_with_len 0 (length names.now)) order.items) }
     ensures rises { IfOk result (λ order. AreInPlaceOrder depths.now names.now order.items) }
 {
     let mut places = places(alloc, depths, names)?;

@@ -73,7 +73,8 @@ fn push_class(
     typ: usize,
     classes: &mut Vec<usize>,
 ) -> Result<(), AllocError>
-    ensures { OnOk result (classes.new.items ≡ classes.old.items ++ classes_of_types by_type.now (typ ∷ [])) }
+    ensures { OnOk result (classes.new.items
+        ≡ classes.old.items ++ classes_of_types by_type.now (typ ∷ [])) }
 {
     if let Some(class) = class_of_type(by_type, typ) {
         classes.push(class)?;
@@ -87,7 +88,8 @@ fn collect_parents<C: HasParents>(
     class: &C,
     parents: &mut Vec<usize>,
 ) -> Result<(), AllocError>
-    ensures { OnOk result (AreParentsOf by_type.now C.superclass_of C.interfaces_of class.now parents.new.items) }
+    ensures { OnOk result
+        (AreParentsOf by_type.now C.superclass_of C.interfaces_of class.now parents.new.items) }
 {
     parents.clear();
     if let Some(superclass) = class.superclass() {
@@ -111,7 +113,8 @@ impl Hierarchy {
         types: usize,
     ) -> Result<Hierarchy, AllocError>
         requires { All (λ c. C.name_of c < types) classes.now }
-        ensures { IfOk result (IsHierarchyOfClasses C.name_of C.superclass_of C.interfaces_of classes.now) }
+        ensures { IfOk result
+            (IsHierarchyOfClasses C.name_of C.superclass_of C.interfaces_of classes.now) }
     {
         let by_type = classes_by_type(alloc, classes, types)?;
         let mut hierarchy = Hierarchy::new(alloc);

@@ -67,8 +67,10 @@ fn mark_below(
     requires types { length types.old ≡ length tables.now.types.items }
     requires protos { length protos.old ≡ length tables.now.protos.items }
     ensures protos { protos.new ≡ mark_all protos.old (method_protos tables.now methods.now) }
-    ensures types { types.new ≡ marked_types tables.now methods.now fields.now protos.new types.old }
-    ensures strings { strings.new ≡ marked_texts tables.now methods.now fields.now protos.new types.new strings.old }
+    ensures types { types.new
+        ≡ marked_types tables.now methods.now fields.now protos.new types.old }
+    ensures strings { strings.new
+        ≡ marked_texts tables.now methods.now fields.now protos.new types.new strings.old }
 {
     mark_by_methods(&tables.methods, methods, strings, types, protos);
     mark_by_fields(&tables.fields, fields, strings, types);
@@ -86,9 +88,12 @@ fn mark_by_methods(
 )
     requires marks { length marks.now ≡ length methods.now }
     requires within { All (HasMethodMarks strings.old types.old protos.old) methods.now }
-    ensures strings { strings.new ≡ mark_all strings.old (map (λ m. m.name) (kept marks.now methods.now)) }
-    ensures types { types.new ≡ mark_all types.old (map (λ m. m.class) (kept marks.now methods.now)) }
-    ensures protos { protos.new ≡ mark_all protos.old (map (λ m. m.proto) (kept marks.now methods.now)) }
+    ensures strings { strings.new
+        ≡ mark_all strings.old (map (λ m. m.name) (kept marks.now methods.now)) }
+    ensures types { types.new
+        ≡ mark_all types.old (map (λ m. m.class) (kept marks.now methods.now)) }
+    ensures protos { protos.new
+        ≡ mark_all protos.old (map (λ m. m.proto) (kept marks.now methods.now)) }
 {
     for (i, method) in methods.iter().enumerate() {
         if marks[i] {
@@ -103,8 +108,10 @@ fn mark_by_methods(
 fn mark_by_fields(fields: &[FieldRow], marks: &[bool], strings: &mut [bool], types: &mut [bool])
     requires marks { length marks.now ≡ length fields.now }
     requires within { All (IsFieldWithin (length strings.old) (length types.old)) fields.now }
-    ensures strings { strings.new ≡ mark_all strings.old (map (λ f. f.name) (kept marks.now fields.now)) }
-    ensures types { types.new ≡ mark_all types.old (flat_map field_types (kept marks.now fields.now)) }
+    ensures strings { strings.new
+        ≡ mark_all strings.old (map (λ f. f.name) (kept marks.now fields.now)) }
+    ensures types { types.new
+        ≡ mark_all types.old (flat_map field_types (kept marks.now fields.now)) }
 {
     for (i, field) in fields.iter().enumerate() {
         if marks[i] {
@@ -124,9 +131,12 @@ fn mark_by_protos(
     types: &mut [bool],
 )
     requires marks { length marks.now ≡ length protos.now }
-    requires within { All (IsEntryWithin (length strings.old) (length types.old) parameters.now) protos.now }
-    ensures strings { strings.new ≡ mark_all strings.old (map (λ p. p.shorty) (kept marks.now protos.now)) }
-    ensures types { types.new ≡ mark_all types.old (protos_types parameters.now protos.now marks.now) }
+    requires within { All
+        (IsEntryWithin (length strings.old) (length types.old) parameters.now) protos.now }
+    ensures strings { strings.new
+        ≡ mark_all strings.old (map (λ p. p.shorty) (kept marks.now protos.now)) }
+    ensures types { types.new
+        ≡ mark_all types.old (protos_types parameters.now protos.now marks.now) }
 {
     for (i, proto) in protos.iter().enumerate() {
         if marks[i] {

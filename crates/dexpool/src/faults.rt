@@ -30,7 +30,8 @@ pub enum ItemFault {
 
 // The refusal of a row by a condition.
 pub(crate) fn refused(condition: Condition, row: u32) -> ReadFault
-    ensures { result ≡ Refused (record { number = number (condition_meant condition); place = row }) }
+    ensures { result
+        ≡ Refused (record { number = number (condition_meant condition); place = row }) }
 {
     ReadFault::Refused(Refusal {
         number: condition.number(),

@@ -38,7 +38,8 @@ fn field_numbers(frame: &Frame<'_>, i: u32) -> FieldRow
 fn is_field(class: &Text<'_>, name: &Text<'_>, typ: &Text<'_>) -> bool
     requires class { IsDescriptor class.now }
     requires typ { IsDescriptor typ.now }
-    ensures { IsTrue result ↔ IsField (record { class = class.now; name = name.now; type = typ.now }) }
+    ensures { IsTrue result
+        ↔ IsField (record { class = class.now; name = name.now; type = typ.now }) }
 {
     is_class(class) && is_value(typ) && is_member_name(name)
 }

@@ -45,8 +45,10 @@ pub(crate) fn join_tables<'a>(
     parts: &[&Numbering<'a>],
 ) -> Result<(Tables<'a>, Vec<Remap>), AllocError>
     ensures tables { IfOk result (λ joined. AreTables joined.0) }
-    ensures union { IfOk result (λ joined. symbols_in joined.0 ≡ union_of (map (λ part. part.now) parts.now)) }
-    ensures maps { IfOk result (λ joined. PartsMapTo parts.now (symbols_in joined.0) joined.1.items) }
+    ensures union { IfOk result (λ joined.
+        symbols_in joined.0 ≡ union_of (map (λ part. part.now) parts.now)) }
+    ensures maps { IfOk result (λ joined.
+        PartsMapTo parts.now (symbols_in joined.0) joined.1.items) }
 {
     let strings = join_strings(alloc, parts)?;
     let types = join_types(alloc, parts, &strings)?;
@@ -134,8 +136,10 @@ fn renumbered_tables<'a>(
     requires strings { AreTextsOf parts.now strings.now }
     requires types { AreTypesOf parts.now strings.now types.now }
     ensures spans { IfOk result (λ tables. All HasSpans tables.items) }
-    ensures sorted { IfOk result (λ tables. All (λ table. AreSorted proto_key (numbers_in table)) tables.items) }
-    ensures rows { IfOk result (λ tables. AreTablesOf parts.now strings.now types.now tables.items) }
+    ensures sorted { IfOk result (λ tables.
+        All (λ table. AreSorted proto_key (numbers_in table)) tables.items) }
+    ensures rows { IfOk result (λ tables.
+        AreTablesOf parts.now strings.now types.now tables.items) }
 {
     sorted_law::<ProtoRow<'_>>();
     let mut tables = Vec::with_capacity(alloc, parts.len())?;
@@ -169,7 +173,8 @@ fn joined_protos(alloc: Global, parts: &[Vec<ProtoRow<'_>>]) -> Result<JoinedPro
 // The rows of each table of protos.
 fn rows_of_tables(alloc: Global, tables: &[Protos]) -> Result<Vec<Vec<ProtoRow<'_>>>, AllocError>
     requires { All HasSpans tables.now }
-    ensures { IfOk result (λ rows. map (λ table. table.items) rows.items ≡ map numbers_in tables.now) }
+    ensures { IfOk result (λ rows. map (λ table. table.items) rows.items
+        ≡ map numbers_in tables.now) }
 {
     let mut rows = Vec::with_capacity(alloc, tables.len())?;
     for table in tables {
@@ -242,7 +247,8 @@ fn join_rows<R: Row>(alloc: Global, parts: &[Vec<R>]) -> Result<Joined<R>, Alloc
 
 // The rows of each part, lent.
 fn slices_of<R: Row>(alloc: Global, parts: &[Vec<R>]) -> Result<Vec<&[R]>, AllocError>
-    ensures { IfOk result (λ slices. map (λ slice. slice.now) slices.items ≡ map (λ part. part.items) parts.now) }
+    ensures { IfOk result (λ slices. map (λ slice. slice.now) slices.items
+        ≡ map (λ part. part.items) parts.now) }
 {
     let mut slices = Vec::with_capacity(alloc, parts.len())?;
     for part in parts {
@@ -299,7 +305,8 @@ fn remap(
     requires protos_keep { KeepsOrder (map Some protos.now) }
     requires fields_keep { KeepsOrder (map Some fields.now) }
     requires methods_keep { KeepsOrder (map Some methods.now) }
-    ensures { IfOk result (λ remap. remap ≡ total_maps strings.now types.now protos.now fields.now methods.now) }
+    ensures { IfOk result (λ remap.
+        remap ≡ total_maps strings.now types.now protos.now fields.now methods.now) }
 {
     Ok(Remap {
         strings: total(alloc, strings)?,

@@ -23,9 +23,11 @@ impl<'a> Numbering<'a> {
         alloc: Global,
         parts: &[&Numbering<'a>],
     ) -> Result<(Numbering<'a>, Vec<Remap>), AllocError>
-        ensures union { IfOk result (λ joined. joined.0 ≡ union_of (map (λ part. part.now) parts.now)) }
+        ensures union { IfOk result (λ joined.
+            joined.0 ≡ union_of (map (λ part. part.now) parts.now)) }
         ensures maps { IfOk result (λ joined. PartsMapTo parts.now joined.0 joined.1.items) }
-        ensures whole { IfOk result (λ joined. AllZip MapsAll (map (λ part. part.now) parts.now) joined.1.items) }
+        ensures whole { IfOk result (λ joined.
+            AllZip MapsAll (map (λ part. part.now) parts.now) joined.1.items) }
     {
         let (tables, remaps) = join_tables(alloc, parts)?;
         Ok((Numbering { tables }, remaps))

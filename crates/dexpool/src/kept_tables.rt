@@ -135,7 +135,8 @@ fn kept_protos(
     requires strings { length strings.now ≡ length tables.now.strings.items }
     requires types { length types.now ≡ length tables.now.types.items }
     ensures spans { IfOk result HasSpans }
-    ensures rows { IfOk result (λ left. numbers_in left ≡ cut_protos tables.now marks.now strings.now types.now) }
+    ensures rows { IfOk result (λ left.
+        numbers_in left ≡ cut_protos tables.now marks.now strings.now types.now) }
 {
     let rows = marked(alloc, &tables.protos, marks)?;
     renumbered_protos(alloc, &rows, &tables.parameters, strings, types)
@@ -153,7 +154,8 @@ fn kept_fields(
     requires marks { length marks.now ≡ length tables.now.fields.items }
     requires strings { length strings.now ≡ length tables.now.strings.items }
     requires types { length types.now ≡ length tables.now.types.items }
-    ensures { IfOk result (λ fields. fields.items ≡ cut_fields tables.now marks.now strings.now types.now) }
+    ensures { IfOk result (λ fields.
+        fields.items ≡ cut_fields tables.now marks.now strings.now types.now) }
 {
     let rows = marked(alloc, &tables.fields, marks)?;
     renumbered_fields(alloc, &rows, strings, types)
@@ -171,7 +173,8 @@ fn kept_methods(
     requires strings { length lower.strings.now ≡ length tables.now.strings.items }
     requires types { length lower.types.now ≡ length tables.now.types.items }
     requires protos { length lower.protos.now ≡ length tables.now.protos.items }
-    ensures { IfOk result (λ methods. methods.items ≡ cut_methods tables.now marks.now lower.entry) }
+    ensures { IfOk result (λ methods.
+        methods.items ≡ cut_methods tables.now marks.now lower.entry) }
 {
     let rows = marked(alloc, &tables.methods, marks)?;
     renumbered_methods(alloc, &rows, lower.strings, lower.types, lower.protos)

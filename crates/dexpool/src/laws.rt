@@ -34,7 +34,8 @@ pub fn within_law()
 /// What is marked with others is marked, and what was marked stays so; and where each marked number has an image, as
 /// after a keep, so has each number that occurs in what was marked.
 pub fn marked_law()
-    ensures marked { (us : List Use) (old new : Marks) → AreMarkedToo us old new → All (IsMarkedUse new) us }
+    ensures marked { (us : List Use) (old new : Marks) → AreMarkedToo us old new
+        → All (IsMarkedUse new) us }
     ensures stays { MarksStay }
     ensures images { MarkedAreMapped }
 {}

@@ -19,7 +19,8 @@ impl<'p, 'a> Names<'p, 'a> {
     /// The text of a row, if there is the row.
     pub(crate) fn text(&self, index: usize) -> Option<&'p Text<'a>>
         requires { AreNames self.now.frame.now self.now.strings.now self.now.types.now }
-        ensures { MatchOption result (NoFileText self.now index) (λ t. IsFileText self.now index t.now) }
+        ensures { MatchOption result (NoFileText self.now index) (λ t.
+            IsFileText self.now index t.now) }
     {
         if self.strings.len() <= index {
             return None;
@@ -30,7 +31,8 @@ impl<'p, 'a> Names<'p, 'a> {
     /// The type of a row, if there is the row.
     pub(crate) fn typ(&self, index: usize) -> Option<&'p Text<'a>>
         requires { AreNames self.now.frame.now self.now.strings.now self.now.types.now }
-        ensures { MatchOption result (NoFileType self.now index) (λ t. IsFileType self.now index t.now) }
+        ensures { MatchOption result (NoFileType self.now index) (λ t.
+            IsFileType self.now index t.now) }
     {
         if self.types.len() <= index {
             return None;

@@ -55,7 +55,8 @@ impl<'a> Numbering<'a> {
 
     /// A numbering of no symbol.
     pub fn empty(alloc: Global) -> Numbering<'a>
-        ensures { result ≡ record { texts = []; types = []; protos = []; fields = []; methods = [] } }
+        ensures { result
+            ≡ record { texts = []; types = []; protos = []; fields = []; methods = [] } }
     {
         Numbering {
             tables: Tables {
@@ -161,7 +162,8 @@ impl<'a> Numbering<'a> {
     /// Condition: `i` is below the number of fields. Source: "field_id_item".
     pub fn field(&self, i: usize) -> &FieldRow
         requires { i < length self.now.fields }
-        ensures { (d : Field) → DenotesField self.now result.now (slice_index_or self.now.fields i d) }
+        ensures { (d : Field)
+            → DenotesField self.now result.now (slice_index_or self.now.fields i d) }
     {
         &self.tables.fields[i]
     }
@@ -171,7 +173,8 @@ impl<'a> Numbering<'a> {
     /// Condition: `i` is below the number of methods. Source: "method_id_item".
     pub fn method(&self, i: usize) -> &MethodRow
         requires { i < length self.now.methods }
-        ensures { (d : Method) → DenotesMethod self.now result.now (slice_index_or self.now.methods i d) }
+        ensures { (d : Method)
+            → DenotesMethod self.now result.now (slice_index_or self.now.methods i d) }
     {
         &self.tables.methods[i]
     }

@@ -138,7 +138,8 @@ impl<'a> Pools<'a> {
     /// Condition: `i` is below the number of fields. Source: "field_id_item".
     pub fn field(&self, i: u32) -> &FieldRow
         requires { i < length self.now.fields }
-        ensures { (d : Field) → DenotesField self.now result.now (slice_index_or self.now.fields i d) }
+        ensures { (d : Field)
+            → DenotesField self.now result.now (slice_index_or self.now.fields i d) }
     {
         self.numbering.field(i as usize)
     }
@@ -148,7 +149,8 @@ impl<'a> Pools<'a> {
     /// Condition: `i` is below the number of methods. Source: "method_id_item".
     pub fn method(&self, i: u32) -> &MethodRow
         requires { i < length self.now.methods }
-        ensures { (d : Method) → DenotesMethod self.now result.now (slice_index_or self.now.methods i d) }
+        ensures { (d : Method)
+            → DenotesMethod self.now result.now (slice_index_or self.now.methods i d) }
     {
         self.numbering.method(i as usize)
     }
@@ -187,7 +189,8 @@ fn read_rows(
     requires file { parameters.now ≡ file_numbers names.now.frame.now }
     ensures protos { IfOk result (λ rows. AreFileProtos names.now rows.protos.items) }
     ensures fields { IfOk result (λ rows. AreFileFields names.now rows.fields.items) }
-    ensures methods { IfOk result (λ rows. AreFileMethods names.now rows.protos.items rows.methods.items) }
+    ensures methods { IfOk result (λ rows.
+        AreFileMethods names.now rows.protos.items rows.methods.items) }
     ensures err { IfErr result (IsFault names.now.frame.now) }
 {
     let protos = read_protos(alloc, names, parameters)?;

@@ -62,7 +62,8 @@ fn proto_at(
     requires lists { AreFileLists names.now lists.old }
     requires row { i < table_size names.now.frame.now ProtoIds }
     ensures lists { IfOk result (λ _. AreFileLists names.now lists.new) }
-    ensures proto { IfOk result (λ found. MatchOption found (NoFileProto names.now i) (IsFileProto names.now i)) }
+    ensures proto { IfOk result (λ found.
+        MatchOption found (NoFileProto names.now i) (IsFileProto names.now i)) }
 {
     let indices = indices_at(names.frame, i);
     let shorty = match names.text(indices.shorty) {

@@ -44,7 +44,8 @@ impl<'a> Numbering<'a> {
     // Compares the type of a number with another type.
     fn compare_type(&self, i: usize, descriptor: &Text<'_>) -> Ordering
         requires { i < length self.now.types }
-        ensures { (d : List ℕ) → result ≡ text_cmp (slice_index_or self.now.types i d) descriptor.now }
+        ensures { (d : List ℕ)
+            → result ≡ text_cmp (slice_index_or self.now.types i d) descriptor.now }
     {
         self.typ(i).cmp(descriptor)
     }
@@ -52,7 +53,8 @@ impl<'a> Numbering<'a> {
     // Compares the types of numbers with other types: the first that differ decide, and else a prefix comes first.
     fn compare_types(&self, numbers: &TypeNumbers<'_>, descriptors: &[Name]) -> Ordering
         requires { All (λ n. n < length self.now.types) numbers.now }
-        ensures { (d : List ℕ) → result ≡ slice_cmp text_cmp (types_or self.now numbers.now d) descriptors.now }
+        ensures { (d : List ℕ)
+            → result ≡ slice_cmp text_cmp (types_or self.now numbers.now d) descriptors.now }
     {
         for i in 0..numbers.len().min(descriptors.len()) {
             match self.compare_type(numbers.at(i), &descriptors[i].text()) {
@@ -93,7 +95,8 @@ impl<'a> Numbering<'a> {
     // Compares the method of a number with another method.
     fn compare_method(&self, i: usize, method: &MethodSymbol) -> Ordering
         requires { i < length self.now.methods }
-        ensures { (d : Method) → result ≡ method_cmp (slice_index_or self.now.methods i d) method.now }
+        ensures { (d : Method)
+            → result ≡ method_cmp (slice_index_or self.now.methods i d) method.now }
     {
         let row = self.method(i);
         match self.compare_type(row.class, &method.class.text()) {

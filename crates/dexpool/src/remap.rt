@@ -46,7 +46,8 @@ impl Model for Remap {
 impl Remap {
     /// No number leads anywhere. No memory is taken.
     pub fn none(alloc: Global) -> Remap
-        ensures { result ≡ record { texts = []; types = []; protos = []; fields = []; methods = [] } }
+        ensures { result
+            ≡ record { texts = []; types = []; protos = []; fields = []; methods = [] } }
     {
         Remap {
             strings: Images::none(alloc),

@@ -63,7 +63,8 @@ fn push_images(
     to: &mut Vec<usize>,
 ) -> Result<(), AllocError>
     requires { All (λ n. n < length images.now) numbers.now }
-    ensures { OnOk result (to.new.items ≡ to.old.items ++ map (slice_index images.now) numbers.now) }
+    ensures { OnOk result (to.new.items ≡ to.old.items
+        ++ map (slice_index images.now) numbers.now) }
 {
     for i in 0..numbers.len() {
         to.push(images[numbers.at(i)] as usize)?;
@@ -82,7 +83,8 @@ pub(crate) fn renumbered_protos(
     strings: &[u32],
     types: &[u32],
 ) -> Result<Protos, AllocError>
-    requires { All (IsEntryWithin (length strings.now) (length types.now) parameters.now) protos.now }
+    requires { All
+        (IsEntryWithin (length strings.now) (length types.now) parameters.now) protos.now }
     ensures spans { IfOk result HasSpans }
     ensures rows { IfOk result (AreMovedProtos strings.now types.now parameters.now protos.now) }
 {
@@ -186,7 +188,8 @@ pub(crate) fn renumbered_fields(
     types: &[u32],
 ) -> Result<Vec<FieldRow>, AllocError>
     requires { All (IsFieldWithin (length strings.now) (length types.now)) fields.now }
-    ensures { IfOk result (λ rows. rows.items ≡ map (moved_field strings.now types.now) fields.now) }
+    ensures { IfOk result (λ rows.
+        rows.items ≡ map (moved_field strings.now types.now) fields.now) }
 {
     let lower = LowerPlaces {
         strings,
@@ -204,8 +207,10 @@ pub(crate) fn renumbered_methods(
     types: &[u32],
     protos: &[u32],
 ) -> Result<Vec<MethodRow>, AllocError>
-    requires { All (IsMethodWithin (length strings.now) (length types.now) (length protos.now)) methods.now }
-    ensures { IfOk result (λ rows. rows.items ≡ map (moved_method strings.now types.now protos.now) methods.now) }
+    requires { All
+        (IsMethodWithin (length strings.now) (length types.now) (length protos.now)) methods.now }
+    ensures { IfOk result (λ rows.
+        rows.items ≡ map (moved_method strings.now types.now protos.now) methods.now) }
 {
     let lower = LowerPlaces {
         strings,

@@ -42,7 +42,8 @@ fn both(left: Span, right: Span) -> Span
 /// The least part that has the parameters of all rows.
 pub(crate) fn covering(protos: &[ProtoEntry]) -> Span
     ensures covers { All (λ p. Covers result p.parameters) protos.now }
-    ensures within { (ps : List ℕ) → All (λ p. HasSpan ps p.parameters) protos.now → HasSpan ps result }
+    ensures within { (ps : List ℕ) → All (λ p. HasSpan ps p.parameters) protos.now
+        → HasSpan ps result }
 {
     let mut range = Span { start: 0, end: 0 };
     for entry in protos {
@@ -93,7 +94,8 @@ pub(crate) fn renumbered_together(
     strings: &[u32],
     types: &[u32],
 ) -> Result<Protos, AllocError>
-    requires protos { All (IsEntryWithin (length strings.now) (length types.now) parameters.now) protos.now }
+    requires protos { All
+        (IsEntryWithin (length strings.now) (length types.now) parameters.now) protos.now }
     requires range { HasSpan parameters.now range }
     requires covers { All (λ p. Covers range p.parameters) protos.now }
     ensures spans { IfOk result HasSpans }

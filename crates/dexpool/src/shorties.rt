@@ -25,7 +25,8 @@ fn letter_at(names: &Names<'_, '_>, i: usize) -> u16
 /// Source: "ShortyDescriptor".
 pub(crate) fn letters_of(alloc: Global, names: &Names<'_, '_>) -> Result<Vec<u16>, AllocError>
     requires { AreNames names.now.frame.now names.now.strings.now names.now.types.now }
-    ensures { IfOk result (λ letters. AreLetters names.now.strings.now names.now.types.now letters.items) }
+    ensures { IfOk result (λ letters.
+        AreLetters names.now.strings.now names.now.types.now letters.items) }
 {
     let mut letters = Vec::with_capacity(alloc, names.types.len())?;
     for i in 0..names.types.len() {

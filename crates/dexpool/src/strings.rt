@@ -41,7 +41,8 @@ pub(crate) fn read_strings<'a>(alloc: Global, frame: &Frame<'a>) -> Result<Vec<T
 #[tactic(auto, using(crate::proofs::Bytes::uint_at_row, crate::proofs::Bytes::no_text_after))]
 fn string_at<'a>(frame: &Frame<'a>, i: u32) -> Option<Text<'a>>
     requires { i < table_size frame.now StringIds }
-    ensures { MatchOption result ((s : List ℕ) → StringRow frame.now i s → ⊥) (λ s. StringRow frame.now i s) }
+    ensures { MatchOption result ((s : List ℕ) → StringRow frame.now i s
+        → ⊥) (λ s. StringRow frame.now i s) }
 {
     let at = u32_at(frame.row(Table::StringIds, i), 0);
     let bytes = frame.bytes();

@@ -49,7 +49,8 @@ pub(crate) fn read_types(
 fn type_at(frame: &Frame<'_>, strings: &[Text<'_>], i: u32) -> Option<usize>
     requires strings { AreTexts frame.now strings.now }
     requires row { i < table_size frame.now TypeIds }
-    ensures { MatchOption result ((t : List ℕ) → TypeRow frame.now i t → ⊥) (TypeRowAt strings.now frame.now i) }
+    ensures { MatchOption result ((t : List ℕ) → TypeRow frame.now i t
+        → ⊥) (TypeRowAt strings.now frame.now i) }
 {
     let index = type_index(frame, i);
     if strings.len() <= index {

@@ -62,8 +62,10 @@ fn join_two<R: Row>(
     left: Joined<R>,
     right: Joined<R>,
 ) -> Result<Joined<R>, AllocError>
-    requires left { AreJoined R.key_of left.rows.items (map (λ image. image.items) left.images.items) }
-    requires right { AreJoined R.key_of right.rows.items (map (λ image. image.items) right.images.items) }
+    requires left { AreJoined R.key_of left.rows.items
+        (map (λ image. image.items) left.images.items) }
+    requires right { AreJoined R.key_of right.rows.items
+        (map (λ image. image.items) right.images.items) }
     ensures { IfOk result (JoinsTwo R.key_of left right) }
 {
     let merged = merge(alloc, &left.rows, &right.rows)?;

@@ -31,14 +31,16 @@ impl<'p> ProtoRow<'p> {
     /// The row with these numbers: the text of the shorty, the type that is returned, and the types of the
     /// parameters.
     pub fn new(shorty: usize, return_type: usize, parameters: &'p [usize]) -> ProtoRow<'p>
-        ensures { result ≡ record { shorty = shorty; return_type = return_type; parameters = parameters.now } }
+        ensures { result
+            ≡ record { shorty = shorty; return_type = return_type; parameters = parameters.now } }
     {
         ProtoRow::of(shorty, return_type, TypeNumbers::words(parameters))
     }
 
     /// The row with these numbers, whose parameters may occur in a file.
     pub fn of(shorty: usize, return_type: usize, parameters: TypeNumbers<'p>) -> ProtoRow<'p>
-        ensures { result ≡ record { shorty = shorty; return_type = return_type; parameters = parameters.entry } }
+        ensures { result
+            ≡ record { shorty = shorty; return_type = return_type; parameters = parameters.entry } }
     {
         ProtoRow {
             shorty,

@@ -60,7 +60,7 @@ written_is one file b bytes lines K L old new same encodes denotes made written 
 
 pub prefix_is : (one : (b : List ℕ) (K L : Collection) → Denotes b K → Denotes b L → K ≡ L) (file b bytes lines : List ℕ) (K L : Collection) (old new : List ℕ) →
     bytes ≡ b → IsReadAs bytes L → Denotes b K → lines ≡ digest_lines file L → ((n : ℕ) × (new ≡ old ++ take n lines)) → (n : ℕ) × (new ≡ old ++ take n (digest_lines file K))
-prefix_is one file b bytes lines K L old new same encodes denotes made front = (
-  front.0,
-  front.1 ∙ ap (λ x. old ++ take front.0 x) made ∙ ap (λ J. old ++ take front.0 (digest_lines file J)) (read_is one b bytes K L same encodes denotes),
+prefix_is one file b bytes lines K L old new same encodes denotes made prefix = (
+  prefix.0,
+  prefix.1 ∙ ap (λ x. old ++ take prefix.0 x) made ∙ ap (λ J. old ++ take prefix.0 (digest_lines file J)) (read_is one b bytes K L same encodes denotes),
 )

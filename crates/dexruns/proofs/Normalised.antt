@@ -21,7 +21,7 @@ written_is one b bytes K L old new same encodes denotes written = written ∙ ap
 
 pub prefix_is : (one : (b : List ℕ) (K L : Collection) → Denotes b K → Denotes b L → K ≡ L) (b bytes : List ℕ) (K L : Collection) (old new : List ℕ) →
     bytes ≡ b → IsReadAs bytes L → Denotes b K → ((n : ℕ) × (new ≡ old ++ take n (canonical L))) → (n : ℕ) × (new ≡ old ++ take n (canonical K))
-prefix_is one b bytes K L old new same encodes denotes front = (front.0, front.1 ∙ ap (λ J. old ++ take front.0 (canonical J)) (read_is one b bytes K L same encodes denotes))
+prefix_is one b bytes K L old new same encodes denotes prefix = (prefix.0, prefix.1 ∙ ap (λ J. old ++ take prefix.0 (canonical J)) (read_is one b bytes K L same encodes denotes))
 
 pub accepted_file : (b bytes : List ℕ) (L : Collection) → bytes ≡ b → IsReadAs bytes L → IsAccepted b
 accepted_file b bytes L same encodes = subst (λ x. IsAccepted x) same encodes.accepted

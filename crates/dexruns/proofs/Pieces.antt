@@ -17,13 +17,13 @@ pub read_to_end : (filled most : ℕ) (bytes now kept left whole : List ℕ) →
 read_to_end filled most bytes now kept left whole is same joined bound why = is ∙ same ∙ read_all most (take filled bytes) left whole joined bound why
 
 -- what was read into the part is after the bytes before the part
-pub moved_in_place : {E : Type 0} (T : Type 0) (whole left : List ℕ) (r : Result ℕ E) (front part rest : List ℕ) (at : ℕ) → length front ≡ at →
-    IfOk r (λ n. n ≤ length part) → IfOk r (λ n. T → whole ≡ take n part ++ left) → IfOk r (λ n. T → whole ≡ take n (drop at (front ++ (part ++ rest))) ++ left)
-moved_in_place T whole left (Ok n) front part rest at long fits read = λ t. read t ∙ ap (λ l. l ++ left) (sym (ap (take n) (drop_at front (part ++ rest) at long) ∙ take-append-le n part rest fits))
-moved_in_place T whole left (Err e) front part rest at long fits read = tt
+pub moved_in_place : {E : Type 0} (T : Type 0) (whole left : List ℕ) (r : Result ℕ E) (prefix part rest : List ℕ) (at : ℕ) → length prefix ≡ at →
+    IfOk r (λ n. n ≤ length part) → IfOk r (λ n. T → whole ≡ take n part ++ left) → IfOk r (λ n. T → whole ≡ take n (drop at (prefix ++ (part ++ rest))) ++ left)
+moved_in_place T whole left (Ok n) prefix part rest at long fits read = λ t. read t ∙ ap (λ l. l ++ left) (sym (ap (take n) (drop_at prefix (part ++ rest) at long) ∙ take-append-le n part rest fits))
+moved_in_place T whole left (Err e) prefix part rest at long fits read = tt
 
 -- what was read so far, and is to come, after one more read
 pub joined_more : (whole mid left old new : List ℕ) (i n : ℕ) → i ≤ length old → i + n ≤ length new → whole ≡ take i old ++ mid → take i new ≡ take i old → mid ≡ take n (drop i new) ++ left →
     whole ≡ take (i + n) new ++ left
-joined_more whole mid left old new i n within fits before front after =
-    rw (before, after, ← front) (sym (append_assoc (take i new) (take n (drop i new)) left) ∙ ap (λ l. l ++ left) (sym (take-add i n new)))
+joined_more whole mid left old new i n within fits before prefix after =
+    rw (before, after, ← prefix) (sym (append_assoc (take i new) (take n (drop i new)) left) ∙ ap (λ l. l ++ left) (sym (take-add i n new)))

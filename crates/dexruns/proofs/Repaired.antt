@@ -43,7 +43,7 @@ accepted_is file bytes b made same accepted = subst (λ x. IsAccepted x) (repair
 
 -- and a prefix that was written is one of it
 pub prefix_is : (file bytes b old new : List ℕ) → file ≡ repaired bytes → bytes ≡ b → ((n : ℕ) × (new ≡ old ++ take n file)) → (n : ℕ) × (new ≡ old ++ take n (repaired b))
-prefix_is file bytes b old new made same front = (front.0, front.1 ∙ ap (λ x. old ++ take front.0 x) (repaired_is file bytes b made same))
+prefix_is file bytes b old new made same prefix = (prefix.0, prefix.1 ∙ ap (λ x. old ++ take prefix.0 x) (repaired_is file bytes b made same))
 
 -- ---- its sums are right, if it is long enough to have them
 

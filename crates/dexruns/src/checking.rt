@@ -18,7 +18,8 @@ use std::alloc::Global;
 // What is reported of the input with this number.
 fn check_input<R: Source>(alloc: Global, number: usize, input: &mut R) -> Result<Verdict, RunFault>
     requires { R.has_failed input.old ≡ false }
-    ensures verdict { IfOk result (λ verdict. R.reports input.old → IsVerdict (bytes_read (R.to_come input.old)) verdict) }
+    ensures verdict { IfOk result (λ verdict. R.reports input.old
+        → IsVerdict (bytes_read (R.to_come input.old)) verdict) }
     ensures no_further { IsReadNoFurther R.reports R.to_come R.has_failed input.old input.new }
     ensures works { OnOk result (R.has_failed input.new ≡ false) }
     ensures fault { IfErr result (AreUnread number (R.has_failed input.new)) }
@@ -59,11 +60,14 @@ pub fn check_run<R: Source, W: Sink>(
     requires names { length names.now ≡ length inputs.old }
     requires inputs { AllWork R.has_failed inputs.old }
     requires out { W.has_failed out.old ≡ false }
-    ensures lines { IfOk result (AreChecked (All R.reports inputs.old) (W.reports out.old) (map (λ name. name.now) names.now)
-        (map (λ input. bytes_read (R.to_come input)) inputs.old) (W.taken out.old) (W.taken out.new)) }
-    ensures begun { IfErr result (λ _. AreBegun (All R.reports inputs.old) (W.reports out.old) (map (λ name. name.now) names.now)
-        (map (λ input. bytes_read (R.to_come input)) inputs.old) (W.taken out.old) (W.taken out.new)) }
-    ensures no_further { AllZip (IsReadNoFurther R.reports R.to_come R.has_failed) inputs.old inputs.new }
+    ensures lines { IfOk result (AreChecked (All R.reports inputs.old) (W.reports out.old)
+        (map (λ name. name.now) names.now) (map (λ input. bytes_read (R.to_come input)) inputs.old)
+        (W.taken out.old) (W.taken out.new)) }
+    ensures begun { IfErr result (λ _. AreBegun (All R.reports inputs.old) (W.reports out.old)
+        (map (λ name. name.now) names.now) (map (λ input. bytes_read (R.to_come input)) inputs.old)
+        (W.taken out.old) (W.taken out.new)) }
+    ensures no_further { AllZip
+        (IsReadNoFurther R.reports R.to_come R.has_failed) inputs.old inputs.new }
     ensures reports { W.reports out.old → W.reports out.new }
 
     // It reports the faults of the devices exactly where they are.

@@ -25,7 +25,8 @@ fn push_cap_line(
     cap: u32,
     text: &mut String,
 ) -> Result<(), AllocError>
-    ensures { OnOk result (string_bytes text.new ≡ string_bytes text.old ++ cap_line name.now count cap) }
+    ensures { OnOk result (string_bytes text.new ≡ string_bytes text.old
+        ++ cap_line name.now count cap) }
 {
     let line = format!(in alloc; "{name} {count} of {cap}\n")?;
     text.push_str(&line)
@@ -39,7 +40,8 @@ fn push_number_line(
     count: usize,
     text: &mut String,
 ) -> Result<(), AllocError>
-    ensures { OnOk result (string_bytes text.new ≡ string_bytes text.old ++ number_line name.now count) }
+    ensures { OnOk result (string_bytes text.new ≡ string_bytes text.old
+        ++ number_line name.now count) }
 {
     let line = format!(in alloc; "{name} {count}\n")?;
     text.push_str(&line)
@@ -47,7 +49,8 @@ fn push_number_line(
 
 // Appends the lines of the numbers that caps bound.
 fn push_capped_lines(alloc: Global, counts: &Counts, text: &mut String) -> Result<(), AllocError>
-    ensures { OnOk result (string_bytes text.new ≡ string_bytes text.old ++ capped_lines counts.now) }
+    ensures { OnOk result (string_bytes text.new ≡ string_bytes text.old
+        ++ capped_lines counts.now) }
 {
     let caps = Caps::greatest();
     push_cap_line(alloc, "types", counts.types as u64, caps.types(), text)?;
@@ -102,7 +105,8 @@ fn read_counts<R: Source>(alloc: Global, inputs: &mut [R]) -> Result<Counts, Run
     requires { AllWork R.has_failed inputs.old }
     ensures counts { IfOk result (HaveCounts R.reports R.to_come inputs.old) }
     ensures fault { IfErr result (IsCountFault R.reports R.to_come inputs.old (λ lines. ⊥)) }
-    ensures no_further { AllZip (IsReadNoFurther R.reports R.to_come R.has_failed) inputs.old inputs.new }
+    ensures no_further { AllZip
+        (IsReadNoFurther R.reports R.to_come R.has_failed) inputs.old inputs.new }
     ensures works { OnOk result (AllWork R.has_failed inputs.new) }
     ensures devices { IfErr result (IsOfDevices R.has_failed inputs.new false) }
 {
@@ -135,11 +139,14 @@ pub fn count_run<R: Source, W: Sink>(
 ) -> Result<(), RunFault>
     requires inputs { AllWork R.has_failed inputs.old }
     requires out { W.has_failed out.old ≡ false }
-    ensures counted { OnOk result (AreCounted R.reports R.to_come inputs.old (IsAppended (W.reports out.old) (W.taken out.old) (W.taken out.new))) }
-    ensures fault { IfErr result (IsCountFault R.reports R.to_come inputs.old (IsPrefixAppended (W.reports out.old) (W.taken out.old) (W.taken out.new))) }
+    ensures counted { OnOk result (AreCounted R.reports R.to_come inputs.old
+        (IsAppended (W.reports out.old) (W.taken out.old) (W.taken out.new))) }
+    ensures fault { IfErr result (IsCountFault R.reports R.to_come inputs.old
+        (IsPrefixAppended (W.reports out.old) (W.taken out.old) (W.taken out.new))) }
     ensures left { IfErr result (IsLeft out.old out.new) }
     ensures reports { W.reports out.old → W.reports out.new }
-    ensures no_further { AllZip (IsReadNoFurther R.reports R.to_come R.has_failed) inputs.old inputs.new }
+    ensures no_further { AllZip
+        (IsReadNoFurther R.reports R.to_come R.has_failed) inputs.old inputs.new }
 
     // The faults of the devices are reported exactly where they are.
     ensures readers { OnOk result (AllWork R.has_failed inputs.new) }

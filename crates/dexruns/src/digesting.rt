@@ -43,7 +43,8 @@ fn push_digest_line(
     name: &Text<'_>,
     text: &mut String,
 ) -> Result<(), AllocError>
-    ensures { OnOk result (string_bytes text.new ≡ string_bytes text.old ++ digest_line file.now digest.now name.now) }
+    ensures { OnOk result (string_bytes text.new ≡ string_bytes text.old
+        ++ digest_line file.now digest.now name.now) }
 {
     push_hexadecimal(digest, text)?;
     push_sign(TAB, text)?;
@@ -95,12 +96,16 @@ pub fn digest_run<R: Source, W: Sink>(
 ) -> Result<(), RunFault>
     requires input { R.has_failed input.old ≡ false }
     requires out { W.has_failed out.old ≡ false }
-    ensures accepted { OnOk result (R.reports input.old → IsAccepted (bytes_read (R.to_come input.old))) }
-    ensures written { OnOk result (R.reports input.old → W.reports out.old → (K : Collection) → Denotes (bytes_read (R.to_come input.old)) K →
-        W.taken out.new ≡ W.taken out.old ++ digest_lines name.now K) }
-    ensures fault { IfErr result (IsOfInput (R.reports input.old) (bytes_read (R.to_come input.old))) }
-    ensures left { IfErr result (IsLeftWith (IsDigestPrefix (R.reports input.old) (W.reports out.old) name.now (W.taken out.old) (W.taken out.new)
-        (bytes_read (R.to_come input.old))) out.old out.new) }
+    ensures accepted { OnOk result (R.reports input.old
+        → IsAccepted (bytes_read (R.to_come input.old))) }
+    ensures written { OnOk result (R.reports input.old
+        → W.reports out.old → (K : Collection) → Denotes (bytes_read (R.to_come input.old)) K
+        → W.taken out.new ≡ W.taken out.old ++ digest_lines name.now K) }
+    ensures fault { IfErr result
+        (IsOfInput (R.reports input.old) (bytes_read (R.to_come input.old))) }
+    ensures left { IfErr result
+        (IsLeftWith (IsDigestPrefix (R.reports input.old) (W.reports out.old) name.now
+        (W.taken out.old) (W.taken out.new) (bytes_read (R.to_come input.old))) out.old out.new) }
     ensures reports { W.reports out.old → W.reports out.new }
     ensures no_further { IsReadNoFurther R.reports R.to_come R.has_failed input.old input.new }
 

@@ -27,8 +27,10 @@ pub fn dump_run<R: Source, W: Sink>(
 ) -> Result<(), RunFault>
     requires input { R.has_failed input.old ≡ false }
     requires out { W.has_failed out.old ≡ false }
-    ensures accepted { OnOk result (R.reports input.old → IsAccepted (bytes_read (R.to_come input.old))) }
-    ensures fault { IfErr result (IsOfInput (R.reports input.old) (bytes_read (R.to_come input.old))) }
+    ensures accepted { OnOk result (R.reports input.old
+        → IsAccepted (bytes_read (R.to_come input.old))) }
+    ensures fault { IfErr result
+        (IsOfInput (R.reports input.old) (bytes_read (R.to_come input.old))) }
     ensures left { IfErr result (IsLeft out.old out.new) }
     ensures no_further { IsReadNoFurther R.reports R.to_come R.has_failed input.old input.new }
 

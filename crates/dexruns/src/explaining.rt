@@ -141,7 +141,8 @@ fn fault_line(
     out: &str,
 ) -> Result<String, AllocError>
     requires { HasName (length names.now) fault.now }
-    ensures { IfOk result (λ line. string_bytes line ≡ fault_line (map (λ name. name.now) names.now) out.now fault.now) }
+    ensures { IfOk result (λ line.
+        string_bytes line ≡ fault_line (map (λ name. name.now) names.now) out.now fault.now) }
 {
     match fault {
         RunFault::Input(i, refusal) => {
@@ -175,7 +176,8 @@ pub fn explain(
 ) -> Result<(u8, String), AllocError>
     requires { HasName (length names.now) fault.now }
     ensures status { IfOk result (λ reported. reported.0 ≡ exit_status fault.now) }
-    ensures line { IfOk result (λ reported. string_bytes reported.1 ≡ fault_line (map (λ name. name.now) names.now) out.now fault.now) }
+    ensures line { IfOk result (λ reported.
+        string_bytes reported.1 ≡ fault_line (map (λ name. name.now) names.now) out.now fault.now) }
 {
     let line = fault_line(alloc, fault, names, out)?;
     Ok((exit_status(fault), line))

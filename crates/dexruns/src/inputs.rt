@@ -62,7 +62,7 @@ fn make_room(bytes: &mut Vec<u8>, filled: usize, expected: usize) -> Result<(), 
     requires bound { vec_len bytes.old ≤ 1073741825 }
     ensures room { OnOk result (filled < vec_len bytes.new) }
     ensures bound { OnOk result (vec_len bytes.new ≤ 1073741825) }
-    ensures front { OnOk result (take filled bytes.new.items ≡ take filled bytes.old.items) }
+    ensures prefix { OnOk result (take filled bytes.new.items ≡ take filled bytes.old.items) }
 {
     if filled < bytes.len() {
         return Ok(());
@@ -77,10 +77,11 @@ fn read_at<R: Source>(input: &mut R, bytes: &mut [u8], at: usize) -> Result<usiz
     requires room { at < length bytes.old }
     ensures works { OnOk result (R.has_failed input.new ≡ false) }
     ensures fails { OnErr result (R.has_failed input.new ≡ true) }
-    ensures front { take at bytes.new ≡ take at bytes.old }
+    ensures prefix { take at bytes.new ≡ take at bytes.old }
     ensures fits { IfOk result (λ n. at + n ≤ length bytes.new) }
     ensures reports { R.reports input.old → R.reports input.new }
-    ensures moved { IfOk result (λ n. R.reports input.old → R.to_come input.old ≡ take n (drop at bytes.new) ++ R.to_come input.new) }
+    ensures moved { IfOk result (λ n. R.reports input.old
+        → R.to_come input.old ≡ take n (drop at bytes.new) ++ R.to_come input.new) }
     ensures end { IfOk result (λ n. n ≡ 0 → R.reports input.old → R.to_come input.old ≡ []) }
 {
     input.read(&mut bytes[at..])
@@ -100,10 +101,11 @@ fn read_more<R: Source>(
     ensures fault { IfErr result (ReportsOf (R.has_failed input.new)) }
     ensures unread { IfErr result (IsUnread input.old input.new) }
     ensures bound { OnOk result (vec_len bytes.new ≤ 1073741825) }
-    ensures front { OnOk result (take filled bytes.new.items ≡ take filled bytes.old.items) }
+    ensures prefix { OnOk result (take filled bytes.new.items ≡ take filled bytes.old.items) }
     ensures fits { IfOk result (λ n. filled + n ≤ vec_len bytes.new) }
     ensures reports { R.reports input.old → R.reports input.new }
-    ensures moved { IfOk result (λ n. R.reports input.old → R.to_come input.old ≡ take n (drop filled bytes.new.items) ++ R.to_come input.new) }
+    ensures moved { IfOk result (λ n. R.reports input.old
+        → R.to_come input.old ≡ take n (drop filled bytes.new.items) ++ R.to_come input.new) }
     ensures end { IfOk result (λ n. n ≡ 0 → R.reports input.old → R.to_come input.old ≡ []) }
 {
     make_room(bytes, filled, input.expected())?;
@@ -120,7 +122,8 @@ fn read_more<R: Source>(
 /// failed.
 pub fn read_whole<R: Source>(alloc: Global, input: &mut R) -> Result<Vec<u8>, InputFault>
     requires { R.has_failed input.old ≡ false }
-    ensures bytes { IfOk result (λ bytes. R.reports input.old → bytes.items ≡ bytes_read (R.to_come input.old)) }
+    ensures bytes { IfOk result (λ bytes. R.reports input.old
+        → bytes.items ≡ bytes_read (R.to_come input.old)) }
     ensures no_further { IsReadNoFurther R.reports R.to_come R.has_failed input.old input.new }
     ensures works { OnOk result (R.has_failed input.new ≡ false) }
     ensures fault { IfErr result (ReportsOf (R.has_failed input.new)) }
@@ -145,7 +148,8 @@ pub(crate) fn read_input<R: Source>(
     input: &mut R,
 ) -> Result<Vec<u8>, RunFault>
     requires { R.has_failed input.old ≡ false }
-    ensures bytes { IfOk result (λ bytes. R.reports input.old → bytes.items ≡ bytes_read (R.to_come input.old)) }
+    ensures bytes { IfOk result (λ bytes. R.reports input.old
+        → bytes.items ≡ bytes_read (R.to_come input.old)) }
     ensures no_further { IsReadNoFurther R.reports R.to_come R.has_failed input.old input.new }
     ensures works { OnOk result (R.has_failed input.new ≡ false) }
     ensures fault { IfErr result (AreUnread number (R.has_failed input.new)) }

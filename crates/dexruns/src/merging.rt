@@ -38,8 +38,10 @@ pub(crate) fn read_each<'a, R: Source>(
 ) -> Result<Vec<Program<'a>>, RunFault>
     requires places { length places.old ≡ length inputs.old }
     requires inputs { AllWork R.has_failed inputs.old }
-    ensures read { IfOk result (λ programs. AreReadFrom R.reports R.to_come inputs.old programs.items) }
-    ensures no_further { AllZip (IsReadNoFurther R.reports R.to_come R.has_failed) inputs.old inputs.new }
+    ensures read { IfOk result (λ programs.
+        AreReadFrom R.reports R.to_come inputs.old programs.items) }
+    ensures no_further { AllZip
+        (IsReadNoFurther R.reports R.to_come R.has_failed) inputs.old inputs.new }
     ensures works { OnOk result (AllWork R.has_failed inputs.new) }
     ensures fault { IfErr result (IsReadEachFault R.reports R.to_come inputs.old) }
     ensures devices { IfErr result (IsOfDevices R.has_failed inputs.new false) }
@@ -87,9 +89,12 @@ fn read_united<'a, R: Source>(
 ) -> Result<Program<'a>, RunFault>
     requires places { length places.old ≡ length inputs.old }
     requires inputs { AllWork R.has_failed inputs.old }
-    ensures united { IfOk result (IsUnited R.reports R.to_come inputs.old caps.now (plan_of plan.now)) }
-    ensures fault { IfErr result (IsUnitedFault R.reports R.to_come inputs.old caps.now (plan_of plan.now)) }
-    ensures no_further { AllZip (IsReadNoFurther R.reports R.to_come R.has_failed) inputs.old inputs.new }
+    ensures united { IfOk result
+        (IsUnited R.reports R.to_come inputs.old caps.now (plan_of plan.now)) }
+    ensures fault { IfErr result
+        (IsUnitedFault R.reports R.to_come inputs.old caps.now (plan_of plan.now)) }
+    ensures no_further { AllZip
+        (IsReadNoFurther R.reports R.to_come R.has_failed) inputs.old inputs.new }
     ensures uncalled { IfErr result (AreUncalled inputs.old inputs.new) }
     ensures works { OnOk result (AllWork R.has_failed inputs.new) }
     ensures devices { IfErr result (IsOfDevices R.has_failed inputs.new false) }
@@ -108,8 +113,10 @@ fn read_united<'a, R: Source>(
 fn write_program<W: Sink>(alloc: Global, program: &Program<'_>, out: &mut W) -> Result<(), RunFault>
     requires { W.has_failed out.old ≡ false }
     ensures read_back { IsFileOf program.now }
-    ensures written { OnOk result (IsAppended (W.reports out.old) (W.taken out.old) (W.taken out.new) (canonical program.now)) }
-    ensures fault { IfErr result (IsWriteFault W.reports W.taken out.old out.new (canonical program.now)) }
+    ensures written { OnOk result (IsAppended (W.reports out.old) (W.taken out.old)
+        (W.taken out.new) (canonical program.now)) }
+    ensures fault { IfErr result
+        (IsWriteFault W.reports W.taken out.old out.new (canonical program.now)) }
     ensures works { OnOk result (W.has_failed out.new ≡ false) }
     ensures device { IfErr result (IsOfWriter (W.has_failed out.new)) }
 {
@@ -145,13 +152,16 @@ pub fn merge_or_strip_run<R: Source, W: Sink>(
 ) -> Result<(), RunFault>
     requires inputs { AllWork R.has_failed inputs.old }
     requires out { W.has_failed out.old ≡ false }
-    ensures merged { OnOk result (IsMergedFile R.reports R.to_come inputs.old caps.now (plan_of plan.now) (kept is_stripped)
+    ensures merged { OnOk result
+        (IsMergedFile R.reports R.to_come inputs.old caps.now (plan_of plan.now) (kept is_stripped)
         (IsAppended (W.reports out.old) (W.taken out.old) (W.taken out.new))) }
-    ensures fault { IfErr result (IsMergeFault R.reports R.to_come inputs.old caps.now (plan_of plan.now) (kept is_stripped)
+    ensures fault { IfErr result
+        (IsMergeFault R.reports R.to_come inputs.old caps.now (plan_of plan.now) (kept is_stripped)
         (IsPrefixAppended (W.reports out.old) (W.taken out.old) (W.taken out.new))) }
     ensures left { IfErr result (IsLeft out.old out.new) }
     ensures uncalled { IfErr result (AreUncalled inputs.old inputs.new) }
-    ensures no_further { AllZip (IsReadNoFurther R.reports R.to_come R.has_failed) inputs.old inputs.new }
+    ensures no_further { AllZip
+        (IsReadNoFurther R.reports R.to_come R.has_failed) inputs.old inputs.new }
 
     // The faults of the devices are reported exactly where they are.
     ensures readers { OnOk result (AllWork R.has_failed inputs.new) }
@@ -189,13 +199,16 @@ pub fn merge_run<R: Source, W: Sink>(
 ) -> Result<(), RunFault>
     requires inputs { AllWork R.has_failed inputs.old }
     requires out { W.has_failed out.old ≡ false }
-    ensures merged { OnOk result (IsMergedFile R.reports R.to_come inputs.old caps.now (plan_of plan.now) (λ whole. whole)
-        (IsAppended (W.reports out.old) (W.taken out.old) (W.taken out.new))) }
-    ensures fault { IfErr result (IsMergeFault R.reports R.to_come inputs.old caps.now (plan_of plan.now) (λ whole. whole)
-        (IsPrefixAppended (W.reports out.old) (W.taken out.old) (W.taken out.new))) }
+    ensures merged { OnOk result
+        (IsMergedFile R.reports R.to_come inputs.old caps.now (plan_of plan.now) (λ whole.
+        whole) (IsAppended (W.reports out.old) (W.taken out.old) (W.taken out.new))) }
+    ensures fault { IfErr result
+        (IsMergeFault R.reports R.to_come inputs.old caps.now (plan_of plan.now) (λ whole.
+        whole) (IsPrefixAppended (W.reports out.old) (W.taken out.old) (W.taken out.new))) }
     ensures left { IfErr result (IsLeft out.old out.new) }
     ensures uncalled { IfErr result (AreUncalled inputs.old inputs.new) }
-    ensures no_further { AllZip (IsReadNoFurther R.reports R.to_come R.has_failed) inputs.old inputs.new }
+    ensures no_further { AllZip
+        (IsReadNoFurther R.reports R.to_come R.has_failed) inputs.old inputs.new }
 
     // It reports the faults of the devices exactly where they are.
     ensures readers { OnOk result (AllWork R.has_failed inputs.new) }
@@ -221,13 +234,16 @@ pub fn merge_strip_run<R: Source, W: Sink>(
 ) -> Result<(), RunFault>
     requires inputs { AllWork R.has_failed inputs.old }
     requires out { W.has_failed out.old ≡ false }
-    ensures merged { OnOk result (IsMergedFile R.reports R.to_come inputs.old caps.now (plan_of plan.now) strip_collection
+    ensures merged { OnOk result
+        (IsMergedFile R.reports R.to_come inputs.old caps.now (plan_of plan.now) strip_collection
         (IsAppended (W.reports out.old) (W.taken out.old) (W.taken out.new))) }
-    ensures fault { IfErr result (IsMergeFault R.reports R.to_come inputs.old caps.now (plan_of plan.now) strip_collection
+    ensures fault { IfErr result
+        (IsMergeFault R.reports R.to_come inputs.old caps.now (plan_of plan.now) strip_collection
         (IsPrefixAppended (W.reports out.old) (W.taken out.old) (W.taken out.new))) }
     ensures left { IfErr result (IsLeft out.old out.new) }
     ensures uncalled { IfErr result (AreUncalled inputs.old inputs.new) }
-    ensures no_further { AllZip (IsReadNoFurther R.reports R.to_come R.has_failed) inputs.old inputs.new }
+    ensures no_further { AllZip
+        (IsReadNoFurther R.reports R.to_come R.has_failed) inputs.old inputs.new }
 
     // It reports the faults of the devices exactly where they are.
     ensures readers { OnOk result (AllWork R.has_failed inputs.new) }

@@ -31,11 +31,15 @@ pub fn normalise_run<R: Source, W: Sink>(
 ) -> Result<(), RunFault>
     requires input { R.has_failed input.old ≡ false }
     requires out { W.has_failed out.old ≡ false }
-    ensures accepted { OnOk result (R.reports input.old → IsAccepted (bytes_read (R.to_come input.old))) }
-    ensures written { OnOk result (R.reports input.old → W.reports out.old → (K : Collection) → Denotes (bytes_read (R.to_come input.old)) K →
-        W.taken out.new ≡ W.taken out.old ++ canonical K) }
-    ensures fault { IfErr result (IsOfInput (R.reports input.old) (bytes_read (R.to_come input.old))) }
-    ensures left { IfErr result (HasLeft (R.reports input.old) (W.reports out.old) out.old out.new W.taken (bytes_read (R.to_come input.old))) }
+    ensures accepted { OnOk result (R.reports input.old
+        → IsAccepted (bytes_read (R.to_come input.old))) }
+    ensures written { OnOk result (R.reports input.old
+        → W.reports out.old → (K : Collection) → Denotes (bytes_read (R.to_come input.old)) K
+        → W.taken out.new ≡ W.taken out.old ++ canonical K) }
+    ensures fault { IfErr result
+        (IsOfInput (R.reports input.old) (bytes_read (R.to_come input.old))) }
+    ensures left { IfErr result (HasLeft (R.reports input.old)
+        (W.reports out.old) out.old out.new W.taken (bytes_read (R.to_come input.old))) }
     ensures no_further { IsReadNoFurther R.reports R.to_come R.has_failed input.old input.new }
 
     // It reports the faults of the devices exactly where they are.

@@ -60,13 +60,17 @@ pub fn repair_run<R: Source, W: Sink>(
 ) -> Result<(), RunFault>
     requires input { R.has_failed input.old ≡ false }
     requires out { W.has_failed out.old ≡ false }
-    ensures accepted { OnOk result (R.reports input.old → IsAccepted (repaired (bytes_read (R.to_come input.old)))) }
+    ensures accepted { OnOk result (R.reports input.old
+        → IsAccepted (repaired (bytes_read (R.to_come input.old)))) }
     ensures written { OnOk result (R.reports input.old → W.reports out.old →
         W.taken out.new ≡ W.taken out.old ++ repaired (bytes_read (R.to_come input.old))) }
-    ensures only_sums { AreEqualButForSums (bytes_read (R.to_come input.old)) (repaired (bytes_read (R.to_come input.old))) }
-    ensures fault { IfErr result (IsOfInput (R.reports input.old) (repaired (bytes_read (R.to_come input.old)))) }
-    ensures left { IfErr result (IsLeftWith (IsRepairedPrefix (R.reports input.old) (W.reports out.old) (W.taken out.old) (W.taken out.new)
-        (bytes_read (R.to_come input.old))) out.old out.new) }
+    ensures only_sums { AreEqualButForSums (bytes_read (R.to_come input.old))
+        (repaired (bytes_read (R.to_come input.old))) }
+    ensures fault { IfErr result
+        (IsOfInput (R.reports input.old) (repaired (bytes_read (R.to_come input.old)))) }
+    ensures left { IfErr result
+        (IsLeftWith (IsRepairedPrefix (R.reports input.old) (W.reports out.old) (W.taken out.old)
+        (W.taken out.new) (bytes_read (R.to_come input.old))) out.old out.new) }
     ensures reports { W.reports out.old → W.reports out.new }
     ensures no_further { IsReadNoFurther R.reports R.to_come R.has_failed input.old input.new }
 

@@ -12,7 +12,8 @@ pub(crate) fn place_of(byte: u8) -> u16
 // What is after the first eight bytes, if these are the same in both.
 #[inline]
 fn after_common_group<'a, 'b>(left: &'a [u8], right: &'b [u8]) -> Option<(&'a [u8], &'b [u8])>
-    ensures order { IfSome result (λ rests. bytes_cmp rests.0.now rests.1.now ≡ bytes_cmp left.now right.now) }
+    ensures order { IfSome result (λ rests. bytes_cmp rests.0.now rests.1.now
+        ≡ bytes_cmp left.now right.now) }
     ensures less { IfSome result (λ rests. length rests.0.now < length left.now) }
 {
     let (group, left) = left.split_first_chunk::<8>()?;

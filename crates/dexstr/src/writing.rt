@@ -27,7 +27,8 @@ pub fn put_text(text: &Text, out: &mut Vec<u8>) -> Result<(), AllocError>
     ensures puts { Puts (string_data text.now) out.old out.new result }
     ensures encodes_text { IsStringData (string_data text.now) text.now }
     ensures bound { length (string_data text.now) ≤ 6 + 3 * length text.now }
-    ensures room_for_all { vec_len out.old + (6 + 3 * length text.now) ≤ vec_capacity out.old → IsOk result }
+    ensures room_for_all { vec_len out.old + (6 + 3 * length text.now) ≤ vec_capacity out.old
+        → IsOk result }
 {
     let count = text.len() as u32;
     let bytes = text.bytes();

@@ -124,7 +124,8 @@ impl<'a> Item<'a> {
 
     /// Returns a copy; `None` for a directory, which no call copies.
     pub fn copy(&self) -> Result<Option<Item<'a>>, AllocError>
-        ensures { IfOk result (λ copy. MatchOption copy (Unit {0}) (λ copy. item_uses copy ≡ item_uses self.now)) }
+        ensures { IfOk result (λ copy.
+            MatchOption copy (Unit {0}) (λ copy. item_uses copy ≡ item_uses self.now)) }
     {
         match self {
             Item::Value(value, size) => Ok(Some(Item::Value(value.copy()?, *size))),

@@ -14,7 +14,7 @@ use Rattle.dexpool.proofs.Parts.{all_prefix, all_back}
 
 -- the models of the first i members are changed, the other members are unchanged
 pub record AreRemapped {X Y : Type 0} (of : X → Y) (f : Y → Y) (i : ℕ) (old new : List X) : Type 0 where
-  pub front : map of (take i new) ≡ map f (map of (take i old))
+  pub prefix : map of (take i new) ≡ map f (map of (take i old))
   pub rest : drop i new ≡ drop i old
   pub size : length new ≡ length old
 
@@ -40,7 +40,7 @@ remapped_more of f old new i x y h lt e is =
     let more : i < i + 1 = omega arith in
     let here : of y ≡ f (of (get_or old i x)) = is ∙ ap (λ z. f (of z)) (next_is of f old new i x h e) in
     record {
-      front = ap (map of) (take_more_set new i y inside) ∙ map-append of (take i new) (y ∷ []) ∙ ap (λ zs. zs ++ of y ∷ []) h.front ∙ ap (λ z. map f (map of (take i old)) ++ z ∷ []) here
+      prefix = ap (map of) (take_more_set new i y inside) ∙ map-append of (take i new) (y ∷ []) ∙ ap (λ zs. zs ++ of y ∷ []) h.prefix ∙ ap (λ z. map f (map of (take i old)) ++ z ∷ []) here
           ∙ sym (map-append f (map of (take i old)) (of (get_or old i x) ∷ [])) ∙ ap (map f) (sym (map_more of old i x lt));
       rest = drop-set-lt (i + 1) new i y more ∙ sym (drop-drop 1 i new) ∙ ap (drop 1) h.rest ∙ drop-drop 1 i old;
       size = length-set new i y ∙ h.size;
@@ -48,7 +48,7 @@ remapped_more of f old new i x y h lt e is =
 
 -- all of them
 pub all_remapped : {X Y : Type 0} (of : X → Y) (f : Y → Y) (old new : List X) (i : ℕ) → AreRemapped of f i old new → length old ≤ i → map of new ≡ map f (map of old)
-all_remapped of f old new i h end = ap (map of) (sym (take_all i new (omega (arith, h.size)))) ∙ h.front ∙ ap (λ zs. map f (map of zs)) (take_all i old end)
+all_remapped of f old new i h end = ap (map of) (sym (take_all i new (omega (arith, h.size)))) ∙ h.prefix ∙ ap (λ zs. map f (map of zs)) (take_all i old end)
 
 -- ---- values and elements, as lists
 

@@ -43,12 +43,12 @@ set_stays [] = refl
 set_stays (a ∷ s) = ap (λ (b : NumberedAnnotation). b ∷ renumbered_set nowhere s) (ap (annotation_with a.visibility a.type) (elements_stay a.elements)) ∙ ap (λ (l : NumberedSet). a ∷ l) (set_stays s)
 
 -- two results that decide the same statement are equal
-by_answer : {P : Type 0} (r b : Bool) → (IsTrue r ↔ P) → Decides b P → r ≡ b
-by_answer true true h k = refl
-by_answer false false h k = refl
-by_answer true false h k = sym (k.1 (h.0 refl))
-by_answer false true h k = h.1 (k.0 refl)
+equal_results : {P : Type 0} (r b : Bool) → (IsTrue r ↔ P) → Decides b P → r ≡ b
+equal_results true true h k = refl
+equal_results false false h k = refl
+equal_results true false h k = sym (k.1 (h.0 refl))
+equal_results false true h k = h.1 (k.0 refl)
 
 -- whether two sets are equal
-pub same_answer : (s t : NumberedSet) (r b : Bool) → (IsTrue r ↔ (renumbered_set nowhere s ≡ renumbered_set nowhere t)) → Decides b (s ≡ t) → r ≡ b
-same_answer s t r b h k = by_answer r b ((λ e. sym (set_stays s) ∙ h.0 e ∙ set_stays t), (λ e. h.1 (ap (renumbered_set nowhere) e))) k
+pub same_decision : (s t : NumberedSet) (r b : Bool) → (IsTrue r ↔ (renumbered_set nowhere s ≡ renumbered_set nowhere t)) → Decides b (s ≡ t) → r ≡ b
+same_decision s t r b h k = equal_results r b ((λ e. sym (set_stays s) ∙ h.0 e ∙ set_stays t), (λ e. h.1 (ap (renumbered_set nowhere) e))) k

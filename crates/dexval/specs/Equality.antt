@@ -68,12 +68,12 @@ same_set = pointwise same_annotation
 
 -- ---- equal results mean equal items
 
-no_answer : false ≡ true → ⊥
-no_answer e = cc
+false_is_not_true : false ≡ true → ⊥
+false_is_not_true e = cc
 
 both : (a b : Bool) → a ≡ true → b ≡ true → (a && b) ≡ true
 both true b h k = k
-both false b h k = absurd (no_answer h)
+both false b h k = absurd (false_is_not_true h)
 
 literal_is : (k l : Literal) → same_literal k l ≡ true → k ≡ l
 literal_is (ByteLiteral y) (ByteLiteral z) h = ap ByteLiteral ((signed_Decides y z).0 h)
@@ -85,7 +85,7 @@ literal_is (FloatLiteral i) (FloatLiteral j) h = ap FloatLiteral ((unsigned_Deci
 literal_is (DoubleLiteral i) (DoubleLiteral j) h = ap DoubleLiteral ((unsigned_Decides i j).0 h)
 literal_is NullLiteral NullLiteral h = refl
 literal_is (BooleanLiteral is) (BooleanLiteral was) h = ap BooleanLiteral ((booleans_Decides is was).0 h)
-literal_is k l h = absurd (no_answer h)
+literal_is k l h = absurd (false_is_not_true h)
 
 literal_self : (k : Literal) → same_literal k k ≡ true
 literal_self (ByteLiteral z) = (signed_Decides z z).1 refl
@@ -104,7 +104,7 @@ reference_is TypeReference TypeReference h = refl
 reference_is FieldReference FieldReference h = refl
 reference_is MethodReference MethodReference h = refl
 reference_is EnumReference EnumReference h = refl
-reference_is k l h = absurd (no_answer h)
+reference_is k l h = absurd (false_is_not_true h)
 
 reference_self : (k : Reference) → same_reference k k ≡ true
 reference_self StringReference = refl
@@ -121,13 +121,13 @@ mutual
   value_is (Array xs) (Array ys) h = ap Array (values_are xs ys h)
   value_is (Annotated t es) (Annotated u fs) h =
       ap (λ (n : ℕ). Annotated n es) ((unsigned_Decides t u).0 (first_so (t == u) (same_elements es fs) h)) ∙ ap (Annotated u) (elements_are es fs (second_so (t == u) (same_elements es fs) h))
-  value_is x y h = absurd (no_answer h)
+  value_is x y h = absurd (false_is_not_true h)
 
   values_are : (xs ys : NumberedValues) → same_values xs ys ≡ true → xs ≡ ys
   values_are NoValue NoValue h = refl
   values_are (ThenNext x xs) (ThenNext y ys) h =
       ap (λ (z : NumberedValue). ThenNext z xs) (value_is x y (first_so (same_value x y) (same_values xs ys) h)) ∙ ap (ThenNext y) (values_are xs ys (second_so (same_value x y) (same_values xs ys) h))
-  values_are xs ys h = absurd (no_answer h)
+  values_are xs ys h = absurd (false_is_not_true h)
 
   elements_are : (es fs : NumberedElements) → same_elements es fs ≡ true → es ≡ fs
   elements_are NoElement NoElement h = refl
@@ -136,7 +136,7 @@ mutual
       ap (λ (n : ℕ). ThenNamed n x es) ((unsigned_Decides i j).0 (first_so (i == j) (same_value x y && same_elements es fs) h))
       ∙ ap (λ (z : NumberedValue). ThenNamed j z es) (value_is x y (first_so (same_value x y) (same_elements es fs) rest))
       ∙ ap (ThenNamed j y) (elements_are es fs (second_so (same_value x y) (same_elements es fs) rest))
-  elements_are es fs h = absurd (no_answer h)
+  elements_are es fs h = absurd (false_is_not_true h)
 
 mutual
   value_self : (x : NumberedValue) → same_value x x ≡ true

@@ -64,7 +64,8 @@ fn copied_elements(elements: &Vec<Element>) -> Result<Vec<Element>, AllocError>
 
 // The same annotations.
 fn copied_annotations(annotations: &Vec<Annotation>) -> Result<Vec<Annotation>, AllocError>
-    ensures { IfOk result (λ copy. map annotation_of copy.items ≡ map annotation_of annotations.now.items) }
+    ensures { IfOk result (λ copy.
+        map annotation_of copy.items ≡ map annotation_of annotations.now.items) }
 {
     let mut copy = Vec::with_capacity(*annotations.allocator(), annotations.len())?;
     for annotation in annotations {

@@ -94,7 +94,8 @@ fn copied_sets(
     members: &Vec<(u32, u32)>,
 ) -> Result<Vec<(u32, AnnotationSet)>, AllocError>
     requires { All (λ e. IsPlaceIn table.now.sets (Some e.1)) members.now.items }
-    ensures { IfOk result (λ copies. sets_of_members table.now members.now.items ≡ member_sets copies.items) }
+    ensures { IfOk result (λ copies. sets_of_members table.now members.now.items
+        ≡ member_sets copies.items) }
 {
     let alloc = *members.allocator();
     let mut copies = Vec::with_capacity(alloc, members.len())?;
@@ -111,7 +112,8 @@ fn copied_lists(
     members: &Vec<(u32, u32)>,
 ) -> Result<Vec<(u32, Vec<AnnotationSet>)>, AllocError>
     requires { All (λ e. IsPlaceIn table.now.lists (Some e.1)) members.now.items }
-    ensures { IfOk result (λ copies. lists_of_members table.now members.now.items ≡ member_lists copies.items) }
+    ensures { IfOk result (λ copies. lists_of_members table.now members.now.items
+        ≡ member_lists copies.items) }
 {
     let alloc = *members.allocator();
     let mut copies = Vec::with_capacity(alloc, members.len())?;

@@ -116,11 +116,14 @@ pub(crate) fn counted_set_at(
     requires cache { IsFile source.now → IsCacheOf source.now cache.old }
     ensures most { budget.new.most ≡ budget.old.most }
     ensures grows { budget.old.weight ≤ budget.new.weight }
-    ensures kept { off ≢ 0 → IfOk result (λ place. budget.new.weight ≤ budget.new.most → IsSome place) }
+    ensures kept { off ≢ 0
+        → IfOk result (λ place. budget.new.weight ≤ budget.new.most → IsSome place) }
     ensures noted { IfOk result (IsSetNoted budget.new cache.old cache.new) }
     ensures cache { IsFile source.now → OnOk result (IsCacheOf source.now cache.new) }
-    ensures read { IsFile source.now → IfOk result (IsSetKept source.now off budget.old budget.new cache.new) }
-    ensures refused { IsFile source.now → IfErr result (IsRefusal (NoSetOrEmptyAt source.now.frame.now off)) }
+    ensures read { IsFile source.now
+        → IfOk result (IsSetKept source.now off budget.old budget.new cache.new) }
+    ensures refused { IsFile source.now
+        → IfErr result (IsRefusal (NoSetOrEmptyAt source.now.frame.now off)) }
 {
     let within = budget.is_within();
     if off == 0 {

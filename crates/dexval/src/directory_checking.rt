@@ -63,9 +63,12 @@ fn checked_set_at(
     checked: &mut CheckedSets,
 ) -> Result<u64, ItemFault>
     requires { HasPools frame.now pools.now → AreChecked frame.now pools.now checked.old }
-    ensures checked { HasPools frame.now pools.now → OnOk result (AreChecked frame.now pools.now checked.new) }
-    ensures weight { HasPools frame.now pools.now → IfOk result (HasSetOrEmptyOf frame.now off pools.now) }
-    ensures refused { HasPools frame.now pools.now → IfErr result (IsRefusal (NoSetOrEmptyAt frame.now off)) }
+    ensures checked { HasPools frame.now pools.now
+        → OnOk result (AreChecked frame.now pools.now checked.new) }
+    ensures weight { HasPools frame.now pools.now
+        → IfOk result (HasSetOrEmptyOf frame.now off pools.now) }
+    ensures refused { HasPools frame.now pools.now
+        → IfErr result (IsRefusal (NoSetOrEmptyAt frame.now off)) }
 {
     if off == 0 {
         return Ok(0);
@@ -87,9 +90,12 @@ fn listed_weight(
     checked: &mut CheckedSets,
 ) -> Result<u64, ItemFault>
     requires { HasPools frame.now pools.now → AreChecked frame.now pools.now checked.old }
-    ensures checked { HasPools frame.now pools.now → OnOk result (AreChecked frame.now pools.now checked.new) }
-    ensures weight { HasPools frame.now pools.now → IfOk result (HasRefListOf frame.now off pools.now) }
-    ensures refused { HasPools frame.now pools.now → IfErr result (IsRefusal (NoRefListAt frame.now off)) }
+    ensures checked { HasPools frame.now pools.now
+        → OnOk result (AreChecked frame.now pools.now checked.new) }
+    ensures weight { HasPools frame.now pools.now
+        → IfOk result (HasRefListOf frame.now off pools.now) }
+    ensures refused { HasPools frame.now pools.now
+        → IfErr result (IsRefusal (NoRefListAt frame.now off)) }
 {
     let count = count_at(frame, off)?;
     let bytes = frame.bytes();
@@ -111,9 +117,12 @@ fn checked_list_at(
     checked: &mut CheckedSets,
 ) -> Result<u64, ItemFault>
     requires { HasPools frame.now pools.now → AreChecked frame.now pools.now checked.old }
-    ensures checked { HasPools frame.now pools.now → OnOk result (AreChecked frame.now pools.now checked.new) }
-    ensures weight { HasPools frame.now pools.now → IfOk result (HasRefListOf frame.now off pools.now) }
-    ensures refused { HasPools frame.now pools.now → IfErr result (IsRefusal (NoRefListAt frame.now off)) }
+    ensures checked { HasPools frame.now pools.now
+        → OnOk result (AreChecked frame.now pools.now checked.new) }
+    ensures weight { HasPools frame.now pools.now
+        → IfOk result (HasRefListOf frame.now off pools.now) }
+    ensures refused { HasPools frame.now pools.now
+        → IfErr result (IsRefusal (NoRefListAt frame.now off)) }
 {
     if let Some(weight) = checked.lists.get(&off) {
         return Ok(*weight);
@@ -147,10 +156,14 @@ trait CheckedMember {
         checked: &mut CheckedSets,
     ) -> Result<u64, ItemFault>
         requires other { off ≢ 0 }
-        requires checked { HasPools frame.now pools.now → AreChecked frame.now pools.now checked.old }
-        ensures checked { HasPools frame.now pools.now → OnOk result (AreChecked frame.now pools.now checked.new) }
-        ensures weight { HasPools frame.now pools.now → IfOk result (HasItemOf is_known inside encodes weighs frame.now off pools.now) }
-        ensures refused { HasPools frame.now pools.now → IfErr result (IsFaultAt encodes frame.now off) };
+        requires checked { HasPools frame.now pools.now
+            → AreChecked frame.now pools.now checked.old }
+        ensures checked { HasPools frame.now pools.now
+            → OnOk result (AreChecked frame.now pools.now checked.new) }
+        ensures weight { HasPools frame.now pools.now
+            → IfOk result (HasItemOf is_known inside encodes weighs frame.now off pools.now) }
+        ensures refused { HasPools frame.now pools.now
+            → IfErr result (IsFaultAt encodes frame.now off) };
 }
 
 // The set of a field or a method.
@@ -215,9 +228,12 @@ fn members_weight<T: CheckedMember>(
     requires within { pairs.now.at + 8 * pairs.now.count ≤ length frame.now }
     requires fits { pairs.now.at < 2 ^ 40 }
     requires checked { HasPools frame.now pools.now → AreChecked frame.now pools.now checked.old }
-    ensures checked { HasPools frame.now pools.now → OnOk result (AreChecked frame.now pools.now checked.new) }
-    ensures weight { HasPools frame.now pools.now → IfOk result (HasPairsOf T.is_known T.inside T.encodes T.weighs frame.now pairs.now pools.now) }
-    ensures refused { HasPools frame.now pools.now → IfErr result (IsFaultOf T.encodes frame.now pairs.now) }
+    ensures checked { HasPools frame.now pools.now
+        → OnOk result (AreChecked frame.now pools.now checked.new) }
+    ensures weight { HasPools frame.now pools.now → IfOk result
+        (HasPairsOf T.is_known T.inside T.encodes T.weighs frame.now pairs.now pools.now) }
+    ensures refused { HasPools frame.now pools.now
+        → IfErr result (IsFaultOf T.encodes frame.now pairs.now) }
 {
     let mut weight: u64 = 0;
     let mut least = 0;
@@ -247,9 +263,11 @@ pub fn check_directory(
     checked: &mut CheckedSets,
 ) -> Result<DirectoryShape, ItemFault>
     requires { ArePools frame.now pools.now → AreChecked frame.now pools.now checked.old }
-    ensures checked { ArePools frame.now pools.now → OnOk result (AreChecked frame.now pools.now checked.new) }
+    ensures checked { ArePools frame.now pools.now
+        → OnOk result (AreChecked frame.now pools.now checked.new) }
     ensures members { IfOk result (λ shape. AreMemberCounts frame.now off shape.counts) }
-    ensures directory { ArePools frame.now pools.now → IfOk result (HasDirectoryShape frame.now off pools.now) }
+    ensures directory { ArePools frame.now pools.now
+        → IfOk result (HasDirectoryShape frame.now off pools.now) }
     ensures refused { ArePools frame.now pools.now → IfErr result (IsDirectoryFault frame.now off) }
 {
     pools.numbering().is_numbering();

@@ -108,8 +108,10 @@ fn listed_sets_at(
     ensures grows { budget.old.weight ≤ budget.new.weight }
     ensures noted { IfOk result (AreSetsNoted budget.new cache.old cache.new) }
     ensures cache { IsFile source.now → OnOk result (IsCacheOf source.now cache.new) }
-    ensures read { IsFile source.now → IfOk result (AreSetsKept source.now off budget.old budget.new cache.new) }
-    ensures refused { IsFile source.now → IfErr result (IsRefusal (NoRefListAt source.now.frame.now off)) }
+    ensures read { IsFile source.now
+        → IfOk result (AreSetsKept source.now off budget.old budget.new cache.new) }
+    ensures refused { IsFile source.now
+        → IfErr result (IsRefusal (NoRefListAt source.now.frame.now off)) }
 {
     let count = count_at(source.frame, off)?;
     let bytes = source.frame.bytes();
@@ -141,8 +143,10 @@ fn counted_list_at(
     ensures kept { IfOk result (λ place. budget.new.weight ≤ budget.new.most → IsSome place) }
     ensures noted { IfOk result (IsListNoted budget.new cache.old cache.new) }
     ensures cache { IsFile source.now → OnOk result (IsCacheOf source.now cache.new) }
-    ensures read { IsFile source.now → IfOk result (IsListKept source.now off budget.old budget.new cache.new) }
-    ensures refused { IsFile source.now → IfErr result (IsRefusal (NoRefListAt source.now.frame.now off)) }
+    ensures read { IsFile source.now
+        → IfOk result (IsListKept source.now off budget.old budget.new cache.new) }
+    ensures refused { IsFile source.now
+        → IfErr result (IsRefusal (NoRefListAt source.now.frame.now off)) }
 {
     if let Some(place) = cache.lists.get(&off) {
         let place = *place;
@@ -195,10 +199,13 @@ trait OfMember {
         ensures most { budget.new.most ≡ budget.old.most }
         ensures grows { budget.old.weight ≤ budget.new.weight }
         ensures kept { IfOk result (λ place. budget.new.weight ≤ budget.new.most → IsSome place) }
-        ensures noted { IfOk result (IsItemNoted is_held names_set names_list budget.new cache.old cache.new) }
+        ensures noted { IfOk result
+            (IsItemNoted is_held names_set names_list budget.new cache.old cache.new) }
         ensures cache { IsFile source.now → OnOk result (IsCacheOf source.now cache.new) }
-        ensures read { IsFile source.now → IfOk result (IsItemKept is_known inside encodes weighs of source.now off budget.old budget.new cache.new) }
-        ensures refused { IsFile source.now → IfErr result (IsFaultAt encodes source.now.frame.now off) };
+        ensures read { IsFile source.now → IfOk result (IsItemKept is_known inside encodes
+            weighs of source.now off budget.old budget.new cache.new) }
+        ensures refused { IsFile source.now
+            → IfErr result (IsFaultAt encodes source.now.frame.now off) };
 
     // After a table grew, a place still holds and names the same item.
     ghost stays: { (t u : NumberedTable) (place : Option ℕ) → Extends t u → is_held t place → is_held u place × (of u place ≡ of t place) };
@@ -304,10 +311,13 @@ fn members_at<T: OfMember>(
     requires cache { IsFile source.now → IsCacheOf source.now cache.old }
     ensures most { budget.new.most ≡ budget.old.most }
     ensures grows { budget.old.weight ≤ budget.new.weight }
-    ensures noted { IfOk result (AreAllNoted T.is_held T.names_set T.names_list budget.new cache.old cache.new) }
+    ensures noted { IfOk result
+        (AreAllNoted T.is_held T.names_set T.names_list budget.new cache.old cache.new) }
     ensures cache { IsFile source.now → OnOk result (IsCacheOf source.now cache.new) }
-    ensures read { IsFile source.now → IfOk result (ArePairsKept T.is_known T.inside T.encodes T.weighs T.of source.now pairs.now budget.old budget.new cache.new) }
-    ensures refused { IsFile source.now → IfErr result (IsFaultOf T.encodes source.now.frame.now pairs.now) }
+    ensures read { IsFile source.now → IfOk result (ArePairsKept T.is_known T.inside T.encodes
+        T.weighs T.of source.now pairs.now budget.old budget.new cache.new) }
+    ensures refused { IsFile source.now
+        → IfErr result (IsFaultOf T.encodes source.now.frame.now pairs.now) }
 {
     let mut members = Vec::with_capacity(source.alloc, room(pairs.count, budget))?;
     let mut least = 0;
@@ -345,8 +355,10 @@ fn counted_directory_at(
     requires none { cache.old.table ≡ record { sets = []; lists = [] } }
     ensures most { budget.new.most ≡ budget.old.most }
     ensures held { IfOk result (ArePlacesHeld cache.new.table) }
-    ensures named { IfOk result (λ places. IsWithin budget.new → NamesAllPlaces cache.new.table places) }
-    ensures read { IsFile source.now → IfOk result (ArePartsKept source.now off budget.old budget.new cache.new) }
+    ensures named { IfOk result (λ places. IsWithin budget.new
+        → NamesAllPlaces cache.new.table places) }
+    ensures read { IsFile source.now
+        → IfOk result (ArePartsKept source.now off budget.old budget.new cache.new) }
     ensures refused { IsFile source.now → IfErr result (IsDirectoryFault source.now.frame.now off) }
 {
     let counts = match member_counts(source.frame, off) {
@@ -394,7 +406,8 @@ fn directory_at(
     most: u64,
 ) -> Result<(SharedDirectory, u64), ItemFault>
     ensures tight { IfOk result (λ read. read.1 ≤ most → IsTight read.0) }
-    ensures read { HasPools frame.now pools.now → IfOk result (IsDirectoryKept frame.now off pools.now most) }
+    ensures read { HasPools frame.now pools.now
+        → IfOk result (IsDirectoryKept frame.now off pools.now most) }
     ensures refused { HasPools frame.now pools.now → IfErr result (IsDirectoryFault frame.now off) }
 {
     let mut cache = DirectoryCache::none(alloc);
@@ -432,7 +445,8 @@ pub fn read_directory(
     pools: &Pools<'_>,
     off: u32,
 ) -> Result<Directory, ItemFault>
-    ensures directory { ArePools frame.now pools.now → IfOk result (IsReadDirectory frame.now off pools.now) }
+    ensures directory { ArePools frame.now pools.now
+        → IfOk result (IsReadDirectory frame.now off pools.now) }
     ensures refused { ArePools frame.now pools.now → IfErr result (IsDirectoryFault frame.now off) }
 {
     pools.numbering().is_numbering();
@@ -458,7 +472,8 @@ pub fn read_shared_directory_within(
     off: u32,
     most: u64,
 ) -> Result<Option<SharedDirectory>, ItemFault>
-    ensures directory { ArePools frame.now pools.now → IfOk result (IsReadWithin frame.now off pools.now most) }
+    ensures directory { ArePools frame.now pools.now
+        → IfOk result (IsReadWithin frame.now off pools.now most) }
     ensures tight { IfOk result (λ found. IfSome found IsTight) }
     ensures refused { ArePools frame.now pools.now → IfErr result (IsDirectoryFault frame.now off) }
 {

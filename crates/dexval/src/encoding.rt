@@ -111,7 +111,8 @@ pub(crate) fn encode_value<O: Output>(value: &Value, out: &mut O)
 /// Writes an encoded_array.
 #[cycle(encoding)]
 pub(crate) fn encode_array<O: Output>(values: &[Value], out: &mut O)
-    ensures { O.gives (numbered_array_bytes (values_of_list (map value_of values.now))) out.old out.new }
+    ensures { O.gives
+        (numbered_array_bytes (values_of_list (map value_of values.now))) out.old out.new }
 {
     encode_count(values.len(), out);
     encode_values(values, out);
@@ -120,7 +121,8 @@ pub(crate) fn encode_array<O: Output>(values: &[Value], out: &mut O)
 // Writes values in sequence.
 #[cycle(encoding)]
 fn encode_values<O: Output>(values: &[Value], out: &mut O)
-    ensures { O.gives (numbered_values_bytes (values_of_list (map value_of values.now))) out.old out.new }
+    ensures { O.gives
+        (numbered_values_bytes (values_of_list (map value_of values.now))) out.old out.new }
 {
     for value in values {
         encode_value(value, out);
@@ -140,7 +142,8 @@ fn encode_annotation<O: Output>(typ: u32, elements: &[Element], out: &mut O)
 // Writes elements in sequence.
 #[cycle(encoding)]
 fn encode_elements<O: Output>(elements: &[Element], out: &mut O)
-    ensures { O.gives (numbered_elements_bytes (elements_of_list (map element_of elements.now))) out.old out.new }
+    ensures { O.gives
+        (numbered_elements_bytes (elements_of_list (map element_of elements.now))) out.old out.new }
 {
     for element in elements {
         out.uleb(element.name);

@@ -57,7 +57,8 @@ fn hash_value<H: Hasher>(value: &Value, state: &mut H)
 // Feeds values.
 #[cycle(hashing)]
 fn hash_values<H: Hasher>(values: &[Value], state: &mut H)
-    ensures { state.new ≡ fold H.write state.old (values_input (values_of_list (map value_of values.now))) }
+    ensures { state.new
+        ≡ fold H.write state.old (values_input (values_of_list (map value_of values.now))) }
 {
     for value in values {
         hash_value(value, state);
@@ -87,7 +88,8 @@ fn hash_annotation<H: Hasher>(annotation: &Annotation, state: &mut H)
 
 /// Feeds annotations, after their count.
 pub(crate) fn hash_annotations<H: Hasher>(annotations: &[Annotation], state: &mut H)
-    ensures { state.new ≡ fold H.write state.old (fed.slice annotation_input (set_from annotations.now)) }
+    ensures { state.new
+        ≡ fold H.write state.old (fed.slice annotation_input (set_from annotations.now)) }
 {
     annotations.len().hash(state);
     for annotation in annotations {

@@ -77,7 +77,8 @@ pub fn places_law()
 /// annotation of a set. A set may be put at an offset if the offset and its weight are together less than 2^32.
 pub fn counts_law()
     ensures value { LightAreCounted value_weight_in IsCounted }
-    ensures statics { LightAreCounted (λ m xs. statics_weight_in m (values_of_list xs)) AreCountedStatics }
+    ensures statics { LightAreCounted (λ m xs.
+        statics_weight_in m (values_of_list xs)) AreCountedStatics }
     ensures annotation { LightAreCounted annotation_weight_in IsCountedAnnotation }
     ensures set { LightAreCounted set_weight_in (All IsCountedAnnotation) }
     ensures offsets { LightSetsFit }

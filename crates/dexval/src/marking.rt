@@ -18,7 +18,8 @@ use dexpool::{Marks, mark};
 #[tactic(auto, using(dexpool::proofs::Visits::all_marked))]
 pub fn mark_values(values: &[Value], marks: &mut Marks)
     requires { All (HasMark marks.old) (values_uses (values_of_list (map value_of values.now))) }
-    ensures { AreMarkedToo (values_uses (values_of_list (map value_of values.now))) marks.old marks.new }
+    ensures { AreMarkedToo
+        (values_uses (values_of_list (map value_of values.now))) marks.old marks.new }
 {
     visit_values(values, marks);
 }

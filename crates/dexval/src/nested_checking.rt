@@ -56,7 +56,8 @@ pub(crate) fn value_measure(
     depth: u32,
 ) -> Option<Measure>
     requires small { length bytes.now ≤ 2 ^ 30 }
-    ensures checked { HasPools bytes.now pools.now → MeasuresValue bytes.now at pools.now depth result }
+    ensures checked { HasPools bytes.now pools.now
+        → MeasuresValue bytes.now at pools.now depth result }
     ensures within { IfSome result (λ value. at + value.size ≤ length bytes.now) }
     ensures light { IfSome result (λ value. value.weight ≤ 9 * value.size) }
 {
@@ -103,7 +104,8 @@ pub(crate) fn array_measure(
 ) -> Option<(u32, Measure)>
     requires at { at ≤ length bytes.now }
     requires small { length bytes.now ≤ 2 ^ 30 }
-    ensures checked { HasPools bytes.now pools.now → MeasuresArray bytes.now at pools.now depth result }
+    ensures checked { HasPools bytes.now pools.now
+        → MeasuresArray bytes.now at pools.now depth result }
     ensures within { IfSome result (λ array. at + array.1.size ≤ length bytes.now) }
     ensures light { IfSome result (λ array. array.1.weight ≤ 9 * array.1.size) }
 {
@@ -138,7 +140,8 @@ fn element_measure(
 ) -> Option<(u32, Measure)>
     requires at { at ≤ length bytes.now }
     requires small { length bytes.now ≤ 2 ^ 30 }
-    ensures checked { HasPools bytes.now pools.now → MeasuresElement bytes.now at pools.now depth least result }
+    ensures checked { HasPools bytes.now pools.now
+        → MeasuresElement bytes.now at pools.now depth least result }
     ensures name { IfSome result (λ element. element.0 < 2 ^ 32) }
     ensures within { IfSome result (λ element. at + element.1.size ≤ length bytes.now) }
     ensures light { IfSome result (λ element. element.1.weight ≤ 9 * element.1.size) }
@@ -172,7 +175,8 @@ fn elements_measure(
 ) -> Option<Measure>
     requires at { at ≤ length bytes.now }
     requires small { length bytes.now ≤ 2 ^ 30 }
-    ensures checked { HasPools bytes.now pools.now → MeasuresElements bytes.now at pools.now depth count result }
+    ensures checked { HasPools bytes.now pools.now
+        → MeasuresElements bytes.now at pools.now depth count result }
     ensures within { IfSome result (λ elements. at + elements.size ≤ length bytes.now) }
     ensures light { IfSome result (λ elements. elements.weight ≤ 9 * elements.size) }
 {
@@ -203,7 +207,8 @@ pub(crate) fn annotation_measure(
 ) -> Option<(u32, Measure)>
     requires at { at ≤ length bytes.now }
     requires small { length bytes.now ≤ 2 ^ 30 }
-    ensures checked { HasPools bytes.now pools.now → MeasuresAnnotation bytes.now at pools.now depth result }
+    ensures checked { HasPools bytes.now pools.now
+        → MeasuresAnnotation bytes.now at pools.now depth result }
     ensures within { IfSome result (λ annotation. at + annotation.1.size ≤ length bytes.now) }
     ensures light { IfSome result (λ annotation. annotation.1.weight ≤ 9 * annotation.1.size) }
 {

@@ -31,7 +31,8 @@ pub(crate) fn value_at(
     at: usize,
     depth: u32,
 ) -> Result<Option<(Value, usize)>, AllocError>
-    ensures read { HasPools bytes.now pools.now → IfOk result (FindsValue bytes.now at pools.now depth) }
+    ensures read { HasPools bytes.now pools.now
+        → IfOk result (FindsValue bytes.now at pools.now depth) }
     ensures within { IfOk result (λ found. IfSome found (λ read. at + read.1 ≤ length bytes.now)) }
 {
     if at >= bytes.len() {
@@ -73,7 +74,8 @@ pub(crate) fn array_at(
     depth: u32,
 ) -> Result<Option<(Vec<Value>, usize)>, AllocError>
     requires { at ≤ length bytes.now }
-    ensures read { HasPools bytes.now pools.now → IfOk result (FindsArray bytes.now at pools.now depth) }
+    ensures read { HasPools bytes.now pools.now
+        → IfOk result (FindsArray bytes.now at pools.now depth) }
     ensures within { IfOk result (λ found. IfSome found (λ read. at + read.1 ≤ length bytes.now)) }
 {
     let (count, head) = match read_u(bytes, at) {
@@ -106,7 +108,8 @@ fn element_at(
     least: u64,
 ) -> Result<Option<(Element, usize)>, AllocError>
     requires { at ≤ length bytes.now }
-    ensures read { HasPools bytes.now pools.now → IfOk result (FindsElement bytes.now at pools.now depth least) }
+    ensures read { HasPools bytes.now pools.now
+        → IfOk result (FindsElement bytes.now at pools.now depth least) }
     ensures name { IfOk result (λ found. IfSome found (λ read. (element_of read.0).0 < 2 ^ 32)) }
     ensures within { IfOk result (λ found. IfSome found (λ read. at + read.1 ≤ length bytes.now)) }
 {
@@ -135,7 +138,8 @@ fn elements_at(
     count: u32,
 ) -> Result<Option<(Vec<Element>, usize)>, AllocError>
     requires { at ≤ length bytes.now }
-    ensures read { HasPools bytes.now pools.now → IfOk result (FindsElements bytes.now at pools.now depth count) }
+    ensures read { HasPools bytes.now pools.now
+        → IfOk result (FindsElements bytes.now at pools.now depth count) }
     ensures within { IfOk result (λ found. IfSome found (λ read. at + read.1 ≤ length bytes.now)) }
 {
     let mut elements = Vec::with_capacity(alloc, room(count, bytes.len() - at))?;
@@ -165,7 +169,8 @@ pub(crate) fn annotation_at(
     depth: u32,
 ) -> Result<Option<(u32, Vec<Element>, usize)>, AllocError>
     requires { at ≤ length bytes.now }
-    ensures read { HasPools bytes.now pools.now → IfOk result (FindsAnnotation bytes.now at pools.now depth) }
+    ensures read { HasPools bytes.now pools.now
+        → IfOk result (FindsAnnotation bytes.now at pools.now depth) }
     ensures within { IfOk result (λ found. IfSome found (λ read. at + read.2 ≤ length bytes.now)) }
 {
     let (typ, first) = match read_u(bytes, at) {

@@ -29,7 +29,8 @@ pub fn put_value(
 ) -> Result<(), AllocError>
     ensures bytes { Puts (numbered_bytes (value_of value.now)) out.old out.new result }
     ensures symbolic { PutsValue numbering.now (value_of value.now) out.old out.new result }
-    ensures bound { (m : Mentions) → length (numbered_bytes (value_of value.now)) ≤ weight_of_value m value.now }
+    ensures bound { (m : Mentions)
+        → length (numbered_bytes (value_of value.now)) ≤ weight_of_value m value.now }
     ensures room { (m : Mentions) → HasRoom out.old (weight_of_value m value.now) → IsOk result }
 {
     numbering.is_numbering();
@@ -51,8 +52,10 @@ pub fn put_statics(
 ) -> Result<(), AllocError>
     ensures bytes { Puts (numbered_array_bytes (values_of values.now)) out.old out.new result }
     ensures symbolic { PutsStatics numbering.now values.now out.old out.new result }
-    ensures bound { (m : Mentions) → 0 < length values.now → statics_length values.now ≤ weight_of_statics m values.now }
-    ensures room { (m : Mentions) → 0 < length values.now → HasRoomForStatics out.old m values.now → IsOk result }
+    ensures bound { (m : Mentions) → 0 < length values.now
+        → statics_length values.now ≤ weight_of_statics m values.now }
+    ensures room { (m : Mentions) → 0 < length values.now → HasRoomForStatics out.old m values.now
+        → IsOk result }
 {
     numbering.is_numbering();
     put_encoded(&ArrayItem { values }, out)
@@ -71,10 +74,14 @@ pub fn put_annotation(
     numbering: &Numbering<'_>,
     out: &mut Vec<u8>,
 ) -> Result<(), AllocError>
-    ensures bytes { Puts (numbered_annotation_bytes (annotation_of annotation.now)) out.old out.new result }
-    ensures symbolic { PutsAnnotation numbering.now (annotation_of annotation.now) out.old out.new result }
-    ensures bound { (m : Mentions) → annotation_length annotation.now ≤ weight_of_annotation m annotation.now }
-    ensures room { (m : Mentions) → HasRoom out.old (weight_of_annotation m annotation.now) → IsOk result }
+    ensures bytes { Puts
+        (numbered_annotation_bytes (annotation_of annotation.now)) out.old out.new result }
+    ensures symbolic { PutsAnnotation numbering.now
+        (annotation_of annotation.now) out.old out.new result }
+    ensures bound { (m : Mentions)
+        → annotation_length annotation.now ≤ weight_of_annotation m annotation.now }
+    ensures room { (m : Mentions) → HasRoom out.old (weight_of_annotation m annotation.now)
+        → IsOk result }
 {
     numbering.is_numbering();
     put_encoded(annotation, out)

@@ -29,7 +29,8 @@ pub fn remapped(remap: &Remap, kind: SymbolKind, number: u32) -> u32
 #[cycle(renumbering)]
 fn renumber_elements(elements: &mut Vec<Element>, remap: &Remap)
     requires { ElementsHavePlaces remap.now (elements_of_list (map element_of elements.old.items)) }
-    ensures { elements_of elements.new.items ≡ renumbered_elements remap.now (elements_of elements.old.items) }
+    ensures { elements_of elements.new.items
+        ≡ renumbered_elements remap.now (elements_of elements.old.items) }
 {
     for i in 0..elements.len() {
         elements[i].renumber(remap);
@@ -42,7 +43,8 @@ fn renumber_elements(elements: &mut Vec<Element>, remap: &Remap)
 #[cycle(renumbering)]
 pub fn renumber_values(values: &mut Vec<Value>, remap: &Remap)
     requires { HavePlaces remap.now (values_of_list (map value_of values.old.items)) }
-    ensures { values_of values.new.items ≡ renumbered_values remap.now (values_of values.old.items) }
+    ensures { values_of values.new.items
+        ≡ renumbered_values remap.now (values_of values.old.items) }
 {
     for i in 0..values.len() {
         values[i].renumber(remap);
@@ -94,7 +96,8 @@ impl Annotation {
     /// Condition: each number maps to a number below 2^32, which [`fits`](Annotation::fits) checks.
     pub fn renumber(&mut self, remap: &Remap)
         requires { AnnotationHasPlaces remap.now (annotation_of self.old) }
-        ensures { annotation_of self.new ≡ renumbered_annotation remap.now (annotation_of self.old) }
+        ensures { annotation_of self.new
+            ≡ renumbered_annotation remap.now (annotation_of self.old) }
     {
         self.typ = remapped(remap, SymbolKind::Typ, self.typ);
         renumber_elements(&mut self.elements, remap);
@@ -104,7 +107,8 @@ impl Annotation {
 // Replaces each number of annotations by the one that it maps to.
 fn renumber_annotations(annotations: &mut Vec<Annotation>, remap: &Remap)
     requires { SetHasPlaces remap.now (map annotation_of annotations.old.items) }
-    ensures { set_from annotations.new.items ≡ renumbered_set remap.now (set_from annotations.old.items) }
+    ensures { set_from annotations.new.items
+        ≡ renumbered_set remap.now (set_from annotations.old.items) }
 {
     for i in 0..annotations.len() {
         annotations[i].renumber(remap);

@@ -56,7 +56,8 @@ fn number_at(bytes: &[u8], at: usize, width: usize) -> Option<&[u8]>
 fn index_of(number: &[u8], kind: SymbolKind, pools: &Pools<'_>) -> Option<u32>
     requires some { 0 < length number.now }
     requires few { length number.now ≤ 4 }
-    ensures { MatchOption result (HasNoSymbol pools.now kind number.now) (HasNumber pools.now kind number.now) }
+    ensures { MatchOption result (HasNoSymbol pools.now kind number.now)
+        (HasNumber pools.now kind number.now) }
 {
     let index = unsigned(number) as u32;
     if (index as usize) < pools.len(kind) {
@@ -70,7 +71,8 @@ fn index_of(number: &[u8], kind: SymbolKind, pools: &Pools<'_>) -> Option<u32>
 fn spelled(code: u8, number: &[u8], pools: &Pools<'_>) -> Option<Value>
     requires some { 0 < length number.now }
     requires few { IfSome (width_of code) (λ width. length number.now ≤ width) }
-    ensures { MatchOption result (IsUnknown pools.now code number.now) (SpellsValue pools.now code number.now) }
+    ensures { MatchOption result (IsUnknown pools.now code number.now)
+        (SpellsValue pools.now code number.now) }
 {
     match code {
         BYTE => Some(Value::Byte(signed(number) as i8)),

@@ -19,8 +19,10 @@ use std::alloc::AllocError;
 // Writes the offset of each annotation: the first annotation is at `first`, and each other annotation is after the one
 // before it.
 fn encode_offsets<O: Output>(annotations: &[Annotation], first: u32, out: &mut O)
-    requires { All (λ offset. offset < 2 ^ 32) (numbered_offsets first (map annotation_of annotations.now)) }
-    ensures { O.gives (flat_map uint (numbered_offsets first (set_from annotations.now))) out.old out.new }
+    requires { All (λ offset.
+        offset < 2 ^ 32) (numbered_offsets first (map annotation_of annotations.now)) }
+    ensures { O.gives
+        (flat_map uint (numbered_offsets first (set_from annotations.now))) out.old out.new }
 {
     let mut offset = u64::from(first);
     for annotation in annotations {
@@ -31,8 +33,10 @@ fn encode_offsets<O: Output>(annotations: &[Annotation], first: u32, out: &mut O
 
 // Appends the count of annotations and the offset of each.
 fn put_offsets(annotations: &[Annotation], first: u32, out: &mut Vec<u8>) -> Result<(), AllocError>
-    requires { All (λ offset. offset < 2 ^ 32) (numbered_offsets first (map annotation_of annotations.now)) }
-    ensures { Puts (numbered_set_bytes first (map annotation_of annotations.now)) out.old out.new result }
+    requires { All (λ offset.
+        offset < 2 ^ 32) (numbered_offsets first (map annotation_of annotations.now)) }
+    ensures { Puts
+        (numbered_set_bytes first (map annotation_of annotations.now)) out.old out.new result }
 {
     out.reserve(4 + 4 * annotations.len())?;
     out.u32(annotations.len() as u32);
@@ -61,9 +65,12 @@ pub fn put_set(
     requires { All (λ offset. offset < 2 ^ 32) (numbered_offsets first (set_of set.now)) }
     ensures bytes { Puts (numbered_set_bytes first (set_of set.now)) out.old out.new result }
     ensures symbolic { PutsSet numbering.now first (set_of set.now) out.old out.new result }
-    ensures bound { vec_len out.old + (4 + 4 * length (set_of set.now)) ≤ vec_capacity out.old → IsOk result }
-    ensures most { length (numbered_set_bytes first (set_of set.now)) ≤ 4 + 4 * length (set_of set.now) }
-    ensures room { (m : Mentions) → 0 < length (set_of set.now) → HasRoomForSet out.old m set.now → IsOk result }
+    ensures bound { vec_len out.old + (4 + 4 * length (set_of set.now)) ≤ vec_capacity out.old
+        → IsOk result }
+    ensures most { length (numbered_set_bytes first (set_of set.now))
+        ≤ 4 + 4 * length (set_of set.now) }
+    ensures room { (m : Mentions) → 0 < length (set_of set.now) → HasRoomForSet out.old m set.now
+        → IsOk result }
 {
     numbering.is_numbering();
     put_offsets(set.annotations(), first, out)

@@ -39,7 +39,8 @@ fn item_at(
     off: u32,
 ) -> Result<Annotation, ItemFault>
     ensures read { HasPools frame.now pools.now → IfOk result (IsReadItem frame.now off pools.now) }
-    ensures refused { HasPools frame.now pools.now → IfErr result (IsRefusal (NoItemAt frame.now off)) }
+    ensures refused { HasPools frame.now pools.now
+        → IfErr result (IsRefusal (NoItemAt frame.now off)) }
 {
     let bytes = frame.bytes();
     let at = off as usize;
@@ -74,7 +75,8 @@ pub(crate) fn offset_count(frame: &Frame<'_>, off: u32) -> Option<u32>
 
 /// As [`offset_count`]. Error: the item is not inside the data at a multiple of 4.
 pub(crate) fn count_at(frame: &Frame<'_>, off: u32) -> Result<u32, ItemFault>
-    ensures count { IfOk result (λ count. HasOffsets frame.now off × (count ≡ uint_at frame.now off)) }
+    ensures count { IfOk result (λ count. HasOffsets frame.now off
+        × (count ≡ uint_at frame.now off)) }
     ensures refused { IfErr result (IsRefusal (HasOffsets frame.now off → ⊥)) }
 {
     match offset_count(frame, off) {

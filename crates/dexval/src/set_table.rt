@@ -40,7 +40,8 @@ impl Model for SetTable {
 // Replaces each number of a symbol in the sets by the one that it maps to, in each set that fits.
 fn renumber_sets(sets: &mut Vec<AnnotationSet>, remap: &Remap)
     ensures size { length sets.new.items ≡ length sets.old.items }
-    ensures sets { AreRemappedSets remap.now (map set_of sets.old.items) (map set_of sets.new.items) }
+    ensures sets { AreRemappedSets remap.now (map set_of sets.old.items)
+        (map set_of sets.new.items) }
 {
     for i in 0..sets.len() {
         if sets[i].fits(remap) {
@@ -62,7 +63,8 @@ fn copied_sets(sets: &Vec<AnnotationSet>) -> Result<Vec<AnnotationSet>, AllocErr
 
 // The same lists.
 fn copied_lists(lists: &Vec<Vec<Option<u32>>>) -> Result<Vec<Vec<Option<u32>>>, AllocError>
-    ensures { IfOk result (λ copy. map (λ l. l.items) copy.items ≡ map (λ l. l.items) lists.now.items) }
+    ensures { IfOk result (λ copy.
+        map (λ l. l.items) copy.items ≡ map (λ l. l.items) lists.now.items) }
 {
     let mut copy = Vec::with_capacity(*lists.allocator(), lists.len())?;
     for list in lists {
@@ -98,7 +100,8 @@ impl SetTable {
     /// Condition: the place is one of the sets'.
     pub fn set(&self, place: Option<u32>) -> Option<&AnnotationSet>
         requires { IsPlaceIn self.now.sets place }
-        ensures set { IfSome result (λ set. (place ≢ None) × (set_of set.now ≡ set_at self.now.sets place)) }
+        ensures set { IfSome result (λ set. (place ≢ None)
+            × (set_of set.now ≡ set_at self.now.sets place)) }
         ensures none { IfNone result (place ≡ None) }
     {
         match place {
@@ -126,7 +129,8 @@ impl SetTable {
     /// Condition: the place is one of the sets'.
     pub(crate) fn set_weight(&self, place: Option<u32>) -> u64
         requires { IsPlaceIn self.now.sets place }
-        ensures { (m : Mentions) → result ≡ min (2 ^ 64 - 1) (set_weight_in m (set_at self.now.sets place)) }
+        ensures { (m : Mentions)
+            → result ≡ min (2 ^ 64 - 1) (set_weight_in m (set_at self.now.sets place)) }
     {
         match self.set(place) {
             Some(set) => set.weight(),
@@ -139,7 +143,8 @@ impl SetTable {
     /// Condition: the place is one of the lists'.
     pub(crate) fn list_weight(&self, place: Option<u32>) -> u64
         requires { IsPlaceIn self.now.lists place }
-        ensures { (m : Mentions) → result ≡ min (2 ^ 64 - 1) (sets_weight_in m (sets_at self.now place)) }
+        ensures { (m : Mentions)
+            → result ≡ min (2 ^ 64 - 1) (sets_weight_in m (sets_at self.now place)) }
     {
         let places = self.list(place);
         if places.is_empty() {

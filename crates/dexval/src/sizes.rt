@@ -17,7 +17,8 @@ use dexhead::encoded_len;
 ///
 /// Source: "annotation_item" and "encoded_annotation format".
 pub fn annotation_size(annotation: &Annotation) -> u64
-    ensures size { result ≡ min (2 ^ 64 - 1) (length (numbered_annotation_bytes (annotation_of annotation.now))) }
+    ensures size { result
+        ≡ min (2 ^ 64 - 1) (length (numbered_annotation_bytes (annotation_of annotation.now))) }
     ensures symbolic { IsAnnotationSize (annotation_of annotation.now) result }
 {
     encoded_len(annotation) as u64
@@ -49,7 +50,8 @@ pub fn set_size(set: &AnnotationSet) -> u64
 ///
 /// Source: "annotation_set_ref_list".
 pub fn ref_list_size(sets: &[AnnotationSet]) -> u64
-    ensures { (offsets : List ℕ) → length offsets ≡ length sets.now → result ≡ length (offsets_bytes offsets) }
+    ensures { (offsets : List ℕ) → length offsets ≡ length sets.now
+        → result ≡ length (offsets_bytes offsets) }
 {
     4 + 4 * sets.len() as u64
 }

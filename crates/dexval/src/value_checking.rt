@@ -56,7 +56,8 @@ fn value_shape(frame: &Frame<'_>, pools: &Pools<'_>, off: u32) -> Option<ValueSh
 ///
 /// Source: "encoded_value encoding", "encoded_array format" and "encoded_annotation format".
 pub fn check_value(frame: &Frame<'_>, pools: &Pools<'_>, off: u32) -> Result<ValueShape, ItemFault>
-    ensures value { ArePools frame.now pools.now → IfOk result (HasValueShape frame.now off pools.now) }
+    ensures value { ArePools frame.now pools.now
+        → IfOk result (HasValueShape frame.now off pools.now) }
     ensures refused { ArePools frame.now pools.now → IfErr result (IsValueFault frame.now off) }
     ensures number { IfErr result (λ fault. fault ≡ Refused 21) }
 {
@@ -97,7 +98,8 @@ pub fn check_statics(
     pools: &Pools<'_>,
     off: u32,
 ) -> Result<StaticsShape, ItemFault>
-    ensures values { ArePools frame.now pools.now → IfOk result (HasStaticsShape frame.now off pools.now) }
+    ensures values { ArePools frame.now pools.now
+        → IfOk result (HasStaticsShape frame.now off pools.now) }
     ensures refused { ArePools frame.now pools.now → IfErr result (IsStaticsFault frame.now off) }
     ensures number { IfErr result (λ fault. fault ≡ Refused 21) }
 {

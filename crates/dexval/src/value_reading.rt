@@ -29,7 +29,8 @@ pub fn read_value(
     pools: &Pools<'_>,
     off: u32,
 ) -> Result<(Value, u32), ItemFault>
-    ensures value { ArePools frame.now pools.now → IfOk result (IsReadValue frame.now off pools.now) }
+    ensures value { ArePools frame.now pools.now
+        → IfOk result (IsReadValue frame.now off pools.now) }
     ensures refused { ArePools frame.now pools.now → IfErr result (IsValueFault frame.now off) }
 {
     if off < frame.data_off() {
@@ -53,7 +54,8 @@ pub fn read_statics(
     pools: &Pools<'_>,
     off: u32,
 ) -> Result<Vec<Value>, ItemFault>
-    ensures values { ArePools frame.now pools.now → IfOk result (AreReadStatics frame.now off pools.now) }
+    ensures values { ArePools frame.now pools.now
+        → IfOk result (AreReadStatics frame.now off pools.now) }
     ensures refused { ArePools frame.now pools.now → IfErr result (IsStaticsFault frame.now off) }
 {
     let bytes = frame.bytes();

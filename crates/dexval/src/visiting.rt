@@ -24,7 +24,8 @@ fn visit_elements<V: Visitor>(elements: &[Element], visitor: &mut V)
 /// Passes each symbol that occurs in values to the visitor, in order.
 #[cycle(visiting)]
 pub fn visit_values<V: Visitor>(values: &[Value], visitor: &mut V)
-    ensures { FoldsTo V.step visitor.old (values_uses (values_of_list (map value_of values.now))) visitor.new }
+    ensures { FoldsTo V.step visitor.old
+        (values_uses (values_of_list (map value_of values.now))) visitor.new }
 {
     for value in values {
         value.visit(visitor);

@@ -29,7 +29,8 @@ fn value_weight(value: &Value) -> u64
 // The weight of values together.
 #[cycle(weighing)]
 fn values_weight(values: &[Value]) -> u64
-    ensures { result ≡ min (2 ^ 64 - 1) (numbered_values_weight (values_of_list (map value_of values.now))) }
+    ensures { result
+        ≡ min (2 ^ 64 - 1) (numbered_values_weight (values_of_list (map value_of values.now))) }
 {
     let mut weight: u64 = 0;
     for value in values {
@@ -55,7 +56,9 @@ fn elements_weight(elements: &[Element]) -> u64
 // The weight of items in a list: 8, and for each item its weight and 4 for its offset, or 2^64 - 1 if that is more.
 fn listed_weight<T, F: Fn(&T) -> u64>(items: &[T], weight_of: F) -> u64
     requires { F.IsAlwaysCallable weight_of }
-    ensures { (weighs : T → ℕ) → ((item : T) (weight : ℕ) → FnReturnsAt F.Fn weight_of item weight → weight ≡ min (2 ^ 64 - 1) (weighs item)) → result ≡ min (2 ^ 64 - 1) (8 + sum_by (λ item. 4 + weighs item) items.now) }
+    ensures { (weighs : T → ℕ) → ((item : T) (weight : ℕ)
+        → FnReturnsAt F.Fn weight_of item weight → weight ≡ min (2 ^ 64 - 1) (weighs item))
+        → result ≡ min (2 ^ 64 - 1) (8 + sum_by (λ item. 4 + weighs item) items.now) }
 {
     let mut weight: u64 = 8;
     for item in items {
@@ -66,7 +69,8 @@ fn listed_weight<T, F: Fn(&T) -> u64>(items: &[T], weight_of: F) -> u64
 
 // The weight of an annotation.
 fn annotation_weight(annotation: &Annotation) -> u64
-    ensures { result ≡ min (2 ^ 64 - 1) (numbered_annotation_weight (annotation_of annotation.now)) }
+    ensures { result
+        ≡ min (2 ^ 64 - 1) (numbered_annotation_weight (annotation_of annotation.now)) }
 {
     12u64.saturating_add(elements_weight(&annotation.elements))
 }
@@ -80,7 +84,8 @@ fn annotations_weight(annotations: &[Annotation]) -> u64
 
 // The weight of sets in a list: each has its annotations and an offset.
 fn sets_weight(sets: &[AnnotationSet]) -> u64
-    ensures { result ≡ min (2 ^ 64 - 1) (8 + sum_by (λ s. 4 + numbered_set_weight (set_of s)) sets.now) }
+    ensures { result
+        ≡ min (2 ^ 64 - 1) (8 + sum_by (λ s. 4 + numbered_set_weight (set_of s)) sets.now) }
 {
     listed_weight(sets, |set| set_weight(set))
 }
@@ -98,7 +103,8 @@ fn set_weight(set: &AnnotationSet) -> u64
 impl Value {
     /// The weight of the value, or 2^64 - 1 if it weighs more. It is at least the size of its shortest encoding.
     pub fn weight(&self) -> u64
-        ensures { (m : Mentions) → result ≡ min (2 ^ 64 - 1) (value_weight (value_in m (value_of self.now))) }
+        ensures { (m : Mentions)
+            → result ≡ min (2 ^ 64 - 1) (value_weight (value_in m (value_of self.now))) }
     {
         value_weight(self)
     }
@@ -108,7 +114,8 @@ impl AnnotationSet {
     /// The weight of the set, or 2^64 - 1 if it weighs more. It is at least the size of its item and of its
     /// annotations. An empty set weighs nothing.
     pub fn weight(&self) -> u64
-        ensures { (m : Mentions) → result ≡ min (2 ^ 64 - 1) (set_weight (set_in m (set_of self.now))) }
+        ensures { (m : Mentions)
+            → result ≡ min (2 ^ 64 - 1) (set_weight (set_in m (set_of self.now))) }
     {
         set_weight(self)
     }

@@ -35,6 +35,7 @@ pub fn code_is_determined()
 
 /// Code with zero for its indices is code, cut in the same way, and has as many units.
 pub fn code_without_indices()
-    ensures code { (b : List ℕ) (o : ℕ) → OnPieces b o (λ cuts ps. IsCode (flat_map units_of ps) cuts) }
+    ensures code { (b : List ℕ) (o : ℕ)
+        → OnPieces b o (λ cuts ps. IsCode (flat_map units_of ps) cuts) }
     ensures size { (b : List ℕ) (o : ℕ) → OnPieces b o (λ cuts ps. HasAllUnits b o ps) }
 {}

@@ -14,7 +14,8 @@ pub fn one_collection()
 
 /// If the first sixteen conditions hold, a type has one row, and a name has one class row.
 pub fn one_row_each()
-    ensures types { (b : List ℕ) (i j : ℕ) (t : Text) → HoldBelow 17 b → TypeRow b i t → TypeRow b j t → i ≡ j }
+    ensures types { (b : List ℕ) (i j : ℕ) (t : Text) → HoldBelow 17 b → TypeRow b i t
+        → TypeRow b j t → i ≡ j }
     ensures classes { (b : List ℕ) → NamesHaveOneRow b }
 {}
 
@@ -30,5 +31,6 @@ pub fn denotes_some()
 
 /// The definitions of the denoted collection are those of the class rows.
 pub fn denoted_rows()
-    ensures { (b : List ℕ) (D : List Definition) (K : Collection) → HoldBelow 17 b → DenotesRows b D K }
+    ensures { (b : List ℕ) (D : List Definition) (K : Collection) → HoldBelow 17 b
+        → DenotesRows b D K }
 {}

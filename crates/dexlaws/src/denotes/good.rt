@@ -8,6 +8,8 @@ ghost use Rattle.dexlaws.specs.Denotes.{OnAccepted};
 /// The collection that an accepted list of bytes denotes has no conflict and no cycle, fits the greatest caps, and is
 /// well formed.
 pub fn denoted_is_good()
-    ensures good { (b : List ℕ) (K : Collection) → OnAccepted b K (IsGood greatest_caps (definitions K)) }
-    ensures formed { (b : List ℕ) (K : Collection) → OnAccepted b K (AreWellFormed (definitions K)) }
+    ensures good { (b : List ℕ) (K : Collection)
+        → OnAccepted b K (IsGood greatest_caps (definitions K)) }
+    ensures formed { (b : List ℕ) (K : Collection)
+        → OnAccepted b K (AreWellFormed (definitions K)) }
 {}

@@ -18,7 +18,9 @@ pub fn sameness_is_equality()
 /// No two written items are equal, and each has a use. Each use that is not empty has the number of the item that
 /// equals it, and the items are in the order of their first uses.
 pub fn items_are_shared()
-    ensures type_lists { (uses : List (Option (List Text))) → AreShared uses (shared_items same_types uses) }
+    ensures type_lists { (uses : List (Option (List Text)))
+        → AreShared uses (shared_items same_types uses) }
     ensures debugs { (uses : List (Option Debug)) → AreShared uses (shared_items same_debug uses) }
-    ensures sets { (uses : List (Option AnnotationSet)) → AreShared uses (shared_items same_set uses) }
+    ensures sets { (uses : List (Option AnnotationSet))
+        → AreShared uses (shared_items same_set uses) }
 {}

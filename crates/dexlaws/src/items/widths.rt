@@ -14,9 +14,12 @@ pub fn least_width_is_read_back()
 
 /// No fewer bytes encode the number or the bit pattern.
 pub fn width_is_least()
-    ensures unsigned { (v : ℕ) (bytes : List ℕ) → v < 2 ^ 64 → IsLeastWidth unsigned_width number_of v bytes }
-    ensures signed { (z : ℤ) (bytes : List ℕ) → FitsSigned w64 z → IsLeastWidth signed_width signed_of z bytes }
-    ensures bits { (width v : ℕ) (bytes : List ℕ) → 1 ≤ width → width ≤ 8 → IsLeastBitsWidth width v bytes }
+    ensures unsigned { (v : ℕ) (bytes : List ℕ) → v < 2 ^ 64
+        → IsLeastWidth unsigned_width number_of v bytes }
+    ensures signed { (z : ℤ) (bytes : List ℕ) → FitsSigned w64 z
+        → IsLeastWidth signed_width signed_of z bytes }
+    ensures bits { (width v : ℕ) (bytes : List ℕ) → 1 ≤ width → width ≤ 8
+        → IsLeastBitsWidth width v bytes }
 {}
 
 /// The bytes that are written for a number or a bit pattern that fits a type's width encode it, and are one more than

@@ -67,6 +67,6 @@ pub record AreBack (m : Mentions) (cs : List NumberedClass) (b : Back) : Type 0 
 
 -- the items of each section of the data have these offsets
 pub record AreData (m : Mentions) (cs : List NumberedClass) (d : Data) : Type 0 where
-  pub first_sections_are : AreFirstSections m cs d.front
+  pub first_sections_are : AreFirstSections m cs d.first_sections
   pub bodies_are : AreBodies m cs d.bodies
   pub back_are : AreBack m cs d.back

@@ -8,10 +8,10 @@ pieces-preserved g c = record {
   works = search rules;
   fits = search rules;
   reports = λ t. c.in_ok-done.ensures.reports (c.pieces.invariant.reports t);
-  front = λ t. written_more _ _ _ _ _ _ _ (c.pieces.invariant.front t) c.split_at.ensures.back (c.in_ok-done.ensures.appended (c.pieces.invariant.reports t));
+  prefix = λ t. written_more _ _ _ _ _ _ _ (c.pieces.invariant.prefix t) c.split_at.ensures.back (c.in_ok-done.ensures.appended (c.pieces.invariant.reports t));
 }
 
-pub returns-in_err-done-clause-front : goal.returns-in_err-done-clause-front
-returns-in_err-done-clause-front g c =
+pub returns-in_err-done-clause-prefix : goal.returns-in_err-done-clause-prefix
+returns-in_err-done-clause-prefix g c =
     let p = err_from_is_err_and c.from_residual.result c.from_residual.ensures.1 in
-    rw (p.1) (λ reports. prefix_more _ _ _ _ _ _ (c.pieces.invariant.front reports) c.split_at.ensures.back (c.in_err-done.ensures.front (c.pieces.invariant.reports reports)))
+    rw (p.1) (λ reports. prefix_more _ _ _ _ _ _ (c.pieces.invariant.prefix reports) c.split_at.ensures.back (c.in_err-done.ensures.prefix (c.pieces.invariant.reports reports)))

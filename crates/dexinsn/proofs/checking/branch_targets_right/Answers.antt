@@ -5,7 +5,7 @@ use Rattle.dexinsn.specs.Opcode.{format_of}
 use Rattle.dexinsn.specs.Payload.{ident_of}
 use Rattle.dexinsn.specs.Checking.{begins_instruction}
 use Rattle.dexinsn.proofs.RightTargets.{branches-payload, branches-other, place_is}
-use Rattle.dexinsn.proofs.Placed.{answer_is, format_other, format_switch}
+use Rattle.dexinsn.proofs.Placed.{test_is, format_other, format_switch}
 use Rattle.dexinsn.proofs.checking.branch_targets_right.Goals as goal
 
 pub returns-in-Format31t : goal.returns-in-Format31t
@@ -20,4 +20,4 @@ returns-in_default c = λ cs starts noted.
     let fits : SFits w32 c.in-Some.offset = search rules in
     branches-other c.args.units.now cs c.args.at (format_of c.args.format) c.in-Some.offset _ c.has_place.result (format_other c.args.format c.in_default.not-Format31t) c.in-Some.ensures
     (place_is c.args.at c.in-Some.offset c.in-Some.offset c.from.result (omega (arith, c.requires.small, c.requires.from)) fits refl c.from.ensures)
-    (answer_is begins_instruction c.args.units.now cs c.args.starts.now _ c.has_place.result c.has_place.ensures starts)
+    (test_is begins_instruction c.args.units.now cs c.args.starts.now _ c.has_place.result c.has_place.ensures starts)

@@ -20,8 +20,8 @@ place_item-requires-clause-fits c =
     let cs = c.args.classes.now in
     let k = c.class-item.result in
     let n : c.method_count.result ≡ length (methods_of k.members) = c.method_count.ensures ∙ ap (λ (x : NumberedMembers). length (methods_of x)) c.members.ensures in
-    let front = c.split_at.ensures.front ∙ ap (λ i. take i c.loop-class.rest.now) n in
-    let end = ap (λ offs. (place_use 1 c.loop-class.places (class_data_size k offs)).end) front in
+    let first_sections = c.split_at.ensures.front ∙ ap (λ i. take i c.loop-class.rest.now) n in
+    let end = ap (λ offs. (place_use 1 c.loop-class.places (class_data_size k offs)).end) first_sections in
     omega (
       arith,
       end,

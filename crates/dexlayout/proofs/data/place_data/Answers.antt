@@ -8,19 +8,19 @@ pub place_first_sections-requires-clause-known : goal.place_first_sections-requi
 place_first_sections-requires-clause-known c = c.in_ok-written.ensures.known _ c.requires.classes
 
 pub place_bodies-requires : goal.place_bodies-requires
-place_bodies-requires c = (c.args.numbering.now, c.requires.classes, c.end.ensures ∙ c.in_ok-front.ensures.strings_are.end_is)
+place_bodies-requires c = (c.args.numbering.now, c.requires.classes, c.end.ensures ∙ c.in_ok-first_sections.ensures.strings_are.end_is)
 
 pub place_back-requires-clause-numbers : goal.place_back-requires-clause-numbers
 place_back-requires-clause-numbers c = c.deref.ensures.value ∙ (c.in_ok-written.ensures.shared _ c.requires.classes).numbers_are
 
 pub place_back-requires-clause-from : goal.place_back-requires-clause-from
 place_back-requires-clause-from c =
-    let bodies = c.in_ok-bodies.ensures c.args.numbering.now c.requires.classes (c.end.ensures ∙ c.in_ok-front.ensures.strings_are.end_is) in
+    let bodies = c.in_ok-bodies.ensures c.args.numbering.now c.requires.classes (c.end.ensures ∙ c.in_ok-first_sections.ensures.strings_are.end_is) in
     c.end-2.ensures ∙ bodies.class_data_are.end_is
 
 pub returns : goal.returns
 returns c = record {
-  first_sections_are = c.in_ok-front.ensures;
-  bodies_are = c.in_ok-bodies.ensures c.args.numbering.now c.requires.classes (c.end.ensures ∙ c.in_ok-front.ensures.strings_are.end_is);
+  first_sections_are = c.in_ok-first_sections.ensures;
+  bodies_are = c.in_ok-bodies.ensures c.args.numbering.now c.requires.classes (c.end.ensures ∙ c.in_ok-first_sections.ensures.strings_are.end_is);
   back_are = c.in_ok-back.ensures;
 }

@@ -7,7 +7,7 @@ use Rattle.dexspec.specs.Placing.{set_uses}
 use Rattle.dexclass.specs.Uses.{IsKnownClass}
 use Rattle.dexlayout.specs.Laid.{ordered_of}
 use Rattle.dexlayout.specs.internal.SharedUses.{SharesSets, members_uses}
-use Rattle.dexlayout.proofs.SharedUses.{shared_kept, shared_known, on_answer, of_answer}
+use Rattle.dexlayout.proofs.SharedUses.{shared_kept, shared_known, on_returned, of_returned}
 use Rattle.dexlayout.proofs.SharedKinds.{set_uses_are, sets_shared}
 use Rattle.dexlayout.proofs.shared_sets.share_sets.Goals as goal
 use Rattle.dexlayout.proofs.shared_sets.share_sets.Goals.{After-finish}
@@ -20,11 +20,11 @@ all c m known =
     (ap (flat_map (λ d. members_uses m d.members)) (take_all c.loop-i.i cs (omega (arith, c.loop-i-test.false))) ∙ set_uses_are m cs) (c.loop-i.invariant m known)
 
 pub returns-clause-shared : goal.returns-clause-shared
-returns-clause-shared c = on_answer c.finish.result (λ x e m w.
+returns-clause-shared c = on_returned c.finish.result (λ x e m w.
     let h = all c m w.known in
-    sets_shared m c.args.classes.now x.written.items x.numbers.items w.numbering.rising (shared_kept h x.written.items x.numbers.items (of_answer _ c.finish.result x e (c.finish.ensures h.used h.items))))
+    sets_shared m c.args.classes.now x.written.items x.numbers.items w.numbering.rising (shared_kept h x.written.items x.numbers.items (of_returned _ c.finish.result x e (c.finish.ensures h.used h.items))))
 
 pub returns-clause-known : goal.returns-clause-known
-returns-clause-known c = on_answer c.finish.result (λ x e m w.
+returns-clause-known c = on_returned c.finish.result (λ x e m w.
     let h = all c m w.known in
-    shared_known (shared_kept h x.written.items x.numbers.items (of_answer _ c.finish.result x e (c.finish.ensures h.used h.items))))
+    shared_known (shared_kept h x.written.items x.numbers.items (of_returned _ c.finish.result x e (c.finish.ensures h.used h.items))))

@@ -3,7 +3,7 @@ use Rattle.dexspec.specs.Placing.{unless_empty, type_list_uses}
 use Rattle.dexlayout.specs.Laid.{ordered_of}
 use Rattle.dexlayout.specs.internal.SharedUses.{SharesLists}
 use Rattle.dexlayout.proofs.SharedKinds.{list_uses_are, lists_shared}
-use Rattle.dexlayout.proofs.SharedUses.{shared_none, shared_kept, shared_known, on_answer, of_answer}
+use Rattle.dexlayout.proofs.SharedUses.{shared_none, shared_kept, shared_known, on_returned, of_returned}
 use Rattle.dexlayout.proofs.type_lists.share_type_lists.Goals as goal
 use Rattle.dexlayout.proofs.type_lists.share_type_lists.Goals.{After-finish}
 
@@ -15,11 +15,11 @@ all c =
     (c.in_ok-add_interfaces.ensures m (map (λ p. unless_empty p.parameters) m.protos) c.requires.known (c.in_ok-add_parameters.ensures [] (shared_none c.in_ok-sharing.ensures)))
 
 pub returns-clause-shared : goal.returns-clause-shared
-returns-clause-shared c = on_answer c.finish.result (λ x e.
+returns-clause-shared c = on_returned c.finish.result (λ x e.
     let h = all c in
-    lists_shared c.args.numbering.now c.args.classes.now x.written.items x.numbers.items c.requires.numbering.rising (shared_kept h x.written.items x.numbers.items (of_answer _ c.finish.result x e (c.finish.ensures h.used h.items))))
+    lists_shared c.args.numbering.now c.args.classes.now x.written.items x.numbers.items c.requires.numbering.rising (shared_kept h x.written.items x.numbers.items (of_returned _ c.finish.result x e (c.finish.ensures h.used h.items))))
 
 pub returns-clause-known : goal.returns-clause-known
-returns-clause-known c = on_answer c.finish.result (λ x e.
+returns-clause-known c = on_returned c.finish.result (λ x e.
     let h = all c in
-    shared_known (shared_kept h x.written.items x.numbers.items (of_answer _ c.finish.result x e (c.finish.ensures h.used h.items))))
+    shared_known (shared_kept h x.written.items x.numbers.items (of_returned _ c.finish.result x e (c.finish.ensures h.used h.items))))

@@ -13,7 +13,7 @@ use Rattle.dexmembers.proofs.CodesApart.{attached_codes}
 use Rattle.dexmembers.specs.Weight.{members_weight}
 use Rattle.dexmembers.proofs.DirectoryCache.{data_refused}
 use Rattle.dexmembers.proofs.RowsAreAt.{some_kept}
-use Rattle.dexmembers.proofs.RowRead.{parts_attachable, parts_known, parts_answer}
+use Rattle.dexmembers.proofs.RowRead.{parts_attachable, parts_known, parts_returned}
 use Rattle.dexmembers.proofs.reading.read_members.Goals as goal
 
 pub returns-in-Err-clause-refused : goal.returns-in-Err-clause-refused
@@ -43,4 +43,4 @@ returns-clause-read c = λ pools class.
     codes ∙ ap (λ (n : ℕ). min (2 ^ 64 - 1) n) (sym (ap (λ (x : NumberedMembers). codes_weight (codes_of x)) same ∙ attached_codes d (shared_directory_of p.directory) p.direct_codes.items p.virtual_codes.items vs attachable.direct_many attachable.virtual_many)) in
     let weighed = c.within.ensures m rising (subst (AreKnownMembers m) (sym same) made_known) codes_are in
     let weighed_so = subst (λ (n : ℕ). MatchOption c.within.result (n < members_weight (members_in m made)) (λ x. (x.0 ≡ made) × (x.1 ≡ members_weight (members_in m made)) × (x.1 ≤ n))) (sym c.from.ensures) weighed in
-    subst (λ (n : ℕ). AreReadWithin b r m n c.within.result) c.from.ensures (parts_answer b r m rising d is most p.directory p.direct_codes.items p.virtual_codes.items vs parts known meant made same c.within.result weighed_so)
+    subst (λ (n : ℕ). AreReadWithin b r m n c.within.result) c.from.ensures (parts_returned b r m rising d is most p.directory p.direct_codes.items p.virtual_codes.items vs parts known meant made same c.within.result weighed_so)

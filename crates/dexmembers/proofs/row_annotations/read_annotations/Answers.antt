@@ -3,7 +3,7 @@ use Rattle.std.proofs.lemmas.Grind.{common_steps}
 use Rattle.dexpool.specs.Numberings.{AreRising}
 use Rattle.dexval.specs.Directories.{directory_weight}
 use Rattle.dexval.specs.Numbered.{directory_in}
-use Rattle.dexmembers.proofs.RowAnnotations.{directory_refused, unnamed_refused, directory_answer, directory_light}
+use Rattle.dexmembers.proofs.RowAnnotations.{directory_refused, unnamed_refused, directory_returned, directory_light}
 use Rattle.dexmembers.proofs.row_annotations.read_annotations.Goals as goal
 
 pub returns-in-Err-clause-refused : goal.returns-in-Err-clause-refused
@@ -24,7 +24,7 @@ pub returns-clause-read : goal.returns-clause-read
 returns-clause-read c = λ r at pools is.
     let some : c.args.off ≢ 0 = λ e. grind (arith, common_steps) in
     let rising = subst AreRising c.numbering.ensures c.is_numbering.ensures.rising in
-    directory_answer c.args.frame.now r c.args.pools.now c.args.declared.now is c.args.off at some pools rising c.args.most c.in-Ok.found (c.in-Ok.ensures.directory pools) (c.names_declared.ensures.listed c.if-not-names_declared.false)
+    directory_returned c.args.frame.now r c.args.pools.now c.args.declared.now is c.args.off at some pools rising c.args.most c.in-Ok.found (c.in-Ok.ensures.directory pools) (c.names_declared.ensures.listed c.if-not-names_declared.false)
 
 pub returns-then-off-eq0-clause-within : goal.returns-then-off-eq0-clause-within
 returns-then-off-eq0-clause-within c = λ pools. subst (λ d. min (2 ^ 64 - 1) (directory_weight (directory_in c.args.pools.now d)) ≤ c.args.most) (sym c.no_directory.ensures.none) (omega arith)

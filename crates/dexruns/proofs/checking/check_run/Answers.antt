@@ -47,7 +47,7 @@ returns-in-Err-clause-begun g c =
     c.loop-i.invariant.rest now lt c.index-inputs-i.is c.in_ok-verdict.ensures.verdict)
     c.as_bytes.result.now
     (line_is (λ name. name.now) c.args.names.now c.loop-i.i _ c.in_ok-verdict.verdict _ _ named c.as_bytes.ensures.value c.in_ok-line.ensures)
-    (λ w. c.in-Err.ensures.front (c.loop-i.invariant.reports w))
+    (λ w. c.in-Err.ensures.prefix (c.loop-i.invariant.reports w))
 
 pub loop-i-preserved : goal.loop-i-preserved
 loop-i-preserved g c =

@@ -22,5 +22,5 @@ returns-clause-left g c = λ reads. (
   accepted_file _ _ _ (c.as_slice.ensures.value ∙ c.in_ok-bytes.ensures.bytes reads) c.in_ok-program.ensures.accepted,
   (λ writes K denotes.
       prefix_is c.one_collection.ensures c.args.name.now _ _ _ K _ _ _ (c.as_slice.ensures.value ∙ c.in_ok-bytes.ensures.bytes reads) c.in_ok-program.ensures.accepted denotes
-      (c.as_bytes.ensures.value ∙ c.in_ok-lines.ensures) (c.in-Err.ensures.front writes)),
+      (c.as_bytes.ensures.value ∙ c.in_ok-lines.ensures) (c.in-Err.ensures.prefix writes)),
 )

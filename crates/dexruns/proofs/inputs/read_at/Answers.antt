@@ -3,8 +3,8 @@ use borrow.Rule.Slice.PartMut.{take_put}
 use Rattle.dexruns.proofs.Pieces.{moved_in_place}
 use Rattle.dexruns.proofs.inputs.read_at.Goals as goal
 
-pub returns-clause-front : goal.returns-clause-front
-returns-clause-front g c = take_put _ _ c.args.bytes.now _ (omega (arith, c.requires.room))
+pub returns-clause-prefix : goal.returns-clause-prefix
+returns-clause-prefix g c = take_put _ _ c.args.bytes.now _ (omega (arith, c.requires.room))
 
 pub returns-clause-moved : goal.returns-clause-moved
 returns-clause-moved g c =

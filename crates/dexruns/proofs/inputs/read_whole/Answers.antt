@@ -11,7 +11,7 @@ pieces-preserved g c = record {
   bound = c.in_ok-taken.ensures.bound;
   reports = λ t. c.in_ok-taken.ensures.reports (c.pieces.invariant.reports t);
   joined = λ t. joined_more _ _ _ c.pieces.bytes.items c.read_more.new.bytes.items c.pieces.filled c.in_ok-taken.taken (omega (arith, c.pieces.invariant.filled, c.pieces.bytes.ok.0))
-      (omega (arith, c.in_ok-taken.ensures.fits, c.read_more.new.bytes.ok.0)) (c.pieces.invariant.joined t) c.in_ok-taken.ensures.front (c.in_ok-taken.ensures.moved (c.pieces.invariant.reports t));
+      (omega (arith, c.in_ok-taken.ensures.fits, c.read_more.new.bytes.ok.0)) (c.pieces.invariant.joined t) c.in_ok-taken.ensures.prefix (c.in_ok-taken.ensures.moved (c.pieces.invariant.reports t));
 }
 
 pub returns-clause-bytes : goal.returns-clause-bytes
@@ -22,7 +22,7 @@ returns-clause-bytes g c =
     let long : length (take filled bytes) ≡ filled = length-take-le filled bytes within in
     let same : take filled c.pieces-test.bytes.items ≡ take filled bytes = elim c.pieces-test.branch [
       | else-pieces-test w ↦ ap (λ (v : Vec ℕ). take filled v.items) w.bytes-is
-      | then-pieces-test+in_ok-taken+then-taken-eq0 w ↦ ap (λ (v : Vec ℕ). take filled v.items) w.bytes-is ∙ w.in_ok-taken.ensures.front
+      | then-pieces-test+in_ok-taken+then-taken-eq0 w ↦ ap (λ (v : Vec ℕ). take filled v.items) w.bytes-is ∙ w.in_ok-taken.ensures.prefix
     ] in
     λ reports. read_to_end filled 1073741825 bytes c.pieces-test.bytes.items c.truncate.new.self.items (g.R.Source.to_come c.pieces.input) (g.R.Source.to_come c.args.input.now) c.truncate.ensures.items same
     (c.pieces.invariant.joined reports) (omega (arith, long, c.pieces.invariant.filled, c.pieces.invariant.bound))

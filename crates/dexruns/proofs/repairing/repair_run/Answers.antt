@@ -31,5 +31,5 @@ returns-in-Err-clause-fault g c =
 pub returns-clause-left : goal.returns-clause-left
 returns-clause-left g c = λ reads. (
   accepted_is _ _ _ (c.as_slice.ensures.value ∙ c.repaired-file.ensures) (c.in_ok-bytes.ensures.bytes reads) c.in-Ok.ensures.accepted,
-  (λ writes. prefix_is _ _ _ _ _ (c.as_slice-2.ensures.value ∙ c.repaired-file.ensures) (c.in_ok-bytes.ensures.bytes reads) (c.in-Err-write_whole.ensures.front writes)),
+  (λ writes. prefix_is _ _ _ _ _ (c.as_slice-2.ensures.value ∙ c.repaired-file.ensures) (c.in_ok-bytes.ensures.bytes reads) (c.in-Err-write_whole.ensures.prefix writes)),
 )

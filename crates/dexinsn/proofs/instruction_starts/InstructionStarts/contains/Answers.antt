@@ -2,12 +2,12 @@ use Rattle.std.proofs.Common.{◌≡◌, pos, false, get_or, to_z, of_z, w64, ap
 use Rattle.std.specs.Prelude.{◌↔◌, true}
 use Rattle.std.proofs.lemmas.Int.{ints}
 use Rattle.dexinsn.specs.internal.LongSwitches.{HasPlace}
-use Rattle.dexinsn.proofs.StartsRead.{answer_in}
+use Rattle.dexinsn.proofs.StartsRead.{test_in}
 use Rattle.dexinsn.proofs.instruction_starts.InstructionStarts.contains.Goals as goal
 
 pub returns : goal.returns
 returns c =
     let words = c.self.inside.words.now in
     let place : to_z w64 (of_z w64 c.from.result) ≡ pos c.args.address = omega (arith, ints, c.from.ensures, c.ranges.address) in
-    answer_in words c.args.address c.has_place.result (subst (λ z. (c.has_place.result ≡ true) ↔ HasPlace words z) place c.has_place.ensures)
+    test_in words c.args.address c.has_place.result (subst (λ z. (c.has_place.result ≡ true) ↔ HasPlace words z) place c.has_place.ensures)
     ∙ ap (λ v. get_or v c.args.address false) c.self.view_is

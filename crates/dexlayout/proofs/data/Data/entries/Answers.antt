@@ -67,7 +67,7 @@ count_annotations-requires c =
     let ends = end_in_file K w.fits in
     let few = few_items K ends in
     let n = counted m cs d in
-    let e = annotations_flat c.written-written.result.now c.args.self.now.front.annotations.written c.written-written.ensures in omega (arith, e, n.annotations, few.annotations)
+    let e = annotations_flat c.written-written.result.now c.args.self.now.first_sections.annotations.written c.written-written.ensures in omega (arith, e, n.annotations, few.annotations)
 
 pub overflow_cast-count_placed : goal.overflow_cast-count_placed
 overflow_cast-count_placed c =
@@ -207,7 +207,7 @@ returns c = λ cs w d from.
     let n = counted m cs d in
     ten_same _ _ _ _ _ _ _ _ _ _ _ _ _ _ _ _ _ _ _ _
     (c.entry.ensures ∙ same_entry TypeLists _ _ _ _ (ap (λ xs. length xs) c.written.ensures ∙ n.type_lists) (c.round_up.ensures ∙ ap (round_up 4) from))
-    (c.entry-2.ensures ∙ same_entry AnnotationItems _ _ _ _ (c.count_annotations.ensures ∙ annotations_flat c.written-written.result.now c.args.self.now.front.annotations.written c.written-written.ensures ∙ n.annotations) (c.end.ensures ∙ ap (λ (q : ItemPlaces). q.end) c.places.ensures ∙ d.first_sections_are.type_lists_are.places_are.end_is ∙ plain _))
+    (c.entry-2.ensures ∙ same_entry AnnotationItems _ _ _ _ (c.count_annotations.ensures ∙ annotations_flat c.written-written.result.now c.args.self.now.first_sections.annotations.written c.written-written.ensures ∙ n.annotations) (c.end.ensures ∙ ap (λ (q : ItemPlaces). q.end) c.places.ensures ∙ d.first_sections_are.type_lists_are.places_are.end_is ∙ plain _))
     (c.entry-3.ensures ∙ same_entry EncodedArrayItems _ _ _ _ (c.count_placed.ensures ∙ ap count_placed c.offsets.ensures ∙ n.arrays) (c.end-2.ensures ∙ ap (λ (q : ItemPlaces). q.end) c.places-2.ensures ∙ d.first_sections_are.annotations_are.places_are.end_is ∙ plain _))
     (c.entry-4.ensures ∙ same_entry StringDataItems _ _ _ _ (c.count.ensures ∙ n.strings) (c.end-3.ensures ∙ d.first_sections_are.static_values_are.end_is ∙ plain _))
     (c.entry-5.ensures ∙ same_entry DebugInfoItems _ _ _ _ (c.count-2.ensures ∙ n.debugs) (c.end-4.ensures ∙ d.first_sections_are.strings_are.end_is ∙ plain _))

@@ -28,9 +28,9 @@ loop-i-preserved c =
     let h = c.loop-i.invariant in
     let many : c.len.result ≡ length x.parameter_annotations = c.len.ensures ∙ ap (λ (l : List NumberedSet). length l) c.parameter_annotations-parameters.ensures in
     let count : 1 + c.len.result ≡ n = omega (arith, many) in
-    let front : c.split_at.result.0.now ≡ take n rest = c.split_at.ensures.front ∙ ap (λ j. take j rest) count in
+    let first_sections : c.split_at.result.0.now ≡ take n rest = c.split_at.ensures.front ∙ ap (λ j. take j rest) count in
     let back : c.split_at.result.1.now ≡ drop n rest = c.split_at.ensures.back ∙ ap (λ j. drop j rest) count in
-    let self : c.collect_method.new.self ≡ collect_method c.loop-i.self (take n rest) = c.in_ok-collect_method.ensures ∙ ap (collect_method c.loop-i.self) front in
+    let self : c.collect_method.new.self ≡ collect_method c.loop-i.self (take n rest) = c.in_ok-collect_method.ensures ∙ ap (collect_method c.loop-i.self) first_sections in
     let counts : n + k ≡ length (flat_map sets_of_method (drop i xs)) = sym (next_count xs i x lt is) in
     record {
       collected = (λ j. collect_methods (self j) (parts_of_methods more (back j))) ∙ sym (next_parts xs i x lt is c.loop-i.self rest) ∙ h.collected;

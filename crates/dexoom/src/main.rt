@@ -3,6 +3,8 @@
 //! all before them. Each time the call has to report that it is out of memory, with nothing written: a writer sees no call. Once
 //! it has enough it has to return the right bytes.
 //!
+//! With an argument each call is made once: `tests/faults/run` makes one allocation fail in such a run.
+//!
 //! The status is 0 where each call did, 1 where one did not, 3 where a file cannot be read, and 4 where the output or the memory
 //! for the start fails.
 #![tactic(auto)]

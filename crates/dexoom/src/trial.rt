@@ -45,6 +45,16 @@ impl Trial {
     }
 }
 
+impl fmt::Display for Trial {
+    fn fmt<W: fmt::Write>(&self, f: &mut fmt::Formatter<W>) -> fmt::Result {
+        f.write_str(match self {
+            Trial::Right => "right",
+            Trial::Memory => "out of memory with nothing written",
+            Trial::Wrong => "wrong",
+        })
+    }
+}
+
 /// A writer that compares what it is given with the right bytes, and takes no memory.
 #[derive(Drop)]
 pub struct Compare<'a> {

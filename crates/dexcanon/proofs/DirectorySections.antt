@@ -5,14 +5,14 @@ use Rattle.std.specs.List.{flat_map, zip}
 use Rattle.std.specs.FinMap.Entries.{by_order}
 use Rattle.std.specs.declared.cmp.Ordering.TheVariants.{Less, Equal, Greater}
 use Rattle.std.proofs.lemmas.Bool.{cond-false, cond-true, eqb-true, true≢false}
-use Rattle.std.proofs.lemmas.List.{length-append, length-map, length-take, length-drop, map-append}
+use Rattle.std.proofs.lemmas.List.{length-append, length-map, length-take, length-drop, map-append, map-id}
 use Rattle.std.proofs.lemmas.List.Elements.{All-head, All-tail}
-use Rattle.dexspec.specs.Lists.{chunks, zip_with, in_order, add_in_order}
+use Rattle.dexspec.specs.Lists.{chunks, zip_with, in_order, add_in_order, present}
 use Rattle.dexspec.specs.Classes.{Definition, FieldDef, MethodDef, declared_fields, declared_methods}
 use Rattle.dexspec.specs.Mentions.{Mentions, field_of, method_of}
-use Rattle.dexspec.specs.Placing.{SetOffsets, pair_cmp, pairs, directory_bytes, directory_uses, set_offsets_of, class_sets, method_sets, ref_list_uses}
+use Rattle.dexspec.specs.Placing.{SetOffsets, pair_cmp, pairs, directory_bytes, directory_uses, set_offsets_of, class_sets, method_sets, ref_list_uses, uses_offsets}
 use Rattle.dexspec.specs.Spellings.{field_index, method_index}
-use Rattle.dexspec.specs.Canonical.{set_offsets, ref_list_offsets}
+use Rattle.dexspec.specs.Canonical.{set_offsets, ref_list_section, directory_section}
 use Rattle.dexspec.proofs.layout.Placements.{length-chunks, length-uses_offsets, length-set_offsets}
 use Rattle.dexpool.specs.Laws.{RanksAreNumbers}
 use Rattle.dexmembers.specs.Numbered.{fields_of, methods_of, field_in, method_in}
@@ -221,8 +221,8 @@ module _ (m : Mentions) (cs : List NumberedClass) where
   methods_are : length (flat_map firsts (set_offsets (ordered_of m cs))) ≡ length (class_methods cs)
   methods_are = ap (λ (ss : List SetOffsets). length (flat_map firsts ss)) (set_offsets_are (ordered_of m cs)) ∙ all_firsts m cs (use_offsets (ordered_of m cs))
 
-  length-ref_list_offsets : length (ref_list_offsets (ordered_of m cs)) ≡ length (class_methods cs)
-  unfolding ref_list_offsets
+  length-ref_list_offsets : length (uses_offsets (ref_list_section (ordered_of m cs))) ≡ length (class_methods cs)
+  unfolding ref_list_section
   length-ref_list_offsets =
       let K = ordered_of m cs in
       length-uses_offsets (ref_list_uses K (set_offsets K)) _ ∙ uses_count (set_offsets K) _ ∙ methods_are
@@ -247,10 +247,10 @@ module _ {m : Mentions} {cs : List NumberedClass} {p : Places} {limit : ℕ} (h 
 
   -- the directories are those of the file
   pub directories_are : RanksAreNumbers m → (own fs ms ls : List ℕ) → own ≡ p.sets.own → fs ≡ p.sets.fields → ms ≡ p.sets.methods → ls ≡ p.ref_lists.offsets
-      → class_directories cs own fs ms ls ≡ directory_uses (ordered_of m cs) (set_offsets (ordered_of m cs)) (ref_list_offsets (ordered_of m cs))
+      → class_directories cs own fs ms ls ≡ directory_uses (ordered_of m cs) (set_offsets (ordered_of m cs)) (uses_offsets (ref_list_section (ordered_of m cs)))
   directories_are ranks own fs ms ls eo ef em el =
       let K = ordered_of m cs in
-      let lists = ref_list_offsets K in
+      let lists = uses_offsets (ref_list_section K) in
       let o = eo ∙ h.laid.sets_are.own_are in
       let f = ef ∙ h.laid.sets_are.fields_are in
       let g = em ∙ h.laid.sets_are.methods_are in
@@ -259,3 +259,11 @@ module _ {m : Mentions} {cs : List NumberedClass} {p : Places} {limit : ℕ} (h 
       ∙ ap (λ (ss : List SetOffsets). class_directories cs (map (λ s. s.own) ss) (flat_map (λ s. s.fields) ss) (flat_map firsts ss) lists) (set_offsets_are K)
       ∙ all_directories m ranks cs h.writable.known (use_offsets K) lists (sets_enough m cs) (omega (arith, length-ref_list_offsets m cs))
       ∙ ap (λ (ss : List SetOffsets). directory_uses K ss lists) (sym (set_offsets_are K))
+
+  -- and so are their bytes
+  pub directory_items_are : RanksAreNumbers m → (own fs ms ls : List ℕ) → own ≡ p.sets.own → fs ≡ p.sets.fields → ms ≡ p.sets.methods → ls ≡ p.ref_lists.offsets
+      → present (class_directories cs own fs ms ls) ≡ (directory_section (ordered_of m cs)).items
+  unfolding directory_section
+  directory_items_are ranks own fs ms ls eo ef em el =
+      ap present (directories_are ranks own fs ms ls eo ef em el)
+      ∙ sym (map-id (present (directory_uses (ordered_of m cs) (set_offsets (ordered_of m cs)) (uses_offsets (ref_list_section (ordered_of m cs))))))

@@ -8,11 +8,11 @@ use Rattle.std.proofs.lemmas.Simd.{map-map}
 use Rattle.dexspec.specs.Lists.{chunks, present, zip_with}
 use Rattle.dexspec.specs.Classes.{Definition, MethodDef, declared_fields, declared_methods}
 use Rattle.dexspec.specs.Mentions.{Mentions}
-use Rattle.dexspec.specs.Placing.{Ordered, SetOffsets, set_offsets_of, class_sets, method_sets, set_uses, uses_offsets, offsets, unless_empty, bytes_from, section_bytes}
+use Rattle.dexspec.specs.Placing.{Ordered, SetOffsets, set_offsets_of, class_sets, method_sets, set_uses, offsets, unless_empty, bytes_from, section_bytes, end}
 use Rattle.dexspec.specs.Sameness.{same_set}
 use Rattle.dexspec.specs.Spellings.{offsets_bytes}
-use Rattle.dexspec.specs.Canonical.{set_items, set_section, set_offsets, set_end, ref_list_section}
-use Rattle.dexspec.proofs.layout.Placements.{length-items_offsets}
+use Rattle.dexspec.specs.Canonical.{set_items, set_section, set_offsets, ref_list_section}
+use Rattle.dexspec.proofs.layout.Placements.{length-items_offsets, numbers_offsets}
 use Rattle.dexval.specs.Numbered.{set_in}
 use Rattle.dexmembers.specs.Numbered.{NumberedMethod, method_in, methods_of}
 use Rattle.dexclass.specs.Numbered.{NumberedClass, definition_of}
@@ -32,7 +32,7 @@ parts ds offs = zip_with set_offsets_of ds (chunks (map (λ d. length (class_set
 
 -- the offsets of all uses of sets
 abbrev pub use_offsets : Ordered → List ℕ
-use_offsets K = uses_offsets (set_items K).numbers (offsets (set_section K))
+use_offsets K = numbers_offsets (set_items K).numbers (offsets (set_section K))
 
 -- as many as sets
 pub length-use_offsets : (K : Ordered) → length (use_offsets K) ≡ length (flat_map class_sets K.classes)
@@ -40,7 +40,7 @@ length-use_offsets K = length-items_offsets K.sharing same_set (set_uses K) (off
 
 -- the offsets of the sets of the file
 pub set_offsets_are : (K : Ordered) → set_offsets K ≡ parts K.classes (use_offsets K)
-unfolding set_offsets
+unfolding set_offsets set_section
 set_offsets_are K = refl
 
 -- how many sets a class has
@@ -138,6 +138,7 @@ module _ {m : Mentions} {cs : List NumberedClass} {p : Places} {limit : ℕ} (h 
       omega (arith, ap total counts_lengths, total_lengths (lists_of (set_offsets (ordered_of m cs))), ap (λ (os : List ℕ). length os) offs_are)
 
   ref_list_items_are : ref_lists (class_parameter_counts cs) offs ≡ (ref_list_section (ordered_of m cs)).items
+  unfolding ref_list_section
   ref_list_items_are =
       let ss = set_offsets (ordered_of m cs) in
       (λ i. ref_lists (counts_lengths i) (offs_are i))
@@ -149,18 +150,19 @@ module _ {m : Mentions} {cs : List NumberedClass} {p : Places} {limit : ℕ} (h 
   laid_items : ref_lists (class_parameter_counts cs) offs ≡ (ref_list_section (ordered_of m cs)).items
   laid_items = ref_list_items_are h offs (rest ∙ ap (λ (s : SetPlaces). s.parameters) sets)
 
-  laid_start : at ≡ set_end (ordered_of m cs)
+  laid_start : at ≡ end (set_section (ordered_of m cs))
   laid_start = start ∙ ap (λ (s : SetPlaces). s.end) sets ∙ h.laid.sets_are.end_is
 
   pub laid_lists_enough : total (class_parameter_counts cs) ≤ length offs
   laid_lists_enough = parameters_enough h offs (rest ∙ ap (λ (s : SetPlaces). s.parameters) sets)
 
   pub laid_lists_fit : FitFrom limit at (ref_lists (class_parameter_counts cs) offs)
-  laid_lists_fit = subst (λ n. FitFrom limit n (ref_lists (class_parameter_counts cs) offs)) (sym laid_start) (subst (FitFrom limit (set_end (ordered_of m cs))) (sym laid_items) (record {
+  laid_lists_fit = subst (λ n. FitFrom limit n (ref_lists (class_parameter_counts cs) offs)) (sym laid_start) (subst (FitFrom limit (end (set_section (ordered_of m cs)))) (sym laid_items) (record {
     least = h.least;
     within = ref_lists_within h;
     ends = ref_lists_fit (ordered_of m cs) h.writable.fits;
   }))
 
   pub laid_lists_bytes : bytes_from 4 at (ref_lists (class_parameter_counts cs) offs) ≡ section_bytes (ref_list_section (ordered_of m cs))
+  unfolding ref_list_section
   laid_lists_bytes = λ i. bytes_from 4 (laid_start i) (laid_items i)

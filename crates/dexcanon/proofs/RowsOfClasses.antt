@@ -9,14 +9,14 @@ use Rattle.dexspec.specs.Bytes.{uint}
 use Rattle.dexspec.specs.Classes.{no_index}
 use Rattle.dexspec.specs.Mentions.{Mentions}
 use Rattle.dexspec.specs.Spellings.{text_index, type_index}
-use Rattle.dexspec.specs.Canonical.{ClassOffsets, class_offsets, class_row_bytes}
+use Rattle.dexspec.specs.Canonical.{class_row_bytes}
 use Rattle.dexspec.proofs.layout.Placements.{length-zip}
 use Rattle.dexspec.proofs.layout.SectionPlaces.{get_or-zip}
 use Rattle.dexspec.proofs.numbers.ByteNumbers.{length-uint}
 use Rattle.dexpool.specs.Laws.{RanksAreNumbers}
 use Rattle.dexclass.specs.Numbered.{NumberedClass, definition_of, text_at, type_at}
 use Rattle.dexclass.specs.Uses.{IsKnownClass}
-use Rattle.dexcanon.specs.internal.ClassRows.{class_row, rows_with}
+use Rattle.dexcanon.specs.internal.ClassRows.{class_row, rows_with, row_offsets}
 use Rattle.dexcanon.proofs.Aligned.{all_prefix}
 use Rattle.dexcanon.proofs.OwnUses.{zip_with_at, length-zip_with}
 
@@ -48,9 +48,9 @@ module _ (m : Mentions) (c : NumberedClass) (h : IsKnownClass m c) where
   source_small lt = small_of (length m.texts) c.source lt h.texts_in
 
   -- the row of the definition is that of the numbers
-  pub row_is : RanksAreNumbers m → (offs : ClassOffsets) → class_row_bytes m (definition_of m c) offs ≡ class_row c offs
+  pub row_is : RanksAreNumbers m → (offs : ℕ × ℕ × ℕ × ℕ) → class_row_bytes m (definition_of m c) offs ≡ class_row c offs
   row_is ranks offs =
-      let R : ℕ → ℕ → ℕ → List ℕ = λ a b d. uint a ++ (uint c.flags ++ (uint b ++ (uint offs.interfaces ++ (uint d ++ (uint offs.annotations ++ (uint offs.class_data ++ uint offs.static_values)))))) in
+      let R : ℕ → ℕ → ℕ → List ℕ = λ a b d. uint a ++ (uint c.flags ++ (uint b ++ (uint offs.0 ++ (uint d ++ (uint offs.1 ++ (uint offs.2 ++ uint offs.3)))))) in
       let texts : (i : ℕ) → i < length m.texts → text_index m (text_at m i) ≡ i = λ i lt. ranks.texts_are i [] lt in
       let types : (i : ℕ) → i < length m.types → type_index m (type_at m i) ≡ i = λ i lt. ranks.types_are i [] lt in
       ap (λ a. R a (option_map_or (type_index m) (option_map (type_at m) c.superclass) no_index) (option_map_or (text_index m) (option_map (text_at m) c.source) no_index)) (types c.name name_in)
@@ -60,29 +60,29 @@ module _ (m : Mentions) (c : NumberedClass) (h : IsKnownClass m c) where
 -- ---- rows
 
 -- the offsets of the r-th class
-abbrev pub offsets_at : List ℕ → List ℕ → List ℕ → List ℕ → ℕ → ClassOffsets
-offsets_at ns bs ds vs r = record { interfaces = slice_index ns r; annotations = slice_index bs r; class_data = slice_index ds r; static_values = slice_index vs r }
+abbrev pub offsets_at : List ℕ → List ℕ → List ℕ → List ℕ → ℕ → ℕ × ℕ × ℕ × ℕ
+offsets_at ns bs ds vs r = (slice_index ns r, slice_index bs r, slice_index ds r, slice_index vs r)
 
 -- the rows of classes
 abbrev pub rows_of : Mentions → List NumberedClass → List ℕ → List ℕ → List ℕ → List ℕ → List (List ℕ)
-rows_of m cs ns bs ds vs = rows_with m cs (class_offsets ns bs ds vs)
+rows_of m cs ns bs ds vs = rows_with m cs (row_offsets ns bs ds vs)
 
 module _ (m : Mentions) (cs : List NumberedClass) (ns bs ds vs : List ℕ) (n : length ns ≡ length cs) (a : length bs ≡ length cs) (d : length ds ≡ length cs) (v : length vs ≡ length cs) where
   abbrev pub class_rows : List (List ℕ)
   class_rows = rows_of m cs ns bs ds vs
 
-  count_offsets : length (class_offsets ns bs ds vs) ≡ length cs
+  count_offsets : length (row_offsets ns bs ds vs) ≡ length cs
   count_offsets = length-zip_with _ (zip ns bs) (zip ds vs) (length-zip ds vs (length cs) d v ∙ sym (length-zip ns bs (length cs) n a)) ∙ length-zip ns bs (length cs) n a
 
   pub count_rows : length class_rows ≡ length cs
-  count_rows = length-zip_with (class_row_bytes m) (map (definition_of m) cs) (class_offsets ns bs ds vs) (count_offsets ∙ sym (length-map cs (definition_of m))) ∙ length-map cs (definition_of m)
+  count_rows = length-zip_with (class_row_bytes m) (map (definition_of m) cs) (row_offsets ns bs ds vs) (count_offsets ∙ sym (length-map cs (definition_of m))) ∙ length-map cs (definition_of m)
 
   -- the row of the r-th class
   row_at : (r : ℕ) (c : NumberedClass) → r < length cs → c ≡ get_or cs r c → get_or class_rows r [] ≡ class_row_bytes m (definition_of m c) (offsets_at ns bs ds vs r)
   row_at r c lt is =
       let none = offsets_at ns bs ds vs r in
-      zip_with_at (class_row_bytes m) (map (definition_of m) cs) (class_offsets ns bs ds vs) r (definition_of m c) none [] (omega (arith, lt, length-map cs (definition_of m))) (omega (arith, lt, count_offsets))
-      ∙ ap (λ z. class_row_bytes m z (get_or (class_offsets ns bs ds vs) r none)) (get_or-map (definition_of m) cs r c (definition_of m c) lt ∙ ap (definition_of m) (sym is))
+      zip_with_at (class_row_bytes m) (map (definition_of m) cs) (row_offsets ns bs ds vs) r (definition_of m c) none [] (omega (arith, lt, length-map cs (definition_of m))) (omega (arith, lt, count_offsets))
+      ∙ ap (λ z. class_row_bytes m z (get_or (row_offsets ns bs ds vs) r none)) (get_or-map (definition_of m) cs r c (definition_of m c) lt ∙ ap (definition_of m) (sym is))
       ∙ ap (class_row_bytes m (definition_of m c)) (zip_with_at _ (zip ns bs) (zip ds vs) r (slice_index ns r, slice_index bs r) (slice_index ds r, slice_index vs r) none (omega (arith, lt, length-zip ns bs (length cs) n a)) (omega (arith, lt, length-zip ds vs (length cs) d v))
       ∙ both (at_of ns bs r (omega (arith, lt, n)) (omega (arith, lt, a))) (at_of ds vs r (omega (arith, lt, d)) (omega (arith, lt, v))))
     where
@@ -91,8 +91,8 @@ module _ (m : Mentions) (cs : List NumberedClass) (ns bs ds vs : List ℕ) (n : 
           get_or-zip xs ys i (slice_index xs i) (slice_index ys i) lt less
           ∙ ap (λ p. (p, get_or ys i (slice_index ys i))) (get_or_default xs i (slice_index xs i) 0 lt) ∙ ap (λ q. (slice_index xs i, q)) (get_or_default ys i (slice_index ys i) 0 less)
 
-      make : ℕ × ℕ → ℕ × ℕ → ClassOffsets
-      make p q = record { interfaces = p.0; annotations = p.1; class_data = q.0; static_values = q.1 }
+      make : ℕ × ℕ → ℕ × ℕ → ℕ × ℕ × ℕ × ℕ
+      make p q = (p.0, p.1, q.0, q.1)
 
       both : {p p' q q' : ℕ × ℕ} → p ≡ p' → q ≡ q' → make p q ≡ make p' q'
       both {p' = p'} {q = q} e f = ap (λ x. make x q) e ∙ ap (make p') f
@@ -106,5 +106,5 @@ module _ (m : Mentions) (cs : List NumberedClass) (ns bs ds vs : List ℕ) (n : 
   pub no_class_row : (r : ℕ) → length cs ≤ r → concat (drop r class_rows) ≡ []
   no_class_row r le = ap concat (drop_all r class_rows (omega (arith, le, count_rows)))
 
-pub length_row : (c : NumberedClass) (offs : ClassOffsets) → length (class_row c offs) ≡ 32
+pub length_row : (c : NumberedClass) (offs : ℕ × ℕ × ℕ × ℕ) → length (class_row c offs) ≡ 32
 length_row c offs = omega (arith, length-append {A = ℕ}, length-uint)

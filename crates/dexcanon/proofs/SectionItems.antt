@@ -6,11 +6,12 @@ use Rattle.std.proofs.lemmas.List.Elements.{All-nil, All-cons}
 use Rattle.dexspec.specs.Lists.{present, zip_with}
 use Rattle.dexspec.specs.Mentions.{Mentions}
 use Rattle.dexspec.specs.Classes.{MethodDef}
-use Rattle.dexspec.specs.Placing.{Ordered, Placed, all_methods, values_unless_empty, code_uses, debug_uses, EqualOnce, offsets, end_from, bytes_from, section_bytes}
+use Rattle.dexspec.specs.Placing.{Ordered, Placed, all_methods, values_unless_empty, code_uses, debug_uses, EqualOnce, offsets, end_from, bytes_from, section_bytes, end, uses_offsets, class_data_uses}
 use Rattle.dexspec.specs.Sameness.{same_debug}
-use Rattle.dexspec.specs.Canonical.{data_start, debug_end, class_data_end, set_end, ref_list_end, data_sections, type_list_section, annotation_section, array_section, string_section, debug_section, code_section, class_data_section, set_section, ref_list_section, directory_section, debug_offsets, code_offsets}
-use Rattle.dexspec.specs.Spellings.{encoded_array_bytes}
-use Rattle.dexspec.proofs.layout.Placements.{length-uses_offsets, length-items_offsets, length-zip_with, sections_follow}
+use Rattle.dexspec.specs.Texts.{string_data}
+use Rattle.dexspec.specs.Canonical.{data_start, debug_section, class_data_section, set_section, ref_list_section, data_sections, type_list_section, annotation_section, array_section, string_section, code_section, directory_section, type_list_items}
+use Rattle.dexspec.specs.Spellings.{encoded_array_bytes, type_list_bytes, class_data_bytes}
+use Rattle.dexspec.proofs.layout.Placements.{length-uses_offsets, length-items_offsets, length-zip_with}
 use Rattle.dexmembers.specs.Numbered.{method_in, methods_of}
 use Rattle.dexclass.specs.Numbered.{NumberedClass, definition_of}
 use Rattle.dexlayout.specs.Places.{Places, ItemPlaces}
@@ -40,7 +41,8 @@ module _ {m : Mentions} {cs : List NumberedClass} {p : Places} {limit : ℕ} (h 
   data_within : AllWithin limit (data_sections (ordered_of m cs))
   data_within = sections_within limit (data_sections (ordered_of m cs)) (omega (arith, h.greatest, h.laid.greatest_is))
 
-  pub type_lists_within : AreWithin limit (type_list_section (ordered_of m cs)).items
+  pub type_lists_within : AreWithin limit (map (type_list_bytes m) (type_list_items (ordered_of m cs)).written)
+  unfolding type_list_section
   type_lists_within = data_within.0
 
   pub annotations_within : AreWithin limit (annotation_section (ordered_of m cs)).items
@@ -49,13 +51,15 @@ module _ {m : Mentions} {cs : List NumberedClass} {p : Places} {limit : ℕ} (h 
   pub arrays_within : AreWithin limit (array_section (ordered_of m cs)).items
   arrays_within = data_within.1.1.0
 
-  pub strings_within : AreWithin limit (string_section (ordered_of m cs)).items
+  pub strings_within : AreWithin limit (map string_data m.texts)
+  unfolding string_section
   strings_within = data_within.1.1.1.0
 
   pub codes_within : AreWithin limit (code_section (ordered_of m cs)).items
   codes_within = data_within.1.1.1.1.1.0
 
-  pub class_data_within : AreWithin limit (class_data_section (ordered_of m cs)).items
+  pub class_data_within : AreWithin limit (map (λ p. class_data_bytes m p.0 p.1) (present (class_data_uses (ordered_of m cs) (uses_offsets (code_section (ordered_of m cs))))))
+  unfolding class_data_section
   class_data_within = data_within.1.1.1.1.1.1.0
 
   pub sets_within : AreWithin limit (set_section (ordered_of m cs)).items
@@ -86,61 +90,69 @@ codes_are m cs offs = ap (λ xs. map (code_item m) (present (zip_with code_use x
 
 -- the static values of the classes
 pub values_are : (m : Mentions) (cs : List NumberedClass) → map (encoded_array_bytes m) (present (map (values_use m) cs)) ≡ (array_section (ordered_of m cs)).items
+unfolding array_section
 values_are m cs = ap (λ us. map (encoded_array_bytes m) (present us)) (sym (map-map (λ d. values_unless_empty d.1.static_values) (definition_of m) cs))
 
 -- an offset for each method
-pub count_debug_offsets : (m : Mentions) (cs : List NumberedClass) → length (debug_offsets (ordered_of m cs)) ≡ length (class_methods cs)
-unfolding debug_offsets
+pub count_debug_offsets : (m : Mentions) (cs : List NumberedClass) → length (uses_offsets (debug_section (ordered_of m cs))) ≡ length (class_methods cs)
+unfolding debug_section
 count_debug_offsets m cs =
     let K = ordered_of m cs in
     length-items_offsets EqualOnce same_debug (debug_uses K) (offsets (debug_section K)) ∙ length-map (all_methods K.classes) _ ∙ count_methods m cs
 
-pub count_code_offsets : (m : Mentions) (cs : List NumberedClass) → length (code_offsets (ordered_of m cs)) ≡ length (class_methods cs)
-unfolding code_offsets
+pub count_code_offsets : (m : Mentions) (cs : List NumberedClass) → length (uses_offsets (code_section (ordered_of m cs))) ≡ length (class_methods cs)
+unfolding code_section
 count_code_offsets m cs =
     let K = ordered_of m cs in
-    length-uses_offsets (code_uses K (debug_offsets K)) (offsets (code_section K))
-    ∙ length-zip_with _ (all_methods K.classes) (debug_offsets K) (length (class_methods cs)) (count_methods m cs) (count_debug_offsets m cs)
+    length-uses_offsets (code_uses K (uses_offsets (debug_section K))) (offsets (code_section K))
+    ∙ length-zip_with _ (all_methods K.classes) (uses_offsets (debug_section K)) (length (class_methods cs)) (count_methods m cs) (count_debug_offsets m cs)
 
 -- ---- aligned sections end within the file
 
-pub type_lists_fit : (K : Ordered) → file_end K ≤ 2 ^ 30 → end_from 4 (data_start K) (type_list_section K).items ≤ 2 ^ 30
-type_lists_fit K fits = omega (arith, (end_in_file K fits).type_lists, (sections_follow K).1.0)
+pub type_lists_fit : (K : Ordered) → file_end K ≤ 2 ^ 30 → end_from 4 (data_start K) (map (type_list_bytes K.pools) (type_list_items K).written) ≤ 2 ^ 30
+unfolding type_list_section
+type_lists_fit K fits = (end_in_file K fits).type_lists
 
-pub codes_fit : (K : Ordered) → file_end K ≤ 2 ^ 30 → end_from 4 (debug_end K) (code_section K).items ≤ 2 ^ 30
-codes_fit K fits = omega (arith, (end_in_file K fits).codes, (sections_follow K).1.1.1.1.1.1.0)
+pub codes_fit : (K : Ordered) → file_end K ≤ 2 ^ 30 → end_from 4 (end (debug_section K)) (code_section K).items ≤ 2 ^ 30
+unfolding code_section
+codes_fit K fits = (end_in_file K fits).codes
 
-pub sets_fit : (K : Ordered) → file_end K ≤ 2 ^ 30 → end_from 4 (class_data_end K) (set_section K).items ≤ 2 ^ 30
-sets_fit K fits = omega (arith, (end_in_file K fits).sets, (sections_follow K).1.1.1.1.1.1.1.1.0)
+pub sets_fit : (K : Ordered) → file_end K ≤ 2 ^ 30 → end_from 4 (end (class_data_section K)) (set_section K).items ≤ 2 ^ 30
+unfolding set_section
+sets_fit K fits = (end_in_file K fits).sets
 
-pub ref_lists_fit : (K : Ordered) → file_end K ≤ 2 ^ 30 → end_from 4 (set_end K) (ref_list_section K).items ≤ 2 ^ 30
-ref_lists_fit K fits = omega (arith, (end_in_file K fits).ref_lists, (sections_follow K).1.1.1.1.1.1.1.1.1.0)
+pub ref_lists_fit : (K : Ordered) → file_end K ≤ 2 ^ 30 → end_from 4 (end (set_section K)) (ref_list_section K).items ≤ 2 ^ 30
+unfolding ref_list_section
+ref_lists_fit K fits = (end_in_file K fits).ref_lists
 
-pub directories_fit : (K : Ordered) → file_end K ≤ 2 ^ 30 → end_from 4 (ref_list_end K) (directory_section K).items ≤ 2 ^ 30
-directories_fit K fits = omega (arith, (end_in_file K fits).directories, (sections_follow K).1.1.1.1.1.1.1.1.1.1)
+pub directories_fit : (K : Ordered) → file_end K ≤ 2 ^ 30 → end_from 4 (end (ref_list_section K)) (directory_section K).items ≤ 2 ^ 30
+unfolding directory_section
+directories_fit K fits = (end_in_file K fits).directories
 
 -- ---- the code of the classes, from the layout's offsets of debug programs
 
 module _ {m : Mentions} {cs : List NumberedClass} {p : Places} {limit : ℕ} (h : IsReady m cs p limit) {q : ItemPlaces} {offs : List ℕ} {at : ℕ} (places : q ≡ p.debugs.places) (offs_are : offs ≡ q.offsets) (at_is : at ≡ q.end) where
-  laid_offsets : offs ≡ debug_offsets (ordered_of m cs)
+  laid_offsets : offs ≡ uses_offsets (debug_section (ordered_of m cs))
   laid_offsets = offs_are ∙ ap (λ (d : ItemPlaces). d.offsets) places ∙ h.laid.debugs_are.places_are.offsets_are
 
-  laid_end : at ≡ debug_end (ordered_of m cs)
+  laid_end : at ≡ end (debug_section (ordered_of m cs))
   laid_end = at_is ∙ ap (λ (d : ItemPlaces). d.end) places ∙ h.laid.debugs_are.places_are.end_is
 
   -- they are the items of the section
   laid_codes : method_codes m (class_methods cs) offs ≡ (code_section (ordered_of m cs)).items
-  laid_codes = ap (method_codes m (class_methods cs)) laid_offsets ∙ codes_are m cs (debug_offsets (ordered_of m cs))
+  unfolding code_section
+  laid_codes = ap (method_codes m (class_methods cs)) laid_offsets ∙ codes_are m cs (uses_offsets (debug_section (ordered_of m cs)))
 
   pub laid_codes_count : length offs ≡ length (class_methods cs)
   laid_codes_count = ap (λ (os : List ℕ). length os) laid_offsets ∙ count_debug_offsets m cs
 
   pub laid_codes_fit : FitFrom limit at (method_codes m (class_methods cs) offs)
-  laid_codes_fit = subst (λ n. FitFrom limit n (method_codes m (class_methods cs) offs)) (sym laid_end) (subst (FitFrom limit (debug_end (ordered_of m cs))) (sym laid_codes) (record {
+  laid_codes_fit = subst (λ n. FitFrom limit n (method_codes m (class_methods cs) offs)) (sym laid_end) (subst (FitFrom limit (end (debug_section (ordered_of m cs)))) (sym laid_codes) (record {
     least = h.least;
     within = codes_within h;
     ends = codes_fit (ordered_of m cs) h.writable.fits;
   }))
 
   pub laid_codes_bytes : bytes_from 4 at (method_codes m (class_methods cs) offs) ≡ section_bytes (code_section (ordered_of m cs))
+  unfolding code_section
   laid_codes_bytes = λ i. bytes_from 4 (laid_end i) (laid_codes i)

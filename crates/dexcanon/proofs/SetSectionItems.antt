@@ -8,10 +8,9 @@ use Rattle.dexspec.specs.Bytes.{round_up}
 use Rattle.dexspec.specs.Lists.{chunks}
 use Rattle.dexspec.specs.Annotations.{Annotation, AnnotationSet}
 use Rattle.dexspec.specs.Mentions.{Mentions}
-use Rattle.dexspec.specs.Placing.{Ordered, end_from, offsets_from}
+use Rattle.dexspec.specs.Placing.{Ordered, end_from, offsets_from, end}
 use Rattle.dexspec.specs.Spellings.{annotation_bytes, offsets_bytes}
-use Rattle.dexspec.specs.Canonical.{type_list_end, set_items, annotation_section, annotation_offsets, set_section}
-use Rattle.dexspec.proofs.layout.Placements.{sections_follow}
+use Rattle.dexspec.specs.Canonical.{type_list_section, set_items, annotation_section, annotation_offsets, set_section}
 use Rattle.dexspec.proofs.layout.Places.{length-bytes_from, length-offsets_from, end_from_le}
 use Rattle.dexval.specs.Numbered.{NumberedSet, set_in}
 use Rattle.dexclass.specs.Numbered.{NumberedClass}
@@ -25,8 +24,9 @@ use Rattle.dexlayout.proofs.EncodedItems.{bytes_plain}
 -- ---- annotations
 
 -- they end within the file
-pub annotations_fit : (K : Ordered) → file_end K ≤ 2 ^ 30 → end_from 1 (type_list_end K) (annotation_section K).items ≤ 2 ^ 30
-annotations_fit K fits = omega (arith, (end_in_file K fits).annotations, (sections_follow K).1.1.0)
+pub annotations_fit : (K : Ordered) → file_end K ≤ 2 ^ 30 → end_from 1 (end (type_list_section K)) (annotation_section K).items ≤ 2 ^ 30
+unfolding annotation_section
+annotations_fit K fits = (end_in_file K fits).annotations
 
 -- items one after the other end after all their bytes
 pub plain_end : {X : Type 0} (f : X → List ℕ) (from : ℕ) (xs : List X) → end_from 1 from (map f xs) ≡ from + length (flat_map f xs)
@@ -38,14 +38,15 @@ module _ {m : Mentions} {cs : List NumberedClass} {p : Places} {limit : ℕ} (h 
   sets_are = ap (map (set_in m)) e ∙ h.laid.annotations_are.written_are
 
   pub annotation_items_are : map (annotation_bytes m) (flat_map (λ set. set) (map (set_in m) ss)) ≡ (annotation_section (ordered_of m cs)).items
+  unfolding annotation_section
   annotation_items_are = ap (λ ts. map (annotation_bytes m) (flat_map (λ (set : AnnotationSet). set) ts)) sets_are
 
   -- they have fewer than 2 ^ 32 bytes
   pub annotations_short : length (flat_map (annotation_bytes m) (flat_map (λ set. set) (map (set_in m) ss))) < 2 ^ 32
   annotations_short =
       let K = ordered_of m cs in
-      let ends = plain_end (annotation_bytes m) (type_list_end K) (flat_map (λ (set : AnnotationSet). set) (map (set_in m) ss)) in
-      omega (arith, ends, ap (λ (xs : List (List ℕ)). end_from 1 (type_list_end K) xs) annotation_items_are, annotations_fit K h.writable.fits)
+      let ends = plain_end (annotation_bytes m) (end (type_list_section K)) (flat_map (λ (set : AnnotationSet). set) (map (set_in m) ss)) in
+      omega (arith, ends, ap (λ (xs : List (List ℕ)). end_from 1 (end (type_list_section K)) xs) annotation_items_are, annotations_fit K h.writable.fits)
 
 -- ---- where annotations begin
 
@@ -109,15 +110,15 @@ weaker_all last lt xss h = λ i d le. λ j k less. let here : get_or (get_or xss
 -- ---- sets
 
 -- the offsets are those of the file
-pub annotation_offsets_are : (K : Ordered) → offsets_of_sets K.pools (first_offsets K.pools (type_list_end K) (set_items K).written) (set_items K).written ≡ annotation_offsets K
-unfolding annotation_offsets
-annotation_offsets_are K = rows_are K.pools (type_list_end K) (set_items K).written
+pub annotation_offsets_are : (K : Ordered) → offsets_of_sets K.pools (first_offsets K.pools (end (type_list_section K)) (set_items K).written) (set_items K).written ≡ annotation_offsets K
+unfolding annotation_offsets annotation_section
+annotation_offsets_are K = rows_are K.pools (end (type_list_section K)) (set_items K).written
 
 pub annotation_offsets_small : (K : Ordered) → file_end K ≤ 2 ^ 30 → All (All (λ o. o < 2 ^ 32)) (annotation_offsets K)
-unfolding annotation_offsets
+unfolding annotation_offsets annotation_section
 annotation_offsets_small K fits =
-    let last = end_from 1 (type_list_end K) (annotation_section K).items in
-    weaker_all last (omega (arith, annotations_fit K fits)) (annotation_offsets K) (chunks_all (λ o. o ≤ last) (map (λ (set : AnnotationSet). length set) (set_items K).written) (offsets_from 1 (type_list_end K) (annotation_section K).items) (offsets_below (type_list_end K) last (annotation_section K).items (omega arith)))
+    let last = end_from 1 (end (type_list_section K)) (annotation_section K).items in
+    weaker_all last (omega (arith, annotations_fit K fits)) (annotation_offsets K) (chunks_all (λ o. o ≤ last) (map (λ (set : AnnotationSet). length set) (set_items K).written) (offsets_from 1 (end (type_list_section K)) (annotation_section K).items) (offsets_below (end (type_list_section K)) last (annotation_section K).items (omega arith)))
 
 length-first_offsets : (m : Mentions) (from : ℕ) (ss : List AnnotationSet) → length (first_offsets m from ss) ≡ length ss
 length-first_offsets m from [] = refl
@@ -128,17 +129,18 @@ module _ {m : Mentions} {cs : List NumberedClass} {p : Places} {limit : ℕ} (h 
   pub firsts_count : length fs ≡ length ss
   firsts_count =
       let K = ordered_of m cs in
-      ap (λ (os : List ℕ). length os) (f ∙ h.laid.annotations_are.places_are.offsets_are) ∙ length-first_offsets m (type_list_end K) (set_items K).written
+      ap (λ (os : List ℕ). length os) (f ∙ h.laid.annotations_are.places_are.offsets_are) ∙ length-first_offsets m (end (type_list_section K)) (set_items K).written
       ∙ ap (λ (ts : List AnnotationSet). length ts) (sym (sets_are h ss e)) ∙ length-map ss (set_in m)
 
   pub set_rows_are : offsets_of_sets m fs (map (set_in m) ss) ≡ annotation_offsets (ordered_of m cs)
   set_rows_are =
       let K = ordered_of m cs in
       ap (λ os. offsets_of_sets m os (map (set_in m) ss)) (f ∙ h.laid.annotations_are.places_are.offsets_are)
-      ∙ ap (offsets_of_sets m (first_offsets m (type_list_end K) (set_items K).written)) (sets_are h ss e) ∙ annotation_offsets_are K
+      ∙ ap (offsets_of_sets m (first_offsets m (end (type_list_section K)) (set_items K).written)) (sets_are h ss e) ∙ annotation_offsets_are K
 
   pub set_rows_small : All (All (λ o. o < 2 ^ 32)) (offsets_of_sets m fs (map (set_in m) ss))
   set_rows_small = subst (All (All (λ o. o < 2 ^ 32))) (sym set_rows_are) (annotation_offsets_small (ordered_of m cs) h.writable.fits)
 
   pub set_items_are : map offsets_bytes (offsets_of_sets m fs (map (set_in m) ss)) ≡ (set_section (ordered_of m cs)).items
+  unfolding set_section
   set_items_are = ap (map offsets_bytes) set_rows_are

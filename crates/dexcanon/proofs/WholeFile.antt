@@ -6,10 +6,10 @@ use Rattle.dexspec.specs.Bytes.{round_up, padding}
 use Rattle.dexspec.specs.Files.{Collection, definitions}
 use Rattle.dexspec.specs.Header.{header_length}
 use Rattle.dexspec.specs.Mentions.{Mentions, mentions}
-use Rattle.dexspec.specs.Placing.{Ordered, Placed, bytes_from, section_bytes}
-use Rattle.dexspec.specs.Canonical.{Layout, table_bytes, data_start, data_sections, directory_end, unsigned_file, with_sums, ordered, canonical}
+use Rattle.dexspec.specs.Placing.{Ordered, Placed, bytes_from, section_bytes, end}
+use Rattle.dexspec.specs.Canonical.{table_bytes, data_start, data_sections, directory_section, unsigned_file, with_sums, ordered, canonical}
 use Rattle.dexspec.proofs.layout.Places.{length-padding, length-sections}
-use Rattle.dexspec.proofs.layout.Placements.{named_layout, layout_is, named_layout_full, sections_follow}
+use Rattle.dexspec.proofs.layout.Placements.{sections_follow}
 use Rattle.dexspec.proofs.layout.Tables.{length-table_bytes}
 use Rattle.dexhead.specs.Laid.{map_list, after_header}
 use Rattle.dexclass.specs.Numbered.{NumberedClass}
@@ -33,31 +33,26 @@ greatest_in_short (p ∷ ps) =
     let rest = greatest_in_short ps in
     omega (arith, first, rest, length-append (section_bytes p) (flat_map section_bytes ps))
 
--- what follows a header
-abbrev following : Ordered → Layout → List ℕ → List ℕ
-following K l m = table_bytes K l ++ (flat_map section_bytes l.sections ++ (padding 4 l.data_end ++ m))
-
-length_named : (K : Ordered) (m : List ℕ) → header_length + length (following K (named_layout K) m) ≡ round_up 4 (directory_end K) + length m
+-- the header and what follows it, where the map is m
+length_named : (K : Ordered) (m : List ℕ) → header_length + length (table_bytes K ++ (flat_map section_bytes (data_sections K) ++ (padding 4 (end (directory_section K)) ++ m))) ≡ round_up 4 (end (directory_section K)) + length m
 length_named K m =
-    let t = table_bytes K (named_layout K) in
+    let t = table_bytes K in
     let s = flat_map section_bytes (data_sections K) in
-    let p = padding 4 (directory_end K) in
-    omega (arith, length-append t (s ++ (p ++ m)), length-append s (p ++ m), length-append p m, length-table_bytes K (named_layout K) (named_layout_full K), length-sections (data_start K) (data_sections K) (directory_end K) (sections_follow K), length-padding 4 (directory_end K))
+    let p = padding 4 (end (directory_section K)) in
+    omega (arith, length-append t (s ++ (p ++ m)), length-append s (p ++ m), length-append p m, length-table_bytes K, length-sections (data_start K) (data_sections K) (end (directory_section K)) (sections_follow K), length-padding 4 (end (directory_section K)))
 
 -- the header and what follows it reach to the end of the file
 pub length_after : (K : Ordered) → header_length + length (after_header K) ≡ file_end K
-length_after K =
-    let m = map_list K in
-    ap (λ (l : Layout). header_length + length (following K l m)) (layout_is K) ∙ length_named K m ∙ ap (λ (l : Layout). round_up 4 l.data_end + length m) (sym (layout_is K))
+length_after K = length_named K (map_list K)
 
 -- no item is longer than the file
 greatest_within : (K : Ordered) → greatest_item K ≤ file_end K
 greatest_within K =
     let m = map_list K in
-    let t = table_bytes K (named_layout K) in
+    let t = table_bytes K in
     let s = flat_map section_bytes (data_sections K) in
-    let p = padding 4 (directory_end K) in
-    let whole = sym (length_after K) ∙ ap (λ (l : Layout). header_length + length (following K l m)) (layout_is K) in
+    let p = padding 4 (end (directory_section K)) in
+    let whole : header_length + length (t ++ (s ++ (p ++ m))) ≡ file_end K = length_after K in
     let items = greatest_in_short (data_sections K) in
     omega (arith, whole, items, length-append t (s ++ (p ++ m)), length-append s (p ++ m), length-append p m)
 

@@ -4,8 +4,8 @@ use Rattle.dexspec.specs.Header.{ClassDefs, table_size}
 use Rattle.dexspec.specs.Classes.{Definition, class_idx, interfaces_off}
 use Rattle.dexspec.specs.Mentions.{Mentions, mentions}
 use Rattle.dexspec.specs.Weight.{weight, mentions_weight, most_weight}
-use Rattle.dexspec.specs.Conditions.{Condition, number}
-use Rattle.dexspec.specs.Accepted.{HasClass, HoldBelow, AreRows, FailsAt, place, rows_checked, IsRefused}
+use Rattle.dexspec.specs.Conditions.{Condition}
+use Rattle.dexspec.specs.Accepted.{number, HasClass, HoldBelow, AreRows, FailsAt, place, rows_checked, IsRefused}
 use Rattle.dexspec.proofs.determined.Denoted.{AreReadable}
 use Rattle.dexhead.specs.declared.refusal.Refusal.{Refusal}
 use Rattle.dexpool.specs.Pools.{ArePools}

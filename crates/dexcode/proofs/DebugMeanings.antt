@@ -12,6 +12,7 @@ use Rattle.dexspec.specs.Numbers.{plus_one, uleb128, sleb128, uleb128p1}
 use Rattle.dexspec.specs.Texts.{Text, text_cmp}
 use Rattle.dexspec.specs.Symbols.{Symbol}
 use Rattle.dexspec.specs.Debug as symbolic
+use Rattle.dexcode.specs.Positions as recorded
 use Rattle.dexspec.specs.Mentions.{Mentions, optional_text, optional_type, operation_symbols, debug_symbols}
 use Rattle.dexspec.specs.Spellings.{text_index, type_index, optional_text_bytes, optional_type_bytes, operation_bytes, debug_bytes}
 use Rattle.dexspec.specs.Weight.{operands, debug_weight}
@@ -178,9 +179,9 @@ weights_are m d x h = omega (arith, weight_is d, same_count (DenotesText m) d.pa
 
 -- what an operation does to a position
 record MovesEqual (op x : symbolic.Operation) : Type 0 where
-  special : symbolic.is_special op ≡ symbolic.is_special x
-  address : symbolic.address_step op ≡ symbolic.address_step x
-  line : symbolic.line_step op ≡ symbolic.line_step x
+  special : recorded.is_special op ≡ recorded.is_special x
+  address : recorded.address_step op ≡ recorded.address_step x
+  line : recorded.line_step op ≡ recorded.line_step x
 
 moves_are : (m : Mentions) (op : Operation) (x : symbolic.Operation) → DenotesOperation m op x → MovesEqual (unindexed_operation op) x
 moves_are m (AdvancePc addresses) (symbolic.AdvancePc others) h = record { special = refl; address = h; line = refl }
@@ -192,22 +193,22 @@ moves_are m (RestartLocal register) (symbolic.RestartLocal other) h = record { s
 moves_are m SetPrologueEnd symbolic.SetPrologueEnd h = record { special = refl; address = refl; line = refl }
 moves_are m SetEpilogueBegin symbolic.SetEpilogueBegin h = record { special = refl; address = refl; line = refl }
 moves_are m (SetFile name) (symbolic.SetFile s) h = record { special = refl; address = refl; line = refl }
-moves_are m (Special opcode) (symbolic.Special other) h = record { special = refl; address = ap (λ (k : ℕ). symbolic.address_step (symbolic.Special k)) h; line = ap (λ (k : ℕ). symbolic.line_step (symbolic.Special k)) h }
+moves_are m (Special opcode) (symbolic.Special other) h = record { special = refl; address = ap (λ (k : ℕ). recorded.address_step (symbolic.Special k)) h; line = ap (λ (k : ℕ). recorded.line_step (symbolic.Special k)) h }
 moves_are m _ _ h = absurd h
 
 positions_from_are : (m : Mentions) (ops : List Operation) (xs : List symbolic.Operation) (address address' : ℕ) (line line' : ℤ) → address ≡ address' → line ≡ line' → AllZip (DenotesOperation m) ops xs
-    → symbolic.positions_from address line (map unindexed_operation ops) ≡ symbolic.positions_from address' line' xs
+    → recorded.positions_from address line (map unindexed_operation ops) ≡ recorded.positions_from address' line' xs
 positions_from_are m [] [] address address' line line' ea el h = refl
 positions_from_are m [] (x ∷ xs) address address' line line' ea el h = absurd h
 positions_from_are m (op ∷ ops) [] address address' line line' ea el h = absurd h
 positions_from_are m (op ∷ ops) (x ∷ xs) address address' line line' ea el h =
     let moves = moves_are m op x h.0 in
-    let at : address + symbolic.address_step (unindexed_operation op) ≡ address' + symbolic.address_step x = λ i. ea i + moves.address i in
-    let on : line +ℤ symbolic.line_step (unindexed_operation op) ≡ line' +ℤ symbolic.line_step x = λ i. el i +ℤ moves.line i in
-    let rest = positions_from_are m ops xs (address + symbolic.address_step (unindexed_operation op)) (address' + symbolic.address_step x) (line +ℤ symbolic.line_step (unindexed_operation op)) (line' +ℤ symbolic.line_step x) at on h.1 in
+    let at : address + recorded.address_step (unindexed_operation op) ≡ address' + recorded.address_step x = λ i. ea i + moves.address i in
+    let on : line +ℤ recorded.line_step (unindexed_operation op) ≡ line' +ℤ recorded.line_step x = λ i. el i +ℤ moves.line i in
+    let rest = positions_from_are m ops xs (address + recorded.address_step (unindexed_operation op)) (address' + recorded.address_step x) (line +ℤ recorded.line_step (unindexed_operation op)) (line' +ℤ recorded.line_step x) at on h.1 in
     λ i. if moves.special i then (at i, on i) ∷ rest i else rest i
 
-pub positions_are : (m : Mentions) (d : NumberedDebug) (x : symbolic.Debug) → DenotesDebug m d x → symbolic.positions (unindexed d) ≡ symbolic.positions x
+pub positions_are : (m : Mentions) (d : NumberedDebug) (x : symbolic.Debug) → DenotesDebug m d x → recorded.positions (unindexed d) ≡ recorded.positions x
 positions_are m d x h = positions_from_are m d.operations x.operations 0 0 (pos d.line_start) (pos x.line_start) refl (ap pos h.start_is) h.operations_are
 
 -- ---- other numbers

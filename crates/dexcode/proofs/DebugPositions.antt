@@ -2,7 +2,7 @@
 use Rattle.std.proofs.Common.{◌≡◌, ℕ, ◌+◌, ◌<◌, Bool, true, false, List, [], ◌∷◌, ◌++◌, length, drop, map, get_or, ap, sym, subst, ◌∙◌, append_assoc}
 use Rattle.std.specs.Prelude.{ℤ, ◌+ℤ◌, if◌then◌else◌}
 use Rattle.std.proofs.lemmas.List.{drop_more}
-use Rattle.dexspec.specs.Debug as symbolic
+use Rattle.dexcode.specs.Positions as recorded
 use Rattle.dexcode.specs.declared.debug_operation.Operation.{Operation}
 use Rattle.dexcode.specs.Debug.{unindexed_operation}
 
@@ -13,14 +13,14 @@ one_kept false found more rest whole p h e = ap (λ xs. xs ++ rest) e ∙ h
 
 -- an operation more
 pub position_more : (ops : List Operation) (i : ℕ) (d : Operation) (found more whole : List (ℕ × ℤ)) (address a : ℕ) (line l : ℤ) (t : Bool) → i < length ops
-    → found ++ symbolic.positions_from address line (map unindexed_operation (drop i ops)) ≡ whole
-    → a ≡ address + symbolic.address_step (unindexed_operation (get_or ops i d)) → l ≡ line +ℤ symbolic.line_step (unindexed_operation (get_or ops i d)) → t ≡ symbolic.is_special (unindexed_operation (get_or ops i d))
-    → more ≡ (if t then found ++ (a, l) ∷ [] else found) → more ++ symbolic.positions_from a l (map unindexed_operation (drop (i + 1) ops)) ≡ whole
+    → found ++ recorded.positions_from address line (map unindexed_operation (drop i ops)) ≡ whole
+    → a ≡ address + recorded.address_step (unindexed_operation (get_or ops i d)) → l ≡ line +ℤ recorded.line_step (unindexed_operation (get_or ops i d)) → t ≡ recorded.is_special (unindexed_operation (get_or ops i d))
+    → more ≡ (if t then found ++ (a, l) ∷ [] else found) → more ++ recorded.positions_from a l (map unindexed_operation (drop (i + 1) ops)) ≡ whole
 position_more ops i d found more whole address a line l t lt h ea el et e =
     let op = get_or ops i d in
     let front : drop i ops ≡ op ∷ drop (i + 1) ops = drop_more ops i d lt in
-    let here = subst (λ zs. found ++ symbolic.positions_from address line (map unindexed_operation zs) ≡ whole) front h in
-    let at = subst (λ (k : ℕ). found ++ (if symbolic.is_special (unindexed_operation op) then (k, line +ℤ symbolic.line_step (unindexed_operation op)) ∷ symbolic.positions_from k (line +ℤ symbolic.line_step (unindexed_operation op)) (map unindexed_operation (drop (i + 1) ops)) else symbolic.positions_from k (line +ℤ symbolic.line_step (unindexed_operation op)) (map unindexed_operation (drop (i + 1) ops))) ≡ whole) (sym ea) here in
-    let on = subst (λ (k : ℤ). found ++ (if symbolic.is_special (unindexed_operation op) then (a, k) ∷ symbolic.positions_from a k (map unindexed_operation (drop (i + 1) ops)) else symbolic.positions_from a k (map unindexed_operation (drop (i + 1) ops))) ≡ whole) (sym el) at in
-    let tested = subst (λ (b : Bool). found ++ (if b then (a, l) ∷ symbolic.positions_from a l (map unindexed_operation (drop (i + 1) ops)) else symbolic.positions_from a l (map unindexed_operation (drop (i + 1) ops))) ≡ whole) (sym et) on in
-    one_kept t found more (symbolic.positions_from a l (map unindexed_operation (drop (i + 1) ops))) whole (a, l) tested e
+    let here = subst (λ zs. found ++ recorded.positions_from address line (map unindexed_operation zs) ≡ whole) front h in
+    let at = subst (λ (k : ℕ). found ++ (if recorded.is_special (unindexed_operation op) then (k, line +ℤ recorded.line_step (unindexed_operation op)) ∷ recorded.positions_from k (line +ℤ recorded.line_step (unindexed_operation op)) (map unindexed_operation (drop (i + 1) ops)) else recorded.positions_from k (line +ℤ recorded.line_step (unindexed_operation op)) (map unindexed_operation (drop (i + 1) ops))) ≡ whole) (sym ea) here in
+    let on = subst (λ (k : ℤ). found ++ (if recorded.is_special (unindexed_operation op) then (a, k) ∷ recorded.positions_from a k (map unindexed_operation (drop (i + 1) ops)) else recorded.positions_from a k (map unindexed_operation (drop (i + 1) ops))) ≡ whole) (sym el) at in
+    let tested = subst (λ (b : Bool). found ++ (if b then (a, l) ∷ recorded.positions_from a l (map unindexed_operation (drop (i + 1) ops)) else recorded.positions_from a l (map unindexed_operation (drop (i + 1) ops))) ≡ whole) (sym et) on in
+    one_kept t found more (recorded.positions_from a l (map unindexed_operation (drop (i + 1) ops))) whole (a, l) tested e

@@ -1,7 +1,7 @@
 -- What numbered code means, as a function.
 use Rattle.std.proofs.Common.{◌≡◌, ℕ, ◌<◌, List, [], length, Option, Some, None, refl, ap, sym, subst}
 use Rattle.std.specs.Option.{IsSome, option_map_or}
-use Rattle.dexspec.specs.Symbols.{Pool, Strings, Types, Protos, Fields, Methods, Symbol, TextSymbol, TypeSymbol, ProtoSymbol, FieldSymbol, MethodSymbol, pool_of}
+use Rattle.dexspec.specs.Symbols.{Pool, StringPool, TypePool, ProtoPool, FieldPool, MethodPool, Symbol, TextSymbol, TypeSymbol, ProtoSymbol, FieldSymbol, MethodSymbol, pool_of}
 use Rattle.dexspec.specs.Pieces.{Piece, index_pool}
 use Rattle.dexspec.specs.Pieces as pieces
 use Rattle.dexspec.specs.Mentions.{Mentions}
@@ -42,11 +42,11 @@ module _ (m : Mentions) where
 
   symbol_encoded : (o : Option Pool) (n : ℕ) → IsSome o → n < count_of (kind_named o) m → (o ≡ Some (pool_of (symbol_at m (kind_named o) n))) × IsNumbered m n (symbol_at m (kind_named o) n)
   symbol_encoded None n some lt = absurd cc
-  symbol_encoded (Some Strings) n some lt = (refl, at_place m.texts n [] lt)
-  symbol_encoded (Some Types) n some lt = (refl, at_place m.types n [] lt)
-  symbol_encoded (Some Protos) n some lt = (refl, at_place m.protos n (record { return_type = []; parameters = [] }) lt)
-  symbol_encoded (Some Fields) n some lt = (refl, at_place m.fields n (record { class = []; name = []; type = [] }) lt)
-  symbol_encoded (Some Methods) n some lt = (refl, at_place m.methods n (record { class = []; name = []; proto = record { return_type = []; parameters = [] } }) lt)
+  symbol_encoded (Some StringPool) n some lt = (refl, at_place m.texts n [] lt)
+  symbol_encoded (Some TypePool) n some lt = (refl, at_place m.types n [] lt)
+  symbol_encoded (Some ProtoPool) n some lt = (refl, at_place m.protos n (record { return_type = []; parameters = [] }) lt)
+  symbol_encoded (Some FieldPool) n some lt = (refl, at_place m.fields n (record { class = []; name = []; type = [] }) lt)
+  symbol_encoded (Some MethodPool) n some lt = (refl, at_place m.methods n (record { class = []; name = []; proto = record { return_type = []; parameters = [] } }) lt)
 
   piece_known : (p : NumberedPiece) (q : Piece) → Denotes m p q → IsKnownPiece m p
   piece_known (Instruction us None) (pieces.Instruction xs None) h = tt

@@ -20,6 +20,7 @@ use Rattle.dexcode.specs.Debug.{NumberedDebug, IsFormedDebug, DenotesDebug, HasI
 use Rattle.dexcode.specs.Meaning.{code_in, debug_in, IsKnownCode, IsKnownDebug}
 use Rattle.dexcode.specs.Numbered.{NumberedItem, DenotesCode, handlers_of}
 use Rattle.dexcode.specs.Renumbering.{item_uses, IsMarkedUse, HasPlaces, HasImages, NumbersFit, renumbered_item}
+use Rattle.dexcode.specs.Positions as recorded
 
 -- ---- the bytes of code
 
@@ -85,7 +86,7 @@ DebugWeightIsDenoted = (m : Mentions) (d : NumberedDebug) (x : debugs.Debug) →
 
 -- it has the positions of the program that it denotes
 abbrev pub DebugPositionsAreDenoted : Type 0
-DebugPositionsAreDenoted = (m : Mentions) (d : NumberedDebug) (x : debugs.Debug) → DenotesDebug m d x → debugs.positions (unindexed d) ≡ debugs.positions x
+DebugPositionsAreDenoted = (m : Mentions) (d : NumberedDebug) (x : debugs.Debug) → DenotesDebug m d x → recorded.positions (unindexed d) ≡ recorded.positions x
 
 -- a debug program that is renumbered denotes what it denoted before
 abbrev pub RenumberedDebugDenotes : Type 0

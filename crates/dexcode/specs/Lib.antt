@@ -8,6 +8,7 @@ pub mod Laws
 pub mod Meaning
 pub mod Numbered
 pub mod Operations
+pub mod Positions
 pub mod Reading
 pub mod Renumbering
 pub mod internal

@@ -1,7 +1,7 @@
 //! The positions that a debug program records.
 
 ghost use Rattle.std.specs.Prelude.{◌≡◌, ◌^◌, ◌<◌, ◌≤◌, ◌≤ℤ◌, ◌+ℤ◌, pos, All, IfOk, OnOk, length};
-ghost use Rattle.dexspec.specs.Debug as symbolic;
+ghost use Rattle.dexcode.specs.Positions as recorded;
 ghost use Rattle.dexcode.specs.Debug.{unindexed, unindexed_operation, IsSpecial, IsFormedOperation};
 ghost use Rattle.dexcode.specs.internal.Writing.{positions_of, with_position};
 
@@ -13,7 +13,7 @@ use std::alloc::{AllocError, Global};
 // Returns the amount that an operation adds to the address.
 fn address_step(operation: &Operation) -> u64
     requires { IsSpecial operation.now }
-    ensures step { result ≡ symbolic.address_step (unindexed_operation operation.now) }
+    ensures step { result ≡ recorded.address_step (unindexed_operation operation.now) }
     ensures small { result < 2 ^ 32 }
 {
     match operation {
@@ -26,7 +26,7 @@ fn address_step(operation: &Operation) -> u64
 // Returns the amount that an operation adds to the line.
 fn line_step(operation: &Operation) -> i64
     requires { IsSpecial operation.now }
-    ensures step { result ≡ symbolic.line_step (unindexed_operation operation.now) }
+    ensures step { result ≡ recorded.line_step (unindexed_operation operation.now) }
     ensures low { pos 0 ≤ℤ (result +ℤ pos (2 ^ 31)) }
     ensures high { result ≤ℤ pos (2 ^ 31) }
 {
@@ -39,7 +39,7 @@ fn line_step(operation: &Operation) -> i64
 
 // Returns whether an operation records a position.
 fn is_special(operation: &Operation) -> bool
-    ensures { result ≡ symbolic.is_special (unindexed_operation operation.now) }
+    ensures { result ≡ recorded.is_special (unindexed_operation operation.now) }
 {
     match operation {
         Operation::Special(_) => true,
@@ -52,7 +52,7 @@ fn next_line(line: i64, operation: &Operation) -> i64
     requires special { IsSpecial operation.now }
     requires low { pos 0 ≤ℤ (line +ℤ pos (2 ^ 61)) }
     requires high { line ≤ℤ pos (2 ^ 62) }
-    ensures sum { result ≡ line +ℤ symbolic.line_step (unindexed_operation operation.now) }
+    ensures sum { result ≡ line +ℤ recorded.line_step (unindexed_operation operation.now) }
     ensures low { line ≤ℤ (result +ℤ pos (2 ^ 31)) }
     ensures high { result ≤ℤ (line +ℤ pos (2 ^ 31)) }
 {
@@ -102,7 +102,7 @@ fn positions_from(
 ///
 /// Source: "debug_info_item", "State machine" and "Special opcodes".
 pub fn positions(alloc: Global, debug: &Debug) -> Result<Vec<(u64, i64)>, AllocError>
-    ensures { IfOk result (λ found. found.items ≡ symbolic.positions (unindexed debug.now)) }
+    ensures { IfOk result (λ found. found.items ≡ recorded.positions (unindexed debug.now)) }
 {
     positions_from(alloc, debug.line_start, &debug.operations)
 }

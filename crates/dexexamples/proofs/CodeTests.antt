@@ -5,7 +5,7 @@ use Rattle.std.specs.Int.{w8, w16, w32, w64}
 use Rattle.std.specs.List.{flat_map, list_all, AllZip}
 use Rattle.std.proofs.lemmas.Int.{ints}
 use Rattle.dexspec.specs.Texts.{same_text}
-use Rattle.dexspec.specs.Symbols.{Pool, Strings, Types, Protos, Fields, Methods, pool_of}
+use Rattle.dexspec.specs.Symbols.{Pool, StringPool, TypePool, ProtoPool, FieldPool, MethodPool, pool_of}
 use Rattle.dexspec.specs.Pieces.{Cut, AreCut, piece_size, has_right_targets, is_payload_ident, is_instruction_start, all_of_option, Piece, Instruction, Payload, units_of, index_pool, index_in, with_index, DenotesPiece, cut_units}
 use Rattle.dexspec.specs.Debug.{Operation, AdvancePc, AdvanceLine, StartLocal, StartLocalExtended, EndLocal, RestartLocal, SetPrologueEnd, SetEpilogueBegin, SetFile, Special, Debug}
 use Rattle.dexspec.specs.Code.{Handler, Try, Code, IsStart, AreApart, handlers_of, handlers_weight, most_handlers}
@@ -65,19 +65,19 @@ cut_by at us (c ∷ cs) e =
     (eqb-true c.unit at (and_first here (size && rest) e), size_by (piece_size at us) c.units (and_first size rest others), cut_by (at + c.units) (drop c.units us) cs (and_second size rest others))
 
 abbrev is_pool : Option Pool → Pool → Bool
-is_pool (Some Strings) Strings = true
-is_pool (Some Types) Types = true
-is_pool (Some Protos) Protos = true
-is_pool (Some Fields) Fields = true
-is_pool (Some Methods) Methods = true
+is_pool (Some StringPool) StringPool = true
+is_pool (Some TypePool) TypePool = true
+is_pool (Some ProtoPool) ProtoPool = true
+is_pool (Some FieldPool) FieldPool = true
+is_pool (Some MethodPool) MethodPool = true
 is_pool _ _ = false
 
 pool_by : (o : Option Pool) (p : Pool) → is_pool o p ≡ true → o ≡ Some p
-pool_by (Some Strings) Strings e = refl
-pool_by (Some Types) Types e = refl
-pool_by (Some Protos) Protos e = refl
-pool_by (Some Fields) Fields e = refl
-pool_by (Some Methods) Methods e = refl
+pool_by (Some StringPool) StringPool e = refl
+pool_by (Some TypePool) TypePool e = refl
+pool_by (Some ProtoPool) ProtoPool e = refl
+pool_by (Some FieldPool) FieldPool e = refl
+pool_by (Some MethodPool) MethodPool e = refl
 pool_by _ _ e = absurd cc
 
 denied : (b : Bool) → not b ≡ true → b ≡ false

@@ -127,18 +127,18 @@ pub class_data_at : ClassDataAt whole_p 254 class_data
 unfolding whole_p uint_at ushort_at number_of
 class_data_at = record {
   in_data = omega arith;
-  static_count_size = 1;
-  instance_count_size = 1;
-  direct_count_size = 1;
-  virtual_count_size = 1;
-  static_fields_size = 0;
-  instance_fields_size = 0;
-  direct_methods_size = 4;
-  virtual_methods_size = 0;
-  static_count = record { within = omega arith; spelled = byte_is 0 (omega arith) };
-  instance_count = record { within = omega arith; spelled = byte_is 0 (omega arith) };
-  direct_count = record { within = omega arith; spelled = byte_is 1 (omega arith) };
-  virtual_count = record { within = omega arith; spelled = byte_is 0 (omega arith) };
+  counts_bytes = 4;
+  static_fields_bytes = 0;
+  instance_fields_bytes = 0;
+  direct_methods_bytes = 4;
+  virtual_methods_bytes = 0;
+  counts = (
+    1,
+    3,
+    record { within = omega arith; spelled = byte_is 0 (omega arith) },
+    (1, 2, record { within = omega arith; spelled = byte_is 0 (omega arith) }, (1, 1, record { within = omega arith; spelled = byte_is 1 (omega arith) }, (1, 0, record { within = omega arith; spelled = byte_is 0 (omega arith) }, refl, refl), refl), refl),
+    refl,
+  );
   static_fields = refl;
   instance_fields = refl;
   direct_methods = (

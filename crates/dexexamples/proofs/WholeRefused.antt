@@ -4,8 +4,8 @@ use Rattle.std.specs.Prelude.{All}
 use Rattle.std.proofs.lemmas.List.Elements.{All-from_recursion}
 use Rattle.dexspec.specs.Bytes.{number_of, uint_at}
 use Rattle.dexspec.specs.Header.{IsDigit, HasVersion, HasLengths, HasChecksum, adler_32}
-use Rattle.dexspec.specs.Conditions.{Condition, number}
-use Rattle.dexspec.specs.Accepted.{rows_checked, Holds, HoldBelow, place, IsRefused}
+use Rattle.dexspec.specs.Conditions.{Condition}
+use Rattle.dexspec.specs.Accepted.{number, rows_checked, Holds, HoldBelow, place, IsRefused}
 use Rattle.dexexamples.specs.Whole.{whole_a, changed_a, cut_a, later_a}
 
 -- a condition without rows that is the first to fail

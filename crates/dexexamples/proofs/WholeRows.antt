@@ -107,8 +107,8 @@ type_follows (suc j) e = absurd (omega arith)
 
 pub types : HoldsThroughout Condition.Types whole_a
 unfolding whole_a uint_at number_of
-types zero row = record { type = codes "LA;"; is = type_0; follows = λ j e. absurd (omega arith) }
-types (suc zero) row = record { type = object; is = type_1; follows = type_follows }
+types zero row = record { item = codes "LA;"; is = type_0; follows = λ j e. absurd (omega arith) }
+types (suc zero) row = record { item = object; is = type_1; follows = type_follows }
 types (suc (suc r)) row = absurd (omega arith)
 
 -- ---- conditions 13 to 15: there are no such rows

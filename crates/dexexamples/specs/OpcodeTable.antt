@@ -2,7 +2,7 @@
 -- index, dots if the opcode is unused, and all mnemonics in one text.
 use Rattle.std.specs.Prelude.{ℕ, List, ◌++◌, Option, Some, None, codes}
 use Rattle.std.specs.List.{flat_map, range_with_len}
-use Rattle.dexspec.specs.Symbols.{Pool, Strings, Types, Protos, Fields, Methods}
+use Rattle.dexspec.specs.Symbols.{Pool, StringPool, TypePool, ProtoPool, FieldPool, MethodPool}
 use Rattle.dexspec.specs.Opcodes.{Format, Opcode, opcode_of, F10x, F12x, F11n, F11x, F10t, F20t, F22x, F21t, F21s, F21h, F21c, F23x, F22b, F22s, F22t, F22c, F30t, F32x, F31i, F31t, F31c, F35c, F3rc, F51l}
 
 abbrev pub opcode_numbers : List ℕ
@@ -36,11 +36,11 @@ letters F51l = codes "51l"
 
 abbrev pub index_letter_of : Option Pool → List ℕ
 index_letter_of None = codes "-"
-index_letter_of (Some Strings) = codes "s"
-index_letter_of (Some Types) = codes "t"
-index_letter_of (Some Protos) = codes "p"
-index_letter_of (Some Fields) = codes "f"
-index_letter_of (Some Methods) = codes "m"
+index_letter_of (Some StringPool) = codes "s"
+index_letter_of (Some TypePool) = codes "t"
+index_letter_of (Some ProtoPool) = codes "p"
+index_letter_of (Some FieldPool) = codes "f"
+index_letter_of (Some MethodPool) = codes "m"
 
 abbrev format_of : Option Opcode → List ℕ
 format_of None = codes "..."

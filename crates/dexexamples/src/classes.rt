@@ -2,7 +2,7 @@
 
 ghost use Rattle.std.specs.Prelude.{◌≡◌, [], ◌∷◌, codes};
 ghost use Rattle.dexspec.specs.Depth.{in_class_order};
-ghost use Rattle.dexspec.specs.Flags.{flags_text, OfClass, OfField, OfMethod};
+ghost use Rattle.dexflags.specs.Flags.{flags_text, OfClass, OfField, OfMethod};
 ghost use Rattle.dexspec.specs.Lists.{rank};
 ghost use Rattle.dexspec.specs.Mentions.{mentions};
 ghost use Rattle.dexspec.specs.Stripping.{strip};

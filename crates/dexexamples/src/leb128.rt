@@ -2,7 +2,8 @@
 
 ghost use Rattle.std.specs.Prelude.{◌≡◌, ℕ, ℤ, [], ◌∷◌, None, Some, codes, pos, negsuc};
 ghost use Rattle.dexspec.specs.Header.{adler_32};
-ghost use Rattle.dexspec.specs.Numbers.{IsUleb128, IsSleb128, IsUleb128p1, IsCutOff, uleb128, sleb128, uleb128p1};
+ghost use Rattle.dexspec.specs.Numbers.{IsUleb128, IsSleb128, IsUleb128p1, uleb128, sleb128, uleb128p1};
+ghost use Rattle.dexleb.specs.Leb.{IsCutOff};
 
 /// One pair of bytes read as each of the three kinds.
 pub fn two_bytes()

@@ -7,7 +7,7 @@ use Rattle.std.specs.Prelude.{vec_len, vec_capacity, Result, Ok, Err, IsErr}
 use Rattle.std.specs.Global.{Vec}
 use Rattle.std.specs.List.{join_with_byte}
 use Rattle.bitflags.specs.Sets.{Row}
-use Rattle.dexspec.specs.Flags.{has_bit}
+use Rattle.dexflags.specs.Flags.{has_bit}
 use Rattle.dexflags.specs.internal.FlagNames.{Grows, listed, set_names, shown_name}
 use Rattle.dexflags.proofs.Growing.{Growing, kept_on, prefix_of_prefix}
 

@@ -1,7 +1,7 @@
 //! Access flags of classes, fields and methods.
 
 ghost use Rattle.std.specs.Prelude.{⊤, ◌≡◌, [], ◌∷◌, codes};
-ghost use Rattle.dexspec.specs.Flags.{OfClass, OfField, OfMethod, flags_text};
+ghost use Rattle.dexflags.specs.Flags.{OfClass, OfField, OfMethod, flags_text};
 ghost use Rattle.dexspec.specs.internal.Writing.{Puts};
 
 use crate::flags_text::put_text;

@@ -3,7 +3,7 @@
 ghost use Rattle.std.specs.Prelude.{◌≡◌, ◌<◌, false, map};
 ghost use Rattle.std.specs.Fmt.{digits, digit_glyph};
 ghost use Rattle.std.specs.List.{join_with_byte};
-ghost use Rattle.dexspec.specs.Flags.{has_bit};
+ghost use Rattle.dexflags.specs.Flags.{has_bit};
 ghost use Rattle.dexspec.specs.internal.Writing.{Puts};
 ghost use Rattle.dexflags.specs.internal.FlagNames.{Grows, listed, shown_byte, set_names, table_text, IsSingleBit, HasSingleBits};
 

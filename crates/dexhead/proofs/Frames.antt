@@ -3,8 +3,8 @@ use Rattle.std.proofs.Common.{◌≡◌, ◌≢◌, ◌⊎◌, inl, inr, ℕ, ze
 use Rattle.dexspec.specs.Header.{Table, StringIds, TypeIds, ProtoIds, FieldIds, MethodIds, ClassDefs, tables, table_size, table_off, row_size, data_off, version, HasSize, HasMagic, HasVersion, HasLengths, HasEndian, HasNoLink, HasChecksum, HasSignature}
 use Rattle.dexspec.specs.Sections.{AreLaidOut, HasLayout, HasMap}
 use Rattle.dexspec.specs.Rows.{row_at}
-use Rattle.dexspec.specs.Conditions.{Condition, number}
-use Rattle.dexspec.specs.Accepted.{rows_checked, place, Holds, HoldBelow, IsFrame, IsRefused}
+use Rattle.dexspec.specs.Conditions.{Condition}
+use Rattle.dexspec.specs.Accepted.{number, rows_checked, place, Holds, HoldBelow, IsFrame, IsRefused}
 use Rattle.dexhead.specs.declared.refusal.Refusal.{Refusal}
 use Rattle.dexhead.specs.internal.Refusals.{IsEarly}
 

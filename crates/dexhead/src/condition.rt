@@ -1,7 +1,7 @@
 //! The conditions that a file has to meet, by name and number.
 
 ghost use Rattle.std.specs.Prelude.{◌≡◌, ◌⊎◌, ◌<◌, IfSome, IfNone};
-ghost use Rattle.dexspec.specs.Conditions as conditions;
+ghost use Rattle.dexspec.specs.Accepted as accepted;
 ghost use Rattle.dexhead.specs.Conditions.{condition_meant, condition_name};
 
 use std::fmt;
@@ -62,14 +62,14 @@ pub enum Condition {
 impl Condition {
     /// The number of the condition, from 1 to 23.
     pub fn number(self) -> u8
-        ensures { result ≡ conditions.number (condition_meant self) }
+        ensures { result ≡ accepted.number (condition_meant self) }
     {
         self as u8
     }
 
     /// The condition with a number, or `None` if none has it.
     pub fn of(number: u8) -> Option<Condition>
-        ensures some { IfSome result (λ condition. conditions.number (condition_meant condition)
+        ensures some { IfSome result (λ condition. accepted.number (condition_meant condition)
             ≡ number) }
         ensures none { IfNone result ((number ≡ 0) ⊎ (23 < number)) }
     {

@@ -4,8 +4,7 @@ ghost use Rattle.std.specs.Prelude.{◌≡◌, ◌↔◌, ℕ, ◌+◌, ◌*◌,
 ghost use Rattle.dexspec.specs.Header.{table_size, table_off, row_size, data_off, HasChecksum, HasSignature};
 ghost use Rattle.dexspec.specs.Rows.{row_at};
 ghost use Rattle.dexspec.specs.Sections.{IsInData};
-ghost use Rattle.dexspec.specs.Accepted.{HoldBelow, IsFrame, IsRefused};
-ghost use Rattle.dexspec.specs.Conditions.{number};
+ghost use Rattle.dexspec.specs.Accepted.{number, HoldBelow, IsFrame, IsRefused};
 ghost use Rattle.dexhead.specs.Conditions.{condition_meant};
 ghost use Rattle.dexhead.specs.internal.Refusals.{IsEarly};
 ghost use Rattle.dexhead.specs.Tables.{meant};

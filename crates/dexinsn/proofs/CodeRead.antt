@@ -3,7 +3,8 @@ use Rattle.std.proofs.Common.{◌≡◌, ℕ, ◌+◌, ◌*◌, ◌%◌, ◌^◌
 use Rattle.std.proofs.lemmas.List.{drop-drop}
 use Rattle.dexspec.specs.Bytes.{uint_at, ushorts_at}
 use Rattle.dexspec.specs.Sections.{IsInData}
-use Rattle.dexspec.specs.Pieces.{BreaksAt, Cut, IsCode}
+use Rattle.dexspec.specs.Pieces.{Cut, IsCode}
+use Rattle.dexinsn.specs.Split.{BreaksAt}
 use Rattle.dexinsn.specs.declared.code.CodeFault.TheVariants.{Piece}
 use Rattle.dexinsn.specs.Units.{units_in}
 use Rattle.dexinsn.specs.Reading.{HasCodeRoom, AreUnitsAt}

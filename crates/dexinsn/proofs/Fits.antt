@@ -7,7 +7,7 @@ use Rattle.std.proofs.lemmas.List.{take_more, append-nil, get_or-replicate}
 use Rattle.std.proofs.lemmas.List.FromFn.{get_or-map-range_with_len}
 use Rattle.std.proofs.lemmas.List.Concat.{flat_map-append}
 use Rattle.std.proofs.lemmas.List.Elements.{All-nil, All-cons, All-head, All-tail, All-push, All-weaker, All-get_or, Contains-append_left, Contains-append_right, Contains-append_cases}
-use Rattle.dexspec.specs.Symbols.{Pool, Strings, Types, Protos, Fields, Methods, Symbol, TextSymbol, TypeSymbol, ProtoSymbol, FieldSymbol, MethodSymbol}
+use Rattle.dexspec.specs.Symbols.{Pool, StringPool, TypePool, ProtoPool, FieldPool, MethodPool, Symbol, TextSymbol, TypeSymbol, ProtoSymbol, FieldSymbol, MethodSymbol}
 use Rattle.dexspec.specs.Mentions.{Mentions}
 use Rattle.dexspec.specs.Opcodes.{Opcode, opcode_of, opcode_runs}
 use Rattle.dexspec.specs.Pieces.{Piece, index_pool, is_wide_index, is_payload_ident, low_byte, with_index}
@@ -267,7 +267,7 @@ greatest_for us vs is js g s same_us same_is h =
 
 -- of the opcodes with the index of a text there are two
 names_text : Option Pool → ℕ → Bool
-names_text (Some Strings) op = op == 0x1a || op == 0x1b
+names_text (Some StringPool) op = op == 0x1a || op == 0x1b
 names_text _ op = true
 
 abbrev is_string_op : ℕ → Bool
@@ -285,20 +285,20 @@ either_op : (a b : Bool) (op : ℕ) → (op == 0x1a) ≡ a → b ≡ false → (
 either_op true b op is narrow h = eqb-true op 0x1a is
 either_op false b op is narrow h = absurd cc
 
-const_of : (op : ℕ) → names_text (Some Strings) op ≡ true → (op == 0x1b) ≡ false → op ≡ 0x1a
+const_of : (op : ℕ) → names_text (Some StringPool) op ≡ true → (op == 0x1b) ≡ false → op ≡ 0x1a
 unfolding names_text
 const_of op h wide = either_op (op == 0x1a) (op == 0x1b) op refl wide h
 
-const_by : (o : Option Pool) (op : ℕ) → o ≡ Some Strings → names_text o op ≡ true → (op == 0x1b) ≡ false → op ≡ 0x1a
+const_by : (o : Option Pool) (op : ℕ) → o ≡ Some StringPool → names_text o op ≡ true → (op == 0x1b) ≡ false → op ≡ 0x1a
 const_by None op e h wide = absurd cc
 const_by (Some pool) op e h wide = const_of op (subst (λ o. names_text o op ≡ true) e h) wide
 
-pool_under : (t : Bool) (o : Option Pool) → cond t None o ≡ Some Strings → o ≡ Some Strings
+pool_under : (t : Bool) (o : Option Pool) → cond t None o ≡ Some StringPool → o ≡ Some StringPool
 pool_under true o e = absurd cc
 pool_under false o e = e
 
 -- the index of a text that has 16 bits is that of a const-string
-const_string : (us : List ℕ) → index_pool us ≡ Some Strings → is_wide_index us ≡ false → low_byte (slice_index us 0) ≡ 0x1a
+const_string : (us : List ℕ) → index_pool us ≡ Some StringPool → is_wide_index us ≡ false → low_byte (slice_index us 0) ≡ 0x1a
 const_string us pool narrow =
     let named = pool_under (is_payload_ident (slice_index us 0)) (option_and_then (λ (o : Opcode). o.index) (opcode_of (low_byte (slice_index us 0)))) pool in
     const_by (option_and_then (λ (o : Opcode). o.index) (opcode_of (low_byte (slice_index us 0)))) (low_byte (slice_index us 0)) named (string_op (low_byte (slice_index us 0)) (omega arith)) narrow
@@ -306,10 +306,10 @@ const_string us pool narrow =
 narrow_const : (us : List ℕ) → low_byte (slice_index us 0) ≡ 0x1a → is_wide_index us ≡ false
 narrow_const us e = ap (λ (n : ℕ). n == 0x1b) e
 
-text_const : (us : List ℕ) → index_pool us ≡ Some Strings → kind_in us ≡ kinds.Text
+text_const : (us : List ℕ) → index_pool us ≡ Some StringPool → kind_in us ≡ kinds.Text
 text_const us e = ap (λ (o : Option Pool). option_map_or kind_of_pool o kinds.Text) e
 
-short_const : (us : List ℕ) → index_pool us ≡ Some Strings → low_byte (slice_index us 0) ≡ 0x1a → is_short_string us ≡ true
+short_const : (us : List ℕ) → index_pool us ≡ Some StringPool → low_byte (slice_index us 0) ≡ 0x1a → is_short_string us ≡ true
 short_const us pool op = ap (λ k. is_text k && not (is_wide_index us)) (text_const us pool) ∙ ap not (narrow_const us op)
 
 -- ---- what short strings denote
@@ -350,10 +350,10 @@ meant_by : (m : Mentions) (us xs : List ℕ) (n : ℕ) (t : Symbol) → Denotes 
 meant_by m us xs n (TextSymbol s) h short =
     let narrow : is_wide_index us ≡ false = not_back (is_wide_index us) (and_parts (is_text (kind_in us)) (not (is_wide_index us)) short).1 in
     (s, h.2, xs, refl, ap (λ (ys : List ℕ). low_byte (slice_index ys 0)) (sym h.0) ∙ const_string us h.1 narrow)
-meant_by m us xs n (TypeSymbol s) h short = let bad : false ≡ true = no_text us Types h.1 short in absurd cc
-meant_by m us xs n (ProtoSymbol s) h short = let bad : false ≡ true = no_text us Protos h.1 short in absurd cc
-meant_by m us xs n (FieldSymbol s) h short = let bad : false ≡ true = no_text us Fields h.1 short in absurd cc
-meant_by m us xs n (MethodSymbol s) h short = let bad : false ≡ true = no_text us Methods h.1 short in absurd cc
+meant_by m us xs n (TypeSymbol s) h short = let bad : false ≡ true = no_text us TypePool h.1 short in absurd cc
+meant_by m us xs n (ProtoSymbol s) h short = let bad : false ≡ true = no_text us ProtoPool h.1 short in absurd cc
+meant_by m us xs n (FieldSymbol s) h short = let bad : false ≡ true = no_text us FieldPool h.1 short in absurd cc
+meant_by m us xs n (MethodSymbol s) h short = let bad : false ≡ true = no_text us MethodPool h.1 short in absurd cc
 
 meant_piece : (m : Mentions) (p : NumberedPiece) (q : Piece) (n : ℕ) → Denotes m p q → Contains (short_string p) n → Meant m n q
 meant_piece m (Instruction us None) q n h c = absurd (Contains-nil n c)

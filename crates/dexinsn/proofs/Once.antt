@@ -6,7 +6,8 @@ use Rattle.std.specs.Option.{option_map}
 use Rattle.std.proofs.lemmas.List.Elements.{All-head, All-tail}
 use Rattle.std.proofs.lemmas.List.{nil_from_length}
 use Rattle.std.proofs.lemmas.Option.{same_Some}
-use Rattle.dexspec.specs.Pieces.{Cut, AreCut, BreaksAt, IsCode, has_right_targets, piece_size}
+use Rattle.dexspec.specs.Pieces.{Cut, AreCut, IsCode, has_right_targets, piece_size}
+use Rattle.dexinsn.specs.Split.{BreaksAt}
 use Rattle.std.specs.Prelude.{Vec, IfOk, IfErr}
 use Rattle.std.specs.declared.alloc.Global.{Global}
 use Rattle.dexinsn.specs.declared.code.Cut.{Cut as CutOfCode}

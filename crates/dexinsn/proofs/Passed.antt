@@ -8,7 +8,8 @@ use Rattle.std.proofs.lemmas.List.{drop-drop, drop_all, length-replicate}
 use Rattle.std.proofs.lemmas.List.Elements.{All-nil, All-push, All-head, All-tail, All-append}
 use Rattle.std.proofs.lemmas.List.Folds.{list_any-append}
 use Rattle.dexspec.specs.Mentions.{Mentions}
-use Rattle.dexspec.specs.Pieces.{Cut, AreCut, BreaksAt, index_pool, piece_size}
+use Rattle.dexspec.specs.Pieces.{Cut, AreCut, index_pool, piece_size}
+use Rattle.dexinsn.specs.Split.{BreaksAt}
 use Rattle.dexinsn.specs.internal.LongSwitches.{HasBit}
 use Rattle.dexinsn.specs.Stored.{FitsAt}
 use Rattle.dexinsn.specs.Reading.{IsInRange, indices_at, with_index_at}

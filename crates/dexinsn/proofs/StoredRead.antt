@@ -6,7 +6,7 @@ use Rattle.std.proofs.lemmas.List.{drop-drop, get_or-take, length-take-le}
 use Rattle.std.proofs.lemmas.List.Elements.{All-nil, All-cons, All-head, All-tail}
 use Rattle.dexspec.specs.Bytes.{uint_at}
 use Rattle.dexspec.specs.Opcodes.{opcode_of}
-use Rattle.dexspec.specs.Symbols.{Pool, Strings, Types, Protos, Fields, Methods, Proto, Symbol, TextSymbol, TypeSymbol, ProtoSymbol, FieldSymbol, MethodSymbol, pool_of}
+use Rattle.dexspec.specs.Symbols.{Pool, StringPool, TypePool, ProtoPool, FieldPool, MethodPool, Proto, Symbol, TextSymbol, TypeSymbol, ProtoSymbol, FieldSymbol, MethodSymbol, pool_of}
 use Rattle.dexspec.specs.Rows.{SymbolRow}
 use Rattle.dexspec.specs.Mentions.{Mentions}
 use Rattle.dexspec.specs.Pieces.{Cut, AreCut, IsCode, Piece, DenotesPiece, piece_size, cut_units, index_pool, index_in, is_wide_index, is_payload_ident, with_index, low_byte, two_units}
@@ -125,27 +125,27 @@ no_proto = record { return_type = []; parameters = [] }
 
 -- the symbol of a number, and one of nothing where there is none
 symbol_at : Mentions → Pool → ℕ → Symbol
-symbol_at m Strings n = TextSymbol (get_or m.texts n [])
-symbol_at m Types n = TypeSymbol (get_or m.types n [])
-symbol_at m Protos n = ProtoSymbol (get_or m.protos n no_proto)
-symbol_at m Fields n = FieldSymbol (get_or m.fields n (record { class = []; name = []; type = [] }))
-symbol_at m Methods n = MethodSymbol (get_or m.methods n (record { class = []; name = []; proto = no_proto }))
+symbol_at m StringPool n = TextSymbol (get_or m.texts n [])
+symbol_at m TypePool n = TypeSymbol (get_or m.types n [])
+symbol_at m ProtoPool n = ProtoSymbol (get_or m.protos n no_proto)
+symbol_at m FieldPool n = FieldSymbol (get_or m.fields n (record { class = []; name = []; type = [] }))
+symbol_at m MethodPool n = MethodSymbol (get_or m.methods n (record { class = []; name = []; proto = no_proto }))
 
 symbol_pool : (m : Mentions) (pool : Pool) (n : ℕ) → pool_of (symbol_at m pool n) ≡ pool
 unfolding symbol_at
-symbol_pool m Strings n = refl
-symbol_pool m Types n = refl
-symbol_pool m Protos n = refl
-symbol_pool m Fields n = refl
-symbol_pool m Methods n = refl
+symbol_pool m StringPool n = refl
+symbol_pool m TypePool n = refl
+symbol_pool m ProtoPool n = refl
+symbol_pool m FieldPool n = refl
+symbol_pool m MethodPool n = refl
 
 symbol_row : (b : List ℕ) (m : Mentions) (pool : Pool) (n : ℕ) → ArePools b m → n < count_of (kind_of_pool pool) m → SymbolRow b n (symbol_at m pool n)
 unfolding symbol_at
-symbol_row b m Strings n h lt = h.texts_are.each n [] (omega (arith, lt, h.texts_are.count))
-symbol_row b m Types n h lt = h.types_are.each n [] (omega (arith, lt, h.types_are.count))
-symbol_row b m Protos n h lt = h.protos_are.each n no_proto (omega (arith, lt, h.protos_are.count))
-symbol_row b m Fields n h lt = h.fields_are.each n (record { class = []; name = []; type = [] }) (omega (arith, lt, h.fields_are.count))
-symbol_row b m Methods n h lt = h.methods_are.each n (record { class = []; name = []; proto = no_proto }) (omega (arith, lt, h.methods_are.count))
+symbol_row b m StringPool n h lt = h.texts_are.each n [] (omega (arith, lt, h.texts_are.count))
+symbol_row b m TypePool n h lt = h.types_are.each n [] (omega (arith, lt, h.types_are.count))
+symbol_row b m ProtoPool n h lt = h.protos_are.each n no_proto (omega (arith, lt, h.protos_are.count))
+symbol_row b m FieldPool n h lt = h.fields_are.each n (record { class = []; name = []; type = [] }) (omega (arith, lt, h.fields_are.count))
+symbol_row b m MethodPool n h lt = h.methods_are.each n (record { class = []; name = []; proto = no_proto }) (omega (arith, lt, h.methods_are.count))
 
 any_default : {X : Type 0} (xs : List X) (n : ℕ) (d e : X) → n < length xs → get_or xs n d ≡ get_or xs n e
 any_default [] n d e lt = absurd (omega arith)
@@ -154,11 +154,11 @@ any_default (x ∷ xs) (suc n) d e lt = any_default xs n d e (omega arith)
 
 symbol_numbered : (m : Mentions) (pool : Pool) (n : ℕ) → n < count_of (kind_of_pool pool) m → IsNumbered m n (symbol_at m pool n)
 unfolding symbol_at
-symbol_numbered m Strings n lt = record { within = lt; is = λ d. any_default m.texts n d [] lt }
-symbol_numbered m Types n lt = record { within = lt; is = λ d. any_default m.types n d [] lt }
-symbol_numbered m Protos n lt = record { within = lt; is = λ d. any_default m.protos n d no_proto lt }
-symbol_numbered m Fields n lt = record { within = lt; is = λ d. any_default m.fields n d (record { class = []; name = []; type = [] }) lt }
-symbol_numbered m Methods n lt = record { within = lt; is = λ d. any_default m.methods n d (record { class = []; name = []; proto = no_proto }) lt }
+symbol_numbered m StringPool n lt = record { within = lt; is = λ d. any_default m.texts n d [] lt }
+symbol_numbered m TypePool n lt = record { within = lt; is = λ d. any_default m.types n d [] lt }
+symbol_numbered m ProtoPool n lt = record { within = lt; is = λ d. any_default m.protos n d no_proto lt }
+symbol_numbered m FieldPool n lt = record { within = lt; is = λ d. any_default m.fields n d (record { class = []; name = []; type = [] }) lt }
+symbol_numbered m MethodPool n lt = record { within = lt; is = λ d. any_default m.methods n d (record { class = []; name = []; proto = no_proto }) lt }
 
 -- a row is one of those that are counted
 row_counted : (b : List ℕ) (m : Mentions) (n : ℕ) (s : Symbol) → ArePools b m → SymbolRow b n s → n < count_of (kind_of_pool (pool_of s)) m

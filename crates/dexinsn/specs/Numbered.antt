@@ -4,7 +4,7 @@ use Rattle.std.specs.Prelude.{◌≡◌, ℕ, ◌^◌, ◌<◌, if◌then◌else
 use Rattle.std.specs.List.{AllZip, flat_map}
 use Rattle.std.specs.Option.{IsSome, option_map_or}
 use Rattle.dexspec.specs.Bytes.{ushort}
-use Rattle.dexspec.specs.Symbols.{Pool, Strings, Types, Protos, Fields, Methods, pool_of}
+use Rattle.dexspec.specs.Symbols.{Pool, StringPool, TypePool, ProtoPool, FieldPool, MethodPool, pool_of}
 use Rattle.dexspec.specs.Mentions.{Mentions}
 use Rattle.dexspec.specs.Pieces.{Piece, index_pool, is_wide_index, with_index}
 use Rattle.dexspec.specs.Pieces as symbolic
@@ -43,11 +43,11 @@ Denote m ps qs = AllZip (Denotes m) ps qs
 
 -- the kind of symbols that a pool has
 abbrev pub kind_of_pool : Pool → SymbolKind
-kind_of_pool Strings = kinds.Text
-kind_of_pool Types = kinds.Typ
-kind_of_pool Protos = kinds.Proto
-kind_of_pool Fields = kinds.Field
-kind_of_pool Methods = kinds.Method
+kind_of_pool StringPool = kinds.Text
+kind_of_pool TypePool = kinds.Typ
+kind_of_pool ProtoPool = kinds.Proto
+kind_of_pool FieldPool = kinds.Field
+kind_of_pool MethodPool = kinds.Method
 
 -- the kind of symbol that the index of an instruction names; a text for one without an index
 abbrev pub kind_in : List ℕ → SymbolKind

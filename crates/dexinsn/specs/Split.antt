@@ -1,11 +1,11 @@
 -- What the cuts and faults of the code mean.
-use Rattle.std.specs.Prelude.{Result, Ok, Err, ◌≡◌, Vec, ℕ, ◌+◌, Bool, not, List, [], ◌∷◌, drop, map, slice_index, Option, Some, ℤ, pos, ◌+ℤ◌, nat_abs, ◌&&◌}
+use Rattle.std.specs.Prelude.{Result, Ok, Err, ◌≡◌, Vec, ℕ, ◌+◌, ◌<◌, Bool, not, List, [], ◌∷◌, length, drop, map, slice_index, Option, Some, None, ℤ, pos, ◌+ℤ◌, nat_abs, ◌&&◌}
 use Rattle.std.specs.List.{find, list_any, list_all}
 use Rattle.std.specs.declared.alloc.Global.{Global}
 use Rattle.std.specs.Option.{option_map}
 use Rattle.std.specs.Ordering.{int_eq}
 use Rattle.dexspec.specs.Opcodes.{Format}
-use Rattle.dexspec.specs.Pieces.{all_of_option, IsCode, branch_offset, is_right_target, Cut, AreCut, BreaksAt, has_right_targets, is_instruction_start, is_payload_start, payload_targets, piece_size}
+use Rattle.dexspec.specs.Pieces.{all_of_option, IsCode, branch_offset, is_right_target, Cut, AreCut, has_right_targets, is_instruction_start, is_payload_start, payload_targets, piece_size}
 use Rattle.dexinsn.specs.declared.code.Cut.{Cut as CutOfCode}
 use Rattle.dexinsn.specs.declared.code.CodeFault.{CodeFault}
 use Rattle.dexinsn.specs.declared.code.CodeFault.TheVariants.{Empty, Piece, Target, Memory}
@@ -44,6 +44,13 @@ abbrev pub branches_right : List ℕ → List Cut → ℕ → Format → Bool
 branches_right us cs at format = all_of_option (is_right_target us cs at format) (branch_offset format us at)
 
 -- ---- faults
+
+-- the units are cut into pieces up to unit n, where no piece begins
+pub record BreaksAt (us : List ℕ) (n : ℕ) : Type 0 where
+  pub cuts : List Cut
+  pub within : n < length us
+  pub cut : AreCut 0 us cuts (drop n us)
+  pub none : piece_size n (drop n us) ≡ None
 
 -- the unit of the first of these pieces with a wrong target, if there is one
 abbrev pub first_bad_target_of : List ℕ → List Cut → List Cut → Option ℕ

@@ -11,8 +11,8 @@ use Rattle.dexspec.specs.Classes.{Definition}
 use Rattle.dexspec.specs.Files.{Collection, definitions}
 use Rattle.dexspec.specs.Mentions.{Mentions, mentions}
 use Rattle.dexspec.specs.Spellings.{text_index, symbol_index}
-use Rattle.dexspec.specs.Placing.{Ordered, Placed, offsets}
-use Rattle.dexspec.specs.Canonical.{with_sums, unsigned_file, canonical, table_count, data_start, ClassOffsets, layout, map_of, map_bytes, proto_row_bytes, field_row_bytes, method_row_bytes, class_row_bytes}
+use Rattle.dexspec.specs.Placing.{Ordered, Placed, offsets, end, uses_offsets}
+use Rattle.dexspec.specs.Canonical.{with_sums, unsigned_file, canonical, table_count, data_start, type_list_section, string_section, directory_section, data_sections, class_offsets, map_of, map_bytes, proto_row_bytes, field_row_bytes, method_row_bytes, class_row_bytes}
 use Rattle.dexspec.specs.WellFormed.{AreWellFormed}
 use Rattle.dexspec.specs.Merging.{Caps, AreCaps, Fits}
 use Rattle.dexspec.specs.Accepted.{IsFrame}
@@ -46,16 +46,16 @@ pub record HasFields (K : Ordered) (b : List ℕ) : Type 0 where
   pub tables : (t : Table) → table_size b t ≡ table_count K t
   pub data_begins : data_off b ≡ data_start K
   pub data_ends : data_off b + data_size b ≡ length b
-  pub map_begins : map_off b ≡ round_up 4 (layout K).data_end
+  pub map_begins : map_off b ≡ round_up 4 (end (directory_section K))
 
 -- each row of each table is at the offset that the header gives
 pub record HasRows (K : Ordered) (b : List ℕ) : Type 0 where
-  pub strings : (i : ℕ) → i < length K.pools.texts → BytesAt b (row_at b StringIds i) (uint (slice_index (layout K).strings i))
+  pub strings : (i : ℕ) → i < length K.pools.texts → BytesAt b (row_at b StringIds i) (uint (slice_index (offsets (string_section K)) i))
   pub types : (i : ℕ) (d : Text) → i < length K.pools.types → BytesAt b (row_at b TypeIds i) (uint (text_index K.pools (slice_index_or K.pools.types i d)))
-  pub protos : (i : ℕ) (d : Proto) → i < length K.pools.protos → BytesAt b (row_at b ProtoIds i) (proto_row_bytes K.pools (slice_index_or K.pools.protos i d) (slice_index (layout K).parameters i))
+  pub protos : (i : ℕ) (d : Proto) → i < length K.pools.protos → BytesAt b (row_at b ProtoIds i) (proto_row_bytes K.pools (slice_index_or K.pools.protos i d) (slice_index (uses_offsets (type_list_section K)) i))
   pub fields : (i : ℕ) (d : Field) → i < length K.pools.fields → BytesAt b (row_at b FieldIds i) (field_row_bytes K.pools (slice_index_or K.pools.fields i d))
   pub methods : (i : ℕ) (d : Method) → i < length K.pools.methods → BytesAt b (row_at b MethodIds i) (method_row_bytes K.pools (slice_index_or K.pools.methods i d))
-  pub classes : (r : ℕ) (d : Definition) (e : ClassOffsets) → r < length K.classes → BytesAt b (row_at b ClassDefs r) (class_row_bytes K.pools (slice_index_or K.classes r d) (slice_index_or (layout K).classes r e))
+  pub classes : (r : ℕ) (d : Definition) (e : ℕ × ℕ × ℕ × ℕ) → r < length K.classes → BytesAt b (row_at b ClassDefs r) (class_row_bytes K.pools (slice_index_or K.classes r d) (slice_index_or (class_offsets K) r e))
 
 -- the bytes are at the offset, in the data, at a multiple of the alignment
 pub record BytesAligned (b : List ℕ) (align o : ℕ) (x : List ℕ) : Type 0 where
@@ -65,8 +65,8 @@ pub record BytesAligned (b : List ℕ) (align o : ℕ) (x : List ℕ) : Type 0 w
 
 -- each item of each section is at its offset, and the map after them
 pub record HasItems (K : Ordered) (b : List ℕ) : Type 0 where
-  pub items : (p : Placed) → Contains (layout K).sections p → (i : ℕ) (d : List ℕ) → i < length p.items → BytesAligned b p.align (slice_index (offsets p) i) (slice_index_or p.items i d)
-  pub map_list : BytesAligned b 4 (map_off b) (map_bytes (map_of K (layout K) (map_off b)))
+  pub items : (p : Placed) → Contains (data_sections K) p → (i : ℕ) (d : List ℕ) → i < length p.items → BytesAligned b p.align (slice_index (offsets p) i) (slice_index_or p.items i d)
+  pub map_list : BytesAligned b 4 (map_off b) (map_bytes (map_of K (map_off b)))
 
 -- the five numbers after the signature of a header, and the rest of it
 abbrev pub opening : ℕ → List ℕ → List ℕ

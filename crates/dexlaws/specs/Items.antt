@@ -7,7 +7,8 @@ use Rattle.dexspec.specs.Numbers.{magnitude}
 use Rattle.dexspec.specs.Texts.{Text}
 use Rattle.dexspec.specs.Symbols.{Symbol, pool_of}
 use Rattle.dexspec.specs.Rows.{SymbolRow}
-use Rattle.dexspec.specs.Values.{Elements, EncodedAnnotationAt, UnsignedAt, SignedAt, BitsAt}
+use Rattle.dexspec.specs.Header.{data_off}
+use Rattle.dexspec.specs.Values.{Value, Elements, ValueAt, value_depth, most_depth, EncodedAnnotationAt, UnsignedAt, SignedAt, BitsAt}
 use Rattle.dexspec.specs.Spellings.{unsigned_width, signed_width, bits_width, complement, unsigned_bytes, signed_bytes, bits_bytes}
 use Rattle.dexspec.specs.Placing.{Items}
 
@@ -31,6 +32,10 @@ IsDeterminedByCount {X} count At = (b : List ℕ) (o : ℕ) (x y : X) (n k : ℕ
 -- at most one symbol of each pool has this row
 abbrev pub HasOneSymbolEach : List ℕ → ℕ → Type 0
 HasOneSymbolEach b i = (x y : Symbol) → pool_of x ≡ pool_of y → SymbolRow b i x → SymbolRow b i y → x ≡ y
+
+-- an encoded_value that nests at most `most_depth` deep is at offset o of the data
+abbrev pub EncodedValueInDataAt : Item Value
+EncodedValueInDataAt b o v n = (data_off b ≤ o) × ValueAt b o v n × (value_depth v ≤ most_depth)
 
 -- at most one encoded annotation is at the offset, of one type and in one size
 abbrev pub IsAnnotationDetermined : List ℕ → ℕ → Type 0

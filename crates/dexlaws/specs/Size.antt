@@ -13,7 +13,7 @@ use Rattle.dexspec.specs.Weight.{weight, code_weight, value_weight, values_weigh
 use Rattle.dexspec.specs.Depth.{in_class_order}
 use Rattle.dexspec.specs.Spellings.{type_index, handler_off, handler_list_bytes, code_bytes, value_bytes, values_bytes, elements_bytes, encoded_array_bytes, annotation_bytes, class_data_bytes}
 use Rattle.dexspec.specs.Placing.{EachForItself, SetOffsets, end_from, bytes_from, section_bytes, directory_bytes, Ordered}
-use Rattle.dexspec.specs.Canonical.{layout, table_bytes, ordered, canonical}
+use Rattle.dexspec.specs.Canonical.{data_sections, table_bytes, ordered, canonical}
 use Rattle.dexspec.specs.Files.{Collection, definitions}
 use Rattle.dexspec.specs.Merging.{Caps, Fits}
 use Rattle.dexlaws.specs.Frame.{signed_file}
@@ -86,4 +86,4 @@ IsWithinCap caps D = Fits caps D → length (ordered_file D) ≤ caps.weight
 
 -- the rows and the sections together
 abbrev pub PartsAreWithin : Ordered → Type 0
-PartsAreWithin K = length (table_bytes K (layout K)) + length (flat_map section_bytes (layout K).sections) ≤ mentions_weight K.pools + sum_by (λ d. body_weight d.1) K.classes
+PartsAreWithin K = length (table_bytes K) + length (flat_map section_bytes (data_sections K)) ≤ mentions_weight K.pools + sum_by (λ d. body_weight d.1) K.classes

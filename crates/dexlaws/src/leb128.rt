@@ -1,8 +1,8 @@
 //! LEB128 numbers: the encoding that is written is the shortest, and no encoding is a prefix of another.
 ghost use Rattle.std.specs.Prelude.{ℕ, ℤ, ◌^◌, ◌<◌, ◌≤◌, length, Option, FitsSigned};
 ghost use Rattle.std.specs.Int.{w32};
-ghost use Rattle.dexspec.specs.Numbers.{IsShortest, IsUleb128, IsSleb128, IsUleb128p1, uleb128, sleb128, uleb128p1, plus_one};
-ghost use Rattle.dexlaws.specs.Leb128.{BeginsWithOne};
+ghost use Rattle.dexspec.specs.Numbers.{IsUleb128, IsSleb128, IsUleb128p1, uleb128, sleb128, uleb128p1, plus_one};
+ghost use Rattle.dexlaws.specs.Leb128.{BeginsWithOne, IsShortest};
 
 /// The bytes that are written for an unsigned number encode it, and no shorter bytes do.
 pub fn uleb128_is_shortest()

@@ -1,61 +1,65 @@
 -- Each part of a file that is not too long ends within its bytes.
-use Rattle.std.proofs.Common.{◌≡◌, ◌+◌, ◌^◌, ◌≤◌, length, ap, arith}
+use Rattle.std.proofs.Common.{◌≡◌, ℕ, ◌+◌, ◌^◌, ◌≤◌, length, refl, arith}
 use Rattle.dexspec.specs.Bytes.{round_up}
-use Rattle.dexspec.specs.Placing.{Ordered}
-use Rattle.dexspec.specs.Canonical.{Layout, data_start, type_list_section, type_list_end, annotation_section, annotation_end, array_section, array_end, string_section, string_end, debug_section, debug_end, code_section, code_end, class_data_section, class_data_end, set_section, set_end, ref_list_section, ref_list_end, directory_section, directory_end}
-use Rattle.dexspec.proofs.layout.Placements.{layout_is, sections_follow}
+use Rattle.dexspec.specs.Placing.{Ordered, end, Placed}
+use Rattle.dexspec.specs.Canonical.{data_start, type_list_section, annotation_section, array_section, string_section, debug_section, code_section, class_data_section, set_section, ref_list_section, directory_section}
+use Rattle.dexspec.proofs.layout.Placements.{sections_follow}
 use Rattle.dexspec.proofs.layout.Places.{end_from_le, length-padding}
 use Rattle.dexhead.specs.Laid.{map_start, map_list}
 use Rattle.dexlayout.specs.Laid.{file_end}
 
 -- where the map begins
-pub map_start_is : (K : Ordered) → map_start K ≡ round_up 4 (directory_end K)
-map_start_is K = ap (λ (l : Layout). round_up 4 l.data_end) (layout_is K)
+pub map_start_is : (K : Ordered) → map_start K ≡ round_up 4 (end (directory_section K))
+map_start_is K = refl
 
 -- each part begins where the one before it ends, and ends no earlier
 pub record AreChained (K : Ordered) : Type 0 where
-  pub type_lists : data_start K ≤ type_list_end K
-  pub annotations : type_list_end K ≤ annotation_end K
-  pub arrays : annotation_end K ≤ array_end K
-  pub strings : array_end K ≤ string_end K
-  pub debugs : string_end K ≤ debug_end K
-  pub codes : debug_end K ≤ code_end K
-  pub class_data : code_end K ≤ class_data_end K
-  pub sets : class_data_end K ≤ set_end K
-  pub ref_lists : set_end K ≤ ref_list_end K
-  pub directories : ref_list_end K ≤ directory_end K
-  pub map : directory_end K ≤ map_start K
+  pub type_lists : data_start K ≤ end (type_list_section K)
+  pub annotations : end (type_list_section K) ≤ end (annotation_section K)
+  pub arrays : end (annotation_section K) ≤ end (array_section K)
+  pub strings : end (array_section K) ≤ end (string_section K)
+  pub debugs : end (string_section K) ≤ end (debug_section K)
+  pub codes : end (debug_section K) ≤ end (code_section K)
+  pub class_data : end (code_section K) ≤ end (class_data_section K)
+  pub sets : end (class_data_section K) ≤ end (set_section K)
+  pub ref_lists : end (set_section K) ≤ end (ref_list_section K)
+  pub directories : end (ref_list_section K) ≤ end (directory_section K)
+  pub map : end (directory_section K) ≤ map_start K
+
+-- a section ends no earlier than it begins
+ends_later : (p : Placed) (at : ℕ) → p.from ≡ at → at ≤ end p
+ends_later p at is = omega (arith, is, end_from_le p.align p.from p.items)
 
 pub chained : (K : Ordered) → AreChained K
 chained K =
     let h = sections_follow K in
     record {
-      type_lists = omega (arith, end_from_le 4 (data_start K) (type_list_section K).items, h.1.0);
-      annotations = omega (arith, end_from_le 1 (type_list_end K) (annotation_section K).items, h.1.1.0);
-      arrays = omega (arith, end_from_le 1 (annotation_end K) (array_section K).items, h.1.1.1.0);
-      strings = omega (arith, end_from_le 1 (array_end K) (string_section K).items, h.1.1.1.1.0);
-      debugs = omega (arith, end_from_le 1 (string_end K) (debug_section K).items, h.1.1.1.1.1.0);
-      codes = omega (arith, end_from_le 4 (debug_end K) (code_section K).items, h.1.1.1.1.1.1.0);
-      class_data = omega (arith, end_from_le 1 (code_end K) (class_data_section K).items, h.1.1.1.1.1.1.1.0);
-      sets = omega (arith, end_from_le 4 (class_data_end K) (set_section K).items, h.1.1.1.1.1.1.1.1.0);
-      ref_lists = omega (arith, end_from_le 4 (set_end K) (ref_list_section K).items, h.1.1.1.1.1.1.1.1.1.0);
-      directories = omega (arith, end_from_le 4 (ref_list_end K) (directory_section K).items, h.1.1.1.1.1.1.1.1.1.1);
-      map = omega (arith, map_start_is K, length-padding 4 (directory_end K));
+      type_lists = ends_later (type_list_section K) (data_start K) h.0;
+      annotations = ends_later (annotation_section K) (end (type_list_section K)) h.1.0;
+      arrays = ends_later (array_section K) (end (annotation_section K)) h.1.1.0;
+      strings = ends_later (string_section K) (end (array_section K)) h.1.1.1.0;
+      debugs = ends_later (debug_section K) (end (string_section K)) h.1.1.1.1.0;
+      codes = ends_later (code_section K) (end (debug_section K)) h.1.1.1.1.1.0;
+      class_data = ends_later (class_data_section K) (end (code_section K)) h.1.1.1.1.1.1.0;
+      sets = ends_later (set_section K) (end (class_data_section K)) h.1.1.1.1.1.1.1.0;
+      ref_lists = ends_later (ref_list_section K) (end (set_section K)) h.1.1.1.1.1.1.1.1.0;
+      directories = ends_later (directory_section K) (end (ref_list_section K)) h.1.1.1.1.1.1.1.1.1.0;
+      map = omega (arith, map_start_is K, length-padding 4 (end (directory_section K)));
     }
 
 -- none ends after 2^30 bytes
 pub record EndInFile (K : Ordered) : Type 0 where
   pub tables : data_start K ≤ 2 ^ 30
-  pub type_lists : type_list_end K ≤ 2 ^ 30
-  pub annotations : annotation_end K ≤ 2 ^ 30
-  pub arrays : array_end K ≤ 2 ^ 30
-  pub strings : string_end K ≤ 2 ^ 30
-  pub debugs : debug_end K ≤ 2 ^ 30
-  pub codes : code_end K ≤ 2 ^ 30
-  pub class_data : class_data_end K ≤ 2 ^ 30
-  pub sets : set_end K ≤ 2 ^ 30
-  pub ref_lists : ref_list_end K ≤ 2 ^ 30
-  pub directories : directory_end K ≤ 2 ^ 30
+  pub type_lists : end (type_list_section K) ≤ 2 ^ 30
+  pub annotations : end (annotation_section K) ≤ 2 ^ 30
+  pub arrays : end (array_section K) ≤ 2 ^ 30
+  pub strings : end (string_section K) ≤ 2 ^ 30
+  pub debugs : end (debug_section K) ≤ 2 ^ 30
+  pub codes : end (code_section K) ≤ 2 ^ 30
+  pub class_data : end (class_data_section K) ≤ 2 ^ 30
+  pub sets : end (set_section K) ≤ 2 ^ 30
+  pub ref_lists : end (ref_list_section K) ≤ 2 ^ 30
+  pub directories : end (directory_section K) ≤ 2 ^ 30
   pub map : map_start K ≤ 2 ^ 30
   pub file : map_start K + length (map_list K) ≤ 2 ^ 30
 
@@ -63,16 +67,16 @@ pub end_in_file : (K : Ordered) → file_end K ≤ 2 ^ 30 → EndInFile K
 end_in_file K fits =
     let c = chained K in
     let m : map_start K ≤ 2 ^ 30 = omega (arith, fits) in
-    let l10 : directory_end K ≤ 2 ^ 30 = omega (arith, m, c.map) in
-    let l9 : ref_list_end K ≤ 2 ^ 30 = omega (arith, l10, c.directories) in
-    let l8 : set_end K ≤ 2 ^ 30 = omega (arith, l9, c.ref_lists) in
-    let l7 : class_data_end K ≤ 2 ^ 30 = omega (arith, l8, c.sets) in
-    let l6 : code_end K ≤ 2 ^ 30 = omega (arith, l7, c.class_data) in
-    let l5 : debug_end K ≤ 2 ^ 30 = omega (arith, l6, c.codes) in
-    let l4 : string_end K ≤ 2 ^ 30 = omega (arith, l5, c.debugs) in
-    let l3 : array_end K ≤ 2 ^ 30 = omega (arith, l4, c.strings) in
-    let l2 : annotation_end K ≤ 2 ^ 30 = omega (arith, l3, c.arrays) in
-    let l1 : type_list_end K ≤ 2 ^ 30 = omega (arith, l2, c.annotations) in
+    let l10 : end (directory_section K) ≤ 2 ^ 30 = omega (arith, m, c.map) in
+    let l9 : end (ref_list_section K) ≤ 2 ^ 30 = omega (arith, l10, c.directories) in
+    let l8 : end (set_section K) ≤ 2 ^ 30 = omega (arith, l9, c.ref_lists) in
+    let l7 : end (class_data_section K) ≤ 2 ^ 30 = omega (arith, l8, c.sets) in
+    let l6 : end (code_section K) ≤ 2 ^ 30 = omega (arith, l7, c.class_data) in
+    let l5 : end (debug_section K) ≤ 2 ^ 30 = omega (arith, l6, c.codes) in
+    let l4 : end (string_section K) ≤ 2 ^ 30 = omega (arith, l5, c.debugs) in
+    let l3 : end (array_section K) ≤ 2 ^ 30 = omega (arith, l4, c.strings) in
+    let l2 : end (annotation_section K) ≤ 2 ^ 30 = omega (arith, l3, c.arrays) in
+    let l1 : end (type_list_section K) ≤ 2 ^ 30 = omega (arith, l2, c.annotations) in
     let l0 : data_start K ≤ 2 ^ 30 = omega (arith, l1, c.type_lists) in
     record {
       tables = omega (arith, l0);

@@ -3,7 +3,7 @@ use Rattle.std.proofs.Common.{◌≡◌, ℕ, ◌+◌, ◌<◌, ◌≤◌, ◌^�
 use Rattle.std.specs.Prelude.{◌==◌, not}
 use Rattle.std.specs.List.{flat_map}
 use Rattle.std.proofs.lemmas.Bool.{ne_eqb}
-use Rattle.std.proofs.lemmas.List.{length-append, length-map, map-id}
+use Rattle.std.proofs.lemmas.List.{length-append, length-map}
 use Rattle.std.proofs.lemmas.List.Sums.{sum_by-append}
 use Rattle.dexspec.specs.Lists.{present}
 use Rattle.dexspec.specs.Bytes.{round_up}
@@ -13,10 +13,10 @@ use Rattle.dexspec.specs.Mentions.{Mentions}
 use Rattle.dexspec.specs.Texts.{string_data}
 use Rattle.dexspec.specs.Spellings.{code_bytes, encoded_array_bytes, class_data_bytes, offsets_bytes, type_list_bytes, annotation_bytes}
 use Rattle.dexspec.specs.Annotations.{AnnotationSet}
-use Rattle.dexspec.specs.Placing.{own_items, uses_offsets, offsets_from, end_from, offsets, Ordered, static_values_uses, code_uses, class_data_uses, ref_list_uses, directory_uses}
-use Rattle.dexspec.specs.Canonical.{data_start, type_list_items, type_list_section, type_list_end, set_items, annotation_section, annotation_end, annotation_offsets, array_section, array_offsets, array_end, string_section, string_end, debug_section, debug_end, debug_offsets, code_section, code_offsets, code_end, class_data_section, class_data_offsets, class_data_end, set_section, set_offsets, set_end, ref_list_section, ref_list_offsets, ref_list_end, directory_section, directory_offsets, directory_end}
+use Rattle.dexspec.specs.Placing.{own_items, uses_offsets, offsets_from, end_from, offsets, Ordered, static_values_uses, code_uses, class_data_uses, ref_list_uses, directory_uses, end, Placed}
+use Rattle.dexspec.specs.Canonical.{data_start, type_list_items, type_list_section, set_items, annotation_section, annotation_offsets, array_section, string_section, debug_section, code_section, class_data_section, set_section, set_offsets, ref_list_section, directory_section}
 use Rattle.dexspec.proofs.layout.Places.{length-padding, items_few}
-use Rattle.dexspec.proofs.layout.Placements.{sections_follow, sections_have_bytes, length-chunks}
+use Rattle.dexspec.proofs.layout.Placements.{sections_have_bytes, length-chunks, numbers_offsets, HasBytes}
 use Rattle.dexval.specs.Numbered.{NumberedSet, annotation_in, set_in}
 use Rattle.dexclass.specs.Numbered.{NumberedClass, type_at}
 use Rattle.dexlayout.specs.Places.{ItemPlaces}
@@ -71,7 +71,7 @@ module _ {X : Type 0} (f : X → List ℕ) (align : ℕ) where
 
   -- as many as items
   pub own_count : (from : ℕ) (us : List (Option X)) → 0 < from
-      → count_placed (uses_offsets (own_items us).numbers (offsets_from align from (map f (own_items us).written))) ≡ length (map f (own_items us).written)
+      → count_placed (numbers_offsets (own_items us).numbers (offsets_from align from (map f (own_items us).written))) ≡ length (map f (own_items us).written)
   own_count from us some = ap count_placed (sym (own_encoded f align from us).offsets_are) ∙ count_go us (none_from from) some ∙ plus_zero (length (present us)) ∙ sym (length-map (present us) f)
 
 -- ---- those of each section
@@ -80,41 +80,38 @@ module _ {X : Type 0} (f : X → List ℕ) (align : ℕ) where
 starts : (K : Ordered) → 0 < data_start K
 starts K = omega arith
 
-array_count : (K : Ordered) → count_placed (array_offsets K) ≡ length (array_section K).items
-unfolding array_offsets
-array_count K = let h = chained K in own_count (encoded_array_bytes K.pools) 1 (annotation_end K) (static_values_uses K) (omega (arith, starts K, h.type_lists, h.annotations))
+array_count : (K : Ordered) → count_placed (uses_offsets (array_section K)) ≡ length (array_section K).items
+unfolding array_section
+array_count K = let h = chained K in own_count (encoded_array_bytes K.pools) 1 (end (annotation_section K)) (static_values_uses K) (omega (arith, starts K, h.type_lists, h.annotations))
 
-code_count : (K : Ordered) → count_placed (code_offsets K) ≡ length (code_section K).items
-unfolding code_offsets
+code_count : (K : Ordered) → count_placed (uses_offsets (code_section K)) ≡ length (code_section K).items
+unfolding code_section
 code_count K =
     let h = chained K in
-    own_count (λ (p : Code × ℕ). code_bytes K.pools p.1 p.0) 4 (debug_end K) (code_uses K (debug_offsets K)) (omega (arith, starts K, h.type_lists, h.annotations, h.arrays, h.strings, h.debugs))
+    own_count (λ (p : Code × ℕ). code_bytes K.pools p.1 p.0) 4 (end (debug_section K)) (code_uses K (uses_offsets (debug_section K))) (omega (arith, starts K, h.type_lists, h.annotations, h.arrays, h.strings, h.debugs))
 
-class_data_count : (K : Ordered) → count_placed (class_data_offsets K) ≡ length (class_data_section K).items
-unfolding class_data_offsets
+class_data_count : (K : Ordered) → count_placed (uses_offsets (class_data_section K)) ≡ length (class_data_section K).items
+unfolding class_data_section
 class_data_count K =
     let h = chained K in
-    own_count (λ (p : Definition × List ℕ). class_data_bytes K.pools p.0 p.1) 1 (code_end K) (class_data_uses K (code_offsets K)) (omega (arith, starts K, h.type_lists, h.annotations, h.arrays, h.strings, h.debugs, h.codes))
+    own_count (λ (p : Definition × List ℕ). class_data_bytes K.pools p.0 p.1) 1 (end (code_section K)) (class_data_uses K (uses_offsets (code_section K))) (omega (arith, starts K, h.type_lists, h.annotations, h.arrays, h.strings, h.debugs, h.codes))
 
-ref_list_count : (K : Ordered) → count_placed (ref_list_offsets K) ≡ length (ref_list_section K).items
-unfolding ref_list_offsets
+ref_list_count : (K : Ordered) → count_placed (uses_offsets (ref_list_section K)) ≡ length (ref_list_section K).items
+unfolding ref_list_section
 ref_list_count K =
     let h = chained K in
-    own_count offsets_bytes 4 (set_end K) (ref_list_uses K (set_offsets K)) (omega (arith, starts K, h.type_lists, h.annotations, h.arrays, h.strings, h.debugs, h.codes, h.class_data, h.sets))
+    own_count offsets_bytes 4 (end (set_section K)) (ref_list_uses K (set_offsets K)) (omega (arith, starts K, h.type_lists, h.annotations, h.arrays, h.strings, h.debugs, h.codes, h.class_data, h.sets))
 
-directory_count : (K : Ordered) → count_placed (directory_offsets K) ≡ length (directory_section K).items
-unfolding directory_offsets
+directory_count : (K : Ordered) → count_placed (uses_offsets (directory_section K)) ≡ length (directory_section K).items
+unfolding directory_section
 directory_count K =
     let h = chained K in
-    let us = directory_uses K (set_offsets K) (ref_list_offsets K) in
-    let same : map (λ (x : List ℕ). x) (own_items us).written ≡ (own_items us).written = map-id (own_items us).written in
-    ap (λ xs. count_placed (uses_offsets (own_items us).numbers (offsets_from 4 (ref_list_end K) xs))) (sym same)
-    ∙ own_count (λ (x : List ℕ). x) 4 (ref_list_end K) us (omega (arith, starts K, h.type_lists, h.annotations, h.arrays, h.strings, h.debugs, h.codes, h.class_data, h.sets, h.ref_lists))
-    ∙ ap (λ (xs : List (List ℕ)). length xs) same
+    own_count (λ (x : List ℕ). x) 4 (end (ref_list_section K)) (directory_uses K (set_offsets K) (uses_offsets (ref_list_section K)))
+    (omega (arith, starts K, h.type_lists, h.annotations, h.arrays, h.strings, h.debugs, h.codes, h.class_data, h.sets, h.ref_lists))
 
 -- the sets
 set_count : (K : Ordered) → length (set_section K).items ≡ length (set_items K).written
-unfolding annotation_offsets
+unfolding annotation_offsets set_section
 set_count K = length-map (annotation_offsets K) offsets_bytes ∙ length-chunks (map (λ (set : AnnotationSet). length set) (set_items K).written) _ ∙ length-map (set_items K).written _
 
 -- sets of symbols have as many annotations as the sets of numbers that denote them
@@ -137,6 +134,7 @@ pub record AreCounted (K : Ordered) (d : Data) : Type 0 where
   pub directories : count_placed d.back.directories.offsets ≡ length (directory_section K).items
 
 pub counted : (m : Mentions) (cs : List NumberedClass) {d : Data} → AreData m cs d → AreCounted (ordered_of m cs) d
+unfolding type_list_section annotation_section string_section
 counted m cs {d} h =
     let K = ordered_of m cs in
     let items = (set_items K).written in
@@ -168,39 +166,42 @@ pub record HaveFewItems (K : Ordered) : Type 0 where
   pub directories : length (directory_section K).items ≤ 2 ^ 30
 
 -- no more items than where they end
-few : (align from last : ℕ) (xs : List (List ℕ)) → last ≡ end_from align from xs → last ≤ 2 ^ 30 → from + length xs ≤ end_from align from xs → length xs ≤ 2 ^ 30
-few align from last xs e le h = omega (arith, e, le, h)
+few : (p : Placed) → HasBytes p → end p ≤ 2 ^ 30 → length p.items ≤ 2 ^ 30
+few p some le = omega (arith, le, items_few p.align p.from p.items some)
 
 pub few_items : (K : Ordered) → EndInFile K → HaveFewItems K
 few_items K ends =
-    let h = sections_follow K in
     let b = sections_have_bytes K in
     let d = type_list_section K in
     record {
-      type_lists = few 4 (data_start K) (type_list_end K) (type_list_section K).items h.1.0 ends.type_lists (items_few 4 (data_start K) (type_list_section K).items (b 0 d (omega arith)));
-      annotations = few 1 (type_list_end K) (annotation_end K) (annotation_section K).items h.1.1.0 ends.annotations (items_few 1 (type_list_end K) (annotation_section K).items (b 1 d (omega arith)));
-      arrays = few 1 (annotation_end K) (array_end K) (array_section K).items h.1.1.1.0 ends.arrays (items_few 1 (annotation_end K) (array_section K).items (b 2 d (omega arith)));
-      strings = few 1 (array_end K) (string_end K) (string_section K).items h.1.1.1.1.0 ends.strings (items_few 1 (array_end K) (string_section K).items (b 3 d (omega arith)));
-      debugs = few 1 (string_end K) (debug_end K) (debug_section K).items h.1.1.1.1.1.0 ends.debugs (items_few 1 (string_end K) (debug_section K).items (b 4 d (omega arith)));
-      codes = few 4 (debug_end K) (code_end K) (code_section K).items h.1.1.1.1.1.1.0 ends.codes (items_few 4 (debug_end K) (code_section K).items (b 5 d (omega arith)));
-      class_data = few 1 (code_end K) (class_data_end K) (class_data_section K).items h.1.1.1.1.1.1.1.0 ends.class_data (items_few 1 (code_end K) (class_data_section K).items (b 6 d (omega arith)));
-      sets = few 4 (class_data_end K) (set_end K) (set_section K).items h.1.1.1.1.1.1.1.1.0 ends.sets (items_few 4 (class_data_end K) (set_section K).items (b 7 d (omega arith)));
-      ref_lists = few 4 (set_end K) (ref_list_end K) (ref_list_section K).items h.1.1.1.1.1.1.1.1.1.0 ends.ref_lists (items_few 4 (set_end K) (ref_list_section K).items (b 8 d (omega arith)));
-      directories = few 4 (ref_list_end K) (directory_end K) (directory_section K).items (sym h.1.1.1.1.1.1.1.1.1.1) ends.directories (items_few 4 (ref_list_end K) (directory_section K).items (b 9 d (omega arith)));
+      type_lists = few (type_list_section K) (b 0 d (omega arith)) ends.type_lists;
+      annotations = few (annotation_section K) (b 1 d (omega arith)) ends.annotations;
+      arrays = few (array_section K) (b 2 d (omega arith)) ends.arrays;
+      strings = few (string_section K) (b 3 d (omega arith)) ends.strings;
+      debugs = few (debug_section K) (b 4 d (omega arith)) ends.debugs;
+      codes = few (code_section K) (b 5 d (omega arith)) ends.codes;
+      class_data = few (class_data_section K) (b 6 d (omega arith)) ends.class_data;
+      sets = few (set_section K) (b 7 d (omega arith)) ends.sets;
+      ref_lists = few (ref_list_section K) (b 8 d (omega arith)) ends.ref_lists;
+      directories = few (directory_section K) (b 9 d (omega arith)) ends.directories;
     }
 
 -- ---- texts
 
 -- the texts are after the static values
-pub strings_at_ranks : (K : Ordered) (from : ℕ) {p : ItemPlaces} → from ≡ array_end K
+pub strings_at_ranks : (K : Ordered) (from : ℕ) {p : ItemPlaces} → from ≡ end (array_section K)
     → AreLaidSo (offsets_from 1 from (map string_data K.pools.texts)) (end_from 1 from (map string_data K.pools.texts)) (map string_data K.pools.texts) p
-    → AreLaidSo (offsets (string_section K)) (string_end K) (string_section K).items p
+    → AreLaidSo (offsets (string_section K)) (end (string_section K)) (string_section K).items p
+unfolding string_section
 strings_at_ranks K from {p} e h = record {
   offsets_are = h.offsets_are ∙ ap (λ n. offsets_from 1 n (map string_data K.pools.texts)) e;
-  end_is = h.end_is ∙ ap (λ n. end_from 1 n (map string_data K.pools.texts)) e ∙ sym (sections_follow K).1.1.1.1.0;
+  end_is = h.end_is ∙ ap (λ n. end_from 1 n (map string_data K.pools.texts)) e;
   greatest_is = h.greatest_is;
 }
 
 -- and fit the file
-pub strings_fit : (K : Ordered) (from : ℕ) → from ≡ array_end K → EndInFile K → end_from 1 from (map string_data K.pools.texts) ≤ 2 ^ 30
-strings_fit K from e ends = omega (arith, ap (λ n. end_from 1 n (map string_data K.pools.texts)) e, (sections_follow K).1.1.1.1.0, ends.strings)
+pub strings_fit : (K : Ordered) (from : ℕ) → from ≡ end (array_section K) → EndInFile K → end_from 1 from (map string_data K.pools.texts) ≤ 2 ^ 30
+unfolding string_section
+strings_fit K from e ends =
+    let last : end_from 1 (end (array_section K)) (map string_data K.pools.texts) ≤ 2 ^ 30 = ends.strings in
+    omega (arith, ap (λ n. end_from 1 n (map string_data K.pools.texts)) e, last)

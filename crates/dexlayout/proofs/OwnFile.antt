@@ -9,8 +9,8 @@ use Rattle.dexspec.specs.Sections.{Section, HeaderItem, MapList}
 use Rattle.dexspec.specs.Files.{Collection, definitions}
 use Rattle.dexspec.specs.Mentions.{Mentions, mentions}
 use Rattle.dexspec.specs.Merging.{Caps, greatest_caps, AreCaps, Fits}
-use Rattle.dexspec.specs.Placing.{Ordered, EqualOnce, section_bytes}
-use Rattle.dexspec.specs.Canonical.{layout, map_of, map_bytes, map_entry_bytes, unsigned_file, with_sums, ordered, canonical, data_start, type_list_items, type_list_section, type_list_offsets, type_list_end, set_items, annotation_section, annotation_end, array_section, array_offsets, array_end, string_section, string_end, debug_section, debug_offsets, debug_end, code_section, code_offsets, code_end, class_data_section, class_data_offsets, class_data_end, set_section, set_offsets, set_end, ref_list_section, ref_list_offsets, ref_list_end, directory_section, directory_offsets, directory_end}
+use Rattle.dexspec.specs.Placing.{Ordered, EqualOnce, section_bytes, end, uses_offsets, offsets}
+use Rattle.dexspec.specs.Canonical.{map_of, map_bytes, map_entry_bytes, unsigned_file, with_sums, ordered, canonical, data_start, type_list_items, type_list_section, set_items, annotation_section, array_section, string_section, debug_section, code_section, class_data_section, set_section, set_offsets, ref_list_section, directory_section}
 use Rattle.dexspec.proofs.numbers.ByteNumbers.{length-uint, length-ushort}
 use Rattle.dexspec.proofs.written.PlacedBytes.{length_rows}
 use Rattle.dexspec.proofs.layout.SectionPlaces.{data_before_map, map_place, map_place_is, map_list_named, parts}
@@ -41,7 +41,7 @@ places_same K = map_place_is K ∙ sym (map_start_is K)
 -- the file ends at `file_end`
 length_file : (K : Ordered) → length (with_sums (unsigned_file K)) ≡ file_end K
 length_file K =
-    let list = ap (λ es. length (map_bytes es)) (map_list_named K ∙ ap (map_of K (layout K)) (places_same K)) in
+    let list = ap (λ es. length (map_bytes es)) (map_list_named K ∙ ap (map_of K) (places_same K)) in
     (parts K).size ∙ ap (λ n. n + length (map_bytes (Rattle.dexspec.proofs.layout.SectionPlaces.map_list K))) (places_same K) ∙ ap (λ n. map_start K + n) list
 
 -- and so does a canonical file
@@ -77,21 +77,21 @@ module _ (m : Mentions) (cs ds : List NumberedClass) (e : ordered_of m cs ≡ or
   type_lists_same {p} h = record {
     written_are = h.written_are ∙ ap (λ (K : Ordered). (type_list_items K).written) e;
     known = h.known;
-    places_are = subst (λ (K : Ordered). AreLaidSo (type_list_offsets K) (type_list_end K) (type_list_section K).items p.places) e h.places_are;
+    places_are = subst (λ (K : Ordered). AreLaidSo (uses_offsets (type_list_section K)) (end (type_list_section K)) (type_list_section K).items p.places) e h.places_are;
   }
 
   annotations_same : {p : AnnotationPlaces} → AreAnnotations m cs p → AreAnnotations m ds p
   annotations_same {p} h = record {
     written_are = h.written_are ∙ ap (λ (K : Ordered). (set_items K).written) e;
     known = h.known;
-    places_are = subst (λ (K : Ordered). AreLaidSo (first_offsets m (type_list_end K) (set_items K).written) (annotation_end K) (annotation_section K).items p.places) e h.places_are;
+    places_are = subst (λ (K : Ordered). AreLaidSo (first_offsets m (end (type_list_section K)) (set_items K).written) (end (annotation_section K)) (annotation_section K).items p.places) e h.places_are;
   }
 
   debugs_same : {p : DebugPlaces} → AreDebugs m cs p → AreDebugs m ds p
   debugs_same {p} h = record {
     bytes_are = h.bytes_are ∙ ap (λ (K : Ordered). section_bytes (debug_section K)) e;
     count_is = h.count_is ∙ ap (λ (K : Ordered). length (debug_section K).items) e;
-    places_are = subst (λ (K : Ordered). AreLaidSo (debug_offsets K) (debug_end K) (debug_section K).items p.places) e h.places_are;
+    places_are = subst (λ (K : Ordered). AreLaidSo (uses_offsets (debug_section K)) (end (debug_section K)) (debug_section K).items p.places) e h.places_are;
   }
 
   sets_same : {p : SetPlaces} → AreSets m cs p → AreSets m ds p
@@ -100,7 +100,7 @@ module _ (m : Mentions) (cs ds : List NumberedClass) (e : ordered_of m cs ≡ or
     fields_are = h.fields_are ∙ ap (λ (K : Ordered). flat_map (λ s. s.fields) (set_offsets K)) e;
     methods_are = h.methods_are ∙ ap (λ (K : Ordered). flat_map (λ s. map (λ os. slice_index os 0) s.methods) (set_offsets K)) e;
     parameters_are = h.parameters_are ∙ ap (λ (K : Ordered). flat_map (λ s. flat_map (drop 1) s.methods) (set_offsets K)) e;
-    end_is = h.end_is ∙ ap set_end e;
+    end_is = h.end_is ∙ ap (λ (K : Ordered). end (set_section K)) e;
     greatest_is = h.greatest_is ∙ ap (λ (K : Ordered). greatest_of (set_section K).items) e;
   }
 
@@ -110,15 +110,15 @@ module _ (m : Mentions) (cs ds : List NumberedClass) (e : ordered_of m cs ≡ or
     signature_length = h.signature_length;
     type_lists_are = type_lists_same h.type_lists_are;
     annotations_are = annotations_same h.annotations_are;
-    static_values_are = subst (λ (K : Ordered). AreLaidSo (array_offsets K) (array_end K) (array_section K).items p.static_values) e h.static_values_are;
-    strings_are = subst (λ (K : Ordered). AreLaidSo (layout K).strings (string_end K) (string_section K).items p.strings) e h.strings_are;
+    static_values_are = subst (λ (K : Ordered). AreLaidSo (uses_offsets (array_section K)) (end (array_section K)) (array_section K).items p.static_values) e h.static_values_are;
+    strings_are = subst (λ (K : Ordered). AreLaidSo (offsets (string_section K)) (end (string_section K)) (string_section K).items p.strings) e h.strings_are;
     debugs_are = debugs_same h.debugs_are;
-    codes_are = subst (λ (K : Ordered). AreLaidSo (code_offsets K) (code_end K) (code_section K).items p.codes) e h.codes_are;
-    class_data_are = subst (λ (K : Ordered). AreLaidSo (class_data_offsets K) (class_data_end K) (class_data_section K).items p.class_data) e h.class_data_are;
+    codes_are = subst (λ (K : Ordered). AreLaidSo (uses_offsets (code_section K)) (end (code_section K)) (code_section K).items p.codes) e h.codes_are;
+    class_data_are = subst (λ (K : Ordered). AreLaidSo (uses_offsets (class_data_section K)) (end (class_data_section K)) (class_data_section K).items p.class_data) e h.class_data_are;
     sets_are = sets_same h.sets_are;
-    ref_lists_are = subst (λ (K : Ordered). AreLaidSo (ref_list_offsets K) (ref_list_end K) (ref_list_section K).items p.ref_lists) e h.ref_lists_are;
-    directories_are = subst (λ (K : Ordered). AreLaidSo (directory_offsets K) (directory_end K) (directory_section K).items p.directories) e h.directories_are;
-    entries_are = h.entries_are ∙ ap (λ (K : Ordered). map_of K (layout K) (map_start K)) e;
+    ref_lists_are = subst (λ (K : Ordered). AreLaidSo (uses_offsets (ref_list_section K)) (end (ref_list_section K)) (ref_list_section K).items p.ref_lists) e h.ref_lists_are;
+    directories_are = subst (λ (K : Ordered). AreLaidSo (uses_offsets (directory_section K)) (end (directory_section K)) (directory_section K).items p.directories) e h.directories_are;
+    entries_are = h.entries_are ∙ ap (λ (K : Ordered). map_of K (map_start K)) e;
     greatest_is = h.greatest_is ∙ ap greatest_item e;
   }
 
@@ -131,12 +131,12 @@ data_before K = omega (arith, data_before_map K, places_same K)
 -- the entries of the parts are the map
 pub entries_same : (K : Ordered) (off : ℕ) (tables sections es : List (Section × ℕ × ℕ))
     → es ≡ (HeaderItem, 1, 0) ∷ (flat_map entry_of tables ++ (flat_map entry_of sections ++ (MapList, 1, off) ∷ [])) → tables ≡ table_parts K → sections ≡ section_parts K → off ≡ map_start K
-    → es ≡ map_of K (layout K) (map_start K)
+    → es ≡ map_of K (map_start K)
 entries_same K off tables sections es e et es' eo =
     e ∙ ap (λ ts. (HeaderItem, 1, 0) ∷ (flat_map entry_of ts ++ (flat_map entry_of sections ++ (MapList, 1, off) ∷ []))) et
     ∙ ap (λ ss. (HeaderItem, 1, 0) ∷ (flat_map entry_of (table_parts K) ++ (flat_map entry_of ss ++ (MapList, 1, off) ∷ []))) es'
-    ∙ map_parts K off ∙ ap (map_of K (layout K)) eo
+    ∙ map_parts K off ∙ ap (map_of K) eo
 
 -- and have its size
-pub map_size_is : (K : Ordered) (es : List (Section × ℕ × ℕ)) (n : ℕ) → es ≡ map_of K (layout K) (map_start K) → n ≡ length es → 4 + 12 * n ≡ length (map_list K)
+pub map_size_is : (K : Ordered) (es : List (Section × ℕ × ℕ)) (n : ℕ) → es ≡ map_of K (map_start K) → n ≡ length es → 4 + 12 * n ≡ length (map_list K)
 map_size_is K es n e en = ap (λ k. 4 + 12 * k) en ∙ sym (length-map_bytes es) ∙ ap (λ l. length (map_bytes l)) e

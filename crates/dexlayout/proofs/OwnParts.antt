@@ -1,15 +1,14 @@
 -- The tables and the map's entries, from their parts.
-use Rattle.std.proofs.Common.{◌≡◌, ℕ, ◌+◌, ◌*◌, ◌≤◌, List, [], ◌∷◌, ◌++◌, length, map, refl, sym, ap, ◌∙◌, arith}
+use Rattle.std.proofs.Common.{◌≡◌, ℕ, ◌+◌, ◌*◌, ◌≤◌, List, [], ◌∷◌, ◌++◌, length, map, refl, ap, ◌∙◌, arith}
 use Rattle.std.specs.List.{flat_map}
 use Rattle.std.specs.Prelude.{◌==◌, if◌then◌else◌, slice_index}
 use Rattle.std.proofs.lemmas.List.{length-map}
 use Rattle.dexspec.specs.Bytes.{round_up}
 use Rattle.dexspec.specs.Header.{Table}
 use Rattle.dexspec.specs.Mentions.{Mentions}
-use Rattle.dexspec.specs.Sections.{Section, HeaderItem, TableOf, MapList}
-use Rattle.dexspec.specs.Placing.{Ordered, Placed, offsets, offsets_from}
-use Rattle.dexspec.specs.Canonical.{Layout, layout, placed_tables, data_sections, map_of}
-use Rattle.dexspec.proofs.layout.Placements.{layout_is}
+use Rattle.dexspec.specs.Sections.{Section, HeaderItem, TableOf, MapList, TypeLists, AnnotationItems, EncodedArrayItems, StringDataItems, DebugInfoItems, CodeItems, ClassDataItems, AnnotationSets, AnnotationSetRefLists, AnnotationsDirectories}
+use Rattle.dexspec.specs.Placing.{Ordered, Placed, offsets, offsets_from, end}
+use Rattle.dexspec.specs.Canonical.{placed_tables, data_sections, map_of, data_start, type_list_section, annotation_section, array_section, string_section, debug_section, code_section, class_data_section, set_section, ref_list_section, directory_section}
 use Rattle.dexclass.specs.Numbered.{NumberedClass, definition_of}
 use Rattle.dexlayout.specs.Laid.{AreWritable, ordered_of}
 use Rattle.dexlayout.specs.internal.Parts.{entry_of, table_parts, section_parts}
@@ -42,11 +41,29 @@ first_encoded kind align from [] = refl
 first_encoded kind align from (x ∷ xs) = refl
 
 -- the map by its parts
-pub map_parts : (K : Ordered) (map_off : ℕ) → (HeaderItem, 1, 0) ∷ (flat_map entry_of (table_parts K) ++ (flat_map entry_of (section_parts K) ++ (MapList, 1, map_off) ∷ [])) ≡ map_of K (layout K) map_off
+pub map_parts : (K : Ordered) (map_off : ℕ) → (HeaderItem, 1, 0) ∷ (flat_map entry_of (table_parts K) ++ (flat_map entry_of (section_parts K) ++ (MapList, 1, map_off) ∷ [])) ≡ map_of K map_off
 map_parts K map_off =
     let tables : Table × ℕ × ℕ → List (Section × ℕ × ℕ) = λ t. if t.1 == 0 then [] else (TableOf t.0, t.1, t.2) ∷ [] in
     let sections : Placed → List (Section × ℕ × ℕ) = λ p. if length p.items == 0 then [] else (p.kind, length p.items, slice_index (offsets p) 0) ∷ [] in
     ap (λ es. (HeaderItem, 1, 0) ∷ (es ++ (flat_map entry_of (section_parts K) ++ (MapList, 1, map_off) ∷ []))) (entries_mapped (λ t. (TableOf t.0, t.1, t.2)) tables (λ t. refl) (placed_tables K))
     ∙ ap (λ es. (HeaderItem, 1, 0) ∷ (flat_map tables (placed_tables K) ++ (es ++ (MapList, 1, map_off) ∷ [])))
     (entries_mapped (λ p. (p.kind, length p.items, round_up p.align p.from)) sections (λ p. first_encoded p.kind p.align p.from p.items) (data_sections K))
-    ∙ ap (λ (l : Layout). map_of K l map_off) (sym (layout_is K))
+
+-- the sections as parts of the map, by kind
+abbrev pub named_parts : Ordered → List (Section × ℕ × ℕ)
+named_parts K =
+    (TypeLists, length (type_list_section K).items, round_up 4 (data_start K))
+    ∷ (AnnotationItems, length (annotation_section K).items, round_up 1 (end (type_list_section K)))
+    ∷ (EncodedArrayItems, length (array_section K).items, round_up 1 (end (annotation_section K)))
+    ∷ (StringDataItems, length (string_section K).items, round_up 1 (end (array_section K)))
+    ∷ (DebugInfoItems, length (debug_section K).items, round_up 1 (end (string_section K)))
+    ∷ (CodeItems, length (code_section K).items, round_up 4 (end (debug_section K)))
+    ∷ (ClassDataItems, length (class_data_section K).items, round_up 1 (end (code_section K)))
+    ∷ (AnnotationSets, length (set_section K).items, round_up 4 (end (class_data_section K)))
+    ∷ (AnnotationSetRefLists, length (ref_list_section K).items, round_up 4 (end (set_section K)))
+    ∷ (AnnotationsDirectories, length (directory_section K).items, round_up 4 (end (ref_list_section K))) ∷ []
+
+-- they are those of the sections
+pub named_parts_are : (K : Ordered) → named_parts K ≡ section_parts K
+unfolding type_list_section annotation_section array_section string_section debug_section code_section class_data_section set_section ref_list_section directory_section
+named_parts_are K = refl

@@ -11,8 +11,8 @@ use Rattle.dexspec.specs.Classes.{MethodDef, Definition, declared_fields, declar
 use Rattle.dexspec.specs.Mentions.{Mentions}
 use Rattle.dexspec.specs.Sameness.{same_debug}
 use Rattle.dexspec.specs.Spellings.{code_bytes, encoded_array_bytes, class_data_bytes}
-use Rattle.dexspec.specs.Placing.{values_unless_empty, all_methods, code_uses, static_values_uses, class_data_uses, is_empty_class, debug_uses, Ordered, offsets}
-use Rattle.dexspec.specs.Canonical.{annotation_end, array_section, array_offsets, array_end, debug_offsets, debug_end, debug_section, code_section, code_offsets, code_end, class_data_section, class_data_offsets, class_data_end}
+use Rattle.dexspec.specs.Placing.{values_unless_empty, all_methods, code_uses, static_values_uses, class_data_uses, is_empty_class, debug_uses, Ordered, offsets, end, uses_offsets}
+use Rattle.dexspec.specs.Canonical.{annotation_section, array_section, debug_section, code_section, class_data_section}
 use Rattle.dexspec.specs.Bytes.{ushort, uint}
 use Rattle.dexspec.proofs.numbers.ByteNumbers.{length-uint}
 use Rattle.dexspec.proofs.layout.Placements.{length-items_offsets, length-uses_offsets, length-zip_with}
@@ -49,14 +49,14 @@ statics_same m rising (c ∷ cs) known =
     ∙ ap (λ n. n ∷ us) (array_same m rising c.members.static_values (All-head (IsKnownClass m) c cs known).members_known.values_known)
 
 -- the offsets of the arrays
-pub arrays_encoded : (m : Mentions) (cs : List NumberedClass) → AreWritable m cs → (from : ℕ) → from ≡ annotation_end (ordered_of m cs)
-    → AreLaidSo (array_offsets (ordered_of m cs)) (array_end (ordered_of m cs)) (array_section (ordered_of m cs)).items (place_uses 1 (none_from from) (map static_size cs))
-unfolding array_offsets array_end
+pub arrays_encoded : (m : Mentions) (cs : List NumberedClass) → AreWritable m cs → (from : ℕ) → from ≡ end (annotation_section (ordered_of m cs))
+    → AreLaidSo (uses_offsets (array_section (ordered_of m cs))) (end (array_section (ordered_of m cs))) (array_section (ordered_of m cs)).items (place_uses 1 (none_from from) (map static_size cs))
+unfolding array_section
 arrays_encoded m cs w from e =
     let K = ordered_of m cs in
     let same = statics_same m w.numbering.rising cs w.known in
-    subst (AreLaidSo (array_offsets K) (array_end K) (array_section K).items) (ap (λ ns. place_uses 1 (none_from (annotation_end K)) ns) (sym same) ∙ ap (λ n. place_uses 1 (none_from n) (map static_size cs)) (sym e))
-    (own_encoded (encoded_array_bytes m) 1 (annotation_end K) (static_values_uses K))
+    subst (AreLaidSo (uses_offsets (array_section K)) (end (array_section K)) (array_section K).items) (ap (λ ns. place_uses 1 (none_from (end (annotation_section K))) ns) (sym same) ∙ ap (λ n. place_uses 1 (none_from n) (map static_size cs)) (sym e))
+    (own_encoded (encoded_array_bytes m) 1 (end (annotation_section K)) (static_values_uses K))
 
 -- ---- code
 
@@ -120,30 +120,30 @@ module _ (m : Mentions) (rising : AreRising m) (bytes : CodeBytesAre) where
       ∙ ap (λ n. n ∷ sizes item_of (zip_with use_of (map (method_in m) xs) offs)) (code_same x.code o (All-head (IsKnownMethod m) x xs known).code_known)
 
 -- an offset of a debug program for each method
-pub length-debug_offsets : (K : Ordered) → length (debug_offsets K) ≡ length (all_methods K.classes)
-unfolding debug_offsets
+pub length-debug_offsets : (K : Ordered) → length (uses_offsets (debug_section K)) ≡ length (all_methods K.classes)
+unfolding debug_section
 length-debug_offsets K = length-items_offsets K.sharing same_debug (debug_uses K) (offsets (debug_section K)) ∙ length-map (all_methods K.classes) _
 
 -- an offset of code for each method
-pub length-code_offsets : (K : Ordered) → length (code_offsets K) ≡ length (all_methods K.classes)
-unfolding code_offsets
-length-code_offsets K = length-uses_offsets (code_uses K (debug_offsets K)) (offsets (code_section K)) ∙ length-zip_with _ (all_methods K.classes) (debug_offsets K) (length (all_methods K.classes)) refl (length-debug_offsets K)
+pub length-code_offsets : (K : Ordered) → length (uses_offsets (code_section K)) ≡ length (all_methods K.classes)
+unfolding code_section
+length-code_offsets K = length-uses_offsets (code_uses K (uses_offsets (debug_section K))) (offsets (code_section K)) ∙ length-zip_with _ (all_methods K.classes) (uses_offsets (debug_section K)) (length (all_methods K.classes)) refl (length-debug_offsets K)
 
 -- the offsets of code
-pub codes_encoded : (m : Mentions) (cs : List NumberedClass) → AreWritable m cs → CodeBytesAre → (from : ℕ) → from ≡ debug_end (ordered_of m cs)
-    → AreLaidSo (code_offsets (ordered_of m cs)) (code_end (ordered_of m cs)) (code_section (ordered_of m cs)).items (place_uses 4 (none_from from) (flat_map class_code_sizes cs))
-unfolding code_offsets code_end
+pub codes_encoded : (m : Mentions) (cs : List NumberedClass) → AreWritable m cs → CodeBytesAre → (from : ℕ) → from ≡ end (debug_section (ordered_of m cs))
+    → AreLaidSo (uses_offsets (code_section (ordered_of m cs))) (end (code_section (ordered_of m cs))) (code_section (ordered_of m cs)).items (place_uses 4 (none_from from) (flat_map class_code_sizes cs))
+unfolding code_section
 codes_encoded m cs w bytes from e =
     let K = ordered_of m cs in
     let item = λ (p : symbolic.Code × ℕ). code_bytes m p.1 p.0 in
-    let offs = debug_offsets K in
+    let offs = uses_offsets (debug_section K) in
     let mean = methods_mean m cs in
     let count : length offs ≡ length (methods_in_all cs) = length-debug_offsets K ∙ ap (λ (xs : List MethodDef). length xs) mean ∙ length-map (methods_in_all cs) (method_in m) in
     let same : flat_map class_code_sizes cs ≡ sizes item (code_uses K offs) =
     sizes_joined cs ∙ codes_same m w.numbering.rising bytes (methods_in_all cs) offs count (methods_known m cs w.known)
     ∙ ap (λ xs. sizes item (zip_with (use_of m w.numbering.rising bytes) xs offs)) (sym mean) in
-    subst (AreLaidSo (code_offsets K) (code_end K) (code_section K).items) (ap (λ ns. place_uses 4 (none_from (debug_end K)) ns) (sym same) ∙ ap (λ n. place_uses 4 (none_from n) (flat_map class_code_sizes cs)) (sym e))
-    (own_encoded item 4 (debug_end K) (code_uses K offs))
+    subst (AreLaidSo (uses_offsets (code_section K)) (end (code_section K)) (code_section K).items) (ap (λ ns. place_uses 4 (none_from (end (debug_section K))) ns) (sym same) ∙ ap (λ n. place_uses 4 (none_from n) (flat_map class_code_sizes cs)) (sym e))
+    (own_encoded item 4 (end (debug_section K)) (code_uses K offs))
 
 -- ---- class data
 
@@ -185,19 +185,19 @@ module _ (m : Mentions) (rising : AreRising m) where
       ∙ ap (λ k. option_map (λ p. length (data_of p)) (data_use (definition_of m c) (take k offs)) ∷ rest k) (sym (method_count c))
 
 -- the offsets of class data
-pub class_data_encoded : (m : Mentions) (cs : List NumberedClass) → AreWritable m cs → (offs : List ℕ) → offs ≡ code_offsets (ordered_of m cs) → (from : ℕ) → from ≡ code_end (ordered_of m cs)
-    → AreLaidSo (class_data_offsets (ordered_of m cs)) (class_data_end (ordered_of m cs)) (class_data_section (ordered_of m cs)).items (place_uses 1 (none_from from) (class_data_sizes cs offs))
-unfolding class_data_offsets class_data_end
+pub class_data_encoded : (m : Mentions) (cs : List NumberedClass) → AreWritable m cs → (offs : List ℕ) → offs ≡ uses_offsets (code_section (ordered_of m cs)) → (from : ℕ) → from ≡ end (code_section (ordered_of m cs))
+    → AreLaidSo (uses_offsets (class_data_section (ordered_of m cs))) (end (class_data_section (ordered_of m cs))) (class_data_section (ordered_of m cs)).items (place_uses 1 (none_from from) (class_data_sizes cs offs))
+unfolding class_data_section
 class_data_encoded m cs w offs eo from e =
     let K = ordered_of m cs in
     let item = λ (p : Definition × List ℕ). class_data_bytes m p.0 p.1 in
-    let same : class_data_sizes cs offs ≡ sizes item (class_data_uses K (code_offsets K)) = ap (class_data_sizes cs) eo ∙ datas_same m w.numbering.rising cs (code_offsets K) w.known in
-    subst (AreLaidSo (class_data_offsets K) (class_data_end K) (class_data_section K).items)
-    (ap (λ ns. place_uses 1 (none_from (code_end K)) ns) (sym same) ∙ ap (λ n. place_uses 1 (none_from n) (class_data_sizes cs offs)) (sym e))
-    (own_encoded item 1 (code_end K) (class_data_uses K (code_offsets K)))
+    let same : class_data_sizes cs offs ≡ sizes item (class_data_uses K (uses_offsets (code_section K))) = ap (class_data_sizes cs) eo ∙ datas_same m w.numbering.rising cs (uses_offsets (code_section K)) w.known in
+    subst (AreLaidSo (uses_offsets (class_data_section K)) (end (class_data_section K)) (class_data_section K).items)
+    (ap (λ ns. place_uses 1 (none_from (end (code_section K))) ns) (sym same) ∙ ap (λ n. place_uses 1 (none_from n) (class_data_sizes cs offs)) (sym e))
+    (own_encoded item 1 (end (code_section K)) (class_data_uses K (uses_offsets (code_section K))))
 
 -- as many offsets of code as methods
-pub code_offsets_count : (m : Mentions) (cs : List NumberedClass) (offs : List ℕ) → offs ≡ code_offsets (ordered_of m cs) → length offs ≡ length (methods_in_all cs)
+pub code_offsets_count : (m : Mentions) (cs : List NumberedClass) (offs : List ℕ) → offs ≡ uses_offsets (code_section (ordered_of m cs)) → length offs ≡ length (methods_in_all cs)
 code_offsets_count m cs offs e =
     ap (λ (l : List ℕ). length l) e ∙ length-code_offsets (ordered_of m cs) ∙ ap (λ (xs : List MethodDef). length xs) (methods_mean m cs) ∙ length-map (methods_in_all cs) (method_in m)
 

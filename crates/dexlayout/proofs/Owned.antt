@@ -6,8 +6,9 @@ use Rattle.std.specs.Option.{option_map, option_map_or}
 use Rattle.std.proofs.lemmas.List.{append-nil, length-append, take_more, get_or-append-add}
 use Rattle.dexspec.specs.Lists.{present}
 use Rattle.dexspec.specs.Bytes.{round_up}
-use Rattle.dexspec.specs.Placing.{own_numbers, own_items, offsets_from, end_from, uses_offsets}
+use Rattle.dexspec.specs.Placing.{own_numbers, own_items, offsets_from, end_from}
 use Rattle.dexspec.proofs.layout.Places.{length-padding}
+use Rattle.dexspec.proofs.layout.Placements.{numbers_offsets}
 use Rattle.dexlayout.specs.Places.{ItemPlaces}
 use Rattle.dexlayout.specs.internal.Running.{none_from, pass, put_at, place_use, place_uses}
 use Rattle.dexlayout.specs.Laid.{greatest_of, AreLaidSo}
@@ -83,7 +84,7 @@ module _ {X : Type 0} (f : X → List ℕ) (align : ℕ) where
 
   -- the offsets of items that are not shared
   pub own_encoded : (from : ℕ) (us : List (Option X))
-      → AreLaidSo (uses_offsets (own_items us).numbers (offsets_from align from (map f (own_items us).written))) (end_from align from (map f (own_items us).written)) (map f (own_items us).written)
+      → AreLaidSo (numbers_offsets (own_items us).numbers (offsets_from align from (map f (own_items us).written))) (end_from align from (map f (own_items us).written)) (map f (own_items us).written)
       (place_uses align (none_from from) (sizes f us))
   own_encoded from us = record {
     offsets_are = offsets_go us [] (none_from from);

@@ -6,8 +6,8 @@ use Rattle.std.proofs.lemmas.List.Elements.{All-head, All-tail}
 use Rattle.dexspec.specs.Annotations.{AnnotationSet}
 use Rattle.dexspec.specs.Bytes.{round_up}
 use Rattle.dexspec.specs.Mentions.{Mentions}
-use Rattle.dexspec.specs.Placing.{end_from}
-use Rattle.dexspec.specs.Canonical.{set_items, type_list_end, annotation_section, annotation_end}
+use Rattle.dexspec.specs.Placing.{end_from, end}
+use Rattle.dexspec.specs.Canonical.{set_items, type_list_section, annotation_section}
 use Rattle.dexspec.specs.Spellings.{annotation_bytes}
 use Rattle.dexspec.proofs.layout.Places.{end_append}
 use Rattle.dexpool.specs.Numberings.{AreRising}
@@ -127,9 +127,9 @@ sets_after m g (x ∷ xs) = ap (λ l. set_in m (g x) ∷ l) (sets_after m g xs)
 
 -- the offsets of the annotations of the sets of a file
 pub annotations_encoded : (m : Mentions) (cs : List NumberedClass) (ss : List NumberedSet) (from : ℕ) → AreWritable m cs → map (set_in m) ss ≡ (set_items (ordered_of m cs)).written → All (IsKnownSet m) ss
-    → from ≡ type_list_end (ordered_of m cs)
-    → AreLaidSo (first_offsets m (type_list_end (ordered_of m cs)) (set_items (ordered_of m cs)).written) (annotation_end (ordered_of m cs)) (annotation_section (ordered_of m cs)).items (place_sets (none_from from) ss)
-unfolding annotation_end
+    → from ≡ end (type_list_section (ordered_of m cs))
+    → AreLaidSo (first_offsets m (end (type_list_section (ordered_of m cs))) (set_items (ordered_of m cs)).written) (end (annotation_section (ordered_of m cs))) (annotation_section (ordered_of m cs)).items (place_sets (none_from from) ss)
+unfolding annotation_section
 annotations_encoded m cs ss from w are known is =
     let K = ordered_of m cs in
     let placed = placed_sets m w.numbering.rising (none_from from) ss known in
@@ -141,5 +141,5 @@ annotations_encoded m cs ss from w are known is =
 
 -- they end within the file
 pub annotations_fit : (m : Mentions) (cs : List NumberedClass) (ss : List NumberedSet) (from : ℕ) → AreWritable m cs → map (set_in m) ss ≡ (set_items (ordered_of m cs)).written → All (IsKnownSet m) ss
-    → from ≡ type_list_end (ordered_of m cs) → (place_sets (none_from from) ss).end ≤ 2 ^ 30
+    → from ≡ end (type_list_section (ordered_of m cs)) → (place_sets (none_from from) ss).end ≤ 2 ^ 30
 annotations_fit m cs ss from w are known is = omega (arith, (annotations_encoded m cs ss from w are known is).end_is, (end_in_file (ordered_of m cs) w.fits).annotations)

@@ -7,16 +7,16 @@ use Rattle.std.specs.FinMap.Entries.{by_order}
 use Rattle.std.specs.declared.cmp.Ordering.TheVariants.{Less, Equal, Greater}
 use Rattle.std.proofs.lemmas.Bool.{cond-false, cond-true, eqb-true}
 use Rattle.std.proofs.Common.{eq-eqb}
-use Rattle.std.proofs.lemmas.List.{length-append, length-map, length-take, length-drop, map-id, drop_more, drop-drop, get_or-drop}
+use Rattle.std.proofs.lemmas.List.{length-append, length-map, length-take, length-drop, drop_more, drop-drop, get_or-drop}
 use Rattle.std.proofs.lemmas.List.Elements.{All-head, All-tail}
-use Rattle.dexspec.specs.Lists.{chunks, zip_with, in_order, add_in_order, present}
+use Rattle.dexspec.specs.Lists.{chunks, zip_with, in_order, add_in_order}
 use Rattle.dexspec.specs.Classes.{Definition, MethodDef, declared_fields, declared_methods}
 use Rattle.dexspec.specs.Mentions.{Mentions, field_of, method_of}
-use Rattle.dexspec.specs.Placing.{SetOffsets, pair_cmp, pairs, directory_bytes, directory_uses, own_items}
+use Rattle.dexspec.specs.Placing.{SetOffsets, pair_cmp, pairs, directory_bytes, directory_uses, end, uses_offsets}
 use Rattle.dexspec.specs.Spellings.{field_index, method_index}
-use Rattle.dexspec.specs.Canonical.{set_offsets, ref_list_offsets, ref_list_end, directory_section, directory_offsets, directory_end}
+use Rattle.dexspec.specs.Canonical.{set_offsets, ref_list_section, directory_section}
 use Rattle.dexspec.specs.Bytes.{round_up}
-use Rattle.dexspec.specs.Placing.{ref_list_uses, uses_offsets, offsets_from, end_from}
+use Rattle.dexspec.specs.Placing.{ref_list_uses}
 use Rattle.dexspec.specs.Spellings.{offsets_bytes}
 use Rattle.dexspec.proofs.layout.Placements.{length-chunks, length-uses_offsets, length-set_offsets}
 use Rattle.dexspec.proofs.sharing.Shorter.{not_zero}
@@ -273,8 +273,8 @@ class_lists_count (c ∷ cs) =
       class_lists_count cs,
     )
 
-pub length-ref_list_offsets : (m : Mentions) (cs : List NumberedClass) → length (ref_list_offsets (ordered_of m cs)) ≡ length (flat_map (λ c. methods_of c.members) cs)
-unfolding ref_list_offsets
+pub length-ref_list_offsets : (m : Mentions) (cs : List NumberedClass) → length (uses_offsets (ref_list_section (ordered_of m cs))) ≡ length (flat_map (λ c. methods_of c.members) cs)
+unfolding ref_list_section
 length-ref_list_offsets m cs =
     let K = ordered_of m cs in
     let us = ref_list_uses K (set_offsets K) in
@@ -303,10 +303,10 @@ module _ (m : Mentions) (cs : List NumberedClass) (sets : SetPlaces) (are : AreS
 
   -- their lengths
   directory_lengths : AreWritable m cs → RanksAreNumbers m
-      → directory_sizes cs sets.own sets.fields sets.methods (ref_list_offsets (ordered_of m cs)) ≡ sizes (λ x. x) (directory_uses (ordered_of m cs) (set_offsets (ordered_of m cs)) (ref_list_offsets (ordered_of m cs)))
+      → directory_sizes cs sets.own sets.fields sets.methods (uses_offsets (ref_list_section (ordered_of m cs))) ≡ sizes (λ x. x) (directory_uses (ordered_of m cs) (set_offsets (ordered_of m cs)) (uses_offsets (ref_list_section (ordered_of m cs))))
   directory_lengths w ranks =
       let K = ordered_of m cs in
-      let lists = ref_list_offsets K in
+      let lists = uses_offsets (ref_list_section K) in
       (λ i. directory_sizes cs (are.own_are i) (are.fields_are i) (are.methods_are i) lists)
       ∙ ap (λ (ss : List SetOffsets). directory_sizes cs (map (λ s. s.own) ss) (flat_map (λ s. s.fields) ss) (flat_map firsts ss) lists) set_parts
       ∙ all_directories m ranks cs w.known (set_use_offsets K) lists (omega (arith, sets_enough)) (omega (arith, length-ref_list_offsets m cs))
@@ -314,12 +314,12 @@ module _ (m : Mentions) (cs : List NumberedClass) (sets : SetPlaces) (are : AreS
 
   -- their offsets
   pub directories_encoded : AreWritable m cs → RanksAreNumbers m
-      → AreLaidSo (directory_offsets (ordered_of m cs)) (directory_end (ordered_of m cs)) (directory_section (ordered_of m cs)).items
-      (place_uses 4 (none_from (ref_list_end (ordered_of m cs))) (directory_sizes cs sets.own sets.fields sets.methods (ref_list_offsets (ordered_of m cs))))
-  unfolding directory_offsets directory_end
+      → AreLaidSo (uses_offsets (directory_section (ordered_of m cs))) (end (directory_section (ordered_of m cs))) (directory_section (ordered_of m cs)).items
+      (place_uses 4 (none_from (end (ref_list_section (ordered_of m cs)))) (directory_sizes cs sets.own sets.fields sets.methods (uses_offsets (ref_list_section (ordered_of m cs)))))
+  unfolding directory_section
   directories_encoded w ranks =
       let K = ordered_of m cs in
-      let from = ref_list_end K in
-      let us = directory_uses K (set_offsets K) (ref_list_offsets K) in
-      subst (λ ns. AreLaidSo (directory_offsets K) (directory_end K) (directory_section K).items (place_uses 4 (none_from from) ns)) (sym (directory_lengths w ranks))
-      (subst (λ l. AreLaidSo (uses_offsets (own_items us).numbers (offsets_from 4 from l)) (end_from 4 from l) l (place_uses 4 (none_from from) (sizes (λ x. x) us))) (map-id (present us)) (own_encoded (λ x. x) 4 from us))
+      let from = end (ref_list_section K) in
+      let us = directory_uses K (set_offsets K) (uses_offsets (ref_list_section K)) in
+      subst (λ ns. AreLaidSo (uses_offsets (directory_section K)) (end (directory_section K)) (directory_section K).items (place_uses 4 (none_from from) ns)) (sym (directory_lengths w ranks))
+      (own_encoded (λ (x : List ℕ). x) 4 from us)

@@ -7,11 +7,11 @@ use Rattle.std.proofs.lemmas.List.{length-map, length-replicate, map-append, dro
 use Rattle.dexspec.specs.Bytes.{round_up}
 use Rattle.dexspec.specs.Classes.{declared_methods}
 use Rattle.dexspec.specs.Mentions.{Mentions}
-use Rattle.dexspec.specs.Placing.{Ordered, class_sets, set_uses, uses_offsets, offsets, ref_list_uses, unless_empty}
+use Rattle.dexspec.specs.Placing.{Ordered, class_sets, set_uses, uses_offsets, offsets, ref_list_uses, unless_empty, end}
 use Rattle.dexspec.specs.Sameness.{same_set}
-use Rattle.dexspec.specs.Canonical.{set_items, set_section, set_offsets, ref_list_section, ref_list_offsets, ref_list_end, set_end}
+use Rattle.dexspec.specs.Canonical.{set_items, set_section, set_offsets, ref_list_section}
 use Rattle.dexspec.specs.Spellings.{offsets_bytes}
-use Rattle.dexspec.proofs.layout.Placements.{length-items_offsets}
+use Rattle.dexspec.proofs.layout.Placements.{length-items_offsets, numbers_offsets}
 use Rattle.dexspec.proofs.sharing.Shorter.{not_zero}
 use Rattle.dexval.specs.Numbered.{set_in}
 use Rattle.dexmembers.specs.Numbered.{NumberedMethod, method_in, methods_of}
@@ -114,7 +114,7 @@ all_declared m (c ∷ cs) = let here = declared m c in let rest = all_declared m
 
 -- the offsets of all uses of sets
 abbrev pub set_use_offsets : Ordered → List ℕ
-set_use_offsets K = uses_offsets (set_items K).numbers (offsets (set_section K))
+set_use_offsets K = numbers_offsets (set_items K).numbers (offsets (set_section K))
 
 -- as many as sets
 pub length-set_use_offsets : (K : Ordered) → length (set_use_offsets K) ≡ length (flat_map class_sets K.classes)
@@ -122,7 +122,7 @@ length-set_use_offsets K = length-items_offsets K.sharing same_set (set_uses K) 
 
 -- the offsets of the sets, class by class
 pub set_offsets_are : (K : Ordered) → set_offsets K ≡ parts K.classes (set_use_offsets K)
-unfolding set_offsets
+unfolding set_offsets set_section
 set_offsets_are K = refl
 
 -- the lengths of the lists
@@ -133,8 +133,8 @@ ref_list_lengths m cs =
 
 -- their offsets
 pub ref_lists_encoded : (m : Mentions) (cs : List NumberedClass)
-    → AreLaidSo (ref_list_offsets (ordered_of m cs)) (ref_list_end (ordered_of m cs)) (ref_list_section (ordered_of m cs)).items (place_uses 4 (none_from (set_end (ordered_of m cs))) (class_list_sizes cs))
-unfolding ref_list_offsets ref_list_end
+    → AreLaidSo (uses_offsets (ref_list_section (ordered_of m cs))) (end (ref_list_section (ordered_of m cs))) (ref_list_section (ordered_of m cs)).items (place_uses 4 (none_from (end (set_section (ordered_of m cs)))) (class_list_sizes cs))
+unfolding ref_list_section
 ref_lists_encoded m cs =
     let K = ordered_of m cs in
-    subst (λ us. AreLaidSo (ref_list_offsets K) (ref_list_end K) (ref_list_section K).items (place_uses 4 (none_from (set_end K)) us)) (ref_list_lengths m cs) (own_encoded offsets_bytes 4 (set_end K) (ref_list_uses K (set_offsets K)))
+    subst (λ us. AreLaidSo (uses_offsets (ref_list_section K)) (end (ref_list_section K)) (ref_list_section K).items (place_uses 4 (none_from (end (set_section K))) us)) (ref_list_lengths m cs) (own_encoded offsets_bytes 4 (end (set_section K)) (ref_list_uses K (set_offsets K)))

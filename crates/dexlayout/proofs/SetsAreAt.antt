@@ -5,8 +5,8 @@ use Rattle.std.specs.List.{flat_map}
 use Rattle.std.proofs.lemmas.List.{length-map, get_or_default}
 use Rattle.dexspec.specs.Annotations.{AnnotationSet}
 use Rattle.dexspec.specs.Mentions.{Mentions}
-use Rattle.dexspec.specs.Placing.{Ordered, SetOffsets, offsets, set_uses}
-use Rattle.dexspec.specs.Canonical.{set_items, set_section, set_offsets, set_end, annotation_offsets, annotation_section, class_data_end}
+use Rattle.dexspec.specs.Placing.{Ordered, SetOffsets, offsets, set_uses, end}
+use Rattle.dexspec.specs.Canonical.{set_items, set_section, set_offsets, annotation_offsets, annotation_section, class_data_section}
 use Rattle.dexspec.specs.Sameness.{same_set}
 use Rattle.dexspec.specs.Spellings.{offsets_bytes, annotation_bytes}
 use Rattle.dexspec.proofs.layout.Placements.{length-chunks}
@@ -29,6 +29,7 @@ use Rattle.dexlayout.proofs.SetsCollected.{collected_classes, classes_parts}
 
 -- as many offsets as annotations
 annotations_count : (K : Ordered) → length (offsets (annotation_section K)) ≡ length (flat_map (λ (s : AnnotationSet). s) (set_items K).written)
+unfolding annotation_section
 annotations_count K =
     let all = flat_map (λ (s : AnnotationSet). s) (set_items K).written in
     length-offsets_from 1 (annotation_section K).from (map (annotation_bytes K.pools) all) ∙ length-map all (annotation_bytes K.pools)
@@ -37,6 +38,11 @@ annotations_count K =
 pub length-annotation_offsets : (K : Ordered) → length (annotation_offsets K) ≡ length (set_items K).written
 unfolding annotation_offsets
 length-annotation_offsets K = length-chunks (map (λ (s : AnnotationSet). length s) (set_items K).written) (offsets (annotation_section K)) ∙ length-map (set_items K).written (λ s. length s)
+
+-- an offset for each set
+pub length-set_offsets : (K : Ordered) → length (offsets (set_section K)) ≡ length (set_items K).written
+unfolding set_section
+length-set_offsets K = length-offsets_from 4 (end (class_data_section K)) (map offsets_bytes (annotation_offsets K)) ∙ length-map (annotation_offsets K) offsets_bytes ∙ length-annotation_offsets K
 
 -- by lengths
 by_length : (oss : List (List ℕ)) → map (λ os. Some (length (offsets_bytes os))) oss ≡ map (λ n. Some (4 + 4 * n)) (map (λ os. length os) oss)
@@ -66,11 +72,11 @@ set_sizes m cs ss are =
 
 -- their offsets
 pub sets_encoded : (m : Mentions) (cs : List NumberedClass) (ss : List NumberedSet) → map (set_in m) ss ≡ (set_items (ordered_of m cs)).written
-    → AreLaidSo (offsets (set_section (ordered_of m cs))) (set_end (ordered_of m cs)) (set_section (ordered_of m cs)).items (place_uses 4 (none_from (class_data_end (ordered_of m cs))) (map (λ s. Some (set_len s)) ss))
-unfolding set_end
+    → AreLaidSo (offsets (set_section (ordered_of m cs))) (end (set_section (ordered_of m cs))) (set_section (ordered_of m cs)).items (place_uses 4 (none_from (end (class_data_section (ordered_of m cs)))) (map (λ s. Some (set_len s)) ss))
+unfolding set_section
 sets_encoded m cs ss are =
     let K = ordered_of m cs in
-    subst (λ us. AreLaidSo (offsets (set_section K)) (set_end K) (set_section K).items (place_uses 4 (none_from (class_data_end K)) us)) (set_sizes m cs ss are) (all_encoded offsets_bytes 4 (class_data_end K) (annotation_offsets K))
+    subst (λ us. AreLaidSo (offsets (set_section K)) (end (set_section K)) (set_section K).items (place_uses 4 (none_from (end (class_data_section K))) us)) (set_sizes m cs ss are) (all_encoded offsets_bytes 4 (end (class_data_section K)) (annotation_offsets K))
 
 -- sets that are mapped to references
 pub referred : {X : Type 0} (g : X → NumberedSet) (xs : List X) → map (λ x. Some (set_len (g x))) xs ≡ map (λ s. Some (set_len s)) (map g xs)
@@ -79,13 +85,13 @@ referred g (x ∷ xs) = ap (λ l. Some (set_len (g x)) ∷ l) (referred g xs)
 
 -- their offsets, from a place on
 pub written_encoded : {X : Type 0} (m : Mentions) (cs : List NumberedClass) (g : X → NumberedSet) (ws : List X) (ss : List NumberedSet) (from : ℕ) → map g ws ≡ ss → map (set_in m) ss ≡ (set_items (ordered_of m cs)).written
-    → from ≡ class_data_end (ordered_of m cs)
-    → AreLaidSo (offsets (set_section (ordered_of m cs))) (set_end (ordered_of m cs)) (set_section (ordered_of m cs)).items (place_uses 4 (none_from from) (map (λ w. Some (set_len (g w))) ws))
+    → from ≡ end (class_data_section (ordered_of m cs))
+    → AreLaidSo (offsets (set_section (ordered_of m cs))) (end (set_section (ordered_of m cs))) (set_section (ordered_of m cs)).items (place_uses 4 (none_from from) (map (λ w. Some (set_len (g w))) ws))
 written_encoded m cs g ws ss from e are is =
     let K = ordered_of m cs in
     let us : map (λ s. Some (set_len s)) ss ≡ map (λ w. Some (set_len (g w))) ws = ap (map (λ s. Some (set_len s))) (sym e) ∙ sym (referred g ws) in
-    let same : place_uses 4 (none_from (class_data_end K)) (map (λ s. Some (set_len s)) ss) ≡ place_uses 4 (none_from from) (map (λ w. Some (set_len (g w))) ws) = λ i. place_uses 4 (none_from (sym is i)) (us i) in
-    subst (AreLaidSo (offsets (set_section K)) (set_end K) (set_section K).items) same (sets_encoded m cs ss are)
+    let same : place_uses 4 (none_from (end (class_data_section K))) (map (λ s. Some (set_len s)) ss) ≡ place_uses 4 (none_from from) (map (λ w. Some (set_len (g w))) ws) = λ i. place_uses 4 (none_from (sym is i)) (us i) in
+    subst (AreLaidSo (offsets (set_section K)) (end (set_section K)) (set_section K).items) same (sets_encoded m cs ss are)
 
 -- ---- numbers
 
@@ -106,13 +112,13 @@ numbers_within K =
 -- ---- all sets
 
 -- the offsets that were collected are those of the sets
-pub sets_are : (m : Mentions) (cs : List NumberedClass) (offs : List ℕ) (end greatest : ℕ) (p : SetPlaces)
-    → p ≡ collect_classes (record { own = []; fields = []; methods = []; parameters = []; end = end; greatest = greatest }) (parts_of_classes cs offs)
-    → offs ≡ set_use_offsets (ordered_of m cs) → end ≡ set_end (ordered_of m cs) → greatest ≡ greatest_of (set_section (ordered_of m cs)).items → AreSets m cs p
-sets_are m cs offs end greatest p collected are last most =
+pub sets_are : (m : Mentions) (cs : List NumberedClass) (offs : List ℕ) (at greatest : ℕ) (p : SetPlaces)
+    → p ≡ collect_classes (record { own = []; fields = []; methods = []; parameters = []; end = at; greatest = greatest }) (parts_of_classes cs offs)
+    → offs ≡ set_use_offsets (ordered_of m cs) → at ≡ end (set_section (ordered_of m cs)) → greatest ≡ greatest_of (set_section (ordered_of m cs)).items → AreSets m cs p
+sets_are m cs offs at greatest p collected are last most =
     let K = ordered_of m cs in
     let ss : parts_of_classes cs offs ≡ set_offsets K = sym (classes_parts m cs offs) ∙ ap (parts K.classes) are ∙ sym (set_offsets_are K) in
-    let all = collected ∙ collected_classes (record { own = []; fields = []; methods = []; parameters = []; end = end; greatest = greatest }) (parts_of_classes cs offs) in
+    let all = collected ∙ collected_classes (record { own = []; fields = []; methods = []; parameters = []; end = at; greatest = greatest }) (parts_of_classes cs offs) in
     record {
       own_are = ap (λ (q : SetPlaces). q.own) all ∙ ap (map (λ (s : SetOffsets). s.own)) ss;
       fields_are = ap (λ (q : SetPlaces). q.fields) all ∙ ap (flat_map (λ (s : SetOffsets). s.fields)) ss;

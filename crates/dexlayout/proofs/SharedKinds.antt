@@ -9,11 +9,11 @@ use Rattle.std.proofs.lemmas.List.{map-append, length-append, length-map}
 use Rattle.std.proofs.lemmas.Simd.{map-map}
 use Rattle.dexspec.specs.Annotations.{AnnotationSet}
 use Rattle.dexspec.specs.Bytes.{uint, ushort}
-use Rattle.dexspec.specs.Canonical.{data_start, type_list_items, type_list_section, type_list_offsets, type_list_end, set_items, string_end, debug_items, debug_section, debug_offsets, debug_end}
+use Rattle.dexspec.specs.Canonical.{data_start, type_list_items, type_list_section, set_items, string_section, debug_items, debug_section}
 use Rattle.dexspec.specs.Classes.{FieldDef, MethodDef}
 use Rattle.dexspec.specs.Debug.{Debug}
 use Rattle.dexspec.specs.Mentions.{Mentions}
-use Rattle.dexspec.specs.Placing.{offsets, offsets_from, end_from, unless_empty, method_sets, class_sets, type_list_uses, set_uses, debug_uses, all_methods}
+use Rattle.dexspec.specs.Placing.{offsets, offsets_from, end_from, unless_empty, method_sets, class_sets, type_list_uses, set_uses, debug_uses, all_methods, end}
 use Rattle.dexspec.specs.Sameness.{same_types, same_set, same_debug}
 use Rattle.dexspec.specs.Spellings.{type_index, type_list_bytes, debug_bytes}
 use Rattle.dexspec.proofs.numbers.ByteNumbers.{length-uint, length-ushort}
@@ -63,8 +63,8 @@ module _ (m : Mentions) (cs : List NumberedClass) (from : ℕ) (is : from ≡ da
   abbrev pub list_places : ItemPlaces
   list_places = placed list_len 4 (none_from from) written
 
-  lists_encoded : AreLaidSo (offsets (type_list_section (ordered_of m cs))) (type_list_end (ordered_of m cs)) (type_list_section (ordered_of m cs)).items list_places
-  unfolding type_list_end
+  lists_encoded : AreLaidSo (offsets (type_list_section (ordered_of m cs))) (end (type_list_section (ordered_of m cs))) (type_list_section (ordered_of m cs)).items list_places
+  unfolding type_list_section
   lists_encoded =
       let items = (type_list_section (ordered_of m cs)).items in
       subst (λ n. AreLaidSo (offsets_from 4 n items) (end_from 4 n items) items list_places) is
@@ -76,6 +76,7 @@ module _ (m : Mentions) (cs : List NumberedClass) (from : ℕ) (is : from ≡ da
 
   -- each use has the number of one of them
   pub lists_numbered : All (λ n. IfSome n (λ i. i < length list_places.offsets)) numbers
+  unfolding type_list_section
   lists_numbered =
       let items = type_list_items (ordered_of m cs) in
       numbers_within same_types types_decide (type_list_uses (ordered_of m cs)) numbers (length list_places.offsets) h.numbers_are
@@ -83,7 +84,7 @@ module _ (m : Mentions) (cs : List NumberedClass) (from : ℕ) (is : from ≡ da
 
   -- the type lists of the file
   pub lists_laid : AreTypeLists m cs (record { written = written; places = by_numbers numbers list_places })
-  unfolding type_list_offsets
+  unfolding type_list_section
   lists_laid = record { written_are = h.written_are; known = known; places_are = uses_encoded numbers (type_list_items (ordered_of m cs)).numbers h.numbers_are lists_encoded }
 
 -- ---- annotation sets
@@ -163,7 +164,7 @@ debugs_shared m cs ks ns exact rising h = shared_are h same_debug (λ d e. debug
 abbrev pub debug_len : Bor NumberedDebug → ℕ
 debug_len d = length (numbered_debug_bytes d.now)
 
-module _ (m : Mentions) (cs : List NumberedClass) (w : AreWritable m cs) (from : ℕ) (is : from ≡ string_end (ordered_of m cs)) (written : List (Bor NumberedDebug)) (numbers : List (Option ℕ))
+module _ (m : Mentions) (cs : List NumberedClass) (w : AreWritable m cs) (from : ℕ) (is : from ≡ end (string_section (ordered_of m cs))) (written : List (Bor NumberedDebug)) (numbers : List (Option ℕ))
     (known : All (λ d. IsKnownDebug m d.now) written) (h : AreShared (λ (d : Bor NumberedDebug). debug_in m d.now) (debug_items (ordered_of m cs)) written numbers) where
   -- the offsets of those that are written
   abbrev pub debug_places : ItemPlaces
@@ -175,8 +176,8 @@ module _ (m : Mentions) (cs : List NumberedClass) (w : AreWritable m cs) (from :
   debug_len_is : (d : Bor NumberedDebug) → IsKnownDebug m d.now → debug_len d ≡ length (debug_bytes m (debug_in m d.now))
   debug_len_is d k = ap (λ (l : List ℕ). length l) (debug_code_is d k)
 
-  debugs_encoded : AreLaidSo (offsets (debug_section (ordered_of m cs))) (debug_end (ordered_of m cs)) (debug_section (ordered_of m cs)).items debug_places
-  unfolding debug_end
+  debugs_encoded : AreLaidSo (offsets (debug_section (ordered_of m cs))) (end (debug_section (ordered_of m cs))) (debug_section (ordered_of m cs)).items debug_places
+  unfolding debug_section
   debugs_encoded =
       let items = (debug_section (ordered_of m cs)).items in
       subst (λ n. AreLaidSo (offsets_from 1 n items) (end_from 1 n items) items debug_places) is
@@ -188,16 +189,17 @@ module _ (m : Mentions) (cs : List NumberedClass) (w : AreWritable m cs) (from :
 
   -- each use has the number of one of them
   pub debugs_numbered : All (λ n. IfSome n (λ i. i < length debug_places.offsets)) numbers
+  unfolding debug_section
   debugs_numbered =
       let items = debug_items (ordered_of m cs) in
       numbers_within same_debug debug_decides (debug_uses (ordered_of m cs)) numbers (length debug_places.offsets) h.numbers_are
-      (offsets_count 1 (string_end (ordered_of m cs)) debugs_encoded ∙ length-map items.written (debug_bytes m))
+      (offsets_count 1 (end (string_section (ordered_of m cs))) debugs_encoded ∙ length-map items.written (debug_bytes m))
 
   -- the debug programs of the file
   pub debugs_laid : AreDebugs m cs (record { bytes = flat_map (λ (d : Bor NumberedDebug). numbered_debug_bytes d.now) written; count = length written; places = by_numbers numbers debug_places })
-  unfolding debug_offsets
+  unfolding debug_section
   debugs_laid = record {
-    bytes_are = encoded_are (string_end (ordered_of m cs)) (λ (d : Bor NumberedDebug). numbered_debug_bytes d.now) (debug_bytes m) (λ (d : Bor NumberedDebug). debug_in m d.now) (λ (d : Bor NumberedDebug). IsKnownDebug m d.now) written
+    bytes_are = encoded_are (end (string_section (ordered_of m cs))) (λ (d : Bor NumberedDebug). numbered_debug_bytes d.now) (debug_bytes m) (λ (d : Bor NumberedDebug). debug_in m d.now) (λ (d : Bor NumberedDebug). IsKnownDebug m d.now) written
         (debug_items (ordered_of m cs)).written debug_code_is known h.written_are;
     count_is = sym (length-map written (λ (d : Bor NumberedDebug). debug_in m d.now)) ∙ ap (λ xs. length xs) h.written_are ∙ sym (length-map (debug_items (ordered_of m cs)).written (debug_bytes m));
     places_are = uses_encoded numbers (debug_items (ordered_of m cs)).numbers h.numbers_are debugs_encoded;

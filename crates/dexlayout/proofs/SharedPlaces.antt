@@ -7,11 +7,12 @@ use Rattle.std.proofs.lemmas.List.{append-nil, take_more, take-append-drop, map-
 use Rattle.std.proofs.lemmas.List.Elements.{All-nil, All-cons, All-head, All-tail}
 use Rattle.dexspec.specs.Bytes.{round_up}
 use Rattle.dexspec.specs.Lists.{distinct, present}
-use Rattle.dexspec.specs.Placing.{offsets_from, end_from, uses_offsets, shared_items}
+use Rattle.dexspec.specs.Placing.{offsets_from, end_from, shared_items}
 use Rattle.dexspec.proofs.lists.Distinct.{distinct_has}
 use Rattle.dexspec.proofs.lists.Equality.{IsEquality}
 use Rattle.dexspec.proofs.lists.Members.{Contains-first, Contains-later}
 use Rattle.dexspec.proofs.layout.Places.{length-offsets_from}
+use Rattle.dexspec.proofs.layout.Placements.{numbers_offsets}
 use Rattle.dexspec.proofs.sharing.Sharing.{position_is}
 use Rattle.dexlayout.specs.Places.{ItemPlaces}
 use Rattle.dexlayout.specs.internal.Running.{none_from, put_at, place_uses}
@@ -91,11 +92,11 @@ written_encoded align from len bytes meant IsKnown written symbols same known is
 
 -- the offsets of the uses' items, by their numbers
 abbrev pub by_numbers : List (Option ℕ) → ItemPlaces → ItemPlaces
-by_numbers numbers p = record { offsets = uses_offsets numbers p.offsets; end = p.end; greatest = p.greatest }
+by_numbers numbers p = record { offsets = numbers_offsets numbers p.offsets; end = p.end; greatest = p.greatest }
 
-pub uses_encoded : {offs : List ℕ} {end : ℕ} {items : List (List ℕ)} {p : ItemPlaces} (numbers ns : List (Option ℕ)) → numbers ≡ ns → AreLaidSo offs end items p → AreLaidSo (uses_offsets ns offs) end items (by_numbers numbers p)
+pub uses_encoded : {offs : List ℕ} {end : ℕ} {items : List (List ℕ)} {p : ItemPlaces} (numbers ns : List (Option ℕ)) → numbers ≡ ns → AreLaidSo offs end items p → AreLaidSo (numbers_offsets ns offs) end items (by_numbers numbers p)
 uses_encoded {offs} {end} {items} {p} numbers ns is h = record {
-  offsets_are = ap (uses_offsets numbers) h.offsets_are ∙ ap (λ ks. uses_offsets ks offs) is;
+  offsets_are = ap (numbers_offsets numbers) h.offsets_are ∙ ap (λ ks. numbers_offsets ks offs) is;
   end_is = h.end_is;
   greatest_is = h.greatest_is;
 }

@@ -4,10 +4,10 @@ use Rattle.std.specs.List.{flat_map}
 use Rattle.dexspec.specs.Mentions.{Mentions, mentions}
 use Rattle.dexspec.specs.Files.{Collection, definitions}
 use Rattle.dexspec.specs.Header.{header_length}
-use Rattle.dexspec.specs.Placing.{Ordered, EqualOnce, Placed, Items, section_bytes}
+use Rattle.dexspec.specs.Placing.{Ordered, EqualOnce, Placed, Items, section_bytes, end, uses_offsets, offsets}
 use Rattle.dexspec.specs.Spellings.{annotation_bytes}
 use Rattle.dexspec.specs.Annotations.{AnnotationSet}
-use Rattle.dexspec.specs.Canonical.{layout, map_of, data_sections, type_list_items, type_list_section, type_list_offsets, type_list_end, set_items, annotation_section, annotation_end, array_section, array_offsets, array_end, string_section, string_end, debug_section, debug_offsets, debug_end, code_section, code_offsets, code_end, class_data_section, class_data_offsets, class_data_end, set_section, set_offsets, set_end, ref_list_section, ref_list_offsets, ref_list_end, directory_section, directory_offsets, directory_end, ordered}
+use Rattle.dexspec.specs.Canonical.{map_of, data_sections, type_list_items, type_list_section, set_items, annotation_section, array_section, string_section, debug_section, code_section, class_data_section, set_section, set_offsets, ref_list_section, directory_section, ordered}
 use Rattle.dexhead.specs.Laid.{StatesLayout, map_start, map_list}
 use Rattle.dexpool.specs.Numberings.{IsNumbering}
 use Rattle.dexval.specs.Numbered.{set_in, IsKnownSet}
@@ -58,11 +58,15 @@ pub record AreLaidSo (offsets : List ℕ) (end : ℕ) (items : List (List ℕ)) 
   pub end_is : p.end ≡ end
   pub greatest_is : p.greatest ≡ greatest_of items
 
+-- items of uses have the offsets and the end that they have in this section
+abbrev pub AreLaidIn : Placed → ItemPlaces → Type 0
+AreLaidIn section = AreLaidSo (uses_offsets section) (end section) section.items
+
 -- the type lists
 pub record AreTypeLists (m : Mentions) (cs : List NumberedClass) (p : TypeListPlaces) : Type 0 where
   pub written_are : map (map (type_at m)) p.written ≡ (type_list_items (ordered_of m cs)).written
   pub known : All (All (λ i. i < length m.types)) p.written
-  pub places_are : AreLaidSo (type_list_offsets (ordered_of m cs)) (type_list_end (ordered_of m cs)) (type_list_section (ordered_of m cs)).items p.places
+  pub places_are : AreLaidIn (type_list_section (ordered_of m cs)) p.places
 
 -- the offset of the first annotation of each set, for sets from an offset on
 abbrev pub first_offsets : Mentions → ℕ → List AnnotationSet → List ℕ
@@ -73,13 +77,13 @@ first_offsets m from (s ∷ ss) = from ∷ first_offsets m (from + length (flat_
 pub record AreAnnotations (m : Mentions) (cs : List NumberedClass) (p : AnnotationPlaces) : Type 0 where
   pub written_are : map (set_in m) p.written ≡ (set_items (ordered_of m cs)).written
   pub known : All (IsKnownSet m) p.written
-  pub places_are : AreLaidSo (first_offsets m (type_list_end (ordered_of m cs)) (set_items (ordered_of m cs)).written) (annotation_end (ordered_of m cs)) (annotation_section (ordered_of m cs)).items p.places
+  pub places_are : AreLaidSo (first_offsets m (end (type_list_section (ordered_of m cs))) (set_items (ordered_of m cs)).written) (end (annotation_section (ordered_of m cs))) (annotation_section (ordered_of m cs)).items p.places
 
 -- the debug programs
 pub record AreDebugs (m : Mentions) (cs : List NumberedClass) (p : DebugPlaces) : Type 0 where
   pub bytes_are : p.bytes ≡ section_bytes (debug_section (ordered_of m cs))
   pub count_is : p.count ≡ length (debug_section (ordered_of m cs)).items
-  pub places_are : AreLaidSo (debug_offsets (ordered_of m cs)) (debug_end (ordered_of m cs)) (debug_section (ordered_of m cs)).items p.places
+  pub places_are : AreLaidIn (debug_section (ordered_of m cs)) p.places
 
 -- the sets
 pub record AreSets (m : Mentions) (cs : List NumberedClass) (p : SetPlaces) : Type 0 where
@@ -87,28 +91,28 @@ pub record AreSets (m : Mentions) (cs : List NumberedClass) (p : SetPlaces) : Ty
   pub fields_are : p.fields ≡ flat_map (λ s. s.fields) (set_offsets (ordered_of m cs))
   pub methods_are : p.methods ≡ flat_map (λ s. map (λ os. slice_index os 0) s.methods) (set_offsets (ordered_of m cs))
   pub parameters_are : p.parameters ≡ flat_map (λ s. flat_map (drop 1) s.methods) (set_offsets (ordered_of m cs))
-  pub end_is : p.end ≡ set_end (ordered_of m cs)
+  pub end_is : p.end ≡ end (set_section (ordered_of m cs))
   pub greatest_is : p.greatest ≡ greatest_of (set_section (ordered_of m cs)).items
 
 -- the arrays of static values
 abbrev pub AreStaticValues : Mentions → List NumberedClass → ItemPlaces → Type 0
-AreStaticValues m cs = AreLaidSo (array_offsets (ordered_of m cs)) (array_end (ordered_of m cs)) (array_section (ordered_of m cs)).items
+AreStaticValues m cs = AreLaidIn (array_section (ordered_of m cs))
 
 -- the code
 abbrev pub AreCodes : Mentions → List NumberedClass → ItemPlaces → Type 0
-AreCodes m cs = AreLaidSo (code_offsets (ordered_of m cs)) (code_end (ordered_of m cs)) (code_section (ordered_of m cs)).items
+AreCodes m cs = AreLaidIn (code_section (ordered_of m cs))
 
 -- the class data
 abbrev pub AreClassData : Mentions → List NumberedClass → ItemPlaces → Type 0
-AreClassData m cs = AreLaidSo (class_data_offsets (ordered_of m cs)) (class_data_end (ordered_of m cs)) (class_data_section (ordered_of m cs)).items
+AreClassData m cs = AreLaidIn (class_data_section (ordered_of m cs))
 
 -- the lists of sets of parameters
 abbrev pub AreRefLists : Mentions → List NumberedClass → ItemPlaces → Type 0
-AreRefLists m cs = AreLaidSo (ref_list_offsets (ordered_of m cs)) (ref_list_end (ordered_of m cs)) (ref_list_section (ordered_of m cs)).items
+AreRefLists m cs = AreLaidIn (ref_list_section (ordered_of m cs))
 
 -- the directories
 abbrev pub AreDirectories : Mentions → List NumberedClass → ItemPlaces → Type 0
-AreDirectories m cs = AreLaidSo (directory_offsets (ordered_of m cs)) (directory_end (ordered_of m cs)) (directory_section (ordered_of m cs)).items
+AreDirectories m cs = AreLaidIn (directory_section (ordered_of m cs))
 
 -- ---- the whole
 
@@ -119,14 +123,14 @@ pub record IsLaid (m : Mentions) (cs : List NumberedClass) (p : Places) : Type 0
   pub type_lists_are : AreTypeLists m cs p.type_lists
   pub annotations_are : AreAnnotations m cs p.annotations
   pub static_values_are : AreStaticValues m cs p.static_values
-  pub strings_are : AreLaidSo (layout (ordered_of m cs)).strings (string_end (ordered_of m cs)) (string_section (ordered_of m cs)).items p.strings
+  pub strings_are : AreLaidSo (offsets (string_section (ordered_of m cs))) (end (string_section (ordered_of m cs))) (string_section (ordered_of m cs)).items p.strings
   pub debugs_are : AreDebugs m cs p.debugs
   pub codes_are : AreCodes m cs p.codes
   pub class_data_are : AreClassData m cs p.class_data
   pub sets_are : AreSets m cs p.sets
   pub ref_lists_are : AreRefLists m cs p.ref_lists
   pub directories_are : AreDirectories m cs p.directories
-  pub entries_are : p.entries ≡ map_of (ordered_of m cs) (layout (ordered_of m cs)) (map_start (ordered_of m cs))
+  pub entries_are : p.entries ≡ map_of (ordered_of m cs) (map_start (ordered_of m cs))
   pub greatest_is : p.greatest ≡ greatest_item (ordered_of m cs)
 
 -- the layout is that of the collection's file

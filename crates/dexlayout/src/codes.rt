@@ -2,7 +2,8 @@
 
 ghost use Rattle.std.specs.Prelude.{◌≡◌, ◌^◌, ◌≤◌, IfOk, OnOk, map};
 ghost use Rattle.dexspec.specs.Mentions.{Mentions};
-ghost use Rattle.dexspec.specs.Canonical.{debug_end};
+ghost use Rattle.dexspec.specs.Placing.{end};
+ghost use Rattle.dexspec.specs.Canonical.{debug_section};
 ghost use Rattle.dexlayout.specs.Laid.{AreWritable, ordered_of, AreCodes};
 ghost use Rattle.dexlayout.specs.internal.Running.{place_use, place_uses};
 ghost use Rattle.dexlayout.specs.internal.Placing.{PlacedFrom};
@@ -24,8 +25,8 @@ pub(crate) fn place_codes(
     from: u32,
 ) -> Result<Offsets, AllocError>
     requires { (m : Mentions) × AreWritable m classes.now
-        × (from ≡ debug_end (ordered_of m classes.now)) }
-    ensures { IfOk result (PlacedFrom debug_end AreCodes classes.now from) }
+        × (from ≡ end (debug_section (ordered_of m classes.now))) }
+    ensures { IfOk result (PlacedFrom debug_section AreCodes classes.now from) }
 {
     code_bytes_law();
     let mut places = Offsets::starting_at(alloc, from, classes.len())?;

@@ -3,7 +3,8 @@
 ghost use Rattle.std.specs.Prelude.{◌≡◌, ◌^◌, ◌≤◌, List, IfOk, length};
 ghost use Rattle.std.specs.List.{flat_map};
 ghost use Rattle.dexspec.specs.Mentions.{Mentions};
-ghost use Rattle.dexspec.specs.Canonical.{class_data_end, data_start, set_items, string_end};
+ghost use Rattle.dexspec.specs.Placing.{end};
+ghost use Rattle.dexspec.specs.Canonical.{class_data_section, data_start, set_items, string_section};
 ghost use Rattle.dexval.specs.Code.{set_of};
 ghost use Rattle.dexclass.specs.Numbered.{NumberedClass};
 ghost use Rattle.dexlayout.specs.Laid.{AreWritable, ordered_of};
@@ -108,8 +109,8 @@ fn place_bodies(
     from: u32,
 ) -> Result<Bodies, AllocError>
     requires { (m : Mentions) × AreWritable m classes.now
-        × (from ≡ string_end (ordered_of m classes.now)) }
-    ensures { IfOk result (PlacedFrom string_end AreBodies classes.now from) }
+        × (from ≡ end (string_section (ordered_of m classes.now))) }
+    ensures { IfOk result (PlacedFrom string_section AreBodies classes.now from) }
 {
     let debugs = place_debugs(alloc, numbering, classes, from)?;
     let codes = place_codes(alloc, classes, debugs.places().end())?;
@@ -134,7 +135,7 @@ fn place_back(
     requires classes { AreWritable numbering.now classes.now }
     requires first_sections { AreFirstSections numbering.now classes.now first_sections.now }
     requires numbers { numbers.now ≡ (set_items (ordered_of numbering.now classes.now)).numbers }
-    requires from { from ≡ class_data_end (ordered_of numbering.now classes.now) }
+    requires from { from ≡ end (class_data_section (ordered_of numbering.now classes.now)) }
     ensures { IfOk result (AreBack numbering.now classes.now) }
 {
     let sets = place_sets(

@@ -1,7 +1,8 @@
 //! The offsets of debug programs.
 
 ghost use Rattle.std.specs.Prelude.{◌≡◌, ◌^◌, ◌≤◌, IfOk, MatchOption, None, Some};
-ghost use Rattle.dexspec.specs.Canonical.{string_end};
+ghost use Rattle.dexspec.specs.Placing.{end};
+ghost use Rattle.dexspec.specs.Canonical.{string_section};
 ghost use Rattle.dexspec.specs.Mentions.{Mentions};
 ghost use Rattle.dexmembers.specs.Numbered.{AreKnownMembers};
 ghost use Rattle.dexlayout.specs.Laid.{AreDebugs, AreWritable, ordered_of};
@@ -145,8 +146,8 @@ pub(crate) fn place_debugs(
     from: u32,
 ) -> Result<DebugPrograms, AllocError>
     requires { (m : Mentions) × AreWritable m classes.now
-        × (from ≡ string_end (ordered_of m classes.now)) }
-    ensures { IfOk result (PlacedFrom string_end AreDebugs classes.now from) }
+        × (from ≡ end (string_section (ordered_of m classes.now))) }
+    ensures { IfOk result (PlacedFrom string_section AreDebugs classes.now from) }
 {
     let shared = share_debugs(alloc, classes)?;
     let Shared { written, numbers } = shared;

@@ -1,7 +1,8 @@
 //! The offsets of annotations directories.
 
 ghost use Rattle.std.specs.Prelude.{◌≡◌, ◌^◌, ◌≤◌, IfOk, OnOk, length};
-ghost use Rattle.dexspec.specs.Canonical.{ref_list_end, ref_list_offsets};
+ghost use Rattle.dexspec.specs.Placing.{end, uses_offsets};
+ghost use Rattle.dexspec.specs.Canonical.{ref_list_section};
 ghost use Rattle.dexmembers.specs.Numbered.{fields_of, methods_of};
 ghost use Rattle.dexlayout.specs.Laid.{AreWritable, AreSets, ordered_of, AreDirectories};
 ghost use Rattle.dexlayout.specs.internal.Placing.{add_directory};
@@ -53,8 +54,8 @@ pub(crate) fn place_directories(
 ) -> Result<Offsets, AllocError>
     requires classes { AreWritable numbering.now classes.now }
     requires sets { AreSets numbering.now classes.now sets.now }
-    requires lists { ref_lists.now ≡ ref_list_offsets (ordered_of numbering.now classes.now) }
-    requires from { from ≡ ref_list_end (ordered_of numbering.now classes.now) }
+    requires lists { ref_lists.now ≡ uses_offsets (ref_list_section (ordered_of numbering.now classes.now)) }
+    requires from { from ≡ end (ref_list_section (ordered_of numbering.now classes.now)) }
     ensures { IfOk result (AreDirectories numbering.now classes.now) }
 {
     number_law();

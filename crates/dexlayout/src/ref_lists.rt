@@ -1,7 +1,8 @@
 //! The offsets of lists of sets of parameters.
 
 ghost use Rattle.std.specs.Prelude.{◌≡◌, ◌^◌, ◌≤◌, IfOk, OnOk};
-ghost use Rattle.dexspec.specs.Canonical.{set_end};
+ghost use Rattle.dexspec.specs.Placing.{end};
+ghost use Rattle.dexspec.specs.Canonical.{set_section};
 ghost use Rattle.dexmembers.specs.Numbered.{methods_of};
 ghost use Rattle.dexlayout.specs.internal.Collecting.{list_sizes, method_list_size};
 ghost use Rattle.dexlayout.specs.Laid.{AreWritable, ordered_of, AreRefLists};
@@ -59,7 +60,7 @@ pub(crate) fn place_ref_lists(
     from: u32,
 ) -> Result<Offsets, AllocError>
     requires classes { AreWritable numbering.now classes.now }
-    requires from { from ≡ set_end (ordered_of numbering.now classes.now) }
+    requires from { from ≡ end (set_section (ordered_of numbering.now classes.now)) }
     ensures { IfOk result (AreRefLists numbering.now classes.now) }
 {
     let mut places = Offsets::starting_at(alloc, from, methods)?;

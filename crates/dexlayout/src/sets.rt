@@ -2,7 +2,8 @@
 
 ghost use Rattle.std.specs.Prelude.{◌≡◌, ◌^◌, ◌≤◌, length, drop, IfOk, OnOk};
 ghost use Rattle.std.specs.List.{flat_map};
-ghost use Rattle.dexspec.specs.Canonical.{class_data_end, set_items};
+ghost use Rattle.dexspec.specs.Placing.{end};
+ghost use Rattle.dexspec.specs.Canonical.{class_data_section, set_items};
 ghost use Rattle.dexlayout.specs.internal.Collecting.{sets_of_method, sets_of_class, parts_of_methods, parts_of_class, collect_own, collect_method, collect_methods, collect_class};
 ghost use Rattle.dexlayout.specs.Laid.{AreWritable, AreAnnotations, AreSets, ordered_of};
 ghost use Rattle.dexlayout.specs.internal.Placing.{set_places, no_sets};
@@ -189,7 +190,7 @@ pub(crate) fn place_sets(
     requires classes { AreWritable numbering.now classes.now }
     requires annotations { AreAnnotations numbering.now classes.now annotations.now }
     requires numbers { numbers.now ≡ (set_items (ordered_of numbering.now classes.now)).numbers }
-    requires from { from ≡ class_data_end (ordered_of numbering.now classes.now) }
+    requires from { from ≡ end (class_data_section (ordered_of numbering.now classes.now)) }
     ensures { IfOk result (AreSets numbering.now classes.now) }
 {
     let written = place_written(alloc, annotations.written(), from)?;

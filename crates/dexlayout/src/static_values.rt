@@ -2,7 +2,8 @@
 
 ghost use Rattle.std.specs.Prelude.{◌≡◌, ◌^◌, ◌≤◌, IfOk, OnOk};
 ghost use Rattle.dexspec.specs.Mentions.{Mentions};
-ghost use Rattle.dexspec.specs.Canonical.{annotation_end};
+ghost use Rattle.dexspec.specs.Placing.{end};
+ghost use Rattle.dexspec.specs.Canonical.{annotation_section};
 ghost use Rattle.dexlayout.specs.Laid.{AreWritable, ordered_of, AreStaticValues};
 ghost use Rattle.dexlayout.specs.internal.Running.{place_use};
 ghost use Rattle.dexlayout.specs.internal.Placing.{PlacedFrom};
@@ -22,8 +23,8 @@ pub(crate) fn place_static_values(
     from: u32,
 ) -> Result<Offsets, AllocError>
     requires { (m : Mentions) × AreWritable m classes.now
-        × (from ≡ annotation_end (ordered_of m classes.now)) }
-    ensures { IfOk result (PlacedFrom annotation_end AreStaticValues classes.now from) }
+        × (from ≡ end (annotation_section (ordered_of m classes.now))) }
+    ensures { IfOk result (PlacedFrom annotation_section AreStaticValues classes.now from) }
 {
     let mut places = Offsets::starting_at(alloc, from, classes.len())?;
     for class in classes {

@@ -3,7 +3,8 @@ use Rattle.std.proofs.Common.{◌≡◌, ◌↔◌, ℕ, ◌-◌, ◌≤◌, Lis
 use Rattle.std.specs.Option.{SomeIff}
 use Rattle.dexleb.specs.declared.read.LebFault.{LebFault}
 use Rattle.dexleb.specs.declared.read.LebFault.TheVariants.{Short, Range}
-use Rattle.dexspec.specs.Numbers.{IsCutOff, BeginsWith, Spells, IsUleb128, IsUleb128p1, plus_one}
+use Rattle.dexspec.specs.Numbers.{BeginsWith, Spells, IsUleb128, IsUleb128p1, plus_one}
+use Rattle.dexleb.specs.Leb.{IsCutOff}
 use Rattle.dexspec.proofs.numbers.Chains.{chain_same, no_chain}
 use Rattle.dexspec.proofs.numbers.Spellings.{same_number, not_cut_off, same_plus_one}
 use Rattle.dexleb.specs.Leb.{IsFirst, Reads}
@@ -39,7 +40,7 @@ module _ {V : Type 0} (number : List ℕ → V) (InRange : V → Type 0) where
   pub number_in_range : (bytes : List ℕ) (sum n : ℕ) (v : V) → IsFirst bytes sum n → number (take n bytes) ≡ v → InRange v → Reads (Spells number InRange) bytes (Ok (v, n))
   number_in_range bytes sum n v first e fits =
       let begins : BeginsWith (Spells number InRange) bytes v n = record { within = first.within; spelled = record { chain = first.chain; few = omega (arith, length-take n bytes, first.few); value = e; in_range = fits } } in
-      reads_value (Spells number InRange) bytes v n (not_cut_off number InRange bytes v n begins) begins (λ w m other. same_number number InRange bytes v w n m begins other)
+      reads_value (Spells number InRange) bytes v n (λ cut. not_cut_off number InRange bytes v n begins cut.high) begins (λ w m other. same_number number InRange bytes v w n m begins other)
 
   -- and is refused if it is not
   pub number_out_of_range : (bytes : List ℕ) (sum n : ℕ) → IsFirst bytes sum n → ¬ InRange (number (take n bytes)) → Reads (Spells number InRange) bytes (Err Range)

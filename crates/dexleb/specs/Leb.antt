@@ -1,8 +1,13 @@
 -- What the readers of numbers return.
-use Rattle.std.specs.Prelude.{◌≡◌, ◌↔◌, ℕ, ◌≤◌, List, length, take, Result, Ok, Err, IfOk}
-use Rattle.dexspec.specs.Numbers.{IsChain, sum_of_groups, BeginsWith, IsCutOff}
+use Rattle.std.specs.Prelude.{◌≡◌, ◌↔◌, ℕ, ◌<◌, ◌≤◌, List, length, take, All, Result, Ok, Err, IfOk}
+use Rattle.dexspec.specs.Numbers.{IsChain, sum_of_groups, BeginsWith}
 use Rattle.dexleb.specs.declared.read.LebFault.{LebFault}
 use Rattle.dexleb.specs.declared.read.LebFault.TheVariants.{Short, Range}
+
+-- fewer than five bytes, perhaps none, and each has its top bit set: a number may go on after them
+pub record IsCutOff (bytes : List ℕ) : Type 0 where
+  pub few : length bytes < 5
+  pub high : All (λ byte. 128 ≤ byte) bytes
 
 -- the result of a reader: the value that the bytes begin with and how many bytes encode it, or why there is none
 pub record Reads {V : Type 0} (Says : List ℕ → V → Type 0) (bytes : List ℕ) (r : Result (V × ℕ) LebFault) : Type 0 where

@@ -1,5 +1,6 @@
 ghost use Rattle.std.specs.Prelude.{◌≡◌, ◌↔◌, ◌≤◌, length, take, drop, IfOk, OnErr};
-ghost use Rattle.dexspec.specs.Numbers.{IsUleb128, IsSleb128, IsUleb128p1, IsCutOff, signed_sum};
+ghost use Rattle.dexspec.specs.Numbers.{IsUleb128, IsSleb128, IsUleb128p1, signed_sum};
+ghost use Rattle.dexleb.specs.Leb.{IsCutOff};
 ghost use Rattle.dexleb.specs.Leb.{Reads, IsFirst, HasNoFirst};
 
 use crate::MAX_LEN;

@@ -3,7 +3,7 @@ use Rattle.std.proofs.Common.{ℕ, zero, suc, refl, ◌≡◌, ◌≤◌, ◌+�
 use Rattle.std.proofs.Math.ListN.{length-append}
 use Rattle.std.specs.List.{filter, join_with_byte}
 use Rattle.std.specs.Fmt.{digits, digits_onto, digit_glyph}
-use Rattle.dexspec.specs.Flags.{FlagsOf, OfClass, OfField, OfMethod, has_bit, named_bits, flag_names, flags_text}
+use Rattle.dexflags.specs.Flags.{FlagsOf, OfClass, OfField, OfMethod, has_bit, named_bits, flag_names, flags_text}
 
 shorter : (b : Bool) (xs ys : List ℕ) (m : ℕ) → length xs ≤ m → length ys ≤ m → length (cond b xs ys) ≤ m
 shorter true xs ys m x y = x

@@ -1,7 +1,7 @@
 //! Access flags of each kind, as the listing shows them.
 
 ghost use Rattle.std.specs.Prelude.{ℕ, List, length, ◌≤◌};
-ghost use Rattle.dexspec.specs.Flags.{OfClass, OfField, OfMethod, flags_text};
+ghost use Rattle.dexflags.specs.Flags.{OfClass, OfField, OfMethod, flags_text};
 ghost use Rattle.dexspec.specs.internal.Writing.{Puts};
 
 use dexflags::{ClassFlags, FieldFlags, MethodFlags};

@@ -4,6 +4,7 @@ use Rattle.std.specs.Prelude.{All, Result, Ok, Err, IfOk, IfErr}
 use Rattle.std.specs.List.{Contains}
 use Rattle.std.proofs.lemmas.List.{length-map}
 use Rattle.std.proofs.lemmas.List.Elements.{All-head, All-tail, All-map, All-contains, All-append, Contains-get_or, Contains-append_left, Contains-append_right}
+use Rattle.dexspec.specs.Lists.{Sequence}
 use Rattle.dexspec.specs.Numbers.{Uleb128At}
 use Rattle.dexspec.specs.Texts.{Text}
 use Rattle.dexspec.specs.Sections.{IsInData}
@@ -207,31 +208,20 @@ module _ (b : List ℕ) (m : Mentions) (pools : ArePools b m) (is : IsNumbering 
       λ xs own. All-map (λ (e : items.EncodedField). e.field.class ≡ h.name) enc_field xs (λ k d lt. sym ((own k d lt).class_is.is h.name) ∙ at.is h.name) in
       let method_named : (xs : List EncodedMethod) → All (λ y. IsOwnMethod m class y.index) xs → All (λ e. e.method.class ≡ h.name) (map enc_method xs) =
       λ xs own. All-map (λ (e : items.EncodedMethod). e.method.class ≡ h.name) enc_method xs (λ k d lt. sym ((own k d lt).class_is.is h.name) ∙ at.is h.name) in
-      let q = x.counts in
-      let c0 = q.0 in
-      let c1 = q.3.0 in
-      let c2 = q.3.3.0 in
-      let c3 = q.3.3.3.0 in
-      let p1 : o + x.counts_size ≡ o + c0 + c1 + c2 + c3 = omega (arith, q.4, q.3.4, q.3.3.4, q.3.3.3.4, q.3.3.3.3) in
-      let p2 : o + x.counts_size + fields.first_size ≡ o + c0 + c1 + c2 + c3 + fields.first_size = omega (arith, p1) in
-      let p3 : o + x.counts_size + x.fields_size ≡ o + c0 + c1 + c2 + c3 + fields.first_size + fields.second_size = omega (arith, p1, fields.size) in
-      let p4 : o + x.counts_size + x.fields_size + methods.first_size ≡ o + c0 + c1 + c2 + c3 + fields.first_size + fields.second_size + methods.first_size = omega (arith, p3) in
+      let many : (length ss ∷ length is' ∷ length ds ∷ length vs ∷ []) ≡ (length (map enc_field ss) ∷ length (map enc_field is') ∷ length (map enc_method ds) ∷ length (map enc_method vs) ∷ []) =
+      λ i. sym (length-map ss enc_field) i ∷ sym (length-map is' enc_field) i ∷ sym (length-map ds enc_method) i ∷ sym (length-map vs enc_method) i ∷ [] in
+      let p3 : o + x.counts_size + x.fields_size ≡ o + x.counts_size + fields.first_size + fields.second_size = omega (arith, fields.size) in
+      let p4 : o + x.counts_size + x.fields_size + methods.first_size ≡ o + x.counts_size + fields.first_size + fields.second_size + methods.first_size = omega (arith, p3) in
       let encodes : ClassDataAt b o (class_data_in m d) = record {
         in_data = in_data;
-        static_count_size = c0;
-        instance_count_size = c1;
-        direct_count_size = c2;
-        virtual_count_size = c3;
-        static_fields_size = fields.first_size;
-        instance_fields_size = fields.second_size;
-        direct_methods_size = methods.first_size;
-        virtual_methods_size = methods.second_size;
-        static_count = subst (λ (n : ℕ). Uleb128At b o n c0) (sym (length-map ss enc_field)) q.2;
-        instance_count = subst (λ (n : ℕ). Uleb128At b (o + c0) n c1) (sym (length-map is' enc_field)) q.3.2;
-        direct_count = subst (λ (n : ℕ). Uleb128At b (o + c0 + c1) n c2) (sym (length-map ds enc_method)) q.3.3.2;
-        virtual_count = subst (λ (n : ℕ). Uleb128At b (o + c0 + c1 + c2) n c3) (sym (length-map vs enc_method)) q.3.3.3.2;
-        static_fields = subst (λ (p : ℕ). EncodedFieldsAt b p None (map enc_field ss) fields.first_size) p1 (fields_to_file b m pools class h.name at (o + x.counts_size) None ss fields.first_size fields.first);
-        instance_fields = subst (λ (p : ℕ). EncodedFieldsAt b p None (map enc_field is') fields.second_size) p2 (fields_to_file b m pools class h.name at (o + x.counts_size + fields.first_size) None is' fields.second_size fields.second);
+        counts_bytes = x.counts_size;
+        static_fields_bytes = fields.first_size;
+        instance_fields_bytes = fields.second_size;
+        direct_methods_bytes = methods.first_size;
+        virtual_methods_bytes = methods.second_size;
+        counts = subst (λ (ns : List ℕ). Sequence Uleb128At b o ns x.counts_size) many x.counts;
+        static_fields = fields_to_file b m pools class h.name at (o + x.counts_size) None ss fields.first_size fields.first;
+        instance_fields = fields_to_file b m pools class h.name at (o + x.counts_size + fields.first_size) None is' fields.second_size fields.second;
         direct_methods = subst (λ (p : ℕ). EncodedMethodsAt b p None (map enc_method ds) methods.first_size) p3 (methods_to_file b m pools class h.name at (o + x.counts_size + x.fields_size) None ds methods.first_size methods.first);
         virtual_methods = subst (λ (p : ℕ). EncodedMethodsAt b p None (map enc_method vs) methods.second_size) p4 (methods_to_file b m pools class h.name at (o + x.counts_size + x.fields_size + methods.first_size) None vs methods.second_size methods.second);
       } in
@@ -261,47 +251,41 @@ module _ (b : List ℕ) (m : Mentions) (pools : ArePools b m) (is : IsNumbering 
       let method_index = λ (y : EncodedMethod). y.index in
       let FieldNamed = λ (e : items.EncodedField). e.field.class ≡ name in
       let MethodNamed = λ (e : items.EncodedMethod). e.method.class ≡ name in
-      let counts = s.static_count_size + (s.instance_count_size + (s.direct_count_size + (s.virtual_count_size + 0))) in
-      let p1 : o + s.static_count_size + s.instance_count_size + s.direct_count_size + s.virtual_count_size ≡ o + counts = omega arith in
-      let p2 : o + s.static_count_size + s.instance_count_size + s.direct_count_size + s.virtual_count_size + s.static_fields_size ≡ o + counts + s.static_fields_size = omega arith in
-      let p3 : o + s.static_count_size + s.instance_count_size + s.direct_count_size + s.virtual_count_size + s.static_fields_size + s.instance_fields_size ≡ o + counts + (s.static_fields_size + s.instance_fields_size) = omega arith in
-      let p4 : o + s.static_count_size + s.instance_count_size + s.direct_count_size + s.virtual_count_size + s.static_fields_size + s.instance_fields_size + s.direct_methods_size ≡ o + counts + (s.static_fields_size + s.instance_fields_size) + s.direct_methods_size = omega arith in
+      let p3 : o + s.counts_bytes + s.static_fields_bytes + s.instance_fields_bytes ≡ o + s.counts_bytes + (s.static_fields_bytes + s.instance_fields_bytes) = omega arith in
+      let p4 : o + s.counts_bytes + s.static_fields_bytes + s.instance_fields_bytes + s.direct_methods_bytes ≡ o + s.counts_bytes + (s.static_fields_bytes + s.instance_fields_bytes) + s.direct_methods_bytes = omega arith in
       let few_f = few_fields b frame in
       let few_m = few_methods b frame in
-      let ss = fields_of_file b m pools class name at few_f (o + s.static_count_size + s.instance_count_size + s.direct_count_size + s.virtual_count_size) None d.static_fields s.static_fields_size s.static_fields (all_left FieldNamed d.static_fields d.instance_fields own.fields) in
-      let is' = fields_of_file b m pools class name at few_f (o + s.static_count_size + s.instance_count_size + s.direct_count_size + s.virtual_count_size + s.static_fields_size) None d.instance_fields s.instance_fields_size s.instance_fields (all_right FieldNamed d.static_fields d.instance_fields own.fields) in
-      let ds = methods_of_file b m pools class name at few_m (o + s.static_count_size + s.instance_count_size + s.direct_count_size + s.virtual_count_size + s.static_fields_size + s.instance_fields_size) None d.direct_methods s.direct_methods_size s.direct_methods (all_left MethodNamed d.direct_methods d.virtual_methods own.methods) in
-      let vs = methods_of_file b m pools class name at few_m (o + s.static_count_size + s.instance_count_size + s.direct_count_size + s.virtual_count_size + s.static_fields_size + s.instance_fields_size + s.direct_methods_size) None d.virtual_methods s.virtual_methods_size s.virtual_methods (all_right MethodNamed d.direct_methods d.virtual_methods own.methods) in
+      let ss = fields_of_file b m pools class name at few_f (o + s.counts_bytes) None d.static_fields s.static_fields_bytes s.static_fields (all_left FieldNamed d.static_fields d.instance_fields own.fields) in
+      let is' = fields_of_file b m pools class name at few_f (o + s.counts_bytes + s.static_fields_bytes) None d.instance_fields s.instance_fields_bytes s.instance_fields (all_right FieldNamed d.static_fields d.instance_fields own.fields) in
+      let ds = methods_of_file b m pools class name at few_m (o + s.counts_bytes + s.static_fields_bytes + s.instance_fields_bytes) None d.direct_methods s.direct_methods_bytes s.direct_methods (all_left MethodNamed d.direct_methods d.virtual_methods own.methods) in
+      let vs = methods_of_file b m pools class name at few_m (o + s.counts_bytes + s.static_fields_bytes + s.instance_fields_bytes + s.direct_methods_bytes) None d.virtual_methods s.virtual_methods_bytes s.virtual_methods (all_right MethodNamed d.direct_methods d.virtual_methods own.methods) in
       let n0 : length d.static_fields ≡ length ss.0 = sym (ap length ss.1) ∙ length-map ss.0 (encoded_field_in m) in
       let n1 : length d.instance_fields ≡ length is'.0 = sym (ap length is'.1) ∙ length-map is'.0 (encoded_field_in m) in
       let n2 : length d.direct_methods ≡ length ds.0 = sym (ap length ds.1) ∙ length-map ds.0 (encoded_method_in m) in
       let n3 : length d.virtual_methods ≡ length vs.0 = sym (ap length vs.1) ∙ length-map vs.0 (encoded_method_in m) in
-      let k0 = subst (λ (n : ℕ). Uleb128At b o n s.static_count_size) n0 s.static_count in
-      let k1 = subst (λ (n : ℕ). Uleb128At b (o + s.static_count_size) n s.instance_count_size) n1 s.instance_count in
-      let k2 = subst (λ (n : ℕ). Uleb128At b (o + s.static_count_size + s.instance_count_size) n s.direct_count_size) n2 s.direct_count in
-      let k3 = subst (λ (n : ℕ). Uleb128At b (o + s.static_count_size + s.instance_count_size + s.direct_count_size) n s.virtual_count_size) n3 s.virtual_count in
+      let many : (length d.static_fields ∷ length d.instance_fields ∷ length d.direct_methods ∷ length d.virtual_methods ∷ []) ≡ (length ss.0 ∷ length is'.0 ∷ length ds.0 ∷ length vs.0 ∷ []) = λ i. n0 i ∷ n1 i ∷ n2 i ∷ n3 i ∷ [] in
       let fields_apart = subst (λ (es : List items.EncodedField). ShareNone (map (λ e. e.field) es) (map (λ e. e.field) (map (encoded_field_in m) is'.0))) (sym ss.1)
       (subst (λ (es : List items.EncodedField). ShareNone (map (λ e. e.field) d.static_fields) (map (λ e. e.field) es)) (sym is'.1) own.fields_apart) in
       let methods_apart = subst (λ (es : List items.EncodedMethod). ShareNone (map (λ e. e.method) es) (map (λ e. e.method) (map (encoded_method_in m) vs.0))) (sym ds.1)
       (subst (λ (es : List items.EncodedMethod). ShareNone (map (λ e. e.method) d.direct_methods) (map (λ e. e.method) es)) (sym vs.1) own.methods_apart) in
       let whole : DataAt m class b o ss.0 is'.0 ds.0 vs.0 = record {
-        counts_size = counts;
-        fields_size = s.static_fields_size + s.instance_fields_size;
-        methods_size = s.direct_methods_size + s.virtual_methods_size;
-        counts = (s.static_count_size, s.instance_count_size + (s.direct_count_size + (s.virtual_count_size + 0)), k0, (s.instance_count_size, s.direct_count_size + (s.virtual_count_size + 0), k1, (s.direct_count_size, s.virtual_count_size + 0, k2, (s.virtual_count_size, 0, k3, refl, refl), refl), refl), refl);
+        counts_size = s.counts_bytes;
+        fields_size = s.static_fields_bytes + s.instance_fields_bytes;
+        methods_size = s.direct_methods_bytes + s.virtual_methods_bytes;
+        counts = subst (λ (ns : List ℕ). Sequence Uleb128At b o ns s.counts_bytes) many s.counts;
         fields = record {
-          first_size = s.static_fields_size;
-          second_size = s.instance_fields_size;
-          first = subst (λ (p : ℕ). Chain (FieldAt m class) field_index b p None ss.0 s.static_fields_size) p1 ss.2;
-          second = subst (λ (p : ℕ). Chain (FieldAt m class) field_index b p None is'.0 s.instance_fields_size) p2 is'.2;
+          first_size = s.static_fields_bytes;
+          second_size = s.instance_fields_bytes;
+          first = ss.2;
+          second = is'.2;
           apart = apart_numbers (encoded_field_in m) (λ (e : items.EncodedField). e.field) field_index (field_at m) (λ f. refl) ss.0 is'.0 fields_apart;
           size = refl;
         };
         methods = record {
-          first_size = s.direct_methods_size;
-          second_size = s.virtual_methods_size;
-          first = subst (λ (p : ℕ). Chain (MethodAt m class) method_index b p None ds.0 s.direct_methods_size) p3 ds.2;
-          second = subst (λ (p : ℕ). Chain (MethodAt m class) method_index b p None vs.0 s.virtual_methods_size) p4 vs.2;
+          first_size = s.direct_methods_bytes;
+          second_size = s.virtual_methods_bytes;
+          first = subst (λ (p : ℕ). Chain (MethodAt m class) method_index b p None ds.0 s.direct_methods_bytes) p3 ds.2;
+          second = subst (λ (p : ℕ). Chain (MethodAt m class) method_index b p None vs.0 s.virtual_methods_bytes) p4 vs.2;
           apart = apart_numbers (encoded_method_in m) (λ (e : items.EncodedMethod). e.method) method_index (method_at m) (λ y. refl) ds.0 vs.0 methods_apart;
           size = refl;
         };

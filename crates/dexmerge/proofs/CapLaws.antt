@@ -11,7 +11,7 @@ use Rattle.dexspec.specs.Files.{AreWithin}
 use Rattle.dexspec.specs.Mentions.{Mentions, mentions}
 use Rattle.dexspec.specs.Depth.{IsAcyclic}
 use Rattle.dexspec.specs.Weight.{weight, body_weight, mentions_weight}
-use Rattle.dexspec.specs.Merging.{Caps, AreCaps, greatest_caps, Cap, Types, Protos, Fields, Methods, ShortStrings, Weight, cap_number, HasShortString, Exceeds, IsConsistent, IsGood, Cause, Conflict, Cycle, Exceeded, IsCause, IsReportedBefore, IsFirstCause}
+use Rattle.dexspec.specs.Merging.{Caps, AreCaps, greatest_caps, Cap, TypeCap, ProtoCap, FieldCap, MethodCap, ShortStringCap, WeightCap, cap_number, HasShortString, Exceeds, IsConsistent, IsGood, Cause, Conflict, Cycle, Exceeded, IsCause, IsReportedBefore, IsFirstCause}
 use Rattle.dexspec.proofs.lists.Members.{list_any-member, list_any-source}
 use Rattle.dexspec.proofs.merge.WeightGrowth.{weight-within}
 use Rattle.dexspec.proofs.merge.Conflicts.{consistent-apart}
@@ -64,7 +64,7 @@ module _ (caps : Caps) (m : Mentions) (cs : List NumberedClass) (distinct : AreD
   E = map (definition_of m) cs
 
   -- the weight is exceeded if and only if all of them exceed it
-  too_heavy : caps.weight < weight_over m cs → Exceeds caps E Weight
+  too_heavy : caps.weight < weight_over m cs → Exceeds caps E WeightCap
   too_heavy lt = (E, distinct, λ d c. c, omega (arith, lt, weight_is m cs own))
 
   not_heavy : weight_over m cs ≤ caps.weight → (F : List Definition) → AreDistinct F → AreWithin F E → weight F ≤ caps.weight
@@ -87,7 +87,7 @@ module _ (caps : Caps) (m : Mentions) (cs : List NumberedClass) (distinct : AreD
   rank_there n s h = ap (λ (o : Mentions). rank text_cmp s o.texts) (sym own) ∙ rank_is m rising n s h
 
   -- the cap on short strings is exceeded if and only if one of their numbers is not below it
-  too_far : has_from caps.short_strings (short_numbers cs) ≡ true → Exceeds caps E ShortStrings
+  too_far : has_from caps.short_strings (short_numbers cs) ≡ true → Exceeds caps E ShortStringCap
   too_far test =
       let n = list_any-source (λ (k : ℕ). not (nat_lt k caps.short_strings)) (short_numbers cs) test in
       let f = short_denotes_text m cs known n.0 n.1 in
@@ -108,12 +108,12 @@ module _ (caps : Caps) (m : Mentions) (cs : List NumberedClass) (distinct : AreD
     short_strings : 5 < number → has_from caps.short_strings (short_numbers cs) ≡ false
 
   none_before : (number : ℕ) → number ≤ 6 → AreKeptBelow number → (other : Cap) → Exceeds caps E other → cap_number other < number → ⊥
-  none_before number most h Types x less = omega (arith, x, h.types less, types_count)
-  none_before number most h Protos x less = omega (arith, x, h.protos less, protos_count)
-  none_before number most h Fields x less = omega (arith, x, h.fields less, fields_count)
-  none_before number most h Methods x less = omega (arith, x, h.methods less, methods_count)
-  none_before number most h ShortStrings x less = omega (arith, x.2, not_far (h.short_strings less) x.0 x.1)
-  none_before number most h Weight x less = omega (arith, less, most)
+  none_before number most h TypeCap x less = omega (arith, x, h.types less, types_count)
+  none_before number most h ProtoCap x less = omega (arith, x, h.protos less, protos_count)
+  none_before number most h FieldCap x less = omega (arith, x, h.fields less, fields_count)
+  none_before number most h MethodCap x less = omega (arith, x, h.methods less, methods_count)
+  none_before number most h ShortStringCap x less = omega (arith, x.2, not_far (h.short_strings less) x.0 x.1)
+  none_before number most h WeightCap x less = omega (arith, less, most)
 
   module _ (h : IsConsistent E) (a : IsAcyclic E) where
     distinguished : (cap : Cap) (number : ℕ) → cap_number cap ≡ number → number ≤ 6 → AreKeptBelow number → Exceeds caps E cap → IsOfCap (IsFirstCause caps E) number
@@ -128,22 +128,22 @@ module _ (caps : Caps) (m : Mentions) (cs : List NumberedClass) (distinct : AreD
         → (found : Option ℕ) → found ≡ cond t (Some 1) (cond p (Some 2) (cond f (Some 3) (cond e (Some 4) (cond s (Some 5) (cond w (Some 6) None))))) → MatchOption found (IsGood caps E) (IsOfCap (IsFirstCause caps E))
     by_caps true p f e s w it ip ifs ie is iw found is_depth =
         subst (λ (o : Option ℕ). MatchOption o (IsGood caps E) (IsOfCap (IsFirstCause caps E))) (sym is_depth)
-        (distinguished Types 1 refl (omega arith) (record { types = λ l. absurd (omega (arith, l)); protos = λ l. absurd (omega (arith, l)); fields = λ l. absurd (omega (arith, l)); methods = λ l. absurd (omega (arith, l)); short_strings = λ l. absurd (omega (arith, l)) }) (let x = ltb-true caps.types (length m.types) it in omega (arith, x, types_count)))
+        (distinguished TypeCap 1 refl (omega arith) (record { types = λ l. absurd (omega (arith, l)); protos = λ l. absurd (omega (arith, l)); fields = λ l. absurd (omega (arith, l)); methods = λ l. absurd (omega (arith, l)); short_strings = λ l. absurd (omega (arith, l)) }) (let x = ltb-true caps.types (length m.types) it in omega (arith, x, types_count)))
     by_caps false true f e s w it ip ifs ie is iw found is_depth =
         subst (λ (o : Option ℕ). MatchOption o (IsGood caps E) (IsOfCap (IsFirstCause caps E))) (sym is_depth)
-        (distinguished Protos 2 refl (omega arith) (record { types = λ l. not_less caps.types (length m.types) it; protos = λ l. absurd (omega (arith, l)); fields = λ l. absurd (omega (arith, l)); methods = λ l. absurd (omega (arith, l)); short_strings = λ l. absurd (omega (arith, l)) }) (let x = ltb-true caps.protos (length m.protos) ip in omega (arith, x, protos_count)))
+        (distinguished ProtoCap 2 refl (omega arith) (record { types = λ l. not_less caps.types (length m.types) it; protos = λ l. absurd (omega (arith, l)); fields = λ l. absurd (omega (arith, l)); methods = λ l. absurd (omega (arith, l)); short_strings = λ l. absurd (omega (arith, l)) }) (let x = ltb-true caps.protos (length m.protos) ip in omega (arith, x, protos_count)))
     by_caps false false true e s w it ip ifs ie is iw found is_depth =
         subst (λ (o : Option ℕ). MatchOption o (IsGood caps E) (IsOfCap (IsFirstCause caps E))) (sym is_depth)
-        (distinguished Fields 3 refl (omega arith) (record { types = λ l. not_less caps.types (length m.types) it; protos = λ l. not_less caps.protos (length m.protos) ip; fields = λ l. absurd (omega (arith, l)); methods = λ l. absurd (omega (arith, l)); short_strings = λ l. absurd (omega (arith, l)) }) (let x = ltb-true caps.fields (length m.fields) ifs in omega (arith, x, fields_count)))
+        (distinguished FieldCap 3 refl (omega arith) (record { types = λ l. not_less caps.types (length m.types) it; protos = λ l. not_less caps.protos (length m.protos) ip; fields = λ l. absurd (omega (arith, l)); methods = λ l. absurd (omega (arith, l)); short_strings = λ l. absurd (omega (arith, l)) }) (let x = ltb-true caps.fields (length m.fields) ifs in omega (arith, x, fields_count)))
     by_caps false false false true s w it ip ifs ie is iw found is_depth =
         subst (λ (o : Option ℕ). MatchOption o (IsGood caps E) (IsOfCap (IsFirstCause caps E))) (sym is_depth)
-        (distinguished Methods 4 refl (omega arith) (record { types = λ l. not_less caps.types (length m.types) it; protos = λ l. not_less caps.protos (length m.protos) ip; fields = λ l. not_less caps.fields (length m.fields) ifs; methods = λ l. absurd (omega (arith, l)); short_strings = λ l. absurd (omega (arith, l)) }) (let x = ltb-true caps.methods (length m.methods) ie in omega (arith, x, methods_count)))
+        (distinguished MethodCap 4 refl (omega arith) (record { types = λ l. not_less caps.types (length m.types) it; protos = λ l. not_less caps.protos (length m.protos) ip; fields = λ l. not_less caps.fields (length m.fields) ifs; methods = λ l. absurd (omega (arith, l)); short_strings = λ l. absurd (omega (arith, l)) }) (let x = ltb-true caps.methods (length m.methods) ie in omega (arith, x, methods_count)))
     by_caps false false false false true w it ip ifs ie is iw found is_depth =
         subst (λ (o : Option ℕ). MatchOption o (IsGood caps E) (IsOfCap (IsFirstCause caps E))) (sym is_depth)
-        (distinguished ShortStrings 5 refl (omega arith) (record { types = λ l. not_less caps.types (length m.types) it; protos = λ l. not_less caps.protos (length m.protos) ip; fields = λ l. not_less caps.fields (length m.fields) ifs; methods = λ l. not_less caps.methods (length m.methods) ie; short_strings = λ l. absurd (omega (arith, l)) }) (too_far is))
+        (distinguished ShortStringCap 5 refl (omega arith) (record { types = λ l. not_less caps.types (length m.types) it; protos = λ l. not_less caps.protos (length m.protos) ip; fields = λ l. not_less caps.fields (length m.fields) ifs; methods = λ l. not_less caps.methods (length m.methods) ie; short_strings = λ l. absurd (omega (arith, l)) }) (too_far is))
     by_caps false false false false false true it ip ifs ie is iw found is_depth =
         subst (λ (o : Option ℕ). MatchOption o (IsGood caps E) (IsOfCap (IsFirstCause caps E))) (sym is_depth)
-        (distinguished Weight 6 refl (omega arith) (record { types = λ l. not_less caps.types (length m.types) it; protos = λ l. not_less caps.protos (length m.protos) ip; fields = λ l. not_less caps.fields (length m.fields) ifs; methods = λ l. not_less caps.methods (length m.methods) ie; short_strings = λ l. is }) (too_heavy (ltb-true caps.weight (weight_over m cs) iw)))
+        (distinguished WeightCap 6 refl (omega arith) (record { types = λ l. not_less caps.types (length m.types) it; protos = λ l. not_less caps.protos (length m.protos) ip; fields = λ l. not_less caps.fields (length m.fields) ifs; methods = λ l. not_less caps.methods (length m.methods) ie; short_strings = λ l. is }) (too_heavy (ltb-true caps.weight (weight_over m cs) iw)))
     by_caps false false false false false false it ip ifs ie is iw found is_depth =
         subst (λ (o : Option ℕ). MatchOption o (IsGood caps E) (IsOfCap (IsFirstCause caps E))) (sym is_depth)
         (record {

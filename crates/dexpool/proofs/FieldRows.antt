@@ -16,7 +16,7 @@ field_key_is texts types b k f s = λ i. s.numbers.class i ∷ s.numbers.name i 
 
 pub has_field : (texts : List Text) (types : List ℕ) (b : List ℕ) (xs : List FieldRow) (i : ℕ) (f : FieldRow) → ReadTo (FieldRowAt texts types) HasField b xs i → FieldRowAt texts types b i f → is_above_last field_cmp f xs ≡ true → HasField b i
 has_field texts types b xs i f h is above = record {
-  field = field_of texts types f;
+  item = field_of texts types f;
   is = is.is;
   follows = follows_if (FieldRowAt texts types) HasField b field_row_key field_key (field_key_is texts types b) xs i f h is above;
 }

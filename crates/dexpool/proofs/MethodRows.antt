@@ -19,7 +19,7 @@ module _ (texts : List Text) (types ps : List ℕ) (protos : List ProtoEntry) (b
 
   pub has_method : (xs : List MethodRow) (i : ℕ) (m : MethodRow) → ReadTo (MethodRowAt texts types ps protos) HasMethod b xs i → MethodRowAt texts types ps protos b i m → is_above_last method_cmp m xs ≡ true → HasMethod b i
   has_method xs i m h is above = record {
-    method = method_of texts types ps protos m;
+    item = method_of texts types ps protos m;
     is = is.is;
     follows = follows_if (MethodRowAt texts types ps protos) HasMethod b method_row_key method_key method_key_is xs i m h is above;
   }

@@ -66,7 +66,7 @@ proto_key_is texts types ps b k p s = λ i. s.numbers.return_type i ∷ s.number
 
 pub has_proto : (texts : List Text) (types ps : List ℕ) (b : List ℕ) (xs : List ProtoEntry) (i : ℕ) (p : ProtoEntry) → ReadTo (ProtoRowAt texts types ps) HasProto b xs i → ProtoRowAt texts types ps b i p → is_above_last (proto_cmp ps) p xs ≡ true → HasProto b i
 has_proto texts types ps b xs i p h is above = record {
-  proto = proto_of texts types ps p;
+  item = proto_of texts types ps p;
   is = is.is;
   follows = follows_if (ProtoRowAt texts types ps) HasProto b proto_row_key (proto_key ps) (proto_key_is texts types ps b) xs i p h is above;
 }

@@ -1,7 +1,7 @@
 -- Which condition fails first.
 use Rattle.std.proofs.Common.{◌≡◌, ℕ, ◌<◌, ◌≤◌, List, refl, arith, inl}
-use Rattle.dexspec.specs.Conditions.{Condition, number}
-use Rattle.dexspec.specs.Accepted.{rows_checked, place, Holds, HoldsThroughout, HoldBelow, IsFrame, IsRefused}
+use Rattle.dexspec.specs.Conditions.{Condition}
+use Rattle.dexspec.specs.Accepted.{number, rows_checked, place, Holds, HoldsThroughout, HoldBelow, IsFrame, IsRefused}
 use Rattle.dexpool.specs.Faults.{IsPoolRefusal}
 
 -- conditions of the pools hold after those of the frame

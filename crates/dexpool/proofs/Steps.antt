@@ -124,7 +124,7 @@ type_key_is texts b k n s = ap (λ (m : ℕ). m ∷ []) s.index
 
 pub has_type : (texts : List Text) (b : List ℕ) (xs : List ℕ) (i n : ℕ) → ReadTo (TypeRowAt texts) HasType b xs i → TypeRowAt texts b i n → is_above_last type_cmp n xs ≡ true → HasType b i
 has_type texts b xs i n h is above = record {
-  type = text_of texts n;
+  item = text_of texts n;
   is = is.is;
   follows = follows_if (TypeRowAt texts) HasType b type_row_key (λ m. m ∷ []) (type_key_is texts b) xs i n h is above;
 }

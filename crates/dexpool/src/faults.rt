@@ -1,7 +1,7 @@
 //! Why pools or an item were not read.
 
 ghost use Rattle.std.specs.Prelude.{◌≡◌};
-ghost use Rattle.dexspec.specs.Conditions.{number};
+ghost use Rattle.dexspec.specs.Accepted.{number};
 ghost use Rattle.dexhead.specs.Conditions.{condition_meant};
 ghost use Rattle.dexpool.specs.declared.faults.ReadFault.TheVariants.{Refused, Memory};
 ghost use Rattle.dexpool.specs.declared.faults.ItemFault.TheVariants as items;

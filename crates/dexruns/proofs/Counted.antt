@@ -6,7 +6,7 @@ use Rattle.dexspec.specs.Classes.{Definition}
 use Rattle.dexspec.specs.Texts.{text_cmp}
 use Rattle.dexspec.specs.Mentions.{mentions}
 use Rattle.dexspec.specs.Weight.{weight}
-use Rattle.dexspec.specs.Merging.{Caps, Cap, Types, Protos, Fields, Methods, ShortStrings, Weight, Exceeds, IsFirstCause}
+use Rattle.dexspec.specs.Merging.{Caps, Cap, TypeCap, ProtoCap, FieldCap, MethodCap, ShortStringCap, WeightCap, Exceeds, IsFirstCause}
 use Rattle.dexspec.proofs.merge.WeightGrowth.{weight-within}
 use Rattle.dexmerge.specs.Faults.{IsOfCap}
 
@@ -22,12 +22,12 @@ ample D = record {
 }
 
 none_exceeded : (D : List Definition) (cap : Cap) → Exceeds (ample D) D cap → ⊥
-none_exceeded D Types more = omega (arith, more)
-none_exceeded D Protos more = omega (arith, more)
-none_exceeded D Fields more = omega (arith, more)
-none_exceeded D Methods more = omega (arith, more)
-none_exceeded D ShortStrings more = omega (arith, more.2, count_by-le-length (λ t. is_lt (text_cmp t more.0)) (mentions D).texts)
-none_exceeded D Weight more = omega (arith, more.3, weight-within more.0 D more.1 more.2)
+none_exceeded D TypeCap more = omega (arith, more)
+none_exceeded D ProtoCap more = omega (arith, more)
+none_exceeded D FieldCap more = omega (arith, more)
+none_exceeded D MethodCap more = omega (arith, more)
+none_exceeded D ShortStringCap more = omega (arith, more.2, count_by-le-length (λ t. is_lt (text_cmp t more.0)) (mentions D).texts)
+none_exceeded D WeightCap more = omega (arith, more.3, weight-within more.0 D more.1 more.2)
 
 -- no cap is a cause under any caps
 pub no_cap : (D : List Definition) (number : ℕ) → ((caps : Caps) → IsOfCap (IsFirstCause caps D) number) → ⊥

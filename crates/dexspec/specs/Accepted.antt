@@ -1,12 +1,13 @@
 -- What is accepted: the conditions 16 to 23 at a class row, all 23 as one predicate on bytes and row, and what a
 -- refusal says. Source: the constraints that "Dalvik Executable format" states with each item; which refusal is
 -- reported, and its place, is this project's rule.
-use Rattle.std.specs.Prelude.{◌≡◌, ◌≢◌, ◌⊎◌, ℕ, ◌+◌, ◌<◌, ◌≤◌, ◌==◌, if◌then◌else◌, List, [], ◌∷◌, ◌++◌, length, map, All, Option}
+use Rattle.std.specs.Prelude.{◌≡◌, ◌≢◌, ◌⊎◌, ℕ, ◌+◌, ◌<◌, ◌≤◌, ◌==◌, if◌then◌else◌, List, [], ◌∷◌, ◌++◌, length, map, All, Option, Some, None}
 use Rattle.std.specs.List.{Contains, AllZip, range_with_len}
+use Rattle.std.specs.Option.{option_map_or}
 use Rattle.dexspec.specs.Lists.{OrNone}
 use Rattle.dexspec.specs.Bytes.{uint_at}
 use Rattle.dexspec.specs.Texts.{Text}
-use Rattle.dexspec.specs.Header.{StringIds, TypeIds, ProtoIds, FieldIds, MethodIds, ClassDefs, table_size, HasSize, HasMagic, HasVersion, version, HasLengths, HasEndian, HasNoLink, HasChecksum, HasSignature}
+use Rattle.dexspec.specs.Header.{Table, StringIds, TypeIds, ProtoIds, FieldIds, MethodIds, ClassDefs, table_size, HasSize, HasMagic, HasVersion, version, HasLengths, HasEndian, HasNoLink, HasChecksum, HasSignature}
 use Rattle.dexspec.specs.Sections.{HasLayout, HasMap}
 use Rattle.dexspec.specs.Rows.{StringRow, type_indices, HasString, HasType, HasProto, HasField, HasMethod}
 use Rattle.dexspec.specs.Pieces.{Cut, Piece}
@@ -17,7 +18,7 @@ use Rattle.dexspec.specs.Annotations.{Directory, DirectoryAt, no_directory}
 use Rattle.dexspec.specs.ClassData.{ClassData, ClassDataAt, no_class_data, fields_of, methods_of, BelongTo}
 use Rattle.dexspec.specs.Classes.{Definition, ClassRow, ClassTypeRow, ClassListAt, IndexOrNone, StaticValuesAt, class_idx, superclass_idx, interfaces_off, source_file_idx, annotations_off, class_data_off, static_values_off, no_index}
 use Rattle.dexspec.specs.Weight.{weight, most_weight}
-use Rattle.dexspec.specs.Conditions.{Condition, number}
+use Rattle.dexspec.specs.Conditions.{Condition}
 
 -- ---- condition 16
 
@@ -63,11 +64,12 @@ HasPiecesAt b o = (cuts : List Cut) × (ps : List Piece) × PiecesAt b o cuts ps
 
 -- if the fixed part and the units are there, so are the tries
 abbrev pub HasTriesAt : List ℕ → ℕ → Type 0
-HasTriesAt b o = (cuts : List Cut) (ps : List Piece) → PiecesAt b o cuts ps → (tries : List Try) × TriesAt b o cuts tries
+HasTriesAt b o = (cs : List Cut) (ps : List Piece) → PiecesAt b o cs ps → (tries : List Try) × TriesAt b o cs tries
 
 -- if the fixed part and the units are there, so is the debug program, if the code has one
 abbrev pub HasDebugAt : List ℕ → ℕ → Type 0
-HasDebugAt b o = (cuts : List Cut) (ps : List Piece) → PiecesAt b o cuts ps → uint_at b (o + 8) ≢ 0 → (d : Debug) × DebugAt b (uint_at b (o + 8)) d
+HasDebugAt b o = (cs : List Cut) (ps : List Piece) → PiecesAt b o cs ps → uint_at b (o + 8) ≢ 0
+    → (d : Debug) × DebugAt b (uint_at b (o + 8)) d
 
 -- 18 Code
 abbrev pub HasCode : List ℕ → ℕ → Type 0
@@ -85,7 +87,8 @@ HasDebug b r = AllCode HasDebugAt b r
 
 -- 21 Values: no more than the static fields
 abbrev pub HasValues : List ℕ → ℕ → Type 0
-HasValues b r = (d : ClassData) → Declares b r d → (vs : Values) × OrNone StaticValuesAt NoValues b (static_values_off b r) vs × (count_values vs ≤ length d.static_fields)
+HasValues b r = (d : ClassData) → Declares b r d → (vs : Values)
+    × OrNone StaticValuesAt NoValues b (static_values_off b r) vs × (count_values vs ≤ length d.static_fields)
 
 -- each member that the directory names is declared
 pub record NamesDeclared (annotated : Directory) (d : ClassData) : Type 0 where
@@ -116,48 +119,44 @@ HasWeight b r = (D : List Definition) → ((k : ℕ) → k ≤ r → IsReadable 
 
 -- ---- all of them
 
--- the number of rows at which a condition is checked
-abbrev pub rows_checked : Condition → List ℕ → ℕ
-rows_checked Condition.Strings b = table_size b StringIds
-rows_checked Condition.Types b = table_size b TypeIds
-rows_checked Condition.Protos b = table_size b ProtoIds
-rows_checked Condition.Fields b = table_size b FieldIds
-rows_checked Condition.Methods b = table_size b MethodIds
-rows_checked Condition.Classes b = table_size b ClassDefs
-rows_checked Condition.Members b = table_size b ClassDefs
-rows_checked Condition.Code b = table_size b ClassDefs
-rows_checked Condition.Tries b = table_size b ClassDefs
-rows_checked Condition.Debug b = table_size b ClassDefs
-rows_checked Condition.Values b = table_size b ClassDefs
-rows_checked Condition.Annotations b = table_size b ClassDefs
-rows_checked Condition.Weight b = table_size b ClassDefs
-rows_checked _ b = 1
+-- all conditions as one table: the number that a refusal reports, the table of the file at whose rows the condition is
+-- checked, if there is one, and what holds for the bytes at a row
+abbrev pub condition_entry : Condition → ℕ × Option Table × (List ℕ → ℕ → Type 0)
+condition_entry Condition.Size = (1, None, λ b r. HasSize b)
+condition_entry Condition.Magic = (2, None, λ b r. HasMagic b)
+condition_entry Condition.Version = (3, None, λ b r. HasVersion b)
+condition_entry Condition.Lengths = (4, None, λ b r. HasLengths b)
+condition_entry Condition.Endian = (5, None, λ b r. HasEndian b)
+condition_entry Condition.Link = (6, None, λ b r. HasNoLink b)
+condition_entry Condition.Checksum = (7, None, λ b r. HasChecksum b)
+condition_entry Condition.Signature = (8, None, λ b r. HasSignature b)
+condition_entry Condition.Layout = (9, None, λ b r. HasLayout b)
+condition_entry Condition.Map = (10, None, λ b r. HasMap b)
+condition_entry Condition.Strings = (11, Some StringIds, HasString)
+condition_entry Condition.Types = (12, Some TypeIds, HasType)
+condition_entry Condition.Protos = (13, Some ProtoIds, HasProto)
+condition_entry Condition.Fields = (14, Some FieldIds, HasField)
+condition_entry Condition.Methods = (15, Some MethodIds, HasMethod)
+condition_entry Condition.Classes = (16, Some ClassDefs, HasClass)
+condition_entry Condition.Members = (17, Some ClassDefs, HasMembers)
+condition_entry Condition.Code = (18, Some ClassDefs, HasCode)
+condition_entry Condition.Tries = (19, Some ClassDefs, HasTries)
+condition_entry Condition.Debug = (20, Some ClassDefs, HasDebug)
+condition_entry Condition.Values = (21, Some ClassDefs, HasValues)
+condition_entry Condition.Annotations = (22, Some ClassDefs, HasAnnotations)
+condition_entry Condition.Weight = (23, Some ClassDefs, HasWeight)
 
--- the condition holds for the bytes at a row; the first ten have no rows
+-- the number that a refusal reports
+abbrev pub number : Condition → ℕ
+number c = (condition_entry c).0
+
+-- the number of rows at which a condition is checked; the first ten are checked once
+abbrev pub rows_checked : Condition → List ℕ → ℕ
+rows_checked c b = option_map_or (table_size b) (condition_entry c).1 1
+
+-- the condition holds for the bytes at a row
 abbrev pub Holds : Condition → List ℕ → ℕ → Type 0
-Holds Condition.Size b r = HasSize b
-Holds Condition.Magic b r = HasMagic b
-Holds Condition.Version b r = HasVersion b
-Holds Condition.Lengths b r = HasLengths b
-Holds Condition.Endian b r = HasEndian b
-Holds Condition.Link b r = HasNoLink b
-Holds Condition.Checksum b r = HasChecksum b
-Holds Condition.Signature b r = HasSignature b
-Holds Condition.Layout b r = HasLayout b
-Holds Condition.Map b r = HasMap b
-Holds Condition.Strings b r = HasString b r
-Holds Condition.Types b r = HasType b r
-Holds Condition.Protos b r = HasProto b r
-Holds Condition.Fields b r = HasField b r
-Holds Condition.Methods b r = HasMethod b r
-Holds Condition.Classes b r = HasClass b r
-Holds Condition.Members b r = HasMembers b r
-Holds Condition.Code b r = HasCode b r
-Holds Condition.Tries b r = HasTries b r
-Holds Condition.Debug b r = HasDebug b r
-Holds Condition.Values b r = HasValues b r
-Holds Condition.Annotations b r = HasAnnotations b r
-Holds Condition.Weight b r = HasWeight b r
+Holds c = (condition_entry c).2
 
 -- the condition holds at each of its rows
 abbrev pub HoldsThroughout : Condition → List ℕ → Type 0

@@ -67,7 +67,8 @@ abbrev pub PairAt : {M X : Type 0} → (List ℕ → ℕ → M → Type 0) → (
 PairAt Row At b pair entry = Row b pair.0 entry.0 × (pair.1 ≢ 0) × At b pair.1 entry.1
 
 -- the pairs of a list of a directory: their indices rise strictly
-pub record PairsAt {M X : Type 0} (Row : List ℕ → ℕ → M → Type 0) (At : List ℕ → ℕ → X → Type 0) (b : List ℕ) (o n : ℕ) (entries : List (M × X)) : Type 0 where
+pub record PairsAt {M X : Type 0} (Row : List ℕ → ℕ → M → Type 0)
+    (At : List ℕ → ℕ → X → Type 0) (b : List ℕ) (o n : ℕ) (entries : List (M × X)) : Type 0 where
   pub pairs : AllZip (PairAt Row At b) (pairs_at b o n) entries
   pub rise : IsTrue (rises nat_cmp (map (λ pair. pair.0) (pairs_at b o n)))
 

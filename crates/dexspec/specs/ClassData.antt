@@ -3,6 +3,7 @@
 -- to the class, and no member is declared twice.
 use Rattle.std.specs.Prelude.{◌≡◌, ℕ, ◌+◌, ◌<◌, ◌≤◌, List, [], ◌∷◌, ◌++◌, length, map, All, Option, Some, None}
 use Rattle.std.specs.List.{Contains}
+use Rattle.dexspec.specs.Lists.{Sequence}
 use Rattle.dexspec.specs.Numbers.{Uleb128At}
 use Rattle.dexspec.specs.Texts.{Text}
 use Rattle.dexspec.specs.Symbols.{Field, Method}
@@ -47,39 +48,34 @@ IsNextIndex (Some last) difference i = (0 < difference) × (i ≡ last + differe
 -- the fields are at offset o, after a field with the index `last`, if there is one
 abbrev pub EncodedFieldsAt : List ℕ → ℕ → Option ℕ → List EncodedField → ℕ → Type 0
 EncodedFieldsAt b o last [] n = n ≡ 0
-EncodedFieldsAt b o last (x ∷ xs) n = (index_size : ℕ) × (flags_size : ℕ) × (rest_size : ℕ) × (difference : ℕ) × (index : ℕ)
-    × Uleb128At b o difference index_size × Uleb128At b (o + index_size) x.flags flags_size
-    × IsNextIndex last difference index × FieldRow b index x.field
-    × EncodedFieldsAt b (o + index_size + flags_size) (Some index) xs rest_size × (n ≡ index_size + flags_size + rest_size)
+EncodedFieldsAt b o last (x ∷ xs) n = (i j rest difference index : ℕ)
+    × Uleb128At b o difference i × Uleb128At b (o + i) x.flags j × IsNextIndex last difference index
+    × FieldRow b index x.field × EncodedFieldsAt b (o + i + j) (Some index) xs rest × (n ≡ i + j + rest)
 
 -- the same for methods
 abbrev pub EncodedMethodsAt : List ℕ → ℕ → Option ℕ → List EncodedMethod → ℕ → Type 0
 EncodedMethodsAt b o last [] n = n ≡ 0
-EncodedMethodsAt b o last (x ∷ xs) n = (index_size : ℕ) × (flags_size : ℕ) × (off_size : ℕ) × (rest_size : ℕ) × (difference : ℕ) × (index : ℕ)
-    × Uleb128At b o difference index_size × Uleb128At b (o + index_size) x.flags flags_size × Uleb128At b (o + index_size + flags_size) x.code_off off_size
+EncodedMethodsAt b o last (x ∷ xs) n = (i j k rest difference index : ℕ)
+    × Uleb128At b o difference i × Uleb128At b (o + i) x.flags j × Uleb128At b (o + i + j) x.code_off k
     × IsNextIndex last difference index × MethodRow b index x.method
-    × EncodedMethodsAt b (o + index_size + flags_size + off_size) (Some index) xs rest_size × (n ≡ index_size + flags_size + off_size + rest_size)
+    × EncodedMethodsAt b (o + i + j + k) (Some index) xs rest × (n ≡ i + j + k + rest)
 
--- A class_data_item is at offset o of the data: four counts and the four lists, each after the one before it. The sizes
--- are in bytes.
+-- A class_data_item is at offset o of the data: four counts and the four lists, each after the one before it, with the
+-- number of bytes of each part.
 pub record ClassDataAt (b : List ℕ) (o : ℕ) (d : ClassData) : Type 0 where
   pub in_data : data_off b ≤ o
-  pub static_count_size : ℕ
-  pub instance_count_size : ℕ
-  pub direct_count_size : ℕ
-  pub virtual_count_size : ℕ
-  pub static_fields_size : ℕ
-  pub instance_fields_size : ℕ
-  pub direct_methods_size : ℕ
-  pub virtual_methods_size : ℕ
-  pub static_count : Uleb128At b o (length d.static_fields) static_count_size
-  pub instance_count : Uleb128At b (o + static_count_size) (length d.instance_fields) instance_count_size
-  pub direct_count : Uleb128At b (o + static_count_size + instance_count_size) (length d.direct_methods) direct_count_size
-  pub virtual_count : Uleb128At b (o + static_count_size + instance_count_size + direct_count_size) (length d.virtual_methods) virtual_count_size
-  pub static_fields : EncodedFieldsAt b (o + static_count_size + instance_count_size + direct_count_size + virtual_count_size) None d.static_fields static_fields_size
-  pub instance_fields : EncodedFieldsAt b (o + static_count_size + instance_count_size + direct_count_size + virtual_count_size + static_fields_size) None d.instance_fields instance_fields_size
-  pub direct_methods : EncodedMethodsAt b (o + static_count_size + instance_count_size + direct_count_size + virtual_count_size + static_fields_size + instance_fields_size) None d.direct_methods direct_methods_size
-  pub virtual_methods : EncodedMethodsAt b (o + static_count_size + instance_count_size + direct_count_size + virtual_count_size + static_fields_size + instance_fields_size + direct_methods_size) None d.virtual_methods virtual_methods_size
+  pub counts_bytes : ℕ
+  pub static_fields_bytes : ℕ
+  pub instance_fields_bytes : ℕ
+  pub direct_methods_bytes : ℕ
+  pub virtual_methods_bytes : ℕ
+  pub counts : Sequence Uleb128At b o (length d.static_fields ∷ length d.instance_fields
+      ∷ length d.direct_methods ∷ length d.virtual_methods ∷ []) counts_bytes
+  pub static_fields : EncodedFieldsAt b (o + counts_bytes) None d.static_fields static_fields_bytes
+  pub instance_fields : EncodedFieldsAt b (o + counts_bytes + static_fields_bytes) None d.instance_fields instance_fields_bytes
+  pub direct_methods : EncodedMethodsAt b (o + counts_bytes + static_fields_bytes + instance_fields_bytes) None d.direct_methods direct_methods_bytes
+  pub virtual_methods : EncodedMethodsAt b (o + counts_bytes + static_fields_bytes + instance_fields_bytes
+      + direct_methods_bytes) None d.virtual_methods virtual_methods_bytes
 
 -- no value is in both lists
 abbrev pub ShareNone : {X : Type 0} → List X → List X → Type 0

@@ -143,9 +143,8 @@ module _ (us : List ℕ) (cuts : List Cut) where
 
 -- tries are in order of their addresses, and do not overlap
 abbrev pub AreApart : List Try → Type 0
-AreApart [] = Unit {0}
-AreApart (t ∷ []) = Unit {0}
 AreApart (t ∷ u ∷ ts) = (t.start + t.count ≤ u.start) × AreApart (u ∷ ts)
+AreApart _ = Unit {0}
 
 -- the maximum weight of the distinct handlers of a code_item
 abbrev pub most_handlers : ℕ
@@ -167,7 +166,8 @@ pub record TryItemsAt (us : List ℕ) (cuts : List Cut) (b : List ℕ) (o count 
 abbrev pub ListedTriesAt : List ℕ → ℕ → List Cut → List Try → Type 0
 ListedTriesAt b o cuts tries =
     ((insns_size b o % 2 ≡ 0) × TryItemsAt (code_units b o) cuts b (insns_end b o) (tries_size b o) tries)
-    ⊎ ((insns_size b o % 2 ≡ 1) × (ushort_at b (insns_end b o) ≡ 0) × TryItemsAt (code_units b o) cuts b (o + 18 + 2 * insns_size b o) (tries_size b o) tries)
+    ⊎ ((insns_size b o % 2 ≡ 1) × (ushort_at b (insns_end b o) ≡ 0)
+    × TryItemsAt (code_units b o) cuts b (o + 18 + 2 * insns_size b o) (tries_size b o) tries)
 
 -- the tries of the code_item at offset o, whose units have these cuts: none, or the listed tries
 abbrev pub TriesAt : List ℕ → ℕ → List Cut → List Try → Type 0

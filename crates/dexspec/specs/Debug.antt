@@ -1,7 +1,6 @@
--- Debug programs, and the positions that they record.
--- Source: "Dalvik Executable format", "debug_info_item", "State machine" and "Byte code values". Registers
--- and addresses are not checked (this project's rule).
-use Rattle.std.specs.Prelude.{◌≡◌, ℕ, ℤ, pos, ◌+ℤ◌, ◌-ℤ◌, ◌+◌, ◌-◌, ◌/◌, ◌%◌, ◌≤◌, Bool, true, false, if◌then◌else◌, List, [], ◌∷◌, length, Option}
+-- Debug programs. Source: "Dalvik Executable format", "debug_info_item" and "Byte code values". Registers and addresses
+-- are not checked (this project's rule).
+use Rattle.std.specs.Prelude.{◌≡◌, ℕ, ℤ, ◌+◌, ◌≤◌, List, [], ◌∷◌, length, Option}
 use Rattle.dexspec.specs.Lists.{Item, Sequence, BothOrNone}
 use Rattle.dexspec.specs.Bytes.{BytesAt}
 use Rattle.dexspec.specs.Numbers.{Uleb128At, Sleb128At, Uleb128p1At}
@@ -15,10 +14,8 @@ pub data Operation : Type 0 where
   AdvanceLine : (lines : ℤ) → Operation
   StartLocal : (register : ℕ) → (name type : Option Text) → Operation
   StartLocalExtended : (register : ℕ) → (name type signature : Option Text) → Operation
-  EndLocal : (register : ℕ) → Operation
-  RestartLocal : (register : ℕ) → Operation
-  SetPrologueEnd : Operation
-  SetEpilogueBegin : Operation
+  EndLocal RestartLocal : (register : ℕ) → Operation
+  SetPrologueEnd SetEpilogueBegin : Operation
   SetFile : (name : Option Text) → Operation
   Special : (opcode : ℕ) → Operation
 
@@ -40,15 +37,16 @@ OptionalTypeAt b o t n = (i : Option ℕ) × Uleb128p1At b o i n × BothOrNone (
 
 -- the operation is at offset o
 abbrev pub OperationAt : Item Operation
-OperationAt b o (AdvancePc addresses) n = BytesAt b o (0x01 ∷ []) × (k : ℕ) × Uleb128At b (o + 1) addresses k × (n ≡ 1 + k)
+OperationAt b o (AdvancePc count) n = BytesAt b o (0x01 ∷ []) × (k : ℕ) × Uleb128At b (o + 1) count k × (n ≡ 1 + k)
 OperationAt b o (AdvanceLine lines) n = BytesAt b o (0x02 ∷ []) × (k : ℕ) × Sleb128At b (o + 1) lines k × (n ≡ 1 + k)
 OperationAt b o (StartLocal register name type) n = BytesAt b o (0x03 ∷ [])
-    × (i : ℕ) × (j : ℕ) × (k : ℕ) × Uleb128At b (o + 1) register i × OptionalTextAt b (o + 1 + i) name j × OptionalTypeAt b (o + 1 + i + j) type k × (n ≡ 1 + i + j + k)
+    × (i j k : ℕ) × Uleb128At b (o + 1) register i
+    × OptionalTextAt b (o + 1 + i) name j × OptionalTypeAt b (o + 1 + i + j) type k × (n ≡ 1 + i + j + k)
 OperationAt b o (StartLocalExtended register name type signature) n = BytesAt b o (0x04 ∷ [])
-    × (i : ℕ) × (j : ℕ) × (k : ℕ) × (l : ℕ) × Uleb128At b (o + 1) register i × OptionalTextAt b (o + 1 + i) name j × OptionalTypeAt b (o + 1 + i + j) type k
+    × (i j k l : ℕ) × Uleb128At b (o + 1) register i × OptionalTextAt b (o + 1 + i) name j × OptionalTypeAt b (o + 1 + i + j) type k
     × OptionalTextAt b (o + 1 + i + j + k) signature l × (n ≡ 1 + i + j + k + l)
-OperationAt b o (EndLocal register) n = BytesAt b o (0x05 ∷ []) × (k : ℕ) × Uleb128At b (o + 1) register k × (n ≡ 1 + k)
-OperationAt b o (RestartLocal register) n = BytesAt b o (0x06 ∷ []) × (k : ℕ) × Uleb128At b (o + 1) register k × (n ≡ 1 + k)
+OperationAt b o (EndLocal v) n = BytesAt b o (0x05 ∷ []) × (k : ℕ) × Uleb128At b (o + 1) v k × (n ≡ 1 + k)
+OperationAt b o (RestartLocal v) n = BytesAt b o (0x06 ∷ []) × (k : ℕ) × Uleb128At b (o + 1) v k × (n ≡ 1 + k)
 OperationAt b o SetPrologueEnd n = BytesAt b o (0x07 ∷ []) × (n ≡ 1)
 OperationAt b o SetEpilogueBegin n = BytesAt b o (0x08 ∷ []) × (n ≡ 1)
 OperationAt b o (SetFile name) n = BytesAt b o (0x09 ∷ []) × (k : ℕ) × OptionalTextAt b (o + 1) name k × (n ≡ 1 + k)
@@ -66,33 +64,3 @@ pub record DebugAt (b : List ℕ) (o : ℕ) (d : Debug) : Type 0 where
   pub names : Sequence OptionalTextAt b (o + start_size + count_size) d.parameter_names names_size
   pub operations : Sequence OperationAt b (o + start_size + count_size + names_size) d.operations operations_size
   pub end : BytesAt b (o + start_size + count_size + names_size + operations_size) (0x00 ∷ [])
-
--- ---- positions
-
--- an operation that records a position
-abbrev pub is_special : Operation → Bool
-is_special (Special opcode) = true
-is_special _ = false
-
--- the number by which an operation advances the address
-abbrev pub address_step : Operation → ℕ
-address_step (AdvancePc addresses) = addresses
-address_step (Special opcode) = (opcode - 10) / 15
-address_step _ = 0
-
--- the number by which it advances the line
-abbrev pub line_step : Operation → ℤ
-line_step (AdvanceLine lines) = lines
-line_step (Special opcode) = pos ((opcode - 10) % 15) -ℤ pos 4
-line_step _ = pos 0
-
--- the positions of the special operations, from an address and a line on
-abbrev pub positions_from : ℕ → ℤ → List Operation → List (ℕ × ℤ)
-positions_from address line [] = []
-positions_from address line (op ∷ ops) =
-    let rest = positions_from (address + address_step op) (line +ℤ line_step op) ops in
-    if is_special op then (address + address_step op, line +ℤ line_step op) ∷ rest else rest
-
--- address and line of each special operation: the sums of the steps up to it, from 0 and the line start
-abbrev pub positions : Debug → List (ℕ × ℤ)
-positions d = positions_from 0 (pos d.line_start) d.operations

@@ -16,7 +16,6 @@ pub mod Annotations
 pub mod Sameness
 pub mod ClassData
 pub mod Classes
-pub mod Flags
 pub mod Files
 pub mod Mentions
 pub mod WellFormed

@@ -45,7 +45,8 @@ handler_symbols h = map (λ c. TypeSymbol c.type) h.catches
 
 -- the symbols of pieces, of the handlers that tries name, and of the debug program
 abbrev pub code_symbols : Code → List Symbol
-code_symbols c = flat_map piece_symbols c.pieces ++ (flat_map handler_symbols (handlers_of c.tries) ++ flat_map debug_symbols (option_to_list c.debug))
+code_symbols c = flat_map piece_symbols c.pieces
+    ++ (flat_map handler_symbols (handlers_of c.tries) ++ flat_map debug_symbols (option_to_list c.debug))
 
 abbrev mutual
   -- the symbols that a value names
@@ -91,12 +92,14 @@ field_symbols class f = FieldSymbol (field_of class f) ∷ set_symbols f.annotat
 
 -- a declared method, and the symbols of its code and sets
 abbrev pub method_symbols : Text → MethodDef → List Symbol
-method_symbols class m = MethodSymbol (method_of class m) ∷ (flat_map code_symbols (option_to_list m.code) ++ (set_symbols m.annotations ++ flat_map set_symbols m.parameter_annotations))
+method_symbols class m = MethodSymbol (method_of class m) ∷ (flat_map code_symbols (option_to_list m.code)
+    ++ (set_symbols m.annotations ++ flat_map set_symbols m.parameter_annotations))
 
 -- the symbols that occur in a definition
 unfoldable pub symbols_of : Definition → List Symbol
-symbols_of (name, c) = TypeSymbol name ∷ (optional_type c.superclass ++ (map TypeSymbol c.interfaces ++ (optional_text c.source
-    ++ (set_symbols c.annotations ++ (flat_map (field_symbols name) (declared_fields c) ++ (flat_map (method_symbols name) (declared_methods c) ++ values_symbols c.static_values))))))
+symbols_of (name, c) = TypeSymbol name ∷ (optional_type c.superclass ++ (map TypeSymbol c.interfaces
+    ++ (optional_text c.source ++ (set_symbols c.annotations ++ (flat_map (field_symbols name) (declared_fields c)
+    ++ (flat_map (method_symbols name) (declared_methods c) ++ values_symbols c.static_values))))))
 
 -- ---- the symbols that a symbol mentions, with itself
 

@@ -39,21 +39,16 @@ pub record AreCaps (caps : Caps) : Type 0 where
 
 -- the clauses of fitting, in the order in which they are reported
 pub data Cap : Type 0 where
-  Types : Cap
-  Protos : Cap
-  Fields : Cap
-  Methods : Cap
-  ShortStrings : Cap
-  Weight : Cap
+  TypeCap ProtoCap FieldCap MethodCap ShortStringCap WeightCap : Cap
 
 -- the number that a fault reports
 abbrev pub cap_number : Cap → ℕ
-cap_number Types = 1
-cap_number Protos = 2
-cap_number Fields = 3
-cap_number Methods = 4
-cap_number ShortStrings = 5
-cap_number Weight = 6
+cap_number TypeCap = 1
+cap_number ProtoCap = 2
+cap_number FieldCap = 3
+cap_number MethodCap = 4
+cap_number ShortStringCap = 5
+cap_number WeightCap = 6
 
 -- some definition has a const-string, not a jumbo one, of the text
 pub record HasShortString (D : List Definition) (s : Text) : Type 0 where
@@ -69,12 +64,12 @@ pub record HasShortString (D : List Definition) (s : Text) : Type 0 where
 
 -- The clause fails. For the weight: some members, no two of them equal, weigh more.
 abbrev pub Exceeds : Caps → List Definition → Cap → Type 0
-Exceeds caps D Types = caps.types < length (mentions D).types
-Exceeds caps D Protos = caps.protos < length (mentions D).protos
-Exceeds caps D Fields = caps.fields < length (mentions D).fields
-Exceeds caps D Methods = caps.methods < length (mentions D).methods
-Exceeds caps D ShortStrings = (s : Text) × HasShortString D s × (caps.short_strings ≤ rank text_cmp s (mentions D).texts)
-Exceeds caps D Weight = (E : List Definition) × AreDistinct E × AreWithin E D × (caps.weight < weight E)
+Exceeds c D TypeCap = c.types < length (mentions D).types
+Exceeds c D ProtoCap = c.protos < length (mentions D).protos
+Exceeds c D FieldCap = c.fields < length (mentions D).fields
+Exceeds c D MethodCap = c.methods < length (mentions D).methods
+Exceeds c D ShortStringCap = (s : Text) × HasShortString D s × (c.short_strings ≤ rank text_cmp s (mentions D).texts)
+Exceeds c D WeightCap = (E : List Definition) × AreDistinct E × AreWithin E D × (c.weight < weight E)
 
 -- the definitions fit the caps
 pub record Fits (caps : Caps) (D : List Definition) : Type 0 where
@@ -113,8 +108,7 @@ pub record IsCycle (D : List Definition) (name : Text) : Type 0 where
 
 -- the reason why there is no merged file
 pub data Cause : Type 0 where
-  Conflict : (name : Text) → Cause
-  Cycle : (name : Text) → Cause
+  Conflict Cycle : (name : Text) → Cause
   Exceeded : (cap : Cap) → Cause
 
 -- the cause holds for the definitions
@@ -127,11 +121,10 @@ IsCause caps D (Exceeded cap) = Exceeds caps D cap
 abbrev pub IsReportedBefore : Cause → Cause → Type 0
 IsReportedBefore (Conflict m) (Conflict n) = text_cmp m n ≡ Less
 IsReportedBefore (Conflict m) _ = Unit {0}
-IsReportedBefore (Cycle m) (Conflict n) = ⊥
 IsReportedBefore (Cycle m) (Cycle n) = text_cmp m n ≡ Less
 IsReportedBefore (Cycle m) (Exceeded k) = Unit {0}
 IsReportedBefore (Exceeded j) (Exceeded k) = cap_number j < cap_number k
-IsReportedBefore (Exceeded j) _ = ⊥
+IsReportedBefore _ _ = ⊥
 
 -- the first cause that holds for the definitions
 pub record IsFirstCause (caps : Caps) (D : List Definition) (cause : Cause) : Type 0 where

@@ -28,10 +28,7 @@ primitive_letters = 0x5a ∷ 0x42 ∷ 0x53 ∷ 0x43 ∷ 0x4a ∷ 0x49 ∷ 0x46 �
 
 -- the four kinds of type
 pub data TypeKind : Type 0 where
-  VoidType : TypeKind
-  PrimitiveType : TypeKind
-  ClassType : TypeKind
-  ArrayType : TypeKind
+  VoidType PrimitiveType ClassType ArrayType : TypeKind
 
 -- `V`
 abbrev pub IsVoid : Text → Type 0

@@ -1,7 +1,7 @@
 -- LEB128: numbers as one to five bytes of seven bits each, the lowest group first. Source: "Dalvik Executable format",
 -- "LEB128". This project's rules: an encoding may be longer than needed, and the exact value must be in the range of
 -- its 32-bit type.
-use Rattle.std.specs.Prelude.{◌≡◌, ℕ, zero, suc, negsuc, ℤ, pos, ◌-ℤ◌, ◌+◌, ◌-◌, ◌*◌, ◌%◌, ◌/◌, ◌^◌, ◌<◌, ◌≤◌, List, [], ◌∷◌, length, take, drop, All, Option, Some, None, FitsSigned, if◌then◌else◌, nat_le, nat_lt}
+use Rattle.std.specs.Prelude.{◌≡◌, ℕ, zero, suc, negsuc, ℤ, pos, ◌-ℤ◌, ◌+◌, ◌-◌, ◌*◌, ◌%◌, ◌/◌, ◌^◌, ◌<◌, ◌≤◌, List, [], ◌∷◌, length, take, drop, Option, Some, None, FitsSigned, if◌then◌else◌, nat_le, nat_lt}
 use Rattle.std.specs.Int.{w32}
 use Rattle.dexspec.specs.Lists.{Item}
 
@@ -66,16 +66,6 @@ Sleb128At b o v n = BeginsWith IsSleb128 (drop o b) v n
 -- the same for a uleb128p1
 abbrev pub Uleb128p1At : Item (Option ℕ)
 Uleb128p1At b o v n = BeginsWith IsUleb128p1 (drop o b) v n
-
--- fewer than five bytes, perhaps none, and each has its top bit set: a number may go on after them
-pub record IsCutOff (bytes : List ℕ) : Type 0 where
-  pub few : length bytes < 5
-  pub high : All (λ byte. 128 ≤ byte) bytes
-
--- the bytes encode the number, and no encoding of it is shorter
-pub record IsShortest {V : Type 0} (Says : List ℕ → V → Type 0) (bytes : List ℕ) (v : V) : Type 0 where
-  pub spelled : Says bytes v
-  pub least : (other : List ℕ) → Says other v → length bytes ≤ length other
 
 -- ---- the shortest encodings
 

@@ -6,7 +6,7 @@
 -- to is allowed.
 use Rattle.std.specs.Prelude.{◌≡◌, ℕ, zero, suc, ℤ, pos, ◌+ℤ◌, nat_abs, ◌+◌, ◌*◌, ◌/◌, ◌%◌, ◌<◌, Bool, true, false, not, ◌&&◌, ◌||◌, ◌==◌, nat_le, IsTrue, if◌then◌else◌, List, [], ◌∷◌, length, take, drop, All, slice_index, slice_set, Option, Some, None}
 use Rattle.std.specs.List.{list_any, list_all}
-use Rattle.std.specs.Option.{option_and_then}
+use Rattle.std.specs.Option.{option_map_or, option_and_then}
 use Rattle.std.specs.Ordering.{int_cmp, int_eq}
 use Rattle.dexspec.specs.Lists.{rises}
 use Rattle.dexspec.specs.Bytes.{signed_in}
@@ -95,7 +95,8 @@ is_first_unit format u = not (has_zero_byte format) || high_byte u == 0
 
 -- the number of units of an instruction of this opcode, if there are that many and the first is valid for the format
 abbrev pub size_of_opcode : List ℕ → Opcode → Option ℕ
-size_of_opcode us op = if nat_le (units_in op.format) (length us) && is_first_unit op.format (slice_index us 0) then Some (units_in op.format) else None
+size_of_opcode us op = if nat_le (units_in op.format) (length us) && is_first_unit op.format (slice_index us 0)
+    then Some (units_in op.format) else None
 
 -- the number of units of the instruction that the units begin with
 abbrev pub instruction_size : List ℕ → Option ℕ
@@ -106,8 +107,7 @@ instruction_size us = option_and_then (size_of_opcode us) (opcode_of (low_byte (
 -- the number of units of the piece that begins at a unit with the units `us`, or nothing if none begins there
 unfoldable pub piece_size : ℕ → List ℕ → Option ℕ
 piece_size at [] = None
-piece_size at (u ∷ us) =
-    if is_payload_ident u then (if at % 2 == 0 then payload_size (u ∷ us) else None)
+piece_size at (u ∷ us) = if is_payload_ident u then (if at % 2 == 0 then payload_size (u ∷ us) else None)
     else instruction_size (u ∷ us)
 
 -- the first unit of a piece, and its number of units
@@ -119,13 +119,6 @@ pub record Cut : Type 0 where
 abbrev pub AreCut : ℕ → List ℕ → List Cut → List ℕ → Type 0
 AreCut at us [] rest = us ≡ rest
 AreCut at us (c ∷ cs) rest = (c.unit ≡ at) × (piece_size at us ≡ Some c.units) × AreCut (at + c.units) (drop c.units us) cs rest
-
--- the units are cut into pieces up to unit n, where no piece begins
-pub record BreaksAt (us : List ℕ) (n : ℕ) : Type 0 where
-  pub cuts : List Cut
-  pub within : n < length us
-  pub cut : AreCut 0 us cuts (drop n us)
-  pub none : piece_size n (drop n us) ≡ None
 
 -- ---- targets
 
@@ -163,22 +156,18 @@ payload_targets us at =
 abbrev pub is_right_target : List ℕ → List Cut → ℕ → Format → ℤ → Bool
 is_right_target us cs at F31t offset =
     is_payload_start (payload_ident (low_byte (slice_index us at))) us cs (pos at +ℤ offset)
-    && list_all (λ target. is_instruction_start us cs (pos at +ℤ target)) (payload_targets us (nat_abs (pos at +ℤ offset)))
+    && list_all (λ t. is_instruction_start us cs (pos at +ℤ t)) (payload_targets us (nat_abs (pos at +ℤ offset)))
 is_right_target us cs at _ offset = is_instruction_start us cs (pos at +ℤ offset)
 
 -- the value, if there is one, passes the test
 abbrev pub all_of_option : {X : Type 0} → (X → Bool) → Option X → Bool
-all_of_option p None = true
-all_of_option p (Some x) = p x
+all_of_option p o = option_map_or p o true
 
--- the target of the instruction of this opcode at a unit, if it has one, is valid
-abbrev pub has_right_branch : List ℕ → List Cut → ℕ → Opcode → Bool
-has_right_branch us cs at op = all_of_option (is_right_target us cs at op.format) (branch_offset op.format us at)
-
--- the piece is a payload, or an instruction whose targets are valid
+-- the piece is a payload, or an instruction whose target is valid, if it has one
 unfoldable pub has_right_targets : List ℕ → List Cut → Cut → Bool
-has_right_targets us cs c =
-    is_payload_ident (slice_index us c.unit) || all_of_option (has_right_branch us cs c.unit) (opcode_of (low_byte (slice_index us c.unit)))
+has_right_targets us cs c = is_payload_ident (slice_index us c.unit)
+    || all_of_option (λ op. all_of_option (is_right_target us cs c.unit op.format) (branch_offset op.format us c.unit))
+    (opcode_of (low_byte (slice_index us c.unit)))
 
 -- the units are code, and cut into these pieces
 pub record IsCode (us : List ℕ) (cs : List Cut) : Type 0 where

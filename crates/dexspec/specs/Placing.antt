@@ -43,8 +43,7 @@ shared_items same uses =
 -- Type lists, debug programs and annotation sets: equal ones are written once, as in the canonical file, or once for
 -- each use.
 pub data Sharing : Type 0 where
-  EqualOnce : Sharing
-  EachForItself : Sharing
+  EqualOnce EachForItself : Sharing
 
 -- the items of uses with this sharing
 abbrev pub items_by : {X : Type 0} → Sharing → (X → X → Bool) → List (Option X) → Items X
@@ -63,12 +62,19 @@ values_unless_empty (ThenValue v vs) = Some (ThenValue v vs)
 
 -- ---- sections
 
--- items in sequence from an offset on, each aligned
+-- A section: items of one kind in sequence from an offset on, each aligned, and for each use in turn the number of its
+-- item, if it has one.
 pub record Placed : Type 0 where
   pub kind : Section
   pub align : ℕ
   pub from : ℕ
   pub items : List (List ℕ)
+  pub numbers : List (Option ℕ)
+
+-- the bytes of items as a section of this kind, with this alignment, from this offset on
+abbrev pub section : {X : Type 0} → Section → ℕ → ℕ → (X → List ℕ) → Items X → Placed
+section kind align from bytes its =
+    record { kind = kind; align = align; from = from; items = map bytes its.written; numbers = its.numbers }
 
 -- the offsets of the items
 abbrev pub offsets_from : ℕ → ℕ → List (List ℕ) → List ℕ
@@ -98,8 +104,8 @@ abbrev pub section_bytes : Placed → List ℕ
 section_bytes p = bytes_from p.align p.from p.items
 
 -- the offset of each use's item, or 0 if it has none
-abbrev pub uses_offsets : List (Option ℕ) → List ℕ → List ℕ
-uses_offsets numbers offsets = map (λ n. option_map_or (slice_index offsets) n 0) numbers
+abbrev pub uses_offsets : Placed → List ℕ
+uses_offsets p = map (λ n. option_map_or (slice_index (offsets p)) n 0) p.numbers
 
 -- ---- the uses, in the order of the file
 
@@ -115,7 +121,8 @@ all_methods cs = flat_map (λ d. declared_methods d.1) cs
 
 -- the parameters of the protos, then the interfaces of the classes
 abbrev pub type_list_uses : Ordered → List (Option (List Text))
-type_list_uses K = map (λ p. unless_empty p.parameters) K.pools.protos ++ map (λ d. unless_empty d.1.interfaces) K.classes
+type_list_uses C =
+    map (λ p. unless_empty p.parameters) C.pools.protos ++ map (λ d. unless_empty d.1.interfaces) C.classes
 
 -- a method's own set, then those of its parameters
 abbrev pub method_sets : MethodDef → List AnnotationSet
@@ -123,27 +130,28 @@ method_sets x = x.annotations ∷ x.parameter_annotations
 
 -- the class's own set, then those of its fields, then those of its methods
 abbrev pub class_sets : Definition → List AnnotationSet
-class_sets d = d.1.annotations ∷ (map (λ f. f.annotations) (declared_fields d.1) ++ flat_map method_sets (declared_methods d.1))
+class_sets d =
+    d.1.annotations ∷ (map (λ f. f.annotations) (declared_fields d.1) ++ flat_map method_sets (declared_methods d.1))
 
 -- all sets
 abbrev pub set_uses : Ordered → List (Option AnnotationSet)
-set_uses K = map unless_empty (flat_map class_sets K.classes)
+set_uses C = map unless_empty (flat_map class_sets C.classes)
 
 -- each method's debug program
 abbrev pub debug_uses : Ordered → List (Option Debug)
-debug_uses K = map (λ x. option_map_or (λ c. c.debug) x.code None) (all_methods K.classes)
+debug_uses C = map (λ x. option_map_or (λ c. c.debug) x.code None) (all_methods C.classes)
 
 -- each method's code with the offset of its debug program
 abbrev pub code_uses : Ordered → List ℕ → List (Option (Code × ℕ))
-code_uses K debug_offs = zip_with (λ x o. option_map_or (λ c. Some (c, o)) x.code None) (all_methods K.classes) debug_offs
+code_uses C offs = zip_with (λ x o. option_map_or (λ c. Some (c, o)) x.code None) (all_methods C.classes) offs
 
 -- each class's static values
 abbrev pub static_values_uses : Ordered → List (Option Values)
-static_values_uses K = map (λ d. values_unless_empty d.1.static_values) K.classes
+static_values_uses C = map (λ d. values_unless_empty d.1.static_values) C.classes
 
 -- a list for all methods, split by class
 abbrev pub by_class : {X : Type 0} → Ordered → List X → List (List X)
-by_class K xs = chunks (map (λ d. length (declared_methods d.1)) K.classes) xs
+by_class C xs = chunks (map (λ d. length (declared_methods d.1)) C.classes) xs
 
 -- a class without members has no class data
 abbrev pub is_empty_class : Body → Bool
@@ -151,7 +159,8 @@ is_empty_class c = length (declared_fields c) + length (declared_methods c) == 0
 
 -- each class's members with the offsets of their code
 abbrev pub class_data_uses : Ordered → List ℕ → List (Option (Definition × List ℕ))
-class_data_uses K code_offs = zip_with (λ d offs. if is_empty_class d.1 then None else Some (d, offs)) K.classes (by_class K code_offs)
+class_data_uses C code_offs =
+    zip_with (λ d offs. if is_empty_class d.1 then None else Some (d, offs)) C.classes (by_class C code_offs)
 
 -- the offsets of a class's sets: of its own, of its fields, and for each method of the method
 pub record SetOffsets : Type 0 where
@@ -164,16 +173,18 @@ abbrev pub set_offsets_of : Definition → List ℕ → SetOffsets
 set_offsets_of d offs = record {
   own = slice_index offs 0;
   fields = take (length (declared_fields d.1)) (drop 1 offs);
-  methods = chunks (map (λ x. length (method_sets x)) (declared_methods d.1)) (drop (1 + length (declared_fields d.1)) offs);
+  methods = chunks (map (λ x. length (method_sets x)) (declared_methods d.1))
+      (drop (1 + length (declared_fields d.1)) offs);
 }
 
 -- the same for all classes
 abbrev pub set_offsets_by_class : Ordered → List ℕ → List SetOffsets
-set_offsets_by_class K offs = zip_with set_offsets_of K.classes (chunks (map (λ d. length (class_sets d)) K.classes) offs)
+set_offsets_by_class C offs =
+    zip_with set_offsets_of C.classes (chunks (map (λ d. length (class_sets d)) C.classes) offs)
 
 -- each method's parameter sets, by their offsets
 abbrev pub ref_list_uses : Ordered → List SetOffsets → List (Option (List ℕ))
-ref_list_uses K sets = flat_map (λ s. map (λ offs. unless_empty (drop 1 offs)) s.methods) sets
+ref_list_uses C sets = flat_map (λ s. map (λ offs. unless_empty (drop 1 offs)) s.methods) sets
 
 -- ---- directories
 
@@ -198,8 +209,10 @@ directory_bytes m (name, c) sets ref_lists =
     let methods = pairs method_indices (map (λ offs. slice_index offs 0) sets.methods) in
     let parameters = pairs method_indices ref_lists in
     if sets.own + (length fields + (length methods + length parameters)) == 0 then None
-    else Some (uint sets.own ++ (uint (length fields) ++ (uint (length methods) ++ (uint (length parameters) ++ (pairs_bytes fields ++ (pairs_bytes methods ++ pairs_bytes parameters))))))
+    else Some (uint sets.own ++ (uint (length fields) ++ (uint (length methods) ++ (uint (length parameters)
+    ++ (pairs_bytes fields ++ (pairs_bytes methods ++ pairs_bytes parameters))))))
 
 -- each class's directory
 abbrev pub directory_uses : Ordered → List SetOffsets → List ℕ → List (Option (List ℕ))
-directory_uses K sets ref_lists = zip_with (λ d p. directory_bytes K.pools d p.0 p.1) K.classes (zip sets (by_class K ref_lists))
+directory_uses C sets ref_lists =
+    zip_with (λ d p. directory_bytes C.pools d p.0 p.1) C.classes (zip sets (by_class C ref_lists))

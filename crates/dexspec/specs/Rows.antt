@@ -90,15 +90,17 @@ type_row_key b i = uint_at b (row_at b TypeIds i) ∷ []
 
 -- of a proto's, its return type, then its parameters
 abbrev pub proto_row_key : List ℕ → ℕ → List ℕ
-proto_row_key b i = uint_at b (row_at b ProtoIds i + 4) ∷ (if uint_at b (row_at b ProtoIds i + 8) == 0 then [] else type_indices b (uint_at b (row_at b ProtoIds i + 8)))
+proto_row_key b i =
+    let list = uint_at b (row_at b ProtoIds i + 8) in
+    uint_at b (row_at b ProtoIds i + 4) ∷ (if list == 0 then [] else type_indices b list)
 
 -- of a field's, its class, then its name, then its type
 abbrev pub field_row_key : List ℕ → ℕ → List ℕ
-field_row_key b i = ushort_at b (row_at b FieldIds i) ∷ uint_at b (row_at b FieldIds i + 4) ∷ ushort_at b (row_at b FieldIds i + 2) ∷ []
+field_row_key b i = let o = row_at b FieldIds i in ushort_at b o ∷ uint_at b (o + 4) ∷ ushort_at b (o + 2) ∷ []
 
 -- of a method's, its class, then its name, then its proto
 abbrev pub method_row_key : List ℕ → ℕ → List ℕ
-method_row_key b i = ushort_at b (row_at b MethodIds i) ∷ uint_at b (row_at b MethodIds i + 4) ∷ ushort_at b (row_at b MethodIds i + 2) ∷ []
+method_row_key b i = let o = row_at b MethodIds i in ushort_at b o ∷ uint_at b (o + 4) ∷ ushort_at b (o + 2) ∷ []
 
 -- row i's key is greater than that of the row before it, if there is one
 abbrev pub Follows : (List ℕ → ℕ → List ℕ) → List ℕ → ℕ → Type 0
@@ -112,26 +114,24 @@ pub record HasString (b : List ℕ) (i : ℕ) : Type 0 where
   pub is : StringRow b i text
   pub follows : (j : ℕ) (before : Text) → j + 1 ≡ i → StringRow b j before → text_cmp before text ≡ Less
 
+-- the row is one of this kind, and follows the row before it
+pub record HasRow {X : Type 0} (Row : List ℕ → ℕ → X → Type 0) (key : List ℕ → ℕ → List ℕ) (b : List ℕ) (i : ℕ) : Type 0 where
+  pub item : X
+  pub is : Row b i item
+  pub follows : Follows key b i
+
 -- 12 Types
-pub record HasType (b : List ℕ) (i : ℕ) : Type 0 where
-  pub type : Text
-  pub is : TypeRow b i type
-  pub follows : Follows type_row_key b i
+abbrev pub HasType : List ℕ → ℕ → Type 0
+HasType = HasRow TypeRow type_row_key
 
 -- 13 Protos
-pub record HasProto (b : List ℕ) (i : ℕ) : Type 0 where
-  pub proto : Proto
-  pub is : ProtoRow b i proto
-  pub follows : Follows proto_row_key b i
+abbrev pub HasProto : List ℕ → ℕ → Type 0
+HasProto = HasRow ProtoRow proto_row_key
 
 -- 14 Fields
-pub record HasField (b : List ℕ) (i : ℕ) : Type 0 where
-  pub field : Field
-  pub is : FieldRow b i field
-  pub follows : Follows field_row_key b i
+abbrev pub HasField : List ℕ → ℕ → Type 0
+HasField = HasRow FieldRow field_row_key
 
 -- 15 Methods
-pub record HasMethod (b : List ℕ) (i : ℕ) : Type 0 where
-  pub method : Method
-  pub is : MethodRow b i method
-  pub follows : Follows method_row_key b i
+abbrev pub HasMethod : List ℕ → ℕ → Type 0
+HasMethod = HasRow MethodRow method_row_key

@@ -49,7 +49,8 @@ same_operation _ _ = false
 
 -- line start, names and operations
 abbrev pub same_debug : Debug → Debug → Bool
-same_debug d e = d.line_start == e.line_start && (pointwise same_optional d.parameter_names e.parameter_names && pointwise same_operation d.operations e.operations)
+same_debug d e = d.line_start == e.line_start && (pointwise same_optional d.parameter_names e.parameter_names
+    && pointwise same_operation d.operations e.operations)
 
 -- ---- annotation sets
 

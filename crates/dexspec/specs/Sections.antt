@@ -33,17 +33,8 @@ pub record IsInData (b : List ℕ) (o n : ℕ) : Type 0 where
 pub data Section : Type 0 where
   HeaderItem : Section
   TableOf : (table : Table) → Section
-  MapList : Section
-  TypeLists : Section
-  AnnotationSetRefLists : Section
-  AnnotationSets : Section
-  ClassDataItems : Section
-  CodeItems : Section
-  StringDataItems : Section
-  DebugInfoItems : Section
-  AnnotationItems : Section
-  EncodedArrayItems : Section
-  AnnotationsDirectories : Section
+  MapList TypeLists AnnotationSetRefLists AnnotationSets ClassDataItems CodeItems StringDataItems : Section
+  DebugInfoItems AnnotationItems EncodedArrayItems AnnotationsDirectories : Section
 
 -- the code of a kind of section in a map
 abbrev pub type_code : Section → ℕ
@@ -101,7 +92,7 @@ pub record HasMap (b : List ℕ) : Type 0 where
   pub known : All IsKnown (map_entries b)
   pub once : AreDistinct (map (λ e. e.kind) (map_entries b))
   pub rise : IsTrue (rises nat_cmp (map (λ e. e.off) (map_entries b)))
-  pub header : (rest : List MapEntry) × (map_entries b ≡ record { kind = type_code HeaderItem; size = 1; off = 0 } ∷ rest)
+  pub header : (es : List MapEntry) × (map_entries b ≡ record { kind = type_code HeaderItem; size = 1; off = 0 } ∷ es)
   pub tables : (t : Table) → HasTable b (map_entries b) t
   pub itself : Contains (map_entries b) (record { kind = type_code MapList; size = 1; off = map_off b })
   pub others : All (IsPlaced b) (map_entries b)

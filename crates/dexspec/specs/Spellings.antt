@@ -3,16 +3,16 @@
 -- handlers by first use, are this project's rule.
 use Rattle.std.specs.Prelude.{ℕ, suc, ℤ, pos, negsuc, ◌-ℤ◌, ◌+◌, ◌-◌, ◌*◌, ◌/◌, ◌%◌, ◌^◌, ◌==◌, nat_lt, if◌then◌else◌, List, [], ◌∷◌, ◌++◌, length, map, take, drop, Option, Some, None, unwrap_or, option_to_list}
 use Rattle.std.specs.List.{flat_map, concat, find, zip}
-use Rattle.std.specs.Option.{option_map_or}
+use Rattle.std.specs.Option.{option_map, option_map_or}
 use Rattle.dexspec.specs.Lists.{rank, zip_with}
 use Rattle.dexspec.specs.Bytes.{bytes_of, ushort, uint}
 use Rattle.dexspec.specs.Numbers.{uleb128, sleb128, uleb128p1, magnitude}
 use Rattle.dexspec.specs.Texts.{Text, text_cmp}
 use Rattle.dexspec.specs.Symbols.{Proto, Field, Method, Symbol, TextSymbol, TypeSymbol, ProtoSymbol, FieldSymbol, MethodSymbol, proto_cmp, field_cmp, method_cmp}
-use Rattle.dexspec.specs.Pieces.{Piece, Instruction, Payload, with_index}
+use Rattle.dexspec.specs.Pieces.{Piece, Instruction, units_of, with_index}
 use Rattle.dexspec.specs.Code.{Catch, Handler, Try, Code, same_handler, handlers_of}
 use Rattle.dexspec.specs.Debug.{Operation, AdvancePc, AdvanceLine, StartLocal, StartLocalExtended, EndLocal, RestartLocal, SetPrologueEnd, SetEpilogueBegin, SetFile, Special, Debug}
-use Rattle.dexspec.specs.Values.{Value, ByteValue, ShortValue, CharValue, IntValue, LongValue, FloatValue, DoubleValue, StringValue, TypeValue, FieldValue, MethodValue, EnumValue, ArrayValue, AnnotationValue, NullValue, BooleanValue, Values, NoValues, ThenValue, Elements, NoElements, ThenElement, count_values, names_of, value_byte, byte_value_type, short_value_type, char_value_type, int_value_type, long_value_type, float_value_type, double_value_type, string_value_type, type_value_type, field_value_type, method_value_type, enum_value_type, array_value_type, annotation_value_type, null_value_type, boolean_value_type}
+use Rattle.dexspec.specs.Values.{Value, ByteValue, ShortValue, CharValue, IntValue, LongValue, FloatValue, DoubleValue, StringValue, TypeValue, FieldValue, MethodValue, EnumValue, ArrayValue, AnnotationValue, NullValue, BooleanValue, Values, NoValues, ThenValue, Elements, NoElements, ThenElement, count_values, names_of, value_byte}
 use Rattle.dexspec.specs.Annotations.{Annotation}
 use Rattle.dexspec.specs.Classes.{FieldDef, MethodDef, Definition}
 use Rattle.dexspec.specs.Mentions.{Mentions, field_of, method_of}
@@ -47,11 +47,6 @@ symbol_index m (ProtoSymbol p) = proto_index m p
 symbol_index m (FieldSymbol f) = field_index m f
 symbol_index m (MethodSymbol x) = method_index m x
 
--- the index of a value that is present, or none
-abbrev pub index_or_none : {X : Type 0} → (X → ℕ) → Option X → Option ℕ
-index_or_none index None = None
-index_or_none index (Some x) = Some (index x)
-
 -- ---- type lists
 
 -- a type_list
@@ -62,9 +57,8 @@ type_list_bytes m ts = uint (length ts) ++ flat_map (λ t. ushort (type_index m 
 
 -- the units of a piece with its index
 abbrev pub piece_units : Mentions → Piece → List ℕ
-piece_units m (Instruction us None) = us
 piece_units m (Instruction us (Some s)) = with_index (symbol_index m s) us
-piece_units m (Payload us) = us
+piece_units m p = units_of p
 
 -- an encoded_type_addr_pair
 abbrev pub catch_bytes : Mentions → Catch → List ℕ
@@ -80,8 +74,8 @@ handler_bytes m h = sleb128 (handler_count h) ++ (flat_map (catch_bytes m) h.cat
 
 -- the offset of a handler among handlers of which the first is at an offset
 abbrev pub handler_off : Mentions → ℕ → List Handler → Handler → ℕ
-handler_off m from [] h = from
-handler_off m from (k ∷ ks) h = if same_handler k h then from else handler_off m (from + length (handler_bytes m k)) ks h
+handler_off m at [] h = at
+handler_off m at (k ∷ ks) h = if same_handler k h then at else handler_off m (at + length (handler_bytes m k)) ks h
 
 -- a try_item
 abbrev pub try_bytes : Mentions → List Handler → Try → List ℕ
@@ -94,30 +88,33 @@ handler_list_bytes m hs = uleb128 (length hs) ++ flat_map (handler_bytes m) hs
 -- after `count` units: a zero ushort if `count` is odd, the tries, and the handlers that they name
 abbrev pub tries_bytes : Mentions → ℕ → List Try → List ℕ
 tries_bytes m count [] = []
-tries_bytes m count (t ∷ ts) = (if count % 2 == 1 then ushort 0 else []) ++ (flat_map (try_bytes m (handlers_of (t ∷ ts))) (t ∷ ts) ++ handler_list_bytes m (handlers_of (t ∷ ts)))
+tries_bytes m count (t ∷ ts) = (if count % 2 == 1 then ushort 0 else [])
+    ++ (flat_map (try_bytes m (handlers_of (t ∷ ts))) (t ∷ ts) ++ handler_list_bytes m (handlers_of (t ∷ ts)))
 
 -- a code_item whose debug program has this offset
 unfoldable pub code_bytes : Mentions → ℕ → Code → List ℕ
 code_bytes m debug_off c =
     let units = flat_map (piece_units m) c.pieces in
-    ushort c.registers ++ (ushort c.ins ++ (ushort c.outs ++ (ushort (length c.tries) ++ (uint debug_off ++ (uint (length units) ++ (flat_map ushort units ++ tries_bytes m (length units) c.tries))))))
+    ushort c.registers ++ (ushort c.ins ++ (ushort c.outs ++ (ushort (length c.tries) ++ (uint debug_off
+    ++ (uint (length units) ++ (flat_map ushort units ++ tries_bytes m (length units) c.tries))))))
 
 -- ---- debug programs
 
 -- a uleb128p1 of a string's index
 abbrev pub optional_text_bytes : Mentions → Option Text → List ℕ
-optional_text_bytes m s = uleb128p1 (index_or_none (text_index m) s)
+optional_text_bytes m s = uleb128p1 (option_map (text_index m) s)
 
 -- a uleb128p1 of a type's index
 abbrev pub optional_type_bytes : Mentions → Option Text → List ℕ
-optional_type_bytes m t = uleb128p1 (index_or_none (type_index m) t)
+optional_type_bytes m t = uleb128p1 (option_map (type_index m) t)
 
 -- an operation of a debug program
 abbrev pub operation_bytes : Mentions → Operation → List ℕ
 operation_bytes m (AdvancePc addresses) = 0x01 ∷ uleb128 addresses
 operation_bytes m (AdvanceLine lines) = 0x02 ∷ sleb128 lines
 operation_bytes m (StartLocal register name type) = 0x03 ∷ (uleb128 register ++ (optional_text_bytes m name ++ optional_type_bytes m type))
-operation_bytes m (StartLocalExtended register name type signature) = 0x04 ∷ (uleb128 register ++ (optional_text_bytes m name ++ (optional_type_bytes m type ++ optional_text_bytes m signature)))
+operation_bytes m (StartLocalExtended register name type signature) = 0x04 ∷ (uleb128 register
+    ++ (optional_text_bytes m name ++ (optional_type_bytes m type ++ optional_text_bytes m signature)))
 operation_bytes m (EndLocal register) = 0x05 ∷ uleb128 register
 operation_bytes m (RestartLocal register) = 0x06 ∷ uleb128 register
 operation_bytes m SetPrologueEnd = 0x07 ∷ []
@@ -127,7 +124,8 @@ operation_bytes m (Special opcode) = opcode ∷ []
 
 -- a debug_info_item
 unfoldable pub debug_bytes : Mentions → Debug → List ℕ
-debug_bytes m d = uleb128 d.line_start ++ (uleb128 (length d.parameter_names) ++ (flat_map (optional_text_bytes m) d.parameter_names ++ (flat_map (operation_bytes m) d.operations ++ 0x00 ∷ [])))
+debug_bytes m d = uleb128 d.line_start ++ (uleb128 (length d.parameter_names)
+    ++ (flat_map (optional_text_bytes m) d.parameter_names ++ (flat_map (operation_bytes m) d.operations ++ 0x00 ∷ [])))
 
 -- ---- values and annotations
 
@@ -162,27 +160,27 @@ signed_bytes code z = value_byte (signed_width z - 1) code ∷ bytes_of (signed_
 
 -- a float or a double
 abbrev pub bits_bytes : ℕ → ℕ → ℕ → List ℕ
-bits_bytes code width v = value_byte (bits_width width v - 1) code ∷ bytes_of (bits_width width v) (v / 256 ^ (width - bits_width width v))
+bits_bytes code width v = let n = bits_width width v in value_byte (n - 1) code ∷ bytes_of n (v / 256 ^ (width - n))
 
 abbrev mutual
   -- an encoded_value
   pub value_bytes : Mentions → Value → List ℕ
-  value_bytes m (ByteValue z) = signed_bytes byte_value_type z
-  value_bytes m (ShortValue z) = signed_bytes short_value_type z
-  value_bytes m (CharValue u) = unsigned_bytes char_value_type u
-  value_bytes m (IntValue z) = signed_bytes int_value_type z
-  value_bytes m (LongValue z) = signed_bytes long_value_type z
-  value_bytes m (FloatValue bits) = bits_bytes float_value_type 4 bits
-  value_bytes m (DoubleValue bits) = bits_bytes double_value_type 8 bits
-  value_bytes m (StringValue s) = unsigned_bytes string_value_type (text_index m s)
-  value_bytes m (TypeValue t) = unsigned_bytes type_value_type (type_index m t)
-  value_bytes m (FieldValue f) = unsigned_bytes field_value_type (field_index m f)
-  value_bytes m (MethodValue x) = unsigned_bytes method_value_type (method_index m x)
-  value_bytes m (EnumValue f) = unsigned_bytes enum_value_type (field_index m f)
-  value_bytes m (ArrayValue vs) = value_byte 0 array_value_type ∷ (uleb128 (count_values vs) ++ values_bytes m vs)
-  value_bytes m (AnnotationValue t es) = value_byte 0 annotation_value_type ∷ (uleb128 (type_index m t) ++ (uleb128 (length (names_of es)) ++ elements_bytes m es))
-  value_bytes m NullValue = value_byte 0 null_value_type ∷ []
-  value_bytes m (BooleanValue is) = value_byte (if is then 1 else 0) boolean_value_type ∷ []
+  value_bytes m (ByteValue z) = signed_bytes 0x00 z
+  value_bytes m (ShortValue z) = signed_bytes 0x02 z
+  value_bytes m (CharValue u) = unsigned_bytes 0x03 u
+  value_bytes m (IntValue z) = signed_bytes 0x04 z
+  value_bytes m (LongValue z) = signed_bytes 0x06 z
+  value_bytes m (FloatValue bits) = bits_bytes 0x10 4 bits
+  value_bytes m (DoubleValue bits) = bits_bytes 0x11 8 bits
+  value_bytes m (StringValue s) = unsigned_bytes 0x17 (text_index m s)
+  value_bytes m (TypeValue t) = unsigned_bytes 0x18 (type_index m t)
+  value_bytes m (FieldValue f) = unsigned_bytes 0x19 (field_index m f)
+  value_bytes m (MethodValue x) = unsigned_bytes 0x1a (method_index m x)
+  value_bytes m (EnumValue f) = unsigned_bytes 0x1b (field_index m f)
+  value_bytes m (ArrayValue vs) = value_byte 0 0x1c ∷ (uleb128 (count_values vs) ++ values_bytes m vs)
+  value_bytes m (AnnotationValue t es) = value_byte 0 0x1d ∷ (uleb128 (type_index m t) ++ (uleb128 (length (names_of es)) ++ elements_bytes m es))
+  value_bytes m NullValue = value_byte 0 0x1e ∷ []
+  value_bytes m (BooleanValue is) = value_byte (if is then 1 else 0) 0x1f ∷ []
 
   -- values in sequence
   pub values_bytes : Mentions → Values → List ℕ
@@ -215,7 +213,8 @@ differences last (i ∷ is) = (i - last) ∷ differences i is
 
 -- encoded_fields of one list
 abbrev pub encoded_fields_bytes : Mentions → Text → List FieldDef → List ℕ
-encoded_fields_bytes m class fs = concat (zip_with (λ f difference. uleb128 difference ++ uleb128 f.flags) fs (differences 0 (map (λ f. field_index m (field_of class f)) fs)))
+encoded_fields_bytes m class fs = concat (zip_with (λ f difference. uleb128 difference ++ uleb128 f.flags) fs
+    (differences 0 (map (λ f. field_index m (field_of class f)) fs)))
 
 -- an encoded_method, of its difference and the offset of its code
 abbrev pub encoded_method_bytes : MethodDef → ℕ × ℕ → List ℕ
@@ -227,7 +226,8 @@ encoded_methods_bytes m class xs code_offs = concat (zip_with encoded_method_byt
 
 -- a class_data_item
 unfoldable pub class_data_bytes : Mentions → Definition → List ℕ → List ℕ
-class_data_bytes m (name, c) code_offs =
-    uleb128 (length c.static_fields) ++ (uleb128 (length c.instance_fields) ++ (uleb128 (length c.direct_methods) ++ (uleb128 (length c.virtual_methods)
+class_data_bytes m (name, c) code_offs = uleb128 (length c.static_fields)
+    ++ (uleb128 (length c.instance_fields) ++ (uleb128 (length c.direct_methods) ++ (uleb128 (length c.virtual_methods)
     ++ (encoded_fields_bytes m name c.static_fields ++ (encoded_fields_bytes m name c.instance_fields
-    ++ (encoded_methods_bytes m name c.direct_methods (take (length c.direct_methods) code_offs) ++ encoded_methods_bytes m name c.virtual_methods (drop (length c.direct_methods) code_offs)))))))
+    ++ (encoded_methods_bytes m name c.direct_methods (take (length c.direct_methods) code_offs)
+    ++ encoded_methods_bytes m name c.virtual_methods (drop (length c.direct_methods) code_offs)))))))

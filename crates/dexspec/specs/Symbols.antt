@@ -27,11 +27,7 @@ pub record Method : Type 0 where
 
 -- the five pools, in the order of the file
 pub data Pool : Type 0 where
-  Strings : Pool
-  Types : Pool
-  Protos : Pool
-  Fields : Pool
-  Methods : Pool
+  StringPool TypePool ProtoPool FieldPool MethodPool : Pool
 
 -- what a row of one of the pools denotes
 pub data Symbol : Type 0 where
@@ -43,11 +39,11 @@ pub data Symbol : Type 0 where
 
 -- the pool that has a row for the symbol
 abbrev pub pool_of : Symbol → Pool
-pool_of (TextSymbol s) = Strings
-pool_of (TypeSymbol t) = Types
-pool_of (ProtoSymbol p) = Protos
-pool_of (FieldSymbol f) = Fields
-pool_of (MethodSymbol m) = Methods
+pool_of (TextSymbol s) = StringPool
+pool_of (TypeSymbol t) = TypePool
+pool_of (ProtoSymbol p) = ProtoPool
+pool_of (FieldSymbol f) = FieldPool
+pool_of (MethodSymbol m) = MethodPool
 
 -- a return type, and parameters that are not void
 pub record IsProto (p : Proto) : Type 0 where

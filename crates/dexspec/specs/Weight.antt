@@ -5,7 +5,7 @@ use Rattle.std.specs.List.{flat_map}
 use Rattle.dexspec.specs.Texts.{Text}
 use Rattle.dexspec.specs.Symbols.{Proto}
 use Rattle.dexspec.specs.Pieces.{units_of}
-use Rattle.dexspec.specs.Debug.{Operation, AdvancePc, AdvanceLine, StartLocal, StartLocalExtended, EndLocal, RestartLocal, SetFile, Debug}
+use Rattle.dexspec.specs.Debug.{Operation, StartLocal, StartLocalExtended, SetPrologueEnd, SetEpilogueBegin, Special, Debug}
 use Rattle.dexspec.specs.Code.{Try, Code, handlers_of, handlers_weight}
 use Rattle.dexspec.specs.Values.{Value, ArrayValue, AnnotationValue, Values, NoValues, ThenValue, Elements, NoElements, ThenElement}
 use Rattle.dexspec.specs.Annotations.{Annotation, AnnotationSet}
@@ -30,14 +30,12 @@ mentions_weight m = sum_by text_weight m.texts + 4 * length m.types + sum_by pro
 
 -- the number of operands of an operation; a special operation has none
 abbrev pub operands : Operation → ℕ
-operands (AdvancePc addresses) = 1
-operands (AdvanceLine lines) = 1
 operands (StartLocal register name type) = 3
 operands (StartLocalExtended register name type signature) = 4
-operands (EndLocal register) = 1
-operands (RestartLocal register) = 1
-operands (SetFile name) = 1
-operands _ = 0
+operands SetPrologueEnd = 0
+operands SetEpilogueBegin = 0
+operands (Special opcode) = 0
+operands _ = 1
 
 -- a debug_info_item
 abbrev pub debug_weight : Debug → ℕ
@@ -94,11 +92,13 @@ field_weight f = 18 + set_weight f.annotations
 
 -- a declared method with its code, debug program and sets
 abbrev pub method_weight : MethodDef → ℕ
-method_weight m = 31 + sum_by (λ c. code_weight c + sum_by debug_weight (option_to_list c.debug)) (option_to_list m.code) + set_weight m.annotations + ref_list_weight m.parameter_annotations
+method_weight m = 31 + sum_by (λ c. code_weight c + sum_by debug_weight (option_to_list c.debug))
+    (option_to_list m.code) + set_weight m.annotations + ref_list_weight m.parameter_annotations
 
 -- a class row with the other items of the class
 abbrev pub body_weight : Body → ℕ
-body_weight c = 96 + 2 * length c.interfaces + set_weight c.annotations + sum_by field_weight (declared_fields c) + sum_by method_weight (declared_methods c) + static_values_weight c.static_values
+body_weight c = 96 + 2 * length c.interfaces + set_weight c.annotations + sum_by field_weight (declared_fields c)
+    + sum_by method_weight (declared_methods c) + static_values_weight c.static_values
 
 -- ---- the whole
 

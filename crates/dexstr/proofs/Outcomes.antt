@@ -124,7 +124,7 @@ abbrev Ends : (ℕ → ℕ → Type 0) → List ℕ → Type 0
 Ends Q bytes = HasBody (λ count units rest. StartsWithZero rest × Q count units) bytes
 
 short_ends : (Q : ℕ → ℕ → Type 0) (bytes : List ℕ) → IsShort bytes → Ends Q bytes → ⊥
-short_ends Q bytes (inl cut) ends = not_cut_off sum_of_groups (λ v. v < 2 ^ 32) bytes ends.count ends.len ends.begins cut
+short_ends Q bytes (inl cut) ends = not_cut_off sum_of_groups (λ v. v < 2 ^ 32) bytes ends.count ends.len ends.begins cut.high
 short_ends Q bytes (inr body) ends = no_prefix_zero ends.rest (body_once (λ count units rest. IsProperPrefix rest) (λ count units rest. StartsWithZero rest × Q count units) bytes body ends) ends.is.0
 
 bad_ends : (Q : ℕ → ℕ → Type 0) (bytes : List ℕ) → IsBad bytes → Ends Q bytes → ⊥
@@ -133,7 +133,7 @@ bad_ends Q bytes (inr body) ends = (body_once (λ count units rest. (¬ IsProper
 
 short_bad : (bytes : List ℕ) → IsShort bytes → IsBad bytes → ⊥
 short_bad bytes (inl cut) (inl none) = none.0 cut
-short_bad bytes (inl cut) (inr body) = not_cut_off sum_of_groups (λ v. v < 2 ^ 32) bytes body.count body.len body.begins cut
+short_bad bytes (inl cut) (inr body) = not_cut_off sum_of_groups (λ v. v < 2 ^ 32) bytes body.count body.len body.begins cut.high
 short_bad bytes (inr body) (inl none) = none.1 body.count body.len body.begins
 short_bad bytes (inr body) (inr other) = other.is.0 (body_once (λ count units rest. IsProperPrefix rest) (λ count units rest. (¬ IsProperPrefix rest) × ¬ StartsWithZero rest) bytes body other)
 

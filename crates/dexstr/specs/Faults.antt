@@ -1,6 +1,7 @@
 -- When a string_data_item is not read, and why.
 use Rattle.std.specs.Prelude.{◌≡◌, ◌≢◌, ◌⊎◌, ℕ, ◌^◌, ◌<◌, ◌≤◌, List, [], ◌∷◌, ◌++◌, length, drop, slice_index}
-use Rattle.dexspec.specs.Numbers.{IsUleb128, BeginsWith, IsCutOff}
+use Rattle.dexspec.specs.Numbers.{IsUleb128, BeginsWith}
+use Rattle.dexleb.specs.Leb.{IsCutOff}
 use Rattle.dexspec.specs.Texts.{form}
 use Rattle.dexstr.specs.Units.{AfterUnits}
 use Rattle.dexstr.specs.declared.reading.TextFault.{TextFault}

@@ -3,7 +3,8 @@ use Rattle.std.proofs.Common.{◌≡◌, ℕ, ◌^◌, ◌≤◌, List, [], ◌�
 use Rattle.dexspec.specs.Numbers.{BeginsWith, IsUleb128, IsChain}
 use Rattle.dexspec.specs.Conditions.{Condition}
 use Rattle.dexspec.specs.Accepted.{IsFrame}
-use Rattle.dexspec.specs.Values.{Value, Values, EncodedValueAt, EncodedArrayItemAt, most_depth}
+use Rattle.dexspec.specs.Values.{Value, Values, EncodedArrayItemAt, most_depth}
+use Rattle.dexval.specs.Reading.{EncodedValueAt}
 use Rattle.dexspec.specs.Mentions.{Mentions}
 use Rattle.dexpool.specs.Pools.{ArePools}
 use Rattle.dexpool.specs.Numberings.{IsNumbering}

@@ -4,7 +4,7 @@ use Rattle.std.specs.Prelude.{true, false, slice_index}
 use Rattle.std.proofs.Math.Seq.{drop-cons}
 use Rattle.dexspec.specs.Bytes.{number_of, BytesAt}
 use Rattle.dexspec.specs.Texts.{Text}
-use Rattle.dexspec.specs.Values.{Value, ByteValue, ShortValue, CharValue, IntValue, LongValue, FloatValue, DoubleValue, StringValue, TypeValue, FieldValue, MethodValue, EnumValue, ArrayValue, AnnotationValue, NullValue, BooleanValue, Values, Elements, byte_value_type, short_value_type, char_value_type, int_value_type, long_value_type, float_value_type, double_value_type, string_value_type, type_value_type, field_value_type, method_value_type, enum_value_type, value_byte, SizedAt, ValueAt}
+use Rattle.dexspec.specs.Values.{Value, ByteValue, ShortValue, CharValue, IntValue, LongValue, FloatValue, DoubleValue, StringValue, TypeValue, FieldValue, MethodValue, EnumValue, ArrayValue, AnnotationValue, NullValue, BooleanValue, Values, Elements, value_byte, SizedAt, ValueAt}
 use Rattle.dexspec.specs.Mentions.{Mentions}
 use Rattle.dexspec.proofs.written.PlacedBytes.{same_first, same_bytes_at, is_at_within}
 use Rattle.dexpool.specs.declared.symbols.SymbolKind.{SymbolKind}
@@ -58,18 +58,18 @@ naming {m = m} code kind bytes i lt w named h is known = sized code 4 bytes lt w
 
 -- each value in a file has its shape
 shape : (b : List ℕ) (o : ℕ) (m : Mentions) (v : Value) (n : ℕ) → ArePools b m → ValueAt b o v n → Shape b o m v n
-shape b o m (ByteValue z) n p h = plain byte_value_type 1 h.0 (omega arith) refl refl h.1
-shape b o m (ShortValue z) n p h = plain short_value_type 2 h.0 (omega arith) refl refl h.1
-shape b o m (CharValue u) n p h = plain char_value_type 2 h.0 (omega arith) refl refl h.1
-shape b o m (IntValue z) n p h = plain int_value_type 4 h.0 (omega arith) refl refl h.1
-shape b o m (LongValue z) n p h = plain long_value_type 8 h.0 (omega arith) refl refl h.1
-shape b o m (FloatValue bits) n p h = plain float_value_type 4 h.0 (omega arith) refl refl h.1
-shape b o m (DoubleValue bits) n p h = plain double_value_type 8 h.0 (omega arith) refl refl h.1
-shape b o m (StringValue s) n p h = naming string_value_type kinds.Text h.1.0 h.0 (omega arith) refl refl h.1.1 h.1.2 (omega (arith, h.2.row, p.texts_are.count))
-shape b o m (TypeValue t) n p h = naming type_value_type kinds.Typ h.1.0 h.0 (omega arith) refl refl h.1.1 h.1.2 (omega (arith, h.2.row, p.types_are.count))
-shape b o m (FieldValue f) n p h = naming field_value_type kinds.Field h.1.0 h.0 (omega arith) refl refl h.1.1 h.1.2 (omega (arith, h.2.row, p.fields_are.count))
-shape b o m (MethodValue x) n p h = naming method_value_type kinds.Method h.1.0 h.0 (omega arith) refl refl h.1.1 h.1.2 (omega (arith, h.2.row, p.methods_are.count))
-shape b o m (EnumValue f) n p h = naming enum_value_type kinds.Field h.1.0 h.0 (omega arith) refl refl h.1.1 h.1.2 (omega (arith, h.2.row, p.fields_are.count))
+shape b o m (ByteValue z) n p h = plain 0x00 1 h.0 (omega arith) refl refl h.1
+shape b o m (ShortValue z) n p h = plain 0x02 2 h.0 (omega arith) refl refl h.1
+shape b o m (CharValue u) n p h = plain 0x03 2 h.0 (omega arith) refl refl h.1
+shape b o m (IntValue z) n p h = plain 0x04 4 h.0 (omega arith) refl refl h.1
+shape b o m (LongValue z) n p h = plain 0x06 8 h.0 (omega arith) refl refl h.1
+shape b o m (FloatValue bits) n p h = plain 0x10 4 h.0 (omega arith) refl refl h.1
+shape b o m (DoubleValue bits) n p h = plain 0x11 8 h.0 (omega arith) refl refl h.1
+shape b o m (StringValue s) n p h = naming 0x17 kinds.Text h.1.0 h.0 (omega arith) refl refl h.1.1 h.1.2 (omega (arith, h.2.row, p.texts_are.count))
+shape b o m (TypeValue t) n p h = naming 0x18 kinds.Typ h.1.0 h.0 (omega arith) refl refl h.1.1 h.1.2 (omega (arith, h.2.row, p.types_are.count))
+shape b o m (FieldValue f) n p h = naming 0x19 kinds.Field h.1.0 h.0 (omega arith) refl refl h.1.1 h.1.2 (omega (arith, h.2.row, p.fields_are.count))
+shape b o m (MethodValue x) n p h = naming 0x1a kinds.Method h.1.0 h.0 (omega arith) refl refl h.1.1 h.1.2 (omega (arith, h.2.row, p.methods_are.count))
+shape b o m (EnumValue f) n p h = naming 0x1b kinds.Field h.1.0 h.0 (omega arith) refl refl h.1.1 h.1.2 (omega (arith, h.2.row, p.fields_are.count))
 shape b o m (ArrayValue vs) n p h = array vs refl h.0
 shape b o m (AnnotationValue t es) n p h = annotation t es refl h.0
 shape b o m NullValue n p h = fixed 0x1e (inl refl) h.0

@@ -7,7 +7,7 @@ use Rattle.std.proofs.lemmas.List.{length-append}
 use Rattle.dexspec.specs.Texts.{text_cmp}
 use Rattle.dexspec.specs.Numbers.{uleb128}
 use Rattle.dexspec.specs.Symbols.{field_cmp, method_cmp}
-use Rattle.dexspec.specs.Values.{Value, Values, ByteValue, ShortValue, CharValue, IntValue, LongValue, FloatValue, DoubleValue, NullValue, BooleanValue, count_values, names_of, string_value_type, type_value_type, field_value_type, method_value_type, enum_value_type}
+use Rattle.dexspec.specs.Values.{Value, Values, ByteValue, ShortValue, CharValue, IntValue, LongValue, FloatValue, DoubleValue, NullValue, BooleanValue, count_values, names_of}
 use Rattle.dexspec.specs.Annotations.{Annotation}
 use Rattle.dexspec.specs.Mentions.{Mentions}
 use Rattle.dexspec.specs.Spellings.{text_index, type_index, field_index, method_index, unsigned_bytes, value_bytes, values_bytes, elements_bytes, encoded_array_bytes, annotation_bytes}
@@ -50,11 +50,11 @@ literal_is m NullLiteral = refl
 literal_is m (BooleanLiteral is) = refl
 
 named_is : (m : Mentions) (k : Reference) (i : ℕ) → AreRising m → i < count_of (kind_of_reference k) m → unsigned_bytes (reference_code k) i ≡ value_bytes m (named_value m k i)
-named_is m StringReference i r lt = ap (unsigned_bytes string_value_type) (sym (text_rank m i r lt))
-named_is m TypeReference i r lt = ap (unsigned_bytes type_value_type) (sym (type_rank m i r lt))
-named_is m FieldReference i r lt = ap (unsigned_bytes field_value_type) (sym (field_rank m i r lt))
-named_is m MethodReference i r lt = ap (unsigned_bytes method_value_type) (sym (method_rank m i r lt))
-named_is m EnumReference i r lt = ap (unsigned_bytes enum_value_type) (sym (field_rank m i r lt))
+named_is m StringReference i r lt = ap (unsigned_bytes 0x17) (sym (text_rank m i r lt))
+named_is m TypeReference i r lt = ap (unsigned_bytes 0x18) (sym (type_rank m i r lt))
+named_is m FieldReference i r lt = ap (unsigned_bytes 0x19) (sym (field_rank m i r lt))
+named_is m MethodReference i r lt = ap (unsigned_bytes 0x1a) (sym (method_rank m i r lt))
+named_is m EnumReference i r lt = ap (unsigned_bytes 0x1b) (sym (field_rank m i r lt))
 
 values_count_is : (m : Mentions) (xs : NumberedValues) → values_count xs ≡ count_values (values_in m xs)
 values_count_is m NoValue = refl

@@ -1,12 +1,19 @@
 -- Values, sets and directories, as read from a file.
 use Rattle.std.specs.Prelude.{◌≡◌, ◌<◌, ◌≤◌, ◌-◌, ◌^◌, ℕ, List, min}
-use Rattle.dexspec.specs.Values.{Value, Values, EncodedValueAt, EncodedArrayItemAt}
+use Rattle.dexspec.specs.Header.{data_off}
+use Rattle.dexspec.specs.Values.{Value, Values, ValueAt, value_depth, most_depth, EncodedArrayItemAt}
 use Rattle.dexspec.specs.Annotations.{AnnotationSet, Directory, SetAt, DirectoryAt}
 use Rattle.dexspec.specs.Mentions.{Mentions}
 use Rattle.dexpool.specs.declared.faults.ItemFault.{ItemFault}
 use Rattle.dexpool.specs.declared.faults.ItemFault.TheVariants.{Refused, Memory}
 use Rattle.dexval.specs.Directories.{directory_weight}
 use Rattle.dexval.specs.Numbered.{NumberedValue, NumberedValues, NumberedSet, NumberedDirectory, IsKnown, AreKnown, IsKnownSet, IsKnownDirectory, value_in, values_in, set_in, directory_in}
+
+-- an encoded_value that nests at most `most_depth` deep is at offset o of the data
+pub record EncodedValueAt (b : List ℕ) (o : ℕ) (v : Value) (n : ℕ) : Type 0 where
+  pub in_data : data_off b ≤ o
+  pub encodes : ValueAt b o v n
+  pub shallow : value_depth v ≤ most_depth
 
 -- the numbers are those of symbols, and the value that they denote is at the offset, in n bytes
 pub record IsValueAt (b : List ℕ) (off : ℕ) (m : Mentions) (x : NumberedValue) (n : ℕ) : Type 0 where

@@ -1,7 +1,7 @@
 -- The shortest encodings of values, annotations and sets that have numbers for symbols, and their weights.
 use Rattle.std.specs.Prelude.{ℕ, ◌+◌, ◌-◌, ◌*◌, ◌^◌, ◌<◌, min, List, [], ◌∷◌, ◌++◌, length, map, sum_by, if◌then◌else◌}
 use Rattle.dexspec.specs.Numbers.{uleb128}
-use Rattle.dexspec.specs.Values.{value_byte, byte_value_type, short_value_type, char_value_type, int_value_type, long_value_type, float_value_type, double_value_type, string_value_type, type_value_type, field_value_type, method_value_type, enum_value_type, array_value_type, annotation_value_type, null_value_type, boolean_value_type}
+use Rattle.dexspec.specs.Values.{value_byte}
 use Rattle.dexspec.specs.Spellings.{unsigned_bytes, signed_bytes, bits_bytes, offsets_bytes}
 use Rattle.dexspec.specs.Placing.{offsets_from}
 use Rattle.dexval.specs.Numbered.{Literal, ByteLiteral, ShortLiteral, CharLiteral, IntLiteral, LongLiteral, FloatLiteral, DoubleLiteral, NullLiteral, BooleanLiteral, Reference, StringReference, TypeReference, FieldReference, MethodReference, EnumReference, NumberedValue, NumberedValues, NumberedElements, NumberedAnnotation, NumberedSet, Plain, Named, Array, Annotated, NoValue, ThenNext, NoElement, ThenNamed}
@@ -48,31 +48,31 @@ count_bytes n = uleb128 (min (2 ^ 32 - 1) n)
 
 -- a value that names no symbol
 abbrev pub literal_bytes : Literal → List ℕ
-literal_bytes (ByteLiteral z) = signed_bytes byte_value_type z
-literal_bytes (ShortLiteral z) = signed_bytes short_value_type z
-literal_bytes (CharLiteral u) = unsigned_bytes char_value_type u
-literal_bytes (IntLiteral z) = signed_bytes int_value_type z
-literal_bytes (LongLiteral z) = signed_bytes long_value_type z
-literal_bytes (FloatLiteral bits) = bits_bytes float_value_type 4 bits
-literal_bytes (DoubleLiteral bits) = bits_bytes double_value_type 8 bits
-literal_bytes NullLiteral = value_byte 0 null_value_type ∷ []
-literal_bytes (BooleanLiteral is) = value_byte (if is then 1 else 0) boolean_value_type ∷ []
+literal_bytes (ByteLiteral z) = signed_bytes 0x00 z
+literal_bytes (ShortLiteral z) = signed_bytes 0x02 z
+literal_bytes (CharLiteral u) = unsigned_bytes 0x03 u
+literal_bytes (IntLiteral z) = signed_bytes 0x04 z
+literal_bytes (LongLiteral z) = signed_bytes 0x06 z
+literal_bytes (FloatLiteral bits) = bits_bytes 0x10 4 bits
+literal_bytes (DoubleLiteral bits) = bits_bytes 0x11 8 bits
+literal_bytes NullLiteral = value_byte 0 0x1e ∷ []
+literal_bytes (BooleanLiteral is) = value_byte (if is then 1 else 0) 0x1f ∷ []
 
 -- the type code of a value that names a symbol
 abbrev pub reference_code : Reference → ℕ
-reference_code StringReference = string_value_type
-reference_code TypeReference = type_value_type
-reference_code FieldReference = field_value_type
-reference_code MethodReference = method_value_type
-reference_code EnumReference = enum_value_type
+reference_code StringReference = 0x17
+reference_code TypeReference = 0x18
+reference_code FieldReference = 0x19
+reference_code MethodReference = 0x1a
+reference_code EnumReference = 0x1b
 
 abbrev mutual
   -- an encoded_value
   pub numbered_bytes : NumberedValue → List ℕ
   numbered_bytes (Plain literal) = literal_bytes literal
   numbered_bytes (Named reference i) = unsigned_bytes (reference_code reference) i
-  numbered_bytes (Array xs) = value_byte 0 array_value_type ∷ (count_bytes (values_count xs) ++ numbered_values_bytes xs)
-  numbered_bytes (Annotated t es) = value_byte 0 annotation_value_type ∷ (uleb128 t ++ (count_bytes (elements_count es) ++ numbered_elements_bytes es))
+  numbered_bytes (Array xs) = value_byte 0 0x1c ∷ (count_bytes (values_count xs) ++ numbered_values_bytes xs)
+  numbered_bytes (Annotated t es) = value_byte 0 0x1d ∷ (uleb128 t ++ (count_bytes (elements_count es) ++ numbered_elements_bytes es))
 
   -- values in sequence
   pub numbered_values_bytes : NumberedValues → List ℕ

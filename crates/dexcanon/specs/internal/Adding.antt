@@ -4,9 +4,9 @@ use Rattle.std.specs.List.{concat, flat_map}
 use Rattle.dexspec.specs.Lists.{zip_with}
 use Rattle.dexspec.specs.Bytes.{uint, padding}
 use Rattle.dexspec.specs.Mentions.{Mentions}
-use Rattle.dexspec.specs.Placing.{Ordered, Placed, section_bytes, bytes_from}
+use Rattle.dexspec.specs.Placing.{Ordered, Placed, section_bytes, bytes_from, offsets, uses_offsets, end}
 use Rattle.dexspec.specs.Spellings.{text_index}
-use Rattle.dexspec.specs.Canonical.{ClassOffsets, class_offsets, layout, data_sections, table_bytes, proto_row_bytes, field_row_bytes, method_row_bytes, with_sums, unsigned_file}
+use Rattle.dexspec.specs.Canonical.{class_offsets, data_sections, table_bytes, proto_row_bytes, field_row_bytes, method_row_bytes, with_sums, unsigned_file, type_list_section, string_section, directory_section}
 use Rattle.dexhead.specs.Laid.{after_header, map_list}
 use Rattle.dexval.specs.declared.annotation.Annotation.{Annotation as CodeAnnotation}
 use Rattle.dexval.specs.Code.{annotation_of}
@@ -18,7 +18,7 @@ use Rattle.dexcanon.specs.declared.directories.DirectoryItem.{DirectoryItem}
 use Rattle.dexcanon.specs.declared.output.Out.{Out}
 use Rattle.dexcanon.specs.Directories.{HaveOffsets}
 use Rattle.dexcanon.specs.internal.Annotations.{annotation_item, set_annotations}
-use Rattle.dexcanon.specs.internal.ClassRows.{rows_with}
+use Rattle.dexcanon.specs.internal.ClassRows.{rows_with, row_offsets}
 use Rattle.dexcanon.specs.internal.Output.{Adds, AreWithin, FitFrom, HasRoom}
 use Rattle.dexcanon.specs.internal.Ready.{ordered_in}
 use Rattle.dexcanon.specs.internal.RefLists.{parameter_counts, ref_lists}
@@ -35,17 +35,17 @@ after_header_of c = after_header (ordered_in c)
 
 -- the rows of all tables
 abbrev pub tables_of : Contents → List ℕ
-tables_of c = table_bytes (ordered_in c) (layout (ordered_in c))
+tables_of c = table_bytes (ordered_in c)
 
 -- the rows of each table
 abbrev pub string_rows : Contents → List ℕ
-string_rows c = flat_map uint (layout (ordered_in c)).strings
+string_rows c = flat_map uint (offsets (string_section (ordered_in c)))
 
 abbrev pub type_rows : Contents → List ℕ
 type_rows c = flat_map (λ t. uint (text_index c.numbering.now t)) c.numbering.now.types
 
 abbrev pub proto_rows : Contents → List ℕ
-proto_rows c = concat (zip_with (proto_row_bytes c.numbering.now) c.numbering.now.protos (layout (ordered_in c)).parameters)
+proto_rows c = concat (zip_with (proto_row_bytes c.numbering.now) c.numbering.now.protos (uses_offsets (type_list_section (ordered_in c))))
 
 abbrev pub field_rows : Contents → List ℕ
 field_rows c = flat_map (field_row_bytes c.numbering.now) c.numbering.now.fields
@@ -54,15 +54,20 @@ abbrev pub method_rows : Contents → List ℕ
 method_rows c = flat_map (method_row_bytes c.numbering.now) c.numbering.now.methods
 
 abbrev pub class_rows : Contents → List ℕ
-class_rows c = concat (rows_with c.numbering.now c.classes.now (layout (ordered_in c)).classes)
+class_rows c = concat (rows_with c.numbering.now c.classes.now (class_offsets (ordered_in c)))
 
 -- the rows of the classes by these offsets
 abbrev pub class_rows_by : Contents → ClassPlaces → List ℕ
-class_rows_by c places = concat (rows_with c.numbering.now c.classes.now (class_offsets places.interfaces.now places.annotations.now places.class_data.now places.static_values.now))
+class_rows_by c places = concat (rows_with c.numbering.now c.classes.now (row_offsets places.interfaces.now places.annotations.now places.class_data.now places.static_values.now))
 
 -- the offsets of class r
-abbrev pub offsets_at : ClassPlaces → ℕ → ClassOffsets
-offsets_at places r = record { interfaces = slice_index places.interfaces.now r; annotations = slice_index places.annotations.now r; class_data = slice_index places.class_data.now r; static_values = slice_index places.static_values.now r }
+abbrev pub offsets_at : ClassPlaces → ℕ → ℕ × ℕ × ℕ × ℕ
+offsets_at places r = (
+  slice_index places.interfaces.now r,
+  slice_index places.annotations.now r,
+  slice_index places.class_data.now r,
+  slice_index places.static_values.now r,
+)
 
 -- the sections of the data
 abbrev pub data_of : Contents → List ℕ
@@ -70,7 +75,7 @@ data_of c = flat_map section_bytes (data_sections (ordered_in c))
 
 -- the map, which is aligned
 abbrev pub map_bytes : Contents → List ℕ
-map_bytes c = padding 4 (layout (ordered_in c)).data_end ++ map_list (ordered_in c)
+map_bytes c = padding 4 (end (directory_section (ordered_in c))) ++ map_list (ordered_in c)
 
 -- ---- directories
 

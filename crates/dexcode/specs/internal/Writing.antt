@@ -1,7 +1,7 @@
 -- Code items as they are measured and written, and the positions that a debug program records.
 use Rattle.std.specs.Prelude.{◌≡◌, ℕ, ℤ, pos, Bool, if◌then◌else◌, List, [], ◌∷◌, ◌++◌, length, map}
 use Rattle.std.specs.Global.{Vec}
-use Rattle.dexspec.specs.Debug.{positions_from}
+use Rattle.dexcode.specs.Positions.{positions_from}
 use Rattle.dexhead.specs.Pushing.{Pushes, HasRoomFor}
 use Rattle.dexinsn.specs.Numbered.{NumberedCode}
 use Rattle.dexcode.specs.declared.debug_operation.Operation.{Operation}

@@ -5,7 +5,7 @@ use Rattle.std.specs.List.{filter, join_with_byte}
 use Rattle.std.specs.Fmt.{digits}
 use Rattle.std.specs.Char.{to_ascii_lowercase}
 use Rattle.bitflags.specs.Sets.{Row}
-use Rattle.dexspec.specs.Flags.{has_bit}
+use Rattle.dexflags.specs.Flags.{has_bit}
 
 -- a byte of a constant's name as the text shows it: in lower case, with a hyphen for an underscore
 abbrev pub shown_byte : ℕ → ℕ

@@ -1,7 +1,7 @@
 //! Encoded values at an offset: the bytes determine the value and its size.
 ghost use Rattle.std.specs.Prelude.{ℕ, List, length};
-ghost use Rattle.dexspec.specs.Values.{count_values, names_of, ValueAt, ValuesAt, ElementsAt, EncodedArrayAt, EncodedValueAt, EncodedArrayItemAt};
-ghost use Rattle.dexlaws.specs.Items.{IsDetermined, IsDeterminedByCount, IsAnnotationDetermined};
+ghost use Rattle.dexspec.specs.Values.{count_values, names_of, ValueAt, ValuesAt, ElementsAt, EncodedArrayAt, EncodedArrayItemAt};
+ghost use Rattle.dexlaws.specs.Items.{IsDetermined, IsDeterminedByCount, IsAnnotationDetermined, EncodedValueInDataAt};
 
 /// There is at most one encoded value at an offset, in one size.
 pub fn value_is_determined()
@@ -10,7 +10,7 @@ pub fn value_is_determined()
 
 /// There is at most one encoded value at an offset of the data, and at most one encoded array, in one size.
 pub fn value_in_data_is_determined()
-    ensures value { IsDetermined EncodedValueAt }
+    ensures value { IsDetermined EncodedValueInDataAt }
     ensures array { IsDetermined EncodedArrayItemAt }
 {}
 

@@ -3,8 +3,8 @@ use Rattle.std.specs.Prelude.{◌≡◌, ℕ, ◌+◌, ◌*◌, ◌==◌, if◌t
 use Rattle.dexspec.specs.Bytes.{round_up}
 use Rattle.dexspec.specs.Header.{header_length}
 use Rattle.dexspec.specs.Sections.{Section, TableOf}
-use Rattle.dexspec.specs.Placing.{Ordered, offsets}
-use Rattle.dexspec.specs.Canonical.{placed_tables, data_start, data_sections, string_section, string_end}
+use Rattle.dexspec.specs.Placing.{Ordered, offsets, end}
+use Rattle.dexspec.specs.Canonical.{placed_tables, data_start, data_sections, string_section}
 use Rattle.dexhead.specs.Written.{rows_meant}
 use Rattle.dexspec.specs.Mentions.{Mentions}
 use Rattle.dexclass.specs.Numbered.{NumberedClass}
@@ -51,7 +51,7 @@ pub record AreFirstSections (m : Mentions) (cs : List NumberedClass) (f : FirstS
   pub type_lists_are : AreTypeLists m cs f.type_lists
   pub annotations_are : AreAnnotations m cs f.annotations
   pub static_values_are : AreStaticValues m cs f.static_values
-  pub strings_are : AreLaidSo (offsets (string_section (ordered_of m cs))) (string_end (ordered_of m cs)) (string_section (ordered_of m cs)).items f.strings
+  pub strings_are : AreLaidSo (offsets (string_section (ordered_of m cs))) (end (string_section (ordered_of m cs))) (string_section (ordered_of m cs)).items f.strings
 
 -- the same of the sections from the debug programs to the class data
 pub record AreBodies (m : Mentions) (cs : List NumberedClass) (b : Bodies) : Type 0 where

@@ -1,12 +1,13 @@
 -- Items of a layout, from the offset on where those of the sections before end.
-use Rattle.std.specs.Prelude.{◌≡◌, ℕ, List, [], ◌∷◌, ◌++◌, Option, Some, map, length, All}
+use Rattle.std.specs.Prelude.{◌≡◌, ℕ, List, [], ◌∷◌, ◌++◌, Option, Some, map, length, All, slice_index}
+use Rattle.std.specs.Option.{option_map_or}
 use Rattle.std.specs.Borrow.{Bor}
 use Rattle.std.specs.List.{flat_map}
 use Rattle.dexspec.specs.Texts.{string_data}
 use Rattle.dexspec.specs.Mentions.{Mentions}
 use Rattle.dexspec.specs.Sections.{Section, HeaderItem, MapList}
-use Rattle.dexspec.specs.Placing.{Ordered, offsets_from, end_from, uses_offsets}
-use Rattle.dexspec.specs.Canonical.{data_start, data_sections, type_list_items, type_list_end, set_items, debug_items, code_offsets, code_end, placed_tables}
+use Rattle.dexspec.specs.Placing.{Ordered, offsets_from, end_from, uses_offsets, end, Placed}
+use Rattle.dexspec.specs.Canonical.{data_start, data_sections, type_list_items, type_list_section, set_items, debug_items, code_section, placed_tables}
 use Rattle.dexhead.specs.declared.head.Head.{Head}
 use Rattle.dexhead.specs.declared.map_list.MapEntry.{MapEntry}
 use Rattle.dexhead.specs.Laid.{StatesLayout, map_start, map_list}
@@ -30,17 +31,17 @@ use Rattle.dexlayout.specs.internal.Directories.{entry_count, directory_size}
 
 -- ---- sections
 
--- the parts are those of these classes, over each numbering in whose file the sections before end at the offset
-abbrev pub PlacedFrom : {P : Type 0} → (Ordered → ℕ) → (Mentions → List NumberedClass → P → Type 0) → List NumberedClass → ℕ → P → Type 0
-PlacedFrom end Are cs from p = (m : Mentions) → AreWritable m cs → from ≡ end (ordered_of m cs) → Are m cs p
+-- the parts are those of these classes, over each numbering in whose file the section before ends at the offset
+abbrev pub PlacedFrom : {P : Type 0} → (Ordered → Placed) → (Mentions → List NumberedClass → P → Type 0) → List NumberedClass → ℕ → P → Type 0
+PlacedFrom before Are cs from p = (m : Mentions) → AreWritable m cs → from ≡ end (before (ordered_of m cs)) → Are m cs p
 
 -- the class data can be placed from the offset on, by these offsets of the code
 abbrev pub CanPlaceClassData : List NumberedClass → List ℕ → ℕ → Type 0
-CanPlaceClassData cs codes from = (m : Mentions) × AreWritable m cs × (codes ≡ code_offsets (ordered_of m cs)) × (from ≡ code_end (ordered_of m cs))
+CanPlaceClassData cs codes from = (m : Mentions) × AreWritable m cs × (codes ≡ uses_offsets (code_section (ordered_of m cs))) × (from ≡ end (code_section (ordered_of m cs)))
 
 -- they are placed so
 abbrev pub PlacedClassData : List NumberedClass → List ℕ → ℕ → ItemPlaces → Type 0
-PlacedClassData cs codes from p = (m : Mentions) → AreWritable m cs → codes ≡ code_offsets (ordered_of m cs) → from ≡ code_end (ordered_of m cs) → AreClassData m cs p
+PlacedClassData cs codes from p = (m : Mentions) → AreWritable m cs → codes ≡ uses_offsets (code_section (ordered_of m cs)) → from ≡ end (code_section (ordered_of m cs)) → AreClassData m cs p
 
 -- the texts from the offset on
 abbrev pub AreStringsFrom : ℕ → Mentions → ItemPlaces → Type 0
@@ -50,7 +51,11 @@ AreStringsFrom from m = AreLaidSo (offsets_from 1 from (map string_data m.texts)
 
 -- the offsets of the items that uses share, for each use
 abbrev pub shared_places : List (Option ℕ) → ItemPlaces → ItemPlaces
-shared_places numbers written = record { offsets = uses_offsets numbers written.offsets; end = written.end; greatest = written.greatest }
+shared_places numbers written = record {
+  offsets = map (λ n. option_map_or (slice_index written.offsets) n 0) numbers;
+  end = written.end;
+  greatest = written.greatest;
+}
 
 -- type lists from the offset on
 abbrev pub list_places : ℕ → List (List ℕ) → ItemPlaces
@@ -80,7 +85,7 @@ HaveKnownSets cs shared = (m : Mentions) → AreWritable m cs → AreKnownSets m
 
 -- the annotations of sets from the offset on
 abbrev pub PlacedAnnotations : ℕ → List (Bor CodeSet) → AnnotationPlaces → Type 0
-PlacedAnnotations from sets p = (m : Mentions) (cs : List NumberedClass) → AreWritable m cs → AreWrittenSets m cs sets → AreKnownSets m sets → from ≡ type_list_end (ordered_of m cs) → AreAnnotations m cs p
+PlacedAnnotations from sets p = (m : Mentions) (cs : List NumberedClass) → AreWritable m cs → AreWrittenSets m cs sets → AreKnownSets m sets → from ≡ end (type_list_section (ordered_of m cs)) → AreAnnotations m cs p
 
 -- sets from the offset on
 abbrev pub set_places : ℕ → List (Bor CodeSet) → ItemPlaces

@@ -1,5 +1,5 @@
 -- A class row denotes at most one definition: its annotations, class data and members are determined.
-use Rattle.std.proofs.Common.{◌≡◌, ℕ, ◌+◌, ◌*◌, List, [], ◌∷◌, length, map, Option, Some, None, refl, ap, sym, subst, ◌∙◌, arith, ◌≤◌, ◌<◌, All, take, drop, length-take, ◌^◌}
+use Rattle.std.proofs.Common.{◌≡◌, ℕ, ◌+◌, ◌*◌, List, [], ◌∷◌, length, map, get_or, Option, Some, None, refl, ap, sym, subst, ◌∙◌, arith, ◌≤◌, ◌<◌, All, take, drop, length-take, ◌^◌}
 use Rattle.std.proofs.Math.Nat.{pow-le-pow_right}
 use Rattle.std.proofs.lemmas.List.Elements.{All-take, All-drop}
 use Rattle.std.specs.List.{AllZip}
@@ -16,6 +16,7 @@ use Rattle.dexspec.specs.Classes.{MethodDef, Body, class_idx, superclass_idx, in
 use Rattle.dexspec.specs.Header.{Table, StringIds, TypeIds, table_size, size_place}
 use Rattle.dexspec.proofs.numbers.ByteNumbers.{number_bound}
 use Rattle.dexspec.proofs.written.PlacedBytes.{same_first}
+use Rattle.dexspec.proofs.lists.Sequences.{one_sequence}
 use Rattle.dexspec.proofs.determined.OneNumber.{one_uleb128}
 use Rattle.dexspec.proofs.determined.OneRow.{one_string, one_type, one_type_list, one_field, one_method, one_all_zip, one_or_none}
 use Rattle.dexspec.proofs.determined.OneValue.{one_array, one_annotation}
@@ -96,26 +97,21 @@ one_encoded_methods b o last (x ∷ xs) (y ∷ ys) n k len h g =
 -- one class data item
 pub one_class_data : (b : List ℕ) (o : ℕ) (x y : ClassData) → ClassDataAt b o x → ClassDataAt b o y → x ≡ y
 one_class_data b o x y h g =
-    let count = λ (p q v w n k : ℕ) (e : p ≡ q) (s : Uleb128At b p v n) (t : Uleb128At b q w k). one_uleb128 b q v w n k (subst (λ (r : ℕ). Uleb128At b r v n) e s) t in
-    let c0 = one_uleb128 b o (length x.static_fields) (length y.static_fields) h.static_count_size g.static_count_size h.static_count g.static_count in
-    let p1 : o + h.static_count_size ≡ o + g.static_count_size = omega (arith, c0.1) in
-    let c1 = count (o + h.static_count_size) (o + g.static_count_size) (length x.instance_fields) (length y.instance_fields) h.instance_count_size g.instance_count_size p1 h.instance_count g.instance_count in
-    let p2 : o + h.static_count_size + h.instance_count_size ≡ o + g.static_count_size + g.instance_count_size = omega (arith, p1, c1.1) in
-    let c2 = count (o + h.static_count_size + h.instance_count_size) (o + g.static_count_size + g.instance_count_size) (length x.direct_methods) (length y.direct_methods) h.direct_count_size g.direct_count_size p2 h.direct_count g.direct_count in
-    let p3 : o + h.static_count_size + h.instance_count_size + h.direct_count_size ≡ o + g.static_count_size + g.instance_count_size + g.direct_count_size = omega (arith, p2, c2.1) in
-    let c3 = count (o + h.static_count_size + h.instance_count_size + h.direct_count_size) (o + g.static_count_size + g.instance_count_size + g.direct_count_size) (length x.virtual_methods) (length y.virtual_methods) h.virtual_count_size g.virtual_count_size p3 h.virtual_count g.virtual_count in
-    let p4 : o + h.static_count_size + h.instance_count_size + h.direct_count_size + h.virtual_count_size ≡ o + g.static_count_size + g.instance_count_size + g.direct_count_size + g.virtual_count_size = omega (arith, p3, c3.1) in
-    let l0 = one_encoded_fields b (o + g.static_count_size + g.instance_count_size + g.direct_count_size + g.virtual_count_size) None x.static_fields y.static_fields h.static_fields_size g.static_fields_size c0.0
-    (subst (λ (p : ℕ). EncodedFieldsAt b p None x.static_fields h.static_fields_size) p4 h.static_fields) g.static_fields in
-    let p5 : o + h.static_count_size + h.instance_count_size + h.direct_count_size + h.virtual_count_size + h.static_fields_size ≡ o + g.static_count_size + g.instance_count_size + g.direct_count_size + g.virtual_count_size + g.static_fields_size = omega (arith, p4, l0.1) in
-    let l1 = one_encoded_fields b (o + g.static_count_size + g.instance_count_size + g.direct_count_size + g.virtual_count_size + g.static_fields_size) None x.instance_fields y.instance_fields h.instance_fields_size g.instance_fields_size c1.0
-    (subst (λ (p : ℕ). EncodedFieldsAt b p None x.instance_fields h.instance_fields_size) p5 h.instance_fields) g.instance_fields in
-    let p6 : o + h.static_count_size + h.instance_count_size + h.direct_count_size + h.virtual_count_size + h.static_fields_size + h.instance_fields_size ≡ o + g.static_count_size + g.instance_count_size + g.direct_count_size + g.virtual_count_size + g.static_fields_size + g.instance_fields_size = omega (arith, p5, l1.1) in
-    let l2 = one_encoded_methods b (o + g.static_count_size + g.instance_count_size + g.direct_count_size + g.virtual_count_size + g.static_fields_size + g.instance_fields_size) None x.direct_methods y.direct_methods h.direct_methods_size g.direct_methods_size c2.0
-    (subst (λ (p : ℕ). EncodedMethodsAt b p None x.direct_methods h.direct_methods_size) p6 h.direct_methods) g.direct_methods in
-    let p7 : o + h.static_count_size + h.instance_count_size + h.direct_count_size + h.virtual_count_size + h.static_fields_size + h.instance_fields_size + h.direct_methods_size ≡ o + g.static_count_size + g.instance_count_size + g.direct_count_size + g.virtual_count_size + g.static_fields_size + g.instance_fields_size + g.direct_methods_size = omega (arith, p6, l2.1) in
-    let l3 = one_encoded_methods b (o + g.static_count_size + g.instance_count_size + g.direct_count_size + g.virtual_count_size + g.static_fields_size + g.instance_fields_size + g.direct_methods_size) None x.virtual_methods y.virtual_methods h.virtual_methods_size g.virtual_methods_size c3.0
-    (subst (λ (p : ℕ). EncodedMethodsAt b p None x.virtual_methods h.virtual_methods_size) p7 h.virtual_methods) g.virtual_methods in
+    let counts = one_sequence Uleb128At one_uleb128 b o (length x.static_fields ∷ length x.instance_fields ∷ length x.direct_methods ∷ length x.virtual_methods ∷ [])
+    (length y.static_fields ∷ length y.instance_fields ∷ length y.direct_methods ∷ length y.virtual_methods ∷ []) h.counts_bytes g.counts_bytes refl h.counts g.counts in
+    let many = λ (k : ℕ). ap (λ ns. get_or ns k 0) counts.0 in
+    let p0 : o + h.counts_bytes ≡ o + g.counts_bytes = omega (arith, counts.1) in
+    let l0 = one_encoded_fields b (o + g.counts_bytes) None x.static_fields y.static_fields h.static_fields_bytes g.static_fields_bytes (many 0)
+    (subst (λ (p : ℕ). EncodedFieldsAt b p None x.static_fields h.static_fields_bytes) p0 h.static_fields) g.static_fields in
+    let p1 : o + h.counts_bytes + h.static_fields_bytes ≡ o + g.counts_bytes + g.static_fields_bytes = omega (arith, p0, l0.1) in
+    let l1 = one_encoded_fields b (o + g.counts_bytes + g.static_fields_bytes) None x.instance_fields y.instance_fields h.instance_fields_bytes g.instance_fields_bytes (many 1)
+    (subst (λ (p : ℕ). EncodedFieldsAt b p None x.instance_fields h.instance_fields_bytes) p1 h.instance_fields) g.instance_fields in
+    let p2 : o + h.counts_bytes + h.static_fields_bytes + h.instance_fields_bytes ≡ o + g.counts_bytes + g.static_fields_bytes + g.instance_fields_bytes = omega (arith, p1, l1.1) in
+    let l2 = one_encoded_methods b (o + g.counts_bytes + g.static_fields_bytes + g.instance_fields_bytes) None x.direct_methods y.direct_methods h.direct_methods_bytes g.direct_methods_bytes (many 2)
+    (subst (λ (p : ℕ). EncodedMethodsAt b p None x.direct_methods h.direct_methods_bytes) p2 h.direct_methods) g.direct_methods in
+    let p3 : o + h.counts_bytes + h.static_fields_bytes + h.instance_fields_bytes + h.direct_methods_bytes ≡ o + g.counts_bytes + g.static_fields_bytes + g.instance_fields_bytes + g.direct_methods_bytes = omega (arith, p2, l2.1) in
+    let l3 = one_encoded_methods b (o + g.counts_bytes + g.static_fields_bytes + g.instance_fields_bytes + g.direct_methods_bytes) None x.virtual_methods y.virtual_methods h.virtual_methods_bytes g.virtual_methods_bytes (many 3)
+    (subst (λ (p : ℕ). EncodedMethodsAt b p None x.virtual_methods h.virtual_methods_bytes) p3 h.virtual_methods) g.virtual_methods in
     λ i. record { static_fields = l0.0 i; instance_fields = l1.0 i; direct_methods = l2.0 i; virtual_methods = l3.0 i }
 
 -- ---- class rows

@@ -105,4 +105,4 @@ one_string_data bytes s t n k item other =
 
 -- the bytes that are written for a text are an item of it
 pub string_data_is : (s : Text) → AreUnits s → length s < 2 ^ 32 → IsStringData (string_data s) s
-string_data_is s units few = record { count = _; says = (uleb128_is (length s) few).spelled; units = units; parts = refl }
+string_data_is s units few = record { count = _; says = (uleb128_is (length s) few).0; units = units; parts = refl }

@@ -7,7 +7,7 @@ use Rattle.dexspec.specs.Numbers.{Uleb128At}
 use Rattle.dexspec.specs.Texts.{Text}
 use Rattle.dexspec.specs.Symbols.{Field, Method}
 use Rattle.dexspec.specs.Rows.{StringRow, TypeRow, FieldRow, MethodRow}
-use Rattle.dexspec.specs.Values.{Value, ByteValue, ShortValue, CharValue, IntValue, LongValue, FloatValue, DoubleValue, StringValue, TypeValue, FieldValue, MethodValue, EnumValue, ArrayValue, AnnotationValue, NullValue, BooleanValue, Values, NoValues, ThenValue, Elements, NoElements, ThenElement, count_values, names_of, byte_value_type, short_value_type, char_value_type, int_value_type, long_value_type, float_value_type, double_value_type, string_value_type, type_value_type, field_value_type, method_value_type, enum_value_type, array_value_type, annotation_value_type, null_value_type, boolean_value_type, value_byte, SizedAt, IndexAt, ArrayAround, AnnotationAround, ValueAt, ValuesAt, ElementsAt, EncodedArrayAt, EncodedAnnotationAt}
+use Rattle.dexspec.specs.Values.{Value, ByteValue, ShortValue, CharValue, IntValue, LongValue, FloatValue, DoubleValue, StringValue, TypeValue, FieldValue, MethodValue, EnumValue, ArrayValue, AnnotationValue, NullValue, BooleanValue, Values, NoValues, ThenValue, Elements, NoElements, ThenElement, count_values, names_of, value_byte, SizedAt, IndexAt, ArrayAround, AnnotationAround, ValueAt, ValuesAt, ElementsAt, EncodedArrayAt, EncodedAnnotationAt}
 use Rattle.dexspec.proofs.written.PlacedBytes.{same_first, same_bytes_at}
 use Rattle.dexspec.proofs.determined.OneNumber.{one_uleb128}
 use Rattle.dexspec.proofs.determined.OneRow.{one_string, one_type, one_field, one_method}
@@ -49,50 +49,50 @@ one_index Row one code b o x y n k h g =
 -- a boolean is in the argument of its first byte
 one_boolean : (b : List ℕ) (o : ℕ) (x y : Bool) (n k : ℕ) → ValueAt b o (BooleanValue x) n → ValueAt b o (BooleanValue y) k → (x ≡ y) × (n ≡ k)
 one_boolean b o false false n k h g = (refl, h.1 ∙ sym g.1)
-one_boolean b o false true n k h g = absurd (let e = same_first (value_byte 0 boolean_value_type) (value_byte 1 boolean_value_type) [] [] h.0 g.0 in omega arith)
-one_boolean b o true false n k h g = absurd (let e = same_first (value_byte 1 boolean_value_type) (value_byte 0 boolean_value_type) [] [] h.0 g.0 in omega arith)
+one_boolean b o false true n k h g = absurd (let e = same_first (value_byte 0 0x1f) (value_byte 1 0x1f) [] [] h.0 g.0 in omega arith)
+one_boolean b o true false n k h g = absurd (let e = same_first (value_byte 1 0x1f) (value_byte 0 0x1f) [] [] h.0 g.0 in omega arith)
 one_boolean b o true true n k h g = (refl, h.1 ∙ sym g.1)
 
 -- ---- the kinds of value, by type code
 
 -- the type code of a value
 abbrev code_of : Value → ℕ
-code_of (ByteValue z) = byte_value_type
-code_of (ShortValue z) = short_value_type
-code_of (CharValue u) = char_value_type
-code_of (IntValue z) = int_value_type
-code_of (LongValue z) = long_value_type
-code_of (FloatValue bits) = float_value_type
-code_of (DoubleValue bits) = double_value_type
-code_of (StringValue s) = string_value_type
-code_of (TypeValue t) = type_value_type
-code_of (FieldValue f) = field_value_type
-code_of (MethodValue m) = method_value_type
-code_of (EnumValue f) = enum_value_type
-code_of (ArrayValue vs) = array_value_type
-code_of (AnnotationValue t es) = annotation_value_type
-code_of NullValue = null_value_type
-code_of (BooleanValue is) = boolean_value_type
+code_of (ByteValue z) = 0x00
+code_of (ShortValue z) = 0x02
+code_of (CharValue u) = 0x03
+code_of (IntValue z) = 0x04
+code_of (LongValue z) = 0x06
+code_of (FloatValue bits) = 0x10
+code_of (DoubleValue bits) = 0x11
+code_of (StringValue s) = 0x17
+code_of (TypeValue t) = 0x18
+code_of (FieldValue f) = 0x19
+code_of (MethodValue m) = 0x1a
+code_of (EnumValue f) = 0x1b
+code_of (ArrayValue vs) = 0x1c
+code_of (AnnotationValue t es) = 0x1d
+code_of NullValue = 0x1e
+code_of (BooleanValue is) = 0x1f
 
 -- a value in a file has its type code there
 value_code : (b : List ℕ) (o : ℕ) (v : Value) (n : ℕ) → ValueAt b o v n → HasCode b o (code_of v)
-value_code b o (ByteValue z) n h = sized_code b o byte_value_type 1 h.0 n (omega arith) h.1
-value_code b o (ShortValue z) n h = sized_code b o short_value_type 2 h.0 n (omega arith) h.1
-value_code b o (CharValue u) n h = sized_code b o char_value_type 2 h.0 n (omega arith) h.1
-value_code b o (IntValue z) n h = sized_code b o int_value_type 4 h.0 n (omega arith) h.1
-value_code b o (LongValue z) n h = sized_code b o long_value_type 8 h.0 n (omega arith) h.1
-value_code b o (FloatValue bits) n h = sized_code b o float_value_type 4 h.0 n (omega arith) h.1
-value_code b o (DoubleValue bits) n h = sized_code b o double_value_type 8 h.0 n (omega arith) h.1
-value_code b o (StringValue s) n h = sized_code b o string_value_type 4 h.1.0 n (omega arith) h.1.1
-value_code b o (TypeValue t) n h = sized_code b o type_value_type 4 h.1.0 n (omega arith) h.1.1
-value_code b o (FieldValue f) n h = sized_code b o field_value_type 4 h.1.0 n (omega arith) h.1.1
-value_code b o (MethodValue m) n h = sized_code b o method_value_type 4 h.1.0 n (omega arith) h.1.1
-value_code b o (EnumValue f) n h = sized_code b o enum_value_type 4 h.1.0 n (omega arith) h.1.1
-value_code b o (ArrayValue vs) n h = record { first = value_byte 0 array_value_type; rest = []; encodes = h.0; is = refl }
-value_code b o (AnnotationValue t es) n h = record { first = value_byte 0 annotation_value_type; rest = []; encodes = h.0; is = refl }
-value_code b o NullValue n h = record { first = value_byte 0 null_value_type; rest = []; encodes = h.0; is = refl }
-value_code b o (BooleanValue false) n h = record { first = value_byte 0 boolean_value_type; rest = []; encodes = h.0; is = refl }
-value_code b o (BooleanValue true) n h = record { first = value_byte 1 boolean_value_type; rest = []; encodes = h.0; is = refl }
+value_code b o (ByteValue z) n h = sized_code b o 0x00 1 h.0 n (omega arith) h.1
+value_code b o (ShortValue z) n h = sized_code b o 0x02 2 h.0 n (omega arith) h.1
+value_code b o (CharValue u) n h = sized_code b o 0x03 2 h.0 n (omega arith) h.1
+value_code b o (IntValue z) n h = sized_code b o 0x04 4 h.0 n (omega arith) h.1
+value_code b o (LongValue z) n h = sized_code b o 0x06 8 h.0 n (omega arith) h.1
+value_code b o (FloatValue bits) n h = sized_code b o 0x10 4 h.0 n (omega arith) h.1
+value_code b o (DoubleValue bits) n h = sized_code b o 0x11 8 h.0 n (omega arith) h.1
+value_code b o (StringValue s) n h = sized_code b o 0x17 4 h.1.0 n (omega arith) h.1.1
+value_code b o (TypeValue t) n h = sized_code b o 0x18 4 h.1.0 n (omega arith) h.1.1
+value_code b o (FieldValue f) n h = sized_code b o 0x19 4 h.1.0 n (omega arith) h.1.1
+value_code b o (MethodValue m) n h = sized_code b o 0x1a 4 h.1.0 n (omega arith) h.1.1
+value_code b o (EnumValue f) n h = sized_code b o 0x1b 4 h.1.0 n (omega arith) h.1.1
+value_code b o (ArrayValue vs) n h = record { first = value_byte 0 0x1c; rest = []; encodes = h.0; is = refl }
+value_code b o (AnnotationValue t es) n h = record { first = value_byte 0 0x1d; rest = []; encodes = h.0; is = refl }
+value_code b o NullValue n h = record { first = value_byte 0 0x1e; rest = []; encodes = h.0; is = refl }
+value_code b o (BooleanValue false) n h = record { first = value_byte 0 0x1f; rest = []; encodes = h.0; is = refl }
+value_code b o (BooleanValue true) n h = record { first = value_byte 1 0x1f; rest = []; encodes = h.0; is = refl }
 
 -- the parts of a value of any kind
 abbrev signed_part : Value → ℤ
@@ -216,40 +216,40 @@ mutual
   pub one_value : (b : List ℕ) (o : ℕ) (v w : Value) (n k : ℕ) → ValueAt b o v n → ValueAt b o w k → (v ≡ w) × (n ≡ k)
   one_value b o (ByteValue z) w n k h g =
       let e = same_kind b o (ByteValue z) w n k h g in
-      of_kind ByteValue z (signed_part w) w n k e (one_sized (λ bytes. signed_in (length bytes) (number_of bytes)) byte_value_type 1 b o z (signed_part w) n k h (subst (λ (x : Value). ValueAt b o x k) e g))
+      of_kind ByteValue z (signed_part w) w n k e (one_sized (λ bytes. signed_in (length bytes) (number_of bytes)) 0x00 1 b o z (signed_part w) n k h (subst (λ (x : Value). ValueAt b o x k) e g))
   one_value b o (ShortValue z) w n k h g =
       let e = same_kind b o (ShortValue z) w n k h g in
-      of_kind ShortValue z (signed_part w) w n k e (one_sized (λ bytes. signed_in (length bytes) (number_of bytes)) short_value_type 2 b o z (signed_part w) n k h (subst (λ (x : Value). ValueAt b o x k) e g))
+      of_kind ShortValue z (signed_part w) w n k e (one_sized (λ bytes. signed_in (length bytes) (number_of bytes)) 0x02 2 b o z (signed_part w) n k h (subst (λ (x : Value). ValueAt b o x k) e g))
   one_value b o (CharValue u) w n k h g =
       let e = same_kind b o (CharValue u) w n k h g in
-      of_kind CharValue u (unsigned_part w) w n k e (one_sized number_of char_value_type 2 b o u (unsigned_part w) n k h (subst (λ (x : Value). ValueAt b o x k) e g))
+      of_kind CharValue u (unsigned_part w) w n k e (one_sized number_of 0x03 2 b o u (unsigned_part w) n k h (subst (λ (x : Value). ValueAt b o x k) e g))
   one_value b o (IntValue z) w n k h g =
       let e = same_kind b o (IntValue z) w n k h g in
-      of_kind IntValue z (signed_part w) w n k e (one_sized (λ bytes. signed_in (length bytes) (number_of bytes)) int_value_type 4 b o z (signed_part w) n k h (subst (λ (x : Value). ValueAt b o x k) e g))
+      of_kind IntValue z (signed_part w) w n k e (one_sized (λ bytes. signed_in (length bytes) (number_of bytes)) 0x04 4 b o z (signed_part w) n k h (subst (λ (x : Value). ValueAt b o x k) e g))
   one_value b o (LongValue z) w n k h g =
       let e = same_kind b o (LongValue z) w n k h g in
-      of_kind LongValue z (signed_part w) w n k e (one_sized (λ bytes. signed_in (length bytes) (number_of bytes)) long_value_type 8 b o z (signed_part w) n k h (subst (λ (x : Value). ValueAt b o x k) e g))
+      of_kind LongValue z (signed_part w) w n k e (one_sized (λ bytes. signed_in (length bytes) (number_of bytes)) 0x06 8 b o z (signed_part w) n k h (subst (λ (x : Value). ValueAt b o x k) e g))
   one_value b o (FloatValue bits) w n k h g =
       let e = same_kind b o (FloatValue bits) w n k h g in
-      of_kind FloatValue bits (unsigned_part w) w n k e (one_sized (λ bytes. 256 ^ (4 - length bytes) * number_of bytes) float_value_type 4 b o bits (unsigned_part w) n k h (subst (λ (x : Value). ValueAt b o x k) e g))
+      of_kind FloatValue bits (unsigned_part w) w n k e (one_sized (λ bytes. 256 ^ (4 - length bytes) * number_of bytes) 0x10 4 b o bits (unsigned_part w) n k h (subst (λ (x : Value). ValueAt b o x k) e g))
   one_value b o (DoubleValue bits) w n k h g =
       let e = same_kind b o (DoubleValue bits) w n k h g in
-      of_kind DoubleValue bits (unsigned_part w) w n k e (one_sized (λ bytes. 256 ^ (8 - length bytes) * number_of bytes) double_value_type 8 b o bits (unsigned_part w) n k h (subst (λ (x : Value). ValueAt b o x k) e g))
+      of_kind DoubleValue bits (unsigned_part w) w n k e (one_sized (λ bytes. 256 ^ (8 - length bytes) * number_of bytes) 0x11 8 b o bits (unsigned_part w) n k h (subst (λ (x : Value). ValueAt b o x k) e g))
   one_value b o (StringValue s) w n k h g =
       let e = same_kind b o (StringValue s) w n k h g in
-      of_kind StringValue s (text_part w) w n k e (one_index StringRow one_string string_value_type b o s (text_part w) n k h (subst (λ (x : Value). ValueAt b o x k) e g))
+      of_kind StringValue s (text_part w) w n k e (one_index StringRow one_string 0x17 b o s (text_part w) n k h (subst (λ (x : Value). ValueAt b o x k) e g))
   one_value b o (TypeValue t) w n k h g =
       let e = same_kind b o (TypeValue t) w n k h g in
-      of_kind TypeValue t (text_part w) w n k e (one_index TypeRow one_type type_value_type b o t (text_part w) n k h (subst (λ (x : Value). ValueAt b o x k) e g))
+      of_kind TypeValue t (text_part w) w n k e (one_index TypeRow one_type 0x18 b o t (text_part w) n k h (subst (λ (x : Value). ValueAt b o x k) e g))
   one_value b o (FieldValue f) w n k h g =
       let e = same_kind b o (FieldValue f) w n k h g in
-      of_kind FieldValue f (field_part w) w n k e (one_index FieldRow one_field field_value_type b o f (field_part w) n k h (subst (λ (x : Value). ValueAt b o x k) e g))
+      of_kind FieldValue f (field_part w) w n k e (one_index FieldRow one_field 0x19 b o f (field_part w) n k h (subst (λ (x : Value). ValueAt b o x k) e g))
   one_value b o (MethodValue m) w n k h g =
       let e = same_kind b o (MethodValue m) w n k h g in
-      of_kind MethodValue m (method_part w) w n k e (one_index MethodRow one_method method_value_type b o m (method_part w) n k h (subst (λ (x : Value). ValueAt b o x k) e g))
+      of_kind MethodValue m (method_part w) w n k e (one_index MethodRow one_method 0x1a b o m (method_part w) n k h (subst (λ (x : Value). ValueAt b o x k) e g))
   one_value b o (EnumValue f) w n k h g =
       let e = same_kind b o (EnumValue f) w n k h g in
-      of_kind EnumValue f (field_part w) w n k e (one_index FieldRow one_field enum_value_type b o f (field_part w) n k h (subst (λ (x : Value). ValueAt b o x k) e g))
+      of_kind EnumValue f (field_part w) w n k e (one_index FieldRow one_field 0x1b b o f (field_part w) n k h (subst (λ (x : Value). ValueAt b o x k) e g))
   one_value b o (ArrayValue vs) w n k h g =
       let e = same_kind b o (ArrayValue vs) w n k h g in
       let g' = subst (λ (x : Value). ValueAt b o x k) e g in

@@ -13,11 +13,11 @@ use Rattle.dexspec.specs.Bytes.{uint, uint_at, BytesAt}
 use Rattle.dexspec.specs.Header.{Table, StringIds, TypeIds, ProtoIds, FieldIds, MethodIds, ClassDefs, tables, header_length, row_size, table_off, map_off}
 use Rattle.dexspec.specs.Sections.{Section, HeaderItem, TableOf, MapList, type_code, MapEntry, map_entries, entries_at, IsKnown, HasTable, IsPlaced, HasMap}
 use Rattle.dexspec.specs.Placing.{Ordered, Placed, offsets, end}
-use Rattle.dexspec.specs.Canonical.{table_count, tables_from, placed_tables, data_start, Layout, map_of, map_bytes, map_entry_bytes, data_sections, directory_end}
+use Rattle.dexspec.specs.Canonical.{table_count, tables_from, placed_tables, data_start, map_bytes, map_entry_bytes, data_sections, directory_section, type_list_section, annotation_section, array_section, string_section, debug_section, code_section, class_data_section, set_section, ref_list_section}
 use Rattle.dexspec.proofs.written.PlacedBytes.{is_at}
 use Rattle.dexspec.proofs.numbers.ByteNumbers.{uint_at-encodes}
 use Rattle.dexspec.proofs.layout.Places.{IsAlign, items_within, items_few, FollowFrom, last_end, round_up_four, length-padding}
-use Rattle.dexspec.proofs.layout.Placements.{layout_is, sections_follow, sections_have_bytes, sections_aligned, HasBytes}
+use Rattle.dexspec.proofs.layout.Placements.{sections_follow, sections_have_bytes, sections_aligned, HasBytes}
 use Rattle.dexspec.proofs.layout.Tables.{is_at_here, is_at_next, table_place}
 use Rattle.dexspec.proofs.layout.SectionPlaces.{Laid, map_place, map_list, map_place_is, file_length, table_few, data_before_map}
 use Rattle.dexspec.proofs.layout.MapEntries.{entry_of, length-map_bytes, IsSmall, entries_at-encodes, Candidate, pick, picked, code_of, picked_there, differ, picked_differ, left_out, RisesTo, rises_append, rises_from_less, rises_between, rises_strictly}
@@ -130,14 +130,14 @@ all_entries K = (HeaderItem, 1, 0) ∷ (of_tables K ++ of_data K)
 -- they are the map
 map_list_is : (K : Ordered) → map_list K ≡ all_entries K
 unfolding map_list
-map_list_is K = ap (λ (l : Layout). map_of K l (map_place K)) (layout_is K)
+map_list_is K = refl
 
 -- the offsets of the entries in the data rise
 data_rises : (K : Ordered) → RisesTo (data_start K) (of_data K) (map_place K + 1)
 data_rises K =
-    rises_append (data_start K) (flat_map section_entries (data_sections K)) (directory_end K) ((MapList, 1, map_place K) ∷ []) (map_place K + 1)
-    (sections_rise (data_start K) (data_sections K) (directory_end K) (sections_follow K) (sections_have_bytes K) (sections_aligned K))
-    (omega (arith, length-padding 4 (directory_end K), map_place_is K), omega arith)
+    rises_append (data_start K) (flat_map section_entries (data_sections K)) (end (directory_section K)) ((MapList, 1, map_place K) ∷ []) (map_place K + 1)
+    (sections_rise (data_start K) (data_sections K) (end (directory_section K)) (sections_follow K) (sections_have_bytes K) (sections_aligned K))
+    (omega (arith, length-padding 4 (end (directory_section K)), map_place_is K), omega arith)
 
 -- the offsets of all entries rise
 all_rise : (K : Ordered) → RisesTo 0 (all_entries K) (map_place K + 1)
@@ -155,7 +155,7 @@ all_small K small =
     let le = data_before_map K in
     let of : All P (of_tables K) = λ k d lt. omega (arith, le, (tables_are K header_length tables k d lt).count) in
     let to : All P (flat_map section_entries (data_sections K)) =
-    λ k d lt. omega (arith, sections_few (data_start K) (data_sections K) (directory_end K) (sections_follow K) (sections_have_bytes K) k d lt, length-padding 4 (directory_end K), map_place_is K) in
+    λ k d lt. omega (arith, sections_few (data_start K) (data_sections K) (end (directory_section K)) (sections_follow K) (sections_have_bytes K) k d lt, length-padding 4 (end (directory_section K)), map_place_is K) in
     let one : 1 ≤ N = omega (arith, le) in
     let counts : All P (all_entries K) =
     All-cons P (HeaderItem, 1, 0) (of_tables K ++ of_data K) one
@@ -193,6 +193,7 @@ candidates K = all_candidates (placed_tables K) (data_sections K) (map_place K)
 
 -- no kind occurs twice among them
 candidates_differ : (K : Ordered) → differ (map code_of (candidates K)) ≡ true
+unfolding type_list_section annotation_section array_section string_section debug_section code_section class_data_section set_section ref_list_section directory_section
 candidates_differ K = refl
 
 -- the number of a table's candidate
@@ -310,7 +311,7 @@ module _ {K : Ordered} {b : List ℕ} (h : Laid K b) where
       let right : IsMap b (map_entries b) = subst (IsMap b) (sym (map_read ∙ ap (map entry_of) (map_list_is K))) all_right in
       record {
         in_data = record { following = omega (arith, h.map_in_data.following, h.map_from); within = omega (arith, h.size, h.map_from, map_size, length-map_bytes (map_list K)) };
-        aligned = ap (λ n. n % 4) (h.map_from ∙ map_place_is K) ∙ round_up_four (directory_end K);
+        aligned = ap (λ n. n % 4) (h.map_from ∙ map_place_is K) ∙ round_up_four (end (directory_section K));
         known = right.known;
         once = right.once;
         rise = right.rise;

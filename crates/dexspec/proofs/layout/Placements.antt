@@ -1,9 +1,10 @@
 -- The ten sections of the data: they follow one another after the tables, each item has bytes, and each row has its
 -- offsets.
-use Rattle.std.proofs.Common.{◌≡◌, ℕ, zero, suc, ◌+◌, ◌<◌, List, [], ◌∷◌, ◌++◌, length, get_or, map, take, drop, refl, ap, ◌∙◌, arith, inl, inr}
-use Rattle.std.specs.Prelude.{Option, Some, None, IfSome, Bool, true, false, if◌then◌else◌}
+use Rattle.std.proofs.Common.{◌≡◌, ℕ, zero, suc, ◌+◌, ◌<◌, List, [], ◌∷◌, ◌++◌, length, get_or, map, drop, refl, sym, ap, subst, ◌∙◌, arith, inl, inr}
+use Rattle.std.specs.Prelude.{Option, Some, None, IfSome, Bool, true, false, if◌then◌else◌, slice_index}
+use Rattle.std.specs.Option.{option_map_or}
 use Rattle.std.specs.List.{flat_map, All, zip}
-use Rattle.std.proofs.lemmas.List.{length-append, length-map, length-take, length-drop}
+use Rattle.std.proofs.lemmas.List.{length-append, length-map, length-drop, map-id}
 use Rattle.std.proofs.lemmas.List.Elements.{All-from_recursion, All-nil, All-cons, All-head, All-tail, All-map}
 use Rattle.dexspec.specs.Lists.{chunks, zip_with, present}
 use Rattle.dexspec.specs.Bytes.{ushort, uint}
@@ -16,32 +17,15 @@ use Rattle.dexspec.specs.Values.{count_values}
 use Rattle.dexspec.specs.Mentions.{Mentions}
 use Rattle.dexspec.specs.Sameness.{same_types}
 use Rattle.dexspec.specs.Spellings.{code_bytes, debug_bytes, encoded_array_bytes, annotation_bytes, offsets_bytes, class_data_bytes, type_list_bytes}
-use Rattle.dexspec.specs.Placing.{unless_empty, own_numbers, own_items, shared_items, Sharing, EqualOnce, EachForItself, items_by, Placed, offsets, uses_offsets, Ordered, by_class, SetOffsets, type_list_uses, code_uses, static_values_uses, class_data_uses, ref_list_uses, directory_uses, directory_bytes}
-use Rattle.dexspec.specs.Canonical.{data_start, Layout, layout, class_offsets, type_list_items, type_list_end, type_list_offsets, set_items, annotation_end, annotation_offsets, array_end, array_offsets, string_section, string_end, debug_items, debug_end, debug_offsets, code_end, code_offsets, class_data_end, class_data_offsets, set_end, set_offsets, ref_list_end, ref_list_offsets, directory_section, directory_end, directory_offsets, data_sections}
+use Rattle.dexspec.specs.Placing.{unless_empty, own_numbers, own_items, shared_items, Sharing, EqualOnce, EachForItself, items_by, Placed, offsets, uses_offsets, Ordered, by_class, SetOffsets, type_list_uses, code_uses, static_values_uses, class_data_uses, ref_list_uses, directory_uses, directory_bytes, end}
+use Rattle.dexspec.specs.Canonical.{data_start, class_offsets, type_list_items, type_list_section, set_items, annotation_section, annotation_offsets, array_section, string_section, debug_items, debug_section, code_section, class_data_section, set_section, set_offsets, ref_list_section, directory_section, data_sections}
 use Rattle.dexspec.proofs.numbers.ByteNumbers.{length-uint, length-ushort}
 use Rattle.dexspec.proofs.numbers.Spellings.{uleb128_bounds}
 use Rattle.dexspec.proofs.layout.Places.{IsAlign, length-offsets_from, FollowFrom}
 
--- ---- the layout
-
--- the layout by its parts
-abbrev pub named_layout : Ordered → Layout
-named_layout K = record {
-  sections = data_sections K;
-  strings = offsets (string_section K);
-  parameters = take (length K.pools.protos) (type_list_offsets K);
-  classes = class_offsets (drop (length K.pools.protos) (type_list_offsets K)) (directory_offsets K) (class_data_offsets K) (array_offsets K);
-  data_end = directory_end K;
-}
-
--- the layout has these parts
-pub layout_is : (K : Ordered) → layout K ≡ named_layout K
-unfolding layout
-layout_is K = refl
-
 -- each section begins where the one before it ends
-pub sections_follow : (K : Ordered) → FollowFrom (data_start K) (data_sections K) (directory_end K)
-unfolding type_list_end annotation_end array_end string_end debug_end code_end class_data_end set_end ref_list_end directory_end
+pub sections_follow : (K : Ordered) → FollowFrom (data_start K) (data_sections K) (end (directory_section K))
+unfolding type_list_section annotation_section array_section string_section debug_section code_section class_data_section set_section ref_list_section directory_section
 sections_follow K = (refl, (refl, (refl, (refl, (refl, (refl, (refl, (refl, (refl, (refl, refl))))))))))
 
 -- ---- each item has bytes
@@ -108,9 +92,11 @@ directory_some m d sets refs = unless_none _ sets.own _
 
 -- all directories have bytes
 directories_some : (K : Ordered) → All (λ x. 0 < length x) (directory_section K).items
+unfolding directory_section
 directories_some K =
-    present_some (directory_uses K (set_offsets K) (ref_list_offsets K))
-    (zip_with_all IsSomeBytes (λ d p. directory_bytes K.pools d p.0 p.1) (λ d p. directory_some K.pools d p.0 p.1) K.classes (zip (set_offsets K) (by_class K (ref_list_offsets K))))
+    subst (All (λ x. 0 < length x)) (sym (map-id (present (directory_uses K (set_offsets K) (uses_offsets (ref_list_section K))))))
+    (present_some (directory_uses K (set_offsets K) (uses_offsets (ref_list_section K)))
+    (zip_with_all IsSomeBytes (λ d p. directory_bytes K.pools d p.0 p.1) (λ d p. directory_some K.pools d p.0 p.1) K.classes (zip (set_offsets K) (by_class K (uses_offsets (ref_list_section K))))))
 
 -- a section's items have bytes
 abbrev pub HasBytes : Placed → Type 0
@@ -118,6 +104,7 @@ HasBytes p = All (λ x. 0 < length x) p.items
 
 -- the items of all sections have bytes
 pub sections_have_bytes : (K : Ordered) → All HasBytes (data_sections K)
+unfolding type_list_section annotation_section array_section string_section debug_section code_section class_data_section set_section ref_list_section
 sections_have_bytes K = All-from_recursion HasBytes (data_sections K) (
   map_some (type_list_bytes K.pools) (λ ts. append_some (uint (length ts)) _ (uint_some (length ts))) (type_list_items K).written,
   (
@@ -129,9 +116,9 @@ sections_have_bytes K = All-from_recursion HasBytes (data_sections K) (
         (
           map_some (debug_bytes K.pools) (debug_some K.pools) (debug_items K).written,
           (
-            map_some (λ (p : Code × ℕ). code_bytes K.pools p.1 p.0) (λ p. code_some K.pools p.1 p.0) (own_items (code_uses K (debug_offsets K))).written,
+            map_some (λ (p : Code × ℕ). code_bytes K.pools p.1 p.0) (λ p. code_some K.pools p.1 p.0) (own_items (code_uses K (uses_offsets (debug_section K)))).written,
             (
-              map_some (λ (p : Definition × List ℕ). class_data_bytes K.pools p.0 p.1) (λ p. class_data_some K.pools p.0 p.1) (own_items (class_data_uses K (code_offsets K))).written,
+              map_some (λ (p : Definition × List ℕ). class_data_bytes K.pools p.0 p.1) (λ p. class_data_some K.pools p.0 p.1) (own_items (class_data_uses K (uses_offsets (code_section K)))).written,
               (
                 map_some offsets_bytes (λ offs. append_some (uint (length offs)) _ (uint_some (length offs))) (annotation_offsets K),
                 (
@@ -152,6 +139,7 @@ sections_have_bytes K = All-from_recursion HasBytes (data_sections K) (
 
 -- the sections are aligned to 4 bytes or not at all
 pub sections_aligned : (K : Ordered) → All (λ p. IsAlign p.align) (data_sections K)
+unfolding type_list_section annotation_section array_section string_section debug_section code_section class_data_section set_section ref_list_section directory_section
 sections_aligned K = All-from_recursion (λ p. IsAlign p.align) (data_sections K)
     (inl refl, (inr refl, (inr refl, (inr refl, (inr refl, (inl refl, (inr refl, (inl refl, (inl refl, (inl refl, tt))))))))))
 
@@ -163,16 +151,20 @@ length-own_numbers n [] = refl
 length-own_numbers n (None ∷ uses) = ap suc (length-own_numbers n uses)
 length-own_numbers n (Some x ∷ uses) = ap suc (length-own_numbers (n + 1) uses)
 
+-- the offset of the item of each number, or 0 if there is none
+abbrev pub numbers_offsets : List (Option ℕ) → List ℕ → List ℕ
+numbers_offsets numbers offs = map (λ n. option_map_or (slice_index offs) n 0) numbers
+
 -- an offset for each use
-pub length-uses_offsets : {X : Type 0} (uses : List (Option X)) (offs : List ℕ) → length (uses_offsets (own_items uses).numbers offs) ≡ length uses
+pub length-uses_offsets : {X : Type 0} (uses : List (Option X)) (offs : List ℕ) → length (numbers_offsets (own_items uses).numbers offs) ≡ length uses
 length-uses_offsets uses offs = length-map (own_numbers 0 uses) _ ∙ length-own_numbers 0 uses
 
 -- the same for shared items
-pub length-shared_offsets : {X : Type 0} (same : X → X → Bool) (uses : List (Option X)) (offs : List ℕ) → length (uses_offsets (shared_items same uses).numbers offs) ≡ length uses
+pub length-shared_offsets : {X : Type 0} (same : X → X → Bool) (uses : List (Option X)) (offs : List ℕ) → length (numbers_offsets (shared_items same uses).numbers offs) ≡ length uses
 length-shared_offsets same uses offs = length-map (shared_items same uses).numbers _ ∙ length-map uses _
 
 -- the same for both kinds of sharing
-pub length-items_offsets : {X : Type 0} (how : Sharing) (same : X → X → Bool) (uses : List (Option X)) (offs : List ℕ) → length (uses_offsets (items_by how same uses).numbers offs) ≡ length uses
+pub length-items_offsets : {X : Type 0} (how : Sharing) (same : X → X → Bool) (uses : List (Option X)) (offs : List ℕ) → length (numbers_offsets (items_by how same uses).numbers offs) ≡ length uses
 length-items_offsets EqualOnce same uses offs = length-shared_offsets same uses offs
 length-items_offsets EachForItself same uses offs = length-uses_offsets uses offs
 
@@ -200,21 +192,21 @@ pub length-by_class : {X : Type 0} (K : Ordered) (xs : List X) → length (by_cl
 length-by_class K xs = length-chunks (map _ K.classes) xs ∙ length-map K.classes _
 
 -- for each proto and each class
-pub length-type_list_offsets : (K : Ordered) → length (type_list_offsets K) ≡ length K.pools.protos + length K.classes
-unfolding type_list_offsets
+pub length-type_list_offsets : (K : Ordered) → length (uses_offsets (type_list_section K)) ≡ length K.pools.protos + length K.classes
+unfolding type_list_section
 length-type_list_offsets K =
     length-items_offsets K.sharing same_types (type_list_uses K) _ ∙ length-append (map _ K.pools.protos) (map _ K.classes)
     ∙ omega (arith, length-map K.pools.protos (λ p. unless_empty p.parameters), length-map K.classes (λ d. unless_empty d.1.interfaces))
 
 -- an offset of static values for each class
-pub length-array_offsets : (K : Ordered) → length (array_offsets K) ≡ length K.classes
-unfolding array_offsets
+pub length-array_offsets : (K : Ordered) → length (uses_offsets (array_section K)) ≡ length K.classes
+unfolding array_section
 length-array_offsets K = length-uses_offsets (static_values_uses K) _ ∙ length-map K.classes _
 
 -- an offset of class data for each class
-pub length-class_data_offsets : (K : Ordered) → length (class_data_offsets K) ≡ length K.classes
-unfolding class_data_offsets
-length-class_data_offsets K = length-uses_offsets (class_data_uses K (code_offsets K)) _ ∙ length-zip_with _ K.classes (by_class K (code_offsets K)) (length K.classes) refl (length-by_class K (code_offsets K))
+pub length-class_data_offsets : (K : Ordered) → length (uses_offsets (class_data_section K)) ≡ length K.classes
+unfolding class_data_section
+length-class_data_offsets K = length-uses_offsets (class_data_uses K (uses_offsets (code_section K))) _ ∙ length-zip_with _ K.classes (by_class K (uses_offsets (code_section K))) (length K.classes) refl (length-by_class K (uses_offsets (code_section K)))
 
 -- offsets of sets for each class
 pub length-set_offsets : (K : Ordered) → length (set_offsets K) ≡ length K.classes
@@ -222,28 +214,23 @@ unfolding set_offsets
 length-set_offsets K = length-zip_with _ K.classes _ (length K.classes) refl (length-chunks (map _ K.classes) _ ∙ length-map K.classes _)
 
 -- an offset of a directory for each class
-pub length-directory_offsets : (K : Ordered) → length (directory_offsets K) ≡ length K.classes
-unfolding directory_offsets
+pub length-directory_offsets : (K : Ordered) → length (uses_offsets (directory_section K)) ≡ length K.classes
+unfolding directory_section
 length-directory_offsets K =
-    length-uses_offsets (directory_uses K (set_offsets K) (ref_list_offsets K)) _
-    ∙ length-zip_with _ K.classes (zip (set_offsets K) (by_class K (ref_list_offsets K))) (length K.classes) refl
-    (length-zip (set_offsets K) (by_class K (ref_list_offsets K)) (length K.classes) (length-set_offsets K) (length-by_class K (ref_list_offsets K)))
+    length-uses_offsets (directory_uses K (set_offsets K) (uses_offsets (ref_list_section K))) _
+    ∙ length-zip_with _ K.classes (zip (set_offsets K) (by_class K (uses_offsets (ref_list_section K)))) (length K.classes) refl
+    (length-zip (set_offsets K) (by_class K (uses_offsets (ref_list_section K))) (length K.classes) (length-set_offsets K) (length-by_class K (uses_offsets (ref_list_section K))))
 
--- the rows' offsets: one for each row
-pub record AreFull (K : Ordered) (l : Layout) : Type 0 where
-  pub strings : length l.strings ≡ length K.pools.texts
-  pub parameters : length l.parameters ≡ length K.pools.protos
-  pub classes : length l.classes ≡ length K.classes
+-- an offset for each text
+pub length-string_offsets : (K : Ordered) → length (offsets (string_section K)) ≡ length K.pools.texts
+unfolding string_section
+length-string_offsets K = length-offsets_from 1 (end (array_section K)) (map string_data K.pools.texts) ∙ length-map K.pools.texts string_data
 
--- the layout has these offsets
-pub named_layout_full : (K : Ordered) → AreFull K (named_layout K)
-named_layout_full K =
+-- offsets for each class row
+pub length-class_offsets : (K : Ordered) → length (class_offsets K) ≡ length K.classes
+length-class_offsets K =
     let n = length K.pools.protos in
-    let interfaces : length (drop n (type_list_offsets K)) ≡ length K.classes = length-drop n (type_list_offsets K) ∙ omega (arith, length-type_list_offsets K) in
-    record {
-      strings = length-offsets_from 1 (array_end K) (map string_data K.pools.texts) ∙ length-map K.pools.texts string_data;
-      parameters = length-take n (type_list_offsets K) ∙ omega (arith, length-type_list_offsets K);
-      classes = length-zip_with _ (zip (drop n (type_list_offsets K)) (directory_offsets K)) (zip (class_data_offsets K) (array_offsets K)) (length K.classes)
-          (length-zip (drop n (type_list_offsets K)) (directory_offsets K) (length K.classes) interfaces (length-directory_offsets K))
-          (length-zip (class_data_offsets K) (array_offsets K) (length K.classes) (length-class_data_offsets K) (length-array_offsets K));
-    }
+    let interfaces : length (drop n (uses_offsets (type_list_section K))) ≡ length K.classes = length-drop n (uses_offsets (type_list_section K)) ∙ omega (arith, length-type_list_offsets K) in
+    length-zip_with _ (zip (drop n (uses_offsets (type_list_section K))) (uses_offsets (directory_section K))) (zip (uses_offsets (class_data_section K)) (uses_offsets (array_section K))) (length K.classes)
+    (length-zip (drop n (uses_offsets (type_list_section K))) (uses_offsets (directory_section K)) (length K.classes) interfaces (length-directory_offsets K))
+    (length-zip (uses_offsets (class_data_section K)) (uses_offsets (array_section K)) (length K.classes) (length-class_data_offsets K) (length-array_offsets K))

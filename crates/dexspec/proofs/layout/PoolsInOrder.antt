@@ -127,7 +127,7 @@ module _ {K : Ordered} {b : List ℕ} (h : Laid K b) (few : AreFew K) (p : ArePo
       let ts = K.pools.types in
       let t = get_or ts i [] in
       record {
-        type = t;
+        item = t;
         is = subst (λ n. TypeRow b n t) (rank-get_or text_cmp text_total ts i [] p.types_rise lt) (type_row h few p t (Contains-get_or ts i [] lt));
         follows = λ j e.
             let less : j < i = omega (arith, e) in
@@ -155,7 +155,7 @@ module _ {K : Ordered} {b : List ℕ} (h : Laid K b) (few : AreFew K) (p : ArePo
       let c = Contains-get_or qs i d lt in
       let f = type_index K.pools in
       record {
-        proto = q;
+        item = q;
         is = subst (λ n. ProtoRow b n q) (rank-get_or proto_cmp proto_total qs i d p.protos_rise lt) (proto_row h few p q c);
         follows = λ j e.
             let less : j < i = omega (arith, e) in
@@ -178,7 +178,7 @@ module _ {K : Ordered} {b : List ℕ} (h : Laid K b) (few : AreFew K) (p : ArePo
       let c = Contains-get_or fs i d lt in
       let k = field_read h few i d lt in
       record {
-        field = g;
+        item = g;
         is = subst (λ n. FieldRow b n g) (rank-get_or field_cmp field_total fs i d p.fields_rise lt) (field_row h few p g c);
         follows = λ j e.
             let less : j < i = omega (arith, e) in
@@ -204,7 +204,7 @@ module _ {K : Ordered} {b : List ℕ} (h : Laid K b) (few : AreFew K) (p : ArePo
       let c = Contains-get_or xs i d lt in
       let k = method_read h few i d lt in
       record {
-        method = y;
+        item = y;
         is = subst (λ n. MethodRow b n y) (rank-get_or method_cmp method_total xs i d p.methods_rise lt) (method_row h few p y c);
         follows = λ j e.
             let less : j < i = omega (arith, e) in

@@ -15,8 +15,8 @@ use Rattle.dexspec.specs.Sections.{IsInData}
 use Rattle.dexspec.specs.Rows.{row_at, type_indices}
 use Rattle.dexspec.specs.Classes.{Definition, class_idx, access_flags, superclass_idx, interfaces_off, source_file_idx, annotations_off, class_data_off, static_values_off, no_index}
 use Rattle.dexspec.specs.Spellings.{text_index, type_index, proto_index, encoded_array_bytes, class_data_bytes, type_list_bytes}
-use Rattle.dexspec.specs.Placing.{unless_empty, values_unless_empty, offsets, Ordered, by_class, directory_bytes}
-use Rattle.dexspec.specs.Canonical.{table_count, string_section, type_list_offsets, code_offsets, ref_list_offsets}
+use Rattle.dexspec.specs.Placing.{unless_empty, values_unless_empty, offsets, Ordered, by_class, directory_bytes, uses_offsets}
+use Rattle.dexspec.specs.Canonical.{table_count, string_section, type_list_section, code_section, ref_list_section}
 use Rattle.dexspec.proofs.written.PlacedBytes.{is_at, length_rows}
 use Rattle.dexspec.proofs.numbers.ByteNumbers.{length-uint, length-ushort, ushort_at-encodes, uint_at-encodes}
 use Rattle.dexspec.proofs.layout.Tables.{is_at_here, is_at_end, is_at_next}
@@ -76,8 +76,8 @@ pub record ClassRead (K : Ordered) (b : List ℕ) (r : ℕ) (d : Definition) : T
   pub superclass_is : superclass_idx b r ≡ option_map_or (type_index K.pools) d.1.superclass no_index
   pub source_is : source_file_idx b r ≡ option_map_or (text_index K.pools) d.1.source no_index
   pub interfaces_are : UseIsAt b 4 (type_list_bytes K.pools) (unless_empty d.1.interfaces) (interfaces_off b r)
-  pub directory_is : UseIsAt b 4 (λ (x : List ℕ). x) (directory_bytes K.pools d (class_set_offsets K r) (get_or (by_class K (ref_list_offsets K)) r [])) (annotations_off b r)
-  pub class_data_is : UseIsAt b 1 (λ (p : Definition × List ℕ). class_data_bytes K.pools p.0 p.1) (class_data_of d (get_or (by_class K (code_offsets K)) r [])) (class_data_off b r)
+  pub directory_is : UseIsAt b 4 (λ (x : List ℕ). x) (directory_bytes K.pools d (class_set_offsets K r) (get_or (by_class K (uses_offsets (ref_list_section K))) r [])) (annotations_off b r)
+  pub class_data_is : UseIsAt b 1 (λ (p : Definition × List ℕ). class_data_bytes K.pools p.0 p.1) (class_data_of d (get_or (by_class K (uses_offsets (code_section K))) r [])) (class_data_off b r)
   pub static_values_are : UseIsAt b 1 (encoded_array_bytes K.pools) (values_unless_empty d.1.static_values) (static_values_off b r)
 
 module _ {K : Ordered} {b : List ℕ} (h : Laid K b) where
@@ -102,12 +102,14 @@ module _ {K : Ordered} {b : List ℕ} (h : Laid K b) where
 
   -- the offset in a string's row
   pub text_off : (i : ℕ) → i < length K.pools.texts → uint_at b (row_at b StringIds i) ≡ slice_index (offsets (string_section K)) i
+  unfolding string_section
   text_off i lt =
       let item = h.strings i [] (omega (arith, lt, length-map K.pools.texts string_data)) in
       uint_at-encodes (omega (arith, item.in_data.within, h.small)) (h.string_row i lt)
 
   -- its string_data_item
   pub text_encoded : (i : ℕ) (d : Text) → i < length K.pools.texts → ItemIsAt b 1 (uint_at b (row_at b StringIds i)) (string_data (get_or K.pools.texts i d))
+  unfolding string_section
   text_encoded i d lt =
       let item = h.strings i [] (omega (arith, lt, length-map K.pools.texts string_data)) in
       subst (λ o. ItemIsAt b 1 o (string_data (get_or K.pools.texts i d))) (sym (text_off i lt))
@@ -124,7 +126,7 @@ module _ {K : Ordered} {b : List ℕ} (h : Laid K b) where
   proto_read i d lt =
       let p = get_or K.pools.protos i d in
       let o = row_at b ProtoIds i in
-      let off = slice_index (type_list_offsets K) i in
+      let off = slice_index (uses_offsets (type_list_section K)) i in
       let n0 = text_index K.pools (shorty p.return_type p.parameters) in
       let n1 = type_index K.pools p.return_type in
       let s0 = h.proto_row i d lt in
@@ -149,29 +151,29 @@ module _ {K : Ordered} {b : List ℕ} (h : Laid K b) where
       let n1 = c.1.flags in
       let n2 = option_map_or (type_index K.pools) c.1.superclass no_index in
       let n4 = option_map_or (text_index K.pools) c.1.source no_index in
-      let r7 = uint offs.static_values in
-      let r6 = uint offs.class_data ++ r7 in
-      let r5 = uint offs.annotations ++ r6 in
+      let r7 = uint offs.3 in
+      let r6 = uint offs.2 ++ r7 in
+      let r5 = uint offs.1 ++ r6 in
       let r4 = uint n4 ++ r5 in
-      let r3 = uint offs.interfaces ++ r4 in
+      let r3 = uint offs.0 ++ r4 in
       let r2 = uint n2 ++ r3 in
       let r1 = uint n1 ++ r2 in
       let s0 : BytesAt b o (uint n0 ++ r1) = h.class_row r d lt in
       let s1 : BytesAt b (o + 4) r1 = is_at_next n0 r1 s0 in
       let s2 : BytesAt b (o + 8) r2 = is_at (omega arith) (is_at_next n1 r2 s1) in
       let s3 : BytesAt b (o + 12) r3 = is_at (omega arith) (is_at_next n2 r3 s2) in
-      let s4 : BytesAt b (o + 16) r4 = is_at (omega arith) (is_at_next offs.interfaces r4 s3) in
+      let s4 : BytesAt b (o + 16) r4 = is_at (omega arith) (is_at_next offs.0 r4 s3) in
       let s5 : BytesAt b (o + 20) r5 = is_at (omega arith) (is_at_next n4 r5 s4) in
-      let s6 : BytesAt b (o + 24) r6 = is_at (omega arith) (is_at_next offs.annotations r6 s5) in
-      let s7 : BytesAt b (o + 28) r7 = is_at (omega arith) (is_at_next offs.class_data r7 s6) in
+      let s6 : BytesAt b (o + 24) r6 = is_at (omega arith) (is_at_next offs.1 r6 s5) in
+      let s7 : BytesAt b (o + 28) r7 = is_at (omega arith) (is_at_next offs.2 r7 s6) in
       let g1 = type_list_bytes K.pools in
       let u1 = unless_empty c.1.interfaces in
       let list = interfaces_encoded h r d lt in
       let g2 : List ℕ → List ℕ = λ x. x in
-      let u2 = directory_bytes K.pools c (class_set_offsets K r) (get_or (by_class K (ref_list_offsets K)) r []) in
+      let u2 = directory_bytes K.pools c (class_set_offsets K r) (get_or (by_class K (uses_offsets (ref_list_section K))) r []) in
       let directory = directory_encoded h r d lt in
       let g3 : Definition × List ℕ → List ℕ = λ p. class_data_bytes K.pools p.0 p.1 in
-      let u3 = class_data_of c (get_or (by_class K (code_offsets K)) r []) in
+      let u3 = class_data_of c (get_or (by_class K (uses_offsets (code_section K))) r []) in
       let data_item = class_data_encoded h r d lt in
       let g4 = encoded_array_bytes K.pools in
       let u4 = values_unless_empty c.1.static_values in
@@ -181,10 +183,10 @@ module _ {K : Ordered} {b : List ℕ} (h : Laid K b) where
         flags_are = λ small. uint_at-encodes small (is_at_here (uint n1) r2 s1);
         superclass_is = uint_at-encodes (optional_small (type_index K.pools) type_index_few c.1.superclass) (is_at_here (uint n2) r3 s2);
         source_is = uint_at-encodes (optional_small (text_index K.pools) text_index_few c.1.source) (is_at_here (uint n4) r5 s4);
-        interfaces_are = subst (λ o. UseIsAt b 4 g1 u1 o) (sym (uint_at-encodes (use_small b 4 g1 u1 offs.interfaces h.small list) (is_at_here (uint offs.interfaces) r4 s3))) list;
-        directory_is = subst (λ o. UseIsAt b 4 g2 u2 o) (sym (uint_at-encodes (use_small b 4 g2 u2 offs.annotations h.small directory) (is_at_here (uint offs.annotations) r6 s5))) directory;
-        class_data_is = subst (λ o. UseIsAt b 1 g3 u3 o) (sym (uint_at-encodes (use_small b 1 g3 u3 offs.class_data h.small data_item) (is_at_here (uint offs.class_data) r7 s6))) data_item;
-        static_values_are = subst (λ o. UseIsAt b 1 g4 u4 o) (sym (uint_at-encodes (use_small b 1 g4 u4 offs.static_values h.small values) s7)) values;
+        interfaces_are = subst (λ o. UseIsAt b 4 g1 u1 o) (sym (uint_at-encodes (use_small b 4 g1 u1 offs.0 h.small list) (is_at_here (uint offs.0) r4 s3))) list;
+        directory_is = subst (λ o. UseIsAt b 4 g2 u2 o) (sym (uint_at-encodes (use_small b 4 g2 u2 offs.1 h.small directory) (is_at_here (uint offs.1) r6 s5))) directory;
+        class_data_is = subst (λ o. UseIsAt b 1 g3 u3 o) (sym (uint_at-encodes (use_small b 1 g3 u3 offs.2 h.small data_item) (is_at_here (uint offs.2) r7 s6))) data_item;
+        static_values_are = subst (λ o. UseIsAt b 1 g4 u4 o) (sym (uint_at-encodes (use_small b 1 g4 u4 offs.3 h.small values) s7)) values;
       }
 
   -- ---- rows with indices of two bytes

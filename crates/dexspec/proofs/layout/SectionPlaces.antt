@@ -3,7 +3,7 @@
 use Rattle.std.proofs.Common.{◌≡◌, ◌≢◌, ℕ, zero, suc, ◌+◌, ◌-◌, ◌*◌, ◌%◌, ◌^◌, ◌<◌, ◌≤◌, List, [], ◌∷◌, ◌++◌, length, get_or, drop, refl, sym, ap, subst, ◌∙◌, arith}
 use Rattle.std.specs.Prelude.{slice_index, ◌==◌, Bool, true, false, if◌then◌else◌}
 use Rattle.std.specs.List.{flat_map, zip}
-use Rattle.std.proofs.lemmas.List.{length-append, length-drop, get_or-take, get_or-drop}
+use Rattle.std.proofs.lemmas.List.{length-append, length-drop, get_or-drop}
 use Rattle.std.proofs.lemmas.Bool.{cond-false, ne_eqb}
 use Rattle.dexspec.specs.Lists.{zip_with}
 use Rattle.dexspec.specs.Bytes.{uint, BytesAt, round_up, padding}
@@ -14,27 +14,27 @@ use Rattle.dexspec.specs.Header.{Table, StringIds, TypeIds, ProtoIds, FieldIds, 
 use Rattle.dexspec.specs.Sections.{Section, IsInData}
 use Rattle.dexspec.specs.Rows.{row_at}
 use Rattle.dexspec.specs.Spellings.{text_index}
-use Rattle.dexspec.specs.Placing.{Ordered, Placed, offsets, section_bytes}
-use Rattle.dexspec.specs.Canonical.{table_count, data_start, proto_row_bytes, field_row_bytes, method_row_bytes, ClassOffsets, class_row_bytes, Layout, layout, table_bytes, header_bytes, map_of, map_bytes, unsigned_file, with_sums, type_list_section, annotation_section, array_section, debug_section, code_section, class_data_section, set_section, ref_list_section, directory_section, data_sections, directory_end, type_list_offsets, directory_offsets, class_data_offsets, array_offsets, string_section}
+use Rattle.dexspec.specs.Placing.{Ordered, Placed, offsets, section_bytes, end, uses_offsets}
+use Rattle.dexspec.specs.Canonical.{table_count, data_start, proto_row_bytes, field_row_bytes, method_row_bytes, class_offsets, class_row_bytes, table_bytes, header_bytes, map_of, map_bytes, unsigned_file, with_sums, type_list_section, annotation_section, array_section, debug_section, code_section, class_data_section, set_section, ref_list_section, directory_section, data_sections, string_section}
 use Rattle.dexspec.proofs.written.PlacedBytes.{is_at_in, is_at, is_at_row, is_at_whole}
 use Rattle.dexspec.proofs.numbers.ByteNumbers.{length-uint, uint_at-encodes}
 use Rattle.dexspec.proofs.layout.Sums.{with_sums_is_at, length-with_sums}
 use Rattle.dexspec.proofs.layout.Places.{last_end, length-padding, items_are_at, items_within, length-sections, sections_are_at, sections_between}
-use Rattle.dexspec.proofs.layout.Placements.{length-zip, named_layout, layout_is, named_layout_full, sections_follow, sections_aligned, length-type_list_offsets, length-directory_offsets, length-class_data_offsets, length-array_offsets}
+use Rattle.dexspec.proofs.layout.Placements.{length-zip, sections_follow, sections_aligned, length-string_offsets, length-class_offsets, length-type_list_offsets, length-directory_offsets, length-class_data_offsets, length-array_offsets}
 use Rattle.dexspec.proofs.layout.Tables.{is_at_next, is_at_here, is_at_end, is_at_zip_row, length-proto_row, length-field_row, length-method_row, length-class_row, rows_bytes, table_start, table_place, table_is_at, length-table_bytes, HeaderIsAt, header_is_at, length-header_bytes}
 
 -- ---- the parts of the file
 
 -- the offset of the map
 unfoldable pub map_place : Ordered → ℕ
-map_place K = round_up 4 (layout K).data_end
+map_place K = round_up 4 (end (directory_section K))
 
 -- the entries of the map
 unfoldable pub map_list : Ordered → List (Section × ℕ × ℕ)
-map_list K = map_of K (layout K) (map_place K)
+map_list K = map_of K (map_place K)
 
--- it is the map of the layout
-pub map_list_named : (K : Ordered) → map_list K ≡ map_of K (layout K) (map_place K)
+-- it is the map of the sections
+pub map_list_named : (K : Ordered) → map_list K ≡ map_of K (map_place K)
 unfolding map_list
 map_list_named K = refl
 
@@ -45,7 +45,7 @@ file_length K = map_place K + length (map_bytes (map_list K))
 -- the parts of the file, each at its offset
 pub record Parts (b : List ℕ) (K : Ordered) : Type 0 where
   pub header : BytesAt b 32 (header_bytes K (map_place K) (file_length K))
-  pub tables : BytesAt b header_length (table_bytes K (named_layout K))
+  pub tables : BytesAt b header_length (table_bytes K)
   pub sections : BytesAt b (data_start K) (flat_map section_bytes (data_sections K))
   pub entries : BytesAt b (map_place K) (map_bytes (map_list K))
   pub size : length b ≡ file_length K
@@ -78,22 +78,22 @@ five_parts h t s p m from to at eh et es ep =
     }
 
 -- the file consists of its parts
-unsigned_is : (K : Ordered) → unsigned_file K ≡ header_bytes K (map_place K) (file_length K) ++ (table_bytes K (named_layout K) ++ (flat_map section_bytes (data_sections K) ++ (padding 4 (directory_end K) ++ map_bytes (map_list K))))
+unsigned_is : (K : Ordered) → unsigned_file K ≡ header_bytes K (map_place K) (file_length K) ++ (table_bytes K ++ (flat_map section_bytes (data_sections K) ++ (padding 4 (end (directory_section K)) ++ map_bytes (map_list K))))
 unfolding unsigned_file map_place map_list
-unsigned_is K = ap (λ (l : Layout). header_bytes K (map_place K) (file_length K) ++ (table_bytes K l ++ (flat_map section_bytes l.sections ++ (padding 4 l.data_end ++ map_bytes (map_list K))))) (layout_is K)
+unsigned_is K = refl
 
 -- the map is after the sections
-pub map_place_is : (K : Ordered) → map_place K ≡ round_up 4 (directory_end K)
+pub map_place_is : (K : Ordered) → map_place K ≡ round_up 4 (end (directory_section K))
 unfolding map_place
-map_place_is K = ap (λ (l : Layout). round_up 4 l.data_end) (layout_is K)
+map_place_is K = refl
 
 -- each of them is at its offset
 pub parts : (K : Ordered) → Parts (with_sums (unsigned_file K)) K
 parts K =
-    let h = five_parts (header_bytes K (map_place K) (file_length K)) (table_bytes K (named_layout K)) (flat_map section_bytes (data_sections K)) (padding 4 (directory_end K)) (map_bytes (map_list K))
-    (data_start K) (directory_end K) (map_place K)
-    (length-header_bytes K (map_place K) (file_length K)) (length-table_bytes K (named_layout K) (named_layout_full K))
-    (length-sections (data_start K) (data_sections K) (directory_end K) (sections_follow K)) (length-padding 4 (directory_end K) ∙ sym (map_place_is K)) in
+    let h = five_parts (header_bytes K (map_place K) (file_length K)) (table_bytes K) (flat_map section_bytes (data_sections K)) (padding 4 (end (directory_section K))) (map_bytes (map_list K))
+    (data_start K) (end (directory_section K)) (map_place K)
+    (length-header_bytes K (map_place K) (file_length K)) (length-table_bytes K)
+    (length-sections (data_start K) (data_sections K) (end (directory_section K)) (sections_follow K)) (length-padding 4 (end (directory_section K)) ∙ sym (map_place_is K)) in
     subst (λ rest. Parts (with_sums rest) K) (sym (unsigned_is K)) (record { header = h.one; tables = h.two; sections = h.three; entries = h.five; size = h.size })
 
 -- ---- what is read from the file
@@ -110,13 +110,13 @@ abbrev pub SectionIsAt : List ℕ → Placed → Type 0
 SectionIsAt b p = (i : ℕ) (d : List ℕ) → i < length p.items → ItemIsAt b p.align (slice_index (offsets p) i) (get_or p.items i d)
 
 -- the offsets in a class's row
-abbrev pub class_places : Ordered → ℕ → ClassOffsets
-class_places K r = record {
-  interfaces = slice_index (type_list_offsets K) (length K.pools.protos + r);
-  annotations = slice_index (directory_offsets K) r;
-  class_data = slice_index (class_data_offsets K) r;
-  static_values = slice_index (array_offsets K) r;
-}
+abbrev pub class_places : Ordered → ℕ → ℕ × ℕ × ℕ × ℕ
+class_places K r = (
+  slice_index (uses_offsets (type_list_section K)) (length K.pools.protos + r),
+  slice_index (uses_offsets (directory_section K)) r,
+  slice_index (uses_offsets (class_data_section K)) r,
+  slice_index (uses_offsets (array_section K)) r,
+)
 
 -- The contents of b, the file of K: the header's fields as they are read, each row, each item of each section, and the
 -- map.
@@ -136,7 +136,7 @@ pub record Laid (K : Ordered) (b : List ℕ) : Type 0 where
   pub data_to : data_off b + data_size b ≡ length b
   pub string_row : (i : ℕ) → i < length K.pools.texts → BytesAt b (row_at b StringIds i) (uint (slice_index (offsets (string_section K)) i))
   pub type_row : (i : ℕ) (d : Text) → i < length K.pools.types → BytesAt b (row_at b TypeIds i) (uint (text_index K.pools (get_or K.pools.types i d)))
-  pub proto_row : (i : ℕ) (d : Proto) → i < length K.pools.protos → BytesAt b (row_at b ProtoIds i) (proto_row_bytes K.pools (get_or K.pools.protos i d) (slice_index (type_list_offsets K) i))
+  pub proto_row : (i : ℕ) (d : Proto) → i < length K.pools.protos → BytesAt b (row_at b ProtoIds i) (proto_row_bytes K.pools (get_or K.pools.protos i d) (slice_index (uses_offsets (type_list_section K)) i))
   pub field_row : (i : ℕ) (d : Field) → i < length K.pools.fields → BytesAt b (row_at b FieldIds i) (field_row_bytes K.pools (get_or K.pools.fields i d))
   pub method_row : (i : ℕ) (d : Method) → i < length K.pools.methods → BytesAt b (row_at b MethodIds i) (method_row_bytes K.pools (get_or K.pools.methods i d))
   pub class_row : (r : ℕ) (d : Definition) → r < length K.classes → BytesAt b (row_at b ClassDefs r) (class_row_bytes K.pools (get_or K.classes r d) (class_places K r))
@@ -167,26 +167,29 @@ get_or-zip (x ∷ xs) [] i d e lt le = absurd (omega arith)
 get_or-zip (x ∷ xs) (y ∷ ys) zero d e lt le = refl
 get_or-zip (x ∷ xs) (y ∷ ys) (suc i) d e lt le = get_or-zip xs ys i d e (omega arith) (omega arith)
 
--- the offsets of a class in the layout
-pub class_at : (K : Ordered) (r : ℕ) → r < length K.classes → get_or (named_layout K).classes r (class_places K r) ≡ class_places K r
-class_at K r lt =
+-- the offsets of a class
+pub class_at : (K : Ordered) (r : ℕ) (e : ℕ × ℕ × ℕ × ℕ) → r < length K.classes → get_or (class_offsets K) r e ≡ class_places K r
+class_at K r e lt =
     let n = length K.pools.protos in
-    let is = drop n (type_list_offsets K) in
-    let bs = directory_offsets K in
-    let cs = class_data_offsets K in
-    let ds = array_offsets K in
-    let ea : length is ≡ length K.classes = length-drop n (type_list_offsets K) ∙ omega (arith, length-type_list_offsets K) in
-    let la : r < length is = omega (arith, ea) in
-    let lb : r < length bs = omega (arith, length-directory_offsets K) in
-    let lc : r < length cs = omega (arith, length-class_data_offsets K) in
-    let ld : r < length ds = omega (arith, length-array_offsets K) in
-    let lab : r < length (zip is bs) = omega (arith, length-zip is bs (length K.classes) ea (length-directory_offsets K)) in
-    let lcd : r < length (zip cs ds) = omega (arith, length-zip cs ds (length K.classes) (length-class_data_offsets K) (length-array_offsets K)) in
-    let f : ℕ × ℕ → ℕ × ℕ → ClassOffsets = λ p q. record { interfaces = p.0; annotations = p.1; class_data = q.0; static_values = q.1 } in
-    get_or-zip_with f (zip is bs) (zip cs ds) r (0, 0) (0, 0) (class_places K r) lab lcd
+    let lists = uses_offsets (type_list_section K) in
+    let is = drop n lists in
+    let bs = uses_offsets (directory_section K) in
+    let cs = uses_offsets (class_data_section K) in
+    let ds = uses_offsets (array_section K) in
+    let ea : length is ≡ length K.classes = length-drop n lists ∙ omega (arith, length-type_list_offsets K) in
+    let eab : length (zip is bs) ≡ length K.classes = length-zip is bs (length K.classes) ea (length-directory_offsets K) in
+    let ecd : length (zip cs ds) ≡ length K.classes = length-zip cs ds (length K.classes) (length-class_data_offsets K) (length-array_offsets K) in
+    let la : r < length is = omega (arith, lt, ea) in
+    let lb : r < length bs = omega (arith, lt, length-directory_offsets K) in
+    let lc : r < length cs = omega (arith, lt, length-class_data_offsets K) in
+    let ld : r < length ds = omega (arith, lt, length-array_offsets K) in
+    let lab : r < length (zip is bs) = omega (arith, lt, eab) in
+    let lcd : r < length (zip cs ds) = omega (arith, lt, ecd) in
+    let f : ℕ × ℕ → ℕ × ℕ → ℕ × ℕ × ℕ × ℕ = λ p q. (p.0, p.1, q.0, q.1) in
+    get_or-zip_with f (zip is bs) (zip cs ds) r (0, 0) (0, 0) e lab lcd
     ∙ ap (λ p. f p (get_or (zip cs ds) r (0, 0))) (get_or-zip is bs r 0 0 la lb)
     ∙ ap (f (get_or is r 0, get_or bs r 0)) (get_or-zip cs ds r 0 0 lc ld)
-    ∙ ap (λ n. f (n, get_or bs r 0) (get_or cs r 0, get_or ds r 0)) (get_or-drop n (type_list_offsets K) r 0)
+    ∙ ap (λ o. f (o, get_or bs r 0) (get_or cs r 0, get_or ds r 0)) (get_or-drop n lists r 0)
 
 -- a table ends before the data
 table_within : (K : Ordered) (t : Table) → table_start K t + row_size t * table_count K t ≤ data_start K
@@ -216,12 +219,12 @@ not_zero : (c n : ℕ) → 0 < c → (if c == 0 then 0 else n) ≡ n
 not_zero c n lt = cond-false (c == 0) 0 n (ne_eqb c 0 (λ e. omega (arith, e)))
 
 -- the sections end before the map
-sections_before_map : (K : Ordered) → directory_end K ≤ map_place K
-sections_before_map K = omega (arith, length-padding 4 (directory_end K), map_place_is K)
+sections_before_map : (K : Ordered) → end (directory_section K) ≤ map_place K
+sections_before_map K = omega (arith, length-padding 4 (end (directory_section K)), map_place_is K)
 
 -- the data begins before the map
 pub data_before_map : (K : Ordered) → data_start K ≤ map_place K
-data_before_map K = omega (arith, sections_before_map K, last_end (data_start K) (data_sections K) (directory_end K) (sections_follow K))
+data_before_map K = omega (arith, sections_before_map K, last_end (data_start K) (data_sections K) (end (directory_section K)) (sections_follow K))
 
 module _ (K : Ordered) (b : List ℕ) (p : Parts b K) (small : length b < 2 ^ 32) where
   -- the data begins before the end of the file
@@ -254,19 +257,19 @@ module _ (K : Ordered) (b : List ℕ) (p : Parts b K) (small : length b < 2 ^ 32
   begins_at t lt = place_is t ∙ not_zero (table_count K t) (table_start K t) lt
 
   -- the rows of a table
-  rows : (t : Table) → BytesAt b (table_start K t) (rows_bytes K (named_layout K) t)
-  rows = table_is_at K (named_layout K) (named_layout_full K) p.tables
+  rows : (t : Table) → BytesAt b (table_start K t) (rows_bytes K t)
+  rows = table_is_at K p.tables
 
   -- a row of it
-  row : {x : List ℕ} (t : Table) (i : ℕ) → i < table_count K t → BytesAt (rows_bytes K (named_layout K) t) (row_size t * i) x → BytesAt b (row_at b t i) x
+  row : {x : List ℕ} (t : Table) (i : ℕ) → i < table_count K t → BytesAt (rows_bytes K t) (row_size t * i) x → BytesAt b (row_at b t i) x
   row t i lt h = is_at (ap (λ n. n + row_size t * i) (sym (begins_at t (omega arith)))) (is_at_in (rows t) h)
 
   -- a section's items
   section : (j : ℕ) (d : Placed) → j < length (data_sections K) → SectionIsAt b (get_or (data_sections K) j d)
   section j d lt i e le =
       let q = get_or (data_sections K) j d in
-      let at : BytesAt b q.from (section_bytes q) = sections_are_at (data_start K) (data_sections K) (directory_end K) j d (sections_follow K) p.sections lt in
-      let between = sections_between (data_start K) (data_sections K) (directory_end K) j d (sections_follow K) lt in
+      let at : BytesAt b q.from (section_bytes q) = sections_are_at (data_start K) (data_sections K) (end (directory_section K)) j d (sections_follow K) p.sections lt in
+      let between = sections_between (data_start K) (data_sections K) (end (directory_section K)) j d (sections_follow K) lt in
       let within = items_within q.align q.from q.items i e (sections_aligned K j d lt) le in
       record {
         encodes = items_are_at q.align q.from q.items i e at le;
@@ -291,16 +294,15 @@ module _ (K : Ordered) (b : List ℕ) (p : Parts b K) (small : length b < 2 ^ 32
     begins = begins_at;
     data_from = data_from_is;
     data_to = omega (arith, data_from_is, data_bytes_is, starts, p.size);
-    string_row = λ i lt. row StringIds i lt (is_at_row uint 4 length-uint (offsets (string_section K)) i 0 (omega (arith, lt, (named_layout_full K).strings)));
+    string_row = λ i lt. row StringIds i lt (is_at_row uint 4 length-uint (offsets (string_section K)) i 0 (omega (arith, lt, length-string_offsets K)));
     type_row = λ i d lt. row TypeIds i lt (is_at_row (λ t. uint (text_index K.pools t)) 4 (λ t. length-uint (text_index K.pools t)) K.pools.types i d lt);
-    proto_row = λ i d lt.
-        subst (λ n. BytesAt b (row_at b ProtoIds i) (proto_row_bytes K.pools (get_or K.pools.protos i d) n)) (get_or-take (length K.pools.protos) (type_list_offsets K) i 0 lt)
-        (row ProtoIds i lt (is_at_zip_row (proto_row_bytes K.pools) 12 (length-proto_row K.pools) K.pools.protos (named_layout K).parameters i d 0 lt (named_layout_full K).parameters));
+    proto_row = λ i d lt. row ProtoIds i lt
+        (is_at_zip_row (proto_row_bytes K.pools) 12 (length-proto_row K.pools) K.pools.protos (uses_offsets (type_list_section K)) i d 0 lt (omega (arith, length-type_list_offsets K)));
     field_row = λ i d lt. row FieldIds i lt (is_at_row (field_row_bytes K.pools) 8 (length-field_row K.pools) K.pools.fields i d lt);
     method_row = λ i d lt. row MethodIds i lt (is_at_row (method_row_bytes K.pools) 8 (length-method_row K.pools) K.pools.methods i d lt);
     class_row = λ r d lt.
-        subst (λ offs. BytesAt b (row_at b ClassDefs r) (class_row_bytes K.pools (get_or K.classes r d) offs)) (class_at K r lt)
-        (row ClassDefs r lt (is_at_zip_row (class_row_bytes K.pools) 32 (length-class_row K.pools) K.classes (named_layout K).classes r d (class_places K r) lt (named_layout_full K).classes));
+        subst (λ offs. BytesAt b (row_at b ClassDefs r) (class_row_bytes K.pools (get_or K.classes r d) offs)) (class_at K r (class_places K r) lt)
+        (row ClassDefs r lt (is_at_zip_row (class_row_bytes K.pools) 32 (length-class_row K.pools) K.classes (class_offsets K) r d (class_places K r) lt (omega (arith, length-class_offsets K))));
     type_lists = section 0 (type_list_section K) (omega arith);
     annotations = section 1 (type_list_section K) (omega arith);
     arrays = section 2 (type_list_section K) (omega arith);

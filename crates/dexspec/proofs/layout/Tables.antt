@@ -1,5 +1,5 @@
 -- The header and the rows of the tables: their contents by offset.
-use Rattle.std.proofs.Common.{◌≡◌, ℕ, zero, suc, ◌+◌, ◌-◌, ◌*◌, ◌<◌, List, [], ◌∷◌, ◌++◌, length, get_or, ap, ◌∙◌, arith}
+use Rattle.std.proofs.Common.{◌≡◌, ℕ, zero, suc, ◌+◌, ◌-◌, ◌*◌, ◌<◌, ◌≤◌, List, [], ◌∷◌, ◌++◌, length, get_or, ap, ◌∙◌, arith}
 use Rattle.std.specs.Prelude.{◌==◌, if◌then◌else◌}
 use Rattle.std.specs.List.{flat_map, concat}
 use Rattle.std.proofs.lemmas.List.{length-append}
@@ -10,11 +10,11 @@ use Rattle.dexspec.specs.Classes.{Definition}
 use Rattle.dexspec.specs.Header.{Table, StringIds, TypeIds, ProtoIds, FieldIds, MethodIds, ClassDefs, header_length, size_place, row_size}
 use Rattle.dexspec.specs.Mentions.{Mentions}
 use Rattle.dexspec.specs.Spellings.{text_index}
-use Rattle.dexspec.specs.Placing.{Ordered}
-use Rattle.dexspec.specs.Canonical.{table_count, placed_tables, data_start, proto_row_bytes, field_row_bytes, method_row_bytes, ClassOffsets, class_row_bytes, Layout, table_bytes, header_bytes}
+use Rattle.dexspec.specs.Placing.{Ordered, offsets, uses_offsets}
+use Rattle.dexspec.specs.Canonical.{table_count, placed_tables, data_start, proto_row_bytes, field_row_bytes, method_row_bytes, class_offsets, class_row_bytes, string_section, type_list_section, table_bytes, header_bytes}
 use Rattle.dexspec.proofs.written.PlacedBytes.{is_at_first, is_at_whole, is_at_later, is_at_in, is_at, is_at_row, length_rows}
 use Rattle.dexspec.proofs.numbers.ByteNumbers.{length-uint, length-ushort}
-use Rattle.dexspec.proofs.layout.Placements.{AreFull}
+use Rattle.dexspec.proofs.layout.Placements.{length-string_offsets, length-type_list_offsets, length-class_offsets}
 
 -- ---- in sequence
 
@@ -32,8 +32,8 @@ is_at_next n r h = is_at_end (uint n) r 4 (length-uint n) h
 
 -- ---- rows of two lists
 
--- the bytes of rows of one size
-pub length_zip_rows : {X Y : Type 0} (f : X → Y → List ℕ) (w : ℕ) → ((x : X) (y : Y) → length (f x y) ≡ w) → (xs : List X) (ys : List Y) → length ys ≡ length xs
+-- the bytes of rows of one size, the second list at least as long as the first
+pub length_zip_rows : {X Y : Type 0} (f : X → Y → List ℕ) (w : ℕ) → ((x : X) (y : Y) → length (f x y) ≡ w) → (xs : List X) (ys : List Y) → length xs ≤ length ys
     → length (concat (zip_with f xs ys)) ≡ w * length xs
 length_zip_rows f w each [] ys e = omega arith
 length_zip_rows f w each (x ∷ xs) [] e = absurd (omega (arith, e))
@@ -41,7 +41,7 @@ length_zip_rows f w each (x ∷ xs) (y ∷ ys) e =
     length-append (f x y) (concat (zip_with f xs ys)) ∙ omega (arith, each x y, length_zip_rows f w each xs ys (omega (arith, e)))
 
 -- the i-th row
-pub is_at_zip_row : {X Y : Type 0} (f : X → Y → List ℕ) (w : ℕ) → ((x : X) (y : Y) → length (f x y) ≡ w) → (xs : List X) (ys : List Y) (i : ℕ) (d : X) (e : Y) → i < length xs → length ys ≡ length xs
+pub is_at_zip_row : {X Y : Type 0} (f : X → Y → List ℕ) (w : ℕ) → ((x : X) (y : Y) → length (f x y) ≡ w) → (xs : List X) (ys : List Y) (i : ℕ) (d : X) (e : Y) → i < length xs → length xs ≤ length ys
     → BytesAt (concat (zip_with f xs ys)) (w * i) (f (get_or xs i d) (get_or ys i e))
 is_at_zip_row f w each [] ys i d e lt same = absurd (omega arith)
 is_at_zip_row f w each (x ∷ xs) [] i d e lt same = absurd (omega (arith, same))
@@ -64,28 +64,28 @@ pub length-method_row : (m : Mentions) (x : Method) → length (method_row_bytes
 length-method_row m x = omega (arith, length-append {A = ℕ}, length-uint, length-ushort)
 
 -- a class_def_item
-pub length-class_row : (m : Mentions) (d : Definition) (offs : ClassOffsets) → length (class_row_bytes m d offs) ≡ 32
+pub length-class_row : (m : Mentions) (d : Definition) (offs : ℕ × ℕ × ℕ × ℕ) → length (class_row_bytes m d offs) ≡ 32
 length-class_row m d offs = omega (arith, length-append {A = ℕ}, length-uint)
 
 -- ---- the tables
 
 -- the bytes of a table's rows
-abbrev pub rows_bytes : Ordered → Layout → Table → List ℕ
-rows_bytes K l StringIds = flat_map uint l.strings
-rows_bytes K l TypeIds = flat_map (λ t. uint (text_index K.pools t)) K.pools.types
-rows_bytes K l ProtoIds = concat (zip_with (proto_row_bytes K.pools) K.pools.protos l.parameters)
-rows_bytes K l FieldIds = flat_map (field_row_bytes K.pools) K.pools.fields
-rows_bytes K l MethodIds = flat_map (method_row_bytes K.pools) K.pools.methods
-rows_bytes K l ClassDefs = concat (zip_with (class_row_bytes K.pools) K.classes l.classes)
+abbrev pub rows_bytes : Ordered → Table → List ℕ
+rows_bytes K StringIds = flat_map uint (offsets (string_section K))
+rows_bytes K TypeIds = flat_map (λ t. uint (text_index K.pools t)) K.pools.types
+rows_bytes K ProtoIds = concat (zip_with (proto_row_bytes K.pools) K.pools.protos (uses_offsets (type_list_section K)))
+rows_bytes K FieldIds = flat_map (field_row_bytes K.pools) K.pools.fields
+rows_bytes K MethodIds = flat_map (method_row_bytes K.pools) K.pools.methods
+rows_bytes K ClassDefs = concat (zip_with (class_row_bytes K.pools) K.classes (class_offsets K))
 
 -- rows of one size
-pub length_rows_bytes : (K : Ordered) (l : Layout) → AreFull K l → (t : Table) → length (rows_bytes K l t) ≡ row_size t * table_count K t
-length_rows_bytes K l full StringIds = length_rows uint 4 length-uint l.strings ∙ ap (λ n. 4 * n) full.strings
-length_rows_bytes K l full TypeIds = length_rows (λ t. uint (text_index K.pools t)) 4 (λ t. length-uint (text_index K.pools t)) K.pools.types
-length_rows_bytes K l full ProtoIds = length_zip_rows (proto_row_bytes K.pools) 12 (length-proto_row K.pools) K.pools.protos l.parameters full.parameters
-length_rows_bytes K l full FieldIds = length_rows (field_row_bytes K.pools) 8 (length-field_row K.pools) K.pools.fields
-length_rows_bytes K l full MethodIds = length_rows (method_row_bytes K.pools) 8 (length-method_row K.pools) K.pools.methods
-length_rows_bytes K l full ClassDefs = length_zip_rows (class_row_bytes K.pools) 32 (length-class_row K.pools) K.classes l.classes full.classes
+pub length_rows_bytes : (K : Ordered) (t : Table) → length (rows_bytes K t) ≡ row_size t * table_count K t
+length_rows_bytes K StringIds = length_rows uint 4 length-uint (offsets (string_section K)) ∙ ap (λ n. 4 * n) (length-string_offsets K)
+length_rows_bytes K TypeIds = length_rows (λ t. uint (text_index K.pools t)) 4 (λ t. length-uint (text_index K.pools t)) K.pools.types
+length_rows_bytes K ProtoIds = length_zip_rows (proto_row_bytes K.pools) 12 (length-proto_row K.pools) K.pools.protos (uses_offsets (type_list_section K)) (omega (arith, length-type_list_offsets K))
+length_rows_bytes K FieldIds = length_rows (field_row_bytes K.pools) 8 (length-field_row K.pools) K.pools.fields
+length_rows_bytes K MethodIds = length_rows (method_row_bytes K.pools) 8 (length-method_row K.pools) K.pools.methods
+length_rows_bytes K ClassDefs = length_zip_rows (class_row_bytes K.pools) 32 (length-class_row K.pools) K.classes (class_offsets K) (omega (arith, length-class_offsets K))
 
 -- the offset of the rows of a table that has rows
 abbrev pub table_start : Ordered → Table → ℕ
@@ -97,14 +97,14 @@ table_start K MethodIds = header_length + row_size StringIds * table_count K Str
 table_start K ClassDefs = header_length + row_size StringIds * table_count K StringIds + row_size TypeIds * table_count K TypeIds + row_size ProtoIds * table_count K ProtoIds + row_size FieldIds * table_count K FieldIds + row_size MethodIds * table_count K MethodIds
 
 -- the rows of each table are at this offset
-pub table_is_at : {b : List ℕ} (K : Ordered) (l : Layout) → AreFull K l → BytesAt b header_length (table_bytes K l) → (t : Table) → BytesAt b (table_start K t) (rows_bytes K l t)
-table_is_at {b} K l full h = at
+pub table_is_at : {b : List ℕ} (K : Ordered) → BytesAt b header_length (table_bytes K) → (t : Table) → BytesAt b (table_start K t) (rows_bytes K t)
+table_is_at {b} K h = at
   where
     r : Table → List ℕ
-    r = rows_bytes K l
+    r = rows_bytes K
 
-    n : (t : Table) → length (rows_bytes K l t) ≡ row_size t * table_count K t
-    n = length_rows_bytes K l full
+    n : (t : Table) → length (rows_bytes K t) ≡ row_size t * table_count K t
+    n = length_rows_bytes K
 
     h1 : BytesAt b (table_start K TypeIds) (r TypeIds ++ (r ProtoIds ++ (r FieldIds ++ (r MethodIds ++ r ClassDefs))))
     h1 = is_at_end (r StringIds) (r TypeIds ++ (r ProtoIds ++ (r FieldIds ++ (r MethodIds ++ r ClassDefs)))) (row_size StringIds * table_count K StringIds) (n StringIds) h
@@ -118,7 +118,7 @@ table_is_at {b} K l full h = at
     h4 : BytesAt b (table_start K MethodIds) (r MethodIds ++ r ClassDefs)
     h4 = is_at_end (r FieldIds) (r MethodIds ++ r ClassDefs) (row_size FieldIds * table_count K FieldIds) (n FieldIds) h3
 
-    at : (t : Table) → BytesAt b (table_start K t) (rows_bytes K l t)
+    at : (t : Table) → BytesAt b (table_start K t) (rows_bytes K t)
     at StringIds = is_at_here (r StringIds) (r TypeIds ++ (r ProtoIds ++ (r FieldIds ++ (r MethodIds ++ r ClassDefs)))) h
     at TypeIds = is_at_here (r TypeIds) (r ProtoIds ++ (r FieldIds ++ (r MethodIds ++ r ClassDefs))) h1
     at ProtoIds = is_at_here (r ProtoIds) (r FieldIds ++ (r MethodIds ++ r ClassDefs)) h2
@@ -127,9 +127,9 @@ table_is_at {b} K l full h = at
     at ClassDefs = is_at_end (r MethodIds) (r ClassDefs) (row_size MethodIds * table_count K MethodIds) (n MethodIds) h4
 
 -- all rows are the bytes from the header to the data
-pub length-table_bytes : (K : Ordered) (l : Layout) → AreFull K l → header_length + length (table_bytes K l) ≡ data_start K
-length-table_bytes K l full =
-    let n = length_rows_bytes K l full in
+pub length-table_bytes : (K : Ordered) → header_length + length (table_bytes K) ≡ data_start K
+length-table_bytes K =
+    let n = length_rows_bytes K in
     omega (arith, length-append {A = ℕ}, n StringIds, n TypeIds, n ProtoIds, n FieldIds, n MethodIds, n ClassDefs)
 
 -- ---- the header

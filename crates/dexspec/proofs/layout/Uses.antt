@@ -5,9 +5,9 @@ use Rattle.std.proofs.Common.{◌≡◌, ℕ, zero, suc, ◌+◌, ◌<◌, ◌�
 use Rattle.std.specs.Prelude.{slice_index, Option, Some, None, Bool, if◌then◌else◌}
 use Rattle.std.specs.Option.{option_map, option_map_or}
 use Rattle.std.specs.List.{flat_map, zip, Contains, position_or_len}
-use Rattle.std.proofs.lemmas.List.{length-take, length-drop, length-append, length-map, get_or-map, get_or-take, get_or-drop, get_or_append_left, get_or-append-add, drop-drop, map-id, take_all}
+use Rattle.std.proofs.lemmas.List.{length-take, length-drop, length-append, length-map, get_or-map, get_or-take, get_or-drop, get_or_append_left, get_or-append-add, drop-drop, take_all}
 use Rattle.std.proofs.lemmas.List.Concat.{get_or-flat_map}
-use Rattle.dexspec.specs.Canonical.{type_list_items, type_list_section, annotation_section, annotation_offsets, array_section, debug_items, debug_section, debug_offsets, code_section, code_offsets, class_data_section, set_items, set_section, set_offsets, ref_list_section, ref_list_offsets, directory_section, directory_offsets, type_list_offsets, class_data_offsets, array_offsets}
+use Rattle.dexspec.specs.Canonical.{type_list_items, type_list_section, annotation_section, annotation_offsets, array_section, debug_items, debug_section, code_section, class_data_section, set_items, set_section, set_offsets, ref_list_section, directory_section}
 use Rattle.dexspec.specs.Lists.{chunks, zip_with, present, distinct}
 use Rattle.dexspec.specs.Symbols.{Proto}
 use Rattle.dexspec.specs.Code.{Code}
@@ -20,7 +20,7 @@ use Rattle.dexspec.specs.Spellings.{code_bytes, debug_bytes, encoded_array_bytes
 use Rattle.dexspec.specs.Placing.{unless_empty, values_unless_empty, own_numbers, own_items, Items, shared_items, Sharing, EqualOnce, EachForItself, items_by, Placed, offsets, uses_offsets, Ordered, all_methods, by_class, is_empty_class, method_sets, class_sets, SetOffsets, set_offsets_of, type_list_uses, set_uses, debug_uses, code_uses, static_values_uses, class_data_uses, ref_list_uses, directory_uses, directory_bytes}
 use Rattle.std.proofs.lemmas.List.Folds.{length-flat_map-take}
 use Rattle.dexspec.proofs.layout.Places.{length-offsets_from}
-use Rattle.dexspec.proofs.layout.Placements.{length-own_numbers, length-uses_offsets, length-items_offsets, length-chunks, length-by_class, length-zip, length-zip_with, length-set_offsets}
+use Rattle.dexspec.proofs.layout.Placements.{numbers_offsets, length-own_numbers, length-uses_offsets, length-items_offsets, length-chunks, length-by_class, length-zip, length-zip_with, length-set_offsets}
 use Rattle.dexspec.proofs.lists.Distinct.{distinct_has}
 use Rattle.dexspec.proofs.lists.Equality.{IsEquality}
 use Rattle.dexspec.proofs.sharing.Sharing.{present_has, position_is}
@@ -101,7 +101,7 @@ UseIsAt b align g None o = o ≡ 0
 UseIsAt b align g (Some x) o = ItemIsAt b align o (g x)
 
 -- the offset of a number
-pub number_offset : (its : List (Option ℕ)) (offs : List ℕ) (k : ℕ) → k < length its → slice_index (uses_offsets its offs) k ≡ option_map_or (slice_index offs) (get_or its k None) 0
+pub number_offset : (its : List (Option ℕ)) (offs : List ℕ) (k : ℕ) → k < length its → slice_index (numbers_offsets its offs) k ≡ option_map_or (slice_index offs) (get_or its k None) 0
 number_offset its offs k lt = get_or-map (λ n. option_map_or (slice_index offs) n 0) its k None 0 lt
 
 -- case split on the use and its number
@@ -116,7 +116,7 @@ use_by {b = b} p g xs is s (Some x) n h =
 
 -- each use's item is at its offset
 pub use_encoded : {X : Type 0} {b : List ℕ} (p : Placed) (g : X → List ℕ) (its : Items X) (uses : List (Option X)) → AreNumbered uses its → p.items ≡ map g its.written → SectionIsAt b p
-    → (k : ℕ) → k < length uses → UseIsAt b p.align g (get_or uses k None) (slice_index (uses_offsets its.numbers (offsets p)) k)
+    → (k : ℕ) → k < length uses → UseIsAt b p.align g (get_or uses k None) (slice_index (numbers_offsets its.numbers (offsets p)) k)
 use_encoded {b = b} p g its uses are is s k lt =
     subst (λ o. UseIsAt b p.align g (get_or uses k None) o) (sym (number_offset its.numbers (offsets p) k (omega (arith, are.count, lt))))
     (use_by p g its.written is s (get_or uses k None) (get_or its.numbers k None) (are.each k lt))
@@ -167,15 +167,15 @@ pub by_class_at : {X : Type 0} (K : Ordered) (xs : List X) (r : ℕ) (d : Defini
 by_class_at K xs r d j e lt less = chunk_item (λ (d : Definition). declared_methods d.1) K.classes xs r d j e lt less
 
 -- a debug program's offset for each method
-pub length-debug_offsets : (K : Ordered) → length (debug_offsets K) ≡ length (all_methods K.classes)
-unfolding debug_offsets
+pub length-debug_offsets : (K : Ordered) → length (uses_offsets (debug_section K)) ≡ length (all_methods K.classes)
+unfolding debug_section
 length-debug_offsets K = length-items_offsets K.sharing same_debug (debug_uses K) (offsets (debug_section K)) ∙ length-map (all_methods K.classes) _
 
 -- an offset of code for each method
-pub length-code_offsets : (K : Ordered) → length (code_offsets K) ≡ length (all_methods K.classes)
-unfolding code_offsets
+pub length-code_offsets : (K : Ordered) → length (uses_offsets (code_section K)) ≡ length (all_methods K.classes)
+unfolding code_section
 length-code_offsets K =
-    length-uses_offsets (code_uses K (debug_offsets K)) (offsets (code_section K)) ∙ length-zip_with _ (all_methods K.classes) (debug_offsets K) (length (all_methods K.classes)) refl (length-debug_offsets K)
+    length-uses_offsets (code_uses K (uses_offsets (debug_section K))) (offsets (code_section K)) ∙ length-zip_with _ (all_methods K.classes) (uses_offsets (debug_section K)) (length (all_methods K.classes)) refl (length-debug_offsets K)
 
 -- ---- the uses of a file with this layout
 
@@ -193,85 +193,85 @@ class_data_of d offs = if is_empty_class d.1 then None else Some (d, offs)
 
 module _ {K : Ordered} {b : List ℕ} (h : Laid K b) where
   -- each type list
-  type_list_use : (k : ℕ) → k < length (type_list_uses K) → UseIsAt b 4 (type_list_bytes K.pools) (get_or (type_list_uses K) k None) (slice_index (type_list_offsets K) k)
-  unfolding type_list_offsets
+  type_list_use : (k : ℕ) → k < length (type_list_uses K) → UseIsAt b 4 (type_list_bytes K.pools) (get_or (type_list_uses K) k None) (slice_index (uses_offsets (type_list_section K)) k)
+  unfolding type_list_section
   type_list_use k lt = use_encoded (type_list_section K) (type_list_bytes K.pools) (type_list_items K) (type_list_uses K) (items_numbered K.sharing same_types types_decide (type_list_uses K)) refl h.type_lists k lt
 
   -- the parameters of a proto
-  pub parameters_encoded : (i : ℕ) (d : Proto) → i < length K.pools.protos → UseIsAt b 4 (type_list_bytes K.pools) (unless_empty (get_or K.pools.protos i d).parameters) (slice_index (type_list_offsets K) i)
+  pub parameters_encoded : (i : ℕ) (d : Proto) → i < length K.pools.protos → UseIsAt b 4 (type_list_bytes K.pools) (unless_empty (get_or K.pools.protos i d).parameters) (slice_index (uses_offsets (type_list_section K)) i)
   parameters_encoded i d lt =
       let f = λ (p : Proto). unless_empty p.parameters in
       let g = λ (d : Definition). unless_empty d.1.interfaces in
       let len : length (map f K.pools.protos) ≡ length K.pools.protos = length-map K.pools.protos f in
-      subst (λ u. UseIsAt b 4 (type_list_bytes K.pools) u (slice_index (type_list_offsets K) i))
+      subst (λ u. UseIsAt b 4 (type_list_bytes K.pools) u (slice_index (uses_offsets (type_list_section K)) i))
       (get_or_append_left (map f K.pools.protos) (map g K.classes) None i (omega (arith, len)) ∙ get_or-map f K.pools.protos i d None lt)
       (type_list_use i (omega (arith, len, length-append (map f K.pools.protos) (map g K.classes))))
 
   -- the interfaces of a class
   pub interfaces_encoded : (r : ℕ) (d : Definition) → r < length K.classes
-      → UseIsAt b 4 (type_list_bytes K.pools) (unless_empty (get_or K.classes r d).1.interfaces) (slice_index (type_list_offsets K) (length K.pools.protos + r))
+      → UseIsAt b 4 (type_list_bytes K.pools) (unless_empty (get_or K.classes r d).1.interfaces) (slice_index (uses_offsets (type_list_section K)) (length K.pools.protos + r))
   interfaces_encoded r d lt =
       let f = λ (p : Proto). unless_empty p.parameters in
       let g = λ (d : Definition). unless_empty d.1.interfaces in
       let len : length (map f K.pools.protos) ≡ length K.pools.protos = length-map K.pools.protos f in
       let len2 : length (map g K.classes) ≡ length K.classes = length-map K.classes g in
-      subst (λ u. UseIsAt b 4 (type_list_bytes K.pools) u (slice_index (type_list_offsets K) (length K.pools.protos + r)))
+      subst (λ u. UseIsAt b 4 (type_list_bytes K.pools) u (slice_index (uses_offsets (type_list_section K)) (length K.pools.protos + r)))
       (ap (λ n. get_or (map f K.pools.protos ++ map g K.classes) (n + r) None) (sym len) ∙ get_or-append-add (map f K.pools.protos) (map g K.classes) r None ∙ get_or-map g K.classes r d None lt)
       (type_list_use (length K.pools.protos + r) (omega (arith, len, len2, length-append (map f K.pools.protos) (map g K.classes))))
 
   -- the static values of a class
-  pub static_values_encoded : (r : ℕ) (d : Definition) → r < length K.classes → UseIsAt b 1 (encoded_array_bytes K.pools) (values_unless_empty (get_or K.classes r d).1.static_values) (slice_index (array_offsets K) r)
-  unfolding array_offsets
+  pub static_values_encoded : (r : ℕ) (d : Definition) → r < length K.classes → UseIsAt b 1 (encoded_array_bytes K.pools) (values_unless_empty (get_or K.classes r d).1.static_values) (slice_index (uses_offsets (array_section K)) r)
+  unfolding array_section
   static_values_encoded r d lt =
       let f = λ (d : Definition). values_unless_empty d.1.static_values in
-      subst (λ u. UseIsAt b 1 (encoded_array_bytes K.pools) u (slice_index (array_offsets K) r)) (get_or-map f K.classes r d None lt)
+      subst (λ u. UseIsAt b 1 (encoded_array_bytes K.pools) u (slice_index (uses_offsets (array_section K)) r)) (get_or-map f K.classes r d None lt)
       (use_encoded (array_section K) (encoded_array_bytes K.pools) (own_items (static_values_uses K)) (static_values_uses K) (own_numbered (static_values_uses K)) refl h.arrays r (omega (arith, lt, length-map K.classes f)))
 
   -- the debug program of a method
-  debug_use : (k : ℕ) (x : MethodDef) → k < length (all_methods K.classes) → UseIsAt b 1 (debug_bytes K.pools) (debug_of (get_or (all_methods K.classes) k x)) (slice_index (debug_offsets K) k)
-  unfolding debug_offsets
+  debug_use : (k : ℕ) (x : MethodDef) → k < length (all_methods K.classes) → UseIsAt b 1 (debug_bytes K.pools) (debug_of (get_or (all_methods K.classes) k x)) (slice_index (uses_offsets (debug_section K)) k)
+  unfolding debug_section
   debug_use k x lt =
-      subst (λ u. UseIsAt b 1 (debug_bytes K.pools) u (slice_index (debug_offsets K) k)) (get_or-map debug_of (all_methods K.classes) k x None lt)
+      subst (λ u. UseIsAt b 1 (debug_bytes K.pools) u (slice_index (uses_offsets (debug_section K)) k)) (get_or-map debug_of (all_methods K.classes) k x None lt)
       (use_encoded (debug_section K) (debug_bytes K.pools) (debug_items K) (debug_uses K) (items_numbered K.sharing same_debug debug_decides (debug_uses K)) refl h.debugs k (omega (arith, lt, length-map (all_methods K.classes) debug_of)))
 
   -- the code of a method
   code_use : (k : ℕ) (x : MethodDef) → k < length (all_methods K.classes)
-      → UseIsAt b 4 (λ (p : Code × ℕ). code_bytes K.pools p.1 p.0) (code_of_method (slice_index (debug_offsets K) k) (get_or (all_methods K.classes) k x)) (slice_index (code_offsets K) k)
-  unfolding code_offsets
+      → UseIsAt b 4 (λ (p : Code × ℕ). code_bytes K.pools p.1 p.0) (code_of_method (slice_index (uses_offsets (debug_section K)) k) (get_or (all_methods K.classes) k x)) (slice_index (uses_offsets (code_section K)) k)
+  unfolding code_section
   code_use k x lt =
       let f : MethodDef → ℕ → Option (Code × ℕ) = λ x o. code_of_method o x in
       let g : Code × ℕ → List ℕ = λ p. code_bytes K.pools p.1 p.0 in
-      let len : length (code_uses K (debug_offsets K)) ≡ length (all_methods K.classes) = length-zip_with f (all_methods K.classes) (debug_offsets K) (length (all_methods K.classes)) refl (length-debug_offsets K) in
-      subst (λ u. UseIsAt b 4 g u (slice_index (code_offsets K) k)) (get_or-zip_with f (all_methods K.classes) (debug_offsets K) k x 0 None lt (omega (arith, lt, length-debug_offsets K)))
-      (use_encoded (code_section K) g (own_items (code_uses K (debug_offsets K))) (code_uses K (debug_offsets K)) (own_numbered (code_uses K (debug_offsets K))) refl h.codes k (omega (arith, lt, len)))
+      let len : length (code_uses K (uses_offsets (debug_section K))) ≡ length (all_methods K.classes) = length-zip_with f (all_methods K.classes) (uses_offsets (debug_section K)) (length (all_methods K.classes)) refl (length-debug_offsets K) in
+      subst (λ u. UseIsAt b 4 g u (slice_index (uses_offsets (code_section K)) k)) (get_or-zip_with f (all_methods K.classes) (uses_offsets (debug_section K)) k x 0 None lt (omega (arith, lt, length-debug_offsets K)))
+      (use_encoded (code_section K) g (own_items (code_uses K (uses_offsets (debug_section K)))) (code_uses K (uses_offsets (debug_section K))) (own_numbered (code_uses K (uses_offsets (debug_section K)))) refl h.codes k (omega (arith, lt, len)))
 
   -- the debug program of the j-th method of class r
   pub debug_encoded : (r : ℕ) (d : Definition) (j : ℕ) (x : MethodDef) → r < length K.classes → j < length (declared_methods (get_or K.classes r d).1)
-      → UseIsAt b 1 (debug_bytes K.pools) (debug_of (get_or (declared_methods (get_or K.classes r d).1) j x)) (slice_index (debug_offsets K) (method_place K r j))
+      → UseIsAt b 1 (debug_bytes K.pools) (debug_of (get_or (declared_methods (get_or K.classes r d).1) j x)) (slice_index (uses_offsets (debug_section K)) (method_place K r j))
   debug_encoded r d j x lt less =
-      subst (λ y. UseIsAt b 1 (debug_bytes K.pools) (debug_of y) (slice_index (debug_offsets K) (method_place K r j))) (method_at K r d j x lt less)
+      subst (λ y. UseIsAt b 1 (debug_bytes K.pools) (debug_of y) (slice_index (uses_offsets (debug_section K)) (method_place K r j))) (method_at K r d j x lt less)
       (debug_use (method_place K r j) x (method_within K r d j lt less))
 
   -- its code, at the offset that the class's data has for it
   pub code_encoded : (r : ℕ) (d : Definition) (j : ℕ) (x : MethodDef) → r < length K.classes → j < length (declared_methods (get_or K.classes r d).1)
-      → UseIsAt b 4 (λ (p : Code × ℕ). code_bytes K.pools p.1 p.0) (code_of_method (slice_index (debug_offsets K) (method_place K r j)) (get_or (declared_methods (get_or K.classes r d).1) j x))
-      (slice_index (get_or (by_class K (code_offsets K)) r []) j)
+      → UseIsAt b 4 (λ (p : Code × ℕ). code_bytes K.pools p.1 p.0) (code_of_method (slice_index (uses_offsets (debug_section K)) (method_place K r j)) (get_or (declared_methods (get_or K.classes r d).1) j x))
+      (slice_index (get_or (by_class K (uses_offsets (code_section K))) r []) j)
   code_encoded r d j x lt less =
       let g : Code × ℕ → List ℕ = λ p. code_bytes K.pools p.1 p.0 in
-      subst (λ o. UseIsAt b 4 g (code_of_method (slice_index (debug_offsets K) (method_place K r j)) (get_or (declared_methods (get_or K.classes r d).1) j x)) o) (sym (by_class_at K (code_offsets K) r d j 0 lt less))
-      (subst (λ y. UseIsAt b 4 g (code_of_method (slice_index (debug_offsets K) (method_place K r j)) y) (slice_index (code_offsets K) (method_place K r j))) (method_at K r d j x lt less)
+      subst (λ o. UseIsAt b 4 g (code_of_method (slice_index (uses_offsets (debug_section K)) (method_place K r j)) (get_or (declared_methods (get_or K.classes r d).1) j x)) o) (sym (by_class_at K (uses_offsets (code_section K)) r d j 0 lt less))
+      (subst (λ y. UseIsAt b 4 g (code_of_method (slice_index (uses_offsets (debug_section K)) (method_place K r j)) y) (slice_index (uses_offsets (code_section K)) (method_place K r j))) (method_at K r d j x lt less)
       (code_use (method_place K r j) x (method_within K r d j lt less)))
 
   -- the class data of a class
   pub class_data_encoded : (r : ℕ) (d : Definition) → r < length K.classes
-      → UseIsAt b 1 (λ (p : Definition × List ℕ). class_data_bytes K.pools p.0 p.1) (class_data_of (get_or K.classes r d) (get_or (by_class K (code_offsets K)) r [])) (slice_index (class_data_offsets K) r)
-  unfolding class_data_offsets
+      → UseIsAt b 1 (λ (p : Definition × List ℕ). class_data_bytes K.pools p.0 p.1) (class_data_of (get_or K.classes r d) (get_or (by_class K (uses_offsets (code_section K))) r [])) (slice_index (uses_offsets (class_data_section K)) r)
+  unfolding class_data_section
   class_data_encoded r d lt =
       let g : Definition × List ℕ → List ℕ = λ p. class_data_bytes K.pools p.0 p.1 in
-      let uses = class_data_uses K (code_offsets K) in
-      let len : length uses ≡ length K.classes = length-zip_with class_data_of K.classes (by_class K (code_offsets K)) (length K.classes) refl (length-by_class K (code_offsets K)) in
-      subst (λ u. UseIsAt b 1 g u (slice_index (class_data_offsets K) r))
-      (get_or-zip_with class_data_of K.classes (by_class K (code_offsets K)) r d [] None lt (omega (arith, lt, length-by_class K (code_offsets K))))
+      let uses = class_data_uses K (uses_offsets (code_section K)) in
+      let len : length uses ≡ length K.classes = length-zip_with class_data_of K.classes (by_class K (uses_offsets (code_section K))) (length K.classes) refl (length-by_class K (uses_offsets (code_section K))) in
+      subst (λ u. UseIsAt b 1 g u (slice_index (uses_offsets (class_data_section K)) r))
+      (get_or-zip_with class_data_of K.classes (by_class K (uses_offsets (code_section K))) r d [] None lt (omega (arith, lt, length-by_class K (uses_offsets (code_section K)))))
       (use_encoded (class_data_section K) g (own_items uses) uses (own_numbered uses) refl h.class_data r (omega (arith, lt, len)))
 
 -- ---- annotation sets
@@ -290,7 +290,7 @@ SetIsAt b m (a ∷ x) o = SetItems b m o (a ∷ x)
 
 -- the offset of each set, of all classes
 abbrev pub set_use_offsets : Ordered → List ℕ
-set_use_offsets K = uses_offsets (set_items K).numbers (offsets (set_section K))
+set_use_offsets K = uses_offsets (set_section K)
 
 -- no class
 abbrev pub no_set_offsets : SetOffsets
@@ -315,7 +315,7 @@ class_set_offsets_is K r d lt =
 module _ {K : Ordered} {b : List ℕ} (h : Laid K b) where
   -- the i-th set of the section
   set_written : (i : ℕ) (x : AnnotationSet) → i < length (set_items K).written → get_or (set_items K).written i x ≡ x → SetItems b K.pools (slice_index (offsets (set_section K)) i) x
-  unfolding annotation_offsets
+  unfolding annotation_offsets annotation_section set_section
   set_written i x lt is =
       let xs = (set_items K).written in
       let f : AnnotationSet → List Annotation = λ set. set in
@@ -349,6 +349,7 @@ module _ {K : Ordered} {b : List ℕ} (h : Laid K b) where
 
   -- each set of all classes
   set_use : (k : ℕ) → k < length (flat_map class_sets K.classes) → SetIsAt b K.pools (get_or (flat_map class_sets K.classes) k []) (slice_index (set_use_offsets K) k)
+  unfolding set_section
   set_use k lt =
       let are = items_numbered K.sharing same_set set_decides (set_uses K) in
       let sets = flat_map class_sets K.classes in
@@ -442,8 +443,8 @@ ref_place K r =
 module _ {K : Ordered} {b : List ℕ} (h : Laid K b) where
   -- the ref list of the j-th method of class r
   pub ref_list_encoded : (r : ℕ) (d : Definition) (j : ℕ) → r < length K.classes → j < length (declared_methods (get_or K.classes r d).1)
-      → UseIsAt b 4 offsets_bytes (unless_empty (drop 1 (get_or (class_set_offsets K r).methods j []))) (slice_index (get_or (by_class K (ref_list_offsets K)) r []) j)
-  unfolding ref_list_offsets
+      → UseIsAt b 4 offsets_bytes (unless_empty (drop 1 (get_or (class_set_offsets K r).methods j []))) (slice_index (get_or (by_class K (uses_offsets (ref_list_section K))) r []) j)
+  unfolding ref_list_section
   ref_list_encoded r d j lt less =
       let sets = set_offsets K in
       let s = class_set_offsets K r in
@@ -458,27 +459,27 @@ module _ {K : Ordered} {b : List ℕ} (h : Laid K b) where
       let one : get_or uses n None ≡ unless_empty (drop 1 (get_or s.methods j [])) =
       ap (λ k. get_or uses k None) (sym same) ∙ get_or-flat_map ref_uses_of sets r j no_set_offsets None here among
       ∙ get_or-map (λ offs. unless_empty (drop 1 offs)) s.methods j [] None (omega (arith, among, length-map s.methods (λ offs. unless_empty (drop 1 offs)))) in
-      subst (λ o. UseIsAt b 4 offsets_bytes (unless_empty (drop 1 (get_or s.methods j []))) o) (sym (by_class_at K (ref_list_offsets K) r d j 0 lt less))
-      (subst (λ u. UseIsAt b 4 offsets_bytes u (slice_index (ref_list_offsets K) n)) one (use_encoded (ref_list_section K) offsets_bytes (own_items uses) uses (own_numbered uses) refl h.ref_lists n within))
+      subst (λ o. UseIsAt b 4 offsets_bytes (unless_empty (drop 1 (get_or s.methods j []))) o) (sym (by_class_at K (uses_offsets (ref_list_section K)) r d j 0 lt less))
+      (subst (λ u. UseIsAt b 4 offsets_bytes u (slice_index (uses_offsets (ref_list_section K)) n)) one (use_encoded (ref_list_section K) offsets_bytes (own_items uses) uses (own_numbered uses) refl h.ref_lists n within))
 
   -- the directory of class r
   pub directory_encoded : (r : ℕ) (d : Definition) → r < length K.classes
-      → UseIsAt b 4 (λ (x : List ℕ). x) (directory_bytes K.pools (get_or K.classes r d) (class_set_offsets K r) (get_or (by_class K (ref_list_offsets K)) r [])) (slice_index (directory_offsets K) r)
-  unfolding directory_offsets
+      → UseIsAt b 4 (λ (x : List ℕ). x) (directory_bytes K.pools (get_or K.classes r d) (class_set_offsets K r) (get_or (by_class K (uses_offsets (ref_list_section K))) r [])) (slice_index (uses_offsets (directory_section K)) r)
+  unfolding directory_section
   directory_encoded r d lt =
       let sets = set_offsets K in
-      let refs = by_class K (ref_list_offsets K) in
+      let refs = by_class K (uses_offsets (ref_list_section K)) in
       let g : List ℕ → List ℕ = λ x. x in
       let put : Definition → SetOffsets × List ℕ → Option (List ℕ) = λ d p. directory_bytes K.pools d p.0 p.1 in
-      let uses = directory_uses K sets (ref_list_offsets K) in
-      let both : length (zip sets refs) ≡ length K.classes = length-zip sets refs (length K.classes) (length-set_offsets K) (length-by_class K (ref_list_offsets K)) in
+      let uses = directory_uses K sets (uses_offsets (ref_list_section K)) in
+      let both : length (zip sets refs) ≡ length K.classes = length-zip sets refs (length K.classes) (length-set_offsets K) (length-by_class K (uses_offsets (ref_list_section K))) in
       let len : length uses ≡ length K.classes = length-zip_with put K.classes (zip sets refs) (length K.classes) refl both in
       let pair : get_or (zip sets refs) r (no_set_offsets, []) ≡ (class_set_offsets K r, get_or refs r []) =
-      get_or-zip sets refs r no_set_offsets [] (omega (arith, lt, length-set_offsets K)) (omega (arith, lt, length-by_class K (ref_list_offsets K))) in
+      get_or-zip sets refs r no_set_offsets [] (omega (arith, lt, length-set_offsets K)) (omega (arith, lt, length-by_class K (uses_offsets (ref_list_section K)))) in
       let one : get_or uses r None ≡ put (get_or K.classes r d) (class_set_offsets K r, get_or refs r []) =
       get_or-zip_with put K.classes (zip sets refs) r d (no_set_offsets, []) None lt (omega (arith, lt, both)) ∙ ap (put (get_or K.classes r d)) pair in
-      subst (λ u. UseIsAt b 4 g u (slice_index (directory_offsets K) r)) one
-      (use_encoded (directory_section K) g (own_items uses) uses (own_numbered uses) (sym (map-id (own_items uses).written)) h.directories r (omega (arith, lt, len)))
+      subst (λ u. UseIsAt b 4 g u (slice_index (uses_offsets (directory_section K)) r)) one
+      (use_encoded (directory_section K) g (own_items uses) uses (own_numbered uses) refl h.directories r (omega (arith, lt, len)))
 
 -- ---- counts
 
@@ -496,8 +497,8 @@ pub length-class_part : {X : Type 0} (K : Ordered) (xs : List X) (r : ℕ) (d : 
 length-class_part K xs r d lt all = length_chunk (λ (d : Definition). declared_methods d.1) K.classes xs r d lt all
 
 -- an offset of a ref list for each method
-pub length-ref_list_offsets : (K : Ordered) → length (ref_list_offsets K) ≡ length (all_methods K.classes)
-unfolding ref_list_offsets
+pub length-ref_list_offsets : (K : Ordered) → length (uses_offsets (ref_list_section K)) ≡ length (all_methods K.classes)
+unfolding ref_list_section
 length-ref_list_offsets K =
     let sets = set_offsets K in
     let every : take (length K.classes) sets ≡ sets = take_all (length K.classes) sets (omega (arith, length-set_offsets K)) in
@@ -507,6 +508,7 @@ length-ref_list_offsets K =
 
 -- there are as many offsets of sets as sets
 length-set_use_offsets : (K : Ordered) → length (set_use_offsets K) ≡ length (flat_map class_sets K.classes)
+unfolding set_section
 length-set_use_offsets K =
     length-items_offsets K.sharing same_set (set_uses K) (offsets (set_section K))
     ∙ length-map (flat_map class_sets K.classes) (unless_empty {X = Annotation})

@@ -6,7 +6,7 @@ use Rattle.dexspec.specs.Symbols.{proto_cmp, field_cmp, method_cmp}
 use Rattle.dexspec.specs.Classes.{Definition}
 use Rattle.dexspec.specs.Files.{AreWithin}
 use Rattle.dexspec.specs.Mentions.{mentions}
-use Rattle.dexspec.specs.Merging.{Caps, Cap, Types, Protos, Fields, Methods, ShortStrings, Weight, HasShortString, Exceeds, Fits, IsGood, Cause, Conflict, Cycle, Exceeded, IsCause}
+use Rattle.dexspec.specs.Merging.{Caps, Cap, TypeCap, ProtoCap, FieldCap, MethodCap, ShortStringCap, WeightCap, HasShortString, Exceeds, Fits, IsGood, Cause, Conflict, Cycle, Exceeded, IsCause}
 use Rattle.dexspec.proofs.lists.Members.{length-among}
 use Rattle.dexspec.proofs.merge.SymbolOrders.{text_total, proto_total, field_total, method_total}
 use Rattle.dexspec.proofs.lists.InOrder.{AreDistinct-from_Rises, rank-among}
@@ -43,12 +43,12 @@ module _ (D E : List Definition) (h : AreWithin D E) where
   }
 
   pub Exceeds-within : (caps : Caps) (clause : Cap) → Exceeds caps D clause → Exceeds caps E clause
-  Exceeds-within caps Types x = omega (arith, x, types-within)
-  Exceeds-within caps Protos x = omega (arith, x, protos-within)
-  Exceeds-within caps Fields x = omega (arith, x, fields-within)
-  Exceeds-within caps Methods x = omega (arith, x, methods-within)
-  Exceeds-within caps ShortStrings x = (x.0, HasShortString-within x.0 x.1, omega (arith, x.2, text_rank-within x.0))
-  Exceeds-within caps Weight x = (x.0, x.1, λ d c. h d (x.2 d c), x.3)
+  Exceeds-within caps TypeCap x = omega (arith, x, types-within)
+  Exceeds-within caps ProtoCap x = omega (arith, x, protos-within)
+  Exceeds-within caps FieldCap x = omega (arith, x, fields-within)
+  Exceeds-within caps MethodCap x = omega (arith, x, methods-within)
+  Exceeds-within caps ShortStringCap x = (x.0, HasShortString-within x.0 x.1, omega (arith, x.2, text_rank-within x.0))
+  Exceeds-within caps WeightCap x = (x.0, x.1, λ d c. h d (x.2 d c), x.3)
 
   pub Fits-within : (caps : Caps) → Fits caps E → Fits caps D
   Fits-within caps f = record {
@@ -74,12 +74,12 @@ module _ (D E : List Definition) (h : AreWithin D E) where
 
 -- definitions that fit exceed no cap
 pub Fits-apart : (caps : Caps) (D : List Definition) (clause : Cap) → Fits caps D → Exceeds caps D clause → ⊥
-Fits-apart caps D Types f x = omega (arith, f.types, x)
-Fits-apart caps D Protos f x = omega (arith, f.protos, x)
-Fits-apart caps D Fields f x = omega (arith, f.fields, x)
-Fits-apart caps D Methods f x = omega (arith, f.methods, x)
-Fits-apart caps D ShortStrings f x = omega (arith, f.short_strings x.0 x.1, x.2)
-Fits-apart caps D Weight f x = omega (arith, f.weight x.0 x.1 x.2, x.3)
+Fits-apart caps D TypeCap f x = omega (arith, f.types, x)
+Fits-apart caps D ProtoCap f x = omega (arith, f.protos, x)
+Fits-apart caps D FieldCap f x = omega (arith, f.fields, x)
+Fits-apart caps D MethodCap f x = omega (arith, f.methods, x)
+Fits-apart caps D ShortStringCap f x = omega (arith, f.short_strings x.0 x.1, x.2)
+Fits-apart caps D WeightCap f x = omega (arith, f.weight x.0 x.1 x.2, x.3)
 
 -- mergeable definitions have no cause against them
 pub IsGood-apart : (caps : Caps) (D : List Definition) (cause : Cause) → IsGood caps D → IsCause caps D cause → ⊥

@@ -11,7 +11,7 @@ use Rattle.dexspec.specs.Classes.{Definition, MethodDef, declared_methods}
 use Rattle.dexspec.specs.Files.{AreWithin}
 use Rattle.dexspec.specs.Mentions.{mentions}
 use Rattle.dexspec.specs.Weight.{weight}
-use Rattle.dexspec.specs.Merging.{Caps, Cap, Types, Protos, Fields, Methods, ShortStrings, Weight, HasShortString, Exceeds, Fits}
+use Rattle.dexspec.specs.Merging.{Caps, Cap, TypeCap, ProtoCap, FieldCap, MethodCap, ShortStringCap, WeightCap, HasShortString, Exceeds, Fits}
 use Rattle.dexspec.proofs.lists.Members.{Contains-nil, Contains-first, Contains-cons_cases, Contains-flat_map, Contains-flat_map_source}
 use Rattle.dexspec.proofs.lists.Searches.{some_or_none, once_of}
 use Rattle.dexspec.proofs.lists.Decided.{definition_same_or_not}
@@ -118,7 +118,7 @@ module _ (caps : Caps) (D : List Definition) where
   short_or_not s = elim (cases_lt (rank text_cmp s (mentions D).texts) caps.short_strings) [ inl lt ↦ inr (λ ge. omega (arith, lt, ge)) | inr ge ↦ inl ge ]
 
   -- the weight of the distinct definitions decides
-  weight_or_not : Exceeds caps D Weight ⊎ (¬ (Exceeds caps D Weight))
+  weight_or_not : Exceeds caps D WeightCap ⊎ (¬ (Exceeds caps D WeightCap))
   weight_or_not = let o = once_of definition_same_or_not D in elim (cases_lt caps.weight (weight o.once)) [
     | inl lt ↦ inl (o.once, o.distinct, o.only, lt)
     | inr ge ↦ inr (λ x. omega (arith, ge, weight-once D x.0 x.1 x.2, x.3))
@@ -126,15 +126,15 @@ module _ (caps : Caps) (D : List Definition) where
 
   -- a cap is exceeded or not
   pub exceeds_or_not : (cap : Cap) → Exceeds caps D cap ⊎ (¬ (Exceeds caps D cap))
-  exceeds_or_not Types = more_or_not caps.types (length (mentions D).types)
-  exceeds_or_not Protos = more_or_not caps.protos (length (mentions D).protos)
-  exceeds_or_not Fields = more_or_not caps.fields (length (mentions D).fields)
-  exceeds_or_not Methods = more_or_not caps.methods (length (mentions D).methods)
-  exceeds_or_not ShortStrings = elim (some_or_none (λ s. caps.short_strings ≤ rank text_cmp s (mentions D).texts) (shorts D) short_or_not) [
+  exceeds_or_not TypeCap = more_or_not caps.types (length (mentions D).types)
+  exceeds_or_not ProtoCap = more_or_not caps.protos (length (mentions D).protos)
+  exceeds_or_not FieldCap = more_or_not caps.fields (length (mentions D).fields)
+  exceeds_or_not MethodCap = more_or_not caps.methods (length (mentions D).methods)
+  exceeds_or_not ShortStringCap = elim (some_or_none (λ s. caps.short_strings ≤ rank text_cmp s (mentions D).texts) (shorts D) short_or_not) [
     | inl t ↦ inl (t.0, shorts-source D t.0 t.1, t.2)
     | inr none ↦ inr (λ x. none x.0 (shorts-has D x.0 x.1) x.2)
   ]
-  exceeds_or_not Weight = weight_or_not
+  exceeds_or_not WeightCap = weight_or_not
 
   -- not more is at most
   at_most : (m n : ℕ) → (¬ (m < n)) → n ≤ m
@@ -147,10 +147,10 @@ module _ (caps : Caps) (D : List Definition) where
   -- definitions that exceed no cap fit
   pub fits-from_none : ((cap : Cap) → ¬ (Exceeds caps D cap)) → Fits caps D
   fits-from_none none = record {
-    types = at_most caps.types (length (mentions D).types) (none Types);
-    protos = at_most caps.protos (length (mentions D).protos) (none Protos);
-    fields = at_most caps.fields (length (mentions D).fields) (none Fields);
-    methods = at_most caps.methods (length (mentions D).methods) (none Methods);
-    short_strings = λ s x. less_than caps.short_strings (rank text_cmp s (mentions D).texts) (λ ge. none ShortStrings (s, x, ge));
-    weight = λ E d h. at_most caps.weight (weight E) (λ lt. none Weight (E, d, h, lt));
+    types = at_most caps.types (length (mentions D).types) (none TypeCap);
+    protos = at_most caps.protos (length (mentions D).protos) (none ProtoCap);
+    fields = at_most caps.fields (length (mentions D).fields) (none FieldCap);
+    methods = at_most caps.methods (length (mentions D).methods) (none MethodCap);
+    short_strings = λ s x. less_than caps.short_strings (rank text_cmp s (mentions D).texts) (λ ge. none ShortStringCap (s, x, ge));
+    weight = λ E d h. at_most caps.weight (weight E) (λ lt. none WeightCap (E, d, h, lt));
   }

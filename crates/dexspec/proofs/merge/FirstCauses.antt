@@ -9,7 +9,7 @@ use Rattle.dexspec.specs.Texts.{Text, text_cmp}
 use Rattle.dexspec.specs.Classes.{Definition}
 use Rattle.dexspec.specs.Files.{AreSame}
 use Rattle.dexspec.specs.Depth.{IsAcyclic}
-use Rattle.dexspec.specs.Merging.{Caps, Cap, Types, Protos, Fields, Methods, ShortStrings, Weight, cap_number, Exceeds, Fits, IsConflict, IsConsistent, IsCycle, IsGood, Cause, Conflict, Cycle, Exceeded, IsCause, IsReportedBefore, IsFirstCause}
+use Rattle.dexspec.specs.Merging.{Caps, Cap, TypeCap, ProtoCap, FieldCap, MethodCap, ShortStringCap, WeightCap, cap_number, Exceeds, Fits, IsConflict, IsConsistent, IsCycle, IsGood, Cause, Conflict, Cycle, Exceeded, IsCause, IsReportedBefore, IsFirstCause}
 use Rattle.dexspec.proofs.merge.SymbolOrders.{text_total, text_exact}
 use Rattle.dexspec.proofs.lists.Searches.{least_or_none}
 use Rattle.dexspec.proofs.merge.Absorption.{IsCause-within}
@@ -57,16 +57,16 @@ cap_total = on_total cap_number nat_cmp_total
 
 -- all of them
 abbrev all_caps : List Cap
-all_caps = Types ∷ Protos ∷ Fields ∷ Methods ∷ ShortStrings ∷ Weight ∷ []
+all_caps = TypeCap ∷ ProtoCap ∷ FieldCap ∷ MethodCap ∷ ShortStringCap ∷ WeightCap ∷ []
 
 -- each cap is one of these
 cap_listed : (cap : Cap) → Contains all_caps cap
-cap_listed Types = (0, omega arith, refl)
-cap_listed Protos = (1, omega arith, refl)
-cap_listed Fields = (2, omega arith, refl)
-cap_listed Methods = (3, omega arith, refl)
-cap_listed ShortStrings = (4, omega arith, refl)
-cap_listed Weight = (5, omega arith, refl)
+cap_listed TypeCap = (0, omega arith, refl)
+cap_listed ProtoCap = (1, omega arith, refl)
+cap_listed FieldCap = (2, omega arith, refl)
+cap_listed MethodCap = (3, omega arith, refl)
+cap_listed ShortStringCap = (4, omega arith, refl)
+cap_listed WeightCap = (5, omega arith, refl)
 
 -- a least cap is exceeded, or the definitions fit
 pub exceeds_or_fits : (caps : Caps) (D : List Definition) → ((cap : Cap) × IsLeastOf cap_cmp (Exceeds caps D) cap) ⊎ Fits caps D
@@ -132,22 +132,22 @@ one_text m n Greater e f g = absurd (g (text_total.antisymm n m ∙ ap ordering_
 
 -- the cap that has a number
 abbrev numbered : ℕ → Cap
-numbered zero = Types
-numbered (suc zero) = Types
-numbered (suc (suc zero)) = Protos
-numbered (suc (suc (suc zero))) = Fields
-numbered (suc (suc (suc (suc zero)))) = Methods
-numbered (suc (suc (suc (suc (suc zero))))) = ShortStrings
-numbered (suc (suc (suc (suc (suc (suc n)))))) = Weight
+numbered zero = TypeCap
+numbered (suc zero) = TypeCap
+numbered (suc (suc zero)) = ProtoCap
+numbered (suc (suc (suc zero))) = FieldCap
+numbered (suc (suc (suc (suc zero)))) = MethodCap
+numbered (suc (suc (suc (suc (suc zero))))) = ShortStringCap
+numbered (suc (suc (suc (suc (suc (suc n)))))) = WeightCap
 
 -- a cap is determined by its number
 numbered-is : (cap : Cap) → numbered (cap_number cap) ≡ cap
-numbered-is Types = refl
-numbered-is Protos = refl
-numbered-is Fields = refl
-numbered-is Methods = refl
-numbered-is ShortStrings = refl
-numbered-is Weight = refl
+numbered-is TypeCap = refl
+numbered-is ProtoCap = refl
+numbered-is FieldCap = refl
+numbered-is MethodCap = refl
+numbered-is ShortStringCap = refl
+numbered-is WeightCap = refl
 
 -- numbers of which neither is less are equal
 one_number : (m n : ℕ) → (m < n → ⊥) → (n < m → ⊥) → m ≡ n

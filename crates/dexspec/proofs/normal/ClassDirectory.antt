@@ -17,8 +17,8 @@ use Rattle.dexspec.specs.Classes.{FieldDef, MethodDef, Body, Definition, declare
 use Rattle.dexspec.specs.Mentions.{Mentions, mentions, symbols_of, field_of, method_of, annotation_symbols, set_symbols}
 use Rattle.dexspec.specs.Spellings.{field_index, method_index, offsets_bytes}
 use Rattle.dexspec.specs.WellFormed.{IsSet, IsAnnotation, IsFieldDef, IsMethodDef, IsWellFormed, field_key, field_key_cmp, method_key, method_key_cmp}
-use Rattle.dexspec.specs.Placing.{unless_empty, Ordered, by_class, method_sets, SetOffsets, pairs, directory_bytes}
-use Rattle.dexspec.specs.Canonical.{ordered, ref_list_offsets}
+use Rattle.dexspec.specs.Placing.{unless_empty, Ordered, by_class, method_sets, SetOffsets, pairs, directory_bytes, uses_offsets}
+use Rattle.dexspec.specs.Canonical.{ordered, ref_list_section}
 use Rattle.dexspec.specs.Depth.{in_class_order}
 use Rattle.dexspec.specs.internal.OwnDirectories.{BytesIfSome, HasSetsAt, entries_of, field_sets, own_method_sets, parameter_sets, own_directory}
 use Rattle.dexspec.proofs.lists.Members.{Contains-flat_map}
@@ -275,7 +275,7 @@ module _ (D : List Definition) (b : List ℕ) (n : AreNormal D b) (r : ℕ) (e :
   sets = class_set_offsets K r
 
   abbrev refs : List ℕ
-  refs = get_or (by_class K (ref_list_offsets K)) r []
+  refs = get_or (by_class K (uses_offsets (ref_list_section K))) r []
 
   -- it is in the file, and well formed
   in_file : Contains D (name, body)
@@ -321,7 +321,7 @@ module _ (D : List Definition) (b : List ℕ) (n : AreNormal D b) (r : ℕ) (e :
   parameters_are =
       let xs = declared_methods body in
       zip_mapped (λ o (x : Method × List AnnotationSet). BytesIfSome (RefListAt b) o x.1) (λ (x : MethodDef). (method_of name x, x.parameter_annotations)) refs xs
-      (zip_from_places (λ o (x : MethodDef). BytesIfSome (RefListAt b) o x.parameter_annotations) refs xs (length-class_part K (ref_list_offsets K) r e lt (length-ref_list_offsets K)) (λ j d less.
+      (zip_from_places (λ o (x : MethodDef). BytesIfSome (RefListAt b) o x.parameter_annotations) refs xs (length-class_part K (uses_offsets (ref_list_section K)) r e lt (length-ref_list_offsets K)) (λ j d less.
       let x = get_or xs j d in
       let k = Contains-get_or xs j d less in
       let offs = get_or sets.methods j [] in

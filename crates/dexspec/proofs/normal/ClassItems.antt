@@ -23,8 +23,8 @@ use Rattle.dexspec.specs.Mentions.{Mentions, mentions, symbols_of, field_of, met
 use Rattle.dexspec.specs.Spellings.{code_bytes, debug_bytes, encoded_array_bytes, class_data_bytes}
 use Rattle.dexspec.specs.WellFormed.{IsDebug, IsCodeItem, IsMethodDef, IsWellFormed, AreValues}
 use Rattle.dexspec.specs.internal.IndexPlaces.{IndexFits}
-use Rattle.dexspec.specs.Placing.{values_unless_empty, by_class, Ordered}
-use Rattle.dexspec.specs.Canonical.{ordered, debug_offsets, code_offsets}
+use Rattle.dexspec.specs.Placing.{values_unless_empty, by_class, Ordered, uses_offsets}
+use Rattle.dexspec.specs.Canonical.{ordered, debug_section, code_section}
 use Rattle.dexspec.specs.Depth.{in_class_order}
 use Rattle.dexspec.specs.Merging.{greatest_caps, Fits}
 use Rattle.dexspec.specs.internal.OwnDirectories.{own_directory}
@@ -146,7 +146,7 @@ module _ (D : List Definition) (b : List ℕ) (n : AreNormal D b) (fits : Fits g
 
   -- the offsets of the code of its methods
   abbrev codes : List ℕ
-  codes = get_or (by_class K (code_offsets K)) r []
+  codes = get_or (by_class K (uses_offsets (code_section K))) r []
 
   -- its members as class data has them
   abbrev pub own_members : ClassData
@@ -164,7 +164,7 @@ module _ (D : List Definition) (b : List ℕ) (n : AreNormal D b) (fits : Fits g
 
   -- there is an offset of code for each method
   codes_count : length codes ≡ length (declared_methods body)
-  codes_count = length-class_part K (code_offsets K) r e lt (length-code_offsets K)
+  codes_count = length-class_part K (uses_offsets (code_section K)) r e lt (length-code_offsets K)
 
   -- the code of each method is at its offset
   pub code_there : AllZip (λ o (x : MethodDef). OrNone (SomeAt CodeAt) None b o x.code) codes (declared_methods body)
@@ -174,7 +174,7 @@ module _ (D : List Definition) (b : List ℕ) (n : AreNormal D b) (fits : Fits g
       let x = get_or xs j d in
       let k = Contains-get_or xs j d less in
       let is = (All-contains IsMethodDef xs x formed.methods k).code in
-      code_use b (mentions D) n.file.laid.small (slice_index codes j) (slice_index (debug_offsets K) (method_place K r j)) x.code (omega (arith, fits.types)) is
+      code_use b (mentions D) n.file.laid.small (slice_index codes j) (slice_index (uses_offsets (debug_section K)) (method_place K r j)) x.code (omega (arith, fits.types)) is
       (λ c has. (
         (λ s l. rows s (code_occurs name body x c s k has l)),
         indices_fit D fits (name, body) x c in_file k has (subst (λ (o : Option Code). IfSome o IsCodeItem) has is),
@@ -193,7 +193,7 @@ module _ (D : List Definition) (b : List ℕ) (n : AreNormal D b) (fits : Fits g
         where
           by : (xs : List MethodDef) → declared_methods body ≡ xs → slice_index codes j < 2 ^ 32
           by [] same = absurd (omega (arith, within, ap (λ (l : List MethodDef). length l) same))
-          by (x ∷ xs) same = use_small b 4 (λ (p : Code × ℕ). code_bytes (mentions D) p.1 p.0) (code_of_method (slice_index (debug_offsets K) (method_place K r j)) (get_or (declared_methods body) j x)) (slice_index codes j) n.file.laid.small (code_encoded n.file.laid r e j x lt within)
+          by (x ∷ xs) same = use_small b 4 (λ (p : Code × ℕ). code_bytes (mentions D) p.1 p.0) (code_of_method (slice_index (uses_offsets (debug_section K)) (method_place K r j)) (get_or (declared_methods body) j x)) (slice_index codes j) n.file.laid.small (code_encoded n.file.laid r e j x lt within)
 
   -- its class data is at the offset of its row
   pub members_there : OrNone ClassDataAt no_class_data b (class_data_off b r) own_members

@@ -19,8 +19,8 @@ use Rattle.dexspec.specs.Mentions.{field_of, method_of}
 use Rattle.dexspec.specs.WellFormed.{IsWellFormed, AreWellFormed, field_key, method_key}
 use Rattle.dexspec.specs.Accepted.{Declares, AllCode, HasPiecesAt, HasTriesAt, HasDebugAt, HasValues, NamesDeclared, IsReadable}
 use Rattle.dexspec.specs.Values.{count_values}
-use Rattle.dexspec.specs.Placing.{by_class}
-use Rattle.dexspec.specs.Canonical.{ordered, canonical, code_offsets}
+use Rattle.dexspec.specs.Placing.{by_class, uses_offsets}
+use Rattle.dexspec.specs.Canonical.{ordered, canonical, code_section}
 use Rattle.dexspec.specs.Depth.{in_class_order}
 use Rattle.dexspec.specs.Files.{Collection, definitions}
 use Rattle.dexspec.specs.Merging.{greatest_caps, Fits, IsGood}
@@ -103,7 +103,7 @@ module _ (D : List Definition) (b : List ℕ) (n : AreNormal D b) (fits : Fits g
 
   -- the offsets of the code of its methods
   abbrev codes : List ℕ
-  codes = get_or (by_class (ordered D) (code_offsets (ordered D))) r []
+  codes = get_or (by_class (ordered D) (uses_offsets (code_section (ordered D)))) r []
 
   formed : IsWellFormed (name, body)
   formed = n.formed (name, body) (class_member D b n r e lt)

@@ -1,8 +1,8 @@
 -- Encodings of numbers: bytes begin with one number, and the shortest encoding is such.
-use Rattle.std.proofs.Common.{◌≡◌, ◌↔◌, ℕ, ◌*◌, ◌^◌, ◌<◌, ◌≤◌, List, ◌++◌, length, take, Option, Some, None, refl, ap, sym, ◌∙◌, arith, length-take, length-append, take_at}
+use Rattle.std.proofs.Common.{All, ◌≡◌, ◌↔◌, ℕ, ◌*◌, ◌^◌, ◌<◌, ◌≤◌, List, ◌++◌, length, take, Option, Some, None, refl, ap, sym, ◌∙◌, arith, length-take, length-append, take_at}
 use Rattle.std.specs.Prelude.{ℤ, FitsSigned}
 use Rattle.std.specs.Int.{w32}
-use Rattle.dexspec.specs.Numbers.{Spells, BeginsWith, IsCutOff, IsShortest, IsUleb128, IsSleb128, IsUleb128p1, sum_of_groups, size_u, size_s, magnitude, held_in, plus_one, uleb128, sleb128, uleb128p1}
+use Rattle.dexspec.specs.Numbers.{Spells, BeginsWith, IsUleb128, IsSleb128, IsUleb128p1, sum_of_groups, size_u, size_s, magnitude, held_in, plus_one, uleb128, sleb128, uleb128p1}
 use Rattle.dexspec.proofs.numbers.Chains.{chain_some, chain_same, no_chain, sum_bound}
 use Rattle.dexspec.proofs.numbers.Groups.{length-groups, spelled_in, size_u_is, size_u_bounds}
 use Rattle.dexspec.proofs.numbers.Signed.{signed_of, magnitude_of, size_s_is, held_fits}
@@ -37,9 +37,9 @@ module _ {V : Type 0} (number : List ℕ → V) (InRange : V → Type 0) where
     λ same. rw (same.0, same.1) (spelling_begins a rest v says),
   )
 
-  -- bytes that begin with a number are not cut off
-  pub not_cut_off : (bytes : List ℕ) (v : V) (n : ℕ) → BeginsWith (Spells number InRange) bytes v n → ¬ IsCutOff bytes
-  not_cut_off bytes v n begins cut = no_chain bytes n begins.within cut.high begins.spelled.chain
+  -- in bytes that begin with a number some top bit is not set
+  pub not_cut_off : (bytes : List ℕ) (v : V) (n : ℕ) → BeginsWith (Spells number InRange) bytes v n → ¬ All (λ byte. 128 ≤ byte) bytes
+  not_cut_off bytes v n begins high = no_chain bytes n begins.within high begins.spelled.chain
 
 -- ---- the number plus one
 
@@ -69,27 +69,25 @@ one_number_plus_one a rest v w n says =
 -- ---- the shortest encodings
 
 -- the bytes that are written encode the number, and no other encoding is shorter
-pub uleb128_is : (v : ℕ) → v < 2 ^ 32 → IsShortest IsUleb128 (uleb128 v) v
+pub uleb128_is : (v : ℕ) → v < 2 ^ 32 → IsUleb128 (uleb128 v) v × ((other : List ℕ) → IsUleb128 other v → length (uleb128 v) ≤ length other)
 uleb128_is v lt =
     let size = size_u_is v (omega arith) in
-    let is = spelled_in v (size_u v) size.some size.holds in
-    record {
-      spelled = record { chain = is.0; few = rw length-groups size.few; value = is.1; in_range = lt };
-      least = λ other says. rw length-groups (size.least (length other) (chain_some other says.chain) (omega (arith, sum_bound other, says.value)));
-    }
+    let is = spelled_in v (size_u v) size.some size.holds in (
+      record { chain = is.0; few = rw length-groups size.few; value = is.1; in_range = lt },
+      λ other says. rw length-groups (size.least (length other) (chain_some other says.chain) (omega (arith, sum_bound other, says.value))),
+    )
 
-pub uleb128p1_is : (v : Option ℕ) → plus_one v < 2 ^ 32 → IsShortest IsUleb128p1 (uleb128p1 v) v
-uleb128p1_is v lt = let is = uleb128_is (plus_one v) lt in record { spelled = is.spelled; least = λ other says. is.least other says }
+pub uleb128p1_is : (v : Option ℕ) → plus_one v < 2 ^ 32 → IsUleb128p1 (uleb128p1 v) v × ((other : List ℕ) → IsUleb128p1 other v → length (uleb128p1 v) ≤ length other)
+uleb128p1_is v lt = let is = uleb128_is (plus_one v) lt in (is.0, λ other says. is.1 other says)
 
-pub sleb128_is : (v : ℤ) → FitsSigned w32 v → IsShortest IsSleb128 (sleb128 v) v
+pub sleb128_is : (v : ℤ) → FitsSigned w32 v → IsSleb128 (sleb128 v) v × ((other : List ℕ) → IsSleb128 other v → length (sleb128 v) ≤ length other)
 sleb128_is v fits =
     let size = size_s_is v fits in
     let is = spelled_in (held_in (size_s v) v) (size_s v) size.some (held_fits v (size_s v) size.holds) in
-    let len = length-groups (size_s v) (held_in (size_s v) v) in
-    record {
-      spelled = record { chain = is.0; few = rw len size.few; value = signed_of v (sleb128 v) is.0 (rw len is.1) (rw len size.holds); in_range = fits };
-      least = λ other says. rw len (size.least (length other) (chain_some other says.chain) (magnitude_of v other says.chain says.value));
-    }
+    let len = length-groups (size_s v) (held_in (size_s v) v) in (
+      record { chain = is.0; few = rw len size.few; value = signed_of v (sleb128 v) is.0 (rw len is.1) (rw len size.holds); in_range = fits },
+      λ other says. rw len (size.least (length other) (chain_some other says.chain) (magnitude_of v other says.chain says.value)),
+    )
 
 -- they are one to five bytes
 pub uleb128_bounds : (v : ℕ) → (1 ≤ length (uleb128 v)) × (length (uleb128 v) ≤ 5)

@@ -13,9 +13,10 @@ use Rattle.std.proofs.lemmas.List.{map-append}
 use Rattle.dexspec.specs.Lists.{present, distinct, chunks, add_in_order, in_order}
 use Rattle.dexspec.specs.Bytes.{round_up}
 use Rattle.dexspec.specs.Numbers.{size_u, uleb128}
-use Rattle.dexspec.specs.Placing.{offsets_from, end_from, uses_offsets, own_numbers, pair_cmp, pairs}
+use Rattle.dexspec.specs.Placing.{offsets_from, end_from, own_numbers, pair_cmp, pairs}
 use Rattle.dexspec.proofs.numbers.Groups.{length-groups}
 use Rattle.dexspec.proofs.layout.Places.{IsAlign, length-padding, end_from_le}
+use Rattle.dexspec.proofs.layout.Placements.{numbers_offsets}
 
 -- ---- items
 
@@ -122,7 +123,7 @@ below_number os ps h None = omega arith
 below_number os ps h (Some i) = below_at os ps h i
 
 -- also for uses with the same numbers
-pub uses_below : (os ps : List ℕ) → AreBelow os ps → (numbers : List (Option ℕ)) → AreBelow (uses_offsets numbers os) (uses_offsets numbers ps)
+pub uses_below : (os ps : List ℕ) → AreBelow os ps → (numbers : List (Option ℕ)) → AreBelow (numbers_offsets numbers os) (numbers_offsets numbers ps)
 uses_below os ps h [] = tt
 uses_below os ps h (n ∷ numbers) = (below_number os ps h n, uses_below os ps h numbers)
 
@@ -257,7 +258,7 @@ number_equivalent os ps each None = inl (refl, refl)
 number_equivalent os ps each (Some i) = each i
 
 -- also for uses with the same numbers
-pub uses_equivalent : (os ps : List ℕ) → ((i : ℕ) → AreEquivalent (slice_index os i) (slice_index ps i)) → (numbers : List (Option ℕ)) → AllEquivalent (uses_offsets numbers os) (uses_offsets numbers ps)
+pub uses_equivalent : (os ps : List ℕ) → ((i : ℕ) → AreEquivalent (slice_index os i) (slice_index ps i)) → (numbers : List (Option ℕ)) → AllEquivalent (numbers_offsets numbers os) (numbers_offsets numbers ps)
 uses_equivalent os ps each [] = tt
 uses_equivalent os ps each (n ∷ numbers) = (number_equivalent os ps each n, uses_equivalent os ps each numbers)
 

@@ -17,12 +17,12 @@ use Rattle.dexspec.specs.Depth.{in_class_order}
 use Rattle.dexspec.specs.Mentions.{Mentions, mentions, field_of, method_of}
 use Rattle.dexspec.specs.Sameness.{same_types, same_debug, same_set}
 use Rattle.dexspec.specs.Spellings.{type_list_bytes, annotation_bytes, debug_bytes, code_bytes, piece_units, tries_bytes, differences, encoded_fields_bytes, encoded_method_bytes, encoded_methods_bytes, class_data_bytes, offsets_bytes, field_index, method_index}
-use Rattle.dexspec.specs.Placing.{EqualOnce, EachForItself, Items, Placed, offsets, offsets_from, uses_offsets, Ordered, is_empty_class, method_sets, class_sets, all_methods, type_list_uses, set_uses, debug_uses, code_uses, class_data_uses, by_class, SetOffsets, set_offsets_of, ref_list_uses, directory_uses, directory_bytes, unless_empty, section_bytes, own_numbers, pairs, pairs_bytes}
-use Rattle.dexspec.specs.Canonical.{data_start, type_list_section, type_list_end, set_items, annotation_section, annotation_end, annotation_offsets, array_section, array_end, string_section, string_end, debug_section, debug_end, debug_offsets, code_section, code_end, code_offsets, class_data_section, class_data_end, set_section, set_end, set_offsets, ref_list_section, ref_list_end, ref_list_offsets, directory_section, directory_end, data_sections, Layout, layout, placed_tables, table_bytes, map_of, map_bytes, header_bytes, unsigned_file, with_sums, ordered, canonical}
+use Rattle.dexspec.specs.Placing.{EqualOnce, EachForItself, Items, Placed, offsets, offsets_from, uses_offsets, Ordered, is_empty_class, method_sets, class_sets, all_methods, type_list_uses, set_uses, debug_uses, code_uses, class_data_uses, by_class, SetOffsets, set_offsets_of, ref_list_uses, directory_uses, directory_bytes, unless_empty, section_bytes, own_numbers, pairs, pairs_bytes, end}
+use Rattle.dexspec.specs.Canonical.{data_start, type_list_section, set_items, annotation_section, annotation_offsets, array_section, string_section, debug_section, code_section, class_data_section, set_section, set_offsets, ref_list_section, directory_section, data_sections, placed_tables, table_bytes, map_of, map_bytes, header_bytes, unsigned_file, with_sums, ordered, canonical}
 use Rattle.dexspec.proofs.numbers.ByteNumbers.{length-uint, length-ushort}
 use Rattle.dexspec.proofs.written.PlacedBytes.{length_rows}
 use Rattle.dexspec.proofs.layout.Places.{length-padding, length-offsets_from, length-sections, sections_between}
-use Rattle.dexspec.proofs.layout.Placements.{layout_is, named_layout_full, AreFull, sections_follow, length-chunks, length-items_offsets}
+use Rattle.dexspec.proofs.layout.Placements.{numbers_offsets, sections_follow, length-chunks, length-items_offsets}
 use Rattle.dexspec.proofs.layout.Tables.{length-table_bytes, length-header_bytes}
 use Rattle.dexspec.proofs.size.SizeFile.{with_sums-size}
 use Rattle.dexspec.proofs.layout.MapEntries.{length-map_bytes}
@@ -187,7 +187,7 @@ marked_by written offs some None n is = ap (λ k. option_map_or (slice_index off
 marked_by written offs some (Some x) n is = subst (λ k. 0 < option_map_or (slice_index offs) k 0) (sym is.2) (some is.0 is.1)
 
 marked : {X : Type 0} (uses : List (Option X)) (its : Items X) (offs : List ℕ) → AreNumbered uses its → ((i : ℕ) → i < length its.written → 0 < slice_index offs i) → (k : ℕ) → k < length uses
-    → IsMarked (get_or uses k None) (slice_index (uses_offsets its.numbers offs) k)
+    → IsMarked (get_or uses k None) (slice_index (numbers_offsets its.numbers offs) k)
 marked uses its offs are some k lt =
     subst (IsMarked (get_or uses k None)) (sym (number_offset its.numbers offs k (omega (arith, are.count, lt))))
     (marked_by its.written offs some (get_or uses k None) (get_or its.numbers k None) (are.each k lt))
@@ -329,10 +329,6 @@ directories_covered m (d ∷ cs) (s ∷ ss) (t ∷ ts) [] (ps ∷ pss) h k = abs
 directories_covered m (d ∷ cs) (s ∷ ss) (t ∷ ts) (os ∷ oss) [] h k = absurd k
 directories_covered m (d ∷ cs) (s ∷ ss) (t ∷ ts) (os ∷ oss) (ps ∷ pss) h k = (directory_use m d s t os ps h.0 k.0, directories_covered m cs ss ts oss pss h.1 k.1)
 
-items_themselves : (xs : List (List ℕ)) → map bytes xs ≡ xs
-items_themselves [] = refl
-items_themselves (x ∷ xs) = ap (λ ys. x ∷ ys) (items_themselves xs)
-
 -- ---- the length of a file
 
 -- the entry of a section, if it has items
@@ -377,39 +373,30 @@ round_up_least : (at last : ℕ) → at ≤ last → round_up 4 at ≤ round_up 
 round_up_least at last le = omega (arith, le)
 
 -- the length of the file after its sums
-file_length : (K : Ordered) → 32 + length (unsigned_file K) ≡ round_up 4 (directory_end K) + (4 + 12 * (2 + (length (table_entries K) + length (flat_map section_entry (data_sections K)))))
+file_length : (K : Ordered) → 32 + length (unsigned_file K) ≡ round_up 4 (end (directory_section K)) + (4 + 12 * (2 + (length (table_entries K) + length (flat_map section_entry (data_sections K)))))
 unfolding unsigned_file
 file_length K =
-    let l = layout K in
-    let map_off = round_up 4 l.data_end in
-    let entries = map_of K l map_off in
+    let data_end = end (directory_section K) in
+    let map_off = round_up 4 data_end in
+    let entries = map_of K map_off in
     let list = map_bytes entries in
     let header = header_bytes K map_off (map_off + length list) in
-    let sections = flat_map section_bytes l.sections in
-    let gap = padding 4 l.data_end in
-    let full : AreFull K l = subst (AreFull K) (sym (layout_is K)) (named_layout_full K) in
-    let same : flat_map section_bytes l.sections ≡ flat_map section_bytes (data_sections K) = ap (λ (l : Layout). flat_map section_bytes l.sections) (layout_is K) in
-    let of_sections : flat_map section_entry l.sections ≡ flat_map section_entry (data_sections K) = ap (λ (l : Layout). flat_map section_entry l.sections) (layout_is K) in
-    let last : l.data_end ≡ directory_end K = ap (λ (l : Layout). l.data_end) (layout_is K) in
-    let aligned : round_up 4 l.data_end ≡ round_up 4 (directory_end K) = ap (round_up 4) last in
+    let sections = flat_map section_bytes (data_sections K) in
+    let gap = padding 4 data_end in
     let rest : List (Section × ℕ × ℕ) = (MapList, 1, map_off) ∷ [] in
     omega (
       arith,
-      length-append header (table_bytes K l ++ (sections ++ (gap ++ list))),
-      length-append (table_bytes K l) (sections ++ (gap ++ list)),
+      length-append header (table_bytes K ++ (sections ++ (gap ++ list))),
+      length-append (table_bytes K) (sections ++ (gap ++ list)),
       length-append sections (gap ++ list),
       length-append gap list,
       length-header_bytes K map_off (map_off + length list),
-      length-table_bytes K l full,
-      length-sections (data_start K) (data_sections K) (directory_end K) (sections_follow K),
-      ap (λ (x : List ℕ). length x) same,
-      ap (λ (x : List (Section × ℕ × ℕ)). length x) of_sections,
-      length-padding 4 l.data_end,
-      last,
-      aligned,
+      length-table_bytes K,
+      length-sections (data_start K) (data_sections K) (end (directory_section K)) (sections_follow K),
+      length-padding 4 data_end,
       length-map_bytes entries,
-      length-append (table_entries K) (flat_map section_entry l.sections ++ rest),
-      length-append (flat_map section_entry l.sections) rest,
+      length-append (table_entries K) (flat_map section_entry (data_sections K) ++ rest),
+      length-append (flat_map section_entry (data_sections K)) rest,
     )
 
 -- ---- the sections of both forms
@@ -423,102 +410,111 @@ module _ (cs : List Definition) (m : Mentions) where
   L = record { classes = cs; pools = m; sharing = EachForItself }
 
   type_lists_covered : IsCovered (type_list_section K).items (type_list_section L).items
+  unfolding type_list_section
   type_lists_covered = covered_items (type_list_bytes m) same_types (present (type_list_uses K))
 
-  type_list_end_most : type_list_end K ≤ type_list_end L
-  unfolding type_list_end
+  type_list_end_most : end (type_list_section K) ≤ end (type_list_section L)
+  unfolding type_list_section
   type_list_end_most = end_covered 4 (inl refl) (data_start K) (data_start L) (type_list_section K).items (type_list_section L).items type_lists_covered (omega arith)
 
   annotations_covered : IsCovered (annotation_section K).items (annotation_section L).items
+  unfolding annotation_section
   annotations_covered = covered_lists (annotation_bytes m) same_set (present (set_uses K))
 
-  annotation_end_most : annotation_end K ≤ annotation_end L
-  unfolding annotation_end
-  annotation_end_most = end_covered 1 (inr refl) (type_list_end K) (type_list_end L) (annotation_section K).items (annotation_section L).items annotations_covered type_list_end_most
+  annotation_end_most : end (annotation_section K) ≤ end (annotation_section L)
+  unfolding annotation_section
+  annotation_end_most = end_covered 1 (inr refl) (end (type_list_section K)) (end (type_list_section L)) (annotation_section K).items (annotation_section L).items annotations_covered type_list_end_most
 
-  array_end_most : array_end K ≤ array_end L
-  unfolding array_end
-  array_end_most = end_covered 1 (inr refl) (annotation_end K) (annotation_end L) (array_section K).items (array_section L).items (covered_itself (array_section K).items) annotation_end_most
+  array_end_most : end (array_section K) ≤ end (array_section L)
+  unfolding array_section
+  array_end_most = end_covered 1 (inr refl) (end (annotation_section K)) (end (annotation_section L)) (array_section K).items (array_section L).items (covered_itself (array_section K).items) annotation_end_most
 
-  string_end_most : string_end K ≤ string_end L
-  unfolding string_end
-  string_end_most = end_covered 1 (inr refl) (array_end K) (array_end L) (string_section K).items (string_section L).items (covered_itself (string_section K).items) array_end_most
+  string_end_most : end (string_section K) ≤ end (string_section L)
+  unfolding string_section
+  string_end_most = end_covered 1 (inr refl) (end (array_section K)) (end (array_section L)) (string_section K).items (string_section L).items (covered_itself (string_section K).items) array_end_most
 
   debugs_covered : IsCovered (debug_section K).items (debug_section L).items
+  unfolding debug_section
   debugs_covered = covered_items (debug_bytes m) same_debug (present (debug_uses K))
 
-  debug_end_most : debug_end K ≤ debug_end L
-  unfolding debug_end
-  debug_end_most = end_covered 1 (inr refl) (string_end K) (string_end L) (debug_section K).items (debug_section L).items debugs_covered string_end_most
+  debug_end_most : end (debug_section K) ≤ end (debug_section L)
+  unfolding debug_section
+  debug_end_most = end_covered 1 (inr refl) (end (string_section K)) (end (string_section L)) (debug_section K).items (debug_section L).items debugs_covered string_end_most
 
-  code_uses_covered : AreCoveredUses (code_item m) (code_item m) (code_uses K (debug_offsets K)) (code_uses L (debug_offsets L))
-  code_uses_covered = codes_covered m (all_methods cs) (debug_offsets K) (debug_offsets L) (length-debug_offsets K ∙ sym (length-debug_offsets L))
+  code_uses_covered : AreCoveredUses (code_item m) (code_item m) (code_uses K (uses_offsets (debug_section K))) (code_uses L (uses_offsets (debug_section L)))
+  code_uses_covered = codes_covered m (all_methods cs) (uses_offsets (debug_section K)) (uses_offsets (debug_section L)) (length-debug_offsets K ∙ sym (length-debug_offsets L))
 
   codes_are_covered : IsCovered (code_section K).items (code_section L).items
-  codes_are_covered = covered_present (code_item m) (code_item m) (code_uses K (debug_offsets K)) (code_uses L (debug_offsets L)) code_uses_covered
+  unfolding code_section
+  codes_are_covered = covered_present (code_item m) (code_item m) (code_uses K (uses_offsets (debug_section K))) (code_uses L (uses_offsets (debug_section L))) code_uses_covered
 
-  code_end_most : code_end K ≤ code_end L
-  unfolding code_end
-  code_end_most = end_covered 4 (inl refl) (debug_end K) (debug_end L) (code_section K).items (code_section L).items codes_are_covered debug_end_most
+  code_end_most : end (code_section K) ≤ end (code_section L)
+  unfolding code_section
+  code_end_most = end_covered 4 (inl refl) (end (debug_section K)) (end (debug_section L)) (code_section K).items (code_section L).items codes_are_covered debug_end_most
 
-  code_offsets_below : AreBelow (code_offsets K) (code_offsets L)
-  unfolding code_offsets
+  code_offsets_below : AreBelow (uses_offsets (code_section K)) (uses_offsets (code_section L))
+  unfolding code_section
   code_offsets_below =
-      let us = code_uses K (debug_offsets K) in
-      let vs = code_uses L (debug_offsets L) in
-      subst (λ ns. AreBelow (uses_offsets (own_numbers 0 us) (offsets (code_section K))) (uses_offsets ns (offsets (code_section L)))) (covered_numbers (code_item m) (code_item m) 0 us vs code_uses_covered)
-      (uses_below (offsets (code_section K)) (offsets (code_section L)) (offsets_below (code_item m) (code_item m) 4 (debug_end K) (debug_end L) (inl refl) us vs code_uses_covered debug_end_most) (own_numbers 0 us))
+      let us = code_uses K (uses_offsets (debug_section K)) in
+      let vs = code_uses L (uses_offsets (debug_section L)) in
+      subst (λ ns. AreBelow (numbers_offsets (own_numbers 0 us) (offsets (code_section K))) (numbers_offsets ns (offsets (code_section L)))) (covered_numbers (code_item m) (code_item m) 0 us vs code_uses_covered)
+      (uses_below (offsets (code_section K)) (offsets (code_section L)) (offsets_below (code_item m) (code_item m) 4 (end (debug_section K)) (end (debug_section L)) (inl refl) us vs code_uses_covered debug_end_most) (own_numbers 0 us))
 
-  data_uses_covered : AreCoveredUses (data_item m) (data_item m) (class_data_uses K (code_offsets K)) (class_data_uses L (code_offsets L))
-  data_uses_covered = data_covered m cs (by_class K (code_offsets K)) (by_class L (code_offsets L)) (chunks_below (map (λ d. length (declared_methods d.1)) cs) (code_offsets K) (code_offsets L) code_offsets_below)
+  data_uses_covered : AreCoveredUses (data_item m) (data_item m) (class_data_uses K (uses_offsets (code_section K))) (class_data_uses L (uses_offsets (code_section L)))
+  data_uses_covered = data_covered m cs (by_class K (uses_offsets (code_section K))) (by_class L (uses_offsets (code_section L))) (chunks_below (map (λ d. length (declared_methods d.1)) cs) (uses_offsets (code_section K)) (uses_offsets (code_section L)) code_offsets_below)
 
   class_data_covered : IsCovered (class_data_section K).items (class_data_section L).items
-  class_data_covered = covered_present (data_item m) (data_item m) (class_data_uses K (code_offsets K)) (class_data_uses L (code_offsets L)) data_uses_covered
+  unfolding class_data_section
+  class_data_covered = covered_present (data_item m) (data_item m) (class_data_uses K (uses_offsets (code_section K))) (class_data_uses L (uses_offsets (code_section L))) data_uses_covered
 
-  class_data_end_most : class_data_end K ≤ class_data_end L
-  unfolding class_data_end
-  class_data_end_most = end_covered 1 (inr refl) (code_end K) (code_end L) (class_data_section K).items (class_data_section L).items class_data_covered code_end_most
+  class_data_end_most : end (class_data_section K) ≤ end (class_data_section L)
+  unfolding class_data_section
+  class_data_end_most = end_covered 1 (inr refl) (end (code_section K)) (end (code_section L)) (class_data_section K).items (class_data_section L).items class_data_covered code_end_most
 
   sets_covered : IsCovered (set_section K).items (set_section L).items
-  unfolding annotation_offsets
+  unfolding annotation_offsets set_section annotation_section
   sets_covered =
       let once = (set_items K).written in
       let each = (set_items L).written in
       let all : length (flat_map (λ (set : AnnotationSet). set) each) ≤ length (offsets (annotation_section L)) =
-      omega (arith, length-offsets_from 1 (type_list_end L) (annotation_section L).items, length-map (flat_map (λ (set : AnnotationSet). set) each) (annotation_bytes m)) in
+      omega (arith, length-offsets_from 1 (end (type_list_section L)) (annotation_section L).items, length-map (flat_map (λ (set : AnnotationSet). set) each) (annotation_bytes m)) in
       covered_then (map offsets_bytes (chunks (map (λ set. length set) once) (offsets (annotation_section K)))) (map blank once) (map offsets_bytes (chunks (map (λ set. length set) each) (offsets (annotation_section L))))
       (sets_under once (offsets (annotation_section K)))
       (covered_then (map blank once) (map blank each) (map offsets_bytes (chunks (map (λ set. length set) each) (offsets (annotation_section L)))) (covered_items blank same_set (present (set_uses K))) (sets_over each (offsets (annotation_section L)) all))
 
-  set_end_most : set_end K ≤ set_end L
-  unfolding set_end
-  set_end_most = end_covered 4 (inl refl) (class_data_end K) (class_data_end L) (set_section K).items (set_section L).items sets_covered class_data_end_most
+  set_end_most : end (set_section K) ≤ end (set_section L)
+  unfolding set_section
+  set_end_most = end_covered 4 (inl refl) (end (class_data_section K)) (end (class_data_section L)) (set_section K).items (set_section L).items sets_covered class_data_end_most
 
   -- ---- items that hold offsets of sets
 
   -- a section of the data begins after the header
-  set_from_some : (J : Ordered) → 0 < class_data_end J
-  set_from_some J = let h = sections_between (data_start J) (data_sections J) (directory_end J) 7 (set_section J) (sections_follow J) (omega arith) in omega (arith, h.0)
+  set_from_some : (J : Ordered) → 0 < end (class_data_section J)
+  unfolding set_section
+  set_from_some J = let h = sections_between (data_start J) (data_sections J) (end (directory_section J)) 7 (set_section J) (sections_follow J) (omega arith) in omega (arith, h.0)
 
-  ref_from_some : (J : Ordered) → 0 < set_end J
-  ref_from_some J = let h = sections_between (data_start J) (data_sections J) (directory_end J) 8 (set_section J) (sections_follow J) (omega arith) in omega (arith, h.0)
+  ref_from_some : (J : Ordered) → 0 < end (set_section J)
+  unfolding ref_list_section
+  ref_from_some J = let h = sections_between (data_start J) (data_sections J) (end (directory_section J)) 8 (set_section J) (sections_follow J) (omega arith) in omega (arith, h.0)
 
   set_count : (J : Ordered) → length (set_section J).items ≡ length (set_items J).written
-  unfolding annotation_offsets
+  unfolding annotation_offsets set_section
   set_count J =
       length-map (chunks (map (λ set. length set) (set_items J).written) (offsets (annotation_section J))) offsets_bytes
       ∙ length-chunks (map (λ set. length set) (set_items J).written) (offsets (annotation_section J)) ∙ length-map (set_items J).written (λ set. length set)
 
   -- the offset of each use's set
   abbrev set_places : Ordered → List ℕ
-  set_places J = uses_offsets (set_items J).numbers (offsets (set_section J))
+  set_places J = uses_offsets (set_section J)
 
   set_marked : (J : Ordered) (k : ℕ) → k < length (set_uses J) → IsMarked (get_or (set_uses J) k None) (slice_index (set_places J) k)
+  unfolding set_section
   set_marked J k lt =
       marked (set_uses J) (set_items J) (offsets (set_section J)) (items_numbered J.sharing same_set set_decides (set_uses J))
-      (λ i less. offset_some 4 (class_data_end J) (set_section J).items (set_from_some J) i (omega (arith, less, set_count J))) k lt
+      (λ i less. offset_some 4 (end (class_data_section J)) (set_section J).items (set_from_some J) i (omega (arith, less, set_count J))) k lt
 
   length-set_places : (J : Ordered) → length (set_places J) ≡ length (set_uses J)
+  unfolding set_section
   length-set_places J = length-items_offsets J.sharing same_set (set_uses J) (offsets (set_section J))
 
   set_places_equivalent : AllEquivalent (set_places K) (set_places L)
@@ -538,39 +534,40 @@ module _ (cs : List Definition) (m : Mentions) where
   ref_uses_covered = refs_covered (set_offsets K) (set_offsets L) sets_equivalent
 
   ref_lists_covered : IsCovered (ref_list_section K).items (ref_list_section L).items
+  unfolding ref_list_section
   ref_lists_covered = covered_present offsets_bytes offsets_bytes (ref_list_uses K (set_offsets K)) (ref_list_uses L (set_offsets L)) ref_uses_covered
 
-  ref_list_end_most : ref_list_end K ≤ ref_list_end L
-  unfolding ref_list_end
-  ref_list_end_most = end_covered 4 (inl refl) (set_end K) (set_end L) (ref_list_section K).items (ref_list_section L).items ref_lists_covered set_end_most
+  ref_list_end_most : end (ref_list_section K) ≤ end (ref_list_section L)
+  unfolding ref_list_section
+  ref_list_end_most = end_covered 4 (inl refl) (end (set_section K)) (end (set_section L)) (ref_list_section K).items (ref_list_section L).items ref_lists_covered set_end_most
 
-  ref_places_equivalent : AllEquivalent (ref_list_offsets K) (ref_list_offsets L)
-  unfolding ref_list_offsets
+  ref_places_equivalent : AllEquivalent (uses_offsets (ref_list_section K)) (uses_offsets (ref_list_section L))
+  unfolding ref_list_section
   ref_places_equivalent =
       let us = ref_list_uses K (set_offsets K) in
       let vs = ref_list_uses L (set_offsets L) in
-      subst (λ ns. AllEquivalent (uses_offsets (own_numbers 0 us) (offsets (ref_list_section K))) (uses_offsets ns (offsets (ref_list_section L)))) (covered_numbers offsets_bytes offsets_bytes 0 us vs ref_uses_covered)
+      subst (λ ns. AllEquivalent (numbers_offsets (own_numbers 0 us) (offsets (ref_list_section K))) (numbers_offsets ns (offsets (ref_list_section L)))) (covered_numbers offsets_bytes offsets_bytes 0 us vs ref_uses_covered)
       (uses_equivalent (offsets (ref_list_section K)) (offsets (ref_list_section L))
-      (offsets_equivalent 4 (set_end K) (set_end L) (ref_list_section K).items (ref_list_section L).items (covered_count offsets_bytes offsets_bytes us vs ref_uses_covered) (ref_from_some K) (ref_from_some L)) (own_numbers 0 us))
+      (offsets_equivalent 4 (end (set_section K)) (end (set_section L)) (ref_list_section K).items (ref_list_section L).items (covered_count offsets_bytes offsets_bytes us vs ref_uses_covered) (ref_from_some K) (ref_from_some L)) (own_numbers 0 us))
 
-  directory_uses_covered : AreCoveredUses bytes bytes (directory_uses K (set_offsets K) (ref_list_offsets K)) (directory_uses L (set_offsets L) (ref_list_offsets L))
+  directory_uses_covered : AreCoveredUses bytes bytes (directory_uses K (set_offsets K) (uses_offsets (ref_list_section K))) (directory_uses L (set_offsets L) (uses_offsets (ref_list_section L)))
   directory_uses_covered =
-      directories_covered m cs (set_offsets K) (set_offsets L) (by_class K (ref_list_offsets K)) (by_class L (ref_list_offsets L)) sets_equivalent
-      (chunks_equivalent (map (λ d. length (declared_methods d.1)) cs) (ref_list_offsets K) (ref_list_offsets L) ref_places_equivalent)
+      directories_covered m cs (set_offsets K) (set_offsets L) (by_class K (uses_offsets (ref_list_section K))) (by_class L (uses_offsets (ref_list_section L))) sets_equivalent
+      (chunks_equivalent (map (λ d. length (declared_methods d.1)) cs) (uses_offsets (ref_list_section K)) (uses_offsets (ref_list_section L)) ref_places_equivalent)
 
   directories_are_covered : IsCovered (directory_section K).items (directory_section L).items
+  unfolding directory_section
   directories_are_covered =
-      let us = directory_uses K (set_offsets K) (ref_list_offsets K) in
-      let vs = directory_uses L (set_offsets L) (ref_list_offsets L) in
-      subst (IsCovered (present us)) (items_themselves (present vs)) (subst (λ xs. IsCovered xs (map bytes (present vs))) (items_themselves (present us)) (covered_present bytes bytes us vs directory_uses_covered))
+      covered_present bytes bytes (directory_uses K (set_offsets K) (uses_offsets (ref_list_section K))) (directory_uses L (set_offsets L) (uses_offsets (ref_list_section L))) directory_uses_covered
 
-  directory_end_most : directory_end K ≤ directory_end L
-  unfolding directory_end
-  directory_end_most = end_covered 4 (inl refl) (ref_list_end K) (ref_list_end L) (directory_section K).items (directory_section L).items directories_are_covered ref_list_end_most
+  directory_end_most : end (directory_section K) ≤ end (directory_section L)
+  unfolding directory_section
+  directory_end_most = end_covered 4 (inl refl) (end (ref_list_section K)) (end (ref_list_section L)) (directory_section K).items (directory_section L).items directories_are_covered ref_list_end_most
 
   -- ---- the map
 
   entries_most : length (flat_map section_entry (data_sections K)) ≤ length (flat_map section_entry (data_sections L))
+  unfolding array_section string_section
   entries_most =
       sections_most (data_sections K) (data_sections L) (
         covered_few (type_list_section K).items (type_list_section L).items type_lists_covered,
@@ -601,7 +598,7 @@ module _ (cs : List Definition) (m : Mentions) where
   -- ---- the file
 
   pub shared_no_longer : length (unsigned_file K) ≤ length (unsigned_file L)
-  shared_no_longer = omega (arith, file_length K, file_length L, entries_most, round_up_least (directory_end K) (directory_end L) directory_end_most)
+  shared_no_longer = omega (arith, file_length K, file_length L, entries_most, round_up_least (end (directory_section K)) (end (directory_section L)) directory_end_most)
 
 -- definitions in order, each use with an item of its own
 abbrev each_for_itself : List Definition → Ordered

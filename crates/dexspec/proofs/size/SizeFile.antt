@@ -1,5 +1,5 @@
 -- The canonical file has at most as many bytes as its class definitions weigh.
-use Rattle.std.proofs.Common.{◌≡◌, ℕ, zero, suc, ◌+◌, ◌-◌, ◌*◌, ◌%◌, ◌/◌, ◌≤◌, Bool, true, false, List, [], ◌∷◌, ◌++◌, map, length, refl, ◌∙◌, arith, sum_by, flat_map, if◌then◌else◌, ◌==◌, length-append, slice_index}
+use Rattle.std.proofs.Common.{◌≡◌, ℕ, zero, suc, ◌+◌, ◌-◌, ◌*◌, ◌%◌, ◌/◌, ◌≤◌, Bool, true, false, List, [], ◌∷◌, ◌++◌, map, length, refl, arith, sum_by, flat_map, if◌then◌else◌, ◌==◌, length-append, slice_index}
 use Rattle.std.specs.List.{concat}
 use Rattle.std.specs.Int.{w32, to_be_bytes}
 use Rattle.std.specs.FinMap.Entries.{put, by_order}
@@ -11,7 +11,7 @@ use Rattle.std.proofs.lemmas.List.Sums.{sum_by-cons}
 use Rattle.std.proofs.lemmas.List.Concat.{length-flat_map}
 use Rattle.sha1.specs.Sha1.{sha1, digest_bytes, hash_after, padded_message}
 use Rattle.dexspec.specs.Bytes.{ushort, uint, round_up, padding}
-use Rattle.dexspec.specs.Texts.{Text, string_data}
+use Rattle.dexspec.specs.Texts.{Text}
 use Rattle.dexspec.specs.Names.{shorty}
 use Rattle.dexspec.specs.Lists.{AreDistinct, zip_with}
 use Rattle.dexspec.specs.Symbols.{Proto, Field, Method}
@@ -25,10 +25,11 @@ use Rattle.dexspec.specs.Depth.{place_cmp, put_all, depth, in_class_order}
 use Rattle.dexspec.specs.Weight.{mentions_weight, static_values_weight, body_weight, weight}
 use Rattle.dexspec.specs.Spellings.{text_index, type_index, proto_index}
 use Rattle.dexspec.specs.Sameness.{same_types, same_debug, same_set}
-use Rattle.dexspec.specs.Placing.{Placed, offsets, section_bytes, Ordered, class_sets}
-use Rattle.dexspec.specs.Canonical.{annotation_offsets, set_offsets, data_start, placed_tables, proto_row_bytes, field_row_bytes, method_row_bytes, ClassOffsets, class_row_bytes, Layout, layout, map_entry_bytes, map_of, map_bytes, table_bytes, header_bytes, unsigned_file, magic, with_sums, ordered, canonical}
+use Rattle.dexspec.specs.Placing.{Placed, offsets, end, section_bytes, uses_offsets, Ordered, class_sets}
+use Rattle.dexspec.specs.Canonical.{type_list_section, annotation_section, annotation_offsets, array_section, string_section, debug_section, code_section, class_data_section, set_section, set_offsets, ref_list_section, directory_section, data_sections, class_offsets, data_start, placed_tables, proto_row_bytes, field_row_bytes, method_row_bytes, class_row_bytes, map_entry_bytes, map_of, map_bytes, table_bytes, header_bytes, unsigned_file, magic, with_sums, ordered, canonical}
 use Rattle.dexspec.proofs.numbers.ByteNumbers.{length-ushort, length-uint}
-use Rattle.dexspec.proofs.size.SizeSums.{map-length, sum_by-map, sum_by-at_most, length-offsets_from, padding-at_most}
+use Rattle.dexspec.proofs.layout.Placements.{length-string_offsets}
+use Rattle.dexspec.proofs.size.SizeSums.{sum_by-map, sum_by-at_most, padding-at_most}
 use Rattle.dexspec.proofs.size.SizeItems.{each-is}
 use Rattle.dexspec.proofs.size.SizeClass.{zipped-size}
 use Rattle.dexspec.proofs.size.SizeSections.{list_part, items_part, set_part, refs_part, debug_part, code_part, data_part, directory_part, type_lists-size, annotations-size, sets-size, arrays-size, strings-size, debugs-size, codes-size, class_data-size, refs-size, directories-size}
@@ -58,34 +59,25 @@ section_sizes K =
     ∷ sum_by (λ d. sum_by code_part (declared_methods d.1)) K.classes ∷ sum_by data_part K.classes ∷ sum_by (λ d. sum_by set_part (class_sets d)) K.classes
     ∷ sum_by (λ d. sum_by (λ x. refs_part x.parameter_annotations) (declared_methods d.1)) K.classes ∷ sum_by directory_part K.classes ∷ []
 
--- ten sections of these sizes, and an offset of a string for each text
-record IsLaidOut (K : Ordered) (l : Layout) : Type 0 where
-  sizes : AreWithinSizes l.sections (section_sizes K)
-  sections : length l.sections ≡ 10
-  strings : length l.strings ≡ length K.pools.texts
-
-layout-is : (K : Ordered) → length K.pools.types ≤ 65536 → IsLaidOut K (layout K)
-unfolding layout annotation_offsets set_offsets
-layout-is K few = record {
-  sizes = (
-    type_lists-size K K.sharing same_types _,
+-- each section is within its bound
+sections-within : (K : Ordered) → length K.pools.types ≤ 65536 → AreWithinSizes (data_sections K) (section_sizes K)
+unfolding type_list_section annotation_section annotation_offsets array_section string_section debug_section code_section class_data_section set_section set_offsets ref_list_section directory_section
+sections-within K few = (
+  type_lists-size K K.sharing same_types _,
+  (
+    annotations-size K K.sharing same_set _,
     (
-      annotations-size K K.sharing same_set _,
+      arrays-size K _,
       (
-        arrays-size K _,
+        strings-size K.pools _,
         (
-          strings-size K.pools _,
-          (
-            debugs-size K K.sharing same_debug _,
-            (codes-size K few _ _, (class_data-size K _ _, (sets-size K K.sharing same_set _ _, (refs-size K _ _, (directories-size K _ _ _, tt))))),
-          ),
+          debugs-size K K.sharing same_debug _,
+          (codes-size K few _ _, (class_data-size K _ _, (sets-size K K.sharing same_set _ _, (refs-size K _ _, (directories-size K _ _ _, tt))))),
         ),
       ),
     ),
-  );
-  sections = refl;
-  strings = length-offsets_from 1 _ (map string_data K.pools.texts) ∙ map-length string_data K.pools.texts;
-}
+  ),
+)
 
 -- ---- tables
 
@@ -114,14 +106,14 @@ numbers-size : (ns : List ℕ) → length (flat_map uint ns) ≡ 4 * length ns
 numbers-size [] = refl
 numbers-size (n ∷ ns) = omega (arith, length-append (uint n) (flat_map uint ns), length-uint n, numbers-size ns)
 
-class_row-size : (m : Mentions) (d : Definition) (offs : ClassOffsets) → length (class_row_bytes m d offs) ≤ 32
+class_row-size : (m : Mentions) (d : Definition) (offs : ℕ × ℕ × ℕ × ℕ) → length (class_row_bytes m d offs) ≤ 32
 class_row-size m (name, c) offs =
     let super = option_map_or (type_index m) c.superclass no_index in
     let source = option_map_or (text_index m) c.source no_index in
-    let x7 = uint offs.class_data ++ uint offs.static_values in
-    let x6 = uint offs.annotations ++ x7 in
+    let x7 = uint offs.2 ++ uint offs.3 in
+    let x6 = uint offs.1 ++ x7 in
     let x5 = uint source ++ x6 in
-    let x4 = uint offs.interfaces ++ x5 in
+    let x4 = uint offs.0 ++ x5 in
     let x3 = uint super ++ x4 in
     let x2 = uint c.flags ++ x3 in
     omega (
@@ -129,31 +121,33 @@ class_row-size m (name, c) offs =
       length-append (uint (type_index m name)) x2,
       length-append (uint c.flags) x3,
       length-append (uint super) x4,
-      length-append (uint offs.interfaces) x5,
+      length-append (uint offs.0) x5,
       length-append (uint source) x6,
-      length-append (uint offs.annotations) x7,
-      length-append (uint offs.class_data) (uint offs.static_values),
+      length-append (uint offs.1) x7,
+      length-append (uint offs.2) (uint offs.3),
       length-uint (type_index m name),
       length-uint c.flags,
       length-uint super,
-      length-uint offs.interfaces,
+      length-uint offs.0,
       length-uint source,
-      length-uint offs.annotations,
-      length-uint offs.class_data,
-      length-uint offs.static_values,
+      length-uint offs.1,
+      length-uint offs.2,
+      length-uint offs.3,
     )
 
-tables-size : (K : Ordered) (l : Layout) → length l.strings ≡ length K.pools.texts
-    → length (table_bytes K l) ≤ 4 * length K.pools.texts + 4 * length K.pools.types + 12 * length K.pools.protos + 8 * length K.pools.fields + 8 * length K.pools.methods + 32 * length K.classes
-tables-size K l same =
+tables-size : (K : Ordered)
+    → length (table_bytes K) ≤ 4 * length K.pools.texts + 4 * length K.pools.types + 12 * length K.pools.protos + 8 * length K.pools.fields + 8 * length K.pools.methods + 32 * length K.classes
+tables-size K =
     let m = K.pools in
+    let strings = offsets (string_section K) in
+    let lists = uses_offsets (type_list_section K) in
     let type_row = λ (t : Text). uint (text_index m t) in
-    let x1 = flat_map uint l.strings in
+    let x1 = flat_map uint strings in
     let x2 = flat_map type_row m.types in
-    let x3 = concat (zip_with (proto_row_bytes m) m.protos l.parameters) in
+    let x3 = concat (zip_with (proto_row_bytes m) m.protos lists) in
     let x4 = flat_map (field_row_bytes m) m.fields in
     let x5 = flat_map (method_row_bytes m) m.methods in
-    let x6 = concat (zip_with (class_row_bytes m) K.classes l.classes) in
+    let x6 = concat (zip_with (class_row_bytes m) K.classes (class_offsets K)) in
     omega (
       arith,
       length-append x1 (x2 ++ (x3 ++ (x4 ++ (x5 ++ x6)))),
@@ -161,16 +155,16 @@ tables-size K l same =
       length-append x3 (x4 ++ (x5 ++ x6)),
       length-append x4 (x5 ++ x6),
       length-append x5 x6,
-      same,
-      numbers-size l.strings,
+      length-string_offsets K,
+      numbers-size strings,
       length-flat_map type_row m.types,
       sum_by-at_most (λ (t : Text). length (type_row t)) 4 m.types (λ t. omega (arith, length-uint (text_index m t))),
-      zipped-size (proto_row_bytes m) 12 m.protos l.parameters (proto_row-size m),
+      zipped-size (proto_row_bytes m) 12 m.protos lists (proto_row-size m),
       length-flat_map (field_row_bytes m) m.fields,
       sum_by-at_most (λ (f : Field). length (field_row_bytes m f)) 8 m.fields (field_row-size m),
       length-flat_map (method_row_bytes m) m.methods,
       sum_by-at_most (λ (x : Method). length (method_row_bytes m x)) 8 m.methods (method_row-size m),
-      zipped-size (class_row_bytes m) 32 K.classes l.classes (class_row-size m),
+      zipped-size (class_row_bytes m) 32 K.classes (class_offsets K) (class_row-size m),
     )
 
 -- ---- the map
@@ -180,22 +174,21 @@ one-at_most true x = omega arith
 one-at_most false x = omega arith
 
 -- a header, six tables, ten sections and the map itself
-map_of-size : (K : Ordered) (l : Layout) (map_off : ℕ) → length l.sections ≡ 10 → length (map_of K l map_off) ≤ 18
-map_of-size K l map_off ten =
+map_of-size : (K : Ordered) (map_off : ℕ) → length (map_of K map_off) ≤ 18
+map_of-size K map_off =
     let table : Table × ℕ × ℕ → List (Section × ℕ × ℕ) = λ t. if t.1 == 0 then [] else (TableOf t.0, t.1, t.2) ∷ [] in
     let section : Placed → List (Section × ℕ × ℕ) = λ p. if length p.items == 0 then [] else (p.kind, length p.items, slice_index (offsets p) 0) ∷ [] in
     let tables = flat_map table (placed_tables K) in
-    let sections = flat_map section l.sections in
+    let sections = flat_map section (data_sections K) in
     let last : List (Section × ℕ × ℕ) = (MapList, 1, map_off) ∷ [] in
     omega (
       arith,
       length-append tables (sections ++ last),
       length-append sections last,
-      ten,
       length-flat_map table (placed_tables K),
       sum_by-at_most (λ (t : Table × ℕ × ℕ). length (table t)) 1 (placed_tables K) (λ t. one-at_most {X = Section × ℕ × ℕ} (t.1 == 0) (TableOf t.0, t.1, t.2)),
-      length-flat_map section l.sections,
-      sum_by-at_most (λ (p : Placed). length (section p)) 1 l.sections (λ p. one-at_most {X = Section × ℕ × ℕ} (length p.items == 0) (p.kind, length p.items, slice_index (offsets p) 0)),
+      length-flat_map section (data_sections K),
+      sum_by-at_most (λ (p : Placed). length (section p)) 1 (data_sections K) (λ p. one-at_most {X = Section × ℕ × ℕ} (length p.items == 0) (p.kind, length p.items, slice_index (offsets p) 0)),
     )
 
 map_bytes-size : (es : List (Section × ℕ × ℕ)) → length (map_bytes es) ≤ 4 + 12 * length es
@@ -268,45 +261,42 @@ padding-size : (at : ℕ) → length (padding 4 at) ≤ 3
 padding-size at = omega (arith, length-replicate {A = ℕ} ((4 - at % 4) % 4) 0, padding-at_most 3 at)
 
 -- rows and sections have at most as many bytes as their contents weigh
-pub parts-size : (K : Ordered) → length K.pools.types ≤ 65536 → length (table_bytes K (layout K)) + length (flat_map section_bytes (layout K).sections) ≤ mentions_weight K.pools + sum_by (λ d. body_weight d.1) K.classes
+pub parts-size : (K : Ordered) → length K.pools.types ≤ 65536 → length (table_bytes K) + length (flat_map section_bytes (data_sections K)) ≤ mentions_weight K.pools + sum_by (λ d. body_weight d.1) K.classes
 parts-size K few =
-    let l = layout K in
-    let is = layout-is K few in
-    omega (arith, tables-size K l is.strings, sections-size l.sections (section_sizes K) is.sizes, mentions-cover K.pools, classes-cover K.classes)
+    omega (arith, tables-size K, sections-size (data_sections K) (section_sizes K) (sections-within K few), mentions-cover K.pools, classes-cover K.classes)
 
 pub file-size : (K : Ordered) → length K.pools.types ≤ 65536 → length (with_sums (unsigned_file K)) ≤ 1024 + mentions_weight K.pools + sum_by (λ d. body_weight d.1) K.classes
 unfolding unsigned_file
 file-size K few =
-    let l = layout K in
-    let is = layout-is K few in
-    let map_off = round_up 4 l.data_end in
-    let map_list = map_bytes (map_of K l map_off) in
+    let data_end = end (directory_section K) in
+    let map_off = round_up 4 data_end in
+    let map_list = map_bytes (map_of K map_off) in
     let header = header_bytes K map_off (map_off + length map_list) in
-    let sections = flat_map section_bytes l.sections in
-    let gap = padding 4 l.data_end in
+    let sections = flat_map section_bytes (data_sections K) in
+    let gap = padding 4 data_end in
     omega (
       arith,
       with_sums-size (unsigned_file K),
-      length-append header (table_bytes K l ++ (sections ++ (gap ++ map_list))),
-      length-append (table_bytes K l) (sections ++ (gap ++ map_list)),
+      length-append header (table_bytes K ++ (sections ++ (gap ++ map_list))),
+      length-append (table_bytes K) (sections ++ (gap ++ map_list)),
       length-append sections (gap ++ map_list),
       length-append gap map_list,
       header-size K map_off (map_off + length map_list),
       parts-size K few,
-      padding-size l.data_end,
-      map_bytes-size (map_of K l map_off),
-      map_of-size K l map_off is.sections,
+      padding-size data_end,
+      map_bytes-size (map_of K map_off),
+      map_of-size K map_off,
     )
 
 -- the file is at least as long as its header
 pub file-least : (K : Ordered) → 112 ≤ length (with_sums (unsigned_file K))
 unfolding unsigned_file
 file-least K =
-    let l = layout K in
-    let map_off = round_up 4 l.data_end in
-    let map_list = map_bytes (map_of K l map_off) in
+    let data_end = end (directory_section K) in
+    let map_off = round_up 4 data_end in
+    let map_list = map_bytes (map_of K map_off) in
     let file_size = map_off + length map_list in
-    let rest = table_bytes K l ++ (flat_map section_bytes l.sections ++ (padding 4 l.data_end ++ map_list)) in
+    let rest = table_bytes K ++ (flat_map section_bytes (data_sections K) ++ (padding 4 data_end ++ map_list)) in
     omega (arith, with_sums-size (unsigned_file K), length-append (header_bytes K map_off file_size) rest, header-size K map_off file_size)
 
 -- ---- classes in order

@@ -3,14 +3,15 @@ use Rattle.std.proofs.Common.{◌≡◌, ℕ, ◌+◌, ◌-◌, ◌*◌, ◌/◌
 use Rattle.std.proofs.lemmas.List.Sums.{sum_by-le-sum_by}
 use Rattle.std.proofs.lemmas.List.Elements.{All-head, All-tail}
 use Rattle.std.proofs.lemmas.List.Concat.{length-flat_map}
+use Rattle.std.specs.Option.{option_map}
 use Rattle.dexspec.specs.Bytes.{ushort, uint}
 use Rattle.dexspec.specs.Numbers.{uleb128, sleb128, plus_one, magnitude}
 use Rattle.dexspec.specs.Texts.{Text, form, spelling, string_data}
 use Rattle.dexspec.specs.Debug.{Operation, AdvancePc, AdvanceLine, StartLocal, StartLocalExtended, EndLocal, RestartLocal, SetPrologueEnd, SetEpilogueBegin, SetFile, Special, Debug}
-use Rattle.dexspec.specs.Values.{Value, ByteValue, ShortValue, CharValue, IntValue, LongValue, FloatValue, DoubleValue, StringValue, TypeValue, FieldValue, MethodValue, EnumValue, ArrayValue, AnnotationValue, NullValue, BooleanValue, Values, NoValues, ThenValue, Elements, NoElements, ThenElement, count_values, names_of, byte_value_type, short_value_type, char_value_type, int_value_type, long_value_type, float_value_type, double_value_type, string_value_type, type_value_type, field_value_type, method_value_type, enum_value_type}
+use Rattle.dexspec.specs.Values.{Value, ByteValue, ShortValue, CharValue, IntValue, LongValue, FloatValue, DoubleValue, StringValue, TypeValue, FieldValue, MethodValue, EnumValue, ArrayValue, AnnotationValue, NullValue, BooleanValue, Values, NoValues, ThenValue, Elements, NoElements, ThenElement, count_values, names_of}
 use Rattle.dexspec.specs.Annotations.{Annotation}
 use Rattle.dexspec.specs.Mentions.{Mentions}
-use Rattle.dexspec.specs.Spellings.{text_index, type_index, field_index, method_index, index_or_none, optional_text_bytes, optional_type_bytes, operation_bytes, debug_bytes, widths, unsigned_width, signed_width, bits_width, complement, unsigned_bytes, signed_bytes, bits_bytes, value_bytes, values_bytes, elements_bytes, encoded_array_bytes, annotation_bytes, offsets_bytes}
+use Rattle.dexspec.specs.Spellings.{text_index, type_index, field_index, method_index, optional_text_bytes, optional_type_bytes, operation_bytes, debug_bytes, widths, unsigned_width, signed_width, bits_width, complement, unsigned_bytes, signed_bytes, bits_bytes, value_bytes, values_bytes, elements_bytes, encoded_array_bytes, annotation_bytes, offsets_bytes}
 use Rattle.dexspec.specs.Weight.{text_weight, operands, debug_weight, value_weight, values_weight, elements_weight, annotation_weight, static_values_weight}
 use Rattle.dexspec.proofs.numbers.ByteNumbers.{length-bytes_of, length-ushort, length-uint}
 use Rattle.dexspec.proofs.numbers.Spellings.{uleb128_bounds, sleb128_bounds}
@@ -42,10 +43,10 @@ string_data-size s =
 -- ---- debug programs
 
 optional_text-size : (m : Mentions) (s : Option Text) → length (optional_text_bytes m s) ≤ 5
-optional_text-size m s = uleb128-size (plus_one (index_or_none (text_index m) s))
+optional_text-size m s = uleb128-size (plus_one (option_map (text_index m) s))
 
 optional_type-size : (m : Mentions) (t : Option Text) → length (optional_type_bytes m t) ≤ 5
-optional_type-size m t = uleb128-size (plus_one (index_or_none (type_index m) t))
+optional_type-size m t = uleb128-size (plus_one (option_map (type_index m) t))
 
 operation-size : (m : Mentions) (op : Operation) → length (operation_bytes m op) ≤ 1 + 5 * operands op
 operation-size m (AdvancePc addresses) = omega (arith, uleb128-size addresses)
@@ -114,18 +115,18 @@ bits_bytes-size code width v le = omega (arith, length-bytes_of (bits_width widt
 
 mutual
   pub value_bytes-size : (m : Mentions) (v : Value) → length (value_bytes m v) ≤ value_weight v
-  value_bytes-size m (ByteValue z) = signed_bytes-size byte_value_type z
-  value_bytes-size m (ShortValue z) = signed_bytes-size short_value_type z
-  value_bytes-size m (CharValue u) = unsigned_bytes-size char_value_type u
-  value_bytes-size m (IntValue z) = signed_bytes-size int_value_type z
-  value_bytes-size m (LongValue z) = signed_bytes-size long_value_type z
-  value_bytes-size m (FloatValue bits) = bits_bytes-size float_value_type 4 bits (omega arith)
-  value_bytes-size m (DoubleValue bits) = bits_bytes-size double_value_type 8 bits (omega arith)
-  value_bytes-size m (StringValue s) = unsigned_bytes-size string_value_type (text_index m s)
-  value_bytes-size m (TypeValue t) = unsigned_bytes-size type_value_type (type_index m t)
-  value_bytes-size m (FieldValue f) = unsigned_bytes-size field_value_type (field_index m f)
-  value_bytes-size m (MethodValue x) = unsigned_bytes-size method_value_type (method_index m x)
-  value_bytes-size m (EnumValue f) = unsigned_bytes-size enum_value_type (field_index m f)
+  value_bytes-size m (ByteValue z) = signed_bytes-size 0x00 z
+  value_bytes-size m (ShortValue z) = signed_bytes-size 0x02 z
+  value_bytes-size m (CharValue u) = unsigned_bytes-size 0x03 u
+  value_bytes-size m (IntValue z) = signed_bytes-size 0x04 z
+  value_bytes-size m (LongValue z) = signed_bytes-size 0x06 z
+  value_bytes-size m (FloatValue bits) = bits_bytes-size 0x10 4 bits (omega arith)
+  value_bytes-size m (DoubleValue bits) = bits_bytes-size 0x11 8 bits (omega arith)
+  value_bytes-size m (StringValue s) = unsigned_bytes-size 0x17 (text_index m s)
+  value_bytes-size m (TypeValue t) = unsigned_bytes-size 0x18 (type_index m t)
+  value_bytes-size m (FieldValue f) = unsigned_bytes-size 0x19 (field_index m f)
+  value_bytes-size m (MethodValue x) = unsigned_bytes-size 0x1a (method_index m x)
+  value_bytes-size m (EnumValue f) = unsigned_bytes-size 0x1b (field_index m f)
   value_bytes-size m (ArrayValue vs) = omega (arith, length-append (uleb128 (count_values vs)) (values_bytes m vs), uleb128-size (count_values vs), values_bytes-size m vs)
   value_bytes-size m (AnnotationValue t es) =
       let count = uleb128 (length (names_of es)) in

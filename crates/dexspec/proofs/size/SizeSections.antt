@@ -269,11 +269,11 @@ directory-use m d p =
     let h = aligned-part (directory_bytes m d p.0 p.1) (16 + 8 * length (declared_fields d.1) + 16 * length (declared_methods d.1)) (directory_bytes-size m d p.0 p.1) in
     omega (arith, h)
 
-pub directories-size : (K : Ordered) (from : ℕ) (sets : List SetOffsets) (refs : List ℕ) → length (bytes_from 4 from (present (directory_uses K sets refs))) ≤ sum_by directory_part K.classes
+pub directories-size : (K : Ordered) (from : ℕ) (sets : List SetOffsets) (refs : List ℕ) → length (bytes_from 4 from (map (λ b. b) (present (directory_uses K sets refs)))) ≤ sum_by directory_part K.classes
 directories-size K from sets refs =
+    let all = section-size 3 from (λ (b : List ℕ). b) (λ b. length b + 3) (directory_uses K sets refs) (λ b. omega arith) in
     omega (
       arith,
-      bytes_from-at_most 3 from (present (directory_uses K sets refs)),
-      sum_by-present (λ (b : List ℕ). length b + 3) (directory_uses K sets refs),
+      all,
       sum_by-zip_with (or_zero (λ (b : List ℕ). length b + 3)) directory_part (λ (d : Definition) (p : SetOffsets × List ℕ). directory_bytes K.pools d p.0 p.1) K.classes (zip sets (by_class K refs)) (directory-use K.pools),
     )

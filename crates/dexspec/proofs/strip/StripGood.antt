@@ -5,7 +5,7 @@ use Rattle.std.specs.List.{Contains}
 use Rattle.dexspec.specs.Texts.{Text}
 use Rattle.dexspec.specs.Classes.{Body, Definition}
 use Rattle.dexspec.specs.Depth.{HasDepth, IsAcyclic}
-use Rattle.dexspec.specs.Merging.{Caps, Cap, Types, Protos, Fields, Methods, ShortStrings, Weight, Exceeds, Fits, IsConflict, IsConsistent, IsCycle, IsGood, Cause, Conflict, Cycle, Exceeded, IsCause}
+use Rattle.dexspec.specs.Merging.{Caps, Cap, TypeCap, ProtoCap, FieldCap, MethodCap, ShortStringCap, WeightCap, Exceeds, Fits, IsConflict, IsConsistent, IsCycle, IsGood, Cause, Conflict, Cycle, Exceeded, IsCause}
 use Rattle.dexspec.specs.Stripping.{strip_body, strip_definition, strip}
 use Rattle.dexspec.proofs.lists.Mapped.{Contains-map_source}
 use Rattle.dexspec.proofs.strip.StripUnion.{is_defined-strip, is_below-strip}
@@ -71,12 +71,12 @@ module _ (D : List Definition) where
 
   -- a cap that stripped definitions exceed is exceeded by the definitions
   pub Exceeds-strip : (caps : Caps) (clause : Cap) → Exceeds caps (strip D) clause → Exceeds caps D clause
-  Exceeds-strip caps Types x = omega (arith, x, types-strip D)
-  Exceeds-strip caps Protos x = omega (arith, x, protos-strip D)
-  Exceeds-strip caps Fields x = omega (arith, x, fields-strip D)
-  Exceeds-strip caps Methods x = omega (arith, x, methods-strip D)
-  Exceeds-strip caps ShortStrings x = (x.0, HasShortString-strip_source D x.0 x.1, omega (arith, x.2, text_rank-strip D x.0))
-  Exceeds-strip caps Weight x = let o = originals-strip D x.0 x.1 x.2 in (o.of, o.distinct, o.within, omega (arith, x.3, o.heavier))
+  Exceeds-strip caps TypeCap x = omega (arith, x, types-strip D)
+  Exceeds-strip caps ProtoCap x = omega (arith, x, protos-strip D)
+  Exceeds-strip caps FieldCap x = omega (arith, x, fields-strip D)
+  Exceeds-strip caps MethodCap x = omega (arith, x, methods-strip D)
+  Exceeds-strip caps ShortStringCap x = (x.0, HasShortString-strip_source D x.0 x.1, omega (arith, x.2, text_rank-strip D x.0))
+  Exceeds-strip caps WeightCap x = let o = originals-strip D x.0 x.1 x.2 in (o.of, o.distinct, o.within, omega (arith, x.3, o.heavier))
 
   -- if definitions fit, stripped definitions fit
   pub Fits-strip : (caps : Caps) → Fits caps D → Fits caps (strip D)

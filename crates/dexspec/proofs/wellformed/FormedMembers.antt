@@ -157,24 +157,24 @@ data_formed b rise name o d (inl h) = subst (DataFormed b name) (sym h.1) (recor
 })
 data_formed b rise name o d (inr h) =
     let is = h.1 in
-    let p = o + is.static_count_size + is.instance_count_size + is.direct_count_size + is.virtual_count_size in
+    let p = o + is.counts_bytes in
     record {
       field = λ x c. elim (Contains-append_cases d.static_fields d.instance_fields x c) [
-        | inl l ↦ let s = fields_have b p None d.static_fields is.static_fields_size x is.static_fields l in (s.0, s.2, s.3)
-        | inr l ↦ let s = fields_have b (p + is.static_fields_size) None d.instance_fields is.instance_fields_size x is.instance_fields l in (s.0, s.2, s.3)
+        | inl l ↦ let s = fields_have b p None d.static_fields is.static_fields_bytes x is.static_fields l in (s.0, s.2, s.3)
+        | inr l ↦ let s = fields_have b (p + is.static_fields_bytes) None d.instance_fields is.instance_fields_bytes x is.instance_fields l in (s.0, s.2, s.3)
       ];
       method = λ x c. elim (Contains-append_cases d.direct_methods d.virtual_methods x c) [
-        | inl l ↦ let s = methods_have b (p + is.static_fields_size + is.instance_fields_size) None d.direct_methods is.direct_methods_size x is.direct_methods l in (s.0, s.2, s.3)
-        | inr l ↦ let s = methods_have b (p + is.static_fields_size + is.instance_fields_size + is.direct_methods_size) None d.virtual_methods is.virtual_methods_size x is.virtual_methods l in (s.0, s.2, s.3)
+        | inl l ↦ let s = methods_have b (p + is.static_fields_bytes + is.instance_fields_bytes) None d.direct_methods is.direct_methods_bytes x is.direct_methods l in (s.0, s.2, s.3)
+        | inr l ↦ let s = methods_have b (p + is.static_fields_bytes + is.instance_fields_bytes + is.direct_methods_bytes) None d.virtual_methods is.virtual_methods_bytes x is.virtual_methods l in (s.0, s.2, s.3)
       ];
-      static_count = is.static_count.spelled.in_range;
-      instance_count = is.instance_count.spelled.in_range;
-      direct_count = is.direct_count.spelled.in_range;
-      virtual_count = is.virtual_count.spelled.in_range;
-      static_rise = λ a own. field_keys b rise name a p None d.static_fields is.static_fields_size is.static_fields own;
-      instance_rise = λ a own. field_keys b rise name a (p + is.static_fields_size) None d.instance_fields is.instance_fields_size is.instance_fields own;
-      direct_rise = λ a ms own made. method_keys b rise name a (p + is.static_fields_size + is.instance_fields_size) None d.direct_methods ms is.direct_methods_size is.direct_methods own made;
-      virtual_rise = λ a ms own made. method_keys b rise name a (p + is.static_fields_size + is.instance_fields_size + is.direct_methods_size) None d.virtual_methods ms is.virtual_methods_size is.virtual_methods own made;
+      static_count = is.counts.2.spelled.in_range;
+      instance_count = is.counts.3.2.spelled.in_range;
+      direct_count = is.counts.3.3.2.spelled.in_range;
+      virtual_count = is.counts.3.3.3.2.spelled.in_range;
+      static_rise = λ a own. field_keys b rise name a p None d.static_fields is.static_fields_bytes is.static_fields own;
+      instance_rise = λ a own. field_keys b rise name a (p + is.static_fields_bytes) None d.instance_fields is.instance_fields_bytes is.instance_fields own;
+      direct_rise = λ a ms own made. method_keys b rise name a (p + is.static_fields_bytes + is.instance_fields_bytes) None d.direct_methods ms is.direct_methods_bytes is.direct_methods own made;
+      virtual_rise = λ a ms own made. method_keys b rise name a (p + is.static_fields_bytes + is.instance_fields_bytes + is.direct_methods_bytes) None d.virtual_methods ms is.virtual_methods_bytes is.virtual_methods own made;
     }
 
 -- ---- members

@@ -104,7 +104,7 @@ module _ (b : List ℕ) (strings : AreStrings b) (types : AreTypes b) where
   pub protos_rise : AreProtos b → (i j : ℕ) (p q : Proto) → i < j → ProtoRow b i p → ProtoRow b j q → proto_cmp p q ≡ Less
   protos_rise protos i j p q lt h g =
       rows_rise proto_cmp proto_total (ProtoRow b) (one_proto b) (table_size b ProtoIds) (λ k less.
-      let w = protos k less in record { value = w.proto; is = w.is; follows = λ l before e row. proto_next l k before w.proto row w.is (w.follows l e) }) j i p q lt g.row h g
+      let w = protos k less in record { value = w.item; is = w.is; follows = λ l before e row. proto_next l k before w.item row w.is (w.follows l e) }) j i p q lt g.row h g
 
   -- protos are in the order of their indices
   protos_follow : AreProtos b → (i j : ℕ) (p q : Proto) → ProtoRow b i p → ProtoRow b j q → Follow (nat_cmp i j) (proto_cmp p q)
@@ -133,7 +133,7 @@ module _ (b : List ℕ) (strings : AreStrings b) (types : AreTypes b) where
   pub fields_rise : AreFields b → (i j : ℕ) (f g : Field) → i < j → FieldRow b i f → FieldRow b j g → field_cmp f g ≡ Less
   fields_rise fields i j f g lt h k =
       rows_rise field_cmp field_total (FieldRow b) (one_field b) (table_size b FieldIds) (λ l less.
-      let w = fields l less in record { value = w.field; is = w.is; follows = λ m before e row. field_next m l before w.field row w.is (w.follows m e) }) j i f g lt k.row h k
+      let w = fields l less in record { value = w.item; is = w.is; follows = λ m before e row. field_next m l before w.item row w.is (w.follows m e) }) j i f g lt k.row h k
 
   -- methods are in the order of their keys
   method_next : AreProtos b → (i j : ℕ) (f g : Method) → MethodRow b i f → MethodRow b j g
@@ -156,4 +156,4 @@ module _ (b : List ℕ) (strings : AreStrings b) (types : AreTypes b) where
   pub methods_rise : AreProtos b → AreMethods b → (i j : ℕ) (f g : Method) → i < j → MethodRow b i f → MethodRow b j g → method_cmp f g ≡ Less
   methods_rise protos methods i j f g lt h k =
       rows_rise method_cmp method_total (MethodRow b) (one_method b) (table_size b MethodIds) (λ l less.
-      let w = methods l less in record { value = w.method; is = w.is; follows = λ m before e row. method_next protos m l before w.method row w.is (w.follows m e) }) j i f g lt k.row h k
+      let w = methods l less in record { value = w.item; is = w.is; follows = λ m before e row. method_next protos m l before w.item row w.is (w.follows m e) }) j i f g lt k.row h k

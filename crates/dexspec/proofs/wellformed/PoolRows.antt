@@ -77,12 +77,12 @@ module _ (b : List ℕ) (strings : AreStrings b) where
     types_rise i j s t lt h g =
         rows_rise text_cmp text_total (TypeRow b) (one_type b) (table_size b TypeIds) (λ k less.
         let w = types k less in record {
-          value = w.type;
+          value = w.item;
           is = w.is;
           follows = λ l before e row.
               let before_index = uint_at b (row_at b TypeIds l) in
               let index = uint_at b (row_at b TypeIds k) in
-              strings_rise before_index index before w.type (less_number before_index index (first_less (nat_cmp before_index index) (w.follows l e))) row.text w.is.text;
+              strings_rise before_index index before w.item (less_number before_index index (first_less (nat_cmp before_index index) (w.follows l e))) row.text w.is.text;
         }) j i s t lt g.row h g
 
     -- a type has one row

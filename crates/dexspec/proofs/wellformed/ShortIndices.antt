@@ -5,7 +5,7 @@ use Rattle.std.specs.Prelude.{◌-◌, slice_index_or, if◌then◌else◌, nat_
 use Rattle.std.specs.Option.{option_and_then}
 use Rattle.std.specs.List.{Contains, list_all, find, flat_map}
 use Rattle.std.proofs.lemmas.Bool.{cases_lt, leb-true, eq-eqb, ltb-true}
-use Rattle.dexspec.specs.Symbols.{Pool, Strings, Symbol, TextSymbol, TypeSymbol, ProtoSymbol, FieldSymbol, MethodSymbol}
+use Rattle.dexspec.specs.Symbols.{Pool, StringPool, Symbol, TextSymbol, TypeSymbol, ProtoSymbol, FieldSymbol, MethodSymbol}
 use Rattle.dexspec.specs.Symbols.{field_cmp, method_cmp, proto_cmp}
 use Rattle.dexspec.specs.Texts.{text_cmp}
 use Rattle.dexspec.specs.Opcodes.{Opcode, OpcodeRun, opcode_runs, opcode_of, is_in_run}
@@ -41,7 +41,7 @@ found_is p (y ∷ ys) x e = by (p y) refl e (found_is p ys x)
 
 -- the opcodes of a run that name texts are two
 abbrev names_texts : OpcodeRun → Option Pool → Bool
-names_texts r (Some Strings) = nat_le 0x1a r.first && nat_le (r.first + length r.mnemonics) 0x1c
+names_texts r (Some StringPool) = nat_le 0x1a r.first && nat_le (r.first + length r.mnemonics) 0x1c
 names_texts r _ = true
 
 -- this holds in the whole table
@@ -50,12 +50,12 @@ unfolding opcode_runs
 runs_name_texts = refl
 
 -- const-string, or const-string/jumbo
-string_opcode : (n : ℕ) (op : Opcode) → opcode_of n ≡ Some op → op.index ≡ Some Strings → (0x1a ≤ n) × (n ≤ 0x1b)
+string_opcode : (n : ℕ) (op : Opcode) → opcode_of n ≡ Some op → op.index ≡ Some StringPool → (0x1a ≤ n) × (n ≤ 0x1b)
 unfolding opcode_of
 string_opcode n op e index =
     let s = mapped_some (λ (r : OpcodeRun). record { format = r.format; index = r.index; mnemonic = slice_index_or r.mnemonics (n - r.first) [] }) (find (is_in_run n) opcode_runs) op e in
     let r = s.0 in
-    let pool : r.index ≡ Some Strings = ap (λ (o : Opcode). o.index) s.2 ∙ index in
+    let pool : r.index ≡ Some StringPool = ap (λ (o : Opcode). o.index) s.2 ∙ index in
     let in_run = found_is (is_in_run n) opcode_runs r s.1 in
     let passes : names_texts r r.index ≡ true = found_passes (is_in_run n) (λ (q : OpcodeRun). names_texts q q.index) opcode_runs r runs_name_texts s.1 in
     let both : (nat_le 0x1a r.first && nat_le (r.first + length r.mnemonics) 0x1c) ≡ true = sym (ap (names_texts r) pool) ∙ passes in
@@ -66,16 +66,16 @@ string_opcode n op e index =
     (omega (arith, low, from), omega (arith, high, to))
 
 -- case split on whether a payload begins here
-text_byte_by : (u : ℕ) (t : Bool) → is_payload_ident u ≡ t → (if t then None else option_and_then (λ op. op.index) (opcode_of (low_byte u))) ≡ Some Strings → (0x1a ≤ low_byte u) × (low_byte u ≤ 0x1b)
+text_byte_by : (u : ℕ) (t : Bool) → is_payload_ident u ≡ t → (if t then None else option_and_then (λ op. op.index) (opcode_of (low_byte u))) ≡ Some StringPool → (0x1a ≤ low_byte u) × (low_byte u ≤ 0x1b)
 text_byte_by u true e h = absurd cc
 text_byte_by u false e h = by (opcode_of (low_byte u)) refl h
   where
-    by : (o : Option Opcode) → opcode_of (low_byte u) ≡ o → option_and_then (λ op. op.index) o ≡ Some Strings → (0x1a ≤ low_byte u) × (low_byte u ≤ 0x1b)
+    by : (o : Option Opcode) → opcode_of (low_byte u) ≡ o → option_and_then (λ op. op.index) o ≡ Some StringPool → (0x1a ≤ low_byte u) × (low_byte u ≤ 0x1b)
     by None q k = absurd cc
     by (Some op) q k = string_opcode (low_byte u) op q k
 
 -- the opcode of an instruction that names a text by an index of 16 bits
-short_string : (us : List ℕ) → index_pool us ≡ Some Strings → is_wide_index us ≡ false → low_byte (slice_index us 0) ≡ 0x1a
+short_string : (us : List ℕ) → index_pool us ≡ Some StringPool → is_wide_index us ≡ false → low_byte (slice_index us 0) ≡ 0x1a
 short_string us pool short =
     let n = low_byte (slice_index us 0) in
     let within = text_byte_by (slice_index us 0) (is_payload_ident (slice_index us 0)) refl pool in

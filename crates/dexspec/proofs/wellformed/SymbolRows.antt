@@ -253,15 +253,15 @@ module _ (b : List ℕ) where
   member_rows o d (inl h) = subst MembersHaveRows (sym h.1) (record { fields = λ x c. absurd (Contains-nil x c); methods = λ x c. absurd (Contains-nil x c) })
   member_rows o d (inr h) =
       let is = h.1 in
-      let p = o + is.static_count_size + is.instance_count_size + is.direct_count_size + is.virtual_count_size in
+      let p = o + is.counts_bytes in
       record {
         fields = λ x c. elim (Contains-append_cases d.static_fields d.instance_fields x c) [
-          | inl l ↦ field_source b p None d.static_fields is.static_fields_size x is.static_fields l
-          | inr l ↦ field_source b (p + is.static_fields_size) None d.instance_fields is.instance_fields_size x is.instance_fields l
+          | inl l ↦ field_source b p None d.static_fields is.static_fields_bytes x is.static_fields l
+          | inr l ↦ field_source b (p + is.static_fields_bytes) None d.instance_fields is.instance_fields_bytes x is.instance_fields l
         ];
         methods = λ x c. elim (Contains-append_cases d.direct_methods d.virtual_methods x c) [
-          | inl l ↦ method_source b (p + is.static_fields_size + is.instance_fields_size) None d.direct_methods is.direct_methods_size x is.direct_methods l
-          | inr l ↦ method_source b (p + is.static_fields_size + is.instance_fields_size + is.direct_methods_size) None d.virtual_methods is.virtual_methods_size x is.virtual_methods l
+          | inl l ↦ method_source b (p + is.static_fields_bytes + is.instance_fields_bytes) None d.direct_methods is.direct_methods_bytes x is.direct_methods l
+          | inr l ↦ method_source b (p + is.static_fields_bytes + is.instance_fields_bytes + is.direct_methods_bytes) None d.virtual_methods is.virtual_methods_bytes x is.virtual_methods l
         ];
       }
 

@@ -37,15 +37,15 @@ tail_is_at x y h = is_at (omega arith) (suffix_is_at (x ∷ []) y h)
 
 -- a uleb128
 pub uleb128_written : (b : List ℕ) (o v : ℕ) → v < 2 ^ 32 → BytesAt b o (uleb128 v) → Uleb128At b o v (length (uleb128 v))
-uleb128_written b o v lt h = begins_with IsUleb128 b o (uleb128 v) v h (uleb128_is v lt).spelled
+uleb128_written b o v lt h = begins_with IsUleb128 b o (uleb128 v) v h (uleb128_is v lt).0
 
 -- an sleb128
 pub sleb128_written : (b : List ℕ) (o : ℕ) (z : ℤ) → FitsSigned w32 z → BytesAt b o (sleb128 z) → Sleb128At b o z (length (sleb128 z))
-sleb128_written b o z fits h = begins_with IsSleb128 b o (sleb128 z) z h (sleb128_is z fits).spelled
+sleb128_written b o z fits h = begins_with IsSleb128 b o (sleb128 z) z h (sleb128_is z fits).0
 
 -- a uleb128p1
 pub uleb128p1_written : (b : List ℕ) (o : ℕ) (v : Option ℕ) → plus_one v < 2 ^ 32 → BytesAt b o (uleb128p1 v) → Uleb128p1At b o v (length (uleb128p1 v))
-uleb128p1_written b o v lt h = begins_with IsUleb128p1 b o (uleb128p1 v) v h (uleb128p1_is v lt).spelled
+uleb128p1_written b o v lt h = begins_with IsUleb128p1 b o (uleb128p1 v) v h (uleb128p1_is v lt).0
 
 -- ---- symbols in the rows of their indices
 

@@ -11,7 +11,7 @@ use Rattle.dexspec.specs.Texts.{Text, text_cmp}
 use Rattle.dexspec.specs.Symbols.{TextSymbol, TypeSymbol, FieldSymbol, MethodSymbol}
 use Rattle.dexspec.specs.Header.{data_off}
 use Rattle.dexspec.specs.Rows.{StringRow, TypeRow, FieldRow, MethodRow}
-use Rattle.dexspec.specs.Values.{Value, ByteValue, ShortValue, CharValue, IntValue, LongValue, FloatValue, DoubleValue, StringValue, TypeValue, FieldValue, MethodValue, EnumValue, ArrayValue, AnnotationValue, NullValue, BooleanValue, Values, NoValues, ThenValue, Elements, NoElements, ThenElement, count_values, names_of, value_byte, byte_value_type, short_value_type, char_value_type, int_value_type, long_value_type, float_value_type, double_value_type, string_value_type, type_value_type, field_value_type, method_value_type, enum_value_type, array_value_type, annotation_value_type, SignedAt, UnsignedAt, BitsAt, IndexAt, ArrayAround, AnnotationAround, ValueAt, ValuesAt, ElementsAt, EncodedArrayAt}
+use Rattle.dexspec.specs.Values.{Value, ByteValue, ShortValue, CharValue, IntValue, LongValue, FloatValue, DoubleValue, StringValue, TypeValue, FieldValue, MethodValue, EnumValue, ArrayValue, AnnotationValue, NullValue, BooleanValue, Values, NoValues, ThenValue, Elements, NoElements, ThenElement, count_values, names_of, value_byte, SignedAt, UnsignedAt, BitsAt, IndexAt, ArrayAround, AnnotationAround, ValueAt, ValuesAt, ElementsAt, EncodedArrayAt}
 use Rattle.dexspec.specs.Annotations.{Annotation, AnnotationAt}
 use Rattle.dexspec.specs.Mentions.{Mentions, value_symbols, values_symbols, elements_symbols, annotation_symbols}
 use Rattle.dexspec.specs.Spellings.{text_index, type_index, field_index, method_index, unsigned_width, signed_width, bits_width, complement, unsigned_bytes, signed_bytes, bits_bytes, value_bytes, values_bytes, elements_bytes, encoded_array_bytes, annotation_bytes}
@@ -98,31 +98,31 @@ module _ (b : List ℕ) (m : Mentions) where
   mutual
     -- a value is at the offset of its bytes
     pub value_written : (o : ℕ) (v : Value) → IsValue v → AreInRows b m (value_symbols v) → BytesAt b o (value_bytes m v) → ValueAt b o v (length (value_bytes m v))
-    value_written o (ByteValue z) is are h = signed_written byte_value_type 1 b o z (omega arith) (omega arith) (room_8 z is) h
-    value_written o (ShortValue z) is are h = signed_written short_value_type 2 b o z (omega arith) (omega arith) (room_16 z is) h
-    value_written o (CharValue u) is are h = unsigned_written char_value_type 2 b o u (omega arith) (omega arith) is h
-    value_written o (IntValue z) is are h = signed_written int_value_type 4 b o z (omega arith) (omega arith) (room_32 z is) h
-    value_written o (LongValue z) is are h = signed_written long_value_type 8 b o z (omega arith) (omega arith) (room_64 z is) h
-    value_written o (FloatValue bits) is are h = bits_written float_value_type 4 b o bits (omega arith) (omega arith) is h
-    value_written o (DoubleValue bits) is are h = bits_written double_value_type 8 b o bits (omega arith) (omega arith) is h
-    value_written o (StringValue s) is are h = index_written StringRow string_value_type b o (text_index m s) s (first_in_row b m (TextSymbol s) [] are) h
-    value_written o (TypeValue t) is are h = index_written TypeRow type_value_type b o (type_index m t) t (first_in_row b m (TypeSymbol t) [] are) h
-    value_written o (FieldValue f) is are h = index_written FieldRow field_value_type b o (field_index m f) f (first_in_row b m (FieldSymbol f) [] are) h
-    value_written o (MethodValue x) is are h = index_written MethodRow method_value_type b o (method_index m x) x (first_in_row b m (MethodSymbol x) [] are) h
-    value_written o (EnumValue f) is are h = index_written FieldRow enum_value_type b o (field_index m f) f (first_in_row b m (FieldSymbol f) [] are) h
+    value_written o (ByteValue z) is are h = signed_written 0x00 1 b o z (omega arith) (omega arith) (room_8 z is) h
+    value_written o (ShortValue z) is are h = signed_written 0x02 2 b o z (omega arith) (omega arith) (room_16 z is) h
+    value_written o (CharValue u) is are h = unsigned_written 0x03 2 b o u (omega arith) (omega arith) is h
+    value_written o (IntValue z) is are h = signed_written 0x04 4 b o z (omega arith) (omega arith) (room_32 z is) h
+    value_written o (LongValue z) is are h = signed_written 0x06 8 b o z (omega arith) (omega arith) (room_64 z is) h
+    value_written o (FloatValue bits) is are h = bits_written 0x10 4 b o bits (omega arith) (omega arith) is h
+    value_written o (DoubleValue bits) is are h = bits_written 0x11 8 b o bits (omega arith) (omega arith) is h
+    value_written o (StringValue s) is are h = index_written StringRow 0x17 b o (text_index m s) s (first_in_row b m (TextSymbol s) [] are) h
+    value_written o (TypeValue t) is are h = index_written TypeRow 0x18 b o (type_index m t) t (first_in_row b m (TypeSymbol t) [] are) h
+    value_written o (FieldValue f) is are h = index_written FieldRow 0x19 b o (field_index m f) f (first_in_row b m (FieldSymbol f) [] are) h
+    value_written o (MethodValue x) is are h = index_written MethodRow 0x1a b o (method_index m x) x (first_in_row b m (MethodSymbol x) [] are) h
+    value_written o (EnumValue f) is are h = index_written FieldRow 0x1b b o (field_index m f) f (first_in_row b m (FieldSymbol f) [] are) h
     value_written o (ArrayValue vs) is are h =
         let bytes = uleb128 (count_values vs) ++ values_bytes m vs in (
-          head_is_at (value_byte 0 array_value_type) bytes h,
+          head_is_at (value_byte 0 0x1c) bytes h,
           length bytes,
-          array_around b (o + 1) (count_values vs) (values_bytes m vs) (λ p k. ValuesAt b p vs k) is.1 (λ p s. values_written p vs is.0 are s) (tail_is_at (value_byte 0 array_value_type) bytes h),
+          array_around b (o + 1) (count_values vs) (values_bytes m vs) (λ p k. ValuesAt b p vs k) is.1 (λ p s. values_written p vs is.0 are s) (tail_is_at (value_byte 0 0x1c) bytes h),
           omega arith,
         )
     value_written o (AnnotationValue t es) is are h =
         let bytes = uleb128 (type_index m t) ++ (uleb128 (length (names_of es)) ++ elements_bytes m es) in (
-          head_is_at (value_byte 0 annotation_value_type) bytes h,
+          head_is_at (value_byte 0 0x1d) bytes h,
           length bytes,
           annotation_around b (o + 1) (type_index m t) t (names_of es) (elements_bytes m es) (λ p k. ElementsAt b p es k) (first_in_row b m (TypeSymbol t) (elements_symbols es) are) is.1 is.2
-              (λ p s. elements_written p es is.0 (rest_in_rows b m (TypeSymbol t) (elements_symbols es) are) s) (tail_is_at (value_byte 0 annotation_value_type) bytes h),
+              (λ p s. elements_written p es is.0 (rest_in_rows b m (TypeSymbol t) (elements_symbols es) are) s) (tail_is_at (value_byte 0 0x1d) bytes h),
           omega arith,
         )
     value_written o NullValue is are h = (h, refl)

@@ -4,9 +4,10 @@ use Rattle.std.specs.Global.{Vec}
 use Rattle.std.specs.Borrow.{Bor}
 use Rattle.dexspec.specs.Bytes.{uint_at}
 use Rattle.dexspec.specs.Numbers.{Uleb128At}
-use Rattle.dexspec.specs.Values.{Value as ValueMeant, Values as ValuesMeant, SizedAt, EncodedValueAt, EncodedArrayItemAt}
+use Rattle.dexspec.specs.Values.{Value as ValueMeant, Values as ValuesMeant, SizedAt, EncodedArrayItemAt}
 use Rattle.dexspec.specs.Mentions.{Mentions}
 use Rattle.dexval.specs.declared.annotation.Annotation.{Annotation as CodeAnnotation}
+use Rattle.dexval.specs.Reading.{EncodedValueAt}
 use Rattle.dexval.specs.declared.nested_checking.Measure.{Measure}
 use Rattle.dexval.specs.declared.set_checking.SetShape.{SetShape}
 use Rattle.dexval.specs.declared.value.Element.{Element}

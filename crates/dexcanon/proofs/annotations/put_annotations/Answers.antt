@@ -2,8 +2,8 @@ use Rattle.std.proofs.Common.{◌+◌, arith, sym, subst, ap, ◌∙◌}
 use Rattle.std.specs.Prelude.{All}
 use Rattle.dexval.specs.Code.{set_of}
 use Rattle.dexval.specs.Numbered.{IsKnownAnnotation, IsKnownSet}
-use Rattle.dexspec.specs.Placing.{bytes_from}
-use Rattle.dexspec.specs.Canonical.{type_list_end}
+use Rattle.dexspec.specs.Placing.{bytes_from, end}
+use Rattle.dexspec.specs.Canonical.{type_list_section, annotation_section}
 use Rattle.dexlayout.specs.Places.{AnnotationPlaces}
 use Rattle.dexlayout.specs.Laid.{ordered_of}
 use Rattle.dexcanon.specs.internal.Output.{AreWithin}
@@ -34,6 +34,7 @@ loop-set-preserved g c =
     written_more (sets_left (λ s. set_of s.now) m xs (i + 1)) c.loop-set.invariant (next_set (λ s. set_of s.now) m xs i c.set-item.result _ c.loop-set-test.true (sym c.set-item.is) c.annotations.ensures) (c.put_set_annotations.ensures c.args.contents.now.limit (set_within (λ s. set_of s.now) c.args.contents.now.numbering.now c.written-written.result.now c.loop-set.set-index c.set-item.result _ c.loop-set-test.true (sym c.set-item.is) c.annotations.ensures c.args.contents.now.limit (subst (AreWithin c.args.contents.now.limit) (sym (annotation_items_are c.requires _ (c.written-written.ensures ∙ ap (λ (p : AnnotationPlaces). p.written) c.annotations-places.ensures))) (annotations_within c.requires))))
 
 pub returns : goal.returns
+unfolding annotation_section
 returns g c =
-    let from = type_list_end (ordered_of c.args.contents.now.numbering.now c.args.contents.now.classes.now) in
+    let from = end (type_list_section (ordered_of c.args.contents.now.numbering.now c.args.contents.now.classes.now)) in
     adds_as (sets_whole (λ s. set_of s.now) c.args.contents.now.numbering.now c.written-written.result.now from ∙ ap (bytes_from 1 from) (annotation_items_are c.requires _ (c.written-written.ensures ∙ ap (λ (p : AnnotationPlaces). p.written) c.annotations-places.ensures))) (written_all c.loop-set.invariant (no_set (λ s. set_of s.now) c.args.contents.now.numbering.now c.written-written.result.now c.loop-set.set-index c.loop-set-test.false))

@@ -44,6 +44,7 @@ pub loop-i-preserved : goal.loop-i-preserved
 loop-i-preserved g c = aligned_more c.loop-i.invariant (next g (goal.at.loop-i-preserved g c).After-index-written-i) c.put_aligned-at.result c.put_aligned-at.ensures.end c.put_aligned-at.ensures.adds
 
 pub returns : goal.returns
+unfolding set_section
 returns g c =
     adds_as (ap (bytes_from 4 c.end-at.result) (set_items_are c.requires _ (c.written-written.ensures ∙ ap (λ (p : AnnotationPlaces). p.written) c.annotations-places.ensures) c.offsets-firsts.result.now (c.offsets-firsts.ensures ∙ ap (λ (p : ItemPlaces). p.offsets) (c.places.ensures ∙ ap (λ (p : AnnotationPlaces). p.places) c.annotations-places.ensures))) ∙ ap (λ n. bytes_from 4 n (set_section (ordered_of c.args.contents.now.numbering.now c.args.contents.now.classes.now)).items) (c.end-at.ensures ∙ ap (λ (p : ItemPlaces). p.end) c.class_data.ensures ∙ c.requires.laid.class_data_are.end_is))
     (aligned_all c.loop-i.invariant (no_set_left (λ s. set_of s.now) c.args.contents.now.numbering.now c.offsets-firsts.result.now c.written-written.result.now c.loop-i.i (firsts_count c.requires _ (c.written-written.ensures ∙ ap (λ (p : AnnotationPlaces). p.written) c.annotations-places.ensures) c.offsets-firsts.result.now (c.offsets-firsts.ensures ∙ ap (λ (p : ItemPlaces). p.offsets) (c.places.ensures ∙ ap (λ (p : AnnotationPlaces). p.places) c.annotations-places.ensures)) ∙ length-map c.written-written.result.now (λ s. set_of s.now)) c.loop-i-test.false))

@@ -1,7 +1,7 @@
 use Rattle.std.proofs.Common.{◌+◌, map, drop, length, subst, sym, ap, arith, ◌∙◌}
 use Rattle.std.proofs.lemmas.List.{length-map, drop_all}
-use Rattle.dexspec.specs.Placing.{bytes_from}
-use Rattle.dexspec.specs.Canonical.{annotation_end}
+use Rattle.dexspec.specs.Placing.{bytes_from, end}
+use Rattle.dexspec.specs.Canonical.{annotation_section, array_section}
 use Rattle.dexval.specs.Code.{value_of}
 use Rattle.dexval.specs.Numbered.{values_in, values_of_list, AreKnown}
 use Rattle.dexmembers.specs.Numbered.{NumberedMembers}
@@ -29,7 +29,8 @@ pub loop-class-preserved : goal.loop-class-preserved
 loop-class-preserved g c = plainly_more c.loop-class.invariant (values_in c.args.contents.now.numbering.now (values_of_list (map value_of c.static_values-values.result.now))) (map (values_use c.args.contents.now.numbering.now) (drop (c.loop-class.class-index + 1) c.args.contents.now.classes.now)) (values_next c.args.contents.now.numbering.now c.args.contents.now.classes.now c.loop-class.class-index c.class-item.result c.loop-class-test.true c.class-item.is (map value_of c.static_values-values.result.now) (c.static_values-values.ensures ∙ ap (λ (x : NumberedMembers). x.static_values) c.members.ensures) (omega (arith, some_of (length c.static_values-values.result.now) c.is_empty.result c.is_empty.ensures c.if-is_empty.false, length-map c.static_values-values.result.now value_of))) c.put.ensures.adds
 
 pub returns : goal.returns
-returns g c = adds_as (ap (bytes_from 1 (annotation_end (ordered_of c.args.contents.now.numbering.now c.args.contents.now.classes.now))) (values_are c.args.contents.now.numbering.now c.args.contents.now.classes.now)) (plainly_all c.loop-class.invariant (ap (map (values_use c.args.contents.now.numbering.now)) (drop_all c.loop-class.class-index c.args.contents.now.classes.now c.loop-class-test.false)) (annotation_end (ordered_of c.args.contents.now.numbering.now c.args.contents.now.classes.now)))
+unfolding array_section
+returns g c = adds_as (ap (bytes_from 1 (end (annotation_section (ordered_of c.args.contents.now.numbering.now c.args.contents.now.classes.now)))) (values_are c.args.contents.now.numbering.now c.args.contents.now.classes.now)) (plainly_all c.loop-class.invariant (ap (map (values_use c.args.contents.now.numbering.now)) (drop_all c.loop-class.class-index c.args.contents.now.classes.now c.loop-class-test.false)) (end (annotation_section (ordered_of c.args.contents.now.numbering.now c.args.contents.now.classes.now))))
 
 pub loop-class-preserved-then-is_empty : goal.loop-class-preserved-then-is_empty
 loop-class-preserved-then-is_empty g c =

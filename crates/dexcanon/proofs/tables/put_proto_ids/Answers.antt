@@ -2,7 +2,8 @@ use Rattle.std.proofs.Common.{◌≡◌, ℕ, List, [], ◌∷◌, ◌<◌, ◌+
 use Rattle.std.specs.List.{flat_map, concat}
 use Rattle.std.proofs.lemmas.List.{drop_all, get_or_default}
 use Rattle.dexspec.specs.Lists.{zip_with}
-use Rattle.dexspec.specs.Canonical.{layout, proto_row_bytes, type_list_offsets}
+use Rattle.dexspec.specs.Placing.{uses_offsets}
+use Rattle.dexspec.specs.Canonical.{proto_row_bytes, type_list_section}
 use Rattle.dexspec.proofs.layout.Placements.{length-type_list_offsets, length-zip}
 use Rattle.dexlayout.specs.Places.{ItemPlaces, TypeListPlaces}
 use Rattle.dexlayout.specs.Laid.{ordered_of}
@@ -15,15 +16,15 @@ use Rattle.dexcanon.proofs.tables.put_proto_ids.Goals as goal
 use Rattle.dexcanon.proofs.tables.put_proto_ids.Goals.{After-split_at}
 
 -- the offsets of the lists of all protos and classes
-offsets_are : (g : _) (c : After-split_at g) → c.offsets.result.now ≡ type_list_offsets (ordered_of c.args.contents.now.numbering.now c.args.contents.now.classes.now)
+offsets_are : (g : _) (c : After-split_at g) → c.offsets.result.now ≡ uses_offsets (type_list_section (ordered_of c.args.contents.now.numbering.now c.args.contents.now.classes.now))
 offsets_are g c = c.offsets.ensures ∙ ap (λ (p : ItemPlaces). p.offsets) (c.places.ensures ∙ ap (λ (d : TypeListPlaces). d.places) c.type_lists.ensures) ∙ c.requires.laid.type_lists_are.places_are.offsets_are
 
 lists : (g : _) (c : After-split_at g) → length c.split_at.result.0.now ≡ length c.args.contents.now.numbering.now.protos
 lists g c = proto_count c.args.contents.now.numbering.now c.args.contents.now.classes.now c.offsets.result.now c.split_at.result.0.now c.count-count.result (offsets_are g c) c.count-count.ensures c.split_at.ensures.front
 
--- the rows of protos are those of the layout
+-- the rows of protos are those of the file
 rows_are : (g : _) (c : After-split_at g) → concat (zip_with (proto_row_bytes c.args.contents.now.numbering.now) c.args.contents.now.numbering.now.protos c.split_at.result.0.now)
-    ≡ concat (zip_with (proto_row_bytes c.args.contents.now.numbering.now) c.args.contents.now.numbering.now.protos (layout (ordered_of c.args.contents.now.numbering.now c.args.contents.now.classes.now)).parameters)
+    ≡ concat (zip_with (proto_row_bytes c.args.contents.now.numbering.now) c.args.contents.now.numbering.now.protos (uses_offsets (type_list_section (ordered_of c.args.contents.now.numbering.now c.args.contents.now.classes.now))))
 rows_are g c = proto_rows c.args.contents.now.numbering.now c.args.contents.now.classes.now c.offsets.result.now c.split_at.result.0.now c.count-count.result (offsets_are g c) c.count-count.ensures c.split_at.ensures.front
 
 pub split_at-requires : goal.split_at-requires

@@ -3,7 +3,7 @@ use Rattle.std.specs.Prelude.{All}
 use Rattle.dexspec.specs.Spellings.{type_list_bytes}
 use Rattle.dexcanon.specs.TypeLists.{types_at}
 use Rattle.dexspec.specs.Placing.{bytes_from, end_from}
-use Rattle.dexspec.specs.Canonical.{data_start}
+use Rattle.dexspec.specs.Canonical.{data_start, type_list_section}
 use Rattle.dexhead.specs.declared.head.Head.{Head}
 use Rattle.dexlayout.specs.Places.{TypeListPlaces}
 use Rattle.dexlayout.specs.Laid.{ordered_of}
@@ -41,6 +41,7 @@ loop-types-preserved g c =
     aligned_more c.loop-types.invariant (next g (goal.at.loop-types-preserved g c).After-types-item) c.put_aligned-at.result c.put_aligned-at.ensures.end c.put_aligned-at.ensures.adds
 
 pub returns : goal.returns
+unfolding type_list_section
 returns g c =
     adds_as (ap (λ n. bytes_from 4 n (map (type_list_bytes c.args.contents.now.numbering.now) (map (types_at c.args.contents.now.numbering.now) c.written-written.result.now))) (ap (λ (h : Head). h.data_off) c.head-at.ensures ∙ c.requires.laid.head_states.tables.data_begins) ∙ ap (bytes_from 4 (data_start (ordered_of c.args.contents.now.numbering.now c.args.contents.now.classes.now))) (ap (λ ls. map (type_list_bytes c.args.contents.now.numbering.now) (map (types_at c.args.contents.now.numbering.now) ls)) (c.written-written.ensures ∙ ap (λ (d : TypeListPlaces). d.written) c.type_lists.ensures) ∙ ap (map (type_list_bytes c.args.contents.now.numbering.now)) c.requires.laid.type_lists_are.written_are))
     (aligned_all c.loop-types.invariant (mapped_twice_all (type_list_bytes c.args.contents.now.numbering.now) (types_at c.args.contents.now.numbering.now) c.written-written.result.now c.loop-types.types-index c.loop-types-test.false))

@@ -1,6 +1,6 @@
-use Rattle.std.proofs.Common.{refl, sym, subst}
+use Rattle.std.proofs.Common.{refl, sym, subst, arith}
 use Rattle.dexclass.specs.internal.Rows.{AreDefinedMarks}
-use Rattle.dexclass.proofs.RowConditions.{rows_more}
+use Rattle.dexclass.proofs.RowConditions.{rows_more, hold_below}
 use Rattle.dexclass.proofs.class_checks.check_classes.Goals as goal
 
 pub loop-r-preserved : goal.loop-r-preserved
@@ -12,3 +12,8 @@ loop-r-preserved c =
       marks = c.mark.ensures b r c.at-row.ensures.class_is c.loop-r.invariant.marks;
       rows = rows_more b r c.loop-r.invariant.rows ((c.if-not-holds.ensures r seen c.at-row.ensures).0 refl);
     }
+
+pub returns-clause-accepted : goal.returns-clause-accepted
+returns-clause-accepted c =
+    let all = c.loop-r.invariant.rows in
+    hold_below c.args.frame.now c.requires.before (λ k lt. all k (omega (arith, lt, c.loop-r-test.false, c.size-count.ensures)))

@@ -1,6 +1,6 @@
 use Rattle.std.proofs.Common.{◌≡◌, ◌+◌, ◌*◌, ◌^◌, ◌≤◌, ◌++◌, drop, map}
 use Rattle.std.specs.Prelude.{pos, ◌+ℤ◌, ◌≤ℤ◌}
-use Rattle.dexspec.specs.Debug as symbolic
+use Rattle.dexcode.specs.Positions as recorded
 use Rattle.dexcode.specs.Debug.{unindexed_operation}
 use Rattle.dexcode.proofs.debug_positions.positions_from.Given as goal
 
@@ -9,5 +9,5 @@ invariant-loop-i l = record {
   address : l.address ≤ 2 ^ 32 * l.i;
   low : pos 0 ≤ℤ (l.line +ℤ pos (2 ^ 31 * l.i));
   high : l.line ≤ℤ pos (2 ^ 32 + 2 ^ 31 * l.i);
-  rest : l.found.items ++ symbolic.positions_from l.address l.line (map unindexed_operation (drop l.i l.operations)) ≡ symbolic.positions_from 0 (pos l.line_start) (map unindexed_operation l.operations);
+  rest : l.found.items ++ recorded.positions_from l.address l.line (map unindexed_operation (drop l.i l.operations)) ≡ recorded.positions_from 0 (pos l.line_start) (map unindexed_operation l.operations);
 }

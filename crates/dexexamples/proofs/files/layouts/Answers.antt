@@ -4,17 +4,17 @@ use Rattle.dexspec.specs.Depth.{depth, in_class_order}
 use Rattle.dexspec.specs.Bytes.{bytes_of, ushort, uint}
 use Rattle.dexspec.specs.Opcodes.{opcode_of, opcode_runs}
 use Rattle.dexspec.specs.Spellings.{code_bytes, debug_bytes, class_data_bytes}
-use Rattle.dexspec.specs.Canonical.{unsigned_file, layout, type_list_end, type_list_offsets, annotation_end, annotation_offsets, array_end, array_offsets, string_end, debug_end, debug_offsets, code_end, code_offsets, class_data_end, class_data_offsets, set_end, set_offsets, ref_list_end, ref_list_offsets, directory_end, directory_offsets}
+use Rattle.dexspec.specs.Canonical.{unsigned_file, type_list_section, annotation_section, annotation_offsets, array_section, string_section, debug_section, code_section, class_data_section, set_section, set_offsets, ref_list_section, directory_section}
 use Rattle.dexexamples.proofs.files.layouts.Goals as goal
 
 pub returns-clause-nothing : goal.returns-clause-nothing
-unfolding unsigned_file layout type_list_end type_list_offsets annotation_end annotation_offsets array_end array_offsets string_end debug_end debug_offsets code_end code_offsets class_data_end class_data_offsets set_end set_offsets ref_list_end ref_list_offsets directory_end directory_offsets mentions symbols_of in_class_order depth code_bytes debug_bytes class_data_bytes ushort uint bytes_of opcode_of opcode_runs
+unfolding unsigned_file type_list_section annotation_section annotation_offsets array_section string_section debug_section code_section class_data_section set_section set_offsets ref_list_section directory_section mentions symbols_of in_class_order depth code_bytes debug_bytes class_data_bytes ushort uint bytes_of opcode_of opcode_runs
 returns-clause-nothing c = refl
 
 pub returns-clause-plain : goal.returns-clause-plain
-unfolding unsigned_file layout type_list_end type_list_offsets annotation_end annotation_offsets array_end array_offsets string_end debug_end debug_offsets code_end code_offsets class_data_end class_data_offsets set_end set_offsets ref_list_end ref_list_offsets directory_end directory_offsets mentions symbols_of in_class_order depth code_bytes debug_bytes class_data_bytes ushort uint bytes_of opcode_of opcode_runs
+unfolding unsigned_file type_list_section annotation_section annotation_offsets array_section string_section debug_section code_section class_data_section set_section set_offsets ref_list_section directory_section mentions symbols_of in_class_order depth code_bytes debug_bytes class_data_bytes ushort uint bytes_of opcode_of opcode_runs
 returns-clause-plain c = refl
 
 pub returns-clause-method : goal.returns-clause-method
-unfolding unsigned_file layout type_list_end type_list_offsets annotation_end annotation_offsets array_end array_offsets string_end debug_end debug_offsets code_end code_offsets class_data_end class_data_offsets set_end set_offsets ref_list_end ref_list_offsets directory_end directory_offsets mentions symbols_of in_class_order depth code_bytes debug_bytes class_data_bytes ushort uint bytes_of opcode_of opcode_runs
+unfolding unsigned_file type_list_section annotation_section annotation_offsets array_section string_section debug_section code_section class_data_section set_section set_offsets ref_list_section directory_section mentions symbols_of in_class_order depth code_bytes debug_bytes class_data_bytes ushort uint bytes_of opcode_of opcode_runs
 returns-clause-method c = refl

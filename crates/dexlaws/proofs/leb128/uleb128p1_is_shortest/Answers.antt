@@ -2,4 +2,4 @@ use Rattle.dexspec.proofs.numbers.Spellings.{uleb128p1_is}
 use Rattle.dexlaws.proofs.leb128.uleb128p1_is_shortest.Goals as goal
 
 pub returns : goal.returns
-returns c = uleb128p1_is
+returns c = λ v lt. let is = uleb128p1_is v lt in record { spelled = is.0; least = is.1 }

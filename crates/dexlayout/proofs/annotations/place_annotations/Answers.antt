@@ -1,6 +1,7 @@
 use Rattle.std.proofs.Common.{◌^◌, map, sym, ap, subst, ◌∙◌, arith}
 use Rattle.std.proofs.lemmas.List.Elements.{All-map}
-use Rattle.dexspec.specs.Canonical.{set_items, type_list_end, annotation_end, annotation_section}
+use Rattle.dexspec.specs.Placing.{end}
+use Rattle.dexspec.specs.Canonical.{set_items, type_list_section, annotation_section}
 use Rattle.dexval.specs.Code.{set_of}
 use Rattle.dexval.specs.Numbered.{IsKnownSet}
 use Rattle.dexlayout.specs.internal.Annotated.{place_sets}
@@ -26,5 +27,5 @@ returns c = λ m cs w are known is.
     record {
       written_are = written;
       known = all;
-      places_are = subst (AreLaidSo (first_offsets m (type_list_end K) (set_items K).written) (annotation_end K) (annotation_section K).items) (sym placed) (annotations_encoded m cs (map (λ s. set_of s.now) ws) c.args.from w written all is);
+      places_are = subst (AreLaidSo (first_offsets m (end (type_list_section K)) (set_items K).written) (end (annotation_section K)) (annotation_section K).items) (sym placed) (annotations_encoded m cs (map (λ s. set_of s.now) ws) c.args.from w written all is);
     }

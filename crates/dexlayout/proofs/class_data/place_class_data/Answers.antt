@@ -1,6 +1,7 @@
 use Rattle.std.proofs.Common.{◌≡◌, length, take, arith, ap, sym, subst, ◌∙◌}
 use Rattle.std.proofs.lemmas.List.{drop_all}
-use Rattle.dexspec.specs.Canonical.{class_data_section, class_data_offsets, class_data_end}
+use Rattle.dexspec.specs.Placing.{end, uses_offsets}
+use Rattle.dexspec.specs.Canonical.{class_data_section}
 use Rattle.dexmembers.specs.Numbered.{NumberedMembers, methods_of}
 use Rattle.dexlayout.specs.Laid.{AreLaidSo, ordered_of}
 use Rattle.dexlayout.specs.internal.Running.{place_use, place_uses}
@@ -35,4 +36,4 @@ returns c = λ m w eo e.
     let cs = c.args.classes.now in
     let K = ordered_of m cs in
     let placed = sym (ap (λ ks. place_uses 1 c.loop-class.places (class_data_sizes ks c.loop-class.rest.now)) (drop_all c.loop-class.class-index cs c.loop-class-test.false)) ∙ c.loop-class.invariant.maps_to in
-    subst (AreLaidSo (class_data_offsets K) (class_data_end K) (class_data_section K).items) (sym placed) (class_data_encoded m cs w c.args.code_offs.now eo c.args.from e)
+    subst (AreLaidSo (uses_offsets (class_data_section K)) (end (class_data_section K)) (class_data_section K).items) (sym placed) (class_data_encoded m cs w c.args.code_offs.now eo c.args.from e)

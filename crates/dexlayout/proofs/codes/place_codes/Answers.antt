@@ -1,6 +1,7 @@
 use Rattle.std.proofs.Common.{◌+◌, drop, arith, ap, sym, subst, ◌∙◌}
 use Rattle.std.specs.List.{flat_map}
-use Rattle.dexspec.specs.Canonical.{code_section, code_offsets, code_end}
+use Rattle.dexspec.specs.Placing.{end, uses_offsets}
+use Rattle.dexspec.specs.Canonical.{code_section}
 use Rattle.dexlayout.specs.Laid.{AreLaidSo, ordered_of}
 use Rattle.dexlayout.specs.internal.Running.{place_uses}
 use Rattle.dexlayout.specs.internal.Sizes.{class_code_sizes}
@@ -31,4 +32,4 @@ returns c = λ m w e.
     let cs = c.args.classes.now in
     let K = ordered_of m cs in
     let placed = sym (several_none 4 class_code_sizes c.loop-class.places cs c.loop-class.class-index c.loop-class-test.false) ∙ c.loop-class.invariant in
-    subst (AreLaidSo (code_offsets K) (code_end K) (code_section K).items) (sym placed) (codes_encoded m cs w c.code_bytes_law.ensures.bytes c.args.from e)
+    subst (AreLaidSo (uses_offsets (code_section K)) (end (code_section K)) (code_section K).items) (sym placed) (codes_encoded m cs w c.code_bytes_law.ensures.bytes c.args.from e)

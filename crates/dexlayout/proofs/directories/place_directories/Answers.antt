@@ -1,7 +1,8 @@
 use Rattle.std.proofs.Common.{◌≡◌, ℕ, ◌+◌, ◌^◌, List, length, take, drop, refl, sym, ap, subst, ◌∙◌, arith}
 use Rattle.std.specs.Prelude.{slice_index}
 use Rattle.std.proofs.lemmas.List.{length-drop, drop_all}
-use Rattle.dexspec.specs.Canonical.{ref_list_offsets, ref_list_end, directory_section, directory_offsets, directory_end}
+use Rattle.dexspec.specs.Placing.{end, uses_offsets}
+use Rattle.dexspec.specs.Canonical.{ref_list_section, directory_section}
 use Rattle.dexmembers.specs.Numbered.{NumberedMembers, fields_of, methods_of}
 use Rattle.dexlayout.specs.internal.Directories.{entry_count, directory_size, directory_sizes}
 use Rattle.dexlayout.specs.Laid.{ordered_of, AreLaidSo}
@@ -46,7 +47,7 @@ place_directory-requires-clause-fits c =
     let are = c.requires.sets in
     let are_encoded = directories_encoded m cs sets are w (c.number_law.ensures m w.numbering.rising) in
     let all : place_uses 4 c.in_ok-places.places (directory_sizes cs c.own-own.result.now c.fields-fields.result.now c.methods-methods.result.now c.args.ref_lists.now)
-    ≡ place_uses 4 (none_from (ref_list_end K)) (directory_sizes cs sets.own sets.fields sets.methods (ref_list_offsets K)) =
+    ≡ place_uses 4 (none_from (end (ref_list_section K))) (directory_sizes cs sets.own sets.fields sets.methods (uses_offsets (ref_list_section K))) =
     ap (λ p. place_uses 4 p (directory_sizes cs c.own-own.result.now c.fields-fields.result.now c.methods-methods.result.now c.args.ref_lists.now)) c.in_ok-places.ensures
     ∙ (λ j. place_uses 4 (none_from (c.requires.from j)) (directory_sizes cs (c.own-own.ensures j) (c.fields-fields.ensures j) (c.methods-methods.ensures j) (c.requires.lists j))) in
     let i = c.loop-i.i in
@@ -110,9 +111,9 @@ returns c =
     let are = c.requires.sets in
     let are_encoded = directories_encoded m cs sets are w (c.number_law.ensures m w.numbering.rising) in
     let all : place_uses 4 c.in_ok-places.places (directory_sizes cs c.own-own.result.now c.fields-fields.result.now c.methods-methods.result.now c.args.ref_lists.now)
-    ≡ place_uses 4 (none_from (ref_list_end K)) (directory_sizes cs sets.own sets.fields sets.methods (ref_list_offsets K)) =
+    ≡ place_uses 4 (none_from (end (ref_list_section K))) (directory_sizes cs sets.own sets.fields sets.methods (uses_offsets (ref_list_section K))) =
     ap (λ p. place_uses 4 p (directory_sizes cs c.own-own.result.now c.fields-fields.result.now c.methods-methods.result.now c.args.ref_lists.now)) c.in_ok-places.ensures
     ∙ (λ j. place_uses 4 (none_from (c.requires.from j)) (directory_sizes cs (c.own-own.ensures j) (c.fields-fields.ensures j) (c.methods-methods.ensures j) (c.requires.lists j))) in
     let nothing : place_uses 4 c.loop-i.places (directory_sizes (drop c.loop-i.i cs) (drop c.loop-i.i c.own-own.result.now) c.loop-i.fields.now c.loop-i.methods.now c.loop-i.lists.now) ≡ c.loop-i.places =
     ap (λ l. place_uses 4 c.loop-i.places (directory_sizes l (drop c.loop-i.i c.own-own.result.now) c.loop-i.fields.now c.loop-i.methods.now c.loop-i.lists.now)) (drop_all c.loop-i.i cs c.loop-i-test.false) in
-    subst (AreLaidSo (directory_offsets K) (directory_end K) (directory_section K).items) (sym (sym nothing ∙ c.loop-i.invariant.placed ∙ all)) are_encoded
+    subst (AreLaidSo (uses_offsets (directory_section K)) (end (directory_section K)) (directory_section K).items) (sym (sym nothing ∙ c.loop-i.invariant.placed ∙ all)) are_encoded

@@ -1,8 +1,7 @@
 use Rattle.std.proofs.Common.{◌≡◌, ℕ, ◌+◌, ◌*◌, ◌≤◌, max, length, map, arith, ap, sym, ◌∙◌}
 use Rattle.std.proofs.lemmas.List.{length-map}
 use Rattle.dexspec.specs.Bytes.{round_up}
-use Rattle.dexspec.specs.Canonical.{Layout, layout, map_of, data_sections}
-use Rattle.dexspec.proofs.layout.Placements.{layout_is}
+use Rattle.dexspec.specs.Canonical.{map_of, data_sections}
 use Rattle.dexhead.specs.Laid.{map_start, map_list}
 use Rattle.dexhead.specs.Written.{entry_meant}
 use Rattle.dexlayout.specs.Laid.{ordered_of, greatest_in}
@@ -20,7 +19,7 @@ pub entries-sections-requires : goal.entries-sections-requires
 entries-sections-requires c = (c.args.classes.now, c.requires, c.in_ok-data.ensures, c.of-tables.ensures.end_is)
 
 -- the map
-entries_are : (c : After-len) → map entry_meant c.in_ok-entries.entries.items ≡ map_of (ordered_of c.args.numbering.now c.args.classes.now) (layout (ordered_of c.args.numbering.now c.args.classes.now)) (map_start (ordered_of c.args.numbering.now c.args.classes.now))
+entries_are : (c : After-len) → map entry_meant c.in_ok-entries.entries.items ≡ map_of (ordered_of c.args.numbering.now c.args.classes.now) (map_start (ordered_of c.args.numbering.now c.args.classes.now))
 entries_are c =
     let K = ordered_of c.args.numbering.now c.args.classes.now in
     let map_is = c.round_up-map_off.ensures ∙ ap (round_up 4) (c.end.ensures ∙ c.in_ok-data.ensures.back_are.directories_are.end_is) ∙ sym (map_start_is K) in
@@ -68,14 +67,13 @@ returns c =
     let t = c.of-tables.ensures in
     let map_is = c.round_up-map_off.ensures ∙ ap (round_up 4) (c.end.ensures ∙ d.back_are.directories_are.end_is) ∙ sym (map_start_is K) in
     let size = map_size here in
-    let texts = ap (λ (l : Layout). l.strings) (layout_is K) in
     record {
       head_states = c.head_of-head.ensures.reports K t map_is size;
       signature_length = c.head_of-head.ensures.signature;
       type_lists_are = d.first_sections_are.type_lists_are;
       annotations_are = d.first_sections_are.annotations_are;
       static_values_are = d.first_sections_are.static_values_are;
-      strings_are = record { offsets_are = d.first_sections_are.strings_are.offsets_are ∙ sym texts; end_is = d.first_sections_are.strings_are.end_is; greatest_is = d.first_sections_are.strings_are.greatest_is };
+      strings_are = d.first_sections_are.strings_are;
       debugs_are = d.bodies_are.debugs_are;
       codes_are = d.bodies_are.codes_are;
       class_data_are = d.bodies_are.class_data_are;

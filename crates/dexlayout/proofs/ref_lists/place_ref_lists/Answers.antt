@@ -1,5 +1,6 @@
 use Rattle.std.proofs.Common.{◌≡◌, ◌+◌, ◌^◌, drop, sym, ap, subst, ◌∙◌, arith}
-use Rattle.dexspec.specs.Canonical.{ref_list_end, ref_list_offsets, ref_list_section}
+use Rattle.dexspec.specs.Placing.{end, uses_offsets}
+use Rattle.dexspec.specs.Canonical.{ref_list_section}
 use Rattle.dexlayout.specs.internal.Collecting.{class_list_sizes}
 use Rattle.dexlayout.specs.Laid.{AreLaidSo, ordered_of}
 use Rattle.dexlayout.specs.Places.{ItemPlaces}
@@ -35,4 +36,4 @@ returns c =
     let K = ordered_of m cs in
     let placed : c.loop-class.places ≡ place_uses 4 (none_from c.args.from) (class_list_sizes cs) = lists_done cs c.loop-class.class-index c.loop-class.places _ c.loop-class-test.false c.loop-class.invariant in
     let all = placed ∙ ap (λ n. place_uses 4 (none_from n) (class_list_sizes cs)) c.requires.from in
-    subst (AreLaidSo (ref_list_offsets K) (ref_list_end K) (ref_list_section K).items) (sym all) (ref_lists_encoded m cs)
+    subst (AreLaidSo (uses_offsets (ref_list_section K)) (end (ref_list_section K)) (ref_list_section K).items) (sym all) (ref_lists_encoded m cs)

@@ -1,6 +1,6 @@
 use Rattle.std.proofs.Common.{◌≡◌, take}
-use Rattle.dexspec.specs.Placing.{uses_offsets}
+use Rattle.dexspec.proofs.layout.Placements.{numbers_offsets}
 use Rattle.dexlayout.proofs.sharing.place_shared.Given as goal
 
 abbrev pub invariant-loop-number : goal.invariant-loop-number
-invariant-loop-number l = l.offsets.items ≡ uses_offsets (take l.number-index l.numbers) l.written.offsets
+invariant-loop-number l = l.offsets.items ≡ numbers_offsets (take l.number-index l.numbers) l.written.offsets

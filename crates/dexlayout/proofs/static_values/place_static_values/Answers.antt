@@ -1,5 +1,6 @@
 use Rattle.std.proofs.Common.{arith, sym, subst, ◌∙◌}
-use Rattle.dexspec.specs.Canonical.{array_section, array_offsets, array_end}
+use Rattle.dexspec.specs.Placing.{end, uses_offsets}
+use Rattle.dexspec.specs.Canonical.{array_section}
 use Rattle.dexlayout.specs.Laid.{AreLaidSo, ordered_of}
 use Rattle.dexlayout.specs.internal.Sizes.{static_size}
 use Rattle.dexlayout.proofs.Ends.{end_in_file}
@@ -22,4 +23,4 @@ returns c = λ m w e.
     let cs = c.args.classes.now in
     let K = ordered_of m cs in
     let placed = sym (left_none 1 static_size c.loop-class.places cs c.loop-class.class-index c.loop-class-test.false) ∙ c.loop-class.invariant in
-    subst (AreLaidSo (array_offsets K) (array_end K) (array_section K).items) (sym placed) (arrays_encoded m cs w c.args.from e)
+    subst (AreLaidSo (uses_offsets (array_section K)) (end (array_section K)) (array_section K).items) (sym placed) (arrays_encoded m cs w c.args.from e)

@@ -10,7 +10,7 @@ use Rattle.dexpool.proofs.methods.read_methods.Goals as goal
 
 pub returns-in-None-clause-err : goal.returns-in-None-clause-err
 returns-in-None-clause-err c = subst (IsFault c.args.names.now.frame.now) (sym c.refused.ensures)
-    (refused_methods c.args.names.now.frame.now c.loop-i.i c.requires.names.frame c.requires.names.texts_are.held c.requires.names.types_are.held c.requires.protos.held c.requires.fields (omega arith) c.loop-i.invariant.held (λ h. c.in-None.ensures h.method h.is))
+    (refused_methods c.args.names.now.frame.now c.loop-i.i c.requires.names.frame c.requires.names.texts_are.held c.requires.names.types_are.held c.requires.protos.held c.requires.fields (omega arith) c.loop-i.invariant.held (λ h. c.in-None.ensures h.item h.is))
 
 pub returns-then-not-is_above-clause-err : goal.returns-then-not-is_above-clause-err
 returns-then-not-is_above-clause-err c = subst (IsFault c.args.names.now.frame.now) (sym c.refused-then-not-is_above.ensures)

@@ -11,7 +11,7 @@ pub returns-in-None-clause-err : goal.returns-in-None-clause-err
 returns-in-None-clause-err c =
     let none = rw c.in-None.is at c.in_ok-proto.ensures.proto in
     subst (IsFault c.args.names.now.frame.now) (sym c.refused.ensures)
-    (refused_protos c.args.names.now.frame.now c.loop-i.i c.requires.names.frame c.requires.names.texts_are.held c.requires.names.types_are.held (omega arith) c.loop-i.invariant.rows.held (λ h. none h.proto h.is))
+    (refused_protos c.args.names.now.frame.now c.loop-i.i c.requires.names.frame c.requires.names.texts_are.held c.requires.names.types_are.held (omega arith) c.loop-i.invariant.rows.held (λ h. none h.item h.is))
 
 pub returns-then-not-is_above-clause-err : goal.returns-then-not-is_above-clause-err
 returns-then-not-is_above-clause-err c =

@@ -9,7 +9,7 @@ use Rattle.dexpool.proofs.types.read_types.Goals as goal
 
 pub returns-in-None-clause-err : goal.returns-in-None-clause-err
 returns-in-None-clause-err c = subst (IsFault c.args.frame.now) (sym c.refused.ensures)
-    (refused_types c.args.frame.now c.loop-i.i c.requires.frame c.requires.strings.held (omega arith) c.loop-i.invariant.held (λ h. c.in-None.ensures h.type h.is))
+    (refused_types c.args.frame.now c.loop-i.i c.requires.frame c.requires.strings.held (omega arith) c.loop-i.invariant.held (λ h. c.in-None.ensures h.item h.is))
 
 pub returns-then-not-is_above-clause-err : goal.returns-then-not-is_above-clause-err
 returns-then-not-is_above-clause-err c = subst (IsFault c.args.frame.now) (sym c.refused-then-not-is_above.ensures)

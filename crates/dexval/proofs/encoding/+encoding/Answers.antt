@@ -1,6 +1,5 @@
 use Rattle.std.proofs.Common.{ℕ, List, ◌∷◌, [], ◌++◌, subst, sym, ap, ◌∙◌, rules, map, to_z, of_z, w64}
 use Rattle.dexspec.specs.Numbers.{uleb128}
-use Rattle.dexspec.specs.Values.{byte_value_type, short_value_type, char_value_type, int_value_type, long_value_type, float_value_type, double_value_type, string_value_type, type_value_type, field_value_type, method_value_type, enum_value_type}
 use Rattle.dexval.specs.declared.value.Value.{Value}
 use Rattle.dexval.specs.declared.value.Element.{Element}
 use Rattle.dexval.specs.Code.{value_of, element_of}
@@ -77,37 +76,37 @@ encode_value-returns-in-Annotation g t c =
     subst (λ bs. g.O.Output.gives bs c.args.out.now c.encode_annotation.new.out) is whole
 
 pub encode_value-returns-in-Byte : goal.encode_value-returns-in-Byte
-encode_value-returns-in-Byte g t c = signed_given g.O.Output.gives c.args.value.now byte_value_type c.in-Byte.number {n = to_z w64 (of_z w64 c.from.result)} (ap numbered_bytes (ap value_of c.in-Byte.is ∙ byte_is c.in-Byte.number)) c.encode_signed.ensures (search rules)
+encode_value-returns-in-Byte g t c = signed_given g.O.Output.gives c.args.value.now 0x00 c.in-Byte.number {n = to_z w64 (of_z w64 c.from.result)} (ap numbered_bytes (ap value_of c.in-Byte.is ∙ byte_is c.in-Byte.number)) c.encode_signed.ensures (search rules)
 
 pub encode_value-returns-in-Short : goal.encode_value-returns-in-Short
-encode_value-returns-in-Short g t c = signed_given g.O.Output.gives c.args.value.now short_value_type c.in-Short.number {n = to_z w64 (of_z w64 c.from-in-Short.result)} (ap numbered_bytes (ap value_of c.in-Short.is ∙ short_is c.in-Short.number)) c.encode_signed-in-Short.ensures (search rules)
+encode_value-returns-in-Short g t c = signed_given g.O.Output.gives c.args.value.now 0x02 c.in-Short.number {n = to_z w64 (of_z w64 c.from-in-Short.result)} (ap numbered_bytes (ap value_of c.in-Short.is ∙ short_is c.in-Short.number)) c.encode_signed-in-Short.ensures (search rules)
 
 pub encode_value-returns-in-Char : goal.encode_value-returns-in-Char
-encode_value-returns-in-Char g t c = unsigned_given g.O.Output.gives c.args.value.now char_value_type c.in-Char.unit {n = c.from-in-Char.result} (ap numbered_bytes (ap value_of c.in-Char.is ∙ char_is c.in-Char.unit)) c.encode_unsigned.ensures (search rules)
+encode_value-returns-in-Char g t c = unsigned_given g.O.Output.gives c.args.value.now 0x03 c.in-Char.unit {n = c.from-in-Char.result} (ap numbered_bytes (ap value_of c.in-Char.is ∙ char_is c.in-Char.unit)) c.encode_unsigned.ensures (search rules)
 
 pub encode_value-returns-in-Int : goal.encode_value-returns-in-Int
-encode_value-returns-in-Int g t c = signed_given g.O.Output.gives c.args.value.now int_value_type c.in-Int.number {n = to_z w64 (of_z w64 c.from-in-Int.result)} (ap numbered_bytes (ap value_of c.in-Int.is ∙ int_is c.in-Int.number)) c.encode_signed-in-Int.ensures (search rules)
+encode_value-returns-in-Int g t c = signed_given g.O.Output.gives c.args.value.now 0x04 c.in-Int.number {n = to_z w64 (of_z w64 c.from-in-Int.result)} (ap numbered_bytes (ap value_of c.in-Int.is ∙ int_is c.in-Int.number)) c.encode_signed-in-Int.ensures (search rules)
 
 pub encode_value-returns-in-Long : goal.encode_value-returns-in-Long
-encode_value-returns-in-Long g t c = signed_given g.O.Output.gives c.args.value.now long_value_type c.in-Long.number {n = to_z w64 (of_z w64 c.in-Long.number)} (ap numbered_bytes (ap value_of c.in-Long.is ∙ long_is c.in-Long.number)) c.encode_signed-in-Long.ensures (search rules)
+encode_value-returns-in-Long g t c = signed_given g.O.Output.gives c.args.value.now 0x06 c.in-Long.number {n = to_z w64 (of_z w64 c.in-Long.number)} (ap numbered_bytes (ap value_of c.in-Long.is ∙ long_is c.in-Long.number)) c.encode_signed-in-Long.ensures (search rules)
 
 pub encode_value-returns-in-Float : goal.encode_value-returns-in-Float
-encode_value-returns-in-Float g t c = bits_given g.O.Output.gives c.args.value.now float_value_type 4 c.in-Float.bits {n = c.from-in-Float.result} (ap numbered_bytes (ap value_of c.in-Float.is ∙ float_is c.in-Float.bits)) c.encode_bits.ensures (search rules)
+encode_value-returns-in-Float g t c = bits_given g.O.Output.gives c.args.value.now 0x10 4 c.in-Float.bits {n = c.from-in-Float.result} (ap numbered_bytes (ap value_of c.in-Float.is ∙ float_is c.in-Float.bits)) c.encode_bits.ensures (search rules)
 
 pub encode_value-returns-in-Double : goal.encode_value-returns-in-Double
-encode_value-returns-in-Double g t c = bits_given g.O.Output.gives c.args.value.now double_value_type 8 c.in-Double.bits {n = c.in-Double.bits} (ap numbered_bytes (ap value_of c.in-Double.is ∙ double_is c.in-Double.bits)) c.encode_bits-in-Double.ensures (search rules)
+encode_value-returns-in-Double g t c = bits_given g.O.Output.gives c.args.value.now 0x11 8 c.in-Double.bits {n = c.in-Double.bits} (ap numbered_bytes (ap value_of c.in-Double.is ∙ double_is c.in-Double.bits)) c.encode_bits-in-Double.ensures (search rules)
 
 pub encode_value-returns-in-String : goal.encode_value-returns-in-String
-encode_value-returns-in-String g t c = unsigned_given g.O.Output.gives c.args.value.now string_value_type c.in-String.number {n = c.from-in-String.result} (ap numbered_bytes (ap value_of c.in-String.is ∙ string_is c.in-String.number)) c.encode_unsigned-in-String.ensures (search rules)
+encode_value-returns-in-String g t c = unsigned_given g.O.Output.gives c.args.value.now 0x17 c.in-String.number {n = c.from-in-String.result} (ap numbered_bytes (ap value_of c.in-String.is ∙ string_is c.in-String.number)) c.encode_unsigned-in-String.ensures (search rules)
 
 pub encode_value-returns-in-Typ : goal.encode_value-returns-in-Typ
-encode_value-returns-in-Typ g t c = unsigned_given g.O.Output.gives c.args.value.now type_value_type c.in-Typ.number {n = c.from-in-Typ.result} (ap numbered_bytes (ap value_of c.in-Typ.is ∙ typ_is c.in-Typ.number)) c.encode_unsigned-in-Typ.ensures (search rules)
+encode_value-returns-in-Typ g t c = unsigned_given g.O.Output.gives c.args.value.now 0x18 c.in-Typ.number {n = c.from-in-Typ.result} (ap numbered_bytes (ap value_of c.in-Typ.is ∙ typ_is c.in-Typ.number)) c.encode_unsigned-in-Typ.ensures (search rules)
 
 pub encode_value-returns-in-Field : goal.encode_value-returns-in-Field
-encode_value-returns-in-Field g t c = unsigned_given g.O.Output.gives c.args.value.now field_value_type c.in-Field.number {n = c.from-in-Field.result} (ap numbered_bytes (ap value_of c.in-Field.is ∙ field_is c.in-Field.number)) c.encode_unsigned-in-Field.ensures (search rules)
+encode_value-returns-in-Field g t c = unsigned_given g.O.Output.gives c.args.value.now 0x19 c.in-Field.number {n = c.from-in-Field.result} (ap numbered_bytes (ap value_of c.in-Field.is ∙ field_is c.in-Field.number)) c.encode_unsigned-in-Field.ensures (search rules)
 
 pub encode_value-returns-in-Method : goal.encode_value-returns-in-Method
-encode_value-returns-in-Method g t c = unsigned_given g.O.Output.gives c.args.value.now method_value_type c.in-Method.number {n = c.from-in-Method.result} (ap numbered_bytes (ap value_of c.in-Method.is ∙ method_is c.in-Method.number)) c.encode_unsigned-in-Method.ensures (search rules)
+encode_value-returns-in-Method g t c = unsigned_given g.O.Output.gives c.args.value.now 0x1a c.in-Method.number {n = c.from-in-Method.result} (ap numbered_bytes (ap value_of c.in-Method.is ∙ method_is c.in-Method.number)) c.encode_unsigned-in-Method.ensures (search rules)
 
 pub encode_value-returns-in-Enum : goal.encode_value-returns-in-Enum
-encode_value-returns-in-Enum g t c = unsigned_given g.O.Output.gives c.args.value.now enum_value_type c.in-Enum.number {n = c.from-in-Enum.result} (ap numbered_bytes (ap value_of c.in-Enum.is ∙ enum_is c.in-Enum.number)) c.encode_unsigned-in-Enum.ensures (search rules)
+encode_value-returns-in-Enum g t c = unsigned_given g.O.Output.gives c.args.value.now 0x1b c.in-Enum.number {n = c.from-in-Enum.result} (ap numbered_bytes (ap value_of c.in-Enum.is ∙ enum_is c.in-Enum.number)) c.encode_unsigned-in-Enum.ensures (search rules)

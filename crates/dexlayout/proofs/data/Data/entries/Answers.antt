@@ -11,7 +11,7 @@ use Rattle.dexlayout.specs.internal.Parts.{count_placed}
 use Rattle.dexlayout.specs.Laid.{ordered_of}
 use Rattle.dexlayout.proofs.Ends.{end_in_file}
 use Rattle.dexlayout.proofs.OwnCounts.{few_items, counted}
-use Rattle.dexlayout.proofs.OwnParts.{ten_same}
+use Rattle.dexlayout.proofs.OwnParts.{ten_same, named_parts_are}
 use Rattle.dexlayout.proofs.data.Data.entries.Goals as goal
 
 -- annotations, set by set
@@ -216,3 +216,4 @@ returns c = λ cs w d from.
     (c.entry-8.ensures ∙ same_entry AnnotationSets _ _ _ _ (sym (length-map c.written-written.result.now (λ p. set_of p.now)) ∙ ap (λ ps. length ps) c.written-written.ensures ∙ n.sets) (c.round_up-3.ensures ∙ ap (round_up 4) (c.end-7.ensures ∙ d.bodies_are.class_data_are.end_is)))
     (c.entry-9.ensures ∙ same_entry AnnotationSetRefLists _ _ _ _ (c.count_placed-4.ensures ∙ ap count_placed c.offsets-4.ensures ∙ n.ref_lists) (c.round_up-4.ensures ∙ ap (round_up 4) (c.end-8.ensures ∙ d.back_are.sets_are.end_is)))
     (c.entry-10.ensures ∙ same_entry AnnotationsDirectories _ _ _ _ (c.count_placed-5.ensures ∙ ap count_placed c.offsets-5.ensures ∙ n.directories) (c.round_up-5.ensures ∙ ap (round_up 4) (c.end-9.ensures ∙ d.back_are.ref_lists_are.end_is)))
+    ∙ named_parts_are (ordered_of m cs)

@@ -1,4 +1,4 @@
-use Rattle.dexspec.specs.Flags.{OfClass}
+use Rattle.dexflags.specs.Flags.{OfClass}
 use Rattle.dexlisting.proofs.ShortFlags.{flags_short}
 use Rattle.dexlisting.proofs.flags.ClassFlagsShown.put.Goals as goal
 

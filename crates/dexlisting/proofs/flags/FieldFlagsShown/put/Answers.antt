@@ -1,4 +1,4 @@
-use Rattle.dexspec.specs.Flags.{OfField}
+use Rattle.dexflags.specs.Flags.{OfField}
 use Rattle.dexlisting.proofs.ShortFlags.{flags_short}
 use Rattle.dexlisting.proofs.flags.FieldFlagsShown.put.Goals as goal
 

@@ -1,4 +1,4 @@
-use Rattle.dexspec.specs.Flags.{OfMethod}
+use Rattle.dexflags.specs.Flags.{OfMethod}
 use Rattle.dexlisting.proofs.ShortFlags.{flags_short}
 use Rattle.dexlisting.proofs.flags.MethodFlagsShown.put.Goals as goal
 

@@ -1,13 +1,9 @@
 -- Members as they are held, remapped and stripped: what is looked up for them then.
-use Rattle.std.proofs.Common.{◌≡◌, ℕ, List, [], ◌∷◌, length, map, refl, ap, ◌∙◌, subst, arith, Bor, Option, Some, None}
-use Rattle.std.specs.Prelude.{MatchOption, IfSome, option_to_list}
-use Rattle.std.specs.List.{All, flat_map}
-use Rattle.std.proofs.lemmas.List.{length-map, append-nil}
+use Rattle.std.proofs.Common.{◌≡◌, ℕ, List, [], ◌∷◌, length, map, refl, ap, ◌∙◌, arith, Option, Some, None}
+use Rattle.std.specs.List.{All}
+use Rattle.std.proofs.lemmas.List.{length-map}
 use Rattle.std.proofs.lemmas.List.Elements.{All-nil, All-cons, All-head, All-tail}
 use Rattle.dexpool.specs.Numberings.{Maps}
-use Rattle.dexpool.specs.Uses.{Use}
-use Rattle.dexcode.specs.Renumbering.{item_uses}
-use Rattle.dexcode.specs.Numbered.{NumberedItem}
 use Rattle.dexval.specs.Numbered.{NumberedSet}
 use Rattle.dexval.specs.Renumbering.{renumbered_set, SetHasPlaces}
 use Rattle.dexval.specs.Tables.{NumberedTable, IsPlaceIn, IsRemappedSet, set_at, places_at}
@@ -117,14 +113,6 @@ field_numbers_held sets (f ∷ fs) = ap (λ (l : List ℕ). f.number ∷ l) (fie
 pub method_numbers_held : (t : NumberedTable) (xs : List HeldMethod) → map (λ (x : HeldMethod). x.number) xs ≡ map (λ (x : NumberedMethod). x.number) (map (method_of t) xs)
 method_numbers_held t [] = refl
 method_numbers_held t (x ∷ xs) = ap (λ (l : List ℕ). x.number ∷ l) (method_numbers_held t xs)
-
--- ---- what may be there
-
--- what holds of the symbols of code, where there is some
-pub code_marked : (P : Use → Type 0) (o : Option (Bor NumberedItem)) (c : Option NumberedItem) → MatchOption o (c ≡ None) (λ x. c ≡ Some x.now) → All P (flat_map item_uses (option_to_list c)) → IfSome o (λ x. All P (item_uses x.now))
-code_marked P None c h p = tt
-code_marked P (Some x) c h p =
-    subst (All P) (append-nil (item_uses x.now)) (subst (λ (o : Option NumberedItem). All P (flat_map item_uses (option_to_list o))) h p)
 
 pub stripped_few : {ss is : List NumberedField} {ds ds' vs vs' : List NumberedMethod} → map stripped_method ds ≡ ds' → map stripped_method vs ≡ vs' → AreFew ss is ds vs → AreFew ss is ds' vs'
 stripped_few {ss} {is} {ds} {ds'} {vs} p q h = record {

@@ -14,7 +14,6 @@ pub mod DirectoryCache
 pub mod Made
 pub mod Meant
 pub mod MemberChains
-pub mod MembersMarked
 pub mod MembersUsed
 pub mod Named
 pub mod NamesKept

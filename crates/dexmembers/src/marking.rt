@@ -1,20 +1,18 @@
 //! Visits of the symbols that occur in what classes declare, and marks on them.
 
-ghost use Rattle.std.specs.Prelude.{All, IfSome};
+ghost use Rattle.std.specs.Prelude.{All};
 ghost use Rattle.std.specs.List.{FoldsTo, flat_map};
 ghost use Rattle.dexpool.specs.Uses.{HasMark, AreMarkedToo};
 ghost use Rattle.dexval.specs.Uses.{set_uses};
-ghost use Rattle.dexcode.specs.Renumbering.{item_uses};
-ghost use Rattle.dexmembers.specs.Numbered.{methods_of};
 ghost use Rattle.dexmembers.specs.Uses.{field_uses, method_uses, members_uses};
 ghost use Rattle.dexmembers.specs.Borrowed.{ForCode, ForSet};
-ghost use Rattle.dexmembers.specs.internal.Parts.{optional_code_uses, uses_before_methods};
+ghost use Rattle.dexmembers.specs.internal.Parts.{optional_code_uses};
 
 use crate::field_views::{Field, Fields};
 use crate::members::Members;
 use crate::method_views::{Method, Methods, ParameterSets};
 use dexcode::Code;
-use dexpool::{Marks, SymbolKind, Symbols, Visitor};
+use dexpool::{Marks, SymbolKind, Symbols, Visitor, mark};
 use dexval::{AnnotationSet, visit_values};
 
 // Passes the symbols of a set, if there is one, to the visitor.
@@ -56,59 +54,51 @@ impl Symbols for Fields<'_> {
     }
 }
 
-// Marks the symbols of code, if there is some.
-fn mark_code(code: Option<&Code<'_>>, marks: &mut Marks)
-    requires { IfSome code (λ code. All (HasMark marks.old) (item_uses code.now)) }
-    ensures { ForCode code.entry (λ marked.
-        AreMarkedToo (optional_code_uses marked) marks.old marks.new) }
+// Passes the symbols of code, if there is some, to the visitor.
+fn visit_code<V: Visitor>(code: Option<&Code<'_>>, visitor: &mut V)
+    ensures { ForCode code.entry (λ visited.
+        FoldsTo V.step visitor.old (optional_code_uses visited) visitor.new) }
 {
     if let Some(code) = code {
-        code.mark(marks);
+        code.visit(visitor);
     }
 }
 
-impl Method<'_, '_> {
-    // Marks the method, and the symbols of its code and its sets.
-    fn mark(&self, marks: &mut Marks)
-        requires { All (HasMark marks.old) (method_uses self.now) }
-        ensures { AreMarkedToo (method_uses self.now) marks.old marks.new }
-    {
-        marks.symbol(SymbolKind::Method, self.number());
-        mark_code(self.code(), marks);
-        visit_set(self.annotations(), marks);
-        self.parameter_annotations().visit(marks);
+impl Symbols for Method<'_, '_> {
+    ghost uses = { method_uses };
+
+    fn visit<V: Visitor>(&self, visitor: &mut V) {
+        visitor.symbol(SymbolKind::Method, self.number());
+        visit_code(self.code(), visitor);
+        visit_set(self.annotations(), visitor);
+        self.parameter_annotations().visit(visitor);
     }
 }
 
-// Marks methods, and the symbols of their code and their sets.
-fn mark_methods(methods: &Methods<'_, '_>, marks: &mut Marks)
-    requires { All (HasMark marks.old) (flat_map method_uses methods.now) }
-    ensures { AreMarkedToo (flat_map method_uses methods.now) marks.old marks.new }
-{
-    for i in 0..methods.len() {
-        methods.get(i).mark(marks);
+impl Symbols for Methods<'_, '_> {
+    ghost uses = { λ methods. flat_map method_uses methods };
+
+    fn visit<V: Visitor>(&self, visitor: &mut V) {
+        for i in 0..self.len() {
+            self.get(i).visit(visitor);
+        }
+    }
+}
+
+impl Symbols for Members<'_> {
+    ghost uses = { members_uses };
+
+    fn visit<V: Visitor>(&self, visitor: &mut V) {
+        visit_set(self.annotations(), visitor);
+        self.static_fields().visit(visitor);
+        self.instance_fields().visit(visitor);
+        self.direct_methods().visit(visitor);
+        self.virtual_methods().visit(visitor);
+        visit_values(self.static_values(), visitor);
     }
 }
 
 impl<'a> Members<'a> {
-    // Passes the symbols of the class's own set and of its fields to the visitor.
-    fn visit_fields<V: Visitor>(&self, visitor: &mut V)
-        ensures { FoldsTo V.step visitor.old (uses_before_methods self.now) visitor.new }
-    {
-        visit_set(self.annotations(), visitor);
-        self.static_fields().visit(visitor);
-        self.instance_fields().visit(visitor);
-    }
-
-    // Marks the methods, and the symbols of their code and their sets.
-    fn mark_methods(&self, marks: &mut Marks)
-        requires { All (HasMark marks.old) (flat_map method_uses (methods_of self.now)) }
-        ensures { AreMarkedToo (flat_map method_uses (methods_of self.now)) marks.old marks.new }
-    {
-        mark_methods(&self.direct_methods(), marks);
-        mark_methods(&self.virtual_methods(), marks);
-    }
-
     /// Marks each field and method, and each symbol that occurs in code, in annotations and in the initial values of
     /// static fields.
     ///
@@ -119,8 +109,6 @@ impl<'a> Members<'a> {
         requires { All (HasMark marks.old) (members_uses self.now) }
         ensures { AreMarkedToo (members_uses self.now) marks.old marks.new }
     {
-        self.visit_fields(marks);
-        self.mark_methods(marks);
-        visit_values(self.static_values(), marks);
+        mark(self, marks);
     }
 }

@@ -1,13 +1,10 @@
 -- Parts of what a class declares: what they name, and what they weigh.
-use Rattle.std.specs.Prelude.{ℕ, ◌++◌, List, Option, sum_by, option_to_list}
+use Rattle.std.specs.Prelude.{ℕ, List, Option, sum_by, option_to_list}
 use Rattle.std.specs.List.{flat_map}
 use Rattle.dexpool.specs.Uses.{Use}
 use Rattle.dexcode.specs.Numbered.{NumberedItem}
 use Rattle.dexcode.specs.Renumbering.{item_uses}
-use Rattle.dexval.specs.Uses.{set_uses}
 use Rattle.dexmembers.specs.Fitting.{code_short_strings}
-use Rattle.dexmembers.specs.Numbered.{NumberedMembers, fields_of}
-use Rattle.dexmembers.specs.Uses.{field_uses}
 use Rattle.dexmembers.specs.Weighing.{numbered_whole_weight}
 
 -- what the code names, if there is some
@@ -21,7 +18,3 @@ optional_short_strings code = flat_map code_short_strings (option_to_list code)
 -- what it weighs with its debug program
 abbrev pub optional_whole_weight : Option NumberedItem → ℕ
 optional_whole_weight code = sum_by numbered_whole_weight (option_to_list code)
-
--- what the class's own set and its fields name
-abbrev pub uses_before_methods : NumberedMembers → List Use
-uses_before_methods x = set_uses x.annotations ++ flat_map field_uses (fields_of x)

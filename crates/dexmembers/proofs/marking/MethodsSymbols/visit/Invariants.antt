@@ -1,0 +1,7 @@
+use Rattle.std.proofs.Common.{take}
+use Rattle.std.specs.List.{FoldsTo, flat_map}
+use Rattle.dexmembers.specs.Uses.{method_uses}
+use Rattle.dexmembers.proofs.marking.MethodsSymbols.visit.Given as goal
+
+abbrev pub invariant-loop-i : goal.invariant-loop-i
+invariant-loop-i g l = FoldsTo g.V.Visitor.step l.initial.visitor (flat_map method_uses (take l.i l.self)) l.visitor

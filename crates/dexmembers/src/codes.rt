@@ -10,8 +10,9 @@ ghost use Rattle.dexmembers.specs.internal.MethodCodes.{IsCodeOrNone, IsCodeOrNo
 use crate::class_data::EncodedMethod;
 use crate::code_checking::{CheckedCodes, check_codes};
 use crate::encoded_lists::room;
-use dexcode::{Code, debug_unindexed_law, read_code};
+use dexcode::{Code, debug_unindexed_law, read_code_in};
 use dexhead::Frame;
+use dexinsn::Scratch;
 use dexpool::{ItemFault, Pools};
 use std::alloc::Global;
 
@@ -21,6 +22,7 @@ fn code_or_none<'a>(
     frame: &Frame<'a>,
     pools: &Pools<'_>,
     off: u32,
+    scratch: &mut Scratch,
 ) -> Result<Option<Code<'a>>, ItemFault>
     ensures read { ArePools frame.now pools.now
         → IfOk result (IsCodeOrNone frame.now off pools.now) }
@@ -30,7 +32,7 @@ fn code_or_none<'a>(
     if off == 0 {
         return Ok(None);
     }
-    match read_code(alloc, frame, pools, off) {
+    match read_code_in(alloc, frame, pools, off, scratch) {
         Ok(code) => Ok(Some(code)),
         Err(fault) => Err(fault),
     }
@@ -65,7 +67,8 @@ fn left_after_any(left: u64, code: &Option<Code<'_>>) -> Option<u64>
 pub(crate) type WeighedCodes<'a> = (Vec<Option<Code<'a>>>, u64);
 
 /// Reads the code of the methods, each with its debug program, and returns it with its weight; a method whose offset is
-/// 0 has none. If the weight exceeds `most`, the code of the later methods is only checked, and `None` is returned.
+/// 0 has none. If the weight exceeds `most`, the code of the later methods is only checked, and `None` is returned. All
+/// code is read in the same `scratch`.
 ///
 /// Error: `Refused` with 18, 19 or 20, a condition that fails for the code of one of the methods; `Memory` where an
 /// allocation failed.
@@ -77,6 +80,7 @@ pub(crate) fn read_codes<'a>(
     pools: &Pools<'_>,
     methods: &[EncodedMethod],
     most: u64,
+    scratch: &mut Scratch,
 ) -> Result<Option<WeighedCodes<'a>>, ItemFault>
     ensures read { ArePools frame.now pools.now
         → IfOk result (CodesWithin frame.now pools.now methods.now most) }
@@ -89,7 +93,7 @@ pub(crate) fn read_codes<'a>(
     let mut codes = Vec::with_capacity(alloc, room(methods.len()))?;
     let mut left = most;
     for i in 0..methods.len() {
-        let code = match code_or_none(alloc, frame, pools, methods[i].code_off) {
+        let code = match code_or_none(alloc, frame, pools, methods[i].code_off, scratch) {
             Ok(code) => code,
             Err(fault) => return Err(fault),
         };

@@ -13,6 +13,7 @@ use crate::row_parts::{attach, read_parts};
 use crate::weighing::members_weight_law;
 use dexcode::code_meaning_law;
 use dexhead::Frame;
+use dexinsn::Scratch;
 use dexpool::{ItemFault, Pools};
 use std::alloc::Global;
 
@@ -63,7 +64,16 @@ pub fn read_members<'a>(
         Ok(declared) => declared,
         Err(fault) => return Err(fault),
     };
-    let found = match read_parts(alloc, frame, pools, &row, &declared, u64::from(most)) {
+    let mut scratch = Scratch::new(alloc);
+    let found = match read_parts(
+        alloc,
+        frame,
+        pools,
+        &row,
+        &declared,
+        u64::from(most),
+        &mut scratch,
+    ) {
         Ok(found) => found,
         Err(fault) => return Err(fault),
     };

@@ -13,6 +13,7 @@ use crate::row_annotations::read_annotations;
 use crate::static_values::read_static_values;
 use dexcode::Code;
 use dexhead::Frame;
+use dexinsn::Scratch;
 use dexpool::{ItemFault, Pools};
 use dexval::{SharedDirectory, Value};
 use std::alloc::{AllocError, Global};
@@ -30,7 +31,7 @@ pub(crate) struct Parts<'a> {
 }
 
 /// Reads what is at a class row beside its class data. Where a part of it weighs more than `most`, all is checked, and none
-/// is returned.
+/// is returned. All code is read in the same `scratch`.
 ///
 /// Condition: the row declares these members. Error: `Refused` with a number from 18 to 22, a condition that fails at the
 /// row; `Memory` where an allocation failed.
@@ -44,6 +45,7 @@ pub(crate) fn read_parts<'a>(
     row: &ClassDef,
     declared: &ClassData,
     most: u64,
+    scratch: &mut Scratch,
 ) -> Result<Option<Parts<'a>>, ItemFault>
     ensures read { ReadsParts frame.now pools.now row.now declared.now most result }
     ensures held { IfOk result (λ parts. IfSome parts (λ x. IsHeldDirectory x.directory)) }
@@ -56,11 +58,18 @@ pub(crate) fn read_parts<'a>(
         Ok(found) => found,
         Err(fault) => return Err(fault),
     };
-    let direct = match read_codes(alloc, frame, pools, &declared.direct_methods, most) {
+    let direct = match read_codes(alloc, frame, pools, &declared.direct_methods, most, scratch) {
         Ok(codes) => codes,
         Err(fault) => return Err(fault),
     };
-    let virtuals = match read_codes(alloc, frame, pools, &declared.virtual_methods, most) {
+    let virtuals = match read_codes(
+        alloc,
+        frame,
+        pools,
+        &declared.virtual_methods,
+        most,
+        scratch,
+    ) {
         Ok(codes) => codes,
         Err(fault) => return Err(fault),
     };

@@ -1,14 +1,14 @@
 //! Which types are classes, and which of them a file defines.
 
-ghost use Rattle.std.specs.Prelude.{◌↔◌, IsTrue, IfOk};
+ghost use Rattle.std.specs.Prelude.{◌≡◌, ◌↔◌, ◌<◌, IsTrue, IfOk};
 ghost use Rattle.dexspec.specs.Names.{IsClass};
+ghost use Rattle.dexspec.specs.Classes.{class_idx};
 ghost use Rattle.dexspec.specs.Header.{ClassDefs, TypeIds, table_size};
 ghost use Rattle.dexpool.specs.Pools.{ArePools};
 ghost use Rattle.dexclass.specs.internal.Rows.{AreClassTests, AreDefinedMarks};
 ghost use Rattle.dexclass.specs.internal.Checked.{MarksClass};
 
-use dexhead::{Frame, Table};
-use dexmembers::ClassDef;
+use dexhead::{Frame, Table, u32_at};
 use dexpool::{Pools, SymbolKind};
 use dexstr::{Kind, Text, descriptor_kind};
 use std::alloc::{AllocError, Global};
@@ -56,6 +56,15 @@ pub(crate) fn mark(index: u32, marks: &mut Vec<bool>)
     }
 }
 
+// The index of the type of class row `r`: of its fields, only this one is decoded.
+fn class_index(frame: &Frame<'_>, r: u32) -> u32
+    requires { r < table_size frame.now ClassDefs }
+    ensures { class_idx frame.now r ≡ result }
+{
+    let fields = frame.row(Table::ClassDefs, r);
+    u32_at(fields, 0)
+}
+
 /// For each type of a file whether a class row is of it.
 pub(crate) fn defined(alloc: Global, frame: &Frame<'_>) -> Result<Vec<bool>, AllocError>
     ensures { IfOk result (λ marks.
@@ -64,7 +73,7 @@ pub(crate) fn defined(alloc: Global, frame: &Frame<'_>) -> Result<Vec<bool>, All
     let mut marks = no_marks(alloc, frame)?;
     let count = frame.size(Table::ClassDefs);
     for r in 0..count {
-        mark(ClassDef::at(frame, r).class_idx, &mut marks);
+        mark(class_index(frame, r), &mut marks);
     }
     Ok(marks)
 }

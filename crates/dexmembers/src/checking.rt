@@ -4,6 +4,7 @@ ghost use Rattle.std.specs.Prelude.{ℕ, List, ◌≡◌, ◌<◌, ◌-◌, ◌*
 ghost use Rattle.dexspec.specs.Header.{ClassDefs, table_size};
 ghost use Rattle.dexspec.specs.Mentions.{Mentions};
 ghost use Rattle.dexpool.specs.Pools.{ArePools};
+ghost use Rattle.dexmembers.specs.ClassDefs.{IsClassDef};
 ghost use Rattle.dexmembers.specs.Reading.{IsMembersFault, InClass};
 ghost use Rattle.dexmembers.specs.Checking.{AreChecks, HasMembersOf};
 ghost use Rattle.dexmembers.specs.internal.ClassData.{count_fields};
@@ -71,9 +72,32 @@ pub fn check_members(
     ensures refused { InClass frame.now pools.now row
         (IfErr result (IsMembersFault frame.now row)) }
 {
+    check_members_of(alloc, frame, pools, &ClassDef::at(frame, row), checks)
+}
+
+/// Checks what a decoded class row declares, as [`check_members`] does.
+///
+/// Condition: what is checked already is of this file. What is said of the result is said of rows of the file that meet
+/// condition 16. Error: as of [`check_members`].
+///
+/// Source: "class_def_item", the fields `annotations_off`, `class_data_off` and `static_values_off`.
+pub fn check_members_of(
+    alloc: Global,
+    frame: &Frame<'_>,
+    pools: &Pools<'_>,
+    row: &ClassDef,
+    checks: &mut Checks,
+) -> Result<u64, ItemFault>
+    requires { ArePools frame.now pools.now → AreChecks frame.now pools.now checks.old }
+    ensures checks { ArePools frame.now pools.now
+        → OnOk result (AreChecks frame.now pools.now checks.new) }
+    ensures checked { (r : ℕ) → IsClassDef frame.now r row.now
+        → InClass frame.now pools.now r (IfOk result (HasMembersOf frame.now r)) }
+    ensures refused { (r : ℕ) → IsClassDef frame.now r row.now
+        → InClass frame.now pools.now r (IfErr result (IsMembersFault frame.now r)) }
+{
     pools.numbering().is_numbering();
-    let row = ClassDef::at(frame, row);
-    let declared = match read_class_data(alloc, frame, pools, &row) {
+    let declared = match read_class_data(alloc, frame, pools, row) {
         Ok(declared) => declared,
         Err(fault) => return Err(fault),
     };

@@ -1,7 +1,8 @@
 //! What class rows declare, read from a file.
 
-ghost use Rattle.std.specs.Prelude.{◌<◌, IfOk, IfErr};
+ghost use Rattle.std.specs.Prelude.{ℕ, ◌<◌, IfOk, IfErr};
 ghost use Rattle.dexspec.specs.Header.{ClassDefs, table_size};
+ghost use Rattle.dexmembers.specs.ClassDefs.{IsClassDef};
 ghost use Rattle.dexmembers.specs.Reading.{AreReadWithin, IsMembersFault, InClass};
 ghost use Rattle.dexmembers.specs.Contents.{contents_in, AreHeld};
 ghost use Rattle.dexmembers.specs.internal.Weighed.{IsWeighedWithin};
@@ -57,10 +58,30 @@ pub fn read_members<'a>(
     ensures refused { InClass frame.now pools.now row
         (IfErr result (IsMembersFault frame.now row)) }
 {
+    read_members_of(alloc, frame, pools, &ClassDef::at(frame, row), most)
+}
+
+/// Reads what a decoded class row declares, as [`read_members`] does.
+///
+/// What the contract says of the result holds for rows of the file that meet condition 16. Error: as of
+/// [`read_members`].
+///
+/// Source: "class_def_item", the fields `annotations_off`, `class_data_off` and `static_values_off`.
+pub fn read_members_of<'a>(
+    alloc: Global,
+    frame: &Frame<'a>,
+    pools: &Pools<'_>,
+    row: &ClassDef,
+    most: u32,
+) -> Result<Option<(Members<'a>, u32)>, ItemFault>
+    ensures read { (r : ℕ) → IsClassDef frame.now r row.now
+        → InClass frame.now pools.now r (IfOk result (AreReadWithin frame.now r pools.now most)) }
+    ensures refused { (r : ℕ) → IsClassDef frame.now r row.now
+        → InClass frame.now pools.now r (IfErr result (IsMembersFault frame.now r)) }
+{
     pools.numbering().is_numbering();
     code_meaning_law();
-    let row = ClassDef::at(frame, row);
-    let declared = match read_class_data(alloc, frame, pools, &row) {
+    let declared = match read_class_data(alloc, frame, pools, row) {
         Ok(declared) => declared,
         Err(fault) => return Err(fault),
     };
@@ -69,7 +90,7 @@ pub fn read_members<'a>(
         alloc,
         frame,
         pools,
-        &row,
+        row,
         &declared,
         u64::from(most),
         &mut scratch,

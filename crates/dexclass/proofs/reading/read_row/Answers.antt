@@ -20,7 +20,7 @@ class_at-requires-clause-list c = subst (HasInterfaceList c.args.frame.now) c.at
 
 pub returns-in-Err-clause-refused : goal.returns-in-Err-clause-refused
 returns-in-Err-clause-refused c =
-    c.at_row.ensures c.args.frame.now c.requires.before c.requires.row (c.in-Err.ensures.refused c.requires.pools (c.requires.before Condition.Classes (omega arith) c.args.r c.requires.row))
+    c.at_row.ensures c.args.frame.now c.requires.before c.requires.row (c.in-Err.ensures.refused c.args.r c.at-row.ensures c.requires.pools (c.requires.before Condition.Classes (omega arith) c.args.r c.requires.row))
 
 pub returns-in-None-clause-refused : goal.returns-in-None-clause-refused
 returns-in-None-clause-refused c =
@@ -28,7 +28,7 @@ returns-in-None-clause-refused c =
     let m = c.args.pools.now in
     let r = c.args.r in
     let most = c.saturating_sub-most.result in
-    let heavy : AreHeavyMembers b r most = subst (AreReadWithin b r m most) c.in-None.is (c.in-Ok.ensures.read c.requires.pools (c.requires.before Condition.Classes (omega arith) r c.requires.row)) in
+    let heavy : AreHeavyMembers b r most = subst (AreReadWithin b r m most) c.in-None.is (c.in-Ok.ensures.read r c.at-row.ensures c.requires.pools (c.requires.before Condition.Classes (omega arith) r c.requires.row)) in
     let interfaces = row_interfaces b r c.at-row.result c.interface_count-interfaces.result c.at-row.ensures c.interface_count-interfaces.ensures in
     let left : most ≡ most_weight - c.args.bodies.now.weight - (96 + 2 * length (interface_indices b (interfaces_off b r))) = omega (arith, c.saturating_sub-most.ensures, interfaces, c.row_weight-own.ensures) in
     subst (IsFaultOf b) (sym c.too_heavy.ensures) (members_heavy b m c.requires.pools c.requires.before r c.args.bodies.now c.requires.bodies c.requires.row most left heavy)
@@ -41,7 +41,7 @@ returns-then-weight-gt-MOST_WEIGHT-clause-refused c =
     let most = c.saturating_sub-most.result in
     let x = c.in-Some.found in
     let w = c.row_weight-own.result + c.from.result in
-    let read = subst (AreReadWithin b r m most) c.in-Some.is (c.in-Ok.ensures.read c.requires.pools (c.requires.before Condition.Classes (omega arith) r c.requires.row)) in
+    let read = subst (AreReadWithin b r m most) c.in-Some.is (c.in-Ok.ensures.read r c.at-row.ensures c.requires.pools (c.requires.before Condition.Classes (omega arith) r c.requires.row)) in
     let interfaces = row_interfaces b r c.at-row.result c.interface_count-interfaces.result c.at-row.ensures c.interface_count-interfaces.ensures in
     let weighs : w ≡ 96 + 2 * length (interface_indices b (interfaces_off b r)) + members_weight (members_in m x.0) = omega (arith, interfaces, c.row_weight-own.ensures, c.from.ensures, read.1) in
     subst (IsFaultOf b) (sym c.too_heavy-then-weight-gt-MOST_WEIGHT.ensures)
@@ -56,7 +56,7 @@ returns-clause-accepted c =
     let x = c.in-Some.found in
     let old = c.args.bodies.now in
     let w = c.row_weight-own.result + c.from.result in
-    let read = subst (AreReadWithin b r m most) c.in-Some.is (c.in-Ok.ensures.read c.requires.pools (c.requires.before Condition.Classes (omega arith) r c.requires.row)) in
+    let read = subst (AreReadWithin b r m most) c.in-Some.is (c.in-Ok.ensures.read r c.at-row.ensures c.requires.pools (c.requires.before Condition.Classes (omega arith) r c.requires.row)) in
     let interfaces = row_interfaces b r c.at-row.result c.interface_count-interfaces.result c.at-row.ensures c.interface_count-interfaces.ensures in
     let weighs : w ≡ 96 + 2 * length (interface_indices b (interfaces_off b r)) + members_weight (members_in m x.0) = omega (arith, interfaces, c.row_weight-own.ensures, c.from.ensures, read.1) in
     class_more b m c.requires.pools c.requires.before r c.requires.row most x.0 read.0 w weighs old c.requires.bodies c.if-weight-gt-MOST_WEIGHT.false c.in_ok-class_at.field-0 (c.in_ok-class_at.ensures r c.at-row.ensures)

@@ -14,15 +14,14 @@ use Rattle.dexmembers.specs.Weight.{members_weight}
 use Rattle.dexmembers.proofs.DirectoryCache.{data_refused}
 use Rattle.dexmembers.proofs.RowsAreAt.{some_kept}
 use Rattle.dexmembers.proofs.RowRead.{parts_attachable, parts_known, parts_returned}
-use Rattle.dexmembers.proofs.reading.read_members.Goals as goal
+use Rattle.dexmembers.proofs.reading.read_members_of.Goals as goal
 
 pub returns-in-Err-clause-refused : goal.returns-in-Err-clause-refused
-returns-in-Err-clause-refused c = λ pools class. data_refused c.args.frame.now c.args.row c.in-Err.fault (c.in-Err.ensures.refused c.args.row c.at-row.ensures pools)
+returns-in-Err-clause-refused c = λ r row pools class. data_refused c.args.frame.now r c.in-Err.fault (c.in-Err.ensures.refused r row pools)
 
 pub returns-clause-read : goal.returns-clause-read
-returns-clause-read c = λ pools class.
+returns-clause-read c = λ r row pools class.
     let b = c.args.frame.now in
-    let r = c.args.row in
     let m = c.args.pools.now in
     let most = c.from.result in
     let d = c.in-Ok.declared in
@@ -30,8 +29,8 @@ returns-clause-read c = λ pools class.
     let vs = values_of_list (map value_of p.static_values.items) in
     let made = contents_in c.in_ok-unweighed.unweighed in
     let rising = subst AreRising c.numbering.ensures c.is_numbering.ensures.rising in
-    let is = c.in-Ok.ensures.read r c.at-row.ensures pools class in
-    let parts = some_kept (AreHeavyMembers b r most) (λ x. ArePartsOf b r m d most x.directory x.direct_codes.items x.virtual_codes.items (values_of_list (map value_of x.static_values.items))) c.in-Ok-read_parts.found p c.in-Some.is (c.in-Ok-read_parts.ensures.read r c.at-row.ensures pools is) in
+    let is = c.in-Ok.ensures.read r row pools class in
+    let parts = some_kept (AreHeavyMembers b r most) (λ x. ArePartsOf b r m d most x.directory x.direct_codes.items x.virtual_codes.items (values_of_list (map value_of x.static_values.items))) c.in-Ok-read_parts.found p c.in-Some.is (c.in-Ok-read_parts.ensures.read r row pools is) in
     let known = c.code_meaning_law.ensures.known m in
     let meant = c.code_meaning_law.ensures.meant m in
     let same = c.in_ok-unweighed.ensures.attached (parts_attachable b r m rising d is most p.directory p.direct_codes.items p.virtual_codes.items vs parts) in

@@ -11,20 +11,14 @@ use dexpool::{Remap, SymbolKind};
 pub(crate) fn type_number(remap: &Remap, i: usize) -> usize
     ensures { result ≡ remapped remap.now.types i }
 {
-    match remap.image(SymbolKind::Typ, i) {
-        Some(image) => image,
-        None => i,
-    }
+    remap.or_same(SymbolKind::Typ, i)
 }
 
 // The image of the number of a text, or the number itself if it has none.
 fn text_number(remap: &Remap, i: usize) -> usize
     ensures { result ≡ remapped remap.now.texts i }
 {
-    match remap.image(SymbolKind::Text, i) {
-        Some(image) => image,
-        None => i,
-    }
+    remap.or_same(SymbolKind::Text, i)
 }
 
 /// What [`type_number`] returns for a number, if there is one.

@@ -2,6 +2,7 @@
 use Rattle.std.proofs.Common.{◌≡◌, ◌≢◌, ℕ, zero, suc, ◌+◌, ◌<◌, Bool, true, false, List, [], ◌∷◌, ◌++◌, length, get_or, take, drop, map, replicate, length-take, refl, sym, ap, ◌∙◌, subst, arith, inl, inr, Option}
 use Rattle.std.specs.Prelude.{slice_set, slice_index_or}
 use Rattle.std.specs.List.{Contains, AllZip, flat_map}
+use Rattle.std.specs.Borrow.{Bor}
 use Rattle.std.proofs.lemmas.Bool.{false≢true, cases_eq}
 use Rattle.std.proofs.lemmas.List.{append_assoc, length-set, map-append, get_or-set_same, get_or-set_other, length-replicate, length-append, length-drop, get_or_default}
 use Rattle.std.proofs.lemmas.List.Elements.{All-nil, All-push, Contains-append_left, Contains-append_right, Contains-append_cases}
@@ -26,6 +27,7 @@ use Rattle.dexclass.specs.Uses.{IsKnownClass}
 use Rattle.dexclass.specs.Parents.{AreDepthsByName}
 use Rattle.dexclass.specs.Programs.{AreClassesOf, AreMergeable}
 use Rattle.dexclass.specs.Renumbering.{remapped, renumbered, MapsAllInto, StaysSame}
+use Rattle.dexmerge.specs.Parts.{all_parts}
 use Rattle.dexmerge.specs.internal.Collecting.{IsPartOf, ArePartsOf, AreCollected, IsAdded, AreOneOfEach}
 use Rattle.dexmerge.specs.declared.class_union.Collected.{Collected}
 use Rattle.dexmerge.specs.internal.Unions.{IsChecked}
@@ -230,8 +232,14 @@ pub collection_is : (m : Mentions) (D : List Definition) (cs : List NumberedClas
 collection_is m D cs K h k name c = (λ e. (h.same (name, c)).0 ((k name c).0 e), λ has. (k name c).1 ((h.same (name, c)).1 has))
 
 -- what is checked under some caps is so under the greatest
-pub checked_greatest : (caps : Caps) (parts : List Collection) (m : Mentions) (remaps : List Maps) → AreCaps caps → IsChecked caps parts m remaps → IsChecked greatest_caps parts m remaps
+checked_greatest : (caps : Caps) (parts : List Collection) (m : Mentions) (remaps : List Maps) → AreCaps caps → IsChecked caps parts m remaps → IsChecked greatest_caps parts m remaps
 checked_greatest caps parts m remaps are j = record { joined = j.joined; good = good_greatest caps (flat_map definitions parts) are j.good }
+
+-- the same of owned parts and maps that are equal to those
+pub checked_parts : (caps : Caps) (owned given : List Collection) (files : List (Bor Collection)) (m : Mentions) (found remaps : List Maps) → AreCaps caps → given ≡ owned → remaps ≡ found →
+    IsChecked caps (all_parts given files) m found → IsChecked greatest_caps (all_parts owned files) m remaps
+checked_parts caps owned given files m found remaps are parts maps j =
+    subst (IsChecked greatest_caps (all_parts owned files) m) (sym maps) (checked_greatest caps (all_parts owned files) m found are (subst (λ (l : List Collection). IsChecked caps (all_parts l files) m found) parts j))
 
 -- the parts of a union
 pub parts_of : (whole parts : List Collection) (m : Mentions) (remaps : List Maps) → IsChecked greatest_caps whole m remaps → (given : List Maps) → ((K : Collection) → Contains parts K → Contains whole K) → length given ≡ length parts → AllZip (λ part remap. MapsAllInto (mentions (definitions part)) m remap) parts given → ArePartsOf m parts given

@@ -26,10 +26,7 @@ impl<'a, 'b> Candidate<'a, 'b> {
     fn remapped(&self, typ: usize) -> usize
         ensures { result ≡ remapped self.now.remap.now.types typ }
     {
-        match self.remap.image(SymbolKind::Typ, typ) {
-            Some(image) => image,
-            None => typ,
-        }
+        self.remap.or_same(SymbolKind::Typ, typ)
     }
 
     /// Whether the two are the same class of the union.

@@ -53,10 +53,7 @@ impl<'a> Collected<'a> {
         ensures { result ≡ slice_index_or self.now.is_name.items
             (remapped remap.now.types class.now.name) false }
     {
-        let name = match remap.image(SymbolKind::Typ, class.name()) {
-            Some(image) => image,
-            None => class.name(),
-        };
+        let name = remap.or_same(SymbolKind::Typ, class.name());
         name < self.is_name.len() && self.is_name[name]
     }
 

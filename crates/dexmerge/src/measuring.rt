@@ -99,9 +99,6 @@ pub fn measure(alloc: Global, parts: &[&Program<'_>]) -> Result<Counts, MergeFau
 {
     let (numbering, remaps) = joined(alloc, parts)?;
     let copies = candidates(alloc, parts, &remaps)?;
-    let classes = match one_of_each(alloc, &numbering, &copies) {
-        Ok(classes) => classes,
-        Err(fault) => return Err(fault),
-    };
+    let classes = one_of_each(alloc, &numbering, &copies)?;
     measure_once(alloc, &numbering, &classes)
 }

@@ -77,14 +77,12 @@ fn checked<'a>(
 {
     let parts = all_parts(alloc, owned, files)?;
     let (numbering, remaps) = joined(alloc, &parts)?;
-    match check(alloc, &numbering, &parts, &remaps, caps) {
-        Ok(depths) => Ok(Mergeable {
-            numbering,
-            remaps,
-            depths,
-        }),
-        Err(fault) => Err(fault),
-    }
+    let depths = check(alloc, &numbering, &parts, &remaps, caps)?;
+    Ok(Mergeable {
+        numbering,
+        remaps,
+        depths,
+    })
 }
 
 /// The program of all classes of programs, as [`merge`] has it. Classes of those that are owned are moved, those of
@@ -103,10 +101,7 @@ pub(crate) fn merge_all<'a>(
         numbering,
         remaps,
         depths,
-    } = match checked(alloc, &owned, files, caps) {
-        Ok(checked) => checked,
-        Err(fault) => return Err(fault),
-    };
+    } = checked(alloc, &owned, files, caps)?;
     caps.are_caps();
     let types = numbering.count(SymbolKind::Typ);
     let classes = collect_classes(alloc, owned, files, &remaps, types)?;

@@ -109,10 +109,8 @@ pub fn merge_plan<'a>(
     if !is_plan_for(alloc, plan, files.len())? {
         return Err(PlanFault::BadPlan);
     }
-    match merge_parts(alloc, files, plan, caps) {
-        Ok(program) => Ok(program),
-        Err(fault) => Err(PlanFault::Merge(fault)),
-    }
+    let program = merge_parts(alloc, files, plan, caps)?;
+    Ok(program)
 }
 
 // Whether the plan is a file or a node of files.
@@ -145,8 +143,6 @@ pub fn merge_files<'a>(
     if !is_plan_for(alloc, plan, files.len())? {
         return Err(PlanFault::BadPlan);
     }
-    match merge_all(alloc, files, &[], caps) {
-        Ok(program) => Ok(program),
-        Err(fault) => Err(PlanFault::Merge(fault)),
-    }
+    let program = merge_all(alloc, files, &[], caps)?;
+    Ok(program)
 }

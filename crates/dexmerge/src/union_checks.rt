@@ -97,9 +97,6 @@ pub(crate) fn check(
     ensures fault { IfErr result (Reports (IsFirstCause caps.now (definitions_in parts.now))) }
 {
     let copies = candidates(alloc, parts, remaps)?;
-    let classes = match one_of_each(alloc, numbering, &copies) {
-        Ok(classes) => classes,
-        Err(fault) => return Err(fault),
-    };
+    let classes = one_of_each(alloc, numbering, &copies)?;
     check_once(alloc, numbering, &classes, caps)
 }

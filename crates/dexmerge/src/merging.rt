@@ -3,7 +3,8 @@
 ghost use Rattle.std.specs.Prelude.{◌≡◌, List, IfOk, IfErr};
 ghost use Rattle.dexspec.specs.Classes.{Definition};
 ghost use Rattle.dexspec.specs.Files.{AreWithin};
-ghost use Rattle.dexspec.specs.Merging.{Cause, IsCause, IsFirstCause, IsGood};
+ghost use Rattle.dexspec.specs.Merging.{IsFirstCause};
+ghost use Rattle.dexlaws.specs.Causes.{GoodHasNoCause};
 ghost use Rattle.dexlaws.specs.Growth.{Absorbs};
 ghost use Rattle.dexmerge.specs.Faults.{IsMerged, Reports};
 ghost use Rattle.dexmerge.specs.Parts.{referents, definitions_in, all_parts, all_definitions};
@@ -122,8 +123,7 @@ pub fn merge<'a>(
     ensures merged { IfOk result (IsMerged caps.now (definitions_in parts.now)) }
     ensures fault { IfErr result (Reports (IsFirstCause caps.now (definitions_in parts.now))) }
     ensures law { (part whole : List Definition) → AreWithin part whole → Absorbs part whole }
-    ensures apart { (classes : List Definition) (cause : Cause) → IsGood caps.now classes
-        → IsCause caps.now classes cause → ⊥ }
+    ensures apart { GoodHasNoCause caps.now }
 {
     dexlaws::causes::good_or_first_cause();
     dexlaws::growth::absorption_law();

@@ -1,11 +1,10 @@
 //! Programs merged by a plan.
 
-ghost use Rattle.std.specs.Prelude.{◌≡◌, ◌<◌, [], All, IfOk, IfErr, OnOk, length, List, map, slice_index_or};
+ghost use Rattle.std.specs.Prelude.{◌≡◌, ◌<◌, [], All, IfOk, IfErr, OnOk, length, map, slice_index_or};
 ghost use Rattle.std.specs.List.{flat_map};
 ghost use Rattle.dexspec.specs.Files.{definitions, AreSame};
-ghost use Rattle.dexspec.specs.Merging as merging;
-ghost use Rattle.dexspec.specs.Merging.{Cause, IsCause, IsFirstCause, IsGood, all_leaves};
-ghost use Rattle.dexspec.specs.Classes.{Definition};
+ghost use Rattle.dexspec.specs.Merging.{IsFirstCause, all_leaves};
+ghost use Rattle.dexlaws.specs.Causes.{GoodHasNoCause};
 ghost use Rattle.dexmerge.specs.Plans.{plan_of, plans_of, node_of};
 ghost use Rattle.dexmerge.specs.Faults.{IsMerged, IsPlanned, IsPlanFault, Reports, planned};
 ghost use Rattle.dexmerge.specs.internal.Parts.{AreKnown, IsCauseOf, of_nodes, AppendsLeaves};
@@ -102,8 +101,7 @@ pub fn merge_plan<'a>(
 ) -> Result<Program<'a>, PlanFault>
     ensures merged { IfOk result (IsPlanned caps.now files.now (plan_of plan.now)) }
     ensures fault { IfErr result (IsPlanFault caps.now files.now (plan_of plan.now)) }
-    ensures apart { (classes : List Definition) (cause : Cause) → IsGood caps.now classes
-        → IsCause caps.now classes cause → ⊥ }
+    ensures apart { GoodHasNoCause caps.now }
 {
     dexlaws::causes::good_or_first_cause();
     if !is_plan_for(alloc, plan, files.len())? {
@@ -133,8 +131,7 @@ pub fn merge_files<'a>(
 ) -> Result<Program<'a>, PlanFault>
     ensures merged { IfOk result (IsPlanned caps.now files.entry.items (plan_of plan.now)) }
     ensures fault { IfErr result (IsPlanFault caps.now files.entry.items (plan_of plan.now)) }
-    ensures apart { (classes : List Definition) (cause : Cause) → IsGood caps.now classes
-        → IsCause caps.now classes cause → ⊥ }
+    ensures apart { GoodHasNoCause caps.now }
 {
     dexlaws::causes::good_or_first_cause();
     if !is_flat(plan) {

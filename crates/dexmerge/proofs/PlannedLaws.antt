@@ -1,6 +1,7 @@
 -- The definitions of the parts of a plan.
-use Rattle.std.proofs.Common.{◌≡◌, ◌⊎◌, ℕ, zero, suc, ◌<◌, List, [], ◌∷◌, ◌++◌, length, get_or, map, refl, sym, ap, ◌∙◌, subst, arith, inl, inr, Ok, Err}
+use Rattle.std.proofs.Common.{◌≡◌, ◌⊎◌, ℕ, zero, suc, ◌<◌, List, [], ◌∷◌, ◌++◌, length, get_or, map, refl, sym, ap, ◌∙◌, subst, arith, inl, inr}
 use Rattle.std.specs.Prelude.{All, slice_index_or}
+use Rattle.std.specs.Borrow.{Bor}
 use Rattle.std.specs.List.{Contains, flat_map}
 use Rattle.std.proofs.lemmas.List.{append-nil}
 use Rattle.std.proofs.lemmas.Grind.{flat_map-append}
@@ -15,6 +16,7 @@ use Rattle.dexspec.proofs.merge.FirstCauses.{first_cause-same}
 use Rattle.dexmerge.specs.declared.faults.MergeFault.{MergeFault}
 use Rattle.dexmerge.specs.declared.faults.MergeFault.TheVariants as fault
 use Rattle.dexmerge.proofs.Marked.{part_leaves}
+use Rattle.dexmerge.specs.Parts.{referents, definitions_in, all_definitions}
 use Rattle.dexmerge.specs.Plans.{plans_of}
 use Rattle.dexmerge.specs.Faults.{IsMerged, Reports, planned}
 use Rattle.dexmerge.specs.internal.Parts.{files_in, nodes_in, of_files, of_plans, AreKnown, IsCauseOf}
@@ -154,7 +156,7 @@ module _ (files : List Collection) where
 -- ---- what a node makes
 
 -- the programs of a node have its definitions
-pub programs_same : (files : List Collection) (ps : List Plan) (inner given : List Collection) → flat_map definitions given ≡ of_files files (files_in ps) → AreSame (flat_map definitions inner) (of_plans files (nodes_in ps)) → AreSame (flat_map definitions (inner ++ given)) (planned files (Node (plans_of ps)))
+programs_same : (files : List Collection) (ps : List Plan) (inner given : List Collection) → flat_map definitions given ≡ of_files files (files_in ps) → AreSame (flat_map definitions inner) (of_plans files (nodes_in ps)) → AreSame (flat_map definitions (inner ++ given)) (planned files (Node (plans_of ps)))
 programs_same files ps inner given is same =
     let own : List Definition = flat_map definitions inner in
     let all : flat_map definitions (inner ++ given) ≡ own ++ of_files files (files_in ps) = flat_map-append definitions inner given ∙ ap (λ (l : List Definition). own ++ l) is in
@@ -168,6 +170,11 @@ programs_same files ps inner given is same =
       | inl first ↦ Contains-append_right E D d first
       | inr last ↦ Contains-append_left E D d last
     ]
+
+-- the same, where the files of the leaves were added to an empty list
+pub node_programs : (files : List Collection) (ps : List Plan) (inner : List Collection) (given all none : List (Bor Collection)) → given ≡ all → none ≡ [] → definitions_in all ≡ definitions_in none ++ of_files files (files_in ps) →
+    AreSame (flat_map definitions inner) (of_plans files (nodes_in ps)) → AreSame (all_definitions inner given) (planned files (Node (plans_of ps)))
+node_programs files ps inner given all none same empty added = programs_same files ps inner (referents given) (ap definitions_in same ∙ added ∙ ap (λ (l : List (Bor Collection)). definitions_in l ++ of_files files (files_in ps)) empty)
 
 pub all_member : (P : ℕ → Type 0) (xs : List ℕ) (x : ℕ) → All P xs → Contains xs x → P x
 all_member P xs x all c = subst P c.2 (All-get_or P xs c.0 x c.1 all)

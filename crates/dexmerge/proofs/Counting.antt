@@ -1,7 +1,7 @@
 -- What a union holds, in numbers.
 use Rattle.std.proofs.Common.{◌≡◌, ℕ, ◌+◌, ◌-◌, ◌^◌, ◌<◌, ◌≤◌, Bool, true, false, not, ◌||◌, min, List, [], ◌∷◌, ◌++◌, length, take, map, refl, sym, ap, ◌∙◌, arith, Option, Some, None}
 use Rattle.std.specs.Prelude.{All, nat_lt}
-use Rattle.std.specs.List.{Contains, list_any}
+use Rattle.std.specs.List.{list_any}
 use Rattle.std.proofs.lemmas.Bool.{ltb-true, ltb-false, lt-ltb}
 use Rattle.std.proofs.lemmas.List.{take_more, append-nil, length-map}
 use Rattle.std.proofs.lemmas.List.Folds.{list_any-append}
@@ -23,9 +23,9 @@ use Rattle.dexclass.specs.Renumbering.{IsMappedClass}
 use Rattle.dexclass.specs.Uses.{IsKnownClass}
 use Rattle.dexmerge.specs.declared.candidates.Candidate.{Candidate}
 use Rattle.dexmerge.specs.declared.measuring.Counts.{Counts}
-use Rattle.dexmerge.specs.internal.Amounts.{short_numbers, has_from}
+use Rattle.dexmerge.specs.internal.Amounts.{short_numbers}
 use Rattle.dexmerge.specs.Candidates.{classes_of, class_at}
-use Rattle.dexmerge.specs.Counting.{AreCounts, AreCountsOver, Decides, IsShortBound, above_it, is_from}
+use Rattle.dexmerge.specs.Counting.{AreCounts, AreCountsOver, Decides, above_it, is_from}
 use Rattle.dexmerge.specs.internal.Unions.{AreOnce}
 use Rattle.dexmerge.proofs.CapLaws.{none_from, weight_is}
 use Rattle.dexmerge.proofs.FarTexts.{few_texts, greatest_decides, none_remapped}

@@ -10,8 +10,9 @@ ghost use Rattle.dexruns.specs.internal.Unread.{AreUnread};
 use crate::faults::RunFault;
 use crate::inputs::read_input;
 use crate::lines::{Verdict, check_line};
+use crate::outputs::write_output;
 use crate::status::ExitStatus;
-use dexhead::{Sink, Source, write_whole};
+use dexhead::{Sink, Source};
 use dexpool::ReadFault;
 use std::alloc::Global;
 
@@ -79,10 +80,8 @@ pub fn check_run<R: Source, W: Sink>(
     for i in 0..inputs.len() {
         let verdict = check_input(alloc, i, &mut inputs[i])?;
         let line = check_line(alloc, names[i], &verdict)?;
-        match write_whole(out, line.as_bytes()) {
-            Ok(()) => status = status_after(status, &verdict),
-            Err(_) => return Err(RunFault::Write),
-        }
+        write_output(out, line.as_bytes())?;
+        status = status_after(status, &verdict);
     }
     Ok(status)
 }

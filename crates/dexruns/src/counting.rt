@@ -11,8 +11,9 @@ ghost use Rattle.dexruns.specs.Runs.{AllWork, IsLeft};
 
 use crate::faults::{MergeCause, RunFault};
 use crate::merging::{places, read_each};
+use crate::outputs::write_output;
 use dexclass::Program;
-use dexhead::{Sink, Source, write_whole};
+use dexhead::{Sink, Source};
 use dexmerge::{Caps, Counts, MergeFault, measure};
 use std::alloc::{AllocError, Global};
 
@@ -111,10 +112,7 @@ fn read_counts<R: Source>(alloc: Global, inputs: &mut [R]) -> Result<Counts, Run
     ensures devices { IfErr result (IsOfDevices R.has_failed inputs.new false) }
 {
     let mut files = places(alloc, inputs.len())?;
-    let programs = match read_each(alloc, inputs, files.as_mut_slice()) {
-        Ok(programs) => programs,
-        Err(fault) => return Err(fault),
-    };
+    let programs = read_each(alloc, inputs, files.as_mut_slice())?;
     counts_of(alloc, programs.as_slice())
 }
 
@@ -153,13 +151,8 @@ pub fn count_run<R: Source, W: Sink>(
     ensures writer { OnOk result (W.has_failed out.new ≡ false) }
     ensures devices { IfErr result (IsOfDevices R.has_failed inputs.new (W.has_failed out.new)) }
 {
-    let counts = match read_counts(alloc, inputs) {
-        Ok(counts) => counts,
-        Err(fault) => return Err(fault),
-    };
+    let counts = read_counts(alloc, inputs)?;
     let lines = count_lines(alloc, &counts)?;
-    match write_whole(out, lines.as_bytes()) {
-        Ok(()) => Ok(()),
-        Err(_) => Err(RunFault::Write),
-    }
+    write_output(out, lines.as_bytes())?;
+    Ok(())
 }

@@ -13,9 +13,10 @@ ghost use Rattle.dexruns.specs.declared.faults.RunFault.TheVariants.{Read, Write
 use crate::explaining::{hexadecimal_digit, push_sign, push_text};
 use crate::faults::RunFault;
 use crate::inputs::{read_input, read_program};
+use crate::outputs::write_output;
 use dexcanon::digests;
 use dexclass::Program;
-use dexhead::{Sink, Source, write_whole};
+use dexhead::{Sink, Source};
 use dexlaws::denotes::collections::one_collection;
 use dexstr::Text;
 use std::alloc::{AllocError, Global};
@@ -117,8 +118,6 @@ pub fn digest_run<R: Source, W: Sink>(
     let program = read_program(alloc, 0, bytes.as_slice())?;
     one_collection();
     let lines = digest_lines(alloc, name, &program)?;
-    match write_whole(out, lines.as_bytes()) {
-        Ok(()) => Ok(()),
-        Err(_) => Err(RunFault::Write),
-    }
+    write_output(out, lines.as_bytes())?;
+    Ok(())
 }

@@ -15,6 +15,7 @@ mod inputs;
 mod lines;
 mod merging;
 mod normalising;
+mod outputs;
 mod repairing;
 mod status;
 

@@ -11,8 +11,9 @@ ghost use Rattle.dexruns.specs.declared.faults.RunFault.TheVariants.{Read, Write
 
 use crate::faults::RunFault;
 use crate::inputs::{fault_of_input, read_input};
+use crate::outputs::write_output;
 use dexclass::check_frame;
-use dexhead::{Frame, Sink, Source, set_sums, write_whole};
+use dexhead::{Frame, Sink, Source, set_sums};
 use dexpool::ReadFault;
 use std::alloc::Global;
 
@@ -84,8 +85,6 @@ pub fn repair_run<R: Source, W: Sink>(
         Ok(()) => {}
         Err(fault) => return Err(fault_of_input(0, fault)),
     }
-    match write_whole(out, file.as_slice()) {
-        Ok(()) => Ok(()),
-        Err(_) => Err(RunFault::Write),
-    }
+    write_output(out, file.as_slice())?;
+    Ok(())
 }

@@ -33,8 +33,8 @@ returns-in_err-line-clause-begun g c =
     let p = err_from_is_err_and c.from_residual-in_err-line.result c.from_residual-in_err-line.ensures.1 in
     rw p.1 (begun _ _ _ (map (λ input. bytes_read (g.R.Source.to_come input)) c.args.inputs.now) _ _ _ _ le c.loop-i.invariant.checked)
 
-pub returns-in-Err-clause-begun : goal.returns-in-Err-clause-begun
-returns-in-Err-clause-begun g c =
+pub returns-in_err-write_output-clause-begun : goal.returns-in_err-write_output-clause-begun
+returns-in_err-write_output-clause-begun g c =
     let lt : c.loop-i.i < length c.args.inputs.now = omega arith in
     let now : c.loop-i.i < length c.loop-i.inputs = omega arith in
     let named : c.loop-i.i < length c.args.names.now = omega arith in
@@ -42,12 +42,13 @@ returns-in-Err-clause-begun g c =
     let names = length-map c.args.names.now (λ name. name.now) in
     let inside : c.loop-i.i < length (map (λ input. bytes_read (g.R.Source.to_come input)) c.args.inputs.now) = omega (arith, count) in
     let same : length (map (λ name. name.now) c.args.names.now) ≡ length (map (λ input. bytes_read (g.R.Source.to_come input)) c.args.inputs.now) = omega (arith, count, names) in
-    begun_more _ _ (map (λ name. name.now) c.args.names.now) (map (λ input. bytes_read (g.R.Source.to_come input)) c.args.inputs.now) _ _ _ _ c.loop-i.i c.in_ok-verdict.verdict inside same c.loop-i.invariant.checked
+    let p = err_from_is_err_and c.from_residual-in_err-write_output.result c.from_residual-in_err-write_output.ensures.1 in
+    rw p.1 (begun_more _ _ (map (λ name. name.now) c.args.names.now) (map (λ input. bytes_read (g.R.Source.to_come input)) c.args.inputs.now) _ _ _ _ c.loop-i.i c.in_ok-verdict.verdict inside same c.loop-i.invariant.checked
     (right_now g.R.Source.reports (λ input. bytes_read (g.R.Source.to_come input)) c.loop-i.inputs c.args.inputs.now c.loop-i.i c.index-inputs-i.result c.in_ok-verdict.verdict
     c.loop-i.invariant.rest now lt c.index-inputs-i.is c.in_ok-verdict.ensures.verdict)
     c.as_bytes.result.now
     (line_is (λ name. name.now) c.args.names.now c.loop-i.i _ c.in_ok-verdict.verdict _ _ named c.as_bytes.ensures.value c.in_ok-line.ensures)
-    (λ w. c.in-Err.ensures.prefix (c.loop-i.invariant.reports w))
+    (λ w. c.in_err-write_output.ensures.prefix (c.loop-i.invariant.reports w)))
 
 pub loop-i-preserved : goal.loop-i-preserved
 loop-i-preserved g c =
@@ -61,8 +62,8 @@ loop-i-preserved g c =
     let less : c.loop-i.i < c.loop-i.i + 1 = omega arith in
     record {
       readers = All-set (λ s. g.R.Source.has_failed s ≡ false) _ _ _ c.in_ok-verdict.ensures.works c.loop-i.invariant.readers;
-      writer = c.in-Ok.ensures.works;
-      reports = λ w. c.in-Ok.ensures.reports (c.loop-i.invariant.reports w);
+      writer = c.in_ok-write_output.ensures.works;
+      reports = λ w. c.in_ok-write_output.ensures.reports (c.loop-i.invariant.reports w);
       rest = rw drop-set-lt (drop_more_same c.loop-i.inputs c.args.inputs.now c.loop-i.i c.loop-i.invariant.rest);
       moved = moved_now (IsReadNoFurther g.R.Source.reports g.R.Source.to_come g.R.Source.has_failed) c.args.inputs.now c.loop-i.inputs c.loop-i.i c.index-inputs-i.result c.check_input.new.input
           c.loop-i.invariant.moved c.loop-i.invariant.rest now lt c.index-inputs-i.is c.check_input.ensures.no_further;
@@ -71,7 +72,7 @@ loop-i-preserved g c =
           c.loop-i.invariant.rest now lt c.index-inputs-i.is c.in_ok-verdict.ensures.verdict)
           c.as_bytes.result.now
           (line_is (λ name. name.now) c.args.names.now c.loop-i.i _ c.in_ok-verdict.verdict _ _ named c.as_bytes.ensures.value c.in_ok-line.ensures)
-          (λ w. c.in-Ok.ensures.written (c.loop-i.invariant.reports w)));
+          (λ w. c.in_ok-write_output.ensures.written (c.loop-i.invariant.reports w)));
     }
 
 pub returns-in_err-verdict-clause-no_further : goal.returns-in_err-verdict-clause-no_further
@@ -88,8 +89,8 @@ returns-in_err-line-clause-no_further g c =
     moved_now (IsReadNoFurther g.R.Source.reports g.R.Source.to_come g.R.Source.has_failed) c.args.inputs.now c.loop-i.inputs c.loop-i.i c.index-inputs-i.result c.check_input.new.input
     c.loop-i.invariant.moved c.loop-i.invariant.rest now lt c.index-inputs-i.is c.check_input.ensures.no_further
 
-pub returns-in-Err-clause-no_further : goal.returns-in-Err-clause-no_further
-returns-in-Err-clause-no_further g c =
+pub returns-in_err-write_output-clause-no_further : goal.returns-in_err-write_output-clause-no_further
+returns-in_err-write_output-clause-no_further g c =
     let lt : c.loop-i.i < length c.args.inputs.now = omega arith in
     let now : c.loop-i.i < length c.loop-i.inputs = omega arith in
     moved_now (IsReadNoFurther g.R.Source.reports g.R.Source.to_come g.R.Source.has_failed) c.args.inputs.now c.loop-i.inputs c.loop-i.i c.index-inputs-i.result c.check_input.new.input
@@ -100,11 +101,13 @@ returns-in_err-line-clause-fault g c =
     let p = err_from_is_err_and c.from_residual-in_err-line.result c.from_residual-in_err-line.ensures.1 in
     rw (p.1, p.2) (All-set (λ s. g.R.Source.has_failed s ≡ false) _ _ _ c.in_ok-verdict.ensures.works c.loop-i.invariant.readers, c.loop-i.invariant.writer)
 
-pub returns-in-Err-clause-fault : goal.returns-in-Err-clause-fault
-returns-in-Err-clause-fault g c = (All-set (λ s. g.R.Source.has_failed s ≡ false) _ _ _ c.in_ok-verdict.ensures.works c.loop-i.invariant.readers, c.in-Err.ensures.fails)
+pub returns-in_err-write_output-clause-fault : goal.returns-in_err-write_output-clause-fault
+returns-in_err-write_output-clause-fault g c =
+    let p = err_from_is_err_and c.from_residual-in_err-write_output.result c.from_residual-in_err-write_output.ensures.1 in
+    rw (p.1, p.2, c.in_err-write_output.ensures.fault) (All-set (λ s. g.R.Source.has_failed s ≡ false) _ _ _ c.in_ok-verdict.ensures.works c.loop-i.invariant.readers, c.in_err-write_output.ensures.fails)
 
-pub returns-in-Err-clause-reports : goal.returns-in-Err-clause-reports
-returns-in-Err-clause-reports g c = λ w. c.in-Err.ensures.reports (c.loop-i.invariant.reports w)
+pub returns-in_err-write_output-clause-reports : goal.returns-in_err-write_output-clause-reports
+returns-in_err-write_output-clause-reports g c = λ w. c.in_err-write_output.ensures.reports (c.loop-i.invariant.reports w)
 
 pub returns-in_err-verdict-clause-fault : goal.returns-in_err-verdict-clause-fault
 returns-in_err-verdict-clause-fault g c =

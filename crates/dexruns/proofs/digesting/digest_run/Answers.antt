@@ -12,15 +12,17 @@ returns-in_err-program-clause-fault g c =
     rw (p.1, p.2) (of_input (g.R.Source.reports c.args.input.now) (bytes_read (g.R.Source.to_come c.args.input.now)) c.as_slice.result.now c.in_err-program.field-0.0
     (λ reads. c.as_slice.ensures.value ∙ c.in_ok-bytes.ensures.bytes reads) c.in_err-program.ensures.fault)
 
-pub returns-in-Ok-clause-written : goal.returns-in-Ok-clause-written
-returns-in-Ok-clause-written g c = λ reads writes K denotes.
+pub returns-clause-written : goal.returns-clause-written
+returns-clause-written g c = λ reads writes K denotes.
     written_is c.one_collection.ensures c.args.name.now _ _ _ K _ _ _ (c.as_slice.ensures.value ∙ c.in_ok-bytes.ensures.bytes reads) c.in_ok-program.ensures.accepted denotes
-    (c.as_bytes.ensures.value ∙ c.in_ok-lines.ensures) (c.in-Ok.ensures.written writes)
+    (c.as_bytes.ensures.value ∙ c.in_ok-lines.ensures) (c.in_ok-write_output.ensures.written writes)
 
-pub returns-clause-left : goal.returns-clause-left
-returns-clause-left g c = λ reads. (
-  accepted_file _ _ _ (c.as_slice.ensures.value ∙ c.in_ok-bytes.ensures.bytes reads) c.in_ok-program.ensures.accepted,
-  (λ writes K denotes.
-      prefix_is c.one_collection.ensures c.args.name.now _ _ _ K _ _ _ (c.as_slice.ensures.value ∙ c.in_ok-bytes.ensures.bytes reads) c.in_ok-program.ensures.accepted denotes
-      (c.as_bytes.ensures.value ∙ c.in_ok-lines.ensures) (c.in-Err.ensures.prefix writes)),
-)
+pub returns-in_err-write_output-clause-left : goal.returns-in_err-write_output-clause-left
+returns-in_err-write_output-clause-left g c =
+    let p = err_from_is_err_and c.from_residual-in_err-write_output.result c.from_residual-in_err-write_output.ensures.1 in
+    rw (p.1, p.2, c.in_err-write_output.ensures.fault) (λ reads. (
+      accepted_file _ _ _ (c.as_slice.ensures.value ∙ c.in_ok-bytes.ensures.bytes reads) c.in_ok-program.ensures.accepted,
+      (λ writes K denotes.
+          prefix_is c.one_collection.ensures c.args.name.now _ _ _ K _ _ _ (c.as_slice.ensures.value ∙ c.in_ok-bytes.ensures.bytes reads) c.in_ok-program.ensures.accepted denotes
+          (c.as_bytes.ensures.value ∙ c.in_ok-lines.ensures) (c.in_err-write_output.ensures.prefix writes)),
+    ))

@@ -1,4 +1,5 @@
 use Rattle.std.proofs.Common.{◌∙◌}
+use Rattle.std.proofs.lemmas.Result.{err_from_is_err_and}
 use Rattle.dexruns.specs.Inputs.{bytes_read}
 use Rattle.dexruns.specs.Repairs.{repaired}
 use Rattle.dexruns.proofs.Repaired.{repaired_only, repaired_is, accepted_is, prefix_is, has_checksum, has_signature}
@@ -17,8 +18,8 @@ returns-in_err-bytes-clause-only_sums g c = repaired_only (bytes_read (g.R.Sourc
 pub returns-in-Err-clause-only_sums : goal.returns-in-Err-clause-only_sums
 returns-in-Err-clause-only_sums g c = repaired_only (bytes_read (g.R.Source.to_come c.args.input.now))
 
-pub returns-in-Ok-write_whole-clause-only_sums : goal.returns-in-Ok-write_whole-clause-only_sums
-returns-in-Ok-write_whole-clause-only_sums g c = repaired_only (bytes_read (g.R.Source.to_come c.args.input.now))
+pub returns-in_err-write_output-clause-only_sums : goal.returns-in_err-write_output-clause-only_sums
+returns-in_err-write_output-clause-only_sums g c = repaired_only (bytes_read (g.R.Source.to_come c.args.input.now))
 
 pub returns-clause-only_sums : goal.returns-clause-only_sums
 returns-clause-only_sums g c = repaired_only (bytes_read (g.R.Source.to_come c.args.input.now))
@@ -28,8 +29,10 @@ returns-in-Err-clause-fault g c =
     rw c.fault_of_input.ensures (of_input (g.R.Source.reports c.args.input.now) (repaired (bytes_read (g.R.Source.to_come c.args.input.now))) c.as_slice.result.now _
     (λ reads. repaired_is _ _ _ (c.as_slice.ensures.value ∙ c.repaired-file.ensures) (c.in_ok-bytes.ensures.bytes reads)) (no_program 0 c.as_slice.result.now c.in-Err.fault c.in-Err.ensures.refused))
 
-pub returns-clause-left : goal.returns-clause-left
-returns-clause-left g c = λ reads. (
-  accepted_is _ _ _ (c.as_slice.ensures.value ∙ c.repaired-file.ensures) (c.in_ok-bytes.ensures.bytes reads) c.in-Ok.ensures.accepted,
-  (λ writes. prefix_is _ _ _ _ _ (c.as_slice-2.ensures.value ∙ c.repaired-file.ensures) (c.in_ok-bytes.ensures.bytes reads) (c.in-Err-write_whole.ensures.prefix writes)),
-)
+pub returns-in_err-write_output-clause-left : goal.returns-in_err-write_output-clause-left
+returns-in_err-write_output-clause-left g c =
+    let p = err_from_is_err_and c.from_residual-in_err-write_output.result c.from_residual-in_err-write_output.ensures.1 in
+    rw (p.1, p.2, c.in_err-write_output.ensures.fault) (λ reads. (
+      accepted_is _ _ _ (c.as_slice.ensures.value ∙ c.repaired-file.ensures) (c.in_ok-bytes.ensures.bytes reads) c.in-Ok.ensures.accepted,
+      (λ writes. prefix_is _ _ _ _ _ (c.as_slice-2.ensures.value ∙ c.repaired-file.ensures) (c.in_ok-bytes.ensures.bytes reads) (c.in_err-write_output.ensures.prefix writes)),
+    ))

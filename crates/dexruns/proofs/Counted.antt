@@ -8,7 +8,11 @@ use Rattle.dexspec.specs.Mentions.{mentions}
 use Rattle.dexspec.specs.Weight.{weight}
 use Rattle.dexspec.specs.Merging.{Caps, Cap, TypeCap, ProtoCap, FieldCap, MethodCap, ShortStringCap, WeightCap, Exceeds, IsFirstCause}
 use Rattle.dexspec.proofs.merge.WeightGrowth.{weight-within}
-use Rattle.dexmerge.specs.Faults.{IsOfCap}
+use Rattle.dexmerge.specs.declared.faults.MergeFault.{MergeFault}
+use Rattle.dexmerge.specs.declared.faults.MergeFault.TheVariants as fault
+use Rattle.dexmerge.specs.Faults.{IsOfCap, ReportsUnderAnyCaps}
+use Rattle.dexruns.specs.Counts.{IsUncountedFault}
+use Rattle.dexruns.specs.Faults.{fault_of_merge}
 
 -- the caps that the definitions just keep
 abbrev ample : List Definition → Caps
@@ -30,5 +34,12 @@ none_exceeded D ShortStringCap more = omega (arith, more.2, count_by-le-length (
 none_exceeded D WeightCap more = omega (arith, more.3, weight-within more.0 D more.1 more.2)
 
 -- no cap is a cause under any caps
-pub no_cap : (D : List Definition) (number : ℕ) → ((caps : Caps) → IsOfCap (IsFirstCause caps D) number) → ⊥
+no_cap : (D : List Definition) (number : ℕ) → ((caps : Caps) → IsOfCap (IsFirstCause caps D) number) → ⊥
 no_cap D number reported = let here = reported (ample D) in none_exceeded D here.cap here.holds.is
+
+-- a fault of measuring is one of counting
+pub fault_of_counting : (D : List Definition) (f : MergeFault) → ReportsUnderAnyCaps D f → IsUncountedFault D (fault_of_merge f)
+fault_of_counting D (fault.Conflict name) reported = reported
+fault_of_counting D (fault.Cycle name) reported = reported
+fault_of_counting D (fault.Cap number) reported = no_cap D number reported
+fault_of_counting D fault.Memory reported = tt

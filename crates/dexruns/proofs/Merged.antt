@@ -1,16 +1,19 @@
 -- Inputs read one after the other, and merged.
 use Rattle.std.proofs.Common.{◌≡◌, ℕ, suc, ◌+◌, ◌<◌, Bool, List, [], ◌∷◌, ◌++◌, length, get_or, take, drop, refl, sym, ap, ◌∙◌, subst, arith}
 use Rattle.std.proofs.lemmas.List.{take_more, take_all}
-use Rattle.std.specs.Prelude.{Result, Ok, Err, IfErr, OnOk}
 use Rattle.std.specs.List.{AllZip}
 use Rattle.dexspec.specs.Files.{Collection, definitions, Denotes}
 use Rattle.dexspec.specs.WellFormed.{AreWellFormed}
 use Rattle.dexspec.specs.Accepted.{IsAccepted}
-use Rattle.dexspec.specs.Classes.{Definition}
 use Rattle.dexspec.specs.Canonical.{canonical}
-use Rattle.dexspec.specs.Merging.{Caps, Cause, IsCause, IsGood, greatest_caps, Plan, IsPlanFor}
+use Rattle.dexspec.specs.Merging.{Caps, IsGood, greatest_caps, Plan, IsPlanFor}
 use Rattle.dexspec.specs.Merging as merging
-use Rattle.dexmerge.specs.Faults.{planned, IsPlannedCause}
+use Rattle.dexlaws.specs.Causes.{GoodHasNoCause}
+use Rattle.dexmerge.specs.declared.faults.MergeFault.TheVariants as unmerged
+use Rattle.dexmerge.specs.declared.faults.PlanFault.{PlanFault}
+use Rattle.dexmerge.specs.declared.faults.PlanFault.TheVariants as unplanned
+use Rattle.dexmerge.specs.Faults.{planned, IsPlannedCause, IsPlanFault}
+use Rattle.dexruns.specs.Faults.{fault_of_plan}
 use Rattle.dexruns.specs.declared.faults.MergeCause.{MergeCause}
 use Rattle.dexruns.specs.declared.faults.MergeCause.TheVariants as cause
 use Rattle.dexruns.specs.declared.faults.RunFault.{RunFault}
@@ -46,11 +49,20 @@ zip_length P (x ∷ xs) (y ∷ ys) all = ap suc (zip_length P xs ys all.1)
 -- ---- their union
 
 -- where the union is good no cause is true of it
-pub true_cause : (caps : Caps) (apart : (D : List Definition) (c : Cause) → IsGood caps D → IsCause caps D c → ⊥) (collections : List Collection) (plan : Plan) (reported : MergeCause) →
+true_cause : (caps : Caps) (apart : GoodHasNoCause caps) (collections : List Collection) (plan : Plan) (reported : MergeCause) →
     ReportsCause (IsPlannedCause caps collections plan) reported → IsTrueCause caps collections plan reported
 true_cause caps apart collections plan (cause.Conflict name) holds = record { cause = holds; bad = λ good. apart (planned collections plan) (merging.Conflict name) good holds.holds }
 true_cause caps apart collections plan (cause.Cycle name) holds = record { cause = holds; bad = λ good. apart (planned collections plan) (merging.Cycle name) good holds.holds }
 true_cause caps apart collections plan (cause.Cap number) holds = record { cause = holds; bad = λ good. apart (planned collections plan) (merging.Exceeded holds.cap) good holds.holds.holds }
+
+-- a fault of a plan is one of the union
+pub fault_of_union : (caps : Caps) (apart : GoodHasNoCause caps) (collections : List Collection) (plan : Plan) (f : PlanFault) →
+    IsPlanFault caps collections plan f → IsUnionFault caps collections plan (fault_of_plan f)
+fault_of_union caps apart collections plan unplanned.BadPlan fault = fault
+fault_of_union caps apart collections plan (unplanned.Merge (unmerged.Conflict name)) fault = true_cause caps apart collections plan (cause.Conflict name) fault
+fault_of_union caps apart collections plan (unplanned.Merge (unmerged.Cycle name)) fault = true_cause caps apart collections plan (cause.Cycle name) fault
+fault_of_union caps apart collections plan (unplanned.Merge (unmerged.Cap number)) fault = true_cause caps apart collections plan (cause.Cap number) fault
+fault_of_union caps apart collections plan (unplanned.Merge unmerged.Memory) fault = tt
 
 -- a plan for as many inputs as collections is one for the collections
 plan_for_collections : {R : Type 0} (P : R → Collection → Type 0) (inputs : List R) (collections : List Collection) (plan : Plan) → AllZip P inputs collections → IsPlanFor (length inputs) plan → IsPlanFor (length collections) plan
@@ -76,16 +88,6 @@ uncalled_by_merging P inputs now collections caps plan run.Write is read fault =
 uncalled_by_merging P inputs now collections caps plan run.Memory is read fault = tt
 
 -- ---- what a run leaves
-
--- a fault of which one thing holds, and so another
-pub if_err : {T E : Type 0} (P Q : E → Type 0) (r : Result T E) → ((e : E) → P e → Q e) → IfErr r P → IfErr r Q
-if_err P Q (Ok x) maps_to holds = tt
-if_err P Q (Err e) maps_to holds = maps_to e holds
-
--- what holds where all was done, and so something else
-pub on_ok : {T E : Type 0} (A B : Type 0) (r : Result T E) → (A → B) → OnOk r A → OnOk r B
-on_ok A B (Ok x) maps_to holds = maps_to holds
-on_ok A B (Err e) maps_to holds = tt
 
 -- the canonical file of what is good and well formed is accepted, and denotes it
 pub file_is : (accepted : (K : Collection) → IsGood greatest_caps (definitions K) → AreWellFormed (definitions K) → IsAccepted (canonical K)) →

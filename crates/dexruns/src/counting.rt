@@ -9,12 +9,12 @@ ghost use Rattle.dexruns.specs.Inputs.{IsReadNoFurther};
 ghost use Rattle.dexruns.specs.Merges.{IsAppended, IsPrefixAppended, IsOfDevices};
 ghost use Rattle.dexruns.specs.Runs.{AllWork, IsLeft};
 
-use crate::faults::{MergeCause, RunFault};
+use crate::faults::RunFault;
 use crate::merging::{places, read_each};
 use crate::outputs::write_output;
 use dexclass::Program;
 use dexhead::{Sink, Source};
-use dexmerge::{Caps, Counts, MergeFault, measure};
+use dexmerge::{Caps, Counts, measure};
 use std::alloc::{AllocError, Global};
 
 // Appends the line of a number that a cap bounds.
@@ -92,13 +92,8 @@ fn counts_of(alloc: Global, programs: &[Program<'_>]) -> Result<Counts, RunFault
     ensures fault { IfErr result (IsUncountedFault (flat_map definitions programs.now)) }
 {
     let parts: Vec<&Program<'_>> = programs.iter().collect(alloc)?;
-    match measure(alloc, parts.as_slice()) {
-        Ok(counts) => Ok(counts),
-        Err(MergeFault::Conflict(name)) => Err(RunFault::Merge(MergeCause::Conflict(name))),
-        Err(MergeFault::Cycle(name)) => Err(RunFault::Merge(MergeCause::Cycle(name))),
-        Err(MergeFault::Cap(cap)) => Err(RunFault::Merge(MergeCause::Cap(cap))),
-        Err(MergeFault::Memory) => Err(RunFault::Memory),
-    }
+    let counts = measure(alloc, parts.as_slice())?;
+    Ok(counts)
 }
 
 // The numbers of the union of inputs, which are read one after the other.

@@ -10,13 +10,13 @@ ghost use Rattle.dexruns.specs.Inputs.{IsReadNoFurther};
 ghost use Rattle.dexruns.specs.Merges.{AreReadFrom, IsReadEachFault, IsUnionFault, IsUnited, IsUnitedFault, IsFileOf, IsAppended, IsPrefixAppended, IsMergedFile, IsMergeFault, IsWriteFault, AreUncalled, IsOfWriter, IsOfDevices, kept};
 ghost use Rattle.dexruns.specs.Runs.{AllWork, IsLeft};
 
-use crate::faults::{MergeCause, RunFault};
+use crate::faults::RunFault;
 use crate::inputs::{read_input, read_program};
 use dexcanon::write_to;
 use dexclass::{Program, into_stripped};
 use dexhead::{Sink, Source};
 use dexlaws::normal::normal_form;
-use dexmerge::{Caps, MergeFault, Plan, PlanFault, is_plan_for, merge_files};
+use dexmerge::{Caps, Plan, is_plan_for, merge_files};
 use std::alloc::{AllocError, Global};
 
 /// A place for the bytes of each input.
@@ -65,18 +65,8 @@ fn united<'a>(
     ensures united { IfOk result (IsPlanned caps.now programs.entry.items (plan_of plan.now)) }
     ensures fault { IfErr result (IsUnionFault caps.now programs.entry.items (plan_of plan.now)) }
 {
-    match merge_files(alloc, programs, plan, caps) {
-        Ok(program) => Ok(program),
-        Err(PlanFault::BadPlan) => Err(RunFault::Plan),
-        Err(PlanFault::Merge(MergeFault::Conflict(name))) => {
-            Err(RunFault::Merge(MergeCause::Conflict(name)))
-        }
-        Err(PlanFault::Merge(MergeFault::Cycle(name))) => {
-            Err(RunFault::Merge(MergeCause::Cycle(name)))
-        }
-        Err(PlanFault::Merge(MergeFault::Cap(cap))) => Err(RunFault::Merge(MergeCause::Cap(cap))),
-        Err(PlanFault::Merge(MergeFault::Memory)) => Err(RunFault::Memory),
-    }
+    let program = merge_files(alloc, programs, plan, caps)?;
+    Ok(program)
 }
 
 // The collection of what a plan names, of inputs that are read into the places.
@@ -102,10 +92,7 @@ fn read_united<'a, R: Source>(
     if !is_plan_for(alloc, plan, inputs.len())? {
         return Err(RunFault::Plan);
     }
-    let programs = match read_each(alloc, inputs, places) {
-        Ok(programs) => programs,
-        Err(fault) => return Err(fault),
-    };
+    let programs = read_each(alloc, inputs, places)?;
     united(alloc, programs, plan, caps)
 }
 
@@ -169,10 +156,7 @@ pub fn merge_or_strip_run<R: Source, W: Sink>(
     ensures devices { IfErr result (IsOfDevices R.has_failed inputs.new (W.has_failed out.new)) }
 {
     let mut files = places(alloc, inputs.len())?;
-    let whole = match read_united(alloc, inputs, plan, caps, files.as_mut_slice()) {
-        Ok(whole) => whole,
-        Err(fault) => return Err(fault),
-    };
+    let whole = read_united(alloc, inputs, plan, caps, files.as_mut_slice())?;
     let program = kept(alloc, whole, is_stripped)?;
     write_program(alloc, &program, out)
 }

@@ -1,20 +1,14 @@
-use Rattle.std.proofs.Common.{rules, ◌≡◌, map}
-use Rattle.dexruns.proofs.Counted.{no_cap}
+use Rattle.std.proofs.Common.{rules, ◌≡◌, List, map, subst}
+use Rattle.std.specs.List.{flat_map}
+use Rattle.std.proofs.lemmas.Result.{err_from_is_err_and}
+use Rattle.dexspec.specs.Files.{Collection, definitions}
+use Rattle.dexmerge.specs.Faults.{ReportsUnderAnyCaps}
+use Rattle.dexruns.proofs.Counted.{fault_of_counting}
 use Rattle.dexruns.proofs.counting.counts_of.Goals as goal
 
-pub returns-in-Err-Conflict-clause-fault : goal.returns-in-Err-Conflict-clause-fault
-returns-in-Err-Conflict-clause-fault c =
-    let reported = rw c.in-Err-Conflict.field-0-is at c.in-Err-Conflict.ensures.fault in
+pub returns-in_err-counts-clause-fault : goal.returns-in_err-counts-clause-fault
+returns-in_err-counts-clause-fault c =
     let same : map (λ part. part.now) c.as_slice.result.now ≡ c.args.programs.now = search rules in
-    λ caps. rw same at (reported caps)
-
-pub returns-in-Err-Cycle-clause-fault : goal.returns-in-Err-Cycle-clause-fault
-returns-in-Err-Cycle-clause-fault c =
-    let reported = rw c.in-Err-Cycle.field-0-is at c.in-Err-Cycle.ensures.fault in
-    let same : map (λ part. part.now) c.as_slice.result.now ≡ c.args.programs.now = search rules in
-    λ caps. rw same at (reported caps)
-
-pub returns-in-Err-Cap-clause-fault : goal.returns-in-Err-Cap-clause-fault
-returns-in-Err-Cap-clause-fault c =
-    let reported = rw c.in-Err-Cap.field-0-is at c.in-Err-Cap.ensures.fault in
-    no_cap _ c.in-Err-Cap.cap reported
+    let p = err_from_is_err_and c.from_residual-in_err-counts.result c.from_residual-in_err-counts.ensures.1 in
+    rw (p.1, p.2) (fault_of_counting (flat_map definitions c.args.programs.now) c.in_err-counts.field-0.0
+    (subst (λ (Ks : List Collection). ReportsUnderAnyCaps (flat_map definitions Ks) c.in_err-counts.field-0.0) same c.in_err-counts.ensures.fault))

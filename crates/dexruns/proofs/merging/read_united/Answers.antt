@@ -1,6 +1,7 @@
+use Rattle.std.proofs.lemmas.Result.{IfErr-weaker}
 use Rattle.dexmerge.specs.Plans.{plan_of}
 use Rattle.dexruns.specs.Merges.{IsReadFrom, IsUnionFault}
-use Rattle.dexruns.proofs.Merged.{if_err, fault_of_merging, uncalled_by_merging}
+use Rattle.dexruns.proofs.Merged.{fault_of_merging, uncalled_by_merging}
 use Rattle.dexruns.proofs.Moved.{none_moved}
 use Rattle.dexruns.proofs.merging.read_united.Goals as goal
 
@@ -13,13 +14,13 @@ returns-then-not-branch-clause-no_further g c = none_moved _ _ _ c.args.inputs.n
 pub returns-clause-fault : goal.returns-clause-fault
 returns-clause-fault g c =
     let is = rw c.if-not-branch.false at c.in_ok-is_plan_for.ensures in
-    if_err (IsUnionFault c.args.caps.now c.in-Ok.programs.items (plan_of c.args.plan.now)) _ c.united.result
-    (λ f h. fault_of_merging g.R.Source.reports g.R.Source.to_come c.args.inputs.now c.in-Ok.programs.items c.args.caps.now (plan_of c.args.plan.now) f is c.in-Ok.ensures.read h)
+    IfErr-weaker c.united.result (IsUnionFault c.args.caps.now c.in_ok-programs.programs.items (plan_of c.args.plan.now)) _
+    (λ f h. fault_of_merging g.R.Source.reports g.R.Source.to_come c.args.inputs.now c.in_ok-programs.programs.items c.args.caps.now (plan_of c.args.plan.now) f is c.in_ok-programs.ensures.read h)
     c.united.ensures.fault
 
 pub returns-clause-uncalled : goal.returns-clause-uncalled
 returns-clause-uncalled g c =
     let is = rw c.if-not-branch.false at c.in_ok-is_plan_for.ensures in
-    if_err (IsUnionFault c.args.caps.now c.in-Ok.programs.items (plan_of c.args.plan.now)) _ c.united.result
-    (λ f h. uncalled_by_merging (IsReadFrom g.R.Source.reports g.R.Source.to_come) c.args.inputs.now c.read_each.new.inputs c.in-Ok.programs.items c.args.caps.now (plan_of c.args.plan.now) f is c.in-Ok.ensures.read h)
+    IfErr-weaker c.united.result (IsUnionFault c.args.caps.now c.in_ok-programs.programs.items (plan_of c.args.plan.now)) _
+    (λ f h. uncalled_by_merging (IsReadFrom g.R.Source.reports g.R.Source.to_come) c.args.inputs.now c.read_each.new.inputs c.in_ok-programs.programs.items c.args.caps.now (plan_of c.args.plan.now) f is c.in_ok-programs.ensures.read h)
     c.united.ensures.fault

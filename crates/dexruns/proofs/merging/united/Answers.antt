@@ -1,13 +1,8 @@
-use Rattle.dexruns.specs.declared.faults.MergeCause.TheVariants as cause
-use Rattle.dexruns.proofs.Merged.{true_cause}
+use Rattle.std.proofs.lemmas.Result.{err_from_is_err_and}
+use Rattle.dexruns.proofs.Merged.{fault_of_union}
 use Rattle.dexruns.proofs.merging.united.Goals as goal
 
-pub returns-in-Err-Merge-Conflict-clause-fault : goal.returns-in-Err-Merge-Conflict-clause-fault
-returns-in-Err-Merge-Conflict-clause-fault c =
-    let reported = rw (c.in-Err-Merge-Conflict.field-0-is, c.in-Err-Merge-Conflict.field-0-0-is) at c.in-Err-Merge-Conflict.ensures.fault in
-    true_cause c.args.caps.now c.in-Err-Merge-Conflict.ensures.apart _ _ (cause.Conflict c.in-Err-Merge-Conflict.name) reported
-
-pub returns-in-Err-Merge-Cap-clause-fault : goal.returns-in-Err-Merge-Cap-clause-fault
-returns-in-Err-Merge-Cap-clause-fault c =
-    let reported = rw (c.in-Err-Merge-Cap.field-0-is, c.in-Err-Merge-Cap.field-0-0-is) at c.in-Err-Merge-Cap.ensures.fault in
-    true_cause c.args.caps.now c.in-Err-Merge-Cap.ensures.apart _ _ (cause.Cap c.in-Err-Merge-Cap.cap) reported
+pub returns-in_err-program-clause-fault : goal.returns-in_err-program-clause-fault
+returns-in_err-program-clause-fault c =
+    let p = err_from_is_err_and c.from_residual.result c.from_residual.ensures.1 in
+    rw (p.1, p.2) (fault_of_union c.args.caps.now c.in_err-program.ensures.apart _ _ c.in_err-program.field-0.0 c.in_err-program.ensures.fault)

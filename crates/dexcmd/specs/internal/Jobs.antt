@@ -17,81 +17,58 @@ use Rattle.dexcmd.specs.Reports.{standard_name, done, outcome_status, outcome_li
 abbrev pub IsReportOf : List (List ℕ) → List ℕ → Bool → Result ℕ RunFault → Report → Type 0
 IsReportOf files out closed outcome report = IsReport (outcome_status outcome) (outcome_lines files out closed outcome) report
 
-module _ {In Out : Type 0} (is_input : List ℕ → In → Type 0) (is_output : List ℕ → Out → Type 0) (is_standard : Out → Type 0) (is_closed : Out → Bool)
-    (reports : In → Type 0) (to_come : In → List ℕ) (reader_failed : In → Bool) (writes : Out → Type 0) (taken : Out → List ℕ) (writer_failed : Out → Bool) where
-  -- the files were checked, with the lines on standard output
-  pub record HasChecked (files : List (List ℕ)) (report : Report) : Type 0 where
+module _ {In Out : Type 0} (is_input : List ℕ → In → Type 0) (is_closed : Out → Bool) (IsTo : Out → Type 0) where
+  -- a run over the input of the name and such an output was done, and the report is that of its outcome
+  pub record HasRun (Ran : In → In → Out → Out → Result (Unit {0}) RunFault → Type 0) (file target : List ℕ) (report : Report) : Type 0 where
+    pub input : In
+    pub left : In
+    pub out : Out
+    pub written : Out
+    pub outcome : Result (Unit {0}) RunFault
+    pub named : is_input file input
+    pub to : IsTo out
+    pub ran : Ran input left out written outcome
+    pub reported : IsReportOf (file ∷ []) target (is_closed written) (done outcome) report
+
+  -- the same over the inputs of the names, with the outcome that `ended` makes of the run's own
+  pub record HasRunOver {T : Type 0} (ended : Result T RunFault → Result ℕ RunFault) (Ran : List In → List In → Out → Out → Result T RunFault → Type 0) (files : List (List ℕ)) (target : List ℕ) (report : Report) : Type 0 where
     pub inputs : List In
     pub left : List In
     pub out : Out
     pub written : Out
-    pub outcome : Result ℕ RunFault
+    pub outcome : Result T RunFault
     pub named : AllZip is_input files inputs
-    pub standard : is_standard out
-    pub ran : IsCheckRun reports to_come reader_failed writes taken writer_failed files inputs left out written outcome
-    pub reported : IsReportOf files standard_name (is_closed written) outcome report
+    pub to : IsTo out
+    pub ran : Ran inputs left out written outcome
+    pub reported : IsReportOf files target (is_closed written) (ended outcome) report
+
+module _ {In Out : Type 0} (is_input : List ℕ → In → Type 0) (is_output : List ℕ → Out → Type 0) (is_standard : Out → Type 0) (is_closed : Out → Bool)
+    (reports : In → Type 0) (to_come : In → List ℕ) (reader_failed : In → Bool) (writes : Out → Type 0) (taken : Out → List ℕ) (writer_failed : Out → Bool) where
+  -- the files were checked, with the lines on standard output
+  abbrev pub HasChecked : List (List ℕ) → Report → Type 0
+  HasChecked files report = HasRunOver is_input is_closed is_standard (λ outcome. outcome) (IsCheckRun reports to_come reader_failed writes taken writer_failed files) files standard_name report
 
   -- the file was listed on standard output
-  pub record HasDumped (file : List ℕ) (report : Report) : Type 0 where
-    pub input : In
-    pub left : In
-    pub out : Out
-    pub written : Out
-    pub outcome : Result (Unit {0}) RunFault
-    pub named : is_input file input
-    pub standard : is_standard out
-    pub ran : IsDumpRun reports to_come reader_failed writes taken writer_failed input left out written outcome
-    pub reported : IsReportOf (file ∷ []) standard_name (is_closed written) (done outcome) report
+  abbrev pub HasDumped : List ℕ → Report → Type 0
+  HasDumped file report = HasRun is_input is_closed is_standard (IsDumpRun reports to_come reader_failed writes taken writer_failed) file standard_name report
 
   -- the file's canonical form was written to the output of the other name
-  pub record HasNormalised (file target : List ℕ) (report : Report) : Type 0 where
-    pub input : In
-    pub left : In
-    pub out : Out
-    pub written : Out
-    pub outcome : Result (Unit {0}) RunFault
-    pub named : is_input file input
-    pub to : is_output target out
-    pub ran : IsNormaliseRun reports to_come reader_failed writes taken writer_failed input left out written outcome
-    pub reported : IsReportOf (file ∷ []) target (is_closed written) (done outcome) report
+  abbrev pub HasNormalised : List ℕ → List ℕ → Report → Type 0
+  HasNormalised file target report = HasRun is_input is_closed (is_output target) (IsNormaliseRun reports to_come reader_failed writes taken writer_failed) file target report
 
   -- the files were merged by the plan of the fan, and the merged file, stripped or not, was written to the output of the name
   pub record HasMerged (target : List ℕ) (fan : Option ℕ) (caps : Caps) (is_stripped : Bool) (files : List (List ℕ)) (report : Report) : Type 0 where
     pub plan : Plan
-    pub inputs : List In
-    pub left : List In
-    pub out : Out
-    pub written : Out
-    pub outcome : Result (Unit {0}) RunFault
     pub fanned : IsFanPlan (length files) fan plan
-    pub named : AllZip is_input files inputs
-    pub to : is_output target out
-    pub ran : IsMergeRun reports to_come reader_failed writes taken writer_failed plan caps is_stripped inputs left out written outcome
-    pub reported : IsReportOf files target (is_closed written) (done outcome) report
+    pub ran : HasRunOver is_input is_closed (is_output target) done (IsMergeRun reports to_come reader_failed writes taken writer_failed plan caps is_stripped) files target report
 
   -- what a merge of the files would hold was written to standard output
-  pub record HasCounted (files : List (List ℕ)) (report : Report) : Type 0 where
-    pub inputs : List In
-    pub left : List In
-    pub out : Out
-    pub written : Out
-    pub outcome : Result (Unit {0}) RunFault
-    pub named : AllZip is_input files inputs
-    pub standard : is_standard out
-    pub ran : IsCountRun reports to_come reader_failed writes taken writer_failed inputs left out written outcome
-    pub reported : IsReportOf files standard_name (is_closed written) (done outcome) report
+  abbrev pub HasCounted : List (List ℕ) → Report → Type 0
+  HasCounted files report = HasRunOver is_input is_closed is_standard done (IsCountRun reports to_come reader_failed writes taken writer_failed) files standard_name report
 
   -- the file with its sums set right was written to the output of the other name
-  pub record HasRepaired (file target : List ℕ) (report : Report) : Type 0 where
-    pub input : In
-    pub left : In
-    pub out : Out
-    pub written : Out
-    pub outcome : Result (Unit {0}) RunFault
-    pub named : is_input file input
-    pub to : is_output target out
-    pub ran : IsRepairRun reports to_come reader_failed writes taken writer_failed input left out written outcome
-    pub reported : IsReportOf (file ∷ []) target (is_closed written) (done outcome) report
+  abbrev pub HasRepaired : List ℕ → List ℕ → Report → Type 0
+  HasRepaired file target report = HasRun is_input is_closed (is_output target) (IsRepairRun reports to_come reader_failed writes taken writer_failed) file target report
 
   -- the job was done, and this is its report
   abbrev pub IsDone : Job → Report → Type 0

@@ -1,5 +1,5 @@
 use Rattle.dexruns.specs.Inputs.{bytes_read}
-use Rattle.dexcmd.proofs.Done.{one_named}
+use Rattle.dexcmd.proofs.Done.{input_named, ended_named}
 use Rattle.dexcmd.proofs.EachFile.{digest_works}
 use Rattle.dexcmd.proofs.each_file.digest_file.Goals as goal
 
@@ -14,7 +14,7 @@ returns-clause-ran g c = record {
 }
 
 pub returns-clause-named : goal.returns-clause-named
-returns-clause-named g c = one_named (g.D.Input.Source.reports c.input-input.result) (bytes_read (g.D.Input.Source.to_come c.input-input.result)) c.digest_run.result c.done.result c.done.ensures c.digest_run.ensures.fault
+returns-clause-named g c = ended_named 1 _ (input_named (g.D.Input.Source.reports c.input-input.result) (bytes_read (g.D.Input.Source.to_come c.input-input.result))) c.digest_run.result c.done.result c.done.ensures c.digest_run.ensures.fault
 
 pub returns-clause-works : goal.returns-clause-works
 returns-clause-works g c = digest_works (g.D.Output.Sink.has_failed c.digest_run.new.out) c.digest_run.result c.done.result c.done.ensures c.digest_run.ensures.write

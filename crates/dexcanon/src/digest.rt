@@ -17,16 +17,16 @@ use dexlayout::Layout;
 use sha1::Sha1;
 use std::alloc::{AllocError, Global};
 
-// How many parts a part is split into. With more of them a class is renumbered fewer times, and the tables of a part are read more
-// often.
+// How many parts a part is split into. With more of them a class is renumbered fewer times, and the tables of a part
+// are read more often.
 const WAYS: usize = 8;
 
 /// The digest of each class, in the order of [`Program::classes`]: the signature of the canonical file of the class
 /// alone. This file is accepted, and denotes the class alone. Equal definitions have equal digests in whatever program
 /// they are. Different ones have different files; that their digests differ too rests on SHA-1 alone.
 ///
-/// The classes are split into parts, these into parts again, and so on, each over the numbering of just what its classes mention:
-/// no class costs tables as long as the program's.
+/// The classes are split into parts, these into parts again, and so on, each over the numbering of just what its
+/// classes mention: no class costs tables as long as the program's.
 ///
 /// Source: "header_item", the field `signature`; the digest is this project's rule.
 #[tactic(auto, using(crate::proofs::Digested::one_file))]

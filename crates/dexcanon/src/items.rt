@@ -21,7 +21,7 @@ pub(crate) trait Item {
     // Its numbers fit.
     ghost fits: { Self → Type 0 };
 
-    /// How many bytes it has. No memory is taken.
+    /// How many bytes it has.
     fn len(&self) -> usize
         requires { fits self.now }
         ensures { result ≡ length (bytes self.now) };

@@ -43,8 +43,8 @@ pub(crate) trait Target {
     ghost after: { (x y : List ℕ) (a b c : Self) → gives x a b → gives_prefix y b c → gives_prefix (x ++ y) a c };
 }
 
-/// An output of items to a target. After the first fault nothing more is written, so no call has a condition on what was
-/// written before: the fault is asked for once, at the end.
+/// An output of items to a target. After the first fault nothing more is written, so no call has a condition on what
+/// was written before: the fault is asked for once, at the end.
 #[derive(Drop)]
 pub(crate) struct Out<T> {
     pub(crate) buffer: Vec<u8>,
@@ -100,8 +100,8 @@ impl<T: Target> Out<T> {
         }
     }
 
-    // Flushes the buffer where it has no room for an item. The item is measured only where the spare room is less than that
-    // for the longest.
+    // Flushes the buffer where it has no room for an item. The item is measured only where the spare room is less than
+    // that for the longest.
     fn make_room<I: Item>(&mut self, item: &I)
         requires { I.fits item.now }
         ensures adds { (limit : ℕ)

@@ -1,7 +1,7 @@
 //! The rows of the tables of symbols.
 //!
-//! Source: the headings "string_id_item", "type_id_item", "proto_id_item", "field_id_item" and "method_id_item" of the Android page
-//! "Dalvik Executable format".
+//! Source: the headings "string_id_item", "type_id_item", "proto_id_item", "field_id_item" and "method_id_item" of the
+//! Android page "Dalvik Executable format".
 
 ghost use Rattle.dexcanon.specs.internal.Ready.{CanBeMade};
 ghost use Rattle.dexcanon.specs.internal.Adding.{AddsPart, string_rows, type_rows, proto_rows, field_rows, method_rows};

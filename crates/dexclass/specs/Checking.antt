@@ -6,8 +6,8 @@ use Rattle.dexspec.specs.Accepted.{IsReadable, AreRows, IsAccepted}
 use Rattle.dexspec.specs.Weight.{most_weight}
 use Rattle.dexclass.specs.internal.Reading.{bodies_weight}
 
--- The rows before row n are readable, and are definitions. These weigh this much without the symbols that they mention, and
--- no more than they may.
+-- The rows before row n are readable, and are definitions. These weigh this much without the symbols that they mention,
+-- and no more than they may.
 pub record HaveBodiesOf (b : List ℕ) (n weight : ℕ) : Type 0 where
   pub definitions : List Definition
   pub readable : (k : ℕ) → k < n → IsReadable b k

@@ -7,8 +7,8 @@ use Rattle.dexspec.specs.Mentions.{Mentions}
 use Rattle.dexmembers.specs.Numbered.{NumberedMembers, members_in}
 use Rattle.dexclass.specs.internal.Rows.{interface_indices}
 
--- A class: the numbers of its type, of its superclass, of its interfaces and of its source text, what it declares, and what
--- it weighs without the symbols that it names.
+-- A class: the numbers of its type, of its superclass, of its interfaces and of its source text, what it declares, and
+-- what it weighs without the symbols that it names.
 pub record NumberedClass : Type 0 where
   pub name : ℕ
   pub flags : ℕ

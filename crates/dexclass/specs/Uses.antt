@@ -34,8 +34,8 @@ class_uses c = map type_use (type_numbers c) ++ (map text_use (text_numbers c) +
 abbrev pub class_weight : Mentions → NumberedClass → ℕ
 class_weight m c = min (2 ^ 64 - 1) (body_weight (definition_of m c).1)
 
--- the class's numbers are those of symbols, it declares members of its own, in order, and has its weight, or 2 ^ 64 - 1 where
--- that is more
+-- the class's numbers are those of symbols, it declares members of its own, in order, and has its weight, or 2 ^ 64 - 1
+-- where that is more
 pub record IsKnownClass (m : Mentions) (c : NumberedClass) : Type 0 where
   pub types_in : All (λ i. i < length m.types) (type_numbers c)
   pub texts_in : All (λ i. i < length m.texts) (text_numbers c)

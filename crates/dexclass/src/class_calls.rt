@@ -14,8 +14,8 @@ use std::alloc::AllocError;
 impl<'a> Class<'a> {
     /// What the class weighs without the symbols that it names, in bytes, or 2^64 - 1 where that is more.
     ///
-    /// Source: "class_def_item" and "type_list", and what [`dexmembers::Members::weight`] names, the sizes of their fields; the
-    /// weight is this project's rule.
+    /// Source: "class_def_item" and "type_list", and what [`dexmembers::Members::weight`] names, the sizes of their
+    /// fields; the weight is this project's rule.
     pub fn weight(&self) -> u64
         ensures { (m : Mentions) → AreRising m → IsKnownClass m self.now
             → result ≡ class_weight m self.now }

@@ -59,14 +59,14 @@ impl<'a> Model for Class<'a> {
 }
 
 impl<'a> Class<'a> {
-    /// The number of the class's type. No memory is taken.
+    /// The number of the class's type.
     pub fn name(&self) -> usize
         ensures { result ≡ self.now.name }
     {
         self.name
     }
 
-    /// The access flags. No memory is taken.
+    /// The access flags.
     ///
     /// Source: "access_flags definitions".
     pub fn flags(&self) -> ClassFlags
@@ -75,29 +75,28 @@ impl<'a> Class<'a> {
         ClassFlags::from_bits_retain(self.flags)
     }
 
-    /// The number of the superclass's type, if there is one. No memory is taken.
+    /// The number of the superclass's type, if there is one.
     pub fn superclass(&self) -> Option<usize>
         ensures { result ≡ self.now.superclass }
     {
         self.superclass
     }
 
-    /// The numbers of the interfaces' types, in their order. No memory is taken.
+    /// The numbers of the interfaces' types, in their order.
     pub fn interfaces(&self) -> &[usize]
         ensures { result.now ≡ self.now.interfaces }
     {
         &self.interfaces
     }
 
-    /// The number of the source name's text, if there is one. No memory is taken.
+    /// The number of the source name's text, if there is one.
     pub fn source(&self) -> Option<usize>
         ensures { result ≡ self.now.source }
     {
         self.source
     }
 
-    /// What the class declares: its annotations, its fields and methods, and what its static fields begin with. No memory
-    /// is taken.
+    /// What the class declares: its annotations, its fields and methods, and what its static fields begin with.
     ///
     /// Source: "class_data_item", "annotations_directory_item", "encoded_array_item".
     pub fn members(&self) -> &Members<'a>
@@ -161,8 +160,8 @@ fn interfaces_at(
     Ok(interfaces)
 }
 
-/// The class of a row, which lists `interfaces` interfaces: with the indices of the file as numbers, with what it declares
-/// and with its weight.
+/// The class of a row, which lists `interfaces` interfaces: with the indices of the file as numbers, with what it
+/// declares and with its weight.
 ///
 /// Condition: the row meets condition 16. Error: the memory for its interfaces was refused.
 ///

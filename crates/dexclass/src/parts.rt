@@ -14,8 +14,8 @@ use dexpool::Numbering;
 use std::alloc::{AllocError, Global};
 use std::marker::Model;
 
-/// Some classes of a program, in the program's order, over the numbering of just what they mention. Contracts see the list of
-/// their definitions.
+/// Some classes of a program, in the program's order, over the numbering of just what they mention. Contracts see the
+/// list of their definitions.
 pub struct Part<'a> {
     numbering: Numbering<'a>,
     classes: Vec<Class<'a>>,
@@ -68,8 +68,8 @@ impl<'a> Part<'a> {
         self.classes.len()
     }
 
-    /// The classes in parts of `size` each, and fewer in the last, in their order. The time for each part grows with the tables of
-    /// this one and with what the part's classes mention.
+    /// The classes in parts of `size` each, and fewer in the last, in their order. The time for each part grows with
+    /// the tables of this one and with what the part's classes mention.
     ///
     /// Condition: `size` is not 0.
     ///

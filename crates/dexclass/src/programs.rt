@@ -159,8 +159,8 @@ impl<'a> Program<'a> {
         Program::weighing(alloc, numbering, classes, weight)
     }
 
-    /// The program of classes whose depths are known, as [`Program::of`] makes it. `depths` has a place for each type of
-    /// the numbering, and at the number of each class's name the depth of that class.
+    /// The program of classes whose depths are known, as [`Program::of`] makes it. `depths` has a place for each type
+    /// of the numbering, and at the number of each class's name the depth of that class.
     ///
     /// Conditions: those of [`Program::of`], and the depths are those of the classes.
     pub fn of_known(

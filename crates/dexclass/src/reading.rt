@@ -39,7 +39,7 @@ pub fn read<'a>(alloc: Global, bytes: &'a [u8]) -> Result<Program<'a>, ReadFault
     read_rows(alloc, &frame, &pools)
 }
 
-/// The number of interfaces that are listed at the offset of a class row. No memory is taken.
+/// The number of interfaces that are listed at the offset of a class row.
 ///
 /// Source: "class_def_item", the field `interfaces_off`, and "type_list".
 pub(crate) fn interface_count(frame: &Frame<'_>, off: u32) -> u32

@@ -25,7 +25,8 @@ fn strip_class(class: &mut Class<'_>)
     class.weight = body_weight(&class.interfaces, &class.members);
 }
 
-// What a class with these interfaces and members weighs without the symbols that it names, or 2^64 - 1 where that is more.
+// What a class with these interfaces and members weighs without the symbols that it names, or 2^64 - 1 where that is
+// more.
 fn body_weight(interfaces: &[usize], members: &Members<'_>) -> u64
     ensures { result
         ≡ min (2 ^ 64 - 1) (96 + 2 * length interfaces.now + numbered_members_weight members.now) }
@@ -62,9 +63,9 @@ pub fn into_stripped<'a>(alloc: Global, program: Program<'a>) -> Result<Program<
     Program::of(alloc, trimmed, classes)
 }
 
-/// The program without its debug programs and source texts. The texts and types that only they mentioned leave the pools. What is
-/// good under caps stays so; a stripped program is its own strip; and where programs merge by a plan under caps, the stripped ones
-/// merge by the same plan under the same caps, to what is left of their union.
+/// The program without its debug programs and source texts. The texts and types that only they mentioned leave the
+/// pools. What is good under caps stays so; a stripped program is its own strip; and where programs merge by a plan
+/// under caps, the stripped ones merge by the same plan under the same caps, to what is left of their union.
 ///
 /// Source: "code_item", the field `debug_info_off`, where 0 encodes none, and "class_def_item", the field
 /// `source_file_idx`, where NO_INDEX encodes none.

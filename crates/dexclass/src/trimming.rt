@@ -78,8 +78,8 @@ fn stays(
     true
 }
 
-// Whether the numbering is kept whole, so that no number changes. A file that was written by rule has no symbol that its
-// classes do not mention.
+// Whether the numbering is kept whole, so that no number changes. A file that was written by rule has no symbol that
+// its classes do not mention.
 fn is_whole(numbering: &Numbering<'_>, trimmed: &Numbering<'_>, remap: &Remap) -> bool
     ensures { AllMapTo numbering.now trimmed.now remap.now → IsTrue result
         → trimmed.now ≡ numbering.now }

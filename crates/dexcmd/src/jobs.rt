@@ -162,8 +162,8 @@ fn repair<'a, D: Devices<'a>>(
     report_of(alloc, outcome, &[file], target, is_closed)
 }
 
-/// Does a job over the devices of its names, and returns what is to be reported of it: the exit status, and for each fault
-/// a line.
+/// Does a job over the devices of its names, and returns what is to be reported of it: the exit status, and for each
+/// fault a line.
 ///
 /// Condition: the job is one that arguments ask for. Error: allocation failed before the job's run, or for its report.
 pub fn run_job<'a, D: Devices<'a>>(

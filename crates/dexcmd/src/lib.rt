@@ -1,4 +1,5 @@
-//! The jobs of the program `dexkit` over devices that have names, the devices of the system, and the program's arguments.
+//! The jobs of the program `dexkit` over devices that have names, the devices of the system, and the program's
+//! arguments.
 //!
 //! Public contracts use the definitions of `specs/Arguments` and `specs/Reports`.
 #![tactic(auto)]

@@ -1,4 +1,5 @@
--- Operations as they are kept: the entries and the operations with places are those of the operations, and give them back.
+-- Operations as they are kept: the entries and the operations with places are those of the operations, and give them
+-- back.
 use Rattle.std.proofs.Common.{◌≡◌, ℕ, suc, ◌+◌, ◌≤◌, Bool, true, false, List, [], ◌∷◌, ◌++◌, length, map, filter, get_or, None, refl, ap, sym, subst, ◌∙◌, if◌then◌else◌, append_assoc, arith}
 use Rattle.std.specs.List.{All, flat_map}
 use Rattle.std.proofs.lemmas.List.{append-nil, length-append}

@@ -34,8 +34,8 @@ impl<'a> Code<'a> {
         }
     }
 
-    /// The greatest number of a text that a const-string names, not counting const-string/jumbo, or `None` where there is
-    /// no const-string. No memory is taken.
+    /// The greatest number of a text that a const-string names, not counting const-string/jumbo, or `None` where there
+    /// is no const-string.
     ///
     /// Source: "code_item", the field `insns`.
     pub fn greatest_short_string(&self) -> Option<u32>
@@ -62,7 +62,7 @@ impl<'a> Code<'a> {
     }
 
     /// Marks each symbol that occurs: those of instructions, the types that are caught, and those of the debug
-    /// program. No memory is taken.
+    /// program.
     ///
     /// Condition: there is a mark for each of them.
     ///

@@ -68,7 +68,8 @@ pub fn read_code<'a>(
     read_code_in(alloc, frame, pools, off, &mut scratch)
 }
 
-/// As [`read_code`], in room that is lent from one code_item to the next. It leaves in it at which units instructions begin.
+/// As [`read_code`], in room that is lent from one code_item to the next. It leaves in it at which units instructions
+/// begin.
 ///
 /// Error: as of [`read_code`].
 ///

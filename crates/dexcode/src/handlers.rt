@@ -101,8 +101,8 @@ impl Hash for Handler {
 }
 
 impl Handler {
-    /// The types that are caught, in order, each by its number, and the addresses where they are handled, in 16-bit code
-    /// units from the start of the instructions.
+    /// The types that are caught, in order, each by its number, and the addresses where they are handled, in 16-bit
+    /// code units from the start of the instructions.
     ///
     /// Source: "encoded_catch_handler", the field `handlers`, and "encoded_type_addr_pair".
     pub fn catches(&self) -> &[Catch]

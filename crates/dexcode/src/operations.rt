@@ -216,7 +216,8 @@ impl Hash for Operations {
     }
 }
 
-// Entries are equal exactly where they are the same. It does nothing: its contract is the law, for the callers that cite it.
+// Entries are equal exactly where they are the same. It does nothing: its contract is the law, for the callers that
+// cite it.
 pub(crate) fn entry_equality_law()
     ensures { (x y : Kept) → IsTrue (⟦<Entry as PartialEq>⟧.eq x y) ↔ (x ≡ y) }
 {}

@@ -17,7 +17,8 @@ use indexmap::IndexSet;
 use std::alloc::{AllocError, Global};
 use std::marker::Model;
 
-/// Tries, and the handlers that they name, each once and in order of first use. Contracts see tries with their handlers.
+/// Tries, and the handlers that they name, each once and in order of first use. Contracts see tries with their
+/// handlers.
 pub(crate) struct StoredTries {
     /// The tries, each with the number of its handler.
     pub(crate) tries: Vec<Try>,

@@ -60,8 +60,8 @@ impl Tries {
         self.parts().0
     }
 
-    /// The handlers that tries name, each once and in order of first use. One that catches no type catches all else, and
-    /// the number of each type that is caught has 32 bits.
+    /// The handlers that tries name, each once and in order of first use. One that catches no type catches all else,
+    /// and the number of each type that is caught has 32 bits.
     ///
     /// Source: "encoded_catch_handler".
     pub fn handlers(&self) -> &[Handler]

@@ -67,8 +67,8 @@ impl<'a> Frame<'a> {
         Ok(Frame { bytes })
     }
 
-    /// Opens a file whose two sums are right, and does not take them again: returns what [`open`](Self::open) returns of
-    /// it.
+    /// Opens a file whose two sums are right, and does not take them again: returns what [`open`](Self::open) returns
+    /// of it.
     ///
     /// Conditions: a file that is long enough to have the sums has the right checksum and the right signature, as after
     /// [`set_sums`](crate::set_sums). Error: as of [`open`](Self::open).

@@ -117,8 +117,8 @@ fn put_bytes(bytes: &[u8], out: &mut Vec<u8>) -> Result<(), AllocError>
     out.extend_from_slice(bytes)
 }
 
-/// A vector takes bytes only where it has room for them, and allocates nothing. Where there is no room it may lack some of
-/// them.
+/// A vector takes bytes only where it has room for them, and allocates nothing. Where there is no room it may lack some
+/// of them.
 impl Output for Vec<u8> {
     ghost gives = { λ x a b. HasRoomFor x a → Pushes x a b };
 

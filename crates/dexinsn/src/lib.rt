@@ -2,9 +2,9 @@
 //!
 //! Sources: the Android pages "Dalvik bytecode" and "Dalvik executable instruction formats".
 //!
-//! Public contracts use the definitions of `specs/Bits`, `specs/Blank`, `specs/Checking`, `specs/Fitting`, `specs/Laws`,
-//! `specs/Listing`, `specs/Numbered`, `specs/Opcode`, `specs/Payload`, `specs/Put`, `specs/Reading`, `specs/Split`,
-//! `specs/Stored` and `specs/Units`.
+//! Public contracts use the definitions of `specs/Bits`, `specs/Blank`, `specs/Checking`, `specs/Fitting`,
+//! `specs/Laws`, `specs/Listing`, `specs/Numbered`, `specs/Opcode`, `specs/Payload`, `specs/Put`, `specs/Reading`,
+//! `specs/Split`, `specs/Stored` and `specs/Units`.
 #![tactic(auto)]
 
 pub use building::build_pieces;

@@ -126,17 +126,16 @@ fn greatest_short_string(units: &Units<'_>, indices: &[Index]) -> Option<u32>
 }
 
 impl<'a> Pieces<'a> {
-    /// Each number fits its place: it is below 2^16, or below 2^32 for const-string/jumbo. It does nothing: its contract
-    /// states this of all pieces, for the proofs of callers.
+    /// Each number fits its place: it is below 2^16, or below 2^32 for const-string/jumbo. It does nothing: its
+    /// contract states this of all pieces, for the proofs of callers.
     pub fn numbers_fit(&self)
         ensures { FitPlaces self.now.pieces }
     {
         let _bytes = self.bytes;
     }
 
-    /// The greatest number of a text that a const-string names, not counting const-string/jumbo, or `None` where there is
-    /// no const-string. As its index has 16 bits, this text alone decides whether other numbers have room. No memory is
-    /// taken.
+    /// The greatest number of a text that a const-string names, not counting const-string/jumbo, or `None` where there
+    /// is no const-string. As its index has 16 bits, this text alone decides whether other numbers have room.
     ///
     /// Source: "const-string" under the heading "Summary of bytecode set" of the Android page "Dalvik bytecode".
     pub fn greatest_short_string(&self) -> Option<u32>
@@ -165,7 +164,7 @@ impl<'a> Pieces<'a> {
         have_places(&units, &self.indices, remap)
     }
 
-    /// Marks each symbol that occurs. No memory is taken.
+    /// Marks each symbol that occurs.
     ///
     /// Condition: there is a mark for each of them.
     pub fn mark(&self, marks: &mut Marks)
@@ -199,7 +198,7 @@ impl<'a> Pieces<'a> {
     }
 
     /// The kind and the number of a symbol, where those that occur are counted from 0 on, in the order of the
-    /// instructions. No memory is taken.
+    /// instructions.
     ///
     /// Condition: `i` is below [`symbol_count`](Pieces::symbol_count).
     pub fn symbol(&self, i: usize) -> (SymbolKind, usize)

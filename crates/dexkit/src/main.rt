@@ -1,8 +1,9 @@
-//! The program `dexkit`: checks, lists, normalises, merges, repairs and counts DEX files, and writes digests of their classes.
+//! The program `dexkit`: checks, lists, normalises, merges, repairs and counts DEX files, and writes digests of their
+//! classes.
 //!
 //! Its arguments are those of `dexargs`, with lists of arguments expanded, and what it does for them is `run_job` of
-//! `dexcmd`. The exit status is 0 if all was done, or help or the version was asked for, 1 if a file or a merge was refused,
-//! 2 for a usage error, 3 if input or output failed, and 4 if it ran out of memory.
+//! `dexcmd`. The exit status is 0 if all was done, or help or the version was asked for, 1 if a file or a merge was
+//! refused, 2 for a usage error, 3 if input or output failed, and 4 if it ran out of memory.
 #![tactic(auto)]
 
 use clap::Error;

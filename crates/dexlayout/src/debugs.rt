@@ -20,8 +20,8 @@ use dexpool::Numbering;
 use std::alloc::{AllocError, Global};
 use std::marker::Model;
 
-/// The debug programs that are written, equal ones once, in the order of their first use: their bytes, how many they are, and
-/// their offsets: for each method of each class, the direct ones first.
+/// The debug programs that are written, equal ones once, in the order of their first use: their bytes, how many they
+/// are, and their offsets: for each method of each class, the direct ones first.
 ///
 /// Source: "debug_info_item".
 #[derive(Drop)]

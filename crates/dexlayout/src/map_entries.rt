@@ -16,7 +16,8 @@ pub(crate) fn count_placed(offsets: &[u32]) -> usize
     offsets.iter().filter(|off| **off != 0).count()
 }
 
-/// The entries of a map: the header's, those of the parts that are not empty, tables before sections, and the map's own.
+/// The entries of a map: the header's, those of the parts that are not empty, tables before sections, and the map's
+/// own.
 pub(crate) fn map_entries(
     alloc: Global,
     tables: &[MapEntry],

@@ -94,9 +94,9 @@ fn add_members<'p>(
     add_methods(sharing, &members.virtual_methods())
 }
 
-/// The sets that are written, each once, in the order of their first use, and for each use the number of its set, if it has
-/// annotations. The uses are, class by class, the class's own set, those of its fields, and for each method its own and those of its
-/// parameters.
+/// The sets that are written, each once, in the order of their first use, and for each use the number of its set, if it
+/// has annotations. The uses are, class by class, the class's own set, those of its fields, and for each method its own
+/// and those of its parameters.
 pub(crate) fn share_sets<'p>(
     alloc: Global,
     classes: &'p [Class<'_>],

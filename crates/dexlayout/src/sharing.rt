@@ -19,7 +19,8 @@ pub(crate) struct Sharing<T: Eq + Hash> {
     numbers: Vec<Option<usize>>,
 }
 
-/// The items that uses share, each once, in the order of their first use, and for each use the number of its item, if it has one.
+/// The items that uses share, each once, in the order of their first use, and for each use the number of its item, if
+/// it has one.
 #[derive(Drop)]
 pub(crate) struct Shared<T> {
     pub(crate) written: Vec<T>,

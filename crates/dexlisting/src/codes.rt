@@ -1,7 +1,7 @@
 //! The lines of code: one for the whole of it, and one for each instruction and payload.
 //!
-//! Source: the headings "code_item" of the Android page "Dalvik Executable format" and "Summary of bytecode set" of the page
-//! "Dalvik bytecode".
+//! Source: the headings "code_item" of the Android page "Dalvik Executable format" and "Summary of bytecode set" of the
+//! page "Dalvik bytecode".
 
 ghost use Rattle.std.specs.Prelude.{◌≡◌, false};
 ghost use Rattle.dexcode.specs.Meaning.{IsKnownCode};

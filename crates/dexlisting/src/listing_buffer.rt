@@ -13,8 +13,8 @@ pub(crate) const ROOM: usize = 65536;
 /// A listing on its way to the writer: the symbols that it names by number, and the bytes that are buffered, which are
 /// still to be written. The memory of the buffer is allocated at first, and no more is.
 ///
-/// Each call that puts something has the condition that the writer has not failed, and fails exactly where the writer failed in
-/// this call.
+/// Each call that puts something has the condition that the writer has not failed, and fails exactly where the writer
+/// failed in this call.
 #[derive(Drop)]
 pub(crate) struct Listing<'n, 't, 'w, W> {
     pub(crate) numbering: &'n Numbering<'t>,

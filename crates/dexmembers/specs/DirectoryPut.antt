@@ -49,8 +49,8 @@ field_numbers fs = map (λ f. f.number) fs
 abbrev pub method_numbers : List NumberedMethod → List ℕ
 method_numbers xs = map (λ x. x.number) xs
 
--- an annotations_directory_item, from the offset of the class's own set and those of the sets of its fields, of its methods,
--- and of the lists of sets of its methods' parameters
+-- an annotations_directory_item, from the offset of the class's own set and those of the sets of its fields, of its
+-- methods, and of the lists of sets of its methods' parameters
 abbrev pub numbered_directory_bytes : NumberedMembers → ℕ → List ℕ → List ℕ → List ℕ → List ℕ
 numbered_directory_bytes x own field_offs method_offs parameter_offs =
     uint own ++ (uint (count_placed field_offs) ++ (uint (count_placed method_offs) ++ (uint (count_placed parameter_offs)

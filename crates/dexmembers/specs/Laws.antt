@@ -49,7 +49,8 @@ RemappedMembersAreOrdered = (m n : Mentions) (r : Maps) (x : NumberedMembers) �
 abbrev pub RemappedMembersAreOfClass : Type 0
 RemappedMembersAreOfClass = (m n : Mentions) (r : Maps) (name : Text) (x : NumberedMembers) → AllMapTo m n r → All (IsMappedUse r) (members_uses x) → AreOfClass m name x → AreOfClass n name (renumbered_members r x)
 
--- members of classes of one name in two numberings are equal once remapped to a third whose symbols rise just where they denote the same
+-- members of classes of one name in two numberings are equal once remapped to a third whose symbols rise just where
+-- they denote the same
 abbrev pub EqualRemappedMembers : Type 0
 EqualRemappedMembers = (m n whole : Mentions) (r s : Maps) (name : Text) (x y : NumberedMembers) → AreRising whole → AllMapTo m whole r → AllMapTo n whole s → All (IsMappedUse r) (members_uses x) → All (IsMappedUse s) (members_uses y) → AreKnownMembers m x → AreKnownMembers n y → AreOfClass m name x → AreOfClass n name y → (renumbered_members r x ≡ renumbered_members s y) ↔ (members_in m x ≡ members_in n y)
 

@@ -42,6 +42,7 @@ numbered_class_data_bytes x code_offs =
 abbrev pub class_data_room : NumberedMembers → ℕ
 class_data_room x = 20 + 10 * length (fields_of x) + 15 * length (methods_of x)
 
--- what is put is the class_data_item of each class definition that the members denote, under a numbering whose symbols rise
+-- what is put is the class_data_item of each class definition that the members denote, under a numbering whose symbols
+-- rise
 abbrev pub PutsDenotedClassData : {T E : Type 0} → NumberedMembers → List ℕ → Vec ℕ → Vec ℕ → Result T E → Type 0
 PutsDenotedClassData x code_offs old new r = (m : Mentions) (name : Text) (c : Body) → AreRising m → AreKnownMembers m x → AreOfClass m name x → members_of c ≡ members_in m x → Puts (class_data_bytes m (name, c) code_offs) old new r

@@ -126,14 +126,16 @@ impl Members<'_> {
         })
     }
 
-    /// Appends the class_data_item: the counts of the four lists, and then each field as the difference of its number to that
-    /// of the one before it and its access flags, and each method so with the offset of its code, each number a uleb128 in the
-    /// fewest bytes. `code_offs` has the offset of the code of each method, the direct ones first, and 0 where there is none.
+    /// Appends the class_data_item: the counts of the four lists, and then each field as the difference of its number
+    /// to that of the one before it and its access flags, and each method so with the offset of its code, each number a
+    /// uleb128 in the fewest bytes. `code_offs` has the offset of the code of each method, the direct ones first, and 0
+    /// where there is none.
     ///
     /// A class without members has no item in the canonical file: the caller leaves it out.
     ///
-    /// Error: the allocation failed; the vector is then as it was. It does not fail where the spare room is at least 20 bytes,
-    /// ten for each field and 15 for each method. Condition: there is an offset for each method. Nothing else is allocated.
+    /// Error: the allocation failed; the vector is then as it was. It does not fail where the spare room is at least 20
+    /// bytes, ten for each field and 15 for each method. Condition: there is an offset for each method. Nothing else is
+    /// allocated.
     ///
     /// Source: "class_data_item", "encoded_field format" and "encoded_method format".
     pub fn put_class_data(&self, code_offs: &[u32], out: &mut Vec<u8>) -> Result<(), AllocError>

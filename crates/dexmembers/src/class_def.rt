@@ -22,7 +22,7 @@ pub struct ClassDef {
 }
 
 impl ClassDef {
-    /// Row `row` of class_defs. No memory is taken.
+    /// Row `row` of class_defs.
     ///
     /// Condition: the row is one of the file's.
     ///

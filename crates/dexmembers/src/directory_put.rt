@@ -253,8 +253,9 @@ impl Members<'_> {
     ///
     /// A class with no offset but 0 has no item in the canonical file: the caller leaves it out.
     ///
-    /// Error: the allocation failed; the vector is then as it was. It does not fail where the spare room is at least 16 bytes and
-    /// eight for each member that is put. Condition: there is an offset for each field and each method. Nothing else is allocated.
+    /// Error: the allocation failed; the vector is then as it was. It does not fail where the spare room is at least 16
+    /// bytes and eight for each member that is put. Condition: there is an offset for each field and each method.
+    /// Nothing else is allocated.
     ///
     /// Source: "annotations_directory_item", "field_annotation format", "method_annotation format" and
     /// "parameter_annotation format".

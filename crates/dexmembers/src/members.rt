@@ -15,8 +15,8 @@ use dexval::{AnnotationSet, SetTable, Value};
 use std::alloc::Global;
 use std::marker::Model;
 
-/// A declared field: its number among the fields, its access flags, and the place of its annotations in a table of sets, or
-/// `None` where it has none.
+/// A declared field: its number among the fields, its access flags, and the place of its annotations in a table of
+/// sets, or `None` where it has none.
 ///
 /// Source: "encoded_field format", "field_annotation format".
 #[derive(Drop)]
@@ -38,8 +38,8 @@ impl Model for DeclaredField {
     ghost view = { λ f. record { number = f.number; flags = f.flags.0; set = f.set } };
 }
 
-/// A declared method: its number among the methods, its access flags, its code, if it has some, the place of its annotations
-/// in a table of sets, and the place of the list of sets for its parameters, or `None` where it has none.
+/// A declared method: its number among the methods, its access flags, its code, if it has some, the place of its
+/// annotations in a table of sets, and the place of the list of sets for its parameters, or `None` where it has none.
 ///
 /// Source: "encoded_method format", "method_annotation format", "parameter_annotation format".
 #[derive(Drop)]

@@ -1,5 +1,5 @@
-//! Laws of the symbols that occur in what a class declares. Each function does nothing: its contract is the law, for the
-//! callers that cite it.
+//! Laws of the symbols that occur in what a class declares. Each function does nothing: its contract is the law, for
+//! the callers that cite it.
 
 ghost use Rattle.dexmembers.specs.Laws.{MembersUsesAreDenoted, MembersUsesHaveMarks};
 

@@ -152,8 +152,8 @@ impl<'a> Members<'a> {
     /// Returns the weight of all members, in bytes, or 2^64 - 1 where that is more: a class without its row and its
     /// interfaces.
     ///
-    /// Source: "class_data_item", "annotations_directory_item", "code_item" and "encoded_array_item", the sizes of their
-    /// fields; the weight is this project's rule.
+    /// Source: "class_data_item", "annotations_directory_item", "code_item" and "encoded_array_item", the sizes of
+    /// their fields; the weight is this project's rule.
     pub fn weight(&self) -> u64
         ensures numbered { result ≡ min (2 ^ 64 - 1) (numbered_members_weight self.now) }
         ensures symbolic { ForKnown self.now (λ m.

@@ -193,7 +193,8 @@ fn is_right<C: Call, R: Print + Env + AllocGlobal>(
     Ok(ending.is_right())
 }
 
-// Normalises the file of a class with a field, a value and an annotation, which is canonical, and makes its program to bytes.
+// Normalises the file of a class with a field, a value and an annotation, which is canonical, and makes its program to
+// bytes.
 fn is_field_right<R: Files + Print + Env + AllocGlobal>(rt: &R) -> Result<bool, Fault> {
     let file = file_of(rt, "field.dex")?;
     let (file, right) = (file.as_slice(), file.as_slice());

@@ -38,8 +38,8 @@ pub trait HasParents {
 
 /// For each type the number of a class that has it as its name, or none.
 ///
-/// Condition: the name of each class is below `types`, the number of types. The time is linear in the number of types and
-/// classes.
+/// Condition: the name of each class is below `types`, the number of types. The time is linear in the number of types
+/// and classes.
 pub fn classes_by_type<C: HasParents>(
     alloc: Global,
     classes: &[C],
@@ -105,8 +105,8 @@ impl Hierarchy {
     /// The classes, each with those of its parents that are classes: the class of its superclass, then the classes of
     /// its interfaces, in their order.
     ///
-    /// Condition: the name of each class is below `types`, the number of types. The time is linear in the number of types,
-    /// classes and parents.
+    /// Condition: the name of each class is below `types`, the number of types. The time is linear in the number of
+    /// types, classes and parents.
     pub fn of<C: HasParents>(
         alloc: Global,
         classes: &[C],

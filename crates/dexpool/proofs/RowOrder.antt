@@ -1,4 +1,5 @@
--- Rows whose numbers are replaced in their order stay sorted: what the law of rows says of each kind, in joins and in cuts.
+-- Rows whose numbers are replaced in their order stay sorted: what the law of rows says of each kind, in joins and in
+-- cuts.
 use Rattle.std.proofs.Common.{◌≡◌, ℕ, ◌<◌, Bool, true, false, List, [], ◌∷◌, length, get_or, map, Option, Some, None, refl, sym, ap, ◌∙◌, subst, arith, nat_lt, lt-ltb, ltb-true, slice_index, slice_index_or}
 use Rattle.std.specs.List.{All}
 use Rattle.std.specs.Cmp.{IsTotalOrder}

@@ -26,7 +26,7 @@ impl Model for Images {
 }
 
 impl Images {
-    /// The images of no number. No memory is taken.
+    /// The images of no number.
     pub(crate) fn none(alloc: Global) -> Images
         ensures { result ≡ [] }
     {
@@ -64,7 +64,7 @@ impl Images {
         Ok(self.numbers.push(NO_IMAGE)?)
     }
 
-    /// The image of a number, or `None` where it has none. No memory is taken.
+    /// The image of a number, or `None` where it has none.
     pub(crate) fn get(&self, i: usize) -> Option<usize>
         ensures { result ≡ image self.now i }
     {

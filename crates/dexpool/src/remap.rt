@@ -44,7 +44,7 @@ impl Model for Remap {
 }
 
 impl Remap {
-    /// No number leads anywhere. No memory is taken.
+    /// No number leads anywhere.
     pub fn none(alloc: Global) -> Remap
         ensures { result
             ≡ record { texts = []; types = []; protos = []; fields = []; methods = [] } }

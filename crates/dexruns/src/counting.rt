@@ -112,17 +112,17 @@ fn read_counts<R: Source>(alloc: Global, inputs: &mut [R]) -> Result<Counts, Run
 }
 
 /// Writes what the union of inputs holds, in eight lines: the types, protos, fields, methods and short strings that its
-/// classes mention and their weight, each beside the greatest cap that a merge allows, and then the number of classes and
-/// of strings. The short strings are one more than the greatest number of a string that a `const-string` names, or 0. A
-/// weight of more than `2^64 - 1` is written as that.
+/// classes mention and their weight, each beside the greatest cap that a merge allows, and then the number of classes
+/// and of strings. The short strings are one more than the greatest number of a string that a `const-string` names, or
+/// 0. A weight of more than `2^64 - 1` is written as that.
 ///
-/// Condition: no device has failed. Error: one input after the other is read whole and checked, and the first that fails
-/// ends the call: `Read` with its number exactly where its reader failed in this call, or `Input` with its number where it
-/// is refused, with what [`dexclass::read`] reports of its bytes, of which `2^30 + 1` are read and no more. Then `Merge`
-/// with the least name that has two different classes, or else with the least name of a class that is above itself or below
-/// such a class, as [`merge_run`](crate::merge_run) reports it for a plan of one node of leaves; a cap is never reported,
-/// and `Plan` neither. `Write` exactly where the writer failed; `Memory` where an allocation failed. After `Write` a prefix
-/// of the lines was written, and after any other error nothing.
+/// Condition: no device has failed. Error: one input after the other is read whole and checked, and the first that
+/// fails ends the call: `Read` with its number exactly where its reader failed in this call, or `Input` with its number
+/// where it is refused, with what [`dexclass::read`] reports of its bytes, of which `2^30 + 1` are read and no more.
+/// Then `Merge` with the least name that has two different classes, or else with the least name of a class that is
+/// above itself or below such a class, as [`merge_run`](crate::merge_run) reports it for a plan of one node of leaves;
+/// a cap is never reported, and `Plan` neither. `Write` exactly where the writer failed; `Memory` where an allocation
+/// failed. After `Write` a prefix of the lines was written, and after any other error nothing.
 ///
 /// Source: the lines are this project's rule.
 pub fn count_run<R: Source, W: Sink>(

@@ -83,10 +83,10 @@ fn digest_lines(alloc: Global, file: &str, program: &Program<'_>) -> Result<Stri
 /// it. So equal classes have equal digests in whatever file they are, and different ones have different digests unless
 /// SHA-1 has the same sum for their canonical files.
 ///
-/// Condition: neither device has failed. Error: `Input` with number 0 exactly where [`dexclass::read`] refuses the input's
-/// bytes, of which `2^30 + 1` are read and no more, with what it reports of them; `Read` with number 0 exactly where the
-/// reader failed in this call, and `Write` exactly where the writer did; `Memory` where an allocation failed; no other.
-/// After `Write` a prefix of the lines was written, and after any other error nothing.
+/// Condition: neither device has failed. Error: `Input` with number 0 exactly where [`dexclass::read`] refuses the
+/// input's bytes, of which `2^30 + 1` are read and no more, with what it reports of them; `Read` with number 0 exactly
+/// where the reader failed in this call, and `Write` exactly where the writer did; `Memory` where an allocation failed;
+/// no other. After `Write` a prefix of the lines was written, and after any other error nothing.
 ///
 /// Source: "Dalvik Executable format", "header_item", the field `signature`; the lines are this project's rule.
 pub fn digest_run<R: Source, W: Sink>(

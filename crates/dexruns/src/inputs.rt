@@ -16,7 +16,8 @@ use std::alloc::{AllocError, Global};
 /// long, whatever else is to come.
 pub const MOST_READ: usize = 1073741825;
 
-// How much room is made for the next bytes where more come than were expected: as much as has come, within these bounds.
+// How much room is made for the next bytes where more come than were expected: as much as has come, within these
+// bounds.
 const LEAST_ROOM: usize = 4096;
 
 const MOST_ROOM: usize = 1048576;
@@ -115,8 +116,8 @@ fn read_more<R: Source>(
     }
 }
 
-/// Reads to the end of an input, or one byte past the greatest length of a file, and no further. The bytes come into the
-/// room of the vector itself.
+/// Reads to the end of an input, or one byte past the greatest length of a file, and no further. The bytes come into
+/// the room of the vector itself.
 ///
 /// Condition: the reader has not failed. Error: `Read` exactly where it failed in this call; `Memory` if an allocation
 /// failed.

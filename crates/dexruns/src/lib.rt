@@ -1,7 +1,7 @@
 //! The runs of the program `dexkit` over any readers and writer, and what it says of faults.
 //!
-//! Public contracts use the definitions of `specs/Counts`, `specs/Digests`, `specs/Fans`, `specs/Faults`, `specs/Inputs`,
-//! `specs/Lines`, `specs/Merges`, `specs/Repairs`, `specs/Runs` and `specs/Statuses`.
+//! Public contracts use the definitions of `specs/Counts`, `specs/Digests`, `specs/Fans`, `specs/Faults`,
+//! `specs/Inputs`, `specs/Lines`, `specs/Merges`, `specs/Repairs`, `specs/Runs` and `specs/Statuses`.
 #![tactic(auto)]
 
 mod checking;

@@ -44,16 +44,16 @@ fn check(alloc: Global, bytes: &[u8]) -> Result<(), ReadFault>
 }
 
 /// Writes an input with its signature and its checksum set right and nothing else changed, where what comes out is
-/// accepted: bytes 12 to 31 are the SHA-1 of the bytes after them, and then bytes 8 to 11 the Adler-32 of the bytes after
-/// these. An input of fewer than 32 bytes is left as it is, and is refused.
+/// accepted: bytes 12 to 31 are the SHA-1 of the bytes after them, and then bytes 8 to 11 the Adler-32 of the bytes
+/// after these. An input of fewer than 32 bytes is left as it is, and is refused.
 ///
 /// Condition: neither device has failed. Error: `Input` with number 0 where what would come out is refused, with what
-/// [`dexclass::read`] reports of it; `Read` with number 0 exactly where the reader failed in this call, and `Write` exactly
-/// where the writer did; `Memory` where an allocation failed; no other. After `Write` a prefix of the repaired file was
-/// written, and after any other error nothing. `2^30 + 1` bytes of the input are read and no more.
+/// [`dexclass::read`] reports of it; `Read` with number 0 exactly where the reader failed in this call, and `Write`
+/// exactly where the writer did; `Memory` where an allocation failed; no other. After `Write` a prefix of the repaired
+/// file was written, and after any other error nothing. `2^30 + 1` bytes of the input are read and no more.
 ///
-/// Source: "Dalvik Executable format", "header_item", the fields `checksum` and `signature`; that nothing else changes is
-/// this project's rule.
+/// Source: "Dalvik Executable format", "header_item", the fields `checksum` and `signature`; that nothing else changes
+/// is this project's rule.
 pub fn repair_run<R: Source, W: Sink>(
     alloc: Global,
     input: &mut R,

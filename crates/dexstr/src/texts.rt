@@ -51,7 +51,7 @@ impl<'a> Text<'a> {
         self.bytes
     }
 
-    /// The same text, of the same bytes. No memory is taken.
+    /// The same text, of the same bytes.
     pub fn clone(&self) -> Text<'a>
         ensures { result ≡ self.now }
     {

@@ -1,5 +1,5 @@
-//! Tests of what no line of `dextest_items` shows of items: items that are put where there is just room for them, numbers
-//! that no small file has, and numbers without an image.
+//! Tests of what no line of `dextest_items` shows of items: items that are put where there is just room for them,
+//! numbers that no small file has, and numbers without an image.
 #![tactic(auto)]
 
 #[cfg(test)]

@@ -19,7 +19,8 @@ use Rattle.dexval.specs.Spelled.{IsCounted, AreCounted, IsCountedAnnotation, num
 
 -- ---- bytes
 
--- the bytes of the value that the numbers denote are put, if each array and annotation in it has fewer than 2^32 members
+-- the bytes of the value that the numbers denote are put, if each array and annotation in it has fewer than 2^32
+-- members
 abbrev pub PutsValue : {T E : Type 0} → Mentions → NumberedValue → Vec ℕ → Vec ℕ → Result T E → Type 0
 PutsValue m x old new r = (symbolic : ValueMeant) → IsCounted x → Denotes m x symbolic → Puts (value_bytes m symbolic) old new r
 

@@ -7,7 +7,8 @@ use Rattle.dexspec.specs.Merging.{IsGood, greatest_caps}
 use Rattle.dexclass.specs.Numbered.{NumberedClass, definition_of}
 use Rattle.dexclass.specs.Uses.{IsKnownClass}
 
--- class definitions that can be merged and written, by the numbers of a numbering that may have more symbols than they mention
+-- class definitions that can be merged and written, by the numbers of a numbering that may have more symbols than they
+-- mention
 pub record AreGoodClasses (m : Mentions) (cs : List NumberedClass) : Type 0 where
   pub known : All (IsKnownClass m) cs
   pub names_differ : AreDistinct (map (λ d. d.0) (map (definition_of m) cs))

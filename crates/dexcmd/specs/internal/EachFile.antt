@@ -8,8 +8,8 @@ use Rattle.dexcmd.specs.declared.outcome_report.Report.{Report}
 use Rattle.dexcmd.specs.internal.Ran.{IsCheckRun, IsDigestRun}
 use Rattle.dexcmd.specs.Reports.{standard_name, done, outcome_status, outcome_lines, IsReport}
 
--- whether the next file is run over after a fault: for a check after a file that cannot be read, and for digests after a
--- file that is refused
+-- whether the next file is run over after a fault: for a check after a file that cannot be read, and for digests after
+-- a file that is refused
 abbrev pub passes : Task → RunFault → Bool
 passes Check (Input i refusal) = false
 passes Check Plan = false

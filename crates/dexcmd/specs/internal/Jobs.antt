@@ -1,5 +1,5 @@
--- What a job leaves: that there are devices of just the names of the job, over which the job's run was done, and that the
--- report is that of its outcome.
+-- What a job leaves: that there are devices of just the names of the job, over which the job's run was done, and that
+-- the report is that of its outcome.
 use Rattle.std.specs.Prelude.{ℕ, Bool, List, [], ◌∷◌, length, map, Option, Result, string_bytes}
 use Rattle.std.specs.List.{AllZip}
 use Rattle.dexspec.specs.Merging.{Caps, Plan}
@@ -56,7 +56,8 @@ module _ {In Out : Type 0} (is_input : List ℕ → In → Type 0) (is_output : 
   abbrev pub HasNormalised : List ℕ → List ℕ → Report → Type 0
   HasNormalised file target report = HasRun is_input is_closed (is_output target) (IsNormaliseRun reports to_come reader_failed writes taken writer_failed) file target report
 
-  -- the files were merged by the plan of the fan, and the merged file, stripped or not, was written to the output of the name
+  -- the files were merged by the plan of the fan, and the merged file, stripped or not, was written to the output of
+  -- the name
   pub record HasMerged (target : List ℕ) (fan : Option ℕ) (caps : Caps) (is_stripped : Bool) (files : List (List ℕ)) (report : Report) : Type 0 where
     pub plan : Plan
     pub fanned : IsFanPlan (length files) fan plan

@@ -1,5 +1,5 @@
--- What the runs leave over given devices: the clauses of each run, as one record of its devices before and after it, and
--- its outcome.
+-- What the runs leave over given devices: the clauses of each run, as one record of its devices before and after it,
+-- and its outcome.
 use Rattle.std.specs.Prelude.{◌≡◌, ◌↔◌, ◌++◌, ℕ, Bool, true, false, List, map, All, Result, OnOk, IfOk, IfErr, IsErrOf}
 use Rattle.std.specs.List.{AllZip}
 use Rattle.dexspec.specs.Files.{Collection, Denotes}

@@ -49,7 +49,8 @@ held_method sets lists x code = record { number = x.index; flags = x.flags; code
 abbrev pub AreHeldFields : List (ℕ × ℕ) → List FieldRead → Vec HeldField → Type 0
 AreHeldFields sets listed fields = fields.items ≡ map (held_field sets) listed
 
--- where both lists of entries rise, and there is code or none for each method, these are the methods of a list of class data
+-- where both lists of entries rise, and there is code or none for each method, these are the methods of a list of class
+-- data
 abbrev pub AttachesMethods : List (ℕ × ℕ) → List (ℕ × ℕ) → List MethodRead → List (Option NumberedItem) → Result (Vec HeldMethod) AllocError → Type 0
 AttachesMethods sets lists listed codes result = EntriesRise sets → EntriesRise lists → length codes ≡ length listed → IfOk result (λ methods. methods.items ≡ zip_with (held_method sets lists) listed codes)
 

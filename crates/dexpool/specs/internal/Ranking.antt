@@ -14,7 +14,8 @@ pub record PassBelow (test : ℕ → Bool) (k n : ℕ) : Type 0 where
   pub passing : (i : ℕ) → i < k → test i ≡ true
   pub failing : (i : ℕ) → k ≤ i → i < n → test i ≡ false
 
--- whatever test the comparisons of the numbers below n agree with, if those that pass come first, they are those below k
+-- whatever test the comparisons of the numbers below n agree with, if those that pass come first, they are those below
+-- k
 abbrev pub CountsLess : (ℕ → Ordering → Type 0) → ℕ → ℕ → Type 0
 CountsLess Compares n k = (test : ℕ → Bool) → ((i : ℕ) (o : Ordering) → i < n → Compares i o → is_lt o ≡ test i) → ComeFirst test n → PassBelow test k n
 

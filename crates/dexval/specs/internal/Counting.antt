@@ -1,4 +1,5 @@
--- Items of a file that are read into the cache of a directory, and counted against a budget; and items that are checked.
+-- Items of a file that are read into the cache of a directory, and counted against a budget; and items that are
+-- checked.
 use Rattle.std.specs.Prelude.{◌≡◌, ℕ, ◌+◌, ◌-◌, ◌^◌, ◌≤◌, min, List, Option, Some, Result, All, IfOk, OnOk, map, sum_by}
 use Rattle.std.specs.Global.{Vec}
 use Rattle.std.specs.List.{Contains}

@@ -16,8 +16,8 @@ use dexmembers::{Checks, ClassDef, check_members_of};
 use dexpool::{Pools, ReadFault};
 use std::alloc::Global;
 
-/// Checks a file, and returns the number of its class definitions: that of the program that [`read`](crate::read) returns.
-/// What a class row declares is not kept once the row is checked.
+/// Checks a file, and returns the number of its class definitions: that of the program that [`read`](crate::read)
+/// returns. What a class row declares is not kept once the row is checked.
 ///
 /// Error: as of [`read`](crate::read).
 ///
@@ -74,10 +74,8 @@ fn read_len(alloc: Global, frame: &Frame<'_>, pools: &Pools<'_>) -> Result<usize
     ensures refused { IfErr result (IsFaultOf frame.now) }
 {
     are_bytes(frame.bytes());
-    match read_rows(alloc, frame, pools) {
-        Ok(program) => Ok(program.len()),
-        Err(fault) => Err(fault),
-    }
+    let program = read_rows(alloc, frame, pools)?;
+    Ok(program.len())
 }
 
 // Checks class row `r` after the rows before it, which weigh `before` together. Returns what they weigh with it.
@@ -113,8 +111,8 @@ fn check_row(
     Ok(weight)
 }
 
-// Checks the class rows of a file of which conditions 1 to 16 hold, from row 0 on, until they weigh too much. Returns what
-// they weigh together.
+// Checks the class rows of a file of which conditions 1 to 16 hold, from row 0 on, until they weigh too much. Returns
+// what they weigh together.
 fn check_rows(alloc: Global, frame: &Frame<'_>, pools: &Pools<'_>) -> Result<u64, ReadFault>
     requires pools { ArePools frame.now pools.now }
     requires holds { HoldBelow 17 frame.now }

@@ -73,8 +73,8 @@ fn expand<'a, D: Devices<'a>>(
 /// by the arguments that the list's bytes encode, by [`dexargs::arguments_in`]. These are not expanded further. Of each
 /// list `2^30 + 1` bytes are read and no more.
 ///
-/// Error: `Read` with the name of a list if its input failed, `NotUtf8` with the name of a list if its bytes are not UTF-8,
-/// `Memory` if allocation failed. It ends at the first error.
+/// Error: `Read` with the name of a list if its input failed, `NotUtf8` with the name of a list if its bytes are not
+/// UTF-8, `Memory` if allocation failed. It ends at the first error.
 ///
 /// Source: this project's rule.
 pub fn expand_arguments<'a, D: Devices<'a>>(
@@ -89,10 +89,7 @@ pub fn expand_arguments<'a, D: Devices<'a>>(
 {
     let mut all = Vec::new(alloc);
     for argument in arguments {
-        let mut own = match expand(alloc, devices, argument.as_str()) {
-            Ok(own) => own,
-            Err(fault) => return Err(fault),
-        };
+        let mut own = expand(alloc, devices, argument.as_str())?;
         all.append(&mut own)?;
     }
     Ok(all)

@@ -23,10 +23,8 @@ pub struct Report {
 pub(crate) fn done(outcome: Result<(), RunFault>) -> Result<u8, RunFault>
     ensures { result ≡ done outcome }
 {
-    match outcome {
-        Ok(()) => Ok(ExitStatus::Done as u8),
-        Err(fault) => Err(fault),
-    }
+    outcome?;
+    Ok(ExitStatus::Done as u8)
 }
 
 // A report of nothing.

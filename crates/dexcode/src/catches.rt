@@ -56,10 +56,7 @@ fn read_catch(
     if types <= typ as usize {
         return None;
     }
-    let (addr, addr_size) = match read_address(bytes, at + index_size, starts) {
-        Some(read) => read,
-        None => return None,
-    };
+    let (addr, addr_size) = read_address(bytes, at + index_size, starts)?;
     Some((Catch { typ, addr }, index_size + addr_size))
 }
 
@@ -77,10 +74,8 @@ fn catches_len(
 {
     let mut size = 0;
     for _ in 0..count {
-        match read_catch(bytes, at + size, starts, types) {
-            Some((_, len)) => size += len,
-            None => return None,
-        }
+        let (_, len) = read_catch(bytes, at + size, starts, types)?;
+        size += len;
     }
     Some(size)
 }
@@ -153,14 +148,9 @@ pub(crate) fn handler_len(
     };
     let first = at + count_size;
     let many = count.unsigned_abs() as usize;
-    let catches_size = match catches_len(bytes, first, many, starts, types) {
-        Some(size) => size,
-        None => return None,
-    };
-    match read_catch_all(bytes, first + catches_size, count, starts) {
-        Some((_, all_size)) => Some(count_size + catches_size + all_size),
-        None => None,
-    }
+    let catches_size = catches_len(bytes, first, many, starts, types)?;
+    let (_, all_size) = read_catch_all(bytes, first + catches_size, count, starts)?;
+    Some(count_size + catches_size + all_size)
 }
 
 // Reads the handler at an offset, and returns the number of bytes that encode it.

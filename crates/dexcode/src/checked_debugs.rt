@@ -46,10 +46,7 @@ pub(crate) fn checked_debug_at(
     if let Some(weight) = checked.weights.get(&off) {
         return Ok(*weight);
     }
-    let shape = match check_debug(frame, pools, off) {
-        Ok(shape) => shape,
-        Err(fault) => return Err(fault),
-    };
+    let shape = check_debug(frame, pools, off)?;
     checked.weights.insert(off, shape.weight)?;
     Ok(shape.weight)
 }

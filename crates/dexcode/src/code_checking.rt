@@ -36,10 +36,8 @@ fn check_tries(
     ensures light { IfOk result (λ weight. weight < 2 ^ 20) }
     ensures fault { IfErr result (IsTriesFault (HasNoTries starts.now types bytes.now off)) }
 {
-    match read_tries(alloc, bytes, off, starts, types) {
-        Ok(tries) => Ok(tries_weight(&tries)),
-        Err(fault) => Err(fault),
-    }
+    let tries = read_tries(alloc, bytes, off, starts, types)?;
+    Ok(tries_weight(&tries))
 }
 
 // Checks the debug program of the code_item at an offset, and returns what it weighs; 0 where there is none.
@@ -66,8 +64,9 @@ fn check_program(
     }
 }
 
-/// Checks the code_item at an offset, whose indices count in the pools: those of the file. It returns what the code_item
-/// weighs with its debug program, and leaves in the scratch at which units instructions begin. Nothing else is kept.
+/// Checks the code_item at an offset, whose indices count in the pools: those of the file. It returns what the
+/// code_item weighs with its debug program, and leaves in the scratch at which units instructions begin. Nothing else
+/// is kept.
 ///
 /// Error: as of [`read_code`](crate::read_code).
 ///

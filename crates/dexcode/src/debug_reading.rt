@@ -200,10 +200,8 @@ fn names_end(bytes: &[u8], from: usize, count: u32, texts: usize) -> Option<usiz
 {
     let mut at = from;
     for _ in 0..count {
-        match index_at(bytes, at, texts) {
-            Some((_, len)) => at += len,
-            None => return None,
-        }
+        let (_, len) = index_at(bytes, at, texts)?;
+        at += len;
     }
     Some(at)
 }
@@ -229,10 +227,7 @@ fn check_operations(bytes: &[u8], from: usize, counts: Counts) -> Option<Tally>
                 weight,
             });
         }
-        let (operation, len) = match operation_at(bytes, at + 1, opcode, counts) {
-            Some(read) => read,
-            None => return None,
-        };
+        let (operation, len) = operation_at(bytes, at + 1, opcode, counts)?;
         operations += 1;
         named = named.saturating_add(usize::from(operation.has_places()));
         weight += 1 + 5 * operation.operands();
@@ -248,23 +243,11 @@ fn check_numbered(bytes: &[u8], at: usize, counts: Counts) -> Option<DebugShape>
     ensures { MatchOption result (NoNumberedDebug counts bytes.now at)
         (IsShape counts bytes.now at) }
 {
-    let (line_start, start_len) = match number_at(bytes, at) {
-        Some(read) => read,
-        None => return None,
-    };
-    let (names, count_len) = match number_at(bytes, at + start_len) {
-        Some(read) => read,
-        None => return None,
-    };
+    let (line_start, start_len) = number_at(bytes, at)?;
+    let (names, count_len) = number_at(bytes, at + start_len)?;
     let names_at = at + start_len + count_len;
-    let operations_at = match names_end(bytes, names_at, names, counts.texts) {
-        Some(end) => end,
-        None => return None,
-    };
-    let tally = match check_operations(bytes, operations_at, counts) {
-        Some(tally) => tally,
-        None => return None,
-    };
+    let operations_at = names_end(bytes, names_at, names, counts.texts)?;
+    let tally = check_operations(bytes, operations_at, counts)?;
     Some(DebugShape {
         line_start,
         names_at,

@@ -14,10 +14,7 @@ use dexpool::{Remap, SymbolKind};
 fn image(remap: &Remap, kind: SymbolKind, number: Option<u32>) -> Option<usize>
     ensures { result ≡ image_or_none remap.now kind number }
 {
-    match number {
-        Some(number) => remap.image(kind, number as usize),
-        None => None,
-    }
+    remap.image(kind, number? as usize)
 }
 
 // Returns whether both numbers have one image, or neither has one.

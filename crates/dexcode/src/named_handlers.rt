@@ -17,10 +17,7 @@ use std::alloc::{AllocError, Global};
 fn number_at(numbers: &Vec<Option<usize>>, place: u16) -> Option<usize>
     ensures { result ≡ slice_index_or numbers.now.items place None }
 {
-    match numbers.get(usize::from(place)) {
-        Some(number) => *number,
-        None => None,
-    }
+    *numbers.get(usize::from(place))?
 }
 
 // Puts a number at a place.

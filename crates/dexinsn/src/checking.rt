@@ -117,10 +117,7 @@ fn pass(
     let mut at = 0;
     let mut indices = 0;
     while at < units.len() {
-        let step = match step_at(units, pools, &limits, at) {
-            Some(step) => step,
-            None => return None,
-        };
+        let step = step_at(units, pools, &limits, at)?;
         put_bit(starts, at, step.is_instruction);
         put_bit(noted, at, step.is_noted);
         indices += step.indices;

@@ -113,10 +113,7 @@ fn first_piece<'p>(
         return None;
     }
     let rest = units.rest(unit);
-    let size = match piece_size(unit, &rest) {
-        Some(size) => size,
-        None => return None,
-    };
+    let size = piece_size(unit, &rest)?;
     let (symbol, left) = symbol_at(units, unit, indices);
     let piece = Piece {
         unit: unit as u32,

@@ -111,14 +111,8 @@ fn any_step(units: &Units<'_>, pools: &Pools<'_>, at: usize) -> Option<Step>
     ensures { MatchOption result (HasNoStep units.now pools.now at)
         (IsStep units.now pools.now at) }
 {
-    let size = match piece_size(at, &units.rest(at)) {
-        Some(size) => size,
-        None => return None,
-    };
-    let indices = match index_count(units, at, size, pools) {
-        Some(count) => count,
-        None => return None,
-    };
+    let size = piece_size(at, &units.rest(at))?;
+    let indices = index_count(units, at, size, pools)?;
     let first = units.at(at);
     let is_instruction = PayloadKind::of(first).is_none();
     Some(Step {

@@ -1,4 +1,5 @@
-//! Fields and methods put together: what class data says of them, with their code and the places of the sets of a directory.
+//! Fields and methods put together: what class data says of them, with their code and the places of the sets of a
+//! directory.
 
 ghost use Rattle.std.specs.Prelude.{◌≡◌, ℕ, ◌<◌, IfOk, IfSome, MatchOption};
 ghost use Rattle.dexmembers.specs.internal.Attaching.{place_for, EntriesRise, HasNumberAt, AreHeldFields, AttachesMethods, HaveFieldSetsBelow, HaveListsBelow, HaveSetsBelow, LacksNumber, PlacesBelow};
@@ -22,10 +23,8 @@ fn place_for(entries: &[(u32, u32)], number: u32) -> Option<u32>
     ensures held { (limit : ℕ) → PlacesBelow limit entries.now
         → IfSome result (λ place. place < limit) }
 {
-    match entry_of(entries, number) {
-        Some(at) => Some(entries[at].1),
-        None => None,
-    }
+    let at = entry_of(entries, number)?;
+    Some(entries[at].1)
 }
 
 /// The fields of a list of class data, with the places of their sets in a directory.

@@ -27,7 +27,7 @@ pub struct Checks {
 }
 
 impl Checks {
-    /// Nothing yet. No memory is taken.
+    /// Nothing yet.
     pub fn none(alloc: Global) -> Checks
         ensures { (b : List ℕ) (m : Mentions) → AreChecks b m result }
     {
@@ -47,14 +47,14 @@ fn fields_weight(declared: &ClassData) -> u64
     statics.saturating_add(instances)
 }
 
-/// Checks what class row `row` declares: its members with their code and annotations, its own annotations, and its static
-/// values. It returns what they weigh, in the bytes of [`Members::weight`](crate::Members::weight), or 2^64 - 1 where that
-/// is more. Nothing of them is kept beside `checks` and, while the row is checked, the lists of its members. What is checked
-/// already is not checked again.
+/// Checks what class row `row` declares: its members with their code and annotations, its own annotations, and its
+/// static values. It returns what they weigh, in the bytes of [`Members::weight`](crate::Members::weight), or 2^64 - 1
+/// where that is more. Nothing of them is kept beside `checks` and, while the row is checked, the lists of its members.
+/// What is checked already is not checked again.
 ///
-/// Condition: the row is one of the file's, and what is checked already is of this file. What is said of the result is said
-/// of rows that meet condition 16. Error: `Refused` with a number from 17 to 22, a condition that fails at the row; `Memory`
-/// where an allocation failed.
+/// Condition: the row is one of the file's, and what is checked already is of this file. What is said of the result is
+/// said of rows that meet condition 16. Error: `Refused` with a number from 17 to 22, a condition that fails at the
+/// row; `Memory` where an allocation failed.
 ///
 /// Source: "class_def_item", the fields `annotations_off`, `class_data_off` and `static_values_off`.
 pub fn check_members(
@@ -97,29 +97,14 @@ pub fn check_members_of(
         → InClass frame.now pools.now r (IfErr result (IsMembersFault frame.now r)) }
 {
     pools.numbering().is_numbering();
-    let declared = match read_class_data(alloc, frame, pools, row) {
-        Ok(declared) => declared,
-        Err(fault) => return Err(fault),
-    };
+    let declared = read_class_data(alloc, frame, pools, row)?;
     let off = row.annotations_off;
-    let annotations = match check_annotations(frame, pools, off, &declared, &mut checks.sets) {
-        Ok(annotations) => annotations,
-        Err(fault) => return Err(fault),
-    };
+    let annotations = check_annotations(frame, pools, off, &declared, &mut checks.sets)?;
     let codes = &mut checks.codes;
-    let direct = match check_codes(alloc, frame, pools, &declared.direct_methods, codes) {
-        Ok(direct) => direct,
-        Err(fault) => return Err(fault),
-    };
-    let virtuals = match check_codes(alloc, frame, pools, &declared.virtual_methods, codes) {
-        Ok(virtuals) => virtuals,
-        Err(fault) => return Err(fault),
-    };
+    let direct = check_codes(alloc, frame, pools, &declared.direct_methods, codes)?;
+    let virtuals = check_codes(alloc, frame, pools, &declared.virtual_methods, codes)?;
     let (off, fields) = (row.static_values_off, declared.static_fields.len());
-    let values = match check_static_values(frame, pools, off, fields) {
-        Ok(values) => values,
-        Err(fault) => return Err(fault),
-    };
+    let values = check_static_values(frame, pools, off, fields)?;
     Ok(
         fields_weight(&declared)
             .saturating_add(annotations)

@@ -104,20 +104,14 @@ fn read_data(
     };
     let (statics, instances) = (counts.static_fields, counts.instance_fields);
     let fields_at = at + counts_size;
-    let (static_fields, instance_fields, fields_size) = match read_lists::<EncodedField>(
+    let (static_fields, instance_fields, fields_size) = read_lists::<EncodedField>(
         alloc, owner, bytes, fields_at, statics, instances,
-    ) {
-        Ok(read) => read,
-        Err(fault) => return Err(fault),
-    };
+    )?;
     let (directs, virtuals) = (counts.direct_methods, counts.virtual_methods);
     let methods_at = fields_at + fields_size;
-    let (direct_methods, virtual_methods, _) = match read_lists::<EncodedMethod>(
+    let (direct_methods, virtual_methods, _) = read_lists::<EncodedMethod>(
         alloc, owner, bytes, methods_at, directs, virtuals,
-    ) {
-        Ok(read) => read,
-        Err(fault) => return Err(fault),
-    };
+    )?;
     Ok(ClassData {
         static_fields,
         instance_fields,
@@ -128,9 +122,9 @@ fn read_data(
 
 /// Reads the members that a class row declares: those of its class_data_item, or none where its offset is 0.
 ///
-/// What is said of the result is said of rows that meet condition 16. Error: `Refused(17)` exactly where the row's class
-/// data is no such item in the data, an index of it is out of range, a member is not one of the class, or one is in two
-/// lists; `Memory` where an allocation failed.
+/// What is said of the result is said of rows that meet condition 16. Error: `Refused(17)` exactly where the row's
+/// class data is no such item in the data, an index of it is out of range, a member is not one of the class, or one is
+/// in two lists; `Memory` where an allocation failed.
 ///
 /// Source: "class_data_item", "encoded_field format", "encoded_method format".
 pub(crate) fn read_class_data(

@@ -13,8 +13,8 @@ use dexpool::{ItemFault, Pools};
 use std::alloc::Global;
 use std::collections::HashMap;
 
-/// The code of a file that was checked, each code_item by its offset with its weight. Each is checked once, however many
-/// methods name it.
+/// The code of a file that was checked, each code_item by its offset with its weight. Each is checked once, however
+/// many methods name it.
 #[derive(Drop)]
 pub(crate) struct CheckedCodes {
     // The weight of each with its debug program.
@@ -60,10 +60,7 @@ fn checked_code_at(
         return Ok(*weight);
     }
     let scratch = &mut checked.scratch;
-    let shape = match check_code_once(alloc, frame, pools, off, scratch, &mut checked.debugs) {
-        Ok(shape) => shape,
-        Err(fault) => return Err(fault),
-    };
+    let shape = check_code_once(alloc, frame, pools, off, scratch, &mut checked.debugs)?;
     checked.weights.insert(off, shape.weight)?;
     Ok(shape.weight)
 }
@@ -93,10 +90,7 @@ pub(crate) fn check_codes(
 {
     let mut weight: u64 = 0;
     for method in methods {
-        let code = match checked_code_at(alloc, frame, pools, method.code_off, checked) {
-            Ok(code) => code,
-            Err(fault) => return Err(fault),
-        };
+        let code = checked_code_at(alloc, frame, pools, method.code_off, checked)?;
         weight = weight.saturating_add(31).saturating_add(code);
     }
     Ok(weight)

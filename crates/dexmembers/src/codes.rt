@@ -32,10 +32,8 @@ fn code_or_none<'a>(
     if off == 0 {
         return Ok(None);
     }
-    match read_code_in(alloc, frame, pools, off, scratch) {
-        Ok(code) => Ok(Some(code)),
-        Err(fault) => Err(fault),
-    }
+    let code = read_code_in(alloc, frame, pools, off, scratch)?;
+    Ok(Some(code))
 }
 
 // Returns what is left of a weight after the code with its debug program, or `None` if the code weighs more.
@@ -93,18 +91,13 @@ pub(crate) fn read_codes<'a>(
     let mut codes = Vec::with_capacity(alloc, room(methods.len()))?;
     let mut left = most;
     for i in 0..methods.len() {
-        let code = match code_or_none(alloc, frame, pools, methods[i].code_off, scratch) {
-            Ok(code) => code,
-            Err(fault) => return Err(fault),
-        };
+        let code = code_or_none(alloc, frame, pools, methods[i].code_off, scratch)?;
         match left_after_any(left, &code) {
             Some(rest) => left = rest,
             None => {
                 let mut checked = CheckedCodes::none(alloc);
-                match check_codes(alloc, frame, pools, &methods[i + 1..], &mut checked) {
-                    Ok(_) => return Ok(None),
-                    Err(fault) => return Err(fault),
-                }
+                check_codes(alloc, frame, pools, &methods[i + 1..], &mut checked)?;
+                return Ok(None);
             }
         }
         codes.push(code)?;

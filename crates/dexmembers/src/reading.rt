@@ -81,12 +81,9 @@ pub fn read_members_of<'a>(
 {
     pools.numbering().is_numbering();
     code_meaning_law();
-    let declared = match read_class_data(alloc, frame, pools, row) {
-        Ok(declared) => declared,
-        Err(fault) => return Err(fault),
-    };
+    let declared = read_class_data(alloc, frame, pools, row)?;
     let mut scratch = Scratch::new(alloc);
-    let found = match read_parts(
+    let found = read_parts(
         alloc,
         frame,
         pools,
@@ -94,10 +91,7 @@ pub fn read_members_of<'a>(
         &declared,
         u64::from(most),
         &mut scratch,
-    ) {
-        Ok(found) => found,
-        Err(fault) => return Err(fault),
-    };
+    )?;
     let parts = match found {
         Some(parts) => parts,
         None => return Ok(None),

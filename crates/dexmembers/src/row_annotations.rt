@@ -52,11 +52,11 @@ fn no_directory(alloc: Global) -> SharedDirectory
     }
 }
 
-/// Reads the annotations of a class and of its members at the offset of its row, or none at 0. Where their sets weigh more
-/// than `most`, they are checked only, and none is returned.
+/// Reads the annotations of a class and of its members at the offset of its row, or none at 0. Where their sets weigh
+/// more than `most`, they are checked only, and none is returned.
 ///
-/// Condition: the row declares these members. Error: `Refused(22)` exactly where no annotations_directory_item is there, or
-/// it names a member that is not declared; `Memory` where an allocation failed.
+/// Condition: the row declares these members. Error: `Refused(22)` exactly where no annotations_directory_item is
+/// there, or it names a member that is not declared; `Memory` where an allocation failed.
 ///
 /// Source: "class_def_item", the field `annotations_off`, and "annotations_directory_item".
 pub(crate) fn read_annotations(
@@ -77,10 +77,7 @@ pub(crate) fn read_annotations(
     if off == 0 {
         return Ok(Some(no_directory(alloc)));
     }
-    let found = match read_shared_directory_within(alloc, frame, pools, off, most) {
-        Ok(found) => found,
-        Err(fault) => return Err(fault),
-    };
+    let found = read_shared_directory_within(alloc, frame, pools, off, most)?;
     if !names_declared(frame, off, declared) {
         return Err(ItemFault::Refused(Condition::Annotations as u8));
     }

@@ -13,12 +13,12 @@ use dexhead::{Condition, Frame};
 use dexpool::{ItemFault, Pools};
 use dexval::{CheckedSets, check_directory, check_statics};
 
-/// Checks the annotations of a class and of its members at the offset of its row, and returns what their sets weigh, or 2^64 - 1 where
-/// that is more: 0 where the offset is 0. What is checked already is not checked again.
+/// Checks the annotations of a class and of its members at the offset of its row, and returns what their sets weigh, or
+/// 2^64 - 1 where that is more: 0 where the offset is 0. What is checked already is not checked again.
 ///
-/// Condition: the row declares these members; what is checked already is of this file. Error:
-/// `Refused(22)` exactly where no annotations_directory_item is there, or it names a member that is not declared; `Memory`
-/// where an allocation failed.
+/// Condition: the row declares these members; what is checked already is of this file. Error: `Refused(22)` exactly
+/// where no annotations_directory_item is there, or it names a member that is not declared; `Memory` where an
+/// allocation failed.
 ///
 /// Source: "class_def_item", the field `annotations_off`, and "annotations_directory_item".
 pub(crate) fn check_annotations(
@@ -38,18 +38,15 @@ pub(crate) fn check_annotations(
     if off == 0 {
         return Ok(0);
     }
-    let shape = match check_directory(frame, pools, off, checked) {
-        Ok(shape) => shape,
-        Err(fault) => return Err(fault),
-    };
+    let shape = check_directory(frame, pools, off, checked)?;
     if !names_declared(frame, off, declared) {
         return Err(ItemFault::Refused(Condition::Annotations as u8));
     }
     Ok(shape.weight)
 }
 
-/// Checks the values that the static fields of a class begin with at the offset of its row, and returns what they weigh: 0 where the offset
-/// is 0. No memory is taken.
+/// Checks the values that the static fields of a class begin with at the offset of its row, and returns what they
+/// weigh: 0 where the offset is 0.
 ///
 /// Error: `Refused(21)` exactly where no encoded_array_item is there, or it has
 /// more values than `fields`, the number of static fields.
@@ -67,10 +64,7 @@ pub(crate) fn check_static_values(
     if off == 0 {
         return Ok(0);
     }
-    let shape = match check_statics(frame, pools, off) {
-        Ok(shape) => shape,
-        Err(fault) => return Err(fault),
-    };
+    let shape = check_statics(frame, pools, off)?;
     if shape.count as usize > fields {
         return Err(ItemFault::Refused(Condition::Values as u8));
     }

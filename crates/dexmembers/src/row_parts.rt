@@ -30,14 +30,14 @@ pub(crate) struct Parts<'a> {
     pub(crate) static_values: Vec<Value>,
 }
 
-/// Reads what is at a class row beside its class data. Where a part of it weighs more than `most`, all is checked, and none
-/// is returned. All code is read in the same `scratch`.
+/// Reads what is at a class row beside its class data. Where a part of it weighs more than `most`, all is checked, and
+/// none is returned. All code is read in the same `scratch`.
 ///
-/// Condition: the row declares these members. Error: `Refused` with a number from 18 to 22, a condition that fails at the
-/// row; `Memory` where an allocation failed.
+/// Condition: the row declares these members. Error: `Refused` with a number from 18 to 22, a condition that fails at
+/// the row; `Memory` where an allocation failed.
 ///
-/// Source: "class_def_item", the fields `annotations_off` and `static_values_off`, and "encoded_method format", the field
-/// `code_off`.
+/// Source: "class_def_item", the fields `annotations_off` and `static_values_off`, and "encoded_method format", the
+/// field `code_off`.
 pub(crate) fn read_parts<'a>(
     alloc: Global,
     frame: &Frame<'a>,
@@ -54,30 +54,18 @@ pub(crate) fn read_parts<'a>(
 {
     pools.numbering().is_numbering();
     let off = row.annotations_off;
-    let found = match read_annotations(alloc, frame, pools, off, declared, most) {
-        Ok(found) => found,
-        Err(fault) => return Err(fault),
-    };
-    let direct = match read_codes(alloc, frame, pools, &declared.direct_methods, most, scratch) {
-        Ok(codes) => codes,
-        Err(fault) => return Err(fault),
-    };
-    let virtuals = match read_codes(
+    let found = read_annotations(alloc, frame, pools, off, declared, most)?;
+    let direct = read_codes(alloc, frame, pools, &declared.direct_methods, most, scratch)?;
+    let virtuals = read_codes(
         alloc,
         frame,
         pools,
         &declared.virtual_methods,
         most,
         scratch,
-    ) {
-        Ok(codes) => codes,
-        Err(fault) => return Err(fault),
-    };
+    )?;
     let (off, fields) = (row.static_values_off, declared.static_fields.len());
-    let values = match read_static_values(alloc, frame, pools, off, fields, most) {
-        Ok(values) => values,
-        Err(fault) => return Err(fault),
-    };
+    let values = read_static_values(alloc, frame, pools, off, fields, most)?;
     let directory = match found {
         Some(directory) => directory,
         None => return Ok(None),

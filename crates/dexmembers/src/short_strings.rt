@@ -29,10 +29,7 @@ fn greater(left: Option<u32>, right: Option<u32>) -> Option<u32>
 fn greatest_of_code(code: Option<&Code<'_>>) -> Option<u32>
     ensures { ForCode code.entry (λ known. IsGreatest (optional_short_strings known) result) }
 {
-    match code {
-        Some(code) => code.greatest_short_string(),
-        None => None,
-    }
+    code?.greatest_short_string()
 }
 
 // The greatest such number in the code of methods.

@@ -54,10 +54,7 @@ impl<'a, 'b> Candidate<'a, 'b> {
         ensures { Decides result (members_short_strings (class_of self.now).members) }
     {
         self.remap.keeps_order();
-        let greatest = match self.class.members().greatest_short_string() {
-            Some(greatest) => greatest,
-            None => return None,
-        };
+        let greatest = self.class.members().greatest_short_string()?;
         self.remap.image(SymbolKind::Text, greatest as usize)
     }
 }

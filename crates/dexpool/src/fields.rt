@@ -51,18 +51,9 @@ fn field_at(names: &Names<'_, '_>, i: u32) -> Option<FieldRow>
     ensures { MatchOption result (NoFileField names.now i) (IsFileField names.now i) }
 {
     let field = field_numbers(names.frame, i);
-    let class = match names.typ(field.class) {
-        Some(class) => class,
-        None => return None,
-    };
-    let typ = match names.typ(field.typ) {
-        Some(typ) => typ,
-        None => return None,
-    };
-    let name = match names.text(field.name) {
-        Some(name) => name,
-        None => return None,
-    };
+    let class = names.typ(field.class)?;
+    let typ = names.typ(field.typ)?;
+    let name = names.text(field.name)?;
     if !is_field(class, name, typ) {
         return None;
     }

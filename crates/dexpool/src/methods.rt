@@ -48,14 +48,8 @@ fn method_at(names: &Names<'_, '_>, protos: &[ProtoEntry], i: u32) -> Option<Met
     ensures { MatchOption result (NoFileMethod names.now i) (IsFileMethod names.now protos.now i) }
 {
     let method = method_numbers(names.frame, i);
-    let class = match names.typ(method.class) {
-        Some(class) => class,
-        None => return None,
-    };
-    let name = match names.text(method.name) {
-        Some(name) => name,
-        None => return None,
-    };
+    let class = names.typ(method.class)?;
+    let name = names.text(method.name)?;
     if protos.len() <= method.proto {
         return None;
     }

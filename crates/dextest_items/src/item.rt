@@ -229,11 +229,10 @@ pub fn members_at<'a>(
     if row >= file.frame.size(Table::ClassDefs) {
         return Ok(None);
     }
-    match read_members(alloc, &file.frame, &file.pools, row, most) {
-        Ok(Some((members, _))) => Ok(Some(members)),
-        Ok(None) => Ok(None),
-        Err(fault) => Err(fault),
-    }
+    let Some((members, _)) = read_members(alloc, &file.frame, &file.pools, row, most)? else {
+        return Ok(None);
+    };
+    Ok(Some(members))
 }
 
 // Returns the weight of the sets and of the lists of sets of a directory.

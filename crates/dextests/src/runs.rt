@@ -43,10 +43,8 @@ fn ended(
 }
 
 fn status(answer: Result<(), RunFault>) -> Result<u8, RunFault> {
-    match answer {
-        Ok(()) => Ok(0),
-        Err(fault) => Err(fault),
-    }
+    answer?;
+    Ok(0)
 }
 
 // Returns how often the readers were called.

@@ -40,10 +40,7 @@ fn scalar_measure(bytes: &[u8], pools: &Pools<'_>, at: usize) -> Option<Measure>
     ensures within { IfSome result (λ value. at + value.size ≤ length bytes.now) }
     ensures light { IfSome result (λ value. value.weight ≤ 9 * value.size) }
 {
-    let size = match scalar_at(bytes, pools, at) {
-        Some((_, size)) => size,
-        None => return None,
-    };
+    let (_, size) = scalar_at(bytes, pools, at)?;
     Some(Measure { size, weight: 9 })
 }
 
@@ -69,25 +66,21 @@ pub(crate) fn value_measure(
             if depth == 0 {
                 return None;
             }
-            match array_measure(bytes, pools, at + 1, depth - 1) {
-                Some((_, values)) => Some(Measure {
-                    size: 1 + values.size,
-                    weight: 6 + values.weight,
-                }),
-                None => None,
-            }
+            let (_, values) = array_measure(bytes, pools, at + 1, depth - 1)?;
+            Some(Measure {
+                size: 1 + values.size,
+                weight: 6 + values.weight,
+            })
         }
         ANNOTATION => {
             if depth == 0 {
                 return None;
             }
-            match annotation_measure(bytes, pools, at + 1, depth - 1) {
-                Some((_, annotation)) => Some(Measure {
-                    size: 1 + annotation.size,
-                    weight: annotation.weight,
-                }),
-                None => None,
-            }
+            let (_, annotation) = annotation_measure(bytes, pools, at + 1, depth - 1)?;
+            Some(Measure {
+                size: 1 + annotation.size,
+                weight: annotation.weight,
+            })
         }
         _ => scalar_measure(bytes, pools, at),
     }
@@ -109,20 +102,13 @@ pub(crate) fn array_measure(
     ensures within { IfSome result (λ array. at + array.1.size ≤ length bytes.now) }
     ensures light { IfSome result (λ array. array.1.weight ≤ 9 * array.1.size) }
 {
-    let (count, head) = match number_at(bytes, at) {
-        Some(read) => read,
-        None => return None,
-    };
+    let (count, head) = number_at(bytes, at)?;
     let mut size = 0;
     let mut weight = 0;
     for _i in 0..count {
-        match value_measure(bytes, pools, at + head + size, depth) {
-            Some(value) => {
-                size += value.size;
-                weight += value.weight;
-            }
-            None => return None,
-        }
+        let value = value_measure(bytes, pools, at + head + size, depth)?;
+        size += value.size;
+        weight += value.weight;
     }
     let size = head + size;
     Some((count, Measure { size, weight }))
@@ -146,21 +132,14 @@ fn element_measure(
     ensures within { IfSome result (λ element. at + element.1.size ≤ length bytes.now) }
     ensures light { IfSome result (λ element. element.1.weight ≤ 9 * element.1.size) }
 {
-    let (name, head) = match number_at(bytes, at) {
-        Some(read) => read,
-        None => return None,
-    };
+    let (name, head) = number_at(bytes, at)?;
     if u64::from(name) < least || name as usize >= pools.len(SymbolKind::Text) {
         return None;
     }
-    match value_measure(bytes, pools, at + head, depth) {
-        Some(value) => {
-            let size = head + value.size;
-            let weight = 5 + value.weight;
-            Some((name, Measure { size, weight }))
-        }
-        None => None,
-    }
+    let value = value_measure(bytes, pools, at + head, depth)?;
+    let size = head + value.size;
+    let weight = 5 + value.weight;
+    Some((name, Measure { size, weight }))
 }
 
 // The measure of `count` elements from an offset on, or `None` if there are no such elements whose names rise strictly
@@ -184,14 +163,10 @@ fn elements_measure(
     let mut weight = 0;
     let mut least = 0;
     for _i in 0..count {
-        match element_measure(bytes, pools, at + size, depth, least) {
-            Some((name, element)) => {
-                least = u64::from(name) + 1;
-                size += element.size;
-                weight += element.weight;
-            }
-            None => return None,
-        }
+        let (name, element) = element_measure(bytes, pools, at + size, depth, least)?;
+        least = u64::from(name) + 1;
+        size += element.size;
+        weight += element.weight;
     }
     Some(Measure { size, weight })
 }
@@ -212,23 +187,13 @@ pub(crate) fn annotation_measure(
     ensures within { IfSome result (λ annotation. at + annotation.1.size ≤ length bytes.now) }
     ensures light { IfSome result (λ annotation. annotation.1.weight ≤ 9 * annotation.1.size) }
 {
-    let (typ, first) = match number_at(bytes, at) {
-        Some(read) => read,
-        None => return None,
-    };
+    let (typ, first) = number_at(bytes, at)?;
     if typ as usize >= pools.len(SymbolKind::Typ) {
         return None;
     }
-    let (count, second) = match number_at(bytes, at + first) {
-        Some(read) => read,
-        None => return None,
-    };
-    match elements_measure(bytes, pools, at + first + second, depth, count) {
-        Some(elements) => {
-            let size = first + second + elements.size;
-            let weight = 12 + elements.weight;
-            Some((typ, Measure { size, weight }))
-        }
-        None => None,
-    }
+    let (count, second) = number_at(bytes, at + first)?;
+    let elements = elements_measure(bytes, pools, at + first + second, depth, count)?;
+    let size = first + second + elements.size;
+    let weight = 12 + elements.weight;
+    Some((typ, Measure { size, weight }))
 }

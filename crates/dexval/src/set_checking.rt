@@ -39,29 +39,21 @@ fn item_weight(frame: &Frame<'_>, pools: &Pools<'_>, off: u32) -> Option<(u32, u
     if bytes[at] > MOST_VISIBILITY {
         return None;
     }
-    match annotation_measure(bytes, pools, at + 1, MOST_DEPTH) {
-        Some((typ, annotation)) => Some((typ, annotation.weight)),
-        None => None,
-    }
+    let (typ, annotation) = annotation_measure(bytes, pools, at + 1, MOST_DEPTH)?;
+    Some((typ, annotation.weight))
 }
 
 // The shape of the annotation_set_item at an offset, or `None` if there is no such item.
 fn set_shape(frame: &Frame<'_>, pools: &Pools<'_>, off: u32) -> Option<SetShape>
     ensures { HasPools frame.now pools.now → MeasuresSet frame.now off pools.now result }
 {
-    let count = match offset_count(frame, off) {
-        Some(count) => count,
-        None => return None,
-    };
+    let count = offset_count(frame, off)?;
     let bytes = frame.bytes();
     let mut weight = 8;
     let mut least = 0;
     for i in 0..count {
         let place = u32_at(bytes, off as usize + 4 + 4 * i as usize);
-        let (typ, item) = match item_weight(frame, pools, place) {
-            Some(item) => item,
-            None => return None,
-        };
+        let (typ, item) = item_weight(frame, pools, place)?;
         if u64::from(typ) < least {
             return None;
         }

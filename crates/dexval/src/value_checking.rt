@@ -40,13 +40,11 @@ fn value_shape(frame: &Frame<'_>, pools: &Pools<'_>, off: u32) -> Option<ValueSh
         return None;
     }
     pools.numbering().is_numbering();
-    match value_measure(frame.bytes(), pools, off as usize, MOST_DEPTH) {
-        Some(value) => Some(ValueShape {
-            size: value.size as u32,
-            weight: value.weight,
-        }),
-        None => None,
-    }
+    let value = value_measure(frame.bytes(), pools, off as usize, MOST_DEPTH)?;
+    Some(ValueShape {
+        size: value.size as u32,
+        weight: value.weight,
+    })
 }
 
 /// Checks the encoded_value at an offset. Its indices refer to the pools, which are those of the file. Nothing is kept,
@@ -77,14 +75,12 @@ fn statics_shape(frame: &Frame<'_>, pools: &Pools<'_>, off: u32) -> Option<Stati
         return None;
     }
     pools.numbering().is_numbering();
-    match array_measure(bytes, pools, at, MOST_DEPTH) {
-        Some((count, values)) => Some(StaticsShape {
-            count,
-            size: values.size as u32,
-            weight: if count == 0 { 0 } else { 6 + values.weight },
-        }),
-        None => None,
-    }
+    let (count, values) = array_measure(bytes, pools, at, MOST_DEPTH)?;
+    Some(StaticsShape {
+        count,
+        size: values.size as u32,
+        weight: if count == 0 { 0 } else { 6 + values.weight },
+    })
 }
 
 /// Checks the encoded_array_item at an offset: the initial values of the static fields of a class. Nothing is kept, and

@@ -5,10 +5,10 @@ use Rattle.dexcode.proofs.OneHandler.{one_catch}
 use Rattle.dexcode.proofs.HandlersRead.{one_catch_more}
 use Rattle.dexcode.proofs.catches.catches_len.Goals as goal
 
-pub returns-in-None-clause-none : goal.returns-in-None-clause-none
-returns-in-None-clause-none c = λ cs n many h.
+pub returns-in_err-len-clause-none : goal.returns-in_err-len-clause-none
+returns-in_err-len-clause-none c = rw c.from_residual.ensures (λ cs n many h.
     let read = c.loop.invariant.read in
-    stuck (CatchAt c.args.starts.now c.args.types) (one_catch c.args.starts.now c.args.types) c.args.bytes.now c.args.at c.loop.invariant.catches cs c.loop.size n (omega (arith, many, read.many, c.loop-test.true)) read.are_encoded c.in-None.ensures.none h
+    stuck (CatchAt c.args.starts.now c.args.types) (one_catch c.args.starts.now c.args.types) c.args.bytes.now c.args.at c.loop.invariant.catches cs c.loop.size n (omega (arith, many, read.many, c.loop-test.true)) read.are_encoded c.in_err-len.ensures.none h)
 
 pub loop-preserved : goal.loop-preserved
-loop-preserved c = one_catch_more c.args.starts.now c.args.types c.args.bytes.now c.args.at c.loop.counter c.loop.size c.in-Some.len c.in-Some.field-0-0 c.loop.invariant c.in-Some.ensures.some c.in-Some.ensures.within
+loop-preserved c = one_catch_more c.args.starts.now c.args.types c.args.bytes.now c.args.at c.loop.counter c.loop.size c.in_ok-len.len c.in_ok-len.field-0-0 c.loop.invariant c.in_ok-len.ensures.some c.in_ok-len.ensures.within

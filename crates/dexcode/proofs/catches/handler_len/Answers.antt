@@ -5,32 +5,30 @@ use Rattle.dexcode.specs.Reading.{CatchAllAt}
 use Rattle.dexcode.proofs.HandlersRead.{no_catches, no_catch_all}
 use Rattle.dexcode.proofs.catches.handler_len.Goals as goal
 
-pub returns-in-None-clause-none : goal.returns-in-None-clause-none
-returns-in-None-clause-none c =
-    no_catches c.args.starts.now c.args.types c.args.bytes.now c.args.at c.in-Ok.read.0 c.in-Ok.read.1 c.in-Ok.ensures.found c.unsigned_abs-many.result (c.unsigned_abs-many.ensures.value ∙ ap nat_abs (to_z-of_z w32 c.in-Ok.read.0 c.in-Ok.ensures.found.spelled.in_range)) c.in-None.ensures.none
+pub returns-in_err-catches_size-clause-none : goal.returns-in_err-catches_size-clause-none
+returns-in_err-catches_size-clause-none c = rw c.from_residual.ensures (no_catches c.args.starts.now c.args.types c.args.bytes.now c.args.at c.in-Ok.read.0 c.in-Ok.read.1 c.in-Ok.ensures.found c.unsigned_abs-many.result (c.unsigned_abs-many.ensures.value ∙ ap nat_abs (to_z-of_z w32 c.in-Ok.read.0 c.in-Ok.ensures.found.spelled.in_range)) c.in_err-catches_size.ensures.none)
 
-pub returns-in-None-read_catch_all-clause-none : goal.returns-in-None-read_catch_all-clause-none
-returns-in-None-read_catch_all-clause-none c =
-    let same = to_z-of_z w32 c.in-Ok.read.0 c.in-Ok.ensures.found.spelled.in_range in
-    no_catch_all c.args.starts.now c.args.types c.args.bytes.now c.args.at c.in-Ok.read.0 c.in-Ok.read.1 c.in-Ok.ensures.found c.unsigned_abs-many.result (c.unsigned_abs-many.ensures.value ∙ ap nat_abs same) c.in-Some.ensures.some.catches c.in-Some.size c.in-Some.ensures.some.read
-    (λ a n there. c.in-None-read_catch_all.ensures.none a n (subst (λ z. CatchAllAt c.args.starts.now z c.args.bytes.now (c.args.at + c.in-Ok.read.1 + c.in-Some.size) a n) (sym same) there))
+pub returns-in_err-all_size-clause-none : goal.returns-in_err-all_size-clause-none
+returns-in_err-all_size-clause-none c = rw c.from_residual-in_err-all_size.ensures (let same = to_z-of_z w32 c.in-Ok.read.0 c.in-Ok.ensures.found.spelled.in_range in
+    no_catch_all c.args.starts.now c.args.types c.args.bytes.now c.args.at c.in-Ok.read.0 c.in-Ok.read.1 c.in-Ok.ensures.found c.unsigned_abs-many.result (c.unsigned_abs-many.ensures.value ∙ ap nat_abs same) c.in_ok-catches_size.ensures.some.catches c.in_ok-catches_size.catches_size c.in_ok-catches_size.ensures.some.read
+    (λ a n there. c.in_err-all_size.ensures.none a n (subst (λ z. CatchAllAt c.args.starts.now z c.args.bytes.now (c.args.at + c.in-Ok.read.1 + c.in_ok-catches_size.catches_size) a n) (sym same) there)))
 
-pub returns-in-Some-read_catch_all-clause-some : goal.returns-in-Some-read_catch_all-clause-some
-returns-in-Some-read_catch_all-clause-some c =
+pub returns-clause-some : goal.returns-clause-some
+returns-clause-some c =
     let same = to_z-of_z w32 c.in-Ok.read.0 c.in-Ok.ensures.found.spelled.in_range in
-    let read = c.in-Some.ensures.some.read in
+    let read = c.in_ok-catches_size.ensures.some.read in
     record {
-      handler = record { catches = c.in-Some.ensures.some.catches; catch_all_addr = c.in-Some-read_catch_all.field-0-0 };
+      handler = record { catches = c.in_ok-catches_size.ensures.some.catches; catch_all_addr = c.in_ok-all_size.field-0-0 };
       encodes = record {
         count = c.in-Ok.read.0;
         count_size = c.in-Ok.read.1;
-        catches_size = c.in-Some.size;
-        all_size = c.in-Some-read_catch_all.all_size;
+        catches_size = c.in_ok-catches_size.catches_size;
+        all_size = c.in_ok-all_size.all_size;
         count_is = c.in-Ok.ensures.found;
         many = sym (read.many ∙ c.unsigned_abs-many.ensures.value ∙ ap nat_abs same);
         catches_are = read.are_encoded;
-        all = subst (λ z. CatchAllAt c.args.starts.now z c.args.bytes.now (c.args.at + c.in-Ok.read.1 + c.in-Some.size) c.in-Some-read_catch_all.field-0-0 c.in-Some-read_catch_all.all_size) same c.in-Some-read_catch_all.ensures.some;
+        all = subst (λ z. CatchAllAt c.args.starts.now z c.args.bytes.now (c.args.at + c.in-Ok.read.1 + c.in_ok-catches_size.catches_size) c.in_ok-all_size.field-0-0 c.in_ok-all_size.all_size) same c.in_ok-all_size.ensures.some;
         size = refl;
       };
-      within = omega (arith, read.within, c.in-Some-read_catch_all.ensures.within);
+      within = omega (arith, read.within, c.in_ok-all_size.ensures.within);
     }

@@ -8,16 +8,16 @@ returns-in-Err-clause-none c = λ x n at. let e = c.in-Err.ensures.only x.typ at
 pub returns-then-types-typ-clause-none : goal.returns-then-types-typ-clause-none
 returns-then-types-typ-clause-none c = no_type c.args.starts.now c.args.types c.args.bytes.now c.args.at c.in-Ok.read.0 c.in-Ok.read.1 c.in-Ok.ensures.found (omega arith)
 
-pub returns-in-None-clause-none : goal.returns-in-None-clause-none
-returns-in-None-clause-none c = no_address c.args.starts.now c.args.types c.args.bytes.now c.args.at c.in-Ok.read.0 c.in-Ok.read.1 c.in-Ok.ensures.found c.in-None.ensures.none
+pub returns-in_err-addr-clause-none : goal.returns-in_err-addr-clause-none
+returns-in_err-addr-clause-none c = rw c.from_residual.ensures (no_address c.args.starts.now c.args.types c.args.bytes.now c.args.at c.in-Ok.read.0 c.in-Ok.read.1 c.in-Ok.ensures.found c.in_err-addr.ensures.none)
 
 pub returns-clause-some : goal.returns-clause-some
 returns-clause-some c = record {
   index_size = c.in-Ok.read.1;
-  address_size = c.in-Some.read.1;
+  address_size = c.in_ok-addr.addr_size;
   index_is = c.in-Ok.ensures.found;
   in_range = omega arith;
-  address_is = c.in-Some.ensures.address;
-  start = c.in-Some.ensures.start;
+  address_is = c.in_ok-addr.ensures.address;
+  start = c.in_ok-addr.ensures.start;
   size = refl;
 }

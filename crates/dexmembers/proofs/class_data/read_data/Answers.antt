@@ -1,4 +1,5 @@
 use Rattle.std.proofs.Common.{refl, length}
+use Rattle.std.proofs.lemmas.Result.{err_from_is_err_and}
 use Rattle.dexmembers.proofs.DataCounts.{no_fields, no_methods}
 use Rattle.dexmembers.proofs.MemberChains.{refused_so}
 use Rattle.dexmembers.proofs.class_data.read_data.Goals as goal
@@ -6,15 +7,17 @@ use Rattle.dexmembers.proofs.class_data.read_data.Goals as goal
 pub returns-in-None-clause-fault : goal.returns-in-None-clause-fault
 returns-in-None-clause-fault c = (refl, λ ss is ds vs g. c.in-None.ensures.none (length ss) (length is) (length ds) (length vs) g.counts_size g.counts)
 
-pub returns-in-Err-clause-fault : goal.returns-in-Err-clause-fault
-returns-in-Err-clause-fault c =
+pub returns-in_err-static_fields-clause-fault : goal.returns-in_err-static_fields-clause-fault
+returns-in_err-static_fields-clause-fault c =
+    let p = err_from_is_err_and c.from_residual.result c.from_residual.ensures.1 in
     let n = c.in-Some.read.0 in
-    refused_so (no_fields c.args.owner.pools.now c.args.owner.class c.args.bytes.now c.args.at n.static_fields n.instance_fields n.direct_methods n.virtual_methods c.in-Some.read.1 c.in-Some.ensures.some) c.in-Err.fault c.in-Err.ensures.fault
+    rw (p.1, p.2) (refused_so (no_fields c.args.owner.pools.now c.args.owner.class c.args.bytes.now c.args.at n.static_fields n.instance_fields n.direct_methods n.virtual_methods c.in-Some.read.1 c.in-Some.ensures.some) c.in_err-static_fields.field-0.0 c.in_err-static_fields.ensures.fault)
 
-pub returns-in-Err-read_lists-clause-fault : goal.returns-in-Err-read_lists-clause-fault
-returns-in-Err-read_lists-clause-fault c =
+pub returns-in_err-direct_methods-clause-fault : goal.returns-in_err-direct_methods-clause-fault
+returns-in_err-direct_methods-clause-fault c =
+    let p = err_from_is_err_and c.from_residual-in_err-direct_methods.result c.from_residual-in_err-direct_methods.ensures.1 in
     let n = c.in-Some.read.0 in
-    let fields = c.in-Ok.read in
-    refused_so
-    (no_methods c.args.owner.pools.now c.args.owner.class c.args.bytes.now c.args.at n.static_fields n.instance_fields n.direct_methods n.virtual_methods c.in-Some.read.1 c.in-Some.ensures.some fields.0.items fields.1.items fields.2 c.in-Ok.ensures.lists)
-    c.in-Err-read_lists.fault c.in-Err-read_lists.ensures.fault
+    let fields = c.in_ok-static_fields in
+    rw (p.1, p.2) (refused_so
+    (no_methods c.args.owner.pools.now c.args.owner.class c.args.bytes.now c.args.at n.static_fields n.instance_fields n.direct_methods n.virtual_methods c.in-Some.read.1 c.in-Some.ensures.some fields.static_fields.items fields.instance_fields.items fields.fields_size fields.ensures.lists)
+    c.in_err-direct_methods.field-0.0 c.in_err-direct_methods.ensures.fault)

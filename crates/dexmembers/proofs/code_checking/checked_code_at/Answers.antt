@@ -11,9 +11,9 @@ returns-in-Some-clause-weight c = λ p. some_code_of c.args.frame.now c.args.off
 
 pub returns-clause-checked : goal.returns-clause-checked
 returns-clause-checked c = λ p. record {
-  codes = code_added c.args.frame.now (λ (q : ℕ). get nat_eq c.args.checked.now.weights q) (λ (q : ℕ). get nat_eq c.insert.new.self q) c.args.off c.in-Ok.shape.weight ((c.requires p).codes) (c.in-Ok.ensures.code p) c.in_ok-insert.ensures.updates.1 c.in_ok-insert.ensures.updates.2;
-  programs = c.in-Ok.ensures.checked p;
+  codes = code_added c.args.frame.now (λ (q : ℕ). get nat_eq c.args.checked.now.weights q) (λ (q : ℕ). get nat_eq c.insert.new.self q) c.args.off c.in_ok-shape.shape.weight ((c.requires p).codes) (c.in_ok-shape.ensures.code p) c.in_ok-insert.ensures.updates.1 c.in_ok-insert.ensures.updates.2;
+  programs = c.in_ok-shape.ensures.checked p;
 }
 
 pub returns-clause-weight : goal.returns-clause-weight
-returns-clause-weight c = λ p. some_code_of c.args.frame.now c.args.off c.in-Ok.shape.weight (omega arith) (c.in-Ok.ensures.code p)
+returns-clause-weight c = λ p. some_code_of c.args.frame.now c.args.off c.in_ok-shape.shape.weight (omega arith) (c.in_ok-shape.ensures.code p)

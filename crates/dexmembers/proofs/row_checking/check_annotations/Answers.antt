@@ -1,4 +1,5 @@
 use Rattle.std.proofs.Common.{◌≡◌, ◌≢◌, ◌∙◌, refl, sym, subst, true, false, arith}
+use Rattle.std.proofs.lemmas.Result.{err_from_is_err_and}
 use Rattle.dexpool.specs.Numberings.{AreRising}
 use Rattle.dexmembers.proofs.RowAnnotations.{directory_refused, unnamed_refused}
 use Rattle.dexmembers.proofs.RowChecked.{no_annotations, annotations_of}
@@ -7,10 +8,11 @@ use Rattle.dexmembers.proofs.row_checking.check_annotations.Goals as goal
 pub returns-then-off-eq0-clause-weight : goal.returns-then-off-eq0-clause-weight
 returns-then-off-eq0-clause-weight c = λ r at pools is. no_annotations c.args.frame.now r c.args.pools.now c.args.declared.now is (omega (arith, at))
 
-pub returns-in-Err-clause-refused : goal.returns-in-Err-clause-refused
-returns-in-Err-clause-refused c = λ r at pools is.
+pub returns-in_err-shape-clause-refused : goal.returns-in_err-shape-clause-refused
+returns-in_err-shape-clause-refused c = λ r at pools is.
+    let p = err_from_is_err_and c.from_residual.result c.from_residual.ensures.1 in
     let some : c.args.off ≢ 0 = omega arith in
-    directory_refused c.args.frame.now r c.args.pools.now c.args.declared.now is c.args.off at some c.in-Err.fault (c.in-Err.ensures.refused pools)
+    rw (p.1, p.2) (directory_refused c.args.frame.now r c.args.pools.now c.args.declared.now is c.args.off at some c.in_err-shape.field-0.0 (c.in_err-shape.ensures.refused pools))
 
 pub returns-then-not-names_declared-clause-refused : goal.returns-then-not-names_declared-clause-refused
 returns-then-not-names_declared-clause-refused c = λ r at pools is.
@@ -25,4 +27,4 @@ pub returns-clause-weight : goal.returns-clause-weight
 returns-clause-weight c = λ r at pools is.
     let some : c.args.off ≢ 0 = omega arith in
     let rising = subst AreRising c.numbering.ensures c.is_numbering.ensures.rising in
-    annotations_of c.args.frame.now r c.args.pools.now c.args.declared.now is c.args.off at some pools rising (c.names_declared.ensures.listed c.if-not-names_declared.false) c.in-Ok.shape.weight (c.in-Ok.ensures.directory pools)
+    annotations_of c.args.frame.now r c.args.pools.now c.args.declared.now is c.args.off at some pools rising (c.names_declared.ensures.listed c.if-not-names_declared.false) c.in_ok-shape.shape.weight (c.in_ok-shape.ensures.directory pools)

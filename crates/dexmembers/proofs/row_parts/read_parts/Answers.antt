@@ -1,5 +1,6 @@
 use Rattle.std.proofs.Common.{◌∙◌, ℕ, List, Option, length, map, sym, subst}
 use Rattle.std.specs.Global.{Vec}
+use Rattle.std.proofs.lemmas.Result.{err_from_is_err_and}
 use Rattle.dexpool.specs.Numberings.{AreRising}
 use Rattle.dexcode.specs.Numbered.{NumberedItem}
 use Rattle.dexval.specs.Code.{value_of}
@@ -21,21 +22,26 @@ code_items v = v.0.items
 abbrev value_items : Vec ValueRead → NumberedValues
 value_items v = values_of_list (map value_of v.items)
 
-pub returns-in-Err-clause-refused : goal.returns-in-Err-clause-refused
-returns-in-Err-clause-refused c = λ r row pools is. annotations_refused c.args.frame.now r c.in-Err.fault (c.in-Err.ensures.refused r (sym row.annotations_are) pools is)
+pub returns-in_err-found-clause-refused : goal.returns-in_err-found-clause-refused
+returns-in_err-found-clause-refused c = λ r row pools is.
+    let p = err_from_is_err_and c.from_residual.result c.from_residual.ensures.1 in
+    rw (p.1, p.2) (annotations_refused c.args.frame.now r c.in_err-found.field-0.0 (c.in_err-found.ensures.refused r (sym row.annotations_are) pools is))
 
-pub returns-in-Err-read_codes-clause-refused : goal.returns-in-Err-read_codes-clause-refused
-returns-in-Err-read_codes-clause-refused c = λ r row pools is.
-    direct_refused c.args.frame.now r c.args.pools.now c.args.declared.now is c.in-Err-read_codes.fault (subst (λ (l : List EncodedMethod). IsCodesFault c.args.frame.now l c.in-Err-read_codes.fault) c.deref.ensures.value (c.in-Err-read_codes.ensures.refused pools))
+pub returns-in_err-direct-clause-refused : goal.returns-in_err-direct-clause-refused
+returns-in_err-direct-clause-refused c = λ r row pools is.
+    let p = err_from_is_err_and c.from_residual-in_err-direct.result c.from_residual-in_err-direct.ensures.1 in
+    rw (p.1, p.2) (direct_refused c.args.frame.now r c.args.pools.now c.args.declared.now is c.in_err-direct.field-0.0 (subst (λ (l : List EncodedMethod). IsCodesFault c.args.frame.now l c.in_err-direct.field-0.0) c.deref.ensures.value (c.in_err-direct.ensures.refused pools)))
 
-pub returns-in-Err-read_codes-2-clause-refused : goal.returns-in-Err-read_codes-2-clause-refused
-returns-in-Err-read_codes-2-clause-refused c = λ r row pools is.
-    virtual_refused c.args.frame.now r c.args.pools.now c.args.declared.now is c.in-Err-read_codes-2.fault (subst (λ (l : List EncodedMethod). IsCodesFault c.args.frame.now l c.in-Err-read_codes-2.fault) c.deref-2.ensures.value (c.in-Err-read_codes-2.ensures.refused pools))
+pub returns-in_err-virtuals-clause-refused : goal.returns-in_err-virtuals-clause-refused
+returns-in_err-virtuals-clause-refused c = λ r row pools is.
+    let p = err_from_is_err_and c.from_residual-in_err-virtuals.result c.from_residual-in_err-virtuals.ensures.1 in
+    rw (p.1, p.2) (virtual_refused c.args.frame.now r c.args.pools.now c.args.declared.now is c.in_err-virtuals.field-0.0 (subst (λ (l : List EncodedMethod). IsCodesFault c.args.frame.now l c.in_err-virtuals.field-0.0) c.deref-2.ensures.value (c.in_err-virtuals.ensures.refused pools)))
 
-pub returns-in-Err-read_static_values-clause-refused : goal.returns-in-Err-read_static_values-clause-refused
-returns-in-Err-read_static_values-clause-refused c = λ r row pools is.
-    values_refused c.args.frame.now r c.args.pools.now c.args.declared.now is c.in-Err-read_static_values.fault
-    (subst (λ (n : ℕ). IsValuesFault c.args.frame.now r n c.in-Err-read_static_values.fault) (c.len-fields.ensures ∙ c.args.declared.now.static_fields.ok.0) (c.in-Err-read_static_values.ensures.refused r (sym row.static_values_are) pools))
+pub returns-in_err-values-clause-refused : goal.returns-in_err-values-clause-refused
+returns-in_err-values-clause-refused c = λ r row pools is.
+    let p = err_from_is_err_and c.from_residual-in_err-values.result c.from_residual-in_err-values.ensures.1 in
+    rw (p.1, p.2) (values_refused c.args.frame.now r c.args.pools.now c.args.declared.now is c.in_err-values.field-0.0
+    (subst (λ (n : ℕ). IsValuesFault c.args.frame.now r n c.in_err-values.field-0.0) (c.len-fields.ensures ∙ c.args.declared.now.static_fields.ok.0) (c.in_err-values.ensures.refused r (sym row.static_values_are) pools)))
 
 pub returns-in-None-clause-read : goal.returns-in-None-clause-read
 returns-in-None-clause-read c = λ r row pools is.
@@ -44,11 +50,11 @@ returns-in-None-clause-read c = λ r row pools is.
     let d = c.args.declared.now in
     let most = c.args.most in
     let rising = subst AreRising c.numbering.ensures c.is_numbering.ensures.rising in
-    let direct = any_codes code_items b m d.direct_methods.items most c.in-Ok-read_codes.codes (codes_here code_items b m c.deref.result.now d.direct_methods.items most c.in-Ok-read_codes.codes c.deref.ensures.value (c.in-Ok-read_codes.ensures.read pools)) in
-    let virtual = any_codes code_items b m d.virtual_methods.items most c.in-Ok-read_codes-2.codes (codes_here code_items b m c.deref-2.result.now d.virtual_methods.items most c.in-Ok-read_codes-2.codes c.deref-2.ensures.value (c.in-Ok-read_codes-2.ensures.read pools)) in
-    let values = any_values value_items b r m (length d.static_fields.items) most c.in-Ok-read_static_values.values
-    (values_here value_items b r m c.len-fields.result (length d.static_fields.items) most c.in-Ok-read_static_values.values (c.len-fields.ensures ∙ c.args.declared.now.static_fields.ok.0) (c.in-Ok-read_static_values.ensures.read r (sym row.static_values_are) pools)) in
-    annotations_heavy b r m d is most pools rising (none_kept (AreHeavyAnnotations b r m d most) (AreAnnotationsOf b r m d) c.in-Ok.found c.in-None.is (c.in-Ok.ensures.read r (sym row.annotations_are) pools is)) direct virtual values
+    let direct = any_codes code_items b m d.direct_methods.items most c.in_ok-direct.direct (codes_here code_items b m c.deref.result.now d.direct_methods.items most c.in_ok-direct.direct c.deref.ensures.value (c.in_ok-direct.ensures.read pools)) in
+    let virtual = any_codes code_items b m d.virtual_methods.items most c.in_ok-virtuals.virtuals (codes_here code_items b m c.deref-2.result.now d.virtual_methods.items most c.in_ok-virtuals.virtuals c.deref-2.ensures.value (c.in_ok-virtuals.ensures.read pools)) in
+    let values = any_values value_items b r m (length d.static_fields.items) most c.in_ok-values.values
+    (values_here value_items b r m c.len-fields.result (length d.static_fields.items) most c.in_ok-values.values (c.len-fields.ensures ∙ c.args.declared.now.static_fields.ok.0) (c.in_ok-values.ensures.read r (sym row.static_values_are) pools)) in
+    annotations_heavy b r m d is most pools rising (none_kept (AreHeavyAnnotations b r m d most) (AreAnnotationsOf b r m d) c.in_ok-found.found c.in-None.is (c.in_ok-found.ensures.read r (sym row.annotations_are) pools is)) direct virtual values
 
 pub returns-in-None-direct-clause-read : goal.returns-in-None-direct-clause-read
 returns-in-None-direct-clause-read c = λ r row pools is.
@@ -56,12 +62,12 @@ returns-in-None-direct-clause-read c = λ r row pools is.
     let m = c.args.pools.now in
     let d = c.args.declared.now in
     let most = c.args.most in
-    let direct = codes_here code_items b m c.deref.result.now d.direct_methods.items most c.in-Ok-read_codes.codes c.deref.ensures.value (c.in-Ok-read_codes.ensures.read pools) in
-    let virtual = any_codes code_items b m d.virtual_methods.items most c.in-Ok-read_codes-2.codes (codes_here code_items b m c.deref-2.result.now d.virtual_methods.items most c.in-Ok-read_codes-2.codes c.deref-2.ensures.value (c.in-Ok-read_codes-2.ensures.read pools)) in
-    let values = any_values value_items b r m (length d.static_fields.items) most c.in-Ok-read_static_values.values
-    (values_here value_items b r m c.len-fields.result (length d.static_fields.items) most c.in-Ok-read_static_values.values (c.len-fields.ensures ∙ c.args.declared.now.static_fields.ok.0) (c.in-Ok-read_static_values.ensures.read r (sym row.static_values_are) pools)) in
-    direct_heavy b r m d is most (any_directory b r m d most c.in-Ok.found (c.in-Ok.ensures.read r (sym row.annotations_are) pools is))
-    (none_kept (AreHeavyCodes b d.direct_methods.items most) (λ (v : Vec (Option NumberedItem) × ℕ). AreCodesOf b m d.direct_methods.items most v.0.items) c.in-Ok-read_codes.codes c.in-None-direct.is direct) virtual values
+    let direct = codes_here code_items b m c.deref.result.now d.direct_methods.items most c.in_ok-direct.direct c.deref.ensures.value (c.in_ok-direct.ensures.read pools) in
+    let virtual = any_codes code_items b m d.virtual_methods.items most c.in_ok-virtuals.virtuals (codes_here code_items b m c.deref-2.result.now d.virtual_methods.items most c.in_ok-virtuals.virtuals c.deref-2.ensures.value (c.in_ok-virtuals.ensures.read pools)) in
+    let values = any_values value_items b r m (length d.static_fields.items) most c.in_ok-values.values
+    (values_here value_items b r m c.len-fields.result (length d.static_fields.items) most c.in_ok-values.values (c.len-fields.ensures ∙ c.args.declared.now.static_fields.ok.0) (c.in_ok-values.ensures.read r (sym row.static_values_are) pools)) in
+    direct_heavy b r m d is most (any_directory b r m d most c.in_ok-found.found (c.in_ok-found.ensures.read r (sym row.annotations_are) pools is))
+    (none_kept (AreHeavyCodes b d.direct_methods.items most) (λ (v : Vec (Option NumberedItem) × ℕ). AreCodesOf b m d.direct_methods.items most v.0.items) c.in_ok-direct.direct c.in-None-direct.is direct) virtual values
 
 pub returns-in-None-virtuals-clause-read : goal.returns-in-None-virtuals-clause-read
 returns-in-None-virtuals-clause-read c = λ r row pools is.
@@ -69,12 +75,12 @@ returns-in-None-virtuals-clause-read c = λ r row pools is.
     let m = c.args.pools.now in
     let d = c.args.declared.now in
     let most = c.args.most in
-    let direct = any_codes code_items b m d.direct_methods.items most c.in-Ok-read_codes.codes (codes_here code_items b m c.deref.result.now d.direct_methods.items most c.in-Ok-read_codes.codes c.deref.ensures.value (c.in-Ok-read_codes.ensures.read pools)) in
-    let virtual = codes_here code_items b m c.deref-2.result.now d.virtual_methods.items most c.in-Ok-read_codes-2.codes c.deref-2.ensures.value (c.in-Ok-read_codes-2.ensures.read pools) in
-    let values = any_values value_items b r m (length d.static_fields.items) most c.in-Ok-read_static_values.values
-    (values_here value_items b r m c.len-fields.result (length d.static_fields.items) most c.in-Ok-read_static_values.values (c.len-fields.ensures ∙ c.args.declared.now.static_fields.ok.0) (c.in-Ok-read_static_values.ensures.read r (sym row.static_values_are) pools)) in
-    virtual_heavy b r m d is most (any_directory b r m d most c.in-Ok.found (c.in-Ok.ensures.read r (sym row.annotations_are) pools is)) direct
-    (none_kept (AreHeavyCodes b d.virtual_methods.items most) (λ (v : Vec (Option NumberedItem) × ℕ). AreCodesOf b m d.virtual_methods.items most v.0.items) c.in-Ok-read_codes-2.codes c.in-None-virtuals.is virtual) values
+    let direct = any_codes code_items b m d.direct_methods.items most c.in_ok-direct.direct (codes_here code_items b m c.deref.result.now d.direct_methods.items most c.in_ok-direct.direct c.deref.ensures.value (c.in_ok-direct.ensures.read pools)) in
+    let virtual = codes_here code_items b m c.deref-2.result.now d.virtual_methods.items most c.in_ok-virtuals.virtuals c.deref-2.ensures.value (c.in_ok-virtuals.ensures.read pools) in
+    let values = any_values value_items b r m (length d.static_fields.items) most c.in_ok-values.values
+    (values_here value_items b r m c.len-fields.result (length d.static_fields.items) most c.in_ok-values.values (c.len-fields.ensures ∙ c.args.declared.now.static_fields.ok.0) (c.in_ok-values.ensures.read r (sym row.static_values_are) pools)) in
+    virtual_heavy b r m d is most (any_directory b r m d most c.in_ok-found.found (c.in_ok-found.ensures.read r (sym row.annotations_are) pools is)) direct
+    (none_kept (AreHeavyCodes b d.virtual_methods.items most) (λ (v : Vec (Option NumberedItem) × ℕ). AreCodesOf b m d.virtual_methods.items most v.0.items) c.in_ok-virtuals.virtuals c.in-None-virtuals.is virtual) values
 
 pub returns-clause-read : goal.returns-clause-read
 returns-clause-read c = λ r row pools is.
@@ -82,8 +88,8 @@ returns-clause-read c = λ r row pools is.
     let m = c.args.pools.now in
     let d = c.args.declared.now in
     let most = c.args.most in
-    let direct = any_codes code_items b m d.direct_methods.items most c.in-Ok-read_codes.codes (codes_here code_items b m c.deref.result.now d.direct_methods.items most c.in-Ok-read_codes.codes c.deref.ensures.value (c.in-Ok-read_codes.ensures.read pools)) in
-    let virtual = any_codes code_items b m d.virtual_methods.items most c.in-Ok-read_codes-2.codes (codes_here code_items b m c.deref-2.result.now d.virtual_methods.items most c.in-Ok-read_codes-2.codes c.deref-2.ensures.value (c.in-Ok-read_codes-2.ensures.read pools)) in
-    let values = values_here value_items b r m c.len-fields.result (length d.static_fields.items) most c.in-Ok-read_static_values.values (c.len-fields.ensures ∙ c.args.declared.now.static_fields.ok.0) (c.in-Ok-read_static_values.ensures.read r (sym row.static_values_are) pools) in
-    values_heavy b r m d is most (any_directory b r m d most c.in-Ok.found (c.in-Ok.ensures.read r (sym row.annotations_are) pools is)) direct virtual
-    (none_kept (AreHeavyValues b r (length d.static_fields.items) most) (λ (v : Vec ValueRead). AreValuesOf b r m (length d.static_fields.items) most (values_of_list (map value_of v.items))) c.in-Ok-read_static_values.values c.in-None-values.is values)
+    let direct = any_codes code_items b m d.direct_methods.items most c.in_ok-direct.direct (codes_here code_items b m c.deref.result.now d.direct_methods.items most c.in_ok-direct.direct c.deref.ensures.value (c.in_ok-direct.ensures.read pools)) in
+    let virtual = any_codes code_items b m d.virtual_methods.items most c.in_ok-virtuals.virtuals (codes_here code_items b m c.deref-2.result.now d.virtual_methods.items most c.in_ok-virtuals.virtuals c.deref-2.ensures.value (c.in_ok-virtuals.ensures.read pools)) in
+    let values = values_here value_items b r m c.len-fields.result (length d.static_fields.items) most c.in_ok-values.values (c.len-fields.ensures ∙ c.args.declared.now.static_fields.ok.0) (c.in_ok-values.ensures.read r (sym row.static_values_are) pools) in
+    values_heavy b r m d is most (any_directory b r m d most c.in_ok-found.found (c.in_ok-found.ensures.read r (sym row.annotations_are) pools is)) direct virtual
+    (none_kept (AreHeavyValues b r (length d.static_fields.items) most) (λ (v : Vec ValueRead). AreValuesOf b r m (length d.static_fields.items) most (values_of_list (map value_of v.items))) c.in_ok-values.values c.in-None-values.is values)

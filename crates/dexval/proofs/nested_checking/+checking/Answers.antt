@@ -15,72 +15,72 @@ value_measure-returns-then-depth-eq0-clause-checked t c = λ p. no_deep_array c.
 pub value_measure-returns-then-depth-eq0-2-clause-checked : goal.value_measure-returns-then-depth-eq0-2-clause-checked
 value_measure-returns-then-depth-eq0-2-clause-checked t c = λ p. no_deep_annotation c.args.bytes.now c.args.at c.args.depth c.args.pools.now p.pools c.in-29.is c.if-depth-eq0-2.true
 
-pub value_measure-returns-in-Some-clause-checked : goal.value_measure-returns-in-Some-clause-checked
-value_measure-returns-in-Some-clause-checked t c = λ p. array_checked c.args.bytes.now c.args.at c.args.pools.now c.args.depth p.pools c.in-Some.field-0-0 c.in-Some.values.size c.in-Some.values.weight (omega arith) c.in-28.is c.if-depth-eq0.false (c.in-Some.ensures.checked p)
+pub value_measure-returns-in_ok-values-in-28-clause-checked : goal.value_measure-returns-in_ok-values-in-28-clause-checked
+value_measure-returns-in_ok-values-in-28-clause-checked t c = λ p. array_checked c.args.bytes.now c.args.at c.args.pools.now c.args.depth p.pools c.in_ok-values-in-28.field-0-0 c.in_ok-values-in-28.values.size c.in_ok-values-in-28.values.weight (omega arith) c.in-28.is c.if-depth-eq0.false (c.in_ok-values-in-28.ensures.checked p)
 
-pub value_measure-returns-in-None-clause-checked : goal.value_measure-returns-in-None-clause-checked
-value_measure-returns-in-None-clause-checked t c = λ p. no_array c.args.bytes.now c.args.at c.args.depth c.args.pools.now p.pools c.in-28.is (c.in-None.ensures.checked p)
+pub value_measure-returns-in_err-values-in-28-clause-checked : goal.value_measure-returns-in_err-values-in-28-clause-checked
+value_measure-returns-in_err-values-in-28-clause-checked t c = rw c.from_residual.ensures (λ p. no_array c.args.bytes.now c.args.at c.args.depth c.args.pools.now p.pools c.in-28.is (c.in_err-values-in-28.ensures.checked p))
 
-pub value_measure-returns-in-Some-annotation_measure-clause-checked : goal.value_measure-returns-in-Some-annotation_measure-clause-checked
-value_measure-returns-in-Some-annotation_measure-clause-checked t c = λ p. annotation_checked c.args.bytes.now c.args.at c.args.pools.now c.args.depth p.pools c.in-Some-annotation_measure.field-0-0 c.in-Some-annotation_measure.annotation.size c.in-Some-annotation_measure.annotation.weight (omega arith) c.in-29.is c.if-depth-eq0-2.false (c.in-Some-annotation_measure.ensures.checked p)
+pub value_measure-returns-in_ok-annotation-in-29-clause-checked : goal.value_measure-returns-in_ok-annotation-in-29-clause-checked
+value_measure-returns-in_ok-annotation-in-29-clause-checked t c = λ p. annotation_checked c.args.bytes.now c.args.at c.args.pools.now c.args.depth p.pools c.in_ok-annotation-in-29.field-0-0 c.in_ok-annotation-in-29.annotation.size c.in_ok-annotation-in-29.annotation.weight (omega arith) c.in-29.is c.if-depth-eq0-2.false (c.in_ok-annotation-in-29.ensures.checked p)
 
-pub value_measure-returns-in-None-annotation_measure-clause-checked : goal.value_measure-returns-in-None-annotation_measure-clause-checked
-value_measure-returns-in-None-annotation_measure-clause-checked t c = λ p. no_annotation c.args.bytes.now c.args.at c.args.depth c.args.pools.now p.pools c.in-29.is (c.in-None-annotation_measure.ensures.checked p)
+pub value_measure-returns-in_err-annotation-in-29-clause-checked : goal.value_measure-returns-in_err-annotation-in-29-clause-checked
+value_measure-returns-in_err-annotation-in-29-clause-checked t c = rw c.from_residual-in_err-annotation-in-29.ensures (λ p. no_annotation c.args.bytes.now c.args.at c.args.depth c.args.pools.now p.pools c.in-29.is (c.in_err-annotation-in-29.ensures.checked p))
 
 pub value_measure-returns-in_default-clause-checked : goal.value_measure-returns-in_default-clause-checked
 value_measure-returns-in_default-clause-checked t c = λ p. c.scalar_measure.ensures.checked p.pools c.args.depth
 
-pub array_measure-returns-in-None-clause-checked : goal.array_measure-returns-in-None-clause-checked
-array_measure-returns-in-None-clause-checked t c = λ p. no_count c.args.bytes.now c.args.pools.now c.args.at c.args.depth c.in-None.ensures.found
+pub array_measure-returns-in_err-count-clause-checked : goal.array_measure-returns-in_err-count-clause-checked
+array_measure-returns-in_err-count-clause-checked t c = rw c.from_residual.ensures (λ p. no_count c.args.bytes.now c.args.pools.now c.args.at c.args.depth c.in_err-count.ensures.found)
 
-pub array_measure-returns-in-None-value_measure-clause-checked : goal.array_measure-returns-in-None-value_measure-clause-checked
-array_measure-returns-in-None-value_measure-clause-checked t c = λ p.
-    no_value_next c.args.bytes.now c.args.pools.now c.args.at c.args.depth c.in-Some.read.0 c.in-Some.read.1 c.loop-i._i c.loop-i.size c.loop-i.weight c.in-Some.ensures.found c.loop-i-test.true (c.loop-i.invariant.checked p) (c.in-None-value_measure.ensures.checked p)
+pub array_measure-returns-in_err-value-clause-checked : goal.array_measure-returns-in_err-value-clause-checked
+array_measure-returns-in_err-value-clause-checked t c = rw c.from_residual-in_err-value.ensures (λ p.
+    no_value_next c.args.bytes.now c.args.pools.now c.args.at c.args.depth c.in_ok-count.count c.in_ok-count.head c.loop-i._i c.loop-i.size c.loop-i.weight c.in_ok-count.ensures.found c.loop-i-test.true (c.loop-i.invariant.checked p) (c.in_err-value.ensures.checked p))
 
 pub array_measure-loop-i-init : goal.array_measure-loop-i-init
 array_measure-loop-i-init t c = record {
-  within = omega (arith, c.in-Some.ensures.within);
+  within = omega (arith, c.in_ok-count.ensures.within);
   light = omega arith;
-  checked = λ p. no_value_yet c.args.bytes.now c.args.pools.now (c.args.at + c.in-Some.read.1) c.args.depth c.in-Some.read.0;
+  checked = λ p. no_value_yet c.args.bytes.now c.args.pools.now (c.args.at + c.in_ok-count.head) c.args.depth c.in_ok-count.count;
 }
 
 pub array_measure-loop-i-preserved : goal.array_measure-loop-i-preserved
 array_measure-loop-i-preserved t c =
-    let r = c.in-Some-value_measure in
+    let r = c.in_ok-value in
     record {
       within = omega (arith, r.ensures.within);
       light = omega (arith, r.ensures.light, c.loop-i.invariant.light);
-      checked = λ p. one_value_checked c.args.bytes.now c.args.pools.now (c.args.at + c.in-Some.read.1) c.args.depth c.in-Some.read.0 c.loop-i._i c.loop-i.size c.loop-i.weight r.value.size r.value.weight c.loop-i-test.true (c.loop-i.invariant.checked p) (r.ensures.checked p);
+      checked = λ p. one_value_checked c.args.bytes.now c.args.pools.now (c.args.at + c.in_ok-count.head) c.args.depth c.in_ok-count.count c.loop-i._i c.loop-i.size c.loop-i.weight r.value.size r.value.weight c.loop-i-test.true (c.loop-i.invariant.checked p) (r.ensures.checked p);
     }
 
 pub array_measure-returns-clause-checked : goal.array_measure-returns-clause-checked
-array_measure-returns-clause-checked t c = λ p. values_checked c.args.bytes.now c.args.pools.now c.args.at c.args.depth c.in-Some.read.0 c.in-Some.read.1 c.loop-i._i c.loop-i.size c.loop-i.weight c.in-Some.ensures.found (omega arith) (c.loop-i.invariant.checked p)
+array_measure-returns-clause-checked t c = λ p. values_checked c.args.bytes.now c.args.pools.now c.args.at c.args.depth c.in_ok-count.count c.in_ok-count.head c.loop-i._i c.loop-i.size c.loop-i.weight c.in_ok-count.ensures.found (omega arith) (c.loop-i.invariant.checked p)
 
-pub element_measure-returns-in-None-clause-checked : goal.element_measure-returns-in-None-clause-checked
-element_measure-returns-in-None-clause-checked t c = λ p. no_name c.args.bytes.now c.args.pools.now p c.args.at c.args.depth c.args.least c.in-None.ensures.found
+pub element_measure-returns-in_err-name-clause-checked : goal.element_measure-returns-in_err-name-clause-checked
+element_measure-returns-in_err-name-clause-checked t c = rw c.from_residual.ensures (λ p. no_name c.args.bytes.now c.args.pools.now p c.args.at c.args.depth c.args.least c.in_err-name.ensures.found)
 
 pub element_measure-returns-then-from-least-clause-checked : goal.element_measure-returns-then-from-least-clause-checked
 element_measure-returns-then-from-least-clause-checked t c = λ p.
-    no_such_name c.args.bytes.now c.args.pools.now p c.args.at c.args.depth c.args.least c.in-Some.read.0 c.in-Some.read.1 c.in-Some.ensures.found
+    no_such_name c.args.bytes.now c.args.pools.now p c.args.at c.args.depth c.args.least c.in_ok-name.name c.in_ok-name.head c.in_ok-name.ensures.found
     (λ above known.
     elim c.then-from-least.branch [
       | element_measure-then-from-least-via-then-from-least w ↦ absurd (omega (arith, above, c.from.ensures, w.if-from-least.true))
       | element_measure-then-from-least-via-else-from-least+then-name-len w ↦ absurd (omega (arith, known, w.len.ensures, w.if-name-len.true))
     ])
 
-pub element_measure-returns-in-None-value_measure-clause-checked : goal.element_measure-returns-in-None-value_measure-clause-checked
-element_measure-returns-in-None-value_measure-clause-checked t c = λ p.
-    no_value c.args.bytes.now c.args.pools.now p c.args.at c.args.depth c.args.least c.in-Some.read.0 c.in-Some.read.1 c.in-Some.ensures.found (c.in-None-value_measure.ensures.checked p)
+pub element_measure-returns-in_err-value-clause-checked : goal.element_measure-returns-in_err-value-clause-checked
+element_measure-returns-in_err-value-clause-checked t c = rw c.from_residual-in_err-value.ensures (λ p.
+    no_value c.args.bytes.now c.args.pools.now p c.args.at c.args.depth c.args.least c.in_ok-name.name c.in_ok-name.head c.in_ok-name.ensures.found (c.in_err-value.ensures.checked p))
 
-pub element_measure-returns-in-Some-value_measure-clause-checked : goal.element_measure-returns-in-Some-value_measure-clause-checked
-element_measure-returns-in-Some-value_measure-clause-checked t c = λ p.
-    let r = c.in-Some-value_measure.ensures.checked p in
+pub element_measure-returns-clause-checked : goal.element_measure-returns-clause-checked
+element_measure-returns-clause-checked t c = λ p.
+    let r = c.in_ok-value.ensures.checked p in
     record {
       value = r.value;
       read = record {
-        head = c.in-Some.read.1;
-        size = c.in-Some-value_measure.value.size;
-        index = c.in-Some.ensures.found;
+        head = c.in_ok-name.head;
+        size = c.in_ok-value.value.size;
+        index = c.in_ok-name.ensures.found;
         name_known = omega (arith, c.len.ensures, c.if-name-len.false);
         above = omega (arith, c.from.ensures, c.if-from-least.false);
         value = r.read;
@@ -97,13 +97,13 @@ elements_measure-loop-i-init t c = record {
   checked = λ p. no_element_yet c.args.bytes.now c.args.pools.now p c.args.at c.args.depth c.args.count;
 }
 
-pub elements_measure-returns-in-None-clause-checked : goal.elements_measure-returns-in-None-clause-checked
-elements_measure-returns-in-None-clause-checked t c = λ p.
-    no_element_next c.args.bytes.now c.args.pools.now p c.args.at c.args.depth c.args.count c.loop-i._i c.loop-i.least c.loop-i.size c.loop-i.weight c.loop-i-test.true (c.loop-i.invariant.checked p) (c.in-None.ensures.checked p)
+pub elements_measure-returns-in_err-name-clause-checked : goal.elements_measure-returns-in_err-name-clause-checked
+elements_measure-returns-in_err-name-clause-checked t c = rw c.from_residual.ensures (λ p.
+    no_element_next c.args.bytes.now c.args.pools.now p c.args.at c.args.depth c.args.count c.loop-i._i c.loop-i.least c.loop-i.size c.loop-i.weight c.loop-i-test.true (c.loop-i.invariant.checked p) (c.in_err-name.ensures.checked p))
 
 pub elements_measure-loop-i-preserved : goal.elements_measure-loop-i-preserved
 elements_measure-loop-i-preserved t c =
-    let r = c.in-Some in
+    let r = c.in_ok-name in
     let named : r.name ≡ c.from-least.result = omega (arith, c.from-least.ensures) in
     record {
       within = omega (arith, r.ensures.within);
@@ -117,21 +117,21 @@ elements_measure-loop-i-preserved t c =
 pub elements_measure-returns-clause-checked : goal.elements_measure-returns-clause-checked
 elements_measure-returns-clause-checked t c = λ p. elements_checked c.args.bytes.now c.args.pools.now p c.args.at c.args.depth c.args.count c.loop-i._i c.loop-i.least c.loop-i.size c.loop-i.weight (omega arith) (c.loop-i.invariant.checked p)
 
-pub annotation_measure-returns-in-None-clause-checked : goal.annotation_measure-returns-in-None-clause-checked
-annotation_measure-returns-in-None-clause-checked t c = λ p. no_type c.args.bytes.now c.args.pools.now p c.args.at c.args.depth c.in-None.ensures.found
+pub annotation_measure-returns-in_err-typ-clause-checked : goal.annotation_measure-returns-in_err-typ-clause-checked
+annotation_measure-returns-in_err-typ-clause-checked t c = rw c.from_residual.ensures (λ p. no_type c.args.bytes.now c.args.pools.now p c.args.at c.args.depth c.in_err-typ.ensures.found)
 
 pub annotation_measure-returns-then-typ-len-clause-checked : goal.annotation_measure-returns-then-typ-len-clause-checked
 annotation_measure-returns-then-typ-len-clause-checked t c = λ p.
-    no_such_type c.args.bytes.now c.args.pools.now p c.args.at c.args.depth c.in-Some.read.0 c.in-Some.read.1 c.in-Some.ensures.found (λ known. absurd (omega (arith, known, c.len.ensures)))
+    no_such_type c.args.bytes.now c.args.pools.now p c.args.at c.args.depth c.in_ok-typ.typ c.in_ok-typ.first c.in_ok-typ.ensures.found (λ known. absurd (omega (arith, known, c.len.ensures)))
 
-pub annotation_measure-returns-in-None-number_at-clause-checked : goal.annotation_measure-returns-in-None-number_at-clause-checked
-annotation_measure-returns-in-None-number_at-clause-checked t c = λ p.
-    no_element_count c.args.bytes.now c.args.pools.now p c.args.at c.args.depth c.in-Some.read.0 c.in-Some.read.1 c.in-Some.ensures.found c.in-None-number_at.ensures.found
+pub annotation_measure-returns-in_err-count-clause-checked : goal.annotation_measure-returns-in_err-count-clause-checked
+annotation_measure-returns-in_err-count-clause-checked t c = rw c.from_residual-in_err-count.ensures (λ p.
+    no_element_count c.args.bytes.now c.args.pools.now p c.args.at c.args.depth c.in_ok-typ.typ c.in_ok-typ.first c.in_ok-typ.ensures.found c.in_err-count.ensures.found)
 
-pub annotation_measure-returns-in-None-elements_measure-clause-checked : goal.annotation_measure-returns-in-None-elements_measure-clause-checked
-annotation_measure-returns-in-None-elements_measure-clause-checked t c = λ p.
-    no_elements c.args.bytes.now c.args.pools.now p c.args.at c.args.depth c.in-Some.read.0 c.in-Some.read.1 c.in-Some-number_at.read.0 c.in-Some-number_at.read.1 c.in-Some.ensures.found c.in-Some-number_at.ensures.found (c.in-None-elements_measure.ensures.checked p)
+pub annotation_measure-returns-in_err-elements-clause-checked : goal.annotation_measure-returns-in_err-elements-clause-checked
+annotation_measure-returns-in_err-elements-clause-checked t c = rw c.from_residual-in_err-elements.ensures (λ p.
+    no_elements c.args.bytes.now c.args.pools.now p c.args.at c.args.depth c.in_ok-typ.typ c.in_ok-typ.first c.in_ok-count.count c.in_ok-count.second c.in_ok-typ.ensures.found c.in_ok-count.ensures.found (c.in_err-elements.ensures.checked p))
 
-pub annotation_measure-returns-in-Some-elements_measure-clause-checked : goal.annotation_measure-returns-in-Some-elements_measure-clause-checked
-annotation_measure-returns-in-Some-elements_measure-clause-checked t c = λ p.
-    annotation_of_elements c.args.bytes.now c.args.pools.now p c.args.at c.args.depth c.in-Some.read.0 c.in-Some.read.1 c.in-Some-number_at.read.0 c.in-Some-number_at.read.1 c.in-Some-elements_measure.elements.size c.in-Some-elements_measure.elements.weight c.in-Some.ensures.found (omega (arith, c.len.ensures)) c.in-Some-number_at.ensures.found (c.in-Some-elements_measure.ensures.checked p)
+pub annotation_measure-returns-clause-checked : goal.annotation_measure-returns-clause-checked
+annotation_measure-returns-clause-checked t c = λ p.
+    annotation_of_elements c.args.bytes.now c.args.pools.now p c.args.at c.args.depth c.in_ok-typ.typ c.in_ok-typ.first c.in_ok-count.count c.in_ok-count.second c.in_ok-elements.elements.size c.in_ok-elements.elements.weight c.in_ok-typ.ensures.found (omega (arith, c.len.ensures)) c.in_ok-count.ensures.found (c.in_ok-elements.ensures.checked p)

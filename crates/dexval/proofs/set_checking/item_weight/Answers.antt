@@ -13,16 +13,16 @@ returns-then-bytes-at-gt-MOST_VISIBILITY-clause-checked c = λ p.
     let b = c.bytes-bytes.result.now in
     subst (λ (b : List ℕ). NoItemAt b c.args.off) c.bytes-bytes.ensures.bytes (no_visibility b c.args.off c.args.pools.now (slice_index b c.args.off) refl (omega arith))
 
-pub returns-in-Some-clause-checked : goal.returns-in-Some-clause-checked
-returns-in-Some-clause-checked c = λ p.
+pub returns-clause-checked : goal.returns-clause-checked
+returns-clause-checked c = λ p.
     let e = c.bytes-bytes.ensures.bytes in
     let b = c.bytes-bytes.result.now in
     let q = subst (λ (b : List ℕ). HasPools b c.args.pools.now) (sym e) p in
-    subst (λ (b : List ℕ). HasItem b c.args.off c.args.pools.now c.in-Some.typ c.in-Some.annotation.weight) e
-    (item_checked b c.args.off c.args.pools.now (slice_index b c.args.off) c.in-Some.typ c.in-Some.annotation.size c.in-Some.annotation.weight (omega (arith, ap data_off e)) (omega arith) refl (omega arith) (c.in-Some.ensures.checked q))
+    subst (λ (b : List ℕ). HasItem b c.args.off c.args.pools.now c.in_ok-typ.typ c.in_ok-typ.annotation.weight) e
+    (item_checked b c.args.off c.args.pools.now (slice_index b c.args.off) c.in_ok-typ.typ c.in_ok-typ.annotation.size c.in_ok-typ.annotation.weight (omega (arith, ap data_off e)) (omega arith) refl (omega arith) (c.in_ok-typ.ensures.checked q))
 
-pub returns-in-None-clause-checked : goal.returns-in-None-clause-checked
-returns-in-None-clause-checked c = λ p.
+pub returns-in_err-typ-clause-checked : goal.returns-in_err-typ-clause-checked
+returns-in_err-typ-clause-checked c = rw c.from_residual.ensures (λ p.
     let e = c.bytes-bytes.ensures.bytes in
     let q = subst (λ (b : List ℕ). HasPools b c.args.pools.now) (sym e) p in
-    subst (λ (b : List ℕ). NoItemAt b c.args.off) e (no_item c.bytes-bytes.result.now c.args.off c.args.pools.now (c.in-None.ensures.checked q))
+    subst (λ (b : List ℕ). NoItemAt b c.args.off) e (no_item c.bytes-bytes.result.now c.args.off c.args.pools.now (c.in_err-typ.ensures.checked q)))

@@ -6,8 +6,8 @@ use Rattle.dexval.proofs.SetsChecked.{SetChecked, none_checked, one_checked, no_
 use Rattle.dexval.proofs.SetsRead.{no_room}
 use Rattle.dexval.proofs.set_checking.set_shape.Goals as goal
 
-pub returns-in-None : goal.returns-in-None
-returns-in-None c = λ p. no_room c.args.frame.now c.args.off c.in-None.ensures
+pub returns-in_err-count : goal.returns-in_err-count
+returns-in_err-count c = rw c.from_residual.ensures (λ p. no_room c.args.frame.now c.args.off c.in_err-count.ensures)
 
 pub loop-i-init : goal.loop-i-init
 loop-i-init c = record {
@@ -16,38 +16,38 @@ loop-i-init c = record {
   checked = λ p. none_checked c.args.frame.now c.args.pools.now p (c.args.off + 4) (uint_at c.args.frame.now c.args.off);
 }
 
-pub returns-in-None-item_weight : goal.returns-in-None-item_weight
-returns-in-None-item_weight c = λ p.
+pub returns-in_err-typ : goal.returns-in_err-typ
+returns-in_err-typ c = rw c.from_residual-in_err-typ.ensures (λ p.
     let b = c.args.frame.now in
     let place : c.u32_at-place.result ≡ uint_at b (c.args.off + 4 + 4 * c.loop-i.i) = c.u32_at-place.ensures ∙ ap (λ (x : List ℕ). uint_at x (c.args.off + 4 + 4 * c.loop-i.i)) c.bytes-bytes.ensures.bytes in
-    no_item_next b c.args.pools.now p c.args.off c.loop-i.i c.loop-i.least c.loop-i.weight (omega (arith, c.in-Some.ensures.1)) (c.loop-i.invariant.checked p) (subst (NoItemAt b) place (c.in-None-item_weight.ensures.checked p))
+    no_item_next b c.args.pools.now p c.args.off c.loop-i.i c.loop-i.least c.loop-i.weight (omega (arith, c.in_ok-count.ensures.1)) (c.loop-i.invariant.checked p) (subst (NoItemAt b) place (c.in_err-typ.ensures.checked p)))
 
 pub returns-then-from-least : goal.returns-then-from-least
 returns-then-from-least c = λ p.
     let b = c.args.frame.now in
-    let read = c.in-Some-item_weight.item in
+    let read = c.in_ok-typ in
     let place : c.u32_at-place.result ≡ uint_at b (c.args.off + 4 + 4 * c.loop-i.i) = c.u32_at-place.ensures ∙ ap (λ (x : List ℕ). uint_at x (c.args.off + 4 + 4 * c.loop-i.i)) c.bytes-bytes.ensures.bytes in
-    no_item_order b c.args.pools.now p c.args.off c.loop-i.i c.loop-i.least c.loop-i.weight read.0 read.1 (omega (arith, c.in-Some.ensures.1)) (c.loop-i.invariant.checked p) (subst (λ (x : ℕ). HasItem b x c.args.pools.now read.0 read.1) place (c.in-Some-item_weight.ensures.checked p)) (omega (arith, c.from.ensures))
+    no_item_order b c.args.pools.now p c.args.off c.loop-i.i c.loop-i.least c.loop-i.weight read.typ read.item (omega (arith, c.in_ok-count.ensures.1)) (c.loop-i.invariant.checked p) (subst (λ (x : ℕ). HasItem b x c.args.pools.now read.typ read.item) place (c.in_ok-typ.ensures.checked p)) (omega (arith, c.from.ensures))
 
 pub loop-i-preserved : goal.loop-i-preserved
 loop-i-preserved c =
     let b = c.args.frame.now in
     let m = c.args.pools.now in
     let i = c.loop-i.i in
-    let read = c.in-Some-item_weight.item in
-    let typ : read.0 ≡ c.from-least.result = omega (arith, c.from-least.ensures) in
+    let read = c.in_ok-typ in
+    let typ : read.typ ≡ c.from-least.result = omega (arith, c.from-least.ensures) in
     let place : c.u32_at-place.result ≡ uint_at b (c.args.off + 4 + 4 * i) = c.u32_at-place.ensures ∙ ap (λ (x : List ℕ). uint_at x (c.args.off + 4 + 4 * i)) c.bytes-bytes.ensures.bytes in
     record {
       least_fits = omega (arith, c.from-least.ensures);
-      light = omega (arith, c.loop-i.invariant.light, c.in-Some-item_weight.ensures.light);
+      light = omega (arith, c.loop-i.invariant.light, c.in_ok-typ.ensures.light);
       checked = λ p.
-          subst (λ (x : ℕ). SetChecked b (c.args.off + 4) m (uint_at b c.args.off) (i + 1) (x + 1) (c.loop-i.weight + (4 + read.1))) typ
-          (one_checked b m p (c.args.off + 4) (uint_at b c.args.off) i c.loop-i.least c.loop-i.weight read.0 read.1 (omega (arith, c.in-Some.ensures.1)) (omega (arith, c.from.ensures)) (c.loop-i.invariant.checked p)
-          (subst (λ (x : ℕ). HasItem b x m read.0 read.1) place (c.in-Some-item_weight.ensures.checked p)));
+          subst (λ (x : ℕ). SetChecked b (c.args.off + 4) m (uint_at b c.args.off) (i + 1) (x + 1) (c.loop-i.weight + (4 + read.item))) typ
+          (one_checked b m p (c.args.off + 4) (uint_at b c.args.off) i c.loop-i.least c.loop-i.weight read.typ read.item (omega (arith, c.in_ok-count.ensures.1)) (omega (arith, c.from.ensures)) (c.loop-i.invariant.checked p)
+          (subst (λ (x : ℕ). HasItem b x m read.typ read.item) place (c.in_ok-typ.ensures.checked p)));
     }
 
 pub returns-then-count-eq0 : goal.returns-then-count-eq0
-returns-then-count-eq0 c = λ p. empty_set_checked c.args.frame.now c.args.pools.now p c.args.off c.loop-i.i c.loop-i.least c.loop-i.weight c.in-Some.count c.in-Some.ensures.0 (omega (arith, c.in-Some.ensures.1)) (omega arith) (omega arith) (c.loop-i.invariant.checked p)
+returns-then-count-eq0 c = λ p. empty_set_checked c.args.frame.now c.args.pools.now p c.args.off c.loop-i.i c.loop-i.least c.loop-i.weight c.in_ok-count.count c.in_ok-count.ensures.0 (omega (arith, c.in_ok-count.ensures.1)) (omega arith) (omega arith) (c.loop-i.invariant.checked p)
 
 pub returns : goal.returns
-returns c = λ p. some_set_checked c.args.frame.now c.args.pools.now p c.args.off c.loop-i.i c.loop-i.least c.loop-i.weight c.in-Some.count c.in-Some.ensures.0 (omega (arith, c.in-Some.ensures.1)) (omega arith) (omega arith) (c.loop-i.invariant.checked p)
+returns c = λ p. some_set_checked c.args.frame.now c.args.pools.now p c.args.off c.loop-i.i c.loop-i.least c.loop-i.weight c.in_ok-count.count c.in_ok-count.ensures.0 (omega (arith, c.in_ok-count.ensures.1)) (omega arith) (omega arith) (c.loop-i.invariant.checked p)

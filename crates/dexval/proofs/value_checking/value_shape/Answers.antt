@@ -7,16 +7,16 @@ use Rattle.dexval.proofs.FileRead.{file_pools, no_value}
 use Rattle.dexval.proofs.FileChecked.{value_checked}
 use Rattle.dexval.proofs.value_checking.value_shape.Goals as goal
 
-pub returns-in-Some : goal.returns-in-Some
-returns-in-Some c = λ pools.
+pub returns : goal.returns
+returns c = λ pools.
     let e = c.bytes.ensures.bytes in
     let q = subst (λ (b : List ℕ). ArePools b c.args.pools.now) (sym e) pools in
-    let h = c.in-Some.ensures.checked (file_pools c.bytes.result.now c.args.pools.now c.numbering.result.now c.numbering.ensures c.is_numbering.ensures q) in
-    value_checked c.args.frame.now c.args.off c.args.pools.now c.in-Some.value.size c.in-Some.value.weight (omega arith) (subst (λ (b : List ℕ). HasValue b c.args.off c.args.pools.now most_depth c.in-Some.value.size c.in-Some.value.weight) e h)
+    let h = c.in_ok-value.ensures.checked (file_pools c.bytes.result.now c.args.pools.now c.numbering.result.now c.numbering.ensures c.is_numbering.ensures q) in
+    value_checked c.args.frame.now c.args.off c.args.pools.now c.in_ok-value.value.size c.in_ok-value.value.weight (omega arith) (subst (λ (b : List ℕ). HasValue b c.args.off c.args.pools.now most_depth c.in_ok-value.value.size c.in_ok-value.value.weight) e h)
 
-pub returns-in-None : goal.returns-in-None
-returns-in-None c = λ pools.
+pub returns-in_err-value : goal.returns-in_err-value
+returns-in_err-value c = rw c.from_residual.ensures (λ pools.
     let e = c.bytes.ensures.bytes in
     let q = subst (λ (b : List ℕ). ArePools b c.args.pools.now) (sym e) pools in
-    let none = c.in-None.ensures.checked (file_pools c.bytes.result.now c.args.pools.now c.numbering.result.now c.numbering.ensures c.is_numbering.ensures q) in
-    no_value c.args.frame.now c.args.off (subst (λ (b : List ℕ). NoValueAt b c.args.off most_depth) e none)
+    let none = c.in_err-value.ensures.checked (file_pools c.bytes.result.now c.args.pools.now c.numbering.result.now c.numbering.ensures c.is_numbering.ensures q) in
+    no_value c.args.frame.now c.args.off (subst (λ (b : List ℕ). NoValueAt b c.args.off most_depth) e none))

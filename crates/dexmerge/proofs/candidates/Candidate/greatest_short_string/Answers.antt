@@ -6,17 +6,17 @@ use Rattle.dexmerge.proofs.FarTexts.{none_named}
 use Rattle.dexmerge.proofs.Counting.{image_decides}
 use Rattle.dexmerge.proofs.candidates.Candidate.greatest_short_string.Goals as goal
 
-pub returns-in-None : goal.returns-in-None
-returns-in-None c = λ cap.
+pub returns-in_err-greatest : goal.returns-in_err-greatest
+returns-in_err-greatest c = rw c.from_residual.ensures (λ cap.
     let r = c.args.self.now.remap.now in
     let x = c.args.self.now.class.now in
-    let none : IsGreatest (members_short_strings x.members) None = ap members_short_strings (sym c.members.ensures) ∙ c.in-None.ensures in
-    none_named r x c.requires cap none
+    let none : IsGreatest (members_short_strings x.members) None = ap members_short_strings (sym c.members.ensures) ∙ c.in_err-greatest.ensures in
+    none_named r x c.requires cap none)
 
 pub returns : goal.returns
 returns c =
     let r = c.args.self.now.remap.now in
     let x = c.args.self.now.class.now in
-    let g = c.in-Some.greatest in
-    let is : IsGreatest (members_short_strings x.members) (Some g) = subst (λ (y : NumberedMembers). IsGreatest (members_short_strings y) (Some g)) c.members.ensures c.in-Some.ensures in
+    let g = c.in_ok-greatest.greatest in
+    let is : IsGreatest (members_short_strings x.members) (Some g) = subst (λ (y : NumberedMembers). IsGreatest (members_short_strings y) (Some g)) c.members.ensures c.in_ok-greatest.ensures in
     image_decides r x c.requires g c.image.result c.keeps_order.ensures is (sym c.image.ensures)

@@ -1,7 +1,7 @@
 -- The code of methods, method by method.
 use Rattle.std.proofs.Common.{◌≡◌, ℕ, ◌+◌, ◌<◌, List, ◌∷◌, ◌++◌, length, get_or, map, take, drop, Option, Some, None, ap, sym, ◌∙◌, arith, append_assoc}
 use Rattle.std.specs.Option.{option_map, option_map_or}
-use Rattle.std.proofs.lemmas.List.{drop_more, length-append, length-drop, get_or-map, get_or_default, length-map, map-append}
+use Rattle.std.proofs.lemmas.List.{drop_more, get_or-map, get_or_default, length-map, map-append}
 use Rattle.dexspec.specs.Lists.{present, zip_with}
 use Rattle.dexspec.proofs.sharing.Sharing.{present-append}
 use Rattle.dexspec.specs.Code.{Code}
@@ -72,10 +72,6 @@ codes_split m xs ys offs own others front back = codes_append m xs ys offs ∙ (
 module _ (cs : List NumberedClass) (r : ℕ) (c : NumberedClass) (x : NumberedMembers) (lt : r < length cs) (is : c ≡ get_or cs r c) (members : x ≡ c.members) where
   next_class : class_methods (drop r cs) ≡ methods_of x ++ class_methods (drop (r + 1) cs)
   next_class = ap class_methods (drop_more cs r c lt ∙ ap (λ y. y ∷ drop (r + 1) cs) (sym is)) ∙ ap (λ z. methods_of z ++ class_methods (drop (r + 1) cs)) (sym members)
-
-  -- as many offsets are left as methods
-  pub class_rest : (n : ℕ) (rest others : List ℕ) → n ≡ length (methods_of x) → others ≡ drop n rest → length rest ≡ length (class_methods (drop r cs)) → length others ≡ length (class_methods (drop (r + 1) cs))
-  class_rest n rest others count back same = omega (arith, ap (λ (os : List ℕ). length os) back, length-drop n rest, same, ap (λ (zs : List NumberedMethod). length zs) next_class, length-append (methods_of x) (class_methods (drop (r + 1) cs)), count)
 
   -- the direct ones come first
   pub direct_first : (ds vs : List NumberedMethod) → ds ≡ x.direct_methods → vs ≡ x.virtual_methods → class_methods (drop r cs) ≡ ds ++ (vs ++ class_methods (drop (r + 1) cs))

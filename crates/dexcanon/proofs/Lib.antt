@@ -1,9 +1,6 @@
 pub mod Aligned
-pub mod AnnotationItems
 pub mod Buffered
-pub mod ClassUses
 pub mod CodeItems
-pub mod Counted
 pub mod Digested
 pub mod DirectoryItems
 pub mod DirectorySections
@@ -11,7 +8,6 @@ pub mod ItemLengths
 pub mod JoinedSums
 pub mod OwnUses
 pub mod Pieces
-pub mod Plainly
 pub mod RefListSections
 pub mod RefLists
 pub mod Rows

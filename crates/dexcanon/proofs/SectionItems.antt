@@ -1,17 +1,16 @@
 -- The items of each section, of a file that is laid out.
 use Rattle.std.proofs.Common.{◌≡◌, ℕ, ◌≤◌, ◌^◌, List, [], ◌∷◌, ◌++◌, length, map, refl, sym, ap, subst, ◌∙◌, arith}
 use Rattle.std.proofs.lemmas.List.{length-map, map-append}
-use Rattle.std.proofs.lemmas.Simd.{map-map}
 use Rattle.std.proofs.lemmas.List.Elements.{All-nil, All-cons}
 use Rattle.dexspec.specs.Lists.{present, zip_with}
 use Rattle.dexspec.specs.Mentions.{Mentions}
 use Rattle.dexspec.specs.Classes.{MethodDef}
-use Rattle.dexspec.specs.Placing.{Ordered, Placed, all_methods, values_unless_empty, code_uses, debug_uses, EqualOnce, offsets, end_from, bytes_from, section_bytes, end, uses_offsets, class_data_uses}
+use Rattle.dexspec.specs.Placing.{Ordered, Placed, all_methods, code_uses, debug_uses, EqualOnce, offsets, end_from, bytes_from, section_bytes, end, uses_offsets}
 use Rattle.dexspec.specs.Sameness.{same_debug}
 use Rattle.dexspec.specs.Texts.{string_data}
-use Rattle.dexspec.specs.Canonical.{data_start, debug_section, class_data_section, set_section, ref_list_section, data_sections, type_list_section, annotation_section, array_section, string_section, code_section, directory_section, type_list_items}
-use Rattle.dexspec.specs.Spellings.{encoded_array_bytes, type_list_bytes, class_data_bytes}
-use Rattle.dexspec.proofs.layout.Placements.{length-uses_offsets, length-items_offsets, length-zip_with}
+use Rattle.dexspec.specs.Canonical.{data_start, debug_section, class_data_section, set_section, ref_list_section, data_sections, type_list_section, string_section, code_section, directory_section, type_list_items}
+use Rattle.dexspec.specs.Spellings.{type_list_bytes}
+use Rattle.dexspec.proofs.layout.Placements.{length-items_offsets}
 use Rattle.dexmembers.specs.Numbered.{method_in, methods_of}
 use Rattle.dexclass.specs.Numbered.{NumberedClass, definition_of}
 use Rattle.dexlayout.specs.Places.{Places, ItemPlaces}
@@ -20,7 +19,6 @@ use Rattle.dexlayout.proofs.Ends.{end_in_file}
 use Rattle.dexcanon.specs.internal.Output.{AreWithin, FitFrom}
 use Rattle.dexcanon.specs.internal.Ready.{IsReady}
 use Rattle.dexcanon.specs.Codes.{class_methods, method_codes, code_use, code_item}
-use Rattle.dexcanon.specs.ClassItems.{values_use}
 
 -- ---- no item is longer than the limit
 
@@ -45,22 +43,12 @@ module _ {m : Mentions} {cs : List NumberedClass} {p : Places} {limit : ℕ} (h 
   unfolding type_list_section
   type_lists_within = data_within.0
 
-  pub annotations_within : AreWithin limit (annotation_section (ordered_of m cs)).items
-  annotations_within = data_within.1.0
-
-  pub arrays_within : AreWithin limit (array_section (ordered_of m cs)).items
-  arrays_within = data_within.1.1.0
-
   pub strings_within : AreWithin limit (map string_data m.texts)
   unfolding string_section
   strings_within = data_within.1.1.1.0
 
   pub codes_within : AreWithin limit (code_section (ordered_of m cs)).items
   codes_within = data_within.1.1.1.1.1.0
-
-  pub class_data_within : AreWithin limit (map (λ p. class_data_bytes m p.0 p.1) (present (class_data_uses (ordered_of m cs) (uses_offsets (code_section (ordered_of m cs))))))
-  unfolding class_data_section
-  class_data_within = data_within.1.1.1.1.1.1.0
 
   pub sets_within : AreWithin limit (set_section (ordered_of m cs)).items
   sets_within = data_within.1.1.1.1.1.1.1.0
@@ -88,24 +76,12 @@ count_methods m cs = ap (λ (xs : List MethodDef). length xs) (methods_are m cs)
 pub codes_are : (m : Mentions) (cs : List NumberedClass) (offs : List ℕ) → method_codes m (class_methods cs) offs ≡ map (code_item m) (present (code_uses (ordered_of m cs) offs))
 codes_are m cs offs = ap (λ xs. map (code_item m) (present (zip_with code_use xs offs))) (sym (methods_are m cs))
 
--- the static values of the classes
-pub values_are : (m : Mentions) (cs : List NumberedClass) → map (encoded_array_bytes m) (present (map (values_use m) cs)) ≡ (array_section (ordered_of m cs)).items
-unfolding array_section
-values_are m cs = ap (λ us. map (encoded_array_bytes m) (present us)) (sym (map-map (λ d. values_unless_empty d.1.static_values) (definition_of m) cs))
-
 -- an offset for each method
 pub count_debug_offsets : (m : Mentions) (cs : List NumberedClass) → length (uses_offsets (debug_section (ordered_of m cs))) ≡ length (class_methods cs)
 unfolding debug_section
 count_debug_offsets m cs =
     let K = ordered_of m cs in
     length-items_offsets EqualOnce same_debug (debug_uses K) (offsets (debug_section K)) ∙ length-map (all_methods K.classes) _ ∙ count_methods m cs
-
-pub count_code_offsets : (m : Mentions) (cs : List NumberedClass) → length (uses_offsets (code_section (ordered_of m cs))) ≡ length (class_methods cs)
-unfolding code_section
-count_code_offsets m cs =
-    let K = ordered_of m cs in
-    length-uses_offsets (code_uses K (uses_offsets (debug_section K))) (offsets (code_section K))
-    ∙ length-zip_with _ (all_methods K.classes) (uses_offsets (debug_section K)) (length (class_methods cs)) (count_methods m cs) (count_debug_offsets m cs)
 
 -- ---- aligned sections end within the file
 

@@ -3,6 +3,7 @@ use Rattle.std.proofs.Common.{◌≡◌, ℕ, suc, ◌+◌, ◌<◌, ◌≤◌, 
 use Rattle.std.specs.Prelude.{All}
 use Rattle.std.proofs.lemmas.List.{length-map, get_or-map, drop_all}
 use Rattle.dexspec.specs.Bytes.{round_up}
+use Rattle.dexspec.specs.Annotations.{AnnotationSet}
 use Rattle.dexspec.specs.Mentions.{Mentions}
 use Rattle.dexspec.specs.Spellings.{annotation_bytes, offsets_bytes}
 use Rattle.dexspec.proofs.layout.SectionPlaces.{get_or-zip_with}
@@ -14,7 +15,6 @@ use Rattle.dexval.specs.Spelled.{numbered_offsets}
 use Rattle.dexval.proofs.Spelling.{annotation_lengths_are}
 use Rattle.dexcanon.specs.Sets.{IsFitSet, offsets_of_set, offsets_of_sets}
 use Rattle.dexcanon.proofs.Aligned.{next_mapped}
-use Rattle.dexcanon.proofs.AnnotationItems.{sets_in}
 
 -- ---- one set
 
@@ -31,6 +31,10 @@ offsets_are m first (a ∷ s) rising known =
     ap (λ (l : List ℕ). round_up 1 first ∷ l) (ap (λ (n : ℕ). numbered_offsets (round_up 1 first + n) s) size ∙ rest)
 
 -- ---- sets that are mapped by a function
+
+-- the sets of symbols that the results of a function denote
+abbrev pub sets_in : {X : Type 0} → Mentions → (X → NumberedSet) → List X → List AnnotationSet
+sets_in m now xs = map (set_in m) (map now xs)
 
 module _ {X : Type 0} (now : X → NumberedSet) (m : Mentions) (firsts : List ℕ) (xs : List X) where
   -- the offsets of all

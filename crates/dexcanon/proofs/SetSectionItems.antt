@@ -37,17 +37,6 @@ module _ {m : Mentions} {cs : List NumberedClass} {p : Places} {limit : ℕ} (h 
   pub sets_are : map (set_in m) ss ≡ (set_items (ordered_of m cs)).written
   sets_are = ap (map (set_in m)) e ∙ h.laid.annotations_are.written_are
 
-  pub annotation_items_are : map (annotation_bytes m) (flat_map (λ set. set) (map (set_in m) ss)) ≡ (annotation_section (ordered_of m cs)).items
-  unfolding annotation_section
-  annotation_items_are = ap (λ ts. map (annotation_bytes m) (flat_map (λ (set : AnnotationSet). set) ts)) sets_are
-
-  -- they have fewer than 2 ^ 32 bytes
-  pub annotations_short : length (flat_map (annotation_bytes m) (flat_map (λ set. set) (map (set_in m) ss))) < 2 ^ 32
-  annotations_short =
-      let K = ordered_of m cs in
-      let ends = plain_end (annotation_bytes m) (end (type_list_section K)) (flat_map (λ (set : AnnotationSet). set) (map (set_in m) ss)) in
-      omega (arith, ends, ap (λ (xs : List (List ℕ)). end_from 1 (end (type_list_section K)) xs) annotation_items_are, annotations_fit K h.writable.fits)
-
 -- ---- where annotations begin
 
 -- of joined lists

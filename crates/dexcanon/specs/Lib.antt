@@ -1,4 +1,3 @@
-pub mod ClassItems
 pub mod Codes
 pub mod Digests
 pub mod Directories
@@ -6,6 +5,5 @@ pub mod Sets
 pub mod Sums
 pub mod Took
 pub mod TypeLists
-pub mod ValueItems
 pub mod Written
 pub mod internal

@@ -42,8 +42,8 @@ impl<'a> ClassPlaces<'a> {
         ClassPlaces {
             interfaces,
             annotations: layout.directories().offsets(),
-            class_data: layout.class_data().offsets(),
-            static_values: layout.static_values().offsets(),
+            class_data: layout.class_data().places().offsets(),
+            static_values: layout.static_values().places().offsets(),
         }
     }
 }

@@ -1,7 +1,7 @@
 //! The canonical file of a program.
 //!
-//! Public contracts use the definitions of `specs/ClassItems`, `specs/Codes`, `specs/Digests`, `specs/Directories`,
-//! `specs/Sets`, `specs/Sums`, `specs/Took`, `specs/TypeLists`, `specs/ValueItems` and `specs/Written`.
+//! Public contracts use the definitions of `specs/Codes`, `specs/Digests`, `specs/Directories`, `specs/Sets`,
+//! `specs/Sums`, `specs/Took`, `specs/TypeLists` and `specs/Written`.
 //!
 //! Source: the Android page "Dalvik Executable format"; the order of the sections and of their contents is this
 //! project's rule.
@@ -29,7 +29,6 @@ mod strings;
 mod tables;
 mod targets;
 mod type_lists;
-mod value_items;
 mod writing;
 
 pub use dexlayout::Layout;

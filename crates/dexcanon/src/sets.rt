@@ -50,7 +50,7 @@ pub(crate) fn put_sets<T: Target>(contents: &Contents<'_, '_, '_, '_>, out: &mut
     let places = contents.layout.annotations();
     let written = places.written();
     let firsts = places.places().offsets();
-    let mut at = contents.layout.class_data().end();
+    let mut at = contents.layout.class_data().places().end();
     for (i, set) in written.iter().enumerate() {
         let item = SetItem {
             numbering,

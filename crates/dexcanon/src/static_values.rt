@@ -8,7 +8,6 @@ ghost use Rattle.dexcanon.specs.internal.Adding.{AddsSection};
 
 use crate::contents::Contents;
 use crate::output::{Out, Target};
-use crate::value_items::StaticValues;
 
 /// The arrays of static values.
 pub(crate) fn put_static_values<T: Target>(contents: &Contents<'_, '_, '_, '_>, out: &mut Out<T>)
@@ -16,13 +15,5 @@ pub(crate) fn put_static_values<T: Target>(contents: &Contents<'_, '_, '_, '_>, 
     ensures { AddsSection T.gives T.gives_prefix T.has_failed contents.now out.old out.new
         array_section }
 {
-    let numbering = contents.numbering;
-    for class in contents.classes {
-        let values = class.members().static_values();
-        if values.is_empty() {
-            continue;
-        }
-        let item = StaticValues { numbering, values };
-        out.put(&item);
-    }
+    out.put_bytes(contents.layout.static_values().bytes());
 }

@@ -1,4 +1,7 @@
+pub mod Counted
+pub mod DataItems
 pub mod EncodedItems
+pub mod EncodedUses
 pub mod Ends
 pub mod OwnCounts
 pub mod OwnFile
@@ -18,3 +21,4 @@ pub mod SharedKinds
 pub mod SharedPlaces
 pub mod SharedSame
 pub mod SharedUses
+pub mod StaticItems

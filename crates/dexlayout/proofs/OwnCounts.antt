@@ -124,11 +124,11 @@ length-annotations m (w ∷ ws) =
 pub record AreCounted (K : Ordered) (d : Data) : Type 0 where
   pub type_lists : length d.first_sections.type_lists.written ≡ length (type_list_section K).items
   pub annotations : length (flat_map (λ set. set) d.first_sections.annotations.written) ≡ length (annotation_section K).items
-  pub arrays : count_placed d.first_sections.static_values.offsets ≡ length (array_section K).items
+  pub arrays : count_placed d.first_sections.static_values.places.offsets ≡ length (array_section K).items
   pub strings : length K.pools.texts ≡ length (string_section K).items
   pub debugs : d.bodies.debugs.count ≡ length (debug_section K).items
   pub codes : count_placed d.bodies.codes.offsets ≡ length (code_section K).items
-  pub class_data : count_placed d.bodies.class_data.offsets ≡ length (class_data_section K).items
+  pub class_data : count_placed d.bodies.class_data.places.offsets ≡ length (class_data_section K).items
   pub sets : length d.first_sections.annotations.written ≡ length (set_section K).items
   pub ref_lists : count_placed d.back.ref_lists.offsets ≡ length (ref_list_section K).items
   pub directories : count_placed d.back.directories.offsets ≡ length (directory_section K).items
@@ -142,11 +142,11 @@ counted m cs {d} h =
       type_lists = sym (length-map d.first_sections.type_lists.written (map (type_at m))) ∙ ap (λ xs. length xs) h.first_sections_are.type_lists_are.written_are ∙ sym (length-map (type_list_items K).written (type_list_bytes m));
       annotations = sym (length-annotations m d.first_sections.annotations.written) ∙ ap (λ (xs : List AnnotationSet). length (flat_map (λ (set : AnnotationSet). set) xs)) h.first_sections_are.annotations_are.written_are
           ∙ sym (length-map (flat_map (λ (set : AnnotationSet). set) items) (annotation_bytes m));
-      arrays = ap count_placed h.first_sections_are.static_values_are.offsets_are ∙ array_count K;
+      arrays = ap count_placed h.first_sections_are.static_values_are.places_are.offsets_are ∙ array_count K;
       strings = sym (length-map m.texts string_data);
       debugs = h.bodies_are.debugs_are.count_is;
       codes = ap count_placed h.bodies_are.codes_are.offsets_are ∙ code_count K;
-      class_data = ap count_placed h.bodies_are.class_data_are.offsets_are ∙ class_data_count K;
+      class_data = ap count_placed h.bodies_are.class_data_are.places_are.offsets_are ∙ class_data_count K;
       sets = sym (length-map d.first_sections.annotations.written (set_in m)) ∙ ap (λ (xs : List AnnotationSet). length xs) h.first_sections_are.annotations_are.written_are ∙ sym (set_count K);
       ref_lists = ap count_placed h.back_are.ref_lists_are.offsets_are ∙ ref_list_count K;
       directories = ap count_placed h.back_are.directories_are.offsets_are ∙ directory_count K;

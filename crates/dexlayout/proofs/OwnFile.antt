@@ -19,7 +19,7 @@ use Rattle.dexpool.specs.Numberings.{IsNumbering}
 use Rattle.dexclass.specs.Numbered.{NumberedClass}
 use Rattle.dexclass.specs.Programs.{AreClassesOf}
 use Rattle.dexlayout.specs.Places.{TypeListPlaces, AnnotationPlaces, DebugPlaces, SetPlaces, Places}
-use Rattle.dexlayout.specs.Laid.{ordered_of, file_end, AreWritable, greatest_of, greatest_item, first_offsets, AreLaidSo, AreTypeLists, AreAnnotations, AreDebugs, AreSets, IsLaid}
+use Rattle.dexlayout.specs.Laid.{ordered_of, file_end, AreWritable, greatest_of, greatest_item, first_offsets, AreLaidSo, AreEncodedIn, AreTypeLists, AreAnnotations, AreDebugs, AreSets, IsLaid}
 use Rattle.dexlayout.specs.internal.Parts.{entry_of, table_parts, section_parts}
 use Rattle.dexlayout.proofs.Ends.{map_start_is}
 use Rattle.dexlayout.proofs.OwnParts.{map_parts}
@@ -84,6 +84,7 @@ module _ (m : Mentions) (cs ds : List NumberedClass) (e : ordered_of m cs ≡ or
   annotations_same {p} h = record {
     written_are = h.written_are ∙ ap (λ (K : Ordered). (set_items K).written) e;
     known = h.known;
+    bytes_are = h.bytes_are ∙ ap (λ (K : Ordered). section_bytes (annotation_section K)) e;
     places_are = subst (λ (K : Ordered). AreLaidSo (first_offsets m (end (type_list_section K)) (set_items K).written) (end (annotation_section K)) (annotation_section K).items p.places) e h.places_are;
   }
 
@@ -110,11 +111,11 @@ module _ (m : Mentions) (cs ds : List NumberedClass) (e : ordered_of m cs ≡ or
     signature_length = h.signature_length;
     type_lists_are = type_lists_same h.type_lists_are;
     annotations_are = annotations_same h.annotations_are;
-    static_values_are = subst (λ (K : Ordered). AreLaidSo (uses_offsets (array_section K)) (end (array_section K)) (array_section K).items p.static_values) e h.static_values_are;
+    static_values_are = subst (λ (K : Ordered). AreEncodedIn (array_section K) p.static_values) e h.static_values_are;
     strings_are = subst (λ (K : Ordered). AreLaidSo (offsets (string_section K)) (end (string_section K)) (string_section K).items p.strings) e h.strings_are;
     debugs_are = debugs_same h.debugs_are;
     codes_are = subst (λ (K : Ordered). AreLaidSo (uses_offsets (code_section K)) (end (code_section K)) (code_section K).items p.codes) e h.codes_are;
-    class_data_are = subst (λ (K : Ordered). AreLaidSo (uses_offsets (class_data_section K)) (end (class_data_section K)) (class_data_section K).items p.class_data) e h.class_data_are;
+    class_data_are = subst (λ (K : Ordered). AreEncodedIn (class_data_section K) p.class_data) e h.class_data_are;
     sets_are = sets_same h.sets_are;
     ref_lists_are = subst (λ (K : Ordered). AreLaidSo (uses_offsets (ref_list_section K)) (end (ref_list_section K)) (ref_list_section K).items p.ref_lists) e h.ref_lists_are;
     directories_are = subst (λ (K : Ordered). AreLaidSo (uses_offsets (directory_section K)) (end (directory_section K)) (directory_section K).items p.directories) e h.directories_are;

@@ -1,12 +1,14 @@
 -- Annotations that are placed set by set have the offsets that the file has.
-use Rattle.std.proofs.Common.{◌≡◌, ℕ, ◌+◌, ◌<◌, ◌≤◌, ◌^◌, max, List, [], ◌∷◌, ◌++◌, length, get_or, map, drop, refl, sym, ap, ◌∙◌, arith, append_assoc, All}
+use Rattle.std.proofs.Common.{◌≡◌, ℕ, ◌+◌, ◌<◌, ◌≤◌, ◌^◌, max, List, [], ◌∷◌, ◌++◌, length, get_or, map, drop, refl, sym, ap, subst, ◌∙◌, arith, append_assoc, All}
 use Rattle.std.specs.List.{flat_map}
-use Rattle.std.proofs.lemmas.List.{append-nil, length-append, map-append, drop_more, drop_all}
+use Rattle.std.proofs.lemmas.Grind.{flat_map-append}
+use Rattle.std.proofs.lemmas.List.Folds.{flat_map-map}
+use Rattle.std.proofs.lemmas.List.{append-nil, length-append, length-map, map-append, get_or-map, drop_more, drop_all}
 use Rattle.std.proofs.lemmas.List.Elements.{All-head, All-tail}
 use Rattle.dexspec.specs.Annotations.{AnnotationSet}
 use Rattle.dexspec.specs.Bytes.{round_up}
 use Rattle.dexspec.specs.Mentions.{Mentions}
-use Rattle.dexspec.specs.Placing.{end_from, end}
+use Rattle.dexspec.specs.Placing.{end_from, end, bytes_from, section_bytes}
 use Rattle.dexspec.specs.Canonical.{set_items, type_list_section, annotation_section}
 use Rattle.dexspec.specs.Spellings.{annotation_bytes}
 use Rattle.dexspec.proofs.layout.Places.{end_append}
@@ -18,7 +20,8 @@ use Rattle.dexclass.specs.Numbered.{NumberedClass}
 use Rattle.dexlayout.specs.Places.{ItemPlaces}
 use Rattle.dexlayout.specs.Laid.{ordered_of, greatest_of, first_offsets, AreLaidSo, AreWritable}
 use Rattle.dexlayout.specs.internal.Running.{none_from}
-use Rattle.dexlayout.specs.internal.Annotated.{annotation_lens, begin_set, lengthen, lengthen_all, place_set, place_sets}
+use Rattle.dexlayout.specs.internal.Annotated.{set_annotations, annotation_lens, begin_set, lengthen, lengthen_all, place_set, place_sets}
+use Rattle.dexlayout.proofs.EncodedItems.{bytes_plain}
 use Rattle.dexlayout.proofs.Ends.{end_in_file}
 
 -- ---- step by step
@@ -36,6 +39,10 @@ sets_grow p (s ∷ ss) = omega (arith, lengthen_grows (place_set p []) (annotati
 pub lens_after : {X : Type 0} (g : X → NumberedAnnotation) (xs : List X) → map (λ x. length (numbered_annotation_bytes (g x))) xs ≡ annotation_lens (map g xs)
 lens_after g [] = refl
 lens_after g (x ∷ xs) = ap (λ l. length (numbered_annotation_bytes (g x)) ∷ l) (lens_after g xs)
+
+-- one of the mapped annotations is known
+pub known_at : {X : Type 0} (m : Mentions) (g : X → NumberedAnnotation) (xs : List X) (i : ℕ) (x : X) → i < length xs → get_or xs i x ≡ x → IsKnownSet m (map g xs) → IsKnownAnnotation m (g x)
+known_at m g xs i x lt is known = subst (IsKnownAnnotation m) (get_or-map g xs i x (g x) lt ∙ ap g is) (known i (g x) (omega (arith, lt, length-map xs g)))
 
 -- the next annotation
 module _ {X : Type 0} (len : X → ℕ) (xs : List X) (i : ℕ) (x : X) (lt : i < length xs) (is : get_or xs i x ≡ x) where
@@ -138,6 +145,21 @@ annotations_encoded m cs ss from w are known is =
       end_is = ap (λ (q : ItemPlaces). q.end) placed ∙ (λ i. end_from 1 (is i) (map (annotation_bytes m) (flat_map (λ (s : AnnotationSet). s) (are i))));
       greatest_is = ap (λ (q : ItemPlaces). q.greatest) placed ∙ omega arith ∙ ap (λ l. greatest_of (map (annotation_bytes m) (flat_map (λ (s : AnnotationSet). s) l))) are;
     }
+
+-- the bytes of the annotations of sets, by numbers and by symbols
+sets_plain : (m : Mentions) (ss : List NumberedSet) → flat_map (set_annotations m) ss ≡ flat_map (annotation_bytes m) (flat_map (λ (s : AnnotationSet). s) (map (set_in m) ss))
+sets_plain m [] = refl
+sets_plain m (s ∷ ss) =
+    (λ i. sym (flat_map-map (annotation_bytes m) (annotation_in m) s) i ++ sets_plain m ss i)
+    ∙ sym (flat_map-append (annotation_bytes m) (set_in m s) (flat_map (λ (t : AnnotationSet). t) (map (set_in m) ss)))
+
+-- those of the sets of a file
+pub annotations_bytes : (m : Mentions) (cs : List NumberedClass) (ss : List NumberedSet) → map (set_in m) ss ≡ (set_items (ordered_of m cs)).written → flat_map (set_annotations m) ss ≡ section_bytes (annotation_section (ordered_of m cs))
+unfolding annotation_section
+annotations_bytes m cs ss are =
+    let from = end (type_list_section (ordered_of m cs)) in
+    sets_plain m ss ∙ sym (bytes_plain (annotation_bytes m) from (flat_map (λ (s : AnnotationSet). s) (map (set_in m) ss)))
+    ∙ ap (λ l. bytes_from 1 from (map (annotation_bytes m) (flat_map (λ (s : AnnotationSet). s) l))) are
 
 -- they end within the file
 pub annotations_fit : (m : Mentions) (cs : List NumberedClass) (ss : List NumberedSet) (from : ℕ) → AreWritable m cs → map (set_in m) ss ≡ (set_items (ordered_of m cs)).written → All (IsKnownSet m) ss

@@ -14,7 +14,7 @@ use Rattle.dexval.specs.Numbered.{set_in, IsKnownSet}
 use Rattle.dexclass.specs.Numbered.{NumberedClass, definition_of, type_at}
 use Rattle.dexclass.specs.Uses.{IsKnownClass}
 use Rattle.dexclass.specs.Programs.{AreClassesOf}
-use Rattle.dexlayout.specs.Places.{ItemPlaces, TypeListPlaces, AnnotationPlaces, DebugPlaces, SetPlaces, Places}
+use Rattle.dexlayout.specs.Places.{ItemPlaces, EncodedItems, TypeListPlaces, AnnotationPlaces, DebugPlaces, SetPlaces, Places}
 
 -- ---- classes that are laid out
 
@@ -62,6 +62,11 @@ pub record AreLaidSo (offsets : List ℕ) (end : ℕ) (items : List (List ℕ)) 
 abbrev pub AreLaidIn : Placed → ItemPlaces → Type 0
 AreLaidIn section = AreLaidSo (uses_offsets section) (end section) section.items
 
+-- encoded items of uses have the bytes, the offsets and the end that they have in this section
+pub record AreEncodedIn (section : Placed) (p : EncodedItems) : Type 0 where
+  pub bytes_are : p.bytes ≡ section_bytes section
+  pub places_are : AreLaidIn section p.places
+
 -- the type lists
 pub record AreTypeLists (m : Mentions) (cs : List NumberedClass) (p : TypeListPlaces) : Type 0 where
   pub written_are : map (map (type_at m)) p.written ≡ (type_list_items (ordered_of m cs)).written
@@ -77,6 +82,7 @@ first_offsets m from (s ∷ ss) = from ∷ first_offsets m (from + length (flat_
 pub record AreAnnotations (m : Mentions) (cs : List NumberedClass) (p : AnnotationPlaces) : Type 0 where
   pub written_are : map (set_in m) p.written ≡ (set_items (ordered_of m cs)).written
   pub known : All (IsKnownSet m) p.written
+  pub bytes_are : p.bytes ≡ section_bytes (annotation_section (ordered_of m cs))
   pub places_are : AreLaidSo (first_offsets m (end (type_list_section (ordered_of m cs))) (set_items (ordered_of m cs)).written) (end (annotation_section (ordered_of m cs))) (annotation_section (ordered_of m cs)).items p.places
 
 -- the debug programs
@@ -95,16 +101,16 @@ pub record AreSets (m : Mentions) (cs : List NumberedClass) (p : SetPlaces) : Ty
   pub greatest_is : p.greatest ≡ greatest_of (set_section (ordered_of m cs)).items
 
 -- the arrays of static values
-abbrev pub AreStaticValues : Mentions → List NumberedClass → ItemPlaces → Type 0
-AreStaticValues m cs = AreLaidIn (array_section (ordered_of m cs))
+abbrev pub AreStaticValues : Mentions → List NumberedClass → EncodedItems → Type 0
+AreStaticValues m cs = AreEncodedIn (array_section (ordered_of m cs))
 
 -- the code
 abbrev pub AreCodes : Mentions → List NumberedClass → ItemPlaces → Type 0
 AreCodes m cs = AreLaidIn (code_section (ordered_of m cs))
 
 -- the class data
-abbrev pub AreClassData : Mentions → List NumberedClass → ItemPlaces → Type 0
-AreClassData m cs = AreLaidIn (class_data_section (ordered_of m cs))
+abbrev pub AreClassData : Mentions → List NumberedClass → EncodedItems → Type 0
+AreClassData m cs = AreEncodedIn (class_data_section (ordered_of m cs))
 
 -- the lists of sets of parameters
 abbrev pub AreRefLists : Mentions → List NumberedClass → ItemPlaces → Type 0

@@ -10,14 +10,20 @@ pub record ItemPlaces : Type 0 where
   pub end : ℕ
   pub greatest : ℕ
 
+-- Items that are encoded: their bytes, and their offsets.
+pub record EncodedItems : Type 0 where
+  pub bytes : List ℕ
+  pub places : ItemPlaces
+
 -- The type lists that are written, by numbers of types, and their offsets: for each proto, and then for each class.
 pub record TypeListPlaces : Type 0 where
   pub written : List (List ℕ)
   pub places : ItemPlaces
 
--- The annotation sets that are written, and for each of them the offset of its first annotation.
+-- The annotation sets that are written, the bytes of their annotations, and for each set the offset of its first one.
 pub record AnnotationPlaces : Type 0 where
   pub written : List NumberedSet
+  pub bytes : List ℕ
   pub places : ItemPlaces
 
 -- The debug programs that are written: their bytes, how many they are, and their offsets: for each method.
@@ -41,11 +47,11 @@ pub record Places : Type 0 where
   pub head : Head
   pub type_lists : TypeListPlaces
   pub annotations : AnnotationPlaces
-  pub static_values : ItemPlaces
+  pub static_values : EncodedItems
   pub strings : ItemPlaces
   pub debugs : DebugPlaces
   pub codes : ItemPlaces
-  pub class_data : ItemPlaces
+  pub class_data : EncodedItems
   pub sets : SetPlaces
   pub ref_lists : ItemPlaces
   pub directories : ItemPlaces

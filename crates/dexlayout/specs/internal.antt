@@ -2,6 +2,7 @@
 pub mod Adding
 pub mod Annotated
 pub mod Directories
+pub mod Encoding
 pub mod Collecting
 pub mod Parts
 pub mod Placing

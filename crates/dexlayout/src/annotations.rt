@@ -1,23 +1,26 @@
-//! The offsets of annotations: those of each annotation set that is written, set by set.
+//! The annotations of each annotation set that is written, set by set.
 
-ghost use Rattle.std.specs.Prelude.{◌≡◌, ◌+◌, ◌<◌, ◌≤◌, ◌^◌, IfOk, OnOk, map};
+ghost use Rattle.std.specs.Prelude.{◌≡◌, ◌+◌, ◌++◌, ◌<◌, ◌≤◌, ◌^◌, IfOk, OnOk, map};
 ghost use Rattle.dexval.specs.Code.{set_of};
-ghost use Rattle.dexlayout.specs.internal.Annotated.{annotation_lens, begin_set, lengthen, place_set, place_sets};
+ghost use Rattle.dexval.specs.Numbered.{IsKnownSet};
+ghost use Rattle.dexlayout.specs.internal.Annotated.{annotation_lens, begin_set, lengthen, place_set, place_sets, set_annotations};
 ghost use Rattle.dexlayout.specs.internal.Running.{none_from};
-ghost use Rattle.dexlayout.specs.internal.Placing.{PlacedAnnotations};
+ghost use Rattle.dexlayout.specs.internal.Placing.{AreKnownSets, PlacedAnnotations};
 
 use crate::offsets::Offsets;
-use dexval::{AnnotationSet, annotation_size};
+use dexpool::Numbering;
+use dexval::{AnnotationSet, put_annotation};
 use std::alloc::{AllocError, Global};
 use std::marker::Model;
 
-/// The annotation sets that are written, equal ones once, in the order of their first use, and the offset of the first
-/// annotation of each.
+/// The annotation sets that are written, equal ones once, in the order of their first use; the bytes of their
+/// annotations, set by set; and the offset of the first annotation of each.
 ///
 /// Source: "annotation_item".
 #[derive(Drop)]
 pub struct Annotations<'p> {
     pub(crate) written: Vec<&'p AnnotationSet>,
+    pub(crate) bytes: Vec<u8>,
     pub(crate) places: Offsets,
 }
 
@@ -32,7 +35,7 @@ impl<'p> Model for Annotations<'p> {
 
     ghost coded = { Prim.hlevel (codes, elements_code) };
 
-    ghost view = { λ l. record { written = map (λ s. set_of s.now) l.written.items; places = l.places } };
+    ghost view = { λ l. record { written = map (λ s. set_of s.now) l.written.items; bytes = l.bytes.items; places = l.places } };
 }
 
 impl<'p> Annotations<'p> {
@@ -41,6 +44,13 @@ impl<'p> Annotations<'p> {
         ensures { map (λ s. set_of s.now) result.now ≡ self.now.written }
     {
         &self.written
+    }
+
+    /// Their annotations, one after the other, set by set.
+    pub fn bytes(&self) -> &[u8]
+        ensures { result.now ≡ self.now.bytes }
+    {
+        &self.bytes
     }
 
     /// The offset of the first annotation of each.
@@ -68,34 +78,55 @@ impl Offsets {
         self.end += len;
         self.greatest = self.greatest.max(len as usize);
     }
-
-    // One set more, with its annotations.
-    fn place_set(&mut self, set: &AnnotationSet) -> Result<(), AllocError>
-        requires { (place_set self.old (annotation_lens (set_of set.now))).end ≤ 2 ^ 30 }
-        ensures { OnOk result (self.new ≡ place_set self.old (annotation_lens (set_of set.now))) }
-    {
-        self.begin_set()?;
-        for annotation in set.annotations() {
-            self.lengthen(annotation_size(annotation) as u32);
-        }
-        Ok(())
-    }
 }
 
-/// The offsets of the annotations of sets, from an offset on, set by set.
+// Encodes the annotations of one set after the others.
+fn put_annotations(
+    numbering: &Numbering<'_>,
+    set: &AnnotationSet,
+    bytes: &mut Vec<u8>,
+    places: &mut Offsets,
+) -> Result<(), AllocError>
+    requires known { IsKnownSet numbering.now (set_of set.now) }
+    requires fits { (place_set places.old (annotation_lens (set_of set.now))).end ≤ 2 ^ 30 }
+    ensures bytes { OnOk result (bytes.new.items
+        ≡ bytes.old.items ++ set_annotations numbering.now (set_of set.now)) }
+    ensures places { OnOk result (places.new
+        ≡ place_set places.old (annotation_lens (set_of set.now))) }
+{
+    numbering.is_numbering();
+    places.begin_set()?;
+    for annotation in set.annotations() {
+        let before = bytes.len();
+        put_annotation(annotation, numbering, bytes)?;
+        let len = (bytes.len() - before) as u32;
+        places.lengthen(len);
+    }
+    Ok(())
+}
+
+/// The annotations of sets, encoded, and their offsets, from an offset on, set by set.
 ///
 /// Condition: they end within what a file may have.
 pub(crate) fn place_annotations<'p>(
     alloc: Global,
+    numbering: &Numbering<'_>,
     written: Vec<&'p AnnotationSet>,
     from: u32,
 ) -> Result<Annotations<'p>, AllocError>
-    requires { (place_sets (none_from from) (map (λ s. set_of s.now) written.items)).end ≤ 2 ^ 30 }
-    ensures { IfOk result (PlacedAnnotations from written.entry.items) }
+    requires known { AreKnownSets numbering.now written.items }
+    requires fits { (place_sets (none_from from) (map (λ s. set_of s.now) written.items)).end
+        ≤ 2 ^ 30 }
+    ensures { IfOk result (PlacedAnnotations numbering.now from written.entry.items) }
 {
+    let mut bytes = Vec::new(alloc);
     let mut places = Offsets::starting_at(alloc, from, written.len())?;
     for set in &written {
-        places.place_set(set)?;
+        put_annotations(numbering, set, &mut bytes, &mut places)?;
     }
-    Ok(Annotations { written, places })
+    Ok(Annotations {
+        written,
+        bytes,
+        places,
+    })
 }

@@ -16,6 +16,7 @@ use crate::class_data::place_class_data;
 use crate::codes::place_codes;
 use crate::debugs::{DebugPrograms, place_debugs};
 use crate::directories::place_directories;
+use crate::items::Items;
 use crate::map_entries::count_placed;
 use crate::offsets::{Offsets, round_up};
 use crate::ref_lists::place_ref_lists;
@@ -55,7 +56,7 @@ impl Drop for Data<'_> {
 pub(crate) struct FirstSections<'p> {
     pub(crate) type_lists: TypeLists<'p>,
     pub(crate) annotations: Annotations<'p>,
-    pub(crate) static_values: Offsets,
+    pub(crate) static_values: Items,
     pub(crate) strings: Offsets,
 }
 
@@ -64,7 +65,7 @@ pub(crate) struct FirstSections<'p> {
 pub(crate) struct Bodies {
     pub(crate) debugs: DebugPrograms,
     pub(crate) codes: Offsets,
-    pub(crate) class_data: Offsets,
+    pub(crate) class_data: Items,
 }
 
 /// The offsets of the items of the last sections: annotation sets, lists of sets, and annotations directories.
@@ -90,9 +91,9 @@ fn place_first_sections<'p>(
     ensures { IfOk result (AreFirstSections numbering.now classes.now) }
 {
     let type_lists = place_type_lists(alloc, numbering, classes, from)?;
-    let annotations = place_annotations(alloc, written, type_lists.places().end())?;
-    let static_values = place_static_values(alloc, classes, annotations.places().end())?;
-    let strings = place_strings(alloc, numbering, static_values.end())?;
+    let annotations = place_annotations(alloc, numbering, written, type_lists.places().end())?;
+    let static_values = place_static_values(alloc, numbering, classes, annotations.places().end())?;
+    let strings = place_strings(alloc, numbering, static_values.places().end())?;
     Ok(FirstSections {
         type_lists,
         annotations,
@@ -182,7 +183,7 @@ pub(crate) fn place_data<'p>(
         classes,
         &first_sections,
         &numbers,
-        bodies.class_data.end(),
+        bodies.class_data.places().end(),
     )?;
     Ok(Data {
         first_sections,
@@ -223,13 +224,13 @@ impl Data<'_> {
             ),
             entry(
                 Section::EncodedArrayItems,
-                count_placed(self.first_sections.static_values.offsets()) as u32,
+                count_placed(self.first_sections.static_values.places().offsets()) as u32,
                 self.first_sections.annotations.places().end(),
             ),
             entry(
                 Section::StringDataItems,
                 numbering.count(SymbolKind::Text) as u32,
-                self.first_sections.static_values.end(),
+                self.first_sections.static_values.places().end(),
             ),
             entry(
                 Section::DebugInfoItems,
@@ -243,13 +244,13 @@ impl Data<'_> {
             ),
             entry(
                 Section::ClassDataItems,
-                count_placed(self.bodies.class_data.offsets()) as u32,
+                count_placed(self.bodies.class_data.places().offsets()) as u32,
                 self.bodies.codes.end(),
             ),
             entry(
                 Section::AnnotationSets,
                 written.len() as u32,
-                round_up(self.bodies.class_data.end()),
+                round_up(self.bodies.class_data.places().end()),
             ),
             entry(
                 Section::AnnotationSetRefLists,
@@ -274,11 +275,11 @@ impl Data<'_> {
             .places()
             .greatest()
             .max(self.first_sections.annotations.places().greatest())
-            .max(self.first_sections.static_values.greatest())
+            .max(self.first_sections.static_values.places().greatest())
             .max(self.first_sections.strings.greatest())
             .max(self.bodies.debugs.places().greatest())
             .max(self.bodies.codes.greatest())
-            .max(self.bodies.class_data.greatest())
+            .max(self.bodies.class_data.places().greatest())
             .max(self.back.sets.greatest())
             .max(self.back.ref_lists.greatest())
             .max(self.back.directories.greatest())

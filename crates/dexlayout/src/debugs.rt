@@ -10,7 +10,7 @@ ghost use Rattle.dexlayout.specs.internal.Adding.{AddsUses, AreKnownMethods, mem
 ghost use Rattle.dexlayout.specs.internal.Placing.{PlacedFrom, HaveDebugs, HaveKnownDebugs, debugs_bytes, debug_places};
 ghost use Rattle.dexlayout.specs.internal.SharedUses.{SharesDebugs, debug_of, debugs_uses};
 
-use crate::encodings::Encoded;
+use crate::items::Items;
 use crate::offsets::Offsets;
 use crate::sharing::{Shared, Sharing, place_shared};
 use dexclass::Class;
@@ -121,10 +121,10 @@ fn encode_written(
     numbering: &Numbering<'_>,
     debugs: &[&Debug],
     from: u32,
-) -> Result<Encoded, AllocError>
+) -> Result<Items, AllocError>
     requires { (debug_places from debugs.now).end ≤ 2 ^ 30 }
-    ensures bytes { IfOk result (λ encoded. encoded.bytes.items ≡ debugs_bytes debugs.now) }
-    ensures places { IfOk result (λ encoded. encoded.places ≡ debug_places from debugs.now) }
+    ensures bytes { IfOk result (λ items. items.bytes ≡ debugs_bytes debugs.now) }
+    ensures places { IfOk result (λ items. items.places ≡ debug_places from debugs.now) }
 {
     let mut bytes = Vec::new(alloc);
     let mut places = Offsets::starting_at(alloc, from, debugs.len())?;
@@ -135,7 +135,7 @@ fn encode_written(
         let len = (bytes.len() - before) as u32;
         places.put_at(off, len)?;
     }
-    Ok(Encoded { bytes, places })
+    Ok(Items { bytes, places })
 }
 
 /// The debug programs, encoded, and their offsets. They are after the texts.
@@ -151,11 +151,11 @@ pub(crate) fn place_debugs(
 {
     let shared = share_debugs(alloc, classes)?;
     let Shared { written, numbers } = shared;
-    let encoded = encode_written(alloc, numbering, &written, from)?;
-    let Encoded {
+    let items = encode_written(alloc, numbering, &written, from)?;
+    let Items {
         bytes,
         places: debugs,
-    } = encoded;
+    } = items;
     let places = place_shared(alloc, &numbers, &debugs)?;
     Ok(DebugPrograms {
         bytes,

@@ -8,6 +8,7 @@ ghost use Rattle.dexlayout.specs.Laid.{IsWritable, IsLayoutOf};
 use crate::annotations::Annotations;
 use crate::data::Data;
 use crate::debugs::DebugPrograms;
+use crate::items::Items;
 use crate::layout_build::build_layout;
 use crate::offsets::Offsets;
 use crate::sets::Sets;
@@ -57,7 +58,7 @@ impl<'p> Model for Layout<'p> {
 
 impl<'p> Layout<'p> {
     /// The layout of a program's canonical file. Time is linear in what is written, memory some 8 bytes for each
-    /// use and item, and the bytes of the debug programs.
+    /// use and item, and the bytes of annotations, static values, debug programs and class data.
     pub fn of(alloc: Global, program: &'p Program<'_>) -> Result<Layout<'p>, AllocError>
         ensures laid { IfOk result (IsLayoutOf program.now) }
         ensures writable { IsWritable program.now }
@@ -93,15 +94,15 @@ impl<'p> Layout<'p> {
         &self.placed.first_sections.type_lists
     }
 
-    /// The annotation sets that are written, and the offset of the first annotation of each.
+    /// The annotation sets that are written, their annotations, encoded, and the offset of the first of each.
     pub fn annotations(&self) -> &Annotations<'p>
         ensures { result.now ≡ self.now.annotations }
     {
         &self.placed.first_sections.annotations
     }
 
-    /// The offset of the static values of each class.
-    pub fn static_values(&self) -> &Offsets
+    /// The static values, encoded, and their offsets: for each class.
+    pub fn static_values(&self) -> &Items
         ensures { result.now ≡ self.now.static_values }
     {
         &self.placed.first_sections.static_values
@@ -128,8 +129,8 @@ impl<'p> Layout<'p> {
         &self.placed.bodies.codes
     }
 
-    /// The offset of the class data of each class.
-    pub fn class_data(&self) -> &Offsets
+    /// The class data, encoded, and their offsets: for each class.
+    pub fn class_data(&self) -> &Items
         ensures { result.now ≡ self.now.class_data }
     {
         &self.placed.bodies.class_data

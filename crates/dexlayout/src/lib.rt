@@ -12,7 +12,7 @@ mod codes;
 mod data;
 mod debugs;
 mod directories;
-mod encodings;
+mod items;
 mod layout;
 mod layout_build;
 mod list_keys;
@@ -29,6 +29,7 @@ mod type_lists;
 
 pub use annotations::Annotations;
 pub use debugs::DebugPrograms;
+pub use items::Items;
 pub use layout::Layout;
 pub use offsets::Offsets;
 pub use sets::Sets;

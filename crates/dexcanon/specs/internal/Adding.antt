@@ -1,15 +1,12 @@
 -- What is added to an output: the parts of a file, and items within a limit.
-use Rattle.std.specs.Prelude.{◌≡◌, ℕ, ◌+◌, ◌≤◌, Bool, ◌==◌, ◌&&◌, List, ◌++◌, None, length, map, vec_len, vec_capacity, slice_index}
+use Rattle.std.specs.Prelude.{◌≡◌, ℕ, ◌+◌, ◌≤◌, Bool, ◌==◌, ◌&&◌, List, ◌++◌, None, length, vec_len, vec_capacity, slice_index}
 use Rattle.std.specs.List.{concat, flat_map}
 use Rattle.dexspec.specs.Lists.{zip_with}
 use Rattle.dexspec.specs.Bytes.{uint, padding}
-use Rattle.dexspec.specs.Mentions.{Mentions}
 use Rattle.dexspec.specs.Placing.{Ordered, Placed, section_bytes, bytes_from, offsets, uses_offsets, end}
 use Rattle.dexspec.specs.Spellings.{text_index}
 use Rattle.dexspec.specs.Canonical.{class_offsets, data_sections, table_bytes, proto_row_bytes, field_row_bytes, method_row_bytes, with_sums, unsigned_file, type_list_section, string_section, directory_section}
 use Rattle.dexhead.specs.Laid.{after_header, map_list}
-use Rattle.dexval.specs.declared.annotation.Annotation.{Annotation as CodeAnnotation}
-use Rattle.dexval.specs.Code.{annotation_of}
 use Rattle.dexmembers.specs.Numbered.{NumberedMethod}
 use Rattle.dexmembers.specs.DirectoryPut.{numbered_directory_bytes}
 use Rattle.dexcanon.specs.declared.class_defs.ClassPlaces.{ClassPlaces}
@@ -17,9 +14,8 @@ use Rattle.dexcanon.specs.declared.contents.Contents.{Contents}
 use Rattle.dexcanon.specs.declared.directories.DirectoryItem.{DirectoryItem}
 use Rattle.dexcanon.specs.declared.output.Out.{Out}
 use Rattle.dexcanon.specs.Directories.{HaveOffsets}
-use Rattle.dexcanon.specs.internal.Annotations.{annotation_item, set_annotations}
 use Rattle.dexcanon.specs.internal.ClassRows.{rows_with, row_offsets}
-use Rattle.dexcanon.specs.internal.Output.{Adds, AreWithin, FitFrom, HasRoom}
+use Rattle.dexcanon.specs.internal.Output.{Adds, FitFrom, HasRoom}
 use Rattle.dexcanon.specs.internal.Ready.{ordered_in}
 use Rattle.dexcanon.specs.internal.RefLists.{parameter_counts, ref_lists}
 
@@ -109,10 +105,6 @@ module _ {T : Type 0} (gives gives_prefix : List ℕ → T → T → Type 0) (ha
   -- bytes, in parts of at most 112
   abbrev pub AddsBytes : Out T → Out T → List ℕ → Type 0
   AddsBytes old new bytes = (limit : ℕ) → 112 ≤ limit → Adds gives gives_prefix has_failed limit old new bytes
-
-  -- the annotations of a set
-  abbrev pub AddsAnnotations : Out T → Out T → Mentions → List CodeAnnotation → Type 0
-  AddsAnnotations old new m annotations = (limit : ℕ) → AreWithin limit (map (annotation_item m) (map annotation_of annotations)) → Adds gives gives_prefix has_failed limit old new (set_annotations m (map annotation_of annotations))
 
   -- items from the offset on, aligned
   abbrev pub AddsFrom : Out T → Out T → ℕ → List (List ℕ) → Type 0

@@ -1,8 +1,19 @@
--- The offsets of annotations, set by set, from the lengths of the annotations.
+-- Annotations, set by set: their bytes, and their offsets by their lengths.
 use Rattle.std.specs.Prelude.{ℕ, ◌+◌, max, List, [], ◌∷◌, ◌++◌, length, map}
-use Rattle.dexval.specs.Numbered.{NumberedSet}
+use Rattle.std.specs.List.{flat_map}
+use Rattle.dexspec.specs.Mentions.{Mentions}
+use Rattle.dexspec.specs.Spellings.{annotation_bytes}
+use Rattle.dexval.specs.Numbered.{NumberedAnnotation, NumberedSet, annotation_in}
 use Rattle.dexval.specs.Spelled.{numbered_annotation_bytes}
 use Rattle.dexlayout.specs.Places.{ItemPlaces}
+
+-- the annotation_item of numbers
+abbrev pub annotation_item : Mentions → NumberedAnnotation → List ℕ
+annotation_item m a = annotation_bytes m (annotation_in m a)
+
+-- the annotation_items of a set
+abbrev pub set_annotations : Mentions → NumberedSet → List ℕ
+set_annotations m s = flat_map (annotation_item m) s
 
 -- how many bytes each annotation of a set has
 abbrev pub annotation_lens : NumberedSet → List ℕ

@@ -21,7 +21,7 @@ use Rattle.dexclass.specs.Numbered.{NumberedClass}
 use Rattle.dexlayout.specs.declared.data.Data.{Data}
 use Rattle.dexlayout.specs.declared.sharing.Shared.{Shared}
 use Rattle.dexlayout.specs.declared.tables.Tables.{Tables}
-use Rattle.dexlayout.specs.Places.{ItemPlaces, AnnotationPlaces, SetPlaces}
+use Rattle.dexlayout.specs.Places.{ItemPlaces, EncodedItems, AnnotationPlaces, SetPlaces}
 use Rattle.dexlayout.specs.Laid.{ordered_of, greatest_in, AreWritable, AreLaidSo, AreAnnotations, AreClassData, AreShared}
 use Rattle.dexlayout.specs.internal.Parts.{AreTables, AreData, entry_of, section_parts}
 use Rattle.dexlayout.specs.internal.Running.{none_from, place_use, place_uses}
@@ -40,7 +40,7 @@ abbrev pub CanPlaceClassData : List NumberedClass → List ℕ → ℕ → Type 
 CanPlaceClassData cs codes from = (m : Mentions) × AreWritable m cs × (codes ≡ uses_offsets (code_section (ordered_of m cs))) × (from ≡ end (code_section (ordered_of m cs)))
 
 -- they are placed so
-abbrev pub PlacedClassData : List NumberedClass → List ℕ → ℕ → ItemPlaces → Type 0
+abbrev pub PlacedClassData : List NumberedClass → List ℕ → ℕ → EncodedItems → Type 0
 PlacedClassData cs codes from p = (m : Mentions) → AreWritable m cs → codes ≡ uses_offsets (code_section (ordered_of m cs)) → from ≡ end (code_section (ordered_of m cs)) → AreClassData m cs p
 
 -- the texts from the offset on
@@ -84,8 +84,8 @@ abbrev pub HaveKnownSets : List NumberedClass → Shared (Bor CodeSet) → Type 
 HaveKnownSets cs shared = (m : Mentions) → AreWritable m cs → AreKnownSets m shared.written.items
 
 -- the annotations of sets from the offset on
-abbrev pub PlacedAnnotations : ℕ → List (Bor CodeSet) → AnnotationPlaces → Type 0
-PlacedAnnotations from sets p = (m : Mentions) (cs : List NumberedClass) → AreWritable m cs → AreWrittenSets m cs sets → AreKnownSets m sets → from ≡ end (type_list_section (ordered_of m cs)) → AreAnnotations m cs p
+abbrev pub PlacedAnnotations : Mentions → ℕ → List (Bor CodeSet) → AnnotationPlaces → Type 0
+PlacedAnnotations m from sets p = (cs : List NumberedClass) → AreWritable m cs → AreWrittenSets m cs sets → AreKnownSets m sets → from ≡ end (type_list_section (ordered_of m cs)) → AreAnnotations m cs p
 
 -- sets from the offset on
 abbrev pub set_places : ℕ → List (Bor CodeSet) → ItemPlaces

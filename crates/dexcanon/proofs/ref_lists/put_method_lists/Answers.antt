@@ -5,7 +5,7 @@ use Rattle.dexcanon.specs.internal.RefLists.{parameter_counts, ref_lists, total}
 use Rattle.std.proofs.lemmas.List.{drop_all}
 use Rattle.dexspec.specs.Placing.{end_from}
 use Rattle.dexcanon.proofs.Aligned.{aligned_all, next_ends}
-use Rattle.dexcanon.proofs.ClassUses.{none_of, some_of}
+use Rattle.dexlayout.proofs.EncodedUses.{none_of, some_of}
 use Rattle.dexcanon.proofs.ItemLengths.{length_offsets}
 use Rattle.dexcanon.proofs.RefLists.{listing_none, listing_more, listing_skip, method_counts, next_list}
 use Rattle.dexcanon.proofs.ref_lists.put_method_lists.Goals as goal

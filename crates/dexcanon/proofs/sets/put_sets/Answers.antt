@@ -7,7 +7,7 @@ use Rattle.dexval.specs.Numbered.{set_in, IsKnownSet}
 use Rattle.dexcanon.specs.Sets.{offsets_of_set}
 use Rattle.dexspec.specs.Placing.{bytes_from, end_from}
 use Rattle.dexspec.specs.Canonical.{set_section}
-use Rattle.dexlayout.specs.Places.{AnnotationPlaces, ItemPlaces}
+use Rattle.dexlayout.specs.Places.{AnnotationPlaces, EncodedItems, ItemPlaces}
 use Rattle.dexlayout.specs.Laid.{ordered_of}
 use Rattle.dexcanon.specs.internal.Output.{AreWithin}
 use Rattle.dexcanon.proofs.Aligned.{aligned_all, aligned_more, aligned_none, next_ends}
@@ -38,7 +38,7 @@ put_aligned-at-requires-clause-fits g c =
     (get_or_default c.offsets-firsts.result.now i first 0 (omega (arith, c.loop-i-test.true, (firsts_count c.requires _ (c.written-written.ensures ∙ ap (λ (p : AnnotationPlaces). p.written) c.annotations-places.ensures) c.offsets-firsts.result.now (c.offsets-firsts.ensures ∙ ap (λ (p : ItemPlaces). p.offsets) (c.places.ensures ∙ ap (λ (p : AnnotationPlaces). p.places) c.annotations-places.ensures)) ∙ length-map c.written-written.result.now (λ s. set_of s.now))))) (subst (All (IsKnownSet c.args.contents.now.numbering.now)) (sym (c.written-written.ensures ∙ ap (λ (p : AnnotationPlaces). p.written) c.annotations-places.ensures)) c.requires.laid.annotations_are.known) (set_rows_small c.requires _ (c.written-written.ensures ∙ ap (λ (p : AnnotationPlaces). p.written) c.annotations-places.ensures) c.offsets-firsts.result.now (c.offsets-firsts.ensures ∙ ap (λ (p : ItemPlaces). p.offsets) (c.places.ensures ∙ ap (λ (p : AnnotationPlaces). p.places) c.annotations-places.ensures)))
 
 pub put_aligned-at-requires-clause-small : goal.put_aligned-at-requires-clause-small
-put_aligned-at-requires-clause-small g c = omega (arith, next_ends c.loop-i.invariant (next g (goal.at.put_aligned-at-requires-clause-small g c).After-index-written-i), subst (λ n. n ≤ 2 ^ 30) (sym (ap (end_from 4 c.end-at.result) (set_items_are c.requires _ (c.written-written.ensures ∙ ap (λ (p : AnnotationPlaces). p.written) c.annotations-places.ensures) c.offsets-firsts.result.now (c.offsets-firsts.ensures ∙ ap (λ (p : ItemPlaces). p.offsets) (c.places.ensures ∙ ap (λ (p : AnnotationPlaces). p.places) c.annotations-places.ensures))) ∙ ap (λ n. end_from 4 n (set_section (ordered_of c.args.contents.now.numbering.now c.args.contents.now.classes.now)).items) (c.end-at.ensures ∙ ap (λ (p : ItemPlaces). p.end) c.class_data.ensures ∙ c.requires.laid.class_data_are.end_is))) (sets_fit (ordered_of c.args.contents.now.numbering.now c.args.contents.now.classes.now) c.requires.writable.fits))
+put_aligned-at-requires-clause-small g c = omega (arith, next_ends c.loop-i.invariant (next g (goal.at.put_aligned-at-requires-clause-small g c).After-index-written-i), subst (λ n. n ≤ 2 ^ 30) (sym (ap (end_from 4 c.end-at.result) (set_items_are c.requires _ (c.written-written.ensures ∙ ap (λ (p : AnnotationPlaces). p.written) c.annotations-places.ensures) c.offsets-firsts.result.now (c.offsets-firsts.ensures ∙ ap (λ (p : ItemPlaces). p.offsets) (c.places.ensures ∙ ap (λ (p : AnnotationPlaces). p.places) c.annotations-places.ensures))) ∙ ap (λ n. end_from 4 n (set_section (ordered_of c.args.contents.now.numbering.now c.args.contents.now.classes.now)).items) (c.end-at.ensures ∙ ap (λ (p : ItemPlaces). p.end) (c.places-2.ensures ∙ ap (λ (d : EncodedItems). d.places) c.class_data.ensures) ∙ c.requires.laid.class_data_are.places_are.end_is))) (sets_fit (ordered_of c.args.contents.now.numbering.now c.args.contents.now.classes.now) c.requires.writable.fits))
 
 pub loop-i-preserved : goal.loop-i-preserved
 loop-i-preserved g c = aligned_more c.loop-i.invariant (next g (goal.at.loop-i-preserved g c).After-index-written-i) c.put_aligned-at.result c.put_aligned-at.ensures.end c.put_aligned-at.ensures.adds
@@ -46,7 +46,7 @@ loop-i-preserved g c = aligned_more c.loop-i.invariant (next g (goal.at.loop-i-p
 pub returns : goal.returns
 unfolding set_section
 returns g c =
-    adds_as (ap (bytes_from 4 c.end-at.result) (set_items_are c.requires _ (c.written-written.ensures ∙ ap (λ (p : AnnotationPlaces). p.written) c.annotations-places.ensures) c.offsets-firsts.result.now (c.offsets-firsts.ensures ∙ ap (λ (p : ItemPlaces). p.offsets) (c.places.ensures ∙ ap (λ (p : AnnotationPlaces). p.places) c.annotations-places.ensures))) ∙ ap (λ n. bytes_from 4 n (set_section (ordered_of c.args.contents.now.numbering.now c.args.contents.now.classes.now)).items) (c.end-at.ensures ∙ ap (λ (p : ItemPlaces). p.end) c.class_data.ensures ∙ c.requires.laid.class_data_are.end_is))
+    adds_as (ap (bytes_from 4 c.end-at.result) (set_items_are c.requires _ (c.written-written.ensures ∙ ap (λ (p : AnnotationPlaces). p.written) c.annotations-places.ensures) c.offsets-firsts.result.now (c.offsets-firsts.ensures ∙ ap (λ (p : ItemPlaces). p.offsets) (c.places.ensures ∙ ap (λ (p : AnnotationPlaces). p.places) c.annotations-places.ensures))) ∙ ap (λ n. bytes_from 4 n (set_section (ordered_of c.args.contents.now.numbering.now c.args.contents.now.classes.now)).items) (c.end-at.ensures ∙ ap (λ (p : ItemPlaces). p.end) (c.places-2.ensures ∙ ap (λ (d : EncodedItems). d.places) c.class_data.ensures) ∙ c.requires.laid.class_data_are.places_are.end_is))
     (aligned_all c.loop-i.invariant (no_set_left (λ s. set_of s.now) c.args.contents.now.numbering.now c.offsets-firsts.result.now c.written-written.result.now c.loop-i.i (firsts_count c.requires _ (c.written-written.ensures ∙ ap (λ (p : AnnotationPlaces). p.written) c.annotations-places.ensures) c.offsets-firsts.result.now (c.offsets-firsts.ensures ∙ ap (λ (p : ItemPlaces). p.offsets) (c.places.ensures ∙ ap (λ (p : AnnotationPlaces). p.places) c.annotations-places.ensures)) ∙ length-map c.written-written.result.now (λ s. set_of s.now)) c.loop-i-test.false))
 
 pub bounds-firsts-i : goal.bounds-firsts-i

@@ -1,4 +1,5 @@
-use Rattle.std.proofs.Common.{◌∙◌}
+use Rattle.std.proofs.Common.{ap, ◌∙◌}
+use Rattle.dexlayout.specs.Places.{ItemPlaces}
 use Rattle.dexlayout.proofs.data.place_data.Goals as goal
 
 pub place_first_sections-requires-clause-written : goal.place_first_sections-requires-clause-written
@@ -16,7 +17,7 @@ place_back-requires-clause-numbers c = c.deref.ensures.value ∙ (c.in_ok-writte
 pub place_back-requires-clause-from : goal.place_back-requires-clause-from
 place_back-requires-clause-from c =
     let bodies = c.in_ok-bodies.ensures c.args.numbering.now c.requires.classes (c.end.ensures ∙ c.in_ok-first_sections.ensures.strings_are.end_is) in
-    c.end-2.ensures ∙ bodies.class_data_are.end_is
+    c.end-2.ensures ∙ ap (λ (q : ItemPlaces). q.end) c.places.ensures ∙ bodies.class_data_are.places_are.end_is
 
 pub returns : goal.returns
 returns c = record {

@@ -1,26 +1,48 @@
-use Rattle.std.proofs.Common.{arith, sym, subst, ◌∙◌}
+use Rattle.std.proofs.Common.{◌+◌, map, drop, arith, sym, subst, ◌∙◌}
 use Rattle.dexspec.specs.Placing.{end, uses_offsets}
 use Rattle.dexspec.specs.Canonical.{array_section}
+use Rattle.dexclass.specs.Uses.{IsKnownClass}
 use Rattle.dexlayout.specs.Laid.{AreLaidSo, ordered_of}
-use Rattle.dexlayout.specs.internal.Sizes.{static_size}
+use Rattle.dexlayout.specs.internal.Encoding.{static_item}
+use Rattle.dexlayout.proofs.EncodedUses.{encoding_none, encoding_fits, encoding_more, encoded_bytes, encoded_places, uses_next, uses_end}
 use Rattle.dexlayout.proofs.Ends.{end_in_file}
-use Rattle.dexlayout.proofs.OwnSizes.{arrays_encoded}
-use Rattle.dexlayout.proofs.OwnSteps.{left_fits, left_none}
+use Rattle.dexlayout.proofs.StaticItems.{arrays_laid, arrays_bytes}
 use Rattle.dexlayout.proofs.static_values.place_static_values.Goals as goal
 
-pub place_array-requires : goal.place_array-requires
-place_array-requires c =
+pub loop-class-init : goal.loop-class-init
+loop-class-init c = encoding_none (map (static_item c.args.numbering.now) c.args.classes.now) c.args.from c.new-bytes.ensures.items c.in_ok-places.ensures
+
+pub put_array-requires-clause-known : goal.put_array-requires-clause-known
+put_array-requires-clause-known c = subst (IsKnownClass c.args.numbering.now) (sym c.class-item.is) (c.requires.classes.known c.loop-class.class-index c.class-item.result c.loop-class-test.true)
+
+pub put_array-requires-clause-fits : goal.put_array-requires-clause-fits
+put_array-requires-clause-fits c =
+    let m = c.args.numbering.now in
     let cs = c.args.classes.now in
+    let i = c.loop-class.class-index in
+    let k = c.class-item.result in
     omega (
       arith,
-      left_fits 1 static_size c.loop-class.places cs c.loop-class.class-index c.class-item.result c.loop-class-test.true (sym c.class-item.is) c.loop-class.invariant,
-      (arrays_encoded c.requires.0 cs c.requires.1 c.args.from c.requires.2).end_is,
-      (end_in_file (ordered_of c.requires.0 cs) c.requires.1.fits).arrays,
+      encoding_fits c.loop-class.invariant (static_item m k) (map (static_item m) (drop (i + 1) cs)) (uses_next (static_item m) cs i k c.loop-class-test.true (sym c.class-item.is)),
+      (arrays_laid m cs c.args.from c.requires.from).end_is,
+      (end_in_file (ordered_of m cs) c.requires.classes.fits).arrays,
     )
 
+pub loop-class-preserved : goal.loop-class-preserved
+loop-class-preserved c =
+    let m = c.args.numbering.now in
+    let cs = c.args.classes.now in
+    let i = c.loop-class.class-index in
+    let k = c.class-item.result in
+    encoding_more c.loop-class.invariant (static_item m k) (map (static_item m) (drop (i + 1) cs)) (uses_next (static_item m) cs i k c.loop-class-test.true (sym c.class-item.is)) c.in_ok-put_array.ensures.bytes c.in_ok-put_array.ensures.places
+
 pub returns : goal.returns
-returns c = λ m w e.
+returns c =
+    let m = c.args.numbering.now in
     let cs = c.args.classes.now in
     let K = ordered_of m cs in
-    let placed = sym (left_none 1 static_size c.loop-class.places cs c.loop-class.class-index c.loop-class-test.false) ∙ c.loop-class.invariant in
-    subst (AreLaidSo (uses_offsets (array_section K)) (end (array_section K)) (array_section K).items) (sym placed) (arrays_encoded m cs w c.args.from e)
+    let none = uses_end (static_item m) cs c.loop-class.class-index c.loop-class-test.false in
+    record {
+      bytes_are = encoded_bytes c.loop-class.invariant none ∙ arrays_bytes m cs;
+      places_are = subst (AreLaidSo (uses_offsets (array_section K)) (end (array_section K)) (array_section K).items) (sym (encoded_places c.loop-class.invariant none)) (arrays_laid m cs c.args.from c.requires.from);
+    }

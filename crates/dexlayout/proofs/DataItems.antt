@@ -1,0 +1,135 @@
+-- The data of classes: by numbers, they are the items of the file.
+use Rattle.std.proofs.Common.{◌≡◌, ℕ, ◌+◌, ◌<◌, List, [], ◌∷◌, length, get_or, map, take, drop, Option, None, Some, Bool, true, false, refl, sym, ap, subst, ◌∙◌, arith}
+use Rattle.std.specs.Prelude.{◌==◌, if◌then◌else◌}
+use Rattle.std.specs.List.{All, flat_map}
+use Rattle.std.specs.Option.{option_map}
+use Rattle.std.proofs.lemmas.List.{length-append, length-map, length-drop, map-append, drop_more}
+use Rattle.std.proofs.lemmas.List.Elements.{All-head, All-tail}
+use Rattle.dexspec.specs.Lists.{zip_with, chunks}
+use Rattle.dexspec.specs.Classes.{MethodDef, Definition, declared_fields, declared_methods}
+use Rattle.dexspec.specs.Mentions.{Mentions}
+use Rattle.dexspec.specs.Spellings.{class_data_bytes}
+use Rattle.dexspec.specs.Placing.{class_data_uses, is_empty_class, end, uses_offsets, section_bytes}
+use Rattle.dexspec.specs.Canonical.{code_section, class_data_section}
+use Rattle.dexpool.specs.Numberings.{AreRising}
+use Rattle.dexpool.proofs.UnionLaws.{ranks_are_numbers}
+use Rattle.dexmembers.specs.Numbered.{NumberedMembers, method_in, field_in, fields_of, methods_of}
+use Rattle.dexmembers.specs.Spelled.{numbered_class_data_bytes}
+use Rattle.dexmembers.proofs.ClassDataSpelled.{class_data_spelled}
+use Rattle.dexclass.specs.Numbered.{NumberedClass, definition_of, type_at}
+use Rattle.dexclass.specs.Uses.{IsKnownClass}
+use Rattle.dexlayout.specs.Laid.{AreWritable, AreLaidSo, ordered_of}
+use Rattle.dexlayout.specs.Places.{ItemPlaces}
+use Rattle.dexlayout.specs.internal.Encoding.{has_no_members, class_data_item, class_data_items, item_bytes, item_len}
+use Rattle.dexlayout.specs.internal.Running.{none_from, place_uses}
+use Rattle.dexlayout.proofs.EncodedUses.{Encoding, own_lens, own_bytes}
+use Rattle.dexlayout.proofs.Owned.{sizes, own_encoded}
+use Rattle.dexlayout.proofs.OwnSizes.{methods_in_all}
+
+-- ---- the data of one class
+
+module _ (c : NumberedClass) (x : NumberedMembers) (offs : List ℕ) (b : Bool) (members : x ≡ c.members) (tested : b ≡ has_no_members x) where
+  item_by : class_data_item c offs ≡ (if◌then◌else◌ {A = Option (List ℕ)} b None (Some (numbered_class_data_bytes c.members offs)))
+  item_by = ap (λ (t : Bool). if◌then◌else◌ {A = Option (List ℕ)} t None (Some (numbered_class_data_bytes c.members offs))) (ap has_no_members (sym members) ∙ sym tested)
+
+  pub data_none : b ≡ true → class_data_item c offs ≡ None
+  data_none is = item_by ∙ ap (λ (t : Bool). if◌then◌else◌ {A = Option (List ℕ)} t None (Some (numbered_class_data_bytes c.members offs))) is
+
+  pub data_some : b ≡ false → class_data_item c offs ≡ Some (numbered_class_data_bytes x offs)
+  data_some is =
+      item_by ∙ ap (λ (t : Bool). if◌then◌else◌ {A = Option (List ℕ)} t None (Some (numbered_class_data_bytes c.members offs))) is
+      ∙ ap (λ (y : NumberedMembers). Some (numbered_class_data_bytes y offs)) (sym members)
+
+-- ---- they are those of the definitions
+
+module _ (m : Mentions) (rising : AreRising m) where
+  abbrev data_of : Definition × List ℕ → List ℕ
+  data_of p = class_data_bytes m p.0 p.1
+
+  abbrev data_use : Definition → List ℕ → Option (Definition × List ℕ)
+  data_use d offs = if is_empty_class d.1 then None else Some (d, offs)
+
+  method_count : (c : NumberedClass) → length (declared_methods (definition_of m c).1) ≡ length (methods_of c.members)
+  method_count c = ap (λ (xs : List MethodDef). length xs) (sym (map-append (method_in m) c.members.direct_methods c.members.virtual_methods)) ∙ length-map (methods_of c.members) (method_in m)
+
+  field_count : (c : NumberedClass) → length (declared_fields (definition_of m c).1) ≡ length (fields_of c.members)
+  field_count c = ap (λ xs. length xs) (sym (map-append (field_in m) c.members.static_fields c.members.instance_fields)) ∙ length-map (fields_of c.members) (field_in m)
+
+  -- by cases on whether there are members
+  either_way : (d : Definition) (offs bytes : List ℕ) (b : Bool) → bytes ≡ data_of (d, offs)
+      → if◌then◌else◌ {A = Option (List ℕ)} b None (Some bytes) ≡ option_map data_of (if◌then◌else◌ {A = Option (Definition × List ℕ)} b None (Some (d, offs)))
+  either_way d offs bytes true e = refl
+  either_way d offs bytes false e = ap Some e
+
+  data_same : (c : NumberedClass) (offs : List ℕ) → IsKnownClass m c → class_data_item c offs ≡ option_map data_of (data_use (definition_of m c) offs)
+  data_same c offs known =
+      let d = definition_of m c in
+      let bytes = class_data_spelled m (ranks_are_numbers m rising) (type_at m c.name) d.1 c.members offs known.members_known known.members_own refl in
+      let none : has_no_members c.members ≡ is_empty_class d.1 =
+      ap (λ n. n + length (methods_of c.members) == 0) (sym (field_count c)) ∙ ap (λ n. length (declared_fields d.1) + n == 0) (sym (method_count c)) in
+      ap (λ (b : Bool). if◌then◌else◌ {A = Option (List ℕ)} b None (Some (numbered_class_data_bytes c.members offs))) none
+      ∙ either_way d offs (numbered_class_data_bytes c.members offs) (is_empty_class d.1) bytes
+
+  datas_same : (cs : List NumberedClass) (offs : List ℕ) → All (IsKnownClass m) cs
+      → class_data_items cs offs ≡ map (option_map data_of) (zip_with data_use (map (definition_of m) cs) (chunks (map (λ d. length (declared_methods d.1)) (map (definition_of m) cs)) offs))
+  datas_same [] offs known = refl
+  datas_same (c ∷ cs) offs known =
+      let n = length (methods_of c.members) in
+      let rest = λ (k : ℕ). map (option_map data_of) (zip_with data_use (map (definition_of m) cs) (chunks (map (λ (d : Definition). length (declared_methods d.1)) (map (definition_of m) cs)) (drop k offs))) in
+      ap (λ us. class_data_item c (take n offs) ∷ us) (datas_same cs (drop n offs) (All-tail (IsKnownClass m) c cs known))
+      ∙ ap (λ u. u ∷ rest n) (data_same c (take n offs) (All-head (IsKnownClass m) c cs known))
+      ∙ ap (λ k. option_map data_of (data_use (definition_of m c) (take k offs)) ∷ rest k) (sym (method_count c))
+
+-- ---- those of a file
+
+module _ (m : Mentions) (cs : List NumberedClass) (w : AreWritable m cs) (offs : List ℕ) (eo : offs ≡ uses_offsets (code_section (ordered_of m cs))) where
+  -- the data of a definition, with the offsets of its code
+  abbrev item : Definition × List ℕ → List ℕ
+  item p = class_data_bytes m p.0 p.1
+
+  items_are : class_data_items cs offs ≡ map (option_map item) (class_data_uses (ordered_of m cs) (uses_offsets (code_section (ordered_of m cs))))
+  items_are = ap (class_data_items cs) eo ∙ datas_same m w.numbering.rising cs (uses_offsets (code_section (ordered_of m cs))) w.known
+
+  -- their offsets
+  pub data_laid : (from : ℕ) → from ≡ end (code_section (ordered_of m cs))
+      → AreLaidSo (uses_offsets (class_data_section (ordered_of m cs))) (end (class_data_section (ordered_of m cs))) (class_data_section (ordered_of m cs)).items (place_uses 1 (none_from from) (map item_len (class_data_items cs offs)))
+  unfolding class_data_section
+  data_laid from e =
+      let K = ordered_of m cs in
+      let uses = class_data_uses K (uses_offsets (code_section K)) in
+      let same : map item_len (class_data_items cs offs) ≡ sizes item uses = ap (map item_len) items_are ∙ own_lens item uses in
+      subst (AreLaidSo (uses_offsets (class_data_section K)) (end (class_data_section K)) (class_data_section K).items)
+      (ap (λ ns. place_uses 1 (none_from (end (code_section K))) ns) (sym same) ∙ ap (λ n. place_uses 1 (none_from n) (map item_len (class_data_items cs offs))) (sym e))
+      (own_encoded item 1 (end (code_section K)) uses)
+
+  -- their bytes
+  pub data_bytes : flat_map item_bytes (class_data_items cs offs) ≡ section_bytes (class_data_section (ordered_of m cs))
+  unfolding class_data_section
+  data_bytes =
+      let K = ordered_of m cs in
+      ap (flat_map item_bytes) items_are ∙ own_bytes item (end (code_section K)) (class_data_uses K (uses_offsets (code_section K)))
+
+-- ---- class by class
+
+-- encoding the data of the classes that are left, with the offsets of code that are left, gives all
+pub record DataLeft (bytes : List ℕ) (places : ItemPlaces) (cs : List NumberedClass) (offs : List ℕ) (all : List (Option (List ℕ))) (from : ℕ) : Type 0 where
+  pub count : length offs ≡ length (methods_in_all cs)
+  pub encoding : Encoding bytes places (class_data_items cs offs) all from
+
+module _ (cs : List NumberedClass) (i : ℕ) (c : NumberedClass) (lt : i < length cs) (is : get_or cs i c ≡ c) (n : ℕ) (count : n ≡ length (methods_of c.members)) where
+  -- the classes that are left
+  next_of : drop i cs ≡ c ∷ drop (i + 1) cs
+  next_of = drop_more cs i c lt ∙ ap (λ d. d ∷ drop (i + 1) cs) is
+
+  -- the data of the next, and of those after it
+  pub data_split : (offs own others : List ℕ) → own ≡ take n offs → others ≡ drop n offs → class_data_items (drop i cs) offs ≡ class_data_item c own ∷ class_data_items (drop (i + 1) cs) others
+  data_split offs own others front back =
+      let k = length (methods_of c.members) in
+      let eo : take k offs ≡ own = ap (λ j. take j offs) (sym count) ∙ sym front in
+      let er : drop k offs ≡ others = ap (λ j. drop j offs) (sym count) ∙ sym back in
+      ap (λ ds. class_data_items ds offs) next_of ∙ (λ j. class_data_item c (eo j) ∷ class_data_items (drop (i + 1) cs) (er j))
+
+  -- as many offsets are left as methods
+  pub data_rest : (offs others : List ℕ) → others ≡ drop n offs → length offs ≡ length (methods_in_all (drop i cs)) → length others ≡ length (methods_in_all (drop (i + 1) cs))
+  data_rest offs others back same =
+      omega (arith, ap (λ (os : List ℕ). length os) back, length-drop n offs, same, ap (λ ds. length (methods_in_all ds)) next_of, length-append (methods_of c.members) (methods_in_all (drop (i + 1) cs)), count)

@@ -40,3 +40,12 @@ loop-i-preserved c =
           (has_proto texts types ps b c.loop-i.rows.items c.loop-i.i c.in-Some.proto before is above) c.in_ok-push.ensures.items;
       lists = c.in_ok-proto.ensures.lists;
     }
+
+pub is_above-requires-clause-protos : goal.is_above-requires-clause-protos
+is_above-requires-clause-protos c = rw (c.requires.file, c.deref-in-loop-i.ensures.value)
+    (λ k d lt. (c.loop-i.invariant.rows.each k d (omega (arith, lt, c.loop-i.invariant.rows.count))).numbers.span)
+
+pub is_above-requires-clause-proto : goal.is_above-requires-clause-proto
+is_above-requires-clause-proto c =
+    let is = rw c.in-Some.is at c.in_ok-proto.ensures.proto in
+    rw c.requires.file is.numbers.span

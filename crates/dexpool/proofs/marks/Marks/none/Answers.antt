@@ -1,7 +1,17 @@
-use Rattle.std.proofs.Common.{◌++◌, map}
+use Rattle.std.proofs.Common.{Bool, List, false, length, ◌++◌, ◌∙◌, ap, map}
+use Rattle.std.proofs.lemmas.List.{length-replicate}
 use Rattle.dexspec.specs.Symbols.{TextSymbol, TypeSymbol, ProtoSymbol, FieldSymbol, MethodSymbol}
 use Rattle.dexpool.proofs.KeptRows.{kept_none}
 use Rattle.dexpool.proofs.marks.Marks.none.Goals as goal
+
+pub returns-clause-marks : goal.returns-clause-marks
+returns-clause-marks c = record {
+  strings_count = ap (λ (l : List Bool). length l) c.in_ok-unmarked.ensures ∙ length-replicate c.count.result false ∙ c.count.ensures;
+  types_count = ap (λ (l : List Bool). length l) c.in_ok-unmarked-2.ensures ∙ length-replicate c.count-2.result false ∙ c.count-2.ensures;
+  protos_count = ap (λ (l : List Bool). length l) c.in_ok-unmarked-3.ensures ∙ length-replicate c.count-3.result false ∙ c.count-3.ensures;
+  fields_count = ap (λ (l : List Bool). length l) c.in_ok-unmarked-4.ensures ∙ length-replicate c.count-4.result false ∙ c.count-4.ensures;
+  methods_count = ap (λ (l : List Bool). length l) c.in_ok-unmarked-5.ensures ∙ length-replicate c.count-5.result false ∙ c.count-5.ensures;
+}
 
 pub returns-clause-none : goal.returns-clause-none
 returns-clause-none c =

@@ -2,6 +2,7 @@ pub mod CodeForms
 pub mod Counted
 pub mod Counts
 pub mod Compared
+pub mod Copies
 pub mod DirectoryChecked
 pub mod DirectoryRead
 pub mod ElementsRead

@@ -1,0 +1,13 @@
+use Rattle.std.proofs.Common.{ℕ, Option, None, get_or, refl}
+use Rattle.std.proofs.lemmas.List.{get_or_default}
+use Rattle.dexval.specs.Code.{set_of}
+use Rattle.dexval.specs.Tables.{set_at}
+use Rattle.dexval.proofs.Copies.{copied_more}
+use Rattle.dexval.proofs.directory.copied_list.Goals as goal
+
+pub loop-place-preserved : goal.loop-place-preserved
+loop-place-preserved c =
+    let places = c.list-places.result.now in
+    let i = c.loop-place.place-index in
+    let y : Option ℕ = get_or places i None in
+    copied_more set_of (set_at c.args.table.now.sets) places places refl c.loop-place.sets.items c.push.new.self.items i c.in_ok-copied_set.field-0 y c.loop-place-test.true (get_or_default places i None y c.loop-place-test.true) c.loop-place.invariant c.in_ok-push.ensures.items c.in_ok-copied_set.ensures

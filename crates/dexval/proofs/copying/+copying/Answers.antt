@@ -4,6 +4,7 @@ use Rattle.dexval.specs.declared.value.Element.{Element}
 use Rattle.dexval.specs.Code.{value_of, element_of}
 use Rattle.dexval.specs.Numbered.{values_of_list, elements_of_list}
 use Rattle.dexval.specs.Spelled.{numbered_values_weight, numbered_elements_weight}
+use Rattle.dexval.proofs.Copies.{copied_more, copied_all}
 use Rattle.dexval.proofs.Growing.{element_copied}
 use Rattle.dexval.proofs.Members.{value_lighter, element_lighter}
 use Rattle.dexval.proofs.copying.+copying.Goals as goal
@@ -29,3 +30,12 @@ copied_elements-loop-element-preserved t c =
     ap (map element_of) c.in_ok-push.ensures.items
     ∙ element_copied elements c.loop-element.copy.items i c.element-item.result (record { name = c.element-item.result.name; value = c.in_ok-copied_value.field-0 }) c.loop-element-test.true c.element-item.is before refl c.in_ok-copied_value.ensures
     ∙ ap (λ (l : List Element). map element_of (take (i + 1) l)) same
+
+pub copied_elements-returns : goal.copied_elements-returns
+copied_elements-returns t c = copied_all element_of element_of c.args.elements.now.items c.deref-element-items.result.now c.deref-element-items.ensures.value c.loop-element.copy.items c.loop-element.element-index c.loop-element-test.false c.loop-element.invariant
+
+pub copied_values-loop-value-preserved : goal.copied_values-loop-value-preserved
+copied_values-loop-value-preserved t c = copied_more value_of value_of c.args.values.now.items c.deref-value-items.result.now c.deref-value-items.ensures.value c.loop-value.copy.items c.push.new.self.items c.loop-value.value-index c.in_ok-copied_value.field-0 c.value-item.result c.loop-value-test.true c.value-item.is c.loop-value.invariant c.in_ok-push.ensures.items c.in_ok-copied_value.ensures
+
+pub copied_values-returns : goal.copied_values-returns
+copied_values-returns t c = copied_all value_of value_of c.args.values.now.items c.deref-value-items.result.now c.deref-value-items.ensures.value c.loop-value.copy.items c.loop-value.value-index c.loop-value-test.false c.loop-value.invariant

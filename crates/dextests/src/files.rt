@@ -95,11 +95,12 @@ pub(crate) fn final_a(alloc: Global) -> Option<Vec<u8>> {
 
 /// Returns the file of `LA;` with zeros as checksum and signature.
 pub(crate) fn unsigned_a(alloc: Global) -> Option<Vec<u8>> {
-    let file = letter_a(alloc)?;
-    let mut unsigned = Vec::from_slice(alloc, file.get(..8)?).ok()?;
-    unsigned.resize(32, 0).ok()?;
-    unsigned.extend_from_slice(file.get(32..)?).ok()?;
-    Some(unsigned)
+    let mut file = letter_a(alloc)?;
+    if file.len() < 32 {
+        return None;
+    }
+    file[8..32].copy_from_slice(&[0; 24]);
+    Some(file)
 }
 
 /// Returns the file of `LA;` without its last byte.

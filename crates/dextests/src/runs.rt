@@ -14,7 +14,6 @@ use std::alloc::Global;
 use std::io::ErrorKind;
 
 // What a run returned and wrote, and the state of its devices. The status is 0 if the run returns none.
-#[derive(Drop)]
 struct Ran {
     answer: Result<u8, RunFault>,
     reads: usize,
@@ -22,6 +21,20 @@ struct Ran {
     written: Vec<u8>,
     writes: usize,
     write_failed: bool,
+}
+
+// One call drops a record, at each exit of the functions that hold one.
+impl Drop for Ran {
+    fn drop(self) {
+        let Ran {
+            answer: _,
+            reads: _,
+            read_failed: _,
+            written: _,
+            writes: _,
+            write_failed: _,
+        } = self;
+    }
 }
 
 // Returns the record of a run, given the calls of its readers, whether a reader failed, and its writer.
@@ -59,6 +72,22 @@ fn calls_of(inputs: Vec<Device<Scripted<&[u8]>>>) -> usize {
 // Returns whether the run succeeded and wrote these bytes.
 fn is_done(ran: &Ran, right: &[u8]) -> bool {
     matches!(ran.answer, Ok(0)) && ran.written.as_slice() == right
+}
+
+// Returns whether the run refused the file of this number by this condition, and wrote nothing.
+fn has_refused(ran: &Ran, file: usize, condition: u8) -> bool {
+    if ran.writes != 0 {
+        return false;
+    }
+    match &ran.answer {
+        Err(RunFault::Input(i, refusal)) => *i == file && refusal.number == condition,
+        _ => false,
+    }
+}
+
+// Returns whether the run reported a conflict, and wrote nothing.
+fn has_conflict(ran: &Ran) -> bool {
+    ran.writes == 0 && matches!(ran.answer, Err(RunFault::Merge(MergeCause::Conflict(_))))
 }
 
 // A run over one file.
@@ -249,19 +278,21 @@ fn calls_of_file(len: usize, most: usize) -> usize {
 // Returns whether a run reports the reader's fault if and only if the script fails one of the reader's calls. After the
 // fault the run makes no further call and writes no more.
 fn reports_the_reader(alloc: Global, run: Run, reads: Script) -> Option<bool> {
-    let right = run.right(alloc)?;
     let ran = run.done(alloc, reads, WHOLE)?;
-    let (last, calls, written) = run.before_last();
     if reads.failing >= calls_of_file(run.last_file(alloc)?.len(), reads.most) {
-        return Some(!ran.read_failed && is_done(&ran, &right));
+        return Some(!ran.read_failed && is_done(&ran, &run.right(alloc)?));
     }
-    Some(
-        ran.read_failed
-            && matches!(ran.answer, Err(RunFault::Read(reader)) if reader == last)
-            && ran.reads == calls.saturating_add(reads.failing).saturating_add(1)
-            && !ran.write_failed
-            && ran.written.as_slice() == written,
-    )
+    Some(has_reported_the_reader(&ran, run, reads.failing))
+}
+
+// Returns whether a run reported the fault of its last reader at the call of this number, and then made no further call.
+fn has_reported_the_reader(ran: &Ran, run: Run, failing: usize) -> bool {
+    let (last, calls, written) = run.before_last();
+    ran.read_failed
+        && matches!(ran.answer, Err(RunFault::Read(reader)) if reader == last)
+        && ran.reads == calls.saturating_add(failing).saturating_add(1)
+        && !ran.write_failed
+        && ran.written.as_slice() == written
 }
 
 // The reader moves 100 bytes a call, so that one of the first five calls finds the end, or one byte a call.
@@ -290,16 +321,19 @@ fn readers_fail_at_each_call(rt: HostRuntime) {
 fn reports_the_writer(alloc: Global, run: Run, writes: Script) -> Option<bool> {
     let right = run.right(alloc)?;
     let ran = run.done(alloc, WHOLE, writes)?;
+    Some(has_reported_the_writer(&ran, &right, writes))
+}
+
+// Returns whether a run wrote these bytes, or reported the writer's fault after a prefix of them.
+fn has_reported_the_writer(ran: &Ran, right: &[u8], writes: Script) -> bool {
     if !ran.write_failed {
-        return Some(ran.writes <= writes.failing && is_done(&ran, &right));
+        return ran.writes <= writes.failing && is_done(ran, right);
     }
-    Some(
-        matches!(ran.answer, Err(RunFault::Write))
-            && ran.writes == writes.failing.saturating_add(1)
-            && (writes.most > 1 || ran.written.len() == writes.failing)
-            && ran.written.len() < right.len()
-            && right.as_slice().starts_with(ran.written.as_slice()),
-    )
+    matches!(ran.answer, Err(RunFault::Write))
+        && ran.writes == writes.failing.saturating_add(1)
+        && (writes.most > 1 || ran.written.len() == writes.failing)
+        && ran.written.len() < right.len()
+        && right.starts_with(ran.written.as_slice())
 }
 
 // The writer moves one byte a call, or a hundred. At one call it fails, or reports that it wrote no byte.
@@ -454,15 +488,29 @@ fn a_bad_plan_is_reported_before_a_reader_is_called(rt: HostRuntime) {
 fn conflict_line(alloc: Global) -> Option<String> {
     let (first, second) = (letter_a(alloc)?, final_a(alloc)?);
     let files = [(first.as_slice(), WHOLE), (second.as_slice(), WHOLE)];
-    let Ran { answer, writes, .. } = merged(alloc, files, [1, 0], false, WHOLE)?;
-    let Err(RunFault::Merge(cause)) = answer else {
-        return None;
-    };
-    let (status, line) = explain(alloc, &RunFault::Merge(cause), &[], "out").ok()?;
-    if status != 1 || writes != 0 {
+    reported_line(alloc, &merged(alloc, files, [1, 0], false, WHOLE)?)
+}
+
+// Returns the line that reports a conflict, if nothing was written.
+fn reported_line(alloc: Global, ran: &Ran) -> Option<String> {
+    if !has_conflict(ran) {
         return None;
     }
-    Some(line)
+    match &ran.answer {
+        Err(fault) => line_of(alloc, fault),
+        Ok(_) => None,
+    }
+}
+
+// Returns the line that reports why files cannot be merged, if its status is 1.
+fn line_of(alloc: Global, fault: &RunFault) -> Option<String> {
+    match fault {
+        RunFault::Merge(_) => {
+            let (status, line) = explain(alloc, fault, &[], "out").ok()?;
+            if status == 1 { Some(line) } else { None }
+        }
+        _ => None,
+    }
 }
 
 #[test]
@@ -478,14 +526,7 @@ fn is_stripped_after_the_merge(alloc: Global) -> Option<bool> {
     let (with, without_debug) = ((with.as_slice(), WHOLE), (without.as_slice(), WHOLE));
     let equal = merged(alloc, [with, with], [1, 0], true, WHOLE)?;
     let unequal = merged(alloc, [with, without_debug], [0, 1], true, WHOLE)?;
-    Some(
-        is_done(&equal, &without)
-            && unequal.writes == 0
-            && matches!(
-                unequal.answer,
-                Err(RunFault::Merge(MergeCause::Conflict(_)))
-            ),
-    )
+    Some(is_done(&equal, &without) && has_conflict(&unequal))
 }
 
 #[test]
@@ -499,10 +540,7 @@ fn is_beyond_repair(alloc: Global) -> Option<bool> {
     let cut = cut_a(alloc)?;
     for (file, number) in [(cut.as_slice(), 4), (cut.get(..31)?, 1), (cut.get(..0)?, 1)] {
         let ran = over_file(alloc, FileRun::Repair, file, WHOLE, WHOLE);
-        if !matches!(ran.answer, Err(RunFault::Input(0, refusal)) if refusal.number == number) {
-            return Some(false);
-        }
-        if ran.writes != 0 {
+        if !has_refused(&ran, 0, number) {
             return Some(false);
         }
     }
@@ -517,18 +555,15 @@ fn a_repair_sets_sums_alone_right(rt: HostRuntime) {
 // Returns whether a count refuses two different classes of one name, and a cut file.
 fn is_uncounted(alloc: Global) -> Option<bool> {
     let (first, second, cut) = (letter_a(alloc)?, final_a(alloc)?, cut_a(alloc)?);
-    let first = (first.as_slice(), WHOLE);
-    let unequal = counted(alloc, [first, (second.as_slice(), WHOLE)], WHOLE)?;
-    let refused = counted(alloc, [first, (cut.as_slice(), WHOLE)], WHOLE)?;
-    Some(
-        unequal.writes == 0
-            && matches!(
-                unequal.answer,
-                Err(RunFault::Merge(MergeCause::Conflict(_)))
-            )
-            && refused.writes == 0
-            && matches!(refused.answer, Err(RunFault::Input(1, refusal)) if refusal.number == 4),
-    )
+    are_uncounted(alloc, &first, &second, &cut)
+}
+
+// Returns whether a count refuses the first two of these files, and the first with the last.
+fn are_uncounted(alloc: Global, first: &[u8], second: &[u8], cut: &[u8]) -> Option<bool> {
+    let first = (first, WHOLE);
+    let unequal = counted(alloc, [first, (second, WHOLE)], WHOLE)?;
+    let refused = counted(alloc, [first, (cut, WHOLE)], WHOLE)?;
+    Some(has_conflict(&unequal) && has_refused(&refused, 1, 4))
 }
 
 #[test]
@@ -540,10 +575,7 @@ fn a_count_is_of_a_union(rt: HostRuntime) {
 fn is_undigested(alloc: Global) -> Option<bool> {
     let cut = cut_a(alloc)?;
     let ran = over_file(alloc, FileRun::Digest, &cut, WHOLE, WHOLE);
-    Some(
-        matches!(ran.answer, Err(RunFault::Input(0, refusal)) if refusal.number == 4)
-            && ran.writes == 0,
-    )
+    Some(has_refused(&ran, 0, 4))
 }
 
 #[test]

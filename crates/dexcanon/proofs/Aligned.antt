@@ -1,7 +1,7 @@
 -- How far a loop has come that writes aligned items.
 use Rattle.std.proofs.Common.{◌≡◌, ℕ, ◌+◌, ◌<◌, ◌≤◌, List, [], ◌∷◌, ◌++◌, Bool, length, get_or, map, drop, refl, sym, ap, subst, ◌∙◌, arith}
 use Rattle.std.specs.Prelude.{All}
-use Rattle.std.proofs.lemmas.List.{drop_more, drop_all, length-map, get_or-map}
+use Rattle.std.proofs.lemmas.List.{drop_more, length-map, get_or-map}
 use Rattle.std.proofs.lemmas.List.Elements.{All-nil, All-cons, All-head, All-tail}
 use Rattle.dexspec.specs.Bytes.{round_up, padding}
 use Rattle.dexspec.specs.Placing.{bytes_from, end_from}
@@ -53,17 +53,6 @@ module _ {T : Type 0} {gives gives_prefix : List ℕ → T → T → Type 0} {ha
 -- the next of mapped items
 pub next_mapped : {X : Type 0} (f : X → List ℕ) (xs : List X) (i : ℕ) (x : X) → i < length xs → get_or xs i x ≡ x → drop i (map f xs) ≡ f x ∷ drop (i + 1) (map f xs)
 next_mapped f xs i x lt is = drop_more (map f xs) i (f x) (omega (arith, lt, length-map xs f)) ∙ ap (λ y. y ∷ drop (i + 1) (map f xs)) (get_or-map f xs i x (f x) lt ∙ ap f is)
-
--- none is left after the last
-pub mapped_all : {X : Type 0} (f : X → List ℕ) (xs : List X) (i : ℕ) → length xs ≤ i → drop i (map f xs) ≡ []
-mapped_all f xs i le = drop_all i (map f xs) (omega (arith, le, length-map xs f))
-
--- the next of items that are mapped twice
-pub next_mapped_twice : {X Y : Type 0} (f : Y → List ℕ) (g : X → Y) (xs : List X) (i : ℕ) (x : X) → i < length xs → get_or xs i x ≡ x → drop i (map f (map g xs)) ≡ f (g x) ∷ drop (i + 1) (map f (map g xs))
-next_mapped_twice f g xs i x lt is = next_mapped f (map g xs) i (g x) (omega (arith, lt, length-map xs g)) (get_or-map g xs i x (g x) lt ∙ ap g is)
-
-pub mapped_twice_all : {X Y : Type 0} (f : Y → List ℕ) (g : X → Y) (xs : List X) (i : ℕ) → length xs ≤ i → drop i (map f (map g xs)) ≡ []
-mapped_twice_all f g xs i le = mapped_all f (map g xs) i (omega (arith, le, length-map xs g))
 
 -- each of mapped items is no longer than the limit
 pub short_at : {X : Type 0} (f : X → List ℕ) (limit : ℕ) (xs : List X) (i : ℕ) (x : X) → AreWithin limit (map f xs) → i < length xs → get_or xs i x ≡ x → length (f x) ≤ limit

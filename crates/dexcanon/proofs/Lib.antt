@@ -2,8 +2,6 @@ pub mod Aligned
 pub mod Buffered
 pub mod CodeItems
 pub mod Digested
-pub mod DirectoryItems
-pub mod DirectorySections
 pub mod ItemLengths
 pub mod JoinedSums
 pub mod OwnUses
@@ -19,7 +17,6 @@ pub mod SetSectionItems
 pub mod SymbolRows
 pub mod Taken
 pub mod Reported
-pub mod TypeLists
 pub mod WholeBody
 pub mod WholeFile
 pub mod Finished

@@ -8,8 +8,7 @@ use Rattle.dexspec.specs.Classes.{MethodDef}
 use Rattle.dexspec.specs.Placing.{Ordered, Placed, all_methods, code_uses, debug_uses, EqualOnce, offsets, end_from, bytes_from, section_bytes, end, uses_offsets}
 use Rattle.dexspec.specs.Sameness.{same_debug}
 use Rattle.dexspec.specs.Texts.{string_data}
-use Rattle.dexspec.specs.Canonical.{data_start, debug_section, class_data_section, set_section, ref_list_section, data_sections, type_list_section, string_section, code_section, directory_section, type_list_items}
-use Rattle.dexspec.specs.Spellings.{type_list_bytes}
+use Rattle.dexspec.specs.Canonical.{debug_section, class_data_section, set_section, ref_list_section, data_sections, string_section, code_section}
 use Rattle.dexspec.proofs.layout.Placements.{length-items_offsets}
 use Rattle.dexmembers.specs.Numbered.{method_in, methods_of}
 use Rattle.dexclass.specs.Numbered.{NumberedClass, definition_of}
@@ -39,10 +38,6 @@ module _ {m : Mentions} {cs : List NumberedClass} {p : Places} {limit : ℕ} (h 
   data_within : AllWithin limit (data_sections (ordered_of m cs))
   data_within = sections_within limit (data_sections (ordered_of m cs)) (omega (arith, h.greatest, h.laid.greatest_is))
 
-  pub type_lists_within : AreWithin limit (map (type_list_bytes m) (type_list_items (ordered_of m cs)).written)
-  unfolding type_list_section
-  type_lists_within = data_within.0
-
   pub strings_within : AreWithin limit (map string_data m.texts)
   unfolding string_section
   strings_within = data_within.1.1.1.0
@@ -55,9 +50,6 @@ module _ {m : Mentions} {cs : List NumberedClass} {p : Places} {limit : ℕ} (h 
 
   pub ref_lists_within : AreWithin limit (ref_list_section (ordered_of m cs)).items
   ref_lists_within = data_within.1.1.1.1.1.1.1.1.0
-
-  pub directories_within : AreWithin limit (directory_section (ordered_of m cs)).items
-  directories_within = data_within.1.1.1.1.1.1.1.1.1.0
 
 -- ---- symbols and numbers
 
@@ -85,10 +77,6 @@ count_debug_offsets m cs =
 
 -- ---- aligned sections end within the file
 
-pub type_lists_fit : (K : Ordered) → file_end K ≤ 2 ^ 30 → end_from 4 (data_start K) (map (type_list_bytes K.pools) (type_list_items K).written) ≤ 2 ^ 30
-unfolding type_list_section
-type_lists_fit K fits = (end_in_file K fits).type_lists
-
 pub codes_fit : (K : Ordered) → file_end K ≤ 2 ^ 30 → end_from 4 (end (debug_section K)) (code_section K).items ≤ 2 ^ 30
 unfolding code_section
 codes_fit K fits = (end_in_file K fits).codes
@@ -100,10 +88,6 @@ sets_fit K fits = (end_in_file K fits).sets
 pub ref_lists_fit : (K : Ordered) → file_end K ≤ 2 ^ 30 → end_from 4 (end (set_section K)) (ref_list_section K).items ≤ 2 ^ 30
 unfolding ref_list_section
 ref_lists_fit K fits = (end_in_file K fits).ref_lists
-
-pub directories_fit : (K : Ordered) → file_end K ≤ 2 ^ 30 → end_from 4 (end (ref_list_section K)) (directory_section K).items ≤ 2 ^ 30
-unfolding directory_section
-directories_fit K fits = (end_in_file K fits).directories
 
 -- ---- the code of the classes, from the layout's offsets of debug programs
 

@@ -1,9 +1,7 @@
 pub mod Codes
 pub mod Digests
-pub mod Directories
 pub mod Sets
 pub mod Sums
 pub mod Took
-pub mod TypeLists
 pub mod Written
 pub mod internal

@@ -41,7 +41,7 @@ impl<'a> ClassPlaces<'a> {
         let (_, interfaces) = list_offs.split_at(contents.numbering.count(SymbolKind::Proto));
         ClassPlaces {
             interfaces,
-            annotations: layout.directories().offsets(),
+            annotations: layout.directories().places().offsets(),
             class_data: layout.class_data().places().offsets(),
             static_values: layout.static_values().places().offsets(),
         }

@@ -1,7 +1,7 @@
 //! The canonical file of a program.
 //!
-//! Public contracts use the definitions of `specs/Codes`, `specs/Digests`, `specs/Directories`, `specs/Sets`,
-//! `specs/Sums`, `specs/Took`, `specs/TypeLists` and `specs/Written`.
+//! Public contracts use the definitions of `specs/Codes`, `specs/Digests`, `specs/Sets`, `specs/Sums`, `specs/Took` and
+//! `specs/Written`.
 //!
 //! Source: the Android page "Dalvik Executable format"; the order of the sections and of their contents is this
 //! project's rule.

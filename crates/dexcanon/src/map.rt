@@ -15,6 +15,6 @@ pub(crate) fn put_map<T: Target>(contents: &Contents<'_, '_, '_, '_>, out: &mut 
     ensures { AddsPart T.gives T.gives_prefix T.has_failed contents.now out.old out.new map_bytes }
 {
     let entries = contents.layout.entries();
-    let data_end = contents.layout.directories().end();
+    let data_end = contents.layout.directories().places().end();
     out.put_aligned(&Entries(entries), data_end);
 }

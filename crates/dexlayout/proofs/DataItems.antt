@@ -1,15 +1,15 @@
 -- The data of classes: by numbers, they are the items of the file.
 use Rattle.std.proofs.Common.{◌≡◌, ℕ, ◌+◌, ◌<◌, List, [], ◌∷◌, length, get_or, map, take, drop, Option, None, Some, Bool, true, false, refl, sym, ap, subst, ◌∙◌, arith}
 use Rattle.std.specs.Prelude.{◌==◌, if◌then◌else◌}
-use Rattle.std.specs.List.{All, flat_map}
+use Rattle.std.specs.List.{All}
 use Rattle.std.specs.Option.{option_map}
 use Rattle.std.proofs.lemmas.List.{length-append, length-map, length-drop, map-append, drop_more}
 use Rattle.std.proofs.lemmas.List.Elements.{All-head, All-tail}
-use Rattle.dexspec.specs.Lists.{zip_with, chunks}
+use Rattle.dexspec.specs.Lists.{zip_with, chunks, present}
 use Rattle.dexspec.specs.Classes.{MethodDef, Definition, declared_fields, declared_methods}
 use Rattle.dexspec.specs.Mentions.{Mentions}
 use Rattle.dexspec.specs.Spellings.{class_data_bytes}
-use Rattle.dexspec.specs.Placing.{class_data_uses, is_empty_class, end, uses_offsets, section_bytes}
+use Rattle.dexspec.specs.Placing.{class_data_uses, is_empty_class, bytes_from, end, uses_offsets, section_bytes}
 use Rattle.dexspec.specs.Canonical.{code_section, class_data_section}
 use Rattle.dexpool.specs.Numberings.{AreRising}
 use Rattle.dexpool.proofs.UnionLaws.{ranks_are_numbers}
@@ -20,7 +20,7 @@ use Rattle.dexclass.specs.Numbered.{NumberedClass, definition_of, type_at}
 use Rattle.dexclass.specs.Uses.{IsKnownClass}
 use Rattle.dexlayout.specs.Laid.{AreWritable, AreLaidSo, ordered_of}
 use Rattle.dexlayout.specs.Places.{ItemPlaces}
-use Rattle.dexlayout.specs.internal.Encoding.{has_no_members, class_data_item, class_data_items, item_bytes, item_len}
+use Rattle.dexlayout.specs.internal.Encoding.{has_no_members, class_data_item, class_data_items, item_len}
 use Rattle.dexlayout.specs.internal.Running.{none_from, place_uses}
 use Rattle.dexlayout.proofs.EncodedUses.{Encoding, own_lens, own_bytes}
 use Rattle.dexlayout.proofs.Owned.{sizes, own_encoded}
@@ -103,18 +103,18 @@ module _ (m : Mentions) (cs : List NumberedClass) (w : AreWritable m cs) (offs :
       (own_encoded item 1 (end (code_section K)) uses)
 
   -- their bytes
-  pub data_bytes : flat_map item_bytes (class_data_items cs offs) ≡ section_bytes (class_data_section (ordered_of m cs))
+  pub data_bytes : (from : ℕ) → from ≡ end (code_section (ordered_of m cs)) → bytes_from 1 from (present (class_data_items cs offs)) ≡ section_bytes (class_data_section (ordered_of m cs))
   unfolding class_data_section
-  data_bytes =
+  data_bytes from e =
       let K = ordered_of m cs in
-      ap (flat_map item_bytes) items_are ∙ own_bytes item (end (code_section K)) (class_data_uses K (uses_offsets (code_section K)))
+      (λ i. bytes_from 1 (e i) (present (items_are i))) ∙ own_bytes item 1 (end (code_section K)) (class_data_uses K (uses_offsets (code_section K)))
 
 -- ---- class by class
 
 -- encoding the data of the classes that are left, with the offsets of code that are left, gives all
 pub record DataLeft (bytes : List ℕ) (places : ItemPlaces) (cs : List NumberedClass) (offs : List ℕ) (all : List (Option (List ℕ))) (from : ℕ) : Type 0 where
   pub count : length offs ≡ length (methods_in_all cs)
-  pub encoding : Encoding bytes places (class_data_items cs offs) all from
+  pub encoding : Encoding 1 bytes places (class_data_items cs offs) all from
 
 module _ (cs : List NumberedClass) (i : ℕ) (c : NumberedClass) (lt : i < length cs) (is : get_or cs i c ≡ c) (n : ℕ) (count : n ≡ length (methods_of c.members)) where
   -- the classes that are left

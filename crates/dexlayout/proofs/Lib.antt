@@ -3,6 +3,7 @@ pub mod DataItems
 pub mod EncodedItems
 pub mod EncodedUses
 pub mod Ends
+pub mod ListBytes
 pub mod OwnCounts
 pub mod OwnFile
 pub mod OwnParts

@@ -11,14 +11,14 @@ use Rattle.dexspec.specs.Code.{Code}
 use Rattle.dexspec.specs.Classes.{Definition}
 use Rattle.dexspec.specs.Mentions.{Mentions}
 use Rattle.dexspec.specs.Texts.{string_data}
-use Rattle.dexspec.specs.Spellings.{code_bytes, encoded_array_bytes, class_data_bytes, offsets_bytes, type_list_bytes, annotation_bytes}
+use Rattle.dexspec.specs.Spellings.{code_bytes, encoded_array_bytes, class_data_bytes, offsets_bytes, annotation_bytes}
 use Rattle.dexspec.specs.Annotations.{AnnotationSet}
 use Rattle.dexspec.specs.Placing.{own_items, uses_offsets, offsets_from, end_from, offsets, Ordered, static_values_uses, code_uses, class_data_uses, ref_list_uses, directory_uses, end, Placed}
-use Rattle.dexspec.specs.Canonical.{data_start, type_list_items, type_list_section, set_items, annotation_section, annotation_offsets, array_section, string_section, debug_section, code_section, class_data_section, set_section, set_offsets, ref_list_section, directory_section}
+use Rattle.dexspec.specs.Canonical.{data_start, type_list_section, set_items, annotation_section, annotation_offsets, array_section, string_section, debug_section, code_section, class_data_section, set_section, set_offsets, ref_list_section, directory_section}
 use Rattle.dexspec.proofs.layout.Places.{length-padding, items_few}
 use Rattle.dexspec.proofs.layout.Placements.{sections_have_bytes, length-chunks, numbers_offsets, HasBytes}
 use Rattle.dexval.specs.Numbered.{NumberedSet, annotation_in, set_in}
-use Rattle.dexclass.specs.Numbered.{NumberedClass, type_at}
+use Rattle.dexclass.specs.Numbered.{NumberedClass}
 use Rattle.dexlayout.specs.Places.{ItemPlaces}
 use Rattle.dexlayout.specs.internal.Running.{none_from, pass, put_at, place_uses}
 use Rattle.dexlayout.specs.internal.Parts.{AreData, count_placed}
@@ -122,7 +122,7 @@ length-annotations m (w ∷ ws) =
 
 -- the data has as many items of each section as the file
 pub record AreCounted (K : Ordered) (d : Data) : Type 0 where
-  pub type_lists : length d.first_sections.type_lists.written ≡ length (type_list_section K).items
+  pub type_lists : d.first_sections.type_lists.count ≡ length (type_list_section K).items
   pub annotations : length (flat_map (λ set. set) d.first_sections.annotations.written) ≡ length (annotation_section K).items
   pub arrays : count_placed d.first_sections.static_values.places.offsets ≡ length (array_section K).items
   pub strings : length K.pools.texts ≡ length (string_section K).items
@@ -131,15 +131,15 @@ pub record AreCounted (K : Ordered) (d : Data) : Type 0 where
   pub class_data : count_placed d.bodies.class_data.places.offsets ≡ length (class_data_section K).items
   pub sets : length d.first_sections.annotations.written ≡ length (set_section K).items
   pub ref_lists : count_placed d.back.ref_lists.offsets ≡ length (ref_list_section K).items
-  pub directories : count_placed d.back.directories.offsets ≡ length (directory_section K).items
+  pub directories : count_placed d.back.directories.places.offsets ≡ length (directory_section K).items
 
 pub counted : (m : Mentions) (cs : List NumberedClass) {d : Data} → AreData m cs d → AreCounted (ordered_of m cs) d
-unfolding type_list_section annotation_section string_section
+unfolding annotation_section string_section
 counted m cs {d} h =
     let K = ordered_of m cs in
     let items = (set_items K).written in
     record {
-      type_lists = sym (length-map d.first_sections.type_lists.written (map (type_at m))) ∙ ap (λ xs. length xs) h.first_sections_are.type_lists_are.written_are ∙ sym (length-map (type_list_items K).written (type_list_bytes m));
+      type_lists = h.first_sections_are.type_lists_are.count_is;
       annotations = sym (length-annotations m d.first_sections.annotations.written) ∙ ap (λ (xs : List AnnotationSet). length (flat_map (λ (set : AnnotationSet). set) xs)) h.first_sections_are.annotations_are.written_are
           ∙ sym (length-map (flat_map (λ (set : AnnotationSet). set) items) (annotation_bytes m));
       arrays = ap count_placed h.first_sections_are.static_values_are.places_are.offsets_are ∙ array_count K;
@@ -149,7 +149,7 @@ counted m cs {d} h =
       class_data = ap count_placed h.bodies_are.class_data_are.places_are.offsets_are ∙ class_data_count K;
       sets = sym (length-map d.first_sections.annotations.written (set_in m)) ∙ ap (λ (xs : List AnnotationSet). length xs) h.first_sections_are.annotations_are.written_are ∙ sym (set_count K);
       ref_lists = ap count_placed h.back_are.ref_lists_are.offsets_are ∙ ref_list_count K;
-      directories = ap count_placed h.back_are.directories_are.offsets_are ∙ directory_count K;
+      directories = ap count_placed h.back_are.directories_are.places_are.offsets_are ∙ directory_count K;
     }
 
 -- each section has no more items than the file may have bytes

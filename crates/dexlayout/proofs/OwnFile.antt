@@ -10,7 +10,7 @@ use Rattle.dexspec.specs.Files.{Collection, definitions}
 use Rattle.dexspec.specs.Mentions.{Mentions, mentions}
 use Rattle.dexspec.specs.Merging.{Caps, greatest_caps, AreCaps, Fits}
 use Rattle.dexspec.specs.Placing.{Ordered, EqualOnce, section_bytes, end, uses_offsets, offsets}
-use Rattle.dexspec.specs.Canonical.{map_of, map_bytes, map_entry_bytes, unsigned_file, with_sums, ordered, canonical, data_start, type_list_items, type_list_section, set_items, annotation_section, array_section, string_section, debug_section, code_section, class_data_section, set_section, set_offsets, ref_list_section, directory_section}
+use Rattle.dexspec.specs.Canonical.{map_of, map_bytes, map_entry_bytes, unsigned_file, with_sums, ordered, canonical, data_start, type_list_section, set_items, annotation_section, array_section, string_section, debug_section, code_section, class_data_section, set_section, set_offsets, ref_list_section, directory_section}
 use Rattle.dexspec.proofs.numbers.ByteNumbers.{length-uint, length-ushort}
 use Rattle.dexspec.proofs.written.PlacedBytes.{length_rows}
 use Rattle.dexspec.proofs.layout.SectionPlaces.{data_before_map, map_place, map_place_is, map_list_named, parts}
@@ -18,8 +18,8 @@ use Rattle.dexhead.specs.Laid.{StatesLayout, map_start, map_list}
 use Rattle.dexpool.specs.Numberings.{IsNumbering}
 use Rattle.dexclass.specs.Numbered.{NumberedClass}
 use Rattle.dexclass.specs.Programs.{AreClassesOf}
-use Rattle.dexlayout.specs.Places.{TypeListPlaces, AnnotationPlaces, DebugPlaces, SetPlaces, Places}
-use Rattle.dexlayout.specs.Laid.{ordered_of, file_end, AreWritable, greatest_of, greatest_item, first_offsets, AreLaidSo, AreEncodedIn, AreTypeLists, AreAnnotations, AreDebugs, AreSets, IsLaid}
+use Rattle.dexlayout.specs.Places.{AnnotationPlaces, SetPlaces, Places}
+use Rattle.dexlayout.specs.Laid.{ordered_of, file_end, AreWritable, greatest_of, greatest_item, first_offsets, AreLaidSo, AreEncodedIn, AreSharedIn, AreAnnotations, AreSets, IsLaid}
 use Rattle.dexlayout.specs.internal.Parts.{entry_of, table_parts, section_parts}
 use Rattle.dexlayout.proofs.Ends.{map_start_is}
 use Rattle.dexlayout.proofs.OwnParts.{map_parts}
@@ -73,26 +73,12 @@ writable C cs numbering fits law of = record {
 -- ---- classes of the same definitions have the same layout
 
 module _ (m : Mentions) (cs ds : List NumberedClass) (e : ordered_of m cs ≡ ordered_of m ds) where
-  type_lists_same : {p : TypeListPlaces} → AreTypeLists m cs p → AreTypeLists m ds p
-  type_lists_same {p} h = record {
-    written_are = h.written_are ∙ ap (λ (K : Ordered). (type_list_items K).written) e;
-    known = h.known;
-    places_are = subst (λ (K : Ordered). AreLaidSo (uses_offsets (type_list_section K)) (end (type_list_section K)) (type_list_section K).items p.places) e h.places_are;
-  }
-
   annotations_same : {p : AnnotationPlaces} → AreAnnotations m cs p → AreAnnotations m ds p
   annotations_same {p} h = record {
     written_are = h.written_are ∙ ap (λ (K : Ordered). (set_items K).written) e;
     known = h.known;
     bytes_are = h.bytes_are ∙ ap (λ (K : Ordered). section_bytes (annotation_section K)) e;
     places_are = subst (λ (K : Ordered). AreLaidSo (first_offsets m (end (type_list_section K)) (set_items K).written) (end (annotation_section K)) (annotation_section K).items p.places) e h.places_are;
-  }
-
-  debugs_same : {p : DebugPlaces} → AreDebugs m cs p → AreDebugs m ds p
-  debugs_same {p} h = record {
-    bytes_are = h.bytes_are ∙ ap (λ (K : Ordered). section_bytes (debug_section K)) e;
-    count_is = h.count_is ∙ ap (λ (K : Ordered). length (debug_section K).items) e;
-    places_are = subst (λ (K : Ordered). AreLaidSo (uses_offsets (debug_section K)) (end (debug_section K)) (debug_section K).items p.places) e h.places_are;
   }
 
   sets_same : {p : SetPlaces} → AreSets m cs p → AreSets m ds p
@@ -109,16 +95,16 @@ module _ (m : Mentions) (cs ds : List NumberedClass) (e : ordered_of m cs ≡ or
   laid_same {p} h = record {
     head_states = subst (StatesLayout p.head) e h.head_states;
     signature_length = h.signature_length;
-    type_lists_are = type_lists_same h.type_lists_are;
+    type_lists_are = subst (λ (K : Ordered). AreSharedIn (type_list_section K) p.type_lists) e h.type_lists_are;
     annotations_are = annotations_same h.annotations_are;
     static_values_are = subst (λ (K : Ordered). AreEncodedIn (array_section K) p.static_values) e h.static_values_are;
     strings_are = subst (λ (K : Ordered). AreLaidSo (offsets (string_section K)) (end (string_section K)) (string_section K).items p.strings) e h.strings_are;
-    debugs_are = debugs_same h.debugs_are;
+    debugs_are = subst (λ (K : Ordered). AreSharedIn (debug_section K) p.debugs) e h.debugs_are;
     codes_are = subst (λ (K : Ordered). AreLaidSo (uses_offsets (code_section K)) (end (code_section K)) (code_section K).items p.codes) e h.codes_are;
     class_data_are = subst (λ (K : Ordered). AreEncodedIn (class_data_section K) p.class_data) e h.class_data_are;
     sets_are = sets_same h.sets_are;
     ref_lists_are = subst (λ (K : Ordered). AreLaidSo (uses_offsets (ref_list_section K)) (end (ref_list_section K)) (ref_list_section K).items p.ref_lists) e h.ref_lists_are;
-    directories_are = subst (λ (K : Ordered). AreLaidSo (uses_offsets (directory_section K)) (end (directory_section K)) (directory_section K).items p.directories) e h.directories_are;
+    directories_are = subst (λ (K : Ordered). AreEncodedIn (directory_section K) p.directories) e h.directories_are;
     entries_are = h.entries_are ∙ ap (λ (K : Ordered). map_of K (map_start K)) e;
     greatest_is = h.greatest_is ∙ ap greatest_item e;
   }

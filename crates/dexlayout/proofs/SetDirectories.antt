@@ -1,4 +1,4 @@
--- The directories of classes: their lengths by offsets are those of their bytes.
+-- The directories of classes: by numbers, they are the items of the file.
 use Rattle.std.proofs.Common.{◌≡◌, ℕ, zero, suc, ◌+◌, ◌*◌, ◌<◌, ◌≤◌, Bool, true, false, Ordering, ◌⊎◌, inl, inr, List, [], ◌∷◌, ◌++◌, length, get_or, map, take, drop, refl, sym, ap, subst, ◌∙◌, arith, Option, Some, None, All}
 use Rattle.std.specs.Prelude.{slice_index, ◌==◌, if◌then◌else◌}
 use Rattle.std.specs.List.{flat_map, zip}
@@ -9,30 +9,31 @@ use Rattle.std.proofs.lemmas.Bool.{cond-false, cond-true, eqb-true}
 use Rattle.std.proofs.Common.{eq-eqb}
 use Rattle.std.proofs.lemmas.List.{length-append, length-map, length-take, length-drop, drop_more, drop-drop, get_or-drop}
 use Rattle.std.proofs.lemmas.List.Elements.{All-head, All-tail}
-use Rattle.dexspec.specs.Lists.{chunks, zip_with, in_order, add_in_order}
+use Rattle.dexspec.specs.Lists.{chunks, zip_with, in_order, add_in_order, present}
 use Rattle.dexspec.specs.Classes.{Definition, MethodDef, declared_fields, declared_methods}
 use Rattle.dexspec.specs.Mentions.{Mentions, field_of, method_of}
-use Rattle.dexspec.specs.Placing.{SetOffsets, pair_cmp, pairs, directory_bytes, directory_uses, end, uses_offsets}
+use Rattle.dexspec.specs.Placing.{SetOffsets, pair_cmp, pairs, bytes_from, directory_bytes, directory_uses, end, section_bytes, uses_offsets}
 use Rattle.dexspec.specs.Spellings.{field_index, method_index}
 use Rattle.dexspec.specs.Canonical.{set_offsets, ref_list_section, directory_section}
-use Rattle.dexspec.specs.Bytes.{round_up}
 use Rattle.dexspec.specs.Placing.{ref_list_uses}
 use Rattle.dexspec.specs.Spellings.{offsets_bytes}
 use Rattle.dexspec.proofs.layout.Placements.{length-chunks, length-uses_offsets, length-set_offsets}
 use Rattle.dexspec.proofs.sharing.Shorter.{not_zero}
 use Rattle.dexpool.specs.Laws.{RanksAreNumbers}
-use Rattle.dexmembers.specs.Numbered.{NumberedMethod, fields_of, methods_of, method_in}
-use Rattle.dexmembers.specs.DirectoryPut.{count_placed}
+use Rattle.dexmembers.specs.Numbered.{NumberedMembers, NumberedMethod, fields_of, methods_of, method_in}
+use Rattle.dexmembers.specs.DirectoryPut.{count_placed, numbered_directory_bytes}
 use Rattle.dexmembers.proofs.PairsMerged.{kept, placed_count}
 use Rattle.dexmembers.proofs.DirectorySpelled as spelled
 use Rattle.dexclass.specs.Numbered.{NumberedClass, definition_of, type_at}
 use Rattle.dexclass.specs.Uses.{IsKnownClass}
 use Rattle.dexlayout.specs.Places.{ItemPlaces, SetPlaces}
 use Rattle.dexlayout.specs.Laid.{ordered_of, AreLaidSo, AreSets, AreWritable}
-use Rattle.dexlayout.specs.internal.Running.{none_from, pass, put_at, place_use, place_uses}
-use Rattle.dexlayout.specs.internal.Directories.{entry_count, directory_size, directory_sizes}
+use Rattle.dexlayout.specs.internal.Encoding.{aligned_bytes, item_len}
+use Rattle.dexlayout.specs.internal.Running.{none_from, place_use, place_uses}
+use Rattle.dexlayout.specs.internal.Directories.{directory_item, directory_items}
 use Rattle.dexlayout.specs.internal.Collecting.{list_size, list_sizes, class_list_sizes, sets_of_method, sets_of_class, parts_of_class, parts_of_classes}
-use Rattle.dexlayout.proofs.Owned.{sizes, own_encoded, place_grows}
+use Rattle.dexlayout.proofs.EncodedUses.{Encoding, encoding_fits, encoding_more, own_bytes, own_lens, own_same}
+use Rattle.dexlayout.proofs.Owned.{sizes, own_encoded}
 use Rattle.dexlayout.proofs.SetLists.{set_use_offsets, length-set_use_offsets, set_offsets_are, ref_list_lengths}
 use Rattle.dexlayout.proofs.SetsCollected.{class_sets_count, classes_are_long, classes_parts, fields_count, methods_are}
 
@@ -73,41 +74,40 @@ positive : (n : ℕ) → (n ≡ 0 → ⊥) → 0 < n
 positive zero no_zero = absurd (no_zero refl)
 positive (suc n) no_zero = omega arith
 
--- the length of what is there
-known_size : (own f g h a b c : ℕ) (bytes : List ℕ) → (f ≡ 0 → a ≡ 0) → (g ≡ 0 → b ≡ 0) → (h ≡ 0 → c ≡ 0) → (a ≡ 0 → f ≡ 0) → (b ≡ 0 → g ≡ 0) → (c ≡ 0 → h ≡ 0)
-    → ((if own + (f + (g + h)) == 0 then None else Some bytes) ≡ Some bytes → length bytes ≡ 16 + 8 * (a + b + c))
-    → option_map (λ (x : List ℕ). length x) (if own + (f + (g + h)) == 0 then None else Some bytes) ≡ directory_size own (a + b + c)
-known_size own f g h a b c bytes fa gb hc af bg ch size = by (own + (f + (g + h)) == 0) refl size
+-- by numbers and by symbols a class has no directory in one case, and else the same
+same_item : (own f g h a b c : ℕ) (by_numbers bytes : List ℕ) → (f ≡ 0 → a ≡ 0) → (g ≡ 0 → b ≡ 0) → (h ≡ 0 → c ≡ 0) → (a ≡ 0 → f ≡ 0) → (b ≡ 0 → g ≡ 0) → (c ≡ 0 → h ≡ 0)
+    → ((if own + (f + (g + h)) == 0 then None else Some bytes) ≡ Some bytes → by_numbers ≡ bytes)
+    → (if own + (a + b + c) == 0 then None else Some by_numbers) ≡ (if own + (f + (g + h)) == 0 then None else Some bytes)
+same_item own f g h a b c by_numbers bytes fa gb hc af bg ch are = by (own + (f + (g + h)) == 0) refl are
   where
-    by : (t : Bool) → (own + (f + (g + h)) == 0) ≡ t → ((if t then None else Some bytes) ≡ Some bytes → length bytes ≡ 16 + 8 * (a + b + c))
-        → option_map (λ (x : List ℕ). length x) (if t then None else Some bytes) ≡ directory_size own (a + b + c)
-    by true e size =
+    by : (t : Bool) → (own + (f + (g + h)) == 0) ≡ t → ((if t then None else Some bytes) ≡ Some bytes → by_numbers ≡ bytes)
+        → (if own + (a + b + c) == 0 then None else Some by_numbers) ≡ (if t then None else Some bytes)
+    by true e are =
         let zero_all : own + (f + (g + h)) ≡ 0 = eqb-true (own + (f + (g + h))) 0 e in
         let a0 = fa (omega (arith, zero_all)) in
         let b0 = gb (omega (arith, zero_all)) in
         let c0 = hc (omega (arith, zero_all)) in
         let nothing : own + (a + b + c) ≡ 0 = omega (arith, zero_all, a0, b0, c0) in
-        sym (cond-true (own + (a + b + c) == 0) None (Some (16 + 8 * (a + b + c))) (eq-eqb (own + (a + b + c)) 0 nothing))
-    by false e size =
+        cond-true (own + (a + b + c) == 0) None (Some by_numbers) (eq-eqb (own + (a + b + c)) 0 nothing)
+    by false e are =
         let some : 0 < own + (a + b + c) = positive (own + (a + b + c)) (λ n.
         let none : own + (f + (g + h)) ≡ 0 = omega (arith, n, af (omega (arith, n)), bg (omega (arith, n)), ch (omega (arith, n))) in
         let is : (own + (f + (g + h)) == 0) ≡ true = eq-eqb (own + (f + (g + h))) 0 none in
         let z : true ≡ false = sym is ∙ e in
         cc) in
-        ap Some (size refl) ∙ sym (cond-false (own + (a + b + c) == 0) None (Some (16 + 8 * (a + b + c))) (not_zero (own + (a + b + c)) some))
+        cond-false (own + (a + b + c) == 0) None (Some by_numbers) (not_zero (own + (a + b + c)) some) ∙ ap Some (are refl)
 
 -- a class without one is skipped
-pub no_directory : (p : ItemPlaces) (own n len : ℕ) → len ≡ 16 + 8 * n → own ≡ 0 → len ≡ 16 → place_use 4 p (directory_size own n) ≡ pass p
-no_directory p own n len size o e = ap (place_use 4 p) (cond-true (own + n == 0) None (Some (16 + 8 * n)) (eq-eqb (own + n) 0 (omega (arith, size, o, e))))
+pub no_directory : (own n len : ℕ) (item : List ℕ) → len ≡ 16 + 8 * n → own ≡ 0 → len ≡ 16 → (if own + n == 0 then None else Some item) ≡ None
+no_directory own n len item size o e = cond-true (own + n == 0) None (Some item) (eq-eqb (own + n) 0 (omega (arith, size, o, e)))
 
 -- else its directory is put
 directory_there : (own n len : ℕ) → len ≡ 16 + 8 * n → ((own ≡ 0) × (len ≡ 16 → ⊥)) ⊎ (own ≡ 0 → ⊥) → 0 < own + n
 directory_there own n len size (inl h) = positive (own + n) (λ e. h.1 (omega (arith, size, e)))
 directory_there own n len size (inr h) = positive (own + n) (λ e. h (omega (arith, e)))
 
-pub some_directory : (p : ItemPlaces) (own n len : ℕ) → len ≡ 16 + 8 * n → ((own ≡ 0) × (len ≡ 16 → ⊥)) ⊎ (own ≡ 0 → ⊥) → place_use 4 p (directory_size own n) ≡ put_at p (round_up 4 p.end) len
-some_directory p own n len size h =
-    ap (place_use 4 p) (cond-false (own + n == 0) None (Some (16 + 8 * n)) (not_zero (own + n) (directory_there own n len size h))) ∙ ap (put_at p (round_up 4 p.end)) (sym size)
+pub some_directory : (own n len : ℕ) (item : List ℕ) → len ≡ 16 + 8 * n → ((own ≡ 0) × (len ≡ 16 → ⊥)) ⊎ (own ≡ 0 → ⊥) → (if own + n == 0 then None else Some item) ≡ Some item
+some_directory own n len item size h = cond-false (own + n == 0) None (Some item) (not_zero (own + n) (directory_there own n len size h))
 
 -- ---- the next directory
 
@@ -117,32 +117,58 @@ module _ (cs : List NumberedClass) (i : ℕ) (c : NumberedClass) (lt : i < lengt
   next_class = drop_more cs i c lt ∙ ap (λ d. d ∷ drop (i + 1) cs) is
 
   -- how many members are left
-  pub next_fields : length (flat_map (λ c. fields_of c.members) (drop i cs)) ≡ length (fields_of c.members) + length (flat_map (λ c. fields_of c.members) (drop (i + 1) cs))
+  next_fields : length (flat_map (λ c. fields_of c.members) (drop i cs)) ≡ length (fields_of c.members) + length (flat_map (λ c. fields_of c.members) (drop (i + 1) cs))
   next_fields = ap (λ l. length (flat_map (λ (c : NumberedClass). fields_of c.members) l)) next_class ∙ length-append (fields_of c.members) (flat_map (λ c. fields_of c.members) (drop (i + 1) cs))
 
-  pub next_methods : length (flat_map (λ c. methods_of c.members) (drop i cs)) ≡ length (methods_of c.members) + length (flat_map (λ c. methods_of c.members) (drop (i + 1) cs))
+  next_methods : length (flat_map (λ c. methods_of c.members) (drop i cs)) ≡ length (methods_of c.members) + length (flat_map (λ c. methods_of c.members) (drop (i + 1) cs))
   next_methods = ap (λ l. length (flat_map (λ (c : NumberedClass). methods_of c.members) l)) next_class ∙ length-append (methods_of c.members) (flat_map (λ c. methods_of c.members) (drop (i + 1) cs))
 
-  module _ (own fs ms ls : List ℕ) (p : ItemPlaces) where
-    -- the places after the next directory
-    abbrev pub next_places : ItemPlaces
-    next_places = place_use 4 p (directory_size (slice_index own i) (entry_count (take (length (fields_of c.members)) fs) (take (length (methods_of c.members)) ms) (take (length (methods_of c.members)) ls)))
+-- encoding the directories of the classes that are left, with the offsets that are left, gives all
+pub record DirectoriesLeft (bytes : List ℕ) (places : ItemPlaces) (cs : List NumberedClass) (own fs ms ls : List ℕ) (all : List (Option (List ℕ))) (from : ℕ) : Type 0 where
+  pub enough_fields : length (flat_map (λ c. fields_of c.members) cs) ≤ length fs
+  pub enough_methods : length (flat_map (λ c. methods_of c.members) cs) ≤ length ms
+  pub enough_lists : length (flat_map (λ c. methods_of c.members) cs) ≤ length ls
+  pub encoding : Encoding 4 bytes places (directory_items cs own fs ms ls) all from
 
-    -- those that are left
-    abbrev pub left_sizes : List (Option ℕ)
-    left_sizes = directory_sizes (drop (i + 1) cs) (drop (i + 1) own) (drop (length (fields_of c.members)) fs) (drop (length (methods_of c.members)) ms) (drop (length (methods_of c.members)) ls)
+module _ {bytes : List ℕ} {places : ItemPlaces} {fs ms ls : List ℕ} {all : List (Option (List ℕ))} {from : ℕ} {ffs fms fls ofs oms ols : List ℕ} (cs : List NumberedClass) (own : List ℕ) (i : ℕ) (c : NumberedClass) (x : NumberedMembers) (n k : ℕ)
+    (h : DirectoriesLeft bytes places (drop i cs) (drop i own) fs ms ls all from) (lt : i < length cs) (is : get_or cs i c ≡ c) (members : x ≡ c.members) (many_fields : n ≡ length (fields_of x)) (many_methods : k ≡ length (methods_of x))
+    (front_fields : ffs ≡ take n fs) (front_methods : fms ≡ take k ms) (front_lists : fls ≡ take k ls) (back_fields : ofs ≡ drop n fs) (back_methods : oms ≡ drop k ms) (back_lists : ols ≡ drop k ls) where
+  fields_are : n ≡ length (fields_of c.members)
+  fields_are = many_fields ∙ ap (λ (y : NumberedMembers). length (fields_of y)) members
 
-    pub next_directory : place_uses 4 p (directory_sizes (drop i cs) (drop i own) fs ms ls) ≡ place_uses 4 next_places left_sizes
-    next_directory =
-        let nf = length (fields_of c.members) in
-        let nm = length (methods_of c.members) in
-        let there : slice_index (drop i own) 0 ≡ slice_index own i = get_or-drop i own 0 0 ∙ ap (slice_index own) (omega arith) in
-        let following : drop 1 (drop i own) ≡ drop (i + 1) own = drop-drop 1 i own in
-        ap (λ l. place_uses 4 p (directory_sizes l (drop i own) fs ms ls)) next_class
-        ∙ (λ j. place_uses 4 (place_use 4 p (directory_size (there j) (entry_count (take nf fs) (take nm ms) (take nm ls)))) (directory_sizes (drop (i + 1) cs) (following j) (drop nf fs) (drop nm ms) (drop nm ls)))
+  methods_same : k ≡ length (methods_of c.members)
+  methods_same = many_methods ∙ ap (λ (y : NumberedMembers). length (methods_of y)) members
 
-    pub directory_within : (last : ℕ) → (place_uses 4 p (directory_sizes (drop i cs) (drop i own) fs ms ls)).end ≤ last → next_places.end ≤ last
-    directory_within last le = omega (arith, le, ap (λ (q : ItemPlaces). q.end) next_directory, place_grows 4 next_places left_sizes)
+  -- the directory is the next
+  next_directory : directory_items (drop i cs) (drop i own) fs ms ls ≡ directory_item x (slice_index own i) ffs fms fls ∷ directory_items (drop (i + 1) cs) (drop (i + 1) own) ofs oms ols
+  next_directory =
+      let nf = length (fields_of c.members) in
+      let nm = length (methods_of c.members) in
+      let same : c.members ≡ x = sym members in
+      let there : slice_index (drop i own) 0 ≡ slice_index own i = get_or-drop i own 0 0 ∙ ap (slice_index own) (omega arith) in
+      let following : drop 1 (drop i own) ≡ drop (i + 1) own = drop-drop 1 i own in
+      let ff : take nf fs ≡ ffs = ap (λ z. take z fs) (sym fields_are) ∙ sym front_fields in
+      let mf : take nm ms ≡ fms = ap (λ z. take z ms) (sym methods_same) ∙ sym front_methods in
+      let lf : take nm ls ≡ fls = ap (λ z. take z ls) (sym methods_same) ∙ sym front_lists in
+      let fb : drop nf fs ≡ ofs = ap (λ z. drop z fs) (sym fields_are) ∙ sym back_fields in
+      let mb : drop nm ms ≡ oms = ap (λ z. drop z ms) (sym methods_same) ∙ sym back_methods in
+      let lb : drop nm ls ≡ ols = ap (λ z. drop z ls) (sym methods_same) ∙ sym back_lists in
+      ap (λ ds. directory_items ds (drop i own) fs ms ls) (next_class cs i c lt is)
+      ∙ (λ j. directory_item (same j) (there j) (ff j) (mf j) (lf j) ∷ directory_items (drop (i + 1) cs) (following j) (fb j) (mb j) (lb j))
+
+  -- it fits
+  pub directories_fit : (place_use 4 places (item_len (directory_item x (slice_index own i) ffs fms fls))).end ≤ (place_uses 4 (none_from from) (map item_len all)).end
+  directories_fit = encoding_fits h.encoding (directory_item x (slice_index own i) ffs fms fls) (directory_items (drop (i + 1) cs) (drop (i + 1) own) ofs oms ols) next_directory
+
+  -- it was encoded
+  pub directories_more : {more : List ℕ} {next : ItemPlaces} → more ≡ bytes ++ aligned_bytes 4 places.end (directory_item x (slice_index own i) ffs fms fls) → next ≡ place_use 4 places (item_len (directory_item x (slice_index own i) ffs fms fls))
+      → DirectoriesLeft more next (drop (i + 1) cs) (drop (i + 1) own) ofs oms ols all from
+  directories_more eb ep = record {
+    enough_fields = omega (arith, h.enough_fields, next_fields cs i c lt is, fields_are, ap (λ (os : List ℕ). length os) back_fields, length-drop n fs);
+    enough_methods = omega (arith, h.enough_methods, next_methods cs i c lt is, methods_same, ap (λ (os : List ℕ). length os) back_methods, length-drop k ms);
+    enough_lists = omega (arith, h.enough_lists, next_methods cs i c lt is, methods_same, ap (λ (os : List ℕ). length os) back_lists, length-drop k ls);
+    encoding = encoding_more h.encoding (directory_item x (slice_index own i) ffs fms fls) (directory_items (drop (i + 1) cs) (drop (i + 1) own) ofs oms ols) next_directory eb ep;
+  }
 
 -- ---- the offsets of classes
 
@@ -205,7 +231,7 @@ all_firsts (c ∷ cs) offs =
 module _ (m : Mentions) (ranks : RanksAreNumbers m) where
   -- the directory of a class
   one_directory : (c : NumberedClass) → IsKnownClass m c → (s : SetOffsets) (lists : List ℕ) → length s.fields ≡ length (fields_of c.members) → length s.methods ≡ length (methods_of c.members) → length lists ≡ length (methods_of c.members)
-      → option_map (λ (x : List ℕ). length x) (directory_bytes m (definition_of m c) s lists) ≡ directory_size s.own (entry_count s.fields (map (λ os. slice_index os 0) s.methods) lists)
+      → directory_item c.members s.own s.fields (map (λ os. slice_index os 0) s.methods) lists ≡ directory_bytes m (definition_of m c) s lists
   one_directory c known s lists many_fields many_methods many_lists =
       let d = definition_of m c in
       let name = type_at m c.name in
@@ -217,16 +243,14 @@ module _ (m : Mentions) (ranks : RanksAreNumbers m) where
       let first_count : length firsts ≡ length (methods_of c.members) = length-map s.methods (λ os. slice_index os 0) ∙ many_methods in
       let ml : length firsts ≡ length mis = omega (arith, first_count, mc, length-map (declared_methods d.1) (λ x. method_index m (method_of name x))) in
       let ll : length lists ≡ length mis = omega (arith, many_lists, mc, length-map (declared_methods d.1) (λ x. method_index m (method_of name x))) in
-      known_size s.own (length (pairs fis s.fields)) (length (pairs mis firsts)) (length (pairs mis lists)) (count_placed s.fields) (count_placed firsts) (count_placed lists) _
+      same_item s.own (length (pairs fis s.fields)) (length (pairs mis firsts)) (length (pairs mis lists)) (count_placed s.fields) (count_placed firsts) (count_placed lists) (numbered_directory_bytes c.members s.own s.fields firsts lists) _
       (no_pairs fis s.fields fl) (no_pairs mis firsts ml) (no_pairs mis lists ll) (none_placed fis s.fields fl) (none_placed mis firsts ml) (none_placed mis lists ll)
-      (λ there.
-      ap (λ (l : List ℕ). length l) (sym (spelled.directory_spelled m ranks name d.1 c.members s.own s.fields firsts lists s _ known.members_known known.members_ordered known.members_own refl many_fields first_count many_lists refl refl refl there))
-      ∙ spelled.directory_size c.members s.own s.fields firsts lists many_fields first_count many_lists)
+      (λ there. spelled.directory_spelled m ranks name d.1 c.members s.own s.fields firsts lists s _ known.members_known known.members_ordered known.members_own refl many_fields first_count many_lists refl refl refl there)
 
   -- the directories of all classes
   all_directories : (cs : List NumberedClass) → All (IsKnownClass m) cs → (offs lists : List ℕ) → length (flat_map sets_of_class cs) ≤ length offs → length (flat_map (λ c. methods_of c.members) cs) ≤ length lists
-      → directory_sizes cs (map (λ s. s.own) (parts_of_classes cs offs)) (flat_map (λ s. s.fields) (parts_of_classes cs offs)) (flat_map firsts (parts_of_classes cs offs)) lists
-      ≡ map (option_map (λ (x : List ℕ). length x)) (zip_with (λ d p. directory_bytes m d p.0 p.1) (map (definition_of m) cs) (zip (parts_of_classes cs offs) (chunks (map (λ d. length (declared_methods d.1)) (map (definition_of m) cs)) lists)))
+      → directory_items cs (map (λ s. s.own) (parts_of_classes cs offs)) (flat_map (λ s. s.fields) (parts_of_classes cs offs)) (flat_map firsts (parts_of_classes cs offs)) lists
+      ≡ zip_with (λ d p. directory_bytes m d p.0 p.1) (map (definition_of m) cs) (zip (parts_of_classes cs offs) (chunks (map (λ d. length (declared_methods d.1)) (map (definition_of m) cs)) lists))
   all_directories [] known offs lists enough many = refl
   all_directories (c ∷ cs) known offs lists enough many =
       let d = definition_of m c in
@@ -248,15 +272,15 @@ module _ (m : Mentions) (ranks : RanksAreNumbers m) where
       let fr = drop_first s.fields fs nf lf in
       let mf = take_first (firsts s) ms nm lm in
       let mr = drop_first (firsts s) ms nm lm in
-      let here : directory_size s.own (entry_count (take nf (s.fields ++ fs)) (take nm (firsts s ++ ms)) (take nm lists)) ≡ option_map (λ (x : List ℕ). length x) (directory_bytes m d s (take (length (declared_methods d.1)) lists)) =
-      (λ i. directory_size s.own (entry_count (ff i) (mf i) (take nm lists)))
-      ∙ sym (one_directory c (All-head (IsKnownClass m) c cs known) s (take nm lists) lf (part_methods c offs) ll)
-      ∙ ap (λ k. option_map (λ (x : List ℕ). length x) (directory_bytes m d s (take k lists))) nd in
-      let rest : directory_sizes cs (map (λ (s : SetOffsets). s.own) ss) (drop nf (s.fields ++ fs)) (drop nm (firsts s ++ ms)) (drop nm lists)
-      ≡ map (option_map (λ (x : List ℕ). length x)) (zip_with (λ d p. directory_bytes m d p.0 p.1) (map (definition_of m) cs) (zip ss (chunks counts (drop (length (declared_methods d.1)) lists)))) =
-      (λ i. directory_sizes cs (map (λ (s : SetOffsets). s.own) ss) (fr i) (mr i) (drop nm lists))
+      let here : directory_item c.members s.own (take nf (s.fields ++ fs)) (take nm (firsts s ++ ms)) (take nm lists) ≡ directory_bytes m d s (take (length (declared_methods d.1)) lists) =
+      (λ i. directory_item c.members s.own (ff i) (mf i) (take nm lists))
+      ∙ one_directory c (All-head (IsKnownClass m) c cs known) s (take nm lists) lf (part_methods c offs) ll
+      ∙ ap (λ k. directory_bytes m d s (take k lists)) nd in
+      let rest : directory_items cs (map (λ (s : SetOffsets). s.own) ss) (drop nf (s.fields ++ fs)) (drop nm (firsts s ++ ms)) (drop nm lists)
+      ≡ zip_with (λ d p. directory_bytes m d p.0 p.1) (map (definition_of m) cs) (zip ss (chunks counts (drop (length (declared_methods d.1)) lists))) =
+      (λ i. directory_items cs (map (λ (s : SetOffsets). s.own) ss) (fr i) (mr i) (drop nm lists))
       ∙ all_directories cs (All-tail (IsKnownClass m) c cs known) (drop n offs) (drop nm lists) (omega (arith, enough, sets_count, length-drop n offs)) (omega (arith, many, methods_count, length-drop nm lists))
-      ∙ ap (λ k. map (option_map (λ (x : List ℕ). length x)) (zip_with (λ d p. directory_bytes m d p.0 p.1) (map (definition_of m) cs) (zip ss (chunks counts (drop k lists))))) nd in
+      ∙ ap (λ k. zip_with (λ d p. directory_bytes m d p.0 p.1) (map (definition_of m) cs) (zip ss (chunks counts (drop k lists)))) nd in
       λ i. here i ∷ rest i
 
 -- ---- they are those of the file
@@ -301,25 +325,36 @@ module _ (m : Mentions) (cs : List NumberedClass) (sets : SetPlaces) (are : AreS
   method_count =
       ap (λ (l : List ℕ). length l) are.methods_are ∙ ap (λ (ss : List SetOffsets). length (flat_map firsts ss)) set_parts ∙ all_firsts cs (set_use_offsets (ordered_of m cs))
 
-  -- their lengths
-  directory_lengths : AreWritable m cs → RanksAreNumbers m
-      → directory_sizes cs sets.own sets.fields sets.methods (uses_offsets (ref_list_section (ordered_of m cs))) ≡ sizes (λ x. x) (directory_uses (ordered_of m cs) (set_offsets (ordered_of m cs)) (uses_offsets (ref_list_section (ordered_of m cs))))
-  directory_lengths w ranks =
-      let K = ordered_of m cs in
-      let lists = uses_offsets (ref_list_section K) in
-      (λ i. directory_sizes cs (are.own_are i) (are.fields_are i) (are.methods_are i) lists)
-      ∙ ap (λ (ss : List SetOffsets). directory_sizes cs (map (λ s. s.own) ss) (flat_map (λ s. s.fields) ss) (flat_map firsts ss) lists) set_parts
-      ∙ all_directories m ranks cs w.known (set_use_offsets K) lists (omega (arith, sets_enough)) (omega (arith, length-ref_list_offsets m cs))
-      ∙ ap (λ (ss : List SetOffsets). sizes (λ x. x) (directory_uses K ss lists)) (sym set_parts)
+  module _ (w : AreWritable m cs) (ranks : RanksAreNumbers m) (own fs ms ls : List ℕ) (eo : own ≡ sets.own) (ef : fs ≡ sets.fields) (em : ms ≡ sets.methods) (el : ls ≡ uses_offsets (ref_list_section (ordered_of m cs))) where
+    items_are : directory_items cs own fs ms ls ≡ map (option_map (λ (x : List ℕ). x)) (directory_uses (ordered_of m cs) (set_offsets (ordered_of m cs)) (uses_offsets (ref_list_section (ordered_of m cs))))
+    items_are =
+        let K = ordered_of m cs in
+        let lists = uses_offsets (ref_list_section K) in
+        let owns = eo ∙ are.own_are in
+        let fields = ef ∙ are.fields_are in
+        let methods = em ∙ are.methods_are in
+        (λ i. directory_items cs (owns i) (fields i) (methods i) (el i))
+        ∙ ap (λ (ss : List SetOffsets). directory_items cs (map (λ s. s.own) ss) (flat_map (λ s. s.fields) ss) (flat_map firsts ss) lists) set_parts
+        ∙ all_directories m ranks cs w.known (set_use_offsets K) lists (omega (arith, sets_enough)) (omega (arith, length-ref_list_offsets m cs))
+        ∙ ap (λ (ss : List SetOffsets). directory_uses K ss lists) (sym set_parts)
+        ∙ sym (own_same (directory_uses K (set_offsets K) lists))
 
-  -- their offsets
-  pub directories_encoded : AreWritable m cs → RanksAreNumbers m
-      → AreLaidSo (uses_offsets (directory_section (ordered_of m cs))) (end (directory_section (ordered_of m cs))) (directory_section (ordered_of m cs)).items
-      (place_uses 4 (none_from (end (ref_list_section (ordered_of m cs)))) (directory_sizes cs sets.own sets.fields sets.methods (uses_offsets (ref_list_section (ordered_of m cs)))))
-  unfolding directory_section
-  directories_encoded w ranks =
-      let K = ordered_of m cs in
-      let from = end (ref_list_section K) in
-      let us = directory_uses K (set_offsets K) (uses_offsets (ref_list_section K)) in
-      subst (λ ns. AreLaidSo (uses_offsets (directory_section K)) (end (directory_section K)) (directory_section K).items (place_uses 4 (none_from from) ns)) (sym (directory_lengths w ranks))
-      (own_encoded (λ (x : List ℕ). x) 4 from us)
+    -- their offsets
+    pub directories_laid : (from : ℕ) → from ≡ end (ref_list_section (ordered_of m cs))
+        → AreLaidSo (uses_offsets (directory_section (ordered_of m cs))) (end (directory_section (ordered_of m cs))) (directory_section (ordered_of m cs)).items (place_uses 4 (none_from from) (map item_len (directory_items cs own fs ms ls)))
+    unfolding directory_section
+    directories_laid from e =
+        let K = ordered_of m cs in
+        let item = λ (x : List ℕ). x in
+        let uses = directory_uses K (set_offsets K) (uses_offsets (ref_list_section K)) in
+        let same : map item_len (directory_items cs own fs ms ls) ≡ sizes item uses = ap (map item_len) items_are ∙ own_lens item uses in
+        subst (AreLaidSo (uses_offsets (directory_section K)) (end (directory_section K)) (directory_section K).items)
+        (ap (λ ns. place_uses 4 (none_from (end (ref_list_section K))) ns) (sym same) ∙ ap (λ n. place_uses 4 (none_from n) (map item_len (directory_items cs own fs ms ls))) (sym e))
+        (own_encoded item 4 (end (ref_list_section K)) uses)
+
+    -- their bytes
+    pub directories_bytes : (from : ℕ) → from ≡ end (ref_list_section (ordered_of m cs)) → bytes_from 4 from (present (directory_items cs own fs ms ls)) ≡ section_bytes (directory_section (ordered_of m cs))
+    unfolding directory_section
+    directories_bytes from e =
+        let K = ordered_of m cs in
+        (λ i. bytes_from 4 (e i) (present (items_are i))) ∙ own_bytes (λ (x : List ℕ). x) 4 (end (ref_list_section K)) (directory_uses K (set_offsets K) (uses_offsets (ref_list_section K)))

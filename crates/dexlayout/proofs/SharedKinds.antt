@@ -5,20 +5,17 @@ use Rattle.std.specs.Borrow.{Bor}
 use Rattle.std.specs.List.{flat_map}
 use Rattle.std.specs.Option.{option_map, option_map_or}
 use Rattle.std.proofs.lemmas.Grind.{flat_map-append}
-use Rattle.std.proofs.lemmas.List.{map-append, length-append, length-map}
+use Rattle.std.proofs.lemmas.List.{map-append, length-map}
 use Rattle.std.proofs.lemmas.Simd.{map-map}
 use Rattle.dexspec.specs.Annotations.{AnnotationSet}
-use Rattle.dexspec.specs.Bytes.{uint, ushort}
 use Rattle.dexspec.specs.Canonical.{data_start, type_list_items, type_list_section, set_items, string_section, debug_items, debug_section}
 use Rattle.dexspec.specs.Classes.{FieldDef, MethodDef}
 use Rattle.dexspec.specs.Debug.{Debug}
 use Rattle.dexspec.specs.Mentions.{Mentions}
 use Rattle.dexspec.specs.Placing.{offsets, offsets_from, end_from, unless_empty, method_sets, class_sets, type_list_uses, set_uses, debug_uses, all_methods, end}
 use Rattle.dexspec.specs.Sameness.{same_types, same_set, same_debug}
-use Rattle.dexspec.specs.Spellings.{type_index, type_list_bytes, debug_bytes}
-use Rattle.dexspec.proofs.numbers.ByteNumbers.{length-uint, length-ushort}
+use Rattle.dexspec.specs.Spellings.{type_list_bytes, debug_bytes}
 use Rattle.dexspec.proofs.sharing.Sameness.{types_decide, debug_decides}
-use Rattle.dexspec.proofs.written.PlacedBytes.{length_rows}
 use Rattle.dexcode.specs.Debug.{NumberedDebug, numbered_debug_bytes}
 use Rattle.dexcode.specs.Meaning.{code_in, debug_in, IsKnownDebug}
 use Rattle.dexcode.specs.Numbered.{NumberedItem}
@@ -30,15 +27,16 @@ use Rattle.dexval.specs.Equality.{equal_sets, set_decides}
 use Rattle.dexval.specs.Numbered.{set_in}
 use Rattle.dexmembers.specs.Numbered.{NumberedField, NumberedMethod, field_in, method_in, methods_of}
 use Rattle.dexpool.specs.Numberings.{AreRising}
+use Rattle.dexpool.proofs.UnionLaws.{ranks_are_numbers}
 use Rattle.dexclass.specs.Numbered.{NumberedClass, definition_of, type_at}
-use Rattle.dexlayout.specs.Places.{ItemPlaces}
 use Rattle.dexlayout.specs.Laid.{AreShared, AreTypeLists, AreDebugs, AreWritable, AreLaidSo, ordered_of}
-use Rattle.dexlayout.specs.internal.Running.{none_from}
-use Rattle.dexlayout.specs.internal.Sharing.{list_len}
+use Rattle.dexlayout.specs.internal.Encoding.{list_bytes}
+use Rattle.dexlayout.specs.internal.Placing.{shared_by, lists_bytes, list_places, debugs_bytes, debug_places}
 use Rattle.dexlayout.specs.internal.SharedUses.{AreTypes, SharesLists, SharesSets, SharesDebugs, interfaces_use, set_use, field_uses, method_uses, methods_uses, members_uses, equal_debugs, debugs_uses}
 use Rattle.dexlayout.proofs.EncodedItems.{encoded_are}
 use Rattle.dexlayout.proofs.Ends.{end_in_file}
-use Rattle.dexlayout.proofs.SharedPlaces.{placed, written_encoded, by_numbers, uses_encoded, numbers_within, offsets_count}
+use Rattle.dexlayout.proofs.ListBytes.{list_bytes_are}
+use Rattle.dexlayout.proofs.SharedPlaces.{written_encoded, uses_encoded, numbers_within, offsets_count}
 use Rattle.dexlayout.proofs.SharedSame.{lists_agree, sets_agree, debugs_agree}
 use Rattle.dexlayout.proofs.SharedUses.{shared_are}
 
@@ -51,41 +49,41 @@ list_uses_are m cs = ap (λ us. map (λ p. unless_empty p.parameters) m.protos +
 pub lists_shared : (m : Mentions) (cs : List NumberedClass) (ks : List (List ℕ)) (ns : List (Option ℕ)) → AreRising m → SharesLists m (type_list_uses (ordered_of m cs)) ks ns → AreShared (map (type_at m)) (type_list_items (ordered_of m cs)) ks ns
 lists_shared m cs ks ns rising h = shared_are h same_types (lists_agree m rising)
 
--- a type_list has four bytes and two for each type
-list_len_is : (m : Mentions) (ns : List ℕ) → list_len ns ≡ length (type_list_bytes m (map (type_at m) ns))
-list_len_is m ns =
-    let ts = map (type_at m) ns in
-    omega (arith, length-append (uint (length ts)) (flat_map (λ t. ushort (type_index m t)) ts), length-uint (length ts), length_rows (λ t. ushort (type_index m t)) 2 (λ t. length-ushort (type_index m t)) ts, length-map ns (type_at m))
-
-module _ (m : Mentions) (cs : List NumberedClass) (from : ℕ) (is : from ≡ data_start (ordered_of m cs)) (written : List (List ℕ)) (numbers : List (Option ℕ)) (known : All (AreTypes m) written)
+module _ (m : Mentions) (cs : List NumberedClass) (w : AreWritable m cs) (from : ℕ) (is : from ≡ data_start (ordered_of m cs)) (written : List (List ℕ)) (numbers : List (Option ℕ)) (known : All (AreTypes m) written)
     (h : AreShared (map (type_at m)) (type_list_items (ordered_of m cs)) written numbers) where
-  -- the offsets of those that are written
-  abbrev pub list_places : ItemPlaces
-  list_places = placed list_len 4 (none_from from) written
+  list_is : (ns : List ℕ) → AreTypes m ns → list_bytes ns ≡ type_list_bytes m (map (type_at m) ns)
+  list_is ns k = list_bytes_are m ns (ranks_are_numbers m w.numbering.rising) k
 
-  lists_encoded : AreLaidSo (offsets (type_list_section (ordered_of m cs))) (end (type_list_section (ordered_of m cs))) (type_list_section (ordered_of m cs)).items list_places
+  list_len_is : (ns : List ℕ) → AreTypes m ns → length (list_bytes ns) ≡ length (type_list_bytes m (map (type_at m) ns))
+  list_len_is ns k = ap (λ (l : List ℕ). length l) (list_is ns k)
+
+  lists_encoded : AreLaidSo (offsets (type_list_section (ordered_of m cs))) (end (type_list_section (ordered_of m cs))) (type_list_section (ordered_of m cs)).items (list_places from written)
   unfolding type_list_section
   lists_encoded =
       let items = (type_list_section (ordered_of m cs)).items in
-      subst (λ n. AreLaidSo (offsets_from 4 n items) (end_from 4 n items) items list_places) is
-      (written_encoded 4 from list_len (type_list_bytes m) (map (type_at m)) (AreTypes m) written (type_list_items (ordered_of m cs)).written (λ ns _. list_len_is m ns) known h.written_are)
+      subst (λ n. AreLaidSo (offsets_from 4 n items) (end_from 4 n items) items (list_places from written)) is
+      (written_encoded 4 from (λ ns. length (list_bytes ns)) (type_list_bytes m) (map (type_at m)) (AreTypes m) written (type_list_items (ordered_of m cs)).written list_len_is known h.written_are)
 
   -- they end within the file
-  pub lists_fit : AreWritable m cs → list_places.end ≤ 2 ^ 30
-  lists_fit w = omega (arith, lists_encoded.end_is, (end_in_file (ordered_of m cs) w.fits).type_lists)
+  pub lists_fit : (list_places from written).end ≤ 2 ^ 30
+  lists_fit = omega (arith, lists_encoded.end_is, (end_in_file (ordered_of m cs) w.fits).type_lists)
 
   -- each use has the number of one of them
-  pub lists_numbered : All (λ n. IfSome n (λ i. i < length list_places.offsets)) numbers
+  pub lists_numbered : All (λ n. IfSome n (λ i. i < length (list_places from written).offsets)) numbers
   unfolding type_list_section
   lists_numbered =
       let items = type_list_items (ordered_of m cs) in
-      numbers_within same_types types_decide (type_list_uses (ordered_of m cs)) numbers (length list_places.offsets) h.numbers_are
+      numbers_within same_types types_decide (type_list_uses (ordered_of m cs)) numbers (length (list_places from written).offsets) h.numbers_are
       (offsets_count 4 (data_start (ordered_of m cs)) lists_encoded ∙ length-map items.written (type_list_bytes m))
 
   -- the type lists of the file
-  pub lists_laid : AreTypeLists m cs (record { written = written; places = by_numbers numbers list_places })
+  pub lists_laid : AreTypeLists m cs (shared_by numbers (record { bytes = lists_bytes from written; places = list_places from written }))
   unfolding type_list_section
-  lists_laid = record { written_are = h.written_are; known = known; places_are = uses_encoded numbers (type_list_items (ordered_of m cs)).numbers h.numbers_are lists_encoded }
+  lists_laid = record {
+    bytes_are = encoded_are 4 from (data_start (ordered_of m cs)) list_bytes (type_list_bytes m) (map (type_at m)) (AreTypes m) written (type_list_items (ordered_of m cs)).written list_is known h.written_are is;
+    count_is = offsets_count 4 (data_start (ordered_of m cs)) lists_encoded;
+    places_are = uses_encoded numbers (type_list_items (ordered_of m cs)).numbers h.numbers_are lists_encoded;
+  }
 
 -- ---- annotation sets
 
@@ -160,47 +158,42 @@ pub debugs_shared : (m : Mentions) (cs : List NumberedClass) (ks : List (Bor Num
     → SharesDebugs m (debug_uses (ordered_of m cs)) ks ns → AreShared (λ (d : Bor NumberedDebug). debug_in m d.now) (debug_items (ordered_of m cs)) ks ns
 debugs_shared m cs ks ns exact rising h = shared_are h same_debug (λ d e. debugs_agree m rising (equal_debugs d.now e.now) d.now e.now (exact d.now e.now))
 
--- how many bytes a debug program has
-abbrev pub debug_len : Bor NumberedDebug → ℕ
-debug_len d = length (numbered_debug_bytes d.now)
+-- the bytes of a debug program
+abbrev pub debug_code : Bor NumberedDebug → List ℕ
+debug_code d = numbered_debug_bytes d.now
 
 module _ (m : Mentions) (cs : List NumberedClass) (w : AreWritable m cs) (from : ℕ) (is : from ≡ end (string_section (ordered_of m cs))) (written : List (Bor NumberedDebug)) (numbers : List (Option ℕ))
     (known : All (λ d. IsKnownDebug m d.now) written) (h : AreShared (λ (d : Bor NumberedDebug). debug_in m d.now) (debug_items (ordered_of m cs)) written numbers) where
-  -- the offsets of those that are written
-  abbrev pub debug_places : ItemPlaces
-  debug_places = placed debug_len 1 (none_from from) written
-
-  debug_code_is : (d : Bor NumberedDebug) → IsKnownDebug m d.now → numbered_debug_bytes d.now ≡ debug_bytes m (debug_in m d.now)
+  debug_code_is : (d : Bor NumberedDebug) → IsKnownDebug m d.now → debug_code d ≡ debug_bytes m (debug_in m d.now)
   debug_code_is d k = bytes_are m d.now (debug_in m d.now) w.numbering.rising (debug_encoded m d.now k)
 
-  debug_len_is : (d : Bor NumberedDebug) → IsKnownDebug m d.now → debug_len d ≡ length (debug_bytes m (debug_in m d.now))
+  debug_len_is : (d : Bor NumberedDebug) → IsKnownDebug m d.now → length (debug_code d) ≡ length (debug_bytes m (debug_in m d.now))
   debug_len_is d k = ap (λ (l : List ℕ). length l) (debug_code_is d k)
 
-  debugs_encoded : AreLaidSo (offsets (debug_section (ordered_of m cs))) (end (debug_section (ordered_of m cs))) (debug_section (ordered_of m cs)).items debug_places
+  debugs_encoded : AreLaidSo (offsets (debug_section (ordered_of m cs))) (end (debug_section (ordered_of m cs))) (debug_section (ordered_of m cs)).items (debug_places from written)
   unfolding debug_section
   debugs_encoded =
       let items = (debug_section (ordered_of m cs)).items in
-      subst (λ n. AreLaidSo (offsets_from 1 n items) (end_from 1 n items) items debug_places) is
-      (written_encoded 1 from debug_len (debug_bytes m) (λ d. debug_in m d.now) (λ d. IsKnownDebug m d.now) written (debug_items (ordered_of m cs)).written debug_len_is known h.written_are)
+      subst (λ n. AreLaidSo (offsets_from 1 n items) (end_from 1 n items) items (debug_places from written)) is
+      (written_encoded 1 from (λ d. length (debug_code d)) (debug_bytes m) (λ d. debug_in m d.now) (λ d. IsKnownDebug m d.now) written (debug_items (ordered_of m cs)).written debug_len_is known h.written_are)
 
   -- they end within the file
-  pub debugs_fit : debug_places.end ≤ 2 ^ 30
+  pub debugs_fit : (debug_places from written).end ≤ 2 ^ 30
   debugs_fit = omega (arith, debugs_encoded.end_is, (end_in_file (ordered_of m cs) w.fits).debugs)
 
   -- each use has the number of one of them
-  pub debugs_numbered : All (λ n. IfSome n (λ i. i < length debug_places.offsets)) numbers
+  pub debugs_numbered : All (λ n. IfSome n (λ i. i < length (debug_places from written).offsets)) numbers
   unfolding debug_section
   debugs_numbered =
       let items = debug_items (ordered_of m cs) in
-      numbers_within same_debug debug_decides (debug_uses (ordered_of m cs)) numbers (length debug_places.offsets) h.numbers_are
+      numbers_within same_debug debug_decides (debug_uses (ordered_of m cs)) numbers (length (debug_places from written).offsets) h.numbers_are
       (offsets_count 1 (end (string_section (ordered_of m cs))) debugs_encoded ∙ length-map items.written (debug_bytes m))
 
   -- the debug programs of the file
-  pub debugs_laid : AreDebugs m cs (record { bytes = flat_map (λ (d : Bor NumberedDebug). numbered_debug_bytes d.now) written; count = length written; places = by_numbers numbers debug_places })
+  pub debugs_laid : AreDebugs m cs (shared_by numbers (record { bytes = debugs_bytes from written; places = debug_places from written }))
   unfolding debug_section
   debugs_laid = record {
-    bytes_are = encoded_are (end (string_section (ordered_of m cs))) (λ (d : Bor NumberedDebug). numbered_debug_bytes d.now) (debug_bytes m) (λ (d : Bor NumberedDebug). debug_in m d.now) (λ (d : Bor NumberedDebug). IsKnownDebug m d.now) written
-        (debug_items (ordered_of m cs)).written debug_code_is known h.written_are;
-    count_is = sym (length-map written (λ (d : Bor NumberedDebug). debug_in m d.now)) ∙ ap (λ xs. length xs) h.written_are ∙ sym (length-map (debug_items (ordered_of m cs)).written (debug_bytes m));
+    bytes_are = encoded_are 1 from (end (string_section (ordered_of m cs))) debug_code (debug_bytes m) (λ d. debug_in m d.now) (λ d. IsKnownDebug m d.now) written (debug_items (ordered_of m cs)).written debug_code_is known h.written_are is;
+    count_is = offsets_count 1 (end (string_section (ordered_of m cs))) debugs_encoded;
     places_are = uses_encoded numbers (debug_items (ordered_of m cs)).numbers h.numbers_are debugs_encoded;
   }

@@ -1,16 +1,16 @@
 -- The arrays of static values of classes.
 use Rattle.std.proofs.Common.{◌≡◌, ℕ, ◌<◌, List, [], ◌∷◌, length, map, None, Some, refl, sym, ap, subst, ◌∙◌, arith}
-use Rattle.std.specs.List.{flat_map}
 use Rattle.std.specs.Option.{option_map}
 use Rattle.dexspec.specs.Classes.{Definition}
 use Rattle.dexspec.specs.Mentions.{Mentions}
-use Rattle.dexspec.specs.Placing.{values_unless_empty, static_values_uses, end, uses_offsets, section_bytes}
+use Rattle.dexspec.specs.Lists.{present}
+use Rattle.dexspec.specs.Placing.{values_unless_empty, static_values_uses, bytes_from, end, uses_offsets, section_bytes}
 use Rattle.dexspec.specs.Canonical.{annotation_section, array_section}
 use Rattle.dexspec.specs.Spellings.{encoded_array_bytes}
 use Rattle.dexval.specs.Numbered.{NumberedValue, values_in, values_of_list}
 use Rattle.dexclass.specs.Numbered.{NumberedClass, definition_of}
 use Rattle.dexlayout.specs.Laid.{AreLaidSo, ordered_of}
-use Rattle.dexlayout.specs.internal.Encoding.{item_bytes, item_len, static_item}
+use Rattle.dexlayout.specs.internal.Encoding.{item_len, static_item}
 use Rattle.dexlayout.specs.internal.Running.{none_from, place_uses}
 use Rattle.dexlayout.proofs.EncodedUses.{own_lens, own_bytes}
 use Rattle.dexlayout.proofs.Owned.{sizes, own_encoded}
@@ -52,8 +52,8 @@ arrays_laid m cs from e =
     (ap (λ ns. place_uses 1 (none_from (end (annotation_section K))) ns) (sym same) ∙ ap (λ n. place_uses 1 (none_from n) (map item_len (map (static_item m) cs))) (sym e)) (own_encoded f 1 (end (annotation_section K)) (static_values_uses K))
 
 -- their bytes
-pub arrays_bytes : (m : Mentions) (cs : List NumberedClass) → flat_map item_bytes (map (static_item m) cs) ≡ section_bytes (array_section (ordered_of m cs))
+pub arrays_bytes : (m : Mentions) (cs : List NumberedClass) (from : ℕ) → from ≡ end (annotation_section (ordered_of m cs)) → bytes_from 1 from (present (map (static_item m) cs)) ≡ section_bytes (array_section (ordered_of m cs))
 unfolding array_section
-arrays_bytes m cs =
+arrays_bytes m cs from e =
     let K = ordered_of m cs in
-    ap (flat_map item_bytes) (statics_are m cs) ∙ own_bytes (encoded_array_bytes m) (end (annotation_section K)) (static_values_uses K)
+    (λ i. bytes_from 1 (e i) (present (statics_are m cs i))) ∙ own_bytes (encoded_array_bytes m) 1 (end (annotation_section K)) (static_values_uses K)

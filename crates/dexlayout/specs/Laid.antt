@@ -1,5 +1,5 @@
 -- When a layout is that of the canonical file of classes.
-use Rattle.std.specs.Prelude.{◌≡◌, ℕ, ◌+◌, ◌^◌, ◌<◌, ◌≤◌, max, Option, List, [], ◌∷◌, map, length, All, drop, slice_index}
+use Rattle.std.specs.Prelude.{◌≡◌, ℕ, ◌+◌, ◌^◌, ◌≤◌, max, Option, List, [], ◌∷◌, map, length, All, drop, slice_index}
 use Rattle.std.specs.List.{flat_map}
 use Rattle.dexspec.specs.Mentions.{Mentions, mentions}
 use Rattle.dexspec.specs.Files.{Collection, definitions}
@@ -7,14 +7,14 @@ use Rattle.dexspec.specs.Header.{header_length}
 use Rattle.dexspec.specs.Placing.{Ordered, EqualOnce, Placed, Items, section_bytes, end, uses_offsets, offsets}
 use Rattle.dexspec.specs.Spellings.{annotation_bytes}
 use Rattle.dexspec.specs.Annotations.{AnnotationSet}
-use Rattle.dexspec.specs.Canonical.{map_of, data_sections, type_list_items, type_list_section, set_items, annotation_section, array_section, string_section, debug_section, code_section, class_data_section, set_section, set_offsets, ref_list_section, directory_section, ordered}
+use Rattle.dexspec.specs.Canonical.{map_of, data_sections, type_list_section, set_items, annotation_section, array_section, string_section, debug_section, code_section, class_data_section, set_section, set_offsets, ref_list_section, directory_section, ordered}
 use Rattle.dexhead.specs.Laid.{StatesLayout, map_start, map_list}
 use Rattle.dexpool.specs.Numberings.{IsNumbering}
 use Rattle.dexval.specs.Numbered.{set_in, IsKnownSet}
-use Rattle.dexclass.specs.Numbered.{NumberedClass, definition_of, type_at}
+use Rattle.dexclass.specs.Numbered.{NumberedClass, definition_of}
 use Rattle.dexclass.specs.Uses.{IsKnownClass}
 use Rattle.dexclass.specs.Programs.{AreClassesOf}
-use Rattle.dexlayout.specs.Places.{ItemPlaces, EncodedItems, TypeListPlaces, AnnotationPlaces, DebugPlaces, SetPlaces, Places}
+use Rattle.dexlayout.specs.Places.{ItemPlaces, EncodedItems, EncodedSharedItems, AnnotationPlaces, SetPlaces, Places}
 
 -- ---- classes that are laid out
 
@@ -67,11 +67,15 @@ pub record AreEncodedIn (section : Placed) (p : EncodedItems) : Type 0 where
   pub bytes_are : p.bytes ≡ section_bytes section
   pub places_are : AreLaidIn section p.places
 
+-- items that uses share have the bytes, the number and the offsets that they have in this section
+pub record AreSharedIn (section : Placed) (p : EncodedSharedItems) : Type 0 where
+  pub bytes_are : p.bytes ≡ section_bytes section
+  pub count_is : p.count ≡ length section.items
+  pub places_are : AreLaidIn section p.places
+
 -- the type lists
-pub record AreTypeLists (m : Mentions) (cs : List NumberedClass) (p : TypeListPlaces) : Type 0 where
-  pub written_are : map (map (type_at m)) p.written ≡ (type_list_items (ordered_of m cs)).written
-  pub known : All (All (λ i. i < length m.types)) p.written
-  pub places_are : AreLaidIn (type_list_section (ordered_of m cs)) p.places
+abbrev pub AreTypeLists : Mentions → List NumberedClass → EncodedSharedItems → Type 0
+AreTypeLists m cs = AreSharedIn (type_list_section (ordered_of m cs))
 
 -- the offset of the first annotation of each set, for sets from an offset on
 abbrev pub first_offsets : Mentions → ℕ → List AnnotationSet → List ℕ
@@ -86,10 +90,8 @@ pub record AreAnnotations (m : Mentions) (cs : List NumberedClass) (p : Annotati
   pub places_are : AreLaidSo (first_offsets m (end (type_list_section (ordered_of m cs))) (set_items (ordered_of m cs)).written) (end (annotation_section (ordered_of m cs))) (annotation_section (ordered_of m cs)).items p.places
 
 -- the debug programs
-pub record AreDebugs (m : Mentions) (cs : List NumberedClass) (p : DebugPlaces) : Type 0 where
-  pub bytes_are : p.bytes ≡ section_bytes (debug_section (ordered_of m cs))
-  pub count_is : p.count ≡ length (debug_section (ordered_of m cs)).items
-  pub places_are : AreLaidIn (debug_section (ordered_of m cs)) p.places
+abbrev pub AreDebugs : Mentions → List NumberedClass → EncodedSharedItems → Type 0
+AreDebugs m cs = AreSharedIn (debug_section (ordered_of m cs))
 
 -- the sets
 pub record AreSets (m : Mentions) (cs : List NumberedClass) (p : SetPlaces) : Type 0 where
@@ -117,8 +119,8 @@ abbrev pub AreRefLists : Mentions → List NumberedClass → ItemPlaces → Type
 AreRefLists m cs = AreLaidIn (ref_list_section (ordered_of m cs))
 
 -- the directories
-abbrev pub AreDirectories : Mentions → List NumberedClass → ItemPlaces → Type 0
-AreDirectories m cs = AreLaidIn (directory_section (ordered_of m cs))
+abbrev pub AreDirectories : Mentions → List NumberedClass → EncodedItems → Type 0
+AreDirectories m cs = AreEncodedIn (directory_section (ordered_of m cs))
 
 -- ---- the whole
 

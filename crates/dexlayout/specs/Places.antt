@@ -10,26 +10,21 @@ pub record ItemPlaces : Type 0 where
   pub end : ℕ
   pub greatest : ℕ
 
--- Items that are encoded: their bytes, and their offsets.
+-- Items that are encoded: their bytes, with the zeros that align them, and their offsets.
 pub record EncodedItems : Type 0 where
   pub bytes : List ℕ
   pub places : ItemPlaces
 
--- The type lists that are written, by numbers of types, and their offsets: for each proto, and then for each class.
-pub record TypeListPlaces : Type 0 where
-  pub written : List (List ℕ)
+-- Items that equal uses share: the bytes of those that are written, how many they are, and their offsets.
+pub record EncodedSharedItems : Type 0 where
+  pub bytes : List ℕ
+  pub count : ℕ
   pub places : ItemPlaces
 
 -- The annotation sets that are written, the bytes of their annotations, and for each set the offset of its first one.
 pub record AnnotationPlaces : Type 0 where
   pub written : List NumberedSet
   pub bytes : List ℕ
-  pub places : ItemPlaces
-
--- The debug programs that are written: their bytes, how many they are, and their offsets: for each method.
-pub record DebugPlaces : Type 0 where
-  pub bytes : List ℕ
-  pub count : ℕ
   pub places : ItemPlaces
 
 -- The offsets of annotation sets: the own one of each class, that of each field, that of each method, and those of the
@@ -45,15 +40,15 @@ pub record SetPlaces : Type 0 where
 -- A whole layout: the header, without its sums, the parts in the order of the file, and the map.
 pub record Places : Type 0 where
   pub head : Head
-  pub type_lists : TypeListPlaces
+  pub type_lists : EncodedSharedItems
   pub annotations : AnnotationPlaces
   pub static_values : EncodedItems
   pub strings : ItemPlaces
-  pub debugs : DebugPlaces
+  pub debugs : EncodedSharedItems
   pub codes : ItemPlaces
   pub class_data : EncodedItems
   pub sets : SetPlaces
   pub ref_lists : ItemPlaces
-  pub directories : ItemPlaces
+  pub directories : EncodedItems
   pub entries : List (Section × ℕ × ℕ)
   pub greatest : ℕ

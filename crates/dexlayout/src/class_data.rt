@@ -58,9 +58,7 @@ fn put_item(
     }
     let before = bytes.len();
     members.put_class_data(code_offs, bytes)?;
-    let off = places.end();
-    let len = (bytes.len() - before) as u32;
-    places.put_at(off, len)?;
+    places.put_next(bytes.len() - before)?;
     Ok(())
 }
 

@@ -14,9 +14,9 @@ ghost use Rattle.dexlayout.specs.internal.Placing.{PlacedFrom, AreWrittenSets, A
 use crate::annotations::{Annotations, place_annotations};
 use crate::class_data::place_class_data;
 use crate::codes::place_codes;
-use crate::debugs::{DebugPrograms, place_debugs};
+use crate::debugs::place_debugs;
 use crate::directories::place_directories;
-use crate::items::Items;
+use crate::items::{Items, SharedItems};
 use crate::map_entries::count_placed;
 use crate::offsets::{Offsets, round_up};
 use crate::ref_lists::place_ref_lists;
@@ -26,7 +26,7 @@ use crate::sharing::Shared;
 use crate::static_values::place_static_values;
 use crate::strings::place_strings;
 use crate::tables::entry;
-use crate::type_lists::{TypeLists, place_type_lists};
+use crate::type_lists::place_type_lists;
 use dexclass::Class;
 use dexhead::{MapEntry, Section};
 use dexpool::{Numbering, SymbolKind};
@@ -54,7 +54,7 @@ impl Drop for Data<'_> {
 /// The offsets of the items of the first sections.
 #[derive(Drop)]
 pub(crate) struct FirstSections<'p> {
-    pub(crate) type_lists: TypeLists<'p>,
+    pub(crate) type_lists: SharedItems,
     pub(crate) annotations: Annotations<'p>,
     pub(crate) static_values: Items,
     pub(crate) strings: Offsets,
@@ -63,7 +63,7 @@ pub(crate) struct FirstSections<'p> {
 /// The offsets of code items, of their debug programs and of class data.
 #[derive(Drop)]
 pub(crate) struct Bodies {
-    pub(crate) debugs: DebugPrograms,
+    pub(crate) debugs: SharedItems,
     pub(crate) codes: Offsets,
     pub(crate) class_data: Items,
 }
@@ -73,7 +73,7 @@ pub(crate) struct Bodies {
 pub(crate) struct Back {
     pub(crate) sets: Sets,
     pub(crate) ref_lists: Offsets,
-    pub(crate) directories: Offsets,
+    pub(crate) directories: Items,
 }
 
 // Lays out the sections up to the string data, after the tables. `written` has the sets that are written.
@@ -214,7 +214,7 @@ impl Data<'_> {
         [
             entry(
                 Section::TypeLists,
-                self.first_sections.type_lists.written().len() as u32,
+                self.first_sections.type_lists.count() as u32,
                 round_up(from),
             ),
             entry(
@@ -259,7 +259,7 @@ impl Data<'_> {
             ),
             entry(
                 Section::AnnotationsDirectories,
-                count_placed(self.back.directories.offsets()) as u32,
+                count_placed(self.back.directories.places().offsets()) as u32,
                 round_up(self.back.ref_lists.end()),
             ),
         ]
@@ -282,6 +282,6 @@ impl Data<'_> {
             .max(self.bodies.class_data.places().greatest())
             .max(self.back.sets.greatest())
             .max(self.back.ref_lists.greatest())
-            .max(self.back.directories.greatest())
+            .max(self.back.directories.places().greatest())
     }
 }

@@ -1,4 +1,4 @@
-//! The offsets of debug programs.
+//! Debug programs.
 
 ghost use Rattle.std.specs.Prelude.{◌≡◌, ◌^◌, ◌≤◌, IfOk, MatchOption, None, Some};
 ghost use Rattle.dexspec.specs.Placing.{end};
@@ -10,57 +10,14 @@ ghost use Rattle.dexlayout.specs.internal.Adding.{AddsUses, AreKnownMethods, mem
 ghost use Rattle.dexlayout.specs.internal.Placing.{PlacedFrom, HaveDebugs, HaveKnownDebugs, debugs_bytes, debug_places};
 ghost use Rattle.dexlayout.specs.internal.SharedUses.{SharesDebugs, debug_of, debugs_uses};
 
-use crate::items::Items;
+use crate::items::{Items, SharedItems};
 use crate::offsets::Offsets;
-use crate::sharing::{Shared, Sharing, place_shared};
+use crate::sharing::{Shared, Sharing};
 use dexclass::Class;
 use dexcode::{Debug, debug_equality_law, put_debug};
 use dexmembers::{Members, Method, Methods};
 use dexpool::Numbering;
 use std::alloc::{AllocError, Global};
-use std::marker::Model;
-
-/// The debug programs that are written, equal ones once, in the order of their first use: their bytes, how many they
-/// are, and their offsets: for each method of each class, the direct ones first.
-///
-/// Source: "debug_info_item".
-#[derive(Drop)]
-pub struct DebugPrograms {
-    pub(crate) bytes: Vec<u8>,
-    pub(crate) count: usize,
-    pub(crate) places: Offsets,
-}
-
-impl Model for DebugPrograms {
-    ghost use Rattle.dexlayout.specs.Places.{DebugPlaces};
-
-    ghost Value = { DebugPlaces };
-
-    ghost view = { λ l. record { bytes = l.bytes.items; count = l.count; places = l.places } };
-}
-
-impl DebugPrograms {
-    /// The debug programs that are written, one after the other.
-    pub fn bytes(&self) -> &[u8]
-        ensures { result.now ≡ self.now.bytes }
-    {
-        &self.bytes
-    }
-
-    /// How many are written.
-    pub fn count(&self) -> usize
-        ensures { result ≡ self.now.count }
-    {
-        self.count
-    }
-
-    /// Their offsets: one for each method of each class, or 0 where it has none.
-    pub fn places(&self) -> &Offsets
-        ensures { result.now ≡ self.now.places }
-    {
-        &self.places
-    }
-}
 
 // The debug program of a method, if it has one.
 fn debug_of<'p>(method: &Method<'p, '_>) -> Option<&'p Debug>
@@ -115,7 +72,7 @@ fn share_debugs<'p>(
     sharing.finish(alloc)
 }
 
-// Encodes the debug programs that are written, from a place on.
+// Encodes the debug programs that are written, from an offset on.
 fn encode_written(
     alloc: Global,
     numbering: &Numbering<'_>,
@@ -123,7 +80,7 @@ fn encode_written(
     from: u32,
 ) -> Result<Items, AllocError>
     requires { (debug_places from debugs.now).end ≤ 2 ^ 30 }
-    ensures bytes { IfOk result (λ items. items.bytes ≡ debugs_bytes debugs.now) }
+    ensures bytes { IfOk result (λ items. items.bytes ≡ debugs_bytes from debugs.now) }
     ensures places { IfOk result (λ items. items.places ≡ debug_places from debugs.now) }
 {
     let mut bytes = Vec::new(alloc);
@@ -131,20 +88,21 @@ fn encode_written(
     for i in 0..debugs.len() {
         let before = bytes.len();
         put_debug(debugs[i], numbering, &mut bytes)?;
-        let off = places.end();
-        let len = (bytes.len() - before) as u32;
-        places.put_at(off, len)?;
+        places.put_next(bytes.len() - before)?;
     }
     Ok(Items { bytes, places })
 }
 
-/// The debug programs, encoded, and their offsets. They are after the texts.
+/// The debug programs, encoded, and their offsets: for each method of each class, the direct ones first. They are after
+/// the texts.
+///
+/// Source: "debug_info_item".
 pub(crate) fn place_debugs(
     alloc: Global,
     numbering: &Numbering<'_>,
     classes: &[Class<'_>],
     from: u32,
-) -> Result<DebugPrograms, AllocError>
+) -> Result<SharedItems, AllocError>
     requires { (m : Mentions) × AreWritable m classes.now
         × (from ≡ end (string_section (ordered_of m classes.now))) }
     ensures { IfOk result (PlacedFrom string_section AreDebugs classes.now from) }
@@ -152,14 +110,5 @@ pub(crate) fn place_debugs(
     let shared = share_debugs(alloc, classes)?;
     let Shared { written, numbers } = shared;
     let items = encode_written(alloc, numbering, &written, from)?;
-    let Items {
-        bytes,
-        places: debugs,
-    } = items;
-    let places = place_shared(alloc, &numbers, &debugs)?;
-    Ok(DebugPrograms {
-        bytes,
-        count: written.len(),
-        places,
-    })
+    SharedItems::of(alloc, items, &numbers)
 }

@@ -1,47 +1,58 @@
-//! The offsets of annotations directories.
+//! Annotations directories.
 
-ghost use Rattle.std.specs.Prelude.{◌≡◌, ◌^◌, ◌≤◌, IfOk, OnOk, length};
+ghost use Rattle.std.specs.Prelude.{◌≡◌, ◌++◌, ◌^◌, ◌≤◌, IfOk, OnOk, length};
 ghost use Rattle.dexspec.specs.Placing.{end, uses_offsets};
 ghost use Rattle.dexspec.specs.Canonical.{ref_list_section};
 ghost use Rattle.dexmembers.specs.Numbered.{fields_of, methods_of};
 ghost use Rattle.dexlayout.specs.Laid.{AreWritable, AreSets, ordered_of, AreDirectories};
-ghost use Rattle.dexlayout.specs.internal.Placing.{add_directory};
+ghost use Rattle.dexlayout.specs.internal.Directories.{directory_item};
+ghost use Rattle.dexlayout.specs.internal.Encoding.{aligned_bytes, item_len};
+ghost use Rattle.dexlayout.specs.internal.Running.{place_use};
 
-use crate::offsets::{Offsets, round_up};
+use crate::items::{Items, align};
+use crate::offsets::Offsets;
 use crate::sets::Sets;
 use dexclass::Class;
 use dexmembers::Members;
 use dexpool::{Numbering, number_law};
 use std::alloc::{AllocError, Global};
 
-// The number of bytes of a directory without members.
+// The number of bytes of a directory without entries.
 const EMPTY_DIRECTORY: usize = 16;
 
-// Places the directory of a class, unless all offsets are 0.
-fn place_directory(
+// Encodes the directory of a class after the others, unless all offsets are 0.
+fn encode_directory(
     members: &Members<'_>,
     own_off: u32,
     field_offs: &[u32],
     method_offs: &[u32],
     list_offs: &[u32],
+    bytes: &mut Vec<u8>,
     places: &mut Offsets,
 ) -> Result<(), AllocError>
     requires fields { length field_offs.now ≡ length (fields_of members.now) }
     requires methods { length method_offs.now ≡ length (methods_of members.now) }
     requires lists { length list_offs.now ≡ length (methods_of members.now) }
-    requires fits { (add_directory places.old own_off field_offs.now method_offs.now
-        list_offs.now).end ≤ 2 ^ 30 }
-    ensures { OnOk result (places.new
-        ≡ add_directory places.old own_off field_offs.now method_offs.now list_offs.now) }
+    requires fits { (place_use 4 places.old (item_len (directory_item members.now own_off
+        field_offs.now method_offs.now list_offs.now))).end ≤ 2 ^ 30 }
+    ensures bytes { OnOk result (bytes.new.items ≡ bytes.old.items ++ aligned_bytes 4 places.old.end
+        (directory_item members.now own_off field_offs.now method_offs.now list_offs.now)) }
+    ensures places { OnOk result (places.new ≡ place_use 4 places.old (item_len
+        (directory_item members.now own_off field_offs.now method_offs.now list_offs.now))) }
 {
     let len = members.directory_len(field_offs, method_offs, list_offs);
     if own_off == 0 && len == EMPTY_DIRECTORY {
-        return places.pass();
+        places.pass()?;
+        return Ok(());
     }
-    places.put_at(round_up(places.end()), len as u32)
+    align(bytes, places.end())?;
+    members.put_directory(own_off, field_offs, method_offs, list_offs, bytes)?;
+    places.put_aligned(len)?;
+    Ok(())
 }
 
-/// The offset of the annotations directory of each class. They are after the lists of sets of parameters.
+/// The annotations directories of the classes, encoded, and their offsets: one for each class. They are after the lists
+/// of sets of parameters.
 ///
 /// Source: "annotations_directory_item".
 pub(crate) fn place_directories(
@@ -51,7 +62,7 @@ pub(crate) fn place_directories(
     sets: &Sets,
     ref_lists: &[u32],
     from: u32,
-) -> Result<Offsets, AllocError>
+) -> Result<Items, AllocError>
     requires classes { AreWritable numbering.now classes.now }
     requires sets { AreSets numbering.now classes.now sets.now }
     requires lists { ref_lists.now ≡ uses_offsets (ref_list_section (ordered_of numbering.now classes.now)) }
@@ -63,6 +74,7 @@ pub(crate) fn place_directories(
     let mut fields = sets.fields();
     let mut methods = sets.methods();
     let mut lists = ref_lists;
+    let mut bytes = Vec::new(alloc);
     let mut places = Offsets::starting_at(alloc, from, classes.len())?;
     for i in 0..classes.len() {
         let members = classes[i].members();
@@ -70,17 +82,18 @@ pub(crate) fn place_directories(
         let (field_offs, fields_left) = fields.split_at(members.field_count());
         let (method_offs, methods_left) = methods.split_at(count);
         let (list_offs, lists_left) = lists.split_at(count);
-        place_directory(
+        encode_directory(
             members,
             own[i],
             field_offs,
             method_offs,
             list_offs,
+            &mut bytes,
             &mut places,
         )?;
         fields = fields_left;
         methods = methods_left;
         lists = lists_left;
     }
-    Ok(places)
+    Ok(Items { bytes, places })
 }

@@ -7,12 +7,10 @@ ghost use Rattle.dexlayout.specs.Laid.{IsWritable, IsLayoutOf};
 
 use crate::annotations::Annotations;
 use crate::data::Data;
-use crate::debugs::DebugPrograms;
-use crate::items::Items;
+use crate::items::{Items, SharedItems};
 use crate::layout_build::build_layout;
 use crate::offsets::Offsets;
 use crate::sets::Sets;
-use crate::type_lists::TypeLists;
 use dexclass::Program;
 use dexhead::{Head, MapEntry};
 use dexlaws::size::fitting_size_law;
@@ -58,7 +56,7 @@ impl<'p> Model for Layout<'p> {
 
 impl<'p> Layout<'p> {
     /// The layout of a program's canonical file. Time is linear in what is written, memory some 8 bytes for each
-    /// use and item, and the bytes of annotations, static values, debug programs and class data.
+    /// use and item, and the bytes of type lists, annotations, static values, debug programs and class data.
     pub fn of(alloc: Global, program: &'p Program<'_>) -> Result<Layout<'p>, AllocError>
         ensures laid { IfOk result (IsLayoutOf program.now) }
         ensures writable { IsWritable program.now }
@@ -87,8 +85,8 @@ impl<'p> Layout<'p> {
         self.head.file_size
     }
 
-    /// The type lists that are written, and their offsets: for each proto, and then for each class.
-    pub fn type_lists(&self) -> &TypeLists<'p>
+    /// The type lists, encoded, and their offsets: for each proto, and then for each class.
+    pub fn type_lists(&self) -> &SharedItems
         ensures { result.now ≡ self.now.type_lists }
     {
         &self.placed.first_sections.type_lists
@@ -116,7 +114,7 @@ impl<'p> Layout<'p> {
     }
 
     /// The debug programs, encoded, and their offsets: for each method.
-    pub fn debugs(&self) -> &DebugPrograms
+    pub fn debugs(&self) -> &SharedItems
         ensures { result.now ≡ self.now.debugs }
     {
         &self.placed.bodies.debugs
@@ -150,8 +148,9 @@ impl<'p> Layout<'p> {
         &self.placed.back.ref_lists
     }
 
-    /// The offset of the annotations directory of each class. Their end is the end of the sections before the map.
-    pub fn directories(&self) -> &Offsets
+    /// The annotations directories, encoded, and their offsets: for each class. Their end is the end of the sections
+    /// before the map.
+    pub fn directories(&self) -> &Items
         ensures { result.now ≡ self.now.directories }
     {
         &self.placed.back.directories

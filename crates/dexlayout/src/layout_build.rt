@@ -44,7 +44,7 @@ pub(crate) fn build_layout<'p>(
 {
     let tables = Tables::of(numbering, classes);
     let data = place_data(alloc, numbering, classes, tables.end)?;
-    let map_off = round_up(data.back.directories.end());
+    let map_off = round_up(data.back.directories.places().end());
     let sections = data.entries(numbering, tables.end);
     let entries = map_entries(alloc, &tables.entries(), &sections, map_off)?;
     let map_size = 4 + 12 * entries.len() as u32;

@@ -28,9 +28,7 @@ mod tables;
 mod type_lists;
 
 pub use annotations::Annotations;
-pub use debugs::DebugPrograms;
-pub use items::Items;
+pub use items::{Items, SharedItems};
 pub use layout::Layout;
 pub use offsets::Offsets;
 pub use sets::Sets;
-pub use type_lists::TypeLists;

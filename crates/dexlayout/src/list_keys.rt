@@ -24,6 +24,15 @@ impl<'p> Model for ListKey<'p> {
     ghost view = { λ k. k.list };
 }
 
+impl<'p> ListKey<'p> {
+    /// The type list.
+    pub(crate) fn list(&self) -> &TypeNumbers<'p>
+        ensures { result.now ≡ self.now }
+    {
+        &self.list
+    }
+}
+
 impl PartialEq for ListKey<'_> {
     ghost eq = { same_numbers };
 

@@ -59,8 +59,6 @@ fn put_array(
     }
     let before = bytes.len();
     put_statics(values, numbering, bytes)?;
-    let off = places.end();
-    let len = (bytes.len() - before) as u32;
-    places.put_at(off, len)?;
+    places.put_next(bytes.len() - before)?;
     Ok(())
 }

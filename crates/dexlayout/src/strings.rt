@@ -23,9 +23,7 @@ pub(crate) fn place_strings(
     let count = numbering.count(SymbolKind::Text);
     let mut places = Offsets::starting_at(alloc, from, count)?;
     for i in 0..count {
-        let off = places.end();
-        let len = numbering.string(i).item_len();
-        places.put_at(off, len as u32)?;
+        places.put_next(numbering.string(i).item_len())?;
     }
     Ok(places)
 }

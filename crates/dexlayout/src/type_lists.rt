@@ -1,54 +1,25 @@
-//! The offsets of type lists: those of the parameters of protos, and of the interfaces of classes.
+//! Type lists: those of the parameters of protos, and of the interfaces of classes.
 
-ghost use Rattle.std.specs.Prelude.{◌≡◌, ◌^◌, ◌≤◌, All, IfOk};
+ghost use Rattle.std.specs.Prelude.{◌≡◌, ◌+◌, ◌*◌, ◌^◌, ◌<◌, ◌≤◌, ◌++◌, All, IfOk, length, vec_len, vec_capacity};
+ghost use Rattle.std.specs.List.{flat_map};
+ghost use Rattle.dexspec.specs.Bytes.{ushort};
 ghost use Rattle.dexspec.specs.Canonical.{data_start};
+ghost use Rattle.dexspec.specs.internal.Writing.{Puts};
 ghost use Rattle.dexlayout.specs.Laid.{AreTypeLists, AreWritable, ordered_of};
 ghost use Rattle.dexlayout.specs.internal.SharedUses.{AreTypes, SharesLists};
 ghost use Rattle.dexlayout.specs.internal.Adding.{AddsUses, AddsParameters, list_uses, AreKnownClasses, interfaces_uses};
-ghost use Rattle.dexlayout.specs.internal.Placing.{HaveTypeLists, list_places};
+ghost use Rattle.dexlayout.specs.internal.Encoding.{list_bytes};
+ghost use Rattle.dexlayout.specs.internal.Placing.{HaveTypeLists, list_places, lists_bytes};
 
+use crate::items::{Items, SharedItems, align};
 use crate::list_keys::ListKey;
-use crate::offsets::{Offsets, round_up};
-use crate::sharing::{Shared, Sharing, place_shared};
+use crate::offsets::Offsets;
+use crate::sharing::{Shared, Sharing};
 use dexclass::Class;
+use dexhead::{push_u16, push_u32};
 use dexpool::{Numbering, SymbolKind};
 use dexrows::TypeNumbers;
 use std::alloc::{AllocError, Global};
-use std::marker::Model;
-
-/// The type lists that are written, equal ones once, in the order of their first use, and their offsets: for each
-/// proto, and then for each class.
-///
-/// Source: "type_list".
-#[derive(Drop)]
-pub struct TypeLists<'p> {
-    pub(crate) written: Vec<TypeNumbers<'p>>,
-    pub(crate) places: Offsets,
-}
-
-impl<'p> Model for TypeLists<'p> {
-    ghost use Rattle.dexlayout.specs.Places.{TypeListPlaces};
-
-    ghost Value = { TypeListPlaces };
-
-    ghost view = { λ l. record { written = l.written.items; places = l.places } };
-}
-
-impl<'p> TypeLists<'p> {
-    /// The lists that are written, by numbers of types.
-    pub fn written(&self) -> &[TypeNumbers<'p>]
-        ensures { result.now ≡ self.now.written }
-    {
-        &self.written
-    }
-
-    /// Their offsets: for each proto, and then for each class.
-    pub fn places(&self) -> &Offsets
-        ensures { result.now ≡ self.now.places }
-    {
-        &self.places
-    }
-}
 
 // Adds a use of a type list, which has no item where the list is empty.
 fn add_list<'p>(sharing: &mut Sharing<ListKey<'p>>, list: TypeNumbers<'p>) -> Result<(), AllocError>
@@ -104,46 +75,65 @@ fn share_type_lists<'p>(
     sharing.finish(alloc)
 }
 
-// The lists that were keys.
-fn lists_of<'p>(alloc: Global, keys: Vec<ListKey<'p>>) -> Result<Vec<TypeNumbers<'p>>, AllocError>
-    ensures { IfOk result (λ lists. lists.items ≡ keys.entry.items) }
+// Appends numbers of two bytes each where there is room for them.
+fn push_types(types: &TypeNumbers<'_>, out: &mut Vec<u8>)
+    requires few { All (λ i. i < 65536) types.now }
+    requires room { vec_len out.old + 2 * length types.now ≤ vec_capacity out.old }
+    ensures items { out.new.items ≡ out.old.items ++ flat_map ushort types.now }
+    ensures len { vec_len out.new ≡ vec_len out.old + 2 * length types.now }
+    ensures capacity { vec_capacity out.old ≤ vec_capacity out.new }
 {
-    let mut lists = Vec::with_capacity(alloc, keys.len())?;
-    for key in &keys {
-        lists.push(key.list.clone())?;
+    for i in 0..types.len() {
+        push_u16(types.at(i) as u16, out);
     }
-    Ok(lists)
 }
 
-// The offsets of the type lists that are written, from an offset on.
-fn place_lists(alloc: Global, lists: &[TypeNumbers<'_>], from: u32) -> Result<Offsets, AllocError>
-    requires { (list_places from lists.now).end ≤ 2 ^ 30 }
-    ensures { IfOk result (λ places. places ≡ list_places from lists.now) }
+// Appends a type_list of numbers.
+#[tactic(auto, using(crate::proofs::ListBytes::length_list))]
+fn put_types(types: &TypeNumbers<'_>, out: &mut Vec<u8>) -> Result<(), AllocError>
+    requires count { length types.now < 2 ^ 31 }
+    requires few { All (λ i. i < 65536) types.now }
+    ensures { Puts (list_bytes types.now) out.old out.new result }
 {
+    out.reserve(4 + 2 * types.len())?;
+    push_u32(types.len() as u32, out);
+    push_types(types, out);
+    Ok(())
+}
+
+// Encodes the type lists that are written, from an offset on.
+fn encode_written(alloc: Global, lists: &[ListKey<'_>], from: u32) -> Result<Items, AllocError>
+    requires few { All (λ list. All (λ i. i < 65536) list) lists.now }
+    requires fits { (list_places from lists.now).end ≤ 2 ^ 30 }
+    ensures bytes { IfOk result (λ items. items.bytes ≡ lists_bytes from lists.now) }
+    ensures places { IfOk result (λ items. items.places ≡ list_places from lists.now) }
+{
+    let mut bytes = Vec::new(alloc);
     let mut places = Offsets::starting_at(alloc, from, lists.len())?;
-    for i in 0..lists.len() {
-        let off = round_up(places.end());
-        let len = 4 + 2 * lists[i].len() as u32;
-        places.put_at(off, len)?;
+    for key in lists {
+        align(&mut bytes, places.end())?;
+        let before = bytes.len();
+        put_types(key.list(), &mut bytes)?;
+        places.put_aligned(bytes.len() - before)?;
     }
-    Ok(places)
+    Ok(Items { bytes, places })
 }
 
-/// The offsets of the type lists, which are after the tables.
-pub(crate) fn place_type_lists<'p>(
+/// The type lists, encoded, and their offsets: for each proto, and then for each class. They are after the tables.
+///
+/// Source: "type_list".
+pub(crate) fn place_type_lists(
     alloc: Global,
-    numbering: &'p Numbering<'_>,
-    classes: &'p [Class<'_>],
+    numbering: &Numbering<'_>,
+    classes: &[Class<'_>],
     from: u32,
-) -> Result<TypeLists<'p>, AllocError>
+) -> Result<SharedItems, AllocError>
     requires classes { AreWritable numbering.now classes.now }
     requires from { from ≡ data_start (ordered_of numbering.now classes.now) }
     ensures { IfOk result (AreTypeLists numbering.now classes.now) }
 {
     let shared = share_type_lists(alloc, numbering, classes)?;
     let Shared { written, numbers } = shared;
-    let written = lists_of(alloc, written)?;
-    let lists = place_lists(alloc, &written, from)?;
-    let places = place_shared(alloc, &numbers, &lists)?;
-    Ok(TypeLists { written, places })
+    let items = encode_written(alloc, &written, from)?;
+    SharedItems::of(alloc, items, &numbers)
 }

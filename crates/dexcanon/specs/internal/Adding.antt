@@ -1,5 +1,5 @@
 -- What is added to an output: the parts of a file, and items within a limit.
-use Rattle.std.specs.Prelude.{◌≡◌, ℕ, ◌+◌, ◌≤◌, Bool, ◌==◌, ◌&&◌, List, ◌++◌, None, length, vec_len, vec_capacity, slice_index}
+use Rattle.std.specs.Prelude.{◌≡◌, ℕ, ◌+◌, ◌≤◌, Bool, List, ◌++◌, None, length, vec_len, vec_capacity, slice_index}
 use Rattle.std.specs.List.{concat, flat_map}
 use Rattle.dexspec.specs.Lists.{zip_with}
 use Rattle.dexspec.specs.Bytes.{uint, padding}
@@ -8,12 +8,9 @@ use Rattle.dexspec.specs.Spellings.{text_index}
 use Rattle.dexspec.specs.Canonical.{class_offsets, data_sections, table_bytes, proto_row_bytes, field_row_bytes, method_row_bytes, with_sums, unsigned_file, type_list_section, string_section, directory_section}
 use Rattle.dexhead.specs.Laid.{after_header, map_list}
 use Rattle.dexmembers.specs.Numbered.{NumberedMethod}
-use Rattle.dexmembers.specs.DirectoryPut.{numbered_directory_bytes}
 use Rattle.dexcanon.specs.declared.class_defs.ClassPlaces.{ClassPlaces}
 use Rattle.dexcanon.specs.declared.contents.Contents.{Contents}
-use Rattle.dexcanon.specs.declared.directories.DirectoryItem.{DirectoryItem}
 use Rattle.dexcanon.specs.declared.output.Out.{Out}
-use Rattle.dexcanon.specs.Directories.{HaveOffsets}
 use Rattle.dexcanon.specs.internal.ClassRows.{rows_with, row_offsets}
 use Rattle.dexcanon.specs.internal.Output.{Adds, FitFrom, HasRoom}
 use Rattle.dexcanon.specs.internal.Ready.{ordered_in}
@@ -72,16 +69,6 @@ data_of c = flat_map section_bytes (data_sections (ordered_in c))
 -- the map, which is aligned
 abbrev pub map_bytes : Contents → List ℕ
 map_bytes c = padding 4 (end (directory_section (ordered_in c))) ++ map_list (ordered_in c)
-
--- ---- directories
-
--- there are offsets for all that a directory may name
-abbrev pub HasOffsets : DirectoryItem → Type 0
-HasOffsets d = HaveOffsets d.members.now d.field_offs.now d.method_offs.now d.list_offs.now
-
--- the directory has no entry
-abbrev pub has_no_entry : DirectoryItem → Bool
-has_no_entry d = d.own_off == 0 && length (numbered_directory_bytes d.members.now d.own_off d.field_offs.now d.method_offs.now d.list_offs.now) == 16
 
 -- ---- what is written
 

@@ -1,20 +1,20 @@
--- How long the directories of classes are, by the offsets of sets and of lists of sets.
-use Rattle.std.specs.Prelude.{ℕ, ◌+◌, ◌*◌, ◌==◌, if◌then◌else◌, List, [], ◌∷◌, length, take, drop, slice_index, Option, Some, None}
-use Rattle.dexmembers.specs.Numbered.{fields_of, methods_of}
-use Rattle.dexmembers.specs.DirectoryPut.{count_placed}
+-- The directories of classes, by the offsets of sets and of lists of sets.
+use Rattle.std.specs.Prelude.{ℕ, ◌+◌, ◌==◌, if◌then◌else◌, List, [], ◌∷◌, length, take, drop, slice_index, Option, Some, None}
+use Rattle.dexmembers.specs.Numbered.{NumberedMembers, fields_of, methods_of}
+use Rattle.dexmembers.specs.DirectoryPut.{count_placed, numbered_directory_bytes}
 use Rattle.dexclass.specs.Numbered.{NumberedClass}
 
 -- how many members a directory names
 abbrev pub entry_count : List ℕ → List ℕ → List ℕ → ℕ
 entry_count fields methods lists = count_placed fields + count_placed methods + count_placed lists
 
--- how many bytes a directory has, unless all offsets are 0
-abbrev pub directory_size : ℕ → ℕ → Option ℕ
-directory_size own entries = if own + entries == 0 then None else Some (16 + 8 * entries)
+-- the directory of what a class declares, unless all offsets are 0
+abbrev pub directory_item : NumberedMembers → ℕ → List ℕ → List ℕ → List ℕ → Option (List ℕ)
+directory_item x own fields methods lists = if own + entry_count fields methods lists == 0 then None else Some (numbered_directory_bytes x own fields methods lists)
 
--- the same for each class, from the offsets of all
-abbrev pub directory_sizes : List NumberedClass → List ℕ → List ℕ → List ℕ → List ℕ → List (Option ℕ)
-directory_sizes [] own fields methods lists = []
-directory_sizes (c ∷ cs) own fields methods lists =
-    directory_size (slice_index own 0) (entry_count (take (length (fields_of c.members)) fields) (take (length (methods_of c.members)) methods) (take (length (methods_of c.members)) lists))
-    ∷ directory_sizes cs (drop 1 own) (drop (length (fields_of c.members)) fields) (drop (length (methods_of c.members)) methods) (drop (length (methods_of c.members)) lists)
+-- those of classes, from the offsets of all
+abbrev pub directory_items : List NumberedClass → List ℕ → List ℕ → List ℕ → List ℕ → List (Option (List ℕ))
+directory_items [] own fields methods lists = []
+directory_items (c ∷ cs) own fields methods lists =
+    directory_item c.members (slice_index own 0) (take (length (fields_of c.members)) fields) (take (length (methods_of c.members)) methods) (take (length (methods_of c.members)) lists)
+    ∷ directory_items cs (drop 1 own) (drop (length (fields_of c.members)) fields) (drop (length (methods_of c.members)) methods) (drop (length (methods_of c.members)) lists)

@@ -1,6 +1,8 @@
 -- Items that are encoded use by use: what each use has, and how long it is.
-use Rattle.std.specs.Prelude.{ℕ, ◌+◌, Bool, ◌==◌, if◌then◌else◌, List, [], ◌∷◌, length, take, drop, Option, Some, None}
+use Rattle.std.specs.Prelude.{ℕ, ◌+◌, Bool, ◌==◌, if◌then◌else◌, List, [], ◌∷◌, ◌++◌, length, take, drop, Option, Some, None}
+use Rattle.std.specs.List.{flat_map}
 use Rattle.std.specs.Option.{option_map}
+use Rattle.dexspec.specs.Bytes.{ushort, uint, padding}
 use Rattle.dexspec.specs.Mentions.{Mentions}
 use Rattle.dexspec.specs.Placing.{values_unless_empty}
 use Rattle.dexspec.specs.Spellings.{encoded_array_bytes}
@@ -14,10 +16,19 @@ abbrev pub item_bytes : Option (List ℕ) → List ℕ
 item_bytes None = []
 item_bytes (Some item) = item
 
--- how many they are, if the use has an item
+-- the same at an offset, after the zeros that align the item
+abbrev pub aligned_bytes : ℕ → ℕ → Option (List ℕ) → List ℕ
+aligned_bytes align at None = []
+aligned_bytes align at (Some item) = padding align at ++ item
+
+-- how many bytes the item has, if the use has one
 abbrev pub item_len : Option (List ℕ) → Option ℕ
 item_len None = None
 item_len (Some item) = Some (length item)
+
+-- a type_list of numbers
+abbrev pub list_bytes : List ℕ → List ℕ
+list_bytes ns = uint (length ns) ++ flat_map ushort ns
 
 -- the array of a class's static values, unless it has none
 abbrev pub static_item : Mentions → NumberedClass → Option (List ℕ)

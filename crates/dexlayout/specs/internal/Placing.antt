@@ -6,7 +6,7 @@ use Rattle.std.specs.List.{flat_map}
 use Rattle.dexspec.specs.Texts.{string_data}
 use Rattle.dexspec.specs.Mentions.{Mentions}
 use Rattle.dexspec.specs.Sections.{Section, HeaderItem, MapList}
-use Rattle.dexspec.specs.Placing.{Ordered, offsets_from, end_from, uses_offsets, end, Placed}
+use Rattle.dexspec.specs.Placing.{Ordered, bytes_from, offsets_from, end_from, uses_offsets, end, Placed}
 use Rattle.dexspec.specs.Canonical.{data_start, data_sections, type_list_items, type_list_section, set_items, debug_items, code_section, placed_tables}
 use Rattle.dexhead.specs.declared.head.Head.{Head}
 use Rattle.dexhead.specs.declared.map_list.MapEntry.{MapEntry}
@@ -21,13 +21,12 @@ use Rattle.dexclass.specs.Numbered.{NumberedClass}
 use Rattle.dexlayout.specs.declared.data.Data.{Data}
 use Rattle.dexlayout.specs.declared.sharing.Shared.{Shared}
 use Rattle.dexlayout.specs.declared.tables.Tables.{Tables}
-use Rattle.dexlayout.specs.Places.{ItemPlaces, EncodedItems, AnnotationPlaces, SetPlaces}
+use Rattle.dexlayout.specs.Places.{ItemPlaces, EncodedItems, EncodedSharedItems, AnnotationPlaces, SetPlaces}
 use Rattle.dexlayout.specs.Laid.{ordered_of, greatest_in, AreWritable, AreLaidSo, AreAnnotations, AreClassData, AreShared}
 use Rattle.dexlayout.specs.internal.Parts.{AreTables, AreData, entry_of, section_parts}
-use Rattle.dexlayout.specs.internal.Running.{none_from, place_use, place_uses}
-use Rattle.dexlayout.specs.internal.Sharing.{list_len}
+use Rattle.dexlayout.specs.internal.Running.{none_from, place_uses}
+use Rattle.dexlayout.specs.internal.Encoding.{list_bytes}
 use Rattle.dexlayout.specs.internal.Collecting.{set_len}
-use Rattle.dexlayout.specs.internal.Directories.{entry_count, directory_size}
 
 -- ---- sections
 
@@ -57,9 +56,19 @@ shared_places numbers written = record {
   greatest = written.greatest;
 }
 
--- type lists from the offset on
+-- the same of encoded items
+abbrev pub shared_by : List (Option ℕ) → EncodedItems → EncodedSharedItems
+shared_by numbers written = record { bytes = written.bytes; count = length written.places.offsets; places = shared_places numbers written.places }
+
+-- ---- type lists
+
+-- their bytes from the offset on
+abbrev pub lists_bytes : ℕ → List (List ℕ) → List ℕ
+lists_bytes from lists = bytes_from 4 from (map list_bytes lists)
+
+-- their offsets
 abbrev pub list_places : ℕ → List (List ℕ) → ItemPlaces
-list_places from lists = place_uses 4 (none_from from) (map (λ list. Some (list_len list)) lists)
+list_places from lists = place_uses 4 (none_from from) (map (λ list. Some (length (list_bytes list))) lists)
 
 -- the type lists are those of the file of these classes
 abbrev pub HaveTypeLists : Mentions → List NumberedClass → Shared (List ℕ) → Type 0
@@ -95,10 +104,6 @@ set_places from sets = place_uses 4 (none_from from) (map (λ s. Some (set_len (
 abbrev pub no_sets : ItemPlaces → SetPlaces
 no_sets written = record { own = []; fields = []; methods = []; parameters = []; end = written.end; greatest = written.greatest }
 
--- a directory more, by the offsets that it has
-abbrev pub add_directory : ItemPlaces → ℕ → List ℕ → List ℕ → List ℕ → ItemPlaces
-add_directory p own fields methods lists = place_use 4 p (directory_size own (entry_count fields methods lists))
-
 -- ---- debug programs
 
 -- the debug programs are those of the file of these classes
@@ -109,11 +114,11 @@ HaveDebugs cs shared = (m : Mentions) → AreWritable m cs → AreShared (λ d. 
 abbrev pub HaveKnownDebugs : List NumberedClass → Shared (Bor NumberedDebug) → Type 0
 HaveKnownDebugs cs shared = (m : Mentions) → AreWritable m cs → All (λ d. IsKnownDebug m d.now) shared.written.items
 
--- the bytes of debug programs
-abbrev pub debugs_bytes : List (Bor NumberedDebug) → List ℕ
-debugs_bytes debugs = flat_map (λ debug. numbered_debug_bytes debug.now) debugs
+-- their bytes from the offset on
+abbrev pub debugs_bytes : ℕ → List (Bor NumberedDebug) → List ℕ
+debugs_bytes from debugs = bytes_from 1 from (map (λ debug. numbered_debug_bytes debug.now) debugs)
 
--- debug programs from the offset on
+-- their offsets
 abbrev pub debug_places : ℕ → List (Bor NumberedDebug) → ItemPlaces
 debug_places from debugs = place_uses 1 (none_from from) (map (λ debug. Some (length (numbered_debug_bytes debug.now))) debugs)
 

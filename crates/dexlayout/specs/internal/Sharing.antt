@@ -1,5 +1,5 @@
 -- Items that equal uses share, as they are found use by use.
-use Rattle.std.specs.Prelude.{◌≡◌, ℕ, ◌+◌, ◌*◌, Bool, List, Option, length, map, All}
+use Rattle.std.specs.Prelude.{◌≡◌, ℕ, Bool, List, Option, map, All}
 use Rattle.std.specs.Option.{option_map}
 use Rattle.dexspec.specs.Lists.{present}
 use Rattle.dexspec.specs.Placing.{shared_items}
@@ -15,7 +15,3 @@ pub record SharedTo {X Y : Type 0} (same : X → X → Bool) (meant : X → Y) (
   pub items : HaveItems same used written numbers
   pub known : All IsKnown (present used)
   pub mean : map (option_map meant) used ≡ uses
-
--- how many bytes a type_list of these numbers has
-abbrev pub list_len : List ℕ → ℕ
-list_len ns = 4 + 2 * length ns

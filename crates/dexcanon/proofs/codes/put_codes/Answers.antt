@@ -3,7 +3,7 @@ use Rattle.std.specs.Prelude.{All}
 use Rattle.std.proofs.lemmas.List.{drop_all, length-append}
 use Rattle.dexmembers.specs.Numbered.{AreKnownMembers, IsKnownMethod, NumberedMethod}
 use Rattle.dexclass.specs.Uses.{IsKnownClass}
-use Rattle.dexlayout.specs.Places.{DebugPlaces}
+use Rattle.dexlayout.specs.Places.{EncodedSharedItems}
 use Rattle.dexcanon.specs.Codes.{class_methods, method_codes}
 use Rattle.dexcanon.proofs.Aligned.{Aligned, aligned_none, prefix_fit, aligned_joined, aligned_all}
 use Rattle.dexcanon.proofs.CodeItems.{codes_split, direct_first}
@@ -14,7 +14,7 @@ use Rattle.dexcanon.proofs.codes.put_codes.Goals.{After-virtual_methods-virtuals
 
 pub loop-class-init : goal.loop-class-init
 loop-class-init g c =
-    let places = c.places-places.ensures ∙ ap (λ (d : DebugPlaces). d.places) c.debugs.ensures in
+    let places = c.places-places.ensures ∙ ap (λ (d : EncodedSharedItems). d.places) c.debugs.ensures in
     record {
       made = aligned_none c.args.out.now 4 c.end-at.result (method_codes c.args.contents.now.numbering.now (class_methods c.args.contents.now.classes.now) c.offsets-rest.result.now) (omega (arith, c.requires.least)) (laid_codes_fit c.requires places c.offsets-rest.ensures c.end-at.ensures).within;
       count = laid_codes_count c.requires places c.offsets-rest.ensures c.end-at.ensures;
@@ -55,7 +55,7 @@ virtual_codes g c = codes_split c.args.contents.now.numbering.now c.virtual_meth
 between : (g : _) (c : After-put_method_codes-at g) → method_codes c.args.contents.now.numbering.now (class_methods (drop c.loop-class.class-index c.args.contents.now.classes.now)) c.loop-class.rest.now ≡ method_codes c.args.contents.now.numbering.now c.direct_methods-direct.result c.split_at.result.0.now ++ method_codes c.args.contents.now.numbering.now (c.virtual_methods-virtuals.result ++ class_methods (drop (c.loop-class.class-index + 1) c.args.contents.now.classes.now)) c.split_at.result.1.now
     → Aligned g.T.Target.gives g.T.Target.gives_prefix g.T.Target.has_failed c.args.contents.now.limit c.args.out.now c.put_method_codes-at.new.out 4 c.end-at.result
     (method_codes c.args.contents.now.numbering.now (class_methods c.args.contents.now.classes.now) c.offsets-rest.result.now) c.put_method_codes-at.result (method_codes c.args.contents.now.numbering.now (c.virtual_methods-virtuals.result ++ class_methods (drop (c.loop-class.class-index + 1) c.args.contents.now.classes.now)) c.split_at.result.1.now)
-between g c next = aligned_joined (method_codes c.args.contents.now.numbering.now c.direct_methods-direct.result c.split_at.result.0.now) (method_codes c.args.contents.now.numbering.now (c.virtual_methods-virtuals.result ++ class_methods (drop (c.loop-class.class-index + 1) c.args.contents.now.classes.now)) c.split_at.result.1.now) c.loop-class.invariant.made next (laid_codes_fit c.requires (c.places-places.ensures ∙ ap (λ (d : DebugPlaces). d.places) c.debugs.ensures) c.offsets-rest.ensures c.end-at.ensures) c.put_method_codes-at.result c.put_method_codes-at.ensures.end c.put_method_codes-at.ensures.adds
+between g c next = aligned_joined (method_codes c.args.contents.now.numbering.now c.direct_methods-direct.result c.split_at.result.0.now) (method_codes c.args.contents.now.numbering.now (c.virtual_methods-virtuals.result ++ class_methods (drop (c.loop-class.class-index + 1) c.args.contents.now.classes.now)) c.split_at.result.1.now) c.loop-class.invariant.made next (laid_codes_fit c.requires (c.places-places.ensures ∙ ap (λ (d : EncodedSharedItems). d.places) c.debugs.ensures) c.offsets-rest.ensures c.end-at.ensures) c.put_method_codes-at.result c.put_method_codes-at.ensures.end c.put_method_codes-at.ensures.adds
 
 pub split_at-requires : goal.split_at-requires
 split_at-requires g c = omega (arith, c.len.ensures, count g (goal.at.split_at-requires g c).After-virtual_methods-virtuals)
@@ -66,7 +66,7 @@ put_method_codes-at-requires-clause-known g c = subst (All (IsKnownMethod c.args
 pub put_method_codes-at-requires-clause-fit : goal.put_method_codes-at-requires-clause-fit
 put_method_codes-at-requires-clause-fit g c =
     let here = goal.at.put_method_codes-at-requires-clause-fit g c in
-    (c.args.contents.now.limit, prefix_fit (method_codes c.args.contents.now.numbering.now c.direct_methods-direct.result c.split_at.result.0.now) (method_codes c.args.contents.now.numbering.now (c.virtual_methods-virtuals.result ++ class_methods (drop (c.loop-class.class-index + 1) c.args.contents.now.classes.now)) c.split_at.result.1.now) c.loop-class.invariant.made (direct_codes g here.After-split_at (methods g here.After-virtual_methods-virtuals)) (laid_codes_fit c.requires (c.places-places.ensures ∙ ap (λ (d : DebugPlaces). d.places) c.debugs.ensures) c.offsets-rest.ensures c.end-at.ensures))
+    (c.args.contents.now.limit, prefix_fit (method_codes c.args.contents.now.numbering.now c.direct_methods-direct.result c.split_at.result.0.now) (method_codes c.args.contents.now.numbering.now (c.virtual_methods-virtuals.result ++ class_methods (drop (c.loop-class.class-index + 1) c.args.contents.now.classes.now)) c.split_at.result.1.now) c.loop-class.invariant.made (direct_codes g here.After-split_at (methods g here.After-virtual_methods-virtuals)) (laid_codes_fit c.requires (c.places-places.ensures ∙ ap (λ (d : EncodedSharedItems). d.places) c.debugs.ensures) c.offsets-rest.ensures c.end-at.ensures))
 
 pub split_at-requires-in-loop-class : goal.split_at-requires-in-loop-class
 split_at-requires-in-loop-class g c =
@@ -79,17 +79,17 @@ put_method_codes-at-requires-in-loop-class-clause-known g c =
 pub put_method_codes-at-requires-in-loop-class-clause-fit : goal.put_method_codes-at-requires-in-loop-class-clause-fit
 put_method_codes-at-requires-in-loop-class-clause-fit g c =
     let here = goal.at.put_method_codes-at-requires-in-loop-class-clause-fit g c in
-    (c.args.contents.now.limit, prefix_fit (method_codes c.args.contents.now.numbering.now c.virtual_methods-virtuals.result c.split_at-in-loop-class.result.0.now) (method_codes c.args.contents.now.numbering.now (class_methods (drop (c.loop-class.class-index + 1) c.args.contents.now.classes.now)) c.split_at-in-loop-class.result.1.now) (between g here.After-put_method_codes-at (direct_codes g here.After-split_at (methods g here.After-virtual_methods-virtuals))) (virtual_codes g here.After-split_at-in-loop-class) (laid_codes_fit c.requires (c.places-places.ensures ∙ ap (λ (d : DebugPlaces). d.places) c.debugs.ensures) c.offsets-rest.ensures c.end-at.ensures))
+    (c.args.contents.now.limit, prefix_fit (method_codes c.args.contents.now.numbering.now c.virtual_methods-virtuals.result c.split_at-in-loop-class.result.0.now) (method_codes c.args.contents.now.numbering.now (class_methods (drop (c.loop-class.class-index + 1) c.args.contents.now.classes.now)) c.split_at-in-loop-class.result.1.now) (between g here.After-put_method_codes-at (direct_codes g here.After-split_at (methods g here.After-virtual_methods-virtuals))) (virtual_codes g here.After-split_at-in-loop-class) (laid_codes_fit c.requires (c.places-places.ensures ∙ ap (λ (d : EncodedSharedItems). d.places) c.debugs.ensures) c.offsets-rest.ensures c.end-at.ensures))
 
 pub loop-class-preserved : goal.loop-class-preserved
 loop-class-preserved g c =
     let here = goal.at.loop-class-preserved g c in
     record {
-      made = aligned_joined (method_codes c.args.contents.now.numbering.now c.virtual_methods-virtuals.result c.split_at-in-loop-class.result.0.now) (method_codes c.args.contents.now.numbering.now (class_methods (drop (c.loop-class.class-index + 1) c.args.contents.now.classes.now)) c.split_at-in-loop-class.result.1.now) (between g here.After-put_method_codes-at (direct_codes g here.After-split_at (methods g here.After-virtual_methods-virtuals))) (virtual_codes g here.After-split_at-in-loop-class) (laid_codes_fit c.requires (c.places-places.ensures ∙ ap (λ (d : DebugPlaces). d.places) c.debugs.ensures) c.offsets-rest.ensures c.end-at.ensures) c.put_method_codes-at-in-loop-class.result c.put_method_codes-at-in-loop-class.ensures.end c.put_method_codes-at-in-loop-class.ensures.adds;
+      made = aligned_joined (method_codes c.args.contents.now.numbering.now c.virtual_methods-virtuals.result c.split_at-in-loop-class.result.0.now) (method_codes c.args.contents.now.numbering.now (class_methods (drop (c.loop-class.class-index + 1) c.args.contents.now.classes.now)) c.split_at-in-loop-class.result.1.now) (between g here.After-put_method_codes-at (direct_codes g here.After-split_at (methods g here.After-virtual_methods-virtuals))) (virtual_codes g here.After-split_at-in-loop-class) (laid_codes_fit c.requires (c.places-places.ensures ∙ ap (λ (d : EncodedSharedItems). d.places) c.debugs.ensures) c.offsets-rest.ensures c.end-at.ensures) c.put_method_codes-at-in-loop-class.result c.put_method_codes-at-in-loop-class.ensures.end c.put_method_codes-at-in-loop-class.ensures.adds;
       count = omega (arith, c.split_at-in-loop-class.ensures.back_len, c.split_at.ensures.back_len, c.len.ensures, c.len-in-loop-class.ensures, count g here.After-virtual_methods-virtuals);
     }
 
 pub returns : goal.returns
 returns g c =
-    adds_as (laid_codes_bytes c.requires (c.places-places.ensures ∙ ap (λ (d : DebugPlaces). d.places) c.debugs.ensures) c.offsets-rest.ensures c.end-at.ensures)
+    adds_as (laid_codes_bytes c.requires (c.places-places.ensures ∙ ap (λ (d : EncodedSharedItems). d.places) c.debugs.ensures) c.offsets-rest.ensures c.end-at.ensures)
     (aligned_all c.loop-class.invariant.made (ap (λ cs. method_codes c.args.contents.now.numbering.now (class_methods cs) c.loop-class.rest.now) (drop_all c.loop-class.class-index c.args.contents.now.classes.now c.loop-class-test.false)))

@@ -5,7 +5,7 @@ use Rattle.dexspec.specs.Lists.{zip_with}
 use Rattle.dexspec.specs.Placing.{uses_offsets}
 use Rattle.dexspec.specs.Canonical.{proto_row_bytes, type_list_section}
 use Rattle.dexspec.proofs.layout.Placements.{length-type_list_offsets, length-zip}
-use Rattle.dexlayout.specs.Places.{ItemPlaces, TypeListPlaces}
+use Rattle.dexlayout.specs.Places.{ItemPlaces, EncodedSharedItems}
 use Rattle.dexlayout.specs.Laid.{ordered_of}
 use Rattle.dexcanon.proofs.ItemLengths.{length_numbers}
 use Rattle.dexcanon.proofs.Rows.{zip_rows}
@@ -17,7 +17,7 @@ use Rattle.dexcanon.proofs.tables.put_proto_ids.Goals.{After-split_at}
 
 -- the offsets of the lists of all protos and classes
 offsets_are : (g : _) (c : After-split_at g) → c.offsets.result.now ≡ uses_offsets (type_list_section (ordered_of c.args.contents.now.numbering.now c.args.contents.now.classes.now))
-offsets_are g c = c.offsets.ensures ∙ ap (λ (p : ItemPlaces). p.offsets) (c.places.ensures ∙ ap (λ (d : TypeListPlaces). d.places) c.type_lists.ensures) ∙ c.requires.laid.type_lists_are.places_are.offsets_are
+offsets_are g c = c.offsets.ensures ∙ ap (λ (p : ItemPlaces). p.offsets) (c.places.ensures ∙ ap (λ (d : EncodedSharedItems). d.places) c.type_lists.ensures) ∙ c.requires.laid.type_lists_are.places_are.offsets_are
 
 lists : (g : _) (c : After-split_at g) → length c.split_at.result.0.now ≡ length c.args.contents.now.numbering.now.protos
 lists g c = proto_count c.args.contents.now.numbering.now c.args.contents.now.classes.now c.offsets.result.now c.split_at.result.0.now c.count-count.result (offsets_are g c) c.count-count.ensures c.split_at.ensures.front
@@ -30,7 +30,7 @@ rows_are g c = proto_rows c.args.contents.now.numbering.now c.args.contents.now.
 pub split_at-requires : goal.split_at-requires
 split_at-requires g c =
     let K = ordered_of c.args.contents.now.numbering.now c.args.contents.now.classes.now in
-    let are = c.offsets.ensures ∙ ap (λ (p : ItemPlaces). p.offsets) (c.places.ensures ∙ ap (λ (d : TypeListPlaces). d.places) c.type_lists.ensures) ∙ c.requires.laid.type_lists_are.places_are.offsets_are in
+    let are = c.offsets.ensures ∙ ap (λ (p : ItemPlaces). p.offsets) (c.places.ensures ∙ ap (λ (d : EncodedSharedItems). d.places) c.type_lists.ensures) ∙ c.requires.laid.type_lists_are.places_are.offsets_are in
     omega (arith, c.count-count.ensures, ap (λ (l : List ℕ). length l) are, length-type_list_offsets K)
 
 pub bounds-list_offs-i : goal.bounds-list_offs-i

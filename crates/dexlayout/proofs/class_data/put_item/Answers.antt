@@ -1,10 +1,9 @@
-use Rattle.std.proofs.Common.{◌≡◌, ℕ, ◌+◌, ◌-◌, ◌^◌, ◌≤◌, List, ◌++◌, length, Some, arith, ap, sym, ◌∙◌}
+use Rattle.std.proofs.Common.{◌≡◌, ℕ, ◌-◌, ◌^◌, ◌≤◌, List, ◌++◌, length, Some, arith, ap, subst, sym, ◌∙◌}
 use Rattle.std.proofs.lemmas.List.{append-nil}
 use Rattle.dexmembers.specs.Spelled.{numbered_class_data_bytes}
 use Rattle.dexlayout.specs.internal.Encoding.{class_data_item, item_bytes, item_len}
-use Rattle.dexlayout.specs.internal.Running.{put_at, place_use}
+use Rattle.dexlayout.specs.internal.Running.{place_use}
 use Rattle.dexlayout.proofs.DataItems.{data_none, data_some}
-use Rattle.dexlayout.proofs.OwnSteps.{put_plain}
 use Rattle.dexlayout.proofs.class_data.put_item.Goals as goal
 use Rattle.dexlayout.proofs.class_data.put_item.Goals.{After-len}
 
@@ -30,18 +29,17 @@ item_is : (c : After-len) → class_data_item c.args.class.now c.args.code_offs.
 item_is c = data_some c.args.class.now c.members-members.result.now c.args.code_offs.now c.has_no_members.result c.members-members.ensures c.has_no_members.ensures c.if-has_no_members.false
 
 -- they end within the file
-fits : (c : After-len) → c.args.places.now.end + length (data_of c) ≤ 2 ^ 30
-fits c = let e = ap (λ u. (place_use 1 c.args.places.now (item_len u)).end) (item_is c) in omega (arith, e, c.requires.fits)
+fits : (c : After-len) → (place_use 1 c.args.places.now (Some (length (data_of c)))).end ≤ 2 ^ 30
+fits c = subst (λ u. (place_use 1 c.args.places.now (item_len u)).end ≤ 2 ^ 30) (item_is c) c.requires.fits
 
 -- their bytes were put
 len_is : (c : After-len) → c.len.result - c.len-before.result ≡ length (data_of c)
 len_is c = omega (arith, c.len.ensures, c.len-before.ensures, c.in_ok-put_class_data.ensures.bytes.len)
 
-pub overflow_cast-len : goal.overflow_cast-len
-overflow_cast-len c = omega (arith, fits c, len_is c)
-
-pub put_at-requires : goal.put_at-requires
-put_at-requires c = let here = (goal.at.put_at-requires c).After-len in omega (arith, fits here, len_is here, c.end-off.ensures)
+pub put_next-requires : goal.put_next-requires
+put_next-requires c =
+    let here = (goal.at.put_next-requires c).After-len in
+    subst (λ n. (place_use 1 c.args.places.now (Some n)).end ≤ 2 ^ 30) (sym (len_is here)) (fits here)
 
 pub returns-clause-bytes : goal.returns-clause-bytes
 returns-clause-bytes c = c.in_ok-put_class_data.ensures.bytes.ok ∙ ap (λ u. c.args.bytes.now.items ++ item_bytes u) (sym (item_is (goal.at.returns-clause-bytes c).After-len))
@@ -49,6 +47,4 @@ returns-clause-bytes c = c.in_ok-put_class_data.ensures.bytes.ok ∙ ap (λ u. c
 pub returns-clause-places : goal.returns-clause-places
 returns-clause-places c =
     let here = (goal.at.returns-clause-places c).After-len in
-    let p = c.args.places.now in
-    c.in_ok-put_at.ensures ∙ ap (λ off. put_at p off (c.len.result - c.len-before.result)) c.end-off.ensures ∙ ap (put_at p p.end) (len_is here)
-    ∙ sym (put_plain p (length (data_of here))) ∙ ap (λ u. place_use 1 p (item_len u)) (sym (item_is here))
+    c.in_ok-put_next.ensures ∙ ap (λ n. place_use 1 c.args.places.now (Some n)) (len_is here) ∙ ap (λ u. place_use 1 c.args.places.now (item_len u)) (sym (item_is here))

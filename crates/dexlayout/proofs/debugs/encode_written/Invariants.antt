@@ -1,8 +1,7 @@
-use Rattle.std.proofs.Common.{◌≡◌, Some, length, map, take}
-use Rattle.std.specs.List.{flat_map}
-use Rattle.dexcode.specs.Debug.{numbered_debug_bytes}
-use Rattle.dexlayout.specs.internal.Running.{none_from, place_uses}
+use Rattle.std.proofs.Common.{map, drop}
+use Rattle.dexlayout.proofs.EncodedUses.{Encoding, item_of}
+use Rattle.dexlayout.proofs.SharedKinds.{debug_code}
 use Rattle.dexlayout.proofs.debugs.encode_written.Given as goal
 
 abbrev pub invariant-loop-i : goal.invariant-loop-i
-invariant-loop-i l = (l.bytes.items ≡ flat_map (λ debug. numbered_debug_bytes debug.now) (take l.i l.debugs)) × (l.places ≡ place_uses 1 (none_from l.fn.from) (map (λ debug. Some (length (numbered_debug_bytes debug.now))) (take l.i l.debugs)))
+invariant-loop-i l = Encoding 1 l.bytes.items l.places (map (item_of debug_code) (drop l.i l.debugs)) (map (item_of debug_code) l.debugs) l.fn.from

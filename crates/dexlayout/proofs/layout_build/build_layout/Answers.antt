@@ -5,6 +5,7 @@ use Rattle.dexspec.specs.Canonical.{map_of, data_sections}
 use Rattle.dexhead.specs.Laid.{map_start, map_list}
 use Rattle.dexhead.specs.Written.{entry_meant}
 use Rattle.dexlayout.specs.Laid.{ordered_of, greatest_in}
+use Rattle.dexlayout.specs.Places.{ItemPlaces}
 use Rattle.dexlayout.proofs.Ends.{end_in_file, map_start_is}
 use Rattle.dexlayout.proofs.OwnFile.{entries_same, map_size_is, data_before}
 use Rattle.dexlayout.proofs.layout_build.build_layout.Goals as goal
@@ -13,7 +14,7 @@ use Rattle.dexlayout.proofs.layout_build.build_layout.Goals.{After-len}
 pub round_up-map_off-requires : goal.round_up-map_off-requires
 round_up-map_off-requires c =
     let K = ordered_of c.args.numbering.now c.args.classes.now in
-    omega (arith, c.end.ensures, c.in_ok-data.ensures.back_are.directories_are.end_is, (end_in_file K c.requires.fits).directories)
+    omega (arith, c.end.ensures ∙ ap (λ (q : ItemPlaces). q.end) c.places.ensures, c.in_ok-data.ensures.back_are.directories_are.places_are.end_is, (end_in_file K c.requires.fits).directories)
 
 pub entries-sections-requires : goal.entries-sections-requires
 entries-sections-requires c = (c.args.classes.now, c.requires, c.in_ok-data.ensures, c.of-tables.ensures.end_is)
@@ -22,7 +23,7 @@ entries-sections-requires c = (c.args.classes.now, c.requires, c.in_ok-data.ensu
 entries_are : (c : After-len) → map entry_meant c.in_ok-entries.entries.items ≡ map_of (ordered_of c.args.numbering.now c.args.classes.now) (map_start (ordered_of c.args.numbering.now c.args.classes.now))
 entries_are c =
     let K = ordered_of c.args.numbering.now c.args.classes.now in
-    let map_is = c.round_up-map_off.ensures ∙ ap (round_up 4) (c.end.ensures ∙ c.in_ok-data.ensures.back_are.directories_are.end_is) ∙ sym (map_start_is K) in
+    let map_is = c.round_up-map_off.ensures ∙ ap (round_up 4) (c.end.ensures ∙ ap (λ (q : ItemPlaces). q.end) c.places.ensures ∙ c.in_ok-data.ensures.back_are.directories_are.places_are.end_is) ∙ sym (map_start_is K) in
     entries_same K c.round_up-map_off.result (map entry_meant c.entries.result) (map entry_meant c.entries-sections.result) (map entry_meant c.in_ok-entries.entries.items) c.in_ok-entries.ensures
     (c.entries.ensures K c.of-tables.ensures) (c.entries-sections.ensures c.args.classes.now c.requires c.in_ok-data.ensures c.of-tables.ensures.end_is) map_is
 
@@ -36,7 +37,7 @@ map_size c =
 small : (c : After-len) → c.round_up-map_off.result + (4 + 12 * c.len.result) ≤ 1073741824
 small c =
     let K = ordered_of c.args.numbering.now c.args.classes.now in
-    let map_is = c.round_up-map_off.ensures ∙ ap (round_up 4) (c.end.ensures ∙ c.in_ok-data.ensures.back_are.directories_are.end_is) ∙ sym (map_start_is K) in
+    let map_is = c.round_up-map_off.ensures ∙ ap (round_up 4) (c.end.ensures ∙ ap (λ (q : ItemPlaces). q.end) c.places.ensures ∙ c.in_ok-data.ensures.back_are.directories_are.places_are.end_is) ∙ sym (map_start_is K) in
     omega (arith, map_is, map_size c, c.requires.fits)
 
 pub overflow_cast-map_size : goal.overflow_cast-map_size
@@ -51,7 +52,7 @@ overflow_add-map_size c = omega (arith, small ((goal.at.overflow_add-map_size c)
 pub head_of-head-requires-clause-following : goal.head_of-head-requires-clause-following
 head_of-head-requires-clause-following c =
     let K = ordered_of c.args.numbering.now c.args.classes.now in
-    let map_is = c.round_up-map_off.ensures ∙ ap (round_up 4) (c.end.ensures ∙ c.in_ok-data.ensures.back_are.directories_are.end_is) ∙ sym (map_start_is K) in
+    let map_is = c.round_up-map_off.ensures ∙ ap (round_up 4) (c.end.ensures ∙ ap (λ (q : ItemPlaces). q.end) c.places.ensures ∙ c.in_ok-data.ensures.back_are.directories_are.places_are.end_is) ∙ sym (map_start_is K) in
     omega (arith, c.of-tables.ensures.end_is, map_is, data_before K)
 
 pub head_of-head-requires-clause-fits : goal.head_of-head-requires-clause-fits
@@ -65,7 +66,7 @@ returns c =
     let K = ordered_of m cs in
     let d = c.in_ok-data.ensures in
     let t = c.of-tables.ensures in
-    let map_is = c.round_up-map_off.ensures ∙ ap (round_up 4) (c.end.ensures ∙ d.back_are.directories_are.end_is) ∙ sym (map_start_is K) in
+    let map_is = c.round_up-map_off.ensures ∙ ap (round_up 4) (c.end.ensures ∙ ap (λ (q : ItemPlaces). q.end) c.places.ensures ∙ d.back_are.directories_are.places_are.end_is) ∙ sym (map_start_is K) in
     let size = map_size here in
     record {
       head_states = c.head_of-head.ensures.reports K t map_is size;

@@ -6,10 +6,9 @@ use Rattle.dexval.specs.Numbered.{NumberedValue, values_in, values_of_list, AreK
 use Rattle.dexval.proofs.Members.{count_of_list}
 use Rattle.dexmembers.specs.Numbered.{NumberedMembers}
 use Rattle.dexlayout.specs.internal.Encoding.{item_bytes, item_len, static_item}
-use Rattle.dexlayout.specs.internal.Running.{put_at, place_use}
+use Rattle.dexlayout.specs.internal.Running.{place_use}
 use Rattle.dexlayout.proofs.Counted.{array_counted}
 use Rattle.dexlayout.proofs.EncodedUses.{some_of, none_of}
-use Rattle.dexlayout.proofs.OwnSteps.{put_plain}
 use Rattle.dexlayout.proofs.StaticItems.{static_some, static_none}
 use Rattle.dexlayout.proofs.static_values.put_array.Goals as goal
 use Rattle.dexlayout.proofs.static_values.put_array.Goals.{After-len}
@@ -48,8 +47,8 @@ item_is c =
     static_some c.args.numbering.now c.args.class.now (values c) (same c) (omega (arith, some_of (length vs) c.is_empty.result c.is_empty.ensures c.if-is_empty.false, length-map vs value_of))
 
 -- it ends within the file
-fits : (c : After-len) → c.args.places.now.end + length (array c) ≤ 2 ^ 30
-fits c = let e = ap (λ u. (place_use 1 c.args.places.now (item_len u)).end) (item_is c) in omega (arith, e, c.requires.fits)
+fits : (c : After-len) → (place_use 1 c.args.places.now (Some (length (array c)))).end ≤ 2 ^ 30
+fits c = subst (λ u. (place_use 1 c.args.places.now (item_len u)).end ≤ 2 ^ 30) (item_is c) c.requires.fits
 
 -- its bytes were put
 put : (c : After-len) → (c.put_statics.new.out.items ≡ c.args.bytes.now.items ++ array c) × (c.len.result - c.len-before.result ≡ length (array c))
@@ -62,11 +61,10 @@ put c =
     let p = c.in_ok-put_statics.ensures.symbolic (values_in m xs) (omega (arith, few.0, count_of_list (values c), length-map vs value_of)) few.1 (record { known = known; mean = refl }) in
     (p.ok, omega (arith, c.len.ensures, c.len-before.ensures, p.len))
 
-pub overflow_cast-len : goal.overflow_cast-len
-overflow_cast-len c = omega (arith, fits c, (put c).1)
-
-pub put_at-requires : goal.put_at-requires
-put_at-requires c = let here = (goal.at.put_at-requires c).After-len in omega (arith, fits here, (put here).1, c.end-off.ensures)
+pub put_next-requires : goal.put_next-requires
+put_next-requires c =
+    let here = (goal.at.put_next-requires c).After-len in
+    subst (λ n. (place_use 1 c.args.places.now (Some n)).end ≤ 2 ^ 30) (sym (put here).1) (fits here)
 
 pub returns-clause-bytes : goal.returns-clause-bytes
 returns-clause-bytes c = let here = (goal.at.returns-clause-bytes c).After-len in (put here).0 ∙ ap (λ u. c.args.bytes.now.items ++ item_bytes u) (sym (item_is here))
@@ -74,6 +72,4 @@ returns-clause-bytes c = let here = (goal.at.returns-clause-bytes c).After-len i
 pub returns-clause-places : goal.returns-clause-places
 returns-clause-places c =
     let here = (goal.at.returns-clause-places c).After-len in
-    let p = c.args.places.now in
-    c.in_ok-put_at.ensures ∙ ap (λ off. put_at p off (c.len.result - c.len-before.result)) c.end-off.ensures ∙ ap (put_at p p.end) (put here).1
-    ∙ sym (put_plain p (length (array here))) ∙ ap (λ u. place_use 1 p (item_len u)) (sym (item_is here))
+    c.in_ok-put_next.ensures ∙ ap (λ n. place_use 1 c.args.places.now (Some n)) (put here).1 ∙ ap (λ u. place_use 1 c.args.places.now (item_len u)) (sym (item_is here))

@@ -1,38 +1,49 @@
-use Rattle.std.proofs.Common.{◌≡◌, ◌^◌, ◌<◌, ◌≤◌, length, subst, sym, ap, ◌∙◌}
+use Rattle.std.proofs.Common.{◌≡◌, ◌^◌, ◌<◌, ◌≤◌, length, arith, subst, sym, ap, ◌∙◌}
 use Rattle.std.specs.Prelude.{All, IfSome}
+use Rattle.std.proofs.lemmas.List.Elements.{All-weaker}
+use Rattle.std.proofs.lemmas.Result.{IfOk-weaker}
 use Rattle.dexlayout.specs.Laid.{AreTypeLists}
-use Rattle.dexlayout.specs.internal.Running.{none_from}
-use Rattle.dexlayout.specs.internal.Sharing.{list_len}
+use Rattle.dexlayout.specs.Places.{EncodedItems}
+use Rattle.dexlayout.specs.internal.Placing.{list_places, lists_bytes, shared_by}
+use Rattle.dexlayout.specs.internal.SharedUses.{AreTypes}
 use Rattle.dexlayout.proofs.SharedKinds.{lists_fit, lists_numbered, lists_laid}
-use Rattle.dexlayout.proofs.SharedPlaces.{placed, by_numbers}
 use Rattle.dexlayout.proofs.type_lists.place_type_lists.Goals as goal
-use Rattle.dexlayout.proofs.type_lists.place_type_lists.Goals.{In_ok-lists}
+use Rattle.dexlayout.proofs.type_lists.place_type_lists.Goals.{In_ok-items}
 
-pub place_lists-requires : goal.place_lists-requires
-place_lists-requires c =
+pub encode_written-requires-clause-few : goal.encode_written-requires-clause-few
+encode_written-requires-clause-few c =
+    let m = c.args.numbering.now in
     let s = c.in_ok-shared.shared in
-    subst (λ ws. (placed list_len 4 (none_from c.args.from) ws).end ≤ 2 ^ 30) (sym (c.deref.ensures.value ∙ c.in_ok-written.ensures))
-    (lists_fit c.args.numbering.now c.args.classes.now c.args.from c.requires.from s.written.items s.numbers.items c.in_ok-shared.ensures.known c.in_ok-shared.ensures.shared c.requires.classes)
+    subst (All (All (λ i. i < 65536))) (sym c.deref.ensures.value)
+    (All-weaker (AreTypes m) (All (λ i. i < 65536)) (λ ns. All-weaker (λ i. i < length m.types) (λ i. i < 65536) (λ i lt. omega (arith, lt, c.requires.classes.types_few)) ns) s.written.items c.in_ok-shared.ensures.known)
 
--- the offsets of the lists that are written
-lists_are : (c : In_ok-lists) → c.in_ok-lists.lists ≡ placed list_len 4 (none_from c.args.from) c.in_ok-shared.shared.written.items
-lists_are c = c.in_ok-lists.ensures ∙ ap (placed list_len 4 (none_from c.args.from)) (c.deref.ensures.value ∙ c.in_ok-written.ensures)
-
-pub place_shared-requires : goal.place_shared-requires
-place_shared-requires c =
+pub encode_written-requires-clause-fits : goal.encode_written-requires-clause-fits
+encode_written-requires-clause-fits c =
     let s = c.in_ok-shared.shared in
-    let here = (goal.at.place_shared-requires c).In_ok-lists in
-    subst (All (λ n. IfSome n (λ i. i < length c.in_ok-lists.lists.offsets))) (sym c.deref-2.ensures.value)
-    (subst (λ p. All (λ n. IfSome n (λ i. i < length p.offsets)) s.numbers.items) (sym (lists_are here))
-    (lists_numbered c.args.numbering.now c.args.classes.now c.args.from c.requires.from s.written.items s.numbers.items c.in_ok-shared.ensures.known c.in_ok-shared.ensures.shared))
+    subst (λ ws. (list_places c.args.from ws).end ≤ 2 ^ 30) (sym c.deref.ensures.value)
+    (lists_fit c.args.numbering.now c.args.classes.now c.requires.classes c.args.from c.requires.from s.written.items s.numbers.items c.in_ok-shared.ensures.known c.in_ok-shared.ensures.shared)
+
+-- the lists that are written
+items_are : (c : In_ok-items) → c.in_ok-items.items ≡ record { bytes = lists_bytes c.args.from c.in_ok-shared.shared.written.items; places = list_places c.args.from c.in_ok-shared.shared.written.items }
+items_are c =
+    let bytes = c.in_ok-items.ensures.bytes ∙ ap (lists_bytes c.args.from) c.deref.ensures.value in
+    let places = c.in_ok-items.ensures.places ∙ ap (list_places c.args.from) c.deref.ensures.value in
+    λ i. record { bytes = bytes i; places = places i }
+
+pub of-requires : goal.of-requires
+of-requires c =
+    let s = c.in_ok-shared.shared in
+    let here = (goal.at.of-requires c).In_ok-items in
+    subst (All (λ n. IfSome n (λ i. i < length c.in_ok-items.items.places.offsets))) (sym c.deref-2.ensures.value)
+    (subst (λ (e : EncodedItems). All (λ n. IfSome n (λ i. i < length e.places.offsets)) s.numbers.items) (sym (items_are here))
+    (lists_numbered c.args.numbering.now c.args.classes.now c.requires.classes c.args.from c.requires.from s.written.items s.numbers.items c.in_ok-shared.ensures.known c.in_ok-shared.ensures.shared))
 
 pub returns : goal.returns
 returns c =
     let m = c.args.numbering.now in
     let cs = c.args.classes.now in
     let s = c.in_ok-shared.shared in
-    let here = (goal.at.returns c).In_ok-lists in
-    let written = c.in_ok-written.ensures in
-    let places : c.in_ok-places.places ≡ by_numbers s.numbers.items (placed list_len 4 (none_from c.args.from) s.written.items) = c.in_ok-places.ensures ∙ (λ i. by_numbers (c.deref-2.ensures.value i) (lists_are here i)) in
-    subst (AreTypeLists m cs) (sym (λ i. record { written = written i; places = places i }))
-    (lists_laid m cs c.args.from c.requires.from s.written.items s.numbers.items c.in_ok-shared.ensures.known c.in_ok-shared.ensures.shared)
+    let here = (goal.at.returns c).In_ok-items in
+    IfOk-weaker c.of.result _ _ (λ x e.
+    subst (AreTypeLists m cs) (sym (e ∙ (λ i. shared_by (c.deref-2.ensures.value i) (items_are here i))))
+    (lists_laid m cs c.requires.classes c.args.from c.requires.from s.written.items s.numbers.items c.in_ok-shared.ensures.known c.in_ok-shared.ensures.shared)) c.of.ensures

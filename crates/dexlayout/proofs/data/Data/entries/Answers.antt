@@ -33,8 +33,8 @@ same_entry s n n' o o' en eo = ap (λ k. entry_with s k o) en ∙ ap (entry_with
 plain : (n : ℕ) → n ≡ round_up 1 n
 plain n = omega arith
 
-pub overflow_cast-written : goal.overflow_cast-written
-overflow_cast-written c =
+pub overflow_cast-count : goal.overflow_cast-count
+overflow_cast-count c =
     let m = c.args.numbering.now in
     let cs = c.requires.0 in
     let w = c.requires.1 in
@@ -43,7 +43,7 @@ overflow_cast-written c =
     let ends = end_in_file K w.fits in
     let few = few_items K ends in
     let n = counted m cs d in
-    let e = ap (λ xs. length xs) c.written.ensures in omega (arith, e, n.type_lists, few.type_lists)
+    omega (arith, c.count.ensures, n.type_lists, few.type_lists)
 
 pub round_up-requires : goal.round_up-requires
 round_up-requires c =
@@ -81,8 +81,8 @@ overflow_cast-count_placed c =
     let n = counted m cs d in
     let e = c.count_placed.ensures ∙ ap count_placed (c.offsets.ensures ∙ ap (λ (q : ItemPlaces). q.offsets) c.places-2.ensures) in omega (arith, e, n.arrays, few.arrays)
 
-pub overflow_cast-count-2 : goal.overflow_cast-count-2
-overflow_cast-count-2 c =
+pub overflow_cast-count-3 : goal.overflow_cast-count-3
+overflow_cast-count-3 c =
     let m = c.args.numbering.now in
     let cs = c.requires.0 in
     let w = c.requires.1 in
@@ -91,7 +91,7 @@ overflow_cast-count-2 c =
     let ends = end_in_file K w.fits in
     let few = few_items K ends in
     let n = counted m cs d in
-    let e = c.count-2.ensures in omega (arith, e, n.debugs, few.debugs)
+    let e = c.count-3.ensures in omega (arith, e, n.debugs, few.debugs)
 
 pub overflow_cast-count_placed-2 : goal.overflow_cast-count_placed-2
 overflow_cast-count_placed-2 c =
@@ -129,8 +129,8 @@ overflow_cast-count_placed-3 c =
     let n = counted m cs d in
     let e = c.count_placed-3.ensures ∙ ap count_placed (c.offsets-3.ensures ∙ ap (λ (q : ItemPlaces). q.offsets) c.places-6.ensures) in omega (arith, e, n.class_data, few.class_data)
 
-pub overflow_cast-written-2 : goal.overflow_cast-written-2
-overflow_cast-written-2 c =
+pub overflow_cast-written : goal.overflow_cast-written
+overflow_cast-written c =
     let m = c.args.numbering.now in
     let cs = c.requires.0 in
     let w = c.requires.1 in
@@ -187,7 +187,7 @@ overflow_cast-count_placed-5 c =
     let ends = end_in_file K w.fits in
     let few = few_items K ends in
     let n = counted m cs d in
-    let e = c.count_placed-5.ensures ∙ ap count_placed c.offsets-5.ensures in omega (arith, e, n.directories, few.directories)
+    let e = c.count_placed-5.ensures ∙ ap count_placed (c.offsets-5.ensures ∙ ap (λ (q : ItemPlaces). q.offsets) c.places-8.ensures) in omega (arith, e, n.directories, few.directories)
 
 pub round_up-requires-5 : goal.round_up-requires-5
 round_up-requires-5 c =
@@ -206,14 +206,14 @@ returns c = λ cs w d from.
     let m = c.args.numbering.now in
     let n = counted m cs d in
     ten_same _ _ _ _ _ _ _ _ _ _ _ _ _ _ _ _ _ _ _ _
-    (c.entry.ensures ∙ same_entry TypeLists _ _ _ _ (ap (λ xs. length xs) c.written.ensures ∙ n.type_lists) (c.round_up.ensures ∙ ap (round_up 4) from))
+    (c.entry.ensures ∙ same_entry TypeLists _ _ _ _ (c.count.ensures ∙ n.type_lists) (c.round_up.ensures ∙ ap (round_up 4) from))
     (c.entry-2.ensures ∙ same_entry AnnotationItems _ _ _ _ (c.count_annotations.ensures ∙ annotations_flat c.written-written.result.now c.args.self.now.first_sections.annotations.written c.written-written.ensures ∙ n.annotations) (c.end.ensures ∙ ap (λ (q : ItemPlaces). q.end) c.places.ensures ∙ d.first_sections_are.type_lists_are.places_are.end_is ∙ plain _))
     (c.entry-3.ensures ∙ same_entry EncodedArrayItems _ _ _ _ (c.count_placed.ensures ∙ ap count_placed (c.offsets.ensures ∙ ap (λ (q : ItemPlaces). q.offsets) c.places-2.ensures) ∙ n.arrays) (c.end-2.ensures ∙ ap (λ (q : ItemPlaces). q.end) c.places-3.ensures ∙ d.first_sections_are.annotations_are.places_are.end_is ∙ plain _))
-    (c.entry-4.ensures ∙ same_entry StringDataItems _ _ _ _ (c.count.ensures ∙ n.strings) (c.end-3.ensures ∙ ap (λ (q : ItemPlaces). q.end) c.places-4.ensures ∙ d.first_sections_are.static_values_are.places_are.end_is ∙ plain _))
-    (c.entry-5.ensures ∙ same_entry DebugInfoItems _ _ _ _ (c.count-2.ensures ∙ n.debugs) (c.end-4.ensures ∙ d.first_sections_are.strings_are.end_is ∙ plain _))
+    (c.entry-4.ensures ∙ same_entry StringDataItems _ _ _ _ (c.count-2.ensures ∙ n.strings) (c.end-3.ensures ∙ ap (λ (q : ItemPlaces). q.end) c.places-4.ensures ∙ d.first_sections_are.static_values_are.places_are.end_is ∙ plain _))
+    (c.entry-5.ensures ∙ same_entry DebugInfoItems _ _ _ _ (c.count-3.ensures ∙ n.debugs) (c.end-4.ensures ∙ d.first_sections_are.strings_are.end_is ∙ plain _))
     (c.entry-6.ensures ∙ same_entry CodeItems _ _ _ _ (c.count_placed-2.ensures ∙ ap count_placed c.offsets-2.ensures ∙ n.codes) (c.round_up-2.ensures ∙ ap (round_up 4) (c.end-5.ensures ∙ ap (λ (q : ItemPlaces). q.end) c.places-5.ensures ∙ d.bodies_are.debugs_are.places_are.end_is)))
     (c.entry-7.ensures ∙ same_entry ClassDataItems _ _ _ _ (c.count_placed-3.ensures ∙ ap count_placed (c.offsets-3.ensures ∙ ap (λ (q : ItemPlaces). q.offsets) c.places-6.ensures) ∙ n.class_data) (c.end-6.ensures ∙ d.bodies_are.codes_are.end_is ∙ plain _))
     (c.entry-8.ensures ∙ same_entry AnnotationSets _ _ _ _ (sym (length-map c.written-written.result.now (λ p. set_of p.now)) ∙ ap (λ ps. length ps) c.written-written.ensures ∙ n.sets) (c.round_up-3.ensures ∙ ap (round_up 4) (c.end-7.ensures ∙ ap (λ (q : ItemPlaces). q.end) c.places-7.ensures ∙ d.bodies_are.class_data_are.places_are.end_is)))
     (c.entry-9.ensures ∙ same_entry AnnotationSetRefLists _ _ _ _ (c.count_placed-4.ensures ∙ ap count_placed c.offsets-4.ensures ∙ n.ref_lists) (c.round_up-4.ensures ∙ ap (round_up 4) (c.end-8.ensures ∙ d.back_are.sets_are.end_is)))
-    (c.entry-10.ensures ∙ same_entry AnnotationsDirectories _ _ _ _ (c.count_placed-5.ensures ∙ ap count_placed c.offsets-5.ensures ∙ n.directories) (c.round_up-5.ensures ∙ ap (round_up 4) (c.end-9.ensures ∙ d.back_are.ref_lists_are.end_is)))
+    (c.entry-10.ensures ∙ same_entry AnnotationsDirectories _ _ _ _ (c.count_placed-5.ensures ∙ ap count_placed (c.offsets-5.ensures ∙ ap (λ (q : ItemPlaces). q.offsets) c.places-8.ensures) ∙ n.directories) (c.round_up-5.ensures ∙ ap (round_up 4) (c.end-9.ensures ∙ d.back_are.ref_lists_are.end_is)))
     ∙ named_parts_are (ordered_of m cs)

@@ -27,5 +27,5 @@ returns c = λ m cs d.
     let g8 = greatest_of (ref_list_section K).items in
     let h8 = max_more (g0 ∷ g1 ∷ g2 ∷ g3 ∷ g4 ∷ g5 ∷ g6 ∷ g7 ∷ []) c.max-7.result c.max-8.result g8 c.greatest-9.result c.greatest-9.result h7 c.max-8.ensures refl (c.greatest-9.ensures ∙ d.back_are.ref_lists_are.greatest_is) in
     let g9 = greatest_of (directory_section K).items in
-    let h9 = max_more (g0 ∷ g1 ∷ g2 ∷ g3 ∷ g4 ∷ g5 ∷ g6 ∷ g7 ∷ g8 ∷ []) c.max-8.result c.max-9.result g9 c.greatest-10.result c.greatest-10.result h8 c.max-9.ensures refl (c.greatest-10.ensures ∙ d.back_are.directories_are.greatest_is) in
+    let h9 = max_more (g0 ∷ g1 ∷ g2 ∷ g3 ∷ g4 ∷ g5 ∷ g6 ∷ g7 ∷ g8 ∷ []) c.max-8.result c.max-9.result g9 c.greatest-10.result c.greatest-10.result h8 c.max-9.ensures refl (c.greatest-10.ensures ∙ ap (λ (q : ItemPlaces). q.greatest) c.places-6.ensures ∙ d.back_are.directories_are.places_are.greatest_is) in
     h9

@@ -148,38 +148,39 @@ fn dump<'a>(alloc: Global) -> Result<Command<'a>, AllocError> {
         .arg(one(alloc, "file", "FILE", help::FILE))
 }
 
-// Returns the program with its first command.
+// Returns the program without its commands.
 fn program<'a>(alloc: Global) -> Result<Command<'a>, AllocError> {
-    Command::new(alloc, "dexkit")
-        .about(help::ABOUT)
-        .version(help::VERSION)
-        .after_help(help::EXAMPLES_AND_STATUSES)
-        .bin_name("dexkit")?
-        .no_binary_name(true)
-        .subcommand_required(true)
-        .subcommand(check(alloc)?)
+    Ok(
+        Command::new(alloc, "dexkit")
+            .about(help::ABOUT)
+            .version(help::VERSION)
+            .after_help(help::EXAMPLES_AND_STATUSES)
+            .bin_name("dexkit")?
+            .no_binary_name(true)
+            .subcommand_required(true),
+    )
 }
 
-// Adds the commands that write canonical files.
-fn writing<'a>(alloc: Global) -> Result<Command<'a>, AllocError> {
-    program(alloc)?
-        .subcommand(merge(alloc)?)?
-        .subcommand(normalise(alloc)?)
+// Adds a command to the program, if there was memory for it.
+fn with<'a>(
+    program: Command<'a>,
+    command: Result<Command<'a>, AllocError>,
+) -> Result<Command<'a>, AllocError> {
+    program.subcommand(command?)
 }
 
-// Adds the commands that print.
-fn printing<'a>(alloc: Global) -> Result<Command<'a>, AllocError> {
-    let digest = over_files(alloc, "digest", help::DIGEST, help::DIGEST_LONG)?;
-    let count = over_files(alloc, "count", help::COUNT, help::COUNT_LONG)?;
-    writing(alloc)?.subcommand(digest)?.subcommand(count)
-}
-
-// Returns the program with all its commands, in the order of the help.
+// Returns the program with its commands, in the order of the help.
 fn command<'a>(alloc: Global) -> Result<Command<'a>, AllocError> {
-    let repair = file_and_out(alloc, "repair", help::REPAIR, help::REPAIR_LONG)?;
-    printing(alloc)?
-        .subcommand(dump(alloc)?)?
-        .subcommand(repair)
+    let program = with(program(alloc)?, check(alloc))?;
+    let program = with(program, merge(alloc))?;
+    let program = with(program, normalise(alloc))?;
+    let digest = over_files(alloc, "digest", help::DIGEST, help::DIGEST_LONG);
+    let program = with(program, digest)?;
+    let count = over_files(alloc, "count", help::COUNT, help::COUNT_LONG);
+    let program = with(program, count)?;
+    let program = with(program, dump(alloc))?;
+    let repair = file_and_out(alloc, "repair", help::REPAIR, help::REPAIR_LONG);
+    with(program, repair)
 }
 
 fn text_of(alloc: Global, matches: &ArgMatches<'_>, id: &str) -> Result<String, AllocError> {

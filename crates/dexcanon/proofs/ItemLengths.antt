@@ -3,7 +3,6 @@ use Rattle.std.proofs.Common.{◌≡◌, ℕ, ◌+◌, ◌*◌, List, ◌++◌, 
 use Rattle.std.specs.List.{flat_map}
 use Rattle.dexspec.specs.Bytes.{ushort, uint}
 use Rattle.dexspec.specs.Sections.{Section}
-use Rattle.dexspec.specs.Spellings.{offsets_bytes}
 use Rattle.dexspec.specs.Canonical.{map_bytes, map_entry_bytes}
 use Rattle.dexspec.proofs.numbers.ByteNumbers.{length-uint, length-ushort}
 use Rattle.dexspec.proofs.written.PlacedBytes.{length_rows}
@@ -13,9 +12,6 @@ use Rattle.std.proofs.lemmas.List.{length-append, length-map}
 
 pub length_numbers : (ns : List ℕ) → length (flat_map uint ns) ≡ 4 * length ns
 length_numbers ns = length_rows uint 4 length-uint ns
-
-pub length_offsets : (ns : List ℕ) → length (offsets_bytes ns) ≡ 4 + 4 * length ns
-length_offsets ns = length-append (uint (length ns)) (flat_map uint ns) ∙ omega (arith, length-uint (length ns), length_numbers ns)
 
 pub length_four : (n : ℕ) → length (uint n) ≡ 4
 length_four n = length-uint n

@@ -6,14 +6,10 @@ pub mod ItemLengths
 pub mod JoinedSums
 pub mod OwnUses
 pub mod Pieces
-pub mod RefListSections
-pub mod RefLists
 pub mod Rows
 pub mod RowsOfClasses
 pub mod HeaderSums
 pub mod SectionItems
-pub mod SetItems
-pub mod SetSectionItems
 pub mod SymbolRows
 pub mod Taken
 pub mod Reported

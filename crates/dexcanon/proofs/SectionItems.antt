@@ -8,7 +8,7 @@ use Rattle.dexspec.specs.Classes.{MethodDef}
 use Rattle.dexspec.specs.Placing.{Ordered, Placed, all_methods, code_uses, debug_uses, EqualOnce, offsets, end_from, bytes_from, section_bytes, end, uses_offsets}
 use Rattle.dexspec.specs.Sameness.{same_debug}
 use Rattle.dexspec.specs.Texts.{string_data}
-use Rattle.dexspec.specs.Canonical.{debug_section, class_data_section, set_section, ref_list_section, data_sections, string_section, code_section}
+use Rattle.dexspec.specs.Canonical.{debug_section, ref_list_section, data_sections, string_section, code_section}
 use Rattle.dexspec.proofs.layout.Placements.{length-items_offsets}
 use Rattle.dexmembers.specs.Numbered.{method_in, methods_of}
 use Rattle.dexclass.specs.Numbered.{NumberedClass, definition_of}
@@ -45,12 +45,6 @@ module _ {m : Mentions} {cs : List NumberedClass} {p : Places} {limit : ℕ} (h 
   pub codes_within : AreWithin limit (code_section (ordered_of m cs)).items
   codes_within = data_within.1.1.1.1.1.0
 
-  pub sets_within : AreWithin limit (set_section (ordered_of m cs)).items
-  sets_within = data_within.1.1.1.1.1.1.1.0
-
-  pub ref_lists_within : AreWithin limit (ref_list_section (ordered_of m cs)).items
-  ref_lists_within = data_within.1.1.1.1.1.1.1.1.0
-
 -- ---- symbols and numbers
 
 -- the methods of the definitions are those of the classes
@@ -80,14 +74,6 @@ count_debug_offsets m cs =
 pub codes_fit : (K : Ordered) → file_end K ≤ 2 ^ 30 → end_from 4 (end (debug_section K)) (code_section K).items ≤ 2 ^ 30
 unfolding code_section
 codes_fit K fits = (end_in_file K fits).codes
-
-pub sets_fit : (K : Ordered) → file_end K ≤ 2 ^ 30 → end_from 4 (end (class_data_section K)) (set_section K).items ≤ 2 ^ 30
-unfolding set_section
-sets_fit K fits = (end_in_file K fits).sets
-
-pub ref_lists_fit : (K : Ordered) → file_end K ≤ 2 ^ 30 → end_from 4 (end (set_section K)) (ref_list_section K).items ≤ 2 ^ 30
-unfolding ref_list_section
-ref_lists_fit K fits = (end_in_file K fits).ref_lists
 
 -- ---- the code of the classes, from the layout's offsets of debug programs
 

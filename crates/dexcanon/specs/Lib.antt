@@ -1,6 +1,5 @@
 pub mod Codes
 pub mod Digests
-pub mod Sets
 pub mod Sums
 pub mod Took
 pub mod Written

@@ -4,5 +4,4 @@ pub mod Checksums
 pub mod ClassRows
 pub mod Output
 pub mod Ready
-pub mod RefLists
 pub mod Through

@@ -20,7 +20,7 @@ use crate::tables::{put_field_ids, put_method_ids, put_proto_ids, put_string_ids
 use crate::type_lists::put_type_lists;
 
 // The rows of the tables.
-fn put_tables<T: Target>(contents: &Contents<'_, '_, '_, '_>, out: &mut Out<T>)
+fn put_tables<T: Target>(contents: &Contents<'_, '_, '_>, out: &mut Out<T>)
     requires { CanBeMade contents.now }
     ensures { AddsPart T.gives T.gives_prefix T.has_failed contents.now out.old out.new tables_of }
 {
@@ -33,7 +33,7 @@ fn put_tables<T: Target>(contents: &Contents<'_, '_, '_, '_>, out: &mut Out<T>)
 }
 
 // The sections of the data.
-fn put_data<T: Target>(contents: &Contents<'_, '_, '_, '_>, out: &mut Out<T>)
+fn put_data<T: Target>(contents: &Contents<'_, '_, '_>, out: &mut Out<T>)
     requires { CanBeMade contents.now }
     ensures { AddsPart T.gives T.gives_prefix T.has_failed contents.now out.old out.new data_of }
 {
@@ -50,7 +50,7 @@ fn put_data<T: Target>(contents: &Contents<'_, '_, '_, '_>, out: &mut Out<T>)
 }
 
 /// All that follows the header: the rows of the tables, the sections of the data, and the map.
-pub(crate) fn put_body<T: Target>(contents: &Contents<'_, '_, '_, '_>, out: &mut Out<T>)
+pub(crate) fn put_body<T: Target>(contents: &Contents<'_, '_, '_>, out: &mut Out<T>)
     requires { CanBeMade contents.now }
     ensures { AddsPart T.gives T.gives_prefix T.has_failed contents.now out.old
         out.new after_header_of }

@@ -10,7 +10,7 @@ use crate::contents::Contents;
 use crate::output::{Out, Target};
 
 /// The class data.
-pub(crate) fn put_class_data<T: Target>(contents: &Contents<'_, '_, '_, '_>, out: &mut Out<T>)
+pub(crate) fn put_class_data<T: Target>(contents: &Contents<'_, '_, '_>, out: &mut Out<T>)
     requires { CanBeMade contents.now }
     ensures { AddsSection T.gives T.gives_prefix T.has_failed contents.now out.old out.new
         class_data_section }

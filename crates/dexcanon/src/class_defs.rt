@@ -28,7 +28,7 @@ struct ClassPlaces<'a> {
 
 impl<'a> ClassPlaces<'a> {
     // By the layout of the file. There is an offset of each kind for each class.
-    fn of(contents: &Contents<'a, '_, '_, '_>) -> ClassPlaces<'a>
+    fn of(contents: &Contents<'a, '_, '_>) -> ClassPlaces<'a>
         requires { CanBeMade contents.now }
         ensures interfaces { length result.interfaces.now ≡ length contents.now.classes.now }
         ensures annotations { length result.annotations.now ≡ length contents.now.classes.now }
@@ -85,7 +85,7 @@ fn row_of(class: &Class<'_>, places: &ClassPlaces<'_>, r: usize) -> [u32; 8]
 }
 
 /// The rows of the classes.
-pub(crate) fn put_class_defs<T: Target>(contents: &Contents<'_, '_, '_, '_>, out: &mut Out<T>)
+pub(crate) fn put_class_defs<T: Target>(contents: &Contents<'_, '_, '_>, out: &mut Out<T>)
     requires { CanBeMade contents.now }
     ensures { AddsPart T.gives T.gives_prefix T.has_failed contents.now out.old out.new class_rows }
 {

@@ -82,7 +82,7 @@ fn put_method_codes<T: Target>(
 }
 
 /// The code of the methods of the classes, the direct ones of each first.
-pub(crate) fn put_codes<T: Target>(contents: &Contents<'_, '_, '_, '_>, out: &mut Out<T>)
+pub(crate) fn put_codes<T: Target>(contents: &Contents<'_, '_, '_>, out: &mut Out<T>)
     requires { CanBeMade contents.now }
     ensures { AddsSection T.gives T.gives_prefix T.has_failed contents.now out.old out.new
         code_section }

@@ -11,16 +11,16 @@ use dexpool::Numbering;
 
 /// What a file is made of: its classes by number, the offsets of everything, and a length that no item exceeds.
 #[derive(Clone, Copy)]
-pub(crate) struct Contents<'a, 'n, 'c, 'l> {
+pub(crate) struct Contents<'a, 'n, 'c> {
     pub(crate) numbering: &'a Numbering<'n>,
     pub(crate) classes: &'a [Class<'c>],
-    pub(crate) layout: &'a Layout<'l>,
+    pub(crate) layout: &'a Layout,
     pub(crate) limit: usize,
 }
 
-impl<'a, 'p, 'l> Contents<'a, 'p, 'p, 'l> {
+impl<'a, 'p> Contents<'a, 'p, 'p> {
     /// What the canonical file of a program is made of, with the program's layout. No item is longer than the longest.
-    pub(crate) fn of(program: &'a Program<'p>, layout: &'a Layout<'l>) -> Contents<'a, 'p, 'p, 'l>
+    pub(crate) fn of(program: &'a Program<'p>, layout: &'a Layout) -> Contents<'a, 'p, 'p>
         requires laid { IsLayoutOf program.now layout.now }
         requires writable { IsWritable program.now }
         ensures ready { CanBeMade result }

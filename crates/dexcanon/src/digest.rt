@@ -73,7 +73,7 @@ fn signature(alloc: Global, program: &Program<'_>) -> Result<[u8; 20], AllocErro
 }
 
 // The signature of the file of its contents, which is made in a buffer with room.
-fn signed(contents: &Contents<'_, '_, '_, '_>, mut buffer: Vec<u8>) -> [u8; 20]
+fn signed(contents: &Contents<'_, '_, '_>, mut buffer: Vec<u8>) -> [u8; 20]
     requires ready { CanBeMade contents.now }
     requires room { contents.now.limit ≤ vec_capacity buffer }
     requires empty { vec_len buffer ≡ 0 }

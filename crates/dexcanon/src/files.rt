@@ -23,7 +23,7 @@ pub(crate) fn put_head(head: &Head, from: usize, buffer: &mut Vec<u8>)
 }
 
 /// Writes all that follows the header of a file, and flushes it.
-pub(crate) fn write_body<T: Target>(contents: &Contents<'_, '_, '_, '_>, out: &mut Out<T>)
+pub(crate) fn write_body<T: Target>(contents: &Contents<'_, '_, '_>, out: &mut Out<T>)
     requires { CanBeMade contents.now }
     ensures adds { AddsPart T.gives T.gives_prefix T.has_failed contents.now out.old out.new
         after_header_of }

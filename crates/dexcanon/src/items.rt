@@ -5,7 +5,6 @@ ghost use Rattle.std.specs.List.{flat_map};
 ghost use Rattle.dexspec.specs.Bytes.{ushort, uint};
 ghost use Rattle.dexspec.specs.Texts.{string_data};
 ghost use Rattle.dexspec.specs.Canonical.{map_bytes};
-ghost use Rattle.dexspec.specs.Spellings.{offsets_bytes};
 ghost use Rattle.dexspec.specs.internal.Writing.{Puts};
 ghost use Rattle.dexhead.specs.Written.{entry_meant};
 
@@ -48,10 +47,6 @@ pub(crate) struct MemberRow {
     pub(crate) second: u16,
     pub(crate) name: u32,
 }
-
-/// A count and offsets: an annotation_set_item or an annotation_set_ref_list.
-#[derive(Drop)]
-pub(crate) struct OffsetList<'a>(pub(crate) &'a [u32]);
 
 /// Bytes as they are.
 #[derive(Drop)]
@@ -130,25 +125,6 @@ impl Item for MemberRow {
         push_u16(self.class, out);
         push_u16(self.second, out);
         push_u32(self.name, out);
-        Ok(())
-    }
-}
-
-impl Item for OffsetList<'_> {
-    ghost bytes = { λ n. offsets_bytes n.0.now };
-
-    ghost fits = { λ n. length n.0.now < 2 ^ 32 };
-
-    #[tactic(auto, using(crate::proofs::ItemLengths::length_offsets))]
-    fn len(&self) -> usize {
-        4 + 4 * self.0.len()
-    }
-
-    #[tactic(auto, using(crate::proofs::ItemLengths::length_offsets))]
-    fn put(&self, out: &mut Vec<u8>) -> Result<(), AllocError> {
-        out.reserve(4 + 4 * self.0.len())?;
-        push_u32(self.0.len() as u32, out);
-        push_numbers(self.0, out);
         Ok(())
     }
 }

@@ -1,6 +1,6 @@
 //! The canonical file of a program.
 //!
-//! Public contracts use the definitions of `specs/Codes`, `specs/Digests`, `specs/Sets`, `specs/Sums`, `specs/Took` and
+//! Public contracts use the definitions of `specs/Codes`, `specs/Digests`, `specs/Sums`, `specs/Took` and
 //! `specs/Written`.
 //!
 //! Source: the Android page "Dalvik Executable format"; the order of the sections and of their contents is this

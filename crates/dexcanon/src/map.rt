@@ -10,7 +10,7 @@ use crate::items::Entries;
 use crate::output::{Out, Target};
 
 /// The map, after the sections of the data.
-pub(crate) fn put_map<T: Target>(contents: &Contents<'_, '_, '_, '_>, out: &mut Out<T>)
+pub(crate) fn put_map<T: Target>(contents: &Contents<'_, '_, '_>, out: &mut Out<T>)
     requires { CanBeMade contents.now }
     ensures { AddsPart T.gives T.gives_prefix T.has_failed contents.now out.old out.new map_bytes }
 {

@@ -12,7 +12,7 @@ use crate::output::{Out, Target};
 use dexpool::SymbolKind;
 
 /// The data of the texts.
-pub(crate) fn put_strings<T: Target>(contents: &Contents<'_, '_, '_, '_>, out: &mut Out<T>)
+pub(crate) fn put_strings<T: Target>(contents: &Contents<'_, '_, '_>, out: &mut Out<T>)
     requires { CanBeMade contents.now }
     ensures { AddsSection T.gives T.gives_prefix T.has_failed contents.now out.old out.new
         string_section }

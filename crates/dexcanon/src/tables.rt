@@ -12,7 +12,7 @@ use crate::output::{Out, Target};
 use dexpool::{SymbolKind, number_law};
 
 /// The rows of the texts, from the offset of each.
-pub(crate) fn put_string_ids<T: Target>(contents: &Contents<'_, '_, '_, '_>, out: &mut Out<T>)
+pub(crate) fn put_string_ids<T: Target>(contents: &Contents<'_, '_, '_>, out: &mut Out<T>)
     requires { CanBeMade contents.now }
     ensures { AddsPart T.gives T.gives_prefix T.has_failed contents.now out.old
         out.new string_rows }
@@ -24,7 +24,7 @@ pub(crate) fn put_string_ids<T: Target>(contents: &Contents<'_, '_, '_, '_>, out
 }
 
 /// The rows of the types.
-pub(crate) fn put_type_ids<T: Target>(contents: &Contents<'_, '_, '_, '_>, out: &mut Out<T>)
+pub(crate) fn put_type_ids<T: Target>(contents: &Contents<'_, '_, '_>, out: &mut Out<T>)
     requires { CanBeMade contents.now }
     ensures { AddsPart T.gives T.gives_prefix T.has_failed contents.now out.old out.new type_rows }
 {
@@ -38,7 +38,7 @@ pub(crate) fn put_type_ids<T: Target>(contents: &Contents<'_, '_, '_, '_>, out: 
 }
 
 /// The rows of the protos, from where the parameters of each are listed.
-pub(crate) fn put_proto_ids<T: Target>(contents: &Contents<'_, '_, '_, '_>, out: &mut Out<T>)
+pub(crate) fn put_proto_ids<T: Target>(contents: &Contents<'_, '_, '_>, out: &mut Out<T>)
     requires { CanBeMade contents.now }
     ensures { AddsPart T.gives T.gives_prefix T.has_failed contents.now out.old out.new proto_rows }
 {
@@ -64,7 +64,7 @@ pub(crate) fn put_proto_ids<T: Target>(contents: &Contents<'_, '_, '_, '_>, out:
 }
 
 /// The rows of the fields.
-pub(crate) fn put_field_ids<T: Target>(contents: &Contents<'_, '_, '_, '_>, out: &mut Out<T>)
+pub(crate) fn put_field_ids<T: Target>(contents: &Contents<'_, '_, '_>, out: &mut Out<T>)
     requires { CanBeMade contents.now }
     ensures { AddsPart T.gives T.gives_prefix T.has_failed contents.now out.old out.new field_rows }
 {
@@ -83,7 +83,7 @@ pub(crate) fn put_field_ids<T: Target>(contents: &Contents<'_, '_, '_, '_>, out:
 }
 
 /// The rows of the methods.
-pub(crate) fn put_method_ids<T: Target>(contents: &Contents<'_, '_, '_, '_>, out: &mut Out<T>)
+pub(crate) fn put_method_ids<T: Target>(contents: &Contents<'_, '_, '_>, out: &mut Out<T>)
     requires { CanBeMade contents.now }
     ensures { AddsPart T.gives T.gives_prefix T.has_failed contents.now out.old
         out.new method_rows }

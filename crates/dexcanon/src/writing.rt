@@ -42,7 +42,7 @@ pub fn to_bytes(alloc: Global, program: &Program<'_>) -> Result<Vec<u8>, AllocEr
 }
 
 // The file of its contents, in a vector that has room for all of it.
-fn whole_file(alloc: Global, contents: &Contents<'_, '_, '_, '_>) -> Result<Vec<u8>, AllocError>
+fn whole_file(alloc: Global, contents: &Contents<'_, '_, '_>) -> Result<Vec<u8>, AllocError>
     requires { CanBeMade contents.now }
     ensures { IfOk result (λ file. file.items ≡ file_of contents.now) }
 {
@@ -98,7 +98,7 @@ pub fn write_to<W: Sink>(
 // Writes the file of its contents, as `write_to` says: a short one is encoded once, a longer one twice.
 fn write_contents<W: Sink>(
     alloc: Global,
-    contents: &Contents<'_, '_, '_, '_>,
+    contents: &Contents<'_, '_, '_>,
     sink: &mut W,
 ) -> Result<(), StoreFault>
     requires ready { CanBeMade contents.now }
@@ -135,7 +135,7 @@ fn write_contents<W: Sink>(
 
 // Writes what is buffered, and then all that is after the header.
 fn write_through<W: Sink>(
-    contents: &Contents<'_, '_, '_, '_>,
+    contents: &Contents<'_, '_, '_>,
     out: &mut Out<Writer<'_, W>>,
 ) -> Result<(), StoreFault>
     requires ready { CanBeMade contents.now }
@@ -153,7 +153,7 @@ fn write_through<W: Sink>(
 
 // The header of a file with its two sums, which are computed over the file as it is encoded into a buffer with room.
 // The buffer is returned empty.
-fn head_with_sums(contents: &Contents<'_, '_, '_, '_>, mut buffer: Vec<u8>) -> (Head, Vec<u8>)
+fn head_with_sums(contents: &Contents<'_, '_, '_>, mut buffer: Vec<u8>) -> (Head, Vec<u8>)
     requires ready { CanBeMade contents.now }
     requires room { contents.now.limit ≤ vec_capacity buffer }
     requires empty { vec_len buffer ≡ 0 }

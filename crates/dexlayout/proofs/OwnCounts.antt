@@ -1,9 +1,8 @@
 -- How many items each section of the data has, and how long the longest of several is.
 use Rattle.std.proofs.Common.{◌≡◌, ℕ, ◌+◌, ◌<◌, ◌≤◌, ◌^◌, max, Bool, true, false, cond, List, [], ◌∷◌, ◌++◌, length, map, Option, None, Some, refl, sym, ap, ◌∙◌, arith}
 use Rattle.std.specs.Prelude.{◌==◌, not}
-use Rattle.std.specs.List.{flat_map}
 use Rattle.std.proofs.lemmas.Bool.{ne_eqb}
-use Rattle.std.proofs.lemmas.List.{length-append, length-map}
+use Rattle.std.proofs.lemmas.List.{length-map}
 use Rattle.std.proofs.lemmas.List.Sums.{sum_by-append}
 use Rattle.dexspec.specs.Lists.{present}
 use Rattle.dexspec.specs.Bytes.{round_up}
@@ -11,13 +10,11 @@ use Rattle.dexspec.specs.Code.{Code}
 use Rattle.dexspec.specs.Classes.{Definition}
 use Rattle.dexspec.specs.Mentions.{Mentions}
 use Rattle.dexspec.specs.Texts.{string_data}
-use Rattle.dexspec.specs.Spellings.{code_bytes, encoded_array_bytes, class_data_bytes, offsets_bytes, annotation_bytes}
-use Rattle.dexspec.specs.Annotations.{AnnotationSet}
+use Rattle.dexspec.specs.Spellings.{code_bytes, encoded_array_bytes, class_data_bytes, offsets_bytes}
 use Rattle.dexspec.specs.Placing.{own_items, uses_offsets, offsets_from, end_from, offsets, Ordered, static_values_uses, code_uses, class_data_uses, ref_list_uses, directory_uses, end, Placed}
-use Rattle.dexspec.specs.Canonical.{data_start, type_list_section, set_items, annotation_section, annotation_offsets, array_section, string_section, debug_section, code_section, class_data_section, set_section, set_offsets, ref_list_section, directory_section}
-use Rattle.dexspec.proofs.layout.Places.{length-padding, items_few}
-use Rattle.dexspec.proofs.layout.Placements.{sections_have_bytes, length-chunks, numbers_offsets, HasBytes}
-use Rattle.dexval.specs.Numbered.{NumberedSet, annotation_in, set_in}
+use Rattle.dexspec.specs.Canonical.{data_start, type_list_section, annotation_section, array_section, string_section, debug_section, code_section, class_data_section, set_section, set_offsets, ref_list_section, directory_section}
+use Rattle.dexspec.proofs.layout.Places.{length-padding, items_few, length-offsets_from}
+use Rattle.dexspec.proofs.layout.Placements.{sections_have_bytes, numbers_offsets, HasBytes}
 use Rattle.dexclass.specs.Numbered.{NumberedClass}
 use Rattle.dexlayout.specs.Places.{ItemPlaces}
 use Rattle.dexlayout.specs.internal.Running.{none_from, pass, put_at, place_uses}
@@ -109,46 +106,37 @@ directory_count K =
     own_count (λ (x : List ℕ). x) 4 (end (ref_list_section K)) (directory_uses K (set_offsets K) (uses_offsets (ref_list_section K)))
     (omega (arith, starts K, h.type_lists, h.annotations, h.arrays, h.strings, h.debugs, h.codes, h.class_data, h.sets, h.ref_lists))
 
--- the sets
-set_count : (K : Ordered) → length (set_section K).items ≡ length (set_items K).written
-unfolding annotation_offsets set_section
-set_count K = length-map (annotation_offsets K) offsets_bytes ∙ length-chunks (map (λ (set : AnnotationSet). length set) (set_items K).written) _ ∙ length-map (set_items K).written _
-
--- sets of symbols have as many annotations as the sets of numbers that denote them
-length-annotations : (m : Mentions) (ws : List NumberedSet) → length (flat_map (λ (set : AnnotationSet). set) (map (set_in m) ws)) ≡ length (flat_map (λ (set : NumberedSet). set) ws)
-length-annotations m [] = refl
-length-annotations m (w ∷ ws) =
-    omega (arith, length-append (set_in m w) (flat_map (λ (set : AnnotationSet). set) (map (set_in m) ws)), length-append w (flat_map (λ (set : NumberedSet). set) ws), length-map w (annotation_in m), length-annotations m ws)
+-- an offset for each item
+length-offsets : (p : Placed) → length (offsets p) ≡ length p.items
+length-offsets p = length-offsets_from p.align p.from p.items
 
 -- the data has as many items of each section as the file
 pub record AreCounted (K : Ordered) (d : Data) : Type 0 where
   pub type_lists : d.first_sections.type_lists.count ≡ length (type_list_section K).items
-  pub annotations : length (flat_map (λ set. set) d.first_sections.annotations.written) ≡ length (annotation_section K).items
+  pub annotations : length d.first_sections.annotations.places.offsets ≡ length (annotation_section K).items
   pub arrays : count_placed d.first_sections.static_values.places.offsets ≡ length (array_section K).items
   pub strings : length K.pools.texts ≡ length (string_section K).items
   pub debugs : d.bodies.debugs.count ≡ length (debug_section K).items
   pub codes : count_placed d.bodies.codes.offsets ≡ length (code_section K).items
   pub class_data : count_placed d.bodies.class_data.places.offsets ≡ length (class_data_section K).items
-  pub sets : length d.first_sections.annotations.written ≡ length (set_section K).items
-  pub ref_lists : count_placed d.back.ref_lists.offsets ≡ length (ref_list_section K).items
+  pub sets : length d.back.sets.written.places.offsets ≡ length (set_section K).items
+  pub ref_lists : count_placed d.back.ref_lists.places.offsets ≡ length (ref_list_section K).items
   pub directories : count_placed d.back.directories.places.offsets ≡ length (directory_section K).items
 
 pub counted : (m : Mentions) (cs : List NumberedClass) {d : Data} → AreData m cs d → AreCounted (ordered_of m cs) d
-unfolding annotation_section string_section
+unfolding string_section
 counted m cs {d} h =
     let K = ordered_of m cs in
-    let items = (set_items K).written in
     record {
       type_lists = h.first_sections_are.type_lists_are.count_is;
-      annotations = sym (length-annotations m d.first_sections.annotations.written) ∙ ap (λ (xs : List AnnotationSet). length (flat_map (λ (set : AnnotationSet). set) xs)) h.first_sections_are.annotations_are.written_are
-          ∙ sym (length-map (flat_map (λ (set : AnnotationSet). set) items) (annotation_bytes m));
+      annotations = ap (λ (os : List ℕ). length os) h.first_sections_are.annotations_are.places_are.offsets_are ∙ length-offsets (annotation_section K);
       arrays = ap count_placed h.first_sections_are.static_values_are.places_are.offsets_are ∙ array_count K;
       strings = sym (length-map m.texts string_data);
       debugs = h.bodies_are.debugs_are.count_is;
       codes = ap count_placed h.bodies_are.codes_are.offsets_are ∙ code_count K;
       class_data = ap count_placed h.bodies_are.class_data_are.places_are.offsets_are ∙ class_data_count K;
-      sets = sym (length-map d.first_sections.annotations.written (set_in m)) ∙ ap (λ (xs : List AnnotationSet). length xs) h.first_sections_are.annotations_are.written_are ∙ sym (set_count K);
-      ref_lists = ap count_placed h.back_are.ref_lists_are.offsets_are ∙ ref_list_count K;
+      sets = ap (λ (os : List ℕ). length os) h.back_are.sets_are.written_are.places_are.offsets_are ∙ length-offsets (set_section K);
+      ref_lists = ap count_placed h.back_are.ref_lists_are.places_are.offsets_are ∙ ref_list_count K;
       directories = ap count_placed h.back_are.directories_are.places_are.offsets_are ∙ directory_count K;
     }
 

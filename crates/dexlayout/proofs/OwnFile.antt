@@ -9,8 +9,8 @@ use Rattle.dexspec.specs.Sections.{Section, HeaderItem, MapList}
 use Rattle.dexspec.specs.Files.{Collection, definitions}
 use Rattle.dexspec.specs.Mentions.{Mentions, mentions}
 use Rattle.dexspec.specs.Merging.{Caps, greatest_caps, AreCaps, Fits}
-use Rattle.dexspec.specs.Placing.{Ordered, EqualOnce, section_bytes, end, uses_offsets, offsets}
-use Rattle.dexspec.specs.Canonical.{map_of, map_bytes, map_entry_bytes, unsigned_file, with_sums, ordered, canonical, data_start, type_list_section, set_items, annotation_section, array_section, string_section, debug_section, code_section, class_data_section, set_section, set_offsets, ref_list_section, directory_section}
+use Rattle.dexspec.specs.Placing.{Ordered, EqualOnce, end, uses_offsets, offsets}
+use Rattle.dexspec.specs.Canonical.{map_of, map_bytes, map_entry_bytes, unsigned_file, with_sums, ordered, canonical, data_start, type_list_section, annotation_section, array_section, string_section, debug_section, code_section, class_data_section, set_section, set_offsets, ref_list_section, directory_section}
 use Rattle.dexspec.proofs.numbers.ByteNumbers.{length-uint, length-ushort}
 use Rattle.dexspec.proofs.written.PlacedBytes.{length_rows}
 use Rattle.dexspec.proofs.layout.SectionPlaces.{data_before_map, map_place, map_place_is, map_list_named, parts}
@@ -18,8 +18,8 @@ use Rattle.dexhead.specs.Laid.{StatesLayout, map_start, map_list}
 use Rattle.dexpool.specs.Numberings.{IsNumbering}
 use Rattle.dexclass.specs.Numbered.{NumberedClass}
 use Rattle.dexclass.specs.Programs.{AreClassesOf}
-use Rattle.dexlayout.specs.Places.{AnnotationPlaces, SetPlaces, Places}
-use Rattle.dexlayout.specs.Laid.{ordered_of, file_end, AreWritable, greatest_of, greatest_item, first_offsets, AreLaidSo, AreEncodedIn, AreSharedIn, AreAnnotations, AreSets, IsLaid}
+use Rattle.dexlayout.specs.Places.{SetPlaces, Places}
+use Rattle.dexlayout.specs.Laid.{ordered_of, file_end, AreWritable, greatest_item, AreLaidSo, AreEncodedIn, AreSharedIn, AreSets, IsLaid, AreItemsIn}
 use Rattle.dexlayout.specs.internal.Parts.{entry_of, table_parts, section_parts}
 use Rattle.dexlayout.proofs.Ends.{map_start_is}
 use Rattle.dexlayout.proofs.OwnParts.{map_parts}
@@ -73,22 +73,13 @@ writable C cs numbering fits law of = record {
 -- ---- classes of the same definitions have the same layout
 
 module _ (m : Mentions) (cs ds : List NumberedClass) (e : ordered_of m cs ≡ ordered_of m ds) where
-  annotations_same : {p : AnnotationPlaces} → AreAnnotations m cs p → AreAnnotations m ds p
-  annotations_same {p} h = record {
-    written_are = h.written_are ∙ ap (λ (K : Ordered). (set_items K).written) e;
-    known = h.known;
-    bytes_are = h.bytes_are ∙ ap (λ (K : Ordered). section_bytes (annotation_section K)) e;
-    places_are = subst (λ (K : Ordered). AreLaidSo (first_offsets m (end (type_list_section K)) (set_items K).written) (end (annotation_section K)) (annotation_section K).items p.places) e h.places_are;
-  }
-
   sets_same : {p : SetPlaces} → AreSets m cs p → AreSets m ds p
   sets_same {p} h = record {
     own_are = h.own_are ∙ ap (λ (K : Ordered). map (λ s. s.own) (set_offsets K)) e;
     fields_are = h.fields_are ∙ ap (λ (K : Ordered). flat_map (λ s. s.fields) (set_offsets K)) e;
     methods_are = h.methods_are ∙ ap (λ (K : Ordered). flat_map (λ s. map (λ os. slice_index os 0) s.methods) (set_offsets K)) e;
     parameters_are = h.parameters_are ∙ ap (λ (K : Ordered). flat_map (λ s. flat_map (drop 1) s.methods) (set_offsets K)) e;
-    end_is = h.end_is ∙ ap (λ (K : Ordered). end (set_section K)) e;
-    greatest_is = h.greatest_is ∙ ap (λ (K : Ordered). greatest_of (set_section K).items) e;
+    written_are = subst (λ (K : Ordered). AreItemsIn (set_section K) p.written) e h.written_are;
   }
 
   pub laid_same : {p : Places} → IsLaid m cs p → IsLaid m ds p
@@ -96,14 +87,14 @@ module _ (m : Mentions) (cs ds : List NumberedClass) (e : ordered_of m cs ≡ or
     head_states = subst (StatesLayout p.head) e h.head_states;
     signature_length = h.signature_length;
     type_lists_are = subst (λ (K : Ordered). AreSharedIn (type_list_section K) p.type_lists) e h.type_lists_are;
-    annotations_are = annotations_same h.annotations_are;
+    annotations_are = subst (λ (K : Ordered). AreItemsIn (annotation_section K) p.annotations) e h.annotations_are;
     static_values_are = subst (λ (K : Ordered). AreEncodedIn (array_section K) p.static_values) e h.static_values_are;
     strings_are = subst (λ (K : Ordered). AreLaidSo (offsets (string_section K)) (end (string_section K)) (string_section K).items p.strings) e h.strings_are;
     debugs_are = subst (λ (K : Ordered). AreSharedIn (debug_section K) p.debugs) e h.debugs_are;
     codes_are = subst (λ (K : Ordered). AreLaidSo (uses_offsets (code_section K)) (end (code_section K)) (code_section K).items p.codes) e h.codes_are;
     class_data_are = subst (λ (K : Ordered). AreEncodedIn (class_data_section K) p.class_data) e h.class_data_are;
     sets_are = sets_same h.sets_are;
-    ref_lists_are = subst (λ (K : Ordered). AreLaidSo (uses_offsets (ref_list_section K)) (end (ref_list_section K)) (ref_list_section K).items p.ref_lists) e h.ref_lists_are;
+    ref_lists_are = subst (λ (K : Ordered). AreEncodedIn (ref_list_section K) p.ref_lists) e h.ref_lists_are;
     directories_are = subst (λ (K : Ordered). AreEncodedIn (directory_section K) p.directories) e h.directories_are;
     entries_are = h.entries_are ∙ ap (λ (K : Ordered). map_of K (map_start K)) e;
     greatest_is = h.greatest_is ∙ ap greatest_item e;

@@ -15,8 +15,7 @@ use Rattle.dexspec.specs.Mentions.{Mentions, field_of, method_of}
 use Rattle.dexspec.specs.Placing.{SetOffsets, pair_cmp, pairs, bytes_from, directory_bytes, directory_uses, end, section_bytes, uses_offsets}
 use Rattle.dexspec.specs.Spellings.{field_index, method_index}
 use Rattle.dexspec.specs.Canonical.{set_offsets, ref_list_section, directory_section}
-use Rattle.dexspec.specs.Placing.{ref_list_uses}
-use Rattle.dexspec.specs.Spellings.{offsets_bytes}
+use Rattle.dexspec.specs.Placing.{ref_list_uses, unless_empty}
 use Rattle.dexspec.proofs.layout.Placements.{length-chunks, length-uses_offsets, length-set_offsets}
 use Rattle.dexspec.proofs.sharing.Shorter.{not_zero}
 use Rattle.dexpool.specs.Laws.{RanksAreNumbers}
@@ -31,10 +30,12 @@ use Rattle.dexlayout.specs.Laid.{ordered_of, AreLaidSo, AreSets, AreWritable}
 use Rattle.dexlayout.specs.internal.Encoding.{aligned_bytes, item_len}
 use Rattle.dexlayout.specs.internal.Running.{none_from, place_use, place_uses}
 use Rattle.dexlayout.specs.internal.Directories.{directory_item, directory_items}
-use Rattle.dexlayout.specs.internal.Collecting.{list_size, list_sizes, class_list_sizes, sets_of_method, sets_of_class, parts_of_class, parts_of_classes}
+use Rattle.dexlayout.specs.internal.Collecting.{sets_of_method, sets_of_class, parts_of_class, parts_of_classes}
 use Rattle.dexlayout.proofs.EncodedUses.{Encoding, encoding_fits, encoding_more, own_bytes, own_lens, own_same}
 use Rattle.dexlayout.proofs.Owned.{sizes, own_encoded}
-use Rattle.dexlayout.proofs.SetLists.{set_use_offsets, length-set_use_offsets, set_offsets_are, ref_list_lengths}
+use Rattle.dexlayout.proofs.SetLists.{set_use_offsets, length-set_use_offsets, set_offsets_are}
+use Rattle.dexlayout.specs.internal.OffsetLists.{parameter_counts, class_parameter_counts}
+use Rattle.dexlayout.proofs.RefLists.{lists_of, lists_used, counts_lengths}
 use Rattle.dexlayout.proofs.SetsCollected.{class_sets_count, classes_are_long, classes_parts, fields_count, methods_are}
 
 -- ---- pairs
@@ -286,14 +287,14 @@ module _ (m : Mentions) (ranks : RanksAreNumbers m) where
 -- ---- they are those of the file
 
 -- an offset of a list for each method
-class_lists_count : (cs : List NumberedClass) → length (class_list_sizes cs) ≡ length (flat_map (λ c. methods_of c.members) cs)
+class_lists_count : (cs : List NumberedClass) → length (class_parameter_counts cs) ≡ length (flat_map (λ c. methods_of c.members) cs)
 class_lists_count [] = refl
 class_lists_count (c ∷ cs) =
     omega (
       arith,
-      length-append (list_sizes (methods_of c.members)) (class_list_sizes cs),
+      length-append (parameter_counts (methods_of c.members)) (class_parameter_counts cs),
       length-append (methods_of c.members) (flat_map (λ c. methods_of c.members) cs),
-      length-map (methods_of c.members) (λ (x : NumberedMethod). list_size (length x.parameter_annotations)),
+      length-map (methods_of c.members) (λ (x : NumberedMethod). length x.parameter_annotations),
       class_lists_count cs,
     )
 
@@ -301,8 +302,10 @@ pub length-ref_list_offsets : (m : Mentions) (cs : List NumberedClass) → lengt
 unfolding ref_list_section
 length-ref_list_offsets m cs =
     let K = ordered_of m cs in
-    let us = ref_list_uses K (set_offsets K) in
-    length-uses_offsets us _ ∙ sym (length-map us (option_map (λ os. length (offsets_bytes os)))) ∙ ap (λ (l : List (Option ℕ)). length l) (ref_list_lengths m cs) ∙ class_lists_count cs
+    let ss = set_offsets K in
+    let ls = lists_of ss in
+    length-uses_offsets (ref_list_uses K ss) _ ∙ ap (λ (us : List (Option (List ℕ))). length us) (sym (lists_used ss)) ∙ length-map ls unless_empty
+    ∙ sym (length-map ls (λ (l : List ℕ). length l)) ∙ ap (λ (ns : List ℕ). length ns) (sym (counts_lengths m cs)) ∙ class_lists_count cs
 
 module _ (m : Mentions) (cs : List NumberedClass) (sets : SetPlaces) (are : AreSets m cs sets) where
   -- the offsets of the sets, class by class

@@ -1,5 +1,5 @@
--- The offsets of the sets that are written, and the offset for each use.
-use Rattle.std.proofs.Common.{◌≡◌, ℕ, ◌+◌, ◌*◌, ◌<◌, List, [], ◌∷◌, length, get_or, map, drop, refl, sym, ap, subst, ◌∙◌, arith, Option, Some, None, All}
+-- The sets that are written, and the offset for each use.
+use Rattle.std.proofs.Common.{◌≡◌, ℕ, ◌<◌, ◌≤◌, List, [], ◌∷◌, length, get_or, map, drop, refl, sym, ap, subst, ◌∙◌, arith, Option, Some, None, All}
 use Rattle.std.specs.Prelude.{slice_index, IfSome}
 use Rattle.std.specs.List.{flat_map}
 use Rattle.std.proofs.lemmas.List.{length-map, get_or_default}
@@ -13,14 +13,16 @@ use Rattle.dexspec.proofs.layout.Placements.{length-chunks}
 use Rattle.dexspec.proofs.layout.Places.{length-offsets_from}
 use Rattle.dexspec.proofs.sharing.Sameness.{set_decides}
 use Rattle.dexspec.proofs.layout.Uses.{IsNumber, items_numbered}
-use Rattle.dexval.specs.Numbered.{NumberedSet, set_in}
+use Rattle.dexval.specs.Numbered.{NumberedSet, annotation_in, set_in}
 use Rattle.dexclass.specs.Numbered.{NumberedClass}
-use Rattle.dexlayout.specs.Places.{SetPlaces}
-use Rattle.dexlayout.specs.Laid.{ordered_of, greatest_of, AreLaidSo, AreSets}
-use Rattle.dexlayout.specs.internal.Running.{none_from, place_uses}
-use Rattle.dexlayout.specs.internal.Collecting.{set_len, parts_of_classes, collect_classes}
-use Rattle.dexlayout.proofs.SharedPlaces.{all_encoded}
-use Rattle.dexlayout.proofs.SetItems.{offsets_length, chunk_lengths}
+use Rattle.dexlayout.specs.Places.{EncodedItems, SetPlaces}
+use Rattle.dexlayout.specs.Laid.{ordered_of, AreItemsIn, AreSets}
+use Rattle.dexlayout.specs.internal.Aligned.{encode_uses, no_items_from}
+use Rattle.dexlayout.specs.internal.Collecting.{parts_of_classes, collect_classes}
+use Rattle.dexlayout.specs.internal.OffsetLists.{offset_lists, set_item, total}
+use Rattle.dexlayout.specs.internal.Placing.{no_sets}
+use Rattle.dexlayout.proofs.EncodedAfter.{all_bytes, all_laid}
+use Rattle.dexlayout.proofs.OffsetLists.{total_lengths}
 use Rattle.dexlayout.proofs.SetParts.{parts}
 use Rattle.dexlayout.proofs.SetLists.{set_use_offsets, set_offsets_are}
 use Rattle.dexlayout.proofs.SetsCollected.{collected_classes, classes_parts}
@@ -35,7 +37,7 @@ annotations_count K =
     length-offsets_from 1 (annotation_section K).from (map (annotation_bytes K.pools) all) ∙ length-map all (annotation_bytes K.pools)
 
 -- a list of offsets for each set
-pub length-annotation_offsets : (K : Ordered) → length (annotation_offsets K) ≡ length (set_items K).written
+length-annotation_offsets : (K : Ordered) → length (annotation_offsets K) ≡ length (set_items K).written
 unfolding annotation_offsets
 length-annotation_offsets K = length-chunks (map (λ (s : AnnotationSet). length s) (set_items K).written) (offsets (annotation_section K)) ∙ length-map (set_items K).written (λ s. length s)
 
@@ -44,54 +46,34 @@ pub length-set_offsets : (K : Ordered) → length (offsets (set_section K)) ≡ 
 unfolding set_section
 length-set_offsets K = length-offsets_from 4 (end (class_data_section K)) (map offsets_bytes (annotation_offsets K)) ∙ length-map (annotation_offsets K) offsets_bytes ∙ length-annotation_offsets K
 
--- by lengths
-by_length : (oss : List (List ℕ)) → map (λ os. Some (length (offsets_bytes os))) oss ≡ map (λ n. Some (4 + 4 * n)) (map (λ os. length os) oss)
-by_length [] = refl
-by_length (os ∷ oss) =
-    let here : Some (length (offsets_bytes os)) ≡ Some (4 + 4 * length os) = ap Some (offsets_length os) in
-    let rest = by_length oss in
+-- as many annotations as by numbers
+annotation_counts_are : {X : Type 0} (m : Mentions) (g : X → NumberedSet) (xs : List X) → map (λ x. length (g x)) xs ≡ map (λ (s : AnnotationSet). length s) (map (λ x. set_in m (g x)) xs)
+annotation_counts_are m g [] = refl
+annotation_counts_are m g (x ∷ xs) =
+    let here : length (g x) ≡ length (set_in m (g x)) = sym (length-map (g x) (annotation_in m)) in
+    let rest = annotation_counts_are m g xs in
     λ i. here i ∷ rest i
 
--- the same of the sets
-in_length : (m : Mentions) (ss : List NumberedSet) → map (λ n. Some (4 + 4 * n)) (map (λ (s : AnnotationSet). length s) (map (set_in m) ss)) ≡ map (λ s. Some (set_len s)) ss
-in_length m [] = refl
-in_length m (s ∷ ss) =
-    let here : Some (4 + 4 * length (set_in m s)) ≡ Some (set_len s) = ap (λ n. Some (4 + 4 * n)) (length-map s _) in
-    let rest = in_length m ss in
-    λ i. here i ∷ rest i
+-- the sets that are written, from the offsets of the annotations
+module _ {X : Type 0} (m : Mentions) (cs : List NumberedClass) (g : X → NumberedSet) (xs : List X) (are : map (λ x. set_in m (g x)) xs ≡ (set_items (ordered_of m cs)).written) (offs : List ℕ) (offsets_are : offs ≡ offsets (annotation_section (ordered_of m cs))) where
+  counts : map (λ x. length (g x)) xs ≡ map (λ (s : AnnotationSet). length s) (set_items (ordered_of m cs)).written
+  counts = annotation_counts_are m g xs ∙ ap (map (λ (s : AnnotationSet). length s)) are
 
--- how many bytes they have
-set_sizes : (m : Mentions) (cs : List NumberedClass) (ss : List NumberedSet) → map (set_in m) ss ≡ (set_items (ordered_of m cs)).written
-    → map (λ os. Some (length (offsets_bytes os))) (annotation_offsets (ordered_of m cs)) ≡ map (λ s. Some (set_len s)) ss
-unfolding annotation_offsets
-set_sizes m cs ss are =
-    let K = ordered_of m cs in
-    by_length (annotation_offsets K)
-    ∙ ap (map (λ n. Some (4 + 4 * n))) (chunk_lengths (λ (s : AnnotationSet). s) (set_items K).written (offsets (annotation_section K)) (annotations_count K))
-    ∙ ap (λ (l : List AnnotationSet). map (λ n. Some (4 + 4 * n)) (map (λ s. length s) l)) (sym are) ∙ in_length m ss
+  -- there are enough offsets
+  pub annotations_enough : total (map (λ x. length (g x)) xs) ≤ length offs
+  annotations_enough =
+      let K = ordered_of m cs in
+      omega (arith, ap total counts, total_lengths (set_items K).written, annotations_count K, ap (λ (os : List ℕ). length os) offsets_are)
 
--- their offsets
-pub sets_encoded : (m : Mentions) (cs : List NumberedClass) (ss : List NumberedSet) → map (set_in m) ss ≡ (set_items (ordered_of m cs)).written
-    → AreLaidSo (offsets (set_section (ordered_of m cs))) (end (set_section (ordered_of m cs))) (set_section (ordered_of m cs)).items (place_uses 4 (none_from (end (class_data_section (ordered_of m cs)))) (map (λ s. Some (set_len s)) ss))
-unfolding set_section
-sets_encoded m cs ss are =
-    let K = ordered_of m cs in
-    subst (λ us. AreLaidSo (offsets (set_section K)) (end (set_section K)) (set_section K).items (place_uses 4 (none_from (end (class_data_section K))) us)) (set_sizes m cs ss are) (all_encoded offsets_bytes 4 (end (class_data_section K)) (annotation_offsets K))
-
--- sets that are mapped to references
-pub referred : {X : Type 0} (g : X → NumberedSet) (xs : List X) → map (λ x. Some (set_len (g x))) xs ≡ map (λ s. Some (set_len s)) (map g xs)
-referred g [] = refl
-referred g (x ∷ xs) = ap (λ l. Some (set_len (g x)) ∷ l) (referred g xs)
-
--- their offsets, from a place on
-pub written_encoded : {X : Type 0} (m : Mentions) (cs : List NumberedClass) (g : X → NumberedSet) (ws : List X) (ss : List NumberedSet) (from : ℕ) → map g ws ≡ ss → map (set_in m) ss ≡ (set_items (ordered_of m cs)).written
-    → from ≡ end (class_data_section (ordered_of m cs))
-    → AreLaidSo (offsets (set_section (ordered_of m cs))) (end (set_section (ordered_of m cs))) (set_section (ordered_of m cs)).items (place_uses 4 (none_from from) (map (λ w. Some (set_len (g w))) ws))
-written_encoded m cs g ws ss from e are is =
-    let K = ordered_of m cs in
-    let us : map (λ s. Some (set_len s)) ss ≡ map (λ w. Some (set_len (g w))) ws = ap (map (λ s. Some (set_len s))) (sym e) ∙ sym (referred g ws) in
-    let same : place_uses 4 (none_from (end (class_data_section K))) (map (λ s. Some (set_len s)) ss) ≡ place_uses 4 (none_from from) (map (λ w. Some (set_len (g w))) ws) = λ i. place_uses 4 (none_from (sym is i)) (us i) in
-    subst (AreLaidSo (offsets (set_section K)) (end (set_section K)) (set_section K).items) same (sets_encoded m cs ss are)
+  -- encoded they are those of the file
+  pub sets_laid : (from : ℕ) → from ≡ end (class_data_section (ordered_of m cs)) → AreItemsIn (set_section (ordered_of m cs)) (encode_uses 4 (no_items_from from) (offset_lists set_item (map (λ x. length (g x)) xs) offs))
+  unfolding annotation_offsets set_section
+  sets_laid from is =
+      let K = ordered_of m cs in
+      let start = end (class_data_section K) in
+      let same : encode_uses 4 (no_items_from from) (offset_lists set_item (map (λ x. length (g x)) xs) offs) ≡ encode_uses 4 (no_items_from start) (map set_item (annotation_offsets K)) =
+      λ i. encode_uses 4 (no_items_from (is i)) (offset_lists set_item (counts i) (offsets_are i)) in
+      subst (AreItemsIn (set_section K)) (sym same) (record { bytes_are = all_bytes 4 offsets_bytes start (annotation_offsets K); places_are = all_laid 4 offsets_bytes start (annotation_offsets K) })
 
 -- ---- numbers
 
@@ -112,18 +94,16 @@ numbers_within K =
 -- ---- all sets
 
 -- the offsets that were collected are those of the sets
-pub sets_are : (m : Mentions) (cs : List NumberedClass) (offs : List ℕ) (at greatest : ℕ) (p : SetPlaces)
-    → p ≡ collect_classes (record { own = []; fields = []; methods = []; parameters = []; end = at; greatest = greatest }) (parts_of_classes cs offs)
-    → offs ≡ set_use_offsets (ordered_of m cs) → at ≡ end (set_section (ordered_of m cs)) → greatest ≡ greatest_of (set_section (ordered_of m cs)).items → AreSets m cs p
-sets_are m cs offs at greatest p collected are last most =
+pub sets_are : (m : Mentions) (cs : List NumberedClass) (offs : List ℕ) (written : EncodedItems) (p : SetPlaces) → p ≡ collect_classes (no_sets written) (parts_of_classes cs offs)
+    → offs ≡ set_use_offsets (ordered_of m cs) → AreItemsIn (set_section (ordered_of m cs)) written → AreSets m cs p
+sets_are m cs offs written p collected are laid =
     let K = ordered_of m cs in
     let ss : parts_of_classes cs offs ≡ set_offsets K = sym (classes_parts m cs offs) ∙ ap (parts K.classes) are ∙ sym (set_offsets_are K) in
-    let all = collected ∙ collected_classes (record { own = []; fields = []; methods = []; parameters = []; end = at; greatest = greatest }) (parts_of_classes cs offs) in
+    let all = collected ∙ collected_classes (no_sets written) (parts_of_classes cs offs) in
     record {
       own_are = ap (λ (q : SetPlaces). q.own) all ∙ ap (map (λ (s : SetOffsets). s.own)) ss;
       fields_are = ap (λ (q : SetPlaces). q.fields) all ∙ ap (flat_map (λ (s : SetOffsets). s.fields)) ss;
       methods_are = ap (λ (q : SetPlaces). q.methods) all ∙ ap (flat_map (λ (s : SetOffsets). map (λ os. slice_index os 0) s.methods)) ss;
       parameters_are = ap (λ (q : SetPlaces). q.parameters) all ∙ ap (flat_map (λ (s : SetOffsets). flat_map (drop 1) s.methods)) ss;
-      end_is = ap (λ (q : SetPlaces). q.end) all ∙ last;
-      greatest_is = ap (λ (q : SetPlaces). q.greatest) all ∙ most;
+      written_are = subst (AreItemsIn (set_section K)) (sym (ap (λ (q : SetPlaces). q.written) all)) laid;
     }

@@ -23,17 +23,16 @@ pub collected_methods : (p : SetPlaces) (oss : List (List ℕ)) → collect_meth
   fields = p.fields;
   methods = p.methods ++ map (λ os. slice_index os 0) oss;
   parameters = p.parameters ++ flat_map (drop 1) oss;
-  end = p.end;
-  greatest = p.greatest;
+  written = p.written;
 }
 collected_methods p [] =
     let a = append-nil p.methods in
     let b = append-nil p.parameters in
-    λ i. record { own = p.own; fields = p.fields; methods = sym a i; parameters = sym b i; end = p.end; greatest = p.greatest }
+    λ i. record { own = p.own; fields = p.fields; methods = sym a i; parameters = sym b i; written = p.written }
 collected_methods p (os ∷ oss) =
     let a = append_assoc p.methods (slice_index os 0 ∷ []) (map (λ os. slice_index os 0) oss) in
     let b = append_assoc p.parameters (drop 1 os) (flat_map (drop 1) oss) in
-    collected_methods (collect_method p os) oss ∙ (λ i. record { own = p.own; fields = p.fields; methods = a i; parameters = b i; end = p.end; greatest = p.greatest })
+    collected_methods (collect_method p os) oss ∙ (λ i. record { own = p.own; fields = p.fields; methods = a i; parameters = b i; written = p.written })
 
 -- methods after others
 pub collect_both : (p : SetPlaces) (oss pss : List (List ℕ)) → collect_methods p (oss ++ pss) ≡ collect_methods (collect_methods p oss) pss
@@ -46,15 +45,14 @@ pub collected_classes : (p : SetPlaces) (ss : List SetOffsets) → collect_class
   fields = p.fields ++ flat_map (λ (s : SetOffsets). s.fields) ss;
   methods = p.methods ++ flat_map (λ (s : SetOffsets). map (λ os. slice_index os 0) s.methods) ss;
   parameters = p.parameters ++ flat_map (λ (s : SetOffsets). flat_map (drop 1) s.methods) ss;
-  end = p.end;
-  greatest = p.greatest;
+  written = p.written;
 }
 collected_classes p [] =
     let a = append-nil p.own in
     let b = append-nil p.fields in
     let c = append-nil p.methods in
     let d = append-nil p.parameters in
-    λ i. record { own = sym a i; fields = sym b i; methods = sym c i; parameters = sym d i; end = p.end; greatest = p.greatest }
+    λ i. record { own = sym a i; fields = sym b i; methods = sym c i; parameters = sym d i; written = p.written }
 collected_classes p (s ∷ ss) =
     let q = collect_own p s.own s.fields in
     let a = append_assoc p.own (s.own ∷ []) (map (λ (s : SetOffsets). s.own) ss) in
@@ -62,8 +60,8 @@ collected_classes p (s ∷ ss) =
     let c = append_assoc p.methods (map (λ os. slice_index os 0) s.methods) (flat_map (λ (s : SetOffsets). map (λ os. slice_index os 0) s.methods) ss) in
     let d = append_assoc p.parameters (flat_map (drop 1) s.methods) (flat_map (λ (s : SetOffsets). flat_map (drop 1) s.methods) ss) in
     ap (λ r. collect_classes r ss) (collected_methods q s.methods)
-    ∙ collected_classes (record { own = q.own; fields = q.fields; methods = q.methods ++ map (λ os. slice_index os 0) s.methods; parameters = q.parameters ++ flat_map (drop 1) s.methods; end = q.end; greatest = q.greatest }) ss
-    ∙ (λ i. record { own = a i; fields = b i; methods = c i; parameters = d i; end = p.end; greatest = p.greatest })
+    ∙ collected_classes (record { own = q.own; fields = q.fields; methods = q.methods ++ map (λ os. slice_index os 0) s.methods; parameters = q.parameters ++ flat_map (drop 1) s.methods; written = q.written }) ss
+    ∙ (λ i. record { own = a i; fields = b i; methods = c i; parameters = d i; written = p.written })
 
 -- ---- the offsets that are left
 

@@ -5,16 +5,13 @@ use Rattle.dexspec.specs.Mentions.{Mentions, mentions}
 use Rattle.dexspec.specs.Files.{Collection, definitions}
 use Rattle.dexspec.specs.Header.{header_length}
 use Rattle.dexspec.specs.Placing.{Ordered, EqualOnce, Placed, Items, section_bytes, end, uses_offsets, offsets}
-use Rattle.dexspec.specs.Spellings.{annotation_bytes}
-use Rattle.dexspec.specs.Annotations.{AnnotationSet}
-use Rattle.dexspec.specs.Canonical.{map_of, data_sections, type_list_section, set_items, annotation_section, array_section, string_section, debug_section, code_section, class_data_section, set_section, set_offsets, ref_list_section, directory_section, ordered}
+use Rattle.dexspec.specs.Canonical.{map_of, data_sections, type_list_section, annotation_section, array_section, string_section, debug_section, code_section, class_data_section, set_section, set_offsets, ref_list_section, directory_section, ordered}
 use Rattle.dexhead.specs.Laid.{StatesLayout, map_start, map_list}
 use Rattle.dexpool.specs.Numberings.{IsNumbering}
-use Rattle.dexval.specs.Numbered.{set_in, IsKnownSet}
 use Rattle.dexclass.specs.Numbered.{NumberedClass, definition_of}
 use Rattle.dexclass.specs.Uses.{IsKnownClass}
 use Rattle.dexclass.specs.Programs.{AreClassesOf}
-use Rattle.dexlayout.specs.Places.{ItemPlaces, EncodedItems, EncodedSharedItems, AnnotationPlaces, SetPlaces, Places}
+use Rattle.dexlayout.specs.Places.{ItemPlaces, EncodedItems, EncodedSharedItems, SetPlaces, Places}
 
 -- ---- classes that are laid out
 
@@ -73,21 +70,18 @@ pub record AreSharedIn (section : Placed) (p : EncodedSharedItems) : Type 0 wher
   pub count_is : p.count ≡ length section.items
   pub places_are : AreLaidIn section p.places
 
+-- encoded items have the bytes, the offsets and the end that they have in this section, an offset for each
+pub record AreItemsIn (section : Placed) (p : EncodedItems) : Type 0 where
+  pub bytes_are : p.bytes ≡ section_bytes section
+  pub places_are : AreLaidSo (offsets section) (end section) section.items p.places
+
 -- the type lists
 abbrev pub AreTypeLists : Mentions → List NumberedClass → EncodedSharedItems → Type 0
 AreTypeLists m cs = AreSharedIn (type_list_section (ordered_of m cs))
 
--- the offset of the first annotation of each set, for sets from an offset on
-abbrev pub first_offsets : Mentions → ℕ → List AnnotationSet → List ℕ
-first_offsets m from [] = []
-first_offsets m from (s ∷ ss) = from ∷ first_offsets m (from + length (flat_map (annotation_bytes m) s)) ss
-
 -- the annotations of the sets that are written
-pub record AreAnnotations (m : Mentions) (cs : List NumberedClass) (p : AnnotationPlaces) : Type 0 where
-  pub written_are : map (set_in m) p.written ≡ (set_items (ordered_of m cs)).written
-  pub known : All (IsKnownSet m) p.written
-  pub bytes_are : p.bytes ≡ section_bytes (annotation_section (ordered_of m cs))
-  pub places_are : AreLaidSo (first_offsets m (end (type_list_section (ordered_of m cs))) (set_items (ordered_of m cs)).written) (end (annotation_section (ordered_of m cs))) (annotation_section (ordered_of m cs)).items p.places
+abbrev pub AreAnnotations : Mentions → List NumberedClass → EncodedItems → Type 0
+AreAnnotations m cs = AreItemsIn (annotation_section (ordered_of m cs))
 
 -- the debug programs
 abbrev pub AreDebugs : Mentions → List NumberedClass → EncodedSharedItems → Type 0
@@ -99,8 +93,7 @@ pub record AreSets (m : Mentions) (cs : List NumberedClass) (p : SetPlaces) : Ty
   pub fields_are : p.fields ≡ flat_map (λ s. s.fields) (set_offsets (ordered_of m cs))
   pub methods_are : p.methods ≡ flat_map (λ s. map (λ os. slice_index os 0) s.methods) (set_offsets (ordered_of m cs))
   pub parameters_are : p.parameters ≡ flat_map (λ s. flat_map (drop 1) s.methods) (set_offsets (ordered_of m cs))
-  pub end_is : p.end ≡ end (set_section (ordered_of m cs))
-  pub greatest_is : p.greatest ≡ greatest_of (set_section (ordered_of m cs)).items
+  pub written_are : AreItemsIn (set_section (ordered_of m cs)) p.written
 
 -- the arrays of static values
 abbrev pub AreStaticValues : Mentions → List NumberedClass → EncodedItems → Type 0
@@ -115,8 +108,8 @@ abbrev pub AreClassData : Mentions → List NumberedClass → EncodedItems → T
 AreClassData m cs = AreEncodedIn (class_data_section (ordered_of m cs))
 
 -- the lists of sets of parameters
-abbrev pub AreRefLists : Mentions → List NumberedClass → ItemPlaces → Type 0
-AreRefLists m cs = AreLaidIn (ref_list_section (ordered_of m cs))
+abbrev pub AreRefLists : Mentions → List NumberedClass → EncodedItems → Type 0
+AreRefLists m cs = AreEncodedIn (ref_list_section (ordered_of m cs))
 
 -- the directories
 abbrev pub AreDirectories : Mentions → List NumberedClass → EncodedItems → Type 0

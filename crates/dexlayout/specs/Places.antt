@@ -2,7 +2,6 @@
 use Rattle.std.specs.Prelude.{ℕ, List}
 use Rattle.dexspec.specs.Sections.{Section}
 use Rattle.dexhead.specs.declared.head.Head.{Head}
-use Rattle.dexval.specs.Numbered.{NumberedSet}
 
 -- Where items begin, an offset for each use and 0 where it has no item; where they end; how long the longest is.
 pub record ItemPlaces : Type 0 where
@@ -21,34 +20,27 @@ pub record EncodedSharedItems : Type 0 where
   pub count : ℕ
   pub places : ItemPlaces
 
--- The annotation sets that are written, the bytes of their annotations, and for each set the offset of its first one.
-pub record AnnotationPlaces : Type 0 where
-  pub written : List NumberedSet
-  pub bytes : List ℕ
-  pub places : ItemPlaces
-
 -- The offsets of annotation sets: the own one of each class, that of each field, that of each method, and those of the
--- parameters of each method.
+-- parameters of each method; and the sets that are written, with the offset of each.
 pub record SetPlaces : Type 0 where
   pub own : List ℕ
   pub fields : List ℕ
   pub methods : List ℕ
   pub parameters : List ℕ
-  pub end : ℕ
-  pub greatest : ℕ
+  pub written : EncodedItems
 
 -- A whole layout: the header, without its sums, the parts in the order of the file, and the map.
 pub record Places : Type 0 where
   pub head : Head
   pub type_lists : EncodedSharedItems
-  pub annotations : AnnotationPlaces
+  pub annotations : EncodedItems
   pub static_values : EncodedItems
   pub strings : ItemPlaces
   pub debugs : EncodedSharedItems
   pub codes : ItemPlaces
   pub class_data : EncodedItems
   pub sets : SetPlaces
-  pub ref_lists : ItemPlaces
+  pub ref_lists : EncodedItems
   pub directories : EncodedItems
   pub entries : List (Section × ℕ × ℕ)
   pub greatest : ℕ

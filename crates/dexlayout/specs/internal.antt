@@ -1,9 +1,11 @@
 -- Words of the contracts of private functions: no public contract reaches them.
 pub mod Adding
+pub mod Aligned
 pub mod Annotated
 pub mod Directories
 pub mod Encoding
 pub mod Collecting
+pub mod OffsetLists
 pub mod Parts
 pub mod Placing
 pub mod Running

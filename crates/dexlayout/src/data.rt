@@ -1,17 +1,15 @@
 //! The sections of the data, one after the other.
 
-ghost use Rattle.std.specs.Prelude.{◌≡◌, ◌^◌, ◌≤◌, List, IfOk, length};
-ghost use Rattle.std.specs.List.{flat_map};
+ghost use Rattle.std.specs.Prelude.{◌≡◌, List, IfOk};
 ghost use Rattle.dexspec.specs.Mentions.{Mentions};
 ghost use Rattle.dexspec.specs.Placing.{end};
-ghost use Rattle.dexspec.specs.Canonical.{class_data_section, data_start, set_items, string_section};
-ghost use Rattle.dexval.specs.Code.{set_of};
+ghost use Rattle.dexspec.specs.Canonical.{class_data_section, data_start, string_section};
 ghost use Rattle.dexclass.specs.Numbered.{NumberedClass};
-ghost use Rattle.dexlayout.specs.Laid.{AreWritable, ordered_of};
+ghost use Rattle.dexlayout.specs.Laid.{AreAnnotations, AreWritable, ordered_of};
 ghost use Rattle.dexlayout.specs.internal.Parts.{AreBack, AreBodies, AreData, AreFirstSections};
-ghost use Rattle.dexlayout.specs.internal.Placing.{PlacedFrom, AreWrittenSets, AreKnownSets, IsDataFrom, AreEntriesOf, greatest_data};
+ghost use Rattle.dexlayout.specs.internal.Placing.{PlacedFrom, AreWrittenSets, AreKnownSets, HaveSets, IsDataFrom, AreEntriesOf, greatest_data};
 
-use crate::annotations::{Annotations, place_annotations};
+use crate::annotations::place_annotations;
 use crate::class_data::place_class_data;
 use crate::codes::place_codes;
 use crate::debugs::place_debugs;
@@ -34,14 +32,14 @@ use dexval::AnnotationSet;
 use std::alloc::{AllocError, Global};
 
 /// The offsets of the items of each section of the data, in the order of the file.
-pub(crate) struct Data<'p> {
-    pub(crate) first_sections: FirstSections<'p>,
+pub(crate) struct Data {
+    pub(crate) first_sections: FirstSections,
     pub(crate) bodies: Bodies,
     pub(crate) back: Back,
 }
 
 // So that a value is dropped by one call.
-impl Drop for Data<'_> {
+impl Drop for Data {
     fn drop(self) {
         let Data {
             first_sections: _,
@@ -53,9 +51,9 @@ impl Drop for Data<'_> {
 
 /// The offsets of the items of the first sections.
 #[derive(Drop)]
-pub(crate) struct FirstSections<'p> {
+pub(crate) struct FirstSections {
     pub(crate) type_lists: SharedItems,
-    pub(crate) annotations: Annotations<'p>,
+    pub(crate) annotations: Items,
     pub(crate) static_values: Items,
     pub(crate) strings: Offsets,
 }
@@ -72,21 +70,21 @@ pub(crate) struct Bodies {
 #[derive(Drop)]
 pub(crate) struct Back {
     pub(crate) sets: Sets,
-    pub(crate) ref_lists: Offsets,
+    pub(crate) ref_lists: Items,
     pub(crate) directories: Items,
 }
 
 // Lays out the sections up to the string data, after the tables. `written` has the sets that are written.
-fn place_first_sections<'p>(
+fn place_first_sections(
     alloc: Global,
-    numbering: &'p Numbering<'_>,
-    classes: &'p [Class<'_>],
-    written: Vec<&'p AnnotationSet>,
+    numbering: &Numbering<'_>,
+    classes: &[Class<'_>],
+    written: &[&AnnotationSet],
     from: u32,
-) -> Result<FirstSections<'p>, AllocError>
+) -> Result<FirstSections, AllocError>
     requires classes { AreWritable numbering.now classes.now }
-    requires written { AreWrittenSets numbering.now classes.now written.items }
-    requires known { AreKnownSets numbering.now written.items }
+    requires written { AreWrittenSets numbering.now classes.now written.now }
+    requires known { AreKnownSets numbering.now written.now }
     requires from { from ≡ data_start (ordered_of numbering.now classes.now) }
     ensures { IfOk result (AreFirstSections numbering.now classes.now) }
 {
@@ -123,38 +121,31 @@ fn place_bodies(
     })
 }
 
-// Lays out the last sections, after the class data. `numbers` has for each use the number of its set among those that
-// are written.
+// Lays out the last sections, after the class data. `shared` has the sets that are written, and for each use the number
+// of its set.
 fn place_back(
     alloc: Global,
     numbering: &Numbering<'_>,
     classes: &[Class<'_>],
-    first_sections: &FirstSections<'_>,
-    numbers: &[Option<usize>],
+    annotations: &Items,
+    shared: &Shared<&AnnotationSet>,
     from: u32,
 ) -> Result<Back, AllocError>
     requires classes { AreWritable numbering.now classes.now }
-    requires first_sections { AreFirstSections numbering.now classes.now first_sections.now }
-    requires numbers { numbers.now ≡ (set_items (ordered_of numbering.now classes.now)).numbers }
+    requires annotations { AreAnnotations numbering.now classes.now annotations.now }
+    requires shared { HaveSets classes.now shared.now }
     requires from { from ≡ end (class_data_section (ordered_of numbering.now classes.now)) }
     ensures { IfOk result (AreBack numbering.now classes.now) }
 {
-    let sets = place_sets(
-        alloc,
-        numbering,
-        classes,
-        &first_sections.annotations,
-        numbers,
-        from,
-    )?;
-    let ref_lists = place_ref_lists(alloc, numbering, classes, sets.methods().len(), sets.end())?;
+    let sets = place_sets(alloc, numbering, classes, annotations, shared, from)?;
+    let ref_lists = place_ref_lists(alloc, numbering, classes, &sets)?;
     let directories = place_directories(
         alloc,
         numbering,
         classes,
         &sets,
-        ref_lists.offsets(),
-        ref_lists.end(),
+        ref_lists.places().offsets(),
+        ref_lists.places().end(),
     )?;
     Ok(Back {
         sets,
@@ -164,25 +155,25 @@ fn place_back(
 }
 
 /// Lays out the sections of the data, after the tables.
-pub(crate) fn place_data<'p>(
+pub(crate) fn place_data(
     alloc: Global,
-    numbering: &'p Numbering<'_>,
-    classes: &'p [Class<'_>],
+    numbering: &Numbering<'_>,
+    classes: &[Class<'_>],
     from: u32,
-) -> Result<Data<'p>, AllocError>
+) -> Result<Data, AllocError>
     requires classes { AreWritable numbering.now classes.now }
     requires from { from ≡ data_start (ordered_of numbering.now classes.now) }
     ensures { IfOk result (AreData numbering.now classes.now) }
 {
-    let Shared { written, numbers } = share_sets(alloc, classes)?;
-    let first_sections = place_first_sections(alloc, numbering, classes, written, from)?;
+    let shared = share_sets(alloc, classes)?;
+    let first_sections = place_first_sections(alloc, numbering, classes, &shared.written, from)?;
     let bodies = place_bodies(alloc, numbering, classes, first_sections.strings.end())?;
     let back = place_back(
         alloc,
         numbering,
         classes,
-        &first_sections,
-        &numbers,
+        &first_sections.annotations,
+        &shared,
         bodies.class_data.places().end(),
     )?;
     Ok(Data {
@@ -192,25 +183,12 @@ pub(crate) fn place_data<'p>(
     })
 }
 
-// How many annotations the sets have.
-fn count_annotations(sets: &[&AnnotationSet]) -> u32
-    requires { length (flat_map (λ s. set_of s.now) sets.now) ≤ 2 ^ 30 }
-    ensures { result ≡ length (flat_map (λ s. set_of s.now) sets.now) }
-{
-    let mut count = 0;
-    for set in sets {
-        count += set.annotations().len() as u32;
-    }
-    count
-}
-
-impl Data<'_> {
+impl Data {
     /// The sections as parts of the map, from the end of the tables on.
     pub(crate) fn entries(&self, numbering: &Numbering<'_>, from: u32) -> [MapEntry; 10]
         requires { IsDataFrom numbering.now self.now from }
         ensures { AreEntriesOf numbering.now self.now from result }
     {
-        let written = self.first_sections.annotations.written();
         [
             entry(
                 Section::TypeLists,
@@ -219,7 +197,7 @@ impl Data<'_> {
             ),
             entry(
                 Section::AnnotationItems,
-                count_annotations(written),
+                self.first_sections.annotations.places().offsets().len() as u32,
                 self.first_sections.type_lists.places().end(),
             ),
             entry(
@@ -249,18 +227,18 @@ impl Data<'_> {
             ),
             entry(
                 Section::AnnotationSets,
-                written.len() as u32,
+                self.back.sets.written().places().offsets().len() as u32,
                 round_up(self.bodies.class_data.places().end()),
             ),
             entry(
                 Section::AnnotationSetRefLists,
-                count_placed(self.back.ref_lists.offsets()) as u32,
-                round_up(self.back.sets.end()),
+                count_placed(self.back.ref_lists.places().offsets()) as u32,
+                round_up(self.back.sets.written().places().end()),
             ),
             entry(
                 Section::AnnotationsDirectories,
                 count_placed(self.back.directories.places().offsets()) as u32,
-                round_up(self.back.ref_lists.end()),
+                round_up(self.back.ref_lists.places().end()),
             ),
         ]
     }
@@ -280,8 +258,8 @@ impl Data<'_> {
             .max(self.bodies.debugs.places().greatest())
             .max(self.bodies.codes.greatest())
             .max(self.bodies.class_data.places().greatest())
-            .max(self.back.sets.greatest())
-            .max(self.back.ref_lists.greatest())
+            .max(self.back.sets.written().places().greatest())
+            .max(self.back.ref_lists.places().greatest())
             .max(self.back.directories.places().greatest())
     }
 }

@@ -1,11 +1,15 @@
 //! Items that are encoded where they are laid out.
 
-ghost use Rattle.std.specs.Prelude.{◌≡◌, ◌++◌, ◌<◌, All, IfOk, IfSome, OnOk, length};
+ghost use Rattle.std.specs.Prelude.{◌≡◌, ◌+◌, ◌++◌, ◌^◌, ◌<◌, ◌≤◌, All, IfOk, IfSome, OnOk, length};
+ghost use Rattle.dexspec.specs.Bytes as spec;
 ghost use Rattle.dexspec.specs.Bytes.{padding};
+ghost use Rattle.dexspec.specs.Spellings.{offsets_bytes};
+ghost use Rattle.dexlayout.specs.internal.Aligned.{no_items_from, pass_use, put_item};
 ghost use Rattle.dexlayout.specs.internal.Placing.{shared_by};
 
-use crate::offsets::Offsets;
+use crate::offsets::{Offsets, round_up};
 use crate::sharing::place_shared;
+use dexhead::put_u32;
 use std::alloc::{AllocError, Global};
 use std::marker::Model;
 
@@ -25,7 +29,7 @@ impl Model for Items {
 }
 
 impl Items {
-    /// The items, one after the other.
+    /// The items, one after the other, with zeros before those that are aligned.
     pub fn bytes(&self) -> &[u8]
         ensures { result.now ≡ self.now.bytes }
     {
@@ -38,6 +42,48 @@ impl Items {
     {
         &self.places
     }
+
+    /// No items yet, and memory for the offsets of `uses` of them; the first item will be at `from` or after it.
+    pub(crate) fn starting_at(alloc: Global, from: u32, uses: usize) -> Result<Items, AllocError>
+        ensures { IfOk result (λ items. items ≡ no_items_from from) }
+    {
+        Ok(Items {
+            bytes: Vec::new(alloc),
+            places: Offsets::starting_at(alloc, from, uses)?,
+        })
+    }
+
+    /// Adds a use that has no item.
+    pub(crate) fn pass(&mut self) -> Result<(), AllocError>
+        ensures { OnOk result (self.new ≡ pass_use self.old) }
+    {
+        self.places.pass()
+    }
+
+    /// Encodes a list of offsets after the items before it: how many they are, and each.
+    pub(crate) fn put_offsets(&mut self, offsets: &[u32]) -> Result<(), AllocError>
+        requires { spec.round_up 4 self.old.places.end + length (offsets_bytes offsets.now) ≤ 2 ^ 30 }
+        ensures { OnOk result (self.new ≡ put_item 4 self.old (offsets_bytes offsets.now)) }
+    {
+        let from = self.places.end();
+        align(&mut self.bytes, from)?;
+        encode_offsets(offsets, &mut self.bytes)?;
+        let len = 4 + 4 * offsets.len() as u32;
+        self.places.put_at(round_up(from), len)?;
+        Ok(())
+    }
+}
+
+// Appends how many offsets there are, and each, in four bytes.
+fn encode_offsets(offsets: &[u32], bytes: &mut Vec<u8>) -> Result<(), AllocError>
+    requires { length offsets.now < 2 ^ 32 }
+    ensures { OnOk result (bytes.new.items ≡ bytes.old.items ++ offsets_bytes offsets.now) }
+{
+    put_u32(offsets.len() as u32, bytes)?;
+    for offset in offsets {
+        put_u32(*offset, bytes)?;
+    }
+    Ok(())
 }
 
 /// The items of one kind that are written, equal ones once, in the order of their first use: their bytes, one item

@@ -5,7 +5,6 @@ ghost use Rattle.dexspec.specs.Canonical.{canonical};
 ghost use Rattle.dexhead.specs.Written.{entry_meant};
 ghost use Rattle.dexlayout.specs.Laid.{IsWritable, IsLayoutOf};
 
-use crate::annotations::Annotations;
 use crate::data::Data;
 use crate::items::{Items, SharedItems};
 use crate::layout_build::build_layout;
@@ -21,15 +20,15 @@ use std::marker::Model;
 /// programs and annotation sets are one item, at the first use.
 ///
 /// Source: "Overall file layout"; the order of the items in each section is this project's rule.
-pub struct Layout<'p> {
+pub struct Layout {
     pub(crate) head: Head,
-    pub(crate) placed: Data<'p>,
+    pub(crate) placed: Data,
     pub(crate) entries: Vec<MapEntry>,
     pub(crate) greatest: usize,
 }
 
 // So that a layout is dropped by one call, in the crates above too.
-impl Drop for Layout<'_> {
+impl Drop for Layout {
     fn drop(self) {
         let Layout {
             head: _,
@@ -40,7 +39,7 @@ impl Drop for Layout<'_> {
     }
 }
 
-impl<'p> Model for Layout<'p> {
+impl Model for Layout {
     ghost use Rattle.std.specs.Prelude.{map};
     ghost use Rattle.std.specs.Coded.{codes};
     ghost use Rattle.dexval.specs.Stored.{elements_code};
@@ -54,10 +53,10 @@ impl<'p> Model for Layout<'p> {
     ghost view = { λ l. record { head = l.head; type_lists = l.placed.first_sections.type_lists; annotations = l.placed.first_sections.annotations; static_values = l.placed.first_sections.static_values; strings = l.placed.first_sections.strings; debugs = l.placed.bodies.debugs; codes = l.placed.bodies.codes; class_data = l.placed.bodies.class_data; sets = l.placed.back.sets; ref_lists = l.placed.back.ref_lists; directories = l.placed.back.directories; entries = map entry_meant l.entries.items; greatest = l.greatest } };
 }
 
-impl<'p> Layout<'p> {
+impl Layout {
     /// The layout of a program's canonical file. Time is linear in what is written, memory some 8 bytes for each
-    /// use and item, and the bytes of type lists, annotations, static values, debug programs and class data.
-    pub fn of(alloc: Global, program: &'p Program<'_>) -> Result<Layout<'p>, AllocError>
+    /// use and item, and the bytes of all items but texts and code.
+    pub fn of(alloc: Global, program: &Program<'_>) -> Result<Layout, AllocError>
         ensures laid { IfOk result (IsLayoutOf program.now) }
         ensures writable { IsWritable program.now }
         ensures len { IfOk result (λ layout.
@@ -92,8 +91,8 @@ impl<'p> Layout<'p> {
         &self.placed.first_sections.type_lists
     }
 
-    /// The annotation sets that are written, their annotations, encoded, and the offset of the first of each.
-    pub fn annotations(&self) -> &Annotations<'p>
+    /// The annotations of the sets that are written, encoded, and the offset of each.
+    pub fn annotations(&self) -> &Items
         ensures { result.now ≡ self.now.annotations }
     {
         &self.placed.first_sections.annotations
@@ -134,15 +133,15 @@ impl<'p> Layout<'p> {
         &self.placed.bodies.class_data
     }
 
-    /// The offsets of the annotation sets.
+    /// The annotation sets that are written, encoded, and their offsets.
     pub fn sets(&self) -> &Sets
         ensures { result.now ≡ self.now.sets }
     {
         &self.placed.back.sets
     }
 
-    /// The offset of the list of the sets of the parameters of each method.
-    pub fn ref_lists(&self) -> &Offsets
+    /// The lists of the sets of parameters, encoded, and their offsets: for each method.
+    pub fn ref_lists(&self) -> &Items
         ensures { result.now ≡ self.now.ref_lists }
     {
         &self.placed.back.ref_lists

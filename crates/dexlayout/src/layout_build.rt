@@ -34,11 +34,11 @@ fn head_of(tables: &Tables, map_off: u32, map_size: u32) -> Head
 }
 
 /// The layout of the file of classes.
-pub(crate) fn build_layout<'p>(
+pub(crate) fn build_layout(
     alloc: Global,
-    numbering: &'p Numbering<'_>,
-    classes: &'p [Class<'_>],
-) -> Result<Layout<'p>, AllocError>
+    numbering: &Numbering<'_>,
+    classes: &[Class<'_>],
+) -> Result<Layout, AllocError>
     requires { AreWritable numbering.now classes.now }
     ensures { IfOk result (IsLaid numbering.now classes.now) }
 {

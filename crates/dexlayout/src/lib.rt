@@ -27,7 +27,6 @@ mod strings;
 mod tables;
 mod type_lists;
 
-pub use annotations::Annotations;
 pub use items::{Items, SharedItems};
 pub use layout::Layout;
 pub use offsets::Offsets;

@@ -1,71 +1,94 @@
-//! The offsets of lists of sets of parameters.
+//! Lists of the sets of parameters.
 
-ghost use Rattle.std.specs.Prelude.{◌≡◌, ◌^◌, ◌≤◌, IfOk, OnOk};
-ghost use Rattle.dexspec.specs.Placing.{end};
-ghost use Rattle.dexspec.specs.Canonical.{set_section};
+ghost use Rattle.std.specs.Prelude.{◌≡◌, ◌^◌, ◌≤◌, drop, length, IfOk, OnOk};
 ghost use Rattle.dexmembers.specs.Numbered.{methods_of};
-ghost use Rattle.dexlayout.specs.internal.Collecting.{list_sizes, method_list_size};
-ghost use Rattle.dexlayout.specs.Laid.{AreWritable, ordered_of, AreRefLists};
-ghost use Rattle.dexlayout.specs.internal.Running.{place_use, place_uses};
+ghost use Rattle.dexlayout.specs.Laid.{AreWritable, AreRefLists, AreSets};
+ghost use Rattle.dexlayout.specs.internal.Aligned.{encode_use, encode_uses};
+ghost use Rattle.dexlayout.specs.internal.OffsetLists.{list_item, offset_lists, parameter_counts, total};
 
-use crate::offsets::{Offsets, round_up};
+use crate::items::Items;
+use crate::sets::Sets;
 use dexclass::Class;
-use dexmembers::{Method, Methods};
+use dexmembers::Methods;
 use dexpool::Numbering;
 use std::alloc::{AllocError, Global};
 
-// Places the list of a method after those before it, unless it is empty.
-fn place_list(method: &Method<'_, '_>, places: &mut Offsets) -> Result<(), AllocError>
-    requires { (place_use 4 places.old (method_list_size method.now)).end ≤ 2 ^ 30 }
-    ensures { OnOk result (places.new ≡ place_use 4 places.old (method_list_size method.now)) }
+// Encodes a list after the others, unless it is empty.
+fn put_list(list: &[u32], items: &mut Items) -> Result<(), AllocError>
+    requires { (encode_use 4 items.old (list_item list.now)).places.end ≤ 2 ^ 30 }
+    ensures { OnOk result (items.new ≡ encode_use 4 items.old (list_item list.now)) }
 {
-    let sets = method.parameter_annotations();
-    if sets.is_empty() {
-        return places.pass();
+    if list.is_empty() {
+        return items.pass();
     }
-    places.put_at(round_up(places.end()), sets.list_size() as u32)
+    items.put_offsets(list)
 }
 
-// Places the lists of methods.
-fn place_lists(methods: &Methods<'_, '_>, places: &mut Offsets) -> Result<(), AllocError>
-    requires { (place_uses 4 places.old (list_sizes methods.now)).end ≤ 2 ^ 30 }
-    ensures { OnOk result (places.new ≡ place_uses 4 places.old (list_sizes methods.now)) }
+// Encodes the lists of methods after the others, from the offsets of all sets in turn. Returns the offsets that are
+// left.
+fn put_lists<'o>(
+    methods: &Methods<'_, '_>,
+    set_offs: &'o [u32],
+    items: &mut Items,
+) -> Result<&'o [u32], AllocError>
+    requires enough { total (parameter_counts methods.now) ≤ length set_offs.now }
+    requires fits { (encode_uses 4 items.old
+        (offset_lists list_item (parameter_counts methods.now) set_offs.now)).places.end ≤ 2 ^ 30 }
+    ensures encoded { OnOk result (items.new ≡ encode_uses 4 items.old
+        (offset_lists list_item (parameter_counts methods.now) set_offs.now)) }
+    ensures left { IfOk result (λ rest.
+        rest.now ≡ drop (total (parameter_counts methods.now)) set_offs.now) }
 {
+    let mut rest = set_offs;
     for i in 0..methods.len() {
-        place_list(&methods.get(i), places)?;
+        let parameters = methods.get(i).parameter_annotations();
+        let (list, others) = rest.split_at(parameters.len());
+        put_list(list, items)?;
+        rest = others;
     }
-    Ok(())
+    Ok(rest)
 }
 
-// Places the lists of the methods of a class.
-fn place_class_lists(class: &Class<'_>, places: &mut Offsets) -> Result<(), AllocError>
-    requires { (place_uses 4 places.old (list_sizes (methods_of class.now.members))).end ≤ 2 ^ 30 }
-    ensures { OnOk result (places.new
-        ≡ place_uses 4 places.old (list_sizes (methods_of class.now.members))) }
+// Encodes the lists of the methods of a class after the others. Returns the offsets that are left.
+fn put_class_lists<'o>(
+    class: &Class<'_>,
+    set_offs: &'o [u32],
+    items: &mut Items,
+) -> Result<&'o [u32], AllocError>
+    requires enough { total (parameter_counts (methods_of class.now.members))
+        ≤ length set_offs.now }
+    requires fits { (encode_uses 4 items.old
+        (offset_lists list_item (parameter_counts (methods_of class.now.members)) set_offs.now)).places.end
+        ≤ 2 ^ 30 }
+    ensures encoded { OnOk result (items.new ≡ encode_uses 4 items.old
+        (offset_lists list_item (parameter_counts (methods_of class.now.members)) set_offs.now)) }
+    ensures left { IfOk result (λ rest. rest.now
+        ≡ drop (total (parameter_counts (methods_of class.now.members))) set_offs.now) }
 {
     let members = class.members();
-    place_lists(&members.direct_methods(), places)?;
-    place_lists(&members.virtual_methods(), places)
+    let rest = put_lists(&members.direct_methods(), set_offs, items)?;
+    put_lists(&members.virtual_methods(), rest, items)
 }
 
-/// The offset of the list of the sets of the parameters of each method. They are after the sets. Memory for all methods
-/// is allocated at once.
+/// The lists of the sets of the parameters of methods, encoded, and their offsets: one for each method. They are after
+/// the sets. Memory for the offsets of all methods is allocated at once.
 ///
 /// Source: "annotation_set_ref_list".
 pub(crate) fn place_ref_lists(
     alloc: Global,
     numbering: &Numbering<'_>,
     classes: &[Class<'_>],
-    methods: usize,
-    from: u32,
-) -> Result<Offsets, AllocError>
+    sets: &Sets,
+) -> Result<Items, AllocError>
     requires classes { AreWritable numbering.now classes.now }
-    requires from { from ≡ end (set_section (ordered_of numbering.now classes.now)) }
+    requires sets { AreSets numbering.now classes.now sets.now }
     ensures { IfOk result (AreRefLists numbering.now classes.now) }
 {
-    let mut places = Offsets::starting_at(alloc, from, methods)?;
+    let from = sets.written().places().end();
+    let mut items = Items::starting_at(alloc, from, sets.methods().len())?;
+    let mut rest = sets.parameters();
     for class in classes {
-        place_class_lists(class, &mut places)?;
+        rest = put_class_lists(class, rest, &mut items)?;
     }
-    Ok(places)
+    Ok(items)
 }

@@ -1,26 +1,27 @@
-//! The offsets of annotation sets.
+//! Annotation sets.
 
 ghost use Rattle.std.specs.Prelude.{◌≡◌, ◌^◌, ◌≤◌, length, drop, IfOk, OnOk};
 ghost use Rattle.std.specs.List.{flat_map};
 ghost use Rattle.dexspec.specs.Placing.{end};
-ghost use Rattle.dexspec.specs.Canonical.{class_data_section, set_items};
+ghost use Rattle.dexspec.specs.Canonical.{class_data_section};
+ghost use Rattle.dexlayout.specs.internal.Aligned.{encode_uses, no_items_from};
 ghost use Rattle.dexlayout.specs.internal.Collecting.{sets_of_method, sets_of_class, parts_of_methods, parts_of_class, collect_own, collect_method, collect_methods, collect_class};
 ghost use Rattle.dexlayout.specs.Laid.{AreWritable, AreAnnotations, AreSets, ordered_of};
-ghost use Rattle.dexlayout.specs.internal.Placing.{set_places, no_sets};
+ghost use Rattle.dexlayout.specs.internal.OffsetLists.{annotation_counts, offset_lists, set_item, total};
+ghost use Rattle.dexlayout.specs.internal.Placing.{HaveSets, no_sets};
 
-use crate::annotations::Annotations;
-use crate::offsets::{Offsets, round_up};
-use crate::sharing::place_shared;
+use crate::items::Items;
+use crate::sharing::{Shared, place_shared};
 use dexclass::Class;
 use dexmembers::Methods;
 use dexpool::Numbering;
-use dexval::{AnnotationSet, set_size};
+use dexval::AnnotationSet;
 use std::alloc::{AllocError, Global};
 use std::marker::Model;
 
-/// The offsets of the annotation sets, in bytes from the start of the file, and 0 where a set is empty: the own set of
-/// each class, those of its fields, the static ones first, those of its methods, the direct ones first, and those of
-/// the parameters of each method.
+/// The annotation sets that are written, encoded, and the offset of each; and the offsets of the sets of classes, in
+/// bytes from the start of the file, and 0 where a set is empty: the own set of each class, those of its fields, the
+/// static ones first, those of its methods, the direct ones first, and those of the parameters of each method.
 ///
 /// Source: "annotation_set_item".
 #[derive(Drop)]
@@ -29,7 +30,7 @@ pub struct Sets {
     pub(crate) fields: Vec<u32>,
     pub(crate) methods: Vec<u32>,
     pub(crate) parameters: Vec<u32>,
-    pub(crate) written: Offsets,
+    pub(crate) written: Items,
 }
 
 impl Model for Sets {
@@ -37,7 +38,7 @@ impl Model for Sets {
 
     ghost Value = { SetPlaces };
 
-    ghost view = { λ s. record { own = s.own.items; fields = s.fields.items; methods = s.methods.items; parameters = s.parameters.items; end = s.written.end; greatest = s.written.greatest } };
+    ghost view = { λ s. record { own = s.own.items; fields = s.fields.items; methods = s.methods.items; parameters = s.parameters.items; written = s.written } };
 }
 
 impl Sets {
@@ -69,24 +70,17 @@ impl Sets {
         &self.parameters
     }
 
-    /// Where the last set ends.
-    pub fn end(&self) -> u32
-        ensures { result ≡ self.now.end }
+    /// The sets that are written, encoded, and the offset of each.
+    pub fn written(&self) -> &Items
+        ensures { result.now ≡ self.now.written }
     {
-        self.written.end()
-    }
-
-    /// How many bytes the longest set has, or 0 where there is none.
-    pub fn greatest(&self) -> usize
-        ensures { result ≡ self.now.greatest }
-    {
-        self.written.greatest()
+        &self.written
     }
 }
 
 impl Sets {
-    // No sets yet, and memory for the own sets of `classes` classes; `written` has the offsets of those written.
-    fn none(alloc: Global, classes: usize, written: Offsets) -> Result<Sets, AllocError>
+    // No offsets yet, and memory for the own sets of `classes` classes, beside the sets that are written.
+    fn none(alloc: Global, classes: usize, written: Items) -> Result<Sets, AllocError>
         ensures { IfOk result (λ sets. sets ≡ no_sets written) }
     {
         Ok(Sets {
@@ -161,40 +155,49 @@ impl Sets {
     }
 }
 
-// The offsets of the sets that are written, one after the other.
-fn place_written(
+// Encodes the sets that are written, from the offsets of all their annotations.
+fn encode_written(
     alloc: Global,
     written: &[&AnnotationSet],
+    annotation_offs: &[u32],
     from: u32,
-) -> Result<Offsets, AllocError>
-    requires { (set_places from written.now).end ≤ 2 ^ 30 }
-    ensures { IfOk result (λ places. places ≡ set_places from written.now) }
+) -> Result<Items, AllocError>
+    requires enough { total (annotation_counts written.now) ≤ length annotation_offs.now }
+    requires fits { (encode_uses 4 (no_items_from from)
+        (offset_lists set_item (annotation_counts written.now) annotation_offs.now)).places.end
+        ≤ 2 ^ 30 }
+    ensures { IfOk result (λ items. items ≡ encode_uses 4 (no_items_from from)
+        (offset_lists set_item (annotation_counts written.now) annotation_offs.now)) }
 {
-    let mut places = Offsets::starting_at(alloc, from, written.len())?;
+    let mut items = Items::starting_at(alloc, from, written.len())?;
+    let mut rest = annotation_offs;
     for set in written {
-        places.put_at(round_up(places.end()), set_size(set) as u32)?;
+        let (offs, others) = rest.split_at(set.annotations().len());
+        items.put_offsets(offs)?;
+        rest = others;
     }
-    Ok(places)
+    Ok(items)
 }
 
-/// The offsets of the sets, which are after the class data. `numbers` has for each use the number of its set among
-/// those that are written.
+/// The annotation sets, which are after the class data, and the offsets of those of classes. `shared` has the sets that
+/// are written, and for each use the number of its set.
 pub(crate) fn place_sets(
     alloc: Global,
     numbering: &Numbering<'_>,
     classes: &[Class<'_>],
-    annotations: &Annotations<'_>,
-    numbers: &[Option<usize>],
+    annotations: &Items,
+    shared: &Shared<&AnnotationSet>,
     from: u32,
 ) -> Result<Sets, AllocError>
     requires classes { AreWritable numbering.now classes.now }
     requires annotations { AreAnnotations numbering.now classes.now annotations.now }
-    requires numbers { numbers.now ≡ (set_items (ordered_of numbering.now classes.now)).numbers }
+    requires shared { HaveSets classes.now shared.now }
     requires from { from ≡ end (class_data_section (ordered_of numbering.now classes.now)) }
     ensures { IfOk result (AreSets numbering.now classes.now) }
 {
-    let written = place_written(alloc, annotations.written(), from)?;
-    let uses = place_shared(alloc, numbers, &written)?;
+    let annotation_offs = annotations.places().offsets();
+    let written = encode_written(alloc, &shared.written, annotation_offs, from)?;
+    let uses = place_shared(alloc, &shared.numbers, written.places())?;
     let mut sets = Sets::none(alloc, classes.len(), written)?;
     let mut rest = uses.offsets();
     for class in classes {

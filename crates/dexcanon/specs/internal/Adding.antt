@@ -7,14 +7,12 @@ use Rattle.dexspec.specs.Placing.{Ordered, Placed, section_bytes, bytes_from, of
 use Rattle.dexspec.specs.Spellings.{text_index}
 use Rattle.dexspec.specs.Canonical.{class_offsets, data_sections, table_bytes, proto_row_bytes, field_row_bytes, method_row_bytes, with_sums, unsigned_file, type_list_section, string_section, directory_section}
 use Rattle.dexhead.specs.Laid.{after_header, map_list}
-use Rattle.dexmembers.specs.Numbered.{NumberedMethod}
 use Rattle.dexcanon.specs.declared.class_defs.ClassPlaces.{ClassPlaces}
 use Rattle.dexcanon.specs.declared.contents.Contents.{Contents}
 use Rattle.dexcanon.specs.declared.output.Out.{Out}
 use Rattle.dexcanon.specs.internal.ClassRows.{rows_with, row_offsets}
 use Rattle.dexcanon.specs.internal.Output.{Adds, FitFrom, HasRoom}
 use Rattle.dexcanon.specs.internal.Ready.{ordered_in}
-use Rattle.dexcanon.specs.internal.RefLists.{parameter_counts, ref_lists}
 
 -- ---- a file
 
@@ -96,10 +94,6 @@ module _ {T : Type 0} (gives gives_prefix : List ℕ → T → T → Type 0) (ha
   -- items from the offset on, aligned
   abbrev pub AddsFrom : Out T → Out T → ℕ → List (List ℕ) → Type 0
   AddsFrom old new from items = (limit : ℕ) → FitFrom limit from items → Adds gives gives_prefix has_failed limit old new (bytes_from 4 from items)
-
-  -- the lists of methods, from the offset on
-  abbrev pub AddsLists : Out T → Out T → List NumberedMethod → List ℕ → ℕ → Type 0
-  AddsLists old new methods set_offs from = AddsFrom old new from (ref_lists (parameter_counts methods) set_offs)
 
 -- there is room for n bytes, where there is room for the longest item and nothing has failed
 abbrev pub HasRoomFor : {T : Type 0} → Out T → ℕ → Type 0

@@ -1,5 +1,5 @@
--- The sets of classes and their lists, class by class and method by method: their offsets and lengths.
-use Rattle.std.specs.Prelude.{ℕ, ◌+◌, ◌*◌, ◌==◌, if◌then◌else◌, List, [], ◌∷◌, ◌++◌, length, map, take, drop, slice_index, Option, Some, None}
+-- The sets of classes, class by class and method by method: their offsets.
+use Rattle.std.specs.Prelude.{ℕ, List, [], ◌∷◌, ◌++◌, length, map, take, drop, slice_index}
 use Rattle.std.specs.List.{flat_map}
 use Rattle.dexspec.specs.Lists.{chunks}
 use Rattle.dexspec.specs.Placing.{SetOffsets}
@@ -7,26 +7,6 @@ use Rattle.dexval.specs.Numbered.{NumberedSet}
 use Rattle.dexmembers.specs.Numbered.{NumberedMethod, fields_of, methods_of}
 use Rattle.dexclass.specs.Numbered.{NumberedClass}
 use Rattle.dexlayout.specs.Places.{SetPlaces}
-
--- ---- lists of sets of parameters
-
--- how many bytes a list of `n` sets has, unless it is empty
-abbrev pub list_size : ℕ → Option ℕ
-list_size n = if n == 0 then None else Some (4 + 4 * n)
-
--- how many that of a method has
-abbrev pub method_list_size : NumberedMethod → Option ℕ
-method_list_size x = list_size (length x.parameter_annotations)
-
--- how many those of methods have
-abbrev pub list_sizes : List NumberedMethod → List (Option ℕ)
-list_sizes xs = map method_list_size xs
-
--- how many those of classes have
-abbrev pub class_list_sizes : List NumberedClass → List (Option ℕ)
-class_list_sizes cs = flat_map (λ c. list_sizes (methods_of c.members)) cs
-
--- ---- sets
 
 -- the sets of a method: its own, and those of its parameters
 abbrev pub sets_of_method : NumberedMethod → List NumberedSet
@@ -55,7 +35,7 @@ parts_of_classes (c ∷ cs) offs = parts_of_class c offs ∷ parts_of_classes cs
 
 -- the offsets of one method more
 abbrev pub collect_method : SetPlaces → List ℕ → SetPlaces
-collect_method p os = record { own = p.own; fields = p.fields; methods = p.methods ++ slice_index os 0 ∷ []; parameters = p.parameters ++ drop 1 os; end = p.end; greatest = p.greatest }
+collect_method p os = record { own = p.own; fields = p.fields; methods = p.methods ++ slice_index os 0 ∷ []; parameters = p.parameters ++ drop 1 os; written = p.written }
 
 -- of more methods
 abbrev pub collect_methods : SetPlaces → List (List ℕ) → SetPlaces
@@ -64,7 +44,7 @@ collect_methods p (os ∷ oss) = collect_methods (collect_method p os) oss
 
 -- the offsets of a class's own set and of those of its fields
 abbrev pub collect_own : SetPlaces → ℕ → List ℕ → SetPlaces
-collect_own p own fields = record { own = p.own ++ own ∷ []; fields = p.fields ++ fields; methods = p.methods; parameters = p.parameters; end = p.end; greatest = p.greatest }
+collect_own p own fields = record { own = p.own ++ own ∷ []; fields = p.fields ++ fields; methods = p.methods; parameters = p.parameters; written = p.written }
 
 -- of one class more
 abbrev pub collect_class : SetPlaces → SetOffsets → SetPlaces
@@ -74,9 +54,3 @@ collect_class p s = collect_methods (collect_own p s.own s.fields) s.methods
 abbrev pub collect_classes : SetPlaces → List SetOffsets → SetPlaces
 collect_classes p [] = p
 collect_classes p (s ∷ ss) = collect_classes (collect_class p s) ss
-
--- ---- sets that are written
-
--- how many bytes a set has, whatever the offsets of its annotations
-abbrev pub set_len : NumberedSet → ℕ
-set_len s = 4 + 4 * length s

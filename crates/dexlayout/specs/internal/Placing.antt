@@ -7,7 +7,7 @@ use Rattle.dexspec.specs.Texts.{string_data}
 use Rattle.dexspec.specs.Mentions.{Mentions}
 use Rattle.dexspec.specs.Sections.{Section, HeaderItem, MapList}
 use Rattle.dexspec.specs.Placing.{Ordered, bytes_from, offsets_from, end_from, uses_offsets, end, Placed}
-use Rattle.dexspec.specs.Canonical.{data_start, data_sections, type_list_items, type_list_section, set_items, debug_items, code_section, placed_tables}
+use Rattle.dexspec.specs.Canonical.{data_start, data_sections, type_list_items, set_items, debug_items, code_section, placed_tables}
 use Rattle.dexhead.specs.declared.head.Head.{Head}
 use Rattle.dexhead.specs.declared.map_list.MapEntry.{MapEntry}
 use Rattle.dexhead.specs.Laid.{StatesLayout, map_start, map_list}
@@ -21,12 +21,11 @@ use Rattle.dexclass.specs.Numbered.{NumberedClass}
 use Rattle.dexlayout.specs.declared.data.Data.{Data}
 use Rattle.dexlayout.specs.declared.sharing.Shared.{Shared}
 use Rattle.dexlayout.specs.declared.tables.Tables.{Tables}
-use Rattle.dexlayout.specs.Places.{ItemPlaces, EncodedItems, EncodedSharedItems, AnnotationPlaces, SetPlaces}
-use Rattle.dexlayout.specs.Laid.{ordered_of, greatest_in, AreWritable, AreLaidSo, AreAnnotations, AreClassData, AreShared}
+use Rattle.dexlayout.specs.Places.{ItemPlaces, EncodedItems, EncodedSharedItems, SetPlaces}
+use Rattle.dexlayout.specs.Laid.{ordered_of, greatest_in, AreWritable, AreLaidSo, AreClassData, AreShared}
 use Rattle.dexlayout.specs.internal.Parts.{AreTables, AreData, entry_of, section_parts}
 use Rattle.dexlayout.specs.internal.Running.{none_from, place_uses}
 use Rattle.dexlayout.specs.internal.Encoding.{list_bytes}
-use Rattle.dexlayout.specs.internal.Collecting.{set_len}
 
 -- ---- sections
 
@@ -92,17 +91,9 @@ HaveSets cs shared = (m : Mentions) → AreWritable m cs → AreShared (λ s. se
 abbrev pub HaveKnownSets : List NumberedClass → Shared (Bor CodeSet) → Type 0
 HaveKnownSets cs shared = (m : Mentions) → AreWritable m cs → AreKnownSets m shared.written.items
 
--- the annotations of sets from the offset on
-abbrev pub PlacedAnnotations : Mentions → ℕ → List (Bor CodeSet) → AnnotationPlaces → Type 0
-PlacedAnnotations m from sets p = (cs : List NumberedClass) → AreWritable m cs → AreWrittenSets m cs sets → AreKnownSets m sets → from ≡ end (type_list_section (ordered_of m cs)) → AreAnnotations m cs p
-
--- sets from the offset on
-abbrev pub set_places : ℕ → List (Bor CodeSet) → ItemPlaces
-set_places from sets = place_uses 4 (none_from from) (map (λ s. Some (set_len (set_of s.now))) sets)
-
 -- no offsets of sets yet, beside the sets that are written
-abbrev pub no_sets : ItemPlaces → SetPlaces
-no_sets written = record { own = []; fields = []; methods = []; parameters = []; end = written.end; greatest = written.greatest }
+abbrev pub no_sets : EncodedItems → SetPlaces
+no_sets written = record { own = []; fields = []; methods = []; parameters = []; written = written }
 
 -- ---- debug programs
 

@@ -1,18 +1,17 @@
-use Rattle.std.proofs.Common.{ap, ◌∙◌}
+use Rattle.std.proofs.Common.{sym, ap, subst, ◌∙◌}
 use Rattle.dexlayout.specs.Places.{ItemPlaces}
+use Rattle.dexlayout.specs.internal.Placing.{AreKnownSets, AreWrittenSets}
 use Rattle.dexlayout.proofs.data.place_data.Goals as goal
 
 pub place_first_sections-requires-clause-written : goal.place_first_sections-requires-clause-written
-place_first_sections-requires-clause-written c = (c.in_ok-written.ensures.shared _ c.requires.classes).written_are
+place_first_sections-requires-clause-written c =
+    subst (AreWrittenSets c.args.numbering.now c.args.classes.now) (sym c.deref.ensures.value) (c.in_ok-shared.ensures.shared _ c.requires.classes).written_are
 
 pub place_first_sections-requires-clause-known : goal.place_first_sections-requires-clause-known
-place_first_sections-requires-clause-known c = c.in_ok-written.ensures.known _ c.requires.classes
+place_first_sections-requires-clause-known c = subst (AreKnownSets c.args.numbering.now) (sym c.deref.ensures.value) (c.in_ok-shared.ensures.known _ c.requires.classes)
 
 pub place_bodies-requires : goal.place_bodies-requires
 place_bodies-requires c = (c.args.numbering.now, c.requires.classes, c.end.ensures ∙ c.in_ok-first_sections.ensures.strings_are.end_is)
-
-pub place_back-requires-clause-numbers : goal.place_back-requires-clause-numbers
-place_back-requires-clause-numbers c = c.deref.ensures.value ∙ (c.in_ok-written.ensures.shared _ c.requires.classes).numbers_are
 
 pub place_back-requires-clause-from : goal.place_back-requires-clause-from
 place_back-requires-clause-from c =

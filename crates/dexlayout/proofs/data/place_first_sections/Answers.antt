@@ -1,27 +1,36 @@
-use Rattle.std.proofs.Common.{map, ap, ◌∙◌}
-use Rattle.std.proofs.lemmas.List.Elements.{All-map}
+use Rattle.std.proofs.Common.{sym, ap, subst, ◌∙◌}
+use Rattle.std.specs.Borrow.{Bor}
+use Rattle.dexval.specs.declared.set.AnnotationSet.{AnnotationSet}
 use Rattle.dexval.specs.Code.{set_of}
-use Rattle.dexval.specs.Numbered.{IsKnownSet}
+use Rattle.dexval.specs.Numbered.{NumberedSet}
 use Rattle.dexlayout.specs.Places.{ItemPlaces}
-use Rattle.dexlayout.specs.Laid.{ordered_of}
+use Rattle.dexlayout.specs.Laid.{ordered_of, AreAnnotations}
 use Rattle.dexlayout.proofs.Ends.{end_in_file}
 use Rattle.dexlayout.proofs.OwnCounts.{strings_at_ranks, strings_fit}
-use Rattle.dexlayout.proofs.SetAnnotations.{sets_after, annotations_fit}
+use Rattle.dexlayout.proofs.SetAnnotations.{annotations_laid, annotations_fit}
 use Rattle.dexlayout.proofs.data.place_first_sections.Goals as goal
+use Rattle.dexlayout.proofs.data.place_first_sections.Goals.{In_ok-annotations}
+
+-- a set by numbers
+abbrev set_at : Bor AnnotationSet → NumberedSet
+set_at s = set_of s.now
 
 pub place_annotations-requires-clause-fits : goal.place_annotations-requires-clause-fits
 place_annotations-requires-clause-fits c =
+    annotations_fit c.args.numbering.now c.args.classes.now set_at c.args.written.now c.requires.written c.end.result (c.end.ensures ∙ ap (λ (q : ItemPlaces). q.end) c.places.ensures ∙ c.in_ok-type_lists.ensures.places_are.end_is) c.requires.classes.fits
+
+-- the annotations are those of the file
+annotations_are : (c : In_ok-annotations) → AreAnnotations c.args.numbering.now c.args.classes.now c.in_ok-annotations.annotations
+annotations_are c =
     let m = c.args.numbering.now in
-    let sets = map (λ s. set_of s.now) c.args.written.items in
-    annotations_fit m c.args.classes.now sets c.end.result c.requires.classes (sets_after m (λ s. set_of s.now) c.args.written.items ∙ c.requires.written) (All-map (IsKnownSet m) (λ s. set_of s.now) c.args.written.items c.requires.known)
-    (c.end.ensures ∙ ap (λ (q : ItemPlaces). q.end) c.places.ensures ∙ c.in_ok-type_lists.ensures.places_are.end_is)
+    let cs = c.args.classes.now in
+    let from = c.end.ensures ∙ ap (λ (q : ItemPlaces). q.end) c.places.ensures ∙ c.in_ok-type_lists.ensures.places_are.end_is in
+    subst (AreAnnotations m cs) (sym c.in_ok-annotations.ensures) (annotations_laid m cs set_at c.args.written.now c.requires.written c.end.result from)
 
 pub place_static_values-requires-clause-from : goal.place_static_values-requires-clause-from
 place_static_values-requires-clause-from c =
-    let end = λ (q : ItemPlaces). q.end in
-    let e1 = c.end.ensures ∙ ap end c.places.ensures ∙ c.in_ok-type_lists.ensures.places_are.end_is in
-    let a = c.in_ok-annotations.ensures _ c.requires.classes c.requires.written c.requires.known e1 in
-    c.end-2.ensures ∙ ap end c.places-2.ensures ∙ a.places_are.end_is
+    let here = (goal.at.place_static_values-requires-clause-from c).In_ok-annotations in
+    c.end-2.ensures ∙ ap (λ (q : ItemPlaces). q.end) c.places-2.ensures ∙ (annotations_are here).places_are.end_is
 
 pub place_strings-requires : goal.place_strings-requires
 place_strings-requires c =
@@ -33,11 +42,9 @@ pub returns : goal.returns
 returns c =
     let K = ordered_of c.args.numbering.now c.args.classes.now in
     let end = λ (q : ItemPlaces). q.end in
-    let e1 = c.end.ensures ∙ ap end c.places.ensures ∙ c.in_ok-type_lists.ensures.places_are.end_is in
-    let a = c.in_ok-annotations.ensures _ c.requires.classes c.requires.written c.requires.known e1 in
     record {
       type_lists_are = c.in_ok-type_lists.ensures;
-      annotations_are = a;
+      annotations_are = annotations_are ((goal.at.returns c).In_ok-annotations);
       static_values_are = c.in_ok-static_values.ensures;
       strings_are = strings_at_ranks K c.end-3.result (c.end-3.ensures ∙ ap end c.places-3.ensures ∙ c.in_ok-static_values.ensures.places_are.end_is) c.in_ok-strings.ensures;
     }

@@ -1,39 +1,69 @@
-use Rattle.std.proofs.Common.{◌≡◌, ◌+◌, ◌^◌, drop, sym, ap, subst, ◌∙◌, arith}
-use Rattle.dexspec.specs.Placing.{end, uses_offsets}
-use Rattle.dexspec.specs.Canonical.{ref_list_section}
-use Rattle.dexlayout.specs.internal.Collecting.{class_list_sizes}
-use Rattle.dexlayout.specs.Laid.{AreLaidSo, ordered_of}
-use Rattle.dexlayout.specs.Places.{ItemPlaces}
-use Rattle.dexlayout.specs.internal.Running.{none_from, place_uses}
+use Rattle.std.proofs.Common.{◌≡◌, ℕ, ◌+◌, List, length, drop, refl, sym, ap, subst, ◌∙◌, arith}
+use Rattle.std.proofs.lemmas.List.{drop_all}
+use Rattle.dexmembers.specs.Numbered.{methods_of}
+use Rattle.dexlayout.specs.Laid.{ordered_of, AreRefLists}
+use Rattle.dexlayout.specs.Places.{ItemPlaces, EncodedItems}
+use Rattle.dexlayout.specs.internal.Aligned.{encode_uses, no_items_from}
+use Rattle.dexlayout.specs.internal.OffsetLists.{class_parameter_counts, list_item, offset_lists, parameter_counts}
 use Rattle.dexlayout.proofs.Ends.{end_in_file}
-use Rattle.dexlayout.proofs.SetLists.{next_lists, lists_within, lists_done, ref_lists_encoded}
+use Rattle.dexlayout.proofs.OffsetLists.{class_counts, lists_enough, enough_after, next_lists, lists_fit}
+use Rattle.dexlayout.proofs.RefLists.{parameters_enough, ref_lists_laid}
 use Rattle.dexlayout.proofs.ref_lists.place_ref_lists.Goals as goal
+use Rattle.dexlayout.proofs.ref_lists.place_ref_lists.Goals.{In_ok-items}
 
-pub place_class_lists-requires : goal.place_class_lists-requires
-place_class_lists-requires c =
-    let K = ordered_of c.args.numbering.now c.args.classes.now in
-    let w = c.requires.classes in
-    lists_within c.args.classes.now c.loop-class.class-index c.class-item.result c.loop-class-test.true (sym c.class-item.is) c.loop-class.places (2 ^ 30)
-    (omega (
+-- the lists of all classes, encoded from the offsets of the layout
+all_are : (c : In_ok-items) → encode_uses 4 c.in_ok-items.items (offset_lists list_item (class_parameter_counts c.args.classes.now) c.args.sets.now.parameters)
+    ≡ encode_uses 4 (no_items_from c.args.sets.now.written.places.end) (offset_lists list_item (class_parameter_counts c.args.classes.now) c.args.sets.now.parameters)
+all_are c =
+    let from = c.end-from.ensures ∙ ap (λ (q : ItemPlaces). q.end) c.places.ensures ∙ ap (λ (q : EncodedItems). q.places.end) c.written.ensures in
+    ap (λ p. encode_uses 4 p (offset_lists list_item (class_parameter_counts c.args.classes.now) c.args.sets.now.parameters)) (c.in_ok-items.ensures ∙ ap no_items_from from)
+
+pub loop-class-init : goal.loop-class-init
+loop-class-init c = record {
+  encoded = refl;
+  enough = omega (arith, parameters_enough c.args.numbering.now c.args.classes.now c.requires.sets, ap (λ (l : List ℕ). length l) c.parameters-rest.ensures);
+}
+
+pub put_class_lists-requires-clause-enough : goal.put_class_lists-requires-clause-enough
+put_class_lists-requires-clause-enough c =
+    let cs = c.args.classes.now in
+    let i = c.loop-class.class-index in
+    let k = c.class-item.result in
+    lists_enough (parameter_counts (methods_of k.members)) (class_parameter_counts (drop (i + 1) cs)) c.loop-class.rest.now (class_counts cs i k c.loop-class-test.true (sym c.class-item.is)) c.loop-class.invariant.enough
+
+pub put_class_lists-requires-clause-fits : goal.put_class_lists-requires-clause-fits
+put_class_lists-requires-clause-fits c =
+    let m = c.args.numbering.now in
+    let cs = c.args.classes.now in
+    let i = c.loop-class.class-index in
+    let k = c.class-item.result in
+    let counts = class_counts cs i k c.loop-class-test.true (sym c.class-item.is) in
+    let whole = c.loop-class.invariant.encoded ∙ ap (λ offs. encode_uses 4 c.in_ok-items.items (offset_lists list_item (class_parameter_counts cs) offs)) c.parameters-rest.ensures
+    ∙ all_are (goal.at.put_class_lists-requires-clause-fits c).In_ok-items in
+    omega (
       arith,
-      ap (λ (q : ItemPlaces). q.end) c.loop-class.invariant,
-      ap (λ n. (place_uses 4 (none_from n) (class_list_sizes c.args.classes.now)).end) c.requires.from,
-      (ref_lists_encoded c.args.numbering.now c.args.classes.now).end_is,
-      (end_in_file K w.fits).ref_lists,
-    ))
+      lists_fit (parameter_counts (methods_of k.members)) (class_parameter_counts (drop (i + 1) cs)) c.loop-class.rest.now list_item c.loop-class.items counts whole,
+      (ref_lists_laid m cs c.requires.sets).places_are.end_is,
+      (end_in_file (ordered_of m cs) c.requires.classes.fits).ref_lists,
+    )
 
 pub loop-class-preserved : goal.loop-class-preserved
 loop-class-preserved c =
-    let rest = class_list_sizes (drop (c.loop-class.class-index + 1) c.args.classes.now) in
-    ap (λ p. place_uses 4 p rest) c.in_ok-place_class_lists.ensures
-    ∙ sym (next_lists c.args.classes.now c.loop-class.class-index c.class-item.result c.loop-class-test.true (sym c.class-item.is) c.loop-class.places)
-    ∙ c.loop-class.invariant
+    let cs = c.args.classes.now in
+    let i = c.loop-class.class-index in
+    let counts = class_counts cs i c.class-item.result c.loop-class-test.true (sym c.class-item.is) in
+    let back = c.in_ok-rest.ensures.left in
+    record {
+      encoded = ap (λ p. encode_uses 4 p (offset_lists list_item (class_parameter_counts (drop (i + 1) cs)) c.in_ok-rest.rest.now)) c.in_ok-rest.ensures.encoded
+          ∙ sym (next_lists (parameter_counts (methods_of c.class-item.result.members)) (class_parameter_counts (drop (i + 1) cs)) c.loop-class.rest.now counts back list_item c.loop-class.items) ∙ c.loop-class.invariant.encoded;
+      enough = enough_after (parameter_counts (methods_of c.class-item.result.members)) (class_parameter_counts (drop (i + 1) cs)) c.loop-class.rest.now counts back c.loop-class.invariant.enough;
+    }
 
 pub returns : goal.returns
 returns c =
     let m = c.args.numbering.now in
     let cs = c.args.classes.now in
-    let K = ordered_of m cs in
-    let placed : c.loop-class.places ≡ place_uses 4 (none_from c.args.from) (class_list_sizes cs) = lists_done cs c.loop-class.class-index c.loop-class.places _ c.loop-class-test.false c.loop-class.invariant in
-    let all = placed ∙ ap (λ n. place_uses 4 (none_from n) (class_list_sizes cs)) c.requires.from in
-    subst (AreLaidSo (uses_offsets (ref_list_section K)) (end (ref_list_section K)) (ref_list_section K).items) (sym all) (ref_lists_encoded m cs)
+    let done = sym (ap (λ ks. encode_uses 4 c.loop-class.items (offset_lists list_item (class_parameter_counts ks) c.loop-class.rest.now)) (drop_all c.loop-class.class-index cs c.loop-class-test.false)) in
+    let whole = done ∙ c.loop-class.invariant.encoded ∙ ap (λ offs. encode_uses 4 c.in_ok-items.items (offset_lists list_item (class_parameter_counts cs) offs)) c.parameters-rest.ensures
+    ∙ all_are (goal.at.returns c).In_ok-items in
+    subst (AreRefLists m cs) (sym whole) (ref_lists_laid m cs c.requires.sets)

@@ -1,8 +1,11 @@
-use Rattle.std.proofs.Common.{◌≡◌, drop}
-use Rattle.dexlayout.specs.internal.Collecting.{class_list_sizes}
-use Rattle.dexlayout.specs.internal.Running.{none_from, place_uses}
+use Rattle.std.proofs.Common.{◌≡◌, ◌≤◌, length, drop}
+use Rattle.dexlayout.specs.internal.Aligned.{encode_uses}
+use Rattle.dexlayout.specs.internal.OffsetLists.{class_parameter_counts, list_item, offset_lists, total}
 use Rattle.dexlayout.proofs.ref_lists.place_ref_lists.Given as goal
 
--- placing what is left gives the whole
+-- encoding what is left gives the whole
 abbrev pub invariant-loop-class : goal.invariant-loop-class
-invariant-loop-class l = place_uses 4 l.places (class_list_sizes (drop l.class-index l.classes)) ≡ place_uses 4 (none_from l.from) (class_list_sizes l.classes)
+invariant-loop-class l = record {
+  encoded : encode_uses 4 l.items (offset_lists list_item (class_parameter_counts (drop l.class-index l.classes)) l.rest) ≡ encode_uses 4 l.initial.items (offset_lists list_item (class_parameter_counts l.classes) l.initial.rest);
+  enough : total (class_parameter_counts (drop l.class-index l.classes)) ≤ length l.rest;
+}

@@ -1,65 +1,86 @@
-use Rattle.std.proofs.Common.{◌≡◌, ℕ, ◌<◌, List, [], length, drop, refl, sym, ap, subst, ◌∙◌, arith}
-use Rattle.std.proofs.lemmas.List.{drop_all}
-use Rattle.dexval.specs.Code.{set_of}
-use Rattle.dexlayout.specs.internal.Collecting.{parts_of_classes, collect_classes}
-use Rattle.dexlayout.specs.Places.{ItemPlaces}
-use Rattle.std.proofs.Common.{All}
+use Rattle.std.proofs.Common.{◌≡◌, ℕ, ◌<◌, List, Bor, [], length, drop, refl, sym, ap, subst, ◌∙◌, arith, All}
 use Rattle.std.specs.Prelude.{Option, IfSome}
+use Rattle.std.proofs.lemmas.List.{drop_all}
 use Rattle.dexspec.specs.Canonical.{set_items, set_section}
-use Rattle.dexspec.specs.Placing.{offsets, end}
 use Rattle.dexspec.proofs.layout.Placements.{numbers_offsets}
-use Rattle.dexlayout.specs.Laid.{ordered_of, AreLaidSo}
+use Rattle.dexval.specs.declared.set.AnnotationSet.{AnnotationSet}
+use Rattle.dexval.specs.Code.{set_of}
+use Rattle.dexval.specs.Numbered.{NumberedSet}
+use Rattle.dexlayout.specs.Laid.{ordered_of, AreItemsIn}
+use Rattle.dexlayout.specs.Places.{ItemPlaces}
+use Rattle.dexlayout.specs.internal.Collecting.{parts_of_classes, collect_classes}
+use Rattle.dexlayout.specs.internal.Placing.{AreWrittenSets}
 use Rattle.dexlayout.proofs.Ends.{end_in_file}
 use Rattle.dexlayout.proofs.SetLists.{set_use_offsets, length-set_use_offsets}
 use Rattle.dexlayout.proofs.SetsCollected.{classes_are_long}
-use Rattle.dexlayout.proofs.SetsAreAt.{written_encoded, numbers_within, sets_are, length-set_offsets}
+use Rattle.dexlayout.proofs.SetsAreAt.{annotations_enough, sets_laid, numbers_within, sets_are, length-set_offsets}
 use Rattle.dexlayout.proofs.sets.place_sets.Goals as goal
+use Rattle.dexlayout.proofs.sets.place_sets.Goals.{After-offsets-rest, In_ok-written}
 
-pub place_written-requires : goal.place_written-requires
-place_written-requires c =
+-- a set by numbers
+abbrev set_at : Bor AnnotationSet → NumberedSet
+set_at s = set_of s.now
+
+pub encode_written-requires-clause-enough : goal.encode_written-requires-clause-enough
+encode_written-requires-clause-enough c =
     let m = c.args.numbering.now in
     let cs = c.args.classes.now in
-    let K = ordered_of m cs in
-    let are_encoded = written_encoded m cs (λ s. set_of s.now) c.written.result.now c.args.annotations.now.written c.args.from c.written.ensures c.requires.annotations.written_are c.requires.from in
-    omega (arith, are_encoded.end_is, (end_in_file K c.requires.classes.fits).sets)
+    let are = subst (AreWrittenSets m cs) (sym c.deref.ensures.value) (c.requires.shared m c.requires.classes).written_are in
+    let offs = c.offsets-annotation_offs.ensures ∙ ap (λ (q : ItemPlaces). q.offsets) c.places.ensures ∙ c.requires.annotations.places_are.offsets_are in
+    annotations_enough m cs set_at c.deref.result.now are c.offsets-annotation_offs.result.now offs
+
+pub encode_written-requires-clause-fits : goal.encode_written-requires-clause-fits
+encode_written-requires-clause-fits c =
+    let m = c.args.numbering.now in
+    let cs = c.args.classes.now in
+    let are = subst (AreWrittenSets m cs) (sym c.deref.ensures.value) (c.requires.shared m c.requires.classes).written_are in
+    let offs = c.offsets-annotation_offs.ensures ∙ ap (λ (q : ItemPlaces). q.offsets) c.places.ensures ∙ c.requires.annotations.places_are.offsets_are in
+    let laid = sets_laid m cs set_at c.deref.result.now are c.offsets-annotation_offs.result.now offs c.args.from c.requires.from in
+    omega (arith, laid.places_are.end_is, (end_in_file (ordered_of m cs) c.requires.classes.fits).sets)
+
+-- those that are written are encoded as the file has them
+laid_are : (c : In_ok-written) → AreItemsIn (set_section (ordered_of c.args.numbering.now c.args.classes.now)) c.in_ok-written.written
+laid_are c =
+    let m = c.args.numbering.now in
+    let cs = c.args.classes.now in
+    let are = subst (AreWrittenSets m cs) (sym c.deref.ensures.value) (c.requires.shared m c.requires.classes).written_are in
+    let offs = c.offsets-annotation_offs.ensures ∙ ap (λ (q : ItemPlaces). q.offsets) c.places.ensures ∙ c.requires.annotations.places_are.offsets_are in
+    subst (AreItemsIn (set_section (ordered_of m cs))) (sym c.in_ok-written.ensures) (sets_laid m cs set_at c.deref.result.now are c.offsets-annotation_offs.result.now offs c.args.from c.requires.from)
 
 pub place_shared-requires : goal.place_shared-requires
 place_shared-requires c =
     let m = c.args.numbering.now in
-    let cs = c.args.classes.now in
-    let K = ordered_of m cs in
-    let are_encoded = written_encoded m cs (λ s. set_of s.now) c.written.result.now c.args.annotations.now.written c.args.from c.written.ensures c.requires.annotations.written_are c.requires.from in
-    let written = c.in_ok-written.written in
-    let placed : AreLaidSo (offsets (set_section K)) (end (set_section K)) (set_section K).items written = subst (AreLaidSo (offsets (set_section K)) (end (set_section K)) (set_section K).items) (sym c.in_ok-written.ensures) are_encoded in
-    let count : length (set_items K).written ≡ length written.offsets =
-    omega (arith, ap (λ (l : List ℕ). length l) placed.offsets_are, length-set_offsets K) in
-    subst (λ n. All (λ (o : Option ℕ). IfSome o (λ i. i < n)) c.args.numbers.now) count
-    (subst (λ (ns : List (Option ℕ)). All (λ (o : Option ℕ). IfSome o (λ i. i < length (set_items K).written)) ns) (sym c.requires.numbers) (numbers_within K))
+    let K = ordered_of m c.args.classes.now in
+    let laid = laid_are ((goal.at.place_shared-requires c).In_ok-written) in
+    let numbers = c.deref-2.ensures.value ∙ (c.requires.shared m c.requires.classes).numbers_are in
+    let count : length (set_items K).written ≡ length c.places-2.result.now.offsets =
+    omega (arith, ap (λ (q : ItemPlaces). length q.offsets) c.places-2.ensures, ap (λ (l : List ℕ). length l) laid.places_are.offsets_are, length-set_offsets K) in
+    subst (λ n. All (λ (o : Option ℕ). IfSome o (λ i. i < n)) c.deref-2.result.now) count
+    (subst (λ (ns : List (Option ℕ)). All (λ (o : Option ℕ). IfSome o (λ i. i < length (set_items K).written)) ns) (sym numbers) (numbers_within K))
+
+-- the offset of each use
+uses_are : (c : After-offsets-rest) → AreItemsIn (set_section (ordered_of c.args.numbering.now c.args.classes.now)) c.in_ok-written.written → c.offsets-rest.result.now ≡ set_use_offsets (ordered_of c.args.numbering.now c.args.classes.now)
+uses_are c laid =
+    let numbers = c.deref-2.ensures.value ∙ (c.requires.shared c.args.numbering.now c.requires.classes).numbers_are in
+    let offs = ap (λ (q : ItemPlaces). q.offsets) c.places-2.ensures ∙ laid.places_are.offsets_are in
+    c.offsets-rest.ensures ∙ ap (λ (p : ItemPlaces). p.offsets) c.in_ok-uses.ensures ∙ (λ i. numbers_offsets (numbers i) (offs i))
 
 pub loop-class-init : goal.loop-class-init
 loop-class-init c =
     let m = c.args.numbering.now in
     let cs = c.args.classes.now in
-    let K = ordered_of m cs in
-    let are_encoded = written_encoded m cs (λ s. set_of s.now) c.written.result.now c.args.annotations.now.written c.args.from c.written.ensures c.requires.annotations.written_are c.requires.from in
-    let written = c.in_ok-written.written in
-    let placed : AreLaidSo (offsets (set_section K)) (end (set_section K)) (set_section K).items written = subst (AreLaidSo (offsets (set_section K)) (end (set_section K)) (set_section K).items) (sym c.in_ok-written.ensures) are_encoded in
-    let uses : c.offsets-rest.result.now ≡ set_use_offsets K = c.offsets-rest.ensures ∙ ap (λ (p : ItemPlaces). p.offsets) c.in_ok-uses.ensures ∙ (λ i. numbers_offsets (c.requires.numbers i) (placed.offsets_are i)) in
+    let here = goal.at.loop-class-init c in
+    let uses = uses_are here.After-offsets-rest (laid_are here.In_ok-written) in
     record {
       collected = refl;
-      enough = omega (arith, ap (λ (l : List ℕ). length l) uses, length-set_use_offsets K, classes_are_long m cs);
+      enough = omega (arith, ap (λ (l : List ℕ). length l) uses, length-set_use_offsets (ordered_of m cs), classes_are_long m cs);
     }
 
 pub returns : goal.returns
 returns c =
-    let m = c.args.numbering.now in
     let cs = c.args.classes.now in
-    let K = ordered_of m cs in
-    let are_encoded = written_encoded m cs (λ s. set_of s.now) c.written.result.now c.args.annotations.now.written c.args.from c.written.ensures c.requires.annotations.written_are c.requires.from in
-    let written = c.in_ok-written.written in
-    let placed : AreLaidSo (offsets (set_section K)) (end (set_section K)) (set_section K).items written = subst (AreLaidSo (offsets (set_section K)) (end (set_section K)) (set_section K).items) (sym c.in_ok-written.ensures) are_encoded in
-    let uses : c.offsets-rest.result.now ≡ set_use_offsets K = c.offsets-rest.ensures ∙ ap (λ (p : ItemPlaces). p.offsets) c.in_ok-uses.ensures ∙ (λ i. numbers_offsets (c.requires.numbers i) (placed.offsets_are i)) in
+    let here = goal.at.returns c in
+    let laid = laid_are here.In_ok-written in
     let nothing : parts_of_classes (drop c.loop-class.class-index cs) c.loop-class.rest.now ≡ [] = ap (λ l. parts_of_classes l c.loop-class.rest.now) (drop_all c.loop-class.class-index cs c.loop-class-test.false) in
-    let all : c.loop-class.sets ≡ collect_classes (record { own = []; fields = []; methods = []; parameters = []; end = written.end; greatest = written.greatest }) (parts_of_classes cs c.offsets-rest.result.now) =
-    ap (collect_classes c.loop-class.sets) (sym nothing) ∙ c.loop-class.invariant.collected ∙ ap (λ q. collect_classes q (parts_of_classes cs c.offsets-rest.result.now)) c.in_ok-sets.ensures in
-    sets_are m cs c.offsets-rest.result.now written.end written.greatest c.loop-class.sets all uses placed.end_is placed.greatest_is
+    let all = ap (collect_classes c.loop-class.sets) (sym nothing) ∙ c.loop-class.invariant.collected ∙ ap (λ q. collect_classes q (parts_of_classes cs c.offsets-rest.result.now)) c.in_ok-sets.ensures in
+    sets_are c.args.numbering.now cs c.offsets-rest.result.now c.in_ok-written.written c.loop-class.sets all (uses_are here.After-offsets-rest laid) laid

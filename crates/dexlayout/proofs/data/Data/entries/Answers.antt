@@ -1,26 +1,13 @@
-use Rattle.std.proofs.Common.{◌≡◌, ℕ, List, [], ◌∷◌, ◌++◌, Bor, length, map, refl, arith, ap, sym, ◌∙◌}
-use Rattle.std.specs.List.{flat_map}
-use Rattle.std.proofs.lemmas.List.{length-map}
+use Rattle.std.proofs.Common.{◌≡◌, ℕ, length, arith, ap, ◌∙◌}
 use Rattle.dexspec.specs.Bytes.{round_up}
 use Rattle.dexspec.specs.Sections.{Section, TypeLists, AnnotationItems, EncodedArrayItems, StringDataItems, DebugInfoItems, CodeItems, ClassDataItems, AnnotationSets, AnnotationSetRefLists, AnnotationsDirectories}
-use Rattle.dexval.specs.Code.{set_of}
-use Rattle.dexval.specs.Numbered.{NumberedSet}
-use Rattle.dexval.specs.declared.set.AnnotationSet.{AnnotationSet}
-use Rattle.dexlayout.specs.Places.{ItemPlaces}
+use Rattle.dexlayout.specs.Places.{ItemPlaces, EncodedItems}
 use Rattle.dexlayout.specs.internal.Parts.{count_placed}
 use Rattle.dexlayout.specs.Laid.{ordered_of}
 use Rattle.dexlayout.proofs.Ends.{end_in_file}
 use Rattle.dexlayout.proofs.OwnCounts.{few_items, counted}
 use Rattle.dexlayout.proofs.OwnParts.{ten_same, named_parts_are}
 use Rattle.dexlayout.proofs.data.Data.entries.Goals as goal
-
--- annotations, set by set
-flat_mapped : {X Y : Type 0} (g : X → List Y) (xs : List X) → flat_map g xs ≡ flat_map (λ ys. ys) (map g xs)
-flat_mapped g [] = refl
-flat_mapped g (x ∷ xs) = ap (λ ys. g x ++ ys) (flat_mapped g xs)
-
-annotations_flat : (xs : List (Bor AnnotationSet)) (ws : List NumberedSet) → map (λ s. set_of s.now) xs ≡ ws → length (flat_map (λ s. set_of s.now) xs) ≡ length (flat_map (λ (set : NumberedSet). set) ws)
-annotations_flat xs ws e = ap (λ l. length l) (flat_mapped (λ (s : Bor AnnotationSet). set_of s.now) xs) ∙ ap (λ (ss : List NumberedSet). length (flat_map (λ (set : NumberedSet). set) ss)) e
 
 -- an entry, of equal numbers
 abbrev entry_with : Section → ℕ → ℕ → Section × ℕ × ℕ
@@ -57,8 +44,8 @@ round_up-requires c =
     let n = counted m cs d in
     omega (arith, c.requires.3, ends.tables)
 
-pub count_annotations-requires : goal.count_annotations-requires
-count_annotations-requires c =
+pub overflow_cast-offsets : goal.overflow_cast-offsets
+overflow_cast-offsets c =
     let m = c.args.numbering.now in
     let cs = c.requires.0 in
     let w = c.requires.1 in
@@ -67,7 +54,7 @@ count_annotations-requires c =
     let ends = end_in_file K w.fits in
     let few = few_items K ends in
     let n = counted m cs d in
-    let e = annotations_flat c.written-written.result.now c.args.self.now.first_sections.annotations.written c.written-written.ensures in omega (arith, e, n.annotations, few.annotations)
+    let e = ap (λ xs. length xs) (c.offsets.ensures ∙ ap (λ (q : ItemPlaces). q.offsets) c.places.ensures) in omega (arith, e, n.annotations, few.annotations)
 
 pub overflow_cast-count_placed : goal.overflow_cast-count_placed
 overflow_cast-count_placed c =
@@ -79,7 +66,7 @@ overflow_cast-count_placed c =
     let ends = end_in_file K w.fits in
     let few = few_items K ends in
     let n = counted m cs d in
-    let e = c.count_placed.ensures ∙ ap count_placed (c.offsets.ensures ∙ ap (λ (q : ItemPlaces). q.offsets) c.places-2.ensures) in omega (arith, e, n.arrays, few.arrays)
+    let e = c.count_placed.ensures ∙ ap count_placed (c.offsets-2.ensures ∙ ap (λ (q : ItemPlaces). q.offsets) c.places-3.ensures) in omega (arith, e, n.arrays, few.arrays)
 
 pub overflow_cast-count-3 : goal.overflow_cast-count-3
 overflow_cast-count-3 c =
@@ -103,7 +90,7 @@ overflow_cast-count_placed-2 c =
     let ends = end_in_file K w.fits in
     let few = few_items K ends in
     let n = counted m cs d in
-    let e = c.count_placed-2.ensures ∙ ap count_placed c.offsets-2.ensures in omega (arith, e, n.codes, few.codes)
+    let e = c.count_placed-2.ensures ∙ ap count_placed c.offsets-3.ensures in omega (arith, e, n.codes, few.codes)
 
 pub round_up-requires-2 : goal.round_up-requires-2
 round_up-requires-2 c =
@@ -115,7 +102,7 @@ round_up-requires-2 c =
     let ends = end_in_file K w.fits in
     let few = few_items K ends in
     let n = counted m cs d in
-    let e = c.end-5.ensures ∙ ap (λ (q : ItemPlaces). q.end) c.places-5.ensures ∙ d.bodies_are.debugs_are.places_are.end_is in omega (arith, e, ends.debugs)
+    let e = c.end-5.ensures ∙ ap (λ (q : ItemPlaces). q.end) c.places-6.ensures ∙ d.bodies_are.debugs_are.places_are.end_is in omega (arith, e, ends.debugs)
 
 pub overflow_cast-count_placed-3 : goal.overflow_cast-count_placed-3
 overflow_cast-count_placed-3 c =
@@ -127,10 +114,10 @@ overflow_cast-count_placed-3 c =
     let ends = end_in_file K w.fits in
     let few = few_items K ends in
     let n = counted m cs d in
-    let e = c.count_placed-3.ensures ∙ ap count_placed (c.offsets-3.ensures ∙ ap (λ (q : ItemPlaces). q.offsets) c.places-6.ensures) in omega (arith, e, n.class_data, few.class_data)
+    let e = c.count_placed-3.ensures ∙ ap count_placed (c.offsets-4.ensures ∙ ap (λ (q : ItemPlaces). q.offsets) c.places-7.ensures) in omega (arith, e, n.class_data, few.class_data)
 
-pub overflow_cast-written : goal.overflow_cast-written
-overflow_cast-written c =
+pub overflow_cast-offsets-2 : goal.overflow_cast-offsets-2
+overflow_cast-offsets-2 c =
     let m = c.args.numbering.now in
     let cs = c.requires.0 in
     let w = c.requires.1 in
@@ -139,7 +126,7 @@ overflow_cast-written c =
     let ends = end_in_file K w.fits in
     let few = few_items K ends in
     let n = counted m cs d in
-    let e = sym (length-map c.written-written.result.now (λ p. set_of p.now)) ∙ ap (λ ps. length ps) c.written-written.ensures in omega (arith, e, n.sets, few.sets)
+    let e = ap (λ xs. length xs) (c.offsets-5.ensures ∙ ap (λ (q : ItemPlaces). q.offsets) (c.places-8.ensures ∙ ap (λ (p : EncodedItems). p.places) c.written.ensures)) in omega (arith, e, n.sets, few.sets)
 
 pub round_up-requires-3 : goal.round_up-requires-3
 round_up-requires-3 c =
@@ -151,7 +138,7 @@ round_up-requires-3 c =
     let ends = end_in_file K w.fits in
     let few = few_items K ends in
     let n = counted m cs d in
-    let e = c.end-7.ensures ∙ ap (λ (q : ItemPlaces). q.end) c.places-7.ensures ∙ d.bodies_are.class_data_are.places_are.end_is in omega (arith, e, ends.class_data)
+    let e = c.end-7.ensures ∙ ap (λ (q : ItemPlaces). q.end) c.places-9.ensures ∙ d.bodies_are.class_data_are.places_are.end_is in omega (arith, e, ends.class_data)
 
 pub overflow_cast-count_placed-4 : goal.overflow_cast-count_placed-4
 overflow_cast-count_placed-4 c =
@@ -163,7 +150,7 @@ overflow_cast-count_placed-4 c =
     let ends = end_in_file K w.fits in
     let few = few_items K ends in
     let n = counted m cs d in
-    let e = c.count_placed-4.ensures ∙ ap count_placed c.offsets-4.ensures in omega (arith, e, n.ref_lists, few.ref_lists)
+    let e = c.count_placed-4.ensures ∙ ap count_placed (c.offsets-6.ensures ∙ ap (λ (q : ItemPlaces). q.offsets) c.places-10.ensures) in omega (arith, e, n.ref_lists, few.ref_lists)
 
 pub round_up-requires-4 : goal.round_up-requires-4
 round_up-requires-4 c =
@@ -175,7 +162,7 @@ round_up-requires-4 c =
     let ends = end_in_file K w.fits in
     let few = few_items K ends in
     let n = counted m cs d in
-    let e = c.end-8.ensures ∙ d.back_are.sets_are.end_is in omega (arith, e, ends.sets)
+    let e = c.end-8.ensures ∙ ap (λ (q : ItemPlaces). q.end) (c.places-11.ensures ∙ ap (λ (p : EncodedItems). p.places) c.written-2.ensures) ∙ d.back_are.sets_are.written_are.places_are.end_is in omega (arith, e, ends.sets)
 
 pub overflow_cast-count_placed-5 : goal.overflow_cast-count_placed-5
 overflow_cast-count_placed-5 c =
@@ -187,7 +174,7 @@ overflow_cast-count_placed-5 c =
     let ends = end_in_file K w.fits in
     let few = few_items K ends in
     let n = counted m cs d in
-    let e = c.count_placed-5.ensures ∙ ap count_placed (c.offsets-5.ensures ∙ ap (λ (q : ItemPlaces). q.offsets) c.places-8.ensures) in omega (arith, e, n.directories, few.directories)
+    let e = c.count_placed-5.ensures ∙ ap count_placed (c.offsets-7.ensures ∙ ap (λ (q : ItemPlaces). q.offsets) c.places-12.ensures) in omega (arith, e, n.directories, few.directories)
 
 pub round_up-requires-5 : goal.round_up-requires-5
 round_up-requires-5 c =
@@ -199,7 +186,7 @@ round_up-requires-5 c =
     let ends = end_in_file K w.fits in
     let few = few_items K ends in
     let n = counted m cs d in
-    let e = c.end-9.ensures ∙ d.back_are.ref_lists_are.end_is in omega (arith, e, ends.ref_lists)
+    let e = c.end-9.ensures ∙ ap (λ (q : ItemPlaces). q.end) c.places-13.ensures ∙ d.back_are.ref_lists_are.places_are.end_is in omega (arith, e, ends.ref_lists)
 
 pub returns : goal.returns
 returns c = λ cs w d from.
@@ -207,13 +194,13 @@ returns c = λ cs w d from.
     let n = counted m cs d in
     ten_same _ _ _ _ _ _ _ _ _ _ _ _ _ _ _ _ _ _ _ _
     (c.entry.ensures ∙ same_entry TypeLists _ _ _ _ (c.count.ensures ∙ n.type_lists) (c.round_up.ensures ∙ ap (round_up 4) from))
-    (c.entry-2.ensures ∙ same_entry AnnotationItems _ _ _ _ (c.count_annotations.ensures ∙ annotations_flat c.written-written.result.now c.args.self.now.first_sections.annotations.written c.written-written.ensures ∙ n.annotations) (c.end.ensures ∙ ap (λ (q : ItemPlaces). q.end) c.places.ensures ∙ d.first_sections_are.type_lists_are.places_are.end_is ∙ plain _))
-    (c.entry-3.ensures ∙ same_entry EncodedArrayItems _ _ _ _ (c.count_placed.ensures ∙ ap count_placed (c.offsets.ensures ∙ ap (λ (q : ItemPlaces). q.offsets) c.places-2.ensures) ∙ n.arrays) (c.end-2.ensures ∙ ap (λ (q : ItemPlaces). q.end) c.places-3.ensures ∙ d.first_sections_are.annotations_are.places_are.end_is ∙ plain _))
-    (c.entry-4.ensures ∙ same_entry StringDataItems _ _ _ _ (c.count-2.ensures ∙ n.strings) (c.end-3.ensures ∙ ap (λ (q : ItemPlaces). q.end) c.places-4.ensures ∙ d.first_sections_are.static_values_are.places_are.end_is ∙ plain _))
+    (c.entry-2.ensures ∙ same_entry AnnotationItems _ _ _ _ (ap (λ xs. length xs) (c.offsets.ensures ∙ ap (λ (q : ItemPlaces). q.offsets) c.places.ensures) ∙ n.annotations) (c.end.ensures ∙ ap (λ (q : ItemPlaces). q.end) c.places-2.ensures ∙ d.first_sections_are.type_lists_are.places_are.end_is ∙ plain _))
+    (c.entry-3.ensures ∙ same_entry EncodedArrayItems _ _ _ _ (c.count_placed.ensures ∙ ap count_placed (c.offsets-2.ensures ∙ ap (λ (q : ItemPlaces). q.offsets) c.places-3.ensures) ∙ n.arrays) (c.end-2.ensures ∙ ap (λ (q : ItemPlaces). q.end) c.places-4.ensures ∙ d.first_sections_are.annotations_are.places_are.end_is ∙ plain _))
+    (c.entry-4.ensures ∙ same_entry StringDataItems _ _ _ _ (c.count-2.ensures ∙ n.strings) (c.end-3.ensures ∙ ap (λ (q : ItemPlaces). q.end) c.places-5.ensures ∙ d.first_sections_are.static_values_are.places_are.end_is ∙ plain _))
     (c.entry-5.ensures ∙ same_entry DebugInfoItems _ _ _ _ (c.count-3.ensures ∙ n.debugs) (c.end-4.ensures ∙ d.first_sections_are.strings_are.end_is ∙ plain _))
-    (c.entry-6.ensures ∙ same_entry CodeItems _ _ _ _ (c.count_placed-2.ensures ∙ ap count_placed c.offsets-2.ensures ∙ n.codes) (c.round_up-2.ensures ∙ ap (round_up 4) (c.end-5.ensures ∙ ap (λ (q : ItemPlaces). q.end) c.places-5.ensures ∙ d.bodies_are.debugs_are.places_are.end_is)))
-    (c.entry-7.ensures ∙ same_entry ClassDataItems _ _ _ _ (c.count_placed-3.ensures ∙ ap count_placed (c.offsets-3.ensures ∙ ap (λ (q : ItemPlaces). q.offsets) c.places-6.ensures) ∙ n.class_data) (c.end-6.ensures ∙ d.bodies_are.codes_are.end_is ∙ plain _))
-    (c.entry-8.ensures ∙ same_entry AnnotationSets _ _ _ _ (sym (length-map c.written-written.result.now (λ p. set_of p.now)) ∙ ap (λ ps. length ps) c.written-written.ensures ∙ n.sets) (c.round_up-3.ensures ∙ ap (round_up 4) (c.end-7.ensures ∙ ap (λ (q : ItemPlaces). q.end) c.places-7.ensures ∙ d.bodies_are.class_data_are.places_are.end_is)))
-    (c.entry-9.ensures ∙ same_entry AnnotationSetRefLists _ _ _ _ (c.count_placed-4.ensures ∙ ap count_placed c.offsets-4.ensures ∙ n.ref_lists) (c.round_up-4.ensures ∙ ap (round_up 4) (c.end-8.ensures ∙ d.back_are.sets_are.end_is)))
-    (c.entry-10.ensures ∙ same_entry AnnotationsDirectories _ _ _ _ (c.count_placed-5.ensures ∙ ap count_placed (c.offsets-5.ensures ∙ ap (λ (q : ItemPlaces). q.offsets) c.places-8.ensures) ∙ n.directories) (c.round_up-5.ensures ∙ ap (round_up 4) (c.end-9.ensures ∙ d.back_are.ref_lists_are.end_is)))
+    (c.entry-6.ensures ∙ same_entry CodeItems _ _ _ _ (c.count_placed-2.ensures ∙ ap count_placed c.offsets-3.ensures ∙ n.codes) (c.round_up-2.ensures ∙ ap (round_up 4) (c.end-5.ensures ∙ ap (λ (q : ItemPlaces). q.end) c.places-6.ensures ∙ d.bodies_are.debugs_are.places_are.end_is)))
+    (c.entry-7.ensures ∙ same_entry ClassDataItems _ _ _ _ (c.count_placed-3.ensures ∙ ap count_placed (c.offsets-4.ensures ∙ ap (λ (q : ItemPlaces). q.offsets) c.places-7.ensures) ∙ n.class_data) (c.end-6.ensures ∙ d.bodies_are.codes_are.end_is ∙ plain _))
+    (c.entry-8.ensures ∙ same_entry AnnotationSets _ _ _ _ (ap (λ xs. length xs) (c.offsets-5.ensures ∙ ap (λ (q : ItemPlaces). q.offsets) (c.places-8.ensures ∙ ap (λ (p : EncodedItems). p.places) c.written.ensures)) ∙ n.sets) (c.round_up-3.ensures ∙ ap (round_up 4) (c.end-7.ensures ∙ ap (λ (q : ItemPlaces). q.end) c.places-9.ensures ∙ d.bodies_are.class_data_are.places_are.end_is)))
+    (c.entry-9.ensures ∙ same_entry AnnotationSetRefLists _ _ _ _ (c.count_placed-4.ensures ∙ ap count_placed (c.offsets-6.ensures ∙ ap (λ (q : ItemPlaces). q.offsets) c.places-10.ensures) ∙ n.ref_lists) (c.round_up-4.ensures ∙ ap (round_up 4) (c.end-8.ensures ∙ ap (λ (q : ItemPlaces). q.end) (c.places-11.ensures ∙ ap (λ (p : EncodedItems). p.places) c.written-2.ensures) ∙ d.back_are.sets_are.written_are.places_are.end_is)))
+    (c.entry-10.ensures ∙ same_entry AnnotationsDirectories _ _ _ _ (c.count_placed-5.ensures ∙ ap count_placed (c.offsets-7.ensures ∙ ap (λ (q : ItemPlaces). q.offsets) c.places-12.ensures) ∙ n.directories) (c.round_up-5.ensures ∙ ap (round_up 4) (c.end-9.ensures ∙ ap (λ (q : ItemPlaces). q.end) c.places-13.ensures ∙ d.back_are.ref_lists_are.places_are.end_is)))
     ∙ named_parts_are (ordered_of m cs)

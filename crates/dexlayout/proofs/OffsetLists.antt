@@ -1,0 +1,139 @@
+-- Lists of offsets that are encoded one after the other, and the offsets that are left.
+use Rattle.std.proofs.Common.{◌≡◌, ℕ, zero, suc, ◌+◌, ◌*◌, ◌<◌, ◌≤◌, List, [], ◌∷◌, ◌++◌, length, get_or, map, take, drop, Option, None, Some, refl, sym, ap, ◌∙◌, arith}
+use Rattle.std.specs.List.{flat_map}
+use Rattle.std.proofs.lemmas.List.{length-append, length-drop, map-append, drop_more, drop-drop}
+use Rattle.dexspec.specs.Bytes.{uint}
+use Rattle.dexspec.specs.Lists.{chunks}
+use Rattle.dexspec.specs.Spellings.{offsets_bytes}
+use Rattle.dexspec.proofs.numbers.ByteNumbers.{length-uint}
+use Rattle.dexmembers.specs.Numbered.{NumberedMethod, NumberedMembers, methods_of}
+use Rattle.dexclass.specs.Numbered.{NumberedClass}
+use Rattle.dexlayout.specs.Places.{EncodedItems}
+use Rattle.dexlayout.specs.internal.Aligned.{encode_use, encode_uses}
+use Rattle.dexlayout.specs.internal.OffsetLists.{offset_lists, total, list_item, parameter_counts, class_parameter_counts}
+use Rattle.dexlayout.proofs.EncodedAfter.{encode_append, encode_grows}
+
+-- ---- one list
+
+-- how many bytes offsets have, with their count
+flat_uints : (offs : List ℕ) → length (flat_map uint offs) ≡ 4 * length offs
+flat_uints [] = refl
+flat_uints (o ∷ offs) = omega (arith, length-append (uint o) (flat_map uint offs), length-uint o, flat_uints offs)
+
+pub offsets_length : (offs : List ℕ) → length (offsets_bytes offs) ≡ 4 + 4 * length offs
+offsets_length offs = omega (arith, length-append (uint (length offs)) (flat_map uint offs), length-uint (length offs), flat_uints offs)
+
+-- an empty list has no item
+pub no_list : (offs : List ℕ) → length offs ≡ 0 → list_item offs ≡ None
+no_list [] e = refl
+no_list (o ∷ offs) e = absurd (omega (arith, e))
+
+-- any other has one
+pub some_list : (offs : List ℕ) → 0 < length offs → list_item offs ≡ Some (offsets_bytes offs)
+some_list [] lt = absurd (omega (arith, lt))
+some_list (o ∷ offs) lt = refl
+
+-- ---- lists that are cut out of what is joined
+
+-- the first of it, and the rest
+pub take_prefix : {X : Type 0} (n : ℕ) (xs ys : List X) → length xs ≡ n → take n (xs ++ ys) ≡ xs
+take_prefix n [] ys e = ap (λ k. take k ys) (sym e)
+take_prefix zero (x ∷ xs) ys e = absurd (omega (arith, e))
+take_prefix (suc n) (x ∷ xs) ys e = ap (λ l. x ∷ l) (take_prefix n xs ys (omega (arith, e)))
+
+pub drop_prefix : {X : Type 0} (n : ℕ) (xs ys : List X) → length xs ≡ n → drop n (xs ++ ys) ≡ ys
+drop_prefix n [] ys e = ap (λ k. drop k ys) (sym e)
+drop_prefix zero (x ∷ xs) ys e = absurd (omega (arith, e))
+drop_prefix (suc n) (x ∷ xs) ys e = drop_prefix n xs ys (omega (arith, e))
+
+-- they are cut out again by their lengths
+pub cut_again : (ls : List (List ℕ)) → chunks (map (λ l. length l) ls) (flat_map (λ l. l) ls) ≡ ls
+cut_again [] = refl
+cut_again (l ∷ ls) =
+    let rest = flat_map (λ (l : List ℕ). l) ls in
+    let first = take_prefix (length l) l rest refl in
+    let others = ap (chunks (map (λ (l : List ℕ). length l) ls)) (drop_prefix (length l) l rest refl) ∙ cut_again ls in
+    λ i. first i ∷ others i
+
+-- which are those of all
+pub total_lengths : {X : Type 0} (ls : List (List X)) → total (map (λ l. length l) ls) ≡ length (flat_map (λ l. l) ls)
+total_lengths [] = refl
+total_lengths {X} (l ∷ ls) = omega (arith, total_lengths ls, length-append l (flat_map (λ (l : List X). l) ls))
+
+-- ---- numbers of offsets
+
+-- those of the next of several, and of those after it
+pub next_counts : {X : Type 0} (count : X → ℕ) (xs : List X) (i : ℕ) (x : X) (n : ℕ) → i < length xs → get_or xs i x ≡ x → n ≡ count x → map count (drop i xs) ≡ n ∷ map count (drop (i + 1) xs)
+next_counts count xs i x n lt is e =
+    ap (map count) (drop_more xs i x lt ∙ ap (λ y. y ∷ drop (i + 1) xs) is) ∙ ap (λ k. k ∷ map count (drop (i + 1) xs)) (sym e)
+
+-- those of the methods of a class, the direct ones first
+pub method_counts : (x : NumberedMembers) (ds vs : List NumberedMethod) → ds ≡ x.direct_methods → vs ≡ x.virtual_methods → parameter_counts (methods_of x) ≡ parameter_counts ds ++ parameter_counts vs
+method_counts x ds vs de ve =
+    (λ i. parameter_counts (sym de i ++ sym ve i)) ∙ map-append (λ (y : NumberedMethod). length y.parameter_annotations) ds vs
+
+-- those of the next class, and of those after it
+pub class_counts : (cs : List NumberedClass) (i : ℕ) (c : NumberedClass) → i < length cs → get_or cs i c ≡ c → class_parameter_counts (drop i cs) ≡ parameter_counts (methods_of c.members) ++ class_parameter_counts (drop (i + 1) cs)
+class_counts cs i c lt is = ap class_parameter_counts (drop_more cs i c lt ∙ ap (λ d. d ∷ drop (i + 1) cs) is)
+
+total_append : (ms ns : List ℕ) → total (ms ++ ns) ≡ total ms + total ns
+total_append [] ns = omega arith
+total_append (m ∷ ms) ns = omega (arith, total_append ms ns)
+
+-- ---- the next list, of this number of offsets
+
+pub list_enough : {n : ℕ} {ns left : List ℕ} (rest : List ℕ) → left ≡ n ∷ ns → total left ≤ length rest → n ≤ length rest
+list_enough rest e enough = omega (arith, enough, ap total e)
+
+module _ {n : ℕ} {ns left others : List ℕ} (rest : List ℕ) (e : left ≡ n ∷ ns) (back : others ≡ drop n rest) where
+  pub enough_left : total left ≤ length rest → total ns ≤ length others
+  enough_left enough = omega (arith, enough, ap total e, ap (λ (os : List ℕ). length os) back, length-drop n rest)
+
+  pub same_left : drop (total ns) others ≡ drop (total left) rest
+  same_left = ap (drop (total ns)) back ∙ drop-drop (total ns) n rest ∙ ap (λ ms. drop (total ms) rest) (sym e)
+
+  pub next_list : (item_of : List ℕ → Option (List ℕ)) (p : EncodedItems) (list : List ℕ) → list ≡ take n rest
+      → encode_uses 4 p (offset_lists item_of left rest) ≡ encode_uses 4 (encode_use 4 p (item_of list)) (offset_lists item_of ns others)
+  next_list item_of p list front =
+      ap (λ ms. encode_uses 4 p (offset_lists item_of ms rest)) e ∙ (λ i. encode_uses 4 (encode_use 4 p (item_of (sym front i))) (offset_lists item_of ns (sym back i)))
+
+  pub list_fits : {all : EncodedItems} (item_of : List ℕ → Option (List ℕ)) (p : EncodedItems) (list : List ℕ) → list ≡ take n rest → encode_uses 4 p (offset_lists item_of left rest) ≡ all
+      → (encode_use 4 p (item_of list)).places.end ≤ all.places.end
+  list_fits item_of p list front whole =
+      let ends = ap (λ (q : EncodedItems). q.places.end) (sym (next_list item_of p list front) ∙ whole) in
+      omega (arith, ends, encode_grows 4 (encode_use 4 p (item_of list)) (offset_lists item_of ns others))
+
+-- ---- the next lists, of these numbers of offsets
+
+-- the lists of joined numbers
+lists_append : (item_of : List ℕ → Option (List ℕ)) (ms ns offs : List ℕ) → offset_lists item_of (ms ++ ns) offs ≡ offset_lists item_of ms offs ++ offset_lists item_of ns (drop (total ms) offs)
+lists_append item_of [] ns offs = refl
+lists_append item_of (m ∷ ms) ns offs =
+    ap (λ l. item_of (take m offs) ∷ l) (lists_append item_of ms ns (drop m offs))
+    ∙ ap (λ os. item_of (take m offs) ∷ (offset_lists item_of ms (drop m offs) ++ offset_lists item_of ns os)) (drop-drop (total ms) m offs)
+
+pub lists_enough : {left : List ℕ} (ms ns rest : List ℕ) → left ≡ ms ++ ns → total left ≤ length rest → total ms ≤ length rest
+lists_enough ms ns rest e enough = omega (arith, enough, ap total e, total_append ms ns)
+
+module _ {left others : List ℕ} (ms ns rest : List ℕ) (e : left ≡ ms ++ ns) (back : others ≡ drop (total ms) rest) where
+  pub enough_after : total left ≤ length rest → total ns ≤ length others
+  enough_after enough = omega (arith, enough, ap total e, total_append ms ns, ap (λ (os : List ℕ). length os) back, length-drop (total ms) rest)
+
+  pub same_after : drop (total ns) others ≡ drop (total left) rest
+  same_after = ap (drop (total ns)) back ∙ drop-drop (total ns) (total ms) rest ∙ ap (λ k. drop k rest) (sym (ap total e ∙ total_append ms ns))
+
+  pub next_lists : (item_of : List ℕ → Option (List ℕ)) (p : EncodedItems)
+      → encode_uses 4 p (offset_lists item_of left rest) ≡ encode_uses 4 (encode_uses 4 p (offset_lists item_of ms rest)) (offset_lists item_of ns others)
+  next_lists item_of p =
+      ap (λ ks. encode_uses 4 p (offset_lists item_of ks rest)) e ∙ ap (encode_uses 4 p) (lists_append item_of ms ns rest)
+      ∙ encode_append 4 p (offset_lists item_of ms rest) (offset_lists item_of ns (drop (total ms) rest))
+      ∙ ap (λ os. encode_uses 4 (encode_uses 4 p (offset_lists item_of ms rest)) (offset_lists item_of ns os)) (sym back)
+
+-- they end before all end
+pub lists_fit : {left : List ℕ} {all : EncodedItems} (ms ns rest : List ℕ) (item_of : List ℕ → Option (List ℕ)) (p : EncodedItems) → left ≡ ms ++ ns → encode_uses 4 p (offset_lists item_of left rest) ≡ all
+    → (encode_uses 4 p (offset_lists item_of ms rest)).places.end ≤ all.places.end
+lists_fit ms ns rest item_of p e whole =
+    let others = drop (total ms) rest in
+    let back : others ≡ drop (total ms) rest = refl in
+    let ends = ap (λ (q : EncodedItems). q.places.end) (sym (next_lists ms ns rest e back item_of p) ∙ whole) in
+    omega (arith, ends, encode_grows 4 (encode_uses 4 p (offset_lists item_of ms rest)) (offset_lists item_of ns others))

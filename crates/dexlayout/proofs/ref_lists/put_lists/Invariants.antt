@@ -1,0 +1,12 @@
+use Rattle.std.proofs.Common.{◌≡◌, ◌≤◌, length, drop}
+use Rattle.dexlayout.specs.internal.Aligned.{encode_uses}
+use Rattle.dexlayout.specs.internal.OffsetLists.{list_item, offset_lists, parameter_counts, total}
+use Rattle.dexlayout.proofs.ref_lists.put_lists.Given as goal
+
+-- encoding what is left gives the whole
+abbrev pub invariant-loop-i : goal.invariant-loop-i
+invariant-loop-i l = record {
+  encoded : encode_uses 4 l.items (offset_lists list_item (parameter_counts (drop l.i l.methods)) l.rest) ≡ encode_uses 4 l.fn.items (offset_lists list_item (parameter_counts l.methods) l.set_offs);
+  left : drop (total (parameter_counts (drop l.i l.methods))) l.rest ≡ drop (total (parameter_counts l.methods)) l.set_offs;
+  enough : total (parameter_counts (drop l.i l.methods)) ≤ length l.rest;
+}

@@ -1,0 +1,50 @@
+use Rattle.std.proofs.Common.{◌≡◌, ℕ, ◌+◌, List, Bor, length, map, drop, sym, ap, ◌∙◌, arith}
+use Rattle.std.proofs.lemmas.List.{length-map, drop_all}
+use Rattle.dexval.specs.declared.annotation.Annotation.{Annotation}
+use Rattle.dexval.specs.declared.set.AnnotationSet.{AnnotationSet}
+use Rattle.dexval.specs.Code.{annotation_of, set_of}
+use Rattle.dexval.specs.Numbered.{NumberedSet}
+use Rattle.dexlayout.specs.internal.Aligned.{encode_uses}
+use Rattle.dexlayout.specs.internal.OffsetLists.{annotation_counts, offset_lists, set_item}
+use Rattle.dexlayout.proofs.OffsetLists.{next_counts, list_enough, enough_left, next_list, list_fits}
+use Rattle.dexlayout.proofs.sets.encode_written.Goals as goal
+
+-- how many annotations a set has
+abbrev count_of : Bor AnnotationSet → ℕ
+count_of s = length (set_of s.now)
+
+-- as many as were seen
+count_is : (xs : List Annotation) (s : NumberedSet) → map annotation_of xs ≡ s → length xs ≡ length s
+count_is xs s e = sym (length-map xs annotation_of) ∙ ap (λ (l : NumberedSet). length l) e
+
+pub loop-set-init : goal.loop-set-init
+loop-set-init c = record {
+  encoded = ap (λ p. encode_uses 4 p (offset_lists set_item (annotation_counts c.args.written.now) c.args.annotation_offs.now)) c.in_ok-items.ensures;
+  enough = c.requires.enough;
+}
+
+pub split_at-requires : goal.split_at-requires
+split_at-requires c =
+    let counts = next_counts count_of c.args.written.now c.loop-set.set-index c.set-item.result (length c.annotations.result.now) c.loop-set-test.true (sym c.set-item.is) (count_is c.annotations.result.now (set_of c.set-item.result.now) c.annotations.ensures) in
+    list_enough c.loop-set.rest.now counts c.loop-set.invariant.enough
+
+pub put_offsets-requires : goal.put_offsets-requires
+put_offsets-requires c =
+    let counts = next_counts count_of c.args.written.now c.loop-set.set-index c.set-item.result (length c.annotations.result.now) c.loop-set-test.true (sym c.set-item.is) (count_is c.annotations.result.now (set_of c.set-item.result.now) c.annotations.ensures) in
+    let within = list_fits c.loop-set.rest.now counts c.split_at.ensures.back set_item c.loop-set.items c.split_at.result.0.now c.split_at.ensures.front c.loop-set.invariant.encoded in
+    omega (arith, within, c.requires.fits)
+
+pub loop-set-preserved : goal.loop-set-preserved
+loop-set-preserved c =
+    let ws = c.args.written.now in
+    let i = c.loop-set.set-index in
+    let counts = next_counts count_of ws i c.set-item.result (length c.annotations.result.now) c.loop-set-test.true (sym c.set-item.is) (count_is c.annotations.result.now (set_of c.set-item.result.now) c.annotations.ensures) in
+    record {
+      encoded = ap (λ p. encode_uses 4 p (offset_lists set_item (annotation_counts (drop (i + 1) ws)) c.split_at.result.1.now)) c.in_ok-put_offsets.ensures
+          ∙ sym (next_list c.loop-set.rest.now counts c.split_at.ensures.back set_item c.loop-set.items c.split_at.result.0.now c.split_at.ensures.front) ∙ c.loop-set.invariant.encoded;
+      enough = enough_left c.loop-set.rest.now counts c.split_at.ensures.back c.loop-set.invariant.enough;
+    }
+
+pub returns : goal.returns
+returns c =
+    sym (ap (λ xs. encode_uses 4 c.loop-set.items (offset_lists set_item (annotation_counts xs) c.loop-set.rest.now)) (drop_all c.loop-set.set-index c.args.written.now c.loop-set-test.false)) ∙ c.loop-set.invariant.encoded

@@ -97,7 +97,7 @@ fn kept_strings<'a>(
     requires { length marks.now ≡ length strings.now }
     ensures { IfOk result (λ left. left.items ≡ kept marks.now strings.now) }
 {
-    let mut left = Vec::new(alloc);
+    let mut left = Vec::with_capacity(alloc, strings.len())?;
     for i in 0..strings.len() {
         if marks[i] {
             left.push(strings[i].clone())?;
@@ -185,7 +185,7 @@ fn marked<T: Copy>(alloc: Global, rows: &[T], marks: &[bool]) -> Result<Vec<T>, 
     requires { length marks.now ≡ length rows.now }
     ensures { IfOk result (λ left. left.items ≡ kept marks.now rows.now) }
 {
-    let mut left = Vec::new(alloc);
+    let mut left = Vec::with_capacity(alloc, rows.len())?;
     for i in 0..rows.len() {
         if marks[i] {
             left.push(rows[i])?;

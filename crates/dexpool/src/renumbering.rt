@@ -89,11 +89,12 @@ pub(crate) fn renumbered_protos(
     ensures rows { IfOk result (AreMovedProtos strings.now types.now parameters.now protos.now) }
 {
     let range = covering(protos);
-    if listed(protos) > range.end.saturating_sub(range.start) {
+    let count = listed(protos);
+    if count > range.end.saturating_sub(range.start) {
         return renumbered_together(alloc, protos, parameters, range, strings, types);
     }
     let mut rows = Vec::with_capacity(alloc, protos.len())?;
-    let mut moved = Vec::new(alloc);
+    let mut moved = Vec::with_capacity(alloc, count)?;
     for entry in protos {
         let start = moved.len();
         push_images(&parameters.part(entry.parameters), types, &mut moved)?;

@@ -12,7 +12,7 @@ ghost use Rattle.dexclass.specs.Checking.{HaveBodiesOf, IsCheckedAs};
 use crate::class_checks::check_classes;
 use crate::reading::{MOST_WEIGHT, at_row, interface_count, read_rows, row_weight, too_heavy};
 use dexhead::{Frame, Table};
-use dexmembers::{Checks, ClassDef, check_members_of};
+use dexmembers::{Checks, ClassDef, check_members};
 use dexpool::{Pools, ReadFault};
 use std::alloc::Global;
 
@@ -98,7 +98,7 @@ fn check_row(
 {
     let row = ClassDef::at(frame, r);
     let interfaces = interface_count(frame, row.interfaces_off);
-    let members = match check_members_of(alloc, frame, pools, &row, checks) {
+    let members = match check_members(alloc, frame, pools, &row, checks) {
         Ok(members) => members,
         Err(fault) => return Err(at_row(fault, r)),
     };

@@ -16,7 +16,7 @@ use crate::programs::Program;
 use crate::trimming::trim;
 use dexhead::{Condition, Frame, Refusal, Table};
 use dexlaws::denotes::good::denoted_is_good;
-use dexmembers::{ClassDef, read_members_of};
+use dexmembers::{ClassDef, read_members};
 use dexpool::{ItemFault, Numbering, Pools, ReadFault, type_list_len};
 use std::alloc::Global;
 
@@ -110,7 +110,7 @@ fn read_row<'a>(
     let interfaces = interface_count(frame, row.interfaces_off);
     let own = row_weight(interfaces);
     let most = MOST_WEIGHT.saturating_sub(bodies.weight + own) as u32;
-    let found = match read_members_of(alloc, frame, pools, &row, most) {
+    let found = match read_members(alloc, frame, pools, &row, most) {
         Ok(found) => found,
         Err(fault) => return Err(at_row(fault, r)),
     };

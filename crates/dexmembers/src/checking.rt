@@ -1,7 +1,6 @@
 //! What class rows declare, checked and not kept.
 
-ghost use Rattle.std.specs.Prelude.{ℕ, List, ◌≡◌, ◌<◌, ◌-◌, ◌*◌, ◌^◌, min, IfOk, IfErr, OnOk};
-ghost use Rattle.dexspec.specs.Header.{ClassDefs, table_size};
+ghost use Rattle.std.specs.Prelude.{ℕ, List, ◌≡◌, ◌-◌, ◌*◌, ◌^◌, min, IfOk, IfErr, OnOk};
 ghost use Rattle.dexspec.specs.Mentions.{Mentions};
 ghost use Rattle.dexpool.specs.Pools.{ArePools};
 ghost use Rattle.dexmembers.specs.ClassDefs.{IsClassDef};
@@ -47,41 +46,17 @@ fn fields_weight(declared: &ClassData) -> u64
     statics.saturating_add(instances)
 }
 
-/// Checks what class row `row` declares: its members with their code and annotations, its own annotations, and its
-/// static values. It returns what they weigh, in the bytes of [`Members::weight`](crate::Members::weight), or 2^64 - 1
-/// where that is more. Nothing of them is kept beside `checks` and, while the row is checked, the lists of its members.
-/// What is checked already is not checked again.
+/// Checks what a class row declares: its members with their code and annotations, its own annotations, and its static
+/// values. It returns what they weigh, in the bytes of [`Members::weight`](crate::Members::weight), or 2^64 - 1 where
+/// that is more. Nothing of them is kept beside `checks` and, while the row is checked, the lists of its members. What is
+/// checked already is not checked again.
 ///
-/// Condition: the row is one of the file's, and what is checked already is of this file. What is said of the result is
-/// said of rows that meet condition 16. Error: `Refused` with a number from 17 to 22, a condition that fails at the
-/// row; `Memory` where an allocation failed.
+/// Condition: what is checked already is of this file. What is said of the result is said of rows of the file that meet
+/// condition 16. Error: `Refused` with a number from 17 to 22, a condition that fails at the row; `Memory` where an
+/// allocation failed.
 ///
 /// Source: "class_def_item", the fields `annotations_off`, `class_data_off` and `static_values_off`.
 pub fn check_members(
-    alloc: Global,
-    frame: &Frame<'_>,
-    pools: &Pools<'_>,
-    row: u32,
-    checks: &mut Checks,
-) -> Result<u64, ItemFault>
-    requires row { row < table_size frame.now ClassDefs }
-    requires checks { ArePools frame.now pools.now → AreChecks frame.now pools.now checks.old }
-    ensures checks { ArePools frame.now pools.now
-        → OnOk result (AreChecks frame.now pools.now checks.new) }
-    ensures checked { InClass frame.now pools.now row (IfOk result (HasMembersOf frame.now row)) }
-    ensures refused { InClass frame.now pools.now row
-        (IfErr result (IsMembersFault frame.now row)) }
-{
-    check_members_of(alloc, frame, pools, &ClassDef::at(frame, row), checks)
-}
-
-/// Checks what a decoded class row declares, as [`check_members`] does.
-///
-/// Condition: what is checked already is of this file. What is said of the result is said of rows of the file that meet
-/// condition 16. Error: as of [`check_members`].
-///
-/// Source: "class_def_item", the fields `annotations_off`, `class_data_off` and `static_values_off`.
-pub fn check_members_of(
     alloc: Global,
     frame: &Frame<'_>,
     pools: &Pools<'_>,

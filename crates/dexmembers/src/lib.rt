@@ -40,13 +40,13 @@ mod stripping;
 mod uses_laws;
 mod weighing;
 
-pub use checking::{Checks, check_members, check_members_of};
+pub use checking::{Checks, check_members};
 pub use class_def::ClassDef;
 pub use field_views::{Field, Fields};
 pub use members::Members;
 pub use method_views::{Method, Methods, ParameterSets};
 pub use put_laws::{few_members_law, members_bytes_law};
-pub use reading::{read_members, read_members_of};
+pub use reading::read_members;
 pub use renumbering_laws::{
     members_cut_law, members_joined_law, members_remapped_law, members_same_law,
 };

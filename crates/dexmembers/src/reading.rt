@@ -1,7 +1,6 @@
 //! What class rows declare, read from a file.
 
-ghost use Rattle.std.specs.Prelude.{ℕ, ◌<◌, IfOk, IfErr};
-ghost use Rattle.dexspec.specs.Header.{ClassDefs, table_size};
+ghost use Rattle.std.specs.Prelude.{ℕ, IfOk, IfErr};
 ghost use Rattle.dexmembers.specs.ClassDefs.{IsClassDef};
 ghost use Rattle.dexmembers.specs.Reading.{AreReadWithin, IsMembersFault, InClass};
 ghost use Rattle.dexmembers.specs.Contents.{contents_in, AreHeld};
@@ -36,38 +35,16 @@ fn within(unweighed: Contents<'_>, codes: u64, most: u32) -> Option<(Members<'_>
     Some((members, weight as u32))
 }
 
-/// Reads what class row `row` declares: its members with their code and annotations, its own annotations, and its
-/// static values. It returns them with their weight, in the bytes of [`Members::weight`]. If they weigh more than
-/// `most`, they are checked only, and none is returned. What is kept at a time weighs at most four times `most`,
-/// besides the lists of members and one item.
+/// Reads what a class row declares: its members with their code and annotations, its own annotations, and its static
+/// values. It returns them with their weight, in the bytes of [`Members::weight`]. If they weigh more than `most`, they
+/// are checked only, and none is returned. What is kept at a time weighs at most four times `most`, besides the lists of
+/// members and one item.
 ///
-/// Condition: the row is one of the file's. What the contract says of the result holds for rows that meet condition 16.
-/// Error: `Refused` with a number from 17 to 22, a condition that fails at the row; `Memory` if an allocation failed.
+/// What the contract says of the result holds for rows of the file that meet condition 16. Error: `Refused` with a
+/// number from 17 to 22, a condition that fails at the row; `Memory` if an allocation failed.
 ///
 /// Source: "class_def_item", the fields `annotations_off`, `class_data_off` and `static_values_off`.
 pub fn read_members<'a>(
-    alloc: Global,
-    frame: &Frame<'a>,
-    pools: &Pools<'_>,
-    row: u32,
-    most: u32,
-) -> Result<Option<(Members<'a>, u32)>, ItemFault>
-    requires row { row < table_size frame.now ClassDefs }
-    ensures read { InClass frame.now pools.now row
-        (IfOk result (AreReadWithin frame.now row pools.now most)) }
-    ensures refused { InClass frame.now pools.now row
-        (IfErr result (IsMembersFault frame.now row)) }
-{
-    read_members_of(alloc, frame, pools, &ClassDef::at(frame, row), most)
-}
-
-/// Reads what a decoded class row declares, as [`read_members`] does.
-///
-/// What the contract says of the result holds for rows of the file that meet condition 16. Error: as of
-/// [`read_members`].
-///
-/// Source: "class_def_item", the fields `annotations_off`, `class_data_off` and `static_values_off`.
-pub fn read_members_of<'a>(
     alloc: Global,
     frame: &Frame<'a>,
     pools: &Pools<'_>,

@@ -18,7 +18,7 @@ use crate::reads::refused;
 use dexcode::{check_code, check_debug};
 use dexhead::Table;
 use dexinsn::{Scratch, check_pieces};
-use dexmembers::{Checks, check_members};
+use dexmembers::{Checks, ClassDef, check_members};
 use dexpool::ItemFault;
 use dextest_cases::{CaseFault, Outcome, Printed};
 use dexval::{CheckedSets, check_directory, check_set, check_statics, check_value};
@@ -147,9 +147,10 @@ fn print_members(
     if row >= file.frame.size(Table::ClassDefs) {
         return Err(ItemFault::Refused(0));
     }
+    let row = ClassDef::at(&file.frame, row);
     let mut checks = Checks::none(alloc);
-    let weight = check_members(alloc, &file.frame, &file.pools, row, &mut checks)?;
-    let again = check_members(alloc, &file.frame, &file.pools, row, &mut checks)?;
+    let weight = check_members(alloc, &file.frame, &file.pools, &row, &mut checks)?;
+    let again = check_members(alloc, &file.frame, &file.pools, &row, &mut checks)?;
     print_numbers(&[weight], out);
     if again != weight {
         print_numbers(&[again], out);

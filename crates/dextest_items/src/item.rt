@@ -15,7 +15,7 @@ use dexcode::{
     read_code, read_debug, renumber as renumber_code,
 };
 use dexhead::Table;
-use dexmembers::{Members, read_members};
+use dexmembers::{ClassDef, Members, read_members};
 use dexpool::{ItemFault, Marks, Numbering, Remap};
 use dextest_cases::CaseFault;
 use dexval::{
@@ -229,7 +229,8 @@ pub fn members_at<'a>(
     if row >= file.frame.size(Table::ClassDefs) {
         return Ok(None);
     }
-    let Some((members, _)) = read_members(alloc, &file.frame, &file.pools, row, most)? else {
+    let row = ClassDef::at(&file.frame, row);
+    let Some((members, _)) = read_members(alloc, &file.frame, &file.pools, &row, most)? else {
         return Ok(None);
     };
     Ok(Some(members))

@@ -1,4 +1,4 @@
 use Rattle.dextest_items.proofs.checked_lines.print_members.Goals as goal
 
-pub check_members-requires-clause-checks : goal.check_members-requires-clause-checks
-check_members-requires-clause-checks c = λ _. c.none-checks.ensures c.args.file.now.frame c.args.file.now.pools
+pub check_members-requires : goal.check_members-requires
+check_members-requires c = λ _. c.none-checks.ensures c.args.file.now.frame c.args.file.now.pools

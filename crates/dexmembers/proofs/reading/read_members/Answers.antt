@@ -15,7 +15,7 @@ use Rattle.dexmembers.specs.Weight.{members_weight}
 use Rattle.dexmembers.proofs.DirectoryCache.{data_refused}
 use Rattle.dexmembers.proofs.RowsAreAt.{some_kept}
 use Rattle.dexmembers.proofs.RowRead.{parts_attachable, parts_known, parts_returned}
-use Rattle.dexmembers.proofs.reading.read_members_of.Goals as goal
+use Rattle.dexmembers.proofs.reading.read_members.Goals as goal
 
 pub returns-in_err-declared-clause-refused : goal.returns-in_err-declared-clause-refused
 returns-in_err-declared-clause-refused c = λ r row pools class.

@@ -8,7 +8,7 @@ use Rattle.dexmembers.specs.declared.class_data.EncodedMethod.{EncodedMethod}
 use Rattle.dexmembers.proofs.DirectoryCache.{data_refused, direct_refused, virtual_refused}
 use Rattle.dexmembers.proofs.RowsAreAt.{annotations_refused, values_refused}
 use Rattle.dexmembers.proofs.RowChecked.{members_of}
-use Rattle.dexmembers.proofs.checking.check_members_of.Goals as goal
+use Rattle.dexmembers.proofs.checking.check_members.Goals as goal
 
 pub returns-in_err-declared-clause-refused : goal.returns-in_err-declared-clause-refused
 returns-in_err-declared-clause-refused c = λ r row pools class.

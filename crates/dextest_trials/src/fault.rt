@@ -8,7 +8,7 @@ use thiserror::Error;
 #[derive(Debug, Drop, Error)]
 pub enum Fault {
     /// Usage error: no file is named.
-    #[error("usage: dextest_merges FILE..")]
+    #[error("usage: dextest_trials FILE.. | once")]
     Words,
     /// A file cannot be read.
     #[error("{name}: cannot be read: {error}")]

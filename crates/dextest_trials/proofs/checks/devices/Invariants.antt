@@ -1,5 +1,5 @@
 use Rattle.dexruns.specs.Runs.{AllWork}
-use Rattle.dextest_merges.proofs.checks.devices.Given as goal
+use Rattle.dextest_trials.proofs.checks.devices.Given as goal
 
 -- no device has failed so far
 abbrev pub invariant-loop-number : goal.invariant-loop-number

@@ -1,18 +1,11 @@
-//! Calls that are made again and again, with a little more memory each time.
+//! What came of a call.
 
 ghost use Rattle.std.specs.Prelude.{false, []};
 
-use crate::hoard::Hoard;
 use dexhead::{DeviceFault, Sink};
 use dexruns::RunFault;
-use std::alloc::{AllocError, Global};
+use std::alloc::{AllocError, AllocFailed};
 use std::fmt;
-
-// How much memory a call gets at most while all other is held.
-const ROOM: usize = 120_000;
-
-// How much more it gets each time.
-const STEP: usize = 16;
 
 /// What came of a call.
 #[derive(Clone, Copy, PartialEq, Eq)]
@@ -42,6 +35,18 @@ impl Trial {
             Ok(_) => Trial::Wrong,
             Err(_) => Trial::Memory,
         }
+    }
+}
+
+impl From<AllocError> for Trial {
+    fn from(_error: AllocError) -> Trial {
+        Trial::Memory
+    }
+}
+
+impl<T: Drop> From<AllocFailed<T>> for Trial {
+    fn from(_error: AllocFailed<T>) -> Trial {
+        Trial::Memory
     }
 }
 
@@ -105,81 +110,4 @@ impl Sink for Compare<'_> {
         };
         Ok(bytes.len())
     }
-}
-
-/// A call that can be made again and again.
-pub trait Call {
-    /// Makes the call.
-    fn made(&self, alloc: Global) -> Trial;
-}
-
-/// How often a call was out of memory, and what came of it then.
-#[derive(Clone, Copy)]
-pub struct Ending {
-    failures: u32,
-    last: Trial,
-}
-
-impl Ending {
-    /// Whether the call was out of memory again and again, and right in the end.
-    pub fn is_right(self) -> bool {
-        self.failures > 1 && self.last == Trial::Right
-    }
-}
-
-impl fmt::Display for Ending {
-    fn fmt<W: fmt::Write>(&self, f: &mut fmt::Formatter<W>) -> fmt::Result {
-        f.write_str(match (self.is_right(), self.last) {
-            (true, _) => "out of memory with nothing written, and right once there is enough",
-            (false, Trial::Right) => "never out of memory",
-            (false, Trial::Memory) => "always out of memory",
-            (false, Trial::Wrong) => "wrong",
-        })
-    }
-}
-
-/// Makes a call with a little more memory each time, until it is not out of memory. At last it gets all there is.
-///
-/// Error: there was no memory for the start.
-pub fn tried<C: Call>(alloc: Global, call: &C) -> Result<Ending, AllocError> {
-    let ending = tried_in_room(alloc, call)?;
-    if ending.last != Trial::Memory {
-        return Ok(ending);
-    }
-    Ok(Ending {
-        last: call.made(alloc),
-        ..ending
-    })
-}
-
-// Makes the call while all other memory is held.
-fn tried_in_room<C: Call>(alloc: Global, call: &C) -> Result<Ending, AllocError> {
-    let mut hoard = Hoard::take(alloc, ROOM)?;
-    let mut failures: u32 = 0;
-    for step in 1..=ROOM / STEP {
-        let last = made_beside(
-            alloc,
-            call,
-            &mut hoard,
-            ROOM.saturating_sub(step.saturating_mul(STEP)),
-        );
-        if last != Trial::Memory {
-            return Ok(Ending { failures, last });
-        }
-        failures = failures.saturating_add(1);
-    }
-    Ok(Ending {
-        failures,
-        last: Trial::Memory,
-    })
-}
-
-// Makes the call beside a block of this size.
-fn made_beside<C: Call>(alloc: Global, call: &C, hoard: &mut Hoard, size: usize) -> Trial {
-    if !hoard.hold(size) {
-        return Trial::Memory;
-    }
-    let trial = call.made(alloc);
-    hoard.release();
-    trial
 }

@@ -1,7 +1,7 @@
 //! Comparison of causes.
 
-use dexcmd::MergeCause;
 use dexmerge::MergeFault;
+use dexruns::MergeCause;
 
 /// Returns whether both causes are the same.
 pub fn is_same(cause: &MergeFault, other: &MergeFault) -> bool {

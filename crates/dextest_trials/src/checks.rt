@@ -13,13 +13,13 @@ use crate::stripping::check_stripped;
 use crate::tally::Ending;
 use dexcanon::to_bytes;
 use dexclass::Program;
-use dexcmd::{MergeCause, RunFault, merge_run};
 use dexhead::Device;
 use dexmerge::{Caps, MergeFault, merge};
+use dexruns::{MergeCause, RunFault, merge_run};
 use std::alloc::{AllocError, Global};
 
-// Returns a device over each of the files.
-fn devices<'a>(
+/// Returns a device over each of the files with these numbers.
+pub fn devices<'a>(
     alloc: Global,
     stored: &'a [Vec<u8>],
     files: &[usize],

@@ -1,8 +1,14 @@
-//! Draws a thousand merges of files, and asserts what must hold of each.
+//! Tries what no list of cases can have: calls that run out of memory, and a thousand merges that are drawn.
 //!
-//! The arguments are the names of the files to draw from. A generator whose seed is the number of the merge draws its
-//! files, its plan and its caps. The program asserts the following of each merge, and prints the number of each merge
-//! of which one does not hold:
+//! The arguments are the names of the files to draw from.
+//!
+//! First each of eight calls is made while all memory that can be had is taken, but for some room, of which it gets 16
+//! bytes more each time, so that now one allocation and now another is the first that fails. Each time the call has to
+//! report that it is out of memory, with nothing written: a writer sees no call. Once it has enough it has to return
+//! the right bytes. The program prints what came of each.
+//!
+//! Then merges are drawn. A generator whose seed is the number of the merge draws its files, its plan and its caps. The
+//! program asserts the following of each merge, and prints the number of each merge of which one does not hold:
 //!
 //! - merged at once, in any order, the files give the same bytes or the same cause;
 //! - merged by the plan, over devices, they give the bytes that they give merged at once; or both merges are refused,
@@ -10,6 +16,9 @@
 //! - stripped before the merge, between two merges, after the merge or twice, they give the same bytes;
 //! - they merge under caps of just what they need, and do not merge if one of these caps is one less;
 //! - no call returns that allocation failed.
+//!
+//! With the one argument `once` each of the eight calls is made once, and nothing is drawn: `tests/faults/run` makes one
+//! allocation fail in such a run.
 //!
 //! The status is 0 if all of this holds and enough merges ended in each way, 1 if something does not hold, 2 if no file
 //! is named, 3 if a file cannot be read or is refused, and 4 if the output cannot be written or allocation failed.
@@ -20,6 +29,7 @@ mod checks;
 mod drawing;
 mod fault;
 mod files;
+mod memory;
 mod merging;
 mod needs;
 mod plans;
@@ -31,7 +41,8 @@ use dexclass::Program;
 use drawing::draw;
 use fault::{Fault, Trouble};
 use files::{programs, stored_files};
-use std::alloc::Global;
+use memory::{Rounds, try_calls};
+use std::alloc::{AllocError, Global};
 use std::process::ExitCode;
 use std::rt::{Env, Files};
 use std::{env, io};
@@ -75,28 +86,45 @@ fn run_merges<R: Print + AllocGlobal>(
     Ok(tally)
 }
 
-// Runs all merges over the files of these names.
-fn run_named<R: Files + Print + AllocGlobal>(rt: &R, names: &[String]) -> Result<Tally, Fault> {
+// The words as texts.
+fn texts_of(alloc: Global, words: &[String]) -> Result<Vec<&str>, AllocError> {
+    let mut texts = Vec::with_capacity(alloc, words.len())?;
+    for word in words {
+        texts.push(word.as_str())?;
+    }
+    Ok(texts)
+}
+
+// Runs all merges over the files of these names, and returns whether they are right.
+fn are_merges_right<R: Files + Print + AllocGlobal>(rt: &R, names: &[&str]) -> Result<bool, Fault> {
     let stored = stored_files(rt, names)?;
     let programs = programs(rt.alloc(), names, &stored)?;
     let lent: Vec<&Program<'_>> = programs.iter().collect(rt.alloc())?;
-    Ok(run_merges(rt, &stored, &lent)?)
+    Ok(run_merges(rt, &stored, &lent)?.is_right())
 }
 
-fn run<R: Files + Print + Env + AllocGlobal>(rt: &R) -> Result<Tally, Fault> {
+// Tries the calls, and then the merges over the files of these names, and returns whether all are right.
+fn are_all_right<R: Files + Print + AllocGlobal>(rt: &R, names: &[String]) -> Result<bool, Fault> {
+    let are_calls_right = try_calls(rt, Rounds::UntilRight)?;
+    let names = texts_of(rt.alloc(), names)?;
+    Ok(are_merges_right(rt, &names)? && are_calls_right)
+}
+
+fn run<R: Files + Print + Env + AllocGlobal>(rt: &R) -> Result<bool, Fault> {
     let words: Vec<String> = env::args(rt)?.collect(rt.alloc())?;
     match words.as_slice() {
         [] | [_] => Err(Fault::Words),
-        [_, names @ ..] => run_named(rt, names),
+        [_, word] if word.as_str() == "once" => try_calls(rt, Rounds::One),
+        [_, names @ ..] => are_all_right(rt, names),
     }
 }
 
 fn main(rt: HostRuntime) -> ExitCode {
     match run(&rt) {
-        Ok(tally) if tally.is_right() => ExitCode::SUCCESS,
-        Ok(_) => ExitCode::FAILURE,
+        Ok(true) => ExitCode::SUCCESS,
+        Ok(false) => ExitCode::FAILURE,
         Err(fault) => {
-            let _ = eprintln!(rt; "dextest_merges: {fault}");
+            let _ = eprintln!(rt; "dextest_trials: {fault}");
             ExitCode::from(fault.status())
         }
     }

@@ -67,22 +67,59 @@ pub enum Kind {
     Unknown,
 }
 
-impl Kind {
-    // Returns whether a line of the kind asks for one call, and is in a file of calls.
-    fn is_call(self) -> bool {
-        matches!(
-            self,
-            Kind::Leb
-                | Kind::Puts
-                | Kind::Text
-                | Kind::Names
-                | Kind::Split
-                | Kind::Opcodes
-                | Kind::Debug
-                | Kind::Sums
-                | Kind::Flags
-        )
+// The kinds of lines of files of calls, each with the name of the file, without `.txt`.
+const CALLS: [(&str, Kind); 9] = [
+    ("leb", Kind::Leb),
+    ("puts", Kind::Puts),
+    ("text", Kind::Text),
+    ("names", Kind::Names),
+    ("split", Kind::Split),
+    ("opcodes", Kind::Opcodes),
+    ("debug", Kind::Debug),
+    ("sums", Kind::Sums),
+    ("flags", Kind::Flags),
+];
+
+// The kinds of lines of an index, each with the first word of the line.
+const CASES: [(&str, Kind); 18] = [
+    ("symbol", Kind::Symbol),
+    ("class", Kind::Class),
+    ("join", Kind::Join),
+    ("check", Kind::Check),
+    ("checkrun", Kind::CheckRun),
+    ("cuts", Kind::Cuts),
+    ("weight", Kind::Weight),
+    ("normalise", Kind::Normalise),
+    ("slices", Kind::Slices),
+    ("dump", Kind::Dump),
+    ("strip", Kind::Strip),
+    ("merge", Kind::Merge),
+    ("regroup", Kind::Regroup),
+    ("mergestrip", Kind::MergeStrip),
+    ("measure", Kind::Measure),
+    ("countrun", Kind::CountRun),
+    ("digestrun", Kind::DigestRun),
+    ("repairrun", Kind::RepairRun),
+];
+
+// Returns the kind with this name in a list.
+fn kind_of(list: &[(&str, Kind)], name: &str) -> Option<Kind> {
+    for (listed, kind) in list {
+        if *listed == name {
+            return Some(*kind);
+        }
     }
+    None
+}
+
+// Returns the name of the kind in a list.
+fn name_of(list: &[(&'static str, Kind)], kind: Kind) -> Option<&'static str> {
+    for (name, listed) in list {
+        if *listed == kind {
+            return Some(*name);
+        }
+    }
+    None
 }
 
 impl Cases for Kind {
@@ -91,42 +128,11 @@ impl Cases for Kind {
     const WORDS: &'static str = "dextest_calls FILE.. (calls/NAME.txt or FOLDER/index.txt)";
 
     fn of_calls(file_name: &str) -> Option<Kind> {
-        match file_name {
-            "leb.txt" => Some(Kind::Leb),
-            "puts.txt" => Some(Kind::Puts),
-            "text.txt" => Some(Kind::Text),
-            "names.txt" => Some(Kind::Names),
-            "split.txt" => Some(Kind::Split),
-            "opcodes.txt" => Some(Kind::Opcodes),
-            "debug.txt" => Some(Kind::Debug),
-            "sums.txt" => Some(Kind::Sums),
-            "flags.txt" => Some(Kind::Flags),
-            _ => None,
-        }
+        kind_of(&CALLS, file_name.strip_suffix(".txt")?)
     }
 
     fn of_case(word: &str) -> Kind {
-        match word {
-            "symbol" => Kind::Symbol,
-            "class" => Kind::Class,
-            "join" => Kind::Join,
-            "check" => Kind::Check,
-            "checkrun" => Kind::CheckRun,
-            "cuts" => Kind::Cuts,
-            "weight" => Kind::Weight,
-            "normalise" => Kind::Normalise,
-            "slices" => Kind::Slices,
-            "dump" => Kind::Dump,
-            "strip" => Kind::Strip,
-            "merge" => Kind::Merge,
-            "regroup" => Kind::Regroup,
-            "mergestrip" => Kind::MergeStrip,
-            "measure" => Kind::Measure,
-            "countrun" => Kind::CountRun,
-            "digestrun" => Kind::DigestRun,
-            "repairrun" => Kind::RepairRun,
-            _ => Kind::Unknown,
-        }
+        kind_of(&CASES, word).unwrap_or(Kind::Unknown)
     }
 
     fn run<R: Files + AllocGlobal>(
@@ -134,44 +140,18 @@ impl Cases for Kind {
         folder: Folder<'_, R>,
         case: &str,
     ) -> Result<Outcome, CaseFault> {
-        if self.is_call() {
-            return run_call(folder.alloc(), self, case);
+        match name_of(&CALLS, self) {
+            Some(_) => run_call(folder.alloc(), self, case),
+            None => run_case(folder, self, case),
         }
-        run_case(folder, self, case)
     }
 }
 
 impl fmt::Display for Kind {
     fn fmt<W: fmt::Write>(&self, f: &mut fmt::Formatter<W>) -> fmt::Result {
-        f.write_str(match self {
-            Kind::Leb => "leb",
-            Kind::Puts => "puts",
-            Kind::Text => "text",
-            Kind::Names => "names",
-            Kind::Split => "split",
-            Kind::Opcodes => "opcodes",
-            Kind::Debug => "debug",
-            Kind::Sums => "sums",
-            Kind::Flags => "flags",
-            Kind::Symbol => "symbol",
-            Kind::Class => "class",
-            Kind::Join => "join",
-            Kind::Check => "check",
-            Kind::CheckRun => "checkrun",
-            Kind::Cuts => "cuts",
-            Kind::Weight => "weight",
-            Kind::Normalise => "normalise",
-            Kind::Slices => "slices",
-            Kind::Dump => "dump",
-            Kind::Strip => "strip",
-            Kind::Merge => "merge",
-            Kind::Regroup => "regroup",
-            Kind::MergeStrip => "mergestrip",
-            Kind::Measure => "measure",
-            Kind::CountRun => "countrun",
-            Kind::DigestRun => "digestrun",
-            Kind::RepairRun => "repairrun",
-            Kind::Unknown => "unknown",
-        })
+        match name_of(&CALLS, *self) {
+            Some(name) => f.write_str(name),
+            None => f.write_str(name_of(&CASES, *self).unwrap_or("unknown")),
+        }
     }
 }

@@ -42,7 +42,7 @@ use drawing::draw;
 use fault::{Fault, Trouble};
 use files::{programs, stored_files};
 use memory::{Rounds, try_calls};
-use std::alloc::{AllocError, Global};
+use std::alloc::Global;
 use std::process::ExitCode;
 use std::rt::{Env, Files};
 use std::{env, io};
@@ -86,15 +86,6 @@ fn run_merges<R: Print + AllocGlobal>(
     Ok(tally)
 }
 
-// The words as texts.
-fn texts_of(alloc: Global, words: &[String]) -> Result<Vec<&str>, AllocError> {
-    let mut texts = Vec::with_capacity(alloc, words.len())?;
-    for word in words {
-        texts.push(word.as_str())?;
-    }
-    Ok(texts)
-}
-
 // Runs all merges over the files of these names, and returns whether they are right.
 fn are_merges_right<R: Files + Print + AllocGlobal>(rt: &R, names: &[&str]) -> Result<bool, Fault> {
     let stored = stored_files(rt, names)?;
@@ -106,7 +97,7 @@ fn are_merges_right<R: Files + Print + AllocGlobal>(rt: &R, names: &[&str]) -> R
 // Tries the calls, and then the merges over the files of these names, and returns whether all are right.
 fn are_all_right<R: Files + Print + AllocGlobal>(rt: &R, names: &[String]) -> Result<bool, Fault> {
     let are_calls_right = try_calls(rt, Rounds::UntilRight)?;
-    let names = texts_of(rt.alloc(), names)?;
+    let names: Vec<&str> = names.iter().map(String::as_str).collect(rt.alloc())?;
     Ok(are_merges_right(rt, &names)? && are_calls_right)
 }
 

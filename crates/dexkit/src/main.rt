@@ -44,30 +44,38 @@ fn print_usage<R: Print + Eprint>(rt: &R, error: &Error) -> u8 {
     }
 }
 
+// Does the job that the words ask for, and returns the exit status.
+fn run_words<R: Files + Print + Eprint + Input>(
+    rt: &R,
+    alloc: Global,
+    words: &[&str],
+) -> Result<u8, AllocError> {
+    match read_words(alloc, words) {
+        Ok(job) => Ok(print(rt, &run_job(alloc, &SystemDevices::new(rt), &job)?)),
+        Err(error) if error.kind() == ErrorKind::OutOfMemory => Err(AllocError),
+        Err(error) => Ok(print_usage(rt, &error)),
+    }
+}
+
+// Does what the arguments ask for once lists are expanded, and returns the exit status.
+fn run_expanded<R: Files + Print + Eprint + Input>(
+    rt: &R,
+    alloc: Global,
+    arguments: &[String],
+) -> Result<u8, AllocError> {
+    let words: Vec<&str> = arguments.iter().map(String::as_str).collect(alloc)?;
+    run_words(rt, alloc, &words)
+}
+
 // Does what the arguments ask for, and returns the exit status.
 fn start<R: Files + Print + Eprint + Input>(
     rt: &R,
     alloc: Global,
     arguments: &[String],
 ) -> Result<u8, AllocError> {
-    let expanded = match expand_arguments(alloc, &SystemDevices::new(rt), arguments) {
-        Ok(expanded) => expanded,
-        Err(fault) => {
-            let report = explain_lists(alloc, fault)?;
-            return Ok(print(rt, &report));
-        }
-    };
-    let mut texts = Vec::new(alloc);
-    for argument in &expanded {
-        texts.push(argument.as_str())?;
-    }
-    match read_words(alloc, texts.as_slice()) {
-        Ok(job) => {
-            let report = run_job(alloc, &SystemDevices::new(rt), &job)?;
-            Ok(print(rt, &report))
-        }
-        Err(error) if error.kind() == ErrorKind::OutOfMemory => Err(AllocError),
-        Err(error) => Ok(print_usage(rt, &error)),
+    match expand_arguments(alloc, &SystemDevices::new(rt), arguments) {
+        Ok(expanded) => run_expanded(rt, alloc, &expanded),
+        Err(fault) => Ok(print(rt, &explain_lists(alloc, fault)?)),
     }
 }
 

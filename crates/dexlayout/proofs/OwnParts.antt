@@ -19,12 +19,7 @@ pub rows_few : (m : Mentions) (cs : List NumberedClass) → AreWritable m cs
     → 112 + 4 * length m.texts + 4 * length m.types + 12 * length m.protos + 8 * length m.fields + 8 * length m.methods + 32 * length cs ≤ 1073741824
 rows_few m cs w = omega (arith, (end_in_file (ordered_of m cs) w.fits).tables, length-map cs (definition_of m))
 
--- six of each, one by one
-pub six_same : {X : Type 0} (a b c d e f a' b' c' d' e' f' : X) → a ≡ a' → b ≡ b' → c ≡ c' → d ≡ d' → e ≡ e' → f ≡ f'
-    → a ∷ b ∷ c ∷ d ∷ e ∷ f ∷ [] ≡ a' ∷ b' ∷ c' ∷ d' ∷ e' ∷ f' ∷ []
-six_same a b c d e f a' b' c' d' e' f' ea eb ec ed ee ef = cc
-
--- ten of each
+-- ten of each, one by one
 pub ten_same : {X : Type 0} (a b c d e f g h j k a' b' c' d' e' f' g' h' j' k' : X) → a ≡ a' → b ≡ b' → c ≡ c' → d ≡ d' → e ≡ e' → f ≡ f' → g ≡ g' → h ≡ h' → j ≡ j' → k ≡ k'
     → a ∷ b ∷ c ∷ d ∷ e ∷ f ∷ g ∷ h ∷ j ∷ k ∷ [] ≡ a' ∷ b' ∷ c' ∷ d' ∷ e' ∷ f' ∷ g' ∷ h' ∷ j' ∷ k' ∷ []
 ten_same a b c d e f g h j k a' b' c' d' e' f' g' h' j' k' ea eb ec ed ee ef eg eh ej ek = cc

@@ -1,10 +1,9 @@
 -- Uses that share items by a test of equality: one use more, and items that are mapped one to one.
 use Rattle.std.proofs.Common.{◌≡◌, ◌⊎◌, ℕ, Bool, true, false, cond, not, ◌||◌, List, [], ◌∷◌, ◌++◌, ◌+◌, ◌<◌, length, get_or, map, take, append_assoc, None, Some, refl, sym, ap, subst, ◌∙◌, inl, inr}
 use Rattle.std.specs.Prelude.{Option, All, IfSome, Result, Ok, Err, IfOk, OnOk, if◌then◌else◌}
-use Rattle.std.specs.List.{Contains, filter, flat_map, list_any, position_or_len}
+use Rattle.std.specs.List.{Contains, filter, list_any, position_or_len}
 use Rattle.std.specs.Option.{option_map}
 use Rattle.std.specs.Cmp.{IsEquivalence}
-use Rattle.std.proofs.lemmas.Grind.{flat_map-append}
 use Rattle.std.proofs.lemmas.List.{append-nil, map-append, take_more}
 use Rattle.std.proofs.lemmas.List.Elements.{filter-append, All-nil, All-cons, All-append, All-contains, Contains-get_or}
 use Rattle.std.proofs.lemmas.Map.Views.{any-filter_same}
@@ -220,12 +219,6 @@ some_used f (x ∷ xs) some = refl
 pub uses_next : {X U : Type 0} (f : X → U) (uses : List U) (xs : List X) (i : ℕ) (x : X) → i < length xs → get_or xs i x ≡ x → (uses ++ map f (take i xs)) ++ f x ∷ [] ≡ uses ++ map f (take (i + 1) xs)
 uses_next f uses xs i x lt is =
     append_assoc uses (map f (take i xs)) (f x ∷ []) ∙ ap (λ us. uses ++ us) (sym (map-append f (take i xs) (x ∷ [])) ∙ ap (map f) (sym (take_more xs i x lt ∙ ap (λ y. take i xs ++ y ∷ []) is)))
-
--- those of one more
-pub uses_after : {X U : Type 0} (f : X → List U) (uses : List U) (xs : List X) (i : ℕ) (x : X) → i < length xs → get_or xs i x ≡ x → (uses ++ flat_map f (take i xs)) ++ f x ≡ uses ++ flat_map f (take (i + 1) xs)
-uses_after f uses xs i x lt is =
-    append_assoc uses (flat_map f (take i xs)) (f x)
-    ∙ ap (λ us. uses ++ us) (ap (λ us. flat_map f (take i xs) ++ us) (sym (append-nil (f x))) ∙ sym (flat_map-append f (take i xs) (x ∷ [])) ∙ ap (flat_map f) (sym (take_more xs i x lt ∙ ap (λ y. take i xs ++ y ∷ []) is)))
 
 -- parts of uses, one after the other
 pub uses_joined : {U : Type 0} (uses : List U) (a b : U) (fs gs hs ks fs' gs' hs' ks' : List U) → a ≡ b → fs ≡ fs' → gs ≡ gs' → hs ≡ hs' → ks ≡ ks'

@@ -1,15 +1,16 @@
 -- The data of classes: by numbers, they are the items of the file.
-use Rattle.std.proofs.Common.{◌≡◌, ℕ, ◌+◌, ◌<◌, List, [], ◌∷◌, length, get_or, map, take, drop, Option, None, Some, Bool, true, false, refl, sym, ap, subst, ◌∙◌, arith}
+use Rattle.std.proofs.Common.{◌≡◌, ℕ, ◌+◌, ◌<◌, List, [], ◌∷◌, length, get_or, map, take, drop, Option, None, Some, Bool, true, false, refl, sym, ap, ◌∙◌, arith}
 use Rattle.std.specs.Prelude.{◌==◌, if◌then◌else◌}
 use Rattle.std.specs.List.{All}
 use Rattle.std.specs.Option.{option_map}
-use Rattle.std.proofs.lemmas.List.{length-append, length-map, length-drop, map-append, drop_more}
+use Rattle.std.proofs.lemmas.List.{length-append, length-map, length-drop, map-append}
 use Rattle.std.proofs.lemmas.List.Elements.{All-head, All-tail}
-use Rattle.dexspec.specs.Lists.{zip_with, chunks, present}
+use Rattle.dexspec.specs.Lists.{zip_with, chunks}
 use Rattle.dexspec.specs.Classes.{MethodDef, Definition, declared_fields, declared_methods}
 use Rattle.dexspec.specs.Mentions.{Mentions}
 use Rattle.dexspec.specs.Spellings.{class_data_bytes}
-use Rattle.dexspec.specs.Placing.{class_data_uses, is_empty_class, bytes_from, end, uses_offsets, section_bytes}
+use Rattle.dexspec.specs.Placing.{class_data_uses, is_empty_class, end, uses_offsets}
+use Rattle.dexspec.specs.Sections.{ClassDataItems}
 use Rattle.dexspec.specs.Canonical.{code_section, class_data_section}
 use Rattle.dexpool.specs.Numberings.{AreRising}
 use Rattle.dexpool.proofs.UnionLaws.{ranks_are_numbers}
@@ -18,13 +19,12 @@ use Rattle.dexmembers.specs.Spelled.{numbered_class_data_bytes}
 use Rattle.dexmembers.proofs.ClassDataSpelled.{class_data_spelled}
 use Rattle.dexclass.specs.Numbered.{NumberedClass, definition_of, type_at}
 use Rattle.dexclass.specs.Uses.{IsKnownClass}
-use Rattle.dexlayout.specs.Laid.{AreWritable, AreLaidSo, ordered_of}
-use Rattle.dexlayout.specs.Places.{ItemPlaces}
-use Rattle.dexlayout.specs.internal.Encoding.{has_no_members, class_data_item, class_data_items, item_len}
-use Rattle.dexlayout.specs.internal.Running.{none_from, place_uses}
-use Rattle.dexlayout.proofs.EncodedUses.{Encoding, own_lens, own_bytes}
-use Rattle.dexlayout.proofs.Owned.{sizes, own_encoded}
+use Rattle.dexlayout.specs.Laid.{AreWritable, AreClassData, ordered_of}
+use Rattle.dexlayout.specs.Places.{EncodedItems}
+use Rattle.dexlayout.specs.internal.Encoding.{has_no_members, class_data_item, class_data_items, encode_uses, no_items_from}
+use Rattle.dexlayout.proofs.EncodedUses.{own_in}
 use Rattle.dexlayout.proofs.OwnSizes.{methods_in_all}
+use Rattle.dexlayout.proofs.OwnSteps.{drop_next}
 
 -- ---- the data of one class
 
@@ -90,46 +90,28 @@ module _ (m : Mentions) (cs : List NumberedClass) (w : AreWritable m cs) (offs :
   items_are : class_data_items cs offs ≡ map (option_map item) (class_data_uses (ordered_of m cs) (uses_offsets (code_section (ordered_of m cs))))
   items_are = ap (class_data_items cs) eo ∙ datas_same m w.numbering.rising cs (uses_offsets (code_section (ordered_of m cs))) w.known
 
-  -- their offsets
-  pub data_laid : (from : ℕ) → from ≡ end (code_section (ordered_of m cs))
-      → AreLaidSo (uses_offsets (class_data_section (ordered_of m cs))) (end (class_data_section (ordered_of m cs))) (class_data_section (ordered_of m cs)).items (place_uses 1 (none_from from) (map item_len (class_data_items cs offs)))
+  -- encoded after the code they are those of the file
+  pub data_laid : (from : ℕ) → from ≡ end (code_section (ordered_of m cs)) → AreClassData m cs (encode_uses 1 (no_items_from from) (class_data_items cs offs))
   unfolding class_data_section
-  data_laid from e =
-      let K = ordered_of m cs in
-      let uses = class_data_uses K (uses_offsets (code_section K)) in
-      let same : map item_len (class_data_items cs offs) ≡ sizes item uses = ap (map item_len) items_are ∙ own_lens item uses in
-      subst (AreLaidSo (uses_offsets (class_data_section K)) (end (class_data_section K)) (class_data_section K).items)
-      (ap (λ ns. place_uses 1 (none_from (end (code_section K))) ns) (sym same) ∙ ap (λ n. place_uses 1 (none_from n) (map item_len (class_data_items cs offs))) (sym e))
-      (own_encoded item 1 (end (code_section K)) uses)
-
-  -- their bytes
-  pub data_bytes : (from : ℕ) → from ≡ end (code_section (ordered_of m cs)) → bytes_from 1 from (present (class_data_items cs offs)) ≡ section_bytes (class_data_section (ordered_of m cs))
-  unfolding class_data_section
-  data_bytes from e =
-      let K = ordered_of m cs in
-      (λ i. bytes_from 1 (e i) (present (items_are i))) ∙ own_bytes item 1 (end (code_section K)) (class_data_uses K (uses_offsets (code_section K)))
+  data_laid from is = own_in 1 item ClassDataItems (class_data_uses (ordered_of m cs) (uses_offsets (code_section (ordered_of m cs)))) is items_are
 
 -- ---- class by class
 
 -- encoding the data of the classes that are left, with the offsets of code that are left, gives all
-pub record DataLeft (bytes : List ℕ) (places : ItemPlaces) (cs : List NumberedClass) (offs : List ℕ) (all : List (Option (List ℕ))) (from : ℕ) : Type 0 where
+pub record DataLeft (items : EncodedItems) (cs : List NumberedClass) (offs : List ℕ) (all : EncodedItems) : Type 0 where
   pub count : length offs ≡ length (methods_in_all cs)
-  pub encoding : Encoding 1 bytes places (class_data_items cs offs) all from
+  pub encoded : encode_uses 1 items (class_data_items cs offs) ≡ all
 
 module _ (cs : List NumberedClass) (i : ℕ) (c : NumberedClass) (lt : i < length cs) (is : get_or cs i c ≡ c) (n : ℕ) (count : n ≡ length (methods_of c.members)) where
-  -- the classes that are left
-  next_of : drop i cs ≡ c ∷ drop (i + 1) cs
-  next_of = drop_more cs i c lt ∙ ap (λ d. d ∷ drop (i + 1) cs) is
-
   -- the data of the next, and of those after it
   pub data_split : (offs own others : List ℕ) → own ≡ take n offs → others ≡ drop n offs → class_data_items (drop i cs) offs ≡ class_data_item c own ∷ class_data_items (drop (i + 1) cs) others
   data_split offs own others front back =
       let k = length (methods_of c.members) in
       let eo : take k offs ≡ own = ap (λ j. take j offs) (sym count) ∙ sym front in
       let er : drop k offs ≡ others = ap (λ j. drop j offs) (sym count) ∙ sym back in
-      ap (λ ds. class_data_items ds offs) next_of ∙ (λ j. class_data_item c (eo j) ∷ class_data_items (drop (i + 1) cs) (er j))
+      ap (λ ds. class_data_items ds offs) (drop_next cs i c lt is) ∙ (λ j. class_data_item c (eo j) ∷ class_data_items (drop (i + 1) cs) (er j))
 
   -- as many offsets are left as methods
   pub data_rest : (offs others : List ℕ) → others ≡ drop n offs → length offs ≡ length (methods_in_all (drop i cs)) → length others ≡ length (methods_in_all (drop (i + 1) cs))
   data_rest offs others back same =
-      omega (arith, ap (λ (os : List ℕ). length os) back, length-drop n offs, same, ap (λ ds. length (methods_in_all ds)) next_of, length-append (methods_of c.members) (methods_in_all (drop (i + 1) cs)), count)
+      omega (arith, ap (λ (os : List ℕ). length os) back, length-drop n offs, same, ap (λ ds. length (methods_in_all ds)) (drop_next cs i c lt is), length-append (methods_of c.members) (methods_in_all (drop (i + 1) cs)), count)

@@ -1,5 +1,5 @@
 -- Items that are encoded one after the other are those of a section.
-use Rattle.std.proofs.Common.{◌≡◌, ℕ, ◌+◌, ◌<◌, List, [], ◌∷◌, ◌++◌, length, get_or, map, take, refl, ap, ◌∙◌, arith}
+use Rattle.std.proofs.Common.{◌≡◌, ℕ, ◌+◌, ◌<◌, List, [], ◌∷◌, ◌++◌, length, get_or, map, take, Some, refl, ap, ◌∙◌, arith}
 use Rattle.std.specs.Prelude.{All, replicate, ◌-◌, ◌%◌}
 use Rattle.std.specs.List.{flat_map}
 use Rattle.std.proofs.lemmas.Grind.{flat_map-append}
@@ -17,17 +17,11 @@ bytes_plain f from (x ∷ xs) =
     ∙ ap (λ ys. f x ++ ys) (bytes_plain f (round_up 1 from + length (f x)) xs)
 
 -- the same items as those that they denote
-items_agree : {X Y : Type 0} (code : X → List ℕ) (bytes : Y → List ℕ) (meant : X → Y) (IsKnown : X → Type 0) → ((x : X) → IsKnown x → code x ≡ bytes (meant x)) → (xs : List X) → All IsKnown xs
-    → map code xs ≡ map bytes (map meant xs)
+pub items_agree : {X Y : Type 0} (code : X → List ℕ) (bytes : Y → List ℕ) (meant : X → Y) (IsKnown : X → Type 0) → ((x : X) → IsKnown x → code x ≡ bytes (meant x)) → (xs : List X) → All IsKnown xs
+    → map (λ x. Some (code x)) xs ≡ map (λ y. Some (bytes y)) (map meant xs)
 items_agree code bytes meant IsKnown same [] known = refl
 items_agree code bytes meant IsKnown same (x ∷ xs) known =
-    λ i. same x (All-head IsKnown x xs known) i ∷ items_agree code bytes meant IsKnown same xs (All-tail IsKnown x xs known) i
-
--- what is written are the bytes of the items
-pub encoded_are : {X Y : Type 0} (align from at : ℕ) (code : X → List ℕ) (bytes : Y → List ℕ) (meant : X → Y) (IsKnown : X → Type 0) (written : List X) (symbols : List Y) → ((x : X) → IsKnown x → code x ≡ bytes (meant x))
-    → All IsKnown written → map meant written ≡ symbols → from ≡ at → bytes_from align from (map code written) ≡ bytes_from align at (map bytes symbols)
-encoded_are align from at code bytes meant IsKnown written symbols same known is e =
-    (λ i. bytes_from align (e i) (items_agree code bytes meant IsKnown same written known i)) ∙ ap (λ ys. bytes_from align at (map bytes ys)) is
+    λ i. Some (same x (All-head IsKnown x xs known) i) ∷ items_agree code bytes meant IsKnown same xs (All-tail IsKnown x xs known) i
 
 -- one item more
 pub encoded_next : {X : Type 0} (code : X → List ℕ) (xs : List X) (i : ℕ) (x : X) → i < length xs → get_or xs i x ≡ x → flat_map code (take (i + 1) xs) ≡ flat_map code (take i xs) ++ code x

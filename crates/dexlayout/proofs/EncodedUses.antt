@@ -1,129 +1,174 @@
--- Items that are encoded use by use: going through the uses gives the bytes and the offsets of a section.
-use Rattle.std.proofs.Common.{◌≡◌, ℕ, zero, suc, ◌+◌, ◌<◌, ◌≤◌, Bool, true, false, List, [], ◌∷◌, ◌++◌, length, get_or, map, drop, Option, None, Some, refl, sym, ap, ◌∙◌, arith, append_assoc, subst}
+-- Items that are encoded use by use, one after the other and aligned, are those of a section.
+use Rattle.std.proofs.Common.{◌≡◌, ℕ, zero, suc, ◌+◌, ◌<◌, ◌≤◌, ◌^◌, Bool, true, false, List, [], ◌∷◌, ◌++◌, length, get_or, map, drop, Option, None, Some, refl, sym, ap, subst, ◌∙◌, arith, append_assoc}
 use Rattle.std.specs.Prelude.{◌==◌, ◌-◌, ◌%◌, replicate}
+use Rattle.std.specs.List.{flat_map}
 use Rattle.std.specs.Option.{option_map}
 use Rattle.std.proofs.lemmas.Bool.{eqb-true}
-use Rattle.std.proofs.lemmas.List.{append-nil, drop_more, drop_all}
+use Rattle.std.proofs.lemmas.List.{append-nil, length-append, drop_all}
 use Rattle.dexspec.specs.Bytes.{round_up, padding}
 use Rattle.dexspec.specs.Lists.{present}
-use Rattle.dexspec.specs.Placing.{own_items, bytes_from}
-use Rattle.dexlayout.specs.Places.{ItemPlaces}
-use Rattle.dexlayout.specs.internal.Encoding.{item_bytes, item_len, aligned_bytes}
-use Rattle.dexlayout.specs.internal.Running.{none_from, place_use, place_uses}
-use Rattle.dexlayout.proofs.Owned.{sizes, place_grows}
+use Rattle.dexspec.specs.Placing.{Items, own_items, bytes_from, end, offsets, section}
+use Rattle.dexspec.specs.Sections.{Section}
+use Rattle.dexspec.proofs.layout.Places.{length-padding}
+use Rattle.dexlayout.specs.Places.{ItemPlaces, EncodedItems}
+use Rattle.dexlayout.specs.Laid.{AreEncodedIn, AreItemsIn, AreLaidIn, AreLaidSo}
+use Rattle.dexlayout.specs.internal.Encoding.{no_items_from, pass_use, align_next, put_item, end_item, encode_use, encode_uses}
+use Rattle.dexlayout.specs.internal.Running.{none_from, put_next, place_uses}
+use Rattle.dexlayout.proofs.Owned.{sizes, own_encoded}
+use Rattle.dexlayout.proofs.OwnSteps.{all_encoded, drop_next}
 
--- ---- they are those of items of their own
+-- ---- one item
 
-module _ {X : Type 0} (f : X → List ℕ) where
-  -- how long they are
-  pub own_lens : (us : List (Option X)) → map item_len (map (option_map f) us) ≡ sizes f us
-  own_lens [] = refl
-  own_lens (None ∷ us) = ap (λ (ns : List (Option ℕ)). None ∷ ns) (own_lens us)
-  own_lens (Some x ∷ us) = ap (λ (ns : List (Option ℕ)). Some (length (f x)) ∷ ns) (own_lens us)
+-- an item that is not aligned has no zeros before it
+pub align_one : (p : EncodedItems) → align_next 1 p ≡ p
+align_one p =
+    let none : (1 - p.places.end % 1) % 1 ≡ 0 = omega arith in
+    let here : round_up 1 p.places.end ≡ p.places.end = omega arith in
+    let bytes = ap (λ n. p.bytes ++ replicate n 0) none ∙ append-nil p.bytes in
+    λ i. record { bytes = bytes i; places = record { offsets = p.places.offsets; end = here i; greatest = p.places.greatest } }
 
-  own_present : (us : List (Option X)) → present (map (option_map f) us) ≡ map f (present us)
-  own_present [] = refl
-  own_present (None ∷ us) = own_present us
-  own_present (Some x ∷ us) = ap (λ (xs : List (List ℕ)). f x ∷ xs) (own_present us)
+-- what was appended to the bytes is the item
+module _ {p : EncodedItems} {bytes more : List ℕ} {places : ItemPlaces} {before : ℕ} (item : List ℕ) (is : record { bytes = bytes; places = places } ≡ p) (count : before ≡ length bytes) (put : more ≡ bytes ++ item) where
+  item_len : length more - before ≡ length item
+  item_len = omega (arith, ap (λ (l : List ℕ). length l) put, length-append bytes item, count)
 
-  -- their bytes
-  pub own_bytes : (align from : ℕ) (us : List (Option X)) → bytes_from align from (present (map (option_map f) us)) ≡ bytes_from align from (map f (own_items us).written)
-  own_bytes align from us = ap (bytes_from align from) (own_present us)
+  pub begins : before ≤ length more
+  begins = omega (arith, ap (λ (l : List ℕ). length l) put, length-append bytes item, count)
+
+  pub ended : end_item before (record { bytes = more; places = places }) ≡ put_item p item
+  ended = (λ i. record { bytes = put i; places = put_next places (item_len i) }) ∙ ap (λ (q : EncodedItems). put_item q item) is
+
+  pub ended_fits : (put_item p item).places.end ≤ 2 ^ 30 → (end_item before (record { bytes = more; places = places })).places.end ≤ 2 ^ 30
+  ended_fits fits = omega (arith, fits, ap (λ (q : EncodedItems). q.places.end) ended)
+
+-- ---- the next of the uses that are left
+
+module _ (align : ℕ) where
+  -- uses after others
+  encode_append : (p : EncodedItems) (us vs : List (Option (List ℕ))) → encode_uses align p (us ++ vs) ≡ encode_uses align (encode_uses align p us) vs
+  encode_append p [] vs = refl
+  encode_append p (u ∷ us) vs = encode_append (encode_use align p u) us vs
+
+  -- they do not end before they begin
+  encode_grows : (p : EncodedItems) (us : List (Option (List ℕ))) → p.places.end ≤ (encode_uses align p us).places.end
+  encode_grows p [] = omega arith
+  encode_grows p (None ∷ us) = encode_grows (pass_use p) us
+  encode_grows p (Some x ∷ us) =
+      let rest = encode_grows (put_item (align_next align p) x) us in
+      omega (arith, rest, length-padding align p.places.end)
+
+  -- one is the next
+  module _ {all : EncodedItems} {left rest : List (Option (List ℕ))} {u : Option (List ℕ)} (p : EncodedItems) (next : left ≡ u ∷ rest) (whole : encode_uses align p left ≡ all) where
+    use_then : encode_uses align (encode_use align p u) rest ≡ all
+    use_then = sym (ap (encode_uses align p) next) ∙ whole
+
+    pub use_fits : (encode_use align p u).places.end ≤ all.places.end
+    use_fits = omega (arith, ap (λ (q : EncodedItems). q.places.end) use_then, encode_grows (encode_use align p u) rest)
+
+    pub use_encoded : {more : EncodedItems} → more ≡ encode_use align p u → encode_uses align more rest ≡ all
+    use_encoded is = ap (λ q. encode_uses align q rest) is ∙ use_then
+
+  -- several are the next
+  module _ {all : EncodedItems} {left : List (Option (List ℕ))} (p : EncodedItems) (us rest : List (Option (List ℕ))) (next : left ≡ us ++ rest) (whole : encode_uses align p left ≡ all) where
+    uses_then : encode_uses align (encode_uses align p us) rest ≡ all
+    uses_then = sym (ap (encode_uses align p) next ∙ encode_append p us rest) ∙ whole
+
+    pub uses_fit : (encode_uses align p us).places.end ≤ all.places.end
+    uses_fit = omega (arith, ap (λ (q : EncodedItems). q.places.end) uses_then, encode_grows (encode_uses align p us) rest)
+
+    pub uses_encoded : {more : EncodedItems} → more ≡ encode_uses align p us → encode_uses align more rest ≡ all
+    uses_encoded is = ap (λ q. encode_uses align q rest) is ∙ uses_then
+
+  -- none is left
+  pub all_encoded_by : {p all : EncodedItems} {left : List (Option (List ℕ))} → left ≡ [] → encode_uses align p left ≡ all → p ≡ all
+  all_encoded_by {p} none whole = ap (encode_uses align p) (sym none) ∙ whole
+
+-- ---- the uses of a list
+
+-- a use for each member
+module _ {X : Type 0} (item_of : X → Option (List ℕ)) (xs : List X) (i : ℕ) where
+  pub next_of_each : (x : X) → i < length xs → get_or xs i x ≡ x → map item_of (drop i xs) ≡ item_of x ∷ map item_of (drop (i + 1) xs)
+  next_of_each x lt is = ap (map item_of) (drop_next xs i x lt is)
+
+  pub each_left : length xs ≤ i → map item_of (drop i xs) ≡ []
+  each_left le = ap (map item_of) (drop_all i xs le)
+
+-- several uses for each
+module _ {X : Type 0} (items_of : X → List (Option (List ℕ))) (xs : List X) (i : ℕ) where
+  pub next_of_several : (x : X) → i < length xs → get_or xs i x ≡ x → flat_map items_of (drop i xs) ≡ items_of x ++ flat_map items_of (drop (i + 1) xs)
+  next_of_several x lt is = ap (flat_map items_of) (drop_next xs i x lt is)
+
+  pub several_left : length xs ≤ i → flat_map items_of (drop i xs) ≡ []
+  several_left le = ap (flat_map items_of) (drop_all i xs le)
+
+-- ---- they are those of a section
+
+-- how many bytes the item of a use has, if it has one
+abbrev lens : List (Option (List ℕ)) → List (Option ℕ)
+lens us = map (option_map (λ (x : List ℕ). length x)) us
+
+module _ (align : ℕ) where
+  -- the offsets
+  encoded_places : (p : EncodedItems) (us : List (Option (List ℕ))) → (encode_uses align p us).places ≡ place_uses align p.places (lens us)
+  encoded_places p [] = refl
+  encoded_places p (None ∷ us) = encoded_places (pass_use p) us
+  encoded_places p (Some x ∷ us) = encoded_places (put_item (align_next align p) x) us
+
+  -- the bytes
+  encoded_bytes : (p : EncodedItems) (us : List (Option (List ℕ))) → (encode_uses align p us).bytes ≡ p.bytes ++ bytes_from align p.places.end (present us)
+  encoded_bytes p [] = sym (append-nil p.bytes)
+  encoded_bytes p (None ∷ us) = encoded_bytes (pass_use p) us
+  encoded_bytes p (Some x ∷ us) =
+      let zeros = padding align p.places.end in
+      let rest = bytes_from align (round_up align p.places.end + length x) (present us) in
+      encoded_bytes (put_item (align_next align p) x) us ∙ append_assoc (p.bytes ++ zeros) x rest ∙ append_assoc p.bytes zeros (x ++ rest)
+
+  module _ {X : Type 0} (f : X → List ℕ) where
+    -- items that all uses have
+    all_present : (xs : List X) → present (map (λ x. Some (f x)) xs) ≡ map f xs
+    all_present [] = refl
+    all_present (x ∷ xs) = ap (λ ys. f x ∷ ys) (all_present xs)
+
+    all_lens : (xs : List X) → lens (map (λ x. Some (f x)) xs) ≡ map (λ x. Some (length (f x))) xs
+    all_lens [] = refl
+    all_lens (x ∷ xs) = ap (λ (ns : List (Option ℕ)). Some (length (f x)) ∷ ns) (all_lens xs)
+
+    pub all_in : {from start : ℕ} {items : List (Option (List ℕ))} (kind : Section) (its : Items X) → from ≡ start → items ≡ map (λ x. Some (f x)) its.written → AreItemsIn (section kind align start f its) (encode_uses align (no_items_from from) items)
+    all_in {from} {start} {items} kind its here are =
+        let S = section kind align start f its in
+        let us = map (λ x. Some (f x)) its.written in
+        let places = encoded_places (no_items_from start) us ∙ ap (place_uses align (none_from start)) (all_lens its.written) in
+        subst (AreItemsIn S) (λ i. encode_uses align (no_items_from (sym here i)) (sym are i)) (record {
+          bytes_are = encoded_bytes (no_items_from start) us ∙ ap (bytes_from align start) (all_present its.written);
+          places_are = subst (AreLaidSo (offsets S) (end S) S.items) (sym places) (all_encoded f align start its.written);
+        })
+
+    -- those that some uses have
+    own_present : (us : List (Option X)) → present (map (option_map f) us) ≡ map f (present us)
+    own_present [] = refl
+    own_present (None ∷ us) = own_present us
+    own_present (Some x ∷ us) = ap (λ ys. f x ∷ ys) (own_present us)
+
+    own_lens : (us : List (Option X)) → lens (map (option_map f) us) ≡ sizes f us
+    own_lens [] = refl
+    own_lens (None ∷ us) = ap (λ (ns : List (Option ℕ)). None ∷ ns) (own_lens us)
+    own_lens (Some x ∷ us) = ap (λ (ns : List (Option ℕ)). Some (length (f x)) ∷ ns) (own_lens us)
+
+    pub own_in : {from start : ℕ} {items : List (Option (List ℕ))} (kind : Section) (uses : List (Option X)) → from ≡ start → items ≡ map (option_map f) uses → AreEncodedIn (section kind align start f (own_items uses)) (encode_uses align (no_items_from from) items)
+    own_in {from} {start} {items} kind uses here are =
+        let S = section kind align start f (own_items uses) in
+        let us = map (option_map f) uses in
+        let places = encoded_places (no_items_from start) us ∙ ap (place_uses align (none_from start)) (own_lens uses) in
+        subst (AreEncodedIn S) (λ i. encode_uses align (no_items_from (sym here i)) (sym are i)) (record {
+          bytes_are = encoded_bytes (no_items_from start) us ∙ ap (bytes_from align start) (own_present uses);
+          places_are = subst (AreLaidIn S) (sym places) (own_encoded f align start uses);
+        })
 
 -- items as they are
 pub own_same : (us : List (Option (List ℕ))) → map (option_map (λ x. x)) us ≡ us
 own_same [] = refl
 own_same (None ∷ us) = ap (λ (vs : List (Option (List ℕ))). None ∷ vs) (own_same us)
 own_same (Some x ∷ us) = ap (λ (vs : List (Option (List ℕ))). Some x ∷ vs) (own_same us)
-
--- ---- one use after the other
-
--- Encoding the uses that are left, after those before them, gives all.
-pub record Encoding (align : ℕ) (bytes : List ℕ) (places : ItemPlaces) (left all : List (Option (List ℕ))) (from : ℕ) : Type 0 where
-  pub bytes_give : bytes ++ bytes_from align places.end (present left) ≡ bytes_from align from (present all)
-  pub places_give : place_uses align places (map item_len left) ≡ place_uses align (none_from from) (map item_len all)
-
--- at the start all are left
-pub encoding_none : {bytes : List ℕ} {places : ItemPlaces} (align : ℕ) (all : List (Option (List ℕ))) (from : ℕ) → bytes ≡ [] → places ≡ none_from from → Encoding align bytes places all all from
-encoding_none align all from eb ep = record {
-  bytes_give = λ i. eb i ++ bytes_from align (ep i).end (present all);
-  places_give = ap (λ p. place_uses align p (map item_len all)) ep;
-}
-
--- the bytes of a use, and of those after it
-bytes_next : (align : ℕ) (p : ItemPlaces) (u : Option (List ℕ)) (rest : List (Option (List ℕ))) → bytes_from align p.end (present (u ∷ rest)) ≡ aligned_bytes align p.end u ++ bytes_from align (place_use align p (item_len u)).end (present rest)
-bytes_next align p None rest = refl
-bytes_next align p (Some x) rest = sym (append_assoc (padding align p.end) x (bytes_from align (round_up align p.end + length x) (present rest)))
-
-module _ {align : ℕ} {bytes : List ℕ} {places : ItemPlaces} {left all : List (Option (List ℕ))} {from : ℕ} (h : Encoding align bytes places left all from) where
-  -- the next use fits
-  pub encoding_fits : (u : Option (List ℕ)) (rest : List (Option (List ℕ))) → left ≡ u ∷ rest → (place_use align places (item_len u)).end ≤ (place_uses align (none_from from) (map item_len all)).end
-  encoding_fits u rest is =
-      let e : (place_uses align (place_use align places (item_len u)) (map item_len rest)).end ≡ (place_uses align (none_from from) (map item_len all)).end =
-      ap (λ (q : ItemPlaces). q.end) (sym (ap (λ us. place_uses align places (map item_len us)) is) ∙ h.places_give) in
-      omega (arith, e, place_grows align (place_use align places (item_len u)) (map item_len rest))
-
-  -- it was encoded
-  pub encoding_more : {more : List ℕ} {next : ItemPlaces} (u : Option (List ℕ)) (rest : List (Option (List ℕ))) → left ≡ u ∷ rest → more ≡ bytes ++ aligned_bytes align places.end u → next ≡ place_use align places (item_len u)
-      → Encoding align more next rest all from
-  encoding_more u rest is eb ep = record {
-    bytes_give = (λ i. eb i ++ bytes_from align (ep i).end (present rest))
-        ∙ append_assoc bytes (aligned_bytes align places.end u) (bytes_from align (place_use align places (item_len u)).end (present rest))
-        ∙ ap (λ bs. bytes ++ bs) (sym (bytes_next align places u rest))
-        ∙ sym (ap (λ us. bytes ++ bytes_from align places.end (present us)) is) ∙ h.bytes_give;
-    places_give = ap (λ p. place_uses align p (map item_len rest)) ep ∙ sym (ap (λ us. place_uses align places (map item_len us)) is) ∙ h.places_give;
-  }
-
-  -- none is left
-  pub encoded_bytes : left ≡ [] → bytes ≡ bytes_from align from (present all)
-  encoded_bytes is = sym (append-nil bytes) ∙ ap (λ us. bytes ++ bytes_from align places.end (present us)) (sym is) ∙ h.bytes_give
-
-  pub encoded_places : left ≡ [] → places ≡ place_uses align (none_from from) (map item_len all)
-  encoded_places is = ap (λ us. place_uses align places (map item_len us)) (sym is) ∙ h.places_give
-
--- an item that is not aligned has no zeros before it
-pub plain_bytes : (at : ℕ) (u : Option (List ℕ)) → item_bytes u ≡ aligned_bytes 1 at u
-plain_bytes at None = refl
-plain_bytes at (Some x) =
-    let none : 0 ≡ (1 - at % 1) % 1 = omega arith in
-    ap (λ n. replicate n 0 ++ x) none
-
--- the next of the uses of a list
-module _ {X : Type 0} (item : X → Option (List ℕ)) (xs : List X) (i : ℕ) where
-  pub uses_next : (x : X) → i < length xs → get_or xs i x ≡ x → map item (drop i xs) ≡ item x ∷ map item (drop (i + 1) xs)
-  uses_next x lt is = ap (map item) (drop_more xs i x lt ∙ ap (λ y. y ∷ drop (i + 1) xs) is)
-
-  pub uses_end : length xs ≤ i → map item (drop i xs) ≡ []
-  uses_end le = ap (map item) (drop_all i xs le)
-
--- ---- items of a list
-
-module _ {X : Type 0} (code : X → List ℕ) where
-  -- each has one
-  abbrev pub item_of : X → Option (List ℕ)
-  item_of x = Some (code x)
-
-  each_present : (xs : List X) → present (map item_of xs) ≡ map code xs
-  each_present [] = refl
-  each_present (x ∷ xs) = ap (λ (ys : List (List ℕ)). code x ∷ ys) (each_present xs)
-
-  each_len : (xs : List X) → map item_len (map item_of xs) ≡ map (λ x. Some (length (code x))) xs
-  each_len [] = refl
-  each_len (x ∷ xs) = ap (λ (ns : List (Option ℕ)). Some (length (code x)) ∷ ns) (each_len xs)
-
-  module _ {align from : ℕ} {bytes : List ℕ} {places : ItemPlaces} (xs : List X) (i : ℕ) (h : Encoding align bytes places (map item_of (drop i xs)) (map item_of xs) from) where
-    -- the next fits
-    pub each_fits : (x : X) → i < length xs → get_or xs i x ≡ x → (place_use align places (Some (length (code x)))).end ≤ (place_uses align (none_from from) (map (λ x. Some (length (code x))) xs)).end
-    each_fits x lt is =
-        subst (λ ns. (place_use align places (Some (length (code x)))).end ≤ (place_uses align (none_from from) ns).end) (each_len xs)
-        (encoding_fits h (item_of x) (map item_of (drop (i + 1) xs)) (uses_next item_of xs i x lt is))
-
-    -- all were encoded
-    pub each_bytes : length xs ≤ i → bytes ≡ bytes_from align from (map code xs)
-    each_bytes le = encoded_bytes h (uses_end item_of xs i le) ∙ ap (bytes_from align from) (each_present xs)
-
-    pub each_places : length xs ≤ i → places ≡ place_uses align (none_from from) (map (λ x. Some (length (code x))) xs)
-    each_places le = encoded_places h (uses_end item_of xs i le) ∙ ap (place_uses align (none_from from)) (each_len xs)
 
 -- ---- whether a use has an item
 

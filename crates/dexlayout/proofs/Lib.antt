@@ -1,6 +1,5 @@
 pub mod Counted
 pub mod DataItems
-pub mod EncodedAfter
 pub mod EncodedItems
 pub mod EncodedUses
 pub mod Ends

@@ -1,17 +1,15 @@
 -- Lists of offsets that are encoded one after the other, and the offsets that are left.
 use Rattle.std.proofs.Common.{◌≡◌, ℕ, zero, suc, ◌+◌, ◌*◌, ◌<◌, ◌≤◌, List, [], ◌∷◌, ◌++◌, length, get_or, map, take, drop, Option, None, Some, refl, sym, ap, ◌∙◌, arith}
 use Rattle.std.specs.List.{flat_map}
-use Rattle.std.proofs.lemmas.List.{length-append, length-drop, map-append, drop_more, drop-drop}
+use Rattle.std.proofs.lemmas.List.{length-append, length-drop, map-append, drop-drop}
 use Rattle.dexspec.specs.Bytes.{uint}
 use Rattle.dexspec.specs.Lists.{chunks}
 use Rattle.dexspec.specs.Spellings.{offsets_bytes}
 use Rattle.dexspec.proofs.numbers.ByteNumbers.{length-uint}
 use Rattle.dexmembers.specs.Numbered.{NumberedMethod, NumberedMembers, methods_of}
 use Rattle.dexclass.specs.Numbered.{NumberedClass}
-use Rattle.dexlayout.specs.Places.{EncodedItems}
-use Rattle.dexlayout.specs.internal.Aligned.{encode_use, encode_uses}
 use Rattle.dexlayout.specs.internal.OffsetLists.{offset_lists, total, list_item, parameter_counts, class_parameter_counts}
-use Rattle.dexlayout.proofs.EncodedAfter.{encode_append, encode_grows}
+use Rattle.dexlayout.proofs.OwnSteps.{drop_next}
 
 -- ---- one list
 
@@ -65,7 +63,7 @@ total_lengths {X} (l ∷ ls) = omega (arith, total_lengths ls, length-append l (
 -- those of the next of several, and of those after it
 pub next_counts : {X : Type 0} (count : X → ℕ) (xs : List X) (i : ℕ) (x : X) (n : ℕ) → i < length xs → get_or xs i x ≡ x → n ≡ count x → map count (drop i xs) ≡ n ∷ map count (drop (i + 1) xs)
 next_counts count xs i x n lt is e =
-    ap (map count) (drop_more xs i x lt ∙ ap (λ y. y ∷ drop (i + 1) xs) is) ∙ ap (λ k. k ∷ map count (drop (i + 1) xs)) (sym e)
+    ap (map count) (drop_next xs i x lt is) ∙ ap (λ k. k ∷ map count (drop (i + 1) xs)) (sym e)
 
 -- those of the methods of a class, the direct ones first
 pub method_counts : (x : NumberedMembers) (ds vs : List NumberedMethod) → ds ≡ x.direct_methods → vs ≡ x.virtual_methods → parameter_counts (methods_of x) ≡ parameter_counts ds ++ parameter_counts vs
@@ -74,7 +72,7 @@ method_counts x ds vs de ve =
 
 -- those of the next class, and of those after it
 pub class_counts : (cs : List NumberedClass) (i : ℕ) (c : NumberedClass) → i < length cs → get_or cs i c ≡ c → class_parameter_counts (drop i cs) ≡ parameter_counts (methods_of c.members) ++ class_parameter_counts (drop (i + 1) cs)
-class_counts cs i c lt is = ap class_parameter_counts (drop_more cs i c lt ∙ ap (λ d. d ∷ drop (i + 1) cs) is)
+class_counts cs i c lt is = ap class_parameter_counts (drop_next cs i c lt is)
 
 total_append : (ms ns : List ℕ) → total (ms ++ ns) ≡ total ms + total ns
 total_append [] ns = omega arith
@@ -92,16 +90,8 @@ module _ {n : ℕ} {ns left others : List ℕ} (rest : List ℕ) (e : left ≡ n
   pub same_left : drop (total ns) others ≡ drop (total left) rest
   same_left = ap (drop (total ns)) back ∙ drop-drop (total ns) n rest ∙ ap (λ ms. drop (total ms) rest) (sym e)
 
-  pub next_list : (item_of : List ℕ → Option (List ℕ)) (p : EncodedItems) (list : List ℕ) → list ≡ take n rest
-      → encode_uses 4 p (offset_lists item_of left rest) ≡ encode_uses 4 (encode_use 4 p (item_of list)) (offset_lists item_of ns others)
-  next_list item_of p list front =
-      ap (λ ms. encode_uses 4 p (offset_lists item_of ms rest)) e ∙ (λ i. encode_uses 4 (encode_use 4 p (item_of (sym front i))) (offset_lists item_of ns (sym back i)))
-
-  pub list_fits : {all : EncodedItems} (item_of : List ℕ → Option (List ℕ)) (p : EncodedItems) (list : List ℕ) → list ≡ take n rest → encode_uses 4 p (offset_lists item_of left rest) ≡ all
-      → (encode_use 4 p (item_of list)).places.end ≤ all.places.end
-  list_fits item_of p list front whole =
-      let ends = ap (λ (q : EncodedItems). q.places.end) (sym (next_list item_of p list front) ∙ whole) in
-      omega (arith, ends, encode_grows 4 (encode_use 4 p (item_of list)) (offset_lists item_of ns others))
+  pub next_list : {list : List ℕ} (item_of : List ℕ → Option (List ℕ)) → list ≡ take n rest → offset_lists item_of left rest ≡ item_of list ∷ offset_lists item_of ns others
+  next_list item_of front = ap (λ ms. offset_lists item_of ms rest) e ∙ (λ i. item_of (sym front i) ∷ offset_lists item_of ns (sym back i))
 
 -- ---- the next lists, of these numbers of offsets
 
@@ -122,18 +112,6 @@ module _ {left others : List ℕ} (ms ns rest : List ℕ) (e : left ≡ ms ++ ns
   pub same_after : drop (total ns) others ≡ drop (total left) rest
   same_after = ap (drop (total ns)) back ∙ drop-drop (total ns) (total ms) rest ∙ ap (λ k. drop k rest) (sym (ap total e ∙ total_append ms ns))
 
-  pub next_lists : (item_of : List ℕ → Option (List ℕ)) (p : EncodedItems)
-      → encode_uses 4 p (offset_lists item_of left rest) ≡ encode_uses 4 (encode_uses 4 p (offset_lists item_of ms rest)) (offset_lists item_of ns others)
-  next_lists item_of p =
-      ap (λ ks. encode_uses 4 p (offset_lists item_of ks rest)) e ∙ ap (encode_uses 4 p) (lists_append item_of ms ns rest)
-      ∙ encode_append 4 p (offset_lists item_of ms rest) (offset_lists item_of ns (drop (total ms) rest))
-      ∙ ap (λ os. encode_uses 4 (encode_uses 4 p (offset_lists item_of ms rest)) (offset_lists item_of ns os)) (sym back)
-
--- they end before all end
-pub lists_fit : {left : List ℕ} {all : EncodedItems} (ms ns rest : List ℕ) (item_of : List ℕ → Option (List ℕ)) (p : EncodedItems) → left ≡ ms ++ ns → encode_uses 4 p (offset_lists item_of left rest) ≡ all
-    → (encode_uses 4 p (offset_lists item_of ms rest)).places.end ≤ all.places.end
-lists_fit ms ns rest item_of p e whole =
-    let others = drop (total ms) rest in
-    let back : others ≡ drop (total ms) rest = refl in
-    let ends = ap (λ (q : EncodedItems). q.places.end) (sym (next_lists ms ns rest e back item_of p) ∙ whole) in
-    omega (arith, ends, encode_grows 4 (encode_uses 4 p (offset_lists item_of ms rest)) (offset_lists item_of ns others))
+  pub next_lists : (item_of : List ℕ → Option (List ℕ)) → offset_lists item_of left rest ≡ offset_lists item_of ms rest ++ offset_lists item_of ns others
+  next_lists item_of =
+      ap (λ ks. offset_lists item_of ks rest) e ∙ lists_append item_of ms ns rest ∙ ap (λ os. offset_lists item_of ms rest ++ offset_lists item_of ns os) (sym back)

@@ -5,18 +5,22 @@ use Rattle.std.proofs.lemmas.List.{append-nil, drop_more, drop_all}
 use Rattle.dexspec.specs.Bytes.{round_up}
 use Rattle.dexspec.specs.Placing.{offsets_from, end_from}
 use Rattle.dexlayout.specs.Places.{ItemPlaces}
-use Rattle.dexlayout.specs.internal.Running.{none_from, put_at, place_use, place_uses}
+use Rattle.dexlayout.specs.internal.Running.{none_from, put_at, put_next, place_use, place_uses}
 use Rattle.dexlayout.specs.Laid.{greatest_of, AreLaidSo}
 use Rattle.dexlayout.proofs.Owned.{place_append, place_grows}
 
 -- an item that is not aligned begins at the end of the one before it
-pub put_plain : (p : ItemPlaces) (len : ℕ) → place_use 1 p (Some len) ≡ put_at p p.end len
-put_plain p len = let here : round_up 1 p.end ≡ p.end = omega arith in ap (λ off. put_at p off len) here
+pub put_plain : (p : ItemPlaces) (len : ℕ) → put_next p len ≡ place_use 1 p (Some len)
+put_plain p len = let here : p.end ≡ round_up 1 p.end = omega arith in ap (λ off. put_at p off len) here
+
+-- the next member, and those after it
+pub drop_next : {X : Type 0} (xs : List X) (i : ℕ) (x : X) → i < length xs → get_or xs i x ≡ x → drop i xs ≡ x ∷ drop (i + 1) xs
+drop_next xs i x lt is = drop_more xs i x lt ∙ ap (λ y. y ∷ drop (i + 1) xs) is
 
 -- the next of those that are left
 pub left_next : {X : Type 0} (align : ℕ) (size : X → Option ℕ) (p : ItemPlaces) (xs : List X) (i : ℕ) (x : X) → i < length xs → get_or xs i x ≡ x
     → place_uses align p (map size (drop i xs)) ≡ place_uses align (place_use align p (size x)) (map size (drop (i + 1) xs))
-left_next align size p xs i x lt is = ap (λ ys. place_uses align p (map size ys)) (drop_more xs i x lt ∙ ap (λ y. y ∷ drop (i + 1) xs) is)
+left_next align size p xs i x lt is = ap (λ ys. place_uses align p (map size ys)) (drop_next xs i x lt is)
 
 -- it fits
 pub left_fits : {X : Type 0} {all : ItemPlaces} (align : ℕ) (size : X → Option ℕ) (p : ItemPlaces) (xs : List X) (i : ℕ) (x : X) → i < length xs → get_or xs i x ≡ x → place_uses align p (map size (drop i xs)) ≡ all
@@ -29,7 +33,7 @@ left_fits align size p xs i x lt is maps_to =
 pub several_next : {X : Type 0} (align : ℕ) (several : X → List (Option ℕ)) (p : ItemPlaces) (xs : List X) (i : ℕ) (x : X) → i < length xs → get_or xs i x ≡ x
     → place_uses align p (flat_map several (drop i xs)) ≡ place_uses align (place_uses align p (several x)) (flat_map several (drop (i + 1) xs))
 several_next align several p xs i x lt is =
-    ap (λ ys. place_uses align p (flat_map several ys)) (drop_more xs i x lt ∙ ap (λ y. y ∷ drop (i + 1) xs) is) ∙ place_append align p (several x) (flat_map several (drop (i + 1) xs))
+    ap (λ ys. place_uses align p (flat_map several ys)) (drop_next xs i x lt is) ∙ place_append align p (several x) (flat_map several (drop (i + 1) xs))
 
 pub several_fit : {X : Type 0} {all : ItemPlaces} (align : ℕ) (several : X → List (Option ℕ)) (p : ItemPlaces) (xs : List X) (i : ℕ) (x : X) → i < length xs → get_or xs i x ≡ x → place_uses align p (flat_map several (drop i xs)) ≡ all
     → (place_uses align p (several x)).end ≤ all.end

@@ -1,9 +1,9 @@
 -- Items of their own: going through the uses with a running end gives the offsets of the uses, where the items end, and
 -- how long the longest is.
-use Rattle.std.proofs.Common.{◌≡◌, ℕ, ◌+◌, ◌<◌, ◌≤◌, max, List, [], ◌∷◌, ◌++◌, length, get_or, map, take, Option, None, Some, refl, sym, ap, ◌∙◌, arith, append_assoc}
+use Rattle.std.proofs.Common.{◌≡◌, ℕ, ◌+◌, ◌≤◌, max, List, [], ◌∷◌, ◌++◌, length, map, Option, None, Some, refl, sym, ap, ◌∙◌, arith, append_assoc}
 use Rattle.std.specs.Prelude.{slice_index}
 use Rattle.std.specs.Option.{option_map, option_map_or}
-use Rattle.std.proofs.lemmas.List.{append-nil, length-append, take_more, get_or-append-add}
+use Rattle.std.proofs.lemmas.List.{append-nil, length-append, get_or-append-add}
 use Rattle.dexspec.specs.Lists.{present}
 use Rattle.dexspec.specs.Bytes.{round_up}
 use Rattle.dexspec.specs.Placing.{own_numbers, own_items, offsets_from, end_from}
@@ -24,14 +24,6 @@ pub place_append : (align : ℕ) (p : ItemPlaces) (us vs : List (Option ℕ)) �
 place_append align p [] vs = refl
 place_append align p (u ∷ us) vs = place_append align (place_use align p u) us vs
 
--- one use more
-pub place_more : (align : ℕ) (p : ItemPlaces) (us : List (Option ℕ)) (u : Option ℕ) → place_uses align p (us ++ u ∷ []) ≡ place_use align (place_uses align p us) u
-place_more align p us u = place_append align p us (u ∷ [])
-
--- the use at a place more
-pub place_next : (align : ℕ) (p : ItemPlaces) (us : List (Option ℕ)) (i : ℕ) (d : Option ℕ) → i < length us → place_uses align p (take (i + 1) us) ≡ place_use align (place_uses align p (take i us)) (get_or us i d)
-place_next align p us i d lt = ap (place_uses align p) (take_more us i d lt) ∙ place_more align p (take i us) (get_or us i d)
-
 -- they do not end before they begin
 pub place_grows : (align : ℕ) (p : ItemPlaces) (us : List (Option ℕ)) → p.end ≤ (place_uses align p us).end
 place_grows align p [] = omega arith
@@ -39,12 +31,6 @@ place_grows align p (None ∷ us) = place_grows align (pass p) us
 place_grows align p (Some n ∷ us) =
     let rest = place_grows align (put_at p (round_up align p.end) n) us in
     omega (arith, rest, length-padding align p.end)
-
--- the first do not end after all
-pub place_within : (align : ℕ) (p : ItemPlaces) (us vs : List (Option ℕ)) → (place_uses align p us).end ≤ (place_uses align p (us ++ vs)).end
-place_within align p us vs =
-    let joined = ap (λ (q : ItemPlaces). q.end) (place_append align p us vs) in
-    omega (arith, joined, place_grows align (place_uses align p us) vs)
 
 -- ---- they are those of items of their own
 

@@ -1,5 +1,5 @@
 -- The lists of the sets of parameters, of a file.
-use Rattle.std.proofs.Common.{◌≡◌, ℕ, ◌+◌, ◌≤◌, List, [], ◌∷◌, ◌++◌, length, map, take, drop, refl, sym, ap, subst, ◌∙◌, arith}
+use Rattle.std.proofs.Common.{◌≡◌, ℕ, ◌+◌, ◌≤◌, List, [], ◌∷◌, ◌++◌, length, map, take, drop, refl, sym, ap, ◌∙◌, arith}
 use Rattle.std.specs.List.{flat_map}
 use Rattle.std.specs.Option.{option_map}
 use Rattle.std.proofs.lemmas.List.{length-append, length-drop, length-map, length-take, map-append}
@@ -9,17 +9,18 @@ use Rattle.std.proofs.lemmas.Simd.{map-map}
 use Rattle.dexspec.specs.Lists.{chunks}
 use Rattle.dexspec.specs.Classes.{Definition, MethodDef, declared_fields, declared_methods}
 use Rattle.dexspec.specs.Mentions.{Mentions}
-use Rattle.dexspec.specs.Placing.{SetOffsets, set_offsets_of, class_sets, method_sets, ref_list_uses, unless_empty, end}
+use Rattle.dexspec.specs.Placing.{SetOffsets, set_offsets_of, class_sets, method_sets, ref_list_uses, unless_empty}
 use Rattle.dexspec.specs.Spellings.{offsets_bytes}
-use Rattle.dexspec.specs.Canonical.{set_section, set_offsets, ref_list_section}
+use Rattle.dexspec.specs.Canonical.{set_offsets, ref_list_section}
+use Rattle.dexspec.specs.Sections.{AnnotationSetRefLists}
 use Rattle.dexval.specs.Numbered.{set_in}
 use Rattle.dexmembers.specs.Numbered.{NumberedMethod, method_in, methods_of}
 use Rattle.dexclass.specs.Numbered.{NumberedClass, definition_of}
 use Rattle.dexlayout.specs.Places.{SetPlaces}
 use Rattle.dexlayout.specs.Laid.{ordered_of, AreRefLists, AreSets}
-use Rattle.dexlayout.specs.internal.Aligned.{encode_uses, no_items_from}
+use Rattle.dexlayout.specs.internal.Encoding.{encode_uses, no_items_from}
 use Rattle.dexlayout.specs.internal.OffsetLists.{class_parameter_counts, list_item, offset_lists, parameter_counts, total}
-use Rattle.dexlayout.proofs.EncodedAfter.{own_bytes, own_laid}
+use Rattle.dexlayout.proofs.EncodedUses.{own_in}
 use Rattle.dexlayout.proofs.OffsetLists.{cut_again, total_lengths}
 use Rattle.dexlayout.proofs.SetParts.{parts, class_count}
 use Rattle.dexlayout.proofs.SetLists.{set_use_offsets, length-set_use_offsets, set_offsets_are}
@@ -114,8 +115,4 @@ module _ (m : Mentions) (cs : List NumberedClass) {sets : SetPlaces} (are : AreS
   unfolding ref_list_section
   ref_lists_laid =
       let K = ordered_of m cs in
-      let us = ref_list_uses K (set_offsets K) in
-      let from = are.written_are.places_are.end_is in
-      let same : encode_uses 4 (no_items_from sets.written.places.end) (offset_lists list_item (class_parameter_counts cs) sets.parameters) ≡ encode_uses 4 (no_items_from (end (set_section K))) (map (option_map offsets_bytes) us) =
-      λ i. encode_uses 4 (no_items_from (from i)) (lists_are i) in
-      subst (AreRefLists m cs) (sym same) (record { bytes_are = own_bytes 4 offsets_bytes (end (set_section K)) us; places_are = own_laid 4 offsets_bytes (end (set_section K)) us })
+      own_in 4 offsets_bytes AnnotationSetRefLists (ref_list_uses K (set_offsets K)) are.written_are.places_are.end_is lists_are

@@ -6,14 +6,15 @@ use Rattle.std.proofs.lemmas.Simd.{map-map}
 use Rattle.dexspec.specs.Annotations.{Annotation, AnnotationSet}
 use Rattle.dexspec.specs.Mentions.{Mentions}
 use Rattle.dexspec.specs.Placing.{end}
+use Rattle.dexspec.specs.Sections.{AnnotationItems}
 use Rattle.dexspec.specs.Canonical.{set_items, type_list_section, annotation_section}
 use Rattle.dexspec.specs.Spellings.{annotation_bytes}
 use Rattle.dexval.specs.Numbered.{NumberedAnnotation, NumberedSet, annotation_in, set_in, IsKnownAnnotation, IsKnownSet}
 use Rattle.dexclass.specs.Numbered.{NumberedClass}
 use Rattle.dexlayout.specs.Laid.{ordered_of, file_end, AreAnnotations}
-use Rattle.dexlayout.specs.internal.Aligned.{encode_uses, no_items_from}
 use Rattle.dexlayout.specs.internal.Annotated.{annotation_items}
-use Rattle.dexlayout.proofs.EncodedAfter.{all_bytes, all_laid}
+use Rattle.dexlayout.specs.internal.Encoding.{encode_uses, no_items_from}
+use Rattle.dexlayout.proofs.EncodedUses.{all_in}
 use Rattle.dexlayout.proofs.Ends.{end_in_file}
 
 -- one of the mapped annotations is known
@@ -42,11 +43,7 @@ module _ {X : Type 0} (m : Mentions) (cs : List NumberedClass) (g : X → Number
   unfolding annotation_section
   annotations_laid =
       let K = ordered_of m cs in
-      let start = end (type_list_section K) in
-      let all = all_of (set_items K).written in
-      let items = items_are m g xs ∙ ap (λ ss. map (item_of m) (all_of ss)) are in
-      let same : encode_uses 1 (no_items_from from) (flat_map (λ x. annotation_items m (g x)) xs) ≡ encode_uses 1 (no_items_from start) (map (item_of m) all) = λ i. encode_uses 1 (no_items_from (is i)) (items i) in
-      subst (AreAnnotations m cs) (sym same) (record { bytes_are = all_bytes 1 (annotation_bytes m) start all; places_are = all_laid 1 (annotation_bytes m) start all })
+      all_in 1 (annotation_bytes m) AnnotationItems (record { numbers = []; written = all_of (set_items K).written }) is (items_are m g xs ∙ ap (λ ss. map (item_of m) (all_of ss)) are)
 
   -- and end within it
   pub annotations_fit : file_end (ordered_of m cs) ≤ 2 ^ 30 → (encode_uses 1 (no_items_from from) (flat_map (λ x. annotation_items m (g x)) xs)).places.end ≤ 2 ^ 30

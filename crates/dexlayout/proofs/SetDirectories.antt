@@ -1,5 +1,5 @@
 -- The directories of classes: by numbers, they are the items of the file.
-use Rattle.std.proofs.Common.{◌≡◌, ℕ, zero, suc, ◌+◌, ◌*◌, ◌<◌, ◌≤◌, Bool, true, false, Ordering, ◌⊎◌, inl, inr, List, [], ◌∷◌, ◌++◌, length, get_or, map, take, drop, refl, sym, ap, subst, ◌∙◌, arith, Option, Some, None, All}
+use Rattle.std.proofs.Common.{◌≡◌, ℕ, zero, suc, ◌+◌, ◌*◌, ◌<◌, ◌≤◌, Bool, true, false, Ordering, ◌⊎◌, inl, inr, List, [], ◌∷◌, ◌++◌, length, get_or, map, take, drop, refl, sym, ap, ◌∙◌, arith, Option, Some, None, All}
 use Rattle.std.specs.Prelude.{slice_index, ◌==◌, if◌then◌else◌}
 use Rattle.std.specs.List.{flat_map, zip}
 use Rattle.std.specs.Option.{option_map}
@@ -7,12 +7,13 @@ use Rattle.std.specs.FinMap.Entries.{by_order}
 use Rattle.std.specs.declared.cmp.Ordering.TheVariants.{Less, Equal, Greater}
 use Rattle.std.proofs.lemmas.Bool.{cond-false, cond-true, eqb-true}
 use Rattle.std.proofs.Common.{eq-eqb}
-use Rattle.std.proofs.lemmas.List.{length-append, length-map, length-take, length-drop, drop_more, drop-drop, get_or-drop}
+use Rattle.std.proofs.lemmas.List.{length-append, length-map, length-take, length-drop, drop-drop, get_or-drop}
 use Rattle.std.proofs.lemmas.List.Elements.{All-head, All-tail}
-use Rattle.dexspec.specs.Lists.{chunks, zip_with, in_order, add_in_order, present}
+use Rattle.dexspec.specs.Lists.{chunks, zip_with, in_order, add_in_order}
 use Rattle.dexspec.specs.Classes.{Definition, MethodDef, declared_fields, declared_methods}
 use Rattle.dexspec.specs.Mentions.{Mentions, field_of, method_of}
-use Rattle.dexspec.specs.Placing.{SetOffsets, pair_cmp, pairs, bytes_from, directory_bytes, directory_uses, end, section_bytes, uses_offsets}
+use Rattle.dexspec.specs.Placing.{SetOffsets, pair_cmp, pairs, directory_bytes, directory_uses, end, uses_offsets}
+use Rattle.dexspec.specs.Sections.{AnnotationsDirectories}
 use Rattle.dexspec.specs.Spellings.{field_index, method_index}
 use Rattle.dexspec.specs.Canonical.{set_offsets, ref_list_section, directory_section}
 use Rattle.dexspec.specs.Placing.{ref_list_uses, unless_empty}
@@ -25,14 +26,13 @@ use Rattle.dexmembers.proofs.PairsMerged.{kept, placed_count}
 use Rattle.dexmembers.proofs.DirectorySpelled as spelled
 use Rattle.dexclass.specs.Numbered.{NumberedClass, definition_of, type_at}
 use Rattle.dexclass.specs.Uses.{IsKnownClass}
-use Rattle.dexlayout.specs.Places.{ItemPlaces, SetPlaces}
-use Rattle.dexlayout.specs.Laid.{ordered_of, AreLaidSo, AreSets, AreWritable}
-use Rattle.dexlayout.specs.internal.Encoding.{aligned_bytes, item_len}
-use Rattle.dexlayout.specs.internal.Running.{none_from, place_use, place_uses}
+use Rattle.dexlayout.specs.Places.{EncodedItems, SetPlaces}
+use Rattle.dexlayout.specs.Laid.{ordered_of, AreDirectories, AreSets, AreWritable}
+use Rattle.dexlayout.specs.internal.Encoding.{encode_use, encode_uses, no_items_from}
 use Rattle.dexlayout.specs.internal.Directories.{directory_item, directory_items}
 use Rattle.dexlayout.specs.internal.Collecting.{sets_of_method, sets_of_class, parts_of_class, parts_of_classes}
-use Rattle.dexlayout.proofs.EncodedUses.{Encoding, encoding_fits, encoding_more, own_bytes, own_lens, own_same}
-use Rattle.dexlayout.proofs.Owned.{sizes, own_encoded}
+use Rattle.dexlayout.proofs.EncodedUses.{own_in, own_same, use_encoded, use_fits}
+use Rattle.dexlayout.proofs.OwnSteps.{drop_next}
 use Rattle.dexlayout.proofs.SetLists.{set_use_offsets, length-set_use_offsets, set_offsets_are}
 use Rattle.dexlayout.specs.internal.OffsetLists.{parameter_counts, class_parameter_counts}
 use Rattle.dexlayout.proofs.RefLists.{lists_of, lists_used, counts_lengths}
@@ -113,26 +113,22 @@ some_directory own n len item size h = cond-false (own + n == 0) None (Some item
 -- ---- the next directory
 
 module _ (cs : List NumberedClass) (i : ℕ) (c : NumberedClass) (lt : i < length cs) (is : get_or cs i c ≡ c) where
-  -- a class and those after it
-  next_class : drop i cs ≡ c ∷ drop (i + 1) cs
-  next_class = drop_more cs i c lt ∙ ap (λ d. d ∷ drop (i + 1) cs) is
-
   -- how many members are left
   next_fields : length (flat_map (λ c. fields_of c.members) (drop i cs)) ≡ length (fields_of c.members) + length (flat_map (λ c. fields_of c.members) (drop (i + 1) cs))
-  next_fields = ap (λ l. length (flat_map (λ (c : NumberedClass). fields_of c.members) l)) next_class ∙ length-append (fields_of c.members) (flat_map (λ c. fields_of c.members) (drop (i + 1) cs))
+  next_fields = ap (λ l. length (flat_map (λ (c : NumberedClass). fields_of c.members) l)) (drop_next cs i c lt is) ∙ length-append (fields_of c.members) (flat_map (λ c. fields_of c.members) (drop (i + 1) cs))
 
   next_methods : length (flat_map (λ c. methods_of c.members) (drop i cs)) ≡ length (methods_of c.members) + length (flat_map (λ c. methods_of c.members) (drop (i + 1) cs))
-  next_methods = ap (λ l. length (flat_map (λ (c : NumberedClass). methods_of c.members) l)) next_class ∙ length-append (methods_of c.members) (flat_map (λ c. methods_of c.members) (drop (i + 1) cs))
+  next_methods = ap (λ l. length (flat_map (λ (c : NumberedClass). methods_of c.members) l)) (drop_next cs i c lt is) ∙ length-append (methods_of c.members) (flat_map (λ c. methods_of c.members) (drop (i + 1) cs))
 
 -- encoding the directories of the classes that are left, with the offsets that are left, gives all
-pub record DirectoriesLeft (bytes : List ℕ) (places : ItemPlaces) (cs : List NumberedClass) (own fs ms ls : List ℕ) (all : List (Option (List ℕ))) (from : ℕ) : Type 0 where
+pub record DirectoriesLeft (items : EncodedItems) (cs : List NumberedClass) (own fs ms ls : List ℕ) (all : EncodedItems) : Type 0 where
   pub enough_fields : length (flat_map (λ c. fields_of c.members) cs) ≤ length fs
   pub enough_methods : length (flat_map (λ c. methods_of c.members) cs) ≤ length ms
   pub enough_lists : length (flat_map (λ c. methods_of c.members) cs) ≤ length ls
-  pub encoding : Encoding 4 bytes places (directory_items cs own fs ms ls) all from
+  pub encoded : encode_uses 4 items (directory_items cs own fs ms ls) ≡ all
 
-module _ {bytes : List ℕ} {places : ItemPlaces} {fs ms ls : List ℕ} {all : List (Option (List ℕ))} {from : ℕ} {ffs fms fls ofs oms ols : List ℕ} (cs : List NumberedClass) (own : List ℕ) (i : ℕ) (c : NumberedClass) (x : NumberedMembers) (n k : ℕ)
-    (h : DirectoriesLeft bytes places (drop i cs) (drop i own) fs ms ls all from) (lt : i < length cs) (is : get_or cs i c ≡ c) (members : x ≡ c.members) (many_fields : n ≡ length (fields_of x)) (many_methods : k ≡ length (methods_of x))
+module _ {items all : EncodedItems} {fs ms ls : List ℕ} {ffs fms fls ofs oms ols : List ℕ} (cs : List NumberedClass) (own : List ℕ) (i : ℕ) (c : NumberedClass) (x : NumberedMembers) (n k : ℕ)
+    (h : DirectoriesLeft items (drop i cs) (drop i own) fs ms ls all) (lt : i < length cs) (is : get_or cs i c ≡ c) (members : x ≡ c.members) (many_fields : n ≡ length (fields_of x)) (many_methods : k ≡ length (methods_of x))
     (front_fields : ffs ≡ take n fs) (front_methods : fms ≡ take k ms) (front_lists : fls ≡ take k ls) (back_fields : ofs ≡ drop n fs) (back_methods : oms ≡ drop k ms) (back_lists : ols ≡ drop k ls) where
   fields_are : n ≡ length (fields_of c.members)
   fields_are = many_fields ∙ ap (λ (y : NumberedMembers). length (fields_of y)) members
@@ -154,21 +150,20 @@ module _ {bytes : List ℕ} {places : ItemPlaces} {fs ms ls : List ℕ} {all : L
       let fb : drop nf fs ≡ ofs = ap (λ z. drop z fs) (sym fields_are) ∙ sym back_fields in
       let mb : drop nm ms ≡ oms = ap (λ z. drop z ms) (sym methods_same) ∙ sym back_methods in
       let lb : drop nm ls ≡ ols = ap (λ z. drop z ls) (sym methods_same) ∙ sym back_lists in
-      ap (λ ds. directory_items ds (drop i own) fs ms ls) (next_class cs i c lt is)
+      ap (λ ds. directory_items ds (drop i own) fs ms ls) (drop_next cs i c lt is)
       ∙ (λ j. directory_item (same j) (there j) (ff j) (mf j) (lf j) ∷ directory_items (drop (i + 1) cs) (following j) (fb j) (mb j) (lb j))
 
   -- it fits
-  pub directories_fit : (place_use 4 places (item_len (directory_item x (slice_index own i) ffs fms fls))).end ≤ (place_uses 4 (none_from from) (map item_len all)).end
-  directories_fit = encoding_fits h.encoding (directory_item x (slice_index own i) ffs fms fls) (directory_items (drop (i + 1) cs) (drop (i + 1) own) ofs oms ols) next_directory
+  pub directories_fit : (encode_use 4 items (directory_item x (slice_index own i) ffs fms fls)).places.end ≤ all.places.end
+  directories_fit = use_fits 4 items next_directory h.encoded
 
   -- it was encoded
-  pub directories_more : {more : List ℕ} {next : ItemPlaces} → more ≡ bytes ++ aligned_bytes 4 places.end (directory_item x (slice_index own i) ffs fms fls) → next ≡ place_use 4 places (item_len (directory_item x (slice_index own i) ffs fms fls))
-      → DirectoriesLeft more next (drop (i + 1) cs) (drop (i + 1) own) ofs oms ols all from
-  directories_more eb ep = record {
+  pub directories_more : {more : EncodedItems} → more ≡ encode_use 4 items (directory_item x (slice_index own i) ffs fms fls) → DirectoriesLeft more (drop (i + 1) cs) (drop (i + 1) own) ofs oms ols all
+  directories_more here = record {
     enough_fields = omega (arith, h.enough_fields, next_fields cs i c lt is, fields_are, ap (λ (os : List ℕ). length os) back_fields, length-drop n fs);
     enough_methods = omega (arith, h.enough_methods, next_methods cs i c lt is, methods_same, ap (λ (os : List ℕ). length os) back_methods, length-drop k ms);
     enough_lists = omega (arith, h.enough_lists, next_methods cs i c lt is, methods_same, ap (λ (os : List ℕ). length os) back_lists, length-drop k ls);
-    encoding = encoding_more h.encoding (directory_item x (slice_index own i) ffs fms fls) (directory_items (drop (i + 1) cs) (drop (i + 1) own) ofs oms ols) next_directory eb ep;
+    encoded = use_encoded 4 items next_directory h.encoded here;
   }
 
 -- ---- the offsets of classes
@@ -342,22 +337,9 @@ module _ (m : Mentions) (cs : List NumberedClass) (sets : SetPlaces) (are : AreS
         ∙ ap (λ (ss : List SetOffsets). directory_uses K ss lists) (sym set_parts)
         ∙ sym (own_same (directory_uses K (set_offsets K) lists))
 
-    -- their offsets
-    pub directories_laid : (from : ℕ) → from ≡ end (ref_list_section (ordered_of m cs))
-        → AreLaidSo (uses_offsets (directory_section (ordered_of m cs))) (end (directory_section (ordered_of m cs))) (directory_section (ordered_of m cs)).items (place_uses 4 (none_from from) (map item_len (directory_items cs own fs ms ls)))
+    -- encoded after the lists of sets they are those of the file
+    pub directories_laid : (from : ℕ) → from ≡ end (ref_list_section (ordered_of m cs)) → AreDirectories m cs (encode_uses 4 (no_items_from from) (directory_items cs own fs ms ls))
     unfolding directory_section
-    directories_laid from e =
+    directories_laid from is =
         let K = ordered_of m cs in
-        let item = λ (x : List ℕ). x in
-        let uses = directory_uses K (set_offsets K) (uses_offsets (ref_list_section K)) in
-        let same : map item_len (directory_items cs own fs ms ls) ≡ sizes item uses = ap (map item_len) items_are ∙ own_lens item uses in
-        subst (AreLaidSo (uses_offsets (directory_section K)) (end (directory_section K)) (directory_section K).items)
-        (ap (λ ns. place_uses 4 (none_from (end (ref_list_section K))) ns) (sym same) ∙ ap (λ n. place_uses 4 (none_from n) (map item_len (directory_items cs own fs ms ls))) (sym e))
-        (own_encoded item 4 (end (ref_list_section K)) uses)
-
-    -- their bytes
-    pub directories_bytes : (from : ℕ) → from ≡ end (ref_list_section (ordered_of m cs)) → bytes_from 4 from (present (directory_items cs own fs ms ls)) ≡ section_bytes (directory_section (ordered_of m cs))
-    unfolding directory_section
-    directories_bytes from e =
-        let K = ordered_of m cs in
-        (λ i. bytes_from 4 (e i) (present (items_are i))) ∙ own_bytes (λ (x : List ℕ). x) 4 (end (ref_list_section K)) (directory_uses K (set_offsets K) (uses_offsets (ref_list_section K)))
+        own_in 4 (λ bytes. bytes) AnnotationsDirectories (directory_uses K (set_offsets K) (uses_offsets (ref_list_section K))) is items_are

@@ -8,6 +8,7 @@ use Rattle.dexspec.specs.Mentions.{Mentions}
 use Rattle.dexspec.specs.Placing.{Ordered, SetOffsets, offsets, set_uses, end}
 use Rattle.dexspec.specs.Canonical.{set_items, set_section, set_offsets, annotation_offsets, annotation_section, class_data_section}
 use Rattle.dexspec.specs.Sameness.{same_set}
+use Rattle.dexspec.specs.Sections.{AnnotationSets}
 use Rattle.dexspec.specs.Spellings.{offsets_bytes, annotation_bytes}
 use Rattle.dexspec.proofs.layout.Placements.{length-chunks}
 use Rattle.dexspec.proofs.layout.Places.{length-offsets_from}
@@ -17,11 +18,11 @@ use Rattle.dexval.specs.Numbered.{NumberedSet, annotation_in, set_in}
 use Rattle.dexclass.specs.Numbered.{NumberedClass}
 use Rattle.dexlayout.specs.Places.{EncodedItems, SetPlaces}
 use Rattle.dexlayout.specs.Laid.{ordered_of, AreItemsIn, AreSets}
-use Rattle.dexlayout.specs.internal.Aligned.{encode_uses, no_items_from}
 use Rattle.dexlayout.specs.internal.Collecting.{parts_of_classes, collect_classes}
+use Rattle.dexlayout.specs.internal.Encoding.{encode_uses, no_items_from}
 use Rattle.dexlayout.specs.internal.OffsetLists.{offset_lists, set_item, total}
 use Rattle.dexlayout.specs.internal.Placing.{no_sets}
-use Rattle.dexlayout.proofs.EncodedAfter.{all_bytes, all_laid}
+use Rattle.dexlayout.proofs.EncodedUses.{all_in}
 use Rattle.dexlayout.proofs.OffsetLists.{total_lengths}
 use Rattle.dexlayout.proofs.SetParts.{parts}
 use Rattle.dexlayout.proofs.SetLists.{set_use_offsets, set_offsets_are}
@@ -70,10 +71,7 @@ module _ {X : Type 0} (m : Mentions) (cs : List NumberedClass) (g : X → Number
   unfolding annotation_offsets set_section
   sets_laid from is =
       let K = ordered_of m cs in
-      let start = end (class_data_section K) in
-      let same : encode_uses 4 (no_items_from from) (offset_lists set_item (map (λ x. length (g x)) xs) offs) ≡ encode_uses 4 (no_items_from start) (map set_item (annotation_offsets K)) =
-      λ i. encode_uses 4 (no_items_from (is i)) (offset_lists set_item (counts i) (offsets_are i)) in
-      subst (AreItemsIn (set_section K)) (sym same) (record { bytes_are = all_bytes 4 offsets_bytes start (annotation_offsets K); places_are = all_laid 4 offsets_bytes start (annotation_offsets K) })
+      all_in 4 offsets_bytes AnnotationSets (record { numbers = (set_items K).numbers; written = annotation_offsets K }) is (λ i. offset_lists set_item (counts i) (offsets_are i))
 
 -- ---- numbers
 

@@ -2,7 +2,7 @@
 use Rattle.std.proofs.Common.{◌≡◌, ℕ, ◌+◌, ◌<◌, List, [], ◌∷◌, ◌++◌, length, get_or, map, take, drop, refl, sym, ap, ◌∙◌, arith, append_assoc}
 use Rattle.std.specs.Prelude.{slice_index}
 use Rattle.std.specs.List.{flat_map}
-use Rattle.std.proofs.lemmas.List.{append-nil, length-append, length-map, map-append, take-take, drop-take, drop-drop, get_or-take, drop_more}
+use Rattle.std.proofs.lemmas.List.{append-nil, length-append, length-map, map-append, take-take, drop-take, drop-drop, get_or-take}
 use Rattle.std.proofs.lemmas.Grind.{flat_map-append}
 use Rattle.dexspec.specs.Lists.{chunks}
 use Rattle.dexspec.specs.Classes.{MethodDef, FieldDef, declared_fields, declared_methods}
@@ -13,6 +13,7 @@ use Rattle.dexmembers.specs.Numbered.{NumberedField, NumberedMethod, field_in, m
 use Rattle.dexclass.specs.Numbered.{NumberedClass, definition_of}
 use Rattle.dexlayout.specs.Places.{SetPlaces}
 use Rattle.dexlayout.specs.internal.Collecting.{sets_of_method, sets_of_class, parts_of_methods, parts_of_class, parts_of_classes, collect_own, collect_method, collect_methods, collect_class, collect_classes}
+use Rattle.dexlayout.proofs.OwnSteps.{drop_next}
 use Rattle.dexlayout.proofs.SetParts.{parts, class_count}
 
 -- ---- what has been collected
@@ -75,26 +76,11 @@ parts_both (x ∷ xs) ys offs =
     ap (λ l. take n offs ∷ l) (parts_both xs ys (drop n offs)) ∙ ap (λ l. take n offs ∷ (parts_of_methods xs (drop n offs) ++ parts_of_methods ys l)) k
 
 module _ (xs : List NumberedMethod) (i : ℕ) (x : NumberedMethod) (lt : i < length xs) (is : get_or xs i x ≡ x) where
-  -- a method and those after it
-  next_method : drop i xs ≡ x ∷ drop (i + 1) xs
-  next_method = drop_more xs i x lt ∙ ap (λ y. y ∷ drop (i + 1) xs) is
-
   pub next_parts : (p : SetPlaces) (offs : List ℕ) → collect_methods p (parts_of_methods (drop i xs) offs) ≡ collect_methods (collect_method p (take (length (sets_of_method x)) offs)) (parts_of_methods (drop (i + 1) xs) (drop (length (sets_of_method x)) offs))
-  next_parts p offs = ap (λ l. collect_methods p (parts_of_methods l offs)) next_method
+  next_parts p offs = ap (λ l. collect_methods p (parts_of_methods l offs)) (drop_next xs i x lt is)
 
   pub next_count : length (flat_map sets_of_method (drop i xs)) ≡ length (sets_of_method x) + length (flat_map sets_of_method (drop (i + 1) xs))
-  next_count = ap (λ l. length (flat_map sets_of_method l)) next_method ∙ length-append (sets_of_method x) (flat_map sets_of_method (drop (i + 1) xs))
-
-module _ (cs : List NumberedClass) (i : ℕ) (c : NumberedClass) (lt : i < length cs) (is : get_or cs i c ≡ c) where
-  -- a class and those after it
-  next_class : drop i cs ≡ c ∷ drop (i + 1) cs
-  next_class = drop_more cs i c lt ∙ ap (λ d. d ∷ drop (i + 1) cs) is
-
-  pub next_class_parts : (p : SetPlaces) (offs : List ℕ) → collect_classes p (parts_of_classes (drop i cs) offs) ≡ collect_classes (collect_class p (parts_of_class c offs)) (parts_of_classes (drop (i + 1) cs) (drop (length (sets_of_class c)) offs))
-  next_class_parts p offs = ap (λ l. collect_classes p (parts_of_classes l offs)) next_class
-
-  pub next_class_count : length (flat_map sets_of_class (drop i cs)) ≡ length (sets_of_class c) + length (flat_map sets_of_class (drop (i + 1) cs))
-  next_class_count = ap (λ l. length (flat_map sets_of_class l)) next_class ∙ length-append (sets_of_class c) (flat_map sets_of_class (drop (i + 1) cs))
+  next_count = ap (λ l. length (flat_map sets_of_method l)) (drop_next xs i x lt is) ∙ length-append (sets_of_method x) (flat_map sets_of_method (drop (i + 1) xs))
 
 -- how many sets a class has
 pub class_sets_count : (c : NumberedClass) → length (sets_of_class c) ≡ 1 + (length (fields_of c.members) + length (flat_map sets_of_method (methods_of c.members)))

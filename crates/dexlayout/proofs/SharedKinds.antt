@@ -1,5 +1,5 @@
 -- The kinds of item that uses share, in a whole file: type lists, annotation sets and debug programs.
-use Rattle.std.proofs.Common.{◌≡◌, ℕ, ◌^◌, ◌<◌, ◌≤◌, List, [], ◌∷◌, ◌++◌, length, map, None, Some, refl, sym, ap, subst, ◌∙◌, arith, append_assoc}
+use Rattle.std.proofs.Common.{◌≡◌, ℕ, ◌^◌, ◌<◌, ◌≤◌, List, [], ◌∷◌, ◌++◌, length, map, None, Some, refl, sym, ap, ◌∙◌, arith, append_assoc}
 use Rattle.std.specs.Prelude.{All, IfSome, IsTrue, Option, ◌↔◌}
 use Rattle.std.specs.Borrow.{Bor}
 use Rattle.std.specs.List.{flat_map}
@@ -12,8 +12,9 @@ use Rattle.dexspec.specs.Canonical.{data_start, type_list_items, type_list_secti
 use Rattle.dexspec.specs.Classes.{FieldDef, MethodDef}
 use Rattle.dexspec.specs.Debug.{Debug}
 use Rattle.dexspec.specs.Mentions.{Mentions}
-use Rattle.dexspec.specs.Placing.{offsets, offsets_from, end_from, unless_empty, method_sets, class_sets, type_list_uses, set_uses, debug_uses, all_methods, end}
+use Rattle.dexspec.specs.Placing.{unless_empty, method_sets, class_sets, type_list_uses, set_uses, debug_uses, all_methods, end}
 use Rattle.dexspec.specs.Sameness.{same_types, same_set, same_debug}
+use Rattle.dexspec.specs.Sections.{TypeLists, DebugInfoItems}
 use Rattle.dexspec.specs.Spellings.{type_list_bytes, debug_bytes}
 use Rattle.dexspec.proofs.sharing.Sameness.{types_decide, debug_decides}
 use Rattle.dexcode.specs.Debug.{NumberedDebug, numbered_debug_bytes}
@@ -29,14 +30,15 @@ use Rattle.dexmembers.specs.Numbered.{NumberedField, NumberedMethod, field_in, m
 use Rattle.dexpool.specs.Numberings.{AreRising}
 use Rattle.dexpool.proofs.UnionLaws.{ranks_are_numbers}
 use Rattle.dexclass.specs.Numbered.{NumberedClass, definition_of, type_at}
-use Rattle.dexlayout.specs.Laid.{AreShared, AreTypeLists, AreDebugs, AreWritable, AreLaidSo, ordered_of}
+use Rattle.dexlayout.specs.Laid.{AreShared, AreItemsIn, AreTypeLists, AreDebugs, AreWritable, ordered_of}
 use Rattle.dexlayout.specs.internal.Encoding.{list_bytes}
-use Rattle.dexlayout.specs.internal.Placing.{shared_by, lists_bytes, list_places, debugs_bytes, debug_places}
+use Rattle.dexlayout.specs.internal.Placing.{shared_by, encoded_lists, encoded_debugs}
 use Rattle.dexlayout.specs.internal.SharedUses.{AreTypes, SharesLists, SharesSets, SharesDebugs, interfaces_use, set_use, field_uses, method_uses, methods_uses, members_uses, equal_debugs, debugs_uses}
-use Rattle.dexlayout.proofs.EncodedItems.{encoded_are}
+use Rattle.dexlayout.proofs.EncodedItems.{items_agree}
+use Rattle.dexlayout.proofs.EncodedUses.{all_in}
 use Rattle.dexlayout.proofs.Ends.{end_in_file}
 use Rattle.dexlayout.proofs.ListBytes.{list_bytes_are}
-use Rattle.dexlayout.proofs.SharedPlaces.{written_encoded, uses_encoded, numbers_within, offsets_count}
+use Rattle.dexlayout.proofs.SharedPlaces.{shared_in, numbers_within, offsets_count}
 use Rattle.dexlayout.proofs.SharedSame.{lists_agree, sets_agree, debugs_agree}
 use Rattle.dexlayout.proofs.SharedUses.{shared_are}
 
@@ -54,36 +56,32 @@ module _ (m : Mentions) (cs : List NumberedClass) (w : AreWritable m cs) (from :
   list_is : (ns : List ℕ) → AreTypes m ns → list_bytes ns ≡ type_list_bytes m (map (type_at m) ns)
   list_is ns k = list_bytes_are m ns (ranks_are_numbers m w.numbering.rising) k
 
-  list_len_is : (ns : List ℕ) → AreTypes m ns → length (list_bytes ns) ≡ length (type_list_bytes m (map (type_at m) ns))
-  list_len_is ns k = ap (λ (l : List ℕ). length l) (list_is ns k)
-
-  lists_encoded : AreLaidSo (offsets (type_list_section (ordered_of m cs))) (end (type_list_section (ordered_of m cs))) (type_list_section (ordered_of m cs)).items (list_places from written)
+  lists_encoded : AreItemsIn (type_list_section (ordered_of m cs)) (encoded_lists from written)
   unfolding type_list_section
   lists_encoded =
-      let items = (type_list_section (ordered_of m cs)).items in
-      subst (λ n. AreLaidSo (offsets_from 4 n items) (end_from 4 n items) items (list_places from written)) is
-      (written_encoded 4 from (λ ns. length (list_bytes ns)) (type_list_bytes m) (map (type_at m)) (AreTypes m) written (type_list_items (ordered_of m cs)).written list_len_is known h.written_are)
+      let its = type_list_items (ordered_of m cs) in
+      all_in 4 (type_list_bytes m) TypeLists its is
+      (items_agree list_bytes (type_list_bytes m) (map (type_at m)) (AreTypes m) list_is written known ∙ ap (map (λ ts. Some (type_list_bytes m ts))) h.written_are)
 
   -- they end within the file
-  pub lists_fit : (list_places from written).end ≤ 2 ^ 30
-  lists_fit = omega (arith, lists_encoded.end_is, (end_in_file (ordered_of m cs) w.fits).type_lists)
+  pub lists_fit : (encoded_lists from written).places.end ≤ 2 ^ 30
+  lists_fit = omega (arith, lists_encoded.places_are.end_is, (end_in_file (ordered_of m cs) w.fits).type_lists)
 
   -- each use has the number of one of them
-  pub lists_numbered : All (λ n. IfSome n (λ i. i < length (list_places from written).offsets)) numbers
+  pub lists_numbered : All (λ n. IfSome n (λ i. i < length (encoded_lists from written).places.offsets)) numbers
   unfolding type_list_section
   lists_numbered =
       let items = type_list_items (ordered_of m cs) in
-      numbers_within same_types types_decide (type_list_uses (ordered_of m cs)) numbers (length (list_places from written).offsets) h.numbers_are
-      (offsets_count 4 (data_start (ordered_of m cs)) lists_encoded ∙ length-map items.written (type_list_bytes m))
+      numbers_within same_types types_decide (type_list_uses (ordered_of m cs)) numbers (length (encoded_lists from written).places.offsets) h.numbers_are
+      (offsets_count 4 (data_start (ordered_of m cs)) lists_encoded.places_are ∙ length-map items.written (type_list_bytes m))
+
+  lists_numbers : numbers ≡ (type_list_section (ordered_of m cs)).numbers
+  unfolding type_list_section
+  lists_numbers = h.numbers_are
 
   -- the type lists of the file
-  pub lists_laid : AreTypeLists m cs (shared_by numbers (record { bytes = lists_bytes from written; places = list_places from written }))
-  unfolding type_list_section
-  lists_laid = record {
-    bytes_are = encoded_are 4 from (data_start (ordered_of m cs)) list_bytes (type_list_bytes m) (map (type_at m)) (AreTypes m) written (type_list_items (ordered_of m cs)).written list_is known h.written_are is;
-    count_is = offsets_count 4 (data_start (ordered_of m cs)) lists_encoded;
-    places_are = uses_encoded numbers (type_list_items (ordered_of m cs)).numbers h.numbers_are lists_encoded;
-  }
+  pub lists_laid : AreTypeLists m cs (shared_by numbers (encoded_lists from written))
+  lists_laid = shared_in numbers lists_numbers lists_encoded
 
 -- ---- annotation sets
 
@@ -167,33 +165,29 @@ module _ (m : Mentions) (cs : List NumberedClass) (w : AreWritable m cs) (from :
   debug_code_is : (d : Bor NumberedDebug) → IsKnownDebug m d.now → debug_code d ≡ debug_bytes m (debug_in m d.now)
   debug_code_is d k = bytes_are m d.now (debug_in m d.now) w.numbering.rising (debug_encoded m d.now k)
 
-  debug_len_is : (d : Bor NumberedDebug) → IsKnownDebug m d.now → length (debug_code d) ≡ length (debug_bytes m (debug_in m d.now))
-  debug_len_is d k = ap (λ (l : List ℕ). length l) (debug_code_is d k)
-
-  debugs_encoded : AreLaidSo (offsets (debug_section (ordered_of m cs))) (end (debug_section (ordered_of m cs))) (debug_section (ordered_of m cs)).items (debug_places from written)
+  debugs_encoded : AreItemsIn (debug_section (ordered_of m cs)) (encoded_debugs from written)
   unfolding debug_section
   debugs_encoded =
-      let items = (debug_section (ordered_of m cs)).items in
-      subst (λ n. AreLaidSo (offsets_from 1 n items) (end_from 1 n items) items (debug_places from written)) is
-      (written_encoded 1 from (λ d. length (debug_code d)) (debug_bytes m) (λ d. debug_in m d.now) (λ d. IsKnownDebug m d.now) written (debug_items (ordered_of m cs)).written debug_len_is known h.written_are)
+      let its = debug_items (ordered_of m cs) in
+      all_in 1 (debug_bytes m) DebugInfoItems its is
+      (items_agree debug_code (debug_bytes m) (λ d. debug_in m d.now) (λ d. IsKnownDebug m d.now) debug_code_is written known ∙ ap (map (λ d. Some (debug_bytes m d))) h.written_are)
 
   -- they end within the file
-  pub debugs_fit : (debug_places from written).end ≤ 2 ^ 30
-  debugs_fit = omega (arith, debugs_encoded.end_is, (end_in_file (ordered_of m cs) w.fits).debugs)
+  pub debugs_fit : (encoded_debugs from written).places.end ≤ 2 ^ 30
+  debugs_fit = omega (arith, debugs_encoded.places_are.end_is, (end_in_file (ordered_of m cs) w.fits).debugs)
 
   -- each use has the number of one of them
-  pub debugs_numbered : All (λ n. IfSome n (λ i. i < length (debug_places from written).offsets)) numbers
+  pub debugs_numbered : All (λ n. IfSome n (λ i. i < length (encoded_debugs from written).places.offsets)) numbers
   unfolding debug_section
   debugs_numbered =
       let items = debug_items (ordered_of m cs) in
-      numbers_within same_debug debug_decides (debug_uses (ordered_of m cs)) numbers (length (debug_places from written).offsets) h.numbers_are
-      (offsets_count 1 (end (string_section (ordered_of m cs))) debugs_encoded ∙ length-map items.written (debug_bytes m))
+      numbers_within same_debug debug_decides (debug_uses (ordered_of m cs)) numbers (length (encoded_debugs from written).places.offsets) h.numbers_are
+      (offsets_count 1 (end (string_section (ordered_of m cs))) debugs_encoded.places_are ∙ length-map items.written (debug_bytes m))
+
+  debugs_numbers : numbers ≡ (debug_section (ordered_of m cs)).numbers
+  unfolding debug_section
+  debugs_numbers = h.numbers_are
 
   -- the debug programs of the file
-  pub debugs_laid : AreDebugs m cs (shared_by numbers (record { bytes = debugs_bytes from written; places = debug_places from written }))
-  unfolding debug_section
-  debugs_laid = record {
-    bytes_are = encoded_are 1 from (end (string_section (ordered_of m cs))) debug_code (debug_bytes m) (λ d. debug_in m d.now) (λ d. IsKnownDebug m d.now) written (debug_items (ordered_of m cs)).written debug_code_is known h.written_are is;
-    count_is = offsets_count 1 (end (string_section (ordered_of m cs))) debugs_encoded;
-    places_are = uses_encoded numbers (debug_items (ordered_of m cs)).numbers h.numbers_are debugs_encoded;
-  }
+  pub debugs_laid : AreDebugs m cs (shared_by numbers (encoded_debugs from written))
+  debugs_laid = shared_in numbers debugs_numbers debugs_encoded

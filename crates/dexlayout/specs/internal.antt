@@ -1,6 +1,5 @@
 -- Words of the contracts of private functions: no public contract reaches them.
 pub mod Adding
-pub mod Aligned
 pub mod Annotated
 pub mod Directories
 pub mod Encoding

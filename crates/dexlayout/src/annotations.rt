@@ -1,10 +1,10 @@
 //! The annotations of each annotation set that is written, set by set.
 
-ghost use Rattle.std.specs.Prelude.{◌≡◌, ◌+◌, ◌^◌, ◌≤◌, IfOk, OnOk, length};
+ghost use Rattle.std.specs.Prelude.{◌≡◌, ◌^◌, ◌≤◌, IfOk, OnOk, Some};
 ghost use Rattle.dexval.specs.Code.{annotation_of, set_of};
 ghost use Rattle.dexval.specs.Numbered.{IsKnownAnnotation, IsKnownSet};
-ghost use Rattle.dexlayout.specs.internal.Aligned.{encode_uses, no_items_from, put_item};
 ghost use Rattle.dexlayout.specs.internal.Annotated.{annotation_item, annotation_items, set_annotations};
+ghost use Rattle.dexlayout.specs.internal.Encoding.{encode_use, encode_uses, no_items_from};
 ghost use Rattle.dexlayout.specs.internal.Placing.{AreKnownSets};
 
 use crate::items::Items;
@@ -19,18 +19,15 @@ fn put_next(
     items: &mut Items,
 ) -> Result<(), AllocError>
     requires known { IsKnownAnnotation numbering.now (annotation_of annotation.now) }
-    requires fits { items.old.places.end
-        + length (annotation_item numbering.now (annotation_of annotation.now)) ≤ 2 ^ 30 }
-    ensures { OnOk result (items.new
-        ≡ put_item 1 items.old (annotation_item numbering.now (annotation_of annotation.now))) }
+    requires fits { (encode_use 1 items.old
+        (Some (annotation_item numbering.now (annotation_of annotation.now)))).places.end ≤ 2 ^ 30 }
+    ensures { OnOk result (items.new ≡ encode_use 1 items.old
+        (Some (annotation_item numbering.now (annotation_of annotation.now)))) }
 {
     numbering.is_numbering();
     let before = items.bytes.len();
     put_annotation(annotation, numbering, &mut items.bytes)?;
-    let off = items.places.end();
-    let len = (items.bytes.len() - before) as u32;
-    items.places.put_at(off, len)?;
-    Ok(())
+    items.end_item(before)
 }
 
 // Encodes the annotations of one set after the others.

@@ -1,13 +1,11 @@
 //! Class data.
 
-ghost use Rattle.std.specs.Prelude.{◌≡◌, ◌++◌, ◌^◌, ◌≤◌, IfOk, OnOk, length};
+ghost use Rattle.std.specs.Prelude.{◌≡◌, ◌^◌, ◌≤◌, IfOk, OnOk, length};
 ghost use Rattle.dexmembers.specs.Numbered.{methods_of};
-ghost use Rattle.dexlayout.specs.internal.Encoding.{class_data_item, has_no_members, item_bytes, item_len};
+ghost use Rattle.dexlayout.specs.internal.Encoding.{class_data_item, encode_use, has_no_members};
 ghost use Rattle.dexlayout.specs.internal.Placing.{CanPlaceClassData, PlacedClassData};
-ghost use Rattle.dexlayout.specs.internal.Running.{place_use};
 
 use crate::items::Items;
-use crate::offsets::Offsets;
 use dexclass::Class;
 use dexmembers::Members;
 use std::alloc::{AllocError, Global};
@@ -26,40 +24,30 @@ pub(crate) fn place_class_data(
     ensures { IfOk result (PlacedClassData classes.now code_offs.now from) }
 {
     let mut rest = code_offs;
-    let mut bytes = Vec::new(alloc);
-    let mut places = Offsets::starting_at(alloc, from, classes.len())?;
+    let mut items = Items::starting_at(alloc, from, classes.len())?;
     for class in classes {
         let (offs, others) = rest.split_at(class.members().method_count());
-        put_item(class, offs, &mut bytes, &mut places)?;
+        put_item(class, offs, &mut items)?;
         rest = others;
     }
-    Ok(Items { bytes, places })
+    Ok(items)
 }
 
 // Encodes the data of one class after the others.
-fn put_item(
-    class: &Class<'_>,
-    code_offs: &[u32],
-    bytes: &mut Vec<u8>,
-    places: &mut Offsets,
-) -> Result<(), AllocError>
+fn put_item(class: &Class<'_>, code_offs: &[u32], items: &mut Items) -> Result<(), AllocError>
     requires offsets { length code_offs.now ≡ length (methods_of class.now.members) }
-    requires fits { (place_use 1 places.old (item_len (class_data_item class.now code_offs.now))).end
+    requires fits { (encode_use 1 items.old (class_data_item class.now code_offs.now)).places.end
         ≤ 2 ^ 30 }
-    ensures bytes { OnOk result (bytes.new.items
-        ≡ bytes.old.items ++ item_bytes (class_data_item class.now code_offs.now)) }
-    ensures places { OnOk result (places.new
-        ≡ place_use 1 places.old (item_len (class_data_item class.now code_offs.now))) }
+    ensures { OnOk result (items.new
+        ≡ encode_use 1 items.old (class_data_item class.now code_offs.now)) }
 {
     let members = class.members();
     if has_no_members(members) {
-        places.pass()?;
-        return Ok(());
+        return items.pass();
     }
-    let before = bytes.len();
-    members.put_class_data(code_offs, bytes)?;
-    places.put_next(bytes.len() - before)?;
-    Ok(())
+    let before = items.bytes.len();
+    members.put_class_data(code_offs, &mut items.bytes)?;
+    items.end_item(before)
 }
 
 // Whether a class declares neither fields nor methods.

@@ -1,17 +1,18 @@
 //! Debug programs.
 
-ghost use Rattle.std.specs.Prelude.{◌≡◌, ◌^◌, ◌≤◌, IfOk, MatchOption, None, Some};
+ghost use Rattle.std.specs.Prelude.{◌≡◌, ◌^◌, ◌≤◌, IfOk, MatchOption, None, OnOk, Some};
 ghost use Rattle.dexspec.specs.Placing.{end};
 ghost use Rattle.dexspec.specs.Canonical.{string_section};
 ghost use Rattle.dexspec.specs.Mentions.{Mentions};
+ghost use Rattle.dexcode.specs.Debug.{numbered_debug_bytes};
 ghost use Rattle.dexmembers.specs.Numbered.{AreKnownMembers};
 ghost use Rattle.dexlayout.specs.Laid.{AreDebugs, AreWritable, ordered_of};
 ghost use Rattle.dexlayout.specs.internal.Adding.{AddsUses, AreKnownMethods, members_debugs};
-ghost use Rattle.dexlayout.specs.internal.Placing.{PlacedFrom, HaveDebugs, HaveKnownDebugs, debugs_bytes, debug_places};
+ghost use Rattle.dexlayout.specs.internal.Encoding.{encode_use};
+ghost use Rattle.dexlayout.specs.internal.Placing.{PlacedFrom, HaveDebugs, HaveKnownDebugs, encoded_debugs};
 ghost use Rattle.dexlayout.specs.internal.SharedUses.{SharesDebugs, debug_of, debugs_uses};
 
 use crate::items::{Items, SharedItems};
-use crate::offsets::Offsets;
 use crate::sharing::{Shared, Sharing};
 use dexclass::Class;
 use dexcode::{Debug, debug_equality_law, put_debug};
@@ -72,6 +73,18 @@ fn share_debugs<'p>(
     sharing.finish(alloc)
 }
 
+// Encodes a debug program after the others.
+fn put_next(numbering: &Numbering<'_>, debug: &Debug, items: &mut Items) -> Result<(), AllocError>
+    requires { (encode_use 1 items.old (Some (numbered_debug_bytes debug.now))).places.end
+        ≤ 2 ^ 30 }
+    ensures { OnOk result (items.new
+        ≡ encode_use 1 items.old (Some (numbered_debug_bytes debug.now))) }
+{
+    let before = items.bytes.len();
+    put_debug(debug, numbering, &mut items.bytes)?;
+    items.end_item(before)
+}
+
 // Encodes the debug programs that are written, from an offset on.
 fn encode_written(
     alloc: Global,
@@ -79,18 +92,14 @@ fn encode_written(
     debugs: &[&Debug],
     from: u32,
 ) -> Result<Items, AllocError>
-    requires { (debug_places from debugs.now).end ≤ 2 ^ 30 }
-    ensures bytes { IfOk result (λ items. items.bytes ≡ debugs_bytes from debugs.now) }
-    ensures places { IfOk result (λ items. items.places ≡ debug_places from debugs.now) }
+    requires { (encoded_debugs from debugs.now).places.end ≤ 2 ^ 30 }
+    ensures { IfOk result (λ items. items ≡ encoded_debugs from debugs.now) }
 {
-    let mut bytes = Vec::new(alloc);
-    let mut places = Offsets::starting_at(alloc, from, debugs.len())?;
+    let mut items = Items::starting_at(alloc, from, debugs.len())?;
     for i in 0..debugs.len() {
-        let before = bytes.len();
-        put_debug(debugs[i], numbering, &mut bytes)?;
-        places.put_next(bytes.len() - before)?;
+        put_next(numbering, debugs[i], &mut items)?;
     }
-    Ok(Items { bytes, places })
+    Ok(items)
 }
 
 /// The debug programs, encoded, and their offsets: for each method of each class, the direct ones first. They are after

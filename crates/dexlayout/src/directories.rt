@@ -1,16 +1,14 @@
 //! Annotations directories.
 
-ghost use Rattle.std.specs.Prelude.{◌≡◌, ◌++◌, ◌^◌, ◌≤◌, IfOk, OnOk, length};
+ghost use Rattle.std.specs.Prelude.{◌≡◌, ◌^◌, ◌≤◌, IfOk, OnOk, length};
 ghost use Rattle.dexspec.specs.Placing.{end, uses_offsets};
 ghost use Rattle.dexspec.specs.Canonical.{ref_list_section};
 ghost use Rattle.dexmembers.specs.Numbered.{fields_of, methods_of};
 ghost use Rattle.dexlayout.specs.Laid.{AreWritable, AreSets, ordered_of, AreDirectories};
 ghost use Rattle.dexlayout.specs.internal.Directories.{directory_item};
-ghost use Rattle.dexlayout.specs.internal.Encoding.{aligned_bytes, item_len};
-ghost use Rattle.dexlayout.specs.internal.Running.{place_use};
+ghost use Rattle.dexlayout.specs.internal.Encoding.{encode_use};
 
-use crate::items::{Items, align};
-use crate::offsets::Offsets;
+use crate::items::Items;
 use crate::sets::Sets;
 use dexclass::Class;
 use dexmembers::Members;
@@ -27,28 +25,30 @@ fn encode_directory(
     field_offs: &[u32],
     method_offs: &[u32],
     list_offs: &[u32],
-    bytes: &mut Vec<u8>,
-    places: &mut Offsets,
+    items: &mut Items,
 ) -> Result<(), AllocError>
     requires fields { length field_offs.now ≡ length (fields_of members.now) }
     requires methods { length method_offs.now ≡ length (methods_of members.now) }
     requires lists { length list_offs.now ≡ length (methods_of members.now) }
-    requires fits { (place_use 4 places.old (item_len (directory_item members.now own_off
-        field_offs.now method_offs.now list_offs.now))).end ≤ 2 ^ 30 }
-    ensures bytes { OnOk result (bytes.new.items ≡ bytes.old.items ++ aligned_bytes 4 places.old.end
+    requires fits { (encode_use 4 items.old (directory_item members.now own_off field_offs.now
+        method_offs.now list_offs.now)).places.end ≤ 2 ^ 30 }
+    ensures { OnOk result (items.new ≡ encode_use 4 items.old
         (directory_item members.now own_off field_offs.now method_offs.now list_offs.now)) }
-    ensures places { OnOk result (places.new ≡ place_use 4 places.old (item_len
-        (directory_item members.now own_off field_offs.now method_offs.now list_offs.now))) }
 {
     let len = members.directory_len(field_offs, method_offs, list_offs);
     if own_off == 0 && len == EMPTY_DIRECTORY {
-        places.pass()?;
-        return Ok(());
+        return items.pass();
     }
-    align(bytes, places.end())?;
-    members.put_directory(own_off, field_offs, method_offs, list_offs, bytes)?;
-    places.put_aligned(len)?;
-    Ok(())
+    items.align()?;
+    let before = items.bytes.len();
+    members.put_directory(
+        own_off,
+        field_offs,
+        method_offs,
+        list_offs,
+        &mut items.bytes,
+    )?;
+    items.end_item(before)
 }
 
 /// The annotations directories of the classes, encoded, and their offsets: one for each class. They are after the lists
@@ -74,8 +74,7 @@ pub(crate) fn place_directories(
     let mut fields = sets.fields();
     let mut methods = sets.methods();
     let mut lists = ref_lists;
-    let mut bytes = Vec::new(alloc);
-    let mut places = Offsets::starting_at(alloc, from, classes.len())?;
+    let mut items = Items::starting_at(alloc, from, classes.len())?;
     for i in 0..classes.len() {
         let members = classes[i].members();
         let count = members.method_count();
@@ -88,12 +87,11 @@ pub(crate) fn place_directories(
             field_offs,
             method_offs,
             list_offs,
-            &mut bytes,
-            &mut places,
+            &mut items,
         )?;
         fields = fields_left;
         methods = methods_left;
         lists = lists_left;
     }
-    Ok(Items { bytes, places })
+    Ok(items)
 }

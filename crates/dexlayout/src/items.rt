@@ -1,13 +1,12 @@
 //! Items that are encoded where they are laid out.
 
-ghost use Rattle.std.specs.Prelude.{◌≡◌, ◌+◌, ◌++◌, ◌^◌, ◌<◌, ◌≤◌, All, IfOk, IfSome, OnOk, length};
-ghost use Rattle.dexspec.specs.Bytes as spec;
+ghost use Rattle.std.specs.Prelude.{◌≡◌, ◌++◌, ◌^◌, ◌<◌, ◌≤◌, All, IfOk, IfSome, OnOk, Some, length};
 ghost use Rattle.dexspec.specs.Bytes.{padding};
 ghost use Rattle.dexspec.specs.Spellings.{offsets_bytes};
-ghost use Rattle.dexlayout.specs.internal.Aligned.{no_items_from, pass_use, put_item};
+ghost use Rattle.dexlayout.specs.internal.Encoding.{align_next, encode_use, end_item, no_items_from, pass_use};
 ghost use Rattle.dexlayout.specs.internal.Placing.{shared_by};
 
-use crate::offsets::{Offsets, round_up};
+use crate::offsets::Offsets;
 use crate::sharing::place_shared;
 use dexhead::put_u32;
 use std::alloc::{AllocError, Global};
@@ -60,17 +59,35 @@ impl Items {
         self.places.pass()
     }
 
+    /// Appends the zeros that align the next item to 4 bytes.
+    pub(crate) fn align(&mut self) -> Result<(), AllocError>
+        requires { self.old.places.end < 2 ^ 31 }
+        ensures { OnOk result (self.new ≡ align_next 4 self.old) }
+    {
+        push_zeros(&mut self.bytes, self.places.end())?;
+        self.places.align();
+        Ok(())
+    }
+
+    /// Adds a use whose item has been appended to the bytes: it follows the first `before` of them.
+    pub(crate) fn end_item(&mut self, before: usize) -> Result<(), AllocError>
+        requires begins { before ≤ length self.old.bytes }
+        requires fits { (end_item before self.old).places.end ≤ 2 ^ 30 }
+        ensures { OnOk result (self.new ≡ end_item before self.old) }
+    {
+        self.places.put_next(self.bytes.len() - before)
+    }
+
     /// Encodes a list of offsets after the items before it: how many they are, and each.
     pub(crate) fn put_offsets(&mut self, offsets: &[u32]) -> Result<(), AllocError>
-        requires { spec.round_up 4 self.old.places.end + length (offsets_bytes offsets.now) ≤ 2 ^ 30 }
-        ensures { OnOk result (self.new ≡ put_item 4 self.old (offsets_bytes offsets.now)) }
+        requires { (encode_use 4 self.old (Some (offsets_bytes offsets.now))).places.end ≤ 2 ^ 30 }
+        ensures { OnOk result (self.new
+            ≡ encode_use 4 self.old (Some (offsets_bytes offsets.now))) }
     {
-        let from = self.places.end();
-        align(&mut self.bytes, from)?;
+        self.align()?;
+        let before = self.bytes.len();
         encode_offsets(offsets, &mut self.bytes)?;
-        let len = 4 + 4 * offsets.len() as u32;
-        self.places.put_at(round_up(from), len)?;
-        Ok(())
+        self.end_item(before)
     }
 }
 
@@ -147,8 +164,8 @@ impl SharedItems {
     }
 }
 
-/// Appends the zeros that align what is at an offset to 4 bytes.
-pub(crate) fn align(bytes: &mut Vec<u8>, at: u32) -> Result<(), AllocError>
+// Appends the zeros that align what is at an offset to 4 bytes.
+fn push_zeros(bytes: &mut Vec<u8>, at: u32) -> Result<(), AllocError>
     ensures { OnOk result (bytes.new.items ≡ bytes.old.items ++ padding 4 at) }
 {
     let zeros = [0; 3];

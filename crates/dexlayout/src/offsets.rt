@@ -1,8 +1,8 @@
 //! Where items of one kind begin and end.
 
-ghost use Rattle.std.specs.Prelude.{◌≡◌, ◌+◌, ◌<◌, ◌≤◌, ◌^◌, IfOk, OnOk, Some};
+ghost use Rattle.std.specs.Prelude.{◌≡◌, ◌+◌, ◌<◌, ◌≤◌, ◌^◌, IfOk, OnOk};
 ghost use Rattle.dexspec.specs.Bytes as bytes;
-ghost use Rattle.dexlayout.specs.internal.Running.{none_from, pass, place_use, put_at};
+ghost use Rattle.dexlayout.specs.internal.Running.{align_end, none_from, pass, put_at, put_next};
 
 use std::alloc::{AllocError, Global};
 use std::marker::Model;
@@ -78,18 +78,18 @@ impl Offsets {
 
     /// Adds a use whose item of `len` bytes is at the end of those before it.
     pub(crate) fn put_next(&mut self, len: usize) -> Result<(), AllocError>
-        requires { (place_use 1 self.old (Some len)).end ≤ 2 ^ 30 }
-        ensures { OnOk result (self.new ≡ place_use 1 self.old (Some len)) }
+        requires { self.old.end + len ≤ 2 ^ 30 }
+        ensures { OnOk result (self.new ≡ put_next self.old len) }
     {
         self.put_at(self.end(), len as u32)
     }
 
-    /// The same of an item that is aligned.
-    pub(crate) fn put_aligned(&mut self, len: usize) -> Result<(), AllocError>
-        requires { (place_use 4 self.old (Some len)).end ≤ 2 ^ 30 }
-        ensures { OnOk result (self.new ≡ place_use 4 self.old (Some len)) }
+    /// Moves the end to where the next item is aligned to 4 bytes.
+    pub(crate) fn align(&mut self)
+        requires { self.old.end < 2 ^ 31 }
+        ensures { self.new ≡ align_end 4 self.old }
     {
-        self.put_at(round_up(self.end()), len as u32)
+        self.end = round_up(self.end);
     }
 }
 

@@ -3,7 +3,7 @@
 ghost use Rattle.std.specs.Prelude.{◌≡◌, ◌^◌, ◌≤◌, drop, length, IfOk, OnOk};
 ghost use Rattle.dexmembers.specs.Numbered.{methods_of};
 ghost use Rattle.dexlayout.specs.Laid.{AreWritable, AreRefLists, AreSets};
-ghost use Rattle.dexlayout.specs.internal.Aligned.{encode_use, encode_uses};
+ghost use Rattle.dexlayout.specs.internal.Encoding.{encode_use, encode_uses};
 ghost use Rattle.dexlayout.specs.internal.OffsetLists.{list_item, offset_lists, parameter_counts, total};
 
 use crate::items::Items;

@@ -4,7 +4,7 @@ ghost use Rattle.std.specs.Prelude.{◌≡◌, ◌^◌, ◌≤◌, length, drop,
 ghost use Rattle.std.specs.List.{flat_map};
 ghost use Rattle.dexspec.specs.Placing.{end};
 ghost use Rattle.dexspec.specs.Canonical.{class_data_section};
-ghost use Rattle.dexlayout.specs.internal.Aligned.{encode_uses, no_items_from};
+ghost use Rattle.dexlayout.specs.internal.Encoding.{encode_uses, no_items_from};
 ghost use Rattle.dexlayout.specs.internal.Collecting.{sets_of_method, sets_of_class, parts_of_methods, parts_of_class, collect_own, collect_method, collect_methods, collect_class};
 ghost use Rattle.dexlayout.specs.Laid.{AreWritable, AreAnnotations, AreSets, ordered_of};
 ghost use Rattle.dexlayout.specs.internal.OffsetLists.{annotation_counts, offset_lists, set_item, total};

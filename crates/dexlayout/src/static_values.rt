@@ -1,15 +1,13 @@
 //! The arrays of static values.
 
-ghost use Rattle.std.specs.Prelude.{◌≡◌, ◌++◌, ◌^◌, ◌≤◌, IfOk, OnOk};
+ghost use Rattle.std.specs.Prelude.{◌≡◌, ◌^◌, ◌≤◌, IfOk, OnOk};
 ghost use Rattle.dexspec.specs.Placing.{end};
 ghost use Rattle.dexspec.specs.Canonical.{annotation_section};
 ghost use Rattle.dexclass.specs.Uses.{IsKnownClass};
 ghost use Rattle.dexlayout.specs.Laid.{AreWritable, ordered_of, AreStaticValues};
-ghost use Rattle.dexlayout.specs.internal.Encoding.{item_bytes, item_len, static_item};
-ghost use Rattle.dexlayout.specs.internal.Running.{place_use};
+ghost use Rattle.dexlayout.specs.internal.Encoding.{encode_use, static_item};
 
 use crate::items::Items;
-use crate::offsets::Offsets;
 use dexclass::Class;
 use dexpool::Numbering;
 use dexval::put_statics;
@@ -29,36 +27,30 @@ pub(crate) fn place_static_values(
     requires from { from ≡ end (annotation_section (ordered_of numbering.now classes.now)) }
     ensures { IfOk result (AreStaticValues numbering.now classes.now) }
 {
-    let mut bytes = Vec::new(alloc);
-    let mut places = Offsets::starting_at(alloc, from, classes.len())?;
+    let mut items = Items::starting_at(alloc, from, classes.len())?;
     for class in classes {
-        put_array(numbering, class, &mut bytes, &mut places)?;
+        put_array(numbering, class, &mut items)?;
     }
-    Ok(Items { bytes, places })
+    Ok(items)
 }
 
 // Encodes the array of one class after the others.
 fn put_array(
     numbering: &Numbering<'_>,
     class: &Class<'_>,
-    bytes: &mut Vec<u8>,
-    places: &mut Offsets,
+    items: &mut Items,
 ) -> Result<(), AllocError>
     requires known { IsKnownClass numbering.now class.now }
-    requires fits { (place_use 1 places.old (item_len (static_item numbering.now class.now))).end
+    requires fits { (encode_use 1 items.old (static_item numbering.now class.now)).places.end
         ≤ 2 ^ 30 }
-    ensures bytes { OnOk result (bytes.new.items
-        ≡ bytes.old.items ++ item_bytes (static_item numbering.now class.now)) }
-    ensures places { OnOk result (places.new
-        ≡ place_use 1 places.old (item_len (static_item numbering.now class.now))) }
+    ensures { OnOk result (items.new
+        ≡ encode_use 1 items.old (static_item numbering.now class.now)) }
 {
     let values = class.members().static_values();
     if values.is_empty() {
-        places.pass()?;
-        return Ok(());
+        return items.pass();
     }
-    let before = bytes.len();
-    put_statics(values, numbering, bytes)?;
-    places.put_next(bytes.len() - before)?;
-    Ok(())
+    let before = items.bytes.len();
+    put_statics(values, numbering, &mut items.bytes)?;
+    items.end_item(before)
 }

@@ -1,6 +1,6 @@
 //! Type lists: those of the parameters of protos, and of the interfaces of classes.
 
-ghost use Rattle.std.specs.Prelude.{◌≡◌, ◌+◌, ◌*◌, ◌^◌, ◌<◌, ◌≤◌, ◌++◌, All, IfOk, length, vec_len, vec_capacity};
+ghost use Rattle.std.specs.Prelude.{◌≡◌, ◌+◌, ◌*◌, ◌^◌, ◌<◌, ◌≤◌, ◌++◌, All, IfOk, OnOk, Some, length, vec_len, vec_capacity};
 ghost use Rattle.std.specs.List.{flat_map};
 ghost use Rattle.dexspec.specs.Bytes.{ushort};
 ghost use Rattle.dexspec.specs.Canonical.{data_start};
@@ -8,12 +8,11 @@ ghost use Rattle.dexspec.specs.internal.Writing.{Puts};
 ghost use Rattle.dexlayout.specs.Laid.{AreTypeLists, AreWritable, ordered_of};
 ghost use Rattle.dexlayout.specs.internal.SharedUses.{AreTypes, SharesLists};
 ghost use Rattle.dexlayout.specs.internal.Adding.{AddsUses, AddsParameters, list_uses, AreKnownClasses, interfaces_uses};
-ghost use Rattle.dexlayout.specs.internal.Encoding.{list_bytes};
-ghost use Rattle.dexlayout.specs.internal.Placing.{HaveTypeLists, list_places, lists_bytes};
+ghost use Rattle.dexlayout.specs.internal.Encoding.{encode_use, list_bytes};
+ghost use Rattle.dexlayout.specs.internal.Placing.{HaveTypeLists, encoded_lists};
 
-use crate::items::{Items, SharedItems, align};
+use crate::items::{Items, SharedItems};
 use crate::list_keys::ListKey;
-use crate::offsets::Offsets;
 use crate::sharing::{Shared, Sharing};
 use dexclass::Class;
 use dexhead::{push_u16, push_u32};
@@ -101,22 +100,29 @@ fn put_types(types: &TypeNumbers<'_>, out: &mut Vec<u8>) -> Result<(), AllocErro
     Ok(())
 }
 
+// Encodes a type list after the others.
+fn put_next(list: &TypeNumbers<'_>, items: &mut Items) -> Result<(), AllocError>
+    requires few { All (λ i. i < 65536) list.now }
+    requires fits { (encode_use 4 items.old (Some (list_bytes list.now))).places.end ≤ 2 ^ 30 }
+    ensures { OnOk result (items.new ≡ encode_use 4 items.old (Some (list_bytes list.now))) }
+{
+    items.align()?;
+    let before = items.bytes.len();
+    put_types(list, &mut items.bytes)?;
+    items.end_item(before)
+}
+
 // Encodes the type lists that are written, from an offset on.
 fn encode_written(alloc: Global, lists: &[ListKey<'_>], from: u32) -> Result<Items, AllocError>
     requires few { All (λ list. All (λ i. i < 65536) list) lists.now }
-    requires fits { (list_places from lists.now).end ≤ 2 ^ 30 }
-    ensures bytes { IfOk result (λ items. items.bytes ≡ lists_bytes from lists.now) }
-    ensures places { IfOk result (λ items. items.places ≡ list_places from lists.now) }
+    requires fits { (encoded_lists from lists.now).places.end ≤ 2 ^ 30 }
+    ensures { IfOk result (λ items. items ≡ encoded_lists from lists.now) }
 {
-    let mut bytes = Vec::new(alloc);
-    let mut places = Offsets::starting_at(alloc, from, lists.len())?;
+    let mut items = Items::starting_at(alloc, from, lists.len())?;
     for key in lists {
-        align(&mut bytes, places.end())?;
-        let before = bytes.len();
-        put_types(key.list(), &mut bytes)?;
-        places.put_aligned(bytes.len() - before)?;
+        put_next(key.list(), &mut items)?;
     }
-    Ok(Items { bytes, places })
+    Ok(items)
 }
 
 /// The type lists, encoded, and their offsets: for each proto, and then for each class. They are after the tables.

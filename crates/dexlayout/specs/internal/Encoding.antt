@@ -1,5 +1,5 @@
--- Items that are encoded use by use: what each use has, and how long it is.
-use Rattle.std.specs.Prelude.{ℕ, ◌+◌, Bool, ◌==◌, if◌then◌else◌, List, [], ◌∷◌, ◌++◌, length, take, drop, Option, Some, None}
+-- Items that are encoded use by use, one after the other and aligned; and the item of each use.
+use Rattle.std.specs.Prelude.{ℕ, ◌+◌, ◌-◌, Bool, ◌==◌, if◌then◌else◌, List, [], ◌∷◌, ◌++◌, length, take, drop, Option, Some, None}
 use Rattle.std.specs.List.{flat_map}
 use Rattle.std.specs.Option.{option_map}
 use Rattle.dexspec.specs.Bytes.{ushort, uint, padding}
@@ -10,21 +10,42 @@ use Rattle.dexval.specs.Numbered.{values_in}
 use Rattle.dexmembers.specs.Numbered.{NumberedMembers, fields_of, methods_of}
 use Rattle.dexmembers.specs.Spelled.{numbered_class_data_bytes}
 use Rattle.dexclass.specs.Numbered.{NumberedClass}
+use Rattle.dexlayout.specs.Places.{EncodedItems}
+use Rattle.dexlayout.specs.internal.Running.{none_from, pass, align_end, put_next}
 
--- the bytes of a use's item, or none
-abbrev pub item_bytes : Option (List ℕ) → List ℕ
-item_bytes None = []
-item_bytes (Some item) = item
+-- ---- use by use
 
--- the same at an offset, after the zeros that align the item
-abbrev pub aligned_bytes : ℕ → ℕ → Option (List ℕ) → List ℕ
-aligned_bytes align at None = []
-aligned_bytes align at (Some item) = padding align at ++ item
+-- no items yet: the first will be at `from` or after it
+abbrev pub no_items_from : ℕ → EncodedItems
+no_items_from from = record { bytes = []; places = none_from from }
 
--- how many bytes the item has, if the use has one
-abbrev pub item_len : Option (List ℕ) → Option ℕ
-item_len None = None
-item_len (Some item) = Some (length item)
+-- a use more, without an item
+abbrev pub pass_use : EncodedItems → EncodedItems
+pass_use p = record { bytes = p.bytes; places = pass p.places }
+
+-- the zeros that align the next item
+abbrev pub align_next : ℕ → EncodedItems → EncodedItems
+align_next align p = record { bytes = p.bytes ++ padding align p.places.end; places = align_end align p.places }
+
+-- a use more, whose item is after those before it
+abbrev pub put_item : EncodedItems → List ℕ → EncodedItems
+put_item p item = record { bytes = p.bytes ++ item; places = put_next p.places (length item) }
+
+-- a use more, whose item is the bytes that follow the first `before`
+abbrev pub end_item : ℕ → EncodedItems → EncodedItems
+end_item before p = record { bytes = p.bytes; places = put_next p.places (length p.bytes - before) }
+
+-- a use more, aligned if it has an item
+abbrev pub encode_use : ℕ → EncodedItems → Option (List ℕ) → EncodedItems
+encode_use align p None = pass_use p
+encode_use align p (Some item) = put_item (align_next align p) item
+
+-- uses, one after the other
+abbrev pub encode_uses : ℕ → EncodedItems → List (Option (List ℕ)) → EncodedItems
+encode_uses align p [] = p
+encode_uses align p (u ∷ us) = encode_uses align (encode_use align p u) us
+
+-- ---- the items of uses
 
 -- a type_list of numbers
 abbrev pub list_bytes : List ℕ → List ℕ

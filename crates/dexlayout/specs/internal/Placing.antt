@@ -6,7 +6,7 @@ use Rattle.std.specs.List.{flat_map}
 use Rattle.dexspec.specs.Texts.{string_data}
 use Rattle.dexspec.specs.Mentions.{Mentions}
 use Rattle.dexspec.specs.Sections.{Section, HeaderItem, MapList}
-use Rattle.dexspec.specs.Placing.{Ordered, bytes_from, offsets_from, end_from, uses_offsets, end, Placed}
+use Rattle.dexspec.specs.Placing.{Ordered, offsets_from, end_from, uses_offsets, end, Placed}
 use Rattle.dexspec.specs.Canonical.{data_start, data_sections, type_list_items, set_items, debug_items, code_section, placed_tables}
 use Rattle.dexhead.specs.declared.head.Head.{Head}
 use Rattle.dexhead.specs.declared.map_list.MapEntry.{MapEntry}
@@ -24,8 +24,7 @@ use Rattle.dexlayout.specs.declared.tables.Tables.{Tables}
 use Rattle.dexlayout.specs.Places.{ItemPlaces, EncodedItems, EncodedSharedItems, SetPlaces}
 use Rattle.dexlayout.specs.Laid.{ordered_of, greatest_in, AreWritable, AreLaidSo, AreClassData, AreShared}
 use Rattle.dexlayout.specs.internal.Parts.{AreTables, AreData, entry_of, section_parts}
-use Rattle.dexlayout.specs.internal.Running.{none_from, place_uses}
-use Rattle.dexlayout.specs.internal.Encoding.{list_bytes}
+use Rattle.dexlayout.specs.internal.Encoding.{encode_uses, list_bytes, no_items_from}
 
 -- ---- sections
 
@@ -61,13 +60,9 @@ shared_by numbers written = record { bytes = written.bytes; count = length writt
 
 -- ---- type lists
 
--- their bytes from the offset on
-abbrev pub lists_bytes : ℕ → List (List ℕ) → List ℕ
-lists_bytes from lists = bytes_from 4 from (map list_bytes lists)
-
--- their offsets
-abbrev pub list_places : ℕ → List (List ℕ) → ItemPlaces
-list_places from lists = place_uses 4 (none_from from) (map (λ list. Some (length (list_bytes list))) lists)
+-- the lists from the offset on
+abbrev pub encoded_lists : ℕ → List (List ℕ) → EncodedItems
+encoded_lists from lists = encode_uses 4 (no_items_from from) (map (λ list. Some (list_bytes list)) lists)
 
 -- the type lists are those of the file of these classes
 abbrev pub HaveTypeLists : Mentions → List NumberedClass → Shared (List ℕ) → Type 0
@@ -105,13 +100,9 @@ HaveDebugs cs shared = (m : Mentions) → AreWritable m cs → AreShared (λ d. 
 abbrev pub HaveKnownDebugs : List NumberedClass → Shared (Bor NumberedDebug) → Type 0
 HaveKnownDebugs cs shared = (m : Mentions) → AreWritable m cs → All (λ d. IsKnownDebug m d.now) shared.written.items
 
--- their bytes from the offset on
-abbrev pub debugs_bytes : ℕ → List (Bor NumberedDebug) → List ℕ
-debugs_bytes from debugs = bytes_from 1 from (map (λ debug. numbered_debug_bytes debug.now) debugs)
-
--- their offsets
-abbrev pub debug_places : ℕ → List (Bor NumberedDebug) → ItemPlaces
-debug_places from debugs = place_uses 1 (none_from from) (map (λ debug. Some (length (numbered_debug_bytes debug.now))) debugs)
+-- the debug programs from the offset on
+abbrev pub encoded_debugs : ℕ → List (Bor NumberedDebug) → EncodedItems
+encoded_debugs from debugs = encode_uses 1 (no_items_from from) (map (λ debug. Some (numbered_debug_bytes debug.now)) debugs)
 
 -- ---- the header and the map
 

@@ -15,10 +15,18 @@ pass p = record { offsets = p.offsets ++ 0 ∷ []; end = p.end; greatest = p.gre
 abbrev pub put_at : ItemPlaces → ℕ → ℕ → ItemPlaces
 put_at p off len = record { offsets = p.offsets ++ off ∷ []; end = off + len; greatest = max p.greatest len }
 
--- a use more, by the number of its bytes if it has an item
+-- a use more, whose item of `len` bytes is after those before it
+abbrev pub put_next : ItemPlaces → ℕ → ItemPlaces
+put_next p len = put_at p p.end len
+
+-- the end where the next item is aligned
+abbrev pub align_end : ℕ → ItemPlaces → ItemPlaces
+align_end align p = record { offsets = p.offsets; end = round_up align p.end; greatest = p.greatest }
+
+-- a use more, by the number of its bytes if it has an item, which is aligned
 abbrev pub place_use : ℕ → ItemPlaces → Option ℕ → ItemPlaces
 place_use align p None = pass p
-place_use align p (Some len) = put_at p (round_up align p.end) len
+place_use align p (Some len) = put_next (align_end align p) len
 
 -- uses, one after the other
 abbrev pub place_uses : ℕ → ItemPlaces → List (Option ℕ) → ItemPlaces

@@ -1,5 +1,5 @@
 use Rattle.std.proofs.Common.{◌≡◌, drop}
-use Rattle.dexlayout.specs.internal.Aligned.{encode_uses, no_items_from}
+use Rattle.dexlayout.specs.internal.Encoding.{encode_uses, no_items_from}
 use Rattle.dexlayout.specs.internal.Annotated.{set_annotations}
 use Rattle.dexlayout.proofs.annotations.place_annotations.Given as goal
 

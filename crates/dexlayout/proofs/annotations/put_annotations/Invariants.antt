@@ -1,6 +1,6 @@
 use Rattle.std.proofs.Common.{◌≡◌, map, drop, Some}
 use Rattle.dexval.specs.Code.{annotation_of, set_of}
-use Rattle.dexlayout.specs.internal.Aligned.{encode_uses}
+use Rattle.dexlayout.specs.internal.Encoding.{encode_uses}
 use Rattle.dexlayout.specs.internal.Annotated.{annotation_item, annotation_items}
 use Rattle.dexlayout.proofs.annotations.put_annotations.Given as goal
 

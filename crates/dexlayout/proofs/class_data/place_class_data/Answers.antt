@@ -1,12 +1,10 @@
-use Rattle.std.proofs.Common.{◌≡◌, ◌+◌, ◌++◌, [], ◌∷◌, length, drop, arith, ap, sym, subst, ◌∙◌}
+use Rattle.std.proofs.Common.{◌≡◌, ◌+◌, [], ◌∷◌, length, drop, arith, ap, sym, subst, ◌∙◌}
 use Rattle.std.proofs.lemmas.List.{drop_all}
-use Rattle.dexspec.specs.Placing.{end, uses_offsets}
-use Rattle.dexspec.specs.Canonical.{class_data_section}
 use Rattle.dexmembers.specs.Numbered.{NumberedMembers, methods_of}
-use Rattle.dexlayout.specs.Laid.{AreLaidSo, ordered_of}
-use Rattle.dexlayout.specs.internal.Encoding.{class_data_item, class_data_items}
-use Rattle.dexlayout.proofs.DataItems.{data_laid, data_bytes, data_split, data_rest}
-use Rattle.dexlayout.proofs.EncodedUses.{encoding_none, encoding_fits, encoding_more, encoded_bytes, encoded_places, plain_bytes}
+use Rattle.dexlayout.specs.Laid.{AreClassData, ordered_of}
+use Rattle.dexlayout.specs.internal.Encoding.{class_data_item, class_data_items, encode_uses}
+use Rattle.dexlayout.proofs.DataItems.{data_laid, data_split, data_rest}
+use Rattle.dexlayout.proofs.EncodedUses.{all_encoded_by, use_encoded, use_fits}
 use Rattle.dexlayout.proofs.Ends.{end_in_file}
 use Rattle.dexlayout.proofs.OwnSizes.{code_offsets_count}
 use Rattle.dexlayout.proofs.class_data.place_class_data.Goals as goal
@@ -15,7 +13,7 @@ use Rattle.dexlayout.proofs.class_data.place_class_data.Goals.{After-split_at}
 pub loop-class-init : goal.loop-class-init
 loop-class-init c = record {
   count = code_offsets_count c.requires.0 c.args.classes.now c.args.code_offs.now c.requires.2;
-  encoding = encoding_none 1 (class_data_items c.args.classes.now c.args.code_offs.now) c.args.from c.new-bytes.ensures.items c.in_ok-places.ensures;
+  encoded = ap (λ p. encode_uses 1 p (class_data_items c.args.classes.now c.args.code_offs.now)) c.in_ok-items.ensures;
 }
 
 -- as many methods as the class declares
@@ -35,29 +33,21 @@ put_item-requires-clause-fits c =
     let cs = c.args.classes.now in
     omega (
       arith,
-      encoding_fits c.loop-class.invariant.encoding (class_data_item c.class-item.result c.split_at.result.0.now) (class_data_items (drop (c.loop-class.class-index + 1) cs) c.split_at.result.1.now)
-          (next (goal.at.put_item-requires-clause-fits c).After-split_at),
-      (data_laid c.requires.0 cs c.requires.1 c.args.code_offs.now c.requires.2 c.args.from c.requires.3).end_is,
+      use_fits 1 c.loop-class.items (next (goal.at.put_item-requires-clause-fits c).After-split_at) c.loop-class.invariant.encoded,
+      (data_laid c.requires.0 cs c.requires.1 c.args.code_offs.now c.requires.2 c.args.from c.requires.3).places_are.end_is,
       (end_in_file (ordered_of c.requires.0 cs) c.requires.1.fits).class_data,
     )
 
 pub loop-class-preserved : goal.loop-class-preserved
 loop-class-preserved c =
     let here = (goal.at.loop-class-preserved c).After-split_at in
-    let cs = c.args.classes.now in
-    let i = c.loop-class.class-index in
     record {
-      count = data_rest cs i c.class-item.result c.loop-class-test.true (sym c.class-item.is) c.method_count.result (count_is here) c.loop-class.rest.now c.split_at.result.1.now c.split_at.ensures.back c.loop-class.invariant.count;
-      encoding = encoding_more c.loop-class.invariant.encoding (class_data_item c.class-item.result c.split_at.result.0.now) (class_data_items (drop (i + 1) cs) c.split_at.result.1.now) (next here)
-          (c.in_ok-put_item.ensures.bytes ∙ ap (λ bs. c.loop-class.bytes.items ++ bs) (plain_bytes c.loop-class.places.end (class_data_item c.class-item.result c.split_at.result.0.now))) c.in_ok-put_item.ensures.places;
+      count = data_rest c.args.classes.now c.loop-class.class-index c.class-item.result c.loop-class-test.true (sym c.class-item.is) c.method_count.result (count_is here) c.loop-class.rest.now c.split_at.result.1.now c.split_at.ensures.back c.loop-class.invariant.count;
+      encoded = use_encoded 1 c.loop-class.items (next here) c.loop-class.invariant.encoded c.in_ok-put_item.ensures;
     }
 
 pub returns : goal.returns
 returns c = λ m w eo e.
     let cs = c.args.classes.now in
-    let K = ordered_of m cs in
     let none : class_data_items (drop c.loop-class.class-index cs) c.loop-class.rest.now ≡ [] = ap (λ ks. class_data_items ks c.loop-class.rest.now) (drop_all c.loop-class.class-index cs c.loop-class-test.false) in
-    record {
-      bytes_are = encoded_bytes c.loop-class.invariant.encoding none ∙ data_bytes m cs w c.args.code_offs.now eo c.args.from e;
-      places_are = subst (AreLaidSo (uses_offsets (class_data_section K)) (end (class_data_section K)) (class_data_section K).items) (sym (encoded_places c.loop-class.invariant.encoding none)) (data_laid m cs w c.args.code_offs.now eo c.args.from e);
-    }
+    subst (AreClassData m cs) (sym (all_encoded_by 1 none c.loop-class.invariant.encoded)) (data_laid m cs w c.args.code_offs.now eo c.args.from e)

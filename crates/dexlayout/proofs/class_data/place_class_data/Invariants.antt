@@ -1,7 +1,7 @@
 use Rattle.std.proofs.Common.{drop}
-use Rattle.dexlayout.specs.internal.Encoding.{class_data_items}
+use Rattle.dexlayout.specs.internal.Encoding.{class_data_items, encode_uses, no_items_from}
 use Rattle.dexlayout.proofs.DataItems.{DataLeft}
 use Rattle.dexlayout.proofs.class_data.place_class_data.Given as goal
 
 abbrev pub invariant-loop-class : goal.invariant-loop-class
-invariant-loop-class l = DataLeft l.bytes.items l.places (drop l.class-index l.classes) l.rest (class_data_items l.classes l.fn.code_offs) l.fn.from
+invariant-loop-class l = DataLeft l.items (drop l.class-index l.classes) l.rest (encode_uses 1 (no_items_from l.fn.from) (class_data_items l.classes l.fn.code_offs))

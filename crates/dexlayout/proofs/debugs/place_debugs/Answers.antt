@@ -3,7 +3,7 @@ use Rattle.std.specs.Prelude.{All, IfSome}
 use Rattle.std.proofs.lemmas.Result.{IfOk-weaker}
 use Rattle.dexlayout.specs.Laid.{AreDebugs}
 use Rattle.dexlayout.specs.Places.{EncodedItems}
-use Rattle.dexlayout.specs.internal.Placing.{debug_places, debugs_bytes, shared_by}
+use Rattle.dexlayout.specs.internal.Placing.{encoded_debugs, shared_by}
 use Rattle.dexlayout.proofs.SharedKinds.{debugs_fit, debugs_numbered, debugs_laid}
 use Rattle.dexlayout.proofs.debugs.place_debugs.Goals as goal
 use Rattle.dexlayout.proofs.debugs.place_debugs.Goals.{In_ok-items}
@@ -13,15 +13,12 @@ encode_written-requires c =
     let s = c.in_ok-shared.shared in
     let m = c.requires.0 in
     let w = c.requires.1 in
-    subst (λ ws. (debug_places c.args.from ws).end ≤ 2 ^ 30) (sym c.deref.ensures.value)
+    subst (λ ws. (encoded_debugs c.args.from ws).places.end ≤ 2 ^ 30) (sym c.deref.ensures.value)
     (debugs_fit m c.args.classes.now w c.args.from c.requires.2 s.written.items s.numbers.items (c.in_ok-shared.ensures.known m w) (c.in_ok-shared.ensures.shared m w))
 
 -- those that are written
-items_are : (c : In_ok-items) → c.in_ok-items.items ≡ record { bytes = debugs_bytes c.args.from c.in_ok-shared.shared.written.items; places = debug_places c.args.from c.in_ok-shared.shared.written.items }
-items_are c =
-    let bytes = c.in_ok-items.ensures.bytes ∙ ap (debugs_bytes c.args.from) c.deref.ensures.value in
-    let places = c.in_ok-items.ensures.places ∙ ap (debug_places c.args.from) c.deref.ensures.value in
-    λ i. record { bytes = bytes i; places = places i }
+items_are : (c : In_ok-items) → c.in_ok-items.items ≡ encoded_debugs c.args.from c.in_ok-shared.shared.written.items
+items_are c = c.in_ok-items.ensures ∙ ap (encoded_debugs c.args.from) c.deref.ensures.value
 
 pub of-requires : goal.of-requires
 of-requires c =

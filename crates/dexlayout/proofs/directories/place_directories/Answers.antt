@@ -1,12 +1,11 @@
-use Rattle.std.proofs.Common.{◌≡◌, ℕ, List, [], length, drop, sym, ap, subst, ◌∙◌, arith}
+use Rattle.std.proofs.Common.{◌≡◌, ℕ, List, [], length, drop, sym, ap, subst, arith}
 use Rattle.std.proofs.lemmas.List.{drop_all}
-use Rattle.dexspec.specs.Placing.{end, uses_offsets}
-use Rattle.dexspec.specs.Canonical.{directory_section}
 use Rattle.dexlayout.specs.internal.Directories.{directory_items}
-use Rattle.dexlayout.specs.Laid.{ordered_of, AreLaidSo}
-use Rattle.dexlayout.proofs.EncodedUses.{encoding_none, encoded_bytes, encoded_places}
+use Rattle.dexlayout.specs.internal.Encoding.{encode_uses}
+use Rattle.dexlayout.specs.Laid.{ordered_of, AreDirectories}
+use Rattle.dexlayout.proofs.EncodedUses.{all_encoded_by}
 use Rattle.dexlayout.proofs.Ends.{end_in_file}
-use Rattle.dexlayout.proofs.SetDirectories.{directories_fit, directories_more, directories_laid, directories_bytes, own_count, field_count, method_count, length-ref_list_offsets}
+use Rattle.dexlayout.proofs.SetDirectories.{directories_fit, directories_more, directories_laid, own_count, field_count, method_count, length-ref_list_offsets}
 use Rattle.dexlayout.proofs.directories.place_directories.Goals as goal
 
 pub loop-i-init : goal.loop-i-init
@@ -19,7 +18,7 @@ loop-i-init c =
       enough_fields = omega (arith, ap (λ (l : List ℕ). length l) c.fields-fields.ensures, field_count m cs sets are);
       enough_methods = omega (arith, ap (λ (l : List ℕ). length l) c.methods-methods.ensures, method_count m cs sets are);
       enough_lists = omega (arith, ap (λ (l : List ℕ). length l) c.requires.lists, length-ref_list_offsets m cs);
-      encoding = encoding_none 4 (directory_items cs c.own-own.result.now c.fields-fields.result.now c.methods-methods.result.now c.args.ref_lists.now) c.args.from c.new-bytes.ensures.items c.in_ok-places.ensures;
+      encoded = ap (λ p. encode_uses 4 p (directory_items cs c.own-own.result.now c.fields-fields.result.now c.methods-methods.result.now c.args.ref_lists.now)) c.in_ok-items.ensures;
     }
 
 pub bounds-own-i : goal.bounds-own-i
@@ -37,7 +36,7 @@ encode_directory-requires-clause-fits c =
       arith,
       directories_fit cs c.own-own.result.now c.loop-i.i c.index-classes-i.result c.members-members.result.now c.field_count.result c.method_count-count.result c.loop-i.invariant c.loop-i-test.true (sym c.index-classes-i.is) c.members-members.ensures
           c.field_count.ensures c.method_count-count.ensures c.split_at.ensures.front c.split_at-in-loop-i.ensures.front c.split_at-in-loop-i-2.ensures.front c.split_at.ensures.back c.split_at-in-loop-i.ensures.back c.split_at-in-loop-i-2.ensures.back,
-      laid.end_is,
+      laid.places_are.end_is,
       (end_in_file (ordered_of m cs) w.fits).directories,
     )
 
@@ -45,25 +44,16 @@ pub loop-i-preserved : goal.loop-i-preserved
 loop-i-preserved c =
     directories_more c.args.classes.now c.own-own.result.now c.loop-i.i c.index-classes-i.result c.members-members.result.now c.field_count.result c.method_count-count.result c.loop-i.invariant c.loop-i-test.true (sym c.index-classes-i.is) c.members-members.ensures
     c.field_count.ensures c.method_count-count.ensures c.split_at.ensures.front c.split_at-in-loop-i.ensures.front c.split_at-in-loop-i-2.ensures.front c.split_at.ensures.back c.split_at-in-loop-i.ensures.back c.split_at-in-loop-i-2.ensures.back
-    c.in_ok-encode_directory.ensures.bytes c.in_ok-encode_directory.ensures.places
+    c.in_ok-encode_directory.ensures
 
 pub returns : goal.returns
 returns c =
     let m = c.args.numbering.now in
     let cs = c.args.classes.now in
-    let K = ordered_of m cs in
     let w = c.requires.classes in
-    let ranks = c.number_law.ensures m w.numbering.rising in
-    let left = c.loop-i.invariant.encoding in
     let own = c.own-own.result.now in
-    let fs = c.fields-fields.result.now in
-    let ms = c.methods-methods.result.now in
-    let ls = c.args.ref_lists.now in
     let none : directory_items (drop c.loop-i.i cs) (drop c.loop-i.i own) c.loop-i.fields.now c.loop-i.methods.now c.loop-i.lists.now ≡ [] =
     ap (λ ds. directory_items ds (drop c.loop-i.i own) c.loop-i.fields.now c.loop-i.methods.now c.loop-i.lists.now) (drop_all c.loop-i.i cs c.loop-i-test.false) in
-    record {
-      bytes_are = encoded_bytes left none
-          ∙ directories_bytes m cs c.args.sets.now c.requires.sets w ranks own fs ms ls c.own-own.ensures c.fields-fields.ensures c.methods-methods.ensures c.requires.lists c.args.from c.requires.from;
-      places_are = subst (AreLaidSo (uses_offsets (directory_section K)) (end (directory_section K)) (directory_section K).items) (sym (encoded_places left none))
-          (directories_laid m cs c.args.sets.now c.requires.sets w ranks own fs ms ls c.own-own.ensures c.fields-fields.ensures c.methods-methods.ensures c.requires.lists c.args.from c.requires.from);
-    }
+    subst (AreDirectories m cs) (sym (all_encoded_by 4 none c.loop-i.invariant.encoded))
+    (directories_laid m cs c.args.sets.now c.requires.sets w (c.number_law.ensures m w.numbering.rising) own c.fields-fields.result.now c.methods-methods.result.now c.args.ref_lists.now
+    c.own-own.ensures c.fields-fields.ensures c.methods-methods.ensures c.requires.lists c.args.from c.requires.from)

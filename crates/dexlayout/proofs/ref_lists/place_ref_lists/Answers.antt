@@ -3,10 +3,11 @@ use Rattle.std.proofs.lemmas.List.{drop_all}
 use Rattle.dexmembers.specs.Numbered.{methods_of}
 use Rattle.dexlayout.specs.Laid.{ordered_of, AreRefLists}
 use Rattle.dexlayout.specs.Places.{ItemPlaces, EncodedItems}
-use Rattle.dexlayout.specs.internal.Aligned.{encode_uses, no_items_from}
-use Rattle.dexlayout.specs.internal.OffsetLists.{class_parameter_counts, list_item, offset_lists, parameter_counts}
+use Rattle.dexlayout.specs.internal.Encoding.{encode_uses, no_items_from}
+use Rattle.dexlayout.specs.internal.OffsetLists.{class_parameter_counts, list_item, offset_lists, parameter_counts, total}
+use Rattle.dexlayout.proofs.EncodedUses.{all_encoded_by, uses_encoded, uses_fit}
 use Rattle.dexlayout.proofs.Ends.{end_in_file}
-use Rattle.dexlayout.proofs.OffsetLists.{class_counts, lists_enough, enough_after, next_lists, lists_fit}
+use Rattle.dexlayout.proofs.OffsetLists.{class_counts, lists_enough, enough_after, next_lists}
 use Rattle.dexlayout.proofs.RefLists.{parameters_enough, ref_lists_laid}
 use Rattle.dexlayout.proofs.ref_lists.place_ref_lists.Goals as goal
 use Rattle.dexlayout.proofs.ref_lists.place_ref_lists.Goals.{In_ok-items}
@@ -37,12 +38,15 @@ put_class_lists-requires-clause-fits c =
     let cs = c.args.classes.now in
     let i = c.loop-class.class-index in
     let k = c.class-item.result in
-    let counts = class_counts cs i k c.loop-class-test.true (sym c.class-item.is) in
+    let ms = parameter_counts (methods_of k.members) in
+    let ns = class_parameter_counts (drop (i + 1) cs) in
+    let rest = c.loop-class.rest.now in
+    let next = next_lists ms ns rest (class_counts cs i k c.loop-class-test.true (sym c.class-item.is)) refl list_item in
     let whole = c.loop-class.invariant.encoded ∙ ap (λ offs. encode_uses 4 c.in_ok-items.items (offset_lists list_item (class_parameter_counts cs) offs)) c.parameters-rest.ensures
     ∙ all_are (goal.at.put_class_lists-requires-clause-fits c).In_ok-items in
     omega (
       arith,
-      lists_fit (parameter_counts (methods_of k.members)) (class_parameter_counts (drop (i + 1) cs)) c.loop-class.rest.now list_item c.loop-class.items counts whole,
+      uses_fit 4 c.loop-class.items (offset_lists list_item ms rest) (offset_lists list_item ns (drop (total ms) rest)) next whole,
       (ref_lists_laid m cs c.requires.sets).places_are.end_is,
       (end_in_file (ordered_of m cs) c.requires.classes.fits).ref_lists,
     )
@@ -51,19 +55,21 @@ pub loop-class-preserved : goal.loop-class-preserved
 loop-class-preserved c =
     let cs = c.args.classes.now in
     let i = c.loop-class.class-index in
+    let ms = parameter_counts (methods_of c.class-item.result.members) in
+    let ns = class_parameter_counts (drop (i + 1) cs) in
+    let rest = c.loop-class.rest.now in
     let counts = class_counts cs i c.class-item.result c.loop-class-test.true (sym c.class-item.is) in
     let back = c.in_ok-rest.ensures.left in
     record {
-      encoded = ap (λ p. encode_uses 4 p (offset_lists list_item (class_parameter_counts (drop (i + 1) cs)) c.in_ok-rest.rest.now)) c.in_ok-rest.ensures.encoded
-          ∙ sym (next_lists (parameter_counts (methods_of c.class-item.result.members)) (class_parameter_counts (drop (i + 1) cs)) c.loop-class.rest.now counts back list_item c.loop-class.items) ∙ c.loop-class.invariant.encoded;
-      enough = enough_after (parameter_counts (methods_of c.class-item.result.members)) (class_parameter_counts (drop (i + 1) cs)) c.loop-class.rest.now counts back c.loop-class.invariant.enough;
+      encoded = uses_encoded 4 c.loop-class.items (offset_lists list_item ms rest) (offset_lists list_item ns c.in_ok-rest.rest.now) (next_lists ms ns rest counts back list_item) c.loop-class.invariant.encoded c.in_ok-rest.ensures.encoded;
+      enough = enough_after ms ns rest counts back c.loop-class.invariant.enough;
     }
 
 pub returns : goal.returns
 returns c =
     let m = c.args.numbering.now in
     let cs = c.args.classes.now in
-    let done = sym (ap (λ ks. encode_uses 4 c.loop-class.items (offset_lists list_item (class_parameter_counts ks) c.loop-class.rest.now)) (drop_all c.loop-class.class-index cs c.loop-class-test.false)) in
-    let whole = done ∙ c.loop-class.invariant.encoded ∙ ap (λ offs. encode_uses 4 c.in_ok-items.items (offset_lists list_item (class_parameter_counts cs) offs)) c.parameters-rest.ensures
+    let none = ap (λ ks. offset_lists list_item (class_parameter_counts ks) c.loop-class.rest.now) (drop_all c.loop-class.class-index cs c.loop-class-test.false) in
+    let whole = all_encoded_by 4 none c.loop-class.invariant.encoded ∙ ap (λ offs. encode_uses 4 c.in_ok-items.items (offset_lists list_item (class_parameter_counts cs) offs)) c.parameters-rest.ensures
     ∙ all_are (goal.at.returns c).In_ok-items in
     subst (AreRefLists m cs) (sym whole) (ref_lists_laid m cs c.requires.sets)

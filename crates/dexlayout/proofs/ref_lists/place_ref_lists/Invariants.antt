@@ -1,5 +1,5 @@
 use Rattle.std.proofs.Common.{◌≡◌, ◌≤◌, length, drop}
-use Rattle.dexlayout.specs.internal.Aligned.{encode_uses}
+use Rattle.dexlayout.specs.internal.Encoding.{encode_uses}
 use Rattle.dexlayout.specs.internal.OffsetLists.{class_parameter_counts, list_item, offset_lists, total}
 use Rattle.dexlayout.proofs.ref_lists.place_ref_lists.Given as goal
 

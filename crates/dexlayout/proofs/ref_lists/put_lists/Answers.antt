@@ -1,10 +1,10 @@
-use Rattle.std.proofs.Common.{◌≡◌, ℕ, ◌+◌, List, length, drop, refl, sym, ap, ◌∙◌, arith}
+use Rattle.std.proofs.Common.{◌≡◌, ℕ, List, length, drop, refl, sym, ap, ◌∙◌, arith}
 use Rattle.std.proofs.lemmas.List.{drop_all}
 use Rattle.dexval.specs.Numbered.{NumberedSet}
 use Rattle.dexmembers.specs.Numbered.{NumberedMethod}
-use Rattle.dexlayout.specs.internal.Aligned.{encode_uses}
 use Rattle.dexlayout.specs.internal.OffsetLists.{list_item, offset_lists, parameter_counts, total}
-use Rattle.dexlayout.proofs.OffsetLists.{next_counts, list_enough, enough_left, same_left, next_list, list_fits}
+use Rattle.dexlayout.proofs.EncodedUses.{all_encoded_by, use_encoded, use_fits}
+use Rattle.dexlayout.proofs.OffsetLists.{next_counts, list_enough, enough_left, same_left, next_list}
 use Rattle.dexlayout.proofs.ref_lists.put_lists.Goals as goal
 
 -- the sets of the parameters of a method
@@ -23,25 +23,22 @@ pub put_list-requires : goal.put_list-requires
 put_list-requires c =
     let many : c.len.result ≡ count_of c.get.result = c.len.ensures ∙ ap (λ (l : List NumberedSet). length l) c.parameter_annotations-parameters.ensures in
     let counts = next_counts count_of c.args.methods.now c.loop-i.i c.get.result c.len.result (omega (arith, c.loop-i-test.true, c.len-i-end.ensures)) (sym c.get.ensures) many in
-    let within = list_fits c.loop-i.rest.now counts c.split_at.ensures.back list_item c.loop-i.items c.split_at.result.0.now c.split_at.ensures.front c.loop-i.invariant.encoded in
-    omega (arith, within, c.requires.fits)
+    let next = next_list c.loop-i.rest.now counts c.split_at.ensures.back list_item c.split_at.ensures.front in
+    omega (arith, use_fits 4 c.loop-i.items next c.loop-i.invariant.encoded, c.requires.fits)
 
 pub loop-i-preserved : goal.loop-i-preserved
 loop-i-preserved c =
-    let xs = c.args.methods.now in
-    let i = c.loop-i.i in
     let many : c.len.result ≡ count_of c.get.result = c.len.ensures ∙ ap (λ (l : List NumberedSet). length l) c.parameter_annotations-parameters.ensures in
-    let counts = next_counts count_of xs i c.get.result c.len.result (omega (arith, c.loop-i-test.true, c.len-i-end.ensures)) (sym c.get.ensures) many in
+    let counts = next_counts count_of c.args.methods.now c.loop-i.i c.get.result c.len.result (omega (arith, c.loop-i-test.true, c.len-i-end.ensures)) (sym c.get.ensures) many in
     record {
-      encoded = ap (λ p. encode_uses 4 p (offset_lists list_item (parameter_counts (drop (i + 1) xs)) c.split_at.result.1.now)) c.in_ok-put_list.ensures
-          ∙ sym (next_list c.loop-i.rest.now counts c.split_at.ensures.back list_item c.loop-i.items c.split_at.result.0.now c.split_at.ensures.front) ∙ c.loop-i.invariant.encoded;
+      encoded = use_encoded 4 c.loop-i.items (next_list c.loop-i.rest.now counts c.split_at.ensures.back list_item c.split_at.ensures.front) c.loop-i.invariant.encoded c.in_ok-put_list.ensures;
       left = same_left c.loop-i.rest.now counts c.split_at.ensures.back ∙ c.loop-i.invariant.left;
       enough = enough_left c.loop-i.rest.now counts c.split_at.ensures.back c.loop-i.invariant.enough;
     }
 
 pub returns-clause-encoded : goal.returns-clause-encoded
 returns-clause-encoded c =
-    sym (ap (λ xs. encode_uses 4 c.loop-i.items (offset_lists list_item (parameter_counts xs) c.loop-i.rest.now)) (drop_all c.loop-i.i c.args.methods.now (omega (arith, c.loop-i-test.false, c.len-i-end.ensures)))) ∙ c.loop-i.invariant.encoded
+    all_encoded_by 4 (ap (λ xs. offset_lists list_item (parameter_counts xs) c.loop-i.rest.now) (drop_all c.loop-i.i c.args.methods.now (omega (arith, c.loop-i-test.false, c.len-i-end.ensures)))) c.loop-i.invariant.encoded
 
 pub returns-clause-left : goal.returns-clause-left
 returns-clause-left c =

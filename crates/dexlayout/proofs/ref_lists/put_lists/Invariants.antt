@@ -1,5 +1,5 @@
 use Rattle.std.proofs.Common.{◌≡◌, ◌≤◌, length, drop}
-use Rattle.dexlayout.specs.internal.Aligned.{encode_uses}
+use Rattle.dexlayout.specs.internal.Encoding.{encode_uses}
 use Rattle.dexlayout.specs.internal.OffsetLists.{list_item, offset_lists, parameter_counts, total}
 use Rattle.dexlayout.proofs.ref_lists.put_lists.Given as goal
 

@@ -1,12 +1,13 @@
-use Rattle.std.proofs.Common.{◌≡◌, ℕ, ◌+◌, List, Bor, length, map, drop, sym, ap, ◌∙◌, arith}
+use Rattle.std.proofs.Common.{◌≡◌, ℕ, List, Bor, length, map, sym, ap, ◌∙◌, arith}
 use Rattle.std.proofs.lemmas.List.{length-map, drop_all}
 use Rattle.dexval.specs.declared.annotation.Annotation.{Annotation}
 use Rattle.dexval.specs.declared.set.AnnotationSet.{AnnotationSet}
 use Rattle.dexval.specs.Code.{annotation_of, set_of}
 use Rattle.dexval.specs.Numbered.{NumberedSet}
-use Rattle.dexlayout.specs.internal.Aligned.{encode_uses}
+use Rattle.dexlayout.specs.internal.Encoding.{encode_uses}
 use Rattle.dexlayout.specs.internal.OffsetLists.{annotation_counts, offset_lists, set_item}
-use Rattle.dexlayout.proofs.OffsetLists.{next_counts, list_enough, enough_left, next_list, list_fits}
+use Rattle.dexlayout.proofs.EncodedUses.{all_encoded_by, use_encoded, use_fits}
+use Rattle.dexlayout.proofs.OffsetLists.{next_counts, list_enough, enough_left, next_list}
 use Rattle.dexlayout.proofs.sets.encode_written.Goals as goal
 
 -- how many annotations a set has
@@ -31,20 +32,17 @@ split_at-requires c =
 pub put_offsets-requires : goal.put_offsets-requires
 put_offsets-requires c =
     let counts = next_counts count_of c.args.written.now c.loop-set.set-index c.set-item.result (length c.annotations.result.now) c.loop-set-test.true (sym c.set-item.is) (count_is c.annotations.result.now (set_of c.set-item.result.now) c.annotations.ensures) in
-    let within = list_fits c.loop-set.rest.now counts c.split_at.ensures.back set_item c.loop-set.items c.split_at.result.0.now c.split_at.ensures.front c.loop-set.invariant.encoded in
-    omega (arith, within, c.requires.fits)
+    let next = next_list c.loop-set.rest.now counts c.split_at.ensures.back set_item c.split_at.ensures.front in
+    omega (arith, use_fits 4 c.loop-set.items next c.loop-set.invariant.encoded, c.requires.fits)
 
 pub loop-set-preserved : goal.loop-set-preserved
 loop-set-preserved c =
-    let ws = c.args.written.now in
-    let i = c.loop-set.set-index in
-    let counts = next_counts count_of ws i c.set-item.result (length c.annotations.result.now) c.loop-set-test.true (sym c.set-item.is) (count_is c.annotations.result.now (set_of c.set-item.result.now) c.annotations.ensures) in
+    let counts = next_counts count_of c.args.written.now c.loop-set.set-index c.set-item.result (length c.annotations.result.now) c.loop-set-test.true (sym c.set-item.is) (count_is c.annotations.result.now (set_of c.set-item.result.now) c.annotations.ensures) in
     record {
-      encoded = ap (λ p. encode_uses 4 p (offset_lists set_item (annotation_counts (drop (i + 1) ws)) c.split_at.result.1.now)) c.in_ok-put_offsets.ensures
-          ∙ sym (next_list c.loop-set.rest.now counts c.split_at.ensures.back set_item c.loop-set.items c.split_at.result.0.now c.split_at.ensures.front) ∙ c.loop-set.invariant.encoded;
+      encoded = use_encoded 4 c.loop-set.items (next_list c.loop-set.rest.now counts c.split_at.ensures.back set_item c.split_at.ensures.front) c.loop-set.invariant.encoded c.in_ok-put_offsets.ensures;
       enough = enough_left c.loop-set.rest.now counts c.split_at.ensures.back c.loop-set.invariant.enough;
     }
 
 pub returns : goal.returns
 returns c =
-    sym (ap (λ xs. encode_uses 4 c.loop-set.items (offset_lists set_item (annotation_counts xs) c.loop-set.rest.now)) (drop_all c.loop-set.set-index c.args.written.now c.loop-set-test.false)) ∙ c.loop-set.invariant.encoded
+    all_encoded_by 4 (ap (λ xs. offset_lists set_item (annotation_counts xs) c.loop-set.rest.now) (drop_all c.loop-set.set-index c.args.written.now c.loop-set-test.false)) c.loop-set.invariant.encoded

@@ -1,16 +1,14 @@
-use Rattle.std.proofs.Common.{◌+◌, ◌++◌, map, drop, arith, ap, sym, subst, ◌∙◌}
-use Rattle.dexspec.specs.Placing.{end, uses_offsets}
-use Rattle.dexspec.specs.Canonical.{array_section}
+use Rattle.std.proofs.Common.{map, arith, ap, sym, subst}
 use Rattle.dexclass.specs.Uses.{IsKnownClass}
-use Rattle.dexlayout.specs.Laid.{AreLaidSo, ordered_of}
-use Rattle.dexlayout.specs.internal.Encoding.{static_item}
-use Rattle.dexlayout.proofs.EncodedUses.{encoding_none, encoding_fits, encoding_more, encoded_bytes, encoded_places, plain_bytes, uses_next, uses_end}
+use Rattle.dexlayout.specs.Laid.{AreStaticValues, ordered_of}
+use Rattle.dexlayout.specs.internal.Encoding.{encode_uses, static_item}
+use Rattle.dexlayout.proofs.EncodedUses.{all_encoded_by, each_left, next_of_each, use_encoded, use_fits}
 use Rattle.dexlayout.proofs.Ends.{end_in_file}
-use Rattle.dexlayout.proofs.StaticItems.{arrays_laid, arrays_bytes}
+use Rattle.dexlayout.proofs.StaticItems.{arrays_laid}
 use Rattle.dexlayout.proofs.static_values.place_static_values.Goals as goal
 
 pub loop-class-init : goal.loop-class-init
-loop-class-init c = encoding_none 1 (map (static_item c.args.numbering.now) c.args.classes.now) c.args.from c.new-bytes.ensures.items c.in_ok-places.ensures
+loop-class-init c = ap (λ p. encode_uses 1 p (map (static_item c.args.numbering.now) c.args.classes.now)) c.in_ok-items.ensures
 
 pub put_array-requires-clause-known : goal.put_array-requires-clause-known
 put_array-requires-clause-known c = subst (IsKnownClass c.args.numbering.now) (sym c.class-item.is) (c.requires.classes.known c.loop-class.class-index c.class-item.result c.loop-class-test.true)
@@ -19,31 +17,22 @@ pub put_array-requires-clause-fits : goal.put_array-requires-clause-fits
 put_array-requires-clause-fits c =
     let m = c.args.numbering.now in
     let cs = c.args.classes.now in
-    let i = c.loop-class.class-index in
-    let k = c.class-item.result in
+    let next = next_of_each (static_item m) cs c.loop-class.class-index c.class-item.result c.loop-class-test.true (sym c.class-item.is) in
     omega (
       arith,
-      encoding_fits c.loop-class.invariant (static_item m k) (map (static_item m) (drop (i + 1) cs)) (uses_next (static_item m) cs i k c.loop-class-test.true (sym c.class-item.is)),
-      (arrays_laid m cs c.args.from c.requires.from).end_is,
+      use_fits 1 c.loop-class.items next c.loop-class.invariant,
+      (arrays_laid m cs c.args.from c.requires.from).places_are.end_is,
       (end_in_file (ordered_of m cs) c.requires.classes.fits).arrays,
     )
 
 pub loop-class-preserved : goal.loop-class-preserved
 loop-class-preserved c =
-    let m = c.args.numbering.now in
-    let cs = c.args.classes.now in
-    let i = c.loop-class.class-index in
-    let k = c.class-item.result in
-    encoding_more c.loop-class.invariant (static_item m k) (map (static_item m) (drop (i + 1) cs)) (uses_next (static_item m) cs i k c.loop-class-test.true (sym c.class-item.is))
-    (c.in_ok-put_array.ensures.bytes ∙ ap (λ bs. c.loop-class.bytes.items ++ bs) (plain_bytes c.loop-class.places.end (static_item m k))) c.in_ok-put_array.ensures.places
+    let next = next_of_each (static_item c.args.numbering.now) c.args.classes.now c.loop-class.class-index c.class-item.result c.loop-class-test.true (sym c.class-item.is) in
+    use_encoded 1 c.loop-class.items next c.loop-class.invariant c.in_ok-put_array.ensures
 
 pub returns : goal.returns
 returns c =
     let m = c.args.numbering.now in
     let cs = c.args.classes.now in
-    let K = ordered_of m cs in
-    let none = uses_end (static_item m) cs c.loop-class.class-index c.loop-class-test.false in
-    record {
-      bytes_are = encoded_bytes c.loop-class.invariant none ∙ arrays_bytes m cs c.args.from c.requires.from;
-      places_are = subst (AreLaidSo (uses_offsets (array_section K)) (end (array_section K)) (array_section K).items) (sym (encoded_places c.loop-class.invariant none)) (arrays_laid m cs c.args.from c.requires.from);
-    }
+    let all = all_encoded_by 1 (each_left (static_item m) cs c.loop-class.class-index c.loop-class-test.false) c.loop-class.invariant in
+    subst (AreStaticValues m cs) (sym all) (arrays_laid m cs c.args.from c.requires.from)

@@ -1,7 +1,7 @@
-use Rattle.std.proofs.Common.{map, drop}
-use Rattle.dexlayout.specs.internal.Encoding.{static_item}
-use Rattle.dexlayout.proofs.EncodedUses.{Encoding}
+use Rattle.std.proofs.Common.{◌≡◌, map, drop}
+use Rattle.dexlayout.specs.internal.Encoding.{encode_uses, no_items_from, static_item}
 use Rattle.dexlayout.proofs.static_values.place_static_values.Given as goal
 
+-- encoding what is left gives the whole
 abbrev pub invariant-loop-class : goal.invariant-loop-class
-invariant-loop-class l = Encoding 1 l.bytes.items l.places (map (static_item l.numbering) (drop l.class-index l.classes)) (map (static_item l.numbering) l.classes) l.fn.from
+invariant-loop-class l = encode_uses 1 l.items (map (static_item l.numbering) (drop l.class-index l.classes)) ≡ encode_uses 1 (no_items_from l.fn.from) (map (static_item l.numbering) l.classes)

@@ -3,7 +3,7 @@ use Rattle.dexspec.specs.Texts.{Text, string_data}
 use Rattle.dexspec.specs.Placing.{offsets_from, end_from}
 use Rattle.dexlayout.specs.internal.Running.{place_use, place_uses}
 use Rattle.dexlayout.specs.Laid.{AreLaidSo}
-use Rattle.dexlayout.proofs.OwnSteps.{all_encoded, left_next, left_fits, left_none}
+use Rattle.dexlayout.proofs.OwnSteps.{all_encoded, put_plain, left_next, left_fits, left_none}
 use Rattle.dexlayout.proofs.strings.place_strings.Goals as goal
 
 pub put_next-requires : goal.put_next-requires
@@ -16,7 +16,7 @@ pub loop-i-preserved : goal.loop-i-preserved
 loop-i-preserved c =
     let texts = c.args.numbering.now.texts in
     let size = λ (s : Text). Some (length (string_data s)) in
-    ap (λ p. place_uses 1 p (map size (drop (c.loop-i.i + 1) texts))) (c.in_ok-put_next.ensures ∙ ap (λ n. place_use 1 c.loop-i.places (Some n)) c.item_len.ensures.len)
+    ap (λ p. place_uses 1 p (map size (drop (c.loop-i.i + 1) texts))) (c.in_ok-put_next.ensures ∙ put_plain c.loop-i.places c.item_len.result ∙ ap (λ n. place_use 1 c.loop-i.places (Some n)) c.item_len.ensures.len)
     ∙ sym (left_next 1 size c.loop-i.places texts c.loop-i.i c.string.result.now c.string.ensures.within (c.string.ensures.is c.string.result.now))
     ∙ c.loop-i.invariant
 

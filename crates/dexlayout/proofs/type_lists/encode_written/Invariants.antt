@@ -1,7 +1,8 @@
-use Rattle.std.proofs.Common.{map, drop}
-use Rattle.dexlayout.specs.internal.Encoding.{list_bytes}
-use Rattle.dexlayout.proofs.EncodedUses.{Encoding, item_of}
+use Rattle.std.proofs.Common.{◌≡◌, map, drop, Some}
+use Rattle.dexlayout.specs.internal.Encoding.{encode_uses, list_bytes}
+use Rattle.dexlayout.specs.internal.Placing.{encoded_lists}
 use Rattle.dexlayout.proofs.type_lists.encode_written.Given as goal
 
+-- encoding what is left gives the whole
 abbrev pub invariant-loop-key : goal.invariant-loop-key
-invariant-loop-key l = Encoding 4 l.bytes.items l.places (map (item_of list_bytes) (drop l.key-index l.lists)) (map (item_of list_bytes) l.lists) l.fn.from
+invariant-loop-key l = encode_uses 4 l.items (map (λ ns. Some (list_bytes ns)) (drop l.key-index l.lists)) ≡ encoded_lists l.fn.from l.lists

@@ -4,7 +4,7 @@ use Rattle.std.proofs.lemmas.List.Elements.{All-weaker}
 use Rattle.std.proofs.lemmas.Result.{IfOk-weaker}
 use Rattle.dexlayout.specs.Laid.{AreTypeLists}
 use Rattle.dexlayout.specs.Places.{EncodedItems}
-use Rattle.dexlayout.specs.internal.Placing.{list_places, lists_bytes, shared_by}
+use Rattle.dexlayout.specs.internal.Placing.{encoded_lists, shared_by}
 use Rattle.dexlayout.specs.internal.SharedUses.{AreTypes}
 use Rattle.dexlayout.proofs.SharedKinds.{lists_fit, lists_numbered, lists_laid}
 use Rattle.dexlayout.proofs.type_lists.place_type_lists.Goals as goal
@@ -20,15 +20,12 @@ encode_written-requires-clause-few c =
 pub encode_written-requires-clause-fits : goal.encode_written-requires-clause-fits
 encode_written-requires-clause-fits c =
     let s = c.in_ok-shared.shared in
-    subst (λ ws. (list_places c.args.from ws).end ≤ 2 ^ 30) (sym c.deref.ensures.value)
+    subst (λ ws. (encoded_lists c.args.from ws).places.end ≤ 2 ^ 30) (sym c.deref.ensures.value)
     (lists_fit c.args.numbering.now c.args.classes.now c.requires.classes c.args.from c.requires.from s.written.items s.numbers.items c.in_ok-shared.ensures.known c.in_ok-shared.ensures.shared)
 
 -- the lists that are written
-items_are : (c : In_ok-items) → c.in_ok-items.items ≡ record { bytes = lists_bytes c.args.from c.in_ok-shared.shared.written.items; places = list_places c.args.from c.in_ok-shared.shared.written.items }
-items_are c =
-    let bytes = c.in_ok-items.ensures.bytes ∙ ap (lists_bytes c.args.from) c.deref.ensures.value in
-    let places = c.in_ok-items.ensures.places ∙ ap (list_places c.args.from) c.deref.ensures.value in
-    λ i. record { bytes = bytes i; places = places i }
+items_are : (c : In_ok-items) → c.in_ok-items.items ≡ encoded_lists c.args.from c.in_ok-shared.shared.written.items
+items_are c = c.in_ok-items.ensures ∙ ap (encoded_lists c.args.from) c.deref.ensures.value
 
 pub of-requires : goal.of-requires
 of-requires c =

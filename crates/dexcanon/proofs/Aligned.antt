@@ -1,7 +1,7 @@
 -- How far a loop has come that writes aligned items.
-use Rattle.std.proofs.Common.{◌≡◌, ℕ, ◌+◌, ◌<◌, ◌≤◌, List, [], ◌∷◌, ◌++◌, Bool, length, get_or, map, drop, refl, sym, ap, subst, ◌∙◌, arith}
+use Rattle.std.proofs.Common.{◌≡◌, ℕ, ◌+◌, ◌<◌, ◌≤◌, List, [], ◌∷◌, ◌++◌, Bool, length, get_or, map, refl, sym, ap, subst, ◌∙◌, arith}
 use Rattle.std.specs.Prelude.{All}
-use Rattle.std.proofs.lemmas.List.{drop_more, length-map, get_or-map}
+use Rattle.std.proofs.lemmas.List.{length-map, get_or-map}
 use Rattle.std.proofs.lemmas.List.Elements.{All-nil, All-cons, All-head, All-tail}
 use Rattle.dexspec.specs.Bytes.{round_up, padding}
 use Rattle.dexspec.specs.Placing.{bytes_from, end_from}
@@ -49,10 +49,6 @@ module _ {T : Type 0} {gives gives_prefix : List ℕ → T → T → Type 0} {ha
     -- nothing is left
     pub aligned_all : Aligned gives gives_prefix has_failed limit old new align from xs at left → left ≡ [] → Adds gives gives_prefix has_failed limit old new (bytes_from align from xs)
     aligned_all h e = written_all h.made (ap (bytes_from align at) e)
-
--- the next of mapped items
-pub next_mapped : {X : Type 0} (f : X → List ℕ) (xs : List X) (i : ℕ) (x : X) → i < length xs → get_or xs i x ≡ x → drop i (map f xs) ≡ f x ∷ drop (i + 1) (map f xs)
-next_mapped f xs i x lt is = drop_more (map f xs) i (f x) (omega (arith, lt, length-map xs f)) ∙ ap (λ y. y ∷ drop (i + 1) (map f xs)) (get_or-map f xs i x (f x) lt ∙ ap f is)
 
 -- each of mapped items is no longer than the limit
 pub short_at : {X : Type 0} (f : X → List ℕ) (limit : ℕ) (xs : List X) (i : ℕ) (x : X) → AreWithin limit (map f xs) → i < length xs → get_or xs i x ≡ x → length (f x) ≤ limit

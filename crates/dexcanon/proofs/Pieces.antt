@@ -1,21 +1,7 @@
 -- Bytes that are written piece by piece, none of which is longer than a bound.
 use Rattle.std.proofs.Common.{◌≡◌, ℕ, ◌+◌, ◌-◌, ◌≤◌, List, ◌++◌, length, take, drop, min, sym, ap, ◌∙◌, arith}
 use Rattle.std.proofs.lemmas.List.{take-append-drop, drop-drop, length-take, length-drop}
-use Rattle.dexhead.proofs.WrittenPieces.{written_more}
-use Rattle.dexcanon.specs.Took.{take_own, prefix_of}
-
--- after a prefix, a piece of the rest
-pub piece_more : (old mid new bytes rest piece : List ℕ) (i k : ℕ) → mid ≡ old ++ take i bytes → rest ≡ drop i bytes → piece ≡ take k rest → new ≡ mid ++ piece → new ≡ old ++ take (i + length piece) bytes
-piece_more old mid new bytes rest piece i k before left is after =
-    let own : piece ≡ take (length piece) rest = is ∙ sym (take_own k rest) ∙ ap (λ z. take (length z) rest) (sym is) in
-    written_more old mid new bytes rest i (length piece) before left (after ∙ ap (λ z. mid ++ z) own)
-
--- a prefix of a piece is a prefix of the rest
-pub piece_prefix : (mid new rest piece : List ℕ) (k : ℕ) → piece ≡ take k rest → ((n : ℕ) × (new ≡ mid ++ take n piece)) → (n : ℕ) × (new ≡ mid ++ take n rest)
-piece_prefix mid new rest piece k is after =
-    let whole : piece ++ drop k rest ≡ rest = ap (λ z. z ++ drop k rest) is ∙ take-append-drop k rest in
-    let front = prefix_of after.0 piece (drop k rest) in
-    (front.0, after.1 ∙ ap (λ z. mid ++ z) (sym front.1 ∙ ap (take front.0) whole))
+use Rattle.dexcanon.specs.Took.{take_own}
 
 -- what is left is a piece and what is left after it
 pub left_piece : (bytes rest piece : List ℕ) (i k : ℕ) → rest ≡ drop i bytes → piece ≡ take k rest → drop i bytes ≡ piece ++ drop (i + length piece) bytes

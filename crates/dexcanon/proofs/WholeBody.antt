@@ -1,13 +1,12 @@
 -- What follows the header, part by part.
 use Rattle.std.proofs.Common.{◌≡◌, ℕ, ◌+◌, ◌<◌, ◌≤◌, ◌^◌, List, ◌++◌, length, map, take, drop, ap, ◌∙◌, arith, [], ◌∷◌, refl}
-use Rattle.std.specs.List.{flat_map, concat}
+use Rattle.std.specs.List.{concat}
 use Rattle.std.proofs.lemmas.List.{length-take, length-drop, length-map}
 use Rattle.dexspec.specs.Lists.{zip_with}
-use Rattle.dexspec.specs.Bytes.{uint, padding, round_up}
+use Rattle.dexspec.specs.Bytes.{padding, round_up}
 use Rattle.dexspec.specs.Mentions.{Mentions}
-use Rattle.dexspec.specs.Spellings.{text_index}
-use Rattle.dexspec.specs.Placing.{end, uses_offsets, offsets}
-use Rattle.dexspec.specs.Canonical.{proto_row_bytes, field_row_bytes, method_row_bytes, class_row_bytes, class_offsets, type_list_section, directory_section, class_data_section, array_section, map_bytes, map_of, string_section}
+use Rattle.dexspec.specs.Placing.{end, uses_offsets}
+use Rattle.dexspec.specs.Canonical.{proto_row_bytes, class_row_bytes, class_offsets, type_list_section, directory_section, class_data_section, array_section, map_bytes, map_of}
 use Rattle.dexspec.proofs.layout.Placements.{length-type_list_offsets}
 use Rattle.dexclass.specs.Numbered.{NumberedClass, definition_of}
 use Rattle.dexspec.specs.Sections.{Section}
@@ -25,44 +24,6 @@ zip_with_take f (x ∷ xs) [] = refl
 zip_with_take f (x ∷ xs) (y ∷ ys) = ap (λ zs. f x y ∷ zs) (zip_with_take f xs ys)
 
 module _ (m : Mentions) (cs : List NumberedClass) where
-  -- the tables in their order
-  abbrev pub rows_1 : List ℕ
-  rows_1 = flat_map uint (offsets (string_section (ordered_of m cs)))
-
-  abbrev pub rows_2 : List ℕ
-  rows_2 = flat_map (λ t. uint (text_index m t)) m.types
-
-  abbrev pub rows_3 : List ℕ
-  rows_3 = concat (zip_with (proto_row_bytes m) m.protos (uses_offsets (type_list_section (ordered_of m cs))))
-
-  abbrev pub rows_4 : List ℕ
-  rows_4 = flat_map (field_row_bytes m) m.fields
-
-  abbrev pub rows_5 : List ℕ
-  rows_5 = flat_map (method_row_bytes m) m.methods
-
-  abbrev pub rows_6 : List ℕ
-  rows_6 = concat (zip_with (class_row_bytes m) (map (definition_of m) cs) (class_offsets (ordered_of m cs)))
-
-  -- what is left after each
-  abbrev pub after_5 : List ℕ
-  after_5 = rows_6
-
-  abbrev pub after_4 : List ℕ
-  after_4 = rows_5 ++ after_5
-
-  abbrev pub after_3 : List ℕ
-  after_3 = rows_4 ++ after_4
-
-  abbrev pub after_2 : List ℕ
-  after_2 = rows_3 ++ after_3
-
-  abbrev pub after_1 : List ℕ
-  after_1 = rows_2 ++ after_2
-
-  abbrev pub after_0 : List ℕ
-  after_0 = rows_1 ++ after_1
-
   -- the rows of protos, where the offsets of their lists are those that the layout has
   pub proto_rows : (lists front : List ℕ) (n : ℕ) → lists ≡ uses_offsets (type_list_section (ordered_of m cs)) → n ≡ length m.protos → front ≡ take n lists
       → concat (zip_with (proto_row_bytes m) m.protos front) ≡ concat (zip_with (proto_row_bytes m) m.protos (uses_offsets (type_list_section (ordered_of m cs))))

@@ -1,23 +1,17 @@
 //! All that follows the header of a file.
+//!
+//! Source: the heading "Overall file layout" of the Android page "Dalvik Executable format".
 
 ghost use Rattle.dexcanon.specs.internal.Ready.{CanBeMade};
 ghost use Rattle.dexcanon.specs.internal.Adding.{AddsPart, tables_of, data_of, after_header_of};
 
-use crate::annotations::put_annotations;
-use crate::class_data::put_class_data;
 use crate::class_defs::put_class_defs;
 use crate::codes::put_codes;
 use crate::contents::Contents;
-use crate::debugs::put_debugs;
-use crate::directories::put_directories;
 use crate::map::put_map;
 use crate::output::{Out, Target};
-use crate::ref_lists::put_ref_lists;
-use crate::sets::put_sets;
-use crate::static_values::put_static_values;
 use crate::strings::put_strings;
 use crate::tables::{put_field_ids, put_method_ids, put_proto_ids, put_string_ids, put_type_ids};
-use crate::type_lists::put_type_lists;
 
 // The rows of the tables.
 fn put_tables<T: Target>(contents: &Contents<'_, '_, '_>, out: &mut Out<T>)
@@ -32,21 +26,22 @@ fn put_tables<T: Target>(contents: &Contents<'_, '_, '_>, out: &mut Out<T>)
     put_class_defs(contents, out);
 }
 
-// The sections of the data.
+// The sections of the data. All but the texts and the code are encoded in the layout.
 fn put_data<T: Target>(contents: &Contents<'_, '_, '_>, out: &mut Out<T>)
     requires { CanBeMade contents.now }
     ensures { AddsPart T.gives T.gives_prefix T.has_failed contents.now out.old out.new data_of }
 {
-    put_type_lists(contents, out);
-    put_annotations(contents, out);
-    put_static_values(contents, out);
+    let layout = contents.layout;
+    out.put_bytes(layout.type_lists().bytes());
+    out.put_bytes(layout.annotations().bytes());
+    out.put_bytes(layout.static_values().bytes());
     put_strings(contents, out);
-    put_debugs(contents, out);
+    out.put_bytes(layout.debugs().bytes());
     put_codes(contents, out);
-    put_class_data(contents, out);
-    put_sets(contents, out);
-    put_ref_lists(contents, out);
-    put_directories(contents, out);
+    out.put_bytes(layout.class_data().bytes());
+    out.put_bytes(layout.sets().written().bytes());
+    out.put_bytes(layout.ref_lists().bytes());
+    out.put_bytes(layout.directories().bytes());
 }
 
 /// All that follows the header: the rows of the tables, the sections of the data, and the map.

@@ -8,27 +8,19 @@
 #![tactic(auto)]
 
 mod adler_combine;
-mod annotations;
 mod body;
-mod class_data;
 mod class_defs;
 mod codes;
 mod contents;
-mod debugs;
 mod digest;
-mod directories;
 mod faults;
 mod files;
 mod items;
 mod map;
 mod output;
-mod ref_lists;
-mod sets;
-mod static_values;
 mod strings;
 mod tables;
 mod targets;
-mod type_lists;
 mod writing;
 
 pub use dexlayout::Layout;

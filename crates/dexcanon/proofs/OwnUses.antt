@@ -28,10 +28,13 @@ zip_with_at f (x ∷ xs) [] i a b d lt less = absurd (omega (arith, less))
 zip_with_at f (x ∷ xs) (y ∷ ys) zero a b d lt less = refl
 zip_with_at f (x ∷ xs) (y ∷ ys) (suc i) a b d lt less = zip_with_at f xs ys i a b d (omega (arith, lt)) (omega (arith, less))
 
+pub length-zip_with_long : {X Y Z : Type 0} (f : X → Y → Z) (xs : List X) (ys : List Y) → length xs ≤ length ys → length (zip_with f xs ys) ≡ length xs
+length-zip_with_long f [] ys enough = refl
+length-zip_with_long f (x ∷ xs) [] enough = absurd (omega (arith, enough))
+length-zip_with_long f (x ∷ xs) (y ∷ ys) enough = ap suc (length-zip_with_long f xs ys (omega (arith, enough)))
+
 pub length-zip_with : {X Y Z : Type 0} (f : X → Y → Z) (xs : List X) (ys : List Y) → length ys ≡ length xs → length (zip_with f xs ys) ≡ length xs
-length-zip_with f [] ys same = refl
-length-zip_with f (x ∷ xs) [] same = same
-length-zip_with f (x ∷ xs) (y ∷ ys) same = ap suc (length-zip_with f xs ys (omega (arith, same)))
+length-zip_with f xs ys same = length-zip_with_long f xs ys (omega (arith, same))
 
 -- two lists together, of which the first is joined
 pub zip_with_append : {X Y Z : Type 0} (f : X → Y → Z) (xs ws : List X) (ys : List Y) → zip_with f (xs ++ ws) ys ≡ zip_with f xs (take (length xs) ys) ++ zip_with f ws (drop (length xs) ys)

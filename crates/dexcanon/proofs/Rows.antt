@@ -1,23 +1,21 @@
 -- Items one after the other: what is left of them before and after the next.
-use Rattle.std.proofs.Common.{◌≡◌, ℕ, ◌+◌, ◌<◌, ◌≤◌, List, [], ◌∷◌, ◌++◌, length, get_or, drop, refl, sym, ap, ◌∙◌, append_assoc, zip}
+use Rattle.std.proofs.Common.{◌≡◌, ℕ, ◌+◌, ◌<◌, ◌≤◌, List, [], ◌∷◌, ◌++◌, length, get_or, map, drop, refl, sym, ap, ◌∙◌, append_assoc}
 use Rattle.std.specs.List.{flat_map, concat}
 use Rattle.std.proofs.lemmas.List.{drop_more}
-use Rattle.dexspec.specs.Lists.{zip_with}
 use Rattle.dexspec.specs.Bytes.{round_up, padding}
 use Rattle.dexspec.specs.Placing.{bytes_from, end_from}
 use Rattle.dexspec.proofs.layout.Places.{end_from_le}
 
--- ---- rows, which need no alignment
+-- ---- items that need no alignment
 
 -- the next of the rest
-pub rows_next : {X : Type 0} (f : X → List ℕ) (xs : List X) (i : ℕ) (x : X) → i < length xs → get_or xs i x ≡ x → flat_map f (drop i xs) ≡ f x ++ flat_map f (drop (i + 1) xs)
-rows_next f xs i x lt is = ap (flat_map f) (drop_more xs i x lt ∙ ap (λ y. y ∷ drop (i + 1) xs) is)
+pub next_item : (xs : List (List ℕ)) (i : ℕ) → i < length xs → concat (drop i xs) ≡ get_or xs i [] ++ concat (drop (i + 1) xs)
+next_item xs i lt = ap concat (drop_more xs i [] lt)
 
--- rows of two lists, row by row
-pub zip_rows : {X Y : Type 0} (f : X → Y → List ℕ) (xs : List X) (ys : List Y) → concat (zip_with f xs ys) ≡ flat_map (λ p. f p.0 p.1) (zip xs ys)
-zip_rows f [] ys = refl
-zip_rows f (x ∷ xs) [] = refl
-zip_rows f (x ∷ xs) (y ∷ ys) = ap (λ zs. f x y ++ zs) (zip_rows f xs ys)
+-- mapped items
+pub concat_map : {X : Type 0} (f : X → List ℕ) (xs : List X) → concat (map f xs) ≡ flat_map f xs
+concat_map f [] = refl
+concat_map f (x ∷ xs) = ap (λ z. f x ++ z) (concat_map f xs)
 
 -- ---- aligned items
 

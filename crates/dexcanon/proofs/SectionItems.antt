@@ -1,5 +1,6 @@
 -- The items of each section, of a file that is laid out.
 use Rattle.std.proofs.Common.{◌≡◌, ℕ, ◌≤◌, ◌^◌, List, [], ◌∷◌, ◌++◌, length, map, refl, sym, ap, subst, ◌∙◌, arith}
+use Rattle.std.specs.List.{concat}
 use Rattle.std.proofs.lemmas.List.{length-map, map-append}
 use Rattle.std.proofs.lemmas.List.Elements.{All-nil, All-cons}
 use Rattle.dexspec.specs.Lists.{present, zip_with}
@@ -8,15 +9,17 @@ use Rattle.dexspec.specs.Classes.{MethodDef}
 use Rattle.dexspec.specs.Placing.{Ordered, Placed, all_methods, code_uses, debug_uses, EqualOnce, offsets, end_from, bytes_from, section_bytes, end, uses_offsets}
 use Rattle.dexspec.specs.Sameness.{same_debug}
 use Rattle.dexspec.specs.Texts.{string_data}
-use Rattle.dexspec.specs.Canonical.{debug_section, ref_list_section, data_sections, string_section, code_section}
+use Rattle.dexspec.specs.Canonical.{debug_section, data_sections, array_section, string_section, code_section}
 use Rattle.dexspec.proofs.layout.Placements.{length-items_offsets}
 use Rattle.dexmembers.specs.Numbered.{method_in, methods_of}
 use Rattle.dexclass.specs.Numbered.{NumberedClass, definition_of}
 use Rattle.dexlayout.specs.Places.{Places, ItemPlaces}
 use Rattle.dexlayout.specs.Laid.{ordered_of, greatest_of, greatest_in, file_end}
+use Rattle.dexlayout.proofs.EncodedItems.{bytes_plain}
 use Rattle.dexlayout.proofs.Ends.{end_in_file}
 use Rattle.dexcanon.specs.internal.Output.{AreWithin, FitFrom}
 use Rattle.dexcanon.specs.internal.Ready.{IsReady}
+use Rattle.dexcanon.proofs.Rows.{concat_map}
 use Rattle.dexcanon.specs.Codes.{class_methods, method_codes, code_use, code_item}
 
 -- ---- no item is longer than the limit
@@ -44,6 +47,11 @@ module _ {m : Mentions} {cs : List NumberedClass} {p : Places} {limit : ℕ} (h 
 
   pub codes_within : AreWithin limit (code_section (ordered_of m cs)).items
   codes_within = data_within.1.1.1.1.1.0
+
+-- the data of the texts is their section
+pub string_bytes : (m : Mentions) (cs : List NumberedClass) → concat (map string_data m.texts) ≡ section_bytes (string_section (ordered_of m cs))
+unfolding string_section
+string_bytes m cs = concat_map string_data m.texts ∙ sym (bytes_plain string_data (end (array_section (ordered_of m cs))) m.texts)
 
 -- ---- symbols and numbers
 

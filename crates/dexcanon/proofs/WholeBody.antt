@@ -1,7 +1,7 @@
 -- What follows the header, part by part.
-use Rattle.std.proofs.Common.{◌≡◌, ℕ, ◌+◌, ◌<◌, ◌≤◌, ◌^◌, List, ◌++◌, length, map, take, drop, ap, ◌∙◌, arith, [], ◌∷◌, refl}
+use Rattle.std.proofs.Common.{◌≡◌, ℕ, ◌+◌, ◌<◌, ◌≤◌, ◌^◌, List, ◌++◌, length, map, drop, ap, ◌∙◌, arith}
 use Rattle.std.specs.List.{concat}
-use Rattle.std.proofs.lemmas.List.{length-take, length-drop, length-map}
+use Rattle.std.proofs.lemmas.List.{length-drop, length-map}
 use Rattle.dexspec.specs.Lists.{zip_with}
 use Rattle.dexspec.specs.Bytes.{padding, round_up}
 use Rattle.dexspec.specs.Mentions.{Mentions}
@@ -16,24 +16,12 @@ use Rattle.dexlayout.specs.Laid.{ordered_of, AreWritable}
 use Rattle.dexlayout.proofs.Ends.{end_in_file}
 use Rattle.dexcanon.specs.internal.ClassRows.{row_offsets}
 use Rattle.dexcanon.specs.internal.Ready.{IsReady}
-
--- the second list counts only as far as the first goes
-zip_with_take : {X Y Z : Type 0} (f : X → Y → Z) (xs : List X) (ys : List Y) → zip_with f xs (take (length xs) ys) ≡ zip_with f xs ys
-zip_with_take f [] ys = refl
-zip_with_take f (x ∷ xs) [] = refl
-zip_with_take f (x ∷ xs) (y ∷ ys) = ap (λ zs. f x y ∷ zs) (zip_with_take f xs ys)
+use Rattle.dexcanon.proofs.OwnUses.{length-zip_with_long}
 
 module _ (m : Mentions) (cs : List NumberedClass) where
-  -- the rows of protos, where the offsets of their lists are those that the layout has
-  pub proto_rows : (lists front : List ℕ) (n : ℕ) → lists ≡ uses_offsets (type_list_section (ordered_of m cs)) → n ≡ length m.protos → front ≡ take n lists
-      → concat (zip_with (proto_row_bytes m) m.protos front) ≡ concat (zip_with (proto_row_bytes m) m.protos (uses_offsets (type_list_section (ordered_of m cs))))
-  proto_rows lists front n e count is =
-      ap (λ z. concat (zip_with (proto_row_bytes m) m.protos z)) (is ∙ ap (take n) e ∙ ap (λ k. take k (uses_offsets (type_list_section (ordered_of m cs)))) count)
-      ∙ ap concat (zip_with_take (proto_row_bytes m) m.protos (uses_offsets (type_list_section (ordered_of m cs))))
-
-  -- there is one for each
-  pub proto_count : (lists front : List ℕ) (n : ℕ) → lists ≡ uses_offsets (type_list_section (ordered_of m cs)) → n ≡ length m.protos → front ≡ take n lists → length front ≡ length m.protos
-  proto_count lists front n e count is = omega (arith, ap (λ (l : List ℕ). length l) is, length-take n lists, ap (λ (l : List ℕ). length l) e, length-type_list_offsets (ordered_of m cs), count)
+  -- there is a row for each proto
+  pub count_proto_rows : length (zip_with (proto_row_bytes m) m.protos (uses_offsets (type_list_section (ordered_of m cs)))) ≡ length m.protos
+  count_proto_rows = length-zip_with_long (proto_row_bytes m) m.protos (uses_offsets (type_list_section (ordered_of m cs))) (omega (arith, length-type_list_offsets (ordered_of m cs)))
 
   -- the rows of classes
   pub class_rows_are : (lists back bs ds vs : List ℕ) (n : ℕ) → lists ≡ uses_offsets (type_list_section (ordered_of m cs)) → n ≡ length m.protos → back ≡ drop n lists → bs ≡ uses_offsets (directory_section (ordered_of m cs))

@@ -8,21 +8,22 @@ ghost use Rattle.dexcanon.specs.internal.Adding.{AddsPart, tables_of, data_of, a
 use crate::class_defs::put_class_defs;
 use crate::codes::put_codes;
 use crate::contents::Contents;
+use crate::item_lists::put_list;
 use crate::map::put_map;
 use crate::output::{Out, Target};
-use crate::strings::put_strings;
-use crate::tables::{put_field_ids, put_method_ids, put_proto_ids, put_string_ids, put_type_ids};
+use crate::strings::StringDataItems;
+use crate::tables::{FieldIds, MethodIds, ProtoIds, StringIds, TypeIds};
 
 // The rows of the tables.
 fn put_tables<T: Target>(contents: &Contents<'_, '_, '_>, out: &mut Out<T>)
     requires { CanBeMade contents.now }
     ensures { AddsPart T.gives T.gives_prefix T.has_failed contents.now out.old out.new tables_of }
 {
-    put_string_ids(contents, out);
-    put_type_ids(contents, out);
-    put_proto_ids(contents, out);
-    put_field_ids(contents, out);
-    put_method_ids(contents, out);
+    put_list::<StringIds, T>(contents, out);
+    put_list::<TypeIds, T>(contents, out);
+    put_list::<ProtoIds, T>(contents, out);
+    put_list::<FieldIds, T>(contents, out);
+    put_list::<MethodIds, T>(contents, out);
     put_class_defs(contents, out);
 }
 
@@ -35,7 +36,7 @@ fn put_data<T: Target>(contents: &Contents<'_, '_, '_>, out: &mut Out<T>)
     out.put_bytes(layout.type_lists().bytes());
     out.put_bytes(layout.annotations().bytes());
     out.put_bytes(layout.static_values().bytes());
-    put_strings(contents, out);
+    put_list::<StringDataItems, T>(contents, out);
     out.put_bytes(layout.debugs().bytes());
     put_codes(contents, out);
     out.put_bytes(layout.class_data().bytes());

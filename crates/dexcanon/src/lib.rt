@@ -15,6 +15,7 @@ mod contents;
 mod digest;
 mod faults;
 mod files;
+mod item_lists;
 mod items;
 mod map;
 mod output;

@@ -2,24 +2,26 @@
 //!
 //! Source: the heading "string_data_item" of the Android page "Dalvik Executable format".
 
-ghost use Rattle.dexspec.specs.Canonical.{string_section};
-ghost use Rattle.dexcanon.specs.internal.Ready.{CanBeMade};
-ghost use Rattle.dexcanon.specs.internal.Adding.{AddsSection};
+ghost use Rattle.dexcanon.specs.internal.Adding.{string_items};
 
 use crate::contents::Contents;
+use crate::item_lists::ItemList;
 use crate::items::StringData;
 use crate::output::{Out, Target};
 use dexpool::SymbolKind;
 
 /// The data of the texts.
-pub(crate) fn put_strings<T: Target>(contents: &Contents<'_, '_, '_>, out: &mut Out<T>)
-    requires { CanBeMade contents.now }
-    ensures { AddsSection T.gives T.gives_prefix T.has_failed contents.now out.old out.new
-        string_section }
-{
-    let numbering = contents.numbering;
-    for i in 0..numbering.count(SymbolKind::Text) {
-        let data = StringData(numbering.string(i));
+pub(crate) struct StringDataItems;
+
+impl ItemList for StringDataItems {
+    ghost items = { string_items };
+
+    fn len(contents: &Contents<'_, '_, '_>) -> usize {
+        contents.numbering.count(SymbolKind::Text)
+    }
+
+    fn put_item<T: Target>(contents: &Contents<'_, '_, '_>, i: usize, out: &mut Out<T>) {
+        let data = StringData(contents.numbering.string(i));
         out.put(&data);
     }
 }

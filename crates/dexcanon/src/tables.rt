@@ -3,57 +3,63 @@
 //! Source: the headings "string_id_item", "type_id_item", "proto_id_item", "field_id_item" and "method_id_item" of the
 //! Android page "Dalvik Executable format".
 
-ghost use Rattle.dexcanon.specs.internal.Ready.{CanBeMade};
-ghost use Rattle.dexcanon.specs.internal.Adding.{AddsPart, string_rows, type_rows, proto_rows, field_rows, method_rows};
+ghost use Rattle.dexcanon.specs.internal.Adding.{string_rows, type_rows, proto_rows, field_rows, method_rows};
 
 use crate::contents::Contents;
+use crate::item_lists::ItemList;
 use crate::items::{MemberRow, Number, Numbers};
 use crate::output::{Out, Target};
 use dexpool::{SymbolKind, number_law};
 
 /// The rows of the texts, from the offset of each.
-pub(crate) fn put_string_ids<T: Target>(contents: &Contents<'_, '_, '_>, out: &mut Out<T>)
-    requires { CanBeMade contents.now }
-    ensures { AddsPart T.gives T.gives_prefix T.has_failed contents.now out.old
-        out.new string_rows }
-{
-    let offsets = contents.layout.strings().offsets();
-    for off in offsets {
-        out.put(&Number(*off));
+pub(crate) struct StringIds;
+
+impl ItemList for StringIds {
+    ghost items = { string_rows };
+
+    fn len(contents: &Contents<'_, '_, '_>) -> usize {
+        contents.layout.strings().offsets().len()
+    }
+
+    fn put_item<T: Target>(contents: &Contents<'_, '_, '_>, i: usize, out: &mut Out<T>) {
+        let offsets = contents.layout.strings().offsets();
+        out.put(&Number(offsets[i]));
     }
 }
 
 /// The rows of the types.
-pub(crate) fn put_type_ids<T: Target>(contents: &Contents<'_, '_, '_>, out: &mut Out<T>)
-    requires { CanBeMade contents.now }
-    ensures { AddsPart T.gives T.gives_prefix T.has_failed contents.now out.old out.new type_rows }
-{
-    let numbering = contents.numbering;
-    numbering.is_numbering();
-    number_law();
-    for i in 0..numbering.count(SymbolKind::Typ) {
-        let row = Number(numbering.descriptor(i) as u32);
+pub(crate) struct TypeIds;
+
+impl ItemList for TypeIds {
+    ghost items = { type_rows };
+
+    fn len(contents: &Contents<'_, '_, '_>) -> usize {
+        contents.numbering.count(SymbolKind::Typ)
+    }
+
+    fn put_item<T: Target>(contents: &Contents<'_, '_, '_>, i: usize, out: &mut Out<T>) {
+        contents.numbering.is_numbering();
+        number_law();
+        let row = Number(contents.numbering.descriptor(i) as u32);
         out.put(&row);
     }
 }
 
 /// The rows of the protos, from where the parameters of each are listed.
-pub(crate) fn put_proto_ids<T: Target>(contents: &Contents<'_, '_, '_>, out: &mut Out<T>)
-    requires { CanBeMade contents.now }
-    ensures { AddsPart T.gives T.gives_prefix T.has_failed contents.now out.old out.new proto_rows }
-{
-    let numbering = contents.numbering;
-    numbering.is_numbering();
-    number_law();
-    let count = numbering.count(SymbolKind::Proto);
-    let (list_offs, _) = contents
-        .layout
-        .type_lists()
-        .places()
-        .offsets()
-        .split_at(count);
-    for i in 0..count {
-        let proto = numbering.proto(i);
+pub(crate) struct ProtoIds;
+
+impl ItemList for ProtoIds {
+    ghost items = { proto_rows };
+
+    fn len(contents: &Contents<'_, '_, '_>) -> usize {
+        contents.numbering.count(SymbolKind::Proto)
+    }
+
+    fn put_item<T: Target>(contents: &Contents<'_, '_, '_>, i: usize, out: &mut Out<T>) {
+        contents.numbering.is_numbering();
+        number_law();
+        let proto = contents.numbering.proto(i);
+        let list_offs = contents.layout.type_lists().places().offsets();
         let row = [
             proto.shorty() as u32,
             proto.return_type() as u32,
@@ -64,15 +70,19 @@ pub(crate) fn put_proto_ids<T: Target>(contents: &Contents<'_, '_, '_>, out: &mu
 }
 
 /// The rows of the fields.
-pub(crate) fn put_field_ids<T: Target>(contents: &Contents<'_, '_, '_>, out: &mut Out<T>)
-    requires { CanBeMade contents.now }
-    ensures { AddsPart T.gives T.gives_prefix T.has_failed contents.now out.old out.new field_rows }
-{
-    let numbering = contents.numbering;
-    numbering.is_numbering();
-    number_law();
-    for i in 0..numbering.count(SymbolKind::Field) {
-        let field = numbering.field(i);
+pub(crate) struct FieldIds;
+
+impl ItemList for FieldIds {
+    ghost items = { field_rows };
+
+    fn len(contents: &Contents<'_, '_, '_>) -> usize {
+        contents.numbering.count(SymbolKind::Field)
+    }
+
+    fn put_item<T: Target>(contents: &Contents<'_, '_, '_>, i: usize, out: &mut Out<T>) {
+        contents.numbering.is_numbering();
+        number_law();
+        let field = contents.numbering.field(i);
         let row = MemberRow {
             class: field.class as u16,
             second: field.typ as u16,
@@ -83,16 +93,19 @@ pub(crate) fn put_field_ids<T: Target>(contents: &Contents<'_, '_, '_>, out: &mu
 }
 
 /// The rows of the methods.
-pub(crate) fn put_method_ids<T: Target>(contents: &Contents<'_, '_, '_>, out: &mut Out<T>)
-    requires { CanBeMade contents.now }
-    ensures { AddsPart T.gives T.gives_prefix T.has_failed contents.now out.old
-        out.new method_rows }
-{
-    let numbering = contents.numbering;
-    numbering.is_numbering();
-    number_law();
-    for i in 0..numbering.count(SymbolKind::Method) {
-        let method = numbering.method(i);
+pub(crate) struct MethodIds;
+
+impl ItemList for MethodIds {
+    ghost items = { method_rows };
+
+    fn len(contents: &Contents<'_, '_, '_>) -> usize {
+        contents.numbering.count(SymbolKind::Method)
+    }
+
+    fn put_item<T: Target>(contents: &Contents<'_, '_, '_>, i: usize, out: &mut Out<T>) {
+        contents.numbering.is_numbering();
+        number_law();
+        let method = contents.numbering.method(i);
         let row = MemberRow {
             class: method.class as u16,
             second: method.proto as u16,

@@ -1,8 +1,9 @@
 -- What is added to an output: the parts of a file, and items within a limit.
-use Rattle.std.specs.Prelude.{◌≡◌, ℕ, ◌+◌, ◌≤◌, Bool, List, ◌++◌, None, length, vec_len, vec_capacity, slice_index}
+use Rattle.std.specs.Prelude.{◌≡◌, ℕ, ◌+◌, ◌≤◌, Bool, List, ◌++◌, None, length, map, vec_len, vec_capacity, slice_index}
 use Rattle.std.specs.List.{concat, flat_map}
 use Rattle.dexspec.specs.Lists.{zip_with}
 use Rattle.dexspec.specs.Bytes.{uint, padding}
+use Rattle.dexspec.specs.Texts.{string_data}
 use Rattle.dexspec.specs.Placing.{Ordered, Placed, section_bytes, bytes_from, offsets, uses_offsets, end}
 use Rattle.dexspec.specs.Spellings.{text_index}
 use Rattle.dexspec.specs.Canonical.{class_offsets, data_sections, table_bytes, proto_row_bytes, field_row_bytes, method_row_bytes, with_sums, unsigned_file, type_list_section, string_section, directory_section}
@@ -28,22 +29,27 @@ after_header_of c = after_header (ordered_in c)
 abbrev pub tables_of : Contents → List ℕ
 tables_of c = table_bytes (ordered_in c)
 
--- the rows of each table
-abbrev pub string_rows : Contents → List ℕ
-string_rows c = flat_map uint (offsets (string_section (ordered_in c)))
+-- the rows of each table of symbols
+abbrev pub string_rows : Contents → List (List ℕ)
+string_rows c = map uint (offsets (string_section (ordered_in c)))
 
-abbrev pub type_rows : Contents → List ℕ
-type_rows c = flat_map (λ t. uint (text_index c.numbering.now t)) c.numbering.now.types
+abbrev pub type_rows : Contents → List (List ℕ)
+type_rows c = map (λ t. uint (text_index c.numbering.now t)) c.numbering.now.types
 
-abbrev pub proto_rows : Contents → List ℕ
-proto_rows c = concat (zip_with (proto_row_bytes c.numbering.now) c.numbering.now.protos (uses_offsets (type_list_section (ordered_in c))))
+abbrev pub proto_rows : Contents → List (List ℕ)
+proto_rows c = zip_with (proto_row_bytes c.numbering.now) c.numbering.now.protos (uses_offsets (type_list_section (ordered_in c)))
 
-abbrev pub field_rows : Contents → List ℕ
-field_rows c = flat_map (field_row_bytes c.numbering.now) c.numbering.now.fields
+abbrev pub field_rows : Contents → List (List ℕ)
+field_rows c = map (field_row_bytes c.numbering.now) c.numbering.now.fields
 
-abbrev pub method_rows : Contents → List ℕ
-method_rows c = flat_map (method_row_bytes c.numbering.now) c.numbering.now.methods
+abbrev pub method_rows : Contents → List (List ℕ)
+method_rows c = map (method_row_bytes c.numbering.now) c.numbering.now.methods
 
+-- the data of each text
+abbrev pub string_items : Contents → List (List ℕ)
+string_items c = map string_data c.numbering.now.texts
+
+-- the rows of the classes
 abbrev pub class_rows : Contents → List ℕ
 class_rows c = concat (rows_with c.numbering.now c.classes.now (class_offsets (ordered_in c)))
 

@@ -1,0 +1,10 @@
+use Rattle.std.proofs.Common.{List, ℕ, length, ap, sym, ◌∙◌}
+use Rattle.std.proofs.lemmas.List.{length-map}
+use Rattle.dexspec.specs.Bytes.{uint}
+use Rattle.dexlayout.specs.Places.{ItemPlaces}
+use Rattle.dexcanon.proofs.tables.StringIdsItemList.len.Goals as goal
+
+pub returns : goal.returns
+returns c =
+    let offsets = c.offsets.ensures ∙ ap (λ (p : ItemPlaces). p.offsets) c.strings.ensures ∙ c.requires.laid.strings_are.offsets_are in
+    ap (λ (l : List ℕ). length l) offsets ∙ sym (length-map _ uint)

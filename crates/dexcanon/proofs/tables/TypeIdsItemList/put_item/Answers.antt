@@ -1,0 +1,20 @@
+use Rattle.std.proofs.Common.{◌<◌, [], length, sym, arith}
+use Rattle.std.proofs.lemmas.List.{length-map}
+use Rattle.dexspec.proofs.numbers.ByteNumbers.{length-uint}
+use Rattle.dexcanon.proofs.Written.{adds_as}
+use Rattle.dexcanon.proofs.SymbolRows.{type_row, type_row_at}
+use Rattle.dexcanon.proofs.WholeBody.{texts_few}
+use Rattle.dexcanon.proofs.tables.TypeIdsItemList.put_item.Goals as goal
+
+pub descriptor-requires : goal.descriptor-requires
+descriptor-requires g c = omega (arith, c.requires.within, length-map c.args.contents.now.numbering.now.types (type_row c.args.contents.now.numbering.now))
+
+pub overflow_cast-row : goal.overflow_cast-row
+overflow_cast-row g c = omega (arith, (c.descriptor.ensures []).within, texts_few c.args.contents.now.numbering.now c.args.contents.now.classes.now c.requires.ready.writable)
+
+pub returns : goal.returns
+returns g c =
+    let m = c.args.contents.now.numbering.now in
+    let lt : c.args.i < length m.types = omega (arith, c.requires.within, length-map m.types (type_row m)) in
+    adds_as (sym (type_row_at m c.args.i c.descriptor.result [] (c.number_law.ensures m c.is_numbering.ensures.rising) lt (c.descriptor.ensures [])))
+    (c.put.ensures.adds c.args.contents.now.limit (omega (arith, length-uint c.descriptor.result, c.requires.ready.least)))

@@ -30,12 +30,12 @@ module _ {T : Type 0} {gives gives_prefix : List ℕ → T → T → Type 0} whe
       subst (λ z. gives z start out.target) (sym (append-nil k.gone) ∙ ap (λ z. k.gone ++ z) (sym (no_items out.buffer empty)) ∙ k.joined) k.given
 
 -- a target that cannot fail has no fault where there is room
-fine_at : {T : Type 0} {limit : ℕ} (out : Out T) (fault : Option StoreFault) → out.fault ≡ fault → ReportsFault (λ _. false) out → HasRoom limit out → out.fault ≡ None
-fine_at out None e reports room = e
-fine_at out (Some Memory) e reports room = absurd (room.never e)
-fine_at out (Some Io) e reports room = absurd (let never : false ≡ true = reports.fails e in cc)
+fine_at : {T : Type 0} {has_failed : T → Bool} {limit : ℕ} → ((t : T) → has_failed t ≡ false) → (out : Out T) (fault : Option StoreFault) → out.fault ≡ fault → ReportsFault has_failed out → HasRoom limit out → out.fault ≡ None
+fine_at works out None e reports room = e
+fine_at works out (Some Memory) e reports room = absurd (room.never e)
+fine_at works out (Some Io) e reports room = absurd (let never : false ≡ true = sym (works out.target) ∙ reports.fails e in cc)
 
-module _ {T : Type 0} {gives gives_prefix : List ℕ → T → T → Type 0} {limit : ℕ} {old new : Out T} {x : List ℕ} (a : Adds gives gives_prefix (λ _. false) limit old new x) (fresh : old.fault ≡ None) (least : limit ≤ old.limit) (enough : limit ≤ vec_capacity old.buffer) where
+module _ {T : Type 0} {gives gives_prefix : List ℕ → T → T → Type 0} {has_failed : T → Bool} {limit : ℕ} {old new : Out T} {x : List ℕ} (works : (t : T) → has_failed t ≡ false) (a : Adds gives gives_prefix has_failed limit old new x) (fresh : old.fault ≡ None) (least : limit ≤ old.limit) (enough : limit ≤ vec_capacity old.buffer) where
   room_before : HasRoom limit old
   room_before = record { least = least; enough = enough; never = λ e. absurd (let never : None ≡ Some Memory = sym fresh ∙ e in cc) }
 
@@ -45,7 +45,7 @@ module _ {T : Type 0} {gives gives_prefix : List ℕ → T → T → Type 0} {li
 
   -- and no fault
   pub no_fault : new.fault ≡ None
-  no_fault = fine_at new new.fault refl (a.reports (record { works = λ e. refl; fails = λ e. absurd (let never : None ≡ Some Io = sym fresh ∙ e in cc) })) room_after
+  no_fault = fine_at works new new.fault refl (a.reports (record { works = λ e. works old.target; fails = λ e. absurd (let never : None ≡ Some Io = sym fresh ∙ e in cc) })) room_after
 
   -- the target has taken all
   pub sure : gives [] old.target old.target → (new.fault ≡ None → vec_len new.buffer ≡ 0) → gives (old.buffer.items ++ x) old.target new.target

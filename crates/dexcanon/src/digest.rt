@@ -9,8 +9,7 @@ ghost use Rattle.dexcanon.specs.internal.Ready.{CanBeMade, ordered_in};
 ghost use Rattle.dexcanon.specs.Digests.{class_digest, IsFileAlone, class_digests, EqualByFiles};
 
 use crate::contents::Contents;
-use crate::files::{put_head, write_body};
-use crate::output::Out;
+use crate::files::write_signed;
 use crate::writing::PIECE;
 use dexclass::{Part, Program};
 use dexlayout::Layout;
@@ -73,7 +72,7 @@ fn signature(alloc: Global, program: &Program<'_>) -> Result<[u8; 20], AllocErro
 }
 
 // The signature of the file of its contents, which is made in a buffer with room.
-fn signed(contents: &Contents<'_, '_, '_>, mut buffer: Vec<u8>) -> [u8; 20]
+fn signed(contents: &Contents<'_, '_, '_>, buffer: Vec<u8>) -> [u8; 20]
     requires ready { CanBeMade contents.now }
     requires room { contents.now.limit ≤ vec_capacity buffer }
     requires empty { vec_len buffer ≡ 0 }
@@ -81,20 +80,6 @@ fn signed(contents: &Contents<'_, '_, '_>, mut buffer: Vec<u8>) -> [u8; 20]
 {
     dexhead::laws::file_law();
     dexhead::laws::sums_law();
-    let head = contents.layout.head();
-    put_head(&head, 32, &mut buffer);
-    let mut out = Out {
-        buffer,
-        limit: contents.limit,
-        fault: None,
-        target: Sha1::new(),
-    };
-    write_body(contents, &mut out);
-    let Out {
-        buffer: _,
-        limit: _,
-        fault: _,
-        target: message,
-    } = out;
+    let (_buffer, message) = write_signed(contents, buffer, Sha1::new());
     message.finalize()
 }

@@ -1,9 +1,9 @@
 //! A file from a place in its header on.
 
-ghost use Rattle.std.specs.Prelude.{◌≡◌, ◌≤◌, None, drop, vec_len, vec_capacity};
+ghost use Rattle.std.specs.Prelude.{◌≡◌, ◌≤◌, None, false, drop, vec_len, vec_capacity};
 ghost use Rattle.dexhead.specs.Written.{head_bytes};
 ghost use Rattle.dexcanon.specs.internal.Ready.{CanBeMade};
-ghost use Rattle.dexcanon.specs.internal.Adding.{AddsPart, after_header_of};
+ghost use Rattle.dexcanon.specs.internal.Adding.{AddsPart, after_header_of, signed_of};
 
 use crate::body::put_body;
 use crate::contents::Contents;
@@ -31,4 +31,37 @@ pub(crate) fn write_body<T: Target>(contents: &Contents<'_, '_, '_>, out: &mut O
 {
     put_body(contents, out);
     out.flush();
+}
+
+/// Writes the part of a file that its signature covers to a target that cannot fail. Returns the buffer, which is empty
+/// again, and the target.
+pub(crate) fn write_signed<T: Target>(
+    contents: &Contents<'_, '_, '_>,
+    mut buffer: Vec<u8>,
+    target: T,
+) -> (Vec<u8>, T)
+    requires ready { CanBeMade contents.now }
+    requires room { contents.now.limit ≤ vec_capacity buffer }
+    requires empty { vec_len buffer ≡ 0 }
+    requires sure { (t : T) → T.has_failed t ≡ false }
+    ensures given { T.gives (signed_of contents.now) target result.1 }
+    ensures room { contents.now.limit ≤ vec_capacity result.0 }
+    ensures empty { vec_len result.0 ≡ 0 }
+{
+    let head = contents.layout.head();
+    put_head(&head, 32, &mut buffer);
+    let mut out = Out {
+        buffer,
+        limit: contents.limit,
+        fault: None,
+        target,
+    };
+    write_body(contents, &mut out);
+    let Out {
+        buffer,
+        limit: _,
+        fault: _,
+        target,
+    } = out;
+    (buffer, target)
 }

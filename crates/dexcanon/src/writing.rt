@@ -14,7 +14,7 @@ use crate::adler_combine::adler_combine;
 use crate::body::put_body;
 use crate::contents::Contents;
 use crate::faults::StoreFault;
-use crate::files::{put_head, write_body};
+use crate::files::{put_head, write_body, write_signed};
 use crate::output::Out;
 use crate::targets::{InMemory, Sums, Writer};
 use dexclass::Program;
@@ -153,7 +153,7 @@ fn write_through<W: Sink>(
 
 // The header of a file with its two sums, which are computed over the file as it is encoded into a buffer with room.
 // The buffer is returned empty.
-fn head_with_sums(contents: &Contents<'_, '_, '_>, mut buffer: Vec<u8>) -> (Head, Vec<u8>)
+fn head_with_sums(contents: &Contents<'_, '_, '_>, buffer: Vec<u8>) -> (Head, Vec<u8>)
     requires ready { CanBeMade contents.now }
     requires room { contents.now.limit ≤ vec_capacity buffer }
     requires empty { vec_len buffer ≡ 0 }
@@ -164,28 +164,16 @@ fn head_with_sums(contents: &Contents<'_, '_, '_>, mut buffer: Vec<u8>) -> (Head
     dexhead::laws::fields_law();
     dexhead::laws::file_law();
     dexhead::laws::sums_law();
-    let mut head = contents.layout.head();
-    put_head(&head, 32, &mut buffer);
     let sums = Sums {
         message: Sha1::new(),
         adler: Adler::new(),
     };
-    let mut out = Out {
-        buffer,
-        limit: contents.limit,
-        fault: None,
-        target: sums,
-    };
-    write_body(contents, &mut out);
-    let Out {
-        buffer,
-        limit: _,
-        fault: _,
-        target: Sums {
-            message,
-            adler: rest,
-        },
-    } = out;
+    let (buffer, sums) = write_signed(contents, buffer, sums);
+    let Sums {
+        message,
+        adler: rest,
+    } = sums;
+    let mut head = contents.layout.head();
     head.signature = message.finalize();
     head.checksum = adler_combine(adler(&head.signature), rest.value(), head.file_size - 32);
     (head, buffer)

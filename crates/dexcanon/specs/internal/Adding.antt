@@ -1,5 +1,5 @@
 -- What is added to an output: the parts of a file, and items within a limit.
-use Rattle.std.specs.Prelude.{◌≡◌, ℕ, ◌+◌, ◌≤◌, Bool, List, ◌++◌, None, length, map, vec_len, vec_capacity, slice_index}
+use Rattle.std.specs.Prelude.{◌≡◌, ℕ, ◌+◌, ◌≤◌, Bool, List, ◌++◌, None, length, map, drop, vec_len, vec_capacity, slice_index}
 use Rattle.std.specs.List.{concat, flat_map}
 use Rattle.dexspec.specs.Lists.{zip_with}
 use Rattle.dexspec.specs.Bytes.{uint, padding}
@@ -8,6 +8,7 @@ use Rattle.dexspec.specs.Placing.{Ordered, Placed, section_bytes, bytes_from, of
 use Rattle.dexspec.specs.Spellings.{text_index}
 use Rattle.dexspec.specs.Canonical.{class_offsets, data_sections, table_bytes, proto_row_bytes, field_row_bytes, method_row_bytes, with_sums, unsigned_file, type_list_section, string_section, directory_section}
 use Rattle.dexhead.specs.Laid.{after_header, map_list}
+use Rattle.dexhead.specs.Written.{head_bytes}
 use Rattle.dexcanon.specs.declared.class_defs.ClassPlaces.{ClassPlaces}
 use Rattle.dexcanon.specs.declared.contents.Contents.{Contents}
 use Rattle.dexcanon.specs.declared.output.Out.{Out}
@@ -24,6 +25,10 @@ file_of c = with_sums (unsigned_file (ordered_in c))
 -- all of it that follows the header
 abbrev pub after_header_of : Contents → List ℕ
 after_header_of c = after_header (ordered_in c)
+
+-- what its signature covers
+abbrev pub signed_of : Contents → List ℕ
+signed_of c = drop 32 (head_bytes c.layout.now.head) ++ after_header_of c
 
 -- the rows of all tables
 abbrev pub tables_of : Contents → List ℕ

@@ -1,7 +1,7 @@
 -- Items one after the other: what is left of them before and after the next.
 use Rattle.std.proofs.Common.{◌≡◌, ℕ, ◌+◌, ◌<◌, ◌≤◌, List, [], ◌∷◌, ◌++◌, length, get_or, map, drop, refl, sym, ap, ◌∙◌, append_assoc}
 use Rattle.std.specs.List.{flat_map, concat}
-use Rattle.std.proofs.lemmas.List.{drop_more}
+use Rattle.std.proofs.lemmas.List.{drop_more, length-map}
 use Rattle.dexspec.specs.Bytes.{round_up, padding}
 use Rattle.dexspec.specs.Placing.{bytes_from, end_from}
 use Rattle.dexspec.proofs.layout.Places.{end_from_le}
@@ -12,7 +12,11 @@ use Rattle.dexspec.proofs.layout.Places.{end_from_le}
 pub next_item : (xs : List (List ℕ)) (i : ℕ) → i < length xs → concat (drop i xs) ≡ get_or xs i [] ++ concat (drop (i + 1) xs)
 next_item xs i lt = ap concat (drop_more xs i [] lt)
 
--- mapped items
+-- mapped items: as many
+pub count_mapped : {X : Type 0} (f : X → List ℕ) (xs : List X) → length (map f xs) ≡ length xs
+count_mapped f xs = length-map xs f
+
+-- and one after the other
 pub concat_map : {X : Type 0} (f : X → List ℕ) (xs : List X) → concat (map f xs) ≡ flat_map f xs
 concat_map f [] = refl
 concat_map f (x ∷ xs) = ap (λ z. f x ++ z) (concat_map f xs)

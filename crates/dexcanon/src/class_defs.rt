@@ -14,7 +14,7 @@ use crate::contents::Contents;
 use crate::items::Numbers;
 use crate::output::{Out, Target};
 use dexclass::Class;
-use dexpool::{SymbolKind, number_law};
+use dexpool::SymbolKind;
 
 // The offsets of what the classes contain, one of each kind for each class: interfaces, annotations directory, class
 // data and static values.
@@ -90,8 +90,6 @@ pub(crate) fn put_class_defs<T: Target>(contents: &Contents<'_, '_, '_>, out: &m
     ensures { AddsPart T.gives T.gives_prefix T.has_failed contents.now out.old out.new class_rows }
 {
     let classes = contents.classes;
-    contents.numbering.is_numbering();
-    number_law();
     let places = ClassPlaces::of(contents);
     for r in 0..classes.len() {
         let row = row_of(&classes[r], &places, r);

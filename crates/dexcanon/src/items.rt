@@ -42,11 +42,7 @@ pub(crate) struct Numbers<'a>(pub(crate) &'a [u32]);
 
 /// The row of a field or of a method: the number of its class, that of its type or of its proto, and that of its name.
 #[derive(Drop)]
-pub(crate) struct MemberRow {
-    pub(crate) class: u16,
-    pub(crate) second: u16,
-    pub(crate) name: u32,
-}
+pub(crate) struct MemberRow(pub(crate) usize, pub(crate) usize, pub(crate) usize);
 
 /// Bytes as they are.
 #[derive(Drop)]
@@ -110,9 +106,9 @@ impl Item for Numbers<'_> {
 }
 
 impl Item for MemberRow {
-    ghost bytes = { λ r. ushort r.class ++ (ushort r.second ++ uint r.name) };
+    ghost bytes = { λ r. ushort r.0 ++ (ushort r.1 ++ uint r.2) };
 
-    ghost fits = { λ r. Unit {0} };
+    ghost fits = { λ r. (r.0 < 65536) × (r.1 < 65536) × (r.2 < 2 ^ 32) };
 
     #[tactic(auto, using(crate::proofs::ItemLengths::length_member))]
     fn len(&self) -> usize {
@@ -122,9 +118,9 @@ impl Item for MemberRow {
     #[tactic(auto, using(crate::proofs::ItemLengths::length_member))]
     fn put(&self, out: &mut Vec<u8>) -> Result<(), AllocError> {
         out.reserve(8)?;
-        push_u16(self.class, out);
-        push_u16(self.second, out);
-        push_u32(self.name, out);
+        push_u16(self.0 as u16, out);
+        push_u16(self.1 as u16, out);
+        push_u32(self.2 as u32, out);
         Ok(())
     }
 }

@@ -16,6 +16,7 @@ pub(crate) struct StringDataItems;
 impl ItemList for StringDataItems {
     ghost items = { string_items };
 
+    #[tactic(auto, using(crate::proofs::Rows::count_mapped))]
     fn len(contents: &Contents<'_, '_, '_>) -> usize {
         contents.numbering.count(SymbolKind::Text)
     }

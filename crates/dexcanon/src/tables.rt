@@ -9,7 +9,7 @@ use crate::contents::Contents;
 use crate::item_lists::ItemList;
 use crate::items::{MemberRow, Number, Numbers};
 use crate::output::{Out, Target};
-use dexpool::{SymbolKind, number_law};
+use dexpool::SymbolKind;
 
 /// The rows of the texts, from the offset of each.
 pub(crate) struct StringIds;
@@ -33,13 +33,12 @@ pub(crate) struct TypeIds;
 impl ItemList for TypeIds {
     ghost items = { type_rows };
 
+    #[tactic(auto, using(crate::proofs::Rows::count_mapped))]
     fn len(contents: &Contents<'_, '_, '_>) -> usize {
         contents.numbering.count(SymbolKind::Typ)
     }
 
     fn put_item<T: Target>(contents: &Contents<'_, '_, '_>, i: usize, out: &mut Out<T>) {
-        contents.numbering.is_numbering();
-        number_law();
         let row = Number(contents.numbering.descriptor(i) as u32);
         out.put(&row);
     }
@@ -56,8 +55,6 @@ impl ItemList for ProtoIds {
     }
 
     fn put_item<T: Target>(contents: &Contents<'_, '_, '_>, i: usize, out: &mut Out<T>) {
-        contents.numbering.is_numbering();
-        number_law();
         let proto = contents.numbering.proto(i);
         let list_offs = contents.layout.type_lists().places().offsets();
         let row = [
@@ -75,20 +72,14 @@ pub(crate) struct FieldIds;
 impl ItemList for FieldIds {
     ghost items = { field_rows };
 
+    #[tactic(auto, using(crate::proofs::Rows::count_mapped))]
     fn len(contents: &Contents<'_, '_, '_>) -> usize {
         contents.numbering.count(SymbolKind::Field)
     }
 
     fn put_item<T: Target>(contents: &Contents<'_, '_, '_>, i: usize, out: &mut Out<T>) {
-        contents.numbering.is_numbering();
-        number_law();
         let field = contents.numbering.field(i);
-        let row = MemberRow {
-            class: field.class as u16,
-            second: field.typ as u16,
-            name: field.name as u32,
-        };
-        out.put(&row);
+        out.put(&MemberRow(field.class, field.typ, field.name));
     }
 }
 
@@ -98,19 +89,13 @@ pub(crate) struct MethodIds;
 impl ItemList for MethodIds {
     ghost items = { method_rows };
 
+    #[tactic(auto, using(crate::proofs::Rows::count_mapped))]
     fn len(contents: &Contents<'_, '_, '_>) -> usize {
         contents.numbering.count(SymbolKind::Method)
     }
 
     fn put_item<T: Target>(contents: &Contents<'_, '_, '_>, i: usize, out: &mut Out<T>) {
-        contents.numbering.is_numbering();
-        number_law();
         let method = contents.numbering.method(i);
-        let row = MemberRow {
-            class: method.class as u16,
-            second: method.proto as u16,
-            name: method.name as u32,
-        };
-        out.put(&row);
+        out.put(&MemberRow(method.class, method.proto, method.name));
     }
 }

@@ -1,6 +1,7 @@
 use Rattle.std.proofs.Common.{◌<◌, length, sym, arith}
 use Rattle.std.proofs.lemmas.List.{length-map}
 use Rattle.dexspec.specs.Canonical.{method_row_bytes}
+use Rattle.dexpool.proofs.UnionLaws.{ranks_are_numbers}
 use Rattle.dexcanon.proofs.ItemLengths.{length_member}
 use Rattle.dexcanon.proofs.Written.{adds_as}
 use Rattle.dexcanon.proofs.SymbolRows.{method_row_at, no_method}
@@ -10,19 +11,19 @@ use Rattle.dexcanon.proofs.tables.MethodIdsItemList.put_item.Goals as goal
 pub method-method-requires : goal.method-method-requires
 method-method-requires g c = omega (arith, c.requires.within, length-map c.args.contents.now.numbering.now.methods (method_row_bytes c.args.contents.now.numbering.now))
 
-pub overflow_cast-row : goal.overflow_cast-row
-overflow_cast-row g c = omega (arith, (c.method-method.ensures no_method).class_is.within, c.requires.ready.writable.types_few)
-
-pub overflow_cast-row-2 : goal.overflow_cast-row-2
-overflow_cast-row-2 g c = omega (arith, (c.method-method.ensures no_method).proto_is.within, c.requires.ready.writable.protos_few)
-
-pub overflow_cast-row-3 : goal.overflow_cast-row-3
-overflow_cast-row-3 g c = omega (arith, (c.method-method.ensures no_method).name_is.within, texts_few c.args.contents.now.numbering.now c.args.contents.now.classes.now c.requires.ready.writable)
+pub put-requires : goal.put-requires
+put-requires g c =
+    let writable = c.requires.ready.writable in
+    let numbers = c.method-method.ensures no_method in (
+      omega (arith, numbers.class_is.within, writable.types_few),
+      omega (arith, numbers.proto_is.within, writable.protos_few),
+      omega (arith, numbers.name_is.within, texts_few c.args.contents.now.numbering.now c.args.contents.now.classes.now writable),
+    )
 
 pub returns : goal.returns
 returns g c =
     let m = c.args.contents.now.numbering.now in
     let row = c.method-method.result.now in
     let lt : c.args.i < length m.methods = omega (arith, c.requires.within, length-map m.methods (method_row_bytes m)) in
-    adds_as (sym (method_row_at m c.args.i row no_method (c.number_law.ensures m c.is_numbering.ensures.rising) lt (c.method-method.ensures no_method)))
+    adds_as (sym (method_row_at m c.args.i row no_method (ranks_are_numbers m c.requires.ready.writable.numbering.rising) lt (c.method-method.ensures no_method)))
     (c.put.ensures.adds c.args.contents.now.limit (omega (arith, length_member row.class row.proto row.name, c.requires.ready.least)))

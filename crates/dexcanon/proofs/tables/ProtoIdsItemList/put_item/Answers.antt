@@ -5,6 +5,7 @@ use Rattle.dexspec.specs.Canonical.{proto_row_bytes, type_list_section}
 use Rattle.dexspec.proofs.layout.Placements.{length-type_list_offsets}
 use Rattle.dexlayout.specs.Places.{ItemPlaces, EncodedSharedItems}
 use Rattle.dexlayout.specs.Laid.{ordered_of}
+use Rattle.dexpool.proofs.UnionLaws.{ranks_are_numbers}
 use Rattle.dexcanon.proofs.ItemLengths.{length_numbers}
 use Rattle.dexcanon.proofs.Written.{adds_as}
 use Rattle.dexcanon.proofs.SymbolRows.{proto_row_at, no_proto}
@@ -45,6 +46,6 @@ returns g c =
     let offs = c.offsets-list_offs.result.now in
     let i = c.args.i in
     let lt : i < length m.protos = omega (arith, c.requires.within, count_proto_rows m c.args.contents.now.classes.now) in
-    let row = proto_row_at m offs i c.shorty.result c.return_type.result c.proto-proto.result no_proto (c.number_law.ensures m c.is_numbering.ensures.rising) lt (within g here) (c.proto-proto.ensures no_proto) c.shorty.ensures c.return_type.ensures in
+    let row = proto_row_at m offs i c.shorty.result c.return_type.result c.proto-proto.result no_proto (ranks_are_numbers m c.requires.ready.writable.numbering.rising) lt (within g here) (c.proto-proto.ensures no_proto) c.shorty.ensures c.return_type.ensures in
     adds_as (sym row ∙ ap (λ os. get_or (zip_with (proto_row_bytes m) m.protos os) i []) (offsets_are g here))
     (c.put.ensures.adds c.args.contents.now.limit (omega (arith, length_numbers (c.shorty.result ∷ c.return_type.result ∷ get_or offs i 0 ∷ []), c.requires.ready.least)))

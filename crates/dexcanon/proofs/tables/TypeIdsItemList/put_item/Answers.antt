@@ -1,6 +1,7 @@
 use Rattle.std.proofs.Common.{◌<◌, [], length, sym, arith}
 use Rattle.std.proofs.lemmas.List.{length-map}
 use Rattle.dexspec.proofs.numbers.ByteNumbers.{length-uint}
+use Rattle.dexpool.proofs.UnionLaws.{ranks_are_numbers}
 use Rattle.dexcanon.proofs.Written.{adds_as}
 use Rattle.dexcanon.proofs.SymbolRows.{type_row, type_row_at}
 use Rattle.dexcanon.proofs.WholeBody.{texts_few}
@@ -16,5 +17,5 @@ pub returns : goal.returns
 returns g c =
     let m = c.args.contents.now.numbering.now in
     let lt : c.args.i < length m.types = omega (arith, c.requires.within, length-map m.types (type_row m)) in
-    adds_as (sym (type_row_at m c.args.i c.descriptor.result [] (c.number_law.ensures m c.is_numbering.ensures.rising) lt (c.descriptor.ensures [])))
+    adds_as (sym (type_row_at m c.args.i c.descriptor.result [] (ranks_are_numbers m c.requires.ready.writable.numbering.rising) lt (c.descriptor.ensures [])))
     (c.put.ensures.adds c.args.contents.now.limit (omega (arith, length-uint c.descriptor.result, c.requires.ready.least)))

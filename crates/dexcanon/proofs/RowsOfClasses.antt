@@ -1,22 +1,23 @@
 -- The rows of classes, class by class.
-use Rattle.std.proofs.Common.{◌≡◌, ℕ, ◌+◌, ◌<◌, ◌≤◌, ◌^◌, List, [], ◌++◌, length, get_or, map, drop, Option, Some, None, refl, sym, ap, ◌∙◌, arith, zip}
-use Rattle.std.specs.Prelude.{All, IfSome, unwrap_or, slice_index, option_to_list}
-use Rattle.std.specs.List.{concat}
+use Rattle.std.proofs.Common.{◌≡◌, ℕ, ◌+◌, ◌<◌, ◌^◌, List, [], ◌++◌, length, get_or, get_or-drop, map, drop, Option, Some, None, refl, sym, ap, ◌∙◌, arith, zip}
+use Rattle.std.specs.Prelude.{All, IfSome, unwrap_or, option_to_list}
 use Rattle.std.specs.Option.{option_map, option_map_or}
-use Rattle.std.proofs.lemmas.List.{length-append, get_or-map, get_or_default, length-map, drop_all, drop_more}
+use Rattle.std.proofs.lemmas.List.{length-append, length-drop, get_or-map, length-map}
 use Rattle.std.proofs.lemmas.List.Elements.{All-head, All-tail}
 use Rattle.dexspec.specs.Bytes.{uint}
 use Rattle.dexspec.specs.Classes.{no_index}
 use Rattle.dexspec.specs.Mentions.{Mentions}
 use Rattle.dexspec.specs.Spellings.{text_index, type_index}
-use Rattle.dexspec.specs.Canonical.{class_row_bytes}
-use Rattle.dexspec.proofs.layout.Placements.{length-zip}
+use Rattle.dexspec.specs.Placing.{uses_offsets}
+use Rattle.dexspec.specs.Canonical.{class_row_bytes, class_offsets, type_list_section, directory_section, class_data_section, array_section}
+use Rattle.dexspec.proofs.layout.Placements.{length-zip, length-type_list_offsets, length-array_offsets, length-class_data_offsets, length-directory_offsets}
 use Rattle.dexspec.proofs.layout.SectionPlaces.{get_or-zip}
 use Rattle.dexspec.proofs.numbers.ByteNumbers.{length-uint}
 use Rattle.dexpool.specs.Laws.{RanksAreNumbers}
 use Rattle.dexclass.specs.Numbered.{NumberedClass, definition_of, text_at, type_at}
 use Rattle.dexclass.specs.Uses.{IsKnownClass}
-use Rattle.dexcanon.specs.internal.ClassRows.{class_row, rows_with, row_offsets}
+use Rattle.dexlayout.specs.Laid.{ordered_of}
+use Rattle.dexcanon.specs.internal.ClassRows.{class_row, no_offsets, rows_with, row_offsets}
 use Rattle.dexcanon.proofs.Aligned.{all_prefix}
 use Rattle.dexcanon.proofs.OwnUses.{zip_with_at, length-zip_with}
 
@@ -59,52 +60,65 @@ module _ (m : Mentions) (c : NumberedClass) (h : IsKnownClass m c) where
 
 -- ---- rows
 
--- the offsets of the r-th class
-abbrev pub offsets_at : List ℕ → List ℕ → List ℕ → List ℕ → ℕ → ℕ × ℕ × ℕ × ℕ
-offsets_at ns bs ds vs r = (slice_index ns r, slice_index bs r, slice_index ds r, slice_index vs r)
+module _ (ns bs ds vs : List ℕ) (count : ℕ) (n : length ns ≡ count) (a : length bs ≡ count) (d : length ds ≡ count) (v : length vs ≡ count) where
+  -- as many offsets in rows as of each kind
+  count_offsets : length (row_offsets ns bs ds vs) ≡ count
+  count_offsets = length-zip_with _ (zip ns bs) (zip ds vs) (length-zip ds vs count d v ∙ sym (length-zip ns bs count n a)) ∙ length-zip ns bs count n a
 
--- the rows of classes
-abbrev pub rows_of : Mentions → List NumberedClass → List ℕ → List ℕ → List ℕ → List ℕ → List (List ℕ)
-rows_of m cs ns bs ds vs = rows_with m cs (row_offsets ns bs ds vs)
-
-module _ (m : Mentions) (cs : List NumberedClass) (ns bs ds vs : List ℕ) (n : length ns ≡ length cs) (a : length bs ≡ length cs) (d : length ds ≡ length cs) (v : length vs ≡ length cs) where
-  abbrev pub class_rows : List (List ℕ)
-  class_rows = rows_of m cs ns bs ds vs
-
-  count_offsets : length (row_offsets ns bs ds vs) ≡ length cs
-  count_offsets = length-zip_with _ (zip ns bs) (zip ds vs) (length-zip ds vs (length cs) d v ∙ sym (length-zip ns bs (length cs) n a)) ∙ length-zip ns bs (length cs) n a
-
-  pub count_rows : length class_rows ≡ length cs
-  count_rows = length-zip_with (class_row_bytes m) (map (definition_of m) cs) (row_offsets ns bs ds vs) (count_offsets ∙ sym (length-map cs (definition_of m))) ∙ length-map cs (definition_of m)
-
-  -- the row of the r-th class
-  row_at : (r : ℕ) (c : NumberedClass) → r < length cs → c ≡ get_or cs r c → get_or class_rows r [] ≡ class_row_bytes m (definition_of m c) (offsets_at ns bs ds vs r)
-  row_at r c lt is =
-      let none = offsets_at ns bs ds vs r in
-      zip_with_at (class_row_bytes m) (map (definition_of m) cs) (row_offsets ns bs ds vs) r (definition_of m c) none [] (omega (arith, lt, length-map cs (definition_of m))) (omega (arith, lt, count_offsets))
-      ∙ ap (λ z. class_row_bytes m z (get_or (row_offsets ns bs ds vs) r none)) (get_or-map (definition_of m) cs r c (definition_of m c) lt ∙ ap (definition_of m) (sym is))
-      ∙ ap (class_row_bytes m (definition_of m c)) (zip_with_at _ (zip ns bs) (zip ds vs) r (slice_index ns r, slice_index bs r) (slice_index ds r, slice_index vs r) none (omega (arith, lt, length-zip ns bs (length cs) n a)) (omega (arith, lt, length-zip ds vs (length cs) d v))
-      ∙ both (at_of ns bs r (omega (arith, lt, n)) (omega (arith, lt, a))) (at_of ds vs r (omega (arith, lt, d)) (omega (arith, lt, v))))
+  -- those in the r-th row
+  offsets_at : (r : ℕ) → r < count → get_or (row_offsets ns bs ds vs) r no_offsets ≡ (get_or ns r 0, get_or bs r 0, get_or ds r 0, get_or vs r 0)
+  offsets_at r lt =
+      zip_with_at _ (zip ns bs) (zip ds vs) r (0, 0) (0, 0) no_offsets (omega (arith, lt, length-zip ns bs count n a)) (omega (arith, lt, length-zip ds vs count d v))
+      ∙ both (get_or-zip ns bs r 0 0 (omega (arith, lt, n)) (omega (arith, lt, a))) (get_or-zip ds vs r 0 0 (omega (arith, lt, d)) (omega (arith, lt, v)))
     where
-      at_of : (xs ys : List ℕ) (i : ℕ) → i < length xs → i < length ys → get_or (zip xs ys) i (slice_index xs i, slice_index ys i) ≡ (slice_index xs i, slice_index ys i)
-      at_of xs ys i lt less =
-          get_or-zip xs ys i (slice_index xs i) (slice_index ys i) lt less
-          ∙ ap (λ p. (p, get_or ys i (slice_index ys i))) (get_or_default xs i (slice_index xs i) 0 lt) ∙ ap (λ q. (slice_index xs i, q)) (get_or_default ys i (slice_index ys i) 0 less)
-
       make : ℕ × ℕ → ℕ × ℕ → ℕ × ℕ × ℕ × ℕ
       make p q = (p.0, p.1, q.0, q.1)
 
       both : {p p' q q' : ℕ × ℕ} → p ≡ p' → q ≡ q' → make p q ≡ make p' q'
       both {p' = p'} {q = q} e f = ap (λ x. make x q) e ∙ ap (make p') f
 
-  -- the next of them
-  pub next_class_row : (r : ℕ) (c : NumberedClass) → RanksAreNumbers m → IsKnownClass m c → r < length cs → c ≡ get_or cs r c
-      → concat (drop r class_rows) ≡ class_row c (offsets_at ns bs ds vs r) ++ concat (drop (r + 1) class_rows)
-  next_class_row r c ranks h lt is =
-      ap concat (drop_more class_rows r [] (omega (arith, lt, count_rows))) ∙ ap (λ x. x ++ concat (drop (r + 1) class_rows)) (row_at r c lt is ∙ row_is m c h ranks (offsets_at ns bs ds vs r))
+module _ (m : Mentions) (cs : List NumberedClass) where
+  -- an offset of each kind for each class
+  pub count_lists : length (uses_offsets (type_list_section (ordered_of m cs))) ≡ length m.protos + length cs
+  count_lists = omega (arith, length-type_list_offsets (ordered_of m cs), length-map cs (definition_of m))
 
-  pub no_class_row : (r : ℕ) → length cs ≤ r → concat (drop r class_rows) ≡ []
-  no_class_row r le = ap concat (drop_all r class_rows (omega (arith, le, count_rows)))
+  count_interfaces : length (drop (length m.protos) (uses_offsets (type_list_section (ordered_of m cs)))) ≡ length cs
+  count_interfaces = omega (arith, length-drop (length m.protos) (uses_offsets (type_list_section (ordered_of m cs))), count_lists)
+
+  pub count_directories : length (uses_offsets (directory_section (ordered_of m cs))) ≡ length cs
+  count_directories = length-directory_offsets (ordered_of m cs) ∙ length-map cs (definition_of m)
+
+  pub count_class_data : length (uses_offsets (class_data_section (ordered_of m cs))) ≡ length cs
+  count_class_data = length-class_data_offsets (ordered_of m cs) ∙ length-map cs (definition_of m)
+
+  pub count_static_values : length (uses_offsets (array_section (ordered_of m cs))) ≡ length cs
+  count_static_values = length-array_offsets (ordered_of m cs) ∙ length-map cs (definition_of m)
+
+  count_class_offsets : length (class_offsets (ordered_of m cs)) ≡ length cs
+  count_class_offsets = count_offsets _ _ _ _ (length cs) count_interfaces count_directories count_class_data count_static_values
+
+  -- those of the r-th class
+  pub class_offsets_at : (r : ℕ) → r < length cs → get_or (class_offsets (ordered_of m cs)) r no_offsets ≡ (
+    get_or (uses_offsets (type_list_section (ordered_of m cs))) (length m.protos + r) 0,
+    get_or (uses_offsets (directory_section (ordered_of m cs))) r 0,
+    get_or (uses_offsets (class_data_section (ordered_of m cs))) r 0,
+    get_or (uses_offsets (array_section (ordered_of m cs))) r 0,
+  )
+  class_offsets_at r lt =
+      offsets_at _ _ _ _ (length cs) count_interfaces count_directories count_class_data count_static_values r lt
+      ∙ ap (λ n. (n, get_or (uses_offsets (directory_section (ordered_of m cs))) r 0, get_or (uses_offsets (class_data_section (ordered_of m cs))) r 0, get_or (uses_offsets (array_section (ordered_of m cs))) r 0)) (get_or-drop (length m.protos) (uses_offsets (type_list_section (ordered_of m cs))) r 0)
+
+  -- a row for each class
+  pub count_class_rows : length (rows_with m cs (class_offsets (ordered_of m cs))) ≡ length cs
+  count_class_rows = length-zip_with (class_row_bytes m) (map (definition_of m) cs) (class_offsets (ordered_of m cs)) (count_class_offsets ∙ sym (length-map cs (definition_of m))) ∙ length-map cs (definition_of m)
+
+  -- the row of the r-th class
+  pub class_row_at : (r : ℕ) (c : NumberedClass) → RanksAreNumbers m → IsKnownClass m c → r < length cs → c ≡ get_or cs r c
+      → get_or (rows_with m cs (class_offsets (ordered_of m cs))) r [] ≡ class_row c (get_or (class_offsets (ordered_of m cs)) r no_offsets)
+  class_row_at r c ranks h lt is =
+      zip_with_at (class_row_bytes m) (map (definition_of m) cs) (class_offsets (ordered_of m cs)) r (definition_of m c) no_offsets [] (omega (arith, lt, length-map cs (definition_of m))) (omega (arith, lt, count_class_offsets))
+      ∙ ap (λ z. class_row_bytes m z (get_or (class_offsets (ordered_of m cs)) r no_offsets)) (get_or-map (definition_of m) cs r c (definition_of m c) lt ∙ ap (definition_of m) (sym is))
+      ∙ row_is m c h ranks (get_or (class_offsets (ordered_of m cs)) r no_offsets)
 
 pub length_row : (c : NumberedClass) (offs : ℕ × ℕ × ℕ × ℕ) → length (class_row c offs) ≡ 32
 length_row c offs = omega (arith, length-append {A = ℕ}, length-uint)

@@ -5,7 +5,7 @@
 ghost use Rattle.dexcanon.specs.internal.Ready.{CanBeMade};
 ghost use Rattle.dexcanon.specs.internal.Adding.{AddsPart, tables_of, data_of, after_header_of};
 
-use crate::class_defs::put_class_defs;
+use crate::class_defs::ClassDefs;
 use crate::codes::put_codes;
 use crate::contents::Contents;
 use crate::item_lists::put_list;
@@ -24,7 +24,7 @@ fn put_tables<T: Target>(contents: &Contents<'_, '_, '_>, out: &mut Out<T>)
     put_list::<ProtoIds, T>(contents, out);
     put_list::<FieldIds, T>(contents, out);
     put_list::<MethodIds, T>(contents, out);
-    put_class_defs(contents, out);
+    put_list::<ClassDefs, T>(contents, out);
 }
 
 // The sections of the data. All but the texts and the code are encoded in the layout.

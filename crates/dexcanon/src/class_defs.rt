@@ -2,48 +2,51 @@
 //!
 //! Source: the heading "class_def_item" of the Android page "Dalvik Executable format".
 
-ghost use Rattle.std.specs.Prelude.{◌≡◌, ◌<◌, ◌^◌, length, unwrap_or, IfSome};
+ghost use Rattle.std.specs.Prelude.{◌≡◌, ◌<◌, ◌^◌, length, slice_index_or, unwrap_or, IfSome};
 ghost use Rattle.std.specs.List.{flat_map};
 ghost use Rattle.dexspec.specs.Bytes.{uint};
 ghost use Rattle.dexspec.specs.Classes.{no_index};
-ghost use Rattle.dexcanon.specs.internal.ClassRows.{class_row};
-ghost use Rattle.dexcanon.specs.internal.Ready.{CanBeMade};
-ghost use Rattle.dexcanon.specs.internal.Adding.{AddsPart, class_rows, class_rows_by, offsets_at};
+ghost use Rattle.dexspec.specs.Canonical.{class_offsets};
+ghost use Rattle.dexcanon.specs.internal.ClassRows.{class_row, no_offsets};
+ghost use Rattle.dexcanon.specs.internal.Ready.{CanBeMade, ordered_in};
+ghost use Rattle.dexcanon.specs.internal.Adding.{class_rows, offsets_of};
 
 use crate::contents::Contents;
+use crate::item_lists::ItemList;
 use crate::items::Numbers;
 use crate::output::{Out, Target};
 use dexclass::Class;
 use dexpool::SymbolKind;
 
-// The offsets of what the classes contain, one of each kind for each class: interfaces, annotations directory, class
-// data and static values.
+// The offsets of what a class contains, each 0 where it has none: interfaces, annotations directory, class data and
+// static values.
 #[derive(Drop)]
-struct ClassPlaces<'a> {
-    interfaces: &'a [u32],
-    annotations: &'a [u32],
-    class_data: &'a [u32],
-    static_values: &'a [u32],
+struct ClassOffsets {
+    interfaces: u32,
+    annotations: u32,
+    class_data: u32,
+    static_values: u32,
 }
 
-impl<'a> ClassPlaces<'a> {
-    // By the layout of the file. There is an offset of each kind for each class.
-    fn of(contents: &Contents<'a, '_, '_>) -> ClassPlaces<'a>
-        requires { CanBeMade contents.now }
-        ensures interfaces { length result.interfaces.now ≡ length contents.now.classes.now }
-        ensures annotations { length result.annotations.now ≡ length contents.now.classes.now }
-        ensures class_data { length result.class_data.now ≡ length contents.now.classes.now }
-        ensures static_values { length result.static_values.now ≡ length contents.now.classes.now }
-        ensures rows { class_rows_by contents.now result ≡ class_rows contents.now }
+impl ClassOffsets {
+    // Those of the class at a place, by the layout of the file.
+    fn of(contents: &Contents<'_, '_, '_>, i: usize) -> ClassOffsets
+        requires ready { CanBeMade contents.now }
+        requires within { i < length contents.now.classes.now }
+        ensures { offsets_of result
+            ≡ slice_index_or (class_offsets (ordered_in contents.now)) i no_offsets }
     {
         let layout = contents.layout;
-        let list_offs = layout.type_lists().places().offsets();
-        let (_, interfaces) = list_offs.split_at(contents.numbering.count(SymbolKind::Proto));
-        ClassPlaces {
-            interfaces,
-            annotations: layout.directories().places().offsets(),
-            class_data: layout.class_data().places().offsets(),
-            static_values: layout.static_values().places().offsets(),
+        let lists = layout.type_lists().places().offsets();
+        let list = contents.numbering.count(SymbolKind::Proto) + i;
+        let directories = layout.directories().places().offsets();
+        let class_data = layout.class_data().places().offsets();
+        let static_values = layout.static_values().places().offsets();
+        ClassOffsets {
+            interfaces: lists[list],
+            annotations: directories[i],
+            class_data: class_data[i],
+            static_values: static_values[i],
         }
     }
 }
@@ -60,15 +63,11 @@ fn index(number: Option<usize>) -> u32
 }
 
 // The numbers of a class row.
-fn row_of(class: &Class<'_>, places: &ClassPlaces<'_>, r: usize) -> [u32; 8]
+fn row_of(class: &Class<'_>, offsets: &ClassOffsets) -> [u32; 8]
     requires name { class.now.name < 2 ^ 32 }
     requires superclass { IfSome class.now.superclass (λ n. n < 2 ^ 32) }
     requires source { IfSome class.now.source (λ n. n < 2 ^ 32) }
-    requires interfaces { r < length places.now.interfaces.now }
-    requires annotations { r < length places.now.annotations.now }
-    requires class_data { r < length places.now.class_data.now }
-    requires static_values { r < length places.now.static_values.now }
-    ensures { flat_map uint result ≡ class_row class.now (offsets_at places.now r) }
+    ensures { flat_map uint result ≡ class_row class.now (offsets_of offsets.now) }
 {
     let superclass = index(class.superclass());
     let source = index(class.source());
@@ -76,23 +75,29 @@ fn row_of(class: &Class<'_>, places: &ClassPlaces<'_>, r: usize) -> [u32; 8]
         class.name() as u32,
         class.flags().bits(),
         superclass,
-        places.interfaces[r],
+        offsets.interfaces,
         source,
-        places.annotations[r],
-        places.class_data[r],
-        places.static_values[r],
+        offsets.annotations,
+        offsets.class_data,
+        offsets.static_values,
     ]
 }
 
 /// The rows of the classes.
-pub(crate) fn put_class_defs<T: Target>(contents: &Contents<'_, '_, '_>, out: &mut Out<T>)
-    requires { CanBeMade contents.now }
-    ensures { AddsPart T.gives T.gives_prefix T.has_failed contents.now out.old out.new class_rows }
-{
-    let classes = contents.classes;
-    let places = ClassPlaces::of(contents);
-    for r in 0..classes.len() {
-        let row = row_of(&classes[r], &places, r);
+pub(crate) struct ClassDefs;
+
+impl ItemList for ClassDefs {
+    ghost items = { class_rows };
+
+    fn len(contents: &Contents<'_, '_, '_>) -> usize {
+        contents.classes.len()
+    }
+
+    fn put_item<T: Target>(contents: &Contents<'_, '_, '_>, i: usize, out: &mut Out<T>) {
+        let classes = contents.classes;
+        let class = &classes[i];
+        let offsets = ClassOffsets::of(contents, i);
+        let row = row_of(class, &offsets);
         out.put(&Numbers(&row));
     }
 }

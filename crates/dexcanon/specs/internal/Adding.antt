@@ -1,6 +1,6 @@
 -- What is added to an output: the parts of a file, and items within a limit.
-use Rattle.std.specs.Prelude.{◌≡◌, ℕ, ◌+◌, ◌≤◌, Bool, List, ◌++◌, None, length, map, drop, vec_len, vec_capacity, slice_index}
-use Rattle.std.specs.List.{concat, flat_map}
+use Rattle.std.specs.Prelude.{◌≡◌, ℕ, ◌+◌, ◌≤◌, Bool, List, ◌++◌, None, length, map, drop, vec_len, vec_capacity}
+use Rattle.std.specs.List.{flat_map}
 use Rattle.dexspec.specs.Lists.{zip_with}
 use Rattle.dexspec.specs.Bytes.{uint, padding}
 use Rattle.dexspec.specs.Texts.{string_data}
@@ -9,10 +9,10 @@ use Rattle.dexspec.specs.Spellings.{text_index}
 use Rattle.dexspec.specs.Canonical.{class_offsets, data_sections, table_bytes, proto_row_bytes, field_row_bytes, method_row_bytes, with_sums, unsigned_file, type_list_section, string_section, directory_section}
 use Rattle.dexhead.specs.Laid.{after_header, map_list}
 use Rattle.dexhead.specs.Written.{head_bytes}
-use Rattle.dexcanon.specs.declared.class_defs.ClassPlaces.{ClassPlaces}
+use Rattle.dexcanon.specs.declared.class_defs.ClassOffsets.{ClassOffsets}
 use Rattle.dexcanon.specs.declared.contents.Contents.{Contents}
 use Rattle.dexcanon.specs.declared.output.Out.{Out}
-use Rattle.dexcanon.specs.internal.ClassRows.{rows_with, row_offsets}
+use Rattle.dexcanon.specs.internal.ClassRows.{rows_with}
 use Rattle.dexcanon.specs.internal.Output.{Adds, FitFrom, HasRoom}
 use Rattle.dexcanon.specs.internal.Ready.{ordered_in}
 
@@ -55,21 +55,12 @@ abbrev pub string_items : Contents → List (List ℕ)
 string_items c = map string_data c.numbering.now.texts
 
 -- the rows of the classes
-abbrev pub class_rows : Contents → List ℕ
-class_rows c = concat (rows_with c.numbering.now c.classes.now (class_offsets (ordered_in c)))
+abbrev pub class_rows : Contents → List (List ℕ)
+class_rows c = rows_with c.numbering.now c.classes.now (class_offsets (ordered_in c))
 
--- the rows of the classes by these offsets
-abbrev pub class_rows_by : Contents → ClassPlaces → List ℕ
-class_rows_by c places = concat (rows_with c.numbering.now c.classes.now (row_offsets places.interfaces.now places.annotations.now places.class_data.now places.static_values.now))
-
--- the offsets of class r
-abbrev pub offsets_at : ClassPlaces → ℕ → ℕ × ℕ × ℕ × ℕ
-offsets_at places r = (
-  slice_index places.interfaces.now r,
-  slice_index places.annotations.now r,
-  slice_index places.class_data.now r,
-  slice_index places.static_values.now r,
-)
+-- the offsets in a row
+abbrev pub offsets_of : ClassOffsets → ℕ × ℕ × ℕ × ℕ
+offsets_of o = (o.interfaces, o.annotations, o.class_data, o.static_values)
 
 -- the sections of the data
 abbrev pub data_of : Contents → List ℕ

@@ -19,6 +19,10 @@ abbrev pub row_offsets : List ℕ → List ℕ → List ℕ → List ℕ → Lis
 row_offsets interfaces annotations class_data static_values =
     zip_with (λ p q. (p.0, p.1, q.0, q.1)) (zip interfaces annotations) (zip class_data static_values)
 
+-- where there is no class
+abbrev pub no_offsets : ℕ × ℕ × ℕ × ℕ
+no_offsets = (0, 0, 0, 0)
+
 -- the rows of classes, with the offsets of each
 abbrev pub rows_with : Mentions → List NumberedClass → List (ℕ × ℕ × ℕ × ℕ) → List (List ℕ)
 rows_with m cs offs = zip_with (class_row_bytes m) (map (definition_of m) cs) offs

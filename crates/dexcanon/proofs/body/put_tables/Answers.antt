@@ -12,4 +12,4 @@ returns g c =
     (adds_more (adds_as (concat_map (type_row m) m.types) c.put_list-2.ensures)
     (adds_more c.put_list-3.ensures
     (adds_more (adds_as (concat_map (field_row_bytes m) m.fields) c.put_list-4.ensures)
-    (adds_more (adds_as (concat_map (method_row_bytes m) m.methods) c.put_list-5.ensures) c.put_class_defs.ensures))))
+    (adds_more (adds_as (concat_map (method_row_bytes m) m.methods) c.put_list-5.ensures) c.put_list-6.ensures))))

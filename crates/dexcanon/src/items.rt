@@ -1,6 +1,6 @@
 //! Items of a file that is written.
 
-ghost use Rattle.std.specs.Prelude.{◌≡◌, ℕ, ◌+◌, ◌*◌, ◌^◌, ◌<◌, ◌≤◌, List, ◌++◌, length, map, replicate, vec_len, vec_capacity};
+ghost use Rattle.std.specs.Prelude.{◌≡◌, ℕ, ◌+◌, ◌*◌, ◌^◌, ◌<◌, ◌≤◌, List, ◌++◌, length, map, vec_len, vec_capacity};
 ghost use Rattle.std.specs.List.{flat_map};
 ghost use Rattle.dexspec.specs.Bytes.{ushort, uint};
 ghost use Rattle.dexspec.specs.Texts.{string_data};
@@ -47,10 +47,6 @@ pub(crate) struct MemberRow(pub(crate) usize, pub(crate) usize, pub(crate) usize
 /// Bytes as they are.
 #[derive(Drop)]
 pub(crate) struct Bytes<'a>(pub(crate) &'a [u8]);
-
-/// Zeros that align what follows them.
-#[derive(Drop)]
-pub(crate) struct Zeros(pub(crate) usize);
 
 /// A string_data_item.
 #[derive(Drop)]
@@ -122,21 +118,6 @@ impl Item for MemberRow {
         push_u16(self.1 as u16, out);
         push_u32(self.2 as u32, out);
         Ok(())
-    }
-}
-
-impl Item for Zeros {
-    ghost bytes = { λ n. replicate n.0 0 };
-
-    ghost fits = { λ n. n.0 ≤ 3 };
-
-    fn len(&self) -> usize {
-        self.0
-    }
-
-    fn put(&self, out: &mut Vec<u8>) -> Result<(), AllocError> {
-        let zeros = [0; 3];
-        out.extend_from_slice(&zeros[..self.0])
     }
 }
 

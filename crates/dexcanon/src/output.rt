@@ -6,7 +6,7 @@ ghost use Rattle.dexcanon.specs.internal.Output.{Adds, result_of};
 ghost use Rattle.dexcanon.specs.internal.Adding.{AddsItem, AddsAligned, AddsBytes, HasRoomFor};
 
 use crate::faults::StoreFault;
-use crate::items::{Bytes, Item, Zeros};
+use crate::items::{Bytes, Item};
 use dexhead::DeviceFault;
 
 // How many bytes that are encoded already are written at a time. The longest item of a file has at least this many.
@@ -83,7 +83,8 @@ impl<T: Target> Out<T> {
             (I.bytes item.now) }
     {
         let start = (at + 3) / 4 * 4;
-        self.put(&Zeros((start - at) as usize));
+        let zeros = [0; 3];
+        self.put(&Bytes(&zeros[..(start - at) as usize]));
         let len = self.put(item);
         start + len as u32
     }

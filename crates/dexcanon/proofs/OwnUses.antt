@@ -1,5 +1,5 @@
 -- Uses that have items of their own, use by use.
-use Rattle.std.proofs.Common.{◌≡◌, ℕ, zero, suc, ◌+◌, ◌<◌, ◌≤◌, List, [], ◌∷◌, ◌++◌, length, get_or, map, take, drop, Option, Some, None, ap, refl, ◌∙◌, arith}
+use Rattle.std.proofs.Common.{◌≡◌, ℕ, zero, suc, ◌+◌, ◌<◌, ◌≤◌, List, [], ◌∷◌, ◌++◌, length, get_or, map, drop, Option, Some, None, ap, refl, ◌∙◌, arith}
 use Rattle.std.proofs.lemmas.List.{drop_more, drop_all}
 use Rattle.dexspec.specs.Lists.{present, zip_with}
 
@@ -37,7 +37,7 @@ pub length-zip_with : {X Y Z : Type 0} (f : X → Y → Z) (xs : List X) (ys : L
 length-zip_with f xs ys same = length-zip_with_long f xs ys (omega (arith, same))
 
 -- two lists together, of which the first is joined
-pub zip_with_append : {X Y Z : Type 0} (f : X → Y → Z) (xs ws : List X) (ys : List Y) → zip_with f (xs ++ ws) ys ≡ zip_with f xs (take (length xs) ys) ++ zip_with f ws (drop (length xs) ys)
+pub zip_with_append : {X Y Z : Type 0} (f : X → Y → Z) (xs ws : List X) (ys : List Y) → zip_with f (xs ++ ws) ys ≡ zip_with f xs ys ++ zip_with f ws (drop (length xs) ys)
 zip_with_append f [] ws ys = refl
 zip_with_append f (x ∷ xs) [] [] = refl
 zip_with_append f (x ∷ xs) (w ∷ ws) [] = refl

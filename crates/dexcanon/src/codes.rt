@@ -2,7 +2,7 @@
 //!
 //! Source: the heading "code_item" of the Android page "Dalvik Executable format".
 
-ghost use Rattle.std.specs.Prelude.{◌≡◌, ℕ, ◌≤◌, length, All};
+ghost use Rattle.std.specs.Prelude.{◌≡◌, ℕ, ◌≤◌, length, drop, All};
 ghost use Rattle.dexspec.specs.Spellings.{code_bytes};
 ghost use Rattle.dexspec.specs.Placing.{end_from};
 ghost use Rattle.dexspec.specs.Canonical.{code_section};
@@ -47,20 +47,23 @@ impl Item for CodeItem<'_, '_> {
     }
 }
 
-// The code of methods, from a place on, with the offset of the debug program of each. Returns where it ends.
-fn put_method_codes<T: Target>(
+// The code of methods, from a place on, with the offset of the debug program of each. Returns where it ends, and the
+// offsets after those of the methods.
+fn put_method_codes<'a, T: Target>(
     numbering: &Numbering<'_>,
     methods: &Methods<'_, '_>,
-    debug_offs: &[u32],
+    debug_offs: &'a [u32],
     from: u32,
     out: &mut Out<T>,
-) -> u32
+) -> (u32, &'a [u32])
     requires known { All (IsKnownMethod numbering.now) methods.now }
     requires types { length numbering.now.types ≤ 65536 }
-    requires offsets { length debug_offs.now ≡ length methods.now }
+    requires offsets { length methods.now ≤ length debug_offs.now }
     requires fit { (limit : ℕ)
         × FitFrom limit from (method_codes numbering.now methods.now debug_offs.now) }
-    ensures end { result ≡ end_from 4 from (method_codes numbering.now methods.now debug_offs.now) }
+    ensures end { result.0
+        ≡ end_from 4 from (method_codes numbering.now methods.now debug_offs.now) }
+    ensures others { result.1.now ≡ drop (length methods.now) debug_offs.now }
     ensures adds { AddsFrom T.gives T.gives_prefix T.has_failed out.old out.new from
         (method_codes numbering.now methods.now debug_offs.now) }
 {
@@ -78,7 +81,8 @@ fn put_method_codes<T: Target>(
         };
         at = out.put_aligned(&item, at);
     }
-    at
+    let (_, others) = debug_offs.split_at(methods.len());
+    (at, others)
 }
 
 /// The code of the methods of the classes, the direct ones of each first.
@@ -95,10 +99,7 @@ pub(crate) fn put_codes<T: Target>(contents: &Contents<'_, '_, '_>, out: &mut Ou
         let members = class.members();
         let direct = members.direct_methods();
         let virtuals = members.virtual_methods();
-        let (own, others) = rest.split_at(direct.len());
-        at = put_method_codes(numbering, &direct, own, at, out);
-        let (own, others) = others.split_at(virtuals.len());
-        at = put_method_codes(numbering, &virtuals, own, at, out);
-        rest = others;
+        let (end, others) = put_method_codes(numbering, &direct, rest, at, out);
+        (at, rest) = put_method_codes(numbering, &virtuals, others, end, out);
     }
 }

@@ -12,4 +12,5 @@ returns-clause-adds g c = λ limit four le.
     let few : n ≤ 3 = omega arith in
     let same : n ≡ (4 - c.args.at % 4) % 4 = omega arith in
     let short : length (take n zeros) ≤ limit = omega (arith, few, four, length-take n zeros) in
-    adds_more {x = padding 4 c.args.at} (adds_as {x = take n zeros} (take-replicate n 3 0 few ∙ ap (λ k. replicate k 0) same) (c.put.ensures.adds limit short)) (c.put-len.ensures.adds limit le)
+    let padded : take n zeros ≡ padding 4 c.args.at = take-replicate n 3 0 few ∙ ap (λ k. replicate k 0) same in
+    adds_more {x = padding 4 c.args.at} (adds_as {x = take n zeros} padded (c.put.ensures.adds limit short)) (c.put-len.ensures.adds limit le)

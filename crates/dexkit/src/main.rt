@@ -44,6 +44,14 @@ fn print_usage<R: Print + Eprint>(rt: &R, error: &Error) -> u8 {
     }
 }
 
+// Prints why there is no job, and returns the exit status.
+fn explain<R: Print + Eprint>(rt: &R, error: &Error) -> Result<u8, AllocError> {
+    if error.kind() == ErrorKind::OutOfMemory {
+        return Err(AllocError);
+    }
+    Ok(print_usage(rt, error))
+}
+
 // Does the job that the words ask for, and returns the exit status.
 fn run_words<R: Files + Print + Eprint + Input>(
     rt: &R,
@@ -52,8 +60,7 @@ fn run_words<R: Files + Print + Eprint + Input>(
 ) -> Result<u8, AllocError> {
     match read_words(alloc, words) {
         Ok(job) => Ok(print(rt, &run_job(alloc, &SystemDevices::new(rt), &job)?)),
-        Err(error) if error.kind() == ErrorKind::OutOfMemory => Err(AllocError),
-        Err(error) => Ok(print_usage(rt, &error)),
+        Err(error) => explain(rt, &error),
     }
 }
 

@@ -32,6 +32,7 @@ use Rattle.dexlayout.specs.internal.Encoding.{encode_use, encode_uses, no_items_
 use Rattle.dexlayout.specs.internal.Directories.{directory_item, directory_items}
 use Rattle.dexlayout.specs.internal.Collecting.{sets_of_method, sets_of_class, parts_of_class, parts_of_classes}
 use Rattle.dexlayout.proofs.EncodedUses.{own_in, own_same, use_encoded, use_fits}
+use Rattle.dexlayout.proofs.OffsetLists.{take_prefix, drop_prefix}
 use Rattle.dexlayout.proofs.OwnSteps.{drop_next}
 use Rattle.dexlayout.proofs.SetLists.{set_use_offsets, length-set_use_offsets, set_offsets_are}
 use Rattle.dexlayout.specs.internal.OffsetLists.{parameter_counts, class_parameter_counts}
@@ -168,18 +169,6 @@ module _ {items all : EncodedItems} {fs ms ls : List ℕ} {ffs fms fls ofs oms o
 
 -- ---- the offsets of classes
 
--- the first of what is joined
-take_first : (xs ys : List ℕ) (n : ℕ) → length xs ≡ n → take n (xs ++ ys) ≡ xs
-take_first [] ys n e = ap (λ k. take k ys) (sym e)
-take_first (x ∷ xs) ys zero e = absurd (omega (arith, e))
-take_first (x ∷ xs) ys (suc n) e = ap (λ l. x ∷ l) (take_first xs ys n (omega (arith, e)))
-
--- and the rest
-drop_first : (xs ys : List ℕ) (n : ℕ) → length xs ≡ n → drop n (xs ++ ys) ≡ ys
-drop_first [] ys n e = ap (λ k. drop k ys) (sym e)
-drop_first (x ∷ xs) ys zero e = absurd (omega (arith, e))
-drop_first (x ∷ xs) ys (suc n) e = drop_first xs ys n (omega (arith, e))
-
 -- the offsets of the first sets of methods
 abbrev pub firsts : SetOffsets → List ℕ
 firsts s = map (λ os. slice_index os 0) s.methods
@@ -264,10 +253,10 @@ module _ (m : Mentions) (ranks : RanksAreNumbers m) where
       let lm = part_firsts c offs in
       let ll : length (take nm lists) ≡ nm = omega (arith, length-take nm lists, methods_count, many) in
       let nd : nm ≡ length (declared_methods d.1) = sym (ap (λ (l : List MethodDef). length l) (methods_are m c) ∙ length-map (methods_of c.members) (method_in m)) in
-      let ff = take_first s.fields fs nf lf in
-      let fr = drop_first s.fields fs nf lf in
-      let mf = take_first (firsts s) ms nm lm in
-      let mr = drop_first (firsts s) ms nm lm in
+      let ff = take_prefix nf s.fields fs lf in
+      let fr = drop_prefix nf s.fields fs lf in
+      let mf = take_prefix nm (firsts s) ms lm in
+      let mr = drop_prefix nm (firsts s) ms lm in
       let here : directory_item c.members s.own (take nf (s.fields ++ fs)) (take nm (firsts s ++ ms)) (take nm lists) ≡ directory_bytes m d s (take (length (declared_methods d.1)) lists) =
       (λ i. directory_item c.members s.own (ff i) (mf i) (take nm lists))
       ∙ one_directory c (All-head (IsKnownClass m) c cs known) s (take nm lists) lf (part_methods c offs) ll

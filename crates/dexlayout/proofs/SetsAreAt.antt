@@ -1,19 +1,16 @@
 -- The sets that are written, and the offset for each use.
-use Rattle.std.proofs.Common.{◌≡◌, ℕ, ◌<◌, ◌≤◌, List, [], ◌∷◌, length, get_or, map, drop, refl, sym, ap, subst, ◌∙◌, arith, Option, Some, None, All}
-use Rattle.std.specs.Prelude.{slice_index, IfSome}
+use Rattle.std.proofs.Common.{◌≡◌, ℕ, ◌≤◌, List, [], ◌∷◌, length, map, drop, refl, sym, ap, subst, ◌∙◌, arith}
+use Rattle.std.specs.Prelude.{slice_index}
 use Rattle.std.specs.List.{flat_map}
-use Rattle.std.proofs.lemmas.List.{length-map, get_or_default}
+use Rattle.std.proofs.lemmas.List.{length-map}
 use Rattle.dexspec.specs.Annotations.{AnnotationSet}
 use Rattle.dexspec.specs.Mentions.{Mentions}
-use Rattle.dexspec.specs.Placing.{Ordered, SetOffsets, offsets, set_uses, end}
+use Rattle.dexspec.specs.Placing.{Ordered, SetOffsets, offsets, end}
 use Rattle.dexspec.specs.Canonical.{set_items, set_section, set_offsets, annotation_offsets, annotation_section, class_data_section}
-use Rattle.dexspec.specs.Sameness.{same_set}
 use Rattle.dexspec.specs.Sections.{AnnotationSets}
 use Rattle.dexspec.specs.Spellings.{offsets_bytes, annotation_bytes}
 use Rattle.dexspec.proofs.layout.Placements.{length-chunks}
 use Rattle.dexspec.proofs.layout.Places.{length-offsets_from}
-use Rattle.dexspec.proofs.sharing.Sameness.{set_decides}
-use Rattle.dexspec.proofs.layout.Uses.{IsNumber, items_numbered}
 use Rattle.dexval.specs.Numbered.{NumberedSet, annotation_in, set_in}
 use Rattle.dexclass.specs.Numbered.{NumberedClass}
 use Rattle.dexlayout.specs.Places.{EncodedItems, SetPlaces}
@@ -72,22 +69,6 @@ module _ {X : Type 0} (m : Mentions) (cs : List NumberedClass) (g : X → Number
   sets_laid from is =
       let K = ordered_of m cs in
       all_in 4 offsets_bytes AnnotationSets (record { numbers = (set_items K).numbers; written = annotation_offsets K }) is (λ i. offset_lists set_item (counts i) (offsets_are i))
-
--- ---- numbers
-
--- a number is that of an item
-is_within : {X : Type 0} (u : Option X) (n : Option ℕ) (xs : List X) → IsNumber u n xs → IfSome n (λ i. i < length xs)
-is_within None n xs h = subst (λ o. IfSome o (λ i. i < length xs)) (sym h) tt
-is_within (Some x) n xs h = subst (λ o. IfSome o (λ i. i < length xs)) (sym h.2) h.1
-
--- each number is that of a set that is written
-pub numbers_within : (K : Ordered) → All (λ n. IfSome n (λ i. i < length (set_items K).written)) (set_items K).numbers
-numbers_within K =
-    let are = items_numbered K.sharing same_set set_decides (set_uses K) in
-    λ k d lt.
-    let there : k < length (set_uses K) = omega (arith, lt, are.count) in
-    let n = (set_items K).numbers in
-    subst (λ o. IfSome o (λ i. i < length (set_items K).written)) (get_or_default n k None d lt) (is_within (get_or (set_uses K) k None) (get_or n k None) (set_items K).written (are.each k there))
 
 -- ---- all sets
 

@@ -16,6 +16,7 @@ use Rattle.dexspec.specs.Placing.{unless_empty, method_sets, class_sets, type_li
 use Rattle.dexspec.specs.Sameness.{same_types, same_set, same_debug}
 use Rattle.dexspec.specs.Sections.{TypeLists, DebugInfoItems}
 use Rattle.dexspec.specs.Spellings.{type_list_bytes, debug_bytes}
+use Rattle.dexspec.proofs.layout.Uses.{shared_numbered}
 use Rattle.dexspec.proofs.sharing.Sameness.{types_decide, debug_decides}
 use Rattle.dexcode.specs.Debug.{NumberedDebug, numbered_debug_bytes}
 use Rattle.dexcode.specs.Meaning.{code_in, debug_in, IsKnownDebug}
@@ -72,7 +73,7 @@ module _ (m : Mentions) (cs : List NumberedClass) (w : AreWritable m cs) (from :
   unfolding type_list_section
   lists_numbered =
       let items = type_list_items (ordered_of m cs) in
-      numbers_within same_types types_decide (type_list_uses (ordered_of m cs)) numbers (length (encoded_lists from written).places.offsets) h.numbers_are
+      numbers_within numbers (length (encoded_lists from written).places.offsets) (shared_numbered same_types types_decide (type_list_uses (ordered_of m cs))) h.numbers_are
       (offsets_count 4 (data_start (ordered_of m cs)) lists_encoded.places_are ∙ length-map items.written (type_list_bytes m))
 
   lists_numbers : numbers ≡ (type_list_section (ordered_of m cs)).numbers
@@ -181,7 +182,7 @@ module _ (m : Mentions) (cs : List NumberedClass) (w : AreWritable m cs) (from :
   unfolding debug_section
   debugs_numbered =
       let items = debug_items (ordered_of m cs) in
-      numbers_within same_debug debug_decides (debug_uses (ordered_of m cs)) numbers (length (encoded_debugs from written).places.offsets) h.numbers_are
+      numbers_within numbers (length (encoded_debugs from written).places.offsets) (shared_numbered same_debug debug_decides (debug_uses (ordered_of m cs))) h.numbers_are
       (offsets_count 1 (end (string_section (ordered_of m cs))) debugs_encoded.places_are ∙ length-map items.written (debug_bytes m))
 
   debugs_numbers : numbers ≡ (debug_section (ordered_of m cs)).numbers

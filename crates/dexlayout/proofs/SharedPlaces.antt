@@ -1,36 +1,27 @@
 -- The offsets of the items that uses share.
-use Rattle.std.proofs.Common.{◌≡◌, ℕ, ◌<◌, List, [], ◌∷◌, length, map, Some, sym, ap, subst, ◌∙◌}
-use Rattle.std.specs.Prelude.{All, Bool, IfSome, None, Option}
-use Rattle.std.specs.List.{Contains, position_or_len}
-use Rattle.std.specs.Option.{option_map}
-use Rattle.std.proofs.lemmas.List.Elements.{All-nil, All-cons}
-use Rattle.dexspec.specs.Lists.{distinct, present}
-use Rattle.dexspec.specs.Placing.{Placed, offsets_from, shared_items}
-use Rattle.dexspec.proofs.lists.Distinct.{distinct_has}
-use Rattle.dexspec.proofs.lists.Equality.{IsEquality}
-use Rattle.dexspec.proofs.lists.Members.{Contains-first, Contains-later}
+use Rattle.std.proofs.Common.{◌≡◌, ℕ, ◌<◌, List, length, get_or, Some, sym, ap, subst, ◌∙◌, arith}
+use Rattle.std.specs.Prelude.{All, IfSome, None, Option}
+use Rattle.std.proofs.lemmas.List.{get_or_default}
+use Rattle.dexspec.specs.Placing.{Items, Placed, offsets_from}
 use Rattle.dexspec.proofs.layout.Places.{length-offsets_from}
 use Rattle.dexspec.proofs.layout.Placements.{numbers_offsets}
-use Rattle.dexspec.proofs.sharing.Sharing.{position_is}
+use Rattle.dexspec.proofs.layout.Uses.{AreNumbered, IsNumber}
 use Rattle.dexlayout.specs.Places.{ItemPlaces, EncodedItems}
 use Rattle.dexlayout.specs.Laid.{AreItemsIn, AreLaidSo, AreSharedIn}
 use Rattle.dexlayout.specs.internal.Placing.{shared_by}
 
--- each number is that of an item
-numbers_among : {X : Type 0} (same : X → X → Bool) → IsEquality same → (ds : List X) (us : List (Option X)) → ((x : X) → Contains (present us) x → Contains ds x)
-    → All (λ n. IfSome n (λ i. i < length ds)) (map (option_map (λ x. position_or_len (λ y. same y x) ds)) us)
-numbers_among same exact ds [] has = All-nil (λ n. IfSome n (λ i. i < length ds))
-numbers_among same exact ds (None ∷ us) has = All-cons (λ n. IfSome n (λ i. i < length ds)) None (map (option_map (λ x. position_or_len (λ y. same y x) ds)) us) tt (numbers_among same exact ds us has)
-numbers_among same exact ds (Some x ∷ us) has =
-    All-cons (λ n. IfSome n (λ i. i < length ds)) (Some (position_or_len (λ y. same y x) ds)) (map (option_map (λ x. position_or_len (λ y. same y x) ds)) us) (position_is same exact ds x (has x (Contains-first x (present us)))).0
-    (numbers_among same exact ds us (λ y c. has y (Contains-later x y (present us) c)))
+-- a number is that of an item
+is_within : {X : Type 0} (u : Option X) (n : Option ℕ) (xs : List X) → IsNumber u n xs → IfSome n (λ i. i < length xs)
+is_within None n xs h = subst (λ o. IfSome o (λ i. i < length xs)) (sym h) tt
+is_within (Some x) n xs h = subst (λ o. IfSome o (λ i. i < length xs)) (sym h.2) h.1
 
-pub numbers_within : {X : Type 0} (same : X → X → Bool) → IsEquality same → (us : List (Option X)) (numbers : List (Option ℕ)) (count : ℕ) → numbers ≡ (shared_items same us).numbers → count ≡ length (shared_items same us).written
-    → All (λ n. IfSome n (λ i. i < count)) numbers
-numbers_within same exact us numbers count en ec =
-    let ds = distinct same (present us) in
-    subst (λ k. All (λ n. IfSome n (λ i. i < k)) numbers) (sym ec)
-    (subst (All (λ n. IfSome n (λ i. i < length ds))) (sym en) (numbers_among same exact ds us (distinct_has same (λ x y. (exact x y).0) (present us))))
+-- each number is that of an item that is written
+pub numbers_within : {X : Type 0} {uses : List (Option X)} {its : Items X} (numbers : List (Option ℕ)) (count : ℕ) → AreNumbered uses its → numbers ≡ its.numbers → count ≡ length its.written → All (λ n. IfSome n (λ i. i < count)) numbers
+numbers_within {X} {uses} {its} numbers count are en ec =
+    let written = its.written in
+    let each : All (λ n. IfSome n (λ i. i < length written)) its.numbers = λ k d lt.
+    subst (λ o. IfSome o (λ i. i < length written)) (get_or_default its.numbers k None d lt) (is_within (get_or uses k None) (get_or its.numbers k None) written (are.each k (omega (arith, lt, are.count)))) in
+    subst (λ k. All (λ n. IfSome n (λ i. i < k)) numbers) (sym ec) (subst (All (λ n. IfSome n (λ i. i < length written))) (sym en) each)
 
 -- as many offsets as items
 pub offsets_count : {end : ℕ} (align from : ℕ) {items : List (List ℕ)} {p : ItemPlaces} → AreLaidSo (offsets_from align from items) end items p → length p.offsets ≡ length items

@@ -1,8 +1,11 @@
-use Rattle.std.proofs.Common.{◌≡◌, ℕ, ◌<◌, List, Bor, [], length, drop, refl, sym, ap, subst, ◌∙◌, arith, All}
-use Rattle.std.specs.Prelude.{Option, IfSome}
+use Rattle.std.proofs.Common.{◌≡◌, ℕ, List, Bor, [], length, drop, refl, sym, ap, subst, ◌∙◌, arith}
 use Rattle.std.proofs.lemmas.List.{drop_all}
 use Rattle.dexspec.specs.Canonical.{set_items, set_section}
+use Rattle.dexspec.specs.Placing.{set_uses}
+use Rattle.dexspec.specs.Sameness.{same_set}
 use Rattle.dexspec.proofs.layout.Placements.{numbers_offsets}
+use Rattle.dexspec.proofs.layout.Uses.{items_numbered}
+use Rattle.dexspec.proofs.sharing.Sameness.{set_decides}
 use Rattle.dexval.specs.declared.set.AnnotationSet.{AnnotationSet}
 use Rattle.dexval.specs.Code.{set_of}
 use Rattle.dexval.specs.Numbered.{NumberedSet}
@@ -13,7 +16,8 @@ use Rattle.dexlayout.specs.internal.Placing.{AreWrittenSets}
 use Rattle.dexlayout.proofs.Ends.{end_in_file}
 use Rattle.dexlayout.proofs.SetLists.{set_use_offsets, length-set_use_offsets}
 use Rattle.dexlayout.proofs.SetsCollected.{classes_are_long}
-use Rattle.dexlayout.proofs.SetsAreAt.{annotations_enough, sets_laid, numbers_within, sets_are, length-set_offsets}
+use Rattle.dexlayout.proofs.SetsAreAt.{annotations_enough, sets_laid, sets_are, length-set_offsets}
+use Rattle.dexlayout.proofs.SharedPlaces.{numbers_within}
 use Rattle.dexlayout.proofs.sets.place_sets.Goals as goal
 use Rattle.dexlayout.proofs.sets.place_sets.Goals.{After-offsets-rest, In_ok-written}
 
@@ -53,10 +57,9 @@ place_shared-requires c =
     let K = ordered_of m c.args.classes.now in
     let laid = laid_are ((goal.at.place_shared-requires c).In_ok-written) in
     let numbers = c.deref-2.ensures.value ∙ (c.requires.shared m c.requires.classes).numbers_are in
-    let count : length (set_items K).written ≡ length c.places-2.result.now.offsets =
+    let count : length c.places-2.result.now.offsets ≡ length (set_items K).written =
     omega (arith, ap (λ (q : ItemPlaces). length q.offsets) c.places-2.ensures, ap (λ (l : List ℕ). length l) laid.places_are.offsets_are, length-set_offsets K) in
-    subst (λ n. All (λ (o : Option ℕ). IfSome o (λ i. i < n)) c.deref-2.result.now) count
-    (subst (λ (ns : List (Option ℕ)). All (λ (o : Option ℕ). IfSome o (λ i. i < length (set_items K).written)) ns) (sym numbers) (numbers_within K))
+    numbers_within c.deref-2.result.now (length c.places-2.result.now.offsets) (items_numbered K.sharing same_set set_decides (set_uses K)) numbers count
 
 -- the offset of each use
 uses_are : (c : After-offsets-rest) → AreItemsIn (set_section (ordered_of c.args.numbering.now c.args.classes.now)) c.in_ok-written.written → c.offsets-rest.result.now ≡ set_use_offsets (ordered_of c.args.numbering.now c.args.classes.now)

@@ -25,28 +25,38 @@ pub fn run_case<R: Files + AllocGlobal>(
         Kind::Regroup => regroup::run(folder, case),
         Kind::Slices => slices::run(folder, case),
         Kind::Unknown => Err(CaseFault::Form),
-        _ => {
-            let (name, asked) = first_word(case)?;
-            let bytes = folder.read(name)?;
-            match kind {
-                Kind::Normalise | Kind::Strip | Kind::Dump => {
-                    let right = folder.read(asked)?;
-                    compare(folder.alloc(), kind, &bytes, &right)
-                }
-                Kind::CheckRun => check_run::run(folder.alloc(), name, &bytes, asked),
-                Kind::DigestRun => digest_run::run(folder.alloc(), name, &bytes, asked),
-                _ => ask(folder.alloc(), kind, &bytes, asked),
-            }
-        }
+        _ => run_over_file(folder, kind, case),
+    }
+}
+
+// Runs a line whose first word is the name of a file.
+fn run_over_file<R: Files + AllocGlobal>(
+    folder: Folder<'_, R>,
+    kind: Kind,
+    case: &str,
+) -> Result<Outcome, CaseFault> {
+    let (name, asked) = first_word(case)?;
+    let bytes = folder.read(name)?;
+    match kind {
+        Kind::Normalise | Kind::Strip | Kind::Dump => compare(folder, kind, &bytes, asked),
+        Kind::CheckRun => check_run::run(folder.alloc(), name, &bytes, asked),
+        Kind::DigestRun => digest_run::run(folder.alloc(), name, &bytes, asked),
+        _ => ask(folder.alloc(), kind, &bytes, asked),
     }
 }
 
 // Runs a line that names a file and the file that the call must give.
-fn compare(alloc: Global, kind: Kind, bytes: &[u8], right: &[u8]) -> Result<Outcome, CaseFault> {
+fn compare<R: Files + AllocGlobal>(
+    folder: Folder<'_, R>,
+    kind: Kind,
+    bytes: &[u8],
+    right: &str,
+) -> Result<Outcome, CaseFault> {
+    let right = folder.read(right)?;
     match kind {
-        Kind::Normalise => normalise::run(alloc, bytes, right),
-        Kind::Strip => strip::run(alloc, bytes, right),
-        Kind::Dump => dump::run(alloc, bytes, right),
+        Kind::Normalise => normalise::run(folder.alloc(), bytes, &right),
+        Kind::Strip => strip::run(folder.alloc(), bytes, &right),
+        Kind::Dump => dump::run(folder.alloc(), bytes, &right),
         _ => Err(CaseFault::Form),
     }
 }

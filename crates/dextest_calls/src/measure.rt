@@ -19,11 +19,21 @@ pub fn run<R: Files + AllocGlobal>(
     let files = case.strip_prefix("files ").ok_or(CaseFault::Form)?;
     let (names, right) = files.split_once(" is ").ok_or(CaseFault::Form)?;
     let files = files_of(folder, names)?;
-    let programs = programs_of(folder.alloc(), &files)?;
-    match Outcome::of(measured(folder.alloc(), &programs)?, right) {
-        Outcome::Passed => count_run::run_over(folder.alloc(), &files, right),
+    check_files(folder.alloc(), &files, right)
+}
+
+// Returns the outcome of a line over these files.
+fn check_files(alloc: Global, files: &[Vec<u8>], right: &str) -> Result<Outcome, CaseFault> {
+    match Outcome::of(measured_files(alloc, files)?, right) {
+        Outcome::Passed => count_run::run_over(alloc, files, right),
         failed => Ok(failed),
     }
+}
+
+// Returns the counts of the union of files, or the cause.
+fn measured_files(alloc: Global, files: &[Vec<u8>]) -> Result<String, CaseFault> {
+    let programs = programs_of(alloc, files)?;
+    Ok(measured(alloc, &programs)?)
 }
 
 // Returns the counts of a union, or the cause.

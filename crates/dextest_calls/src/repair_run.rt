@@ -5,6 +5,7 @@ use crate::run_answer::RunAnswer;
 use dexhead::Device;
 use dexruns::repair_run;
 use dextest_cases::{CaseFault, Folder, Outcome, first_word};
+use std::alloc::Global;
 use std::rt::Files;
 
 /// Runs a line. `case` is the text after the word of its kind.
@@ -15,8 +16,12 @@ pub fn run<R: Files + AllocGlobal>(
     let (name, right) = first_word(case)?;
     let bytes = folder.read(name)?;
     let right = answer_in(folder, right)?;
-    let alloc = folder.alloc();
-    let mut input = Device::new(bytes.as_slice());
+    check(folder.alloc(), &bytes, &right)
+}
+
+// Returns the outcome of a line over these bytes.
+fn check(alloc: Global, bytes: &[u8], right: &RunAnswer<'_>) -> Result<Outcome, CaseFault> {
+    let mut input = Device::new(bytes);
     let mut out = Device::new(Vec::new(alloc));
     let returned = repair_run(alloc, &mut input, &mut out);
     right.outcome(alloc, &returned, out.into_inner().as_slice())

@@ -65,10 +65,11 @@ pub fn run<R: Files + AllocGlobal>(
     let (name, rest) = first_word(case)?;
     let (most, rest) = first_word(rest)?;
     let (count, right) = first_word(rest)?;
+    let (most, count) = (most.parse()?, count.parse()?);
     let bytes = folder.read(name)?;
     let right = folder.read(right)?;
     let slices = slices_of(folder.alloc(), &bytes, &right)?;
-    reported(folder.alloc(), &slices, most.parse()?, count.parse()?)
+    reported(folder.alloc(), &slices, most, count)
 }
 
 // Returns the outcome of a line with these slices: it passes if they are right, at most `count`, and at most `most`

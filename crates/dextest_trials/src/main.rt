@@ -1,13 +1,8 @@
-//! Tries what no list of cases can have: calls that run out of memory, and a thousand merges that are drawn.
+//! Tries what no list of cases can have: a thousand merges that are drawn, and calls that run out of memory.
 //!
 //! The arguments are the names of the files to draw from.
 //!
-//! First each of eight calls is made while all memory that can be had is taken, but for some room, of which it gets 16
-//! bytes more each time, so that now one allocation and now another is the first that fails. Each time the call has to
-//! report that it is out of memory, with nothing written: a writer sees no call. Once it has enough it has to return
-//! the right bytes. The program prints what came of each.
-//!
-//! Then merges are drawn. A generator whose seed is the number of the merge draws its files, its plan and its caps. The
+//! First merges are drawn. A generator whose seed is the number of the merge draws its files, its plan and its caps. The
 //! program asserts the following of each merge, and prints the number of each merge of which one does not hold:
 //!
 //! - merged at once, in any order, the files give the same bytes or the same cause;
@@ -16,6 +11,11 @@
 //! - stripped before the merge, between two merges, after the merge or twice, they give the same bytes;
 //! - they merge under caps of just what they need, and do not merge if one of these caps is one less;
 //! - no call returns that allocation failed.
+//!
+//! Then each of eight calls is made while all memory that can be had is taken, but for some room, of which it gets 16
+//! bytes more each time, so that now one allocation and now another is the first that fails. Each time the call has to
+//! report that it is out of memory, with nothing written: a writer sees no call. Once it has enough it has to return
+//! the right bytes. The program prints what came of each.
 //!
 //! With the one argument `once` each of the eight calls is made once, and nothing is drawn: `tests/faults/run` makes one
 //! allocation fail in such a run.
@@ -94,11 +94,12 @@ fn are_merges_right<R: Files + Print + AllocGlobal>(rt: &R, names: &[&str]) -> R
     Ok(run_merges(rt, &stored, &lent)?.is_right())
 }
 
-// Tries the calls, and then the merges over the files of these names, and returns whether all are right.
+// Tries the merges over the files of these names, and then the calls, and returns whether all are right. What is left of
+// the address space after the calls can be too little for the stack of the merges.
 fn are_all_right<R: Files + Print + AllocGlobal>(rt: &R, names: &[String]) -> Result<bool, Fault> {
-    let are_calls_right = try_calls(rt, Rounds::UntilRight)?;
     let names: Vec<&str> = names.iter().map(String::as_str).collect(rt.alloc())?;
-    Ok(are_merges_right(rt, &names)? && are_calls_right)
+    let are_merges_right = are_merges_right(rt, &names)?;
+    Ok(try_calls(rt, Rounds::UntilRight)? && are_merges_right)
 }
 
 fn run<R: Files + Print + Env + AllocGlobal>(rt: &R) -> Result<bool, Fault> {

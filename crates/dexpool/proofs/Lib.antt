@@ -15,6 +15,7 @@ pub mod KeptRows
 pub mod KeptTables
 pub mod ClosedMarks
 pub mod KeptSymbols
+pub mod KeptWhole
 pub mod NumberOrder
 pub mod TablesAreAt
 pub mod ReadTables

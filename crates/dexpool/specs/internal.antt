@@ -3,6 +3,7 @@ pub mod Kinds
 pub mod Ranking
 pub mod Renumbering
 pub mod Closing
+pub mod Marking
 pub mod Joining
 pub mod CheckedLists
 pub mod FileRows

@@ -1,6 +1,6 @@
 //! Numberings cut down.
 
-ghost use Rattle.std.specs.Prelude.{◌≡◌, IfOk};
+ghost use Rattle.std.specs.Prelude.{◌≡◌, ◌↔◌, IfOk, IsTrue};
 ghost use Rattle.dexspec.specs.Mentions.{closed};
 ghost use Rattle.dexpool.specs.Numberings.{AreMarksOf, marked, AllMapTo};
 ghost use Rattle.dexpool.specs.Orderly.{MapsDown};
@@ -31,5 +31,18 @@ impl<'a> Numbering<'a> {
         let marks = closed(tables, marks)?;
         let (tables, remap) = keep_marked(alloc, tables, &marks)?;
         Ok((Numbering { tables }, remap))
+    }
+
+    /// Returns whether [`keep`](Numbering::keep) would keep every symbol, so that no number would change.
+    ///
+    /// Condition: there is a mark for each symbol.
+    pub fn keeps_all(&self, marks: &Marks) -> Result<bool, AllocError>
+        requires { AreMarksOf self.now marks.now }
+        ensures { IfOk result (λ all.
+            IsTrue all ↔ (closed (marked self.now marks.now) ≡ self.now)) }
+    {
+        let tables = self.tables();
+        let marks = closed(tables, marks)?;
+        Ok(marks.are_all())
     }
 }

@@ -1,8 +1,9 @@
 //! Marks on the symbols of a numbering.
 
-ghost use Rattle.std.specs.Prelude.{◌≡◌, ◌∷◌, IfOk, [], false, replicate};
+ghost use Rattle.std.specs.Prelude.{◌≡◌, ◌↔◌, ◌∷◌, All, IfOk, IsTrue, [], false, replicate};
 ghost use Rattle.dexpool.specs.Numberings.{AreMarksOf, marked};
 ghost use Rattle.dexpool.specs.Uses.{HasMark, AreMarkedToo};
+ghost use Rattle.dexpool.specs.internal.Marking.{HaveAllMarks};
 
 use crate::numbering::Numbering;
 use crate::symbols::SymbolKind;
@@ -65,6 +66,24 @@ impl Marks {
             SymbolKind::Method => self.methods[number] = true,
         }
     }
+
+    // Whether every symbol is marked.
+    pub(crate) fn are_all(&self) -> bool
+        ensures { IsTrue result ↔ HaveAllMarks self.now }
+    {
+        are_set(&self.strings)
+            && are_set(&self.types)
+            && are_set(&self.protos)
+            && are_set(&self.fields)
+            && are_set(&self.methods)
+    }
+}
+
+// Whether each of the marks is set.
+fn are_set(marks: &[bool]) -> bool
+    ensures { IsTrue result ↔ All IsTrue marks.now }
+{
+    marks.iter().all(|&is_marked| is_marked)
 }
 
 // Returns `count` marks, of which none is set.

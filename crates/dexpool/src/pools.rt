@@ -96,6 +96,14 @@ impl<'a> Pools<'a> {
         &self.numbering
     }
 
+    /// The symbols, each with the number of its row, moved out of the pools.
+    pub fn into_numbering(self) -> Numbering<'a>
+        ensures { result ≡ self.entry }
+    {
+        let Pools { numbering } = self;
+        numbering
+    }
+
     /// The number of rows of a pool.
     pub fn len(&self, kind: SymbolKind) -> usize
         ensures { result ≡ count_of kind self.now }

@@ -1,17 +1,15 @@
 -- Classes whose numbers are mapped to those of what they mention.
-use Rattle.std.proofs.Common.{◌≡◌, ℕ, ◌<◌, List, [], ◌∷◌, length, map, get_or, refl, sym, ap, ◌∙◌, subst, arith, Option, Some}
+use Rattle.std.proofs.Common.{◌≡◌, List, [], ◌∷◌, map, get_or, refl, sym, ap, ◌∙◌, subst}
 use Rattle.std.specs.List.{All, AllZip, flat_map}
-use Rattle.std.proofs.lemmas.List.{same_lists}
 use Rattle.std.proofs.lemmas.List.Elements.{All-nil, All-cons, All-head, All-tail, All-map, Contains-get_or}
 use Rattle.dexspec.specs.Mentions.{Mentions, symbols_of, mentions, closed}
 use Rattle.dexspec.proofs.lists.Members.{Contains-flat_map}
 use Rattle.dexpool.specs.declared.marks.Marks.{Marks}
-use Rattle.dexpool.specs.declared.symbols.SymbolKind.TheVariants as kinds
-use Rattle.dexpool.specs.Numberings.{Maps, AllMapTo, MapsTo, image, marked}
+use Rattle.dexpool.specs.Numberings.{Maps, marked}
 use Rattle.dexpool.specs.Uses.{IsUseOf, MapsMarked}
 use Rattle.dexclass.specs.Numbered.{NumberedClass, definition_of}
 use Rattle.dexclass.specs.Uses.{class_uses, IsKnownClass, HaveMarked}
-use Rattle.dexclass.specs.Renumbering.{renumbered, IsMappedClass, StaysSame, Stays}
+use Rattle.dexclass.specs.Renumbering.{renumbered, IsMappedClass, StaysSame}
 use Rattle.dexclass.proofs.Mentioned.{kept_closed, is_marked}
 use Rattle.dexclass.proofs.OwnUses.{parts_zip}
 
@@ -38,10 +36,10 @@ module _ (m : Mentions) (cs : List NumberedClass) (known : All (IsKnownClass m) 
   zipped : AllZip (IsUseOf m) (flat_map class_uses cs) (flat_map symbols_of (map (definition_of m) cs))
   zipped = parts_zip (IsUseOf m) (IsKnownClass m) class_uses symbols_of (definition_of m) step cs known
 
-  -- what is kept is what the classes mention
-  pub trimmed_mentions : (n : Mentions) → n ≡ closed (marked m marks) → n ≡ mentions (map (definition_of m) cs)
+  -- what the marked symbols mention is what the classes mention
+  pub marked_mentions : closed (marked m marks) ≡ mentions (map (definition_of m) cs)
   unfolding mentions
-  trimmed_mentions n kept = kept ∙ kept_closed m (flat_map class_uses cs) (flat_map symbols_of (map (definition_of m) cs)) marks zipped h
+  marked_mentions = kept_closed m (flat_map class_uses cs) (flat_map symbols_of (map (definition_of m) cs)) marks zipped h
 
   -- each symbol that occurs has an image
   pub all_map_to : (r : Maps) → MapsMarked marks r → All (IsMappedClass r) cs
@@ -63,19 +61,3 @@ module _ (m n : Mentions) (r : Maps) (cs new : List NumberedClass) (stay : (c : 
 
   pub trimmed_known : All (IsKnownClass n) new
   trimmed_known = subst (All (IsKnownClass n)) (sym e) (All-map (IsKnownClass n) (renumbered r) cs (all_one (StaysSame m n r) (λ c. IsKnownClass n (renumbered r c)) (λ c s. s.known) cs all_stay))
-
--- ---- where all is kept
-
--- a list of which each member is kept at its place
-kept_whole : {X : Type 0} (from to : List X) (images : List (Option ℕ)) → MapsTo from to images → length to ≡ length from → ((i : ℕ) → i < length from → image images i ≡ Some i) → to ≡ from
-kept_whole from to images are_mapped count each = same_lists to from count (λ k d lt. (are_mapped.same k k d (each k (omega (arith, lt, count)))).is d)
-
--- the numbering is what it was
-pub whole_kept : (m n : Mentions) (r : Maps) → AllMapTo m n r → Stays kinds.Text m n r → Stays kinds.Typ m n r → Stays kinds.Proto m n r → Stays kinds.Field m n r → Stays kinds.Method m n r → n ≡ m
-whole_kept m n r are_mapped texts types protos fields methods =
-    let ss = kept_whole m.texts n.texts r.texts are_mapped.texts_mapped texts.count texts.each in
-    let ts = kept_whole m.types n.types r.types are_mapped.types_mapped types.count types.each in
-    let ps = kept_whole m.protos n.protos r.protos are_mapped.protos_mapped protos.count protos.each in
-    let fs = kept_whole m.fields n.fields r.fields are_mapped.fields_mapped fields.count fields.each in
-    let xs = kept_whole m.methods n.methods r.methods are_mapped.methods_mapped methods.count methods.each in
-    λ i. record { texts = ss i; types = ts i; protos = ps i; fields = fs i; methods = xs i }

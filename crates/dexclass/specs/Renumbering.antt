@@ -1,10 +1,8 @@
 -- Classes whose numbers are mapped to those of another numbering.
-use Rattle.std.specs.Prelude.{◌≡◌, ℕ, ◌<◌, List, map, All, Option, Some, unwrap_or}
+use Rattle.std.specs.Prelude.{◌≡◌, ℕ, List, map, All, Option, unwrap_or}
 use Rattle.std.specs.Option.{option_map}
 use Rattle.dexspec.specs.Mentions.{Mentions}
-use Rattle.dexpool.specs.declared.symbols.SymbolKind.{SymbolKind}
-use Rattle.dexpool.specs.Pools.{count_of}
-use Rattle.dexpool.specs.Numberings.{Maps, AllMapTo, image, image_of}
+use Rattle.dexpool.specs.Numberings.{Maps, AllMapTo, image}
 use Rattle.dexpool.specs.Laws.{MapsAll}
 use Rattle.dexpool.specs.Uses.{IsMappedUse}
 use Rattle.dexmembers.specs.Renumbering.{renumbered_members, MembersHavePlaces}
@@ -54,8 +52,3 @@ pub record IsPartClass (whole m : Mentions) (r : Maps) (c : NumberedClass) : Typ
   pub are_mapped : AllMapTo m whole r
   pub remapped : IsMappedClass r c
   pub known : IsKnownClass m c
-
--- each symbol of the kind keeps its number, and there is no other
-pub record Stays (kind : SymbolKind) (m n : Mentions) (r : Maps) : Type 0 where
-  pub count : count_of kind n ≡ count_of kind m
-  pub each : (i : ℕ) → i < count_of kind m → image_of r kind i ≡ Some i

@@ -5,3 +5,4 @@ pub mod Ordered
 pub mod Reading
 pub mod Stripped
 pub mod Parts
+pub mod Trimming

@@ -46,7 +46,7 @@ pub fn check_frame(alloc: Global, frame: &Frame<'_>) -> Result<usize, ReadFault>
         return Ok(frame.size(Table::ClassDefs) as usize);
     }
     // Of the symbols of the pools only those count that the classes mention.
-    read_len(alloc, frame, &pools)
+    read_len(alloc, frame, pools)
 }
 
 // Whether classes that weigh this much are light enough with all symbols of the pools.
@@ -67,8 +67,8 @@ fn are_bytes(bytes: &[u8])
 {}
 
 // The number of class definitions of a file of which conditions 1 to 16 hold and whose classes are read.
-fn read_len(alloc: Global, frame: &Frame<'_>, pools: &Pools<'_>) -> Result<usize, ReadFault>
-    requires pools { ArePools frame.now pools.now }
+fn read_len<'a>(alloc: Global, frame: &Frame<'a>, pools: Pools<'a>) -> Result<usize, ReadFault>
+    requires pools { ArePools frame.now pools }
     requires holds { HoldBelow 17 frame.now }
     ensures accepted { IfOk result (IsCheckedAs frame.now) }
     ensures refused { IfErr result (IsFaultOf frame.now) }

@@ -13,7 +13,7 @@ ghost use Rattle.dexclass.specs.internal.Reading.{AreBodies, IsWhole, AreHeavyTo
 use crate::class_checks::check_classes;
 use crate::classes::{Class, class_at};
 use crate::programs::Program;
-use crate::trimming::trim;
+use crate::trimming::into_trimmed;
 use dexhead::{Condition, Frame, Refusal, Table};
 use dexlaws::denotes::good::denoted_is_good;
 use dexmembers::{ClassDef, read_members};
@@ -36,7 +36,7 @@ pub fn read<'a>(alloc: Global, bytes: &'a [u8]) -> Result<Program<'a>, ReadFault
     let frame = Frame::open(bytes)?;
     let pools = Pools::read(alloc, &frame)?;
     check_classes(alloc, &frame, &pools)?;
-    read_rows(alloc, &frame, &pools)
+    read_rows(alloc, &frame, pools)
 }
 
 /// The number of interfaces that are listed at the offset of a class row.
@@ -172,14 +172,15 @@ fn check_weight(frame: &Frame<'_>, numbering: &Numbering<'_>, bodies: u64) -> Re
     Ok(weight)
 }
 
-/// Reads the class rows of a file of which conditions 1 to 16 hold.
+/// Reads the class rows of a file of which conditions 1 to 16 hold. Its pools are given up: where the classes mention
+/// every symbol, their tables are those of the program.
 pub(crate) fn read_rows<'a>(
     alloc: Global,
     frame: &Frame<'a>,
-    pools: &Pools<'a>,
+    pools: Pools<'a>,
 ) -> Result<Program<'a>, ReadFault>
     requires bytes { All (λ byte. byte < 256) frame.now }
-    requires pools { ArePools frame.now pools.now }
+    requires pools { ArePools frame.now pools }
     requires before { HoldBelow 17 frame.now }
     ensures accepted { IfOk result (IsReadAs frame.now) }
     ensures refused { IfErr result (IsFaultOf frame.now) }
@@ -188,8 +189,8 @@ pub(crate) fn read_rows<'a>(
     let Bodies {
         mut classes,
         weight,
-    } = read_bodies(alloc, frame, pools)?;
-    let numbering = trim(alloc, pools.numbering(), &mut classes)?;
+    } = read_bodies(alloc, frame, &pools)?;
+    let numbering = into_trimmed(alloc, pools.into_numbering(), &mut classes)?;
     let total = check_weight(frame, &numbering, weight)?;
     Ok(Program::weighing(alloc, numbering, classes, total)?)
 }

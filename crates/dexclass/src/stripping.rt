@@ -11,7 +11,7 @@ ghost use Rattle.dexclass.specs.internal.Stripped.{stripped_class};
 
 use crate::classes::Class;
 use crate::programs::Program;
-use crate::trimming::trim;
+use crate::trimming::into_trimmed;
 use dexlaws::strip::{strip_collection_law, strip_good, strip_merge_law};
 use dexmembers::{Members, members_stripped_law, members_weight_law};
 use std::alloc::{AllocError, Global};
@@ -59,7 +59,7 @@ pub fn into_stripped<'a>(alloc: Global, program: Program<'a>) -> Result<Program<
     let (numbering, mut classes) = program.into_parts();
     numbering.is_numbering();
     strip_all(&mut classes);
-    let trimmed = trim(alloc, &numbering, &mut classes)?;
+    let trimmed = into_trimmed(alloc, numbering, &mut classes)?;
     Program::of(alloc, trimmed, classes)
 }
 

@@ -1,18 +1,16 @@
 //! Classes over a numbering of just what they mention.
 
-ghost use Rattle.std.specs.Prelude.{◌≡◌, All, IfOk, IsTrue, map};
-ghost use Rattle.std.specs.List.{flat_map};
-ghost use Rattle.dexspec.specs.Mentions.{mentions};
-ghost use Rattle.dexpool.specs.Numberings.{AllMapTo, AreMarksOf};
+ghost use Rattle.std.specs.Prelude.{◌≡◌, All, IfOk, map};
 ghost use Rattle.dexpool.specs.Orderly.{MapsDown};
-ghost use Rattle.dexclass.specs.Uses.{IsKnownClass, HaveMarked, class_uses};
+ghost use Rattle.dexclass.specs.Uses.{IsKnownClass};
 ghost use Rattle.dexclass.specs.internal.Ordered.{mentions_of, KeepsDefinitions};
-ghost use Rattle.dexclass.specs.Renumbering.{renumbered, IsMappedClass, Stays};
+ghost use Rattle.dexclass.specs.internal.Trimming.{MarkClasses};
+ghost use Rattle.dexclass.specs.Renumbering.{renumbered, IsMappedClass};
 
 use crate::classes::Class;
 use crate::laws::{renumbering_law, uses_law};
 use dexmembers::members_cut_law;
-use dexpool::{Marks, Numbering, Remap, SymbolKind};
+use dexpool::{Marks, Numbering, Remap};
 use std::alloc::{AllocError, Global};
 
 // Marks what the classes name.
@@ -22,10 +20,10 @@ fn marked(
     classes: &[Class<'_>],
 ) -> Result<Marks, AllocError>
     requires { All (IsKnownClass numbering.now) classes.now }
-    ensures count { IfOk result (AreMarksOf numbering.now) }
-    ensures marked { IfOk result (HaveMarked (flat_map class_uses classes.now)) }
+    ensures { IfOk result (MarkClasses numbering.now classes.now) }
 {
     uses_law();
+    numbering.is_numbering();
     let mut marks = Marks::none(alloc, numbering)?;
     for class in classes {
         class.mark(&mut marks);
@@ -57,46 +55,27 @@ fn cut_all(remap: &Remap, classes: &mut Vec<Class<'_>>)
     }
 }
 
-// Whether each symbol of a kind is kept, with its number.
-fn stays(
-    kind: SymbolKind,
-    numbering: &Numbering<'_>,
-    trimmed: &Numbering<'_>,
-    remap: &Remap,
-) -> bool
-    ensures { IsTrue result → Stays kind numbering.now trimmed.now remap.now }
+// The numbering of just what is marked, where that is what the classes mention. Their numbers are remapped to it.
+fn keep_mentioned<'a>(
+    alloc: Global,
+    numbering: &Numbering<'a>,
+    marks: &Marks,
+    classes: &mut Vec<Class<'a>>,
+) -> Result<Numbering<'a>, AllocError>
+    requires known { All (IsKnownClass numbering.now) classes.old.items }
+    requires marks { MarkClasses numbering.now classes.old.items marks.now }
+    ensures mentions { IfOk result (λ trimmed.
+        trimmed ≡ mentions_of numbering.now classes.old.items) }
+    ensures numbers { IfOk result (λ trimmed. All (IsKnownClass trimmed) classes.new.items) }
+    ensures same { IfOk result
+        (KeepsDefinitions numbering.now classes.old.items classes.new.items) }
 {
-    let count = numbering.count(kind);
-    if trimmed.count(kind) != count {
-        return false;
-    }
-    for i in 0..count {
-        if remap.image(kind, i) != Some(i) {
-            return false;
-        }
-    }
-    true
-}
-
-// Whether the numbering is kept whole, so that no number changes. A file that was written by rule has no symbol that
-// its classes do not mention.
-fn is_whole(numbering: &Numbering<'_>, trimmed: &Numbering<'_>, remap: &Remap) -> bool
-    ensures { AllMapTo numbering.now trimmed.now remap.now → IsTrue result
-        → trimmed.now ≡ numbering.now }
-{
-    if !stays(SymbolKind::Text, numbering, trimmed, remap) {
-        return false;
-    }
-    if !stays(SymbolKind::Typ, numbering, trimmed, remap) {
-        return false;
-    }
-    if !stays(SymbolKind::Proto, numbering, trimmed, remap) {
-        return false;
-    }
-    if !stays(SymbolKind::Field, numbering, trimmed, remap) {
-        return false;
-    }
-    stays(SymbolKind::Method, numbering, trimmed, remap)
+    uses_law();
+    renumbering_law();
+    numbering.is_numbering();
+    let (trimmed, remap) = numbering.keep(alloc, marks)?;
+    cut_all(&remap, classes);
+    Ok(trimmed)
 }
 
 /// The numbering of just what the classes mention, to which their numbers are remapped.
@@ -114,14 +93,30 @@ pub(crate) fn trim<'a>(
     ensures same { IfOk result
         (KeepsDefinitions numbering.now classes.old.items classes.new.items) }
 {
-    uses_law();
-    renumbering_law();
-    numbering.is_numbering();
     let marks = marked(alloc, numbering, classes)?;
-    let (trimmed, remap) = numbering.keep(alloc, &marks)?;
-    if is_whole(numbering, &trimmed, &remap) {
-        return Ok(trimmed);
+    keep_mentioned(alloc, numbering, &marks, classes)
+}
+
+/// What [`trim`] makes of a numbering that is given up. Where the classes mention every symbol, it is that numbering,
+/// and no number changes: a file that was written by rule has no other symbols.
+///
+/// Condition: as of [`trim`].
+pub(crate) fn into_trimmed<'a>(
+    alloc: Global,
+    numbering: Numbering<'a>,
+    classes: &mut Vec<Class<'a>>,
+) -> Result<Numbering<'a>, AllocError>
+    requires { All (IsKnownClass numbering) classes.old.items }
+    ensures mentions { IfOk result (λ trimmed.
+        trimmed ≡ mentions_of numbering.entry classes.old.items) }
+    ensures numbers { IfOk result (λ trimmed. All (IsKnownClass trimmed) classes.new.items) }
+    ensures same { IfOk result
+        (KeepsDefinitions numbering.entry classes.old.items classes.new.items) }
+{
+    let marks = marked(alloc, &numbering, classes)?;
+    let is_whole = numbering.keeps_all(&marks)?;
+    if is_whole {
+        return Ok(numbering);
     }
-    cut_all(&remap, classes);
-    Ok(trimmed)
+    keep_mentioned(alloc, &numbering, &marks, classes)
 }

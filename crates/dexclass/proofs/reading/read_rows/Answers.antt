@@ -8,31 +8,31 @@ use Rattle.dexclass.proofs.reading.read_rows.Goals as goal
 use Rattle.dexclass.proofs.reading.read_rows.Goals.{In_ok-numbering}
 
 -- the classes as they are trimmed
-trimmed : (c : In_ok-numbering) → AreTrimmed (map (definition_of c.args.pools.now) c.in_ok-classes.field-0.classes.items) c.in_ok-numbering.numbering c.trim.new.classes.items
+trimmed : (c : In_ok-numbering) → AreTrimmed (map (definition_of c.args.pools) c.in_ok-classes.field-0.classes.items) c.in_ok-numbering.numbering c.into_trimmed.new.classes.items
 trimmed c =
-    are_trimmed c.args.pools.now c.numbering.result.now c.in_ok-numbering.numbering c.in_ok-classes.field-0.classes.items c.trim.new.classes.items c.numbering.ensures c.in_ok-numbering.ensures.mentions c.in_ok-numbering.ensures.same c.in_ok-numbering.ensures.numbers
+    are_trimmed c.args.pools c.into_numbering.result c.in_ok-numbering.numbering c.in_ok-classes.field-0.classes.items c.into_trimmed.new.classes.items c.into_numbering.ensures c.in_ok-numbering.ensures.mentions c.in_ok-numbering.ensures.same c.in_ok-numbering.ensures.numbers
 
 pub returns-in_err-total-clause-refused : goal.returns-in_err-total-clause-refused
 returns-in_err-total-clause-refused c =
     let p = err_from_is_err_and c.from_residual-in_err-total.result c.from_residual-in_err-total.ensures.1 in
     let read = c.in_ok-classes.ensures.accepted in
-    rw (p.1, p.2) (together_fault c.args.frame.now c.requires.before (map (definition_of c.args.pools.now) c.in_ok-classes.field-0.classes.items) read.readable read.rows c.in_ok-numbering.numbering c.in_ok-classes.field-0.weight c.in_err-total.field-0.0
+    rw (p.1, p.2) (together_fault c.args.frame.now c.requires.before (map (definition_of c.args.pools) c.in_ok-classes.field-0.classes.items) read.readable read.rows c.in_ok-numbering.numbering c.in_ok-classes.field-0.weight c.in_err-total.field-0.0
     (trimmed (goal.at.returns-in_err-total-clause-refused c).In_ok-numbering).mentions_are read.weight_is c.in_err-total.ensures.refused)
 
 pub weighing-requires-clause-mergeable : goal.weighing-requires-clause-mergeable
 weighing-requires-clause-mergeable c =
     let read = c.in_ok-classes.ensures.accepted in
-    mergeable c.args.frame.now c.requires.before (map (definition_of c.args.pools.now) c.in_ok-classes.field-0.classes.items) read.readable read.rows c.in_ok-numbering.numbering c.trim.new.classes.items
+    mergeable c.args.frame.now c.requires.before (map (definition_of c.args.pools) c.in_ok-classes.field-0.classes.items) read.readable read.rows c.in_ok-numbering.numbering c.into_trimmed.new.classes.items
     (trimmed (goal.at.weighing-requires-clause-mergeable c).In_ok-numbering) c.in_ok-classes.field-0.weight c.in_ok-total.total read.weight_is c.in_ok-total.ensures.accepted
     (λ K. c.denoted_is_good.ensures.good c.args.frame.now K c.requires.bytes) (λ K. c.denoted_is_good.ensures.formed c.args.frame.now K c.requires.bytes)
 
 pub weighing-requires-clause-total : goal.weighing-requires-clause-total
 weighing-requires-clause-total c =
-    total_is (map (definition_of c.args.pools.now) c.in_ok-classes.field-0.classes.items) c.in_ok-numbering.numbering c.trim.new.classes.items (trimmed (goal.at.weighing-requires-clause-total c).In_ok-numbering) c.in_ok-classes.field-0.weight c.in_ok-total.total
+    total_is (map (definition_of c.args.pools) c.in_ok-classes.field-0.classes.items) c.in_ok-numbering.numbering c.into_trimmed.new.classes.items (trimmed (goal.at.weighing-requires-clause-total c).In_ok-numbering) c.in_ok-classes.field-0.weight c.in_ok-total.total
     c.in_ok-classes.ensures.accepted.weight_is c.in_ok-total.ensures.accepted
 
 pub returns-clause-accepted : goal.returns-clause-accepted
 returns-clause-accepted c =
     let read = c.in_ok-classes.ensures.accepted in
-    read_as c.args.frame.now c.requires.before (map (definition_of c.args.pools.now) c.in_ok-classes.field-0.classes.items) read.readable read.rows c.in_ok-numbering.numbering c.trim.new.classes.items
+    read_as c.args.frame.now c.requires.before (map (definition_of c.args.pools) c.in_ok-classes.field-0.classes.items) read.readable read.rows c.in_ok-numbering.numbering c.into_trimmed.new.classes.items
     (trimmed (goal.at.returns-clause-accepted c).In_ok-numbering) c.in_ok-classes.field-0.weight c.in_ok-total.total read.weight_is c.in_ok-total.ensures.accepted c.in_ok-weighing.field-0 c.in_ok-weighing.ensures

@@ -15,8 +15,8 @@ use Rattle.dexclass.proofs.StrippedPrograms.{class_stripped, class_known, all_kn
 use Rattle.dexclass.proofs.stripping.into_stripped.Goals as goal
 use Rattle.dexclass.proofs.stripping.into_stripped.Goals.{In_ok-trimmed}
 
-pub trim-requires : goal.trim-requires
-trim-requires c =
+pub into_trimmed-requires : goal.into_trimmed-requires
+into_trimmed-requires c =
     let law = c.members_stripped_law.ensures in
     let m = mentions (definitions c.args.program) in
     subst (λ (n : Mentions). All (IsKnownClass n) c.strip_all.new.classes.items) (sym c.into_parts-numbering.ensures.numbering)
@@ -25,20 +25,20 @@ trim-requires c =
     c.into_parts-numbering.ensures.classes.known c.strip_all.new.classes.items c.strip_all.ensures)
 
 -- the classes as they are trimmed
-trimmed : (c : In_ok-trimmed) → AreTrimmed (strip (in_class_order (definitions c.args.program))) c.in_ok-trimmed.trimmed c.trim.new.classes.items
+trimmed : (c : In_ok-trimmed) → AreTrimmed (strip (in_class_order (definitions c.args.program))) c.in_ok-trimmed.trimmed c.into_trimmed.new.classes.items
 trimmed c =
     let m = mentions (definitions c.args.program) in
     let old = c.strip_all.new.classes.items in
-    subst (λ D. AreTrimmed D c.in_ok-trimmed.trimmed c.trim.new.classes.items)
+    subst (λ D. AreTrimmed D c.in_ok-trimmed.trimmed c.into_trimmed.new.classes.items)
     (all_stripped c.args.program c.into_parts-numbering.result.1.items c.into_parts-numbering.ensures.classes (λ n x. class_stripped n x (c.members_stripped_law.ensures.same n x.members)) old c.strip_all.ensures)
-    (are_trimmed m c.into_parts-numbering.result.0 c.in_ok-trimmed.trimmed old c.trim.new.classes.items c.into_parts-numbering.ensures.numbering c.in_ok-trimmed.ensures.mentions c.in_ok-trimmed.ensures.same c.in_ok-trimmed.ensures.numbers)
+    (are_trimmed m c.into_parts-numbering.result.0 c.in_ok-trimmed.trimmed old c.into_trimmed.new.classes.items c.into_parts-numbering.ensures.numbering c.in_ok-trimmed.ensures.mentions c.in_ok-trimmed.ensures.same c.in_ok-trimmed.ensures.numbers)
 
 pub of-requires : goal.of-requires
 of-requires c =
     let E = in_class_order (definitions c.args.program) in
-    stripped_mergeable c.args.program c.in_ok-trimmed.trimmed c.trim.new.classes.items (trimmed (goal.at.of-requires c).In_ok-trimmed) c.is_good.ensures.good c.is_good.ensures.formed (c.strip_good.ensures.good greatest_caps E) (c.strip_good.ensures.well_formed E)
+    stripped_mergeable c.args.program c.in_ok-trimmed.trimmed c.into_trimmed.new.classes.items (trimmed (goal.at.of-requires c).In_ok-trimmed) c.is_good.ensures.good c.is_good.ensures.formed (c.strip_good.ensures.good greatest_caps E) (c.strip_good.ensures.well_formed E)
 
 pub returns : goal.returns
 returns c =
     let K = c.args.program in
-    if_ok_map _ _ c.of.result (λ L is. stripped_collection K c.in_ok-trimmed.trimmed c.trim.new.classes.items (trimmed (goal.at.returns c).In_ok-trimmed) (c.strip_collection_law.ensures.listed (in_class_order (definitions K)) K) L is) c.of.ensures
+    if_ok_map _ _ c.of.result (λ L is. stripped_collection K c.in_ok-trimmed.trimmed c.into_trimmed.new.classes.items (trimmed (goal.at.returns c).In_ok-trimmed) (c.strip_collection_law.ensures.listed (in_class_order (definitions K)) K) L is) c.of.ensures

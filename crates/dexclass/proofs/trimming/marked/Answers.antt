@@ -1,6 +1,10 @@
-use Rattle.std.proofs.Common.{sym, subst}
-use Rattle.dexclass.specs.Uses.{IsKnownClass, class_uses}
+use Rattle.std.proofs.Common.{List, sym, subst}
+use Rattle.std.specs.List.{flat_map}
+use Rattle.std.proofs.lemmas.List.{take_all}
+use Rattle.dexclass.specs.Numbered.{NumberedClass}
+use Rattle.dexclass.specs.Uses.{HaveMarked, IsKnownClass, class_uses}
 use Rattle.dexclass.proofs.Marked.{have_next}
+use Rattle.dexclass.proofs.Trimmed.{marked_mentions}
 use Rattle.dexclass.proofs.Unmarked.{none_marked, still_marks}
 use Rattle.dexclass.proofs.trimming.marked.Goals as goal
 
@@ -17,3 +21,14 @@ loop-class-preserved c = record {
   count = still_marks c.args.numbering.now (class_uses c.class-item.result) c.loop-class.marks c.mark.new.marks c.loop-class.invariant.count c.mark.ensures;
   marked = have_next class_uses c.args.classes.now c.loop-class.class-index c.class-item.result c.loop-class.marks c.mark.new.marks c.loop-class-test.true c.class-item.is c.loop-class.invariant.marked c.mark.ensures;
 }
+
+pub returns : goal.returns
+returns c =
+    let m = c.args.numbering.now in
+    let cs = c.args.classes.now in
+    let all = subst (λ (l : List NumberedClass). HaveMarked (flat_map class_uses l) c.loop-class.marks) (take_all c.loop-class.class-index cs c.loop-class-test.false) c.loop-class.invariant.marked in
+    record {
+      count = c.loop-class.invariant.count;
+      uses_marked = all;
+      mentioned = marked_mentions m cs c.requires (λ class. c.uses_law.ensures.uses m class c.is_numbering.ensures.rising) c.loop-class.marks all;
+    }

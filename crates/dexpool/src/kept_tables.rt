@@ -1,11 +1,12 @@
 //! Tables cut down to their marked rows: each table is cut, and the rows that are left are renumbered by the places
 //! of the rows below them.
 
-ghost use Rattle.std.specs.Prelude.{◌≡◌, length, IfOk};
+ghost use Rattle.std.specs.Prelude.{◌≡◌, ◌<◌, [], length, map, All, IfOk};
+ghost use Rattle.dexrows.specs.Numbers.{among_of, lower_of};
 ghost use Rattle.dexpool.specs.Cut.{kept, places};
 ghost use Rattle.dexpool.specs.Numberings.{AreMarksOf};
 ghost use Rattle.dexpool.specs.Stored.{symbols_in, AreTables};
-ghost use Rattle.dexpool.specs.internal.Renumbering.{HasSpans, numbers_in};
+ghost use Rattle.dexpool.specs.internal.Renumbering.{HasSpans, numbers_in, IsFieldWithin, IsMethodWithin};
 ghost use Rattle.dexpool.specs.internal.Closing.{AreClosed, AreKept, IsCut, kept_places, cut_types, cut_protos, cut_fields, cut_methods};
 
 use crate::images::Images;
@@ -13,11 +14,9 @@ use crate::lists::Parameters;
 use crate::marks::Marks;
 use crate::protos::Protos;
 use crate::remap::Remap;
-use crate::renumbering::{
-    images_of, renumbered_fields, renumbered_methods, renumbered_protos, sorted_law,
-};
+use crate::renumbering::{renumbered_protos, sorted_law};
 use crate::tables::Tables;
-use dexrows::{FieldRow, LowerPlaces, MethodRow, ProtoRow, TypeRow};
+use dexrows::{FieldRow, LowerPlaces, MethodRow, ProtoRow, Row, TypeRow};
 use dexstr::Text;
 use std::alloc::{AllocError, Global};
 
@@ -74,10 +73,10 @@ fn kept_rows<'a>(
         protos: remap.protos.numbers(),
     };
     let strings = kept_strings(alloc, &tables.strings, &marks.strings)?;
-    let types = kept_types(alloc, tables, &marks.types, lower.strings)?;
+    let types = kept_types(alloc, &tables.types, &marks.types, lower.strings)?;
     let protos = kept_protos(alloc, tables, &marks.protos, lower.strings, lower.types)?;
-    let fields = kept_fields(alloc, tables, &marks.fields, lower.strings, lower.types)?;
-    let methods = kept_methods(alloc, tables, &marks.methods, lower)?;
+    let fields = kept_fields(alloc, &tables.fields, &marks.fields, lower)?;
+    let methods = kept_methods(alloc, &tables.methods, &marks.methods, lower)?;
     Ok(Tables {
         strings,
         types,
@@ -97,7 +96,7 @@ fn kept_strings<'a>(
     requires { length marks.now ≡ length strings.now }
     ensures { IfOk result (λ left. left.items ≡ kept marks.now strings.now) }
 {
-    let mut left = Vec::with_capacity(alloc, strings.len())?;
+    let mut left = with_room(alloc, marks)?;
     for i in 0..strings.len() {
         if marks[i] {
             left.push(strings[i].clone())?;
@@ -109,17 +108,21 @@ fn kept_strings<'a>(
 // The marked types.
 fn kept_types(
     alloc: Global,
-    tables: &Tables<'_>,
+    types: &[usize],
     marks: &[bool],
     strings: &[u32],
 ) -> Result<Vec<usize>, AllocError>
-    requires tables { AreTables tables.now }
-    requires marks { length marks.now ≡ length tables.now.types.items }
-    requires strings { length strings.now ≡ length tables.now.strings.items }
-    ensures { IfOk result (λ types. types.items ≡ cut_types tables.now marks.now strings.now) }
+    requires marks { length marks.now ≡ length types.now }
+    requires within { All (λ n. n < length strings.now) types.now }
+    ensures { IfOk result (λ left. left.items ≡ cut_types types.now marks.now strings.now) }
 {
-    let rows = marked(alloc, &tables.types, marks)?;
-    images_of(alloc, &rows, strings)
+    let mut left = with_room(alloc, marks)?;
+    for i in 0..types.len() {
+        if marks[i] {
+            left.push(strings[types[i]] as usize)?;
+        }
+    }
+    Ok(left)
 }
 
 // The marked protos.
@@ -145,39 +148,53 @@ fn kept_protos(
 // The marked fields.
 fn kept_fields(
     alloc: Global,
-    tables: &Tables<'_>,
+    fields: &[FieldRow],
     marks: &[bool],
-    strings: &[u32],
-    types: &[u32],
+    lower: LowerPlaces<'_>,
 ) -> Result<Vec<FieldRow>, AllocError>
-    requires tables { AreTables tables.now }
-    requires marks { length marks.now ≡ length tables.now.fields.items }
-    requires strings { length strings.now ≡ length tables.now.strings.items }
-    requires types { length types.now ≡ length tables.now.types.items }
-    ensures { IfOk result (λ fields.
-        fields.items ≡ cut_fields tables.now marks.now strings.now types.now) }
+    requires marks { length marks.now ≡ length fields.now }
+    requires within { All
+        (IsFieldWithin (length lower.strings.now) (length lower.types.now)) fields.now }
+    ensures { IfOk result (λ left. left.items ≡ cut_fields fields.now marks.now lower.entry) }
 {
-    let rows = marked(alloc, &tables.fields, marks)?;
-    renumbered_fields(alloc, &rows, strings, types)
+    kept_renumbered(alloc, fields, marks, lower)
 }
 
 // The marked methods.
 fn kept_methods(
     alloc: Global,
-    tables: &Tables<'_>,
+    methods: &[MethodRow],
     marks: &[bool],
     lower: LowerPlaces<'_>,
 ) -> Result<Vec<MethodRow>, AllocError>
-    requires tables { AreTables tables.now }
-    requires marks { length marks.now ≡ length tables.now.methods.items }
-    requires strings { length lower.strings.now ≡ length tables.now.strings.items }
-    requires types { length lower.types.now ≡ length tables.now.types.items }
-    requires protos { length lower.protos.now ≡ length tables.now.protos.items }
-    ensures { IfOk result (λ methods.
-        methods.items ≡ cut_methods tables.now marks.now lower.entry) }
+    requires marks { length marks.now ≡ length methods.now }
+    requires within { All (IsMethodWithin
+        (length lower.strings.now) (length lower.types.now) (length lower.protos.now)) methods.now }
+    ensures { IfOk result (λ left. left.items ≡ cut_methods methods.now marks.now lower.entry) }
 {
-    let rows = marked(alloc, &tables.methods, marks)?;
-    renumbered_methods(alloc, &rows, lower.strings, lower.types, lower.protos)
+    kept_renumbered(alloc, methods, marks, lower)
+}
+
+// The marked rows, by the new numbers of the rows below that they name.
+fn kept_renumbered<R: Row<List = ()>>(
+    alloc: Global,
+    rows: &[R],
+    marks: &[bool],
+    lower: LowerPlaces<'_>,
+) -> Result<Vec<R>, AllocError>
+    requires marks { length marks.now ≡ length rows.now }
+    requires within { All (R.numbers_in (among_of lower)) rows.now }
+    requires list { All (λ row. R.can_move lower row tt) rows.now }
+    ensures { IfOk result (λ left.
+        left.items ≡ map (R.mapped (lower_of lower.entry)) (kept marks.now rows.now)) }
+{
+    let mut left = with_room(alloc, marks)?;
+    for i in 0..rows.len() {
+        if marks[i] {
+            left.push(rows[i].renumbered(lower, ()))?;
+        }
+    }
+    Ok(left)
 }
 
 // The rows that are marked.
@@ -185,13 +202,21 @@ fn marked<T: Copy>(alloc: Global, rows: &[T], marks: &[bool]) -> Result<Vec<T>, 
     requires { length marks.now ≡ length rows.now }
     ensures { IfOk result (λ left. left.items ≡ kept marks.now rows.now) }
 {
-    let mut left = Vec::with_capacity(alloc, rows.len())?;
+    let mut left = with_room(alloc, marks)?;
     for i in 0..rows.len() {
         if marks[i] {
             left.push(rows[i])?;
         }
     }
     Ok(left)
+}
+
+// A table with room for the marked rows.
+fn with_room<T>(alloc: Global, marks: &[bool]) -> Result<Vec<T>, AllocError>
+    ensures { IfOk result (λ rows. rows.items ≡ []) }
+{
+    let count = marks.iter().filter(|is_marked| **is_marked).count();
+    Vec::with_capacity(alloc, count)
 }
 
 // The place of each row among the marked ones, if it is one.

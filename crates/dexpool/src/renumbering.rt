@@ -29,22 +29,6 @@ pub(crate) fn renumbered_types(
     Ok(rows)
 }
 
-/// The images of numbers.
-pub(crate) fn images_of(
-    alloc: Global,
-    numbers: &[usize],
-    images: &[u32],
-) -> Result<Vec<usize>, AllocError>
-    requires { All (λ n. n < length images.now) numbers.now }
-    ensures { IfOk result (λ found. found.items ≡ map (slice_index images.now) numbers.now) }
-{
-    let mut found = Vec::with_capacity(alloc, numbers.len())?;
-    for n in numbers {
-        found.push(images[*n] as usize)?;
-    }
-    Ok(found)
-}
-
 /// The number of the text of each row of types.
 pub(crate) fn descriptors(alloc: Global, rows: &[TypeRow]) -> Result<Vec<usize>, AllocError>
     ensures { IfOk result (λ numbers. numbers.items ≡ map (λ row. row.descriptor) rows.now) }

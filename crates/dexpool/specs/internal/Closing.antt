@@ -131,26 +131,26 @@ abbrev pub new_numbers : List Bool → List ℕ
 new_numbers marks = map number_or_none (places 0 marks)
 
 -- the kept rows of types, by these new numbers
-abbrev pub cut_types : Tables → List Bool → List ℕ → List ℕ
-cut_types t marks strings = map (slice_index strings) (kept marks t.types.items)
+abbrev pub cut_types : List ℕ → List Bool → List ℕ → List ℕ
+cut_types types marks strings = map (slice_index strings) (kept marks types)
 
 -- those of protos
 abbrev pub cut_protos : Tables → List Bool → List ℕ → List ℕ → List ProtoNumbers
 cut_protos t marks strings types = map (moved_proto strings types t.parameters) (kept marks t.protos.items)
 
 -- those of fields
-abbrev pub cut_fields : Tables → List Bool → List ℕ → List ℕ → List FieldRow
-cut_fields t marks strings types = map (moved_field strings types) (kept marks t.fields.items)
+abbrev pub cut_fields : List FieldRow → List Bool → LowerPlaces → List FieldRow
+cut_fields fields marks lower = map (moved_field lower.strings.now lower.types.now) (kept marks fields)
 
 -- those of methods
-abbrev pub cut_methods : Tables → List Bool → LowerPlaces → List MethodRow
-cut_methods t marks lower = map (moved_method lower.strings.now lower.types.now lower.protos.now) (kept marks t.methods.items)
+abbrev pub cut_methods : List MethodRow → List Bool → LowerPlaces → List MethodRow
+cut_methods methods marks lower = map (moved_method lower.strings.now lower.types.now lower.protos.now) (kept marks methods)
 
 -- the kept rows, by their new numbers
 pub record IsCut (t : Tables) (marks : Marks) (cut : Tables) : Type 0 where
   pub strings_are : cut.strings.items ≡ kept marks.strings.items t.strings.items
-  pub types_are : cut.types.items ≡ cut_types t marks.types.items (new_numbers marks.strings.items)
+  pub types_are : cut.types.items ≡ cut_types t.types.items marks.types.items (new_numbers marks.strings.items)
   pub protos_are : map (numbers_of cut.parameters) cut.protos.items ≡ cut_protos t marks.protos.items (new_numbers marks.strings.items) (new_numbers marks.types.items)
   pub spans : All (λ p. HasSpan cut.parameters p.parameters) cut.protos.items
-  pub fields_are : cut.fields.items ≡ cut_fields t marks.fields.items (new_numbers marks.strings.items) (new_numbers marks.types.items)
+  pub fields_are : cut.fields.items ≡ map (moved_field (new_numbers marks.strings.items) (new_numbers marks.types.items)) (kept marks.fields.items t.fields.items)
   pub methods_are : cut.methods.items ≡ map (moved_method (new_numbers marks.strings.items) (new_numbers marks.types.items) (new_numbers marks.protos.items)) (kept marks.methods.items t.methods.items)

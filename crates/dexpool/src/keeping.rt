@@ -42,7 +42,7 @@ impl<'a> Numbering<'a> {
             IsTrue all ↔ (closed (marked self.now marks.now) ≡ self.now)) }
     {
         let tables = self.tables();
-        let marks = closed(tables, marks)?;
-        Ok(marks.are_all())
+        let closed = closed(tables, marks)?;
+        Ok(closed.are_all())
     }
 }

@@ -55,29 +55,6 @@ fn cut_all(remap: &Remap, classes: &mut Vec<Class<'_>>)
     }
 }
 
-// The numbering of just what is marked, where that is what the classes mention. Their numbers are remapped to it.
-fn keep_mentioned<'a>(
-    alloc: Global,
-    numbering: &Numbering<'a>,
-    marks: &Marks,
-    classes: &mut Vec<Class<'a>>,
-) -> Result<Numbering<'a>, AllocError>
-    requires known { All (IsKnownClass numbering.now) classes.old.items }
-    requires marks { MarkClasses numbering.now classes.old.items marks.now }
-    ensures mentions { IfOk result (λ trimmed.
-        trimmed ≡ mentions_of numbering.now classes.old.items) }
-    ensures numbers { IfOk result (λ trimmed. All (IsKnownClass trimmed) classes.new.items) }
-    ensures same { IfOk result
-        (KeepsDefinitions numbering.now classes.old.items classes.new.items) }
-{
-    uses_law();
-    renumbering_law();
-    numbering.is_numbering();
-    let (trimmed, remap) = numbering.keep(alloc, marks)?;
-    cut_all(&remap, classes);
-    Ok(trimmed)
-}
-
 /// The numbering of just what the classes mention, to which their numbers are remapped.
 ///
 /// Condition: the classes' numbers are those of the numbering.
@@ -93,8 +70,13 @@ pub(crate) fn trim<'a>(
     ensures same { IfOk result
         (KeepsDefinitions numbering.now classes.old.items classes.new.items) }
 {
+    uses_law();
+    renumbering_law();
+    numbering.is_numbering();
     let marks = marked(alloc, numbering, classes)?;
-    keep_mentioned(alloc, numbering, &marks, classes)
+    let (trimmed, remap) = numbering.keep(alloc, &marks)?;
+    cut_all(&remap, classes);
+    Ok(trimmed)
 }
 
 /// What [`trim`] makes of a numbering that is given up. Where the classes mention every symbol, it is that numbering,
@@ -113,10 +95,13 @@ pub(crate) fn into_trimmed<'a>(
     ensures same { IfOk result
         (KeepsDefinitions numbering.entry classes.old.items classes.new.items) }
 {
+    uses_law();
+    renumbering_law();
+    numbering.is_numbering();
     let marks = marked(alloc, &numbering, classes)?;
-    let is_whole = numbering.keeps_all(&marks)?;
-    if is_whole {
-        return Ok(numbering);
+    let (trimmed, remap) = numbering.into_kept(alloc, &marks)?;
+    if let Some(remap) = remap {
+        cut_all(&remap, classes);
     }
-    keep_mentioned(alloc, &numbering, &marks, classes)
+    Ok(trimmed)
 }

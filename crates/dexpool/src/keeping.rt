@@ -1,6 +1,6 @@
 //! Numberings cut down.
 
-ghost use Rattle.std.specs.Prelude.{◌≡◌, ◌↔◌, IfOk, IsTrue};
+ghost use Rattle.std.specs.Prelude.{◌≡◌, ◌≢◌, IfOk, IfSome, IfNone};
 ghost use Rattle.dexspec.specs.Mentions.{closed};
 ghost use Rattle.dexpool.specs.Numberings.{AreMarksOf, marked, AllMapTo};
 ghost use Rattle.dexpool.specs.Orderly.{MapsDown};
@@ -33,16 +33,31 @@ impl<'a> Numbering<'a> {
         Ok((Numbering { tables }, remap))
     }
 
-    /// Returns whether [`keep`](Numbering::keep) would keep every symbol, so that no number would change.
+    /// Keeps what [`keep`](Numbering::keep) keeps of a numbering that is given up. Where that is every symbol, the
+    /// numbering is returned as it is, with no map, since no number changes.
     ///
     /// Condition: there is a mark for each symbol.
-    pub fn keeps_all(&self, marks: &Marks) -> Result<bool, AllocError>
-        requires { AreMarksOf self.now marks.now }
-        ensures { IfOk result (λ all.
-            IsTrue all ↔ (closed (marked self.now marks.now) ≡ self.now)) }
+    ///
+    /// Source: this project's rule, that a file has the symbols that its classes mention and no others.
+    pub fn into_kept(
+        self,
+        alloc: Global,
+        marks: &Marks,
+    ) -> Result<(Numbering<'a>, Option<Remap>), AllocError>
+        requires { AreMarksOf self marks.now }
+        ensures kept { IfOk result (λ cut. cut.0 ≡ closed (marked self.entry marks.now)) }
+        ensures whole { IfOk result (λ cut. IfNone cut.1 (cut.0 ≡ self.entry)) }
+        ensures less { IfOk result (λ cut. IfSome cut.1 (λ remap. cut.0 ≢ self.entry)) }
+        ensures map { IfOk result (λ cut. IfSome cut.1 (AllMapTo self.entry cut.0)) }
+        ensures marked { IfOk result (λ cut. IfSome cut.1 (MapsMarked marks.now)) }
+        ensures down { IfOk result (λ cut. IfSome cut.1 MapsDown) }
     {
         let tables = self.tables();
         let closed = closed(tables, marks)?;
-        Ok(closed.are_all())
+        if closed.are_all() {
+            return Ok((self, None));
+        }
+        let (tables, remap) = keep_marked(alloc, tables, &closed)?;
+        Ok((Numbering { tables }, Some(remap)))
     }
 }

@@ -1,19 +1,69 @@
-use Rattle.std.proofs.Common.{List, sym, subst, ◌∙◌}
-use Rattle.dexclass.specs.Numbered.{NumberedClass}
+use Rattle.std.proofs.Common.{◌≡◌, List, Option, map, sym, ap, subst, ◌∙◌}
+use Rattle.std.specs.Prelude.{IfSome, IfNone}
+use Rattle.std.specs.List.{All}
+use Rattle.dexspec.specs.Mentions.{Mentions}
+use Rattle.dexpool.specs.Numberings.{Maps, AllMapTo}
+use Rattle.dexpool.specs.Uses.{MapsMarked}
+use Rattle.dexclass.specs.Numbered.{NumberedClass, definition_of}
+use Rattle.dexclass.specs.Uses.{IsKnownClass}
+use Rattle.dexclass.specs.Renumbering.{IsMappedClass}
 use Rattle.dexclass.specs.internal.Trimming.{MarkClasses}
+use Rattle.dexclass.proofs.Trimmed.{all_map_to, trimmed_same, trimmed_known}
 use Rattle.dexclass.proofs.trimming.into_trimmed.Goals as goal
-use Rattle.dexclass.proofs.trimming.into_trimmed.Goals.{In_ok-marks}
+use Rattle.dexclass.proofs.trimming.into_trimmed.Goals.{In_ok-trimmed, in-Some, in_default}
 
-pub keeps_all-requires : goal.keeps_all-requires
-keeps_all-requires c = c.in_ok-marks.ensures.count
-
--- the marks of the classes in their vector
-marks_of : (c : In_ok-marks) → MarkClasses c.args.numbering c.args.classes.now.items c.in_ok-marks.marks
+-- the marks are those of the classes in their vector
+marks_of : (c : In_ok-trimmed) → MarkClasses c.args.numbering c.args.classes.now.items c.in_ok-marks.marks
 marks_of c = subst (λ (cs : List NumberedClass). MarkClasses c.args.numbering cs c.in_ok-marks.marks) c.deref.ensures.value c.in_ok-marks.ensures
 
-pub keep_mentioned-requires-clause-marks : goal.keep_mentioned-requires-clause-marks
-keep_mentioned-requires-clause-marks c = marks_of (goal.at.keep_mentioned-requires-clause-marks c).In_ok-marks
+-- each number that occurs has an image
+mapped : (c : In_ok-trimmed) → (r : Maps) → MapsMarked c.in_ok-marks.marks r → All (IsMappedClass r) c.args.classes.now.items
+mapped c r =
+    let m = c.args.numbering in
+    all_map_to m c.args.classes.now.items c.requires (λ class. c.uses_law.ensures.uses m class c.is_numbering.ensures.rising) c.in_ok-marks.marks (marks_of c).uses_marked r
 
-pub returns-then-is_whole-clause-mentions : goal.returns-then-is_whole-clause-mentions
-returns-then-is_whole-clause-mentions c =
-    sym (c.in_ok-is_whole.ensures.0 c.if-is_whole.true) ∙ (marks_of (goal.at.returns-then-is_whole-clause-mentions c).In_ok-marks).mentioned
+pub into_kept-requires : goal.into_kept-requires
+into_kept-requires c = c.in_ok-marks.ensures.count
+
+pub cut_all-requires-clause-remapped : goal.cut_all-requires-clause-remapped
+cut_all-requires-clause-remapped c =
+    mapped (goal.at.cut_all-requires-clause-remapped c).In_ok-trimmed c.in-Some.remap (subst (λ o. IfSome o (MapsMarked c.in_ok-marks.marks)) c.in-Some.is c.in_ok-trimmed.ensures.marked)
+
+pub returns-clause-mentions : goal.returns-clause-mentions
+returns-clause-mentions c = c.in_ok-trimmed.ensures.kept ∙ (marks_of (goal.at.returns-clause-mentions c).In_ok-trimmed).mentioned
+
+pub returns-clause-numbers : goal.returns-clause-numbers
+returns-clause-numbers c =
+    let m = c.args.numbering in
+    let n = c.in_ok-trimmed.trimmed in
+    let cs = c.args.classes.now.items in
+    let k = (goal.at.returns-clause-numbers c).In_ok-trimmed in
+    elim c.match-remap.branch [
+      | in-Some w ↦
+          let r = w.in-Some.remap in
+          let maps = subst (λ (o : Option Maps). IfSome o (AllMapTo m n)) w.in-Some.is c.in_ok-trimmed.ensures.map in
+          let marked = subst (λ (o : Option Maps). IfSome o (MapsMarked c.in_ok-marks.marks)) w.in-Some.is c.in_ok-trimmed.ensures.marked in
+          subst (All (IsKnownClass n)) (sym (ap (λ v. v.items) w.classes-is))
+          (trimmed_known m n r cs w.cut_all.new.classes.items (λ class. c.renumbering_law.ensures.same m n r class maps) (mapped k r marked) c.requires w.cut_all.ensures)
+      | in_default w ↦
+          let whole : n ≡ m = subst (λ (o : Option Maps). IfNone o (n ≡ m)) w.in_default.is c.in_ok-trimmed.ensures.whole in
+          subst (All (IsKnownClass n)) (sym (ap (λ v. v.items) w.classes-is)) (subst (λ (t : Mentions). All (IsKnownClass t) cs) (sym whole) c.requires)
+    ]
+
+pub returns-clause-same : goal.returns-clause-same
+returns-clause-same c =
+    let m = c.args.numbering in
+    let n = c.in_ok-trimmed.trimmed in
+    let cs = c.args.classes.now.items in
+    let k = (goal.at.returns-clause-same c).In_ok-trimmed in
+    elim c.match-remap.branch [
+      | in-Some w ↦
+          let r = w.in-Some.remap in
+          let maps = subst (λ (o : Option Maps). IfSome o (AllMapTo m n)) w.in-Some.is c.in_ok-trimmed.ensures.map in
+          let marked = subst (λ (o : Option Maps). IfSome o (MapsMarked c.in_ok-marks.marks)) w.in-Some.is c.in_ok-trimmed.ensures.marked in
+          ap (λ v. map (definition_of n) v.items) w.classes-is
+          ∙ trimmed_same m n r cs w.cut_all.new.classes.items (λ class. c.renumbering_law.ensures.same m n r class maps) (mapped k r marked) c.requires w.cut_all.ensures
+      | in_default w ↦
+          let whole : n ≡ m = subst (λ (o : Option Maps). IfNone o (n ≡ m)) w.in_default.is c.in_ok-trimmed.ensures.whole in
+          ap (λ v. map (definition_of n) v.items) w.classes-is ∙ ap (λ (t : Mentions). map (definition_of t) cs) whole
+    ]

@@ -1,8 +1,41 @@
-use Rattle.std.proofs.Common.{List, subst}
+use Rattle.std.proofs.Common.{List, subst, ◌∙◌}
+use Rattle.std.specs.List.{All}
 use Rattle.dexclass.specs.Numbered.{NumberedClass}
+use Rattle.dexclass.specs.Renumbering.{IsMappedClass}
 use Rattle.dexclass.specs.internal.Trimming.{MarkClasses}
+use Rattle.dexclass.proofs.Trimmed.{all_map_to, trimmed_same, trimmed_known}
 use Rattle.dexclass.proofs.trimming.trim.Goals as goal
+use Rattle.dexclass.proofs.trimming.trim.Goals.{In_ok-trimmed}
 
-pub keep_mentioned-requires-clause-marks : goal.keep_mentioned-requires-clause-marks
-keep_mentioned-requires-clause-marks c =
-    subst (λ (cs : List NumberedClass). MarkClasses c.args.numbering.now cs c.in_ok-marks.marks) c.deref.ensures.value c.in_ok-marks.ensures
+-- the marks are those of the classes in their vector
+marks_of : (c : In_ok-trimmed) → MarkClasses c.args.numbering.now c.args.classes.now.items c.in_ok-marks.marks
+marks_of c = subst (λ (cs : List NumberedClass). MarkClasses c.args.numbering.now cs c.in_ok-marks.marks) c.deref.ensures.value c.in_ok-marks.ensures
+
+-- each number that occurs has an image
+mapped : (c : In_ok-trimmed) → All (IsMappedClass c.in_ok-trimmed.remap) c.args.classes.now.items
+mapped c =
+    let m = c.args.numbering.now in
+    all_map_to m c.args.classes.now.items c.requires (λ class. c.uses_law.ensures.uses m class c.is_numbering.ensures.rising) c.in_ok-marks.marks (marks_of c).uses_marked c.in_ok-trimmed.remap c.in_ok-trimmed.ensures.marked
+
+pub keep-requires : goal.keep-requires
+keep-requires c = c.in_ok-marks.ensures.count
+
+pub cut_all-requires : goal.cut_all-requires
+cut_all-requires c = record { down = c.in_ok-trimmed.ensures.down; remapped = mapped (goal.at.cut_all-requires c).In_ok-trimmed }
+
+pub returns-clause-mentions : goal.returns-clause-mentions
+returns-clause-mentions c = c.in_ok-trimmed.ensures.kept ∙ (marks_of (goal.at.returns-clause-mentions c).In_ok-trimmed).mentioned
+
+pub returns-clause-numbers : goal.returns-clause-numbers
+returns-clause-numbers c =
+    let m = c.args.numbering.now in
+    let n = c.in_ok-trimmed.trimmed in
+    let r = c.in_ok-trimmed.remap in
+    trimmed_known m n r c.args.classes.now.items c.cut_all.new.classes.items (λ class. c.renumbering_law.ensures.same m n r class c.in_ok-trimmed.ensures.map) (mapped (goal.at.returns-clause-numbers c).In_ok-trimmed) c.requires c.cut_all.ensures
+
+pub returns-clause-same : goal.returns-clause-same
+returns-clause-same c =
+    let m = c.args.numbering.now in
+    let n = c.in_ok-trimmed.trimmed in
+    let r = c.in_ok-trimmed.remap in
+    trimmed_same m n r c.args.classes.now.items c.cut_all.new.classes.items (λ class. c.renumbering_law.ensures.same m n r class c.in_ok-trimmed.ensures.map) (mapped (goal.at.returns-clause-same c).In_ok-trimmed) c.requires c.cut_all.ensures

@@ -11,7 +11,7 @@ use Rattle.dexspec.specs.Pieces.{Cut, AreCut, piece_size, cut_units, index_pool,
 use Rattle.dexinsn.specs.declared.pieces.Index.{Index}
 use Rattle.dexinsn.specs.Units.{units_in}
 use Rattle.dexinsn.specs.Split.{IsPieceAt}
-use Rattle.dexinsn.specs.Numbered.{Instruction, Payload, numbered_units, numbered_bytes}
+use Rattle.dexinsn.specs.Numbered.{NumberedPiece, Instruction, Payload, numbered_units, numbered_bytes, unit_count}
 use Rattle.dexinsn.specs.Stored.{cuts_in, parts_in, piece_with, left_by, pieces_with, with_place, index_places, AreStored, index_units, after_index, spelled_from, Follow}
 use Rattle.dexinsn.proofs.Sizes.{Fits, piece_size-fits}
 use Rattle.dexinsn.proofs.IndexRoom.{HasRoom, has_room}
@@ -308,6 +308,11 @@ spelled_length us from (i ∷ is) h =
 length-ushorts : (xs : List ℕ) → length (flat_map ushort xs) ≡ 2 * length xs
 length-ushorts [] = refl
 length-ushorts (x ∷ xs) = omega (arith, length-append (ushort x) (flat_map ushort xs), length-ushort x, length-ushorts xs)
+
+-- two bytes are put for each unit
+pub bytes_bound : (ps : List NumberedPiece) → length (numbered_bytes ps) ≤ 2 * unit_count ps
+unfolding numbered_bytes
+bytes_bound ps = omega (arith, length-ushorts (flat_map numbered_units ps))
 
 -- two bytes for each unit
 pub stored_length : (us : List ℕ) (is : List Index) → AreStored us is → length (numbered_bytes (pieces_with (parts_in us) is)) ≡ 2 * length us

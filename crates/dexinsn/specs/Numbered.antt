@@ -1,6 +1,6 @@
 -- Pieces whose symbols are numbers: what they denote under a numbering, and what becomes of them when the numbers
 -- change.
-use Rattle.std.specs.Prelude.{◌≡◌, ℕ, ◌^◌, ◌<◌, if◌then◌else◌, List, [], ◌∷◌, map, All, Option, Some, None, slice_index_or}
+use Rattle.std.specs.Prelude.{◌≡◌, ℕ, ◌^◌, ◌<◌, if◌then◌else◌, List, [], ◌∷◌, map, All, Option, Some, None, slice_index_or, length}
 use Rattle.std.specs.List.{AllZip, flat_map}
 use Rattle.std.specs.Option.{IsSome, option_map_or}
 use Rattle.dexspec.specs.Bytes.{ushort}
@@ -86,6 +86,10 @@ abbrev pub numbered_units : NumberedPiece → List ℕ
 numbered_units (Instruction us None) = us
 numbered_units (Instruction us (Some n)) = with_index n us
 numbered_units (Payload us) = us
+
+-- how many units the pieces have
+abbrev pub unit_count : List NumberedPiece → ℕ
+unit_count ps = length (flat_map numbered_units ps)
 
 -- the bytes of the pieces, their numbers put in
 unfoldable pub numbered_bytes : List NumberedPiece → List ℕ

@@ -1,11 +1,11 @@
 //! Pieces written.
 
-ghost use Rattle.std.specs.Prelude.{◌≡◌, ◌++◌, ◌+◌, ◌*◌, ◌-◌, ◌^◌, ◌<◌, ◌≤◌, All, length, false, vec_len, vec_capacity};
+ghost use Rattle.std.specs.Prelude.{◌≡◌, ◌++◌, ◌+◌, ◌*◌, ◌-◌, ◌^◌, ◌<◌, ◌≤◌, All, IsOk, length, false, vec_len, vec_capacity};
 ghost use Rattle.std.specs.List.{flat_map};
 ghost use Rattle.dexspec.specs.Bytes.{ushort};
 ghost use Rattle.dexspec.specs.internal.Writing.{Puts};
 ghost use Rattle.dexinsn.specs.Units.{units_in};
-ghost use Rattle.dexinsn.specs.Numbered.{numbered_bytes};
+ghost use Rattle.dexinsn.specs.Numbered.{numbered_bytes, unit_count};
 ghost use Rattle.dexinsn.specs.Stored.{AreStored, index_units, after_index};
 ghost use Rattle.dexinsn.specs.internal.Writing.{bytes_between, bytes_with};
 ghost use Rattle.dexinsn.specs.Put.{PutsDenoted};
@@ -98,6 +98,9 @@ pub fn put_pieces(
 ) -> Result<(), AllocError>
     ensures bytes { Puts (numbered_bytes pieces.now.pieces) out.old out.new result }
     ensures symbolic { PutsDenoted numbering.now pieces.now.pieces out.old out.new result }
+    ensures bound { length (numbered_bytes pieces.now.pieces) ≤ 2 * unit_count pieces.now.pieces }
+    ensures room { vec_len out.old + 2 * unit_count pieces.now.pieces ≤ vec_capacity out.old
+        → IsOk result }
 {
     numbering.is_numbering();
     units_law();

@@ -5,7 +5,7 @@ use Rattle.dexspec.specs.Bytes.{uint_at, ushorts_at}
 use Rattle.dexspec.specs.Sections.{IsInData}
 use Rattle.dexspec.specs.Pieces.{Cut, IsCode}
 use Rattle.dexinsn.specs.Split.{BreaksAt}
-use Rattle.dexinsn.specs.declared.code.CodeFault.TheVariants.{Piece}
+use Rattle.dexinsn.specs.declared.code.SplitFault.TheVariants.{Piece}
 use Rattle.dexinsn.specs.Units.{units_in}
 use Rattle.dexinsn.specs.Reading.{HasCodeRoom, AreUnitsAt}
 use Rattle.dexinsn.proofs.Halves.{uint_after, units_of_part}

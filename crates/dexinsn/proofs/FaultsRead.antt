@@ -6,7 +6,7 @@ use Rattle.dexspec.specs.Pieces.{Cut, IsCode}
 use Rattle.dexpool.specs.Pools.{ArePools}
 use Rattle.dexpool.specs.declared.faults.ItemFault.{ItemFault}
 use Rattle.dexpool.specs.declared.faults.ItemFault.TheVariants.{Refused, Memory}
-use Rattle.dexinsn.specs.declared.code.CodeFault.{CodeFault}
+use Rattle.dexinsn.specs.declared.code.SplitFault.{SplitFault}
 use Rattle.dexinsn.specs.Units.{units_in}
 use Rattle.dexinsn.specs.Reading.{IsPiecesFault, AreUnitsAt, IsCodeFault}
 use Rattle.dexinsn.proofs.Once.{result_once}
@@ -15,8 +15,8 @@ use Rattle.dexinsn.proofs.StoredRead.{none_read}
 -- units are cut in one way
 pub one_cut : (us : List ℕ) (cs ds : List Cut) → IsCode us cs → IsCode us ds → cs ≡ ds
 one_cut us cs ds x y =
-    let a : Result (List Cut) CodeFault = Ok cs in
-    let b : Result (List Cut) CodeFault = Ok ds in
+    let a : Result (List Cut) SplitFault = Ok cs in
+    let b : Result (List Cut) SplitFault = Ok ds in
     let e : a ≡ b = result_once us a b x y in
     cc
 

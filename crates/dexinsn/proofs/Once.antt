@@ -1,19 +1,20 @@
 -- Units have one answer only: they are cut in one way, which ends at their end or breaks at one unit.
-use Rattle.std.proofs.Common.{◌≡◌, ℕ, ◌+◌, ◌-◌, ◌<◌, ◌≤◌, Bool, not, cond, List, [], ◌∷◌, length, drop, Some, None, Result, Ok, Err, refl, ap, sym, ◌∙◌, subst, arith, add-zero, add_assoc, zero-add, length-drop}
+use Rattle.std.proofs.Common.{◌≡◌, ◌≢◌, ◌⊎◌, inl, inr, ℕ, ◌+◌, ◌-◌, ◌<◌, ◌≤◌, Bool, not, cond, List, [], ◌∷◌, length, drop, Some, None, Result, Ok, Err, refl, ap, sym, ◌∙◌, subst, arith, add-zero, add_assoc, zero-add, length-drop}
 use Rattle.std.specs.Bool.{IsTrue}
 use Rattle.std.specs.List.{All, find}
 use Rattle.std.specs.Option.{option_map}
 use Rattle.std.proofs.lemmas.List.Elements.{All-head, All-tail}
-use Rattle.std.proofs.lemmas.List.{nil_from_length}
 use Rattle.std.proofs.lemmas.Option.{same_Some}
 use Rattle.dexspec.specs.Pieces.{Cut, AreCut, IsCode, has_right_targets, piece_size}
 use Rattle.dexinsn.specs.Split.{BreaksAt}
 use Rattle.std.specs.Prelude.{Vec, IfOk, IfErr}
 use Rattle.std.specs.declared.alloc.Global.{Global}
 use Rattle.dexinsn.specs.declared.code.Cut.{Cut as CutOfCode}
-use Rattle.dexinsn.specs.declared.code.CodeFault.{CodeFault}
-use Rattle.dexinsn.specs.declared.code.CodeFault.TheVariants.{Empty, Piece, Target, Memory}
-use Rattle.dexinsn.specs.Split.{cuts_of, units_of_all, first_bad_target, first_bad_target_of, HasBadTargetAt, IsFault, IsCutFault, IsResult, IsReturned}
+use Rattle.dexinsn.specs.declared.code.SplitFault.{SplitFault}
+use Rattle.dexinsn.specs.declared.code.SplitFault.TheVariants.{Empty, Piece, Target, Memory}
+use Rattle.dexinsn.specs.declared.code_fault.CodeFault.{CodeFault}
+use Rattle.dexinsn.specs.Split.{cuts_of, units_of_all, first_bad_target, first_bad_target_of, HasBadTargetAt, IsFault, IsResult, IsReturned}
+use Rattle.dexinsn.specs.internal.Splitting.{HasNumbersOf, IsCutFault, IsSplitFault, kind_of, unit_of}
 use Rattle.dexinsn.proofs.Sizes.{piece_size-fits}
 
 -- the pieces, and what is left, where no piece begins
@@ -149,8 +150,16 @@ empty_code us cs empty code =
     let none : length us ≡ 0 = ap length empty in
     omega arith
 
+-- an answer that is true of the units: their pieces, or a fault of theirs by name
+abbrev IsAnswer : List ℕ → Result (List Cut) SplitFault → Type 0
+IsAnswer us (Ok cs) = IsCode us cs
+IsAnswer us (Err Empty) = us ≡ []
+IsAnswer us (Err (Piece n)) = BreaksAt us n
+IsAnswer us (Err (Target n)) = HasBadTargetAt us n
+IsAnswer us (Err Memory) = ⊥
+
 -- two answers that are true of the units are the same
-pub result_once : (us : List ℕ) (a b : Result (List Cut) CodeFault) → IsResult us a → IsResult us b → a ≡ b
+pub result_once : (us : List ℕ) (a b : Result (List Cut) SplitFault) → IsAnswer us a → IsAnswer us b → a ≡ b
 result_once us (Ok cs) (Ok ds) x y = ap Ok (whole_once us cs ds x.cut y.cut)
 result_once us (Ok cs) (Err Empty) x y = absurd (empty_code us cs y x)
 result_once us (Ok cs) (Err (Piece n)) x y = absurd (not_both us cs n x.cut y)
@@ -173,25 +182,56 @@ result_once us (Err (Target n)) (Err (Target m)) x y = ap (λ (k : ℕ). Err (Ta
 result_once us (Err (Target n)) (Err Memory) x y = absurd y
 result_once us (Err Memory) b x y = absurd x
 
--- a fault that is reported is the only answer
-pub returned_fault : (us : List ℕ) (fault : CodeFault) (answer : Result (List Cut) CodeFault) → IsFault us fault → IsResult us answer → IsReturned answer (Err fault)
-returned_fault us Empty answer is a = result_once us (Err Empty) answer is a
-returned_fault us (Piece n) answer is a = result_once us (Err (Piece n)) answer is a
-returned_fault us (Target n) answer is a = result_once us (Err (Target n)) answer is a
-returned_fault us Memory answer is a = tt
-
 -- why the units are not cut is why they are no code
-pub cut_fault : (us : List ℕ) (fault : CodeFault) → IsCutFault us fault → IsFault us fault
+pub cut_fault : (us : List ℕ) (fault : SplitFault) → IsCutFault us fault → IsSplitFault us fault
 cut_fault us Empty is = absurd is
 cut_fault us (Piece n) is = is
 cut_fault us (Target n) is = absurd is
 cut_fault us Memory is = tt
 
--- where there are no units, that is the only answer
-pub only_empty : (us : List ℕ) → length us ≡ 0 → (answer : Result (List Cut) CodeFault) → IsResult us answer → IsReturned answer (Err Empty)
-only_empty us none answer is = result_once us (Err Empty) answer (nil_from_length us none) is
+-- a fault that is told by its numbers
+pub told : (us : List ℕ) (named : SplitFault) (fault : CodeFault) → IsSplitFault us named → HasNumbersOf named fault → IsFault us fault
+told us Empty fault is n = inl (n.kind_is, n.unit_is, is)
+told us (Piece k) fault is n = inr (inl (n.kind_is, subst (BreaksAt us) (sym n.unit_is) is))
+told us (Target k) fault is n = inr (inr (inl (n.kind_is, subst (HasBadTargetAt us) (sym n.unit_is) is)))
+told us Memory fault is n = inr (inr (inr (n.kind_is, n.unit_is)))
+
+-- the name of a fault of the units
+record Named (us : List ℕ) (fault : CodeFault) : Type 0 where
+  named : SplitFault
+  is : IsAnswer us (Err named)
+  numbers : HasNumbersOf named fault
+
+name_of : (us : List ℕ) (fault : CodeFault) → IsFault us fault → fault.kind ≢ 4 → Named us fault
+name_of us fault (inl f) other = record { named = Empty; is = f.2; numbers = record { kind_is = f.0; unit_is = f.1 } }
+name_of us fault (inr (inl f)) other = record { named = Piece fault.unit; is = f.1; numbers = record { kind_is = f.0; unit_is = refl } }
+name_of us fault (inr (inr (inl f))) other = record { named = Target fault.unit; is = f.1; numbers = record { kind_is = f.0; unit_is = refl } }
+name_of us fault (inr (inr (inr f))) other = absurd (other f.0)
+
+-- code has no fault
+no_fault : (us : List ℕ) (cs : List Cut) (fault : CodeFault) → IsCode us cs → IsFault us fault → fault.kind ≢ 4 → ⊥
+no_fault us cs fault code is other =
+    let f = name_of us fault is other in
+    let e : Ok cs ≡ Err f.named = result_once us (Ok cs) (Err f.named) code f.is in
+    cc
+
+-- the numbers of a fault, or zero
+numbers_in : Result (List Cut) SplitFault → ℕ × ℕ
+numbers_in (Ok cs) = (0, 0)
+numbers_in (Err named) = (kind_of named, unit_of named)
+
+-- a fault that is told is the only answer
+pub only_fault : (us : List ℕ) (fault : CodeFault) (answer : Result (List Cut) CodeFault) → IsFault us fault → IsResult us answer → IsReturned answer (Err fault)
+unfolding numbers_in
+only_fault us fault (Ok cs) is code other = no_fault us cs fault code is other
+only_fault us fault (Err known) is answers other =
+    let f = name_of us fault is other in
+    let g = name_of us known answers.0 answers.1 in
+    let e = ap numbers_in (result_once us (Err g.named) (Err f.named) g.is f.is) in
+    (g.numbers.kind_is ∙ ap (λ p. p.0) e ∙ sym f.numbers.kind_is, g.numbers.unit_is ∙ ap (λ p. p.1) e ∙ sym f.numbers.unit_is)
 
 -- what is returned is the only answer
 pub returned_all : (us : List ℕ) (r : Result (Vec CutOfCode Global) CodeFault) (answer : Result (List Cut) CodeFault) → IfOk r (λ cuts. IsCode us (cuts_of cuts.items)) → IfErr r (IsFault us) → IsResult us answer → IsReturned answer r
-returned_all us (Ok cuts) answer code fault is = result_once us (Ok (cuts_of cuts.items)) answer code is
-returned_all us (Err f) answer code fault is = returned_fault us f answer fault is
+returned_all us (Ok cuts) (Ok cs) code fault is = ap Ok (whole_once us (cuts_of cuts.items) cs code.cut is.cut)
+returned_all us (Ok cuts) (Err known) code fault is = absurd (no_fault us (cuts_of cuts.items) known code is.0 is.1)
+returned_all us (Err fault) answer code is answers = only_fault us fault answer is answers

@@ -1,5 +1,5 @@
 -- What the cuts and faults of the code mean.
-use Rattle.std.specs.Prelude.{Result, Ok, Err, ◌≡◌, Vec, ℕ, ◌+◌, ◌<◌, Bool, not, List, [], ◌∷◌, length, drop, map, slice_index, Option, Some, None, ℤ, pos, ◌+ℤ◌, nat_abs, ◌&&◌}
+use Rattle.std.specs.Prelude.{Result, Ok, Err, ◌≡◌, ◌≢◌, ◌⊎◌, Vec, ℕ, ◌+◌, ◌<◌, Bool, not, List, [], ◌∷◌, length, drop, map, slice_index, Option, Some, None, ℤ, pos, ◌+ℤ◌, nat_abs, ◌&&◌}
 use Rattle.std.specs.List.{find, list_any, list_all}
 use Rattle.std.specs.declared.alloc.Global.{Global}
 use Rattle.std.specs.Option.{option_map}
@@ -7,8 +7,7 @@ use Rattle.std.specs.Ordering.{int_eq}
 use Rattle.dexspec.specs.Opcodes.{Format}
 use Rattle.dexspec.specs.Pieces.{all_of_option, IsCode, branch_offset, is_right_target, Cut, AreCut, has_right_targets, is_instruction_start, is_payload_start, payload_targets, piece_size}
 use Rattle.dexinsn.specs.declared.code.Cut.{Cut as CutOfCode}
-use Rattle.dexinsn.specs.declared.code.CodeFault.{CodeFault}
-use Rattle.dexinsn.specs.declared.code.CodeFault.TheVariants.{Empty, Piece, Target, Memory}
+use Rattle.dexinsn.specs.declared.code_fault.CodeFault.{CodeFault}
 
 -- ---- cuts
 
@@ -66,48 +65,28 @@ pub record HasBadTargetAt (us : List ℕ) (n : ℕ) : Type 0 where
   pub cut : AreCut 0 us cuts []
   pub first : first_bad_target us cuts ≡ Some n
 
--- why the units are no code; a failed allocation says nothing
+-- why the units are no code, in this order; a failed allocation says nothing of them
 abbrev pub IsFault : List ℕ → CodeFault → Type 0
-IsFault us Empty = us ≡ []
-IsFault us (Piece n) = BreaksAt us n
-IsFault us (Target n) = HasBadTargetAt us n
-IsFault us Memory = Unit {0}
-
--- the fault's number, and the unit at which it is found
-abbrev pub kind_of : CodeFault → ℕ
-kind_of Empty = 1
-kind_of (Piece n) = 2
-kind_of (Target n) = 3
-kind_of Memory = 4
-
-abbrev pub unit_of : CodeFault → ℕ
-unit_of Empty = 0
-unit_of (Piece n) = n
-unit_of (Target n) = n
-unit_of Memory = 0
-
--- why the units are not cut to their end
-abbrev pub IsCutFault : List ℕ → CodeFault → Type 0
-IsCutFault us Empty = ⊥
-IsCutFault us (Piece n) = BreaksAt us n
-IsCutFault us (Target n) = ⊥
-IsCutFault us Memory = Unit {0}
+IsFault us fault =
+    ((fault.kind ≡ 1) × (fault.unit ≡ 0) × (us ≡ []))
+    ⊎ ((fault.kind ≡ 2) × BreaksAt us fault.unit)
+    ⊎ ((fault.kind ≡ 3) × HasBadTargetAt us fault.unit)
+    ⊎ ((fault.kind ≡ 4) × (fault.unit ≡ 0))
 
 -- an answer that is true of the units: their pieces, or a fault of theirs
 abbrev pub IsResult : List ℕ → Result (List Cut) CodeFault → Type 0
 IsResult us (Ok cs) = IsCode us cs
-IsResult us (Err Empty) = us ≡ []
-IsResult us (Err (Piece n)) = BreaksAt us n
-IsResult us (Err (Target n)) = HasBadTargetAt us n
-IsResult us (Err Memory) = ⊥
+IsResult us (Err fault) = IsFault us fault × (fault.kind ≢ 4)
+
+-- the answer is this fault
+abbrev pub IsTold : Result (List Cut) CodeFault → CodeFault → Type 0
+IsTold (Ok cs) fault = ⊥
+IsTold (Err told) fault = (told.kind ≡ fault.kind) × (told.unit ≡ fault.unit)
 
 -- what is returned is this, unless an allocation failed
 abbrev pub IsReturned : Result (List Cut) CodeFault → Result (Vec CutOfCode Global) CodeFault → Type 0
 IsReturned answer (Ok cuts) = Ok (cuts_of cuts.items) ≡ answer
-IsReturned answer (Err Empty) = Err Empty ≡ answer
-IsReturned answer (Err (Piece n)) = Err (Piece n) ≡ answer
-IsReturned answer (Err (Target n)) = Err (Target n) ≡ answer
-IsReturned answer (Err Memory) = Unit {0}
+IsReturned answer (Err fault) = fault.kind ≢ 4 → IsTold answer fault
 
 -- each answer that is true of the units is what is returned, unless an allocation failed
 abbrev pub IsOnlyResult : List ℕ → Result (Vec CutOfCode Global) CodeFault → Type 0

@@ -4,3 +4,4 @@ pub mod Props
 pub mod Same
 pub mod LongSwitches
 pub mod Writing
+pub mod Splitting

@@ -1,12 +1,14 @@
-ghost use Rattle.std.specs.Prelude.{◌≡◌, ◌<◌, ◌^◌, [], Result, IfErr, IfOk, length};
+ghost use Rattle.std.specs.Prelude.{◌≡◌, ◌<◌, ◌≤◌, ◌^◌, [], Result, IfErr, IfOk, length};
 ghost use Rattle.dexspec.specs.Pieces.{IsCode};
-ghost use Rattle.dexinsn.specs.declared.code.CodeFault.TheVariants.{Memory};
+ghost use Rattle.dexinsn.specs.declared.code.SplitFault.TheVariants.{Memory};
 ghost use Rattle.dexinsn.specs.internal.LongSwitches.{ArePayloads};
 ghost use Rattle.dexinsn.specs.Checking.{AreBitsOf, begins_instruction, is_noted};
-ghost use Rattle.dexinsn.specs.Split.{IsCutFault, IsFault, cuts_of, first_bad_target, kind_of, unit_of, IsOnlyResult};
+ghost use Rattle.dexinsn.specs.Split.{IsFault, cuts_of, first_bad_target, IsOnlyResult};
 ghost use Rattle.dexinsn.specs.internal.Checking.{AreCutWhole};
+ghost use Rattle.dexinsn.specs.internal.Splitting.{HasNumbersOf, IsCutFault, IsSplitFault, kind_of, unit_of};
 
 use crate::checking::{note, piece_targets_right};
+use crate::code_fault::CodeFault;
 use crate::code_units::Units;
 use crate::long_switches::LongSwitches;
 use crate::piece::piece_size;
@@ -20,40 +22,60 @@ pub struct Cut {
     pub units: usize,
 }
 
-/// Why units are not split.
-#[derive(Clone, Copy, Debug, PartialEq, Eq)]
-pub enum CodeFault {
-    /// There are no units.
+// Why units are not split, by name.
+#[derive(Clone, Copy)]
+enum SplitFault {
+    // There are no units.
     Empty,
-    /// The units before this one are cut, and no instruction or payload begins at this one.
+    // The units before this one are cut, and no instruction or payload begins at this one.
     Piece(usize),
-    /// All units are cut, and the instruction at this one has a wrong target, the ones before it right
-    /// ones.
+    // All units are cut, and the instruction at this one has a wrong target, the ones before it right ones.
     Target(usize),
-    /// An allocation failed.
+    // An allocation failed.
     Memory,
 }
 
-impl CodeFault {
-    /// The fault's number, from 1 to 4.
-    pub fn kind(self) -> u8
-        ensures { result ≡ kind_of self }
+impl SplitFault {
+    // The fault's number.
+    fn kind(self) -> u8
+        ensures kind { result ≡ kind_of self }
+        ensures least { 1 ≤ result }
+        ensures most { result ≤ 4 }
     {
         match self {
-            CodeFault::Empty => 1,
-            CodeFault::Piece(_) => 2,
-            CodeFault::Target(_) => 3,
-            CodeFault::Memory => 4,
+            SplitFault::Empty => 1,
+            SplitFault::Piece(_) => 2,
+            SplitFault::Target(_) => 3,
+            SplitFault::Memory => 4,
         }
     }
 
-    /// The unit at which the fault is found; 0 where it is found at none.
-    pub fn unit(self) -> usize
+    // The unit at which the fault is found; 0 where it is found at none.
+    fn unit(self) -> usize
         ensures { result ≡ unit_of self }
     {
         match self {
-            CodeFault::Piece(unit) | CodeFault::Target(unit) => unit,
-            CodeFault::Empty | CodeFault::Memory => 0,
+            SplitFault::Piece(unit) | SplitFault::Target(unit) => unit,
+            SplitFault::Empty | SplitFault::Memory => 0,
+        }
+    }
+}
+
+impl From<AllocError> for SplitFault {
+    ghost from_gives = { λ _ fault. fault ≡ Memory };
+
+    fn from(_: AllocError) -> SplitFault {
+        SplitFault::Memory
+    }
+}
+
+impl From<SplitFault> for CodeFault {
+    ghost from_gives = { HasNumbersOf };
+
+    fn from(fault: SplitFault) -> CodeFault {
+        CodeFault {
+            kind: fault.kind(),
+            unit: fault.unit(),
         }
     }
 }
@@ -64,7 +86,7 @@ fn cut_units(
     units: &Units<'_>,
     starts: &mut Vec<u64>,
     noted: &mut Vec<u64>,
-) -> Result<Vec<Cut>, CodeFault>
+) -> Result<Vec<Cut>, SplitFault>
     requires starts { AreBitsOf begins_instruction units.now [] starts.old.items }
     requires noted { AreBitsOf is_noted units.now [] noted.old.items }
     ensures cuts { IfOk result (λ cuts.
@@ -76,14 +98,14 @@ fn cut_units(
     while at < units.len() {
         let size = match piece_size(at, &units.rest(at)) {
             Some(size) => size,
-            None => return Err(CodeFault::Piece(at)),
+            None => return Err(SplitFault::Piece(at)),
         };
         let piece = Cut {
             unit: at,
             units: size,
         };
         if cuts.push(piece).is_err() {
-            return Err(CodeFault::Memory);
+            return Err(SplitFault::Memory);
         }
         note(units, at, starts, noted);
         at += size;
@@ -113,10 +135,10 @@ fn first_bad_target(
 }
 
 // Cuts units that are code.
-fn split_units(alloc: Global, units: &Units<'_>) -> Result<Vec<Cut>, CodeFault>
+fn split_units(alloc: Global, units: &Units<'_>) -> Result<Vec<Cut>, SplitFault>
     requires { 0 < length units.now }
     ensures code { IfOk result (λ cuts. IsCode units.now (cuts_of cuts.items)) }
-    ensures fault { IfErr result (IsFault units.now) }
+    ensures fault { IfErr result (IsSplitFault units.now) }
 {
     let words = units.len() / 64 + 2;
     let mut starts = Vec::new(alloc);
@@ -126,37 +148,27 @@ fn split_units(alloc: Global, units: &Units<'_>) -> Result<Vec<Cut>, CodeFault>
     let cuts = cut_units(alloc, units, &mut starts, &mut noted)?;
     let switches = LongSwitches::find(alloc, units, &noted)?;
     match first_bad_target(units, &cuts, &starts, &noted, &switches) {
-        Some(unit) => Err(CodeFault::Target(unit)),
+        Some(unit) => Err(SplitFault::Target(unit)),
         None => Ok(cuts),
-    }
-}
-
-impl From<AllocError> for CodeFault {
-    ghost from_gives = { λ _ fault. fault ≡ Memory };
-
-    fn from(_: AllocError) -> CodeFault {
-        CodeFault::Memory
     }
 }
 
 /// Cuts 16-bit code units, from the first one on and without gaps, into instructions and payloads, in
 /// order.
 ///
-/// It fails with [`CodeFault::Empty`] where there are no units, else with [`CodeFault::Piece`] at the first unit where
-/// an instruction or payload should begin and none does, else with [`CodeFault::Target`] at the first instruction that
-/// branches to what is no start of an instruction, or refers to what is no start of a payload of its kind, or to a
-/// switch with a wrong target. It fails with [`CodeFault::Memory`] where an allocation failed.
+/// Error: of kind 1 where there are no units; else 2 at the first unit where an instruction or payload should begin and
+/// none does; else 3 at the first instruction that branches to what is no start of an instruction, or refers to what is
+/// no start of a payload of its kind, or to a switch with a wrong target. It is of kind 4 where an allocation failed.
 ///
 /// Sources: the Android pages "Dalvik bytecode", with its three headings on payloads, and "Dalvik
 /// executable instruction formats".
-#[tactic(auto, using(crate::proofs::Once::only_empty))]
 pub fn split(alloc: Global, units: &[u16]) -> Result<Vec<Cut>, CodeFault>
     ensures code { IfOk result (λ cuts. IsCode units.now (cuts_of cuts.items)) }
     ensures fault { IfErr result (IsFault units.now) }
     ensures only { IsOnlyResult units.now result }
 {
     if units.is_empty() {
-        return Err(CodeFault::Empty);
+        return Err(SplitFault::Empty.into());
     }
-    split_units(alloc, &Units::of_numbers(units))
+    Ok(split_units(alloc, &Units::of_numbers(units))?)
 }

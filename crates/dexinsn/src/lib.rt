@@ -9,7 +9,8 @@
 
 pub use building::build_pieces;
 pub use checking::check_pieces;
-pub use code::{CodeFault, Cut, split};
+pub use code::{Cut, split};
+pub use code_fault::CodeFault;
 pub use format::Format;
 pub use instruction_starts::InstructionStarts;
 pub use laws::{
@@ -29,6 +30,7 @@ pub use symbol_indices::renumber;
 mod building;
 mod checking;
 mod code;
+mod code_fault;
 mod code_units;
 mod format;
 mod instruction;

@@ -10,13 +10,13 @@ pub fn reported(alloc: Global, units: &[u16]) -> Result<String, AllocError> {
         Ok(cuts) => return reported_cuts(alloc, &cuts),
         Err(fault) => fault,
     };
-    let name = match fault {
-        CodeFault::Empty => "Empty",
-        CodeFault::Piece(_) => "Piece",
-        CodeFault::Target(_) => "Target",
-        CodeFault::Memory => return Err(AllocError),
+    let CodeFault { kind, unit } = fault;
+    let name = match kind {
+        1 => "Empty",
+        2 => "Piece",
+        3 => "Target",
+        _ => return Err(AllocError),
     };
-    let unit = fault.unit();
     format!(in alloc; "{name} {unit}")
 }
 

@@ -1,5 +1,14 @@
-use Rattle.dexinsn.proofs.Once.{returned_all}
+use Rattle.std.proofs.Common.{Ok, rules}
+use Rattle.std.proofs.lemmas.List.{nil_from_length}
+use Rattle.dexinsn.specs.declared.code.SplitFault.TheVariants.{Empty}
+use Rattle.dexinsn.proofs.Once.{told, only_fault, returned_all}
 use Rattle.dexinsn.proofs.code.split.Goals as goal
 
+pub returns-then-is_empty-clause-only : goal.returns-then-is_empty-clause-only
+returns-then-is_empty-clause-only c = λ answer. only_fault c.args.units.now c.into.result answer (told c.args.units.now Empty c.into.result (nil_from_length c.args.units.now (search rules)) c.into.ensures)
+
+pub returns-in_err-split_units-clause-only : goal.returns-in_err-split_units-clause-only
+returns-in_err-split_units-clause-only c = λ answer. returned_all c.args.units.now c.from_residual.result answer (search rules) (search rules)
+
 pub returns-clause-only : goal.returns-clause-only
-returns-clause-only c = λ answer is. returned_all c.args.units.now c.split_units.result answer (rw c.of_numbers.ensures at c.split_units.ensures.code) (rw c.of_numbers.ensures at c.split_units.ensures.fault) is
+returns-clause-only c = λ answer. returned_all c.args.units.now (Ok c.in_ok-split_units.field-0) answer (rw c.of_numbers.ensures at c.in_ok-split_units.ensures.code) tt

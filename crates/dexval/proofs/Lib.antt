@@ -40,3 +40,4 @@ pub mod TablesRemapped
 pub mod ValueForms
 pub mod ValuesRead
 pub mod Weights
+pub mod PlacedItems

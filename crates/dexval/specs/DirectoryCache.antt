@@ -1,8 +1,9 @@
 -- The cache of directories: the parts that were read, by offset.
-use Rattle.std.specs.Prelude.{◌≡◌, ℕ, ◌<◌, List, true, Option, Some, length, nat_eq}
+use Rattle.std.specs.Prelude.{◌≡◌, ℕ, ◌<◌, ◌^◌, List, true, Option, Some, length, nat_eq}
 use Rattle.std.specs.List.{Contains}
 use Rattle.std.specs.HashMap.{get}
 use Rattle.std.specs.HashSet.{contains}
+use Rattle.dexspec.specs.Lists.{AreDistinct}
 use Rattle.dexspec.specs.Mentions.{Mentions}
 use Rattle.dexval.specs.declared.directory_cache.DirectoryCache.{DirectoryCache}
 use Rattle.dexval.specs.Numbered.{NumberedSet}
@@ -20,10 +21,20 @@ pub record HasRefList (b : List ℕ) (m : Mentions) (off : ℕ) : Type 0 where
   pub item : List NumberedSet
   pub is_list : IsRefListAt b off m item
 
--- each recorded place is one of the table's
+-- this many items have each an offset of their own, at which a place is recorded
+pub record HaveOffsets (place_at : ℕ → Option ℕ) (count : ℕ) : Type 0 where
+  pub offsets : List ℕ
+  pub counted : length offsets ≡ count
+  pub distinct : AreDistinct offsets
+  pub small : (off : ℕ) → Contains offsets off → off < 2 ^ 32
+  pub recorded : (off : ℕ) → Contains offsets off → (place : ℕ) × (place_at off ≡ Some place)
+
+-- each recorded place is one of the table's, and each item of the table has an offset
 pub record AreHeld (cache : DirectoryCache) : Type 0 where
   pub sets_held : (off place : ℕ) → get nat_eq cache.sets off ≡ Some place → place < length cache.table.sets
   pub lists_held : (off place : ℕ) → get nat_eq cache.lists off ≡ Some place → place < length cache.table.lists
+  pub sets_placed : HaveOffsets (λ off. get nat_eq cache.sets off) (length cache.table.sets)
+  pub lists_placed : HaveOffsets (λ off. get nat_eq cache.lists off) (length cache.table.lists)
 
 -- each recorded item is at its offset
 pub record AreCached (b : List ℕ) (m : Mentions) (cache : DirectoryCache) : Type 0 where

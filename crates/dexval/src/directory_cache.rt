@@ -1,6 +1,7 @@
 //! The sets and lists that a directory of annotations names, each read once even if several members name it.
 
-ghost use Rattle.std.specs.Prelude.{◌≡◌, ◌≢◌, ◌<◌, ◌≤◌, ℕ, List, [], All, length, IfOk, IfErr, IsSome, OnOk};
+ghost use Rattle.std.specs.Prelude.{◌≡◌, ◌≢◌, ◌<◌, ◌≤◌, ℕ, List, [], All, length, IfOk, IfErr, IsSome, None, OnOk, nat_eq};
+ghost use Rattle.std.specs.HashMap.{get};
 ghost use Rattle.dexspec.specs.Mentions.{Mentions};
 ghost use Rattle.dexval.specs.Code.{set_of};
 ghost use Rattle.dexval.specs.Items.{IsRefusal};
@@ -79,6 +80,8 @@ pub(crate) fn count_list(table: &SetTable, place: u32, budget: &mut Budget)
 
 // Records the set at an offset, which is read for the first time: counts it, and keeps it if the budget allows. Returns
 // its place, if it is kept.
+//
+// Condition: no set is recorded at the offset.
 fn note_set(
     off: u32,
     set: AnnotationSet,
@@ -86,9 +89,11 @@ fn note_set(
     budget: &mut Budget,
 ) -> Result<Option<u32>, AllocError>
     requires held { AreHeld cache.old }
+    requires fresh { get nat_eq cache.old.sets off ≡ None }
     ensures most { budget.new.most ≡ budget.old.most }
     ensures grows { budget.old.weight ≤ budget.new.weight }
     ensures passed { budget.new.most < budget.new.weight → cache.new.table ≡ cache.old.table }
+    ensures lists { cache.new.lists ≡ cache.old.lists }
     ensures kept { IfOk result (λ place. budget.new.weight ≤ budget.new.most → IsSome place) }
     ensures noted { IfOk result (IsSetNoted budget.new cache.old cache.new) }
     ensures cache { KeepsSetCached off (set_of set) cache.old cache.new result }
@@ -116,6 +121,7 @@ pub(crate) fn counted_set_at(
     requires cache { IsFile source.now → IsCacheOf source.now cache.old }
     ensures most { budget.new.most ≡ budget.old.most }
     ensures grows { budget.old.weight ≤ budget.new.weight }
+    ensures lists { cache.new.lists ≡ cache.old.lists }
     ensures kept { off ≢ 0
         → IfOk result (λ place. budget.new.weight ≤ budget.new.most → IsSome place) }
     ensures noted { IfOk result (IsSetNoted budget.new cache.old cache.new) }
@@ -143,6 +149,8 @@ pub(crate) fn counted_set_at(
 
 /// Records the list at an offset, which is read for the first time and whose sets are counted: keeps it if the budget
 /// allows. Returns its place, if it is kept.
+///
+/// Condition: no list is recorded at the offset.
 pub(crate) fn note_list(
     off: u32,
     places: Vec<Option<u32>>,
@@ -150,6 +158,7 @@ pub(crate) fn note_list(
     budget: &Budget,
 ) -> Result<Option<u32>, AllocError>
     requires held { AreHeld cache.old }
+    requires fresh { get nat_eq cache.old.lists off ≡ None }
     requires places { All (IsPlaceIn cache.old.table.sets) places.items }
     ensures passed { budget.now.most < budget.now.weight → cache.new.table ≡ cache.old.table }
     ensures kept { IfOk result (λ place. budget.now.weight ≤ budget.now.most → IsSome place) }

@@ -106,6 +106,7 @@ fn listed_sets_at(
     requires cache { IsFile source.now → IsCacheOf source.now cache.old }
     ensures most { budget.new.most ≡ budget.old.most }
     ensures grows { budget.old.weight ≤ budget.new.weight }
+    ensures lists { cache.new.lists ≡ cache.old.lists }
     ensures noted { IfOk result (AreSetsNoted budget.new cache.old cache.new) }
     ensures cache { IsFile source.now → OnOk result (IsCacheOf source.now cache.new) }
     ensures read { IsFile source.now

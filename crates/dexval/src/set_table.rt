@@ -73,17 +73,6 @@ fn copied_lists(lists: &Vec<Vec<Option<u32>>>) -> Result<Vec<Vec<Option<u32>>>, 
     Ok(copy)
 }
 
-// The place after the first `len` places. Error: it has more than 32 bits.
-fn place_of(len: usize) -> Result<u32, AllocError>
-    ensures place { IfOk result (λ place. place ≡ len) }
-    ensures below { len < 2 ^ 32 → IsOk result }
-{
-    if len > u32::MAX as usize {
-        return Err(AllocError);
-    }
-    Ok(len as u32)
-}
-
 impl SetTable {
     /// A table without sets and lists.
     pub fn empty(alloc: Global) -> SetTable
@@ -160,26 +149,30 @@ impl SetTable {
     }
 
     /// Adds a set. Returns its place.
+    ///
+    /// Condition: there are fewer than 2^32.
     pub(crate) fn add_set(&mut self, set: AnnotationSet) -> Result<u32, AllocError>
+        requires { length self.old.sets < 2 ^ 32 }
         ensures place { IfOk result (λ place. place ≡ length self.old.sets) }
         ensures table { OnOk result (self.new ≡ with_set self.old (set_of set)) }
         ensures extends { OnOk result (Extends self.old self.new) }
     {
-        let place = place_of(self.sets.len())?;
+        let place = self.sets.len() as u32;
         self.sets.push(set)?;
         Ok(place)
     }
 
     /// Adds a list of sets. Returns its place.
     ///
-    /// Condition: each place in it is one of the sets'.
+    /// Condition: each place in it is one of the sets'; there are fewer than 2^32 lists.
     pub(crate) fn add_list(&mut self, list: Vec<Option<u32>>) -> Result<u32, AllocError>
-        requires { All (IsPlaceIn self.old.sets) list.items }
+        requires places { All (IsPlaceIn self.old.sets) list.items }
+        requires few { length self.old.lists < 2 ^ 32 }
         ensures place { IfOk result (λ place. place ≡ length self.old.lists) }
         ensures table { OnOk result (self.new ≡ with_list self.old list.items) }
         ensures extends { OnOk result (Extends self.old self.new) }
     {
-        let place = place_of(self.lists.len())?;
+        let place = self.lists.len() as u32;
         self.lists.push(list)?;
         Ok(place)
     }

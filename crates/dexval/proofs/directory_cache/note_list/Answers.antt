@@ -1,10 +1,34 @@
-use Rattle.std.proofs.Common.{ℕ, ◌≤◌, Some, refl, sym, subst, map, rules}
+use Rattle.std.proofs.Common.{◌≡◌, ℕ, ◌+◌, ◌≤◌, ◌∷◌, [], length, Some, nat_eq, refl, sym, ap, subst, map, rules, arith, length-append}
+use Rattle.std.specs.HashMap.{get}
 use Rattle.dexval.specs.declared.directory_cache.DirectoryCache.{DirectoryCache}
 use Rattle.dexval.specs.Directories.{IsRefListAt}
-use Rattle.dexval.specs.Tables.{set_at, sets_at}
+use Rattle.dexval.specs.DirectoryCache.{HaveOffsets}
+use Rattle.dexval.specs.Tables.{NumberedTable, set_at, sets_at}
 use Rattle.dexval.proofs.CachedSets.{list_noted, all_cached}
+use Rattle.dexval.proofs.PlacedItems.{fewer, one_placed}
 use Rattle.dexval.proofs.TableGrowth.{list_is_added}
 use Rattle.dexval.proofs.directory_cache.note_list.Goals as goal
+
+pub add_list-requires-clause-few : goal.add_list-requires-clause-few
+add_list-requires-clause-few c = fewer (λ off. get nat_eq c.args.cache.now.lists off) _ c.args.off c.requires.held.lists_placed c.requires.fresh (omega arith)
+
+pub returns-clause-noted : goal.returns-clause-noted
+returns-clause-noted c =
+    let old = c.args.cache.now in
+    let grown = c.in_ok-place.ensures.table in
+    let updates = c.in_ok-insert-2.ensures.updates in
+    let more : length c.add_list.new.self.lists ≡ length old.table.lists + 1 = omega (arith, ap (λ (t : NumberedTable). length t.lists) grown, length-append old.table.lists (c.args.places.items ∷ [])) in
+    record {
+      extended = c.in_ok-place.ensures.extends;
+      noted_held = record {
+        sets_held = search rules;
+        lists_held = search rules;
+        sets_placed = subst (HaveOffsets (λ off. get nat_eq old.sets off)) (sym (ap (λ (t : NumberedTable). length t.sets) grown)) c.requires.held.sets_placed;
+        lists_placed = one_placed (λ off. get nat_eq old.lists off) (length old.table.lists) c.args.off c.requires.held.lists_placed c.requires.fresh (omega arith) (λ off. get nat_eq c.insert-2.new.self off) c.in_ok-place.place (length c.add_list.new.self.lists) updates.1 updates.2 more;
+      };
+      held = search rules;
+      named = search rules;
+    }
 
 pub returns-clause-cache : goal.returns-clause-cache
 returns-clause-cache c = λ b m before kept cache.

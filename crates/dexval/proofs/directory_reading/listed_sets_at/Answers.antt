@@ -1,4 +1,4 @@
-use Rattle.std.proofs.Common.{◌≡◌, ◌⊎◌, ◌+◌, ◌*◌, ◌++◌, ◌∷◌, ◌∙◌, ◌≤◌, ℕ, List, [], Option, Some, map, sum_by, ap, sym, subst, inl, inr, arith}
+use Rattle.std.proofs.Common.{◌≡◌, ◌⊎◌, ◌+◌, ◌*◌, ◌++◌, ◌∷◌, ◌∙◌, ◌≤◌, ℕ, List, [], Option, Some, map, sum_by, refl, ap, sym, subst, inl, inr, arith}
 use Rattle.std.specs.Prelude.{All}
 use Rattle.std.specs.List.{Contains}
 use Rattle.std.proofs.lemmas.List.{map-append}
@@ -38,6 +38,7 @@ loop-i-init c =
     record {
       bound = c.add.ensures.most;
       grows = c.add.ensures.grows;
+      lists = refl;
       noted = subst Noted (sym c.in_ok-places.ensures.items) (record { extended = extends_same table; noted_held = c.requires.held; held = All-nil (IsPlaceIn table.sets); named = λ within. none_new (λ i. Contains [] (Some i)) (λ i. ⊥) table });
       cache = c.requires.cache;
       read = λ p.
@@ -83,6 +84,7 @@ loop-i-preserved c =
     record {
       bound = bound;
       grows = omega (arith, c.loop-i.invariant.grows, c.in_ok-place.ensures.grows);
+      lists = c.in_ok-place.ensures.lists ∙ c.loop-i.invariant.lists;
       noted = list_step c.args.cache.now mid new before after place (λ le. omega (arith, le, c.in_ok-place.ensures.grows, c.in_ok-place.ensures.most)) c.loop-i.invariant.noted noted put;
       cache = λ p. c.in_ok-place.ensures.cache p;
       read = λ p.

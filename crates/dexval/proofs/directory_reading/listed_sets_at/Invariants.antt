@@ -11,6 +11,7 @@ abbrev pub invariant-loop-i : goal.invariant-loop-i
 invariant-loop-i l = record {
   bound : l.budget.most ≡ l.fn.budget.most;
   grows : l.fn.budget.weight ≤ l.budget.weight;
+  lists : l.cache.lists ≡ l.fn.cache.lists;
   noted : IsNoted (λ i. Contains l.places.items (Some i)) (λ i. ⊥) (All (IsPlaceIn l.cache.table.sets) l.places.items) (l.budget.weight ≤ l.budget.most) l.fn.cache l.cache;
   cache : HasPools l.source.frame.now l.source.pools.now → AreCached l.source.frame.now l.source.pools.now l.cache;
   read : HasPools l.source.frame.now l.source.pools.now → IsKept (HaveReadList l.source.frame.now (l.off + 4) l.source.pools.now l.i) (λ ss. l.list + sum_by (set_weight_in l.source.pools.now) ss) l.fn.budget.most l.fn.budget.weight l.budget.weight (map (set_at l.cache.table.sets) l.places.items);

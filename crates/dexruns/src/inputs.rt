@@ -1,6 +1,6 @@
 //! Inputs, read whole and as programs.
 
-ghost use Rattle.std.specs.Prelude.{◌≡◌, ◌<◌, ◌≤◌, ◌+◌, ◌++◌, [], true, false, length, take, drop, OnOk, OnErr, IfOk, IfErr, vec_len};
+ghost use Rattle.std.specs.Prelude.{◌≡◌, ◌<◌, ◌≤◌, ◌+◌, ◌++◌, max, [], true, false, length, take, drop, OnOk, OnErr, IfOk, IfErr, vec_len};
 ghost use Rattle.dexclass.specs.Programs.{IsReadAs};
 ghost use Rattle.dexruns.specs.Inputs.{bytes_read, IsReadNoFurther, IsUnread, ReportsOf};
 ghost use Rattle.dexruns.specs.internal.Unread.{AreUnread, IsNoProgram, fault_of_input};
@@ -45,6 +45,7 @@ fn room_for(expected: usize, filled: usize) -> usize
     requires { filled < 1073741825 }
     ensures more { filled < result }
     ensures bound { result ≤ 1073741825 }
+    ensures needed { result ≤ max (expected + 1) (filled + max filled 4096) }
 {
     if filled < expected {
         return expected.min(MOST_READ - 1) + 1;
@@ -63,6 +64,8 @@ fn make_room(bytes: &mut Vec<u8>, filled: usize, expected: usize) -> Result<(), 
     requires bound { vec_len bytes.old ≤ 1073741825 }
     ensures room { OnOk result (filled < vec_len bytes.new) }
     ensures bound { OnOk result (vec_len bytes.new ≤ 1073741825) }
+    ensures needed { OnOk result (vec_len bytes.new
+        ≤ max (vec_len bytes.old) (max (expected + 1) (filled + max filled 4096))) }
     ensures prefix { OnOk result (take filled bytes.new.items ≡ take filled bytes.old.items) }
 {
     if filled < bytes.len() {

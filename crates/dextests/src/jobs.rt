@@ -77,6 +77,10 @@ fn jobs_that_fail_leave_the_output_alone(rt: HostRuntime) {
             "1 [\"dexkit: cap types\"] opened 2 made 0",
         ),
         (
+            "merge -o o --max-types 0 a b",
+            "1 [\"dexkit: cap types\"] opened 2 made 0",
+        ),
+        (
             "merge -o o a source",
             "1 [\"dexkit: conflict LA;\"] opened 2 made 0",
         ),

@@ -5,9 +5,9 @@ ghost use Rattle.dexspec.specs.Header.{ClassDefs, table_size};
 ghost use Rattle.dexspec.specs.Weight.{mentions_weight, most_weight};
 ghost use Rattle.dexspec.specs.Accepted.{HoldBelow};
 ghost use Rattle.dexpool.specs.Pools.{ArePools};
-ghost use Rattle.dexmembers.specs.Checking.{AreChecks};
 ghost use Rattle.dexclass.specs.Programs.{IsFaultOf};
 ghost use Rattle.dexclass.specs.Checking.{HaveBodiesOf, IsCheckedAs};
+ghost use Rattle.dexclass.specs.internal.Checked.{AreCheckedRows};
 
 use crate::class_checks::check_classes;
 use crate::reading::{MOST_WEIGHT, at_row, interface_count, read_rows, row_weight, too_heavy};
@@ -78,37 +78,43 @@ fn read_len<'a>(alloc: Global, frame: &Frame<'a>, pools: Pools<'a>) -> Result<us
     Ok(program.len())
 }
 
-// Checks class row `r` after the rows before it, which weigh `before` together. Returns what they weigh with it.
+// What was checked of a file with its first class rows, and what these weigh together.
+#[derive(Drop)]
+struct CheckedRows {
+    checks: Checks,
+    weight: u64,
+}
+
+// Checks class row `r`, and adds it to the rows before it.
 fn check_row(
     alloc: Global,
     frame: &Frame<'_>,
     pools: &Pools<'_>,
     r: u32,
-    before: u64,
-    checks: &mut Checks,
-) -> Result<u64, ReadFault>
+    rows: &mut CheckedRows,
+) -> Result<(), ReadFault>
     requires pools { ArePools frame.now pools.now }
     requires holds { HoldBelow 17 frame.now }
     requires row { r < table_size frame.now ClassDefs }
-    requires before { HaveBodiesOf frame.now r before }
-    requires checks { AreChecks frame.now pools.now checks.old }
-    ensures checks { OnOk result (AreChecks frame.now pools.now checks.new) }
-    ensures accepted { IfOk result (HaveBodiesOf frame.now (r + 1)) }
+    requires rows { AreCheckedRows frame.now pools.now r rows.old }
+    ensures accepted { OnOk result (AreCheckedRows frame.now pools.now (r + 1) rows.new) }
     ensures refused { IfErr result (IsFaultOf frame.now) }
 {
     let row = ClassDef::at(frame, r);
     let interfaces = interface_count(frame, row.interfaces_off);
-    let members = match check_members(alloc, frame, pools, &row, checks) {
+    let members = match check_members(alloc, frame, pools, &row, &mut rows.checks) {
         Ok(members) => members,
         Err(fault) => return Err(at_row(fault, r)),
     };
-    let weight = before
+    let weight = rows
+        .weight
         .saturating_add(row_weight(interfaces))
         .saturating_add(members);
     if weight > MOST_WEIGHT {
         return Err(too_heavy(r));
     }
-    Ok(weight)
+    rows.weight = weight;
+    Ok(())
 }
 
 // Checks the class rows of a file of which conditions 1 to 16 hold, from row 0 on, until they weigh too much. Returns
@@ -119,10 +125,12 @@ fn check_rows(alloc: Global, frame: &Frame<'_>, pools: &Pools<'_>) -> Result<u64
     ensures accepted { IfOk result (HaveBodiesOf frame.now (table_size frame.now ClassDefs)) }
     ensures refused { IfErr result (IsFaultOf frame.now) }
 {
-    let mut checks = Checks::none(alloc);
-    let mut weight = 0;
+    let mut rows = CheckedRows {
+        checks: Checks::none(alloc),
+        weight: 0,
+    };
     for r in 0..frame.size(Table::ClassDefs) {
-        weight = check_row(alloc, frame, pools, r, weight, &mut checks)?;
+        check_row(alloc, frame, pools, r, &mut rows)?;
     }
-    Ok(weight)
+    Ok(rows.weight)
 }

@@ -1,6 +1,6 @@
 //! Class definitions with numbers instead of symbols.
 
-ghost use Rattle.std.specs.Prelude.{◌≡◌, ℕ, length, IfOk};
+ghost use Rattle.std.specs.Prelude.{◌≡◌, ℕ, List, length, IfOk};
 ghost use Rattle.dexmembers.specs.ClassDefs.{IsClassDef};
 ghost use Rattle.dexclass.specs.internal.Rows.{interface_indices, HasInterfaceList};
 ghost use Rattle.dexclass.specs.Numbered.{number_of, IsOfRow};
@@ -141,8 +141,12 @@ fn number_of(index: u32) -> Option<usize>
     }
 }
 
-// The indices of the `count` interfaces that are listed at an offset.
-fn interfaces_at(
+/// The indices of the `count` interfaces that are listed at an offset.
+///
+/// Error: the allocation failed.
+///
+/// Source: "class_def_item", the field `interfaces_off`, and "type_list".
+pub(crate) fn interfaces_at(
     alloc: Global,
     frame: &Frame<'_>,
     off: u32,
@@ -160,32 +164,27 @@ fn interfaces_at(
     Ok(interfaces)
 }
 
-/// The class of a row, which lists `interfaces` interfaces: with the indices of the file as numbers, with what it
-/// declares and with its weight.
+/// The class of a row, with the indices of the file as numbers: the row has these interfaces, declares these members,
+/// and weighs this much.
 ///
-/// Condition: the row meets condition 16. Error: the memory for its interfaces was refused.
-///
-/// Source: "class_def_item" and "type_list".
-pub(crate) fn class_at<'a>(
-    alloc: Global,
-    frame: &Frame<'a>,
+/// Source: "class_def_item".
+pub(crate) fn class_of<'a>(
     row: &ClassDef,
-    interfaces: u32,
+    interfaces: Vec<usize>,
     members: Members<'a>,
     weight: u64,
-) -> Result<Class<'a>, AllocError>
-    requires list { HasInterfaceList frame.now row.now.interfaces_off }
-    requires interfaces { interfaces ≡ length (interface_indices frame.now row.now.interfaces_off) }
-    ensures { (r : ℕ) → IsClassDef frame.now r row.now
-        → IfOk result (IsOfRow frame.now r members.entry weight) }
+) -> Class<'a>
+    ensures { (b : List ℕ) (r : ℕ) → IsClassDef b r row.now
+        → interfaces.items ≡ interface_indices b row.now.interfaces_off
+        → IsOfRow b r members.entry weight result }
 {
-    Ok(Class {
+    Class {
         name: row.class_idx as usize,
         flags: row.access_flags,
         superclass: number_of(row.superclass_idx),
-        interfaces: interfaces_at(alloc, frame, row.interfaces_off, interfaces)?,
+        interfaces,
         source: number_of(row.source_file_idx),
         members,
         weight,
-    })
+    }
 }

@@ -11,7 +11,7 @@ ghost use Rattle.dexclass.specs.Programs.{IsReadAs, IsFaultOf};
 ghost use Rattle.dexclass.specs.internal.Reading.{AreBodies, IsWhole, AreHeavyTogether};
 
 use crate::class_checks::check_classes;
-use crate::classes::{Class, class_at};
+use crate::classes::{Class, class_of, interfaces_at};
 use crate::programs::Program;
 use crate::trimming::into_trimmed;
 use dexhead::{Condition, Frame, Refusal, Table};
@@ -107,8 +107,8 @@ fn read_row<'a>(
 {
     pools.numbering().is_numbering();
     let row = ClassDef::at(frame, r);
-    let interfaces = interface_count(frame, row.interfaces_off);
-    let own = row_weight(interfaces);
+    let count = interface_count(frame, row.interfaces_off);
+    let own = row_weight(count);
     let most = MOST_WEIGHT.saturating_sub(bodies.weight + own) as u32;
     let found = match read_members(alloc, frame, pools, &row, most) {
         Ok(found) => found,
@@ -123,9 +123,10 @@ fn read_row<'a>(
     if weight > MOST_WEIGHT {
         return Err(too_heavy(r));
     }
+    let interfaces = interfaces_at(alloc, frame, row.interfaces_off, count)?;
     bodies
         .classes
-        .push(class_at(alloc, frame, &row, interfaces, members, body)?)?;
+        .push(class_of(&row, interfaces, members, body))?;
     bodies.weight = weight;
     Ok(())
 }

@@ -1,12 +1,16 @@
--- What is checked of a class row, where the types of the rows before it are marked.
+-- What is checked of a class row, after the rows before it.
 use Rattle.std.specs.Prelude.{◌≡◌, ℕ, ◌+◌, ◌<◌, Bool, List, All}
 use Rattle.dexspec.specs.Header.{ClassDefs, table_size}
 use Rattle.dexspec.specs.Rows.{type_indices}
 use Rattle.dexspec.specs.Classes.{class_idx}
 use Rattle.dexspec.specs.Accepted.{HoldBelow, IsDefinedBefore}
+use Rattle.dexspec.specs.Mentions.{Mentions}
 use Rattle.dexpool.specs.declared.faults.ItemFault.{ItemFault}
 use Rattle.dexpool.specs.declared.faults.ReadFault.{ReadFault}
+use Rattle.dexmembers.specs.Checking.{AreChecks}
 use Rattle.dexmembers.specs.Reading.{IsMembersFault}
+use Rattle.dexclass.specs.Checking.{HaveBodiesOf}
+use Rattle.dexclass.specs.declared.checking.CheckedRows.{CheckedRows}
 use Rattle.dexclass.specs.declared.class_checks.KnownFile.{KnownFile}
 use Rattle.dexclass.specs.Programs.{IsFaultOf}
 use Rattle.dexclass.specs.internal.Rows.{AreDefinedMarks, IsInterfaceIndex, superclass_indices}
@@ -34,3 +38,8 @@ MarksClass index old new = (b : List ℕ) (r : ℕ) → class_idx b r ≡ index 
 -- the fault is what the fault of the members of class row r says of the file
 abbrev pub IsFaultAtRow : ItemFault → ℕ → ReadFault → Type 0
 IsFaultAtRow members r fault = (b : List ℕ) → HoldBelow 17 b → r < table_size b ClassDefs → IsMembersFault b r members → IsFaultOf b fault
+
+-- what was checked is of the file, and the rows before row n weigh what is counted
+pub record AreCheckedRows (b : List ℕ) (m : Mentions) (n : ℕ) (rows : CheckedRows) : Type 0 where
+  pub checks_are : AreChecks b m rows.checks
+  pub bodies_are : HaveBodiesOf b n rows.weight

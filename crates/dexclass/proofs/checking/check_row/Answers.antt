@@ -11,6 +11,9 @@ use Rattle.dexclass.proofs.checking.check_row.Goals as goal
 pub interface_count-interfaces-requires : goal.interface_count-interfaces-requires
 interface_count-interfaces-requires c = subst (HasInterfaceList c.args.frame.now) c.at-row.ensures.interfaces_are (c.requires.holds Condition.Classes (omega arith) c.args.r c.requires.row).interfaces
 
+pub check_members-requires : goal.check_members-requires
+check_members-requires c = λ pools. c.requires.rows.checks_are
+
 pub returns-in-Err-clause-refused : goal.returns-in-Err-clause-refused
 returns-in-Err-clause-refused c =
     c.at_row.ensures c.args.frame.now c.requires.holds c.requires.row (c.in-Err.ensures.refused c.args.r c.at-row.ensures c.requires.pools (c.requires.holds Condition.Classes (omega arith) c.args.r c.requires.row))
@@ -21,9 +24,9 @@ returns-then-weight-gt-MOST_WEIGHT-clause-refused c =
     let r = c.args.r in
     let has : HasClass b r = c.requires.holds Condition.Classes (omega arith) r c.requires.row in
     let interfaces = row_interfaces b r c.at-row.result c.interface_count-interfaces.result c.at-row.ensures c.interface_count-interfaces.ensures in
-    let more : c.saturating_add-weight.result ≡ min (2 ^ 64 - 1) (min (2 ^ 64 - 1) (c.args.before + (96 + 2 * length (interface_indices b (interfaces_off b r)))) + c.in-Ok.members) = omega (arith, c.saturating_add.ensures, c.saturating_add-weight.ensures, interfaces, c.row_weight.ensures) in
+    let more : c.saturating_add-weight.result ≡ min (2 ^ 64 - 1) (min (2 ^ 64 - 1) (c.args.rows.now.weight + (96 + 2 * length (interface_indices b (interfaces_off b r)))) + c.in-Ok.members) = omega (arith, c.saturating_add.ensures, c.saturating_add-weight.ensures, interfaces, c.row_weight.ensures) in
     subst (IsFaultOf b) (sym c.too_heavy.ensures)
-    (checked_heavy b c.args.pools.now c.requires.pools c.requires.holds r c.requires.row c.args.before c.in-Ok.members c.saturating_add-weight.result c.requires.before (c.in-Ok.ensures.checked r c.at-row.ensures c.requires.pools has) more c.if-weight-gt-MOST_WEIGHT.true)
+    (checked_heavy b c.args.pools.now c.requires.pools c.requires.holds r c.requires.row c.args.rows.now.weight c.in-Ok.members c.saturating_add-weight.result c.requires.rows.bodies_are (c.in-Ok.ensures.checked r c.at-row.ensures c.requires.pools has) more c.if-weight-gt-MOST_WEIGHT.true)
 
 pub returns-clause-accepted : goal.returns-clause-accepted
 returns-clause-accepted c =
@@ -31,5 +34,7 @@ returns-clause-accepted c =
     let r = c.args.r in
     let has : HasClass b r = c.requires.holds Condition.Classes (omega arith) r c.requires.row in
     let interfaces = row_interfaces b r c.at-row.result c.interface_count-interfaces.result c.at-row.ensures c.interface_count-interfaces.ensures in
-    let more : c.saturating_add-weight.result ≡ min (2 ^ 64 - 1) (min (2 ^ 64 - 1) (c.args.before + (96 + 2 * length (interface_indices b (interfaces_off b r)))) + c.in-Ok.members) = omega (arith, c.saturating_add.ensures, c.saturating_add-weight.ensures, interfaces, c.row_weight.ensures) in
-    checked_more b c.args.pools.now c.requires.pools c.requires.holds r c.requires.row c.args.before c.in-Ok.members c.saturating_add-weight.result c.requires.before (c.in-Ok.ensures.checked r c.at-row.ensures c.requires.pools has) more c.if-weight-gt-MOST_WEIGHT.false
+    let more : c.saturating_add-weight.result ≡ min (2 ^ 64 - 1) (min (2 ^ 64 - 1) (c.args.rows.now.weight + (96 + 2 * length (interface_indices b (interfaces_off b r)))) + c.in-Ok.members) = omega (arith, c.saturating_add.ensures, c.saturating_add-weight.ensures, interfaces, c.row_weight.ensures) in
+    let bodies =
+    checked_more b c.args.pools.now c.requires.pools c.requires.holds r c.requires.row c.args.rows.now.weight c.in-Ok.members c.saturating_add-weight.result c.requires.rows.bodies_are (c.in-Ok.ensures.checked r c.at-row.ensures c.requires.pools has) more c.if-weight-gt-MOST_WEIGHT.false in
+    record { checks_are = c.in-Ok.ensures.checks c.requires.pools; bodies_are = bodies }

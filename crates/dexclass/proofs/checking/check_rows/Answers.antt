@@ -5,9 +5,9 @@ use Rattle.dexclass.proofs.RowsChecked.{no_bodies}
 use Rattle.dexclass.proofs.checking.check_rows.Goals as goal
 
 pub loop-r-init : goal.loop-r-init
-loop-r-init c = record { checks = c.none-checks.ensures c.args.frame.now c.args.pools.now; bodies = no_bodies c.args.frame.now }
+loop-r-init c = record { checks_are = c.none.ensures c.args.frame.now c.args.pools.now; bodies_are = no_bodies c.args.frame.now }
 
 pub returns-clause-accepted : goal.returns-clause-accepted
 returns-clause-accepted c =
     let all : c.loop-r.r ≡ table_size c.args.frame.now ClassDefs = omega (arith, c.loop-r-test.false, c.loop-r.auto.r-end, c.size-r-end.ensures) in
-    subst (λ (n : ℕ). HaveBodiesOf c.args.frame.now n c.loop-r.weight) all c.loop-r.invariant.bodies
+    subst (λ (n : ℕ). HaveBodiesOf c.args.frame.now n c.loop-r.rows.weight) all c.loop-r.invariant.bodies_are

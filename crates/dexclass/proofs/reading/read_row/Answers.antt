@@ -12,11 +12,11 @@ use Rattle.dexclass.proofs.RowFaults.{members_heavy}
 use Rattle.dexclass.proofs.Summing.{class_heavy, class_more}
 use Rattle.dexclass.proofs.reading.read_row.Goals as goal
 
-pub interface_count-interfaces-requires : goal.interface_count-interfaces-requires
-interface_count-interfaces-requires c = subst (HasInterfaceList c.args.frame.now) c.at-row.ensures.interfaces_are (c.requires.before Condition.Classes (omega arith) c.args.r c.requires.row).interfaces
+pub interface_count-count-requires : goal.interface_count-count-requires
+interface_count-count-requires c = subst (HasInterfaceList c.args.frame.now) c.at-row.ensures.interfaces_are (c.requires.before Condition.Classes (omega arith) c.args.r c.requires.row).interfaces
 
-pub class_at-requires-clause-list : goal.class_at-requires-clause-list
-class_at-requires-clause-list c = subst (HasInterfaceList c.args.frame.now) c.at-row.ensures.interfaces_are (c.requires.before Condition.Classes (omega arith) c.args.r c.requires.row).interfaces
+pub interfaces_at-requires-clause-list : goal.interfaces_at-requires-clause-list
+interfaces_at-requires-clause-list c = subst (HasInterfaceList c.args.frame.now) c.at-row.ensures.interfaces_are (c.requires.before Condition.Classes (omega arith) c.args.r c.requires.row).interfaces
 
 pub returns-in-Err-clause-refused : goal.returns-in-Err-clause-refused
 returns-in-Err-clause-refused c =
@@ -29,7 +29,7 @@ returns-in-None-clause-refused c =
     let r = c.args.r in
     let most = c.saturating_sub-most.result in
     let heavy : AreHeavyMembers b r most = subst (AreReadWithin b r m most) c.in-None.is (c.in-Ok.ensures.read r c.at-row.ensures c.requires.pools (c.requires.before Condition.Classes (omega arith) r c.requires.row)) in
-    let interfaces = row_interfaces b r c.at-row.result c.interface_count-interfaces.result c.at-row.ensures c.interface_count-interfaces.ensures in
+    let interfaces = row_interfaces b r c.at-row.result c.interface_count-count.result c.at-row.ensures c.interface_count-count.ensures in
     let left : most ≡ most_weight - c.args.bodies.now.weight - (96 + 2 * length (interface_indices b (interfaces_off b r))) = omega (arith, c.saturating_sub-most.ensures, interfaces, c.row_weight-own.ensures) in
     subst (IsFaultOf b) (sym c.too_heavy.ensures) (members_heavy b m c.requires.pools c.requires.before r c.args.bodies.now c.requires.bodies c.requires.row most left heavy)
 
@@ -42,7 +42,7 @@ returns-then-weight-gt-MOST_WEIGHT-clause-refused c =
     let x = c.in-Some.found in
     let w = c.row_weight-own.result + c.from.result in
     let read = subst (AreReadWithin b r m most) c.in-Some.is (c.in-Ok.ensures.read r c.at-row.ensures c.requires.pools (c.requires.before Condition.Classes (omega arith) r c.requires.row)) in
-    let interfaces = row_interfaces b r c.at-row.result c.interface_count-interfaces.result c.at-row.ensures c.interface_count-interfaces.ensures in
+    let interfaces = row_interfaces b r c.at-row.result c.interface_count-count.result c.at-row.ensures c.interface_count-count.ensures in
     let weighs : w ≡ 96 + 2 * length (interface_indices b (interfaces_off b r)) + members_weight (members_in m x.0) = omega (arith, interfaces, c.row_weight-own.ensures, c.from.ensures, read.1) in
     subst (IsFaultOf b) (sym c.too_heavy-then-weight-gt-MOST_WEIGHT.ensures)
     (class_heavy b m c.requires.pools c.requires.before r c.requires.row most x.0 read.0 w weighs c.args.bodies.now c.requires.bodies c.if-weight-gt-MOST_WEIGHT.true)
@@ -57,7 +57,7 @@ returns-clause-accepted c =
     let old = c.args.bodies.now in
     let w = c.row_weight-own.result + c.from.result in
     let read = subst (AreReadWithin b r m most) c.in-Some.is (c.in-Ok.ensures.read r c.at-row.ensures c.requires.pools (c.requires.before Condition.Classes (omega arith) r c.requires.row)) in
-    let interfaces = row_interfaces b r c.at-row.result c.interface_count-interfaces.result c.at-row.ensures c.interface_count-interfaces.ensures in
+    let interfaces = row_interfaces b r c.at-row.result c.interface_count-count.result c.at-row.ensures c.interface_count-count.ensures in
     let weighs : w ≡ 96 + 2 * length (interface_indices b (interfaces_off b r)) + members_weight (members_in m x.0) = omega (arith, interfaces, c.row_weight-own.ensures, c.from.ensures, read.1) in
-    class_more b m c.requires.pools c.requires.before r c.requires.row most x.0 read.0 w weighs old c.requires.bodies c.if-weight-gt-MOST_WEIGHT.false c.in_ok-class_at.field-0 (c.in_ok-class_at.ensures r c.at-row.ensures)
+    class_more b m c.requires.pools c.requires.before r c.requires.row most x.0 read.0 w weighs old c.requires.bodies c.if-weight-gt-MOST_WEIGHT.false c.class_of.result (c.class_of.ensures b r c.at-row.ensures c.in_ok-interfaces.ensures)
     (record { classes = c.push.new.self; weight = old.weight + w }) c.in_ok-push.ensures.items refl

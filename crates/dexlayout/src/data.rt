@@ -3,11 +3,11 @@
 ghost use Rattle.std.specs.Prelude.{◌≡◌, List, IfOk};
 ghost use Rattle.dexspec.specs.Mentions.{Mentions};
 ghost use Rattle.dexspec.specs.Placing.{end};
-ghost use Rattle.dexspec.specs.Canonical.{class_data_section, data_start, string_section};
+ghost use Rattle.dexspec.specs.Canonical.{data_start, string_section};
 ghost use Rattle.dexclass.specs.Numbered.{NumberedClass};
-ghost use Rattle.dexlayout.specs.Laid.{AreAnnotations, AreWritable, ordered_of};
+ghost use Rattle.dexlayout.specs.Laid.{AreWritable, ordered_of};
 ghost use Rattle.dexlayout.specs.internal.Parts.{AreBack, AreBodies, AreData, AreFirstSections};
-ghost use Rattle.dexlayout.specs.internal.Placing.{PlacedFrom, AreWrittenSets, AreKnownSets, HaveSets, IsDataFrom, AreEntriesOf, greatest_data};
+ghost use Rattle.dexlayout.specs.internal.Placing.{CanPlaceSets, PlacedFrom, PlacedSets, AreWrittenSets, AreKnownSets, HaveSets, IsDataFrom, AreEntriesOf, greatest_data};
 
 use crate::annotations::place_annotations;
 use crate::class_data::place_class_data;
@@ -125,28 +125,18 @@ fn place_bodies(
 // of its set.
 fn place_back(
     alloc: Global,
-    numbering: &Numbering<'_>,
     classes: &[Class<'_>],
     annotations: &Items,
     shared: &Shared<&AnnotationSet>,
     from: u32,
 ) -> Result<Back, AllocError>
-    requires classes { AreWritable numbering.now classes.now }
-    requires annotations { AreAnnotations numbering.now classes.now annotations.now }
+    requires place { CanPlaceSets classes.now annotations.now from }
     requires shared { HaveSets classes.now shared.now }
-    requires from { from ≡ end (class_data_section (ordered_of numbering.now classes.now)) }
-    ensures { IfOk result (AreBack numbering.now classes.now) }
+    ensures { IfOk result (PlacedSets AreBack classes.now annotations.now from) }
 {
-    let sets = place_sets(alloc, numbering, classes, annotations, shared, from)?;
-    let ref_lists = place_ref_lists(alloc, numbering, classes, &sets)?;
-    let directories = place_directories(
-        alloc,
-        numbering,
-        classes,
-        &sets,
-        ref_lists.places().offsets(),
-        ref_lists.places().end(),
-    )?;
+    let sets = place_sets(alloc, classes, annotations, shared, from)?;
+    let ref_lists = place_ref_lists(alloc, classes, &sets)?;
+    let directories = place_directories(alloc, classes, &sets, &ref_lists)?;
     Ok(Back {
         sets,
         ref_lists,
@@ -170,7 +160,6 @@ pub(crate) fn place_data(
     let bodies = place_bodies(alloc, numbering, classes, first_sections.strings.end())?;
     let back = place_back(
         alloc,
-        numbering,
         classes,
         &first_sections.annotations,
         &shared,

@@ -2,15 +2,14 @@
 
 ghost use Rattle.std.specs.Prelude.{◌≡◌, ◌^◌, ◌≤◌, drop, length, IfOk, OnOk};
 ghost use Rattle.dexmembers.specs.Numbered.{methods_of};
-ghost use Rattle.dexlayout.specs.Laid.{AreWritable, AreRefLists, AreSets};
 ghost use Rattle.dexlayout.specs.internal.Encoding.{encode_use, encode_uses};
 ghost use Rattle.dexlayout.specs.internal.OffsetLists.{list_item, offset_lists, parameter_counts, total};
+ghost use Rattle.dexlayout.specs.internal.Placing.{CanPlaceRefLists, PlacedRefLists};
 
 use crate::items::Items;
 use crate::sets::Sets;
 use dexclass::Class;
 use dexmembers::Methods;
-use dexpool::Numbering;
 use std::alloc::{AllocError, Global};
 
 // Encodes a list after the others, unless it is empty.
@@ -76,13 +75,11 @@ fn put_class_lists<'o>(
 /// Source: "annotation_set_ref_list".
 pub(crate) fn place_ref_lists(
     alloc: Global,
-    numbering: &Numbering<'_>,
     classes: &[Class<'_>],
     sets: &Sets,
 ) -> Result<Items, AllocError>
-    requires classes { AreWritable numbering.now classes.now }
-    requires sets { AreSets numbering.now classes.now sets.now }
-    ensures { IfOk result (AreRefLists numbering.now classes.now) }
+    requires { CanPlaceRefLists classes.now sets.now }
+    ensures { IfOk result (PlacedRefLists classes.now sets.now) }
 {
     let from = sets.written().places().end();
     let mut items = Items::starting_at(alloc, from, sets.methods().len())?;

@@ -2,19 +2,16 @@
 
 ghost use Rattle.std.specs.Prelude.{◌≡◌, ◌^◌, ◌≤◌, length, drop, IfOk, OnOk};
 ghost use Rattle.std.specs.List.{flat_map};
-ghost use Rattle.dexspec.specs.Placing.{end};
-ghost use Rattle.dexspec.specs.Canonical.{class_data_section};
 ghost use Rattle.dexlayout.specs.internal.Encoding.{encode_uses, no_items_from};
 ghost use Rattle.dexlayout.specs.internal.Collecting.{sets_of_method, sets_of_class, parts_of_methods, parts_of_class, collect_own, collect_method, collect_methods, collect_class};
-ghost use Rattle.dexlayout.specs.Laid.{AreWritable, AreAnnotations, AreSets, ordered_of};
+ghost use Rattle.dexlayout.specs.Laid.{AreSets};
 ghost use Rattle.dexlayout.specs.internal.OffsetLists.{annotation_counts, offset_lists, set_item, total};
-ghost use Rattle.dexlayout.specs.internal.Placing.{HaveSets, no_sets};
+ghost use Rattle.dexlayout.specs.internal.Placing.{CanPlaceSets, HaveSets, PlacedSets, no_sets};
 
 use crate::items::Items;
 use crate::sharing::{Shared, place_shared};
 use dexclass::Class;
 use dexmembers::Methods;
-use dexpool::Numbering;
 use dexval::AnnotationSet;
 use std::alloc::{AllocError, Global};
 use std::marker::Model;
@@ -183,17 +180,14 @@ fn encode_written(
 /// are written, and for each use the number of its set.
 pub(crate) fn place_sets(
     alloc: Global,
-    numbering: &Numbering<'_>,
     classes: &[Class<'_>],
     annotations: &Items,
     shared: &Shared<&AnnotationSet>,
     from: u32,
 ) -> Result<Sets, AllocError>
-    requires classes { AreWritable numbering.now classes.now }
-    requires annotations { AreAnnotations numbering.now classes.now annotations.now }
+    requires place { CanPlaceSets classes.now annotations.now from }
     requires shared { HaveSets classes.now shared.now }
-    requires from { from ≡ end (class_data_section (ordered_of numbering.now classes.now)) }
-    ensures { IfOk result (AreSets numbering.now classes.now) }
+    ensures { IfOk result (PlacedSets AreSets classes.now annotations.now from) }
 {
     let annotation_offs = annotations.places().offsets();
     let written = encode_written(alloc, &shared.written, annotation_offs, from)?;

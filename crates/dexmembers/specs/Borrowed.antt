@@ -1,5 +1,5 @@
 -- Sets and code as they are borrowed, if there are some.
-use Rattle.std.specs.Prelude.{◌≡◌, List, [], MatchOption, Option, Some, None}
+use Rattle.std.specs.Prelude.{◌≡◌, [], MatchOption, Option, Some, None}
 use Rattle.std.specs.Borrow.{Bor}
 use Rattle.dexval.specs.Code.{set_of}
 use Rattle.dexval.specs.Numbered.{NumberedSet}

@@ -6,5 +6,6 @@ pub mod MethodCodes
 pub mod Naming
 pub mod Parts
 pub mod RowParts
+pub mod RowReaders
 pub mod StaticValues
 pub mod Weighed

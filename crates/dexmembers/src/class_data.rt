@@ -3,11 +3,11 @@
 ghost use Rattle.std.specs.Prelude.{◌≤◌, ◌+◌, ◌∷◌, [], ℕ, length, IfOk, IfErr, IfSome, IfNone};
 ghost use Rattle.dexspec.specs.Lists.{Sequence};
 ghost use Rattle.dexspec.specs.Numbers.{Uleb128At};
-ghost use Rattle.dexmembers.specs.internal.EncodedMembers.{IsDataRefusal, NoData, AreCountsAt, IsDataAt};
+ghost use Rattle.dexmembers.specs.internal.EncodedMembers.{AreCountsAt, ReadsDataAt, RefusesDataAt};
 ghost use Rattle.dexmembers.specs.internal.ClassData.{ReadsData, RefusesData};
 
 use crate::class_def::ClassDef;
-use crate::encoded_lists::read_lists;
+use crate::encoded_lists::ClassDataReader;
 use crate::encodings::Owner;
 use dexhead::{Condition, Frame};
 use dexleb::read_u;
@@ -86,38 +86,34 @@ fn read_counts(bytes: &[u8], at: usize) -> Option<(Counts, usize)>
     Some((counts, first + second + third + fourth))
 }
 
-// The class data of the class at a place.
-fn read_data(
-    alloc: Global,
-    owner: Owner<'_, '_>,
-    bytes: &[u8],
-    at: usize,
-) -> Result<ClassData, ItemFault>
-    requires { at ≤ length bytes.now }
-    ensures data { IfOk result (IsDataAt owner.entry.pools.now owner.entry.class bytes.now at) }
-    ensures fault { IfErr result
-        (IsDataRefusal (NoData owner.entry.pools.now owner.entry.class bytes.now at)) }
-{
-    let (counts, counts_size) = match read_counts(bytes, at) {
-        Some(read) => read,
-        None => return Err(ItemFault::Refused(Condition::Members as u8)),
-    };
-    let (statics, instances) = (counts.static_fields, counts.instance_fields);
-    let fields_at = at + counts_size;
-    let (static_fields, instance_fields, fields_size) = read_lists::<EncodedField>(
-        alloc, owner, bytes, fields_at, statics, instances,
-    )?;
-    let (directs, virtuals) = (counts.direct_methods, counts.virtual_methods);
-    let methods_at = fields_at + fields_size;
-    let (direct_methods, virtual_methods, _) = read_lists::<EncodedMethod>(
-        alloc, owner, bytes, methods_at, directs, virtuals,
-    )?;
-    Ok(ClassData {
-        static_fields,
-        instance_fields,
-        direct_methods,
-        virtual_methods,
-    })
+impl ClassDataReader<'_, '_> {
+    // Reads the class data of the class at an offset.
+    fn read_data(&self, at: usize) -> Result<ClassData, ItemFault>
+        requires { at ≤ length self.now.bytes.now }
+        ensures data { IfOk result (ReadsDataAt self.now at) }
+        ensures fault { IfErr result (RefusesDataAt self.now at) }
+    {
+        let (counts, counts_size) = match read_counts(self.bytes, at) {
+            Some(read) => read,
+            None => return Err(ItemFault::Refused(Condition::Members as u8)),
+        };
+        let (statics, instances) = (counts.static_fields, counts.instance_fields);
+        let fields_at = at + counts_size;
+        let (static_fields, instance_fields, fields_size) = self.read_lists::<EncodedField>(
+            fields_at, statics, instances,
+        )?;
+        let (directs, virtuals) = (counts.direct_methods, counts.virtual_methods);
+        let methods_at = fields_at + fields_size;
+        let (direct_methods, virtual_methods, _) = self.read_lists::<EncodedMethod>(
+            methods_at, directs, virtuals,
+        )?;
+        Ok(ClassData {
+            static_fields,
+            instance_fields,
+            direct_methods,
+            virtual_methods,
+        })
+    }
 }
 
 /// Reads the members that a class row declares: those of its class_data_item, or none where its offset is 0.
@@ -151,5 +147,10 @@ pub(crate) fn read_class_data(
     if !frame.is_in_data(off, 1) {
         return Err(ItemFault::Refused(Condition::Members as u8));
     }
-    read_data(alloc, Owner { pools, class }, bytes, off as usize)
+    let reader = ClassDataReader {
+        alloc,
+        owner: Owner { pools, class },
+        bytes,
+    };
+    reader.read_data(off as usize)
 }

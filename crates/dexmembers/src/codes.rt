@@ -1,40 +1,19 @@
 //! The code of methods.
 
 ghost use Rattle.std.specs.Prelude.{◌≡◌, ◌+◌, [], ◌∷◌, IfOk, IfErr, IfSome};
-ghost use Rattle.dexpool.specs.Pools.{ArePools};
 ghost use Rattle.dexcode.specs.Checking.{one_code_weight};
 ghost use Rattle.dexcode.specs.Numbered.{ForDenoted};
 ghost use Rattle.dexmembers.specs.Weighing.{numbered_whole_weight, codes_weight};
+ghost use Rattle.dexmembers.specs.internal.RowReaders.{IsFile};
 ghost use Rattle.dexmembers.specs.internal.MethodCodes.{IsCodeOrNone, IsCodeOrNoneFault, IsCodesFault, optional_code_weight, CodesWithin, ForDenotedOrNone, IsTaken};
 
 use crate::class_data::EncodedMethod;
 use crate::code_checking::{CheckedCodes, check_codes};
 use crate::encoded_lists::room;
+use crate::row_reader::RowReader;
 use dexcode::{Code, debug_unindexed_law, read_code_in};
-use dexhead::Frame;
 use dexinsn::Scratch;
-use dexpool::{ItemFault, Pools};
-use std::alloc::Global;
-
-// The code at an offset, or none at 0.
-fn code_or_none<'a>(
-    alloc: Global,
-    frame: &Frame<'a>,
-    pools: &Pools<'_>,
-    off: u32,
-    scratch: &mut Scratch,
-) -> Result<Option<Code<'a>>, ItemFault>
-    ensures read { ArePools frame.now pools.now
-        → IfOk result (IsCodeOrNone frame.now off pools.now) }
-    ensures refused { ArePools frame.now pools.now
-        → IfErr result (IsCodeOrNoneFault frame.now off) }
-{
-    if off == 0 {
-        return Ok(None);
-    }
-    let code = read_code_in(alloc, frame, pools, off, scratch)?;
-    Ok(Some(code))
-}
+use dexpool::ItemFault;
 
 // Returns what is left of a weight after the code with its debug program, or `None` if the code weighs more.
 fn left_after(left: u64, code: &Code<'_>) -> Option<u64>
@@ -64,43 +43,56 @@ fn left_after_any(left: u64, code: &Option<Code<'_>>) -> Option<u64>
 /// The code of methods, and its weight.
 pub(crate) type WeighedCodes<'a> = (Vec<Option<Code<'a>>>, u64);
 
-/// Reads the code of the methods, each with its debug program, and returns it with its weight; a method whose offset is
-/// 0 has none. If the weight exceeds `most`, the code of the later methods is only checked, and `None` is returned. All
-/// code is read in the same `scratch`.
-///
-/// Error: `Refused` with 18, 19 or 20, a condition that fails for the code of one of the methods; `Memory` where an
-/// allocation failed.
-///
-/// Source: "encoded_method format", the field `code_off`, and "code_item".
-pub(crate) fn read_codes<'a>(
-    alloc: Global,
-    frame: &Frame<'a>,
-    pools: &Pools<'_>,
-    methods: &[EncodedMethod],
-    most: u64,
-    scratch: &mut Scratch,
-) -> Result<Option<WeighedCodes<'a>>, ItemFault>
-    ensures read { ArePools frame.now pools.now
-        → IfOk result (CodesWithin frame.now pools.now methods.now most) }
-    ensures weight { IfOk result (λ codes.
-        IfSome codes (λ codes. codes.1 ≡ codes_weight codes.0.items)) }
-    ensures refused { ArePools frame.now pools.now
-        → IfErr result (IsCodesFault frame.now methods.now) }
-{
-    pools.numbering().is_numbering();
-    let mut codes = Vec::with_capacity(alloc, room(methods.len()))?;
-    let mut left = most;
-    for i in 0..methods.len() {
-        let code = code_or_none(alloc, frame, pools, methods[i].code_off, scratch)?;
-        match left_after_any(left, &code) {
-            Some(rest) => left = rest,
-            None => {
-                let mut checked = CheckedCodes::none(alloc);
-                check_codes(alloc, frame, pools, &methods[i + 1..], &mut checked)?;
-                return Ok(None);
-            }
+impl<'f> RowReader<'_, 'f, '_> {
+    // Reads the code at an offset, or none at 0.
+    fn code_or_none(&self, off: u32, scratch: &mut Scratch) -> Result<Option<Code<'f>>, ItemFault>
+        ensures read { IsFile self.now
+            → IfOk result (IsCodeOrNone self.now.frame.now off self.now.pools.now) }
+        ensures refused { IsFile self.now
+            → IfErr result (IsCodeOrNoneFault self.now.frame.now off) }
+    {
+        if off == 0 {
+            return Ok(None);
         }
-        codes.push(code)?;
+        let code = read_code_in(self.alloc, self.frame, self.pools, off, scratch)?;
+        Ok(Some(code))
     }
-    Ok(Some((codes, most - left)))
+
+    /// Reads the code of the methods, each with its debug program, and returns it with its weight; a method whose
+    /// offset is 0 has none. If the weight exceeds `most`, the code of the later methods is only checked, and `None` is
+    /// returned. All code is read in the same `scratch`.
+    ///
+    /// Error: `Refused` with 18, 19 or 20, a condition that fails for the code of one of the methods; `Memory` where an
+    /// allocation failed.
+    ///
+    /// Source: "encoded_method format", the field `code_off`, and "code_item".
+    pub(crate) fn read_codes(
+        &self,
+        methods: &[EncodedMethod],
+        scratch: &mut Scratch,
+    ) -> Result<Option<WeighedCodes<'f>>, ItemFault>
+        ensures read { IsFile self.now → IfOk result (CodesWithin self.now methods.now) }
+        ensures weight { IfOk result (λ codes.
+            IfSome codes (λ codes. codes.1 ≡ codes_weight codes.0.items)) }
+        ensures refused { IsFile self.now
+            → IfErr result (IsCodesFault self.now.frame.now methods.now) }
+    {
+        self.pools.numbering().is_numbering();
+        let mut codes = Vec::with_capacity(self.alloc, room(methods.len()))?;
+        let mut left = self.most;
+        for i in 0..methods.len() {
+            let code = self.code_or_none(methods[i].code_off, scratch)?;
+            match left_after_any(left, &code) {
+                Some(rest) => left = rest,
+                None => {
+                    let mut checked = CheckedCodes::none(self.alloc);
+                    let later = &methods[i + 1..];
+                    check_codes(self.alloc, self.frame, self.pools, later, &mut checked)?;
+                    return Ok(None);
+                }
+            }
+            codes.push(code)?;
+        }
+        Ok(Some((codes, self.most - left)))
+    }
 }

@@ -108,13 +108,20 @@ fn encode_pairs<T: HasNumber, O: Output>(first: &[T], second: &[T], offsets: &[u
     }
 }
 
-// The offsets of the sets of a class and of its members, and of the lists of those of parameters.
+/// The offsets in an annotations directory, in bytes from the start of the file: those of the sets of a class and of
+/// its members, and of the lists of the sets of parameters. 0 denotes none.
+///
+/// Source: "annotations_directory_item".
 #[derive(Clone, Copy)]
-struct SetOffs<'o> {
-    own: u32,
-    fields: &'o [u32],
-    methods: &'o [u32],
-    parameters: &'o [u32],
+pub struct DirectoryOffsets<'o> {
+    /// The offset of the class's own set.
+    pub own: u32,
+    /// For each field the offset of its set, the static ones first.
+    pub fields: &'o [u32],
+    /// For each method the offset of its set, the direct ones first.
+    pub methods: &'o [u32],
+    /// For each method the offset of the list of the sets of its parameters, the direct ones first.
+    pub parameters: &'o [u32],
 }
 
 // The number of members of each kind that have a set or a list.
@@ -125,7 +132,7 @@ struct EntryCounts {
     parameters: u32,
 }
 
-impl SetOffs<'_> {
+impl DirectoryOffsets<'_> {
     // Returns the number of offsets of each kind that are not 0.
     fn entry_counts(&self) -> EntryCounts
         requires fields { length self.now.fields.now < 2 ^ 32 }
@@ -186,7 +193,7 @@ impl Members<'_> {
 #[derive(Drop)]
 struct DirectoryItem<'i, 'a> {
     members: &'i Members<'a>,
-    offs: SetOffs<'i>,
+    offs: DirectoryOffsets<'i>,
     counts: EntryCounts,
 }
 
@@ -223,33 +230,20 @@ impl Members<'_> {
     /// Condition: there is an offset for each field and each method.
     ///
     /// Source: "annotations_directory_item".
-    pub fn directory_len(
-        &self,
-        field_offs: &[u32],
-        method_offs: &[u32],
-        parameter_offs: &[u32],
-    ) -> usize
-        requires fields { length field_offs.now ≡ length (fields_of self.now) }
-        requires methods { length method_offs.now ≡ length (methods_of self.now) }
-        requires parameters { length parameter_offs.now ≡ length (methods_of self.now) }
-        ensures { IsDirectoryLen self.now field_offs.now method_offs.now parameter_offs.now result }
+    pub fn directory_len(&self, offs: &DirectoryOffsets<'_>) -> usize
+        requires fields { length offs.now.fields.now ≡ length (fields_of self.now) }
+        requires methods { length offs.now.methods.now ≡ length (methods_of self.now) }
+        requires parameters { length offs.now.parameters.now ≡ length (methods_of self.now) }
+        ensures { IsDirectoryLen self.now offs.now.fields.now offs.now.methods.now
+            offs.now.parameters.now result }
     {
         self.are_few();
-        let offs = SetOffs {
-            own: 0,
-            fields: field_offs,
-            methods: method_offs,
-            parameters: parameter_offs,
-        };
         offs.entry_counts().directory_len()
     }
 
     /// Appends the annotations_directory_item: the offset of the class's own set, the counts of annotated fields, of
     /// annotated methods and of methods with annotated parameters, and then the number and the offset of each of these,
-    /// by number, each in four bytes. `own_off` is the offset of the class's own set, `field_offs` has that of the set
-    /// of each field, the static ones first, `method_offs` that of the set of each method, the direct ones first, and
-    /// `parameter_offs` that of the list of the sets of the parameters of each method; 0 denotes none, and leaves the
-    /// member out.
+    /// by number, each in four bytes. An offset of 0 leaves the member out.
     ///
     /// A class with no offset but 0 has no item in the canonical file: the caller leaves it out.
     ///
@@ -261,37 +255,29 @@ impl Members<'_> {
     /// "parameter_annotation format".
     pub fn put_directory(
         &self,
-        own_off: u32,
-        field_offs: &[u32],
-        method_offs: &[u32],
-        parameter_offs: &[u32],
+        offs: &DirectoryOffsets<'_>,
         out: &mut Vec<u8>,
     ) -> Result<(), AllocError>
-        requires fields { length field_offs.now ≡ length (fields_of self.now) }
-        requires methods { length method_offs.now ≡ length (methods_of self.now) }
-        requires parameters { length parameter_offs.now ≡ length (methods_of self.now) }
-        ensures bytes { Puts (numbered_directory_bytes self.now own_off field_offs.now
-            method_offs.now parameter_offs.now) out.old out.new result }
+        requires fields { length offs.now.fields.now ≡ length (fields_of self.now) }
+        requires methods { length offs.now.methods.now ≡ length (methods_of self.now) }
+        requires parameters { length offs.now.parameters.now ≡ length (methods_of self.now) }
+        ensures bytes { Puts (numbered_directory_bytes self.now offs.now.own offs.now.fields.now
+            offs.now.methods.now offs.now.parameters.now) out.old out.new result }
         ensures symbolic { (m : Mentions) (name : Text) (c : Body) (sets : SetOffsets)
             (item : List ℕ) → AreRising m → AreKnownMembers m self.now → AreOrdered self.now
-            → AreOfClass m name self.now → members_of c ≡ members_in m self.now → sets.own ≡ own_off
-            → sets.fields ≡ field_offs.now → map (λ offs. slice_index offs 0) sets.methods
-            ≡ method_offs.now → directory_bytes m (name, c) sets parameter_offs.now ≡ Some item
+            → AreOfClass m name self.now → members_of c ≡ members_in m self.now
+            → sets.own ≡ offs.now.own → sets.fields ≡ offs.now.fields.now
+            → map (λ os. slice_index os 0) sets.methods ≡ offs.now.methods.now
+            → directory_bytes m (name, c) sets offs.now.parameters.now ≡ Some item
             → Puts item out.old out.new result }
-        ensures room { HasDirectoryRoom field_offs.now method_offs.now parameter_offs.now out.old
-            → IsOk result }
+        ensures room { HasDirectoryRoom offs.now.fields.now offs.now.methods.now
+            offs.now.parameters.now out.old → IsOk result }
     {
         members_bytes_law();
         self.are_few();
-        let offs = SetOffs {
-            own: own_off,
-            fields: field_offs,
-            methods: method_offs,
-            parameters: parameter_offs,
-        };
         let item = DirectoryItem {
             members: self,
-            offs,
+            offs: *offs,
             counts: offs.entry_counts(),
         };
         item.put(out)

@@ -22,34 +22,6 @@ pub(crate) fn room(count: usize) -> usize
     count.min(MOST_AT_ONCE)
 }
 
-// Reads `count` members at an offset, and returns the number of bytes that encode them.
-fn read_list<T: Encoded>(
-    alloc: Global,
-    owner: Owner<'_, '_>,
-    bytes: &[u8],
-    at: usize,
-    count: u32,
-) -> Result<(Vec<T>, usize), ItemFault>
-    requires { at ≤ length bytes.now }
-    ensures list { IfOk result (ReadsList T.encodes T.index_of owner.entry bytes.now at count) }
-    ensures fault { IfErr result (RefusesList T.encodes T.index_of owner.entry bytes.now at count) }
-{
-    T::law();
-    let mut members = Vec::with_capacity(alloc, room(count as usize))?;
-    let mut size = 0;
-    let mut last = None;
-    for _ in 0..count {
-        let (member, len) = match T::read(owner, bytes, at + size, last) {
-            Some(read) => read,
-            None => return Err(ItemFault::Refused(Condition::Members as u8)),
-        };
-        members.push(member)?;
-        last = Some(member.index());
-        size += len;
-    }
-    Ok((members, size))
-}
-
 // Returns whether no index is in both lists. One pass over both.
 fn are_apart<T: Encoded>(left: &[T], right: &[T]) -> bool
     requires left_rise { NumbersRise (map T.index_of left.now) }
@@ -68,29 +40,59 @@ fn are_apart<T: Encoded>(left: &[T], right: &[T]) -> bool
     true
 }
 
-/// Reads two lists at an offset, of `count` and `other_count` members, which have no index in common. Returns them with
-/// the number of bytes that encode them.
-///
-/// Error: `Refused(17)` where there are no such lists; `Memory` where an allocation failed.
-pub(crate) fn read_lists<T: Encoded>(
-    alloc: Global,
-    owner: Owner<'_, '_>,
-    bytes: &[u8],
-    at: usize,
-    count: u32,
-    other_count: u32,
-) -> Result<(Vec<T>, Vec<T>, usize), ItemFault>
-    requires { at ≤ length bytes.now }
-    ensures lists { IfOk result
-        (ReadsLists T.encodes T.index_of owner.entry bytes.now at count other_count) }
-    ensures fault { IfErr result
-        (RefusesLists T.encodes T.index_of owner.entry bytes.now at count other_count) }
-{
-    T::law();
-    let (members, size) = read_list(alloc, owner, bytes, at, count)?;
-    let (others, others_size) = read_list(alloc, owner, bytes, at + size, other_count)?;
-    if !are_apart::<T>(&members, &others) {
-        return Err(ItemFault::Refused(Condition::Members as u8));
+/// Reads the class data of a class from the bytes of a file. It has the allocator for what is read.
+#[derive(Clone, Copy)]
+pub(crate) struct ClassDataReader<'s, 'a> {
+    pub(crate) alloc: Global,
+    pub(crate) owner: Owner<'s, 'a>,
+    pub(crate) bytes: &'s [u8],
+}
+
+impl ClassDataReader<'_, '_> {
+    // Reads `count` members at an offset, and returns the number of bytes that encode them.
+    fn read_list<T: Encoded>(&self, at: usize, count: u32) -> Result<(Vec<T>, usize), ItemFault>
+        requires { at ≤ length self.now.bytes.now }
+        ensures list { IfOk result (ReadsList T.encodes T.index_of self.now at count) }
+        ensures fault { IfErr result (RefusesList T.encodes T.index_of self.now at count) }
+    {
+        T::law();
+        let mut members = Vec::with_capacity(self.alloc, room(count as usize))?;
+        let mut size = 0;
+        let mut last = None;
+        for _ in 0..count {
+            let (member, len) = match T::read(self.owner, self.bytes, at + size, last) {
+                Some(read) => read,
+                None => return Err(ItemFault::Refused(Condition::Members as u8)),
+            };
+            members.push(member)?;
+            last = Some(member.index());
+            size += len;
+        }
+        Ok((members, size))
     }
-    Ok((members, others, size + others_size))
+
+    /// Reads two lists at an offset, of `count` and `other_count` members, which have no index in common. Returns them
+    /// with the number of bytes that encode them.
+    ///
+    /// Error: `Refused(17)` where there are no such lists; `Memory` where an allocation failed.
+    pub(crate) fn read_lists<T: Encoded>(
+        &self,
+        at: usize,
+        count: u32,
+        other_count: u32,
+    ) -> Result<(Vec<T>, Vec<T>, usize), ItemFault>
+        requires { at ≤ length self.now.bytes.now }
+        ensures lists { IfOk result
+            (ReadsLists T.encodes T.index_of self.now at count other_count) }
+        ensures fault { IfErr result
+            (RefusesLists T.encodes T.index_of self.now at count other_count) }
+    {
+        T::law();
+        let (members, size) = self.read_list(at, count)?;
+        let (others, others_size) = self.read_list(at + size, other_count)?;
+        if !are_apart::<T>(&members, &others) {
+            return Err(ItemFault::Refused(Condition::Members as u8));
+        }
+        Ok((members, others, size + others_size))
+    }
 }

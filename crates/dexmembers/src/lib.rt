@@ -33,6 +33,7 @@ mod renumbering_laws;
 mod row_annotations;
 mod row_checking;
 mod row_parts;
+mod row_reader;
 mod same;
 mod short_strings;
 mod static_values;
@@ -42,6 +43,7 @@ mod weighing;
 
 pub use checking::{Checks, check_members};
 pub use class_def::ClassDef;
+pub use directory_put::DirectoryOffsets;
 pub use field_views::{Field, Fields};
 pub use members::Members;
 pub use method_views::{Method, Methods, ParameterSets};

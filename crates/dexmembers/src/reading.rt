@@ -9,7 +9,8 @@ ghost use Rattle.dexmembers.specs.internal.Weighed.{IsWeighedWithin};
 use crate::class_data::read_class_data;
 use crate::class_def::ClassDef;
 use crate::members::{Contents, Members};
-use crate::row_parts::{attach, read_parts};
+use crate::row_parts::attach;
+use crate::row_reader::RowReader;
 use crate::weighing::members_weight_law;
 use dexcode::code_meaning_law;
 use dexhead::Frame;
@@ -60,15 +61,13 @@ pub fn read_members<'a>(
     code_meaning_law();
     let declared = read_class_data(alloc, frame, pools, row)?;
     let mut scratch = Scratch::new(alloc);
-    let found = read_parts(
+    let reader = RowReader {
         alloc,
         frame,
         pools,
-        row,
-        &declared,
-        u64::from(most),
-        &mut scratch,
-    )?;
+        most: u64::from(most),
+    };
+    let found = reader.read_parts(row, &declared, &mut scratch)?;
     let parts = match found {
         Some(parts) => parts,
         None => return Ok(None),

@@ -1,15 +1,16 @@
 //! The annotations of a class and its members.
 
 ghost use Rattle.std.specs.Prelude.{◌≡◌, [], IsTrue, IfOk, IfSome};
-ghost use Rattle.dexpool.specs.Pools.{ArePools};
 ghost use Rattle.dexval.specs.Shared.{shared_directory_of};
 ghost use Rattle.dexmembers.specs.internal.Naming.{NamesRead, FindsNamed};
+ghost use Rattle.dexmembers.specs.internal.RowReaders.{IsFile};
 ghost use Rattle.dexmembers.specs.internal.RowParts.{AreEntered, IsHeldDirectory, ReadsAnnotations, RefusesAnnotations, IsLight};
 
 use crate::class_data::{ClassData, EncodedField, EncodedMethod};
 use crate::naming::names_members;
+use crate::row_reader::RowReader;
 use dexhead::{Condition, Frame};
-use dexpool::{ItemFault, Pools};
+use dexpool::ItemFault;
 use dexval::{SetTable, SharedDirectory, member_counts, read_shared_directory_within};
 use std::alloc::Global;
 
@@ -52,34 +53,35 @@ fn no_directory(alloc: Global) -> SharedDirectory
     }
 }
 
-/// Reads the annotations of a class and of its members at the offset of its row, or none at 0. Where their sets weigh
-/// more than `most`, they are checked only, and none is returned.
-///
-/// Condition: the row declares these members. Error: `Refused(22)` exactly where no annotations_directory_item is
-/// there, or it names a member that is not declared; `Memory` where an allocation failed.
-///
-/// Source: "class_def_item", the field `annotations_off`, and "annotations_directory_item".
-pub(crate) fn read_annotations(
-    alloc: Global,
-    frame: &Frame<'_>,
-    pools: &Pools<'_>,
-    off: u32,
-    declared: &ClassData,
-    most: u64,
-) -> Result<Option<SharedDirectory>, ItemFault>
-    ensures read { ReadsAnnotations frame.now pools.now off declared.now most result }
-    ensures within { ArePools frame.now pools.now
-        → IfOk result (λ found. IfSome found (IsLight pools.now most)) }
-    ensures held { IfOk result (λ found. IfSome found IsHeldDirectory) }
-    ensures refused { RefusesAnnotations frame.now pools.now off declared.now result }
-{
-    pools.numbering().is_numbering();
-    if off == 0 {
-        return Ok(Some(no_directory(alloc)));
+impl RowReader<'_, '_, '_> {
+    /// Reads the annotations of a class and of its members at the offset of its row, or none at 0. Where their sets
+    /// weigh more than `most`, they are checked only, and none is returned.
+    ///
+    /// Condition: the row declares these members. Error: `Refused(22)` exactly where no annotations_directory_item is
+    /// there, or it names a member that is not declared; `Memory` where an allocation failed.
+    ///
+    /// Source: "class_def_item", the field `annotations_off`, and "annotations_directory_item".
+    pub(crate) fn read_annotations(
+        &self,
+        off: u32,
+        declared: &ClassData,
+    ) -> Result<Option<SharedDirectory>, ItemFault>
+        ensures read { ReadsAnnotations self.now off declared.now result }
+        ensures within { IsFile self.now → IfOk result (λ found. IfSome found (IsLight self.now)) }
+        ensures held { IfOk result (λ found. IfSome found IsHeldDirectory) }
+        ensures refused { RefusesAnnotations
+            self.now.frame.now self.now.pools.now off declared.now result }
+    {
+        self.pools.numbering().is_numbering();
+        if off == 0 {
+            return Ok(Some(no_directory(self.alloc)));
+        }
+        let found = read_shared_directory_within(
+            self.alloc, self.frame, self.pools, off, self.most,
+        )?;
+        if !names_declared(self.frame, off, declared) {
+            return Err(ItemFault::Refused(Condition::Annotations as u8));
+        }
+        Ok(found)
     }
-    let found = read_shared_directory_within(alloc, frame, pools, off, most)?;
-    if !names_declared(frame, off, declared) {
-        return Err(ItemFault::Refused(Condition::Annotations as u8));
-    }
-    Ok(found)
 }

@@ -7,14 +7,11 @@ ghost use Rattle.dexmembers.specs.internal.RowParts.{IsHeldDirectory, CanAttach,
 use crate::attaching::{attach_fields, attach_methods};
 use crate::class_data::ClassData;
 use crate::class_def::ClassDef;
-use crate::codes::read_codes;
 use crate::members::Contents;
-use crate::row_annotations::read_annotations;
-use crate::static_values::read_static_values;
+use crate::row_reader::RowReader;
 use dexcode::Code;
-use dexhead::Frame;
 use dexinsn::Scratch;
-use dexpool::{ItemFault, Pools};
+use dexpool::ItemFault;
 use dexval::{SharedDirectory, Value};
 use std::alloc::{AllocError, Global};
 
@@ -30,63 +27,54 @@ pub(crate) struct Parts<'a> {
     pub(crate) static_values: Vec<Value>,
 }
 
-/// Reads what is at a class row beside its class data. Where a part of it weighs more than `most`, all is checked, and
-/// none is returned. All code is read in the same `scratch`.
-///
-/// Condition: the row declares these members. Error: `Refused` with a number from 18 to 22, a condition that fails at
-/// the row; `Memory` where an allocation failed.
-///
-/// Source: "class_def_item", the fields `annotations_off` and `static_values_off`, and "encoded_method format", the
-/// field `code_off`.
-pub(crate) fn read_parts<'a>(
-    alloc: Global,
-    frame: &Frame<'a>,
-    pools: &Pools<'_>,
-    row: &ClassDef,
-    declared: &ClassData,
-    most: u64,
-    scratch: &mut Scratch,
-) -> Result<Option<Parts<'a>>, ItemFault>
-    ensures read { ReadsParts frame.now pools.now row.now declared.now most result }
-    ensures held { IfOk result (λ parts. IfSome parts (λ x. IsHeldDirectory x.directory)) }
-    ensures weight { IfOk result (λ parts. IfSome parts HasCodesWeight) }
-    ensures refused { RefusesParts frame.now pools.now row.now declared.now result }
-{
-    pools.numbering().is_numbering();
-    let off = row.annotations_off;
-    let found = read_annotations(alloc, frame, pools, off, declared, most)?;
-    let direct = read_codes(alloc, frame, pools, &declared.direct_methods, most, scratch)?;
-    let virtuals = read_codes(
-        alloc,
-        frame,
-        pools,
-        &declared.virtual_methods,
-        most,
-        scratch,
-    )?;
-    let (off, fields) = (row.static_values_off, declared.static_fields.len());
-    let values = read_static_values(alloc, frame, pools, off, fields, most)?;
-    let directory = match found {
-        Some(directory) => directory,
-        None => return Ok(None),
-    };
-    let (direct_codes, direct_weight) = match direct {
-        Some(codes) => codes,
-        None => return Ok(None),
-    };
-    let (virtual_codes, virtual_weight) = match virtuals {
-        Some(codes) => codes,
-        None => return Ok(None),
-    };
-    match values {
-        Some(static_values) => Ok(Some(Parts {
-            directory,
-            direct_codes,
-            virtual_codes,
-            codes_weight: direct_weight.saturating_add(virtual_weight),
-            static_values,
-        })),
-        None => Ok(None),
+impl<'f> RowReader<'_, 'f, '_> {
+    /// Reads what is at a class row beside its class data. Where a part of it weighs more than `most`, all is checked,
+    /// and none is returned. All code is read in the same `scratch`.
+    ///
+    /// Condition: the row declares these members. Error: `Refused` with a number from 18 to 22, a condition that fails
+    /// at the row; `Memory` where an allocation failed.
+    ///
+    /// Source: "class_def_item", the fields `annotations_off` and `static_values_off`, and "encoded_method format", the
+    /// field `code_off`.
+    pub(crate) fn read_parts(
+        &self,
+        row: &ClassDef,
+        declared: &ClassData,
+        scratch: &mut Scratch,
+    ) -> Result<Option<Parts<'f>>, ItemFault>
+        ensures read { ReadsParts self.now row.now declared.now result }
+        ensures held { IfOk result (λ parts. IfSome parts (λ x. IsHeldDirectory x.directory)) }
+        ensures weight { IfOk result (λ parts. IfSome parts HasCodesWeight) }
+        ensures refused { RefusesParts self.now row.now declared.now result }
+    {
+        self.pools.numbering().is_numbering();
+        let found = self.read_annotations(row.annotations_off, declared)?;
+        let direct = self.read_codes(&declared.direct_methods, scratch)?;
+        let virtuals = self.read_codes(&declared.virtual_methods, scratch)?;
+        let fields = declared.static_fields.len();
+        let values = self.read_static_values(row.static_values_off, fields)?;
+        let directory = match found {
+            Some(directory) => directory,
+            None => return Ok(None),
+        };
+        let (direct_codes, direct_weight) = match direct {
+            Some(codes) => codes,
+            None => return Ok(None),
+        };
+        let (virtual_codes, virtual_weight) = match virtuals {
+            Some(codes) => codes,
+            None => return Ok(None),
+        };
+        match values {
+            Some(static_values) => Ok(Some(Parts {
+                directory,
+                direct_codes,
+                virtual_codes,
+                codes_weight: direct_weight.saturating_add(virtual_weight),
+                static_values,
+            })),
+            None => Ok(None),
+        }
     }
 }
 

@@ -17,7 +17,7 @@ use crate::offsets::{
 };
 use crate::puts::Put;
 use dexhead::Table;
-use dexmembers::{Fields, Members, Methods};
+use dexmembers::{DirectoryOffsets, Fields, Members, Methods};
 use dextest_cases::{CaseFault, Outcome};
 use std::alloc::{AllocError, Global};
 
@@ -299,7 +299,13 @@ fn put_counted(
     if offs.parameters.len() != methods {
         return Err(CaseFault::Form);
     }
-    members.put_directory(offs.own, &offs.fields, &offs.methods, &offs.parameters, out)?;
+    let offs = DirectoryOffsets {
+        own: offs.own,
+        fields: &offs.fields,
+        methods: &offs.methods,
+        parameters: &offs.parameters,
+    };
+    members.put_directory(&offs, out)?;
     Ok(())
 }
 

@@ -4,7 +4,7 @@
 use crate::made_files::{ITEMS, file_with};
 use dexcode::{Code, Debug, put_code, put_debug, read_code, read_debug};
 use dexhead::Frame;
-use dexmembers::Members;
+use dexmembers::{DirectoryOffsets, Members};
 use dexpool::{Numbering, Pools};
 use dexval::{
     Annotation, AnnotationSet, Element, Value, Visibility, put_annotation, put_set, put_statics,
@@ -190,9 +190,13 @@ fn class_data_is_put_in_its_room(rt: HostRuntime) {
 /// afterwards.
 fn directory_in_its_room(alloc: Global) -> Option<(Vec<u8>, usize)> {
     let mut bytes = Vec::with_capacity(alloc, 16).ok()?;
-    Members::empty(alloc)
-        .put_directory(300, &[], &[], &[], &mut bytes)
-        .ok()?;
+    let offs = DirectoryOffsets {
+        own: 300,
+        fields: &[],
+        methods: &[],
+        parameters: &[],
+    };
+    Members::empty(alloc).put_directory(&offs, &mut bytes).ok()?;
     let room = bytes.capacity();
     Some((bytes, room))
 }

@@ -2,6 +2,7 @@
 use Rattle.std.specs.Prelude.{ℕ, ◌+◌, ◌==◌, if◌then◌else◌, List, [], ◌∷◌, length, take, drop, slice_index, Option, Some, None}
 use Rattle.dexmembers.specs.Numbered.{NumberedMembers, fields_of, methods_of}
 use Rattle.dexmembers.specs.DirectoryPut.{count_placed, numbered_directory_bytes}
+use Rattle.dexmembers.specs.declared.directory_put.DirectoryOffsets.{DirectoryOffsets}
 use Rattle.dexclass.specs.Numbered.{NumberedClass}
 
 -- how many members a directory names
@@ -11,6 +12,10 @@ entry_count fields methods lists = count_placed fields + count_placed methods + 
 -- the directory of what a class declares, unless all offsets are 0
 abbrev pub directory_item : NumberedMembers → ℕ → List ℕ → List ℕ → List ℕ → Option (List ℕ)
 directory_item x own fields methods lists = if own + entry_count fields methods lists == 0 then None else Some (numbered_directory_bytes x own fields methods lists)
+
+-- the directory with these offsets
+abbrev pub directory_with : NumberedMembers → DirectoryOffsets → Option (List ℕ)
+directory_with x offs = directory_item x offs.own offs.fields.now offs.methods.now offs.parameters.now
 
 -- those of classes, from the offsets of all
 abbrev pub directory_items : List NumberedClass → List ℕ → List ℕ → List ℕ → List ℕ → List (Option (List ℕ))

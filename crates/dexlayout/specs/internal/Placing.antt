@@ -7,7 +7,7 @@ use Rattle.dexspec.specs.Texts.{string_data}
 use Rattle.dexspec.specs.Mentions.{Mentions}
 use Rattle.dexspec.specs.Sections.{Section, HeaderItem, MapList}
 use Rattle.dexspec.specs.Placing.{Ordered, offsets_from, end_from, uses_offsets, end, Placed}
-use Rattle.dexspec.specs.Canonical.{data_start, data_sections, type_list_items, set_items, debug_items, code_section, placed_tables}
+use Rattle.dexspec.specs.Canonical.{data_start, data_sections, type_list_items, set_items, debug_items, code_section, class_data_section, placed_tables}
 use Rattle.dexhead.specs.declared.head.Head.{Head}
 use Rattle.dexhead.specs.declared.map_list.MapEntry.{MapEntry}
 use Rattle.dexhead.specs.Laid.{StatesLayout, map_start, map_list}
@@ -22,7 +22,7 @@ use Rattle.dexlayout.specs.declared.data.Data.{Data}
 use Rattle.dexlayout.specs.declared.sharing.Shared.{Shared}
 use Rattle.dexlayout.specs.declared.tables.Tables.{Tables}
 use Rattle.dexlayout.specs.Places.{ItemPlaces, EncodedItems, EncodedSharedItems, SetPlaces}
-use Rattle.dexlayout.specs.Laid.{ordered_of, greatest_in, AreWritable, AreLaidSo, AreClassData, AreShared}
+use Rattle.dexlayout.specs.Laid.{ordered_of, greatest_in, AreWritable, AreLaidSo, AreAnnotations, AreClassData, AreDirectories, AreRefLists, AreSets, AreShared}
 use Rattle.dexlayout.specs.internal.Parts.{AreTables, AreData, entry_of, section_parts}
 use Rattle.dexlayout.specs.internal.Encoding.{encode_uses, list_bytes, no_items_from}
 
@@ -39,6 +39,30 @@ CanPlaceClassData cs codes from = (m : Mentions) × AreWritable m cs × (codes �
 -- they are placed so
 abbrev pub PlacedClassData : List NumberedClass → List ℕ → ℕ → EncodedItems → Type 0
 PlacedClassData cs codes from p = (m : Mentions) → AreWritable m cs → codes ≡ uses_offsets (code_section (ordered_of m cs)) → from ≡ end (code_section (ordered_of m cs)) → AreClassData m cs p
+
+-- the sets and what is after them can be placed from the offset on, by these offsets of the annotations
+abbrev pub CanPlaceSets : List NumberedClass → EncodedItems → ℕ → Type 0
+CanPlaceSets cs annotations from = (m : Mentions) × AreWritable m cs × AreAnnotations m cs annotations × (from ≡ end (class_data_section (ordered_of m cs)))
+
+-- they are placed so
+abbrev pub PlacedSets : {P : Type 0} → (Mentions → List NumberedClass → P → Type 0) → List NumberedClass → EncodedItems → ℕ → P → Type 0
+PlacedSets Are cs annotations from p = (m : Mentions) → AreWritable m cs → AreAnnotations m cs annotations → from ≡ end (class_data_section (ordered_of m cs)) → Are m cs p
+
+-- the lists of sets can be placed, by these offsets of the sets
+abbrev pub CanPlaceRefLists : List NumberedClass → SetPlaces → Type 0
+CanPlaceRefLists cs sets = (m : Mentions) × AreWritable m cs × AreSets m cs sets
+
+-- they are placed so
+abbrev pub PlacedRefLists : List NumberedClass → SetPlaces → EncodedItems → Type 0
+PlacedRefLists cs sets p = (m : Mentions) → AreWritable m cs → AreSets m cs sets → AreRefLists m cs p
+
+-- the directories can be placed, by these offsets of the sets and of the lists of sets
+abbrev pub CanPlaceDirectories : List NumberedClass → SetPlaces → EncodedItems → Type 0
+CanPlaceDirectories cs sets lists = (m : Mentions) × AreWritable m cs × AreSets m cs sets × AreRefLists m cs lists
+
+-- they are placed so
+abbrev pub PlacedDirectories : List NumberedClass → SetPlaces → EncodedItems → EncodedItems → Type 0
+PlacedDirectories cs sets lists p = (m : Mentions) → AreWritable m cs → AreSets m cs sets → AreRefLists m cs lists → AreDirectories m cs p
 
 -- the texts from the offset on
 abbrev pub AreStringsFrom : ℕ → Mentions → ItemPlaces → Type 0

@@ -13,7 +13,7 @@ use Rattle.dexmembers.specs.declared.class_data.EncodedField.{EncodedField}
 use Rattle.dexmembers.specs.declared.class_data.EncodedMethod.{EncodedMethod}
 use Rattle.dexmembers.specs.declared.class_data.ClassData.{ClassData}
 use Rattle.dexmembers.specs.declared.class_data.Counts.{Counts}
-use Rattle.dexmembers.specs.declared.encodings.Owner.{Owner}
+use Rattle.dexmembers.specs.declared.encoded_lists.ClassDataReader.{ClassDataReader}
 
 -- the members are refused for this reason; a failed allocation says nothing
 abbrev pub IsDataRefusal : Type 0 → ItemFault → Type 0
@@ -89,20 +89,20 @@ NoLists {X} At index b o count other_count = (xs ys : List X) (n : ℕ) → leng
 -- ---- lists of members of an owner
 
 -- `count` members of the owner were read from offset o on, in as many bytes
-abbrev pub ReadsList : {X : Type 0} → OwnMember X → (X → ℕ) → Owner → List ℕ → ℕ → ℕ → Vec X × ℕ → Type 0
-ReadsList At index owner b o count x = IsListRead (At owner.pools.now owner.class) index b o count x.0.items x.1
+abbrev pub ReadsList : {X : Type 0} → OwnMember X → (X → ℕ) → ClassDataReader → ℕ → ℕ → Vec X × ℕ → Type 0
+ReadsList At index reader o count x = IsListRead (At reader.owner.pools.now reader.owner.class) index reader.bytes.now o count x.0.items x.1
 
 -- what is refused are such members
-abbrev pub RefusesList : {X : Type 0} → OwnMember X → (X → ℕ) → Owner → List ℕ → ℕ → ℕ → ItemFault → Type 0
-RefusesList At index owner b o count fault = IsDataRefusal (NoList (At owner.pools.now owner.class) index b o count) fault
+abbrev pub RefusesList : {X : Type 0} → OwnMember X → (X → ℕ) → ClassDataReader → ℕ → ℕ → ItemFault → Type 0
+RefusesList At index reader o count fault = IsDataRefusal (NoList (At reader.owner.pools.now reader.owner.class) index reader.bytes.now o count) fault
 
 -- two lists of `count` and `other_count` members of the owner were read
-abbrev pub ReadsLists : {X : Type 0} → OwnMember X → (X → ℕ) → Owner → List ℕ → ℕ → ℕ → ℕ → Vec X × Vec X × ℕ → Type 0
-ReadsLists At index owner b o count other_count x = AreListsRead (At owner.pools.now owner.class) index b o count other_count x.0.items x.1.items x.2
+abbrev pub ReadsLists : {X : Type 0} → OwnMember X → (X → ℕ) → ClassDataReader → ℕ → ℕ → ℕ → Vec X × Vec X × ℕ → Type 0
+ReadsLists At index reader o count other_count x = AreListsRead (At reader.owner.pools.now reader.owner.class) index reader.bytes.now o count other_count x.0.items x.1.items x.2
 
 -- what is refused are such lists
-abbrev pub RefusesLists : {X : Type 0} → OwnMember X → (X → ℕ) → Owner → List ℕ → ℕ → ℕ → ℕ → ItemFault → Type 0
-RefusesLists At index owner b o count other_count fault = IsDataRefusal (NoLists (At owner.pools.now owner.class) index b o count other_count) fault
+abbrev pub RefusesLists : {X : Type 0} → OwnMember X → (X → ℕ) → ClassDataReader → ℕ → ℕ → ℕ → ItemFault → Type 0
+RefusesLists At index reader o count other_count fault = IsDataRefusal (NoLists (At reader.owner.pools.now reader.owner.class) index reader.bytes.now o count other_count) fault
 
 -- ---- fields and methods
 
@@ -174,6 +174,14 @@ AreCountsAt b o counts n = Sequence Uleb128At b o (counts.static_fields ∷ coun
 -- there is no class data of the class at offset o
 abbrev pub NoData : Mentions → ℕ → List ℕ → ℕ → Type 0
 NoData m class b o = (ss is : List EncodedField) (ds vs : List EncodedMethod) → DataAt m class b o ss is ds vs → ⊥
+
+-- the class data of the owner were read at offset o
+abbrev pub ReadsDataAt : ClassDataReader → ℕ → ClassData → Type 0
+ReadsDataAt reader = IsDataAt reader.owner.pools.now reader.owner.class reader.bytes.now
+
+-- what is refused are such class data
+abbrev pub RefusesDataAt : ClassDataReader → ℕ → ItemFault → Type 0
+RefusesDataAt reader o = IsDataRefusal (NoData reader.owner.pools.now reader.owner.class reader.bytes.now o)
 
 -- ---- two lists in one pass
 

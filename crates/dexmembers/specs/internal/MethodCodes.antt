@@ -12,6 +12,7 @@ use Rattle.dexcode.specs.Checking.{one_code_weight}
 use Rattle.dexcode.specs.Numbered.{NumberedItem, DenotesCode}
 use Rattle.dexcode.specs.Reading.{IsCodeFault}
 use Rattle.dexmembers.specs.declared.class_data.EncodedMethod.{EncodedMethod}
+use Rattle.dexmembers.specs.declared.row_reader.RowReader.{RowReader}
 
 -- the same; none weighs nothing
 abbrev pub optional_code_weight : Option Code → ℕ
@@ -72,5 +73,5 @@ IsCodesFault b xs (Refused number) = HasRefusedCode b xs number
 -- ---- as it is read
 
 -- the code of the methods with its weight; none where it weighs more than it may
-abbrev pub CodesWithin : List ℕ → Mentions → List EncodedMethod → ℕ → Option (Vec (Option NumberedItem) × ℕ) → Type 0
-CodesWithin b m xs most found = MatchOption found (AreHeavyCodes b xs most) (λ codes. AreCodesOf b m xs most codes.0.items)
+abbrev pub CodesWithin : RowReader → List EncodedMethod → Option (Vec (Option NumberedItem) × ℕ) → Type 0
+CodesWithin reader xs found = MatchOption found (AreHeavyCodes reader.frame.now xs reader.most) (λ codes. AreCodesOf reader.frame.now reader.pools.now xs reader.most codes.0.items)

@@ -27,6 +27,8 @@ use Rattle.dexmembers.specs.Weighing.{codes_weight}
 use Rattle.dexmembers.specs.declared.class_def.ClassDef.{ClassDef}
 use Rattle.dexmembers.specs.declared.members.Contents.{Contents}
 use Rattle.dexmembers.specs.declared.row_parts.Parts.{Parts}
+use Rattle.dexmembers.specs.declared.row_reader.RowReader.{RowReader}
+use Rattle.dexmembers.specs.internal.RowReaders.{IsFile}
 
 -- ---- annotations
 
@@ -60,16 +62,17 @@ IsAnnotationsFault b r Memory = Unit {0}
 IsAnnotationsFault b r (Refused number) = (number ≡ 22) × (HasAnnotations b r → ⊥)
 
 -- the annotations of the row that has the offset; none where they weigh more than they may
-abbrev pub ReadsAnnotations : List ℕ → Mentions → ℕ → DataRead → ℕ → Result (Option SharedDirectory) ItemFault → Type 0
-ReadsAnnotations b m off d most result = (r : ℕ) → off ≡ annotations_off b r → ArePools b m → IsDataOf b r m d → IfOk result (λ found. MatchOption found (AreHeavyAnnotations b r m d most) (AreAnnotationsOf b r m d))
+abbrev pub ReadsAnnotations : RowReader → ℕ → DataRead → Result (Option SharedDirectory) ItemFault → Type 0
+ReadsAnnotations reader off d result = (r : ℕ) → off ≡ annotations_off reader.frame.now r → IsFile reader → IsDataOf reader.frame.now r reader.pools.now d
+    → IfOk result (λ found. MatchOption found (AreHeavyAnnotations reader.frame.now r reader.pools.now d reader.most) (AreAnnotationsOf reader.frame.now r reader.pools.now d))
 
 -- what is refused are the annotations of the row that has the offset
 abbrev pub RefusesAnnotations : {X : Type 0} → List ℕ → Mentions → ℕ → DataRead → Result X ItemFault → Type 0
 RefusesAnnotations b m off d result = (r : ℕ) → off ≡ annotations_off b r → ArePools b m → IsDataOf b r m d → IfErr result (IsAnnotationsFault b r)
 
--- the directory weighs no more than that
-abbrev pub IsLight : Mentions → ℕ → SharedDirectory → Type 0
-IsLight m most a = min (2 ^ 64 - 1) (directory_weight (directory_in m (shared_directory_of a))) ≤ most
+-- the directory weighs no more than it may
+abbrev pub IsLight : RowReader → SharedDirectory → Type 0
+IsLight reader a = min (2 ^ 64 - 1) (directory_weight (directory_in reader.pools.now (shared_directory_of a))) ≤ reader.most
 
 -- ---- all of it
 
@@ -100,12 +103,13 @@ attached d a direct virtual vs = record {
 -- ---- as they are read
 
 -- what the class row has beside its class data; none where a part weighs more than it may
-abbrev pub ReadsParts : List ℕ → Mentions → ClassDef → DataRead → ℕ → Result (Option Parts) ItemFault → Type 0
-ReadsParts b m row d most result = (r : ℕ) → IsClassDef b r row → ArePools b m → IsDataOf b r m d → IfOk result (λ parts. MatchOption parts (AreHeavyMembers b r most) (λ x. ArePartsOf b r m d most x.directory x.direct_codes.items x.virtual_codes.items (values_of_list (map value_of x.static_values.items))))
+abbrev pub ReadsParts : RowReader → ClassDef → DataRead → Result (Option Parts) ItemFault → Type 0
+ReadsParts reader row d result = (r : ℕ) → IsClassDef reader.frame.now r row → IsFile reader → IsDataOf reader.frame.now r reader.pools.now d
+    → IfOk result (λ parts. MatchOption parts (AreHeavyMembers reader.frame.now r reader.most) (λ x. ArePartsOf reader.frame.now r reader.pools.now d reader.most x.directory x.direct_codes.items x.virtual_codes.items (values_of_list (map value_of x.static_values.items))))
 
 -- what is refused is a part of the class row
-abbrev pub RefusesParts : List ℕ → Mentions → ClassDef → DataRead → Result (Option Parts) ItemFault → Type 0
-RefusesParts b m row d result = (r : ℕ) → IsClassDef b r row → ArePools b m → IsDataOf b r m d → IfErr result (IsMembersFault b r)
+abbrev pub RefusesParts : RowReader → ClassDef → DataRead → Result (Option Parts) ItemFault → Type 0
+RefusesParts reader row d result = (r : ℕ) → IsClassDef reader.frame.now r row → IsFile reader → IsDataOf reader.frame.now r reader.pools.now d → IfErr result (IsMembersFault reader.frame.now r)
 
 -- the weight of code is that of both lists, or 2^64 - 1 where that is more
 abbrev pub HasCodesWeight : Parts → Type 0

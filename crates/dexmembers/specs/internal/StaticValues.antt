@@ -14,6 +14,8 @@ use Rattle.dexpool.specs.Pools.{ArePools}
 use Rattle.dexval.specs.Numbered.{NumberedValues, AreKnown, values_in, values_of_list}
 use Rattle.dexval.specs.Code.{value_of}
 use Rattle.dexval.specs.declared.value.Value.{Value}
+use Rattle.dexmembers.specs.declared.row_reader.RowReader.{RowReader}
+use Rattle.dexmembers.specs.internal.RowReaders.{IsFile}
 
 -- class row r has these static values, or none, no more than `fields` of them
 pub record HasValuesFor (b : List ℕ) (r fields : ℕ) (vs : Values) : Type 0 where
@@ -41,8 +43,9 @@ IsValuesFault b r fields (Refused number) = (number ≡ 21) × ((vs : Values) �
 -- ---- as they are read
 
 -- the static values of the row that has the offset; none where they weigh more than they may
-abbrev pub ReadsValues : List ℕ → Mentions → ℕ → ℕ → ℕ → Result (Option (Vec Value)) ItemFault → Type 0
-ReadsValues b m off fields most result = (r : ℕ) → off ≡ static_values_off b r → ArePools b m → IfOk result (λ values. MatchOption values (AreHeavyValues b r fields most) (λ values. AreValuesOf b r m fields most (values_of_list (map value_of values.items))))
+abbrev pub ReadsValues : RowReader → ℕ → ℕ → Result (Option (Vec Value)) ItemFault → Type 0
+ReadsValues reader off fields result = (r : ℕ) → off ≡ static_values_off reader.frame.now r → IsFile reader
+    → IfOk result (λ values. MatchOption values (AreHeavyValues reader.frame.now r fields reader.most) (λ values. AreValuesOf reader.frame.now r reader.pools.now fields reader.most (values_of_list (map value_of values.items))))
 
 -- what is refused are the static values of the row that has the offset
 abbrev pub RefusesValues : {X : Type 0} → List ℕ → Mentions → ℕ → ℕ → Result X ItemFault → Type 0

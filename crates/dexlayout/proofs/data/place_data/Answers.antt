@@ -13,14 +13,18 @@ place_first_sections-requires-clause-known c = subst (AreKnownSets c.args.number
 pub place_bodies-requires : goal.place_bodies-requires
 place_bodies-requires c = (c.args.numbering.now, c.requires.classes, c.end.ensures ∙ c.in_ok-first_sections.ensures.strings_are.end_is)
 
-pub place_back-requires-clause-from : goal.place_back-requires-clause-from
-place_back-requires-clause-from c =
-    let bodies = c.in_ok-bodies.ensures c.args.numbering.now c.requires.classes (c.end.ensures ∙ c.in_ok-first_sections.ensures.strings_are.end_is) in
-    c.end-2.ensures ∙ ap (λ (q : ItemPlaces). q.end) c.places.ensures ∙ bodies.class_data_are.places_are.end_is
+pub place_back-requires-clause-place : goal.place_back-requires-clause-place
+place_back-requires-clause-place c =
+    let m = c.args.numbering.now in
+    let bodies = c.in_ok-bodies.ensures m c.requires.classes (c.end.ensures ∙ c.in_ok-first_sections.ensures.strings_are.end_is) in
+    (m, c.requires.classes, c.in_ok-first_sections.ensures.annotations_are, c.end-2.ensures ∙ ap (λ (q : ItemPlaces). q.end) c.places.ensures ∙ bodies.class_data_are.places_are.end_is)
 
 pub returns : goal.returns
-returns c = record {
-  first_sections_are = c.in_ok-first_sections.ensures;
-  bodies_are = c.in_ok-bodies.ensures c.args.numbering.now c.requires.classes (c.end.ensures ∙ c.in_ok-first_sections.ensures.strings_are.end_is);
-  back_are = c.in_ok-back.ensures;
-}
+returns c =
+    let m = c.args.numbering.now in
+    let bodies = c.in_ok-bodies.ensures m c.requires.classes (c.end.ensures ∙ c.in_ok-first_sections.ensures.strings_are.end_is) in
+    record {
+      first_sections_are = c.in_ok-first_sections.ensures;
+      bodies_are = bodies;
+      back_are = c.in_ok-back.ensures m c.requires.classes c.in_ok-first_sections.ensures.annotations_are (c.end-2.ensures ∙ ap (λ (q : ItemPlaces). q.end) c.places.ensures ∙ bodies.class_data_are.places_are.end_is);
+    }

@@ -1,37 +1,52 @@
-use Rattle.std.proofs.Common.{◌≡◌, ℕ, List, [], length, drop, sym, ap, subst, arith}
+use Rattle.std.proofs.Common.{◌≡◌, ℕ, List, [], length, drop, sym, ap, ◌∙◌, subst, arith}
 use Rattle.std.proofs.lemmas.List.{drop_all}
+use Rattle.dexspec.specs.Mentions.{Mentions}
+use Rattle.dexspec.specs.Placing.{end, uses_offsets}
+use Rattle.dexspec.specs.Canonical.{ref_list_section}
+use Rattle.dexlayout.specs.Places.{ItemPlaces}
 use Rattle.dexlayout.specs.internal.Directories.{directory_items}
 use Rattle.dexlayout.specs.internal.Encoding.{encode_uses}
-use Rattle.dexlayout.specs.Laid.{ordered_of, AreDirectories}
+use Rattle.dexlayout.specs.Laid.{ordered_of, AreDirectories, AreRefLists}
 use Rattle.dexlayout.proofs.EncodedUses.{all_encoded_by}
 use Rattle.dexlayout.proofs.Ends.{end_in_file}
 use Rattle.dexlayout.proofs.SetDirectories.{directories_fit, directories_more, directories_laid, own_count, field_count, method_count, length-ref_list_offsets}
 use Rattle.dexlayout.proofs.directories.place_directories.Goals as goal
+use Rattle.dexlayout.proofs.directories.place_directories.Goals.{After-end-from}
+
+-- the offsets of the lists of sets, over each numbering
+lists_are : (c : After-end-from) (m : Mentions) → AreRefLists m c.args.classes.now c.args.ref_lists.now → c.offsets-lists.result.now ≡ uses_offsets (ref_list_section (ordered_of m c.args.classes.now))
+lists_are c m lists = c.offsets-lists.ensures ∙ ap (λ (q : ItemPlaces). q.offsets) c.places.ensures ∙ lists.places_are.offsets_are
+
+-- their end
+from_is : (c : After-end-from) (m : Mentions) → AreRefLists m c.args.classes.now c.args.ref_lists.now → c.end-from.result ≡ end (ref_list_section (ordered_of m c.args.classes.now))
+from_is c m lists = c.end-from.ensures ∙ ap (λ (q : ItemPlaces). q.end) c.places-2.ensures ∙ lists.places_are.end_is
 
 pub loop-i-init : goal.loop-i-init
 loop-i-init c =
-    let m = c.args.numbering.now in
+    let m = c.requires.0 in
     let cs = c.args.classes.now in
     let sets = c.args.sets.now in
-    let are = c.requires.sets in
+    let are = c.requires.2 in
+    let lists = lists_are ((goal.at.loop-i-init c).After-end-from) m c.requires.3 in
     record {
       enough_fields = omega (arith, ap (λ (l : List ℕ). length l) c.fields-fields.ensures, field_count m cs sets are);
       enough_methods = omega (arith, ap (λ (l : List ℕ). length l) c.methods-methods.ensures, method_count m cs sets are);
-      enough_lists = omega (arith, ap (λ (l : List ℕ). length l) c.requires.lists, length-ref_list_offsets m cs);
-      encoded = ap (λ p. encode_uses 4 p (directory_items cs c.own-own.result.now c.fields-fields.result.now c.methods-methods.result.now c.args.ref_lists.now)) c.in_ok-items.ensures;
+      enough_lists = omega (arith, ap (λ (l : List ℕ). length l) lists, length-ref_list_offsets m cs);
+      encoded = ap (λ p. encode_uses 4 p (directory_items cs c.own-own.result.now c.fields-fields.result.now c.methods-methods.result.now c.offsets-lists.result.now)) c.in_ok-items.ensures;
     }
 
 pub bounds-own-i : goal.bounds-own-i
-bounds-own-i c = omega (arith, c.loop-i-test.true, ap (λ (l : List ℕ). length l) c.own-own.ensures, own_count c.args.numbering.now c.args.classes.now c.args.sets.now c.requires.sets)
+bounds-own-i c = omega (arith, c.loop-i-test.true, ap (λ (l : List ℕ). length l) c.own-own.ensures, own_count c.requires.0 c.args.classes.now c.args.sets.now c.requires.2)
 
 pub encode_directory-requires-clause-fits : goal.encode_directory-requires-clause-fits
 encode_directory-requires-clause-fits c =
-    let m = c.args.numbering.now in
+    let m = c.requires.0 in
     let cs = c.args.classes.now in
-    let w = c.requires.classes in
+    let w = c.requires.1 in
+    let here = (goal.at.encode_directory-requires-clause-fits c).After-end-from in
     let laid =
-    directories_laid m cs c.args.sets.now c.requires.sets w (c.number_law.ensures m w.numbering.rising) c.own-own.result.now c.fields-fields.result.now c.methods-methods.result.now c.args.ref_lists.now
-    c.own-own.ensures c.fields-fields.ensures c.methods-methods.ensures c.requires.lists c.args.from c.requires.from in
+    directories_laid m cs c.args.sets.now c.requires.2 w (c.number_law.ensures m w.numbering.rising) c.own-own.result.now c.fields-fields.result.now c.methods-methods.result.now c.offsets-lists.result.now
+    c.own-own.ensures c.fields-fields.ensures c.methods-methods.ensures (lists_are here m c.requires.3) c.end-from.result (from_is here m c.requires.3) in
     omega (
       arith,
       directories_fit cs c.own-own.result.now c.loop-i.i c.index-classes-i.result c.members-members.result.now c.field_count.result c.method_count-count.result c.loop-i.invariant c.loop-i-test.true (sym c.index-classes-i.is) c.members-members.ensures
@@ -47,13 +62,12 @@ loop-i-preserved c =
     c.in_ok-encode_directory.ensures
 
 pub returns : goal.returns
-returns c =
-    let m = c.args.numbering.now in
+returns c = λ m w are laid_lists.
     let cs = c.args.classes.now in
-    let w = c.requires.classes in
     let own = c.own-own.result.now in
+    let here = (goal.at.returns c).After-end-from in
     let none : directory_items (drop c.loop-i.i cs) (drop c.loop-i.i own) c.loop-i.fields.now c.loop-i.methods.now c.loop-i.lists.now ≡ [] =
     ap (λ ds. directory_items ds (drop c.loop-i.i own) c.loop-i.fields.now c.loop-i.methods.now c.loop-i.lists.now) (drop_all c.loop-i.i cs c.loop-i-test.false) in
     subst (AreDirectories m cs) (sym (all_encoded_by 4 none c.loop-i.invariant.encoded))
-    (directories_laid m cs c.args.sets.now c.requires.sets w (c.number_law.ensures m w.numbering.rising) own c.fields-fields.result.now c.methods-methods.result.now c.args.ref_lists.now
-    c.own-own.ensures c.fields-fields.ensures c.methods-methods.ensures c.requires.lists c.args.from c.requires.from)
+    (directories_laid m cs c.args.sets.now are w (c.number_law.ensures m w.numbering.rising) own c.fields-fields.result.now c.methods-methods.result.now c.offsets-lists.result.now
+    c.own-own.ensures c.fields-fields.ensures c.methods-methods.ensures (lists_are here m laid_lists) c.end-from.result (from_is here m laid_lists))

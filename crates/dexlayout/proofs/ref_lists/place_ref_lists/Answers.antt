@@ -22,7 +22,7 @@ all_are c =
 pub loop-class-init : goal.loop-class-init
 loop-class-init c = record {
   encoded = refl;
-  enough = omega (arith, parameters_enough c.args.numbering.now c.args.classes.now c.requires.sets, ap (λ (l : List ℕ). length l) c.parameters-rest.ensures);
+  enough = omega (arith, parameters_enough c.requires.0 c.args.classes.now c.requires.2, ap (λ (l : List ℕ). length l) c.parameters-rest.ensures);
 }
 
 pub put_class_lists-requires-clause-enough : goal.put_class_lists-requires-clause-enough
@@ -34,7 +34,7 @@ put_class_lists-requires-clause-enough c =
 
 pub put_class_lists-requires-clause-fits : goal.put_class_lists-requires-clause-fits
 put_class_lists-requires-clause-fits c =
-    let m = c.args.numbering.now in
+    let m = c.requires.0 in
     let cs = c.args.classes.now in
     let i = c.loop-class.class-index in
     let k = c.class-item.result in
@@ -47,8 +47,8 @@ put_class_lists-requires-clause-fits c =
     omega (
       arith,
       uses_fit 4 c.loop-class.items (offset_lists list_item ms rest) (offset_lists list_item ns (drop (total ms) rest)) next whole,
-      (ref_lists_laid m cs c.requires.sets).places_are.end_is,
-      (end_in_file (ordered_of m cs) c.requires.classes.fits).ref_lists,
+      (ref_lists_laid m cs c.requires.2).places_are.end_is,
+      (end_in_file (ordered_of m cs) c.requires.1.fits).ref_lists,
     )
 
 pub loop-class-preserved : goal.loop-class-preserved
@@ -66,10 +66,9 @@ loop-class-preserved c =
     }
 
 pub returns : goal.returns
-returns c =
-    let m = c.args.numbering.now in
+returns c = λ m w sets.
     let cs = c.args.classes.now in
     let none = ap (λ ks. offset_lists list_item (class_parameter_counts ks) c.loop-class.rest.now) (drop_all c.loop-class.class-index cs c.loop-class-test.false) in
     let whole = all_encoded_by 4 none c.loop-class.invariant.encoded ∙ ap (λ offs. encode_uses 4 c.in_ok-items.items (offset_lists list_item (class_parameter_counts cs) offs)) c.parameters-rest.ensures
     ∙ all_are (goal.at.returns c).In_ok-items in
-    subst (AreRefLists m cs) (sym whole) (ref_lists_laid m cs c.requires.sets)
+    subst (AreRefLists m cs) (sym whole) (ref_lists_laid m cs sets)

@@ -7,13 +7,13 @@ pub returns-clause-symbolic : goal.returns-clause-symbolic
 returns-clause-symbolic c = λ m name body sets item rising known ordered class same own fields methods is.
     let a = c.args in
     subst (λ (bytes : List ℕ). Puts bytes a.out.now c.put.new.out c.put.result)
-    (c.members_bytes_law.ensures.directory m name body a.self.now a.own_off a.field_offs.now a.method_offs.now a.parameter_offs.now sets item rising known ordered class same c.requires.fields c.requires.methods c.requires.parameters own fields methods is)
+    (c.members_bytes_law.ensures.directory m name body a.self.now a.offs.now.own a.offs.now.fields.now a.offs.now.methods.now a.offs.now.parameters.now sets item rising known ordered class same c.requires.fields c.requires.methods c.requires.parameters own fields methods is)
     c.put.ensures
 
 pub returns-clause-room : goal.returns-clause-room
 returns-clause-room c = λ le.
     let a = c.args in
-    c.put.ensures.room (omega (arith, le, directory_size a.self.now a.own_off a.field_offs.now a.method_offs.now a.parameter_offs.now c.requires.fields c.requires.methods c.requires.parameters))
+    c.put.ensures.room (omega (arith, le, directory_size a.self.now a.offs.now.own a.offs.now.fields.now a.offs.now.methods.now a.offs.now.parameters.now c.requires.fields c.requires.methods c.requires.parameters))
 
 pub put-requires : goal.put-requires
 put-requires c = record {

@@ -4,34 +4,34 @@ use Rattle.std.proofs.lemmas.Result.{err_from_is_err_and}
 use Rattle.dexspec.specs.ClassData.{ShareNone}
 use Rattle.dexmembers.specs.Numbered.{NumbersRise}
 use Rattle.dexmembers.proofs.MemberChains.{chain_rises, no_second, not_apart, refused_so}
-use Rattle.dexmembers.proofs.encoded_lists.read_lists.Goals as goal
+use Rattle.dexmembers.proofs.encoded_lists.ClassDataReader.read_lists.Goals as goal
 
 pub returns-in_err-others-clause-fault : goal.returns-in_err-others-clause-fault
 returns-in_err-others-clause-fault g c =
-    let at = g.T.Encoded.encodes c.args.owner.pools.now c.args.owner.class in
+    let at = g.T.Encoded.encodes c.args.self.now.owner.pools.now c.args.self.now.owner.class in
     let e = err_from_is_err_and c.from_residual-in_err-others.result c.from_residual-in_err-others.ensures.1 in
-    rw (e.1, e.2) (refused_so (no_second at g.T.Encoded.index_of (c.law.ensures.one c.args.owner.pools.now c.args.owner.class) c.args.bytes.now c.args.at c.args.count c.args.other_count c.in_ok-members.members.items c.in_ok-members.size c.in_ok-members.ensures.list)
+    rw (e.1, e.2) (refused_so (no_second at g.T.Encoded.index_of (c.law.ensures.one c.args.self.now.owner.pools.now c.args.self.now.owner.class) c.args.self.now.bytes.now c.args.at c.args.count c.args.other_count c.in_ok-members.members.items c.in_ok-members.size c.in_ok-members.ensures.list)
     c.in_err-others.field-0.0 c.in_err-others.ensures.fault)
 
 pub are_apart-requires-clause-left_rise : goal.are_apart-requires-clause-left_rise
 are_apart-requires-clause-left_rise g c =
-    let at = g.T.Encoded.encodes c.args.owner.pools.now c.args.owner.class in
+    let at = g.T.Encoded.encodes c.args.self.now.owner.pools.now c.args.self.now.owner.class in
     subst (λ xs. NumbersRise (map g.T.Encoded.index_of xs)) (sym c.deref.ensures.value)
-    (chain_rises at g.T.Encoded.index_of (c.law.ensures.follows c.args.owner.pools.now c.args.owner.class) c.args.bytes.now c.args.at None c.in_ok-members.members.items c.in_ok-members.size c.in_ok-members.ensures.list.are_encoded)
+    (chain_rises at g.T.Encoded.index_of (c.law.ensures.follows c.args.self.now.owner.pools.now c.args.self.now.owner.class) c.args.self.now.bytes.now c.args.at None c.in_ok-members.members.items c.in_ok-members.size c.in_ok-members.ensures.list.are_encoded)
 
 pub are_apart-requires-clause-right_rise : goal.are_apart-requires-clause-right_rise
 are_apart-requires-clause-right_rise g c =
-    let at = g.T.Encoded.encodes c.args.owner.pools.now c.args.owner.class in
+    let at = g.T.Encoded.encodes c.args.self.now.owner.pools.now c.args.self.now.owner.class in
     subst (λ xs. NumbersRise (map g.T.Encoded.index_of xs)) (sym c.deref-2.ensures.value)
-    (chain_rises at g.T.Encoded.index_of (c.law.ensures.follows c.args.owner.pools.now c.args.owner.class) c.args.bytes.now (c.args.at + c.in_ok-members.size) None c.in_ok-others.others.items c.in_ok-others.others_size c.in_ok-others.ensures.list.are_encoded)
+    (chain_rises at g.T.Encoded.index_of (c.law.ensures.follows c.args.self.now.owner.pools.now c.args.self.now.owner.class) c.args.self.now.bytes.now (c.args.at + c.in_ok-members.size) None c.in_ok-others.others.items c.in_ok-others.others_size c.in_ok-others.ensures.list.are_encoded)
 
 pub returns-then-not-are_apart-clause-fault : goal.returns-then-not-are_apart-clause-fault
 returns-then-not-are_apart-clause-fault g c =
-    let at = g.T.Encoded.encodes c.args.owner.pools.now c.args.owner.class in
+    let at = g.T.Encoded.encodes c.args.self.now.owner.pools.now c.args.self.now.owner.class in
     let index = g.T.Encoded.index_of in
     let shared : ShareNone (map index c.in_ok-members.members.items) (map index c.in_ok-others.others.items) → ⊥ =
     λ none. false≢true (c.if-not-are_apart.ensures.1 (subst (λ xs. ShareNone (map index xs) (map index c.deref-2.result.now)) (sym c.deref.ensures.value) (subst (λ ys. ShareNone (map index c.in_ok-members.members.items) (map index ys)) (sym c.deref-2.ensures.value) none))) in
-    (refl, not_apart at index (c.law.ensures.one c.args.owner.pools.now c.args.owner.class) c.args.bytes.now c.args.at c.args.count c.args.other_count c.in_ok-members.members.items c.in_ok-others.others.items c.in_ok-members.size c.in_ok-others.others_size c.in_ok-members.ensures.list c.in_ok-others.ensures.list shared)
+    (refl, not_apart at index (c.law.ensures.one c.args.self.now.owner.pools.now c.args.self.now.owner.class) c.args.self.now.bytes.now c.args.at c.args.count c.args.other_count c.in_ok-members.members.items c.in_ok-others.others.items c.in_ok-members.size c.in_ok-others.others_size c.in_ok-members.ensures.list c.in_ok-others.ensures.list shared)
 
 pub returns-clause-lists : goal.returns-clause-lists
 returns-clause-lists g c =

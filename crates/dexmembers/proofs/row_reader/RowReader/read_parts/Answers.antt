@@ -12,7 +12,7 @@ use Rattle.dexmembers.specs.internal.StaticValues.{AreHeavyValues, AreValuesOf, 
 use Rattle.dexmembers.specs.declared.class_data.EncodedMethod.{EncodedMethod}
 use Rattle.dexmembers.proofs.DirectoryCache.{direct_refused, virtual_refused}
 use Rattle.dexmembers.proofs.RowsAreAt.{annotations_refused, values_refused, any_directory, any_codes, any_values, annotations_heavy, direct_heavy, virtual_heavy, values_heavy, codes_here, values_here, none_kept}
-use Rattle.dexmembers.proofs.row_parts.read_parts.Goals as goal
+use Rattle.dexmembers.proofs.row_reader.RowReader.read_parts.Goals as goal
 
 -- the items of a vector of code that is paired with its weight
 abbrev code_items : Vec (Option NumberedItem) × ℕ → List (Option NumberedItem)
@@ -25,30 +25,30 @@ value_items v = values_of_list (map value_of v.items)
 pub returns-in_err-found-clause-refused : goal.returns-in_err-found-clause-refused
 returns-in_err-found-clause-refused c = λ r row pools is.
     let p = err_from_is_err_and c.from_residual.result c.from_residual.ensures.1 in
-    rw (p.1, p.2) (annotations_refused c.args.frame.now r c.in_err-found.field-0.0 (c.in_err-found.ensures.refused r (sym row.annotations_are) pools is))
+    rw (p.1, p.2) (annotations_refused c.args.self.now.frame.now r c.in_err-found.field-0.0 (c.in_err-found.ensures.refused r (sym row.annotations_are) pools is))
 
 pub returns-in_err-direct-clause-refused : goal.returns-in_err-direct-clause-refused
 returns-in_err-direct-clause-refused c = λ r row pools is.
     let p = err_from_is_err_and c.from_residual-in_err-direct.result c.from_residual-in_err-direct.ensures.1 in
-    rw (p.1, p.2) (direct_refused c.args.frame.now r c.args.pools.now c.args.declared.now is c.in_err-direct.field-0.0 (subst (λ (l : List EncodedMethod). IsCodesFault c.args.frame.now l c.in_err-direct.field-0.0) c.deref.ensures.value (c.in_err-direct.ensures.refused pools)))
+    rw (p.1, p.2) (direct_refused c.args.self.now.frame.now r c.args.self.now.pools.now c.args.declared.now is c.in_err-direct.field-0.0 (subst (λ (l : List EncodedMethod). IsCodesFault c.args.self.now.frame.now l c.in_err-direct.field-0.0) c.deref.ensures.value (c.in_err-direct.ensures.refused pools)))
 
 pub returns-in_err-virtuals-clause-refused : goal.returns-in_err-virtuals-clause-refused
 returns-in_err-virtuals-clause-refused c = λ r row pools is.
     let p = err_from_is_err_and c.from_residual-in_err-virtuals.result c.from_residual-in_err-virtuals.ensures.1 in
-    rw (p.1, p.2) (virtual_refused c.args.frame.now r c.args.pools.now c.args.declared.now is c.in_err-virtuals.field-0.0 (subst (λ (l : List EncodedMethod). IsCodesFault c.args.frame.now l c.in_err-virtuals.field-0.0) c.deref-2.ensures.value (c.in_err-virtuals.ensures.refused pools)))
+    rw (p.1, p.2) (virtual_refused c.args.self.now.frame.now r c.args.self.now.pools.now c.args.declared.now is c.in_err-virtuals.field-0.0 (subst (λ (l : List EncodedMethod). IsCodesFault c.args.self.now.frame.now l c.in_err-virtuals.field-0.0) c.deref-2.ensures.value (c.in_err-virtuals.ensures.refused pools)))
 
 pub returns-in_err-values-clause-refused : goal.returns-in_err-values-clause-refused
 returns-in_err-values-clause-refused c = λ r row pools is.
     let p = err_from_is_err_and c.from_residual-in_err-values.result c.from_residual-in_err-values.ensures.1 in
-    rw (p.1, p.2) (values_refused c.args.frame.now r c.args.pools.now c.args.declared.now is c.in_err-values.field-0.0
-    (subst (λ (n : ℕ). IsValuesFault c.args.frame.now r n c.in_err-values.field-0.0) (c.len-fields.ensures ∙ c.args.declared.now.static_fields.ok.0) (c.in_err-values.ensures.refused r (sym row.static_values_are) pools)))
+    rw (p.1, p.2) (values_refused c.args.self.now.frame.now r c.args.self.now.pools.now c.args.declared.now is c.in_err-values.field-0.0
+    (subst (λ (n : ℕ). IsValuesFault c.args.self.now.frame.now r n c.in_err-values.field-0.0) (c.len-fields.ensures ∙ c.args.declared.now.static_fields.ok.0) (c.in_err-values.ensures.refused r (sym row.static_values_are) pools)))
 
 pub returns-in-None-clause-read : goal.returns-in-None-clause-read
 returns-in-None-clause-read c = λ r row pools is.
-    let b = c.args.frame.now in
-    let m = c.args.pools.now in
+    let b = c.args.self.now.frame.now in
+    let m = c.args.self.now.pools.now in
     let d = c.args.declared.now in
-    let most = c.args.most in
+    let most = c.args.self.now.most in
     let rising = subst AreRising c.numbering.ensures c.is_numbering.ensures.rising in
     let direct = any_codes code_items b m d.direct_methods.items most c.in_ok-direct.direct (codes_here code_items b m c.deref.result.now d.direct_methods.items most c.in_ok-direct.direct c.deref.ensures.value (c.in_ok-direct.ensures.read pools)) in
     let virtual = any_codes code_items b m d.virtual_methods.items most c.in_ok-virtuals.virtuals (codes_here code_items b m c.deref-2.result.now d.virtual_methods.items most c.in_ok-virtuals.virtuals c.deref-2.ensures.value (c.in_ok-virtuals.ensures.read pools)) in
@@ -58,10 +58,10 @@ returns-in-None-clause-read c = λ r row pools is.
 
 pub returns-in-None-direct-clause-read : goal.returns-in-None-direct-clause-read
 returns-in-None-direct-clause-read c = λ r row pools is.
-    let b = c.args.frame.now in
-    let m = c.args.pools.now in
+    let b = c.args.self.now.frame.now in
+    let m = c.args.self.now.pools.now in
     let d = c.args.declared.now in
-    let most = c.args.most in
+    let most = c.args.self.now.most in
     let direct = codes_here code_items b m c.deref.result.now d.direct_methods.items most c.in_ok-direct.direct c.deref.ensures.value (c.in_ok-direct.ensures.read pools) in
     let virtual = any_codes code_items b m d.virtual_methods.items most c.in_ok-virtuals.virtuals (codes_here code_items b m c.deref-2.result.now d.virtual_methods.items most c.in_ok-virtuals.virtuals c.deref-2.ensures.value (c.in_ok-virtuals.ensures.read pools)) in
     let values = any_values value_items b r m (length d.static_fields.items) most c.in_ok-values.values
@@ -71,10 +71,10 @@ returns-in-None-direct-clause-read c = λ r row pools is.
 
 pub returns-in-None-virtuals-clause-read : goal.returns-in-None-virtuals-clause-read
 returns-in-None-virtuals-clause-read c = λ r row pools is.
-    let b = c.args.frame.now in
-    let m = c.args.pools.now in
+    let b = c.args.self.now.frame.now in
+    let m = c.args.self.now.pools.now in
     let d = c.args.declared.now in
-    let most = c.args.most in
+    let most = c.args.self.now.most in
     let direct = any_codes code_items b m d.direct_methods.items most c.in_ok-direct.direct (codes_here code_items b m c.deref.result.now d.direct_methods.items most c.in_ok-direct.direct c.deref.ensures.value (c.in_ok-direct.ensures.read pools)) in
     let virtual = codes_here code_items b m c.deref-2.result.now d.virtual_methods.items most c.in_ok-virtuals.virtuals c.deref-2.ensures.value (c.in_ok-virtuals.ensures.read pools) in
     let values = any_values value_items b r m (length d.static_fields.items) most c.in_ok-values.values
@@ -84,10 +84,10 @@ returns-in-None-virtuals-clause-read c = λ r row pools is.
 
 pub returns-clause-read : goal.returns-clause-read
 returns-clause-read c = λ r row pools is.
-    let b = c.args.frame.now in
-    let m = c.args.pools.now in
+    let b = c.args.self.now.frame.now in
+    let m = c.args.self.now.pools.now in
     let d = c.args.declared.now in
-    let most = c.args.most in
+    let most = c.args.self.now.most in
     let direct = any_codes code_items b m d.direct_methods.items most c.in_ok-direct.direct (codes_here code_items b m c.deref.result.now d.direct_methods.items most c.in_ok-direct.direct c.deref.ensures.value (c.in_ok-direct.ensures.read pools)) in
     let virtual = any_codes code_items b m d.virtual_methods.items most c.in_ok-virtuals.virtuals (codes_here code_items b m c.deref-2.result.now d.virtual_methods.items most c.in_ok-virtuals.virtuals c.deref-2.ensures.value (c.in_ok-virtuals.ensures.read pools)) in
     let values = values_here value_items b r m c.len-fields.result (length d.static_fields.items) most c.in_ok-values.values (c.len-fields.ensures ∙ c.args.declared.now.static_fields.ok.0) (c.in_ok-values.ensures.read r (sym row.static_values_are) pools) in

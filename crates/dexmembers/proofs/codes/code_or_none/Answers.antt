@@ -1,7 +1,0 @@
-use Rattle.std.proofs.Common.{arith}
-use Rattle.std.proofs.lemmas.Grind.{common_steps}
-use Rattle.dexmembers.proofs.CodesOfMethods.{some_code}
-use Rattle.dexmembers.proofs.codes.code_or_none.Goals as goal
-
-pub returns-clause-read : goal.returns-clause-read
-returns-clause-read c = λ pools. some_code c.args.frame.now c.args.off c.args.pools.now c.in_ok-code.code (λ e. grind (arith, common_steps)) (c.in_ok-code.ensures.code pools)

@@ -1,0 +1,18 @@
+use Rattle.std.proofs.Common.{◌≢◌, arith}
+use Rattle.std.proofs.lemmas.Result.{err_from_is_err_and}
+use Rattle.dexmembers.proofs.StaticValuesRead.{no_statics, read_values, heavy_values}
+use Rattle.dexmembers.proofs.row_reader.RowReader.read_static_values.Goals as goal
+
+pub returns-then-weight-self-clause-read : goal.returns-then-weight-self-clause-read
+returns-then-weight-self-clause-read c = λ r at pools. heavy_values c.args.self.now.frame.now r c.args.fields c.args.self.now.most c.in_ok-weight.weight (c.in_ok-weight.ensures.weight r at pools) c.if-weight-self.true
+
+pub returns-in_err-values-clause-refused : goal.returns-in_err-values-clause-refused
+returns-in_err-values-clause-refused c = λ r at pools.
+    let p = err_from_is_err_and c.from_residual-in_err-values.result c.from_residual-in_err-values.ensures.1 in
+    let some : c.args.off ≢ 0 = omega arith in
+    rw (p.1, p.2) (no_statics c.args.self.now.frame.now r c.args.off at some c.args.fields c.in_err-values.field-0.0 (c.in_err-values.ensures.refused pools))
+
+pub returns-clause-read : goal.returns-clause-read
+returns-clause-read c = λ r at pools.
+    let some : c.args.off ≢ 0 = omega arith in
+    read_values c.args.self.now.frame.now r c.args.off at some c.args.self.now.pools.now c.in_ok-values.values.items (c.in_ok-values.ensures.values pools) c.args.fields c.args.self.now.most c.in_ok-weight.weight (c.in_ok-weight.ensures.weight r at pools) c.if-weight-self.false

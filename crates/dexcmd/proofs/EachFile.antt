@@ -6,11 +6,11 @@ use Rattle.std.proofs.lemmas.Bool.{false≢true}
 use Rattle.dexruns.specs.declared.faults.RunFault.{RunFault}
 use Rattle.dexcmd.specs.declared.outcome_report.Report.{Report}
 use Rattle.dexcmd.specs.Reports.{standard_name, done, outcome_status, outcome_lines}
-use Rattle.dexcmd.specs.internal.EachFile.{goes_on, AreRunOver, IsFileChecked}
+use Rattle.dexcmd.specs.EachFile.{goes_on, AreRunOver, IsFileChecked}
 use Rattle.dexruns.specs.declared.faults.RunFault.TheVariants as fault
 use Rattle.dexcmd.specs.declared.each_file.Task.TheVariants as task
 use Rattle.dexruns.specs.Runs.{IsOfCheck}
-use Rattle.dexcmd.specs.internal.Ran.{IsCheckRun}
+use Rattle.dexcmd.specs.Ran.{IsCheckRun}
 use Rattle.dexruns.proofs.Moved.{none_moved}
 use Rattle.std.proofs.lemmas.List.Elements.{All-nil, All-cons}
 

@@ -1,3 +1,6 @@
 pub mod Arguments
 pub mod Reports
+pub mod Ran
+pub mod EachFile
+pub mod Jobs
 pub mod internal

@@ -1,4 +1,2 @@
 -- Words of the contracts of private functions: no public contract reaches them.
-pub mod EachFile
-pub mod Jobs
-pub mod Ran
+pub mod RunDevices

@@ -2,11 +2,11 @@
 
 ghost use Rattle.std.specs.Prelude.{◌≡◌, true, false, map, IfOk, IfErr, string_bytes};
 ghost use Rattle.dexruns.specs.Lines.{HasName};
-ghost use Rattle.dexcmd.specs.internal.EachFile.{passes, goes_on, IsFileChecked, IsFileDigested, IsFileRun, HasRunOverEach};
+ghost use Rattle.dexcmd.specs.EachFile.{passes, goes_on, IsFileChecked, IsFileDigested, IsFileRun, HasRunOverEach};
 ghost use Rattle.dexcmd.specs.declared.each_file.Task.TheVariants.{Check, Digest};
 
 use crate::devices::Devices;
-use crate::outcome_report::{Report, STANDARD_OUTPUT, add_outcome, done, empty_report};
+use crate::outcome_report::{Report, RunDevices, STANDARD_OUTPUT, add_outcome, done, empty_report};
 use dexhead::{Sink, Source};
 use dexruns::{RunFault, check_run, digest_run};
 use std::alloc::{AllocError, Global};
@@ -116,17 +116,20 @@ pub(crate) fn run_over_each<'a, D: Devices<'a>>(
         let outcome = run_over(alloc, devices, task, name, &mut out);
         if !goes_on(task, &outcome) {
             let is_closed = devices.close(out);
-            add_outcome(
-                alloc,
-                &mut report,
-                outcome,
-                &[name],
-                STANDARD_OUTPUT,
+            let run = RunDevices {
+                inputs: &[name],
+                out: STANDARD_OUTPUT,
                 is_closed,
-            )?;
+            };
+            add_outcome(alloc, &mut report, outcome, &run)?;
             return Ok(report);
         }
-        add_outcome(alloc, &mut report, outcome, &[name], STANDARD_OUTPUT, false)?;
+        let run = RunDevices {
+            inputs: &[name],
+            out: STANDARD_OUTPUT,
+            is_closed: false,
+        };
+        add_outcome(alloc, &mut report, outcome, &run)?;
     }
     Ok(report)
 }

@@ -3,7 +3,7 @@
 ghost use Rattle.std.specs.Prelude.{◌≡◌, ◌≤◌, ◌<◌, false, length, map, All, IfOk, IfSome, string_bytes, vec_len};
 ghost use Rattle.std.specs.List.{AllZip};
 ghost use Rattle.dexargs.specs.Words.{IsSound, IsSoundMerge};
-ghost use Rattle.dexcmd.specs.internal.Jobs.{HasChecked, HasDumped, HasNormalised, HasMerged, HasCounted, HasRepaired, IsDone};
+ghost use Rattle.dexcmd.specs.Jobs.{HasChecked, HasDumped, HasNormalised, HasMerged, HasCounted, HasRepaired, IsDone};
 
 use crate::devices::Devices;
 use crate::each_file::{Task, run_over_each};
@@ -12,7 +12,8 @@ use dexargs::Job;
 use dexhead::{Sink, Source};
 use dexmerge::Caps;
 use dexruns::{
-    check_run, count_run, dump_run, fan_plan, merge_or_strip_run, normalise_run, repair_run,
+    MergeOptions, check_run, count_run, dump_run, fan_plan, merge_or_strip_run, normalise_run,
+    repair_run,
 };
 use std::alloc::{AllocError, Global};
 
@@ -94,37 +95,42 @@ fn normalise<'a, D: Devices<'a>>(
     report_of(alloc, outcome, &[file], target, is_closed)
 }
 
+// What a merge is asked for: the files and the name of the merged file, how many files are merged at a time, or all at
+// once, the caps, and whether debug programs and source texts are left out.
+#[derive(Clone, Copy)]
+struct MergeJob<'a> {
+    target: &'a str,
+    fan: Option<usize>,
+    caps: &'a Caps,
+    is_stripped: bool,
+    files: &'a [String],
+}
+
 fn merge<'a, D: Devices<'a>>(
     alloc: Global,
     devices: &D,
-    target: &'a str,
-    fan: Option<usize>,
-    caps: &Caps,
-    is_stripped: bool,
-    files: &'a [String],
+    job: &MergeJob<'a>,
 ) -> Result<Report, AllocError>
-    requires files { 1 ≤ length files.now }
-    requires fan { IfSome fan (λ fan. 2 ≤ fan) }
+    requires files { 1 ≤ length job.now.files.now }
+    requires fan { IfSome job.now.fan (λ fan. 2 ≤ fan) }
     ensures { IfOk result (HasMerged (D.is_input devices.now) (D.is_output devices.now)
         (D.is_standard devices.now) D.is_closed D.Input.reports D.Input.to_come D.Input.has_failed
-        D.Output.reports D.Output.taken D.Output.has_failed target.now fan caps.now is_stripped
-        (map string_bytes files.now)) }
+        D.Output.reports D.Output.taken D.Output.has_failed job.now.target.now job.now.fan
+        job.now.caps.now job.now.is_stripped (map string_bytes job.now.files.now)) }
 {
-    let plan = fan_plan(alloc, files.len(), fan)?;
-    let texts = texts(alloc, files)?;
+    let plan = fan_plan(alloc, job.files.len(), job.fan)?;
+    let texts = texts(alloc, job.files)?;
     let names = texts.as_slice();
     let mut inputs = inputs_of(alloc, devices, names)?;
-    let mut out = devices.output(target);
-    let outcome = done(merge_or_strip_run(
-        alloc,
-        inputs.as_mut_slice(),
-        &plan,
-        caps,
-        is_stripped,
-        &mut out,
-    ));
+    let mut out = devices.output(job.target);
+    let options = MergeOptions {
+        plan: &plan,
+        caps: job.caps,
+        is_stripped: job.is_stripped,
+    };
+    let outcome = done(merge_or_strip_run(alloc, inputs.as_mut_slice(), &options, &mut out));
     let is_closed = devices.close(out);
-    report_of(alloc, outcome, names, target, is_closed)
+    report_of(alloc, outcome, names, job.target, is_closed)
 }
 
 fn count<'a, D: Devices<'a>>(
@@ -180,15 +186,16 @@ pub fn run_job<'a, D: Devices<'a>>(
         Job::Check(files) => check(alloc, devices, files.as_slice()),
         Job::Dump(file) => dump(alloc, devices, file.as_str()),
         Job::Normalise(file, out) => normalise(alloc, devices, file.as_str(), out.as_str()),
-        Job::Merge(out, fan, caps, is_stripped, files) => merge(
-            alloc,
-            devices,
-            out.as_str(),
-            *fan,
-            caps,
-            *is_stripped,
-            files.as_slice(),
-        ),
+        Job::Merge(out, fan, caps, is_stripped, files) => {
+            let merge_job = MergeJob {
+                target: out.as_str(),
+                fan: *fan,
+                caps,
+                is_stripped: *is_stripped,
+                files: files.as_slice(),
+            };
+            merge(alloc, devices, &merge_job)
+        }
         Job::KeepChecking(files) => run_over_each(alloc, devices, Task::Check, files.as_slice()),
         Job::Digest(files) => run_over_each(alloc, devices, Task::Digest, files.as_slice()),
         Job::Count(files) => count(alloc, devices, files.as_slice()),

@@ -3,6 +3,7 @@
 ghost use Rattle.std.specs.Prelude.{◌≡◌, ◌++◌, [], length, map, max, OnOk, IfOk, IfErr, string_bytes};
 ghost use Rattle.dexruns.specs.Lines.{HasName, exit_status};
 ghost use Rattle.dexcmd.specs.Reports.{IsReport, is_reported, fault_lines, outcome_status, outcome_lines, done};
+ghost use Rattle.dexcmd.specs.internal.RunDevices.{input_names};
 
 use dexruns::{ExitStatus, RunFault, explain};
 use std::alloc::{AllocError, Global};
@@ -47,56 +48,63 @@ fn is_reported(fault: &RunFault, is_closed: bool) -> bool
     }
 }
 
-// Adds a fault to a report.
+/// The devices of a run, as the lines of its faults name them.
+#[derive(Clone, Copy)]
+pub(crate) struct RunDevices<'n> {
+    /// The names of the inputs.
+    pub(crate) inputs: &'n [&'n str],
+    /// The name of the output.
+    pub(crate) out: &'n str,
+    /// Whether the output's reader has gone away.
+    pub(crate) is_closed: bool,
+}
+
+// Adds a fault of a run to a report.
 fn add_fault(
     alloc: Global,
     report: &mut Report,
     fault: &RunFault,
-    names: &[&str],
-    out: &str,
-    is_closed: bool,
+    run: &RunDevices<'_>,
 ) -> Result<(), AllocError>
-    requires { HasName (length names.now) fault.now }
+    requires { HasName (length run.now.inputs.now) fault.now }
     ensures status { OnOk result (report.new.status
         ≡ max report.old.status (exit_status fault.now)) }
     ensures lines { OnOk result
         (map string_bytes report.new.lines.items ≡ map string_bytes report.old.lines.items
-        ++ fault_lines (map (λ name. name.now) names.now) out.now is_closed fault.now) }
+        ++ fault_lines (input_names run.now) run.now.out.now run.now.is_closed fault.now) }
 {
-    let (status, line) = explain(alloc, fault, names, out)?;
+    let (status, line) = explain(alloc, fault, run.inputs, run.out)?;
     report.status = report.status.max(status);
-    if is_reported(fault, is_closed) {
+    if is_reported(fault, run.is_closed) {
         report.lines.push(line)?;
     }
     Ok(())
 }
 
-// Adds the outcome of a run to a report. `names` are the names of its inputs, and `out` is that of its output.
+/// Adds the outcome of a run to a report.
 pub(crate) fn add_outcome(
     alloc: Global,
     report: &mut Report,
     outcome: Result<u8, RunFault>,
-    names: &[&str],
-    out: &str,
-    is_closed: bool,
+    run: &RunDevices<'_>,
 ) -> Result<(), AllocError>
-    requires { IfErr outcome (HasName (length names.now)) }
+    requires { IfErr outcome (HasName (length run.now.inputs.now)) }
     ensures status { OnOk result (report.new.status
         ≡ max report.old.status (outcome_status outcome)) }
     ensures lines { OnOk result
         (map string_bytes report.new.lines.items ≡ map string_bytes report.old.lines.items
-        ++ outcome_lines (map (λ name. name.now) names.now) out.now is_closed outcome) }
+        ++ outcome_lines (input_names run.now) run.now.out.now run.now.is_closed outcome) }
 {
     match outcome {
         Ok(status) => {
             report.status = report.status.max(status);
             Ok(())
         }
-        Err(fault) => add_fault(alloc, report, &fault, names, out, is_closed),
+        Err(fault) => add_fault(alloc, report, &fault, run),
     }
 }
 
-// The report of the outcome of a run.
+/// The report of the outcome of a run. `names` are the names of its inputs, and `out` is that of its output.
 pub(crate) fn report_of(
     alloc: Global,
     outcome: Result<u8, RunFault>,
@@ -109,6 +117,11 @@ pub(crate) fn report_of(
         (outcome_lines (map (λ name. name.now) names.now) out.now is_closed outcome)) }
 {
     let mut report = empty_report(alloc);
-    add_outcome(alloc, &mut report, outcome, names, out, is_closed)?;
+    let run = RunDevices {
+        inputs: names,
+        out,
+        is_closed,
+    };
+    add_outcome(alloc, &mut report, outcome, &run)?;
     Ok(report)
 }

@@ -27,7 +27,7 @@ pub use explaining::explain;
 pub use fanning::fan_plan;
 pub use faults::{MergeCause, RunFault};
 pub use inputs::{InputFault, MOST_READ, read_whole};
-pub use merging::{merge_or_strip_run, merge_run, merge_strip_run};
+pub use merging::{MergeOptions, merge_or_strip_run, merge_run, merge_strip_run};
 pub use normalising::normalise_run;
 pub use repairing::repair_run;
 pub use status::ExitStatus;

@@ -123,6 +123,17 @@ fn kept<'a>(alloc: Global, whole: Program<'a>, is_stripped: bool) -> Result<Prog
     Ok(whole)
 }
 
+/// How inputs are merged.
+#[derive(Clone, Copy)]
+pub struct MergeOptions<'o> {
+    /// The plan by which they are merged.
+    pub plan: &'o Plan,
+    /// The caps on their union.
+    pub caps: &'o Caps,
+    /// Whether the union is written without its debug programs and source texts.
+    pub is_stripped: bool,
+}
+
 /// Does what [`merge_run`] does, or [`merge_strip_run`] if the union is to be stripped.
 ///
 /// Condition and errors: those of [`merge_run`], with the stripped file instead of the merged one if the union is
@@ -132,18 +143,16 @@ fn kept<'a>(alloc: Global, whole: Program<'a>, is_stripped: bool) -> Result<Prog
 pub fn merge_or_strip_run<R: Source, W: Sink>(
     alloc: Global,
     inputs: &mut [R],
-    plan: &Plan,
-    caps: &Caps,
-    is_stripped: bool,
+    options: &MergeOptions<'_>,
     out: &mut W,
 ) -> Result<(), RunFault>
     requires inputs { AllWork R.has_failed inputs.old }
     requires out { W.has_failed out.old ≡ false }
-    ensures merged { OnOk result
-        (IsMergedFile R.reports R.to_come inputs.old caps.now (plan_of plan.now) (kept is_stripped)
+    ensures merged { OnOk result (IsMergedFile R.reports R.to_come inputs.old options.now.caps.now
+        (plan_of options.now.plan.now) (kept options.now.is_stripped)
         (IsAppended (W.reports out.old) (W.taken out.old) (W.taken out.new))) }
-    ensures fault { IfErr result
-        (IsMergeFault R.reports R.to_come inputs.old caps.now (plan_of plan.now) (kept is_stripped)
+    ensures fault { IfErr result (IsMergeFault R.reports R.to_come inputs.old options.now.caps.now
+        (plan_of options.now.plan.now) (kept options.now.is_stripped)
         (IsPrefixAppended (W.reports out.old) (W.taken out.old) (W.taken out.new))) }
     ensures left { IfErr result (IsLeft out.old out.new) }
     ensures uncalled { IfErr result (AreUncalled inputs.old inputs.new) }
@@ -156,8 +165,9 @@ pub fn merge_or_strip_run<R: Source, W: Sink>(
     ensures devices { IfErr result (IsOfDevices R.has_failed inputs.new (W.has_failed out.new)) }
 {
     let mut files = places(alloc, inputs.len())?;
+    let (plan, caps) = (options.plan, options.caps);
     let whole = read_united(alloc, inputs, plan, caps, files.as_mut_slice())?;
-    let program = kept(alloc, whole, is_stripped)?;
+    let program = kept(alloc, whole, options.is_stripped)?;
     write_program(alloc, &program, out)
 }
 
@@ -199,7 +209,12 @@ pub fn merge_run<R: Source, W: Sink>(
     ensures writer { OnOk result (W.has_failed out.new ≡ false) }
     ensures devices { IfErr result (IsOfDevices R.has_failed inputs.new (W.has_failed out.new)) }
 {
-    merge_or_strip_run(alloc, inputs, plan, caps, false, out)
+    let whole = MergeOptions {
+        plan,
+        caps,
+        is_stripped: false,
+    };
+    merge_or_strip_run(alloc, inputs, &whole, out)
 }
 
 /// Writes the canonical file of the union of inputs without its debug programs and source texts, exactly where
@@ -234,5 +249,10 @@ pub fn merge_strip_run<R: Source, W: Sink>(
     ensures writer { OnOk result (W.has_failed out.new ≡ false) }
     ensures devices { IfErr result (IsOfDevices R.has_failed inputs.new (W.has_failed out.new)) }
 {
-    merge_or_strip_run(alloc, inputs, plan, caps, true, out)
+    let stripped = MergeOptions {
+        plan,
+        caps,
+        is_stripped: true,
+    };
+    merge_or_strip_run(alloc, inputs, &stripped, out)
 }

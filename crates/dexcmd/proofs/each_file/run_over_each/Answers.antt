@@ -1,6 +1,6 @@
 use Rattle.std.proofs.Common.{◌≡◌, true, false, arith, length, drop, map, sym, ◌∙◌, ◌+◌, ◌<◌, ◌≤◌, string_bytes}
 use Rattle.std.proofs.lemmas.List.{drop_all, length-map}
-use Rattle.dexcmd.specs.internal.EachFile.{goes_on, IsFileRun}
+use Rattle.dexcmd.specs.EachFile.{goes_on, IsFileRun}
 use Rattle.dexcmd.proofs.EachFile.{next_name, one_more, one_last, at_start, at_end}
 use Rattle.dexcmd.proofs.each_file.run_over_each.Goals as goal
 

@@ -1,5 +1,5 @@
 use Rattle.std.proofs.Common.{◌≡◌, false, drop, map, string_bytes}
-use Rattle.dexcmd.specs.internal.EachFile.{goes_on, IsFileRun}
+use Rattle.dexcmd.specs.EachFile.{goes_on, IsFileRun}
 use Rattle.dexcmd.proofs.EachFile.{IsSoFar}
 use Rattle.dexcmd.proofs.each_file.run_over_each.Given as goal
 

@@ -1,7 +1,7 @@
 use Rattle.std.proofs.Common.{◌≡◌, map, ap, ◌∙◌, length, arith, refl, string_bytes}
 use Rattle.std.proofs.lemmas.Result.{IfErr-weaker}
 use Rattle.dexcmd.specs.Reports.{standard_name}
-use Rattle.dexcmd.specs.internal.Ran.{IsCheckRun}
+use Rattle.dexcmd.specs.Ran.{IsCheckRun}
 use Rattle.dexcmd.proofs.Done.{check_named, has_run_over}
 use Rattle.dexcmd.proofs.jobs.check.Goals as goal
 

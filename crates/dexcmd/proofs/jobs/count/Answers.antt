@@ -1,7 +1,7 @@
 use Rattle.std.proofs.Common.{◌≡◌, map, ap, ◌∙◌, length, arith, string_bytes}
 use Rattle.dexruns.specs.Merges.{IsPrefixAppended}
 use Rattle.dexcmd.specs.Reports.{done, standard_name}
-use Rattle.dexcmd.specs.internal.Ran.{IsCountRun}
+use Rattle.dexcmd.specs.Ran.{IsCountRun}
 use Rattle.dexcmd.proofs.Done.{count_named, ended_named, has_run_over}
 use Rattle.dexcmd.proofs.jobs.count.Goals as goal
 

@@ -1,6 +1,6 @@
 use Rattle.dexruns.specs.Inputs.{bytes_read}
 use Rattle.dexcmd.specs.Reports.{standard_name}
-use Rattle.dexcmd.specs.internal.Ran.{IsDumpRun}
+use Rattle.dexcmd.specs.Ran.{IsDumpRun}
 use Rattle.dexcmd.proofs.Done.{input_named, ended_named, has_run}
 use Rattle.dexcmd.proofs.jobs.dump.Goals as goal
 

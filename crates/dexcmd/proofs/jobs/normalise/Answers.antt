@@ -1,5 +1,5 @@
 use Rattle.dexruns.specs.Inputs.{bytes_read}
-use Rattle.dexcmd.specs.internal.Ran.{IsNormaliseRun}
+use Rattle.dexcmd.specs.Ran.{IsNormaliseRun}
 use Rattle.dexcmd.proofs.Done.{input_named, ended_named, has_run}
 use Rattle.dexcmd.proofs.jobs.normalise.Goals as goal
 

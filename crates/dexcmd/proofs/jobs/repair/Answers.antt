@@ -1,6 +1,6 @@
 use Rattle.dexruns.specs.Inputs.{bytes_read}
 use Rattle.dexruns.specs.Repairs.{repaired}
-use Rattle.dexcmd.specs.internal.Ran.{IsRepairRun}
+use Rattle.dexcmd.specs.Ran.{IsRepairRun}
 use Rattle.dexcmd.proofs.Done.{input_named, ended_named, has_run}
 use Rattle.dexcmd.proofs.jobs.repair.Goals as goal
 

@@ -12,13 +12,13 @@ returns-in_err-files-clause-no_further g c = none_moved _ _ _ c.args.inputs.now
 pub returns-clause-merged : goal.returns-clause-merged
 returns-clause-merged g c =
     on_ok_weaker {P = IsAppended (g.W.Sink.reports c.args.out.now) (g.W.Sink.taken c.args.out.now) (g.W.Sink.taken c.write_program.new.out) (canonical c.in_ok-program.program)} c.write_program.result
-    (λ h. merged_by_writing g.R.Source.reports g.R.Source.to_come c.args.inputs.now c.args.caps.now (plan_of c.args.plan.now) (kept c.args.is_stripped) _ c.in_ok-whole.whole c.in_ok-program.program c.in_ok-whole.ensures.united c.in_ok-program.ensures c.write_program.ensures.read_back h)
+    (λ h. merged_by_writing g.R.Source.reports g.R.Source.to_come c.args.inputs.now c.args.options.now.caps.now (plan_of c.args.options.now.plan.now) (kept c.args.options.now.is_stripped) _ c.in_ok-whole.whole c.in_ok-program.program c.in_ok-whole.ensures.united c.in_ok-program.ensures c.write_program.ensures.read_back h)
     c.write_program.ensures.written
 
 pub returns-clause-fault : goal.returns-clause-fault
 returns-clause-fault g c =
     IfErr-weaker c.write_program.result (IsWriteFault g.W.Sink.reports g.W.Sink.taken c.args.out.now c.write_program.new.out (canonical c.in_ok-program.program)) _
-    (λ f h. fault_of_writing g.R.Source.reports g.R.Source.to_come c.args.inputs.now c.args.caps.now (plan_of c.args.plan.now) (kept c.args.is_stripped) g.W.Sink.reports g.W.Sink.taken c.args.out.now c.write_program.new.out
+    (λ f h. fault_of_writing g.R.Source.reports g.R.Source.to_come c.args.inputs.now c.args.options.now.caps.now (plan_of c.args.options.now.plan.now) (kept c.args.options.now.is_stripped) g.W.Sink.reports g.W.Sink.taken c.args.out.now c.write_program.new.out
     c.in_ok-whole.whole c.in_ok-program.program f c.in_ok-whole.ensures.united c.in_ok-program.ensures c.write_program.ensures.read_back h)
     c.write_program.ensures.fault
 

@@ -1,5 +1,5 @@
 -- The code of methods, method by method.
-use Rattle.std.proofs.Common.{◌≡◌, ℕ, ◌+◌, ◌<◌, ◌≤◌, List, ◌∷◌, ◌++◌, Bool, length, get_or, map, drop, Option, Some, None, ap, sym, ◌∙◌, arith, append_assoc}
+use Rattle.std.proofs.Common.{◌≡◌, ℕ, ◌+◌, ◌<◌, ◌≤◌, List, ◌∷◌, ◌++◌, length, get_or, map, drop, Option, Some, None, ap, sym, ◌∙◌, arith, append_assoc}
 use Rattle.std.specs.Option.{option_map, option_map_or}
 use Rattle.std.proofs.lemmas.List.{drop_more, get_or-map, get_or_default, length-map, map-append}
 use Rattle.dexspec.specs.Lists.{present, zip_with}
@@ -11,10 +11,8 @@ use Rattle.dexcode.specs.Numbered.{NumberedItem}
 use Rattle.dexcode.specs.Meaning.{code_in}
 use Rattle.dexmembers.specs.Numbered.{NumberedMethod, NumberedMembers, method_in, methods_of}
 use Rattle.dexclass.specs.Numbered.{NumberedClass}
-use Rattle.dexcanon.specs.declared.output.Out.{Out}
-use Rattle.dexcanon.specs.internal.Output.{Adds, FitFrom}
 use Rattle.dexcanon.specs.Codes.{code_use, code_item, class_methods, method_codes}
-use Rattle.dexcanon.proofs.Aligned.{Aligned, aligned_as, aligned_joined, prefix_fit}
+use Rattle.dexcanon.proofs.Aligned.{Aligned, aligned_as, aligned_join, prefix_ends}
 use Rattle.dexcanon.proofs.OwnUses.{uses_left, zip_with_at, length-zip_with_long, zip_with_append, some_left, none_left}
 
 module _ (m : Mentions) (xs : List NumberedMethod) (offs : List ℕ) where
@@ -66,17 +64,17 @@ codes_append m xs ys offs =
     ∙ ap (map (code_item m)) (present-append (zip_with code_use ms offs) (zip_with code_use ns (drop (length xs) offs)))
     ∙ map-append (code_item m) (present (zip_with code_use ms offs)) (present (zip_with code_use ns (drop (length xs) offs)))
 
-module _ {T : Type 0} {gives gives_prefix : List ℕ → T → T → Type 0} {has_failed : T → Bool} {limit : ℕ} {old new : Out T} {from at : ℕ} {all : List (List ℕ)} (m : Mentions) (xs ys : List NumberedMethod) (offs : List ℕ)
-    (h : Aligned gives gives_prefix has_failed limit old new 4 from all at (method_codes m (xs ++ ys) offs)) (fit : FitFrom limit from all) where
-  -- the code of the first is next, and fits
-  pub next_codes_fit : FitFrom limit at (method_codes m xs offs)
-  next_codes_fit = prefix_fit (method_codes m xs offs) (method_codes m ys (drop (length xs) offs)) h (codes_append m xs ys offs) fit
+module _ {O : Type 0} {gives : List ℕ → O → O → Type 0} {old new : O} {from at : ℕ} {all : List (List ℕ)} (m : Mentions) (xs ys : List NumberedMethod) (offs : List ℕ)
+    (h : Aligned gives old new 4 from all at (method_codes m (xs ++ ys) offs)) where
+  -- the code of the first is next, and ends before the last
+  pub next_codes_end : end_from 4 at (method_codes m xs offs) ≤ end_from 4 from all
+  next_codes_end = prefix_ends (method_codes m xs offs) (method_codes m ys (drop (length xs) offs)) h (codes_append m xs ys offs)
 
-  -- it was added, and that of the others is left
-  pub next_codes : {next : Out T} (end : ℕ) (others : List ℕ) → end ≡ end_from 4 at (method_codes m xs offs) → others ≡ drop (length xs) offs
-      → ((n : ℕ) → FitFrom n at (method_codes m xs offs) → Adds gives gives_prefix has_failed n new next (bytes_from 4 at (method_codes m xs offs))) → Aligned gives gives_prefix has_failed limit old next 4 from all end (method_codes m ys others)
-  next_codes end others is left adds =
-      aligned_as (method_codes m ys others) (ap (method_codes m ys) (sym left)) (aligned_joined (method_codes m xs offs) (method_codes m ys (drop (length xs) offs)) h (codes_append m xs ys offs) fit end is adds)
+  -- it was written, and that of the others is left
+  pub next_codes : (both : (x y : List ℕ) (a b c : O) → gives x a b → gives y b c → gives (x ++ y) a c) {next : O} (end : ℕ) (others : List ℕ) → end ≡ end_from 4 at (method_codes m xs offs) → others ≡ drop (length xs) offs
+      → gives (bytes_from 4 at (method_codes m xs offs)) new next → Aligned gives old next 4 from all end (method_codes m ys others)
+  next_codes both end others is left codes =
+      aligned_as (method_codes m ys others) (ap (method_codes m ys) (sym left)) (aligned_join (method_codes m xs offs) (method_codes m ys (drop (length xs) offs)) h (codes_append m xs ys offs) both end is codes)
 
 -- ---- the methods of the next class
 

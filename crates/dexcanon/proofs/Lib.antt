@@ -2,10 +2,8 @@ pub mod Aligned
 pub mod Buffered
 pub mod CodeItems
 pub mod Digested
-pub mod ItemLengths
 pub mod JoinedSums
 pub mod OwnUses
-pub mod Pieces
 pub mod Rows
 pub mod RowsOfClasses
 pub mod HeaderSums
@@ -16,4 +14,3 @@ pub mod Reported
 pub mod WholeBody
 pub mod WholeFile
 pub mod Finished
-pub mod Written

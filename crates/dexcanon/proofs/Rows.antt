@@ -1,5 +1,5 @@
 -- Items one after the other: what is left of them before and after the next.
-use Rattle.std.proofs.Common.{◌≡◌, ℕ, ◌+◌, ◌<◌, ◌≤◌, List, [], ◌∷◌, ◌++◌, length, get_or, map, drop, refl, sym, ap, ◌∙◌, append_assoc}
+use Rattle.std.proofs.Common.{◌≡◌, ℕ, ◌+◌, ◌<◌, ◌≤◌, List, [], ◌∷◌, ◌++◌, length, get_or, map, drop, refl, sym, ap, subst, ◌∙◌, append_assoc}
 use Rattle.std.specs.List.{flat_map, concat}
 use Rattle.std.proofs.lemmas.List.{drop_more, length-map}
 use Rattle.dexspec.specs.Bytes.{round_up, padding}
@@ -20,6 +20,12 @@ count_mapped f xs = length-map xs f
 pub concat_map : {X : Type 0} (f : X → List ℕ) (xs : List X) → concat (map f xs) ≡ flat_map f xs
 concat_map f [] = refl
 concat_map f (x ∷ xs) = ap (λ z. f x ++ z) (concat_map f xs)
+
+-- ---- parts that are written one after the other
+
+-- a part, otherwise put, and what follows it
+pub next_part : {O : Type 0} (gives : List ℕ → O → O → Type 0) (both : (x y : List ℕ) (a b c : O) → gives x a b → gives y b c → gives (x ++ y) a c) {x part rest : List ℕ} {a b c : O} → x ≡ part → gives x a b → gives rest b c → gives (part ++ rest) a c
+next_part gives both {part = part} {rest = rest} {a = a} {b = b} {c = c} e h more = both part rest a b c (subst (λ z. gives z a b) e h) more
 
 -- ---- aligned items
 

@@ -2,7 +2,7 @@
 use Rattle.std.proofs.Common.{◌≡◌, ℕ, ◌+◌, ◌<◌, ◌^◌, List, [], ◌++◌, length, get_or, get_or-drop, map, drop, Option, Some, None, refl, sym, ap, ◌∙◌, arith, zip}
 use Rattle.std.specs.Prelude.{All, IfSome, unwrap_or, option_to_list}
 use Rattle.std.specs.Option.{option_map, option_map_or}
-use Rattle.std.proofs.lemmas.List.{length-append, length-drop, get_or-map, length-map}
+use Rattle.std.proofs.lemmas.List.{length-drop, get_or-map, length-map}
 use Rattle.std.proofs.lemmas.List.Elements.{All-head, All-tail}
 use Rattle.dexspec.specs.Bytes.{uint}
 use Rattle.dexspec.specs.Classes.{no_index}
@@ -12,13 +12,12 @@ use Rattle.dexspec.specs.Placing.{uses_offsets}
 use Rattle.dexspec.specs.Canonical.{class_row_bytes, class_offsets, type_list_section, directory_section, class_data_section, array_section}
 use Rattle.dexspec.proofs.layout.Placements.{length-zip, length-type_list_offsets, length-array_offsets, length-class_data_offsets, length-directory_offsets}
 use Rattle.dexspec.proofs.layout.SectionPlaces.{get_or-zip}
-use Rattle.dexspec.proofs.numbers.ByteNumbers.{length-uint}
 use Rattle.dexpool.specs.Laws.{RanksAreNumbers}
+use Rattle.dexpool.proofs.Parts.{all_prefix}
 use Rattle.dexclass.specs.Numbered.{NumberedClass, definition_of, text_at, type_at}
 use Rattle.dexclass.specs.Uses.{IsKnownClass}
 use Rattle.dexlayout.specs.Laid.{ordered_of}
 use Rattle.dexcanon.specs.internal.ClassRows.{class_row, no_offsets, rows_with, row_offsets}
-use Rattle.dexcanon.proofs.Aligned.{all_prefix}
 use Rattle.dexcanon.proofs.OwnUses.{zip_with_at, length-zip_with}
 
 -- ---- numbers
@@ -119,6 +118,3 @@ module _ (m : Mentions) (cs : List NumberedClass) where
       zip_with_at (class_row_bytes m) (map (definition_of m) cs) (class_offsets (ordered_of m cs)) r (definition_of m c) no_offsets [] (omega (arith, lt, length-map cs (definition_of m))) (omega (arith, lt, count_class_offsets))
       ∙ ap (λ z. class_row_bytes m z (get_or (class_offsets (ordered_of m cs)) r no_offsets)) (get_or-map (definition_of m) cs r c (definition_of m c) lt ∙ ap (definition_of m) (sym is))
       ∙ row_is m c h ranks (get_or (class_offsets (ordered_of m cs)) r no_offsets)
-
-pub length_row : (c : NumberedClass) (offs : ℕ × ℕ × ℕ × ℕ) → length (class_row c offs) ≡ 32
-length_row c offs = omega (arith, length-append {A = ℕ}, length-uint)

@@ -1,52 +1,24 @@
 -- The items of each section, of a file that is laid out.
-use Rattle.std.proofs.Common.{◌≡◌, ℕ, ◌≤◌, ◌^◌, List, [], ◌∷◌, ◌++◌, length, map, refl, sym, ap, subst, ◌∙◌, arith}
+use Rattle.std.proofs.Common.{◌≡◌, ℕ, ◌≤◌, ◌^◌, List, [], ◌∷◌, ◌++◌, length, map, refl, sym, ap, subst, ◌∙◌}
 use Rattle.std.specs.List.{concat}
 use Rattle.std.proofs.lemmas.List.{length-map, map-append}
-use Rattle.std.proofs.lemmas.List.Elements.{All-nil, All-cons}
 use Rattle.dexspec.specs.Lists.{present, zip_with}
 use Rattle.dexspec.specs.Mentions.{Mentions}
 use Rattle.dexspec.specs.Classes.{MethodDef}
-use Rattle.dexspec.specs.Placing.{Ordered, Placed, all_methods, code_uses, debug_uses, EqualOnce, offsets, end_from, bytes_from, section_bytes, end, uses_offsets}
+use Rattle.dexspec.specs.Placing.{Ordered, all_methods, code_uses, debug_uses, EqualOnce, offsets, end_from, bytes_from, section_bytes, end, uses_offsets}
 use Rattle.dexspec.specs.Sameness.{same_debug}
 use Rattle.dexspec.specs.Texts.{string_data}
-use Rattle.dexspec.specs.Canonical.{debug_section, data_sections, array_section, string_section, code_section}
+use Rattle.dexspec.specs.Canonical.{debug_section, array_section, string_section, code_section}
 use Rattle.dexspec.proofs.layout.Placements.{length-items_offsets}
 use Rattle.dexmembers.specs.Numbered.{method_in, methods_of}
 use Rattle.dexclass.specs.Numbered.{NumberedClass, definition_of}
 use Rattle.dexlayout.specs.Places.{Places, ItemPlaces}
-use Rattle.dexlayout.specs.Laid.{ordered_of, greatest_of, greatest_in, file_end}
+use Rattle.dexlayout.specs.Laid.{ordered_of, file_end}
 use Rattle.dexlayout.proofs.EncodedItems.{bytes_plain}
 use Rattle.dexlayout.proofs.Ends.{end_in_file}
-use Rattle.dexcanon.specs.internal.Output.{AreWithin, FitFrom}
 use Rattle.dexcanon.specs.internal.Ready.{IsReady}
 use Rattle.dexcanon.proofs.Rows.{concat_map}
 use Rattle.dexcanon.specs.Codes.{class_methods, method_codes, code_use, code_item}
-
--- ---- no item is longer than the limit
-
-pub all_within : (limit : ℕ) (xs : List (List ℕ)) → greatest_of xs ≤ limit → AreWithin limit xs
-all_within limit [] le = All-nil (λ x. length x ≤ limit)
-all_within limit (x ∷ xs) le = All-cons (λ x. length x ≤ limit) x xs (omega (arith, le)) (all_within limit xs (omega (arith, le)))
-
--- of any of the sections
-abbrev AllWithin : ℕ → List Placed → Type 0
-AllWithin limit [] = Unit {0}
-AllWithin limit (p ∷ ps) = AreWithin limit p.items × AllWithin limit ps
-
-sections_within : (limit : ℕ) (ps : List Placed) → greatest_in ps ≤ limit → AllWithin limit ps
-sections_within limit [] le = tt
-sections_within limit (p ∷ ps) le = (all_within limit p.items (omega (arith, le)), sections_within limit ps (omega (arith, le)))
-
-module _ {m : Mentions} {cs : List NumberedClass} {p : Places} {limit : ℕ} (h : IsReady m cs p limit) where
-  data_within : AllWithin limit (data_sections (ordered_of m cs))
-  data_within = sections_within limit (data_sections (ordered_of m cs)) (omega (arith, h.greatest, h.laid.greatest_is))
-
-  pub strings_within : AreWithin limit (map string_data m.texts)
-  unfolding string_section
-  strings_within = data_within.1.1.1.0
-
-  pub codes_within : AreWithin limit (code_section (ordered_of m cs)).items
-  codes_within = data_within.1.1.1.1.1.0
 
 -- the data of the texts is their section
 pub string_bytes : (m : Mentions) (cs : List NumberedClass) → concat (map string_data m.texts) ≡ section_bytes (string_section (ordered_of m cs))
@@ -85,7 +57,7 @@ codes_fit K fits = (end_in_file K fits).codes
 
 -- ---- the code of the classes, from the layout's offsets of debug programs
 
-module _ {m : Mentions} {cs : List NumberedClass} {p : Places} {limit : ℕ} (h : IsReady m cs p limit) {q : ItemPlaces} {offs : List ℕ} {at : ℕ} (places : q ≡ p.debugs.places) (offs_are : offs ≡ q.offsets) (at_is : at ≡ q.end) where
+module _ {m : Mentions} {cs : List NumberedClass} {p : Places} (h : IsReady m cs p) {q : ItemPlaces} {offs : List ℕ} {at : ℕ} (places : q ≡ p.debugs.places) (offs_are : offs ≡ q.offsets) (at_is : at ≡ q.end) where
   laid_offsets : offs ≡ uses_offsets (debug_section (ordered_of m cs))
   laid_offsets = offs_are ∙ ap (λ (d : ItemPlaces). d.offsets) places ∙ h.laid.debugs_are.places_are.offsets_are
 
@@ -100,12 +72,8 @@ module _ {m : Mentions} {cs : List NumberedClass} {p : Places} {limit : ℕ} (h 
   pub laid_codes_count : length offs ≡ length (class_methods cs)
   laid_codes_count = ap (λ (os : List ℕ). length os) laid_offsets ∙ count_debug_offsets m cs
 
-  pub laid_codes_fit : FitFrom limit at (method_codes m (class_methods cs) offs)
-  laid_codes_fit = subst (λ n. FitFrom limit n (method_codes m (class_methods cs) offs)) (sym laid_end) (subst (FitFrom limit (end (debug_section (ordered_of m cs)))) (sym laid_codes) (record {
-    least = h.least;
-    within = codes_within h;
-    ends = codes_fit (ordered_of m cs) h.writable.fits;
-  }))
+  pub laid_codes_fit : end_from 4 at (method_codes m (class_methods cs) offs) ≤ 2 ^ 30
+  laid_codes_fit = subst (λ n. end_from 4 n (method_codes m (class_methods cs) offs) ≤ 2 ^ 30) (sym laid_end) (subst (λ xs. end_from 4 (end (debug_section (ordered_of m cs))) xs ≤ 2 ^ 30) (sym laid_codes) (codes_fit (ordered_of m cs) h.writable.fits))
 
   pub laid_codes_bytes : bytes_from 4 at (method_codes m (class_methods cs) offs) ≡ section_bytes (code_section (ordered_of m cs))
   unfolding code_section

@@ -1,5 +1,5 @@
 -- What follows the header, part by part.
-use Rattle.std.proofs.Common.{◌≡◌, ℕ, ◌+◌, ◌<◌, ◌≤◌, ◌^◌, List, ◌++◌, length, ap, ◌∙◌, arith}
+use Rattle.std.proofs.Common.{◌≡◌, ℕ, ◌+◌, ◌<◌, ◌^◌, List, ◌++◌, length, ap, ◌∙◌, arith}
 use Rattle.dexspec.specs.Lists.{zip_with}
 use Rattle.dexspec.specs.Bytes.{padding, round_up}
 use Rattle.dexspec.specs.Mentions.{Mentions}
@@ -9,10 +9,8 @@ use Rattle.dexspec.proofs.layout.Placements.{length-type_list_offsets}
 use Rattle.dexclass.specs.Numbered.{NumberedClass}
 use Rattle.dexspec.specs.Sections.{Section}
 use Rattle.dexhead.specs.Laid.{map_start, map_list}
-use Rattle.dexlayout.specs.Places.{Places}
 use Rattle.dexlayout.specs.Laid.{ordered_of, AreWritable}
 use Rattle.dexlayout.proofs.Ends.{end_in_file}
-use Rattle.dexcanon.specs.internal.Ready.{IsReady}
 use Rattle.dexcanon.proofs.OwnUses.{length-zip_with_long}
 
 module _ (m : Mentions) (cs : List NumberedClass) where
@@ -38,9 +36,3 @@ module _ (m : Mentions) (cs : List NumberedClass) where
       let start : round_up 4 last ≡ map_start K = ap (round_up 4) e in
       let list : length (map_bytes es) ≡ length (map_list K) = ap (λ z. length (map_bytes z)) f in
       omega (arith, start, list, w.fits)
-
-  -- it is an item like the others
-  pub map_within : {p : Places} {limit : ℕ} (es : List (Section × ℕ × ℕ)) → IsReady m cs p limit → es ≡ map_of (ordered_of m cs) (map_start (ordered_of m cs)) → length (map_bytes es) ≤ limit
-  map_within es h f =
-      let list : length (map_bytes es) ≡ length (map_list (ordered_of m cs)) = ap (λ z. length (map_bytes z)) f in
-      omega (arith, list, h.laid.greatest_is, h.greatest)

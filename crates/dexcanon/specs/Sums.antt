@@ -1,4 +1,4 @@
--- Sums that take bytes, and a target that takes none.
+-- Sums that take bytes.
 use Rattle.std.proofs.Common.{◌≡◌, ℕ, List, [], ◌++◌, sym, subst, ◌∙◌, append_assoc, ap, refl}
 use Rattle.std.proofs.lemmas.List.{append-nil}
 use Rattle.std.proofs.lemmas.Grind.{fold-append}
@@ -25,7 +25,3 @@ summed_nothing a = refl
 
 pub summed_both : (x y : List ℕ) (a b c : ℕ × ℕ) → Summed x a b → Summed y b c → Summed (x ++ y) a c
 summed_both x y a b c h g = g ∙ ap (λ s. adler_sums s y) h ∙ sym (fold-append adler_step a x y)
-
--- nothing twice is nothing
-pub kept_both : (x y : List ℕ) → x ≡ [] → y ≡ [] → x ++ y ≡ []
-kept_both x y e f = ap (λ z. z ++ y) e ∙ f

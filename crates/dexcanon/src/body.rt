@@ -3,55 +3,54 @@
 //! Source: the heading "Overall file layout" of the Android page "Dalvik Executable format".
 
 ghost use Rattle.dexcanon.specs.internal.Ready.{CanBeMade};
-ghost use Rattle.dexcanon.specs.internal.Adding.{AddsPart, tables_of, data_of, after_header_of};
+ghost use Rattle.dexcanon.specs.internal.Adding.{tables_of, data_of, after_header_of};
 
 use crate::class_defs::ClassDefs;
-use crate::codes::put_codes;
+use crate::codes::encode_codes;
 use crate::contents::Contents;
-use crate::item_lists::put_list;
-use crate::map::put_map;
-use crate::output::{Out, Target};
+use crate::item_lists::encode_list;
+use crate::map::encode_map;
 use crate::strings::StringDataItems;
 use crate::tables::{FieldIds, MethodIds, ProtoIds, StringIds, TypeIds};
+use dexhead::Output;
 
-// The rows of the tables.
-fn put_tables<T: Target>(contents: &Contents<'_, '_, '_>, out: &mut Out<T>)
+// Writes the rows of the tables.
+fn encode_tables<O: Output>(contents: &Contents<'_, '_, '_>, out: &mut O)
     requires { CanBeMade contents.now }
-    ensures { AddsPart T.gives T.gives_prefix T.has_failed contents.now out.old out.new tables_of }
+    ensures { O.gives (tables_of contents.now) out.old out.new }
 {
-    put_list::<StringIds, T>(contents, out);
-    put_list::<TypeIds, T>(contents, out);
-    put_list::<ProtoIds, T>(contents, out);
-    put_list::<FieldIds, T>(contents, out);
-    put_list::<MethodIds, T>(contents, out);
-    put_list::<ClassDefs, T>(contents, out);
+    encode_list::<StringIds, O>(contents, out);
+    encode_list::<TypeIds, O>(contents, out);
+    encode_list::<ProtoIds, O>(contents, out);
+    encode_list::<FieldIds, O>(contents, out);
+    encode_list::<MethodIds, O>(contents, out);
+    encode_list::<ClassDefs, O>(contents, out);
 }
 
-// The sections of the data. All but the texts and the code are encoded in the layout.
-fn put_data<T: Target>(contents: &Contents<'_, '_, '_>, out: &mut Out<T>)
+// Writes the sections of the data. All but the texts and the code are encoded in the layout.
+fn encode_data<O: Output>(contents: &Contents<'_, '_, '_>, out: &mut O)
     requires { CanBeMade contents.now }
-    ensures { AddsPart T.gives T.gives_prefix T.has_failed contents.now out.old out.new data_of }
+    ensures { O.gives (data_of contents.now) out.old out.new }
 {
     let layout = contents.layout;
-    out.put_bytes(layout.type_lists().bytes());
-    out.put_bytes(layout.annotations().bytes());
-    out.put_bytes(layout.static_values().bytes());
-    put_list::<StringDataItems, T>(contents, out);
-    out.put_bytes(layout.debugs().bytes());
-    put_codes(contents, out);
-    out.put_bytes(layout.class_data().bytes());
-    out.put_bytes(layout.sets().written().bytes());
-    out.put_bytes(layout.ref_lists().bytes());
-    out.put_bytes(layout.directories().bytes());
+    out.bytes(layout.type_lists().bytes());
+    out.bytes(layout.annotations().bytes());
+    out.bytes(layout.static_values().bytes());
+    encode_list::<StringDataItems, O>(contents, out);
+    out.bytes(layout.debugs().bytes());
+    encode_codes(contents, out);
+    out.bytes(layout.class_data().bytes());
+    out.bytes(layout.sets().written().bytes());
+    out.bytes(layout.ref_lists().bytes());
+    out.bytes(layout.directories().bytes());
 }
 
-/// All that follows the header: the rows of the tables, the sections of the data, and the map.
-pub(crate) fn put_body<T: Target>(contents: &Contents<'_, '_, '_>, out: &mut Out<T>)
+/// Writes all that follows the header: the rows of the tables, the sections of the data, and the map.
+pub(crate) fn encode_body<O: Output>(contents: &Contents<'_, '_, '_>, out: &mut O)
     requires { CanBeMade contents.now }
-    ensures { AddsPart T.gives T.gives_prefix T.has_failed contents.now out.old
-        out.new after_header_of }
+    ensures { O.gives (after_header_of contents.now) out.old out.new }
 {
-    put_tables(contents, out);
-    put_data(contents, out);
-    put_map(contents, out);
+    encode_tables(contents, out);
+    encode_data(contents, out);
+    encode_map(contents, out);
 }

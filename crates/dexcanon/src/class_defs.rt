@@ -13,9 +13,9 @@ ghost use Rattle.dexcanon.specs.internal.Adding.{class_rows, offsets_of};
 
 use crate::contents::Contents;
 use crate::item_lists::ItemList;
-use crate::items::Numbers;
-use crate::output::{Out, Target};
+use crate::items::encode_numbers;
 use dexclass::Class;
+use dexhead::Output;
 use dexpool::SymbolKind;
 
 // The offsets of what a class contains, each 0 where it has none: interfaces, annotations directory, class data and
@@ -93,11 +93,11 @@ impl ItemList for ClassDefs {
         contents.classes.len()
     }
 
-    fn put_item<T: Target>(contents: &Contents<'_, '_, '_>, i: usize, out: &mut Out<T>) {
+    fn encode_item<O: Output>(contents: &Contents<'_, '_, '_>, i: usize, out: &mut O) {
         let classes = contents.classes;
         let class = &classes[i];
         let offsets = ClassOffsets::of(contents, i);
         let row = row_of(class, &offsets);
-        out.put(&Numbers(&row));
+        encode_numbers(&row, out);
     }
 }

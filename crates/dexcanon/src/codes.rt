@@ -2,70 +2,68 @@
 //!
 //! Source: the heading "code_item" of the Android page "Dalvik Executable format".
 
-ghost use Rattle.std.specs.Prelude.{◌≡◌, ℕ, ◌≤◌, length, drop, All};
-ghost use Rattle.dexspec.specs.Spellings.{code_bytes};
-ghost use Rattle.dexspec.specs.Placing.{end_from};
+ghost use Rattle.std.specs.Prelude.{◌≡◌, ◌+◌, ◌^◌, ◌<◌, ◌≤◌, ◌++◌, length, drop, All};
+ghost use Rattle.dexspec.specs.Bytes.{padding, round_up};
+ghost use Rattle.dexspec.specs.Placing.{bytes_from, end_from};
 ghost use Rattle.dexspec.specs.Canonical.{code_section};
-ghost use Rattle.dexcode.specs.Meaning.{code_in};
 ghost use Rattle.dexmembers.specs.Numbered.{IsKnownMethod};
 ghost use Rattle.dexcanon.specs.Codes.{IsFitCode, method_codes};
 ghost use Rattle.dexcanon.specs.internal.Ready.{CanBeMade};
-ghost use Rattle.dexcanon.specs.internal.Adding.{AddsSection, AddsFrom};
-ghost use Rattle.dexcanon.specs.internal.Output.{FitFrom};
+ghost use Rattle.dexcanon.specs.internal.Adding.{code_bytes_in, section_of};
 
 use crate::contents::Contents;
-use crate::items::Item;
-use crate::output::{Out, Target};
-use dexcode::{Code, code_meaning_law, code_types_law, put_code};
+use crate::items::encode_padding;
+use dexcode::{Code, CodeItem, code_bytes_law, code_meaning_law, code_types_law};
+use dexhead::{Encode, Output};
 use dexmembers::Methods;
 use dexpool::Numbering;
-use std::alloc::AllocError;
 
-/// A code_item, with the offset of its debug program.
-#[derive(Drop)]
-pub(crate) struct CodeItem<'a, 'n> {
-    pub(crate) numbering: &'a Numbering<'n>,
-    pub(crate) code: &'a Code<'a>,
-    pub(crate) debug_off: u32,
+// Writes a code_item, aligned after an offset, with the offset of its debug program. Returns where it ends.
+fn encode_code<O: Output>(
+    numbering: &Numbering<'_>,
+    code: &Code<'_>,
+    debug_off: u32,
+    at: u32,
+    out: &mut O,
+) -> u32
+    requires fits { IsFitCode numbering.now code.now }
+    requires small { round_up 4 at + length (code_bytes_in numbering.now code.now debug_off)
+        < 2 ^ 31 }
+    ensures end { result
+        ≡ round_up 4 at + length (code_bytes_in numbering.now code.now debug_off) }
+    ensures bytes { O.gives
+        (padding 4 at ++ code_bytes_in numbering.now code.now debug_off) out.old out.new }
+{
+    numbering.is_numbering();
+    code_meaning_law();
+    code_types_law();
+    code_bytes_law();
+    let item = CodeItem { code, debug_off };
+    encode_padding(at, out);
+    item.encode(out);
+    let len = code.item_len() as u32;
+    (at + 3) / 4 * 4 + len
 }
 
-impl Item for CodeItem<'_, '_> {
-    ghost bytes = { λ c. code_bytes c.numbering.now c.debug_off (code_in c.numbering.now c.code.now) };
-
-    ghost fits = { λ c. IsFitCode c.numbering.now c.code.now };
-
-    fn len(&self) -> usize {
-        self.numbering.is_numbering();
-        code_meaning_law();
-        self.code.item_len()
-    }
-
-    fn put(&self, out: &mut Vec<u8>) -> Result<(), AllocError> {
-        code_meaning_law();
-        code_types_law();
-        put_code(self.code, self.debug_off, self.numbering, out)
-    }
-}
-
-// The code of methods, from a place on, with the offset of the debug program of each. Returns where it ends, and the
-// offsets after those of the methods.
-fn put_method_codes<'a, T: Target>(
+// Writes the code of methods, from an offset on, with the offset of the debug program of each. Returns where it ends,
+// and the offsets after those of the methods.
+fn encode_method_codes<'a, O: Output>(
     numbering: &Numbering<'_>,
     methods: &Methods<'_, '_>,
     debug_offs: &'a [u32],
     from: u32,
-    out: &mut Out<T>,
+    out: &mut O,
 ) -> (u32, &'a [u32])
     requires known { All (IsKnownMethod numbering.now) methods.now }
     requires types { length numbering.now.types ≤ 65536 }
     requires offsets { length methods.now ≤ length debug_offs.now }
-    requires fit { (limit : ℕ)
-        × FitFrom limit from (method_codes numbering.now methods.now debug_offs.now) }
+    requires small { end_from 4 from (method_codes numbering.now methods.now debug_offs.now)
+        ≤ 2 ^ 30 }
     ensures end { result.0
         ≡ end_from 4 from (method_codes numbering.now methods.now debug_offs.now) }
     ensures others { result.1.now ≡ drop (length methods.now) debug_offs.now }
-    ensures adds { AddsFrom T.gives T.gives_prefix T.has_failed out.old out.new from
-        (method_codes numbering.now methods.now debug_offs.now) }
+    ensures bytes { O.gives
+        (bytes_from 4 from (method_codes numbering.now methods.now debug_offs.now)) out.old out.new }
 {
     let mut at = from;
     for i in 0..methods.len() {
@@ -73,23 +71,16 @@ fn put_method_codes<'a, T: Target>(
             Some(code) => code,
             None => continue,
         };
-        let debug_off = debug_offs[i];
-        let item = CodeItem {
-            numbering,
-            code,
-            debug_off,
-        };
-        at = out.put_aligned(&item, at);
+        at = encode_code(numbering, code, debug_offs[i], at, out);
     }
     let (_, others) = debug_offs.split_at(methods.len());
     (at, others)
 }
 
-/// The code of the methods of the classes, the direct ones of each first.
-pub(crate) fn put_codes<T: Target>(contents: &Contents<'_, '_, '_>, out: &mut Out<T>)
+/// Writes the code of the methods of the classes, the direct ones of each first.
+pub(crate) fn encode_codes<O: Output>(contents: &Contents<'_, '_, '_>, out: &mut O)
     requires { CanBeMade contents.now }
-    ensures { AddsSection T.gives T.gives_prefix T.has_failed contents.now out.old out.new
-        code_section }
+    ensures { O.gives (section_of contents.now code_section) out.old out.new }
 {
     let numbering = contents.numbering;
     let places = contents.layout.debugs().places();
@@ -99,7 +90,7 @@ pub(crate) fn put_codes<T: Target>(contents: &Contents<'_, '_, '_>, out: &mut Ou
         let members = class.members();
         let direct = members.direct_methods();
         let virtuals = members.virtual_methods();
-        let (end, others) = put_method_codes(numbering, &direct, rest, at, out);
-        (at, rest) = put_method_codes(numbering, &virtuals, others, end, out);
+        let (end, others) = encode_method_codes(numbering, &direct, rest, at, out);
+        (at, rest) = encode_method_codes(numbering, &virtuals, others, end, out);
     }
 }

@@ -9,29 +9,26 @@ use dexclass::{Class, Program};
 use dexlayout::Layout;
 use dexpool::Numbering;
 
-/// What a file is made of: its classes by number, the offsets of everything, and a length that no item exceeds.
+/// What a file is made of: its classes by number, and the offsets of everything.
 #[derive(Clone, Copy)]
 pub(crate) struct Contents<'a, 'n, 'c> {
     pub(crate) numbering: &'a Numbering<'n>,
     pub(crate) classes: &'a [Class<'c>],
     pub(crate) layout: &'a Layout,
-    pub(crate) limit: usize,
 }
 
 impl<'a, 'p> Contents<'a, 'p, 'p> {
-    /// What the canonical file of a program is made of, with the program's layout. No item is longer than the longest.
+    /// What the canonical file of a program is made of, with the program's layout.
     pub(crate) fn of(program: &'a Program<'p>, layout: &'a Layout) -> Contents<'a, 'p, 'p>
         requires laid { IsLayoutOf program.now layout.now }
         requires writable { IsWritable program.now }
         ensures ready { CanBeMade result }
         ensures whole { with_sums (unsigned_file (ordered_in result)) ≡ canonical program.now }
     {
-        let limit = layout.greatest();
         Contents {
             numbering: program.numbering(),
             classes: program.classes(),
             layout,
-            limit,
         }
     }
 }

@@ -67,14 +67,14 @@ fn signature(alloc: Global, program: &Program<'_>) -> Result<[u8; 20], AllocErro
 {
     let layout = Layout::of(alloc, program)?;
     let contents = Contents::of(program, &layout);
-    let buffer = Vec::with_capacity(alloc, contents.limit.max(PIECE))?;
+    let buffer = Vec::with_capacity(alloc, PIECE)?;
     Ok(signed(&contents, buffer))
 }
 
 // The signature of the file of its contents, which is made in a buffer with room.
 fn signed(contents: &Contents<'_, '_, '_>, buffer: Vec<u8>) -> [u8; 20]
     requires ready { CanBeMade contents.now }
-    requires room { contents.now.limit ≤ vec_capacity buffer }
+    requires room { 112 ≤ vec_capacity buffer }
     requires empty { vec_len buffer ≡ 0 }
     ensures { result ≡ take 20 (drop 12 (with_sums (unsigned_file (ordered_in contents.now)))) }
 {

@@ -1,11 +1,12 @@
 //! A file from a place in its header on.
 
-ghost use Rattle.std.specs.Prelude.{◌≡◌, ◌≤◌, None, false, drop, vec_len, vec_capacity};
+ghost use Rattle.std.specs.Prelude.{◌≡◌, ◌≤◌, false, drop, vec_len, vec_capacity};
 ghost use Rattle.dexhead.specs.Written.{head_bytes};
 ghost use Rattle.dexcanon.specs.internal.Ready.{CanBeMade};
-ghost use Rattle.dexcanon.specs.internal.Adding.{AddsPart, after_header_of, signed_of};
+ghost use Rattle.dexcanon.specs.internal.Adding.{after_header_of, signed_of};
+ghost use Rattle.dexcanon.specs.internal.Output.{Adds};
 
-use crate::body::put_body;
+use crate::body::encode_body;
 use crate::contents::Contents;
 use crate::output::{Out, Target};
 use dexhead::Head;
@@ -25,11 +26,11 @@ pub(crate) fn put_head(head: &Head, from: usize, buffer: &mut Vec<u8>)
 /// Writes all that follows the header of a file, and flushes it.
 pub(crate) fn write_body<T: Target>(contents: &Contents<'_, '_, '_>, out: &mut Out<T>)
     requires { CanBeMade contents.now }
-    ensures adds { AddsPart T.gives T.gives_prefix T.has_failed contents.now out.old out.new
-        after_header_of }
-    ensures empty { out.new.fault ≡ None → vec_len out.new.buffer ≡ 0 }
+    ensures adds { Adds T.gives T.gives_prefix T.has_failed
+        (after_header_of contents.now) out.old out.new }
+    ensures empty { vec_len out.new.buffer ≡ 0 }
 {
-    put_body(contents, out);
+    encode_body(contents, out);
     out.flush();
 }
 
@@ -41,26 +42,24 @@ pub(crate) fn write_signed<T: Target>(
     target: T,
 ) -> (Vec<u8>, T)
     requires ready { CanBeMade contents.now }
-    requires room { contents.now.limit ≤ vec_capacity buffer }
+    requires room { 112 ≤ vec_capacity buffer }
     requires empty { vec_len buffer ≡ 0 }
     requires sure { (t : T) → T.has_failed t ≡ false }
     ensures given { T.gives (signed_of contents.now) target result.1 }
-    ensures room { contents.now.limit ≤ vec_capacity result.0 }
+    ensures room { 112 ≤ vec_capacity result.0 }
     ensures empty { vec_len result.0 ≡ 0 }
 {
     let head = contents.layout.head();
     put_head(&head, 32, &mut buffer);
     let mut out = Out {
         buffer,
-        limit: contents.limit,
-        fault: None,
+        failed: false,
         target,
     };
     write_body(contents, &mut out);
     let Out {
         buffer,
-        limit: _,
-        fault: _,
+        failed: _,
         target,
     } = out;
     (buffer, target)

@@ -4,10 +4,9 @@ ghost use Rattle.std.specs.Prelude.{◌≡◌, ℕ, ◌<◌, List, length, slice
 ghost use Rattle.std.specs.List.{concat};
 ghost use Rattle.dexcanon.specs.declared.contents.Contents.{Contents};
 ghost use Rattle.dexcanon.specs.internal.Ready.{CanBeMade};
-ghost use Rattle.dexcanon.specs.internal.Adding.{AddsPart};
 
 use crate::contents::Contents;
-use crate::output::{Out, Target};
+use dexhead::Output;
 
 /// A list of items of a file, one after the other without alignment.
 pub(crate) trait ItemList {
@@ -20,20 +19,18 @@ pub(crate) trait ItemList {
         ensures { result ≡ length (items contents.now) };
 
     /// Writes the item at a place.
-    fn put_item<T: Target>(contents: &Contents<'_, '_, '_>, i: usize, out: &mut Out<T>)
+    fn encode_item<O: Output>(contents: &Contents<'_, '_, '_>, i: usize, out: &mut O)
         requires ready { CanBeMade contents.now }
         requires within { i < length (items contents.now) }
-        ensures { AddsPart T.gives T.gives_prefix T.has_failed contents.now out.old
-            out.new (λ c. slice_index_or (items c) i []) };
+        ensures { O.gives (slice_index_or (items contents.now) i []) out.old out.new };
 }
 
 /// Writes the items of a list.
-pub(crate) fn put_list<L: ItemList, T: Target>(contents: &Contents<'_, '_, '_>, out: &mut Out<T>)
+pub(crate) fn encode_list<L: ItemList, O: Output>(contents: &Contents<'_, '_, '_>, out: &mut O)
     requires { CanBeMade contents.now }
-    ensures { AddsPart T.gives T.gives_prefix T.has_failed contents.now out.old
-        out.new (λ c. concat (L.items c)) }
+    ensures { O.gives (concat (L.items contents.now)) out.old out.new }
 {
     for i in 0..L::len(contents) {
-        L::put_item(contents, i, out);
+        L::encode_item(contents, i, out);
     }
 }

@@ -3,18 +3,20 @@
 //! Source: the heading "map_list" of the Android page "Dalvik Executable format".
 
 ghost use Rattle.dexcanon.specs.internal.Ready.{CanBeMade};
-ghost use Rattle.dexcanon.specs.internal.Adding.{AddsPart, map_bytes};
+ghost use Rattle.dexcanon.specs.internal.Adding.{map_bytes};
 
 use crate::contents::Contents;
-use crate::items::Entries;
-use crate::output::{Out, Target};
+use crate::items::encode_padding;
+use dexhead::{Encode, MapList, Output};
 
-/// The map, after the sections of the data.
-pub(crate) fn put_map<T: Target>(contents: &Contents<'_, '_, '_>, out: &mut Out<T>)
+/// Writes the map, after the sections of the data.
+pub(crate) fn encode_map<O: Output>(contents: &Contents<'_, '_, '_>, out: &mut O)
     requires { CanBeMade contents.now }
-    ensures { AddsPart T.gives T.gives_prefix T.has_failed contents.now out.old out.new map_bytes }
+    ensures { O.gives (map_bytes contents.now) out.old out.new }
 {
     let entries = contents.layout.entries();
     let data_end = contents.layout.directories().places().end();
-    out.put_aligned(&Entries(entries), data_end);
+    encode_padding(data_end, out);
+    let map = MapList { entries };
+    map.encode(out);
 }

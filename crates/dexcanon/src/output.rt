@@ -1,16 +1,13 @@
-//! The output of a file: its bytes are buffered, item by item, and flushed to a target when the buffer is full.
+//! The output of a file: its bytes are buffered, and flushed to a target when the buffer is full.
 
-ghost use Rattle.std.specs.Prelude.{◌≡◌, ℕ, ◌+◌, ◌^◌, ◌<◌, List, ◌++◌, [], Bool, true, false, None, OnOk, OnErr, length, vec_len};
-ghost use Rattle.dexspec.specs.Bytes.{round_up};
-ghost use Rattle.dexcanon.specs.internal.Output.{Adds, result_of};
-ghost use Rattle.dexcanon.specs.internal.Adding.{AddsItem, AddsAligned, AddsBytes, HasRoomFor};
+ghost use Rattle.std.specs.Prelude.{◌≡◌, ◌+◌, ◌≤◌, ◌++◌, List, ℕ, [], Bool, true, false, OnOk, OnErr, vec_len, vec_capacity};
+ghost use Rattle.dexcanon.specs.internal.Output.{Adds, HasRoom, result_of};
 
 use crate::faults::StoreFault;
-use crate::items::{Bytes, Item};
-use dexhead::DeviceFault;
+use dexhead::{DeviceFault, Output};
 
-// How many bytes that are encoded already are written at a time. The longest item of a file has at least this many.
-const PART: usize = 112;
+// No number is longer.
+const MOST_BYTES: usize = 5;
 
 /// Where the bytes of a file go to.
 pub(crate) trait Target {
@@ -43,102 +40,96 @@ pub(crate) trait Target {
     ghost after: { (x y : List ℕ) (a b c : Self) → gives x a b → gives_prefix y b c → gives_prefix (x ++ y) a c };
 }
 
-/// An output of items to a target. After the first fault nothing more is written, so no call has a condition on what
-/// was written before: the fault is asked for once, at the end.
+/// An output to a target. Once the target has failed it is left alone, so no call has a condition on what was written
+/// before: the fault is asked for once, at the end.
 #[derive(Drop)]
 pub(crate) struct Out<T> {
+    // It has room for a header. Where it has less, bytes may be missing.
     pub(crate) buffer: Vec<u8>,
-    // No item is longer. With 0 the buffer is never flushed, and grows instead.
-    pub(crate) limit: usize,
-    pub(crate) fault: Option<StoreFault>,
+    pub(crate) failed: bool,
     pub(crate) target: T,
 }
 
+impl<T: Target> Output for Out<T> {
+    ghost use Rattle.dexcanon.specs.internal.Output.{Adds, adds_nothing, adds_both};
+
+    ghost gives = { λ x a b. Adds T.gives T.gives_prefix T.has_failed x a b };
+
+    fn byte(&mut self, byte: u8) {
+        self.make_room();
+        self.buffer.byte(byte);
+    }
+
+    fn bytes(&mut self, bytes: &[u8]) {
+        let mut rest = bytes;
+        'parts: while !rest.is_empty() {
+            self.make_room();
+            let room = self.buffer.capacity() - self.buffer.len();
+            let (part, after) = rest.split_at(rest.len().min(room.max(1)));
+            self.buffer.bytes(part);
+            rest = after;
+        }
+    }
+
+    fn uleb(&mut self, value: u32) {
+        self.make_room();
+        self.buffer.uleb(value);
+    }
+
+    fn sleb(&mut self, value: i32) {
+        self.make_room();
+        self.buffer.sleb(value);
+    }
+
+    fn u16(&mut self, value: u16) {
+        self.make_room();
+        self.buffer.u16(value);
+    }
+
+    fn u32(&mut self, value: u32) {
+        self.make_room();
+        self.buffer.u32(value);
+    }
+
+    ghost nothing = { λ a. adds_nothing T.gives T.gives_prefix T.has_failed a };
+
+    ghost both = { λ x y a b c. adds_both T.gives T.gives_prefix T.has_failed x y a b c };
+}
+
 impl<T: Target> Out<T> {
-    /// Writes an item, and returns its length.
-    pub(crate) fn put<I: Item>(&mut self, item: &I) -> usize
-        requires { I.fits item.now }
-        ensures len { result ≡ length (I.bytes item.now) }
-        ensures adds { AddsItem T.gives T.gives_prefix T.has_failed self.old self.new
-            (I.bytes item.now) }
-    {
-        self.make_room(item);
-        if self.fault.is_some() {
-            return item.len();
-        }
-        let before = self.buffer.len();
-        if item.put(&mut self.buffer).is_err() {
-            self.fault = Some(StoreFault::Memory);
-            return item.len();
-        }
-        self.buffer.len() - before
-    }
-
-    /// Writes zeros up to a multiple of 4, and then an item. Returns where it ends.
-    pub(crate) fn put_aligned<I: Item>(&mut self, item: &I, at: u32) -> u32
-        requires fits { I.fits item.now }
-        requires small { round_up 4 at + length (I.bytes item.now) < 2 ^ 31 }
-        ensures end { result ≡ round_up 4 at + length (I.bytes item.now) }
-        ensures adds { AddsAligned T.gives T.gives_prefix T.has_failed self.old self.new at
-            (I.bytes item.now) }
-    {
-        let start = (at + 3) / 4 * 4;
-        let zeros = [0; 3];
-        self.put(&Bytes(&zeros[..(start - at) as usize]));
-        let len = self.put(item);
-        start + len as u32
-    }
-
-    /// Writes bytes that are encoded already, however many they are.
-    pub(crate) fn put_bytes(&mut self, bytes: &[u8])
-        ensures { AddsBytes T.gives T.gives_prefix T.has_failed self.old self.new bytes.now }
-    {
-        let mut done = 0;
-        'parts: while done < bytes.len() {
-            let (_, rest) = bytes.split_at(done);
-            let (part, _) = rest.split_at(rest.len().min(PART));
-            done += self.put(&Bytes(part));
-        }
-    }
-
-    // Flushes the buffer where it has no room for an item. The item is measured only where the spare room is less than
-    // that for the longest.
-    fn make_room<I: Item>(&mut self, item: &I)
-        requires { I.fits item.now }
-        ensures adds { (limit : ℕ)
-            → Adds T.gives T.gives_prefix T.has_failed limit self.old self.new [] }
-        ensures room { HasRoomFor self.new (length (I.bytes item.now)) }
+    // Flushes the buffer where it has no room for the longest number.
+    fn make_room(&mut self)
+        ensures adds { Adds T.gives T.gives_prefix T.has_failed [] self.old self.new }
+        ensures room { HasRoom self.new
+            → vec_len self.new.buffer + 5 ≤ vec_capacity self.new.buffer }
     {
         let spare = self.buffer.capacity() - self.buffer.len();
-        if spare >= self.limit || spare >= item.len() {
+        if spare >= MOST_BYTES {
             return;
         }
         self.flush();
     }
 
-    /// The first fault, as an error.
-    pub(crate) fn result(&self) -> Result<(), StoreFault>
-        ensures { result ≡ result_of self.now.fault }
-    {
-        match self.fault {
-            None => Ok(()),
-            Some(fault) => Err(fault),
-        }
-    }
-
     /// Writes what is buffered to the target.
     pub(crate) fn flush(&mut self)
-        ensures adds { (limit : ℕ)
-            → Adds T.gives T.gives_prefix T.has_failed limit self.old self.new [] }
-        ensures empty { self.new.fault ≡ None → vec_len self.new.buffer ≡ 0 }
+        ensures adds { Adds T.gives T.gives_prefix T.has_failed [] self.old self.new }
+        ensures empty { vec_len self.new.buffer ≡ 0 }
     {
-        if self.fault.is_some() {
+        if self.failed {
+            self.buffer.clear();
             return;
         }
-        if self.target.write(&self.buffer).is_err() {
-            self.fault = Some(StoreFault::Io);
-            return;
-        }
+        self.failed = self.target.write(&self.buffer).is_err();
         self.buffer.clear();
+    }
+
+    /// Whether the target has failed, as an error.
+    pub(crate) fn result(&self) -> Result<(), StoreFault>
+        ensures { result ≡ result_of self.now.failed }
+    {
+        if self.failed {
+            return Err(StoreFault::Io);
+        }
+        Ok(())
     }
 }

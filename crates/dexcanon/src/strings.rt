@@ -6,8 +6,7 @@ ghost use Rattle.dexcanon.specs.internal.Adding.{string_items};
 
 use crate::contents::Contents;
 use crate::item_lists::ItemList;
-use crate::items::StringData;
-use crate::output::{Out, Target};
+use dexhead::{Encode, Output};
 use dexpool::SymbolKind;
 
 /// The data of the texts.
@@ -21,8 +20,7 @@ impl ItemList for StringDataItems {
         contents.numbering.count(SymbolKind::Text)
     }
 
-    fn put_item<T: Target>(contents: &Contents<'_, '_, '_>, i: usize, out: &mut Out<T>) {
-        let data = StringData(contents.numbering.string(i));
-        out.put(&data);
+    fn encode_item<O: Output>(contents: &Contents<'_, '_, '_>, i: usize, out: &mut O) {
+        contents.numbering.string(i).encode(out);
     }
 }

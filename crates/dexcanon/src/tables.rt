@@ -7,8 +7,8 @@ ghost use Rattle.dexcanon.specs.internal.Adding.{string_rows, type_rows, proto_r
 
 use crate::contents::Contents;
 use crate::item_lists::ItemList;
-use crate::items::{MemberRow, Number, Numbers};
-use crate::output::{Out, Target};
+use crate::items::{encode_member, encode_numbers};
+use dexhead::Output;
 use dexpool::SymbolKind;
 
 /// The rows of the texts, from the offset of each.
@@ -21,9 +21,9 @@ impl ItemList for StringIds {
         contents.layout.strings().offsets().len()
     }
 
-    fn put_item<T: Target>(contents: &Contents<'_, '_, '_>, i: usize, out: &mut Out<T>) {
+    fn encode_item<O: Output>(contents: &Contents<'_, '_, '_>, i: usize, out: &mut O) {
         let offsets = contents.layout.strings().offsets();
-        out.put(&Number(offsets[i]));
+        out.u32(offsets[i]);
     }
 }
 
@@ -38,9 +38,9 @@ impl ItemList for TypeIds {
         contents.numbering.count(SymbolKind::Typ)
     }
 
-    fn put_item<T: Target>(contents: &Contents<'_, '_, '_>, i: usize, out: &mut Out<T>) {
-        let row = Number(contents.numbering.descriptor(i) as u32);
-        out.put(&row);
+    fn encode_item<O: Output>(contents: &Contents<'_, '_, '_>, i: usize, out: &mut O) {
+        let row = contents.numbering.descriptor(i) as u32;
+        out.u32(row);
     }
 }
 
@@ -54,7 +54,7 @@ impl ItemList for ProtoIds {
         contents.numbering.count(SymbolKind::Proto)
     }
 
-    fn put_item<T: Target>(contents: &Contents<'_, '_, '_>, i: usize, out: &mut Out<T>) {
+    fn encode_item<O: Output>(contents: &Contents<'_, '_, '_>, i: usize, out: &mut O) {
         let proto = contents.numbering.proto(i);
         let list_offs = contents.layout.type_lists().places().offsets();
         let row = [
@@ -62,7 +62,7 @@ impl ItemList for ProtoIds {
             proto.return_type() as u32,
             list_offs[i],
         ];
-        out.put(&Numbers(&row));
+        encode_numbers(&row, out);
     }
 }
 
@@ -77,9 +77,9 @@ impl ItemList for FieldIds {
         contents.numbering.count(SymbolKind::Field)
     }
 
-    fn put_item<T: Target>(contents: &Contents<'_, '_, '_>, i: usize, out: &mut Out<T>) {
+    fn encode_item<O: Output>(contents: &Contents<'_, '_, '_>, i: usize, out: &mut O) {
         let field = contents.numbering.field(i);
-        out.put(&MemberRow(field.class, field.typ, field.name));
+        encode_member(field.class, field.typ, field.name, out);
     }
 }
 
@@ -94,8 +94,8 @@ impl ItemList for MethodIds {
         contents.numbering.count(SymbolKind::Method)
     }
 
-    fn put_item<T: Target>(contents: &Contents<'_, '_, '_>, i: usize, out: &mut Out<T>) {
+    fn encode_item<O: Output>(contents: &Contents<'_, '_, '_>, i: usize, out: &mut O) {
         let method = contents.numbering.method(i);
-        out.put(&MemberRow(method.class, method.proto, method.name));
+        encode_member(method.class, method.proto, method.name, out);
     }
 }

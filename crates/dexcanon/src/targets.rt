@@ -1,7 +1,7 @@
-//! Targets of the bytes of a file: its two sums, its signature, a writer, and none.
+//! Targets of the bytes of a file: its two sums, its signature, and a writer.
 
-ghost use Rattle.std.specs.Prelude.{◌≡◌, [], false, true, refl};
-ghost use Rattle.dexcanon.specs.Sums.{Hashed, hashed_nothing, hashed_both, Summed, summed_nothing, summed_both, kept_both};
+ghost use Rattle.std.specs.Prelude.{false};
+ghost use Rattle.dexcanon.specs.Sums.{Hashed, hashed_nothing, hashed_both, Summed, summed_nothing, summed_both};
 
 use crate::output::Target;
 use dexhead::{Adler, DeviceFault, Sink, write_whole};
@@ -92,30 +92,4 @@ impl<W: Sink> Target for Writer<'_, W> {
     ghost more = { λ x y a b. took_more W.reports W.taken x y a b };
 
     ghost after = { λ x y a b c. took_after W.reports W.taken x y a b c };
-}
-
-/// No target: each write fails, and the bytes stay in their buffer.
-#[derive(Drop)]
-pub(crate) struct InMemory;
-
-impl Target for InMemory {
-    ghost gives = { λ x _ _. x ≡ [] };
-
-    ghost gives_prefix = { λ _ _ _. Unit {0} };
-
-    ghost has_failed = { λ _. true };
-
-    fn write(&mut self, _bytes: &[u8]) -> Result<(), DeviceFault> {
-        Err(DeviceFault)
-    }
-
-    ghost nothing = { λ _. refl };
-
-    ghost both = { λ x y _ _ _. kept_both x y };
-
-    ghost whole = { λ _ _ _ _. tt };
-
-    ghost more = { λ _ _ _ _ _. tt };
-
-    ghost after = { λ _ _ _ _ _ _ _. tt };
 }

@@ -1,6 +1,6 @@
 //! The canonical file as bytes, and written to a device.
 
-ghost use Rattle.std.specs.Prelude.{◌≡◌, ◌↔◌, ◌≤◌, ◌++◌, true, false, IfOk, OnOk, IfErr, IsErrOf, None, vec_len, vec_capacity};
+ghost use Rattle.std.specs.Prelude.{◌≡◌, ◌↔◌, ◌≤◌, ◌++◌, true, false, IfOk, OnOk, IfErr, IsErrOf, vec_len, vec_capacity};
 ghost use Rattle.dexspec.specs.Canonical.{canonical};
 ghost use Rattle.dexhead.specs.Written.{head_bytes};
 ghost use Rattle.dexcanon.specs.internal.Ready.{CanBeMade};
@@ -11,19 +11,19 @@ ghost use Rattle.dexcanon.specs.Written.{HasLeft, HasTaken, CanonicalIsAccepted,
 ghost use Rattle.dexcanon.specs.declared.faults.StoreFault.TheVariants.{Io};
 
 use crate::adler_combine::adler_combine;
-use crate::body::put_body;
+use crate::body::encode_body;
 use crate::contents::Contents;
 use crate::faults::StoreFault;
 use crate::files::{put_head, write_body, write_signed};
 use crate::output::Out;
-use crate::targets::{InMemory, Sums, Writer};
+use crate::targets::{Sums, Writer};
 use dexclass::Program;
 use dexhead::{Adler, Head, Sink, adler, set_sums, write_whole};
 use dexlayout::Layout;
 use sha1::Sha1;
 use std::alloc::{AllocError, Global};
 
-/// The most bytes that a writer gets at a time, except for a longer item.
+/// The most bytes that a writer gets at a time.
 pub(crate) const PIECE: usize = 65536;
 
 /// The canonical file of a program. It is accepted, and denotes exactly the program's definitions. The memory for it is
@@ -47,32 +47,16 @@ fn whole_file(alloc: Global, contents: &Contents<'_, '_, '_>) -> Result<Vec<u8>,
     ensures { IfOk result (λ file. file.items ≡ file_of contents.now) }
 {
     dexhead::laws::file_law();
-    let mut buffer = Vec::with_capacity(alloc, contents.layout.len() as usize)?;
-    contents.layout.head().put(&mut buffer)?;
-    let mut out = Out {
-        buffer,
-        limit: 0,
-        fault: None,
-        target: InMemory,
-    };
-    put_body(contents, &mut out);
-    let Out {
-        buffer: mut file,
-        limit: _,
-        fault,
-        target: _,
-    } = out;
-    if fault.is_some() {
-        return Err(AllocError);
-    }
+    let mut file = Vec::with_capacity(alloc, contents.layout.len() as usize)?;
+    contents.layout.head().put(&mut file)?;
+    encode_body(contents, &mut file);
     set_sums(&mut file);
     Ok(file)
 }
 
 /// Writes the canonical file of a program. A file of more than 65,536 bytes is encoded in two passes: the first
 /// computes its two sums, the second writes it. Its bytes are buffered in one vector, which is allocated before
-/// anything is written. The writer gets no slice that is longer than 65,536 bytes, or than the longest item of the
-/// file if that is longer.
+/// anything is written. The writer gets no slice that is longer than 65,536 bytes.
 ///
 /// Condition: the writer has not failed. Error: `Memory` if an allocation failed, and then nothing was written; `Io`
 /// exactly if the writer failed in this call, and then a prefix of the file was written.
@@ -114,20 +98,18 @@ fn write_contents<W: Sink>(
         write_whole(sink, &file)?;
         return Ok(());
     }
-    let buffer = Vec::with_capacity(alloc, contents.limit.max(PIECE))?;
+    let buffer = Vec::with_capacity(alloc, PIECE)?;
     let (head, mut buffer) = head_with_sums(contents, buffer);
     put_head(&head, 0, &mut buffer);
     let mut out = Out {
         buffer,
-        limit: contents.limit,
-        fault: None,
+        failed: false,
         target: Writer { sink },
     };
     let result = write_through(contents, &mut out);
     let Out {
         buffer: _,
-        limit: _,
-        fault: _,
+        failed: _,
         target: Writer { sink: _sink },
     } = out;
     result
@@ -139,8 +121,8 @@ fn write_through<W: Sink>(
     out: &mut Out<Writer<'_, W>>,
 ) -> Result<(), StoreFault>
     requires ready { CanBeMade contents.now }
-    requires fresh { out.old.fault ≡ None }
-    requires room { HasRoom contents.now.limit out.old }
+    requires fresh { out.old.failed ≡ false }
+    requires room { HasRoom out.old }
     requires works { W.has_failed out.old.target.sink.now ≡ false }
     ensures same { out.new.target.sink.ghost_name ≡ out.old.target.sink.ghost_name }
     ensures written { OnOk result (HasTakenRest W.reports W.taken contents.now out.old out.new) }
@@ -155,10 +137,10 @@ fn write_through<W: Sink>(
 // The buffer is returned empty.
 fn head_with_sums(contents: &Contents<'_, '_, '_>, buffer: Vec<u8>) -> (Head, Vec<u8>)
     requires ready { CanBeMade contents.now }
-    requires room { contents.now.limit ≤ vec_capacity buffer }
+    requires room { 112 ≤ vec_capacity buffer }
     requires empty { vec_len buffer ≡ 0 }
     ensures bytes { head_bytes result.0 ++ after_header_of contents.now ≡ file_of contents.now }
-    ensures room { contents.now.limit ≤ vec_capacity result.1 }
+    ensures room { 112 ≤ vec_capacity result.1 }
     ensures empty { vec_len result.1 ≡ 0 }
 {
     dexhead::laws::fields_law();

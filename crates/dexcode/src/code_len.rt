@@ -66,7 +66,7 @@ pub(crate) fn unit_count(pieces: &Pieces<'_>) -> u32
 }
 
 // Returns the length of a code item of `units` units, whose list of handlers has `list` bytes.
-pub(crate) fn placed_len(units: u32, tries: &[Try], list: usize) -> usize
+fn placed_len(units: u32, tries: &[Try], list: usize) -> usize
     requires few { list < 2 ^ 18 }
     requires tries { length tries.now < 2 ^ 16 }
     ensures { IsPlacedLen units tries.now list result }

@@ -6,18 +6,16 @@ ghost use Rattle.dexspec.specs.Bytes.{ushort, uint};
 ghost use Rattle.dexspec.specs.Code.{most_handlers};
 ghost use Rattle.dexspec.specs.Numbers.{uleb128};
 ghost use Rattle.dexspec.specs.internal.Writing.{Puts};
-ghost use Rattle.dexinsn.specs.Numbered.{numbered_bytes};
 ghost use Rattle.dexcode.specs.CodePut.{HasShortTypes, AreShort, ArePlaces, gap_bytes, handler_count, numbered_catch_bytes, numbered_handler_bytes, numbered_head_bytes, numbered_item_bytes, numbered_code_bytes, numbered_list_bytes, numbered_table_bytes, numbered_tries_bytes, placed_try_bytes, unit_count, DenotedWeighsMore, IsOkWithRoomForDenoted, PutsDenotedCode};
 ghost use Rattle.dexcode.specs.Numbered.{AreStored, all_named, handlers_of, handlers_weight};
-ghost use Rattle.dexcode.specs.internal.Writing.{PushesWithRoom};
 
 use crate::code::Code;
 use crate::code_laws::{code_bytes_law, code_weight_law};
-use crate::code_len::{handler_count, handler_len, placed_len, unit_count};
+use crate::code_len::{handler_count, handler_len, unit_count};
 use crate::handlers::{Catch, Handler};
 use crate::tries::{Tries, Try};
-use dexhead::{Encode, Output, encode_all};
-use dexinsn::{Pieces, put_pieces};
+use dexhead::{Encode, Output, encode_all, put_with_len};
+use dexinsn::Pieces;
 use dexleb::len_u;
 use dexpool::Numbering;
 use std::alloc::AllocError;
@@ -28,20 +26,17 @@ const FEW_PLACES: usize = 16;
 // More handlers than these weigh more than they may.
 const MOST_PLACES: usize = 6_553;
 
-// Sets the offset of each handler in bytes from the start of their list, and returns the length of the list.
-fn place_handlers(handlers: &[Handler], places: &mut [u16]) -> usize
+// Sets the offset of each handler in bytes from the start of their list.
+fn place_handlers(handlers: &[Handler], places: &mut [u16])
     requires short { AreShort handlers.now }
     requires enough { length handlers.now ≤ length places.old }
-    ensures places { ArePlaces handlers.now places.new }
-    ensures len { result ≡ length (numbered_list_bytes handlers.now) }
-    ensures few { result ≤ 65535 }
+    ensures { ArePlaces handlers.now places.new }
 {
     let mut place = len_u(handlers.len() as u32);
     for (i, handler) in handlers.iter().enumerate() {
         places[i] = place as u16;
         place += handler_len(handler);
     }
-    place
 }
 
 impl Encode for Catch {
@@ -166,74 +161,61 @@ fn encode_head<O: Output>(pieces: &Pieces<'_>, tries: u16, debug_off: u32, out: 
     out.u32(unit_count(pieces));
 }
 
-// Appends a code item whose handlers begin at the places, where there is room for it.
-fn push_item(
-    pieces: &Pieces<'_>,
-    tries: &Tries,
-    places: &[u16],
-    debug_off: u32,
-    numbering: &Numbering<'_>,
-    out: &mut Vec<u8>,
-)
-    requires { ArePlaces (handlers_of tries.now) places.now }
-    ensures { PushesWithRoom (numbered_item_bytes debug_off pieces.now tries.now) out.old out.new }
-{
-    let (items, handlers) = tries.parts();
-    encode_head(pieces, items.len() as u16, debug_off, out);
-    let _ = put_pieces(pieces, numbering, out);
-    encode_tries(unit_count(pieces), items, handlers, places, out);
-}
-
-// Appends a code item. There is room for the place of each of its handlers.
-fn put_placed(
+// Writes a code item. The offsets of its handlers are set in `places`, which has one for each.
+fn encode_placed<O: Output>(
     pieces: &Pieces<'_>,
     tries: &Tries,
     places: &mut [u16],
     debug_off: u32,
-    numbering: &Numbering<'_>,
-    out: &mut Vec<u8>,
-) -> Result<(), AllocError>
+    out: &mut O,
+)
     requires short { All HasShortTypes (handlers_of tries.now) }
     requires enough { length (handlers_of tries.now) ≤ length places.old }
-    ensures { Puts (numbered_item_bytes debug_off pieces.now tries.now) out.old out.new result }
+    ensures { O.gives (numbered_item_bytes debug_off pieces.now tries.now) out.old out.new }
 {
     let (items, handlers) = tries.parts();
-    let list = place_handlers(handlers, places);
-    out.reserve(placed_len(unit_count(pieces), items, list))?;
-    push_item(pieces, tries, places, debug_off, numbering, out);
-    Ok(())
+    place_handlers(handlers, places);
+    encode_head(pieces, items.len() as u16, debug_off, out);
+    pieces.encode(out);
+    encode_tries(unit_count(pieces), items, handlers, places, out);
 }
 
-// Appends a code item.
-fn put_item(
-    pieces: &Pieces<'_>,
-    tries: &Tries,
-    debug_off: u32,
-    numbering: &Numbering<'_>,
-    out: &mut Vec<u8>,
-) -> Result<(), AllocError>
+// Writes a code item.
+fn encode_item<O: Output>(pieces: &Pieces<'_>, tries: &Tries, debug_off: u32, out: &mut O)
     requires { All HasShortTypes (handlers_of tries.now) }
-    ensures { Puts (numbered_item_bytes debug_off pieces.now tries.now) out.old out.new result }
+    ensures { O.gives (numbered_item_bytes debug_off pieces.now tries.now) out.old out.new }
 {
     let (_, handlers) = tries.parts();
     if handlers.len() <= FEW_PLACES {
-        return put_placed(
-            pieces,
-            tries,
-            &mut [0; FEW_PLACES],
-            debug_off,
-            numbering,
-            out,
-        );
+        return encode_placed(pieces, tries, &mut [0; FEW_PLACES], debug_off, out);
     }
-    put_placed(
-        pieces,
-        tries,
-        &mut [0; MOST_PLACES],
-        debug_off,
-        numbering,
-        out,
-    )
+    encode_placed(pieces, tries, &mut [0; MOST_PLACES], debug_off, out);
+}
+
+/// Code with the offset of its debug program, to be encoded as a code_item: registers, units with the numbers of their
+/// symbols, tries, and the list of the handlers that they name, each once and in order of first use. Every number is in
+/// its shortest encoding. [`code_bytes_law`] says of which code it is the code_item.
+///
+/// Condition of the encoding: the number of each type that a handler catches is below 2^16, as every number of a
+/// numbering of 65,536 types or fewer is.
+///
+/// Source: "code_item".
+#[derive(Drop)]
+pub struct CodeItem<'i, 'a> {
+    /// The code.
+    pub code: &'i Code<'a>,
+    /// The offset of its debug program in bytes, or 0 for none.
+    pub debug_off: u32,
+}
+
+impl Encode for CodeItem<'_, '_> {
+    ghost formed = { λ i. All HasShortTypes (handlers_of i.code.now.tries) };
+
+    ghost bytes = { λ i. numbered_code_bytes i.debug_off i.code.now };
+
+    fn encode<O: Output>(&self, out: &mut O) {
+        encode_item(self.code.pieces(), self.code.tries(), self.debug_off, out);
+    }
 }
 
 /// Appends the code_item, whose debug program is at an offset in bytes, or is none at 0: registers, units with the
@@ -264,5 +246,5 @@ pub fn put_code(
     numbering.is_numbering();
     code_bytes_law();
     code_weight_law();
-    put_item(code.pieces(), code.tries(), debug_off, numbering, out)
+    put_with_len(&CodeItem { code, debug_off }, code.item_len(), out)
 }

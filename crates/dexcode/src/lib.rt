@@ -17,7 +17,7 @@ pub use code_numbers_laws::{
     code_cut_law, code_images_law, code_joined_law, code_kept_law, code_places_law,
     code_renumber_law, code_uses_law,
 };
-pub use code_put::put_code;
+pub use code_put::{CodeItem, put_code};
 pub use code_reading::{read_code, read_code_in};
 pub use debug::Debug;
 pub use debug_laws::{

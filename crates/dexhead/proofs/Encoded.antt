@@ -20,6 +20,24 @@ module _ {O X : Type 0} (gives : List ℕ → O → O → Type 0) (both : (x y :
   pub given_all : (xs : List X) (i : ℕ) (a b : O) → length xs ≤ i → gives (flat_map f (take i xs)) a b → gives (flat_map f xs) a b
   given_all xs i a b end h = subst (λ ys. gives (flat_map f ys) a b) (take_all i xs end) h
 
+-- What completes the rest after `now` completes the whole after `start`.
+pub record Completes {O : Type 0} (gives : List ℕ → O → O → Type 0) (rest : List ℕ) (now : O) (whole : List ℕ) (start : O) : Type 0 where
+  pub on : (end : O) → gives rest now end → gives whole start end
+
+module _ {O : Type 0} (gives : List ℕ → O → O → Type 0) where
+  -- at the start all is left
+  pub completes_none : (whole : List ℕ) (start : O) → Completes gives whole start whole start
+  completes_none whole start = record { on = λ end all. all }
+
+  -- nothing is left
+  pub completes_all : (nothing : (a : O) → gives [] a a) (rest whole : List ℕ) (start now : O) → rest ≡ [] → Completes gives rest now whole start → gives whole start now
+  completes_all nothing rest whole start now none h = h.on now (subst (λ bs. gives bs now now) (sym none) (nothing now))
+
+  -- one part more
+  pub completes_more : (both : (x y : List ℕ) (a b c : O) → gives x a b → gives y b c → gives (x ++ y) a c) (x rest left whole : List ℕ) (start now next : O) → left ≡ x ++ rest → Completes gives left now whole start → gives x now next → Completes gives rest next whole start
+  completes_more both x rest left whole start now next parts h part =
+      record { on = λ end more. h.on end (subst (λ bs. gives bs now end) (sym parts) (both x rest now next end part more)) }
+
 -- bytes after the vector was given room for them
 pub encoded_put : {T E : Type 0} (item : List ℕ) (n : ℕ) (a b c : Vec ℕ) (t : T) → n ≡ min (2 ^ 64 - 1) (length item) → b.items ≡ a.items → vec_len b ≡ vec_len a → vec_len b + n ≤ vec_capacity b → vec_capacity a ≤ vec_capacity b
     → (HasRoomFor item b → Pushes item b c) → Puts {T = T} {E = E} item a c (Ok t)

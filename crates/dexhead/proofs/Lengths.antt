@@ -1,10 +1,8 @@
 -- How many bytes a header and a map have.
-use Rattle.std.proofs.Common.{◌≡◌, ℕ, ◌+◌, ◌*◌, List, ◌∷◌, ◌++◌, [], length, map, take, get_or, ◌<◌, append_assoc, sym, ap, ◌∙◌, arith}
+use Rattle.std.proofs.Common.{◌≡◌, ℕ, ◌+◌, ◌*◌, List, ◌++◌, length, map, append_assoc, arith}
 use Rattle.std.specs.List.{flat_map}
 use Rattle.std.proofs.Math.ListN.{length-append}
-use Rattle.std.proofs.lemmas.List.{length-map, take_all, take_more, append-nil}
-use Rattle.std.proofs.lemmas.Grind.{flat_map-append}
-use Rattle.std.proofs.lemmas.List.Folds.{flat_map-map}
+use Rattle.std.proofs.lemmas.List.{length-map}
 use Rattle.dexspec.specs.Bytes.{uint}
 use Rattle.dexspec.specs.Header.{header_length}
 use Rattle.dexspec.specs.Sections.{Section, type_code}
@@ -25,24 +23,11 @@ length_tables rs = length_rows rows_bytes 8 length_rows_bytes rs
 length_one : (e : Section × ℕ × ℕ) → length (map_entry_bytes e) ≡ 12
 length_one e = simp length-append (omega (arith, length-ushort (type_code e.0), length-ushort 0, length-uint e.1, length-uint e.2))
 
-pub length_entry : (e : MapEntry) → length (map_entry_bytes (entry_meant e)) ≡ 12
-length_entry e = length_one (entry_meant e)
-
 pub length_map : (es : List MapEntry) → length (map_bytes (map entry_meant es)) ≡ 4 + 12 * length es
 length_map es =
     let n : length (map entry_meant es) ≡ length es = length-map es entry_meant in
     let rows = length_rows map_entry_bytes 12 length_one (map entry_meant es) in
     omega (arith, length-append (uint (length (map entry_meant es))) (flat_map map_entry_bytes (map entry_meant es)), length-uint (length (map entry_meant es)), n, rows)
-
--- ---- one more of several
-
-pub one_more : {X : Type 0} (f : X → List ℕ) (xs : List X) (i : ℕ) (d : X) (pre old mid new : List ℕ) → i < length xs
-    → mid ≡ old ++ (pre ++ flat_map f (take i xs)) → new ≡ mid ++ f (get_or xs i d) → new ≡ old ++ (pre ++ flat_map f (take (i + 1) xs))
-one_more f xs i d pre old mid new lt e n =
-    let t : flat_map f (take (i + 1) xs) ≡ flat_map f (take i xs) ++ f (get_or xs i d)
-    = ap (flat_map f) (take_more xs i d lt) ∙ flat_map-append f (take i xs) (get_or xs i d ∷ []) ∙ ap (λ ys. flat_map f (take i xs) ++ ys) (append-nil (f (get_or xs i d))) in
-    n ∙ ap (λ ys. ys ++ f (get_or xs i d)) e ∙ append_assoc old (pre ++ flat_map f (take i xs)) (f (get_or xs i d))
-    ∙ ap (λ ys. old ++ ys) (append_assoc pre (flat_map f (take i xs)) (f (get_or xs i d)) ∙ ap (λ ys. pre ++ ys) (sym t))
 
 -- ---- a header
 
@@ -61,12 +46,3 @@ length_head h six twenty = simp length-append (omega (arith, twenty, length_fiel
 pub head_joined : (h : Head) (x : List ℕ) {y z : List ℕ} → y ≡ x ++ (magic ++ (uint h.checksum ++ h.signature)) → z ≡ y ++ field_bytes h → z ≡ x ++ head_bytes h
 unfolding head_bytes
 head_joined h x e f = rw (f, e) (simp append_assoc)
-
--- ---- a map
-
-pub map_joined : (es : List MapEntry) (n : ℕ) (x y : List ℕ) → n ≡ length es → y ≡ x ++ (uint (length es) ++ flat_map (λ e. map_entry_bytes (entry_meant e)) (take n es)) → y ≡ x ++ map_bytes (map entry_meant es)
-map_joined es n x y len e =
-    let all : take n es ≡ es = take_all n es (omega arith) in
-    let rows : flat_map map_entry_bytes (map entry_meant es) ≡ flat_map (λ e. map_entry_bytes (entry_meant e)) es = flat_map-map map_entry_bytes entry_meant es in
-    e ∙ ap (λ k. x ++ (uint k ++ flat_map (λ e. map_entry_bytes (entry_meant e)) (take n es))) (sym (length-map es entry_meant))
-    ∙ ap (λ ys. x ++ (uint (length (map entry_meant es)) ++ ys)) (ap (flat_map (λ e. map_entry_bytes (entry_meant e))) all ∙ sym rows)

@@ -1,10 +1,10 @@
 //! A map that is written.
 
-ghost use Rattle.std.specs.Prelude.{◌≡◌, ◌++◌, ◌+◌, ◌*◌, ◌^◌, ◌<◌, ◌≤◌, length, vec_len, vec_capacity};
+ghost use Rattle.std.specs.Prelude.{◌≡◌, ◌+◌, ◌*◌, ◌^◌, ◌<◌, ⊤, length};
 ghost use Rattle.dexspec.specs.Canonical.{map_entry_bytes};
 ghost use Rattle.dexspec.specs.internal.Writing.{Puts};
 
-use crate::little_endian::{push_u16, push_u32};
+use crate::output::{Encode, Output, encode_all, put_with_len};
 use crate::sections::Section;
 use std::alloc::AllocError;
 
@@ -31,20 +31,31 @@ pub struct MapList<'a> {
     ghost few: { length entries.now < 2 ^ 32 },
 }
 
-impl MapEntry {
+impl Encode for MapEntry {
     ghost use Rattle.dexhead.specs.Written.{entry_meant};
 
-    // Appends the twelve bytes where there is room for them.
-    fn push(&self, out: &mut Vec<u8>)
-        requires { vec_len out.old + 12 ≤ vec_capacity out.old }
-        ensures items { out.new.items ≡ out.old.items ++ map_entry_bytes (entry_meant self.now) }
-        ensures len { vec_len out.new ≡ vec_len out.old + 12 }
-        ensures capacity { vec_capacity out.old ≤ vec_capacity out.new }
-    {
-        push_u16(self.section.code(), out);
-        push_u16(0, out);
-        push_u32(self.size, out);
-        push_u32(self.off, out);
+    ghost formed = { λ _. ⊤ };
+
+    ghost bytes = { λ e. map_entry_bytes (entry_meant e) };
+
+    fn encode<O: Output>(&self, out: &mut O) {
+        out.u16(self.section.code());
+        out.u16(0);
+        out.u32(self.size);
+        out.u32(self.off);
+    }
+}
+
+impl Encode for MapList<'_> {
+    ghost use Rattle.dexhead.specs.Written.{map_list_bytes};
+
+    ghost formed = { λ _. ⊤ };
+
+    ghost bytes = { λ m. map_list_bytes m.entries.now };
+
+    fn encode<O: Output>(&self, out: &mut O) {
+        out.u32(self.entries.len() as u32);
+        encode_all(self.entries, out);
     }
 }
 
@@ -61,11 +72,6 @@ impl MapList<'_> {
         ensures len { length (map_list_bytes self.now.entries.now)
             ≡ 4 + 12 * length self.now.entries.now }
     {
-        out.reserve(4 + 12 * self.entries.len())?;
-        push_u32(self.entries.len() as u32, out);
-        for entry in self.entries {
-            entry.push(out);
-        }
-        Ok(())
+        put_with_len(self, 4 + 12 * self.entries.len(), out)
     }
 }

@@ -167,7 +167,21 @@ pub fn encoded_len<T: Encode>(item: &T) -> usize
     count.len
 }
 
-/// Appends the encoding of an item: reserves room for it, then encodes.
+/// Appends the encoding of an item, which has `len` bytes: reserves room for them, then encodes.
+///
+/// It fails only if allocation fails, and never if the spare room is at least `len`. After a failure the vector is
+/// unchanged.
+pub fn put_with_len<T: Encode>(item: &T, len: usize, out: &mut Vec<u8>) -> Result<(), AllocError>
+    requires formed { T.formed item.now }
+    requires len { len ≡ length (T.bytes item.now) }
+    ensures { Puts (T.bytes item.now) out.old out.new result }
+{
+    out.reserve(len)?;
+    item.encode(out);
+    Ok(())
+}
+
+/// Appends the encoding of an item: reserves room for it, then encodes. The item is encoded twice, first to measure it.
 ///
 /// It fails only if allocation fails, and never if the spare room is at least the length of the encoding. After a
 /// failure the vector is unchanged.

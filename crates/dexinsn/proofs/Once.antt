@@ -151,15 +151,15 @@ empty_code us cs empty code =
     omega arith
 
 -- an answer that is true of the units: their pieces, or a fault of theirs by name
-abbrev IsAnswer : List ℕ → Result (List Cut) SplitFault → Type 0
-IsAnswer us (Ok cs) = IsCode us cs
-IsAnswer us (Err Empty) = us ≡ []
-IsAnswer us (Err (Piece n)) = BreaksAt us n
-IsAnswer us (Err (Target n)) = HasBadTargetAt us n
-IsAnswer us (Err Memory) = ⊥
+abbrev IsNamedResult : List ℕ → Result (List Cut) SplitFault → Type 0
+IsNamedResult us (Ok cs) = IsCode us cs
+IsNamedResult us (Err Empty) = us ≡ []
+IsNamedResult us (Err (Piece n)) = BreaksAt us n
+IsNamedResult us (Err (Target n)) = HasBadTargetAt us n
+IsNamedResult us (Err Memory) = ⊥
 
 -- two answers that are true of the units are the same
-pub result_once : (us : List ℕ) (a b : Result (List Cut) SplitFault) → IsAnswer us a → IsAnswer us b → a ≡ b
+pub result_once : (us : List ℕ) (a b : Result (List Cut) SplitFault) → IsNamedResult us a → IsNamedResult us b → a ≡ b
 result_once us (Ok cs) (Ok ds) x y = ap Ok (whole_once us cs ds x.cut y.cut)
 result_once us (Ok cs) (Err Empty) x y = absurd (empty_code us cs y x)
 result_once us (Ok cs) (Err (Piece n)) x y = absurd (not_both us cs n x.cut y)
@@ -189,17 +189,17 @@ cut_fault us (Piece n) is = is
 cut_fault us (Target n) is = absurd is
 cut_fault us Memory is = tt
 
--- a fault that is told by its numbers
-pub told : (us : List ℕ) (named : SplitFault) (fault : CodeFault) → IsSplitFault us named → HasNumbersOf named fault → IsFault us fault
-told us Empty fault is n = inl (n.kind_is, n.unit_is, is)
-told us (Piece k) fault is n = inr (inl (n.kind_is, subst (BreaksAt us) (sym n.unit_is) is))
-told us (Target k) fault is n = inr (inr (inl (n.kind_is, subst (HasBadTargetAt us) (sym n.unit_is) is)))
-told us Memory fault is n = inr (inr (inr (n.kind_is, n.unit_is)))
+-- a fault of these numbers
+pub reported : (us : List ℕ) (named : SplitFault) (fault : CodeFault) → IsSplitFault us named → HasNumbersOf named fault → IsFault us fault
+reported us Empty fault is n = inl (n.kind_is, n.unit_is, is)
+reported us (Piece k) fault is n = inr (inl (n.kind_is, subst (BreaksAt us) (sym n.unit_is) is))
+reported us (Target k) fault is n = inr (inr (inl (n.kind_is, subst (HasBadTargetAt us) (sym n.unit_is) is)))
+reported us Memory fault is n = inr (inr (inr (n.kind_is, n.unit_is)))
 
 -- the name of a fault of the units
 record Named (us : List ℕ) (fault : CodeFault) : Type 0 where
   named : SplitFault
-  is : IsAnswer us (Err named)
+  is : IsNamedResult us (Err named)
   numbers : HasNumbersOf named fault
 
 name_of : (us : List ℕ) (fault : CodeFault) → IsFault us fault → fault.kind ≢ 4 → Named us fault
@@ -220,7 +220,7 @@ numbers_in : Result (List Cut) SplitFault → ℕ × ℕ
 numbers_in (Ok cs) = (0, 0)
 numbers_in (Err named) = (kind_of named, unit_of named)
 
--- a fault that is told is the only answer
+-- a fault that is reported is the only answer
 pub only_fault : (us : List ℕ) (fault : CodeFault) (answer : Result (List Cut) CodeFault) → IsFault us fault → IsResult us answer → IsReturned answer (Err fault)
 unfolding numbers_in
 only_fault us fault (Ok cs) is code other = no_fault us cs fault code is other

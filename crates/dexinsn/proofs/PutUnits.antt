@@ -1,6 +1,7 @@
 -- The units of pieces, their numbers put in, as they are appended.
 use Rattle.std.proofs.Common.{◌≡◌, ℕ, zero, suc, ◌+◌, ◌-◌, ◌*◌, ◌/◌, ◌%◌, ◌<◌, ◌≤◌, Bool, true, false, cond, List, [], ◌∷◌, ◌++◌, length, drop, take, map, get_or, slice_index, slice_set, Option, Some, None, refl, ap, sym, ◌∙◌, subst, arith, length-drop, append_assoc, drop-cons, add-one, length-append}
 use Rattle.dexspec.proofs.numbers.ByteNumbers.{length-ushort}
+use Rattle.dexhead.proofs.Encoded.{Completes, completes_more}
 use Rattle.std.specs.List.{flat_map}
 use Rattle.std.proofs.lemmas.List.{drop-drop, length-take-le, take-append-drop, get_or-drop, take_all, drop_all}
 use Rattle.std.proofs.Math.Seq.{take-add}
@@ -13,6 +14,7 @@ use Rattle.dexinsn.specs.Units.{units_in}
 use Rattle.dexinsn.specs.Split.{IsPieceAt}
 use Rattle.dexinsn.specs.Numbered.{NumberedPiece, Instruction, Payload, numbered_units, numbered_bytes, unit_count}
 use Rattle.dexinsn.specs.Stored.{cuts_in, parts_in, piece_with, left_by, pieces_with, with_place, index_places, AreStored, index_units, after_index, spelled_from, Follow}
+use Rattle.dexinsn.specs.internal.Writing.{bytes_between}
 use Rattle.dexinsn.proofs.Sizes.{Fits, piece_size-fits}
 use Rattle.dexinsn.proofs.IndexRoom.{HasRoom, has_room}
 use Rattle.dexinsn.proofs.Halves.{length_from, ushorts_from}
@@ -227,7 +229,7 @@ one_half n = append_nil (ushort n)
 
 -- ---- the loop
 
-pub index_length : (w : Bool) (n unit : ℕ) → unit + 1 + length (index_units w n) ≡ after_index w unit
+index_length : (w : Bool) (n unit : ℕ) → unit + 1 + length (index_units w n) ≡ after_index w unit
 index_length true n unit = omega arith
 index_length false n unit = omega arith
 
@@ -257,37 +259,35 @@ next_index us from is i d lt h =
     let on : after_index (is_wide_index (drop (get_or is i d).unit us)) (get_or is i d).unit ≤ length us = follow_within us (after_index (is_wide_index (drop (get_or is i d).unit us)) (get_or is i d).unit) (drop (i + 1) is) g.1 in
     record { first = g.0; inside = omega (arith, on, after_is_more (is_wide_index (drop (get_or is i d).unit us)) (get_or is i d).unit); later = g.1; end = on }
 
+-- the bytes of a part, of an index, and of what follows
+next_parts : (us : List ℕ) (from : ℕ) (x : Index) (is : List Index) (w : Bool) → w ≡ is_wide_index (drop x.unit us)
+    → flat_map ushort (spelled_from us from (x ∷ is)) ≡ bytes_between us from (x.unit + 1) ++ (flat_map ushort (index_units w x.number) ++ flat_map ushort (spelled_from us (after_index w x.unit) is))
+next_parts us from x is w wide =
+    ap (λ (v : Bool). flat_map ushort (take (x.unit + 1 - from) (drop from us) ++ (index_units v x.number ++ spelled_from us (after_index v x.unit) is))) (sym wide)
+    ∙ flat_map-append ushort (take (x.unit + 1 - from) (drop from us)) (index_units w x.number ++ spelled_from us (after_index w x.unit) is)
+    ∙ ap (λ (xs : List ℕ). bytes_between us from (x.unit + 1) ++ xs) (flat_map-append ushort (index_units w x.number) (spelled_from us (after_index w x.unit) is))
+
 -- a part and an index more
-pub put_more : (us : List ℕ) (from : ℕ) (is : List Index) (i : ℕ) (d : Index) (w : Bool) (all out one two : List ℕ) → i < length is → w ≡ is_wide_index (drop (get_or is i d).unit us)
-    → out ++ flat_map ushort (spelled_from us from (drop i is)) ≡ all
-    → one ≡ out ++ flat_map ushort (take ((get_or is i d).unit + 1 - from) (drop from us))
-    → two ≡ one ++ flat_map ushort (index_units w (get_or is i d).number)
-    → two ++ flat_map ushort (spelled_from us (after_index w (get_or is i d).unit) (drop (i + 1) is)) ≡ all
-put_more us from is i d w all out one two lt wide before first second =
-    let x : Index = get_or is i d in
-    let part : List ℕ = take ((get_or is i d).unit + 1 - from) (drop from us) in
-    let index : List ℕ = index_units w (get_or is i d).number in
-    let rest : List ℕ = spelled_from us (after_index w (get_or is i d).unit) (drop (i + 1) is) in
-    let all_is : spelled_from us from (drop i is) ≡ take ((get_or is i d).unit + 1 - from) (drop from us) ++ (index_units w (get_or is i d).number ++ spelled_from us (after_index w (get_or is i d).unit) (drop (i + 1) is)) =
-    ap (spelled_from us from) (next_is is i d lt)
-    ∙ ap (λ (v : Bool). take ((get_or is i d).unit + 1 - from) (drop from us) ++ (index_units v (get_or is i d).number ++ spelled_from us (after_index v (get_or is i d).unit) (drop (i + 1) is))) (sym wide) in
-    ap (λ (xs : List ℕ). xs ++ flat_map ushort (spelled_from us (after_index w (get_or is i d).unit) (drop (i + 1) is)))
-    (second ∙ ap (λ (xs : List ℕ). xs ++ flat_map ushort (index_units w (get_or is i d).number)) first
-    ∙ append_assoc out (flat_map ushort (take ((get_or is i d).unit + 1 - from) (drop from us))) (flat_map ushort (index_units w (get_or is i d).number)))
-    ∙ append_assoc out (flat_map ushort (take ((get_or is i d).unit + 1 - from) (drop from us)) ++ flat_map ushort (index_units w (get_or is i d).number)) (flat_map ushort (spelled_from us (after_index w (get_or is i d).unit) (drop (i + 1) is)))
-    ∙ ap (λ (xs : List ℕ). out ++ xs) (
-    append_assoc (flat_map ushort (take ((get_or is i d).unit + 1 - from) (drop from us))) (flat_map ushort (index_units w (get_or is i d).number)) (flat_map ushort (spelled_from us (after_index w (get_or is i d).unit) (drop (i + 1) is)))
-    ∙ ap (λ (xs : List ℕ). flat_map ushort (take ((get_or is i d).unit + 1 - from) (drop from us)) ++ xs) (sym (flat_map-append ushort (index_units w (get_or is i d).number) (spelled_from us (after_index w (get_or is i d).unit) (drop (i + 1) is))))
-    ∙ sym (flat_map-append ushort (take ((get_or is i d).unit + 1 - from) (drop from us)) (index_units w (get_or is i d).number ++ spelled_from us (after_index w (get_or is i d).unit) (drop (i + 1) is)))
-    ∙ ap (flat_map ushort) (sym all_is))
-    ∙ before
+pub put_more : {O : Type 0} (gives : List ℕ → O → O → Type 0) (both : (x y : List ℕ) (a b c : O) → gives x a b → gives y b c → gives (x ++ y) a c) (us : List ℕ) (from : ℕ) (is : List Index) (i : ℕ) (d : Index) (w : Bool) (whole : List ℕ) (start a b c : O)
+    → i < length is → w ≡ is_wide_index (drop (get_or is i d).unit us)
+    → Completes gives (flat_map ushort (spelled_from us from (drop i is))) a whole start
+    → gives (bytes_between us from ((get_or is i d).unit + 1)) a b
+    → gives (flat_map ushort (index_units w (get_or is i d).number)) b c
+    → Completes gives (flat_map ushort (spelled_from us (after_index w (get_or is i d).unit) (drop (i + 1) is))) c whole start
+put_more gives both us from is i d w whole start a b c lt wide before part index =
+    let rest = flat_map ushort (spelled_from us (after_index w (get_or is i d).unit) (drop (i + 1) is)) in
+    let number = flat_map ushort (index_units w (get_or is i d).number) in
+    let parts = ap (λ (js : List Index). flat_map ushort (spelled_from us from js)) (next_is is i d lt) ∙ next_parts us from (get_or is i d) (drop (i + 1) is) w wide in
+    completes_more gives both number rest (number ++ rest) whole start b c refl
+    (completes_more gives both (bytes_between us from ((get_or is i d).unit + 1)) (number ++ rest) (flat_map ushort (spelled_from us from (drop i is))) whole start a b parts before part) index
 
 -- the units after the last index
-pub put_last : (us : List ℕ) (from n : ℕ) (is : List Index) (i : ℕ) (all out one : List ℕ) → length is ≤ i → n ≡ length us → from ≤ length us → out ++ flat_map ushort (spelled_from us from (drop i is)) ≡ all
-    → one ≡ out ++ flat_map ushort (take (n - from) (drop from us)) → one ≡ all
-put_last us from n is i all out one end size le before last =
+pub put_last : {O : Type 0} (gives : List ℕ → O → O → Type 0) (us : List ℕ) (from n : ℕ) (is : List Index) (i : ℕ) (whole : List ℕ) (start a b : O) → length is ≤ i → n ≡ length us → from ≤ length us
+    → Completes gives (flat_map ushort (spelled_from us from (drop i is))) a whole start → gives (bytes_between us from n) a b → gives whole start b
+put_last gives us from n is i whole start a b end size le before last =
     let l : length (drop from us) ≡ length us - from = length-drop from us in
-    last ∙ ap (λ (xs : List ℕ). out ++ flat_map ushort xs) (take_all (n - from) (drop from us) (omega arith)) ∙ ap (λ (xs : List Index). out ++ flat_map ushort (spelled_from us from xs)) (sym (drop_all i is end)) ∙ before
+    before.on b (subst (λ (bs : List ℕ). gives bs a b)
+    (ap (flat_map ushort) (take_all (n - from) (drop from us) (omega arith)) ∙ ap (λ (js : List Index). flat_map ushort (spelled_from us from js)) (sym (drop_all i is end))) last)
 
 -- ---- lengths
 

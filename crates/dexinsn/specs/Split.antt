@@ -79,14 +79,14 @@ IsResult us (Ok cs) = IsCode us cs
 IsResult us (Err fault) = IsFault us fault × (fault.kind ≢ 4)
 
 -- the answer is this fault
-abbrev pub IsTold : Result (List Cut) CodeFault → CodeFault → Type 0
-IsTold (Ok cs) fault = ⊥
-IsTold (Err told) fault = (told.kind ≡ fault.kind) × (told.unit ≡ fault.unit)
+abbrev pub IsReported : Result (List Cut) CodeFault → CodeFault → Type 0
+IsReported (Ok cs) fault = ⊥
+IsReported (Err reported) fault = (reported.kind ≡ fault.kind) × (reported.unit ≡ fault.unit)
 
 -- what is returned is this, unless an allocation failed
 abbrev pub IsReturned : Result (List Cut) CodeFault → Result (Vec CutOfCode Global) CodeFault → Type 0
 IsReturned answer (Ok cuts) = Ok (cuts_of cuts.items) ≡ answer
-IsReturned answer (Err fault) = fault.kind ≢ 4 → IsTold answer fault
+IsReturned answer (Err fault) = fault.kind ≢ 4 → IsReported answer fault
 
 -- each answer that is true of the units is what is returned, unless an allocation failed
 abbrev pub IsOnlyResult : List ℕ → Result (Vec CutOfCode Global) CodeFault → Type 0

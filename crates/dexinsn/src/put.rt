@@ -1,6 +1,6 @@
 //! Pieces written.
 
-ghost use Rattle.std.specs.Prelude.{◌≡◌, ◌++◌, ◌+◌, ◌*◌, ◌-◌, ◌^◌, ◌<◌, ◌≤◌, All, IsOk, length, false, vec_len, vec_capacity};
+ghost use Rattle.std.specs.Prelude.{◌≡◌, ◌+◌, ◌*◌, ◌^◌, ◌<◌, ◌≤◌, ⊤, IsOk, length, false, vec_len, vec_capacity};
 ghost use Rattle.std.specs.List.{flat_map};
 ghost use Rattle.dexspec.specs.Bytes.{ushort};
 ghost use Rattle.dexspec.specs.internal.Writing.{Puts};
@@ -14,35 +14,28 @@ use crate::code_units::{Units, unit_bytes};
 use crate::instruction_index::is_wide_at;
 use crate::laws::units_law;
 use crate::pieces::{Index, Pieces};
-use dexhead::{put_u16, put_u32};
+use dexhead::{Encode, Output, put_with_len};
 use dexpool::Numbering;
 use std::alloc::AllocError;
 
-// Appends the bytes of the units from one place up to another, where there is room for them.
-fn push_part(bytes: &[u8], from: usize, to: usize, out: &mut Vec<u8>)
+// Writes the units from one place up to another.
+fn encode_part<O: Output>(bytes: &[u8], from: usize, to: usize, out: &mut O)
     requires order { from ≤ to }
     requires within { 2 * to ≤ length bytes.now }
-    requires room { vec_len out.old + 2 * (to - from) ≤ vec_capacity out.old }
-    ensures items { out.new.items ≡ out.old.items ++ bytes_between (units_in bytes.now) from to }
-    ensures len { vec_len out.new ≡ vec_len out.old + 2 * (to - from) }
-    ensures capacity { vec_capacity out.old ≤ vec_capacity out.new }
+    ensures { O.gives (bytes_between (units_in bytes.now) from to) out.old out.new }
 {
-    out.extend_from_slice(unit_bytes(bytes, from, to)).unwrap();
+    out.bytes(unit_bytes(bytes, from, to));
 }
 
-// Appends the bytes of an index, where there is room for them.
-fn push_number(is_wide: bool, number: u32, out: &mut Vec<u8>)
-    requires fits { is_wide ≡ false → number < 2 ^ 16 }
-    requires room { vec_len out.old + 2 * length (index_units is_wide number)
-        ≤ vec_capacity out.old }
-    ensures items { out.new.items ≡ out.old.items ++ flat_map ushort (index_units is_wide number) }
-    ensures len { vec_len out.new ≡ vec_len out.old + 2 * length (index_units is_wide number) }
-    ensures capacity { vec_capacity out.old ≤ vec_capacity out.new }
+// Writes an index.
+fn encode_number<O: Output>(is_wide: bool, number: u32, out: &mut O)
+    requires { is_wide ≡ false → number < 2 ^ 16 }
+    ensures { O.gives (flat_map ushort (index_units is_wide number)) out.old out.new }
 {
     if is_wide {
-        put_u32(number, out).unwrap();
+        out.u32(number);
     } else {
-        put_u16(number as u16, out).unwrap();
+        out.u16(number as u16);
     }
 }
 
@@ -54,34 +47,32 @@ pub(crate) fn after_index(is_wide: bool, unit: usize) -> usize
     if is_wide { unit + 3 } else { unit + 2 }
 }
 
-// Appends the units of the pieces.
-fn put_numbered(pieces: &Pieces<'_>, out: &mut Vec<u8>) -> Result<(), AllocError>
-    ensures { Puts (numbered_bytes pieces.now.pieces) out.old out.new result }
-{
-    let units = Units::of_bytes(pieces.bytes);
-    out.reserve(2 * units.len())?;
-    push_numbered(pieces.bytes, &pieces.indices, out);
-    Ok(())
-}
-
-// Appends the units, their numbers put in, where there is room for them.
-fn push_numbered(bytes: &[u8], indices: &[Index], out: &mut Vec<u8>)
-    requires stored { AreStored (units_in bytes.now) indices.now }
-    requires room { vec_len out.old + 2 * length (units_in bytes.now) ≤ vec_capacity out.old }
-    ensures items { out.new.items ≡ out.old.items ++ bytes_with (units_in bytes.now) indices.now }
-    ensures len { vec_len out.new ≡ vec_len out.old + 2 * length (units_in bytes.now) }
-    ensures capacity { vec_capacity out.old ≤ vec_capacity out.new }
+// Writes the units, their numbers put in.
+fn encode_numbered<O: Output>(bytes: &[u8], indices: &[Index], out: &mut O)
+    requires { AreStored (units_in bytes.now) indices.now }
+    ensures { O.gives (bytes_with (units_in bytes.now) indices.now) out.old out.new }
 {
     let units = Units::of_bytes(bytes);
     let mut from = 0;
     for index in indices {
         let unit = index.unit as usize;
         let is_wide = is_wide_at(&units, unit);
-        push_part(bytes, from, unit + 1, out);
-        push_number(is_wide, index.number, out);
+        encode_part(bytes, from, unit + 1, out);
+        encode_number(is_wide, index.number, out);
         from = after_index(is_wide, unit);
     }
-    push_part(bytes, from, units.len(), out);
+    encode_part(bytes, from, units.len(), out);
+}
+
+// The units of the pieces, the number of each symbol put in: two bytes for each unit, the lower first.
+impl Encode for Pieces<'_> {
+    ghost formed = { λ _. ⊤ };
+
+    ghost bytes = { λ p. numbered_bytes p.pieces };
+
+    fn encode<O: Output>(&self, out: &mut O) {
+        encode_numbered(self.bytes, &self.indices, out);
+    }
 }
 
 /// Appends the units of the pieces, the number of each symbol put in: two bytes for each unit, the lower first. They
@@ -104,5 +95,5 @@ pub fn put_pieces(
 {
     numbering.is_numbering();
     units_law();
-    put_numbered(pieces, out)
+    put_with_len(pieces, 2 * pieces.units() as usize, out)
 }

@@ -25,7 +25,7 @@ align_one p =
     let none : (1 - p.places.end % 1) % 1 ≡ 0 = omega arith in
     let here : round_up 1 p.places.end ≡ p.places.end = omega arith in
     let bytes = ap (λ n. p.bytes ++ replicate n 0) none ∙ append-nil p.bytes in
-    λ i. record { bytes = bytes i; places = record { offsets = p.places.offsets; end = here i; greatest = p.places.greatest } }
+    λ i. record { bytes = bytes i; places = record { offsets = p.places.offsets; end = here i } }
 
 -- what was appended to the bytes is the item
 module _ {p : EncodedItems} {bytes more : List ℕ} {places : ItemPlaces} {before : ℕ} (item : List ℕ) (is : record { bytes = bytes; places = places } ≡ p) (count : before ≡ length bytes) (put : more ≡ bytes ++ item) where
@@ -140,7 +140,7 @@ module _ (align : ℕ) where
         let places = encoded_places (no_items_from start) us ∙ ap (place_uses align (none_from start)) (all_lens its.written) in
         subst (AreItemsIn S) (λ i. encode_uses align (no_items_from (sym here i)) (sym are i)) (record {
           bytes_are = encoded_bytes (no_items_from start) us ∙ ap (bytes_from align start) (all_present its.written);
-          places_are = subst (AreLaidSo (offsets S) (end S) S.items) (sym places) (all_encoded f align start its.written);
+          places_are = subst (AreLaidSo (offsets S) (end S)) (sym places) (all_encoded f align start its.written);
         })
 
     -- those that some uses have

@@ -1,5 +1,5 @@
 -- How many items each section of the data has, and how long the longest of several is.
-use Rattle.std.proofs.Common.{◌≡◌, ℕ, ◌+◌, ◌<◌, ◌≤◌, ◌^◌, max, Bool, true, false, cond, List, [], ◌∷◌, ◌++◌, length, map, Option, None, Some, refl, sym, ap, ◌∙◌, arith}
+use Rattle.std.proofs.Common.{◌≡◌, ℕ, ◌+◌, ◌<◌, ◌≤◌, ◌^◌, Bool, true, false, cond, List, [], ◌∷◌, ◌++◌, length, map, Option, None, Some, refl, sym, ap, ◌∙◌, arith}
 use Rattle.std.specs.Prelude.{◌==◌, not}
 use Rattle.std.proofs.lemmas.Bool.{ne_eqb}
 use Rattle.std.proofs.lemmas.List.{length-map}
@@ -23,21 +23,6 @@ use Rattle.dexlayout.specs.declared.data.Data.{Data}
 use Rattle.dexlayout.specs.Laid.{AreLaidSo, ordered_of}
 use Rattle.dexlayout.proofs.Ends.{EndInFile, chained}
 use Rattle.dexlayout.proofs.Owned.{sizes, own_encoded}
-
--- ---- the greatest of several
-
--- the greatest of numbers
-abbrev pub max_of : List ℕ → ℕ
-max_of [] = 0
-max_of (n ∷ ns) = max n (max_of ns)
-
-max_of_last : (ns : List ℕ) (n : ℕ) → max_of (ns ++ n ∷ []) ≡ max (max_of ns) n
-max_of_last [] n = omega arith
-max_of_last (k ∷ ks) n = let rest = max_of_last ks n in omega (arith, rest)
-
--- with one more
-pub max_more : (ns : List ℕ) (r s n a b : ℕ) → r ≡ max_of ns → s ≡ max r a → a ≡ b → b ≡ n → s ≡ max_of (ns ++ n ∷ [])
-max_more ns r s n a b er es ea eb = omega (arith, er, es, ea, eb, max_of_last ns n)
 
 -- ---- offsets of items
 
@@ -178,13 +163,12 @@ few_items K ends =
 
 -- the texts are after the static values
 pub strings_at_ranks : (K : Ordered) (from : ℕ) {p : ItemPlaces} → from ≡ end (array_section K)
-    → AreLaidSo (offsets_from 1 from (map string_data K.pools.texts)) (end_from 1 from (map string_data K.pools.texts)) (map string_data K.pools.texts) p
-    → AreLaidSo (offsets (string_section K)) (end (string_section K)) (string_section K).items p
+    → AreLaidSo (offsets_from 1 from (map string_data K.pools.texts)) (end_from 1 from (map string_data K.pools.texts)) p
+    → AreLaidSo (offsets (string_section K)) (end (string_section K)) p
 unfolding string_section
 strings_at_ranks K from {p} e h = record {
   offsets_are = h.offsets_are ∙ ap (λ n. offsets_from 1 n (map string_data K.pools.texts)) e;
   end_is = h.end_is ∙ ap (λ n. end_from 1 n (map string_data K.pools.texts)) e;
-  greatest_is = h.greatest_is;
 }
 
 -- and fit the file

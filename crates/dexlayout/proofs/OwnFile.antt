@@ -19,7 +19,7 @@ use Rattle.dexpool.specs.Numberings.{IsNumbering}
 use Rattle.dexclass.specs.Numbered.{NumberedClass}
 use Rattle.dexclass.specs.Programs.{AreClassesOf}
 use Rattle.dexlayout.specs.Places.{SetPlaces, Places}
-use Rattle.dexlayout.specs.Laid.{ordered_of, file_end, AreWritable, greatest_item, AreLaidSo, AreEncodedIn, AreSharedIn, AreSets, IsLaid, AreItemsIn}
+use Rattle.dexlayout.specs.Laid.{ordered_of, file_end, AreWritable, AreLaidSo, AreEncodedIn, AreSharedIn, AreSets, IsLaid, AreItemsIn}
 use Rattle.dexlayout.specs.internal.Parts.{entry_of, table_parts, section_parts}
 use Rattle.dexlayout.proofs.Ends.{map_start_is}
 use Rattle.dexlayout.proofs.OwnParts.{map_parts}
@@ -89,15 +89,14 @@ module _ (m : Mentions) (cs ds : List NumberedClass) (e : ordered_of m cs ≡ or
     type_lists_are = subst (λ (K : Ordered). AreSharedIn (type_list_section K) p.type_lists) e h.type_lists_are;
     annotations_are = subst (λ (K : Ordered). AreItemsIn (annotation_section K) p.annotations) e h.annotations_are;
     static_values_are = subst (λ (K : Ordered). AreEncodedIn (array_section K) p.static_values) e h.static_values_are;
-    strings_are = subst (λ (K : Ordered). AreLaidSo (offsets (string_section K)) (end (string_section K)) (string_section K).items p.strings) e h.strings_are;
+    strings_are = subst (λ (K : Ordered). AreLaidSo (offsets (string_section K)) (end (string_section K)) p.strings) e h.strings_are;
     debugs_are = subst (λ (K : Ordered). AreSharedIn (debug_section K) p.debugs) e h.debugs_are;
-    codes_are = subst (λ (K : Ordered). AreLaidSo (uses_offsets (code_section K)) (end (code_section K)) (code_section K).items p.codes) e h.codes_are;
+    codes_are = subst (λ (K : Ordered). AreLaidSo (uses_offsets (code_section K)) (end (code_section K)) p.codes) e h.codes_are;
     class_data_are = subst (λ (K : Ordered). AreEncodedIn (class_data_section K) p.class_data) e h.class_data_are;
     sets_are = sets_same h.sets_are;
     ref_lists_are = subst (λ (K : Ordered). AreEncodedIn (ref_list_section K) p.ref_lists) e h.ref_lists_are;
     directories_are = subst (λ (K : Ordered). AreEncodedIn (directory_section K) p.directories) e h.directories_are;
     entries_are = h.entries_are ∙ ap (λ (K : Ordered). map_of K (map_start K)) e;
-    greatest_is = h.greatest_is ∙ ap greatest_item e;
   }
 
 -- the data begin before the map

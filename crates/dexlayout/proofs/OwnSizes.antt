@@ -102,7 +102,7 @@ length-code_offsets K = length-uses_offsets (code_uses K (uses_offsets (debug_se
 
 -- the offsets of code
 pub codes_encoded : (m : Mentions) (cs : List NumberedClass) → AreWritable m cs → CodeBytesAre → (from : ℕ) → from ≡ end (debug_section (ordered_of m cs))
-    → AreLaidSo (uses_offsets (code_section (ordered_of m cs))) (end (code_section (ordered_of m cs))) (code_section (ordered_of m cs)).items (place_uses 4 (none_from from) (flat_map class_code_sizes cs))
+    → AreLaidSo (uses_offsets (code_section (ordered_of m cs))) (end (code_section (ordered_of m cs))) (place_uses 4 (none_from from) (flat_map class_code_sizes cs))
 unfolding code_section
 codes_encoded m cs w bytes from e =
     let K = ordered_of m cs in
@@ -113,7 +113,7 @@ codes_encoded m cs w bytes from e =
     let same : flat_map class_code_sizes cs ≡ sizes item (code_uses K offs) =
     sizes_joined cs ∙ codes_same m w.numbering.rising bytes (methods_in_all cs) offs count (methods_known m cs w.known)
     ∙ ap (λ xs. sizes item (zip_with (use_of m w.numbering.rising bytes) xs offs)) (sym mean) in
-    subst (AreLaidSo (uses_offsets (code_section K)) (end (code_section K)) (code_section K).items) (ap (λ ns. place_uses 4 (none_from (end (debug_section K))) ns) (sym same) ∙ ap (λ n. place_uses 4 (none_from n) (flat_map class_code_sizes cs)) (sym e))
+    subst (AreLaidSo (uses_offsets (code_section K)) (end (code_section K))) (ap (λ ns. place_uses 4 (none_from (end (debug_section K))) ns) (sym same) ∙ ap (λ n. place_uses 4 (none_from n) (flat_map class_code_sizes cs)) (sym e))
     (own_encoded item 4 (end (debug_section K)) (code_uses K offs))
 
 -- as many offsets of code as methods

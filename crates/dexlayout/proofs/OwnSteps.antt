@@ -1,12 +1,12 @@
 -- Items that are placed one after the other by a loop: what is still to be placed.
-use Rattle.std.proofs.Common.{◌≡◌, ℕ, ◌+◌, ◌<◌, ◌≤◌, max, List, [], ◌∷◌, ◌++◌, length, get_or, map, drop, Option, Some, refl, sym, ap, ◌∙◌, arith, append_assoc}
+use Rattle.std.proofs.Common.{◌≡◌, ℕ, ◌+◌, ◌<◌, ◌≤◌, List, [], ◌∷◌, ◌++◌, length, get_or, map, drop, Option, Some, refl, sym, ap, ◌∙◌, arith, append_assoc}
 use Rattle.std.specs.List.{flat_map}
 use Rattle.std.proofs.lemmas.List.{append-nil, drop_more, drop_all}
 use Rattle.dexspec.specs.Bytes.{round_up}
 use Rattle.dexspec.specs.Placing.{offsets_from, end_from}
 use Rattle.dexlayout.specs.Places.{ItemPlaces}
 use Rattle.dexlayout.specs.internal.Running.{none_from, put_at, put_next, place_use, place_uses}
-use Rattle.dexlayout.specs.Laid.{greatest_of, AreLaidSo}
+use Rattle.dexlayout.specs.Laid.{AreLaidSo}
 use Rattle.dexlayout.proofs.Owned.{place_append, place_grows}
 
 -- an item that is not aligned begins at the end of the one before it
@@ -61,14 +61,9 @@ module _ {X : Type 0} (f : X → List ℕ) (align : ℕ) where
   end_all [] p = refl
   end_all (x ∷ xs) p = end_all xs (put_at p (round_up align p.end) (length (f x)))
 
-  greatest_all : (xs : List X) (p : ItemPlaces) → (place_uses align p (map size xs)).greatest ≡ max p.greatest (greatest_of (map f xs))
-  greatest_all [] p = omega arith
-  greatest_all (x ∷ xs) p = let rest = greatest_all xs (put_at p (round_up align p.end) (length (f x))) in omega (arith, rest)
-
   -- the offsets of items where each use has one
-  pub all_encoded : (from : ℕ) (xs : List X) → AreLaidSo (offsets_from align from (map f xs)) (end_from align from (map f xs)) (map f xs) (place_uses align (none_from from) (map size xs))
+  pub all_encoded : (from : ℕ) (xs : List X) → AreLaidSo (offsets_from align from (map f xs)) (end_from align from (map f xs)) (place_uses align (none_from from) (map size xs))
   all_encoded from xs = record {
     offsets_are = offsets_all xs (none_from from);
     end_is = end_all xs (none_from from);
-    greatest_is = greatest_all xs (none_from from) ∙ omega arith;
   }

@@ -1,6 +1,5 @@
--- Items of their own: going through the uses with a running end gives the offsets of the uses, where the items end, and
--- how long the longest is.
-use Rattle.std.proofs.Common.{◌≡◌, ℕ, ◌+◌, ◌≤◌, max, List, [], ◌∷◌, ◌++◌, length, map, Option, None, Some, refl, sym, ap, ◌∙◌, arith, append_assoc}
+-- Items of their own: going through the uses with a running end gives the offsets of the uses, and where the items end.
+use Rattle.std.proofs.Common.{◌≡◌, ℕ, ◌+◌, ◌≤◌, List, [], ◌∷◌, ◌++◌, length, map, Option, None, Some, refl, sym, ap, ◌∙◌, arith, append_assoc}
 use Rattle.std.specs.Prelude.{slice_index}
 use Rattle.std.specs.Option.{option_map, option_map_or}
 use Rattle.std.proofs.lemmas.List.{append-nil, length-append, get_or-append-add}
@@ -11,7 +10,7 @@ use Rattle.dexspec.proofs.layout.Places.{length-padding}
 use Rattle.dexspec.proofs.layout.Placements.{numbers_offsets}
 use Rattle.dexlayout.specs.Places.{ItemPlaces}
 use Rattle.dexlayout.specs.internal.Running.{none_from, pass, put_at, place_use, place_uses}
-use Rattle.dexlayout.specs.Laid.{greatest_of, AreLaidSo}
+use Rattle.dexlayout.specs.Laid.{AreLaidSo}
 
 -- how many bytes each use has, if it has an item
 abbrev pub sizes : {X : Type 0} → (X → List ℕ) → List (Option X) → List (Option ℕ)
@@ -61,19 +60,11 @@ module _ {X : Type 0} (f : X → List ℕ) (align : ℕ) where
   end_go (None ∷ us) p = end_go us (pass p)
   end_go (Some x ∷ us) p = end_go us (put_at p (round_up align p.end) (length (f x)))
 
-  greatest_go : (us : List (Option X)) (p : ItemPlaces) → (place_uses align p (sizes f us)).greatest ≡ max p.greatest (greatest_of (map f (present us)))
-  greatest_go [] p = omega arith
-  greatest_go (None ∷ us) p = greatest_go us (pass p)
-  greatest_go (Some x ∷ us) p =
-      let rest = greatest_go us (put_at p (round_up align p.end) (length (f x))) in
-      omega (arith, rest)
-
   -- the offsets of items that are not shared
   pub own_encoded : (from : ℕ) (us : List (Option X))
-      → AreLaidSo (numbers_offsets (own_items us).numbers (offsets_from align from (map f (own_items us).written))) (end_from align from (map f (own_items us).written)) (map f (own_items us).written)
+      → AreLaidSo (numbers_offsets (own_items us).numbers (offsets_from align from (map f (own_items us).written))) (end_from align from (map f (own_items us).written))
       (place_uses align (none_from from) (sizes f us))
   own_encoded from us = record {
     offsets_are = offsets_go us [] (none_from from);
     end_is = end_go us (none_from from);
-    greatest_is = greatest_go us (none_from from) ∙ omega arith;
   }

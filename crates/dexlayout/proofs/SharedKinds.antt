@@ -74,7 +74,7 @@ module _ (m : Mentions) (cs : List NumberedClass) (w : AreWritable m cs) (from :
   lists_numbered =
       let items = type_list_items (ordered_of m cs) in
       numbers_within numbers (length (encoded_lists from written).places.offsets) (shared_numbered same_types types_decide (type_list_uses (ordered_of m cs))) h.numbers_are
-      (offsets_count 4 (data_start (ordered_of m cs)) lists_encoded.places_are ∙ length-map items.written (type_list_bytes m))
+      (offsets_count 4 (data_start (ordered_of m cs)) (map (type_list_bytes m) items.written) lists_encoded.places_are ∙ length-map items.written (type_list_bytes m))
 
   lists_numbers : numbers ≡ (type_list_section (ordered_of m cs)).numbers
   unfolding type_list_section
@@ -183,7 +183,7 @@ module _ (m : Mentions) (cs : List NumberedClass) (w : AreWritable m cs) (from :
   debugs_numbered =
       let items = debug_items (ordered_of m cs) in
       numbers_within numbers (length (encoded_debugs from written).places.offsets) (shared_numbered same_debug debug_decides (debug_uses (ordered_of m cs))) h.numbers_are
-      (offsets_count 1 (end (string_section (ordered_of m cs))) debugs_encoded.places_are ∙ length-map items.written (debug_bytes m))
+      (offsets_count 1 (end (string_section (ordered_of m cs))) (map (debug_bytes m) items.written) debugs_encoded.places_are ∙ length-map items.written (debug_bytes m))
 
   debugs_numbers : numbers ≡ (debug_section (ordered_of m cs)).numbers
   unfolding debug_section

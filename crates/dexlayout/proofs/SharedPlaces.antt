@@ -24,17 +24,16 @@ numbers_within {X} {uses} {its} numbers count are en ec =
     subst (λ k. All (λ n. IfSome n (λ i. i < k)) numbers) (sym ec) (subst (All (λ n. IfSome n (λ i. i < length written))) (sym en) each)
 
 -- as many offsets as items
-pub offsets_count : {end : ℕ} (align from : ℕ) {items : List (List ℕ)} {p : ItemPlaces} → AreLaidSo (offsets_from align from items) end items p → length p.offsets ≡ length items
-offsets_count align from {items} h = ap (λ (l : List ℕ). length l) h.offsets_are ∙ length-offsets_from align from items
+pub offsets_count : {end : ℕ} (align from : ℕ) (items : List (List ℕ)) {p : ItemPlaces} → AreLaidSo (offsets_from align from items) end p → length p.offsets ≡ length items
+offsets_count align from items h = ap (λ (l : List ℕ). length l) h.offsets_are ∙ length-offsets_from align from items
 
 -- items that uses share, from those that are written
 pub shared_in : {section : Placed} {p : EncodedItems} (numbers : List (Option ℕ)) → numbers ≡ section.numbers → AreItemsIn section p → AreSharedIn section (shared_by numbers p)
 shared_in {section} {p} numbers are h = record {
   bytes_are = h.bytes_are;
-  count_is = offsets_count section.align section.from h.places_are;
+  count_is = offsets_count section.align section.from section.items h.places_are;
   places_are = record {
     offsets_are = λ i. numbers_offsets (are i) (h.places_are.offsets_are i);
     end_is = h.places_are.end_is;
-    greatest_is = h.places_are.greatest_is;
   };
 }

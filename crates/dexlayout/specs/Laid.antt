@@ -1,11 +1,10 @@
 -- When a layout is that of the canonical file of classes.
-use Rattle.std.specs.Prelude.{◌≡◌, ℕ, ◌+◌, ◌^◌, ◌≤◌, max, Option, List, [], ◌∷◌, map, length, All, drop, slice_index}
+use Rattle.std.specs.Prelude.{◌≡◌, ℕ, ◌+◌, ◌^◌, ◌≤◌, Option, List, map, length, All, drop, slice_index}
 use Rattle.std.specs.List.{flat_map}
 use Rattle.dexspec.specs.Mentions.{Mentions, mentions}
 use Rattle.dexspec.specs.Files.{Collection, definitions}
-use Rattle.dexspec.specs.Header.{header_length}
 use Rattle.dexspec.specs.Placing.{Ordered, EqualOnce, Placed, Items, section_bytes, end, uses_offsets, offsets}
-use Rattle.dexspec.specs.Canonical.{map_of, data_sections, type_list_section, annotation_section, array_section, string_section, debug_section, code_section, class_data_section, set_section, set_offsets, ref_list_section, directory_section, ordered}
+use Rattle.dexspec.specs.Canonical.{map_of, type_list_section, annotation_section, array_section, string_section, debug_section, code_section, class_data_section, set_section, set_offsets, ref_list_section, directory_section, ordered}
 use Rattle.dexhead.specs.Laid.{StatesLayout, map_start, map_list}
 use Rattle.dexpool.specs.Numberings.{IsNumbering}
 use Rattle.dexclass.specs.Numbered.{NumberedClass, definition_of}
@@ -31,33 +30,16 @@ pub record AreWritable (m : Mentions) (cs : List NumberedClass) : Type 0 where
   pub protos_few : length m.protos ≤ 65535
   pub fits : file_end (ordered_of m cs) ≤ 2 ^ 30
 
--- ---- lengths
-
--- the greatest length of items
-abbrev pub greatest_of : List (List ℕ) → ℕ
-greatest_of [] = 0
-greatest_of (x ∷ xs) = max (length x) (greatest_of xs)
-
--- the greatest length of the items of sections
-abbrev pub greatest_in : List Placed → ℕ
-greatest_in [] = 0
-greatest_in (p ∷ ps) = max (greatest_of p.items) (greatest_in ps)
-
--- the greatest length of an item of the file, the header and the map among them
-abbrev pub greatest_item : Ordered → ℕ
-greatest_item K = max header_length (max (length (map_list K)) (greatest_in (data_sections K)))
-
 -- ---- parts of a layout
 
 -- items of one kind have these offsets and this end
-pub record AreLaidSo (offsets : List ℕ) (end : ℕ) (items : List (List ℕ)) (p : ItemPlaces) : Type 0 where
+pub record AreLaidSo (offsets : List ℕ) (end : ℕ) (p : ItemPlaces) : Type 0 where
   pub offsets_are : p.offsets ≡ offsets
   pub end_is : p.end ≡ end
-  pub greatest_is : p.greatest ≡ greatest_of items
 
 -- items of uses have the offsets and the end that they have in this section
 abbrev pub AreLaidIn : Placed → ItemPlaces → Type 0
-AreLaidIn section = AreLaidSo (uses_offsets section) (end section) section.items
+AreLaidIn section = AreLaidSo (uses_offsets section) (end section)
 
 -- encoded items of uses have the bytes, the offsets and the end that they have in this section
 pub record AreEncodedIn (section : Placed) (p : EncodedItems) : Type 0 where
@@ -73,7 +55,7 @@ pub record AreSharedIn (section : Placed) (p : EncodedSharedItems) : Type 0 wher
 -- encoded items have the bytes, the offsets and the end that they have in this section, an offset for each
 pub record AreItemsIn (section : Placed) (p : EncodedItems) : Type 0 where
   pub bytes_are : p.bytes ≡ section_bytes section
-  pub places_are : AreLaidSo (offsets section) (end section) section.items p.places
+  pub places_are : AreLaidSo (offsets section) (end section) p.places
 
 -- the type lists
 abbrev pub AreTypeLists : Mentions → List NumberedClass → EncodedSharedItems → Type 0
@@ -124,7 +106,7 @@ pub record IsLaid (m : Mentions) (cs : List NumberedClass) (p : Places) : Type 0
   pub type_lists_are : AreTypeLists m cs p.type_lists
   pub annotations_are : AreAnnotations m cs p.annotations
   pub static_values_are : AreStaticValues m cs p.static_values
-  pub strings_are : AreLaidSo (offsets (string_section (ordered_of m cs))) (end (string_section (ordered_of m cs))) (string_section (ordered_of m cs)).items p.strings
+  pub strings_are : AreLaidSo (offsets (string_section (ordered_of m cs))) (end (string_section (ordered_of m cs))) p.strings
   pub debugs_are : AreDebugs m cs p.debugs
   pub codes_are : AreCodes m cs p.codes
   pub class_data_are : AreClassData m cs p.class_data
@@ -132,7 +114,6 @@ pub record IsLaid (m : Mentions) (cs : List NumberedClass) (p : Places) : Type 0
   pub ref_lists_are : AreRefLists m cs p.ref_lists
   pub directories_are : AreDirectories m cs p.directories
   pub entries_are : p.entries ≡ map_of (ordered_of m cs) (map_start (ordered_of m cs))
-  pub greatest_is : p.greatest ≡ greatest_item (ordered_of m cs)
 
 -- the layout is that of the collection's file
 abbrev pub IsLayoutOf : Collection → Places → Type 0

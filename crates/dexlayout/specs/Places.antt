@@ -3,11 +3,10 @@ use Rattle.std.specs.Prelude.{ℕ, List}
 use Rattle.dexspec.specs.Sections.{Section}
 use Rattle.dexhead.specs.declared.head.Head.{Head}
 
--- Where items begin, an offset for each use and 0 where it has no item; where they end; how long the longest is.
+-- Where items begin, an offset for each use and 0 where it has no item; and where they end.
 pub record ItemPlaces : Type 0 where
   pub offsets : List ℕ
   pub end : ℕ
-  pub greatest : ℕ
 
 -- Items that are encoded: their bytes, with the zeros that align them, and their offsets.
 pub record EncodedItems : Type 0 where
@@ -43,4 +42,3 @@ pub record Places : Type 0 where
   pub ref_lists : EncodedItems
   pub directories : EncodedItems
   pub entries : List (Section × ℕ × ℕ)
-  pub greatest : ℕ

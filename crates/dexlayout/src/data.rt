@@ -7,7 +7,7 @@ ghost use Rattle.dexspec.specs.Canonical.{data_start, string_section};
 ghost use Rattle.dexclass.specs.Numbered.{NumberedClass};
 ghost use Rattle.dexlayout.specs.Laid.{AreWritable, ordered_of};
 ghost use Rattle.dexlayout.specs.internal.Parts.{AreBack, AreBodies, AreData, AreFirstSections};
-ghost use Rattle.dexlayout.specs.internal.Placing.{CanPlaceSets, PlacedFrom, PlacedSets, AreWrittenSets, AreKnownSets, HaveSets, IsDataFrom, AreEntriesOf, greatest_data};
+ghost use Rattle.dexlayout.specs.internal.Placing.{CanPlaceSets, PlacedFrom, PlacedSets, AreWrittenSets, AreKnownSets, HaveSets, IsDataFrom, AreEntriesOf};
 
 use crate::annotations::place_annotations;
 use crate::class_data::place_class_data;
@@ -230,25 +230,5 @@ impl Data {
                 round_up(self.back.ref_lists.places().end()),
             ),
         ]
-    }
-
-    /// How many bytes the longest item of the sections has, or 0 where there is none.
-    pub(crate) fn greatest(&self) -> usize
-        ensures { (m : Mentions) (cs : List NumberedClass) → AreData m cs self.now
-            → result ≡ greatest_data m cs }
-    {
-        self.first_sections
-            .type_lists
-            .places()
-            .greatest()
-            .max(self.first_sections.annotations.places().greatest())
-            .max(self.first_sections.static_values.places().greatest())
-            .max(self.first_sections.strings.greatest())
-            .max(self.bodies.debugs.places().greatest())
-            .max(self.bodies.codes.greatest())
-            .max(self.bodies.class_data.places().greatest())
-            .max(self.back.sets.written().places().greatest())
-            .max(self.back.ref_lists.places().greatest())
-            .max(self.back.directories.places().greatest())
     }
 }

@@ -24,7 +24,6 @@ pub struct Layout {
     pub(crate) head: Head,
     pub(crate) placed: Data,
     pub(crate) entries: Vec<MapEntry>,
-    pub(crate) greatest: usize,
 }
 
 // So that a layout is dropped by one call, in the crates above too.
@@ -34,7 +33,6 @@ impl Drop for Layout {
             head: _,
             placed: _,
             entries: _,
-            greatest: _,
         } = self;
     }
 }
@@ -50,7 +48,7 @@ impl Model for Layout {
 
     ghost coded = { Prim.hlevel (codes, elements_code) };
 
-    ghost view = { λ l. record { head = l.head; type_lists = l.placed.first_sections.type_lists; annotations = l.placed.first_sections.annotations; static_values = l.placed.first_sections.static_values; strings = l.placed.first_sections.strings; debugs = l.placed.bodies.debugs; codes = l.placed.bodies.codes; class_data = l.placed.bodies.class_data; sets = l.placed.back.sets; ref_lists = l.placed.back.ref_lists; directories = l.placed.back.directories; entries = map entry_meant l.entries.items; greatest = l.greatest } };
+    ghost view = { λ l. record { head = l.head; type_lists = l.placed.first_sections.type_lists; annotations = l.placed.first_sections.annotations; static_values = l.placed.first_sections.static_values; strings = l.placed.first_sections.strings; debugs = l.placed.bodies.debugs; codes = l.placed.bodies.codes; class_data = l.placed.bodies.class_data; sets = l.placed.back.sets; ref_lists = l.placed.back.ref_lists; directories = l.placed.back.directories; entries = map entry_meant l.entries.items } };
 }
 
 impl Layout {
@@ -160,12 +158,5 @@ impl Layout {
         ensures { map entry_meant result.now ≡ self.now.entries }
     {
         &self.entries
-    }
-
-    /// How many bytes the longest item of the file has, the header and the map among them.
-    pub fn greatest(&self) -> usize
-        ensures { result ≡ self.now.greatest }
-    {
-        self.greatest
     }
 }

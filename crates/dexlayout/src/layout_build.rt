@@ -8,7 +8,7 @@ use crate::data::place_data;
 use crate::layout::Layout;
 use crate::map_entries::map_entries;
 use crate::offsets::round_up;
-use crate::tables::{HEADER_SIZE, Tables};
+use crate::tables::Tables;
 use dexclass::Class;
 use dexhead::Head;
 use dexpool::Numbering;
@@ -49,11 +49,9 @@ pub(crate) fn build_layout(
     let entries = map_entries(alloc, &tables.entries(), &sections, map_off)?;
     let map_size = 4 + 12 * entries.len() as u32;
     let head = head_of(&tables, map_off, map_size);
-    let longest = data.greatest();
     Ok(Layout {
         head,
         placed: data,
         entries,
-        greatest: longest.max(map_size as usize).max(HEADER_SIZE as usize),
     })
 }

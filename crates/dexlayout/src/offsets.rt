@@ -13,7 +13,6 @@ use std::marker::Model;
 pub struct Offsets {
     pub(crate) offsets: Vec<u32>,
     pub(crate) end: u32,
-    pub(crate) greatest: usize,
 }
 
 impl Model for Offsets {
@@ -21,7 +20,7 @@ impl Model for Offsets {
 
     ghost Value = { ItemPlaces };
 
-    ghost view = { λ p. record { offsets = p.offsets.items; end = p.end; greatest = p.greatest } };
+    ghost view = { λ p. record { offsets = p.offsets.items; end = p.end } };
 }
 
 impl Offsets {
@@ -39,13 +38,6 @@ impl Offsets {
         self.end
     }
 
-    /// How many bytes the longest item has, or 0 where there is none.
-    pub fn greatest(&self) -> usize
-        ensures { result ≡ self.now.greatest }
-    {
-        self.greatest
-    }
-
     /// No items yet, and memory for `uses` of them; the first item will be at `from` or after it.
     pub(crate) fn starting_at(alloc: Global, from: u32, uses: usize) -> Result<Offsets, AllocError>
         ensures { IfOk result (λ places. places ≡ none_from from) }
@@ -53,7 +45,6 @@ impl Offsets {
         Ok(Offsets {
             offsets: Vec::with_capacity(alloc, uses)?,
             end: from,
-            greatest: 0,
         })
     }
 
@@ -72,7 +63,6 @@ impl Offsets {
     {
         self.offsets.push(off)?;
         self.end = off + len;
-        self.greatest = self.greatest.max(len as usize);
         Ok(())
     }
 

@@ -102,6 +102,5 @@ pub(crate) fn place_shared(
     Ok(Offsets {
         offsets,
         end: written.end,
-        greatest: written.greatest,
     })
 }

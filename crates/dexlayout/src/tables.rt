@@ -15,7 +15,7 @@ use dexhead::{MapEntry, Rows, Section, Table};
 use dexpool::{Numbering, SymbolKind};
 
 /// The length of the header, in bytes.
-pub(crate) const HEADER_SIZE: u32 = 112;
+const HEADER_SIZE: u32 = 112;
 
 /// How many rows each table has and where they begin, and where the last ends.
 #[derive(Clone, Copy)]

@@ -60,7 +60,7 @@ module _ (m : Mentions) (marks : Marks) (count : AreMarksOf m marks) where
     methods_marked = all_marked marks.methods.items m.methods count.methods_count (ap (λ (n : Mentions). length n.methods) e);
   }
 
--- the closed marks tell whether what the marked symbols mention is every symbol
+-- the closed marks say whether what the marked symbols mention is every symbol
 pub whole_if_marked : (t : Tables) → AreTables t → (marks : Marks) → AreMarksOf (symbols_in t) marks → (c : Marks) → AreClosure t marks c → HaveAllMarks c ↔ (closed (marked (symbols_in t) marks) ≡ symbols_in t)
 whole_if_marked t ok marks count c is =
     let m = symbols_in t in

@@ -1,10 +1,8 @@
 -- A text has as many units as bytes of its spelling begin one.
-use Rattle.std.proofs.Common.{◌≡◌, ℕ, suc, ◌+◌, ◌*◌, ◌/◌, ◌%◌, ◌<◌, ◌≤◌, List, [], ◌∷◌, ◌++◌, refl, ap, ◌∙◌, length, length-append, count_by, cond, true, false, arith}
+use Rattle.std.proofs.Common.{◌≡◌, ℕ, suc, ◌+◌, ◌*◌, ◌/◌, ◌%◌, ◌<◌, ◌≤◌, List, [], ◌∷◌, ◌++◌, refl, ap, ◌∙◌, length, count_by, cond, true, false, arith}
 use Rattle.std.proofs.lemmas.List.Sums.{sum_by-cons}
 use Rattle.std.proofs.lemmas.Bool.Decides.{nat_tests}
-use Rattle.dexspec.specs.Numbers.{uleb128, size_u}
-use Rattle.dexspec.specs.Texts.{form, spelling, string_data, AreUnits}
-use Rattle.dexspec.proofs.numbers.Groups.{length-groups, size_u_bounds}
+use Rattle.dexspec.specs.Texts.{form, spelling, AreUnits}
 use Rattle.dexstr.specs.Units.{begins_unit, units_of, IsSpelling}
 use Rattle.dexspec.proofs.determined.OneText.{Shape, One, Two, Three, shape_of}
 
@@ -50,20 +48,7 @@ length-spelling [] units = omega arith
 length-spelling (u ∷ s) units =
     omega (arith, short_form (form u ++ spelling s) u (spelling s) (shape_of u (spelling s) (units 0 0 (omega arith))), length-spelling s (λ k d lt. units (suc k) d (omega arith)))
 
--- the bytes of a count and of the units that it counts
-pub record Sizes (bytes s : List ℕ) (count : ℕ) : Type 0 where
-  pub of_units : length bytes ≤ 3 * length s
-  pub of_count : length (uleb128 count) ≤ 5
-  pub item : length (string_data s) ≤ 6 + 3 * length s
-
-pub sizes : (bytes s : List ℕ) (count : ℕ) → IsSpelling bytes → units_of bytes ≡ s → Sizes bytes s count
-sizes bytes s count spelled is =
+pub spelled_length : (bytes s : List ℕ) → IsSpelling bytes → units_of bytes ≡ s → length bytes ≤ 3 * length s
+spelled_length bytes s spelled is =
     let same : spelling s ≡ bytes = rw (← is) spelled.parts in
-    let size = size_u_bounds (length s) in
-    let size' = size_u_bounds count in
-    let long = length-spelling s (rw is at spelled.units) in
-    record {
-      of_units = rw (← same) long;
-      of_count = omega (arith, length-groups (size_u count) count, size'.1);
-      item = omega (arith, length-append (uleb128 (length s)) (spelling s ++ 0 ∷ []), length-append (spelling s) (0 ∷ []), length-groups (size_u (length s)) (length s), size.1, long);
-    }
+    rw (← same) (length-spelling s (rw is at spelled.units))

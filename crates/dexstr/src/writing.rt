@@ -1,10 +1,45 @@
-ghost use Rattle.std.specs.Prelude.{◌≡◌, ◌+◌, ◌*◌, ◌≤◌, length, IsOk, vec_len, vec_capacity};
+ghost use Rattle.std.specs.Prelude.{◌≡◌, ◌+◌, ◌*◌, ◌≤◌, ⊤, length, IsOk, vec_len, vec_capacity};
 ghost use Rattle.dexspec.specs.Texts.{IsStringData, string_data};
 ghost use Rattle.dexspec.specs.internal.Writing.{Puts};
 
 use crate::texts::Text;
-use dexleb::{len_u, put_u};
+use dexhead::{Encode, Output};
+use dexleb::len_u;
 use std::alloc::AllocError;
+
+// Writes the string_data_item of a text of `count` units.
+fn encode_counted<O: Output>(text: &Text<'_>, count: u32, out: &mut O)
+    requires { count ≡ length text.now }
+    ensures { O.gives (string_data text.now) out.old out.new }
+{
+    let spelled = text.bytes();
+    out.uleb(count);
+    out.bytes(spelled);
+    out.byte(0);
+}
+
+// The length of the string_data_item of a text of `count` units.
+fn counted_len(text: &Text<'_>, count: u32) -> usize
+    requires { count ≡ length text.now }
+    ensures len { result ≡ length (string_data text.now) }
+    ensures bound { result ≤ 6 + 3 * length text.now }
+    ensures encodes_text { IsStringData (string_data text.now) text.now }
+{
+    len_u(count) + text.bytes().len() + 1
+}
+
+/// A text is encoded as its string_data_item: the number of units in its shortest spelling, the units and a zero byte.
+///
+/// Source: the heading "string_data_item" of the Android page "Dalvik Executable format".
+impl Encode for Text<'_> {
+    ghost formed = { λ _. ⊤ };
+
+    ghost bytes = { string_data };
+
+    fn encode<O: Output>(&self, out: &mut O) {
+        encode_counted(self, self.len() as u32, out);
+    }
+}
 
 impl Text<'_> {
     /// How many bytes [`put_text`] appends for the text.
@@ -12,7 +47,7 @@ impl Text<'_> {
         ensures len { result ≡ length (string_data self.now) }
         ensures bound { result ≤ 6 + 3 * length self.now }
     {
-        len_u(self.len() as u32) + self.bytes().len() + 1
+        counted_len(self, self.len() as u32)
     }
 }
 
@@ -31,10 +66,7 @@ pub fn put_text(text: &Text, out: &mut Vec<u8>) -> Result<(), AllocError>
         → IsOk result }
 {
     let count = text.len() as u32;
-    let bytes = text.bytes();
-    out.reserve(text.item_len())?;
-    put_u(count, out)?;
-    out.extend_from_slice(bytes)?;
-    out.push(0)?;
+    out.reserve(counted_len(text, count))?;
+    encode_counted(text, count, out);
     Ok(())
 }

@@ -1,19 +1,20 @@
--- What is added to an output: the parts of a file, and items within a limit.
-use Rattle.std.specs.Prelude.{◌≡◌, ℕ, ◌+◌, ◌≤◌, Bool, List, ◌++◌, None, length, map, drop, vec_len, vec_capacity}
+-- The parts of a file.
+use Rattle.std.specs.Prelude.{ℕ, List, ◌++◌, map, drop}
 use Rattle.std.specs.List.{flat_map}
 use Rattle.dexspec.specs.Lists.{zip_with}
 use Rattle.dexspec.specs.Bytes.{uint, padding}
 use Rattle.dexspec.specs.Texts.{string_data}
-use Rattle.dexspec.specs.Placing.{Ordered, Placed, section_bytes, bytes_from, offsets, uses_offsets, end}
-use Rattle.dexspec.specs.Spellings.{text_index}
+use Rattle.dexspec.specs.Mentions.{Mentions}
+use Rattle.dexspec.specs.Placing.{Ordered, Placed, section_bytes, offsets, uses_offsets, end}
+use Rattle.dexspec.specs.Spellings.{code_bytes, text_index}
 use Rattle.dexspec.specs.Canonical.{class_offsets, data_sections, table_bytes, proto_row_bytes, field_row_bytes, method_row_bytes, with_sums, unsigned_file, type_list_section, string_section, directory_section}
 use Rattle.dexhead.specs.Laid.{after_header, map_list}
 use Rattle.dexhead.specs.Written.{head_bytes}
+use Rattle.dexcode.specs.Meaning.{code_in}
+use Rattle.dexcode.specs.Numbered.{NumberedItem}
 use Rattle.dexcanon.specs.declared.class_defs.ClassOffsets.{ClassOffsets}
 use Rattle.dexcanon.specs.declared.contents.Contents.{Contents}
-use Rattle.dexcanon.specs.declared.output.Out.{Out}
 use Rattle.dexcanon.specs.internal.ClassRows.{rows_with}
-use Rattle.dexcanon.specs.internal.Output.{Adds, FitFrom, HasRoom}
 use Rattle.dexcanon.specs.internal.Ready.{ordered_in}
 
 -- ---- a file
@@ -70,33 +71,10 @@ data_of c = flat_map section_bytes (data_sections (ordered_in c))
 abbrev pub map_bytes : Contents → List ℕ
 map_bytes c = padding 4 (end (directory_section (ordered_in c))) ++ map_list (ordered_in c)
 
--- ---- what is written
+-- a section of the data
+abbrev pub section_of : Contents → (Ordered → Placed) → List ℕ
+section_of c section = section_bytes (section (ordered_in c))
 
-module _ {T : Type 0} (gives gives_prefix : List ℕ → T → T → Type 0) (has_failed : T → Bool) where
-  -- the bytes of the file that the function gives
-  abbrev pub AddsPart : Contents → Out T → Out T → (Contents → List ℕ) → Type 0
-  AddsPart c old new bytes_of = Adds gives gives_prefix has_failed c.limit old new (bytes_of c)
-
-  -- the section of the file that the function gives
-  abbrev pub AddsSection : Contents → Out T → Out T → (Ordered → Placed) → Type 0
-  AddsSection c old new section_of = Adds gives gives_prefix has_failed c.limit old new (section_bytes (section_of (ordered_in c)))
-
-  -- an item, where it is within the limit
-  abbrev pub AddsItem : Out T → Out T → List ℕ → Type 0
-  AddsItem old new item = (limit : ℕ) → length item ≤ limit → Adds gives gives_prefix has_failed limit old new item
-
-  -- zeros up to a multiple of 4, and an item
-  abbrev pub AddsAligned : Out T → Out T → ℕ → List ℕ → Type 0
-  AddsAligned old new at item = (limit : ℕ) → 4 ≤ limit → length item ≤ limit → Adds gives gives_prefix has_failed limit old new (padding 4 at ++ item)
-
-  -- bytes, in parts of at most 112
-  abbrev pub AddsBytes : Out T → Out T → List ℕ → Type 0
-  AddsBytes old new bytes = (limit : ℕ) → 112 ≤ limit → Adds gives gives_prefix has_failed limit old new bytes
-
-  -- items from the offset on, aligned
-  abbrev pub AddsFrom : Out T → Out T → ℕ → List (List ℕ) → Type 0
-  AddsFrom old new from items = (limit : ℕ) → FitFrom limit from items → Adds gives gives_prefix has_failed limit old new (bytes_from 4 from items)
-
--- there is room for n bytes, where there is room for the longest item and nothing has failed
-abbrev pub HasRoomFor : {T : Type 0} → Out T → ℕ → Type 0
-HasRoomFor out n = (limit : ℕ) → n ≤ limit → HasRoom limit out → out.fault ≡ None → vec_len out.buffer + n ≤ vec_capacity out.buffer
+-- the code_item of numbered code, whose debug program has this offset
+abbrev pub code_bytes_in : Mentions → NumberedItem → ℕ → List ℕ
+code_bytes_in m c debug_off = code_bytes m debug_off (code_in m c)

@@ -1,5 +1,5 @@
 -- When the bytes of a file can be made.
-use Rattle.std.specs.Prelude.{ℕ, ◌≤◌, ◌^◌, List}
+use Rattle.std.specs.Prelude.{List}
 use Rattle.dexspec.specs.Mentions.{Mentions}
 use Rattle.dexspec.specs.Placing.{Ordered}
 use Rattle.dexclass.specs.Numbered.{NumberedClass}
@@ -7,17 +7,14 @@ use Rattle.dexlayout.specs.Places.{Places}
 use Rattle.dexlayout.specs.Laid.{AreWritable, IsLaid, ordered_of}
 use Rattle.dexcanon.specs.declared.contents.Contents.{Contents}
 
--- the classes can be written, the layout is theirs, and the limit is no less than any item
-pub record IsReady (m : Mentions) (cs : List NumberedClass) (p : Places) (limit : ℕ) : Type 0 where
+-- the classes can be written, and the layout is theirs
+pub record IsReady (m : Mentions) (cs : List NumberedClass) (p : Places) : Type 0 where
   pub writable : AreWritable m cs
   pub laid : IsLaid m cs p
-  pub least : 112 ≤ limit
-  pub most : limit ≤ 2 ^ 30
-  pub greatest : p.greatest ≤ limit
 
 -- the same of what a file is made of
 abbrev pub CanBeMade : Contents → Type 0
-CanBeMade c = IsReady c.numbering.now c.classes.now c.layout.now c.limit
+CanBeMade c = IsReady c.numbering.now c.classes.now c.layout.now
 
 -- its classes in their order, over the numbering of what they mention
 abbrev pub ordered_in : Contents → Ordered

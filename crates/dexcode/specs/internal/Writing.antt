@@ -1,8 +1,6 @@
 -- Code items as they are measured and written, and the positions that a debug program records.
 use Rattle.std.specs.Prelude.{◌≡◌, ℕ, ℤ, pos, Bool, if◌then◌else◌, List, [], ◌∷◌, ◌++◌, length, map}
-use Rattle.std.specs.Global.{Vec}
 use Rattle.dexcode.specs.Positions.{positions_from}
-use Rattle.dexhead.specs.Pushing.{Pushes, HasRoomFor}
 use Rattle.dexinsn.specs.Numbered.{NumberedCode}
 use Rattle.dexcode.specs.declared.debug_operation.Operation.{Operation}
 use Rattle.dexcode.specs.declared.tries.Try.{Try}
@@ -13,10 +11,6 @@ use Rattle.dexcode.specs.Numbered.{NumberedHandler, AreStored, all_named}
 -- the length is that of each code item of `units` units and these tries, whose list of handlers has `list` bytes
 abbrev pub IsPlacedLen : ℕ → List Try → ℕ → ℕ → Type 0
 IsPlacedLen units ts list len = (debug_off : ℕ) (c : NumberedCode) (hs : List NumberedHandler) → AreStored hs ts → units ≡ unit_count c → list ≡ length (numbered_list_bytes hs) → len ≡ length (numbered_item_bytes debug_off c (all_named hs ts))
-
--- the bytes are put at the end, where there is room for them
-abbrev pub PushesWithRoom : List ℕ → Vec ℕ → Vec ℕ → Type 0
-PushesWithRoom bytes old new = HasRoomFor bytes old → Pushes bytes old new
 
 -- positions with one more, if it is recorded
 abbrev pub with_position : Bool → List (ℕ × ℤ) → ℕ → ℤ → List (ℕ × ℤ)

@@ -32,7 +32,7 @@ unit_of (Piece n) = n
 unit_of (Target n) = n
 unit_of Memory = 0
 
--- the fault is told by these numbers
+-- the fault has these numbers
 pub record HasNumbersOf (named : SplitFault) (fault : CodeFault) : Type 0 where
   pub kind_is : fault.kind ≡ kind_of named
   pub unit_is : fault.unit ≡ unit_of named

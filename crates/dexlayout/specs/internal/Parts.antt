@@ -51,7 +51,7 @@ pub record AreFirstSections (m : Mentions) (cs : List NumberedClass) (f : FirstS
   pub type_lists_are : AreTypeLists m cs f.type_lists
   pub annotations_are : AreAnnotations m cs f.annotations
   pub static_values_are : AreStaticValues m cs f.static_values
-  pub strings_are : AreLaidSo (offsets (string_section (ordered_of m cs))) (end (string_section (ordered_of m cs))) (string_section (ordered_of m cs)).items f.strings
+  pub strings_are : AreLaidSo (offsets (string_section (ordered_of m cs))) (end (string_section (ordered_of m cs))) f.strings
 
 -- the same of the sections from the debug programs to the class data
 pub record AreBodies (m : Mentions) (cs : List NumberedClass) (b : Bodies) : Type 0 where

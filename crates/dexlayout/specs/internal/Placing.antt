@@ -7,7 +7,7 @@ use Rattle.dexspec.specs.Texts.{string_data}
 use Rattle.dexspec.specs.Mentions.{Mentions}
 use Rattle.dexspec.specs.Sections.{Section, HeaderItem, MapList}
 use Rattle.dexspec.specs.Placing.{Ordered, offsets_from, end_from, uses_offsets, end, Placed}
-use Rattle.dexspec.specs.Canonical.{data_start, data_sections, type_list_items, set_items, debug_items, code_section, class_data_section, placed_tables}
+use Rattle.dexspec.specs.Canonical.{data_start, type_list_items, set_items, debug_items, code_section, class_data_section, placed_tables}
 use Rattle.dexhead.specs.declared.head.Head.{Head}
 use Rattle.dexhead.specs.declared.map_list.MapEntry.{MapEntry}
 use Rattle.dexhead.specs.Laid.{StatesLayout, map_start, map_list}
@@ -22,7 +22,7 @@ use Rattle.dexlayout.specs.declared.data.Data.{Data}
 use Rattle.dexlayout.specs.declared.sharing.Shared.{Shared}
 use Rattle.dexlayout.specs.declared.tables.Tables.{Tables}
 use Rattle.dexlayout.specs.Places.{ItemPlaces, EncodedItems, EncodedSharedItems, SetPlaces}
-use Rattle.dexlayout.specs.Laid.{ordered_of, greatest_in, AreWritable, AreLaidSo, AreAnnotations, AreClassData, AreDirectories, AreRefLists, AreSets, AreShared}
+use Rattle.dexlayout.specs.Laid.{ordered_of, AreWritable, AreLaidSo, AreAnnotations, AreClassData, AreDirectories, AreRefLists, AreSets, AreShared}
 use Rattle.dexlayout.specs.internal.Parts.{AreTables, AreData, entry_of, section_parts}
 use Rattle.dexlayout.specs.internal.Encoding.{encode_uses, list_bytes, no_items_from}
 
@@ -66,7 +66,7 @@ PlacedDirectories cs sets lists p = (m : Mentions) → AreWritable m cs → AreS
 
 -- the texts from the offset on
 abbrev pub AreStringsFrom : ℕ → Mentions → ItemPlaces → Type 0
-AreStringsFrom from m = AreLaidSo (offsets_from 1 from (map string_data m.texts)) (end_from 1 from (map string_data m.texts)) (map string_data m.texts)
+AreStringsFrom from m = AreLaidSo (offsets_from 1 from (map string_data m.texts)) (end_from 1 from (map string_data m.texts))
 
 -- ---- the items of uses
 
@@ -75,7 +75,6 @@ abbrev pub shared_places : List (Option ℕ) → ItemPlaces → ItemPlaces
 shared_places numbers written = record {
   offsets = map (λ n. option_map_or (slice_index written.offsets) n 0) numbers;
   end = written.end;
-  greatest = written.greatest;
 }
 
 -- the same of encoded items
@@ -157,7 +156,3 @@ IsDataFrom m d from = (cs : List NumberedClass) × AreWritable m cs × AreData m
 -- the entries are those of the sections of such data
 abbrev pub AreEntriesOf : Mentions → Data → ℕ → List MapEntry → Type 0
 AreEntriesOf m d from entries = (cs : List NumberedClass) → AreWritable m cs → AreData m cs d → from ≡ data_start (ordered_of m cs) → map entry_meant entries ≡ section_parts (ordered_of m cs)
-
--- the greatest length of an item of the data
-abbrev pub greatest_data : Mentions → List NumberedClass → ℕ
-greatest_data m cs = greatest_in (data_sections (ordered_of m cs))

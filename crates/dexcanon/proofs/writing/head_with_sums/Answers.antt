@@ -7,16 +7,13 @@ use Rattle.dexhead.specs.Written.{head_bytes, field_bytes}
 use Rattle.dexlayout.specs.Laid.{ordered_of}
 use Rattle.dexcanon.specs.internal.Adding.{signed_of}
 use Rattle.dexcanon.proofs.HeaderSums.{length_signed, summed}
-use Rattle.dexcanon.proofs.WholeFile.{item_bounds}
+use Rattle.dexcanon.proofs.WholeFile.{length_after}
 use Rattle.dexcanon.proofs.writing.head_with_sums.Goals as goal
 
 pub overflow_sub-head : goal.overflow_sub-head
 overflow_sub-head c =
-    let bounds = item_bounds c.requires.ready.laid in
-    let least = bounds.0 in
-    let most = bounds.1 in
-    let same = ap (λ (h : Head). h.file_size) c.head-head.ensures in
-    omega (arith, least, most, same)
+    let ends = c.requires.ready.laid.head_states.file_ends in
+    omega (arith, length_after (ordered_of c.args.contents.now.numbering.now c.args.contents.now.classes.now), ends, ap (λ (h : Head). h.file_size) c.head-head.ensures)
 
 pub returns-clause-bytes : goal.returns-clause-bytes
 unfolding adler_32 field_bytes

@@ -1,13 +1,10 @@
-use Rattle.std.proofs.Common.{rules, ◌≡◌, ◌++◌, OnOk, IfErr, ap, arith, subst, ◌∙◌}
+use Rattle.std.proofs.Common.{rules, ◌≡◌, ◌++◌, OnOk, IfErr, ap, subst, ◌∙◌}
 use Rattle.dexspec.specs.Canonical.{with_sums, unsigned_file}
 use Rattle.dexhead.specs.Laid.{after_header}
 use Rattle.dexcanon.specs.internal.Ready.{ordered_in}
 use Rattle.dexcanon.specs.Written.{HasLeft}
 use Rattle.dexcanon.proofs.writing.write_contents.Goals as goal
 use Rattle.dexcanon.proofs.writing.write_contents.Goals.{After-put_head}
-
-pub put_head-requires-clause-room : goal.put_head-requires-clause-room
-put_head-requires-clause-room g c = omega (arith, c.head_with_sums-buffer.ensures.room, c.requires.ready.least)
 
 -- the file is what is buffered and what follows
 whole : (g : _) (c : After-put_head g) → c.put_head.new.buffer.items ++ after_header (ordered_in c.args.contents.now) ≡ with_sums (unsigned_file (ordered_in c.args.contents.now))

@@ -1,7 +1,6 @@
-use Rattle.std.proofs.Common.{◌≡◌, ◌++◌, Some, None, sym, ◌∙◌}
+use Rattle.std.proofs.Common.{◌++◌, sym, ◌∙◌}
 use Rattle.dexhead.specs.Laid.{after_header}
 use Rattle.dexlayout.specs.Laid.{ordered_of}
-use Rattle.dexcanon.specs.declared.faults.StoreFault.TheVariants.{Io}
 use Rattle.dexcanon.specs.internal.Output.{HasWritten}
 use Rattle.dexcanon.specs.Took.{Took, TookPrefix, took_nothing}
 use Rattle.dexcanon.proofs.Finished.{begun, same_writer, written_whole, written_prefix, reported_failed}
@@ -11,7 +10,7 @@ use Rattle.dexcanon.proofs.writing.write_through.Goals.{After-write_body}
 -- what was written, from the buffered header on
 written : (g : _) (c : After-write_body g) → HasWritten (Took g.W.Sink.reports g.W.Sink.taken) (TookPrefix g.W.Sink.reports g.W.Sink.taken) c.args.out.now.target c.write_body.new.out
     (c.args.out.now.buffer.items ++ after_header (ordered_of c.args.contents.now.numbering.now c.args.contents.now.classes.now))
-written g c = c.write_body.ensures.adds.written c.args.out.now.target c.args.out.now.buffer.items (begun c.args.out.now c.requires.fresh (took_nothing g.W.Sink.reports g.W.Sink.taken c.args.out.now.target))
+written g c = c.write_body.ensures.adds.written c.requires.room c.args.out.now.target c.args.out.now.buffer.items (begun c.args.out.now c.requires.fresh (took_nothing g.W.Sink.reports g.W.Sink.taken c.args.out.now.target))
 
 pub returns-clause-same : goal.returns-clause-same
 returns-clause-same g c = same_writer g.W.Sink.reports g.W.Sink.taken c.args.out.now.target c.write_body.new.out _ (written g (goal.at.returns-clause-same g c).After-write_body)
@@ -22,9 +21,8 @@ returns-clause-written g c =
 
 pub returns-clause-left : goal.returns-clause-left
 returns-clause-left g c =
-    written_prefix g.W.Sink.reports g.W.Sink.taken c.args.out.now.target c.write_body.new.out _ (written g (goal.at.returns-clause-left g c).After-write_body) c.result.result c.result.ensures (c.write_body.ensures.adds.room c.requires.room).never
+    written_prefix g.W.Sink.reports g.W.Sink.taken c.args.out.now.target c.write_body.new.out _ (written g (goal.at.returns-clause-left g c).After-write_body) c.result.result c.result.ensures
 
 pub returns-clause-device : goal.returns-clause-device
 returns-clause-device g c =
-    reported_failed g.W.Sink.has_failed c.write_body.new.out (c.write_body.ensures.adds.room c.requires.room).never
-    (c.write_body.ensures.adds.reports (record { works = λ e. c.requires.works; fails = λ e. absurd (let never : None ≡ Some Io = sym c.requires.fresh ∙ e in cc) })) c.result.result c.result.ensures
+    reported_failed g.W.Sink.has_failed c.write_body.new.out (c.write_body.ensures.adds.reports (c.requires.works ∙ sym c.requires.fresh)) c.result.result c.result.ensures

@@ -1,5 +1,4 @@
-use Rattle.std.proofs.Common.{length, ap, arith}
-use Rattle.dexcode.specs.CodePut.{numbered_item_bytes}
+use Rattle.std.proofs.Common.{arith}
 use Rattle.dexcode.proofs.code_put.put_code.Goals as goal
 
 pub returns-clause-bound : goal.returns-clause-bound
@@ -12,4 +11,4 @@ returns-clause-room c = λ x encodes room.
     let code = c.args.code.now in
     let size = c.code_bytes_law.ensures.few c.args.debug_off code c.requires in
     let weight = c.code_weight_law.ensures c.args.numbering.now code x c.is_numbering.ensures.rising encodes in
-    c.put_item.ensures.room (omega (arith, room, size, weight, ap (λ body. length (numbered_item_bytes c.args.debug_off body c.tries.result.now)) c.pieces.ensures, ap (λ tries. length (numbered_item_bytes c.args.debug_off code.body tries)) c.tries.ensures))
+    c.put_with_len.ensures.room (omega (arith, room, size, weight))

@@ -1,11 +1,11 @@
 use Rattle.std.proofs.Common.{Ok, rules}
 use Rattle.std.proofs.lemmas.List.{nil_from_length}
 use Rattle.dexinsn.specs.declared.code.SplitFault.TheVariants.{Empty}
-use Rattle.dexinsn.proofs.Once.{told, only_fault, returned_all}
+use Rattle.dexinsn.proofs.Once.{reported, only_fault, returned_all}
 use Rattle.dexinsn.proofs.code.split.Goals as goal
 
 pub returns-then-is_empty-clause-only : goal.returns-then-is_empty-clause-only
-returns-then-is_empty-clause-only c = λ answer. only_fault c.args.units.now c.into.result answer (told c.args.units.now Empty c.into.result (nil_from_length c.args.units.now (search rules)) c.into.ensures)
+returns-then-is_empty-clause-only c = λ answer. only_fault c.args.units.now c.into.result answer (reported c.args.units.now Empty c.into.result (nil_from_length c.args.units.now (search rules)) c.into.ensures)
 
 pub returns-in_err-split_units-clause-only : goal.returns-in_err-split_units-clause-only
 returns-in_err-split_units-clause-only c = λ answer. returned_all c.args.units.now c.from_residual.result answer (search rules) (search rules)

@@ -32,4 +32,4 @@ returns c = λ m w e.
     let cs = c.args.classes.now in
     let K = ordered_of m cs in
     let placed = sym (several_none 4 class_code_sizes c.loop-class.places cs c.loop-class.class-index c.loop-class-test.false) ∙ c.loop-class.invariant in
-    subst (AreLaidSo (uses_offsets (code_section K)) (end (code_section K)) (code_section K).items) (sym placed) (codes_encoded m cs w c.code_bytes_law.ensures.bytes c.args.from e)
+    subst (AreLaidSo (uses_offsets (code_section K)) (end (code_section K))) (sym placed) (codes_encoded m cs w c.code_bytes_law.ensures.bytes c.args.from e)

@@ -1,10 +1,10 @@
-use Rattle.std.proofs.Common.{◌≡◌, ℕ, ◌+◌, ◌*◌, ◌≤◌, max, length, map, arith, ap, sym, ◌∙◌}
+use Rattle.std.proofs.Common.{◌≡◌, ◌+◌, ◌*◌, ◌≤◌, length, map, arith, ap, sym, ◌∙◌}
 use Rattle.std.proofs.lemmas.List.{length-map}
 use Rattle.dexspec.specs.Bytes.{round_up}
-use Rattle.dexspec.specs.Canonical.{map_of, data_sections}
+use Rattle.dexspec.specs.Canonical.{map_of}
 use Rattle.dexhead.specs.Laid.{map_start, map_list}
 use Rattle.dexhead.specs.Written.{entry_meant}
-use Rattle.dexlayout.specs.Laid.{ordered_of, greatest_in}
+use Rattle.dexlayout.specs.Laid.{ordered_of}
 use Rattle.dexlayout.specs.Places.{ItemPlaces}
 use Rattle.dexlayout.proofs.Ends.{end_in_file, map_start_is}
 use Rattle.dexlayout.proofs.OwnFile.{entries_same, map_size_is, data_before}
@@ -82,8 +82,4 @@ returns c =
       ref_lists_are = d.back_are.ref_lists_are;
       directories_are = d.back_are.directories_are;
       entries_are = entries_are here;
-      greatest_is = longest c.max.result c.max-2.result c.greatest-longest.result (4 + 12 * c.len.result) (length (map_list K)) (greatest_in (data_sections K)) c.max.ensures c.max-2.ensures (c.greatest-longest.ensures m cs d) size;
     }
-  where
-    longest : (x y g s s' g' : ℕ) → x ≡ max g s → y ≡ max x 112 → g ≡ g' → s ≡ s' → y ≡ max 112 (max s' g')
-    longest x y g s s' g' ex ey eg es = omega (arith, ex, ey, eg, es)

@@ -24,4 +24,4 @@ pub returns : goal.returns
 returns c =
     let texts = c.args.numbering.now.texts in
     let all = sym (left_none 1 (λ (s : Text). Some (length (string_data s))) c.loop-i.places texts c.loop-i.i (omega (arith, c.loop-i-test.false, c.count-count.ensures))) ∙ c.loop-i.invariant in
-    subst (AreLaidSo (offsets_from 1 c.args.from (map string_data texts)) (end_from 1 c.args.from (map string_data texts)) (map string_data texts)) (sym all) (all_encoded string_data 1 c.args.from texts)
+    subst (AreLaidSo (offsets_from 1 c.args.from (map string_data texts)) (end_from 1 c.args.from (map string_data texts))) (sym all) (all_encoded string_data 1 c.args.from texts)

@@ -1,14 +1,17 @@
 use Rattle.std.proofs.Common.{arith}
-use Rattle.dexstr.proofs.Counting.{sizes}
+use Rattle.dexspec.specs.Texts.{string_data}
+use Rattle.dexhead.proofs.Encoded.{encoded_put}
 use Rattle.dexstr.proofs.writing.put_text.Goals as goal
 
 pub returns-in_err-reserve-clause-bound : goal.returns-in_err-reserve-clause-bound
-returns-in_err-reserve-clause-bound c = (sizes c.bytes-bytes.result.now c.args.text.now 0 c.bytes-bytes.ensures.spelled.spelled c.bytes-bytes.ensures.units).item
+returns-in_err-reserve-clause-bound c = omega (arith, c.counted_len.ensures.len, c.counted_len.ensures.bound)
 
 pub returns-in_err-reserve-clause-room_for_all : goal.returns-in_err-reserve-clause-room_for_all
-returns-in_err-reserve-clause-room_for_all c = λ room.
-    let size = sizes c.bytes-bytes.result.now c.args.text.now c.len-count.result c.bytes-bytes.ensures.spelled.spelled c.bytes-bytes.ensures.units in
-    absurd (omega (arith, room, c.in_err-reserve.ensures.full, size.of_units, size.of_count))
+returns-in_err-reserve-clause-room_for_all c = λ room. absurd (omega (arith, room, c.in_err-reserve.ensures.full, c.counted_len.ensures.bound))
+
+pub returns-clause-puts : goal.returns-clause-puts
+returns-clause-puts c =
+    encoded_put (string_data c.args.text.now) c.counted_len.result c.args.out.now c.reserve.new.self c.encode_counted.new.out _ (omega (arith, c.counted_len.ensures.len)) c.in_ok-reserve.ensures.items c.in_ok-reserve.ensures.len c.in_ok-reserve.ensures.ok c.in_ok-reserve.ensures.capacity c.encode_counted.ensures
 
 pub returns-clause-bound : goal.returns-clause-bound
-returns-clause-bound c = (sizes c.bytes-bytes.result.now c.args.text.now 0 c.bytes-bytes.ensures.spelled.spelled c.bytes-bytes.ensures.units).item
+returns-clause-bound c = omega (arith, c.counted_len.ensures.len, c.counted_len.ensures.bound)

@@ -1,10 +1,10 @@
-use Rattle.dexcanon.proofs.WholeFile.{ready_longest, canonical_is}
+use Rattle.dexcanon.proofs.WholeFile.{ready, canonical_is}
 use Rattle.dexcanon.proofs.contents.Contents.of.Goals as goal
 
 pub returns-clause-ready : goal.returns-clause-ready
 returns-clause-ready c =
     let of = c.classes.ensures in
-    ready_longest c.greatest-limit.result c.greatest-limit.ensures c.numbering.ensures (c.requires.writable _ of).0 (c.requires.laid _ of)
+    ready c.numbering.ensures (c.requires.writable _ of).0 (c.requires.laid _ of)
 
 pub returns-clause-whole : goal.returns-clause-whole
 returns-clause-whole c = canonical_is c.args.program.now c.numbering.result.now c.classes.result.now c.numbering.ensures (c.requires.writable _ c.classes.ensures).1

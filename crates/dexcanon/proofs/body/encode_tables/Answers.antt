@@ -1,0 +1,17 @@
+use Rattle.std.proofs.Common.{refl}
+use Rattle.dexspec.specs.Bytes.{uint}
+use Rattle.dexspec.specs.Canonical.{field_row_bytes, method_row_bytes}
+use Rattle.dexcanon.proofs.Rows.{concat_map, next_part}
+use Rattle.dexcanon.proofs.SymbolRows.{type_row}
+use Rattle.dexcanon.proofs.body.encode_tables.Goals as goal
+
+pub returns : goal.returns
+returns g c =
+    let gives = g.O.Output.gives in
+    let both = g.met.O.Output.both in
+    let m = c.args.contents.now.numbering.now in
+    next_part gives both (concat_map uint _) c.encode_list.ensures
+    (next_part gives both (concat_map (type_row m) m.types) c.encode_list-2.ensures
+    (next_part gives both refl c.encode_list-3.ensures
+    (next_part gives both (concat_map (field_row_bytes m) m.fields) c.encode_list-4.ensures
+    (next_part gives both (concat_map (method_row_bytes m) m.methods) c.encode_list-5.ensures c.encode_list-6.ensures))))

@@ -1,0 +1,35 @@
+use Rattle.std.proofs.Common.{◌<◌, length, sym, subst, arith}
+use Rattle.std.proofs.lemmas.List.{length-map}
+use Rattle.dexspec.specs.Canonical.{method_row_bytes}
+use Rattle.dexpool.proofs.UnionLaws.{ranks_are_numbers}
+use Rattle.dexcanon.proofs.SymbolRows.{method_row_at, no_method}
+use Rattle.dexcanon.proofs.WholeBody.{texts_few}
+use Rattle.dexcanon.proofs.tables.MethodIdsItemList.encode_item.Goals as goal
+
+pub method-method-requires : goal.method-method-requires
+method-method-requires g c = omega (arith, c.requires.within, length-map c.args.contents.now.numbering.now.methods (method_row_bytes c.args.contents.now.numbering.now))
+
+pub encode_member-requires-clause-class_fits : goal.encode_member-requires-clause-class_fits
+encode_member-requires-clause-class_fits g c =
+    let writable = c.requires.ready.writable in
+    let numbers = c.method-method.ensures no_method in
+    omega (arith, numbers.class_is.within, writable.types_few)
+
+pub encode_member-requires-clause-type_fits : goal.encode_member-requires-clause-type_fits
+encode_member-requires-clause-type_fits g c =
+    let writable = c.requires.ready.writable in
+    let numbers = c.method-method.ensures no_method in
+    omega (arith, numbers.proto_is.within, writable.protos_few)
+
+pub encode_member-requires-clause-name_fits : goal.encode_member-requires-clause-name_fits
+encode_member-requires-clause-name_fits g c =
+    let writable = c.requires.ready.writable in
+    let numbers = c.method-method.ensures no_method in
+    omega (arith, numbers.name_is.within, texts_few c.args.contents.now.numbering.now c.args.contents.now.classes.now writable)
+
+pub returns : goal.returns
+returns g c =
+    let m = c.args.contents.now.numbering.now in
+    let row = c.method-method.result.now in
+    let lt : c.args.i < length m.methods = omega (arith, c.requires.within, length-map m.methods (method_row_bytes m)) in
+    subst (λ bs. g.O.Output.gives bs c.args.out.now c.encode_member.new.out) (sym (method_row_at m c.args.i row no_method (ranks_are_numbers m c.requires.ready.writable.numbering.rising) lt (c.method-method.ensures no_method))) c.encode_member.ensures

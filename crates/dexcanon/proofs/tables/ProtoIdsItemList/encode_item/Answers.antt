@@ -1,0 +1,48 @@
+use Rattle.std.proofs.Common.{◌≡◌, ◌<◌, ℕ, List, [], length, get_or, ap, sym, subst, arith, ◌∙◌}
+use Rattle.dexspec.specs.Lists.{zip_with}
+use Rattle.dexspec.specs.Placing.{uses_offsets}
+use Rattle.dexspec.specs.Canonical.{proto_row_bytes, type_list_section}
+use Rattle.dexspec.proofs.layout.Placements.{length-type_list_offsets}
+use Rattle.dexlayout.specs.Places.{ItemPlaces, EncodedSharedItems}
+use Rattle.dexlayout.specs.Laid.{ordered_of}
+use Rattle.dexpool.proofs.UnionLaws.{ranks_are_numbers}
+use Rattle.dexcanon.proofs.SymbolRows.{proto_row_at, no_proto}
+use Rattle.dexcanon.proofs.WholeBody.{count_proto_rows, texts_few}
+use Rattle.dexcanon.proofs.tables.ProtoIdsItemList.encode_item.Goals as goal
+use Rattle.dexcanon.proofs.tables.ProtoIdsItemList.encode_item.Goals.{After-offsets-list_offs}
+
+-- the offsets of the lists of all protos and classes
+offsets_are : (g : _) (c : After-offsets-list_offs g) → c.offsets-list_offs.result.now ≡ uses_offsets (type_list_section (ordered_of c.args.contents.now.numbering.now c.args.contents.now.classes.now))
+offsets_are g c = c.offsets-list_offs.ensures ∙ ap (λ (p : ItemPlaces). p.offsets) (c.places.ensures ∙ ap (λ (d : EncodedSharedItems). d.places) c.type_lists.ensures) ∙ c.requires.ready.laid.type_lists_are.places_are.offsets_are
+
+-- there is one for the proto
+within : (g : _) (c : After-offsets-list_offs g) → c.args.i < length c.offsets-list_offs.result.now
+within g c =
+    let m = c.args.contents.now.numbering.now in
+    let cs = c.args.contents.now.classes.now in
+    omega (arith, c.requires.within, count_proto_rows m cs, length-type_list_offsets (ordered_of m cs), ap (λ (l : List ℕ). length l) (offsets_are g c))
+
+pub proto-proto-requires : goal.proto-proto-requires
+proto-proto-requires g c = omega (arith, c.requires.within, count_proto_rows c.args.contents.now.numbering.now c.args.contents.now.classes.now)
+
+pub bounds-list_offs-i : goal.bounds-list_offs-i
+bounds-list_offs-i g c = within g (goal.at.bounds-list_offs-i g c).After-offsets-list_offs
+
+pub offset_bounds-list_offs-i : goal.offset_bounds-list_offs-i
+offset_bounds-list_offs-i g c = omega (arith, c.requires.within, count_proto_rows c.args.contents.now.numbering.now c.args.contents.now.classes.now, c.requires.ready.writable.protos_few)
+
+pub overflow_cast-row : goal.overflow_cast-row
+overflow_cast-row g c = omega (arith, (c.proto-proto.ensures no_proto).shorty_is.within, texts_few c.args.contents.now.numbering.now c.args.contents.now.classes.now c.requires.ready.writable, c.shorty.ensures)
+
+pub overflow_cast-row-2 : goal.overflow_cast-row-2
+overflow_cast-row-2 g c = omega (arith, (c.proto-proto.ensures no_proto).return_is.within, c.requires.ready.writable.types_few, c.return_type.ensures)
+
+pub returns : goal.returns
+returns g c =
+    let here = (goal.at.returns g c).After-offsets-list_offs in
+    let m = c.args.contents.now.numbering.now in
+    let offs = c.offsets-list_offs.result.now in
+    let i = c.args.i in
+    let lt : i < length m.protos = omega (arith, c.requires.within, count_proto_rows m c.args.contents.now.classes.now) in
+    let row = proto_row_at m offs i c.shorty.result c.return_type.result c.proto-proto.result no_proto (ranks_are_numbers m c.requires.ready.writable.numbering.rising) lt (within g here) (c.proto-proto.ensures no_proto) c.shorty.ensures c.return_type.ensures in
+    subst (λ bs. g.O.Output.gives bs c.args.out.now c.encode_numbers.new.out) (sym row ∙ ap (λ os. get_or (zip_with (proto_row_bytes m) m.protos os) i []) (offsets_are g here)) c.encode_numbers.ensures

@@ -1,0 +1,26 @@
+use Rattle.std.proofs.Common.{◌≡◌, ◌<◌, List, ℕ, length, map, get_or, [], ap, sym, subst, arith, ◌∙◌}
+use Rattle.std.proofs.lemmas.List.{get_or-map, length-map}
+use Rattle.dexspec.specs.Bytes.{uint}
+use Rattle.dexspec.specs.Placing.{offsets}
+use Rattle.dexspec.specs.Canonical.{string_section}
+use Rattle.dexlayout.specs.Places.{ItemPlaces}
+use Rattle.dexlayout.specs.Laid.{ordered_of}
+use Rattle.dexcanon.proofs.tables.StringIdsItemList.encode_item.Goals as goal
+use Rattle.dexcanon.proofs.tables.StringIdsItemList.encode_item.Goals.{After-offsets-offsets}
+
+-- the offsets are those of the section
+offsets_are : (g : _) (c : After-offsets-offsets g) → c.offsets-offsets.result.now ≡ offsets (string_section (ordered_of c.args.contents.now.numbering.now c.args.contents.now.classes.now))
+offsets_are g c = c.offsets-offsets.ensures ∙ ap (λ (p : ItemPlaces). p.offsets) c.strings.ensures ∙ c.requires.ready.laid.strings_are.offsets_are
+
+within : (g : _) (c : After-offsets-offsets g) → c.args.i < length c.offsets-offsets.result.now
+within g c = omega (arith, c.requires.within, length-map (offsets (string_section (ordered_of c.args.contents.now.numbering.now c.args.contents.now.classes.now))) uint, ap (λ (l : List ℕ). length l) (offsets_are g c))
+
+pub bounds-offsets-i : goal.bounds-offsets-i
+bounds-offsets-i g c = within g (goal.at.bounds-offsets-i g c).After-offsets-offsets
+
+pub returns : goal.returns
+returns g c =
+    let here = (goal.at.returns g c).After-offsets-offsets in
+    let xs = c.offsets-offsets.result.now in
+    let i = c.args.i in
+    subst (λ bs. g.O.Output.gives bs c.args.out.now c.u32.new.self) (sym (get_or-map uint xs i 0 [] (within g here)) ∙ ap (λ ys. get_or (map uint ys) i []) (offsets_are g here)) c.u32.ensures

@@ -1,9 +1,0 @@
-use Rattle.std.proofs.Common.{length, ap, ◌∙◌, arith}
-use Rattle.dexcode.specs.Numbered.{handlers_of}
-use Rattle.dexcode.proofs.HandlerPlaces.{weight_count}
-use Rattle.dexcode.proofs.code_put.put_item.Goals as goal
-
-pub put_placed-requires-2-clause-enough : goal.put_placed-requires-2-clause-enough
-put_placed-requires-2-clause-enough c =
-    let same = ap length (c.parts.ensures.stored.used ∙ ap handlers_of c.parts.ensures.named) in
-    omega (arith, same, weight_count c.parts.result.1.now, c.parts.ensures.stored.light)

@@ -1,0 +1,16 @@
+use Rattle.std.proofs.Common.{ℕ, length, map, sym, subst}
+use Rattle.std.specs.List.{flat_map}
+use Rattle.std.proofs.lemmas.List.{length-map}
+use Rattle.std.proofs.lemmas.List.Folds.{flat_map-map}
+use Rattle.dexspec.specs.Bytes.{uint}
+use Rattle.dexspec.specs.Canonical.{map_entry_bytes}
+use Rattle.dexhead.specs.Written.{entry_meant}
+use Rattle.dexhead.proofs.map_list.MapListEncode.encode.Goals as goal
+
+pub returns : goal.returns
+returns g c =
+    let gives = g.O.Output.gives in
+    let es = c.args.self.now.entries.now in
+    let count = subst (λ (n : ℕ). gives (uint n) c.args.out.now c.u32.new.self) (sym (length-map es entry_meant)) c.u32.ensures in
+    let entries = subst (λ bs. gives bs c.u32.new.self c.encode_all.new.out) (sym (flat_map-map map_entry_bytes entry_meant es)) c.encode_all.ensures in
+    g.met.O.Output.both (uint (length (map entry_meant es))) (flat_map map_entry_bytes (map entry_meant es)) c.args.out.now c.u32.new.self c.encode_all.new.out count entries

@@ -1,0 +1,17 @@
+use Rattle.std.proofs.Common.{ap, sym, subst, ◌∙◌}
+use Rattle.std.specs.List.{flat_map}
+use Rattle.dexspec.specs.Bytes.{ushort}
+use Rattle.dexinsn.specs.Units.{units_in}
+use Rattle.dexinsn.specs.Numbered.{numbered_bytes}
+use Rattle.dexinsn.specs.Stored.{AreStored, spelled_from}
+use Rattle.dexinsn.proofs.PutUnits.{stored_bytes}
+use Rattle.dexinsn.proofs.put.PiecesEncode.encode.Goals as goal
+
+pub encode_numbered-requires : goal.encode_numbered-requires
+encode_numbered-requires g c = subst (AreStored (units_in c.self.inside.bytes.now)) (sym c.deref.ensures.value) c.self.invariant
+
+pub returns : goal.returns
+returns g c =
+    let us = units_in c.self.inside.bytes.now in
+    let bytes = ap (λ is. flat_map ushort (spelled_from us 0 is)) c.deref.ensures.value ∙ sym (stored_bytes us c.self.inside.indices.items c.self.invariant) ∙ ap (λ v. numbered_bytes v.pieces) c.self.view_is in
+    subst (λ bs. g.O.Output.gives bs c.args.out.now c.encode_numbered.new.out) bytes c.encode_numbered.ensures

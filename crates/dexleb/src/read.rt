@@ -19,6 +19,7 @@ pub enum LebFault {
 ///
 /// Errors: [`LebFault::Short`] if fewer than five bytes, perhaps none, are left and each has its top bit set; otherwise
 /// [`LebFault::Range`] if no encoding of a number in range begins at `at`.
+#[inline(always)]
 pub fn read_u(b: &[u8], at: usize) -> Result<(u32, usize), LebFault>
     requires { at ≤ length b.now }
     ensures { Reads IsUleb128 (drop at b.now) result }
@@ -34,6 +35,7 @@ pub fn read_u(b: &[u8], at: usize) -> Result<(u32, usize), LebFault>
 /// `None` for -1, which is NO_INDEX, and the number of bytes that encode it, from 1 to 5.
 ///
 /// Errors: as [`read_u`].
+#[inline(always)]
 pub fn read_p1(b: &[u8], at: usize) -> Result<(Option<u32>, usize), LebFault>
     requires { at ≤ length b.now }
     ensures { Reads IsUleb128p1 (drop at b.now) result }
@@ -46,6 +48,7 @@ pub fn read_p1(b: &[u8], at: usize) -> Result<(Option<u32>, usize), LebFault>
 /// number of bytes that encode it, from 1 to 5.
 ///
 /// Errors: as [`read_u`].
+#[inline(always)]
 pub fn read_s(b: &[u8], at: usize) -> Result<(i32, usize), LebFault>
     requires { at ≤ length b.now }
     ensures { Reads IsSleb128 (drop at b.now) result }
@@ -59,7 +62,20 @@ pub fn read_s(b: &[u8], at: usize) -> Result<(i32, usize), LebFault>
 }
 
 /// The sum of the groups of the first number, whatever its range, and the number of groups.
+#[inline(always)]
 fn first_groups(bytes: &[u8]) -> Result<(u64, usize), LebFault>
+    ensures first { IfOk result (λ groups. IsFirst bytes.now groups.0 groups.1) }
+    ensures none { OnErr result (HasNoFirst bytes.now) }
+    ensures short { (result ≡ Err LebFault.Short) ↔ IsCutOff bytes.now }
+{
+    match bytes.first() {
+        Some(&byte) if byte < 0x80 => Ok((u64::from(byte), 1)),
+        _ => all_groups(bytes),
+    }
+}
+
+/// As [`first_groups`], for a number of any length.
+fn all_groups(bytes: &[u8]) -> Result<(u64, usize), LebFault>
     ensures first { IfOk result (λ groups. IsFirst bytes.now groups.0 groups.1) }
     ensures none { OnErr result (HasNoFirst bytes.now) }
     ensures short { (result ≡ Err LebFault.Short) ↔ IsCutOff bytes.now }
@@ -80,6 +96,7 @@ fn first_groups(bytes: &[u8]) -> Result<(u64, usize), LebFault>
 }
 
 /// The signed number: the sum, less 2^(7 * len) if bit 6 of the last byte is set.
+#[inline(always)]
 fn with_sign(bytes: &[u8], sum: u64, len: usize) -> i64
     requires { IsFirst bytes.now sum len }
     ensures { result ≡ signed_sum (take len bytes.now) }

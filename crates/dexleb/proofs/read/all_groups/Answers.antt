@@ -1,7 +1,7 @@
 use Rattle.std.proofs.Common.{◌≤◌, inl, inr, arith}
 use Rattle.std.proofs.lemmas.List.Elements.{All-more}
 use Rattle.dexleb.proofs.First.{sum_more, sum_more_fits, first_here, no_first}
-use Rattle.dexleb.proofs.read.first_groups.Goals as goal
+use Rattle.dexleb.proofs.read.all_groups.Goals as goal
 
 pub overflow_add-sum : goal.overflow_add-sum
 overflow_add-sum c = omega (arith, sum_more_fits c.args.bytes.now c.loop-i.i c.loop-i.sum c.from.result (omega arith) (omega arith) c.from.ensures c.loop-i.invariant.sum)

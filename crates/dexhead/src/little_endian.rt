@@ -13,6 +13,7 @@ use std::alloc::AllocError;
 ///
 /// Condition: the two bytes are there.
 #[tactic(auto, unfolding(dexspec::specs::Bytes::ushort_at), using(crate::proofs::Spelled::number_of_two))]
+#[inline(always)]
 pub fn u16_at(bytes: &[u8], at: usize) -> u16
     requires { at + 2 ≤ length bytes.now }
     ensures { result ≡ ushort_at bytes.now at }
@@ -25,6 +26,7 @@ pub fn u16_at(bytes: &[u8], at: usize) -> u16
 ///
 /// Condition: the four bytes are there.
 #[tactic(auto, unfolding(dexspec::specs::Bytes::uint_at), using(crate::proofs::Spelled::number_of_four))]
+#[inline(always)]
 pub fn u32_at(bytes: &[u8], at: usize) -> u32
     requires { at + 4 ≤ length bytes.now }
     ensures { result ≡ uint_at bytes.now at }

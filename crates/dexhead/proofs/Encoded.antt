@@ -20,6 +20,16 @@ module _ {O X : Type 0} (gives : List ℕ → O → O → Type 0) (both : (x y :
   pub given_all : (xs : List X) (i : ℕ) (a b : O) → length xs ≤ i → gives (flat_map f (take i xs)) a b → gives (flat_map f xs) a b
   given_all xs i a b end h = subst (λ ys. gives (flat_map f ys) a b) (take_all i xs end) h
 
+module _ {O : Type 0} (gives : List ℕ → O → O → Type 0) (both : (x y : List ℕ) (a b c : O) → gives x a b → gives y b c → gives (x ++ y) a c) where
+  -- bytes, and then more
+  pub then_given : {x y : List ℕ} {a b c : O} → gives x a b → gives y b c → gives (x ++ y) a c
+  then_given {x} {y} {a} {b} {c} first second = both x y a b c first second
+
+  -- nine parts
+  pub nine_given : {x1 x2 x3 x4 x5 x6 x7 x8 x9 : List ℕ} {a b c d e f g h i j : O} → gives x1 a b → gives x2 b c → gives x3 c d → gives x4 d e → gives x5 e f
+      → gives x6 f g → gives x7 g h → gives x8 h i → gives x9 i j → gives (x1 ++ (x2 ++ (x3 ++ (x4 ++ (x5 ++ (x6 ++ (x7 ++ (x8 ++ x9)))))))) a j
+  nine_given e1 e2 e3 e4 e5 e6 e7 e8 e9 = then_given e1 (then_given e2 (then_given e3 (then_given e4 (then_given e5 (then_given e6 (then_given e7 (then_given e8 e9)))))))
+
 -- What completes the rest after `now` completes the whole after `start`.
 pub record Completes {O : Type 0} (gives : List ℕ → O → O → Type 0) (rest : List ℕ) (now : O) (whole : List ℕ) (start : O) : Type 0 where
   pub on : (end : O) → gives rest now end → gives whole start end

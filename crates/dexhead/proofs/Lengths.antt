@@ -1,12 +1,12 @@
 -- How many bytes a header and a map have.
-use Rattle.std.proofs.Common.{◌≡◌, ℕ, ◌+◌, ◌*◌, List, ◌++◌, length, map, append_assoc, arith}
+use Rattle.std.proofs.Common.{◌≡◌, ℕ, ◌+◌, ◌*◌, List, length, map, arith}
 use Rattle.std.specs.List.{flat_map}
 use Rattle.std.proofs.Math.ListN.{length-append}
 use Rattle.std.proofs.lemmas.List.{length-map}
 use Rattle.dexspec.specs.Bytes.{uint}
 use Rattle.dexspec.specs.Header.{header_length}
 use Rattle.dexspec.specs.Sections.{Section, type_code}
-use Rattle.dexspec.specs.Canonical.{magic, map_entry_bytes, map_bytes}
+use Rattle.dexspec.specs.Canonical.{map_entry_bytes, map_bytes}
 use Rattle.dexspec.proofs.written.PlacedBytes.{length_rows}
 use Rattle.dexspec.proofs.numbers.ByteNumbers.{length-ushort, length-uint}
 use Rattle.dexhead.specs.declared.head.Head.{Head}
@@ -31,10 +31,6 @@ length_map es =
 
 -- ---- a header
 
-pub nine : (x a b c d e f g h i : List ℕ) {x1 x2 x3 x4 x5 x6 x7 x8 x9 : List ℕ} → x1 ≡ x ++ a → x2 ≡ x1 ++ b → x3 ≡ x2 ++ c → x4 ≡ x3 ++ d → x5 ≡ x4 ++ e
-    → x6 ≡ x5 ++ f → x7 ≡ x6 ++ g → x8 ≡ x7 ++ h → x9 ≡ x8 ++ i → x9 ≡ x ++ (a ++ (b ++ (c ++ (d ++ (e ++ (f ++ (g ++ (h ++ i))))))))
-nine x a b c d e f g h i e1 e2 e3 e4 e5 e6 e7 e8 e9 = rw (e9, e8, e7, e6, e5, e4, e3, e2, e1) (simp append_assoc)
-
 pub length_fields : (h : Head) → length h.tables ≡ 6 → length (field_bytes h) ≡ 80
 unfolding field_bytes
 length_fields h six = simp length-append (omega (arith, six, length_tables h.tables, length-uint h.file_size, length-uint header_length, length-uint 0x12345678, length-uint 0, length-uint h.map_off, length-uint h.data_size, length-uint h.data_off))
@@ -42,7 +38,3 @@ length_fields h six = simp length-append (omega (arith, six, length_tables h.tab
 pub length_head : (h : Head) → length h.tables ≡ 6 → length h.signature ≡ 20 → length (head_bytes h) ≡ 112
 unfolding head_bytes
 length_head h six twenty = simp length-append (omega (arith, twenty, length_fields h six, length-uint h.checksum))
-
-pub head_joined : (h : Head) (x : List ℕ) {y z : List ℕ} → y ≡ x ++ (magic ++ (uint h.checksum ++ h.signature)) → z ≡ y ++ field_bytes h → z ≡ x ++ head_bytes h
-unfolding head_bytes
-head_joined h x e f = rw (f, e) (simp append_assoc)

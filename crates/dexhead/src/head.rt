@@ -1,13 +1,10 @@
 //! A header that is written.
 
-ghost use Rattle.std.specs.Prelude.{◌≡◌, ◌++◌, ◌+◌, ◌≤◌, length, vec_len, vec_capacity};
-ghost use Rattle.std.specs.List.{flat_map};
-ghost use Rattle.dexspec.specs.Bytes.{uint};
-ghost use Rattle.dexspec.specs.Canonical.{magic};
+ghost use Rattle.std.specs.Prelude.{◌≡◌, ⊤, length};
 ghost use Rattle.dexspec.specs.internal.Writing.{Puts};
 
 use crate::header::{ENDIAN_CONSTANT, HEADER_SIZE};
-use crate::little_endian::push_u32;
+use crate::output::{Encode, Output, encode_all, put_with_len};
 use std::alloc::AllocError;
 
 const MAGIC: [u8; 8] = [0x64, 0x65, 0x78, 0x0a, 0x30, 0x33, 0x35, 0x00];
@@ -45,23 +42,36 @@ pub struct Head {
     pub data_off: u32,
 }
 
-impl Rows {
+impl Encode for Rows {
     ghost use Rattle.dexhead.specs.Written.{rows_bytes};
 
-    // Appends the eight bytes where there is room for them.
-    fn push(&self, out: &mut Vec<u8>)
-        requires { vec_len out.old + 8 ≤ vec_capacity out.old }
-        ensures items { out.new.items ≡ out.old.items ++ rows_bytes self.now }
-        ensures len { vec_len out.new ≡ vec_len out.old + 8 }
-        ensures capacity { vec_capacity out.old ≤ vec_capacity out.new }
-    {
-        push_u32(self.size, out);
-        push_u32(self.off, out);
+    ghost formed = { λ _. ⊤ };
+
+    ghost bytes = { rows_bytes };
+
+    fn encode<O: Output>(&self, out: &mut O) {
+        out.u32(self.size);
+        out.u32(self.off);
+    }
+}
+
+impl Encode for Head {
+    ghost use Rattle.dexhead.specs.Written.{head_bytes};
+
+    ghost formed = { λ _. ⊤ };
+
+    ghost bytes = { head_bytes };
+
+    fn encode<O: Output>(&self, out: &mut O) {
+        out.bytes(&MAGIC);
+        out.u32(self.checksum);
+        out.bytes(&self.signature);
+        self.encode_fields(out);
     }
 }
 
 impl Head {
-    ghost use Rattle.dexhead.specs.Written.{rows_bytes, field_bytes, head_bytes};
+    ghost use Rattle.dexhead.specs.Written.{field_bytes, head_bytes};
 
     /// Appends the 112 bytes of the header.
     ///
@@ -72,53 +82,21 @@ impl Head {
         ensures puts { Puts (head_bytes self.now) out.old out.new result }
         ensures len { length (head_bytes self.now) ≡ 112 }
     {
-        let head = *self;
-        out.reserve(HEADER_SIZE as usize)?;
-        head.push_sums(out);
-        head.push_fields(out);
-        Ok(())
+        put_with_len(self, HEADER_SIZE as usize, out)
     }
 
-    // Appends the header up to the signature, 32 bytes, where there is room for them.
-    fn push_sums(&self, out: &mut Vec<u8>)
-        requires { vec_len out.old + 32 ≤ vec_capacity out.old }
-        ensures items { out.new.items ≡ out.old.items
-            ++ (magic ++ (uint self.now.checksum ++ self.now.signature)) }
-        ensures len { vec_len out.new ≡ vec_len out.old + 32 }
-        ensures capacity { vec_capacity out.old ≤ vec_capacity out.new }
+    // Writes the header after its signature.
+    fn encode_fields<O: Output>(&self, out: &mut O)
+        ensures { O.gives (field_bytes self.now) out.old out.new }
     {
-        out.extend_from_slice(&MAGIC).unwrap();
-        push_u32(self.checksum, out);
-        out.extend_from_slice(&self.signature).unwrap();
-    }
-
-    // Appends the 80 bytes of the header after its signature, where there is room for them.
-    fn push_fields(&self, out: &mut Vec<u8>)
-        requires { vec_len out.old + 80 ≤ vec_capacity out.old }
-        ensures items { out.new.items ≡ out.old.items ++ field_bytes self.now }
-        ensures len { vec_len out.new ≡ vec_len out.old + 80 }
-        ensures capacity { vec_capacity out.old ≤ vec_capacity out.new }
-    {
-        push_u32(self.file_size, out);
-        push_u32(HEADER_SIZE, out);
-        push_u32(ENDIAN_CONSTANT, out);
-        push_u32(0, out);
-        push_u32(0, out);
-        push_u32(self.map_off, out);
-        self.push_tables(out);
-        push_u32(self.data_size, out);
-        push_u32(self.data_off, out);
-    }
-
-    // Appends sizes and offsets of the tables, 48 bytes, where there is room for them.
-    fn push_tables(&self, out: &mut Vec<u8>)
-        requires { vec_len out.old + 48 ≤ vec_capacity out.old }
-        ensures items { out.new.items ≡ out.old.items ++ flat_map rows_bytes self.now.tables }
-        ensures len { vec_len out.new ≡ vec_len out.old + 48 }
-        ensures capacity { vec_capacity out.old ≤ vec_capacity out.new }
-    {
-        for rows in &self.tables {
-            rows.push(out);
-        }
+        out.u32(self.file_size);
+        out.u32(HEADER_SIZE);
+        out.u32(ENDIAN_CONSTANT);
+        out.u32(0);
+        out.u32(0);
+        out.u32(self.map_off);
+        encode_all(&self.tables, out);
+        out.u32(self.data_size);
+        out.u32(self.data_off);
     }
 }

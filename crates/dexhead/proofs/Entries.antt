@@ -245,15 +245,6 @@ empty_table {b = b} es t n k r len empty code h =
       λ there. elim there.there [ inl l ↦ p.1 l.1 | inr f ↦ absurd (f.0 empty) ],
     )
 
-pub full_table : {b : List ℕ} (es : List MapEntry) (t : header.Table) (k s o : ℕ) (r : Bool) → table_size b t ≢ 0 → k ≡ type_code (TableOf t) → s ≡ table_size b t → o ≡ table_off b t
-    → (IsTrue r ↔ Contains es (record { kind = k; size = s; off = o })) → IsTrue r ↔ IsThere b es t
-full_table {b = b} es t k s o r full code size off h =
-    let p : (IsTrue r ↔ Contains es (record { kind = type_code (TableOf t); size = table_size b t; off = table_off b t }))
-    = subst (λ (e : MapEntry). IsTrue r ↔ Contains es e) (entry_is code size off) h in (
-      λ x. record { there = inr (full, p.0 x) },
-      λ there. elim there.there [ inl l ↦ absurd (full l.0) | inr f ↦ p.1 f.1 ],
-    )
-
 has_table : {b : List ℕ} {es : List MapEntry} → HaveTables b es → (t : header.Table) → HasTable b es t
 has_table h StringIds = h.strings.there
 has_table h TypeIds = h.types.there
@@ -284,9 +275,6 @@ has_map place right = record {
   itself = right.itself.itself;
   others = right.order.others;
 }
-
-pub in_place : {b : List ℕ} → HasMap b → IsInPlace b
-in_place h = record { in_data = h.in_data; aligned = h.aligned }
 
 pub are_right : {b : List ℕ} → HasMap b → AreRight b (map_entries b)
 are_right h = record {

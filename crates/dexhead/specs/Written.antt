@@ -1,9 +1,8 @@
 -- the bytes of a header and of a map
-use Rattle.std.specs.Prelude.{◌≡◌, ℕ, ◌-◌, ◌^◌, ◌<◌, List, ◌++◌, map}
+use Rattle.std.specs.Prelude.{◌≡◌, ℕ, ◌-◌, List, ◌++◌, map}
 use Rattle.std.specs.List.{flat_map}
 use Rattle.dexspec.specs.Bytes.{uint}
 use Rattle.dexspec.specs.Header.{header_length}
-use Rattle.dexspec.specs.Sections as sections
 use Rattle.dexspec.specs.Sections.{Section, type_code}
 use Rattle.dexspec.specs.Placing.{Ordered}
 use Rattle.dexspec.specs.Canonical.{magic, map_bytes, placed_tables, data_start}
@@ -43,11 +42,3 @@ entry_meant e = (section_meant e.section, e.size, e.off)
 -- a map of these entries
 abbrev pub map_list_bytes : List MapEntry → List ℕ
 map_list_bytes entries = map_bytes (map entry_meant entries)
-
--- its two numbers are such as a `u32` holds
-abbrev pub HasNumbers : MapEntry → Type 0
-HasNumbers e = (e.size < 2 ^ 32) × (e.off < 2 ^ 32)
-
--- the entry as it is read
-abbrev pub entry_read : MapEntry → sections.MapEntry
-entry_read e = record { kind = type_code (section_meant e.section); size = e.size; off = e.off }

@@ -6,14 +6,8 @@ ghost use Rattle.dexspec.specs.Placing.{Ordered};
 ghost use Rattle.dexspec.specs.Canonical.{magic, header_bytes, with_sums};
 ghost use Rattle.dexhead.specs.declared.head.Head.{Head};
 ghost use Rattle.dexhead.specs.Sums.{with_sums_set};
-ghost use Rattle.dexhead.specs.Laws.{HeadsOpen, HeadsTakeSums, HeadsHaveSums, FilesTakeSums, FilesHaveSums, MapsHaveCount, MapsHaveEntries};
+ghost use Rattle.dexhead.specs.Laws.{HeadsTakeSums, HeadsHaveSums, FilesTakeSums, FilesHaveSums};
 ghost use Rattle.dexhead.specs.Written.{StatesTables, field_bytes};
-
-/// A header with the file's length, followed by the rest of the file, with the two sums set, meets
-/// conditions 1 to 8.
-pub fn head_law()
-    ensures { HeadsOpen }
-{}
 
 /// A header with the offsets of the tables and the data of classes in their file has, after its signature, the fields
 /// that the canonical file has.
@@ -38,10 +32,4 @@ pub fn sums_law()
 pub fn file_law()
     ensures set { FilesTakeSums }
     ensures reported { FilesHaveSums }
-{}
-
-/// A map that is put is read where it is: the number of its entries, and each of them.
-pub fn map_law()
-    ensures count { MapsHaveCount }
-    ensures entries { MapsHaveEntries }
 {}

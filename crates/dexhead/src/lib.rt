@@ -1,7 +1,7 @@
 //! The first things that are read of a file and the last that are written: the checksum and the
 //! signature, the header, the map, and the devices that bytes come from and go to.
 //!
-//! Public contracts use the definitions of `specs/Conditions`, `specs/Device`, `specs/Laid`, `specs/Opened`,
+//! Public contracts use the definitions of `specs/Conditions`, `specs/Device`, `specs/Laid`, `specs/Laws`,
 //! `specs/OutputLaws`, `specs/Pushing`, `specs/Sections`, `specs/Sums`, `specs/Tables` and `specs/Written`.
 #![tactic(auto)]
 

@@ -19,8 +19,8 @@ pub enum Table {
 }
 
 impl Table {
-    /// The bytes of a row.
-    pub fn row_size(self) -> u32
+    // The bytes of a row.
+    pub(crate) fn row_size(self) -> u32
         ensures { result ≡ row_size (meant self) }
     {
         match self {

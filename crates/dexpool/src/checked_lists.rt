@@ -3,9 +3,9 @@
 ghost use Rattle.std.specs.Prelude.{◌≡◌, true, false, OnOk};
 ghost use Rattle.dexstr.specs.Units.{IsAscii};
 ghost use Rattle.dexpool.specs.Tables.{text_of};
-ghost use Rattle.dexpool.specs.Reading.{AreNames, IsPlaced, file_numbers};
-ghost use Rattle.dexpool.specs.internal.CheckedLists.{AreLetters, NotListedAs};
-ghost use Rattle.dexpool.specs.internal.FileRows.{IsFileList, AreFileLists};
+ghost use Rattle.dexpool.specs.Reading.{IsPlaced};
+ghost use Rattle.dexpool.specs.internal.CheckedLists.{NotListedAs};
+ghost use Rattle.dexpool.specs.internal.FileRows.{IsReader, IsFileList, AreFileLists};
 
 use crate::lists::Parameters;
 use crate::names::Names;
@@ -27,35 +27,50 @@ pub(crate) struct CheckedList {
     pub(crate) letter: u16,
 }
 
-/// Returns whether types of values are listed at an offset, where there is a place for them, and their shorty is the
-/// text of the number after the letter. A long list that passed this check is not checked again.
-pub(crate) fn has_shorty(
-    names: &Names<'_, '_>,
-    letters: &[u16],
-    file: &Parameters<'_>,
-    lists: &HashMap<u32, CheckedList>,
-    off: u32,
-    checked: CheckedList,
-    text: &Text<'_>,
-) -> bool
-    requires names { AreNames names.now.frame.now names.now.strings.now names.now.types.now }
-    requires letters { AreLetters names.now.strings.now names.now.types.now letters.now }
-    requires file { file.now ≡ file_numbers names.now.frame.now }
-    requires lists { AreFileLists names.now lists.now }
-    requires placed { IsPlaced names.now.frame.now off checked.span }
-    requires text { text.now ≡ text_of names.now.strings.now checked.shorty }
-    requires letter { IsAscii checked.letter }
-    ensures yes { result ≡ true → IsFileList names.now off checked }
-    ensures no { result ≡ false → NotListedAs names.now.frame.now off checked.letter text.now }
-{
-    if let Some(known) = lists.get(&off) {
-        if known.shorty == checked.shorty && known.letter == checked.letter {
-            return true;
+/// Reads the rows of protos of a file whose texts and types are read.
+#[derive(Clone, Copy)]
+pub(crate) struct ProtoReader<'r, 'p, 'a> {
+    /// The texts and types.
+    pub(crate) names: &'r Names<'p, 'a>,
+    /// The letter of each type in shorties.
+    pub(crate) letters: &'r [u16],
+    /// All numbers of the file, of which each list of types is a part.
+    pub(crate) file: &'r Parameters<'a>,
+}
+
+impl<'r, 'p, 'a> ProtoReader<'r, 'p, 'a> {
+    /// Returns whether types of values are listed at an offset, where there is a place for them, and their shorty is
+    /// the text of the number after the letter. A long list that passed this check is not checked again.
+    pub(crate) fn has_shorty(
+        &self,
+        lists: &HashMap<u32, CheckedList>,
+        off: u32,
+        checked: CheckedList,
+        text: &Text<'_>,
+    ) -> bool
+        requires reader { IsReader self.now }
+        requires lists { AreFileLists self.now.names.now lists.now }
+        requires placed { IsPlaced self.now.names.now.frame.now off checked.span }
+        requires text { text.now ≡ text_of self.now.names.now.strings.now checked.shorty }
+        requires letter { IsAscii checked.letter }
+        ensures yes { result ≡ true → IsFileList self.now.names.now off checked }
+        ensures no { result ≡ false
+            → NotListedAs self.now.names.now.frame.now off checked.letter text.now }
+    {
+        if let Some(known) = lists.get(&off) {
+            if known.shorty == checked.shorty && known.letter == checked.letter {
+                return true;
+            }
         }
-    }
-    match text.ascii() {
-        Some(units) => is_spelled(letters, units, checked.letter, &file.part(checked.span)),
-        None => false,
+        match text.ascii() {
+            Some(units) => is_spelled(
+                self.letters,
+                units,
+                checked.letter,
+                &self.file.part(checked.span),
+            ),
+            None => false,
+        }
     }
 }
 

@@ -4,11 +4,10 @@ ghost use Rattle.std.specs.Prelude.{◌≡◌, ◌<◌, MatchOption, IfOk, IfErr
 ghost use Rattle.dexspec.specs.Header.{ProtoIds, table_size};
 ghost use Rattle.dexpool.specs.Tables.{span_of, proto_cmp};
 ghost use Rattle.dexpool.specs.Reading.{is_above_last, AreNames, HasIndices, HasSpan, file_numbers, HaveSpans};
-ghost use Rattle.dexpool.specs.internal.CheckedLists.{AreLetters};
-ghost use Rattle.dexpool.specs.internal.FileRows.{NoFileProto, IsFileProto, AreFileProtos, AreFileLists};
+ghost use Rattle.dexpool.specs.internal.FileRows.{IsReader, NoFileProto, IsFileProto, AreFileProtos, AreFileLists};
 ghost use Rattle.dexpool.specs.Faults.{IsFault};
 
-use crate::checked_lists::{CheckedList, has_shorty, note};
+use crate::checked_lists::{CheckedList, ProtoReader, note};
 use crate::faults::{ReadFault, refused};
 use crate::kinds::letter;
 use crate::lists::Parameters;
@@ -50,21 +49,18 @@ fn indices_at(frame: &Frame<'_>, i: u32) -> Indices
 
 // Returns the proto of a row, if it is one. Of lists that rows share, `lists` has those that were checked.
 fn proto_at(
-    names: &Names<'_, '_>,
-    letters: &[u16],
-    file: &Parameters<'_>,
+    reader: &ProtoReader<'_, '_, '_>,
     lists: &mut HashMap<u32, CheckedList>,
     i: u32,
 ) -> Result<Option<ProtoEntry>, AllocError>
-    requires names { AreNames names.now.frame.now names.now.strings.now names.now.types.now }
-    requires letters { AreLetters names.now.strings.now names.now.types.now letters.now }
-    requires file { file.now ≡ file_numbers names.now.frame.now }
-    requires lists { AreFileLists names.now lists.old }
-    requires row { i < table_size names.now.frame.now ProtoIds }
-    ensures lists { IfOk result (λ _. AreFileLists names.now lists.new) }
+    requires reader { IsReader reader.now }
+    requires lists { AreFileLists reader.now.names.now lists.old }
+    requires row { i < table_size reader.now.names.now.frame.now ProtoIds }
+    ensures lists { IfOk result (λ _. AreFileLists reader.now.names.now lists.new) }
     ensures proto { IfOk result (λ found.
-        MatchOption found (NoFileProto names.now i) (IsFileProto names.now i)) }
+        MatchOption found (NoFileProto reader.now.names.now i) (IsFileProto reader.now.names.now i)) }
 {
+    let names = reader.names;
     let indices = indices_at(names.frame, i);
     let shorty = match names.text(indices.shorty) {
         Some(shorty) => shorty,
@@ -83,7 +79,7 @@ fn proto_at(
         shorty: indices.shorty,
         letter: letter(return_type),
     };
-    if !has_shorty(names, letters, file, lists, indices.off, checked, shorty) {
+    if !reader.has_shorty(lists, indices.off, checked, shorty) {
         return Ok(None);
     }
     note(names, lists, indices.off, checked)?;
@@ -135,10 +131,10 @@ fn is_above(parameters: &Parameters<'_>, protos: &[ProtoEntry], proto: &ProtoEnt
 /// Error: condition 13 fails, at the least row with an index out of range, whose parameters are no list of types in the
 /// data or name void, whose shorty is not that of its types, or which does not come after the row before it, by the
 /// return type and then by the parameters. Source: "proto_id_item" and "type_list".
-pub(crate) fn read_protos(
+pub(crate) fn read_protos<'r, 'a>(
     alloc: Global,
-    names: &Names<'_, '_>,
-    file: &Parameters<'_>,
+    names: &'r Names<'_, 'a>,
+    file: &'r Parameters<'a>,
 ) -> Result<Vec<ProtoEntry>, ReadFault>
     requires names { AreNames names.now.frame.now names.now.strings.now names.now.types.now }
     requires file { file.now ≡ file_numbers names.now.frame.now }
@@ -147,10 +143,15 @@ pub(crate) fn read_protos(
 {
     let count = names.frame.size(Table::ProtoIds);
     let letters = letters_of(alloc, names)?;
+    let reader = ProtoReader {
+        names,
+        letters: &letters,
+        file,
+    };
     let mut lists = HashMap::new(alloc);
     let mut rows = Vec::with_capacity(alloc, count as usize)?;
     for i in 0..count {
-        let proto = match proto_at(names, &letters, file, &mut lists, i)? {
+        let proto = match proto_at(&reader, &mut lists, i)? {
             Some(proto) => proto,
             None => return Err(refused(Condition::Protos, i)),
         };

@@ -10,17 +10,17 @@ use Rattle.dexpool.proofs.ProtoRows.{shorty_same, is_at_there}
 use Rattle.dexpool.proofs.protos.proto_at.Goals as goal
 
 pub returns-in-None-clause-proto : goal.returns-in-None-clause-proto
-returns-in-None-clause-proto c = λ p h. c.in-None.ensures _ (subst (λ n. StringRow c.args.names.now.frame.now n (shorty p.return_type p.parameters)) c.indices_at-indices.ensures.shorty_is h.shorty)
+returns-in-None-clause-proto c = λ p h. c.in-None.ensures _ (subst (λ n. StringRow c.args.reader.now.names.now.frame.now n (shorty p.return_type p.parameters)) c.indices_at-indices.ensures.shorty_is h.shorty)
 
 pub returns-in-None-typ-clause-proto : goal.returns-in-None-typ-clause-proto
-returns-in-None-typ-clause-proto c = λ p h. c.in-None-typ.ensures _ (subst (λ n. TypeRow c.args.names.now.frame.now n p.return_type) c.indices_at-indices.ensures.return_is h.return_type)
+returns-in-None-typ-clause-proto c = λ p h. c.in-None-typ.ensures _ (subst (λ n. TypeRow c.args.reader.now.names.now.frame.now n p.return_type) c.indices_at-indices.ensures.return_is h.return_type)
 
 pub returns-in-None-place_at-clause-proto : goal.returns-in-None-place_at-clause-proto
-returns-in-None-place_at-clause-proto c = λ p h. c.in-None-place_at.ensures p.parameters (subst (λ o. OrNone TypeListAt [] c.args.names.now.frame.now o p.parameters) c.indices_at-indices.ensures.off_is h.parameters)
+returns-in-None-place_at-clause-proto c = λ p h. c.in-None-place_at.ensures p.parameters (subst (λ o. OrNone TypeListAt [] c.args.reader.now.names.now.frame.now o p.parameters) c.indices_at-indices.ensures.off_is h.parameters)
 
 pub returns-then-not-has_shorty-clause-proto : goal.returns-then-not-has_shorty-clause-proto
 returns-then-not-has_shorty-clause-proto c = λ p h.
-    let b = c.args.names.now.frame.now in
+    let b = c.args.reader.now.names.now.frame.now in
     c.if-not-has_shorty.ensures.no refl p.parameters (subst (λ o. OrNone TypeListAt [] b o p.parameters) c.indices_at-indices.ensures.off_is h.parameters) h.values
     (shorty_same b c.args.i _ _ c.indices_at-indices.result.off c.letter.result p c.in-Some.shorty.now c.in-Some-typ.return_type.now c.indices_at-indices.ensures h c.in-Some.ensures.row c.in-Some-typ.ensures.row c.letter.ensures)
 
@@ -32,9 +32,9 @@ note-requires-clause-checked c = c.if-not-has_shorty.ensures.yes refl
 
 pub returns-clause-proto : goal.returns-clause-proto
 returns-clause-proto c =
-    let b = c.args.names.now.frame.now in
-    let texts = c.args.names.now.strings.now in
-    let types = c.args.names.now.types.now in
+    let b = c.args.reader.now.names.now.frame.now in
+    let texts = c.args.reader.now.names.now.strings.now in
+    let types = c.args.reader.now.names.now.types.now in
     let checked = c.if-not-has_shorty.ensures.yes refl in
     is_at_there b texts types c.args.i c.indices_at-indices.result.off _ c.in-Some.shorty.now c.in-Some-typ.return_type.now
     c.requires.row c.indices_at-indices.ensures c.in-Some.ensures c.in-Some-typ.ensures checked.listed

@@ -22,14 +22,7 @@ pub(crate) fn closed(tables: &Tables<'_>, marks: &Marks) -> Result<Marks, AllocE
     ensures { IfOk result (AreClosure tables.now marks.now) }
 {
     let mut closed = copied(marks)?;
-    mark_below(
-        tables,
-        &closed.fields,
-        &closed.methods,
-        &mut closed.strings,
-        &mut closed.types,
-        &mut closed.protos,
-    );
+    mark_below(tables, &mut closed);
     Ok(closed)
 }
 
@@ -52,30 +45,32 @@ fn copied(marks: &Marks) -> Result<Marks, AllocError>
 }
 
 // Marks what marked methods, fields, protos and types name.
-fn mark_below(
-    tables: &Tables<'_>,
-    fields: &[bool],
-    methods: &[bool],
-    strings: &mut [bool],
-    types: &mut [bool],
-    protos: &mut [bool],
-)
+fn mark_below(tables: &Tables<'_>, marks: &mut Marks)
     requires tables { AreTables tables.now }
-    requires fields { length fields.now ≡ length tables.now.fields.items }
-    requires methods { length methods.now ≡ length tables.now.methods.items }
-    requires strings { length strings.old ≡ length tables.now.strings.items }
-    requires types { length types.old ≡ length tables.now.types.items }
-    requires protos { length protos.old ≡ length tables.now.protos.items }
-    ensures protos { protos.new ≡ mark_all protos.old (method_protos tables.now methods.now) }
-    ensures types { types.new
-        ≡ marked_types tables.now methods.now fields.now protos.new types.old }
-    ensures strings { strings.new
-        ≡ marked_texts tables.now methods.now fields.now protos.new types.new strings.old }
+    requires marks { AreMarksOf (symbols_in tables.now) marks.old }
+    ensures { AreClosure tables.now marks.old marks.new }
 {
-    mark_by_methods(&tables.methods, methods, strings, types, protos);
-    mark_by_fields(&tables.fields, fields, strings, types);
-    mark_by_protos(&tables.protos, &tables.parameters, protos, strings, types);
-    mark_by_types(&tables.types, types, strings);
+    mark_by_methods(
+        &tables.methods,
+        &marks.methods,
+        &mut marks.strings,
+        &mut marks.types,
+        &mut marks.protos,
+    );
+    mark_by_fields(
+        &tables.fields,
+        &marks.fields,
+        &mut marks.strings,
+        &mut marks.types,
+    );
+    mark_by_protos(
+        &tables.protos,
+        &tables.parameters,
+        &marks.protos,
+        &mut marks.strings,
+        &mut marks.types,
+    );
+    mark_by_types(&tables.types, &marks.types, &mut marks.strings);
 }
 
 // Marks the classes, names and protos of marked methods.

@@ -75,7 +75,12 @@ pub(crate) fn renumbered_protos(
     let range = covering(protos);
     let count = listed(protos);
     if count > range.end.saturating_sub(range.start) {
-        return renumbered_together(alloc, protos, parameters, range, strings, types);
+        let lower = LowerPlaces {
+            strings,
+            types,
+            protos: &[],
+        };
+        return renumbered_together(alloc, protos, parameters, range, lower);
     }
     let mut rows = Vec::with_capacity(alloc, protos.len())?;
     let mut moved = Vec::with_capacity(alloc, count)?;

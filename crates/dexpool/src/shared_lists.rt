@@ -8,7 +8,7 @@ ghost use Rattle.dexpool.specs.internal.SharedLists.{Covers, IsPlaceWithin};
 use crate::lists::Parameters;
 use crate::protos::Protos;
 use crate::rows::{ProtoEntry, Span};
-use dexrows::TypeNumbers;
+use dexrows::{LowerPlaces, TypeNumbers};
 use std::alloc::{AllocError, Global};
 
 /// How many parameters the rows have together.
@@ -91,22 +91,23 @@ pub(crate) fn renumbered_together(
     protos: &[ProtoEntry],
     parameters: &Parameters<'_>,
     range: Span,
-    strings: &[u32],
-    types: &[u32],
+    lower: LowerPlaces<'_>,
 ) -> Result<Protos, AllocError>
     requires protos { All
-        (IsEntryWithin (length strings.now) (length types.now) parameters.now) protos.now }
+        (IsEntryWithin (length lower.strings.now) (length lower.types.now) parameters.now) protos.now }
     requires range { HasSpan parameters.now range }
     requires covers { All (λ p. Covers range p.parameters) protos.now }
     ensures spans { IfOk result HasSpans }
-    ensures rows { IfOk result (AreMovedProtos strings.now types.now parameters.now protos.now) }
+    ensures rows { IfOk result
+        (AreMovedProtos lower.entry.strings.now lower.entry.types.now
+        parameters.now protos.now) }
 {
-    let moved = images_or_none(alloc, &parameters.part(range), types)?;
+    let moved = images_or_none(alloc, &parameters.part(range), lower.types)?;
     let mut rows = Vec::with_capacity(alloc, protos.len())?;
     for entry in protos {
         rows.push(ProtoEntry {
-            shorty: strings[entry.shorty] as usize,
-            return_type: types[entry.return_type] as usize,
+            shorty: lower.strings[entry.shorty] as usize,
+            return_type: lower.types[entry.return_type] as usize,
             parameters: place_within(range, entry.parameters),
         })?;
     }

@@ -7,8 +7,8 @@ use Rattle.dexpool.proofs.shared_lists.renumbered_together.Goals as goal
 
 pub loop-entry-preserved : goal.loop-entry-preserved
 loop-entry-preserved c =
-    let strings = c.args.strings.now in
-    let types = c.args.types.now in
+    let strings = c.args.lower.strings.now in
+    let types = c.args.lower.types.now in
     let ps = c.args.parameters.now in
     let protos = c.args.protos.now in
     let i = c.loop-entry.entry-index in
@@ -22,4 +22,4 @@ loop-entry-preserved c =
     }
 
 pub returns-clause-rows : goal.returns-clause-rows
-returns-clause-rows c = c.loop-entry.invariant.rows ∙ ap (map (moved_proto c.args.strings.now c.args.types.now c.args.parameters.now)) (take_all c.loop-entry.entry-index c.args.protos.now c.loop-entry-test.false)
+returns-clause-rows c = c.loop-entry.invariant.rows ∙ ap (map (moved_proto c.args.lower.strings.now c.args.lower.types.now c.args.parameters.now)) (take_all c.loop-entry.entry-index c.args.protos.now c.loop-entry-test.false)

@@ -37,6 +37,26 @@ struct JoinedProtos {
     images: Vec<Vec<u32>>,
 }
 
+/// For each part the images of its numbers, by kind, which are borrowed.
+#[derive(Clone, Copy)]
+struct JoinedImages<'j> {
+    strings: &'j [Vec<u32>],
+    types: &'j [Vec<u32>],
+    protos: &'j [Vec<u32>],
+    fields: &'j [Vec<u32>],
+    methods: &'j [Vec<u32>],
+}
+
+/// The images of the numbers of one part.
+#[derive(Clone, Copy)]
+struct PartImages<'j> {
+    strings: &'j [u32],
+    types: &'j [u32],
+    protos: &'j [u32],
+    fields: &'j [u32],
+    methods: &'j [u32],
+}
+
 /// The symbols of all parts in one numbering's tables, and for each part where its numbers lead.
 ///
 /// Error: the memory for the tables and the maps was refused.
@@ -55,14 +75,14 @@ pub(crate) fn join_tables<'a>(
     let protos = join_protos(alloc, parts, &strings, &types)?;
     let fields = join_fields(alloc, parts, &strings, &types)?;
     let methods = join_methods(alloc, parts, &strings, &types, &protos)?;
-    let remaps = remaps(
-        alloc,
-        &strings.images,
-        &types.images,
-        &protos.images,
-        &fields.images,
-        &methods.images,
-    )?;
+    let images = JoinedImages {
+        strings: &strings.images,
+        types: &types.images,
+        protos: &protos.images,
+        fields: &fields.images,
+        methods: &methods.images,
+    };
+    let remaps = images.remaps(alloc)?;
     let tables = Tables {
         strings: strings.rows,
         types: types.numbers,
@@ -257,64 +277,58 @@ fn slices_of<R: Row>(alloc: Global, parts: &[Vec<R>]) -> Result<Vec<&[R]>, Alloc
     Ok(slices)
 }
 
-// For each part the map of its images.
-fn remaps(
-    alloc: Global,
-    strings: &[Vec<u32>],
-    types: &[Vec<u32>],
-    protos: &[Vec<u32>],
-    fields: &[Vec<u32>],
-    methods: &[Vec<u32>],
-) -> Result<Vec<Remap>, AllocError>
-    requires types { length types.now ≡ length strings.now }
-    requires protos { length protos.now ≡ length strings.now }
-    requires fields { length fields.now ≡ length strings.now }
-    requires methods { length methods.now ≡ length strings.now }
-    requires strings_keep { All (λ image. KeepsOrder (map Some image.items)) strings.now }
-    requires types_keep { All (λ image. KeepsOrder (map Some image.items)) types.now }
-    requires protos_keep { All (λ image. KeepsOrder (map Some image.items)) protos.now }
-    requires fields_keep { All (λ image. KeepsOrder (map Some image.items)) fields.now }
-    requires methods_keep { All (λ image. KeepsOrder (map Some image.items)) methods.now }
-    ensures { IfOk result (AreRemapsOf strings.now types.now protos.now fields.now methods.now) }
-{
-    let mut remaps = Vec::with_capacity(alloc, strings.len())?;
-    for i in 0..strings.len() {
-        remaps.push(remap(
-            alloc,
-            &strings[i],
-            &types[i],
-            &protos[i],
-            &fields[i],
-            &methods[i],
-        )?)?;
+impl<'j> JoinedImages<'j> {
+    // For each part the map of its images.
+    fn remaps(&self, alloc: Global) -> Result<Vec<Remap>, AllocError>
+        requires types { length self.now.types.now ≡ length self.now.strings.now }
+        requires protos { length self.now.protos.now ≡ length self.now.strings.now }
+        requires fields { length self.now.fields.now ≡ length self.now.strings.now }
+        requires methods { length self.now.methods.now ≡ length self.now.strings.now }
+        requires strings_keep { All (λ image. KeepsOrder (map Some image.items))
+            self.now.strings.now }
+        requires types_keep { All (λ image. KeepsOrder (map Some image.items))
+            self.now.types.now }
+        requires protos_keep { All (λ image. KeepsOrder (map Some image.items))
+            self.now.protos.now }
+        requires fields_keep { All (λ image. KeepsOrder (map Some image.items))
+            self.now.fields.now }
+        requires methods_keep { All (λ image. KeepsOrder (map Some image.items))
+            self.now.methods.now }
+        ensures { IfOk result (AreRemapsOf self.now) }
+    {
+        let mut remaps = Vec::with_capacity(alloc, self.strings.len())?;
+        for i in 0..self.strings.len() {
+            let part = PartImages {
+                strings: &self.strings[i],
+                types: &self.types[i],
+                protos: &self.protos[i],
+                fields: &self.fields[i],
+                methods: &self.methods[i],
+            };
+            remaps.push(part.remap(alloc)?)?;
+        }
+        Ok(remaps)
     }
-    Ok(remaps)
 }
 
-// The map of a part's images.
-fn remap(
-    alloc: Global,
-    strings: &[u32],
-    types: &[u32],
-    protos: &[u32],
-    fields: &[u32],
-    methods: &[u32],
-) -> Result<Remap, AllocError>
-    requires strings_keep { KeepsOrder (map Some strings.now) }
-    requires types_keep { KeepsOrder (map Some types.now) }
-    requires protos_keep { KeepsOrder (map Some protos.now) }
-    requires fields_keep { KeepsOrder (map Some fields.now) }
-    requires methods_keep { KeepsOrder (map Some methods.now) }
-    ensures { IfOk result (λ remap.
-        remap ≡ total_maps strings.now types.now protos.now fields.now methods.now) }
-{
-    Ok(Remap {
-        strings: total(alloc, strings)?,
-        types: total(alloc, types)?,
-        protos: total(alloc, protos)?,
-        fields: total(alloc, fields)?,
-        methods: total(alloc, methods)?,
-    })
+impl<'j> PartImages<'j> {
+    // The map of these images.
+    fn remap(&self, alloc: Global) -> Result<Remap, AllocError>
+        requires strings_keep { KeepsOrder (map Some self.now.strings.now) }
+        requires types_keep { KeepsOrder (map Some self.now.types.now) }
+        requires protos_keep { KeepsOrder (map Some self.now.protos.now) }
+        requires fields_keep { KeepsOrder (map Some self.now.fields.now) }
+        requires methods_keep { KeepsOrder (map Some self.now.methods.now) }
+        ensures { IfOk result (λ remap. remap ≡ total_maps self.now) }
+    {
+        Ok(Remap {
+            strings: total(alloc, self.strings)?,
+            types: total(alloc, self.types)?,
+            protos: total(alloc, self.protos)?,
+            fields: total(alloc, self.fields)?,
+            methods: total(alloc, self.methods)?,
+        })
+    }
 }
 
 // The map that leads each number to its image.

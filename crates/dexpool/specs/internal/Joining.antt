@@ -18,6 +18,8 @@ use Rattle.dexpool.specs.declared.rows.ProtoEntry.{ProtoEntry}
 use Rattle.dexpool.specs.declared.protos.Protos.{Protos}
 use Rattle.dexpool.specs.declared.joined_tables.JoinedTypes.{JoinedTypes}
 use Rattle.dexpool.specs.declared.joined_tables.JoinedProtos.{JoinedProtos}
+use Rattle.dexpool.specs.declared.joined_tables.JoinedImages.{JoinedImages}
+use Rattle.dexpool.specs.declared.joined_tables.PartImages.{PartImages}
 use Rattle.dexpool.specs.Tables.{text_of, type_of, span_of, proto_of, field_of, method_of}
 use Rattle.dexpool.specs.Numberings.{IsAt, Maps}
 use Rattle.dexpool.specs.internal.Renumbering.{IsEntryWithin, IsFieldWithin, IsMethodWithin, numbers_in}
@@ -134,9 +136,9 @@ AreTablesOf parts texts types tables = AllZip (λ part rows. Denote (proto_of_ro
 -- ---- the maps of all parts
 
 -- the map by these images, one for each number
-abbrev pub total_maps : List ℕ → List ℕ → List ℕ → List ℕ → List ℕ → Maps
-total_maps strings types protos fields methods = record { texts = map Some strings; types = map Some types; protos = map Some protos; fields = map Some fields; methods = map Some methods }
+abbrev pub total_maps : PartImages → Maps
+total_maps images = record { texts = map Some images.strings.now; types = map Some images.types.now; protos = map Some images.protos.now; fields = map Some images.fields.now; methods = map Some images.methods.now }
 
 -- the maps have the images of each part
-abbrev pub AreRemapsOf : (strings types protos fields methods : List (Vec ℕ)) → Vec Maps → Type 0
-AreRemapsOf strings types protos fields methods maps = AreMapsOf (lists_in strings) (lists_in types) (lists_in protos) (lists_in fields) (lists_in methods) maps.items
+abbrev pub AreRemapsOf : JoinedImages → Vec Maps → Type 0
+AreRemapsOf images maps = AreMapsOf (lists_in images.strings.now) (lists_in images.types.now) (lists_in images.protos.now) (lists_in images.fields.now) (lists_in images.methods.now) maps.items

@@ -1,6 +1,6 @@
 use Rattle.std.proofs.Common.{sym, subst}
 use Rattle.dexpool.specs.Orderly.{KeepsOrder}
-use Rattle.dexpool.proofs.joined_tables.remap.Goals as goal
+use Rattle.dexpool.proofs.joined_tables.PartImages.remap.Goals as goal
 
 pub invariant_of-result : goal.invariant_of-result
 invariant_of-result c = record {

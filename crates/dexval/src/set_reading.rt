@@ -11,7 +11,7 @@ ghost use Rattle.dexval.specs.Results.{IsReadSet};
 ghost use Rattle.dexval.specs.internal.Found.{IsOffsetCount, IsReadItem};
 
 use crate::annotation::{Annotation, Visibility};
-use crate::nesting::annotation_at;
+use crate::nesting::ValueReader;
 use crate::set::AnnotationSet;
 use crate::value_reading::MOST_DEPTH;
 use dexhead::{Condition, Frame, u32_at};
@@ -48,7 +48,12 @@ fn item_at(
         return Err(ItemFault::Refused(Condition::Annotations as u8));
     }
     let visibility = visibility_of(bytes[at])?;
-    match annotation_at(alloc, bytes, pools, at + 1, MOST_DEPTH)? {
+    let reader = ValueReader {
+        alloc,
+        bytes,
+        pools,
+    };
+    match reader.annotation_at(at + 1, MOST_DEPTH)? {
         Some((typ, elements, _)) => Ok(Annotation {
             visibility,
             typ,

@@ -5,7 +5,7 @@ ghost use Rattle.dexpool.specs.Pools.{ArePools};
 ghost use Rattle.dexval.specs.Reading.{IsValueFault, IsStaticsFault};
 ghost use Rattle.dexval.specs.Results.{IsReadValue, AreReadStatics};
 
-use crate::nesting::{array_at, value_at};
+use crate::nesting::ValueReader;
 use crate::value::Value;
 use dexhead::{Condition, Frame};
 use dexpool::{ItemFault, Pools};
@@ -37,7 +37,12 @@ pub fn read_value(
         return Err(ItemFault::Refused(Condition::Values as u8));
     }
     pools.numbering().is_numbering();
-    match value_at(alloc, frame.bytes(), pools, off as usize, MOST_DEPTH)? {
+    let reader = ValueReader {
+        alloc,
+        bytes: frame.bytes(),
+        pools,
+    };
+    match reader.value_at(off as usize, MOST_DEPTH)? {
         Some((value, size)) => Ok((value, size as u32)),
         None => Err(ItemFault::Refused(Condition::Values as u8)),
     }
@@ -64,7 +69,12 @@ pub fn read_statics(
         return Err(ItemFault::Refused(Condition::Values as u8));
     }
     pools.numbering().is_numbering();
-    match array_at(alloc, bytes, pools, at, MOST_DEPTH)? {
+    let reader = ValueReader {
+        alloc,
+        bytes,
+        pools,
+    };
+    match reader.array_at(at, MOST_DEPTH)? {
         Some((values, _)) => Ok(values),
         None => Err(ItemFault::Refused(Condition::Values as u8)),
     }

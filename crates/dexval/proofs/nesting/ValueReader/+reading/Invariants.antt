@@ -3,7 +3,7 @@ use Rattle.dexval.specs.Code.{value_of, element_of}
 use Rattle.dexval.specs.Nesting.{HasPools}
 use Rattle.dexval.proofs.ValuesRead.{HaveRead}
 use Rattle.dexval.proofs.ElementsRead.{HaveReadOf}
-use Rattle.dexval.proofs.nesting.+reading.Given as goal
+use Rattle.dexval.proofs.nesting.ValueReader.+reading.Given as goal
 
 abbrev pub decreases-value_at : goal.decreases-value_at
 decreases-value_at l = 5 * l.depth
@@ -22,13 +22,13 @@ decreases-annotation_at l = 5 * l.depth + 3
 
 abbrev pub invariant-array_at-loop-i : goal.invariant-array_at-loop-i
 invariant-array_at-loop-i l = record {
-  within : l.at + l.head + l.size ≤ length l.bytes;
-  read : HasPools l.bytes l.pools → HaveRead l.bytes (l.at + l.head) l.pools l.depth l.count l._i (map value_of l.values.items) l.size;
+  within : l.at + l.head + l.size ≤ length l.self.bytes.now;
+  read : HasPools l.self.bytes.now l.self.pools.now → HaveRead l.self.bytes.now (l.at + l.head) l.self.pools.now l.depth l.count l._i (map value_of l.values.items) l.size;
 }
 
 abbrev pub invariant-elements_at-loop-i : goal.invariant-elements_at-loop-i
 invariant-elements_at-loop-i l = record {
-  within : l.at + l.size ≤ length l.bytes;
+  within : l.at + l.size ≤ length l.self.bytes.now;
   least_fits : l.least ≤ 2 ^ 32;
-  read : HasPools l.bytes l.pools → HaveReadOf l.bytes l.at l.pools l.depth l.count l._i l.least (map element_of l.elements.items) l.size;
+  read : HasPools l.self.bytes.now l.self.pools.now → HaveReadOf l.self.bytes.now l.at l.self.pools.now l.depth l.count l._i l.least (map element_of l.elements.items) l.size;
 }

@@ -1,9 +1,15 @@
 -- Units that are the letters of numbers, one number after the other.
-use Rattle.std.proofs.Common.{◌≡◌, ◌≢◌, ◌↔◌, ℕ, ◌+◌, ◌<◌, Bool, true, false, List, ◌∷◌, length, get_or, drop, slice_index, ap, subst, sym, ◌∙◌}
+use Rattle.std.proofs.Common.{◌≡◌, ◌≢◌, ◌↔◌, ℕ, ◌+◌, ◌<◌, Bool, true, false, List, ◌∷◌, ◌-◌, ◌≤◌, not, length, get_or, take, drop, slice_index, ap, refl, subst, sym, ◌∙◌, arith}
 use Rattle.std.specs.Bool.{IsTrue}
-use Rattle.std.proofs.lemmas.List.{drop_more}
-use Rattle.std.proofs.lemmas.List.Elements.{All-cons, All-head, All-tail}
-use Rattle.dexpool.specs.internal.CheckedLists.{letter_in, IsLetter, SpellNumbers}
+use Rattle.std.specs.List.{All}
+use Rattle.std.proofs.lemmas.Bool.{false≢true}
+use Rattle.std.proofs.lemmas.List.{drop_more, drop_all, take-map, drop-map, length-map}
+use Rattle.std.proofs.lemmas.List.Elements.{All-nil, All-cons, All-head, All-tail, All-map}
+use Rattle.dexrows.proofs.Composing.{all_seen}
+use Rattle.dexpool.specs.declared.rows.Span.{Span}
+use Rattle.dexpool.specs.Tables.{span_of}
+use Rattle.dexpool.specs.Reading.{HasSpan}
+use Rattle.dexpool.specs.internal.CheckedLists.{letter_in, letters_in, IsNotVoid, IsLetter, SpellNumbers, IsSpelled, IsShorty}
 
 module _ (letters : List ℕ) where
   spell_first : (u n : ℕ) (us ns : List ℕ) → SpellNumbers letters (u ∷ us) (n ∷ ns) → IsLetter letters n u
@@ -34,3 +40,41 @@ module _ (letters : List ℕ) where
     pub spell_not : (r : Bool) → (IsTrue r ↔ IsLetter letters n (get_or units i 0)) → r ≡ false → (SpellNumbers letters units ns ↔ SpellNumbers letters (drop i units) (drop i ns))
         → (IsTrue false ↔ SpellNumbers letters units ns)
     spell_not r reported e all = (λ t. absurd cc, λ s. sym e ∙ reported.1 (spell_first _ n _ _ (into (all.0 s))))
+
+-- ---- letters that were looked up
+
+-- where a part of the numbers is, there is that of their letters
+pub span_letters : (letters ps : List ℕ) (s : Span) → HasSpan ps s → HasSpan (letters_in letters ps) s
+span_letters letters ps s h = record { ordered = h.ordered; within = omega (arith, h.within, length-map ps (letter_in letters)) }
+
+-- and it has the letters of that part
+pub part_letters : (letters ps : List ℕ) (s : Span) → span_of (letters_in letters ps) s ≡ letters_in letters (span_of ps s)
+part_letters letters ps s = ap (take (s.end - s.start)) (drop-map (letter_in letters) s.start ps) ∙ take-map (letter_in letters) (s.end - s.start) (drop s.start ps)
+
+-- a text of these letters is one of the numbers that have them
+pub shorty_spelled : (letters text : List ℕ) (first : ℕ) (ns found : List ℕ) → found ≡ letters_in letters ns → (r : Bool) → (IsTrue r ↔ IsShorty found text first) → (IsTrue r ↔ IsSpelled letters text first ns)
+shorty_spelled letters text first ns found is r reported =
+    let here : IsTrue r ↔ IsShorty (letters_in letters ns) text first = subst (λ (l : List ℕ). IsTrue r ↔ IsShorty l text first) is reported in (
+      λ t. let s = here.0 t in record { text_is = s.text_is; no_void = all_seen (letter_in letters) IsNotVoid ns s.no_void },
+      λ s. here.1 (record { text_is = s.text_is; no_void = All-map IsNotVoid (letter_in letters) ns s.no_void }),
+    )
+
+-- ---- no void
+
+module _ (units : List ℕ) (i : ℕ) (found : Bool) (all : All IsNotVoid units ↔ ((found ≡ false) × All IsNotVoid (drop i units))) where
+  pub void_here : i < length units → get_or units i 0 ≡ 0x56 → (All IsNotVoid units ↔ ((true ≡ false) × All IsNotVoid (drop (i + 1) units)))
+  void_here lt is = (
+    λ a. absurd (All-head IsNotVoid (get_or units i 0) (drop (i + 1) units) (subst (All IsNotVoid) (drop_more units i 0 lt) (all.0 a).1) is),
+    λ p. absurd (false≢true (sym p.0)),
+  )
+
+  pub no_void_here : i < length units → get_or units i 0 ≢ 0x56 → (All IsNotVoid units ↔ ((found ≡ false) × All IsNotVoid (drop (i + 1) units)))
+  no_void_here lt is = (
+    λ a. ((all.0 a).0, All-tail IsNotVoid (get_or units i 0) (drop (i + 1) units) (subst (All IsNotVoid) (drop_more units i 0 lt) (all.0 a).1)),
+    λ p. all.1 (p.0, subst (All IsNotVoid) (sym (drop_more units i 0 lt)) (All-cons IsNotVoid (get_or units i 0) (drop (i + 1) units) is p.1)),
+  )
+
+-- at the end what was found decides
+pub void_decides : (units : List ℕ) (i : ℕ) (found : Bool) → length units ≤ i → (All IsNotVoid units ↔ ((found ≡ false) × All IsNotVoid (drop i units))) → (IsTrue (not found) ↔ All IsNotVoid units)
+void_decides units i true le all = (λ t. absurd (false≢true t), λ a. absurd (false≢true (sym (all.0 a).0)))
+void_decides units i false le all = (λ t. all.1 (refl, subst (All IsNotVoid) (sym (drop_all i units le)) (All-nil IsNotVoid)), λ a. refl)

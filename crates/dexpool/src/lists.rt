@@ -1,13 +1,16 @@
 //! The parameters that the rows of a table of protos name.
 
-ghost use Rattle.std.specs.Prelude.{◌≡◌, ◌/◌, length, IfOk};
+ghost use Rattle.std.specs.Prelude.{◌≡◌, ◌/◌, ◌<◌, length, slice_index, IfOk};
 ghost use Rattle.dexspec.specs.Bytes.{ushorts_at};
+ghost use Rattle.dexspec.specs.Rows.{key_cmp};
 ghost use Rattle.dexpool.specs.Tables.{span_of};
 ghost use Rattle.dexpool.specs.Reading.{HasSpan, file_numbers};
 
 use crate::rows::Span;
+use dexhead::u16_at;
 use dexrows::TypeNumbers;
 use std::alloc::AllocError;
+use std::cmp::Ordering;
 use std::marker::Model;
 
 /// How the lists of a table are kept.
@@ -55,6 +58,39 @@ fn file_part(bytes: &[u8], span: Span) -> &[u8]
     part
 }
 
+// The number that the two bytes of a place encode.
+fn number_at(bytes: &[u8], i: usize) -> u16
+    requires { i < length bytes.now / 2 }
+    ensures { result ≡ slice_index (file_numbers bytes.now) i }
+{
+    u16_at(bytes, 2 * i)
+}
+
+// How the numbers that bytes encode compare, number by number: a prefix comes before a longer list.
+fn compare_numbers(left: &[u8], right: &[u8]) -> Ordering
+    ensures { result ≡ key_cmp (file_numbers left.now) (file_numbers right.now) }
+{
+    let left_count = left.len() / 2;
+    let right_count = right.len() / 2;
+    for i in 0..left_count.min(right_count) {
+        match number_at(left, i).cmp(&number_at(right, i)) {
+            Ordering::Equal => {}
+            unequal => return unequal,
+        }
+    }
+    left_count.cmp(&right_count)
+}
+
+// How two parts of the numbers that bytes encode compare.
+fn compare_parts(bytes: &[u8], left: Span, right: Span) -> Ordering
+    requires left { HasSpan (file_numbers bytes.now) left }
+    requires right { HasSpan (file_numbers bytes.now) right }
+    ensures { result ≡ key_cmp (span_of (file_numbers bytes.now) left)
+        (span_of (file_numbers bytes.now) right) }
+{
+    compare_numbers(file_part(bytes, left), file_part(bytes, right))
+}
+
 impl<'a> Parameters<'a> {
     /// The numbers that the bytes of a file encode, two bytes for each.
     pub(crate) fn of_file(bytes: &'a [u8]) -> Parameters<'a>
@@ -86,6 +122,18 @@ impl<'a> Parameters<'a> {
             return TypeNumbers::words(own_part(numbers, span));
         }
         TypeNumbers::words(&[])
+    }
+
+    /// How the parameters of two rows compare, number by number.
+    pub(crate) fn compare(&self, left: Span, right: Span) -> Ordering
+        requires left { HasSpan self.now left }
+        requires right { HasSpan self.now right }
+        ensures { result ≡ key_cmp (span_of self.now left) (span_of self.now right) }
+    {
+        if let Kept::File(bytes) = &self.kept {
+            return compare_parts(bytes, left, right);
+        }
+        self.part(left).compare(&self.part(right))
     }
 
     /// Returns a copy of the numbers: those of a file stay in its bytes.

@@ -7,7 +7,7 @@ ghost use Rattle.dexpool.specs.Reading.{is_above_last, AreNames, HasIndices, Has
 ghost use Rattle.dexpool.specs.internal.FileRows.{IsReader, NoFileProto, IsFileProto, AreFileProtos, AreFileLists};
 ghost use Rattle.dexpool.specs.Faults.{IsFault};
 
-use crate::checked_lists::{CheckedList, ProtoReader, note};
+use crate::checked_lists::{CheckedList, CheckedLists, ProtoReader};
 use crate::faults::{ReadFault, refused};
 use crate::kinds::letter;
 use crate::lists::Parameters;
@@ -18,7 +18,6 @@ use crate::shorties::letters_of;
 use dexhead::{Condition, Frame, Table, u32_at};
 use std::alloc::{AllocError, Global};
 use std::cmp::Ordering;
-use std::collections::HashMap;
 
 /// The protos by row, and the types of their parameters, each as its number.
 #[derive(Drop)]
@@ -50,13 +49,13 @@ fn indices_at(frame: &Frame<'_>, i: u32) -> Indices
 // Returns the proto of a row, if it is one. Of lists that rows share, `lists` has those that were checked.
 fn proto_at(
     reader: &ProtoReader<'_, '_, '_>,
-    lists: &mut HashMap<u32, CheckedList>,
+    lists: &mut CheckedLists,
     i: u32,
 ) -> Result<Option<ProtoEntry>, AllocError>
     requires reader { IsReader reader.now }
-    requires lists { AreFileLists reader.now.names.now lists.old }
+    requires lists { AreFileLists reader.now lists.old }
     requires row { i < table_size reader.now.names.now.frame.now ProtoIds }
-    ensures lists { IfOk result (λ _. AreFileLists reader.now.names.now lists.new) }
+    ensures lists { IfOk result (λ _. AreFileLists reader.now lists.new) }
     ensures proto { IfOk result (λ found.
         MatchOption found (NoFileProto reader.now.names.now i) (IsFileProto reader.now.names.now i)) }
 {
@@ -82,7 +81,7 @@ fn proto_at(
     if !reader.has_shorty(lists, indices.off, checked, shorty) {
         return Ok(None);
     }
-    note(names, lists, indices.off, checked)?;
+    reader.note(lists, indices.off, checked)?;
     Ok(Some(ProtoEntry {
         shorty: indices.shorty,
         return_type: indices.return_type,
@@ -107,9 +106,7 @@ fn compare(parameters: &Parameters<'_>, left: &ProtoEntry, right: &ProtoEntry) -
     ensures { result ≡ proto_cmp parameters.now left.now right.now }
 {
     match left.return_type.cmp(&right.return_type) {
-        Ordering::Equal => parameters
-            .part(left.parameters)
-            .compare(&parameters.part(right.parameters)),
+        Ordering::Equal => parameters.compare(left.parameters, right.parameters),
         unequal => unequal,
     }
 }
@@ -144,11 +141,12 @@ pub(crate) fn read_protos<'r, 'a>(
     let count = names.frame.size(Table::ProtoIds);
     let letters = letters_of(alloc, names)?;
     let reader = ProtoReader {
+        alloc,
         names,
         letters: &letters,
         file,
     };
-    let mut lists = HashMap::new(alloc);
+    let mut lists = CheckedLists::none(&reader);
     let mut rows = Vec::with_capacity(alloc, count as usize)?;
     for i in 0..count {
         let proto = match proto_at(&reader, &mut lists, i)? {

@@ -42,6 +42,20 @@ pub record IsSpelled (letters text : List ℕ) (first : ℕ) (ns : List ℕ) : T
   pub text_is : text ≡ first ∷ letters_in letters ns
   pub no_void : NoVoid letters ns
 
+-- it is not void's letter
+abbrev pub IsNotVoid : ℕ → Type 0
+IsNotVoid letter = letter ≢ 0x56
+
+-- the units are these letters, none of which is void's
+pub record AreThese (letters units : List ℕ) : Type 0 where
+  pub units_are : units ≡ letters
+  pub no_void : All IsNotVoid units
+
+-- the text is a first letter and then these, none of which is void's
+pub record IsShorty (letters text : List ℕ) (first : ℕ) : Type 0 where
+  pub text_is : text ≡ first ∷ letters
+  pub no_void : All IsNotVoid letters
+
 -- ---- lists
 
 -- the list is there, and its shorty is the text of this number after this letter

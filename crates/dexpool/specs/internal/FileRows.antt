@@ -1,6 +1,5 @@
 -- Rows of a file whose texts and types are read.
-use Rattle.std.specs.Prelude.{◌≡◌, ℕ, List}
-use Rattle.std.specs.HashMap.{HashMap}
+use Rattle.std.specs.Prelude.{◌≡◌, ℕ, List, IfSome}
 use Rattle.dexspec.specs.Texts.{Text}
 use Rattle.dexspec.specs.Symbols.{Proto, Field, Method}
 use Rattle.dexspec.specs.Rows as rows
@@ -8,10 +7,11 @@ use Rattle.dexpool.specs.declared.names.Names.{Names}
 use Rattle.dexpool.specs.declared.rows.ProtoEntry.{ProtoEntry}
 use Rattle.dexpool.specs.declared.checked_lists.CheckedList.{CheckedList}
 use Rattle.dexpool.specs.declared.checked_lists.ProtoReader.{ProtoReader}
+use Rattle.dexpool.specs.declared.checked_lists.CheckedLists.{CheckedLists}
 use Rattle.dexrows.specs.declared.fields.FieldRow.{FieldRow}
 use Rattle.dexrows.specs.declared.methods.MethodRow.{MethodRow}
 use Rattle.dexpool.specs.Reading.{AreNames, IsText, IsType, FieldRowAt, ProtoRowAt, MethodRowAt, AreFields, AreProtos, AreMethods, file_numbers}
-use Rattle.dexpool.specs.internal.CheckedLists.{AreLetters, IsChecked, AreChecked}
+use Rattle.dexpool.specs.internal.CheckedLists.{AreLetters, letters_in, IsChecked, AreChecked}
 
 -- ---- texts and types
 
@@ -49,15 +49,16 @@ AreFileProtos names = AreProtos names.frame.now names.strings.now names.types.no
 abbrev pub IsFileList : Names → ℕ → CheckedList → Type 0
 IsFileList names = IsChecked names.frame.now names.strings.now names.types.now
 
--- so it is for each list that is noted
-abbrev pub AreFileLists : {S : Type 0} → Names → HashMap ℕ CheckedList S → Type 0
-AreFileLists names lists = AreChecked names.frame.now names.strings.now names.types.now lists
-
 -- the reader has the names of a file, the letters of its types and its numbers
 pub record IsReader (reader : ProtoReader) : Type 0 where
   pub names_are : AreNames reader.names.now.frame.now reader.names.now.strings.now reader.names.now.types.now
   pub letters_are : AreLetters reader.names.now.strings.now reader.names.now.types.now reader.letters.now
   pub numbers_are : reader.file.now ≡ file_numbers reader.names.now.frame.now
+
+-- each list that is noted is as IsFileList says, and the letters are those of all numbers of the file
+pub record AreFileLists (reader : ProtoReader) (lists : CheckedLists) : Type 0 where
+  pub checked : AreChecked reader.names.now.frame.now reader.names.now.strings.now reader.names.now.types.now lists.long
+  pub letters_are : IfSome lists.letters (λ letters. letters.items ≡ letters_in reader.letters.now (file_numbers reader.names.now.frame.now))
 
 -- ---- fields and methods
 

@@ -1,6 +1,7 @@
-use Rattle.std.proofs.Common.{ℕ, List, sym, ap, subst, ◌∙◌}
+use Rattle.std.proofs.Common.{refl, sym, subst, ◌∙◌}
 use Rattle.std.proofs.lemmas.Bool.{false≢true}
 use Rattle.dexpool.specs.Tables.{span_of}
+use Rattle.dexpool.specs.Reading.{file_numbers}
 use Rattle.dexpool.specs.internal.CheckedLists.{IsSpelled}
 use Rattle.dexpool.proofs.SpelledLists.{known_checked, spelled_checked, not_spelled, other_units}
 use Rattle.dexpool.proofs.checked_lists.ProtoReader.has_shorty.Goals as goal
@@ -9,19 +10,19 @@ pub returns-then-known-checked-2-clause-yes : goal.returns-then-known-checked-2-
 returns-then-known-checked-2-clause-yes c = λ e.
     let known = c.in-Some.known.now in
     known_checked c.args.self.now.names.now.frame.now c.args.self.now.names.now.strings.now c.args.self.now.names.now.types.now c.args.off known c.args.checked
-    (c.requires.lists c.args.off known (sym c.in-Some.ensures.value)) c.requires.placed c.if-known-checked.true c.if-known-checked-2.true
+    (c.requires.lists.checked c.args.off known (sym c.in-Some.ensures.value)) c.requires.placed c.if-known-checked.true c.if-known-checked-2.true
 
 pub returns-in-Some-ascii-clause-yes : goal.returns-in-Some-ascii-clause-yes
 returns-in-Some-ascii-clause-yes c = λ e.
-    let part = c.part.ensures ∙ ap (λ (ns : List ℕ). span_of ns c.args.checked.span) c.requires.reader.numbers_are in
-    spelled_checked c.args.self.now.names.now.frame.now c.args.self.now.names.now.strings.now c.args.self.now.names.now.types.now c.args.self.now.letters.now c.requires.reader.names_are c.requires.reader.letters_are c.args.off c.args.checked c.in-Some-ascii.units.now _
-    c.requires.placed (c.in-Some-ascii.ensures.units ∙ c.requires.text) part (c.is_spelled.ensures.0 e)
+    let part = span_of (file_numbers c.args.self.now.names.now.frame.now) c.args.checked.span in
+    spelled_checked c.args.self.now.names.now.frame.now c.args.self.now.names.now.strings.now c.args.self.now.names.now.types.now c.args.self.now.letters.now c.requires.reader.names_are c.requires.reader.letters_are c.args.off c.args.checked c.in-Some-ascii.units.now part
+    c.requires.placed (c.in-Some-ascii.ensures.units ∙ c.requires.text) refl (c.spells.ensures.0 e)
 
 pub returns-in-Some-ascii-clause-no : goal.returns-in-Some-ascii-clause-no
 returns-in-Some-ascii-clause-no c = λ e.
-    let part = c.part.ensures ∙ ap (λ (ns : List ℕ). span_of ns c.args.checked.span) c.requires.reader.numbers_are in
-    not_spelled c.args.self.now.names.now.frame.now c.args.self.now.names.now.strings.now c.args.self.now.names.now.types.now c.args.self.now.letters.now c.requires.reader.names_are c.requires.reader.letters_are c.args.off c.args.checked.letter c.args.checked.span c.args.text.now _
-    c.requires.placed part (λ h. false≢true (sym e ∙ c.is_spelled.ensures.1 (subst (λ us. IsSpelled c.args.self.now.letters.now us c.args.checked.letter c.part.result) (sym c.in-Some-ascii.ensures.units) h)))
+    let part = span_of (file_numbers c.args.self.now.names.now.frame.now) c.args.checked.span in
+    not_spelled c.args.self.now.names.now.frame.now c.args.self.now.names.now.strings.now c.args.self.now.names.now.types.now c.args.self.now.letters.now c.requires.reader.names_are c.requires.reader.letters_are c.args.off c.args.checked.letter c.args.checked.span c.args.text.now part
+    c.requires.placed refl (λ h. false≢true (sym e ∙ c.spells.ensures.1 (subst (λ us. IsSpelled c.args.self.now.letters.now us c.args.checked.letter part) (sym c.in-Some-ascii.ensures.units) h)))
 
 pub returns-in-None-clause-no : goal.returns-in-None-clause-no
 returns-in-None-clause-no c = λ e. other_units c.args.self.now.names.now.frame.now c.args.off c.args.checked.letter c.args.text.now c.requires.letter c.in-None.ensures.other

@@ -1,0 +1,7 @@
+use Rattle.std.proofs.Common.{◌≡◌, drop}
+use Rattle.dexspec.specs.Rows.{key_cmp}
+use Rattle.dexpool.specs.Reading.{file_numbers}
+use Rattle.dexpool.proofs.lists.compare_numbers.Given as goal
+
+abbrev pub invariant-loop-i : goal.invariant-loop-i
+invariant-loop-i l = key_cmp (drop l.i (file_numbers l.left)) (drop l.i (file_numbers l.right)) ≡ key_cmp (file_numbers l.left) (file_numbers l.right)

@@ -1,0 +1,8 @@
+use Rattle.std.proofs.Common.{◌≡◌, drop, false}
+use Rattle.std.specs.Prelude.{◌↔◌}
+use Rattle.std.specs.List.{All}
+use Rattle.dexpool.specs.internal.CheckedLists.{IsNotVoid}
+use Rattle.dexpool.proofs.shorties.has_no_void.Given as goal
+
+abbrev pub invariant-loop-unit : goal.invariant-loop-unit
+invariant-loop-unit l = All IsNotVoid l.units ↔ ((l.has_void ≡ false) × All IsNotVoid (drop l.unit-index l.units))

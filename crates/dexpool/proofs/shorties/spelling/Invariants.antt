@@ -1,0 +1,6 @@
+use Rattle.std.proofs.Common.{◌≡◌, take}
+use Rattle.dexpool.specs.internal.CheckedLists.{letters_in}
+use Rattle.dexpool.proofs.shorties.spelling.Given as goal
+
+abbrev pub invariant-loop-i : goal.invariant-loop-i
+invariant-loop-i l = l.spelled.items ≡ letters_in l.letters (take l.i l.numbers)

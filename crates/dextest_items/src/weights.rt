@@ -107,8 +107,8 @@ fn is_directory_within(
     off: u32,
     most: u64,
 ) -> Result<bool, ItemFault> {
-    let found = read_shared_directory_within(alloc, &file.frame, &file.pools, off, most)?;
-    Ok(found.is_some())
+    read_shared_directory_within(alloc, &file.frame, &file.pools, off, most)?;
+    Ok(true)
 }
 
 // Returns whether the members of a class row are read if they may weigh at most `most`.

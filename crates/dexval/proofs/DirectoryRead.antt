@@ -1,22 +1,30 @@
 -- The pairs and lists of a directory of annotations, as they are read.
-use Rattle.std.proofs.Common.{◌≡◌, ◌≢◌, ℕ, zero, suc, ◌+◌, ◌*◌, ◌<◌, ◌≤◌, true, List, [], ◌∷◌, ◌++◌, length, map, refl, ap, sym, subst, ◌∙◌, arith, inl, inr}
+use Rattle.std.proofs.Common.{◌≡◌, ◌≢◌, ℕ, zero, suc, ◌+◌, ◌*◌, ◌<◌, ◌≤◌, true, List, [], ◌∷◌, ◌++◌, length, map, sum_by, refl, ap, sym, subst, ◌∙◌, arith, inl, inr}
+use Rattle.std.proofs.lemmas.Bool.{cases_lt}
 use Rattle.std.specs.Prelude.{All}
 use Rattle.std.specs.List.{AllZip}
 use Rattle.std.specs.Ordering.{is_lt, nat_cmp}
 use Rattle.std.proofs.lemmas.List.{map-append}
 use Rattle.std.proofs.lemmas.List.Elements.{All-append, All-cons, All-nil}
+use Rattle.std.proofs.lemmas.List.Sums.{sum_by-cons}
 use Rattle.dexspec.specs.Lists.{rises, OrNone}
 use Rattle.dexspec.specs.Bytes.{uint_at, uints_at}
 use Rattle.dexspec.specs.Symbols.{Field, Method}
 use Rattle.dexspec.specs.Rows.{FieldRow, MethodRow}
-use Rattle.dexspec.specs.Annotations.{AnnotationSet, SetAt, RefListAt, PairAt, PairsAt, pairs_at, fields_count, methods_count, parameters_count}
+use Rattle.dexspec.specs.Annotations.{AnnotationSet, Directory, SetAt, RefListAt, DirectoryAt, PairAt, PairsAt, pairs_at, fields_count, methods_count, parameters_count}
 use Rattle.dexspec.specs.Mentions.{Mentions}
+use Rattle.dexspec.specs.Weight.{set_weight, ref_list_weight}
+use Rattle.dexspec.proofs.determined.OneClass.{one_set}
+use Rattle.dexspec.proofs.determined.OneRow.{one_all_zip, one_or_none}
 use Rattle.dexspec.proofs.lists.Members.{and_first, and_second, and_both}
+use Rattle.dexspec.proofs.size.SizeSums.{sum_by-map}
+use Rattle.dexspec.proofs.wellformed.FormedRows.{length-uints_at, length-zip}
 use Rattle.dexval.specs.Numbered.{NumberedSet, IsKnownSet, set_in, field_at, method_at}
 use Rattle.dexval.specs.Nesting.{HasPools}
 use Rattle.dexval.specs.Items.{NoSetAt, HasOffsets}
-use Rattle.dexval.specs.Directories.{IsKnownAt, IsSetOrEmptyAt, NoSetOrEmptyAt, IsRefListAt, NoRefListAt, IsIndexBelow, HasPair, ArePairsAt, NoPairsAt, HasMembers, NoDirectoryAt}
+use Rattle.dexval.specs.Directories.{IsSetOrEmptyAt, NoSetOrEmptyAt, IsRefListAt, NoRefListAt, IsIndexBelow, HasPair, ArePairsAt, NoPairsAt, HasMembers, NoDirectoryAt, directory_weight, set_weight_in}
 use Rattle.dexval.specs.Reading.{IsSetAt, IsDirectoryAt}
+use Rattle.dexval.proofs.Refusals.{HasPart}
 use Rattle.dexval.proofs.SetsRead.{uints_more, zip_more}
 
 -- ---- a set, or none
@@ -35,34 +43,50 @@ no_set b off other none s (inl h) = other h.0
 no_set b off other none s (inr h) = none s h.1
 
 -- a set at an offset other than 0 is an annotation_set_item
-pub set_is : (b : List ℕ) (off : ℕ) (m : Mentions) (s : NumberedSet) → off ≢ 0 → IsSetOrEmptyAt b off m s → IsKnownAt (IsKnownSet m) (set_in m) (SetAt b off) s
-set_is b off m s other h = record {
-  known = h.known;
-  at = elim h.at [
-    | inl e ↦ absurd (other e.0)
-    | inr r ↦ r.1
-  ];
-}
+pub set_or_empty_part : (b : List ℕ) (off : ℕ) → off ≢ 0 → (s : AnnotationSet) → OrNone SetAt [] b off s → HasPart (SetAt b off) set_weight 0 (set_weight s)
+set_or_empty_part b off other s (inl none) = absurd (other none.0)
+set_or_empty_part b off other s (inr is) = record { part = s; is = is.1; lighter = omega arith }
 
-pub no_set_is : (b : List ℕ) (off : ℕ) → off ≢ 0 → NoSetOrEmptyAt b off → NoSetAt b off
-no_set_is b off other none s h = none s (inr (other, h))
+-- at most one set is at an offset
+one_set_or_empty : (b : List ℕ) (off : ℕ) (x y : AnnotationSet) → OrNone SetAt [] b off x → OrNone SetAt [] b off y → x ≡ y
+one_set_or_empty b off x y = one_or_none SetAt [] b off x y (one_set b off x y)
+
+-- ---- members of a list
+
+-- the member that the key k stands for, and those before it, which weigh with it no more than all
+record MemberAt {K X : Type 0} (R : K → X → Type 0) (ks : List K) (k : K) (weighs : X → ℕ) (total : ℕ) : Type 0 where
+  before : List X
+  member : X
+  are_before : AllZip R ks before
+  encodes : R k member
+  lighter : sum_by weighs before + weighs member ≤ total
+
+member_of : {K X : Type 0} (R : K → X → Type 0) (weighs : X → ℕ) (ks : List K) (k : K) (rest : List K) (xs : List X) → AllZip R (ks ++ k ∷ rest) xs → MemberAt R ks k weighs (sum_by weighs xs)
+member_of R weighs [] k rest [] h = absurd h
+member_of R weighs [] k rest (x ∷ xs) h = record { before = []; member = x; are_before = tt; encodes = h.0; lighter = omega (arith, sum_by-cons weighs x xs) }
+member_of R weighs (l ∷ ks) k rest [] h = absurd h
+member_of R weighs (l ∷ ks) k rest (x ∷ xs) h =
+    let r = member_of R weighs ks k rest xs h.1 in
+    record { before = x ∷ r.before; member = r.member; are_before = (h.0, r.are_before); encodes = r.encodes; lighter = omega (arith, sum_by-cons weighs x xs, sum_by-cons weighs x r.before, r.lighter) }
 
 -- ---- lists of sets
 
--- a member that has the property R
-record MemberAt {X : Type 0} (R : X → Type 0) : Type 0 where
-  member : X
-  encodes : R member
-
-one_of : {X : Type 0} (R : ℕ → X → Type 0) (b : List ℕ) (p count i : ℕ) (xs : List X) → i < count → AllZip R (uints_at b p count) xs → MemberAt (R (uint_at b (p + 4 * i)))
-one_of R b p zero i xs lt h = absurd (omega arith)
-one_of R b p (suc n) i [] lt h = absurd h
-one_of R b p (suc n) zero (x ∷ xs) lt h =
+uints_split : (b : List ℕ) (p n i : ℕ) → i < n → (rest : List ℕ) × (uints_at b p n ≡ uints_at b p i ++ uint_at b (p + 4 * i) ∷ rest)
+uints_split b p zero i lt = absurd (omega arith)
+uints_split b p (suc n) zero lt =
     let place : p ≡ p + 4 * zero = omega arith in
-    subst (λ (o : ℕ). MemberAt (R (uint_at b o))) place (record { member = x; encodes = h.0 })
-one_of R b p (suc n) (suc i) (x ∷ xs) lt h =
+    (uints_at b (p + 4) n, ap (λ (o : ℕ). uint_at b o ∷ uints_at b (p + 4) n) place)
+uints_split b p (suc n) (suc i) lt =
     let place : p + 4 + 4 * i ≡ p + 4 * suc i = omega arith in
-    subst (λ (o : ℕ). MemberAt (R (uint_at b o))) place (one_of R b (p + 4) n i xs (omega arith) h.1)
+    let r = uints_split b (p + 4) n i (omega arith) in
+    (r.0, ap (λ (l : List ℕ). uint_at b p ∷ l) r.1 ∙ ap (λ (o : ℕ). uint_at b p ∷ (uints_at b (p + 4) i ++ uint_at b o ∷ r.0)) place)
+
+-- a set of a list
+set_of_list : (b : List ℕ) (o i : ℕ) (ss : List AnnotationSet) → i < uint_at b o → RefListAt b o ss → MemberAt (OrNone SetAt [] b) (uints_at b (o + 4) i) (uint_at b (o + 4 + 4 * i)) set_weight (sum_by set_weight ss)
+set_of_list b o i ss lt h =
+    let R = OrNone SetAt [] b in
+    let split = uints_split b (o + 4) (uint_at b o) i lt in
+    member_of R set_weight (uints_at b (o + 4) i) (uint_at b (o + 4 + 4 * i)) split.0 ss (subst (λ (l : List ℕ). AllZip R l ss) split.1 h.sets)
 
 -- the first i sets were read
 pub record HaveReadList (b : List ℕ) (p : ℕ) (m : Mentions) (i : ℕ) (ss : List NumberedSet) : Type 0 where
@@ -85,9 +109,26 @@ one_set_more b p m i ss s h r =
 
 -- the next offset has no set
 pub no_set_next : (b : List ℕ) (o i : ℕ) → i < uint_at b o → NoSetOrEmptyAt b (uint_at b (o + 4 + 4 * i)) → NoRefListAt b o
-no_set_next b o i lt none ss h =
-    let x = one_of (OrNone SetAt [] b) b (o + 4) (uint_at b o) i ss lt h.sets in
-    none x.member x.encodes
+no_set_next b o i lt none ss h = let x = set_of_list b o i ss lt h in none x.member x.encodes
+
+weighs_all : (ss : List AnnotationSet) → 0 < length ss → ref_list_weight ss ≡ 8 + 4 * length ss + sum_by set_weight ss
+weighs_all [] some = absurd (omega arith)
+weighs_all (s ∷ ss) some = refl
+
+-- the list, without its sets, is a part of it
+pub list_part : (b : List ℕ) (o list : ℕ) → (uint_at b o ≡ 0 → list ≡ 0) → (0 < uint_at b o → list ≡ 8 + 4 * uint_at b o) → (ss : List AnnotationSet) → RefListAt b o ss → HasPart (λ n. n ≡ list) (λ n. n) 0 (ref_list_weight ss)
+list_part b o list none some ss h =
+    let count : length ss ≡ uint_at b o = omega (arith, length-zip (OrNone SetAt [] b) (uints_at b (o + 4) (uint_at b o)) ss h.sets, length-uints_at b (o + 4) (uint_at b o)) in
+    record { part = list; is = refl; lighter = elim (cases_lt 0 (length ss)) [ inl lt ↦ omega (arith, lt, count, some (omega (arith, lt, count)), weighs_all ss lt) | inr le ↦ omega (arith, le, count, none (omega (arith, le, count))) ] }
+
+-- the next set is a part of the list
+pub set_part : (b : List ℕ) (o i list : ℕ) (m : Mentions) (kept : List NumberedSet) → i < uint_at b o → (0 < uint_at b o → list ≡ 8 + 4 * uint_at b o) → HaveReadList b (o + 4) m i kept → (ss : List AnnotationSet) → RefListAt b o ss
+    → HasPart (OrNone SetAt [] b (uint_at b (o + 4 + 4 * i))) set_weight (list + sum_by (set_weight_in m) kept) (ref_list_weight ss)
+set_part b o i list m kept lt some read ss h =
+    let x = set_of_list b o i ss lt h in
+    let count : length ss ≡ uint_at b o = omega (arith, length-zip (OrNone SetAt [] b) (uints_at b (o + 4) (uint_at b o)) ss h.sets, length-uints_at b (o + 4) (uint_at b o)) in
+    let same : x.before ≡ map (set_in m) kept = one_all_zip (OrNone SetAt [] b) (one_set_or_empty b) (uints_at b (o + 4) i) x.before (map (set_in m) kept) x.are_before read.are_encoded in
+    record { part = x.member; is = x.encodes; lighter = omega (arith, lt, count, some (omega (arith, lt)), weighs_all ss (omega (arith, lt, count)), x.lighter, ap (sum_by set_weight) same, sum_by-map set_weight (set_in m) kept) }
 
 -- all were read
 pub list_read : (b : List ℕ) (o : ℕ) (m : Mentions) (i : ℕ) (ss : List NumberedSet) → HasOffsets b o → i ≡ uint_at b o → HaveReadList b (o + 4) m i ss → IsRefListAt b o m ss
@@ -114,15 +155,28 @@ pairs_more b p (suc k) =
     let place : p + 8 + 8 * k ≡ p + 8 * suc k = omega arith in
     ap (λ (l : List (ℕ × ℕ)). (uint_at b p, uint_at b (p + 4)) ∷ l) (pairs_more b (p + 8) k) ∙ ap (λ (x : ℕ). (uint_at b p, uint_at b (p + 4)) ∷ (pairs_at b (p + 8) k ++ (uint_at b x, uint_at b (x + 4)) ∷ [])) place
 
-pair_of : {X : Type 0} (R : ℕ × ℕ → X → Type 0) (b : List ℕ) (p count i : ℕ) (xs : List X) → i < count → AllZip R (pairs_at b p count) xs → MemberAt (R (uint_at b (p + 8 * i), uint_at b (p + 8 * i + 4)))
-pair_of R b p zero i xs lt h = absurd (omega arith)
-pair_of R b p (suc n) i [] lt h = absurd h
-pair_of R b p (suc n) zero (x ∷ xs) lt h =
+pairs_split : (b : List ℕ) (p n i : ℕ) → i < n → (rest : List (ℕ × ℕ)) × (pairs_at b p n ≡ pairs_at b p i ++ (uint_at b (p + 8 * i), uint_at b (p + 8 * i + 4)) ∷ rest)
+pairs_split b p zero i lt = absurd (omega arith)
+pairs_split b p (suc n) zero lt =
     let place : p ≡ p + 8 * zero = omega arith in
-    subst (λ (o : ℕ). MemberAt (R (uint_at b o, uint_at b (o + 4)))) place (record { member = x; encodes = h.0 })
-pair_of R b p (suc n) (suc i) (x ∷ xs) lt h =
+    (pairs_at b (p + 8) n, ap (λ (o : ℕ). (uint_at b o, uint_at b (o + 4)) ∷ pairs_at b (p + 8) n) place)
+pairs_split b p (suc n) (suc i) lt =
     let place : p + 8 + 8 * i ≡ p + 8 * suc i = omega arith in
-    subst (λ (o : ℕ). MemberAt (R (uint_at b o, uint_at b (o + 4)))) place (pair_of R b (p + 8) n i xs (omega arith) h.1)
+    let r = pairs_split b (p + 8) n i (omega arith) in
+    (r.0, ap (λ (l : List (ℕ × ℕ)). (uint_at b p, uint_at b (p + 4)) ∷ l) r.1 ∙ ap (λ (o : ℕ). (uint_at b p, uint_at b (p + 4)) ∷ (pairs_at b (p + 8) i ++ (uint_at b o, uint_at b (o + 4)) ∷ r.0)) place)
+
+-- a pair of a list
+pair_of : {Y : Type 0} (At : List ℕ → ℕ → Y → Type 0) (weighs : Y → ℕ) (b : List ℕ) (p n limit i : ℕ) (entries : List (ℕ × Y)) → i < n → PairsAt (IsIndexBelow limit) At b p n entries
+    → MemberAt (PairAt (IsIndexBelow limit) At b) (pairs_at b p i) (uint_at b (p + 8 * i), uint_at b (p + 8 * i + 4)) (λ e. weighs e.1) (sum_by (λ e. weighs e.1) entries)
+pair_of At weighs b p n limit i entries lt g =
+    let R = PairAt (IsIndexBelow limit) At b in
+    let split = pairs_split b p n i lt in
+    member_of R (λ e. weighs e.1) (pairs_at b p i) (uint_at b (p + 8 * i), uint_at b (p + 8 * i + 4)) split.0 entries (subst (λ (l : List (ℕ × ℕ)). AllZip R l entries) split.1 g.pairs)
+
+-- at most one list of pairs is there
+one_pairs : {Y : Type 0} (At : List ℕ → ℕ → Y → Type 0) → ((b : List ℕ) (o : ℕ) (x y : Y) → At b o x → At b o y → x ≡ y) → (b : List ℕ) (limit : ℕ) (ps : List (ℕ × ℕ)) (xs ys : List (ℕ × Y)) → AllZip (PairAt (IsIndexBelow limit) At b) ps xs
+    → AllZip (PairAt (IsIndexBelow limit) At b) ps ys → xs ≡ ys
+one_pairs {Y} At one b limit = one_all_zip (PairAt (IsIndexBelow limit) At b) (λ p x y s t. let first : x.0 ≡ y.0 = s.0.is ∙ sym t.0.is in let second = one b p.1 x.1 y.1 s.2 t.2 in λ i. (first i, second i))
 
 -- the indices of pairs
 abbrev indices_at : List ℕ → ℕ → ℕ → List ℕ
@@ -217,14 +271,23 @@ one_pair_more {X} {Y} Known inside At b p limit i least xs number x h pair is kn
 pub no_pair_next : {X Y : Type 0} (Known : X → Type 0) (inside : X → Y) (At : List ℕ → ℕ → Y → Type 0) (b : List ℕ) (p n limit i least : ℕ) (xs : List (ℕ × X)) → i < n → HaveReadPairs Known inside At b p limit i least xs
     → (HasPair b (p + 8 * i) least limit → ⊥) → NoPairsAt At b p n limit
 no_pair_next Known inside At b p n limit i least xs lt h none entries g =
-    let x = pair_of (PairAt (IsIndexBelow limit) At b) b p n i entries lt g.pairs in
+    let x = pair_of At (λ y. 0) b p n limit i entries lt g in
     none (record { above = least_at b p n i least lt h.least_is g.rise; below = x.encodes.0.below; offset = x.encodes.1 })
 
 -- or its offset has no item
 pub no_item_next : {Y : Type 0} (At : List ℕ → ℕ → Y → Type 0) (b : List ℕ) (p n limit i : ℕ) → i < n → ((y : Y) → At b (uint_at b (p + 8 * i + 4)) y → ⊥) → NoPairsAt At b p n limit
 no_item_next At b p n limit i lt none entries g =
-    let x = pair_of (PairAt (IsIndexBelow limit) At b) b p n i entries lt g.pairs in
+    let x = pair_of At (λ y. 0) b p n limit i entries lt g in
     none x.member.1 x.encodes.2
+
+-- the item of the next pair is a part of all
+pub item_part : {X Y : Type 0} (Known : X → Type 0) (inside : X → Y) (At : List ℕ → ℕ → Y → Type 0) (weighs : Y → ℕ) → ((b : List ℕ) (o : ℕ) (x y : Y) → At b o x → At b o y → x ≡ y) → (b : List ℕ) (p n limit i least : ℕ) (kept : List (ℕ × X)) → i < n
+    → HaveReadPairs Known inside At b p limit i least kept → (entries : List (ℕ × Y)) → PairsAt (IsIndexBelow limit) At b p n entries → HasPart (At b (uint_at b (p + 8 * i + 4))) weighs (sum_by (λ e. weighs (inside e.1)) kept) (sum_by (λ e. weighs e.1) entries)
+item_part {X} {Y} Known inside At weighs one b p n limit i least kept lt h entries g =
+    let x = pair_of At weighs b p n limit i entries lt g in
+    let entry : ℕ × X → ℕ × Y = λ e. (e.0, inside e.1) in
+    let same : x.before ≡ map entry kept = one_pairs At one b limit (pairs_at b p i) x.before (map entry kept) x.are_before h.pairs_read.pairs_encoded.pairs in
+    record { part = x.member.1; is = x.encodes.2; lighter = omega (arith, x.lighter, ap (sum_by (λ (e : ℕ × Y). weighs e.1)) same, sum_by-map (λ (e : ℕ × Y). weighs e.1) entry kept) }
 
 -- all were read
 pub pairs_end : {X Y : Type 0} (Known : X → Type 0) (inside : X → Y) (At : List ℕ → ℕ → Y → Type 0) (b : List ℕ) (p n limit i least : ℕ) (xs : List (ℕ × X)) → i ≡ n → HaveReadPairs Known inside At b p limit i least xs → ArePairsAt Known inside At b p n limit xs
@@ -238,6 +301,12 @@ pairs_moved Known inside At b {p} {q} {n} {k} {limit} {most} {xs} place count bo
 pub no_pairs_moved : {Y : Type 0} (At : List ℕ → ℕ → Y → Type 0) (b : List ℕ) {p q n k limit most : ℕ} → p ≡ q → n ≡ k → limit ≡ most → NoPairsAt At b p n limit → NoPairsAt At b q k most
 no_pairs_moved At b {p} {q} {n} {k} {limit} {most} place count bound none =
     subst (λ (x : ℕ). NoPairsAt At b q k x) bound (subst (λ (x : ℕ). NoPairsAt At b q x limit) count (subst (λ (x : ℕ). NoPairsAt At b x n limit) place none))
+
+pub part_moved : {Y : Type 0} (At : List ℕ → ℕ → Y → Type 0) (weighs : List (ℕ × Y) → ℕ) (b : List ℕ) (before total : ℕ) {p q n k limit most : ℕ} → p ≡ q → n ≡ k → limit ≡ most → HasPart (PairsAt (IsIndexBelow most) At b q k) weighs before total
+    → HasPart (PairsAt (IsIndexBelow limit) At b p n) weighs before total
+part_moved At weighs b before total {p} {q} {n} {k} {limit} {most} place count bound h =
+    subst (λ (x : ℕ). HasPart (PairsAt (IsIndexBelow x) At b p n) weighs before total) (sym bound)
+    (subst (λ (x : ℕ). HasPart (PairsAt (IsIndexBelow most) At b p x) weighs before total) (sym count) (subst (λ (x : ℕ). HasPart (PairsAt (IsIndexBelow most) At b x k) weighs before total) (sym place) h))
 
 -- ---- members
 
@@ -267,8 +336,32 @@ pairs_named : {M X Y : Type 0} (Row : List ℕ → ℕ → M → Type 0) (member
     → ArePairsAt Known inside At b p n limit xs → PairsAt Row At b p n (map (λ e. (member e.0, inside e.1)) xs)
 pairs_named Row member Known inside At b p n limit row xs h = record { pairs = rows_encoded Row member inside At b limit row (pairs_at b p n) xs h.pairs_encoded.pairs; rise = h.pairs_encoded.rise }
 
+rows_numbered : {M Y : Type 0} (Row : List ℕ → ℕ → M → Type 0) (At : List ℕ → ℕ → Y → Type 0) (b : List ℕ) (p n limit : ℕ) → ((i : ℕ) (x : M) → Row b i x → i < limit) → (es : List (M × Y)) → PairsAt Row At b p n es → PairsAt (IsIndexBelow limit) At b p n (numbered (pairs_at b p n) es)
+rows_numbered Row At b p n limit below es h = record { pairs = numbers_encoded Row At b limit below (pairs_at b p n) es h.pairs; rise = h.rise }
+
 no_rows : {M Y : Type 0} (Row : List ℕ → ℕ → M → Type 0) (At : List ℕ → ℕ → Y → Type 0) (b : List ℕ) (p n limit : ℕ) → ((i : ℕ) (x : M) → Row b i x → i < limit) → NoPairsAt At b p n limit → (es : List (M × Y)) → PairsAt Row At b p n es → ⊥
-no_rows Row At b p n limit below none es h = none (numbered (pairs_at b p n) es) (record { pairs = numbers_encoded Row At b limit below (pairs_at b p n) es h.pairs; rise = h.rise })
+no_rows Row At b p n limit below none es h = none (numbered (pairs_at b p n) es) (rows_numbered Row At b p n limit below es h)
+
+numbered_weigh : {M Y : Type 0} (R : ℕ × ℕ → M × Y → Type 0) (weighs : Y → ℕ) (ps : List (ℕ × ℕ)) (es : List (M × Y)) → AllZip R ps es → sum_by (λ e. weighs e.1) (numbered ps es) ≡ sum_by (λ e. weighs e.1) es
+numbered_weigh R weighs [] [] h = refl
+numbered_weigh R weighs [] (e ∷ es) h = absurd h
+numbered_weigh R weighs (p ∷ ps) [] h = absurd h
+numbered_weigh {M} {Y} R weighs (p ∷ ps) (e ∷ es) h =
+    omega (arith, sum_by-cons (λ (x : ℕ × Y). weighs x.1) (p.0, e.1) (numbered ps es), sum_by-cons (λ (x : M × Y). weighs x.1) e es, numbered_weigh R weighs ps es h.1)
+
+-- the members of a directory, by their numbers, are a part of it
+rows_part : {M Y : Type 0} (Row : List ℕ → ℕ → M → Type 0) (At : List ℕ → ℕ → Y → Type 0) (weighs : Y → ℕ) (b : List ℕ) (p n limit before total : ℕ) → ((i : ℕ) (x : M) → Row b i x → i < limit) → (es : List (M × Y)) → PairsAt Row At b p n es
+    → before + sum_by (λ e. weighs e.1) es ≤ total → HasPart (PairsAt (IsIndexBelow limit) At b p n) (sum_by (λ e. weighs e.1)) before total
+rows_part Row At weighs b p n limit before total below es h le =
+    record { part = numbered (pairs_at b p n) es; is = rows_numbered Row At b p n limit below es h; lighter = omega (arith, le, numbered_weigh (PairAt Row At b) weighs (pairs_at b p n) es h.pairs) }
+
+-- they weigh what the members weigh that were read
+rows_weigh : {M X Y : Type 0} (Row : List ℕ → ℕ → M → Type 0) (Known : X → Type 0) (inside : X → Y) (At : List ℕ → ℕ → Y → Type 0) (weighs : Y → ℕ) → ((b : List ℕ) (o : ℕ) (x y : Y) → At b o x → At b o y → x ≡ y) → (b : List ℕ) (p n limit : ℕ)
+    → ((i : ℕ) (x : M) → Row b i x → i < limit) → (es : List (M × Y)) (xs : List (ℕ × X)) → PairsAt Row At b p n es → ArePairsAt Known inside At b p n limit xs → sum_by (λ e. weighs e.1) es ≡ sum_by (λ e. weighs (inside e.1)) xs
+rows_weigh {M} {X} {Y} Row Known inside At weighs one b p n limit below es xs h g =
+    let entry : ℕ × X → ℕ × Y = λ e. (e.0, inside e.1) in
+    let same : numbered (pairs_at b p n) es ≡ map entry xs = one_pairs At one b limit (pairs_at b p n) (numbered (pairs_at b p n) es) (map entry xs) (rows_numbered Row At b p n limit below es h).pairs g.pairs_encoded.pairs in
+    sym (numbered_weigh (PairAt Row At b) weighs (pairs_at b p n) es h.pairs) ∙ ap (sum_by (λ (e : ℕ × Y). weighs e.1)) same ∙ sum_by-map (λ (e : ℕ × Y). weighs e.1) entry xs
 
 -- ---- directories
 
@@ -279,6 +372,10 @@ no_members b o none d h = none (record { in_data = h.in_data; aligned = h.aligne
 -- without the set of the class there is no directory
 pub no_own : (b : List ℕ) (o : ℕ) → NoSetOrEmptyAt b (uint_at b o) → NoDirectoryAt b o
 no_own b o none d h = none d.own h.own
+
+-- the set of the class is a part of the directory
+pub own_part : (b : List ℕ) (o : ℕ) (d : Directory) → DirectoryAt b o d → HasPart (OrNone SetAt [] b (uint_at b o)) set_weight 0 (directory_weight d)
+own_part b o d h = record { part = d.own; is = h.own; lighter = omega arith }
 
 module _ (b : List ℕ) (o : ℕ) (m : Mentions) (file : HasPools b m) where
   field_row : (i : ℕ) → i < length m.fields → FieldRow b i (field_at m i)
@@ -304,6 +401,35 @@ module _ (b : List ℕ) (o : ℕ) (m : Mentions) (file : HasPools b m) where
       let place : o + 16 + 8 * (fields_count b o + methods_count b o) ≡ o + 16 + 8 * fields_count b o + 8 * methods_count b o = omega arith in
       no_rows MethodRow RefListAt b (o + 16 + 8 * fields_count b o + 8 * methods_count b o) (parameters_count b o) (length m.methods) method_below none d.parameters
       (subst (λ (p : ℕ). PairsAt MethodRow RefListAt b p (parameters_count b o) d.parameters) place h.parameters)
+
+  -- the members of each kind are a part of the directory, after the parts before them
+  module _ (own : NumberedSet) (own_is : IsSetOrEmptyAt b (uint_at b o) m own) where
+    pub fields_part : (d : Directory) → DirectoryAt b o d → HasPart (PairsAt (IsIndexBelow (length m.fields)) SetAt b (o + 16) (fields_count b o)) (sum_by (λ e. set_weight e.1)) (set_weight_in m own) (directory_weight d)
+    fields_part d h =
+        rows_part FieldRow SetAt set_weight b (o + 16) (fields_count b o) (length m.fields) (set_weight_in m own) (directory_weight d) field_below d.fields h.fields (omega (arith, ap set_weight (one_set_or_empty b (uint_at b o) (set_in m own) d.own own_is.at h.own)))
+
+    module _ (fields : List (ℕ × NumberedSet)) (fields_are : ArePairsAt (IsKnownSet m) (set_in m) SetAt b (o + 16) (fields_count b o) (length m.fields) fields) where
+      pub methods_part : (d : Directory) → DirectoryAt b o d
+          → HasPart (PairsAt (IsIndexBelow (length m.methods)) SetAt b (o + 16 + 8 * fields_count b o) (methods_count b o)) (sum_by (λ e. set_weight e.1)) (set_weight_in m own + sum_by (λ e. set_weight_in m e.1) fields) (directory_weight d)
+      methods_part d h =
+          rows_part MethodRow SetAt set_weight b (o + 16 + 8 * fields_count b o) (methods_count b o) (length m.methods) (set_weight_in m own + sum_by (λ (e : ℕ × NumberedSet). set_weight_in m e.1) fields) (directory_weight d) method_below d.methods h.methods
+          (omega (arith, ap set_weight (one_set_or_empty b (uint_at b o) (set_in m own) d.own own_is.at h.own), rows_weigh FieldRow (IsKnownSet m) (set_in m) SetAt set_weight one_set b (o + 16) (fields_count b o) (length m.fields) field_below d.fields fields h.fields fields_are))
+
+      module _ (methods : List (ℕ × NumberedSet)) (methods_are : ArePairsAt (IsKnownSet m) (set_in m) SetAt b (o + 16 + 8 * fields_count b o) (methods_count b o) (length m.methods) methods) where
+        pub parameters_part : (d : Directory) → DirectoryAt b o d
+            → HasPart (PairsAt (IsIndexBelow (length m.methods)) RefListAt b (o + 16 + 8 * fields_count b o + 8 * methods_count b o) (parameters_count b o)) (sum_by (λ e. ref_list_weight e.1))
+            (set_weight_in m own + sum_by (λ e. set_weight_in m e.1) fields + sum_by (λ e. set_weight_in m e.1) methods) (directory_weight d)
+        parameters_part d h =
+            let place : o + 16 + 8 * (fields_count b o + methods_count b o) ≡ o + 16 + 8 * fields_count b o + 8 * methods_count b o = omega arith in
+            rows_part MethodRow RefListAt ref_list_weight b (o + 16 + 8 * fields_count b o + 8 * methods_count b o) (parameters_count b o) (length m.methods)
+            (set_weight_in m own + sum_by (λ (e : ℕ × NumberedSet). set_weight_in m e.1) fields + sum_by (λ (e : ℕ × NumberedSet). set_weight_in m e.1) methods) (directory_weight d) method_below d.parameters
+            (subst (λ (p : ℕ). PairsAt MethodRow RefListAt b p (parameters_count b o) d.parameters) place h.parameters)
+            (omega (
+              arith,
+              ap set_weight (one_set_or_empty b (uint_at b o) (set_in m own) d.own own_is.at h.own),
+              rows_weigh FieldRow (IsKnownSet m) (set_in m) SetAt set_weight one_set b (o + 16) (fields_count b o) (length m.fields) field_below d.fields fields h.fields fields_are,
+              rows_weigh MethodRow (IsKnownSet m) (set_in m) SetAt set_weight one_set b (o + 16 + 8 * fields_count b o) (methods_count b o) (length m.methods) method_below d.methods methods h.methods methods_are,
+            ))
 
   -- all parts were read
   pub directory_read : (own : NumberedSet) (fields methods : List (ℕ × NumberedSet)) (parameters : List (ℕ × List NumberedSet)) → HasMembers b o → IsSetOrEmptyAt b (uint_at b o) m own

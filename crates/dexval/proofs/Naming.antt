@@ -1,5 +1,5 @@
 -- The items of a directory that were read, and their places in the table.
-use Rattle.std.proofs.Common.{◌≡◌, ◌⊎◌, ℕ, ◌<◌, List, [], ◌∷◌, ◌++◌, length, ap, sym, subst, inl, inr, arith, Option, Some}
+use Rattle.std.proofs.Common.{◌≡◌, ℕ, ◌<◌, List, [], ◌∷◌, ◌++◌, length, ap, sym, subst, inl, inr, arith, Option, Some}
 use Rattle.std.specs.List.{All, Contains}
 use Rattle.std.proofs.lemmas.List.Elements.{All-append, All-cons, All-nil, Contains-append_left, Contains-push}
 use Rattle.dexval.specs.declared.directory_cache.DirectoryCache.{DirectoryCache}
@@ -13,53 +13,42 @@ use Rattle.dexval.proofs.Tables.{map_stays, all_as}
 
 -- ---- lists of sets
 
--- one more set is read, and its place is put into the list, or not all is kept
-pub list_step : {W V : Type 0} (old mid new : DirectoryCache) (ps qs : List (Option ℕ)) (place : Option ℕ) → (V → W)
-    → IsNoted (λ i. Contains ps (Some i)) (λ i. ⊥) (All (IsPlaceIn mid.table.sets) ps) W old mid → IsNoted (λ i. place ≡ Some i) (λ i. ⊥) (IsPlaceIn new.table.sets place) V mid new
-    → (qs ≡ ps ++ place ∷ []) ⊎ ((qs ≡ ps) × (V → ⊥)) → IsNoted (λ i. Contains qs (Some i)) (λ i. ⊥) (All (IsPlaceIn new.table.sets) qs) V old new
-list_step {W} {V} old mid new ps qs place early h g next =
-    let extended = extends_then old.table mid.table new.table h.extended g.extended in
+-- one more set is read, and its place is put into the list
+pub list_step : (old mid new : DirectoryCache) (ps qs : List (Option ℕ)) (place : Option ℕ) → IsNoted (λ i. Contains ps (Some i)) (λ i. ⊥) (All (IsPlaceIn mid.table.sets) ps) old mid → IsNoted (λ i. place ≡ Some i) (λ i. ⊥) (IsPlaceIn new.table.sets place) mid new
+    → qs ≡ ps ++ place ∷ [] → IsNoted (λ i. Contains qs (Some i)) (λ i. ⊥) (All (IsPlaceIn new.table.sets) qs) old new
+list_step old mid new ps qs place h g pushed =
     let before : All (IsPlaceIn new.table.sets) ps = all_as (IsPlaceIn mid.table.sets) (IsPlaceIn new.table.sets) g.extended.sets_hold ps h.held in
-    elim next [
-      | inl pushed ↦ subst (λ l. IsNoted (λ i. Contains l (Some i)) (λ i. ⊥) (All (IsPlaceIn new.table.sets) l) V old new) (sym pushed)
-          (record {
-            extended = extended;
-            noted_held = g.noted_held;
-            held = All-append (IsPlaceIn new.table.sets) ps (place ∷ []) before (All-cons (IsPlaceIn new.table.sets) place [] g.held (All-nil (IsPlaceIn new.table.sets)));
-            named = λ v. new_then old.table mid.table new.table (λ i c. Contains-append_left ps (place ∷ []) (Some i) c) (λ i f. f) (λ i e. subst (Contains (ps ++ place ∷ [])) e (Contains-push ps place)) (λ i f. f) (h.named (early v)) (g.named v);
-          })
-      | inr passed ↦ subst (λ l. IsNoted (λ i. Contains l (Some i)) (λ i. ⊥) (All (IsPlaceIn new.table.sets) l) V old new) (sym passed.0) (record { extended = extended; noted_held = g.noted_held; held = before; named = λ v. absurd (passed.1 v) })
-    ]
+    subst (λ l. IsNoted (λ i. Contains l (Some i)) (λ i. ⊥) (All (IsPlaceIn new.table.sets) l) old new) (sym pushed)
+    (record {
+      extended = extends_then old.table mid.table new.table h.extended g.extended;
+      noted_held = g.noted_held;
+      held = All-append (IsPlaceIn new.table.sets) ps (place ∷ []) before (All-cons (IsPlaceIn new.table.sets) place [] g.held (All-nil (IsPlaceIn new.table.sets)));
+      named = new_then old.table mid.table new.table (λ i c. Contains-append_left ps (place ∷ []) (Some i) c) (λ i f. f) (λ i e. subst (Contains (ps ++ place ∷ [])) e (Contains-push ps place)) (λ i f. f) h.named g.named;
+    })
 
 -- ---- members
 
 -- the property holds for each of these members
-abbrev pub AreNoted : (NumberedTable → Option ℕ → Type 0) → (NumberedTable → Option ℕ → ℕ → Type 0) → (Option ℕ → ℕ → Type 0) → Type 0 → DirectoryCache → DirectoryCache → List (ℕ × ℕ) → Type 0
-AreNoted is_held names_set names_list W old new es = IsNoted (IsNamedOf (names_set new.table) es) (IsNamedOf names_list es) (All (λ e. is_held new.table (Some e.1)) es) W old new
+abbrev pub AreNoted : (NumberedTable → Option ℕ → Type 0) → (NumberedTable → Option ℕ → ℕ → Type 0) → (Option ℕ → ℕ → Type 0) → DirectoryCache → DirectoryCache → List (ℕ × ℕ) → Type 0
+AreNoted is_held names_set names_list old new es = IsNoted (IsNamedOf (names_set new.table) es) (IsNamedOf names_list es) (All (λ e. is_held new.table (Some e.1)) es) old new
 
 module _ (is_held : NumberedTable → Option ℕ → Type 0) (names_set : NumberedTable → Option ℕ → ℕ → Type 0) (names_list : Option ℕ → ℕ → Type 0) (holds : (t u : NumberedTable) (place : Option ℕ) → Extends t u → is_held t place → is_held u place)
     (names : (t u : NumberedTable) (place : Option ℕ) (i : ℕ) → Extends t u → names_set t place i → names_set u place i) where
-  -- one more member is read and added, or not all is kept
-  pub members_step : {W V : Type 0} (old mid new : DirectoryCache) (es fs : List (ℕ × ℕ)) (number : ℕ) (place : Option ℕ) → (V → W) → AreNoted is_held names_set names_list W old mid es → IsNoted (names_set new.table place) (names_list place) (is_held new.table place) V mid new
-      → ((p : ℕ) × (place ≡ Some p) × (fs ≡ es ++ (number, p) ∷ [])) ⊎ ((fs ≡ es) × (V → ⊥)) → AreNoted is_held names_set names_list V old new fs
-  members_step {W} {V} old mid new es fs number place early h g next =
-      let extended = extends_then old.table mid.table new.table h.extended g.extended in
+  -- one more member is read and added
+  pub members_step : (old mid new : DirectoryCache) (es fs : List (ℕ × ℕ)) (number place : ℕ) → AreNoted is_held names_set names_list old mid es → IsNoted (names_set new.table (Some place)) (names_list (Some place)) (is_held new.table (Some place)) mid new
+      → fs ≡ es ++ (number, place) ∷ [] → AreNoted is_held names_set names_list old new fs
+  members_step old mid new es fs number place h g pushed =
       let Held = λ (e : ℕ × ℕ). is_held new.table (Some e.1) in
+      let last = (number, place) ∷ [] in
       let before : All Held es = all_as (λ e. is_held mid.table (Some e.1)) Held (λ e. holds mid.table new.table (Some e.1) g.extended) es h.held in
-      elim next [
-        | inl pushed ↦
-            let p = pushed.0 in
-            let e = pushed.1 in
-            subst (AreNoted is_held names_set names_list V old new) (sym pushed.2)
-            (record {
-              extended = extended;
-              noted_held = g.noted_held;
-              held = All-append Held es ((number, p) ∷ []) before (All-cons Held (number, p) [] (subst (is_held new.table) e g.held) (All-nil Held));
-              named = λ v. new_then old.table mid.table new.table (λ i c. (c.0, c.1, Contains-append_left es ((number, p) ∷ []) (c.0, c.1) c.2, names mid.table new.table (Some c.1) i g.extended c.3)) (λ i c. (c.0, c.1, Contains-append_left es ((number, p) ∷ []) (c.0, c.1) c.2, c.3))
-                  (λ i c. (number, p, Contains-push es (number, p), subst (λ o. names_set new.table o i) e c)) (λ i c. (number, p, Contains-push es (number, p), subst (λ o. names_list o i) e c)) (h.named (early v)) (g.named v);
-            })
-        | inr passed ↦ subst (AreNoted is_held names_set names_list V old new) (sym passed.0) (record { extended = extended; noted_held = g.noted_held; held = before; named = λ v. absurd (passed.1 v) })
-      ]
+      subst (AreNoted is_held names_set names_list old new) (sym pushed)
+      (record {
+        extended = extends_then old.table mid.table new.table h.extended g.extended;
+        noted_held = g.noted_held;
+        held = All-append Held es last before (All-cons Held (number, place) [] g.held (All-nil Held));
+        named = new_then old.table mid.table new.table (λ i c. (c.0, c.1, Contains-append_left es last (c.0, c.1) c.2, names mid.table new.table (Some c.1) i g.extended c.3)) (λ i c. (c.0, c.1, Contains-append_left es last (c.0, c.1) c.2, c.3))
+            (λ i c. (number, place, Contains-push es (number, place), c)) (λ i c. (number, place, Contains-push es (number, place), c)) h.named g.named;
+      })
 
 -- ---- directories
 
@@ -73,10 +62,10 @@ named_by es i h = (h.0, subst (λ (p : ℕ). Contains es (h.0, p)) (one_place h.
 none_in : {X : Type 0} (xs : List X) (i : ℕ) → xs ≡ [] → i < length xs → ⊥
 none_in xs i e lt = let n : length xs ≡ 0 = ap length e in omega (arith, n, lt)
 
-module _ (old first second third new : DirectoryCache) (own : Option ℕ) (fields methods parameters : List (ℕ × ℕ)) {OwnKept FieldsKept MethodsKept ParametersKept : Type 0} (of_own : IsNoted (λ i. own ≡ Some i) (λ i. ⊥) (IsPlaceIn first.table.sets own) OwnKept old first)
-    (of_fields : IsNoted (IsNamedOf (λ place i. place ≡ Some i) fields) (IsNamedOf (λ place i. ⊥) fields) (All (λ e. IsPlaceIn second.table.sets (Some e.1)) fields) FieldsKept first second)
-    (of_methods : IsNoted (IsNamedOf (λ place i. place ≡ Some i) methods) (IsNamedOf (λ place i. ⊥) methods) (All (λ e. IsPlaceIn third.table.sets (Some e.1)) methods) MethodsKept second third)
-    (of_parameters : IsNoted (IsNamedOf (λ place i. IsListed new.table i) parameters) (IsNamedOf (λ place i. place ≡ Some i) parameters) (All (λ e. IsPlaceIn new.table.lists (Some e.1)) parameters) ParametersKept third new) where
+module _ (old first second third new : DirectoryCache) (own : Option ℕ) (fields methods parameters : List (ℕ × ℕ)) (of_own : IsNoted (λ i. own ≡ Some i) (λ i. ⊥) (IsPlaceIn first.table.sets own) old first)
+    (of_fields : IsNoted (IsNamedOf (λ place i. place ≡ Some i) fields) (IsNamedOf (λ place i. ⊥) fields) (All (λ e. IsPlaceIn second.table.sets (Some e.1)) fields) first second)
+    (of_methods : IsNoted (IsNamedOf (λ place i. place ≡ Some i) methods) (IsNamedOf (λ place i. ⊥) methods) (All (λ e. IsPlaceIn third.table.sets (Some e.1)) methods) second third)
+    (of_parameters : IsNoted (IsNamedOf (λ place i. IsListed new.table i) parameters) (IsNamedOf (λ place i. place ≡ Some i) parameters) (All (λ e. IsPlaceIn new.table.lists (Some e.1)) parameters) third new) where
   from_second : Extends second.table new.table
   from_second = extends_then second.table third.table new.table of_methods.extended of_parameters.extended
 
@@ -91,12 +80,12 @@ module _ (old first second third new : DirectoryCache) (own : Option ℕ) (field
     parameters_held = of_parameters.held;
   }
 
-  pub directory_named : old.table.sets ≡ [] → old.table.lists ≡ [] → OwnKept → FieldsKept → MethodsKept → ParametersKept → NamesAll new.table own fields methods parameters
-  directory_named sets lists own_kept fields_kept methods_kept parameters_kept = record {
-    sets_named = λ i lt. elim ((of_parameters.named parameters_kept).set_named i lt) [
-      | inl in_third ↦ elim ((of_methods.named methods_kept).set_named i in_third) [
-        | inl in_second ↦ elim ((of_fields.named fields_kept).set_named i in_second) [
-          | inl in_first ↦ elim ((of_own.named own_kept).set_named i in_first) [
+  pub directory_named : old.table.sets ≡ [] → old.table.lists ≡ [] → NamesAll new.table own fields methods parameters
+  directory_named sets lists = record {
+    sets_named = λ i lt. elim (of_parameters.named.set_named i lt) [
+      | inl in_third ↦ elim (of_methods.named.set_named i in_third) [
+        | inl in_second ↦ elim (of_fields.named.set_named i in_second) [
+          | inl in_first ↦ elim (of_own.named.set_named i in_first) [
             | inl before ↦ absurd (none_in old.table.sets i sets before)
             | inr is_own ↦ inl is_own
           ]
@@ -106,10 +95,10 @@ module _ (old first second third new : DirectoryCache) (own : Option ℕ) (field
       ]
       | inr listed ↦ inr (inr (inr listed.3))
     ];
-    lists_named = λ i lt. elim ((of_parameters.named parameters_kept).list_named i lt) [
-      | inl in_third ↦ elim ((of_methods.named methods_kept).list_named i in_third) [
-        | inl in_second ↦ elim ((of_fields.named fields_kept).list_named i in_second) [
-          | inl in_first ↦ elim ((of_own.named own_kept).list_named i in_first) [
+    lists_named = λ i lt. elim (of_parameters.named.list_named i lt) [
+      | inl in_third ↦ elim (of_methods.named.list_named i in_third) [
+        | inl in_second ↦ elim (of_fields.named.list_named i in_second) [
+          | inl in_first ↦ elim (of_own.named.list_named i in_first) [
             | inl before ↦ absurd (none_in old.table.lists i lists before)
             | inr none ↦ absurd none
           ]

@@ -1,10 +1,13 @@
 -- Refusals of annotations, sets and directories.
-use Rattle.std.proofs.Common.{ℕ, List}
+use Rattle.std.proofs.Common.{◌≡◌, ℕ, ◌+◌, ◌-◌, ◌^◌, ◌≤◌, min, List, refl, ap, arith, inl, inr}
+use Rattle.dexspec.specs.Annotations.{DirectoryAt}
 use Rattle.dexpool.specs.declared.faults.ItemFault.{ItemFault}
 use Rattle.dexpool.specs.declared.faults.ItemFault.TheVariants.{Refused, Memory}
+use Rattle.dexval.specs.declared.budget.Budget.{Budget}
 use Rattle.dexval.specs.Items.{NoSetAt, IsRefusal}
-use Rattle.dexval.specs.Directories.{NoDirectoryAt}
-use Rattle.dexval.specs.Reading.{IsSetFault, IsDirectoryFault}
+use Rattle.dexval.specs.Directories.{NoDirectoryAt, directory_weight}
+use Rattle.dexval.specs.Reading.{IsSetFault, IsDirectoryFault, IsDirectoryFaultWithin}
+use Rattle.dexval.specs.internal.Counting.{Counts, IsFaultWithin, IsTooHeavy}
 
 -- if one statement implies another, so do their refusals
 pub refused_so : {P Q : Type 0} → (P → Q) → (fault : ItemFault) → IsRefusal P fault → IsRefusal Q fault
@@ -24,3 +27,45 @@ refused_set b off so Memory h = h
 pub directory_refused : {P : Type 0} (b : List ℕ) (off : ℕ) → (P → NoDirectoryAt b off) → (fault : ItemFault) → IsRefusal P fault → IsDirectoryFault b off fault
 directory_refused b off so (Refused number) h = (h.0, so h.1)
 directory_refused b off so Memory h = h
+
+-- ---- items that are counted
+
+-- nothing was counted
+pub none_counted : (budget : Budget) → Counts budget budget 0
+none_counted budget = record { grown = omega arith; same_most = refl; within = λ le. le }
+
+-- a part of what weighs `total` has the property At, and weighs no more than what `before` leaves
+pub record HasPart {Y : Type 0} (At : Y → Type 0) (weighs : Y → ℕ) (before total : ℕ) : Type 0 where
+  pub part : Y
+  pub is : At part
+  pub lighter : before + weighs part ≤ total
+
+-- no item is there
+pub refused_within : {P Y : Type 0} (At : Y → Type 0) (weighs : Y → ℕ) (before most : ℕ) → (P → (y : Y) → At y → ⊥) → (fault : ItemFault) → IsRefusal P fault → IsFaultWithin At weighs before most fault
+refused_within At weighs before most so (Refused number) h = inl (h.0, so h.1)
+refused_within At weighs before most so Memory h = tt
+
+-- the part that is next is not there or too heavy, and so is the whole
+pub part_refused : {X Y : Type 0} (Whole : X → Type 0) (Part : Y → Type 0) (all : X → ℕ) (one : Y → ℕ) (old new : Budget) (n : ℕ) → Counts old new n → ((x : X) → Whole x → HasPart Part one n (all x)) → (fault : ItemFault)
+    → IsFaultWithin Part one new.weight new.most fault → IsFaultWithin Whole all old.weight old.most fault
+part_refused Whole Part all one old new n counted parts (Refused number) h = elim h [
+  | inl none ↦ inl (none.0, λ x k. none.1 (parts x k).part (parts x k).is)
+  | inr heavy ↦ inr (heavy.0, omega (arith, heavy.1, counted.same_most), λ x k. let y = parts x k in omega (arith, heavy.1, heavy.2 y.part y.is, y.lighter, counted.grown, counted.same_most))
+]
+part_refused Whole Part all one old new n counted parts Memory h = tt
+
+-- the item that is there is too heavy
+pub item_refused : {Y : Type 0} (At : Y → Type 0) (weighs : Y → ℕ) (budget : Budget) (item : Y) (weight : ℕ) → ((x y : Y) → At x → At y → x ≡ y) → At item → weight ≡ min (2 ^ 64 - 1) (weighs item) → (fault : ItemFault) → IsTooHeavy budget weight fault
+    → IsFaultWithin At weighs budget.weight budget.most fault
+item_refused At weighs budget item weight one is e =
+    part_refused At (λ n. n ≡ weight) weighs (λ n. n) budget budget 0 (none_counted budget) (λ y k. record { part = weight; is = refl; lighter = omega (arith, e, ap weighs (one item y is k)) })
+
+-- no directory is at the offset, or it is too heavy
+pub directory_refused_within : (b : List ℕ) (off most : ℕ) (fault : ItemFault) → IsFaultWithin (DirectoryAt b off) directory_weight 0 most fault → IsDirectoryFaultWithin b off most fault
+directory_refused_within b off most (Refused number) h = elim h [ inl none ↦ inl none | inr heavy ↦ inr (heavy.0, λ d at. omega (arith, heavy.2 d at)) ]
+directory_refused_within b off most Memory h = tt
+
+-- no directory exceeds 2^64 - 1, which is no bound
+pub directory_refused_unbounded : (b : List ℕ) (off most : ℕ) → most ≡ 2 ^ 64 - 1 → (fault : ItemFault) → IsFaultWithin (DirectoryAt b off) directory_weight 0 most fault → IsDirectoryFault b off fault
+directory_refused_unbounded b off most e (Refused number) h = elim h [ inl none ↦ none | inr heavy ↦ absurd (omega (arith, heavy.1, e)) ]
+directory_refused_unbounded b off most e Memory h = tt

@@ -1,6 +1,5 @@
 -- Lookups in tables of sets.
 use Rattle.std.proofs.Common.{◌≡◌, ℕ, ◌<◌, ◌≤◌, List, [], ◌∷◌, length, map, get_or, refl, ap, sym, subst, ◌∙◌, arith, Option, Some, None}
-use Rattle.std.specs.Prelude.{IsSome}
 use Rattle.std.specs.List.{All}
 use Rattle.std.proofs.lemmas.List.{get_or-map, length-map}
 use Rattle.std.proofs.lemmas.List.Elements.{All-get_or, All-head, All-tail}
@@ -23,8 +22,3 @@ map_stays f g P same (x ∷ xs) h = ap (λ y. y ∷ map g xs) (same x (All-head 
 -- a property of all members implies another
 pub all_as : {A : Type 0} (P Q : A → Type 0) → ((a : A) → P a → Q a) → (xs : List A) → All P xs → All Q xs
 all_as P Q goes xs h = λ k d lt. goes _ (h k d lt)
-
--- the absent place is not present
-pub not_some : (o : Option ℕ) → o ≡ None → IsSome o → ⊥
-not_some None e h = absurd cc
-not_some (Some i) e h = absurd cc

@@ -1,5 +1,5 @@
 -- Lists of sets and directories, as read.
-use Rattle.std.specs.Prelude.{◌≡◌, ◌≢◌, ℕ, ◌+◌, ◌-◌, ◌*◌, ◌^◌, ◌%◌, ◌<◌, ◌≤◌, min, List, [], map, sum_by, All}
+use Rattle.std.specs.Prelude.{◌≡◌, ◌≢◌, ℕ, ◌+◌, ◌*◌, ◌%◌, ◌<◌, ◌≤◌, List, [], map, sum_by, All}
 use Rattle.dexspec.specs.Lists.{OrNone}
 use Rattle.dexspec.specs.Bytes.{uint_at}
 use Rattle.dexspec.specs.Sections.{IsInData}
@@ -77,14 +77,3 @@ set_weight_in m s = set_weight (set_in m s)
 -- the weight of a list of such sets
 abbrev pub sets_weight_in : Mentions → List NumberedSet → ℕ
 sets_weight_in m ss = ref_list_weight (map (set_in m) ss)
-
--- An item was read, and the running weight grew from `before` to `after`. While the weight is at most `most`, it grows
--- by the weight of the item, up to 2^64 - 1, and the whole item is kept. Once it is more than `most`, it stays more,
--- and so does the exact weight.
-pub record IsKept {X : Type 0} (Read : X → Type 0) (weighs : X → ℕ) (most before after : ℕ) (kept : X) : Type 0 where
-  pub item : X
-  pub is_read : Read item
-  pub early : after ≤ most → before ≤ most
-  pub grown : after ≤ most → after ≡ min (2 ^ 64 - 1) (before + weighs item)
-  pub heavy : most < after → most < before + weighs item
-  pub whole : after ≤ most → kept ≡ item

@@ -1,25 +1,13 @@
 -- The cache of directories: the parts that were read, by offset.
-use Rattle.std.specs.Prelude.{◌≡◌, ℕ, ◌<◌, ◌^◌, List, true, Option, Some, length, nat_eq}
+use Rattle.std.specs.Prelude.{◌≡◌, ℕ, ◌<◌, ◌^◌, List, Option, Some, length, nat_eq}
 use Rattle.std.specs.List.{Contains}
 use Rattle.std.specs.HashMap.{get}
-use Rattle.std.specs.HashSet.{contains}
 use Rattle.dexspec.specs.Lists.{AreDistinct}
 use Rattle.dexspec.specs.Mentions.{Mentions}
 use Rattle.dexval.specs.declared.directory_cache.DirectoryCache.{DirectoryCache}
-use Rattle.dexval.specs.Numbered.{NumberedSet}
 use Rattle.dexval.specs.Directories.{IsRefListAt}
 use Rattle.dexval.specs.Reading.{IsSetAt}
 use Rattle.dexval.specs.Tables.{Extends, AreNewNamed, set_at, sets_at}
-
--- a set is at the offset
-pub record HasSet (b : List ℕ) (m : Mentions) (off : ℕ) : Type 0 where
-  pub item : NumberedSet
-  pub is_set : IsSetAt b off m item
-
--- an annotation_set_ref_list is at the offset
-pub record HasRefList (b : List ℕ) (m : Mentions) (off : ℕ) : Type 0 where
-  pub item : List NumberedSet
-  pub is_list : IsRefListAt b off m item
 
 -- this many items have each an offset of their own, at which a place is recorded
 pub record HaveOffsets (place_at : ℕ → Option ℕ) (count : ℕ) : Type 0 where
@@ -40,16 +28,14 @@ pub record AreHeld (cache : DirectoryCache) : Type 0 where
 pub record AreCached (b : List ℕ) (m : Mentions) (cache : DirectoryCache) : Type 0 where
   pub sets_cached : (off place : ℕ) → get nat_eq cache.sets off ≡ Some place → IsSetAt b off m (set_at cache.table.sets (Some place))
   pub lists_cached : (off place : ℕ) → get nat_eq cache.lists off ≡ Some place → IsRefListAt b off m (sets_at cache.table (Some place))
-  pub skipped_sets_cached : (off : ℕ) → contains nat_eq cache.skipped_sets off ≡ true → HasSet b m off
-  pub skipped_lists_cached : (off : ℕ) → contains nat_eq cache.skipped_lists off ≡ true → HasRefList b m off
 
--- An item was read and recorded: the table grew, and still has the recorded places and that of the item. If all is
--- kept, the item names what is new in the table.
-pub record IsNoted (SetNamed ListNamed : ℕ → Type 0) (Held AllKept : Type 0) (old new : DirectoryCache) : Type 0 where
+-- An item was read and recorded: the table grew, and still has the recorded places and that of the item. The item names
+-- what is new in the table.
+pub record IsNoted (SetNamed ListNamed : ℕ → Type 0) (Held : Type 0) (old new : DirectoryCache) : Type 0 where
   pub extended : Extends old.table new.table
   pub noted_held : AreHeld new
   pub held : Held
-  pub named : AllKept → AreNewNamed SetNamed ListNamed old.table new.table
+  pub named : AreNewNamed SetNamed ListNamed old.table new.table
 
 -- a member's place names it
 abbrev pub IsNamedOf : (Option ℕ → ℕ → Type 0) → List (ℕ × ℕ) → ℕ → Type 0

@@ -1,5 +1,5 @@
 -- Values, sets and directories, as read from a file.
-use Rattle.std.specs.Prelude.{◌≡◌, ◌<◌, ◌≤◌, ◌-◌, ◌^◌, ℕ, List, min}
+use Rattle.std.specs.Prelude.{◌≡◌, ◌⊎◌, ◌<◌, ◌≤◌, ◌-◌, ◌^◌, ℕ, List, min}
 use Rattle.dexspec.specs.Header.{data_off}
 use Rattle.dexspec.specs.Values.{Value, Values, ValueAt, value_depth, most_depth, EncodedArrayItemAt}
 use Rattle.dexspec.specs.Annotations.{AnnotationSet, Directory, SetAt, DirectoryAt}
@@ -61,8 +61,10 @@ pub record IsDirectoryWithin (b : List ℕ) (off : ℕ) (m : Mentions) (most : �
   pub is : IsDirectoryAt b off m d
   pub within : min (2 ^ 64 - 1) (directory_weight (directory_in m d)) ≤ most
 
--- an annotations_directory_item of a directory whose sets and lists of sets weigh more than `most` is at the offset
-pub record HasHeavyDirectory (b : List ℕ) (off most : ℕ) : Type 0 where
-  pub directory : Directory
-  pub at : DirectoryAt b off directory
-  pub heavy : most < directory_weight directory
+-- no annotations_directory_item is at the offset; or if one is, its sets and lists of sets weigh more than `most`. A
+-- failed allocation says nothing.
+abbrev pub IsDirectoryFaultWithin : List ℕ → ℕ → ℕ → ItemFault → Type 0
+IsDirectoryFaultWithin b off most (Refused number) =
+    ((number ≡ 22) × ((d : Directory) → DirectoryAt b off d → ⊥))
+    ⊎ ((number ≡ 23) × ((d : Directory) → DirectoryAt b off d → most < directory_weight d))
+IsDirectoryFaultWithin b off most Memory = Unit {0}

@@ -1,5 +1,5 @@
 -- Values, sets and directories of the code, and their shapes, as the readers and the checks of a file return them.
-use Rattle.std.specs.Prelude.{◌≡◌, ℕ, List, Option, MatchOption}
+use Rattle.std.specs.Prelude.{◌≡◌, ℕ, List}
 use Rattle.std.specs.Global.{Vec}
 use Rattle.dexspec.specs.Annotations.{fields_count, methods_count, parameters_count}
 use Rattle.dexspec.specs.Mentions.{Mentions}
@@ -16,7 +16,7 @@ use Rattle.dexval.specs.CheckedSets.{HasDirectoryOf}
 use Rattle.dexval.specs.Checking.{HasValueOf, HasStaticsOf, HasSetOf}
 use Rattle.dexval.specs.Code.{value_of, values_of, set_of, directory_of}
 use Rattle.dexval.specs.Directories.{HasMembers}
-use Rattle.dexval.specs.Reading.{IsValueAt, AreStaticsAt, IsSetAt, IsDirectoryAt, IsDirectoryWithin, HasHeavyDirectory}
+use Rattle.dexval.specs.Reading.{IsValueAt, AreStaticsAt, IsSetAt, IsDirectoryAt, IsDirectoryWithin}
 use Rattle.dexval.specs.Shared.{shared_directory_of}
 
 -- ---- what a reader returns
@@ -37,9 +37,9 @@ IsReadSet b off m set = IsSetAt b off m (set_of set)
 abbrev pub IsReadDirectory : List ℕ → ℕ → Mentions → Directory → Type 0
 IsReadDirectory b off m directory = IsDirectoryAt b off m (directory_of directory)
 
--- the directory at the offset, if it weighs at most `most`; otherwise none
-abbrev pub IsReadWithin : List ℕ → ℕ → Mentions → ℕ → Option SharedDirectory → Type 0
-IsReadWithin b off m most found = MatchOption found (HasHeavyDirectory b off most) (λ directory. IsDirectoryWithin b off m most (shared_directory_of directory))
+-- the directory at the offset, which weighs at most `most`
+abbrev pub IsReadWithin : List ℕ → ℕ → Mentions → ℕ → SharedDirectory → Type 0
+IsReadWithin b off m most directory = IsDirectoryWithin b off m most (shared_directory_of directory)
 
 -- ---- what a check returns
 

@@ -1,8 +1,12 @@
-//! A bound on the weight of what is kept.
+//! A bound on the weight of what is read.
 
-ghost use Rattle.std.specs.Prelude.{◌≡◌, ◌↔◌, ◌+◌, ◌-◌, ◌^◌, ◌<◌, ◌≤◌, min, IsTrue};
+ghost use Rattle.std.specs.Prelude.{IfErr, OnOk};
+ghost use Rattle.dexval.specs.internal.Counting.{Counts, IsTooHeavy};
 
-/// The items read so far weigh `weight`, or 2^64 - 1 if they weigh more. They are kept while that is at most `most`.
+use dexhead::Condition;
+use dexpool::ItemFault;
+
+/// The items read so far weigh `weight`, or 2^64 - 1 if they weigh more, and may weigh at most `most`.
 #[derive(Drop)]
 pub(crate) struct Budget {
     pub(crate) weight: u64,
@@ -10,20 +14,15 @@ pub(crate) struct Budget {
 }
 
 impl Budget {
-    /// Counts another item.
-    pub(crate) fn add(&mut self, weight: u64)
-        ensures weight { self.new.weight ≡ min (2 ^ 64 - 1) (self.old.weight + weight) }
-        ensures grows { self.old.weight ≤ self.new.weight }
-        ensures most { self.new.most ≡ self.old.most }
+    /// Counts another item. Error: the items weigh more than `most`.
+    pub(crate) fn add(&mut self, weight: u64) -> Result<(), ItemFault>
+        ensures counted { OnOk result (Counts self.old self.new weight) }
+        ensures refused { IfErr result (IsTooHeavy self.old weight) }
     {
         self.weight = self.weight.saturating_add(weight);
-    }
-
-    /// Whether all items read so far may be kept.
-    pub(crate) fn is_within(&self) -> bool
-        ensures within { IsTrue result ↔ (self.now.weight ≤ self.now.most) }
-        ensures fits { self.now.weight < 2 ^ 64 }
-    {
-        self.weight <= self.most
+        if self.weight > self.most {
+            return Err(ItemFault::Refused(Condition::Weight as u8));
+        }
+        Ok(())
     }
 }

@@ -1,23 +1,25 @@
 //! Reads directories of annotations from a file.
 
-ghost use Rattle.std.specs.Prelude.{ℕ, List, [], ◌^◌, ◌<◌, ◌≡◌, ◌≢◌, ◌+◌, ◌*◌, ◌≤◌, Option, Some, IsSome, All, IfOk, IfErr, OnOk, IfSome, IfNone, length, map};
-ghost use Rattle.dexspec.specs.Annotations.{AnnotationSet as SetMeant, SetAt, RefListAt};
+ghost use Rattle.std.specs.Prelude.{ℕ, List, [], ◌^◌, ◌<◌, ◌≡◌, ◌+◌, ◌*◌, ◌≤◌, Option, Some, All, IfOk, IfErr, OnOk, IfSome, IfNone, length, map};
+ghost use Rattle.dexspec.proofs.determined.OneClass.{one_set, one_ref_list};
+ghost use Rattle.dexspec.specs.Annotations.{AnnotationSet as SetMeant, SetAt, RefListAt, DirectoryAt};
 ghost use Rattle.dexspec.specs.Mentions.{Mentions};
+ghost use Rattle.dexspec.specs.Weight.{set_weight, ref_list_weight};
 ghost use Rattle.dexpool.specs.Pools.{ArePools};
 ghost use Rattle.dexval.specs.Numbered.{NumberedSet, IsKnownSet, set_in};
 ghost use Rattle.dexval.specs.Nesting.{HasPools};
 ghost use Rattle.dexval.specs.Items.{IsRefusal};
-ghost use Rattle.dexval.specs.Directories.{NoRefListAt, HasPair, HasMembers, set_weight_in, sets_weight_in};
+ghost use Rattle.dexval.specs.Directories.{HasPair, HasMembers, directory_weight};
 ghost use Rattle.dexval.specs.DirectoryCache.{AreHeld};
-ghost use Rattle.dexval.specs.Reading.{IsDirectoryFault};
+ghost use Rattle.dexval.specs.Reading.{IsDirectoryFault, IsDirectoryFaultWithin};
 ghost use Rattle.dexval.specs.Shared.{IsTight};
 ghost use Rattle.dexval.specs.Tables.{NumberedTable, Extends, IsListed, IsPlaceIn, set_at, sets_at};
 ghost use Rattle.dexval.specs.Results.{IsReadDirectory, IsReadWithin, AreMemberCounts};
-ghost use Rattle.dexval.specs.internal.Counting.{IsFile, IsCacheOf, IsWithin, AreSetsNoted, IsListNoted, IsItemNoted, AreAllNoted, AreSetsKept, IsListKept, IsItemKept, ArePairsKept, ArePartsKept, IsDirectoryKept, ArePlacesHeld, NamesAllPlaces, IsPairAt, IsFaultAt, IsFaultOf};
+ghost use Rattle.dexval.specs.internal.Counting.{IsFile, IsCacheOf, AreSetsNoted, IsListNoted, IsItemNoted, AreAllNoted, HasCountedSets, HasCountedList, HasCountedItem, HaveCountedPairs, HasCountedParts, ArePlacesHeld, NamesAllPlaces, IsPairAt, IsFaultWithin, IsPairsFault};
 
 use crate::budget::Budget;
 use crate::directory::{Directory, MemberCounts, SharedDirectory};
-use crate::directory_cache::{DirectoryCache, count_list, counted_set_at, note_list};
+use crate::directory_cache::{DirectoryCache, counted_set_at, counted_set_or_empty_at, note_list};
 use crate::file_source::FileSource;
 use crate::set_reading::count_at;
 use dexhead::{Condition, Frame, u32_at};
@@ -27,13 +29,9 @@ use std::alloc::Global;
 // The maximum number of members or sets for which capacity is reserved before they are read.
 const MOST_AT_ONCE: usize = 4096;
 
-// The number of items, of `count`, for which capacity is reserved before they are read: none if none would be kept.
-fn room(count: u32, budget: &Budget) -> usize {
-    if budget.is_within() {
-        (count as usize).min(MOST_AT_ONCE)
-    } else {
-        0
-    }
+// The number of items, of `count`, for which capacity is reserved before they are read.
+fn room(count: u32) -> usize {
+    (count as usize).min(MOST_AT_ONCE)
 }
 
 /// The counts of the annotations_directory_item at an offset, or `None` if the counts and all its pairs are not inside
@@ -94,8 +92,8 @@ pub(crate) fn list_weight(count: u32) -> u64
     8 + 4 * u64::from(count)
 }
 
-// The places of the sets of the annotation_set_ref_list at an offset. Each set is counted, and kept while the budget
-// lasts. Error: there is no list.
+// The places of the sets of the annotation_set_ref_list at an offset. The list and each set are counted. Error: there is
+// no list, or it is too heavy.
 fn listed_sets_at(
     source: &FileSource<'_, '_, '_>,
     off: u32,
@@ -104,61 +102,51 @@ fn listed_sets_at(
 ) -> Result<Vec<Option<u32>>, ItemFault>
     requires held { AreHeld cache.old }
     requires cache { IsFile source.now → IsCacheOf source.now cache.old }
-    ensures most { budget.new.most ≡ budget.old.most }
-    ensures grows { budget.old.weight ≤ budget.new.weight }
     ensures lists { cache.new.lists ≡ cache.old.lists }
-    ensures noted { IfOk result (AreSetsNoted budget.new cache.old cache.new) }
+    ensures noted { IfOk result (AreSetsNoted cache.old cache.new) }
     ensures cache { IsFile source.now → OnOk result (IsCacheOf source.now cache.new) }
     ensures read { IsFile source.now
-        → IfOk result (AreSetsKept source.now off budget.old budget.new cache.new) }
-    ensures refused { IsFile source.now
-        → IfErr result (IsRefusal (NoRefListAt source.now.frame.now off)) }
+        → IfOk result (HasCountedSets source.now off budget.old budget.new cache.new) }
+    ensures refused { IsFile source.now → IfErr result (IsFaultWithin
+        (RefListAt source.now.frame.now off) ref_list_weight budget.old.weight budget.old.most) }
 {
     let count = count_at(source.frame, off)?;
     let bytes = source.frame.bytes();
     let list = list_weight(count);
-    budget.add(list);
-    let mut places = Vec::with_capacity(source.alloc, room(count, budget))?;
+    budget.add(list)?;
+    let mut places = Vec::with_capacity(source.alloc, room(count))?;
     for i in 0..count {
         let set_off = u32_at(bytes, off as usize + 4 + 4 * i as usize);
-        let place = counted_set_at(source, set_off, cache, budget)?;
-        if budget.is_within() {
-            places.push(place)?;
-        }
+        let place = counted_set_or_empty_at(source, set_off, cache, budget)?;
+        places.push(place)?;
     }
     Ok(places)
 }
 
-// The place of the annotation_set_ref_list at an offset, if it is kept. The list is counted with its sets, and kept
-// while the budget lasts. Error: there is no list.
+// The place of the annotation_set_ref_list at an offset, which is counted with its sets. Error: there is no list, or it
+// is too heavy.
 fn counted_list_at(
     source: &FileSource<'_, '_, '_>,
     off: u32,
     cache: &mut DirectoryCache,
     budget: &mut Budget,
-) -> Result<Option<u32>, ItemFault>
+) -> Result<u32, ItemFault>
     requires held { AreHeld cache.old }
     requires cache { IsFile source.now → IsCacheOf source.now cache.old }
-    ensures most { budget.new.most ≡ budget.old.most }
-    ensures grows { budget.old.weight ≤ budget.new.weight }
-    ensures kept { IfOk result (λ place. budget.new.weight ≤ budget.new.most → IsSome place) }
-    ensures noted { IfOk result (IsListNoted budget.new cache.old cache.new) }
+    ensures noted { IfOk result (IsListNoted cache.old cache.new) }
     ensures cache { IsFile source.now → OnOk result (IsCacheOf source.now cache.new) }
     ensures read { IsFile source.now
-        → IfOk result (IsListKept source.now off budget.old budget.new cache.new) }
-    ensures refused { IsFile source.now
-        → IfErr result (IsRefusal (NoRefListAt source.now.frame.now off)) }
+        → IfOk result (HasCountedList source.now off budget.old budget.new cache.new) }
+    ensures refused { IsFile source.now → IfErr result (IsFaultWithin
+        (RefListAt source.now.frame.now off) ref_list_weight budget.old.weight budget.old.most) }
 {
     if let Some(place) = cache.lists.get(&off) {
         let place = *place;
-        count_list(&cache.table, place, budget);
-        return Ok(Some(place));
-    }
-    if !budget.is_within() && cache.skipped_lists.contains(&off) {
-        return Ok(None);
+        budget.add(cache.table.list_weight(Some(place)))?;
+        return Ok(place);
     }
     let places = listed_sets_at(source, off, cache, budget)?;
-    Ok(note_list(off, places, cache, budget)?)
+    Ok(note_list(off, places, cache)?)
 }
 
 // A part of a directory for a member, by its place in the table: a set of annotations, or the sets of its parameters.
@@ -184,29 +172,27 @@ trait OfMember {
 
     ghost encodes: { List ℕ → ℕ → Meant → Type 0 };
 
-    ghost weighs: { Mentions → Numbered → ℕ };
+    ghost weighs: { Meant → ℕ };
 
-    // The place of the item at an offset other than 0. The item is counted, and kept while the budget lasts. Error:
-    // there is no item.
+    // The place of the item at an offset, which is counted. Error: there is no item, or it is too heavy.
     fn counted_at(
         source: &FileSource<'_, '_, '_>,
         off: u32,
         cache: &mut DirectoryCache,
         budget: &mut Budget,
-    ) -> Result<Option<u32>, ItemFault>
-        requires other { off ≢ 0 }
+    ) -> Result<u32, ItemFault>
         requires held { AreHeld cache.old }
         requires cache { IsFile source.now → IsCacheOf source.now cache.old }
-        ensures most { budget.new.most ≡ budget.old.most }
-        ensures grows { budget.old.weight ≤ budget.new.weight }
-        ensures kept { IfOk result (λ place. budget.new.weight ≤ budget.new.most → IsSome place) }
         ensures noted { IfOk result
-            (IsItemNoted is_held names_set names_list budget.new cache.old cache.new) }
+            (IsItemNoted is_held names_set names_list cache.old cache.new) }
         ensures cache { IsFile source.now → OnOk result (IsCacheOf source.now cache.new) }
-        ensures read { IsFile source.now → IfOk result (IsItemKept is_known inside encodes
+        ensures read { IsFile source.now → IfOk result (HasCountedItem is_known inside encodes
             weighs of source.now off budget.old budget.new cache.new) }
-        ensures refused { IsFile source.now
-            → IfErr result (IsFaultAt encodes source.now.frame.now off) };
+        ensures refused { IsFile source.now → IfErr result (IsFaultWithin
+            (encodes source.now.frame.now off) weighs budget.old.weight budget.old.most) };
+
+    // At most one item is at an offset.
+    ghost one: { (b : List ℕ) (off : ℕ) (x y : Meant) → encodes b off x → encodes b off y → x ≡ y };
 
     // After a table grew, a place still holds and names the same item.
     ghost stays: { (t u : NumberedTable) (place : Option ℕ) → Extends t u → is_held t place → is_held u place × (of u place ≡ of t place) };
@@ -236,16 +222,18 @@ impl OfMember for SetOfMember {
 
     ghost encodes = { SetAt };
 
-    ghost weighs = { set_weight_in };
+    ghost weighs = { set_weight };
 
     fn counted_at(
         source: &FileSource<'_, '_, '_>,
         off: u32,
         cache: &mut DirectoryCache,
         budget: &mut Budget,
-    ) -> Result<Option<u32>, ItemFault> {
+    ) -> Result<u32, ItemFault> {
         counted_set_at(source, off, cache, budget)
     }
+
+    ghost one = { one_set };
 
     ghost stays = { λ t u place extended held. (extended.sets_hold place held, extended.sets_stay place held) };
 
@@ -274,16 +262,18 @@ impl OfMember for ListOfMember {
 
     ghost encodes = { RefListAt };
 
-    ghost weighs = { sets_weight_in };
+    ghost weighs = { ref_list_weight };
 
     fn counted_at(
         source: &FileSource<'_, '_, '_>,
         off: u32,
         cache: &mut DirectoryCache,
         budget: &mut Budget,
-    ) -> Result<Option<u32>, ItemFault> {
+    ) -> Result<u32, ItemFault> {
         counted_list_at(source, off, cache, budget)
     }
+
+    ghost one = { one_ref_list };
 
     ghost stays = { λ t u place extended held. (extended.lists_hold place held, extended.lists_stay place held) };
 
@@ -298,8 +288,8 @@ pub(crate) struct PairRange {
     pub(crate) limit: usize,
 }
 
-// The members of these pairs, by their numbers, with the place of the item of each, while the budget lasts. Error: the
-// pairs are not there.
+// The members of these pairs, by their numbers, with the place of the item of each, which is counted. Error: the pairs
+// are not there, or their items are too heavy.
 fn members_at<T: OfMember>(
     source: &FileSource<'_, '_, '_>,
     pairs: &PairRange,
@@ -310,25 +300,21 @@ fn members_at<T: OfMember>(
     requires fits { pairs.now.at < 2 ^ 40 }
     requires held { AreHeld cache.old }
     requires cache { IsFile source.now → IsCacheOf source.now cache.old }
-    ensures most { budget.new.most ≡ budget.old.most }
-    ensures grows { budget.old.weight ≤ budget.new.weight }
     ensures noted { IfOk result
-        (AreAllNoted T.is_held T.names_set T.names_list budget.new cache.old cache.new) }
+        (AreAllNoted T.is_held T.names_set T.names_list cache.old cache.new) }
     ensures cache { IsFile source.now → OnOk result (IsCacheOf source.now cache.new) }
-    ensures read { IsFile source.now → IfOk result (ArePairsKept T.is_known T.inside T.encodes
+    ensures read { IsFile source.now → IfOk result (HaveCountedPairs T.is_known T.inside T.encodes
         T.weighs T.of source.now pairs.now budget.old budget.new cache.new) }
-    ensures refused { IsFile source.now
-        → IfErr result (IsFaultOf T.encodes source.now.frame.now pairs.now) }
+    ensures refused { IsFile source.now → IfErr result
+        (IsPairsFault T.encodes T.weighs source.now.frame.now pairs.now budget.old) }
 {
-    let mut members = Vec::with_capacity(source.alloc, room(pairs.count, budget))?;
+    let mut members = Vec::with_capacity(source.alloc, room(pairs.count))?;
     let mut least = 0;
     for i in 0..pairs.count {
         let (number, off) = pair_at(source.frame, pairs.at + 8 * i as usize, least, pairs.limit)?;
         let place = T::counted_at(source, off, cache, budget)?;
         least = u64::from(number) + 1;
-        if let Some(place) = place {
-            members.push((number, place))?;
-        }
+        members.push((number, place))?;
     }
     Ok(members)
 }
@@ -342,25 +328,23 @@ struct Places {
     parameters: Vec<(u32, u32)>,
 }
 
-// The places that the annotations_directory_item at an offset names. Its sets are counted one by one, while the budget
-// lasts; no part of the budget is used before. Error: there is no directory.
+// The places that the annotations_directory_item at an offset names. Its sets are counted one by one. Error: there is no
+// directory, or it is too heavy.
 fn counted_directory_at(
     source: &FileSource<'_, '_, '_>,
     off: u32,
     cache: &mut DirectoryCache,
     budget: &mut Budget,
 ) -> Result<Places, ItemFault>
-    requires unused { budget.old.weight ≡ 0 }
     requires held { AreHeld cache.old }
     requires cache { IsFile source.now → IsCacheOf source.now cache.old }
     requires none { cache.old.table ≡ record { sets = []; lists = [] } }
-    ensures most { budget.new.most ≡ budget.old.most }
     ensures held { IfOk result (ArePlacesHeld cache.new.table) }
-    ensures named { IfOk result (λ places. IsWithin budget.new
-        → NamesAllPlaces cache.new.table places) }
+    ensures named { IfOk result (NamesAllPlaces cache.new.table) }
     ensures read { IsFile source.now
-        → IfOk result (ArePartsKept source.now off budget.old budget.new cache.new) }
-    ensures refused { IsFile source.now → IfErr result (IsDirectoryFault source.now.frame.now off) }
+        → IfOk result (HasCountedParts source.now off budget.old budget.new cache.new) }
+    ensures refused { IsFile source.now → IfErr result (IsFaultWithin
+        (DirectoryAt source.now.frame.now off) directory_weight budget.old.weight budget.old.most) }
 {
     let counts = match member_counts(source.frame, off) {
         Some(counts) => counts,
@@ -368,7 +352,7 @@ fn counted_directory_at(
     };
     let bytes = source.frame.bytes();
     let own_off = u32_at(bytes, off as usize);
-    let own = counted_set_at(source, own_off, cache, budget)?;
+    let own = counted_set_or_empty_at(source, own_off, cache, budget)?;
     let limit = source.pools.len(SymbolKind::Field);
     let field_pairs = PairRange {
         at: off as usize + 16,
@@ -397,19 +381,20 @@ fn counted_directory_at(
     })
 }
 
-// The directory of the annotations_directory_item at an offset and the weight of its sets. The directory is whole if
-// that weight is at most `most`. Error: there is no directory.
+// The directory of the annotations_directory_item at an offset, if its sets weigh at most `most`. Error: there is no
+// directory, or it is too heavy.
 fn directory_at(
     alloc: Global,
     frame: &Frame<'_>,
     pools: &Pools<'_>,
     off: u32,
     most: u64,
-) -> Result<(SharedDirectory, u64), ItemFault>
-    ensures tight { IfOk result (λ read. read.1 ≤ most → IsTight read.0) }
+) -> Result<SharedDirectory, ItemFault>
+    ensures tight { IfOk result IsTight }
     ensures read { HasPools frame.now pools.now
-        → IfOk result (IsDirectoryKept frame.now off pools.now most) }
-    ensures refused { HasPools frame.now pools.now → IfErr result (IsDirectoryFault frame.now off) }
+        → IfOk result (IsReadWithin frame.now off pools.now most) }
+    ensures refused { HasPools frame.now pools.now → IfErr result
+        (IsFaultWithin (DirectoryAt frame.now off) directory_weight 0 most) }
 {
     let mut cache = DirectoryCache::none(alloc);
     let mut budget = Budget { weight: 0, most };
@@ -419,14 +404,13 @@ fn directory_at(
         pools,
     };
     let places = counted_directory_at(&source, off, &mut cache, &mut budget)?;
-    let directory = SharedDirectory {
+    Ok(SharedDirectory {
         table: cache.table,
         own: places.own,
         fields: places.fields,
         methods: places.methods,
         parameters: places.parameters,
-    };
-    Ok((directory, budget.weight))
+    })
 }
 
 /// Reads the annotations_directory_item at an offset, and the sets that it refers to. Its indices refer to the pools,
@@ -451,19 +435,19 @@ pub fn read_directory(
     ensures refused { ArePools frame.now pools.now → IfErr result (IsDirectoryFault frame.now off) }
 {
     pools.numbering().is_numbering();
-    let (directory, _) = directory_at(alloc, frame, pools, off, u64::MAX)?;
+    let directory = directory_at(alloc, frame, pools, off, u64::MAX)?;
     Ok(directory.unshared()?)
 }
 
 /// Reads the annotations_directory_item at an offset, as [`read_directory`] does, if its sets and lists of sets weigh
 /// at most `most` together, in the bytes of [`AnnotationSet::weight`] and of
-/// [`parameter_sets_weight`](crate::parameter_sets_weight). Returns `None` if they weigh more. A bound of 2^64 - 1 is
-/// no bound.
+/// [`parameter_sets_weight`](crate::parameter_sets_weight). A bound of 2^64 - 1 is no bound.
 ///
-/// Each place that names a set or a list counts its weight, and the set or list is kept once. Once the weight exceeds
-/// `most`, the other sets and lists are checked, each once, and not kept.
+/// Each place that names a set or a list counts its weight, and the set or list is kept once. Reading stops at the item
+/// by which the weight exceeds `most`.
 ///
-/// Errors: as [`read_directory`].
+/// Errors: as [`read_directory`], and `Refused(23)` if the weight exceeds `most`: then no directory at the offset weighs
+/// at most `most`, and what follows was not checked. [`check_directory`](crate::check_directory) checks it.
 ///
 /// Source: "annotations_directory_item" and "annotation_set_ref_list".
 pub fn read_shared_directory_within(
@@ -472,13 +456,13 @@ pub fn read_shared_directory_within(
     pools: &Pools<'_>,
     off: u32,
     most: u64,
-) -> Result<Option<SharedDirectory>, ItemFault>
+) -> Result<SharedDirectory, ItemFault>
     ensures directory { ArePools frame.now pools.now
         → IfOk result (IsReadWithin frame.now off pools.now most) }
-    ensures tight { IfOk result (λ found. IfSome found IsTight) }
-    ensures refused { ArePools frame.now pools.now → IfErr result (IsDirectoryFault frame.now off) }
+    ensures tight { IfOk result IsTight }
+    ensures refused { ArePools frame.now pools.now
+        → IfErr result (IsDirectoryFaultWithin frame.now off most) }
 {
     pools.numbering().is_numbering();
-    let (directory, weight) = directory_at(alloc, frame, pools, off, most)?;
-    Ok((weight <= most).then_some(directory))
+    directory_at(alloc, frame, pools, off, most)
 }

@@ -1,28 +1,29 @@
 -- Items of a file that are read into the cache of a directory, and counted against a budget; and items that are
 -- checked.
-use Rattle.std.specs.Prelude.{◌≡◌, ℕ, ◌+◌, ◌-◌, ◌^◌, ◌≤◌, min, List, Option, Some, Result, All, IfOk, OnOk, map, sum_by}
+use Rattle.std.specs.Prelude.{◌≡◌, ◌⊎◌, ℕ, ◌+◌, ◌-◌, ◌^◌, ◌<◌, ◌≤◌, min, List, Option, Some, Result, All, OnOk, map, sum_by}
 use Rattle.std.specs.Global.{Vec}
 use Rattle.std.specs.List.{Contains}
 use Rattle.dexspec.specs.Bytes.{uint_at}
+use Rattle.dexspec.specs.Annotations.{PairsAt}
 use Rattle.dexspec.specs.Mentions.{Mentions}
 use Rattle.dexpool.specs.declared.faults.ItemFault.{ItemFault}
+use Rattle.dexpool.specs.declared.faults.ItemFault.TheVariants.{Refused, Memory}
 use Rattle.dexval.specs.declared.budget.Budget.{Budget}
-use Rattle.dexval.specs.declared.directory.SharedDirectory.{SharedDirectory}
 use Rattle.dexval.specs.declared.directory_cache.DirectoryCache.{DirectoryCache}
 use Rattle.dexval.specs.declared.directory_reading.PairRange.{PairRange}
 use Rattle.dexval.specs.declared.directory_reading.Places.{Places}
 use Rattle.dexval.specs.declared.file_source.FileSource.{FileSource}
 use Rattle.dexval.specs.CheckedSets.{IsWeighed}
-use Rattle.dexval.specs.Directories.{IsKnownAt, IsSetOrEmptyAt, IsRefListAt, HasPair, ArePairsAt, NoPairsAt, directory_weight, set_weight_in, sets_weight_in, IsKept}
+use Rattle.dexval.specs.Directories.{IsKnownAt, IsSetOrEmptyAt, IsRefListAt, IsIndexBelow, HasPair, ArePairsAt, NoPairsAt, directory_weight, set_weight_in, sets_weight_in}
 use Rattle.dexval.specs.DirectoryCache.{AreCached, IsNoted, IsNamedOf}
 use Rattle.dexval.specs.Items.{IsRefusal}
 use Rattle.dexval.specs.Nesting.{HasPools}
 use Rattle.dexval.specs.Numbered.{NumberedSet, directory_in}
 use Rattle.dexval.specs.Reading.{IsSetAt, IsDirectoryAt}
-use Rattle.dexval.specs.Shared.{HoldsPlaces, NamesAll, looked_up, shared_directory_of}
+use Rattle.dexval.specs.Shared.{HoldsPlaces, NamesAll, looked_up}
 use Rattle.dexval.specs.Tables.{NumberedTable, IsPlaceIn, IsListed, set_at, sets_at}
 
--- ---- the file, the cache and the budget
+-- ---- the file and the cache
 
 -- the source is a file with its own pools, which rise
 abbrev pub IsFile : FileSource → Type 0
@@ -32,100 +33,104 @@ IsFile source = HasPools source.frame.now source.pools.now
 abbrev pub IsCacheOf : FileSource → DirectoryCache → Type 0
 IsCacheOf source cache = AreCached source.frame.now source.pools.now cache
 
--- what was counted is no more than what may be kept
-abbrev pub IsWithin : Budget → Type 0
-IsWithin budget = budget.weight ≤ budget.most
-
--- the set at the place was counted again
-abbrev pub CountsSet : NumberedTable → ℕ → Budget → Budget → Type 0
-CountsSet t place old new = (m : Mentions) → new.weight ≡ min (2 ^ 64 - 1) (old.weight + set_weight_in m (set_at t.sets (Some place)))
-
--- the list at the place was counted again
-abbrev pub CountsList : NumberedTable → ℕ → Budget → Budget → Type 0
-CountsList t place old new = (m : Mentions) → new.weight ≡ min (2 ^ 64 - 1) (old.weight + sets_weight_in m (sets_at t (Some place)))
-
 -- ---- items that are recorded
 
 -- a set was recorded at the place
-abbrev pub IsSetNoted : Budget → DirectoryCache → DirectoryCache → Option ℕ → Type 0
-IsSetNoted budget old new place = IsNoted (λ i. place ≡ Some i) (λ i. ⊥) (IsPlaceIn new.table.sets place) (IsWithin budget) old new
+abbrev pub IsSetNoted : DirectoryCache → DirectoryCache → Option ℕ → Type 0
+IsSetNoted old new place = IsNoted (λ i. place ≡ Some i) (λ i. ⊥) (IsPlaceIn new.table.sets place) old new
 
 -- the sets of a list were recorded at the places
-abbrev pub AreSetsNoted : Budget → DirectoryCache → DirectoryCache → Vec (Option ℕ) → Type 0
-AreSetsNoted budget old new places = IsNoted (λ i. Contains places.items (Some i)) (λ i. ⊥) (All (IsPlaceIn new.table.sets) places.items) (IsWithin budget) old new
+abbrev pub AreSetsNoted : DirectoryCache → DirectoryCache → Vec (Option ℕ) → Type 0
+AreSetsNoted old new places = IsNoted (λ i. Contains places.items (Some i)) (λ i. ⊥) (All (IsPlaceIn new.table.sets) places.items) old new
 
 -- a list was recorded at the place, and no set
-abbrev pub IsOneListNoted : Budget → DirectoryCache → DirectoryCache → Option ℕ → Type 0
-IsOneListNoted budget old new place = IsNoted (λ i. ⊥) (λ i. place ≡ Some i) (IsPlaceIn new.table.lists place) (IsWithin budget) old new
+abbrev pub IsOneListNoted : DirectoryCache → DirectoryCache → ℕ → Type 0
+IsOneListNoted old new place = IsNoted (λ i. ⊥) (λ i. Some place ≡ Some i) (IsPlaceIn new.table.lists (Some place)) old new
 
 -- a list was recorded at the place, and its sets
-abbrev pub IsListNoted : Budget → DirectoryCache → DirectoryCache → Option ℕ → Type 0
-IsListNoted budget old new place = IsNoted (IsListed new.table) (λ i. place ≡ Some i) (IsPlaceIn new.table.lists place) (IsWithin budget) old new
+abbrev pub IsListNoted : DirectoryCache → DirectoryCache → ℕ → Type 0
+IsListNoted old new place = IsNoted (IsListed new.table) (λ i. Some place ≡ Some i) (IsPlaceIn new.table.lists (Some place)) old new
 
 -- the item of a member was recorded at the place
-abbrev pub IsItemNoted : (NumberedTable → Option ℕ → Type 0) → (NumberedTable → Option ℕ → ℕ → Type 0) → (Option ℕ → ℕ → Type 0) → Budget → DirectoryCache → DirectoryCache → Option ℕ → Type 0
-IsItemNoted is_held names_set names_list budget old new place = IsNoted (names_set new.table place) (names_list place) (is_held new.table place) (IsWithin budget) old new
+abbrev pub IsItemNoted : (NumberedTable → Option ℕ → Type 0) → (NumberedTable → Option ℕ → ℕ → Type 0) → (Option ℕ → ℕ → Type 0) → DirectoryCache → DirectoryCache → ℕ → Type 0
+IsItemNoted is_held names_set names_list old new place = IsNoted (names_set new.table (Some place)) (names_list (Some place)) (is_held new.table (Some place)) old new
 
 -- the items of members were recorded at their places
-abbrev pub AreAllNoted : (NumberedTable → Option ℕ → Type 0) → (NumberedTable → Option ℕ → ℕ → Type 0) → (Option ℕ → ℕ → Type 0) → Budget → DirectoryCache → DirectoryCache → Vec (ℕ × ℕ) → Type 0
-AreAllNoted is_held names_set names_list budget old new members =
-    IsNoted (IsNamedOf (names_set new.table) members.items) (IsNamedOf names_list members.items) (All (λ e. is_held new.table (Some e.1)) members.items) (IsWithin budget) old new
+abbrev pub AreAllNoted : (NumberedTable → Option ℕ → Type 0) → (NumberedTable → Option ℕ → ℕ → Type 0) → (Option ℕ → ℕ → Type 0) → DirectoryCache → DirectoryCache → Vec (ℕ × ℕ) → Type 0
+AreAllNoted is_held names_set names_list old new members =
+    IsNoted (IsNamedOf (names_set new.table) members.items) (IsNamedOf names_list members.items) (All (λ e. is_held new.table (Some e.1)) members.items) old new
 
 -- some list of the table has each of the places
 abbrev pub ListsPlaces : NumberedTable → List (Option ℕ) → Type 0
 ListsPlaces t places = (i : ℕ) → Contains places (Some i) → IsListed t i
 
 -- a cache of a file that has the set at the offset is still one
-abbrev pub KeepsSetCached : {E : Type 0} → ℕ → NumberedSet → DirectoryCache → DirectoryCache → Result (Option ℕ) E → Type 0
+abbrev pub KeepsSetCached : {E : Type 0} → ℕ → NumberedSet → DirectoryCache → DirectoryCache → Result ℕ E → Type 0
 KeepsSetCached off set old new r = (b : List ℕ) (m : Mentions) → IsSetAt b off m set → AreCached b m old → OnOk r (AreCached b m new)
 
--- in a file that has the set at the offset it is counted, and kept at the place while the budget lasts
-abbrev pub KeepsSet : {E : Type 0} → ℕ → NumberedSet → Budget → Budget → DirectoryCache → Result (Option ℕ) E → Type 0
-KeepsSet off set old new cache r = (b : List ℕ) (m : Mentions) → IsSetAt b off m set → IfOk r (λ place. IsKept (IsSetAt b off m) (set_weight_in m) old.most old.weight new.weight (set_at cache.table.sets place))
+-- a cache of a file that has the list of these sets at the offset is still one
+abbrev pub KeepsListCached : {E : Type 0} → ℕ → List (Option ℕ) → DirectoryCache → DirectoryCache → Result ℕ E → Type 0
+KeepsListCached off places old new r = (b : List ℕ) (m : Mentions) → IsRefListAt b off m (map (set_at old.table.sets) places) → AreCached b m old → OnOk r (AreCached b m new)
 
--- a cache of a file that has the counted list at the offset is still one
-abbrev pub KeepsListCached : {E : Type 0} → ℕ → Budget → List (Option ℕ) → DirectoryCache → DirectoryCache → Result (Option ℕ) E → Type 0
-KeepsListCached off budget places old new r = (b : List ℕ) (m : Mentions) (before : ℕ) → IsKept (IsRefListAt b off m) (sets_weight_in m) budget.most before budget.weight (map (set_at old.table.sets) places)
-    → AreCached b m old → OnOk r (AreCached b m new)
+-- ---- items that are counted
 
--- in a file that has the counted list at the offset it is kept at the place while the budget lasts
-abbrev pub KeepsList : {E : Type 0} → ℕ → Budget → List (Option ℕ) → DirectoryCache → DirectoryCache → Result (Option ℕ) E → Type 0
-KeepsList off budget places old new r = (b : List ℕ) (m : Mentions) (before : ℕ) → IsKept (IsRefListAt b off m) (sets_weight_in m) budget.most before budget.weight (map (set_at old.table.sets) places)
-    → IfOk r (λ place. IsKept (IsRefListAt b off m) (sets_weight_in m) budget.most before budget.weight (sets_at new.table place))
+-- items of this weight were counted, up to 2^64 - 1, and the budget is not exceeded if it was not before
+pub record Counts (old new : Budget) (weight : ℕ) : Type 0 where
+  pub grown : min (2 ^ 64 - 1) new.weight ≡ min (2 ^ 64 - 1) (old.weight + weight)
+  pub same_most : new.most ≡ old.most
+  pub within : old.weight ≤ old.most → new.weight ≤ new.most
 
--- ---- items that are counted, and kept while the budget lasts
+-- an item was read and counted
+pub record HasCounted {X : Type 0} (Read : X → Type 0) (weighs : X → ℕ) (old new : Budget) (item : X) : Type 0 where
+  pub is_read : Read item
+  pub counted : Counts old new (weighs item)
+
+-- no such item is there; or each one, counted after the weight `before`, exceeds `most`, which is below 2^64 - 1
+abbrev pub IsFaultWithin : {Y : Type 0} → (Y → Type 0) → (Y → ℕ) → ℕ → ℕ → ItemFault → Type 0
+IsFaultWithin {Y} At weighs before most (Refused number) =
+    ((number ≡ 22) × ((y : Y) → At y → ⊥)) ⊎ ((number ≡ 23) × (most < 2 ^ 64 - 1) × ((y : Y) → At y → most < before + weighs y))
+IsFaultWithin {Y} At weighs before most Memory = Unit {0}
+
+-- what weighs `weight` is too heavy
+abbrev pub IsTooHeavy : Budget → ℕ → ItemFault → Type 0
+IsTooHeavy budget weight = IsFaultWithin (λ n. n ≡ weight) (λ n. n) budget.weight budget.most
 
 -- the set at the offset, by its place
-abbrev pub IsSetKept : FileSource → ℕ → Budget → Budget → DirectoryCache → Option ℕ → Type 0
-IsSetKept source off old new cache place = IsKept (IsSetOrEmptyAt source.frame.now off source.pools.now) (set_weight_in source.pools.now) old.most old.weight new.weight (set_at cache.table.sets place)
+abbrev pub HasCountedSet : FileSource → ℕ → Budget → Budget → DirectoryCache → ℕ → Type 0
+HasCountedSet source off old new cache place = HasCounted (IsSetAt source.frame.now off source.pools.now) (set_weight_in source.pools.now) old new (set_at cache.table.sets (Some place))
+
+-- the set at the offset, by its place, or none at offset 0
+abbrev pub HasCountedSetOrEmpty : FileSource → ℕ → Budget → Budget → DirectoryCache → Option ℕ → Type 0
+HasCountedSetOrEmpty source off old new cache place = HasCounted (IsSetOrEmptyAt source.frame.now off source.pools.now) (set_weight_in source.pools.now) old new (set_at cache.table.sets place)
 
 -- the list at the offset, by the places of its sets
-abbrev pub AreSetsKept : FileSource → ℕ → Budget → Budget → DirectoryCache → Vec (Option ℕ) → Type 0
-AreSetsKept source off old new cache places = IsKept (IsRefListAt source.frame.now off source.pools.now) (sets_weight_in source.pools.now) old.most old.weight new.weight (map (set_at cache.table.sets) places.items)
+abbrev pub HasCountedSets : FileSource → ℕ → Budget → Budget → DirectoryCache → Vec (Option ℕ) → Type 0
+HasCountedSets source off old new cache places =
+    HasCounted (IsRefListAt source.frame.now off source.pools.now) (sets_weight_in source.pools.now) old new (map (set_at cache.table.sets) places.items)
 
 -- the list at the offset, by its place
-abbrev pub IsListKept : FileSource → ℕ → Budget → Budget → DirectoryCache → Option ℕ → Type 0
-IsListKept source off old new cache place = IsKept (IsRefListAt source.frame.now off source.pools.now) (sets_weight_in source.pools.now) old.most old.weight new.weight (sets_at cache.table place)
+abbrev pub HasCountedList : FileSource → ℕ → Budget → Budget → DirectoryCache → ℕ → Type 0
+HasCountedList source off old new cache place = HasCounted (IsRefListAt source.frame.now off source.pools.now) (sets_weight_in source.pools.now) old new (sets_at cache.table (Some place))
 
 -- the item of a member, by its place
-abbrev pub IsItemKept : {X Y : Type 0} → (Mentions → X → Type 0) → (Mentions → X → Y) → (List ℕ → ℕ → Y → Type 0) → (Mentions → X → ℕ) → (NumberedTable → Option ℕ → X) → FileSource → ℕ → Budget → Budget → DirectoryCache → Option ℕ → Type 0
-IsItemKept is_known inside encodes weighs of source off old new cache place =
-    IsKept (IsKnownAt (is_known source.pools.now) (inside source.pools.now) (encodes source.frame.now off)) (weighs source.pools.now) old.most old.weight new.weight (of cache.table place)
+abbrev pub HasCountedItem : {X Y : Type 0} → (Mentions → X → Type 0) → (Mentions → X → Y) → (List ℕ → ℕ → Y → Type 0) → (Y → ℕ) → (NumberedTable → Option ℕ → X) → FileSource → ℕ → Budget → Budget → DirectoryCache → ℕ → Type 0
+HasCountedItem is_known inside encodes weighs of source off old new cache place =
+    HasCounted (IsKnownAt (is_known source.pools.now) (inside source.pools.now) (encodes source.frame.now off)) (λ x. weighs (inside source.pools.now x)) old new (of cache.table (Some place))
 
 -- the items of the members of these pairs, by their places
-abbrev pub ArePairsKept : {X Y : Type 0} → (Mentions → X → Type 0) → (Mentions → X → Y) → (List ℕ → ℕ → Y → Type 0) → (Mentions → X → ℕ) → (NumberedTable → Option ℕ → X) → FileSource → PairRange → Budget → Budget → DirectoryCache → Vec (ℕ × ℕ) → Type 0
-ArePairsKept is_known inside encodes weighs of source pairs old new cache members =
-    IsKept (ArePairsAt (is_known source.pools.now) (inside source.pools.now) encodes source.frame.now pairs.at pairs.count pairs.limit) (sum_by (λ e. weighs source.pools.now e.1)) old.most old.weight new.weight
+abbrev pub HaveCountedPairs : {X Y : Type 0} → (Mentions → X → Type 0) → (Mentions → X → Y) → (List ℕ → ℕ → Y → Type 0) → (Y → ℕ) → (NumberedTable → Option ℕ → X) → FileSource → PairRange → Budget → Budget → DirectoryCache → Vec (ℕ × ℕ) → Type 0
+HaveCountedPairs is_known inside encodes weighs of source pairs old new cache members =
+    HasCounted (ArePairsAt (is_known source.pools.now) (inside source.pools.now) encodes source.frame.now pairs.at pairs.count pairs.limit) (sum_by (λ e. weighs (inside source.pools.now e.1))) old new
     (map (λ e. (e.0, of cache.table (Some e.1))) members.items)
 
--- the directory at the offset, by the places of its parts; nothing was counted before
-abbrev pub ArePartsKept : FileSource → ℕ → Budget → Budget → DirectoryCache → Places → Type 0
-ArePartsKept source off old new cache places =
-    IsKept (IsDirectoryAt source.frame.now off source.pools.now) (λ d. directory_weight (directory_in source.pools.now d)) old.most 0 new.weight (looked_up cache.table places.own places.fields.items places.methods.items places.parameters.items)
+-- a fault of such pairs
+abbrev pub IsPairsFault : {Y : Type 0} → (List ℕ → ℕ → Y → Type 0) → (Y → ℕ) → List ℕ → PairRange → Budget → ItemFault → Type 0
+IsPairsFault encodes weighs b pairs budget = IsFaultWithin (PairsAt (IsIndexBelow pairs.limit) encodes b pairs.at pairs.count) (sum_by (λ e. weighs e.1)) budget.weight budget.most
 
--- the directory at the offset, with its weight
-abbrev pub IsDirectoryKept : List ℕ → ℕ → Mentions → ℕ → SharedDirectory × ℕ → Type 0
-IsDirectoryKept b off m most read = IsKept (IsDirectoryAt b off m) (λ d. directory_weight (directory_in m d)) most 0 read.1 (shared_directory_of read.0)
+-- the directory at the offset, by the places of its parts
+abbrev pub HasCountedParts : FileSource → ℕ → Budget → Budget → DirectoryCache → Places → Type 0
+HasCountedParts source off old new cache places =
+    HasCounted (IsDirectoryAt source.frame.now off source.pools.now) (λ d. directory_weight (directory_in source.pools.now d)) old new (looked_up cache.table places.own places.fields.items places.methods.items places.parameters.items)
 
 -- ---- places
 

@@ -1,22 +1,31 @@
-use Rattle.std.proofs.Common.{Some, [], refl, sym, arith}
-use Rattle.dexval.specs.Directories.{IsSetOrEmptyAt, set_weight_in}
+use Rattle.std.proofs.Common.{Some, arith}
+use Rattle.std.proofs.lemmas.Result.{err_from_is_err_and}
+use Rattle.dexspec.specs.Annotations.{SetAt}
+use Rattle.dexspec.specs.Weight.{set_weight}
+use Rattle.dexspec.proofs.determined.OneClass.{one_set}
+use Rattle.dexval.specs.Numbered.{set_in}
 use Rattle.dexval.specs.Tables.{set_at}
-use Rattle.dexval.proofs.DirectoryRead.{empty_set, some_set}
-use Rattle.dexval.proofs.Keeping.{new_kept, known_kept}
+use Rattle.dexval.proofs.Keeping.{counts_as}
+use Rattle.dexval.proofs.Refusals.{refused_set, refused_within, item_refused}
 use Rattle.dexval.proofs.directory_cache.counted_set_at.Goals as goal
 
-pub returns-then-off-eq0-clause-read : goal.returns-then-off-eq0-clause-read
-returns-then-off-eq0-clause-read c = λ p.
-    let m = c.args.source.now.pools.now in
-    let weight = c.args.budget.now.weight in
-    new_kept (IsSetOrEmptyAt c.args.source.now.frame.now c.args.off m) (set_weight_in m) c.args.budget.now.most weight weight [] [] (empty_set c.args.source.now.frame.now c.args.off m c.if-off-eq0.true) (omega arith) (omega (arith, c.is_within-within.ensures.fits)) (λ le. refl)
+pub returns-in_err-place-clause-refused : goal.returns-in_err-place-clause-refused
+returns-in_err-place-clause-refused c = λ p.
+    let b = c.args.source.now.frame.now in
+    let off = c.args.off in
+    let fault = c.in_err-place.field-0.0 in
+    let e = err_from_is_err_and c.from_residual.result c.from_residual.ensures.1 in
+    rw (e.1, e.2) (refused_within (SetAt b off) set_weight c.args.budget.now.weight c.args.budget.now.most (λ none. none) fault (refused_set b off (λ none. none) fault (c.in_err-place.ensures.refused p)))
 
-pub returns-in-Some-clause-read : goal.returns-in-Some-clause-read
-returns-in-Some-clause-read c = λ p.
+pub returns-in_err-add-clause-refused : goal.returns-in_err-add-clause-refused
+returns-in_err-add-clause-refused c = λ p.
     let b = c.args.source.now.frame.now in
     let m = c.args.source.now.pools.now in
     let off = c.args.off in
-    let place = c.in-Some.place.now in
-    let set = set_at c.args.cache.now.table.sets (Some place) in
-    let here = (c.requires.cache p).sets_cached off place (sym c.in-Some.ensures.value) in
-    known_kept (IsSetOrEmptyAt b off m) (set_weight_in m) c.args.budget.now.most c.args.budget.now.weight c.count_set.new.budget.weight set (some_set b off m set (omega arith) here) c.count_set.ensures.passed (λ le. c.count_set.ensures.counted le m)
+    let set = set_at c.cached_set_at.new.cache.table.sets (Some c.in_ok-place.place) in
+    let e = err_from_is_err_and c.from_residual-in_err-add.result c.from_residual-in_err-add.ensures.1 in
+    rw (e.1, e.2) (item_refused (SetAt b off) set_weight c.args.budget.now (set_in m set) c.set_weight.result (one_set b off) (c.in_ok-place.ensures.read p).at (c.set_weight.ensures m) c.in_err-add.field-0.0 c.in_err-add.ensures.refused)
+
+pub returns-clause-read : goal.returns-clause-read
+returns-clause-read c = λ p.
+    record { is_read = c.in_ok-place.ensures.read p; counted = counts_as (omega (arith, c.set_weight.ensures c.args.source.now.pools.now)) c.in_ok-add.ensures.counted }

@@ -1,3 +1,4 @@
+use Rattle.std.proofs.Common.{arith}
 use Rattle.std.proofs.lemmas.Result.{err_from_is_err_and}
 use Rattle.dexval.proofs.directory_reading.directory_at.Goals as goal
 
@@ -5,3 +6,8 @@ pub returns-in_err-places-clause-refused : goal.returns-in_err-places-clause-ref
 returns-in_err-places-clause-refused c = λ p.
     let e = err_from_is_err_and c.from_residual.result c.from_residual.ensures.1 in
     rw (e.1, e.2) (c.in_err-places.ensures.refused p)
+
+pub returns-clause-read : goal.returns-clause-read
+returns-clause-read c = λ p.
+    let h = c.in_ok-places.ensures.read p in
+    record { is = h.is_read; within = omega (arith, h.counted.grown, h.counted.same_most, h.counted.within (omega arith)) }

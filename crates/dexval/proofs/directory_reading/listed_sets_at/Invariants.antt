@@ -1,18 +1,17 @@
-use Rattle.std.specs.Prelude.{◌≡◌, ◌+◌, ◌≤◌, Some, All, map, sum_by}
+use Rattle.std.specs.Prelude.{◌≡◌, ◌+◌, Some, All, map, sum_by}
 use Rattle.std.specs.List.{Contains}
 use Rattle.dexval.specs.Nesting.{HasPools}
-use Rattle.dexval.specs.Directories.{IsKept, set_weight_in}
+use Rattle.dexval.specs.Directories.{set_weight_in}
 use Rattle.dexval.specs.DirectoryCache.{AreCached, IsNoted}
 use Rattle.dexval.specs.Tables.{IsPlaceIn, set_at}
+use Rattle.dexval.specs.internal.Counting.{HasCounted}
 use Rattle.dexval.proofs.DirectoryRead.{HaveReadList}
 use Rattle.dexval.proofs.directory_reading.listed_sets_at.Given as goal
 
 abbrev pub invariant-loop-i : goal.invariant-loop-i
 invariant-loop-i l = record {
-  bound : l.budget.most ≡ l.fn.budget.most;
-  grows : l.fn.budget.weight ≤ l.budget.weight;
   lists : l.cache.lists ≡ l.fn.cache.lists;
-  noted : IsNoted (λ i. Contains l.places.items (Some i)) (λ i. ⊥) (All (IsPlaceIn l.cache.table.sets) l.places.items) (l.budget.weight ≤ l.budget.most) l.fn.cache l.cache;
+  noted : IsNoted (λ i. Contains l.places.items (Some i)) (λ i. ⊥) (All (IsPlaceIn l.cache.table.sets) l.places.items) l.fn.cache l.cache;
   cache : HasPools l.source.frame.now l.source.pools.now → AreCached l.source.frame.now l.source.pools.now l.cache;
-  read : HasPools l.source.frame.now l.source.pools.now → IsKept (HaveReadList l.source.frame.now (l.off + 4) l.source.pools.now l.i) (λ ss. l.list + sum_by (set_weight_in l.source.pools.now) ss) l.fn.budget.most l.fn.budget.weight l.budget.weight (map (set_at l.cache.table.sets) l.places.items);
+  read : HasPools l.source.frame.now l.source.pools.now → HasCounted (HaveReadList l.source.frame.now (l.off + 4) l.source.pools.now l.i) (λ ss. l.list + sum_by (set_weight_in l.source.pools.now) ss) l.fn.budget l.budget (map (set_at l.cache.table.sets) l.places.items);
 }

@@ -1,7 +1,7 @@
-use Rattle.std.specs.Prelude.{◌≡◌, ◌^◌, ◌≤◌, Some, map, sum_by}
+use Rattle.std.specs.Prelude.{◌^◌, ◌≤◌, Some, map, sum_by}
 use Rattle.dexval.specs.Nesting.{HasPools}
-use Rattle.dexval.specs.Directories.{IsKept}
 use Rattle.dexval.specs.DirectoryCache.{AreCached}
+use Rattle.dexval.specs.internal.Counting.{HasCounted}
 use Rattle.dexval.proofs.DirectoryRead.{HaveReadPairs}
 use Rattle.dexval.proofs.Naming.{AreNoted}
 use Rattle.dexval.proofs.directory_reading.members_at.Given as goal
@@ -9,9 +9,7 @@ use Rattle.dexval.proofs.directory_reading.members_at.Given as goal
 abbrev pub invariant-loop-i : goal.invariant-loop-i
 invariant-loop-i g l = record {
   least_fits : l.least ≤ 2 ^ 32;
-  bound : l.budget.most ≡ l.fn.budget.most;
-  grows : l.fn.budget.weight ≤ l.budget.weight;
-  noted : AreNoted g.T.OfMember.is_held g.T.OfMember.names_set g.T.OfMember.names_list (l.budget.weight ≤ l.budget.most) l.fn.cache l.cache l.members.items;
+  noted : AreNoted g.T.OfMember.is_held g.T.OfMember.names_set g.T.OfMember.names_list l.fn.cache l.cache l.members.items;
   cache : HasPools l.source.frame.now l.source.pools.now → AreCached l.source.frame.now l.source.pools.now l.cache;
-  read : HasPools l.source.frame.now l.source.pools.now → IsKept (HaveReadPairs (g.T.OfMember.is_known l.source.pools.now) (g.T.OfMember.inside l.source.pools.now) g.T.OfMember.encodes l.source.frame.now l.pairs.at l.pairs.limit l.i l.least) (sum_by (λ e. g.T.OfMember.weighs l.source.pools.now e.1)) l.fn.budget.most l.fn.budget.weight l.budget.weight (map (λ e. (e.0, g.T.OfMember.of l.cache.table (Some e.1))) l.members.items);
+  read : HasPools l.source.frame.now l.source.pools.now → HasCounted (HaveReadPairs (g.T.OfMember.is_known l.source.pools.now) (g.T.OfMember.inside l.source.pools.now) g.T.OfMember.encodes l.source.frame.now l.pairs.at l.pairs.limit l.i l.least) (sum_by (λ e. g.T.OfMember.weighs (g.T.OfMember.inside l.source.pools.now e.1))) l.fn.budget l.budget (map (λ e. (e.0, g.T.OfMember.of l.cache.table (Some e.1))) l.members.items);
 }

@@ -48,7 +48,7 @@ set_or_empty_part b off other s (inl none) = absurd (other none.0)
 set_or_empty_part b off other s (inr is) = record { part = s; is = is.1; lighter = omega arith }
 
 -- at most one set is at an offset
-one_set_or_empty : (b : List ℕ) (off : ℕ) (x y : AnnotationSet) → OrNone SetAt [] b off x → OrNone SetAt [] b off y → x ≡ y
+pub one_set_or_empty : (b : List ℕ) (off : ℕ) (x y : AnnotationSet) → OrNone SetAt [] b off x → OrNone SetAt [] b off y → x ≡ y
 one_set_or_empty b off x y = one_or_none SetAt [] b off x y (one_set b off x y)
 
 -- ---- members of a list
@@ -350,13 +350,13 @@ numbered_weigh {M} {Y} R weighs (p ∷ ps) (e ∷ es) h =
     omega (arith, sum_by-cons (λ (x : ℕ × Y). weighs x.1) (p.0, e.1) (numbered ps es), sum_by-cons (λ (x : M × Y). weighs x.1) e es, numbered_weigh R weighs ps es h.1)
 
 -- the members of a directory, by their numbers, are a part of it
-rows_part : {M Y : Type 0} (Row : List ℕ → ℕ → M → Type 0) (At : List ℕ → ℕ → Y → Type 0) (weighs : Y → ℕ) (b : List ℕ) (p n limit before total : ℕ) → ((i : ℕ) (x : M) → Row b i x → i < limit) → (es : List (M × Y)) → PairsAt Row At b p n es
+pub rows_part : {M Y : Type 0} (Row : List ℕ → ℕ → M → Type 0) (At : List ℕ → ℕ → Y → Type 0) (weighs : Y → ℕ) (b : List ℕ) (p n limit before total : ℕ) → ((i : ℕ) (x : M) → Row b i x → i < limit) → (es : List (M × Y)) → PairsAt Row At b p n es
     → before + sum_by (λ e. weighs e.1) es ≤ total → HasPart (PairsAt (IsIndexBelow limit) At b p n) (sum_by (λ e. weighs e.1)) before total
 rows_part Row At weighs b p n limit before total below es h le =
     record { part = numbered (pairs_at b p n) es; is = rows_numbered Row At b p n limit below es h; lighter = omega (arith, le, numbered_weigh (PairAt Row At b) weighs (pairs_at b p n) es h.pairs) }
 
 -- they weigh what the members weigh that were read
-rows_weigh : {M X Y : Type 0} (Row : List ℕ → ℕ → M → Type 0) (Known : X → Type 0) (inside : X → Y) (At : List ℕ → ℕ → Y → Type 0) (weighs : Y → ℕ) → ((b : List ℕ) (o : ℕ) (x y : Y) → At b o x → At b o y → x ≡ y) → (b : List ℕ) (p n limit : ℕ)
+pub rows_weigh : {M X Y : Type 0} (Row : List ℕ → ℕ → M → Type 0) (Known : X → Type 0) (inside : X → Y) (At : List ℕ → ℕ → Y → Type 0) (weighs : Y → ℕ) → ((b : List ℕ) (o : ℕ) (x y : Y) → At b o x → At b o y → x ≡ y) → (b : List ℕ) (p n limit : ℕ)
     → ((i : ℕ) (x : M) → Row b i x → i < limit) → (es : List (M × Y)) (xs : List (ℕ × X)) → PairsAt Row At b p n es → ArePairsAt Known inside At b p n limit xs → sum_by (λ e. weighs e.1) es ≡ sum_by (λ e. weighs (inside e.1)) xs
 rows_weigh {M} {X} {Y} Row Known inside At weighs one b p n limit below es xs h g =
     let entry : ℕ × X → ℕ × Y = λ e. (e.0, inside e.1) in
@@ -384,10 +384,10 @@ module _ (b : List ℕ) (o : ℕ) (m : Mentions) (file : HasPools b m) where
   method_row : (i : ℕ) → i < length m.methods → MethodRow b i (method_at m i)
   method_row i lt = file.pools.methods_are.each i (record { class = []; name = []; proto = record { return_type = []; parameters = [] } }) (omega (arith, lt, file.pools.methods_are.count))
 
-  field_below : (i : ℕ) (f : Field) → FieldRow b i f → i < length m.fields
+  pub field_below : (i : ℕ) (f : Field) → FieldRow b i f → i < length m.fields
   field_below i f r = omega (arith, r.row, file.pools.fields_are.count)
 
-  method_below : (i : ℕ) (x : Method) → MethodRow b i x → i < length m.methods
+  pub method_below : (i : ℕ) (x : Method) → MethodRow b i x → i < length m.methods
   method_below i x r = omega (arith, r.row, file.pools.methods_are.count)
 
   pub no_fields : NoPairsAt SetAt b (o + 16) (fields_count b o) (length m.fields) → NoDirectoryAt b o
@@ -401,35 +401,6 @@ module _ (b : List ℕ) (o : ℕ) (m : Mentions) (file : HasPools b m) where
       let place : o + 16 + 8 * (fields_count b o + methods_count b o) ≡ o + 16 + 8 * fields_count b o + 8 * methods_count b o = omega arith in
       no_rows MethodRow RefListAt b (o + 16 + 8 * fields_count b o + 8 * methods_count b o) (parameters_count b o) (length m.methods) method_below none d.parameters
       (subst (λ (p : ℕ). PairsAt MethodRow RefListAt b p (parameters_count b o) d.parameters) place h.parameters)
-
-  -- the members of each kind are a part of the directory, after the parts before them
-  module _ (own : NumberedSet) (own_is : IsSetOrEmptyAt b (uint_at b o) m own) where
-    pub fields_part : (d : Directory) → DirectoryAt b o d → HasPart (PairsAt (IsIndexBelow (length m.fields)) SetAt b (o + 16) (fields_count b o)) (sum_by (λ e. set_weight e.1)) (set_weight_in m own) (directory_weight d)
-    fields_part d h =
-        rows_part FieldRow SetAt set_weight b (o + 16) (fields_count b o) (length m.fields) (set_weight_in m own) (directory_weight d) field_below d.fields h.fields (omega (arith, ap set_weight (one_set_or_empty b (uint_at b o) (set_in m own) d.own own_is.at h.own)))
-
-    module _ (fields : List (ℕ × NumberedSet)) (fields_are : ArePairsAt (IsKnownSet m) (set_in m) SetAt b (o + 16) (fields_count b o) (length m.fields) fields) where
-      pub methods_part : (d : Directory) → DirectoryAt b o d
-          → HasPart (PairsAt (IsIndexBelow (length m.methods)) SetAt b (o + 16 + 8 * fields_count b o) (methods_count b o)) (sum_by (λ e. set_weight e.1)) (set_weight_in m own + sum_by (λ e. set_weight_in m e.1) fields) (directory_weight d)
-      methods_part d h =
-          rows_part MethodRow SetAt set_weight b (o + 16 + 8 * fields_count b o) (methods_count b o) (length m.methods) (set_weight_in m own + sum_by (λ (e : ℕ × NumberedSet). set_weight_in m e.1) fields) (directory_weight d) method_below d.methods h.methods
-          (omega (arith, ap set_weight (one_set_or_empty b (uint_at b o) (set_in m own) d.own own_is.at h.own), rows_weigh FieldRow (IsKnownSet m) (set_in m) SetAt set_weight one_set b (o + 16) (fields_count b o) (length m.fields) field_below d.fields fields h.fields fields_are))
-
-      module _ (methods : List (ℕ × NumberedSet)) (methods_are : ArePairsAt (IsKnownSet m) (set_in m) SetAt b (o + 16 + 8 * fields_count b o) (methods_count b o) (length m.methods) methods) where
-        pub parameters_part : (d : Directory) → DirectoryAt b o d
-            → HasPart (PairsAt (IsIndexBelow (length m.methods)) RefListAt b (o + 16 + 8 * fields_count b o + 8 * methods_count b o) (parameters_count b o)) (sum_by (λ e. ref_list_weight e.1))
-            (set_weight_in m own + sum_by (λ e. set_weight_in m e.1) fields + sum_by (λ e. set_weight_in m e.1) methods) (directory_weight d)
-        parameters_part d h =
-            let place : o + 16 + 8 * (fields_count b o + methods_count b o) ≡ o + 16 + 8 * fields_count b o + 8 * methods_count b o = omega arith in
-            rows_part MethodRow RefListAt ref_list_weight b (o + 16 + 8 * fields_count b o + 8 * methods_count b o) (parameters_count b o) (length m.methods)
-            (set_weight_in m own + sum_by (λ (e : ℕ × NumberedSet). set_weight_in m e.1) fields + sum_by (λ (e : ℕ × NumberedSet). set_weight_in m e.1) methods) (directory_weight d) method_below d.parameters
-            (subst (λ (p : ℕ). PairsAt MethodRow RefListAt b p (parameters_count b o) d.parameters) place h.parameters)
-            (omega (
-              arith,
-              ap set_weight (one_set_or_empty b (uint_at b o) (set_in m own) d.own own_is.at h.own),
-              rows_weigh FieldRow (IsKnownSet m) (set_in m) SetAt set_weight one_set b (o + 16) (fields_count b o) (length m.fields) field_below d.fields fields h.fields fields_are,
-              rows_weigh MethodRow (IsKnownSet m) (set_in m) SetAt set_weight one_set b (o + 16 + 8 * fields_count b o) (methods_count b o) (length m.methods) method_below d.methods methods h.methods methods_are,
-            ))
 
   -- all parts were read
   pub directory_read : (own : NumberedSet) (fields methods : List (ℕ × NumberedSet)) (parameters : List (ℕ × List NumberedSet)) → HasMembers b o → IsSetOrEmptyAt b (uint_at b o) m own

@@ -1,23 +1,20 @@
 -- What is counted of a directory while it is read.
 use Rattle.std.proofs.Common.{◌≡◌, ℕ, ◌+◌, ◌-◌, ◌*◌, ◌^◌, ◌<◌, min, List, [], ◌∷◌, ◌++◌, length, map, sum_by, refl, ap, sym, subst, ◌∙◌, arith}
-use Rattle.std.specs.Prelude.{All}
 use Rattle.std.proofs.lemmas.List.{length-map}
 use Rattle.std.proofs.lemmas.List.Sums.{sum_by-append, sum_by-cons}
 use Rattle.dexspec.specs.Lists.{OrNone}
-use Rattle.dexspec.specs.Bytes.{uint_at, uints_at}
+use Rattle.dexspec.specs.Bytes.{uints_at}
 use Rattle.dexspec.specs.Symbols.{Field, Method}
-use Rattle.dexspec.specs.Annotations.{AnnotationSet, SetAt, RefListAt, fields_count, methods_count, parameters_count}
+use Rattle.dexspec.specs.Annotations.{AnnotationSet, SetAt}
 use Rattle.dexspec.specs.Mentions.{Mentions}
 use Rattle.dexspec.specs.Weight.{set_weight, ref_list_weight}
 use Rattle.dexspec.proofs.wellformed.FormedRows.{length-uints_at, length-zip}
 use Rattle.dexspec.proofs.size.SizeSums.{sum_by-map}
-use Rattle.dexval.specs.Numbered.{NumberedSet, NumberedDirectory, IsKnownSet, set_in, directory_in, field_at, method_at}
-use Rattle.dexval.specs.Nesting.{HasPools}
-use Rattle.dexval.specs.Directories.{IsSetOrEmptyAt, ArePairsAt, HasMembers, directory_weight, set_weight_in, sets_weight_in}
-use Rattle.dexval.specs.Reading.{IsDirectoryAt}
+use Rattle.dexval.specs.Numbered.{NumberedSet, NumberedDirectory, set_in, directory_in, field_at, method_at}
+use Rattle.dexval.specs.Directories.{directory_weight, set_weight_in, sets_weight_in}
 use Rattle.dexval.specs.declared.budget.Budget.{Budget}
 use Rattle.dexval.specs.internal.Counting.{Counts, HasCounted}
-use Rattle.dexval.proofs.DirectoryRead.{HaveReadList, directory_read}
+use Rattle.dexval.proofs.DirectoryRead.{HaveReadList}
 
 -- ---- steps
 
@@ -73,20 +70,8 @@ parts_weigh m d =
       sum_by-map (λ (e : Method × List AnnotationSet). ref_list_weight e.1) (λ (e : ℕ × List NumberedSet). (method_at m e.0, map (set_in m) e.1)) d.parameters,
     )
 
-abbrev directory_parts : NumberedSet → List (ℕ × NumberedSet) → List (ℕ × NumberedSet) → List (ℕ × List NumberedSet) → NumberedDirectory
+abbrev pub directory_parts : NumberedSet → List (ℕ × NumberedSet) → List (ℕ × NumberedSet) → List (ℕ × List NumberedSet) → NumberedDirectory
 directory_parts own fields methods parameters = record { own = own; fields = fields; methods = methods; parameters = parameters }
 
 pub same_parts : {a b : NumberedSet} {c d e f : List (ℕ × NumberedSet)} {g h : List (ℕ × List NumberedSet)} → a ≡ b → c ≡ d → e ≡ f → g ≡ h → directory_parts a c e g ≡ directory_parts b d f h
 same_parts own fields methods parameters = cc
-
--- all parts were read
-pub directory_counted : (b : List ℕ) (o : ℕ) (m : Mentions) → HasPools b m → {w0 w1 w2 w3 w4 : Budget} {own : NumberedSet} {fields methods : List (ℕ × NumberedSet)} {parameters : List (ℕ × List NumberedSet)} → HasMembers b o
-    → HasCounted (IsSetOrEmptyAt b (uint_at b o) m) (set_weight_in m) w0 w1 own
-    → HasCounted (ArePairsAt (IsKnownSet m) (set_in m) SetAt b (o + 16) (fields_count b o) (length m.fields)) (sum_by (λ e. set_weight_in m e.1)) w1 w2 fields
-    → HasCounted (ArePairsAt (IsKnownSet m) (set_in m) SetAt b (o + 16 + 8 * fields_count b o) (methods_count b o) (length m.methods)) (sum_by (λ e. set_weight_in m e.1)) w2 w3 methods
-    → HasCounted (ArePairsAt (All (IsKnownSet m)) (map (set_in m)) RefListAt b (o + 16 + 8 * fields_count b o + 8 * methods_count b o) (parameters_count b o) (length m.methods)) (sum_by (λ e. sets_weight_in m e.1)) w3 w4 parameters
-    → HasCounted (IsDirectoryAt b o m) (λ d. directory_weight (directory_in m d)) w0 w4 (directory_parts own fields methods parameters)
-directory_counted b o m file {w0} {w1} {w2} {w3} {w4} {own} {fields} {methods} {parameters} has h1 h2 h3 h4 = record {
-  is_read = directory_read b o m file own fields methods parameters has h1.is_read h2.is_read h3.is_read h4.is_read;
-  counted = counts_as (ap (min (2 ^ 64 - 1)) (sym (parts_weigh m (directory_parts own fields methods parameters)))) (counts_then (counts_then (counts_then h1.counted h2.counted) h3.counted) h4.counted);
-}

@@ -4,6 +4,7 @@ pub mod Counts
 pub mod Compared
 pub mod Copies
 pub mod DirectoryChecked
+pub mod DirectoryCounted
 pub mod DirectoryRead
 pub mod ElementsRead
 pub mod Encodings

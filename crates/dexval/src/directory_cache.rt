@@ -1,16 +1,14 @@
 //! The sets and lists that a directory of annotations names, each read once even if several members name it.
 
-ghost use Rattle.std.specs.Prelude.{◌≡◌, ℕ, List, [], All, IfOk, IfErr, None, OnOk, Some, map, nat_eq};
-ghost use Rattle.std.specs.HashMap.{get};
+ghost use Rattle.std.specs.Prelude.{◌≡◌, ℕ, List, [], IfOk, IfErr, OnOk, Some};
 ghost use Rattle.dexspec.specs.Annotations.{SetAt};
 ghost use Rattle.dexspec.specs.Lists.{OrNone};
 ghost use Rattle.dexspec.specs.Mentions.{Mentions};
 ghost use Rattle.dexspec.specs.Weight.{set_weight};
-ghost use Rattle.dexval.specs.Code.{set_of};
 ghost use Rattle.dexval.specs.DirectoryCache.{AreHeld, AreCached};
 ghost use Rattle.dexval.specs.Reading.{IsSetAt, IsSetFault};
-ghost use Rattle.dexval.specs.Tables.{IsPlaceIn, set_at, sets_at};
-ghost use Rattle.dexval.specs.internal.Counting.{IsFile, IsCacheOf, IsSetNoted, IsOneListNoted, ListsPlaces, KeepsSetCached, KeepsListCached, HasCountedSet, HasCountedSetOrEmpty, IsFaultWithin};
+ghost use Rattle.dexval.specs.Tables.{set_at};
+ghost use Rattle.dexval.specs.internal.Counting.{IsFile, IsCacheOf, IsSetNoted, HasCountedSet, HasCountedSetOrEmpty, IsFaultWithin};
 
 use crate::budget::Budget;
 use crate::file_source::FileSource;
@@ -18,7 +16,7 @@ use crate::set::AnnotationSet;
 use crate::set_reading::read_set;
 use crate::set_table::SetTable;
 use dexpool::ItemFault;
-use std::alloc::{AllocError, Global};
+use std::alloc::Global;
 use std::collections::HashMap;
 
 /// The cache of a directory: the items that were read, and their places by offset.
@@ -47,22 +45,6 @@ impl DirectoryCache {
     }
 }
 
-// Records the set at an offset, which is read for the first time. Returns its place.
-//
-// Condition: no set is recorded at the offset.
-fn note_set(off: u32, set: AnnotationSet, cache: &mut DirectoryCache) -> Result<u32, AllocError>
-    requires held { AreHeld cache.old }
-    requires fresh { get nat_eq cache.old.sets off ≡ None }
-    ensures lists { cache.new.lists ≡ cache.old.lists }
-    ensures noted { IfOk result (λ place. IsSetNoted cache.old cache.new (Some place)) }
-    ensures cache { KeepsSetCached off (set_of set) cache.old cache.new result }
-    ensures set { IfOk result (λ place. set_at cache.new.table.sets (Some place) ≡ set_of set) }
-{
-    let place = cache.table.add_set(set)?;
-    cache.sets.insert(off, place)?;
-    Ok(place)
-}
-
 // The place of the set of the annotation_set_item at an offset, which is read if it was not before. Error: there is no
 // set.
 fn cached_set_at(
@@ -84,7 +66,9 @@ fn cached_set_at(
         return Ok(*place);
     }
     let set = read_set(source.alloc, source.frame, source.pools, off)?;
-    Ok(note_set(off, set, cache)?)
+    let place = cache.table.add_set(set)?;
+    cache.sets.insert(off, place)?;
+    Ok(place)
 }
 
 /// The place of the set of the annotation_set_item at an offset, which is counted. Error: there is no set, or it is too
@@ -131,26 +115,4 @@ pub(crate) fn counted_set_or_empty_at(
         return Ok(None);
     }
     Ok(Some(counted_set_at(source, off, cache, budget)?))
-}
-
-/// Records the list at an offset, which is read for the first time. Returns its place.
-///
-/// Condition: no list is recorded at the offset.
-pub(crate) fn note_list(
-    off: u32,
-    places: Vec<Option<u32>>,
-    cache: &mut DirectoryCache,
-) -> Result<u32, AllocError>
-    requires held { AreHeld cache.old }
-    requires fresh { get nat_eq cache.old.lists off ≡ None }
-    requires places { All (IsPlaceIn cache.old.table.sets) places.items }
-    ensures noted { IfOk result (IsOneListNoted cache.old cache.new) }
-    ensures listed { OnOk result (ListsPlaces cache.new.table places.items) }
-    ensures cache { KeepsListCached off places.items cache.old cache.new result }
-    ensures list { IfOk result (λ place. sets_at cache.new.table (Some place)
-        ≡ map (set_at cache.old.table.sets) places.items) }
-{
-    let place = cache.table.add_list(places)?;
-    cache.lists.insert(off, place)?;
-    Ok(place)
 }

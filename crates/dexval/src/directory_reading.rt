@@ -19,7 +19,7 @@ ghost use Rattle.dexval.specs.internal.Counting.{IsFile, IsCacheOf, AreSetsNoted
 
 use crate::budget::Budget;
 use crate::directory::{Directory, MemberCounts, SharedDirectory};
-use crate::directory_cache::{DirectoryCache, counted_set_at, counted_set_or_empty_at, note_list};
+use crate::directory_cache::{DirectoryCache, counted_set_at, counted_set_or_empty_at};
 use crate::file_source::FileSource;
 use crate::set_reading::count_at;
 use dexhead::{Condition, Frame, u32_at};
@@ -146,7 +146,9 @@ fn counted_list_at(
         return Ok(place);
     }
     let places = listed_sets_at(source, off, cache, budget)?;
-    Ok(note_list(off, places, cache)?)
+    let place = cache.table.add_list(places)?;
+    cache.lists.insert(off, place)?;
+    Ok(place)
 }
 
 // A part of a directory for a member, by its place in the table: a set of annotations, or the sets of its parameters.

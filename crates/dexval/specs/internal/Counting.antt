@@ -1,6 +1,6 @@
 -- Items of a file that are read into the cache of a directory, and counted against a budget; and items that are
 -- checked.
-use Rattle.std.specs.Prelude.{◌≡◌, ◌⊎◌, ℕ, ◌+◌, ◌-◌, ◌^◌, ◌<◌, ◌≤◌, min, List, Option, Some, Result, All, OnOk, map, sum_by}
+use Rattle.std.specs.Prelude.{◌≡◌, ◌⊎◌, ℕ, ◌+◌, ◌-◌, ◌^◌, ◌<◌, ◌≤◌, min, List, Option, Some, All, map, sum_by}
 use Rattle.std.specs.Global.{Vec}
 use Rattle.std.specs.List.{Contains}
 use Rattle.dexspec.specs.Bytes.{uint_at}
@@ -18,7 +18,7 @@ use Rattle.dexval.specs.Directories.{IsKnownAt, IsSetOrEmptyAt, IsRefListAt, IsI
 use Rattle.dexval.specs.DirectoryCache.{AreCached, IsNoted, IsNamedOf}
 use Rattle.dexval.specs.Items.{IsRefusal}
 use Rattle.dexval.specs.Nesting.{HasPools}
-use Rattle.dexval.specs.Numbered.{NumberedSet, directory_in}
+use Rattle.dexval.specs.Numbered.{directory_in}
 use Rattle.dexval.specs.Reading.{IsSetAt, IsDirectoryAt}
 use Rattle.dexval.specs.Shared.{HoldsPlaces, NamesAll, looked_up}
 use Rattle.dexval.specs.Tables.{NumberedTable, IsPlaceIn, IsListed, set_at, sets_at}
@@ -43,10 +43,6 @@ IsSetNoted old new place = IsNoted (λ i. place ≡ Some i) (λ i. ⊥) (IsPlace
 abbrev pub AreSetsNoted : DirectoryCache → DirectoryCache → Vec (Option ℕ) → Type 0
 AreSetsNoted old new places = IsNoted (λ i. Contains places.items (Some i)) (λ i. ⊥) (All (IsPlaceIn new.table.sets) places.items) old new
 
--- a list was recorded at the place, and no set
-abbrev pub IsOneListNoted : DirectoryCache → DirectoryCache → ℕ → Type 0
-IsOneListNoted old new place = IsNoted (λ i. ⊥) (λ i. Some place ≡ Some i) (IsPlaceIn new.table.lists (Some place)) old new
-
 -- a list was recorded at the place, and its sets
 abbrev pub IsListNoted : DirectoryCache → DirectoryCache → ℕ → Type 0
 IsListNoted old new place = IsNoted (IsListed new.table) (λ i. Some place ≡ Some i) (IsPlaceIn new.table.lists (Some place)) old new
@@ -59,18 +55,6 @@ IsItemNoted is_held names_set names_list old new place = IsNoted (names_set new.
 abbrev pub AreAllNoted : (NumberedTable → Option ℕ → Type 0) → (NumberedTable → Option ℕ → ℕ → Type 0) → (Option ℕ → ℕ → Type 0) → DirectoryCache → DirectoryCache → Vec (ℕ × ℕ) → Type 0
 AreAllNoted is_held names_set names_list old new members =
     IsNoted (IsNamedOf (names_set new.table) members.items) (IsNamedOf names_list members.items) (All (λ e. is_held new.table (Some e.1)) members.items) old new
-
--- some list of the table has each of the places
-abbrev pub ListsPlaces : NumberedTable → List (Option ℕ) → Type 0
-ListsPlaces t places = (i : ℕ) → Contains places (Some i) → IsListed t i
-
--- a cache of a file that has the set at the offset is still one
-abbrev pub KeepsSetCached : {E : Type 0} → ℕ → NumberedSet → DirectoryCache → DirectoryCache → Result ℕ E → Type 0
-KeepsSetCached off set old new r = (b : List ℕ) (m : Mentions) → IsSetAt b off m set → AreCached b m old → OnOk r (AreCached b m new)
-
--- a cache of a file that has the list of these sets at the offset is still one
-abbrev pub KeepsListCached : {E : Type 0} → ℕ → List (Option ℕ) → DirectoryCache → DirectoryCache → Result ℕ E → Type 0
-KeepsListCached off places old new r = (b : List ℕ) (m : Mentions) → IsRefListAt b off m (map (set_at old.table.sets) places) → AreCached b m old → OnOk r (AreCached b m new)
 
 -- ---- items that are counted
 

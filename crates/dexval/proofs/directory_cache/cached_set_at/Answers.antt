@@ -1,5 +1,54 @@
-use Rattle.std.proofs.Common.{sym}
+use Rattle.std.proofs.Common.{◌≡◌, ◌+◌, ◌∷◌, [], length, None, nat_eq, refl, sym, ap, subst, arith, rules, length-append}
+use Rattle.std.specs.HashMap.{get}
+use Rattle.dexval.specs.declared.directory_cache.DirectoryCache.{DirectoryCache}
+use Rattle.dexval.specs.Reading.{IsSetAt}
+use Rattle.dexval.specs.Code.{set_of}
+use Rattle.dexval.specs.DirectoryCache.{HaveOffsets}
+use Rattle.dexval.specs.Tables.{NumberedTable}
+use Rattle.dexval.proofs.CachedSets.{set_cached}
+use Rattle.dexval.proofs.PlacedItems.{fewer, one_placed}
+use Rattle.dexval.proofs.TableGrowth.{set_is_added}
 use Rattle.dexval.proofs.directory_cache.cached_set_at.Goals as goal
 
 pub returns-in-Some-clause-read : goal.returns-in-Some-clause-read
 returns-in-Some-clause-read c = λ p. (c.requires.cache p).sets_cached c.args.off c.in-Some.place.now (sym c.in-Some.ensures.value)
+
+pub add_set-requires : goal.add_set-requires
+add_set-requires c =
+    let fresh : get nat_eq c.args.cache.now.sets c.args.off ≡ None = search rules in
+    fewer (λ off. get nat_eq c.args.cache.now.sets off) _ c.args.off c.requires.held.sets_placed fresh (omega arith)
+
+pub returns-clause-noted : goal.returns-clause-noted
+returns-clause-noted c =
+    let old = c.args.cache.now in
+    let grown = c.in_ok-place.ensures.table in
+    let updates = c.in_ok-insert.ensures.updates in
+    let fresh : get nat_eq old.sets c.args.off ≡ None = search rules in
+    let more : length c.add_set.new.self.sets ≡ length old.table.sets + 1 = omega (arith, ap (λ (t : NumberedTable). length t.sets) grown, length-append old.table.sets (set_of c.in_ok-set.set ∷ [])) in
+    record {
+      extended = c.in_ok-place.ensures.extends;
+      noted_held = record {
+        sets_held = search rules;
+        lists_held = search rules;
+        sets_placed = one_placed (λ off. get nat_eq old.sets off) (length old.table.sets) c.args.off c.requires.held.sets_placed fresh (omega arith) (λ off. get nat_eq c.insert.new.self off) c.in_ok-place.place (length c.add_set.new.self.sets) updates.1 updates.2 more;
+        lists_placed = subst (HaveOffsets (λ off. get nat_eq old.lists off)) (sym (ap (λ (t : NumberedTable). length t.lists) grown)) c.requires.held.lists_placed;
+      };
+      held = search rules;
+      named = search rules;
+    }
+
+pub returns-clause-read : goal.returns-clause-read
+returns-clause-read c = λ p.
+    subst (IsSetAt c.args.source.now.frame.now c.args.off c.args.source.now.pools.now)
+    (sym (set_is_added c.args.cache.now.table c.add_set.new.self (set_of c.in_ok-set.set) c.in_ok-place.place c.in_ok-place.ensures.place c.in_ok-place.ensures.table)) (c.in_ok-set.ensures.set p.pools)
+
+pub returns-clause-cache : goal.returns-clause-cache
+returns-clause-cache c = λ p.
+    let b = c.args.source.now.frame.now in
+    let m = c.args.source.now.pools.now in
+    let o = c.args.off in
+    let place = c.in_ok-place.place in
+    let old = c.args.cache.now in
+    let new : DirectoryCache = record { table = c.add_set.new.self; sets = c.insert.new.self; lists = old.lists } in
+    let encodes = subst (IsSetAt b o m) (sym (set_is_added old.table new.table (set_of c.in_ok-set.set) place c.in_ok-place.ensures.place c.in_ok-place.ensures.table)) (c.in_ok-set.ensures.set p.pools) in
+    set_cached b m old new o place c.in_ok-place.ensures.extends c.requires.held (c.requires.cache p) c.in_ok-insert.ensures.updates.1 c.in_ok-insert.ensures.updates.2 refl encodes

@@ -1,18 +1,16 @@
-use Rattle.std.proofs.Common.{◌≡◌, ◌+◌, ◌*◌, ◌∙◌, ℕ, List, [], length, map, sum_by, refl, ap, sym, subst, arith, inl}
-use Rattle.std.specs.Prelude.{All}
+use Rattle.std.proofs.Common.{◌≡◌, ◌∙◌, ℕ, List, [], refl, ap, sym, subst, arith, inl}
 use Rattle.std.proofs.lemmas.Result.{err_from_is_err_and}
-use Rattle.dexspec.specs.Annotations.{AnnotationSet, SetAt, RefListAt, DirectoryAt, fields_count, methods_count}
+use Rattle.dexspec.specs.Annotations.{SetAt, DirectoryAt}
 use Rattle.dexspec.specs.Bytes.{uint_at}
 use Rattle.dexspec.specs.Lists.{OrNone}
-use Rattle.dexspec.specs.Weight.{set_weight, ref_list_weight}
-use Rattle.dexval.specs.Numbered.{NumberedSet, IsKnownSet, set_in, directory_in}
-use Rattle.dexval.specs.Directories.{IsSetOrEmptyAt, ArePairsAt, directory_weight, set_weight_in}
+use Rattle.dexspec.specs.Weight.{set_weight}
+use Rattle.dexval.specs.Numbered.{directory_in}
+use Rattle.dexval.specs.Directories.{directory_weight}
 use Rattle.dexval.specs.Reading.{IsDirectoryAt}
-use Rattle.dexval.specs.Shared.{sets_of_members}
-use Rattle.dexval.specs.Tables.{set_at}
 use Rattle.dexval.specs.internal.Counting.{HasCounted}
-use Rattle.dexval.proofs.DirectoryRead.{no_members, own_part, fields_part, methods_part, parameters_part, pairs_moved, part_moved}
-use Rattle.dexval.proofs.Keeping.{counts_then, directory_counted, same_parts}
+use Rattle.dexval.proofs.DirectoryCounted.{fields_refused, methods_refused, parameters_refused, directory_counted}
+use Rattle.dexval.proofs.DirectoryRead.{no_members, own_part}
+use Rattle.dexval.proofs.Keeping.{same_parts}
 use Rattle.dexval.proofs.Naming.{directory_held, directory_named, own_stays, fields_stay, methods_stay}
 use Rattle.dexval.proofs.Refusals.{HasPart, none_counted, part_refused}
 use Rattle.dexval.proofs.directory_reading.counted_directory_at.Goals as goal
@@ -34,61 +32,26 @@ returns-in_err-own-clause-refused c = λ p.
 pub returns-in_err-fields-clause-refused : goal.returns-in_err-fields-clause-refused
 returns-in_err-fields-clause-refused c = λ p.
     let b = c.args.source.now.frame.now in
-    let m = c.args.source.now.pools.now in
     let o = c.args.off in
-    let place : c.u32_at-own_off.result ≡ uint_at b o = c.u32_at-own_off.ensures ∙ ap (λ (x : List ℕ). uint_at x o) c.bytes-bytes.ensures.bytes in
-    let own = set_at c.counted_set_or_empty_at.new.cache.table.sets c.in_ok-own.own in
-    let r1 = c.in_ok-own.ensures.read p in
-    let own_is : IsSetOrEmptyAt b (uint_at b o) m own = subst (λ (n : ℕ). IsSetOrEmptyAt b n m own) place r1.is_read in
-    let all = sum_by (λ (e : ℕ × AnnotationSet). set_weight e.1) in
+    let place = c.u32_at-own_off.ensures ∙ ap (λ (x : List ℕ). uint_at x o) c.bytes-bytes.ensures.bytes in
     let e = err_from_is_err_and c.from_residual-in_err-fields.result c.from_residual-in_err-fields.ensures.1 in
-    rw (e.1, e.2)
-    (part_refused (DirectoryAt b o) _ directory_weight all c.args.budget.now c.counted_set_or_empty_at.new.budget (set_weight_in m own) r1.counted
-    (λ d k. part_moved SetAt all b (set_weight_in m own) (directory_weight d) (omega arith) c.in-Some.ensures.some.1 c.len-limit.ensures (fields_part b o m p own own_is d k)) c.in_err-fields.field-0.0 (c.in_err-fields.ensures.refused p))
+    rw (e.1, e.2) (fields_refused b o c.args.source.now.pools.now p place (c.in_ok-own.ensures.read p) (omega arith, c.in-Some.ensures.some.1, c.len-limit.ensures) c.in_err-fields.field-0.0 (c.in_err-fields.ensures.refused p))
 
 pub returns-in_err-methods-clause-refused : goal.returns-in_err-methods-clause-refused
 returns-in_err-methods-clause-refused c = λ p.
     let b = c.args.source.now.frame.now in
-    let m = c.args.source.now.pools.now in
     let o = c.args.off in
-    let place : c.u32_at-own_off.result ≡ uint_at b o = c.u32_at-own_off.ensures ∙ ap (λ (x : List ℕ). uint_at x o) c.bytes-bytes.ensures.bytes in
-    let own = set_at c.counted_set_or_empty_at.new.cache.table.sets c.in_ok-own.own in
-    let r1 = c.in_ok-own.ensures.read p in
-    let own_is : IsSetOrEmptyAt b (uint_at b o) m own = subst (λ (n : ℕ). IsSetOrEmptyAt b n m own) place r1.is_read in
-    let r2 = c.in_ok-fields.ensures.read p in
-    let fields = sets_of_members c.members_at.new.cache.table c.in_ok-fields.fields.items in
-    let fields_are : ArePairsAt (IsKnownSet m) (set_in m) SetAt b (o + 16) (fields_count b o) (length m.fields) fields = pairs_moved (IsKnownSet m) (set_in m) SetAt b (omega arith) c.in-Some.ensures.some.1 c.len-limit.ensures r2.is_read in
-    let before = set_weight_in m own + sum_by (λ (e : ℕ × NumberedSet). set_weight_in m e.1) fields in
-    let all = sum_by (λ (e : ℕ × AnnotationSet). set_weight e.1) in
+    let place = c.u32_at-own_off.ensures ∙ ap (λ (x : List ℕ). uint_at x o) c.bytes-bytes.ensures.bytes in
     let e = err_from_is_err_and c.from_residual-in_err-methods.result c.from_residual-in_err-methods.ensures.1 in
-    rw (e.1, e.2)
-    (part_refused (DirectoryAt b o) _ directory_weight all c.args.budget.now c.members_at.new.budget before (counts_then r1.counted r2.counted)
-    (λ d k. part_moved SetAt all b before (directory_weight d) (omega (arith, c.in-Some.ensures.some.1)) c.in-Some.ensures.some.2 c.len-limit-2.ensures (methods_part b o m p own own_is fields fields_are d k)) c.in_err-methods.field-0.0
-    (c.in_err-methods.ensures.refused p))
+    rw (e.1, e.2) (methods_refused b o c.args.source.now.pools.now p place (c.in_ok-own.ensures.read p) (omega arith, c.in-Some.ensures.some.1, c.len-limit.ensures) (c.in_ok-fields.ensures.read p) (omega (arith, c.in-Some.ensures.some.1), c.in-Some.ensures.some.2, c.len-limit-2.ensures) c.in_err-methods.field-0.0 (c.in_err-methods.ensures.refused p))
 
 pub returns-in_err-parameters-clause-refused : goal.returns-in_err-parameters-clause-refused
 returns-in_err-parameters-clause-refused c = λ p.
     let b = c.args.source.now.frame.now in
-    let m = c.args.source.now.pools.now in
     let o = c.args.off in
-    let place : c.u32_at-own_off.result ≡ uint_at b o = c.u32_at-own_off.ensures ∙ ap (λ (x : List ℕ). uint_at x o) c.bytes-bytes.ensures.bytes in
-    let own = set_at c.counted_set_or_empty_at.new.cache.table.sets c.in_ok-own.own in
-    let r1 = c.in_ok-own.ensures.read p in
-    let own_is : IsSetOrEmptyAt b (uint_at b o) m own = subst (λ (n : ℕ). IsSetOrEmptyAt b n m own) place r1.is_read in
-    let r2 = c.in_ok-fields.ensures.read p in
-    let r3 = c.in_ok-methods.ensures.read p in
-    let fields = sets_of_members c.members_at.new.cache.table c.in_ok-fields.fields.items in
-    let fields_are : ArePairsAt (IsKnownSet m) (set_in m) SetAt b (o + 16) (fields_count b o) (length m.fields) fields = pairs_moved (IsKnownSet m) (set_in m) SetAt b (omega arith) c.in-Some.ensures.some.1 c.len-limit.ensures r2.is_read in
-    let methods = sets_of_members c.members_at-2.new.cache.table c.in_ok-methods.methods.items in
-    let methods_are : ArePairsAt (IsKnownSet m) (set_in m) SetAt b (o + 16 + 8 * fields_count b o) (methods_count b o) (length m.methods) methods = pairs_moved (IsKnownSet m) (set_in m) SetAt b (omega (arith, c.in-Some.ensures.some.1)) c.in-Some.ensures.some.2 c.len-limit-2.ensures r3.is_read in
-    let weights = sum_by (λ (e : ℕ × NumberedSet). set_weight_in m e.1) in
-    let before = set_weight_in m own + weights fields + weights methods in
-    let all = sum_by (λ (e : ℕ × List AnnotationSet). ref_list_weight e.1) in
+    let place = c.u32_at-own_off.ensures ∙ ap (λ (x : List ℕ). uint_at x o) c.bytes-bytes.ensures.bytes in
     let e = err_from_is_err_and c.from_residual-in_err-parameters.result c.from_residual-in_err-parameters.ensures.1 in
-    rw (e.1, e.2)
-    (part_refused (DirectoryAt b o) _ directory_weight all c.args.budget.now c.members_at-2.new.budget before (counts_then (counts_then r1.counted r2.counted) r3.counted)
-    (λ d k. part_moved RefListAt all b before (directory_weight d) (omega (arith, c.in-Some.ensures.some.1, c.in-Some.ensures.some.2)) c.in-Some.ensures.some.3 c.len-limit-2.ensures (parameters_part b o m p own own_is fields fields_are methods methods_are d k))
-    c.in_err-parameters.field-0.0 (c.in_err-parameters.ensures.refused p))
+    rw (e.1, e.2) (parameters_refused b o c.args.source.now.pools.now p place (c.in_ok-own.ensures.read p) (omega arith, c.in-Some.ensures.some.1, c.len-limit.ensures) (c.in_ok-fields.ensures.read p) (omega (arith, c.in-Some.ensures.some.1), c.in-Some.ensures.some.2, c.len-limit-2.ensures) (c.in_ok-methods.ensures.read p) (omega (arith, c.in-Some.ensures.some.1, c.in-Some.ensures.some.2), c.in-Some.ensures.some.3, c.len-limit-2.ensures) c.in_err-parameters.field-0.0 (c.in_err-parameters.ensures.refused p))
 
 pub returns-clause-held : goal.returns-clause-held
 returns-clause-held c =
@@ -117,18 +80,8 @@ returns-clause-read c = λ p.
     let n2 = c.in_ok-fields.ensures.noted in
     let n3 = c.in_ok-methods.ensures.noted in
     let n4 = c.in_ok-parameters.ensures.noted in
-    let place : c.u32_at-own_off.result ≡ uint_at b o = c.u32_at-own_off.ensures ∙ ap (λ (x : List ℕ). uint_at x o) c.bytes-bytes.ensures.bytes in
-    let own_set = set_at first.table.sets own in
-    let r1 = c.in_ok-own.ensures.read p in
-    let r2 = c.in_ok-fields.ensures.read p in
-    let r3 = c.in_ok-methods.ensures.read p in
-    let r4 = c.in_ok-parameters.ensures.read p in
-    let counted =
-    directory_counted b o m p c.in-Some.ensures.some.0 (record { is_read = subst (λ (n : ℕ). IsSetOrEmptyAt b n m own_set) place r1.is_read; counted = r1.counted })
-    (record { is_read = pairs_moved (IsKnownSet m) (set_in m) SetAt b (omega arith) c.in-Some.ensures.some.1 c.len-limit.ensures r2.is_read; counted = r2.counted })
-    (record { is_read = pairs_moved (IsKnownSet m) (set_in m) SetAt b (omega (arith, c.in-Some.ensures.some.1)) c.in-Some.ensures.some.2 c.len-limit-2.ensures r3.is_read; counted = r3.counted })
-    (record { is_read = pairs_moved (All (IsKnownSet m)) (map (set_in m)) RefListAt b (omega (arith, c.in-Some.ensures.some.1, c.in-Some.ensures.some.2)) c.in-Some.ensures.some.3 c.len-limit-2.ensures r4.is_read; counted = r4.counted })
-    in
+    let place = c.u32_at-own_off.ensures ∙ ap (λ (x : List ℕ). uint_at x o) c.bytes-bytes.ensures.bytes in
+    let counted = directory_counted b o m p place (c.in_ok-own.ensures.read p) (omega arith, c.in-Some.ensures.some.1, c.len-limit.ensures) (c.in_ok-fields.ensures.read p) (omega (arith, c.in-Some.ensures.some.1), c.in-Some.ensures.some.2, c.len-limit-2.ensures) (c.in_ok-methods.ensures.read p) c.in-Some.ensures.some.0 (omega (arith, c.in-Some.ensures.some.1, c.in-Some.ensures.some.2), c.in-Some.ensures.some.3, c.len-limit-2.ensures) (c.in_ok-parameters.ensures.read p) in
     let old = c.args.cache.now in
     let own_is = own_stays old first second third new own fields methods parameters n1 n2 n3 n4 in
     let fields_are = fields_stay old first second third new own fields methods parameters n1 n2 n3 n4 in

@@ -1,15 +1,22 @@
-use Rattle.std.proofs.Common.{Some, map, sym, subst, arith}
+use Rattle.std.proofs.Common.{◌≡◌, ◌+◌, ◌∷◌, [], length, Some, None, nat_eq, map, refl, sym, ap, subst, rules, arith, length-append}
+use Rattle.std.specs.HashMap.{get}
+use Rattle.std.specs.List.{Contains}
+use Rattle.std.proofs.lemmas.List.Elements.{Contains-push}
 use Rattle.std.proofs.lemmas.Result.{err_from_is_err_and}
 use Rattle.dexspec.specs.Annotations.{RefListAt}
 use Rattle.dexspec.specs.Weight.{ref_list_weight}
 use Rattle.dexspec.proofs.determined.OneClass.{one_ref_list}
+use Rattle.dexval.specs.declared.directory_cache.DirectoryCache.{DirectoryCache}
 use Rattle.dexval.specs.Directories.{IsRefListAt, sets_weight_in}
+use Rattle.dexval.specs.DirectoryCache.{HaveOffsets}
 use Rattle.dexval.specs.Numbered.{set_in}
-use Rattle.dexval.specs.Tables.{sets_at}
+use Rattle.dexval.specs.Tables.{NumberedTable, AreNewNamed, sets_at}
 use Rattle.dexval.specs.internal.Counting.{HasCounted}
+use Rattle.dexval.proofs.CachedSets.{list_cached}
 use Rattle.dexval.proofs.Keeping.{counts_as}
+use Rattle.dexval.proofs.PlacedItems.{fewer, one_placed}
 use Rattle.dexval.proofs.Refusals.{item_refused}
-use Rattle.dexval.proofs.TableGrowth.{extends_then, new_then}
+use Rattle.dexval.proofs.TableGrowth.{extends_then, new_then, list_is_added}
 use Rattle.dexval.proofs.directory_reading.counted_list_at.Goals as goal
 
 pub returns-in-Some-clause-read : goal.returns-in-Some-clause-read
@@ -31,24 +38,51 @@ returns-in_err-places-clause-refused c = λ p.
     let e = err_from_is_err_and c.from_residual-in_err-places.result c.from_residual-in_err-places.ensures.1 in
     rw (e.1, e.2) (c.in_err-places.ensures.refused p)
 
+pub add_list-requires-clause-few : goal.add_list-requires-clause-few
+add_list-requires-clause-few c =
+    let mid = c.listed_sets_at.new.cache in
+    let fresh : get nat_eq mid.lists c.args.off ≡ None = search rules in
+    fewer (λ off. get nat_eq mid.lists off) _ c.args.off c.in_ok-places.ensures.noted.noted_held.lists_placed fresh (omega arith)
+
 pub returns-clause-noted : goal.returns-clause-noted
 returns-clause-noted c =
-    let old = c.args.cache.now.table in
-    let mid = c.listed_sets_at.new.cache.table in
-    let new = c.note_list.new.cache.table in
+    let old = c.args.cache.now in
+    let mid = c.listed_sets_at.new.cache in
+    let places = c.in_ok-places.places.items in
+    let place = c.in_ok-place.place in
     let h = c.in_ok-places.ensures.noted in
-    let k = c.in_ok-note_list.ensures.noted in
+    let grown = c.in_ok-place.ensures.table in
+    let updates = c.in_ok-insert.ensures.updates in
+    let fresh : get nat_eq mid.lists c.args.off ≡ None = search rules in
+    let new : DirectoryCache = record { table = c.add_list.new.self; sets = mid.sets; lists = c.insert.new.self } in
+    let more : length new.table.lists ≡ length mid.table.lists + 1 = omega (arith, ap (λ (t : NumberedTable). length t.lists) grown, length-append mid.table.lists (places ∷ [])) in
+    let added : AreNewNamed (λ i. ⊥) (λ i. Some place ≡ Some i) mid.table new.table = search rules in
+    let last : Contains new.table.lists places = subst (λ (t : NumberedTable). Contains t.lists places) (sym grown) (Contains-push mid.table.lists places) in
     record {
-      extended = extends_then old mid new h.extended k.extended;
-      noted_held = k.noted_held;
-      held = k.held;
-      named = new_then old mid new c.in_ok-note_list.ensures.listed (λ i none. absurd none) (λ i none. absurd none) (λ i e. e) h.named k.named;
+      extended = extends_then old.table mid.table new.table h.extended c.in_ok-place.ensures.extends;
+      noted_held = record {
+        sets_held = search rules;
+        lists_held = search rules;
+        sets_placed = subst (HaveOffsets (λ off. get nat_eq mid.sets off)) (sym (ap (λ (t : NumberedTable). length t.sets) grown)) h.noted_held.sets_placed;
+        lists_placed = one_placed (λ off. get nat_eq mid.lists off) (length mid.table.lists) c.args.off h.noted_held.lists_placed fresh (omega arith) (λ off. get nat_eq new.lists off) place (length new.table.lists) updates.1 updates.2 more;
+      };
+      held = search rules;
+      named = new_then old.table mid.table new.table (λ i inside. (places, last, inside)) (λ i none. absurd none) (λ i none. absurd none) (λ i e. e) h.named added;
     }
 
 pub returns-clause-cache : goal.returns-clause-cache
-returns-clause-cache c = λ p. c.in_ok-note_list.ensures.cache c.args.source.now.frame.now c.args.source.now.pools.now (c.in_ok-places.ensures.read p).is_read (c.in_ok-places.ensures.cache p)
+returns-clause-cache c = λ p.
+    let b = c.args.source.now.frame.now in
+    let m = c.args.source.now.pools.now in
+    let o = c.args.off in
+    let place = c.in_ok-place.place in
+    let mid = c.listed_sets_at.new.cache in
+    let new : DirectoryCache = record { table = c.add_list.new.self; sets = mid.sets; lists = c.insert.new.self } in
+    let encodes = subst (IsRefListAt b o m) (sym (list_is_added mid.table new.table c.in_ok-places.places.items place c.in_ok-place.ensures.place c.in_ok-place.ensures.table)) (c.in_ok-places.ensures.read p).is_read in
+    list_cached b m mid new o place c.in_ok-place.ensures.extends c.in_ok-places.ensures.noted.noted_held (c.in_ok-places.ensures.cache p) c.in_ok-insert.ensures.updates.1 c.in_ok-insert.ensures.updates.2 refl encodes
 
 pub returns-clause-read : goal.returns-clause-read
 returns-clause-read c = λ p.
     let m = c.args.source.now.pools.now in
-    subst (HasCounted (IsRefListAt c.args.source.now.frame.now c.args.off m) (sets_weight_in m) c.args.budget.now c.listed_sets_at.new.budget) (sym c.in_ok-note_list.ensures.list) (c.in_ok-places.ensures.read p)
+    subst (HasCounted (IsRefListAt c.args.source.now.frame.now c.args.off m) (sets_weight_in m) c.args.budget.now c.listed_sets_at.new.budget)
+    (sym (list_is_added c.listed_sets_at.new.cache.table c.add_list.new.self c.in_ok-places.places.items c.in_ok-place.place c.in_ok-place.ensures.place c.in_ok-place.ensures.table)) (c.in_ok-places.ensures.read p)

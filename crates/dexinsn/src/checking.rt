@@ -126,145 +126,129 @@ fn pass(
     Some(indices)
 }
 
-// Returns whether `count` targets of two units each, from unit `first` on, counted from the instruction at unit `at`,
-// are starts of instructions.
-fn listed_targets_right(
-    units: &Units<'_>,
-    starts: &[u64],
-    at: usize,
-    first: usize,
-    count: usize,
-) -> bool
-    requires small { length units.now < 2 ^ 62 }
-    requires from { at < length units.now }
-    requires within { first + 2 * count ≤ length units.now }
-    ensures { HasListedTargets units.now starts.now at (ints_in units.now first count) result }
-{
-    for i in 0..count {
-        let offset = int_at(units, first + 2 * i);
-        if !has_place(starts, at as i64 + i64::from(offset)) {
+/// Checks the targets of instructions and of switch payloads. It has the units, the words whose bits say where
+/// instructions begin and which pieces are noted, and the targets of the long switches.
+#[derive(Clone, Copy)]
+pub(crate) struct TargetChecker<'s, 'u> {
+    pub(crate) units: &'s Units<'u>,
+    pub(crate) starts: &'s [u64],
+    pub(crate) noted: &'s [u64],
+    pub(crate) switches: &'s LongSwitches,
+}
+
+impl TargetChecker<'_, '_> {
+    // Returns whether `count` targets of two units each, from unit `first` on, counted from the instruction at unit
+    // `at`, are starts of instructions.
+    fn listed_targets_right(&self, at: usize, first: usize, count: usize) -> bool
+        requires small { length self.now.units.now < 2 ^ 62 }
+        requires from { at < length self.now.units.now }
+        requires within { first + 2 * count ≤ length self.now.units.now }
+        ensures { HasListedTargets self.now.units.now self.now.starts.now at
+            (ints_in self.now.units.now first count) result }
+    {
+        for i in 0..count {
+            let offset = int_at(self.units, first + 2 * i);
+            if !has_place(self.starts, at as i64 + i64::from(offset)) {
+                return false;
+            }
+        }
+        true
+    }
+
+    // Returns whether a payload of the kind begins at the place, and its targets, counted from the instruction at unit
+    // `at`, are starts of instructions.
+    fn payload_targets_right(&self, at: usize, kind: PayloadKind, place: i64) -> bool
+        requires small { length self.now.units.now < 2 ^ 62 }
+        requires last { EndsEmpty self.now.starts.now }
+        requires switches { ArePayloads self.now.units.now self.now.switches.now.groups }
+        requires from { at < length self.now.units.now }
+        requires noted { AreNoted self.now.units.now self.now.noted.now }
+        ensures { HasPayloadAt self.now.units.now self.now.starts.now self.now.noted.now
+            (ident_of kind) at place result }
+    {
+        if !has_place(self.noted, place) {
             return false;
         }
-    }
-    true
-}
-
-// Returns whether a payload of the kind begins at the place, and its targets, counted from the instruction at unit
-// `at`, are starts of instructions.
-fn payload_targets_right(
-    units: &Units<'_>,
-    starts: &[u64],
-    noted: &[u64],
-    switches: &LongSwitches,
-    at: usize,
-    kind: PayloadKind,
-    place: i64,
-) -> bool
-    requires small { length units.now < 2 ^ 62 }
-    requires last { EndsEmpty starts.now }
-    requires switches { ArePayloads units.now switches.now.groups }
-    requires from { at < length units.now }
-    requires noted { AreNoted units.now noted.now }
-    ensures { HasPayloadAt units.now starts.now noted.now (ident_of kind) at place result }
-{
-    if !has_place(noted, place) {
-        return false;
-    }
-    let unit = place as usize;
-    if units.at(unit) != kind.ident() {
-        return false;
-    }
-    if let Some(groups) = switches.groups.get(&unit) {
-        return groups_right(starts, groups, at);
-    }
-    match targets_at(units, kind, unit) {
-        Some(targets) => listed_targets_right(units, starts, at, targets.first, targets.count),
-        None => true,
-    }
-}
-
-// Returns whether the instruction at unit `at`, which has this format, has no target or a valid one.
-fn branch_targets_right(
-    units: &Units<'_>,
-    starts: &[u64],
-    noted: &[u64],
-    switches: &LongSwitches,
-    at: usize,
-    format: Format,
-) -> bool
-    requires small { length units.now < 2 ^ 62 }
-    requires last { EndsEmpty starts.now }
-    requires switches { ArePayloads units.now switches.now.groups }
-    requires from { at < length units.now }
-    requires within { at + opcodes.units_in (format_of format) ≤ length units.now }
-    requires noted { AreNoted units.now noted.now }
-    ensures { HasBranchAt units.now starts.now noted.now at (format_of format) result }
-{
-    let offset = match branch_offset(format, units, at) {
-        Some(offset) => offset,
-        None => return true,
-    };
-    let target = at as i64 + i64::from(offset);
-    match format {
-        Format::Format31t => {
-            let kind = PayloadKind::payload_kind_of(opcode_in(units.at(at)));
-            payload_targets_right(units, starts, noted, switches, at, kind, target)
+        let unit = place as usize;
+        if self.units.at(unit) != kind.ident() {
+            return false;
         }
-        _ => has_place(starts, target),
+        if let Some(groups) = self.switches.groups.get(&unit) {
+            return groups_right(self.starts, groups, at);
+        }
+        match targets_at(self.units, kind, unit) {
+            Some(targets) => self.listed_targets_right(at, targets.first, targets.count),
+            None => true,
+        }
     }
-}
 
-/// Returns whether the piece at a unit is a payload, or an instruction that has no target or a valid one.
-pub(crate) fn piece_targets_right(
-    units: &Units<'_>,
-    starts: &[u64],
-    noted: &[u64],
-    switches: &LongSwitches,
-    at: usize,
-) -> bool
-    requires small { length units.now < 2 ^ 62 }
-    requires last { EndsEmpty starts.now }
-    requires switches { ArePayloads units.now switches.now.groups }
-    requires piece { IsSome (piece_size at (drop at units.now)) }
-    requires noted { AreNoted units.now noted.now }
-    ensures { HasTargetsAt units.now starts.now noted.now at result }
-{
-    let first = units.at(at);
-    if PayloadKind::of(first).is_some() {
-        return true;
-    }
-    match Format::of(opcode_in(first)) {
-        Some(format) => branch_targets_right(units, starts, noted, switches, at, format),
-        None => true,
-    }
-}
-
-// Returns whether each piece has no target or a valid one.
-fn all_targets_right(
-    units: &Units<'_>,
-    starts: &[u64],
-    noted: &[u64],
-    switches: &LongSwitches,
-) -> bool
-    requires small { length units.now < 2 ^ 62 }
-    requires last { EndsEmpty starts.now }
-    requires switches { ArePayloads units.now switches.now.groups }
-    requires few { length noted.now < 2 ^ 57 }
-    requires noted { AreNoted units.now noted.now }
-    ensures { AreAllRight units.now starts.now noted.now result }
-{
-    let mut at = 0;
-    while at < units.len() {
-        let unit = match next_bit(noted, at) {
-            Some(unit) => unit,
+    // Returns whether the instruction at unit `at`, which has this format, has no target or a valid one.
+    fn branch_targets_right(&self, at: usize, format: Format) -> bool
+        requires small { length self.now.units.now < 2 ^ 62 }
+        requires last { EndsEmpty self.now.starts.now }
+        requires switches { ArePayloads self.now.units.now self.now.switches.now.groups }
+        requires from { at < length self.now.units.now }
+        requires within { at + opcodes.units_in (format_of format) ≤ length self.now.units.now }
+        requires noted { AreNoted self.now.units.now self.now.noted.now }
+        ensures { HasBranchAt self.now.units.now self.now.starts.now self.now.noted.now at
+            (format_of format) result }
+    {
+        let offset = match branch_offset(format, self.units, at) {
+            Some(offset) => offset,
             None => return true,
         };
-        if !piece_targets_right(units, starts, noted, switches, unit) {
-            return false;
+        let target = at as i64 + i64::from(offset);
+        match format {
+            Format::Format31t => {
+                let kind = PayloadKind::payload_kind_of(opcode_in(self.units.at(at)));
+                self.payload_targets_right(at, kind, target)
+            }
+            _ => has_place(self.starts, target),
         }
-        at = unit + 1;
     }
-    true
+
+    /// Returns whether the piece at a unit is a payload, or an instruction that has no target or a valid one.
+    pub(crate) fn piece_targets_right(&self, at: usize) -> bool
+        requires small { length self.now.units.now < 2 ^ 62 }
+        requires last { EndsEmpty self.now.starts.now }
+        requires switches { ArePayloads self.now.units.now self.now.switches.now.groups }
+        requires piece { IsSome (piece_size at (drop at self.now.units.now)) }
+        requires noted { AreNoted self.now.units.now self.now.noted.now }
+        ensures { HasTargetsAt self.now.units.now self.now.starts.now self.now.noted.now at
+            result }
+    {
+        let first = self.units.at(at);
+        if PayloadKind::of(first).is_some() {
+            return true;
+        }
+        match Format::of(opcode_in(first)) {
+            Some(format) => self.branch_targets_right(at, format),
+            None => true,
+        }
+    }
+
+    // Returns whether each piece has no target or a valid one.
+    fn all_targets_right(&self) -> bool
+        requires small { length self.now.units.now < 2 ^ 62 }
+        requires last { EndsEmpty self.now.starts.now }
+        requires switches { ArePayloads self.now.units.now self.now.switches.now.groups }
+        requires few { length self.now.noted.now < 2 ^ 57 }
+        requires noted { AreNoted self.now.units.now self.now.noted.now }
+        ensures { AreAllRight self.now.units.now self.now.starts.now self.now.noted.now result }
+    {
+        let mut at = 0;
+        while at < self.units.len() {
+            let unit = match next_bit(self.noted, at) {
+                Some(unit) => unit,
+                None => return true,
+            };
+            if !self.piece_targets_right(unit) {
+                return false;
+            }
+            at = unit + 1;
+        }
+        true
+    }
 }
 
 // Returns the number of indices in units, if these are code and each index is in range.
@@ -288,7 +272,13 @@ fn check_with(
         None => return Ok(None),
     };
     let switches = LongSwitches::find(alloc, units, noted)?;
-    if all_targets_right(units, starts, noted, &switches) {
+    let checker = TargetChecker {
+        units,
+        starts,
+        noted,
+        switches: &switches,
+    };
+    if checker.all_targets_right() {
         Ok(Some(indices))
     } else {
         Ok(None)

@@ -7,7 +7,7 @@ ghost use Rattle.dexinsn.specs.Split.{IsFault, cuts_of, first_bad_target, IsOnly
 ghost use Rattle.dexinsn.specs.internal.Checking.{AreCutWhole};
 ghost use Rattle.dexinsn.specs.internal.Splitting.{HasNumbersOf, IsCutFault, IsSplitFault, kind_of, unit_of};
 
-use crate::checking::{note, piece_targets_right};
+use crate::checking::{TargetChecker, note};
 use crate::code_fault::CodeFault;
 use crate::code_units::Units;
 use crate::long_switches::LongSwitches;
@@ -114,20 +114,15 @@ fn cut_units(
 }
 
 // The unit of the first of the pieces with a wrong target, if there is one.
-fn first_bad_target(
-    units: &Units<'_>,
-    cuts: &[Cut],
-    starts: &[u64],
-    noted: &[u64],
-    switches: &LongSwitches,
-) -> Option<usize>
-    requires small { length units.now < 2 ^ 62 }
-    requires cuts { AreCutWhole units.now starts.now noted.now cuts.now }
-    requires switches { ArePayloads units.now switches.now.groups }
-    ensures { result ≡ first_bad_target units.now (cuts_of cuts.now) }
+fn first_bad_target(checker: &TargetChecker<'_, '_>, cuts: &[Cut]) -> Option<usize>
+    requires small { length checker.now.units.now < 2 ^ 62 }
+    requires cuts { AreCutWhole checker.now.units.now checker.now.starts.now checker.now.noted.now
+        cuts.now }
+    requires switches { ArePayloads checker.now.units.now checker.now.switches.now.groups }
+    ensures { result ≡ first_bad_target checker.now.units.now (cuts_of cuts.now) }
 {
     for cut in cuts {
-        if !piece_targets_right(units, starts, noted, switches, cut.unit) {
+        if !checker.piece_targets_right(cut.unit) {
             return Some(cut.unit);
         }
     }
@@ -147,7 +142,13 @@ fn split_units(alloc: Global, units: &Units<'_>) -> Result<Vec<Cut>, SplitFault>
     wipe(&mut noted, words)?;
     let cuts = cut_units(alloc, units, &mut starts, &mut noted)?;
     let switches = LongSwitches::find(alloc, units, &noted)?;
-    match first_bad_target(units, &cuts, &starts, &noted, &switches) {
+    let checker = TargetChecker {
+        units,
+        starts: &starts,
+        noted: &noted,
+        switches: &switches,
+    };
+    match first_bad_target(&checker, &cuts) {
         Some(unit) => Err(SplitFault::Target(unit)),
         None => Ok(cuts),
     }

@@ -60,52 +60,51 @@ fn eq_remapped(
     image == other_remap.image(kind, other.number as usize)
 }
 
-// Returns whether the indices are at the same units and have the same images.
-fn eq_mapped(
-    units: &Units<'_>,
-    indices: &[Index],
-    remap: &Remap,
-    others: &[Index],
-    other_remap: &Remap,
-) -> bool
-    requires { All (IsIndexed units.now) indices.now }
-    ensures { IsTrue result
-        ↔ AllZip (AreEqualMapped remap.now other_remap.now units.now) indices.now others.now }
-{
-    if indices.len() != others.len() {
-        return false;
-    }
-    for (i, index) in indices.iter().enumerate() {
-        if !eq_remapped(units, *index, remap, others[i], other_remap) {
-            return false;
-        }
-    }
-    true
+// The units and the indices of pieces, with the map by which the numbers of the indices are remapped.
+#[derive(Clone, Copy)]
+struct RemappedPieces<'s> {
+    bytes: &'s [u8],
+    indices: &'s [Index],
+    remap: &'s Remap,
 }
 
-// Returns whether the pieces are the same once remapped.
-fn same_pieces(
-    bytes: &[u8],
-    indices: &[Index],
-    remap: &Remap,
-    other_bytes: &[u8],
-    other_indices: &[Index],
-    other_remap: &Remap,
-) -> bool
-    requires stored { AreStored (units_in bytes.now) indices.now }
-    requires others { AreStored (units_in other_bytes.now) other_indices.now }
-    ensures { IsTrue result ↔ (map (renumbered_piece remap.now) (pieces_with
-        (parts_in (units_in bytes.now)) indices.now) ≡ map (renumbered_piece other_remap.now)
-        (pieces_with (parts_in (units_in other_bytes.now)) other_indices.now)) }
-{
-    let units = Units::of_bytes(bytes);
-    if units.len() != Units::of_bytes(other_bytes).len() {
-        return false;
+impl RemappedPieces<'_> {
+    // Returns whether the indices are at the same units, which these are, and have the same images.
+    fn eq_indices(&self, units: &Units<'_>, other: &RemappedPieces<'_>) -> bool
+        requires { All (IsIndexed units.now) self.now.indices.now }
+        ensures { IsTrue result
+            ↔ AllZip (AreEqualMapped self.now.remap.now other.now.remap.now units.now)
+            self.now.indices.now other.now.indices.now }
+    {
+        if self.indices.len() != other.indices.len() {
+            return false;
+        }
+        for (i, index) in self.indices.iter().enumerate() {
+            if !eq_remapped(units, *index, self.remap, other.indices[i], other.remap) {
+                return false;
+            }
+        }
+        true
     }
-    if !agree_beside(bytes, other_bytes, indices) {
-        return false;
+
+    // Returns whether the pieces are the same once remapped.
+    fn eq_pieces(&self, other: &RemappedPieces<'_>) -> bool
+        requires stored { AreStored (units_in self.now.bytes.now) self.now.indices.now }
+        requires others { AreStored (units_in other.now.bytes.now) other.now.indices.now }
+        ensures { IsTrue result ↔ (map (renumbered_piece self.now.remap.now) (pieces_with
+            (parts_in (units_in self.now.bytes.now)) self.now.indices.now)
+            ≡ map (renumbered_piece other.now.remap.now)
+            (pieces_with (parts_in (units_in other.now.bytes.now)) other.now.indices.now)) }
+    {
+        let units = Units::of_bytes(self.bytes);
+        if units.len() != Units::of_bytes(other.bytes).len() {
+            return false;
+        }
+        if !agree_beside(self.bytes, other.bytes, self.indices) {
+            return false;
+        }
+        self.eq_indices(&units, other)
     }
-    eq_mapped(&units, indices, remap, other_indices, other_remap)
 }
 
 impl<'a> Pieces<'a> {
@@ -125,13 +124,16 @@ impl<'a> Pieces<'a> {
         if self.outs != other.outs {
             return false;
         }
-        same_pieces(
-            self.bytes,
-            &self.indices,
-            mine,
-            other.bytes,
-            &other.indices,
-            theirs,
-        )
+        let own = RemappedPieces {
+            bytes: self.bytes,
+            indices: &self.indices,
+            remap: mine,
+        };
+        let others = RemappedPieces {
+            bytes: other.bytes,
+            indices: &other.indices,
+            remap: theirs,
+        };
+        own.eq_pieces(&others)
     }
 }

@@ -27,9 +27,9 @@ first_bad_target-requires-clause-cuts c =
 pub returns-in-Some-clause-fault : goal.returns-in-Some-clause-fault
 returns-in-Some-clause-fault c =
     cut_bad_target c.args.units.now (cuts_of c.in_ok-cuts.cuts.items) c.cut_units.new.starts.items c.cut_units.new.noted.items c.in-Some.unit c.in_ok-cuts.ensures.cuts
-    (sym (rw c.deref-2.ensures.value at c.in-Some.ensures))
+    (sym (rw c.deref-4.ensures.value at c.in-Some.ensures))
 
 pub returns-clause-code : goal.returns-clause-code
 returns-clause-code c =
     cut_code c.args.units.now (cuts_of c.in_ok-cuts.cuts.items) c.cut_units.new.starts.items c.cut_units.new.noted.items c.requires c.in_ok-cuts.ensures.cuts
-    (sym (rw c.deref-2.ensures.value at c.in-None.ensures))
+    (sym (rw c.deref-4.ensures.value at c.in-None.ensures))

@@ -1,8 +1,0 @@
-use Rattle.std.proofs.Common.{◌≡◌, ◌+◌, ◌-◌, ◌*◌, List}
-use Rattle.dexspec.specs.Pieces.{Cut, ints_in}
-use Rattle.dexinsn.specs.Split.{are_right_targets}
-use Rattle.dexinsn.specs.Checking.{AreBitsOf, begins_instruction}
-use Rattle.dexinsn.proofs.checking.listed_targets_right.Given as goal
-
-abbrev pub invariant-loop-i : goal.invariant-loop-i
-invariant-loop-i l = (cs : List Cut) → AreBitsOf begins_instruction l.units cs l.starts → are_right_targets l.units cs l.at (ints_in l.units l.first l.count) ≡ are_right_targets l.units cs l.at (ints_in l.units (l.first + 2 * l.i) (l.count - l.i))

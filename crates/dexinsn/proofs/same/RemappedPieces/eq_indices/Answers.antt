@@ -1,0 +1,15 @@
+use Rattle.std.proofs.Common.{get_or, below_more, refl, arith}
+use Rattle.dexinsn.specs.internal.Same.{AreEqualMapped}
+use Rattle.dexinsn.proofs.SameSteps.{zip_from}
+use Rattle.dexinsn.proofs.same.RemappedPieces.eq_indices.Goals as goal
+
+pub loop-i-preserved : goal.loop-i-preserved
+loop-i-preserved c =
+    below_more (λ k. AreEqualMapped c.args.self.now.remap.now c.args.other.now.remap.now c.args.units.now (get_or c.args.self.now.indices.now k (record { unit = 0; number = 0 })) (get_or c.args.other.now.indices.now k (record { unit = 0; number = 0 }))) c.loop-i.i c.loop-i.invariant
+    (c.eq_remapped.ensures.0 c.if-not-eq_remapped.false)
+
+pub returns : goal.returns
+returns c = (
+  λ yes. zip_from (AreEqualMapped c.args.self.now.remap.now c.args.other.now.remap.now c.args.units.now) c.args.self.now.indices.now c.args.other.now.indices.now (record { unit = 0; number = 0 }) c.if-self-other.false (λ k lt. c.loop-i.invariant k (omega arith)),
+  λ h. refl,
+)

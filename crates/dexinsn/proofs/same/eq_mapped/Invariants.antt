@@ -1,6 +1,0 @@
-use Rattle.std.proofs.Common.{ℕ, ◌<◌, get_or}
-use Rattle.dexinsn.specs.internal.Same.{AreEqualMapped}
-use Rattle.dexinsn.proofs.same.eq_mapped.Given as goal
-
-abbrev pub invariant-loop-i : goal.invariant-loop-i
-invariant-loop-i l = (k : ℕ) → k < l.i → AreEqualMapped l.remap l.other_remap l.units (get_or l.indices k (record { unit = 0; number = 0 })) (get_or l.others k (record { unit = 0; number = 0 }))

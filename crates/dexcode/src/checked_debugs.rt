@@ -15,6 +15,7 @@ use std::collections::HashMap;
 /// many code items name it.
 #[derive(Drop)]
 pub struct CheckedDebugs {
+    pub(crate) alloc: Global,
     // The weight of each.
     pub(crate) weights: HashMap<u32, u64>,
 }
@@ -25,6 +26,7 @@ impl CheckedDebugs {
         ensures { (b : List ℕ) → AreCheckedDebugs b result }
     {
         CheckedDebugs {
+            alloc,
             weights: HashMap::new(alloc),
         }
     }

@@ -9,10 +9,10 @@ ghost use Rattle.dexcode.specs.internal.TriesReading.{HasNoTries};
 
 use crate::checked_debugs::{CheckedDebugs, checked_debug_at};
 use crate::code_laws::code_weight_law;
-use crate::code_reading::read_tries;
 use crate::code_weight::tries_weight;
+use crate::tries_reader::TriesReader;
 use dexhead::{Frame, u32_at};
-use dexinsn::{InstructionStarts, Scratch, check_pieces};
+use dexinsn::{Scratch, check_pieces};
 use dexpool::{ItemFault, Pools, SymbolKind};
 use std::alloc::Global;
 
@@ -23,21 +23,20 @@ pub struct CodeShape {
     pub weight: u64,
 }
 
-// Checks the tries of the code_item at an offset, whose units are in the data, and returns what they weigh.
-fn check_tries(
-    alloc: Global,
-    bytes: &[u8],
-    off: usize,
-    starts: &InstructionStarts<'_>,
-    types: usize,
-) -> Result<u64, ItemFault>
-    requires { off + 16 + 2 * uint_at bytes.now (off + 12) ≤ length bytes.now }
-    ensures tries { IfOk result (HaveTriesOf starts.now types bytes.now off) }
-    ensures light { IfOk result (λ weight. weight < 2 ^ 20) }
-    ensures fault { IfErr result (IsTriesFault (HasNoTries starts.now types bytes.now off)) }
-{
-    let tries = read_tries(alloc, bytes, off, starts, types)?;
-    Ok(tries_weight(&tries))
+impl TriesReader<'_, '_> {
+    // Checks the tries of the code_item at an offset, whose units are in the data, and returns what they weigh.
+    fn check_tries(&self, off: usize) -> Result<u64, ItemFault>
+        requires { off + 16 + 2 * uint_at self.now.bytes.now (off + 12)
+            ≤ length self.now.bytes.now }
+        ensures tries { IfOk result
+            (HaveTriesOf self.now.starts.now self.now.types self.now.bytes.now off) }
+        ensures light { IfOk result (λ weight. weight < 2 ^ 20) }
+        ensures fault { IfErr result (IsTriesFault
+            (HasNoTries self.now.starts.now self.now.types self.now.bytes.now off)) }
+    {
+        let tries = self.read_tries(off)?;
+        Ok(tries_weight(&tries))
+    }
 }
 
 // Checks the debug program of the code_item at an offset, and returns what it weighs; 0 where there is none.
@@ -83,7 +82,7 @@ pub fn check_code(
     ensures refused { ArePools frame.now pools.now → IfErr result (IsCodeFault frame.now off) }
 {
     let mut checked = CheckedDebugs::none(alloc);
-    check_code_once(alloc, frame, pools, off, scratch, &mut checked)
+    check_code_once(frame, pools, off, scratch, &mut checked)
 }
 
 /// As [`check_code`], but a debug program that was checked before is not checked again. What was checked is kept for
@@ -95,7 +94,6 @@ pub fn check_code(
 ///
 /// Source: "code_item".
 pub fn check_code_once(
-    alloc: Global,
     frame: &Frame<'_>,
     pools: &Pools<'_>,
     off: u32,
@@ -114,7 +112,13 @@ pub fn check_code_once(
     let pieces = check_pieces(frame, pools, off, scratch)?;
     let types = pools.len(SymbolKind::Typ);
     let starts = scratch.starts();
-    let tries = check_tries(alloc, frame.bytes(), off as usize, &starts, types)?;
+    let reader = TriesReader {
+        alloc: checked.alloc,
+        bytes: frame.bytes(),
+        starts: &starts,
+        types,
+    };
+    let tries = reader.check_tries(off as usize)?;
     let program = check_program(frame, pools, off, checked)?;
     let unindexed = 24 + 2 * u64::from(pieces.units()) + tries;
     Ok(CodeShape {

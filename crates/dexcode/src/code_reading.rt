@@ -10,40 +10,39 @@ use crate::boxing::boxed;
 use crate::code::Code;
 use crate::debug_reading::read_debug;
 use crate::tries::Tries;
-use crate::try_table::read_try_table;
+use crate::tries_reader::TriesReader;
 use dexhead::{Condition, Frame, u16_at, u32_at};
-use dexinsn::{InstructionStarts, Scratch, build_pieces, check_pieces};
+use dexinsn::{Scratch, build_pieces, check_pieces};
 use dexpool::{ItemFault, Pools, SymbolKind};
 use std::alloc::Global;
 
-// The tries of the code_item at an offset, where its units are in the data.
-pub(crate) fn read_tries(
-    alloc: Global,
-    bytes: &[u8],
-    off: usize,
-    starts: &InstructionStarts<'_>,
-    types: usize,
-) -> Result<Tries, ItemFault>
-    requires { off + 16 + 2 * uint_at bytes.now (off + 12) ≤ length bytes.now }
-    ensures tries { IfOk result (TriesAt starts.now types bytes.now off) }
-    ensures fault { IfErr result (IsTriesFault (HasNoTries starts.now types bytes.now off)) }
-{
-    let count = u16_at(bytes, off + 6);
-    if count == 0 {
-        return Ok(Tries::none());
+impl TriesReader<'_, '_> {
+    // The tries of the code_item at an offset, where its units are in the data.
+    pub(crate) fn read_tries(&self, off: usize) -> Result<Tries, ItemFault>
+        requires { off + 16 + 2 * uint_at self.now.bytes.now (off + 12)
+            ≤ length self.now.bytes.now }
+        ensures tries { IfOk result
+            (TriesAt self.now.starts.now self.now.types self.now.bytes.now off) }
+        ensures fault { IfErr result (IsTriesFault
+            (HasNoTries self.now.starts.now self.now.types self.now.bytes.now off)) }
+    {
+        let count = u16_at(self.bytes, off + 6);
+        if count == 0 {
+            return Ok(Tries::none());
+        }
+        let units = u32_at(self.bytes, off + 12);
+        let following = off + 16 + 2 * units as usize;
+        if units % 2 == 0 {
+            return self.read_try_table(following, count, units);
+        }
+        if self.bytes.len() < following + 2 {
+            return Err(ItemFault::Refused(Condition::Tries as u8));
+        }
+        if u16_at(self.bytes, following) != 0 {
+            return Err(ItemFault::Refused(Condition::Tries as u8));
+        }
+        self.read_try_table(following + 2, count, units)
     }
-    let units = u32_at(bytes, off + 12);
-    let following = off + 16 + 2 * units as usize;
-    if units % 2 == 0 {
-        return read_try_table(alloc, bytes, following, count, units, starts, types);
-    }
-    if bytes.len() < following + 2 {
-        return Err(ItemFault::Refused(Condition::Tries as u8));
-    }
-    if u16_at(bytes, following) != 0 {
-        return Err(ItemFault::Refused(Condition::Tries as u8));
-    }
-    read_try_table(alloc, bytes, following + 2, count, units, starts, types)
 }
 
 /// Reads the code_item at an offset, whose indices count in the pools: those of the file. Its units are borrowed.
@@ -90,7 +89,13 @@ pub fn read_code_in<'a>(
     let types = pools.len(SymbolKind::Typ);
     let starts = scratch.starts();
     let bytes = frame.bytes();
-    let tries = read_tries(alloc, bytes, off as usize, &starts, types)?;
+    let reader = TriesReader {
+        alloc,
+        bytes,
+        starts: &starts,
+        types,
+    };
+    let tries = reader.read_tries(off as usize)?;
     let debug_off = u32_at(bytes, off as usize + 8);
     if debug_off == 0 {
         return Ok(Code {

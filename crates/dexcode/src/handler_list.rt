@@ -5,12 +5,11 @@ ghost use Rattle.dexcode.specs.internal.NamedHandlers.{HasList};
 ghost use Rattle.dexcode.specs.Reading.{IsNumberPut, IsTriesFault};
 ghost use Rattle.dexcode.specs.internal.TriesReading.{HaveHandlers, NoHandlers, NoList};
 
-use crate::catches::handler_len;
+use crate::tries_reader::TriesReader;
 use dexhead::Condition;
-use dexinsn::InstructionStarts;
 use dexleb::read_u;
 use dexpool::ItemFault;
-use std::alloc::{AllocError, Global};
+use std::alloc::AllocError;
 
 // The last byte of a list that the offset of a try can name.
 const LAST_OFFSET: usize = 65_535;
@@ -28,55 +27,51 @@ fn put_number(numbers: &mut Vec<Option<u32>>, place: usize, number: u32) -> Resu
     Ok(())
 }
 
-// Reads `count` handlers at `first`, of the list at `list`. Returns by the bytes of the list the number of the handler
-// that begins there.
-fn read_handlers(
-    alloc: Global,
-    bytes: &[u8],
-    list: usize,
-    first: usize,
-    count: u32,
-    starts: &InstructionStarts<'_>,
-    types: usize,
-) -> Result<Vec<Option<u32>>, ItemFault>
-    requires order { list ≤ first }
-    requires within { first ≤ length bytes.now }
-    ensures handlers { IfOk result (HaveHandlers starts.now types bytes.now list first count) }
-    ensures fault { IfErr result
-        (IsTriesFault (NoHandlers starts.now types bytes.now first count)) }
-{
-    let mut numbers = Vec::new(alloc);
-    let mut size = 0;
-    for number in 0..count {
-        let place = first + size;
-        let len = match handler_len(bytes, place, starts, types) {
-            Some(len) => len,
-            None => return Err(ItemFault::Refused(Condition::Tries as u8)),
-        };
-        put_number(&mut numbers, place - list, number)?;
-        size += len;
+impl TriesReader<'_, '_> {
+    // Reads `count` handlers at `first`, of the list at `list`. Returns by the bytes of the list the number of the
+    // handler that begins there.
+    fn read_handlers(
+        &self,
+        list: usize,
+        first: usize,
+        count: u32,
+    ) -> Result<Vec<Option<u32>>, ItemFault>
+        requires order { list ≤ first }
+        requires within { first ≤ length self.now.bytes.now }
+        ensures handlers { IfOk result (HaveHandlers self.now.starts.now self.now.types
+            self.now.bytes.now list first count) }
+        ensures fault { IfErr result (IsTriesFault
+            (NoHandlers self.now.starts.now self.now.types self.now.bytes.now first count)) }
+    {
+        let mut numbers = Vec::new(self.alloc);
+        let mut size = 0;
+        for number in 0..count {
+            let place = first + size;
+            let len = match self.handler_len(place) {
+                Some(len) => len,
+                None => return Err(ItemFault::Refused(Condition::Tries as u8)),
+            };
+            put_number(&mut numbers, place - list, number)?;
+            size += len;
+        }
+        Ok(numbers)
     }
-    Ok(numbers)
-}
 
-// Reads the list of handlers at `at`. Returns by the bytes of the list the number of the handler that begins there. No
-// handler is kept.
-pub(crate) fn read_list(
-    alloc: Global,
-    bytes: &[u8],
-    at: usize,
-    starts: &InstructionStarts<'_>,
-    types: usize,
-) -> Result<Vec<Option<u32>>, ItemFault>
-    requires { at ≤ length bytes.now }
-    ensures list { IfOk result (λ numbers. HasList starts.now types bytes.now at numbers.items) }
-    ensures fault { IfErr result (IsTriesFault (NoList starts.now types bytes.now at)) }
-{
-    let (count, count_size) = match read_u(bytes, at) {
-        Ok(read) => read,
-        Err(_) => return Err(ItemFault::Refused(Condition::Tries as u8)),
-    };
-    read_handlers(alloc, bytes, at, at + count_size, count, starts, types)
+    // Reads the list of handlers at `at`. Returns by the bytes of the list the number of the handler that begins
+    // there. No handler is kept.
+    pub(crate) fn read_list(&self, at: usize) -> Result<Vec<Option<u32>>, ItemFault>
+        requires { at ≤ length self.now.bytes.now }
+        ensures list { IfOk result (λ numbers. HasList self.now.starts.now self.now.types
+            self.now.bytes.now at numbers.items) }
+        ensures fault { IfErr result (IsTriesFault
+            (NoList self.now.starts.now self.now.types self.now.bytes.now at)) }
+    {
+        let (count, count_size) = match read_u(self.bytes, at) {
+            Ok(read) => read,
+            Err(_) => return Err(ItemFault::Refused(Condition::Tries as u8)),
+        };
+        self.read_handlers(at, at + count_size, count)
+    }
 }
 
 // Returns the number of the handler that begins `off` bytes after the start of its list.

@@ -66,6 +66,7 @@ mod operations;
 mod stored_tries;
 mod tries;
 mod tries_numbers;
+mod tries_reader;
 mod tries_same;
 mod try_items;
 mod try_table;

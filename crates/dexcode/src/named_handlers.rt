@@ -6,12 +6,11 @@ ghost use Rattle.dexcode.specs.internal.NamedHandlers.{AreKnown, IsHandlerAt, Is
 ghost use Rattle.dexcode.specs.Reading.{IsTriesFault};
 ghost use Rattle.dexcode.specs.internal.TriesReading.{HasNoHandler};
 
-use crate::catches::read_handler;
 use crate::handlers::Handler;
-use dexinsn::InstructionStarts;
+use crate::tries_reader::TriesReader;
 use dexpool::ItemFault;
 use indexmap::IndexSet;
-use std::alloc::{AllocError, Global};
+use std::alloc::AllocError;
 
 // The number at a place, if there is one.
 fn number_at(numbers: &Vec<Option<usize>>, place: u16) -> Option<usize>
@@ -32,31 +31,32 @@ fn put_at(numbers: &mut Vec<Option<usize>>, place: u16, number: usize) -> Result
     Ok(())
 }
 
-// Returns the number of the handler at an offset from the start of the list among the handlers that are named, and adds
-// the handler to these if it is new.
-pub(crate) fn number_of(
-    alloc: Global,
-    bytes: &[u8],
-    list: usize,
-    off: u16,
-    starts: &InstructionStarts<'_>,
-    types: usize,
-    handlers: &mut IndexSet<Handler>,
-    numbers: &mut Vec<Option<usize>>,
-) -> Result<usize, ItemFault>
-    requires { list + off ≤ length bytes.now }
-    ensures number { (h : NumberedHandler) → IsHandlerAt starts.now types bytes.now (list + off) h
-        → AreKnown starts.now types bytes.now list handlers.old.keys numbers.old.items
-        → IfOk result (IsNumberOf starts.now types bytes.now list h handlers.old.keys
-        handlers.new.keys numbers.new.items) }
-    ensures fault { IfErr result
-        (IsTriesFault (HasNoHandler starts.now types bytes.now (list + off))) }
-{
-    if let Some(number) = number_at(numbers, off) {
-        return Ok(number);
+impl TriesReader<'_, '_> {
+    // Returns the number of the handler at an offset from the start of the list among the handlers that are named, and
+    // adds the handler to these if it is new.
+    pub(crate) fn number_of(
+        &self,
+        list: usize,
+        off: u16,
+        handlers: &mut IndexSet<Handler>,
+        numbers: &mut Vec<Option<usize>>,
+    ) -> Result<usize, ItemFault>
+        requires { list + off ≤ length self.now.bytes.now }
+        ensures number { (h : NumberedHandler)
+            → IsHandlerAt self.now.starts.now self.now.types self.now.bytes.now (list + off) h
+            → AreKnown self.now.starts.now self.now.types self.now.bytes.now list handlers.old.keys
+            numbers.old.items
+            → IfOk result (IsNumberOf self.now.starts.now self.now.types self.now.bytes.now list h
+            handlers.old.keys handlers.new.keys numbers.new.items) }
+        ensures fault { IfErr result (IsTriesFault
+            (HasNoHandler self.now.starts.now self.now.types self.now.bytes.now (list + off))) }
+    {
+        if let Some(number) = number_at(numbers, off) {
+            return Ok(number);
+        }
+        let (handler, _) = self.read_handler(list + usize::from(off))?;
+        let (number, _) = handlers.insert_full(handler)?;
+        put_at(numbers, off, number)?;
+        Ok(number)
     }
-    let (handler, _) = read_handler(alloc, bytes, list + usize::from(off), starts, types)?;
-    let (number, _) = handlers.insert_full(handler)?;
-    put_at(numbers, off, number)?;
-    Ok(number)
 }

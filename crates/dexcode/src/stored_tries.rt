@@ -8,10 +8,9 @@ ghost use Rattle.dexcode.specs.Reading.{IsTriesFault};
 ghost use Rattle.dexcode.specs.internal.TriesReading.{HaveLightHandlers, IsFoundNamed, IsMissedHeavy};
 
 use crate::handlers::Handler;
-use crate::named_handlers::number_of;
 use crate::tries::Try;
+use crate::tries_reader::TriesReader;
 use dexhead::u16_at;
-use dexinsn::InstructionStarts;
 use dexpool::ItemFault;
 use indexmap::IndexSet;
 use std::alloc::{AllocError, Global};
@@ -68,38 +67,30 @@ impl StoredTries {
     // Tries with the handlers that their try_items at a place name, or `None` where these weigh more than they may. A
     // handler that no try names is not kept.
     pub(crate) fn of(
-        alloc: Global,
-        bytes: &[u8],
+        reader: &TriesReader<'_, '_>,
         at: usize,
         list: usize,
         tries: &[Try],
-        starts: &InstructionStarts<'_>,
-        types: usize,
     ) -> Result<Option<StoredTries>, ItemFault>
-        requires listed { HaveListed starts.now types bytes.now at list tries.now }
-        requires room { at + 8 * length tries.now ≤ length bytes.now }
+        requires listed { HaveListed reader.now.starts.now reader.now.types reader.now.bytes.now at
+            list tries.now }
+        requires room { at + 8 * length tries.now ≤ length reader.now.bytes.now }
         requires few { length tries.now < 2 ^ 16 }
-        ensures some { IsFoundNamed starts.now types bytes.now at list tries.now result }
+        ensures some { IsFoundNamed reader.now.starts.now reader.now.types reader.now.bytes.now at
+            list tries.now result }
         ensures light { IfOk result (λ found. IfSome found HaveLightHandlers) }
-        ensures heavy { IsMissedHeavy starts.now types bytes.now at list tries.now result }
+        ensures heavy { IsMissedHeavy reader.now.starts.now reader.now.types reader.now.bytes.now at
+            list tries.now result }
         ensures fault { IfErr result (IsTriesFault ⊥) }
     {
+        let alloc = reader.alloc;
         let mut numbers = Vec::new(alloc);
         let mut handlers = IndexSet::new(alloc);
         let mut numbered = Vec::with_capacity(alloc, tries.len())?;
         let mut place = at;
         for item in tries {
-            let off = u16_at(bytes, place + 6);
-            let handler = number_of(
-                alloc,
-                bytes,
-                list,
-                off,
-                starts,
-                types,
-                &mut handlers,
-                &mut numbers,
-            )?;
+            let off = u16_at(reader.bytes, place + 6);
+            let handler = reader.number_of(list, off, &mut handlers, &mut numbers)?;
             numbered.push(Try {
                 start_addr: item.start_addr,
                 insn_count: item.insn_count,

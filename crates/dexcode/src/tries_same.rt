@@ -54,76 +54,68 @@ fn same_handler(mine: &Remap, handler: &Handler, theirs: &Remap, other: &Handler
     same_catches(mine, &handler.catches, theirs, &other.catches)
 }
 
-// Whether the tries are equal once the types of their handlers are remapped. The first `compared` handlers of both
-// lists are known to be.
-fn same_try(
-    mine: &Remap,
-    handlers: &[Handler],
-    item: Try,
-    theirs: &Remap,
-    others: &[Handler],
-    other: Try,
-    compared: usize,
-) -> bool
-    requires within { item.handler < length handlers.now }
-    requires others { other.handler < length others.now }
-    requires known { AreCompared mine.now theirs.now handlers.now others.now compared }
-    ensures { IsTrue result ↔ EqualTries mine.now handlers.now item theirs.now others.now other }
-{
-    if item.start_addr != other.start_addr {
-        return false;
-    }
-    if item.insn_count != other.insn_count {
-        return false;
-    }
-    if item.handler < compared && item.handler == other.handler {
-        return true;
-    }
-    same_handler(
-        mine,
-        &handlers[item.handler],
-        theirs,
-        &others[other.handler],
-    )
+// Tries with their handlers, and the map by which the types of these are remapped.
+#[derive(Clone, Copy)]
+struct RemappedTries<'s> {
+    tries: &'s [Try],
+    handlers: &'s [Handler],
+    remap: &'s Remap,
 }
 
-// Whether the tries are equal, one for one, once the types of their handlers are remapped. Handlers are in order of
-// first use: so two that have one number are compared once, and others only where the tries differ or types map to one.
-fn same_tries(
-    mine: &Remap,
-    handlers: &[Handler],
-    tries: &[Try],
-    theirs: &Remap,
-    other_handlers: &[Handler],
-    others: &[Try],
-) -> bool
-    requires within { All (λ t. t.handler < length handlers.now) tries.now }
-    requires others { All (λ t. t.handler < length other_handlers.now) others.now }
-    ensures { IsTrue result
-        ↔ SameTries mine.now handlers.now tries.now theirs.now other_handlers.now others.now }
-{
-    if tries.len() != others.len() {
-        return false;
-    }
-    let mut compared = 0;
-    for (i, item) in tries.iter().enumerate() {
-        let other = others[i];
-        if !same_try(
-            mine,
-            handlers,
-            *item,
-            theirs,
-            other_handlers,
-            other,
-            compared,
-        ) {
+impl RemappedTries<'_> {
+    // Whether a try of these and a try of others are equal once the types of their handlers are remapped. The first
+    // `compared` handlers of both lists are known to be.
+    fn eq_try(&self, item: Try, others: &RemappedTries<'_>, other: Try, compared: usize) -> bool
+        requires within { item.handler < length self.now.handlers.now }
+        requires others { other.handler < length others.now.handlers.now }
+        requires known { AreCompared self.now.remap.now others.now.remap.now self.now.handlers.now
+            others.now.handlers.now compared }
+        ensures { IsTrue result ↔ EqualTries self.now.remap.now self.now.handlers.now item
+            others.now.remap.now others.now.handlers.now other }
+    {
+        if item.start_addr != other.start_addr {
             return false;
         }
-        if item.handler == compared && other.handler == compared {
-            compared += 1;
+        if item.insn_count != other.insn_count {
+            return false;
         }
+        if item.handler < compared && item.handler == other.handler {
+            return true;
+        }
+        let handler = &self.handlers[item.handler];
+        same_handler(
+            self.remap,
+            handler,
+            others.remap,
+            &others.handlers[other.handler],
+        )
     }
-    true
+
+    // Whether the tries are equal, one for one, once the types of their handlers are remapped. Handlers are in order of
+    // first use: so two that have one number are compared once, and others only where the tries differ or types map to
+    // one.
+    fn eq_tries(&self, others: &RemappedTries<'_>) -> bool
+        requires within { All (λ t. t.handler < length self.now.handlers.now) self.now.tries.now }
+        requires others { All (λ t. t.handler < length others.now.handlers.now)
+            others.now.tries.now }
+        ensures { IsTrue result ↔ SameTries self.now.remap.now self.now.handlers.now
+            self.now.tries.now others.now.remap.now others.now.handlers.now others.now.tries.now }
+    {
+        if self.tries.len() != others.tries.len() {
+            return false;
+        }
+        let mut compared = 0;
+        for (i, item) in self.tries.iter().enumerate() {
+            let other = others.tries[i];
+            if !self.eq_try(*item, others, other, compared) {
+                return false;
+            }
+            if item.handler == compared && other.handler == compared {
+                compared += 1;
+            }
+        }
+        true
+    }
 }
 
 impl Tries {
@@ -133,7 +125,17 @@ impl Tries {
             ↔ SameRemapped renumbered_try mine.now theirs.now self.now other.now }
     {
         let (tries, handlers) = self.parts();
-        let (others, other_handlers) = other.parts();
-        same_tries(mine, handlers, tries, theirs, other_handlers, others)
+        let (other_tries, other_handlers) = other.parts();
+        let own = RemappedTries {
+            tries,
+            handlers,
+            remap: mine,
+        };
+        let others = RemappedTries {
+            tries: other_tries,
+            handlers: other_handlers,
+            remap: theirs,
+        };
+        own.eq_tries(&others)
     }
 }

@@ -7,9 +7,9 @@ ghost use Rattle.dexcode.specs.internal.TriesReading.{AreTriesRead, NoTries};
 
 use crate::handler_list::handler_at;
 use crate::tries::Try;
+use crate::tries_reader::TriesReader;
 use dexhead::{Condition, u16_at, u32_at};
 use dexpool::ItemFault;
-use std::alloc::Global;
 
 // The try at a place, where the handlers of the list are numbered by its bytes.
 #[inline(always)]
@@ -37,34 +37,36 @@ fn read_try(bytes: &[u8], at: usize, units: u32, numbers: &[Option<u32>]) -> Opt
     }
 }
 
-// Reads `count` tries at an offset.
-pub(crate) fn read_try_items(
-    alloc: Global,
-    bytes: &[u8],
-    at: usize,
-    count: u16,
-    units: u32,
-    numbers: &[Option<u32>],
-) -> Result<Vec<Try>, ItemFault>
-    requires { at + 8 * count ≤ length bytes.now }
-    ensures tries { IfOk result (λ tries.
-        AreTriesRead units numbers.now bytes.now at count tries.items) }
-    ensures fault { IfErr result (IsTriesFault (NoTries units numbers.now bytes.now at count)) }
-{
-    let mut tries = Vec::with_capacity(alloc, usize::from(count))?;
-    let mut place = at;
-    let mut end = 0;
-    for _ in 0..count {
-        let item = match read_try(bytes, place, units, numbers) {
-            Some(item) => item,
-            None => return Err(ItemFault::Refused(Condition::Tries as u8)),
-        };
-        if item.start_addr < end {
-            return Err(ItemFault::Refused(Condition::Tries as u8));
+impl TriesReader<'_, '_> {
+    // Reads `count` tries at an offset, where the handlers of the list are numbered by its bytes.
+    pub(crate) fn read_try_items(
+        &self,
+        at: usize,
+        count: u16,
+        units: u32,
+        numbers: &[Option<u32>],
+    ) -> Result<Vec<Try>, ItemFault>
+        requires { at + 8 * count ≤ length self.now.bytes.now }
+        ensures tries { IfOk result (λ tries.
+            AreTriesRead units numbers.now self.now.bytes.now at count tries.items) }
+        ensures fault { IfErr result
+            (IsTriesFault (NoTries units numbers.now self.now.bytes.now at count)) }
+    {
+        let mut tries = Vec::with_capacity(self.alloc, usize::from(count))?;
+        let mut place = at;
+        let mut end = 0;
+        for _ in 0..count {
+            let item = match read_try(self.bytes, place, units, numbers) {
+                Some(item) => item,
+                None => return Err(ItemFault::Refused(Condition::Tries as u8)),
+            };
+            if item.start_addr < end {
+                return Err(ItemFault::Refused(Condition::Tries as u8));
+            }
+            end = item.start_addr + u32::from(item.insn_count);
+            tries.push(item)?;
+            place += 8;
         }
-        end = item.start_addr + u32::from(item.insn_count);
-        tries.push(item)?;
-        place += 8;
+        Ok(tries)
     }
-    Ok(tries)
 }

@@ -23,23 +23,23 @@ pub number_of-requires : goal.number_of-requires
 number_of-requires c =
     let i = c.loop-item.item-index in
     let all = c.requires.listed.handlers in
-    let off : ushort_at c.args.bytes.now (c.args.at + 8 * i + 6) ≡ c.u16_at-off.result = rw c.loop-item.invariant.reached at (sym c.u16_at-off.ensures) in
+    let off : ushort_at c.args.reader.now.bytes.now (c.args.at + 8 * i + 6) ≡ c.u16_at-off.result = rw c.loop-item.invariant.reached at (sym c.u16_at-off.ensures) in
     let there = c.requires.listed.are.each i none c.loop-item-test.true in
-    omega (arith, off, begins_within c.args.starts.now c.args.types c.args.bytes.now (c.args.list + ushort_at c.args.bytes.now (c.args.at + 8 * i + 6)) (get_or all (get_or c.args.tries.now i none).handler no_handler) there)
+    omega (arith, off, begins_within c.args.reader.now.starts.now c.args.reader.now.types c.args.reader.now.bytes.now (c.args.list + ushort_at c.args.reader.now.bytes.now (c.args.at + 8 * i + 6)) (get_or all (get_or c.args.tries.now i none).handler no_handler) there)
 
 pub returns-in_err-handler-clause-fault : goal.returns-in_err-handler-clause-fault
 returns-in_err-handler-clause-fault c =
     let p = err_from_is_err_and c.from_residual-in_err-handler.result c.from_residual-in_err-handler.ensures.1 in
     let i = c.loop-item.item-index in
-    let off : ushort_at c.args.bytes.now (c.args.at + 8 * i + 6) ≡ c.u16_at-off.result = rw c.loop-item.invariant.reached at (sym c.u16_at-off.ensures) in
+    let off : ushort_at c.args.reader.now.bytes.now (c.args.at + 8 * i + 6) ≡ c.u16_at-off.result = rw c.loop-item.invariant.reached at (sym c.u16_at-off.ensures) in
     let h = get_or c.requires.listed.handlers (get_or c.args.tries.now i none).handler no_handler in
-    let there = subst (λ (p : ℕ). IsHandlerAt c.args.starts.now c.args.types c.args.bytes.now (c.args.list + p) h) off (c.requires.listed.are.each i none c.loop-item-test.true) in
+    let there = subst (λ (p : ℕ). IsHandlerAt c.args.reader.now.starts.now c.args.reader.now.types c.args.reader.now.bytes.now (c.args.list + p) h) off (c.requires.listed.are.each i none c.loop-item-test.true) in
     rw (p.1, p.2) (fault_so (λ no. no h there) c.in_err-handler.field-0.0 c.in_err-handler.ensures.fault)
 
 pub loop-item-init : goal.loop-item-init
 loop-item-init c = record {
   reached = omega arith;
-  so_far = λ all listed. none_named c.args.starts.now c.args.types c.args.bytes.now c.args.list all _ _ _ _ (search rules) (search rules) (search rules) refl;
+  so_far = λ all listed. none_named c.args.reader.now.starts.now c.args.reader.now.types c.args.reader.now.bytes.now c.args.list all _ _ _ _ (search rules) (search rules) (search rules) refl;
 }
 
 pub loop-item-preserved : goal.loop-item-preserved
@@ -50,8 +50,8 @@ loop-item-preserved c = record {
       let t = get_or c.args.tries.now i none in
       let h = get_or all t.handler no_handler in
       let had = c.loop-item.invariant.so_far all listed in
-      let off : ushort_at c.args.bytes.now (c.args.at + 8 * i + 6) ≡ c.u16_at-off.result = rw c.loop-item.invariant.reached at (sym c.u16_at-off.ensures) in
-      let there = subst (λ (p : ℕ). IsHandlerAt c.args.starts.now c.args.types c.args.bytes.now (c.args.list + p) h) off (listed.each i none c.loop-item-test.true) in
+      let off : ushort_at c.args.reader.now.bytes.now (c.args.at + 8 * i + 6) ≡ c.u16_at-off.result = rw c.loop-item.invariant.reached at (sym c.u16_at-off.ensures) in
+      let there = subst (λ (p : ℕ). IsHandlerAt c.args.reader.now.starts.now c.args.reader.now.types c.args.reader.now.bytes.now (c.args.list + p) h) off (listed.each i none c.loop-item-test.true) in
       let one = c.in_ok-handler.ensures.number h there had.known in
       let pushed : c.push.new.self.items ≡ c.loop-item.numbered.items ++ record { start_addr = t.start_addr; insn_count = t.insn_count; handler = c.in_ok-handler.handler } ∷ [] = grind (arith, common_steps) in
       let more = names_more all c.loop-item.handlers.keys c.number_of.new.handlers.keys c.args.tries.now c.loop-item.numbered.items c.push.new.self.items i c.in_ok-handler.handler none

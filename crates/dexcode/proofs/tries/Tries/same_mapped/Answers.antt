@@ -11,6 +11,6 @@ returns c =
     ap (map (renumbered_try r)) (sym c.parts.ensures.named) ∙ all_remapped r c.parts.result.1.now c.parts.result.0.now in
     let theirs : map (renumbered_try q) c.args.other.now ≡ map (remapped_try q c.parts-2.result.1.now) c.parts-2.result.0.now =
     ap (map (renumbered_try q)) (sym c.parts-2.ensures.named) ∙ all_remapped q c.parts-2.result.1.now c.parts-2.result.0.now in (
-      (λ t. mine ∙ c.same_tries.ensures.0 t ∙ sym theirs),
-      (λ e. c.same_tries.ensures.1 (sym mine ∙ e ∙ theirs)),
+      (λ t. mine ∙ c.eq_tries.ensures.0 t ∙ sym theirs),
+      (λ e. c.eq_tries.ensures.1 (sym mine ∙ e ∙ theirs)),
     )

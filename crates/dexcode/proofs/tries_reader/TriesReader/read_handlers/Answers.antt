@@ -3,13 +3,13 @@ use Rattle.dexcode.specs.Reading.{HandlerAt, IsNumberPut}
 use Rattle.dexcode.proofs.Prefixes.{stuck}
 use Rattle.dexcode.proofs.OneHandler.{one_handler}
 use Rattle.dexcode.proofs.Listed.{one_handler_more}
-use Rattle.dexcode.proofs.handler_list.read_handlers.Goals as goal
+use Rattle.dexcode.proofs.tries_reader.TriesReader.read_handlers.Goals as goal
 
 pub returns-in-None-clause-fault : goal.returns-in-None-clause-fault
 returns-in-None-clause-fault c = (
   refl,
   λ hs n many h. let read = c.loop-number.invariant.1 in
-      stuck (HandlerAt c.args.starts.now c.args.types) (one_handler c.args.starts.now c.args.types) c.args.bytes.now c.args.first c.loop-number.invariant.0 hs c.loop-number.size n
+      stuck (HandlerAt c.args.self.now.starts.now c.args.self.now.types) (one_handler c.args.self.now.starts.now c.args.self.now.types) c.args.self.now.bytes.now c.args.first c.loop-number.invariant.0 hs c.loop-number.size n
       (omega (arith, many, read.many, c.loop-number-test.true)) read.are_encoded c.in-None.ensures.none h,
 )
 
@@ -17,5 +17,5 @@ pub loop-number-preserved : goal.loop-number-preserved
 loop-number-preserved c =
     let put : IsNumberPut (c.args.first + c.loop-number.size - c.args.list) c.loop-number.number c.loop-number.numbers.items c.put_number.new.numbers.items = search rules in (
       c.loop-number.invariant.0 ++ c.in-Some.ensures.some.handler ∷ [],
-      one_handler_more c.args.starts.now c.args.types c.args.bytes.now c.args.list c.args.first c.loop-number.number c.loop-number.size c.in-Some.len c.loop-number.invariant.0 c.loop-number.numbers.items c.put_number.new.numbers.items c.requires.order c.loop-number.invariant.1 c.in-Some.ensures.some put,
+      one_handler_more c.args.self.now.starts.now c.args.self.now.types c.args.self.now.bytes.now c.args.list c.args.first c.loop-number.number c.loop-number.size c.in-Some.len c.loop-number.invariant.0 c.loop-number.numbers.items c.put_number.new.numbers.items c.requires.order c.loop-number.invariant.1 c.in-Some.ensures.some put,
     )

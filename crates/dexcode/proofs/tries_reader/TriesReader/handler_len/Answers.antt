@@ -3,15 +3,15 @@ use Rattle.std.specs.Prelude.{nat_abs}
 use Rattle.std.proofs.lemmas.Int.{to_z-of_z}
 use Rattle.dexcode.specs.Reading.{CatchAllAt}
 use Rattle.dexcode.proofs.HandlersRead.{no_catches, no_catch_all}
-use Rattle.dexcode.proofs.catches.handler_len.Goals as goal
+use Rattle.dexcode.proofs.tries_reader.TriesReader.handler_len.Goals as goal
 
 pub returns-in_err-catches_size-clause-none : goal.returns-in_err-catches_size-clause-none
-returns-in_err-catches_size-clause-none c = rw c.from_residual.ensures (no_catches c.args.starts.now c.args.types c.args.bytes.now c.args.at c.in-Ok.read.0 c.in-Ok.read.1 c.in-Ok.ensures.found c.unsigned_abs-many.result (c.unsigned_abs-many.ensures.value ∙ ap nat_abs (to_z-of_z w32 c.in-Ok.read.0 c.in-Ok.ensures.found.spelled.in_range)) c.in_err-catches_size.ensures.none)
+returns-in_err-catches_size-clause-none c = rw c.from_residual.ensures (no_catches c.args.self.now.starts.now c.args.self.now.types c.args.self.now.bytes.now c.args.at c.in-Ok.read.0 c.in-Ok.read.1 c.in-Ok.ensures.found c.unsigned_abs-many.result (c.unsigned_abs-many.ensures.value ∙ ap nat_abs (to_z-of_z w32 c.in-Ok.read.0 c.in-Ok.ensures.found.spelled.in_range)) c.in_err-catches_size.ensures.none)
 
 pub returns-in_err-all_size-clause-none : goal.returns-in_err-all_size-clause-none
 returns-in_err-all_size-clause-none c = rw c.from_residual-in_err-all_size.ensures (let same = to_z-of_z w32 c.in-Ok.read.0 c.in-Ok.ensures.found.spelled.in_range in
-    no_catch_all c.args.starts.now c.args.types c.args.bytes.now c.args.at c.in-Ok.read.0 c.in-Ok.read.1 c.in-Ok.ensures.found c.unsigned_abs-many.result (c.unsigned_abs-many.ensures.value ∙ ap nat_abs same) c.in_ok-catches_size.ensures.some.catches c.in_ok-catches_size.catches_size c.in_ok-catches_size.ensures.some.read
-    (λ a n there. c.in_err-all_size.ensures.none a n (subst (λ z. CatchAllAt c.args.starts.now z c.args.bytes.now (c.args.at + c.in-Ok.read.1 + c.in_ok-catches_size.catches_size) a n) (sym same) there)))
+    no_catch_all c.args.self.now.starts.now c.args.self.now.types c.args.self.now.bytes.now c.args.at c.in-Ok.read.0 c.in-Ok.read.1 c.in-Ok.ensures.found c.unsigned_abs-many.result (c.unsigned_abs-many.ensures.value ∙ ap nat_abs same) c.in_ok-catches_size.ensures.some.catches c.in_ok-catches_size.catches_size c.in_ok-catches_size.ensures.some.read
+    (λ a n there. c.in_err-all_size.ensures.none a n (subst (λ z. CatchAllAt c.args.self.now.starts.now z c.args.self.now.bytes.now (c.args.at + c.in-Ok.read.1 + c.in_ok-catches_size.catches_size) a n) (sym same) there)))
 
 pub returns-clause-some : goal.returns-clause-some
 returns-clause-some c =
@@ -27,7 +27,7 @@ returns-clause-some c =
         count_is = c.in-Ok.ensures.found;
         many = sym (read.many ∙ c.unsigned_abs-many.ensures.value ∙ ap nat_abs same);
         catches_are = read.are_encoded;
-        all = subst (λ z. CatchAllAt c.args.starts.now z c.args.bytes.now (c.args.at + c.in-Ok.read.1 + c.in_ok-catches_size.catches_size) c.in_ok-all_size.field-0-0 c.in_ok-all_size.all_size) same c.in_ok-all_size.ensures.some;
+        all = subst (λ z. CatchAllAt c.args.self.now.starts.now z c.args.self.now.bytes.now (c.args.at + c.in-Ok.read.1 + c.in_ok-catches_size.catches_size) c.in_ok-all_size.field-0-0 c.in_ok-all_size.all_size) same c.in_ok-all_size.ensures.some;
         size = refl;
       };
       within = omega (arith, read.within, c.in_ok-all_size.ensures.within);

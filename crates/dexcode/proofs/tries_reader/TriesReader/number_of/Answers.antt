@@ -9,7 +9,7 @@ use Rattle.dexspec.proofs.lists.Distinct.{insert_grows}
 use Rattle.dexcode.proofs.HandlersRead.{fault_so}
 use Rattle.dexcode.proofs.Named.{insert_there, known_more}
 use Rattle.dexcode.proofs.OneHandler.{one_handler}
-use Rattle.dexcode.proofs.named_handlers.number_of.Goals as goal
+use Rattle.dexcode.proofs.tries_reader.TriesReader.number_of.Goals as goal
 
 pub returns-in-Some-clause-number : goal.returns-in-Some-clause-number
 returns-in-Some-clause-number c = λ h there known.
@@ -25,7 +25,7 @@ returns-in-Some-clause-number c = λ h there known.
 pub returns-in_err-handler-clause-fault : goal.returns-in_err-handler-clause-fault
 returns-in_err-handler-clause-fault c =
     let p = err_from_is_err_and c.from_residual.result c.from_residual.ensures.1 in
-    let at = HandlerAt c.args.starts.now c.args.types c.args.bytes.now in
+    let at = HandlerAt c.args.self.now.starts.now c.args.self.now.types c.args.self.now.bytes.now in
     rw (p.1, p.2) (fault_so (λ none h there. none h there.size (subst (λ k. at (c.args.list + k) h there.size) (sym c.from.ensures) there.encodes)) c.in_err-handler.field-0.0 c.in_err-handler.ensures.fault)
 
 pub returns-clause-number : goal.returns-clause-number
@@ -33,16 +33,16 @@ returns-clause-number c = λ h there known.
     let old = c.args.handlers.now.keys in
     let new = c.insert_full.new.self.keys in
     let put = c.in_ok-number.ensures in
-    let read = subst (λ k. HandlerAt c.args.starts.now c.args.types c.args.bytes.now (c.args.list + k) c.in_ok-handler.handler c.in_ok-handler.field-0-1) c.from.ensures c.in_ok-handler.ensures.handler in
+    let read = subst (λ k. HandlerAt c.args.self.now.starts.now c.args.self.now.types c.args.self.now.bytes.now (c.args.list + k) c.in_ok-handler.handler c.in_ok-handler.field-0-1) c.from.ensures c.in_ok-handler.ensures.handler in
     let same : c.in_ok-handler.handler ≡ h =
-    (one_handler c.args.starts.now c.args.types c.args.bytes.now (c.args.list + c.args.off) c.in_ok-handler.handler h c.in_ok-handler.field-0-1 there.size read there.encodes).0 in
+    (one_handler c.args.self.now.starts.now c.args.self.now.types c.args.self.now.bytes.now (c.args.list + c.args.off) c.in_ok-handler.handler h c.in_ok-handler.field-0-1 there.size read there.encodes).0 in
     let keys : new ≡ insert_key same_handler old h = put.keys ∙ ap (insert_key same_handler old) same in
     let is : get_or new c.in_ok-number.number no_handler ≡ h =
     get_or_from_slice_get new c.in_ok-number.number put.stored.0 no_handler put.stored.1 ∙ sym ((handler_decides c.in_ok-handler.handler put.stored.0).0 put.stored.2) ∙ same in
     let grows = insert_grows same_handler old h in
     let number : c.in_ok-number.number < length new = omega (arith, put.within) in
     record {
-      known = known_more c.args.starts.now c.args.types c.args.bytes.now c.args.list h there old new grows.0 c.args.numbers.now.items c.put_at.new.numbers.items c.in_ok-number.number known (keys ∙ grows.1) c.in_ok-put_at.ensures number is;
+      known = known_more c.args.self.now.starts.now c.args.self.now.types c.args.self.now.bytes.now c.args.list h there old new grows.0 c.args.numbers.now.items c.put_at.new.numbers.items c.in_ok-number.number known (keys ∙ grows.1) c.in_ok-put_at.ensures number is;
       keys = keys;
       number = number;
       is = is;

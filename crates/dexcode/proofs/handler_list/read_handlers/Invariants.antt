@@ -1,7 +1,0 @@
-use Rattle.std.proofs.Common.{List}
-use Rattle.dexcode.specs.Numbered.{NumberedHandler}
-use Rattle.dexcode.specs.Reading.{HandlersRead}
-use Rattle.dexcode.proofs.handler_list.read_handlers.Given as goal
-
-abbrev pub invariant-loop-number : goal.invariant-loop-number
-invariant-loop-number l = (hs : List NumberedHandler) × HandlersRead l.starts l.types l.bytes l.list l.first l.number hs l.numbers.items l.size

@@ -1,0 +1,7 @@
+use Rattle.std.proofs.Common.{List}
+use Rattle.dexcode.specs.Numbered.{NumberedHandler}
+use Rattle.dexcode.specs.Reading.{HandlersRead}
+use Rattle.dexcode.proofs.tries_reader.TriesReader.read_handlers.Given as goal
+
+abbrev pub invariant-loop-number : goal.invariant-loop-number
+invariant-loop-number l = (hs : List NumberedHandler) × HandlersRead l.self.starts.now l.self.types l.self.bytes.now l.list l.first l.number hs l.numbers.items l.size

@@ -1,5 +1,6 @@
 -- Code items checked: what is at the offset and what it weighs, and which condition fails.
 use Rattle.std.proofs.Common.{◌≡◌, ℕ, ◌+◌, ◌*◌, Bool, false, List, [], length, map, nat_eq, Option, Some, None, refl, ap, sym, subst, ◌∙◌, inl, inr, ne_eqb, arith}
+use Rattle.std.specs.Prelude.{Result, Ok, Err, IfOk, IfErr}
 use Rattle.std.proofs.lemmas.Bool.{cases_eq}
 use Rattle.std.proofs.lemmas.List.Sums.{sum_by-cons}
 use Rattle.dexspec.specs.Bytes.{uint_at}
@@ -85,6 +86,15 @@ program_found b off debug_off weight is some h = record {
 pub no_program : (b : List ℕ) (off debug_off : ℕ) → debug_off ≡ uint_at b (off + 8) → (debug_off ≡ 0 → ⊥) → (fault : ItemFault) → IsDebugFault b debug_off fault → IsProgramFault b off fault
 no_program b off debug_off is some (Refused number) h = (h.0, (λ e. some (is ∙ e)), λ d at. h.1 d (subst (λ (o : ℕ). DebugAt b o d) (sym is) at))
 no_program b off debug_off is some Memory h = tt
+
+-- the same of what a check returns
+pub if_program_found : (b : List ℕ) (off debug_off : ℕ) → debug_off ≡ uint_at b (off + 8) → (debug_off ≡ 0 → ⊥) → (r : Result ℕ ItemFault) → IfOk r (HasDebugAt b debug_off) → IfOk r (HasProgramOf b off)
+if_program_found b off debug_off is some (Ok weight) h = program_found b off debug_off weight is some h
+if_program_found b off debug_off is some (Err fault) h = tt
+
+pub if_no_program : (b : List ℕ) (off debug_off : ℕ) → debug_off ≡ uint_at b (off + 8) → (debug_off ≡ 0 → ⊥) → (r : Result ℕ ItemFault) → IfErr r (IsDebugFault b debug_off) → IfErr r (IsProgramFault b off)
+if_no_program b off debug_off is some (Ok weight) h = tt
+if_no_program b off debug_off is some (Err fault) h = no_program b off debug_off is some fault h
 
 -- ---- numbers by offsets
 

@@ -107,10 +107,8 @@ impl TriesReader<'_, '_> {
         if size > 0 {
             return Some((None, 0));
         }
-        match self.read_address(at) {
-            Some((addr, len)) => Some((Some(addr), len)),
-            None => None,
-        }
+        let (addr, len) = self.read_address(at)?;
+        Some((Some(addr), len))
     }
 
     // Returns the number of bytes that encode the handler at an offset, if there is one. No handler is kept.

@@ -21,7 +21,7 @@ pub struct CheckedDebugs {
 }
 
 impl CheckedDebugs {
-    /// Returns an empty cache.
+    /// Returns an empty cache. What is checked with it is allocated by the same allocator.
     pub fn none(alloc: Global) -> CheckedDebugs
         ensures { (b : List ℕ) → AreCheckedDebugs b result }
     {

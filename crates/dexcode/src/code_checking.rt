@@ -57,10 +57,7 @@ fn check_program(
     if debug_off == 0 {
         return Ok(0);
     }
-    match checked_debug_at(frame, pools, debug_off, checked) {
-        Ok(weight) => Ok(weight),
-        Err(fault) => Err(fault),
-    }
+    checked_debug_at(frame, pools, debug_off, checked)
 }
 
 /// Checks the code_item at an offset, whose indices count in the pools: those of the file. It returns what the

@@ -32,13 +32,9 @@ fn renumbered(remap: &Remap, kind: SymbolKind, number: Option<u32>) -> Option<u3
     ensures image { result ≡ image_or_none remap.now kind number }
     ensures fits { FitsIndex result }
 {
-    match number {
-        Some(number) => match remap.image(kind, number as usize) {
-            Some(image) => Some(image as u32),
-            None => None,
-        },
-        None => None,
-    }
+    let number = number?;
+    let image = remap.image(kind, number as usize)?;
+    Some(image as u32)
 }
 
 // Returns the operation with each number mapped to its image.

@@ -401,8 +401,5 @@ pub fn read_debug(
     ensures refused { ArePools frame.now pools.now → IfErr result (IsDebugFault frame.now off) }
 {
     let shape = check_debug(frame, pools, off)?;
-    match build_debug(alloc, frame, pools, off, shape) {
-        Ok(debug) => Ok(debug),
-        Err(_) => Err(ItemFault::Memory),
-    }
+    Ok(build_debug(alloc, frame, pools, off, shape)?)
 }

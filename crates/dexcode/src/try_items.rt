@@ -27,14 +27,12 @@ fn read_try(bytes: &[u8], at: usize, units: u32, numbers: &[Option<u32>]) -> Opt
     if u64::from(units) < u64::from(start_addr) + u64::from(insn_count) {
         return None;
     }
-    match handler_at(numbers, u16_at(bytes, at + 6)) {
-        Some(handler) => Some(Try {
-            start_addr,
-            insn_count,
-            handler,
-        }),
-        None => None,
-    }
+    let handler = handler_at(numbers, u16_at(bytes, at + 6))?;
+    Some(Try {
+        start_addr,
+        insn_count,
+        handler,
+    })
 }
 
 impl TriesReader<'_, '_> {

@@ -1,8 +1,9 @@
 //! Views of declared methods.
 
-ghost use Rattle.std.specs.Prelude.{◌≡◌, ◌<◌, ◌==◌, ℕ, List, [], Some, None, length, map, slice_index_or, All, MatchOption};
+ghost use Rattle.std.specs.Prelude.{◌≡◌, ◌<◌, ◌==◌, ◌-◌, ◌^◌, ℕ, List, [], Some, None, length, map, min, slice_index_or, All, MatchOption};
 ghost use Rattle.dexspec.specs.Spellings.{offsets_bytes};
 ghost use Rattle.dexval.specs.Code.{set_of};
+ghost use Rattle.dexval.specs.Spelled.{numbered_sets_weight};
 ghost use Rattle.dexval.specs.Tables.{IsPlaceIn, set_at};
 ghost use Rattle.dexmembers.specs.Held.{method_of, IsHeldMethod};
 ghost use Rattle.dexmembers.specs.Borrowed.{IsBorrowedSet};
@@ -179,6 +180,15 @@ impl<'m, 'a> Method<'m, 'a> {
     {
         let (table, method) = (self.table, self.method);
         ParameterSets::of(table, table.list(method.list))
+    }
+
+    /// The weight of the annotations of the parameters, or 2^64 - 1 where that is more.
+    pub(crate) fn parameters_weight(&self) -> u64
+        ensures { result
+            ≡ min (2 ^ 64 - 1) (numbered_sets_weight self.now.parameter_annotations) }
+    {
+        let (table, method) = (self.table, self.method);
+        table.list_weight(method.list)
     }
 }
 

@@ -1,9 +1,9 @@
 //! The weight of members of classes.
 
-ghost use Rattle.std.specs.Prelude.{◌≡◌, ◌+◌, ◌-◌, ◌*◌, ◌^◌, length, min, map, sum_by};
+ghost use Rattle.std.specs.Prelude.{◌≡◌, ◌+◌, ◌-◌, ◌^◌, min, map, sum_by};
 ghost use Rattle.dexval.specs.Code.{set_of, value_of};
 ghost use Rattle.dexval.specs.Numbered.{values_of_list};
-ghost use Rattle.dexval.specs.Spelled.{numbered_set_weight, numbered_sets_weight, numbered_statics_weight};
+ghost use Rattle.dexval.specs.Spelled.{numbered_set_weight, numbered_statics_weight};
 ghost use Rattle.dexmembers.specs.Weight.{ForKnown, weight_in};
 ghost use Rattle.dexmembers.specs.Contents.{contents_in, AreHeld};
 ghost use Rattle.dexmembers.specs.Weighing.{numbered_field_weight, numbered_members_weight, method_code_weight, own_method_weight, own_members_weight};
@@ -13,7 +13,7 @@ ghost use Rattle.dexmembers.specs.Laws.{MembersWeightIsDenoted};
 
 use crate::field_views::{Field, Fields};
 use crate::members::{Contents, Members};
-use crate::method_views::{Method, Methods, ParameterSets};
+use crate::method_views::{Method, Methods};
 use dexcode::{Code, code_meaning_law, code_weight_law, debug_meaning_law, debug_unindexed_law};
 use dexval::{AnnotationSet, Value, statics_weight};
 
@@ -33,30 +33,6 @@ fn optional_weight(set: Option<&AnnotationSet>) -> u64
         Some(set) => set_weight(set),
         None => 0,
     }
-}
-
-// Returns the weight of the sets of parameters in a list of them, likewise.
-fn listed_weight(sets: &ParameterSets<'_>) -> u64
-    ensures { result
-        ≡ min (2 ^ 64 - 1) (8 + 4 * length sets.now + sum_by numbered_set_weight sets.now) }
-{
-    let mut weight: u64 = 8;
-    for i in 0..sets.len() {
-        weight = weight
-            .saturating_add(4)
-            .saturating_add(optional_weight(sets.get(i)));
-    }
-    weight
-}
-
-// Returns the weight of the sets of parameters, which is 0 if there are none.
-fn sets_weight(sets: &ParameterSets<'_>) -> u64
-    ensures { result ≡ min (2 ^ 64 - 1) (numbered_sets_weight sets.now) }
-{
-    if sets.is_empty() {
-        return 0;
-    }
-    listed_weight(sets)
 }
 
 // Returns the weight of the initial values of static fields.
@@ -130,7 +106,7 @@ impl Method<'_, '_> {
     {
         31u64
             .saturating_add(optional_weight(self.annotations()))
-            .saturating_add(sets_weight(&self.parameter_annotations()))
+            .saturating_add(self.parameters_weight())
     }
 
     // Returns the weight of the method's code.

@@ -130,7 +130,7 @@ impl SetTable {
     /// The weight of the list at a place and its sets, each set as often as it occurs, or 2^64 - 1 if they weigh more.
     ///
     /// Condition: the place is one of the lists'.
-    pub(crate) fn list_weight(&self, place: Option<u32>) -> u64
+    pub fn list_weight(&self, place: Option<u32>) -> u64
         requires { IsPlaceIn self.now.lists place }
         ensures { (m : Mentions)
             → result ≡ min (2 ^ 64 - 1) (sets_weight_in m (sets_at self.now place)) }

@@ -4,16 +4,14 @@ ghost use Rattle.std.specs.Prelude.{◌≡◌, ◌<◌, ◌-◌, ◌^◌, min, l
 ghost use Rattle.std.specs.FinMap as finite;
 ghost use Rattle.dexspec.specs.Files.{definitions, IsCollectionOf};
 ghost use Rattle.dexspec.specs.WellFormed.{AreWellFormed};
-ghost use Rattle.dexspec.specs.Mentions.{Mentions, mentions};
+ghost use Rattle.dexspec.specs.Mentions.{mentions};
 ghost use Rattle.dexspec.specs.Weight.{weight};
 ghost use Rattle.dexspec.specs.Merging.{IsGood, greatest_caps};
 ghost use Rattle.dexclass.specs.Numbered.{definition_of};
 ghost use Rattle.dexorder.specs.Definitions.{AreDepthsOf};
-ghost use Rattle.dexpool.specs.Numberings.{AreRising};
 ghost use Rattle.dexclass.specs.Parents.{AreDepthsByName};
 ghost use Rattle.dexclass.specs.Uses.{IsKnownClass};
 ghost use Rattle.dexclass.specs.Programs.{AreMergeable, AreClassesOf, IsClassAt};
-ghost use Rattle.dexclass.specs.internal.Ordered.{weight_of};
 
 use crate::classes::Class;
 use crate::ordering::{depths_of, in_order, known_depths};
@@ -247,18 +245,6 @@ pub(crate) fn copied<'a>(alloc: Global, classes: &[Class<'a>]) -> Result<Vec<Cla
     Ok(copy)
 }
 
-// What classes weigh without the symbols that they name, or 2^64 - 1 where that is more.
-fn bodies_weight(classes: &[Class<'_>]) -> u64
-    ensures { (m : Mentions) → AreRising m → All (IsKnownClass m) classes.now
-        → result ≡ weight_of m classes.now }
-{
-    let mut weight: u64 = 0;
-    for class in classes {
-        weight = weight.saturating_add(class.weight());
-    }
-    weight
-}
-
 // What classes weigh over the numbering of just what they mention, or 2^64 - 1 where that is more.
 fn weight_of(numbering: &Numbering<'_>, classes: &[Class<'_>]) -> u64
     requires known { All (IsKnownClass numbering.now) classes.now }
@@ -266,7 +252,9 @@ fn weight_of(numbering: &Numbering<'_>, classes: &[Class<'_>]) -> u64
     ensures { result ≡ min (2 ^ 64 - 1) (weight (map (definition_of numbering.now) classes.now)) }
 {
     numbering.is_numbering();
-    bodies_weight(classes)
-        .saturating_add(numbering.weight())
-        .saturating_add(1024)
+    let mut weight = numbering.weight().saturating_add(1024);
+    for class in classes {
+        weight = weight.saturating_add(class.weight());
+    }
+    weight
 }

@@ -1,7 +1,6 @@
 -- Classes with their depths, in the order of a canonical file.
-use Rattle.std.specs.Prelude.{◌≡◌, ℕ, ◌-◌, ◌^◌, List, Option, None, min, map, sum_by, slice_index_or}
+use Rattle.std.specs.Prelude.{◌≡◌, ℕ, List, Option, None, map, slice_index_or}
 use Rattle.dexspec.specs.Mentions.{Mentions, mentions}
-use Rattle.dexspec.specs.Weight.{body_weight}
 use Rattle.dexspec.specs.Depth.{IsAcyclic, in_class_order}
 use Rattle.dexorder.specs.Definitions.{AreDepthsOf}
 use Rattle.dexclass.specs.Numbered.{NumberedClass, definition_of}
@@ -22,10 +21,6 @@ AreInClassOrder cs depths ordered = (m : Mentions) → AreNamed m cs → AreDept
 -- the classes at these places
 abbrev pub classes_at : List NumberedClass → List ℕ → List NumberedClass
 classes_at cs places = map (λ i. slice_index_or cs i no_class) places
-
--- what the classes' definitions weigh without the symbols that they mention, or 2 ^ 64 - 1 where that is more
-abbrev pub weight_of : Mentions → List NumberedClass → ℕ
-weight_of m cs = min (2 ^ 64 - 1) (sum_by (λ c. body_weight (definition_of m c).1) cs)
 
 -- what the classes' definitions mention
 abbrev pub mentions_of : Mentions → List NumberedClass → Mentions

@@ -1,4 +1,7 @@
-use Rattle.std.proofs.Common.{arith}
+use Rattle.std.proofs.Common.{◌+◌, ◌-◌, ◌^◌, ◌∙◌, List, min, sum_by, ap, sym}
+use Rattle.std.proofs.lemmas.List.{take_all}
+use Rattle.dexspec.specs.Weight.{mentions_weight, body_weight}
+use Rattle.dexclass.specs.Numbered.{NumberedClass, definition_of}
 use Rattle.dexclass.proofs.ProgramsOf.{weight_parts}
 use Rattle.dexclass.proofs.programs.weight_of.Goals as goal
 
@@ -6,6 +9,6 @@ pub returns : goal.returns
 returns c =
     let m = c.args.numbering.now in
     let cs = c.args.classes.now in
-    let bodies = c.bodies_weight.ensures m c.is_numbering.ensures.rising c.requires.known in
-    let parts = weight_parts m cs c.requires.mentions in
-    omega (arith, bodies, parts)
+    let all = take_all c.loop-class.class-index cs c.loop-class-test.false in
+    c.loop-class.invariant ∙ ap (λ (l : List NumberedClass). min (2 ^ 64 - 1) (1024 + mentions_weight m + sum_by (λ (x : NumberedClass). body_weight (definition_of m x).1) l)) all
+    ∙ ap (min (2 ^ 64 - 1)) (sym (weight_parts m cs c.requires.mentions))

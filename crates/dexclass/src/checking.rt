@@ -1,8 +1,7 @@
 //! Checking a whole file.
 
-ghost use Rattle.std.specs.Prelude.{◌+◌, ◌<◌, ◌≤◌, All, IsTrue, IfOk, IfErr, OnOk};
+ghost use Rattle.std.specs.Prelude.{◌+◌, ◌<◌, All, IfOk, IfErr, OnOk};
 ghost use Rattle.dexspec.specs.Header.{ClassDefs, table_size};
-ghost use Rattle.dexspec.specs.Weight.{mentions_weight, most_weight};
 ghost use Rattle.dexspec.specs.Accepted.{HoldBelow};
 ghost use Rattle.dexpool.specs.Pools.{ArePools};
 ghost use Rattle.dexclass.specs.Programs.{IsFaultOf};
@@ -10,7 +9,9 @@ ghost use Rattle.dexclass.specs.Checking.{HaveBodiesOf, IsCheckedAs};
 ghost use Rattle.dexclass.specs.internal.Checked.{AreCheckedRows};
 
 use crate::class_checks::check_classes;
-use crate::reading::{MOST_WEIGHT, at_row, interface_count, read_rows, row_weight, too_heavy};
+use crate::reading::{
+    MOST_WEIGHT, at_row, check_weight, interface_count, read_rows, row_weight, too_heavy,
+};
 use dexhead::{Frame, Table};
 use dexmembers::{Checks, ClassDef, check_members};
 use dexpool::{Pools, ReadFault};
@@ -42,23 +43,11 @@ pub fn check_frame(alloc: Global, frame: &Frame<'_>) -> Result<usize, ReadFault>
     let pools = Pools::read(alloc, frame)?;
     check_classes(alloc, frame, &pools)?;
     let bodies = check_rows(alloc, frame, &pools)?;
-    if is_light(&pools, bodies) {
+    if let Ok(_weight) = check_weight(frame, pools.numbering(), bodies) {
         return Ok(frame.size(Table::ClassDefs) as usize);
     }
     // Of the symbols of the pools only those count that the classes mention.
     read_len(alloc, frame, pools)
-}
-
-// Whether classes that weigh this much are light enough with all symbols of the pools.
-fn is_light(pools: &Pools<'_>, bodies: u64) -> bool
-    ensures { IsTrue result → 1024 + mentions_weight pools.now + bodies ≤ most_weight }
-{
-    let weight = pools
-        .numbering()
-        .weight()
-        .saturating_add(bodies)
-        .saturating_add(1024);
-    weight <= MOST_WEIGHT
 }
 
 // The numbers of bytes are below 256.

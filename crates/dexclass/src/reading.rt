@@ -154,9 +154,13 @@ fn read_bodies<'a>(
     Ok(bodies)
 }
 
-// The weight of classes with the symbols that they mention; `bodies` is that of the classes alone. If it is too much,
-// the refusal names the last row.
-fn check_weight(frame: &Frame<'_>, numbering: &Numbering<'_>, bodies: u64) -> Result<u64, Refusal>
+/// The weight of classes with all symbols of a numbering; `bodies` is that of the classes alone. If it is too much, the
+/// refusal names the last row.
+pub(crate) fn check_weight(
+    frame: &Frame<'_>,
+    numbering: &Numbering<'_>,
+    bodies: u64,
+) -> Result<u64, Refusal>
     ensures accepted { IfOk result (IsWhole numbering.now bodies) }
     ensures refused { IfErr result (AreHeavyTogether frame.now numbering.now bodies) }
 {

@@ -2,8 +2,7 @@
 
 ghost use Rattle.std.specs.Prelude.{◌≡◌, true, false, map, IfOk, IfErr, string_bytes};
 ghost use Rattle.dexruns.specs.Lines.{HasName};
-ghost use Rattle.dexcmd.specs.EachFile.{passes, goes_on, IsFileChecked, IsFileDigested, IsFileRun, HasRunOverEach};
-ghost use Rattle.dexcmd.specs.declared.each_file.Task.TheVariants.{Check, Digest};
+ghost use Rattle.dexcmd.specs.EachFile.{passes, goes_on, IsFileRun, HasRunOverEach};
 
 use crate::devices::Devices;
 use crate::outcome_report::{Report, RunDevices, STANDARD_OUTPUT, add_outcome, done, empty_report};
@@ -40,44 +39,7 @@ fn goes_on(task: Task, outcome: &Result<u8, RunFault>) -> bool
     }
 }
 
-// Checks a file.
-fn check_file<'a, D: Devices<'a>>(
-    alloc: Global,
-    devices: &D,
-    file: &'a str,
-    out: &mut D::Output,
-) -> Result<u8, RunFault>
-    requires { D.Output.has_failed out.old ≡ false }
-    ensures ran { IsFileChecked (D.is_input devices.now)
-        (D.is_standard devices.now) D.is_closed D.Input.reports D.Input.to_come D.Input.has_failed
-        D.Output.reports D.Output.taken D.Output.has_failed file.now out.old out.new result }
-    ensures named { IfErr result (HasName 1) }
-    ensures works { goes_on Check result ≡ true → D.Output.has_failed out.new ≡ false }
-{
-    let mut inputs = Vec::new(alloc);
-    inputs.push(devices.input(file))?;
-    check_run(alloc, &[file], inputs.as_mut_slice(), out)
-}
-
-// Writes the digests of a file's classes.
-fn digest_file<'a, D: Devices<'a>>(
-    alloc: Global,
-    devices: &D,
-    file: &'a str,
-    out: &mut D::Output,
-) -> Result<u8, RunFault>
-    requires { D.Output.has_failed out.old ≡ false }
-    ensures ran { IsFileDigested (D.is_input devices.now)
-        (D.is_standard devices.now) D.is_closed D.Input.reports D.Input.to_come D.Input.has_failed
-        D.Output.reports D.Output.taken D.Output.has_failed file.now out.old out.new result }
-    ensures named { IfErr result (HasName 1) }
-    ensures works { goes_on Digest result ≡ true → D.Output.has_failed out.new ≡ false }
-{
-    let mut input = devices.input(file);
-    done(digest_run(alloc, file, &mut input, out))
-}
-
-// Runs over a file.
+// Checks a file, or writes the digests of its classes.
 fn run_over<'a, D: Devices<'a>>(
     alloc: Global,
     devices: &D,
@@ -93,8 +55,15 @@ fn run_over<'a, D: Devices<'a>>(
     ensures works { goes_on task result ≡ true → D.Output.has_failed out.new ≡ false }
 {
     match task {
-        Task::Check => check_file(alloc, devices, file, out),
-        Task::Digest => digest_file(alloc, devices, file, out),
+        Task::Check => {
+            let mut inputs = Vec::new(alloc);
+            inputs.push(devices.input(file))?;
+            check_run(alloc, &[file], inputs.as_mut_slice(), out)
+        }
+        Task::Digest => {
+            let mut input = devices.input(file);
+            done(digest_run(alloc, file, &mut input, out))
+        }
     }
 }
 

@@ -1,5 +1,5 @@
 -- The faults of class rows as they are read.
-use Rattle.std.proofs.Common.{◌≡◌, ℕ, zero, suc, ◌+◌, ◌*◌, ◌-◌, ◌<◌, ◌≤◌, List, [], ◌∷◌, length, map, refl, ap, subst, arith, inl, inr}
+use Rattle.std.proofs.Common.{◌≡◌, ℕ, zero, suc, ◌+◌, ◌*◌, ◌-◌, ◌<◌, ◌≤◌, List, [], ◌∷◌, length, map, refl, sym, ap, subst, arith, inl, inr}
 use Rattle.dexspec.specs.Header.{ClassDefs, table_size}
 use Rattle.dexspec.specs.Classes.{Definition, class_idx, interfaces_off}
 use Rattle.dexspec.specs.Mentions.{Mentions, mentions}
@@ -10,10 +10,12 @@ use Rattle.dexspec.proofs.determined.Denoted.{AreReadable}
 use Rattle.dexhead.specs.declared.refusal.Refusal.{Refusal}
 use Rattle.dexpool.specs.Pools.{ArePools}
 use Rattle.dexpool.specs.declared.faults.ItemFault.TheVariants as items
+use Rattle.dexpool.specs.declared.faults.ItemFault.{ItemFault}
 use Rattle.dexpool.specs.declared.faults.ReadFault.{ReadFault}
 use Rattle.dexpool.specs.declared.faults.ReadFault.TheVariants.{Refused, Memory}
-use Rattle.dexmembers.specs.Reading.{AreHeavyMembers, IsMembersFault}
+use Rattle.dexmembers.specs.Reading.{AreHeavyMembers, IsMembersFault, IsMembersFaultWithin}
 use Rattle.dexclass.specs.internal.Rows.{IsClassFault, interface_indices}
+use Rattle.dexclass.specs.internal.Checked.{IsFaultAtRow}
 use Rattle.dexclass.specs.Numbered.{type_at, definition_of}
 use Rattle.dexclass.specs.Programs.{IsFaultOf}
 use Rattle.dexclass.specs.internal.Reading.{bodies_weight, AreBodies, AreHeavyTogether}
@@ -61,6 +63,11 @@ item_refused b r n h lt fault =
     let at = late_row b r fault.0 late in
     (fault.0, r, fault.1, at.1, inr (record { before = h; late = late; row = omega (arith, lt, at.0); fails = fault.4 }))
 
+-- the fault of a row
+pub row_fault : (b : List ℕ) (r : ℕ) (members : ItemFault) (fault : ReadFault) → IsFaultAtRow members r fault → HoldBelow 17 b → r < table_size b ClassDefs → IsMembersFault b r members → IsFaultOf b fault
+row_fault b r items.Memory fault is h lt m = subst (IsFaultOf b) (sym is) tt
+row_fault b r (items.Refused n) fault is h lt m = subst (IsFaultOf b) (sym is) (item_refused b r n h lt m)
+
 -- ---- condition 23
 
 -- a row where it fails
@@ -72,12 +79,18 @@ module _ (b : List ℕ) (m : Mentions) (pools : ArePools b m) (h : HoldBelow 17 
   has_class = h Condition.Classes (omega arith) r lt
 
   -- what the row declares weighs more than is left
-  pub members_heavy : (most : ℕ) → most ≡ most_weight - bodies.weight - (96 + 2 * length (interface_indices b (interfaces_off b r))) → AreHeavyMembers b r most → IsRefused b 23 r
+  members_heavy : (most : ℕ) → most ≡ most_weight - bodies.weight - (96 + 2 * length (interface_indices b (interfaces_off b r))) → AreHeavyMembers b r most → IsRefused b 23 r
   members_heavy most left heavy =
       let D = map (definition_of m) bodies.classes.items in
       let d : Definition = (type_at m (class_idx b r), row_body b m r heavy.members) in
       heavy_refused b r (heavy_row b h r D d lt before.readable before.rows heavy.readable (row_encoded b m pools r heavy.members lt has_class heavy.row)
       (omega (arith, left, heavy.heavy, row_weight b m r heavy.members, before.weight_is)))
+
+  -- the fault of a row that is read within what is left
+  pub row_fault_within : (most : ℕ) → most ≡ most_weight - bodies.weight - (96 + 2 * length (interface_indices b (interfaces_off b r))) → (members : ItemFault) (fault : ReadFault) → IsFaultAtRow members r fault → IsMembersFaultWithin b r most members → IsFaultOf b fault
+  row_fault_within most left items.Memory fault is m = subst (IsFaultOf b) (sym is) tt
+  row_fault_within most left (items.Refused n) fault is (inl m) = row_fault b r (items.Refused n) fault is h lt m
+  row_fault_within most left (items.Refused n) fault is (inr m) = subst (IsFaultOf b) (sym is) (subst (λ (k : ℕ). IsRefused b k r) (sym m.0) (members_heavy most left m.1))
 
 -- nothing weighs little
 nothing_light : weight [] ≤ most_weight

@@ -110,13 +110,9 @@ fn read_row<'a>(
     let count = interface_count(frame, row.interfaces_off);
     let own = row_weight(count);
     let most = MOST_WEIGHT.saturating_sub(bodies.weight + own) as u32;
-    let found = match read_members(alloc, frame, pools, &row, most) {
+    let (members, weight) = match read_members(alloc, frame, pools, &row, most) {
         Ok(found) => found,
         Err(fault) => return Err(at_row(fault, r)),
-    };
-    let (members, weight) = match found {
-        Some(found) => found,
-        None => return Err(too_heavy(r)),
     };
     let body = own + u64::from(weight);
     let weight = bodies.weight + body;

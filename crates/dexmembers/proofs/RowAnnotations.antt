@@ -1,6 +1,5 @@
 -- The annotations of a row: condition 22, and what was read.
-use Rattle.std.proofs.Common.{◌≡◌, ◌≢◌, ℕ, List, [], ◌∷◌, map, refl, sym, ap, ◌∙◌, subst, inl, inr, Option, Some, None}
-use Rattle.std.specs.Prelude.{◌-◌, ◌^◌, ◌≤◌, min, MatchOption, IfSome}
+use Rattle.std.proofs.Common.{◌≡◌, ◌≢◌, ℕ, List, [], ◌∷◌, map, refl, sym, ap, ◌∙◌, subst, inl, inr, Some}
 use Rattle.std.specs.Ordering.{nat_cmp}
 use Rattle.dexspec.specs.Lists.{rises, OrNone}
 use Rattle.dexspec.specs.Annotations.{Directory, DirectoryAt, no_directory}
@@ -14,13 +13,13 @@ use Rattle.dexpool.specs.Pools.{ArePools}
 use Rattle.dexval.specs.Shared.{shared_directory_of}
 use Rattle.dexval.specs.Tables.{set_at, sets_at}
 use Rattle.dexval.specs.Numbered.{directory_in}
-use Rattle.dexval.specs.Directories.{HasMembers, directory_weight}
-use Rattle.dexval.specs.Reading.{IsDirectoryFault, IsDirectoryWithin, HasHeavyDirectory}
+use Rattle.dexval.specs.Directories.{HasMembers}
+use Rattle.dexval.specs.Reading.{IsDirectoryFault, IsDirectoryFaultWithin, IsDirectoryWithin}
 use Rattle.dexval.specs.declared.directory.SharedDirectory.{SharedDirectory}
 use Rattle.dexmembers.specs.internal.ClassData.{class_data_in, IsDataOf}
 use Rattle.dexmembers.specs.internal.Attaching.{EntriesRise}
 use Rattle.dexmembers.specs.internal.Naming.{NamesRead, ListsRise}
-use Rattle.dexmembers.specs.internal.RowParts.{AreAnnotationsOf, AreHeavyAnnotations, IsAnnotationsFault}
+use Rattle.dexmembers.specs.internal.RowParts.{AreAnnotationsOf, IsAnnotationsFault, IsAnnotationsFaultWithin}
 use Rattle.dexmembers.specs.declared.class_data.ClassData.{ClassData as DataRead}
 use Rattle.dexmembers.proofs.Entered.{field_entries_rise, method_entries_rise, list_entries_rise}
 use Rattle.dexmembers.proofs.NamesKept.{named_members, named_indices}
@@ -55,6 +54,12 @@ module _ (b : List ℕ) (r : ℕ) (m : Mentions) (read : DataRead) (is : IsDataO
   directory_refused Memory h = tt
   directory_refused (Refused n) h = (h.0, λ holds. let a = holds (class_data_in m read) is.declared in h.1 a.0 (directory_there a.0 a.1))
 
+  -- or it weighs more than it may
+  pub directory_refused_within : (most : ℕ) (fault : ItemFault) → IsDirectoryFaultWithin b off most fault → IsAnnotationsFaultWithin b r most fault
+  directory_refused_within most Memory h = tt
+  directory_refused_within most (Refused n) (inl h) = inl (directory_refused (Refused n) h)
+  directory_refused_within most (Refused n) (inr h) = inr (h.0, λ a at. h.1 a (directory_there a at))
+
   module _ (pools : ArePools b m) (rising : AreRising m) where
     -- where it names others too
     pub unnamed_refused : (HasMembers b off → ListsRise read → NamesRead b off read → ⊥) → HasAnnotations b r → ⊥
@@ -64,10 +69,8 @@ module _ (b : List ℕ) (r : ℕ) (m : Mentions) (read : DataRead) (is : IsDataO
         none (record { in_data = at.in_data; aligned = at.aligned }) (lists_rise b r m read is) (named_indices b m pools rising off a.0 at r read is a.2)
 
     -- what was read is that of the row
-    pub directory_returned : (most : ℕ) (found : Option SharedDirectory) → MatchOption found (HasHeavyDirectory b off most) (λ (a : SharedDirectory). IsDirectoryWithin b off m most (shared_directory_of a)) → NamesRead b off read
-        → MatchOption found (AreHeavyAnnotations b r m read most) (AreAnnotationsOf b r m read)
-    directory_returned most None h names = record { directory = h.directory; at = directory_here h.directory h.at; named = named_members b m pools rising off h.directory h.at r read is names; heavy = h.heavy }
-    directory_returned most (Some a) h names = record {
+    pub directory_returned : (most : ℕ) (a : SharedDirectory) → IsDirectoryWithin b off m most (shared_directory_of a) → NamesRead b off read → AreAnnotationsOf b r m read a
+    directory_returned most a h names = record {
       known = h.is.known;
       at = directory_here (directory_in m (shared_directory_of a)) h.is.at;
       named = named_members b m pools rising off (directory_in m (shared_directory_of a)) h.is.at r read is names;
@@ -77,9 +80,3 @@ module _ (b : List ℕ) (r : ℕ) (m : Mentions) (read : DataRead) (is : IsDataO
         parameters_entered = keys_rise (λ (i : ℕ). sets_at a.table (Some i)) a.parameters.items (list_entries_rise b m pools rising off (shared_directory_of a) h.is);
       };
     }
-
--- what was read weighs no more than it may
-pub directory_light : (b : List ℕ) (m : Mentions) (off most : ℕ) (found : Option SharedDirectory) → MatchOption found (HasHeavyDirectory b off most) (λ (a : SharedDirectory). IsDirectoryWithin b off m most (shared_directory_of a))
-    → IfSome found (λ (a : SharedDirectory). min (2 ^ 64 - 1) (directory_weight (directory_in m (shared_directory_of a))) ≤ most)
-directory_light b m off most None h = tt
-directory_light b m off most (Some a) h = h.within

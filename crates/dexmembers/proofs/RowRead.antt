@@ -1,10 +1,13 @@
 -- What is returned for a row that was read.
-use Rattle.std.proofs.Common.{◌≡◌, ℕ, suc, ◌<◌, ◌≤◌, List, [], ◌∷◌, length, refl, sym, ap, ◌∙◌, subst, Option, Some, None}
-use Rattle.std.specs.Prelude.{MatchOption}
+use Rattle.std.proofs.Common.{◌≡◌, ℕ, suc, ◌+◌, ◌-◌, ◌^◌, ◌<◌, ◌≤◌, min, List, [], ◌∷◌, length, refl, sym, ap, ◌∙◌, subst, inl, inr, Option}
+use Rattle.std.specs.Prelude.{Result, Ok, Err, IfOk, IfErr}
 use Rattle.std.specs.List.{AllZip}
 use Rattle.dexspec.specs.Lists.{BothOrNone}
 use Rattle.dexspec.specs.Code.{Code}
+use Rattle.dexspec.specs.Accepted.{IsReadable}
 use Rattle.dexspec.specs.Mentions.{Mentions}
+use Rattle.dexpool.specs.declared.faults.ItemFault.{ItemFault}
+use Rattle.dexpool.specs.declared.faults.ItemFault.TheVariants.{Refused, Memory}
 use Rattle.dexpool.specs.Numberings.{AreRising}
 use Rattle.dexcode.specs.Numbered.{NumberedItem, DenotesCode}
 use Rattle.dexcode.specs.Meaning.{code_in, IsKnownCode}
@@ -15,10 +18,13 @@ use Rattle.dexmembers.specs.Numbered.{NumberedMembers, members_in, AreKnownMembe
 use Rattle.dexmembers.specs.Weight.{members_weight}
 use Rattle.dexmembers.specs.internal.ClassData.{IsDataOf}
 use Rattle.dexmembers.specs.internal.MethodCodes.{AreCodesAt}
-use Rattle.dexmembers.specs.Reading.{MembersRow, AreReadWithin}
-use Rattle.dexmembers.specs.internal.RowParts.{ArePartsOf, AreAttachable, attached}
+use Rattle.dexmembers.specs.Weighing.{codes_weight, codes_of}
+use Rattle.dexmembers.specs.Reading.{MembersRow, AreReadWithin, IsMembersFault, IsMembersFaultWithin}
+use Rattle.dexmembers.specs.internal.RowParts.{ArePartsOf, AreAttachable, IsPartFault, attached}
+use Rattle.dexmembers.specs.internal.Weighed.{AreWithin, IsWeighedWithin}
 use Rattle.dexmembers.specs.declared.class_data.EncodedMethod.{EncodedMethod as MethodRead}
 use Rattle.dexmembers.specs.declared.class_data.ClassData.{ClassData as DataRead}
+use Rattle.dexmembers.proofs.CodesApart.{attached_codes}
 use Rattle.dexmembers.proofs.Made.{made_row, made_known, made_ordered}
 use Rattle.dexmembers.proofs.OfClass.{attached_of_class}
 use Rattle.dexmembers.proofs.RowsAreAt.{row_readable}
@@ -45,7 +51,7 @@ module _ (b : List ℕ) (r : ℕ) (m : Mentions) (rising : AreRising m) (read : 
 
   module _ (is_known : (c : NumberedItem) (x : Code) → DenotesCode m c x → IsKnownCode m c) (is_meant : (c : NumberedItem) (x : Code) → DenotesCode m c x → x ≡ code_in m c) where
     -- their numbers are those of symbols
-    pub parts_known : AreKnownMembers m (attached read (shared_directory_of a) direct virtual vs)
+    parts_known : AreKnownMembers m (attached read (shared_directory_of a) direct virtual vs)
     parts_known =
         made_known b r m rising (shared_directory_of a) parts.annotations.known read is is_known is_meant direct virtual parts.direct_codes.symbolic parts.virtual_codes.symbolic parts.direct_codes.at parts.direct_codes.are_encoded parts.virtual_codes.at parts.virtual_codes.are_encoded vs parts.values.known
 
@@ -54,26 +60,44 @@ module _ (b : List ℕ) (r : ℕ) (m : Mentions) (rising : AreRising m) (read : 
     parts_row =
         made_row b r m rising (shared_directory_of a) parts.annotations.known read is is_known is_meant direct virtual parts.direct_codes.symbolic parts.virtual_codes.symbolic parts.direct_codes.at parts.direct_codes.are_encoded parts.virtual_codes.at parts.virtual_codes.are_encoded vs parts.annotations.at parts.values.are.at
 
-    -- what is returned for them
-    pub parts_returned : (made : NumberedMembers) → made ≡ attached read (shared_directory_of a) direct virtual vs → (found : Option (NumberedMembers × ℕ)) → MatchOption found (most < members_weight (members_in m made)) (λ (x : NumberedMembers × ℕ). (x.0 ≡ made) × (x.1 ≡ members_weight (members_in m made)) × (x.1 ≤ most))
-        → AreReadWithin b r m most found
-    parts_returned made same None heavy = record {
-      readable = row_readable b r m read is (record { directory = directory_in m (shared_directory_of a); at = parts.annotations.at; named = parts.annotations.named }) (parts.direct_codes.symbolic, parts.direct_codes.at) (parts.virtual_codes.symbolic, parts.virtual_codes.at) (values_in m vs, parts.values.are);
-      members = members_in m (attached read (shared_directory_of a) direct virtual vs);
-      row = parts_row;
-      heavy = subst (λ (x : NumberedMembers). most < members_weight (members_in m x)) same heavy;
-    }
-    parts_returned made same (Some y) h =
-        let whole = h.0 ∙ same in
-        let weighs : y.1 ≡ members_weight (members_in m (attached read (shared_directory_of a) direct virtual vs)) = h.1 ∙ ap (λ (x : NumberedMembers). members_weight (members_in m x)) same in
-        subst (λ (x : NumberedMembers). AreReadWithin b r m most (Some (x, y.1))) (sym whole) (
+    parts_readable : IsReadable b r
+    parts_readable = row_readable b r m read is (record { directory = directory_in m (shared_directory_of a); at = parts.annotations.at; named = parts.annotations.named }) (parts.direct_codes.symbolic, parts.direct_codes.at) (parts.virtual_codes.symbolic, parts.virtual_codes.at) (values_in m vs, parts.values.are)
+
+    module _ (made : NumberedMembers) (same : made ≡ attached read (shared_directory_of a) direct virtual vs) where
+      weighs : members_weight (members_in m made) ≡ members_weight (members_in m (attached read (shared_directory_of a) direct virtual vs))
+      weighs = ap (λ (x : NumberedMembers). members_weight (members_in m x)) same
+
+      -- what is returned for them, by what they weigh
+      returned : (found : Result (NumberedMembers × ℕ) ItemFault) → AreWithin made (members_weight (members_in m made)) most found → IfOk found (AreReadWithin b r m most) × IfErr found (IsPartFault b r most)
+      returned (Err fault) h = (tt, subst (IsPartFault b r most) (sym h.0) (inr (refl, λ readable. record { readable = parts_readable; members = members_in m (attached read (shared_directory_of a) direct virtual vs); row = parts_row; heavy = subst (λ (n : ℕ). most < n) weighs h.1 })))
+      returned (Ok y) h = (
+        subst (λ (x : NumberedMembers). AreReadWithin b r m most (x, y.1)) (sym (h.0 ∙ same)) (
           record {
-            readable = row_readable b r m read is (record { directory = directory_in m (shared_directory_of a); at = parts.annotations.at; named = parts.annotations.named }) (parts.direct_codes.symbolic, parts.direct_codes.at) (parts.virtual_codes.symbolic, parts.virtual_codes.at) (values_in m vs, parts.values.are);
+            readable = parts_readable;
             known = parts_known;
             row = parts_row;
             ordered = made_ordered b r m rising (shared_directory_of a) parts.annotations.known read is is_known is_meant direct virtual parts.direct_codes.symbolic parts.virtual_codes.symbolic parts.direct_codes.at parts.direct_codes.are_encoded parts.virtual_codes.at parts.virtual_codes.are_encoded vs;
             of_class = λ name at. attached_of_class b r m read is name at (shared_directory_of a) direct virtual vs parts.direct_codes.symbolic parts.virtual_codes.symbolic parts.direct_codes.at parts.direct_codes.are_encoded parts.virtual_codes.at parts.virtual_codes.are_encoded;
-            light = subst (λ (n : ℕ). n ≤ most) weighs h.2;
+            light = subst (λ (n : ℕ). n ≤ most) (h.1 ∙ weighs) h.2;
           },
-          weighs,
-        )
+          h.1 ∙ weighs,
+        ),
+        tt,
+      )
+
+      -- by what their code weighs
+      pub parts_returned : (codes : ℕ) → codes ≡ min (2 ^ 64 - 1) (codes_weight direct + codes_weight virtual) → (found : Result (NumberedMembers × ℕ) ItemFault) → IsWeighedWithin made codes most found → IfOk found (AreReadWithin b r m most) × IfErr found (IsPartFault b r most)
+      parts_returned codes codes_are found weighed =
+          let apart = attached_codes read (shared_directory_of a) direct virtual vs parts_attachable.direct_many parts_attachable.virtual_many in
+          let whole : codes ≡ min (2 ^ 64 - 1) (codes_weight (codes_of made)) = codes_are ∙ ap (λ (n : ℕ). min (2 ^ 64 - 1) n) (sym (ap (λ (x : NumberedMembers). codes_weight (codes_of x)) same ∙ apart)) in
+          returned found (weighed m rising (subst (AreKnownMembers m) (sym same) parts_known) whole)
+
+-- a fault of a part of the row
+pub part_fault : (b : List ℕ) (r most : ℕ) (fault : ItemFault) → IsMembersFault b r fault → IsPartFault b r most fault
+part_fault b r most Memory h = tt
+part_fault b r most (Refused n) h = inl h
+
+-- a row that is too heavy is so if all of it is there
+pub fault_within : (b : List ℕ) (r most number : ℕ) → IsPartFault b r most (Refused number) → (number ≡ 23 → IsReadable b r) → IsMembersFaultWithin b r most (Refused number)
+fault_within b r most number (inl h) readable = inl h
+fault_within b r most number (inr h) readable = inr (h.0, h.1 (readable h.0))

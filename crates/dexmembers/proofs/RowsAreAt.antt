@@ -1,8 +1,10 @@
 -- A class row of which all is there: it is readable, and declares what its parts make.
-use Rattle.std.proofs.Common.{◌≡◌, ℕ, ◌<◌, ◌≤◌, List, [], ◌∷◌, length, map, refl, sym, subst, arith, Option, Some, None}
-use Rattle.std.specs.Prelude.{MatchOption, sum_by}
+use Rattle.std.proofs.Common.{◌≢◌, ℕ, ◌<◌, ◌≤◌, List, [], ◌∷◌, length, map, refl, sym, subst, arith, inl, inr, Option, Some, None}
+use Rattle.std.specs.Prelude.{All, sum_by}
 use Rattle.std.specs.List.{AllZip}
+use Rattle.std.proofs.lemmas.Bool.{cases_eq}
 use Rattle.std.proofs.lemmas.List.{length-map}
+use Rattle.std.proofs.lemmas.List.Elements.{All-head, All-tail}
 use Rattle.dexspec.specs.Lists.{OrNone, SomeAt, zip_with}
 use Rattle.dexspec.specs.Code.{Code, CodeAt}
 use Rattle.dexspec.specs.Values.{Values, count_values}
@@ -10,27 +12,25 @@ use Rattle.dexspec.specs.Annotations.{Directory, DirectoryAt, no_directory}
 use Rattle.dexspec.specs.ClassData.{ClassData, EncodedMethod}
 use Rattle.dexspec.specs.Classes.{MakesMethod, annotations_off}
 use Rattle.dexspec.specs.Conditions.{Condition}
-use Rattle.dexspec.specs.Accepted.{NamesDeclared, IsReadable}
+use Rattle.dexspec.specs.Accepted.{NamesDeclared, HasPiecesAt, HasTriesAt, HasDebugAt, IsReadable}
 use Rattle.dexspec.specs.Mentions.{Mentions}
 use Rattle.dexspec.specs.Weight.{static_values_weight}
+use Rattle.dexspec.proofs.determined.Readable.{code_there}
 use Rattle.dexpool.specs.declared.faults.ItemFault.{ItemFault}
 use Rattle.dexpool.specs.declared.faults.ItemFault.TheVariants.{Refused, Memory}
 use Rattle.dexpool.specs.Numberings.{AreRising}
 use Rattle.dexpool.specs.Pools.{ArePools}
-use Rattle.dexcode.specs.Numbered.{NumberedItem}
-use Rattle.dexval.specs.Shared.{shared_directory_of}
-use Rattle.dexval.specs.Numbered.{NumberedValues, directory_in, values_in}
+use Rattle.dexpool.proofs.Parts.{all_prefix, all_back}
 use Rattle.dexval.specs.Directories.{directory_weight}
-use Rattle.dexval.specs.declared.directory.SharedDirectory.{SharedDirectory}
 use Rattle.dexmembers.specs.Weight.{members_weight}
 use Rattle.dexmembers.specs.internal.ClassData.{encoded_field_in, encoded_method_in, class_data_in, IsDataOf}
-use Rattle.dexmembers.specs.internal.MethodCodes.{optional_code_weight, AreCodesAt, HaveCodes, AreCodesOf, AreHeavyCodes}
+use Rattle.dexmembers.specs.internal.MethodCodes.{optional_code_weight, AreCodesAt, HaveCodes, IsCodesFaultWithin}
 use Rattle.dexmembers.specs.Reading.{MembersRow, AreHeavyMembers, IsMembersFault}
-use Rattle.dexmembers.specs.internal.RowParts.{AreAnnotationsOf, AreHeavyAnnotations, IsAnnotationsFault}
-use Rattle.dexmembers.specs.internal.StaticValues.{HasValuesFor, AreValuesOf, AreHeavyValues, IsValuesFault}
+use Rattle.dexmembers.specs.internal.RowParts.{IsAnnotationsFault, IsAnnotationsFaultWithin, IsPartFault}
+use Rattle.dexmembers.specs.internal.StaticValues.{HasValuesFor, IsValuesFault, IsValuesFaultWithin}
 use Rattle.dexmembers.specs.declared.class_data.EncodedMethod.{EncodedMethod as MethodRead}
 use Rattle.dexmembers.specs.declared.class_data.ClassData.{ClassData as DataRead}
-use Rattle.dexmembers.proofs.DirectoryCache.{declared_is, code_holds}
+use Rattle.dexmembers.proofs.DirectoryCache.{declared_is, code_holds, direct_refused, virtual_refused}
 use Rattle.dexmembers.proofs.NamesKept.{directory_rises}
 use Rattle.dexmembers.proofs.RowWeighed.{method_made, members_made, direct_within, virtual_within, values_within, annotations_within}
 
@@ -46,7 +46,7 @@ pub values_refused : (b : List ℕ) (r : ℕ) (m : Mentions) (read : DataRead) �
 values_refused b r m read is Memory h = tt
 values_refused b r m read is (Refused n) h = (Condition.Values, h.0, omega (arith, h.0), omega (arith, h.0), h.2 (class_data_in m read) is.declared (length-map read.static_fields.items (encoded_field_in m)))
 
--- ---- what is there, whatever it weighs
+-- ---- what is there
 
 -- the directory of a row
 pub record HasDirectory (b : List ℕ) (r : ℕ) (m : Mentions) (read : DataRead) : Type 0 where
@@ -54,20 +54,28 @@ pub record HasDirectory (b : List ℕ) (r : ℕ) (m : Mentions) (read : DataRead
   pub at : OrNone DirectoryAt no_directory b (annotations_off b r) directory
   pub named : NamesDeclared directory (class_data_in m read)
 
--- it is there, kept or not
-pub any_directory : (b : List ℕ) (r : ℕ) (m : Mentions) (read : DataRead) (most : ℕ) (found : Option SharedDirectory) → MatchOption found (AreHeavyAnnotations b r m read most) (AreAnnotationsOf b r m read) → HasDirectory b r m read
-any_directory b r m read most None h = record { directory = h.directory; at = h.at; named = h.named }
-any_directory b r m read most (Some a) h = record { directory = directory_in m (shared_directory_of a); at = h.at; named = h.named }
+-- code is there for a method, if it has some
+abbrev IsCoded : (ℕ → Type 0) → EncodedMethod → Type 0
+IsCoded Is y = y.code_off ≢ 0 → Is y.code_off
 
--- code is there
-pub any_codes : {X : Type 0} (items : X → List (Option NumberedItem)) (b : List ℕ) (m : Mentions) (xs : List MethodRead) (most : ℕ) (found : Option X) → MatchOption found (AreHeavyCodes b xs most) (λ (x : X). AreCodesOf b m xs most (items x)) → HaveCodes b xs
-any_codes items b m xs most None h = (h.symbolic, h.at)
-any_codes items b m xs most (Some x) h = (h.symbolic, h.at)
+optional_code : (b : List ℕ) (o : ℕ) → (o ≢ 0 → (c : Code) × CodeAt b o c) → (c : Option Code) × OrNone (SomeAt CodeAt) None b o c
+optional_code b o h = elim (cases_eq o 0) [
+  | inl e ↦ (None, inl (e, refl))
+  | inr n ↦ let c = h n in (Some c.0, inr (n, c.1))
+]
 
--- static values are there
-pub any_values : {X : Type 0} (values : X → NumberedValues) (b : List ℕ) (r : ℕ) (m : Mentions) (fields most : ℕ) (found : Option X) → MatchOption found (AreHeavyValues b r fields most) (λ (x : X). AreValuesOf b r m fields most (values x)) → (vs : Values) × HasValuesFor b r fields vs
-any_values values b r m fields most None h = (h.values, h.are)
-any_values values b r m fields most (Some x) h = (values_in m (values x), h.are)
+-- the code of methods whose code is there
+codes_there : (b : List ℕ) (m : Mentions) (xs : List MethodRead) → All (IsCoded (HasPiecesAt b)) (map (encoded_method_in m) xs) → All (IsCoded (HasTriesAt b)) (map (encoded_method_in m) xs) → All (IsCoded (HasDebugAt b)) (map (encoded_method_in m) xs) → HaveCodes b xs
+codes_there b m [] pieces tries debug = ([], tt)
+codes_there b m (x ∷ xs) pieces tries debug =
+    let y = encoded_method_in m x in
+    let ys = map (encoded_method_in m) xs in
+    let P = IsCoded (HasPiecesAt b) in
+    let T = IsCoded (HasTriesAt b) in
+    let D = IsCoded (HasDebugAt b) in
+    let first = optional_code b x.code_off (λ some. code_there b x.code_off (All-head P y ys pieces some) (All-head T y ys tries some) (All-head D y ys debug some)) in
+    let rest = codes_there b m xs (All-tail P y ys pieces) (All-tail T y ys tries) (All-tail D y ys debug) in
+    (first.0 ∷ rest.0, (first.1, rest.1))
 
 -- ---- all of it
 
@@ -156,39 +164,71 @@ module _ (b : List ℕ) (r : ℕ) (m : Mentions) (read : DataRead) (is : IsDataO
       heavy_row most
       (omega (arith, heavy, annotations_within Coded (class_data_in m read) a.directory direct.0 virtual.0 vs.0 (symbols_coded b m read.direct_methods.items direct.0 direct.1) (symbols_coded b m read.virtual_methods.items virtual.0 virtual.1) a.named up.0 up.1 up.2))
 
+-- ---- a readable row has all its parts
+
+module _ (b : List ℕ) (r : ℕ) (m : Mentions) (read : DataRead) (is : IsDataOf b r m read) (readable : IsReadable b r) where
+  directory_there : HasDirectory b r m read
+  directory_there =
+      let a = readable.annotations (class_data_in m read) is.declared in
+      record { directory = a.0; at = a.1; named = a.2 }
+
+  direct_there : HaveCodes b read.direct_methods.items
+  direct_there =
+      let d = class_data_in m read in
+      let xs = map (encoded_method_in m) read.direct_methods.items in
+      let ys = map (encoded_method_in m) read.virtual_methods.items in
+      codes_there b m read.direct_methods.items (all_prefix (IsCoded (HasPiecesAt b)) xs ys (readable.code d is.declared)) (all_prefix (IsCoded (HasTriesAt b)) xs ys (readable.tries d is.declared)) (all_prefix (IsCoded (HasDebugAt b)) xs ys (readable.debug d is.declared))
+
+  virtual_there : HaveCodes b read.virtual_methods.items
+  virtual_there =
+      let d = class_data_in m read in
+      let xs = map (encoded_method_in m) read.direct_methods.items in
+      let ys = map (encoded_method_in m) read.virtual_methods.items in
+      codes_there b m read.virtual_methods.items (all_back (IsCoded (HasPiecesAt b)) xs ys (readable.code d is.declared)) (all_back (IsCoded (HasTriesAt b)) xs ys (readable.tries d is.declared)) (all_back (IsCoded (HasDebugAt b)) xs ys (readable.debug d is.declared))
+
+  values_there : (vs : Values) × HasValuesFor b r (length read.static_fields.items) vs
+  values_there =
+      let h = readable.values (class_data_in m read) is.declared in
+      (h.0, record { at = h.1; few = subst (λ (k : ℕ). count_values h.0 ≤ k) (length-map read.static_fields.items (encoded_field_in m)) h.2 })
+
+-- so it weighs too much where one of them does
 module _ (b : List ℕ) (r : ℕ) (m : Mentions) (read : DataRead) (is : IsDataOf b r m read) (most : ℕ) where
-  -- annotations that are heavy
-  pub annotations_heavy : ArePools b m → AreRising m → AreHeavyAnnotations b r m read most → HaveCodes b read.direct_methods.items → HaveCodes b read.virtual_methods.items → ((x : Values) × HasValuesFor b r (length read.static_fields.items) x) → AreHeavyMembers b r most
-  annotations_heavy pools rising a direct virtual vs = heavy_annotations b r m read is (record { directory = a.directory; at = a.at; named = a.named }) direct virtual vs pools rising most a.heavy
+  -- its annotations
+  pub annotations_part : ArePools b m → AreRising m → (fault : ItemFault) → IsAnnotationsFaultWithin b r most fault → IsPartFault b r most fault
+  annotations_part pools rising Memory h = tt
+  annotations_part pools rising (Refused n) (inl h) = inl (annotations_refused b r (Refused n) h)
+  annotations_part pools rising (Refused n) (inr h) = inr (
+    h.0,
+    λ readable. let a = directory_there b r m read is readable in
+    heavy_annotations b r m read is a (direct_there b r m read is readable) (virtual_there b r m read is readable) (values_there b r m read is readable) pools rising most (h.1 a.directory a.at),
+  )
 
-  -- code of direct methods
-  pub direct_heavy : HasDirectory b r m read → AreHeavyCodes b read.direct_methods.items most → HaveCodes b read.virtual_methods.items → ((x : Values) × HasValuesFor b r (length read.static_fields.items) x) → AreHeavyMembers b r most
-  direct_heavy a direct virtual vs = heavy_direct b r m read is a (direct.symbolic, direct.at) virtual vs most direct.heavy
+  -- the code of its direct methods
+  pub direct_part : (fault : ItemFault) → IsCodesFaultWithin b read.direct_methods.items most fault → IsPartFault b r most fault
+  direct_part Memory h = tt
+  direct_part (Refused n) (inl h) = inl (direct_refused b r m read is (Refused n) h)
+  direct_part (Refused n) (inr h) = inr (
+    h.0,
+    λ readable. let codes = direct_there b r m read is readable in
+    heavy_direct b r m read is (directory_there b r m read is readable) codes (virtual_there b r m read is readable) (values_there b r m read is readable) most (h.1 codes.0 codes.1),
+  )
 
-  -- of virtual ones
-  pub virtual_heavy : HasDirectory b r m read → HaveCodes b read.direct_methods.items → AreHeavyCodes b read.virtual_methods.items most → ((x : Values) × HasValuesFor b r (length read.static_fields.items) x) → AreHeavyMembers b r most
-  virtual_heavy a direct virtual vs = heavy_virtual b r m read is a direct (virtual.symbolic, virtual.at) vs most virtual.heavy
+  -- that of its virtual ones
+  pub virtual_part : (fault : ItemFault) → IsCodesFaultWithin b read.virtual_methods.items most fault → IsPartFault b r most fault
+  virtual_part Memory h = tt
+  virtual_part (Refused n) (inl h) = inl (virtual_refused b r m read is (Refused n) h)
+  virtual_part (Refused n) (inr h) = inr (
+    h.0,
+    λ readable. let codes = virtual_there b r m read is readable in
+    heavy_virtual b r m read is (directory_there b r m read is readable) (direct_there b r m read is readable) codes (values_there b r m read is readable) most (h.1 codes.0 codes.1),
+  )
 
-  -- static values
-  pub values_heavy : HasDirectory b r m read → HaveCodes b read.direct_methods.items → HaveCodes b read.virtual_methods.items → AreHeavyValues b r (length read.static_fields.items) most → AreHeavyMembers b r most
-  values_heavy a direct virtual vs = heavy_values b r m read is a direct virtual (vs.values, vs.are) most vs.heavy
-
--- ---- results, under other names for the same
-
--- code of the methods of a list
-pub codes_here : {X : Type 0} (items : X → List (Option NumberedItem)) (b : List ℕ) (m : Mentions) (xs ys : List MethodRead) (most : ℕ) (found : Option X) → xs ≡ ys → MatchOption found (AreHeavyCodes b xs most) (λ (x : X). AreCodesOf b m xs most (items x))
-    → MatchOption found (AreHeavyCodes b ys most) (λ (x : X). AreCodesOf b m ys most (items x))
-codes_here {X} items b m xs ys most found same h = subst (λ (l : List MethodRead). MatchOption found (AreHeavyCodes b l most) (λ (x : X). AreCodesOf b m l most (items x))) same h
-
--- static values for a given number of fields
-pub values_here : {X : Type 0} (values : X → NumberedValues) (b : List ℕ) (r : ℕ) (m : Mentions) (n k most : ℕ) (found : Option X) → n ≡ k → MatchOption found (AreHeavyValues b r n most) (λ (x : X). AreValuesOf b r m n most (values x))
-    → MatchOption found (AreHeavyValues b r k most) (λ (x : X). AreValuesOf b r m k most (values x))
-values_here {X} values b r m n k most found same h = subst (λ (l : ℕ). MatchOption found (AreHeavyValues b r l most) (λ (x : X). AreValuesOf b r m l most (values x))) same h
-
--- where none is kept, it is heavy
-pub none_kept : {X : Type 0} (Heavy : Type 0) (Light : X → Type 0) (found : Option X) → found ≡ None → MatchOption found Heavy Light → Heavy
-none_kept {X} Heavy Light found none h = subst (λ (o : Option X). MatchOption o Heavy Light) none h
-
--- where it is kept, it is light
-pub some_kept : {X : Type 0} (Heavy : Type 0) (Light : X → Type 0) (found : Option X) (x : X) → found ≡ Some x → MatchOption found Heavy Light → Light x
-some_kept {X} Heavy Light found x some h = subst (λ (o : Option X). MatchOption o Heavy Light) some h
+  -- its static values
+  pub values_part : (fault : ItemFault) → IsValuesFaultWithin b r (length read.static_fields.items) most fault → IsPartFault b r most fault
+  values_part Memory h = tt
+  values_part (Refused n) (inl h) = inl (values_refused b r m read is (Refused n) h)
+  values_part (Refused n) (inr h) = inr (
+    h.0,
+    λ readable. let values = values_there b r m read is readable in
+    heavy_values b r m read is (directory_there b r m read is readable) (direct_there b r m read is readable) (virtual_there b r m read is readable) values most (h.1 values.0 values.1),
+  )

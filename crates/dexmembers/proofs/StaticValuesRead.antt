@@ -13,7 +13,7 @@ use Rattle.dexval.specs.declared.value.Value.{Value as ValueRead}
 use Rattle.dexval.specs.Code.{value_of}
 use Rattle.dexval.specs.Numbered.{NumberedValues, values_in, values_of_list}
 use Rattle.dexval.specs.Reading.{AreStaticsAt, IsStaticsFault}
-use Rattle.dexmembers.specs.internal.StaticValues.{HasValuesFor, AreValuesOf, AreHeavyValues, IsValuesFault}
+use Rattle.dexmembers.specs.internal.StaticValues.{HasValuesFor, AreValuesOf, IsValuesFault, IsValuesFaultWithin}
 use Rattle.dexmembers.specs.Checking.{HasValuesOf}
 
 -- ---- the static values of a row
@@ -52,6 +52,13 @@ module _ (b : List ℕ) (r off : ℕ) (at : off ≡ static_values_off b r) (some
         let same = same_values h.values h.are.at in
         record { known = are.known; are = subst (HasValuesFor b r fields) same h.are; light = omega (arith, light, h.weighs, ap static_values_weight same) }
 
--- those that were checked weigh more
-pub heavy_values : (b : List ℕ) (r fields most weight : ℕ) → HasValuesOf b r fields weight → most < weight → AreHeavyValues b r fields most
-heavy_values b r fields most weight h heavy = record { values = h.values; are = h.are; heavy = omega (arith, heavy, h.weighs) }
+module _ (b : List ℕ) (r fields most : ℕ) where
+  -- those that were checked weigh more
+  pub heavy_values : (weight : ℕ) → HasValuesOf b r fields weight → most < weight → (vs : Values) → HasValuesFor b r fields vs → most < static_values_weight vs
+  heavy_values weight h heavy vs are =
+      let same : h.values ≡ vs = one_or_none StaticValuesAt NoValues b (static_values_off b r) h.values vs (λ s t. (one_array b (static_values_off b r) h.values vs s.0 t.0 s.1.array t.1.array).0) h.are.at are.at in
+      omega (arith, heavy, h.weighs, ap static_values_weight same)
+
+  pub fault_within : (fault : ItemFault) → IsValuesFault b r fields fault → IsValuesFaultWithin b r fields most fault
+  fault_within Memory is = tt
+  fault_within (Refused number) is = inl is

@@ -1,5 +1,5 @@
 -- What a class declares as it is read from a file.
-use Rattle.std.specs.Prelude.{◌≡◌, ℕ, ◌<◌, ◌≤◌, List, map, Option, Some, None}
+use Rattle.std.specs.Prelude.{◌≡◌, ◌⊎◌, ℕ, ◌<◌, ◌≤◌, List, map}
 use Rattle.std.specs.List.{AllZip}
 use Rattle.dexspec.specs.Lists.{OrNone}
 use Rattle.dexspec.specs.Texts.{Text}
@@ -45,15 +45,19 @@ pub record AreHeavyMembers (b : List ℕ) (r most : ℕ) : Type 0 where
   pub row : MembersRow b r members
   pub heavy : most < members_weight members
 
--- what a reader within a weight answers: members, and what they weigh
-abbrev pub AreReadWithin : List ℕ → ℕ → Mentions → ℕ → Option (NumberedMembers × ℕ) → Type 0
-AreReadWithin b r m most (Some x) = AreMembersOf b r m most x.0 × (x.1 ≡ members_weight (members_in m x.0))
-AreReadWithin b r m most None = AreHeavyMembers b r most
+-- what a reader within a weight returns: members, and what they weigh
+abbrev pub AreReadWithin : List ℕ → ℕ → Mentions → ℕ → NumberedMembers × ℕ → Type 0
+AreReadWithin b r m most x = AreMembersOf b r m most x.0 × (x.1 ≡ members_weight (members_in m x.0))
 
 -- one of the conditions 17 to 22 fails at the row, and its number is reported; a failed allocation says nothing
 abbrev pub IsMembersFault : List ℕ → ℕ → ItemFault → Type 0
 IsMembersFault b r Memory = Unit {0}
 IsMembersFault b r (Refused n) = (c : Condition) × (n ≡ number c) × (17 ≤ n) × (n ≤ 22) × (Holds c b r → ⊥)
+
+-- so it is of a reader within a weight, or what the row declares weighs more: 23
+abbrev pub IsMembersFaultWithin : List ℕ → ℕ → ℕ → ItemFault → Type 0
+IsMembersFaultWithin b r most Memory = Unit {0}
+IsMembersFaultWithin b r most (Refused n) = IsMembersFault b r (Refused n) ⊎ ((n ≡ 23) × AreHeavyMembers b r most)
 
 -- so it is where the pools are those of the file, and the row has a class
 abbrev pub InClass : List ℕ → Mentions → ℕ → Type 0 → Type 0

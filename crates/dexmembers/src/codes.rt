@@ -5,12 +5,11 @@ ghost use Rattle.dexcode.specs.Checking.{one_code_weight};
 ghost use Rattle.dexcode.specs.Numbered.{ForDenoted};
 ghost use Rattle.dexmembers.specs.Weighing.{numbered_whole_weight, codes_weight};
 ghost use Rattle.dexmembers.specs.internal.RowReaders.{IsFile};
-ghost use Rattle.dexmembers.specs.internal.MethodCodes.{IsCodeOrNone, IsCodeOrNoneFault, IsCodesFault, optional_code_weight, CodesWithin, ForDenotedOrNone, IsTaken};
+ghost use Rattle.dexmembers.specs.internal.MethodCodes.{IsCodeOrNone, IsCodeOrNoneFault, IsCodesFaultWithin, optional_code_weight, CodesWithin, ForDenotedOrNone, IsTaken};
 
 use crate::class_data::EncodedMethod;
-use crate::code_checking::{CheckedCodes, check_codes};
 use crate::encoded_lists::room;
-use crate::row_reader::RowReader;
+use crate::row_reader::{RowReader, too_heavy};
 use dexcode::{Code, debug_unindexed_law, read_code_in};
 use dexinsn::Scratch;
 use dexpool::ItemFault;
@@ -59,10 +58,10 @@ impl<'f> RowReader<'_, 'f, '_> {
     }
 
     /// Reads the code of the methods, each with its debug program, and returns it with its weight; a method whose
-    /// offset is 0 has none. If the weight exceeds `most`, the code of the later methods is only checked, and `None` is
-    /// returned. All code is read in the same `scratch`.
+    /// offset is 0 has none. All code is read in the same `scratch`.
     ///
-    /// Error: `Refused` with 18, 19 or 20, a condition that fails for the code of one of the methods; `Memory` where an
+    /// Error: `Refused` with 18, 19 or 20, a condition that fails for the code of one of the methods; `Refused(23)` at
+    /// the method by which the code weighs more than `most`, and what comes after it is not looked at; `Memory` where an
     /// allocation failed.
     ///
     /// Source: "encoded_method format", the field `code_off`, and "code_item".
@@ -70,29 +69,23 @@ impl<'f> RowReader<'_, 'f, '_> {
         &self,
         methods: &[EncodedMethod],
         scratch: &mut Scratch,
-    ) -> Result<Option<WeighedCodes<'f>>, ItemFault>
+    ) -> Result<WeighedCodes<'f>, ItemFault>
         ensures read { IsFile self.now → IfOk result (CodesWithin self.now methods.now) }
-        ensures weight { IfOk result (λ codes.
-            IfSome codes (λ codes. codes.1 ≡ codes_weight codes.0.items)) }
+        ensures weight { IfOk result (λ codes. codes.1 ≡ codes_weight codes.0.items) }
         ensures refused { IsFile self.now
-            → IfErr result (IsCodesFault self.now.frame.now methods.now) }
+            → IfErr result (IsCodesFaultWithin self.now.frame.now methods.now self.now.most) }
     {
         self.pools.numbering().is_numbering();
         let mut codes = Vec::with_capacity(self.alloc, room(methods.len()))?;
         let mut left = self.most;
-        for i in 0..methods.len() {
-            let code = self.code_or_none(methods[i].code_off, scratch)?;
+        for method in methods {
+            let code = self.code_or_none(method.code_off, scratch)?;
             match left_after_any(left, &code) {
                 Some(rest) => left = rest,
-                None => {
-                    let mut checked = CheckedCodes::none(self.alloc);
-                    let later = &methods[i + 1..];
-                    check_codes(self.alloc, self.frame, self.pools, later, &mut checked)?;
-                    return Ok(None);
-                }
+                None => return Err(too_heavy()),
             }
             codes.push(code)?;
         }
-        Ok(Some((codes, self.most - left)))
+        Ok((codes, self.most - left))
     }
 }

@@ -1,10 +1,10 @@
 //! The annotations of a class and its members.
 
-ghost use Rattle.std.specs.Prelude.{◌≡◌, [], IsTrue, IfOk, IfSome};
+ghost use Rattle.std.specs.Prelude.{◌≡◌, [], IsTrue, IfOk};
 ghost use Rattle.dexval.specs.Shared.{shared_directory_of};
 ghost use Rattle.dexmembers.specs.internal.Naming.{NamesRead, FindsNamed};
 ghost use Rattle.dexmembers.specs.internal.RowReaders.{IsFile};
-ghost use Rattle.dexmembers.specs.internal.RowParts.{AreEntered, IsHeldDirectory, ReadsAnnotations, RefusesAnnotations, IsLight};
+ghost use Rattle.dexmembers.specs.internal.RowParts.{AreEntered, IsHeldDirectory, ReadsAnnotations, RefusesAnnotationsWithin, IsLight};
 
 use crate::class_data::{ClassData, EncodedField, EncodedMethod};
 use crate::naming::names_members;
@@ -54,34 +54,33 @@ fn no_directory(alloc: Global) -> SharedDirectory
 }
 
 impl RowReader<'_, '_, '_> {
-    /// Reads the annotations of a class and of its members at the offset of its row, or none at 0. Where their sets
-    /// weigh more than `most`, they are checked only, and none is returned.
+    /// Reads the annotations of a class and of its members at the offset of its row, or none at 0.
     ///
-    /// Condition: the row declares these members. Error: `Refused(22)` exactly where no annotations_directory_item is
-    /// there, or it names a member that is not declared; `Memory` where an allocation failed.
+    /// Condition: the row declares these members. Error: `Refused(22)` if no annotations_directory_item is there, or it
+    /// names a member that is not declared; `Refused(23)` if its sets weigh more than `most`, and what comes after the
+    /// set by which they do is not looked at; `Memory` where an allocation failed.
     ///
     /// Source: "class_def_item", the field `annotations_off`, and "annotations_directory_item".
     pub(crate) fn read_annotations(
         &self,
         off: u32,
         declared: &ClassData,
-    ) -> Result<Option<SharedDirectory>, ItemFault>
+    ) -> Result<SharedDirectory, ItemFault>
         ensures read { ReadsAnnotations self.now off declared.now result }
-        ensures within { IsFile self.now → IfOk result (λ found. IfSome found (IsLight self.now)) }
-        ensures held { IfOk result (λ found. IfSome found IsHeldDirectory) }
-        ensures refused { RefusesAnnotations
-            self.now.frame.now self.now.pools.now off declared.now result }
+        ensures within { IsFile self.now → IfOk result (IsLight self.now) }
+        ensures held { IfOk result IsHeldDirectory }
+        ensures refused { RefusesAnnotationsWithin self.now off declared.now result }
     {
         self.pools.numbering().is_numbering();
         if off == 0 {
-            return Ok(Some(no_directory(self.alloc)));
+            return Ok(no_directory(self.alloc));
         }
-        let found = read_shared_directory_within(
+        let directory = read_shared_directory_within(
             self.alloc, self.frame, self.pools, off, self.most,
         )?;
         if !names_declared(self.frame, off, declared) {
             return Err(ItemFault::Refused(Condition::Annotations as u8));
         }
-        Ok(found)
+        Ok(directory)
     }
 }

@@ -1,6 +1,6 @@
 //! What is at a class row beside its class data: annotations, code and static values.
 
-ghost use Rattle.std.specs.Prelude.{IfOk, IfSome};
+ghost use Rattle.std.specs.Prelude.{IfOk};
 ghost use Rattle.dexmembers.specs.Contents.{AreHeld};
 ghost use Rattle.dexmembers.specs.internal.RowParts.{IsHeldDirectory, CanAttach, HasCodesWeight, IsAttached, ReadsParts, RefusesParts};
 
@@ -28,11 +28,11 @@ pub(crate) struct Parts<'a> {
 }
 
 impl<'f> RowReader<'_, 'f, '_> {
-    /// Reads what is at a class row beside its class data. Where a part of it weighs more than `most`, all is checked,
-    /// and none is returned. All code is read in the same `scratch`.
+    /// Reads what is at a class row beside its class data. All code is read in the same `scratch`.
     ///
     /// Condition: the row declares these members. Error: `Refused` with a number from 18 to 22, a condition that fails
-    /// at the row; `Memory` where an allocation failed.
+    /// at the row; `Refused(23)` at the part that weighs more than `most`, and what comes after it is not looked at;
+    /// `Memory` where an allocation failed.
     ///
     /// Source: "class_def_item", the fields `annotations_off` and `static_values_off`, and "encoded_method format", the
     /// field `code_off`.
@@ -41,40 +41,27 @@ impl<'f> RowReader<'_, 'f, '_> {
         row: &ClassDef,
         declared: &ClassData,
         scratch: &mut Scratch,
-    ) -> Result<Option<Parts<'f>>, ItemFault>
+    ) -> Result<Parts<'f>, ItemFault>
         ensures read { ReadsParts self.now row.now declared.now result }
-        ensures held { IfOk result (λ parts. IfSome parts (λ x. IsHeldDirectory x.directory)) }
-        ensures weight { IfOk result (λ parts. IfSome parts HasCodesWeight) }
+        ensures held { IfOk result (λ x. IsHeldDirectory x.directory) }
+        ensures weight { IfOk result HasCodesWeight }
         ensures refused { RefusesParts self.now row.now declared.now result }
     {
         self.pools.numbering().is_numbering();
-        let found = self.read_annotations(row.annotations_off, declared)?;
+        let directory = self.read_annotations(row.annotations_off, declared)?;
         let direct = self.read_codes(&declared.direct_methods, scratch)?;
         let virtuals = self.read_codes(&declared.virtual_methods, scratch)?;
         let fields = declared.static_fields.len();
-        let values = self.read_static_values(row.static_values_off, fields)?;
-        let directory = match found {
-            Some(directory) => directory,
-            None => return Ok(None),
-        };
-        let (direct_codes, direct_weight) = match direct {
-            Some(codes) => codes,
-            None => return Ok(None),
-        };
-        let (virtual_codes, virtual_weight) = match virtuals {
-            Some(codes) => codes,
-            None => return Ok(None),
-        };
-        match values {
-            Some(static_values) => Ok(Some(Parts {
-                directory,
-                direct_codes,
-                virtual_codes,
-                codes_weight: direct_weight.saturating_add(virtual_weight),
-                static_values,
-            })),
-            None => Ok(None),
-        }
+        let static_values = self.read_static_values(row.static_values_off, fields)?;
+        let (direct_codes, direct_weight) = direct;
+        let (virtual_codes, virtual_weight) = virtuals;
+        Ok(Parts {
+            directory,
+            direct_codes,
+            virtual_codes,
+            codes_weight: direct_weight.saturating_add(virtual_weight),
+            static_values,
+        })
     }
 }
 

@@ -219,7 +219,7 @@ impl<'a> Item<'a> {
     }
 }
 
-/// Returns what a class row declares; `None` if there is no such row, or what it declares weighs more than `most`.
+/// Returns what a class row declares; `None` if there is no such row. What it declares may weigh `most`.
 pub fn members_at<'a>(
     alloc: Global,
     file: &DexFile<'a>,
@@ -230,9 +230,7 @@ pub fn members_at<'a>(
         return Ok(None);
     }
     let row = ClassDef::at(&file.frame, row);
-    let Some((members, _)) = read_members(alloc, &file.frame, &file.pools, &row, most)? else {
-        return Ok(None);
-    };
+    let (members, _) = read_members(alloc, &file.frame, &file.pools, &row, most)?;
     Ok(Some(members))
 }
 

@@ -6,9 +6,10 @@ use Rattle.dexspec.specs.Classes.{class_idx}
 use Rattle.dexspec.specs.Accepted.{HoldBelow, IsDefinedBefore}
 use Rattle.dexspec.specs.Mentions.{Mentions}
 use Rattle.dexpool.specs.declared.faults.ItemFault.{ItemFault}
+use Rattle.dexpool.specs.declared.faults.ItemFault.TheVariants as items
 use Rattle.dexpool.specs.declared.faults.ReadFault.{ReadFault}
+use Rattle.dexpool.specs.declared.faults.ReadFault.TheVariants.{Refused, Memory}
 use Rattle.dexmembers.specs.Checking.{AreChecks}
-use Rattle.dexmembers.specs.Reading.{IsMembersFault}
 use Rattle.dexclass.specs.Checking.{HaveBodiesOf}
 use Rattle.dexclass.specs.declared.checking.CheckedRows.{CheckedRows}
 use Rattle.dexclass.specs.declared.class_checks.KnownFile.{KnownFile}
@@ -35,9 +36,10 @@ IsParentBefore file r index = All (IsDefinedBefore file.frame.now r) (superclass
 abbrev pub MarksClass : ℕ → List Bool → List Bool → Type 0
 MarksClass index old new = (b : List ℕ) (r : ℕ) → class_idx b r ≡ index → AreDefinedMarks b r old → AreDefinedMarks b (r + 1) new
 
--- the fault is what the fault of the members of class row r says of the file
+-- the fault reports what the fault of the members of class row r does, with the row
 abbrev pub IsFaultAtRow : ItemFault → ℕ → ReadFault → Type 0
-IsFaultAtRow members r fault = (b : List ℕ) → HoldBelow 17 b → r < table_size b ClassDefs → IsMembersFault b r members → IsFaultOf b fault
+IsFaultAtRow items.Memory r fault = fault ≡ Memory
+IsFaultAtRow (items.Refused n) r fault = fault ≡ Refused (record { number = n; place = r })
 
 -- what was checked is of the file, and the rows before row n weigh what is counted
 pub record AreCheckedRows (b : List ℕ) (m : Mentions) (n : ℕ) (rows : CheckedRows) : Type 0 where

@@ -1,5 +1,5 @@
 -- The code of methods as it is read, one after the other.
-use Rattle.std.specs.Prelude.{◌≢◌, ℕ, ◌<◌, ◌≤◌, List, Option, None, sum_by, option_to_list, ◌≡◌, ◌+◌, MatchOption}
+use Rattle.std.specs.Prelude.{◌≢◌, ◌⊎◌, ℕ, ◌<◌, ◌≤◌, List, Option, None, sum_by, option_to_list, ◌≡◌, ◌+◌, MatchOption}
 use Rattle.std.specs.List.{AllZip, Contains}
 use Rattle.std.specs.Global.{Vec}
 use Rattle.dexspec.specs.Lists.{OrNone, SomeAt, BothOrNone}
@@ -52,12 +52,6 @@ IsTaken left weight result = MatchOption result (left < weight) (λ rest. rest +
 abbrev pub ForDenotedOrNone : Option NumberedItem → (Mentions → Option Code → Type 0) → Type 0
 ForDenotedOrNone c P = (m : Mentions) (x : Option Code) → AreRising m → BothOrNone (DenotesCode m) c x → P m x
 
--- the methods have code that weighs more
-pub record AreHeavyCodes (b : List ℕ) (xs : List EncodedMethod) (most : ℕ) : Type 0 where
-  pub symbolic : List (Option Code)
-  pub at : AreCodesAt b xs symbolic
-  pub heavy : most < sum_by optional_code_weight symbolic
-
 -- the code of one of the methods is refused with this number
 pub record HasRefusedCode (b : List ℕ) (xs : List EncodedMethod) (number : ℕ) : Type 0 where
   pub method : EncodedMethod
@@ -70,8 +64,13 @@ abbrev pub IsCodesFault : List ℕ → List EncodedMethod → ItemFault → Type
 IsCodesFault b xs Memory = Unit {0}
 IsCodesFault b xs (Refused number) = HasRefusedCode b xs number
 
+-- so it is, or the code of the methods, if it is there, weighs more than it may: 23
+abbrev pub IsCodesFaultWithin : List ℕ → List EncodedMethod → ℕ → ItemFault → Type 0
+IsCodesFaultWithin b xs most Memory = Unit {0}
+IsCodesFaultWithin b xs most (Refused number) = HasRefusedCode b xs number ⊎ ((number ≡ 23) × ((codes : List (Option Code)) → AreCodesAt b xs codes → most < sum_by optional_code_weight codes))
+
 -- ---- as it is read
 
--- the code of the methods with its weight; none where it weighs more than it may
-abbrev pub CodesWithin : RowReader → List EncodedMethod → Option (Vec (Option NumberedItem) × ℕ) → Type 0
-CodesWithin reader xs found = MatchOption found (AreHeavyCodes reader.frame.now xs reader.most) (λ codes. AreCodesOf reader.frame.now reader.pools.now xs reader.most codes.0.items)
+-- the code of the methods, with its weight
+abbrev pub CodesWithin : RowReader → List EncodedMethod → Vec (Option NumberedItem) × ℕ → Type 0
+CodesWithin reader xs codes = AreCodesOf reader.frame.now reader.pools.now xs reader.most codes.0.items

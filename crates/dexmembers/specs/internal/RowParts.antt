@@ -1,9 +1,9 @@
 -- What a class row has beside its class data, as it is read: annotations, code and static values.
-use Rattle.std.specs.Prelude.{◌≡◌, ℕ, ◌<◌, List, length, map, Option, ◌+◌, ◌-◌, ◌^◌, ◌≤◌, IfErr, IfOk, MatchOption, Result, min}
+use Rattle.std.specs.Prelude.{◌≡◌, ◌⊎◌, ℕ, ◌<◌, List, length, map, Option, ◌+◌, ◌-◌, ◌^◌, ◌≤◌, IfErr, IfOk, Result, min}
 use Rattle.dexspec.specs.Lists.{OrNone, zip_with}
 use Rattle.dexspec.specs.Annotations.{Directory, DirectoryAt, no_directory}
 use Rattle.dexspec.specs.Classes.{annotations_off}
-use Rattle.dexspec.specs.Accepted.{NamesDeclared, HasAnnotations}
+use Rattle.dexspec.specs.Accepted.{NamesDeclared, HasAnnotations, IsReadable}
 use Rattle.dexspec.specs.Mentions.{Mentions}
 use Rattle.dexpool.specs.declared.faults.ItemFault.{ItemFault}
 use Rattle.dexpool.specs.declared.faults.ItemFault.TheVariants.{Refused, Memory}
@@ -49,24 +49,27 @@ pub record AreAnnotationsOf (b : List ℕ) (r : ℕ) (m : Mentions) (d : DataRea
   pub named : NamesDeclared (directory_in m (shared_directory_of a)) (class_data_in m d)
   pub entered : AreEntered a
 
--- the row has such a directory, whose sets weigh more
-pub record AreHeavyAnnotations (b : List ℕ) (r : ℕ) (m : Mentions) (d : DataRead) (most : ℕ) : Type 0 where
-  pub directory : Directory
-  pub at : OrNone DirectoryAt no_directory b (annotations_off b r) directory
-  pub named : NamesDeclared directory (class_data_in m d)
-  pub heavy : most < directory_weight directory
-
 -- condition 22 fails at the row; a failed allocation says nothing
 abbrev pub IsAnnotationsFault : List ℕ → ℕ → ItemFault → Type 0
 IsAnnotationsFault b r Memory = Unit {0}
 IsAnnotationsFault b r (Refused number) = (number ≡ 22) × (HasAnnotations b r → ⊥)
 
--- the annotations of the row that has the offset; none where they weigh more than they may
-abbrev pub ReadsAnnotations : RowReader → ℕ → DataRead → Result (Option SharedDirectory) ItemFault → Type 0
+-- so it does, or the directory of the row, if one is there, weighs more than it may: 23
+abbrev pub IsAnnotationsFaultWithin : List ℕ → ℕ → ℕ → ItemFault → Type 0
+IsAnnotationsFaultWithin b r most Memory = Unit {0}
+IsAnnotationsFaultWithin b r most (Refused number) = IsAnnotationsFault b r (Refused number) ⊎ ((number ≡ 23) × ((a : Directory) → OrNone DirectoryAt no_directory b (annotations_off b r) a → most < directory_weight a))
+
+-- the annotations of the row that has the offset
+abbrev pub ReadsAnnotations : RowReader → ℕ → DataRead → Result SharedDirectory ItemFault → Type 0
 ReadsAnnotations reader off d result = (r : ℕ) → off ≡ annotations_off reader.frame.now r → IsFile reader → IsDataOf reader.frame.now r reader.pools.now d
-    → IfOk result (λ found. MatchOption found (AreHeavyAnnotations reader.frame.now r reader.pools.now d reader.most) (AreAnnotationsOf reader.frame.now r reader.pools.now d))
+    → IfOk result (AreAnnotationsOf reader.frame.now r reader.pools.now d)
 
 -- what is refused are the annotations of the row that has the offset
+abbrev pub RefusesAnnotationsWithin : RowReader → ℕ → DataRead → Result SharedDirectory ItemFault → Type 0
+RefusesAnnotationsWithin reader off d result = (r : ℕ) → off ≡ annotations_off reader.frame.now r → IsFile reader → IsDataOf reader.frame.now r reader.pools.now d
+    → IfErr result (IsAnnotationsFaultWithin reader.frame.now r reader.most)
+
+-- so they are where they are only checked
 abbrev pub RefusesAnnotations : {X : Type 0} → List ℕ → Mentions → ℕ → DataRead → Result X ItemFault → Type 0
 RefusesAnnotations b m off d result = (r : ℕ) → off ≡ annotations_off b r → ArePools b m → IsDataOf b r m d → IfErr result (IsAnnotationsFault b r)
 
@@ -102,14 +105,19 @@ attached d a direct virtual vs = record {
 
 -- ---- as they are read
 
--- what the class row has beside its class data; none where a part weighs more than it may
-abbrev pub ReadsParts : RowReader → ClassDef → DataRead → Result (Option Parts) ItemFault → Type 0
+-- one of the conditions 17 to 22 fails at the row; or the row, if it is readable, declares what weighs more: 23
+abbrev pub IsPartFault : List ℕ → ℕ → ℕ → ItemFault → Type 0
+IsPartFault b r most Memory = Unit {0}
+IsPartFault b r most (Refused n) = IsMembersFault b r (Refused n) ⊎ ((n ≡ 23) × (IsReadable b r → AreHeavyMembers b r most))
+
+-- what the class row has beside its class data
+abbrev pub ReadsParts : RowReader → ClassDef → DataRead → Result Parts ItemFault → Type 0
 ReadsParts reader row d result = (r : ℕ) → IsClassDef reader.frame.now r row → IsFile reader → IsDataOf reader.frame.now r reader.pools.now d
-    → IfOk result (λ parts. MatchOption parts (AreHeavyMembers reader.frame.now r reader.most) (λ x. ArePartsOf reader.frame.now r reader.pools.now d reader.most x.directory x.direct_codes.items x.virtual_codes.items (values_of_list (map value_of x.static_values.items))))
+    → IfOk result (λ x. ArePartsOf reader.frame.now r reader.pools.now d reader.most x.directory x.direct_codes.items x.virtual_codes.items (values_of_list (map value_of x.static_values.items)))
 
 -- what is refused is a part of the class row
-abbrev pub RefusesParts : RowReader → ClassDef → DataRead → Result (Option Parts) ItemFault → Type 0
-RefusesParts reader row d result = (r : ℕ) → IsClassDef reader.frame.now r row → IsFile reader → IsDataOf reader.frame.now r reader.pools.now d → IfErr result (IsMembersFault reader.frame.now r)
+abbrev pub RefusesParts : RowReader → ClassDef → DataRead → Result Parts ItemFault → Type 0
+RefusesParts reader row d result = (r : ℕ) → IsClassDef reader.frame.now r row → IsFile reader → IsDataOf reader.frame.now r reader.pools.now d → IfErr result (IsPartFault reader.frame.now r reader.most)
 
 -- the weight of code is that of both lists, or 2^64 - 1 where that is more
 abbrev pub HasCodesWeight : Parts → Type 0

@@ -5,6 +5,7 @@ use Rattle.dexspec.specs.Accepted.{HasClass}
 use Rattle.dexclass.specs.internal.Rows.{HasInterfaceList, interface_indices}
 use Rattle.dexclass.specs.Programs.{IsFaultOf}
 use Rattle.dexclass.proofs.Interfaces.{row_interfaces}
+use Rattle.dexclass.proofs.RowFaults.{row_fault}
 use Rattle.dexclass.proofs.RowsChecked.{checked_heavy, checked_more}
 use Rattle.dexclass.proofs.checking.check_row.Goals as goal
 
@@ -16,7 +17,7 @@ check_members-requires c = λ pools. c.requires.rows.checks_are
 
 pub returns-in-Err-clause-refused : goal.returns-in-Err-clause-refused
 returns-in-Err-clause-refused c =
-    c.at_row.ensures c.args.frame.now c.requires.holds c.requires.row (c.in-Err.ensures.refused c.args.r c.at-row.ensures c.requires.pools (c.requires.holds Condition.Classes (omega arith) c.args.r c.requires.row))
+    row_fault c.args.frame.now c.args.r c.in-Err.fault c.at_row.result c.at_row.ensures c.requires.holds c.requires.row (c.in-Err.ensures.refused c.args.r c.at-row.ensures c.requires.pools (c.requires.holds Condition.Classes (omega arith) c.args.r c.requires.row))
 
 pub returns-then-weight-gt-MOST_WEIGHT-clause-refused : goal.returns-then-weight-gt-MOST_WEIGHT-clause-refused
 returns-then-weight-gt-MOST_WEIGHT-clause-refused c =

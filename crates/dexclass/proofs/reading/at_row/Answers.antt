@@ -1,8 +1,8 @@
-use Rattle.std.proofs.Common.{subst}
+use Rattle.std.proofs.Common.{refl, sym, subst}
 use Rattle.dexpool.specs.declared.faults.ItemFault.{ItemFault}
-use Rattle.dexmembers.specs.Reading.{IsMembersFault}
-use Rattle.dexclass.proofs.RowFaults.{item_refused}
+use Rattle.dexpool.specs.declared.faults.ReadFault.TheVariants.{Refused}
+use Rattle.dexclass.specs.internal.Checked.{IsFaultAtRow}
 use Rattle.dexclass.proofs.reading.at_row.Goals as goal
 
 pub returns-in-Refused : goal.returns-in-Refused
-returns-in-Refused c = λ b h lt fault. item_refused b c.args.r c.in-Refused.number h lt (subst (λ (f : ItemFault). IsMembersFault b c.args.r f) c.in-Refused.is fault)
+returns-in-Refused c = subst (λ (f : ItemFault). IsFaultAtRow f c.args.r (Refused (record { number = c.in-Refused.number; place = c.args.r }))) (sym c.in-Refused.is) refl

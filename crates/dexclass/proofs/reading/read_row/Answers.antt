@@ -4,11 +4,10 @@ use Rattle.dexspec.specs.Weight.{most_weight}
 use Rattle.dexspec.specs.Conditions.{Condition}
 use Rattle.dexmembers.specs.Numbered.{members_in}
 use Rattle.dexmembers.specs.Weight.{members_weight}
-use Rattle.dexmembers.specs.Reading.{AreReadWithin, AreHeavyMembers}
 use Rattle.dexclass.specs.internal.Rows.{HasInterfaceList, interface_indices}
 use Rattle.dexclass.specs.Programs.{IsFaultOf}
 use Rattle.dexclass.proofs.Interfaces.{row_interfaces}
-use Rattle.dexclass.proofs.RowFaults.{members_heavy}
+use Rattle.dexclass.proofs.RowFaults.{row_fault_within}
 use Rattle.dexclass.proofs.Summing.{class_heavy, class_more}
 use Rattle.dexclass.proofs.reading.read_row.Goals as goal
 
@@ -20,18 +19,13 @@ interfaces_at-requires-clause-list c = subst (HasInterfaceList c.args.frame.now)
 
 pub returns-in-Err-clause-refused : goal.returns-in-Err-clause-refused
 returns-in-Err-clause-refused c =
-    c.at_row.ensures c.args.frame.now c.requires.before c.requires.row (c.in-Err.ensures.refused c.args.r c.at-row.ensures c.requires.pools (c.requires.before Condition.Classes (omega arith) c.args.r c.requires.row))
-
-pub returns-in-None-clause-refused : goal.returns-in-None-clause-refused
-returns-in-None-clause-refused c =
     let b = c.args.frame.now in
-    let m = c.args.pools.now in
     let r = c.args.r in
     let most = c.saturating_sub-most.result in
-    let heavy : AreHeavyMembers b r most = subst (AreReadWithin b r m most) c.in-None.is (c.in-Ok.ensures.read r c.at-row.ensures c.requires.pools (c.requires.before Condition.Classes (omega arith) r c.requires.row)) in
     let interfaces = row_interfaces b r c.at-row.result c.interface_count-count.result c.at-row.ensures c.interface_count-count.ensures in
     let left : most ≡ most_weight - c.args.bodies.now.weight - (96 + 2 * length (interface_indices b (interfaces_off b r))) = omega (arith, c.saturating_sub-most.ensures, interfaces, c.row_weight-own.ensures) in
-    subst (IsFaultOf b) (sym c.too_heavy.ensures) (members_heavy b m c.requires.pools c.requires.before r c.args.bodies.now c.requires.bodies c.requires.row most left heavy)
+    row_fault_within b c.args.pools.now c.requires.pools c.requires.before r c.args.bodies.now c.requires.bodies c.requires.row most left c.in-Err.fault c.at_row.result c.at_row.ensures
+    (c.in-Err.ensures.refused r c.at-row.ensures c.requires.pools (c.requires.before Condition.Classes (omega arith) r c.requires.row))
 
 pub returns-then-weight-gt-MOST_WEIGHT-clause-refused : goal.returns-then-weight-gt-MOST_WEIGHT-clause-refused
 returns-then-weight-gt-MOST_WEIGHT-clause-refused c =
@@ -39,12 +33,12 @@ returns-then-weight-gt-MOST_WEIGHT-clause-refused c =
     let m = c.args.pools.now in
     let r = c.args.r in
     let most = c.saturating_sub-most.result in
-    let x = c.in-Some.found in
+    let x = c.in-Ok.found in
     let w = c.row_weight-own.result + c.from.result in
-    let read = subst (AreReadWithin b r m most) c.in-Some.is (c.in-Ok.ensures.read r c.at-row.ensures c.requires.pools (c.requires.before Condition.Classes (omega arith) r c.requires.row)) in
+    let read = c.in-Ok.ensures.read r c.at-row.ensures c.requires.pools (c.requires.before Condition.Classes (omega arith) r c.requires.row) in
     let interfaces = row_interfaces b r c.at-row.result c.interface_count-count.result c.at-row.ensures c.interface_count-count.ensures in
     let weighs : w ≡ 96 + 2 * length (interface_indices b (interfaces_off b r)) + members_weight (members_in m x.0) = omega (arith, interfaces, c.row_weight-own.ensures, c.from.ensures, read.1) in
-    subst (IsFaultOf b) (sym c.too_heavy-then-weight-gt-MOST_WEIGHT.ensures)
+    subst (IsFaultOf b) (sym c.too_heavy.ensures)
     (class_heavy b m c.requires.pools c.requires.before r c.requires.row most x.0 read.0 w weighs c.args.bodies.now c.requires.bodies c.if-weight-gt-MOST_WEIGHT.true)
 
 pub returns-clause-accepted : goal.returns-clause-accepted
@@ -53,10 +47,10 @@ returns-clause-accepted c =
     let m = c.args.pools.now in
     let r = c.args.r in
     let most = c.saturating_sub-most.result in
-    let x = c.in-Some.found in
+    let x = c.in-Ok.found in
     let old = c.args.bodies.now in
     let w = c.row_weight-own.result + c.from.result in
-    let read = subst (AreReadWithin b r m most) c.in-Some.is (c.in-Ok.ensures.read r c.at-row.ensures c.requires.pools (c.requires.before Condition.Classes (omega arith) r c.requires.row)) in
+    let read = c.in-Ok.ensures.read r c.at-row.ensures c.requires.pools (c.requires.before Condition.Classes (omega arith) r c.requires.row) in
     let interfaces = row_interfaces b r c.at-row.result c.interface_count-count.result c.at-row.ensures c.interface_count-count.ensures in
     let weighs : w ≡ 96 + 2 * length (interface_indices b (interfaces_off b r)) + members_weight (members_in m x.0) = omega (arith, interfaces, c.row_weight-own.ensures, c.from.ensures, read.1) in
     class_more b m c.requires.pools c.requires.before r c.requires.row most x.0 read.0 w weighs old c.requires.bodies c.if-weight-gt-MOST_WEIGHT.false c.class_of.result (c.class_of.ensures b r c.at-row.ensures c.in_ok-interfaces.ensures)

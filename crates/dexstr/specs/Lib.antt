@@ -1,4 +1,5 @@
 pub mod Units
+pub mod Escapes
 pub mod Faults
 pub mod Kinds
 pub mod internal

@@ -2,13 +2,14 @@
 //! one byte for a unit from 0x0001 to 0x007f, two for 0x0000 and from 0x0080 to 0x07ff, three from 0x0800
 //! on. Each unit is spelled by itself, surrogates too, and a surrogate need not have a partner.
 //!
-//! Public contracts use the definitions of `specs/Faults`, `specs/Kinds` and `specs/Units`.
+//! Public contracts use the definitions of `specs/Escapes`, `specs/Faults`, `specs/Kinds` and `specs/Units`.
 //!
 //! Source: the Android page "Dalvik Executable format", under the headings "MUTF-8 (Modified UTF-8)
 //! encoding", "string_data_item", "TypeDescriptor", "ShortyDescriptor" and "MemberName".
 #![tactic(auto)]
 
 pub use descriptors::{Kind, descriptor_kind, is_member_name, shorty_letter};
+pub use escapes::{escaped, hexadecimal_digit};
 pub use names::Name;
 pub use reading::TextFault;
 pub use texts::Text;
@@ -16,6 +17,7 @@ pub use units::Units;
 pub use writing::put_text;
 
 mod descriptors;
+mod escapes;
 mod names;
 mod order;
 mod reading;

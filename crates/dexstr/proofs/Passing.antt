@@ -20,9 +20,6 @@ pub record Passed (bytes : List ℕ) (n : ℕ) (rest : List ℕ) : Type 0 where
   pub parts : bytes ≡ spelling us ++ rest
   pub room : n + length rest ≤ length bytes
 
-pub passed_none : (bytes : List ℕ) → Passed bytes 0 bytes
-passed_none bytes = record { us = []; len = refl; units = λ k d lt. absurd (omega arith); parts = refl; room = omega arith }
-
 shorter' : (bytes : List ℕ) (u : ℕ) (rest : List ℕ) → Shape bytes u rest → length rest < length bytes
 shorter' bytes u rest (One some small e) = omega (arith, ap length e)
 shorter' bytes u rest (Two which small e) = omega (arith, ap length e)

@@ -60,14 +60,12 @@ impl<T: Target> Output for Out<T> {
         self.buffer.byte(byte);
     }
 
+    #[inline(always)]
     fn bytes(&mut self, bytes: &[u8]) {
-        let mut rest = bytes;
-        'parts: while !rest.is_empty() {
-            self.make_room();
-            let room = self.buffer.capacity() - self.buffer.len();
-            let (part, after) = rest.split_at(rest.len().min(room.max(1)));
-            self.buffer.bytes(part);
-            rest = after;
+        if bytes.len() <= self.buffer.capacity() - self.buffer.len() {
+            self.buffer.bytes(bytes);
+        } else {
+            self.bytes_in_parts(bytes);
         }
     }
 
@@ -97,7 +95,22 @@ impl<T: Target> Output for Out<T> {
 }
 
 impl<T: Target> Out<T> {
+    // Writes bytes in parts, each as long as the buffer has room for.
+    fn bytes_in_parts(&mut self, bytes: &[u8])
+        ensures { Adds T.gives T.gives_prefix T.has_failed bytes.now self.old self.new }
+    {
+        let mut rest = bytes;
+        'parts: while !rest.is_empty() {
+            self.make_room();
+            let room = self.buffer.capacity() - self.buffer.len();
+            let (part, after) = rest.split_at(rest.len().min(room.max(1)));
+            self.buffer.bytes(part);
+            rest = after;
+        }
+    }
+
     // Flushes the buffer where it has no room for the longest number.
+    #[inline(always)]
     fn make_room(&mut self)
         ensures adds { Adds T.gives T.gives_prefix T.has_failed [] self.old self.new }
         ensures room { HasRoom self.new

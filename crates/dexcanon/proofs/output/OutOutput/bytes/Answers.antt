@@ -1,25 +1,7 @@
-use Rattle.std.proofs.Common.{◌≡◌, ◌++◌, List, ℕ, [], length, sym, ap, ◌∙◌, arith}
-use Rattle.std.proofs.lemmas.List.{take-append-drop, length-take}
-use Rattle.std.proofs.lemmas.Grind.{common_steps}
-use Rattle.dexhead.proofs.Encoded.{completes_none, completes_more, completes_all}
-use Rattle.dexcanon.specs.internal.Output.{Adds, adds_nothing, adds_both}
+use Rattle.std.proofs.Common.{arith}
+use Rattle.dexcanon.specs.internal.Output.{adds_nothing}
 use Rattle.dexcanon.proofs.Buffered.{flushed_first}
 use Rattle.dexcanon.proofs.output.OutOutput.bytes.Goals as goal
 
-pub parts-init : goal.parts-init
-parts-init g c = completes_none (Adds g.T.Target.gives g.T.Target.gives_prefix g.T.Target.has_failed) c.args.bytes.now c.args.self.now
-
-pub parts-preserved : goal.parts-preserved
-parts-preserved g c =
-    let rest = c.parts.rest.now in
-    let part = c.split_at.result.0.now in
-    let after = c.split_at.result.1.now in
-    let parts : rest ≡ part ++ after = sym (take-append-drop c.min.result rest) ∙ (λ i. sym c.split_at.ensures.front i ++ sym c.split_at.ensures.back i) in
-    completes_more (Adds g.T.Target.gives g.T.Target.gives_prefix g.T.Target.has_failed) (adds_both g.T.Target.gives g.T.Target.gives_prefix g.T.Target.has_failed) part after rest c.args.bytes.now c.args.self.now c.parts.self _ parts c.parts.invariant
-    (flushed_first g.met.T.Target.more c.parts.self c.make_room.new.self c.bytes.new.self part c.make_room.ensures.adds
-    (λ room. omega (arith, c.make_room.ensures.room room, c.min.ensures, c.max.ensures, c.capacity.ensures, c.len.ensures, ap (λ (xs : List ℕ). length xs) c.split_at.ensures.front, length-take c.min.result rest)) c.bytes.ensures)
-
-pub returns : goal.returns
-returns g c =
-    let none : c.parts.rest.now ≡ [] = grind (arith, common_steps) in
-    completes_all (Adds g.T.Target.gives g.T.Target.gives_prefix g.T.Target.has_failed) (adds_nothing g.T.Target.gives g.T.Target.gives_prefix g.T.Target.has_failed) c.parts.rest.now c.args.bytes.now c.args.self.now c.parts.self none c.parts.invariant
+pub returns-then-bytes-capacity : goal.returns-then-bytes-capacity
+returns-then-bytes-capacity g c = flushed_first g.met.T.Target.more c.args.self.now c.args.self.now c.bytes.new.self c.args.bytes.now (adds_nothing g.T.Target.gives g.T.Target.gives_prefix g.T.Target.has_failed c.args.self.now) (λ room. omega (arith, c.if-bytes-capacity.true, c.len.ensures, c.capacity.ensures)) c.bytes.ensures

@@ -1,7 +1,7 @@
 use Rattle.std.proofs.Common.{length}
 use Rattle.dexhead.proofs.Encoded.{Completes}
 use Rattle.dexcanon.specs.internal.Output.{Adds}
-use Rattle.dexcanon.proofs.output.OutOutput.bytes.Given as goal
+use Rattle.dexcanon.proofs.output.Out.bytes_in_parts.Given as goal
 
 -- a prefix was written, and the rest is left
 abbrev pub invariant-parts : goal.invariant-parts

@@ -76,8 +76,8 @@ pub fn check_members(
     let off = row.annotations_off;
     let annotations = check_annotations(frame, pools, off, &declared, &mut checks.sets)?;
     let codes = &mut checks.codes;
-    let direct = check_codes(alloc, frame, pools, &declared.direct_methods, codes)?;
-    let virtuals = check_codes(alloc, frame, pools, &declared.virtual_methods, codes)?;
+    let direct = check_codes(frame, pools, &declared.direct_methods, codes)?;
+    let virtuals = check_codes(frame, pools, &declared.virtual_methods, codes)?;
     let (off, fields) = (row.static_values_off, declared.static_fields.len());
     let values = check_static_values(frame, pools, off, fields)?;
     Ok(

@@ -40,7 +40,6 @@ impl CheckedCodes {
 
 // Returns the weight of the code at an offset with its debug program; at 0 there is no code, and the weight is 0.
 fn checked_code_at(
-    alloc: Global,
     frame: &Frame<'_>,
     pools: &Pools<'_>,
     off: u32,
@@ -60,7 +59,7 @@ fn checked_code_at(
         return Ok(*weight);
     }
     let scratch = &mut checked.scratch;
-    let shape = check_code_once(alloc, frame, pools, off, scratch, &mut checked.debugs)?;
+    let shape = check_code_once(frame, pools, off, scratch, &mut checked.debugs)?;
     checked.weights.insert(off, shape.weight)?;
     Ok(shape.weight)
 }
@@ -74,7 +73,6 @@ fn checked_code_at(
 ///
 /// Source: "encoded_method format", the field `code_off`, and "code_item"; the weight is this project's rule.
 pub(crate) fn check_codes(
-    alloc: Global,
     frame: &Frame<'_>,
     pools: &Pools<'_>,
     methods: &[EncodedMethod],
@@ -90,7 +88,7 @@ pub(crate) fn check_codes(
 {
     let mut weight: u64 = 0;
     for method in methods {
-        let code = checked_code_at(alloc, frame, pools, method.code_off, checked)?;
+        let code = checked_code_at(frame, pools, method.code_off, checked)?;
         weight = weight.saturating_add(31).saturating_add(code);
     }
     Ok(weight)

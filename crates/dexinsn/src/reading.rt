@@ -51,8 +51,5 @@ pub fn read_pieces<'a>(
 {
     let mut scratch = Scratch::new(alloc);
     let shape = check_pieces(frame, pools, off, &mut scratch)?;
-    match build_pieces(alloc, frame, pools, off, shape) {
-        Ok(pieces) => Ok(pieces),
-        Err(_) => Err(ItemFault::Memory),
-    }
+    Ok(build_pieces(alloc, frame, pools, off, shape)?)
 }

@@ -1,5 +1,5 @@
 -- Units have one answer only: they are cut in one way, which ends at their end or breaks at one unit.
-use Rattle.std.proofs.Common.{◌≡◌, ◌≢◌, ◌⊎◌, inl, inr, ℕ, ◌+◌, ◌-◌, ◌<◌, ◌≤◌, Bool, not, cond, List, [], ◌∷◌, length, drop, Some, None, Result, Ok, Err, refl, ap, sym, ◌∙◌, subst, arith, add-zero, add_assoc, zero-add, length-drop}
+use Rattle.std.proofs.Common.{◌≡◌, ◌≢◌, inl, inr, ℕ, ◌+◌, ◌-◌, ◌<◌, ◌≤◌, Bool, not, cond, List, [], ◌∷◌, length, drop, Some, None, Result, Ok, Err, refl, ap, sym, ◌∙◌, subst, arith, add-zero, add_assoc, zero-add, length-drop}
 use Rattle.std.specs.Bool.{IsTrue}
 use Rattle.std.specs.List.{All, find}
 use Rattle.std.specs.Option.{option_map}

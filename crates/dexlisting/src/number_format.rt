@@ -5,9 +5,8 @@ ghost use Rattle.dexlisting.specs.internal.Going.{GoesOn};
 
 use crate::listing_buffer::Listing;
 use dexhead::{DeviceFault, Sink};
+use dexstr::hexadecimal_digit;
 use itoa::Buffer;
-
-const DIGITS: [u8; 16] = *b"0123456789abcdef";
 
 impl<W: Sink> Listing<'_, '_, '_, W> {
     /// Puts words, and a number in decimal after them.
@@ -36,7 +35,7 @@ fn eight_digits(number: u32) -> [u8; 8] {
     let mut digits = [b'0'; 8];
     let mut rest = number;
     for i in 0..8 {
-        digits[7 - i] = DIGITS[(rest % 16) as usize];
+        digits[7 - i] = hexadecimal_digit((rest % 16) as u16);
         rest /= 16;
     }
     digits

@@ -5,7 +5,7 @@ ghost use Rattle.dexlisting.specs.internal.Going.{GoesOn};
 
 use crate::listing_buffer::Listing;
 use dexhead::{DeviceFault, Sink};
-use dexstr::Text;
+use dexstr::{Text, escaped};
 
 impl<W: Sink> Listing<'_, '_, '_, W> {
     /// Puts a text: the units 0x20 to 0x7e as they are, `"` and `\` after a `\`, and each other unit as `\u` and four
@@ -38,10 +38,7 @@ impl<W: Sink> Listing<'_, '_, '_, W> {
         match u8::try_from(unit) {
             Ok(byte @ (b'"' | b'\\')) => self.put(&[b'\\', byte]),
             Ok(byte @ 0x20..=0x7e) => self.put_byte(byte),
-            _ => {
-                self.put(b"\\u")?;
-                self.put_hexadecimal(u32::from(unit))
-            }
+            _ => self.put(&escaped(unit)),
         }
     }
 }

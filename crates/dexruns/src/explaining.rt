@@ -1,13 +1,15 @@
 //! What the program says of a fault.
 
 ghost use Rattle.std.specs.Prelude.{◌≡◌, ◌<◌, ◌++◌, ◌∷◌, [], length, map, IfOk, OnOk, string_bytes};
-ghost use Rattle.dexruns.specs.Lines.{HasName, exit_status, fault_line, hexadecimal_digit, escaped, needs_backslash, unit_text, class_text, cap_name, cause_text};
+ghost use Rattle.dexstr.specs.Escapes.{escaped};
+ghost use Rattle.dexruns.specs.Lines.{HasName, exit_status, fault_line, needs_backslash, unit_text, class_text, cap_name, cause_text};
 
 use crate::faults::{MergeCause, RunFault};
 use crate::lines::refusal_text;
 use crate::status::ExitStatus;
 use dexmerge::CapKind;
-use dexstr::{Name, Text};
+pub(crate) use dexstr::hexadecimal_digit;
+use dexstr::{Name, Text, escaped};
 use std::alloc::{AllocError, Global};
 
 const UNKNOWN: &str = "unknown";
@@ -25,15 +27,6 @@ fn cap_name(number: u8) -> &'static str
     }
 }
 
-/// The digit of a number's last four bits, in hexadecimal.
-pub(crate) fn hexadecimal_digit(number: u16) -> u8
-    ensures is { result ≡ hexadecimal_digit number }
-    ensures ascii { result < 128 }
-{
-    let digit = (number % 16) as u8;
-    if digit < 10 { digit + 48 } else { digit + 87 }
-}
-
 /// Appends a sign of ASCII.
 pub(crate) fn push_sign(sign: u8, text: &mut String) -> Result<(), AllocError>
     requires { sign < 128 }
@@ -47,11 +40,9 @@ pub(crate) fn push_sign(sign: u8, text: &mut String) -> Result<(), AllocError>
 fn push_escaped(unit: u16, text: &mut String) -> Result<(), AllocError>
     ensures { OnOk result (string_bytes text.new ≡ string_bytes text.old ++ escaped unit) }
 {
-    text.push_str("\\u")?;
-    push_sign(hexadecimal_digit(unit / 4096), text)?;
-    push_sign(hexadecimal_digit(unit / 256), text)?;
-    push_sign(hexadecimal_digit(unit / 16), text)?;
-    push_sign(hexadecimal_digit(unit), text)?;
+    for sign in &escaped(unit) {
+        push_sign(*sign, text)?;
+    }
     Ok(())
 }
 

@@ -200,7 +200,7 @@ module _ (b : List ℕ) (r : ℕ) (m : Mentions) (read : DataRead) (is : IsDataO
   annotations_part pools rising (Refused n) (inr h) = inr (
     h.0,
     λ readable. let a = directory_there b r m read is readable in
-    heavy_annotations b r m read is a (direct_there b r m read is readable) (virtual_there b r m read is readable) (values_there b r m read is readable) pools rising most (h.1 a.directory a.at),
+        heavy_annotations b r m read is a (direct_there b r m read is readable) (virtual_there b r m read is readable) (values_there b r m read is readable) pools rising most (h.1 a.directory a.at),
   )
 
   -- the code of its direct methods
@@ -210,7 +210,7 @@ module _ (b : List ℕ) (r : ℕ) (m : Mentions) (read : DataRead) (is : IsDataO
   direct_part (Refused n) (inr h) = inr (
     h.0,
     λ readable. let codes = direct_there b r m read is readable in
-    heavy_direct b r m read is (directory_there b r m read is readable) codes (virtual_there b r m read is readable) (values_there b r m read is readable) most (h.1 codes.0 codes.1),
+        heavy_direct b r m read is (directory_there b r m read is readable) codes (virtual_there b r m read is readable) (values_there b r m read is readable) most (h.1 codes.0 codes.1),
   )
 
   -- that of its virtual ones
@@ -220,7 +220,7 @@ module _ (b : List ℕ) (r : ℕ) (m : Mentions) (read : DataRead) (is : IsDataO
   virtual_part (Refused n) (inr h) = inr (
     h.0,
     λ readable. let codes = virtual_there b r m read is readable in
-    heavy_virtual b r m read is (directory_there b r m read is readable) (direct_there b r m read is readable) codes (values_there b r m read is readable) most (h.1 codes.0 codes.1),
+        heavy_virtual b r m read is (directory_there b r m read is readable) (direct_there b r m read is readable) codes (values_there b r m read is readable) most (h.1 codes.0 codes.1),
   )
 
   -- its static values
@@ -230,5 +230,5 @@ module _ (b : List ℕ) (r : ℕ) (m : Mentions) (read : DataRead) (is : IsDataO
   values_part (Refused n) (inr h) = inr (
     h.0,
     λ readable. let values = values_there b r m read is readable in
-    heavy_values b r m read is (directory_there b r m read is readable) (direct_there b r m read is readable) (virtual_there b r m read is readable) values most (h.1 values.0 values.1),
+        heavy_values b r m read is (directory_there b r m read is readable) (direct_there b r m read is readable) (virtual_there b r m read is readable) values most (h.1 values.0 values.1),
   )

@@ -23,11 +23,7 @@ use std::alloc::Global;
 // The members, whose code weighs `codes`, and what they weigh. Error: it is more than `most`.
 //
 // Condition: their places are their table's.
-fn within(
-    unweighed: Contents<'_>,
-    codes: u64,
-    most: u32,
-) -> Result<(Members<'_>, u32), ItemFault>
+fn within(unweighed: Contents<'_>, codes: u64, most: u32) -> Result<(Members<'_>, u32), ItemFault>
     requires { AreHeld unweighed }
     ensures { IsWeighedWithin (contents_in unweighed.entry) codes most result }
 {

@@ -10,7 +10,7 @@ ghost use Rattle.dexruns.specs.Inputs.{bytes_read, IsReadNoFurther};
 ghost use Rattle.dexruns.specs.Runs.{IsOfInput, IsLeftWith};
 ghost use Rattle.dexruns.specs.declared.faults.RunFault.TheVariants.{Read, Write};
 
-use crate::explaining::{hexadecimal_digit, push_sign, push_text};
+use crate::explaining::{push_sign, push_text};
 use crate::faults::RunFault;
 use crate::inputs::{read_input, read_program};
 use crate::outputs::write_output;
@@ -18,7 +18,7 @@ use dexcanon::digests;
 use dexclass::Program;
 use dexhead::{Sink, Source};
 use dexlaws::denotes::collections::one_collection;
-use dexstr::Text;
+use dexstr::{Text, hexadecimal_digit};
 use std::alloc::{AllocError, Global};
 
 const TAB: u8 = 0x09;

@@ -8,7 +8,6 @@ use crate::faults::{MergeCause, RunFault};
 use crate::lines::refusal_text;
 use crate::status::ExitStatus;
 use dexmerge::CapKind;
-pub(crate) use dexstr::hexadecimal_digit;
 use dexstr::{Name, Text, escaped};
 use std::alloc::{AllocError, Global};
 

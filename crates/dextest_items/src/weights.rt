@@ -9,6 +9,7 @@ use crate::checks::check;
 use crate::dex_file::DexFile;
 use crate::item::{Item, members_at};
 use crate::line::Line;
+use dexhead::Condition;
 use dexpool::ItemFault;
 use dextest_cases::{CaseFault, Outcome, Printed};
 use dexval::{
@@ -96,11 +97,15 @@ fn is_within(
     match is_read {
         Ok(is_read) => Ok(is_read),
         Err(ItemFault::Memory) => Err(CaseFault::Memory),
-        Err(ItemFault::Refused(_)) => Ok(false),
+        Err(ItemFault::Refused(number)) => {
+            let is_heavy = number == Condition::Weight as u8;
+            check(alloc, is_heavy, "it is refused, but not for its weight")?;
+            Ok(false)
+        }
     }
 }
 
-// Returns whether the directory at an offset is read if it may weigh at most `most`.
+// Returns whether the directory at an offset is read if it may weigh at most `most`. It is refused else.
 fn is_directory_within(
     alloc: Global,
     file: &DexFile<'_>,

@@ -61,21 +61,21 @@ one_more_read b m xs most left rest codes x code read is weight = record {
 pub all_read : (b : List ℕ) (m : Mentions) (xs : List EncodedMethod) (most left : ℕ) (codes : List (Option NumberedItem)) → HaveReadCodes b m xs most left codes → AreCodesOf b m xs most codes
 all_read b m xs most left codes read = record { symbolic = read.symbolic; at = read.at; are_encoded = read.are_encoded; light = omega (arith, read.weight) }
 
--- a front of methods has code that weighs no more than that of all
-front_within : (b : List ℕ) (xs us : List EncodedMethod) (front codes : List (Option Code)) → AreCodesAt b xs front → AreCodesAt b (xs ++ us) codes → sum_by optional_code_weight front ≤ sum_by optional_code_weight codes
-front_within b [] us [] codes at all = omega arith
-front_within b [] us (c ∷ front) codes at all = absurd at
-front_within b (x ∷ xs) us [] codes at all = absurd at
-front_within b (x ∷ xs) us (c ∷ front) [] at all = absurd all
-front_within b (x ∷ xs) us (c ∷ front) (d ∷ codes) at all =
+-- a prefix of methods has code that weighs no more than that of all
+prefix_within : (b : List ℕ) (xs us : List EncodedMethod) (prefix codes : List (Option Code)) → AreCodesAt b xs prefix → AreCodesAt b (xs ++ us) codes → sum_by optional_code_weight prefix ≤ sum_by optional_code_weight codes
+prefix_within b [] us [] codes at all = omega arith
+prefix_within b [] us (c ∷ prefix) codes at all = absurd at
+prefix_within b (x ∷ xs) us [] codes at all = absurd at
+prefix_within b (x ∷ xs) us (c ∷ prefix) [] at all = absurd all
+prefix_within b (x ∷ xs) us (c ∷ prefix) (d ∷ codes) at all =
     let same : c ≡ d = one_or_none (SomeAt CodeAt) None b x.code_off c d (one_some CodeAt one_code_item b x.code_off c d) at.0 all.0 in
-    omega (arith, front_within b xs us front codes at.1 all.1, ap optional_code_weight same, sum_by-cons optional_code_weight c front, sum_by-cons optional_code_weight d codes)
+    omega (arith, prefix_within b xs us prefix codes at.1 all.1, ap optional_code_weight same, sum_by-cons optional_code_weight c prefix, sum_by-cons optional_code_weight d codes)
 
 -- where the next is heavier than what is left, the code of all methods weighs more than it may
 pub heavy_read : (b : List ℕ) (m : Mentions) (xs : List EncodedMethod) (i most left : ℕ) (d : EncodedMethod) (read : List (Option NumberedItem)) (code : Option NumberedItem) → i < length xs → HaveReadCodes b m (take i xs) most left read
     → (is : IsCodeOrNone b (get_or xs i d).code_off m code) → left < optional_code_weight is.symbolic → (codes : List (Option Code)) → AreCodesAt b xs codes → most < sum_by optional_code_weight codes
 heavy_read b m xs i most left d read code lt have is heavy codes at =
-    let front = zip_more (λ (x : EncodedMethod) c. OrNone (SomeAt CodeAt) None b x.code_off c) (take i xs) have.symbolic (get_or xs i d) is.symbolic have.at is.at in
-    let so_far : AreCodesAt b (take (i + 1) xs) (have.symbolic ++ is.symbolic ∷ []) = subst (λ l. AreCodesAt b l (have.symbolic ++ is.symbolic ∷ [])) (sym (take_more xs i d lt)) front in
+    let prefix = zip_more (λ (x : EncodedMethod) c. OrNone (SomeAt CodeAt) None b x.code_off c) (take i xs) have.symbolic (get_or xs i d) is.symbolic have.at is.at in
+    let so_far : AreCodesAt b (take (i + 1) xs) (have.symbolic ++ is.symbolic ∷ []) = subst (λ l. AreCodesAt b l (have.symbolic ++ is.symbolic ∷ [])) (sym (take_more xs i d lt)) prefix in
     let all : AreCodesAt b (take (i + 1) xs ++ drop (i + 1) xs) codes = subst (λ l. AreCodesAt b l codes) (sym (take-append-drop (i + 1) xs)) at in
-    omega (arith, have.weight, heavy, sum_by_push optional_code_weight have.symbolic is.symbolic, front_within b (take (i + 1) xs) (drop (i + 1) xs) (have.symbolic ++ is.symbolic ∷ []) codes so_far all)
+    omega (arith, have.weight, heavy, sum_by_push optional_code_weight have.symbolic is.symbolic, prefix_within b (take (i + 1) xs) (drop (i + 1) xs) (have.symbolic ++ is.symbolic ∷ []) codes so_far all)

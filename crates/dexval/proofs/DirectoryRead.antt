@@ -53,7 +53,7 @@ one_set_or_empty b off x y = one_or_none SetAt [] b off x y (one_set b off x y)
 
 -- ---- members of a list
 
--- the member that the key k stands for, and those before it, which weigh with it no more than all
+-- the member that the key k denotes, and those before it, which weigh with it no more than all
 record MemberAt {K X : Type 0} (R : K → X → Type 0) (ks : List K) (k : K) (weighs : X → ℕ) (total : ℕ) : Type 0 where
   before : List X
   member : X

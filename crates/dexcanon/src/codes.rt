@@ -12,9 +12,9 @@ ghost use Rattle.dexcanon.specs.internal.Ready.{CanBeMade};
 ghost use Rattle.dexcanon.specs.internal.Adding.{code_bytes_in, section_of};
 
 use crate::contents::Contents;
-use crate::items::encode_padding;
 use dexcode::{Code, CodeItem, code_bytes_law, code_meaning_law, code_types_law};
 use dexhead::{Encode, Output};
+use dexlayout::padding;
 use dexmembers::Methods;
 use dexpool::Numbering;
 
@@ -39,10 +39,11 @@ fn encode_code<O: Output>(
     code_types_law();
     code_bytes_law();
     let item = CodeItem { code, debug_off };
-    encode_padding(at, out);
+    let zeros = padding(at);
+    out.bytes(zeros);
     item.encode(out);
-    let len = code.item_len() as u32;
-    (at + 3) / 4 * 4 + len
+    let len = zeros.len() + code.item_len();
+    at + len as u32
 }
 
 // Writes the code of methods, from an offset on, with the offset of the debug program of each. Returns where it ends,

@@ -2,7 +2,7 @@
 
 ghost use Rattle.std.specs.Prelude.{◌≡◌, ◌^◌, ◌<◌, ◌++◌};
 ghost use Rattle.std.specs.List.{flat_map};
-ghost use Rattle.dexspec.specs.Bytes.{ushort, uint, padding};
+ghost use Rattle.dexspec.specs.Bytes.{ushort, uint};
 
 use dexhead::Output;
 
@@ -26,12 +26,4 @@ pub(crate) fn encode_member<O: Output>(class: usize, typ: usize, name: usize, ou
     out.u16(class as u16);
     out.u16(typ as u16);
     out.u32(name as u32);
-}
-
-/// Writes zeros from an offset up to a multiple of 4.
-pub(crate) fn encode_padding<O: Output>(at: u32, out: &mut O)
-    ensures { O.gives (padding 4 at) out.old out.new }
-{
-    let zeros = [0; 3];
-    out.bytes(&zeros[..((4 - at % 4) % 4) as usize]);
 }

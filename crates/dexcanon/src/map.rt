@@ -6,8 +6,8 @@ ghost use Rattle.dexcanon.specs.internal.Ready.{CanBeMade};
 ghost use Rattle.dexcanon.specs.internal.Adding.{map_bytes};
 
 use crate::contents::Contents;
-use crate::items::encode_padding;
 use dexhead::{Encode, MapList, Output};
+use dexlayout::padding;
 
 /// Writes the map, after the sections of the data.
 pub(crate) fn encode_map<O: Output>(contents: &Contents<'_, '_, '_>, out: &mut O)
@@ -16,7 +16,7 @@ pub(crate) fn encode_map<O: Output>(contents: &Contents<'_, '_, '_>, out: &mut O
 {
     let entries = contents.layout.entries();
     let data_end = contents.layout.directories().places().end();
-    encode_padding(data_end, out);
+    out.bytes(padding(data_end));
     let map = MapList { entries };
     map.encode(out);
 }

@@ -1,12 +1,11 @@
 //! Items that are encoded where they are laid out.
 
 ghost use Rattle.std.specs.Prelude.{◌≡◌, ◌++◌, ◌^◌, ◌<◌, ◌≤◌, All, IfOk, IfSome, OnOk, Some, length};
-ghost use Rattle.dexspec.specs.Bytes.{padding};
 ghost use Rattle.dexspec.specs.Spellings.{offsets_bytes};
 ghost use Rattle.dexlayout.specs.internal.Encoding.{align_next, encode_use, end_item, no_items_from, pass_use};
 ghost use Rattle.dexlayout.specs.internal.Placing.{shared_by};
 
-use crate::offsets::Offsets;
+use crate::offsets::{Offsets, padding};
 use crate::sharing::place_shared;
 use dexhead::put_u32;
 use std::alloc::{AllocError, Global};
@@ -64,7 +63,7 @@ impl Items {
         requires { self.old.places.end < 2 ^ 31 }
         ensures { OnOk result (self.new ≡ align_next 4 self.old) }
     {
-        push_zeros(&mut self.bytes, self.places.end())?;
+        self.bytes.extend_from_slice(padding(self.places.end()))?;
         self.places.align();
         Ok(())
     }
@@ -162,12 +161,4 @@ impl SharedItems {
             places: uses,
         })
     }
-}
-
-// Appends the zeros that align what is at an offset to 4 bytes.
-fn push_zeros(bytes: &mut Vec<u8>, at: u32) -> Result<(), AllocError>
-    ensures { OnOk result (bytes.new.items ≡ bytes.old.items ++ padding 4 at) }
-{
-    let zeros = [0; 3];
-    bytes.extend_from_slice(&zeros[..((4 - at % 4) % 4) as usize])
 }

@@ -90,3 +90,11 @@ pub(crate) fn round_up(at: u32) -> u32
 {
     (at + 3) / 4 * 4
 }
+
+/// The zeros that align what is at an offset to 4 bytes.
+pub fn padding(at: u32) -> &'static [u8]
+    ensures { result.now ≡ bytes.padding 4 at }
+{
+    let zeros: &'static [u8] = &[0; 3];
+    &zeros[..((4 - at % 4) % 4) as usize]
+}

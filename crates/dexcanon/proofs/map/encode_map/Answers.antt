@@ -1,4 +1,4 @@
-use Rattle.std.proofs.Common.{map, subst, arith, ap, ◌∙◌}
+use Rattle.std.proofs.Common.{List, ℕ, map, subst, arith, ap, ◌∙◌}
 use Rattle.dexspec.specs.Bytes.{padding}
 use Rattle.dexspec.specs.Canonical.{map_bytes}
 use Rattle.dexhead.specs.Written.{entry_meant}
@@ -20,4 +20,4 @@ returns g c =
     let end = c.end-data_end.ensures ∙ ap (λ (p : ItemPlaces). p.end) (c.places.ensures ∙ ap (λ (d : EncodedItems). d.places) c.directories.ensures) ∙ c.requires.laid.directories_are.places_are.end_is in
     let same = map_is c.args.contents.now.numbering.now c.args.contents.now.classes.now c.end-data_end.result es end (c.entries-entries.ensures ∙ c.requires.laid.entries_are) in
     subst (λ bs. g.O.Output.gives bs c.args.out.now c.encode.new.out) same
-    (g.met.O.Output.both (padding 4 c.end-data_end.result) (map_bytes es) c.args.out.now c.encode_padding.new.out c.encode.new.out c.encode_padding.ensures c.encode.ensures)
+    (g.met.O.Output.both (padding 4 c.end-data_end.result) (map_bytes es) c.args.out.now c.bytes.new.self c.encode.new.out (subst (λ (bs : List ℕ). g.O.Output.gives bs c.args.out.now c.bytes.new.self) c.padding.ensures c.bytes.ensures) c.encode.ensures)

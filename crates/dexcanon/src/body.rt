@@ -8,7 +8,7 @@ ghost use Rattle.dexcanon.specs.internal.Adding.{tables_of, data_of, after_heade
 use crate::class_defs::ClassDefs;
 use crate::codes::encode_codes;
 use crate::contents::Contents;
-use crate::item_lists::encode_list;
+use crate::item_lists::ItemList;
 use crate::map::encode_map;
 use crate::strings::StringDataItems;
 use crate::tables::{FieldIds, MethodIds, ProtoIds, StringIds, TypeIds};
@@ -19,12 +19,12 @@ fn encode_tables<O: Output>(contents: &Contents<'_, '_, '_>, out: &mut O)
     requires { CanBeMade contents.now }
     ensures { O.gives (tables_of contents.now) out.old out.new }
 {
-    encode_list::<StringIds, O>(contents, out);
-    encode_list::<TypeIds, O>(contents, out);
-    encode_list::<ProtoIds, O>(contents, out);
-    encode_list::<FieldIds, O>(contents, out);
-    encode_list::<MethodIds, O>(contents, out);
-    encode_list::<ClassDefs, O>(contents, out);
+    StringIds::encode(contents, out);
+    TypeIds::encode(contents, out);
+    ProtoIds::encode(contents, out);
+    FieldIds::encode(contents, out);
+    MethodIds::encode(contents, out);
+    ClassDefs::encode(contents, out);
 }
 
 // Writes the sections of the data. All but the texts and the code are encoded in the layout.
@@ -36,7 +36,7 @@ fn encode_data<O: Output>(contents: &Contents<'_, '_, '_>, out: &mut O)
     out.bytes(layout.type_lists().bytes());
     out.bytes(layout.annotations().bytes());
     out.bytes(layout.static_values().bytes());
-    encode_list::<StringDataItems, O>(contents, out);
+    StringDataItems::encode(contents, out);
     out.bytes(layout.debugs().bytes());
     encode_codes(contents, out);
     out.bytes(layout.class_data().bytes());

@@ -23,14 +23,14 @@ pub(crate) trait ItemList {
         requires ready { CanBeMade contents.now }
         requires within { i < length (items contents.now) }
         ensures { O.gives (slice_index_or (items contents.now) i []) out.old out.new };
-}
 
-/// Writes the items of a list.
-pub(crate) fn encode_list<L: ItemList, O: Output>(contents: &Contents<'_, '_, '_>, out: &mut O)
-    requires { CanBeMade contents.now }
-    ensures { O.gives (concat (L.items contents.now)) out.old out.new }
-{
-    for i in 0..L::len(contents) {
-        L::encode_item(contents, i, out);
+    /// Writes the items.
+    fn encode<O: Output>(contents: &Contents<'_, '_, '_>, out: &mut O)
+        requires { CanBeMade contents.now }
+        ensures { O.gives (concat (items contents.now)) out.old out.new }
+    {
+        for i in 0..Self::len(contents) {
+            Self::encode_item(contents, i, out);
+        }
     }
 }

@@ -12,7 +12,7 @@ returns g c =
     next_part gives both (c.bytes.ensures ∙ ap (λ (l : EncodedSharedItems). l.bytes) c.type_lists.ensures ∙ laid.type_lists_are.bytes_are) c.bytes-2.ensures
     (next_part gives both (c.bytes-3.ensures ∙ ap (λ (a : EncodedItems). a.bytes) c.annotations.ensures ∙ laid.annotations_are.bytes_are) c.bytes-4.ensures
     (next_part gives both (c.bytes-5.ensures ∙ ap (λ (s : EncodedItems). s.bytes) c.static_values.ensures ∙ laid.static_values_are.bytes_are) c.bytes-6.ensures
-    (next_part gives both (string_bytes c.args.contents.now.numbering.now c.args.contents.now.classes.now) c.encode_list.ensures
+    (next_part gives both (string_bytes c.args.contents.now.numbering.now c.args.contents.now.classes.now) c.encode.ensures
     (next_part gives both (c.bytes-7.ensures ∙ ap (λ (d : EncodedSharedItems). d.bytes) c.debugs.ensures ∙ laid.debugs_are.bytes_are) c.bytes-8.ensures
     (next_part gives both refl c.encode_codes.ensures
     (next_part gives both (c.bytes-9.ensures ∙ ap (λ (d : EncodedItems). d.bytes) c.class_data.ensures ∙ laid.class_data_are.bytes_are) c.bytes-10.ensures

@@ -10,8 +10,8 @@ returns g c =
     let gives = g.O.Output.gives in
     let both = g.met.O.Output.both in
     let m = c.args.contents.now.numbering.now in
-    next_part gives both (concat_map uint _) c.encode_list.ensures
-    (next_part gives both (concat_map (type_row m) m.types) c.encode_list-2.ensures
-    (next_part gives both refl c.encode_list-3.ensures
-    (next_part gives both (concat_map (field_row_bytes m) m.fields) c.encode_list-4.ensures
-    (next_part gives both (concat_map (method_row_bytes m) m.methods) c.encode_list-5.ensures c.encode_list-6.ensures))))
+    next_part gives both (concat_map uint _) c.encode.ensures
+    (next_part gives both (concat_map (type_row m) m.types) c.encode-2.ensures
+    (next_part gives both refl c.encode-3.ensures
+    (next_part gives both (concat_map (field_row_bytes m) m.fields) c.encode-4.ensures
+    (next_part gives both (concat_map (method_row_bytes m) m.methods) c.encode-5.ensures c.encode-6.ensures))))

@@ -1,0 +1,7 @@
+use Rattle.std.proofs.Common.{drop}
+use Rattle.std.specs.List.{concat}
+use Rattle.dexhead.proofs.Encoded.{Completes}
+use Rattle.dexcanon.proofs.item_lists.ItemList.encode.Given as goal
+
+abbrev pub invariant-loop-i : goal.invariant-loop-i
+invariant-loop-i g l = Completes g.O.Output.gives (concat (drop l.i (g.Self.ItemList.items l.contents))) l.out (concat (g.Self.ItemList.items l.contents)) l.fn.out

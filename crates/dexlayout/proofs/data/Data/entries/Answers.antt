@@ -1,11 +1,14 @@
-use Rattle.std.proofs.Common.{◌≡◌, ℕ, length, arith, ap, ◌∙◌}
+use Rattle.std.proofs.Common.{◌≡◌, ℕ, List, length, arith, ap, ◌∙◌}
 use Rattle.dexspec.specs.Bytes.{round_up}
 use Rattle.dexspec.specs.Sections.{Section, TypeLists, AnnotationItems, EncodedArrayItems, StringDataItems, DebugInfoItems, CodeItems, ClassDataItems, AnnotationSets, AnnotationSetRefLists, AnnotationsDirectories}
+use Rattle.dexspec.specs.Mentions.{Mentions}
+use Rattle.dexclass.specs.Numbered.{NumberedClass}
+use Rattle.dexlayout.specs.declared.data.Data.{Data}
 use Rattle.dexlayout.specs.Places.{ItemPlaces, EncodedItems}
-use Rattle.dexlayout.specs.internal.Parts.{count_placed}
-use Rattle.dexlayout.specs.Laid.{ordered_of}
-use Rattle.dexlayout.proofs.Ends.{end_in_file}
-use Rattle.dexlayout.proofs.OwnCounts.{few_items, counted}
+use Rattle.dexlayout.specs.internal.Parts.{AreData, count_placed}
+use Rattle.dexlayout.specs.Laid.{AreWritable, ordered_of}
+use Rattle.dexlayout.proofs.Ends.{EndInFile, end_in_file}
+use Rattle.dexlayout.proofs.OwnCounts.{AreCounted, HaveFewItems, few_items, counted}
 use Rattle.dexlayout.proofs.OwnParts.{ten_same, named_parts_are}
 use Rattle.dexlayout.proofs.data.Data.entries.Goals as goal
 
@@ -20,173 +23,57 @@ same_entry s n n' o o' en eo = ap (λ k. entry_with s k o) en ∙ ap (entry_with
 plain : (n : ℕ) → n ≡ round_up 1 n
 plain n = omega arith
 
+-- the sections of a file end within it, and have few items, as many as are laid out
+ends : {m : Mentions} {cs : List NumberedClass} → AreWritable m cs → EndInFile (ordered_of m cs)
+ends {m} {cs} w = end_in_file (ordered_of m cs) w.fits
+
+few : {m : Mentions} {cs : List NumberedClass} → AreWritable m cs → HaveFewItems (ordered_of m cs)
+few {m} {cs} w = few_items (ordered_of m cs) (ends w)
+
+counts : {m : Mentions} {cs : List NumberedClass} {d : Data} → AreData m cs d → AreCounted (ordered_of m cs) d
+counts {m} {cs} d = counted m cs d
+
 pub overflow_cast-count : goal.overflow_cast-count
-overflow_cast-count c =
-    let m = c.args.numbering.now in
-    let cs = c.requires.0 in
-    let w = c.requires.1 in
-    let d = c.requires.2 in
-    let K = ordered_of m cs in
-    let ends = end_in_file K w.fits in
-    let few = few_items K ends in
-    let n = counted m cs d in
-    omega (arith, c.count.ensures, n.type_lists, few.type_lists)
+overflow_cast-count c = omega (arith, c.count.ensures, (counts c.requires.2).type_lists, (few c.requires.1).type_lists)
 
 pub round_up-requires : goal.round_up-requires
-round_up-requires c =
-    let m = c.args.numbering.now in
-    let cs = c.requires.0 in
-    let w = c.requires.1 in
-    let d = c.requires.2 in
-    let K = ordered_of m cs in
-    let ends = end_in_file K w.fits in
-    let few = few_items K ends in
-    let n = counted m cs d in
-    omega (arith, c.requires.3, ends.tables)
+round_up-requires c = omega (arith, c.requires.3, (ends c.requires.1).tables)
 
 pub overflow_cast-offsets : goal.overflow_cast-offsets
-overflow_cast-offsets c =
-    let m = c.args.numbering.now in
-    let cs = c.requires.0 in
-    let w = c.requires.1 in
-    let d = c.requires.2 in
-    let K = ordered_of m cs in
-    let ends = end_in_file K w.fits in
-    let few = few_items K ends in
-    let n = counted m cs d in
-    let e = ap (λ xs. length xs) (c.offsets.ensures ∙ ap (λ (q : ItemPlaces). q.offsets) c.places.ensures) in omega (arith, e, n.annotations, few.annotations)
+overflow_cast-offsets c = omega (arith, ap (λ xs. length xs) (c.offsets.ensures ∙ ap (λ (q : ItemPlaces). q.offsets) c.places.ensures), (counts c.requires.2).annotations, (few c.requires.1).annotations)
 
 pub overflow_cast-count_placed : goal.overflow_cast-count_placed
-overflow_cast-count_placed c =
-    let m = c.args.numbering.now in
-    let cs = c.requires.0 in
-    let w = c.requires.1 in
-    let d = c.requires.2 in
-    let K = ordered_of m cs in
-    let ends = end_in_file K w.fits in
-    let few = few_items K ends in
-    let n = counted m cs d in
-    let e = c.count_placed.ensures ∙ ap count_placed (c.offsets-2.ensures ∙ ap (λ (q : ItemPlaces). q.offsets) c.places-3.ensures) in omega (arith, e, n.arrays, few.arrays)
+overflow_cast-count_placed c = omega (arith, c.count_placed.ensures ∙ ap count_placed (c.offsets-2.ensures ∙ ap (λ (q : ItemPlaces). q.offsets) c.places-3.ensures), (counts c.requires.2).arrays, (few c.requires.1).arrays)
 
 pub overflow_cast-count-3 : goal.overflow_cast-count-3
-overflow_cast-count-3 c =
-    let m = c.args.numbering.now in
-    let cs = c.requires.0 in
-    let w = c.requires.1 in
-    let d = c.requires.2 in
-    let K = ordered_of m cs in
-    let ends = end_in_file K w.fits in
-    let few = few_items K ends in
-    let n = counted m cs d in
-    let e = c.count-3.ensures in omega (arith, e, n.debugs, few.debugs)
+overflow_cast-count-3 c = omega (arith, c.count-3.ensures, (counts c.requires.2).debugs, (few c.requires.1).debugs)
 
 pub overflow_cast-count_placed-2 : goal.overflow_cast-count_placed-2
-overflow_cast-count_placed-2 c =
-    let m = c.args.numbering.now in
-    let cs = c.requires.0 in
-    let w = c.requires.1 in
-    let d = c.requires.2 in
-    let K = ordered_of m cs in
-    let ends = end_in_file K w.fits in
-    let few = few_items K ends in
-    let n = counted m cs d in
-    let e = c.count_placed-2.ensures ∙ ap count_placed c.offsets-3.ensures in omega (arith, e, n.codes, few.codes)
+overflow_cast-count_placed-2 c = omega (arith, c.count_placed-2.ensures ∙ ap count_placed c.offsets-3.ensures, (counts c.requires.2).codes, (few c.requires.1).codes)
 
 pub round_up-requires-2 : goal.round_up-requires-2
-round_up-requires-2 c =
-    let m = c.args.numbering.now in
-    let cs = c.requires.0 in
-    let w = c.requires.1 in
-    let d = c.requires.2 in
-    let K = ordered_of m cs in
-    let ends = end_in_file K w.fits in
-    let few = few_items K ends in
-    let n = counted m cs d in
-    let e = c.end-5.ensures ∙ ap (λ (q : ItemPlaces). q.end) c.places-6.ensures ∙ d.bodies_are.debugs_are.places_are.end_is in omega (arith, e, ends.debugs)
+round_up-requires-2 c = omega (arith, c.end-5.ensures ∙ ap (λ (q : ItemPlaces). q.end) c.places-6.ensures ∙ c.requires.2.bodies_are.debugs_are.places_are.end_is, (ends c.requires.1).debugs)
 
 pub overflow_cast-count_placed-3 : goal.overflow_cast-count_placed-3
-overflow_cast-count_placed-3 c =
-    let m = c.args.numbering.now in
-    let cs = c.requires.0 in
-    let w = c.requires.1 in
-    let d = c.requires.2 in
-    let K = ordered_of m cs in
-    let ends = end_in_file K w.fits in
-    let few = few_items K ends in
-    let n = counted m cs d in
-    let e = c.count_placed-3.ensures ∙ ap count_placed (c.offsets-4.ensures ∙ ap (λ (q : ItemPlaces). q.offsets) c.places-7.ensures) in omega (arith, e, n.class_data, few.class_data)
+overflow_cast-count_placed-3 c = omega (arith, c.count_placed-3.ensures ∙ ap count_placed (c.offsets-4.ensures ∙ ap (λ (q : ItemPlaces). q.offsets) c.places-7.ensures), (counts c.requires.2).class_data, (few c.requires.1).class_data)
 
 pub overflow_cast-offsets-2 : goal.overflow_cast-offsets-2
-overflow_cast-offsets-2 c =
-    let m = c.args.numbering.now in
-    let cs = c.requires.0 in
-    let w = c.requires.1 in
-    let d = c.requires.2 in
-    let K = ordered_of m cs in
-    let ends = end_in_file K w.fits in
-    let few = few_items K ends in
-    let n = counted m cs d in
-    let e = ap (λ xs. length xs) (c.offsets-5.ensures ∙ ap (λ (q : ItemPlaces). q.offsets) (c.places-8.ensures ∙ ap (λ (p : EncodedItems). p.places) c.written.ensures)) in omega (arith, e, n.sets, few.sets)
+overflow_cast-offsets-2 c = omega (arith, ap (λ xs. length xs) (c.offsets-5.ensures ∙ ap (λ (q : ItemPlaces). q.offsets) (c.places-8.ensures ∙ ap (λ (p : EncodedItems). p.places) c.written.ensures)), (counts c.requires.2).sets, (few c.requires.1).sets)
 
 pub round_up-requires-3 : goal.round_up-requires-3
-round_up-requires-3 c =
-    let m = c.args.numbering.now in
-    let cs = c.requires.0 in
-    let w = c.requires.1 in
-    let d = c.requires.2 in
-    let K = ordered_of m cs in
-    let ends = end_in_file K w.fits in
-    let few = few_items K ends in
-    let n = counted m cs d in
-    let e = c.end-7.ensures ∙ ap (λ (q : ItemPlaces). q.end) c.places-9.ensures ∙ d.bodies_are.class_data_are.places_are.end_is in omega (arith, e, ends.class_data)
+round_up-requires-3 c = omega (arith, c.end-7.ensures ∙ ap (λ (q : ItemPlaces). q.end) c.places-9.ensures ∙ c.requires.2.bodies_are.class_data_are.places_are.end_is, (ends c.requires.1).class_data)
 
 pub overflow_cast-count_placed-4 : goal.overflow_cast-count_placed-4
-overflow_cast-count_placed-4 c =
-    let m = c.args.numbering.now in
-    let cs = c.requires.0 in
-    let w = c.requires.1 in
-    let d = c.requires.2 in
-    let K = ordered_of m cs in
-    let ends = end_in_file K w.fits in
-    let few = few_items K ends in
-    let n = counted m cs d in
-    let e = c.count_placed-4.ensures ∙ ap count_placed (c.offsets-6.ensures ∙ ap (λ (q : ItemPlaces). q.offsets) c.places-10.ensures) in omega (arith, e, n.ref_lists, few.ref_lists)
+overflow_cast-count_placed-4 c = omega (arith, c.count_placed-4.ensures ∙ ap count_placed (c.offsets-6.ensures ∙ ap (λ (q : ItemPlaces). q.offsets) c.places-10.ensures), (counts c.requires.2).ref_lists, (few c.requires.1).ref_lists)
 
 pub round_up-requires-4 : goal.round_up-requires-4
-round_up-requires-4 c =
-    let m = c.args.numbering.now in
-    let cs = c.requires.0 in
-    let w = c.requires.1 in
-    let d = c.requires.2 in
-    let K = ordered_of m cs in
-    let ends = end_in_file K w.fits in
-    let few = few_items K ends in
-    let n = counted m cs d in
-    let e = c.end-8.ensures ∙ ap (λ (q : ItemPlaces). q.end) (c.places-11.ensures ∙ ap (λ (p : EncodedItems). p.places) c.written-2.ensures) ∙ d.back_are.sets_are.written_are.places_are.end_is in omega (arith, e, ends.sets)
+round_up-requires-4 c = omega (arith, c.end-8.ensures ∙ ap (λ (q : ItemPlaces). q.end) (c.places-11.ensures ∙ ap (λ (p : EncodedItems). p.places) c.written-2.ensures) ∙ c.requires.2.back_are.sets_are.written_are.places_are.end_is, (ends c.requires.1).sets)
 
 pub overflow_cast-count_placed-5 : goal.overflow_cast-count_placed-5
-overflow_cast-count_placed-5 c =
-    let m = c.args.numbering.now in
-    let cs = c.requires.0 in
-    let w = c.requires.1 in
-    let d = c.requires.2 in
-    let K = ordered_of m cs in
-    let ends = end_in_file K w.fits in
-    let few = few_items K ends in
-    let n = counted m cs d in
-    let e = c.count_placed-5.ensures ∙ ap count_placed (c.offsets-7.ensures ∙ ap (λ (q : ItemPlaces). q.offsets) c.places-12.ensures) in omega (arith, e, n.directories, few.directories)
+overflow_cast-count_placed-5 c = omega (arith, c.count_placed-5.ensures ∙ ap count_placed (c.offsets-7.ensures ∙ ap (λ (q : ItemPlaces). q.offsets) c.places-12.ensures), (counts c.requires.2).directories, (few c.requires.1).directories)
 
 pub round_up-requires-5 : goal.round_up-requires-5
-round_up-requires-5 c =
-    let m = c.args.numbering.now in
-    let cs = c.requires.0 in
-    let w = c.requires.1 in
-    let d = c.requires.2 in
-    let K = ordered_of m cs in
-    let ends = end_in_file K w.fits in
-    let few = few_items K ends in
-    let n = counted m cs d in
-    let e = c.end-9.ensures ∙ ap (λ (q : ItemPlaces). q.end) c.places-13.ensures ∙ d.back_are.ref_lists_are.places_are.end_is in omega (arith, e, ends.ref_lists)
+round_up-requires-5 c = omega (arith, c.end-9.ensures ∙ ap (λ (q : ItemPlaces). q.end) c.places-13.ensures ∙ c.requires.2.back_are.ref_lists_are.places_are.end_is, (ends c.requires.1).ref_lists)
 
 pub returns : goal.returns
 returns c = λ cs w d from.

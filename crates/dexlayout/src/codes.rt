@@ -9,7 +9,7 @@ ghost use Rattle.dexlayout.specs.internal.Running.{place_use, place_uses};
 ghost use Rattle.dexlayout.specs.internal.Placing.{PlacedFrom};
 ghost use Rattle.dexlayout.specs.internal.Sizes.{class_code_sizes, code_size};
 
-use crate::offsets::{Offsets, round_up};
+use crate::offsets::Offsets;
 use dexclass::Class;
 use dexcode::code_bytes_law;
 use dexmembers::{Method, Methods};
@@ -64,10 +64,9 @@ fn place_code(method: &Method<'_, '_>, places: &mut Offsets) -> Result<(), Alloc
 {
     match method.code() {
         Some(code) => {
-            let off = round_up(places.end());
-            places.put_at(off, code.item_len() as u32)?;
+            places.align();
+            places.put_next(code.item_len())
         }
-        None => places.pass()?,
+        None => places.pass(),
     }
-    Ok(())
 }

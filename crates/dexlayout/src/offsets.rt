@@ -2,7 +2,7 @@
 
 ghost use Rattle.std.specs.Prelude.{◌≡◌, ◌+◌, ◌<◌, ◌≤◌, ◌^◌, IfOk, OnOk};
 ghost use Rattle.dexspec.specs.Bytes as bytes;
-ghost use Rattle.dexlayout.specs.internal.Running.{align_end, none_from, pass, put_at, put_next};
+ghost use Rattle.dexlayout.specs.internal.Running.{align_end, none_from, pass, put_next};
 
 use std::alloc::{AllocError, Global};
 use std::marker::Model;
@@ -56,22 +56,14 @@ impl Offsets {
         Ok(())
     }
 
-    /// Adds a use whose item of `len` bytes is at `off`.
-    pub(crate) fn put_at(&mut self, off: u32, len: u32) -> Result<(), AllocError>
-        requires { off + len < 2 ^ 32 }
-        ensures { OnOk result (self.new ≡ put_at self.old off len) }
-    {
-        self.offsets.push(off)?;
-        self.end = off + len;
-        Ok(())
-    }
-
     /// Adds a use whose item of `len` bytes is at the end of those before it.
     pub(crate) fn put_next(&mut self, len: usize) -> Result<(), AllocError>
         requires { self.old.end + len ≤ 2 ^ 30 }
         ensures { OnOk result (self.new ≡ put_next self.old len) }
     {
-        self.put_at(self.end(), len as u32)
+        self.offsets.push(self.end)?;
+        self.end += len as u32;
+        Ok(())
     }
 
     /// Moves the end to where the next item is aligned to 4 bytes.

@@ -13,9 +13,9 @@ ghost use Rattle.dexcanon.specs.internal.Adding.{class_rows, offsets_of};
 
 use crate::contents::Contents;
 use crate::item_lists::ItemList;
-use crate::items::encode_numbers;
 use dexclass::Class;
 use dexhead::Output;
+use dexlayout::encode_numbers;
 use dexpool::SymbolKind;
 
 // The offsets of what a class contains, each 0 where it has none: interfaces, annotations directory, class data and

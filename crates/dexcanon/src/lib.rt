@@ -16,7 +16,6 @@ mod digest;
 mod faults;
 mod files;
 mod item_lists;
-mod items;
 mod map;
 mod output;
 mod strings;

@@ -3,12 +3,14 @@
 //! Source: the headings "string_id_item", "type_id_item", "proto_id_item", "field_id_item" and "method_id_item" of the
 //! Android page "Dalvik Executable format".
 
+ghost use Rattle.std.specs.Prelude.{◌^◌, ◌<◌, ◌++◌};
+ghost use Rattle.dexspec.specs.Bytes.{ushort, uint};
 ghost use Rattle.dexcanon.specs.internal.Adding.{string_rows, type_rows, proto_rows, field_rows, method_rows};
 
 use crate::contents::Contents;
 use crate::item_lists::ItemList;
-use crate::items::{encode_member, encode_numbers};
 use dexhead::Output;
+use dexlayout::encode_numbers;
 use dexpool::SymbolKind;
 
 /// The rows of the texts, from the offset of each.
@@ -64,6 +66,19 @@ impl ItemList for ProtoIds {
         ];
         encode_numbers(&row, out);
     }
+}
+
+// Writes the row of a field or of a method: the number of its class, that of its type or of its proto, and that of its
+// name.
+fn encode_member<O: Output>(class: usize, typ: usize, name: usize, out: &mut O)
+    requires class_fits { class < 65536 }
+    requires type_fits { typ < 65536 }
+    requires name_fits { name < 2 ^ 32 }
+    ensures { O.gives (ushort class ++ (ushort typ ++ uint name)) out.old out.new }
+{
+    out.u16(class as u16);
+    out.u16(typ as u16);
+    out.u32(name as u32);
 }
 
 /// The rows of the fields.

@@ -1,9 +1,7 @@
 -- Items that are encoded one after the other are those of a section.
-use Rattle.std.proofs.Common.{◌≡◌, ℕ, ◌+◌, ◌<◌, List, [], ◌∷◌, ◌++◌, length, get_or, map, take, Some, refl, ap, ◌∙◌, arith}
+use Rattle.std.proofs.Common.{◌≡◌, ℕ, ◌+◌, List, [], ◌∷◌, ◌++◌, length, map, Some, refl, ap, ◌∙◌, arith}
 use Rattle.std.specs.Prelude.{All, replicate, ◌-◌, ◌%◌}
 use Rattle.std.specs.List.{flat_map}
-use Rattle.std.proofs.lemmas.Grind.{flat_map-append}
-use Rattle.std.proofs.lemmas.List.{append-nil, take_more}
 use Rattle.std.proofs.lemmas.List.Elements.{All-head, All-tail}
 use Rattle.dexspec.specs.Bytes.{round_up}
 use Rattle.dexspec.specs.Placing.{bytes_from}
@@ -22,10 +20,3 @@ pub items_agree : {X Y : Type 0} (code : X → List ℕ) (bytes : Y → List ℕ
 items_agree code bytes meant IsKnown same [] known = refl
 items_agree code bytes meant IsKnown same (x ∷ xs) known =
     λ i. Some (same x (All-head IsKnown x xs known) i) ∷ items_agree code bytes meant IsKnown same xs (All-tail IsKnown x xs known) i
-
--- one item more
-pub encoded_next : {X : Type 0} (code : X → List ℕ) (xs : List X) (i : ℕ) (x : X) → i < length xs → get_or xs i x ≡ x → flat_map code (take (i + 1) xs) ≡ flat_map code (take i xs) ++ code x
-encoded_next code xs i x lt is =
-    ap (flat_map code) (take_more xs i x lt ∙ ap (λ y. take i xs ++ y ∷ []) is)
-    ∙ flat_map-append code (take i xs) (x ∷ [])
-    ∙ ap (λ ys. flat_map code (take i xs) ++ ys) (append-nil (code x))

@@ -1,13 +1,15 @@
 //! Items that are encoded where they are laid out.
 
 ghost use Rattle.std.specs.Prelude.{◌≡◌, ◌++◌, ◌^◌, ◌<◌, ◌≤◌, All, IfOk, IfSome, OnOk, Some, length};
+ghost use Rattle.std.specs.List.{flat_map};
+ghost use Rattle.dexspec.specs.Bytes.{uint};
 ghost use Rattle.dexspec.specs.Spellings.{offsets_bytes};
 ghost use Rattle.dexlayout.specs.internal.Encoding.{align_next, encode_use, end_item, no_items_from, pass_use};
 ghost use Rattle.dexlayout.specs.internal.Placing.{shared_by};
 
 use crate::offsets::{Offsets, padding};
 use crate::sharing::place_shared;
-use dexhead::put_u32;
+use dexhead::Output;
 use std::alloc::{AllocError, Global};
 use std::marker::Model;
 
@@ -90,15 +92,23 @@ impl Items {
     }
 }
 
+/// Writes numbers of four bytes each.
+pub fn encode_numbers<O: Output>(numbers: &[u32], out: &mut O)
+    ensures { O.gives (flat_map uint numbers.now) out.old out.new }
+{
+    for number in numbers {
+        out.u32(*number);
+    }
+}
+
 // Appends how many offsets there are, and each, in four bytes.
 fn encode_offsets(offsets: &[u32], bytes: &mut Vec<u8>) -> Result<(), AllocError>
     requires { length offsets.now < 2 ^ 32 }
     ensures { OnOk result (bytes.new.items ≡ bytes.old.items ++ offsets_bytes offsets.now) }
 {
-    put_u32(offsets.len() as u32, bytes)?;
-    for offset in offsets {
-        put_u32(*offset, bytes)?;
-    }
+    bytes.reserve(4 + 4 * offsets.len())?;
+    bytes.u32(offsets.len() as u32);
+    encode_numbers(offsets, bytes);
     Ok(())
 }
 

@@ -27,7 +27,7 @@ mod strings;
 mod tables;
 mod type_lists;
 
-pub use items::{Items, SharedItems};
+pub use items::{Items, SharedItems, encode_numbers};
 pub use layout::Layout;
 pub use offsets::{Offsets, padding};
 pub use sets::Sets;

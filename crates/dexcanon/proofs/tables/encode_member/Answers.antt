@@ -1,6 +1,6 @@
 use Rattle.std.proofs.Common.{◌++◌}
 use Rattle.dexspec.specs.Bytes.{ushort, uint}
-use Rattle.dexcanon.proofs.items.encode_member.Goals as goal
+use Rattle.dexcanon.proofs.tables.encode_member.Goals as goal
 
 pub returns : goal.returns
 returns g c =

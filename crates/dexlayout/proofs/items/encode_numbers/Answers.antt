@@ -1,6 +1,6 @@
 use Rattle.dexspec.specs.Bytes.{uint}
 use Rattle.dexhead.proofs.Encoded.{given_more, given_all}
-use Rattle.dexcanon.proofs.items.encode_numbers.Goals as goal
+use Rattle.dexlayout.proofs.items.encode_numbers.Goals as goal
 
 pub loop-number-preserved : goal.loop-number-preserved
 loop-number-preserved g c = given_more g.O.Output.gives g.met.O.Output.both uint c.args.numbers.now c.loop-number.number-index 0 c.args.out.now c.loop-number.out c.u32.new.self c.loop-number-test.true c.loop-number.invariant c.u32.ensures

@@ -6,6 +6,7 @@ use Rattle.dexspec.specs.Bytes.{uint}
 use Rattle.dexspec.specs.Lists.{chunks}
 use Rattle.dexspec.specs.Spellings.{offsets_bytes}
 use Rattle.dexspec.proofs.numbers.ByteNumbers.{length-uint}
+use Rattle.dexspec.proofs.written.PlacedBytes.{length_rows}
 use Rattle.dexmembers.specs.Numbered.{NumberedMethod, NumberedMembers, methods_of}
 use Rattle.dexclass.specs.Numbered.{NumberedClass}
 use Rattle.dexlayout.specs.internal.OffsetLists.{offset_lists, total, list_item, parameter_counts, class_parameter_counts}
@@ -14,12 +15,8 @@ use Rattle.dexlayout.proofs.OwnSteps.{drop_next}
 -- ---- one list
 
 -- how many bytes offsets have, with their count
-flat_uints : (offs : List ℕ) → length (flat_map uint offs) ≡ 4 * length offs
-flat_uints [] = refl
-flat_uints (o ∷ offs) = omega (arith, length-append (uint o) (flat_map uint offs), length-uint o, flat_uints offs)
-
 pub offsets_length : (offs : List ℕ) → length (offsets_bytes offs) ≡ 4 + 4 * length offs
-offsets_length offs = omega (arith, length-append (uint (length offs)) (flat_map uint offs), length-uint (length offs), flat_uints offs)
+offsets_length offs = omega (arith, length-append (uint (length offs)) (flat_map uint offs), length-uint (length offs), length_rows uint 4 length-uint offs)
 
 -- an empty list has no item
 pub no_list : (offs : List ℕ) → length offs ≡ 0 → list_item offs ≡ None

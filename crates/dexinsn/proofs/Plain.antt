@@ -155,25 +155,31 @@ some_units u row row_is least =
     let units : row.units ≡ units_in there.0.format = row_is.units ∙ ap (λ (x : Option Opcode). option_map_or (λ (p : Opcode). units_in p.format) x 0) there.1 in
     omega (arith, units, units_in-some there.0.format)
 
-pub plain_step : (us : List ℕ) (m : Mentions) (at : ℕ) (row : Row) (size count : ℕ) (noted : Bool) → IsRowOf (low_byte (slice_index us at)) row → size ≡ row.units → at + size < length us → slice_index us at ≤ row.greatest → slice_index us (at + 1) < limit_of m (kind_of_index row.index) → slice_index us (at + 1) < 2 ^ 16
-    → count ≡ count_of_index (kind_of_index row.index) → noted ≡ row.branches → IsStep us m at (record { units = size; indices = count; is_instruction = true; is_noted = noted })
-plain_step us m at row size count noted row_is size_is within least below small count_is has_targets =
+-- the number of units is that of the row
+pub row_size : (us : List ℕ) (at : ℕ) (row : Row) (size : ℕ) → IsRowOf (low_byte (slice_index us at)) row → size ≡ row.units → at + size < length us → slice_index us at ≤ row.greatest → piece_size at (drop at us) ≡ Some size
+row_size us at row size row_is size_is within least =
     let u = slice_index us at in
     let least_at : u ≤ greatest_at (low_byte u) = omega (arith, least, row_is.greatest) in
     let there = opcode_there u (opcode_of (low_byte u)) refl least_at in
     let o = there.0 in
     let units : size ≡ units_in o.format = size_is ∙ row_is.units ∙ ap (λ (x : Option Opcode). option_map_or (λ (p : Opcode). units_in p.format) x 0) there.1 in
     let greatest : row.greatest ≡ greatest_first o.format = row_is.greatest ∙ ap (λ (x : Option Opcode). option_map_or (λ (p : Opcode). greatest_first p.format) x 0) there.1 in
+    plain_size us at o (omega (arith, within, units)) there.1 (no_payload u least_at) (begins o.format u (omega (arith, least, greatest))) ∙ ap Some (sym units)
+
+pub plain_step : (us : List ℕ) (m : Mentions) (at : ℕ) (row : Row) (size count : ℕ) (noted : Bool) → IsRowOf (low_byte (slice_index us at)) row → size ≡ row.units → at + size < length us → slice_index us at ≤ row.greatest → slice_index us (at + 1) < limit_of m (kind_of_index row.index) → slice_index us (at + 1) < 2 ^ 16
+    → count ≡ count_of_index (kind_of_index row.index) → noted ≡ row.branches → IsStep us m at (record { units = size; indices = count; is_instruction = true; is_noted = noted })
+plain_step us m at row size count noted row_is size_is within least below small count_is has_targets =
+    let u = slice_index us at in
+    let least_at : u ≤ greatest_at (low_byte u) = omega (arith, least, row_is.greatest) in
     let ident : is_payload_ident u ≡ false = no_payload u least_at in
     let here : slice_index (drop at us) 0 ≡ u = get_or-drop at us 0 0 ∙ ap (slice_index us) (add-zero at) in
-    let piece = plain_size us at o (omega (arith, within, units)) there.1 ident (begins o.format u (omega (arith, least, greatest))) in
     let pool : index_pool (drop at us) ≡ option_and_then (λ (p : Opcode). p.index) (opcode_of (low_byte u)) = pool_of_first (drop at us) ∙ ap (λ (v : ℕ). option_and_then (λ (p : Opcode). p.index) (opcode_of (low_byte v))) here in
     let index : kind_of_index row.index ≡ option_map kind_of_pool (index_pool (drop at us)) = row_is.index ∙ ap (option_map kind_of_pool) (sym pool) in
     let narrow : is_wide_index (drop at us) ≡ false = ap (λ (v : ℕ). low_byte v == 0x1b) here ∙ not_jumbo u (low_byte u == 0x1b) least_at refl in
     let counted = counted_by us m at (index_pool (drop at us)) refl narrow (subst (λ (i : Option SymbolKind). slice_index us (at + 1) < limit_of m i) index below) small in
     record {
-      size = piece ∙ ap Some (sym units);
-      some = omega (arith, units, units_in-some o.format);
+      size = row_size us at row size row_is size_is within least;
+      some = omega (arith, size_is, some_units u row row_is least);
       index = subst (λ (n : ℕ). IndexCount us m at n) (ap count_of_index (sym index) ∙ sym count_is) counted;
       start_is = rw ident refl;
       noted_is = has_targets ∙ row_is.branches ∙ rw ident refl;

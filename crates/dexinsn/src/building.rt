@@ -7,7 +7,7 @@ ghost use Rattle.dexinsn.specs.Checking.{AreTheIndices, HaveIndices, IsShapeAt};
 
 use crate::code_units::Units;
 use crate::instruction_index::{index_at, kind_at};
-use crate::piece::piece_size;
+use crate::piece_step::size_at;
 use crate::pieces::{Index, Pieces};
 use crate::shape::PiecesShape;
 use dexhead::Frame;
@@ -23,7 +23,7 @@ fn build_indices(alloc: Global, units: &Units<'_>, count: usize) -> Result<Vec<I
     let mut indices = Vec::with_capacity(alloc, count)?;
     let mut at = 0;
     while indices.len() < count {
-        let size = piece_size(at, &units.rest(at)).unwrap();
+        let size = size_at(units, at).unwrap();
         if kind_at(units, at).is_some() {
             let number = index_at(units, at);
             let unit = at as u32;

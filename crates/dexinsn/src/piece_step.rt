@@ -1,6 +1,7 @@
 //! One piece of code units at a time, found in few tests.
 
-ghost use Rattle.std.specs.Prelude.{◌≡◌, ◌<◌, length, IfSome, MatchOption};
+ghost use Rattle.std.specs.Prelude.{◌≡◌, ◌<◌, drop, length, IfSome, MatchOption, Some};
+ghost use Rattle.dexspec.specs.Pieces.{piece_size};
 ghost use Rattle.dexspec.specs.Mentions.{Mentions};
 ghost use Rattle.dexinsn.specs.Opcode.{kind_of_index};
 ghost use Rattle.dexinsn.specs.Checking.{AreLimits, HasNoStep, IsStep, count_of_index, limit_of, slot_of};
@@ -76,6 +77,37 @@ impl Limits {
             → result ≡ limit_of m (kind_of_index index) }
     {
         self.below[slot_of(index)]
+    }
+}
+
+// The number of units of the piece at a unit, if it is an instruction with no index or one of 16 bits, and a unit
+// follows it.
+#[inline(always)]
+fn plain_size(units: &Units<'_>, at: usize) -> Option<usize>
+    requires { at < length units.now }
+    ensures { IfSome result (λ size. piece_size at (drop at units.now) ≡ Some size) }
+{
+    let first = units.at(at);
+    let row = row_of(opcode_in(first));
+    let size = usize::from(row.units);
+    if units.len() - at <= size {
+        return None;
+    }
+    if row.greatest < first {
+        return None;
+    }
+    Some(size)
+}
+
+/// The number of units of the piece at a unit, or `None` where no piece begins.
+#[inline(always)]
+pub(crate) fn size_at(units: &Units<'_>, at: usize) -> Option<usize>
+    requires { at < length units.now }
+    ensures { result ≡ piece_size at (drop at units.now) }
+{
+    match plain_size(units, at) {
+        Some(size) => Some(size),
+        None => piece_size(at, &units.rest(at)),
     }
 }
 

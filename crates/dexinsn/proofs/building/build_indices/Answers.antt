@@ -1,4 +1,4 @@
-use Rattle.std.proofs.Common.{◌≡◌, ◌-◌, true, false, length, length-drop, drop, Some, IsSome, sym, ap, subst, ◌∙◌, arith, rules}
+use Rattle.std.proofs.Common.{◌≡◌, true, false, drop, Some, IsSome, sym, ap, subst, ◌∙◌, arith, rules}
 use Rattle.std.specs.Option.{is_some}
 use Rattle.dexspec.specs.Pieces.{index_pool, piece_size}
 use Rattle.dexinsn.proofs.BuiltIndices.{all_built, index_built, next_begins, next_piece, next_size, next_within, no_pool, none_built, plain_built, some_pool, some_units}
@@ -12,13 +12,13 @@ loop-size-init c = record {
   built = none_built c.args.units.now c.args.count c.in_ok-indices.indices.items (search rules) c.requires.have;
 }
 
-pub rest-requires : goal.rest-requires
-rest-requires c = let begins = next_begins c.args.units.now c.args.count c.loop-size.at c.loop-size.indices.items (next_piece c.args.units.now c.args.count c.loop-size.at c.loop-size.indices.items c.loop-size.invariant.built (omega arith)) in omega (arith, begins)
+pub size_at-requires : goal.size_at-requires
+size_at-requires c = next_begins c.args.units.now c.args.count c.loop-size.at c.loop-size.indices.items (next_piece c.args.units.now c.args.count c.loop-size.at c.loop-size.indices.items c.loop-size.invariant.built (omega arith))
 
 pub unwrap-size-requires : goal.unwrap-size-requires
 unwrap-size-requires c =
     let next = next_piece c.args.units.now c.args.count c.loop-size.at c.loop-size.indices.items c.loop-size.invariant.built (omega arith) in
-    subst IsSome (ap (piece_size c.loop-size.at) (sym c.rest.ensures) ∙ sym c.piece_size.ensures.size) (next_size c.args.units.now c.args.count c.loop-size.at c.loop-size.indices.items next)
+    subst IsSome (sym c.size_at.ensures) (next_size c.args.units.now c.args.count c.loop-size.at c.loop-size.indices.items next)
 
 pub kind_at-requires : goal.kind_at-requires
 kind_at-requires c = next_begins c.args.units.now c.args.count c.loop-size.at c.loop-size.indices.items (next_piece c.args.units.now c.args.count c.loop-size.at c.loop-size.indices.items c.loop-size.invariant.built (omega arith))
@@ -46,7 +46,7 @@ pub loop-size-preserved : goal.loop-size-preserved
 loop-size-preserved c =
     let us = c.args.units.now in
     let next = next_piece us c.args.count c.loop-size.at c.loop-size.indices.items c.loop-size.invariant.built (omega arith) in
-    let size : piece_size c.loop-size.at (drop c.loop-size.at us) ≡ Some c.unwrap-size.result = ap (piece_size c.loop-size.at) (sym c.rest.ensures) ∙ sym c.piece_size.ensures.size ∙ c.unwrap-size.ensures in
+    let size : piece_size c.loop-size.at (drop c.loop-size.at us) ≡ Some c.unwrap-size.result = sym c.size_at.ensures ∙ c.unwrap-size.ensures in
     elim c.if-is_some.branch [
       | then-is_some w ↦
           let some : is_some c.kind_at.result ≡ true = sym c.is_some.ensures ∙ w.if-is_some.true in
@@ -68,14 +68,15 @@ pub loop-size-smaller : goal.loop-size-smaller
 loop-size-smaller c =
     let us = c.args.units.now in
     let next = next_piece us c.args.count c.loop-size.at c.loop-size.indices.items c.loop-size.invariant.built (omega arith) in
-    let size : piece_size c.loop-size.at (drop c.loop-size.at us) ≡ Some c.unwrap-size.result = ap (piece_size c.loop-size.at) (sym c.rest.ensures) ∙ sym c.piece_size.ensures.size ∙ c.unwrap-size.ensures in
+    let size : piece_size c.loop-size.at (drop c.loop-size.at us) ≡ Some c.unwrap-size.result = sym c.size_at.ensures ∙ c.unwrap-size.ensures in
     omega (arith, next_within us c.args.count c.loop-size.at c.unwrap-size.result c.loop-size.indices.items next size, some_units us c.loop-size.at c.unwrap-size.result size)
-
-pub piece_size-requires : goal.piece_size-requires
-piece_size-requires c =
-    let begins = next_begins c.args.units.now c.args.count c.loop-size.at c.loop-size.indices.items (next_piece c.args.units.now c.args.count c.loop-size.at c.loop-size.indices.items c.loop-size.invariant.built (omega arith)) in
-    let l : length c.rest.result ≡ length c.args.units.now - c.loop-size.at = ap length c.rest.ensures ∙ length-drop c.loop-size.at c.args.units.now in
-    omega (arith, l, begins)
 
 pub returns : goal.returns
 returns c = all_built c.args.units.now c.args.count c.loop-size.at c.loop-size.indices.items c.loop-size.invariant.built (omega arith)
+
+pub overflow_add-at : goal.overflow_add-at
+overflow_add-at c =
+    let us = c.args.units.now in
+    let next = next_piece us c.args.count c.loop-size.at c.loop-size.indices.items c.loop-size.invariant.built (omega arith) in
+    let size : piece_size c.loop-size.at (drop c.loop-size.at us) ≡ Some c.unwrap-size.result = sym c.size_at.ensures ∙ c.unwrap-size.ensures in
+    omega (arith, next_within us c.args.count c.loop-size.at c.unwrap-size.result c.loop-size.indices.items next size, c.requires.few)

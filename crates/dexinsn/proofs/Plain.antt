@@ -14,7 +14,7 @@ use Rattle.dexpool.specs.Pools.{count_of}
 use Rattle.dexpool.specs.declared.symbols.SymbolKind.{SymbolKind}
 use Rattle.dexinsn.specs.Checking.{IndexCount, IsStep, count_of_index, limit_of}
 use Rattle.dexinsn.specs.Numbered.{index_room, kind_of_pool}
-use Rattle.dexinsn.specs.Opcode.{IsRowOf, greatest_at, greatest_first, kind_of_index}
+use Rattle.dexinsn.specs.Opcode.{IsPlainRow, IsRowOf, greatest_at, greatest_first, kind_of_index}
 use Rattle.dexinsn.specs.Reading.{with_index_at}
 use Rattle.dexinsn.specs.Stored.{FitsAt}
 use Rattle.dexinsn.specs.declared.opcodes.Row.{Row}
@@ -156,31 +156,31 @@ some_units u row row_is least =
     omega (arith, units, units_in-some there.0.format)
 
 -- the number of units is that of the row
-pub row_size : (us : List ℕ) (at : ℕ) (row : Row) (size : ℕ) → IsRowOf (low_byte (slice_index us at)) row → size ≡ row.units → at + size < length us → slice_index us at ≤ row.greatest → piece_size at (drop at us) ≡ Some size
-row_size us at row size row_is size_is within least =
+pub row_size : (us : List ℕ) (at : ℕ) (row : Row) → IsPlainRow us at row → piece_size at (drop at us) ≡ Some row.units
+row_size us at row plain =
     let u = slice_index us at in
-    let least_at : u ≤ greatest_at (low_byte u) = omega (arith, least, row_is.greatest) in
+    let least_at : u ≤ greatest_at (low_byte u) = omega (arith, plain.least, plain.row_is.greatest) in
     let there = opcode_there u (opcode_of (low_byte u)) refl least_at in
     let o = there.0 in
-    let units : size ≡ units_in o.format = size_is ∙ row_is.units ∙ ap (λ (x : Option Opcode). option_map_or (λ (p : Opcode). units_in p.format) x 0) there.1 in
-    let greatest : row.greatest ≡ greatest_first o.format = row_is.greatest ∙ ap (λ (x : Option Opcode). option_map_or (λ (p : Opcode). greatest_first p.format) x 0) there.1 in
-    plain_size us at o (omega (arith, within, units)) there.1 (no_payload u least_at) (begins o.format u (omega (arith, least, greatest))) ∙ ap Some (sym units)
+    let units : row.units ≡ units_in o.format = plain.row_is.units ∙ ap (λ (x : Option Opcode). option_map_or (λ (p : Opcode). units_in p.format) x 0) there.1 in
+    let greatest : row.greatest ≡ greatest_first o.format = plain.row_is.greatest ∙ ap (λ (x : Option Opcode). option_map_or (λ (p : Opcode). greatest_first p.format) x 0) there.1 in
+    plain_size us at o (omega (arith, plain.within, units)) there.1 (no_payload u least_at) (begins o.format u (omega (arith, plain.least, greatest))) ∙ ap Some (sym units)
 
-pub plain_step : (us : List ℕ) (m : Mentions) (at : ℕ) (row : Row) (size count : ℕ) (noted : Bool) → IsRowOf (low_byte (slice_index us at)) row → size ≡ row.units → at + size < length us → slice_index us at ≤ row.greatest → slice_index us (at + 1) < limit_of m (kind_of_index row.index) → slice_index us (at + 1) < 2 ^ 16
-    → count ≡ count_of_index (kind_of_index row.index) → noted ≡ row.branches → IsStep us m at (record { units = size; indices = count; is_instruction = true; is_noted = noted })
-plain_step us m at row size count noted row_is size_is within least below small count_is has_targets =
+pub plain_step : (us : List ℕ) (m : Mentions) (at : ℕ) (row : Row) → IsPlainRow us at row → slice_index us (at + 1) < limit_of m (kind_of_index row.index) → slice_index us (at + 1) < 2 ^ 16
+    → IsStep us m at (record { units = row.units; indices = count_of_index (kind_of_index row.index); is_instruction = true; is_noted = row.branches })
+plain_step us m at row plain below small =
     let u = slice_index us at in
-    let least_at : u ≤ greatest_at (low_byte u) = omega (arith, least, row_is.greatest) in
+    let least_at : u ≤ greatest_at (low_byte u) = omega (arith, plain.least, plain.row_is.greatest) in
     let ident : is_payload_ident u ≡ false = no_payload u least_at in
     let here : slice_index (drop at us) 0 ≡ u = get_or-drop at us 0 0 ∙ ap (slice_index us) (add-zero at) in
     let pool : index_pool (drop at us) ≡ option_and_then (λ (p : Opcode). p.index) (opcode_of (low_byte u)) = pool_of_first (drop at us) ∙ ap (λ (v : ℕ). option_and_then (λ (p : Opcode). p.index) (opcode_of (low_byte v))) here in
-    let index : kind_of_index row.index ≡ option_map kind_of_pool (index_pool (drop at us)) = row_is.index ∙ ap (option_map kind_of_pool) (sym pool) in
+    let index : kind_of_index row.index ≡ option_map kind_of_pool (index_pool (drop at us)) = plain.row_is.index ∙ ap (option_map kind_of_pool) (sym pool) in
     let narrow : is_wide_index (drop at us) ≡ false = ap (λ (v : ℕ). low_byte v == 0x1b) here ∙ not_jumbo u (low_byte u == 0x1b) least_at refl in
     let counted = counted_by us m at (index_pool (drop at us)) refl narrow (subst (λ (i : Option SymbolKind). slice_index us (at + 1) < limit_of m i) index below) small in
     record {
-      size = row_size us at row size row_is size_is within least;
-      some = omega (arith, size_is, some_units u row row_is least);
-      index = subst (λ (n : ℕ). IndexCount us m at n) (ap count_of_index (sym index) ∙ sym count_is) counted;
+      size = row_size us at row plain;
+      some = some_units u row plain.row_is plain.least;
+      index = subst (λ (n : ℕ). IndexCount us m at n) (ap count_of_index (sym index)) counted;
       start_is = rw ident refl;
-      noted_is = has_targets ∙ row_is.branches ∙ rw ident refl;
+      noted_is = plain.row_is.branches ∙ rw ident refl;
     }

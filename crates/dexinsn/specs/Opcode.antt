@@ -1,5 +1,5 @@
 -- The enums of the code, as what they mean.
-use Rattle.std.specs.Prelude.{◌≡◌, ℕ, Bool, false, List, [], map, Option, Some, None}
+use Rattle.std.specs.Prelude.{◌≡◌, ℕ, ◌+◌, ◌^◌, ◌<◌, ◌≤◌, Bool, false, List, [], length, map, slice_index, Option, Some, None}
 use Rattle.std.specs.List.{range_with_len}
 use Rattle.std.specs.Borrow.{Bor}
 use Rattle.std.specs.Option.{option_and_then, option_map, option_map_or}
@@ -9,6 +9,7 @@ use Rattle.dexinsn.specs.declared.format.Format.TheVariants.{Format10x, Format12
 use Rattle.dexinsn.specs.declared.opcodes.IndexKind.{IndexKind}
 use Rattle.dexinsn.specs.declared.opcodes.IndexKind.TheVariants as indices
 use Rattle.dexinsn.specs.declared.opcodes.Row.{Row}
+use Rattle.dexspec.specs.Pieces.{low_byte}
 use Rattle.dexinsn.specs.Checking.{branches}
 use Rattle.dexpool.specs.declared.symbols.SymbolKind.TheVariants as kinds
 use Rattle.dexpool.specs.declared.symbols.SymbolKind.{SymbolKind}
@@ -91,6 +92,13 @@ pub record IsRowOf (op : ℕ) (row : Row) : Type 0 where
   pub units : row.units ≡ units_at op
   pub branches : row.branches ≡ branches_at op
   pub greatest : row.greatest ≡ greatest_at op
+
+-- it is that of the instruction that begins at the unit, which has no index or one of 16 bits, and a unit follows it
+pub record IsPlainRow (us : List ℕ) (at : ℕ) (row : Row) : Type 0 where
+  pub row_is : IsRowOf (low_byte (slice_index us at)) row
+  pub within : at + row.units < length us
+  pub small : at < 2 ^ 62
+  pub least : slice_index us at ≤ row.greatest
 
 -- the table says so of each opcode
 pub record AreRows (rows : List Row) : Type 0 where

@@ -10,7 +10,7 @@ ghost use Rattle.dexinsn.specs.Opcode.{format_of};
 ghost use Rattle.dexinsn.specs.Payload.{ident_of};
 ghost use Rattle.dexinsn.specs.internal.LongSwitches.{ArePayloads, EndsEmpty};
 ghost use Rattle.dexinsn.specs.Split.{IsPieceAt};
-ghost use Rattle.dexinsn.specs.Checking.{AreBitsOf, AreNoted, HasNoCode, AreAllRight, HasPiecesOf, IndexCount, IsOutside, IsChecked, IsShapeAt, HasTargetsAt, begins_instruction, branches, is_noted, has_targets};
+ghost use Rattle.dexinsn.specs.Checking.{AreBitsOf, AreNoted, HasNoCode, AreAllRight, HasPiecesOf, IndexCount, IsOutside, IsChecked, IsShapeAt, HasTargetsAt, begins_instruction, is_noted, has_targets};
 ghost use Rattle.dexinsn.specs.internal.Checking.{AreCodeStartBits, ArePassedWhole, GainPiece, HasBranchAt, HasListedTargets, HasPayloadAt, IsFoundWith};
 
 use crate::code_units::Units;
@@ -18,6 +18,7 @@ use crate::format::Format;
 use crate::instruction::branch_offset;
 use crate::instruction_index::{index_at, kind_at};
 use crate::long_switches::{LongSwitches, targets_at};
+use crate::opcodes::row_of;
 use crate::payload::PayloadKind;
 use crate::piece_step::{Limits, step_at};
 use crate::reading::units_at;
@@ -29,31 +30,11 @@ use dexhead::{Condition, Frame, u16_at};
 use dexpool::{ItemFault, Pools};
 use std::alloc::{AllocError, Global};
 
-impl Format {
-    // Returns whether an instruction of the format has a target.
-    fn branches(self) -> bool
-        ensures { result ≡ branches (format_of self) }
-    {
-        matches!(
-            self,
-            Format::Format10t
-                | Format::Format20t
-                | Format::Format21t
-                | Format::Format22t
-                | Format::Format30t
-                | Format::Format31t
-        )
-    }
-}
-
 /// Returns whether an instruction that begins with this unit has a target.
 pub(crate) fn has_targets(first: u16) -> bool
     ensures { result ≡ has_targets first }
 {
-    match Format::of(opcode_in(first)) {
-        Some(format) => format.branches(),
-        None => false,
-    }
+    row_of(opcode_in(first)).branches
 }
 
 /// Returns the number of indices of the piece at a unit, one or none, if what it has is in range.

@@ -3,12 +3,12 @@
 ghost use Rattle.std.specs.Prelude.{◌≡◌, ◌<◌, drop, length, IfSome, MatchOption, Some};
 ghost use Rattle.dexspec.specs.Pieces.{piece_size};
 ghost use Rattle.dexspec.specs.Mentions.{Mentions};
-ghost use Rattle.dexinsn.specs.Opcode.{kind_of_index};
+ghost use Rattle.dexinsn.specs.Opcode.{IsPlainRow, kind_of_index};
 ghost use Rattle.dexinsn.specs.Checking.{AreLimits, HasNoStep, IsStep, count_of_index, limit_of, slot_of};
 
 use crate::checking::{has_targets, index_count};
 use crate::code_units::Units;
-use crate::opcodes::{IndexKind, row_of};
+use crate::opcodes::{IndexKind, Row, row_of};
 use crate::payload::PayloadKind;
 use crate::piece::piece_size;
 use crate::units::opcode_in;
@@ -80,23 +80,21 @@ impl Limits {
     }
 }
 
-// The number of units of the piece at a unit, if it is an instruction with no index or one of 16 bits, and a unit
-// follows it.
+// The row of the opcode at a unit, if an instruction with no index or one of 16 bits begins there, and a unit follows it.
 #[inline(always)]
-fn plain_size(units: &Units<'_>, at: usize) -> Option<usize>
+fn plain_row(units: &Units<'_>, at: usize) -> Option<Row>
     requires { at < length units.now }
-    ensures { IfSome result (λ size. piece_size at (drop at units.now) ≡ Some size) }
+    ensures { IfSome result (IsPlainRow units.now at) }
 {
     let first = units.at(at);
     let row = row_of(opcode_in(first));
-    let size = usize::from(row.units);
-    if units.len() - at <= size {
+    if units.len() - at <= usize::from(row.units) {
         return None;
     }
     if row.greatest < first {
         return None;
     }
-    Some(size)
+    Some(row)
 }
 
 /// The number of units of the piece at a unit, or `None` where no piece begins.
@@ -105,8 +103,8 @@ pub(crate) fn size_at(units: &Units<'_>, at: usize) -> Option<usize>
     requires { at < length units.now }
     ensures { result ≡ piece_size at (drop at units.now) }
 {
-    match plain_size(units, at) {
-        Some(size) => Some(size),
+    match plain_row(units, at) {
+        Some(row) => Some(usize::from(row.units)),
         None => piece_size(at, &units.rest(at)),
     }
 }
@@ -117,20 +115,14 @@ fn plain_step(units: &Units<'_>, limits: &Limits, at: usize) -> Option<Step>
     requires { at < length units.now }
     ensures { (m : Mentions) → AreLimits m limits.now → IfSome result (IsStep units.now m at) }
 {
-    let first = units.at(at);
-    let row = row_of(opcode_in(first));
-    let size = usize::from(row.units);
-    if units.len() - at <= size {
+    let Some(row) = plain_row(units, at) else {
         return None;
-    }
-    if row.greatest < first {
-        return None;
-    }
+    };
     if limits.limit(row.index) <= usize::from(units.at(at + 1)) {
         return None;
     }
     Some(Step {
-        units: size,
+        units: usize::from(row.units),
         indices: count_of_index(row.index),
         is_instruction: true,
         is_noted: row.branches,

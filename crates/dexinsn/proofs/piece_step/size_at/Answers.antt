@@ -1,0 +1,7 @@
+use Rattle.std.proofs.Common.{ap, ◌∙◌, sym}
+use Rattle.std.specs.Prelude.{Some}
+use Rattle.dexinsn.proofs.Plain.{row_size}
+use Rattle.dexinsn.proofs.piece_step.size_at.Goals as goal
+
+pub returns-in-Some : goal.returns-in-Some
+returns-in-Some c = ap Some c.from.ensures ∙ sym (row_size c.args.units.now c.args.at c.in-Some.row c.in-Some.ensures)

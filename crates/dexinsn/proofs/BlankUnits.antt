@@ -1,6 +1,7 @@
 -- The units of pieces with zeros for the numbers, one by one.
 use Rattle.std.proofs.Common.{◌≡◌, ℕ, zero, suc, ◌+◌, ◌-◌, ◌<◌, ◌≤◌, ◌==◌, ◌&&◌, ◌||◌, Bool, true, false, cond, List, [], ◌∷◌, ◌++◌, length, drop, take, map, get_or, slice_index, slice_set, Option, Some, None, inl, inr, refl, ap, sym, ◌∙◌, subst, arith, eq-eqb, ne_eqb, length-drop}
 use Rattle.std.specs.List.{Any, flat_map, list_any}
+use Rattle.std.specs.List.Sorted.{IsNonDecreasingBy}
 use Rattle.std.proofs.lemmas.Bool.{cases_eq, cases_lt}
 use Rattle.std.proofs.lemmas.List.{get_or-take, get_or-drop, get_or_append_left, get_or-append_right, length-take-le}
 use Rattle.std.proofs.lemmas.List.Folds.{list_any_at, Any-from_list_any}
@@ -134,22 +135,11 @@ any_default [] n d e lt = absurd (omega (arith, lt))
 any_default (x ∷ xs) zero d e lt = refl
 any_default (x ∷ xs) (suc n) d e lt = any_default xs n d e (omega (arith, lt))
 
--- where one begins before a unit so do those ahead of it
-pub before_more : (is : List Index) (middle unit : ℕ) (e : Index) → Rise is → middle < length is → (get_or is middle e).unit < unit → (k : ℕ) (d : Index) → k < middle + 1 → (get_or is k d).unit < unit
-before_more is middle unit e rise lt less k d below = elim (cases_eq k middle) [
-  | inl same ↦ subst (λ (x : Index). x.unit < unit) (any_default is middle e d lt ∙ ap (λ (j : ℕ). get_or is j d) (sym same)) less
-  | inr other ↦
-      let here : (get_or is k e).unit < (get_or is middle e).unit = rise k middle e (omega (arith, below, other)) lt in
-      subst (λ (x : Index). x.unit < unit) (any_default is k e d (omega (arith, below, lt))) (omega (arith, here, less))
-]
-
--- if one does not begin before a unit, those after it do not
-pub after_more : (is : List Index) (middle unit : ℕ) (e : Index) → Rise is → unit ≤ (get_or is middle e).unit → (k : ℕ) (d : Index) → middle ≤ k → k < length is → unit ≤ (get_or is k d).unit
-after_more is middle unit e rise le k d from lt = elim (cases_eq k middle) [
-  | inl same ↦ subst (λ (x : Index). unit ≤ x.unit) (any_default is middle e d (omega (arith, lt, same)) ∙ ap (λ (j : ℕ). get_or is j d) (sym same)) le
-  | inr other ↦
-      let here : (get_or is middle e).unit < (get_or is k e).unit = rise middle k e (omega (arith, from, other)) lt in
-      subst (λ (x : Index). unit ≤ x.unit) (any_default is k e d lt) (omega (arith, here, le))
+-- they rise by their units
+pub rise_by_unit : (is : List Index) → Rise is → IsNonDecreasingBy (λ (x : Index). x.unit) is
+rise_by_unit is rise i j d le lt = elim (cases_eq i j) [
+  | inl same ↦ subst (λ (k : ℕ). (get_or is i d).unit ≤ (get_or is k d).unit) same (omega arith)
+  | inr other ↦ let less : (get_or is i d).unit < (get_or is j d).unit = rise i j d (omega (arith, le, other)) lt in omega (arith, less)
 ]
 
 -- ---- whether a unit is one of an index

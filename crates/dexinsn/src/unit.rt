@@ -16,17 +16,7 @@ fn count_before(indices: &[Index], unit: usize) -> usize
     requires { Rise indices.now }
     ensures { IsCountBefore indices.now unit result }
 {
-    let mut low = 0;
-    let mut high = indices.len();
-    while low < high {
-        let middle = low + (high - low) / 2;
-        if (indices[middle].unit as usize) < unit {
-            low = middle + 1;
-        } else {
-            high = middle;
-        }
-    }
-    low
+    indices.partition_point(|index| (index.unit as usize) < unit)
 }
 
 // Returns whether a unit is one of the index of the instruction that begins at another.

@@ -1,23 +1,15 @@
-use Rattle.std.proofs.Common.{ℕ, ◌+◌, ◌-◌, ◌/◌, arith}
-use Rattle.dexinsn.proofs.BlankUnits.{after_more, before_more}
+use Rattle.std.proofs.Common.{ltb, ltb-false, ltb-true, arith, rules}
+use Rattle.std.proofs.lemmas.List.Sorted.{IsPartitionPoint-from_clause, IsPartitionedBy-ltb}
+use Rattle.dexinsn.specs.declared.pieces.Index.{Index}
+use Rattle.dexinsn.proofs.BlankUnits.{rise_by_unit}
 use Rattle.dexinsn.proofs.unit.count_before.Goals as goal
 
-pub loop-low-preserved-then-indices-middle : goal.loop-low-preserved-then-indices-middle
-loop-low-preserved-then-indices-middle c =
-    let middle : ℕ = c.loop-low.low + (c.loop-low.high - c.loop-low.low) / 2 in
+pub returns : goal.returns
+returns c =
+    let parted = IsPartitionedBy-ltb (λ (i : Index). i.unit) c.args.indices.now c.args.unit (rise_by_unit c.args.indices.now c.requires) in
+    let point = IsPartitionPoint-from_clause (λ (i : Index). ltb i.unit c.args.unit) _ _ c.partition_point.ensures.partitioned parted (λ a r q k. search rules) in
     record {
-      order = omega (arith, c.loop-low-test.true);
-      within = c.loop-low.invariant.within;
-      before = before_more c.args.indices.now middle c.args.unit (record { unit = 0; number = 0 }) c.requires (omega (arith, c.loop-low-test.true, c.loop-low.invariant.within)) c.if-indices-middle.true;
-      after = c.loop-low.invariant.after;
-    }
-
-pub loop-low-preserved : goal.loop-low-preserved
-loop-low-preserved c =
-    let middle : ℕ = c.loop-low.low + (c.loop-low.high - c.loop-low.low) / 2 in
-    record {
-      order = omega (arith, c.loop-low-test.true);
-      within = omega (arith, c.loop-low-test.true, c.loop-low.invariant.within);
-      before = c.loop-low.invariant.before;
-      after = after_more c.args.indices.now middle c.args.unit (record { unit = 0; number = 0 }) c.requires c.if-indices-middle.false;
+      within = c.partition_point.ensures.bound;
+      before = λ k d lt. ltb-true _ _ (point.0 k d (omega arith) lt);
+      after = λ k d le lt. ltb-false _ _ (point.1 k d le lt);
     }

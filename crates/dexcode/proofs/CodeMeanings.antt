@@ -16,13 +16,13 @@ use Rattle.dexpool.specs.Uses.{HasMark, IsUseOf}
 use Rattle.dexinsn.specs.Numbered.{uses_of}
 use Rattle.dexinsn.proofs.Meanings as pieces
 use Rattle.dexcode.specs.declared.handlers.Catch.{Catch}
-use Rattle.dexcode.specs.Debug.{NumberedDebug, DenotesDebug, HasImage, HasPlace, renumbered_debug, debug_uses}
+use Rattle.dexdebug.specs.Debug.{NumberedDebug, DenotesDebug, HasImage, HasPlace, renumbered_debug, debug_uses}
 use Rattle.dexcode.specs.Equality.{handler_decides}
 use Rattle.dexcode.specs.Numbered.{NumberedHandler, NumberedTry, NumberedItem, DenotesCatch, DenotesTry, DenotesCode, same_handler, handlers_of, catch_meant, handler_meant, try_meant}
 use Rattle.dexcode.specs.Renumbering.{catch_use, handler_uses, tries_uses, item_uses, HasTypePlace, HasPlaces, HasImages, renumbered_catch, renumbered_try, renumbered_item}
 use Rattle.dexcode.proofs.CodeUses.{optional_debug_uses, debug_part}
-use Rattle.dexcode.proofs.DebugMeanings as debugs
-use Rattle.dexcode.proofs.DebugMeanings.{mapped_at, zip-append}
+use Rattle.dexdebug.proofs.DebugMeanings as debugs
+use Rattle.dexdebug.proofs.DebugMeanings.{mapped_at, zip-append}
 use Rattle.dexpool.proofs.Parts.{all_of, all_parts}
 use Rattle.dexcode.proofs.Images.{one_default, all_distinct}
 use Rattle.dexcode.proofs.TryRows.{IsInRange, handlers_meant}

@@ -20,8 +20,8 @@ use Rattle.dexinsn.specs.Fitting.{ImagesFit, IsGreatest, MapsShort, short_string
 use Rattle.dexpool.specs.Orderly.{KeepOrder, MapsDown}
 use Rattle.dexcode.specs.declared.handlers.Catch.{Catch}
 use Rattle.dexcode.specs.declared.tries.Try.{Try}
-use Rattle.dexcode.specs.declared.debug_operation.Operation.{Operation}
-use Rattle.dexcode.specs.Debug.{NumberedDebug, FitsIndex, IsFormedOperation, IsFormedDebug, HasImage, HasPlace, number_uses, operation_uses, debug_uses, name_of, type_of, signature_of}
+use Rattle.dexdebug.specs.declared.debug_operation.Operation.{Operation}
+use Rattle.dexdebug.specs.Debug.{NumberedDebug, FitsIndex, IsFormedOperation, IsFormedDebug, HasImage, HasPlace, number_uses, operation_uses, debug_uses, name_of, type_of, signature_of}
 use Rattle.dexcode.specs.Numbered.{NumberedHandler, NumberedItem, DenotesCode, IsFormedHandler, AreStored, all_named, handlers_of}
 use Rattle.dexcode.specs.Renumbering.{catch_use, handler_uses, tries_uses, item_uses, HasTypePlace, HasPlaces, HasImages, NumbersFit}
 use Rattle.dexcode.proofs.CodeMeanings.{handlers_in, debug_used}

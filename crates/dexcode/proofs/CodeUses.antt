@@ -4,7 +4,7 @@ use Rattle.std.specs.List.{All, FoldsTo, flat_map}
 use Rattle.std.proofs.lemmas.List.{append-nil}
 use Rattle.dexpool.specs.Uses.{Use}
 use Rattle.dexinsn.specs.Numbered.{uses_of}
-use Rattle.dexcode.specs.Debug.{NumberedDebug, debug_uses}
+use Rattle.dexdebug.specs.Debug.{NumberedDebug, debug_uses}
 use Rattle.dexcode.specs.Numbered.{NumberedItem}
 use Rattle.dexcode.specs.Renumbering.{tries_uses, item_uses}
 use Rattle.dexpool.proofs.Parts.{all_prefix, all_back}

@@ -1,7 +1,6 @@
 -- Code items checked: what is at the offset and what it weighs, and which condition fails.
-use Rattle.std.proofs.Common.{◌≡◌, ℕ, ◌+◌, ◌*◌, Bool, false, List, [], length, map, nat_eq, Option, Some, None, refl, ap, sym, subst, ◌∙◌, inl, inr, ne_eqb, arith}
+use Rattle.std.proofs.Common.{◌≡◌, ℕ, ◌+◌, ◌*◌, Bool, List, [], length, map, Some, None, refl, sym, subst, ◌∙◌, inr, arith}
 use Rattle.std.specs.Prelude.{Result, Ok, Err, IfOk, IfErr}
-use Rattle.std.proofs.lemmas.Bool.{cases_eq}
 use Rattle.std.proofs.lemmas.List.Sums.{sum_by-cons}
 use Rattle.dexspec.specs.Bytes.{uint_at}
 use Rattle.dexspec.specs.Mentions.{Mentions}
@@ -15,15 +14,14 @@ use Rattle.dexpool.specs.Numberings.{AreRising}
 use Rattle.dexinsn.specs.declared.shape.PiecesShape.{PiecesShape}
 use Rattle.dexinsn.specs.Checking.{HasPiecesOf}
 use Rattle.dexinsn.specs.Reading.{AreStartsAt}
-use Rattle.dexcode.specs.Checking.{HasCodeOf, HasDebugAt, HasProgramOf, HaveTriesOf, IsProgramFault}
-use Rattle.dexcode.specs.declared.debug_reading.DebugShape.{DebugShape}
-use Rattle.dexcode.specs.DebugReading.{HasDebugOf, IsDebugFault, IsShapeAt}
+use Rattle.dexdebug.specs.Checking.{HasDebugAt}
+use Rattle.dexcode.specs.Checking.{HasCodeOf, HasProgramOf, HaveTriesOf, IsProgramFault}
+use Rattle.dexdebug.specs.DebugReading.{IsDebugFault}
 use Rattle.dexcode.specs.CodePut.{numbered_code_weight}
 use Rattle.dexcode.specs.Numbered.{NumberedItem, DenotesCode, try_meant}
 use Rattle.dexcode.specs.Reading.{IsCodeFault}
 use Rattle.dexcode.proofs.CodeSizes.{units_length}
 use Rattle.dexcode.proofs.CodesRead.{tries_found, tries_range}
-use Rattle.dexcode.proofs.DebugMeanings.{weights_are}
 use Rattle.dexcode.proofs.TryRows.{tries_encoded}
 
 -- a numbered code item weighs as much as the code that it denotes
@@ -62,17 +60,6 @@ pub program_fault : (b : List ℕ) (off : ℕ) (m : Mentions) (s : PiecesShape) 
 program_fault b off m s pieces (Refused number) h = inr (inr (h.0, record { cuts = pieces.at.cuts; pieces = pieces.at.symbolic; at = pieces.at.at }, h.1, h.2))
 program_fault b off m s pieces Memory h = tt
 
--- the debug program that was checked is at the offset
-pub debug_found : (b : List ℕ) (off : ℕ) (m : Mentions) (s : DebugShape) → IsShapeAt b off m s → HasDebugOf b off m s.weight → HasDebugAt b off s.weight
-debug_found b off m s is h =
-    let shape = is.shape in
-    record {
-      program = h.at.program;
-      at = h.at.at;
-      weighs = omega (arith, weights_are m h.debug h.at.program h.at.encodes, h.weighs);
-      light = omega (arith, shape.weight, shape.few, shape.operations.light, shape.operations.count, shape.operations.few);
-    }
-
 -- the debug program at the offset is that of the code_item
 pub program_found : (b : List ℕ) (off debug_off weight : ℕ) → debug_off ≡ uint_at b (off + 8) → (debug_off ≡ 0 → ⊥) → HasDebugAt b debug_off weight → HasProgramOf b off weight
 program_found b off debug_off weight is some h = record {
@@ -97,15 +84,3 @@ if_no_program b off debug_off is some (Ok weight) h = tt
 if_no_program b off debug_off is some (Err fault) h = no_program b off debug_off is some fault h
 
 -- ---- numbers by offsets
-
-same_some : (v w : ℕ) → Some v ≡ Some w → v ≡ w
-same_some v w e = cc
-
--- what holds of each number holds with one more of them
-pub number_added : (P : ℕ → ℕ → Type 0) (f g : ℕ → Option ℕ) (o number : ℕ) → ((q n : ℕ) → f q ≡ Some n → P q n) → P o number → g o ≡ Some number → ((q : ℕ) → nat_eq o q ≡ false → g q ≡ f q) → (q n : ℕ) → g q ≡ Some n → P q n
-number_added P f g o number old new here others q n e = elim (cases_eq o q) [
-  | inl same ↦
-      let is : number ≡ n = same_some number n (sym here ∙ ap g same ∙ e) in
-      subst (P q) is (subst (λ (p : ℕ). P p number) same new)
-  | inr other ↦ old q n (sym (others q (ne_eqb o q other)) ∙ e)
-]

@@ -17,8 +17,8 @@ use Rattle.dexpool.specs.Pools.{ArePools}
 use Rattle.dexpool.specs.Numberings.{AreRising}
 use Rattle.dexinsn.specs.Numbered.{NumberedCode}
 use Rattle.dexinsn.specs.Reading.{ArePiecesAt, AreStartsAt}
-use Rattle.dexcode.specs.Debug.{NumberedDebug, DenotesDebug}
-use Rattle.dexcode.specs.DebugReading.{IsDebugAt, IsDebugFault}
+use Rattle.dexdebug.specs.Debug.{NumberedDebug, DenotesDebug}
+use Rattle.dexdebug.specs.DebugReading.{IsDebugAt, IsDebugFault}
 use Rattle.dexcode.specs.Numbered.{NumberedTry, try_meant}
 use Rattle.dexcode.specs.Reading.{TryItemsAt, TriesAt, IsTriesFault, IsCodeAt, IsCodeFault}
 use Rattle.dexcode.proofs.HandlersRead.{fault_so}

@@ -12,7 +12,7 @@ use Rattle.dexcode.specs.declared.tries.Try.{Try}
 use Rattle.dexcode.specs.Equality.{handler_decides}
 use Rattle.dexcode.specs.Numbered.{NumberedHandler, NumberedTry, no_handler, same_handler, handlers_of, handlers_weight, named, all_named, AreStored}
 use Rattle.dexcode.specs.CodePut.{HasShortTypes, ArePlaces, numbered_handler_bytes, numbered_handler_off, numbered_try_bytes, place_of, placed_try_bytes}
-use Rattle.dexcode.proofs.DebugPushed.{len_more}
+use Rattle.dexcode.proofs.Counted.{len_more}
 use Rattle.dexcode.proofs.TryRows.{IsInRange}
 
 abbrev one_weight : NumberedHandler → ℕ

@@ -22,7 +22,7 @@ use Rattle.dexpool.specs.internal.Closing.{IsMarked}
 use Rattle.dexpool.specs.Numberings.{Maps, image, image_of, MapsTo, AllMapTo, AreMarksOf, marked}
 use Rattle.dexpool.proofs.KeptRows.{mark_within, kept_has}
 use Rattle.dexpool.specs.Uses.{Use, AreMarkedToo, marks_of, same_kind, occurs}
-use Rattle.dexcode.specs.Debug.{HasImage}
+use Rattle.dexdebug.specs.Debug.{HasImage}
 use Rattle.dexcode.specs.Renumbering.{IsMarkedUse}
 
 -- ---- what occurs is marked

@@ -1,14 +1,4 @@
-pub mod DebugBridge
-pub mod DebugEqual
-pub mod DebugMeanings
-pub mod DebugPositions
-pub mod DebugPushed
-pub mod DebugRead
-pub mod DebugRuns
-pub mod DebugSame
-pub mod DebugUses
-pub mod DebugWeights
-pub mod Encoded
+pub mod Counted
 pub mod Prefixes
 pub mod HandlersRead
 pub mod Listed
@@ -28,8 +18,6 @@ pub mod KeptUses
 pub mod CodeSpellings
 pub mod HandlerPlaces
 pub mod CodeSizes
-pub mod MeaningDebug
 pub mod Meanings
 pub mod MeaningRanked
 pub mod CodesChecked
-pub mod KeptOperations

@@ -12,10 +12,11 @@ use Rattle.dexpool.specs.Numberings.{IsNumbered}
 use Rattle.dexpool.specs.Pools.{count_of}
 use Rattle.dexinsn.specs.Numbered.{NumberedPiece, Instruction, Payload, Denotes, kind_of_pool}
 use Rattle.dexcode.specs.declared.handlers.Catch.{Catch}
-use Rattle.dexcode.specs.Debug.{DenotesDebug}
-use Rattle.dexcode.specs.Meaning.{symbol_at, piece_in, debug_in, code_in, IsKnownPiece, IsKnownTry, IsKnownDebug, IsKnownCode}
+use Rattle.dexdebug.specs.Debug.{DenotesDebug}
+use Rattle.dexdebug.specs.Meaning.{debug_in, IsKnownDebug}
+use Rattle.dexcode.specs.Meaning.{symbol_at, piece_in, code_in, IsKnownPiece, IsKnownTry, IsKnownCode}
 use Rattle.dexcode.specs.Numbered.{NumberedTry, NumberedItem, DenotesCatch, DenotesTry, DenotesCode, catch_meant, try_meant}
-use Rattle.dexcode.proofs.MeaningDebug.{all_known, all_mean, all_encoded, one_known, one_means, one_encoded, at_place, debug_known, debug_means, debug_encoded}
+use Rattle.dexdebug.proofs.MeaningDebug.{all_known, all_mean, all_encoded, one_known, one_means, one_encoded, at_place, debug_known, debug_means, debug_encoded}
 
 module _ (m : Mentions) where
   -- ---- pieces

@@ -23,7 +23,8 @@ use Rattle.dexspec.proofs.lists.Sequences.{one_sequence}
 use Rattle.dexpool.specs.Pools.{ArePools}
 use Rattle.dexpool.specs.Numberings.{AreRising}
 use Rattle.dexcode.specs.declared.handlers.Catch.{Catch}
-use Rattle.dexcode.specs.Equality.{both, option_decides, handler_decides}
+use Rattle.dexdebug.specs.Equality.{both, option_decides}
+use Rattle.dexcode.specs.Equality.{handler_decides}
 use Rattle.dexcode.specs.Numbered.{NumberedHandler, NumberedTry, no_handler, catch_meant, handler_meant, try_meant, same_handler, handlers_of, handlers_weight, DenotesCatch, DenotesTry}
 use Rattle.dexcode.specs.Reading.{CatchAt, CatchAllAt, HandlerAt, IsHandler, TryAt, AreApart, TryItemsAt}
 use Rattle.dexcode.proofs.Images.{seq_map, seq_back, seq_take, seq_all, split_at, one_default, distinct_map}

@@ -1,6 +1,5 @@
 -- Code items as they are checked: what they weigh, and nothing else is kept of them.
-use Rattle.std.specs.Prelude.{◌≡◌, ◌≢◌, ℕ, ◌+◌, ◌^◌, ◌<◌, List, Bool, Option, None, Some, nat_eq, sum_by, option_to_list}
-use Rattle.std.specs.HashMap.{get}
+use Rattle.std.specs.Prelude.{◌≡◌, ◌≢◌, ℕ, ◌+◌, ◌^◌, ◌<◌, List, Bool, Option, None, sum_by, option_to_list}
 use Rattle.dexspec.specs.Bytes.{uint_at}
 use Rattle.dexspec.specs.Code.{Code, CodeAt}
 use Rattle.dexspec.specs.Debug.{Debug, DebugAt}
@@ -8,7 +7,6 @@ use Rattle.dexspec.specs.Lists.{OrNone, SomeAt}
 use Rattle.dexspec.specs.Weight.{code_weight, debug_weight}
 use Rattle.dexpool.specs.declared.faults.ItemFault.{ItemFault}
 use Rattle.dexpool.specs.declared.faults.ItemFault.TheVariants.{Refused, Memory}
-use Rattle.dexcode.specs.declared.checked_debugs.CheckedDebugs.{CheckedDebugs}
 use Rattle.dexcode.specs.CodePut.{numbered_tries_weight}
 use Rattle.dexcode.specs.Numbered.{NumberedTry}
 use Rattle.dexcode.specs.Reading.{TriesAt}
@@ -35,17 +33,6 @@ pub record HasProgramOf (b : List ℕ) (off weight : ℕ) : Type 0 where
   pub at : OrNone (SomeAt DebugAt) None b (uint_at b (off + 8)) program
   pub weighs : sum_by debug_weight (option_to_list program) ≡ weight
   pub light : weight < 2 ^ 36
-
--- there is a debug program at the offset, and it weighs this much, which is less than 2^36 by its size
-pub record HasDebugAt (b : List ℕ) (off weight : ℕ) : Type 0 where
-  pub program : Debug
-  pub at : DebugAt b off program
-  pub weighs : debug_weight program ≡ weight
-  pub light : weight < 2 ^ 36
-
--- there is a debug program at the offset of each that was checked, and it has that weight
-abbrev pub AreCheckedDebugs : List ℕ → CheckedDebugs → Type 0
-AreCheckedDebugs b checked = (off weight : ℕ) → get nat_eq checked.weights off ≡ Some weight → HasDebugAt b off weight
 
 -- the code_item at an offset has the offset of a debug program, where there is none; a failed allocation says nothing
 abbrev pub IsProgramFault : List ℕ → ℕ → ItemFault → Type 0

@@ -1,20 +1,14 @@
 -- Handlers that are the same are equal, and have equal hashes.
-use Rattle.std.specs.Prelude.{◌≡◌, ℕ, ◌==◌, ◌&&◌, ◌++◌, Bool, true, false, IsTrue, Option, Some, None}
-use Rattle.std.proofs.Common.{refl, ap, sym}
+use Rattle.std.specs.Prelude.{◌≡◌, ◌==◌, ◌++◌, IsTrue}
+use Rattle.std.proofs.Common.{ap}
 use Rattle.std.specs.Bool.{Decides}
 use Rattle.std.specs.Option.{option_eq}
 use Rattle.std.specs.Cmp.{IsEquivalence, IsPartialEquivalence, partial_equiv_from_equiv, decided, unsigned_Decides, first_so, second_so}
 use Rattle.std.specs.Cmp.Lexicographic.{pointwise, pointwise_decides}
 use Rattle.std.specs.Hash as fed
+use Rattle.dexdebug.specs.Equality.{both, option_decides}
 use Rattle.dexcode.specs.declared.handlers.Catch.{Catch}
 use Rattle.dexcode.specs.Numbered.{NumberedHandler, same_catch, same_handler}
-
-false_is_not_true : false ≡ true → ⊥
-false_is_not_true e = cc
-
-pub both : (a b : Bool) → a ≡ true → b ≡ true → (a && b) ≡ true
-both true b h k = k
-both false b h k = absurd (false_is_not_true h)
 
 pub catch_decides : (c d : Catch) → Decides (same_catch c d) (c ≡ d)
 catch_decides c d = (
@@ -23,20 +17,6 @@ catch_decides c d = (
       λ i. record { typ = typ i; addr = addr i },
   λ e. both (c.typ == d.typ) (c.addr == d.addr) ((unsigned_Decides c.typ d.typ).1 (ap (λ x. x.typ) e)) ((unsigned_Decides c.addr d.addr).1 (ap (λ x. x.addr) e)),
 )
-
-abbrev value_of : ℕ → Option ℕ → ℕ
-value_of d None = d
-value_of d (Some n) = n
-
-abbrev is_there : Option ℕ → Bool
-is_there None = false
-is_there (Some n) = true
-
-pub option_decides : (a b : Option ℕ) → Decides (option_eq ◌==◌ a b) (a ≡ b)
-option_decides None None = (λ e. refl, λ e. refl)
-option_decides None (Some b) = (λ e. absurd (false_is_not_true e), λ e. ap is_there e)
-option_decides (Some a) None = (λ e. absurd (false_is_not_true e), λ e. sym (ap is_there e))
-option_decides (Some a) (Some b) = (λ e. ap Some ((unsigned_Decides a b).0 e), λ e. (unsigned_Decides a b).1 (ap (value_of 0) e))
 
 pub handler_decides : (h k : NumberedHandler) → Decides (same_handler h k) (h ≡ k)
 handler_decides h k =

@@ -2,10 +2,9 @@
 use Rattle.std.specs.Prelude.{◌≡◌, ◌↔◌, ℕ, ◌+◌, ◌^◌, ◌<◌, ◌≤◌, List, All, Option, length}
 use Rattle.std.specs.List.{AllZip}
 use Rattle.dexspec.specs.Code as codes
-use Rattle.dexspec.specs.Debug as debugs
-use Rattle.dexspec.specs.Mentions.{Mentions, closed, code_symbols, debug_symbols}
-use Rattle.dexspec.specs.Spellings.{code_bytes, debug_bytes}
-use Rattle.dexspec.specs.Weight.{code_weight, debug_weight}
+use Rattle.dexspec.specs.Mentions.{Mentions, closed, code_symbols}
+use Rattle.dexspec.specs.Spellings.{code_bytes}
+use Rattle.dexspec.specs.Weight.{code_weight}
 use Rattle.dexpool.specs.Numberings.{AreRising, AreMarksOf, Maps, AllMapTo, marked}
 use Rattle.dexpool.specs.Laws.{MapsAll}
 use Rattle.dexpool.specs.Orderly.{KeepOrder, MapsDown}
@@ -16,11 +15,10 @@ use Rattle.dexpool.specs.Uses.{Use, HasMark, IsUseOf}
 use Rattle.dexinsn.specs.Fitting.{ImagesFit, IsGreatest, MapsShort, short_strings}
 use Rattle.dexinsn.specs.Numbered as pieces
 use Rattle.dexcode.specs.CodePut.{HasShortTypes, numbered_code_bytes, numbered_code_weight}
-use Rattle.dexcode.specs.Debug.{NumberedDebug, IsFormedDebug, DenotesDebug, HasImage, HasPlace, unindexed, numbered_debug_bytes, debug_uses, renumbered_debug}
-use Rattle.dexcode.specs.Meaning.{code_in, debug_in, IsKnownCode, IsKnownDebug}
+use Rattle.dexdebug.specs.Debug.{NumberedDebug, IsFormedDebug, HasImage, HasPlace, debug_uses}
+use Rattle.dexcode.specs.Meaning.{code_in, IsKnownCode}
 use Rattle.dexcode.specs.Numbered.{NumberedItem, DenotesCode, handlers_of}
 use Rattle.dexcode.specs.Renumbering.{item_uses, IsMarkedUse, HasPlaces, HasImages, NumbersFit, renumbered_item}
-use Rattle.dexcode.specs.Positions as recorded
 
 -- ---- the bytes of code
 
@@ -76,26 +74,6 @@ CodeUsesHaveMarks = (m : Mentions) (marks : Marks) (c : NumberedItem) (x : codes
 
 -- ---- debug programs
 
--- where symbols rise, the bytes of a numbered debug program are those of the program that it denotes
-abbrev pub DebugBytesAreDenoted : Type 0
-DebugBytesAreDenoted = (m : Mentions) (d : NumberedDebug) (x : debugs.Debug) → AreRising m → DenotesDebug m d x → numbered_debug_bytes d ≡ debug_bytes m x
-
--- a numbered debug program weighs as much as the program that it denotes
-abbrev pub DebugWeightIsDenoted : Type 0
-DebugWeightIsDenoted = (m : Mentions) (d : NumberedDebug) (x : debugs.Debug) → DenotesDebug m d x → debug_weight (unindexed d) ≡ debug_weight x
-
--- it has the positions of the program that it denotes
-abbrev pub DebugPositionsAreDenoted : Type 0
-DebugPositionsAreDenoted = (m : Mentions) (d : NumberedDebug) (x : debugs.Debug) → DenotesDebug m d x → recorded.positions (unindexed d) ≡ recorded.positions x
-
--- a debug program that is renumbered denotes what it denoted before
-abbrev pub RenumberedDebugDenotes : Type 0
-RenumberedDebugDenotes = (m n : Mentions) (r : Maps) (d : NumberedDebug) (x : debugs.Debug) → AllMapTo m n r → All (HasImage r) (debug_uses d) → DenotesDebug m d x → DenotesDebug n (renumbered_debug r d) x
-
--- numbers in a debug program that have places have images
-abbrev pub DebugPlacesAreImages : Type 0
-DebugPlacesAreImages = (r : Maps) (d : NumberedDebug) → All (HasPlace r) (debug_uses d) → All (HasImage r) (debug_uses d)
-
 -- numbers in a debug program that fit, and that map to none that is greater, have images that fit
 abbrev pub DebugFitsMappedDown : Type 0
 DebugFitsMappedDown = (r : Maps) (d : NumberedDebug) → MapsDown r → IsFormedDebug d → All (HasImage r) (debug_uses d) → All (HasPlace r) (debug_uses d)
@@ -104,31 +82,7 @@ DebugFitsMappedDown = (r : Maps) (d : NumberedDebug) → MapsDown r → IsFormed
 abbrev pub DebugFitsWhereImagesDo : Type 0
 DebugFitsWhereImagesDo = (r : Maps) (d : NumberedDebug) → ImagesFit r → All (HasImage r) (debug_uses d) → All (HasPlace r) (debug_uses d)
 
--- the symbols that occur in a debug program are those of the program that it denotes, one for one
-abbrev pub DebugUsesAreDenoted : Type 0
-DebugUsesAreDenoted = (m : Mentions) (d : NumberedDebug) (x : debugs.Debug) → DenotesDebug m d x → AllZip (IsUseOf m) (debug_uses d) (debug_symbols x)
-
--- where there is a mark for each symbol, there is one for each that occurs in a debug program
-abbrev pub DebugUsesHaveMarks : Type 0
-DebugUsesHaveMarks = (m : Mentions) (marks : Marks) (d : NumberedDebug) (x : debugs.Debug) → AreMarksOf m marks → DenotesDebug m d x → All (HasMark marks) (debug_uses d)
-
 -- ---- what they mean
-
--- a debug program that denotes one has the numbers of texts and types
-abbrev pub DenotingDebugIsKnown : Type 0
-DenotingDebugIsKnown = (m : Mentions) (d : NumberedDebug) (x : debugs.Debug) → DenotesDebug m d x → IsKnownDebug m d
-
--- what it denotes has these texts and types for the numbers
-abbrev pub DenotedDebugIsMeant : Type 0
-DenotedDebugIsMeant = (m : Mentions) (d : NumberedDebug) (x : debugs.Debug) → DenotesDebug m d x → x ≡ debug_in m d
-
--- where each number has an image, a debug program that is renumbered has the numbers of texts and types, the same ones
-abbrev pub RemappedDebugIsMeant : Type 0
-RemappedDebugIsMeant = (m n : Mentions) (r : Maps) (d : NumberedDebug) → AllMapTo m n r → All (HasImage r) (debug_uses d) → IsKnownDebug m d → IsKnownDebug n (renumbered_debug r d) × (debug_in n (renumbered_debug r d) ≡ debug_in m d)
-
--- debug programs of two numberings are equal once remapped to a third whose symbols rise just where they mean the same
-abbrev pub EqualRemappedDebugs : Type 0
-EqualRemappedDebugs = (m n whole : Mentions) (r s : Maps) (d e : NumberedDebug) → AreRising whole → AllMapTo m whole r → AllMapTo n whole s → All (HasImage r) (debug_uses d) → All (HasImage s) (debug_uses e) → IsKnownDebug m d → IsKnownDebug n e → (renumbered_debug r d ≡ renumbered_debug s e) ↔ (debug_in m d ≡ debug_in n e)
 
 -- where each number has an image, code that is renumbered has the numbers of symbols, the same ones
 abbrev pub RemappedCodeIsMeant : Type 0

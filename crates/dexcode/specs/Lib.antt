@@ -1,14 +1,9 @@
 pub mod Checking
 pub mod CodePut
-pub mod Debug
-pub mod DebugEquality
-pub mod DebugReading
 pub mod Equality
 pub mod Laws
 pub mod Meaning
 pub mod Numbered
-pub mod Operations
-pub mod Positions
 pub mod Reading
 pub mod Renumbering
 pub mod internal

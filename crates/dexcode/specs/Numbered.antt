@@ -8,7 +8,7 @@ use Rattle.dexspec.specs.Mentions.{Mentions}
 use Rattle.dexspec.specs.Code as symbolic
 use Rattle.dexpool.specs.Numberings.{IsAt, AreRising}
 use Rattle.dexinsn.specs.Numbered.{NumberedCode, Denote}
-use Rattle.dexcode.specs.Debug.{NumberedDebug, DenotesDebug}
+use Rattle.dexdebug.specs.Debug.{NumberedDebug, DenotesDebug}
 use Rattle.dexcode.specs.declared.handlers.Catch.{Catch}
 use Rattle.dexcode.specs.declared.tries.Try.{Try}
 

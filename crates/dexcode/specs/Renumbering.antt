@@ -8,7 +8,7 @@ use Rattle.dexpool.specs.Numberings.{Maps, image_of}
 use Rattle.dexpool.specs.Uses.{Use, marks_of}
 use Rattle.dexinsn.specs.Numbered.{FitPlaces, uses_of, renumbered}
 use Rattle.dexinsn.specs.Numbered as pieces
-use Rattle.dexcode.specs.Debug.{IsFormedDebug, debug_uses, HasImage, HasPlace, renumbered_debug}
+use Rattle.dexdebug.specs.Debug.{IsFormedDebug, debug_uses, HasImage, HasPlace, renumbered_debug}
 use Rattle.dexcode.specs.declared.handlers.Catch.{Catch}
 use Rattle.dexcode.specs.declared.tries.Try.{Try}
 use Rattle.dexcode.specs.Numbered.{NumberedHandler, NumberedTry, NumberedItem, handlers_of, named}

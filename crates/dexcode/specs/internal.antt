@@ -1,6 +1,5 @@
 -- Words of the contracts of private functions: no public contract reaches them.
 pub mod NamedHandlers
 pub mod TriesReading
-pub mod DebugReading
 pub mod Same
 pub mod Writing

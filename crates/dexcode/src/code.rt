@@ -3,8 +3,8 @@
 ghost use Rattle.std.specs.Prelude.{◌≡◌, Some, None, MatchOption, IfOk};
 
 use crate::boxing::boxed;
-use crate::debug::Debug;
 use crate::tries::Tries;
+use dexdebug::Debug;
 use dexinsn::Pieces;
 use std::alloc::AllocError;
 use std::marker::Model;

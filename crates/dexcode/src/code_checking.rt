@@ -3,14 +3,15 @@
 ghost use Rattle.std.specs.Prelude.{◌≡◌, ◌^◌, ◌<◌, ◌≤◌, ◌+◌, ◌*◌, length, IfOk, IfErr, OnOk};
 ghost use Rattle.dexspec.specs.Bytes.{uint_at};
 ghost use Rattle.dexpool.specs.Pools.{ArePools};
-ghost use Rattle.dexcode.specs.Checking.{AreCheckedDebugs, HasCodeOf, HasProgramOf, HaveTriesOf, IsProgramFault};
+ghost use Rattle.dexdebug.specs.Checking.{AreCheckedDebugs};
+ghost use Rattle.dexcode.specs.Checking.{HasCodeOf, HasProgramOf, HaveTriesOf, IsProgramFault};
 ghost use Rattle.dexcode.specs.Reading.{IsCodeFault, IsTriesFault};
 ghost use Rattle.dexcode.specs.internal.TriesReading.{HasNoTries};
 
-use crate::checked_debugs::{CheckedDebugs, checked_debug_at};
 use crate::code_laws::code_weight_law;
 use crate::code_weight::tries_weight;
 use crate::tries_reader::TriesReader;
+use dexdebug::{CheckedDebugs, checked_debug_at};
 use dexhead::{Frame, u32_at};
 use dexinsn::{Scratch, check_pieces};
 use dexpool::{ItemFault, Pools, SymbolKind};

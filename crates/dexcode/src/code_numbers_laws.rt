@@ -1,13 +1,14 @@
-//! Laws of numbered code items. Each function does nothing: its contract is the law, for the callers that cite it.
+//! Laws of numbers in code items and debug programs. Each function does nothing: its contract is the law, for the
+//! callers that cite it.
 
 ghost use Rattle.std.specs.Prelude.{◌↔◌, List, All};
 ghost use Rattle.dexpool.specs.Numberings.{Maps};
 ghost use Rattle.dexpool.specs.declared.marks.Marks.{Marks};
 ghost use Rattle.dexpool.specs.Uses.{Use, AreMarkedToo};
-ghost use Rattle.dexcode.specs.Debug.{HasImage};
+ghost use Rattle.dexdebug.specs.Debug.{HasImage};
 ghost use Rattle.dexcode.specs.Numbered.{NumberedItem};
 ghost use Rattle.dexcode.specs.Renumbering.{item_uses, IsMarkedUse, HasPlaces, HasImages};
-ghost use Rattle.dexcode.specs.Laws.{RenumberedCodeDenotes, MappedCodeHasImages, CodeHasPlaces, MarkedUsesHaveImages, CodeFitsMappedDown, CodeFitsWhereGreatestDoes, CodeUsesAreDenoted, CodeUsesHaveMarks};
+ghost use Rattle.dexcode.specs.Laws.{RenumberedCodeDenotes, MappedCodeHasImages, CodeHasPlaces, MarkedUsesHaveImages, CodeFitsMappedDown, CodeFitsWhereGreatestDoes, CodeUsesAreDenoted, CodeUsesHaveMarks, DebugFitsMappedDown, DebugFitsWhereImagesDo};
 
 /// Once renumbered, the code denotes what it denoted before. Numbers that have places have images.
 pub fn code_renumber_law()
@@ -54,4 +55,11 @@ pub fn code_joined_law()
 pub fn code_uses_law()
     ensures uses { CodeUsesAreDenoted }
     ensures marks { CodeUsesHaveMarks }
+{}
+
+/// Of a debug program, after a cut: where numbers fit their places, and each that occurs has an image, none of them
+/// greater than its number, each image fits the place. After a join the same, where the numbering is not too large.
+pub fn debug_places_law()
+    ensures cut { DebugFitsMappedDown }
+    ensures joined { DebugFitsWhereImagesDo }
 {}

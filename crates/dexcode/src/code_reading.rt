@@ -8,9 +8,9 @@ ghost use Rattle.dexcode.specs.internal.TriesReading.{HasNoTries};
 
 use crate::boxing::boxed;
 use crate::code::Code;
-use crate::debug_reading::read_debug;
 use crate::tries::Tries;
 use crate::tries_reader::TriesReader;
+use dexdebug::read_debug;
 use dexhead::{Condition, Frame, u16_at, u32_at};
 use dexinsn::{Scratch, build_pieces, check_pieces};
 use dexpool::{ItemFault, Pools, SymbolKind};

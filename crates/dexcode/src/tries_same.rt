@@ -2,7 +2,8 @@
 
 ghost use Rattle.std.specs.Prelude.{◌≡◌, ◌↔◌, ◌<◌, IsTrue, All, length};
 ghost use Rattle.dexcode.specs.Renumbering.{remapped_type, renumbered_catch, renumbered_handler, renumbered_try};
-ghost use Rattle.dexcode.specs.internal.Same.{SameRemapped, AreCompared, EqualRemapped, EqualTries, SameTries};
+ghost use Rattle.dexdebug.specs.internal.Same.{SameRemapped, EqualRemapped};
+ghost use Rattle.dexcode.specs.internal.Same.{AreCompared, EqualTries, SameTries};
 
 use crate::handlers::{Catch, Handler};
 use crate::tries::{Tries, Try};

@@ -3,7 +3,7 @@
 ghost use Rattle.std.specs.Prelude.{◌≡◌, [], ◌∷◌, false, None, pos, negsuc};
 ghost use Rattle.dexspec.specs.Debug.{Special};
 ghost use Rattle.dexspec.specs.Pieces.{IsCode, has_right_targets, piece_size};
-ghost use Rattle.dexcode.specs.Positions.{positions};
+ghost use Rattle.dexdebug.specs.Positions.{positions};
 ghost use Rattle.dexinsn.specs.Split.{BreaksAt};
 ghost use Rattle.dexexamples.specs.OpcodeTable.{all_formats, all_indices, all_mnemonics, expected_formats, expected_indices, expected_mnemonics};
 ghost use Rattle.dexexamples.specs.Units.{cut, packed, packed_bad_target, odd_payload, invoke, six_registers, array_data, array_of_threes, sparse, sparse_equal, sparse_as_packed, sparse_cuts, debug_of, five_on};

@@ -11,10 +11,10 @@ use Rattle.dexpool.specs.declared.symbols.SymbolKind.TheVariants as kinds
 use Rattle.dexpool.specs.Laws.{MapsAll}
 use Rattle.dexpool.specs.Numberings.{MapsTo, Maps, AllMapTo, image, image_of}
 use Rattle.dexpool.specs.Pools.{count_of}
-use Rattle.dexcode.specs.declared.debug_operation.Operation.{Operation}
-use Rattle.dexcode.specs.declared.debug_operation.Operation.TheVariants.{AdvancePc, AdvanceLine, StartLocal, StartLocalExtended, EndLocal, RestartLocal, SetPrologueEnd, SetEpilogueBegin, SetFile, Special}
-use Rattle.dexcode.specs.Debug.{NumberedDebug, name_of, type_of, signature_of, with_numbers, number_uses, operation_uses, debug_uses, HasImage, image_or_none, renumbered_operation, renumbered_debug}
-use Rattle.dexcode.specs.Meaning.{IsKnownText, IsKnownOperation, IsKnownDebug}
+use Rattle.dexdebug.specs.declared.debug_operation.Operation.{Operation}
+use Rattle.dexdebug.specs.declared.debug_operation.Operation.TheVariants.{AdvancePc, AdvanceLine, StartLocal, StartLocalExtended, EndLocal, RestartLocal, SetPrologueEnd, SetEpilogueBegin, SetFile, Special}
+use Rattle.dexdebug.specs.Debug.{NumberedDebug, name_of, type_of, signature_of, with_numbers, number_uses, operation_uses, debug_uses, HasImage, image_or_none, renumbered_operation, renumbered_debug}
+use Rattle.dexdebug.specs.Meaning.{IsKnownText, IsKnownOperation, IsKnownDebug}
 use Rattle.dexval.specs.Numbered.{NumberedValue, NumberedValues, NumberedElements, NumberedAnnotation, NumberedSet, Plain, Named, Array, Annotated, NoValue, ThenNext, NoElement, ThenNamed, kind_of_reference}
 use Rattle.dexval.specs.Renumbering.{remapped, renumbered, renumbered_values, renumbered_elements, renumbered_set}
 

@@ -18,11 +18,12 @@ use Rattle.dexspec.specs.Sections.{TypeLists, DebugInfoItems}
 use Rattle.dexspec.specs.Spellings.{type_list_bytes, debug_bytes}
 use Rattle.dexspec.proofs.layout.Uses.{shared_numbered}
 use Rattle.dexspec.proofs.sharing.Sameness.{types_decide, debug_decides}
-use Rattle.dexcode.specs.Debug.{NumberedDebug, numbered_debug_bytes}
-use Rattle.dexcode.specs.Meaning.{code_in, debug_in, IsKnownDebug}
+use Rattle.dexdebug.specs.Debug.{NumberedDebug, numbered_debug_bytes}
+use Rattle.dexdebug.specs.Meaning.{debug_in, IsKnownDebug}
+use Rattle.dexcode.specs.Meaning.{code_in}
 use Rattle.dexcode.specs.Numbered.{NumberedItem}
-use Rattle.dexcode.proofs.DebugMeanings.{bytes_are}
-use Rattle.dexcode.proofs.MeaningDebug.{debug_encoded}
+use Rattle.dexdebug.proofs.DebugMeanings.{bytes_are}
+use Rattle.dexdebug.proofs.MeaningDebug.{debug_encoded}
 use Rattle.dexval.specs.declared.set.AnnotationSet.{AnnotationSet as CodeSet}
 use Rattle.dexval.specs.Code.{set_of}
 use Rattle.dexval.specs.Equality.{equal_sets, set_decides}

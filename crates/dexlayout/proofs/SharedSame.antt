@@ -12,9 +12,9 @@ use Rattle.dexspec.proofs.lists.Equality.{IsEquality}
 use Rattle.dexspec.proofs.sharing.Sameness.{types_decide, debug_decides, set_decides}
 use Rattle.dexpool.specs.Numberings.{AreRising}
 use Rattle.dexpool.proofs.UnionLaws.{ranks_are_numbers}
-use Rattle.dexcode.specs.Debug.{NumberedDebug}
-use Rattle.dexcode.specs.Meaning.{debug_in, IsKnownDebug}
-use Rattle.dexcode.proofs.MeaningRanked as debugs
+use Rattle.dexdebug.specs.Debug.{NumberedDebug}
+use Rattle.dexdebug.specs.Meaning.{debug_in, IsKnownDebug}
+use Rattle.dexdebug.proofs.DebugRanked as debugs
 use Rattle.dexval.specs.Numbered.{NumberedSet, set_in, type_at, IsKnownSet}
 use Rattle.dexval.proofs.Images.{known_set_remapped}
 use Rattle.dexval.proofs.Ranked as sets

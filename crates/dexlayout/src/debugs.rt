@@ -4,7 +4,7 @@ ghost use Rattle.std.specs.Prelude.{◌≡◌, ◌^◌, ◌≤◌, IfOk, MatchOp
 ghost use Rattle.dexspec.specs.Placing.{end};
 ghost use Rattle.dexspec.specs.Canonical.{string_section};
 ghost use Rattle.dexspec.specs.Mentions.{Mentions};
-ghost use Rattle.dexcode.specs.Debug.{numbered_debug_bytes};
+ghost use Rattle.dexdebug.specs.Debug.{numbered_debug_bytes};
 ghost use Rattle.dexmembers.specs.Numbered.{AreKnownMembers};
 ghost use Rattle.dexlayout.specs.Laid.{AreDebugs, AreWritable, ordered_of};
 ghost use Rattle.dexlayout.specs.internal.Adding.{AddsUses, AreKnownMethods, members_debugs};

@@ -17,7 +17,7 @@ use Rattle.dexval.proofs.Meanings.{set_encoded, values_encoded, set_marks, value
 use Rattle.dexcode.specs.Numbered.{NumberedItem}
 use Rattle.dexcode.specs.Meaning.{code_in, IsKnownCode}
 use Rattle.dexcode.specs.Renumbering.{item_uses}
-use Rattle.dexcode.proofs.DebugMeanings.{zip-append}
+use Rattle.dexdebug.proofs.DebugMeanings.{zip-append}
 use Rattle.dexcode.proofs.Images.{one_default}
 use Rattle.dexmembers.specs.Numbered.{NumberedField, NumberedMethod, NumberedMembers, field_in, method_in, members_in, fields_of, methods_of, IsKnownField, IsKnownMethod, AreKnownMembers, AreOfClass}
 use Rattle.dexmembers.specs.Uses.{field_uses, method_uses, members_uses, members_symbols}

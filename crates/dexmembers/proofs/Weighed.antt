@@ -11,10 +11,11 @@ use Rattle.dexspec.specs.Weight.{code_weight, debug_weight, set_weight, ref_list
 use Rattle.dexval.specs.Numbered.{NumberedSet, NumberedValues, NoValue, ThenNext, set_in, values_in}
 use Rattle.dexval.specs.Spelled.{numbered_set_weight, numbered_sets_weight, numbered_statics_weight}
 use Rattle.dexval.proofs.Weights.{set_weight_is, values_weight_is}
-use Rattle.dexcode.specs.Debug.{NumberedDebug}
+use Rattle.dexdebug.specs.Debug.{NumberedDebug}
 use Rattle.dexcode.specs.Numbered.{NumberedItem}
 use Rattle.dexcode.specs.CodePut.{numbered_code_weight}
-use Rattle.dexcode.specs.Meaning.{code_in, debug_in, IsKnownCode, IsKnownDebug}
+use Rattle.dexdebug.specs.Meaning.{debug_in, IsKnownDebug}
+use Rattle.dexcode.specs.Meaning.{code_in, IsKnownCode}
 use Rattle.dexspec.specs.Code.{Code}
 use Rattle.dexmembers.specs.Numbered.{NumberedField, NumberedMethod, NumberedMembers, field_in, method_in, members_in, fields_of, methods_of, IsKnownMethod, AreKnownMembers}
 use Rattle.dexmembers.specs.Weight.{members_weight}

@@ -9,7 +9,8 @@ use Rattle.dexspec.specs.Classes.{annotations_off, static_values_off}
 use Rattle.dexspec.specs.Accepted.{NamesDeclared, IsReadable}
 use Rattle.dexspec.specs.Mentions.{Mentions}
 use Rattle.dexspec.specs.Weight.{static_values_weight}
-use Rattle.dexcode.specs.Checking.{HasCodeOf, AreCheckedDebugs}
+use Rattle.dexdebug.specs.Checking.{AreCheckedDebugs}
+use Rattle.dexcode.specs.Checking.{HasCodeOf}
 use Rattle.dexval.specs.CheckedSets.{IsWeighed, AreChecked}
 use Rattle.dexval.specs.Directories.{directory_weight}
 use Rattle.dexmembers.specs.Numbered.{Members}

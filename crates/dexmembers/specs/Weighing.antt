@@ -2,7 +2,7 @@
 use Rattle.std.specs.Prelude.{ℕ, ◌+◌, List, Option, map, sum_by, option_to_list}
 use Rattle.dexspec.specs.Weight.{debug_weight}
 use Rattle.dexval.specs.Spelled.{numbered_set_weight, numbered_sets_weight, numbered_statics_weight}
-use Rattle.dexcode.specs.Debug.{NumberedDebug, unindexed}
+use Rattle.dexdebug.specs.Debug.{NumberedDebug, unindexed}
 use Rattle.dexcode.specs.Numbered.{NumberedItem}
 use Rattle.dexcode.specs.CodePut.{numbered_code_weight}
 use Rattle.dexmembers.specs.Numbered.{NumberedField, NumberedMethod, NumberedMembers, fields_of, methods_of}

@@ -6,7 +6,7 @@ ghost use Rattle.dexval.specs.Renumbering.{renumbered_set};
 ghost use Rattle.dexval.specs.Numbered.{NumberedSet};
 ghost use Rattle.dexcode.specs.Numbered.{NumberedItem};
 ghost use Rattle.dexcode.specs.Renumbering.{renumbered_item};
-ghost use Rattle.dexcode.specs.internal.Same.{SameRemapped};
+ghost use Rattle.dexdebug.specs.internal.Same.{SameRemapped};
 ghost use Rattle.dexmembers.specs.Renumbering.{renumbered_field, renumbered_method, renumbered_members};
 ghost use Rattle.dexmembers.specs.Borrowed.{IsBorrowedCode, IsBorrowedSet};
 

@@ -5,8 +5,9 @@ use Rattle.dexpool.specs.Uses.{Use}
 use Rattle.dexval.specs.Code.{value_of, set_of}
 use Rattle.dexval.specs.Numbered.{IsKnown, AreKnown, IsKnownSet, values_of_list}
 use Rattle.dexval.specs.Uses.{value_uses, values_uses, set_uses}
-use Rattle.dexcode.specs.Debug.{debug_uses}
-use Rattle.dexcode.specs.Meaning.{IsKnownCode, IsKnownDebug}
+use Rattle.dexdebug.specs.Debug.{debug_uses}
+use Rattle.dexdebug.specs.Meaning.{IsKnownDebug}
+use Rattle.dexcode.specs.Meaning.{IsKnownCode}
 use Rattle.dexcode.specs.Renumbering.{item_uses as code_uses}
 use Rattle.dextest_items.specs.declared.item.Item.{Item}
 use Rattle.dextest_items.specs.declared.item.Item.TheVariants as kinds

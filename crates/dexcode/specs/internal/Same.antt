@@ -5,14 +5,6 @@ use Rattle.dexcode.specs.declared.tries.Try.{Try}
 use Rattle.dexcode.specs.Numbered.{NumberedHandler, no_handler}
 use Rattle.dexcode.specs.Renumbering.{remapped_try, renumbered_handler}
 
--- two items are equal once remapped
-abbrev pub EqualRemapped : {X Y : Type 0} → (Maps → X → Y) → Maps → Maps → X → X → Type 0
-EqualRemapped f r s x y = f r x ≡ f s y
-
--- two lists are equal once each item is remapped
-abbrev pub SameRemapped : {X Y : Type 0} → (Maps → X → Y) → Maps → Maps → List X → List X → Type 0
-SameRemapped f r s xs ys = map (f r) xs ≡ map (f s) ys
-
 -- two tries, each of whose handlers is in a list, are equal once remapped
 abbrev pub EqualTries : Maps → List NumberedHandler → Try → Maps → List NumberedHandler → Try → Type 0
 EqualTries r hs t s ks u = remapped_try r hs t ≡ remapped_try s ks u

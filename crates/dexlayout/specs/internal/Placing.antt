@@ -12,8 +12,8 @@ use Rattle.dexhead.specs.declared.head.Head.{Head}
 use Rattle.dexhead.specs.declared.map_list.MapEntry.{MapEntry}
 use Rattle.dexhead.specs.Laid.{StatesLayout, map_start, map_list}
 use Rattle.dexhead.specs.Written.{entry_meant}
-use Rattle.dexcode.specs.Debug.{NumberedDebug, numbered_debug_bytes}
-use Rattle.dexcode.specs.Meaning.{debug_in, IsKnownDebug}
+use Rattle.dexdebug.specs.Debug.{NumberedDebug, numbered_debug_bytes}
+use Rattle.dexdebug.specs.Meaning.{debug_in, IsKnownDebug}
 use Rattle.dexval.specs.declared.set.AnnotationSet.{AnnotationSet as CodeSet}
 use Rattle.dexval.specs.Code.{set_of}
 use Rattle.dexval.specs.Numbered.{set_in, type_at, IsKnownSet}

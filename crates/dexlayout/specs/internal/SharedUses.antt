@@ -8,9 +8,9 @@ use Rattle.dexspec.specs.Annotations.{AnnotationSet}
 use Rattle.dexspec.specs.Debug.{Debug}
 use Rattle.dexspec.specs.Mentions.{Mentions}
 use Rattle.dexspec.specs.Placing.{unless_empty}
-use Rattle.dexcode.specs.Debug.{NumberedDebug}
-use Rattle.dexcode.specs.contracts.debug_equality.DebugPartialEq.TheImpl as equality
-use Rattle.dexcode.specs.Meaning.{debug_in, IsKnownDebug}
+use Rattle.dexdebug.specs.Debug.{NumberedDebug}
+use Rattle.dexdebug.specs.contracts.debug_equality.DebugPartialEq.TheImpl as equality
+use Rattle.dexdebug.specs.Meaning.{debug_in, IsKnownDebug}
 use Rattle.dexval.specs.declared.set.AnnotationSet.{AnnotationSet as CodeSet}
 use Rattle.dexval.specs.Code.{set_of}
 use Rattle.dexval.specs.Equality.{equal_sets}

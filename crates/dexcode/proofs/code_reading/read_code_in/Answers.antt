@@ -6,7 +6,7 @@ use Rattle.dexpool.specs.Numberings.{AreRising}
 use Rattle.dexinsn.specs.Reading.{AreStartsAt}
 use Rattle.dexcode.specs.Numbered.{NumberedTry}
 use Rattle.dexcode.specs.Reading.{TriesAt, IsTriesFault}
-use Rattle.dexcode.specs.DebugReading.{IsDebugAt}
+use Rattle.dexdebug.specs.DebugReading.{IsDebugAt}
 use Rattle.dexcode.proofs.CodesRead.{no_debug, some_debug, code_found, tries_fault, debug_fault}
 use Rattle.dexcode.proofs.code_reading.read_code_in.Goals as goal
 

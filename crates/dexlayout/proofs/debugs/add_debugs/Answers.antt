@@ -2,8 +2,9 @@ use Rattle.std.proofs.Common.{◌≡◌, Option, Some, None, Ok, sym, ap, subst,
 use Rattle.std.specs.Prelude.{IfSome, MatchOption, Result}
 use Rattle.std.specs.Option.{option_map, option_map_or}
 use Rattle.dexspec.specs.Mentions.{Mentions}
-use Rattle.dexcode.specs.Debug.{NumberedDebug}
-use Rattle.dexcode.specs.Meaning.{debug_in, IsKnownCode, IsKnownDebug}
+use Rattle.dexdebug.specs.Debug.{NumberedDebug}
+use Rattle.dexdebug.specs.Meaning.{debug_in, IsKnownDebug}
+use Rattle.dexcode.specs.Meaning.{IsKnownCode}
 use Rattle.dexcode.specs.Numbered.{NumberedItem}
 use Rattle.dexmembers.specs.Numbered.{NumberedMethod, IsKnownMethod}
 use Rattle.dexlayout.specs.internal.SharedUses.{SharesDebugs, debug_of}

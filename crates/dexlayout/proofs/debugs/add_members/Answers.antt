@@ -2,7 +2,7 @@ use Rattle.std.proofs.Common.{◌++◌, append_assoc, subst, sym, ap, ◌∙◌}
 use Rattle.std.specs.Prelude.{All, OnOk}
 use Rattle.std.specs.Option.{option_map}
 use Rattle.std.proofs.lemmas.List.{map-append}
-use Rattle.dexcode.specs.Meaning.{debug_in}
+use Rattle.dexdebug.specs.Meaning.{debug_in}
 use Rattle.dexmembers.specs.Numbered.{NumberedMethod, IsKnownMethod}
 use Rattle.dexlayout.specs.internal.SharedUses.{SharesDebugs, debug_of, debugs_uses}
 use Rattle.dexlayout.proofs.debugs.add_members.Goals as goal

@@ -1,6 +1,6 @@
 use Rattle.std.proofs.Common.{List, ℕ, Option, Some, map, arith, ap, sym}
 use Rattle.std.specs.Borrow.{Bor}
-use Rattle.dexcode.specs.Debug.{NumberedDebug, numbered_debug_bytes}
+use Rattle.dexdebug.specs.Debug.{NumberedDebug, numbered_debug_bytes}
 use Rattle.dexlayout.specs.internal.Encoding.{encode_uses}
 use Rattle.dexlayout.proofs.EncodedUses.{all_encoded_by, each_left, next_of_each, use_encoded, use_fits}
 use Rattle.dexlayout.proofs.debugs.encode_written.Goals as goal

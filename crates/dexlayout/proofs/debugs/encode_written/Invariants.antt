@@ -1,5 +1,5 @@
 use Rattle.std.proofs.Common.{◌≡◌, map, drop, Some}
-use Rattle.dexcode.specs.Debug.{numbered_debug_bytes}
+use Rattle.dexdebug.specs.Debug.{numbered_debug_bytes}
 use Rattle.dexlayout.specs.internal.Encoding.{encode_uses}
 use Rattle.dexlayout.specs.internal.Placing.{encoded_debugs}
 use Rattle.dexlayout.proofs.debugs.encode_written.Given as goal

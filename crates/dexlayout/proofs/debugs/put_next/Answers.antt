@@ -1,6 +1,6 @@
 use Rattle.std.proofs.Common.{sym, ◌∙◌}
 use Rattle.std.proofs.lemmas.Result.{on_ok_weaker}
-use Rattle.dexcode.specs.Debug.{numbered_debug_bytes}
+use Rattle.dexdebug.specs.Debug.{numbered_debug_bytes}
 use Rattle.dexlayout.proofs.EncodedUses.{align_one, ended, ended_fits}
 use Rattle.dexlayout.proofs.debugs.put_next.Goals as goal
 

@@ -1,4 +1,5 @@
-use Rattle.dexcode.specs.Meaning.{code_in, debug_in}
+use Rattle.dexdebug.specs.Meaning.{debug_in}
+use Rattle.dexcode.specs.Meaning.{code_in}
 use Rattle.dexmembers.proofs.Weighed.{members_are}
 use Rattle.dexmembers.proofs.weighing.members_weight_law.Goals as goal
 

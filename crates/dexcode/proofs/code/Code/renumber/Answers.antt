@@ -1,7 +1,7 @@
 use Rattle.std.proofs.Common.{Some, ap, sym, subst, ◌∙◌}
 use Rattle.std.specs.List.{All}
 use Rattle.std.specs.Option.{option_map}
-use Rattle.dexcode.specs.Debug.{HasPlace}
+use Rattle.dexdebug.specs.Debug.{HasPlace}
 use Rattle.dexcode.specs.Renumbering.{tries_uses, HasTypePlace}
 use Rattle.dexcode.proofs.CodeUses.{optional_debug_uses, debug_part}
 use Rattle.dexcode.proofs.code.Code.renumber.Goals as goal

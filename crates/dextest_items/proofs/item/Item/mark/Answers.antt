@@ -1,5 +1,6 @@
 use Rattle.std.proofs.Common.{subst}
-use Rattle.dexcode.specs.Meaning.{code_in, debug_in}
+use Rattle.dexdebug.specs.Meaning.{debug_in}
+use Rattle.dexcode.specs.Meaning.{code_in}
 use Rattle.dextest_items.specs.Items.{IsKnownItem}
 use Rattle.dextest_items.proofs.item.Item.mark.Goals as goal
 

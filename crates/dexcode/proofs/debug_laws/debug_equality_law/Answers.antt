@@ -1,5 +1,0 @@
-use Rattle.dexcode.proofs.DebugEqual.{debug_decides}
-use Rattle.dexcode.proofs.debug_laws.debug_equality_law.Goals as goal
-
-pub returns : goal.returns
-returns c = λ d e. debug_decides _ _ c.entry_equality_law.ensures c.operation_equality_law.ensures d e

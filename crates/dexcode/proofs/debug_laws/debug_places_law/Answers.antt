@@ -1,6 +1,0 @@
-use Rattle.dexcode.specs.Debug.{debug_uses}
-use Rattle.dexcode.proofs.CodePlaces.{debug_cut, uses_joined}
-use Rattle.dexcode.proofs.debug_laws.debug_places_law.Goals as goal
-
-pub returns : goal.returns
-returns c = record { cut = debug_cut; joined = λ r d. uses_joined r (debug_uses d) }

@@ -1,5 +1,0 @@
-use Rattle.dexcode.proofs.DebugRuns.{NamesChecked}
-use Rattle.dexcode.proofs.debug_reading.names_end.Given as goal
-
-abbrev pub invariant-loop : goal.invariant-loop
-invariant-loop l = NamesChecked l.texts l.bytes l.from l.count l.counter l.at

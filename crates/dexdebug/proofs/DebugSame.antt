@@ -1,0 +1,112 @@
+-- Debug programs that are the same once remapped by two maps.
+use Rattle.std.proofs.Common.{◌≡◌, ℕ, ◌+◌, ◌<◌, ◌≤◌, List, [], ◌∷◌, ◌++◌, length, take, map, get_or, Option, None, refl, ap, sym, ◌∙◌}
+use Rattle.std.proofs.lemmas.List.{map_more, take_all, get_or-map}
+use Rattle.dexpool.specs.declared.symbols.SymbolKind.TheVariants as kinds
+use Rattle.dexpool.specs.Numberings.{Maps}
+use Rattle.dexdebug.specs.declared.debug_operation.Operation.{Operation}
+use Rattle.dexdebug.specs.declared.debug_operation.Operation.TheVariants.{AdvancePc, AdvanceLine, StartLocal, StartLocalExtended, EndLocal, RestartLocal, SetPrologueEnd, SetEpilogueBegin, SetFile, Special}
+use Rattle.dexdebug.specs.Debug.{image_or_none, name_of, type_of, signature_of, with_numbers, renumbered_operation}
+
+-- ---- lists that are the same, mapped
+
+pub same_more : {X Y : Type 0} (f g : X → Y) (xs ys : List X) (i : ℕ) (d : X) → i < length xs → i < length ys → map f (take i xs) ≡ map g (take i ys) → f (get_or xs i d) ≡ g (get_or ys i d) → map f (take (i + 1) xs) ≡ map g (take (i + 1) ys)
+same_more f g xs ys i d lt lt' before here = map_more f xs i d lt ∙ (λ j. before j ++ here j ∷ []) ∙ sym (map_more g ys i d lt')
+
+pub same_all : {X Y : Type 0} (f g : X → Y) (xs ys : List X) (i : ℕ) → length xs ≤ i → length ys ≤ i → map f (take i xs) ≡ map g (take i ys) → map f xs ≡ map g ys
+same_all f g xs ys i end end' h = ap (map f) (sym (take_all i xs end)) ∙ h ∙ ap (map g) (take_all i ys end')
+
+pub same_at : {X Y : Type 0} (f g : X → Y) (xs ys : List X) (i : ℕ) (d : X) → i < length xs → i < length ys → map f xs ≡ map g ys → f (get_or xs i d) ≡ g (get_or ys i d)
+same_at f g xs ys i d lt lt' e = sym (get_or-map f xs i d (f d) lt) ∙ ap (λ zs. get_or zs i (f d)) e ∙ get_or-map g ys i d (f d) lt'
+
+-- ---- operations
+
+-- the operation without numbers of symbols
+abbrev pub unindexed_of : Operation → Operation
+unindexed_of op = with_numbers op None None None
+
+-- other numbers are not seen without numbers
+unindexed_with : (op : Operation) (s t u : Option ℕ) → unindexed_of (with_numbers op s t u) ≡ unindexed_of op
+unindexed_with (AdvancePc addresses) s t u = refl
+unindexed_with (AdvanceLine lines) s t u = refl
+unindexed_with (StartLocal register name typ) s t u = refl
+unindexed_with (StartLocalExtended register name typ signature) s t u = refl
+unindexed_with (EndLocal register) s t u = refl
+unindexed_with (RestartLocal register) s t u = refl
+unindexed_with SetPrologueEnd s t u = refl
+unindexed_with SetEpilogueBegin s t u = refl
+unindexed_with (SetFile name) s t u = refl
+unindexed_with (Special opcode) s t u = refl
+
+-- numbers are put in where there were others
+with_unindexed : (op : Operation) (s t u : Option ℕ) → with_numbers (unindexed_of op) s t u ≡ with_numbers op s t u
+with_unindexed (AdvancePc addresses) s t u = refl
+with_unindexed (AdvanceLine lines) s t u = refl
+with_unindexed (StartLocal register name typ) s t u = refl
+with_unindexed (StartLocalExtended register name typ signature) s t u = refl
+with_unindexed (EndLocal register) s t u = refl
+with_unindexed (RestartLocal register) s t u = refl
+with_unindexed SetPrologueEnd s t u = refl
+with_unindexed SetEpilogueBegin s t u = refl
+with_unindexed (SetFile name) s t u = refl
+with_unindexed (Special opcode) s t u = refl
+
+module _ (r : Maps) where
+  name_remapped : (op : Operation) → name_of (renumbered_operation r op) ≡ image_or_none r kinds.Text (name_of op)
+  name_remapped (AdvancePc addresses) = refl
+  name_remapped (AdvanceLine lines) = refl
+  name_remapped (StartLocal register name typ) = refl
+  name_remapped (StartLocalExtended register name typ signature) = refl
+  name_remapped (EndLocal register) = refl
+  name_remapped (RestartLocal register) = refl
+  name_remapped SetPrologueEnd = refl
+  name_remapped SetEpilogueBegin = refl
+  name_remapped (SetFile name) = refl
+  name_remapped (Special opcode) = refl
+
+  type_remapped : (op : Operation) → type_of (renumbered_operation r op) ≡ image_or_none r kinds.Typ (type_of op)
+  type_remapped (AdvancePc addresses) = refl
+  type_remapped (AdvanceLine lines) = refl
+  type_remapped (StartLocal register name typ) = refl
+  type_remapped (StartLocalExtended register name typ signature) = refl
+  type_remapped (EndLocal register) = refl
+  type_remapped (RestartLocal register) = refl
+  type_remapped SetPrologueEnd = refl
+  type_remapped SetEpilogueBegin = refl
+  type_remapped (SetFile name) = refl
+  type_remapped (Special opcode) = refl
+
+  signature_remapped : (op : Operation) → signature_of (renumbered_operation r op) ≡ image_or_none r kinds.Text (signature_of op)
+  signature_remapped (AdvancePc addresses) = refl
+  signature_remapped (AdvanceLine lines) = refl
+  signature_remapped (StartLocal register name typ) = refl
+  signature_remapped (StartLocalExtended register name typ signature) = refl
+  signature_remapped (EndLocal register) = refl
+  signature_remapped (RestartLocal register) = refl
+  signature_remapped SetPrologueEnd = refl
+  signature_remapped SetEpilogueBegin = refl
+  signature_remapped (SetFile name) = refl
+  signature_remapped (Special opcode) = refl
+
+-- if two operations are the same once remapped, their parts are
+module _ (r q : Maps) (x y : Operation) (e : renumbered_operation r x ≡ renumbered_operation q y) where
+  pub same_unindexed : unindexed_of x ≡ unindexed_of y
+  same_unindexed =
+      sym (unindexed_with x (image_or_none r kinds.Text (name_of x)) (image_or_none r kinds.Typ (type_of x)) (image_or_none r kinds.Text (signature_of x))) ∙ ap unindexed_of e
+      ∙ unindexed_with y (image_or_none q kinds.Text (name_of y)) (image_or_none q kinds.Typ (type_of y)) (image_or_none q kinds.Text (signature_of y))
+
+  pub same_name : image_or_none r kinds.Text (name_of x) ≡ image_or_none q kinds.Text (name_of y)
+  same_name = sym (name_remapped r x) ∙ ap name_of e ∙ name_remapped q y
+
+  pub same_type : image_or_none r kinds.Typ (type_of x) ≡ image_or_none q kinds.Typ (type_of y)
+  same_type = sym (type_remapped r x) ∙ ap type_of e ∙ type_remapped q y
+
+  pub same_signature : image_or_none r kinds.Text (signature_of x) ≡ image_or_none q kinds.Text (signature_of y)
+  same_signature = sym (signature_remapped r x) ∙ ap signature_of e ∙ signature_remapped q y
+
+-- and the other way round
+pub same_parts : (r q : Maps) (x y : Operation) → unindexed_of x ≡ unindexed_of y → image_or_none r kinds.Text (name_of x) ≡ image_or_none q kinds.Text (name_of y) → image_or_none r kinds.Typ (type_of x) ≡ image_or_none q kinds.Typ (type_of y)
+    → image_or_none r kinds.Text (signature_of x) ≡ image_or_none q kinds.Text (signature_of y) → renumbered_operation r x ≡ renumbered_operation q y
+same_parts r q x y unindexed name typ signature =
+    sym (with_unindexed x (image_or_none r kinds.Text (name_of x)) (image_or_none r kinds.Typ (type_of x)) (image_or_none r kinds.Text (signature_of x)))
+    ∙ (λ i. with_numbers (unindexed i) (name i) (typ i) (signature i))
+    ∙ with_unindexed y (image_or_none q kinds.Text (name_of y)) (image_or_none q kinds.Typ (type_of y)) (image_or_none q kinds.Text (signature_of y))

@@ -1,0 +1,114 @@
+-- The symbols of a debug program, part by part, and what becomes of their numbers.
+use Rattle.std.proofs.Common.{◌≡◌, ℕ, ◌+◌, ◌<◌, ◌^◌, List, [], ◌∷◌, ◌++◌, map, Option, Some, None, refl, sym, subst, arith}
+use Rattle.std.proofs.lemmas.List.{length-map}
+use Rattle.std.specs.List.{All, flat_map}
+use Rattle.std.proofs.lemmas.List.Elements.{All-nil, All-cons, All-head, All-tail}
+use Rattle.dexpool.specs.declared.symbols.SymbolKind.{SymbolKind}
+use Rattle.dexpool.specs.declared.symbols.SymbolKind.TheVariants as kinds
+use Rattle.dexpool.specs.declared.marks.Marks.{Marks}
+use Rattle.dexpool.specs.Numberings.{Maps, image_of}
+use Rattle.dexpool.specs.Uses.{Use, AreMarkedToo}
+use Rattle.dexpool.proofs.MarksMade.{none_marked}
+use Rattle.dexpool.proofs.Parts.{all_prefix, all_back, all_parts, all_map}
+use Rattle.dexdebug.specs.declared.debug_operation.Operation.{Operation}
+use Rattle.dexdebug.specs.declared.debug_operation.Operation.TheVariants.{AdvancePc, AdvanceLine, StartLocal, StartLocalExtended, EndLocal, RestartLocal, SetPrologueEnd, SetEpilogueBegin, SetFile, Special}
+use Rattle.dexdebug.specs.Debug.{NumberedDebug, HasPlace, FitsIndex, IsFormedOperation, IsFormedDebug, IsSpecial, number_uses, operation_uses, debug_uses, image_or_none, name_of, type_of, signature_of, with_numbers, renumbered_operation, renumbered_debug}
+
+-- what holds of the symbol of a number, if there is one
+pub use_of : (P : Use → Type 0) (kind : SymbolKind) (i : Option ℕ) (n : ℕ) → All P (number_uses kind i) → i ≡ Some n → P (record { kind = kind; number = n })
+use_of P kind None n all e = absurd cc
+use_of P kind (Some k) n all e =
+    let same : k ≡ n = cc in
+    subst (λ (j : ℕ). P (record { kind = kind; number = j })) same (All-head P (record { kind = kind; number = k }) [] all)
+
+-- the three parts of an operation's symbols
+module _ (P : Use → Type 0) (op : Operation) (h : All P (operation_uses op)) where
+  pub name_part : All P (number_uses kinds.Text (name_of op))
+  name_part = all_prefix P (number_uses kinds.Text (name_of op)) (number_uses kinds.Typ (type_of op) ++ number_uses kinds.Text (signature_of op)) h
+
+  others : All P (number_uses kinds.Typ (type_of op) ++ number_uses kinds.Text (signature_of op))
+  others = all_back P (number_uses kinds.Text (name_of op)) (number_uses kinds.Typ (type_of op) ++ number_uses kinds.Text (signature_of op)) h
+
+  pub type_part : All P (number_uses kinds.Typ (type_of op))
+  type_part = all_prefix P (number_uses kinds.Typ (type_of op)) (number_uses kinds.Text (signature_of op)) others
+
+  pub signature_part : All P (number_uses kinds.Text (signature_of op))
+  signature_part = all_back P (number_uses kinds.Typ (type_of op)) (number_uses kinds.Text (signature_of op)) others
+
+-- ---- other numbers
+
+-- the image of a number is small
+pub place_fits : (r : Maps) (kind : SymbolKind) (i : Option ℕ) (n j : ℕ) → All (HasPlace r) (number_uses kind i) → i ≡ Some n → image_of r kind n ≡ Some j → j + 1 < 2 ^ 32
+place_fits r kind i n j all e image =
+    let place = use_of (HasPlace r) kind i n all e in
+    let same : place.0 ≡ j = cc (place.1, image) in
+    omega (arith, place.2, same)
+
+image_fits : (r : Maps) (kind : SymbolKind) (i : Option ℕ) → All (HasPlace r) (number_uses kind i) → FitsIndex (image_or_none r kind i)
+image_fits r kind None all = omega arith
+image_fits r kind (Some n) all =
+    let place = use_of (HasPlace r) kind (Some n) n all refl in
+    subst FitsIndex (sym place.1) place.2
+
+formed_with : (op : Operation) (s t u : Option ℕ) → IsSpecial op → FitsIndex s → FitsIndex t → FitsIndex u → IsFormedOperation (with_numbers op s t u)
+formed_with (AdvancePc addresses) s t u special hs ht hu = record { name_fits = omega arith; type_fits = omega arith; signature_fits = omega arith; is_special = special }
+formed_with (AdvanceLine lines) s t u special hs ht hu = record { name_fits = omega arith; type_fits = omega arith; signature_fits = omega arith; is_special = special }
+formed_with (StartLocal register name typ) s t u special hs ht hu = record { name_fits = hs; type_fits = ht; signature_fits = omega arith; is_special = special }
+formed_with (StartLocalExtended register name typ signature) s t u special hs ht hu = record { name_fits = hs; type_fits = ht; signature_fits = hu; is_special = special }
+formed_with (EndLocal register) s t u special hs ht hu = record { name_fits = omega arith; type_fits = omega arith; signature_fits = omega arith; is_special = special }
+formed_with (RestartLocal register) s t u special hs ht hu = record { name_fits = omega arith; type_fits = omega arith; signature_fits = omega arith; is_special = special }
+formed_with SetPrologueEnd s t u special hs ht hu = record { name_fits = omega arith; type_fits = omega arith; signature_fits = omega arith; is_special = special }
+formed_with SetEpilogueBegin s t u special hs ht hu = record { name_fits = omega arith; type_fits = omega arith; signature_fits = omega arith; is_special = special }
+formed_with (SetFile name) s t u special hs ht hu = record { name_fits = hs; type_fits = omega arith; signature_fits = omega arith; is_special = special }
+formed_with (Special opcode) s t u special hs ht hu = record { name_fits = omega arith; type_fits = omega arith; signature_fits = omega arith; is_special = special }
+
+operation_formed : (r : Maps) (op : Operation) → All (HasPlace r) (operation_uses op) → IsFormedOperation op → IsFormedOperation (renumbered_operation r op)
+operation_formed r op all is =
+    formed_with op (image_or_none r kinds.Text (name_of op)) (image_or_none r kinds.Typ (type_of op)) (image_or_none r kinds.Text (signature_of op)) is.is_special
+    (image_fits r kinds.Text (name_of op) (name_part (HasPlace r) op all))
+    (image_fits r kinds.Typ (type_of op) (type_part (HasPlace r) op all))
+    (image_fits r kinds.Text (signature_of op) (signature_part (HasPlace r) op all))
+
+operations_formed : (r : Maps) (ops : List Operation) → All (HasPlace r) (flat_map operation_uses ops) → All IsFormedOperation ops → All IsFormedOperation (map (renumbered_operation r) ops)
+operations_formed r [] all are = All-nil IsFormedOperation
+operations_formed r (op ∷ ops) all are =
+    All-cons IsFormedOperation (renumbered_operation r op) (map (renumbered_operation r) ops)
+    (operation_formed r op (all_prefix (HasPlace r) (operation_uses op) (flat_map operation_uses ops) all) (All-head IsFormedOperation op ops are))
+    (operations_formed r ops (all_back (HasPlace r) (operation_uses op) (flat_map operation_uses ops) all) (All-tail IsFormedOperation op ops are))
+
+-- a debug program whose numbers have small images keeps its form
+pub debug_formed : (r : Maps) (d : NumberedDebug) → All (HasPlace r) (debug_uses d) → IsFormedDebug d → IsFormedDebug (renumbered_debug r d)
+debug_formed r d all is =
+    let names = all_prefix (HasPlace r) (flat_map (number_uses kinds.Text) d.parameter_names) (flat_map operation_uses d.operations) all in
+    let operations = all_back (HasPlace r) (flat_map (number_uses kinds.Text) d.parameter_names) (flat_map operation_uses d.operations) all in
+    record {
+      names_count = simp length-map is.names_count;
+      names_fit = all_map (λ i. All (HasPlace r) (number_uses kinds.Text i)) FitsIndex (image_or_none r kinds.Text) d.parameter_names (image_fits r kinds.Text) (all_parts (HasPlace r) (number_uses kinds.Text) d.parameter_names names);
+      operations_count = simp length-map is.operations_count;
+      operations_fit = operations_formed r d.operations operations is.operations_fit;
+    }
+
+-- an operation without symbols stays as it is
+pub stays : (r : Maps) (op : Operation) → operation_uses op ≡ [] → op ≡ renumbered_operation r op
+stays r (AdvancePc addresses) none = refl
+stays r (AdvanceLine lines) none = refl
+stays r (StartLocal register None None) none = refl
+stays r (StartLocal register None (Some typ)) none = absurd cc
+stays r (StartLocal register (Some name) typ) none = absurd cc
+stays r (StartLocalExtended register None None None) none = refl
+stays r (StartLocalExtended register None None (Some signature)) none = absurd cc
+stays r (StartLocalExtended register None (Some typ) signature) none = absurd cc
+stays r (StartLocalExtended register (Some name) typ signature) none = absurd cc
+stays r (EndLocal register) none = refl
+stays r (RestartLocal register) none = refl
+stays r SetPrologueEnd none = refl
+stays r SetEpilogueBegin none = refl
+stays r (SetFile None) none = refl
+stays r (SetFile (Some name)) none = absurd cc
+stays r (Special opcode) none = refl
+
+-- ---- marks
+
+-- the marks of no symbols
+pub marked_none : (us : List Use) (a : Marks) → us ≡ [] → AreMarkedToo us a a
+marked_none us a none = subst (λ vs. AreMarkedToo vs a a) (sym none) (none_marked a)

@@ -1,0 +1,14 @@
+pub mod DebugBridge
+pub mod DebugEqual
+pub mod DebugMeanings
+pub mod DebugPositions
+pub mod DebugRead
+pub mod DebugRuns
+pub mod DebugSame
+pub mod DebugUses
+pub mod DebugWeights
+pub mod Encoded
+pub mod MeaningDebug
+pub mod DebugRanked
+pub mod DebugsChecked
+pub mod KeptOperations

@@ -1,0 +1,14 @@
+use Rattle.std.proofs.Common.{get_or, arith}
+use Rattle.dexdebug.proofs.DebugRuns.{byte_encoded, one_more_checked, no_operation, no_end}
+use Rattle.dexdebug.proofs.debug_reading.check_operations.Goals as goal
+
+pub returns-in_err-operation : goal.returns-in_err-operation
+returns-in_err-operation c = rw c.from_residual.ensures (no_operation c.args.counts c.args.bytes.now c.args.from c.loop-at.at (get_or c.args.bytes.now c.loop-at.at 0) c.loop-at.invariant.operations c.loop-at.invariant.so_far (byte_encoded c.args.bytes.now c.loop-at.at c.loop-at-test.true) (omega arith) c.in_err-operation.ensures.only)
+
+pub loop-at-preserved : goal.loop-at-preserved
+loop-at-preserved c =
+    one_more_checked c.args.counts c.args.bytes.now c.args.from c.loop-at.at (get_or c.args.bytes.now c.loop-at.at 0) c.loop-at.operations c.loop-at.weight c.in_ok-operation.operation c.in_ok-operation.len c.operands.result c.loop-at.invariant c.in_ok-operation.ensures.within
+    (byte_encoded c.args.bytes.now c.loop-at.at c.loop-at-test.true) (omega arith) (omega (arith, c.type_inv.bytes c.loop-at.at)) c.in_ok-operation.ensures.found c.in_ok-operation.ensures.only c.operands.ensures.count c.operands.ensures.few
+
+pub returns : goal.returns
+returns c = no_end c.args.counts c.args.bytes.now c.args.from c.loop-at.at c.loop-at.invariant.operations c.loop-at.invariant.so_far (omega arith)

@@ -1,0 +1,10 @@
+pub mod Checking
+pub mod Debug
+pub mod DebugEquality
+pub mod DebugReading
+pub mod Equality
+pub mod Laws
+pub mod Meaning
+pub mod Operations
+pub mod Positions
+pub mod internal

@@ -1,0 +1,50 @@
+//! Laws of numbered debug programs. Each function does nothing: its contract is the law, for the callers that cite it.
+
+ghost use Rattle.std.specs.Prelude.{◌≡◌, ◌↔◌, ◌≤◌, IsTrue, length};
+ghost use Rattle.dexspec.specs.Weight.{debug_weight};
+ghost use Rattle.dexdebug.specs.Debug.{NumberedDebug, unindexed, numbered_debug_bytes};
+ghost use Rattle.dexdebug.specs.Laws.{DebugBytesAreDenoted, DebugWeightIsDenoted, DebugPositionsAreDenoted, RenumberedDebugDenotes, DebugPlacesAreImages, DebugUsesAreDenoted, DebugUsesHaveMarks};
+
+use crate::debug::Debug;
+use crate::debug_operation::Operation;
+use crate::operations::entry_equality_law;
+
+/// Where the symbols rise, the bytes of a numbered debug program are those of the program that it denotes, each index
+/// the rank of its symbol. They are no more than it weighs.
+pub fn debug_bytes_law()
+    ensures bytes { DebugBytesAreDenoted }
+    ensures few { (d : NumberedDebug)
+        → length (numbered_debug_bytes d) ≤ debug_weight (unindexed d) }
+{}
+
+/// A numbered debug program weighs as much as the program that it denotes, and has the same positions.
+pub fn debug_unindexed_law()
+    ensures weight { DebugWeightIsDenoted }
+    ensures positions { DebugPositionsAreDenoted }
+{}
+
+/// Once renumbered, a debug program denotes what it denoted before.
+pub fn debug_renumber_law()
+    ensures keeps { RenumberedDebugDenotes }
+    ensures places { DebugPlacesAreImages }
+{}
+
+/// The symbols that occur are those of the debug program that it denotes, one for one and in their order. Where there
+/// is a mark for each symbol, there is one for each that occurs.
+pub fn debug_uses_law()
+    ensures uses { DebugUsesAreDenoted }
+    ensures marks { DebugUsesHaveMarks }
+{}
+
+/// Operations are equal exactly where they are the same, their numbers too.
+pub fn operation_equality_law()
+    ensures { (x y : Operation) → IsTrue (⟦<Operation as PartialEq>⟧.eq x y) ↔ (x ≡ y) }
+{}
+
+/// Debug programs are equal exactly where the lines that they start at, their names and their operations are.
+pub fn debug_equality_law()
+    ensures { (d e : NumberedDebug) → IsTrue (⟦<Debug as PartialEq>⟧.eq d e) ↔ (d ≡ e) }
+{
+    entry_equality_law();
+    operation_equality_law();
+}

@@ -1,0 +1,158 @@
+//! The operations of debug programs, with numbers for symbols.
+
+ghost use Rattle.std.specs.Prelude.{◌≡◌, ◌↔◌, ◌<◌, [], false, IsTrue};
+ghost use Rattle.dexspec.specs.Weight as weights;
+
+/// An operation of a debug program. A name or a signature is the number of a text, a type that of a type, and `None`
+/// is NO_INDEX.
+///
+/// Source: "debug_info_item", "Byte code values".
+#[derive(Clone, Copy, Debug, PartialEq, Eq, Hash)]
+pub enum Operation {
+    /// `DBG_ADVANCE_PC`: `addr_diff`, the amount to add to the address register, in 16-bit code units.
+    AdvancePc(u32),
+    /// `DBG_ADVANCE_LINE`: `line_diff`, the amount to change the line register by, in lines.
+    AdvanceLine(i32),
+    /// `DBG_START_LOCAL`: a local variable begins in a register.
+    StartLocal {
+        /// The register that will contain the local variable.
+        register_num: u32,
+        /// The number of the text that is its name.
+        name_idx: Option<u32>,
+        /// The number of its type.
+        type_idx: Option<u32>,
+    },
+    /// `DBG_START_LOCAL_EXTENDED`: the same, with a type signature.
+    StartLocalExtended {
+        /// The register that will contain the local variable.
+        register_num: u32,
+        /// The number of the text that is its name.
+        name_idx: Option<u32>,
+        /// The number of its type.
+        type_idx: Option<u32>,
+        /// The number of the text that is its type signature.
+        sig_idx: Option<u32>,
+    },
+    /// `DBG_END_LOCAL`: `register_num`, the register whose local variable ends.
+    EndLocal(u32),
+    /// `DBG_RESTART_LOCAL`: `register_num`, the register whose last local variable begins again.
+    RestartLocal(u32),
+    /// `DBG_SET_PROLOGUE_END`.
+    SetPrologueEnd,
+    /// `DBG_SET_EPILOGUE_BEGIN`.
+    SetEpilogueBegin,
+    /// `DBG_SET_FILE`: `name_idx`, the number of the text that is the source file's name from here on.
+    SetFile(Option<u32>),
+    /// A special opcode, from 0x0a on: it moves the line and the address, and records a position.
+    Special(u8),
+}
+
+impl Operation {
+    ghost use Rattle.dexdebug.specs.Debug.{name_of, type_of, signature_of, with_numbers, unindexed_operation, operation_uses};
+    ghost use Rattle.dexdebug.specs.Operations.{has_places};
+
+    /// The number of the name of a local variable or of a source file.
+    pub fn name_idx(&self) -> Option<u32>
+        ensures { result ≡ name_of self.now }
+    {
+        match self {
+            Operation::StartLocal { name_idx, .. } => *name_idx,
+            Operation::StartLocalExtended { name_idx, .. } => *name_idx,
+            Operation::SetFile(name_idx) => *name_idx,
+            _ => None,
+        }
+    }
+
+    /// The number of the type of a local variable.
+    pub fn type_idx(&self) -> Option<u32>
+        ensures { result ≡ type_of self.now }
+    {
+        match self {
+            Operation::StartLocal { type_idx, .. } => *type_idx,
+            Operation::StartLocalExtended { type_idx, .. } => *type_idx,
+            _ => None,
+        }
+    }
+
+    /// The number of the text that is the signature of a local variable's type.
+    pub fn sig_idx(&self) -> Option<u32>
+        ensures { result ≡ signature_of self.now }
+    {
+        match self {
+            Operation::StartLocalExtended { sig_idx, .. } => *sig_idx,
+            _ => None,
+        }
+    }
+
+    // Returns whether the operation has places for the numbers of symbols.
+    pub(crate) fn has_places(&self) -> bool
+        ensures places { result ≡ has_places self.now }
+        ensures none { result ≡ false → operation_uses self.now ≡ [] }
+    {
+        match self {
+            Operation::StartLocal { .. } => true,
+            Operation::StartLocalExtended { .. } => true,
+            Operation::SetFile(_) => true,
+            _ => false,
+        }
+    }
+
+    // The operation with other numbers in the places of its own.
+    pub(crate) fn with_numbers(
+        self,
+        name_idx: Option<u32>,
+        type_idx: Option<u32>,
+        sig_idx: Option<u32>,
+    ) -> Operation
+        ensures { result ≡ with_numbers self name_idx type_idx sig_idx }
+    {
+        match self {
+            Operation::StartLocal { register_num, .. } => Operation::StartLocal {
+                register_num,
+                name_idx,
+                type_idx,
+            },
+            Operation::StartLocalExtended { register_num, .. } => Operation::StartLocalExtended {
+                register_num,
+                name_idx,
+                type_idx,
+                sig_idx,
+            },
+            Operation::SetFile(_) => Operation::SetFile(name_idx),
+            operation => operation,
+        }
+    }
+
+    // The operation without the numbers of symbols.
+    pub(crate) fn unindexed(&self) -> Operation
+        ensures { result ≡ with_numbers self.now None None None }
+    {
+        self.with_numbers(None, None, None)
+    }
+
+    // Returns whether two operations are the same.
+    pub(crate) fn is_same(&self, other: &Operation) -> bool
+        ensures { IsTrue result ↔ (self.now ≡ other.now) }
+    {
+        self == other
+    }
+
+    // Returns the number of operands.
+    pub(crate) fn operands(&self) -> u64
+        ensures count { result ≡ weights.operands (unindexed_operation self.now) }
+        ensures few { result < 5 }
+    {
+        match self {
+            Operation::AdvancePc(_) => 1,
+            Operation::AdvanceLine(_) => 1,
+            Operation::StartLocal { .. } => 3,
+            Operation::StartLocalExtended { .. } => 4,
+            Operation::EndLocal(_) => 1,
+            Operation::RestartLocal(_) => 1,
+            Operation::SetPrologueEnd => 0,
+            Operation::SetEpilogueBegin => 0,
+            Operation::SetFile(_) => 1,
+            Operation::Special(_) => 0,
+        }
+    }
+}

@@ -1,0 +1,108 @@
+//! The positions that a debug program records.
+
+ghost use Rattle.std.specs.Prelude.{◌≡◌, ◌^◌, ◌<◌, ◌≤◌, ◌≤ℤ◌, ◌+ℤ◌, pos, All, IfOk, OnOk, length};
+ghost use Rattle.dexdebug.specs.Positions as recorded;
+ghost use Rattle.dexdebug.specs.Debug.{unindexed, unindexed_operation, IsSpecial, IsFormedOperation};
+ghost use Rattle.dexdebug.specs.internal.Writing.{positions_of, with_position};
+
+use crate::debug::Debug;
+use crate::debug_operation::Operation;
+use crate::operations::Operations;
+use std::alloc::{AllocError, Global};
+
+// Returns the amount that an operation adds to the address.
+fn address_step(operation: &Operation) -> u64
+    requires { IsSpecial operation.now }
+    ensures step { result ≡ recorded.address_step (unindexed_operation operation.now) }
+    ensures small { result < 2 ^ 32 }
+{
+    match operation {
+        Operation::AdvancePc(addr_diff) => u64::from(*addr_diff),
+        Operation::Special(opcode) => u64::from((*opcode - 10) / 15),
+        _ => 0,
+    }
+}
+
+// Returns the amount that an operation adds to the line.
+fn line_step(operation: &Operation) -> i64
+    requires { IsSpecial operation.now }
+    ensures step { result ≡ recorded.line_step (unindexed_operation operation.now) }
+    ensures low { pos 0 ≤ℤ (result +ℤ pos (2 ^ 31)) }
+    ensures high { result ≤ℤ pos (2 ^ 31) }
+{
+    match operation {
+        Operation::AdvanceLine(line_diff) => i64::from(*line_diff),
+        Operation::Special(opcode) => i64::from((*opcode - 10) % 15) - 4,
+        _ => 0,
+    }
+}
+
+// Returns whether an operation records a position.
+fn is_special(operation: &Operation) -> bool
+    ensures { result ≡ recorded.is_special (unindexed_operation operation.now) }
+{
+    match operation {
+        Operation::Special(_) => true,
+        _ => false,
+    }
+}
+
+// Returns the line after an operation.
+fn next_line(line: i64, operation: &Operation) -> i64
+    requires special { IsSpecial operation.now }
+    requires low { pos 0 ≤ℤ (line +ℤ pos (2 ^ 61)) }
+    requires high { line ≤ℤ pos (2 ^ 62) }
+    ensures sum { result ≡ line +ℤ recorded.line_step (unindexed_operation operation.now) }
+    ensures low { line ≤ℤ (result +ℤ pos (2 ^ 31)) }
+    ensures high { result ≤ℤ (line +ℤ pos (2 ^ 31)) }
+{
+    line + line_step(operation)
+}
+
+// Keeps a position, if it is recorded.
+fn keep(
+    found: &mut Vec<(u64, i64)>,
+    is_recorded: bool,
+    address: u64,
+    line: i64,
+) -> Result<(), AllocError>
+    ensures { OnOk result (found.new.items
+        ≡ with_position is_recorded found.old.items address line) }
+{
+    if is_recorded {
+        found.push((address, line))?;
+    }
+    Ok(())
+}
+
+// The positions of operations, from a line on.
+fn positions_from(
+    alloc: Global,
+    line_start: u32,
+    operations: &Operations,
+) -> Result<Vec<(u64, i64)>, AllocError>
+    requires few { length operations.now < 2 ^ 30 }
+    requires formed { All IsFormedOperation operations.now }
+    ensures { IfOk result (λ found. found.items ≡ positions_of line_start operations.now) }
+{
+    let mut found = Vec::new(alloc);
+    let mut address = 0;
+    let mut line = i64::from(line_start);
+    for i in 0..operations.len() {
+        let operation = operations.at(i);
+        address += address_step(&operation);
+        line = next_line(line, &operation);
+        keep(&mut found, is_special(&operation), address, line)?;
+    }
+    Ok(found)
+}
+
+/// The address and the line of each special operation, in order: the address in units from the start of the code.
+/// An address is a sum of fewer than 2^30 numbers of 32 bits, and so is a line, so that both fit their types.
+///
+/// Source: "debug_info_item", "State machine" and "Special opcodes".
+pub fn positions(alloc: Global, debug: &Debug) -> Result<Vec<(u64, i64)>, AllocError>
+    ensures { IfOk result (λ found. found.items ≡ recorded.positions (unindexed debug.now)) }
+{
+    positions_from(alloc, debug.line_start, &debug.operations)
+}

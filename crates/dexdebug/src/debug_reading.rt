@@ -1,0 +1,405 @@
+//! Debug programs read from a file.
+
+ghost use Rattle.std.specs.Prelude.{◌≡◌, ◌↔◌, ℕ, ℤ, ◌+◌, ◌^◌, ◌<◌, ◌≤◌, Option, Some, IsTrue, IfOk, IfErr, IfSome, MatchOption, length};
+ghost use Rattle.dexspec.specs.Numbers.{Uleb128At, Sleb128At};
+ghost use Rattle.dexpool.specs.Pools.{ArePools};
+ghost use Rattle.dexdebug.specs.declared.debug_operation.Operation.{Operation};
+ghost use Rattle.dexdebug.specs.declared.debug_reading.Counts.{Counts};
+ghost use Rattle.dexdebug.specs.DebugReading.{IsDebugAt, IsDebugFault, IndexAt, LocalAt, OperandsAt, NumberedDebugAt, EndNames, AreTallied, IsShape, HaveNames, AreTheNames, HaveOperations, AreTheOperations, IsShapeAt, counts_of, HasDebugOfShape};
+ghost use Rattle.dexdebug.specs.internal.DebugReading.{HasNoDebugIn, IsOnlyLocal, NoNames, NoNumberedDebug, NoProgram};
+
+use crate::debug::Debug;
+use crate::debug_opcodes::{
+    DBG_ADVANCE_LINE, DBG_ADVANCE_PC, DBG_END_LOCAL, DBG_END_SEQUENCE, DBG_RESTART_LOCAL,
+    DBG_SET_EPILOGUE_BEGIN, DBG_SET_FILE, DBG_SET_PROLOGUE_END, DBG_START_LOCAL,
+    DBG_START_LOCAL_EXTENDED,
+};
+use crate::debug_operation::Operation;
+use crate::operations::{Operations, entry_of, keep_named};
+use dexhead::{Condition, Frame};
+use dexleb::{read_p1, read_s, read_u};
+use dexpool::{ItemFault, Pools, SymbolKind};
+use std::alloc::{AllocError, Global};
+
+// How many texts and types there are.
+#[derive(Clone, Copy)]
+struct Counts {
+    texts: usize,
+    types: usize,
+}
+
+// How many operations there are, how much room those with places for numbers take, and what they weigh.
+#[derive(Clone, Copy)]
+struct Tally {
+    operations: usize,
+    named: usize,
+    weight: u64,
+}
+
+/// What there is in a debug_info_item.
+#[derive(Clone, Copy)]
+pub struct DebugShape {
+    // The line that it starts at.
+    line_start: u32,
+    // Where the names begin, and how many there are.
+    names_at: usize,
+    names: u32,
+    // Where the operations begin, and how many there are.
+    operations_at: usize,
+    tally: Tally,
+    /// What the debug program weighs.
+    pub weight: u64,
+}
+
+// The unsigned number at a place, and how many bytes it has.
+#[inline(always)]
+fn number_at(bytes: &[u8], at: usize) -> Option<(u32, usize)>
+    requires { at ≤ length bytes.now }
+    ensures found { IfSome result (λ read. Uleb128At bytes.now at read.0 read.1) }
+    ensures within { IfSome result (λ read. at + read.1 ≤ length bytes.now) }
+    ensures only { (v n : ℕ) → Uleb128At bytes.now at v n → result ≡ Some (v, n) }
+{
+    match read_u(bytes, at) {
+        Ok(read) => Some(read),
+        Err(_) => None,
+    }
+}
+
+// The signed number at a place, and how many bytes it has.
+#[inline(always)]
+fn lines_at(bytes: &[u8], at: usize) -> Option<(i32, usize)>
+    requires { at ≤ length bytes.now }
+    ensures found { IfSome result (λ read. Sleb128At bytes.now at read.0 read.1) }
+    ensures within { IfSome result (λ read. at + read.1 ≤ length bytes.now) }
+    ensures only { (v : ℤ) (n : ℕ) → Sleb128At bytes.now at v n → result ≡ Some (v, n) }
+{
+    match read_s(bytes, at) {
+        Ok(read) => Some(read),
+        Err(_) => None,
+    }
+}
+
+// Whether the number, if there is one, is below a count.
+#[inline(always)]
+fn is_below(number: Option<u32>, count: usize) -> bool
+    ensures { IsTrue result ↔ IfSome number (λ n. n < count) }
+{
+    match number {
+        Some(number) => (number as usize) < count,
+        None => true,
+    }
+}
+
+// The index below a count, or none, at a place, and how many bytes it has.
+#[inline(always)]
+fn index_at(bytes: &[u8], at: usize, count: usize) -> Option<(Option<u32>, usize)>
+    requires { at ≤ length bytes.now }
+    ensures found { IfSome result (λ read. IndexAt count bytes.now at read.0 read.1) }
+    ensures within { IfSome result (λ read. at + read.1 ≤ length bytes.now) }
+    ensures only { (i : Option ℕ) (n : ℕ) → IndexAt count bytes.now at i n → result ≡ Some (i, n) }
+{
+    match read_p1(bytes, at) {
+        Ok((number, len)) => {
+            if is_below(number, count) {
+                Some((number, len))
+            } else {
+                None
+            }
+        }
+        Err(_) => None,
+    }
+}
+
+// The description of a local variable at an offset: its register, the numbers of its name and its type, and how many
+// bytes they have.
+#[inline(always)]
+fn local_at(
+    bytes: &[u8],
+    at: usize,
+    counts: Counts,
+) -> Option<(u32, Option<u32>, Option<u32>, usize)>
+    requires { at ≤ length bytes.now }
+    ensures found { IfSome result (λ read.
+        LocalAt counts bytes.now at read.0 read.1 read.2 read.3) }
+    ensures within { IfSome result (λ read. at + read.3 ≤ length bytes.now) }
+    ensures only { IsOnlyLocal counts bytes.now at result }
+{
+    let (register_num, register_len) = number_at(bytes, at)?;
+    let (name_idx, name_len) = index_at(bytes, at + register_len, counts.texts)?;
+    let (type_idx, type_len) = index_at(bytes, at + register_len + name_len, counts.types)?;
+    Some((
+        register_num,
+        name_idx,
+        type_idx,
+        register_len + name_len + type_len,
+    ))
+}
+
+// The operation of an opcode, whose operands are at a place, and how many bytes they have.
+#[inline(always)]
+fn operation_at(bytes: &[u8], at: usize, opcode: u8, counts: Counts) -> Option<(Operation, usize)>
+    requires within { at ≤ length bytes.now }
+    requires some { 0 < opcode }
+    ensures found { IfSome result (λ read. OperandsAt counts opcode bytes.now at read.0 read.1) }
+    ensures within { IfSome result (λ read. at + read.1 ≤ length bytes.now) }
+    ensures only { (op : Operation) (n : ℕ) → OperandsAt counts opcode bytes.now at op n
+        → result ≡ Some (op, n) }
+{
+    match opcode {
+        DBG_ADVANCE_PC => {
+            let (addr_diff, len) = number_at(bytes, at)?;
+            Some((Operation::AdvancePc(addr_diff), len))
+        }
+        DBG_ADVANCE_LINE => {
+            let (line_diff, len) = lines_at(bytes, at)?;
+            Some((Operation::AdvanceLine(line_diff), len))
+        }
+        DBG_START_LOCAL => {
+            let (register_num, name_idx, type_idx, len) = local_at(bytes, at, counts)?;
+            let operation = Operation::StartLocal {
+                register_num,
+                name_idx,
+                type_idx,
+            };
+            Some((operation, len))
+        }
+        DBG_START_LOCAL_EXTENDED => {
+            let (register_num, name_idx, type_idx, local_len) = local_at(bytes, at, counts)?;
+            let (sig_idx, sig_len) = index_at(bytes, at + local_len, counts.texts)?;
+            let operation = Operation::StartLocalExtended {
+                register_num,
+                name_idx,
+                type_idx,
+                sig_idx,
+            };
+            Some((operation, local_len + sig_len))
+        }
+        DBG_END_LOCAL => {
+            let (register_num, len) = number_at(bytes, at)?;
+            Some((Operation::EndLocal(register_num), len))
+        }
+        DBG_RESTART_LOCAL => {
+            let (register_num, len) = number_at(bytes, at)?;
+            Some((Operation::RestartLocal(register_num), len))
+        }
+        DBG_SET_PROLOGUE_END => Some((Operation::SetPrologueEnd, 0)),
+        DBG_SET_EPILOGUE_BEGIN => Some((Operation::SetEpilogueBegin, 0)),
+        DBG_SET_FILE => {
+            let (name_idx, len) = index_at(bytes, at, counts.texts)?;
+            Some((Operation::SetFile(name_idx), len))
+        }
+        _ => Some((Operation::Special(opcode), 0)),
+    }
+}
+
+// The end of `count` names from an offset on, if they are there.
+fn names_end(bytes: &[u8], from: usize, count: u32, texts: usize) -> Option<usize>
+    requires { from ≤ length bytes.now }
+    ensures { MatchOption result (NoNames texts bytes.now from count)
+        (EndNames texts bytes.now from count) }
+{
+    let mut at = from;
+    for _ in 0..count {
+        let (_, len) = index_at(bytes, at, texts)?;
+        at += len;
+    }
+    Some(at)
+}
+
+// The number of operations from an offset on, up to the end, and their weight.
+fn check_operations(bytes: &[u8], from: usize, counts: Counts) -> Option<Tally>
+    requires within { from ≤ length bytes.now }
+    requires following { 0 < from }
+    requires small { length bytes.now ≤ 2 ^ 30 }
+    ensures { MatchOption result (NoProgram counts bytes.now from)
+        (AreTallied counts bytes.now from) }
+{
+    let mut operations = 0;
+    let mut named: usize = 0;
+    let mut weight = 0;
+    let mut at = from;
+    while at < bytes.len() {
+        let opcode = bytes[at];
+        if opcode == DBG_END_SEQUENCE {
+            return Some(Tally {
+                operations,
+                named,
+                weight,
+            });
+        }
+        let (operation, len) = operation_at(bytes, at + 1, opcode, counts)?;
+        operations += 1;
+        named = named.saturating_add(usize::from(operation.has_places()));
+        weight += 1 + 5 * operation.operands();
+        at += 1 + len;
+    }
+    None
+}
+
+// The shape of the debug_info_item at an offset, if one is there. Nothing is kept of it.
+fn check_numbered(bytes: &[u8], at: usize, counts: Counts) -> Option<DebugShape>
+    requires within { at ≤ length bytes.now }
+    requires small { length bytes.now ≤ 2 ^ 30 }
+    ensures { MatchOption result (NoNumberedDebug counts bytes.now at)
+        (IsShape counts bytes.now at) }
+{
+    let (line_start, start_len) = number_at(bytes, at)?;
+    let (names, count_len) = number_at(bytes, at + start_len)?;
+    let names_at = at + start_len + count_len;
+    let operations_at = names_end(bytes, names_at, names, counts.texts)?;
+    let tally = check_operations(bytes, operations_at, counts)?;
+    Some(DebugShape {
+        line_start,
+        names_at,
+        names,
+        operations_at,
+        tally,
+        weight: 11 + 5 * u64::from(names) + tally.weight,
+    })
+}
+
+// The names from an offset on.
+fn build_names(
+    alloc: Global,
+    bytes: &[u8],
+    from: usize,
+    count: u32,
+    texts: usize,
+) -> Result<Vec<Option<u32>>, AllocError>
+    requires within { from ≤ length bytes.now }
+    requires are_encoded { HaveNames texts bytes.now from count }
+    ensures { IfOk result (λ names. AreTheNames texts bytes.now from count names.items) }
+{
+    let mut names = Vec::with_capacity(alloc, count as usize)?;
+    let mut at = from;
+    for _ in 0..count {
+        let (name, len) = index_at(bytes, at, texts).unwrap();
+        names.push(name).unwrap();
+        at += len;
+    }
+    Ok(names)
+}
+
+// The operations from an offset on.
+fn build_operations(
+    alloc: Global,
+    bytes: &[u8],
+    from: usize,
+    tally: Tally,
+    counts: Counts,
+) -> Result<Operations, AllocError>
+    requires within { from ≤ length bytes.now }
+    requires few { tally.operations < 2 ^ 30 }
+    requires are_encoded { HaveOperations counts bytes.now from tally.operations }
+    ensures { IfOk result (λ ops. AreTheOperations counts bytes.now from tally.operations ops) }
+{
+    let mut entries = Vec::with_capacity(alloc, tally.operations)?;
+    let mut named = Vec::with_capacity(alloc, tally.named)?;
+    let mut at = from;
+    for _ in 0..tally.operations {
+        let (operation, len) = operation_at(bytes, at + 1, bytes[at], counts).unwrap();
+        entries.push(entry_of(operation, named.len())).unwrap();
+        keep_named(&mut named, operation)?;
+        at += 1 + len;
+    }
+    Ok(Operations { entries, named })
+}
+
+// The debug program at an offset, in exactly the memory that it takes.
+fn build_numbered(
+    alloc: Global,
+    bytes: &[u8],
+    at: usize,
+    counts: Counts,
+    shape: DebugShape,
+) -> Result<Debug, AllocError>
+    requires within { at ≤ length bytes.now }
+    requires small { length bytes.now ≤ 2 ^ 30 }
+    requires shape { IsShape counts bytes.now at shape }
+    ensures { IfOk result (NumberedDebugAt counts bytes.now at) }
+{
+    let parameter_names = build_names(alloc, bytes, shape.names_at, shape.names, counts.texts)?;
+    let operations = build_operations(alloc, bytes, shape.operations_at, shape.tally, counts)?;
+    Ok(Debug {
+        line_start: shape.line_start,
+        parameter_names,
+        operations,
+    })
+}
+
+// How many texts and types the pools have.
+fn counts_of(pools: &Pools<'_>) -> Counts
+    ensures { result ≡ counts_of pools.now }
+{
+    Counts {
+        texts: pools.len(SymbolKind::Text),
+        types: pools.len(SymbolKind::Typ),
+    }
+}
+
+// The shape of the debug_info_item at an offset, if one is there.
+fn shape_at(frame: &Frame<'_>, pools: &Pools<'_>, off: u32) -> Option<DebugShape>
+    ensures { MatchOption result (HasNoDebugIn frame.now off pools.now)
+        (IsShapeAt frame.now off pools.now) }
+{
+    let bytes = frame.bytes();
+    if off < frame.data_off() || bytes.len() < off as usize {
+        return None;
+    }
+    check_numbered(bytes, off as usize, counts_of(pools))
+}
+
+/// Checks the debug_info_item at an offset, whose indices count in the pools: those of the file. Nothing is kept of it.
+///
+/// Error: `Refused(20)` exactly where no debug_info_item is there: where it is not in the data, or is cut off before
+/// its end, where a number is not spelled as it has to be, or where an index is out of range of its pool.
+///
+/// Source: "debug_info_item".
+pub fn check_debug(frame: &Frame<'_>, pools: &Pools<'_>, off: u32) -> Result<DebugShape, ItemFault>
+    ensures shape { IfOk result (IsShapeAt frame.now off pools.now) }
+    ensures debug { ArePools frame.now pools.now
+        → IfOk result (HasDebugOfShape frame.now off pools.now) }
+    ensures refused { ArePools frame.now pools.now → IfErr result (IsDebugFault frame.now off) }
+{
+    match shape_at(frame, pools, off) {
+        Some(shape) => Ok(shape),
+        None => Err(ItemFault::Refused(Condition::Debug as u8)),
+    }
+}
+
+/// The debug program at an offset, in exactly the memory that it takes.
+///
+/// Condition: its shape is that which [`check_debug`] returned.
+///
+/// Source: "debug_info_item".
+pub fn build_debug(
+    alloc: Global,
+    frame: &Frame<'_>,
+    pools: &Pools<'_>,
+    off: u32,
+    shape: DebugShape,
+) -> Result<Debug, AllocError>
+    requires { IsShapeAt frame.now off pools.now shape }
+    ensures { ArePools frame.now pools.now → IfOk result (IsDebugAt frame.now off pools.now) }
+{
+    let counts = counts_of(pools);
+    build_numbered(alloc, frame.bytes(), off as usize, counts, shape)
+}
+
+/// Reads the debug_info_item at an offset, whose indices count in the pools: those of the file.
+///
+/// Error: as of [`check_debug`]; `Memory` where an allocation failed.
+///
+/// Source: "debug_info_item".
+pub fn read_debug(
+    alloc: Global,
+    frame: &Frame<'_>,
+    pools: &Pools<'_>,
+    off: u32,
+) -> Result<Debug, ItemFault>
+    ensures debug { ArePools frame.now pools.now → IfOk result (IsDebugAt frame.now off pools.now) }
+    ensures refused { ArePools frame.now pools.now → IfErr result (IsDebugFault frame.now off) }
+{
+    let shape = check_debug(frame, pools, off)?;
+    Ok(build_debug(alloc, frame, pools, off, shape)?)
+}

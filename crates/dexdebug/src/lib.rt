@@ -1,0 +1,34 @@
+//! Debug programs: read, written, compared, and under other numbers.
+//!
+//! Public contracts use the definitions of `specs/Checking`, `specs/Debug`, `specs/DebugEquality`, `specs/DebugReading`,
+//! `specs/Laws`, `specs/Meaning`, `specs/Operations` and `specs/Positions`.
+//!
+//! Source: the Android page "Dalvik Executable format", under the heading "debug_info_item".
+#![tactic(auto)]
+
+pub use checked_debugs::{CheckedDebugs, checked_debug_at};
+pub use debug::Debug;
+pub use debug_laws::{
+    debug_bytes_law, debug_equality_law, debug_renumber_law, debug_unindexed_law, debug_uses_law,
+    operation_equality_law,
+};
+pub use debug_operation::Operation;
+pub use debug_positions::positions;
+pub use debug_put::put_debug;
+pub use debug_reading::{DebugShape, build_debug, check_debug, read_debug};
+pub use meaning_laws::{debug_meaning_law, debug_remapped_law};
+pub use operations::OperationIter;
+
+mod checked_debugs;
+mod debug;
+mod debug_equality;
+mod debug_laws;
+mod debug_numbers;
+mod debug_opcodes;
+mod debug_operation;
+mod debug_positions;
+mod debug_put;
+mod debug_reading;
+mod debug_same;
+mod meaning_laws;
+mod operations;

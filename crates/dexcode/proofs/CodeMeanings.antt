@@ -12,11 +12,11 @@ use Rattle.dexspec.specs.Debug.{Debug}
 use Rattle.dexpool.specs.declared.symbols.SymbolKind.TheVariants as kinds
 use Rattle.dexpool.specs.declared.marks.Marks.{Marks}
 use Rattle.dexpool.specs.Numberings.{IsAt, AreRising, AreMarksOf, Maps, image_of, AllMapTo}
-use Rattle.dexpool.specs.Uses.{HasMark, IsUseOf}
+use Rattle.dexpool.specs.Uses.{HasMark, IsUseOf, IsMappedUse}
 use Rattle.dexinsn.specs.Numbered.{uses_of}
 use Rattle.dexinsn.proofs.Meanings as pieces
 use Rattle.dexcode.specs.declared.handlers.Catch.{Catch}
-use Rattle.dexdebug.specs.Debug.{NumberedDebug, DenotesDebug, HasImage, HasPlace, renumbered_debug, debug_uses}
+use Rattle.dexdebug.specs.Debug.{NumberedDebug, DenotesDebug, HasPlace, renumbered_debug, debug_uses}
 use Rattle.dexcode.specs.Equality.{handler_decides}
 use Rattle.dexcode.specs.Numbered.{NumberedHandler, NumberedTry, NumberedItem, DenotesCatch, DenotesTry, DenotesCode, same_handler, handlers_of, catch_meant, handler_meant, try_meant}
 use Rattle.dexcode.specs.Renumbering.{catch_use, handler_uses, tries_uses, item_uses, HasTypePlace, HasPlaces, HasImages, renumbered_catch, renumbered_try, renumbered_item}
@@ -32,20 +32,20 @@ use Rattle.dexcode.proofs.TypesRemapped.{all_from_distinct}
 
 -- each caught type has an image
 abbrev HaveTypeImages : Maps → NumberedHandler → Type 0
-HaveTypeImages r h = All (HasImage r) (handler_uses h)
+HaveTypeImages r h = All (IsMappedUse r) (handler_uses h)
 
 module _ (m n : Mentions) (r : Maps) (l : AllMapTo m n r) where
   type_by : (i : ℕ) (o : Option ℕ) (t : Text) → image_of r kinds.Typ i ≡ o → IsSome o → IsAt m.types i t → IsAt n.types (unwrap_or o i) t
   type_by i None t e some h = absurd cc
   type_by i (Some j) t e some h = mapped_at m.types n.types r.types i j [] t l.types_mapped h e
 
-  catches_remapped : (cs : List Catch) (xs : List symbolic.Catch) → All (HasImage r) (map catch_use cs) → AllZip (DenotesCatch m) cs xs → AllZip (DenotesCatch n) (map (renumbered_catch r) cs) xs
+  catches_remapped : (cs : List Catch) (xs : List symbolic.Catch) → All (IsMappedUse r) (map catch_use cs) → AllZip (DenotesCatch m) cs xs → AllZip (DenotesCatch n) (map (renumbered_catch r) cs) xs
   catches_remapped [] [] all h = tt
   catches_remapped [] (x ∷ xs) all h = absurd h
   catches_remapped (c ∷ cs) [] all h = absurd h
   catches_remapped (c ∷ cs) (x ∷ xs) all h = (
-    record { type_is = type_by c.typ (image_of r kinds.Typ c.typ) x.type refl (All-head (HasImage r) (catch_use c) (map catch_use cs) all) h.0.type_is; address_is = h.0.address_is },
-    catches_remapped cs xs (All-tail (HasImage r) (catch_use c) (map catch_use cs) all) h.1,
+    record { type_is = type_by c.typ (image_of r kinds.Typ c.typ) x.type refl (All-head (IsMappedUse r) (catch_use c) (map catch_use cs) all) h.0.type_is; address_is = h.0.address_is },
+    catches_remapped cs xs (All-tail (IsMappedUse r) (catch_use c) (map catch_use cs) all) h.1,
   )
 
   tries_remapped : (ts : List NumberedTry) (xs : List symbolic.Try) → All (HaveTypeImages r) (map (λ t. t.handler) ts) → AllZip (DenotesTry m) ts xs → AllZip (DenotesTry n) (map (renumbered_try r) ts) xs
@@ -63,11 +63,11 @@ module _ (m n : Mentions) (r : Maps) (l : AllMapTo m n r) where
         tries_remapped ts xs (All-tail (HaveTypeImages r) t.handler handlers all) h.1,
       )
 
-  debug_remapped : (o : Option NumberedDebug) (x : Option Debug) → All (HasImage r) (optional_debug_uses o) → BothOrNone (DenotesDebug m) o x → BothOrNone (DenotesDebug n) (option_map (renumbered_debug r) o) x
+  debug_remapped : (o : Option NumberedDebug) (x : Option Debug) → All (IsMappedUse r) (optional_debug_uses o) → BothOrNone (DenotesDebug m) o x → BothOrNone (DenotesDebug n) (option_map (renumbered_debug r) o) x
   debug_remapped None None all h = tt
   debug_remapped None (Some x) all h = absurd h
   debug_remapped (Some d) None all h = absurd h
-  debug_remapped (Some d) (Some x) all h = debugs.renumbered_denotes m n r d x l (debug_part (HasImage r) (Some d) d all refl) h
+  debug_remapped (Some d) (Some x) all h = debugs.renumbered_denotes m n r d x l (debug_part (IsMappedUse r) (Some d) d all refl) h
 
 -- if each number has an image from one numbering to another, the code denotes what it denoted before
 pub renumbered_denotes : (m n : Mentions) (r : Maps) (c : NumberedItem) (x : symbolic.Code) → AllMapTo m n r → HasImages r c → DenotesCode m c x → DenotesCode n (renumbered_item r c) x
@@ -78,7 +78,7 @@ renumbered_denotes m n r c x l all h =
       ins_are = h.ins_are;
       outs_are = h.outs_are;
       pieces_are = pieces.renumbered_denote m n r c.body.pieces x.pieces l all.pieces_have h.pieces_are;
-      tries_are = tries_remapped m n r l c.tries x.tries (all_from_distinct same_handler handler_decides (HaveTypeImages r) handlers (all_parts (HasImage r) handler_uses (distinct same_handler handlers) all.catches_have)) h.tries_are;
+      tries_are = tries_remapped m n r l c.tries x.tries (all_from_distinct same_handler handler_decides (HaveTypeImages r) handlers (all_parts (IsMappedUse r) handler_uses (distinct same_handler handlers) all.catches_have)) h.tries_are;
       debug_is = debug_remapped m n r l c.debug x.debug all.debug_has h.debug_is;
     }
 
@@ -86,8 +86,8 @@ renumbered_denotes m n r c x l all h =
 pub images_of_places : (r : Maps) (c : NumberedItem) → HasPlaces r c → HasImages r c
 images_of_places r c h = record {
   pieces_have = pieces.images_of_places r c.body.pieces h.pieces_have;
-  catches_have = all_of (HasTypePlace r) (HasImage r) (tries_uses c.tries) (λ u place. subst IsSome (sym place.1) refl) h.catches_have;
-  debug_has = all_of (HasPlace r) (HasImage r) (optional_debug_uses c.debug) (λ u place. subst IsSome (sym place.1) refl) h.debug_has;
+  catches_have = all_of (HasTypePlace r) (IsMappedUse r) (tries_uses c.tries) (λ u place. subst IsSome (sym place.1) refl) h.catches_have;
+  debug_has = all_of (HasPlace r) (IsMappedUse r) (optional_debug_uses c.debug) (λ u place. subst IsSome (sym place.1) refl) h.debug_has;
 }
 
 -- ---- the symbols that occur

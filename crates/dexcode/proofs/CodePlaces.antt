@@ -11,7 +11,7 @@ use Rattle.dexpool.specs.declared.symbols.SymbolKind.TheVariants as kinds
 use Rattle.dexpool.specs.Pools.{count_of}
 use Rattle.dexpool.specs.Laws.{MapsAll}
 use Rattle.dexpool.specs.Numberings.{IsNumbered, IsOfKind, Maps, image_of, AllMapTo}
-use Rattle.dexpool.specs.Uses.{Use, IsUseOf}
+use Rattle.dexpool.specs.Uses.{Use, IsUseOf, IsMappedUse}
 use Rattle.dexinsn.specs.Numbered.{uses_of}
 use Rattle.dexinsn.specs.Numbered as pieces
 use Rattle.dexinsn.proofs.Fits as insn_proofs
@@ -21,7 +21,7 @@ use Rattle.dexpool.specs.Orderly.{KeepOrder, MapsDown}
 use Rattle.dexcode.specs.declared.handlers.Catch.{Catch}
 use Rattle.dexcode.specs.declared.tries.Try.{Try}
 use Rattle.dexdebug.specs.declared.debug_operation.Operation.{Operation}
-use Rattle.dexdebug.specs.Debug.{NumberedDebug, FitsIndex, IsFormedOperation, IsFormedDebug, HasImage, HasPlace, number_uses, operation_uses, debug_uses, name_of, type_of, signature_of}
+use Rattle.dexdebug.specs.Debug.{NumberedDebug, FitsIndex, IsFormedOperation, IsFormedDebug, HasPlace, number_uses, operation_uses, debug_uses, name_of, type_of, signature_of}
 use Rattle.dexcode.specs.Numbered.{NumberedHandler, NumberedItem, DenotesCode, IsFormedHandler, AreStored, all_named, handlers_of}
 use Rattle.dexcode.specs.Renumbering.{catch_use, handler_uses, tries_uses, item_uses, HasTypePlace, HasPlaces, HasImages, NumbersFit}
 use Rattle.dexcode.proofs.CodeMeanings.{handlers_in, debug_used}
@@ -30,11 +30,11 @@ use Rattle.dexpool.proofs.Parts.{all_of, all_prefix, all_map}
 use Rattle.dexcode.proofs.TryRows.{IsInRange}
 
 -- the numbers of the code have images if its symbols have
-pub images_of_uses : (r : Maps) (c : NumberedItem) → All (HasImage r) (item_uses c) → HasImages r c
+pub images_of_uses : (r : Maps) (c : NumberedItem) → All (IsMappedUse r) (item_uses c) → HasImages r c
 images_of_uses r c all = record {
-  pieces_have = insn_proofs.images_of_uses r c.body.pieces (pieces_part (HasImage r) c all);
-  catches_have = tries_part (HasImage r) c all;
-  debug_has = debugs_part (HasImage r) c all;
+  pieces_have = insn_proofs.images_of_uses r c.body.pieces (pieces_part (IsMappedUse r) c all);
+  catches_have = tries_part (IsMappedUse r) c all;
+  debug_has = debugs_part (IsMappedUse r) c all;
 }
 
 -- ---- all numbers have images
@@ -48,18 +48,18 @@ module _ (m : Mentions) (r : Maps) (maps_to : MapsAll m r) where
   image_by kinds.Method i (MethodSymbol s) h kind = maps_to kinds.Method i h.within
   image_by k i s h kind = absurd kind
 
-  uses_mapped : (us : List Use) (ss : List Symbol) → AllZip (IsUseOf m) us ss → All (HasImage r) us
-  uses_mapped [] ss h = All-nil (HasImage r)
+  uses_mapped : (us : List Use) (ss : List Symbol) → AllZip (IsUseOf m) us ss → All (IsMappedUse r) us
+  uses_mapped [] ss h = All-nil (IsMappedUse r)
   uses_mapped (u ∷ us) [] h = absurd h
-  uses_mapped (u ∷ us) (s ∷ ss) h = All-cons (HasImage r) u us (image_by u.kind u.number s h.0.0 h.0.1) (uses_mapped us ss h.1)
+  uses_mapped (u ∷ us) (s ∷ ss) h = All-cons (IsMappedUse r) u us (image_by u.kind u.number s h.0.0 h.0.1) (uses_mapped us ss h.1)
 
-  catches_mapped : (cs : List Catch) (us : List Use) → All (λ c. c.typ < length m.types) cs → All (HasImage r) us → All (HasImage r) (map catch_use cs ++ us)
+  catches_mapped : (cs : List Catch) (us : List Use) → All (λ c. c.typ < length m.types) cs → All (IsMappedUse r) us → All (IsMappedUse r) (map catch_use cs ++ us)
   catches_mapped [] us all more = more
   catches_mapped (c ∷ cs) us all more =
-      All-cons (HasImage r) (catch_use c) (map catch_use cs ++ us) (maps_to kinds.Typ c.typ (All-head (λ (c : Catch). c.typ < length m.types) c cs all)) (catches_mapped cs us (All-tail (λ (c : Catch). c.typ < length m.types) c cs all) more)
+      All-cons (IsMappedUse r) (catch_use c) (map catch_use cs ++ us) (maps_to kinds.Typ c.typ (All-head (λ (c : Catch). c.typ < length m.types) c cs all)) (catches_mapped cs us (All-tail (λ (c : Catch). c.typ < length m.types) c cs all) more)
 
-  handlers_mapped : (hs : List NumberedHandler) → All (IsInRange m) hs → All (HasImage r) (flat_map handler_uses hs)
-  handlers_mapped [] all = All-nil (HasImage r)
+  handlers_mapped : (hs : List NumberedHandler) → All (IsInRange m) hs → All (IsMappedUse r) (flat_map handler_uses hs)
+  handlers_mapped [] all = All-nil (IsMappedUse r)
   handlers_mapped (h ∷ hs) all = catches_mapped h.catches (flat_map handler_uses hs) (All-head (IsInRange m) h hs all) (handlers_mapped hs (All-tail (IsInRange m) h hs all))
 
 pub images_there : (m : Mentions) (r : Maps) (c : NumberedItem) (x : symbolic.Code) → MapsAll m r → DenotesCode m c x → HasImages r c
@@ -83,23 +83,23 @@ place_by m n r k i None l e some = absurd cc
 place_by m n r k i (Some j) l e some = (j, e, image_within m n r k i j l e)
 
 module _ (m n : Mentions) (r : Maps) (l : AllMapTo m n r) (few : (kind : SymbolKind) → count_of kind n < 2 ^ 32) where
-  type_place : (u : Use) → HasImage r u → HasTypePlace r u
+  type_place : (u : Use) → IsMappedUse r u → HasTypePlace r u
   type_place u some = let at = place_by m n r u.kind u.number (image_of r u.kind u.number) l refl some in (at.0, at.1, omega (arith, at.2, few u.kind))
 
-  debug_place : (u : Use) → HasImage r u → HasPlace r u
+  debug_place : (u : Use) → IsMappedUse r u → HasPlace r u
   debug_place u some = let at = place_by m n r u.kind u.number (image_of r u.kind u.number) l refl some in (at.0, at.1, omega (arith, at.2, few u.kind))
 
 pub places_there : (m n : Mentions) (r : Maps) (c : NumberedItem) → AllMapTo m n r → ((kind : SymbolKind) → count_of kind n < 2 ^ 32) → All (pieces.HasPlace r) c.body.pieces → HasImages r c → HasPlaces r c
 places_there m n r c l few fits images = record {
   pieces_have = fits;
-  catches_have = all_of (HasImage r) (HasTypePlace r) (tries_uses c.tries) (type_place m n r l few) images.catches_have;
-  debug_has = all_of (HasImage r) (HasPlace r) (optional_debug_uses c.debug) (debug_place m n r l few) images.debug_has;
+  catches_have = all_of (IsMappedUse r) (HasTypePlace r) (tries_uses c.tries) (type_place m n r l few) images.catches_have;
+  debug_has = all_of (IsMappedUse r) (HasPlace r) (optional_debug_uses c.debug) (debug_place m n r l few) images.debug_has;
 }
 
-pub uses_of_images : (r : Maps) (c : NumberedItem) → HasImages r c → All (HasImage r) (item_uses c)
+pub uses_of_images : (r : Maps) (c : NumberedItem) → HasImages r c → All (IsMappedUse r) (item_uses c)
 uses_of_images r c h =
-    All-append (HasImage r) (uses_of c.body.pieces) (tries_uses c.tries ++ optional_debug_uses c.debug) (insn_proofs.uses_of_images r c.body.pieces h.pieces_have)
-    (All-append (HasImage r) (tries_uses c.tries) (optional_debug_uses c.debug) h.catches_have h.debug_has)
+    All-append (IsMappedUse r) (uses_of c.body.pieces) (tries_uses c.tries ++ optional_debug_uses c.debug) (insn_proofs.uses_of_images r c.body.pieces h.pieces_have)
+    (All-append (IsMappedUse r) (tries_uses c.tries) (optional_debug_uses c.debug) h.catches_have h.debug_has)
 
 -- ---- numbers that fit, and have no greater images
 
@@ -136,24 +136,24 @@ all_both : (P Q R : Use → Type 0) (us : List Use) → ((u : Use) → P u → Q
 all_both P Q R [] step p q = All-nil R
 all_both P Q R (u ∷ us) step p q = All-cons R u us (step u (All-head P u us p) (All-head Q u us q)) (all_both P Q R us step (All-tail P u us p) (All-tail Q u us q))
 
-pub debug_cut : (r : Maps) (d : NumberedDebug) → MapsDown r → IsFormedDebug d → All (HasImage r) (debug_uses d) → All (HasPlace r) (debug_uses d)
+pub debug_cut : (r : Maps) (d : NumberedDebug) → MapsDown r → IsFormedDebug d → All (IsMappedUse r) (debug_uses d) → All (HasPlace r) (debug_uses d)
 debug_cut r d down formed images =
-    all_both IsSmall (HasImage r) (HasPlace r) (debug_uses d) (λ u small some. let at = image_there r u (image_of r u.kind u.number) refl some in (at.0, at.1, omega (arith, small, down u.kind u.number at.0 at.1))) (small_uses d formed) images
+    all_both IsSmall (IsMappedUse r) (HasPlace r) (debug_uses d) (λ u small some. let at = image_there r u (image_of r u.kind u.number) refl some in (at.0, at.1, omega (arith, small, down u.kind u.number at.0 at.1))) (small_uses d formed) images
 
-types_cut : (r : Maps) (us : List Use) → MapsDown r → All (λ u. u.number < 2 ^ 32) us → All (HasImage r) us → All (HasTypePlace r) us
+types_cut : (r : Maps) (us : List Use) → MapsDown r → All (λ u. u.number < 2 ^ 32) us → All (IsMappedUse r) us → All (HasTypePlace r) us
 types_cut r us down fit images =
-    all_both (λ u. u.number < 2 ^ 32) (HasImage r) (HasTypePlace r) us (λ u small some. let at = image_there r u (image_of r u.kind u.number) refl some in (at.0, at.1, omega (arith, small, down u.kind u.number at.0 at.1))) fit images
+    all_both (λ u. u.number < 2 ^ 32) (IsMappedUse r) (HasTypePlace r) us (λ u small some. let at = image_there r u (image_of r u.kind u.number) refl some in (at.0, at.1, omega (arith, small, down u.kind u.number at.0 at.1))) fit images
 
-optional_cut : (r : Maps) (o : Option NumberedDebug) → MapsDown r → IfSome o IsFormedDebug → All (HasImage r) (optional_debug_uses o) → All (HasPlace r) (optional_debug_uses o)
+optional_cut : (r : Maps) (o : Option NumberedDebug) → MapsDown r → IfSome o IsFormedDebug → All (IsMappedUse r) (optional_debug_uses o) → All (HasPlace r) (optional_debug_uses o)
 optional_cut r None down formed images = All-nil (HasPlace r)
 optional_cut r (Some d) down formed images =
-    All-append (HasPlace r) (debug_uses d) [] (debug_cut r d down formed (all_prefix (HasImage r) (debug_uses d) [] images)) (All-nil (HasPlace r))
+    All-append (HasPlace r) (debug_uses d) [] (debug_cut r d down formed (all_prefix (IsMappedUse r) (debug_uses d) [] images)) (All-nil (HasPlace r))
 
-pub code_cut : (r : Maps) (c : NumberedItem) → MapsDown r → NumbersFit c → All (HasImage r) (item_uses c) → HasPlaces r c
+pub code_cut : (r : Maps) (c : NumberedItem) → MapsDown r → NumbersFit c → All (IsMappedUse r) (item_uses c) → HasPlaces r c
 code_cut r c down fit all = record {
-  pieces_have = insn_proofs.places_after_cut r c.body.pieces down fit.pieces_fit (pieces_part (HasImage r) c all);
-  catches_have = types_cut r (tries_uses c.tries) down fit.types_fit (tries_part (HasImage r) c all);
-  debug_has = optional_cut r c.debug down fit.debug_fits (debugs_part (HasImage r) c all);
+  pieces_have = insn_proofs.places_after_cut r c.body.pieces down fit.pieces_fit (pieces_part (IsMappedUse r) c all);
+  catches_have = types_cut r (tries_uses c.tries) down fit.types_fit (tries_part (IsMappedUse r) c all);
+  debug_has = optional_cut r c.debug down fit.debug_fits (debugs_part (IsMappedUse r) c all);
 }
 
 -- ---- numbers with small images
@@ -165,17 +165,17 @@ image_small r kinds.Proto i j fit e = omega (arith, fit.protos_fit i j e)
 image_small r kinds.Field i j fit e = omega (arith, fit.fields_fit i j e)
 image_small r kinds.Method i j fit e = omega (arith, fit.methods_fit i j e)
 
-pub uses_joined : (r : Maps) (us : List Use) → ImagesFit r → All (HasImage r) us → All (HasPlace r) us
-uses_joined r us fit images = all_of (HasImage r) (HasPlace r) us (λ u some. let at = image_there r u (image_of r u.kind u.number) refl some in (at.0, at.1, image_small r u.kind u.number at.0 fit at.1)) images
+pub uses_joined : (r : Maps) (us : List Use) → ImagesFit r → All (IsMappedUse r) us → All (HasPlace r) us
+uses_joined r us fit images = all_of (IsMappedUse r) (HasPlace r) us (λ u some. let at = image_there r u (image_of r u.kind u.number) refl some in (at.0, at.1, image_small r u.kind u.number at.0 fit at.1)) images
 
-types_joined : (r : Maps) (us : List Use) → ImagesFit r → All (HasImage r) us → All (HasTypePlace r) us
+types_joined : (r : Maps) (us : List Use) → ImagesFit r → All (IsMappedUse r) us → All (HasTypePlace r) us
 types_joined r us fit images = all_of (HasPlace r) (HasTypePlace r) us (λ u place. (place.0, place.1, omega (arith, place.2))) (uses_joined r us fit images)
 
-pub code_joined : (r : Maps) (c : NumberedItem) (greatest : Option ℕ) → KeepOrder r → ImagesFit r → IsGreatest (short_strings c.body.pieces) greatest → MapsShort r greatest → All (HasImage r) (item_uses c) → HasPlaces r c
+pub code_joined : (r : Maps) (c : NumberedItem) (greatest : Option ℕ) → KeepOrder r → ImagesFit r → IsGreatest (short_strings c.body.pieces) greatest → MapsShort r greatest → All (IsMappedUse r) (item_uses c) → HasPlaces r c
 code_joined r c greatest order fit is short all = record {
-  pieces_have = insn_proofs.places_after_join r c.body.pieces greatest order fit is short (pieces_part (HasImage r) c all);
-  catches_have = types_joined r (tries_uses c.tries) fit (tries_part (HasImage r) c all);
-  debug_has = uses_joined r (optional_debug_uses c.debug) fit (debugs_part (HasImage r) c all);
+  pieces_have = insn_proofs.places_after_join r c.body.pieces greatest order fit is short (pieces_part (IsMappedUse r) c all);
+  catches_have = types_joined r (tries_uses c.tries) fit (tries_part (IsMappedUse r) c all);
+  debug_has = uses_joined r (optional_debug_uses c.debug) fit (debugs_part (IsMappedUse r) c all);
 }
 
 -- ---- numbers as they are stored

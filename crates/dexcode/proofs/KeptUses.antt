@@ -1,11 +1,11 @@
 -- Symbols that are marked are kept, and their numbers have images.
-use Rattle.std.proofs.Common.{◌≡◌, ℕ, ◌<◌, ◌==◌, Bool, true, false, ◌||◌, ◌&&◌, List, [], ◌∷◌, ◌++◌, length, map, get_or, Option, Some, None, refl, ◌∙◌, arith}
+use Rattle.std.proofs.Common.{◌≡◌, ℕ, ◌<◌, Bool, List, [], ◌∷◌, ◌++◌, length, map, get_or, Option, Some, None, refl, arith}
 use Rattle.std.specs.List.{All, Contains, flat_map}
 use Rattle.std.specs.Option.{IsSome}
-use Rattle.std.specs.Cmp.{IsTotalOrder, unsigned_Decides}
+use Rattle.std.specs.Cmp.{IsTotalOrder}
 use Rattle.std.specs.FinMap.{IsAntisymmetric}
 use Rattle.std.specs.declared.cmp.Ordering.{Ordering}
-use Rattle.std.proofs.lemmas.List.Elements.{Contains-append_left, Contains-append_right, All-nil, All-cons, All-head, All-tail}
+use Rattle.std.proofs.lemmas.List.Elements.{Contains-append_left, Contains-append_right}
 use Rattle.dexspec.specs.Lists.{in_order}
 use Rattle.dexspec.specs.Texts.{text_cmp}
 use Rattle.dexspec.specs.Symbols.{Symbol, TextSymbol, TypeSymbol, ProtoSymbol, FieldSymbol, MethodSymbol, proto_cmp, field_cmp, method_cmp}
@@ -21,50 +21,8 @@ use Rattle.dexpool.specs.declared.marks.Marks.{Marks}
 use Rattle.dexpool.specs.internal.Closing.{IsMarked}
 use Rattle.dexpool.specs.Numberings.{Maps, image, image_of, MapsTo, AllMapTo, AreMarksOf, marked}
 use Rattle.dexpool.proofs.KeptRows.{mark_within, kept_has}
-use Rattle.dexpool.specs.Uses.{Use, AreMarkedToo, marks_of, same_kind, occurs}
-use Rattle.dexdebug.specs.Debug.{HasImage}
-use Rattle.dexcode.specs.Renumbering.{IsMarkedUse}
-
--- ---- what occurs is marked
-
-kind_same : (k : SymbolKind) → same_kind k k ≡ true
-kind_same kinds.Text = refl
-kind_same kinds.Typ = refl
-kind_same kinds.Proto = refl
-kind_same kinds.Field = refl
-kind_same kinds.Method = refl
-
-or_second : (a b : Bool) → b ≡ true → (a || b) ≡ true
-or_second true b e = refl
-or_second false b e = e
-
-or_first : (a b : Bool) → a ≡ true → (a || b) ≡ true
-or_first true b e = refl
-or_first false b e = absurd cc
-
-and_one : (a b : Bool) → a ≡ true → b ≡ true → (a && b) ≡ true
-and_one true b e f = f
-and_one false b e f = absurd cc
-
-itself : (u : Use) → (same_kind u.kind u.kind && u.number == u.number) ≡ true
-itself u = and_one (same_kind u.kind u.kind) (u.number == u.number) (kind_same u.kind) ((unsigned_Decides u.number u.number).1 refl)
-
--- what occurs in a list that is part of another occurs there
-module _ (whole : List Use) (old new : Marks) (h : AreMarkedToo whole old new) where
-  marked_one : (u : Use) → occurs whole u.kind u.number ≡ true → IsMarkedUse new u
-  marked_one u e = h.each u.kind u.number ∙ or_second (get_or (marks_of u.kind old) u.number false) (occurs whole u.kind u.number) e
-
-  marked_all : (us : List Use) → ((k : SymbolKind) (i : ℕ) → occurs us k i ≡ true → occurs whole k i ≡ true) → All (IsMarkedUse new) us
-  marked_all [] among = All-nil (IsMarkedUse new)
-  marked_all (u ∷ us) among =
-      All-cons (IsMarkedUse new) u us (marked_one u (among u.kind u.number (or_first (same_kind u.kind u.kind && u.number == u.number) (occurs us u.kind u.number) (itself u))))
-      (marked_all us (λ k i e. among k i (or_second (same_kind u.kind k && u.number == i) (occurs us k i) e)))
-
--- what occurs is marked from then on
-pub marked_then : (us : List Use) (old new : Marks) → AreMarkedToo us old new → All (IsMarkedUse new) us
-marked_then us old new h = marked_all us old new h us (λ k i e. e)
-
--- ---- what is marked has an image
+use Rattle.dexpool.proofs.KeptNumbers.{marked_remapped}
+use Rattle.dexpool.specs.Uses.{Use, marks_of, IsMappedUse, IsMarkedUse}
 
 some_or : (o : Option ℕ) → (o ≡ None → ⊥) → IsSome o
 some_or None h = absurd (h refl)
@@ -117,6 +75,5 @@ module _ (m : Mentions) (marks : Marks) (r : Maps) (are : AreMarksOf m marks) (l
       maps_kept method_cmp method_total method_exact methods_in MethodSymbol (λ s. Contains-first s []) marks.methods.items m.methods (marked m marks) r.methods i are.methods_count mark
       (λ s c. Contains-append_right texts (types ++ (protos ++ (fields ++ methods))) s (Contains-append_right types (protos ++ (fields ++ methods)) s (Contains-append_right protos (fields ++ methods) s (Contains-append_right fields methods s c)))) l.methods_mapped
 
-  pub uses_kept : (us : List Use) → All (IsMarkedUse marks) us → All (HasImage r) us
-  uses_kept [] all = All-nil (HasImage r)
-  uses_kept (u ∷ us) all = All-cons (HasImage r) u us (image_kept u.kind u.number (All-head (IsMarkedUse marks) u us all)) (uses_kept us (All-tail (IsMarkedUse marks) u us all))
+  pub uses_kept : (us : List Use) → All (IsMarkedUse marks) us → All (IsMappedUse r) us
+  uses_kept = marked_remapped marks r image_kept

@@ -11,14 +11,14 @@ use Rattle.dexpool.specs.Orderly.{KeepOrder, MapsDown}
 use Rattle.dexpool.specs.Pools.{count_of}
 use Rattle.dexpool.specs.declared.symbols.SymbolKind.{SymbolKind}
 use Rattle.dexpool.specs.declared.marks.Marks.{Marks}
-use Rattle.dexpool.specs.Uses.{Use, HasMark, IsUseOf}
+use Rattle.dexpool.specs.Uses.{Use, HasMark, IsUseOf, IsMappedUse, IsMarkedUse}
 use Rattle.dexinsn.specs.Fitting.{ImagesFit, IsGreatest, MapsShort, short_strings}
 use Rattle.dexinsn.specs.Numbered as pieces
 use Rattle.dexcode.specs.CodePut.{HasShortTypes, numbered_code_bytes, numbered_code_weight}
-use Rattle.dexdebug.specs.Debug.{NumberedDebug, IsFormedDebug, HasImage, HasPlace, debug_uses}
+use Rattle.dexdebug.specs.Debug.{NumberedDebug, IsFormedDebug, HasPlace, debug_uses}
 use Rattle.dexcode.specs.Meaning.{code_in, IsKnownCode}
 use Rattle.dexcode.specs.Numbered.{NumberedItem, DenotesCode, handlers_of}
-use Rattle.dexcode.specs.Renumbering.{item_uses, IsMarkedUse, HasPlaces, HasImages, NumbersFit, renumbered_item}
+use Rattle.dexcode.specs.Renumbering.{item_uses, HasPlaces, HasImages, NumbersFit, renumbered_item}
 
 -- ---- the bytes of code
 
@@ -54,15 +54,15 @@ CodeHasPlaces = (m n : Mentions) (r : Maps) (c : NumberedItem) → AllMapTo m n 
 
 -- where the symbols that are marked, and those that they name, are kept, each that is marked has an image
 abbrev pub MarkedUsesHaveImages : Type 0
-MarkedUsesHaveImages = (m : Mentions) (marks : Marks) (r : Maps) (us : List Use) → AreMarksOf m marks → AllMapTo m (closed (marked m marks)) r → All (IsMarkedUse marks) us → All (HasImage r) us
+MarkedUsesHaveImages = (m : Mentions) (marks : Marks) (r : Maps) (us : List Use) → AreMarksOf m marks → AllMapTo m (closed (marked m marks)) r → All (IsMarkedUse marks) us → All (IsMappedUse r) us
 
 -- numbers in code that fit, and that map to none that is greater, have images that fit
 abbrev pub CodeFitsMappedDown : Type 0
-CodeFitsMappedDown = (r : Maps) (c : NumberedItem) → MapsDown r → NumbersFit c → All (HasImage r) (item_uses c) → HasPlaces r c
+CodeFitsMappedDown = (r : Maps) (c : NumberedItem) → MapsDown r → NumbersFit c → All (IsMappedUse r) (item_uses c) → HasPlaces r c
 
 -- where the greatest number of a short string has an image that fits, and images elsewhere fit, all images in code fit
 abbrev pub CodeFitsWhereGreatestDoes : Type 0
-CodeFitsWhereGreatestDoes = (r : Maps) (c : NumberedItem) (greatest : Option ℕ) → KeepOrder r → ImagesFit r → IsGreatest (short_strings c.body.pieces) greatest → MapsShort r greatest → All (HasImage r) (item_uses c) → HasPlaces r c
+CodeFitsWhereGreatestDoes = (r : Maps) (c : NumberedItem) (greatest : Option ℕ) → KeepOrder r → ImagesFit r → IsGreatest (short_strings c.body.pieces) greatest → MapsShort r greatest → All (IsMappedUse r) (item_uses c) → HasPlaces r c
 
 -- where symbols rise, those that occur in code are those of the code that it denotes, one for one
 abbrev pub CodeUsesAreDenoted : Type 0
@@ -76,11 +76,11 @@ CodeUsesHaveMarks = (m : Mentions) (marks : Marks) (c : NumberedItem) (x : codes
 
 -- numbers in a debug program that fit, and that map to none that is greater, have images that fit
 abbrev pub DebugFitsMappedDown : Type 0
-DebugFitsMappedDown = (r : Maps) (d : NumberedDebug) → MapsDown r → IsFormedDebug d → All (HasImage r) (debug_uses d) → All (HasPlace r) (debug_uses d)
+DebugFitsMappedDown = (r : Maps) (d : NumberedDebug) → MapsDown r → IsFormedDebug d → All (IsMappedUse r) (debug_uses d) → All (HasPlace r) (debug_uses d)
 
 -- where images fit, those of numbers in a debug program do
 abbrev pub DebugFitsWhereImagesDo : Type 0
-DebugFitsWhereImagesDo = (r : Maps) (d : NumberedDebug) → ImagesFit r → All (HasImage r) (debug_uses d) → All (HasPlace r) (debug_uses d)
+DebugFitsWhereImagesDo = (r : Maps) (d : NumberedDebug) → ImagesFit r → All (IsMappedUse r) (debug_uses d) → All (HasPlace r) (debug_uses d)
 
 -- ---- what they mean
 

@@ -1,14 +1,13 @@
 -- Code items whose symbols are numbers: the symbols that occur, and what becomes of their numbers.
-use Rattle.std.specs.Prelude.{◌≡◌, ℕ, ◌^◌, ◌<◌, true, false, List, ◌++◌, map, All, slice_index_or, Some, IfSome, option_to_list}
+use Rattle.std.specs.Prelude.{◌≡◌, ℕ, ◌^◌, ◌<◌, List, ◌++◌, map, All, Some, IfSome, option_to_list}
 use Rattle.std.specs.List.{flat_map}
 use Rattle.std.specs.Option.{option_map, unwrap_or}
 use Rattle.dexpool.specs.declared.symbols.SymbolKind.TheVariants as kinds
-use Rattle.dexpool.specs.declared.marks.Marks.{Marks}
 use Rattle.dexpool.specs.Numberings.{Maps, image_of}
-use Rattle.dexpool.specs.Uses.{Use, marks_of}
+use Rattle.dexpool.specs.Uses.{Use, IsMappedUse}
 use Rattle.dexinsn.specs.Numbered.{FitPlaces, uses_of, renumbered}
 use Rattle.dexinsn.specs.Numbered as pieces
-use Rattle.dexdebug.specs.Debug.{IsFormedDebug, debug_uses, HasImage, HasPlace, renumbered_debug}
+use Rattle.dexdebug.specs.Debug.{IsFormedDebug, debug_uses, HasPlace, renumbered_debug}
 use Rattle.dexcode.specs.declared.handlers.Catch.{Catch}
 use Rattle.dexcode.specs.declared.tries.Try.{Try}
 use Rattle.dexcode.specs.Numbered.{NumberedHandler, NumberedTry, NumberedItem, handlers_of, named}
@@ -46,16 +45,12 @@ pub record HasPlaces (r : Maps) (c : NumberedItem) : Type 0 where
 -- each number has an image
 pub record HasImages (r : Maps) (c : NumberedItem) : Type 0 where
   pub pieces_have : All (pieces.HasImage r) c.body.pieces
-  pub catches_have : All (HasImage r) (tries_uses c.tries)
-  pub debug_has : All (HasImage r) (flat_map debug_uses (option_to_list c.debug))
+  pub catches_have : All (IsMappedUse r) (tries_uses c.tries)
+  pub debug_has : All (IsMappedUse r) (flat_map debug_uses (option_to_list c.debug))
 
 -- no two types have one image
 abbrev pub AreTypesApart : Maps → Type 0
 AreTypesApart r = (i j k : ℕ) → image_of r kinds.Typ i ≡ Some k → image_of r kinds.Typ j ≡ Some k → i ≡ j
-
--- the symbol is marked
-abbrev pub IsMarkedUse : Marks → Use → Type 0
-IsMarkedUse marks u = slice_index_or (marks_of u.kind marks) u.number false ≡ true
 
 -- each number fits its place now
 pub record NumbersFit (c : NumberedItem) : Type 0 where

@@ -4,10 +4,9 @@
 ghost use Rattle.std.specs.Prelude.{◌↔◌, List, All};
 ghost use Rattle.dexpool.specs.Numberings.{Maps};
 ghost use Rattle.dexpool.specs.declared.marks.Marks.{Marks};
-ghost use Rattle.dexpool.specs.Uses.{Use, AreMarkedToo};
-ghost use Rattle.dexdebug.specs.Debug.{HasImage};
+ghost use Rattle.dexpool.specs.Uses.{Use, AreMarkedToo, IsMappedUse, IsMarkedUse};
 ghost use Rattle.dexcode.specs.Numbered.{NumberedItem};
-ghost use Rattle.dexcode.specs.Renumbering.{item_uses, IsMarkedUse, HasPlaces, HasImages};
+ghost use Rattle.dexcode.specs.Renumbering.{item_uses, HasPlaces, HasImages};
 ghost use Rattle.dexcode.specs.Laws.{RenumberedCodeDenotes, MappedCodeHasImages, CodeHasPlaces, MarkedUsesHaveImages, CodeFitsMappedDown, CodeFitsWhereGreatestDoes, CodeUsesAreDenoted, CodeUsesHaveMarks, DebugFitsMappedDown, DebugFitsWhereImagesDo};
 
 /// Once renumbered, the code denotes what it denoted before. Numbers that have places have images.
@@ -29,12 +28,12 @@ pub fn code_kept_law()
     ensures marked { (us : List Use) (old new : Marks) → AreMarkedToo us old new
         → All (IsMarkedUse new) us }
     ensures images { MarkedUsesHaveImages }
-    ensures code { (r : Maps) (c : NumberedItem) → All (HasImage r) (item_uses c) → HasImages r c }
+    ensures code { (r : Maps) (c : NumberedItem) → All (IsMappedUse r) (item_uses c) → HasImages r c }
 {}
 
 /// Each number has an image just where each symbol that occurs has one.
 pub fn code_images_law()
-    ensures { (r : Maps) (c : NumberedItem) → HasImages r c ↔ All (HasImage r) (item_uses c) }
+    ensures { (r : Maps) (c : NumberedItem) → HasImages r c ↔ All (IsMappedUse r) (item_uses c) }
 {}
 
 /// After a cut: where numbers fit their places, as those of all code do ([`Code::numbers_fit`]), and each that occurs

@@ -23,10 +23,10 @@ use Rattle.dexspec.proofs.size.SizeSums.{sum_by-at_most}
 use Rattle.dexpool.specs.declared.symbols.SymbolKind.TheVariants as kinds
 use Rattle.dexpool.specs.declared.marks.Marks.{Marks}
 use Rattle.dexpool.specs.Numberings.{IsAt, AreRising, AreMarksOf, Maps, image_of, MapsTo, AllMapTo}
-use Rattle.dexpool.specs.Uses.{Use, HasMark, IsUseOf}
+use Rattle.dexpool.specs.Uses.{Use, HasMark, IsUseOf, IsMappedUse}
 use Rattle.dexdebug.specs.declared.debug_operation.Operation.{Operation}
 use Rattle.dexdebug.specs.declared.debug_operation.Operation.TheVariants.{AdvancePc, AdvanceLine, StartLocal, StartLocalExtended, EndLocal, RestartLocal, SetPrologueEnd, SetEpilogueBegin, SetFile, Special}
-use Rattle.dexdebug.specs.Debug.{NumberedDebug, DenotesText, DenotesType, DenotesOperation, DenotesDebug, unindexed_operation, unindexed, operation_weight, numbered_operation_bytes, numbered_debug_bytes, number_uses, operation_uses, debug_uses, HasImage, HasPlace, image_or_none, renumbered_operation, renumbered_debug, name_of, type_of, signature_of}
+use Rattle.dexdebug.specs.Debug.{NumberedDebug, DenotesText, DenotesType, DenotesOperation, DenotesDebug, unindexed_operation, unindexed, operation_weight, numbered_operation_bytes, numbered_debug_bytes, number_uses, operation_uses, debug_uses, HasPlace, image_or_none, renumbered_operation, renumbered_debug, name_of, type_of, signature_of}
 use Rattle.dexdebug.proofs.DebugUses.{use_of}
 use Rattle.dexpool.proofs.Parts.{all_prefix, all_back}
 use Rattle.dexdebug.proofs.DebugWeights.{weight_is}
@@ -225,19 +225,19 @@ type_remapped m n r i None t l e some h = absurd cc
 type_remapped m n r i (Some j) t l e some h = mapped_at m.types n.types r.types i j [] t l.types_mapped h e
 
 module _ (m n : Mentions) (r : Maps) (l : AllMapTo m n r) where
-  texts_remapped : (i : Option ℕ) (s : Option Text) → All (HasImage r) (number_uses kinds.Text i) → DenotesText m i s → DenotesText n (image_or_none r kinds.Text i) s
+  texts_remapped : (i : Option ℕ) (s : Option Text) → All (IsMappedUse r) (number_uses kinds.Text i) → DenotesText m i s → DenotesText n (image_or_none r kinds.Text i) s
   texts_remapped None None all h = tt
   texts_remapped None (Some s) all h = absurd h
   texts_remapped (Some i) None all h = absurd h
-  texts_remapped (Some i) (Some s) all h = text_remapped m n r i (image_of r kinds.Text i) s l refl (use_of (HasImage r) kinds.Text (Some i) i all refl) h
+  texts_remapped (Some i) (Some s) all h = text_remapped m n r i (image_of r kinds.Text i) s l refl (use_of (IsMappedUse r) kinds.Text (Some i) i all refl) h
 
-  types_remapped : (i : Option ℕ) (t : Option Text) → All (HasImage r) (number_uses kinds.Typ i) → DenotesType m i t → DenotesType n (image_or_none r kinds.Typ i) t
+  types_remapped : (i : Option ℕ) (t : Option Text) → All (IsMappedUse r) (number_uses kinds.Typ i) → DenotesType m i t → DenotesType n (image_or_none r kinds.Typ i) t
   types_remapped None None all h = tt
   types_remapped None (Some t) all h = absurd h
   types_remapped (Some i) None all h = absurd h
-  types_remapped (Some i) (Some t) all h = type_remapped m n r i (image_of r kinds.Typ i) t l refl (use_of (HasImage r) kinds.Typ (Some i) i all refl) h
+  types_remapped (Some i) (Some t) all h = type_remapped m n r i (image_of r kinds.Typ i) t l refl (use_of (IsMappedUse r) kinds.Typ (Some i) i all refl) h
 
-  operation_remapped : (op : Operation) (x : symbolic.Operation) → All (HasImage r) (number_uses kinds.Text (name_of op)) → All (HasImage r) (number_uses kinds.Typ (type_of op)) → All (HasImage r) (number_uses kinds.Text (signature_of op)) → DenotesOperation m op x → DenotesOperation n (renumbered_operation r op) x
+  operation_remapped : (op : Operation) (x : symbolic.Operation) → All (IsMappedUse r) (number_uses kinds.Text (name_of op)) → All (IsMappedUse r) (number_uses kinds.Typ (type_of op)) → All (IsMappedUse r) (number_uses kinds.Text (signature_of op)) → DenotesOperation m op x → DenotesOperation n (renumbered_operation r op) x
   operation_remapped (AdvancePc addresses) (symbolic.AdvancePc others) name typ signature h = h
   operation_remapped (AdvanceLine lines) (symbolic.AdvanceLine others) name typ signature h = h
   operation_remapped (StartLocal register i j) (symbolic.StartLocal other s t) name typ signature h = (h.0, texts_remapped i s name h.1, types_remapped j t typ h.2)
@@ -250,40 +250,40 @@ module _ (m n : Mentions) (r : Maps) (l : AllMapTo m n r) where
   operation_remapped (Special opcode) (symbolic.Special other) name typ signature h = h
   operation_remapped _ _ name typ signature h = absurd h
 
-  names_remapped : (is : List (Option ℕ)) (ss : List (Option Text)) → All (HasImage r) (flat_map (number_uses kinds.Text) is) → AllZip (DenotesText m) is ss → AllZip (DenotesText n) (map (image_or_none r kinds.Text) is) ss
+  names_remapped : (is : List (Option ℕ)) (ss : List (Option Text)) → All (IsMappedUse r) (flat_map (number_uses kinds.Text) is) → AllZip (DenotesText m) is ss → AllZip (DenotesText n) (map (image_or_none r kinds.Text) is) ss
   names_remapped [] [] all h = tt
   names_remapped [] (s ∷ ss) all h = absurd h
   names_remapped (i ∷ is) [] all h = absurd h
   names_remapped (i ∷ is) (s ∷ ss) all h =
-      (texts_remapped i s (all_prefix (HasImage r) (number_uses kinds.Text i) (flat_map (number_uses kinds.Text) is) all) h.0, names_remapped is ss (all_back (HasImage r) (number_uses kinds.Text i) (flat_map (number_uses kinds.Text) is) all) h.1)
+      (texts_remapped i s (all_prefix (IsMappedUse r) (number_uses kinds.Text i) (flat_map (number_uses kinds.Text) is) all) h.0, names_remapped is ss (all_back (IsMappedUse r) (number_uses kinds.Text i) (flat_map (number_uses kinds.Text) is) all) h.1)
 
-  operations_remapped : (ops : List Operation) (xs : List symbolic.Operation) → All (HasImage r) (flat_map operation_uses ops) → AllZip (DenotesOperation m) ops xs → AllZip (DenotesOperation n) (map (renumbered_operation r) ops) xs
+  operations_remapped : (ops : List Operation) (xs : List symbolic.Operation) → All (IsMappedUse r) (flat_map operation_uses ops) → AllZip (DenotesOperation m) ops xs → AllZip (DenotesOperation n) (map (renumbered_operation r) ops) xs
   operations_remapped [] [] all h = tt
   operations_remapped [] (x ∷ xs) all h = absurd h
   operations_remapped (op ∷ ops) [] all h = absurd h
   operations_remapped (op ∷ ops) (x ∷ xs) all h =
-      let here = all_prefix (HasImage r) (operation_uses op) (flat_map operation_uses ops) all in
-      let others = all_back (HasImage r) (number_uses kinds.Text (name_of op)) (number_uses kinds.Typ (type_of op) ++ number_uses kinds.Text (signature_of op)) here in (
-        operation_remapped op x (all_prefix (HasImage r) (number_uses kinds.Text (name_of op)) (number_uses kinds.Typ (type_of op) ++ number_uses kinds.Text (signature_of op)) here)
-            (all_prefix (HasImage r) (number_uses kinds.Typ (type_of op)) (number_uses kinds.Text (signature_of op)) others)
-            (all_back (HasImage r) (number_uses kinds.Typ (type_of op)) (number_uses kinds.Text (signature_of op)) others) h.0,
-        operations_remapped ops xs (all_back (HasImage r) (operation_uses op) (flat_map operation_uses ops) all) h.1,
+      let here = all_prefix (IsMappedUse r) (operation_uses op) (flat_map operation_uses ops) all in
+      let others = all_back (IsMappedUse r) (number_uses kinds.Text (name_of op)) (number_uses kinds.Typ (type_of op) ++ number_uses kinds.Text (signature_of op)) here in (
+        operation_remapped op x (all_prefix (IsMappedUse r) (number_uses kinds.Text (name_of op)) (number_uses kinds.Typ (type_of op) ++ number_uses kinds.Text (signature_of op)) here)
+            (all_prefix (IsMappedUse r) (number_uses kinds.Typ (type_of op)) (number_uses kinds.Text (signature_of op)) others)
+            (all_back (IsMappedUse r) (number_uses kinds.Typ (type_of op)) (number_uses kinds.Text (signature_of op)) others) h.0,
+        operations_remapped ops xs (all_back (IsMappedUse r) (operation_uses op) (flat_map operation_uses ops) all) h.1,
       )
 
-pub renumbered_denotes : (m n : Mentions) (r : Maps) (d : NumberedDebug) (x : symbolic.Debug) → AllMapTo m n r → All (HasImage r) (debug_uses d) → DenotesDebug m d x → DenotesDebug n (renumbered_debug r d) x
+pub renumbered_denotes : (m n : Mentions) (r : Maps) (d : NumberedDebug) (x : symbolic.Debug) → AllMapTo m n r → All (IsMappedUse r) (debug_uses d) → DenotesDebug m d x → DenotesDebug n (renumbered_debug r d) x
 renumbered_denotes m n r d x l all h = record {
   start_is = h.start_is;
-  names_are = names_remapped m n r l d.parameter_names x.parameter_names (all_prefix (HasImage r) (flat_map (number_uses kinds.Text) d.parameter_names) (flat_map operation_uses d.operations) all) h.names_are;
-  operations_are = operations_remapped m n r l d.operations x.operations (all_back (HasImage r) (flat_map (number_uses kinds.Text) d.parameter_names) (flat_map operation_uses d.operations) all) h.operations_are;
+  names_are = names_remapped m n r l d.parameter_names x.parameter_names (all_prefix (IsMappedUse r) (flat_map (number_uses kinds.Text) d.parameter_names) (flat_map operation_uses d.operations) all) h.names_are;
+  operations_are = operations_remapped m n r l d.operations x.operations (all_back (IsMappedUse r) (flat_map (number_uses kinds.Text) d.parameter_names) (flat_map operation_uses d.operations) all) h.operations_are;
 }
 
-images_of : (r : Maps) (us : List Use) → All (HasPlace r) us → All (HasImage r) us
-images_of r [] h = All-nil (HasImage r)
+images_of : (r : Maps) (us : List Use) → All (HasPlace r) us → All (IsMappedUse r) us
+images_of r [] h = All-nil (IsMappedUse r)
 images_of r (u ∷ us) h =
     let place = All-head (HasPlace r) u us h in
-    All-cons (HasImage r) u us (subst IsSome (sym place.1) refl) (images_of r us (All-tail (HasPlace r) u us h))
+    All-cons (IsMappedUse r) u us (subst IsSome (sym place.1) refl) (images_of r us (All-tail (HasPlace r) u us h))
 
-pub images_of_places : (r : Maps) (d : NumberedDebug) → All (HasPlace r) (debug_uses d) → All (HasImage r) (debug_uses d)
+pub images_of_places : (r : Maps) (d : NumberedDebug) → All (HasPlace r) (debug_uses d) → All (IsMappedUse r) (debug_uses d)
 images_of_places r d h = images_of r (debug_uses d) h
 
 -- ---- the symbols that occur

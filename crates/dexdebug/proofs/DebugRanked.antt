@@ -11,9 +11,10 @@ use Rattle.dexspec.specs.Mentions.{Mentions}
 use Rattle.dexspec.specs.Debug as debugs
 use Rattle.dexpool.specs.Laws.{RanksAreNumbers}
 use Rattle.dexpool.specs.Numberings.{Maps, AllMapTo}
+use Rattle.dexpool.specs.Uses.{IsMappedUse}
 use Rattle.dexdebug.specs.declared.debug_operation.Operation.{Operation}
 use Rattle.dexdebug.specs.declared.debug_operation.Operation.TheVariants.{AdvancePc, AdvanceLine, StartLocal, StartLocalExtended, EndLocal, RestartLocal, SetPrologueEnd, SetEpilogueBegin, SetFile, Special}
-use Rattle.dexdebug.specs.Debug.{NumberedDebug, debug_uses, HasImage, renumbered_debug}
+use Rattle.dexdebug.specs.Debug.{NumberedDebug, debug_uses, renumbered_debug}
 use Rattle.dexdebug.specs.Meaning.{text_at, type_at, operation_in, debug_in, IsKnownText, IsKnownType, IsKnownOperation, IsKnownDebug}
 use Rattle.dexdebug.proofs.DebugMeanings as debugs_remapped
 use Rattle.dexdebug.proofs.MeaningDebug.{debug_known, debug_means, debug_encoded}
@@ -80,13 +81,13 @@ module _ (m : Mentions) (ranks : RanksAreNumbers m) where
 
 -- ---- other numbers
 
-pub debug_remapped : (m n : Mentions) (r : Maps) (d : NumberedDebug) → AllMapTo m n r → All (HasImage r) (debug_uses d) → IsKnownDebug m d → IsKnownDebug n (renumbered_debug r d) × (debug_in n (renumbered_debug r d) ≡ debug_in m d)
+pub debug_remapped : (m n : Mentions) (r : Maps) (d : NumberedDebug) → AllMapTo m n r → All (IsMappedUse r) (debug_uses d) → IsKnownDebug m d → IsKnownDebug n (renumbered_debug r d) × (debug_in n (renumbered_debug r d) ≡ debug_in m d)
 debug_remapped m n r d maps_to images known =
     let encodes = debugs_remapped.renumbered_denotes m n r d (debug_in m d) maps_to images (debug_encoded m d known) in
     (debug_known n (renumbered_debug r d) (debug_in m d) encodes, sym (debug_means n (renumbered_debug r d) (debug_in m d) encodes))
 
 module _ (m n whole : Mentions) (r s : Maps) (ranks : RanksAreNumbers whole) (from_first : AllMapTo m whole r) (from_second : AllMapTo n whole s) where
-  pub same_debug : (d e : NumberedDebug) → All (HasImage r) (debug_uses d) → All (HasImage s) (debug_uses e) → IsKnownDebug m d → IsKnownDebug n e → (renumbered_debug r d ≡ renumbered_debug s e) ↔ (debug_in m d ≡ debug_in n e)
+  pub same_debug : (d e : NumberedDebug) → All (IsMappedUse r) (debug_uses d) → All (IsMappedUse s) (debug_uses e) → IsKnownDebug m d → IsKnownDebug n e → (renumbered_debug r d ≡ renumbered_debug s e) ↔ (debug_in m d ≡ debug_in n e)
   same_debug d e images images' known known' =
       let mine = debug_remapped m whole r d from_first images known in
       let theirs = debug_remapped n whole s e from_second images' known' in (

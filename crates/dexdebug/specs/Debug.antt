@@ -2,7 +2,6 @@
 -- numbers change.
 use Rattle.std.specs.Prelude.{◌≡◌, ℕ, ◌+◌, ◌*◌, ◌^◌, ◌<◌, ◌≤◌, List, [], ◌∷◌, ◌++◌, length, map, All, Option, Some, None, option_to_list, Result}
 use Rattle.std.specs.List.{AllZip, flat_map}
-use Rattle.std.specs.Option.{IsSome}
 use Rattle.std.specs.Global.{Vec}
 use Rattle.dexspec.specs.Lists.{BothOrNone}
 use Rattle.dexspec.specs.Numbers.{plus_one, uleb128, sleb128, uleb128p1}
@@ -174,10 +173,6 @@ abbrev pub debug_uses : NumberedDebug → List Use
 debug_uses d = flat_map (number_uses kinds.Text) d.parameter_names ++ flat_map operation_uses d.operations
 
 -- ---- other numbers
-
--- the symbol's number has an image
-abbrev pub HasImage : Maps → Use → Type 0
-HasImage r u = IsSome (image_of r u.kind u.number)
 
 -- it has an image that has an encoding as a uleb128p1
 abbrev pub HasPlace : Maps → Use → Type 0

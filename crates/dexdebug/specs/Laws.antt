@@ -7,8 +7,8 @@ use Rattle.dexspec.specs.Spellings.{debug_bytes}
 use Rattle.dexspec.specs.Weight.{debug_weight}
 use Rattle.dexpool.specs.Numberings.{AreRising, AreMarksOf, Maps, AllMapTo}
 use Rattle.dexpool.specs.declared.marks.Marks.{Marks}
-use Rattle.dexpool.specs.Uses.{HasMark, IsUseOf}
-use Rattle.dexdebug.specs.Debug.{NumberedDebug, DenotesDebug, HasImage, HasPlace, unindexed, numbered_debug_bytes, debug_uses, renumbered_debug}
+use Rattle.dexpool.specs.Uses.{HasMark, IsUseOf, IsMappedUse}
+use Rattle.dexdebug.specs.Debug.{NumberedDebug, DenotesDebug, HasPlace, unindexed, numbered_debug_bytes, debug_uses, renumbered_debug}
 use Rattle.dexdebug.specs.Meaning.{debug_in, IsKnownDebug}
 use Rattle.dexdebug.specs.Positions as recorded
 
@@ -26,11 +26,11 @@ DebugPositionsAreDenoted = (m : Mentions) (d : NumberedDebug) (x : debugs.Debug)
 
 -- a debug program that is renumbered denotes what it denoted before
 abbrev pub RenumberedDebugDenotes : Type 0
-RenumberedDebugDenotes = (m n : Mentions) (r : Maps) (d : NumberedDebug) (x : debugs.Debug) → AllMapTo m n r → All (HasImage r) (debug_uses d) → DenotesDebug m d x → DenotesDebug n (renumbered_debug r d) x
+RenumberedDebugDenotes = (m n : Mentions) (r : Maps) (d : NumberedDebug) (x : debugs.Debug) → AllMapTo m n r → All (IsMappedUse r) (debug_uses d) → DenotesDebug m d x → DenotesDebug n (renumbered_debug r d) x
 
 -- numbers in a debug program that have places have images
 abbrev pub DebugPlacesAreImages : Type 0
-DebugPlacesAreImages = (r : Maps) (d : NumberedDebug) → All (HasPlace r) (debug_uses d) → All (HasImage r) (debug_uses d)
+DebugPlacesAreImages = (r : Maps) (d : NumberedDebug) → All (HasPlace r) (debug_uses d) → All (IsMappedUse r) (debug_uses d)
 
 -- the symbols that occur in a debug program are those of the program that it denotes, one for one
 abbrev pub DebugUsesAreDenoted : Type 0
@@ -50,8 +50,8 @@ DenotedDebugIsMeant = (m : Mentions) (d : NumberedDebug) (x : debugs.Debug) → 
 
 -- where each number has an image, a debug program that is renumbered has the numbers of texts and types, the same ones
 abbrev pub RemappedDebugIsMeant : Type 0
-RemappedDebugIsMeant = (m n : Mentions) (r : Maps) (d : NumberedDebug) → AllMapTo m n r → All (HasImage r) (debug_uses d) → IsKnownDebug m d → IsKnownDebug n (renumbered_debug r d) × (debug_in n (renumbered_debug r d) ≡ debug_in m d)
+RemappedDebugIsMeant = (m n : Mentions) (r : Maps) (d : NumberedDebug) → AllMapTo m n r → All (IsMappedUse r) (debug_uses d) → IsKnownDebug m d → IsKnownDebug n (renumbered_debug r d) × (debug_in n (renumbered_debug r d) ≡ debug_in m d)
 
 -- debug programs of two numberings are equal once remapped to a third whose symbols rise just where they mean the same
 abbrev pub EqualRemappedDebugs : Type 0
-EqualRemappedDebugs = (m n whole : Mentions) (r s : Maps) (d e : NumberedDebug) → AreRising whole → AllMapTo m whole r → AllMapTo n whole s → All (HasImage r) (debug_uses d) → All (HasImage s) (debug_uses e) → IsKnownDebug m d → IsKnownDebug n e → (renumbered_debug r d ≡ renumbered_debug s e) ↔ (debug_in m d ≡ debug_in n e)
+EqualRemappedDebugs = (m n whole : Mentions) (r s : Maps) (d e : NumberedDebug) → AreRising whole → AllMapTo m whole r → AllMapTo n whole s → All (IsMappedUse r) (debug_uses d) → All (IsMappedUse s) (debug_uses e) → IsKnownDebug m d → IsKnownDebug n e → (renumbered_debug r d ≡ renumbered_debug s e) ↔ (debug_in m d ≡ debug_in n e)

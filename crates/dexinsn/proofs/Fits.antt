@@ -18,29 +18,29 @@ use Rattle.dexpool.specs.declared.symbols.SymbolKind.{SymbolKind}
 use Rattle.dexpool.specs.declared.symbols.SymbolKind.TheVariants as kinds
 use Rattle.dexpool.specs.Numberings.{IsAt, Maps, image, image_of, AllMapTo}
 use Rattle.dexpool.specs.Orderly.{KeepOrder, MapsDown}
-use Rattle.dexpool.specs.Uses.{Use}
+use Rattle.dexpool.specs.Uses.{Use, IsMappedUse}
 use Rattle.dexinsn.specs.declared.pieces.Index.{Index}
-use Rattle.dexinsn.specs.Fitting.{IsMapped, is_text, is_short_string, short_number, short_string, short_strings, HasConstString, IsGreatest, short_at, ImagesFit, IsNotTooLarge, MapsShort}
+use Rattle.dexinsn.specs.Fitting.{is_text, is_short_string, short_number, short_string, short_strings, HasConstString, IsGreatest, short_at, ImagesFit, IsNotTooLarge, MapsShort}
 use Rattle.dexinsn.specs.Numbered.{NumberedPiece, Instruction, Payload, Denotes, Denote, kind_in, kind_of_pool, uses_of, index_room, FitsPlace, FitPlaces, HasImage, HasPlace}
 use Rattle.dexinsn.specs.Stored.{parts_in, piece_with, left_by, pieces_with, AreStored, FitsAt}
 use Rattle.dexinsn.proofs.Lined.{Heads, Lined, LinedBy, stored_lined, head_kind, head_room, head_wide}
 
 -- ---- images, piece by piece and use by use
 
-pub images_of_uses : (r : Maps) (ps : List NumberedPiece) → All (IsMapped r) (uses_of ps) → All (HasImage r) ps
+pub images_of_uses : (r : Maps) (ps : List NumberedPiece) → All (IsMappedUse r) (uses_of ps) → All (HasImage r) ps
 images_of_uses r [] h = All-nil (HasImage r)
 images_of_uses r (Instruction us None ∷ ps) h = All-cons (HasImage r) (Instruction us None) ps tt (images_of_uses r ps h)
 images_of_uses r (Instruction us (Some n) ∷ ps) h =
     let u : Use = record { kind = kind_in us; number = n } in
-    All-cons (HasImage r) (Instruction us (Some n)) ps (All-head (IsMapped r) u (uses_of ps) h) (images_of_uses r ps (All-tail (IsMapped r) u (uses_of ps) h))
+    All-cons (HasImage r) (Instruction us (Some n)) ps (All-head (IsMappedUse r) u (uses_of ps) h) (images_of_uses r ps (All-tail (IsMappedUse r) u (uses_of ps) h))
 images_of_uses r (Payload us ∷ ps) h = All-cons (HasImage r) (Payload us) ps tt (images_of_uses r ps h)
 
-pub uses_of_images : (r : Maps) (ps : List NumberedPiece) → All (HasImage r) ps → All (IsMapped r) (uses_of ps)
-uses_of_images r [] h = All-nil (IsMapped r)
+pub uses_of_images : (r : Maps) (ps : List NumberedPiece) → All (HasImage r) ps → All (IsMappedUse r) (uses_of ps)
+uses_of_images r [] h = All-nil (IsMappedUse r)
 uses_of_images r (Instruction us None ∷ ps) h = uses_of_images r ps (All-tail (HasImage r) (Instruction us None) ps h)
 uses_of_images r (Instruction us (Some n) ∷ ps) h =
     let u : Use = record { kind = kind_in us; number = n } in
-    All-cons (IsMapped r) u (uses_of ps) (All-head (HasImage r) (Instruction us (Some n)) ps h) (uses_of_images r ps (All-tail (HasImage r) (Instruction us (Some n)) ps h))
+    All-cons (IsMappedUse r) u (uses_of ps) (All-head (HasImage r) (Instruction us (Some n)) ps h) (uses_of_images r ps (All-tail (HasImage r) (Instruction us (Some n)) ps h))
 uses_of_images r (Payload us ∷ ps) h = uses_of_images r ps (All-tail (HasImage r) (Payload us) ps h)
 
 -- a number that has an image below the room has a place
@@ -61,7 +61,7 @@ cut_places r [] down fit images = All-nil (HasPlace r)
 cut_places r (p ∷ ps) down fit images =
     All-cons (HasPlace r) p ps (cut_place r p down (All-head FitsPlace p ps fit) (All-head (HasImage r) p ps images)) (cut_places r ps down (All-tail FitsPlace p ps fit) (All-tail (HasImage r) p ps images))
 
-pub places_after_cut : (r : Maps) (ps : List NumberedPiece) → MapsDown r → FitPlaces ps → All (IsMapped r) (uses_of ps) → All (HasPlace r) ps
+pub places_after_cut : (r : Maps) (ps : List NumberedPiece) → MapsDown r → FitPlaces ps → All (IsMappedUse r) (uses_of ps) → All (HasPlace r) ps
 places_after_cut r ps down fit uses = cut_places r ps down fit (images_of_uses r ps uses)
 
 -- ---- after a join
@@ -168,7 +168,7 @@ pub short_mapped : (r : Maps) (ns : List ℕ) (greatest : Option ℕ) → KeepOr
 short_mapped r ns None order is short remapped i j c e = absurd (Contains-nil i (subst (λ ks. Contains ks i) is c))
 short_mapped r ns (Some g) order is short remapped i j c e = lesser_image r i g j (image r.texts g) order refl (remapped g is.0) short (below ns g i is.1 c) e
 
-pub places_after_join : (r : Maps) (ps : List NumberedPiece) (greatest : Option ℕ) → KeepOrder r → ImagesFit r → IsGreatest (short_strings ps) greatest → MapsShort r greatest → All (IsMapped r) (uses_of ps) → All (HasPlace r) ps
+pub places_after_join : (r : Maps) (ps : List NumberedPiece) (greatest : Option ℕ) → KeepOrder r → ImagesFit r → IsGreatest (short_strings ps) greatest → MapsShort r greatest → All (IsMappedUse r) (uses_of ps) → All (HasPlace r) ps
 places_after_join r ps greatest order fit is short uses =
     let images : All (HasImage r) ps = images_of_uses r ps uses in
     joined_places r ps fit (short_mapped r (short_strings ps) greatest order is short (λ i c. shorts_remapped r ps i images c)) images

@@ -1,7 +1,6 @@
 -- When numbers fit their places once remapped.
 use Rattle.std.specs.Prelude.{◌≡◌, ℕ, ◌+◌, ◌^◌, ◌<◌, ◌≤◌, Bool, true, false, not, ◌&&◌, if◌then◌else◌, List, [], ◌∷◌, length, drop, slice_index, All, Option, Some, None, IfSome}
 use Rattle.std.specs.List.{Contains, flat_map}
-use Rattle.std.specs.Option.{IsSome}
 use Rattle.dexspec.specs.Mentions.{Mentions}
 use Rattle.dexspec.specs.Pieces.{Piece, is_wide_index, low_byte}
 use Rattle.dexspec.specs.Pieces as symbolic
@@ -9,14 +8,9 @@ use Rattle.dexspec.specs.Symbols.{TextSymbol}
 use Rattle.dexspec.specs.Texts.{Text}
 use Rattle.dexpool.specs.declared.symbols.SymbolKind.{SymbolKind}
 use Rattle.dexpool.specs.declared.symbols.SymbolKind.TheVariants as kinds
-use Rattle.dexpool.specs.Numberings.{Maps, image, image_of}
-use Rattle.dexpool.specs.Uses.{Use}
+use Rattle.dexpool.specs.Numberings.{Maps, image}
 use Rattle.dexinsn.specs.declared.pieces.Index.{Index}
 use Rattle.dexinsn.specs.Numbered.{NumberedPiece, Instruction, kind_in}
-
--- the symbol's number has an image
-abbrev pub IsMapped : Maps → Use → Type 0
-IsMapped r u = IsSome (image_of r u.kind u.number)
 
 -- ---- texts whose numbers have 16 bits
 

@@ -8,8 +8,8 @@ use Rattle.dexspec.specs.Texts.{Text}
 use Rattle.dexpool.specs.Numberings.{IsAt, AreRising, AreMarksOf, Maps, AllMapTo}
 use Rattle.dexpool.specs.Orderly.{KeepOrder, MapsDown}
 use Rattle.dexpool.specs.declared.marks.Marks.{Marks}
-use Rattle.dexpool.specs.Uses.{IsUseOf, HasMark}
-use Rattle.dexinsn.specs.Fitting.{IsMapped, HasConstString, ImagesFit, IsGreatest, MapsShort, short_strings}
+use Rattle.dexpool.specs.Uses.{IsUseOf, HasMark, IsMappedUse}
+use Rattle.dexinsn.specs.Fitting.{HasConstString, ImagesFit, IsGreatest, MapsShort, short_strings}
 use Rattle.dexinsn.specs.Numbered.{NumberedPiece, Denote, uses_of, numbered_units, FitPlaces, HasImage, HasPlace, renumbered_piece}
 
 -- where symbols rise, the units of numbered pieces are those of the pieces that they denote
@@ -30,11 +30,11 @@ UsesHaveMarks = (m : Mentions) (marks : Marks) (ps : List NumberedPiece) (qs : L
 
 -- numbers that fit, and that map to none that is greater, have images that fit
 abbrev pub FitMappedDown : Type 0
-FitMappedDown = (r : Maps) (ps : List NumberedPiece) → MapsDown r → FitPlaces ps → All (IsMapped r) (uses_of ps) → All (HasPlace r) ps
+FitMappedDown = (r : Maps) (ps : List NumberedPiece) → MapsDown r → FitPlaces ps → All (IsMappedUse r) (uses_of ps) → All (HasPlace r) ps
 
 -- where the greatest number of a short string has an image that fits, and images elsewhere fit, all images fit
 abbrev pub FitWhereGreatestDoes : Type 0
-FitWhereGreatestDoes = (r : Maps) (ps : List NumberedPiece) (greatest : Option ℕ) → KeepOrder r → ImagesFit r → IsGreatest (short_strings ps) greatest → MapsShort r greatest → All (IsMapped r) (uses_of ps) → All (HasPlace r) ps
+FitWhereGreatestDoes = (r : Maps) (ps : List NumberedPiece) (greatest : Option ℕ) → KeepOrder r → ImagesFit r → IsGreatest (short_strings ps) greatest → MapsShort r greatest → All (IsMappedUse r) (uses_of ps) → All (HasPlace r) ps
 
 -- each text that a const-string names is numbered by a short string
 abbrev pub ConstStringsAreShort : Type 0

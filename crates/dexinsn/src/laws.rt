@@ -3,7 +3,8 @@
 ghost use Rattle.std.specs.Prelude.{◌↔◌, List, All};
 ghost use Rattle.dexspec.specs.Mentions.{Mentions};
 ghost use Rattle.dexpool.specs.Numberings.{Maps, AllMapTo};
-ghost use Rattle.dexinsn.specs.Fitting.{IsMapped, ImagesFit, IsNotTooLarge};
+ghost use Rattle.dexpool.specs.Uses.{IsMappedUse};
+ghost use Rattle.dexinsn.specs.Fitting.{ImagesFit, IsNotTooLarge};
 ghost use Rattle.dexinsn.specs.Numbered.{NumberedPiece, uses_of, HasImage, HasPlace};
 ghost use Rattle.dexinsn.specs.Laws.{UnitsAreDenoted, RenumberedDenote, UsesAreDenoted, UsesHaveMarks, FitMappedDown, FitWhereGreatestDoes, ConstStringsAreShort, ShortStringsAreConst};
 
@@ -33,7 +34,7 @@ pub fn marks_law()
 /// Each number has an image just where the symbol that occurs has one.
 pub fn images_law()
     ensures { (r : Maps) (ps : List NumberedPiece) → All (HasImage r) ps
-        ↔ All (IsMapped r) (uses_of ps) }
+        ↔ All (IsMappedUse r) (uses_of ps) }
 {}
 
 /// After a cut: where numbers fit their places, and each that occurs has an image, none of them greater than its

@@ -11,9 +11,10 @@ use Rattle.dexpool.specs.declared.symbols.SymbolKind.TheVariants as kinds
 use Rattle.dexpool.specs.Laws.{MapsAll}
 use Rattle.dexpool.specs.Numberings.{MapsTo, Maps, AllMapTo, image, image_of}
 use Rattle.dexpool.specs.Pools.{count_of}
+use Rattle.dexpool.specs.Uses.{IsMappedUse}
 use Rattle.dexdebug.specs.declared.debug_operation.Operation.{Operation}
 use Rattle.dexdebug.specs.declared.debug_operation.Operation.TheVariants.{AdvancePc, AdvanceLine, StartLocal, StartLocalExtended, EndLocal, RestartLocal, SetPrologueEnd, SetEpilogueBegin, SetFile, Special}
-use Rattle.dexdebug.specs.Debug.{NumberedDebug, name_of, type_of, signature_of, with_numbers, number_uses, operation_uses, debug_uses, HasImage, image_or_none, renumbered_operation, renumbered_debug}
+use Rattle.dexdebug.specs.Debug.{NumberedDebug, name_of, type_of, signature_of, with_numbers, number_uses, operation_uses, debug_uses, image_or_none, renumbered_operation, renumbered_debug}
 use Rattle.dexdebug.specs.Meaning.{IsKnownText, IsKnownOperation, IsKnownDebug}
 use Rattle.dexval.specs.Numbered.{NumberedValue, NumberedValues, NumberedElements, NumberedAnnotation, NumberedSet, Plain, Named, Array, Annotated, NoValue, ThenNext, NoElement, ThenNamed, kind_of_reference}
 use Rattle.dexval.specs.Renumbering.{remapped, renumbered, renumbered_values, renumbered_elements, renumbered_set}
@@ -173,21 +174,21 @@ module _ (m : Mentions) where
       ∙ ap (debug_with d.line_start d.parameter_names) (list_stays (renumbered_operation (itself m)) (IsKnownOperation m) operation_stays d.operations h.operations_known)
 
   -- each number of it has an image
-  optional_remapped : (kind : SymbolKind) (o : Option ℕ) → IfSome o (λ n. n < count_of kind m) → All (HasImage (itself m)) (number_uses kind o)
-  optional_remapped kind None h = All-nil (HasImage (itself m))
-  optional_remapped kind (Some n) h = All-cons (HasImage (itself m)) (record { kind = kind; number = n }) [] (maps_all_itself m kind n h) (All-nil (HasImage (itself m)))
+  optional_remapped : (kind : SymbolKind) (o : Option ℕ) → IfSome o (λ n. n < count_of kind m) → All (IsMappedUse (itself m)) (number_uses kind o)
+  optional_remapped kind None h = All-nil (IsMappedUse (itself m))
+  optional_remapped kind (Some n) h = All-cons (IsMappedUse (itself m)) (record { kind = kind; number = n }) [] (maps_all_itself m kind n h) (All-nil (IsMappedUse (itself m)))
 
-  operation_remapped : (op : Operation) → IsKnownOperation m op → All (HasImage (itself m)) (operation_uses op)
+  operation_remapped : (op : Operation) → IsKnownOperation m op → All (IsMappedUse (itself m)) (operation_uses op)
   operation_remapped op h =
-      All-append (HasImage (itself m)) (number_uses kinds.Text (name_of op)) (number_uses kinds.Typ (type_of op) ++ number_uses kinds.Text (signature_of op)) (optional_remapped kinds.Text (name_of op) h.name_known)
-      (All-append (HasImage (itself m)) (number_uses kinds.Typ (type_of op)) (number_uses kinds.Text (signature_of op)) (optional_remapped kinds.Typ (type_of op) h.type_known) (optional_remapped kinds.Text (signature_of op) h.signature_known))
+      All-append (IsMappedUse (itself m)) (number_uses kinds.Text (name_of op)) (number_uses kinds.Typ (type_of op) ++ number_uses kinds.Text (signature_of op)) (optional_remapped kinds.Text (name_of op) h.name_known)
+      (All-append (IsMappedUse (itself m)) (number_uses kinds.Typ (type_of op)) (number_uses kinds.Text (signature_of op)) (optional_remapped kinds.Typ (type_of op) h.type_known) (optional_remapped kinds.Text (signature_of op) h.signature_known))
 
   parts_mapped : {X Y : Type 0} (P : Y → Type 0) (f : X → List Y) (K : X → Type 0) → ((x : X) → K x → All P (f x)) → (xs : List X) → All K xs → All P (flat_map f xs)
   parts_mapped P f K each [] h = All-nil P
   parts_mapped P f K each (x ∷ xs) h = All-append P (f x) (flat_map f xs) (each x (All-head K x xs h)) (parts_mapped P f K each xs (All-tail K x xs h))
 
-  pub debug_remapped : (d : NumberedDebug) → IsKnownDebug m d → All (HasImage (itself m)) (debug_uses d)
+  pub debug_remapped : (d : NumberedDebug) → IsKnownDebug m d → All (IsMappedUse (itself m)) (debug_uses d)
   debug_remapped d h =
-      All-append (HasImage (itself m)) (flat_map (number_uses kinds.Text) d.parameter_names) (flat_map operation_uses d.operations)
-      (parts_mapped (HasImage (itself m)) (number_uses kinds.Text) (IsKnownText m) (optional_remapped kinds.Text) d.parameter_names h.names_known)
-      (parts_mapped (HasImage (itself m)) operation_uses (IsKnownOperation m) operation_remapped d.operations h.operations_known)
+      All-append (IsMappedUse (itself m)) (flat_map (number_uses kinds.Text) d.parameter_names) (flat_map operation_uses d.operations)
+      (parts_mapped (IsMappedUse (itself m)) (number_uses kinds.Text) (IsKnownText m) (optional_remapped kinds.Text) d.parameter_names h.names_known)
+      (parts_mapped (IsMappedUse (itself m)) operation_uses (IsKnownOperation m) operation_remapped d.operations h.operations_known)

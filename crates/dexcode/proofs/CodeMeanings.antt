@@ -2,6 +2,7 @@
 use Rattle.std.proofs.Common.{◌≡◌, ℕ, ◌<◌, List, [], ◌∷◌, ◌++◌, length, map, get_or, Option, Some, None, option_to_list, refl, ap, sym, ◌∙◌, subst, arith}
 use Rattle.std.specs.List.{All, AllZip, flat_map}
 use Rattle.std.specs.Option.{IsSome, unwrap_or, option_map}
+use Rattle.std.proofs.lemmas.List.{get_or_default}
 use Rattle.std.proofs.lemmas.List.Elements.{All-nil, All-cons, All-head, All-tail, All-append}
 use Rattle.dexspec.specs.Lists.{BothOrNone, distinct}
 use Rattle.dexspec.specs.Texts.{Text}
@@ -20,11 +21,11 @@ use Rattle.dexdebug.specs.Debug.{NumberedDebug, DenotesDebug, HasPlace, renumber
 use Rattle.dexcode.specs.Equality.{handler_decides}
 use Rattle.dexcode.specs.Numbered.{NumberedHandler, NumberedTry, NumberedItem, DenotesCatch, DenotesTry, DenotesCode, same_handler, handlers_of, catch_meant, handler_meant, try_meant}
 use Rattle.dexcode.specs.Renumbering.{catch_use, handler_uses, tries_uses, item_uses, HasTypePlace, HasPlaces, HasImages, renumbered_catch, renumbered_try, renumbered_item}
-use Rattle.dexcode.proofs.CodeUses.{optional_debug_uses, debug_part}
+use Rattle.dexcode.proofs.CodeUses.{optional_debug_uses, debug_part, all_flat}
 use Rattle.dexdebug.proofs.DebugMeanings as debugs
 use Rattle.dexdebug.proofs.DebugMeanings.{mapped_at, zip-append}
-use Rattle.dexpool.proofs.Parts.{all_of, all_parts}
-use Rattle.dexcode.proofs.Images.{one_default, all_distinct}
+use Rattle.dexpool.proofs.Parts.{all_of, all_parts, all_map}
+use Rattle.dexcode.proofs.Images.{all_distinct}
 use Rattle.dexcode.proofs.TryRows.{IsInRange, handlers_meant}
 use Rattle.dexcode.proofs.TypesRemapped.{all_from_distinct}
 
@@ -122,7 +123,7 @@ module _ (m : Mentions) where
   handlers_in ts xs h = all_distinct (IsInRange m) same_handler (map (λ (t : NumberedTry). t.handler) ts) (tries_in ts xs h)
 
   type_used : (i : ℕ) → i < length m.types → IsUseOf m (record { kind = kinds.Typ; number = i }) (TypeSymbol (get_or m.types i []))
-  type_used i lt = (record { within = lt; is = λ d. one_default m.types i d [] lt }, tt)
+  type_used i lt = (record { within = lt; is = λ d. get_or_default m.types i d [] lt }, tt)
 
   catches_used : (cs : List Catch) → All (λ c. c.typ < length m.types) cs → AllZip (IsUseOf m) (map catch_use cs) (map (λ (c : symbolic.Catch). TypeSymbol c.type) (map (catch_meant m) cs))
   catches_used [] all = tt
@@ -154,15 +155,8 @@ module _ (m : Mentions) where
 -- ---- marks
 
 module _ (m : Mentions) (marks : Marks) where
-  catches_marked : (cs : List Catch) → AreMarksOf m marks → All (λ c. c.typ < length m.types) cs → All (HasMark marks) (map catch_use cs)
-  catches_marked [] are all = All-nil (HasMark marks)
-  catches_marked (c ∷ cs) are all =
-      All-cons (HasMark marks) (catch_use c) (map catch_use cs) (omega (arith, are.types_count, All-head (λ (c : Catch). c.typ < length m.types) c cs all)) (catches_marked cs are (All-tail (λ (c : Catch). c.typ < length m.types) c cs all))
-
   handlers_marked : (hs : List NumberedHandler) → AreMarksOf m marks → All (IsInRange m) hs → All (HasMark marks) (flat_map handler_uses hs)
-  handlers_marked [] are all = All-nil (HasMark marks)
-  handlers_marked (h ∷ hs) are all =
-      All-append (HasMark marks) (handler_uses h) (flat_map handler_uses hs) (catches_marked h.catches are (All-head (IsInRange m) h hs all)) (handlers_marked hs are (All-tail (IsInRange m) h hs all))
+  handlers_marked hs are all = all_flat (IsInRange m) (HasMark marks) handler_uses hs (λ h known. all_map (λ c. c.typ < length m.types) (HasMark marks) catch_use h.catches (λ c lt. omega (arith, are.types_count, lt)) known) all
 
   debug_marked : (o : Option NumberedDebug) (x : Option Debug) → AreMarksOf m marks → BothOrNone (DenotesDebug m) o x → All (HasMark marks) (optional_debug_uses o)
   debug_marked None x are h = All-nil (HasMark marks)

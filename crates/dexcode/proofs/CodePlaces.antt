@@ -1,8 +1,8 @@
 -- The numbers in a code item have places where all numbers have images.
-use Rattle.std.proofs.Common.{◌≡◌, ℕ, ◌+◌, ◌<◌, ◌^◌, List, [], ◌∷◌, ◌++◌, length, map, Option, Some, None, option_to_list, refl, subst, arith}
+use Rattle.std.proofs.Common.{◌≡◌, ℕ, ◌+◌, ◌<◌, ◌^◌, List, [], ◌∷◌, ◌++◌, length, Option, Some, None, option_to_list, refl, subst, arith}
 use Rattle.std.specs.List.{All, AllZip, flat_map}
 use Rattle.std.specs.Option.{IsSome, IfSome}
-use Rattle.std.proofs.lemmas.List.Elements.{All-nil, All-cons, All-head, All-tail, All-append}
+use Rattle.std.proofs.lemmas.List.Elements.{All-nil, All-cons, All-append}
 use Rattle.dexspec.specs.Mentions.{Mentions, piece_symbols, debug_symbols}
 use Rattle.dexspec.specs.Symbols.{Symbol, TextSymbol, TypeSymbol, ProtoSymbol, FieldSymbol, MethodSymbol}
 use Rattle.dexspec.specs.Code as symbolic
@@ -18,14 +18,15 @@ use Rattle.dexinsn.proofs.Fits as insn_proofs
 use Rattle.dexinsn.proofs.Meanings as pieces_proofs
 use Rattle.dexinsn.specs.Fitting.{ImagesFit, IsGreatest, MapsShort, short_strings}
 use Rattle.dexpool.specs.Orderly.{KeepOrder, MapsDown}
-use Rattle.dexcode.specs.declared.handlers.Catch.{Catch}
 use Rattle.dexcode.specs.declared.tries.Try.{Try}
 use Rattle.dexdebug.specs.declared.debug_operation.Operation.{Operation}
 use Rattle.dexdebug.specs.Debug.{NumberedDebug, FitsIndex, IsFormedOperation, IsFormedDebug, HasPlace, number_uses, operation_uses, debug_uses, name_of, type_of, signature_of}
 use Rattle.dexcode.specs.Numbered.{NumberedHandler, NumberedItem, DenotesCode, IsFormedHandler, AreStored, all_named, handlers_of}
 use Rattle.dexcode.specs.Renumbering.{catch_use, handler_uses, tries_uses, item_uses, HasTypePlace, HasPlaces, HasImages, NumbersFit}
 use Rattle.dexcode.proofs.CodeMeanings.{handlers_in, debug_used}
-use Rattle.dexcode.proofs.CodeUses.{optional_debug_uses, pieces_part, tries_part, debugs_part}
+use Rattle.dexcode.proofs.CodeUses.{optional_debug_uses, all_flat, pieces_part, tries_part, debugs_part}
+use Rattle.dexpool.proofs.KeptNumbers.{maps_within}
+use Rattle.dexpool.proofs.KeptTables.{all_both}
 use Rattle.dexpool.proofs.Parts.{all_of, all_prefix, all_map}
 use Rattle.dexcode.proofs.TryRows.{IsInRange}
 
@@ -53,14 +54,8 @@ module _ (m : Mentions) (r : Maps) (maps_to : MapsAll m r) where
   uses_mapped (u ∷ us) [] h = absurd h
   uses_mapped (u ∷ us) (s ∷ ss) h = All-cons (IsMappedUse r) u us (image_by u.kind u.number s h.0.0 h.0.1) (uses_mapped us ss h.1)
 
-  catches_mapped : (cs : List Catch) (us : List Use) → All (λ c. c.typ < length m.types) cs → All (IsMappedUse r) us → All (IsMappedUse r) (map catch_use cs ++ us)
-  catches_mapped [] us all more = more
-  catches_mapped (c ∷ cs) us all more =
-      All-cons (IsMappedUse r) (catch_use c) (map catch_use cs ++ us) (maps_to kinds.Typ c.typ (All-head (λ (c : Catch). c.typ < length m.types) c cs all)) (catches_mapped cs us (All-tail (λ (c : Catch). c.typ < length m.types) c cs all) more)
-
   handlers_mapped : (hs : List NumberedHandler) → All (IsInRange m) hs → All (IsMappedUse r) (flat_map handler_uses hs)
-  handlers_mapped [] all = All-nil (IsMappedUse r)
-  handlers_mapped (h ∷ hs) all = catches_mapped h.catches (flat_map handler_uses hs) (All-head (IsInRange m) h hs all) (handlers_mapped hs (All-tail (IsInRange m) h hs all))
+  handlers_mapped hs all = all_flat (IsInRange m) (IsMappedUse r) handler_uses hs (λ h known. all_map (λ c. c.typ < length m.types) (IsMappedUse r) catch_use h.catches (λ c lt. maps_to kinds.Typ c.typ lt) known) all
 
 pub images_there : (m : Mentions) (r : Maps) (c : NumberedItem) (x : symbolic.Code) → MapsAll m r → DenotesCode m c x → HasImages r c
 images_there m r c x maps_to h = record {
@@ -71,23 +66,17 @@ images_there m r c x maps_to h = record {
 
 -- ---- a number whose image is that of a symbol has a place
 
-image_within : (m n : Mentions) (r : Maps) (k : SymbolKind) (i j : ℕ) → AllMapTo m n r → image_of r k i ≡ Some j → j < count_of k n
-image_within m n r kinds.Text i j l e = (l.texts_mapped.same i j [] e).within
-image_within m n r kinds.Typ i j l e = (l.types_mapped.same i j [] e).within
-image_within m n r kinds.Proto i j l e = (l.protos_mapped.same i j (record { return_type = []; parameters = [] }) e).within
-image_within m n r kinds.Field i j l e = (l.fields_mapped.same i j (record { class = []; name = []; type = [] }) e).within
-image_within m n r kinds.Method i j l e = (l.methods_mapped.same i j (record { class = []; name = []; proto = record { return_type = []; parameters = [] } }) e).within
-
-place_by : (m n : Mentions) (r : Maps) (k : SymbolKind) (i : ℕ) (o : Option ℕ) → AllMapTo m n r → image_of r k i ≡ o → IsSome o → (j : ℕ) × (image_of r k i ≡ Some j) × (j < count_of k n)
-place_by m n r k i None l e some = absurd cc
-place_by m n r k i (Some j) l e some = (j, e, image_within m n r k i j l e)
+-- a number that has an image has one that is a number
+image_there : (r : Maps) (u : Use) (o : Option ℕ) → image_of r u.kind u.number ≡ o → IsSome o → (j : ℕ) × (image_of r u.kind u.number ≡ Some j)
+image_there r u None e some = absurd cc
+image_there r u (Some j) e some = (j, e)
 
 module _ (m n : Mentions) (r : Maps) (l : AllMapTo m n r) (few : (kind : SymbolKind) → count_of kind n < 2 ^ 32) where
   type_place : (u : Use) → IsMappedUse r u → HasTypePlace r u
-  type_place u some = let at = place_by m n r u.kind u.number (image_of r u.kind u.number) l refl some in (at.0, at.1, omega (arith, at.2, few u.kind))
+  type_place u some = let at = image_there r u (image_of r u.kind u.number) refl some in (at.0, at.1, omega (arith, maps_within m n r l u.kind u.number at.0 at.1, few u.kind))
 
   debug_place : (u : Use) → IsMappedUse r u → HasPlace r u
-  debug_place u some = let at = place_by m n r u.kind u.number (image_of r u.kind u.number) l refl some in (at.0, at.1, omega (arith, at.2, few u.kind))
+  debug_place u some = let at = image_there r u (image_of r u.kind u.number) refl some in (at.0, at.1, omega (arith, maps_within m n r l u.kind u.number at.0 at.1, few u.kind))
 
 pub places_there : (m n : Mentions) (r : Maps) (c : NumberedItem) → AllMapTo m n r → ((kind : SymbolKind) → count_of kind n < 2 ^ 32) → All (pieces.HasPlace r) c.body.pieces → HasImages r c → HasPlaces r c
 places_there m n r c l few fits images = record {
@@ -103,11 +92,6 @@ uses_of_images r c h =
 
 -- ---- numbers that fit, and have no greater images
 
--- a number that has an image has one that is a number
-image_there : (r : Maps) (u : Use) (o : Option ℕ) → image_of r u.kind u.number ≡ o → IsSome o → (j : ℕ) × (image_of r u.kind u.number ≡ Some j)
-image_there r u None e some = absurd cc
-image_there r u (Some j) e some = (j, e)
-
 -- the number has an encoding as a uleb128p1
 abbrev IsSmall : Use → Type 0
 IsSmall u = u.number + 1 < 2 ^ 32
@@ -121,28 +105,19 @@ small_operation op formed =
     All-append IsSmall (number_uses kinds.Text (name_of op)) (number_uses kinds.Typ (type_of op) ++ number_uses kinds.Text (signature_of op)) (small_number kinds.Text (name_of op) formed.name_fits)
     (All-append IsSmall (number_uses kinds.Typ (type_of op)) (number_uses kinds.Text (signature_of op)) (small_number kinds.Typ (type_of op) formed.type_fits) (small_number kinds.Text (signature_of op) formed.signature_fits))
 
-all_flat : {X : Type 0} (P : X → Type 0) (Q : Use → Type 0) (f : X → List Use) (xs : List X) → ((x : X) → P x → All Q (f x)) → All P xs → All Q (flat_map f xs)
-all_flat P Q f [] step all = All-nil Q
-all_flat P Q f (x ∷ xs) step all = All-append Q (f x) (flat_map f xs) (step x (All-head P x xs all)) (all_flat P Q f xs step (All-tail P x xs all))
-
 small_uses : (d : NumberedDebug) → IsFormedDebug d → All IsSmall (debug_uses d)
 small_uses d formed =
     All-append IsSmall (flat_map (number_uses kinds.Text) d.parameter_names) (flat_map operation_uses d.operations)
     (all_flat FitsIndex IsSmall (number_uses kinds.Text) d.parameter_names (small_number kinds.Text) formed.names_fit)
     (all_flat IsFormedOperation IsSmall operation_uses d.operations small_operation formed.operations_fit)
 
--- what holds of both lists' members one for one
-all_both : (P Q R : Use → Type 0) (us : List Use) → ((u : Use) → P u → Q u → R u) → All P us → All Q us → All R us
-all_both P Q R [] step p q = All-nil R
-all_both P Q R (u ∷ us) step p q = All-cons R u us (step u (All-head P u us p) (All-head Q u us q)) (all_both P Q R us step (All-tail P u us p) (All-tail Q u us q))
-
 pub debug_cut : (r : Maps) (d : NumberedDebug) → MapsDown r → IsFormedDebug d → All (IsMappedUse r) (debug_uses d) → All (HasPlace r) (debug_uses d)
 debug_cut r d down formed images =
-    all_both IsSmall (IsMappedUse r) (HasPlace r) (debug_uses d) (λ u small some. let at = image_there r u (image_of r u.kind u.number) refl some in (at.0, at.1, omega (arith, small, down u.kind u.number at.0 at.1))) (small_uses d formed) images
+    all_both IsSmall (IsMappedUse r) (HasPlace r) (debug_uses d) (small_uses d formed) images (λ u small some. let at = image_there r u (image_of r u.kind u.number) refl some in (at.0, at.1, omega (arith, small, down u.kind u.number at.0 at.1)))
 
 types_cut : (r : Maps) (us : List Use) → MapsDown r → All (λ u. u.number < 2 ^ 32) us → All (IsMappedUse r) us → All (HasTypePlace r) us
 types_cut r us down fit images =
-    all_both (λ u. u.number < 2 ^ 32) (IsMappedUse r) (HasTypePlace r) us (λ u small some. let at = image_there r u (image_of r u.kind u.number) refl some in (at.0, at.1, omega (arith, small, down u.kind u.number at.0 at.1))) fit images
+    all_both (λ u. u.number < 2 ^ 32) (IsMappedUse r) (HasTypePlace r) us fit images (λ u small some. let at = image_there r u (image_of r u.kind u.number) refl some in (at.0, at.1, omega (arith, small, down u.kind u.number at.0 at.1)))
 
 optional_cut : (r : Maps) (o : Option NumberedDebug) → MapsDown r → IfSome o IsFormedDebug → All (IsMappedUse r) (optional_debug_uses o) → All (HasPlace r) (optional_debug_uses o)
 optional_cut r None down formed images = All-nil (HasPlace r)

@@ -1,7 +1,8 @@
 -- The symbols of a code item, part by part.
-use Rattle.std.proofs.Common.{◌≡◌, List, [], ◌++◌, Option, Some, None, option_to_list, refl, sym, subst}
+use Rattle.std.proofs.Common.{◌≡◌, List, [], ◌∷◌, ◌++◌, Option, Some, None, option_to_list, refl, sym, subst}
 use Rattle.std.specs.List.{All, FoldsTo, flat_map}
 use Rattle.std.proofs.lemmas.List.{append-nil}
+use Rattle.std.proofs.lemmas.List.Elements.{All-nil, All-append, All-head, All-tail}
 use Rattle.dexpool.specs.Uses.{Use}
 use Rattle.dexinsn.specs.Numbered.{uses_of}
 use Rattle.dexdebug.specs.Debug.{NumberedDebug, debug_uses}
@@ -9,6 +10,11 @@ use Rattle.dexcode.specs.Numbered.{NumberedItem}
 use Rattle.dexcode.specs.Renumbering.{tries_uses, item_uses}
 use Rattle.dexpool.proofs.Parts.{all_prefix, all_back}
 use Rattle.dexpool.proofs.Visits.{visited_both}
+
+-- what holds of all that each member gives holds of all together
+pub all_flat : {X : Type 0} (P : X → Type 0) (Q : Use → Type 0) (f : X → List Use) (xs : List X) → ((x : X) → P x → All Q (f x)) → All P xs → All Q (flat_map f xs)
+all_flat P Q f [] step all = All-nil Q
+all_flat P Q f (x ∷ xs) step all = All-append Q (f x) (flat_map f xs) (step x (All-head P x xs all)) (all_flat P Q f xs step (All-tail P x xs all))
 
 -- those of the debug program, if there is one
 abbrev pub optional_debug_uses : Option NumberedDebug → List Use

@@ -1,9 +1,11 @@
 -- Items that are images of others: their offsets are those of the others, and the distinct ones are images of the
 -- distinct others.
-use Rattle.std.proofs.Common.{◌≡◌, ℕ, zero, suc, ◌+◌, ◌<◌, Bool, true, false, not, List, [], ◌∷◌, ◌++◌, length, map, take, drop, get_or, filter, refl, ap, ◌∙◌, if◌then◌else◌, arith}
+use Rattle.std.proofs.Common.{◌≡◌, ℕ, zero, suc, ◌+◌, ◌<◌, Bool, List, [], ◌∷◌, ◌++◌, length, map, take, drop, get_or, refl, ap, arith}
 use Rattle.std.specs.List.{All}
-use Rattle.std.proofs.lemmas.List.Elements.{All-nil, All-cons, All-head, All-tail}
+use Rattle.std.proofs.lemmas.List.Elements.{All-nil, All-cons, All-contains, Contains-get_or}
 use Rattle.dexspec.specs.Lists.{Item, Sequence, distinct}
+use Rattle.dexspec.proofs.lists.Distinct.{distinct_mapped}
+use Rattle.dexspec.proofs.lists.Sources.{distinct_source}
 
 -- the images of items are at the offsets of the items
 pub seq_map : {X Y : Type 0} (At : Item X) (Bt : Item Y) (f : X → Y) (b : List ℕ) → ((o : ℕ) (x : X) (n : ℕ) → At b o x n → Bt b o (f x) n) → (o : ℕ) (xs : List X) (n : ℕ) → Sequence At b o xs n → Sequence Bt b o (map f xs) n
@@ -35,41 +37,10 @@ split_at [] i d lt = absurd (omega (arith, lt))
 split_at (x ∷ xs) zero d lt = refl
 split_at (x ∷ xs) (suc i) d lt = ap (λ ys. x ∷ ys) (split_at xs i d (omega (arith, lt)))
 
--- the default does not matter within
-pub one_default : {X : Type 0} (xs : List X) (i : ℕ) (d e : X) → i < length xs → get_or xs i d ≡ get_or xs i e
-one_default [] i d e lt = absurd (omega (arith, lt))
-one_default (x ∷ xs) zero d e lt = refl
-one_default (x ∷ xs) (suc i) d e lt = one_default xs i d e (omega (arith, lt))
-
 -- what holds of all members holds of the distinct ones
-module _ {X : Type 0} (P : X → Type 0) where
-  kept_by : (b : Bool) (x : X) (xs : List X) → P x → All P xs → All P (if not b then x ∷ xs else xs)
-  kept_by true x xs h all = all
-  kept_by false x xs h all = All-cons P x xs h all
+pub all_distinct : {X : Type 0} (P : X → Type 0) (same : X → X → Bool) (xs : List X) → All P xs → All P (distinct same xs)
+all_distinct P same xs all = λ k d lt. All-contains P xs (get_or (distinct same xs) k d) all (distinct_source same xs (get_or (distinct same xs) k d) (Contains-get_or (distinct same xs) k d lt))
 
-  all_kept : (same : X → Bool) (xs : List X) → All P xs → All P (filter (λ y. not (same y)) xs)
-  all_kept same [] all = all
-  all_kept same (x ∷ xs) all = kept_by (same x) x (filter (λ y. not (same y)) xs) (All-head P x xs all) (all_kept same xs (All-tail P x xs all))
-
-  pub all_distinct : (same : X → X → Bool) (xs : List X) → All P xs → All P (distinct same xs)
-  all_distinct same [] all = all
-  all_distinct same (x ∷ xs) all = All-cons P x (filter (λ y. not (same x y)) (distinct same xs)) (All-head P x xs all) (all_kept (same x) (distinct same xs) (all_distinct same xs (All-tail P x xs all)))
-
-module _ {X Y : Type 0} (same : X → X → Bool) (equivalent : Y → Y → Bool) (f : X → Y) (P : X → Type 0) (agree : (x y : X) → P x → P y → equivalent (f x) (f y) ≡ same x y) where
-  image_by : (x y : X) (ys : List X) (b c : Bool) → c ≡ b → filter (λ z. not (equivalent (f x) z)) (map f ys) ≡ map f (filter (λ z. not (same x z)) ys)
-      → (if not c then f y ∷ filter (λ z. not (equivalent (f x) z)) (map f ys) else filter (λ z. not (equivalent (f x) z)) (map f ys)) ≡ map f (if not b then y ∷ filter (λ z. not (same x z)) ys else filter (λ z. not (same x z)) ys)
-  image_by x y ys true true e h = h
-  image_by x y ys false false e h = ap (λ zs. f y ∷ zs) h
-  image_by x y ys true false e h = absurd cc
-  image_by x y ys false true e h = absurd cc
-
-  kept_image : (x : X) (ys : List X) → P x → All P ys → filter (λ z. not (equivalent (f x) z)) (map f ys) ≡ map f (filter (λ z. not (same x z)) ys)
-  kept_image x [] h all = refl
-  kept_image x (y ∷ ys) h all = image_by x y ys (same x y) (equivalent (f x) (f y)) (agree x y h (All-head P y ys all)) (kept_image x ys h (All-tail P y ys all))
-
-  -- the distinct images are the images of the distinct members
-  pub distinct_map : (xs : List X) → All P xs → distinct equivalent (map f xs) ≡ map f (distinct same xs)
-  distinct_map [] all = refl
-  distinct_map (x ∷ xs) all =
-      ap (λ ys. f x ∷ filter (λ z. not (equivalent (f x) z)) ys) (distinct_map xs (All-tail P x xs all))
-      ∙ ap (λ ys. f x ∷ ys) (kept_image x (distinct same xs) (All-head P x xs all) (all_distinct P same xs (All-tail P x xs all)))
+-- the distinct images are the images of the distinct members
+pub distinct_map : {X Y : Type 0} (same : X → X → Bool) (equivalent : Y → Y → Bool) (f : X → Y) (P : X → Type 0) → ((x y : X) → P x → P y → equivalent (f x) (f y) ≡ same x y) → (xs : List X) → All P xs → distinct equivalent (map f xs) ≡ map f (distinct same xs)
+distinct_map same equivalent f P agree xs all = distinct_mapped f same equivalent xs (λ x y here there. agree x y (All-contains P xs x all here) (All-contains P xs y all there))

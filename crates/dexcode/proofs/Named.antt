@@ -5,7 +5,7 @@ use Rattle.std.specs.Bool.{Decides}
 use Rattle.std.specs.List.{list_any}
 use Rattle.std.proofs.lemmas.Bool.{cases_eq}
 use Rattle.std.proofs.lemmas.List.{length-append, get_or_append_left, map-append, map_more}
-use Rattle.std.proofs.lemmas.List.Elements.{All-nil, All-cons, All-head, All-tail, All-push}
+use Rattle.std.proofs.lemmas.List.Elements.{All-nil, All-head, All-tail, All-push, All-weaker}
 use Rattle.indexmap.specs.IndexSet.{insert_key}
 use Rattle.dexcode.specs.declared.tries.Try.{Try}
 use Rattle.dexspec.specs.Lists.{distinct}
@@ -56,8 +56,7 @@ named_grown hs more (t ∷ ts) all =
 
 -- nor is one of them lost
 pub within_grown : (hs more : List NumberedHandler) (ts : List Try) → All (λ t. t.handler < length hs) ts → All (λ t. t.handler < length (hs ++ more)) ts
-within_grown hs more [] all = All-nil (λ (x : Try). x.handler < length (hs ++ more))
-within_grown hs more (t ∷ ts) all = All-cons (λ (x : Try). x.handler < length (hs ++ more)) t ts (omega (arith, All-head (λ (x : Try). x.handler < length hs) t ts all, length-append hs more)) (within_grown hs more ts (All-tail (λ (x : Try). x.handler < length hs) t ts all))
+within_grown hs more ts all = All-weaker (λ (t : Try). t.handler < length hs) (λ (t : Try). t.handler < length (hs ++ more)) (λ t lt. omega (arith, lt, length-append hs more)) ts all
 
 -- the handler of the next try is one more that is named
 next_used : (listed : List NumberedHandler) (tries : List Try) (i : ℕ) (d : Try) → i < length tries → insert_key same_handler (handlers_of (all_named listed (take i tries))) (get_or listed (get_or tries i d).handler no_handler) ≡ handlers_of (all_named listed (take (i + 1) tries))

@@ -7,7 +7,8 @@ use Rattle.std.specs.List.{All, AllZip}
 use Rattle.std.proofs.lemmas.List.Elements.{All-nil, All-cons, All-head, All-tail}
 use Rattle.std.specs.Cmp.{unsigned_Decides, first_so, second_so}
 use Rattle.std.specs.Cmp.Lexicographic.{pointwise, pointwise_decides}
-use Rattle.std.proofs.lemmas.List.{length-map, length-append, map-append, get_or-map}
+use Rattle.std.proofs.lemmas.List.{length-map, length-append, map-append, get_or-map, get_or_default}
+use Rattle.std.proofs.lemmas.Simd.{map-map}
 use Rattle.std.proofs.lemmas.List.Sums.{sum_by-cons}
 use Rattle.dexspec.specs.Lists.{Sequence, distinct, rank}
 use Rattle.dexspec.specs.Numbers.{Uleb128At}
@@ -27,7 +28,7 @@ use Rattle.dexdebug.specs.Equality.{both, option_decides}
 use Rattle.dexcode.specs.Equality.{handler_decides}
 use Rattle.dexcode.specs.Numbered.{NumberedHandler, NumberedTry, no_handler, catch_meant, handler_meant, try_meant, same_handler, handlers_of, handlers_weight, DenotesCatch, DenotesTry}
 use Rattle.dexcode.specs.Reading.{CatchAt, CatchAllAt, HandlerAt, IsHandler, TryAt, AreApart, TryItemsAt}
-use Rattle.dexcode.proofs.Images.{seq_map, seq_back, seq_take, seq_all, split_at, one_default, distinct_map}
+use Rattle.dexcode.proofs.Images.{seq_map, seq_back, seq_take, seq_all, split_at, distinct_map}
 
 -- ---- equality
 
@@ -99,8 +100,7 @@ module _ (m : Mentions) (rising : AreRising m) where
       one_answer (symbolic.same_handler (handler_meant m h) (handler_meant m k)) (same_handler h k) ((λ e. one_meaning h k p q (s.0 e)), (λ e. s.1 (ap (handler_meant m) e))) (handler_decides h k)
 
   handlers_map : (ts : List NumberedTry) → map (λ (t : symbolic.Try). t.handler) (map (try_meant m) ts) ≡ map (handler_meant m) (map (λ (t : NumberedTry). t.handler) ts)
-  handlers_map [] = refl
-  handlers_map (t ∷ ts) = ap (λ hs. handler_meant m t.handler ∷ hs) (handlers_map ts)
+  handlers_map ts = map-map (λ (t : symbolic.Try). t.handler) (try_meant m) ts ∙ sym (map-map (handler_meant m) (λ (t : NumberedTry). t.handler) ts)
 
   -- the distinct handlers are those of the tries with types
   pub handlers_meant : (ts : List NumberedTry) → All (IsInRange m) (map (λ t. t.handler) ts) → symbolic.handlers_of (map (try_meant m) ts) ≡ map (handler_meant m) (handlers_of ts)
@@ -207,7 +207,7 @@ module _ (b : List ℕ) (m : Mentions) (pools : ArePools b m) (rising : AreRisin
       let same = one_sequence (symbolic.HandlerAt us cuts) (one.one_handler us cuts) b (o + size) (map f (take i hs)) g.before some.0 g.before_size (ap length front) found g.encodes in
       let is : f (get_or hs i no_handler) ≡ x = sym (get_or-map f hs i no_handler x lt) ∙ ap (λ ys. get_or ys i x) g.parts ∙ at_seam g.before x g.after in (
         get_or hs i no_handler,
-        record { index = i; before = some.0; begins = record { within = lt; encodes = some.1 }; place = omega (arith, g.place, same.1); is = λ d. one_default hs i d no_handler lt },
+        record { index = i; before = some.0; begins = record { within = lt; encodes = some.1 }; place = omega (arith, g.place, same.1); is = λ d. get_or_default hs i d no_handler lt },
         is,
       )
     where
@@ -297,7 +297,7 @@ module _ (b : List ℕ) (m : Mentions) (pools : ArePools b m) (rising : AreRisin
 -- ---- what tries denote
 
 catch_encoded : (m : Mentions) (c : Catch) → c.typ < length m.types → DenotesCatch m c (catch_meant m c)
-catch_encoded m c lt = record { type_is = record { within = lt; is = λ d. one_default m.types c.typ d [] lt }; address_is = refl }
+catch_encoded m c lt = record { type_is = record { within = lt; is = λ d. get_or_default m.types c.typ d [] lt }; address_is = refl }
 
 catches_encoded : (m : Mentions) (cs : List Catch) → All (λ c. c.typ < length m.types) cs → AllZip (DenotesCatch m) cs (map (catch_meant m) cs)
 catches_encoded m [] all = tt

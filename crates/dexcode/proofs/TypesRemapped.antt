@@ -1,11 +1,13 @@
 -- The types of handlers, remapped: which handlers stay distinct, and what tries name then.
-use Rattle.std.proofs.Common.{◌≡◌, ℕ, ◌+◌, ◌*◌, ◌<◌, Bool, true, false, not, List, [], ◌∷◌, length, map, get_or, filter, Some, refl, ap, sym, ◌∙◌, subst, if◌then◌else◌, arith, inl, inr}
+use Rattle.std.proofs.Common.{◌≡◌, ℕ, ◌+◌, ◌*◌, ◌<◌, Bool, List, [], ◌∷◌, length, map, get_or, Some, refl, ap, sym, ◌∙◌, subst, arith, inl, inr}
 use Rattle.std.specs.Prelude.{sum_by}
 use Rattle.std.specs.Bool.{Decides, one_answer}
 use Rattle.std.specs.Option.{unwrap_or}
 use Rattle.std.specs.List.{All, flat_map}
 use Rattle.std.proofs.lemmas.List.{length-map, get_or-map}
-use Rattle.std.proofs.lemmas.List.Elements.{All-nil, All-cons, All-head, All-tail}
+use Rattle.std.proofs.lemmas.List.Elements.{All-nil, All-cons, All-head, All-tail, All-contains, Contains-get_or}
+use Rattle.std.proofs.lemmas.Simd.{map-map}
+use Rattle.dexspec.proofs.lists.Distinct.{distinct_has}
 use Rattle.std.proofs.lemmas.List.Sums.{sum_by-cons}
 use Rattle.dexspec.specs.Lists.{distinct}
 use Rattle.dexpool.specs.declared.symbols.SymbolKind.TheVariants as kinds
@@ -14,7 +16,7 @@ use Rattle.dexpool.specs.Orderly.{KeepOrder}
 use Rattle.dexcode.specs.declared.handlers.Catch.{Catch}
 use Rattle.dexcode.specs.declared.tries.Try.{Try}
 use Rattle.dexcode.specs.Equality.{handler_decides}
-use Rattle.dexcode.specs.Numbered.{NumberedHandler, NumberedTry, AreStored, same_handler, handlers_of, handlers_weight, no_handler, all_named}
+use Rattle.dexcode.specs.Numbered.{NumberedHandler, NumberedTry, AreStored, same_handler, handlers_of, handlers_weight, no_handler, named, all_named}
 use Rattle.dexcode.specs.Renumbering.{catch_use, handler_uses, tries_uses, HasTypePlace, AreTypesApart, remapped_type, remapped_try, renumbered_catch, renumbered_handler, renumbered_try}
 use Rattle.dexpool.proofs.Parts.{all_parts}
 use Rattle.dexcode.proofs.Images.{distinct_map}
@@ -26,30 +28,10 @@ pub all_back_map : {X Y : Type 0} (P : Y → Type 0) (f : X → Y) (xs : List X)
 all_back_map P f [] h = All-nil (λ x. P (f x))
 all_back_map P f (x ∷ xs) h = All-cons (λ x. P (f x)) x xs (All-head P (f x) (map f xs) h) (all_back_map P f xs (All-tail P (f x) (map f xs) h))
 
--- ---- distinct members
-
-module _ {X : Type 0} (same : X → X → Bool) (decides : (x y : X) → Decides (same x y) (x ≡ y)) (P : X → Type 0) where
-  heads_by : (x y : X) (b : Bool) (zs : List X) → same x y ≡ b → P x → All P (if not b then y ∷ zs else zs) → P y
-  heads_by x y true zs e p h = subst P ((decides x y).0 e) p
-  heads_by x y false zs e p h = All-head P y zs h
-
-  tails_by : (y : X) (b : Bool) (zs : List X) → All P (if not b then y ∷ zs else zs) → All P zs
-  tails_by y true zs h = h
-  tails_by y false zs h = All-tail P y zs h
-
-  -- what holds of a member and of those that are not the same holds of all
-  all_others : (x : X) (ys : List X) → P x → All P (filter (λ y. not (same x y)) ys) → All P ys
-  all_others x [] p h = All-nil P
-  all_others x (y ∷ ys) p h =
-      let rest = filter (λ z. not (same x z)) ys in
-      All-cons P y ys (heads_by x y (same x y) rest refl p h) (all_others x ys p (tails_by y (same x y) rest h))
-
-  -- what holds of the distinct members holds of all
-  pub all_from_distinct : (xs : List X) → All P (distinct same xs) → All P xs
-  all_from_distinct [] h = All-nil P
-  all_from_distinct (x ∷ xs) h =
-      let p = All-head P x (filter (λ y. not (same x y)) (distinct same xs)) h in
-      All-cons P x xs p (all_from_distinct xs (all_others x (distinct same xs) p (All-tail P x (filter (λ y. not (same x y)) (distinct same xs)) h)))
+-- what holds of the distinct members holds of all
+pub all_from_distinct : {X : Type 0} (same : X → X → Bool) → ((x y : X) → Decides (same x y) (x ≡ y)) → (P : X → Type 0) (xs : List X) → All P (distinct same xs) → All P xs
+all_from_distinct same decides P xs h =
+    λ k d lt. All-contains P (distinct same xs) (get_or xs k d) h (distinct_has same (λ x y e. (decides x y).0 e) xs (get_or xs k d) (Contains-get_or xs k d lt))
 
 -- ---- handlers remapped
 
@@ -95,8 +77,7 @@ module _ (r : Maps) (apart : AreTypesApart r) where
       one_answer (same_handler (renumbered_handler r h) (renumbered_handler r k)) (same_handler h k) ((λ e. one_handler h k p q (s.0 e)), (λ e. s.1 (ap (renumbered_handler r) e))) (handler_decides h k)
 
   handlers_map : (ts : List NumberedTry) → map (λ (t : NumberedTry). t.handler) (map (renumbered_try r) ts) ≡ map (renumbered_handler r) (map (λ (t : NumberedTry). t.handler) ts)
-  handlers_map [] = refl
-  handlers_map (t ∷ ts) = ap (λ hs. renumbered_handler r t.handler ∷ hs) (handlers_map ts)
+  handlers_map ts = map-map (λ (t : NumberedTry). t.handler) (renumbered_try r) ts ∙ sym (map-map (renumbered_handler r) (λ (t : NumberedTry). t.handler) ts)
 
   -- the distinct handlers, once remapped, are those of the remapped tries
   pub handlers_remapped : (ts : List NumberedTry) → All (HasTypePlace r) (tries_uses ts) → handlers_of (map (renumbered_try r) ts) ≡ map (renumbered_handler r) (handlers_of ts)
@@ -140,5 +121,4 @@ stored_remapped r hs ts apart all are = record {
 
 -- tries with their handlers, remapped
 pub all_remapped : (r : Maps) (hs : List NumberedHandler) (ts : List Try) → map (renumbered_try r) (all_named hs ts) ≡ map (remapped_try r hs) ts
-all_remapped r hs [] = refl
-all_remapped r hs (t ∷ ts) = ap (λ us. remapped_try r hs t ∷ us) (all_remapped r hs ts)
+all_remapped r hs ts = map-map (renumbered_try r) (named hs) ts

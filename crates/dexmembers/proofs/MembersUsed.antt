@@ -3,7 +3,7 @@ use Rattle.std.proofs.Common.{◌≡◌, ℕ, ◌<◌, List, [], ◌∷◌, ◌+
 use Rattle.std.specs.Prelude.{IfSome}
 use Rattle.std.specs.List.{All, AllZip, flat_map}
 use Rattle.std.specs.Option.{option_map}
-use Rattle.std.proofs.lemmas.List.{map-append}
+use Rattle.std.proofs.lemmas.List.{map-append, get_or_default}
 use Rattle.std.proofs.lemmas.List.Elements.{All-nil, All-cons, All-head, All-tail, All-append}
 use Rattle.dexspec.specs.Texts.{Text}
 use Rattle.dexspec.specs.Mentions.{Mentions, set_symbols, field_symbols, method_symbols, code_symbols, values_symbols}
@@ -18,7 +18,6 @@ use Rattle.dexcode.specs.Numbered.{NumberedItem}
 use Rattle.dexcode.specs.Meaning.{code_in, IsKnownCode}
 use Rattle.dexcode.specs.Renumbering.{item_uses}
 use Rattle.dexdebug.proofs.DebugMeanings.{zip-append}
-use Rattle.dexcode.proofs.Images.{one_default}
 use Rattle.dexmembers.specs.Numbered.{NumberedField, NumberedMethod, NumberedMembers, field_in, method_in, members_in, fields_of, methods_of, IsKnownField, IsKnownMethod, AreKnownMembers, AreOfClass}
 use Rattle.dexmembers.specs.Uses.{field_uses, method_uses, members_uses, members_symbols}
 
@@ -47,12 +46,12 @@ module _ (m : Mentions) where
   field_there : (class : Text) (i : ℕ) → i < length m.fields → (field_at m i).class ≡ class → IsAt m.fields i (record { class = class; name = (field_at m i).name; type = (field_at m i).type })
   field_there class i lt e =
       let whole : field_at m i ≡ record { class = class; name = (field_at m i).name; type = (field_at m i).type } = λ k. record { class = e k; name = (field_at m i).name; type = (field_at m i).type } in
-      record { within = lt; is = λ d. one_default m.fields i d (record { class = []; name = []; type = [] }) lt ∙ whole }
+      record { within = lt; is = λ d. get_or_default m.fields i d (record { class = []; name = []; type = [] }) lt ∙ whole }
 
   method_there : (class : Text) (i : ℕ) → i < length m.methods → (method_at m i).class ≡ class → IsAt m.methods i (record { class = class; name = (method_at m i).name; proto = (method_at m i).proto })
   method_there class i lt e =
       let whole : method_at m i ≡ record { class = class; name = (method_at m i).name; proto = (method_at m i).proto } = λ k. record { class = e k; name = (method_at m i).name; proto = (method_at m i).proto } in
-      record { within = lt; is = λ d. one_default m.methods i d (record { class = []; name = []; proto = record { return_type = []; parameters = [] } }) lt ∙ whole }
+      record { within = lt; is = λ d. get_or_default m.methods i d (record { class = []; name = []; proto = record { return_type = []; parameters = [] } }) lt ∙ whole }
 
   field_used : (class : Text) (f : NumberedField) → IsKnownField m f → (field_at m f.number).class ≡ class → AllZip (IsUseOf m) (field_uses f) (field_symbols class (field_in m f))
   field_used class f known e = ((field_there class f.number known.number_in e, tt), set_used f.annotations known.annotations_known)

@@ -1,14 +1,14 @@
 use Rattle.std.proofs.Common.{◌≡◌, get_or, sym, subst, ◌∙◌}
+use Rattle.std.proofs.lemmas.List.{get_or_default}
 use Rattle.dexcode.specs.Numbered.{no_handler}
 use Rattle.dexcode.specs.CodePut.{numbered_handler_bytes}
 use Rattle.dexhead.proofs.Encoded.{given_more, given_all}
-use Rattle.dexcode.proofs.Images.{one_default}
 use Rattle.dexcode.proofs.code_put.encode_handlers.Goals as goal
 
 pub loop-handler-preserved : goal.loop-handler-preserved
 loop-handler-preserved g c =
     let hs = c.args.handlers.now in
-    let is : get_or hs c.loop-handler.handler-index no_handler ≡ c.handler-item.result = one_default hs c.loop-handler.handler-index no_handler c.handler-item.result c.loop-handler-test.true ∙ sym c.handler-item.is in
+    let is : get_or hs c.loop-handler.handler-index no_handler ≡ c.handler-item.result = get_or_default hs c.loop-handler.handler-index no_handler c.handler-item.result c.loop-handler-test.true ∙ sym c.handler-item.is in
     given_more g.O.Output.gives g.met.O.Output.both numbered_handler_bytes hs c.loop-handler.handler-index no_handler c.args.out.now c.loop-handler.out c.encode_handler.new.out c.loop-handler-test.true c.loop-handler.invariant
     (subst (λ h. g.O.Output.gives (numbered_handler_bytes h) c.loop-handler.out c.encode_handler.new.out) (sym is) c.encode_handler.ensures)
 

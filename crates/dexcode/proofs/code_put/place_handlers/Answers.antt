@@ -1,11 +1,10 @@
 use Rattle.std.proofs.Common.{◌≡◌, ℕ, length, get_or, slice_set, ap, sym, ◌∙◌, inl, inr, arith}
-use Rattle.std.proofs.lemmas.List.{length-set, get_or-set_same, get_or-set_other}
+use Rattle.std.proofs.lemmas.List.{length-set, get_or-set_same, get_or-set_other, get_or_default}
 use Rattle.std.proofs.lemmas.Bool.{cases_eq}
 use Rattle.dexcode.specs.Numbered.{no_handler}
 use Rattle.dexcode.specs.CodePut.{numbered_handler_bytes, place_of}
 use Rattle.dexcode.proofs.HandlerPlaces.{weight_count, weight_more, typed_at, place_more}
 use Rattle.dexcode.proofs.CodeSizes.{handler_length}
-use Rattle.dexcode.proofs.Images.{one_default}
 use Rattle.dexcode.proofs.code_put.place_handlers.Goals as goal
 
 pub overflow_cast-handlers : goal.overflow_cast-handlers
@@ -22,7 +21,7 @@ loop-i-preserved c =
     let place = c.loop-i.place in
     let inv = c.loop-i.invariant in
     let lt = c.loop-i-test.true in
-    let is : get_or hs i no_handler ≡ c.index-handlers-i.result = one_default hs i no_handler c.index-handlers-i.result lt ∙ sym c.index-handlers-i.is in
+    let is : get_or hs i no_handler ≡ c.index-handlers-i.result = get_or_default hs i no_handler c.index-handlers-i.result lt ∙ sym c.index-handlers-i.is in
     record {
       sum = place_more hs i no_handler place c.handler_len-place.result lt inv.sum (c.handler_len-place.ensures.len ∙ ap (λ h. length (numbered_handler_bytes h)) (sym is));
       few = omega (arith, inv.few, c.handler_len-place.ensures.len, ap (λ h. length (numbered_handler_bytes h)) is, handler_length (get_or hs i no_handler) (typed_at hs i no_handler c.requires.short.typed lt), weight_more hs i no_handler lt);

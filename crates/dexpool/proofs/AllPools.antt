@@ -3,14 +3,13 @@ use Rattle.std.proofs.Common.{◌≡◌, ℕ, List, get_or, sym, ◌∙◌, subs
 use Rattle.std.specs.Prelude.{map}
 use Rattle.std.proofs.lemmas.List.{length-map, get_or-map}
 use Rattle.dexspec.specs.Texts.{Text}
-use Rattle.dexspec.specs.Accepted.{HoldBelow, IsFrame}
+use Rattle.dexspec.specs.Accepted.{IsFrame}
 use Rattle.dexpool.specs.declared.rows.ProtoEntry.{ProtoEntry}
 use Rattle.dexrows.specs.declared.fields.FieldRow.{FieldRow}
 use Rattle.dexrows.specs.declared.methods.MethodRow.{MethodRow}
 use Rattle.dexpool.specs.Tables.{text_of, proto_of, field_of, method_of}
 use Rattle.dexpool.specs.Reading.{ReadTo, AreTexts, AreTypes, AreNames, AreProtos, AreFields, AreMethods}
 use Rattle.dexpool.specs.Pools.{symbols_of, AreAll, ArePools}
-use Rattle.dexpool.proofs.Refusing.{hold_below}
 
 -- what rows of numbers denote, one by one
 mapped : {X Y : Type 0} (Row : List ℕ → ℕ → X → Type 0) (Symbol : List ℕ → ℕ → Y → Type 0) (Holds : List ℕ → ℕ → Type 0) (f : X → Y) (x : X) (b : List ℕ) (xs : List X) (n : ℕ)
@@ -36,9 +35,6 @@ module _ (b : List ℕ) (texts : List Text) (types ps : List ℕ) (protos : List
     fields_are = mapped _ _ _ (field_of texts types) (record { class = 0; name = 0; typ = 0 }) b fields _ (λ k z s. s.is) h.fields_are;
     methods_are = mapped _ _ _ (method_of texts types ps protos) (record { class = 0; name = 0; proto = 0 }) b methods _ (λ k z s. s.is) h.methods_are;
   }
-
-  pub all_hold : HoldBelow 16 b
-  all_hold = hold_below b 16 (omega arith) h.names.frame (λ lt. h.names.texts_are.held) (λ lt. h.names.types_are.held) (λ lt. h.protos_are.held) (λ lt. h.fields_are.held) (λ lt. h.methods_are.held)
 
 -- what was read, part by part, is the five tables
 pub all_read : (b : List ℕ) (texts t1 t2 : List Text) (types y : List ℕ) (ps : List ℕ) (protos : List ProtoEntry) (fields : List FieldRow) (methods : List MethodRow) → IsFrame b → AreTexts b texts → AreTypes b t1 types

@@ -1,5 +1,5 @@
 -- Rows of fields.
-use Rattle.std.proofs.Common.{◌≡◌, ℕ, true, false, List, [], ◌∷◌, subst}
+use Rattle.std.proofs.Common.{◌≡◌, ℕ, List, [], ◌∷◌, subst}
 use Rattle.dexspec.specs.Texts.{Text}
 use Rattle.dexspec.specs.Names.{IsClass, IsMemberName, IsValueType}
 use Rattle.dexspec.specs.Symbols.{Field, IsField}
@@ -8,21 +8,16 @@ use Rattle.dexspec.specs.Rows.{row_at, StringRow, TypeRow, HasField, field_row_k
 use Rattle.dexspec.proofs.determined.OneRow.{one_string, one_type}
 use Rattle.dexrows.specs.declared.fields.FieldRow.{FieldRow}
 use Rattle.dexpool.specs.Tables.{field_of, field_key, field_cmp}
-use Rattle.dexpool.specs.Reading.{ReadTo, is_above_last, FieldRowAt, HasFieldNumbers}
-use Rattle.dexpool.proofs.Steps.{follows_if, follows_not}
+use Rattle.dexpool.specs.Reading.{FieldRowAt, HasFieldNumbers}
+use Rattle.dexspec.specs.Conditions.{Condition}
+use Rattle.dexpool.specs.internal.ReadRows.{DecidesNext}
+use Rattle.dexpool.proofs.Steps.{decided}
 
 pub field_key_is : (texts : List Text) (types : List ℕ) (b : List ℕ) (k : ℕ) (f : FieldRow) → FieldRowAt texts types b k f → field_row_key b k ≡ field_key f
 field_key_is texts types b k f s = λ i. s.numbers.class i ∷ s.numbers.name i ∷ s.numbers.type i ∷ []
 
-pub has_field : (texts : List Text) (types : List ℕ) (b : List ℕ) (xs : List FieldRow) (i : ℕ) (f : FieldRow) → ReadTo (FieldRowAt texts types) HasField b xs i → FieldRowAt texts types b i f → is_above_last field_cmp f xs ≡ true → HasField b i
-has_field texts types b xs i f h is above = record {
-  item = field_of texts types f;
-  is = is.is;
-  follows = follows_if (FieldRowAt texts types) HasField b field_row_key field_key (field_key_is texts types b) xs i f h is above;
-}
-
-pub no_field : (texts : List Text) (types : List ℕ) (b : List ℕ) (xs : List FieldRow) (i : ℕ) (f : FieldRow) → ReadTo (FieldRowAt texts types) HasField b xs i → FieldRowAt texts types b i f → is_above_last field_cmp f xs ≡ false → HasField b i → ⊥
-no_field texts types b xs i f h is above holds = follows_not (FieldRowAt texts types) HasField b field_row_key field_key (field_key_is texts types b) xs i f h is above holds.follows
+pub field_decided : (texts : List Text) (types : List ℕ) (b : List ℕ) → DecidesNext Condition.Fields (FieldRowAt texts types) field_cmp b
+field_decided texts types b = decided (FieldRowAt texts types) b rows.FieldRow field_row_key field_key (field_key_is texts types b) (λ k f s. (field_of texts types f, s.is))
 
 -- a row names these texts, and so they make a field where it is one
 pub formed_field : (b : List ℕ) (i : ℕ) (f : FieldRow) (x : Field) (class name type : Text) → HasFieldNumbers b i f → rows.FieldRow b i x → TypeRow b f.class class → StringRow b f.name name → TypeRow b f.typ type → IsField (record { class = class; name = name; type = type })

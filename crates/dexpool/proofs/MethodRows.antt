@@ -1,5 +1,5 @@
 -- Rows of methods.
-use Rattle.std.proofs.Common.{◌≡◌, ℕ, ◌<◌, ◌≤◌, true, false, List, [], ◌∷◌, length, sym, subst, arith}
+use Rattle.std.proofs.Common.{◌≡◌, ℕ, ◌<◌, ◌≤◌, List, [], ◌∷◌, length, sym, subst, arith}
 use Rattle.dexspec.specs.Texts.{Text}
 use Rattle.dexspec.specs.Names.{IsReferenceType, IsMemberName}
 use Rattle.dexspec.specs.Symbols.{Method}
@@ -10,22 +10,17 @@ use Rattle.dexspec.proofs.determined.OneRow.{one_string, one_type}
 use Rattle.dexpool.specs.declared.rows.ProtoEntry.{ProtoEntry}
 use Rattle.dexrows.specs.declared.methods.MethodRow.{MethodRow}
 use Rattle.dexpool.specs.Tables.{method_of, method_key, method_cmp}
-use Rattle.dexpool.specs.Reading.{ReadTo, is_above_last, IsText, IsType, AreProtos, MethodRowAt, HasMethodNumbers, AreMethodNames}
-use Rattle.dexpool.proofs.Steps.{follows_if, follows_not}
+use Rattle.dexpool.specs.Reading.{IsText, IsType, AreProtos, MethodRowAt, HasMethodNumbers, AreMethodNames}
+use Rattle.dexspec.specs.Conditions.{Condition}
+use Rattle.dexpool.specs.internal.ReadRows.{DecidesNext}
+use Rattle.dexpool.proofs.Steps.{decided}
 
 module _ (texts : List Text) (types ps : List ℕ) (protos : List ProtoEntry) (b : List ℕ) where
   pub method_key_is : (k : ℕ) (m : MethodRow) → MethodRowAt texts types ps protos b k m → method_row_key b k ≡ method_key m
   method_key_is k m s = λ i. s.numbers.class i ∷ s.numbers.name i ∷ s.numbers.proto i ∷ []
 
-  pub has_method : (xs : List MethodRow) (i : ℕ) (m : MethodRow) → ReadTo (MethodRowAt texts types ps protos) HasMethod b xs i → MethodRowAt texts types ps protos b i m → is_above_last method_cmp m xs ≡ true → HasMethod b i
-  has_method xs i m h is above = record {
-    item = method_of texts types ps protos m;
-    is = is.is;
-    follows = follows_if (MethodRowAt texts types ps protos) HasMethod b method_row_key method_key method_key_is xs i m h is above;
-  }
-
-  pub no_method : (xs : List MethodRow) (i : ℕ) (m : MethodRow) → ReadTo (MethodRowAt texts types ps protos) HasMethod b xs i → MethodRowAt texts types ps protos b i m → is_above_last method_cmp m xs ≡ false → HasMethod b i → ⊥
-  no_method xs i m h is above holds = follows_not (MethodRowAt texts types ps protos) HasMethod b method_row_key method_key method_key_is xs i m h is above holds.follows
+  pub method_decided : DecidesNext Condition.Methods (MethodRowAt texts types ps protos) method_cmp b
+  method_decided = decided (MethodRowAt texts types ps protos) b rows.MethodRow method_row_key method_key method_key_is (λ k m s. (method_of texts types ps protos m, s.is))
 
   -- a row that is read
   pub method_has_row : (i : ℕ) (m : MethodRow) (class name : Text) → i < table_size b MethodIds → AreProtos b texts types ps protos → HasMethodNumbers b i m → IsType b texts types m.class class → IsText b texts m.name name

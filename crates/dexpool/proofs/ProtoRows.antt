@@ -1,5 +1,5 @@
 -- Rows of protos.
-use Rattle.std.proofs.Common.{◌≡◌, ℕ, zero, suc, ◌<◌, Bool, true, false, List, [], ◌∷◌, length, get_or, sym, ap, ◌∙◌, subst, arith, inl, inr}
+use Rattle.std.proofs.Common.{◌≡◌, ℕ, zero, suc, ◌<◌, List, [], ◌∷◌, length, get_or, sym, ap, ◌∙◌, subst, arith, inl, inr}
 use Rattle.std.specs.Prelude.{map, All}
 use Rattle.std.specs.List.{AllZip}
 use Rattle.dexspec.specs.Texts.{Text}
@@ -12,8 +12,10 @@ use Rattle.dexspec.specs.Rows.{row_at, StringRow, TypeRow, TypeListAt, type_indi
 use Rattle.dexspec.proofs.determined.OneRow.{one_string, one_type}
 use Rattle.dexpool.specs.declared.rows.ProtoEntry.{ProtoEntry}
 use Rattle.dexpool.specs.Tables.{type_of, span_of, proto_of, proto_key, proto_cmp}
-use Rattle.dexpool.specs.Reading.{ReadTo, is_above_last, IsText, IsType, HasIndices, ProtoRowAt, IsListed, AllTypes, listed, file_numbers}
-use Rattle.dexpool.proofs.Steps.{follows_if, follows_not}
+use Rattle.dexpool.specs.Reading.{IsText, IsType, HasIndices, ProtoRowAt, IsListed, AllTypes, listed, file_numbers}
+use Rattle.dexspec.specs.Conditions.{Condition}
+use Rattle.dexpool.specs.internal.ReadRows.{DecidesNext}
+use Rattle.dexpool.proofs.Steps.{decided}
 use Rattle.dexpool.proofs.TypeLists.{listed_is}
 
 -- ---- one row
@@ -64,15 +66,5 @@ is_at_there b texts types i off p s t lt at sr tr ps is =
 pub proto_key_is : (texts : List Text) (types ps : List ℕ) (b : List ℕ) (k : ℕ) (p : ProtoEntry) → ProtoRowAt texts types ps b k p → proto_row_key b k ≡ proto_key ps p
 proto_key_is texts types ps b k p s = λ i. s.numbers.return_type i ∷ s.numbers.parameters_are i
 
-pub has_proto : (texts : List Text) (types ps : List ℕ) (b : List ℕ) (xs : List ProtoEntry) (i : ℕ) (p : ProtoEntry) → ReadTo (ProtoRowAt texts types ps) HasProto b xs i → ProtoRowAt texts types ps b i p → is_above_last (proto_cmp ps) p xs ≡ true → HasProto b i
-has_proto texts types ps b xs i p h is above = record {
-  item = proto_of texts types ps p;
-  is = is.is;
-  follows = follows_if (ProtoRowAt texts types ps) HasProto b proto_row_key (proto_key ps) (proto_key_is texts types ps b) xs i p h is above;
-}
-
-pub no_proto : (texts : List Text) (types ps : List ℕ) (b : List ℕ) (xs : List ProtoEntry) (i : ℕ) (p : ProtoEntry) → ReadTo (ProtoRowAt texts types ps) HasProto b xs i → ProtoRowAt texts types ps b i p → is_above_last (proto_cmp ps) p xs ≡ false → HasProto b i → ⊥
-no_proto texts types ps b xs i p h is above holds = follows_not (ProtoRowAt texts types ps) HasProto b proto_row_key (proto_key ps) (proto_key_is texts types ps b) xs i p h is above holds.follows
-
-pub reported_proto : (ps qs : List ℕ) (xs ys : List ProtoEntry) (p : ProtoEntry) (r : Bool) → ps ≡ qs → ys ≡ xs → r ≡ is_above_last (proto_cmp ps) p ys → is_above_last (proto_cmp qs) p xs ≡ r
-reported_proto ps qs xs ys p r e f is = ap (λ (zs : List ProtoEntry). is_above_last (proto_cmp qs) p zs) (sym f) ∙ ap (λ (l : List ℕ). is_above_last (proto_cmp l) p ys) (sym e) ∙ sym is
+pub proto_decided : (texts : List Text) (types ps : List ℕ) (b : List ℕ) → DecidesNext Condition.Protos (ProtoRowAt texts types ps) (proto_cmp ps) b
+proto_decided texts types ps b = decided (ProtoRowAt texts types ps) b rows.ProtoRow proto_row_key (proto_key ps) (proto_key_is texts types ps b) (λ k p s. (proto_of texts types ps p, s.is))

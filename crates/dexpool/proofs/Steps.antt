@@ -1,6 +1,6 @@
 -- One row more.
 use Rattle.std.proofs.Common.{◌≡◌, ℕ, zero, suc, ◌+◌, ◌-◌, ◌<◌, Bool, true, false, List, [], ◌∷◌, ◌++◌, length, get_or, refl, sym, ap, ◌∙◌, subst, arith, inl, inr}
-use Rattle.std.specs.Prelude.{◌==◌}
+use Rattle.std.specs.Prelude.{Some, slice_get}
 use Rattle.std.specs.Ordering.{is_lt, ordering_then, nat_cmp}
 use Rattle.std.specs.declared.cmp.Ordering.{Ordering}
 use Rattle.std.specs.declared.cmp.Ordering.TheVariants.{Less, Equal, Greater}
@@ -12,19 +12,13 @@ use Rattle.dexspec.specs.Texts.{Text, text_cmp}
 use Rattle.dexspec.specs.Bytes.{uint_at}
 use Rattle.dexspec.specs.Names.{IsDescriptor}
 use Rattle.dexspec.specs.Header.{TypeIds, table_size}
-use Rattle.dexspec.specs.Rows.{key_cmp, Follows, row_at, type_row_key, StringRow, TypeRow, HasString, HasType}
+use Rattle.dexspec.specs.Rows.{key_cmp, row_at, type_row_key, HasRow, StringRow, TypeRow}
+use Rattle.dexspec.specs.Conditions.{Condition}
 use Rattle.dexpool.specs.Tables.{text_of, type_cmp}
 use Rattle.dexpool.specs.Reading.{ReadTo, is_above_last, AreTexts, TypeRowAt}
+use Rattle.dexpool.specs.internal.ReadRows.{DecidesNext}
 
 -- ---- the last row
-
-not_empty : {X : Type 0} (xs : List X) → false ≡ (length xs == 0) → 0 < length xs
-not_empty [] e = absurd cc
-not_empty (x ∷ xs) e = omega arith
-
--- what the code returns for a list that equals another
-pub reported : {X : Type 0} (R : X → X → Ordering) (xs ys : List X) (x : X) (r : Bool) → ys ≡ xs → r ≡ is_above_last R x ys → is_above_last R x xs ≡ r
-reported R xs ys x r e is = ap (is_above_last R x) (sym e) ∙ sym is
 
 then_equal : (o : Ordering) → o ≡ ordering_then o Equal
 then_equal Less = refl
@@ -48,9 +42,13 @@ module _ {X : Type 0} (R : X → X → Ordering) where
   is_above_last-at (y ∷ z ∷ ys) zero x d e = absurd (omega arith)
   is_above_last-at (y ∷ z ∷ ys) (suc i) x d e = is_above_last-at (z ∷ ys) i x d (omega arith)
 
-  -- as the code returns it
-  pub above_is : (xs : List X) (x d : X) (r : Bool) → false ≡ (length xs == 0) → r ≡ is_lt (R (get_or xs (length xs - 1) d) x) → r ≡ is_above_last R x xs
-  above_is xs x d r some answer = answer ∙ sym (is_above_last-at xs (length xs - 1) x d (omega (arith, not_empty xs some)))
+  -- as the code returns it for the last row
+  pub above_is : (xs : List X) (j : ℕ) (x y : X) (r : Bool) → Some y ≡ slice_get xs j → j ≡ length xs - 1 → r ≡ is_lt (R y x) → r ≡ is_above_last R x xs
+  above_is [] j x y r e at answer = absurd cc
+  above_is (z ∷ []) zero x y r e at answer = answer ∙ ap (λ t. is_lt (R t x)) (let same : y ≡ z = cc in same)
+  above_is (z ∷ []) (suc j) x y r e at answer = absurd (omega arith)
+  above_is (z ∷ w ∷ ws) zero x y r e at answer = absurd (omega arith)
+  above_is (z ∷ w ∷ ws) (suc j) x y r e at answer = above_is (w ∷ ws) j x y r e (omega arith) answer
 
   -- where one is not above, there is a last row
   pub last_is : (xs : List X) (x : X) → is_above_last R x xs ≡ false → (j : ℕ) × (j + 1 ≡ length xs)
@@ -82,55 +80,52 @@ module _ {X : Type 0} (Row : List ℕ → ℕ → X → Type 0) (Holds : List �
     ];
   })
 
-  module _ (key : List ℕ → ℕ → List ℕ) (key_of : X → List ℕ) (same : (k : ℕ) (x : X) → Row b k x → key b k ≡ key_of x) where
-    -- a row that is above the last one follows
-    pub follows_if : (xs : List X) (i : ℕ) (x : X) → ReadTo Row Holds b xs i → Row b i x → is_above_last (λ y z. key_cmp (key_of y) (key_of z)) x xs ≡ true → Follows key b i
-    follows_if xs i x h is above j next =
-        let less = last_less (λ y z. key_cmp (key_of y) (key_of z)) xs j x x (omega (arith, h.count)) above in
-        ap (λ (l : List ℕ). key_cmp l (key b i)) (same j (get_or xs j x) (h.each j x (omega arith))) ∙ ap (key_cmp (key_of (get_or xs j x))) (same i x is) ∙ less
-
-    -- and another does not
-    pub follows_not : (xs : List X) (i : ℕ) (x : X) → ReadTo Row Holds b xs i → Row b i x → is_above_last (λ y z. key_cmp (key_of y) (key_of z)) x xs ≡ false → Follows key b i → ⊥
-    follows_not xs i x h is above follows =
-        let last = last_is (λ y z. key_cmp (key_of y) (key_of z)) xs x above in
-        let j = last.0 in
-        let less = follows j (omega (arith, last.1, h.count)) in
-        last_not (λ y z. key_cmp (key_of y) (key_of z)) xs j x x last.1 above
-        (ap (λ (l : List ℕ). key_cmp l (key_of x)) (sym (same j (get_or xs j x) (h.each j x (omega (arith, last.1, h.count))))) ∙ ap (key_cmp (key b j)) (sym (same i x is)) ∙ less)
+-- a row that is above the last one follows, and another does not
+pub decided : {X Y : Type 0} (Row : List ℕ → ℕ → X → Type 0) (b : List ℕ) (Item : List ℕ → ℕ → Y → Type 0) (key : List ℕ → ℕ → List ℕ) (key_of : X → List ℕ) → ((k : ℕ) (x : X) → Row b k x → key b k ≡ key_of x)
+    → ((k : ℕ) (x : X) → Row b k x → (y : Y) × Item b k y) → (xs : List X) (i : ℕ) (x : X) → ReadTo Row (HasRow Item key) b xs i → Row b i x
+    → (is_above_last (λ y z. key_cmp (key_of y) (key_of z)) x xs ≡ true → HasRow Item key b i) × (is_above_last (λ y z. key_cmp (key_of y) (key_of z)) x xs ≡ false → HasRow Item key b i → ⊥)
+decided {X} {Y} Row b Item key key_of same item xs i x h is =
+    let R : X → X → Ordering = λ y z. key_cmp (key_of y) (key_of z) in (
+      λ above. record {
+        item = (item i x is).0;
+        is = (item i x is).1;
+        follows = λ j next.
+            let less = last_less R xs j x x (omega (arith, h.count)) above in
+            ap (λ (l : List ℕ). key_cmp l (key b i)) (same j (get_or xs j x) (h.each j x (omega arith))) ∙ ap (key_cmp (key_of (get_or xs j x))) (same i x is) ∙ less;
+      },
+      λ above holds.
+          let last = last_is R xs x above in
+          let j = last.0 in
+          let less = holds.follows j (omega (arith, last.1, h.count)) in
+          last_not R xs j x x last.1 above
+          (ap (λ (l : List ℕ). key_cmp l (key_of x)) (sym (same j (get_or xs j x) (h.each j x (omega (arith, last.1, h.count))))) ∙ ap (key_cmp (key b j)) (sym (same i x is)) ∙ less),
+    )
 
 -- ---- texts
 
--- a text above the last one has its place
-pub has_string : (b : List ℕ) (xs : List Text) (i : ℕ) (s : Text) → ReadTo StringRow HasString b xs i → StringRow b i s → is_above_last text_cmp s xs ≡ true → HasString b i
-has_string b xs i s h is above = record {
-  text = s;
-  is = is;
-  follows = λ j before next row.
-      let same : get_or xs j s ≡ before = one_string b j _ _ (h.each j s (omega arith)) row in
-      subst (λ t. text_cmp t s ≡ Less) same (last_less text_cmp xs j s s (omega (arith, h.count)) above);
-}
-
--- and another has not
-pub no_string : (b : List ℕ) (xs : List Text) (i : ℕ) (s : Text) → ReadTo StringRow HasString b xs i → StringRow b i s → is_above_last text_cmp s xs ≡ false → HasString b i → ⊥
-no_string b xs i s h is above holds =
-    let last = last_is text_cmp xs s above in
-    let less = holds.follows last.0 (get_or xs last.0 s) (omega (arith, last.1, h.count)) (h.each last.0 s (omega (arith, last.1, h.count))) in
-    last_not text_cmp xs last.0 s s last.1 above (subst (λ t. text_cmp (get_or xs last.0 s) t ≡ Less) (one_string b i _ _ holds.is is) less)
+pub string_decided : (b : List ℕ) → DecidesNext Condition.Strings StringRow text_cmp b
+string_decided b xs i s h is = (
+  λ above. record {
+    text = s;
+    is = is;
+    follows = λ j before next row.
+        let same : get_or xs j s ≡ before = one_string b j _ _ (h.each j s (omega arith)) row in
+        subst (λ t. text_cmp t s ≡ Less) same (last_less text_cmp xs j s s (omega (arith, h.count)) above);
+  },
+  λ above holds.
+      let last = last_is text_cmp xs s above in
+      let less = holds.follows last.0 (get_or xs last.0 s) (omega (arith, last.1, h.count)) (h.each last.0 s (omega (arith, last.1, h.count))) in
+      last_not text_cmp xs last.0 s s last.1 above (subst (λ t. text_cmp (get_or xs last.0 s) t ≡ Less) (one_string b i _ _ holds.is is) less),
+)
 
 -- ---- types
 
 pub type_key_is : (texts : List Text) (b : List ℕ) (k n : ℕ) → TypeRowAt texts b k n → type_row_key b k ≡ n ∷ []
 type_key_is texts b k n s = ap (λ (m : ℕ). m ∷ []) s.index
 
-pub has_type : (texts : List Text) (b : List ℕ) (xs : List ℕ) (i n : ℕ) → ReadTo (TypeRowAt texts) HasType b xs i → TypeRowAt texts b i n → is_above_last type_cmp n xs ≡ true → HasType b i
-has_type texts b xs i n h is above = record {
-  item = text_of texts n;
-  is = is.is;
-  follows = follows_if (TypeRowAt texts) HasType b type_row_key (λ m. m ∷ []) (type_key_is texts b) xs i n h is above;
-}
-
-pub no_type : (texts : List Text) (b : List ℕ) (xs : List ℕ) (i n : ℕ) → ReadTo (TypeRowAt texts) HasType b xs i → TypeRowAt texts b i n → is_above_last type_cmp n xs ≡ false → HasType b i → ⊥
-no_type texts b xs i n h is above holds = follows_not (TypeRowAt texts) HasType b type_row_key (λ m. m ∷ []) (type_key_is texts b) xs i n h is above holds.follows
+-- the row of a type
+pub type_decided : (texts : List Text) (b : List ℕ) → DecidesNext Condition.Types (TypeRowAt texts) type_cmp b
+type_decided texts b = decided (TypeRowAt texts) b TypeRow type_row_key (λ m. m ∷ []) (type_key_is texts b) (λ k n s. (text_of texts n, s.is))
 
 -- the text of a number that is in range
 pub text_row : (b : List ℕ) (texts : List Text) (n m : ℕ) → AreTexts b texts → n < length texts → m ≡ n → StringRow b m (text_of texts n)

@@ -7,5 +7,6 @@ pub mod Marking
 pub mod Joining
 pub mod CheckedLists
 pub mod FileRows
+pub mod ReadRows
 pub mod SharedLists
 pub mod Weights

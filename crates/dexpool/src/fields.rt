@@ -1,25 +1,22 @@
 //! The pool of fields.
 
-ghost use Rattle.std.specs.Prelude.{◌≡◌, ◌↔◌, ◌+◌, ◌<◌, ℕ, List, MatchOption, IfOk, IfErr, IsTrue};
-ghost use Rattle.dexspec.specs.Bytes.{uint_at, ushort_at};
+ghost use Rattle.std.specs.Prelude.{◌≡◌, ◌↔◌, ◌<◌, MatchOption, IsTrue};
 ghost use Rattle.dexspec.specs.Header.{FieldIds, table_size};
 ghost use Rattle.dexspec.specs.Names.{IsDescriptor};
+ghost use Rattle.dexspec.specs.Rows.{HasField};
 ghost use Rattle.dexspec.specs.Symbols.{IsField};
-ghost use Rattle.dexspec.specs.Rows.{row_at};
-ghost use Rattle.dexspec.specs.Conditions.{Condition};
-ghost use Rattle.dexspec.specs.Accepted.{HoldsThroughout};
 ghost use Rattle.dexpool.specs.Tables.{field_cmp};
-ghost use Rattle.dexpool.specs.Reading.{is_above_last, AreNames, HasFieldNumbers};
-ghost use Rattle.dexpool.specs.internal.FileRows.{NoFileField, IsFileField, AreFileFields};
-ghost use Rattle.dexpool.specs.Faults.{IsFault};
+ghost use Rattle.dexpool.specs.Reading.{AreNames, FieldRowAt, HasFieldNumbers};
+ghost use Rattle.dexpool.specs.internal.FileRows.{IsFileField};
 
-use crate::faults::{ReadFault, refused};
 use crate::kinds::{is_class, is_value};
 use crate::names::Names;
-use dexhead::{Frame, Table, u16_at, u32_at};
+use crate::reading::TableReader;
+use dexhead::{Condition, Frame, Table, u16_at, u32_at};
 use dexrows::{FieldRow, Row};
 use dexstr::{Text, is_member_name};
-use std::alloc::Global;
+use std::alloc::AllocError;
+use std::cmp::Ordering;
 
 // The indices in a row.
 fn field_numbers(frame: &Frame<'_>, i: u32) -> FieldRow
@@ -48,7 +45,7 @@ fn is_field(class: &Text<'_>, name: &Text<'_>, typ: &Text<'_>) -> bool
 fn field_at(names: &Names<'_, '_>, i: u32) -> Option<FieldRow>
     requires names { AreNames names.now.frame.now names.now.strings.now names.now.types.now }
     requires row { i < table_size names.now.frame.now FieldIds }
-    ensures { MatchOption result (NoFileField names.now i) (IsFileField names.now i) }
+    ensures { MatchOption result (HasField names.now.frame.now i → ⊥) (IsFileField names.now i) }
 {
     let field = field_numbers(names.frame, i);
     let class = names.typ(field.class)?;
@@ -60,38 +57,41 @@ fn field_at(names: &Names<'_, '_>, i: u32) -> Option<FieldRow>
     Some(field)
 }
 
-// Returns whether the field comes after the last one, if there is one.
-fn is_above(fields: &[FieldRow], field: &FieldRow) -> bool
-    ensures { result ≡ is_above_last field_cmp field.now fields.now }
-{
-    if fields.is_empty() {
-        return true;
-    }
-    fields[fields.len() - 1].compare(field).is_lt()
-}
-
-/// The fields, by row.
+/// Reads the fields of a file whose texts and types are read. The condition fails at a row with an index out of range,
+/// whose class is no class type, whose type is void, whose name is no member's, or which does not come after the row
+/// before it, by class, name and type.
 ///
-/// Error: condition 14 fails, at the least row with an index out of range, whose class is no class type, whose type is
-/// void, whose name is no member's, or which does not come after the row before it, by class, name and type. Source:
-/// "field_id_item" and "MemberName".
-pub(crate) fn read_fields(alloc: Global, names: &Names<'_, '_>) -> Result<Vec<FieldRow>, ReadFault>
-    requires names { AreNames names.now.frame.now names.now.strings.now names.now.types.now }
-    requires protos { HoldsThroughout Condition.Protos names.now.frame.now }
-    ensures ok { IfOk result (λ fields. AreFileFields names.now fields.items) }
-    ensures err { IfErr result (IsFault names.now.frame.now) }
-{
-    let count = names.frame.size(Table::FieldIds);
-    let mut fields = Vec::with_capacity(alloc, count as usize)?;
-    for i in 0..count {
-        let field = match field_at(names, i) {
-            Some(field) => field,
-            None => return Err(refused(dexhead::Condition::Fields, i)),
-        };
-        if !is_above(&fields, &field) {
-            return Err(refused(dexhead::Condition::Fields, i));
-        }
-        fields.push(field)?;
+/// Source: "field_id_item" and "MemberName".
+impl TableReader for Names<'_, '_> {
+    ghost use Rattle.dexspec.specs.Conditions as conditions;
+
+    type Row = FieldRow;
+
+    type Memory = ();
+
+    ghost condition = { conditions.Fields };
+
+    ghost file = { λ names. names.frame.now };
+
+    ghost can_read = { λ names. AreNames names.frame.now names.strings.now names.types.now };
+
+    ghost remembers = { λ names memory. Unit {0} };
+
+    ghost is_row = { λ names. FieldRowAt names.strings.now names.types.now };
+
+    ghost row_cmp = { λ names. field_cmp };
+
+    fn rows(&self) -> (Condition, u32) {
+        (Condition::Fields, self.frame.size(Table::FieldIds))
     }
-    Ok(fields)
+
+    fn row_at(&self, _memory: &mut (), i: u32) -> Result<Option<FieldRow>, AllocError> {
+        Ok(field_at(self, i))
+    }
+
+    fn compare(&self, left: &FieldRow, right: &FieldRow) -> Ordering {
+        Row::compare(left, right)
+    }
+
+    fn law(&self) {}
 }

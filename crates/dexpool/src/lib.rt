@@ -29,6 +29,7 @@ mod parameters;
 mod pools;
 mod protos;
 mod ranks;
+mod reading;
 mod remap;
 mod renumbering;
 mod rows;

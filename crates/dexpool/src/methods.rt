@@ -1,23 +1,22 @@
 //! The pool of methods.
 
-ghost use Rattle.std.specs.Prelude.{◌≡◌, ◌↔◌, ◌+◌, ◌<◌, ℕ, List, MatchOption, IfOk, IfErr, IsTrue};
+ghost use Rattle.std.specs.Prelude.{◌↔◌, ◌<◌, MatchOption, IsTrue};
 ghost use Rattle.dexspec.specs.Header.{MethodIds, table_size};
-ghost use Rattle.dexspec.specs.Names.{IsDescriptor, IsReferenceType, IsMemberName};
-ghost use Rattle.dexspec.specs.Conditions.{Condition};
-ghost use Rattle.dexspec.specs.Accepted.{HoldsThroughout};
+ghost use Rattle.dexspec.specs.Names.{IsDescriptor};
+ghost use Rattle.dexspec.specs.Rows.{HasMethod};
 ghost use Rattle.dexpool.specs.Tables.{method_cmp};
-ghost use Rattle.dexpool.specs.Reading.{is_above_last, AreNames, HasMethodNumbers, AreMethodNames};
-ghost use Rattle.dexpool.specs.internal.FileRows.{AreFileProtos, NoFileMethod, IsFileMethod, AreFileMethods};
-ghost use Rattle.dexpool.specs.Faults.{IsFault};
+ghost use Rattle.dexpool.specs.Reading.{AreNames, AreMethodNames, HasMethodNumbers, MethodRowAt, file_numbers};
+ghost use Rattle.dexpool.specs.internal.FileRows.{AreFileProtos, IsFileMethod};
 
-use crate::faults::{ReadFault, refused};
 use crate::kinds::is_reference;
 use crate::names::Names;
+use crate::reading::TableReader;
 use crate::rows::ProtoEntry;
-use dexhead::{Frame, Table, u16_at, u32_at};
+use dexhead::{Condition, Frame, Table, u16_at, u32_at};
 use dexrows::{MethodRow, Row};
 use dexstr::{Text, is_member_name};
-use std::alloc::Global;
+use std::alloc::AllocError;
+use std::cmp::Ordering;
 
 // The indices in a row.
 fn method_numbers(frame: &Frame<'_>, i: u32) -> MethodRow
@@ -45,7 +44,7 @@ fn method_at(names: &Names<'_, '_>, protos: &[ProtoEntry], i: u32) -> Option<Met
     requires names { AreNames names.now.frame.now names.now.strings.now names.now.types.now }
     requires protos { AreFileProtos names.now protos.now }
     requires row { i < table_size names.now.frame.now MethodIds }
-    ensures { MatchOption result (NoFileMethod names.now i) (IsFileMethod names.now protos.now i) }
+    ensures { MatchOption result (HasMethod names.now.frame.now i → ⊥) (IsFileMethod names.now protos.now i) }
 {
     let method = method_numbers(names.frame, i);
     let class = names.typ(method.class)?;
@@ -59,43 +58,47 @@ fn method_at(names: &Names<'_, '_>, protos: &[ProtoEntry], i: u32) -> Option<Met
     Some(method)
 }
 
-// Returns whether the method comes after the last one, if there is one.
-fn is_above(methods: &[MethodRow], method: &MethodRow) -> bool
-    ensures { result ≡ is_above_last method_cmp method.now methods.now }
-{
-    if methods.is_empty() {
-        return true;
-    }
-    methods[methods.len() - 1].compare(method).is_lt()
+/// Reads the methods of a file whose texts, types and protos are read. The condition fails at a row with an index out of
+/// range, whose class is neither a class nor an array type, whose name is no member's, or which does not come after the
+/// row before it, by class, name and proto.
+///
+/// Source: "method_id_item" and "MemberName".
+#[derive(Clone, Copy)]
+pub(crate) struct MethodReader<'r, 'p, 'a> {
+    pub(crate) names: &'r Names<'p, 'a>,
+    pub(crate) protos: &'r [ProtoEntry],
 }
 
-/// The methods, by row.
-///
-/// Error: condition 15 fails, at the least row with an index out of range, whose class is neither a class nor an array
-/// type, whose name is no member's, or which does not come after the row before it, by class, name and proto. Source:
-/// "method_id_item" and "MemberName".
-pub(crate) fn read_methods(
-    alloc: Global,
-    names: &Names<'_, '_>,
-    protos: &[ProtoEntry],
-) -> Result<Vec<MethodRow>, ReadFault>
-    requires names { AreNames names.now.frame.now names.now.strings.now names.now.types.now }
-    requires protos { AreFileProtos names.now protos.now }
-    requires fields { HoldsThroughout Condition.Fields names.now.frame.now }
-    ensures ok { IfOk result (λ methods. AreFileMethods names.now protos.now methods.items) }
-    ensures err { IfErr result (IsFault names.now.frame.now) }
-{
-    let count = names.frame.size(Table::MethodIds);
-    let mut methods = Vec::with_capacity(alloc, count as usize)?;
-    for i in 0..count {
-        let method = match method_at(names, protos, i) {
-            Some(method) => method,
-            None => return Err(refused(dexhead::Condition::Methods, i)),
-        };
-        if !is_above(&methods, &method) {
-            return Err(refused(dexhead::Condition::Methods, i));
-        }
-        methods.push(method)?;
+impl TableReader for MethodReader<'_, '_, '_> {
+    ghost use Rattle.dexspec.specs.Conditions as conditions;
+
+    type Row = MethodRow;
+
+    type Memory = ();
+
+    ghost condition = { conditions.Methods };
+
+    ghost file = { λ reader. reader.names.now.frame.now };
+
+    ghost can_read = { λ reader. AreNames reader.names.now.frame.now reader.names.now.strings.now reader.names.now.types.now × AreFileProtos reader.names.now reader.protos.now };
+
+    ghost remembers = { λ reader memory. Unit {0} };
+
+    ghost is_row = { λ reader. MethodRowAt reader.names.now.strings.now reader.names.now.types.now (file_numbers reader.names.now.frame.now) reader.protos.now };
+
+    ghost row_cmp = { λ reader. method_cmp };
+
+    fn rows(&self) -> (Condition, u32) {
+        (Condition::Methods, self.names.frame.size(Table::MethodIds))
     }
-    Ok(methods)
+
+    fn row_at(&self, _memory: &mut (), i: u32) -> Result<Option<MethodRow>, AllocError> {
+        Ok(method_at(self.names, self.protos, i))
+    }
+
+    fn compare(&self, left: &MethodRow, right: &MethodRow) -> Ordering {
+        Row::compare(left, right)
+    }
+
+    fn law(&self) {}
 }

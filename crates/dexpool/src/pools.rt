@@ -11,17 +11,16 @@ ghost use Rattle.dexpool.specs.Owned.{symbol_of};
 ghost use Rattle.dexpool.specs.Faults.{IsFault};
 
 use crate::faults::ReadFault;
-use crate::fields::read_fields;
 use crate::lists::Parameters;
-use crate::methods::read_methods;
+use crate::methods::MethodReader;
 use crate::names::Names;
 use crate::numbering::Numbering;
 use crate::protos::read_protos;
+use crate::reading::read_table;
 use crate::rows::ProtoEntry;
-use crate::strings::read_strings;
 use crate::symbols::{FieldSymbol, MethodSymbol, ProtoSymbol, Symbol, SymbolKind, type_name};
 use crate::tables::Tables;
-use crate::types::read_types;
+use crate::types::TypeReader;
 use dexhead::Frame;
 use dexrows::{FieldRow, MethodRow, ProtoRow};
 use dexstr::{Name, Text};
@@ -66,8 +65,12 @@ impl<'a> Pools<'a> {
         ensures refused { IfErr result (IsFault frame.now) }
     {
         checked(frame);
-        let strings = read_strings(alloc, frame)?;
-        let types = read_types(alloc, frame, &strings)?;
+        let strings = read_table(alloc, frame, &mut ())?;
+        let reader = TypeReader {
+            frame,
+            strings: &strings,
+        };
+        let types = read_table(alloc, &reader, &mut ())?;
         let names = Names {
             frame,
             strings: &strings,
@@ -188,22 +191,28 @@ impl<'a> Pools<'a> {
 }
 
 // The protos, fields and methods of a file whose texts and types are read.
-fn read_rows(
+fn read_rows<'a>(
     alloc: Global,
-    names: &Names<'_, '_>,
-    parameters: &Parameters<'_>,
+    names: &Names<'_, 'a>,
+    parameters: &Parameters<'a>,
 ) -> Result<Rows, ReadFault>
     requires names { AreNames names.now.frame.now names.now.strings.now names.now.types.now }
     requires file { parameters.now ≡ file_numbers names.now.frame.now }
+    requires before { HoldBelow 13 names.now.frame.now }
     ensures protos { IfOk result (λ rows. AreFileProtos names.now rows.protos.items) }
     ensures fields { IfOk result (λ rows. AreFileFields names.now rows.fields.items) }
     ensures methods { IfOk result (λ rows.
         AreFileMethods names.now rows.protos.items rows.methods.items) }
+    ensures below { OnOk result (HoldBelow 16 names.now.frame.now) }
     ensures err { IfErr result (IsFault names.now.frame.now) }
 {
     let protos = read_protos(alloc, names, parameters)?;
-    let fields = read_fields(alloc, names)?;
-    let methods = read_methods(alloc, names, &protos)?;
+    let fields = read_table(alloc, names, &mut ())?;
+    let reader = MethodReader {
+        names,
+        protos: &protos,
+    };
+    let methods = read_table(alloc, &reader, &mut ())?;
     Ok(Rows {
         protos,
         fields,

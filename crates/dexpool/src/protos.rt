@@ -1,18 +1,21 @@
 //! The pool of protos.
 
-ghost use Rattle.std.specs.Prelude.{◌≡◌, ◌<◌, MatchOption, IfOk, IfErr};
+ghost use Rattle.std.specs.Prelude.{◌≡◌, ◌<◌, MatchOption, OnOk, IfOk, IfErr};
+ghost use Rattle.dexspec.specs.Accepted.{HoldBelow};
 ghost use Rattle.dexspec.specs.Header.{ProtoIds, table_size};
+ghost use Rattle.dexspec.specs.Rows.{HasProto};
 ghost use Rattle.dexpool.specs.Tables.{span_of, proto_cmp};
-ghost use Rattle.dexpool.specs.Reading.{is_above_last, AreNames, HasIndices, HasSpan, file_numbers, HaveSpans};
-ghost use Rattle.dexpool.specs.internal.FileRows.{IsReader, NoFileProto, IsFileProto, AreFileProtos, AreFileLists};
+ghost use Rattle.dexpool.specs.Reading.{AreNames, HasIndices, HasSpan, ProtoRowAt, file_numbers};
+ghost use Rattle.dexpool.specs.internal.FileRows.{IsReader, IsFileProto, AreFileProtos, AreFileLists};
 ghost use Rattle.dexpool.specs.Faults.{IsFault};
 
 use crate::checked_lists::{CheckedList, CheckedLists, ProtoReader};
-use crate::faults::{ReadFault, refused};
+use crate::faults::ReadFault;
 use crate::kinds::letter;
 use crate::lists::Parameters;
 use crate::names::Names;
 use crate::parameters::place_at;
+use crate::reading::{TableReader, read_table};
 use crate::rows::{ProtoEntry, Span};
 use crate::shorties::letters_of;
 use dexhead::{Condition, Frame, Table, u32_at};
@@ -57,7 +60,7 @@ fn proto_at(
     requires row { i < table_size reader.now.names.now.frame.now ProtoIds }
     ensures lists { IfOk result (λ _. AreFileLists reader.now lists.new) }
     ensures proto { IfOk result (λ found.
-        MatchOption found (NoFileProto reader.now.names.now i) (IsFileProto reader.now.names.now i)) }
+        MatchOption found (HasProto reader.now.names.now.frame.now i → ⊥) (IsFileProto reader.now.names.now i)) }
 {
     let names = reader.names;
     let indices = indices_at(names.frame, i);
@@ -99,35 +102,48 @@ pub(crate) fn part(parameters: &[usize], span: Span) -> &[usize]
     part
 }
 
-// Compares two rows by the return type, and then by the parameters.
-fn compare(parameters: &Parameters<'_>, left: &ProtoEntry, right: &ProtoEntry) -> Ordering
-    requires left { HasSpan parameters.now left.now.parameters }
-    requires right { HasSpan parameters.now right.now.parameters }
-    ensures { result ≡ proto_cmp parameters.now left.now right.now }
-{
-    match left.return_type.cmp(&right.return_type) {
-        Ordering::Equal => parameters.compare(left.parameters, right.parameters),
-        unequal => unequal,
+impl TableReader for ProtoReader<'_, '_, '_> {
+    ghost use Rattle.dexspec.specs.Conditions as conditions;
+
+    type Row = ProtoEntry;
+
+    type Memory = CheckedLists;
+
+    ghost condition = { conditions.Protos };
+
+    ghost file = { λ reader. reader.names.now.frame.now };
+
+    ghost can_read = { IsReader };
+
+    ghost remembers = { AreFileLists };
+
+    ghost is_row = { λ reader. ProtoRowAt reader.names.now.strings.now reader.names.now.types.now (file_numbers reader.names.now.frame.now) };
+
+    ghost row_cmp = { λ reader. proto_cmp (file_numbers reader.names.now.frame.now) };
+
+    fn rows(&self) -> (Condition, u32) {
+        (Condition::Protos, self.names.frame.size(Table::ProtoIds))
     }
+
+    fn row_at(&self, lists: &mut CheckedLists, i: u32) -> Result<Option<ProtoEntry>, AllocError> {
+        proto_at(self, lists, i)
+    }
+
+    fn compare(&self, left: &ProtoEntry, right: &ProtoEntry) -> Ordering {
+        match left.return_type.cmp(&right.return_type) {
+            Ordering::Equal => self.file.compare(left.parameters, right.parameters),
+            unequal => unequal,
+        }
+    }
+
+    fn law(&self) {}
 }
 
-// Returns whether the proto comes after the last one, if there is one.
-fn is_above(parameters: &Parameters<'_>, protos: &[ProtoEntry], proto: &ProtoEntry) -> bool
-    requires protos { HaveSpans parameters.now protos.now }
-    requires proto { HasSpan parameters.now proto.now.parameters }
-    ensures { result ≡ is_above_last (proto_cmp parameters.now) proto.now protos.now }
-{
-    if protos.is_empty() {
-        return true;
-    }
-    compare(parameters, &protos[protos.len() - 1], proto).is_lt()
-}
-
-/// The protos, by row, whose parameters stay in the bytes.
+/// Reads the protos of a file whose texts and types are read; their parameters stay in the bytes. The condition fails at
+/// a row with an index out of range, whose parameters are no list of types in the data or name void, whose shorty is not
+/// that of its types, or which does not come after the row before it, by the return type and then by the parameters.
 ///
-/// Error: condition 13 fails, at the least row with an index out of range, whose parameters are no list of types in the
-/// data or name void, whose shorty is not that of its types, or which does not come after the row before it, by the
-/// return type and then by the parameters. Source: "proto_id_item" and "type_list".
+/// Source: "proto_id_item" and "type_list".
 pub(crate) fn read_protos<'r, 'a>(
     alloc: Global,
     names: &'r Names<'_, 'a>,
@@ -135,10 +151,11 @@ pub(crate) fn read_protos<'r, 'a>(
 ) -> Result<Vec<ProtoEntry>, ReadFault>
     requires names { AreNames names.now.frame.now names.now.strings.now names.now.types.now }
     requires file { file.now ≡ file_numbers names.now.frame.now }
+    requires before { HoldBelow 13 names.now.frame.now }
     ensures ok { IfOk result (λ protos. AreFileProtos names.now protos.items) }
+    ensures below { OnOk result (HoldBelow 14 names.now.frame.now) }
     ensures err { IfErr result (IsFault names.now.frame.now) }
 {
-    let count = names.frame.size(Table::ProtoIds);
     let letters = letters_of(alloc, names)?;
     let reader = ProtoReader {
         alloc,
@@ -147,16 +164,5 @@ pub(crate) fn read_protos<'r, 'a>(
         file,
     };
     let mut lists = CheckedLists::none(&reader);
-    let mut rows = Vec::with_capacity(alloc, count as usize)?;
-    for i in 0..count {
-        let proto = match proto_at(&reader, &mut lists, i)? {
-            Some(proto) => proto,
-            None => return Err(refused(Condition::Protos, i)),
-        };
-        if !is_above(file, &rows, &proto) {
-            return Err(refused(Condition::Protos, i));
-        }
-        rows.push(proto)?;
-    }
-    Ok(rows)
+    read_table(alloc, &reader, &mut lists)
 }

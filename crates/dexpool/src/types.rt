@@ -1,47 +1,60 @@
 //! The pool of types.
 
-ghost use Rattle.std.specs.Prelude.{◌≡◌, ◌<◌, ℕ, List, MatchOption, IfOk, IfErr};
+ghost use Rattle.std.specs.Prelude.{◌≡◌, ◌<◌, MatchOption};
 ghost use Rattle.dexspec.specs.Header.{TypeIds, table_size};
-ghost use Rattle.dexspec.specs.Rows.{TypeRow, row_at};
+ghost use Rattle.dexspec.specs.Rows.{HasType, row_at};
 ghost use Rattle.dexspec.specs.Bytes.{uint_at};
-ghost use Rattle.dexspec.specs.Accepted.{IsFrame};
-ghost use Rattle.dexpool.specs.Reading.{is_above_last, AreTexts, AreTypes, TypeRowAt};
+ghost use Rattle.dexpool.specs.Reading.{AreTexts, TypeRowAt};
 ghost use Rattle.dexpool.specs.Tables.{type_cmp};
-ghost use Rattle.dexpool.specs.Faults.{IsFault};
 
-use crate::faults::{ReadFault, refused};
+use crate::reading::TableReader;
 use dexhead::{Condition, Frame, Table, u32_at};
 use dexstr::{Text, descriptor_kind};
-use std::alloc::Global;
+use std::alloc::AllocError;
+use std::cmp::Ordering;
 
-/// The types, by row, each as the row of its text.
+/// Reads the types of a file whose texts are read, each as the row of its text. The condition fails at a row whose index
+/// is out of range, whose text is no type descriptor, or whose index is not greater than that of the row before it.
 ///
-/// Error: condition 12 fails, at the least row whose index is out of range, whose text is no type
-/// descriptor, or whose index is not greater than that of the row before it. Source: "type_id_item" and
-/// "TypeDescriptor".
-pub(crate) fn read_types(
-    alloc: Global,
-    frame: &Frame<'_>,
-    strings: &[Text<'_>],
-) -> Result<Vec<usize>, ReadFault>
-    requires frame { IsFrame frame.now }
-    requires strings { AreTexts frame.now strings.now }
-    ensures ok { IfOk result (λ types. AreTypes frame.now strings.now types.items) }
-    ensures err { IfErr result (IsFault frame.now) }
-{
-    let count = frame.size(Table::TypeIds);
-    let mut types = Vec::with_capacity(alloc, count as usize)?;
-    for i in 0..count {
-        let index = match type_at(frame, strings, i) {
-            Some(index) => index,
-            None => return Err(refused(Condition::Types, i)),
-        };
-        if !is_above(&types, index) {
-            return Err(refused(Condition::Types, i));
-        }
-        types.push(index)?;
+/// Source: "type_id_item" and "TypeDescriptor".
+#[derive(Clone, Copy)]
+pub(crate) struct TypeReader<'p, 'a> {
+    pub(crate) frame: &'p Frame<'a>,
+    pub(crate) strings: &'p [Text<'a>],
+}
+
+impl TableReader for TypeReader<'_, '_> {
+    ghost use Rattle.dexspec.specs.Conditions as conditions;
+
+    type Row = usize;
+
+    type Memory = ();
+
+    ghost condition = { conditions.Types };
+
+    ghost file = { λ reader. reader.frame.now };
+
+    ghost can_read = { λ reader. AreTexts reader.frame.now reader.strings.now };
+
+    ghost remembers = { λ reader memory. Unit {0} };
+
+    ghost is_row = { λ reader. TypeRowAt reader.strings.now };
+
+    ghost row_cmp = { λ reader. type_cmp };
+
+    fn rows(&self) -> (Condition, u32) {
+        (Condition::Types, self.frame.size(Table::TypeIds))
     }
-    Ok(types)
+
+    fn row_at(&self, _memory: &mut (), i: u32) -> Result<Option<usize>, AllocError> {
+        Ok(type_at(self.frame, self.strings, i))
+    }
+
+    fn compare(&self, left: &usize, right: &usize) -> Ordering {
+        left.cmp(right)
+    }
+
+    fn law(&self) {}
 }
 
 // The index of the text of a row, if it is a type.
@@ -49,8 +62,7 @@ pub(crate) fn read_types(
 fn type_at(frame: &Frame<'_>, strings: &[Text<'_>], i: u32) -> Option<usize>
     requires strings { AreTexts frame.now strings.now }
     requires row { i < table_size frame.now TypeIds }
-    ensures { MatchOption result ((t : List ℕ) → TypeRow frame.now i t
-        → ⊥) (TypeRowAt strings.now frame.now i) }
+    ensures { MatchOption result (HasType frame.now i → ⊥) (TypeRowAt strings.now frame.now i) }
 {
     let index = type_index(frame, i);
     if strings.len() <= index {
@@ -69,14 +81,4 @@ fn type_index(frame: &Frame<'_>, i: u32) -> usize
     ensures { result ≡ uint_at frame.now (row_at frame.now TypeIds i) }
 {
     u32_at(frame.row(Table::TypeIds, i), 0) as usize
-}
-
-// Returns whether the index is above the last one, if there is one.
-fn is_above(types: &[usize], index: usize) -> bool
-    ensures { result ≡ is_above_last type_cmp index types.now }
-{
-    if types.is_empty() {
-        return true;
-    }
-    types[types.len() - 1].cmp(&index).is_lt()
 }

@@ -1,7 +1,6 @@
 -- Rows of a file whose texts and types are read.
 use Rattle.std.specs.Prelude.{◌≡◌, ℕ, List, IfSome}
 use Rattle.dexspec.specs.Texts.{Text}
-use Rattle.dexspec.specs.Symbols.{Proto, Field, Method}
 use Rattle.dexspec.specs.Rows as rows
 use Rattle.dexpool.specs.declared.names.Names.{Names}
 use Rattle.dexpool.specs.declared.rows.ProtoEntry.{ProtoEntry}
@@ -33,10 +32,6 @@ IsFileType names = IsType names.frame.now names.strings.now names.types.now
 
 -- ---- protos
 
--- row i is no proto
-abbrev pub NoFileProto : Names → ℕ → Type 0
-NoFileProto names i = (p : Proto) → rows.ProtoRow names.frame.now i p → ⊥
-
 -- row i is the proto of these numbers
 abbrev pub IsFileProto : Names → ℕ → ProtoEntry → Type 0
 IsFileProto names = ProtoRowAt names.strings.now names.types.now (file_numbers names.frame.now) names.frame.now
@@ -62,10 +57,6 @@ pub record AreFileLists (reader : ProtoReader) (lists : CheckedLists) : Type 0 w
 
 -- ---- fields and methods
 
--- row i is no field
-abbrev pub NoFileField : Names → ℕ → Type 0
-NoFileField names i = (f : Field) → rows.FieldRow names.frame.now i f → ⊥
-
 -- row i is the field of these numbers
 abbrev pub IsFileField : Names → ℕ → FieldRow → Type 0
 IsFileField names = FieldRowAt names.strings.now names.types.now names.frame.now
@@ -73,10 +64,6 @@ IsFileField names = FieldRowAt names.strings.now names.types.now names.frame.now
 -- the fields of all rows
 abbrev pub AreFileFields : Names → List FieldRow → Type 0
 AreFileFields names = AreFields names.frame.now names.strings.now names.types.now
-
--- row i is no method
-abbrev pub NoFileMethod : Names → ℕ → Type 0
-NoFileMethod names i = (m : Method) → rows.MethodRow names.frame.now i m → ⊥
 
 -- row i is the method of these numbers, by these protos
 abbrev pub IsFileMethod : Names → List ProtoEntry → ℕ → MethodRow → Type 0

@@ -10,16 +10,18 @@ use Rattle.dexpool.proofs.ProtoRows.{shorty_same, is_at_there}
 use Rattle.dexpool.proofs.protos.proto_at.Goals as goal
 
 pub returns-in-None-clause-proto : goal.returns-in-None-clause-proto
-returns-in-None-clause-proto c = λ p h. c.in-None.ensures _ (subst (λ n. StringRow c.args.reader.now.names.now.frame.now n (shorty p.return_type p.parameters)) c.indices_at-indices.ensures.shorty_is h.shorty)
+returns-in-None-clause-proto c = λ holds. let p = holds.item in let h = holds.is in c.in-None.ensures _ (subst (λ n. StringRow c.args.reader.now.names.now.frame.now n (shorty p.return_type p.parameters)) c.indices_at-indices.ensures.shorty_is h.shorty)
 
 pub returns-in-None-typ-clause-proto : goal.returns-in-None-typ-clause-proto
-returns-in-None-typ-clause-proto c = λ p h. c.in-None-typ.ensures _ (subst (λ n. TypeRow c.args.reader.now.names.now.frame.now n p.return_type) c.indices_at-indices.ensures.return_is h.return_type)
+returns-in-None-typ-clause-proto c = λ holds. let p = holds.item in let h = holds.is in c.in-None-typ.ensures _ (subst (λ n. TypeRow c.args.reader.now.names.now.frame.now n p.return_type) c.indices_at-indices.ensures.return_is h.return_type)
 
 pub returns-in-None-place_at-clause-proto : goal.returns-in-None-place_at-clause-proto
-returns-in-None-place_at-clause-proto c = λ p h. c.in-None-place_at.ensures p.parameters (subst (λ o. OrNone TypeListAt [] c.args.reader.now.names.now.frame.now o p.parameters) c.indices_at-indices.ensures.off_is h.parameters)
+returns-in-None-place_at-clause-proto c = λ holds. let p = holds.item in let h = holds.is in c.in-None-place_at.ensures p.parameters (subst (λ o. OrNone TypeListAt [] c.args.reader.now.names.now.frame.now o p.parameters) c.indices_at-indices.ensures.off_is h.parameters)
 
 pub returns-then-not-has_shorty-clause-proto : goal.returns-then-not-has_shorty-clause-proto
-returns-then-not-has_shorty-clause-proto c = λ p h.
+returns-then-not-has_shorty-clause-proto c = λ holds.
+    let p = holds.item in
+    let h = holds.is in
     let b = c.args.reader.now.names.now.frame.now in
     c.if-not-has_shorty.ensures.no refl p.parameters (subst (λ o. OrNone TypeListAt [] b o p.parameters) c.indices_at-indices.ensures.off_is h.parameters) h.values
     (shorty_same b c.args.i _ _ c.indices_at-indices.result.off c.letter.result p c.in-Some.shorty.now c.in-Some-typ.return_type.now c.indices_at-indices.ensures h c.in-Some.ensures.row c.in-Some-typ.ensures.row c.letter.ensures)

@@ -10,10 +10,12 @@ at_is : (b row : List ℕ) (i at : ℕ) → at ≡ uint_at row 0 → row ≡ tak
 at_is b row i at e is = e ∙ uint_at_row b row (row_at b StringIds i) 4 0 _ is (omega arith) (omega arith)
 
 pub returns-then-at-data_off : goal.returns-then-at-data_off
-returns-then-at-data_off c = λ s h. omega (arith, h.in_data, at_is c.args.frame.now c.row.result.now c.args.i _ c.u32_at-at.ensures c.row.ensures.bytes, c.data_off.ensures.off, c.if-at-data_off.true)
+returns-then-at-data_off c = λ holds. omega (arith, holds.is.in_data, at_is c.args.frame.now c.row.result.now c.args.i _ c.u32_at-at.ensures c.row.ensures.bytes, c.data_off.ensures.off, c.if-at-data_off.true)
 
 pub returns-then-bytes-at : goal.returns-then-bytes-at
-returns-then-bytes-at c = λ s h.
+returns-then-bytes-at c = λ holds.
+    let s = holds.text in
+    let h = holds.is in
     let at = at_is c.args.frame.now c.row.result.now c.args.i _ c.u32_at-at.ensures c.row.ensures.bytes in
     let len : length c.bytes-bytes.result.now ≡ length c.args.frame.now = ap (λ (b : List ℕ). length b) c.bytes-bytes.ensures.bytes in
     no_text_after c.args.frame.now _ h.encodes.0 s (omega (arith, c.if-bytes-at.true, at, len)) h.encodes.1
@@ -28,6 +30,8 @@ returns-in-Ok c =
     }
 
 pub returns-in-Err : goal.returns-in-Err
-returns-in-Err c = λ s h.
+returns-in-Err c = λ holds.
+    let s = holds.text in
+    let h = holds.is in
     let at = at_is c.args.frame.now c.row.result.now c.args.i _ c.u32_at-at.ensures c.row.ensures.bytes in
     c.in-Err.ensures.none s h.encodes.0 (subst (λ b. StringDataAt b c.u32_at-at.result s h.encodes.0) (sym c.bytes-bytes.ensures.bytes) (subst (λ o. StringDataAt c.args.frame.now o s h.encodes.0) (sym at) h.encodes.1))

@@ -3,4 +3,4 @@ use Rattle.dexpool.proofs.Steps.{no_descriptor}
 use Rattle.dexpool.proofs.types.type_at.Goals as goal
 
 pub returns-in-None : goal.returns-in-None
-returns-in-None c = λ t h. no_descriptor c.args.frame.now c.args.strings.now c.args.i _ _ t c.requires.strings c.type_index-index.ensures c.if-strings-index.false c.index-strings-index.is (c.in-None.ensures.none.0 refl) h
+returns-in-None c = λ holds. no_descriptor c.args.frame.now c.args.strings.now c.args.i _ _ holds.item c.requires.strings c.type_index-index.ensures c.if-strings-index.false c.index-strings-index.is (c.in-None.ensures.none.0 refl) holds.is

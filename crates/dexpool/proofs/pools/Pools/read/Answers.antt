@@ -1,6 +1,6 @@
 use Rattle.std.proofs.Common.{◌∙◌, ℕ, List, sym, ap, subst}
 use Rattle.dexpool.specs.Reading.{file_numbers}
-use Rattle.dexpool.proofs.AllPools.{AreRead, all_read, are_pools, all_hold}
+use Rattle.dexpool.proofs.AllPools.{AreRead, all_read, are_pools}
 use Rattle.dexpool.proofs.ReadTables.{read_tables}
 use Rattle.dexpool.proofs.pools.Pools.read.Goals as goal
 
@@ -22,6 +22,3 @@ invariant_of-result c = read_tables c.args.frame.now _ (are_read c)
 
 pub returns-clause-rows : goal.returns-clause-rows
 returns-clause-rows c = are_pools c.args.frame.now _ _ _ _ _ _ (are_read c)
-
-pub returns-clause-accepted : goal.returns-clause-accepted
-returns-clause-accepted c = all_hold c.args.frame.now _ _ _ _ _ _ (are_read c)

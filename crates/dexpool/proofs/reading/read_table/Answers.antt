@@ -1,0 +1,15 @@
+use Rattle.std.proofs.Common.{sym, ap, subst, ◌∙◌, arith}
+use Rattle.dexspec.specs.Conditions.{Condition}
+use Rattle.dexspec.specs.Accepted.{number}
+use Rattle.dexpool.specs.declared.faults.ReadFault.TheVariants.{Refused}
+use Rattle.dexpool.specs.Faults.{IsFault}
+use Rattle.dexpool.proofs.Refusing.{refused}
+use Rattle.dexpool.proofs.reading.read_table.Goals as goal
+
+pub returns-in-None-clause-err : goal.returns-in-None-clause-err
+returns-in-None-clause-err g c =
+    let b = g.R.TableReader.file c.args.reader.now in
+    let i = c.loop-i.i in
+    let is = c.refused.ensures ∙ ap (λ (x : Condition). Refused (record { number = number x; place = i })) c.rows-condition.ensures.condition in
+    let none = rw c.in-None.is at c.in_ok-row.ensures.row in
+    subst (IsFault b) (sym is) (refused b g.R.TableReader.condition i (c.law.ensures.condition b i) c.requires.before (omega (arith, c.rows-condition.ensures.count)) c.loop-i.invariant.rows.held none)

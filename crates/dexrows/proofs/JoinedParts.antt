@@ -1,5 +1,5 @@
 -- What merges of joined tables are joined of.
-use Rattle.std.proofs.Common.{◌≡◌, ℕ, ◌<◌, ◌≤◌, List, [], ◌∷◌, ◌++◌, length, get_or, map, refl, sym, ap, ◌∙◌, subst, arith, inl, inr, slice_index}
+use Rattle.std.proofs.Common.{◌≡◌, ℕ, ◌<◌, ◌≤◌, List, [], ◌∷◌, ◌++◌, length, get_or, map, sym, ap, ◌∙◌, subst, arith, inl, inr, slice_index}
 use Rattle.std.specs.List.{All, AllZip}
 use Rattle.std.proofs.lemmas.List.{length-map, map-append, get_or-map, get_or_default}
 use Rattle.std.proofs.lemmas.List.Elements.{All-nil, All-cons, All-weaker, All-contains, Contains-append_left, Contains-append_right}
@@ -9,13 +9,6 @@ use Rattle.dexrows.specs.internal.Merge.{IsOfTwo, IsMerge, IsJoinOfTwo}
 
 module _ {R : Type 0} (key : R → List ℕ) where
   -- ---- one merge
-
-  pub no_parts : IsJoin key [] [] []
-  no_parts = record {
-    sorted = refl;
-    rows_of = λ k d lt. absurd (omega arith);
-    parts_in = tt;
-  }
 
   pub one_part : (part rows : List R) (places others : List ℕ) → IsMerge key part [] rows places others → IsJoin key (part ∷ []) rows (places ∷ [])
   one_part part rows places others h = record {

@@ -120,23 +120,6 @@ module _ {R : Type 0} (key : R → List ℕ) where
     right_in = image_of rows right rights h.right_in all_right;
   }
 
-  -- nothing is merged yet
-  pub not_begun : (left right : List R) → IsMerging key left right [] [] []
-  not_begun left right = record {
-    sorted = refl;
-    rows_of = λ k d lt. absurd (omega arith);
-    left_in = none left;
-    right_in = none right;
-  }
-    where
-      none : (part : List R) → HasTaken key [] part []
-      none part = record {
-        count = omega arith;
-        within = λ i lt. absurd (omega arith);
-        same = λ i d lt. absurd (omega arith);
-        less = λ d lt k e less. absurd (omega arith);
-      }
-
   -- ---- as the code takes them
 
   -- what a comparison of the next rows says

@@ -15,10 +15,7 @@ use dexpool::{Remap, SymbolKind};
 pub(crate) fn end(remap: &Remap, kind: SymbolKind, number: u32) -> usize
     ensures { result ≡ remapped remap.now kind number }
 {
-    match remap.image(kind, number as usize) {
-        Some(image) => image,
-        None => number as usize,
-    }
+    remap.or_same(kind, number as usize)
 }
 
 /// Whether two numbers of symbols of a kind are equal, once each is remapped by its own map. A number without an image

@@ -13,8 +13,7 @@ use dexpool::{Remap, SymbolKind};
 fn remapped_type(remap: &Remap, typ: u32) -> usize
     ensures { result ≡ remapped_type remap.now typ }
 {
-    let typ = typ as usize;
-    remap.image(SymbolKind::Typ, typ).unwrap_or(typ)
+    remap.or_same(SymbolKind::Typ, typ as usize)
 }
 
 // Whether the catches are equal once their types are remapped.

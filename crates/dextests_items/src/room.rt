@@ -7,8 +7,8 @@ use dexhead::Frame;
 use dexmembers::{DirectoryOffsets, Members};
 use dexpool::{Numbering, Pools};
 use dexval::{
-    Annotation, AnnotationSet, Element, Value, Visibility, put_annotation, put_set, put_statics,
-    put_value,
+    Annotation, AnnotationSet, Element, EncodedAnnotation, Value, Visibility, put_annotation,
+    put_set, put_statics, put_value,
 };
 use std::alloc::Global;
 
@@ -57,8 +57,10 @@ fn annotation_in_its_weight(alloc: Global) -> Option<(Vec<u8>, usize)> {
     };
     let annotation = Annotation {
         visibility: Visibility::Runtime,
-        typ: 2,
-        elements: vec![in alloc; element].ok()?,
+        annotation: EncodedAnnotation {
+            typ: 2,
+            elements: vec![in alloc; element].ok()?,
+        },
     };
     let mut bytes = Vec::with_capacity(alloc, 26).ok()?;
     put_annotation(&annotation, &Numbering::empty(alloc), &mut bytes).ok()?;

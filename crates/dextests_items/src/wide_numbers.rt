@@ -3,7 +3,9 @@
 
 use dexcode::Operation;
 use dexpool::Numbering;
-use dexval::{Annotation, Element, Value, Visibility, put_annotation, put_value};
+use dexval::{
+    Annotation, Element, EncodedAnnotation, Value, Visibility, put_annotation, put_value,
+};
 use std::alloc::Global;
 
 /// Returns whether a value is put as these bytes.
@@ -67,7 +69,11 @@ fn annotation_value(alloc: Global) -> Option<Vec<u8>> {
         name: 300,
         value: Value::Boolean(true),
     };
-    let value = Value::Annotation(3, vec![in alloc; first, second].ok()?);
+    let annotation = EncodedAnnotation {
+        typ: 3,
+        elements: vec![in alloc; first, second].ok()?,
+    };
+    let value = Value::Annotation(Box::new(alloc, annotation).ok()?);
     let mut bytes = Vec::new(alloc);
     put_value(&value, &Numbering::empty(alloc), &mut bytes).ok()?;
     Some(bytes)
@@ -88,8 +94,10 @@ fn a_name_in_two_bytes(rt: HostRuntime) {
 fn annotation(alloc: Global) -> Option<Vec<u8>> {
     let annotation = Annotation {
         visibility: Visibility::System,
-        typ: 200,
-        elements: Vec::new(alloc),
+        annotation: EncodedAnnotation {
+            typ: 200,
+            elements: Vec::new(alloc),
+        },
     };
     let mut bytes = Vec::new(alloc);
     put_annotation(&annotation, &Numbering::empty(alloc), &mut bytes).ok()?;

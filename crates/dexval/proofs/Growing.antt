@@ -2,15 +2,11 @@
 use Rattle.std.proofs.Common.{◌≡◌, ℕ, ◌+◌, ◌<◌, List, [], ◌∷◌, ◌++◌, get_or, length, take, map, sym, ap, ◌∙◌, arith}
 use Rattle.std.proofs.lemmas.List.{take_more, map-append}
 use Rattle.dexval.specs.declared.value.Value.{Value}
-use Rattle.dexval.specs.declared.value.Value.TheFolds.{fold_out-Element}
 use Rattle.dexval.specs.declared.value.Element.{Element}
-use Rattle.dexval.specs.Code.{value_of, element_of, value_step, element_step}
+use Rattle.dexval.specs.Code.{value_of, element_of}
 use Rattle.dexval.specs.Numbered.{NumberedValue, values_of_list, elements_of_list}
 use Rattle.dexval.specs.Spelled.{numbered_weight, numbered_values_weight, numbered_elements_weight}
-
--- an element is its name and its value
-pub element_is : (e : Element) → element_of e ≡ (e.name, value_of e.value)
-element_is e = fold_out-Element NumberedValue (ℕ × NumberedValue) value_step element_step e
+use Rattle.dexval.proofs.CodeForms.{element_is}
 
 -- one more value
 pub values_more : (xs : List Value) (i : ℕ) (d : Value) → i < length xs → d ≡ get_or xs i d → map value_of (take (i + 1) xs) ≡ map value_of (take i xs) ++ value_of d ∷ []

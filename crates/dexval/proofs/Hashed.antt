@@ -4,17 +4,18 @@ use Rattle.std.proofs.lemmas.List.{take_all, take_more, map-append, append-nil, 
 use Rattle.std.proofs.lemmas.Grind.{flat_map-append}
 use Rattle.std.specs.List.{flat_map}
 use Rattle.std.specs.Hash as fed
-use Rattle.std.specs.Global.{Vec}
+use Rattle.std.specs.Global.{Box, Vec}
 use Rattle.dexval.specs.declared.annotation.Annotation.{Annotation}
 use Rattle.dexval.specs.declared.value.Value.{Value}
 use Rattle.dexval.specs.declared.value.Value.TheVariants as variants
 use Rattle.dexval.specs.declared.value.Element.{Element}
-use Rattle.dexval.specs.Code.{value_of, element_of, annotation_of, visibility_of}
-use Rattle.dexval.specs.Equality.{value_input, values_input, elements_input, annotation_input}
-use Rattle.dexval.specs.Numbered.{NumberedValue, NumberedElements, NumberedAnnotation, Array, Annotated, values_of_list, elements_of_list}
-use Rattle.dexval.proofs.Growing.{element_is, values_more, elements_more}
+use Rattle.dexval.specs.declared.value.EncodedAnnotation.{EncodedAnnotation, out-EncodedAnnotation}
+use Rattle.dexval.specs.Code.{value_of, element_of, elements_of, encoded_of, encoded_type, encoded_elements, annotation_of}
+use Rattle.dexval.specs.Equality.{value_input, values_input, elements_input, encoded_input, annotation_input}
+use Rattle.dexval.specs.Numbered.{NumberedValue, NumberedElements, NumberedAnnotation, Array, values_of_list, elements_of_list}
+use Rattle.dexval.proofs.CodeForms.{element_is, array_is, annotation_is}
+use Rattle.dexval.proofs.Growing.{values_more, elements_more}
 use Rattle.dexval.proofs.Members.{count_values_is, count_elements_is}
-use Rattle.dexval.proofs.ValueForms.{array_is, annotation_is}
 
 -- ---- values
 
@@ -88,30 +89,26 @@ module _ {S : Type 0} (write : S → List ℕ → S) where
       fed.fed_along write s u (ap (λ (l : fed.HashWrites). fed.usize n ++ l) (one_annotation xs i d lt e)) (fed.fed_then write s t u (fed.usize n ++ annotations_fed (take i xs)) (annotation_input (annotation_of d)) p q)
 
   -- an array, after its type code and its length
-  pub array_whole : (v : Value) (values : Vec Value) (n : ℕ) {xs : List Value} (s t u : S) → v ≡ variants.Array values → xs ≡ values.items → n ≡ length xs → t ≡ fold write s (fed.u8 0x1c ++ fed.usize n) → u ≡ fold write t (values_fed xs) → u ≡ fold write s (value_input (value_of v))
+  pub array_whole : (v : Value) (values : Box (Vec Value)) (n : ℕ) {xs : List Value} (s t u : S) → v ≡ variants.Array values → xs ≡ values.value.items → n ≡ length xs → t ≡ fold write s (fed.u8 0x1c ++ fed.usize n) → u ≡ fold write t (values_fed xs) → u ≡ fold write s (value_input (value_of v))
   array_whole v values n {xs} s t u e same size p q =
       fed.fed_along write s u
-      (ap (λ (k : ℕ). fed.u8 0x1c ++ (fed.usize k ++ values_fed xs)) (size ∙ sym (count_values_is xs)) ∙ ap (λ (l : List Value). value_input (Array (values_of_list (map value_of l)))) same ∙ ap value_input (sym (array_is v values e)))
+      (ap (λ (k : ℕ). fed.u8 0x1c ++ (fed.usize k ++ values_fed xs)) (size ∙ sym (count_values_is xs)) ∙ ap (λ (l : List Value). value_input (Array (values_of_list (map value_of l)))) same ∙ ap value_input (sym (ap value_of e ∙ array_is values)))
       (fed.fed_then write s t u (fed.u8 0x1c ++ fed.usize n) (values_fed xs) p q)
 
-  -- an annotation, after its type code, its type and the number of its elements
-  pub annotation_whole : (v : Value) (typ : ℕ) (elements : Vec Element) (n : ℕ) {xs : List Element} (s t m u : S) → v ≡ variants.Annotation typ elements → xs ≡ elements.items → n ≡ length xs → t ≡ fold write s (fed.u8 0x1d ++ fed.u32 typ) → m ≡ fold write t (fed.usize n) → u ≡ fold write m (elements_fed xs)
-      → u ≡ fold write s (value_input (value_of v))
-  annotation_whole v typ elements n {xs} s t m u e same size p k q =
-      fed.fed_along write s u
-      (ap (λ (k : ℕ). fed.u8 0x1d ++ (fed.u32 typ ++ (fed.usize k ++ elements_fed xs))) (size ∙ sym (count_elements_is xs)) ∙ ap (λ (l : List Element). value_input (Annotated typ (elements_of_list (map element_of l)))) same ∙ ap value_input (sym (annotation_is v typ elements e)))
-      (fed.fed_then write s t u (fed.u8 0x1d ++ fed.u32 typ) (fed.usize n ++ elements_fed xs) p (fed.fed_then write t m u (fed.usize n) (elements_fed xs) k q))
+  -- an annotation, after its type code
+  pub annotation_whole : (v : Value) (annotation : Box EncodedAnnotation) {a : EncodedAnnotation} (s t u : S) → v ≡ variants.Annotation annotation → a ≡ annotation.value → t ≡ fold write s (fed.u8 0x1d) → u ≡ fold write t (encoded_input (encoded_type a) (encoded_elements a)) → u ≡ fold write s (value_input (value_of v))
+  annotation_whole v annotation {a} s t u e same p q =
+      fed.fed_along write s u (ap (λ (x : EncodedAnnotation). value_input (encoded_of x)) same ∙ ap value_input (sym (ap value_of e ∙ annotation_is annotation)))
+      (fed.fed_then write s t u (fed.u8 0x1d) (encoded_input (encoded_type a) (encoded_elements a)) p q)
 
   pub annotations_done : (xs : List Annotation) (i : ℕ) (s t : S) → length xs ≤ i → t ≡ fold write s (fed.usize (length xs) ++ annotations_fed (take i xs)) → t ≡ fold write s (fed.slice annotation_input (map annotation_of xs))
   annotations_done xs i s t end p =
       p ∙ ap (λ (l : List Annotation). fold write s (fed.usize (length xs) ++ annotations_fed l)) (take_all i xs end) ∙ ap (λ (n : ℕ). fold write s (fed.usize n ++ annotations_fed xs)) (sym (length-map xs annotation_of))
 
-  -- an annotation, part by part
-  pub annotation_parts : (a : Annotation) (code n : ℕ) {xs : List Element} (s t m k u : S) → code ≡ visibility_of a.visibility → xs ≡ a.elements.items → n ≡ length xs
-      → t ≡ fold write s (fed.u8 code) → m ≡ fold write t (fed.u32 a.typ) → k ≡ fold write m (fed.usize n) → u ≡ fold write k (elements_fed xs) → u ≡ fold write s (annotation_input (annotation_of a))
-  annotation_parts a code n {xs} s t m k u is same size p q r e =
+  -- an encoded_annotation, part by part
+  pub encoded_parts : (a : EncodedAnnotation) (n : ℕ) {xs : List Element} (s t m u : S) → xs ≡ (out-EncodedAnnotation a).elements.items → n ≡ length xs
+      → t ≡ fold write s (fed.u32 (encoded_type a)) → m ≡ fold write t (fed.usize n) → u ≡ fold write m (elements_fed xs) → u ≡ fold write s (encoded_input (encoded_type a) (encoded_elements a))
+  encoded_parts a n {xs} s t m u same size p q r =
       fed.fed_along write s u
-      (ap (λ (c : ℕ). fed.u8 c ++ (fed.u32 a.typ ++ (fed.usize n ++ elements_fed xs))) is ∙ ap (λ (c : ℕ). fed.u8 (visibility_of a.visibility) ++ (fed.u32 a.typ ++ (fed.usize c ++ elements_fed xs))) (size ∙ sym (count_elements_is xs))
-      ∙ ap (λ (l : List Element). annotation_input (annotation_with (visibility_of a.visibility) a.typ (elements_of_list (map element_of l)))) same)
-      (fed.fed_then write s t u (fed.u8 code) (fed.u32 a.typ ++ (fed.usize n ++ elements_fed xs)) p
-      (fed.fed_then write t m u (fed.u32 a.typ) (fed.usize n ++ elements_fed xs) q (fed.fed_then write m k u (fed.usize n) (elements_fed xs) r e)))
+      (ap (λ (c : ℕ). fed.u32 (encoded_type a) ++ (fed.usize c ++ elements_fed xs)) (size ∙ sym (count_elements_is xs)) ∙ ap (λ (l : List Element). encoded_input (encoded_type a) (elements_of l)) same)
+      (fed.fed_then write s t u (fed.u32 (encoded_type a)) (fed.usize n ++ elements_fed xs) p (fed.fed_then write t m u (fed.usize n) (elements_fed xs) q r))

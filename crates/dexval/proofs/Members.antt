@@ -7,7 +7,8 @@ use Rattle.dexval.specs.declared.value.Element.{Element}
 use Rattle.dexval.specs.Code.{value_of, element_of}
 use Rattle.dexval.specs.Numbered.{NumberedValue, values_of_list, elements_of_list}
 use Rattle.dexval.specs.Spelled.{values_count, elements_count, numbered_weight, numbered_values_weight, numbered_elements_weight, numbered_bytes, numbered_values_bytes, numbered_elements_bytes}
-use Rattle.dexval.proofs.Growing.{element_is, values_more, elements_more}
+use Rattle.dexval.proofs.CodeForms.{element_is}
+use Rattle.dexval.proofs.Growing.{values_more, elements_more}
 
 -- ---- values
 

@@ -2,9 +2,10 @@
 use Rattle.std.specs.Prelude.{ℕ, List, map}
 use Rattle.std.specs.Global.{Vec}
 use Rattle.dexval.specs.declared.value.Value.{Value}
-use Rattle.dexval.specs.declared.value.Value.TheOpen.{Value-F, Element-F, Byte, Short, Char, Int, Long, Float, Double, String, Typ, Field, Method, Enum, Array, Annotation, Null, Boolean}
+use Rattle.dexval.specs.declared.value.Value.TheOpen.{Value-F, Element-F, EncodedAnnotation-F, Byte, Short, Char, Int, Long, Float, Double, String, Typ, Field, Method, Enum, Array, Annotation, Null, Boolean}
 use Rattle.dexval.specs.declared.value.Value.TheFolds.{fold-Value, fold-Element}
 use Rattle.dexval.specs.declared.value.Element.{Element}
+use Rattle.dexval.specs.declared.value.EncodedAnnotation.{EncodedAnnotation, out-EncodedAnnotation}
 use Rattle.dexval.specs.declared.annotation.Visibility.{Visibility}
 use Rattle.dexval.specs.declared.annotation.Visibility.TheVariants.{Build, Runtime, System}
 use Rattle.dexval.specs.declared.annotation.Annotation.{Annotation as CodeAnnotation}
@@ -14,7 +15,7 @@ use Rattle.dexval.specs.Numbered.{NumberedValue, NumberedValues, NumberedElement
 use Rattle.dexval.specs.Numbered as numbered
 
 -- one value, whose inner values are models
-abbrev pub value_step : Value-F NumberedValue (ℕ × NumberedValue) → NumberedValue
+abbrev pub value_step : Value-F NumberedValue (ℕ × NumberedValue) NumberedValue → NumberedValue
 value_step (Byte z) = Plain (ByteLiteral z)
 value_step (Short z) = Plain (ShortLiteral z)
 value_step (Char u) = Plain (CharLiteral u)
@@ -27,22 +28,26 @@ value_step (Typ i) = Named TypeReference i
 value_step (Field i) = Named FieldReference i
 value_step (Method i) = Named MethodReference i
 value_step (Enum i) = Named EnumReference i
-value_step (Array values) = numbered.Array (values_of_list values.items)
-value_step (Annotation t elements) = Annotated t (elements_of_list elements.items)
+value_step (Array values) = numbered.Array (values_of_list values.value.items)
+value_step (Annotation annotation) = annotation.value
 value_step Null = Plain NullLiteral
 value_step (Boolean is) = Plain (BooleanLiteral is)
 
 -- one element
-abbrev pub element_step : Element-F NumberedValue (ℕ × NumberedValue) → ℕ × NumberedValue
+abbrev pub element_step : Element-F NumberedValue (ℕ × NumberedValue) NumberedValue → ℕ × NumberedValue
 element_step e = (e.name, e.value)
+
+-- one encoded_annotation
+abbrev pub annotation_step : EncodedAnnotation-F NumberedValue (ℕ × NumberedValue) NumberedValue → NumberedValue
+annotation_step a = Annotated a.typ (elements_of_list a.elements.items)
 
 -- the value
 abbrev pub value_of : Value → NumberedValue
-value_of = fold-Value NumberedValue (ℕ × NumberedValue) value_step element_step
+value_of = fold-Value NumberedValue (ℕ × NumberedValue) NumberedValue value_step element_step annotation_step
 
 -- the element: its name and its value
 abbrev pub element_of : Element → ℕ × NumberedValue
-element_of = fold-Element NumberedValue (ℕ × NumberedValue) value_step element_step
+element_of = fold-Element NumberedValue (ℕ × NumberedValue) NumberedValue value_step element_step annotation_step
 
 -- the values
 abbrev pub values_of : List Value → NumberedValues
@@ -52,6 +57,18 @@ values_of values = values_of_list (map value_of values)
 abbrev pub elements_of : List Element → NumberedElements
 elements_of elements = elements_of_list (map element_of elements)
 
+-- the number of the type of an encoded_annotation
+abbrev pub encoded_type : EncodedAnnotation → ℕ
+encoded_type a = (out-EncodedAnnotation a).typ
+
+-- its elements
+abbrev pub encoded_elements : EncodedAnnotation → NumberedElements
+encoded_elements a = elements_of (out-EncodedAnnotation a).elements.items
+
+-- the encoded_annotation as a value
+abbrev pub encoded_of : EncodedAnnotation → NumberedValue
+encoded_of a = Annotated (encoded_type a) (encoded_elements a)
+
 -- the number of a visibility
 abbrev pub visibility_of : Visibility → ℕ
 visibility_of Build = 0
@@ -60,7 +77,7 @@ visibility_of System = 2
 
 -- the annotation
 abbrev pub annotation_of : CodeAnnotation → NumberedAnnotation
-annotation_of a = record { visibility = visibility_of a.visibility; type = a.typ; elements = elements_of_list (map element_of a.elements.items) }
+annotation_of a = record { visibility = visibility_of a.visibility; type = encoded_type a.annotation; elements = encoded_elements a.annotation }
 
 -- the set of these annotations
 abbrev pub set_from : List CodeAnnotation → NumberedSet

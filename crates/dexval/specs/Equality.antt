@@ -219,9 +219,13 @@ abbrev mutual
   elements_input NoElement = []
   elements_input (ThenNamed name x es) = (fed.u32 name ++ value_input x) ++ elements_input es
 
+-- an encoded_annotation: its type, and the number of its elements before them
+abbrev pub encoded_input : ℕ → NumberedElements → fed.HashWrites
+encoded_input t es = fed.u32 t ++ (fed.usize (elements_count es) ++ elements_input es)
+
 -- an annotation
 abbrev pub annotation_input : NumberedAnnotation → fed.HashWrites
-annotation_input a = fed.u8 a.visibility ++ (fed.u32 a.type ++ (fed.usize (elements_count a.elements) ++ elements_input a.elements))
+annotation_input a = fed.u8 a.visibility ++ encoded_input a.type a.elements
 
 -- a set
 abbrev pub set_input : AnnotationSet → fed.HashWrites

@@ -1,6 +1,6 @@
 //! Annotations, with numbers instead of symbols.
 
-use crate::value::Element;
+use crate::value::EncodedAnnotation;
 
 /// The visibility of an annotation.
 ///
@@ -15,12 +15,11 @@ pub enum Visibility {
     System,
 }
 
-/// An annotation: its visibility, the number of its type, and its elements.
+/// An annotation and its visibility.
 ///
 /// Source: "annotation_item".
 #[derive(Debug, Drop, PartialEq, Eq, Hash)]
 pub struct Annotation {
     pub visibility: Visibility,
-    pub typ: u32,
-    pub elements: Vec<Element>,
+    pub annotation: EncodedAnnotation,
 }

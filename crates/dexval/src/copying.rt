@@ -1,11 +1,11 @@
 //! Copies of values and of sets of annotations.
 
 ghost use Rattle.std.specs.Prelude.{◌≡◌, IfOk, map};
-ghost use Rattle.dexval.specs.Code.{value_of, element_of, annotation_of, set_of};
+ghost use Rattle.dexval.specs.Code.{value_of, element_of, encoded_of, annotation_of, set_of};
 
 use crate::annotation::Annotation;
 use crate::set::AnnotationSet;
-use crate::value::{Element, Value};
+use crate::value::{Element, EncodedAnnotation, Value};
 use std::alloc::AllocError;
 
 // The same value.
@@ -26,8 +26,13 @@ fn copied_value(value: &Value) -> Result<Value, AllocError>
         Value::Field(number) => Value::Field(*number),
         Value::Method(number) => Value::Method(*number),
         Value::Enum(number) => Value::Enum(*number),
-        Value::Array(values) => Value::Array(copied_values(values)?),
-        Value::Annotation(typ, elements) => Value::Annotation(*typ, copied_elements(elements)?),
+        Value::Array(values) => {
+            Value::Array(Box::new(*values.allocator(), copied_values(values)?)?)
+        }
+        Value::Annotation(annotation) => {
+            let alloc = *annotation.elements.allocator();
+            Value::Annotation(Box::new(alloc, copied_annotation(annotation)?)?)
+        }
         Value::Null => Value::Null,
         Value::Boolean(is) => Value::Boolean(*is),
     })
@@ -62,6 +67,17 @@ fn copied_elements(elements: &Vec<Element>) -> Result<Vec<Element>, AllocError>
     Ok(copy)
 }
 
+// The same encoded_annotation.
+#[cycle(copying)]
+fn copied_annotation(annotation: &EncodedAnnotation) -> Result<EncodedAnnotation, AllocError>
+    ensures { IfOk result (λ copy. encoded_of copy ≡ encoded_of annotation.now) }
+{
+    Ok(EncodedAnnotation {
+        typ: annotation.typ,
+        elements: copied_elements(&annotation.elements)?,
+    })
+}
+
 // The same annotations.
 fn copied_annotations(annotations: &Vec<Annotation>) -> Result<Vec<Annotation>, AllocError>
     ensures { IfOk result (λ copy.
@@ -71,8 +87,7 @@ fn copied_annotations(annotations: &Vec<Annotation>) -> Result<Vec<Annotation>, 
     for annotation in annotations {
         copy.push(Annotation {
             visibility: annotation.visibility,
-            typ: annotation.typ,
-            elements: copied_elements(&annotation.elements)?,
+            annotation: copied_annotation(&annotation.annotation)?,
         })?;
     }
     Ok(copy)

@@ -4,7 +4,7 @@ ghost use Rattle.std.specs.Prelude.{◌≡◌, ◌-◌, ◌<◌, ◌≤◌, ◌�
 ghost use Rattle.dexspec.specs.Bytes.{bytes_of};
 ghost use Rattle.dexspec.specs.Values.{value_byte};
 ghost use Rattle.dexspec.specs.Spellings.{complement, unsigned_bytes, signed_bytes, bits_bytes};
-ghost use Rattle.dexval.specs.Code.{value_of, element_of, annotation_of, elements_of};
+ghost use Rattle.dexval.specs.Code.{value_of, element_of, encoded_type, encoded_elements, annotation_of};
 ghost use Rattle.dexval.specs.Numbered.{values_of_list, elements_of_list};
 ghost use Rattle.dexval.specs.Spelled.{count_bytes, numbered_bytes, numbered_array_bytes, numbered_values_bytes, numbered_elements_bytes, encoded_annotation_bytes, numbered_annotation_bytes};
 
@@ -13,7 +13,7 @@ use crate::type_codes::{
     ANNOTATION, ARRAY, BOOLEAN, BYTE, CHAR, DOUBLE, ENUM, FIELD, FLOAT, INT, LONG, METHOD, NULL,
     SHORT, STRING, TYPE,
 };
-use crate::value::{Element, Value};
+use crate::value::{Element, EncodedAnnotation, Value};
 use crate::widths::{bits_width, magnitude, signed_width, unsigned_width};
 use byteorder::{ByteOrder, LittleEndian};
 use dexhead::{Encode, Output};
@@ -99,9 +99,9 @@ pub(crate) fn encode_value<O: Output>(value: &Value, out: &mut O)
             out.byte(ARRAY);
             encode_array(values, out);
         }
-        Value::Annotation(typ, elements) => {
+        Value::Annotation(annotation) => {
             out.byte(ANNOTATION);
-            encode_annotation(*typ, elements, out);
+            encode_annotation(annotation, out);
         }
         Value::Null => out.byte(NULL),
         Value::Boolean(is) => out.byte(32 * u8::from(*is) + BOOLEAN),
@@ -131,12 +131,13 @@ fn encode_values<O: Output>(values: &[Value], out: &mut O)
 
 // Writes an encoded_annotation.
 #[cycle(encoding)]
-fn encode_annotation<O: Output>(typ: u32, elements: &[Element], out: &mut O)
-    ensures { O.gives (encoded_annotation_bytes typ (elements_of elements.now)) out.old out.new }
+fn encode_annotation<O: Output>(annotation: &EncodedAnnotation, out: &mut O)
+    ensures { O.gives (encoded_annotation_bytes
+        (encoded_type annotation.now) (encoded_elements annotation.now)) out.old out.new }
 {
-    out.uleb(typ);
-    encode_count(elements.len(), out);
-    encode_elements(elements, out);
+    out.uleb(annotation.typ);
+    encode_count(annotation.elements.len(), out);
+    encode_elements(&annotation.elements, out);
 }
 
 // Writes elements in sequence.
@@ -191,6 +192,6 @@ impl Encode for Annotation {
 
     fn encode<O: Output>(&self, out: &mut O) {
         out.byte(self.visibility.number());
-        encode_annotation(self.typ, &self.elements, out);
+        encode_annotation(&self.annotation, out);
     }
 }

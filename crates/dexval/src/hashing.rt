@@ -2,8 +2,8 @@
 
 ghost use Rattle.std.specs.Prelude.{◌≡◌, ◌++◌, fold, map};
 ghost use Rattle.std.specs.Hash as fed;
-ghost use Rattle.dexval.specs.Code.{value_of, annotation_of, elements_of, set_from};
-ghost use Rattle.dexval.specs.Equality.{value_input, values_input, elements_input, annotation_input};
+ghost use Rattle.dexval.specs.Code.{value_of, encoded_type, encoded_elements, annotation_of, elements_of, set_from};
+ghost use Rattle.dexval.specs.Equality.{value_input, values_input, elements_input, encoded_input, annotation_input};
 ghost use Rattle.dexval.specs.Numbered.{values_of_list};
 
 use crate::annotation::Annotation;
@@ -11,7 +11,7 @@ use crate::type_codes::{
     ANNOTATION, ARRAY, BOOLEAN, BYTE, CHAR, DOUBLE, ENUM, FIELD, FLOAT, INT, LONG, METHOD, NULL,
     SHORT, STRING, TYPE,
 };
-use crate::value::{Element, Value};
+use crate::value::{Element, EncodedAnnotation, Value};
 use std::hash::{Hash, Hasher};
 
 // Feeds a type code, then the number.
@@ -44,10 +44,9 @@ fn hash_value<H: Hasher>(value: &Value, state: &mut H)
             hash_coded(ARRAY, &values.len(), state);
             hash_values(values, state);
         }
-        Value::Annotation(typ, elements) => {
-            hash_coded(ANNOTATION, typ, state);
-            elements.len().hash(state);
-            hash_elements(elements, state);
+        Value::Annotation(annotation) => {
+            state.write_u8(ANNOTATION);
+            hash_encoded(annotation, state);
         }
         Value::Null => state.write_u8(NULL),
         Value::Boolean(is) => hash_coded(BOOLEAN, is, state),
@@ -63,6 +62,17 @@ fn hash_values<H: Hasher>(values: &[Value], state: &mut H)
     for value in values {
         hash_value(value, state);
     }
+}
+
+// Feeds an encoded_annotation.
+#[cycle(hashing)]
+fn hash_encoded<H: Hasher>(annotation: &EncodedAnnotation, state: &mut H)
+    ensures { state.new ≡ fold H.write state.old
+        (encoded_input (encoded_type annotation.now) (encoded_elements annotation.now)) }
+{
+    annotation.typ.hash(state);
+    annotation.elements.len().hash(state);
+    hash_elements(&annotation.elements, state);
 }
 
 // Feeds the names of elements and their values.
@@ -81,9 +91,7 @@ fn hash_annotation<H: Hasher>(annotation: &Annotation, state: &mut H)
     ensures { state.new ≡ fold H.write state.old (annotation_input (annotation_of annotation.now)) }
 {
     state.write_u8(annotation.visibility.number());
-    annotation.typ.hash(state);
-    annotation.elements.len().hash(state);
-    hash_elements(&annotation.elements, state);
+    hash_encoded(&annotation.annotation, state);
 }
 
 /// Feeds annotations, after their count.

@@ -50,7 +50,9 @@ impl Head {
             Value::Method(number) => Head::Method(end(remap, SymbolKind::Method, *number)),
             Value::Enum(number) => Head::Enum(end(remap, SymbolKind::Field, *number)),
             Value::Array(_) => Head::Array,
-            Value::Annotation(typ, _) => Head::Annotation(end(remap, SymbolKind::Typ, *typ)),
+            Value::Annotation(annotation) => {
+                Head::Annotation(end(remap, SymbolKind::Typ, annotation.typ))
+            }
             Value::Null => Head::Null,
             Value::Boolean(is) => Head::Boolean(*is),
         }
@@ -80,7 +82,7 @@ impl Value {
         ensures { elements_of_list (map element_of result.now) ≡ held_elements (value_of self.now) }
     {
         match self {
-            Value::Annotation(_, elements) => elements,
+            Value::Annotation(annotation) => &annotation.elements,
             _ => &[],
         }
     }

@@ -7,7 +7,7 @@ ghost use Rattle.dexval.specs.internal.Found.{FindsValue, FindsArray, FindsEleme
 
 use crate::scalars::scalar_at;
 use crate::type_codes::{ANNOTATION, ARRAY};
-use crate::value::{Element, Value};
+use crate::value::{Element, EncodedAnnotation, Value};
 use dexleb::read_u;
 use dexpool::{Pools, SymbolKind};
 use std::alloc::{AllocError, Global};
@@ -52,7 +52,10 @@ impl<'r, 'p> ValueReader<'r, 'p> {
                     return Ok(None);
                 }
                 match self.array_at(at + 1, depth - 1)? {
-                    Some((values, size)) => Ok(Some((Value::Array(values), 1 + size))),
+                    Some((values, size)) => {
+                        let values = Box::new(self.alloc, values)?;
+                        Ok(Some((Value::Array(values), 1 + size)))
+                    }
                     None => Ok(None),
                 }
             }
@@ -61,8 +64,9 @@ impl<'r, 'p> ValueReader<'r, 'p> {
                     return Ok(None);
                 }
                 match self.annotation_at(at + 1, depth - 1)? {
-                    Some((typ, elements, size)) => {
-                        Ok(Some((Value::Annotation(typ, elements), 1 + size)))
+                    Some((annotation, size)) => {
+                        let annotation = Box::new(self.alloc, annotation)?;
+                        Ok(Some((Value::Annotation(annotation), 1 + size)))
                     }
                     None => Ok(None),
                 }
@@ -164,19 +168,19 @@ impl<'r, 'p> ValueReader<'r, 'p> {
         Ok(Some((elements, size)))
     }
 
-    /// The number of the type and the elements of the encoded_annotation at an offset, and its size, or `None` if there
-    /// is no annotation whose values nest at most `depth` deep.
+    /// The encoded_annotation at an offset, and its size, or `None` if there is none whose values nest at most `depth`
+    /// deep.
     #[cycle(reading)]
     pub(crate) fn annotation_at(
         &self,
         at: usize,
         depth: u32,
-    ) -> Result<Option<(u32, Vec<Element>, usize)>, AllocError>
+    ) -> Result<Option<(EncodedAnnotation, usize)>, AllocError>
         requires { at ≤ length self.now.bytes.now }
         ensures read { HasPools self.now.bytes.now self.now.pools.now
             → IfOk result (FindsAnnotation self.now.bytes.now at self.now.pools.now depth) }
         ensures within { IfOk result (λ found. IfSome found (λ read.
-            at + read.2 ≤ length self.now.bytes.now)) }
+            at + read.1 ≤ length self.now.bytes.now)) }
     {
         let (typ, first) = match read_u(self.bytes, at) {
             Ok(read) => read,
@@ -190,7 +194,10 @@ impl<'r, 'p> ValueReader<'r, 'p> {
             Err(_) => return Ok(None),
         };
         match self.elements_at(at + first + second, depth, count)? {
-            Some((elements, size)) => Ok(Some((typ, elements, first + second + size))),
+            Some((elements, size)) => {
+                let annotation = EncodedAnnotation { typ, elements };
+                Ok(Some((annotation, first + second + size)))
+            }
             None => Ok(None),
         }
     }

@@ -2,14 +2,14 @@
 
 ghost use Rattle.std.specs.Prelude.{◌≡◌, map};
 ghost use Rattle.dexpool.specs.declared.symbols.SymbolKind.TheVariants as kinds;
-ghost use Rattle.dexval.specs.Code.{value_of, element_of, annotation_of, set_of, values_of, elements_of, set_from};
+ghost use Rattle.dexval.specs.Code.{value_of, element_of, encoded_of, annotation_of, set_of, values_of, elements_of, set_from};
 ghost use Rattle.dexval.specs.Numbered.{values_of_list, elements_of_list};
 ghost use Rattle.dexval.specs.Renumbering.{remapped, renumbered, renumbered_values, renumbered_elements, renumbered_element, renumbered_annotation, renumbered_set, HasPlaces, HavePlaces, ElementHasPlaces, ElementsHavePlaces, AnnotationHasPlaces, SetHasPlaces};
 ghost use Rattle.dexpool.specs.Images.{IsMapped};
 
 use crate::annotation::Annotation;
 use crate::set::AnnotationSet;
-use crate::value::{Element, Value};
+use crate::value::{Element, EncodedAnnotation, Value};
 use dexpool::{Remap, SymbolKind};
 
 /// The number that the number of a symbol of a kind maps to.
@@ -67,10 +67,7 @@ impl Value {
             Value::Method(number) => *number = remapped(remap, SymbolKind::Method, *number),
             Value::Enum(number) => *number = remapped(remap, SymbolKind::Field, *number),
             Value::Array(values) => renumber_values(values, remap),
-            Value::Annotation(typ, elements) => {
-                *typ = remapped(remap, SymbolKind::Typ, *typ);
-                renumber_elements(elements, remap);
-            }
+            Value::Annotation(annotation) => annotation.renumber(remap),
             _ => {}
         }
     }
@@ -90,6 +87,20 @@ impl Element {
     }
 }
 
+impl EncodedAnnotation {
+    /// Replaces the number of the type, and each number in the elements, by the one that it maps to.
+    ///
+    /// Condition: each number maps to a number below 2^32.
+    #[cycle(renumbering)]
+    pub(crate) fn renumber(&mut self, remap: &Remap)
+        requires { HasPlaces remap.now (encoded_of self.old) }
+        ensures { encoded_of self.new ≡ renumbered remap.now (encoded_of self.old) }
+    {
+        self.typ = remapped(remap, SymbolKind::Typ, self.typ);
+        renumber_elements(&mut self.elements, remap);
+    }
+}
+
 impl Annotation {
     /// Replaces the number of the type, and each number in the elements, by the one that it maps to.
     ///
@@ -99,8 +110,7 @@ impl Annotation {
         ensures { annotation_of self.new
             ≡ renumbered_annotation remap.now (annotation_of self.old) }
     {
-        self.typ = remapped(remap, SymbolKind::Typ, self.typ);
-        renumber_elements(&mut self.elements, remap);
+        self.annotation.renumber(remap);
     }
 }
 

@@ -101,10 +101,11 @@ impl Annotation {
         if self.visibility != other.visibility {
             return false;
         }
-        if !eq_ends(SymbolKind::Typ, mine, self.typ, theirs, other.typ) {
+        let (annotation, other) = (&self.annotation, &other.annotation);
+        if !eq_ends(SymbolKind::Typ, mine, annotation.typ, theirs, other.typ) {
             return false;
         }
-        same_elements(mine, &self.elements, theirs, &other.elements)
+        same_elements(mine, &annotation.elements, theirs, &other.elements)
     }
 }
 

@@ -54,10 +54,9 @@ fn item_at(
         pools,
     };
     match reader.annotation_at(at + 1, MOST_DEPTH)? {
-        Some((typ, elements, _)) => Ok(Annotation {
+        Some((annotation, _)) => Ok(Annotation {
             visibility,
-            typ,
-            elements,
+            annotation,
         }),
         None => Err(ItemFault::Refused(Condition::Annotations as u8)),
     }
@@ -116,10 +115,10 @@ pub fn read_set(
     for i in 0..count {
         let place = u32_at(bytes, off as usize + 4 + 4 * i as usize);
         let annotation = item_at(alloc, frame, pools, place)?;
-        if u64::from(annotation.typ) < least {
+        if u64::from(annotation.annotation.typ) < least {
             return Err(ItemFault::Refused(Condition::Annotations as u8));
         }
-        least = u64::from(annotation.typ) + 1;
+        least = u64::from(annotation.annotation.typ) + 1;
         annotations.push(annotation)?;
     }
     Ok(AnnotationSet { annotations })

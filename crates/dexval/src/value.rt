@@ -32,9 +32,9 @@ pub enum Value {
     /// A constant of an enum: a field, by its number.
     Enum(u32),
     /// Values.
-    Array(Vec<Value>),
-    /// An annotation: the number of its type, and its elements.
-    Annotation(u32, Vec<Element>),
+    Array(Box<Vec<Value>>),
+    /// An annotation.
+    Annotation(Box<EncodedAnnotation>),
     /// No object.
     Null,
     /// A truth value.
@@ -49,4 +49,14 @@ pub enum Value {
 pub struct Element {
     pub name: u32,
     pub value: Value,
+}
+
+/// An annotation without a visibility: the number of its type, and its elements.
+///
+/// Source: "encoded_annotation format".
+#[derive(Debug, Drop, PartialEq, Eq, Hash)]
+#[cycle(value)]
+pub struct EncodedAnnotation {
+    pub typ: u32,
+    pub elements: Vec<Element>,
 }

@@ -2,13 +2,13 @@
 
 ghost use Rattle.std.specs.Prelude.{map};
 ghost use Rattle.std.specs.List.{FoldsTo};
-ghost use Rattle.dexval.specs.Code.{value_of, element_of, annotation_of, set_of, elements_of};
+ghost use Rattle.dexval.specs.Code.{value_of, element_of, encoded_of, annotation_of, set_of, elements_of};
 ghost use Rattle.dexval.specs.Numbered.{values_of_list};
 ghost use Rattle.dexval.specs.Uses.{value_uses, values_uses, element_uses, elements_uses, annotation_uses, set_uses};
 
 use crate::annotation::Annotation;
 use crate::set::AnnotationSet;
-use crate::value::{Element, Value};
+use crate::value::{Element, EncodedAnnotation, Value};
 use dexpool::{SymbolKind, Symbols, Visitor, visit_all};
 
 // Passes the names of elements, and the symbols that occur in their values, to the visitor.
@@ -45,10 +45,7 @@ impl Value {
             Value::Method(number) => visitor.symbol(SymbolKind::Method, *number),
             Value::Enum(number) => visitor.symbol(SymbolKind::Field, *number),
             Value::Array(values) => visit_values(values, visitor),
-            Value::Annotation(typ, elements) => {
-                visitor.symbol(SymbolKind::Typ, *typ);
-                visit_elements(elements, visitor);
-            }
+            Value::Annotation(annotation) => annotation.visit(visitor),
             _ => {}
         }
     }
@@ -65,12 +62,22 @@ impl Element {
     }
 }
 
+impl EncodedAnnotation {
+    // Passes the type, and each symbol that occurs in the elements, to the visitor, in order.
+    #[cycle(visiting)]
+    fn visit<V: Visitor>(&self, visitor: &mut V)
+        ensures { FoldsTo V.step visitor.old (value_uses (encoded_of self.now)) visitor.new }
+    {
+        visitor.symbol(SymbolKind::Typ, self.typ);
+        visit_elements(&self.elements, visitor);
+    }
+}
+
 impl Symbols for Annotation {
     ghost uses = { λ a. annotation_uses (annotation_of a) };
 
     fn visit<V: Visitor>(&self, visitor: &mut V) {
-        visitor.symbol(SymbolKind::Typ, self.typ);
-        visit_elements(&self.elements, visitor);
+        self.annotation.visit(visitor);
     }
 }
 

@@ -4,15 +4,15 @@ ghost use Rattle.std.specs.Prelude.{◌≡◌, ◌+◌, ◌-◌, ◌^◌, ℕ, m
 ghost use Rattle.std.specs.Fn.{FnReturnsAt};
 ghost use Rattle.dexspec.specs.Mentions.{Mentions};
 ghost use Rattle.dexspec.specs.Weight.{value_weight, set_weight};
-ghost use Rattle.dexval.specs.Code.{value_of, annotation_of, set_of, elements_of};
+ghost use Rattle.dexval.specs.Code.{value_of, encoded_of, set_of, elements_of};
 ghost use Rattle.dexval.specs.Numbered.{value_in, set_in, values_of_list};
-ghost use Rattle.dexval.specs.Spelled.{numbered_weight, numbered_values_weight, numbered_elements_weight, numbered_annotation_weight, numbered_set_weight};
+ghost use Rattle.dexval.specs.Spelled.{numbered_weight, numbered_values_weight, numbered_elements_weight, numbered_set_weight};
 ghost use Rattle.dexval.specs.Writing.{weight_of_statics, weight_of_sets};
 ghost use Rattle.dexval.specs.internal.Weights.{weight_of_annotations};
 
 use crate::annotation::Annotation;
 use crate::set::AnnotationSet;
-use crate::value::{Element, Value};
+use crate::value::{Element, EncodedAnnotation, Value};
 
 // The weight of a value, or 2^64 - 1 if it weighs more.
 #[cycle(weighing)]
@@ -21,7 +21,7 @@ fn value_weight(value: &Value) -> u64
 {
     match value {
         Value::Array(values) => 6u64.saturating_add(values_weight(values)),
-        Value::Annotation(_, elements) => 12u64.saturating_add(elements_weight(elements)),
+        Value::Annotation(annotation) => annotation_weight(annotation),
         _ => 9,
     }
 }
@@ -53,6 +53,14 @@ fn elements_weight(elements: &[Element]) -> u64
     weight
 }
 
+// The weight of an annotation, whatever its visibility.
+#[cycle(weighing)]
+fn annotation_weight(annotation: &EncodedAnnotation) -> u64
+    ensures { result ≡ min (2 ^ 64 - 1) (numbered_weight (encoded_of annotation.now)) }
+{
+    12u64.saturating_add(elements_weight(&annotation.elements))
+}
+
 // The weight of items in a list: 8, and for each item its weight and 4 for its offset, or 2^64 - 1 if that is more.
 fn listed_weight<T, F: Fn(&T) -> u64>(items: &[T], weight_of: F) -> u64
     requires { F.IsAlwaysCallable weight_of }
@@ -67,19 +75,11 @@ fn listed_weight<T, F: Fn(&T) -> u64>(items: &[T], weight_of: F) -> u64
     weight
 }
 
-// The weight of an annotation.
-fn annotation_weight(annotation: &Annotation) -> u64
-    ensures { result
-        ≡ min (2 ^ 64 - 1) (numbered_annotation_weight (annotation_of annotation.now)) }
-{
-    12u64.saturating_add(elements_weight(&annotation.elements))
-}
-
 // The weight of annotations in a set: each has an annotation_item and an offset.
 fn annotations_weight(annotations: &[Annotation]) -> u64
     ensures { result ≡ min (2 ^ 64 - 1) (weight_of_annotations annotations.now) }
 {
-    listed_weight(annotations, |annotation| annotation_weight(annotation))
+    listed_weight(annotations, |item| annotation_weight(&item.annotation))
 }
 
 // The weight of sets in a list: each has its annotations and an offset.

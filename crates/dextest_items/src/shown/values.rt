@@ -3,7 +3,7 @@
 use crate::shown::symbols::{print_counted, print_string, print_symbol, print_type};
 use dexpool::{Numbering, SymbolKind};
 use dextest_cases::Printed;
-use dexval::{Annotation, AnnotationSet, Directory, Element, Value, Visibility};
+use dexval::{Annotation, AnnotationSet, Directory, EncodedAnnotation, Value, Visibility};
 
 // Prints a word and a symbol.
 fn print_named(
@@ -51,10 +51,9 @@ pub fn print_value(value: &Value, numbering: &Numbering<'_>, out: &mut Printed) 
         ),
         Value::Enum(number) => print_named("enum ", SymbolKind::Field, *number, numbering, out),
         Value::Array(values) => print_values(values, numbering, out),
-        Value::Annotation(typ, elements) => {
+        Value::Annotation(annotation) => {
             out.add("@");
-            print_type(numbering, *typ as usize, out);
-            print_elements(elements, numbering, out);
+            print_encoded(annotation, numbering, out);
         }
         Value::Null => out.add("null"),
         Value::Boolean(is) => out.add(if *is { "true" } else { "false" }),
@@ -74,12 +73,13 @@ pub fn print_values(values: &[Value], numbering: &Numbering<'_>, out: &mut Print
     out.add("]");
 }
 
-// Prints elements: `("NAME" = VALUE, "NAME" = VALUE)`.
+// Prints an encoded_annotation: `TYPE("NAME" = VALUE, "NAME" = VALUE)`.
 #[cycle(printing)]
-fn print_elements(elements: &[Element], numbering: &Numbering<'_>, out: &mut Printed) {
+fn print_encoded(annotation: &EncodedAnnotation, numbering: &Numbering<'_>, out: &mut Printed) {
+    print_type(numbering, annotation.typ as usize, out);
     out.add("(");
     let mut is_first = true;
-    for element in elements {
+    for element in &annotation.elements {
         print_comma(is_first, out);
         print_string(numbering, element.name as usize, out);
         out.add(" = ");
@@ -96,8 +96,7 @@ fn print_annotation(annotation: &Annotation, numbering: &Numbering<'_>, out: &mu
         Visibility::Runtime => "runtime ",
         Visibility::System => "system ",
     });
-    print_type(numbering, annotation.typ as usize, out);
-    print_elements(&annotation.elements, numbering, out);
+    print_encoded(&annotation.annotation, numbering, out);
 }
 
 /// Prints a set: `{ANNOTATION, ANNOTATION}`.

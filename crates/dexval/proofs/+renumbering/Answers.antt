@@ -1,11 +1,20 @@
-use Rattle.std.proofs.Common.{rules, [], map, ap, sym, subst, ◌∙◌, arith}
+use Rattle.std.proofs.Common.{◌≡◌, List, rules, [], map, ap, sym, subst, ◌∙◌, arith}
 use Rattle.std.proofs.lemmas.List.Elements.{All-head, All-tail}
+use Rattle.std.specs.Box.{with_value}
 use Rattle.dexpool.specs.declared.symbols.SymbolKind.TheVariants as kinds
-use Rattle.dexval.specs.Code.{value_of, element_of}
-use Rattle.dexval.specs.Numbered.{values_of_list, elements_of_list}
-use Rattle.dexval.specs.Renumbering.{renumbered, renumbered_element, HasPlaces, HavePlaces, ElementHasPlaces, ElementsHavePlaces}
+use Rattle.dexval.specs.declared.value.Value.{Value}
+use Rattle.dexval.specs.declared.value.Value.TheVariants as variants
+use Rattle.dexval.specs.declared.value.Value.TheOpen.{EncodedAnnotation-F}
+use Rattle.dexval.specs.declared.value.Value.TheViews.{roll-EncodedAnnotation, out-roll-EncodedAnnotation}
+use Rattle.dexval.specs.declared.value.Element.{Element}
+use Rattle.dexval.specs.declared.value.EncodedAnnotation.{EncodedAnnotation, out-EncodedAnnotation}
+use Rattle.dexval.specs.Code.{value_of, element_of, values_of, elements_of, encoded_of, encoded_type, encoded_elements}
+use Rattle.dexval.specs.Numbered.{Annotated, values_of_list, elements_of_list}
+use Rattle.dexval.specs.Numbered as numbered
+use Rattle.dexval.specs.Renumbering.{remapped, renumbered, renumbered_values, renumbered_elements, renumbered_element, HasPlaces, HavePlaces, ElementHasPlaces, ElementsHavePlaces}
 use Rattle.dexpool.specs.Images.{IsMapped, MapsUse}
 use Rattle.dexval.specs.Uses.{value_uses, elements_uses}
+use Rattle.dexval.specs.Spelled.{numbered_elements_weight}
 use Rattle.dexval.proofs.CodeForms.{string_is, typ_is, field_is, method_is, enum_is, array_is, annotation_is, element_is}
 use Rattle.dexval.proofs.Members.{value_lighter, element_lighter}
 use Rattle.dexval.proofs.ValueForms.{array_lighter, annotation_lighter}
@@ -77,23 +86,63 @@ value::Value::renumber-remapped-requires-in-Enum t c =
     let maps_to = All-head (MapsUse c.args.remap.now) (record { kind = kinds.Field; number = c.in-Enum.number }) [] (subst (HasPlaces c.args.remap.now) (ap value_of c.in-Enum.is ∙ enum_is c.in-Enum.number) c.requires) in
     subst (IsMapped c.args.remap.now kinds.Field) (sym c.in-Enum.number-is) maps_to
 
-pub value::Value::renumber-remapped-requires-in-Annotation : goal.value::Value::renumber-remapped-requires-in-Annotation
-value::Value::renumber-remapped-requires-in-Annotation t c =
-    let maps_to = All-head (MapsUse c.args.remap.now) (record { kind = kinds.Typ; number = c.in-Annotation.typ }) (elements_uses (elements_of_list (map element_of c.in-Annotation.elements.items))) (subst (HasPlaces c.args.remap.now) (ap value_of c.in-Annotation.is ∙ annotation_is c.in-Annotation.typ c.in-Annotation.elements) c.requires) in
-    subst (IsMapped c.args.remap.now kinds.Typ) (sym c.in-Annotation.typ-is) maps_to
-
 pub value::Value::renumber-renumber_values-requires : goal.value::Value::renumber-renumber_values-requires
 value::Value::renumber-renumber_values-requires t c =
+    let same = c.deref_mut.ensures.value ∙ ap (λ b. b.value) c.in-Array.values-is in
     let placed = subst (HasPlaces c.args.remap.now) (ap value_of c.in-Array.is ∙ array_is c.in-Array.values) c.requires in
-    let lighter = array_lighter c.args.self.now c.in-Array.values c.in-Array.is (ap (λ xs. xs.items) c.in-Array.values-is) in
-    (search rules, subst (λ xs. HavePlaces c.args.remap.now (values_of_list (map value_of xs.items))) (sym c.in-Array.values-is) placed)
+    let lighter = array_lighter c.args.self.now c.in-Array.values c.in-Array.is (ap (λ v. v.items) same) in
+    (search rules, subst (λ v. HavePlaces c.args.remap.now (values_of_list (map value_of v.items))) (sym same) placed)
 
-pub value::Value::renumber-renumber_elements-requires : goal.value::Value::renumber-renumber_elements-requires
-value::Value::renumber-renumber_elements-requires t c =
-    let placed = subst (HasPlaces c.args.remap.now) (ap value_of c.in-Annotation.is ∙ annotation_is c.in-Annotation.typ c.in-Annotation.elements) c.requires in
-    let following = All-tail (MapsUse c.args.remap.now) (record { kind = kinds.Typ; number = c.in-Annotation.typ }) (elements_uses (elements_of_list (map element_of c.in-Annotation.elements.items))) placed in
-    let lighter = annotation_lighter c.args.self.now c.in-Annotation.typ c.in-Annotation.elements c.in-Annotation.is (ap (λ xs. xs.items) c.in-Annotation.elements-is) in
-    (search rules, subst (λ xs. ElementsHavePlaces c.args.remap.now (elements_of_list (map element_of xs.items))) (sym c.in-Annotation.elements-is) following)
+pub value::Value::renumber-renumber-requires : goal.value::Value::renumber-renumber-requires
+value::Value::renumber-renumber-requires t c =
+    let same = c.deref_mut-in-Annotation.ensures.value ∙ ap (λ b. b.value) c.in-Annotation.annotation-is in
+    let placed = subst (HasPlaces c.args.remap.now) (ap value_of c.in-Annotation.is ∙ annotation_is c.in-Annotation.annotation) c.requires in
+    let lighter = annotation_lighter c.args.self.now c.in-Annotation.annotation c.in-Annotation.is in
+    let weight = ap (λ a. numbered_elements_weight (encoded_elements a)) same in
+    (search rules, subst (λ a. HasPlaces c.args.remap.now (encoded_of a)) (sym same) placed)
+
+pub value::Value::renumber-returns-in-Annotation : goal.value::Value::renumber-returns-in-Annotation
+value::Value::renumber-returns-in-Annotation t c =
+    let r = c.args.remap.now in
+    let b = c.in-Annotation.annotation in
+    let same = c.deref_mut-in-Annotation.ensures.value ∙ ap (λ b. b.value) c.in-Annotation.annotation-is in
+    let is = c.renumber.ensures ∙ ap (λ a. renumbered r (encoded_of a)) same ∙ ap (renumbered r) (sym (annotation_is b)) in
+    let whole : value_of (variants.Annotation (with_value b c.renumber.new.self)) ≡ renumbered r (value_of (variants.Annotation b)) = annotation_is (with_value b c.renumber.new.self) ∙ is in
+    search rules
+
+pub value::Value::renumber-returns-in-Array : goal.value::Value::renumber-returns-in-Array
+value::Value::renumber-returns-in-Array t c =
+    let r = c.args.remap.now in
+    let b = c.in-Array.values in
+    let same = c.deref_mut.ensures.value ∙ ap (λ b. b.value) c.in-Array.values-is in
+    let is = ap numbered.Array (c.renumber_values.ensures ∙ ap (λ v. renumbered_values r (values_of v.items)) same) ∙ ap (renumbered r) (sym (array_is b)) in
+    let whole : value_of (variants.Array (with_value b c.renumber_values.new.values)) ≡ renumbered r (value_of (variants.Array b)) = array_is (with_value b c.renumber_values.new.values) ∙ is in
+    search rules
+
+pub value::EncodedAnnotation::renumber-remapped-self-requires : goal.value::EncodedAnnotation::renumber-remapped-self-requires
+value::EncodedAnnotation::renumber-remapped-self-requires t c =
+    let a = c.args.self.now in
+    All-head (MapsUse c.args.remap.now) (record { kind = kinds.Typ; number = encoded_type a }) (elements_uses (encoded_elements a)) c.requires
+
+pub value::EncodedAnnotation::renumber-renumber_elements-requires : goal.value::EncodedAnnotation::renumber-renumber_elements-requires
+value::EncodedAnnotation::renumber-renumber_elements-requires t c =
+    let r = c.args.remap.now in
+    let a = c.args.self.now in
+    let new : EncodedAnnotation-F Value Element EncodedAnnotation = record { typ = c.remapped-self.result; elements = (out-EncodedAnnotation a).elements } in
+    let same : (out-EncodedAnnotation (roll-EncodedAnnotation new)).elements.items ≡ (out-EncodedAnnotation a).elements.items = ap (λ (n : EncodedAnnotation-F Value Element EncodedAnnotation). n.elements.items) (out-roll-EncodedAnnotation new) in
+    let weight = ap (λ (l : List Element). numbered_elements_weight (elements_of l)) same in
+    (search rules, subst (λ (l : List Element). ElementsHavePlaces r (elements_of l)) (sym same) (All-tail (MapsUse r) (record { kind = kinds.Typ; number = encoded_type a }) (elements_uses (encoded_elements a)) c.requires))
+
+pub value::EncodedAnnotation::renumber-returns : goal.value::EncodedAnnotation::renumber-returns
+value::EncodedAnnotation::renumber-returns t c =
+    let r = c.args.remap.now in
+    let a = out-EncodedAnnotation c.args.self.now in
+    let mid : EncodedAnnotation-F Value Element EncodedAnnotation = record { typ = c.remapped-self.result; elements = a.elements } in
+    let new : EncodedAnnotation-F Value Element EncodedAnnotation = record { typ = (out-EncodedAnnotation (roll-EncodedAnnotation mid)).typ; elements = c.renumber_elements.new.elements } in
+    let typ : new.typ ≡ remapped r kinds.Typ a.typ = ap (λ (n : EncodedAnnotation-F Value Element EncodedAnnotation). n.typ) (out-roll-EncodedAnnotation mid) ∙ c.remapped-self.ensures in
+    let elements : elements_of new.elements.items ≡ renumbered_elements r (elements_of a.elements.items) =
+    c.renumber_elements.ensures ∙ ap (λ (n : EncodedAnnotation-F Value Element EncodedAnnotation). renumbered_elements r (elements_of n.elements.items)) (out-roll-EncodedAnnotation mid) in
+    ap (λ (n : EncodedAnnotation-F Value Element EncodedAnnotation). Annotated n.typ (elements_of n.elements.items)) (out-roll-EncodedAnnotation new) ∙ (λ k. Annotated (typ k) (elements k))
 
 pub value::Element::renumber-remapped-self-requires : goal.value::Element::renumber-remapped-self-requires
 value::Element::renumber-remapped-self-requires t c =

@@ -1,5 +1,5 @@
 use Rattle.std.proofs.Common.{◌+◌, map}
-use Rattle.dexval.specs.Code.{value_of, element_of}
+use Rattle.dexval.specs.Code.{value_of, element_of, encoded_elements}
 use Rattle.dexval.specs.Numbered.{values_of_list, elements_of_list}
 use Rattle.dexval.specs.Renumbering.{renumbered, renumbered_element}
 use Rattle.dexval.specs.Spelled.{numbered_weight, numbered_values_weight, numbered_elements_weight}
@@ -23,3 +23,6 @@ decreases-renumbering::renumber_values l = numbered_values_weight (values_of_lis
 
 abbrev pub decreases-renumbering::renumber_elements : goal.decreases-renumbering::renumber_elements
 decreases-renumbering::renumber_elements l = numbered_elements_weight (elements_of_list (map element_of l.elements.now.items)) + 2
+
+abbrev pub decreases-value::EncodedAnnotation::renumber : goal.decreases-value::EncodedAnnotation::renumber
+decreases-value::EncodedAnnotation::renumber l = numbered_elements_weight (encoded_elements l.self.now) + 3

@@ -1,6 +1,6 @@
 use Rattle.std.proofs.Common.{◌+◌, map, take}
 use Rattle.std.specs.List.{FoldsTo, flat_map}
-use Rattle.dexval.specs.Code.{value_of, element_of}
+use Rattle.dexval.specs.Code.{value_of, element_of, encoded_elements}
 use Rattle.dexval.specs.Numbered.{values_of_list, elements_of_list}
 use Rattle.dexval.specs.Spelled.{numbered_weight, numbered_values_weight, numbered_elements_weight}
 use Rattle.dexval.proofs.Marked.{code_uses, part_uses}
@@ -23,3 +23,6 @@ decreases-visiting::visit_values g l = numbered_values_weight (values_of_list (m
 
 abbrev pub decreases-visiting::visit_elements : goal.decreases-visiting::visit_elements
 decreases-visiting::visit_elements g l = numbered_elements_weight (elements_of_list (map element_of l.elements.now)) + 2
+
+abbrev pub decreases-value::EncodedAnnotation::visit : goal.decreases-value::EncodedAnnotation::visit
+decreases-value::EncodedAnnotation::visit g l = numbered_elements_weight (encoded_elements l.self.now) + 3

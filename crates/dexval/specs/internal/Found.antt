@@ -11,11 +11,12 @@ use Rattle.dexval.specs.Reading.{EncodedValueAt}
 use Rattle.dexval.specs.declared.nested_checking.Measure.{Measure}
 use Rattle.dexval.specs.declared.set_checking.SetShape.{SetShape}
 use Rattle.dexval.specs.declared.value.Element.{Element}
+use Rattle.dexval.specs.declared.value.EncodedAnnotation.{EncodedAnnotation}
 use Rattle.dexval.specs.declared.value.Value.{Value}
 use Rattle.dexval.specs.declared.value_checking.StaticsShape.{StaticsShape}
 use Rattle.dexval.specs.declared.value_checking.ValueShape.{ValueShape}
 use Rattle.dexval.specs.Checking.{HasValue, HasArray, HasElement, HasElements, HasAnnotation, HasItem}
-use Rattle.dexval.specs.Code.{value_of, values_of, element_of, elements_of, annotation_of}
+use Rattle.dexval.specs.Code.{value_of, values_of, element_of, elements_of, encoded_type, encoded_elements, annotation_of}
 use Rattle.dexval.specs.Items.{IsItemAt, NoItemAt, NoSetAt, HasOffsets}
 use Rattle.dexval.specs.Nesting.{NoArrayAt, AreReadAt, NoElementAt, IsElementReadAt, NoElementsAt, AreElementsReadAt, NoAnnotationAt, IsAnnotationReadAt}
 use Rattle.dexval.specs.Results.{HasValueShape, HasStaticsShape, HasSetShape}
@@ -57,9 +58,9 @@ FindsElement b o m depth least found = MatchOption found (NoElementAt b o depth 
 abbrev pub FindsElements : List ℕ → ℕ → Mentions → ℕ → ℕ → Option (Vec Element × ℕ) → Type 0
 FindsElements b o m depth count found = MatchOption found (NoElementsAt b o depth count) (λ read. AreElementsReadAt b o m depth count (elements_of read.0.items) read.1)
 
--- the type and the elements of an encoded_annotation, and its size
-abbrev pub FindsAnnotation : List ℕ → ℕ → Mentions → ℕ → Option (ℕ × Vec Element × ℕ) → Type 0
-FindsAnnotation b o m depth found = MatchOption found (NoAnnotationAt b o depth) (λ read. IsAnnotationReadAt b o m depth read.0 (elements_of read.1.items) read.2)
+-- an encoded_annotation, and its size
+abbrev pub FindsAnnotation : List ℕ → ℕ → Mentions → ℕ → Option (EncodedAnnotation × ℕ) → Type 0
+FindsAnnotation b o m depth found = MatchOption found (NoAnnotationAt b o depth) (λ read. IsAnnotationReadAt b o m depth (encoded_type read.0) (encoded_elements read.0) read.1)
 
 -- ---- values that are checked
 

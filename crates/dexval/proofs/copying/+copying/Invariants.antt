@@ -1,5 +1,5 @@
 use Rattle.std.proofs.Common.{◌≡◌, ◌+◌, take, map}
-use Rattle.dexval.specs.Code.{value_of, element_of}
+use Rattle.dexval.specs.Code.{value_of, element_of, encoded_elements}
 use Rattle.dexval.specs.Numbered.{values_of_list, elements_of_list}
 use Rattle.dexval.specs.Spelled.{numbered_weight, numbered_values_weight, numbered_elements_weight}
 use Rattle.dexval.proofs.copying.+copying.Given as goal
@@ -18,3 +18,6 @@ decreases-copied_values l = numbered_values_weight (values_of_list (map value_of
 
 abbrev pub decreases-copied_elements : goal.decreases-copied_elements
 decreases-copied_elements l = numbered_elements_weight (elements_of_list (map element_of l.elements.now.items)) + 1
+
+abbrev pub decreases-copied_annotation : goal.decreases-copied_annotation
+decreases-copied_annotation l = numbered_elements_weight (encoded_elements l.annotation.now) + 2

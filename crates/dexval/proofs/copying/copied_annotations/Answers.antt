@@ -1,15 +1,16 @@
+use Rattle.std.proofs.Common.{ap}
 use Rattle.dexval.specs.declared.annotation.Annotation.{Annotation}
 use Rattle.dexval.specs.Code.{annotation_of, visibility_of}
-use Rattle.dexval.specs.Numbered.{elements_of_list}
+use Rattle.dexval.proofs.CodeForms.{annotation_with}
 use Rattle.dexval.proofs.Copies.{copied_more, copied_all}
 use Rattle.dexval.proofs.copying.copied_annotations.Goals as goal
 
 pub loop-annotation-preserved : goal.loop-annotation-preserved
 loop-annotation-preserved c =
     let y = c.annotation-item.result in
-    let x : Annotation = record { visibility = y.visibility; typ = y.typ; elements = c.in_ok-copied_elements.field-0 } in
+    let x : Annotation = record { visibility = y.visibility; annotation = c.in_ok-copied_annotation.field-0 } in
     copied_more annotation_of annotation_of c.args.annotations.now.items c.deref-annotation-items.result.now c.deref-annotation-items.ensures.value c.loop-annotation.copy.items c.push.new.self.items c.loop-annotation.annotation-index x y c.loop-annotation-test.true c.annotation-item.is c.loop-annotation.invariant c.in_ok-push.ensures.items
-    (λ k. record { visibility = visibility_of y.visibility; type = y.typ; elements = elements_of_list (c.in_ok-copied_elements.ensures k) })
+    (ap (annotation_with (visibility_of y.visibility)) c.in_ok-copied_annotation.ensures)
 
 pub returns : goal.returns
 returns c = copied_all annotation_of annotation_of c.args.annotations.now.items c.deref-annotation-items.result.now c.deref-annotation-items.ensures.value c.loop-annotation.copy.items c.loop-annotation.annotation-index c.loop-annotation-test.false c.loop-annotation.invariant

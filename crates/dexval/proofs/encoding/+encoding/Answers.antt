@@ -1,14 +1,15 @@
-use Rattle.std.proofs.Common.{ℕ, List, ◌∷◌, [], ◌++◌, subst, sym, ap, ◌∙◌, rules, map, to_z, of_z, w64}
+use Rattle.std.proofs.Common.{ℕ, List, ◌∷◌, [], ◌++◌, subst, sym, ap, ◌∙◌, rules, length, map, to_z, of_z, w64}
 use Rattle.dexspec.specs.Numbers.{uleb128}
 use Rattle.dexval.specs.declared.value.Value.{Value}
 use Rattle.dexval.specs.declared.value.Element.{Element}
-use Rattle.dexval.specs.Code.{value_of, element_of}
-use Rattle.dexval.specs.Numbered.{values_of_list, elements_of_list}
-use Rattle.dexval.specs.Spelled.{values_count, elements_count, count_bytes, numbered_bytes, numbered_values_bytes, numbered_elements_bytes, numbered_array_bytes, encoded_annotation_bytes}
-use Rattle.dexval.proofs.CodeForms.{byte_is, short_is, char_is, int_is, long_is, float_is, double_is, string_is, typ_is, field_is, method_is, enum_is}
+use Rattle.dexval.specs.declared.value.EncodedAnnotation.{EncodedAnnotation, out-EncodedAnnotation}
+use Rattle.dexval.specs.Code.{value_of, elements_of, encoded_of, encoded_type, encoded_elements}
+use Rattle.dexval.specs.Numbered.{values_of_list}
+use Rattle.dexval.specs.Spelled.{values_count, elements_count, count_bytes, numbered_bytes, numbered_values_bytes, numbered_elements_bytes, numbered_array_bytes, encoded_annotation_bytes, numbered_elements_weight}
+use Rattle.dexval.proofs.CodeForms.{byte_is, short_is, char_is, int_is, long_is, float_is, double_is, string_is, typ_is, field_is, method_is, enum_is, array_is, annotation_is}
 use Rattle.dexval.proofs.Encodings.{unsigned_given, signed_given, bits_given, value_given, element_given, values_given, elements_given}
 use Rattle.dexval.proofs.Members.{count_values_is, count_elements_is, value_lighter, element_lighter}
-use Rattle.dexval.proofs.ValueForms.{array_is, annotation_is, array_lighter, annotation_lighter}
+use Rattle.dexval.proofs.ValueForms.{array_lighter, annotation_lighter}
 use Rattle.dexval.proofs.encoding.+encoding.Goals as goal
 
 pub encode_array-returns : goal.encode_array-returns
@@ -30,13 +31,20 @@ encode_values-loop-value-preserved g t c =
 pub encode_values-returns : goal.encode_values-returns
 encode_values-returns g t c = values_given g.O.Output.gives c.args.values.now c.loop-value.value-index c.args.out.now c.loop-value.out c.loop-value-test.false c.loop-value.invariant
 
+pub encode_annotation-encode_elements-requires : goal.encode_annotation-encode_elements-requires
+encode_annotation-encode_elements-requires g t c =
+    let same = ap (λ (l : List Element). numbered_elements_weight (elements_of l)) c.deref.ensures.value in
+    search rules
+
 pub encode_annotation-returns : goal.encode_annotation-returns
 encode_annotation-returns g t c =
     let gives = g.O.Output.gives in
-    let es = elements_of_list (map element_of c.args.elements.now) in
-    let count = subst (λ (n : ℕ). gives (count_bytes n) c.uleb.new.self c.encode_count.new.out) (sym (count_elements_is c.args.elements.now)) c.encode_count.ensures in
-    let members = g.met.O.Output.both (count_bytes (elements_count es)) (numbered_elements_bytes es) c.uleb.new.self c.encode_count.new.out c.encode_elements.new.out count c.encode_elements.ensures in
-    g.met.O.Output.both (uleb128 c.args.typ) (count_bytes (elements_count es) ++ numbered_elements_bytes es) c.args.out.now c.uleb.new.self c.encode_elements.new.out c.uleb.ensures members
+    let a = c.args.annotation.now in
+    let es = encoded_elements a in
+    let count = subst (λ (n : ℕ). gives (count_bytes n) c.uleb.new.self c.encode_count.new.out) (c.len.ensures ∙ sym c.deref.ensures.len ∙ ap (λ l. length l) c.deref.ensures.value ∙ sym (count_elements_is (out-EncodedAnnotation a).elements.items)) c.encode_count.ensures in
+    let each = subst (λ (l : List Element). gives (numbered_elements_bytes (elements_of l)) c.encode_count.new.out c.encode_elements.new.out) c.deref.ensures.value c.encode_elements.ensures in
+    let members = g.met.O.Output.both (count_bytes (elements_count es)) (numbered_elements_bytes es) c.uleb.new.self c.encode_count.new.out c.encode_elements.new.out count each in
+    g.met.O.Output.both (uleb128 (encoded_type a)) (count_bytes (elements_count es) ++ numbered_elements_bytes es) c.args.out.now c.uleb.new.self c.encode_elements.new.out c.uleb.ensures members
 
 pub encode_elements-encode_value-requires : goal.encode_elements-encode_value-requires
 encode_elements-encode_value-requires g t c =
@@ -54,26 +62,26 @@ encode_elements-returns g t c = elements_given g.O.Output.gives c.args.elements.
 
 pub encode_value-encode_array-requires : goal.encode_value-encode_array-requires
 encode_value-encode_array-requires g t c =
-    let lighter = array_lighter c.args.value.now c.in-Array.values c.in-Array.is c.deref.ensures.value in
+    let lighter = array_lighter c.args.value.now c.in-Array.values c.in-Array.is (c.deref-in-Array.ensures.value ∙ ap (λ v. v.items) c.deref.ensures) in
     search rules
 
 pub encode_value-encode_annotation-requires : goal.encode_value-encode_annotation-requires
 encode_value-encode_annotation-requires g t c =
-    let lighter = annotation_lighter c.args.value.now c.in-Annotation.typ c.in-Annotation.elements c.in-Annotation.is c.deref-in-Annotation.ensures.value in
+    let lighter = annotation_lighter c.args.value.now c.in-Annotation.annotation c.in-Annotation.is in
+    let same = ap (λ (a : EncodedAnnotation). numbered_elements_weight (encoded_elements a)) c.deref-in-Annotation.ensures in
     search rules
 
 pub encode_value-returns-in-Array : goal.encode_value-returns-in-Array
 encode_value-returns-in-Array g t c =
-    let whole = g.met.O.Output.both (28 ∷ []) (numbered_array_bytes (values_of_list (map value_of c.deref.result.now))) c.args.out.now c.byte.new.self c.encode_array.new.out c.byte.ensures c.encode_array.ensures in
-    let is = ap (λ (l : List Value). 28 ∷ numbered_array_bytes (values_of_list (map value_of l))) c.deref.ensures.value ∙ ap numbered_bytes (sym (array_is c.args.value.now c.in-Array.values c.in-Array.is)) in
+    let whole = g.met.O.Output.both (28 ∷ []) (numbered_array_bytes (values_of_list (map value_of c.deref-in-Array.result.now))) c.args.out.now c.byte.new.self c.encode_array.new.out c.byte.ensures c.encode_array.ensures in
+    let is = ap (λ (l : List Value). 28 ∷ numbered_array_bytes (values_of_list (map value_of l))) (c.deref-in-Array.ensures.value ∙ ap (λ v. v.items) c.deref.ensures) ∙ ap numbered_bytes (sym (ap value_of c.in-Array.is ∙ array_is c.in-Array.values)) in
     subst (λ bs. g.O.Output.gives bs c.args.out.now c.encode_array.new.out) is whole
 
 pub encode_value-returns-in-Annotation : goal.encode_value-returns-in-Annotation
 encode_value-returns-in-Annotation g t c =
-    let typ = c.in-Annotation.typ in
-    let whole = g.met.O.Output.both (29 ∷ []) (encoded_annotation_bytes typ (elements_of_list (map element_of c.deref-in-Annotation.result.now))) c.args.out.now c.byte-in-Annotation.new.self c.encode_annotation.new.out c.byte-in-Annotation.ensures c.encode_annotation.ensures in
-    let is = ap (λ (l : List Element). 29 ∷ encoded_annotation_bytes typ (elements_of_list (map element_of l))) c.deref-in-Annotation.ensures.value ∙ ap numbered_bytes (sym (annotation_is c.args.value.now typ c.in-Annotation.elements c.in-Annotation.is)) in
-    subst (λ bs. g.O.Output.gives bs c.args.out.now c.encode_annotation.new.out) is whole
+    let a = c.deref-in-Annotation.result.now in
+    let whole = g.met.O.Output.both (29 ∷ []) (encoded_annotation_bytes (encoded_type a) (encoded_elements a)) c.args.out.now c.byte-in-Annotation.new.self c.encode_annotation.new.out c.byte-in-Annotation.ensures c.encode_annotation.ensures in
+    subst (λ bs. g.O.Output.gives bs c.args.out.now c.encode_annotation.new.out) (ap (λ (a : EncodedAnnotation). numbered_bytes (encoded_of a)) c.deref-in-Annotation.ensures ∙ ap numbered_bytes (sym (ap value_of c.in-Annotation.is ∙ annotation_is c.in-Annotation.annotation))) whole
 
 pub encode_value-returns-in-Byte : goal.encode_value-returns-in-Byte
 encode_value-returns-in-Byte g t c = signed_given g.O.Output.gives c.args.value.now 0x00 c.in-Byte.number {n = to_z w64 (of_z w64 c.from.result)} (ap numbered_bytes (ap value_of c.in-Byte.is ∙ byte_is c.in-Byte.number)) c.encode_signed.ensures (search rules)

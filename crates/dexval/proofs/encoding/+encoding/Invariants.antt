@@ -1,5 +1,5 @@
 use Rattle.std.proofs.Common.{◌+◌, take, map}
-use Rattle.dexval.specs.Code.{value_of, element_of}
+use Rattle.dexval.specs.Code.{value_of, element_of, encoded_elements}
 use Rattle.dexval.specs.Numbered.{values_of_list, elements_of_list}
 use Rattle.dexval.specs.Spelled.{numbered_weight, numbered_values_weight, numbered_elements_weight}
 use Rattle.dexval.proofs.Members.{values_spelled, elements_spelled}
@@ -21,7 +21,7 @@ abbrev pub decreases-encode_values : goal.decreases-encode_values
 decreases-encode_values g l = numbered_values_weight (values_of_list (map value_of l.values.now)) + 1
 
 abbrev pub decreases-encode_annotation : goal.decreases-encode_annotation
-decreases-encode_annotation g l = numbered_elements_weight (elements_of_list (map element_of l.elements.now)) + 2
+decreases-encode_annotation g l = numbered_elements_weight (encoded_elements l.annotation.now) + 2
 
 abbrev pub decreases-encode_elements : goal.decreases-encode_elements
 decreases-encode_elements g l = numbered_elements_weight (elements_of_list (map element_of l.elements.now)) + 1

@@ -1,16 +1,20 @@
-use Rattle.std.proofs.Common.{sym, ◌∙◌, arith}
-use Rattle.dexval.proofs.Hashed.{value_next, values_done, element_next, elements_done, array_whole, annotation_whole}
+use Rattle.std.proofs.Common.{ap, sym, ◌∙◌, arith}
+use Rattle.std.specs.Prelude.{vec_len}
+use Rattle.dexval.proofs.Hashed.{value_next, values_done, element_next, elements_done, array_whole, annotation_whole, encoded_parts}
 use Rattle.dexval.proofs.hashing.+hashing.Goals as goal
 
 pub hash_value-returns-in-Array : goal.hash_value-returns-in-Array
 hash_value-returns-in-Array g t c =
-    array_whole g.H.Hasher.write c.args.value.now c.in-Array.values c.len.result c.args.state.now c.hash_coded-in-Array.new.state c.hash_values.new.state c.in-Array.is c.deref.ensures.value (c.len.ensures ∙ sym c.deref.ensures.len)
+    array_whole g.H.Hasher.write c.args.value.now c.in-Array.values c.len.result c.args.state.now c.hash_coded-in-Array.new.state c.hash_values.new.state c.in-Array.is (c.deref-in-Array-2.ensures.value ∙ ap (λ v. v.items) c.deref-in-Array.ensures) (c.len.ensures ∙ ap (λ v. vec_len v) (c.deref.ensures ∙ sym c.deref-in-Array.ensures) ∙ sym c.deref-in-Array-2.ensures.len)
     c.hash_coded-in-Array.ensures c.hash_values.ensures
 
 pub hash_value-returns-in-Annotation : goal.hash_value-returns-in-Annotation
 hash_value-returns-in-Annotation g t c =
-    annotation_whole g.H.Hasher.write c.args.value.now c.in-Annotation.typ c.in-Annotation.elements c.len-in-Annotation.result c.args.state.now c.hash_coded-in-Annotation.new.state c.hash.new.state c.hash_elements.new.state
-    c.in-Annotation.is c.deref-in-Annotation.ensures.value (c.len-in-Annotation.ensures ∙ sym c.deref-in-Annotation.ensures.len) c.hash_coded-in-Annotation.ensures c.hash.ensures c.hash_elements.ensures
+    annotation_whole g.H.Hasher.write c.args.value.now c.in-Annotation.annotation c.args.state.now c.write_u8.new.self c.hash_encoded.new.state c.in-Annotation.is c.deref-in-Annotation.ensures c.write_u8.ensures c.hash_encoded.ensures
+
+pub hash_encoded-returns : goal.hash_encoded-returns
+hash_encoded-returns g t c =
+    encoded_parts g.H.Hasher.write c.args.annotation.now c.len.result c.args.state.now c.hash.new.state c.hash-2.new.state c.hash_elements.new.state c.deref.ensures.value (c.len.ensures ∙ sym c.deref.ensures.len) c.hash.ensures c.hash-2.ensures c.hash_elements.ensures
 
 pub hash_values-loop-value-preserved : goal.hash_values-loop-value-preserved
 hash_values-loop-value-preserved g t c =

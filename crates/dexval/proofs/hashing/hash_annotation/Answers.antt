@@ -1,8 +1,11 @@
-use Rattle.std.proofs.Common.{sym, ◌∙◌}
-use Rattle.dexval.proofs.Hashed.{annotation_parts}
+use Rattle.std.proofs.Common.{ℕ, ◌++◌, ap}
+use Rattle.std.specs.Hash as fed
+use Rattle.dexval.specs.Code.{encoded_type, encoded_elements}
+use Rattle.dexval.specs.Equality.{encoded_input}
 use Rattle.dexval.proofs.hashing.hash_annotation.Goals as goal
 
 pub returns : goal.returns
 returns g c =
-    annotation_parts g.H.Hasher.write c.args.annotation.now c.number.result c.len.result c.args.state.now c.write_u8.new.self c.hash.new.state c.hash-2.new.state c.hash_elements.new.state
-    c.number.ensures c.deref.ensures.value (c.len.ensures ∙ sym c.deref.ensures.len) c.write_u8.ensures c.hash.ensures c.hash-2.ensures c.hash_elements.ensures
+    let input = encoded_input (encoded_type c.args.annotation.now.annotation) (encoded_elements c.args.annotation.now.annotation) in
+    let write = g.H.Hasher.write in
+    fed.fed_along write c.args.state.now c.hash_encoded.new.state (ap (λ (n : ℕ). fed.u8 n ++ input) c.number.ensures) (fed.fed_then write c.args.state.now c.write_u8.new.self c.hash_encoded.new.state (fed.u8 c.number.result) input c.write_u8.ensures c.hash_encoded.ensures)

@@ -1,11 +1,11 @@
-use Rattle.std.proofs.Common.{◌≤◌, ℕ, List, map, refl, sym, ap, subst, arith}
+use Rattle.std.proofs.Common.{◌≤◌, ℕ, List, refl, sym, ap, subst, arith}
 use Rattle.std.specs.Prelude.{slice_index}
 use Rattle.std.proofs.lemmas.Result.{err_from_is_err_and}
 use Rattle.dexspec.specs.Header.{data_off}
 use Rattle.dexval.specs.declared.annotation.Visibility.{Visibility}
 use Rattle.dexval.specs.declared.annotation.Visibility.TheVariants.{Build, Runtime, System}
-use Rattle.dexval.specs.Code.{element_of, visibility_of}
-use Rattle.dexval.specs.Numbered.{NumberedAnnotation, elements_of_list}
+use Rattle.dexval.specs.Code.{encoded_type, encoded_elements, visibility_of}
+use Rattle.dexval.specs.Numbered.{NumberedAnnotation}
 use Rattle.dexval.specs.Nesting.{HasPools}
 use Rattle.dexval.specs.Items.{NoItemAt, IsItemAt}
 use Rattle.dexval.proofs.Refusals.{refused_so}
@@ -21,17 +21,17 @@ pub returns-in-Some-clause-read : goal.returns-in-Some-clause-read
 returns-in-Some-clause-read c = λ p.
     let e = c.bytes-bytes.ensures.bytes in
     let q = subst (λ (b : List ℕ). HasPools b c.args.pools.now) (sym e) p in
-    let h = c.in_ok-typ.ensures.read q in
+    let h = c.in_ok-annotation.ensures.read q in
     let r = rw c.in-Some.is at h in
-    let x : NumberedAnnotation = record { visibility = visibility_of c.in_ok-visibility.visibility; type = c.in-Some.typ; elements = elements_of_list (map element_of c.in-Some.elements.items) } in
+    let x : NumberedAnnotation = record { visibility = visibility_of c.in_ok-visibility.visibility; type = encoded_type c.in-Some.annotation; elements = encoded_elements c.in-Some.annotation } in
     subst (λ (b : List ℕ). IsItemAt b c.args.off c.args.pools.now x) e
-    (item_read c.bytes-bytes.result.now c.args.off c.args.pools.now (visibility_of c.in_ok-visibility.visibility) c.in-Some.typ (elements_of_list (map element_of c.in-Some.elements.items)) _ (omega (arith, ap data_off e)) (omega arith) (sym c.in_ok-visibility.ensures.visibility) (known c.in_ok-visibility.visibility) r)
+    (item_read c.bytes-bytes.result.now c.args.off c.args.pools.now (visibility_of c.in_ok-visibility.visibility) (encoded_type c.in-Some.annotation) (encoded_elements c.in-Some.annotation) _ (omega (arith, ap data_off e)) (omega arith) (sym c.in_ok-visibility.ensures.visibility) (known c.in_ok-visibility.visibility) r)
 
 pub returns-in-None-clause-refused : goal.returns-in-None-clause-refused
 returns-in-None-clause-refused c = λ p.
     let e = c.bytes-bytes.ensures.bytes in
     let q = subst (λ (b : List ℕ). HasPools b c.args.pools.now) (sym e) p in
-    let h = c.in_ok-typ.ensures.read q in
+    let h = c.in_ok-annotation.ensures.read q in
     let none = rw c.in-None.is at h in
     (refl, subst (λ (b : List ℕ). NoItemAt b c.args.off) e (no_item c.bytes-bytes.result.now c.args.off c.args.pools.now none))
 

@@ -2,7 +2,7 @@ use Rattle.std.proofs.Common.{◌≡◌, ◌+◌, ◌*◌, ◌++◌, ◌∷◌, 
 use Rattle.std.proofs.lemmas.List.{map-append}
 use Rattle.std.proofs.lemmas.Result.{err_from_is_err_and}
 use Rattle.dexspec.specs.Bytes.{uint_at}
-use Rattle.dexval.specs.Code.{annotation_of}
+use Rattle.dexval.specs.Code.{encoded_type, annotation_of}
 use Rattle.dexval.specs.Numbered.{NumberedAnnotation}
 use Rattle.dexval.specs.Items.{IsItemAt, NoItemAt}
 use Rattle.dexval.proofs.FileRead.{file_pools}
@@ -37,14 +37,14 @@ pub loop-i-preserved : goal.loop-i-preserved
 loop-i-preserved c =
     let b = c.args.frame.now in
     let item = c.in_ok-annotation.annotation in
-    let typ : item.typ ≡ c.from-least.result = omega (arith, c.from-least.ensures) in
+    let typ : encoded_type item.annotation ≡ c.from-least.result = omega (arith, c.from-least.ensures) in
     let items : map annotation_of c.push.new.self.items ≡ map annotation_of c.loop-i.annotations.items ++ annotation_of item ∷ [] = ap (map annotation_of) c.in_ok-push.ensures.items ∙ map-append annotation_of c.loop-i.annotations.items (item ∷ []) in
     let place : c.u32_at-place.result ≡ uint_at b (c.args.off + 4 + 4 * c.loop-i.i) = c.u32_at-place.ensures ∙ ap (λ (x : List ℕ). uint_at x (c.args.off + 4 + 4 * c.loop-i.i)) c.bytes-bytes.ensures.bytes in
     record {
       least_fits = omega (arith, c.from-least.ensures);
       read = λ p.
           subst (λ (x : ℕ). HaveReadSet b (c.args.off + 4) c.args.pools.now (uint_at b c.args.off) (c.loop-i.i + 1) (x + 1) (map annotation_of c.push.new.self.items)) typ
-          (subst (λ (l : List NumberedAnnotation). HaveReadSet b (c.args.off + 4) c.args.pools.now (uint_at b c.args.off) (c.loop-i.i + 1) (item.typ + 1) l) (sym items)
+          (subst (λ (l : List NumberedAnnotation). HaveReadSet b (c.args.off + 4) c.args.pools.now (uint_at b c.args.off) (c.loop-i.i + 1) (encoded_type item.annotation + 1) l) (sym items)
           (one_more b c.args.pools.now p (c.args.off + 4) (uint_at b c.args.off) c.loop-i.i c.loop-i.least (map annotation_of c.loop-i.annotations.items) (annotation_of item) (omega (arith, c.in_ok-count.ensures.count.1)) (omega (arith, c.from.ensures)) (c.loop-i.invariant.read p) (subst (λ (x : ℕ). IsItemAt b x c.args.pools.now (annotation_of item)) place (c.in_ok-annotation.ensures.read p))));
     }
 

@@ -1,9 +1,15 @@
 use Rattle.std.proofs.Common.{◌≡◌, ◌∙◌, ◌+◌, ◌∷◌, ◌++◌, ℕ, List, [], map, refl, sym, ap, subst, arith}
 use Rattle.std.proofs.lemmas.List.{map-append}
-use Rattle.dexval.specs.Code.{value_of, element_of}
+use Rattle.dexval.specs.declared.value.Value.{Value}
+use Rattle.dexval.specs.declared.value.Value.TheOpen.{EncodedAnnotation-F}
+use Rattle.dexval.specs.declared.value.Value.TheViews.{out-roll-EncodedAnnotation}
+use Rattle.dexval.specs.declared.value.Element.{Element}
+use Rattle.dexval.specs.declared.value.EncodedAnnotation.{EncodedAnnotation}
+use Rattle.dexval.specs.Code.{value_of, element_of, elements_of, encoded_of, encoded_type, encoded_elements}
+use Rattle.dexval.specs.Numbered as numbered
 use Rattle.dexval.specs.Numbered.{NumberedValue, values_of_list, elements_of_list}
 use Rattle.dexval.specs.internal.Scalars.{IsReadAt}
-use Rattle.dexval.specs.Nesting.{IsElementReadAt}
+use Rattle.dexval.specs.Nesting.{IsElementReadAt, IsAnnotationReadAt}
 use Rattle.dexval.proofs.CodeForms.{array_is, annotation_is, element_is}
 use Rattle.dexval.proofs.NestedRead.{ok_no_err, nothing_after, no_deep_array, no_deep_annotation, array_encoded, no_array, annotation_encoded, no_annotation, deeper}
 use Rattle.dexval.proofs.ValuesRead.{HaveRead, one_more, no_next, no_count, no_values, all_read}
@@ -15,7 +21,9 @@ pub annotation_at-returns-in-Some-clause-read : goal.annotation_at-returns-in-So
 annotation_at-returns-in-Some-clause-read t c = λ p.
     let h = c.in_ok-elements.ensures.read p in
     let r = rw c.in-Some.is at h in
-    annotation_read c.args.self.now.bytes.now c.args.self.now.pools.now p c.args.at c.args.depth c.in-Ok.read.0 c.in-Ok.read.1 c.in-Ok-read_u.read.0 c.in-Ok-read_u.read.1 (elements_of_list (map element_of c.in-Some.elements.items)) c.in-Some.size c.in-Ok.ensures.found (omega arith) c.in-Ok-read_u.ensures.found r
+    let e : EncodedAnnotation-F Value Element EncodedAnnotation = record { typ = c.in-Ok.read.0; elements = c.in-Some.elements } in
+    subst (λ (a : EncodedAnnotation-F Value Element EncodedAnnotation). IsAnnotationReadAt c.args.self.now.bytes.now c.args.at c.args.self.now.pools.now c.args.depth a.typ (elements_of a.elements.items) (c.in-Ok.read.1 + c.in-Ok-read_u.read.1 + c.in-Some.size)) (sym (out-roll-EncodedAnnotation e))
+    (annotation_read c.args.self.now.bytes.now c.args.self.now.pools.now p c.args.at c.args.depth c.in-Ok.read.0 c.in-Ok.read.1 c.in-Ok-read_u.read.0 c.in-Ok-read_u.read.1 (elements_of_list (map element_of c.in-Some.elements.items)) c.in-Some.size c.in-Ok.ensures.found (omega arith) c.in-Ok-read_u.ensures.found r)
 
 pub annotation_at-returns-in-Err-clause-read : goal.annotation_at-returns-in-Err-clause-read
 annotation_at-returns-in-Err-clause-read t c = λ p.
@@ -107,11 +115,11 @@ value_at-returns-then-depth-eq0-clause-read t c = λ p. no_deep_array c.args.sel
 pub value_at-returns-then-depth-eq0-2-clause-read : goal.value_at-returns-then-depth-eq0-2-clause-read
 value_at-returns-then-depth-eq0-2-clause-read t c = λ p. no_deep_annotation c.args.self.now.bytes.now c.args.at c.args.depth c.args.self.now.pools.now p.pools c.in-29.is c.if-depth-eq0-2.true
 
-pub value_at-returns-in-Some-clause-read : goal.value_at-returns-in-Some-clause-read
-value_at-returns-in-Some-clause-read t c = λ p.
+pub value_at-returns-in_ok-values-in-Some-clause-read : goal.value_at-returns-in_ok-values-in-Some-clause-read
+value_at-returns-in_ok-values-in-Some-clause-read t c = λ p.
     let h = c.in_ok-values-in-28.ensures.read p in
     let r = rw c.in-Some.is at h in
-    subst (λ (x : NumberedValue). IsReadAt c.args.self.now.bytes.now c.args.at c.args.self.now.pools.now c.args.depth x (1 + c.in-Some.size)) (sym (array_is c.in-Some.values))
+    subst (λ (x : NumberedValue). IsReadAt c.args.self.now.bytes.now c.args.at c.args.self.now.pools.now c.args.depth x (1 + c.in-Some.size)) (sym (array_is c.in_ok-values-in-Some.values ∙ ap (λ vs. numbered.Array (values_of_list (map value_of vs.items))) c.in_ok-values-in-Some.ensures.ok))
     (array_encoded c.args.self.now.bytes.now c.args.at c.args.depth c.args.self.now.pools.now p.pools (values_of_list (map value_of c.in-Some.values.items)) c.in-Some.size (omega arith) c.in-28.is c.if-depth-eq0.false r)
 
 pub value_at-returns-in-None-clause-read : goal.value_at-returns-in-None-clause-read
@@ -120,16 +128,17 @@ value_at-returns-in-None-clause-read t c = λ p.
     let none = rw c.in-None.is at h in
     no_array c.args.self.now.bytes.now c.args.at c.args.depth c.args.self.now.pools.now p.pools c.in-28.is none
 
-pub value_at-returns-in-Some-2-clause-read : goal.value_at-returns-in-Some-2-clause-read
-value_at-returns-in-Some-2-clause-read t c = λ p.
-    let h = c.in_ok-typ-in-29.ensures.read p in
+pub value_at-returns-in_ok-annotation-in-Some-2-clause-read : goal.value_at-returns-in_ok-annotation-in-Some-2-clause-read
+value_at-returns-in_ok-annotation-in-Some-2-clause-read t c = λ p.
+    let h = c.in_ok-annotation-in-29.ensures.read p in
     let r = rw c.in-Some-2.is at h in
-    subst (λ (x : NumberedValue). IsReadAt c.args.self.now.bytes.now c.args.at c.args.self.now.pools.now c.args.depth x (1 + c.in-Some-2.size)) (sym (annotation_is c.in-Some-2.typ c.in-Some-2.elements))
-    (annotation_encoded c.args.self.now.bytes.now c.args.at c.args.depth c.args.self.now.pools.now p.pools c.in-Some-2.typ (elements_of_list (map element_of c.in-Some-2.elements.items)) c.in-Some-2.size (omega arith) c.in-29.is c.if-depth-eq0-2.false r)
+    let a = c.in-Some-2.annotation in
+    subst (λ (x : NumberedValue). IsReadAt c.args.self.now.bytes.now c.args.at c.args.self.now.pools.now c.args.depth x (1 + c.in-Some-2.size)) (sym (annotation_is c.in_ok-annotation-in-Some-2.annotation ∙ ap encoded_of c.in_ok-annotation-in-Some-2.ensures.ok))
+    (annotation_encoded c.args.self.now.bytes.now c.args.at c.args.depth c.args.self.now.pools.now p.pools (encoded_type a) (encoded_elements a) c.in-Some-2.size (omega arith) c.in-29.is c.if-depth-eq0-2.false r)
 
 pub value_at-returns-in-None-2-clause-read : goal.value_at-returns-in-None-2-clause-read
 value_at-returns-in-None-2-clause-read t c = λ p.
-    let h = c.in_ok-typ-in-29.ensures.read p in
+    let h = c.in_ok-annotation-in-29.ensures.read p in
     let none = rw c.in-None-2.is at h in
     no_annotation c.args.self.now.bytes.now c.args.at c.args.depth c.args.self.now.pools.now p.pools c.in-29.is none
 

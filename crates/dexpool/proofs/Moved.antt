@@ -1,5 +1,5 @@
 -- Rows of a part that are renumbered denote the same symbols as before.
-use Rattle.std.proofs.Common.{◌≡◌, ℕ, ◌<◌, List, [], length, map, sym, ap, ◌∙◌, subst, arith, slice_index}
+use Rattle.std.proofs.Common.{◌≡◌, ℕ, ◌<◌, true, List, [], length, map, sym, ap, ◌∙◌, subst, arith, slice_index, nat_lt, lt-ltb}
 use Rattle.std.specs.List.{All}
 use Rattle.std.proofs.lemmas.List.{get_or-map, length-map}
 use Rattle.std.proofs.lemmas.List.Elements.{All-map, All-weaker}
@@ -17,6 +17,15 @@ use Rattle.dexpool.specs.internal.Joining.{Moves, Denote, proto_of_row, IsRowOf}
 use Rattle.dexpool.specs.Stored.{symbols_in, IsTypeOf, IsProtoEntry, IsFieldRow, IsMethodRow, AreTables}
 use Rattle.dexpool.proofs.Pairs.{map_both}
 use Rattle.dexpool.proofs.TablesAreAt.{types_in}
+
+-- numbers in range are among those that have a place
+pub fields_among : (strings types : ℕ) (fields : List FieldRow) → All (IsFieldWithin strings types) fields → All (λ f. (nat_lt f.class types ≡ true) × (nat_lt f.name strings ≡ true) × (nat_lt f.typ types ≡ true)) fields
+fields_among strings types = All-weaker (IsFieldWithin strings types) (λ f. (nat_lt f.class types ≡ true) × (nat_lt f.name strings ≡ true) × (nat_lt f.typ types ≡ true))
+    (λ f h. (lt-ltb f.class types h.class_in, lt-ltb f.name strings h.name_in, lt-ltb f.typ types h.type_in))
+
+pub methods_among : (strings types protos : ℕ) (methods : List MethodRow) → All (IsMethodWithin strings types protos) methods → All (λ m. (nat_lt m.class types ≡ true) × (nat_lt m.name strings ≡ true) × (nat_lt m.proto protos ≡ true)) methods
+methods_among strings types protos = All-weaker (IsMethodWithin strings types protos) (λ m. (nat_lt m.class types ≡ true) × (nat_lt m.name strings ≡ true) × (nat_lt m.proto protos ≡ true))
+    (λ m h. (lt-ltb m.class types h.class_in, lt-ltb m.name strings h.name_in, lt-ltb m.proto protos h.proto_in))
 
 module _ (t : Tables) (ok : AreTables t) (texts : List Text) (strings : List ℕ) (by_texts : Moves t.strings.items texts strings) where
   text_moved : (n : ℕ) → n < length t.strings.items → text_of texts (slice_index strings n) ≡ text_of t.strings.items n

@@ -21,13 +21,13 @@ use Rattle.dexpool.specs.declared.rows.ProtoEntry.{ProtoEntry}
 use Rattle.dexpool.specs.declared.tables.Tables.{Tables}
 use Rattle.dexpool.specs.declared.marks.Marks.{Marks}
 use Rattle.dexpool.specs.Tables.{text_of, proto_of, span_of, type_cmp, proto_cmp, field_key, method_key}
-use Rattle.dexpool.specs.internal.Renumbering.{StaySorted, numbers_of, moved_type, moved_proto, moved_field, moved_method, IsEntryWithin, IsFieldWithin, IsMethodWithin}
+use Rattle.dexpool.specs.internal.Renumbering.{StaySorted, numbers_of, moved_type, moved_proto, moved_field, moved_method, IsEntryWithin}
 use Rattle.dexpool.specs.internal.Joining.{Moves, proto_key}
 use Rattle.dexpool.specs.Stored.{symbols_in, AreTables}
 use Rattle.dexpool.specs.internal.Closing.{IsMarked, new_numbers, number_or_none}
 use Rattle.dexpool.proofs.KeptRows.{mark_within, places_keep}
 use Rattle.dexpool.proofs.Mapping.{maps_to}
-use Rattle.dexpool.proofs.Moved.{types_movable, protos_movable, fields_movable, methods_movable}
+use Rattle.dexpool.proofs.Moved.{types_movable, protos_movable, fields_among, fields_movable, methods_among, methods_movable}
 use Rattle.dexpool.proofs.NumberOrder.{rises-map}
 use Rattle.dexpool.proofs.Pairs.{map_both}
 use Rattle.dexpool.proofs.TablesAreAt.{are_rising}
@@ -126,19 +126,15 @@ module _ (t : Tables) (ok : AreTables t) (texts : List Text) (texts_rise : rises
 
     pub fields_sorted : FieldsStay → (rows : List FieldRow) → rows ≡ map (moved_field strings images) t.fields.items → AreSorted field_key rows
     fields_sorted law rows is =
-        let Within : FieldRow → Type 0 = λ f. (has_image images f.class ≡ true) × (has_image strings f.name ≡ true) × (has_image images f.typ ≡ true) in
         subst (AreSorted field_key) (sym is)
         (law (record { strings = has_image strings; types = has_image images; protos = λ n. false }) (record { strings = slice_index strings; types = slice_index images; protos = λ n. n }) t.fields.items
         (record { strings = strings_rise; types = images_of_types_rise; protos = none_rise (λ n. n) })
-        (All-weaker (IsFieldWithin (length strings) (length images)) Within
-        (λ f h. (lt-ltb f.class (length images) h.class_in, lt-ltb f.name (length strings) h.name_in, lt-ltb f.typ (length images) h.type_in))
-        t.fields.items (fields_movable t ok texts strings by_texts types images by_types)) ok.fields_rise)
+        (fields_among (length strings) (length images) t.fields.items (fields_movable t ok texts strings by_texts types images by_types)) ok.fields_rise)
 
     module _ (parameters : List ℕ) (protos : List ProtoEntry) (protos_rise : rises symbols.proto_cmp (map (proto_of texts types parameters) protos) ≡ true)
         (proto_images : List ℕ) (by_protos : Moves (symbols_in t).protos (map (proto_of texts types parameters) protos) proto_images) where
       pub methods_sorted : MethodsStay → (rows : List MethodRow) → rows ≡ map (moved_method strings images proto_images) t.methods.items → AreSorted method_key rows
       methods_sorted law rows is =
-          let Within : MethodRow → Type 0 = λ m. (has_image images m.class ≡ true) × (has_image strings m.name ≡ true) × (has_image proto_images m.proto ≡ true) in
           subst (AreSorted method_key) (sym is)
           (law (record { strings = has_image strings; types = has_image images; protos = has_image proto_images })
           (record { strings = slice_index strings; types = slice_index images; protos = slice_index proto_images }) t.methods.items
@@ -147,9 +143,7 @@ module _ (t : Tables) (ok : AreTables t) (texts : List Text) (texts_rise : rises
             types = images_of_types_rise;
             protos = images_rise symbols.proto_cmp proto_total (symbols_in t).protos (map (proto_of texts types parameters) protos) (are_rising t ok).protos_rise protos_rise proto_images by_protos;
           })
-          (All-weaker (IsMethodWithin (length strings) (length images) (length proto_images)) Within
-          (λ m h. (lt-ltb m.class (length images) h.class_in, lt-ltb m.name (length strings) h.name_in, lt-ltb m.proto (length proto_images) h.proto_in))
-          t.methods.items (methods_movable t ok texts strings by_texts types images by_types parameters protos proto_images by_protos)) ok.methods_rise)
+          (methods_among (length strings) (length images) (length proto_images) t.methods.items (methods_movable t ok texts strings by_texts types images by_types parameters protos proto_images by_protos)) ok.methods_rise)
 
 -- ---- cuts: new numbers of marked ones
 

@@ -53,16 +53,6 @@ impl CheckedLists {
     }
 }
 
-// A part of the letters.
-fn part_of(letters: &[u8], span: Span) -> &[u8]
-    requires { HasSpan letters.now span }
-    ensures { result.now ≡ span_of letters.now span }
-{
-    let (_, rest) = letters.split_at(span.start);
-    let (part, _) = rest.split_at(span.end - span.start);
-    part
-}
-
 /// Reads the rows of protos of a file whose texts and types are read.
 #[derive(Clone, Copy)]
 pub(crate) struct ProtoReader<'r, 'p, 'a> {
@@ -85,7 +75,7 @@ impl<'r, 'p, 'a> ProtoReader<'r, 'p, 'a> {
             (span_of (file_numbers self.now.names.now.frame.now) list.span) }
     {
         match &lists.letters {
-            Some(letters) => is_shorty(part_of(letters, list.span), units, list.letter),
+            Some(letters) => is_shorty(list.span.of(letters), units, list.letter),
             None => is_spelled(self.letters, units, list.letter, &self.file.part(list.span)),
         }
     }

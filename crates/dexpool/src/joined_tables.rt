@@ -15,11 +15,11 @@ use crate::numbering::Numbering;
 use crate::protos::Protos;
 use crate::remap::Remap;
 use crate::renumbering::{
-    descriptors, proto_rows, renumbered_fields, renumbered_methods, renumbered_protos,
-    renumbered_types, sorted_law, stored,
+    descriptors, proto_rows, renumbered_protos, renumbered_rows, renumbered_types, sorted_law,
+    stored,
 };
 use crate::tables::Tables;
-use dexrows::{FieldRow, Joined, MethodRow, ProtoRow, Row, TypeRow, join};
+use dexrows::{FieldRow, Joined, LowerPlaces, MethodRow, ProtoRow, Row, TypeRow, join};
 use dexstr::Text;
 use std::alloc::{AllocError, Global};
 
@@ -218,12 +218,12 @@ fn join_fields<'a>(
     sorted_law::<FieldRow>();
     let mut rows = Vec::with_capacity(alloc, parts.len())?;
     for (i, part) in parts.iter().enumerate() {
-        rows.push(renumbered_fields(
-            alloc,
-            &part.tables().fields,
-            &strings.images[i],
-            &types.images[i],
-        )?)?;
+        let lower = LowerPlaces {
+            strings: &strings.images[i],
+            types: &types.images[i],
+            protos: &[],
+        };
+        rows.push(renumbered_rows(alloc, &part.tables().fields, lower)?)?;
     }
     join_rows(alloc, &rows)
 }
@@ -245,13 +245,12 @@ fn join_methods<'a>(
     sorted_law::<MethodRow>();
     let mut rows = Vec::with_capacity(alloc, parts.len())?;
     for (i, part) in parts.iter().enumerate() {
-        rows.push(renumbered_methods(
-            alloc,
-            &part.tables().methods,
-            &strings.images[i],
-            &types.images[i],
-            &protos.images[i],
-        )?)?;
+        let lower = LowerPlaces {
+            strings: &strings.images[i],
+            types: &types.images[i],
+            protos: &protos.images[i],
+        };
+        rows.push(renumbered_rows(alloc, &part.tables().methods, lower)?)?;
     }
     join_rows(alloc, &rows)
 }

@@ -6,8 +6,8 @@ ghost use Rattle.dexrows.specs.Numbers.{among_of, lower_of};
 ghost use Rattle.dexpool.specs.Cut.{kept, places};
 ghost use Rattle.dexpool.specs.Numberings.{AreMarksOf};
 ghost use Rattle.dexpool.specs.Stored.{symbols_in, AreTables};
-ghost use Rattle.dexpool.specs.internal.Renumbering.{HasSpans, numbers_in, IsFieldWithin, IsMethodWithin};
-ghost use Rattle.dexpool.specs.internal.Closing.{AreClosed, AreKept, IsCut, kept_places, cut_types, cut_protos, cut_fields, cut_methods};
+ghost use Rattle.dexpool.specs.internal.Renumbering.{HasSpans, numbers_in};
+ghost use Rattle.dexpool.specs.internal.Closing.{AreClosed, AreKept, IsCut, kept_places, cut_types, cut_protos};
 
 use crate::images::Images;
 use crate::lists::Parameters;
@@ -75,8 +75,8 @@ fn kept_rows<'a>(
     let strings = kept_strings(alloc, &tables.strings, &marks.strings)?;
     let types = kept_types(alloc, &tables.types, &marks.types, lower.strings)?;
     let protos = kept_protos(alloc, tables, &marks.protos, lower.strings, lower.types)?;
-    let fields = kept_fields(alloc, &tables.fields, &marks.fields, lower)?;
-    let methods = kept_methods(alloc, &tables.methods, &marks.methods, lower)?;
+    let fields = kept_renumbered(alloc, &tables.fields, &marks.fields, lower)?;
+    let methods = kept_renumbered(alloc, &tables.methods, &marks.methods, lower)?;
     Ok(Tables {
         strings,
         types,
@@ -143,36 +143,6 @@ fn kept_protos(
 {
     let rows = marked(alloc, &tables.protos, marks)?;
     renumbered_protos(alloc, &rows, &tables.parameters, strings, types)
-}
-
-// The marked fields.
-fn kept_fields(
-    alloc: Global,
-    fields: &[FieldRow],
-    marks: &[bool],
-    lower: LowerPlaces<'_>,
-) -> Result<Vec<FieldRow>, AllocError>
-    requires marks { length marks.now ≡ length fields.now }
-    requires within { All
-        (IsFieldWithin (length lower.strings.now) (length lower.types.now)) fields.now }
-    ensures { IfOk result (λ left. left.items ≡ cut_fields fields.now marks.now lower.entry) }
-{
-    kept_renumbered(alloc, fields, marks, lower)
-}
-
-// The marked methods.
-fn kept_methods(
-    alloc: Global,
-    methods: &[MethodRow],
-    marks: &[bool],
-    lower: LowerPlaces<'_>,
-) -> Result<Vec<MethodRow>, AllocError>
-    requires marks { length marks.now ≡ length methods.now }
-    requires within { All (IsMethodWithin
-        (length lower.strings.now) (length lower.types.now) (length lower.protos.now)) methods.now }
-    ensures { IfOk result (λ left. left.items ≡ cut_methods methods.now marks.now lower.entry) }
-{
-    kept_renumbered(alloc, methods, marks, lower)
 }
 
 // The marked rows, by the new numbers of the rows below that they name.

@@ -38,16 +38,6 @@ impl<'a> Model for Parameters<'a> {
     ghost view = { λ p. numbers_in p.kept };
 }
 
-// A part of the numbers.
-fn own_part(numbers: &[usize], span: Span) -> &[usize]
-    requires { HasSpan numbers.now span }
-    ensures { result.now ≡ span_of numbers.now span }
-{
-    let (_, rest) = numbers.split_at(span.start);
-    let (part, _) = rest.split_at(span.end - span.start);
-    part
-}
-
 // Returns the bytes that encode a part of the numbers.
 fn file_part(bytes: &[u8], span: Span) -> &[u8]
     requires { HasSpan (file_numbers bytes.now) span }
@@ -119,7 +109,7 @@ impl<'a> Parameters<'a> {
             return TypeNumbers::shorts(file_part(bytes, span));
         }
         if let Kept::Own(numbers) = &self.kept {
-            return TypeNumbers::words(own_part(numbers, span));
+            return TypeNumbers::words(span.of(numbers));
         }
         TypeNumbers::words(&[])
     }

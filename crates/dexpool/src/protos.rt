@@ -92,16 +92,6 @@ fn proto_at(
     }))
 }
 
-/// The types of the parameters of a row.
-pub(crate) fn part(parameters: &[usize], span: Span) -> &[usize]
-    requires { HasSpan parameters.now span }
-    ensures { result.now ≡ span_of parameters.now span }
-{
-    let (_, rest) = parameters.split_at(span.start);
-    let (part, _) = rest.split_at(span.end - span.start);
-    part
-}
-
 impl TableReader for ProtoReader<'_, '_, '_> {
     ghost use Rattle.dexspec.specs.Conditions as conditions;
 

@@ -2,13 +2,13 @@
 
 ghost use Rattle.std.specs.Prelude.{◌≡◌, ◌<◌, ◌++◌, length, map, All, IfOk, OnOk, slice_index};
 ghost use Rattle.dexrows.specs.Numbers.{among_of, lower_of};
-ghost use Rattle.dexpool.specs.internal.Renumbering.{StaySorted, moved_type, IsEntryWithin, HasSpans, numbers_in, moved_proto, IsFieldWithin, moved_field, IsMethodWithin, moved_method, AreMovedProtos};
+ghost use Rattle.dexpool.specs.internal.Renumbering.{StaySorted, moved_type, IsEntryWithin, HasSpans, numbers_in, moved_proto, AreMovedProtos};
 
 use crate::lists::Parameters;
-use crate::protos::{Protos, part};
+use crate::protos::Protos;
 use crate::rows::{ProtoEntry, Span};
 use crate::shared_lists::{covering, listed, renumbered_together};
-use dexrows::{FieldRow, LowerPlaces, MethodRow, ProtoRow, Row, TypeNumbers, TypeRow};
+use dexrows::{LowerPlaces, ProtoRow, Row, TypeNumbers, TypeRow};
 use std::alloc::{AllocError, Global};
 
 /// The rows of types, by the images of their texts.
@@ -112,7 +112,7 @@ pub(crate) fn proto_rows(alloc: Global, protos: &Protos) -> Result<Vec<ProtoRow<
         rows.push(ProtoRow::new(
             entry.shorty,
             entry.return_type,
-            part(&protos.parameters, entry.parameters),
+            entry.parameters.of(&protos.parameters),
         ))?;
     }
     Ok(rows)
@@ -154,7 +154,7 @@ pub(crate) fn stored(alloc: Global, protos: &[ProtoRow<'_>]) -> Result<Protos, A
 /// The rows, by the images of the rows of lower tables that they name.
 ///
 /// Error: the memory for the rows was refused.
-fn renumbered_rows<R: Row<List = ()>>(
+pub(crate) fn renumbered_rows<R: Row<List = ()>>(
     alloc: Global,
     rows: &[R],
     lower: LowerPlaces<'_>,
@@ -168,46 +168,6 @@ fn renumbered_rows<R: Row<List = ()>>(
         moved.push(row.renumbered(lower, ()))?;
     }
     Ok(moved)
-}
-
-/// The rows of fields, by the images of their texts and types.
-pub(crate) fn renumbered_fields(
-    alloc: Global,
-    fields: &[FieldRow],
-    strings: &[u32],
-    types: &[u32],
-) -> Result<Vec<FieldRow>, AllocError>
-    requires { All (IsFieldWithin (length strings.now) (length types.now)) fields.now }
-    ensures { IfOk result (λ rows.
-        rows.items ≡ map (moved_field strings.now types.now) fields.now) }
-{
-    let lower = LowerPlaces {
-        strings,
-        types,
-        protos: &[],
-    };
-    renumbered_rows(alloc, fields, lower)
-}
-
-/// The rows of methods, by the images of their texts, types and protos.
-pub(crate) fn renumbered_methods(
-    alloc: Global,
-    methods: &[MethodRow],
-    strings: &[u32],
-    types: &[u32],
-    protos: &[u32],
-) -> Result<Vec<MethodRow>, AllocError>
-    requires { All
-        (IsMethodWithin (length strings.now) (length types.now) (length protos.now)) methods.now }
-    ensures { IfOk result (λ rows.
-        rows.items ≡ map (moved_method strings.now types.now protos.now) methods.now) }
-{
-    let lower = LowerPlaces {
-        strings,
-        types,
-        protos,
-    };
-    renumbered_rows(alloc, methods, lower)
 }
 
 /// Sorted rows stay sorted where the numbers that they name are replaced in the order of these.

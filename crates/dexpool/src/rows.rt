@@ -1,6 +1,8 @@
 //! The rows of protos as a table keeps them. Those of fields and methods are `dexrows`', and a row of types is
 //! the number of its text.
 
+ghost use Rattle.std.specs.Prelude.{◌≡◌, ◌-◌, ◌≤◌, length, take, drop};
+
 /// A row of protos.
 ///
 /// Source: "proto_id_item".
@@ -21,4 +23,17 @@ pub struct Span {
     pub start: usize,
     /// The place after its last number.
     pub end: usize,
+}
+
+impl Span {
+    /// This part of a list.
+    pub(crate) fn of<T>(self, items: &[T]) -> &[T]
+        requires ordered { self.start ≤ self.end }
+        requires within { self.end ≤ length items.now }
+        ensures { result.now ≡ take (self.end - self.start) (drop self.start items.now) }
+    {
+        let (_, rest) = items.split_at(self.start);
+        let (part, _) = rest.split_at(self.end - self.start);
+        part
+    }
 }

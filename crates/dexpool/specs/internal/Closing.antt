@@ -5,7 +5,6 @@ use Rattle.dexspec.specs.Mentions.{Mentions}
 use Rattle.dexpool.specs.Cut.{kept, places}
 use Rattle.dexrows.specs.declared.fields.FieldRow.{FieldRow}
 use Rattle.dexrows.specs.declared.methods.MethodRow.{MethodRow}
-use Rattle.dexrows.specs.declared.lower.LowerPlaces.{LowerPlaces}
 use Rattle.dexrows.specs.Numbers.{ProtoNumbers}
 use Rattle.dexpool.specs.declared.rows.ProtoEntry.{ProtoEntry}
 use Rattle.dexpool.specs.declared.tables.Tables.{Tables}
@@ -137,14 +136,6 @@ cut_types types marks strings = map (slice_index strings) (kept marks types)
 -- those of protos
 abbrev pub cut_protos : Tables → List Bool → List ℕ → List ℕ → List ProtoNumbers
 cut_protos t marks strings types = map (moved_proto strings types t.parameters) (kept marks t.protos.items)
-
--- those of fields
-abbrev pub cut_fields : List FieldRow → List Bool → LowerPlaces → List FieldRow
-cut_fields fields marks lower = map (moved_field lower.strings.now lower.types.now) (kept marks fields)
-
--- those of methods
-abbrev pub cut_methods : List MethodRow → List Bool → LowerPlaces → List MethodRow
-cut_methods methods marks lower = map (moved_method lower.strings.now lower.types.now lower.protos.now) (kept marks methods)
 
 -- the kept rows, by their new numbers
 pub record IsCut (t : Tables) (marks : Marks) (cut : Tables) : Type 0 where

@@ -8,6 +8,7 @@ use Rattle.dexpool.specs.Reading.{HasSpan}
 use Rattle.dexpool.specs.internal.Renumbering.{numbers_of, moved_proto, moved_field, moved_method}
 use Rattle.dexpool.specs.internal.Closing.{number_or_none}
 use Rattle.dexpool.proofs.KeptTables.{types_within, fields_within, methods_within, numbers_count}
+use Rattle.dexpool.proofs.Moved.{fields_among, methods_among}
 use Rattle.dexpool.proofs.kept_tables.kept_rows.Goals as goal
 
 pub kept_strings-requires : goal.kept_strings-requires
@@ -28,24 +29,24 @@ kept_protos-requires-clause-strings c = numbers_count _ _ _ (c.numbers.ensures �
 pub kept_protos-requires-clause-types : goal.kept_protos-requires-clause-types
 kept_protos-requires-clause-types c = numbers_count _ _ _ (c.numbers-2.ensures ∙ ap (λ (m : Maps). map number_or_none m.types) (c.remap.view_is ∙ c.requires.remap)) (c.requires.marks.types_count ∙ length-map c.args.tables.now.types.items _)
 
-pub kept_fields-requires-clause-marks : goal.kept_fields-requires-clause-marks
-kept_fields-requires-clause-marks c = rw (c.deref-6.ensures.value, c.deref-7.ensures.value) (c.requires.marks.fields_count ∙ length-map c.args.tables.now.fields.items _)
+pub kept_renumbered-requires-clause-marks : goal.kept_renumbered-requires-clause-marks
+kept_renumbered-requires-clause-marks c = rw (c.deref-6.ensures.value, c.deref-7.ensures.value) (c.requires.marks.fields_count ∙ length-map c.args.tables.now.fields.items _)
 
-pub kept_fields-requires-clause-within : goal.kept_fields-requires-clause-within
-kept_fields-requires-clause-within c =
+pub kept_renumbered-requires-clause-within : goal.kept_renumbered-requires-clause-within
+kept_renumbered-requires-clause-within c =
     let strings = (numbers_count _ _ _ (c.numbers.ensures ∙ ap (λ (m : Maps). map number_or_none m.texts) (c.remap.view_is ∙ c.requires.remap)) c.requires.marks.strings_count) in
     let types = (numbers_count _ _ _ (c.numbers-2.ensures ∙ ap (λ (m : Maps). map number_or_none m.types) (c.remap.view_is ∙ c.requires.remap)) (c.requires.marks.types_count ∙ length-map c.args.tables.now.types.items _)) in
-    rw c.deref-6.ensures.value (fields_within c.args.tables.now c.requires.tables _ strings _ types)
+    rw c.deref-6.ensures.value (fields_among _ _ c.args.tables.now.fields.items (fields_within c.args.tables.now c.requires.tables _ strings _ types))
 
-pub kept_methods-requires-clause-marks : goal.kept_methods-requires-clause-marks
-kept_methods-requires-clause-marks c = rw (c.deref-8.ensures.value, c.deref-9.ensures.value) (c.requires.marks.methods_count ∙ length-map c.args.tables.now.methods.items _)
+pub kept_renumbered-requires-2-clause-marks : goal.kept_renumbered-requires-2-clause-marks
+kept_renumbered-requires-2-clause-marks c = rw (c.deref-8.ensures.value, c.deref-9.ensures.value) (c.requires.marks.methods_count ∙ length-map c.args.tables.now.methods.items _)
 
-pub kept_methods-requires-clause-within : goal.kept_methods-requires-clause-within
-kept_methods-requires-clause-within c =
+pub kept_renumbered-requires-2-clause-within : goal.kept_renumbered-requires-2-clause-within
+kept_renumbered-requires-2-clause-within c =
     let strings = (numbers_count _ _ _ (c.numbers.ensures ∙ ap (λ (m : Maps). map number_or_none m.texts) (c.remap.view_is ∙ c.requires.remap)) c.requires.marks.strings_count) in
     let types = (numbers_count _ _ _ (c.numbers-2.ensures ∙ ap (λ (m : Maps). map number_or_none m.types) (c.remap.view_is ∙ c.requires.remap)) (c.requires.marks.types_count ∙ length-map c.args.tables.now.types.items _)) in
     let protos = (numbers_count _ _ _ (c.numbers-3.ensures ∙ ap (λ (m : Maps). map number_or_none m.protos) (c.remap.view_is ∙ c.requires.remap)) (c.requires.marks.protos_count ∙ length-map c.args.tables.now.protos.items _)) in
-    rw c.deref-8.ensures.value (methods_within c.args.tables.now c.requires.tables _ strings _ types _ protos)
+    rw c.deref-8.ensures.value (methods_among _ _ _ c.args.tables.now.methods.items (methods_within c.args.tables.now c.requires.tables _ strings _ types _ protos))
 
 pub returns : goal.returns
 returns c =

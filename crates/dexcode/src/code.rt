@@ -2,7 +2,6 @@
 
 ghost use Rattle.std.specs.Prelude.{◌≡◌, Some, None, MatchOption, IfOk};
 
-use crate::boxing::boxed;
 use crate::tries::Tries;
 use dexdebug::Debug;
 use dexinsn::Pieces;
@@ -94,7 +93,7 @@ impl<'a> Code<'a> {
         let pieces = self.pieces.copy()?;
         let tries = self.tries.copy()?;
         let debug = match &self.debug {
-            Some(debug) => Some(boxed(*Box::allocator(debug), debug.copy()?)?),
+            Some(debug) => Some(Box::new(*Box::allocator(debug), debug.copy()?)?),
             None => None,
         };
         Ok(Code {

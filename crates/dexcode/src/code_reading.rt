@@ -6,7 +6,6 @@ ghost use Rattle.dexpool.specs.Pools.{ArePools};
 ghost use Rattle.dexcode.specs.Reading.{TriesAt, IsTriesFault, IsCodeAt, IsCodeFault};
 ghost use Rattle.dexcode.specs.internal.TriesReading.{HasNoTries};
 
-use crate::boxing::boxed;
 use crate::code::Code;
 use crate::tries::Tries;
 use crate::tries_reader::TriesReader;
@@ -105,7 +104,7 @@ pub fn read_code_in<'a>(
         });
     }
     let program = read_debug(alloc, frame, pools, debug_off)?;
-    let debug = boxed(alloc, program)?;
+    let debug = Box::new(alloc, program)?;
     Ok(Code {
         pieces,
         tries,

@@ -26,7 +26,6 @@ pub use handlers::{Catch, Handler};
 pub use meaning_laws::{code_meaning_law, code_remapped_law};
 pub use tries::{Tries, Try};
 
-mod boxing;
 mod catches;
 mod code;
 mod code_checking;

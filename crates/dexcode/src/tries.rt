@@ -3,7 +3,6 @@
 ghost use Rattle.std.specs.Prelude.{◌≡◌, ◌<◌, List, [], All, length, IfOk};
 ghost use Rattle.dexcode.specs.Numbered.{NumberedHandler, AreStored, IsFormedHandler, all_named, handlers_of};
 
-use crate::boxing::boxed;
 use crate::handlers::Handler;
 use crate::stored_tries::StoredTries;
 use std::alloc::{AllocError, Global};
@@ -108,7 +107,7 @@ impl Tries {
         ensures { IfOk result (λ tries. tries ≡ stored) }
     {
         Ok(Tries {
-            stored: Some(boxed(alloc, stored)?),
+            stored: Some(Box::new(alloc, stored)?),
         })
     }
 }

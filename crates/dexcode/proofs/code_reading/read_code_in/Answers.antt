@@ -36,7 +36,7 @@ returns-clause-code c = λ pools.
     let tries = subst (λ (n : ℕ). TriesAt c.starts-starts.result n c.args.frame.now c.args.off c.in_ok-tries.tries) c.len-types.ensures first in
     let at : c.u32_at-debug_off.result ≡ uint_at c.args.frame.now (c.args.off + 8) = c.u32_at-debug_off.ensures ∙ ap (λ (bytes : List ℕ). uint_at bytes (c.args.off + 8)) c.bytes-bytes.ensures.bytes in
     let some : c.u32_at-debug_off.result ≡ 0 → ⊥ = λ e. grind (arith, common_steps) in
-    let program = subst (IsDebugAt c.args.frame.now c.u32_at-debug_off.result c.args.pools.now) (sym c.in_ok-debug.ensures) (c.in_ok-program.ensures.debug pools) in
+    let program = subst (IsDebugAt c.args.frame.now c.u32_at-debug_off.result c.args.pools.now) (sym c.in_ok-debug.ensures.ok) (c.in_ok-program.ensures.debug pools) in
     code_found c.args.frame.now c.args.off c.args.pools.now pools rising c.starts-starts.result (subst (AreStartsAt c.args.frame.now c.args.off) (sym c.starts-starts.ensures) c.in_ok-shape.ensures.starts) c.in_ok-pieces.pieces c.in_ok-pieces.ensures.registers (c.in_ok-pieces.ensures.pieces pools) c.in_ok-tries.tries tries
     (Some c.in_ok-debug.debug.value) (some_debug c.args.frame.now c.args.off c.u32_at-debug_off.result c.args.pools.now c.in_ok-debug.debug.value at some program)
 

@@ -1,6 +1,7 @@
 -- If a part of a handler is missing, there is no handler.
-use Rattle.std.proofs.Common.{◌≡◌, ℕ, ◌+◌, ◌≤◌, Bool, List, [], ◌∷◌, ◌++◌, length, Option, ap, sym, subst, ◌∙◌, arith}
-use Rattle.std.specs.Prelude.{ℤ, nat_abs}
+use Rattle.std.proofs.Common.{◌≡◌, ℕ, ◌+◌, ◌≤◌, Bool, List, [], ◌∷◌, ◌++◌, length, Option, Some, None, refl, ap, sym, subst, ◌∙◌, arith}
+use Rattle.std.specs.Prelude.{ℤ, nat_abs, IfNone}
+use Rattle.std.specs.Option.{IsSome}
 use Rattle.std.proofs.lemmas.List.{length-append}
 use Rattle.dexspec.specs.Lists.{Sequence}
 use Rattle.dexspec.specs.Numbers.{Uleb128At, Sleb128At}
@@ -20,22 +21,35 @@ pub fault_so : {P Q : Type 0} → (P → Q) → (fault : ItemFault) → IsTriesF
 fault_so so (Refused number) h = (h.0, so h.1)
 fault_so so Memory h = h
 
+-- what is not absent is there
+pub there_is : {X N : Type 0} (r : Option X) → IfNone r N → (N → ⊥) → IsSome r
+there_is None none not_none = absurd (not_none none)
+there_is (Some x) none not_none = refl
+
 module _ (starts : List Bool) (types : ℕ) (b : List ℕ) (o : ℕ) (count : ℤ) (count_size : ℕ) (count_is : Sleb128At b o count count_size) where
+  -- its catches are after its size, which is their number
+  pub its_catches : (h : NumberedHandler) (n : ℕ) → (at : HandlerAt starts types b o h n) → (length h.catches ≡ nat_abs count) × Sequence (CatchAt starts types) b (o + count_size) h.catches at.catches_size
+  its_catches h n at =
+      let e = one_sleb128 b o at.count count at.count_size count_size at.count_is count_is in
+      (sym at.many ∙ ap nat_abs e.0, subst (λ (i : ℕ). Sequence (CatchAt starts types) b (o + i) h.catches at.catches_size) e.1 at.catches_are)
+
+  -- and the address for all else after them
+  pub its_catch_all : (h : NumberedHandler) (n : ℕ) → (at : HandlerAt starts types b o h n) → (size : ℕ) → size ≡ at.catches_size → CatchAllAt starts count b (o + count_size + size) h.catch_all_addr at.all_size
+  its_catch_all h n at size is =
+      let e = one_sleb128 b o at.count count at.count_size count_size at.count_is count_is in
+      let place : o + at.count_size + at.catches_size ≡ o + count_size + size = omega (arith, e.1, is) in
+      subst (λ (i : ℕ). CatchAllAt starts count b i h.catch_all_addr at.all_size) place (subst (λ (z : ℤ). CatchAllAt starts z b (o + at.count_size + at.catches_size) h.catch_all_addr at.all_size) e.0 at.all)
+
   -- without its catches
   pub no_catches : (many : ℕ) → many ≡ nat_abs count → ((cs : List Catch) (n : ℕ) → length cs ≡ many → Sequence (CatchAt starts types) b (o + count_size) cs n → ⊥) → (h : NumberedHandler) (n : ℕ) → HandlerAt starts types b o h n → ⊥
-  no_catches many is none h n g =
-      let e = one_sleb128 b o g.count count g.count_size count_size g.count_is count_is in
-      none h.catches g.catches_size (sym g.many ∙ ap nat_abs e.0 ∙ sym is) (subst (λ (i : ℕ). Sequence (CatchAt starts types) b (o + i) h.catches g.catches_size) e.1 g.catches_are)
+  no_catches many is none h n at = let own = its_catches h n at in none h.catches at.catches_size (own.0 ∙ sym is) own.1
 
   -- without the address for all else
   pub no_catch_all : (many : ℕ) → many ≡ nat_abs count → (cs : List Catch) (size : ℕ) → CatchesRead starts types b (o + count_size) many cs size → ((a : Option ℕ) (n : ℕ) → CatchAllAt starts count b (o + count_size + size) a n → ⊥) → (h : NumberedHandler) (n : ℕ) → HandlerAt starts types b o h n → ⊥
-  no_catch_all many is cs size read none h n g =
-      let e = one_sleb128 b o g.count count g.count_size count_size g.count_is count_is in
-      let len : length h.catches ≡ length cs = sym g.many ∙ ap nat_abs e.0 ∙ sym is ∙ sym read.many in
-      let same = one_sequence (CatchAt starts types) (one_catch starts types) b (o + count_size) h.catches cs g.catches_size size len
-      (subst (λ (i : ℕ). Sequence (CatchAt starts types) b (o + i) h.catches g.catches_size) e.1 g.catches_are) read.are_encoded in
-      let place : o + g.count_size + g.catches_size ≡ o + count_size + size = omega (arith, e.1, same.1) in
-      none h.catch_all_addr g.all_size (subst (λ (i : ℕ). CatchAllAt starts count b i h.catch_all_addr g.all_size) place (subst (λ (z : ℤ). CatchAllAt starts z b (o + g.count_size + g.catches_size) h.catch_all_addr g.all_size) e.0 g.all))
+  no_catch_all many is cs size read none h n at =
+      let own = its_catches h n at in
+      let same = one_sequence (CatchAt starts types) (one_catch starts types) b (o + count_size) cs h.catches size at.catches_size (read.many ∙ is ∙ sym own.0) read.are_encoded own.1 in
+      none h.catch_all_addr at.all_size (its_catch_all h n at size same.1)
 
 module _ (starts : List Bool) (types : ℕ) (b : List ℕ) (o typ index_size : ℕ) (index_is : Uleb128At b o typ index_size) where
   -- if the type is out of range, there is no catch

@@ -11,7 +11,7 @@ use Rattle.dexcode.specs.Numbered.{NumberedHandler}
 use Rattle.dexcode.specs.Reading.{CatchAt, CatchAllAt, HandlerAt}
 
 -- one address for all else, or none
-one_catch_all : (starts : List Bool) (size : ℤ) (b : List ℕ) (o : ℕ) (c d : Option ℕ) (n k : ℕ) → CatchAllAt starts size b o c n → CatchAllAt starts size b o d k → (c ≡ d) × (n ≡ k)
+pub one_catch_all : (starts : List Bool) (size : ℤ) (b : List ℕ) (o : ℕ) (c d : Option ℕ) (n k : ℕ) → CatchAllAt starts size b o c n → CatchAllAt starts size b o d k → (c ≡ d) × (n ≡ k)
 one_catch_all starts size b o None None n k h g = (refl, h.1 ∙ sym g.1)
 one_catch_all starts size b o None (Some d) n k h g = absurd (omega (arith, ints, h.0, g.0))
 one_catch_all starts size b o (Some c) None n k h g = absurd (omega (arith, ints, h.0, g.0))

@@ -1,17 +1,18 @@
 //! Handlers read from a file.
 
-ghost use Rattle.std.specs.Prelude.{◌<◌, ◌≤◌, ◌+◌, ℕ, ℤ, Option, length, nat_abs, IfOk, IfErr, IfSome, IfNone};
+ghost use Rattle.std.specs.Prelude.{◌≡◌, ◌<◌, ◌≤◌, ◌+◌, ℕ, List, Option, length, IfOk, IfSome, IfNone};
+ghost use Rattle.dexspec.specs.Lists.{Sequence};
 ghost use Rattle.dexspec.specs.Numbers.{Uleb128At};
-ghost use Rattle.dexcode.specs.internal.NamedHandlers.{HasHandler, HaveCatches};
-ghost use Rattle.dexcode.specs.Reading.{IsStart, CatchAt, CatchesRead, CatchAllAt, HandlerAt, IsTriesFault};
+ghost use Rattle.dexcode.specs.Numbered.{NumberedHandler};
+ghost use Rattle.dexcode.specs.internal.NamedHandlers.{HasHandler, HaveCatches, IsHandlerAt};
+ghost use Rattle.dexcode.specs.Reading.{IsStart, CatchAt, CatchAllAt};
 ghost use Rattle.dexcode.specs.declared.handlers.Catch.{Catch as Caught};
 ghost use Rattle.dexcode.specs.internal.TriesReading.{NoCatches, NoHandlerAt};
 
 use crate::handlers::{Catch, Handler};
 use crate::tries_reader::TriesReader;
-use dexhead::Condition;
 use dexleb::{read_s, read_u};
-use dexpool::ItemFault;
+use std::alloc::AllocError;
 
 impl TriesReader<'_, '_> {
     // Reads the address at `at`, if an instruction begins there, and returns the number of bytes that encode it.
@@ -72,21 +73,21 @@ impl TriesReader<'_, '_> {
         Some(size)
     }
 
-    // Reads `count` catches at `at`, in a vector without spare room, and returns the number of bytes that encode them.
-    fn read_catches(&self, at: usize, count: usize) -> Result<(Vec<Catch>, usize), ItemFault>
-        requires { at ≤ length self.now.bytes.now }
-        ensures catches { IfOk result (λ x. CatchesRead self.now.starts.now self.now.types
-            self.now.bytes.now at count x.0.items x.1) }
-        ensures fault { IfErr result (IsTriesFault
-            (NoCatches self.now.starts.now self.now.types self.now.bytes.now at count)) }
+    // Builds the `count` catches at `at`, in a vector without spare room, and returns the number of bytes that encode
+    // them.
+    fn build_catches(&self, at: usize, count: usize) -> Result<(Vec<Catch>, usize), AllocError>
+        requires within { at ≤ length self.now.bytes.now }
+        requires there { (cs : List Caught) × (n : ℕ) × (length cs ≡ count)
+            × Sequence (CatchAt self.now.starts.now self.now.types) self.now.bytes.now at cs n }
+        ensures within { IfOk result (λ x. at + x.1 ≤ length self.now.bytes.now) }
+        ensures built { (cs : List Caught) (n : ℕ) → length cs ≡ count
+            → Sequence (CatchAt self.now.starts.now self.now.types) self.now.bytes.now at cs n
+            → IfOk result (λ x. (x.0.items ≡ cs) × (x.1 ≡ n)) }
     {
         let mut catches = Vec::with_capacity(self.alloc, count)?;
         let mut size = 0;
         for _ in 0..count {
-            let (caught, len) = match self.read_catch(at + size) {
-                Some(read) => read,
-                None => return Err(ItemFault::Refused(Condition::Tries as u8)),
-            };
+            let (caught, len) = self.read_catch(at + size).unwrap();
             catches.push(caught)?;
             size += len;
         }
@@ -130,30 +131,23 @@ impl TriesReader<'_, '_> {
         Some(count_size + catches_size + all_size)
     }
 
-    // Reads the handler at an offset, and returns the number of bytes that encode it.
-    pub(crate) fn read_handler(&self, at: usize) -> Result<(Handler, usize), ItemFault>
-        requires { at ≤ length self.now.bytes.now }
-        ensures handler { IfOk result (λ x.
-            HandlerAt self.now.starts.now self.now.types self.now.bytes.now at x.0 x.1) }
-        ensures within { IfOk result (λ x. at + x.1 ≤ length self.now.bytes.now) }
-        ensures fault { IfErr result (IsTriesFault
-            (NoHandlerAt self.now.starts.now self.now.types self.now.bytes.now at)) }
+    // Builds the handler at an offset.
+    pub(crate) fn build_handler(&self, at: usize) -> Result<Handler, AllocError>
+        requires within { at ≤ length self.now.bytes.now }
+        requires there { (h : NumberedHandler)
+            × IsHandlerAt self.now.starts.now self.now.types self.now.bytes.now at h }
+        ensures { (h : NumberedHandler)
+            → IsHandlerAt self.now.starts.now self.now.types self.now.bytes.now at h
+            → IfOk result (λ handler. handler ≡ h) }
     {
-        let (count, count_size) = match read_s(self.bytes, at) {
-            Ok(read) => read,
-            Err(_) => return Err(ItemFault::Refused(Condition::Tries as u8)),
-        };
+        let (count, count_size) = read_s(self.bytes, at).unwrap();
         let first = at + count_size;
         let many = count.unsigned_abs() as usize;
-        let (catches, catches_size) = self.read_catches(first, many)?;
-        let (catch_all_addr, all_size) = match self.read_catch_all(first + catches_size, count) {
-            Some(read) => read,
-            None => return Err(ItemFault::Refused(Condition::Tries as u8)),
-        };
-        let handler = Handler {
+        let (catches, size) = self.build_catches(first, many)?;
+        let (catch_all_addr, _) = self.read_catch_all(first + size, count).unwrap();
+        Ok(Handler {
             catches,
             catch_all_addr,
-        };
-        Ok((handler, count_size + catches_size + all_size))
+        })
     }
 }

@@ -1,14 +1,11 @@
 //! The handlers that tries name, each once.
 
-ghost use Rattle.std.specs.Prelude.{◌≡◌, ◌+◌, ◌≤◌, length, slice_index_or, None, IfOk, IfErr, OnOk};
+ghost use Rattle.std.specs.Prelude.{◌≡◌, ◌+◌, ◌≤◌, length, slice_index_or, None, IfOk, OnOk};
 ghost use Rattle.dexcode.specs.Numbered.{NumberedHandler};
 ghost use Rattle.dexcode.specs.internal.NamedHandlers.{AreKnown, IsHandlerAt, IsNumberOf, IsPutAt};
-ghost use Rattle.dexcode.specs.Reading.{IsTriesFault};
-ghost use Rattle.dexcode.specs.internal.TriesReading.{HasNoHandler};
 
 use crate::handlers::Handler;
 use crate::tries_reader::TriesReader;
-use dexpool::ItemFault;
 use indexmap::IndexSet;
 use std::alloc::AllocError;
 
@@ -40,21 +37,21 @@ impl TriesReader<'_, '_> {
         off: u16,
         handlers: &mut IndexSet<Handler>,
         numbers: &mut Vec<Option<usize>>,
-    ) -> Result<usize, ItemFault>
-        requires { list + off ≤ length self.now.bytes.now }
-        ensures number { (h : NumberedHandler)
+    ) -> Result<usize, AllocError>
+        requires within { list + off ≤ length self.now.bytes.now }
+        requires there { (h : NumberedHandler)
+            × IsHandlerAt self.now.starts.now self.now.types self.now.bytes.now (list + off) h }
+        ensures { (h : NumberedHandler)
             → IsHandlerAt self.now.starts.now self.now.types self.now.bytes.now (list + off) h
             → AreKnown self.now.starts.now self.now.types self.now.bytes.now list handlers.old.keys
             numbers.old.items
             → IfOk result (IsNumberOf self.now.starts.now self.now.types self.now.bytes.now list h
             handlers.old.keys handlers.new.keys numbers.new.items) }
-        ensures fault { IfErr result (IsTriesFault
-            (HasNoHandler self.now.starts.now self.now.types self.now.bytes.now (list + off))) }
     {
         if let Some(number) = number_at(numbers, off) {
             return Ok(number);
         }
-        let (handler, _) = self.read_handler(list + usize::from(off))?;
+        let handler = self.build_handler(list + usize::from(off))?;
         let (number, _) = handlers.insert_full(handler)?;
         put_at(numbers, off, number)?;
         Ok(number)

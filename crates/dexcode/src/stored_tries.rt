@@ -1,17 +1,15 @@
 //! Tries and the handlers that they name, as they are stored.
 
-ghost use Rattle.std.specs.Prelude.{◌≡◌, ◌↔◌, ◌^◌, ◌<◌, ◌≤◌, ◌+◌, ◌*◌, IsTrue, List, All, length, IfOk, IfErr, IfSome};
+ghost use Rattle.std.specs.Prelude.{◌≡◌, ◌↔◌, ◌^◌, ◌<◌, ◌≤◌, ◌+◌, ◌*◌, IsTrue, List, length, IfOk, IfSome};
 ghost use Rattle.dexspec.specs.Code.{most_handlers};
 ghost use Rattle.dexcode.specs.Numbered.{AreStored, all_named, handlers_weight};
 ghost use Rattle.dexcode.specs.internal.NamedHandlers.{HaveListed};
-ghost use Rattle.dexcode.specs.Reading.{IsTriesFault};
 ghost use Rattle.dexcode.specs.internal.TriesReading.{HaveLightHandlers, IsFoundNamed, IsMissedHeavy};
 
 use crate::handlers::Handler;
 use crate::tries::Try;
 use crate::tries_reader::TriesReader;
 use dexhead::u16_at;
-use dexpool::ItemFault;
 use indexmap::IndexSet;
 use std::alloc::{AllocError, Global};
 use std::marker::Model;
@@ -71,7 +69,7 @@ impl StoredTries {
         at: usize,
         list: usize,
         tries: &[Try],
-    ) -> Result<Option<StoredTries>, ItemFault>
+    ) -> Result<Option<StoredTries>, AllocError>
         requires listed { HaveListed reader.now.starts.now reader.now.types reader.now.bytes.now at
             list tries.now }
         requires room { at + 8 * length tries.now ≤ length reader.now.bytes.now }
@@ -81,7 +79,6 @@ impl StoredTries {
         ensures light { IfOk result (λ found. IfSome found HaveLightHandlers) }
         ensures heavy { IsMissedHeavy reader.now.starts.now reader.now.types reader.now.bytes.now at
             list tries.now result }
-        ensures fault { IfErr result (IsTriesFault ⊥) }
     {
         let alloc = reader.alloc;
         let mut numbers = Vec::new(alloc);

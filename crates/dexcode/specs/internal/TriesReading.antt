@@ -1,15 +1,15 @@
 -- Catches, handlers and tries as they are read, and when there are none.
 use Rattle.std.specs.Prelude.{◌≡◌, ℕ, ◌+◌, ◌<◌, ◌≤◌, Bool, List, length, Option, Result, IfOk, IfSome, IfNone}
+use Rattle.std.specs.declared.alloc.AllocError.{AllocError}
 use Rattle.std.specs.Global.{Vec}
 use Rattle.dexspec.specs.Code.{most_handlers}
 use Rattle.dexspec.specs.Lists.{Sequence}
 use Rattle.dexspec.specs.Numbers.{Uleb128At}
-use Rattle.dexpool.specs.declared.faults.ItemFault.{ItemFault}
 use Rattle.dexcode.specs.declared.handlers.Catch.{Catch}
 use Rattle.dexcode.specs.declared.tries.Try.{Try}
 use Rattle.dexcode.specs.Numbered.{NumberedHandler, NumberedTry, all_named, handlers_of, handlers_weight}
 use Rattle.dexcode.specs.Reading.{AreApartFrom, CatchAt, HandlerAt, HandlersRead, ListedTryAt, TriesAt, TriesRead, TryItemsAt}
-use Rattle.dexcode.specs.internal.NamedHandlers.{AreListed, IsHandlerAt}
+use Rattle.dexcode.specs.internal.NamedHandlers.{AreListed}
 
 -- ---- what is not there
 
@@ -20,10 +20,6 @@ NoCatches starts types b o count = (cs : List Catch) (n : ℕ) → length cs ≡
 -- at offset o is no handler, of any size
 abbrev pub NoHandlerAt : List Bool → ℕ → List ℕ → ℕ → Type 0
 NoHandlerAt starts types b o = (h : NumberedHandler) (n : ℕ) → HandlerAt starts types b o h n → ⊥
-
--- no handler is at offset o
-abbrev pub HasNoHandler : List Bool → ℕ → List ℕ → ℕ → Type 0
-HasNoHandler starts types b o = (h : NumberedHandler) → IsHandlerAt starts types b o h → ⊥
 
 -- there are not `count` handlers from offset o on
 abbrev pub NoHandlers : List Bool → ℕ → List ℕ → ℕ → ℕ → Type 0
@@ -62,9 +58,9 @@ abbrev pub HaveLightHandlers : List NumberedTry → Type 0
 HaveLightHandlers ts = handlers_weight (handlers_of ts) ≤ most_handlers
 
 -- where tries are found, they are those with the handlers of their numbers
-abbrev pub IsFoundNamed : List Bool → ℕ → List ℕ → ℕ → ℕ → List Try → Result (Option (List NumberedTry)) ItemFault → Type 0
+abbrev pub IsFoundNamed : List Bool → ℕ → List ℕ → ℕ → ℕ → List Try → Result (Option (List NumberedTry)) AllocError → Type 0
 IsFoundNamed starts types b o list ts result = (all : List NumberedHandler) → AreListed starts types b o list all ts → IfOk result (λ found. IfSome found (λ some. some ≡ all_named all ts))
 
 -- where none are found, the handlers of their numbers weigh more than they may
-abbrev pub IsMissedHeavy : List Bool → ℕ → List ℕ → ℕ → ℕ → List Try → Result (Option (List NumberedTry)) ItemFault → Type 0
+abbrev pub IsMissedHeavy : List Bool → ℕ → List ℕ → ℕ → ℕ → List Try → Result (Option (List NumberedTry)) AllocError → Type 0
 IsMissedHeavy starts types b o list ts result = (all : List NumberedHandler) → AreListed starts types b o list all ts → IfOk result (λ found. IfNone found (most_handlers < handlers_weight (handlers_of (all_named all ts))))

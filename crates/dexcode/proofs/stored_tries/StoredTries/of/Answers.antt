@@ -3,13 +3,11 @@ use Rattle.std.proofs.lemmas.Grind.{common_steps}
 use Rattle.std.specs.List.{All}
 use Rattle.std.proofs.lemmas.List.{length-map, take_all}
 use Rattle.std.proofs.lemmas.List.Elements.{All-get_or}
-use Rattle.std.proofs.lemmas.Result.{err_from_is_err_and}
 use Rattle.dexspec.specs.Bytes.{ushort_at}
 use Rattle.dexspec.specs.Code.{most_handlers}
 use Rattle.dexcode.specs.declared.tries.Try.{Try}
 use Rattle.dexcode.specs.Numbered.{IsFormedHandler, no_handler, named, all_named, handlers_of, handlers_weight}
 use Rattle.dexcode.specs.internal.NamedHandlers.{IsHandlerAt}
-use Rattle.dexcode.proofs.HandlersRead.{fault_so}
 use Rattle.dexcode.proofs.Named.{names_more, none_named}
 use Rattle.dexcode.proofs.TryTables.{begins_within}
 use Rattle.dexcode.proofs.Whole.{formed_more}
@@ -19,22 +17,21 @@ use Rattle.dexcode.proofs.stored_tries.StoredTries.of.Goals as goal
 abbrev none : Try
 none = record { start_addr = 0; insn_count = 0; handler = 0 }
 
-pub number_of-requires : goal.number_of-requires
-number_of-requires c =
+pub number_of-requires-clause-within : goal.number_of-requires-clause-within
+number_of-requires-clause-within c =
     let i = c.loop-item.item-index in
     let all = c.requires.listed.handlers in
     let off : ushort_at c.args.reader.now.bytes.now (c.args.at + 8 * i + 6) ≡ c.u16_at-off.result = rw c.loop-item.invariant.reached at (sym c.u16_at-off.ensures) in
     let there = c.requires.listed.are.each i none c.loop-item-test.true in
     omega (arith, off, begins_within c.args.reader.now.starts.now c.args.reader.now.types c.args.reader.now.bytes.now (c.args.list + ushort_at c.args.reader.now.bytes.now (c.args.at + 8 * i + 6)) (get_or all (get_or c.args.tries.now i none).handler no_handler) there)
 
-pub returns-in_err-handler-clause-fault : goal.returns-in_err-handler-clause-fault
-returns-in_err-handler-clause-fault c =
-    let p = err_from_is_err_and c.from_residual-in_err-handler.result c.from_residual-in_err-handler.ensures.1 in
+pub number_of-requires-clause-there : goal.number_of-requires-clause-there
+number_of-requires-clause-there c =
     let i = c.loop-item.item-index in
     let off : ushort_at c.args.reader.now.bytes.now (c.args.at + 8 * i + 6) ≡ c.u16_at-off.result = rw c.loop-item.invariant.reached at (sym c.u16_at-off.ensures) in
     let h = get_or c.requires.listed.handlers (get_or c.args.tries.now i none).handler no_handler in
     let there = subst (λ (p : ℕ). IsHandlerAt c.args.reader.now.starts.now c.args.reader.now.types c.args.reader.now.bytes.now (c.args.list + p) h) off (c.requires.listed.are.each i none c.loop-item-test.true) in
-    rw (p.1, p.2) (fault_so (λ no. no h there) c.in_err-handler.field-0.0 c.in_err-handler.ensures.fault)
+    (h, there)
 
 pub loop-item-init : goal.loop-item-init
 loop-item-init c = record {
@@ -52,7 +49,7 @@ loop-item-preserved c = record {
       let had = c.loop-item.invariant.so_far all listed in
       let off : ushort_at c.args.reader.now.bytes.now (c.args.at + 8 * i + 6) ≡ c.u16_at-off.result = rw c.loop-item.invariant.reached at (sym c.u16_at-off.ensures) in
       let there = subst (λ (p : ℕ). IsHandlerAt c.args.reader.now.starts.now c.args.reader.now.types c.args.reader.now.bytes.now (c.args.list + p) h) off (listed.each i none c.loop-item-test.true) in
-      let one = c.in_ok-handler.ensures.number h there had.known in
+      let one = c.in_ok-handler.ensures h there had.known in
       let pushed : c.push.new.self.items ≡ c.loop-item.numbered.items ++ record { start_addr = t.start_addr; insn_count = t.insn_count; handler = c.in_ok-handler.handler } ∷ [] = grind (arith, common_steps) in
       let more = names_more all c.loop-item.handlers.keys c.number_of.new.handlers.keys c.args.tries.now c.loop-item.numbered.items c.push.new.self.items i c.in_ok-handler.handler none
       c.loop-item-test.true one.keys one.number one.is had.used had.names had.within pushed in

@@ -1,18 +1,15 @@
 use Rattle.std.proofs.Common.{◌≡◌, ◌+◌, ◌<◌, length, get_or, sym, ap, subst, ◌∙◌, arith}
 use Rattle.std.proofs.lemmas.Option.{get_or_from_slice_get}
-use Rattle.std.proofs.lemmas.Result.{err_from_is_err_and}
 use Rattle.indexmap.specs.IndexSet.{insert_key}
 use Rattle.dexcode.specs.Numbered.{same_handler, no_handler}
 use Rattle.dexcode.specs.Equality.{handler_decides}
-use Rattle.dexcode.specs.Reading.{HandlerAt}
+use Rattle.dexcode.specs.internal.NamedHandlers.{IsHandlerAt}
 use Rattle.dexspec.proofs.lists.Distinct.{insert_grows}
-use Rattle.dexcode.proofs.HandlersRead.{fault_so}
 use Rattle.dexcode.proofs.Named.{insert_there, known_more}
-use Rattle.dexcode.proofs.OneHandler.{one_handler}
 use Rattle.dexcode.proofs.tries_reader.TriesReader.number_of.Goals as goal
 
-pub returns-in-Some-clause-number : goal.returns-in-Some-clause-number
-returns-in-Some-clause-number c = λ h there known.
+pub returns-in-Some : goal.returns-in-Some
+returns-in-Some c = λ h there known.
     let at = known.each c.args.off c.in-Some.number (sym c.number_at.ensures ∙ c.in-Some.is) in
     let is = at.1 h there in
     record {
@@ -22,20 +19,15 @@ returns-in-Some-clause-number c = λ h there known.
       is = is;
     }
 
-pub returns-in_err-handler-clause-fault : goal.returns-in_err-handler-clause-fault
-returns-in_err-handler-clause-fault c =
-    let p = err_from_is_err_and c.from_residual.result c.from_residual.ensures.1 in
-    let at = HandlerAt c.args.self.now.starts.now c.args.self.now.types c.args.self.now.bytes.now in
-    rw (p.1, p.2) (fault_so (λ none h there. none h there.size (subst (λ k. at (c.args.list + k) h there.size) (sym c.from.ensures) there.encodes)) c.in_err-handler.field-0.0 c.in_err-handler.ensures.fault)
+pub build_handler-requires-clause-there : goal.build_handler-requires-clause-there
+build_handler-requires-clause-there c = rw c.from.ensures c.requires.there
 
-pub returns-clause-number : goal.returns-clause-number
-returns-clause-number c = λ h there known.
+pub returns : goal.returns
+returns c = λ h there known.
     let old = c.args.handlers.now.keys in
     let new = c.insert_full.new.self.keys in
     let put = c.in_ok-number.ensures in
-    let read = subst (λ k. HandlerAt c.args.self.now.starts.now c.args.self.now.types c.args.self.now.bytes.now (c.args.list + k) c.in_ok-handler.handler c.in_ok-handler.field-0-1) c.from.ensures c.in_ok-handler.ensures.handler in
-    let same : c.in_ok-handler.handler ≡ h =
-    (one_handler c.args.self.now.starts.now c.args.self.now.types c.args.self.now.bytes.now (c.args.list + c.args.off) c.in_ok-handler.handler h c.in_ok-handler.field-0-1 there.size read there.encodes).0 in
+    let same : c.in_ok-handler.handler ≡ h = c.in_ok-handler.ensures h (subst (λ k. IsHandlerAt c.args.self.now.starts.now c.args.self.now.types c.args.self.now.bytes.now (c.args.list + k) h) (sym c.from.ensures) there) in
     let keys : new ≡ insert_key same_handler old h = put.keys ∙ ap (insert_key same_handler old) same in
     let is : get_or new c.in_ok-number.number no_handler ≡ h =
     get_or_from_slice_get new c.in_ok-number.number put.stored.0 no_handler put.stored.1 ∙ sym ((handler_decides c.in_ok-handler.handler put.stored.0).0 put.stored.2) ∙ same in

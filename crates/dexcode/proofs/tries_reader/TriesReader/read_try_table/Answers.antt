@@ -47,11 +47,6 @@ returns-in-Some-clause-tries c =
     subst (TryItemsAt c.args.self.now.starts.now c.args.self.now.types c.args.units c.args.self.now.bytes.now c.args.at c.args.count) (sym (c.in_ok-of-in-Some.ensures ∙ is))
     (found_tries c.args.self.now.starts.now c.args.self.now.types c.args.units c.args.self.now.bytes.now c.args.at c.args.count hs numbers ts to list.is read light)
 
-pub returns-in_err-tries-clause-fault : goal.returns-in_err-tries-clause-fault
-returns-in_err-tries-clause-fault c =
-    let p = err_from_is_err_and c.from_residual-in_err-tries.result c.from_residual-in_err-tries.ensures.1 in
-    rw (p.1, p.2) (fault_so (λ none ts h. none) c.in_err-tries.field-0.0 c.in_err-tries.ensures.fault)
-
 pub returns-clause-fault : goal.returns-clause-fault
 returns-clause-fault c =
     let numbers = c.in_ok-numbers.numbers.items in

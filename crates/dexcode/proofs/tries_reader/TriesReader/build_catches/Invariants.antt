@@ -1,5 +1,5 @@
 use Rattle.dexcode.specs.Reading.{CatchesRead}
-use Rattle.dexcode.proofs.tries_reader.TriesReader.read_catches.Given as goal
+use Rattle.dexcode.proofs.tries_reader.TriesReader.build_catches.Given as goal
 
 abbrev pub invariant-loop : goal.invariant-loop
 invariant-loop l = CatchesRead l.self.starts.now l.self.types l.self.bytes.now l.at l.counter l.catches.items l.size

@@ -1,16 +1,13 @@
-pub mod Aligned
 pub mod Buffered
-pub mod CodeItems
 pub mod Digested
 pub mod JoinedSums
-pub mod OwnUses
 pub mod Rows
 pub mod RowsOfClasses
 pub mod HeaderSums
-pub mod SectionItems
 pub mod SymbolRows
 pub mod Taken
 pub mod Reported
 pub mod WholeBody
 pub mod WholeFile
 pub mod Finished
+pub mod Zipped

@@ -18,7 +18,7 @@ use Rattle.dexclass.specs.Numbered.{NumberedClass, definition_of, text_at, type_
 use Rattle.dexclass.specs.Uses.{IsKnownClass}
 use Rattle.dexlayout.specs.Laid.{ordered_of}
 use Rattle.dexcanon.specs.internal.ClassRows.{class_row, no_offsets, rows_with, row_offsets}
-use Rattle.dexcanon.proofs.OwnUses.{zip_with_at, length-zip_with}
+use Rattle.dexcanon.proofs.Zipped.{zip_with_at, length-zip_with}
 
 -- ---- numbers
 

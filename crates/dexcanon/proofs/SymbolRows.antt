@@ -14,7 +14,7 @@ use Rattle.dexrows.specs.declared.fields.FieldRow.{FieldRow}
 use Rattle.dexrows.specs.declared.methods.MethodRow.{MethodRow}
 use Rattle.dexpool.specs.Numberings.{IsAt, DenotesProto, DenotesField, DenotesMethod}
 use Rattle.dexpool.specs.Laws.{RanksAreNumbers}
-use Rattle.dexcanon.proofs.OwnUses.{zip_with_at}
+use Rattle.dexcanon.proofs.Zipped.{zip_with_at}
 
 -- a type_id_item
 abbrev pub type_row : Mentions → Text → List ℕ

@@ -11,7 +11,7 @@ use Rattle.dexspec.specs.Sections.{Section}
 use Rattle.dexhead.specs.Laid.{map_start, map_list}
 use Rattle.dexlayout.specs.Laid.{ordered_of, AreWritable}
 use Rattle.dexlayout.proofs.Ends.{end_in_file}
-use Rattle.dexcanon.proofs.OwnUses.{length-zip_with_long}
+use Rattle.dexcanon.proofs.Zipped.{length-zip_with_long}
 
 module _ (m : Mentions) (cs : List NumberedClass) where
   -- there is a row for each proto

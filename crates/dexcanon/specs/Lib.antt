@@ -1,4 +1,3 @@
-pub mod Codes
 pub mod Digests
 pub mod Sums
 pub mod Took

@@ -6,7 +6,6 @@ ghost use Rattle.dexcanon.specs.internal.Ready.{CanBeMade};
 ghost use Rattle.dexcanon.specs.internal.Adding.{tables_of, data_of, after_header_of};
 
 use crate::class_defs::ClassDefs;
-use crate::codes::encode_codes;
 use crate::contents::Contents;
 use crate::item_lists::ItemList;
 use crate::map::encode_map;
@@ -27,7 +26,7 @@ fn encode_tables<O: Output>(contents: &Contents<'_, '_, '_>, out: &mut O)
     ClassDefs::encode(contents, out);
 }
 
-// Writes the sections of the data. All but the texts and the code are encoded in the layout.
+// Writes the sections of the data. All but the texts are encoded in the layout.
 fn encode_data<O: Output>(contents: &Contents<'_, '_, '_>, out: &mut O)
     requires { CanBeMade contents.now }
     ensures { O.gives (data_of contents.now) out.old out.new }
@@ -38,7 +37,7 @@ fn encode_data<O: Output>(contents: &Contents<'_, '_, '_>, out: &mut O)
     out.bytes(layout.static_values().bytes());
     StringDataItems::encode(contents, out);
     out.bytes(layout.debugs().bytes());
-    encode_codes(contents, out);
+    out.bytes(layout.codes().bytes());
     out.bytes(layout.class_data().bytes());
     out.bytes(layout.sets().written().bytes());
     out.bytes(layout.ref_lists().bytes());

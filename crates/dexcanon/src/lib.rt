@@ -1,7 +1,6 @@
 //! The canonical file of a program.
 //!
-//! Public contracts use the definitions of `specs/Codes`, `specs/Digests`, `specs/Sums`, `specs/Took` and
-//! `specs/Written`.
+//! Public contracts use the definitions of `specs/Digests`, `specs/Sums`, `specs/Took` and `specs/Written`.
 //!
 //! Source: the Android page "Dalvik Executable format"; the order of the sections and of their contents is this
 //! project's rule.
@@ -10,7 +9,6 @@
 mod adler_combine;
 mod body;
 mod class_defs;
-mod codes;
 mod contents;
 mod digest;
 mod faults;

@@ -27,7 +27,8 @@ use std::alloc::{AllocError, Global};
 pub(crate) const PIECE: usize = 65536;
 
 /// The canonical file of a program. It is accepted, and denotes exactly the program's definitions. The memory for it is
-/// allocated at once, before its first byte is encoded; the layout takes some 8 bytes more for each use and item.
+/// allocated at once, after the layout, which has the bytes of all items but texts and some 8 bytes more for each use
+/// and item.
 ///
 /// Source: "Dalvik Executable format", "Overall file layout".
 pub fn to_bytes(alloc: Global, program: &Program<'_>) -> Result<Vec<u8>, AllocError>

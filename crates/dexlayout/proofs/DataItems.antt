@@ -23,7 +23,7 @@ use Rattle.dexlayout.specs.Laid.{AreWritable, AreClassData, ordered_of}
 use Rattle.dexlayout.specs.Places.{EncodedItems}
 use Rattle.dexlayout.specs.internal.Encoding.{has_no_members, class_data_item, class_data_items, encode_uses, no_items_from}
 use Rattle.dexlayout.proofs.EncodedUses.{own_in}
-use Rattle.dexlayout.proofs.OwnSizes.{methods_in_all}
+use Rattle.dexlayout.proofs.CodeItems.{methods_in_all}
 use Rattle.dexlayout.proofs.OwnSteps.{drop_next}
 
 -- ---- the data of one class

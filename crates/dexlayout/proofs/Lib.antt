@@ -1,3 +1,4 @@
+pub mod CodeItems
 pub mod Counted
 pub mod DataItems
 pub mod EncodedItems
@@ -8,7 +9,6 @@ pub mod OffsetLists
 pub mod OwnCounts
 pub mod OwnFile
 pub mod OwnParts
-pub mod OwnSizes
 pub mod OwnSteps
 pub mod Owned
 pub mod RefLists

@@ -102,7 +102,7 @@ pub record AreCounted (K : Ordered) (d : Data) : Type 0 where
   pub arrays : count_placed d.first_sections.static_values.places.offsets ≡ length (array_section K).items
   pub strings : length K.pools.texts ≡ length (string_section K).items
   pub debugs : d.bodies.debugs.count ≡ length (debug_section K).items
-  pub codes : count_placed d.bodies.codes.offsets ≡ length (code_section K).items
+  pub codes : count_placed d.bodies.codes.places.offsets ≡ length (code_section K).items
   pub class_data : count_placed d.bodies.class_data.places.offsets ≡ length (class_data_section K).items
   pub sets : length d.back.sets.written.places.offsets ≡ length (set_section K).items
   pub ref_lists : count_placed d.back.ref_lists.places.offsets ≡ length (ref_list_section K).items
@@ -118,7 +118,7 @@ counted m cs {d} h =
       arrays = ap count_placed h.first_sections_are.static_values_are.places_are.offsets_are ∙ array_count K;
       strings = sym (length-map m.texts string_data);
       debugs = h.bodies_are.debugs_are.count_is;
-      codes = ap count_placed h.bodies_are.codes_are.offsets_are ∙ code_count K;
+      codes = ap count_placed h.bodies_are.codes_are.places_are.offsets_are ∙ code_count K;
       class_data = ap count_placed h.bodies_are.class_data_are.places_are.offsets_are ∙ class_data_count K;
       sets = ap (λ (os : List ℕ). length os) h.back_are.sets_are.written_are.places_are.offsets_are ∙ length-offsets (set_section K);
       ref_lists = ap count_placed h.back_are.ref_lists_are.places_are.offsets_are ∙ ref_list_count K;

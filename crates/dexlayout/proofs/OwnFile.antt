@@ -9,7 +9,7 @@ use Rattle.dexspec.specs.Sections.{Section, HeaderItem, MapList}
 use Rattle.dexspec.specs.Files.{Collection, definitions}
 use Rattle.dexspec.specs.Mentions.{Mentions, mentions}
 use Rattle.dexspec.specs.Merging.{Caps, greatest_caps, AreCaps, Fits}
-use Rattle.dexspec.specs.Placing.{Ordered, EqualOnce, end, uses_offsets, offsets}
+use Rattle.dexspec.specs.Placing.{Ordered, EqualOnce, end, offsets}
 use Rattle.dexspec.specs.Canonical.{map_of, map_bytes, map_entry_bytes, unsigned_file, with_sums, ordered, canonical, data_start, type_list_section, annotation_section, array_section, string_section, debug_section, code_section, class_data_section, set_section, set_offsets, ref_list_section, directory_section}
 use Rattle.dexspec.proofs.numbers.ByteNumbers.{length-uint, length-ushort}
 use Rattle.dexspec.proofs.written.PlacedBytes.{length_rows}
@@ -91,7 +91,7 @@ module _ (m : Mentions) (cs ds : List NumberedClass) (e : ordered_of m cs ≡ or
     static_values_are = subst (λ (K : Ordered). AreEncodedIn (array_section K) p.static_values) e h.static_values_are;
     strings_are = subst (λ (K : Ordered). AreLaidSo (offsets (string_section K)) (end (string_section K)) p.strings) e h.strings_are;
     debugs_are = subst (λ (K : Ordered). AreSharedIn (debug_section K) p.debugs) e h.debugs_are;
-    codes_are = subst (λ (K : Ordered). AreLaidSo (uses_offsets (code_section K)) (end (code_section K)) p.codes) e h.codes_are;
+    codes_are = subst (λ (K : Ordered). AreEncodedIn (code_section K) p.codes) e h.codes_are;
     class_data_are = subst (λ (K : Ordered). AreEncodedIn (class_data_section K) p.class_data) e h.class_data_are;
     sets_are = sets_same h.sets_are;
     ref_lists_are = subst (λ (K : Ordered). AreEncodedIn (ref_list_section K) p.ref_lists) e h.ref_lists_are;

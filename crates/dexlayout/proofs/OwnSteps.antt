@@ -1,13 +1,12 @@
 -- Items that are placed one after the other by a loop: what is still to be placed.
 use Rattle.std.proofs.Common.{◌≡◌, ℕ, ◌+◌, ◌<◌, ◌≤◌, List, [], ◌∷◌, ◌++◌, length, get_or, map, drop, Option, Some, refl, sym, ap, ◌∙◌, arith, append_assoc}
-use Rattle.std.specs.List.{flat_map}
 use Rattle.std.proofs.lemmas.List.{append-nil, drop_more, drop_all}
 use Rattle.dexspec.specs.Bytes.{round_up}
 use Rattle.dexspec.specs.Placing.{offsets_from, end_from}
 use Rattle.dexlayout.specs.Places.{ItemPlaces}
 use Rattle.dexlayout.specs.internal.Running.{none_from, put_at, put_next, place_use, place_uses}
 use Rattle.dexlayout.specs.Laid.{AreLaidSo}
-use Rattle.dexlayout.proofs.Owned.{place_append, place_grows}
+use Rattle.dexlayout.proofs.Owned.{place_grows}
 
 -- an item that is not aligned begins at the end of the one before it
 pub put_plain : (p : ItemPlaces) (len : ℕ) → put_next p len ≡ place_use 1 p (Some len)
@@ -29,24 +28,9 @@ left_fits align size p xs i x lt is maps_to =
     let e = ap (λ (q : ItemPlaces). q.end) (sym (left_next align size p xs i x lt is) ∙ maps_to) in
     omega (arith, e, place_grows align (place_use align p (size x)) (map size (drop (i + 1) xs)))
 
--- the same where each has several uses
-pub several_next : {X : Type 0} (align : ℕ) (several : X → List (Option ℕ)) (p : ItemPlaces) (xs : List X) (i : ℕ) (x : X) → i < length xs → get_or xs i x ≡ x
-    → place_uses align p (flat_map several (drop i xs)) ≡ place_uses align (place_uses align p (several x)) (flat_map several (drop (i + 1) xs))
-several_next align several p xs i x lt is =
-    ap (λ ys. place_uses align p (flat_map several ys)) (drop_next xs i x lt is) ∙ place_append align p (several x) (flat_map several (drop (i + 1) xs))
-
-pub several_fit : {X : Type 0} {all : ItemPlaces} (align : ℕ) (several : X → List (Option ℕ)) (p : ItemPlaces) (xs : List X) (i : ℕ) (x : X) → i < length xs → get_or xs i x ≡ x → place_uses align p (flat_map several (drop i xs)) ≡ all
-    → (place_uses align p (several x)).end ≤ all.end
-several_fit align several p xs i x lt is maps_to =
-    let e = ap (λ (q : ItemPlaces). q.end) (sym (several_next align several p xs i x lt is) ∙ maps_to) in
-    omega (arith, e, place_grows align (place_uses align p (several x)) (flat_map several (drop (i + 1) xs)))
-
 -- none is left
 pub left_none : {X : Type 0} (align : ℕ) (size : X → Option ℕ) (p : ItemPlaces) (xs : List X) (i : ℕ) → length xs ≤ i → place_uses align p (map size (drop i xs)) ≡ p
 left_none align size p xs i le = ap (λ ys. place_uses align p (map size ys)) (drop_all i xs le)
-
-pub several_none : {X : Type 0} (align : ℕ) (several : X → List (Option ℕ)) (p : ItemPlaces) (xs : List X) (i : ℕ) → length xs ≤ i → place_uses align p (flat_map several (drop i xs)) ≡ p
-several_none align several p xs i le = ap (λ ys. place_uses align p (flat_map several ys)) (drop_all i xs le)
 
 module _ {X : Type 0} (f : X → List ℕ) (align : ℕ) where
   -- how many bytes one has

@@ -9,7 +9,7 @@ use Rattle.dexspec.specs.Placing.{own_numbers, own_items, offsets_from, end_from
 use Rattle.dexspec.proofs.layout.Places.{length-padding}
 use Rattle.dexspec.proofs.layout.Placements.{numbers_offsets}
 use Rattle.dexlayout.specs.Places.{ItemPlaces}
-use Rattle.dexlayout.specs.internal.Running.{none_from, pass, put_at, place_use, place_uses}
+use Rattle.dexlayout.specs.internal.Running.{none_from, pass, put_at, place_uses}
 use Rattle.dexlayout.specs.Laid.{AreLaidSo}
 
 -- how many bytes each use has, if it has an item
@@ -17,11 +17,6 @@ abbrev pub sizes : {X : Type 0} → (X → List ℕ) → List (Option X) → Lis
 sizes f us = map (option_map (λ x. length (f x))) us
 
 -- ---- the running places
-
--- uses after others
-pub place_append : (align : ℕ) (p : ItemPlaces) (us vs : List (Option ℕ)) → place_uses align p (us ++ vs) ≡ place_uses align (place_uses align p us) vs
-place_append align p [] vs = refl
-place_append align p (u ∷ us) vs = place_append align (place_use align p u) us vs
 
 -- they do not end before they begin
 pub place_grows : (align : ℕ) (p : ItemPlaces) (us : List (Option ℕ)) → p.end ≤ (place_uses align p us).end

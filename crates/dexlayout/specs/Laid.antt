@@ -82,8 +82,8 @@ abbrev pub AreStaticValues : Mentions → List NumberedClass → EncodedItems �
 AreStaticValues m cs = AreEncodedIn (array_section (ordered_of m cs))
 
 -- the code
-abbrev pub AreCodes : Mentions → List NumberedClass → ItemPlaces → Type 0
-AreCodes m cs = AreLaidIn (code_section (ordered_of m cs))
+abbrev pub AreCodes : Mentions → List NumberedClass → EncodedItems → Type 0
+AreCodes m cs = AreEncodedIn (code_section (ordered_of m cs))
 
 -- the class data
 abbrev pub AreClassData : Mentions → List NumberedClass → EncodedItems → Type 0

@@ -36,7 +36,7 @@ pub record Places : Type 0 where
   pub static_values : EncodedItems
   pub strings : ItemPlaces
   pub debugs : EncodedSharedItems
-  pub codes : ItemPlaces
+  pub codes : EncodedItems
   pub class_data : EncodedItems
   pub sets : SetPlaces
   pub ref_lists : EncodedItems

@@ -1,6 +1,7 @@
 -- Words of the contracts of private functions: no public contract reaches them.
 pub mod Adding
 pub mod Annotated
+pub mod Codes
 pub mod Directories
 pub mod Encoding
 pub mod Collecting
@@ -10,4 +11,3 @@ pub mod Placing
 pub mod Running
 pub mod SharedUses
 pub mod Sharing
-pub mod Sizes

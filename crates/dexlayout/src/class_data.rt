@@ -6,6 +6,7 @@ ghost use Rattle.dexlayout.specs.internal.Encoding.{class_data_item, encode_use,
 ghost use Rattle.dexlayout.specs.internal.Placing.{CanPlaceClassData, PlacedClassData};
 
 use crate::items::Items;
+use crate::offsets::Offsets;
 use dexclass::Class;
 use dexmembers::Members;
 use std::alloc::{AllocError, Global};
@@ -17,14 +18,13 @@ use std::alloc::{AllocError, Global};
 pub(crate) fn place_class_data(
     alloc: Global,
     classes: &[Class<'_>],
-    code_offs: &[u32],
-    from: u32,
+    codes: &Offsets,
 ) -> Result<Items, AllocError>
-    requires { CanPlaceClassData classes.now code_offs.now from }
-    ensures { IfOk result (PlacedClassData classes.now code_offs.now from) }
+    requires { CanPlaceClassData classes.now codes.now }
+    ensures { IfOk result (PlacedClassData classes.now codes.now) }
 {
-    let mut rest = code_offs;
-    let mut items = Items::starting_at(alloc, from, classes.len())?;
+    let mut rest = codes.offsets();
+    let mut items = Items::starting_at(alloc, codes.end(), classes.len())?;
     for class in classes {
         let (offs, others) = rest.split_at(class.members().method_count());
         put_item(class, offs, &mut items)?;

@@ -1,72 +1,80 @@
-//! The offsets of code.
+//! The code of methods.
 
-ghost use Rattle.std.specs.Prelude.{◌≡◌, ◌^◌, ◌≤◌, IfOk, OnOk, map};
-ghost use Rattle.dexspec.specs.Mentions.{Mentions};
-ghost use Rattle.dexspec.specs.Placing.{end};
-ghost use Rattle.dexspec.specs.Canonical.{debug_section};
-ghost use Rattle.dexlayout.specs.Laid.{AreWritable, ordered_of, AreCodes};
-ghost use Rattle.dexlayout.specs.internal.Running.{place_use, place_uses};
-ghost use Rattle.dexlayout.specs.internal.Placing.{PlacedFrom};
-ghost use Rattle.dexlayout.specs.internal.Sizes.{class_code_sizes, code_size};
+ghost use Rattle.std.specs.Prelude.{◌≡◌, ◌^◌, ◌≤◌, All, drop, length, IfOk, OnOk};
+ghost use Rattle.dexlayout.specs.internal.Codes.{HasShortCode, code_item, code_items};
+ghost use Rattle.dexlayout.specs.internal.Encoding.{encode_use, encode_uses};
+ghost use Rattle.dexlayout.specs.internal.Placing.{CanPlaceCodes, PlacedCodes};
 
+use crate::items::Items;
 use crate::offsets::Offsets;
 use dexclass::Class;
-use dexcode::code_bytes_law;
+use dexcode::{CodeItem, code_bytes_law, code_types_law};
+use dexhead::put_with_len;
 use dexmembers::{Method, Methods};
 use std::alloc::{AllocError, Global};
 
-/// The offsets of the code of each method of each class, the direct ones first. It is after the debug programs, whose
-/// offsets it contains.
+/// The code of each method of each class, the direct ones first, encoded, and their offsets. It is after the debug
+/// programs, whose offsets it contains.
 ///
 /// Source: "code_item".
 pub(crate) fn place_codes(
     alloc: Global,
     classes: &[Class<'_>],
-    from: u32,
-) -> Result<Offsets, AllocError>
-    requires { (m : Mentions) × AreWritable m classes.now
-        × (from ≡ end (debug_section (ordered_of m classes.now))) }
-    ensures { IfOk result (PlacedFrom debug_section AreCodes classes.now from) }
+    debugs: &Offsets,
+) -> Result<Items, AllocError>
+    requires { CanPlaceCodes classes.now debugs.now }
+    ensures { IfOk result (PlacedCodes classes.now debugs.now) }
 {
     code_bytes_law();
-    let mut places = Offsets::starting_at(alloc, from, classes.len())?;
+    code_types_law();
+    let mut rest = debugs.offsets();
+    let mut items = Items::starting_at(alloc, debugs.end(), rest.len())?;
     for class in classes {
-        place_class(class, &mut places)?;
+        let members = class.members();
+        rest = put_methods(&members.direct_methods(), rest, &mut items)?;
+        rest = put_methods(&members.virtual_methods(), rest, &mut items)?;
     }
-    Ok(places)
+    Ok(items)
 }
 
-// Places the code of one class after the others.
-fn place_class(class: &Class<'_>, places: &mut Offsets) -> Result<(), AllocError>
-    requires { (place_uses 4 places.old (class_code_sizes class.now)).end ≤ 2 ^ 30 }
-    ensures { OnOk result (places.new ≡ place_uses 4 places.old (class_code_sizes class.now)) }
-{
-    let members = class.members();
-    place_methods(&members.direct_methods(), places)?;
-    place_methods(&members.virtual_methods(), places)
-}
-
-// That of methods.
-fn place_methods(methods: &Methods<'_, '_>, places: &mut Offsets) -> Result<(), AllocError>
-    requires { (place_uses 4 places.old (map code_size methods.now)).end ≤ 2 ^ 30 }
-    ensures { OnOk result (places.new ≡ place_uses 4 places.old (map code_size methods.now)) }
+// Encodes the code of methods after the others, with the offset of the debug program of each. Returns the offsets that
+// are left.
+fn put_methods<'o>(
+    methods: &Methods<'_, '_>,
+    debug_offs: &'o [u32],
+    items: &mut Items,
+) -> Result<&'o [u32], AllocError>
+    requires enough { length methods.now ≤ length debug_offs.now }
+    requires short { All HasShortCode methods.now }
+    requires fits { (encode_uses 4 items.old (code_items methods.now debug_offs.now)).places.end
+        ≤ 2 ^ 30 }
+    ensures encoded { OnOk result (items.new
+        ≡ encode_uses 4 items.old (code_items methods.now debug_offs.now)) }
+    ensures left { IfOk result (λ rest. rest.now ≡ drop (length methods.now) debug_offs.now) }
 {
     for i in 0..methods.len() {
-        place_code(&methods.get(i), places)?;
+        put_method(&methods.get(i), debug_offs[i], items)?;
     }
-    Ok(())
+    let (_, rest) = debug_offs.split_at(methods.len());
+    Ok(rest)
 }
 
-// That of one method.
-fn place_code(method: &Method<'_, '_>, places: &mut Offsets) -> Result<(), AllocError>
-    requires { (place_use 4 places.old (code_size method.now)).end ≤ 2 ^ 30 }
-    ensures { OnOk result (places.new ≡ place_use 4 places.old (code_size method.now)) }
+// Encodes the code of a method after the others, if it has some.
+fn put_method(method: &Method<'_, '_>, debug_off: u32, items: &mut Items) -> Result<(), AllocError>
+    requires short { HasShortCode method.now }
+    requires fits { (encode_use 4 items.old (code_item method.now debug_off)).places.end ≤ 2 ^ 30 }
+    ensures { OnOk result (items.new ≡ encode_use 4 items.old (code_item method.now debug_off)) }
 {
-    match method.code() {
-        Some(code) => {
-            places.align();
-            places.put_next(code.item_len())
-        }
-        None => places.pass(),
-    }
+    let code = match method.code() {
+        Some(code) => code,
+        None => return items.pass(),
+    };
+    items.align()?;
+    let before = items.bytes.len();
+    put_with_len(
+        &CodeItem { code, debug_off },
+        code.item_len(),
+        &mut items.bytes,
+    )?;
+    items.end_item(before)
 }

@@ -1,10 +1,9 @@
 //! The sections of the data, one after the other.
 
-ghost use Rattle.std.specs.Prelude.{◌≡◌, List, IfOk};
+ghost use Rattle.std.specs.Prelude.{◌≡◌, IfOk};
 ghost use Rattle.dexspec.specs.Mentions.{Mentions};
 ghost use Rattle.dexspec.specs.Placing.{end};
 ghost use Rattle.dexspec.specs.Canonical.{data_start, string_section};
-ghost use Rattle.dexclass.specs.Numbered.{NumberedClass};
 ghost use Rattle.dexlayout.specs.Laid.{AreWritable, ordered_of};
 ghost use Rattle.dexlayout.specs.internal.Parts.{AreBack, AreBodies, AreData, AreFirstSections};
 ghost use Rattle.dexlayout.specs.internal.Placing.{CanPlaceSets, PlacedFrom, PlacedSets, AreWrittenSets, AreKnownSets, HaveSets, IsDataFrom, AreEntriesOf};
@@ -62,7 +61,7 @@ pub(crate) struct FirstSections {
 #[derive(Drop)]
 pub(crate) struct Bodies {
     pub(crate) debugs: SharedItems,
-    pub(crate) codes: Offsets,
+    pub(crate) codes: Items,
     pub(crate) class_data: Items,
 }
 
@@ -112,8 +111,8 @@ fn place_bodies(
     ensures { IfOk result (PlacedFrom string_section AreBodies classes.now from) }
 {
     let debugs = place_debugs(alloc, numbering, classes, from)?;
-    let codes = place_codes(alloc, classes, debugs.places().end())?;
-    let class_data = place_class_data(alloc, classes, codes.offsets(), codes.end())?;
+    let codes = place_codes(alloc, classes, debugs.places())?;
+    let class_data = place_class_data(alloc, classes, codes.places())?;
     Ok(Bodies {
         debugs,
         codes,
@@ -206,13 +205,13 @@ impl Data {
             ),
             entry(
                 Section::CodeItems,
-                count_placed(self.bodies.codes.offsets()) as u32,
+                count_placed(self.bodies.codes.places().offsets()) as u32,
                 round_up(self.bodies.debugs.places().end()),
             ),
             entry(
                 Section::ClassDataItems,
                 count_placed(self.bodies.class_data.places().offsets()) as u32,
-                self.bodies.codes.end(),
+                self.bodies.codes.places().end(),
             ),
             entry(
                 Section::AnnotationSets,

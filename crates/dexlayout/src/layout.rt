@@ -53,7 +53,7 @@ impl Model for Layout {
 
 impl Layout {
     /// The layout of a program's canonical file. Time is linear in what is written, memory some 8 bytes for each
-    /// use and item, and the bytes of all items but texts and code.
+    /// use and item, and the bytes of all items but texts.
     pub fn of(alloc: Global, program: &Program<'_>) -> Result<Layout, AllocError>
         ensures laid { IfOk result (IsLayoutOf program.now) }
         ensures writable { IsWritable program.now }
@@ -117,8 +117,8 @@ impl Layout {
         &self.placed.bodies.debugs
     }
 
-    /// The offset of the code of each method.
-    pub fn codes(&self) -> &Offsets
+    /// The code, encoded, and its offsets: for each method.
+    pub fn codes(&self) -> &Items
         ensures { result.now ≡ self.now.codes }
     {
         &self.placed.bodies.codes

@@ -4,14 +4,11 @@ use Rattle.std.specs.List.{flat_map}
 use Rattle.dexspec.specs.Lists.{zip_with}
 use Rattle.dexspec.specs.Bytes.{uint, padding}
 use Rattle.dexspec.specs.Texts.{string_data}
-use Rattle.dexspec.specs.Mentions.{Mentions}
-use Rattle.dexspec.specs.Placing.{Ordered, Placed, section_bytes, offsets, uses_offsets, end}
-use Rattle.dexspec.specs.Spellings.{code_bytes, text_index}
+use Rattle.dexspec.specs.Placing.{section_bytes, offsets, uses_offsets, end}
+use Rattle.dexspec.specs.Spellings.{text_index}
 use Rattle.dexspec.specs.Canonical.{class_offsets, data_sections, table_bytes, proto_row_bytes, field_row_bytes, method_row_bytes, with_sums, unsigned_file, type_list_section, string_section, directory_section}
 use Rattle.dexhead.specs.Laid.{after_header, map_list}
 use Rattle.dexhead.specs.Written.{head_bytes}
-use Rattle.dexcode.specs.Meaning.{code_in}
-use Rattle.dexcode.specs.Numbered.{NumberedItem}
 use Rattle.dexcanon.specs.declared.class_defs.ClassOffsets.{ClassOffsets}
 use Rattle.dexcanon.specs.declared.contents.Contents.{Contents}
 use Rattle.dexcanon.specs.internal.ClassRows.{rows_with}
@@ -70,11 +67,3 @@ data_of c = flat_map section_bytes (data_sections (ordered_in c))
 -- the map, which is aligned
 abbrev pub map_bytes : Contents → List ℕ
 map_bytes c = padding 4 (end (directory_section (ordered_in c))) ++ map_list (ordered_in c)
-
--- a section of the data
-abbrev pub section_of : Contents → (Ordered → Placed) → List ℕ
-section_of c section = section_bytes (section (ordered_in c))
-
--- the code_item of numbered code, whose debug program has this offset
-abbrev pub code_bytes_in : Mentions → NumberedItem → ℕ → List ℕ
-code_bytes_in m c debug_off = code_bytes m debug_off (code_in m c)

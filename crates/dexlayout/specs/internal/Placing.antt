@@ -6,8 +6,8 @@ use Rattle.std.specs.List.{flat_map}
 use Rattle.dexspec.specs.Texts.{string_data}
 use Rattle.dexspec.specs.Mentions.{Mentions}
 use Rattle.dexspec.specs.Sections.{Section, HeaderItem, MapList}
-use Rattle.dexspec.specs.Placing.{Ordered, offsets_from, end_from, uses_offsets, end, Placed}
-use Rattle.dexspec.specs.Canonical.{data_start, type_list_items, set_items, debug_items, code_section, class_data_section, placed_tables}
+use Rattle.dexspec.specs.Placing.{Ordered, offsets_from, end_from, end, Placed}
+use Rattle.dexspec.specs.Canonical.{data_start, type_list_items, set_items, debug_items, debug_section, code_section, class_data_section, placed_tables}
 use Rattle.dexhead.specs.declared.head.Head.{Head}
 use Rattle.dexhead.specs.declared.map_list.MapEntry.{MapEntry}
 use Rattle.dexhead.specs.Laid.{StatesLayout, map_start, map_list}
@@ -22,7 +22,7 @@ use Rattle.dexlayout.specs.declared.data.Data.{Data}
 use Rattle.dexlayout.specs.declared.sharing.Shared.{Shared}
 use Rattle.dexlayout.specs.declared.tables.Tables.{Tables}
 use Rattle.dexlayout.specs.Places.{ItemPlaces, EncodedItems, EncodedSharedItems, SetPlaces}
-use Rattle.dexlayout.specs.Laid.{ordered_of, AreWritable, AreLaidSo, AreAnnotations, AreClassData, AreDirectories, AreRefLists, AreSets, AreShared}
+use Rattle.dexlayout.specs.Laid.{ordered_of, AreWritable, AreLaidSo, AreLaidIn, AreAnnotations, AreCodes, AreClassData, AreDirectories, AreRefLists, AreSets, AreShared}
 use Rattle.dexlayout.specs.internal.Parts.{AreTables, AreData, entry_of, section_parts}
 use Rattle.dexlayout.specs.internal.Encoding.{encode_uses, list_bytes, no_items_from}
 
@@ -32,13 +32,21 @@ use Rattle.dexlayout.specs.internal.Encoding.{encode_uses, list_bytes, no_items_
 abbrev pub PlacedFrom : {P : Type 0} → (Ordered → Placed) → (Mentions → List NumberedClass → P → Type 0) → List NumberedClass → ℕ → P → Type 0
 PlacedFrom before Are cs from p = (m : Mentions) → AreWritable m cs → from ≡ end (before (ordered_of m cs)) → Are m cs p
 
--- the class data can be placed from the offset on, by these offsets of the code
-abbrev pub CanPlaceClassData : List NumberedClass → List ℕ → ℕ → Type 0
-CanPlaceClassData cs codes from = (m : Mentions) × AreWritable m cs × (codes ≡ uses_offsets (code_section (ordered_of m cs))) × (from ≡ end (code_section (ordered_of m cs)))
+-- the code can be placed after debug programs at these offsets
+abbrev pub CanPlaceCodes : List NumberedClass → ItemPlaces → Type 0
+CanPlaceCodes cs debugs = (m : Mentions) × AreWritable m cs × AreLaidIn (debug_section (ordered_of m cs)) debugs
+
+-- it is placed so
+abbrev pub PlacedCodes : List NumberedClass → ItemPlaces → EncodedItems → Type 0
+PlacedCodes cs debugs p = (m : Mentions) → AreWritable m cs → AreLaidIn (debug_section (ordered_of m cs)) debugs → AreCodes m cs p
+
+-- the class data can be placed after code at these offsets
+abbrev pub CanPlaceClassData : List NumberedClass → ItemPlaces → Type 0
+CanPlaceClassData cs codes = (m : Mentions) × AreWritable m cs × AreLaidIn (code_section (ordered_of m cs)) codes
 
 -- they are placed so
-abbrev pub PlacedClassData : List NumberedClass → List ℕ → ℕ → EncodedItems → Type 0
-PlacedClassData cs codes from p = (m : Mentions) → AreWritable m cs → codes ≡ uses_offsets (code_section (ordered_of m cs)) → from ≡ end (code_section (ordered_of m cs)) → AreClassData m cs p
+abbrev pub PlacedClassData : List NumberedClass → ItemPlaces → EncodedItems → Type 0
+PlacedClassData cs codes p = (m : Mentions) → AreWritable m cs → AreLaidIn (code_section (ordered_of m cs)) codes → AreClassData m cs p
 
 -- the sets and what is after them can be placed from the offset on, by these offsets of the annotations
 abbrev pub CanPlaceSets : List NumberedClass → EncodedItems → ℕ → Type 0

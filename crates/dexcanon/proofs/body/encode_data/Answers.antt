@@ -1,7 +1,6 @@
-use Rattle.std.proofs.Common.{ap, refl, sym, subst, append-nil, ◌∙◌}
+use Rattle.std.proofs.Common.{ap, sym, subst, append-nil, ◌∙◌}
 use Rattle.dexlayout.specs.Places.{EncodedItems, EncodedSharedItems, SetPlaces}
-use Rattle.dexcanon.proofs.Rows.{next_part}
-use Rattle.dexcanon.proofs.SectionItems.{string_bytes}
+use Rattle.dexcanon.proofs.Rows.{next_part, string_bytes}
 use Rattle.dexcanon.proofs.body.encode_data.Goals as goal
 
 pub returns : goal.returns
@@ -14,8 +13,8 @@ returns g c =
     (next_part gives both (c.bytes-5.ensures ∙ ap (λ (s : EncodedItems). s.bytes) c.static_values.ensures ∙ laid.static_values_are.bytes_are) c.bytes-6.ensures
     (next_part gives both (string_bytes c.args.contents.now.numbering.now c.args.contents.now.classes.now) c.encode.ensures
     (next_part gives both (c.bytes-7.ensures ∙ ap (λ (d : EncodedSharedItems). d.bytes) c.debugs.ensures ∙ laid.debugs_are.bytes_are) c.bytes-8.ensures
-    (next_part gives both refl c.encode_codes.ensures
-    (next_part gives both (c.bytes-9.ensures ∙ ap (λ (d : EncodedItems). d.bytes) c.class_data.ensures ∙ laid.class_data_are.bytes_are) c.bytes-10.ensures
-    (next_part gives both (c.bytes-11.ensures ∙ ap (λ (i : EncodedItems). i.bytes) (c.written.ensures ∙ ap (λ (s : SetPlaces). s.written) c.sets.ensures) ∙ laid.sets_are.written_are.bytes_are) c.bytes-12.ensures
-    (next_part gives both (c.bytes-13.ensures ∙ ap (λ (l : EncodedItems). l.bytes) c.ref_lists.ensures ∙ laid.ref_lists_are.bytes_are) c.bytes-14.ensures
-    (subst (λ z. gives z c.bytes-14.new.self c.bytes-16.new.self) (c.bytes-15.ensures ∙ ap (λ (d : EncodedItems). d.bytes) c.directories.ensures ∙ laid.directories_are.bytes_are ∙ sym (append-nil _)) c.bytes-16.ensures)))))))))
+    (next_part gives both (c.bytes-9.ensures ∙ ap (λ (d : EncodedItems). d.bytes) c.codes.ensures ∙ laid.codes_are.bytes_are) c.bytes-10.ensures
+    (next_part gives both (c.bytes-11.ensures ∙ ap (λ (d : EncodedItems). d.bytes) c.class_data.ensures ∙ laid.class_data_are.bytes_are) c.bytes-12.ensures
+    (next_part gives both (c.bytes-13.ensures ∙ ap (λ (i : EncodedItems). i.bytes) (c.written.ensures ∙ ap (λ (s : SetPlaces). s.written) c.sets.ensures) ∙ laid.sets_are.written_are.bytes_are) c.bytes-14.ensures
+    (next_part gives both (c.bytes-15.ensures ∙ ap (λ (l : EncodedItems). l.bytes) c.ref_lists.ensures ∙ laid.ref_lists_are.bytes_are) c.bytes-16.ensures
+    (subst (λ z. gives z c.bytes-16.new.self c.bytes-18.new.self) (c.bytes-17.ensures ∙ ap (λ (d : EncodedItems). d.bytes) c.directories.ensures ∙ laid.directories_are.bytes_are ∙ sym (append-nil _)) c.bytes-18.ensures)))))))))

@@ -2,18 +2,18 @@ use Rattle.std.proofs.Common.{◌≡◌, ◌+◌, [], ◌∷◌, length, drop, a
 use Rattle.std.proofs.lemmas.List.{drop_all}
 use Rattle.dexmembers.specs.Numbered.{NumberedMembers, methods_of}
 use Rattle.dexlayout.specs.Laid.{AreClassData, ordered_of}
-use Rattle.dexlayout.specs.internal.Encoding.{class_data_item, class_data_items, encode_uses}
+use Rattle.dexlayout.specs.internal.Encoding.{class_data_item, class_data_items, encode_uses, no_items_from}
 use Rattle.dexlayout.proofs.DataItems.{data_laid, data_split, data_rest}
 use Rattle.dexlayout.proofs.EncodedUses.{all_encoded_by, use_encoded, use_fits}
 use Rattle.dexlayout.proofs.Ends.{end_in_file}
-use Rattle.dexlayout.proofs.OwnSizes.{code_offsets_count}
+use Rattle.dexlayout.proofs.CodeItems.{code_offsets_count}
 use Rattle.dexlayout.proofs.class_data.place_class_data.Goals as goal
 use Rattle.dexlayout.proofs.class_data.place_class_data.Goals.{After-split_at}
 
 pub loop-class-init : goal.loop-class-init
 loop-class-init c = record {
-  count = code_offsets_count c.requires.0 c.args.classes.now c.args.code_offs.now c.requires.2;
-  encoded = ap (λ p. encode_uses 1 p (class_data_items c.args.classes.now c.args.code_offs.now)) c.in_ok-items.ensures;
+  count = code_offsets_count c.requires.0 c.args.classes.now c.offsets-rest.result.now (c.offsets-rest.ensures ∙ c.requires.2.offsets_are);
+  encoded = λ i. encode_uses 1 ((c.in_ok-items.ensures ∙ ap no_items_from c.end.ensures) i) (class_data_items c.args.classes.now (c.offsets-rest.ensures i));
 }
 
 -- as many methods as the class declares
@@ -34,7 +34,7 @@ put_item-requires-clause-fits c =
     omega (
       arith,
       use_fits 1 c.loop-class.items (next (goal.at.put_item-requires-clause-fits c).After-split_at) c.loop-class.invariant.encoded,
-      (data_laid c.requires.0 cs c.requires.1 c.args.code_offs.now c.requires.2 c.args.from c.requires.3).places_are.end_is,
+      (data_laid c.requires.0 cs c.requires.1 c.args.codes.now.offsets c.requires.2.offsets_are c.args.codes.now.end c.requires.2.end_is).places_are.end_is,
       (end_in_file (ordered_of c.requires.0 cs) c.requires.1.fits).class_data,
     )
 
@@ -47,7 +47,7 @@ loop-class-preserved c =
     }
 
 pub returns : goal.returns
-returns c = λ m w eo e.
+returns c = λ m w laid.
     let cs = c.args.classes.now in
     let none : class_data_items (drop c.loop-class.class-index cs) c.loop-class.rest.now ≡ [] = ap (λ ks. class_data_items ks c.loop-class.rest.now) (drop_all c.loop-class.class-index cs c.loop-class-test.false) in
-    subst (AreClassData m cs) (sym (all_encoded_by 1 none c.loop-class.invariant.encoded)) (data_laid m cs w c.args.code_offs.now eo c.args.from e)
+    subst (AreClassData m cs) (sym (all_encoded_by 1 none c.loop-class.invariant.encoded)) (data_laid m cs w c.args.codes.now.offsets laid.offsets_are c.args.codes.now.end laid.end_is)

@@ -1,8 +1,8 @@
-use Rattle.std.proofs.Common.{◌≡◌, drop}
-use Rattle.std.specs.List.{flat_map}
-use Rattle.dexlayout.specs.internal.Running.{none_from, place_uses}
-use Rattle.dexlayout.specs.internal.Sizes.{class_code_sizes}
+use Rattle.std.proofs.Common.{drop}
+use Rattle.dexlayout.specs.internal.Codes.{code_items}
+use Rattle.dexlayout.specs.internal.Encoding.{encode_uses, no_items_from}
+use Rattle.dexlayout.proofs.CodeItems.{CodesLeft, methods_in_all}
 use Rattle.dexlayout.proofs.codes.place_codes.Given as goal
 
 abbrev pub invariant-loop-class : goal.invariant-loop-class
-invariant-loop-class l = place_uses 4 l.places (flat_map class_code_sizes (drop l.class-index l.classes)) ≡ place_uses 4 (none_from l.fn.from) (flat_map class_code_sizes l.classes)
+invariant-loop-class l = CodesLeft l.items (methods_in_all (drop l.class-index l.classes)) l.rest (encode_uses 4 (no_items_from l.debugs.end) (code_items (methods_in_all l.classes) l.debugs.offsets))

@@ -49,31 +49,31 @@ pub overflow_cast-count-3 : goal.overflow_cast-count-3
 overflow_cast-count-3 c = omega (arith, c.count-3.ensures, (counts c.requires.2).debugs, (few c.requires.1).debugs)
 
 pub overflow_cast-count_placed-2 : goal.overflow_cast-count_placed-2
-overflow_cast-count_placed-2 c = omega (arith, c.count_placed-2.ensures ∙ ap count_placed c.offsets-3.ensures, (counts c.requires.2).codes, (few c.requires.1).codes)
+overflow_cast-count_placed-2 c = omega (arith, c.count_placed-2.ensures ∙ ap count_placed (c.offsets-3.ensures ∙ ap (λ (q : ItemPlaces). q.offsets) c.places-6.ensures), (counts c.requires.2).codes, (few c.requires.1).codes)
 
 pub round_up-requires-2 : goal.round_up-requires-2
-round_up-requires-2 c = omega (arith, c.end-5.ensures ∙ ap (λ (q : ItemPlaces). q.end) c.places-6.ensures ∙ c.requires.2.bodies_are.debugs_are.places_are.end_is, (ends c.requires.1).debugs)
+round_up-requires-2 c = omega (arith, c.end-5.ensures ∙ ap (λ (q : ItemPlaces). q.end) c.places-7.ensures ∙ c.requires.2.bodies_are.debugs_are.places_are.end_is, (ends c.requires.1).debugs)
 
 pub overflow_cast-count_placed-3 : goal.overflow_cast-count_placed-3
-overflow_cast-count_placed-3 c = omega (arith, c.count_placed-3.ensures ∙ ap count_placed (c.offsets-4.ensures ∙ ap (λ (q : ItemPlaces). q.offsets) c.places-7.ensures), (counts c.requires.2).class_data, (few c.requires.1).class_data)
+overflow_cast-count_placed-3 c = omega (arith, c.count_placed-3.ensures ∙ ap count_placed (c.offsets-4.ensures ∙ ap (λ (q : ItemPlaces). q.offsets) c.places-8.ensures), (counts c.requires.2).class_data, (few c.requires.1).class_data)
 
 pub overflow_cast-offsets-2 : goal.overflow_cast-offsets-2
-overflow_cast-offsets-2 c = omega (arith, ap (λ xs. length xs) (c.offsets-5.ensures ∙ ap (λ (q : ItemPlaces). q.offsets) (c.places-8.ensures ∙ ap (λ (p : EncodedItems). p.places) c.written.ensures)), (counts c.requires.2).sets, (few c.requires.1).sets)
+overflow_cast-offsets-2 c = omega (arith, ap (λ xs. length xs) (c.offsets-5.ensures ∙ ap (λ (q : ItemPlaces). q.offsets) (c.places-10.ensures ∙ ap (λ (p : EncodedItems). p.places) c.written.ensures)), (counts c.requires.2).sets, (few c.requires.1).sets)
 
 pub round_up-requires-3 : goal.round_up-requires-3
-round_up-requires-3 c = omega (arith, c.end-7.ensures ∙ ap (λ (q : ItemPlaces). q.end) c.places-9.ensures ∙ c.requires.2.bodies_are.class_data_are.places_are.end_is, (ends c.requires.1).class_data)
+round_up-requires-3 c = omega (arith, c.end-7.ensures ∙ ap (λ (q : ItemPlaces). q.end) c.places-11.ensures ∙ c.requires.2.bodies_are.class_data_are.places_are.end_is, (ends c.requires.1).class_data)
 
 pub overflow_cast-count_placed-4 : goal.overflow_cast-count_placed-4
-overflow_cast-count_placed-4 c = omega (arith, c.count_placed-4.ensures ∙ ap count_placed (c.offsets-6.ensures ∙ ap (λ (q : ItemPlaces). q.offsets) c.places-10.ensures), (counts c.requires.2).ref_lists, (few c.requires.1).ref_lists)
+overflow_cast-count_placed-4 c = omega (arith, c.count_placed-4.ensures ∙ ap count_placed (c.offsets-6.ensures ∙ ap (λ (q : ItemPlaces). q.offsets) c.places-12.ensures), (counts c.requires.2).ref_lists, (few c.requires.1).ref_lists)
 
 pub round_up-requires-4 : goal.round_up-requires-4
-round_up-requires-4 c = omega (arith, c.end-8.ensures ∙ ap (λ (q : ItemPlaces). q.end) (c.places-11.ensures ∙ ap (λ (p : EncodedItems). p.places) c.written-2.ensures) ∙ c.requires.2.back_are.sets_are.written_are.places_are.end_is, (ends c.requires.1).sets)
+round_up-requires-4 c = omega (arith, c.end-8.ensures ∙ ap (λ (q : ItemPlaces). q.end) (c.places-13.ensures ∙ ap (λ (p : EncodedItems). p.places) c.written-2.ensures) ∙ c.requires.2.back_are.sets_are.written_are.places_are.end_is, (ends c.requires.1).sets)
 
 pub overflow_cast-count_placed-5 : goal.overflow_cast-count_placed-5
-overflow_cast-count_placed-5 c = omega (arith, c.count_placed-5.ensures ∙ ap count_placed (c.offsets-7.ensures ∙ ap (λ (q : ItemPlaces). q.offsets) c.places-12.ensures), (counts c.requires.2).directories, (few c.requires.1).directories)
+overflow_cast-count_placed-5 c = omega (arith, c.count_placed-5.ensures ∙ ap count_placed (c.offsets-7.ensures ∙ ap (λ (q : ItemPlaces). q.offsets) c.places-14.ensures), (counts c.requires.2).directories, (few c.requires.1).directories)
 
 pub round_up-requires-5 : goal.round_up-requires-5
-round_up-requires-5 c = omega (arith, c.end-9.ensures ∙ ap (λ (q : ItemPlaces). q.end) c.places-13.ensures ∙ c.requires.2.back_are.ref_lists_are.places_are.end_is, (ends c.requires.1).ref_lists)
+round_up-requires-5 c = omega (arith, c.end-9.ensures ∙ ap (λ (q : ItemPlaces). q.end) c.places-15.ensures ∙ c.requires.2.back_are.ref_lists_are.places_are.end_is, (ends c.requires.1).ref_lists)
 
 pub returns : goal.returns
 returns c = λ cs w d from.
@@ -85,9 +85,9 @@ returns c = λ cs w d from.
     (c.entry-3.ensures ∙ same_entry EncodedArrayItems _ _ _ _ (c.count_placed.ensures ∙ ap count_placed (c.offsets-2.ensures ∙ ap (λ (q : ItemPlaces). q.offsets) c.places-3.ensures) ∙ n.arrays) (c.end-2.ensures ∙ ap (λ (q : ItemPlaces). q.end) c.places-4.ensures ∙ d.first_sections_are.annotations_are.places_are.end_is ∙ plain _))
     (c.entry-4.ensures ∙ same_entry StringDataItems _ _ _ _ (c.count-2.ensures ∙ n.strings) (c.end-3.ensures ∙ ap (λ (q : ItemPlaces). q.end) c.places-5.ensures ∙ d.first_sections_are.static_values_are.places_are.end_is ∙ plain _))
     (c.entry-5.ensures ∙ same_entry DebugInfoItems _ _ _ _ (c.count-3.ensures ∙ n.debugs) (c.end-4.ensures ∙ d.first_sections_are.strings_are.end_is ∙ plain _))
-    (c.entry-6.ensures ∙ same_entry CodeItems _ _ _ _ (c.count_placed-2.ensures ∙ ap count_placed c.offsets-3.ensures ∙ n.codes) (c.round_up-2.ensures ∙ ap (round_up 4) (c.end-5.ensures ∙ ap (λ (q : ItemPlaces). q.end) c.places-6.ensures ∙ d.bodies_are.debugs_are.places_are.end_is)))
-    (c.entry-7.ensures ∙ same_entry ClassDataItems _ _ _ _ (c.count_placed-3.ensures ∙ ap count_placed (c.offsets-4.ensures ∙ ap (λ (q : ItemPlaces). q.offsets) c.places-7.ensures) ∙ n.class_data) (c.end-6.ensures ∙ d.bodies_are.codes_are.end_is ∙ plain _))
-    (c.entry-8.ensures ∙ same_entry AnnotationSets _ _ _ _ (ap (λ xs. length xs) (c.offsets-5.ensures ∙ ap (λ (q : ItemPlaces). q.offsets) (c.places-8.ensures ∙ ap (λ (p : EncodedItems). p.places) c.written.ensures)) ∙ n.sets) (c.round_up-3.ensures ∙ ap (round_up 4) (c.end-7.ensures ∙ ap (λ (q : ItemPlaces). q.end) c.places-9.ensures ∙ d.bodies_are.class_data_are.places_are.end_is)))
-    (c.entry-9.ensures ∙ same_entry AnnotationSetRefLists _ _ _ _ (c.count_placed-4.ensures ∙ ap count_placed (c.offsets-6.ensures ∙ ap (λ (q : ItemPlaces). q.offsets) c.places-10.ensures) ∙ n.ref_lists) (c.round_up-4.ensures ∙ ap (round_up 4) (c.end-8.ensures ∙ ap (λ (q : ItemPlaces). q.end) (c.places-11.ensures ∙ ap (λ (p : EncodedItems). p.places) c.written-2.ensures) ∙ d.back_are.sets_are.written_are.places_are.end_is)))
-    (c.entry-10.ensures ∙ same_entry AnnotationsDirectories _ _ _ _ (c.count_placed-5.ensures ∙ ap count_placed (c.offsets-7.ensures ∙ ap (λ (q : ItemPlaces). q.offsets) c.places-12.ensures) ∙ n.directories) (c.round_up-5.ensures ∙ ap (round_up 4) (c.end-9.ensures ∙ ap (λ (q : ItemPlaces). q.end) c.places-13.ensures ∙ d.back_are.ref_lists_are.places_are.end_is)))
+    (c.entry-6.ensures ∙ same_entry CodeItems _ _ _ _ (c.count_placed-2.ensures ∙ ap count_placed (c.offsets-3.ensures ∙ ap (λ (q : ItemPlaces). q.offsets) c.places-6.ensures) ∙ n.codes) (c.round_up-2.ensures ∙ ap (round_up 4) (c.end-5.ensures ∙ ap (λ (q : ItemPlaces). q.end) c.places-7.ensures ∙ d.bodies_are.debugs_are.places_are.end_is)))
+    (c.entry-7.ensures ∙ same_entry ClassDataItems _ _ _ _ (c.count_placed-3.ensures ∙ ap count_placed (c.offsets-4.ensures ∙ ap (λ (q : ItemPlaces). q.offsets) c.places-8.ensures) ∙ n.class_data) (c.end-6.ensures ∙ ap (λ (q : ItemPlaces). q.end) c.places-9.ensures ∙ d.bodies_are.codes_are.places_are.end_is ∙ plain _))
+    (c.entry-8.ensures ∙ same_entry AnnotationSets _ _ _ _ (ap (λ xs. length xs) (c.offsets-5.ensures ∙ ap (λ (q : ItemPlaces). q.offsets) (c.places-10.ensures ∙ ap (λ (p : EncodedItems). p.places) c.written.ensures)) ∙ n.sets) (c.round_up-3.ensures ∙ ap (round_up 4) (c.end-7.ensures ∙ ap (λ (q : ItemPlaces). q.end) c.places-11.ensures ∙ d.bodies_are.class_data_are.places_are.end_is)))
+    (c.entry-9.ensures ∙ same_entry AnnotationSetRefLists _ _ _ _ (c.count_placed-4.ensures ∙ ap count_placed (c.offsets-6.ensures ∙ ap (λ (q : ItemPlaces). q.offsets) c.places-12.ensures) ∙ n.ref_lists) (c.round_up-4.ensures ∙ ap (round_up 4) (c.end-8.ensures ∙ ap (λ (q : ItemPlaces). q.end) (c.places-13.ensures ∙ ap (λ (p : EncodedItems). p.places) c.written-2.ensures) ∙ d.back_are.sets_are.written_are.places_are.end_is)))
+    (c.entry-10.ensures ∙ same_entry AnnotationsDirectories _ _ _ _ (c.count_placed-5.ensures ∙ ap count_placed (c.offsets-7.ensures ∙ ap (λ (q : ItemPlaces). q.offsets) c.places-14.ensures) ∙ n.directories) (c.round_up-5.ensures ∙ ap (round_up 4) (c.end-9.ensures ∙ ap (λ (q : ItemPlaces). q.end) c.places-15.ensures ∙ d.back_are.ref_lists_are.places_are.end_is)))
     ∙ named_parts_are (ordered_of m cs)

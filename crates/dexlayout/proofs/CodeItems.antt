@@ -1,0 +1,174 @@
+-- The code of methods: by numbers, it is the code_items of the file.
+use Rattle.std.proofs.Common.{◌≡◌, ℕ, ◌+◌, ◌<◌, ◌≤◌, List, [], ◌∷◌, ◌++◌, length, get_or, map, drop, Option, None, Some, refl, sym, ap, subst, ◌∙◌, arith, append_assoc}
+use Rattle.std.specs.Prelude.{IfSome}
+use Rattle.std.specs.List.{All, flat_map}
+use Rattle.std.specs.Option.{option_map, option_map_or}
+use Rattle.std.proofs.lemmas.List.{drop_more, length-append, length-drop, length-map, map-append}
+use Rattle.std.proofs.lemmas.List.Elements.{All-nil, All-head, All-tail, All-append}
+use Rattle.dexspec.specs.Lists.{zip_with}
+use Rattle.dexspec.specs.Code as symbolic
+use Rattle.dexspec.specs.Classes.{MethodDef, declared_methods}
+use Rattle.dexspec.specs.Mentions.{Mentions}
+use Rattle.dexspec.specs.Sameness.{same_debug}
+use Rattle.dexspec.specs.Sections.{CodeItems}
+use Rattle.dexspec.specs.Spellings.{code_bytes}
+use Rattle.dexspec.specs.Placing.{all_methods, code_uses, debug_uses, Ordered, offsets, uses_offsets}
+use Rattle.dexspec.specs.Canonical.{debug_section, code_section}
+use Rattle.dexspec.proofs.layout.Placements.{length-items_offsets, length-uses_offsets, length-zip_with}
+use Rattle.dexpool.specs.Numberings.{AreRising}
+use Rattle.dexpool.proofs.Parts.{all_back, all_of, all_prefix}
+use Rattle.dexcode.specs.Numbered.{NumberedItem, handlers_of}
+use Rattle.dexcode.specs.Meaning.{code_in, IsKnownCode}
+use Rattle.dexcode.specs.CodePut.{numbered_code_bytes, HasShortTypes}
+use Rattle.dexcode.specs.Laws.{CodeBytesAreDenoted, CaughtTypesAreShort}
+use Rattle.dexcode.proofs.Meanings.{code_encoded}
+use Rattle.dexmembers.specs.Numbered.{NumberedMembers, NumberedMethod, method_in, IsKnownMethod, methods_of}
+use Rattle.dexclass.specs.Numbered.{NumberedClass, definition_of}
+use Rattle.dexclass.specs.Uses.{IsKnownClass}
+use Rattle.dexlayout.specs.Laid.{AreCodes, AreLaidIn, AreWritable, ordered_of}
+use Rattle.dexlayout.specs.Places.{EncodedItems, ItemPlaces}
+use Rattle.dexlayout.specs.internal.Codes.{code_item, code_items, HasShortCode}
+use Rattle.dexlayout.specs.internal.Encoding.{encode_use, encode_uses, no_items_from}
+use Rattle.dexlayout.proofs.EncodedUses.{own_in, use_encoded, use_fits, uses_encoded, uses_fit}
+use Rattle.dexlayout.proofs.OwnSteps.{drop_next}
+
+-- ---- the methods of classes
+
+abbrev pub methods_in_all : List NumberedClass → List NumberedMethod
+methods_in_all cs = flat_map (λ c. methods_of c.members) cs
+
+-- they denote those of the definitions
+methods_mean : (m : Mentions) (cs : List NumberedClass) → all_methods (map (definition_of m) cs) ≡ map (method_in m) (methods_in_all cs)
+methods_mean m [] = refl
+methods_mean m (c ∷ cs) =
+    ap (λ xs. declared_methods (definition_of m c).1 ++ xs) (methods_mean m cs)
+    ∙ ap (λ xs. xs ++ map (method_in m) (methods_in_all cs)) (sym (map-append (method_in m) c.members.direct_methods c.members.virtual_methods))
+    ∙ sym (map-append (method_in m) (methods_of c.members) (methods_in_all cs))
+
+-- and are known
+methods_known : (m : Mentions) (cs : List NumberedClass) → All (IsKnownClass m) cs → All (IsKnownMethod m) (methods_in_all cs)
+methods_known m [] known = All-nil (IsKnownMethod m)
+methods_known m (c ∷ cs) known =
+    let k = (All-head (IsKnownClass m) c cs known).members_known in
+    All-append (IsKnownMethod m) (methods_of c.members) (methods_in_all cs) (All-append (IsKnownMethod m) c.members.direct_methods c.members.virtual_methods k.direct_methods_known k.virtual_methods_known)
+    (methods_known m cs (All-tail (IsKnownClass m) c cs known))
+
+-- the next class's, the direct ones first, and those of the classes after it
+module _ (cs : List NumberedClass) (i : ℕ) (c : NumberedClass) (x : NumberedMembers) (lt : i < length cs) (is : get_or cs i c ≡ c) (members : x ≡ c.members) where
+  pub next_methods : (ds vs : List NumberedMethod) → ds ≡ x.direct_methods → vs ≡ x.virtual_methods → methods_in_all (drop i cs) ≡ ds ++ (vs ++ methods_in_all (drop (i + 1) cs))
+  next_methods ds vs de ve =
+      let following = methods_in_all (drop (i + 1) cs) in
+      ap methods_in_all (drop_next cs i c lt is) ∙ ap (λ y. methods_of y ++ following) (sym members) ∙ (λ k. (sym de k ++ sym ve k) ++ following) ∙ append_assoc ds vs following
+
+-- ---- offsets, one for each method
+
+length-debug_offsets : (K : Ordered) → length (uses_offsets (debug_section K)) ≡ length (all_methods K.classes)
+unfolding debug_section
+length-debug_offsets K = length-items_offsets K.sharing same_debug (debug_uses K) (offsets (debug_section K)) ∙ length-map (all_methods K.classes) _
+
+length-code_offsets : (K : Ordered) → length (uses_offsets (code_section K)) ≡ length (all_methods K.classes)
+unfolding code_section
+length-code_offsets K = length-uses_offsets (code_uses K (uses_offsets (debug_section K))) (offsets (code_section K)) ∙ length-zip_with _ (all_methods K.classes) (uses_offsets (debug_section K)) (length (all_methods K.classes)) refl (length-debug_offsets K)
+
+module _ (m : Mentions) (cs : List NumberedClass) where
+  count_methods : length (all_methods (ordered_of m cs).classes) ≡ length (methods_in_all cs)
+  count_methods = ap (λ (xs : List MethodDef). length xs) (methods_mean m cs) ∙ length-map (methods_in_all cs) (method_in m)
+
+  pub code_offsets_count : (offs : List ℕ) → offs ≡ uses_offsets (code_section (ordered_of m cs)) → length offs ≡ length (methods_in_all cs)
+  code_offsets_count offs e = ap (λ (l : List ℕ). length l) e ∙ length-code_offsets (ordered_of m cs) ∙ count_methods
+
+-- ---- by numbers it is the code of the file
+
+-- two lists together, of which the first is joined
+zip_with_append : {X Y Z : Type 0} (f : X → Y → Z) (xs ws : List X) (ys : List Y) → zip_with f (xs ++ ws) ys ≡ zip_with f xs ys ++ zip_with f ws (drop (length xs) ys)
+zip_with_append f [] ws ys = refl
+zip_with_append f (x ∷ xs) [] [] = refl
+zip_with_append f (x ∷ xs) (w ∷ ws) [] = refl
+zip_with_append f (x ∷ xs) ws (y ∷ ys) = ap (λ zs. f x y ∷ zs) (zip_with_append f xs ws ys)
+
+module _ (m : Mentions) (rising : AreRising m) (bytes : CodeBytesAreDenoted) where
+  abbrev use_of : MethodDef → ℕ → Option (symbolic.Code × ℕ)
+  use_of x o = option_map_or (λ c. Some (c, o)) x.code None
+
+  abbrev item_of : symbolic.Code × ℕ → List ℕ
+  item_of p = code_bytes m p.1 p.0
+
+  code_same : (code : Option NumberedItem) (o : ℕ) → IfSome code (IsKnownCode m) → option_map (numbered_code_bytes o) code ≡ option_map item_of (option_map_or (λ c. Some (c, o)) (option_map (code_in m) code) None)
+  code_same None o known = refl
+  code_same (Some c) o known = ap Some (bytes m o c (code_in m c) rising (code_encoded m c known))
+
+  codes_same : (xs : List NumberedMethod) (offs : List ℕ) → All (IsKnownMethod m) xs → code_items xs offs ≡ map (option_map item_of) (zip_with use_of (map (method_in m) xs) offs)
+  codes_same [] offs known = refl
+  codes_same (x ∷ xs) [] known = refl
+  codes_same (x ∷ xs) (o ∷ offs) known =
+      λ i. code_same x.code o (All-head (IsKnownMethod m) x xs known).code_known i ∷ codes_same xs offs (All-tail (IsKnownMethod m) x xs known) i
+
+module _ (m : Mentions) (cs : List NumberedClass) (w : AreWritable m cs) (bytes : CodeBytesAreDenoted) (debugs : ItemPlaces) (laid : AreLaidIn (debug_section (ordered_of m cs)) debugs) where
+  items_are : code_items (methods_in_all cs) debugs.offsets ≡ map (option_map (item_of m w.numbering.rising bytes)) (code_uses (ordered_of m cs) (uses_offsets (debug_section (ordered_of m cs))))
+  items_are =
+      ap (code_items (methods_in_all cs)) laid.offsets_are ∙ codes_same m w.numbering.rising bytes (methods_in_all cs) (uses_offsets (debug_section (ordered_of m cs))) (methods_known m cs w.known)
+      ∙ ap (λ xs. map (option_map (item_of m w.numbering.rising bytes)) (zip_with (use_of m w.numbering.rising bytes) xs (uses_offsets (debug_section (ordered_of m cs))))) (sym (methods_mean m cs))
+
+  -- encoded after the debug programs
+  pub codes_laid : AreCodes m cs (encode_uses 4 (no_items_from debugs.end) (code_items (methods_in_all cs) debugs.offsets))
+  unfolding code_section
+  codes_laid = own_in 4 (item_of m w.numbering.rising bytes) CodeItems (code_uses (ordered_of m cs) (uses_offsets (debug_section (ordered_of m cs)))) laid.end_is items_are
+
+-- ---- method by method
+
+-- encoding the code of the methods that are left, with the offsets of debug programs that are left, gives all
+pub record CodesLeft (items : EncodedItems) (xs : List NumberedMethod) (offs : List ℕ) (all : EncodedItems) : Type 0 where
+  pub enough : length xs ≤ length offs
+  pub short : All HasShortCode xs
+  pub encoded : encode_uses 4 items (code_items xs offs) ≡ all
+
+-- at the start all of it is left
+module _ (m : Mentions) (cs : List NumberedClass) (w : AreWritable m cs) (types : CaughtTypesAreShort) (debugs : ItemPlaces) (laid : AreLaidIn (debug_section (ordered_of m cs)) debugs) where
+  code_short : (code : Option NumberedItem) → IfSome code (IsKnownCode m) → IfSome code (λ c. All HasShortTypes (handlers_of c.tries))
+  code_short None known = tt
+  code_short (Some c) known = types m c (code_in m c) (code_encoded m c known) (omega (arith, w.types_few))
+
+  pub codes_left : (items : EncodedItems) (offs : List ℕ) → items ≡ no_items_from debugs.end → offs ≡ debugs.offsets → CodesLeft items (methods_in_all cs) offs (encode_uses 4 (no_items_from debugs.end) (code_items (methods_in_all cs) debugs.offsets))
+  codes_left items offs none are = record {
+    enough = omega (arith, ap (λ (l : List ℕ). length l) (are ∙ laid.offsets_are), length-debug_offsets (ordered_of m cs), count_methods m cs);
+    short = all_of (IsKnownMethod m) HasShortCode (methods_in_all cs) (λ x known. code_short x.code known.code_known) (methods_known m cs w.known);
+    encoded = λ i. encode_uses 4 (none i) (code_items (methods_in_all cs) (are i));
+  }
+
+-- the code of some methods is next, and then that of others
+module _ {items all : EncodedItems} {left : List NumberedMethod} {offs : List ℕ} (h : CodesLeft items left offs all) (xs ys : List NumberedMethod) (are : left ≡ xs ++ ys) where
+  both_left : CodesLeft items (xs ++ ys) offs all
+  both_left = subst (λ zs. CodesLeft items zs offs all) are h
+
+  pub next_enough : length xs ≤ length offs
+  next_enough = omega (arith, both_left.enough, length-append xs ys)
+
+  pub next_short : All HasShortCode xs
+  next_short = all_prefix HasShortCode xs ys both_left.short
+
+  pub next_fits : (encode_uses 4 items (code_items xs offs)).places.end ≤ all.places.end
+  next_fits = uses_fit 4 items (code_items xs offs) (code_items ys (drop (length xs) offs)) (zip_with_append code_item xs ys offs) both_left.encoded
+
+  pub next_encoded : {more : EncodedItems} {others : List ℕ} → more ≡ encode_uses 4 items (code_items xs offs) → others ≡ drop (length xs) offs → CodesLeft more ys others all
+  next_encoded {more} is back = record {
+    enough = omega (arith, both_left.enough, length-append xs ys, ap (λ (l : List ℕ). length l) back, length-drop (length xs) offs);
+    short = all_back HasShortCode xs ys both_left.short;
+    encoded = ap (λ os. encode_uses 4 more (code_items ys os)) back ∙ uses_encoded 4 items (code_items xs offs) (code_items ys (drop (length xs) offs)) (zip_with_append code_item xs ys offs) both_left.encoded is;
+  }
+
+-- that of one method is next
+module _ {items all : EncodedItems} (xs : List NumberedMethod) (offs : List ℕ) (i : ℕ) (x : NumberedMethod) (lt : i < length xs) (is : get_or xs i x ≡ x) (h : CodesLeft items (drop i xs) (drop i offs) all) where
+  one_left : CodesLeft items (x ∷ drop (i + 1) xs) (get_or offs i 0 ∷ drop (i + 1) offs) all
+  one_left =
+      subst (λ os. CodesLeft items (x ∷ drop (i + 1) xs) os all) (drop_more offs i 0 (omega (arith, lt, h.enough, length-drop i xs, length-drop i offs)))
+      (subst (λ ys. CodesLeft items ys (drop i offs) all) (drop_next xs i x lt is) h)
+
+  pub one_fits : (encode_use 4 items (code_item x (get_or offs i 0))).places.end ≤ all.places.end
+  one_fits = use_fits 4 {left = code_items (x ∷ drop (i + 1) xs) (get_or offs i 0 ∷ drop (i + 1) offs)} items refl one_left.encoded
+
+  pub one_encoded : {more : EncodedItems} → more ≡ encode_use 4 items (code_item x (get_or offs i 0)) → CodesLeft more (drop (i + 1) xs) (drop (i + 1) offs) all
+  one_encoded now = record {
+    enough = omega (arith, one_left.enough);
+    short = All-tail HasShortCode x (drop (i + 1) xs) one_left.short;
+    encoded = use_encoded 4 {left = code_items (x ∷ drop (i + 1) xs) (get_or offs i 0 ∷ drop (i + 1) offs)} items refl one_left.encoded now;
+  }

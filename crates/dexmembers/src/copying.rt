@@ -2,21 +2,10 @@
 
 ghost use Rattle.std.specs.Prelude.{◌≡◌, IfOk};
 
-use crate::members::{Contents, DeclaredField, DeclaredMethod, Members};
+use crate::members::{Contents, DeclaredMethod, Members};
 use dexcode::Code;
 use dexval::copied_values;
 use std::alloc::AllocError;
-
-// Returns a copy of the fields.
-fn copied_fields(fields: &Vec<DeclaredField>) -> Result<Vec<DeclaredField>, AllocError>
-    ensures { IfOk result (λ copy. copy.items ≡ fields.now.items) }
-{
-    let mut copy = Vec::with_capacity(*fields.allocator(), fields.len())?;
-    for field in fields {
-        copy.push(field.copy())?;
-    }
-    Ok(copy)
-}
 
 // Returns a copy of the methods.
 fn copied_methods<'a>(
@@ -41,19 +30,6 @@ fn copied_code<'a>(code: &Option<Code<'a>>) -> Result<Option<Code<'a>>, AllocErr
     })
 }
 
-impl DeclaredField {
-    // Returns a copy of the field.
-    fn copy(&self) -> DeclaredField
-        ensures { result ≡ self.now }
-    {
-        DeclaredField {
-            number: self.number,
-            flags: self.flags,
-            set: self.set,
-        }
-    }
-}
-
 impl<'a> DeclaredMethod<'a> {
     // Returns a copy of the method, with code of its own, whose units are borrowed as before.
     fn copy(&self) -> Result<DeclaredMethod<'a>, AllocError>
@@ -74,12 +50,13 @@ impl<'a> Members<'a> {
     pub fn copy(&self) -> Result<Members<'a>, AllocError>
         ensures { IfOk result (λ copy. copy ≡ self.now) }
     {
+        let alloc = *self.contents.static_fields.allocator();
         Ok(Members {
             contents: Contents {
                 table: self.contents.table.copy()?,
                 set: self.contents.set,
-                static_fields: copied_fields(&self.contents.static_fields)?,
-                instance_fields: copied_fields(&self.contents.instance_fields)?,
+                static_fields: Vec::from_slice(alloc, &self.contents.static_fields)?,
+                instance_fields: Vec::from_slice(alloc, &self.contents.instance_fields)?,
                 direct_methods: copied_methods(&self.contents.direct_methods)?,
                 virtual_methods: copied_methods(&self.contents.virtual_methods)?,
                 static_values: copied_values(&self.contents.static_values)?,

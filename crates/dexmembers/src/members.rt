@@ -19,7 +19,7 @@ use std::marker::Model;
 /// sets, or `None` where it has none.
 ///
 /// Source: "encoded_field format", "field_annotation format".
-#[derive(Drop)]
+#[derive(Clone, Copy)]
 pub(crate) struct DeclaredField {
     pub(crate) number: u32,
     pub(crate) flags: FieldFlags,
@@ -36,6 +36,8 @@ impl Model for DeclaredField {
     ghost coded = { Prim.hlevel (codes, elements_code) };
 
     ghost view = { λ f. record { number = f.number; flags = f.flags.0; set = f.set } };
+
+    ghost inverse = { λ f. record { number = f.number; flags = record { 0 = f.flags }; set = f.set } };
 }
 
 /// A declared method: its number among the methods, its access flags, its code, if it has some, the place of its

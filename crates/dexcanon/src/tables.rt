@@ -70,15 +70,14 @@ impl ItemList for ProtoIds {
 
 // Writes the row of a field or of a method: the number of its class, that of its type or of its proto, and that of its
 // name.
-fn encode_member<O: Output>(class: usize, typ: usize, name: usize, out: &mut O)
+fn encode_member<O: Output>(class: u32, typ: u32, name: u32, out: &mut O)
     requires class_fits { class < 65536 }
     requires type_fits { typ < 65536 }
-    requires name_fits { name < 2 ^ 32 }
     ensures { O.gives (ushort class ++ (ushort typ ++ uint name)) out.old out.new }
 {
     out.u16(class as u16);
     out.u16(typ as u16);
-    out.u32(name as u32);
+    out.u32(name);
 }
 
 /// The rows of the fields.

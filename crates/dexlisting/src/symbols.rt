@@ -25,9 +25,9 @@ impl<W: Sink> Listing<'_, '_, '_, W> {
         ensures { GoesOn W.has_failed self.old self.new result }
     {
         let row = self.numbering.field(field);
-        self.put_text(self.numbering.string(row.name))?;
+        self.put_text(self.numbering.string(row.name as usize))?;
         self.put_byte(b':')?;
-        self.put_type(row.typ)
+        self.put_type(row.typ as usize)
     }
 
     /// Puts the name of a method and its types: `NAME(PARAMETERS)RETURN`.
@@ -37,8 +37,8 @@ impl<W: Sink> Listing<'_, '_, '_, W> {
         ensures { GoesOn W.has_failed self.old self.new result }
     {
         let row = self.numbering.method(method);
-        self.put_text(self.numbering.string(row.name))?;
-        self.put_proto(row.proto)
+        self.put_text(self.numbering.string(row.name as usize))?;
+        self.put_proto(row.proto as usize)
     }
 
     /// Puts the symbol of a kind and a number: `"TEXT"`, `TYPE`, `(PARAMETERS)RETURN`, `CLASS->NAME:TYPE` or
@@ -63,7 +63,7 @@ impl<W: Sink> Listing<'_, '_, '_, W> {
         requires known { field < length self.old.numbering.now.fields }
         ensures { GoesOn W.has_failed self.old self.new result }
     {
-        self.put_type(self.numbering.field(field).class)?;
+        self.put_type(self.numbering.field(field).class as usize)?;
         self.put(b"->")?;
         self.put_own_field(field)
     }
@@ -74,7 +74,7 @@ impl<W: Sink> Listing<'_, '_, '_, W> {
         requires known { method < length self.old.numbering.now.methods }
         ensures { GoesOn W.has_failed self.old self.new result }
     {
-        self.put_type(self.numbering.method(method).class)?;
+        self.put_type(self.numbering.method(method).class as usize)?;
         self.put(b"->")?;
         self.put_own_method(method)
     }

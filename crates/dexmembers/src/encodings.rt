@@ -147,7 +147,7 @@ impl<'p, 'a> Owner<'p, 'a> {
     {
         self.pools.numbering().is_numbering();
         (index as usize) < self.pools.len(SymbolKind::Field)
-            && self.pools.field(index).class == self.class as usize
+            && self.pools.field(index).class == self.class
     }
 
     // Returns whether the index is that of a method of the class.
@@ -156,6 +156,6 @@ impl<'p, 'a> Owner<'p, 'a> {
     {
         self.pools.numbering().is_numbering();
         (index as usize) < self.pools.len(SymbolKind::Method)
-            && self.pools.method(index).class == self.class as usize
+            && self.pools.method(index).class == self.class
     }
 }

@@ -92,9 +92,9 @@ fn mark_by_methods(
 {
     for (i, method) in methods.iter().enumerate() {
         if marks[i] {
-            strings[method.name] = true;
-            types[method.class] = true;
-            protos[method.proto] = true;
+            strings[method.name as usize] = true;
+            types[method.class as usize] = true;
+            protos[method.proto as usize] = true;
         }
     }
 }
@@ -110,9 +110,9 @@ fn mark_by_fields(fields: &[FieldRow], marks: &[bool], strings: &mut [bool], typ
 {
     for (i, field) in fields.iter().enumerate() {
         if marks[i] {
-            strings[field.name] = true;
-            types[field.class] = true;
-            types[field.typ] = true;
+            strings[field.name as usize] = true;
+            types[field.class as usize] = true;
+            types[field.typ as usize] = true;
         }
     }
 }

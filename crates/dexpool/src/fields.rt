@@ -25,9 +25,9 @@ fn field_numbers(frame: &Frame<'_>, i: u32) -> FieldRow
 {
     let row = frame.row(Table::FieldIds, i);
     FieldRow {
-        class: usize::from(u16_at(row, 0)),
-        name: u32_at(row, 4) as usize,
-        typ: usize::from(u16_at(row, 2)),
+        class: u32::from(u16_at(row, 0)),
+        name: u32_at(row, 4),
+        typ: u32::from(u16_at(row, 2)),
     }
 }
 
@@ -48,9 +48,9 @@ fn field_at(names: &Names<'_, '_>, i: u32) -> Option<FieldRow>
     ensures { MatchOption result (HasField names.now.frame.now i → ⊥) (IsFileField names.now i) }
 {
     let field = field_numbers(names.frame, i);
-    let class = names.typ(field.class)?;
-    let typ = names.typ(field.typ)?;
-    let name = names.text(field.name)?;
+    let class = names.typ(field.class as usize)?;
+    let typ = names.typ(field.typ as usize)?;
+    let name = names.text(field.name as usize)?;
     if !is_field(class, name, typ) {
         return None;
     }

@@ -25,9 +25,9 @@ fn method_numbers(frame: &Frame<'_>, i: u32) -> MethodRow
 {
     let row = frame.row(Table::MethodIds, i);
     MethodRow {
-        class: usize::from(u16_at(row, 0)),
-        name: u32_at(row, 4) as usize,
-        proto: usize::from(u16_at(row, 2)),
+        class: u32::from(u16_at(row, 0)),
+        name: u32_at(row, 4),
+        proto: u32::from(u16_at(row, 2)),
     }
 }
 
@@ -47,9 +47,9 @@ fn method_at(names: &Names<'_, '_>, protos: &[ProtoEntry], i: u32) -> Option<Met
     ensures { MatchOption result (HasMethod names.now.frame.now i → ⊥) (IsFileMethod names.now protos.now i) }
 {
     let method = method_numbers(names.frame, i);
-    let class = names.typ(method.class)?;
-    let name = names.text(method.name)?;
-    if protos.len() <= method.proto {
+    let class = names.typ(method.class as usize)?;
+    let name = names.text(method.name as usize)?;
+    if protos.len() <= method.proto as usize {
         return None;
     }
     if !is_method(class, name) {

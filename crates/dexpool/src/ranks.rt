@@ -83,9 +83,9 @@ impl<'a> Numbering<'a> {
         ensures { (d : Field) → result ≡ field_cmp (slice_index_or self.now.fields i d) field.now }
     {
         let row = self.field(i);
-        match self.compare_type(row.class, &field.class.text()) {
-            Ordering::Equal => match self.compare_string(row.name, &field.name.text()) {
-                Ordering::Equal => self.compare_type(row.typ, &field.typ.text()),
+        match self.compare_type(row.class as usize, &field.class.text()) {
+            Ordering::Equal => match self.compare_string(row.name as usize, &field.name.text()) {
+                Ordering::Equal => self.compare_type(row.typ as usize, &field.typ.text()),
                 unequal => unequal,
             },
             unequal => unequal,
@@ -99,9 +99,9 @@ impl<'a> Numbering<'a> {
             → result ≡ method_cmp (slice_index_or self.now.methods i d) method.now }
     {
         let row = self.method(i);
-        match self.compare_type(row.class, &method.class.text()) {
-            Ordering::Equal => match self.compare_string(row.name, &method.name.text()) {
-                Ordering::Equal => self.compare_proto(row.proto, &method.proto),
+        match self.compare_type(row.class as usize, &method.class.text()) {
+            Ordering::Equal => match self.compare_string(row.name as usize, &method.name.text()) {
+                Ordering::Equal => self.compare_proto(row.proto as usize, &method.proto),
                 unequal => unequal,
             },
             unequal => unequal,

@@ -228,8 +228,8 @@ impl FieldSymbol {
         requires row { IsFieldRow tables.now row.now }
         ensures { IfOk result (λ symbol. symbol ≡ stored_field tables.now row.now) }
     {
-        let (class, name) = class_and_name(alloc, tables, row.class, row.name)?;
-        let typ = type_name(alloc, tables, row.typ)?;
+        let (class, name) = class_and_name(alloc, tables, row.class as usize, row.name as usize)?;
+        let typ = type_name(alloc, tables, row.typ as usize)?;
         Ok(FieldSymbol { class, name, typ })
     }
 }
@@ -257,8 +257,8 @@ impl MethodSymbol {
         requires row { IsMethodRow tables.now row.now }
         ensures { IfOk result (λ symbol. symbol ≡ stored_method tables.now row.now) }
     {
-        let (class, name) = class_and_name(alloc, tables, row.class, row.name)?;
-        let proto = ProtoSymbol::of(alloc, tables, &tables.protos[row.proto])?;
+        let (class, name) = class_and_name(alloc, tables, row.class as usize, row.name as usize)?;
+        let proto = ProtoSymbol::of(alloc, tables, &tables.protos[row.proto as usize])?;
         Ok(MethodSymbol { class, name, proto })
     }
 }

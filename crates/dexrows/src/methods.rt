@@ -13,16 +13,16 @@ use std::cmp::Ordering;
 #[derive(Clone, Copy, Debug, PartialEq, Eq)]
 pub struct MethodRow {
     /// The number of the type that the method belongs to.
-    pub class: usize,
+    pub class: u32,
     /// The number of the text that is its name.
-    pub name: usize,
+    pub name: u32,
     /// The number of its proto.
-    pub proto: usize,
+    pub proto: u32,
 }
 
 /// A row of methods is ordered by its class, then by its name, then by its proto.
 impl Row for MethodRow {
-    type Key = [usize; 3];
+    type Key = [u32; 3];
 
     type List = ();
 
@@ -38,7 +38,7 @@ impl Row for MethodRow {
 
     ghost keeps_order = { λ among lower rise x y in_x in_y. both_same _ _ _ _ (same_number among.types lower.types rise.types x.class y.class in_x.0 in_y.0) (both_same _ _ _ _ (same_number among.strings lower.strings rise.strings x.name y.name in_x.1 in_y.1) (both_same _ _ _ _ (same_number among.protos lower.protos rise.protos x.proto y.proto in_x.2 in_y.2) refl)) };
 
-    fn key(&self) -> [usize; 3] {
+    fn key(&self) -> [u32; 3] {
         [self.class, self.name, self.proto]
     }
 
@@ -52,9 +52,9 @@ impl Row for MethodRow {
 
     fn renumbered(&self, lower: LowerPlaces<'_>, _list: ()) -> Self {
         MethodRow {
-            class: lower.types[self.class] as usize,
-            name: lower.strings[self.name] as usize,
-            proto: lower.protos[self.proto] as usize,
+            class: lower.types[self.class as usize],
+            name: lower.strings[self.name as usize],
+            proto: lower.protos[self.proto as usize],
         }
     }
 }

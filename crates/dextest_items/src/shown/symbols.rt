@@ -78,10 +78,10 @@ pub fn print_field(naming: Naming, numbering: &Numbering<'_>, number: usize, out
         return out.add("?");
     }
     let field = numbering.field(number);
-    print_class(naming, numbering, field.class, out);
-    print_name(numbering, field.name, out);
+    print_class(naming, numbering, field.class as usize, out);
+    print_name(numbering, field.name as usize, out);
     out.add(":");
-    print_type(numbering, field.typ, out);
+    print_type(numbering, field.typ as usize, out);
 }
 
 /// Prints a method: `NAME(PARAMETERS)RETURN`, with or without `CLASS->` before it.
@@ -90,9 +90,9 @@ pub fn print_method(naming: Naming, numbering: &Numbering<'_>, number: usize, ou
         return out.add("?");
     }
     let method = numbering.method(number);
-    print_class(naming, numbering, method.class, out);
-    print_name(numbering, method.name, out);
-    print_proto(numbering, method.proto, out);
+    print_class(naming, numbering, method.class as usize, out);
+    print_name(numbering, method.name as usize, out);
+    print_proto(numbering, method.proto as usize, out);
 }
 
 /// Prints a symbol of a kind: a text in quotes, and a member after its class.

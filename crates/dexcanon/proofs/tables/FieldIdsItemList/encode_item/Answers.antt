@@ -21,12 +21,6 @@ encode_member-requires-clause-type_fits g c =
     let numbers = c.field-field.ensures no_field in
     omega (arith, numbers.type_is.within, writable.types_few)
 
-pub encode_member-requires-clause-name_fits : goal.encode_member-requires-clause-name_fits
-encode_member-requires-clause-name_fits g c =
-    let writable = c.requires.ready.writable in
-    let numbers = c.field-field.ensures no_field in
-    omega (arith, numbers.name_is.within, texts_few c.args.contents.now.numbering.now c.args.contents.now.classes.now writable)
-
 pub returns : goal.returns
 returns g c =
     let m = c.args.contents.now.numbering.now in

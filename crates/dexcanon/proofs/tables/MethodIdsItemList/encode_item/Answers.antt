@@ -21,12 +21,6 @@ encode_member-requires-clause-type_fits g c =
     let numbers = c.method-method.ensures no_method in
     omega (arith, numbers.proto_is.within, writable.protos_few)
 
-pub encode_member-requires-clause-name_fits : goal.encode_member-requires-clause-name_fits
-encode_member-requires-clause-name_fits g c =
-    let writable = c.requires.ready.writable in
-    let numbers = c.method-method.ensures no_method in
-    omega (arith, numbers.name_is.within, texts_few c.args.contents.now.numbering.now c.args.contents.now.classes.now writable)
-
 pub returns : goal.returns
 returns g c =
     let m = c.args.contents.now.numbering.now in

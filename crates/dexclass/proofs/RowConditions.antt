@@ -3,10 +3,8 @@ use Rattle.std.proofs.Common.{◌≡◌, ℕ, zero, suc, ◌+◌, ◌<◌, Bool,
 use Rattle.std.specs.Prelude.{All}
 use Rattle.std.proofs.lemmas.Bool.{cases_lt, false≢true}
 use Rattle.std.proofs.lemmas.List.Elements.{All-append}
-use Rattle.dexspec.specs.Header.{ClassDefs, table_size}
 use Rattle.dexspec.specs.Classes.{superclass_idx, interfaces_off, ClassTypeRow}
-use Rattle.dexspec.specs.Conditions.{Condition}
-use Rattle.dexspec.specs.Accepted.{HasClass, IsDefinedBefore, HoldBelow}
+use Rattle.dexspec.specs.Accepted.{HasClass, IsDefinedBefore}
 use Rattle.dexmembers.specs.ClassDefs.{IsClassDef}
 use Rattle.dexmembers.specs.declared.class_def.ClassDef.{ClassDef}
 use Rattle.dexclass.specs.internal.Rows.{IsClassIndex, IsParentIndex, IsSourceIndex, superclass_indices, interface_indices, HasInterfaces, AreDefinedMarks}
@@ -75,29 +73,3 @@ rows_more b r before is k lt = elim (cases_lt k r) [
   | inl small ↦ before k small
   | inr large ↦ let same : r ≡ k = omega arith in subst (HasClass b) same is
 ]
-
--- all rows
-pub hold_below : (b : List ℕ) → HoldBelow 16 b → ((k : ℕ) → k < table_size b ClassDefs → HasClass b k) → HoldBelow 17 b
-hold_below b before rows Condition.Size lt = before Condition.Size (omega arith)
-hold_below b before rows Condition.Magic lt = before Condition.Magic (omega arith)
-hold_below b before rows Condition.Version lt = before Condition.Version (omega arith)
-hold_below b before rows Condition.Lengths lt = before Condition.Lengths (omega arith)
-hold_below b before rows Condition.Endian lt = before Condition.Endian (omega arith)
-hold_below b before rows Condition.Link lt = before Condition.Link (omega arith)
-hold_below b before rows Condition.Checksum lt = before Condition.Checksum (omega arith)
-hold_below b before rows Condition.Signature lt = before Condition.Signature (omega arith)
-hold_below b before rows Condition.Layout lt = before Condition.Layout (omega arith)
-hold_below b before rows Condition.Map lt = before Condition.Map (omega arith)
-hold_below b before rows Condition.Strings lt = before Condition.Strings (omega arith)
-hold_below b before rows Condition.Types lt = before Condition.Types (omega arith)
-hold_below b before rows Condition.Protos lt = before Condition.Protos (omega arith)
-hold_below b before rows Condition.Fields lt = before Condition.Fields (omega arith)
-hold_below b before rows Condition.Methods lt = before Condition.Methods (omega arith)
-hold_below b before rows Condition.Classes lt = rows
-hold_below b before rows Condition.Members lt = absurd (omega arith)
-hold_below b before rows Condition.Code lt = absurd (omega arith)
-hold_below b before rows Condition.Tries lt = absurd (omega arith)
-hold_below b before rows Condition.Debug lt = absurd (omega arith)
-hold_below b before rows Condition.Values lt = absurd (omega arith)
-hold_below b before rows Condition.Annotations lt = absurd (omega arith)
-hold_below b before rows Condition.Weight lt = absurd (omega arith)

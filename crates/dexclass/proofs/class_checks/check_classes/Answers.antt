@@ -1,6 +1,8 @@
 use Rattle.std.proofs.Common.{refl, sym, subst, arith}
+use Rattle.dexspec.specs.Conditions.{Condition}
+use Rattle.dexpool.proofs.Refusing.{hold_next}
 use Rattle.dexclass.specs.internal.Rows.{AreDefinedMarks}
-use Rattle.dexclass.proofs.RowConditions.{rows_more, hold_below}
+use Rattle.dexclass.proofs.RowConditions.{rows_more}
 use Rattle.dexclass.proofs.class_checks.check_classes.Goals as goal
 
 pub loop-r-preserved : goal.loop-r-preserved
@@ -16,4 +18,4 @@ loop-r-preserved c =
 pub returns-clause-accepted : goal.returns-clause-accepted
 returns-clause-accepted c =
     let all = c.loop-r.invariant.rows in
-    hold_below c.args.frame.now c.requires.before (λ k lt. all k (omega (arith, lt, c.loop-r-test.false, c.size-count.ensures)))
+    hold_next c.args.frame.now Condition.Classes c.requires.before (λ k lt. all k (omega (arith, lt, c.loop-r-test.false, c.size-count.ensures)))

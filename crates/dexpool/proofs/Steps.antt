@@ -1,9 +1,9 @@
 -- One row more.
 use Rattle.std.proofs.Common.{◌≡◌, ℕ, zero, suc, ◌+◌, ◌-◌, ◌<◌, Bool, true, false, List, [], ◌∷◌, ◌++◌, length, get_or, refl, sym, ap, ◌∙◌, subst, arith, inl, inr}
 use Rattle.std.specs.Prelude.{Some, slice_get}
-use Rattle.std.specs.Ordering.{is_lt, ordering_then, nat_cmp}
+use Rattle.std.specs.Ordering.{is_lt}
 use Rattle.std.specs.declared.cmp.Ordering.{Ordering}
-use Rattle.std.specs.declared.cmp.Ordering.TheVariants.{Less, Equal, Greater}
+use Rattle.std.specs.declared.cmp.Ordering.TheVariants.{Less}
 use Rattle.std.proofs.lemmas.Bool.{cases_lt}
 use Rattle.std.proofs.lemmas.List.{length_push, get_or_append_left, get_or_push, get_or_default}
 use Rattle.dexspec.proofs.lists.InOrder.{less_is}
@@ -19,19 +19,6 @@ use Rattle.dexpool.specs.Reading.{ReadTo, is_above_last, AreTexts, TypeRowAt}
 use Rattle.dexpool.specs.internal.ReadRows.{DecidesNext}
 
 -- ---- the last row
-
-then_equal : (o : Ordering) → o ≡ ordering_then o Equal
-then_equal Less = refl
-then_equal Equal = refl
-then_equal Greater = refl
-
--- keys that are compared
-pub two_keys : (o : Ordering) (k l x y : List ℕ) → o ≡ key_cmp k l → k ≡ x → l ≡ y → o ≡ key_cmp x y
-two_keys o k l x y e is other = e ∙ ap (λ (m : List ℕ). key_cmp m l) is ∙ ap (key_cmp x) other
-
--- one number as a key
-pub one_key : (m n : ℕ) (o : Ordering) → o ≡ nat_cmp m n → o ≡ type_cmp m n
-one_key m n o e = e ∙ then_equal (nat_cmp m n)
 
 module _ {X : Type 0} (R : X → X → Ordering) where
   -- the last row decides

@@ -108,10 +108,6 @@ pub record HasSpan (parameters : List ℕ) (s : Span) : Type 0 where
   pub ordered : s.start ≤ s.end
   pub within : s.end ≤ length parameters
 
--- so it is for the part of each row
-abbrev pub HaveSpans : List ℕ → List ProtoEntry → Type 0
-HaveSpans parameters protos = (k : ℕ) (d : ProtoEntry) → k < length protos → HasSpan parameters (slice_index_or protos k d).parameters
-
 -- the bytes as numbers of two bytes each
 abbrev pub file_numbers : List ℕ → List ℕ
 file_numbers b = ushorts_at b 0 (length b / 2)

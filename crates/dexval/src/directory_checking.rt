@@ -1,19 +1,18 @@
 //! Checks directories of annotations in place in a file.
 
-ghost use Rattle.std.specs.Prelude.{ℕ, List, ◌≢◌, ◌<◌, ◌+◌, ◌*◌, ◌^◌, ◌≤◌, All, IfOk, IfErr, OnOk, map, length};
-ghost use Rattle.dexspec.specs.Annotations.{AnnotationSet as SetMeant, SetAt, RefListAt};
+ghost use Rattle.std.specs.Prelude.{ℕ, List, ◌<◌, ◌+◌, ◌*◌, ◌^◌, ◌≤◌, IfOk, IfErr, OnOk, length};
 ghost use Rattle.dexspec.specs.Mentions.{Mentions};
 ghost use Rattle.dexpool.specs.Pools.{ArePools};
-ghost use Rattle.dexval.specs.Numbered.{NumberedSet, IsKnownSet, set_in};
 ghost use Rattle.dexval.specs.Nesting.{HasPools};
 ghost use Rattle.dexval.specs.Items.{IsRefusal};
-ghost use Rattle.dexval.specs.Directories.{NoSetOrEmptyAt, NoRefListAt, set_weight_in, sets_weight_in};
+ghost use Rattle.dexval.specs.Directories.{NoSetOrEmptyAt, NoRefListAt};
 ghost use Rattle.dexval.specs.Reading.{IsDirectoryFault};
 ghost use Rattle.dexval.specs.CheckedSets.{AreChecked};
 ghost use Rattle.dexval.specs.Results.{HasDirectoryShape, AreMemberCounts};
-ghost use Rattle.dexval.specs.internal.Counting.{IsFaultAt, IsFaultOf, HasSetOrEmptyOf, HasRefListOf, HasItemOf, HasPairsOf};
+ghost use Rattle.dexval.specs.internal.Counting.{IsFaultOf, HasSetOrEmptyOf, HasRefListOf, HasPairsOf};
 
 use crate::directory::MemberCounts;
+use crate::directory_member::{ListOfMember, OfMember, SetOfMember};
 use crate::directory_reading::{PairRange, list_weight, member_counts, pair_at};
 use crate::set_checking::check_set;
 use crate::set_reading::count_at;
@@ -54,9 +53,9 @@ pub struct DirectoryShape {
     pub weight: u64,
 }
 
-// The weight of the set of the annotation_set_item at an offset, or 2^64 - 1 if it weighs more. At offset 0 there is no
-// set, and the weight is 0. Error: another offset has no set.
-fn checked_set_at(
+/// The weight of the set of the annotation_set_item at an offset, or 2^64 - 1 if it weighs more. At offset 0 there is no
+/// set, and the weight is 0. Error: another offset has no set.
+pub(crate) fn checked_set_at(
     frame: &Frame<'_>,
     pools: &Pools<'_>,
     off: u32,
@@ -109,8 +108,8 @@ fn listed_weight(
     Ok(weight)
 }
 
-// As `listed_weight`, but each list is checked once.
-fn checked_list_at(
+/// As `listed_weight`, but each list is checked once.
+pub(crate) fn checked_list_at(
     frame: &Frame<'_>,
     pools: &Pools<'_>,
     off: u32,
@@ -132,94 +131,8 @@ fn checked_list_at(
     Ok(weight)
 }
 
-// A part of a directory for a member: a set of annotations, or the sets of its parameters.
-trait CheckedMember {
-    // The part with numbers instead of symbols.
-    ghost Numbered: { Type 0 };
-
-    // What the numbers denote.
-    ghost Meant: { Type 0 };
-
-    ghost is_known: { Mentions → Numbered → Type 0 };
-
-    ghost inside: { Mentions → Numbered → Meant };
-
-    ghost encodes: { List ℕ → ℕ → Meant → Type 0 };
-
-    ghost weighs: { Mentions → Numbered → ℕ };
-
-    // The weight of the item at an offset other than 0, or 2^64 - 1 if it weighs more. Error: there is no item.
-    fn checked_at(
-        frame: &Frame<'_>,
-        pools: &Pools<'_>,
-        off: u32,
-        checked: &mut CheckedSets,
-    ) -> Result<u64, ItemFault>
-        requires other { off ≢ 0 }
-        requires checked { HasPools frame.now pools.now
-            → AreChecked frame.now pools.now checked.old }
-        ensures checked { HasPools frame.now pools.now
-            → OnOk result (AreChecked frame.now pools.now checked.new) }
-        ensures weight { HasPools frame.now pools.now
-            → IfOk result (HasItemOf is_known inside encodes weighs frame.now off pools.now) }
-        ensures refused { HasPools frame.now pools.now
-            → IfErr result (IsFaultAt encodes frame.now off) };
-}
-
-// The set of a field or a method.
-struct CheckedSet;
-
-impl CheckedMember for CheckedSet {
-    ghost Numbered = { NumberedSet };
-
-    ghost Meant = { SetMeant };
-
-    ghost is_known = { IsKnownSet };
-
-    ghost inside = { set_in };
-
-    ghost encodes = { SetAt };
-
-    ghost weighs = { set_weight_in };
-
-    fn checked_at(
-        frame: &Frame<'_>,
-        pools: &Pools<'_>,
-        off: u32,
-        checked: &mut CheckedSets,
-    ) -> Result<u64, ItemFault> {
-        checked_set_at(frame, pools, off, checked)
-    }
-}
-
-// The list of sets of a method's parameters.
-struct CheckedList;
-
-impl CheckedMember for CheckedList {
-    ghost Numbered = { List NumberedSet };
-
-    ghost Meant = { List SetMeant };
-
-    ghost is_known = { λ m. All (IsKnownSet m) };
-
-    ghost inside = { λ m. map (set_in m) };
-
-    ghost encodes = { RefListAt };
-
-    ghost weighs = { sets_weight_in };
-
-    fn checked_at(
-        frame: &Frame<'_>,
-        pools: &Pools<'_>,
-        off: u32,
-        checked: &mut CheckedSets,
-    ) -> Result<u64, ItemFault> {
-        checked_list_at(frame, pools, off, checked)
-    }
-}
-
 // The weight of the members of these pairs, or 2^64 - 1 if they weigh more. Error: the pairs are not there.
-fn members_weight<T: CheckedMember>(
+fn members_weight<T: OfMember>(
     frame: &Frame<'_>,
     pools: &Pools<'_>,
     pairs: &PairRange,
@@ -283,20 +196,20 @@ pub fn check_directory(
         count: counts.fields,
         limit,
     };
-    let fields = members_weight::<CheckedSet>(frame, pools, &field_pairs, checked)?;
+    let fields = members_weight::<SetOfMember>(frame, pools, &field_pairs, checked)?;
     let limit = pools.len(SymbolKind::Method);
     let method_pairs = PairRange {
         at: field_pairs.at + 8 * counts.fields as usize,
         count: counts.methods,
         limit,
     };
-    let methods = members_weight::<CheckedSet>(frame, pools, &method_pairs, checked)?;
+    let methods = members_weight::<SetOfMember>(frame, pools, &method_pairs, checked)?;
     let parameter_pairs = PairRange {
         at: method_pairs.at + 8 * counts.methods as usize,
         count: counts.parameters,
         limit,
     };
-    let parameters = members_weight::<CheckedList>(frame, pools, &parameter_pairs, checked)?;
+    let parameters = members_weight::<ListOfMember>(frame, pools, &parameter_pairs, checked)?;
     let weight = own
         .saturating_add(fields)
         .saturating_add(methods)

@@ -1,25 +1,22 @@
 //! Reads directories of annotations from a file.
 
-ghost use Rattle.std.specs.Prelude.{ℕ, List, [], ◌^◌, ◌<◌, ◌≡◌, ◌+◌, ◌*◌, ◌≤◌, Option, Some, All, IfOk, IfErr, OnOk, IfSome, IfNone, length, map};
-ghost use Rattle.dexspec.proofs.determined.OneClass.{one_set, one_ref_list};
-ghost use Rattle.dexspec.specs.Annotations.{AnnotationSet as SetMeant, SetAt, RefListAt, DirectoryAt};
-ghost use Rattle.dexspec.specs.Mentions.{Mentions};
-ghost use Rattle.dexspec.specs.Weight.{set_weight, ref_list_weight};
+ghost use Rattle.std.specs.Prelude.{[], ◌^◌, ◌<◌, ◌≡◌, ◌+◌, ◌*◌, ◌≤◌, IfOk, IfErr, OnOk, IfSome, IfNone, length};
+ghost use Rattle.dexspec.specs.Annotations.{RefListAt, DirectoryAt};
+ghost use Rattle.dexspec.specs.Weight.{ref_list_weight};
 ghost use Rattle.dexpool.specs.Pools.{ArePools};
-ghost use Rattle.dexval.specs.Numbered.{NumberedSet, IsKnownSet, set_in};
 ghost use Rattle.dexval.specs.Nesting.{HasPools};
 ghost use Rattle.dexval.specs.Items.{IsRefusal};
 ghost use Rattle.dexval.specs.Directories.{HasPair, HasMembers, directory_weight};
 ghost use Rattle.dexval.specs.DirectoryCache.{AreHeld};
 ghost use Rattle.dexval.specs.Reading.{IsDirectoryFault, IsDirectoryFaultWithin};
 ghost use Rattle.dexval.specs.Shared.{IsTight};
-ghost use Rattle.dexval.specs.Tables.{NumberedTable, Extends, IsListed, IsPlaceIn, set_at, sets_at};
 ghost use Rattle.dexval.specs.Results.{IsReadDirectory, IsReadWithin, AreMemberCounts};
-ghost use Rattle.dexval.specs.internal.Counting.{IsFile, IsCacheOf, AreSetsNoted, IsListNoted, IsItemNoted, AreAllNoted, HasCountedSets, HasCountedList, HasCountedItem, HaveCountedPairs, HasCountedParts, ArePlacesHeld, NamesAllPlaces, IsPairAt, IsFaultWithin, IsPairsFault};
+ghost use Rattle.dexval.specs.internal.Counting.{IsFile, IsCacheOf, AreSetsNoted, IsListNoted, AreAllNoted, HasCountedSets, HasCountedList, HaveCountedPairs, HasCountedParts, ArePlacesHeld, NamesAllPlaces, IsPairAt, IsFaultWithin, IsPairsFault};
 
 use crate::budget::Budget;
 use crate::directory::{Directory, MemberCounts, SharedDirectory};
-use crate::directory_cache::{DirectoryCache, counted_set_at, counted_set_or_empty_at};
+use crate::directory_cache::{DirectoryCache, counted_set_or_empty_at};
+use crate::directory_member::{ListOfMember, OfMember, SetOfMember};
 use crate::file_source::FileSource;
 use crate::set_reading::count_at;
 use dexhead::{Condition, Frame, u32_at};
@@ -123,9 +120,9 @@ fn listed_sets_at(
     Ok(places)
 }
 
-// The place of the annotation_set_ref_list at an offset, which is counted with its sets. Error: there is no list, or it
-// is too heavy.
-fn counted_list_at(
+/// The place of the annotation_set_ref_list at an offset, which is counted with its sets. Error: there is no list, or it
+/// is too heavy.
+pub(crate) fn counted_list_at(
     source: &FileSource<'_, '_, '_>,
     off: u32,
     cache: &mut DirectoryCache,
@@ -149,137 +146,6 @@ fn counted_list_at(
     let place = cache.table.add_list(places)?;
     cache.lists.insert(off, place)?;
     Ok(place)
-}
-
-// A part of a directory for a member, by its place in the table: a set of annotations, or the sets of its parameters.
-trait OfMember {
-    // The part with numbers instead of symbols.
-    ghost Numbered: { Type 0 };
-
-    // What the numbers denote.
-    ghost Meant: { Type 0 };
-
-    ghost of: { NumberedTable → Option ℕ → Numbered };
-
-    ghost is_held: { NumberedTable → Option ℕ → Type 0 };
-
-    // What the place names: a set, or a list.
-    ghost names_set: { NumberedTable → Option ℕ → ℕ → Type 0 };
-
-    ghost names_list: { Option ℕ → ℕ → Type 0 };
-
-    ghost is_known: { Mentions → Numbered → Type 0 };
-
-    ghost inside: { Mentions → Numbered → Meant };
-
-    ghost encodes: { List ℕ → ℕ → Meant → Type 0 };
-
-    ghost weighs: { Meant → ℕ };
-
-    // The place of the item at an offset, which is counted. Error: there is no item, or it is too heavy.
-    fn counted_at(
-        source: &FileSource<'_, '_, '_>,
-        off: u32,
-        cache: &mut DirectoryCache,
-        budget: &mut Budget,
-    ) -> Result<u32, ItemFault>
-        requires held { AreHeld cache.old }
-        requires cache { IsFile source.now → IsCacheOf source.now cache.old }
-        ensures noted { IfOk result
-            (IsItemNoted is_held names_set names_list cache.old cache.new) }
-        ensures cache { IsFile source.now → OnOk result (IsCacheOf source.now cache.new) }
-        ensures read { IsFile source.now → IfOk result (HasCountedItem is_known inside encodes
-            weighs of source.now off budget.old budget.new cache.new) }
-        ensures refused { IsFile source.now → IfErr result (IsFaultWithin
-            (encodes source.now.frame.now off) weighs budget.old.weight budget.old.most) };
-
-    // At most one item is at an offset.
-    ghost one: { (b : List ℕ) (off : ℕ) (x y : Meant) → encodes b off x → encodes b off y → x ≡ y };
-
-    // After a table grew, a place still holds and names the same item.
-    ghost stays: { (t u : NumberedTable) (place : Option ℕ) → Extends t u → is_held t place → is_held u place × (of u place ≡ of t place) };
-
-    ghost naming_stays: { (t u : NumberedTable) (place : Option ℕ) (i : ℕ) → Extends t u → names_set t place i → names_set u place i };
-}
-
-// The set of a field or a method.
-struct SetOfMember;
-
-impl OfMember for SetOfMember {
-    ghost Numbered = { NumberedSet };
-
-    ghost Meant = { SetMeant };
-
-    ghost of = { λ t place. set_at t.sets place };
-
-    ghost is_held = { λ t place. IsPlaceIn t.sets place };
-
-    ghost names_set = { λ t place i. place ≡ Some i };
-
-    ghost names_list = { λ place i. ⊥ };
-
-    ghost is_known = { IsKnownSet };
-
-    ghost inside = { set_in };
-
-    ghost encodes = { SetAt };
-
-    ghost weighs = { set_weight };
-
-    fn counted_at(
-        source: &FileSource<'_, '_, '_>,
-        off: u32,
-        cache: &mut DirectoryCache,
-        budget: &mut Budget,
-    ) -> Result<u32, ItemFault> {
-        counted_set_at(source, off, cache, budget)
-    }
-
-    ghost one = { one_set };
-
-    ghost stays = { λ t u place extended held. (extended.sets_hold place held, extended.sets_stay place held) };
-
-    ghost naming_stays = { λ t u place i extended named. named };
-}
-
-// The list of sets of a method's parameters.
-struct ListOfMember;
-
-impl OfMember for ListOfMember {
-    ghost Numbered = { List NumberedSet };
-
-    ghost Meant = { List SetMeant };
-
-    ghost of = { sets_at };
-
-    ghost is_held = { λ t place. IsPlaceIn t.lists place };
-
-    ghost names_set = { λ t place i. IsListed t i };
-
-    ghost names_list = { λ place i. place ≡ Some i };
-
-    ghost is_known = { λ m. All (IsKnownSet m) };
-
-    ghost inside = { λ m. map (set_in m) };
-
-    ghost encodes = { RefListAt };
-
-    ghost weighs = { ref_list_weight };
-
-    fn counted_at(
-        source: &FileSource<'_, '_, '_>,
-        off: u32,
-        cache: &mut DirectoryCache,
-        budget: &mut Budget,
-    ) -> Result<u32, ItemFault> {
-        counted_list_at(source, off, cache, budget)
-    }
-
-    ghost one = { one_ref_list };
-
-    ghost stays = { λ t u place extended held. (extended.lists_hold place held, extended.lists_stay place held) };
-
-    ghost naming_stays = { λ t u place i extended named. extended.listed_stay i named };
 }
 
 /// Pairs of a member and an offset: `count` pairs from an offset on, each with the number of a member below the limit.

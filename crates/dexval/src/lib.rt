@@ -43,6 +43,7 @@ mod copying;
 mod directory;
 mod directory_cache;
 mod directory_checking;
+mod directory_member;
 mod directory_reading;
 mod encoding;
 mod equality;

@@ -151,9 +151,9 @@ abbrev pub HasRefListOf : List ℕ → ℕ → Mentions → ℕ → Type 0
 HasRefListOf b off m = IsWeighed (IsRefListAt b off m) (sets_weight_in m)
 
 -- the item of a member
-abbrev pub HasItemOf : {X Y : Type 0} → (Mentions → X → Type 0) → (Mentions → X → Y) → (List ℕ → ℕ → Y → Type 0) → (Mentions → X → ℕ) → List ℕ → ℕ → Mentions → ℕ → Type 0
-HasItemOf is_known inside encodes weighs b off m = IsWeighed (IsKnownAt (is_known m) (inside m) (encodes b off)) (weighs m)
+abbrev pub HasItemOf : {X Y : Type 0} → (Mentions → X → Type 0) → (Mentions → X → Y) → (List ℕ → ℕ → Y → Type 0) → (Y → ℕ) → List ℕ → ℕ → Mentions → ℕ → Type 0
+HasItemOf is_known inside encodes weighs b off m = IsWeighed (IsKnownAt (is_known m) (inside m) (encodes b off)) (λ x. weighs (inside m x))
 
 -- the items of the members of these pairs
-abbrev pub HasPairsOf : {X Y : Type 0} → (Mentions → X → Type 0) → (Mentions → X → Y) → (List ℕ → ℕ → Y → Type 0) → (Mentions → X → ℕ) → List ℕ → PairRange → Mentions → ℕ → Type 0
-HasPairsOf is_known inside encodes weighs b pairs m = IsWeighed (ArePairsAt (is_known m) (inside m) encodes b pairs.at pairs.count pairs.limit) (sum_by (λ e. weighs m e.1))
+abbrev pub HasPairsOf : {X Y : Type 0} → (Mentions → X → Type 0) → (Mentions → X → Y) → (List ℕ → ℕ → Y → Type 0) → (Y → ℕ) → List ℕ → PairRange → Mentions → ℕ → Type 0
+HasPairsOf is_known inside encodes weighs b pairs m = IsWeighed (ArePairsAt (is_known m) (inside m) encodes b pairs.at pairs.count pairs.limit) (sum_by (λ e. weighs (inside m e.1)))

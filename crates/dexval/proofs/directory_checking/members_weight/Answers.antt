@@ -16,14 +16,14 @@ returns-in_err-number-clause-refused g c = λ p.
     let m = c.args.pools.now in
     let h = c.loop-i.invariant.weighed p in
     let e = err_from_is_err_and c.from_residual.result c.from_residual.ensures.1 in
-    rw (e.1, e.2) (refused_so (no_pair_next (g.T.CheckedMember.is_known m) (g.T.CheckedMember.inside m) g.T.CheckedMember.encodes c.args.frame.now c.args.pairs.now.at c.args.pairs.now.count c.args.pairs.now.limit c.loop-i.i c.loop-i.least h.item (omega arith) h.is_read) c.in_err-number.field-0.0 c.in_err-number.ensures.refused)
+    rw (e.1, e.2) (refused_so (no_pair_next (g.T.OfMember.is_known m) (g.T.OfMember.inside m) g.T.OfMember.encodes c.args.frame.now c.args.pairs.now.at c.args.pairs.now.count c.args.pairs.now.limit c.loop-i.i c.loop-i.least h.item (omega arith) h.is_read) c.in_err-number.field-0.0 c.in_err-number.ensures.refused)
 
 pub returns-in_err-item-clause-refused : goal.returns-in_err-item-clause-refused
 returns-in_err-item-clause-refused g c = λ p.
-    let encodes = g.T.CheckedMember.encodes in
+    let encodes = g.T.OfMember.encodes in
     let b = c.args.frame.now in
     let e = err_from_is_err_and c.from_residual-in_err-item.result c.from_residual-in_err-item.ensures.1 in
-    rw (e.1, e.2) (refused_so (λ none. no_item_next encodes b c.args.pairs.now.at c.args.pairs.now.count c.args.pairs.now.limit c.loop-i.i (omega arith) (subst (λ (o : ℕ). (y : g.T.CheckedMember.Meant) → encodes b o y → ⊥) c.in_ok-number.ensures.pair.2 none)) c.in_err-item.field-0.0 (c.in_err-item.ensures.refused p))
+    rw (e.1, e.2) (refused_so (λ none. no_item_next encodes b c.args.pairs.now.at c.args.pairs.now.count c.args.pairs.now.limit c.loop-i.i (omega arith) (subst (λ (o : ℕ). (y : g.T.OfMember.Meant) → encodes b o y → ⊥) c.in_ok-number.ensures.pair.2 none)) c.in_err-item.field-0.0 (c.in_err-item.ensures.refused p))
 
 pub loop-i-init : goal.loop-i-init
 loop-i-init g c = record {
@@ -31,19 +31,19 @@ loop-i-init g c = record {
   checked = c.requires.checked;
   weighed = λ p.
       let m = c.args.pools.now in
-      record { item = []; is_read = no_pair_yet (g.T.CheckedMember.is_known m) (g.T.CheckedMember.inside m) g.T.CheckedMember.encodes c.args.frame.now c.args.pairs.now.at c.args.pairs.now.limit; weight_is = omega arith };
+      record { item = []; is_read = no_pair_yet (g.T.OfMember.is_known m) (g.T.OfMember.inside m) g.T.OfMember.encodes c.args.frame.now c.args.pairs.now.at c.args.pairs.now.limit; weight_is = omega arith };
 }
 
 pub loop-i-preserved : goal.loop-i-preserved
 loop-i-preserved g c =
-    let Numbered = g.T.CheckedMember.Numbered in
-    let encodes = g.T.CheckedMember.encodes in
+    let Numbered = g.T.OfMember.Numbered in
+    let encodes = g.T.OfMember.encodes in
     let b = c.args.frame.now in
     let m = c.args.pools.now in
     let i = c.loop-i.i in
-    let Known = g.T.CheckedMember.is_known m in
-    let inside = g.T.CheckedMember.inside m in
-    let weighs = g.T.CheckedMember.weighs m in
+    let Known = g.T.OfMember.is_known m in
+    let inside = g.T.OfMember.inside m in
+    let weighs = λ (x : g.T.OfMember.Numbered). g.T.OfMember.weighs (inside x) in
     let number = c.in_ok-number.number in
     let Read = HaveReadPairs Known inside encodes b c.args.pairs.now.at c.args.pairs.now.limit in
     let least : number ≡ c.from-least.result = omega (arith, c.from-least.ensures) in
@@ -60,10 +60,10 @@ loop-i-preserved g c =
 
 pub returns-clause-weight : goal.returns-clause-weight
 returns-clause-weight g c = λ p.
-    let encodes = g.T.CheckedMember.encodes in
+    let encodes = g.T.OfMember.encodes in
     let b = c.args.frame.now in
     let m = c.args.pools.now in
-    let Known = g.T.CheckedMember.is_known m in
-    let inside = g.T.CheckedMember.inside m in
-    let weighs = sum_by (λ (e : ℕ × g.T.CheckedMember.Numbered). g.T.CheckedMember.weighs m e.1) in
+    let Known = g.T.OfMember.is_known m in
+    let inside = g.T.OfMember.inside m in
+    let weighs = sum_by (λ (e : ℕ × g.T.OfMember.Numbered). g.T.OfMember.weighs (g.T.OfMember.inside m e.1)) in
     weighed_as (HaveReadPairs Known inside encodes b c.args.pairs.now.at c.args.pairs.now.limit c.loop-i.i c.loop-i.least) (ArePairsAt Known inside encodes b c.args.pairs.now.at c.args.pairs.now.count c.args.pairs.now.limit) weighs weighs (λ xs k. pairs_end Known inside encodes b c.args.pairs.now.at c.args.pairs.now.count c.args.pairs.now.limit c.loop-i.i c.loop-i.least xs (omega arith) k) (λ xs k. refl) (c.loop-i.invariant.weighed p)

@@ -18,7 +18,7 @@ pub struct Code<'a> {
     /// The tries, with the handlers that they name.
     pub(crate) tries: Tries,
     /// The debug program, if there is one.
-    pub(crate) debug: Option<Box<Debug>>,
+    pub(crate) debug: Option<Box<Debug<'a>>>,
 }
 
 // So that code is dropped by one call, in the crates above too.
@@ -63,7 +63,7 @@ impl<'a> Code<'a> {
     /// The debug program, if there is one.
     ///
     /// Source: "code_item", the field `debug_info_off`.
-    pub fn debug(&self) -> Option<&Debug>
+    pub fn debug(&self) -> Option<&Debug<'a>>
         ensures { MatchOption result (self.now.debug ≡ None) (λ debug.
             self.now.debug ≡ Some debug.now) }
     {

@@ -18,7 +18,7 @@ pub use code_numbers_laws::{
 pub use code_put::{CodeItem, put_code};
 pub use code_reading::{read_code, read_code_in};
 pub use dexdebug::{
-    CheckedDebugs, Debug, DebugShape, Operation, OperationIter, build_debug, check_debug,
+    CheckedDebugs, Debug, DebugShape, NameIter, Operation, OperationIter, build_debug, check_debug,
     debug_bytes_law, debug_equality_law, debug_meaning_law, debug_remapped_law, debug_renumber_law,
     debug_unindexed_law, debug_uses_law, operation_equality_law, positions, put_debug, read_debug,
 };

@@ -1,6 +1,6 @@
 -- Numbers and operations that are read.
 use Rattle.std.proofs.Common.{◌≡◌, ℕ, ◌≤◌, List, Option, Some, refl, ap, sym, subst, ◌∙◌}
-use Rattle.std.specs.Prelude.{ℤ, pos, Result, Ok, if◌then◌else◌, nat_lt, ◌==◌}
+use Rattle.std.specs.Prelude.{ℤ, pos, Result, Ok}
 use Rattle.std.proofs.lemmas.Bool.{le-ltb}
 use Rattle.dexdebug.specs.declared.debug_operation.Operation.{Operation}
 use Rattle.dexdebug.specs.declared.debug_operation.Operation.TheVariants.{AdvancePc, AdvanceLine, StartLocal, StartLocalExtended, EndLocal, RestartLocal, SetPrologueEnd, SetEpilogueBegin, SetFile, Special}
@@ -8,6 +8,7 @@ use Rattle.dexdebug.specs.declared.debug_reading.Counts.{Counts}
 use Rattle.dexspec.specs.Numbers.{Uleb128At}
 use Rattle.dexdebug.specs.Debug.{name_of, type_of, signature_of}
 use Rattle.dexdebug.specs.DebugReading.{IndexAt, LocalAt, ExtendedAt, OperandsAt}
+use Rattle.dexdebug.specs.Operations.{operation_of}
 
 pub some_of : {A E : Type 0} (x y : A) → ◌≡◌ {A = Result A E} (Ok x) (Ok y) → Some x ≡ Some y
 some_of {A} {E} x y e = let same : x ≡ y = cc in ap Some same
@@ -36,18 +37,7 @@ lines_part _ = pos 0
 
 -- the operation of an opcode that has the parts of another
 abbrev pub with_opcode : ℕ → Operation → Operation
-with_opcode c op =
-    if nat_lt c 0x0a then
-    (if c == 0x01 then AdvancePc (number_part op)
-    else if c == 0x02 then AdvanceLine (lines_part op)
-    else if c == 0x03 then StartLocal (number_part op) (name_of op) (type_of op)
-    else if c == 0x04 then StartLocalExtended (number_part op) (name_of op) (type_of op) (signature_of op)
-    else if c == 0x05 then EndLocal (number_part op)
-    else if c == 0x06 then RestartLocal (number_part op)
-    else if c == 0x07 then SetPrologueEnd
-    else if c == 0x08 then SetEpilogueBegin
-    else SetFile (name_of op))
-    else Special c
+with_opcode c op = operation_of c (number_part op) (lines_part op) (name_of op) (type_of op) (signature_of op)
 
 pub special_code : (c : ℕ) (op : Operation) → 0x0a ≤ c → with_opcode c op ≡ Special c
 special_code c op high = rw (le-ltb c 0x0a high) refl

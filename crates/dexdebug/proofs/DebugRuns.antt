@@ -1,7 +1,8 @@
 -- Names and operations that are read one after the other.
-use Rattle.std.proofs.Common.{◌≡◌, ℕ, ◌+◌, ◌-◌, ◌*◌, ◌^◌, ◌<◌, ◌≤◌, List, [], ◌∷◌, ◌++◌, length, take, get_or, sum_by, Option, Some, None, refl, ap, sym, subst, ◌∙◌, arith, length-append}
-use Rattle.std.specs.List.{All}
-use Rattle.std.proofs.lemmas.List.{drop_more, append_assoc, append-nil}
+use Rattle.std.proofs.Common.{◌≡◌, ℕ, ◌+◌, ◌-◌, ◌*◌, ◌^◌, ◌<◌, ◌≤◌, List, [], ◌∷◌, ◌++◌, length, map, take, get_or, sum_by, Option, Some, None, refl, ap, sym, subst, ◌∙◌, arith, length-append}
+use Rattle.std.specs.List.{All, flat_map}
+use Rattle.std.proofs.lemmas.Grind.{flat_map-append}
+use Rattle.std.proofs.lemmas.List.{drop_more, append_assoc, append-nil, map-append}
 use Rattle.std.proofs.lemmas.List.Sums.{sum_by-append}
 use Rattle.std.proofs.lemmas.List.Elements.{All-nil, All-cons, All-append}
 use Rattle.std.specs.Option.{IsSome}
@@ -11,10 +12,13 @@ use Rattle.dexspec.proofs.written.PlacedBytes.{is_at, is_at_within, same_first}
 use Rattle.dexdebug.specs.declared.debug_operation.Operation.{Operation}
 use Rattle.dexdebug.specs.declared.debug_operation.Operation.TheVariants.{AdvancePc, AdvanceLine, StartLocal, StartLocalExtended, EndLocal, RestartLocal, SetPrologueEnd, SetEpilogueBegin, SetFile, Special}
 use Rattle.dexdebug.specs.declared.debug_reading.Counts.{Counts}
+use Rattle.dexdebug.specs.declared.debug_reading.Tally.{Tally}
+use Rattle.dexdebug.specs.declared.debug_reading.DebugShape.{DebugShape}
+use Rattle.dexdebug.specs.declared.indices.Index.{Index}
 use Rattle.dexspec.specs.Numbers.{Uleb128At}
 use Rattle.dexspec.specs.Weight.{operands}
-use Rattle.dexdebug.specs.Debug.{NumberedDebug, FitsIndex, IsFormedOperation, unindexed_operation, operation_weight}
-use Rattle.dexdebug.specs.DebugReading.{IndexAt, OperandsAt, NumberedAt, ProgramAt, NamesAt, NumberedDebugAt, EndNames, AreTallied, HaveNames, AreTheNames, HaveOperations, AreTheOperations}
+use Rattle.dexdebug.specs.Debug.{NumberedDebug, FitsIndex, IsFormedOperation, IsFormedDebug, unindexed_operation, operation_weight}
+use Rattle.dexdebug.specs.DebugReading.{IndexAt, OperandsAt, NumberedAt, ProgramAt, NamesAt, NumberedDebugAt, EndNames, AreTallied, IsShape, HaveNames, AreTheNames, AreTheOperations, indices_of, text_index}
 use Rattle.dexdebug.proofs.DebugRead.{some_parts}
 
 -- ---- one more
@@ -199,13 +203,15 @@ pub record OperationsSoFar (m : Counts) (b : List ℕ) (from at : ℕ) (ops : Li
   pub others : (xs : List Operation) → ProgramAt m b from xs → (rest : List Operation) × ProgramAt m b at rest
 
 -- the same, whatever they are: how many, and what they weigh
-pub record OperationsChecked (m : Counts) (b : List ℕ) (from at count weight : ℕ) : Type 0 where
+pub record OperationsChecked (m : Counts) (b : List ℕ) (from at count indices weight : ℕ) : Type 0 where
   pub operations : List Operation
   pub so_far : OperationsSoFar m b from at operations
   pub counted : length operations ≡ count
+  pub indexed : length (flat_map indices_of operations) ≡ indices
   pub weighed : sum_by operation_weight operations ≡ weight
   pub few : count ≤ at
   pub light : weight ≤ 21 * count
+  pub bounded : indices ≤ 3 * count
 
 pub no_operations_yet : (m : Counts) (b : List ℕ) (from : ℕ) (ops : List Operation) → from ≤ length b → ops ≡ [] → OperationsSoFar m b from from ops
 no_operations_yet m b from ops le e = rw e (record { following = omega arith; within = le; few = omega arith; before = omega arith; formed = All-nil IsFormedOperation; others = λ xs p. (xs, p) })
@@ -244,24 +250,29 @@ pub no_end : (m : Counts) (b : List ℕ) (from at : ℕ) (ops : List Operation) 
 no_end m b from at ops h end xs p = let g = h.others xs p in let within = is_at_within g.1.end in omega (arith, within, end)
 
 -- one operation more, with its weight
-pub one_more_checked : (m : Counts) (b : List ℕ) (from at c count weight : ℕ) (op : Operation) (k n : ℕ) → OperationsChecked m b from at count weight → at + 1 + k ≤ length b → BytesAt b at (c ∷ []) → 0 < c → c ≤ 0xff → OperandsAt m c b (at + 1) op k
-    → ((x : Operation) (n : ℕ) → OperandsAt m c b (at + 1) x n → ◌≡◌ {A = Option (Operation × ℕ)} (Some (op, k)) (Some (x, n))) → n ≡ operands (unindexed_operation op) → n < 5 → OperationsChecked m b from (at + (1 + k)) (count + 1) (weight + (1 + 5 * n))
-one_more_checked m b from at c count weight op k n h le here some byte operands_at only is light =
+pub one_more_checked : (m : Counts) (b : List ℕ) (from at c count indices weight : ℕ) (op : Operation) (k n i : ℕ) → OperationsChecked m b from at count indices weight → at + 1 + k ≤ length b → BytesAt b at (c ∷ []) → 0 < c → c ≤ 0xff → OperandsAt m c b (at + 1) op k
+    → ((x : Operation) (n : ℕ) → OperandsAt m c b (at + 1) x n → ◌≡◌ {A = Option (Operation × ℕ)} (Some (op, k)) (Some (x, n))) → n ≡ operands (unindexed_operation op) → n < 5 → i ≡ length (indices_of op) → i ≤ 3
+    → OperationsChecked m b from (at + (1 + k)) (count + 1) (indices + i) (weight + (1 + 5 * n))
+one_more_checked m b from at c count indices weight op k n i h le here some byte operands_at only is light places few_places =
     let ops = h.operations in
     let counted = h.counted in
+    let indexed = h.indexed in
     let weighed = h.weighed in
     let few = h.few in
+    let bounded = h.bounded in
     let so_far = h.light in record {
       operations = ops ++ op ∷ [];
       so_far = one_operation_more m b from at c ops (ops ++ op ∷ []) op k h.so_far le here some byte operands_at only refl;
       counted = omega (arith, length-append ops (op ∷ []), counted);
+      indexed = omega (arith, ap length (flat_map-append indices_of ops (op ∷ [])), length-append (flat_map indices_of ops) (flat_map indices_of (op ∷ [])), length-append (indices_of op) [], indexed, places);
       weighed = omega (arith, sum_by-append operation_weight ops (op ∷ []), weighed, is);
       few = omega arith;
       light = omega arith;
+      bounded = omega arith;
     }
 
-pub all_operations : (m : Counts) (b : List ℕ) (from at count named weight : ℕ) → OperationsChecked m b from at count weight → BytesAt b at (0x00 ∷ []) → 0 < from → length b ≤ 2 ^ 30 → AreTallied m b from (record { operations = count; named = named; weight = weight })
-all_operations m b from at count named weight checked end some small =
+pub all_operations : (m : Counts) (b : List ℕ) (from at count indices weight : ℕ) → OperationsChecked m b from at count indices weight → BytesAt b at (0x00 ∷ []) → 0 < from → length b ≤ 2 ^ 30 → AreTallied m b from (record { operations = count; indices = indices; weight = weight })
+all_operations m b from at count indices weight checked end some small =
     let h = checked.so_far in
     let following = h.following in
     let within = h.within in
@@ -271,8 +282,10 @@ all_operations m b from at count named weight checked end some small =
       formed = h.formed;
       few = omega arith;
       count = checked.counted;
+      indices = checked.indexed;
       weight = checked.weighed;
       light = checked.light;
+      bounded = checked.bounded;
     }
 
 -- ---- names and operations that are known to be there
@@ -323,47 +336,50 @@ all_names_built texts b from count counter at names h e = by_rest h.rest h.left 
     by_rest (i ∷ rest) left whole = absurd (omega (arith, left, e))
 
 -- operations that are built up to a place, and those ahead
-pub record OperationsBuilt (m : Counts) (b : List ℕ) (from count counter at : ℕ) (ops : List Operation) : Type 0 where
+pub record OperationsBuilt (m : Counts) (b : List ℕ) (from : ℕ) (t : Tally) (counter at : ℕ) (ops : List Operation) : Type 0 where
   pub rest : List Operation
-  pub left : counter + length rest ≡ count
+  pub left : counter + length rest ≡ t.operations
   pub ahead : ProgramAt m b at rest
-  pub whole : AreTheOperations m b from count (ops ++ rest)
+  pub whole : AreTheOperations m b from t (ops ++ rest)
 
-pub no_operations_built : (m : Counts) (b : List ℕ) (from count : ℕ) (ops : List Operation) → HaveOperations m b from count → ops ≡ [] → OperationsBuilt m b from count 0 from ops
-no_operations_built m b from count ops h e = let are = h.are in rw e (record { rest = h.operations; left = omega (arith, are.many); ahead = are.program; whole = are })
+pub are_tallied : (m : Counts) (b : List ℕ) (from : ℕ) (t : Tally) (h : AreTallied m b from t) → AreTheOperations m b from t h.operations
+are_tallied m b from t h = record { many = h.count; program = h.program; formed = h.formed }
+
+pub no_operations_built : (m : Counts) (b : List ℕ) (from : ℕ) (t : Tally) (ops : List Operation) → AreTallied m b from t → ops ≡ [] → OperationsBuilt m b from t 0 from ops
+no_operations_built m b from t ops h e = rw e (record { rest = h.operations; left = omega (arith, h.count); ahead = h.program; whole = are_tallied m b from t h })
 
 -- the operation that is read is the first ahead
-pub record IsNextOperation (m : Counts) (b : List ℕ) (from count counter at c : ℕ) (ops : List Operation) (r : Option (Operation × ℕ)) : Type 0 where
+pub record IsNextOperation (m : Counts) (b : List ℕ) (from : ℕ) (t : Tally) (counter at c : ℕ) (ops : List Operation) (r : Option (Operation × ℕ)) : Type 0 where
   pub some : IsSome r
-  pub built : (x : Operation × ℕ) (more : List Operation) → r ≡ Some x → more ≡ ops ++ x.0 ∷ [] → OperationsBuilt m b from count (counter + 1) (at + (1 + x.1)) more
+  pub built : (x : Operation × ℕ) (more : List Operation) → r ≡ Some x → more ≡ ops ++ x.0 ∷ [] → OperationsBuilt m b from t (counter + 1) (at + (1 + x.1)) more
 
 -- there is an opcode ahead, that of an operation
-pub opcode_within : (m : Counts) (b : List ℕ) (from count counter at : ℕ) (ops : List Operation) → OperationsBuilt m b from count counter at ops → at < length b
-opcode_within m b from count counter at ops h = let p = h.ahead in let within = is_at_within p.end in omega (arith, within)
+pub opcode_within : (m : Counts) (b : List ℕ) (from : ℕ) (t : Tally) (counter at : ℕ) (ops : List Operation) → OperationsBuilt m b from t counter at ops → at < length b
+opcode_within m b from t counter at ops h = let p = h.ahead in let within = is_at_within p.end in omega (arith, within)
 
-pub opcode_some : (m : Counts) (b : List ℕ) (from count counter at : ℕ) (ops : List Operation) → OperationsBuilt m b from count counter at ops → counter < count → 0 < get_or b at 0
-opcode_some m b from count counter at ops h lt = by_rest h.rest h.left h.ahead
+pub opcode_some : (m : Counts) (b : List ℕ) (from : ℕ) (t : Tally) (counter at : ℕ) (ops : List Operation) → OperationsBuilt m b from t counter at ops → counter < t.operations → 0 < get_or b at 0
+opcode_some m b from t counter at ops h lt = by_rest h.rest h.left h.ahead
   where
-    by_rest : (rest : List Operation) → counter + length rest ≡ count → ProgramAt m b at rest → 0 < get_or b at 0
+    by_rest : (rest : List Operation) → counter + length rest ≡ t.operations → ProgramAt m b at rest → 0 < get_or b at 0
     by_rest [] left p = absurd (omega (arith, left))
     by_rest (op ∷ rest) left p =
         let first = p.operations.2 in
-        let code = same_first first.opcode (get_or b at 0) [] [] first.at_opcode (byte_encoded b at (opcode_within m b from count counter at ops h)) in
+        let code = same_first first.opcode (get_or b at 0) [] [] first.at_opcode (byte_encoded b at (opcode_within m b from t counter at ops h)) in
         let some = code_some m b at op first.operands_size first.opcode first.operands in
         omega (arith, code, some)
 
-pub next_operation : (m : Counts) (b : List ℕ) (from count counter at : ℕ) (ops : List Operation) (r : Option (Operation × ℕ)) → OperationsBuilt m b from count counter at ops → counter < count
-    → ((op : Operation) (n : ℕ) → OperandsAt m (get_or b at 0) b (at + 1) op n → r ≡ Some (op, n)) → IsNextOperation m b from count counter at (get_or b at 0) ops r
-next_operation m b from count counter at ops r h lt only = by_rest h.rest h.left h.ahead h.whole
+pub next_operation : (m : Counts) (b : List ℕ) (from : ℕ) (t : Tally) (counter at : ℕ) (ops : List Operation) (r : Option (Operation × ℕ)) → OperationsBuilt m b from t counter at ops → counter < t.operations
+    → ((op : Operation) (n : ℕ) → OperandsAt m (get_or b at 0) b (at + 1) op n → r ≡ Some (op, n)) → IsNextOperation m b from t counter at (get_or b at 0) ops r
+next_operation m b from t counter at ops r h lt only = by_rest h.rest h.left h.ahead h.whole
   where
     c : ℕ
     c = get_or b at 0
 
-    by_rest : (rest : List Operation) → counter + length rest ≡ count → ProgramAt m b at rest → AreTheOperations m b from count (ops ++ rest) → IsNextOperation m b from count counter at c ops r
+    by_rest : (rest : List Operation) → counter + length rest ≡ t.operations → ProgramAt m b at rest → AreTheOperations m b from t (ops ++ rest) → IsNextOperation m b from t counter at c ops r
     by_rest [] left p whole = absurd (omega (arith, left))
     by_rest (op ∷ rest) left p whole =
         let first = p.operations.2 in
-        let code : first.opcode ≡ c = same_first first.opcode c [] [] first.at_opcode (byte_encoded b at (opcode_within m b from count counter at ops h)) in
+        let code : first.opcode ≡ c = same_first first.opcode c [] [] first.at_opcode (byte_encoded b at (opcode_within m b from t counter at ops h)) in
         let is = only op first.operands_size (subst (λ (k : ℕ). OperandsAt m k b (at + 1) op first.operands_size) code first.operands) in record {
           some = is_some r (op, first.operands_size) is;
           built = λ x more e f.
@@ -376,16 +392,47 @@ next_operation m b from count counter at ops r h lt only = by_rest h.rest h.left
                   operations = subst (λ (k : ℕ). Sequence (NumberedAt m) b k rest p.operations.1) following p.operations.3;
                   end = is_at (omega (arith, p.operations.4, following)) p.end;
                 };
-                whole = subst (AreTheOperations m b from count) (sym (append_assoc ops (op ∷ []) rest) ∙ ap (λ y. ops ++ y ∷ [] ++ rest) same.0 ∙ ap (λ ys. ys ++ rest) (sym f)) whole;
+                whole = subst (AreTheOperations m b from t) (sym (append_assoc ops (op ∷ []) rest) ∙ ap (λ y. ops ++ y ∷ [] ++ rest) same.0 ∙ ap (λ ys. ys ++ rest) (sym f)) whole;
               };
         }
 
-pub all_operations_built : (m : Counts) (b : List ℕ) (from count counter at : ℕ) (ops : List Operation) → OperationsBuilt m b from count counter at ops → counter ≡ count → AreTheOperations m b from count ops
-all_operations_built m b from count counter at ops h e = by_rest h.rest h.left h.whole
+pub all_operations_built : (m : Counts) (b : List ℕ) (from : ℕ) (t : Tally) (counter at : ℕ) (ops : List Operation) → OperationsBuilt m b from t counter at ops → counter ≡ t.operations → AreTheOperations m b from t ops
+all_operations_built m b from t counter at ops h e = by_rest h.rest h.left h.whole
   where
-    by_rest : (rest : List Operation) → counter + length rest ≡ count → AreTheOperations m b from count (ops ++ rest) → AreTheOperations m b from count ops
-    by_rest [] left whole = subst (AreTheOperations m b from count) (append-nil ops) whole
+    by_rest : (rest : List Operation) → counter + length rest ≡ t.operations → AreTheOperations m b from t (ops ++ rest) → AreTheOperations m b from t ops
+    by_rest [] left whole = subst (AreTheOperations m b from t) (append-nil ops) whole
     by_rest (op ∷ rest) left whole = absurd (omega (arith, left, e))
+
+-- the numbers of the symbols of operations that are built up to a place, after others
+pub record SymbolsBuilt (m : Counts) (b : List ℕ) (from : ℕ) (t : Tally) (counter at : ℕ) (is js : List Index) : Type 0 where
+  pub operations : List Operation
+  pub built : OperationsBuilt m b from t counter at operations
+  pub kept : js ≡ is ++ flat_map indices_of operations
+
+pub more_symbols : (m : Counts) (b : List ℕ) (from : ℕ) (t : Tally) (counter at : ℕ) (is js ks : List Index) (x : Operation × ℕ) (h : SymbolsBuilt m b from t counter at is js) → ((more : List Operation) → more ≡ h.operations ++ x.0 ∷ [] → OperationsBuilt m b from t (counter + 1) (at + (1 + x.1)) more)
+    → ks ≡ js ++ indices_of x.0 → SymbolsBuilt m b from t (counter + 1) (at + (1 + x.1)) is ks
+more_symbols m b from t counter at is js ks x h on e = record {
+  operations = h.operations ++ x.0 ∷ [];
+  built = on (h.operations ++ x.0 ∷ []) refl;
+  kept = e ∙ ap (λ xs. xs ++ indices_of x.0) h.kept ∙ append_assoc is (flat_map indices_of h.operations) (indices_of x.0)
+      ∙ ap (λ xs. is ++ xs) (sym (flat_map-append indices_of h.operations (x.0 ∷ []) ∙ ap (λ xs. flat_map indices_of h.operations ++ xs) (append-nil (indices_of x.0))));
+}
+
+-- names that are built up to a place, stored after others
+pub record NamesKept (texts : ℕ) (b : List ℕ) (from count counter at : ℕ) (is js : List Index) : Type 0 where
+  pub names : List (Option ℕ)
+  pub within : at ≤ length b
+  pub built : NamesBuilt texts b from count counter at names
+  pub kept : js ≡ is ++ map text_index names
+
+pub more_names : (texts : ℕ) (b : List ℕ) (from count counter at : ℕ) (is js ks : List Index) (x : Option ℕ × ℕ) (h : NamesKept texts b from count counter at is js) → ((more : List (Option ℕ)) → more ≡ h.names ++ x.0 ∷ [] → NamesBuilt texts b from count (counter + 1) (at + x.1) more)
+    → at + x.1 ≤ length b → ks ≡ js ++ text_index x.0 ∷ [] → NamesKept texts b from count (counter + 1) (at + x.1) is ks
+more_names texts b from count counter at is js ks x h on within e = record {
+  names = h.names ++ x.0 ∷ [];
+  within = within;
+  built = on (h.names ++ x.0 ∷ []) refl;
+  kept = e ∙ ap (λ xs. xs ++ text_index x.0 ∷ []) h.kept ∙ append_assoc is (map text_index h.names) (text_index x.0 ∷ []) ∙ ap (λ xs. is ++ xs) (sym (map-append text_index h.names (x.0 ∷ [])));
+}
 
 -- ---- a whole program
 
@@ -416,3 +463,28 @@ pub no_operations : (m : Counts) (b : List ℕ) (o end : ℕ) (start count : ℕ
 no_operations m b o end start count h are none d p =
     let g = after_heads m b o start count h d p in
     none d.operations (subst (λ (k : ℕ). ProgramAt m b k d.operations) (are.ends d.parameter_names g.0 g.1) g.2)
+
+-- what is read of a shape is the debug program there
+pub built_at : (m : Counts) (b : List ℕ) (o : ℕ) (s : DebugShape) (names : List (Option ℕ)) (ops : List Operation) → IsShape m b o s → AreTheNames m.texts b s.names_at s.names names → AreTheOperations m b s.operations_at s.tally ops
+    → NumberedDebugAt m b o (record { line_start = s.line_start; parameter_names = names; operations = ops })
+built_at m b o s names ops q n h =
+    let many = n.names_at.many in
+    let end : s.operations_at ≡ o + q.start_size + q.count_size + n.size = omega (arith, q.at_names, q.names.ends names n.size n.names_at) in
+    record {
+      start_size = q.start_size;
+      count_size = q.count_size;
+      names_size = n.size;
+      at_start = q.at_start;
+      at_count = subst (λ (k : ℕ). Uleb128At b (o + q.start_size) k q.count_size) (sym many) q.at_count;
+      at_names = subst (λ (p : ℕ). NamesAt m.texts b p (length names) names n.size) q.at_names (subst (λ (k : ℕ). NamesAt m.texts b s.names_at k names n.size) (sym many) n.names_at);
+      program = subst (λ (p : ℕ). ProgramAt m b p ops) end h.program;
+    }
+
+pub built_formed : (m : Counts) (b : List ℕ) (o : ℕ) (s : DebugShape) (names : List (Option ℕ)) (ops : List Operation) → IsShape m b o s → AreTheNames m.texts b s.names_at s.names names → AreTheOperations m b s.operations_at s.tally ops
+    → IsFormedDebug (record { line_start = s.line_start; parameter_names = names; operations = ops })
+built_formed m b o s names ops q n h = record {
+  names_count = omega (arith, n.names_at.many, q.few);
+  names_fit = n.fit;
+  operations_count = omega (arith, h.many, q.operations.few, q.operations.count);
+  operations_fit = h.formed;
+}

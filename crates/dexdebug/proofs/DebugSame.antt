@@ -1,11 +1,12 @@
 -- Debug programs that are the same once remapped by two maps.
-use Rattle.std.proofs.Common.{◌≡◌, ℕ, ◌+◌, ◌<◌, ◌≤◌, List, [], ◌∷◌, ◌++◌, length, take, map, get_or, Option, None, refl, ap, sym, ◌∙◌}
+use Rattle.std.proofs.Common.{◌≡◌, ℕ, ◌+◌, ◌<◌, ◌≤◌, List, [], ◌∷◌, ◌++◌, length, take, map, get_or, Option, refl, ap, sym, ◌∙◌}
 use Rattle.std.proofs.lemmas.List.{map_more, take_all, get_or-map}
 use Rattle.dexpool.specs.declared.symbols.SymbolKind.TheVariants as kinds
 use Rattle.dexpool.specs.Numberings.{Maps}
 use Rattle.dexdebug.specs.declared.debug_operation.Operation.{Operation}
 use Rattle.dexdebug.specs.declared.debug_operation.Operation.TheVariants.{AdvancePc, AdvanceLine, StartLocal, StartLocalExtended, EndLocal, RestartLocal, SetPrologueEnd, SetEpilogueBegin, SetFile, Special}
 use Rattle.dexdebug.specs.Debug.{image_or_none, name_of, type_of, signature_of, with_numbers, renumbered_operation}
+use Rattle.dexdebug.specs.Operations.{unindexed_of}
 
 -- ---- lists that are the same, mapped
 
@@ -20,12 +21,8 @@ same_at f g xs ys i d lt lt' e = sym (get_or-map f xs i d (f d) lt) ∙ ap (λ z
 
 -- ---- operations
 
--- the operation without numbers of symbols
-abbrev pub unindexed_of : Operation → Operation
-unindexed_of op = with_numbers op None None None
-
 -- other numbers are not seen without numbers
-unindexed_with : (op : Operation) (s t u : Option ℕ) → unindexed_of (with_numbers op s t u) ≡ unindexed_of op
+pub unindexed_with : (op : Operation) (s t u : Option ℕ) → unindexed_of (with_numbers op s t u) ≡ unindexed_of op
 unindexed_with (AdvancePc addresses) s t u = refl
 unindexed_with (AdvanceLine lines) s t u = refl
 unindexed_with (StartLocal register name typ) s t u = refl
@@ -38,7 +35,7 @@ unindexed_with (SetFile name) s t u = refl
 unindexed_with (Special opcode) s t u = refl
 
 -- numbers are put in where there were others
-with_unindexed : (op : Operation) (s t u : Option ℕ) → with_numbers (unindexed_of op) s t u ≡ with_numbers op s t u
+pub with_unindexed : (op : Operation) (s t u : Option ℕ) → with_numbers (unindexed_of op) s t u ≡ with_numbers op s t u
 with_unindexed (AdvancePc addresses) s t u = refl
 with_unindexed (AdvanceLine lines) s t u = refl
 with_unindexed (StartLocal register name typ) s t u = refl

@@ -5,10 +5,8 @@ use Rattle.std.specs.List.{All, flat_map}
 use Rattle.std.proofs.lemmas.List.Elements.{All-nil, All-cons, All-head, All-tail}
 use Rattle.dexpool.specs.declared.symbols.SymbolKind.{SymbolKind}
 use Rattle.dexpool.specs.declared.symbols.SymbolKind.TheVariants as kinds
-use Rattle.dexpool.specs.declared.marks.Marks.{Marks}
 use Rattle.dexpool.specs.Numberings.{Maps, image_of}
-use Rattle.dexpool.specs.Uses.{Use, AreMarkedToo}
-use Rattle.dexpool.proofs.MarksMade.{none_marked}
+use Rattle.dexpool.specs.Uses.{Use}
 use Rattle.dexpool.proofs.Parts.{all_prefix, all_back, all_parts, all_map}
 use Rattle.dexdebug.specs.declared.debug_operation.Operation.{Operation}
 use Rattle.dexdebug.specs.declared.debug_operation.Operation.TheVariants.{AdvancePc, AdvanceLine, StartLocal, StartLocalExtended, EndLocal, RestartLocal, SetPrologueEnd, SetEpilogueBegin, SetFile, Special}
@@ -87,28 +85,3 @@ debug_formed r d all is =
       operations_count = simp length-map is.operations_count;
       operations_fit = operations_formed r d.operations operations is.operations_fit;
     }
-
--- an operation without symbols stays as it is
-pub stays : (r : Maps) (op : Operation) → operation_uses op ≡ [] → op ≡ renumbered_operation r op
-stays r (AdvancePc addresses) none = refl
-stays r (AdvanceLine lines) none = refl
-stays r (StartLocal register None None) none = refl
-stays r (StartLocal register None (Some typ)) none = absurd cc
-stays r (StartLocal register (Some name) typ) none = absurd cc
-stays r (StartLocalExtended register None None None) none = refl
-stays r (StartLocalExtended register None None (Some signature)) none = absurd cc
-stays r (StartLocalExtended register None (Some typ) signature) none = absurd cc
-stays r (StartLocalExtended register (Some name) typ signature) none = absurd cc
-stays r (EndLocal register) none = refl
-stays r (RestartLocal register) none = refl
-stays r SetPrologueEnd none = refl
-stays r SetEpilogueBegin none = refl
-stays r (SetFile None) none = refl
-stays r (SetFile (Some name)) none = absurd cc
-stays r (Special opcode) none = refl
-
--- ---- marks
-
--- the marks of no symbols
-pub marked_none : (us : List Use) (a : Marks) → us ≡ [] → AreMarkedToo us a a
-marked_none us a none = subst (λ vs. AreMarkedToo vs a a) (sym none) (none_marked a)

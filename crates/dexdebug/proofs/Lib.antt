@@ -11,4 +11,4 @@ pub mod Encoded
 pub mod MeaningDebug
 pub mod DebugRanked
 pub mod DebugsChecked
-pub mod KeptOperations
+pub mod StoredOperations

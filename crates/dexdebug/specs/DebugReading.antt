@@ -1,5 +1,6 @@
 -- Debug programs as they are read from a file.
-use Rattle.std.specs.Prelude.{◌≡◌, ℕ, ◌+◌, ◌-◌, ◌*◌, ◌^◌, ◌<◌, ◌≤◌, List, [], ◌∷◌, All, length, sum_by, Option, IfSome}
+use Rattle.std.specs.Prelude.{◌≡◌, ℕ, ◌+◌, ◌-◌, ◌*◌, ◌^◌, ◌<◌, ◌≤◌, List, [], ◌∷◌, ◌++◌, All, length, map, sum_by, Option, IfSome}
+use Rattle.std.specs.List.{flat_map}
 use Rattle.dexspec.specs.Lists.{Item, Sequence}
 use Rattle.dexspec.specs.Bytes.{BytesAt}
 use Rattle.dexspec.specs.Numbers.{Uleb128At, Sleb128At, Uleb128p1At}
@@ -9,11 +10,13 @@ use Rattle.dexspec.specs.Weight.{debug_weight}
 use Rattle.dexspec.specs.Header.{data_off}
 use Rattle.dexpool.specs.declared.faults.ItemFault.{ItemFault}
 use Rattle.dexpool.specs.declared.faults.ItemFault.TheVariants.{Refused, Memory}
+use Rattle.dexpool.specs.declared.symbols.SymbolKind.TheVariants as kinds
 use Rattle.dexdebug.specs.declared.debug_operation.Operation.{Operation}
 use Rattle.dexdebug.specs.declared.debug_operation.Operation.TheVariants.{AdvancePc, AdvanceLine, StartLocal, StartLocalExtended, EndLocal, RestartLocal, SetPrologueEnd, SetEpilogueBegin, SetFile, Special}
 use Rattle.dexdebug.specs.declared.debug_reading.Counts.{Counts}
 use Rattle.dexdebug.specs.declared.debug_reading.Tally.{Tally}
 use Rattle.dexdebug.specs.declared.debug_reading.DebugShape.{DebugShape}
+use Rattle.dexdebug.specs.declared.indices.Index.{Index}
 use Rattle.dexdebug.specs.Debug.{NumberedDebug, DenotesDebug, unindexed, FitsIndex, IsFormedOperation, operation_weight}
 
 -- the debug program is that at an offset, where symbols are numbered by their rows
@@ -98,6 +101,17 @@ pub record NumberedDebugAt (m : Counts) (b : List ℕ) (o : ℕ) (d : NumberedDe
   pub at_names : NamesAt m.texts b (o + start_size + count_size) (length d.parameter_names) d.parameter_names names_size
   pub program : ProgramAt m b (o + start_size + count_size + names_size) d.operations
 
+-- the number of a text
+abbrev pub text_index : Option ℕ → Index
+text_index i = record { kind = kinds.Text; number = i }
+
+-- the numbers of the symbols of an operation, in the order of its operands
+abbrev pub indices_of : Operation → List Index
+indices_of (StartLocal register name typ) = record { kind = kinds.Text; number = name } ∷ record { kind = kinds.Typ; number = typ } ∷ []
+indices_of (StartLocalExtended register name typ signature) = record { kind = kinds.Text; number = name } ∷ record { kind = kinds.Typ; number = typ } ∷ record { kind = kinds.Text; number = signature } ∷ []
+indices_of (SetFile name) = record { kind = kinds.Text; number = name } ∷ []
+indices_of _ = []
+
 -- ---- what is checked
 
 -- at offset o are `count` names, which end at offset `end`
@@ -116,8 +130,10 @@ pub record AreTallied (m : Counts) (b : List ℕ) (o : ℕ) (t : Tally) : Type 0
   pub formed : All IsFormedOperation operations
   pub few : length operations < 2 ^ 30
   pub count : length operations ≡ t.operations
+  pub indices : length (flat_map indices_of operations) ≡ t.indices
   pub weight : sum_by operation_weight operations ≡ t.weight
   pub light : t.weight ≤ 21 * t.operations
+  pub bounded : t.indices ≤ 3 * t.operations
 
 -- at offset o is a debug program of this shape
 pub record IsShape (m : Counts) (b : List ℕ) (o : ℕ) (s : DebugShape) : Type 0 where
@@ -134,6 +150,10 @@ pub record IsShape (m : Counts) (b : List ℕ) (o : ℕ) (s : DebugShape) : Type
 -- how many texts and types there are
 abbrev pub counts_of : Mentions → Counts
 counts_of m = record { texts = length m.texts; types = length m.types }
+
+-- as many as a file can have
+abbrev pub every : Counts
+every = record { texts = 4294967295; types = 4294967295 }
 
 -- that is what there is in the debug_info_item at an offset
 pub record IsShapeAt (b : List ℕ) (off : ℕ) (m : Mentions) (s : DebugShape) : Type 0 where
@@ -165,13 +185,20 @@ pub record HaveNames (texts : ℕ) (b : List ℕ) (o count : ℕ) : Type 0 where
   pub names : List (Option ℕ)
   pub are : AreTheNames texts b o count names
 
--- at offset o are these `count` operations
-pub record AreTheOperations (m : Counts) (b : List ℕ) (o count : ℕ) (ops : List Operation) : Type 0 where
-  pub many : length ops ≡ count
+-- at offset o are these operations, as many as the tally has
+pub record AreTheOperations (m : Counts) (b : List ℕ) (o : ℕ) (t : Tally) (ops : List Operation) : Type 0 where
+  pub many : length ops ≡ t.operations
   pub program : ProgramAt m b o ops
   pub formed : All IsFormedOperation ops
 
--- at offset o are `count` operations
-pub record HaveOperations (m : Counts) (b : List ℕ) (o count : ℕ) : Type 0 where
+-- these `count` names at offset o are stored after others
+pub record KeepsNames (texts : ℕ) (b : List ℕ) (o count : ℕ) (old new : List Index) : Type 0 where
+  pub names : List (Option ℕ)
+  pub are : AreTheNames texts b o count names
+  pub kept : new ≡ old ++ map text_index names
+
+-- the numbers of the symbols of operations of that tally at offset o are stored after others
+pub record KeepsSymbols (m : Counts) (b : List ℕ) (o : ℕ) (t : Tally) (old new : List Index) : Type 0 where
   pub operations : List Operation
-  pub are : AreTheOperations m b o count operations
+  pub are : AreTheOperations m b o t operations
+  pub kept : new ≡ old ++ flat_map indices_of operations

@@ -6,5 +6,6 @@ pub mod Equality
 pub mod Laws
 pub mod Meaning
 pub mod Operations
+pub mod Packed
 pub mod Positions
 pub mod internal

@@ -1,45 +1,58 @@
 //! A debug program, with numbers for symbols.
 
-ghost use Rattle.std.specs.Prelude.{◌≡◌};
+ghost use Rattle.std.specs.Prelude.{◌≡◌, IfOk};
 
-use crate::operations::{OperationIter, Operations};
+use crate::indices::Index;
+use crate::names::NameIter;
+use crate::operations::OperationIter;
+use std::alloc::AllocError;
 use std::marker::Model;
 
-/// A debug_info_item: the line that it starts at, the names of parameters, and operations. Its texts and types are
-/// numbers, and contracts see them so.
+/// A debug_info_item: the line that it starts at, the names of parameters, and operations, whose bytes are borrowed from
+/// the file. Its texts and types are numbers, and contracts see them so.
 ///
 /// Source: "debug_info_item".
-pub struct Debug {
+pub struct Debug<'a> {
+    /// The bytes of the file.
+    pub(crate) bytes: &'a [u8],
+    /// The texts that are the names of parameters, and then the symbols of operations, each in the order of its operands.
+    pub(crate) indices: Vec<Index>,
+    /// How many of them are names.
+    pub(crate) names: u32,
+    /// Where the first operation is.
+    pub(crate) at: u32,
+    /// How many operations there are, without `DBG_END_SEQUENCE`.
+    pub(crate) count: u32,
     /// The initial value of the line register.
     pub(crate) line_start: u32,
-    /// The number of the text that is each parameter's name, or `None`, which is NO_INDEX.
-    pub(crate) parameter_names: Vec<Option<u32>>,
-    /// The operations, without `DBG_END_SEQUENCE`.
-    pub(crate) operations: Operations,
 }
 
 // One call drops a debug program.
-impl Drop for Debug {
+impl Drop for Debug<'_> {
     fn drop(self) {
         let Debug {
+            bytes: _,
+            indices: _,
+            names: _,
+            at: _,
+            count: _,
             line_start: _,
-            parameter_names: _,
-            operations: _,
         } = self;
     }
 }
 
-impl Model for Debug {
+impl<'a> Model for Debug<'a> {
     ghost use Rattle.dexdebug.specs.Debug.{NumberedDebug, IsFormedDebug};
+    ghost use Rattle.dexdebug.specs.Operations.{IsStored, stored_debug};
 
     ghost Value = { NumberedDebug };
 
-    ghost view = { λ d. record { line_start = d.line_start; parameter_names = d.parameter_names.items; operations = d.operations } };
+    ghost view = { λ d. stored_debug d.line_start d.names d.count d.bytes.now d.at d.indices.items };
 
-    ghost invariant = { λ d. IsFormedDebug (record { line_start = d.line_start; parameter_names = d.parameter_names.items; operations = d.operations }) };
+    ghost invariant = { λ d. IsFormedDebug (stored_debug d.line_start d.names d.count d.bytes.now d.at d.indices.items) × IsStored d.names d.count d.bytes.now d.at d.indices.items };
 }
 
-impl Debug {
+impl<'a> Debug<'a> {
     /// The line that the program starts at.
     ///
     /// Source: "debug_info_item", the field `line_start`.
@@ -52,10 +65,11 @@ impl Debug {
     /// The number of the text that is the name of each parameter, or `None` where it has no name.
     ///
     /// Source: "debug_info_item", the field `parameter_names`.
-    pub fn parameter_names(&self) -> &[Option<u32>]
-        ensures { result.now ≡ self.now.parameter_names }
+    pub fn parameter_names(&self) -> NameIter<'_>
+        ensures { result ≡ self.now.parameter_names }
     {
-        &self.parameter_names
+        let (names, _) = self.indices.split_at(self.names as usize);
+        NameIter { indices: names }
     }
 
     /// The operations, in order and without the end.
@@ -64,6 +78,28 @@ impl Debug {
     pub fn operations(&self) -> OperationIter<'_>
         ensures { result ≡ self.now.operations }
     {
-        self.operations.iter()
+        let (_, indices) = self.indices.split_at(self.names as usize);
+        OperationIter {
+            bytes: self.bytes,
+            at: self.at as usize,
+            count: self.count,
+            indices,
+        }
+    }
+
+    /// Returns a copy of the debug program, with numbers of its own. The bytes of its operations are borrowed as before.
+    ///
+    /// Error: the memory for the numbers was refused.
+    pub fn copy(&self) -> Result<Debug<'a>, AllocError>
+        ensures { IfOk result (λ copy. copy ≡ self.now) }
+    {
+        Ok(Debug {
+            bytes: self.bytes,
+            indices: Vec::from_slice(*self.indices.allocator(), &self.indices)?,
+            names: self.names,
+            at: self.at,
+            count: self.count,
+            line_start: self.line_start,
+        })
     }
 }

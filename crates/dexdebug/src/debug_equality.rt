@@ -1,41 +1,90 @@
 //! Debug programs that are the same are equal, and have equal hashes.
 
+ghost use Rattle.std.specs.Prelude.{◌≡◌, ◌==◌};
 ghost use Rattle.std.specs.Cmp.{partial_equiv_from_equiv};
-ghost use Rattle.dexdebug.specs.contracts.operations.EntryEq.TheImpl.Laws as equal_entries;
-ghost use Rattle.dexdebug.specs.contracts.operations.EntryHash.TheImpl.Laws as hashed_entries;
+ghost use Rattle.std.specs.Cmp.Lexicographic.{pointwise};
+ghost use Rattle.std.specs.Hash as fed;
+ghost use Rattle.std.specs.List.{flat_map, fold};
+ghost use Rattle.std.specs.Option.{option_eq};
 ghost use Rattle.dexdebug.specs.contracts.debug_operation.OperationEq.TheImpl.Laws as equal;
 ghost use Rattle.dexdebug.specs.contracts.debug_operation.OperationHash.TheImpl.Laws as hashed;
 ghost use Rattle.dexdebug.specs.DebugEquality.{same_debug, debug_input, debug_equiv, debugs_equal};
 
 use crate::debug::Debug;
 use crate::debug_operation::Operation;
-use crate::operations::Entry;
+use crate::names::NameIter;
+use crate::operations::OperationIter;
 use std::hash::{Hash, Hasher};
 
-impl PartialEq for Debug {
-    ghost eq = { same_debug ⟦<Entry as PartialEq>⟧.eq ⟦<Operation as PartialEq>⟧.eq };
+// Returns whether names are equal, one for one.
+fn equal_names(mine: NameIter<'_>, mut others: NameIter<'_>) -> bool
+    ensures { result ≡ pointwise (option_eq ◌==◌) mine.entry others.entry }
+{
+    for name in mine {
+        if others.next() != Some(name) {
+            return false;
+        }
+    }
+    others.next().is_none()
+}
 
-    ghost laws = { partial_equiv_from_equiv (debug_equiv equal_entries.laws-law equal.laws-law) };
+// Returns whether operations are equal, one for one.
+fn equal_operations(mine: OperationIter<'_>, mut others: OperationIter<'_>) -> bool
+    ensures { result ≡ pointwise ⟦<Operation as PartialEq>⟧.eq mine.entry others.entry }
+{
+    for operation in mine {
+        if others.next() != Some(operation) {
+            return false;
+        }
+    }
+    others.next().is_none()
+}
 
-    fn eq(&self, other: &Debug) -> bool {
-        self.line_start == other.line_start
-            && self.parameter_names == other.parameter_names
-            && self.operations == other.operations
+// Feeds each name to a hasher.
+fn hash_names<H: Hasher>(names: NameIter<'_>, state: &mut H)
+    ensures { state.new ≡ fold H.write state.old (flat_map (fed.option fed.u32) names.entry) }
+{
+    for name in names {
+        name.hash(state);
     }
 }
 
-impl Eq for Debug {
-    ghost laws = { debug_equiv equal_entries.laws-law equal.laws-law };
+// Feeds each operation to a hasher.
+fn hash_operations<H: Hasher>(operations: OperationIter<'_>, state: &mut H)
+    ensures { state.new ≡ fold H.write state.old
+        (flat_map ⟦<Operation as Hash>⟧.hash_input operations.entry) }
+{
+    for operation in operations {
+        operation.hash(state);
+    }
 }
 
-impl Hash for Debug {
-    ghost hash_input = { debug_input ⟦<Entry as Hash>⟧.hash_input ⟦<Operation as Hash>⟧.hash_input };
+impl PartialEq for Debug<'_> {
+    ghost eq = { same_debug ⟦<Operation as PartialEq>⟧.eq };
 
-    ghost respects_eq = { debugs_equal ⟦<Entry as PartialEq>⟧.eq ⟦<Operation as PartialEq>⟧.eq ⟦<Entry as Hash>⟧.hash_input ⟦<Operation as Hash>⟧.hash_input hashed_entries.respects_eq-law hashed.respects_eq-law };
+    ghost laws = { partial_equiv_from_equiv (debug_equiv equal.laws-law) };
+
+    fn eq(&self, other: &Debug<'_>) -> bool {
+        self.line_start == other.line_start
+            && equal_names(self.parameter_names(), other.parameter_names())
+            && equal_operations(self.operations(), other.operations())
+    }
+}
+
+impl Eq for Debug<'_> {
+    ghost laws = { debug_equiv equal.laws-law };
+}
+
+impl Hash for Debug<'_> {
+    ghost hash_input = { debug_input ⟦<Operation as Hash>⟧.hash_input };
+
+    ghost respects_eq = { debugs_equal ⟦<Operation as PartialEq>⟧.eq ⟦<Operation as Hash>⟧.hash_input hashed.respects_eq-law };
 
     fn hash<H: Hasher>(&self, state: &mut H) {
         self.line_start.hash(state);
-        self.parameter_names.hash(state);
-        self.operations.hash(state);
+        (self.names as usize).hash(state);
+        hash_names(self.parameter_names(), state);
+        (self.count as usize).hash(state);
+        hash_operations(self.operations(), state);
     }
 }

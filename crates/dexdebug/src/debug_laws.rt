@@ -7,7 +7,6 @@ ghost use Rattle.dexdebug.specs.Laws.{DebugBytesAreDenoted, DebugWeightIsDenoted
 
 use crate::debug::Debug;
 use crate::debug_operation::Operation;
-use crate::operations::entry_equality_law;
 
 /// Where the symbols rise, the bytes of a numbered debug program are those of the program that it denotes, each index
 /// the rank of its symbol. They are no more than it weighs.
@@ -43,8 +42,7 @@ pub fn operation_equality_law()
 
 /// Debug programs are equal exactly where the lines that they start at, their names and their operations are.
 pub fn debug_equality_law()
-    ensures { (d e : NumberedDebug) → IsTrue (⟦<Debug as PartialEq>⟧.eq d e) ↔ (d ≡ e) }
+    ensures { (d e : NumberedDebug) → IsTrue (⟦<Debug<'static> as PartialEq>⟧.eq d e) ↔ (d ≡ e) }
 {
-    entry_equality_law();
     operation_equality_law();
 }

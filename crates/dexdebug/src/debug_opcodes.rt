@@ -1,4 +1,4 @@
-//! The opcodes of debug programs that are not special, as the page names them.
+//! The opcodes of debug programs, as the page names them.
 //!
 //! Source: "debug_info_item", "Byte code values".
 
@@ -21,3 +21,6 @@ pub(crate) const DBG_SET_PROLOGUE_END: u8 = 0x07;
 pub(crate) const DBG_SET_EPILOGUE_BEGIN: u8 = 0x08;
 
 pub(crate) const DBG_SET_FILE: u8 = 0x09;
+
+/// The least special opcode.
+pub(crate) const DBG_FIRST_SPECIAL: u8 = 0x0a;

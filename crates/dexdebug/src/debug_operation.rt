@@ -1,6 +1,6 @@
 //! The operations of debug programs, with numbers for symbols.
 
-ghost use Rattle.std.specs.Prelude.{◌≡◌, ◌↔◌, ◌<◌, [], false, IsTrue};
+ghost use Rattle.std.specs.Prelude.{◌≡◌, ◌↔◌, ◌<◌, ◌≤◌, IsTrue, length};
 ghost use Rattle.dexspec.specs.Weight as weights;
 
 /// An operation of a debug program. A name or a signature is the number of a text, a type that of a type, and `None`
@@ -48,8 +48,8 @@ pub enum Operation {
 }
 
 impl Operation {
-    ghost use Rattle.dexdebug.specs.Debug.{name_of, type_of, signature_of, with_numbers, unindexed_operation, operation_uses};
-    ghost use Rattle.dexdebug.specs.Operations.{has_places};
+    ghost use Rattle.dexdebug.specs.Debug.{name_of, type_of, signature_of, with_numbers, unindexed_operation};
+    ghost use Rattle.dexdebug.specs.DebugReading.{indices_of};
 
     /// The number of the name of a local variable or of a source file.
     pub fn name_idx(&self) -> Option<u32>
@@ -84,20 +84,20 @@ impl Operation {
         }
     }
 
-    // Returns whether the operation has places for the numbers of symbols.
-    pub(crate) fn has_places(&self) -> bool
-        ensures places { result ≡ has_places self.now }
-        ensures none { result ≡ false → operation_uses self.now ≡ [] }
+    // Returns the number of places for the numbers of symbols.
+    pub(crate) fn index_count(&self) -> usize
+        ensures count { result ≡ length (indices_of self.now) }
+        ensures few { result ≤ 3 }
     {
         match self {
-            Operation::StartLocal { .. } => true,
-            Operation::StartLocalExtended { .. } => true,
-            Operation::SetFile(_) => true,
-            _ => false,
+            Operation::StartLocal { .. } => 2,
+            Operation::StartLocalExtended { .. } => 3,
+            Operation::SetFile(_) => 1,
+            _ => 0,
         }
     }
 
-    // The operation with other numbers in the places of its own.
+    // The operation with the numbers of these places: the name, and then a type and a signature.
     pub(crate) fn with_numbers(
         self,
         name_idx: Option<u32>,

@@ -7,7 +7,7 @@ ghost use Rattle.dexdebug.specs.internal.Writing.{positions_of, with_position};
 
 use crate::debug::Debug;
 use crate::debug_operation::Operation;
-use crate::operations::Operations;
+use crate::operations::OperationIter;
 use std::alloc::{AllocError, Global};
 
 // Returns the amount that an operation adds to the address.
@@ -79,17 +79,16 @@ fn keep(
 fn positions_from(
     alloc: Global,
     line_start: u32,
-    operations: &Operations,
+    operations: OperationIter<'_>,
 ) -> Result<Vec<(u64, i64)>, AllocError>
-    requires few { length operations.now < 2 ^ 30 }
-    requires formed { All IsFormedOperation operations.now }
-    ensures { IfOk result (λ found. found.items ≡ positions_of line_start operations.now) }
+    requires few { length operations < 2 ^ 30 }
+    requires formed { All IsFormedOperation operations }
+    ensures { IfOk result (λ found. found.items ≡ positions_of line_start operations.entry) }
 {
     let mut found = Vec::new(alloc);
     let mut address = 0;
     let mut line = i64::from(line_start);
-    for i in 0..operations.len() {
-        let operation = operations.at(i);
+    for operation in operations {
         address += address_step(&operation);
         line = next_line(line, &operation);
         keep(&mut found, is_special(&operation), address, line)?;
@@ -101,8 +100,8 @@ fn positions_from(
 /// An address is a sum of fewer than 2^30 numbers of 32 bits, and so is a line, so that both fit their types.
 ///
 /// Source: "debug_info_item", "State machine" and "Special opcodes".
-pub fn positions(alloc: Global, debug: &Debug) -> Result<Vec<(u64, i64)>, AllocError>
+pub fn positions(alloc: Global, debug: &Debug<'_>) -> Result<Vec<(u64, i64)>, AllocError>
     ensures { IfOk result (λ found. found.items ≡ recorded.positions (unindexed debug.now)) }
 {
-    positions_from(alloc, debug.line_start, &debug.operations)
+    positions_from(alloc, debug.line_start, debug.operations())
 }

@@ -17,7 +17,8 @@ use crate::debug_opcodes::{
     DBG_START_LOCAL_EXTENDED,
 };
 use crate::debug_operation::Operation;
-use crate::operations::Operations;
+use crate::names::NameIter;
+use crate::operations::OperationIter;
 use dexhead::{Count, Encode, Output};
 use dexpool::Numbering;
 use std::alloc::AllocError;
@@ -106,35 +107,35 @@ impl Encode for Operation {
 }
 
 // Writes names.
-fn encode_names<O: Output>(names: &[Option<u32>], out: &mut O)
-    requires { All FitsIndex names.now }
-    ensures { O.gives (flat_map uleb128p1 names.now) out.old out.new }
+fn encode_names<O: Output>(names: NameIter<'_>, out: &mut O)
+    requires { All FitsIndex names }
+    ensures { O.gives (flat_map uleb128p1 names.entry) out.old out.new }
 {
     for name in names {
-        encode_index(*name, out);
+        encode_index(name, out);
     }
 }
 
 // Writes operations.
-fn encode_operations<O: Output>(operations: &Operations, out: &mut O)
-    requires { All IsFormedOperation operations.now }
-    ensures { O.gives (flat_map numbered_operation_bytes operations.now) out.old out.new }
+fn encode_operations<O: Output>(operations: OperationIter<'_>, out: &mut O)
+    requires { All IsFormedOperation operations }
+    ensures { O.gives (flat_map numbered_operation_bytes operations.entry) out.old out.new }
 {
-    for i in 0..operations.len() {
-        operations.at(i).encode(out);
+    for operation in operations {
+        operation.encode(out);
     }
 }
 
-impl Debug {
+impl Debug<'_> {
     // Writes the debug_info_item.
     fn encode<O: Output>(&self, out: &mut O)
         ensures bytes { O.gives (numbered_debug_bytes self.now) out.old out.new }
         ensures few { length (numbered_debug_bytes self.now) < 2 ^ 63 }
     {
         out.uleb(self.line_start);
-        out.uleb(self.parameter_names.len() as u32);
-        encode_names(&self.parameter_names, out);
-        encode_operations(&self.operations, out);
+        out.uleb(self.names);
+        encode_names(self.parameter_names(), out);
+        encode_operations(self.operations(), out);
         out.byte(DBG_END_SEQUENCE);
     }
 
@@ -153,14 +154,14 @@ impl Debug {
 }
 
 // No debug program with as many names and operations has more bytes.
-fn most_len(debug: &Debug) -> usize
+fn most_len(debug: &Debug<'_>) -> usize
     ensures { length (numbered_debug_bytes debug.now) ≤ result }
 {
-    11 + 5 * debug.parameter_names.len() + 21 * debug.operations.len()
+    11 + 5 * debug.names as usize + 21 * debug.count as usize
 }
 
 // Reserves room for a debug program. It is measured only where there is no room for the longest one.
-fn make_room(debug: &Debug, out: &mut Vec<u8>) -> Result<(), AllocError>
+fn make_room(debug: &Debug<'_>, out: &mut Vec<u8>) -> Result<(), AllocError>
     ensures items { out.new.items ≡ out.old.items }
     ensures len { vec_len out.new ≡ vec_len out.old }
     ensures room { OnOk result (HasRoomFor (numbered_debug_bytes debug.now) out.new) }
@@ -174,7 +175,7 @@ fn make_room(debug: &Debug, out: &mut Vec<u8>) -> Result<(), AllocError>
 }
 
 // Appends a debug program.
-fn put_numbered(debug: &Debug, out: &mut Vec<u8>) -> Result<(), AllocError>
+fn put_numbered(debug: &Debug<'_>, out: &mut Vec<u8>) -> Result<(), AllocError>
     ensures { Puts (numbered_debug_bytes debug.now) out.old out.new result }
 {
     make_room(debug, out)?;
@@ -190,7 +191,7 @@ fn put_numbered(debug: &Debug, out: &mut Vec<u8>) -> Result<(), AllocError>
 ///
 /// Source: "debug_info_item".
 pub fn put_debug(
-    debug: &Debug,
+    debug: &Debug<'_>,
     numbering: &Numbering<'_>,
     out: &mut Vec<u8>,
 ) -> Result<(), AllocError>

@@ -1,11 +1,11 @@
 //! Debug programs read from a file.
 
-ghost use Rattle.std.specs.Prelude.{◌≡◌, ◌↔◌, ℕ, ℤ, ◌+◌, ◌^◌, ◌<◌, ◌≤◌, Option, Some, IsTrue, IfOk, IfErr, IfSome, MatchOption, length};
+ghost use Rattle.std.specs.Prelude.{◌≡◌, ◌↔◌, ℕ, ℤ, ◌+◌, ◌^◌, ◌<◌, ◌≤◌, Option, Some, IsTrue, IfOk, IfErr, IfSome, MatchOption, OnOk, length};
 ghost use Rattle.dexspec.specs.Numbers.{Uleb128At, Sleb128At};
 ghost use Rattle.dexpool.specs.Pools.{ArePools};
 ghost use Rattle.dexdebug.specs.declared.debug_operation.Operation.{Operation};
 ghost use Rattle.dexdebug.specs.declared.debug_reading.Counts.{Counts};
-ghost use Rattle.dexdebug.specs.DebugReading.{IsDebugAt, IsDebugFault, IndexAt, LocalAt, OperandsAt, NumberedDebugAt, EndNames, AreTallied, IsShape, HaveNames, AreTheNames, HaveOperations, AreTheOperations, IsShapeAt, counts_of, HasDebugOfShape};
+ghost use Rattle.dexdebug.specs.DebugReading.{IsDebugAt, IsDebugFault, IndexAt, LocalAt, OperandsAt, NumberedDebugAt, EndNames, AreTallied, IsShape, HaveNames, KeepsNames, KeepsSymbols, IsShapeAt, counts_of, HasDebugOfShape};
 ghost use Rattle.dexdebug.specs.internal.DebugReading.{HasNoDebugIn, IsOnlyLocal, NoNames, NoNumberedDebug, NoProgram};
 
 use crate::debug::Debug;
@@ -15,7 +15,8 @@ use crate::debug_opcodes::{
     DBG_START_LOCAL_EXTENDED,
 };
 use crate::debug_operation::Operation;
-use crate::operations::{Operations, entry_of, keep_named};
+use crate::indices::Index;
+use crate::operations::keep_indices;
 use dexhead::{Condition, Frame};
 use dexleb::{read_p1, read_s, read_u};
 use dexpool::{ItemFault, Pools, SymbolKind};
@@ -23,16 +24,22 @@ use std::alloc::{AllocError, Global};
 
 // How many texts and types there are.
 #[derive(Clone, Copy)]
-struct Counts {
+pub(crate) struct Counts {
     texts: usize,
     types: usize,
 }
 
-// How many operations there are, how much room those with places for numbers take, and what they weigh.
+// As many as a file can have.
+pub(crate) const EVERY: Counts = Counts {
+    texts: u32::MAX as usize,
+    types: u32::MAX as usize,
+};
+
+// How many operations there are, how many places for numbers of symbols they have, and what they weigh.
 #[derive(Clone, Copy)]
 struct Tally {
     operations: usize,
-    named: usize,
+    indices: usize,
     weight: u64,
 }
 
@@ -137,7 +144,12 @@ fn local_at(
 
 // The operation of an opcode, whose operands are at a place, and how many bytes they have.
 #[inline(always)]
-fn operation_at(bytes: &[u8], at: usize, opcode: u8, counts: Counts) -> Option<(Operation, usize)>
+pub(crate) fn operation_at(
+    bytes: &[u8],
+    at: usize,
+    opcode: u8,
+    counts: Counts,
+) -> Option<(Operation, usize)>
     requires within { at ≤ length bytes.now }
     requires some { 0 < opcode }
     ensures found { IfSome result (λ read. OperandsAt counts opcode bytes.now at read.0 read.1) }
@@ -215,7 +227,7 @@ fn check_operations(bytes: &[u8], from: usize, counts: Counts) -> Option<Tally>
         (AreTallied counts bytes.now from) }
 {
     let mut operations = 0;
-    let mut named: usize = 0;
+    let mut indices = 0;
     let mut weight = 0;
     let mut at = from;
     while at < bytes.len() {
@@ -223,13 +235,13 @@ fn check_operations(bytes: &[u8], from: usize, counts: Counts) -> Option<Tally>
         if opcode == DBG_END_SEQUENCE {
             return Some(Tally {
                 operations,
-                named,
+                indices,
                 weight,
             });
         }
         let (operation, len) = operation_at(bytes, at + 1, opcode, counts)?;
         operations += 1;
-        named = named.saturating_add(usize::from(operation.has_places()));
+        indices += operation.index_count();
         weight += 1 + 5 * operation.operands();
         at += 1 + len;
     }
@@ -258,72 +270,87 @@ fn check_numbered(bytes: &[u8], at: usize, counts: Counts) -> Option<DebugShape>
     })
 }
 
-// The names from an offset on.
-fn build_names(
-    alloc: Global,
+// Stores the names from an offset on.
+fn keep_names(
+    indices: &mut Vec<Index>,
     bytes: &[u8],
     from: usize,
     count: u32,
     texts: usize,
-) -> Result<Vec<Option<u32>>, AllocError>
+) -> Result<(), AllocError>
     requires within { from ≤ length bytes.now }
     requires are_encoded { HaveNames texts bytes.now from count }
-    ensures { IfOk result (λ names. AreTheNames texts bytes.now from count names.items) }
+    ensures { OnOk result (KeepsNames texts bytes.now from count indices.old.items indices.new.items) }
 {
-    let mut names = Vec::with_capacity(alloc, count as usize)?;
     let mut at = from;
     for _ in 0..count {
         let (name, len) = index_at(bytes, at, texts).unwrap();
-        names.push(name).unwrap();
+        indices.push(Index::text(name))?;
         at += len;
     }
-    Ok(names)
+    Ok(())
 }
 
-// The operations from an offset on.
-fn build_operations(
-    alloc: Global,
+// Stores the symbols of the operations from an offset on.
+fn keep_symbols(
+    indices: &mut Vec<Index>,
     bytes: &[u8],
     from: usize,
     tally: Tally,
     counts: Counts,
-) -> Result<Operations, AllocError>
+) -> Result<(), AllocError>
     requires within { from ≤ length bytes.now }
-    requires few { tally.operations < 2 ^ 30 }
-    requires are_encoded { HaveOperations counts bytes.now from tally.operations }
-    ensures { IfOk result (λ ops. AreTheOperations counts bytes.now from tally.operations ops) }
+    requires tallied { AreTallied counts bytes.now from tally }
+    ensures { OnOk result
+        (KeepsSymbols counts bytes.now from tally indices.old.items indices.new.items) }
 {
-    let mut entries = Vec::with_capacity(alloc, tally.operations)?;
-    let mut named = Vec::with_capacity(alloc, tally.named)?;
+    if tally.indices == 0 {
+        return Ok(());
+    }
     let mut at = from;
     for _ in 0..tally.operations {
         let (operation, len) = operation_at(bytes, at + 1, bytes[at], counts).unwrap();
-        entries.push(entry_of(operation, named.len())).unwrap();
-        keep_named(&mut named, operation)?;
+        keep_indices(indices, operation)?;
         at += 1 + len;
     }
-    Ok(Operations { entries, named })
+    Ok(())
 }
 
 // The debug program at an offset, in exactly the memory that it takes.
-fn build_numbered(
+fn build_numbered<'a>(
     alloc: Global,
-    bytes: &[u8],
+    bytes: &'a [u8],
     at: usize,
     counts: Counts,
     shape: DebugShape,
-) -> Result<Debug, AllocError>
+) -> Result<Debug<'a>, AllocError>
     requires within { at ≤ length bytes.now }
     requires small { length bytes.now ≤ 2 ^ 30 }
     requires shape { IsShape counts bytes.now at shape }
     ensures { IfOk result (NumberedDebugAt counts bytes.now at) }
 {
-    let parameter_names = build_names(alloc, bytes, shape.names_at, shape.names, counts.texts)?;
-    let operations = build_operations(alloc, bytes, shape.operations_at, shape.tally, counts)?;
+    let mut indices = Vec::with_capacity(alloc, shape.names as usize + shape.tally.indices)?;
+    keep_names(
+        &mut indices,
+        bytes,
+        shape.names_at,
+        shape.names,
+        counts.texts,
+    )?;
+    keep_symbols(
+        &mut indices,
+        bytes,
+        shape.operations_at,
+        shape.tally,
+        counts,
+    )?;
     Ok(Debug {
+        bytes,
+        indices,
+        names: shape.names,
+        at: shape.operations_at as u32,
+        count: shape.tally.operations as u32,
         line_start: shape.line_start,
-        parameter_names,
-        operations,
     })
 }
 
@@ -372,13 +399,13 @@ pub fn check_debug(frame: &Frame<'_>, pools: &Pools<'_>, off: u32) -> Result<Deb
 /// Condition: its shape is that which [`check_debug`] returned.
 ///
 /// Source: "debug_info_item".
-pub fn build_debug(
+pub fn build_debug<'a>(
     alloc: Global,
-    frame: &Frame<'_>,
+    frame: &Frame<'a>,
     pools: &Pools<'_>,
     off: u32,
     shape: DebugShape,
-) -> Result<Debug, AllocError>
+) -> Result<Debug<'a>, AllocError>
     requires { IsShapeAt frame.now off pools.now shape }
     ensures { ArePools frame.now pools.now → IfOk result (IsDebugAt frame.now off pools.now) }
 {
@@ -391,12 +418,12 @@ pub fn build_debug(
 /// Error: as of [`check_debug`]; `Memory` where an allocation failed.
 ///
 /// Source: "debug_info_item".
-pub fn read_debug(
+pub fn read_debug<'a>(
     alloc: Global,
-    frame: &Frame<'_>,
+    frame: &Frame<'a>,
     pools: &Pools<'_>,
     off: u32,
-) -> Result<Debug, ItemFault>
+) -> Result<Debug<'a>, ItemFault>
     ensures debug { ArePools frame.now pools.now → IfOk result (IsDebugAt frame.now off pools.now) }
     ensures refused { ArePools frame.now pools.now → IfErr result (IsDebugFault frame.now off) }
 {

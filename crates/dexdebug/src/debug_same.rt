@@ -7,7 +7,8 @@ ghost use Rattle.dexdebug.specs.internal.Same.{SameRemapped, EqualRemapped};
 
 use crate::debug::Debug;
 use crate::debug_operation::Operation;
-use crate::operations::Operations;
+use crate::names::NameIter;
+use crate::operations::OperationIter;
 use dexpool::{Remap, SymbolKind};
 
 // Returns the image of a number, if it has one.
@@ -67,55 +68,60 @@ fn eq_operations(mine: &Remap, operation: &Operation, theirs: &Remap, other: &Op
 }
 
 // Returns whether two lists of names are equal once remapped.
-fn same_names(mine: &Remap, names: &[Option<u32>], theirs: &Remap, others: &[Option<u32>]) -> bool
-    ensures { IsTrue result ↔ (map (image_or_none mine.now kinds.Text) names.now
-        ≡ map (image_or_none theirs.now kinds.Text) others.now) }
+fn same_names(mine: &Remap, names: NameIter<'_>, theirs: &Remap, mut others: NameIter<'_>) -> bool
+    ensures { IsTrue result ↔ (map (image_or_none mine.now kinds.Text) names.entry
+        ≡ map (image_or_none theirs.now kinds.Text) others.entry) }
 {
-    if names.len() != others.len() {
-        return false;
-    }
-    for (i, name) in names.iter().enumerate() {
-        if !eq_remapped(SymbolKind::Text, mine, *name, theirs, others[i]) {
+    for name in names {
+        let Some(other) = others.next() else {
+            return false;
+        };
+        if !eq_remapped(SymbolKind::Text, mine, name, theirs, other) {
             return false;
         }
     }
-    true
+    others.next().is_none()
 }
 
 // Returns whether two lists of operations are equal, one for one, once remapped.
 fn same_operations(
     mine: &Remap,
-    operations: &Operations,
+    operations: OperationIter<'_>,
     theirs: &Remap,
-    others: &Operations,
+    mut others: OperationIter<'_>,
 ) -> bool
     ensures { IsTrue result
-        ↔ SameRemapped renumbered_operation mine.now theirs.now operations.now others.now }
+        ↔ SameRemapped renumbered_operation mine.now theirs.now operations.entry others.entry }
 {
-    if operations.len() != others.len() {
-        return false;
-    }
-    for i in 0..operations.len() {
-        if !eq_operations(mine, &operations.at(i), theirs, &others.at(i)) {
+    for operation in operations {
+        let Some(other) = others.next() else {
+            return false;
+        };
+        if !eq_operations(mine, &operation, theirs, &other) {
             return false;
         }
     }
-    true
+    others.next().is_none()
 }
 
-impl Debug {
+impl Debug<'_> {
     /// Returns whether two debug programs are the same after each is mapped by its own map. A number without an image
     /// counts as none.
-    pub fn same_mapped(&self, mine: &Remap, other: &Debug, theirs: &Remap) -> bool
+    pub fn same_mapped(&self, mine: &Remap, other: &Debug<'_>, theirs: &Remap) -> bool
         ensures { IsTrue result
             ↔ (renumbered_debug mine.now self.now ≡ renumbered_debug theirs.now other.now) }
     {
         if self.line_start != other.line_start {
             return false;
         }
-        if !same_names(mine, &self.parameter_names, theirs, &other.parameter_names) {
+        if !same_names(
+            mine,
+            self.parameter_names(),
+            theirs,
+            other.parameter_names(),
+        ) {
             return false;
         }
-        same_operations(mine, &self.operations, theirs, &other.operations)
+        same_operations(mine, self.operations(), theirs, other.operations())
     }
 }

@@ -17,6 +17,7 @@ pub use debug_positions::positions;
 pub use debug_put::put_debug;
 pub use debug_reading::{DebugShape, build_debug, check_debug, read_debug};
 pub use meaning_laws::{debug_meaning_law, debug_remapped_law};
+pub use names::NameIter;
 pub use operations::OperationIter;
 
 mod checked_debugs;
@@ -30,5 +31,7 @@ mod debug_positions;
 mod debug_put;
 mod debug_reading;
 mod debug_same;
+mod indices;
 mod meaning_laws;
+mod names;
 mod operations;

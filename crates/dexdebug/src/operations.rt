@@ -1,120 +1,50 @@
 //! The operations of a debug program, as they are stored.
 
-ghost use Rattle.std.specs.Prelude.{◌≡◌, ◌↔◌, ◌∷◌, [], ◌++◌, ◌^◌, ◌<◌, IsTrue, All, IfOk, OnOk, filter, length, map, slice_index_or};
+ghost use Rattle.std.specs.Prelude.{◌≡◌, ◌++◌, OnOk};
 ghost use Rattle.std.specs.Iterator.{YieldsFirst, item_count};
-ghost use Rattle.std.specs.List.{FoldsTo, flat_map};
-ghost use Rattle.std.specs.Cmp.{partial_equiv_from_equiv};
-ghost use Rattle.dexdebug.specs.declared.debug_operation.Operation.{Operation as Meant};
-ghost use Rattle.dexdebug.specs.Debug.{HasPlace, operation_uses, renumbered_operation};
-ghost use Rattle.dexdebug.specs.declared.operations.Entry.{Entry as Kept};
-ghost use Rattle.dexdebug.specs.DebugEquality.{operations_input, eq_operations, operations_equiv, same_operations};
-ghost use Rattle.dexdebug.specs.Operations.{entry_of, has_places, operation_of};
+ghost use Rattle.dexdebug.specs.Debug.{IsFormedOperation};
+ghost use Rattle.dexdebug.specs.DebugReading.{indices_of};
+ghost use Rattle.dexdebug.specs.Operations.{number_in};
 
+use crate::debug_opcodes::DBG_FIRST_SPECIAL;
 use crate::debug_operation::Operation;
-use dexpool::{Remap, Symbols, Visitor, renumber_all, visit_all};
+use crate::debug_reading::{EVERY, operation_at};
+use crate::indices::Index;
 use std::alloc::AllocError;
-use std::hash::{Hash, Hasher};
 use std::marker::Model;
-
-/// An operation as it is stored, in 8 bytes.
-#[derive(Clone, Copy, Debug, PartialEq, Eq, Hash)]
-pub(crate) enum Entry {
-    AdvancePc(u32),
-    AdvanceLine(i32),
-    EndLocal(u32),
-    RestartLocal(u32),
-    SetPrologueEnd,
-    SetEpilogueBegin,
-    Special(u8),
-    /// One that has places for the numbers of symbols: its number among these.
-    Named(u32),
-}
-
-/// The operations of a debug program, in order and without the end. Contracts see a list of them.
-#[derive(Drop)]
-pub(crate) struct Operations {
-    /// Each of them.
-    pub(crate) entries: Vec<Entry>,
-    /// Those that have places for the numbers of symbols, in the same order.
-    pub(crate) named: Vec<Operation>,
-}
-
-impl Model for Operations {
-    ghost use Rattle.std.specs.Prelude.{List, map};
-    ghost use Rattle.dexdebug.specs.declared.debug_operation.Operation.{Operation};
-    ghost use Rattle.dexdebug.specs.Operations.{AreKept, operation_of};
-
-    ghost Value = { List Operation };
-
-    ghost view = { λ o. map (operation_of o.named.items) o.entries.items };
-
-    ghost invariant = { λ o. AreKept (map (operation_of o.named.items) o.entries.items) o.entries.items o.named.items };
-}
-
-// The operation of an entry, where these are the operations with places.
-fn operation_of(entry: Entry, named: &[Operation]) -> Operation
-    ensures { result ≡ operation_of named.now entry }
-{
-    match entry {
-        Entry::AdvancePc(addr_diff) => Operation::AdvancePc(addr_diff),
-        Entry::AdvanceLine(line_diff) => Operation::AdvanceLine(line_diff),
-        Entry::EndLocal(register_num) => Operation::EndLocal(register_num),
-        Entry::RestartLocal(register_num) => Operation::RestartLocal(register_num),
-        Entry::SetPrologueEnd => Operation::SetPrologueEnd,
-        Entry::SetEpilogueBegin => Operation::SetEpilogueBegin,
-        Entry::Special(opcode) => Operation::Special(opcode),
-        Entry::Named(number) => match named.get(number as usize) {
-            Some(operation) => *operation,
-            None => Operation::SetFile(None),
-        },
-    }
-}
-
-// Returns the entry of an operation that comes after `named` operations with places.
-pub(crate) fn entry_of(operation: Operation, named: usize) -> Entry
-    requires { named < 2 ^ 32 }
-    ensures { result ≡ entry_of named operation }
-{
-    match operation {
-        Operation::AdvancePc(addr_diff) => Entry::AdvancePc(addr_diff),
-        Operation::AdvanceLine(line_diff) => Entry::AdvanceLine(line_diff),
-        Operation::EndLocal(register_num) => Entry::EndLocal(register_num),
-        Operation::RestartLocal(register_num) => Entry::RestartLocal(register_num),
-        Operation::SetPrologueEnd => Entry::SetPrologueEnd,
-        Operation::SetEpilogueBegin => Entry::SetEpilogueBegin,
-        Operation::Special(opcode) => Entry::Special(opcode),
-        Operation::StartLocal { .. } => Entry::Named(named as u32),
-        Operation::StartLocalExtended { .. } => Entry::Named(named as u32),
-        Operation::SetFile(_) => Entry::Named(named as u32),
-    }
-}
-
-// Keeps an operation, if it has places.
-pub(crate) fn keep_named(named: &mut Vec<Operation>, operation: Operation) -> Result<(), AllocError>
-    ensures { OnOk result (named.new.items
-        ≡ named.old.items ++ filter has_places (operation ∷ [])) }
-{
-    if operation.has_places() {
-        named.push(operation)?;
-    }
-    Ok(())
-}
 
 /// The operations of a debug program that are left, in order. Contracts see a list of them.
 #[derive(Drop)]
 pub struct OperationIter<'p> {
-    entries: &'p [Entry],
-    named: &'p [Operation],
+    pub(crate) bytes: &'p [u8],
+    /// Where the next one is.
+    pub(crate) at: usize,
+    /// How many are left.
+    pub(crate) count: u32,
+    /// The symbols of those that are left.
+    pub(crate) indices: &'p [Index],
 }
 
 impl<'p> Model for OperationIter<'p> {
-    ghost use Rattle.std.specs.Prelude.{List, map};
+    ghost use Rattle.std.specs.Prelude.{List};
     ghost use Rattle.dexdebug.specs.declared.debug_operation.Operation.{Operation};
-    ghost use Rattle.dexdebug.specs.Operations.{operation_of};
+    ghost use Rattle.dexdebug.specs.Operations.{AreStored, operations_in};
 
     ghost Value = { List Operation };
 
-    ghost view = { λ o. map (operation_of o.named.now) o.entries.now };
+    ghost view = { λ o. operations_in o.count o.bytes.now o.at o.indices.now };
+
+    ghost invariant = { λ o. AreStored o.count o.bytes.now o.at o.indices.now };
+}
+
+// The number at one of the places for them, if there is one.
+fn number_in(indices: &[Index], place: usize) -> Option<u32>
+    ensures { result ≡ number_in indices.now place }
+{
+    match indices.get(place) {
+        Some(index) => index.number.get(),
+        None => None,
+    }
 }
 
 impl<'p> Iterator for OperationIter<'p> {
@@ -125,99 +55,55 @@ impl<'p> Iterator for OperationIter<'p> {
     ghost remaining = { item_count (λ ops. ops) };
 
     fn next(&mut self) -> Option<Operation> {
-        let (entry, left) = self.entries.split_first()?;
-        self.entries = left;
-        Some(operation_of(*entry, self.named))
-    }
-}
-
-impl Operations {
-    // The operations, in order.
-    pub(crate) fn iter(&self) -> OperationIter<'_>
-        ensures { result ≡ self.now }
-    {
-        OperationIter {
-            entries: &self.entries,
-            named: &self.named,
+        if self.count == 0 {
+            return None;
         }
-    }
-
-    // Returns the number of operations.
-    pub(crate) fn len(&self) -> usize
-        ensures { result ≡ length self.now }
-    {
-        self.entries.len()
-    }
-
-    // Returns one of the operations.
-    pub(crate) fn at(&self, i: usize) -> Operation
-        requires { i < length self.now }
-        ensures { (d : Meant) → result ≡ slice_index_or self.now i d }
-    {
-        operation_of(self.entries[i], &self.named)
-    }
-
-    // Passes the symbols of each to the visitor.
-    pub(crate) fn visit<V: Visitor>(&self, visitor: &mut V)
-        ensures { FoldsTo V.step visitor.old (flat_map operation_uses self.now) visitor.new }
-    {
-        visit_all(&self.named, visitor);
-    }
-
-    // Maps each number to its image.
-    pub(crate) fn renumber(&mut self, remap: &Remap)
-        requires { All (HasPlace remap.now) (flat_map operation_uses self.old) }
-        ensures { self.new ≡ map (renumbered_operation remap.now) self.old }
-    {
-        renumber_all(&mut self.named, remap);
-    }
-
-    // Returns a copy of the operations, in lists of their own.
-    pub(crate) fn copy(&self) -> Result<Operations, AllocError>
-        ensures { IfOk result (λ copy. copy ≡ self.now) }
-    {
-        let entries = Vec::from_slice(*self.entries.allocator(), &self.entries)?;
-        let named = Vec::from_slice(*self.named.allocator(), &self.named)?;
-        Ok(Operations { entries, named })
+        let opcode = self.bytes[self.at];
+        if opcode >= DBG_FIRST_SPECIAL {
+            self.at += 1;
+            self.count -= 1;
+            return Some(Operation::Special(opcode));
+        }
+        let (operation, len) = operation_at(self.bytes, self.at + 1, opcode, EVERY).unwrap();
+        let places = operation.index_count();
+        if places == 0 {
+            self.at += 1 + len;
+            self.count -= 1;
+            return Some(operation);
+        }
+        let name_idx = number_in(self.indices, 0);
+        let second = number_in(self.indices, 1);
+        let third = number_in(self.indices, 2);
+        let (_, left) = self.indices.split_at(places);
+        self.at += 1 + len;
+        self.count -= 1;
+        self.indices = left;
+        Some(operation.with_numbers(name_idx, second, third))
     }
 }
 
-impl PartialEq for Operations {
-    ghost use Rattle.dexdebug.specs.contracts.operations.EntryEq.TheImpl.Laws as entries;
-    ghost use Rattle.dexdebug.specs.contracts.debug_operation.OperationEq.TheImpl.Laws as operations;
-
-    ghost eq = { same_operations ⟦<Entry as PartialEq>⟧.eq ⟦<Operation as PartialEq>⟧.eq };
-
-    ghost laws = { partial_equiv_from_equiv (operations_equiv entries.laws-law operations.laws-law) };
-
-    fn eq(&self, other: &Operations) -> bool {
-        self.entries == other.entries && self.named == other.named
+// Stores the numbers of the symbols of an operation.
+pub(crate) fn keep_indices(indices: &mut Vec<Index>, operation: Operation) -> Result<(), AllocError>
+    requires { IsFormedOperation operation }
+    ensures { OnOk result (indices.new.items ≡ indices.old.items ++ indices_of operation) }
+{
+    match operation {
+        Operation::StartLocal {
+            name_idx,
+            type_idx,
+            ..
+        } => indices.extend_from_slice(&[Index::text(name_idx), Index::typ(type_idx)]),
+        Operation::StartLocalExtended {
+            name_idx,
+            type_idx,
+            sig_idx,
+            ..
+        } => indices.extend_from_slice(&[
+            Index::text(name_idx),
+            Index::typ(type_idx),
+            Index::text(sig_idx),
+        ]),
+        Operation::SetFile(name_idx) => indices.extend_from_slice(&[Index::text(name_idx)]),
+        _ => Ok(()),
     }
 }
-
-impl Eq for Operations {
-    ghost use Rattle.dexdebug.specs.contracts.operations.EntryEq.TheImpl.Laws as entries;
-    ghost use Rattle.dexdebug.specs.contracts.debug_operation.OperationEq.TheImpl.Laws as operations;
-
-    ghost laws = { operations_equiv entries.laws-law operations.laws-law };
-}
-
-impl Hash for Operations {
-    ghost use Rattle.dexdebug.specs.contracts.operations.EntryHash.TheImpl.Laws as entries;
-    ghost use Rattle.dexdebug.specs.contracts.debug_operation.OperationHash.TheImpl.Laws as operations;
-
-    ghost hash_input = { operations_input ⟦<Entry as Hash>⟧.hash_input ⟦<Operation as Hash>⟧.hash_input };
-
-    ghost respects_eq = { eq_operations ⟦<Entry as PartialEq>⟧.eq ⟦<Operation as PartialEq>⟧.eq ⟦<Entry as Hash>⟧.hash_input ⟦<Operation as Hash>⟧.hash_input entries.respects_eq-law operations.respects_eq-law };
-
-    fn hash<H: Hasher>(&self, state: &mut H) {
-        self.entries.hash(state);
-        self.named.hash(state);
-    }
-}
-
-// Entries are equal exactly where they are the same. It does nothing: its contract is the law, for the callers that
-// cite it.
-pub(crate) fn entry_equality_law()
-    ensures { (x y : Kept) → IsTrue (⟦<Entry as PartialEq>⟧.eq x y) ↔ (x ≡ y) }
-{}

@@ -21,7 +21,7 @@ use dexpool::Numbering;
 use std::alloc::{AllocError, Global};
 
 // The debug program of a method, if it has one.
-fn debug_of<'p>(method: &Method<'p, '_>) -> Option<&'p Debug>
+fn debug_of<'p, 'a>(method: &Method<'p, 'a>) -> Option<&'p Debug<'a>>
     ensures { MatchOption result (debug_of method.now ≡ None) (λ debug.
         debug_of method.now ≡ Some debug.now) }
 {
@@ -32,9 +32,9 @@ fn debug_of<'p>(method: &Method<'p, '_>) -> Option<&'p Debug>
 }
 
 // Adds the uses of methods.
-fn add_debugs<'p>(
-    sharing: &mut Sharing<&'p Debug>,
-    methods: &Methods<'p, '_>,
+fn add_debugs<'p, 'a>(
+    sharing: &mut Sharing<&'p Debug<'a>>,
+    methods: &Methods<'p, 'a>,
 ) -> Result<(), AllocError>
     ensures { AddsUses SharesDebugs result sharing.old sharing.new AreKnownMethods debugs_uses
         methods.now }
@@ -46,9 +46,9 @@ fn add_debugs<'p>(
 }
 
 // Adds the uses of what a class declares.
-fn add_members<'p>(
-    sharing: &mut Sharing<&'p Debug>,
-    members: &'p Members<'_>,
+fn add_members<'p, 'a>(
+    sharing: &mut Sharing<&'p Debug<'a>>,
+    members: &'p Members<'a>,
 ) -> Result<(), AllocError>
     ensures { AddsUses SharesDebugs result sharing.old sharing.new AreKnownMembers members_debugs
         members.now }
@@ -58,10 +58,10 @@ fn add_members<'p>(
 }
 
 // The debug programs that methods share.
-fn share_debugs<'p>(
+fn share_debugs<'p, 'a>(
     alloc: Global,
-    classes: &'p [Class<'_>],
-) -> Result<Shared<&'p Debug>, AllocError>
+    classes: &'p [Class<'a>],
+) -> Result<Shared<&'p Debug<'a>>, AllocError>
     ensures shared { IfOk result (HaveDebugs classes.now) }
     ensures known { IfOk result (HaveKnownDebugs classes.now) }
 {
@@ -74,7 +74,11 @@ fn share_debugs<'p>(
 }
 
 // Encodes a debug program after the others.
-fn put_next(numbering: &Numbering<'_>, debug: &Debug, items: &mut Items) -> Result<(), AllocError>
+fn put_next(
+    numbering: &Numbering<'_>,
+    debug: &Debug<'_>,
+    items: &mut Items,
+) -> Result<(), AllocError>
     requires { (encode_use 1 items.old (Some (numbered_debug_bytes debug.now))).places.end
         ≤ 2 ^ 30 }
     ensures { OnOk result (items.new
@@ -89,7 +93,7 @@ fn put_next(numbering: &Numbering<'_>, debug: &Debug, items: &mut Items) -> Resu
 fn encode_written(
     alloc: Global,
     numbering: &Numbering<'_>,
-    debugs: &[&Debug],
+    debugs: &[&Debug<'_>],
     from: u32,
 ) -> Result<Items, AllocError>
     requires { (encoded_debugs from debugs.now).places.end ≤ 2 ^ 30 }

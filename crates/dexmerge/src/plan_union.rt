@@ -1,6 +1,6 @@
 //! Programs merged by a plan.
 
-ghost use Rattle.std.specs.Prelude.{◌≡◌, ◌<◌, [], All, IfOk, IfErr, OnOk, length, map, slice_index_or};
+ghost use Rattle.std.specs.Prelude.{◌≡◌, ◌<◌, ◌++◌, [], All, IfOk, IfErr, OnOk, length, map, slice_index_or};
 ghost use Rattle.std.specs.List.{flat_map};
 ghost use Rattle.dexspec.specs.Files.{definitions, AreSame};
 ghost use Rattle.dexspec.specs.Merging.{IsFirstCause, all_leaves};
@@ -43,6 +43,21 @@ fn push_files<'a, 'b>(
     Ok(())
 }
 
+// Merges one file alone.
+fn merge_leaf<'a>(
+    alloc: Global,
+    program: &Program<'a>,
+    caps: &Caps,
+) -> Result<Program<'a>, MergeFault>
+    ensures merged { IfOk result (IsMerged caps.now (definitions program.now ++ [])) }
+    ensures fault { IfErr result
+        (Reports (IsFirstCause caps.now (definitions program.now ++ []))) }
+{
+    let mut leaf = Vec::with_capacity(alloc, 1)?;
+    leaf.push(program)?;
+    merge(alloc, &leaf, caps)
+}
+
 // Merges the parts of a node. Those that are nodes have been merged, and what they made is moved.
 fn merge_node<'a>(
     alloc: Global,
@@ -74,7 +89,7 @@ fn merge_parts<'a>(
     ensures fault { IfErr result (Reports (IsCauseOf caps.now files.now (plan_of plan.now))) }
 {
     match plan {
-        Plan::Leaf(number) => merge(alloc, &[file(files, *number)], caps),
+        Plan::Leaf(number) => merge_leaf(alloc, file(files, *number), caps),
         Plan::Node(parts) => {
             let mut inner = Vec::new(alloc);
             for part in parts {

@@ -37,7 +37,7 @@ pub enum Item<'a> {
     /// A directory of annotations.
     Directory(Directory),
     /// A debug program.
-    Debug(Debug),
+    Debug(Debug<'a>),
     /// A code item.
     Code(Code<'a>),
     /// What a class row declares: its members, annotations and static values.

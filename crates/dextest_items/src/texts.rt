@@ -111,7 +111,7 @@ fn positions_text(alloc: Global, item: &Item<'_>) -> Result<String, CaseFault> {
 }
 
 // Returns the positions of a debug program.
-fn reported_positions(alloc: Global, debug: &Debug) -> Result<String, AllocError> {
+fn reported_positions(alloc: Global, debug: &Debug<'_>) -> Result<String, AllocError> {
     let positions = positions(alloc, debug)?;
     let mut text = Printed::new(alloc);
     text.add_positions(&positions);

@@ -103,7 +103,7 @@ fn a_set_is_put_in_its_room(rt: HostRuntime) {
 /// Puts a debug program in the room of its weight, and returns the bytes and the capacity afterwards.
 fn debug_in_its_weight(
     alloc: Global,
-    debug: &Debug,
+    debug: &Debug<'_>,
     numbering: &Numbering<'_>,
 ) -> Option<(Vec<u8>, usize)> {
     // 11, 1 + 5 for the advance of the line, and 1 for the special operation.

@@ -38,7 +38,7 @@ fn reported_of(alloc: Global, frame: &Frame<'_>, pools: &Pools<'_>) -> Result<St
 }
 
 // Returns the positions of a debug program as text.
-fn reported_positions(alloc: Global, debug: &Debug) -> Result<String, AllocError> {
+fn reported_positions(alloc: Global, debug: &Debug<'_>) -> Result<String, AllocError> {
     let positions = positions(alloc, debug)?;
     let mut text = Printed::new(alloc);
     text.add("ok ");

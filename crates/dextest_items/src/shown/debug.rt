@@ -70,14 +70,16 @@ fn print_operation(operation: &Operation, numbering: &Numbering<'_>, out: &mut P
 }
 
 /// Prints a debug program: its first line, the names of parameters, and the operations.
-pub fn print_debug(debug: &Debug, numbering: &Numbering<'_>, out: &mut Printed) {
+pub fn print_debug(debug: &Debug<'_>, numbering: &Numbering<'_>, out: &mut Printed) {
     print_counted("debug ", i64::from(debug.line_start()), out);
     out.add(" (");
-    let mut mark = "";
+    let mut is_first_name = true;
     for name in debug.parameter_names() {
-        out.add(mark);
-        print_text_or_none(numbering, *name, out);
-        mark = ", ";
+        if !is_first_name {
+            out.add(", ");
+        }
+        print_text_or_none(numbering, name, out);
+        is_first_name = false;
     }
     out.add(")");
     let mut is_first = true;

@@ -1,10 +1,24 @@
-use Rattle.std.proofs.Common.{None}
+use Rattle.std.proofs.Common.{ap, subst}
+use Rattle.std.specs.List.{All, flat_map}
+use Rattle.std.proofs.lemmas.List.Elements.{All-head, All-tail}
 use Rattle.dexspec.specs.Numbers.{uleb128p1}
-use Rattle.dexhead.proofs.Encoded.{given_more, given_all}
+use Rattle.dexhead.proofs.Encoded.{completes_all, completes_more}
+use Rattle.dexdebug.specs.Debug.{FitsIndex}
 use Rattle.dexdebug.proofs.debug_put.encode_names.Goals as goal
 
+pub encode_index-requires : goal.encode_index-requires
+encode_index-requires g c = All-head FitsIndex c.in-Some.name c.next.new.self (subst (All FitsIndex) c.in-Some.ensures.steps c.loop-name.invariant.formed)
+
 pub loop-name-preserved : goal.loop-name-preserved
-loop-name-preserved g c = given_more g.O.Output.gives g.met.O.Output.both uleb128p1 c.args.names.now c.loop-name.name-index None c.args.out.now c.loop-name.out c.encode_index.new.out c.loop-name-test.true c.loop-name.invariant c.encode_index.ensures
+loop-name-preserved g c =
+    let steps = c.in-Some.ensures.steps in
+    record {
+      formed = All-tail FitsIndex c.in-Some.name c.next.new.self (subst (All FitsIndex) steps c.loop-name.invariant.formed);
+      completes = completes_more g.O.Output.gives g.met.O.Output.both (uleb128p1 c.in-Some.name) (flat_map uleb128p1 c.next.new.self) (flat_map uleb128p1 c.loop-name.name-iterator) (flat_map uleb128p1 c.args.names)
+          c.args.out.now c.loop-name.out c.encode_index.new.out (ap (flat_map uleb128p1) steps) c.loop-name.invariant.completes c.encode_index.ensures;
+    }
 
 pub returns : goal.returns
-returns g c = given_all g.O.Output.gives g.met.O.Output.both uleb128p1 c.args.names.now c.loop-name.name-index c.args.out.now c.loop-name.out c.loop-name-test.false c.loop-name.invariant
+returns g c =
+    completes_all g.O.Output.gives g.met.O.Output.nothing (flat_map uleb128p1 c.loop-name.name-iterator) (flat_map uleb128p1 c.args.names) c.args.out.now c.loop-name.out
+    (ap (flat_map uleb128p1) c.in-None.ensures.steps.0) c.loop-name.invariant.completes

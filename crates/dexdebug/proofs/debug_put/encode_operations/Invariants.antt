@@ -1,7 +1,10 @@
-use Rattle.std.proofs.Common.{take}
-use Rattle.std.specs.List.{flat_map}
-use Rattle.dexdebug.specs.Debug.{numbered_operation_bytes}
+use Rattle.std.specs.List.{All, flat_map}
+use Rattle.dexhead.proofs.Encoded.{Completes}
+use Rattle.dexdebug.specs.Debug.{IsFormedOperation, numbered_operation_bytes}
 use Rattle.dexdebug.proofs.debug_put.encode_operations.Given as goal
 
-abbrev pub invariant-loop-i : goal.invariant-loop-i
-invariant-loop-i g l = g.O.Output.gives (flat_map numbered_operation_bytes (take l.i l.operations)) l.initial.out l.out
+abbrev pub invariant-loop-operation : goal.invariant-loop-operation
+invariant-loop-operation g l = record {
+  formed : All IsFormedOperation l.operation-iterator;
+  completes : Completes g.O.Output.gives (flat_map numbered_operation_bytes l.operation-iterator) l.out (flat_map numbered_operation_bytes l.fn.operations) l.initial.out;
+}

@@ -27,8 +27,8 @@ returns-in-Leaf-clause-fault t c =
     let files = c.args.files.now in
     let is = leaf_is c.args.plan.now c.in-Leaf.number c.in-Leaf.is in
     let same : planned files (merging.Leaf c.in-Leaf.number) ≡ definitions c.file.result.now ++ [] = ap (λ (l : List Definition). l ++ []) (sym c.file.ensures) in
-    IfErr-weaker c.merge.result _ _ (λ f h. subst (λ (p : merging.Plan). Reports (IsCauseOf c.args.caps.now files p) f) (sym is)
-    (first_reports files c.args.caps.now (merging.Leaf c.in-Leaf.number) f (subst (λ (D : List Definition). Reports (IsFirstCause c.args.caps.now D) f) (sym same) h))) c.merge.ensures.fault
+    IfErr-weaker c.merge_leaf.result _ _ (λ f h. subst (λ (p : merging.Plan). Reports (IsCauseOf c.args.caps.now files p) f) (sym is)
+    (first_reports files c.args.caps.now (merging.Leaf c.in-Leaf.number) f (subst (λ (D : List Definition). Reports (IsFirstCause c.args.caps.now D) f) (sym same) h))) c.merge_leaf.ensures.fault
 
 pub loop-part-preserved-in-Leaf-part : goal.loop-part-preserved-in-Leaf-part
 loop-part-preserved-in-Leaf-part t c =

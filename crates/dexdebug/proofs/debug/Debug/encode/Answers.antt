@@ -1,21 +1,28 @@
-use Rattle.std.proofs.Common.{ℕ, length, ap, ◌∙◌, subst, arith}
-use Rattle.std.specs.List.{flat_map}
+use Rattle.std.proofs.Common.{ℕ, length, ap, sym, ◌∙◌, subst, arith}
+use Rattle.std.specs.List.{All, flat_map}
 use Rattle.dexspec.specs.Numbers.{uleb128, uleb128p1}
-use Rattle.dexdebug.specs.Debug.{NumberedDebug, numbered_debug_bytes}
+use Rattle.dexdebug.specs.Debug.{FitsIndex, IsFormedOperation, numbered_operation_bytes, numbered_debug_bytes}
 use Rattle.dexdebug.proofs.DebugMeanings.{bytes_most}
 use Rattle.dexdebug.proofs.Encoded.{debug_given}
+use Rattle.dexdebug.proofs.StoredOperations.{names_many}
 use Rattle.dexdebug.proofs.debug.Debug.encode.Goals as goal
+
+pub encode_names-requires : goal.encode_names-requires
+encode_names-requires g c = subst (All FitsIndex) (ap (λ d. d.parameter_names) c.self.view_is ∙ sym c.parameter_names.ensures) c.self.invariant.0.names_fit
+
+pub encode_operations-requires : goal.encode_operations-requires
+encode_operations-requires g c = subst (All IsFormedOperation) (ap (λ d. d.operations) c.self.view_is ∙ sym c.operations.ensures) c.self.invariant.0.operations_fit
 
 pub returns-clause-bytes : goal.returns-clause-bytes
 returns-clause-bytes g c =
     let gives = g.O.Output.gives in
-    let d : NumberedDebug = record { line_start = c.self.inside.line_start; parameter_names = c.self.inside.parameter_names.items; operations = c.self.inside.operations } in
-    let count = subst (λ (n : ℕ). gives (uleb128 n) c.uleb.new.self c.uleb-2.new.self) (c.len.ensures ∙ c.self.inside.parameter_names.ok.0) c.uleb-2.ensures in
-    let names = subst (λ xs. gives (flat_map uleb128p1 xs) c.uleb-2.new.self c.encode_names.new.out) c.deref.ensures.value c.encode_names.ensures in
-    subst (λ x. gives (numbered_debug_bytes x) c.args.out.now c.byte.new.self) c.self.view_is
-    (debug_given gives g.met.O.Output.both d c.args.out.now c.uleb.new.self c.uleb-2.new.self c.encode_names.new.out c.encode_operations.new.out c.byte.new.self c.uleb.ensures count names c.encode_operations.ensures c.byte.ensures)
+    let start = subst (λ (n : ℕ). gives (uleb128 n) c.args.out.now c.uleb.new.self) (ap (λ d. d.line_start) c.self.view_is) c.uleb.ensures in
+    let many = sym (names_many c.self.inside.names c.self.inside.count c.self.inside.bytes.now c.self.inside.at c.self.inside.indices.items c.self.invariant.1) ∙ ap (λ d. length d.parameter_names) c.self.view_is in
+    let count = subst (λ (n : ℕ). gives (uleb128 n) c.uleb.new.self c.uleb-2.new.self) many c.uleb-2.ensures in
+    let names = subst (λ xs. gives (flat_map uleb128p1 xs) c.uleb-2.new.self c.encode_names.new.out) c.parameter_names.ensures c.encode_names.ensures in
+    let operations = subst (λ xs. gives (flat_map numbered_operation_bytes xs) c.encode_names.new.out c.encode_operations.new.out) c.operations.ensures c.encode_operations.ensures in
+    debug_given gives g.met.O.Output.both c.args.self.now c.args.out.now c.uleb.new.self c.uleb-2.new.self c.encode_names.new.out c.encode_operations.new.out c.byte.new.self start count names operations c.byte.ensures
 
 pub returns-clause-few : goal.returns-clause-few
 returns-clause-few g c =
-    let d : NumberedDebug = record { line_start = c.self.inside.line_start; parameter_names = c.self.inside.parameter_names.items; operations = c.self.inside.operations } in
-    omega (arith, bytes_most d, ap (λ x. length (numbered_debug_bytes x)) c.self.view_is, c.self.invariant.names_count, c.self.invariant.operations_count)
+    omega (arith, bytes_most c.args.self.now, ap (λ d. length d.parameter_names) c.self.view_is, ap (λ d. length d.operations) c.self.view_is, c.self.invariant.0.names_count, c.self.invariant.0.operations_count)

@@ -1,29 +1,29 @@
-use Rattle.std.proofs.Common.{subst, sym, ◌∙◌, ap, map}
+use Rattle.std.proofs.Common.{subst, sym, ◌∙◌, ap}
 use Rattle.std.specs.List.{All, flat_map}
-use Rattle.dexpool.specs.declared.symbols.SymbolKind.TheVariants as kinds
-use Rattle.dexdebug.specs.Debug.{NumberedDebug, HasPlace, IsFormedDebug, number_uses, operation_uses, debug_uses, image_or_none, renumbered_debug}
+use Rattle.dexpool.proofs.Parts.{all_parts}
+use Rattle.dexdebug.specs.Debug.{HasPlace, IsFormedDebug, number_uses, debug_uses, renumbered_debug}
+use Rattle.dexdebug.specs.declared.indices.Index.{Index}
+use Rattle.dexdebug.specs.Operations.{stored_debug}
 use Rattle.dexdebug.proofs.DebugUses.{debug_formed}
-use Rattle.dexpool.proofs.Parts.{all_prefix, all_back}
+use Rattle.dexdebug.proofs.StoredOperations.{renumbered_stored, renumbered_view, stored_uses}
 use Rattle.dexdebug.proofs.debug.Debug.renumber.Goals as goal
 
-pub renumber_names-requires : goal.renumber_names-requires
-renumber_names-requires c =
-    all_prefix (HasPlace c.args.remap.now) (flat_map (number_uses kinds.Text) c.self.inside.parameter_names.items) (flat_map operation_uses c.self.inside.operations)
-    (subst (λ d. All (HasPlace c.args.remap.now) (debug_uses d)) (sym c.self.view_is) c.requires)
-
-pub renumber-requires : goal.renumber-requires
-renumber-requires c =
-    all_back (HasPlace c.args.remap.now) (flat_map (number_uses kinds.Text) c.self.inside.parameter_names.items) (flat_map operation_uses c.self.inside.operations)
-    (subst (λ d. All (HasPlace c.args.remap.now) (debug_uses d)) (sym c.self.view_is) c.requires)
+pub renumber_all-requires : goal.renumber_all-requires
+renumber_all-requires c =
+    let uses = stored_uses c.self.inside.names c.self.inside.count c.self.inside.bytes.now c.self.inside.at c.self.inside.indices.items c.self.invariant.1 c.self.inside.line_start ∙ ap debug_uses c.self.view_is in
+    all_parts (HasPlace c.args.remap.now) (λ (i : Index). number_uses i.kind i.number) c.self.inside.indices.items (subst (All (HasPlace c.args.remap.now)) (sym uses) c.requires)
 
 pub invariant_of-self : goal.invariant_of-self
 invariant_of-self c =
-    let d : NumberedDebug = record { line_start = c.self.inside.line_start; parameter_names = c.self.inside.parameter_names.items; operations = c.self.inside.operations } in
-    let formed : IsFormedDebug (renumbered_debug c.args.remap.now d) = debug_formed c.args.remap.now d (subst (λ x. All (HasPlace c.args.remap.now) (debug_uses x)) (sym c.self.view_is) c.requires) c.self.invariant in
-    subst (λ xs. IsFormedDebug (record { line_start = c.self.inside.line_start; parameter_names = xs; operations = c.renumber.new.self })) (sym c.renumber_names.ensures)
-    (subst (λ xs. IsFormedDebug (record { line_start = c.self.inside.line_start; parameter_names = map (image_or_none c.args.remap.now kinds.Text) c.self.inside.parameter_names.items; operations = xs })) (sym c.renumber.ensures) formed)
+    let r = c.args.remap.now in
+    let d = stored_debug c.self.inside.line_start c.self.inside.names c.self.inside.count c.self.inside.bytes.now c.self.inside.at c.self.inside.indices.items in
+    let js = c.renumber_all.new.items.items in
+    let view = renumbered_view c.self.inside.names c.self.inside.count c.self.inside.bytes.now c.self.inside.at c.self.inside.indices.items c.self.invariant.1 r js c.renumber_all.ensures c.self.inside.line_start in (
+      subst IsFormedDebug (sym view) (debug_formed r d (subst (λ x. All (HasPlace r) (debug_uses x)) (sym c.self.view_is) c.requires) c.self.invariant.0),
+      renumbered_stored c.self.inside.names c.self.inside.count c.self.inside.bytes.now c.self.inside.at c.self.inside.indices.items c.self.invariant.1 r js c.renumber_all.ensures,
+    )
 
 pub returns : goal.returns
 returns c =
-    (λ i. record { line_start = c.self.inside.line_start; parameter_names = c.renumber_names.ensures i; operations = c.renumber.ensures i })
+    renumbered_view c.self.inside.names c.self.inside.count c.self.inside.bytes.now c.self.inside.at c.self.inside.indices.items c.self.invariant.1 c.args.remap.now c.renumber_all.new.items.items c.renumber_all.ensures c.self.inside.line_start
     ∙ ap (renumbered_debug c.args.remap.now) c.self.view_is

@@ -1,14 +1,16 @@
-use Rattle.std.proofs.Common.{ap, arith}
-use Rattle.dexspec.specs.Weight.{debug_weight}
-use Rattle.dexdebug.specs.Debug.{NumberedDebug, unindexed}
+use Rattle.std.proofs.Common.{ap, length, sum_by, arith}
+use Rattle.dexdebug.specs.Debug.{operation_weight}
 use Rattle.dexdebug.proofs.DebugWeights.{weight_is}
+use Rattle.dexdebug.proofs.StoredOperations.{names_many}
 use Rattle.dexdebug.proofs.debug.Debug.weight.Goals as goal
+
+pub operations_weight-requires : goal.operations_weight-requires
+operations_weight-requires c = omega (arith, ap length c.operations.ensures, ap (λ d. length d.operations) c.self.view_is, c.self.invariant.0.operations_count)
 
 pub overflow_add-result-2 : goal.overflow_add-result-2
 overflow_add-result-2 c =
-    omega (arith, c.operations_weight.ensures.bound, c.self.invariant.operations_count, c.self.invariant.names_count, c.len.ensures, c.self.inside.parameter_names.ok.0)
+    omega (arith, c.operations_weight.ensures.bound, ap length c.operations.ensures, ap (λ d. length d.operations) c.self.view_is, c.self.invariant.0.operations_count)
 
 pub returns : goal.returns
 returns c =
-    let d : NumberedDebug = record { line_start = c.self.inside.line_start; parameter_names = c.self.inside.parameter_names.items; operations = c.self.inside.operations } in
-    omega (arith, weight_is d, c.operations_weight.ensures.sum, c.len.ensures, c.self.inside.parameter_names.ok.0, ap (λ x. debug_weight (unindexed x)) c.self.view_is)
+    omega (arith, weight_is c.args.self.now, names_many c.self.inside.names c.self.inside.count c.self.inside.bytes.now c.self.inside.at c.self.inside.indices.items c.self.invariant.1, ap (λ d. length d.parameter_names) c.self.view_is, c.operations_weight.ensures.sum, ap (sum_by operation_weight) c.operations.ensures)

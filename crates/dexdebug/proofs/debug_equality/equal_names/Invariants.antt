@@ -1,0 +1,7 @@
+use Rattle.std.proofs.Common.{◌≡◌, ◌==◌}
+use Rattle.std.specs.Cmp.Lexicographic.{pointwise}
+use Rattle.std.specs.Option.{option_eq}
+use Rattle.dexdebug.proofs.debug_equality.equal_names.Given as goal
+
+abbrev pub invariant-loop-name : goal.invariant-loop-name
+invariant-loop-name l = pointwise (option_eq ◌==◌) l.name-iterator l.others ≡ pointwise (option_eq ◌==◌) l.fn.mine l.fn.others

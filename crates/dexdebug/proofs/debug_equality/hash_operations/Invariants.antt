@@ -1,0 +1,8 @@
+use Rattle.std.proofs.Common.{◌≡◌}
+use Rattle.std.specs.List.{flat_map, fold}
+use Rattle.dexdebug.specs.contracts.debug_operation.OperationHash.TheImpl.{hash_input-value}
+use Rattle.dexdebug.proofs.debug_equality.hash_operations.Given as goal
+
+abbrev pub invariant-loop-operation : goal.invariant-loop-operation
+invariant-loop-operation g l =
+    fold g.H.Hasher.write l.state (flat_map hash_input-value.it l.operation-iterator) ≡ fold g.H.Hasher.write l.initial.state (flat_map hash_input-value.it l.fn.operations)

@@ -1,4 +1,5 @@
 pub mod Indices
+pub mod ClassStarts
 pub mod Interfaces
 pub mod RowConditions
 pub mod RowClasses

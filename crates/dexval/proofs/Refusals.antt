@@ -64,8 +64,3 @@ item_refused At weighs budget item weight one is e =
 pub directory_refused_within : (b : List ℕ) (off most : ℕ) (fault : ItemFault) → IsFaultWithin (DirectoryAt b off) directory_weight 0 most fault → IsDirectoryFaultWithin b off most fault
 directory_refused_within b off most (Refused number) h = elim h [ inl none ↦ inl none | inr heavy ↦ inr (heavy.0, λ d at. omega (arith, heavy.2 d at)) ]
 directory_refused_within b off most Memory h = tt
-
--- no directory exceeds 2^64 - 1, which is no bound
-pub directory_refused_unbounded : (b : List ℕ) (off most : ℕ) → most ≡ 2 ^ 64 - 1 → (fault : ItemFault) → IsFaultWithin (DirectoryAt b off) directory_weight 0 most fault → IsDirectoryFault b off fault
-directory_refused_unbounded b off most e (Refused number) h = elim h [ inl none ↦ none | inr heavy ↦ absurd (omega (arith, heavy.1, e)) ]
-directory_refused_unbounded b off most e Memory h = tt

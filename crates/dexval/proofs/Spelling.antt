@@ -175,10 +175,6 @@ mutual
         elements_lengths_are m es r h.2,
       )
 
--- static values
-pub array_lengths_are : (m : Mentions) (xs : NumberedValues) (vs : Values) → AreRising m → Denote m xs vs → length (numbered_array_bytes xs) ≡ length (encoded_array_bytes m vs)
-array_lengths_are m xs vs rising are_encoded = count_lengths m xs (values_lengths_are m xs rising are_encoded.known) ∙ ap (λ (l : Values). length (encoded_array_bytes m l)) are_encoded.mean
-
 -- an annotation
 pub annotation_lengths_are : (m : Mentions) (x : NumberedAnnotation) (a : Annotation) → AreRising m → DenotesAnnotation m x a → length (numbered_annotation_bytes x) ≡ length (annotation_bytes m a)
 annotation_lengths_are m x a rising encodes =

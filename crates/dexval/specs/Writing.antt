@@ -46,17 +46,9 @@ statics_length values = length (numbered_array_bytes (values_of values))
 abbrev pub annotation_length : Annotation → ℕ
 annotation_length annotation = length (numbered_annotation_bytes (annotation_of annotation))
 
--- the size of what static values denote in a numbering, or 2^64 - 1 if it is more
-abbrev pub IsStaticsSize : NumberedValues → ℕ → Type 0
-IsStaticsSize xs size = (m : Mentions) (symbolic : ValuesMeant) → AreRising m → Denote m xs symbolic → size ≡ min (2 ^ 64 - 1) (length (encoded_array_bytes m symbolic))
-
 -- the size of what an annotation denotes in a numbering, or 2^64 - 1 if it is more
 abbrev pub IsAnnotationSize : NumberedAnnotation → ℕ → Type 0
 IsAnnotationSize x size = (m : Mentions) (symbolic : AnnotationMeant) → AreRising m → DenotesAnnotation m x symbolic → size ≡ min (2 ^ 64 - 1) (length (annotation_bytes m symbolic))
-
--- the size of an item of a count and that many offsets
-abbrev pub IsSizeOfOffsets : ℕ → ℕ → Type 0
-IsSizeOfOffsets count size = (offsets : List ℕ) → length offsets ≡ count → size ≡ length (offsets_bytes offsets)
 
 -- ---- weights
 

@@ -1,13 +1,12 @@
 //! Whether the numbers in values and sets of annotations map to numbers of 32 bits.
 
 ghost use Rattle.std.specs.Prelude.{◌↔◌, IsTrue, map};
-ghost use Rattle.dexval.specs.Code.{value_of, element_of, annotation_of, set_of};
+ghost use Rattle.dexval.specs.Code.{value_of, set_of};
 ghost use Rattle.dexval.specs.Numbered.{values_of_list};
-ghost use Rattle.dexval.specs.Renumbering.{HasPlaces, HavePlaces, ElementHasPlaces, AnnotationHasPlaces, SetHasPlaces};
+ghost use Rattle.dexval.specs.Renumbering.{HasPlaces, HavePlaces, SetHasPlaces};
 
-use crate::annotation::Annotation;
 use crate::set::AnnotationSet;
-use crate::value::{Element, Value};
+use crate::value::Value;
 use crate::visiting::visit_values;
 use dexpool::{Fits, Remap, all_fit};
 
@@ -30,27 +29,6 @@ impl Value {
         let mut fits = Fits { remap, fit: true };
         self.visit(&mut fits);
         fits.fit
-    }
-}
-
-impl Element {
-    /// Whether the number of the name, and each number in the value, maps to a number below 2^32.
-    #[tactic(auto, using(dexpool::proofs::Visits::all_fit))]
-    pub fn fits(&self, remap: &Remap) -> bool
-        ensures { IsTrue result ↔ ElementHasPlaces remap.now (element_of self.now) }
-    {
-        let mut fits = Fits { remap, fit: true };
-        self.visit(&mut fits);
-        fits.fit
-    }
-}
-
-impl Annotation {
-    /// Whether the number of the type, and each number in the elements, maps to a number below 2^32.
-    pub fn fits(&self, remap: &Remap) -> bool
-        ensures { IsTrue result ↔ AnnotationHasPlaces remap.now (annotation_of self.now) }
-    {
-        all_fit(self, remap)
     }
 }
 

@@ -30,7 +30,7 @@ pub use set_checking::{SetShape, check_set};
 pub use set_put::put_set;
 pub use set_reading::read_set;
 pub use set_table::SetTable;
-pub use sizes::{annotation_size, ref_list_size, set_size, statics_size};
+pub use sizes::{annotation_size, ref_list_size};
 pub use value::{Element, EncodedAnnotation, Value};
 pub use value_checking::{StaticsShape, ValueShape, check_statics, check_value};
 pub use value_reading::{read_statics, read_value};

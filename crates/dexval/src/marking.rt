@@ -1,14 +1,13 @@
 //! Marks on the symbols that occur in values and in sets of annotations.
 
 ghost use Rattle.std.specs.Prelude.{All, map};
-ghost use Rattle.dexval.specs.Code.{value_of, element_of, annotation_of, set_of};
+ghost use Rattle.dexval.specs.Code.{value_of, set_of};
 ghost use Rattle.dexval.specs.Numbered.{values_of_list};
 ghost use Rattle.dexpool.specs.Uses.{HasMark, AreMarkedToo};
-ghost use Rattle.dexval.specs.Uses.{value_uses, values_uses, element_uses, annotation_uses, set_uses};
+ghost use Rattle.dexval.specs.Uses.{value_uses, values_uses, set_uses};
 
-use crate::annotation::Annotation;
 use crate::set::AnnotationSet;
-use crate::value::{Element, Value};
+use crate::value::Value;
 use crate::visiting::visit_values;
 use dexpool::{Marks, mark};
 
@@ -34,31 +33,6 @@ impl Value {
         ensures { AreMarkedToo (value_uses (value_of self.now)) marks.old marks.new }
     {
         self.visit(marks);
-    }
-}
-
-impl Element {
-    /// Marks the name, and each symbol that occurs in the value.
-    ///
-    /// Condition: there is a mark for each of them.
-    #[tactic(auto, using(dexpool::proofs::Visits::all_marked))]
-    pub fn mark(&self, marks: &mut Marks)
-        requires { All (HasMark marks.old) (element_uses (element_of self.now)) }
-        ensures { AreMarkedToo (element_uses (element_of self.now)) marks.old marks.new }
-    {
-        self.visit(marks);
-    }
-}
-
-impl Annotation {
-    /// Marks the type, and each symbol that occurs in the elements.
-    ///
-    /// Condition: there is a mark for each of them.
-    pub fn mark(&self, marks: &mut Marks)
-        requires { All (HasMark marks.old) (annotation_uses (annotation_of self.now)) }
-        ensures { AreMarkedToo (annotation_uses (annotation_of self.now)) marks.old marks.new }
-    {
-        mark(self, marks);
     }
 }
 

@@ -37,8 +37,7 @@ pub fn put_value(
     put_encoded(&ValueItem { value }, out)
 }
 
-/// Appends the initial values of static fields (an encoded_array_item), each as [`put_value`] does. The number of bytes
-/// is [`statics_size`](crate::statics_size).
+/// Appends the initial values of static fields (an encoded_array_item), each as [`put_value`] does.
 ///
 /// On error the vector is unchanged. There is no error if the spare capacity is at least the weight of the values, and
 /// there is a value. 2^32 values or more, and arrays and annotations of that many members among them, which no file

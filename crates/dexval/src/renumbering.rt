@@ -76,7 +76,7 @@ impl Value {
 impl Element {
     /// Replaces the number of the name, and each number in the value, by the one that it maps to.
     ///
-    /// Condition: each number maps to a number below 2^32, which [`fits`](Element::fits) checks.
+    /// Condition: each number maps to a number below 2^32.
     #[cycle(renumbering)]
     pub fn renumber(&mut self, remap: &Remap)
         requires { ElementHasPlaces remap.now (element_of self.old) }
@@ -104,7 +104,7 @@ impl EncodedAnnotation {
 impl Annotation {
     /// Replaces the number of the type, and each number in the elements, by the one that it maps to.
     ///
-    /// Condition: each number maps to a number below 2^32, which [`fits`](Annotation::fits) checks.
+    /// Condition: each number maps to a number below 2^32.
     pub fn renumber(&mut self, remap: &Remap)
         requires { AnnotationHasPlaces remap.now (annotation_of self.old) }
         ensures { annotation_of self.new

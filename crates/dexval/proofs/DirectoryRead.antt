@@ -1,5 +1,5 @@
 -- The pairs and lists of a directory of annotations, as they are read.
-use Rattle.std.proofs.Common.{◌≡◌, ◌≢◌, ℕ, zero, suc, ◌+◌, ◌*◌, ◌<◌, ◌≤◌, true, List, [], ◌∷◌, ◌++◌, length, map, sum_by, refl, ap, sym, subst, ◌∙◌, arith, inl, inr}
+use Rattle.std.proofs.Common.{◌≡◌, ◌≢◌, ℕ, zero, suc, ◌+◌, ◌*◌, ◌<◌, ◌≤◌, true, List, [], ◌∷◌, ◌++◌, length, map, sum_by, refl, ap, sym, subst, ◌∙◌, arith, inl, inr, append_assoc}
 use Rattle.std.proofs.lemmas.Bool.{cases_lt}
 use Rattle.std.specs.Prelude.{All}
 use Rattle.std.specs.List.{AllZip}
@@ -16,7 +16,6 @@ use Rattle.dexspec.specs.Mentions.{Mentions}
 use Rattle.dexspec.specs.Weight.{set_weight, ref_list_weight}
 use Rattle.dexspec.proofs.determined.OneClass.{one_set}
 use Rattle.dexspec.proofs.determined.OneRow.{one_all_zip, one_or_none}
-use Rattle.dexspec.proofs.lists.Members.{and_first, and_second, and_both}
 use Rattle.dexspec.proofs.size.SizeSums.{sum_by-map}
 use Rattle.dexspec.proofs.wellformed.FormedRows.{length-uints_at, length-zip}
 use Rattle.dexval.specs.Numbered.{NumberedSet, IsKnownSet, set_in, field_at, method_at}
@@ -25,6 +24,7 @@ use Rattle.dexval.specs.Items.{NoSetAt, HasOffsets}
 use Rattle.dexval.specs.Directories.{IsSetOrEmptyAt, NoSetOrEmptyAt, IsRefListAt, NoRefListAt, IsIndexBelow, HasPair, ArePairsAt, NoPairsAt, HasMembers, NoDirectoryAt, directory_weight, set_weight_in}
 use Rattle.dexval.specs.Reading.{IsSetAt, IsDirectoryAt}
 use Rattle.dexval.proofs.Refusals.{HasPart}
+use Rattle.dexval.proofs.Rising.{rises_more, rises_next, split_at}
 use Rattle.dexval.proofs.SetsRead.{uints_more, zip_more}
 
 -- ---- a set, or none
@@ -71,21 +71,11 @@ member_of R weighs (l ∷ ks) k rest (x ∷ xs) h =
 
 -- ---- lists of sets
 
-uints_split : (b : List ℕ) (p n i : ℕ) → i < n → (rest : List ℕ) × (uints_at b p n ≡ uints_at b p i ++ uint_at b (p + 4 * i) ∷ rest)
-uints_split b p zero i lt = absurd (omega arith)
-uints_split b p (suc n) zero lt =
-    let place : p ≡ p + 4 * zero = omega arith in
-    (uints_at b (p + 4) n, ap (λ (o : ℕ). uint_at b o ∷ uints_at b (p + 4) n) place)
-uints_split b p (suc n) (suc i) lt =
-    let place : p + 4 + 4 * i ≡ p + 4 * suc i = omega arith in
-    let r = uints_split b (p + 4) n i (omega arith) in
-    (r.0, ap (λ (l : List ℕ). uint_at b p ∷ l) r.1 ∙ ap (λ (o : ℕ). uint_at b p ∷ (uints_at b (p + 4) i ++ uint_at b o ∷ r.0)) place)
-
 -- a set of a list
 set_of_list : (b : List ℕ) (o i : ℕ) (ss : List AnnotationSet) → i < uint_at b o → RefListAt b o ss → MemberAt (OrNone SetAt [] b) (uints_at b (o + 4) i) (uint_at b (o + 4 + 4 * i)) set_weight (sum_by set_weight ss)
 set_of_list b o i ss lt h =
     let R = OrNone SetAt [] b in
-    let split = uints_split b (o + 4) (uint_at b o) i lt in
+    let split = split_at (uints_at b (o + 4)) (λ k. uint_at b (o + 4 + 4 * k)) (uints_more b (o + 4)) (uint_at b o) i lt in
     member_of R set_weight (uints_at b (o + 4) i) (uint_at b (o + 4 + 4 * i)) split.0 ss (subst (λ (l : List ℕ). AllZip R l ss) split.1 h.sets)
 
 -- the first i sets were read
@@ -155,22 +145,12 @@ pairs_more b p (suc k) =
     let place : p + 8 + 8 * k ≡ p + 8 * suc k = omega arith in
     ap (λ (l : List (ℕ × ℕ)). (uint_at b p, uint_at b (p + 4)) ∷ l) (pairs_more b (p + 8) k) ∙ ap (λ (x : ℕ). (uint_at b p, uint_at b (p + 4)) ∷ (pairs_at b (p + 8) k ++ (uint_at b x, uint_at b (x + 4)) ∷ [])) place
 
-pairs_split : (b : List ℕ) (p n i : ℕ) → i < n → (rest : List (ℕ × ℕ)) × (pairs_at b p n ≡ pairs_at b p i ++ (uint_at b (p + 8 * i), uint_at b (p + 8 * i + 4)) ∷ rest)
-pairs_split b p zero i lt = absurd (omega arith)
-pairs_split b p (suc n) zero lt =
-    let place : p ≡ p + 8 * zero = omega arith in
-    (pairs_at b (p + 8) n, ap (λ (o : ℕ). (uint_at b o, uint_at b (o + 4)) ∷ pairs_at b (p + 8) n) place)
-pairs_split b p (suc n) (suc i) lt =
-    let place : p + 8 + 8 * i ≡ p + 8 * suc i = omega arith in
-    let r = pairs_split b (p + 8) n i (omega arith) in
-    (r.0, ap (λ (l : List (ℕ × ℕ)). (uint_at b p, uint_at b (p + 4)) ∷ l) r.1 ∙ ap (λ (o : ℕ). (uint_at b p, uint_at b (p + 4)) ∷ (pairs_at b (p + 8) i ++ (uint_at b o, uint_at b (o + 4)) ∷ r.0)) place)
-
 -- a pair of a list
 pair_of : {Y : Type 0} (At : List ℕ → ℕ → Y → Type 0) (weighs : Y → ℕ) (b : List ℕ) (p n limit i : ℕ) (entries : List (ℕ × Y)) → i < n → PairsAt (IsIndexBelow limit) At b p n entries
     → MemberAt (PairAt (IsIndexBelow limit) At b) (pairs_at b p i) (uint_at b (p + 8 * i), uint_at b (p + 8 * i + 4)) (λ e. weighs e.1) (sum_by (λ e. weighs e.1) entries)
 pair_of At weighs b p n limit i entries lt g =
     let R = PairAt (IsIndexBelow limit) At b in
-    let split = pairs_split b p n i lt in
+    let split = split_at (pairs_at b p) (λ k. (uint_at b (p + 8 * k), uint_at b (p + 8 * k + 4))) (pairs_more b p) n i lt in
     member_of R (λ e. weighs e.1) (pairs_at b p i) (uint_at b (p + 8 * i), uint_at b (p + 8 * i + 4)) split.0 entries (subst (λ (l : List (ℕ × ℕ)). AllZip R l entries) split.1 g.pairs)
 
 -- at most one list of pairs is there
@@ -188,33 +168,21 @@ is_less i j lt = grind arith
 less_is : (i j : ℕ) → is_lt (nat_cmp i j) ≡ true → i < j
 less_is i j e = grind arith
 
+indices_more : (b : List ℕ) (p k : ℕ) → indices_at b p (suc k) ≡ indices_at b p k ++ uint_at b (p + 8 * k) ∷ []
+indices_more b p k = ap (map (λ (pair : ℕ × ℕ). pair.0)) (pairs_more b p k) ∙ map-append (λ (pair : ℕ × ℕ). pair.0) (pairs_at b p k) ((uint_at b (p + 8 * k), uint_at b (p + 8 * k + 4)) ∷ [])
+
 rise_more : (b : List ℕ) (p k : ℕ) → rises nat_cmp (indices_at b p (suc k)) ≡ true → uint_at b (p + 8 * k) < uint_at b (p + 8 * suc k) → rises nat_cmp (indices_at b p (suc (suc k))) ≡ true
-rise_more b p zero h lt =
-    let one : p + 8 * zero ≡ p = omega arith in
-    let two : p + 8 * suc zero ≡ p + 8 = omega arith in
-    let less : uint_at b p < uint_at b (p + 8) = subst (λ (o : ℕ). uint_at b p < uint_at b o) two (subst (λ (o : ℕ). uint_at b o < uint_at b (p + 8 * suc zero)) one lt) in
-    and_both (is_lt (nat_cmp (uint_at b p) (uint_at b (p + 8)))) true (is_less (uint_at b p) (uint_at b (p + 8)) less) refl
-rise_more b p (suc k) h lt =
-    let first = is_lt (nat_cmp (uint_at b p) (uint_at b (p + 8))) in
-    let one : p + 8 * suc k ≡ p + 8 + 8 * k = omega arith in
-    let two : p + 8 * suc (suc k) ≡ p + 8 + 8 * suc k = omega arith in
-    let less : uint_at b (p + 8 + 8 * k) < uint_at b (p + 8 + 8 * suc k) = subst (λ (o : ℕ). uint_at b (p + 8 + 8 * k) < uint_at b o) two (subst (λ (o : ℕ). uint_at b o < uint_at b (p + 8 * suc (suc k))) one lt) in
-    and_both first (rises nat_cmp (indices_at b (p + 8) (suc (suc k)))) (and_first first (rises nat_cmp (indices_at b (p + 8) (suc k))) h)
-    (rise_more b (p + 8) k (and_second first (rises nat_cmp (indices_at b (p + 8) (suc k))) h) less)
+rise_more b p k h lt =
+    let next = uint_at b (p + 8 * suc k) in
+    ap (rises nat_cmp) (indices_more b p (suc k) ∙ ap (λ (l : List ℕ). l ++ next ∷ []) (indices_more b p k))
+    ∙ rises_more nat_cmp (indices_at b p k) (uint_at b (p + 8 * k)) next (ap (rises nat_cmp) (sym (indices_more b p k)) ∙ h) (is_less (uint_at b (p + 8 * k)) next lt)
 
 rise_at : (b : List ℕ) (p n i : ℕ) → suc i < n → rises nat_cmp (indices_at b p n) ≡ true → uint_at b (p + 8 * i) < uint_at b (p + 8 * suc i)
-rise_at b p zero i lt h = absurd (omega arith)
-rise_at b p (suc zero) i lt h = absurd (omega arith)
-rise_at b p (suc (suc n)) zero lt h =
-    let one : p ≡ p + 8 * zero = omega arith in
-    let two : p + 8 ≡ p + 8 * suc zero = omega arith in
-    let less = less_is (uint_at b p) (uint_at b (p + 8)) (and_first (is_lt (nat_cmp (uint_at b p) (uint_at b (p + 8)))) (rises nat_cmp (indices_at b (p + 8) (suc n))) h) in
-    subst (λ (o : ℕ). uint_at b (p + 8 * zero) < uint_at b o) two (subst (λ (o : ℕ). uint_at b o < uint_at b (p + 8)) one less)
-rise_at b p (suc (suc n)) (suc i) lt h =
-    let one : p + 8 + 8 * i ≡ p + 8 * suc i = omega arith in
-    let two : p + 8 + 8 * suc i ≡ p + 8 * suc (suc i) = omega arith in
-    let less = rise_at b (p + 8) (suc n) i (omega arith) (and_second (is_lt (nat_cmp (uint_at b p) (uint_at b (p + 8)))) (rises nat_cmp (indices_at b (p + 8) (suc n))) h) in
-    subst (λ (o : ℕ). uint_at b (p + 8 * suc i) < uint_at b o) two (subst (λ (o : ℕ). uint_at b o < uint_at b (p + 8 + 8 * suc i)) one less)
+rise_at b p n i lt h =
+    let index : ℕ → ℕ = λ k. uint_at b (p + 8 * k) in
+    let split = split_at (indices_at b p) index (indices_more b p) n (suc i) lt in
+    let whole = split.1 ∙ ap (λ (l : List ℕ). l ++ index (suc i) ∷ split.0) (indices_more b p i) ∙ append_assoc (indices_at b p i) (index i ∷ []) (index (suc i) ∷ split.0) in
+    less_is (index i) (index (suc i)) (rises_next nat_cmp (indices_at b p i) (index i) (index (suc i)) split.0 (ap (rises nat_cmp) (sym whole) ∙ h))
 
 -- the least value of the next index
 abbrev pub least_after : List ℕ → ℕ → ℕ → ℕ

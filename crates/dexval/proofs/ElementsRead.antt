@@ -1,7 +1,7 @@
 -- Elements that are read one after the other: the numbers of their names rise as the names do, the elements that were
 -- read are in the file, and the other elements come after them.
 use Rattle.std.proofs.Common.{◌≡◌, ℕ, suc, ◌+◌, ◌-◌, ◌<◌, ◌≤◌, max, true, List, [], ◌∷◌, ◌++◌, length, refl, ap, sym, subst, ◌∙◌, arith}
-use Rattle.std.specs.Ordering.{is_lt, nat_cmp}
+use Rattle.std.specs.Ordering.{is_lt}
 use Rattle.std.proofs.lemmas.List.{length-append}
 use Rattle.dexspec.specs.Lists.{rises}
 use Rattle.dexspec.specs.Numbers.{Uleb128At}
@@ -9,13 +9,12 @@ use Rattle.dexspec.specs.Texts.{Text, text_cmp}
 use Rattle.dexspec.specs.Rows.{StringRow, TypeRow}
 use Rattle.dexspec.specs.Values.{Value, Elements, NoElements, ThenElement, ValueAt, ElementsAt, value_depth, elements_depth, names_of}
 use Rattle.dexspec.specs.Mentions.{Mentions}
-use Rattle.dexspec.proofs.lists.Members.{and_first, and_second, and_both}
+use Rattle.dexspec.proofs.lists.Members.{and_first, and_second}
 use Rattle.dexspec.proofs.determined.OneNumber.{one_uleb128}
 use Rattle.dexspec.proofs.determined.OneRow.{one_string}
 use Rattle.dexspec.proofs.determined.OneValue.{one_value}
-use Rattle.dexspec.proofs.merge.SymbolOrders.{text_total}
-use Rattle.dexpool.proofs.NumberOrder.{places_agree}
 use Rattle.dexval.specs.Numbered.{NumberedValue, NumberedElements, HaveKnown, IsKnown, elements_in, value_in, elements_of_list, text_at, type_at}
+use Rattle.dexval.proofs.Rising.{is_less, is_greater, rises_more}
 use Rattle.dexval.specs.Nesting.{HasPools, NoElementAt, IsElementReadAt, NoElementsAt, AreElementsReadAt, NoAnnotationAt, IsAnnotationReadAt}
 
 -- the name of the first element, if there is one, has at least this number
@@ -45,16 +44,6 @@ pub record HaveReadOf (b : List ℕ) (o : ℕ) (m : Mentions) (depth count i lea
   pub rest : RestOf b o depth count 0 → RestOf b (o + k) depth (count - i) least
 
 module _ (b : List ℕ) (m : Mentions) (file : HasPools b m) where
-  -- texts are in the order of their numbers
-  texts_agree : (i j : ℕ) → i < length m.texts → j < length m.texts → nat_cmp i j ≡ text_cmp (text_at m i) (text_at m j)
-  texts_agree i j lt lt' = places_agree text_cmp text_total m.texts file.rising.texts_rise i j [] [] lt lt'
-
-  is_less : (i j : ℕ) → i < j → j < length m.texts → is_lt (text_cmp (text_at m i) (text_at m j)) ≡ true
-  is_less i j lt room = ap is_lt (sym (texts_agree i j (omega arith) room)) ∙ grind arith
-
-  is_greater : (i j : ℕ) → i < length m.texts → j < length m.texts → is_lt (text_cmp (text_at m i) (text_at m j)) ≡ true → i < j
-  is_greater i j lt lt' e = let n : is_lt (nat_cmp i j) ≡ true = ap is_lt (texts_agree i j lt lt') ∙ e in grind arith
-
   -- the text of a row, and the rows that are counted
   row_within : (index : ℕ) (name : Text) → StringRow b index name → index < length m.texts
   row_within index name r = omega (arith, r.row, file.pools.texts_are.count)
@@ -80,13 +69,6 @@ module _ (b : List ℕ) (m : Mentions) (file : HasPools b m) where
   number_is : (es : List (ℕ × NumberedValue)) → length (names_of (elements_in m (elements_of_list es))) ≡ length es
   number_is [] = refl
   number_is (e ∷ es) = ap suc (number_is es)
-
-  -- rising texts with one more text at the end
-  rises_more : (ns : List Text) (s t : Text) → rises text_cmp (ns ++ s ∷ []) ≡ true → is_lt (text_cmp s t) ≡ true → rises text_cmp ((ns ++ s ∷ []) ++ t ∷ []) ≡ true
-  rises_more [] s t h lt = and_both (is_lt (text_cmp s t)) true lt refl
-  rises_more (n ∷ []) s t h lt = and_both (is_lt (text_cmp n s)) (rises text_cmp (s ∷ t ∷ [])) (and_first (is_lt (text_cmp n s)) true h) (and_both (is_lt (text_cmp s t)) true lt refl)
-  rises_more (n ∷ o ∷ ns) s t h lt =
-      and_both (is_lt (text_cmp n o)) (rises text_cmp ((o ∷ ns ++ s ∷ []) ++ t ∷ [])) (and_first (is_lt (text_cmp n o)) (rises text_cmp (o ∷ ns ++ s ∷ [])) h) (rises_more (o ∷ ns) s t (and_second (is_lt (text_cmp n o)) (rises text_cmp (o ∷ ns ++ s ∷ [])) h) lt)
 
   encoded_more : (o : ℕ) (es : List (ℕ × NumberedValue)) (e : ℕ × NumberedValue) (k head size : ℕ) → ElementsAt b o (elements_in m (elements_of_list es)) k
       → Uleb128At b (o + k) e.0 head → e.0 < length m.texts → ValueAt b (o + k + head) (value_in m e.1) size → ElementsAt b o (elements_in m (elements_of_list (es ++ e ∷ []))) (k + (head + size))
@@ -134,7 +116,7 @@ module _ (b : List ℕ) (m : Mentions) (file : HasPools b m) where
   above_next index name (ThenElement second v es) r h = λ other row.
       let less = and_first (is_lt (text_cmp name second)) (rises text_cmp (second ∷ names_of es)) h in
       let texts : is_lt (text_cmp (text_at m index) (text_at m other)) ≡ true = ap is_lt (ap (λ (s : Text). text_cmp s (text_at m other)) (sym (row_text index name r)) ∙ ap (text_cmp name) (sym (row_text other second row))) ∙ less in
-      omega (arith, is_greater index other (row_within index name r) (row_within other second row) texts)
+      omega (arith, is_greater m.texts file.rising.texts_rise index other (row_within index name r) (row_within other second row) texts)
 
   rise_next : (name : Text) (es : Elements) → rises text_cmp (name ∷ names_of es) ≡ true → rises text_cmp (names_of es) ≡ true
   rise_next name NoElements h = refl
@@ -183,7 +165,7 @@ module _ (b : List ℕ) (m : Mentions) (file : HasPools b m) where
         are_encoded = subst (λ (n : ℕ). ElementsAt b o (elements_in m (elements_of_list (es ++ e ∷ []))) (k + n)) (sym r.sum) (encoded_more o es e k r.head r.size h.are_encoded r.index r.name_known r.value.encodes);
         shallow = omega (arith, depth_more es e, h.shallow, r.value.shallow);
         rise = ap (rises text_cmp) (names_more es e) ∙ risen;
-        below = λ index le within. ap (λ (l : List Text). rises text_cmp (l ++ text_at m index ∷ [])) (names_more es e) ∙ rises_more ns (text_at m e.0) (text_at m index) risen (is_less e.0 index (omega (arith, le)) within);
+        below = λ index le within. ap (λ (l : List Text). rises text_cmp (l ++ text_at m index ∷ [])) (names_more es e) ∙ rises_more text_cmp ns (text_at m e.0) (text_at m index) risen (is_less m.texts file.rising.texts_rise e.0 index (omega (arith, le)) within);
         rest = λ all.
             let n = next (o + k) depth (count - i) least (omega arith) (h.rest all) in
             let name = one_uleb128 b (o + k) n.index e.0 n.head r.head n.names r.index in

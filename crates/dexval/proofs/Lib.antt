@@ -28,6 +28,7 @@ pub mod Offsets
 pub mod Ranked
 pub mod Refusals
 pub mod Renumbered
+pub mod Rising
 pub mod Unmoved
 pub mod ScalarsRead
 pub mod SetsChecked

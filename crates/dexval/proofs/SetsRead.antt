@@ -3,7 +3,7 @@
 use Rattle.std.proofs.Common.{◌≡◌, ℕ, zero, suc, ◌+◌, ◌-◌, ◌*◌, ◌<◌, ◌≤◌, true, List, [], ◌∷◌, ◌++◌, length, map, refl, ap, sym, subst, ◌∙◌, arith}
 use Rattle.std.specs.Prelude.{slice_index}
 use Rattle.std.specs.List.{AllZip}
-use Rattle.std.specs.Ordering.{is_lt, nat_cmp}
+use Rattle.std.specs.Ordering.{is_lt}
 use Rattle.std.proofs.lemmas.List.{map-append}
 use Rattle.std.proofs.lemmas.List.Elements.{All-append, All-cons, All-nil}
 use Rattle.dexspec.specs.Lists.{rises}
@@ -14,15 +14,14 @@ use Rattle.dexspec.specs.Rows.{TypeRow}
 use Rattle.dexspec.specs.Values.{most_depth}
 use Rattle.dexspec.specs.Annotations.{Annotation, AnnotationSet, AnnotationAt, SetAt}
 use Rattle.dexspec.specs.Mentions.{Mentions}
-use Rattle.dexspec.proofs.lists.Members.{and_first, and_second, and_both}
+use Rattle.dexspec.proofs.lists.Members.{and_first, and_second}
 use Rattle.dexspec.proofs.determined.OneClass.{one_annotation_item}
 use Rattle.dexspec.proofs.determined.OneRow.{one_type}
-use Rattle.dexspec.proofs.merge.SymbolOrders.{text_total}
-use Rattle.dexpool.proofs.NumberOrder.{places_agree}
 use Rattle.dexval.specs.Numbered.{NumberedAnnotation, NumberedElements, IsKnownSet, IsKnownAnnotation, annotation_in, set_in, type_at}
 use Rattle.dexval.specs.Nesting.{HasPools, NoAnnotationAt, IsAnnotationReadAt}
 use Rattle.dexval.specs.Items.{IsItemAt, NoItemAt, NoSetAt, HasOffsets}
 use Rattle.dexval.specs.Reading.{IsSetAt}
+use Rattle.dexval.proofs.Rising.{is_less, is_greater, one_number, rises_more}
 use Rattle.dexval.proofs.Shapes.{first_is, is_at_byte}
 
 -- ---- one annotation
@@ -54,14 +53,6 @@ zip_more R [] (y ∷ ys) a x h r = absurd h
 zip_more R (c ∷ cs) [] a x h r = absurd h
 zip_more R (c ∷ cs) (y ∷ ys) a x h r = (h.0, zip_more R cs ys a x h.1 r)
 
--- rising texts with one more text at the end
-rises_more : (ns : List Text) (s t : Text) → rises text_cmp (ns ++ s ∷ []) ≡ true → is_lt (text_cmp s t) ≡ true → rises text_cmp ((ns ++ s ∷ []) ++ t ∷ []) ≡ true
-rises_more [] s t h lt = and_both (is_lt (text_cmp s t)) true lt refl
-rises_more (n ∷ []) s t h lt = and_both (is_lt (text_cmp n s)) (rises text_cmp (s ∷ t ∷ [])) (and_first (is_lt (text_cmp n s)) true h) (and_both (is_lt (text_cmp s t)) true lt refl)
-rises_more (n ∷ o ∷ ns) s t h lt =
-    and_both (is_lt (text_cmp n o)) (rises text_cmp ((o ∷ ns ++ s ∷ []) ++ t ∷ [])) (and_first (is_lt (text_cmp n o)) (rises text_cmp (o ∷ ns ++ s ∷ [])) h)
-    (rises_more (o ∷ ns) s t (and_second (is_lt (text_cmp n o)) (rises text_cmp (o ∷ ns ++ s ∷ [])) h) lt)
-
 -- the type of the first annotation, if there is one, has at least this number
 abbrev pub IsAbove : List ℕ → ℕ → AnnotationSet → Type 0
 IsAbove b least [] = Unit {0}
@@ -84,15 +75,6 @@ pub record HaveReadSet (b : List ℕ) (p : ℕ) (m : Mentions) (count i least : 
   pub rest : RestOf b p count 0 → RestOf b (p + 4 * i) (count - i) least
 
 module _ (b : List ℕ) (m : Mentions) (file : HasPools b m) where
-  types_agree : (i j : ℕ) → i < length m.types → j < length m.types → nat_cmp i j ≡ text_cmp (type_at m i) (type_at m j)
-  types_agree i j lt lt' = places_agree text_cmp text_total m.types file.rising.types_rise i j [] [] lt lt'
-
-  is_less : (i j : ℕ) → i < j → j < length m.types → is_lt (text_cmp (type_at m i) (type_at m j)) ≡ true
-  is_less i j lt room = ap is_lt (sym (types_agree i j (omega arith) room)) ∙ grind arith
-
-  is_greater : (i j : ℕ) → i < length m.types → j < length m.types → is_lt (text_cmp (type_at m i) (type_at m j)) ≡ true → i < j
-  is_greater i j lt lt' e = let n : is_lt (nat_cmp i j) ≡ true = ap is_lt (types_agree i j lt lt') ∙ e in grind arith
-
   row_within : (index : ℕ) (t : Text) → TypeRow b index t → index < length m.types
   row_within index t r = omega (arith, r.row, file.pools.types_are.count)
 
@@ -104,7 +86,7 @@ module _ (b : List ℕ) (m : Mentions) (file : HasPools b m) where
   above_next index t (a ∷ s) r h = λ other row.
       let less = and_first (is_lt (text_cmp t a.type)) (rises text_cmp (a.type ∷ map (λ a. a.type) s)) h in
       let texts : is_lt (text_cmp (type_at m index) (type_at m other)) ≡ true = ap is_lt (ap (λ (x : Text). text_cmp x (type_at m other)) (sym (row_type index t r)) ∙ ap (text_cmp t) (sym (row_type other a.type row))) ∙ less in
-      omega (arith, is_greater index other (row_within index t r) (row_within other a.type row) texts)
+      omega (arith, is_greater m.types file.rising.types_rise index other (row_within index t r) (row_within other a.type row) texts)
 
   rise_next : (t : Text) (s : AnnotationSet) → rises text_cmp (t ∷ map (λ a. a.type) s) ≡ true → rises text_cmp (map (λ a. a.type) s) ≡ true
   rise_next t [] h = refl
@@ -159,21 +141,16 @@ module _ (b : List ℕ) (m : Mentions) (file : HasPools b m) where
         are_encoded = subst (λ (l : List ℕ). AllZip (AnnotationAt b) l (set_in m (xs ++ x ∷ []))) (sym (ap (uints_at b p) count_more ∙ uints_more b p i))
             (subst (λ (s : AnnotationSet). AllZip (AnnotationAt b) (uints_at b p i ++ uint_at b (p + 4 * i) ∷ []) s) (sym (map-append (annotation_in m) xs (x ∷ []))) (zip_more (AnnotationAt b) (uints_at b p i) (set_in m xs) (uint_at b (p + 4 * i)) (annotation_in m x) h.are_encoded r.at));
         rise = ap (rises text_cmp) more ∙ risen;
-        below = λ index above within. ap (λ (l : List Text). rises text_cmp (l ++ type_at m index ∷ [])) more ∙ rises_more (types xs) (type_at m x.type) (type_at m index) risen (is_less x.type index (omega (arith, above)) within);
+        below = λ index above within. ap (λ (l : List Text). rises text_cmp (l ++ type_at m index ∷ [])) more ∙ rises_more text_cmp (types xs) (type_at m x.type) (type_at m index) risen (is_less m.types file.rising.types_rise x.type index (omega (arith, above)) within);
         rest = λ all.
             let n = next (p + 4 * i) (count - i) least (omega arith) (h.rest all) in
             let same = one_annotation_item b (uint_at b (p + 4 * i)) n.first (annotation_in m x) n.encodes r.at in
-            let name : n.index ≡ x.type = same_index n.index x.type (row_within n.index n.first.type n.row) r.known.type_in (sym (row_type n.index n.first.type n.row) ∙ ap (λ (a : Annotation). a.type) same) in
+            let name : n.index ≡ x.type = one_number m.types file.rising.types_rise n.index x.type (row_within n.index n.first.type n.row) r.known.type_in (sym (row_type n.index n.first.type n.row) ∙ ap (λ (a : Annotation). a.type) same) in
             let place : p + 4 * i + 4 ≡ p + 4 * (i + 1) = omega arith in
             let left : count - i - 1 ≡ count - (i + 1) = omega arith in
             subst (λ (k : ℕ). RestOf b (p + 4 * (i + 1)) (count - (i + 1)) (k + 1)) name
             (subst (λ (c : ℕ). RestOf b (p + 4 * (i + 1)) c (n.index + 1)) left (subst (λ (o : ℕ). RestOf b o (count - i - 1) (n.index + 1)) place n.following));
       }
-    where
-      same_index : (j k : ℕ) → j < length m.types → k < length m.types → type_at m j ≡ type_at m k → j ≡ k
-      same_index j k lt lt' e =
-          let tied : nat_cmp j k ≡ nat_cmp k k = types_agree j k lt lt' ∙ ap (λ (t : Text). text_cmp t (type_at m k)) e ∙ sym (types_agree k k lt' lt') in
-          grind arith
 
   all_above : (s : AnnotationSet) → IsAbove b 0 s
   all_above [] = tt
@@ -194,14 +171,8 @@ module _ (b : List ℕ) (m : Mentions) (file : HasPools b m) where
       let n = next (o + 4 + 4 * i) (uint_at b o - i) least (omega arith) (h.rest (rest_of o s set)) in
       let same = one_annotation_item b (uint_at b (o + 4 + 4 * i)) n.first (annotation_in m x) n.encodes r.at in
       let row : TypeRow b n.index (type_at m x.type) = subst (TypeRow b n.index) (ap (λ (a : Annotation). a.type) same) n.row in
-      let is : x.type ≡ n.index = same_row x.type n.index r.known.type_in row in
+      let is : x.type ≡ n.index = one_number m.types file.rising.types_rise x.type n.index r.known.type_in (row_within n.index (type_at m x.type) row) (row_type n.index (type_at m x.type) row) in
       omega (arith, n.above, is, less)
-    where
-      same_row : (j k : ℕ) → j < length m.types → TypeRow b k (type_at m j) → j ≡ k
-      same_row j k lt row =
-          let within = row_within k (type_at m j) row in
-          let tied : nat_cmp j k ≡ nat_cmp k k = types_agree j k lt within ∙ ap (λ (t : Text). text_cmp t (type_at m k)) (row_type k (type_at m j) row) ∙ sym (types_agree k k within within) in
-          grind arith
 
   -- all were read
   pub all_read : (o i least : ℕ) (xs : List NumberedAnnotation) → HasOffsets b o → i ≡ uint_at b o → HaveReadSet b (o + 4) m (uint_at b o) i least xs → IsSetAt b o m xs

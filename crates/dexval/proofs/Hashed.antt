@@ -1,6 +1,7 @@
 -- The hash input of values and annotations, member by member.
 use Rattle.std.proofs.Common.{◌≡◌, ℕ, ◌+◌, ◌<◌, ◌≤◌, List, [], ◌∷◌, ◌++◌, get_or, length, take, map, fold, refl, sym, ap, ◌∙◌, append_assoc}
-use Rattle.std.proofs.lemmas.List.{take_all, take_more, map-append, append-nil, length-map}
+use Rattle.std.proofs.lemmas.List.{take_all, take_more, append-nil, length-map}
+use Rattle.std.proofs.lemmas.List.Folds.{flat_map-map}
 use Rattle.std.proofs.lemmas.Grind.{flat_map-append}
 use Rattle.std.specs.List.{flat_map}
 use Rattle.std.specs.Hash as fed
@@ -12,82 +13,60 @@ use Rattle.dexval.specs.declared.value.Element.{Element}
 use Rattle.dexval.specs.declared.value.EncodedAnnotation.{EncodedAnnotation, out-EncodedAnnotation}
 use Rattle.dexval.specs.Code.{value_of, element_of, elements_of, encoded_of, encoded_type, encoded_elements, annotation_of}
 use Rattle.dexval.specs.Equality.{value_input, values_input, elements_input, encoded_input, annotation_input}
-use Rattle.dexval.specs.Numbered.{NumberedValue, NumberedElements, NumberedAnnotation, Array, values_of_list, elements_of_list}
+use Rattle.dexval.specs.Numbered.{NumberedValue, Array, values_of_list, elements_of_list}
 use Rattle.dexval.proofs.CodeForms.{element_is, array_is, annotation_is}
-use Rattle.dexval.proofs.Growing.{values_more, elements_more}
 use Rattle.dexval.proofs.Members.{count_values_is, count_elements_is}
 
--- ---- values
+-- ---- lists, member by member
 
-values_input_both : (xs ys : List NumberedValue) → values_input (values_of_list (xs ++ ys)) ≡ values_input (values_of_list xs) ++ values_input (values_of_list ys)
-values_input_both [] ys = refl
-values_input_both (x ∷ xs) ys =
-    ap (λ (l : fed.HashWrites). value_input x ++ l) (values_input_both xs ys) ∙ sym (append_assoc (value_input x) (values_input (values_of_list xs)) (values_input (values_of_list ys)))
+-- the hash input of a value of the code
+abbrev pub value_fed : Value → fed.HashWrites
+value_fed v = value_input (value_of v)
 
--- the hash input of values of the code
-abbrev pub values_fed : List Value → fed.HashWrites
+-- of an element
+abbrev pub element_fed : Element → fed.HashWrites
+element_fed e = fed.u32 e.name ++ value_fed e.value
+
+-- of an annotation
+abbrev pub annotation_fed : Annotation → fed.HashWrites
+annotation_fed a = annotation_input (annotation_of a)
+
+-- of values
+abbrev values_fed : List Value → fed.HashWrites
 values_fed xs = values_input (values_of_list (map value_of xs))
 
-one_value : (xs : List Value) (i : ℕ) (d : Value) → i < length xs → d ≡ get_or xs i d → values_fed (take i xs) ++ value_input (value_of d) ≡ values_fed (take (i + 1) xs)
-one_value xs i d lt e =
-    sym (ap (λ (l : List NumberedValue). values_input (values_of_list l)) (values_more xs i d lt e) ∙ values_input_both (map value_of (take i xs)) (value_of d ∷ [])
-    ∙ ap (λ (l : fed.HashWrites). values_fed (take i xs) ++ l) (append-nil (value_input (value_of d))))
+-- of elements
+abbrev elements_fed : List Element → fed.HashWrites
+elements_fed xs = elements_input (elements_of xs)
 
--- ---- elements
+pub values_are_fed : (xs : List Value) → flat_map value_fed xs ≡ values_fed xs
+values_are_fed [] = refl
+values_are_fed (x ∷ xs) = ap (λ (l : fed.HashWrites). value_fed x ++ l) (values_are_fed xs)
 
-elements_input_both : (xs ys : List (ℕ × NumberedValue)) → elements_input (elements_of_list (xs ++ ys)) ≡ elements_input (elements_of_list xs) ++ elements_input (elements_of_list ys)
-elements_input_both [] ys = refl
-elements_input_both ((n, x) ∷ xs) ys =
-    ap (λ (l : fed.HashWrites). (fed.u32 n ++ value_input x) ++ l) (elements_input_both xs ys) ∙ sym (append_assoc (fed.u32 n ++ value_input x) (elements_input (elements_of_list xs)) (elements_input (elements_of_list ys)))
+pub elements_are_fed : (xs : List Element) → flat_map element_fed xs ≡ elements_fed xs
+elements_are_fed [] = refl
+elements_are_fed (x ∷ xs) =
+    ap (λ (l : fed.HashWrites). element_fed x ++ l) (elements_are_fed xs) ∙ ap (λ (e : ℕ × NumberedValue). elements_input (elements_of_list (e ∷ map element_of xs))) (sym (element_is x))
 
--- the hash input of elements of the code
-abbrev pub elements_fed : List Element → fed.HashWrites
-elements_fed xs = elements_input (elements_of_list (map element_of xs))
+pub annotations_are_fed : (xs : List Annotation) → fed.usize (length xs) ++ flat_map annotation_fed xs ≡ fed.slice annotation_input (map annotation_of xs)
+annotations_are_fed xs = λ k. fed.usize (sym (length-map xs annotation_of) k) ++ sym (flat_map-map annotation_input annotation_of xs) k
 
-one_element : (xs : List Element) (i : ℕ) (d : Element) → i < length xs → d ≡ get_or xs i d → elements_fed (take i xs) ++ (fed.u32 d.name ++ value_input (value_of d.value)) ≡ elements_fed (take (i + 1) xs)
-one_element xs i d lt e =
-    sym (ap (λ (l : List (ℕ × NumberedValue)). elements_input (elements_of_list l)) (elements_more xs i d lt e) ∙ elements_input_both (map element_of (take i xs)) (element_of d ∷ [])
-    ∙ ap (λ (x : ℕ × NumberedValue). elements_fed (take i xs) ++ elements_input (elements_of_list (x ∷ []))) (element_is d)
-    ∙ ap (λ (l : fed.HashWrites). elements_fed (take i xs) ++ l) (append-nil (fed.u32 d.name ++ value_input (value_of d.value))))
+-- a list, after `first`
+module _ {S X : Type 0} (write : S → List ℕ → S) (feed : X → fed.HashWrites) (first : fed.HashWrites) where
+  -- one more member
+  pub fed_more : (xs : List X) (i : ℕ) (x : X) (s t u : S) → i < length xs → x ≡ get_or xs i x → t ≡ fold write s (first ++ flat_map feed (take i xs)) → u ≡ fold write t (feed x) → u ≡ fold write s (first ++ flat_map feed (take (i + 1) xs))
+  fed_more xs i x s t u lt e p q =
+      let more : flat_map feed (take (i + 1) xs) ≡ flat_map feed (take i xs) ++ feed x =
+      ap (flat_map feed) (take_more xs i x lt ∙ ap (λ (y : X). take i xs ++ y ∷ []) (sym e)) ∙ flat_map-append feed (take i xs) (x ∷ []) ∙ ap (λ (l : fed.HashWrites). flat_map feed (take i xs) ++ l) (append-nil (feed x)) in
+      fed.fed_along write s u (append_assoc first (flat_map feed (take i xs)) (feed x) ∙ ap (λ (l : fed.HashWrites). first ++ l) (sym more)) (fed.fed_then write s t u (first ++ flat_map feed (take i xs)) (feed x) p q)
 
--- ---- annotations
-
--- the hash input of annotations of the code
-abbrev pub annotations_fed : List Annotation → fed.HashWrites
-annotations_fed xs = flat_map annotation_input (map annotation_of xs)
-
-one_annotation : (xs : List Annotation) (i : ℕ) (d : Annotation) → i < length xs → d ≡ get_or xs i d → annotations_fed (take i xs) ++ annotation_input (annotation_of d) ≡ annotations_fed (take (i + 1) xs)
-one_annotation xs i d lt e =
-    sym (ap annotations_fed (take_more xs i d lt ∙ ap (λ (x : Annotation). take i xs ++ x ∷ []) (sym e)) ∙ ap (flat_map annotation_input) (map-append annotation_of (take i xs) (d ∷ []))
-    ∙ flat_map-append annotation_input (map annotation_of (take i xs)) (annotation_of d ∷ []) ∙ ap (λ (l : fed.HashWrites). annotations_fed (take i xs) ++ l) (append-nil (annotation_input (annotation_of d))))
-
--- an annotation by its parts
-abbrev annotation_with : ℕ → ℕ → NumberedElements → NumberedAnnotation
-annotation_with v t es = record { visibility = v; type = t; elements = es }
+  -- all of them
+  pub fed_all : (xs : List X) (i : ℕ) (s t : S) → length xs ≤ i → t ≡ fold write s (first ++ flat_map feed (take i xs)) → t ≡ fold write s (first ++ flat_map feed xs)
+  fed_all xs i s t end p = p ∙ ap (λ (l : List X). fold write s (first ++ flat_map feed l)) (take_all i xs end)
 
 -- ---- steps
 
 module _ {S : Type 0} (write : S → List ℕ → S) where
-  pub value_next : (xs : List Value) (i : ℕ) (d : Value) (s t u : S) → i < length xs → d ≡ get_or xs i d → t ≡ fold write s (values_fed (take i xs)) → u ≡ fold write t (value_input (value_of d)) → u ≡ fold write s (values_fed (take (i + 1) xs))
-  value_next xs i d s t u lt e p q = fed.fed_along write s u (one_value xs i d lt e) (fed.fed_then write s t u (values_fed (take i xs)) (value_input (value_of d)) p q)
-
-  pub values_done : (xs : List Value) (i : ℕ) (s t : S) → length xs ≤ i → t ≡ fold write s (values_fed (take i xs)) → t ≡ fold write s (values_fed xs)
-  values_done xs i s t end p = p ∙ ap (λ (l : List Value). fold write s (values_fed l)) (take_all i xs end)
-
-  pub element_next : (xs : List Element) (i : ℕ) (d : Element) (s t m u : S) → i < length xs → d ≡ get_or xs i d → t ≡ fold write s (elements_fed (take i xs)) → m ≡ fold write t (fed.u32 d.name) → u ≡ fold write m (value_input (value_of d.value)) → u ≡ fold write s (elements_fed (take (i + 1) xs))
-  element_next xs i d s t m u lt e p n q =
-      fed.fed_along write s u (one_element xs i d lt e)
-      (fed.fed_then write s t u (elements_fed (take i xs)) (fed.u32 d.name ++ value_input (value_of d.value)) p (fed.fed_then write t m u (fed.u32 d.name) (value_input (value_of d.value)) n q))
-
-  pub elements_done : (xs : List Element) (i : ℕ) (s t : S) → length xs ≤ i → t ≡ fold write s (elements_fed (take i xs)) → t ≡ fold write s (elements_fed xs)
-  elements_done xs i s t end p = p ∙ ap (λ (l : List Element). fold write s (elements_fed l)) (take_all i xs end)
-
-  -- annotations, after their count
-  pub annotation_next : (n : ℕ) (xs : List Annotation) (i : ℕ) (d : Annotation) (s t u : S) → i < length xs → d ≡ get_or xs i d → t ≡ fold write s (fed.usize n ++ annotations_fed (take i xs)) → u ≡ fold write t (annotation_input (annotation_of d))
-      → u ≡ fold write s (fed.usize n ++ annotations_fed (take (i + 1) xs))
-  annotation_next n xs i d s t u lt e p q =
-      fed.fed_along write s u (ap (λ (l : fed.HashWrites). fed.usize n ++ l) (one_annotation xs i d lt e)) (fed.fed_then write s t u (fed.usize n ++ annotations_fed (take i xs)) (annotation_input (annotation_of d)) p q)
-
   -- an array, after its type code and its length
   pub array_whole : (v : Value) (values : Box (Vec Value)) (n : ℕ) {xs : List Value} (s t u : S) → v ≡ variants.Array values → xs ≡ values.value.items → n ≡ length xs → t ≡ fold write s (fed.u8 0x1c ++ fed.usize n) → u ≡ fold write t (values_fed xs) → u ≡ fold write s (value_input (value_of v))
   array_whole v values n {xs} s t u e same size p q =
@@ -100,10 +79,6 @@ module _ {S : Type 0} (write : S → List ℕ → S) where
   annotation_whole v annotation {a} s t u e same p q =
       fed.fed_along write s u (ap (λ (x : EncodedAnnotation). value_input (encoded_of x)) same ∙ ap value_input (sym (ap value_of e ∙ annotation_is annotation)))
       (fed.fed_then write s t u (fed.u8 0x1d) (encoded_input (encoded_type a) (encoded_elements a)) p q)
-
-  pub annotations_done : (xs : List Annotation) (i : ℕ) (s t : S) → length xs ≤ i → t ≡ fold write s (fed.usize (length xs) ++ annotations_fed (take i xs)) → t ≡ fold write s (fed.slice annotation_input (map annotation_of xs))
-  annotations_done xs i s t end p =
-      p ∙ ap (λ (l : List Annotation). fold write s (fed.usize (length xs) ++ annotations_fed l)) (take_all i xs end) ∙ ap (λ (n : ℕ). fold write s (fed.usize n ++ annotations_fed xs)) (sym (length-map xs annotation_of))
 
   -- an encoded_annotation, part by part
   pub encoded_parts : (a : EncodedAnnotation) (n : ℕ) {xs : List Element} (s t m u : S) → xs ≡ (out-EncodedAnnotation a).elements.items → n ≡ length xs

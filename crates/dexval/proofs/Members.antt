@@ -1,6 +1,7 @@
 -- The bytes of values and elements in sequence.
-use Rattle.std.proofs.Common.{◌≡◌, ℕ, zero, suc, ◌+◌, ◌<◌, ◌≤◌, List, [], ◌∷◌, ◌++◌, get_or, length, take, map, refl, sym, ap, ◌∙◌, subst, arith, append_assoc}
-use Rattle.std.proofs.lemmas.List.{append-nil, length-map, get_or-map}
+use Rattle.std.proofs.Common.{◌≡◌, ℕ, zero, suc, ◌+◌, ◌<◌, ◌≤◌, List, [], ◌∷◌, ◌++◌, get_or, length, map, refl, sym, ap, ◌∙◌, subst, arith, append_assoc}
+use Rattle.std.proofs.lemmas.List.{length-map, get_or-map}
+use Rattle.std.specs.List.{flat_map}
 use Rattle.dexspec.specs.Numbers.{uleb128}
 use Rattle.dexval.specs.declared.value.Value.{Value}
 use Rattle.dexval.specs.declared.value.Element.{Element}
@@ -8,25 +9,16 @@ use Rattle.dexval.specs.Code.{value_of, element_of}
 use Rattle.dexval.specs.Numbered.{NumberedValue, values_of_list, elements_of_list}
 use Rattle.dexval.specs.Spelled.{values_count, elements_count, numbered_weight, numbered_values_weight, numbered_elements_weight, numbered_bytes, numbered_values_bytes, numbered_elements_bytes}
 use Rattle.dexval.proofs.CodeForms.{element_is}
-use Rattle.dexval.proofs.Growing.{values_more, elements_more}
 
 -- ---- values
 
--- the bytes of two lists of values
-values_bytes_both : (xs ys : List NumberedValue) → numbered_values_bytes (values_of_list (xs ++ ys)) ≡ numbered_values_bytes (values_of_list xs) ++ numbered_values_bytes (values_of_list ys)
-values_bytes_both [] ys = refl
-values_bytes_both (x ∷ xs) ys =
-    let r = numbered_values_bytes (values_of_list ys) in
-    ap (λ (l : List ℕ). numbered_bytes x ++ l) (values_bytes_both xs ys) ∙ sym (append_assoc (numbered_bytes x) (numbered_values_bytes (values_of_list xs)) r)
+-- the bytes of a value of the code
+abbrev pub value_spelled : Value → List ℕ
+value_spelled v = numbered_bytes (value_of v)
 
--- the bytes of values of the code
-abbrev pub values_spelled : List Value → List ℕ
-values_spelled xs = numbered_values_bytes (values_of_list (map value_of xs))
-
-pub one_value : (xs : List Value) (i : ℕ) (d : Value) → i < length xs → d ≡ get_or xs i d → values_spelled (take (i + 1) xs) ≡ values_spelled (take i xs) ++ numbered_bytes (value_of d)
-one_value xs i d lt e =
-    ap (λ (l : List NumberedValue). numbered_values_bytes (values_of_list l)) (values_more xs i d lt e) ∙ values_bytes_both (map value_of (take i xs)) (value_of d ∷ [])
-    ∙ ap (λ (l : List ℕ). values_spelled (take i xs) ++ l) (append-nil (numbered_bytes (value_of d)))
+pub values_are_spelled : (xs : List Value) → flat_map value_spelled xs ≡ numbered_values_bytes (values_of_list (map value_of xs))
+values_are_spelled [] = refl
+values_are_spelled (x ∷ xs) = ap (λ (l : List ℕ). value_spelled x ++ l) (values_are_spelled xs)
 
 pub count_of_list : (ys : List NumberedValue) → values_count (values_of_list ys) ≡ length ys
 count_of_list [] = refl
@@ -38,26 +30,16 @@ count_values_is xs = count_of_list (map value_of xs) ∙ length-map xs value_of
 
 -- ---- elements
 
-elements_bytes_both : (xs ys : List (ℕ × NumberedValue)) → numbered_elements_bytes (elements_of_list (xs ++ ys)) ≡ numbered_elements_bytes (elements_of_list xs) ++ numbered_elements_bytes (elements_of_list ys)
-elements_bytes_both [] ys = refl
-elements_bytes_both ((n, x) ∷ xs) ys =
-    let r = numbered_elements_bytes (elements_of_list ys) in
-    let m = numbered_elements_bytes (elements_of_list xs) in
-    ap (λ (l : List ℕ). uleb128 n ++ (numbered_bytes x ++ l)) (elements_bytes_both xs ys) ∙ ap (λ (l : List ℕ). uleb128 n ++ l) (sym (append_assoc (numbered_bytes x) m r)) ∙ sym (append_assoc (uleb128 n) (numbered_bytes x ++ m) r)
-
--- the bytes of elements of the code
-abbrev pub elements_spelled : List Element → List ℕ
-elements_spelled xs = numbered_elements_bytes (elements_of_list (map element_of xs))
-
--- the bytes of one element
+-- the bytes of an element of the code
 abbrev pub element_spelled : Element → List ℕ
-element_spelled e = uleb128 e.name ++ numbered_bytes (value_of e.value)
+element_spelled e = uleb128 e.name ++ value_spelled e.value
 
-pub one_element : (xs : List Element) (i : ℕ) (d : Element) → i < length xs → d ≡ get_or xs i d → elements_spelled (take (i + 1) xs) ≡ elements_spelled (take i xs) ++ element_spelled d
-one_element xs i d lt e =
-    ap (λ (l : List (ℕ × NumberedValue)). numbered_elements_bytes (elements_of_list l)) (elements_more xs i d lt e) ∙ elements_bytes_both (map element_of (take i xs)) (element_of d ∷ [])
-    ∙ ap (λ (x : ℕ × NumberedValue). elements_spelled (take i xs) ++ numbered_elements_bytes (elements_of_list (x ∷ []))) (element_is d)
-    ∙ ap (λ (l : List ℕ). elements_spelled (take i xs) ++ (uleb128 d.name ++ l)) (append-nil (numbered_bytes (value_of d.value)))
+pub elements_are_spelled : (xs : List Element) → flat_map element_spelled xs ≡ numbered_elements_bytes (elements_of_list (map element_of xs))
+elements_are_spelled [] = refl
+elements_are_spelled (x ∷ xs) =
+    let rest = elements_of_list (map element_of xs) in
+    ap (λ (l : List ℕ). element_spelled x ++ l) (elements_are_spelled xs) ∙ append_assoc (uleb128 x.name) (value_spelled x.value) (numbered_elements_bytes rest)
+    ∙ ap (λ (e : ℕ × NumberedValue). numbered_elements_bytes (elements_of_list (e ∷ map element_of xs))) (sym (element_is x))
 
 elements_count_of_list : (ys : List (ℕ × NumberedValue)) → elements_count (elements_of_list ys) ≡ length ys
 elements_count_of_list [] = refl

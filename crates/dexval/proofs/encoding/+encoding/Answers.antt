@@ -7,8 +7,9 @@ use Rattle.dexval.specs.Code.{value_of, elements_of, encoded_of, encoded_type, e
 use Rattle.dexval.specs.Numbered.{values_of_list}
 use Rattle.dexval.specs.Spelled.{values_count, elements_count, count_bytes, numbered_bytes, numbered_values_bytes, numbered_elements_bytes, numbered_array_bytes, encoded_annotation_bytes, numbered_elements_weight}
 use Rattle.dexval.proofs.CodeForms.{byte_is, short_is, char_is, int_is, long_is, float_is, double_is, string_is, typ_is, field_is, method_is, enum_is, array_is, annotation_is}
-use Rattle.dexval.proofs.Encodings.{unsigned_given, signed_given, bits_given, value_given, element_given, values_given, elements_given}
-use Rattle.dexval.proofs.Members.{count_values_is, count_elements_is, value_lighter, element_lighter}
+use Rattle.dexhead.proofs.Encoded.{given_more, given_all}
+use Rattle.dexval.proofs.Encodings.{unsigned_given, signed_given, bits_given}
+use Rattle.dexval.proofs.Members.{value_spelled, element_spelled, values_are_spelled, elements_are_spelled, count_values_is, count_elements_is, value_lighter, element_lighter}
 use Rattle.dexval.proofs.ValueForms.{array_lighter, annotation_lighter}
 use Rattle.dexval.proofs.encoding.+encoding.Goals as goal
 
@@ -26,10 +27,13 @@ encode_values-encode_value-requires g t c =
 
 pub encode_values-loop-value-preserved : goal.encode_values-loop-value-preserved
 encode_values-loop-value-preserved g t c =
-    value_given g.O.Output.gives g.met.O.Output.both c.args.values.now c.loop-value.value-index c.value-item.result c.args.out.now c.loop-value.out c.encode_value.new.out c.loop-value-test.true c.value-item.is c.loop-value.invariant c.encode_value.ensures
+    given_more g.O.Output.gives g.met.O.Output.both value_spelled c.args.values.now c.loop-value.value-index c.value-item.result c.args.out.now c.loop-value.out c.encode_value.new.out c.loop-value-test.true c.loop-value.invariant
+    (subst (λ (v : Value). g.O.Output.gives (value_spelled v) c.loop-value.out c.encode_value.new.out) c.value-item.is c.encode_value.ensures)
 
 pub encode_values-returns : goal.encode_values-returns
-encode_values-returns g t c = values_given g.O.Output.gives c.args.values.now c.loop-value.value-index c.args.out.now c.loop-value.out c.loop-value-test.false c.loop-value.invariant
+encode_values-returns g t c =
+    subst (λ bytes. g.O.Output.gives bytes c.args.out.now c.loop-value.out) (values_are_spelled c.args.values.now)
+    (given_all g.O.Output.gives g.met.O.Output.both value_spelled c.args.values.now c.loop-value.value-index c.args.out.now c.loop-value.out c.loop-value-test.false c.loop-value.invariant)
 
 pub encode_annotation-encode_elements-requires : goal.encode_annotation-encode_elements-requires
 encode_annotation-encode_elements-requires g t c =
@@ -55,10 +59,13 @@ pub encode_elements-loop-element-preserved : goal.encode_elements-loop-element-p
 encode_elements-loop-element-preserved g t c =
     let d = c.element-item.result in
     let one = g.met.O.Output.both (uleb128 d.name) (numbered_bytes (value_of d.value)) c.loop-element.out c.uleb.new.self c.encode_value.new.out c.uleb.ensures c.encode_value.ensures in
-    element_given g.O.Output.gives g.met.O.Output.both c.args.elements.now c.loop-element.element-index d c.args.out.now c.loop-element.out c.encode_value.new.out c.loop-element-test.true c.element-item.is c.loop-element.invariant one
+    given_more g.O.Output.gives g.met.O.Output.both element_spelled c.args.elements.now c.loop-element.element-index d c.args.out.now c.loop-element.out c.encode_value.new.out c.loop-element-test.true c.loop-element.invariant
+    (subst (λ (e : Element). g.O.Output.gives (element_spelled e) c.loop-element.out c.encode_value.new.out) c.element-item.is one)
 
 pub encode_elements-returns : goal.encode_elements-returns
-encode_elements-returns g t c = elements_given g.O.Output.gives c.args.elements.now c.loop-element.element-index c.args.out.now c.loop-element.out c.loop-element-test.false c.loop-element.invariant
+encode_elements-returns g t c =
+    subst (λ bytes. g.O.Output.gives bytes c.args.out.now c.loop-element.out) (elements_are_spelled c.args.elements.now)
+    (given_all g.O.Output.gives g.met.O.Output.both element_spelled c.args.elements.now c.loop-element.element-index c.args.out.now c.loop-element.out c.loop-element-test.false c.loop-element.invariant)
 
 pub encode_value-encode_array-requires : goal.encode_value-encode_array-requires
 encode_value-encode_array-requires g t c =

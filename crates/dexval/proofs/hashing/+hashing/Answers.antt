@@ -1,6 +1,7 @@
-use Rattle.std.proofs.Common.{ap, sym, ◌∙◌, arith}
+use Rattle.std.proofs.Common.{[], ap, sym, ◌∙◌, arith}
 use Rattle.std.specs.Prelude.{vec_len}
-use Rattle.dexval.proofs.Hashed.{value_next, values_done, element_next, elements_done, array_whole, annotation_whole, encoded_parts}
+use Rattle.std.specs.Hash as fed
+use Rattle.dexval.proofs.Hashed.{value_fed, element_fed, values_are_fed, elements_are_fed, fed_more, fed_all, array_whole, annotation_whole, encoded_parts}
 use Rattle.dexval.proofs.hashing.+hashing.Goals as goal
 
 pub hash_value-returns-in-Array : goal.hash_value-returns-in-Array
@@ -18,15 +19,18 @@ hash_encoded-returns g t c =
 
 pub hash_values-loop-value-preserved : goal.hash_values-loop-value-preserved
 hash_values-loop-value-preserved g t c =
-    value_next g.H.Hasher.write c.args.values.now c.loop-value.value-index c.value-item.result c.args.state.now c.loop-value.state c.hash_value.new.state c.loop-value-test.true c.value-item.is c.loop-value.invariant c.hash_value.ensures
+    fed_more g.H.Hasher.write value_fed [] c.args.values.now c.loop-value.value-index c.value-item.result c.args.state.now c.loop-value.state c.hash_value.new.state c.loop-value-test.true c.value-item.is c.loop-value.invariant c.hash_value.ensures
 
 pub hash_values-returns : goal.hash_values-returns
-hash_values-returns g t c = values_done g.H.Hasher.write c.args.values.now c.loop-value.value-index c.args.state.now c.loop-value.state (omega arith) c.loop-value.invariant
+hash_values-returns g t c =
+    fed.fed_along g.H.Hasher.write c.args.state.now c.loop-value.state (values_are_fed c.args.values.now) (fed_all g.H.Hasher.write value_fed [] c.args.values.now c.loop-value.value-index c.args.state.now c.loop-value.state (omega arith) c.loop-value.invariant)
 
 pub hash_elements-loop-element-preserved : goal.hash_elements-loop-element-preserved
 hash_elements-loop-element-preserved g t c =
-    element_next g.H.Hasher.write c.args.elements.now c.loop-element.element-index c.element-item.result c.args.state.now c.loop-element.state c.hash.new.state c.hash_value.new.state c.loop-element-test.true c.element-item.is
-    c.loop-element.invariant c.hash.ensures c.hash_value.ensures
+    let element = c.element-item.result in
+    fed_more g.H.Hasher.write element_fed [] c.args.elements.now c.loop-element.element-index element c.args.state.now c.loop-element.state c.hash_value.new.state c.loop-element-test.true c.element-item.is c.loop-element.invariant
+    (fed.fed_then g.H.Hasher.write c.loop-element.state c.hash.new.state c.hash_value.new.state (fed.u32 element.name) (value_fed element.value) c.hash.ensures c.hash_value.ensures)
 
 pub hash_elements-returns : goal.hash_elements-returns
-hash_elements-returns g t c = elements_done g.H.Hasher.write c.args.elements.now c.loop-element.element-index c.args.state.now c.loop-element.state (omega arith) c.loop-element.invariant
+hash_elements-returns g t c =
+    fed.fed_along g.H.Hasher.write c.args.state.now c.loop-element.state (elements_are_fed c.args.elements.now) (fed_all g.H.Hasher.write element_fed [] c.args.elements.now c.loop-element.element-index c.args.state.now c.loop-element.state (omega arith) c.loop-element.invariant)

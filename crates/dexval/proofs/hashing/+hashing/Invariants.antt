@@ -1,9 +1,10 @@
 use Rattle.std.proofs.Common.{◌≡◌, fold, take}
-use Rattle.dexval.proofs.Hashed.{values_fed, elements_fed}
+use Rattle.std.specs.List.{flat_map}
+use Rattle.dexval.proofs.Hashed.{value_fed, element_fed}
 use Rattle.dexval.proofs.hashing.+hashing.Given as goal
 
 abbrev pub invariant-hash_elements-loop-element : goal.invariant-hash_elements-loop-element
-invariant-hash_elements-loop-element g l = l.state ≡ fold g.H.Hasher.write l.fn.state (elements_fed (take l.element-index l.elements))
+invariant-hash_elements-loop-element g l = l.state ≡ fold g.H.Hasher.write l.fn.state (flat_map element_fed (take l.element-index l.elements))
 
 abbrev pub invariant-hash_values-loop-value : goal.invariant-hash_values-loop-value
-invariant-hash_values-loop-value g l = l.state ≡ fold g.H.Hasher.write l.fn.state (values_fed (take l.value-index l.values))
+invariant-hash_values-loop-value g l = l.state ≡ fold g.H.Hasher.write l.fn.state (flat_map value_fed (take l.value-index l.values))

@@ -1,7 +1,8 @@
 use Rattle.std.proofs.Common.{◌≡◌, ◌++◌, length, fold, take}
 use Rattle.std.specs.Hash as fed
-use Rattle.dexval.proofs.Hashed.{annotations_fed}
+use Rattle.std.specs.List.{flat_map}
+use Rattle.dexval.proofs.Hashed.{annotation_fed}
 use Rattle.dexval.proofs.hashing.hash_annotations.Given as goal
 
 abbrev pub invariant-loop-annotation : goal.invariant-loop-annotation
-invariant-loop-annotation g l = l.state ≡ fold g.H.Hasher.write l.fn.state (fed.usize (length l.annotations) ++ annotations_fed (take l.annotation-index l.annotations))
+invariant-loop-annotation g l = l.state ≡ fold g.H.Hasher.write l.fn.state (fed.usize (length l.annotations) ++ flat_map annotation_fed (take l.annotation-index l.annotations))

@@ -16,7 +16,7 @@ use crate::set::AnnotationSet;
 use crate::value_reading::MOST_DEPTH;
 use dexhead::{Condition, Frame, u32_at};
 use dexpool::{ItemFault, Pools};
-use std::alloc::{AllocError, Global};
+use std::alloc::Global;
 
 // The visibility of a number.
 fn visibility_of(number: u8) -> Result<Visibility, ItemFault>

@@ -3,7 +3,7 @@
 ghost use Rattle.std.specs.Prelude.{◌≡◌, IfOk, IfErr};
 ghost use Rattle.dexpool.specs.Pools.{ArePools};
 ghost use Rattle.dexpool.specs.declared.faults.ItemFault.TheVariants.{Refused};
-ghost use Rattle.dexval.specs.Reading.{EncodedValueAt, IsValueFault, IsStaticsFault};
+ghost use Rattle.dexval.specs.Reading.{IsValueFault, IsStaticsFault};
 ghost use Rattle.dexval.specs.Results.{HasValueShape, HasStaticsShape};
 ghost use Rattle.dexval.specs.internal.Found.{MeasuresEncodedValue, MeasuresStatics};
 

@@ -11,7 +11,6 @@ pub mod Encodings
 pub mod FileChecked
 pub mod FileRead
 pub mod Fitted
-pub mod Growing
 pub mod Hashed
 pub mod Heads
 pub mod Images

@@ -1,6 +1,7 @@
 -- The bytes of values and elements in sequence.
-use Rattle.std.proofs.Common.{◌≡◌, ℕ, zero, suc, ◌+◌, ◌<◌, ◌≤◌, List, [], ◌∷◌, ◌++◌, get_or, length, map, refl, sym, ap, ◌∙◌, subst, arith, append_assoc}
+use Rattle.std.proofs.Common.{◌≡◌, ℕ, zero, suc, ◌+◌, ◌<◌, ◌≤◌, List, [], ◌∷◌, ◌++◌, get_or, length, map, sum_by, refl, sym, ap, ◌∙◌, subst, arith, append_assoc}
 use Rattle.std.proofs.lemmas.List.{length-map, get_or-map}
+use Rattle.std.proofs.lemmas.List.Sums.{sum_by-cons}
 use Rattle.std.specs.List.{flat_map}
 use Rattle.dexspec.specs.Numbers.{uleb128}
 use Rattle.dexval.specs.declared.value.Value.{Value}
@@ -72,3 +73,23 @@ pub element_lighter : (xs : List Element) (i : ℕ) (d : Element) → i < length
 element_lighter xs i d lt e =
     subst (λ (x : ℕ × NumberedValue). numbered_weight x.1 ≤ numbered_elements_weight (elements_of_list (map element_of xs))) (get_or-map element_of xs i d (element_of d) lt ∙ ap element_of (sym e) ∙ element_is d)
     (light_element_at (map element_of xs) i (element_of d) (omega (arith, length-map xs element_of)))
+
+-- ---- weights of lists
+
+-- the weight of a value of the code
+abbrev pub value_weighs : Value → ℕ
+value_weighs v = numbered_weight (value_of v)
+
+-- of an element
+abbrev pub element_weighs : Element → ℕ
+element_weighs e = 5 + value_weighs e.value
+
+pub values_weigh : (xs : List Value) → sum_by value_weighs xs ≡ numbered_values_weight (values_of_list (map value_of xs))
+values_weigh [] = refl
+values_weigh (x ∷ xs) = omega (arith, sum_by-cons value_weighs x xs, values_weigh xs)
+
+pub elements_weigh : (xs : List Element) → sum_by element_weighs xs ≡ numbered_elements_weight (elements_of_list (map element_of xs))
+elements_weigh [] = refl
+elements_weigh (x ∷ xs) =
+    let here = ap (λ (e : ℕ × NumberedValue). numbered_elements_weight (elements_of_list (e ∷ map element_of xs))) (element_is x) in
+    omega (arith, sum_by-cons element_weighs x xs, elements_weigh xs, here)

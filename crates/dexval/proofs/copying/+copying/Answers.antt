@@ -1,11 +1,11 @@
-use Rattle.std.proofs.Common.{◌≡◌, List, ◌+◌, take, map, ap, sym, refl, ◌∙◌, rules}
+use Rattle.std.proofs.Common.{List, map, ap, sym, ◌∙◌, rules}
 use Rattle.dexval.specs.declared.value.Value.{Value}
 use Rattle.dexval.specs.declared.value.Element.{Element}
 use Rattle.dexval.specs.Code.{value_of, element_of}
-use Rattle.dexval.specs.Numbered.{values_of_list, elements_of_list}
+use Rattle.dexval.specs.Numbered.{NumberedValue, values_of_list, elements_of_list}
 use Rattle.dexval.specs.Spelled.{numbered_values_weight, numbered_elements_weight}
+use Rattle.dexval.proofs.CodeForms.{element_is}
 use Rattle.dexval.proofs.Copies.{copied_more, copied_all}
-use Rattle.dexval.proofs.Growing.{element_copied}
 use Rattle.dexval.proofs.Members.{value_lighter, element_lighter}
 use Rattle.dexval.proofs.copying.+copying.Goals as goal
 
@@ -23,13 +23,10 @@ copied_elements-copied_value-requires t c =
 
 pub copied_elements-loop-element-preserved : goal.copied_elements-loop-element-preserved
 copied_elements-loop-element-preserved t c =
-    let elements = c.deref-element-items.result.now in
-    let same = c.deref-element-items.ensures.value in
-    let i = c.loop-element.element-index in
-    let before : map element_of c.loop-element.copy.items ≡ map element_of (take i elements) = c.loop-element.invariant ∙ ap (λ (l : List Element). map element_of (take i l)) (sym same) in
-    ap (map element_of) c.in_ok-push.ensures.items
-    ∙ element_copied elements c.loop-element.copy.items i c.element-item.result (record { name = c.element-item.result.name; value = c.in_ok-copied_value.field-0 }) c.loop-element-test.true c.element-item.is before refl c.in_ok-copied_value.ensures
-    ∙ ap (λ (l : List Element). map element_of (take (i + 1) l)) same
+    let y = c.element-item.result in
+    let x : Element = record { name = y.name; value = c.in_ok-copied_value.field-0 } in
+    copied_more element_of element_of c.args.elements.now.items c.deref-element-items.result.now c.deref-element-items.ensures.value c.loop-element.copy.items c.push.new.self.items c.loop-element.element-index x y c.loop-element-test.true c.element-item.is c.loop-element.invariant c.in_ok-push.ensures.items
+    (element_is x ∙ ap (λ (v : NumberedValue). (y.name, v)) c.in_ok-copied_value.ensures ∙ sym (element_is y))
 
 pub copied_elements-returns : goal.copied_elements-returns
 copied_elements-returns t c = copied_all element_of element_of c.args.elements.now.items c.deref-element-items.result.now c.deref-element-items.ensures.value c.loop-element.copy.items c.loop-element.element-index c.loop-element-test.false c.loop-element.invariant

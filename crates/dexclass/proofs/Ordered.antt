@@ -5,7 +5,7 @@ use Rattle.std.specs.List.{Contains, range_with_len}
 use Rattle.std.specs.List.Sorted.{IsPermutation}
 use Rattle.std.proofs.lemmas.List.{length-map, get_or-map, get_or_default}
 use Rattle.std.proofs.lemmas.List.FromFn.{get_or-range_with_len, length-range_with_len}
-use Rattle.std.proofs.lemmas.List.Sorted.{Contains-permutation, IsPermutation-sym}
+use Rattle.std.proofs.lemmas.List.Sorted.{Contains-permutation, IsPermutation-sym, length_permutation}
 use Rattle.std.proofs.lemmas.List.Elements.{All-contains, Contains-get_or}
 use Rattle.dexspec.specs.Lists.{rises, AreDistinct}
 use Rattle.dexspec.specs.Texts.{Text}
@@ -92,6 +92,10 @@ module _ (m : Mentions) (cs : List NumberedClass) (named : AreNamed m cs) where
 
     length_names : length names ≡ length cs
     length_names = ap length e ∙ length-map cs (λ (c : NumberedClass). c.name)
+
+    -- there are as many places as classes
+    pub order_count : length order ≡ length cs
+    order_count = length_permutation (range_with_len 0 (length names)) order p ∙ length-range_with_len 0 (length names) ∙ length_names
 
     pub order_within : All (λ i. i < length cs) order
     order_within k d lt =

@@ -1,46 +1,46 @@
-//! Classes put into another order.
+//! Elements put into another order.
 
-ghost use Rattle.std.specs.Prelude.{◌≡◌, ◌<◌, All, IfOk, length};
+ghost use Rattle.std.specs.Prelude.{◌≡◌, ◌<◌, All, IfOk, OnOk, length, map, slice_index_or};
+ghost use Rattle.std.specs.List.{range_with_len};
 ghost use Rattle.dexspec.specs.Lists.{AreDistinct};
-ghost use Rattle.dexclass.specs.Parents.{no_class};
-ghost use Rattle.dexclass.specs.internal.Ordered.{classes_at};
 
-use crate::classes::Class;
-use dexmembers::Members;
 use std::alloc::{AllocError, Global};
-use std::mem;
 
-// A class of nothing.
-fn nothing<'a>(alloc: Global) -> Class<'a>
-    ensures { result ≡ no_class }
+// The places of `count` elements, in their order.
+fn places(alloc: Global, count: usize) -> Result<Vec<usize>, AllocError>
+    ensures { IfOk result (λ places. places.items ≡ range_with_len 0 count) }
 {
-    Class {
-        name: 0,
-        flags: 0,
-        superclass: None,
-        interfaces: Vec::new(alloc),
-        source: None,
-        members: Members::empty(alloc),
-        weight: 0,
+    let mut places = Vec::with_capacity(alloc, count)?;
+    for place in 0..count {
+        places.push(place)?;
     }
+    Ok(places)
 }
 
-/// The classes of these places, in the order of the places. They are taken from where they were.
+/// Puts elements into the order of their places. They are moved where they are, so that no list of their size is
+/// allocated.
 ///
-/// Conditions: each place is that of a class, and no two are the same.
-pub(crate) fn arrange<'a>(
+/// Conditions: there are as many places as elements, each place is that of an element, and no two are the same.
+pub(crate) fn arrange<T>(
     alloc: Global,
-    classes: &mut Vec<Class<'a>>,
+    elements: &mut Vec<T>,
     order: &[usize],
-) -> Result<Vec<Class<'a>>, AllocError>
-    requires within { All (λ i. i < length classes.old.items) order.now }
+) -> Result<(), AllocError>
+    requires count { length order.now ≡ length elements.old.items }
+    requires within { All (λ i. i < length elements.old.items) order.now }
     requires distinct { AreDistinct order.now }
-    ensures { IfOk result (λ arranged. arranged.items ≡ classes_at classes.old.items order.now) }
+    ensures { OnOk result ((d : T) → elements.new.items
+        ≡ map (λ i. slice_index_or elements.old.items i d) order.now) }
 {
-    let mut arranged = Vec::with_capacity(alloc, order.len())?;
+    // The place of each element, and the element at each place, both by their first places.
+    let mut places = places(alloc, order.len())?;
+    let mut owners = Vec::from_slice(alloc, &places)?;
     for k in 0..order.len() {
-        let class = mem::replace(&mut classes[order[k]], nothing(alloc));
-        arranged.push(class)?;
+        let place = places[order[k]];
+        let owner = owners[k];
+        elements.swap(k, place);
+        owners[place] = owner;
+        places[owner] = place;
     }
-    Ok(arranged)
+    Ok(())
 }

@@ -1,6 +1,6 @@
 //! Classes in the order of a canonical file: by depth, and then by name.
 
-ghost use Rattle.std.specs.Prelude.{◌≡◌, ◌<◌, All, length, map, IfOk};
+ghost use Rattle.std.specs.Prelude.{◌≡◌, ◌<◌, All, length, map, IfOk, OnOk};
 ghost use Rattle.dexspec.specs.Mentions.{Mentions};
 ghost use Rattle.dexpool.specs.Numberings.{AreIn};
 ghost use Rattle.dexclass.specs.Parents.{AreNamed};
@@ -56,22 +56,22 @@ pub(crate) fn known_depths(
     Ok(depths)
 }
 
-/// The classes by depth, and then by name.
+/// Puts the classes in order: by depth, and then by name.
 ///
 /// Conditions: the classes are those of a numbering, no two have one name, and there are as many depths.
 ///
 /// Source: "class_defs", a superclass and interfaces come before the class; by depth and then by name is this
 /// project's rule.
-pub(crate) fn in_order<'a>(
+pub(crate) fn put_in_order(
     alloc: Global,
-    classes: &mut Vec<Class<'a>>,
+    classes: &mut Vec<Class<'_>>,
     depths: &[Option<usize>],
-) -> Result<Vec<Class<'a>>, AllocError>
+) -> Result<(), AllocError>
     requires numbering { (m : Mentions) × AreNamed m classes.old.items }
     requires count { length depths.now ≡ length classes.old.items }
-    ensures order { IfOk result (λ ordered.
-        AreInClassOrder classes.old.items depths.now ordered.items) }
-    ensures members { IfOk result (λ ordered. AreIn ordered.items classes.old.items) }
+    ensures order { OnOk result
+        (AreInClassOrder classes.old.items depths.now classes.new.items) }
+    ensures members { OnOk result (AreIn classes.new.items classes.old.items) }
 {
     let names = names(alloc, classes)?;
     let order = class_order(alloc, depths, &names)?;

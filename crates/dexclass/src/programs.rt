@@ -14,7 +14,7 @@ ghost use Rattle.dexclass.specs.Uses.{IsKnownClass};
 ghost use Rattle.dexclass.specs.Programs.{AreMergeable, AreClassesOf, IsClassAt};
 
 use crate::classes::Class;
-use crate::ordering::{depths_of, in_order, known_depths};
+use crate::ordering::{depths_of, known_depths, put_in_order};
 use dexpool::{Numbering, SymbolKind};
 use std::alloc::{AllocError, Global};
 use std::marker::Model;
@@ -214,7 +214,7 @@ impl<'a> Program<'a> {
             (IsCollectionOf (map (definition_of numbering.entry) classes.entry.items)) }
     {
         numbering.is_numbering();
-        let classes = in_order(alloc, &mut classes, depths)?;
+        put_in_order(alloc, &mut classes, depths)?;
         Ok(Program {
             numbering,
             classes,

@@ -1,9 +1,8 @@
 -- What is checked of a class row, after the rows before it.
-use Rattle.std.specs.Prelude.{◌≡◌, ℕ, ◌+◌, ◌<◌, Bool, List, All}
-use Rattle.dexspec.specs.Header.{ClassDefs, table_size}
+use Rattle.std.specs.Prelude.{◌≡◌, ℕ, ◌+◌, Bool, List, All}
 use Rattle.dexspec.specs.Rows.{type_indices}
 use Rattle.dexspec.specs.Classes.{class_idx}
-use Rattle.dexspec.specs.Accepted.{HoldBelow, IsDefinedBefore}
+use Rattle.dexspec.specs.Accepted.{IsDefinedBefore}
 use Rattle.dexspec.specs.Mentions.{Mentions}
 use Rattle.dexpool.specs.declared.faults.ItemFault.{ItemFault}
 use Rattle.dexpool.specs.declared.faults.ItemFault.TheVariants as items
@@ -13,7 +12,6 @@ use Rattle.dexmembers.specs.Checking.{AreChecks}
 use Rattle.dexclass.specs.Checking.{HaveBodiesOf}
 use Rattle.dexclass.specs.declared.checking.CheckedRows.{CheckedRows}
 use Rattle.dexclass.specs.declared.class_checks.KnownFile.{KnownFile}
-use Rattle.dexclass.specs.Programs.{IsFaultOf}
 use Rattle.dexclass.specs.internal.Rows.{AreDefinedMarks, IsInterfaceIndex, superclass_indices}
 
 -- the types of the class rows before row r are marked

@@ -4,7 +4,7 @@ use Rattle.dexspec.specs.Mentions.{Mentions, mentions}
 use Rattle.dexspec.specs.Depth.{IsAcyclic, in_class_order}
 use Rattle.dexorder.specs.Definitions.{AreDepthsOf}
 use Rattle.dexclass.specs.Numbered.{NumberedClass, definition_of}
-use Rattle.dexclass.specs.Parents.{AreNamed, no_class}
+use Rattle.dexclass.specs.Parents.{AreNamed}
 
 -- the depths are those of the classes' definitions, if these are acyclic
 abbrev pub AreClassDepths : List NumberedClass → List (Option ℕ) → Type 0
@@ -17,10 +17,6 @@ depths_by_name by_name cs = map (λ c. slice_index_or by_name c.name None) cs
 -- the classes are the others in the order of a canonical file, by these depths
 abbrev pub AreInClassOrder : List NumberedClass → List (Option ℕ) → List NumberedClass → Type 0
 AreInClassOrder cs depths ordered = (m : Mentions) → AreNamed m cs → AreDepthsOf (map (definition_of m) cs) depths → map (definition_of m) ordered ≡ in_class_order (map (definition_of m) cs)
-
--- the classes at these places
-abbrev pub classes_at : List NumberedClass → List ℕ → List NumberedClass
-classes_at cs places = map (λ i. slice_index_or cs i no_class) places
 
 -- what the classes' definitions mention
 abbrev pub mentions_of : Mentions → List NumberedClass → Mentions

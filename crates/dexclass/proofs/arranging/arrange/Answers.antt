@@ -1,12 +1,22 @@
-use Rattle.std.proofs.Common.{◌∙◌, arith}
-use Rattle.std.specs.Prelude.{slice_index_or}
+use Rattle.std.proofs.Common.{◌∙◌, ap, length, arith}
 use Rattle.std.proofs.lemmas.List.{get_or_default}
-use Rattle.dexclass.specs.Parents.{no_class}
-use Rattle.dexclass.proofs.Arranged.{taken_more}
+use Rattle.std.proofs.lemmas.List.Edits.{length-swap}
+use Rattle.dexclass.proofs.Arranged.{none_arranged, more_arranged, all_arranged}
 use Rattle.dexclass.proofs.arranging.arrange.Goals as goal
 
+pub loop-k-init : goal.loop-k-init
+loop-k-init g c = none_arranged c.args.elements.now.items c.args.order.now _ c.in_ok-places.places.items c.in_ok-owners.owners.items c.requires.count c.in_ok-places.ensures (c.in_ok-owners.ensures.items ∙ c.deref.ensures.value)
+
 pub loop-k-preserved : goal.loop-k-preserved
-loop-k-preserved c =
-    taken_more c.args.classes.now.items c.loop-k.classes.items c.args.order.now c.loop-k.k c.loop-k.arranged.items c.push.new.self.items c.replace-class.result c.replace-class.new.dest c.requires.distinct c.loop-k-test.true c.loop-k.invariant
-    (c.replace-class.ensures.value ∙ c.index_mut.ensures.value ∙ get_or_default c.loop-k.classes.items (slice_index_or c.args.order.now c.loop-k.k 0) c.index_mut.result.now no_class (omega (arith, c.loop-k.invariant.count, c.requires.within c.loop-k.k 0 c.loop-k-test.true)))
-    c.in_ok-push.ensures.items
+loop-k-preserved g c =
+    let now = c.loop-k.elements.items in
+    let h = c.loop-k.invariant in
+    let few = c.requires.within c.loop-k.k 0 c.loop-k-test.true in
+    more_arranged c.args.elements.now.items now c.swap.new.self.items c.args.order.now c.loop-k.places.items c.loop-k.owners.items c.loop-k.k c.requires.distinct c.requires.count c.loop-k-test.true c.requires.within h
+    c.index-place.result.now c.index-owner.result.now
+    (c.index-place.ensures ∙ get_or_default c.loop-k.places.items _ c.index-place.result.now 0 (omega (arith, few, h.place_count)))
+    (c.index-owner.ensures ∙ get_or_default c.loop-k.owners.items _ c.index-owner.result.now 0 (omega (arith, c.loop-k-test.true, c.requires.count, h.owner_count)))
+    c.swap.ensures.by_index (ap length c.swap.ensures.items ∙ length-swap now c.loop-k.k c.index-place.result.now)
+
+pub returns : goal.returns
+returns g c = λ d. all_arranged c.args.elements.now.items c.loop-k.elements.items c.args.order.now c.loop-k.places.items c.loop-k.owners.items c.loop-k.k d c.requires.count (omega (arith, c.loop-k-test.false, c.loop-k.auto.k-end)) c.loop-k.invariant

@@ -1,5 +1,5 @@
-use Rattle.dexclass.proofs.Arranged.{TakenTo}
+use Rattle.dexclass.proofs.Arranged.{AreArranged}
 use Rattle.dexclass.proofs.arranging.arrange.Given as goal
 
 abbrev pub invariant-loop-k : goal.invariant-loop-k
-invariant-loop-k l = TakenTo l.fn.classes.items l.classes.items l.order l.k l.arranged.items
+invariant-loop-k g l = AreArranged l.fn.elements.items l.elements.items l.order l.places.items l.owners.items l.k

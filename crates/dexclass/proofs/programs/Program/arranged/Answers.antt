@@ -4,24 +4,24 @@ use Rattle.dexclass.specs.Numbered.{definition_of}
 use Rattle.dexclass.proofs.ProgramsOf.{named, collection_is, program_is}
 use Rattle.dexclass.proofs.programs.Program.arranged.Goals as goal
 
-pub in_order-requires-clause-numbering : goal.in_order-requires-clause-numbering
-in_order-requires-clause-numbering c = (c.args.numbering, named c.args.numbering c.args.classes.items c.requires.mergeable c.is_numbering.ensures)
+pub put_in_order-requires-clause-numbering : goal.put_in_order-requires-clause-numbering
+put_in_order-requires-clause-numbering c = (c.args.numbering, named c.args.numbering c.args.classes.items c.requires.mergeable c.is_numbering.ensures)
 
-pub in_order-requires-clause-count : goal.in_order-requires-clause-count
-in_order-requires-clause-count c = c.requires.depths.count ∙ length-map c.args.classes.items (definition_of c.args.numbering)
+pub put_in_order-requires-clause-count : goal.put_in_order-requires-clause-count
+put_in_order-requires-clause-count c = c.requires.depths.count ∙ length-map c.args.classes.items (definition_of c.args.numbering)
 
 pub invariant_of-result : goal.invariant_of-result
 invariant_of-result c =
     let m = c.args.numbering in
     let cs = c.args.classes.items in
     let h = c.requires.mergeable in
-    let new = c.in_ok-classes.classes.items in
-    program_is m cs h c.is_numbering.ensures new c.in_ok-classes.ensures.members (c.in_ok-classes.ensures.order m (named m cs h c.is_numbering.ensures) c.requires.depths) c.args.total c.requires.total
+    let new = c.put_in_order.new.classes.items in
+    program_is m cs h c.is_numbering.ensures new c.in_ok-put_in_order.ensures.members (c.in_ok-put_in_order.ensures.order m (named m cs h c.is_numbering.ensures) c.requires.depths) c.args.total c.requires.total
 
 pub returns : goal.returns
 returns c =
     let m = c.args.numbering in
     let cs = c.args.classes.items in
     let h = c.requires.mergeable in
-    let new = c.in_ok-classes.classes.items in
-    collection_is m cs h c.is_numbering.ensures new c.in_ok-classes.ensures.members (c.in_ok-classes.ensures.order m (named m cs h c.is_numbering.ensures) c.requires.depths)
+    let new = c.put_in_order.new.classes.items in
+    collection_is m cs h c.is_numbering.ensures new c.in_ok-put_in_order.ensures.members (c.in_ok-put_in_order.ensures.order m (named m cs h c.is_numbering.ensures) c.requires.depths)

@@ -1,11 +1,11 @@
 -- Class data in the file: without one of its parts there is none.
-use Rattle.std.proofs.Common.{◌≡◌, ℕ, ◌+◌, ◌<◌, List, [], ◌∷◌, ◌++◌, length, get_or, ap, sym, subst, ◌∙◌, refl, arith}
+use Rattle.std.proofs.Common.{◌≡◌, ℕ, ◌+◌, ◌<◌, List, [], ◌∷◌, length, get_or, ap, sym, subst, ◌∙◌, refl, arith}
 use Rattle.dexspec.specs.Lists.{Sequence}
 use Rattle.dexspec.specs.Numbers.{Uleb128At}
 use Rattle.dexspec.specs.Mentions.{Mentions}
 use Rattle.dexspec.proofs.determined.OneNumber.{one_uleb128}
 use Rattle.dexspec.proofs.lists.Sequences.{one_sequence}
-use Rattle.dexcode.proofs.Prefixes.{stuck, sequence_more}
+use Rattle.dexcode.proofs.Prefixes.{stuck}
 use Rattle.dexmembers.specs.declared.class_data.EncodedField.{EncodedField}
 use Rattle.dexmembers.specs.internal.EncodedMembers.{FieldAt, MethodAt, ListsAt, AreListsRead, NoLists, NoData}
 use Rattle.dexmembers.proofs.OneMember.{one_field}
@@ -14,12 +14,6 @@ use Rattle.dexmembers.proofs.MemberChains.{one_pair}
 -- where no number follows, there are no more of them
 pub numbers_stuck : (b : List ℕ) (o p : ℕ) (xs ys : List ℕ) (n m : ℕ) → length xs < length ys → Sequence Uleb128At b o xs n → p ≡ o + n → ((v k : ℕ) → Uleb128At b p v k → ⊥) → Sequence Uleb128At b o ys m → ⊥
 numbers_stuck b o p xs ys n m lt h e absent g = stuck Uleb128At one_uleb128 b o xs ys n m lt h (λ v k there. absent v k (subst (λ (q : ℕ). Uleb128At b q v k) (sym e) there)) g
-
--- one number more
-pub numbers_more : (b : List ℕ) (o p : ℕ) (xs ys : List ℕ) (x n k m : ℕ) → Sequence Uleb128At b o xs n → p ≡ o + n → Uleb128At b p x k → m ≡ n + k → (e : ys ≡ xs ++ x ∷ []) → Sequence Uleb128At b o ys m
-numbers_more b o p xs ys x n k m h e at size same =
-    let more = sequence_more Uleb128At b o xs x n k h (subst (λ (q : ℕ). Uleb128At b q x k) e at) in
-    subst (λ (zs : List ℕ). Sequence Uleb128At b o zs m) (sym same) (subst (λ (q : ℕ). Sequence Uleb128At b o (xs ++ x ∷ []) q) (sym size) more)
 
 module _ (m : Mentions) (class : ℕ) (b : List ℕ) (o a c d e size : ℕ) (counts : Sequence Uleb128At b o (a ∷ c ∷ d ∷ e ∷ []) size) where
   -- without its fields

@@ -1,9 +1,9 @@
 -- Class data by numbers is that of the file.
-use Rattle.std.proofs.Common.{◌≡◌, ◌≢◌, ℕ, ◌+◌, ◌^◌, ◌<◌, ◌≤◌, List, [], ◌∷◌, ◌++◌, length, map, get_or, Option, Some, None, refl, ap, sym, ◌∙◌, subst, arith, inl, inr}
+use Rattle.std.proofs.Common.{◌≡◌, ◌≢◌, ℕ, ◌+◌, ◌^◌, ◌<◌, ◌≤◌, List, [], ◌∷◌, length, map, get_or, Option, Some, None, refl, ap, sym, ◌∙◌, subst, arith, inl, inr}
 use Rattle.std.specs.Prelude.{All, Result, Ok, Err, IfOk, IfErr}
 use Rattle.std.specs.List.{Contains}
 use Rattle.std.proofs.lemmas.List.{length-map}
-use Rattle.std.proofs.lemmas.List.Elements.{All-head, All-tail, All-map, All-contains, All-append, Contains-get_or, Contains-append_left, Contains-append_right}
+use Rattle.std.proofs.lemmas.List.Elements.{All-head, All-tail, All-map, All-contains, All-append}
 use Rattle.dexspec.specs.Lists.{Sequence}
 use Rattle.dexspec.specs.Numbers.{Uleb128At}
 use Rattle.dexspec.specs.Texts.{Text}
@@ -32,18 +32,9 @@ use Rattle.dexmembers.specs.declared.class_data.ClassData.{ClassData}
 use Rattle.dexmembers.specs.internal.ClassData.{encoded_field_in, encoded_method_in, class_data_in, IsDataOf, IsDataFault}
 use Rattle.dexmembers.specs.internal.EncodedMembers.{IsDataRefusal, Chain, FieldAt, MethodAt, IsOwnField, IsOwnMethod, DataAt, NoData}
 use Rattle.dexmembers.proofs.Owned.{one_place}
+use Rattle.dexmembers.proofs.RenumberingLists.{all_left, all_right}
 use Rattle.dexmembers.proofs.MemberChains.{chain_all, chain_rises}
 use Rattle.dexmembers.proofs.OneMember.{field_follows, method_follows}
-
--- ---- parts of lists, and numbers within the file
-
--- what holds of all holds of a prefix
-all_left : {X : Type 0} (P : X → Type 0) (xs ys : List X) → All P (xs ++ ys) → All P xs
-all_left P xs ys h k d lt = All-contains P (xs ++ ys) (get_or xs k d) h (Contains-append_left xs ys (get_or xs k d) (Contains-get_or xs k d lt))
-
--- and of the rest
-all_right : {X : Type 0} (P : X → Type 0) (xs ys : List X) → All P (xs ++ ys) → All P ys
-all_right P xs ys h k d lt = All-contains P (xs ++ ys) (get_or ys k d) h (Contains-append_right xs ys (get_or ys k d) (Contains-get_or ys k d lt))
 
 -- ---- lists that share none, by numbers and by symbols
 

@@ -8,6 +8,7 @@ use Rattle.dexpool.specs.declared.symbols.SymbolKind.{SymbolKind}
 use Rattle.dexpool.specs.declared.symbols.SymbolKind.TheVariants as kinds
 use Rattle.dexpool.specs.Numberings.{Maps, image_of}
 use Rattle.dexpool.specs.Pools.{count_of}
+use Rattle.std.proofs.lemmas.List.Elements.{All-weaker}
 use Rattle.dexcode.specs.Meaning.{IsKnownCode}
 use Rattle.dexcode.specs.Numbered.{NumberedItem}
 use Rattle.dexcode.specs.Renumbering.{HasPlaces}
@@ -16,7 +17,6 @@ use Rattle.dexval.specs.Renumbering.{SetHasPlaces, HavePlaces}
 use Rattle.dexpool.specs.Images.{IsMapped}
 use Rattle.dexmembers.specs.Numbered.{NumberedField, NumberedMethod, NumberedMembers, IsKnownField, IsKnownMethod, AreKnownMembers}
 use Rattle.dexmembers.specs.Renumbering.{FieldHasPlaces, MethodHasPlaces, MembersHavePlaces, MapsInto}
-use Rattle.dexmembers.proofs.RenumberingLists.{all_both}
 use Rattle.dexmembers.proofs.RenumberingKept.{no_field, no_method}
 
 some_of : (o : Option ℕ) → IsSome o → (j : ℕ) × (o ≡ Some j)
@@ -57,13 +57,13 @@ module _ (m n : Mentions) (r : Maps) (into : MapsInto m n r) where
     number_mapped = method_goes x.number known.number_in;
     code_mapped = code;
     annotations_mapped = sets x.annotations known.annotations_known;
-    parameters_mapped = all_both (IsKnownSet m) (IsKnownSet m) (SetHasPlaces r) (λ s is same. sets s is) x.parameter_annotations known.parameters_known known.parameters_known;
+    parameters_mapped = All-weaker (IsKnownSet m) (SetHasPlaces r) sets x.parameter_annotations known.parameters_known;
   }
 
   -- members whose methods have places
   pub members_placed : SetsPlaced m r → ValuesPlaced m r → (x : NumberedMembers) → AreKnownMembers m x → All (MethodHasPlaces r) x.direct_methods → All (MethodHasPlaces r) x.virtual_methods → MembersHavePlaces r x
   members_placed sets values x known directs virtuals =
-      let fields = λ (fs : List NumberedField) (are : All (IsKnownField m) fs). all_both (IsKnownField m) (IsKnownField m) (FieldHasPlaces r) (λ f is same. field_placed sets f is) fs are are in
+      let fields = All-weaker (IsKnownField m) (FieldHasPlaces r) (field_placed sets) in
       record {
         annotations_mapped = sets x.annotations known.annotations_known;
         static_fields_mapped = fields x.static_fields known.static_fields_known;

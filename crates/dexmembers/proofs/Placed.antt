@@ -21,7 +21,8 @@ use Rattle.dexpool.specs.Images.{IsMapped}
 use Rattle.dexmembers.specs.Numbered.{NumberedField, NumberedMethod, NumberedMembers, methods_of}
 use Rattle.dexmembers.specs.Renumbering.{FieldHasPlaces, MethodHasPlaces, MembersHavePlaces}
 use Rattle.dexmembers.specs.Fitting.{MethodFits, NumbersFit, code_short_strings, method_short_strings, members_short_strings}
-use Rattle.dexmembers.proofs.RenumberingLists.{all_left, all_right, all_both}
+use Rattle.dexpool.proofs.KeptTables.{all_both}
+use Rattle.dexmembers.proofs.RenumberingLists.{all_left, all_right}
 use Rattle.dexmembers.proofs.Images.{SetHasImages, HaveImages, FieldHasImages, MethodHasImages, MembersHaveImages, some_of}
 
 -- the code of the method, if it has some, has places
@@ -55,8 +56,8 @@ module _ (r : Maps) (narrow : MapsNarrow r) (sets : (s : NumberedSet) → SetHas
     annotations_mapped = sets x.annotations h.annotations_mapped;
     static_fields_mapped = All-weaker (FieldHasImages r) (FieldHasPlaces r) field_placed x.static_fields h.static_fields_mapped;
     instance_fields_mapped = All-weaker (FieldHasImages r) (FieldHasPlaces r) field_placed x.instance_fields h.instance_fields_mapped;
-    direct_methods_mapped = all_both (MethodHasImages r) (CodePlaced r) (MethodHasPlaces r) method_placed x.direct_methods h.direct_methods_mapped (all_left (CodePlaced r) x.direct_methods x.virtual_methods placed);
-    virtual_methods_mapped = all_both (MethodHasImages r) (CodePlaced r) (MethodHasPlaces r) method_placed x.virtual_methods h.virtual_methods_mapped (all_right (CodePlaced r) x.direct_methods x.virtual_methods placed);
+    direct_methods_mapped = all_both (MethodHasImages r) (CodePlaced r) (MethodHasPlaces r) x.direct_methods h.direct_methods_mapped (all_left (CodePlaced r) x.direct_methods x.virtual_methods placed) method_placed;
+    virtual_methods_mapped = all_both (MethodHasImages r) (CodePlaced r) (MethodHasPlaces r) x.virtual_methods h.virtual_methods_mapped (all_right (CodePlaced r) x.direct_methods x.virtual_methods placed) method_placed;
     values_mapped = values x.static_values h.values_mapped;
   }
 
@@ -67,7 +68,7 @@ methods_mapped r x h = All-append (MethodHasImages r) x.direct_methods x.virtual
 -- ---- after a cut
 
 pub code_cut : (r : Maps) (x : NumberedMembers) → ((c : NumberedItem) → HasImages r c → code.NumbersFit c → HasPlaces r c) → MembersHaveImages r x → NumbersFit x → All (CodePlaced r) (methods_of x)
-code_cut r x cut h fit = all_both (MethodHasImages r) MethodFits (CodePlaced r) (λ y maps_to fits. coded y.code cut maps_to.code_mapped fits) (methods_of x) (methods_mapped r x h) fit
+code_cut r x cut h fit = all_both (MethodHasImages r) MethodFits (CodePlaced r) (methods_of x) (methods_mapped r x h) fit (λ y maps_to fits. coded y.code cut maps_to.code_mapped fits)
 
 -- ---- the greatest of numbers
 
@@ -144,7 +145,7 @@ module _ (r : Maps) (joined : (c : NumberedItem) (g : Option ℕ) → IsGreatest
   codes_joined x greatest order h is short =
       let all = methods_mapped r x h in
       let are_mapped : ShortMapped r (members_short_strings x) = short_mapped r (members_short_strings x) greatest order is short (λ i c. methods_shorts_remapped r (methods_of x) i all c) in
-      all_both (MethodHasImages r) (λ y. ShortMapped r (method_short_strings y)) (CodePlaced r) (λ y maps_to shorts. code_joined y.code maps_to.code_mapped shorts) (methods_of x) all (each_short r (methods_of x) are_mapped)
+      all_both (MethodHasImages r) (λ y. ShortMapped r (method_short_strings y)) (CodePlaced r) (methods_of x) all (each_short r (methods_of x) are_mapped) (λ y maps_to shorts. code_joined y.code maps_to.code_mapped shorts)
 
 -- numbers of 32 bits have images of 32 bits
 pub fit_narrow : (r : Maps) → ImagesFit r → MapsNarrow r

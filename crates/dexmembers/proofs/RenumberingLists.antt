@@ -34,11 +34,6 @@ all_mapped f P K Q each [] h k = All-nil Q
 all_mapped f P K Q each (x ∷ xs) h k =
     All-cons Q (f x) (map f xs) (each x (All-head P x xs h) (All-head K x xs k)) (all_mapped f P K Q each xs (All-tail P x xs h) (All-tail K x xs k))
 
--- what holds of each member, by parts
-pub all_both : {X : Type 0} (P K L : X → Type 0) → ((x : X) → P x → K x → L x) → (xs : List X) → All P xs → All K xs → All L xs
-all_both P K L each [] h k = All-nil L
-all_both P K L each (x ∷ xs) h k = All-cons L x xs (each x (All-head P x xs h) (All-head K x xs k)) (all_both P K L each xs (All-tail P x xs h) (All-tail K x xs k))
-
 -- what holds of what may be there, by parts
 pub options_both : {X : Type 0} (P K L : X → Type 0) → ((x : X) → P x → K x → L x) → (o : Option X) → IfSome o P → IfSome o K → IfSome o L
 options_both P K L each None h k = tt

@@ -37,9 +37,6 @@ use Rattle.dexmembers.proofs.RowWeighed.{entry_found, sum_members, entries_weigh
 
 -- ---- lists without repeats
 
-no_repeats : {X : Type 0} → AreDistinct {X = X} []
-no_repeats i j z lt le e = omega (arith, lt, le)
-
 -- two of them that share nothing
 append_distinct : {X : Type 0} (xs ys : List X) → AreDistinct xs → AreDistinct ys → ShareNone xs ys → AreDistinct (xs ++ ys)
 append_distinct [] ys d e share = e

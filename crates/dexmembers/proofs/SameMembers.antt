@@ -19,7 +19,8 @@ use Rattle.dexval.specs.Renumbering.{remapped, renumbered_set, renumbered_values
 use Rattle.dexmembers.specs.Numbered.{NumberedField, NumberedMethod, NumberedMembers, field_in, method_in, members_in, IsKnownField, IsKnownMethod, AreKnownMembers, AreOfClass}
 use Rattle.dexmembers.specs.Renumbering.{renumbered_field, renumbered_method, renumbered_members}
 use Rattle.dexmembers.proofs.Images.{field_use, method_use, SetHasImages, HaveImages, FieldHasImages, MethodHasImages, MembersHaveImages}
-use Rattle.dexmembers.proofs.RenumberingLists.{all_left, all_right, all_both, maps_same, options_same, options_both}
+use Rattle.dexpool.proofs.KeptTables.{all_both}
+use Rattle.dexmembers.proofs.RenumberingLists.{all_left, all_right, maps_same, options_same, options_both}
 use Rattle.dexmembers.proofs.RenumberingKept.{no_field, no_method, field_remapped, method_remapped, FieldIsOf, MethodIsOf}
 
 -- what is known of a set: its numbers have images, and are those of symbols
@@ -70,8 +71,8 @@ module _ (m n : Mentions) (r s : Maps) where
       → (map (renumbered_set r) xs ≡ map (renumbered_set s) ys) ↔ (map (set_in m) xs ≡ map (set_in n) ys)
   parameters_same sets xs ys maps_to maps_to' known known' =
       maps_same (renumbered_set r) (renumbered_set s) (set_in m) (set_in n) (IsPartSet m r) (IsPartSet n s) (λ x y h k. sets x y h.maps_to k.maps_to h.known k.known) xs ys
-      (all_both (SetHasImages r) (IsKnownSet m) (IsPartSet m r) (λ x a b. record { maps_to = a; known = b }) xs maps_to known)
-      (all_both (SetHasImages s) (IsKnownSet n) (IsPartSet n s) (λ x a b. record { maps_to = a; known = b }) ys maps_to' known')
+      (all_both (SetHasImages r) (IsKnownSet m) (IsPartSet m r) xs maps_to known (λ x a b. record { maps_to = a; known = b }))
+      (all_both (SetHasImages s) (IsKnownSet n) (IsPartSet n s) ys maps_to' known' (λ x a b. record { maps_to = a; known = b }))
 
 -- ---- numbers
 
@@ -144,13 +145,13 @@ module _ (m n whole : Mentions) (r s : Maps) (ranks : RanksAreNumbers whole) (fr
 
 fields_part : (m : Mentions) (r : Maps) (class : Text) (fs : List NumberedField) → All (FieldHasImages r) fs → All (IsKnownField m) fs → All (FieldIsOf m class) fs → All (IsPartField m r class) fs
 fields_part m r class fs maps_to known are =
-    all_both (λ (f : NumberedField). FieldHasImages r f × IsKnownField m f) (FieldIsOf m class) (IsPartField m r class) (λ f a b. record { maps_to = a.0; known = a.1; is_of = b }) fs
-    (all_both (FieldHasImages r) (IsKnownField m) (λ (f : NumberedField). FieldHasImages r f × IsKnownField m f) (λ f a b. (a, b)) fs maps_to known) are
+    all_both (λ (f : NumberedField). FieldHasImages r f × IsKnownField m f) (FieldIsOf m class) (IsPartField m r class) fs
+    (all_both (FieldHasImages r) (IsKnownField m) (λ (f : NumberedField). FieldHasImages r f × IsKnownField m f) fs maps_to known (λ f a b. (a, b))) are (λ f a b. record { maps_to = a.0; known = a.1; is_of = b })
 
 methods_part : (m : Mentions) (r : Maps) (class : Text) (xs : List NumberedMethod) → All (MethodHasImages r) xs → All (IsKnownMethod m) xs → All (MethodIsOf m class) xs → All (IsPartMethod m r class) xs
 methods_part m r class xs maps_to known are =
-    all_both (λ (x : NumberedMethod). MethodHasImages r x × IsKnownMethod m x) (MethodIsOf m class) (IsPartMethod m r class) (λ x a b. record { maps_to = a.0; known = a.1; is_of = b }) xs
-    (all_both (MethodHasImages r) (IsKnownMethod m) (λ (x : NumberedMethod). MethodHasImages r x × IsKnownMethod m x) (λ x a b. (a, b)) xs maps_to known) are
+    all_both (λ (x : NumberedMethod). MethodHasImages r x × IsKnownMethod m x) (MethodIsOf m class) (IsPartMethod m r class) xs
+    (all_both (MethodHasImages r) (IsKnownMethod m) (λ (x : NumberedMethod). MethodHasImages r x × IsKnownMethod m x) xs maps_to known (λ x a b. (a, b))) are (λ x a b. record { maps_to = a.0; known = a.1; is_of = b })
 
 -- all that is known of the members of a class
 record AreParts (m : Mentions) (r : Maps) (class : Text) (x : NumberedMembers) : Type 0 where

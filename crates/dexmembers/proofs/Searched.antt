@@ -23,9 +23,6 @@ use Rattle.dexmembers.specs.internal.Attaching.{EntriesRise, HasNumberAt}
 pub less_below : (x y : ℕ) → nat_cmp x y ≡ Less → x < y
 less_below x y e = grind arith
 
-pub below_less : (x y : ℕ) → x < y → nat_cmp x y ≡ Less
-below_less x y lt = grind arith
-
 indices_rise : (x y n : ℕ) → x < y → ordering_index (nat_cmp x n) ≤ ordering_index (nat_cmp y n)
 indices_rise x y n lt = grind arith
 

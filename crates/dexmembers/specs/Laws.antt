@@ -1,5 +1,5 @@
 -- Laws of what classes declare, as the functions that do nothing state them.
-use Rattle.std.specs.Prelude.{◌≡◌, ◌↔◌, ℕ, ◌+◌, ◌*◌, ◌≤◌, List, All, Option, Some, length, map, slice_index}
+use Rattle.std.specs.Prelude.{◌≡◌, ◌↔◌, ℕ, List, All, Option, Some, length, map, slice_index}
 use Rattle.std.specs.List.{AllZip}
 use Rattle.dexspec.specs.Classes.{Body}
 use Rattle.dexspec.specs.Mentions.{Mentions}
@@ -30,10 +30,6 @@ ClassDataIsDenoted = (m : Mentions) (name : Text) (c : Body) (x : NumberedMember
 -- where symbols rise, the annotations directory of members is that of the class definition that they denote
 abbrev pub DirectoryIsDenoted : Type 0
 DirectoryIsDenoted = (m : Mentions) (name : Text) (c : Body) (x : NumberedMembers) (own_off : ℕ) (field_offs method_offs parameter_offs : List ℕ) (sets : SetOffsets) (item : List ℕ) → AreRising m → AreKnownMembers m x → AreOrdered x → AreOfClass m name x → members_of c ≡ members_in m x → length field_offs ≡ length (fields_of x) → length method_offs ≡ length (methods_of x) → length parameter_offs ≡ length (methods_of x) → sets.own ≡ own_off → sets.fields ≡ field_offs → map (λ offs. slice_index offs 0) sets.methods ≡ method_offs → directory_bytes m (name, c) sets parameter_offs ≡ Some item → numbered_directory_bytes x own_off field_offs method_offs parameter_offs ≡ item
-
--- each field weighs at least 18 and each method at least 31
-abbrev pub MembersWeighMore : Type 0
-MembersWeighMore = (m : Mentions) (x : NumberedMembers) → 18 * length (fields_of x) + 31 * length (methods_of x) ≤ members_weight (members_in m x)
 
 -- ---- other numbers
 

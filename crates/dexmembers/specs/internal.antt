@@ -5,6 +5,7 @@ pub mod EncodedMembers
 pub mod MethodCodes
 pub mod Naming
 pub mod Parts
+pub mod Places
 pub mod RowParts
 pub mod RowReaders
 pub mod StaticValues

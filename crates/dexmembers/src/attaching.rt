@@ -6,6 +6,7 @@ ghost use Rattle.dexmembers.specs.internal.Attaching.{place_for, EntriesRise, Ha
 
 use crate::class_data::{EncodedField, EncodedMethod};
 use crate::members::{DeclaredField, DeclaredMethod};
+use crate::places::Place;
 use dexcode::Code;
 use dexflags::{FieldFlags, MethodFlags};
 use std::alloc::{AllocError, Global};
@@ -41,10 +42,11 @@ pub(crate) fn attach_fields(
 {
     let mut fields = Vec::with_capacity(alloc, listed.len())?;
     for field in listed {
+        let set = Place::of(place_for(sets, field.index))?;
         fields.push(DeclaredField {
             number: field.index,
             flags: FieldFlags::from_bits_retain(field.flags),
-            set: place_for(sets, field.index),
+            set,
         })?;
     }
     Ok(fields)
@@ -70,12 +72,14 @@ pub(crate) fn attach_methods<'a>(
     let mut codes = codes.into_iter();
     for method in listed {
         let code = codes.next().flatten();
+        let set = Place::of(place_for(sets, method.index))?;
+        let list = Place::of(place_for(lists, method.index))?;
         methods.push(DeclaredMethod {
             number: method.index,
             flags: MethodFlags::from_bits_retain(method.flags),
             code,
-            set: place_for(sets, method.index),
-            list: place_for(lists, method.index),
+            set,
+            list,
         })?;
     }
     Ok(methods)

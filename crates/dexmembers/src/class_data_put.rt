@@ -9,7 +9,7 @@ use crate::field_views::{Field, Fields};
 use crate::members::Members;
 use crate::method_views::{Method, Methods};
 use crate::put_laws::members_bytes_law;
-use dexhead::{Encode, Output, encoded_len, put_encoded};
+use dexhead::{Encode, Output, put_encoded};
 use std::alloc::AllocError;
 
 // Writes an encoded_field after one with the number `last`.
@@ -106,24 +106,6 @@ impl Members<'_> {
     {
         self.are_few();
         20 + 10 * self.field_count() + 15 * self.method_count()
-    }
-
-    /// Returns the number of bytes that [`put_class_data`](Members::put_class_data) appends. `code_offs` has the offset
-    /// of the code of each method, the direct ones first, and 0 where there is none.
-    /// [`members_bytes_law`](crate::members_bytes_law) says of which symbols they are the bytes.
-    ///
-    /// Condition: there is an offset for each method.
-    ///
-    /// Source: "class_data_item", "encoded_field format" and "encoded_method format".
-    pub fn class_data_len(&self, code_offs: &[u32]) -> usize
-        requires { length code_offs.now ≡ length (methods_of self.now) }
-        ensures { result ≡ length (numbered_class_data_bytes self.now code_offs.now) }
-    {
-        self.are_few();
-        encoded_len(&ClassDataItem {
-            members: self,
-            code_offs,
-        })
     }
 
     /// Appends the class_data_item: the counts of the four lists, and then each field as the difference of its number

@@ -127,6 +127,6 @@ impl<'m> Field<'m> {
             set_of set.now ≡ self.now.annotations) }
     {
         let (table, field) = (self.table, self.field);
-        table.set(field.set)
+        table.set(field.set.get())
     }
 }

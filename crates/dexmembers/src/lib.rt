@@ -26,6 +26,7 @@ mod marking;
 mod members;
 mod method_views;
 mod naming;
+mod places;
 mod put_laws;
 mod reading;
 mod renumbering;
@@ -47,7 +48,7 @@ pub use directory_put::DirectoryOffsets;
 pub use field_views::{Field, Fields};
 pub use members::Members;
 pub use method_views::{Method, Methods, ParameterSets};
-pub use put_laws::{few_members_law, members_bytes_law};
+pub use put_laws::members_bytes_law;
 pub use reading::read_members;
 pub use renumbering_laws::{
     members_cut_law, members_joined_law, members_remapped_law, members_same_law,

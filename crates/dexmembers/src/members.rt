@@ -3,16 +3,16 @@
 ghost use Rattle.std.specs.Prelude.{◌≡◌, [], MatchOption, length, map};
 ghost use Rattle.dexval.specs.Code.{set_of, value_of};
 ghost use Rattle.dexval.specs.Numbered.{values_of_list};
-ghost use Rattle.dexmembers.specs.Numbered.{no_members, fields_of, methods_of, HasFewMembers};
+ghost use Rattle.dexmembers.specs.Numbered.{fields_of, methods_of, HasFewMembers};
 ghost use Rattle.dexmembers.specs.Contents.{contents_in, AreHeld};
 ghost use Rattle.dexmembers.specs.Borrowed.{IsBorrowedSet};
 
 use crate::field_views::Fields;
 use crate::method_views::Methods;
+use crate::places::Place;
 use dexcode::Code;
 use dexflags::{FieldFlags, MethodFlags};
 use dexval::{AnnotationSet, SetTable, Value};
-use std::alloc::Global;
 use std::marker::Model;
 
 /// A declared field: its number among the fields, its access flags, and the place of its annotations in a table of
@@ -23,7 +23,7 @@ use std::marker::Model;
 pub(crate) struct DeclaredField {
     pub(crate) number: u32,
     pub(crate) flags: FieldFlags,
-    pub(crate) set: Option<u32>,
+    pub(crate) set: Place,
 }
 
 impl Model for DeclaredField {
@@ -49,8 +49,8 @@ pub(crate) struct DeclaredMethod<'a> {
     pub(crate) number: u32,
     pub(crate) flags: MethodFlags,
     pub(crate) code: Option<Code<'a>>,
-    pub(crate) set: Option<u32>,
-    pub(crate) list: Option<u32>,
+    pub(crate) set: Place,
+    pub(crate) list: Place,
 }
 
 impl<'a> Model for DeclaredMethod<'a> {
@@ -151,23 +151,6 @@ impl<'a> Contents<'a> {
 }
 
 impl<'a> Members<'a> {
-    /// The members of a class that declares none.
-    pub fn empty(alloc: Global) -> Members<'a>
-        ensures { result ≡ no_members }
-    {
-        Members {
-            contents: Contents {
-                table: SetTable::empty(alloc),
-                set: None,
-                static_fields: Vec::new(alloc),
-                instance_fields: Vec::new(alloc),
-                direct_methods: Vec::new(alloc),
-                virtual_methods: Vec::new(alloc),
-                static_values: Vec::new(alloc),
-            },
-        }
-    }
-
     /// A class declares fewer than 2^32 fields and fewer than 2^32 methods. The call does nothing: its contract states
     /// what holds of all that is declared, for the proofs of callers.
     pub fn are_few(&self)

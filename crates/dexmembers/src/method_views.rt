@@ -1,7 +1,6 @@
 //! Views of declared methods.
 
 ghost use Rattle.std.specs.Prelude.{◌≡◌, ◌<◌, ◌==◌, ◌-◌, ◌^◌, ℕ, List, [], Some, None, length, map, min, slice_index_or, All, MatchOption};
-ghost use Rattle.dexspec.specs.Spellings.{offsets_bytes};
 ghost use Rattle.dexval.specs.Code.{set_of};
 ghost use Rattle.dexval.specs.Spelled.{numbered_sets_weight};
 ghost use Rattle.dexval.specs.Tables.{IsPlaceIn, set_at};
@@ -169,7 +168,7 @@ impl<'m, 'a> Method<'m, 'a> {
             set_of set.now ≡ self.now.annotations) }
     {
         let (table, method) = (self.table, self.method);
-        table.set(method.set)
+        table.set(method.set.get())
     }
 
     /// The annotations of the parameters, from left to right; their number is not compared with that of the parameters.
@@ -179,7 +178,7 @@ impl<'m, 'a> Method<'m, 'a> {
         ensures { result ≡ self.now.parameter_annotations }
     {
         let (table, method) = (self.table, self.method);
-        ParameterSets::of(table, table.list(method.list))
+        ParameterSets::of(table, table.list(method.list.get()))
     }
 
     /// The weight of the annotations of the parameters, or 2^64 - 1 where that is more.
@@ -188,7 +187,7 @@ impl<'m, 'a> Method<'m, 'a> {
             ≡ min (2 ^ 64 - 1) (numbered_sets_weight self.now.parameter_annotations) }
     {
         let (table, method) = (self.table, self.method);
-        table.list_weight(method.list)
+        table.list_weight(method.list.get())
     }
 }
 
@@ -215,17 +214,6 @@ impl<'m> ParameterSets<'m> {
         ensures { result ≡ (length self.now == 0) }
     {
         self.places.is_empty()
-    }
-
-    /// Returns the length of an annotation_set_ref_list of these sets, whatever their offsets: four bytes, and four for
-    /// each set.
-    ///
-    /// Source: "annotation_set_ref_list".
-    pub fn list_size(&self) -> u64
-        ensures { (offsets : List ℕ) → length offsets ≡ length self.now
-            → result ≡ length (offsets_bytes offsets) }
-    {
-        4 + 4 * self.places.len() as u64
     }
 
     /// The set at a place; `None` says that it is empty.

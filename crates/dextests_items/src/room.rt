@@ -4,7 +4,7 @@
 use crate::made_files::{ITEMS, file_with};
 use dexcode::{Code, Debug, put_code, put_debug, read_code, read_debug};
 use dexhead::Frame;
-use dexmembers::{DirectoryOffsets, Members};
+use dexmembers::{ClassDef, DirectoryOffsets, Members, read_members};
 use dexpool::{Numbering, Pools};
 use dexval::{
     Annotation, AnnotationSet, Element, EncodedAnnotation, Value, Visibility, put_annotation,
@@ -171,10 +171,33 @@ fn code_is_put_in_its_weight(rt: HostRuntime) {
     assert_eq!(rt; room, 23);
 }
 
+/// Reads the members of a class row that has none.
+fn no_members<'a>(alloc: Global, file: &'a [u8]) -> Option<Members<'a>> {
+    let frame = Frame::open(file).ok()?;
+    let pools = Pools::read(alloc, &frame).ok()?;
+    let row = ClassDef {
+        class_idx: 0,
+        access_flags: 0,
+        superclass_idx: u32::MAX,
+        interfaces_off: 0,
+        source_file_idx: u32::MAX,
+        annotations_off: 0,
+        class_data_off: 0,
+        static_values_off: 0,
+    };
+    let (members, _) = read_members(alloc, &frame, &pools, &row, u32::MAX).ok()?;
+    Some(members)
+}
+
 /// Puts the class data of no members in room for 20 bytes, and returns the bytes and the capacity afterwards.
 fn class_data_in_its_room(alloc: Global) -> Option<(Vec<u8>, usize)> {
     let mut bytes = Vec::with_capacity(alloc, 20).ok()?;
-    Members::empty(alloc).put_class_data(&[], &mut bytes).ok()?;
+    let file = file_with(alloc, &[])?;
+    let members = no_members(alloc, &file)?;
+    if members.method_count() != 0 {
+        return None;
+    }
+    members.put_class_data(&[], &mut bytes).ok()?;
     let room = bytes.capacity();
     Some((bytes, room))
 }
@@ -198,7 +221,12 @@ fn directory_in_its_room(alloc: Global) -> Option<(Vec<u8>, usize)> {
         methods: &[],
         parameters: &[],
     };
-    Members::empty(alloc).put_directory(&offs, &mut bytes).ok()?;
+    let file = file_with(alloc, &[])?;
+    let members = no_members(alloc, &file)?;
+    if members.field_count() != 0 || members.method_count() != 0 {
+        return None;
+    }
+    members.put_directory(&offs, &mut bytes).ok()?;
     let room = bytes.capacity();
     Some((bytes, room))
 }

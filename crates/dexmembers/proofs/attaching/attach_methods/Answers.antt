@@ -26,15 +26,15 @@ loop-method-preserved c =
       size = rest_size c.next.result (into_iter_items c.loop-method.codes) (into_iter_items c.next.new.self) (into_iter_len c.loop-method.codes) (into_iter_len c.next.new.self) c.next.ensures.items c.next.ensures.len h.size;
       rest = λ many. (next many).0;
       done = λ rise rise' many.
-          let set = c.place_for.ensures.found rise in
-          let list = c.place_for-in-loop-method.ensures.found rise' in
+          let set = c.in_ok-set.ensures ∙ c.place_for.ensures.found rise in
+          let list = c.in_ok-list.ensures ∙ c.place_for-in-loop-method.ensures.found rise' in
           c.in_ok-push.ensures.items
           ∙ ((λ k. h.done rise rise' many k ++ record { number = x.index; flags = c.from_bits_retain.ensures k; code = c.flatten-code.result; set = set k; list = list k } ∷ [])
           ∙ sym (zip_more (held_method sets lists) xs ys i x c.flatten-code.result lt (omega (arith, many, lt)) (λ d. get_or_default xs i d none lt) (next many).1));
       sets_held = λ limit held.
           let P = λ (y : HeldMethod). IfSome y.set (λ place. place < limit) in
-          subst (All P) (sym c.in_ok-push.ensures.items) (All-push P c.loop-method.methods.items (record { number = x.index; flags = c.from_bits_retain.result.0; code = c.flatten-code.result; set = c.place_for.result; list = c.place_for-in-loop-method.result }) (h.sets_held limit held) (c.place_for.ensures.held limit held));
+          subst (All P) (sym c.in_ok-push.ensures.items) (All-push P c.loop-method.methods.items (record { number = x.index; flags = c.from_bits_retain.result.0; code = c.flatten-code.result; set = c.in_ok-set.set; list = c.in_ok-list.list }) (h.sets_held limit held) (rw c.in_ok-set.ensures (c.place_for.ensures.held limit held)));
       lists_held = λ limit held.
           let P = λ (y : HeldMethod). IfSome y.list (λ place. place < limit) in
-          subst (All P) (sym c.in_ok-push.ensures.items) (All-push P c.loop-method.methods.items (record { number = x.index; flags = c.from_bits_retain.result.0; code = c.flatten-code.result; set = c.place_for.result; list = c.place_for-in-loop-method.result }) (h.lists_held limit held) (c.place_for-in-loop-method.ensures.held limit held));
+          subst (All P) (sym c.in_ok-push.ensures.items) (All-push P c.loop-method.methods.items (record { number = x.index; flags = c.from_bits_retain.result.0; code = c.flatten-code.result; set = c.in_ok-set.set; list = c.in_ok-list.list }) (h.lists_held limit held) (rw c.in_ok-list.ensures (c.place_for-in-loop-method.ensures.held limit held)));
     }

@@ -1,4 +1,4 @@
-use Rattle.std.proofs.Common.{ap, sym, ◌∙◌, ◌-◌, ◌^◌, min, ℕ}
+use Rattle.std.proofs.Common.{ap, sym, ◌∙◌, ◌-◌, ◌^◌, min, ℕ, Option}
 use Rattle.dexval.specs.Spelled.{numbered_sets_weight}
 use Rattle.dexval.specs.Tables.{sets_at}
 use Rattle.dexmembers.specs.Held.{HeldMethod}
@@ -9,6 +9,7 @@ use Rattle.dexmembers.proofs.method_views.Method.parameters_weight.Goals as goal
 pub returns : goal.returns
 returns c =
     let table = c.self.inside.table.now in
-    c.list_weight.ensures no_symbols ∙ ap (λ (n : ℕ). min (2 ^ 64 - 1) n) (sym (sets_are no_symbols (sets_at table c.method.inside.list)))
+    c.list_weight.ensures no_symbols ∙ ap (λ (n : ℕ). min (2 ^ 64 - 1) n) (sym (sets_are no_symbols (sets_at table c.get.result)))
+    ∙ ap (λ (place : Option ℕ). min (2 ^ 64 - 1) (numbered_sets_weight (sets_at table place))) c.get.ensures
     ∙ ap (λ (x : HeldMethod). min (2 ^ 64 - 1) (numbered_sets_weight (sets_at table x.list))) c.method.view_is
     ∙ ap (λ (x : NumberedMethod). min (2 ^ 64 - 1) (numbered_sets_weight x.parameter_annotations)) c.self.view_is

@@ -9,6 +9,7 @@ use Rattle.dexspec.specs.Mentions.{Mentions, optional_text, optional_type}
 use Rattle.dexpool.specs.declared.marks.Marks.{Marks}
 use Rattle.dexpool.specs.Numberings.{IsAt, AreMarksOf}
 use Rattle.dexpool.specs.Uses.{Use, HasMark, IsUseOf}
+use Rattle.dexpool.proofs.Parts.{all_map}
 use Rattle.dexclass.specs.Numbered.{type_at, text_at}
 use Rattle.dexclass.specs.Uses.{type_use, text_use}
 
@@ -27,11 +28,6 @@ parts_zip R P f g h step [] all = tt
 parts_zip R P f g h step (x ∷ xs) all = zip_append R (f x) (g (h x)) (flat_map f xs) (flat_map g (map h xs)) (step x (All-head P x xs all)) (parts_zip R P f g h step xs (All-tail P x xs all))
 
 -- what holds of mapped members
-pub all_map : {X Y : Type 0} (P : X → Type 0) (Q : Y → Type 0) (f : X → Y) (xs : List X) → ((x : X) → P x → Q (f x)) → All P xs → All Q (map f xs)
-all_map P Q f [] step h = All-nil Q
-all_map P Q f (x ∷ xs) step h = All-cons Q (f x) (map f xs) (step x (All-head P x xs h)) (all_map P Q f xs step (All-tail P x xs h))
-
--- and the other way round
 pub all_mapped : {X Y : Type 0} (P : X → Type 0) (Q : Y → Type 0) (f : X → Y) (xs : List X) → ((x : X) → Q (f x) → P x) → All Q (map f xs) → All P xs
 all_mapped P Q f [] step h = All-nil P
 all_mapped P Q f (x ∷ xs) step h = All-cons P x xs (step x (All-head Q (f x) (map f xs) h)) (all_mapped P Q f xs step (All-tail Q (f x) (map f xs) h))

@@ -124,7 +124,3 @@ program_mergeable K n cs e of good formed =
       known = subst (λ (m : Mentions). All (IsKnownClass m) cs) (sym e) of.known;
     } in
     trimmed_mergeable E n cs trimmed (one_place E (class_names-apart (definitions K))) (IsGood-within E (definitions K) only greatest_caps good) (λ d c. formed d (only d c))
-
--- and are its definitions in order
-pub program_part : (K : Collection) (n : Mentions) (cs : List NumberedClass) → n ≡ mentions (definitions K) → AreClassesOf K cs → map (definition_of n) cs ≡ in_class_order (definitions K)
-program_part K n cs e of = ap (λ (m : Mentions). map (definition_of m) cs) e ∙ of.are

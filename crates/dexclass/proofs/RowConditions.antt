@@ -1,5 +1,5 @@
 -- Condition 16 at a row, from its parts.
-use Rattle.std.proofs.Common.{◌≡◌, ℕ, zero, suc, ◌+◌, ◌<◌, Bool, true, false, List, [], ◌∷◌, ◌++◌, get_or, sym, ◌∙◌, subst, arith, inl, inr}
+use Rattle.std.proofs.Common.{◌≡◌, ℕ, ◌+◌, ◌<◌, Bool, true, false, List, get_or, sym, ◌∙◌, subst, arith, inl, inr}
 use Rattle.std.specs.Prelude.{All}
 use Rattle.std.proofs.lemmas.Bool.{cases_lt, false≢true}
 use Rattle.std.proofs.lemmas.List.Elements.{All-append}
@@ -8,18 +8,8 @@ use Rattle.dexspec.specs.Accepted.{HasClass, IsDefinedBefore}
 use Rattle.dexmembers.specs.ClassDefs.{IsClassDef}
 use Rattle.dexmembers.specs.declared.class_def.ClassDef.{ClassDef}
 use Rattle.dexclass.specs.internal.Rows.{IsClassIndex, IsParentIndex, IsSourceIndex, superclass_indices, interface_indices, HasInterfaces, AreDefinedMarks}
+use Rattle.dexpool.proofs.Parts.{all_prefix, all_back}
 use Rattle.dexclass.proofs.Indices.{class_in_range}
-
--- ---- lists in two parts
-
-pub all_left : (P : ℕ → Type 0) (xs ys : List ℕ) → All P (xs ++ ys) → All P xs
-all_left P [] ys h k d lt = absurd (omega arith)
-all_left P (x ∷ xs) ys h zero d lt = h 0 d (omega arith)
-all_left P (x ∷ xs) ys h (suc k) d lt = all_left P xs ys (λ i e small. h (suc i) e (omega (arith, small))) k d (omega (arith, lt))
-
-pub all_right : (P : ℕ → Type 0) (xs ys : List ℕ) → All P (xs ++ ys) → All P ys
-all_right P [] ys h = h
-all_right P (x ∷ xs) ys h = all_right P xs ys (λ i e small. h (suc i) e (omega (arith, small)))
 
 -- ---- the parts
 
@@ -35,13 +25,13 @@ module _ (b : List ℕ) (r : ℕ) (f : ClassDef) (is : IsClassDef b r f) where
 
   pub parent_before_of : HasClass b r → All (IsDefinedBefore b r) (superclass_indices f.superclass_idx)
   parent_before_of h = subst (λ (i : ℕ). All (IsDefinedBefore b r) (superclass_indices i)) is.superclass_is
-      (all_left (IsDefinedBefore b r) (superclass_indices (superclass_idx b r)) (interface_indices b (interfaces_off b r)) h.parents)
+      (all_prefix (IsDefinedBefore b r) (superclass_indices (superclass_idx b r)) (interface_indices b (interfaces_off b r)) h.parents)
 
   pub interfaces_of : HasClass b r → HasInterfaces b r f.interfaces_off
   interfaces_of h = subst (HasInterfaces b r) is.interfaces_are (record {
     types = h.interfaces.0;
     list = h.interfaces.1;
-    before = all_right (IsDefinedBefore b r) (superclass_indices (superclass_idx b r)) (interface_indices b (interfaces_off b r)) h.parents;
+    before = all_back (IsDefinedBefore b r) (superclass_indices (superclass_idx b r)) (interface_indices b (interfaces_off b r)) h.parents;
   })
 
   module _ (seen : List Bool) (marks : AreDefinedMarks b r seen) where

@@ -3,7 +3,7 @@ use Rattle.std.proofs.Common.{◌≡◌, ℕ, ◌+◌, ◌*◌, ◌-◌, ◌<◌
 use Rattle.std.specs.Prelude.{slice_index}
 use Rattle.std.specs.List.{concat, zip}
 use Rattle.std.proofs.lemmas.List.{length-append, length-map, drop_more, drop_all}
-use Rattle.std.proofs.lemmas.List.Elements.{All-nil, All-cons, All-head, All-tail}
+use Rattle.std.proofs.lemmas.List.Elements.{All-head, All-tail}
 use Rattle.dexspec.specs.Lists.{zip_with}
 use Rattle.dexspec.specs.Numbers.{uleb128}
 use Rattle.dexspec.specs.Texts.{Text}
@@ -14,6 +14,7 @@ use Rattle.dexspec.specs.Spellings.{field_index, method_index, differences, enco
 use Rattle.dexspec.proofs.size.SizeItems.{uleb128-size}
 use Rattle.dexpool.specs.Laws.{RanksAreNumbers}
 use Rattle.dexval.specs.Numbered.{field_at, method_at}
+use Rattle.dexpool.proofs.Parts.{all_prefix, all_back}
 use Rattle.dexmembers.specs.Numbered.{NumberedField, NumberedMethod, NumberedMembers, Members, field_in, method_in, members_in, members_of, fields_of, methods_of, IsKnownField, IsKnownMethod, AreKnownMembers, AreOfClass}
 use Rattle.dexmembers.specs.Spelled.{numbered_field_bytes, numbered_fields_bytes, numbered_method_bytes, numbered_methods_bytes, numbered_class_data_bytes}
 
@@ -90,16 +91,6 @@ methods_end last xs offs i le = ap (λ (l : List NumberedMethod). numbered_metho
 
 -- ---- symbols
 
--- what holds of all members of a list holds of those of a prefix
-pub all_prefix : {X : Type 0} (P : X → Type 0) (xs ys : List X) → All P (xs ++ ys) → All P xs
-all_prefix P [] ys h = All-nil P
-all_prefix P (x ∷ xs) ys h = All-cons P x xs (All-head P x (xs ++ ys) h) (all_prefix P xs ys (All-tail P x (xs ++ ys) h))
-
--- and of those after the prefix
-pub all_suffix : {X : Type 0} (P : X → Type 0) (xs ys : List X) → All P (xs ++ ys) → All P ys
-all_suffix P [] ys h = h
-all_suffix P (x ∷ xs) ys h = all_suffix P xs ys (All-tail P x (xs ++ ys) h)
-
 module _ (m : Mentions) (ranks : RanksAreNumbers m) (name : Text) where
   -- the index of a declared field is its number
   pub field_number : (f : NumberedField) → IsKnownField m f → (field_at m f.number).class ≡ name → field_index m (field_of name (field_in m f)) ≡ f.number
@@ -157,9 +148,9 @@ module _ (m : Mentions) (ranks : RanksAreNumbers m) (name : Text) where
       let OfFields : NumberedField → Type 0 = λ f. (field_at m f.number).class ≡ name in
       let OfMethods : NumberedMethod → Type 0 = λ y. (method_at m y.number).class ≡ name in
       let k0 = all_prefix OfFields x.static_fields x.instance_fields k.fields_of_class in
-      let k1 = all_suffix OfFields x.static_fields x.instance_fields k.fields_of_class in
+      let k1 = all_back OfFields x.static_fields x.instance_fields k.fields_of_class in
       let k2 = all_prefix OfMethods x.direct_methods x.virtual_methods k.methods_of_class in
-      let k3 = all_suffix OfMethods x.direct_methods x.virtual_methods k.methods_of_class in
+      let k3 = all_back OfMethods x.direct_methods x.virtual_methods k.methods_of_class in
       let l0 = sym (length-map x.static_fields (field_in m)) in
       let l1 = sym (length-map x.instance_fields (field_in m)) in
       let l2 = sym (length-map x.direct_methods (method_in m)) in

@@ -32,7 +32,7 @@ use Rattle.dexmembers.specs.declared.class_data.ClassData.{ClassData}
 use Rattle.dexmembers.specs.internal.ClassData.{encoded_field_in, encoded_method_in, class_data_in, IsDataOf, IsDataFault}
 use Rattle.dexmembers.specs.internal.EncodedMembers.{IsDataRefusal, Chain, FieldAt, MethodAt, IsOwnField, IsOwnMethod, DataAt, NoData}
 use Rattle.dexmembers.proofs.Owned.{one_place}
-use Rattle.dexmembers.proofs.RenumberingLists.{all_left, all_right}
+use Rattle.dexpool.proofs.Parts.{all_prefix, all_back}
 use Rattle.dexmembers.proofs.MemberChains.{chain_all, chain_rises}
 use Rattle.dexmembers.proofs.OneMember.{field_follows, method_follows}
 
@@ -246,10 +246,10 @@ module _ (b : List ℕ) (m : Mentions) (pools : ArePools b m) (is : IsNumbering 
       let p4 : o + s.counts_bytes + s.static_fields_bytes + s.instance_fields_bytes + s.direct_methods_bytes ≡ o + s.counts_bytes + (s.static_fields_bytes + s.instance_fields_bytes) + s.direct_methods_bytes = omega arith in
       let few_f = few_fields b frame in
       let few_m = few_methods b frame in
-      let ss = fields_of_file b m pools class name at few_f (o + s.counts_bytes) None d.static_fields s.static_fields_bytes s.static_fields (all_left FieldNamed d.static_fields d.instance_fields own.fields) in
-      let is' = fields_of_file b m pools class name at few_f (o + s.counts_bytes + s.static_fields_bytes) None d.instance_fields s.instance_fields_bytes s.instance_fields (all_right FieldNamed d.static_fields d.instance_fields own.fields) in
-      let ds = methods_of_file b m pools class name at few_m (o + s.counts_bytes + s.static_fields_bytes + s.instance_fields_bytes) None d.direct_methods s.direct_methods_bytes s.direct_methods (all_left MethodNamed d.direct_methods d.virtual_methods own.methods) in
-      let vs = methods_of_file b m pools class name at few_m (o + s.counts_bytes + s.static_fields_bytes + s.instance_fields_bytes + s.direct_methods_bytes) None d.virtual_methods s.virtual_methods_bytes s.virtual_methods (all_right MethodNamed d.direct_methods d.virtual_methods own.methods) in
+      let ss = fields_of_file b m pools class name at few_f (o + s.counts_bytes) None d.static_fields s.static_fields_bytes s.static_fields (all_prefix FieldNamed d.static_fields d.instance_fields own.fields) in
+      let is' = fields_of_file b m pools class name at few_f (o + s.counts_bytes + s.static_fields_bytes) None d.instance_fields s.instance_fields_bytes s.instance_fields (all_back FieldNamed d.static_fields d.instance_fields own.fields) in
+      let ds = methods_of_file b m pools class name at few_m (o + s.counts_bytes + s.static_fields_bytes + s.instance_fields_bytes) None d.direct_methods s.direct_methods_bytes s.direct_methods (all_prefix MethodNamed d.direct_methods d.virtual_methods own.methods) in
+      let vs = methods_of_file b m pools class name at few_m (o + s.counts_bytes + s.static_fields_bytes + s.instance_fields_bytes + s.direct_methods_bytes) None d.virtual_methods s.virtual_methods_bytes s.virtual_methods (all_back MethodNamed d.direct_methods d.virtual_methods own.methods) in
       let n0 : length d.static_fields ≡ length ss.0 = sym (ap length ss.1) ∙ length-map ss.0 (encoded_field_in m) in
       let n1 : length d.instance_fields ≡ length is'.0 = sym (ap length is'.1) ∙ length-map is'.0 (encoded_field_in m) in
       let n2 : length d.direct_methods ≡ length ds.0 = sym (ap length ds.1) ∙ length-map ds.0 (encoded_method_in m) in

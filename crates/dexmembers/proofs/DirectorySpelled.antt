@@ -22,7 +22,8 @@ use Rattle.dexpool.specs.Laws.{RanksAreNumbers}
 use Rattle.dexval.specs.Numbered.{field_at, method_at}
 use Rattle.dexmembers.specs.Numbered.{NumberedField, NumberedMethod, NumberedMembers, Members, field_in, method_in, members_in, members_of, fields_of, methods_of, IsKnownField, IsKnownMethod, AreKnownMembers, AreOfClass, AreOrdered}
 use Rattle.dexmembers.specs.DirectoryPut.{count_placed, pairs_of_both, both_bytes, field_numbers, method_numbers, numbered_directory_bytes}
-use Rattle.dexmembers.proofs.ClassDataSpelled.{all_prefix, all_suffix, field_number, method_number}
+use Rattle.dexpool.proofs.Parts.{all_prefix, all_back}
+use Rattle.dexmembers.proofs.ClassDataSpelled.{field_number, method_number}
 use Rattle.dexmembers.proofs.PairsMerged.{kept, AreAbove, Ascend, AreOther, AreApart, lower_above, merged_in_order, kept_bytes, kept_count, placed_count, placed_append, pairs_size}
 
 -- ---- rising numbers
@@ -178,11 +179,11 @@ module _ (m : Mentions) (ranks : RanksAreNumbers m) (name : Text) where
       let fields : field_indices (c.static_fields ++ c.instance_fields) ≡ field_numbers s ++ field_numbers t =
       ap (λ (y : Members). field_indices (y.static_fields ++ y.instance_fields)) same
       ∙ map-append (λ (f : FieldDef). field_index m (field_of name f)) (map (field_in m) s) (map (field_in m) t)
-      ∙ (let e = fields_numbered s h.static_fields_known (all_prefix OfFields s t k.fields_of_class) in let f = fields_numbered t h.instance_fields_known (all_suffix OfFields s t k.fields_of_class) in λ i. e i ++ f i) in
+      ∙ (let e = fields_numbered s h.static_fields_known (all_prefix OfFields s t k.fields_of_class) in let f = fields_numbered t h.instance_fields_known (all_back OfFields s t k.fields_of_class) in λ i. e i ++ f i) in
       let methods : method_indices (c.direct_methods ++ c.virtual_methods) ≡ method_numbers d ++ method_numbers v =
       ap (λ (y : Members). method_indices (y.direct_methods ++ y.virtual_methods)) same
       ∙ map-append (λ (y : MethodDef). method_index m (method_of name y)) (map (method_in m) d) (map (method_in m) v)
-      ∙ (let e = methods_numbered d h.direct_methods_known (all_prefix OfMethods d v k.methods_of_class) in let f = methods_numbered v h.virtual_methods_known (all_suffix OfMethods d v k.methods_of_class) in λ i. e i ++ f i) in
+      ∙ (let e = methods_numbered d h.direct_methods_known (all_prefix OfMethods d v k.methods_of_class) in let f = methods_numbered v h.virtual_methods_known (all_back OfMethods d v k.methods_of_class) in λ i. e i ++ f i) in
       let fm : length fo ≡ length (field_numbers s) + length (field_numbers t) = omega (arith, many_fields, length-append s t, length-map s (λ (f : NumberedField). f.number), length-map t (λ (f : NumberedField). f.number)) in
       let mm : length mo ≡ length (method_numbers d) + length (method_numbers v) = omega (arith, many_methods, length-append d v, length-map d (λ (y : NumberedMethod). y.number), length-map v (λ (y : NumberedMethod). y.number)) in
       let pm : length po ≡ length (method_numbers d) + length (method_numbers v) = omega (arith, many_parameters, length-append d v, length-map d (λ (y : NumberedMethod). y.number), length-map v (λ (y : NumberedMethod). y.number)) in

@@ -13,7 +13,6 @@ use Rattle.dexval.specs.Uses.{set_uses, values_uses}
 use Rattle.dexpool.proofs.Parts.{all_prefix, all_back}
 use Rattle.dexmembers.specs.Numbered.{NumberedField, NumberedMethod, NumberedMembers, fields_of, methods_of}
 use Rattle.dexmembers.specs.Uses.{field_uses, method_uses, members_uses}
-use Rattle.dexmembers.proofs.RenumberingLists.{all_left, all_right}
 
 -- the field of a number
 abbrev pub field_use : ℕ → Use
@@ -100,9 +99,9 @@ module _ (r : Maps) (code_images : (c : NumberedItem) → All (IsMappedUse r) (i
       let methods = each (IsMappedUse r) method_uses (MethodHasImages r) method_images (methods_of x) (all_prefix (IsMappedUse r) ms vs rest) in
       record {
         annotations_mapped = all_prefix (IsMappedUse r) own (fs ++ (ms ++ vs)) h;
-        static_fields_mapped = all_left (FieldHasImages r) x.static_fields x.instance_fields fields;
-        instance_fields_mapped = all_right (FieldHasImages r) x.static_fields x.instance_fields fields;
-        direct_methods_mapped = all_left (MethodHasImages r) x.direct_methods x.virtual_methods methods;
-        virtual_methods_mapped = all_right (MethodHasImages r) x.direct_methods x.virtual_methods methods;
+        static_fields_mapped = all_prefix (FieldHasImages r) x.static_fields x.instance_fields fields;
+        instance_fields_mapped = all_back (FieldHasImages r) x.static_fields x.instance_fields fields;
+        direct_methods_mapped = all_prefix (MethodHasImages r) x.direct_methods x.virtual_methods methods;
+        virtual_methods_mapped = all_back (MethodHasImages r) x.direct_methods x.virtual_methods methods;
         values_mapped = all_back (IsMappedUse r) ms vs rest;
       }

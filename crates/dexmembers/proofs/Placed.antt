@@ -22,7 +22,7 @@ use Rattle.dexmembers.specs.Numbered.{NumberedField, NumberedMethod, NumberedMem
 use Rattle.dexmembers.specs.Renumbering.{FieldHasPlaces, MethodHasPlaces, MembersHavePlaces}
 use Rattle.dexmembers.specs.Fitting.{MethodFits, NumbersFit, code_short_strings, method_short_strings, members_short_strings}
 use Rattle.dexpool.proofs.KeptTables.{all_both}
-use Rattle.dexmembers.proofs.RenumberingLists.{all_left, all_right}
+use Rattle.dexpool.proofs.Parts.{all_prefix, all_back}
 use Rattle.dexmembers.proofs.Images.{SetHasImages, HaveImages, FieldHasImages, MethodHasImages, MembersHaveImages, some_of}
 
 -- the code of the method, if it has some, has places
@@ -56,8 +56,8 @@ module _ (r : Maps) (narrow : MapsNarrow r) (sets : (s : NumberedSet) → SetHas
     annotations_mapped = sets x.annotations h.annotations_mapped;
     static_fields_mapped = All-weaker (FieldHasImages r) (FieldHasPlaces r) field_placed x.static_fields h.static_fields_mapped;
     instance_fields_mapped = All-weaker (FieldHasImages r) (FieldHasPlaces r) field_placed x.instance_fields h.instance_fields_mapped;
-    direct_methods_mapped = all_both (MethodHasImages r) (CodePlaced r) (MethodHasPlaces r) x.direct_methods h.direct_methods_mapped (all_left (CodePlaced r) x.direct_methods x.virtual_methods placed) method_placed;
-    virtual_methods_mapped = all_both (MethodHasImages r) (CodePlaced r) (MethodHasPlaces r) x.virtual_methods h.virtual_methods_mapped (all_right (CodePlaced r) x.direct_methods x.virtual_methods placed) method_placed;
+    direct_methods_mapped = all_both (MethodHasImages r) (CodePlaced r) (MethodHasPlaces r) x.direct_methods h.direct_methods_mapped (all_prefix (CodePlaced r) x.direct_methods x.virtual_methods placed) method_placed;
+    virtual_methods_mapped = all_both (MethodHasImages r) (CodePlaced r) (MethodHasPlaces r) x.virtual_methods h.virtual_methods_mapped (all_back (CodePlaced r) x.direct_methods x.virtual_methods placed) method_placed;
     values_mapped = values x.static_values h.values_mapped;
   }
 

@@ -1,5 +1,5 @@
 -- What holds of mapped lists and options, member by member.
-use Rattle.std.proofs.Common.{◌≡◌, List, [], ◌∷◌, ◌++◌, map, Option, Some, None, refl, ap}
+use Rattle.std.proofs.Common.{◌≡◌, List, [], ◌∷◌, map, Option, Some, None, refl, ap}
 use Rattle.std.specs.Prelude.{◌↔◌, IfSome}
 use Rattle.std.specs.List.{All}
 use Rattle.std.specs.Option.{option_map}
@@ -19,14 +19,6 @@ others (x ∷ xs) = xs
 abbrev value_or : {X : Type 0} → X → Option X → X
 value_or d None = d
 value_or d (Some x) = x
-
-pub all_left : {X : Type 0} (P : X → Type 0) (xs ys : List X) → All P (xs ++ ys) → All P xs
-all_left P [] ys h = All-nil P
-all_left P (x ∷ xs) ys h = All-cons P x xs (All-head P x (xs ++ ys) h) (all_left P xs ys (All-tail P x (xs ++ ys) h))
-
-pub all_right : {X : Type 0} (P : X → Type 0) (xs ys : List X) → All P (xs ++ ys) → All P ys
-all_right P [] ys h = h
-all_right P (x ∷ xs) ys h = all_right P xs ys (All-tail P x (xs ++ ys) h)
 
 -- what a step gives for each member
 pub all_mapped : {X Y : Type 0} (f : X → Y) (P K : X → Type 0) (Q : Y → Type 0) → ((x : X) → P x → K x → Q (f x)) → (xs : List X) → All P xs → All K xs → All Q (map f xs)

@@ -20,7 +20,8 @@ use Rattle.dexmembers.specs.Numbered.{NumberedField, NumberedMethod, NumberedMem
 use Rattle.dexmembers.specs.Renumbering.{renumbered_field, renumbered_method, renumbered_members}
 use Rattle.dexmembers.proofs.Images.{field_use, method_use, SetHasImages, HaveImages, FieldHasImages, MethodHasImages, MembersHaveImages}
 use Rattle.dexpool.proofs.KeptTables.{all_both}
-use Rattle.dexmembers.proofs.RenumberingLists.{all_left, all_right, maps_same, options_same, options_both}
+use Rattle.dexpool.proofs.Parts.{all_prefix, all_back}
+use Rattle.dexmembers.proofs.RenumberingLists.{maps_same, options_same, options_both}
 use Rattle.dexmembers.proofs.RenumberingKept.{no_field, no_method, field_remapped, method_remapped, FieldIsOf, MethodIsOf}
 
 -- what is known of a set: its numbers have images, and are those of symbols
@@ -162,10 +163,10 @@ record AreParts (m : Mentions) (r : Maps) (class : Text) (x : NumberedMembers) :
 
 are_parts : (m : Mentions) (r : Maps) (class : Text) (x : NumberedMembers) → MembersHaveImages r x → AreKnownMembers m x → AreOfClass m class x → AreParts m r class x
 are_parts m r class x maps_to known are = record {
-  statics = fields_part m r class x.static_fields maps_to.static_fields_mapped known.static_fields_known (all_left (FieldIsOf m class) x.static_fields x.instance_fields are.fields_of_class);
-  instances = fields_part m r class x.instance_fields maps_to.instance_fields_mapped known.instance_fields_known (all_right (FieldIsOf m class) x.static_fields x.instance_fields are.fields_of_class);
-  directs = methods_part m r class x.direct_methods maps_to.direct_methods_mapped known.direct_methods_known (all_left (MethodIsOf m class) x.direct_methods x.virtual_methods are.methods_of_class);
-  virtuals = methods_part m r class x.virtual_methods maps_to.virtual_methods_mapped known.virtual_methods_known (all_right (MethodIsOf m class) x.direct_methods x.virtual_methods are.methods_of_class);
+  statics = fields_part m r class x.static_fields maps_to.static_fields_mapped known.static_fields_known (all_prefix (FieldIsOf m class) x.static_fields x.instance_fields are.fields_of_class);
+  instances = fields_part m r class x.instance_fields maps_to.instance_fields_mapped known.instance_fields_known (all_back (FieldIsOf m class) x.static_fields x.instance_fields are.fields_of_class);
+  directs = methods_part m r class x.direct_methods maps_to.direct_methods_mapped known.direct_methods_known (all_prefix (MethodIsOf m class) x.direct_methods x.virtual_methods are.methods_of_class);
+  virtuals = methods_part m r class x.virtual_methods maps_to.virtual_methods_mapped known.virtual_methods_known (all_back (MethodIsOf m class) x.direct_methods x.virtual_methods are.methods_of_class);
 }
 
 -- ---- all members

@@ -21,7 +21,7 @@ use Rattle.dexmembers.specs.Renumbering.{renumbered_members}
 use Rattle.dexmembers.specs.Uses.{members_uses}
 use Rattle.dexmembers.specs.Fitting.{code_short_strings, method_short_strings, members_short_strings}
 use Rattle.dexmembers.proofs.Images.{MethodHasImages, members_images}
-use Rattle.dexmembers.proofs.RenumberingLists.{all_right}
+use Rattle.dexpool.proofs.Parts.{all_back}
 use Rattle.dexclass.specs.Numbered.{NumberedClass}
 use Rattle.dexclass.specs.Parents.{no_class}
 use Rattle.dexclass.specs.Renumbering.{IsMappedClass}
@@ -65,7 +65,7 @@ all_member P xs x all c = subst P c.2 (All-get_or P xs c.0 x c.1 all)
 module _ (r : Maps) (c : NumberedClass) (remapped : IsMappedClass r c) where
   -- each symbol in what it declares has an image
   members_remapped : All (IsMappedUse r) (members_uses c.members)
-  members_remapped = all_right (IsMappedUse r) (map text_use (text_numbers c)) (members_uses c.members) (all_right (IsMappedUse r) (map type_use (type_numbers c)) (map text_use (text_numbers c) ++ members_uses c.members) remapped)
+  members_remapped = all_back (IsMappedUse r) (map text_use (text_numbers c)) (members_uses c.members) (all_back (IsMappedUse r) (map type_use (type_numbers c)) (map text_use (text_numbers c) ++ members_uses c.members) remapped)
 
   -- so does each text that a const-string names
   pub text_remapped : (n : ℕ) → Contains (members_short_strings c.members) n → IsSome (image r.texts n)

@@ -25,7 +25,7 @@ use Rattle.dexmembers.specs.Numbered.{NumberedMembers}
 use Rattle.dexmembers.specs.Uses.{members_uses}
 use Rattle.dexmembers.specs.Fitting.{members_short_strings}
 use Rattle.dexmembers.specs.Renumbering.{MembersHavePlaces}
-use Rattle.dexmembers.proofs.RenumberingLists.{all_right}
+use Rattle.dexpool.proofs.Parts.{all_back}
 use Rattle.dexclass.specs.Numbered.{NumberedClass, definition_of}
 use Rattle.dexclass.specs.Uses.{IsKnownClass, type_use, text_use, type_numbers, text_numbers}
 use Rattle.dexclass.specs.Renumbering.{renumbered, ClassHasPlaces, StaysSame}
@@ -123,5 +123,5 @@ module _ (maps_fit : MapsFit) (members_fit : MembersFit) (keep : KeepMeaning) (m
         let x : NumberedMembers = c.members in
         let g = greatest_is (members_short_strings x) in
         let all = remapped_class maps_to K r c p.are_mapped.all known in
-        let uses : All (IsMappedUse r) (members_uses x) = all_right (IsMappedUse r) (map text_use (text_numbers c)) (members_uses x) (all_right (IsMappedUse r) (map type_use (type_numbers c)) (map text_use (text_numbers c) ++ members_uses x) all) in
+        let uses : All (IsMappedUse r) (members_uses x) = all_back (IsMappedUse r) (map text_use (text_numbers c)) (members_uses x) (all_back (IsMappedUse r) (map type_use (type_numbers c)) (map text_use (text_numbers c) ++ members_uses x) all) in
         members_fit r x g.0 (keep_order own m r p.are_mapped.are_mapped) (maps_fit own m r p.are_mapped.are_mapped (not_too_large m p.whole p.mentions_are p.good)) g.1 (maps_low g.0 g.1) uses

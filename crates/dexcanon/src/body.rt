@@ -8,7 +8,6 @@ ghost use Rattle.dexcanon.specs.internal.Adding.{tables_of, data_of, after_heade
 use crate::class_defs::ClassDefs;
 use crate::contents::Contents;
 use crate::item_lists::ItemList;
-use crate::map::encode_map;
 use crate::strings::StringDataItems;
 use crate::tables::{FieldIds, MethodIds, ProtoIds, StringIds, TypeIds};
 use dexhead::Output;
@@ -51,5 +50,5 @@ pub(crate) fn encode_body<O: Output>(contents: &Contents<'_, '_, '_>, out: &mut 
 {
     encode_tables(contents, out);
     encode_data(contents, out);
-    encode_map(contents, out);
+    out.bytes(contents.layout.map().bytes());
 }

@@ -14,7 +14,6 @@ mod digest;
 mod faults;
 mod files;
 mod item_lists;
-mod map;
 mod output;
 mod strings;
 mod tables;

@@ -3,7 +3,7 @@ use Rattle.std.proofs.Common.{◌≡◌, ℕ, ◌+◌, ◌*◌, ◌≤◌, List,
 use Rattle.std.specs.List.{flat_map}
 use Rattle.std.specs.Prelude.{slice_index, drop}
 use Rattle.std.proofs.lemmas.List.{length-append}
-use Rattle.dexspec.specs.Bytes.{uint}
+use Rattle.dexspec.specs.Bytes.{uint, padding, round_up}
 use Rattle.dexspec.specs.Header.{HasSize}
 use Rattle.dexspec.specs.Sections.{Section, HeaderItem, MapList}
 use Rattle.dexspec.specs.Files.{Collection, definitions}
@@ -14,13 +14,16 @@ use Rattle.dexspec.specs.Canonical.{map_of, map_bytes, map_entry_bytes, unsigned
 use Rattle.dexspec.proofs.numbers.ByteNumbers.{length-uint, length-ushort}
 use Rattle.dexspec.proofs.written.PlacedBytes.{length_rows}
 use Rattle.dexspec.proofs.layout.SectionPlaces.{data_before_map, map_place, map_place_is, map_list_named, parts}
+use Rattle.dexhead.specs.declared.map_list.MapEntry.{MapEntry}
 use Rattle.dexhead.specs.Laid.{StatesLayout, map_start, map_list}
+use Rattle.dexhead.specs.Written.{entry_meant}
 use Rattle.dexpool.specs.Numberings.{IsNumbering}
 use Rattle.dexclass.specs.Numbered.{NumberedClass}
 use Rattle.dexclass.specs.Programs.{AreClassesOf}
 use Rattle.dexlayout.specs.Places.{SetPlaces, Places}
-use Rattle.dexlayout.specs.Laid.{ordered_of, file_end, AreWritable, AreLaidSo, AreEncodedIn, AreSharedIn, AreSets, IsLaid, AreItemsIn}
+use Rattle.dexlayout.specs.Laid.{ordered_of, file_end, AreWritable, AreLaidSo, AreEncodedIn, AreSharedIn, AreSets, IsLaid, IsMap, AreItemsIn}
 use Rattle.dexlayout.specs.internal.Parts.{entry_of, table_parts, section_parts}
+use Rattle.dexlayout.specs.internal.Placing.{placed_map, whole_map}
 use Rattle.dexlayout.proofs.Ends.{map_start_is}
 use Rattle.dexlayout.proofs.OwnParts.{map_parts}
 
@@ -96,7 +99,10 @@ module _ (m : Mentions) (cs ds : List NumberedClass) (e : ordered_of m cs ≡ or
     sets_are = sets_same h.sets_are;
     ref_lists_are = subst (λ (K : Ordered). AreEncodedIn (ref_list_section K) p.ref_lists) e h.ref_lists_are;
     directories_are = subst (λ (K : Ordered). AreEncodedIn (directory_section K) p.directories) e h.directories_are;
-    entries_are = h.entries_are ∙ ap (λ (K : Ordered). map_of K (map_start K)) e;
+    map_is = record {
+      bytes_are = h.map_is.bytes_are ∙ ap (λ (K : Ordered). padding 4 (end (directory_section K)) ++ map_list K) e;
+      places_are = subst (λ (K : Ordered). AreLaidSo (map_start K ∷ []) (file_end K) p.map.places) e h.map_is.places_are;
+    };
   }
 
 -- the data begin before the map
@@ -106,14 +112,21 @@ data_before K = omega (arith, data_before_map K, places_same K)
 -- ---- the map
 
 -- the entries of the parts are the map
-pub entries_same : (K : Ordered) (off : ℕ) (tables sections es : List (Section × ℕ × ℕ))
-    → es ≡ (HeaderItem, 1, 0) ∷ (flat_map entry_of tables ++ (flat_map entry_of sections ++ (MapList, 1, off) ∷ [])) → tables ≡ table_parts K → sections ≡ section_parts K → off ≡ map_start K
-    → es ≡ map_of K (map_start K)
-entries_same K off tables sections es e et es' eo =
-    e ∙ ap (λ ts. (HeaderItem, 1, 0) ∷ (flat_map entry_of ts ++ (flat_map entry_of sections ++ (MapList, 1, off) ∷ []))) et
-    ∙ ap (λ ss. (HeaderItem, 1, 0) ∷ (flat_map entry_of (table_parts K) ++ (flat_map entry_of ss ++ (MapList, 1, off) ∷ []))) es'
+entries_same : (K : Ordered) (off : ℕ) (tables sections : List (Section × ℕ × ℕ)) → tables ≡ table_parts K → sections ≡ section_parts K → off ≡ map_start K
+    → (HeaderItem, 1, 0) ∷ (flat_map entry_of tables ++ (flat_map entry_of sections ++ (MapList, 1, off) ∷ [])) ≡ map_of K (map_start K)
+entries_same K off tables sections et es eo =
+    ap (λ ts. (HeaderItem, 1, 0) ∷ (flat_map entry_of ts ++ (flat_map entry_of sections ++ (MapList, 1, off) ∷ []))) et
+    ∙ ap (λ ss. (HeaderItem, 1, 0) ∷ (flat_map entry_of (table_parts K) ++ (flat_map entry_of ss ++ (MapList, 1, off) ∷ []))) es
     ∙ map_parts K off ∙ ap (map_of K) eo
 
--- and have its size
-pub map_size_is : (K : Ordered) (es : List (Section × ℕ × ℕ)) (n : ℕ) → es ≡ map_of K (map_start K) → n ≡ length es → 4 + 12 * n ≡ length (map_list K)
-map_size_is K es n e en = ap (λ k. 4 + 12 * k) en ∙ sym (length-map_bytes es) ∙ ap (λ l. length (map_bytes l)) e
+-- after the sections they are laid out as it is
+pub map_laid : (m : Mentions) (cs : List NumberedClass) (tables sections : List MapEntry) (from : ℕ) → map entry_meant tables ≡ table_parts (ordered_of m cs) → map entry_meant sections ≡ section_parts (ordered_of m cs)
+    → from ≡ end (directory_section (ordered_of m cs)) → IsMap m cs (placed_map tables sections from)
+map_laid m cs tables sections from et es is =
+    let K = ordered_of m cs in
+    let off : round_up 4 from ≡ map_start K = ap (round_up 4) is ∙ sym (map_start_is K) in
+    let list : map_bytes (whole_map tables sections (round_up 4 from)) ≡ map_list K = ap map_bytes (entries_same K (round_up 4 from) (map entry_meant tables) (map entry_meant sections) et es off) in
+    record {
+      bytes_are = ap (λ n. padding 4 n ++ map_bytes (whole_map tables sections (round_up 4 from))) is ∙ ap (λ l. padding 4 (end (directory_section K)) ++ l) list;
+      places_are = record { offsets_are = ap (λ n. n ∷ []) off; end_is = ap (λ n. n + length (map_bytes (whole_map tables sections (round_up 4 from)))) off ∙ ap (λ (l : List ℕ). map_start K + length l) list };
+    }

@@ -1,10 +1,11 @@
 -- When a layout is that of the canonical file of classes.
-use Rattle.std.specs.Prelude.{◌≡◌, ℕ, ◌+◌, ◌^◌, ◌≤◌, Option, List, map, length, All, drop, slice_index}
+use Rattle.std.specs.Prelude.{◌≡◌, ℕ, ◌+◌, ◌^◌, ◌≤◌, Option, List, [], ◌∷◌, ◌++◌, map, length, All, drop, slice_index}
 use Rattle.std.specs.List.{flat_map}
+use Rattle.dexspec.specs.Bytes.{padding}
 use Rattle.dexspec.specs.Mentions.{Mentions, mentions}
 use Rattle.dexspec.specs.Files.{Collection, definitions}
 use Rattle.dexspec.specs.Placing.{Ordered, EqualOnce, Placed, Items, section_bytes, end, uses_offsets, offsets}
-use Rattle.dexspec.specs.Canonical.{map_of, type_list_section, annotation_section, array_section, string_section, debug_section, code_section, class_data_section, set_section, set_offsets, ref_list_section, directory_section, ordered}
+use Rattle.dexspec.specs.Canonical.{type_list_section, annotation_section, array_section, string_section, debug_section, code_section, class_data_section, set_section, set_offsets, ref_list_section, directory_section, ordered}
 use Rattle.dexhead.specs.Laid.{StatesLayout, map_start, map_list}
 use Rattle.dexpool.specs.Numberings.{IsNumbering}
 use Rattle.dexclass.specs.Numbered.{NumberedClass, definition_of}
@@ -97,6 +98,11 @@ AreRefLists m cs = AreEncodedIn (ref_list_section (ordered_of m cs))
 abbrev pub AreDirectories : Mentions → List NumberedClass → EncodedItems → Type 0
 AreDirectories m cs = AreEncodedIn (directory_section (ordered_of m cs))
 
+-- the map, which is aligned, has its offset, and ends where the file does
+pub record IsMap (m : Mentions) (cs : List NumberedClass) (p : EncodedItems) : Type 0 where
+  pub bytes_are : p.bytes ≡ padding 4 (end (directory_section (ordered_of m cs))) ++ map_list (ordered_of m cs)
+  pub places_are : AreLaidSo (map_start (ordered_of m cs) ∷ []) (file_end (ordered_of m cs)) p.places
+
 -- ---- the whole
 
 -- the layout is that of the file of these classes
@@ -113,7 +119,7 @@ pub record IsLaid (m : Mentions) (cs : List NumberedClass) (p : Places) : Type 0
   pub sets_are : AreSets m cs p.sets
   pub ref_lists_are : AreRefLists m cs p.ref_lists
   pub directories_are : AreDirectories m cs p.directories
-  pub entries_are : p.entries ≡ map_of (ordered_of m cs) (map_start (ordered_of m cs))
+  pub map_is : IsMap m cs p.map
 
 -- the layout is that of the collection's file
 abbrev pub IsLayoutOf : Collection → Places → Type 0

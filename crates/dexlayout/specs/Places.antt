@@ -1,6 +1,5 @@
 -- A layout of a canonical file: the offsets of its items, and the shared items that are written.
 use Rattle.std.specs.Prelude.{ℕ, List}
-use Rattle.dexspec.specs.Sections.{Section}
 use Rattle.dexhead.specs.declared.head.Head.{Head}
 
 -- Where items begin, an offset for each use and 0 where it has no item; and where they end.
@@ -41,4 +40,4 @@ pub record Places : Type 0 where
   pub sets : SetPlaces
   pub ref_lists : EncodedItems
   pub directories : EncodedItems
-  pub entries : List (Section × ℕ × ℕ)
+  pub map : EncodedItems

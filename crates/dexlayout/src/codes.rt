@@ -9,7 +9,6 @@ use crate::items::Items;
 use crate::offsets::Offsets;
 use dexclass::Class;
 use dexcode::{CodeItem, code_bytes_law, code_types_law};
-use dexhead::put_with_len;
 use dexmembers::{Method, Methods};
 use std::alloc::{AllocError, Global};
 
@@ -69,12 +68,6 @@ fn put_method(method: &Method<'_, '_>, debug_off: u32, items: &mut Items) -> Res
         Some(code) => code,
         None => return items.pass(),
     };
-    items.align()?;
-    let before = items.bytes.len();
-    put_with_len(
-        &CodeItem { code, debug_off },
-        code.item_len(),
-        &mut items.bytes,
-    )?;
-    items.end_item(before)
+    code_bytes_law();
+    items.put(&CodeItem { code, debug_off }, code.weight() as usize)
 }

@@ -1,6 +1,6 @@
 //! Items that are encoded where they are laid out.
 
-ghost use Rattle.std.specs.Prelude.{◌≡◌, ◌++◌, ◌^◌, ◌<◌, ◌≤◌, All, IfOk, IfSome, OnOk, Some, length};
+ghost use Rattle.std.specs.Prelude.{◌≡◌, ◌^◌, ◌<◌, ◌≤◌, All, IfOk, IfSome, OnOk, Some, length};
 ghost use Rattle.std.specs.List.{flat_map};
 ghost use Rattle.dexspec.specs.Bytes.{uint};
 ghost use Rattle.dexspec.specs.Spellings.{offsets_bytes};
@@ -9,7 +9,7 @@ ghost use Rattle.dexlayout.specs.internal.Placing.{shared_by};
 
 use crate::offsets::{Offsets, padding};
 use crate::sharing::place_shared;
-use dexhead::Output;
+use dexhead::{Encode, Output};
 use std::alloc::{AllocError, Global};
 use std::marker::Model;
 
@@ -79,16 +79,44 @@ impl Items {
         self.places.put_next(self.bytes.len() - before)
     }
 
+    /// Encodes an item of at most `most` bytes after the items before it, aligned to 4 bytes.
+    pub(crate) fn put<T: Encode>(&mut self, item: &T, most: usize) -> Result<(), AllocError>
+        requires formed { T.formed item.now }
+        requires most { length (T.bytes item.now) ≤ most }
+        requires fits { (encode_use 4 self.old (Some (T.bytes item.now))).places.end ≤ 2 ^ 30 }
+        ensures { OnOk result (self.new ≡ encode_use 4 self.old (Some (T.bytes item.now))) }
+    {
+        self.align()?;
+        let before = self.bytes.len();
+        self.bytes.reserve(most)?;
+        item.encode(&mut self.bytes);
+        self.end_item(before)
+    }
+
     /// Encodes a list of offsets after the items before it: how many they are, and each.
     pub(crate) fn put_offsets(&mut self, offsets: &[u32]) -> Result<(), AllocError>
         requires { (encode_use 4 self.old (Some (offsets_bytes offsets.now))).places.end ≤ 2 ^ 30 }
         ensures { OnOk result (self.new
             ≡ encode_use 4 self.old (Some (offsets_bytes offsets.now))) }
     {
-        self.align()?;
-        let before = self.bytes.len();
-        encode_offsets(offsets, &mut self.bytes)?;
-        self.end_item(before)
+        self.put(&OffsetList { offsets }, 4 + 4 * offsets.len())
+    }
+}
+
+// A list of offsets, encoded as how many they are, and each.
+#[derive(Drop)]
+struct OffsetList<'o> {
+    offsets: &'o [u32],
+}
+
+impl Encode for OffsetList<'_> {
+    ghost formed = { λ l. length l.offsets.now < 2 ^ 32 };
+
+    ghost bytes = { λ l. offsets_bytes l.offsets.now };
+
+    fn encode<O: Output>(&self, out: &mut O) {
+        out.u32(self.offsets.len() as u32);
+        encode_numbers(self.offsets, out);
     }
 }
 
@@ -99,17 +127,6 @@ pub fn encode_numbers<O: Output>(numbers: &[u32], out: &mut O)
     for number in numbers {
         out.u32(*number);
     }
-}
-
-// Appends how many offsets there are, and each, in four bytes.
-fn encode_offsets(offsets: &[u32], bytes: &mut Vec<u8>) -> Result<(), AllocError>
-    requires { length offsets.now < 2 ^ 32 }
-    ensures { OnOk result (bytes.new.items ≡ bytes.old.items ++ offsets_bytes offsets.now) }
-{
-    bytes.reserve(4 + 4 * offsets.len())?;
-    bytes.u32(offsets.len() as u32);
-    encode_numbers(offsets, bytes);
-    Ok(())
 }
 
 /// The items of one kind that are written, equal ones once, in the order of their first use: their bytes, one item

@@ -1,8 +1,7 @@
 //! Layouts of canonical files.
 
-ghost use Rattle.std.specs.Prelude.{◌≡◌, IfOk, length, map};
+ghost use Rattle.std.specs.Prelude.{◌≡◌, IfOk, length};
 ghost use Rattle.dexspec.specs.Canonical.{canonical};
-ghost use Rattle.dexhead.specs.Written.{entry_meant};
 ghost use Rattle.dexlayout.specs.Laid.{IsWritable, IsLayoutOf};
 
 use crate::data::Data;
@@ -11,7 +10,7 @@ use crate::layout_build::build_layout;
 use crate::offsets::Offsets;
 use crate::sets::Sets;
 use dexclass::Program;
-use dexhead::{Head, MapEntry};
+use dexhead::Head;
 use dexlaws::size::fitting_size_law;
 use std::alloc::{AllocError, Global};
 use std::marker::Model;
@@ -23,7 +22,7 @@ use std::marker::Model;
 pub struct Layout {
     pub(crate) head: Head,
     pub(crate) placed: Data,
-    pub(crate) entries: Vec<MapEntry>,
+    pub(crate) map: Items,
 }
 
 // So that a layout is dropped by one call, in the crates above too.
@@ -32,23 +31,21 @@ impl Drop for Layout {
         let Layout {
             head: _,
             placed: _,
-            entries: _,
+            map: _,
         } = self;
     }
 }
 
 impl Model for Layout {
-    ghost use Rattle.std.specs.Prelude.{map};
     ghost use Rattle.std.specs.Coded.{codes};
     ghost use Rattle.dexval.specs.Stored.{elements_code};
-    ghost use Rattle.dexhead.specs.Written.{entry_meant};
     ghost use Rattle.dexlayout.specs.Places.{Places};
 
     ghost Value = { Places };
 
     ghost coded = { Prim.hlevel (codes, elements_code) };
 
-    ghost view = { λ l. record { head = l.head; type_lists = l.placed.first_sections.type_lists; annotations = l.placed.first_sections.annotations; static_values = l.placed.first_sections.static_values; strings = l.placed.first_sections.strings; debugs = l.placed.bodies.debugs; codes = l.placed.bodies.codes; class_data = l.placed.bodies.class_data; sets = l.placed.back.sets; ref_lists = l.placed.back.ref_lists; directories = l.placed.back.directories; entries = map entry_meant l.entries.items } };
+    ghost view = { λ l. record { head = l.head; type_lists = l.placed.first_sections.type_lists; annotations = l.placed.first_sections.annotations; static_values = l.placed.first_sections.static_values; strings = l.placed.first_sections.strings; debugs = l.placed.bodies.debugs; codes = l.placed.bodies.codes; class_data = l.placed.bodies.class_data; sets = l.placed.back.sets; ref_lists = l.placed.back.ref_lists; directories = l.placed.back.directories; map = l.map } };
 }
 
 impl Layout {
@@ -145,18 +142,17 @@ impl Layout {
         &self.placed.back.ref_lists
     }
 
-    /// The annotations directories, encoded, and their offsets: for each class. Their end is the end of the sections
-    /// before the map.
+    /// The annotations directories, encoded, and their offsets: for each class.
     pub fn directories(&self) -> &Items
         ensures { result.now ≡ self.now.directories }
     {
         &self.placed.back.directories
     }
 
-    /// The entries of the map.
-    pub fn entries(&self) -> &[MapEntry]
-        ensures { map entry_meant result.now ≡ self.now.entries }
+    /// The map, encoded, and its offset. Its end is the end of the file.
+    pub fn map(&self) -> &Items
+        ensures { result.now ≡ self.now.map }
     {
-        &self.entries
+        &self.map
     }
 }

@@ -29,5 +29,5 @@ mod type_lists;
 
 pub use items::{Items, SharedItems, encode_numbers};
 pub use layout::Layout;
-pub use offsets::{Offsets, padding};
+pub use offsets::Offsets;
 pub use sets::Sets;

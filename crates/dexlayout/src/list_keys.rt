@@ -1,11 +1,13 @@
 //! Type lists that are equal where their numbers are.
 
 ghost use Rattle.dexspec.specs.Rows.{key_cmp};
-ghost use Rattle.std.specs.Prelude.{◌≡◌};
+ghost use Rattle.std.specs.Prelude.{◌≡◌, ◌^◌, ◌<◌, All, length};
 ghost use Rattle.std.specs.Cmp.{partial_equiv_from_equiv};
 ghost use Rattle.std.specs.Hash as fed;
+ghost use Rattle.dexlayout.specs.internal.Encoding.{list_bytes};
 ghost use Rattle.dexlayout.specs.ListKeys.{same_numbers, same_numbers_equiv, same_numbers_agree};
 
+use dexhead::{Encode, Output};
 use dexrows::TypeNumbers;
 use std::hash::{Hash, Hasher};
 use std::marker::Model;
@@ -22,15 +24,6 @@ impl<'p> Model for ListKey<'p> {
     ghost Value = { List ℕ };
 
     ghost view = { λ k. k.list };
-}
-
-impl<'p> ListKey<'p> {
-    /// The type list.
-    pub(crate) fn list(&self) -> &TypeNumbers<'p>
-        ensures { result.now ≡ self.now }
-    {
-        &self.list
-    }
 }
 
 impl PartialEq for ListKey<'_> {
@@ -57,6 +50,21 @@ impl Hash for ListKey<'_> {
         count.hash(state);
         for i in 0..count {
             self.list.at(i).hash(state);
+        }
+    }
+}
+
+/// Encoded as a type_list.
+impl Encode for ListKey<'_> {
+    ghost formed = { λ k. (length k < 2 ^ 31) × All (λ i. i < 65536) k };
+
+    ghost bytes = { list_bytes };
+
+    fn encode<O: Output>(&self, out: &mut O) {
+        let count = self.list.len();
+        out.u32(count as u32);
+        for i in 0..count {
+            out.u16(self.list.at(i) as u16);
         }
     }
 }

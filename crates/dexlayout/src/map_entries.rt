@@ -1,12 +1,13 @@
 //! The map of a file.
 
-ghost use Rattle.std.specs.Prelude.{◌≡◌, ◌<◌, ◌+◌, ◌++◌, length, map, IfOk, OnOk};
+ghost use Rattle.std.specs.Prelude.{◌≡◌, ◌<◌, ◌≤◌, ◌^◌, ◌+◌, ◌++◌, length, map, IfOk, OnOk};
 ghost use Rattle.dexhead.specs.Written.{entry_meant};
 ghost use Rattle.dexlayout.specs.internal.Parts.{count_placed};
-ghost use Rattle.dexlayout.specs.internal.Placing.{parts_in, full_parts, whole_map};
+ghost use Rattle.dexlayout.specs.internal.Placing.{parts_in, full_parts, placed_map, whole_map};
 
+use crate::items::Items;
 use crate::tables::entry;
-use dexhead::{MapEntry, Section};
+use dexhead::{MapEntry, MapList, Section};
 use std::alloc::{AllocError, Global};
 
 /// How many items there are: as many as offsets that are not 0.
@@ -16,9 +17,9 @@ pub(crate) fn count_placed(offsets: &[u32]) -> usize
     offsets.iter().filter(|off| **off != 0).count()
 }
 
-/// The entries of a map: the header's, those of the parts that are not empty, tables before sections, and the map's
-/// own.
-pub(crate) fn map_entries(
+// The entries of a map: the header's, those of the parts that are not empty, tables before sections, and the map's
+// own.
+fn map_entries(
     alloc: Global,
     tables: &[MapEntry],
     sections: &[MapEntry],
@@ -47,4 +48,28 @@ fn push_parts(parts: &[MapEntry], entries: &mut Vec<MapEntry>) -> Result<(), All
         }
     }
     Ok(())
+}
+
+/// The map, encoded, and its offset. It is after the sections of the data, which end at `from`.
+///
+/// Condition: it ends within what a file may have.
+///
+/// Source: "map_list".
+pub(crate) fn place_map(
+    alloc: Global,
+    tables: &[MapEntry],
+    sections: &[MapEntry],
+    from: u32,
+) -> Result<Items, AllocError>
+    requires few { length tables.now + length sections.now < 100 }
+    requires fits { (placed_map tables.now sections.now from).places.end ≤ 2 ^ 30 }
+    ensures { IfOk result (λ map. map ≡ placed_map tables.now sections.now from) }
+{
+    let mut items = Items::starting_at(alloc, from, 1)?;
+    items.align()?;
+    let entries = map_entries(alloc, tables, sections, items.places.end())?;
+    let before = items.bytes.len();
+    MapList { entries: &entries }.put(&mut items.bytes)?;
+    items.end_item(before)?;
+    Ok(items)
 }

@@ -84,7 +84,7 @@ pub(crate) fn round_up(at: u32) -> u32
 }
 
 /// The zeros that align what is at an offset to 4 bytes.
-pub fn padding(at: u32) -> &'static [u8]
+pub(crate) fn padding(at: u32) -> &'static [u8]
     ensures { result.now ≡ bytes.padding 4 at }
 {
     let zeros: &'static [u8] = &[0; 3];

@@ -2,12 +2,12 @@
 use Rattle.std.specs.Prelude.{ℕ, List, ◌++◌, map, drop}
 use Rattle.std.specs.List.{flat_map}
 use Rattle.dexspec.specs.Lists.{zip_with}
-use Rattle.dexspec.specs.Bytes.{uint, padding}
+use Rattle.dexspec.specs.Bytes.{uint}
 use Rattle.dexspec.specs.Texts.{string_data}
-use Rattle.dexspec.specs.Placing.{section_bytes, offsets, uses_offsets, end}
+use Rattle.dexspec.specs.Placing.{section_bytes, offsets, uses_offsets}
 use Rattle.dexspec.specs.Spellings.{text_index}
-use Rattle.dexspec.specs.Canonical.{class_offsets, data_sections, table_bytes, proto_row_bytes, field_row_bytes, method_row_bytes, with_sums, unsigned_file, type_list_section, string_section, directory_section}
-use Rattle.dexhead.specs.Laid.{after_header, map_list}
+use Rattle.dexspec.specs.Canonical.{class_offsets, data_sections, table_bytes, proto_row_bytes, field_row_bytes, method_row_bytes, with_sums, unsigned_file, type_list_section, string_section}
+use Rattle.dexhead.specs.Laid.{after_header}
 use Rattle.dexhead.specs.Written.{head_bytes}
 use Rattle.dexcanon.specs.declared.class_defs.ClassOffsets.{ClassOffsets}
 use Rattle.dexcanon.specs.declared.contents.Contents.{Contents}
@@ -63,7 +63,3 @@ offsets_of o = (o.interfaces, o.annotations, o.class_data, o.static_values)
 -- the sections of the data
 abbrev pub data_of : Contents → List ℕ
 data_of c = flat_map section_bytes (data_sections (ordered_in c))
-
--- the map, which is aligned
-abbrev pub map_bytes : Contents → List ℕ
-map_bytes c = padding 4 (end (directory_section (ordered_in c))) ++ map_list (ordered_in c)

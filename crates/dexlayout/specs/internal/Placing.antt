@@ -3,14 +3,15 @@ use Rattle.std.specs.Prelude.{◌≡◌, ℕ, List, [], ◌∷◌, ◌++◌, Opt
 use Rattle.std.specs.Option.{option_map_or}
 use Rattle.std.specs.Borrow.{Bor}
 use Rattle.std.specs.List.{flat_map}
+use Rattle.dexspec.specs.Bytes.{round_up}
 use Rattle.dexspec.specs.Texts.{string_data}
 use Rattle.dexspec.specs.Mentions.{Mentions}
 use Rattle.dexspec.specs.Sections.{Section, HeaderItem, MapList}
 use Rattle.dexspec.specs.Placing.{Ordered, offsets_from, end_from, end, Placed}
-use Rattle.dexspec.specs.Canonical.{data_start, type_list_items, set_items, debug_items, debug_section, code_section, class_data_section, placed_tables}
+use Rattle.dexspec.specs.Canonical.{data_start, type_list_items, set_items, debug_items, debug_section, code_section, class_data_section, placed_tables, map_bytes}
 use Rattle.dexhead.specs.declared.head.Head.{Head}
 use Rattle.dexhead.specs.declared.map_list.MapEntry.{MapEntry}
-use Rattle.dexhead.specs.Laid.{StatesLayout, map_start, map_list}
+use Rattle.dexhead.specs.Laid.{StatesLayout, map_start}
 use Rattle.dexhead.specs.Written.{entry_meant}
 use Rattle.dexdebug.specs.Debug.{NumberedDebug, numbered_debug_bytes}
 use Rattle.dexdebug.specs.Meaning.{debug_in, IsKnownDebug}
@@ -22,9 +23,9 @@ use Rattle.dexlayout.specs.declared.data.Data.{Data}
 use Rattle.dexlayout.specs.declared.sharing.Shared.{Shared}
 use Rattle.dexlayout.specs.declared.tables.Tables.{Tables}
 use Rattle.dexlayout.specs.Places.{ItemPlaces, EncodedItems, EncodedSharedItems, SetPlaces}
-use Rattle.dexlayout.specs.Laid.{ordered_of, AreWritable, AreLaidSo, AreLaidIn, AreAnnotations, AreCodes, AreClassData, AreDirectories, AreRefLists, AreSets, AreShared}
+use Rattle.dexlayout.specs.Laid.{ordered_of, file_end, AreWritable, AreLaidSo, AreLaidIn, AreAnnotations, AreCodes, AreClassData, AreDirectories, AreRefLists, AreSets, AreShared}
 use Rattle.dexlayout.specs.internal.Parts.{AreTables, AreData, entry_of, section_parts}
-use Rattle.dexlayout.specs.internal.Encoding.{encode_uses, list_bytes, no_items_from}
+use Rattle.dexlayout.specs.internal.Encoding.{encode_use, encode_uses, list_bytes, no_items_from}
 
 -- ---- sections
 
@@ -137,9 +138,9 @@ encoded_debugs from debugs = encode_uses 1 (no_items_from from) (map (λ debug. 
 
 -- ---- the header and the map
 
--- the header of the file that has these tables, and a map of this length at this offset
-abbrev pub StatesParts : Tables → ℕ → ℕ → Head → Type 0
-StatesParts tables map_off map_size head = (K : Ordered) → AreTables K tables → map_off ≡ map_start K → map_size ≡ length (map_list K) → StatesLayout head K
+-- the header of the file that has these tables, and this map at its end
+abbrev pub StatesParts : Tables → EncodedItems → Head → Type 0
+StatesParts tables map head = (K : Ordered) → AreTables K tables → AreLaidSo (map_start K ∷ []) (file_end K) map.places → StatesLayout head K
 
 -- how many rows each table has, and where they begin
 abbrev pub table_rows : Ordered → List (ℕ × ℕ)
@@ -156,6 +157,10 @@ full_parts parts = flat_map entry_of (parts_in parts)
 -- the map of a file with these tables and sections: first the header, last the map itself
 abbrev pub whole_map : List MapEntry → List MapEntry → ℕ → List (Section × ℕ × ℕ)
 whole_map tables sections map_off = (HeaderItem, 1, 0) ∷ (full_parts tables ++ (full_parts sections ++ (MapList, 1, map_off) ∷ []))
+
+-- the map after sections that end at an offset
+abbrev pub placed_map : List MapEntry → List MapEntry → ℕ → EncodedItems
+placed_map tables sections from = encode_use 4 (no_items_from from) (Some (map_bytes (whole_map tables sections (round_up 4 from))))
 
 -- the data are those of some classes of the numbering, from the offset on
 abbrev pub IsDataFrom : Mentions → Data → ℕ → Type 0

@@ -1,8 +1,9 @@
-use Rattle.std.proofs.Common.{◌<◌, ◌≤◌, ◌^◌, List, ℕ, Option, Some, map, arith, ap, subst, sym, ◌∙◌}
-use Rattle.std.specs.Prelude.{All}
-use Rattle.dexlayout.specs.internal.Encoding.{encode_use, encode_uses, list_bytes}
+use Rattle.std.proofs.Common.{◌<◌, ◌^◌, List, ℕ, Option, Some, All, length, map, arith, ap, subst, sym}
+use Rattle.dexlayout.specs.internal.Encoding.{encode_uses, list_bytes}
 use Rattle.dexlayout.proofs.EncodedUses.{all_encoded_by, each_left, next_of_each, use_encoded, use_fits}
+use Rattle.dexlayout.proofs.ListBytes.{length_list}
 use Rattle.dexlayout.proofs.type_lists.encode_written.Goals as goal
+use Rattle.dexlayout.proofs.type_lists.encode_written.Goals.{After-len}
 
 -- the item of a list
 abbrev item_of : List ℕ → Option (List ℕ)
@@ -11,19 +12,33 @@ item_of ns = Some (list_bytes ns)
 pub loop-key-init : goal.loop-key-init
 loop-key-init c = ap (λ p. encode_uses 4 p (map item_of c.args.lists.now)) c.in_ok-items.ensures
 
-pub put_next-requires-clause-few : goal.put_next-requires-clause-few
-put_next-requires-clause-few c =
-    subst (All (λ i. i < 65536)) (sym (c.list.ensures ∙ c.key-item.is)) (c.requires.few c.loop-key.key-index c.key-item.result c.loop-key-test.true)
-
-pub put_next-requires-clause-fits : goal.put_next-requires-clause-fits
-put_next-requires-clause-fits c =
+-- the list is not too long
+count : (c : After-len) → length c.key-item.result < 2 ^ 31
+count c =
     let next = next_of_each item_of c.args.lists.now c.loop-key.key-index c.key-item.result c.loop-key-test.true (sym c.key-item.is) in
-    subst (λ ns. (encode_use 4 c.loop-key.items (item_of ns)).places.end ≤ 2 ^ 30) (sym c.list.ensures) (omega (arith, use_fits 4 c.loop-key.items next c.loop-key.invariant, c.requires.fits))
+    omega (arith, use_fits 4 c.loop-key.items next c.loop-key.invariant, c.requires.fits, length_list c.key-item.result)
+
+pub overflow_mul-len : goal.overflow_mul-len
+overflow_mul-len c = omega (arith, c.len.ensures, ap (λ (l : List ℕ). length l) c.key.view_is, count (goal.at.overflow_mul-len c).After-len)
+
+pub overflow_add-len : goal.overflow_add-len
+overflow_add-len c = omega (arith, c.len.ensures, ap (λ (l : List ℕ). length l) c.key.view_is, count (goal.at.overflow_add-len c).After-len)
+
+pub put-requires-clause-formed : goal.put-requires-clause-formed
+put-requires-clause-formed c = (count (goal.at.put-requires-clause-formed c).After-len, subst (All (λ i. i < 65536)) (sym c.key-item.is) (c.requires.few c.loop-key.key-index c.key-item.result c.loop-key-test.true))
+
+pub put-requires-clause-most : goal.put-requires-clause-most
+put-requires-clause-most c = omega (arith, c.len.ensures, ap (λ (l : List ℕ). length l) c.key.view_is, length_list c.key-item.result)
+
+pub put-requires-clause-fits : goal.put-requires-clause-fits
+put-requires-clause-fits c =
+    let next = next_of_each item_of c.args.lists.now c.loop-key.key-index c.key-item.result c.loop-key-test.true (sym c.key-item.is) in
+    omega (arith, use_fits 4 c.loop-key.items next c.loop-key.invariant, c.requires.fits)
 
 pub loop-key-preserved : goal.loop-key-preserved
 loop-key-preserved c =
     let next = next_of_each item_of c.args.lists.now c.loop-key.key-index c.key-item.result c.loop-key-test.true (sym c.key-item.is) in
-    use_encoded 4 c.loop-key.items next c.loop-key.invariant (c.in_ok-put_next.ensures ∙ ap (λ ns. encode_use 4 c.loop-key.items (item_of ns)) c.list.ensures)
+    use_encoded 4 c.loop-key.items next c.loop-key.invariant c.in_ok-put.ensures
 
 pub returns : goal.returns
 returns c = all_encoded_by 4 (each_left item_of c.args.lists.now c.loop-key.key-index c.loop-key-test.false) c.loop-key.invariant

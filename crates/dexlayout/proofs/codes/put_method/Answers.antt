@@ -1,0 +1,9 @@
+use Rattle.std.proofs.Common.{All, IfSome, arith, subst}
+use Rattle.dexcode.specs.CodePut.{HasShortTypes}
+use Rattle.dexcode.specs.Numbered.{NumberedItem, handlers_of}
+use Rattle.dexlayout.proofs.codes.put_method.Goals as goal
+
+pub put-requires-clause-most : goal.put-requires-clause-most
+put-requires-clause-most c =
+    let short = subst (λ o. IfSome o (λ (k : NumberedItem). All HasShortTypes (handlers_of k.tries))) c.in-Some.ensures c.requires.short in
+    omega (arith, c.weight.ensures.numbered, c.code_bytes_law.ensures.few c.args.debug_off c.in-Some.code.now short)

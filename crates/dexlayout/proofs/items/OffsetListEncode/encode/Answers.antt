@@ -1,0 +1,9 @@
+use Rattle.std.proofs.Common.{length}
+use Rattle.std.specs.List.{flat_map}
+use Rattle.dexspec.specs.Bytes.{uint}
+use Rattle.dexlayout.proofs.items.OffsetListEncode.encode.Goals as goal
+
+pub returns : goal.returns
+returns g c =
+    let offs = c.args.self.now.offsets.now in
+    g.met.O.Output.both (uint (length offs)) (flat_map uint offs) c.args.out.now c.u32.new.self c.encode_numbers.new.out c.u32.ensures c.encode_numbers.ensures

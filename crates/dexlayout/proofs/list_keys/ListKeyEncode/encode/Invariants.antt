@@ -1,0 +1,7 @@
+use Rattle.std.proofs.Common.{take}
+use Rattle.std.specs.List.{flat_map}
+use Rattle.dexspec.specs.Bytes.{ushort}
+use Rattle.dexlayout.proofs.list_keys.ListKeyEncode.encode.Given as goal
+
+abbrev pub invariant-loop-i : goal.invariant-loop-i
+invariant-loop-i g l = g.O.Output.gives (flat_map ushort (take l.i l.self)) l.initial.out l.out

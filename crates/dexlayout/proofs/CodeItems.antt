@@ -1,5 +1,5 @@
 -- The code of methods: by numbers, it is the code_items of the file.
-use Rattle.std.proofs.Common.{◌≡◌, ℕ, ◌+◌, ◌<◌, ◌≤◌, List, [], ◌∷◌, ◌++◌, length, get_or, map, drop, Option, None, Some, refl, sym, ap, subst, ◌∙◌, arith, append_assoc}
+use Rattle.std.proofs.Common.{◌≡◌, ℕ, ◌+◌, ◌<◌, ◌≤◌, List, [], ◌∷◌, ◌++◌, length, get_or, map, drop, Option, None, Some, refl, sym, ap, subst, ◌∙◌, arith}
 use Rattle.std.specs.Prelude.{IfSome}
 use Rattle.std.specs.List.{All, flat_map}
 use Rattle.std.specs.Option.{option_map, option_map_or}
@@ -53,12 +53,10 @@ methods_known m (c ∷ cs) known =
     All-append (IsKnownMethod m) (methods_of c.members) (methods_in_all cs) (All-append (IsKnownMethod m) c.members.direct_methods c.members.virtual_methods k.direct_methods_known k.virtual_methods_known)
     (methods_known m cs (All-tail (IsKnownClass m) c cs known))
 
--- the next class's, the direct ones first, and those of the classes after it
+-- those of the next class, and of the classes after it
 module _ (cs : List NumberedClass) (i : ℕ) (c : NumberedClass) (x : NumberedMembers) (lt : i < length cs) (is : get_or cs i c ≡ c) (members : x ≡ c.members) where
-  pub next_methods : (ds vs : List NumberedMethod) → ds ≡ x.direct_methods → vs ≡ x.virtual_methods → methods_in_all (drop i cs) ≡ ds ++ (vs ++ methods_in_all (drop (i + 1) cs))
-  next_methods ds vs de ve =
-      let following = methods_in_all (drop (i + 1) cs) in
-      ap methods_in_all (drop_next cs i c lt is) ∙ ap (λ y. methods_of y ++ following) (sym members) ∙ (λ k. (sym de k ++ sym ve k) ++ following) ∙ append_assoc ds vs following
+  pub next_methods : methods_in_all (drop i cs) ≡ methods_of x ++ methods_in_all (drop (i + 1) cs)
+  next_methods = ap methods_in_all (drop_next cs i c lt is) ∙ ap (λ y. methods_of y ++ methods_in_all (drop (i + 1) cs)) (sym members)
 
 -- ---- offsets, one for each method
 

@@ -1,13 +1,13 @@
 -- Lists of offsets that are encoded one after the other, and the offsets that are left.
 use Rattle.std.proofs.Common.{◌≡◌, ℕ, zero, suc, ◌+◌, ◌*◌, ◌<◌, ◌≤◌, List, [], ◌∷◌, ◌++◌, length, get_or, map, take, drop, Option, None, Some, refl, sym, ap, ◌∙◌, arith}
 use Rattle.std.specs.List.{flat_map}
-use Rattle.std.proofs.lemmas.List.{length-append, length-drop, map-append, drop-drop}
+use Rattle.std.proofs.lemmas.List.{length-append, length-drop, drop-drop}
 use Rattle.dexspec.specs.Bytes.{uint}
 use Rattle.dexspec.specs.Lists.{chunks}
 use Rattle.dexspec.specs.Spellings.{offsets_bytes}
 use Rattle.dexspec.proofs.numbers.ByteNumbers.{length-uint}
 use Rattle.dexspec.proofs.written.PlacedBytes.{length_rows}
-use Rattle.dexmembers.specs.Numbered.{NumberedMethod, NumberedMembers, methods_of}
+use Rattle.dexmembers.specs.Numbered.{methods_of}
 use Rattle.dexclass.specs.Numbered.{NumberedClass}
 use Rattle.dexlayout.specs.internal.OffsetLists.{offset_lists, total, list_item, parameter_counts, class_parameter_counts}
 use Rattle.dexlayout.proofs.OwnSteps.{drop_next}
@@ -62,11 +62,6 @@ pub next_counts : {X : Type 0} (count : X → ℕ) (xs : List X) (i : ℕ) (x : 
 next_counts count xs i x n lt is e =
     ap (map count) (drop_next xs i x lt is) ∙ ap (λ k. k ∷ map count (drop (i + 1) xs)) (sym e)
 
--- those of the methods of a class, the direct ones first
-pub method_counts : (x : NumberedMembers) (ds vs : List NumberedMethod) → ds ≡ x.direct_methods → vs ≡ x.virtual_methods → parameter_counts (methods_of x) ≡ parameter_counts ds ++ parameter_counts vs
-method_counts x ds vs de ve =
-    (λ i. parameter_counts (sym de i ++ sym ve i)) ∙ map-append (λ (y : NumberedMethod). length y.parameter_annotations) ds vs
-
 -- those of the next class, and of those after it
 pub class_counts : (cs : List NumberedClass) (i : ℕ) (c : NumberedClass) → i < length cs → get_or cs i c ≡ c → class_parameter_counts (drop i cs) ≡ parameter_counts (methods_of c.members) ++ class_parameter_counts (drop (i + 1) cs)
 class_counts cs i c lt is = ap class_parameter_counts (drop_next cs i c lt is)
@@ -105,9 +100,6 @@ lists_enough ms ns rest e enough = omega (arith, enough, ap total e, total_appen
 module _ {left others : List ℕ} (ms ns rest : List ℕ) (e : left ≡ ms ++ ns) (back : others ≡ drop (total ms) rest) where
   pub enough_after : total left ≤ length rest → total ns ≤ length others
   enough_after enough = omega (arith, enough, ap total e, total_append ms ns, ap (λ (os : List ℕ). length os) back, length-drop (total ms) rest)
-
-  pub same_after : drop (total ns) others ≡ drop (total left) rest
-  same_after = ap (drop (total ns)) back ∙ drop-drop (total ns) (total ms) rest ∙ ap (λ k. drop k rest) (sym (ap total e ∙ total_append ms ns))
 
   pub next_lists : (item_of : List ℕ → Option (List ℕ)) → offset_lists item_of left rest ≡ offset_lists item_of ms rest ++ offset_lists item_of ns others
   next_lists item_of =

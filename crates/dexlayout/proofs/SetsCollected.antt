@@ -3,13 +3,12 @@ use Rattle.std.proofs.Common.{◌≡◌, ℕ, ◌+◌, ◌<◌, List, [], ◌∷
 use Rattle.std.specs.Prelude.{slice_index}
 use Rattle.std.specs.List.{flat_map}
 use Rattle.std.proofs.lemmas.List.{append-nil, length-append, length-map, map-append, take-take, drop-take, drop-drop, get_or-take}
-use Rattle.std.proofs.lemmas.Grind.{flat_map-append}
 use Rattle.dexspec.specs.Lists.{chunks}
 use Rattle.dexspec.specs.Classes.{MethodDef, FieldDef, declared_fields, declared_methods}
 use Rattle.dexspec.specs.Mentions.{Mentions}
 use Rattle.dexspec.specs.Placing.{SetOffsets, set_offsets_of, class_sets, method_sets}
-use Rattle.dexval.specs.Numbered.{NumberedSet, set_in}
-use Rattle.dexmembers.specs.Numbered.{NumberedField, NumberedMethod, field_in, method_in, fields_of, methods_of}
+use Rattle.dexval.specs.Numbered.{set_in}
+use Rattle.dexmembers.specs.Numbered.{NumberedField, NumberedMembers, NumberedMethod, field_in, method_in, fields_of, methods_of}
 use Rattle.dexclass.specs.Numbered.{NumberedClass, definition_of}
 use Rattle.dexlayout.specs.Places.{SetPlaces}
 use Rattle.dexlayout.specs.internal.Collecting.{sets_of_method, sets_of_class, parts_of_methods, parts_of_class, parts_of_classes, collect_own, collect_method, collect_methods, collect_class, collect_classes}
@@ -34,11 +33,6 @@ collected_methods p (os ∷ oss) =
     let a = append_assoc p.methods (slice_index os 0 ∷ []) (map (λ os. slice_index os 0) oss) in
     let b = append_assoc p.parameters (drop 1 os) (flat_map (drop 1) oss) in
     collected_methods (collect_method p os) oss ∙ (λ i. record { own = p.own; fields = p.fields; methods = a i; parameters = b i; written = p.written })
-
--- methods after others
-pub collect_both : (p : SetPlaces) (oss pss : List (List ℕ)) → collect_methods p (oss ++ pss) ≡ collect_methods (collect_methods p oss) pss
-collect_both p [] pss = refl
-collect_both p (os ∷ oss) pss = collect_both (collect_method p os) oss pss
 
 -- of classes
 pub collected_classes : (p : SetPlaces) (ss : List SetOffsets) → collect_classes p ss ≡ record {
@@ -66,15 +60,6 @@ collected_classes p (s ∷ ss) =
 
 -- ---- the offsets that are left
 
--- those of methods after others
-pub parts_both : (xs ys : List NumberedMethod) (offs : List ℕ) → parts_of_methods (xs ++ ys) offs ≡ parts_of_methods xs offs ++ parts_of_methods ys (drop (length (flat_map sets_of_method xs)) offs)
-parts_both [] ys offs = refl
-parts_both (x ∷ xs) ys offs =
-    let n = length (sets_of_method x) in
-    let k : drop (length (flat_map sets_of_method xs)) (drop n offs) ≡ drop (length (sets_of_method x ++ flat_map sets_of_method xs)) offs =
-    drop-drop (length (flat_map sets_of_method xs)) n offs ∙ ap (λ k. drop k offs) (sym (length-append (sets_of_method x) (flat_map sets_of_method xs))) in
-    ap (λ l. take n offs ∷ l) (parts_both xs ys (drop n offs)) ∙ ap (λ l. take n offs ∷ (parts_of_methods xs (drop n offs) ++ parts_of_methods ys l)) k
-
 module _ (xs : List NumberedMethod) (i : ℕ) (x : NumberedMethod) (lt : i < length xs) (is : get_or xs i x ≡ x) where
   pub next_parts : (p : SetPlaces) (offs : List ℕ) → collect_methods p (parts_of_methods (drop i xs) offs) ≡ collect_methods (collect_method p (take (length (sets_of_method x)) offs)) (parts_of_methods (drop (i + 1) xs) (drop (length (sets_of_method x)) offs))
   next_parts p offs = ap (λ l. collect_methods p (parts_of_methods l offs)) (drop_next xs i x lt is)
@@ -88,32 +73,20 @@ class_sets_count c =
     let fs = map (λ (f : NumberedField). f.annotations) (fields_of c.members) in
     omega (arith, length-append fs (flat_map sets_of_method (methods_of c.members)), length-map (fields_of c.members) (λ (f : NumberedField). f.annotations))
 
--- the methods of a class, in two steps
-pub collected_class : (c : NumberedClass) (offs fs rest following : List ℕ) (xs ys : List NumberedMethod) (p p0 p1 p2 : SetPlaces)
-    → xs ≡ c.members.direct_methods → ys ≡ c.members.virtual_methods → fs ≡ take (length (fields_of c.members)) (drop 1 offs) → rest ≡ drop (length (fields_of c.members)) (drop 1 offs)
-    → following ≡ drop (length (flat_map sets_of_method xs)) rest
-    → p0 ≡ collect_own p (slice_index offs 0) fs → p1 ≡ collect_methods p0 (parts_of_methods xs rest) → p2 ≡ collect_methods p1 (parts_of_methods ys following) → p2 ≡ collect_class p (parts_of_class c offs)
-collected_class c offs fs rest following xs ys p p0 p1 p2 ex ey ef er eb e0 e1 e2 =
-    let own = collect_own p (slice_index offs 0) fs in
-    let first : p1 ≡ collect_methods own (parts_of_methods xs rest) = e1 ∙ ap (λ q. collect_methods q (parts_of_methods xs rest)) e0 in
-    e2 ∙ (λ i. collect_methods (first i) (parts_of_methods ys (eb i)))
-    ∙ sym (collect_both own (parts_of_methods xs rest) (parts_of_methods ys (drop (length (flat_map sets_of_method xs)) rest)))
-    ∙ ap (collect_methods own) (sym (parts_both xs ys rest))
-    ∙ (λ i. collect_methods (collect_own p (slice_index offs 0) (ef i)) (parts_of_methods (ex i ++ ey i) (er i)))
+-- those of a class: its own and its fields', and then its methods'
+module _ (c : NumberedClass) (offs : List ℕ) {rest : List ℕ} (x : NumberedMembers) where
+  pub collected_class : {fs : List ℕ} (p : SetPlaces) {p0 p1 : SetPlaces} → x ≡ c.members → fs ≡ take (length (fields_of c.members)) (drop 1 offs) → rest ≡ drop (length (fields_of c.members)) (drop 1 offs)
+      → p0 ≡ collect_own p (slice_index offs 0) fs → p1 ≡ collect_methods p0 (parts_of_methods (methods_of x) rest) → p1 ≡ collect_class p (parts_of_class c offs)
+  collected_class p members fields back own all =
+      all ∙ ap (λ q. collect_methods q (parts_of_methods (methods_of x) rest)) own ∙ (λ i. collect_methods (collect_own p (slice_index offs 0) (fields i)) (parts_of_methods (methods_of (members i)) (back i)))
 
--- what is left after them
-pub left_of_class : (c : NumberedClass) (offs rest following last : List ℕ) (xs ys : List NumberedMethod)
-    → xs ≡ c.members.direct_methods → ys ≡ c.members.virtual_methods → rest ≡ drop (length (fields_of c.members)) (drop 1 offs)
-    → following ≡ drop (length (flat_map sets_of_method xs)) rest → last ≡ drop (length (flat_map sets_of_method ys)) following → last ≡ drop (length (sets_of_class c)) offs
-left_of_class c offs rest following last xs ys ex ey er eb el =
-    let k = length (fields_of c.members) in
-    let a = length (flat_map sets_of_method xs) in
-    let b = length (flat_map sets_of_method ys) in
-    let mine : methods_of c.members ≡ xs ++ ys = λ i. sym ex i ++ sym ey i in
-    let counts : length (flat_map sets_of_method (methods_of c.members)) ≡ a + b =
-    ap (λ (l : List NumberedMethod). length (flat_map sets_of_method l)) mine ∙ ap (λ (l : List NumberedSet). length l) (flat_map-append sets_of_method xs ys) ∙ length-append (flat_map sets_of_method xs) (flat_map sets_of_method ys) in
-    let all : 1 + k + a + b ≡ length (sets_of_class c) = omega (arith, counts, class_sets_count c) in
-    el ∙ ap (drop b) (eb ∙ ap (drop a) (er ∙ drop-drop k 1 offs) ∙ drop-drop a (1 + k) offs) ∙ drop-drop b (1 + k + a) offs ∙ ap (λ j. drop j offs) all
+  -- what is left after them
+  pub left_of_class : {last : List ℕ} → x ≡ c.members → rest ≡ drop (length (fields_of c.members)) (drop 1 offs) → last ≡ drop (length (flat_map sets_of_method (methods_of x))) rest → last ≡ drop (length (sets_of_class c)) offs
+  left_of_class members back left =
+      let k = length (fields_of c.members) in
+      let n = length (flat_map sets_of_method (methods_of c.members)) in
+      let all : 1 + k + n ≡ length (sets_of_class c) = omega (arith, class_sets_count c) in
+      left ∙ (λ i. drop (length (flat_map sets_of_method (methods_of (members i)))) (back i)) ∙ ap (drop n) (drop-drop k 1 offs) ∙ drop-drop n (1 + k) offs ∙ ap (λ j. drop j offs) all
 
 -- ---- they are those of the file
 

@@ -7,16 +7,17 @@ ghost use Rattle.dexspec.specs.Mentions.{Mentions};
 ghost use Rattle.dexdebug.specs.Debug.{numbered_debug_bytes};
 ghost use Rattle.dexmembers.specs.Numbered.{AreKnownMembers};
 ghost use Rattle.dexlayout.specs.Laid.{AreDebugs, AreWritable, ordered_of};
-ghost use Rattle.dexlayout.specs.internal.Adding.{AddsUses, AreKnownMethods, members_debugs};
+ghost use Rattle.dexlayout.specs.internal.Adding.{AddsUses, members_debugs};
 ghost use Rattle.dexlayout.specs.internal.Encoding.{encode_use};
 ghost use Rattle.dexlayout.specs.internal.Placing.{PlacedFrom, HaveDebugs, HaveKnownDebugs, encoded_debugs};
-ghost use Rattle.dexlayout.specs.internal.SharedUses.{SharesDebugs, debug_of, debugs_uses};
+ghost use Rattle.dexlayout.specs.internal.SharedUses.{SharesDebugs, debug_of};
 
 use crate::items::{Items, SharedItems};
+use crate::methods::method_at;
 use crate::sharing::{Shared, Sharing};
 use dexclass::Class;
 use dexcode::{Debug, debug_equality_law, put_debug};
-use dexmembers::{Members, Method, Methods};
+use dexmembers::{Members, Method};
 use dexpool::Numbering;
 use std::alloc::{AllocError, Global};
 
@@ -31,21 +32,7 @@ fn debug_of<'p, 'a>(method: &Method<'p, 'a>) -> Option<&'p Debug<'a>>
     }
 }
 
-// Adds the uses of methods.
-fn add_debugs<'p, 'a>(
-    sharing: &mut Sharing<&'p Debug<'a>>,
-    methods: &Methods<'p, 'a>,
-) -> Result<(), AllocError>
-    ensures { AddsUses SharesDebugs result sharing.old sharing.new AreKnownMethods debugs_uses
-        methods.now }
-{
-    for i in 0..methods.len() {
-        sharing.add(debug_of(&methods.get(i)))?;
-    }
-    Ok(())
-}
-
-// Adds the uses of what a class declares.
+// Adds the uses of the methods of a class.
 fn add_members<'p, 'a>(
     sharing: &mut Sharing<&'p Debug<'a>>,
     members: &'p Members<'a>,
@@ -53,8 +40,10 @@ fn add_members<'p, 'a>(
     ensures { AddsUses SharesDebugs result sharing.old sharing.new AreKnownMembers members_debugs
         members.now }
 {
-    add_debugs(sharing, &members.direct_methods())?;
-    add_debugs(sharing, &members.virtual_methods())
+    for i in 0..members.method_count() {
+        sharing.add(debug_of(&method_at(members, i)))?;
+    }
+    Ok(())
 }
 
 // The debug programs that methods share.

@@ -17,6 +17,7 @@ mod layout;
 mod layout_build;
 mod list_keys;
 mod map_entries;
+mod methods;
 mod offsets;
 mod ref_lists;
 mod sets;

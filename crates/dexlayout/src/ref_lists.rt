@@ -7,9 +7,10 @@ ghost use Rattle.dexlayout.specs.internal.OffsetLists.{list_item, offset_lists, 
 ghost use Rattle.dexlayout.specs.internal.Placing.{CanPlaceRefLists, PlacedRefLists};
 
 use crate::items::Items;
+use crate::methods::method_at;
 use crate::sets::Sets;
 use dexclass::Class;
-use dexmembers::Methods;
+use dexmembers::Members;
 use std::alloc::{AllocError, Global};
 
 // Encodes a list after the others, unless it is empty.
@@ -23,50 +24,30 @@ fn put_list(list: &[u32], items: &mut Items) -> Result<(), AllocError>
     items.put_offsets(list)
 }
 
-// Encodes the lists of methods after the others, from the offsets of all sets in turn. Returns the offsets that are
-// left.
+// Encodes the lists of the methods of a class after the others, from the offsets of all sets in turn. Returns the
+// offsets that are left.
 fn put_lists<'o>(
-    methods: &Methods<'_, '_>,
+    members: &Members<'_>,
     set_offs: &'o [u32],
     items: &mut Items,
 ) -> Result<&'o [u32], AllocError>
-    requires enough { total (parameter_counts methods.now) ≤ length set_offs.now }
+    requires enough { total (parameter_counts (methods_of members.now)) ≤ length set_offs.now }
     requires fits { (encode_uses 4 items.old
-        (offset_lists list_item (parameter_counts methods.now) set_offs.now)).places.end ≤ 2 ^ 30 }
+        (offset_lists list_item (parameter_counts (methods_of members.now)) set_offs.now)).places.end
+        ≤ 2 ^ 30 }
     ensures encoded { OnOk result (items.new ≡ encode_uses 4 items.old
-        (offset_lists list_item (parameter_counts methods.now) set_offs.now)) }
+        (offset_lists list_item (parameter_counts (methods_of members.now)) set_offs.now)) }
     ensures left { IfOk result (λ rest.
-        rest.now ≡ drop (total (parameter_counts methods.now)) set_offs.now) }
+        rest.now ≡ drop (total (parameter_counts (methods_of members.now))) set_offs.now) }
 {
     let mut rest = set_offs;
-    for i in 0..methods.len() {
-        let parameters = methods.get(i).parameter_annotations();
+    for i in 0..members.method_count() {
+        let parameters = method_at(members, i).parameter_annotations();
         let (list, others) = rest.split_at(parameters.len());
         put_list(list, items)?;
         rest = others;
     }
     Ok(rest)
-}
-
-// Encodes the lists of the methods of a class after the others. Returns the offsets that are left.
-fn put_class_lists<'o>(
-    class: &Class<'_>,
-    set_offs: &'o [u32],
-    items: &mut Items,
-) -> Result<&'o [u32], AllocError>
-    requires enough { total (parameter_counts (methods_of class.now.members))
-        ≤ length set_offs.now }
-    requires fits { (encode_uses 4 items.old
-        (offset_lists list_item (parameter_counts (methods_of class.now.members)) set_offs.now)).places.end
-        ≤ 2 ^ 30 }
-    ensures encoded { OnOk result (items.new ≡ encode_uses 4 items.old
-        (offset_lists list_item (parameter_counts (methods_of class.now.members)) set_offs.now)) }
-    ensures left { IfOk result (λ rest. rest.now
-        ≡ drop (total (parameter_counts (methods_of class.now.members))) set_offs.now) }
-{
-    let members = class.members();
-    let rest = put_lists(&members.direct_methods(), set_offs, items)?;
-    put_lists(&members.virtual_methods(), rest, items)
 }
 
 /// The lists of the sets of the parameters of methods, encoded, and their offsets: one for each method. They are after
@@ -85,7 +66,7 @@ pub(crate) fn place_ref_lists(
     let mut items = Items::starting_at(alloc, from, sets.methods().len())?;
     let mut rest = sets.parameters();
     for class in classes {
-        rest = put_class_lists(class, rest, &mut items)?;
+        rest = put_lists(class.members(), rest, &mut items)?;
     }
     Ok(items)
 }

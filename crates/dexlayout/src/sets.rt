@@ -2,6 +2,7 @@
 
 ghost use Rattle.std.specs.Prelude.{◌≡◌, ◌^◌, ◌≤◌, length, drop, IfOk, OnOk};
 ghost use Rattle.std.specs.List.{flat_map};
+ghost use Rattle.dexmembers.specs.Numbered.{methods_of};
 ghost use Rattle.dexlayout.specs.internal.Encoding.{encode_uses, no_items_from};
 ghost use Rattle.dexlayout.specs.internal.Collecting.{sets_of_method, sets_of_class, parts_of_methods, parts_of_class, collect_own, collect_method, collect_methods, collect_class};
 ghost use Rattle.dexlayout.specs.Laid.{AreSets};
@@ -9,9 +10,10 @@ ghost use Rattle.dexlayout.specs.internal.OffsetLists.{annotation_counts, offset
 ghost use Rattle.dexlayout.specs.internal.Placing.{CanPlaceSets, HaveSets, PlacedSets, no_sets};
 
 use crate::items::Items;
+use crate::methods::method_at;
 use crate::sharing::{Shared, place_shared};
 use dexclass::Class;
-use dexmembers::Methods;
+use dexmembers::Members;
 use dexval::AnnotationSet;
 use std::alloc::{AllocError, Global};
 use std::marker::Model;
@@ -109,21 +111,21 @@ impl Sets {
         Ok(())
     }
 
-    // Adds the offsets of the sets of methods, and returns those that are left.
+    // Adds the offsets of the sets of the methods of a class, and returns those that are left.
     fn collect_methods<'o>(
         &mut self,
-        methods: &Methods<'_, '_>,
+        members: &Members<'_>,
         offs: &'o [u32],
     ) -> Result<&'o [u32], AllocError>
-        requires { length (flat_map sets_of_method methods.now) ≤ length offs.now }
+        requires { length (flat_map sets_of_method (methods_of members.now)) ≤ length offs.now }
         ensures collected { OnOk result (self.new
-            ≡ collect_methods self.old (parts_of_methods methods.now offs.now)) }
+            ≡ collect_methods self.old (parts_of_methods (methods_of members.now) offs.now)) }
         ensures left { IfOk result (λ rest.
-            rest.now ≡ drop (length (flat_map sets_of_method methods.now)) offs.now) }
+            rest.now ≡ drop (length (flat_map sets_of_method (methods_of members.now))) offs.now) }
     {
         let mut rest = offs;
-        for i in 0..methods.len() {
-            let parameters = methods.get(i).parameter_annotations();
+        for i in 0..members.method_count() {
+            let parameters = method_at(members, i).parameter_annotations();
             let (sets, following) = rest.split_at(1 + parameters.len());
             self.collect_method(sets)?;
             rest = following;
@@ -147,8 +149,7 @@ impl Sets {
         let (_, rest) = offs.split_at(1);
         let (fields, rest) = rest.split_at(members.field_count());
         self.collect_own(offs[0], fields)?;
-        let rest = self.collect_methods(&members.direct_methods(), rest)?;
-        self.collect_methods(&members.virtual_methods(), rest)
+        self.collect_methods(members, rest)
     }
 }
 

@@ -1,6 +1,6 @@
 //! Items that equal uses share.
 
-ghost use Rattle.std.specs.Prelude.{◌≡◌, ℕ, List, [], Option, Some, None, IfOk};
+ghost use Rattle.std.specs.Prelude.{◌≡◌, List, [], Option, Some, None, IfOk};
 ghost use Rattle.std.specs.Prelude.{◌<◌, All, IfSome, length, slice_index};
 ghost use Rattle.std.specs.Option.{option_map_or};
 ghost use Rattle.dexlayout.specs.internal.Sharing.{HaveItems};

@@ -1,6 +1,6 @@
 //! The offsets of texts.
 
-ghost use Rattle.std.specs.Prelude.{◌≡◌, ◌^◌, ◌≤◌, IfOk, map};
+ghost use Rattle.std.specs.Prelude.{◌^◌, ◌≤◌, IfOk, map};
 ghost use Rattle.dexspec.specs.Texts.{string_data};
 ghost use Rattle.dexspec.specs.Placing.{end_from};
 ghost use Rattle.dexlayout.specs.internal.Placing.{AreStringsFrom};

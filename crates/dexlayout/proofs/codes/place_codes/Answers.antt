@@ -1,68 +1,42 @@
-use Rattle.std.proofs.Common.{◌≡◌, ◌+◌, ◌++◌, drop, arith, ap, sym, refl, subst, ◌∙◌}
+use Rattle.std.proofs.Common.{◌≡◌, ◌+◌, ◌++◌, drop, arith, ap, sym, subst, ◌∙◌}
 use Rattle.std.proofs.lemmas.List.{drop_all}
+use Rattle.dexmembers.specs.Numbered.{methods_of}
 use Rattle.dexlayout.specs.Laid.{AreCodes, ordered_of}
 use Rattle.dexlayout.specs.internal.Codes.{code_items}
-use Rattle.dexlayout.specs.internal.Encoding.{encode_uses, no_items_from}
-use Rattle.dexlayout.proofs.CodeItems.{CodesLeft, codes_laid, codes_left, methods_in_all, next_encoded, next_enough, next_fits, next_methods, next_short}
+use Rattle.dexlayout.specs.internal.Encoding.{no_items_from}
+use Rattle.dexlayout.proofs.CodeItems.{codes_laid, codes_left, methods_in_all, next_encoded, next_enough, next_fits, next_methods, next_short}
 use Rattle.dexlayout.proofs.EncodedUses.{all_encoded_by}
 use Rattle.dexlayout.proofs.Ends.{end_in_file}
 use Rattle.dexlayout.proofs.codes.place_codes.Goals as goal
-use Rattle.dexlayout.proofs.codes.place_codes.Goals.{After-direct_methods, After-virtual_methods}
+use Rattle.dexlayout.proofs.codes.place_codes.Goals.{After-members}
 
 pub loop-class-init : goal.loop-class-init
 loop-class-init c =
     codes_left c.requires.0 c.args.classes.now c.requires.1 c.code_types_law.ensures c.args.debugs.now c.requires.2 c.in_ok-items.items c.offsets-rest.result.now (c.in_ok-items.ensures ∙ ap no_items_from c.end.ensures) c.offsets-rest.ensures
 
--- the methods of the class, the direct ones first, and of those after it
-methods : (c : After-direct_methods) → methods_in_all (drop c.loop-class.class-index c.args.classes.now)
-    ≡ c.direct_methods.result ++ (c.members-members.result.now.virtual_methods ++ methods_in_all (drop (c.loop-class.class-index + 1) c.args.classes.now))
-methods c =
-    next_methods c.args.classes.now c.loop-class.class-index c.class-item.result c.members-members.result.now c.loop-class-test.true (sym c.class-item.is) c.members-members.ensures
-    c.direct_methods.result c.members-members.result.now.virtual_methods c.direct_methods.ensures refl
+-- the methods of the class, and of those after it
+methods : (c : After-members) → methods_in_all (drop c.loop-class.class-index c.args.classes.now) ≡ methods_of c.members.result.now ++ methods_in_all (drop (c.loop-class.class-index + 1) c.args.classes.now)
+methods c = next_methods c.args.classes.now c.loop-class.class-index c.class-item.result c.members.result.now c.loop-class-test.true (sym c.class-item.is) c.members.ensures
 
 pub put_methods-requires-clause-enough : goal.put_methods-requires-clause-enough
-put_methods-requires-clause-enough c = next_enough c.loop-class.invariant _ _ (methods (goal.at.put_methods-requires-clause-enough c).After-direct_methods)
+put_methods-requires-clause-enough c = next_enough c.loop-class.invariant _ _ (methods (goal.at.put_methods-requires-clause-enough c).After-members)
 
 pub put_methods-requires-clause-short : goal.put_methods-requires-clause-short
-put_methods-requires-clause-short c = next_short c.loop-class.invariant _ _ (methods (goal.at.put_methods-requires-clause-short c).After-direct_methods)
+put_methods-requires-clause-short c = next_short c.loop-class.invariant _ _ (methods (goal.at.put_methods-requires-clause-short c).After-members)
 
 pub put_methods-requires-clause-fits : goal.put_methods-requires-clause-fits
 put_methods-requires-clause-fits c =
     let cs = c.args.classes.now in
     omega (
       arith,
-      next_fits c.loop-class.invariant c.direct_methods.result (c.members-members.result.now.virtual_methods ++ methods_in_all (drop (c.loop-class.class-index + 1) cs)) (methods (goal.at.put_methods-requires-clause-fits c).After-direct_methods),
-      (codes_laid c.requires.0 cs c.requires.1 c.code_bytes_law.ensures.bytes c.args.debugs.now c.requires.2).places_are.end_is,
-      (end_in_file (ordered_of c.requires.0 cs) c.requires.1.fits).codes,
-    )
-
--- the virtual methods are next
-virtual_left : (c : After-virtual_methods) → CodesLeft c.put_methods.new.items (c.virtual_methods.result ++ methods_in_all (drop (c.loop-class.class-index + 1) c.args.classes.now)) c.in_ok-rest.rest.now
-    (encode_uses 4 (no_items_from c.args.debugs.now.end) (code_items (methods_in_all c.args.classes.now) c.args.debugs.now.offsets))
-virtual_left c =
-    let following = methods_in_all (drop (c.loop-class.class-index + 1) c.args.classes.now) in
-    let direct = next_methods c.args.classes.now c.loop-class.class-index c.class-item.result c.members-members.result.now c.loop-class-test.true (sym c.class-item.is) c.members-members.ensures
-    c.direct_methods.result c.virtual_methods.result c.direct_methods.ensures c.virtual_methods.ensures in
-    next_encoded c.loop-class.invariant c.direct_methods.result (c.virtual_methods.result ++ following) direct c.in_ok-rest.ensures.encoded c.in_ok-rest.ensures.left
-
-pub put_methods-requires-in-loop-class-clause-enough : goal.put_methods-requires-in-loop-class-clause-enough
-put_methods-requires-in-loop-class-clause-enough c = next_enough (virtual_left (goal.at.put_methods-requires-in-loop-class-clause-enough c).After-virtual_methods) _ _ refl
-
-pub put_methods-requires-in-loop-class-clause-short : goal.put_methods-requires-in-loop-class-clause-short
-put_methods-requires-in-loop-class-clause-short c = next_short (virtual_left (goal.at.put_methods-requires-in-loop-class-clause-short c).After-virtual_methods) _ _ refl
-
-pub put_methods-requires-in-loop-class-clause-fits : goal.put_methods-requires-in-loop-class-clause-fits
-put_methods-requires-in-loop-class-clause-fits c =
-    let cs = c.args.classes.now in
-    omega (
-      arith,
-      next_fits (virtual_left (goal.at.put_methods-requires-in-loop-class-clause-fits c).After-virtual_methods) c.virtual_methods.result (methods_in_all (drop (c.loop-class.class-index + 1) cs)) refl,
+      next_fits c.loop-class.invariant (methods_of c.members.result.now) (methods_in_all (drop (c.loop-class.class-index + 1) cs)) (methods (goal.at.put_methods-requires-clause-fits c).After-members),
       (codes_laid c.requires.0 cs c.requires.1 c.code_bytes_law.ensures.bytes c.args.debugs.now c.requires.2).places_are.end_is,
       (end_in_file (ordered_of c.requires.0 cs) c.requires.1.fits).codes,
     )
 
 pub loop-class-preserved : goal.loop-class-preserved
-loop-class-preserved c = next_encoded (virtual_left (goal.at.loop-class-preserved c).After-virtual_methods) c.virtual_methods.result (methods_in_all (drop (c.loop-class.class-index + 1) c.args.classes.now)) refl c.in_ok-rest-2.ensures.encoded c.in_ok-rest-2.ensures.left
+loop-class-preserved c =
+    next_encoded c.loop-class.invariant (methods_of c.members.result.now) (methods_in_all (drop (c.loop-class.class-index + 1) c.args.classes.now)) (methods (goal.at.loop-class-preserved c).After-members) c.in_ok-rest.ensures.encoded c.in_ok-rest.ensures.left
 
 pub returns : goal.returns
 returns c = λ m w laid.

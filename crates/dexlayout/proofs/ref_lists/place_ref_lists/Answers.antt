@@ -1,6 +1,6 @@
-use Rattle.std.proofs.Common.{◌≡◌, ℕ, ◌+◌, List, length, drop, refl, sym, ap, subst, ◌∙◌, arith}
+use Rattle.std.proofs.Common.{◌≡◌, ℕ, ◌+◌, ◌++◌, List, length, drop, refl, sym, ap, subst, ◌∙◌, arith}
 use Rattle.std.proofs.lemmas.List.{drop_all}
-use Rattle.dexmembers.specs.Numbered.{methods_of}
+use Rattle.dexmembers.specs.Numbered.{NumberedMembers, methods_of}
 use Rattle.dexlayout.specs.Laid.{ordered_of, AreRefLists}
 use Rattle.dexlayout.specs.Places.{ItemPlaces, EncodedItems}
 use Rattle.dexlayout.specs.internal.Encoding.{encode_uses, no_items_from}
@@ -10,7 +10,7 @@ use Rattle.dexlayout.proofs.Ends.{end_in_file}
 use Rattle.dexlayout.proofs.OffsetLists.{class_counts, lists_enough, enough_after, next_lists}
 use Rattle.dexlayout.proofs.RefLists.{parameters_enough, ref_lists_laid}
 use Rattle.dexlayout.proofs.ref_lists.place_ref_lists.Goals as goal
-use Rattle.dexlayout.proofs.ref_lists.place_ref_lists.Goals.{In_ok-items}
+use Rattle.dexlayout.proofs.ref_lists.place_ref_lists.Goals.{After-members, In_ok-items}
 
 -- the lists of all classes, encoded from the offsets of the layout
 all_are : (c : In_ok-items) → encode_uses 4 c.in_ok-items.items (offset_lists list_item (class_parameter_counts c.args.classes.now) c.args.sets.now.parameters)
@@ -25,25 +25,27 @@ loop-class-init c = record {
   enough = omega (arith, parameters_enough c.requires.0 c.args.classes.now c.requires.2, ap (λ (l : List ℕ). length l) c.parameters-rest.ensures);
 }
 
-pub put_class_lists-requires-clause-enough : goal.put_class_lists-requires-clause-enough
-put_class_lists-requires-clause-enough c =
-    let cs = c.args.classes.now in
-    let i = c.loop-class.class-index in
-    let k = c.class-item.result in
-    lists_enough (parameter_counts (methods_of k.members)) (class_parameter_counts (drop (i + 1) cs)) c.loop-class.rest.now (class_counts cs i k c.loop-class-test.true (sym c.class-item.is)) c.loop-class.invariant.enough
+-- the numbers of offsets of the class's lists are the next
+counts : (c : After-members) → class_parameter_counts (drop c.loop-class.class-index c.args.classes.now) ≡ parameter_counts (methods_of c.members.result.now) ++ class_parameter_counts (drop (c.loop-class.class-index + 1) c.args.classes.now)
+counts c =
+    class_counts c.args.classes.now c.loop-class.class-index c.class-item.result c.loop-class-test.true (sym c.class-item.is)
+    ∙ ap (λ (x : NumberedMembers). parameter_counts (methods_of x) ++ class_parameter_counts (drop (c.loop-class.class-index + 1) c.args.classes.now)) (sym c.members.ensures)
 
-pub put_class_lists-requires-clause-fits : goal.put_class_lists-requires-clause-fits
-put_class_lists-requires-clause-fits c =
+pub put_lists-requires-clause-enough : goal.put_lists-requires-clause-enough
+put_lists-requires-clause-enough c =
+    let ns = class_parameter_counts (drop (c.loop-class.class-index + 1) c.args.classes.now) in
+    lists_enough (parameter_counts (methods_of c.members.result.now)) ns c.loop-class.rest.now (counts (goal.at.put_lists-requires-clause-enough c).After-members) c.loop-class.invariant.enough
+
+pub put_lists-requires-clause-fits : goal.put_lists-requires-clause-fits
+put_lists-requires-clause-fits c =
     let m = c.requires.0 in
     let cs = c.args.classes.now in
-    let i = c.loop-class.class-index in
-    let k = c.class-item.result in
-    let ms = parameter_counts (methods_of k.members) in
-    let ns = class_parameter_counts (drop (i + 1) cs) in
+    let ms = parameter_counts (methods_of c.members.result.now) in
+    let ns = class_parameter_counts (drop (c.loop-class.class-index + 1) cs) in
     let rest = c.loop-class.rest.now in
-    let next = next_lists ms ns rest (class_counts cs i k c.loop-class-test.true (sym c.class-item.is)) refl list_item in
-    let whole = c.loop-class.invariant.encoded ∙ ap (λ offs. encode_uses 4 c.in_ok-items.items (offset_lists list_item (class_parameter_counts cs) offs)) c.parameters-rest.ensures
-    ∙ all_are (goal.at.put_class_lists-requires-clause-fits c).In_ok-items in
+    let here = goal.at.put_lists-requires-clause-fits c in
+    let next = next_lists ms ns rest (counts here.After-members) refl list_item in
+    let whole = c.loop-class.invariant.encoded ∙ ap (λ offs. encode_uses 4 c.in_ok-items.items (offset_lists list_item (class_parameter_counts cs) offs)) c.parameters-rest.ensures ∙ all_are here.In_ok-items in
     omega (
       arith,
       uses_fit 4 c.loop-class.items (offset_lists list_item ms rest) (offset_lists list_item ns (drop (total ms) rest)) next whole,
@@ -53,16 +55,14 @@ put_class_lists-requires-clause-fits c =
 
 pub loop-class-preserved : goal.loop-class-preserved
 loop-class-preserved c =
-    let cs = c.args.classes.now in
-    let i = c.loop-class.class-index in
-    let ms = parameter_counts (methods_of c.class-item.result.members) in
-    let ns = class_parameter_counts (drop (i + 1) cs) in
+    let ms = parameter_counts (methods_of c.members.result.now) in
+    let ns = class_parameter_counts (drop (c.loop-class.class-index + 1) c.args.classes.now) in
     let rest = c.loop-class.rest.now in
-    let counts = class_counts cs i c.class-item.result c.loop-class-test.true (sym c.class-item.is) in
+    let next = counts (goal.at.loop-class-preserved c).After-members in
     let back = c.in_ok-rest.ensures.left in
     record {
-      encoded = uses_encoded 4 c.loop-class.items (offset_lists list_item ms rest) (offset_lists list_item ns c.in_ok-rest.rest.now) (next_lists ms ns rest counts back list_item) c.loop-class.invariant.encoded c.in_ok-rest.ensures.encoded;
-      enough = enough_after ms ns rest counts back c.loop-class.invariant.enough;
+      encoded = uses_encoded 4 c.loop-class.items (offset_lists list_item ms rest) (offset_lists list_item ns c.in_ok-rest.rest.now) (next_lists ms ns rest next back list_item) c.loop-class.invariant.encoded c.in_ok-rest.ensures.encoded;
+      enough = enough_after ms ns rest next back c.loop-class.invariant.enough;
     }
 
 pub returns : goal.returns

@@ -1,7 +1,7 @@
 use Rattle.std.proofs.Common.{◌≡◌, ℕ, List, length, take, drop, ap, ◌∙◌, Bor}
 use Rattle.std.proofs.lemmas.Result.{on_ok_weaker, IfOk-weaker}
 use Rattle.std.specs.List.{flat_map}
-use Rattle.dexmembers.specs.Numbered.{NumberedMembers, fields_of}
+use Rattle.dexmembers.specs.Numbered.{NumberedMembers, fields_of, methods_of}
 use Rattle.dexlayout.specs.internal.Collecting.{sets_of_method, sets_of_class}
 use Rattle.dexlayout.proofs.SetsCollected.{collected_class, left_of_class}
 use Rattle.dexlayout.proofs.sets.Sets.collect_class.Goals as goal
@@ -10,25 +10,17 @@ pub returns-clause-collected : goal.returns-clause-collected
 returns-clause-collected c =
     let x = c.args.class.now.members in
     let members : c.members-members.result.now ≡ x = c.members-members.ensures in
-    let direct : c.direct_methods.result ≡ x.direct_methods = c.direct_methods.ensures ∙ ap (λ (y : NumberedMembers). y.direct_methods) members in
-    let virtual : c.virtual_methods.result ≡ x.virtual_methods = c.virtual_methods.ensures ∙ ap (λ (y : NumberedMembers). y.virtual_methods) members in
     let count : c.field_count.result ≡ length (fields_of x) = c.field_count.ensures ∙ ap (λ (y : NumberedMembers). length (fields_of y)) members in
     let rest : c.split_at-2.result.1.now ≡ drop (length (fields_of x)) (drop 1 c.args.offs.now) = c.split_at-2.ensures.back ∙ (λ i. drop (count i) (c.split_at.ensures.back i)) in
     let fields : c.split_at-2.result.0.now ≡ take (length (fields_of x)) (drop 1 c.args.offs.now) = c.split_at-2.ensures.front ∙ (λ i. take (count i) (c.split_at.ensures.back i)) in
-    on_ok_weaker c.collect_methods-2.result
-    (collected_class c.args.class.now c.args.offs.now c.split_at-2.result.0.now c.split_at-2.result.1.now c.in_ok-rest.rest.now c.direct_methods.result c.virtual_methods.result c.args.self.now _ _ _
-    direct virtual fields rest c.in_ok-rest.ensures.left c.in_ok-collect_own.ensures c.in_ok-rest.ensures.collected)
-    c.collect_methods-2.ensures.collected
+    on_ok_weaker c.collect_methods.result (collected_class c.args.class.now c.args.offs.now c.members-members.result.now c.args.self.now members fields rest c.in_ok-collect_own.ensures) c.collect_methods.ensures.collected
 
 pub returns-clause-left : goal.returns-clause-left
 returns-clause-left c =
     let x = c.args.class.now.members in
     let members : c.members-members.result.now ≡ x = c.members-members.ensures in
-    let direct : c.direct_methods.result ≡ x.direct_methods = c.direct_methods.ensures ∙ ap (λ (y : NumberedMembers). y.direct_methods) members in
-    let virtual : c.virtual_methods.result ≡ x.virtual_methods = c.virtual_methods.ensures ∙ ap (λ (y : NumberedMembers). y.virtual_methods) members in
     let count : c.field_count.result ≡ length (fields_of x) = c.field_count.ensures ∙ ap (λ (y : NumberedMembers). length (fields_of y)) members in
     let rest : c.split_at-2.result.1.now ≡ drop (length (fields_of x)) (drop 1 c.args.offs.now) = c.split_at-2.ensures.back ∙ (λ i. drop (count i) (c.split_at.ensures.back i)) in
-    IfOk-weaker c.collect_methods-2.result
-    (λ (l : Bor (List ℕ)). l.now ≡ drop (length (flat_map sets_of_method c.virtual_methods.result)) c.in_ok-rest.rest.now) (λ (l : Bor (List ℕ)). l.now ≡ drop (length (sets_of_class c.args.class.now)) c.args.offs.now)
-    (λ last. left_of_class c.args.class.now c.args.offs.now c.split_at-2.result.1.now c.in_ok-rest.rest.now last.now c.direct_methods.result c.virtual_methods.result direct virtual rest c.in_ok-rest.ensures.left)
-    c.collect_methods-2.ensures.left
+    IfOk-weaker c.collect_methods.result
+    (λ (l : Bor (List ℕ)). l.now ≡ drop (length (flat_map sets_of_method (methods_of c.members-members.result.now))) c.split_at-2.result.1.now) (λ (l : Bor (List ℕ)). l.now ≡ drop (length (sets_of_class c.args.class.now)) c.args.offs.now)
+    (λ last. left_of_class c.args.class.now c.args.offs.now c.members-members.result.now members rest) c.collect_methods.ensures.left

@@ -2,26 +2,27 @@ use Rattle.std.proofs.Common.{◌≡◌, ℕ, ◌+◌, ◌<◌, List, length, ta
 use Rattle.std.proofs.lemmas.List.{length-drop, drop-drop}
 use Rattle.std.specs.List.{flat_map}
 use Rattle.dexval.specs.Numbered.{NumberedSet}
+use Rattle.dexmembers.specs.Numbered.{methods_of}
 use Rattle.dexlayout.specs.internal.Collecting.{sets_of_method, parts_of_methods, collect_method, collect_methods}
 use Rattle.dexlayout.proofs.SetsCollected.{next_parts, next_count}
 use Rattle.dexlayout.proofs.sets.Sets.collect_methods.Goals as goal
 
 pub split_at-requires : goal.split_at-requires
 split_at-requires c =
-    let many : c.len.result ≡ length c.get.result.parameter_annotations = c.len.ensures ∙ ap (λ (l : List NumberedSet). length l) c.parameter_annotations-parameters.ensures in
-    omega (arith, many, next_count c.args.methods.now c.loop-i.i c.get.result (omega (arith, c.loop-i-test.true, c.len-i-end.ensures)) (sym c.get.ensures), c.loop-i.invariant.enough)
+    let many : c.len.result ≡ length c.method_at.result.parameter_annotations = c.len.ensures ∙ ap (λ (l : List NumberedSet). length l) c.parameter_annotations-parameters.ensures in
+    omega (arith, many, next_count (methods_of c.args.members.now) c.loop-i.i c.method_at.result (omega (arith, c.loop-i-test.true, c.method_count-i-end.ensures)) (sym c.method_at.ensures), c.loop-i.invariant.enough)
 
 pub collect_method-requires : goal.collect_method-requires
 collect_method-requires c = omega (arith, c.split_at.ensures.front_len)
 
 pub loop-i-preserved : goal.loop-i-preserved
 loop-i-preserved c =
-    let xs = c.args.methods.now in
+    let xs = methods_of c.args.members.now in
     let i = c.loop-i.i in
-    let x = c.get.result in
+    let x = c.method_at.result in
     let rest = c.loop-i.rest.now in
-    let lt : i < length xs = omega (arith, c.loop-i-test.true, c.len-i-end.ensures) in
-    let is = sym c.get.ensures in
+    let lt : i < length xs = omega (arith, c.loop-i-test.true, c.method_count-i-end.ensures) in
+    let is = sym c.method_at.ensures in
     let n = length (sets_of_method x) in
     let more = drop (i + 1) xs in
     let k = length (flat_map sets_of_method more) in

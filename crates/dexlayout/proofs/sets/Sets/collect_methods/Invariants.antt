@@ -1,12 +1,13 @@
 use Rattle.std.proofs.Common.{◌≡◌, ◌≤◌, length, drop}
 use Rattle.std.specs.List.{flat_map}
+use Rattle.dexmembers.specs.Numbered.{methods_of}
 use Rattle.dexlayout.specs.internal.Collecting.{sets_of_method, parts_of_methods, collect_methods}
 use Rattle.dexlayout.proofs.sets.Sets.collect_methods.Given as goal
 
 -- placing what is left gives the whole
 abbrev pub invariant-loop-i : goal.invariant-loop-i
 invariant-loop-i l = record {
-  collected : collect_methods l.self (parts_of_methods (drop l.i l.methods) l.rest) ≡ collect_methods l.fn.self (parts_of_methods l.methods l.offs);
-  left : drop (length (flat_map sets_of_method (drop l.i l.methods))) l.rest ≡ drop (length (flat_map sets_of_method l.methods)) l.offs;
-  enough : length (flat_map sets_of_method (drop l.i l.methods)) ≤ length l.rest;
+  collected : collect_methods l.self (parts_of_methods (drop l.i (methods_of l.members)) l.rest) ≡ collect_methods l.fn.self (parts_of_methods (methods_of l.members) l.offs);
+  left : drop (length (flat_map sets_of_method (drop l.i (methods_of l.members)))) l.rest ≡ drop (length (flat_map sets_of_method (methods_of l.members))) l.offs;
+  enough : length (flat_map sets_of_method (drop l.i (methods_of l.members))) ≤ length l.rest;
 }

@@ -3,7 +3,6 @@ use Rattle.std.proofs.lemmas.List.{length-map}
 use Rattle.dexspec.specs.Canonical.{field_row_bytes}
 use Rattle.dexpool.proofs.UnionLaws.{ranks_are_numbers}
 use Rattle.dexcanon.proofs.SymbolRows.{field_row_at, no_field}
-use Rattle.dexcanon.proofs.WholeBody.{texts_few}
 use Rattle.dexcanon.proofs.tables.FieldIdsItemList.encode_item.Goals as goal
 
 pub field-field-requires : goal.field-field-requires

@@ -3,7 +3,6 @@ use Rattle.std.proofs.lemmas.List.{length-map}
 use Rattle.dexspec.specs.Canonical.{method_row_bytes}
 use Rattle.dexpool.proofs.UnionLaws.{ranks_are_numbers}
 use Rattle.dexcanon.proofs.SymbolRows.{method_row_at, no_method}
-use Rattle.dexcanon.proofs.WholeBody.{texts_few}
 use Rattle.dexcanon.proofs.tables.MethodIdsItemList.encode_item.Goals as goal
 
 pub method-method-requires : goal.method-method-requires

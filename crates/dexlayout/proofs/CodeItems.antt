@@ -9,12 +9,11 @@ use Rattle.dexspec.specs.Lists.{zip_with}
 use Rattle.dexspec.specs.Code as symbolic
 use Rattle.dexspec.specs.Classes.{MethodDef, declared_methods}
 use Rattle.dexspec.specs.Mentions.{Mentions}
-use Rattle.dexspec.specs.Sameness.{same_debug}
 use Rattle.dexspec.specs.Sections.{CodeItems}
 use Rattle.dexspec.specs.Spellings.{code_bytes}
-use Rattle.dexspec.specs.Placing.{all_methods, code_uses, debug_uses, Ordered, offsets, uses_offsets}
+use Rattle.dexspec.specs.Placing.{all_methods, code_uses, uses_offsets}
 use Rattle.dexspec.specs.Canonical.{debug_section, code_section}
-use Rattle.dexspec.proofs.layout.Placements.{length-items_offsets, length-uses_offsets, length-zip_with}
+use Rattle.dexspec.proofs.layout.Uses.{length-debug_offsets, length-code_offsets}
 use Rattle.dexpool.specs.Numberings.{AreRising}
 use Rattle.dexpool.proofs.Parts.{all_back, all_of, all_prefix}
 use Rattle.dexcode.specs.Numbered.{NumberedItem, handlers_of}
@@ -22,7 +21,7 @@ use Rattle.dexcode.specs.Meaning.{code_in, IsKnownCode}
 use Rattle.dexcode.specs.CodePut.{numbered_code_bytes, HasShortTypes}
 use Rattle.dexcode.specs.Laws.{CodeBytesAreDenoted, CaughtTypesAreShort}
 use Rattle.dexcode.proofs.Meanings.{code_encoded}
-use Rattle.dexmembers.specs.Numbered.{NumberedMembers, NumberedMethod, method_in, IsKnownMethod, methods_of}
+use Rattle.dexmembers.specs.Numbered.{NumberedMembers, NumberedMethod, method_in, AreKnownMembers, IsKnownMethod, methods_of}
 use Rattle.dexclass.specs.Numbered.{NumberedClass, definition_of}
 use Rattle.dexclass.specs.Uses.{IsKnownClass}
 use Rattle.dexlayout.specs.Laid.{AreCodes, AreLaidIn, AreWritable, ordered_of}
@@ -45,13 +44,15 @@ methods_mean m (c ∷ cs) =
     ∙ ap (λ xs. xs ++ map (method_in m) (methods_in_all cs)) (sym (map-append (method_in m) c.members.direct_methods c.members.virtual_methods))
     ∙ sym (map-append (method_in m) (methods_of c.members) (methods_in_all cs))
 
--- and are known
+-- and are known: those of a class
+pub class_methods_known : (m : Mentions) (x : NumberedMembers) → AreKnownMembers m x → All (IsKnownMethod m) (methods_of x)
+class_methods_known m x known = All-append (IsKnownMethod m) x.direct_methods x.virtual_methods known.direct_methods_known known.virtual_methods_known
+
+-- and those of all
 methods_known : (m : Mentions) (cs : List NumberedClass) → All (IsKnownClass m) cs → All (IsKnownMethod m) (methods_in_all cs)
 methods_known m [] known = All-nil (IsKnownMethod m)
 methods_known m (c ∷ cs) known =
-    let k = (All-head (IsKnownClass m) c cs known).members_known in
-    All-append (IsKnownMethod m) (methods_of c.members) (methods_in_all cs) (All-append (IsKnownMethod m) c.members.direct_methods c.members.virtual_methods k.direct_methods_known k.virtual_methods_known)
-    (methods_known m cs (All-tail (IsKnownClass m) c cs known))
+    All-append (IsKnownMethod m) (methods_of c.members) (methods_in_all cs) (class_methods_known m c.members (All-head (IsKnownClass m) c cs known).members_known) (methods_known m cs (All-tail (IsKnownClass m) c cs known))
 
 -- those of the next class, and of the classes after it
 module _ (cs : List NumberedClass) (i : ℕ) (c : NumberedClass) (x : NumberedMembers) (lt : i < length cs) (is : get_or cs i c ≡ c) (members : x ≡ c.members) where
@@ -60,16 +61,8 @@ module _ (cs : List NumberedClass) (i : ℕ) (c : NumberedClass) (x : NumberedMe
 
 -- ---- offsets, one for each method
 
-length-debug_offsets : (K : Ordered) → length (uses_offsets (debug_section K)) ≡ length (all_methods K.classes)
-unfolding debug_section
-length-debug_offsets K = length-items_offsets K.sharing same_debug (debug_uses K) (offsets (debug_section K)) ∙ length-map (all_methods K.classes) _
-
-length-code_offsets : (K : Ordered) → length (uses_offsets (code_section K)) ≡ length (all_methods K.classes)
-unfolding code_section
-length-code_offsets K = length-uses_offsets (code_uses K (uses_offsets (debug_section K))) (offsets (code_section K)) ∙ length-zip_with _ (all_methods K.classes) (uses_offsets (debug_section K)) (length (all_methods K.classes)) refl (length-debug_offsets K)
-
 module _ (m : Mentions) (cs : List NumberedClass) where
-  count_methods : length (all_methods (ordered_of m cs).classes) ≡ length (methods_in_all cs)
+  pub count_methods : length (all_methods (ordered_of m cs).classes) ≡ length (methods_in_all cs)
   count_methods = ap (λ (xs : List MethodDef). length xs) (methods_mean m cs) ∙ length-map (methods_in_all cs) (method_in m)
 
   pub code_offsets_count : (offs : List ℕ) → offs ≡ uses_offsets (code_section (ordered_of m cs)) → length offs ≡ length (methods_in_all cs)

@@ -1,22 +1,15 @@
 -- Lists of offsets that are encoded one after the other, and the offsets that are left.
-use Rattle.std.proofs.Common.{◌≡◌, ℕ, zero, suc, ◌+◌, ◌*◌, ◌<◌, ◌≤◌, List, [], ◌∷◌, ◌++◌, length, get_or, map, take, drop, Option, None, Some, refl, sym, ap, ◌∙◌, arith}
+use Rattle.std.proofs.Common.{◌≡◌, ℕ, zero, suc, ◌+◌, ◌<◌, ◌≤◌, List, [], ◌∷◌, ◌++◌, length, get_or, map, take, drop, Option, None, Some, refl, sym, ap, ◌∙◌, arith}
 use Rattle.std.specs.List.{flat_map}
 use Rattle.std.proofs.lemmas.List.{length-append, length-drop, drop-drop}
-use Rattle.dexspec.specs.Bytes.{uint}
 use Rattle.dexspec.specs.Lists.{chunks}
 use Rattle.dexspec.specs.Spellings.{offsets_bytes}
-use Rattle.dexspec.proofs.numbers.ByteNumbers.{length-uint}
-use Rattle.dexspec.proofs.written.PlacedBytes.{length_rows}
 use Rattle.dexmembers.specs.Numbered.{methods_of}
 use Rattle.dexclass.specs.Numbered.{NumberedClass}
 use Rattle.dexlayout.specs.internal.OffsetLists.{offset_lists, total, list_item, parameter_counts, class_parameter_counts}
 use Rattle.dexlayout.proofs.OwnSteps.{drop_next}
 
 -- ---- one list
-
--- how many bytes offsets have, with their count
-pub offsets_length : (offs : List ℕ) → length (offsets_bytes offs) ≡ 4 + 4 * length offs
-offsets_length offs = omega (arith, length-append (uint (length offs)) (flat_map uint offs), length-uint (length offs), length_rows uint 4 length-uint offs)
 
 -- an empty list has no item
 pub no_list : (offs : List ℕ) → length offs ≡ 0 → list_item offs ≡ None

@@ -1,18 +1,15 @@
 -- The file of a program's classes: if the program is good, it can be written, and its length is that of its layout.
-use Rattle.std.proofs.Common.{◌≡◌, ℕ, ◌+◌, ◌*◌, ◌≤◌, List, [], ◌∷◌, ◌++◌, length, map, sym, ap, subst, ◌∙◌, arith}
+use Rattle.std.proofs.Common.{◌≡◌, ℕ, ◌+◌, ◌≤◌, List, [], ◌∷◌, ◌++◌, length, map, sym, ap, subst, ◌∙◌, arith}
 use Rattle.std.specs.List.{flat_map}
 use Rattle.std.specs.Prelude.{slice_index, drop}
-use Rattle.std.proofs.lemmas.List.{length-append}
-use Rattle.dexspec.specs.Bytes.{uint, padding, round_up}
+use Rattle.dexspec.specs.Bytes.{padding, round_up}
 use Rattle.dexspec.specs.Header.{HasSize}
 use Rattle.dexspec.specs.Sections.{Section, HeaderItem, MapList}
 use Rattle.dexspec.specs.Files.{Collection, definitions}
 use Rattle.dexspec.specs.Mentions.{Mentions, mentions}
 use Rattle.dexspec.specs.Merging.{Caps, greatest_caps, AreCaps, Fits}
 use Rattle.dexspec.specs.Placing.{Ordered, EqualOnce, end, offsets}
-use Rattle.dexspec.specs.Canonical.{map_of, map_bytes, map_entry_bytes, unsigned_file, with_sums, ordered, canonical, data_start, type_list_section, annotation_section, array_section, string_section, debug_section, code_section, class_data_section, set_section, set_offsets, ref_list_section, directory_section}
-use Rattle.dexspec.proofs.numbers.ByteNumbers.{length-uint, length-ushort}
-use Rattle.dexspec.proofs.written.PlacedBytes.{length_rows}
+use Rattle.dexspec.specs.Canonical.{map_of, map_bytes, unsigned_file, with_sums, ordered, canonical, data_start, type_list_section, annotation_section, array_section, string_section, debug_section, code_section, class_data_section, set_section, set_offsets, ref_list_section, directory_section}
 use Rattle.dexspec.proofs.layout.SectionPlaces.{data_before_map, map_place, map_place_is, map_list_named, parts}
 use Rattle.dexhead.specs.declared.map_list.MapEntry.{MapEntry}
 use Rattle.dexhead.specs.Laid.{StatesLayout, map_start, map_list}
@@ -28,14 +25,6 @@ use Rattle.dexlayout.proofs.Ends.{map_start_is}
 use Rattle.dexlayout.proofs.OwnParts.{map_parts}
 
 -- ---- the length of the file
-
--- an entry has twelve bytes
-length-map_entry : (e : Section × ℕ × ℕ) → length (map_entry_bytes e) ≡ 12
-length-map_entry e = omega (arith, length-append {A = ℕ}, length-uint, length-ushort)
-
--- and a map four more than its entries
-pub length-map_bytes : (es : List (Section × ℕ × ℕ)) → length (map_bytes es) ≡ 4 + 12 * length es
-length-map_bytes es = length-append (uint (length es)) (flat_map map_entry_bytes es) ∙ omega (arith, length-uint (length es), length_rows map_entry_bytes 12 length-map_entry es)
 
 -- where the map begins, by two names
 places_same : (K : Ordered) → map_place K ≡ map_start K

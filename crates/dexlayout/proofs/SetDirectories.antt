@@ -1,5 +1,5 @@
 -- The directories of classes: by numbers, they are the items of the file.
-use Rattle.std.proofs.Common.{◌≡◌, ℕ, zero, suc, ◌+◌, ◌*◌, ◌<◌, ◌≤◌, Bool, true, false, Ordering, ◌⊎◌, inl, inr, List, [], ◌∷◌, ◌++◌, length, get_or, map, take, drop, refl, sym, ap, ◌∙◌, arith, Option, Some, None, All}
+use Rattle.std.proofs.Common.{◌≡◌, ℕ, zero, suc, ◌+◌, ◌*◌, ◌<◌, ◌≤◌, Bool, true, false, Ordering, ◌⊎◌, inl, inr, List, [], ◌∷◌, ◌++◌, length, get_or, map, take, drop, refl, sym, ap, ◌∙◌, arith, Some, None, All}
 use Rattle.std.specs.Prelude.{slice_index, ◌==◌, if◌then◌else◌}
 use Rattle.std.specs.List.{flat_map, zip}
 use Rattle.std.specs.Option.{option_map}
@@ -16,11 +16,11 @@ use Rattle.dexspec.specs.Placing.{SetOffsets, pair_cmp, pairs, directory_bytes, 
 use Rattle.dexspec.specs.Sections.{AnnotationsDirectories}
 use Rattle.dexspec.specs.Spellings.{field_index, method_index}
 use Rattle.dexspec.specs.Canonical.{set_offsets, ref_list_section, directory_section}
-use Rattle.dexspec.specs.Placing.{ref_list_uses, unless_empty}
-use Rattle.dexspec.proofs.layout.Placements.{length-chunks, length-uses_offsets, length-set_offsets}
+use Rattle.dexspec.proofs.layout.Placements.{length-chunks, length-set_offsets}
+use Rattle.dexspec.proofs.layout.Uses as uses
 use Rattle.dexspec.proofs.sharing.Shorter.{not_zero}
 use Rattle.dexpool.specs.Laws.{RanksAreNumbers}
-use Rattle.dexmembers.specs.Numbered.{NumberedMembers, NumberedMethod, fields_of, methods_of, method_in}
+use Rattle.dexmembers.specs.Numbered.{NumberedMembers, fields_of, methods_of, method_in}
 use Rattle.dexmembers.specs.DirectoryPut.{count_placed, numbered_directory_bytes}
 use Rattle.dexmembers.proofs.PairsMerged.{kept, placed_count}
 use Rattle.dexmembers.proofs.DirectorySpelled as spelled
@@ -31,12 +31,11 @@ use Rattle.dexlayout.specs.Laid.{ordered_of, AreDirectories, AreSets, AreWritabl
 use Rattle.dexlayout.specs.internal.Encoding.{encode_use, encode_uses, no_items_from}
 use Rattle.dexlayout.specs.internal.Directories.{directory_item, directory_items}
 use Rattle.dexlayout.specs.internal.Collecting.{sets_of_method, sets_of_class, parts_of_class, parts_of_classes}
+use Rattle.dexlayout.proofs.CodeItems.{count_methods, methods_in_all}
 use Rattle.dexlayout.proofs.EncodedUses.{own_in, own_same, use_encoded, use_fits}
 use Rattle.dexlayout.proofs.OffsetLists.{take_prefix, drop_prefix}
 use Rattle.dexlayout.proofs.OwnSteps.{drop_next}
 use Rattle.dexlayout.proofs.SetLists.{set_use_offsets, length-set_use_offsets, set_offsets_are}
-use Rattle.dexlayout.specs.internal.OffsetLists.{parameter_counts, class_parameter_counts}
-use Rattle.dexlayout.proofs.RefLists.{lists_of, lists_used, counts_lengths}
 use Rattle.dexlayout.proofs.SetsCollected.{class_sets_count, classes_are_long, classes_parts, fields_count, methods_are}
 
 -- ---- pairs
@@ -271,25 +270,8 @@ module _ (m : Mentions) (ranks : RanksAreNumbers m) where
 -- ---- they are those of the file
 
 -- an offset of a list for each method
-class_lists_count : (cs : List NumberedClass) → length (class_parameter_counts cs) ≡ length (flat_map (λ c. methods_of c.members) cs)
-class_lists_count [] = refl
-class_lists_count (c ∷ cs) =
-    omega (
-      arith,
-      length-append (parameter_counts (methods_of c.members)) (class_parameter_counts cs),
-      length-append (methods_of c.members) (flat_map (λ c. methods_of c.members) cs),
-      length-map (methods_of c.members) (λ (x : NumberedMethod). length x.parameter_annotations),
-      class_lists_count cs,
-    )
-
-pub length-ref_list_offsets : (m : Mentions) (cs : List NumberedClass) → length (uses_offsets (ref_list_section (ordered_of m cs))) ≡ length (flat_map (λ c. methods_of c.members) cs)
-unfolding ref_list_section
-length-ref_list_offsets m cs =
-    let K = ordered_of m cs in
-    let ss = set_offsets K in
-    let ls = lists_of ss in
-    length-uses_offsets (ref_list_uses K ss) _ ∙ ap (λ (us : List (Option (List ℕ))). length us) (sym (lists_used ss)) ∙ length-map ls unless_empty
-    ∙ sym (length-map ls (λ (l : List ℕ). length l)) ∙ ap (λ (ns : List ℕ). length ns) (sym (counts_lengths m cs)) ∙ class_lists_count cs
+pub length-ref_list_offsets : (m : Mentions) (cs : List NumberedClass) → length (uses_offsets (ref_list_section (ordered_of m cs))) ≡ length (methods_in_all cs)
+length-ref_list_offsets m cs = uses.length-ref_list_offsets (ordered_of m cs) ∙ count_methods m cs
 
 module _ (m : Mentions) (cs : List NumberedClass) (sets : SetPlaces) (are : AreSets m cs sets) where
   -- the offsets of the sets, class by class

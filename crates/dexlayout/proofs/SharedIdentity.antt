@@ -1,21 +1,14 @@
 -- A numbering mapped to itself: each number maps to itself, and remapping changes nothing.
-use Rattle.std.proofs.Common.{◌≡◌, ℕ, zero, suc, ◌+◌, ◌<◌, ◌≤◌, List, [], ◌∷◌, ◌++◌, length, get_or, map, refl, sym, ap, ◌∙◌, arith, inl, inr}
-use Rattle.std.specs.Prelude.{Option, Some, None, IfSome, All, is_some, unwrap_or}
-use Rattle.std.specs.List.{flat_map}
+use Rattle.std.proofs.Common.{◌≡◌, ℕ, zero, suc, ◌+◌, ◌<◌, ◌≤◌, List, [], ◌∷◌, length, get_or, refl, sym, ap, ◌∙◌, arith, inl, inr}
+use Rattle.std.specs.Prelude.{Option, Some, None, is_some, unwrap_or}
 use Rattle.std.proofs.lemmas.Bool.{cases_lt}
 use Rattle.std.proofs.lemmas.List.{get_or_default}
-use Rattle.std.proofs.lemmas.List.Elements.{All-nil, All-cons, All-append, All-head, All-tail}
 use Rattle.dexspec.specs.Mentions.{Mentions}
 use Rattle.dexpool.specs.declared.symbols.SymbolKind.{SymbolKind}
 use Rattle.dexpool.specs.declared.symbols.SymbolKind.TheVariants as kinds
 use Rattle.dexpool.specs.Laws.{MapsAll}
 use Rattle.dexpool.specs.Numberings.{MapsTo, Maps, AllMapTo, image, image_of}
 use Rattle.dexpool.specs.Pools.{count_of}
-use Rattle.dexpool.specs.Uses.{IsMappedUse}
-use Rattle.dexdebug.specs.declared.debug_operation.Operation.{Operation}
-use Rattle.dexdebug.specs.declared.debug_operation.Operation.TheVariants.{AdvancePc, AdvanceLine, StartLocal, StartLocalExtended, EndLocal, RestartLocal, SetPrologueEnd, SetEpilogueBegin, SetFile, Special}
-use Rattle.dexdebug.specs.Debug.{NumberedDebug, name_of, type_of, signature_of, with_numbers, number_uses, operation_uses, debug_uses, image_or_none, renumbered_operation, renumbered_debug}
-use Rattle.dexdebug.specs.Meaning.{IsKnownText, IsKnownOperation, IsKnownDebug}
 use Rattle.dexval.specs.Numbered.{NumberedValue, NumberedValues, NumberedElements, NumberedAnnotation, NumberedSet, Plain, Named, Array, Annotated, NoValue, ThenNext, NoElement, ThenNamed, kind_of_reference}
 use Rattle.dexval.specs.Renumbering.{remapped, renumbered, renumbered_values, renumbered_elements, renumbered_set}
 
@@ -132,63 +125,3 @@ module _ (m : Mentions) where
       ap (λ (b : NumberedAnnotation). b ∷ renumbered_set (itself m) s)
       (ap (λ (n : ℕ). annotation_with a.visibility n (renumbered_elements (itself m) a.elements)) (stays kinds.Typ a.type) ∙ ap (annotation_with a.visibility a.type) (elements_stay a.elements))
       ∙ ap (λ (l : NumberedSet). a ∷ l) (set_stays s)
-
-  -- ---- debug programs
-
-  optional_stays : (kind : SymbolKind) (o : Option ℕ) → IfSome o (λ n. n < count_of kind m) → image_or_none (itself m) kind o ≡ o
-  optional_stays kind None h = refl
-  optional_stays kind (Some n) h = image_is m kind n h
-
-  same_operation : (op : Operation) → with_numbers op (name_of op) (type_of op) (signature_of op) ≡ op
-  same_operation (AdvancePc addresses) = refl
-  same_operation (AdvanceLine lines) = refl
-  same_operation (StartLocal register name typ) = refl
-  same_operation (StartLocalExtended register name typ signature) = refl
-  same_operation (EndLocal register) = refl
-  same_operation (RestartLocal register) = refl
-  same_operation SetPrologueEnd = refl
-  same_operation SetEpilogueBegin = refl
-  same_operation (SetFile name) = refl
-  same_operation (Special opcode) = refl
-
-  operation_stays : (op : Operation) → IsKnownOperation m op → renumbered_operation (itself m) op ≡ op
-  operation_stays op h =
-      let r = itself m in
-      ap (λ o. with_numbers op o (image_or_none r kinds.Typ (type_of op)) (image_or_none r kinds.Text (signature_of op))) (optional_stays kinds.Text (name_of op) h.name_known)
-      ∙ ap (λ o. with_numbers op (name_of op) o (image_or_none r kinds.Text (signature_of op))) (optional_stays kinds.Typ (type_of op) h.type_known)
-      ∙ ap (with_numbers op (name_of op) (type_of op)) (optional_stays kinds.Text (signature_of op) h.signature_known)
-      ∙ same_operation op
-
-  -- what stays, member by member
-  list_stays : {X : Type 0} (f : X → X) (K : X → Type 0) → ((x : X) → K x → f x ≡ x) → (xs : List X) → All K xs → map f xs ≡ xs
-  list_stays f K each [] h = refl
-  list_stays f K each (x ∷ xs) h = ap (λ y. y ∷ map f xs) (each x (All-head K x xs h)) ∙ ap (λ ys. x ∷ ys) (list_stays f K each xs (All-tail K x xs h))
-
-  -- a debug program by its parts
-  abbrev debug_with : ℕ → List (Option ℕ) → List Operation → NumberedDebug
-  debug_with line names operations = record { line_start = line; parameter_names = names; operations = operations }
-
-  pub debug_stays : (d : NumberedDebug) → IsKnownDebug m d → renumbered_debug (itself m) d ≡ d
-  debug_stays d h =
-      ap (λ ns. debug_with d.line_start ns (map (renumbered_operation (itself m)) d.operations)) (list_stays (image_or_none (itself m) kinds.Text) (IsKnownText m) (optional_stays kinds.Text) d.parameter_names h.names_known)
-      ∙ ap (debug_with d.line_start d.parameter_names) (list_stays (renumbered_operation (itself m)) (IsKnownOperation m) operation_stays d.operations h.operations_known)
-
-  -- each number of it has an image
-  optional_remapped : (kind : SymbolKind) (o : Option ℕ) → IfSome o (λ n. n < count_of kind m) → All (IsMappedUse (itself m)) (number_uses kind o)
-  optional_remapped kind None h = All-nil (IsMappedUse (itself m))
-  optional_remapped kind (Some n) h = All-cons (IsMappedUse (itself m)) (record { kind = kind; number = n }) [] (maps_all_itself m kind n h) (All-nil (IsMappedUse (itself m)))
-
-  operation_remapped : (op : Operation) → IsKnownOperation m op → All (IsMappedUse (itself m)) (operation_uses op)
-  operation_remapped op h =
-      All-append (IsMappedUse (itself m)) (number_uses kinds.Text (name_of op)) (number_uses kinds.Typ (type_of op) ++ number_uses kinds.Text (signature_of op)) (optional_remapped kinds.Text (name_of op) h.name_known)
-      (All-append (IsMappedUse (itself m)) (number_uses kinds.Typ (type_of op)) (number_uses kinds.Text (signature_of op)) (optional_remapped kinds.Typ (type_of op) h.type_known) (optional_remapped kinds.Text (signature_of op) h.signature_known))
-
-  parts_mapped : {X Y : Type 0} (P : Y → Type 0) (f : X → List Y) (K : X → Type 0) → ((x : X) → K x → All P (f x)) → (xs : List X) → All K xs → All P (flat_map f xs)
-  parts_mapped P f K each [] h = All-nil P
-  parts_mapped P f K each (x ∷ xs) h = All-append P (f x) (flat_map f xs) (each x (All-head K x xs h)) (parts_mapped P f K each xs (All-tail K x xs h))
-
-  pub debug_remapped : (d : NumberedDebug) → IsKnownDebug m d → All (IsMappedUse (itself m)) (debug_uses d)
-  debug_remapped d h =
-      All-append (IsMappedUse (itself m)) (flat_map (number_uses kinds.Text) d.parameter_names) (flat_map operation_uses d.operations)
-      (parts_mapped (IsMappedUse (itself m)) (number_uses kinds.Text) (IsKnownText m) (optional_remapped kinds.Text) d.parameter_names h.names_known)
-      (parts_mapped (IsMappedUse (itself m)) operation_uses (IsKnownOperation m) operation_remapped d.operations h.operations_known)

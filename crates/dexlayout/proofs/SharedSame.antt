@@ -19,7 +19,7 @@ use Rattle.dexval.specs.Numbered.{NumberedSet, set_in, type_at, IsKnownSet}
 use Rattle.dexval.proofs.Images.{known_set_remapped}
 use Rattle.dexval.proofs.Ranked as sets
 use Rattle.dexlayout.specs.ListKeys.{same_numbers, same_numbers_decides}
-use Rattle.dexlayout.proofs.SharedIdentity.{itself, all_map_to_itself, maps_all_itself, set_stays, debug_stays, debug_remapped}
+use Rattle.dexlayout.proofs.SharedIdentity.{itself, all_map_to_itself, maps_all_itself, set_stays}
 
 -- ---- tests of what is mapped one to one
 
@@ -58,6 +58,5 @@ module _ (m : Mentions) (rising : AreRising m) where
 
   pub debugs_agree : (same : Bool) (d e : NumberedDebug) → Decides same (d ≡ e) → IsKnownDebug m d → IsKnownDebug m e → same_debug (debug_in m d) (debug_in m e) ≡ same
   debugs_agree same d e is hd he =
-      let r = itself m in
-      let remapped = debugs.same_debug m m m r r (ranks_are_numbers m rising) (all_map_to_itself m) (all_map_to_itself m) d e (debug_remapped m d hd) (debug_remapped m e he) hd he in
-      agree (debug_in m) same same_debug debug_decides d e is (λ h. sym (debug_stays m d hd) ∙ remapped.1 h ∙ debug_stays m e he)
+      let ranks = ranks_are_numbers m rising in
+      agree (debug_in m) same same_debug debug_decides d e is (λ h. sym (debugs.debug_back m ranks d hd) ∙ ap (debugs.ranked_debug m) h ∙ debugs.debug_back m ranks e he)

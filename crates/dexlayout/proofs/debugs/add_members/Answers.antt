@@ -1,15 +1,15 @@
 use Rattle.std.proofs.Common.{◌≡◌, ◌<◌, ◌++◌, Option, Some, None, Ok, length, sym, ap, subst, arith, Bor}
-use Rattle.std.specs.Prelude.{All, IfSome, MatchOption, Result}
+use Rattle.std.specs.Prelude.{IfSome, MatchOption, Result}
 use Rattle.std.specs.Option.{option_map, option_map_or}
 use Rattle.std.proofs.lemmas.List.{take_all}
-use Rattle.std.proofs.lemmas.List.Elements.{All-append}
 use Rattle.dexspec.specs.Mentions.{Mentions}
 use Rattle.dexdebug.specs.Debug.{NumberedDebug}
 use Rattle.dexdebug.specs.Meaning.{debug_in, IsKnownDebug}
 use Rattle.dexcode.specs.Meaning.{IsKnownCode}
 use Rattle.dexcode.specs.Numbered.{NumberedItem}
-use Rattle.dexmembers.specs.Numbered.{NumberedMembers, NumberedMethod, AreKnownMembers, IsKnownMethod, methods_of}
+use Rattle.dexmembers.specs.Numbered.{NumberedMethod, IsKnownMethod, methods_of}
 use Rattle.dexlayout.specs.internal.SharedUses.{SharesDebugs, debug_of, debugs_uses}
+use Rattle.dexlayout.proofs.CodeItems.{class_methods_known}
 use Rattle.dexlayout.proofs.SharedUses.{shared_use, uses_next}
 use Rattle.dexlayout.proofs.debugs.add_members.Goals as goal
 
@@ -27,17 +27,13 @@ lent_means : (m : Mentions) (o : Option (Bor NumberedDebug)) (d : Option Numbere
 lent_means m None d is = ap (option_map (debug_in m)) is
 lent_means m (Some b) d is = ap (option_map (debug_in m)) is
 
--- those of the methods of a class are known
-methods_known : (m : Mentions) (x : NumberedMembers) → AreKnownMembers m x → All (IsKnownMethod m) (methods_of x)
-methods_known m x known = All-append (IsKnownMethod m) x.direct_methods x.virtual_methods known.direct_methods_known known.virtual_methods_known
-
 pub loop-i-preserved : goal.loop-i-preserved
 loop-i-preserved c = λ m uses known h.
     let xs = methods_of c.args.members.now in
     let i = c.loop-i.i in
     let x = c.method_at.result in
     let lt : i < length xs = omega (arith, c.loop-i-test.true, c.method_count-i-end.ensures) in
-    let here : IsKnownMethod m x = subst (IsKnownMethod m) (sym c.method_at.ensures) (methods_known m c.args.members.now known i x lt) in
+    let here : IsKnownMethod m x = subst (IsKnownMethod m) (sym c.method_at.ensures) (class_methods_known m c.args.members.now known i x lt) in
     let o = c.debug_of.result in
     let u = option_map (debug_in m) (debug_of x) in
     let done : Result (Unit {0}) (Unit {0}) = Ok tt in

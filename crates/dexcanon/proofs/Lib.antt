@@ -10,4 +10,3 @@ pub mod Reported
 pub mod WholeBody
 pub mod WholeFile
 pub mod Finished
-pub mod Zipped

@@ -1,8 +1,8 @@
 -- The rows of classes, class by class.
-use Rattle.std.proofs.Common.{◌≡◌, ℕ, ◌+◌, ◌<◌, ◌^◌, List, [], ◌++◌, length, get_or, get_or-drop, map, drop, Option, Some, None, refl, sym, ap, ◌∙◌, arith, zip}
+use Rattle.std.proofs.Common.{◌≡◌, ℕ, ◌+◌, ◌<◌, ◌^◌, List, [], ◌++◌, length, get_or, map, Option, Some, None, refl, sym, ap, ◌∙◌, arith}
 use Rattle.std.specs.Prelude.{All, IfSome, unwrap_or, option_to_list}
 use Rattle.std.specs.Option.{option_map, option_map_or}
-use Rattle.std.proofs.lemmas.List.{length-drop, get_or-map, length-map}
+use Rattle.std.proofs.lemmas.List.{get_or-map, length-map}
 use Rattle.std.proofs.lemmas.List.Elements.{All-head, All-tail}
 use Rattle.dexspec.specs.Bytes.{uint}
 use Rattle.dexspec.specs.Classes.{no_index}
@@ -10,15 +10,14 @@ use Rattle.dexspec.specs.Mentions.{Mentions}
 use Rattle.dexspec.specs.Spellings.{text_index, type_index}
 use Rattle.dexspec.specs.Placing.{uses_offsets}
 use Rattle.dexspec.specs.Canonical.{class_row_bytes, class_offsets, type_list_section, directory_section, class_data_section, array_section}
-use Rattle.dexspec.proofs.layout.Placements.{length-zip, length-type_list_offsets, length-array_offsets, length-class_data_offsets, length-directory_offsets}
-use Rattle.dexspec.proofs.layout.SectionPlaces.{get_or-zip}
+use Rattle.dexspec.proofs.layout.Placements.{length-zip_with, length-type_list_offsets, length-array_offsets, length-class_data_offsets, length-directory_offsets, length-class_offsets}
+use Rattle.dexspec.proofs.layout.SectionPlaces.{class_at, get_or-zip_with}
 use Rattle.dexpool.specs.Laws.{RanksAreNumbers}
 use Rattle.dexpool.proofs.Parts.{all_prefix}
 use Rattle.dexclass.specs.Numbered.{NumberedClass, definition_of, text_at, type_at}
 use Rattle.dexclass.specs.Uses.{IsKnownClass}
 use Rattle.dexlayout.specs.Laid.{ordered_of}
-use Rattle.dexcanon.specs.internal.ClassRows.{class_row, no_offsets, rows_with, row_offsets}
-use Rattle.dexcanon.proofs.Zipped.{zip_with_at, length-zip_with}
+use Rattle.dexcanon.specs.internal.ClassRows.{class_row, no_offsets, rows_with}
 
 -- ---- numbers
 
@@ -59,30 +58,10 @@ module _ (m : Mentions) (c : NumberedClass) (h : IsKnownClass m c) where
 
 -- ---- rows
 
-module _ (ns bs ds vs : List ℕ) (count : ℕ) (n : length ns ≡ count) (a : length bs ≡ count) (d : length ds ≡ count) (v : length vs ≡ count) where
-  -- as many offsets in rows as of each kind
-  count_offsets : length (row_offsets ns bs ds vs) ≡ count
-  count_offsets = length-zip_with _ (zip ns bs) (zip ds vs) (length-zip ds vs count d v ∙ sym (length-zip ns bs count n a)) ∙ length-zip ns bs count n a
-
-  -- those in the r-th row
-  offsets_at : (r : ℕ) → r < count → get_or (row_offsets ns bs ds vs) r no_offsets ≡ (get_or ns r 0, get_or bs r 0, get_or ds r 0, get_or vs r 0)
-  offsets_at r lt =
-      zip_with_at _ (zip ns bs) (zip ds vs) r (0, 0) (0, 0) no_offsets (omega (arith, lt, length-zip ns bs count n a)) (omega (arith, lt, length-zip ds vs count d v))
-      ∙ both (get_or-zip ns bs r 0 0 (omega (arith, lt, n)) (omega (arith, lt, a))) (get_or-zip ds vs r 0 0 (omega (arith, lt, d)) (omega (arith, lt, v)))
-    where
-      make : ℕ × ℕ → ℕ × ℕ → ℕ × ℕ × ℕ × ℕ
-      make p q = (p.0, p.1, q.0, q.1)
-
-      both : {p p' q q' : ℕ × ℕ} → p ≡ p' → q ≡ q' → make p q ≡ make p' q'
-      both {p' = p'} {q = q} e f = ap (λ x. make x q) e ∙ ap (make p') f
-
 module _ (m : Mentions) (cs : List NumberedClass) where
   -- an offset of each kind for each class
   pub count_lists : length (uses_offsets (type_list_section (ordered_of m cs))) ≡ length m.protos + length cs
   count_lists = omega (arith, length-type_list_offsets (ordered_of m cs), length-map cs (definition_of m))
-
-  count_interfaces : length (drop (length m.protos) (uses_offsets (type_list_section (ordered_of m cs)))) ≡ length cs
-  count_interfaces = omega (arith, length-drop (length m.protos) (uses_offsets (type_list_section (ordered_of m cs))), count_lists)
 
   pub count_directories : length (uses_offsets (directory_section (ordered_of m cs))) ≡ length cs
   count_directories = length-directory_offsets (ordered_of m cs) ∙ length-map cs (definition_of m)
@@ -94,7 +73,7 @@ module _ (m : Mentions) (cs : List NumberedClass) where
   count_static_values = length-array_offsets (ordered_of m cs) ∙ length-map cs (definition_of m)
 
   count_class_offsets : length (class_offsets (ordered_of m cs)) ≡ length cs
-  count_class_offsets = count_offsets _ _ _ _ (length cs) count_interfaces count_directories count_class_data count_static_values
+  count_class_offsets = length-class_offsets (ordered_of m cs) ∙ length-map cs (definition_of m)
 
   -- those of the r-th class
   pub class_offsets_at : (r : ℕ) → r < length cs → get_or (class_offsets (ordered_of m cs)) r no_offsets ≡ (
@@ -103,18 +82,16 @@ module _ (m : Mentions) (cs : List NumberedClass) where
     get_or (uses_offsets (class_data_section (ordered_of m cs))) r 0,
     get_or (uses_offsets (array_section (ordered_of m cs))) r 0,
   )
-  class_offsets_at r lt =
-      offsets_at _ _ _ _ (length cs) count_interfaces count_directories count_class_data count_static_values r lt
-      ∙ ap (λ n. (n, get_or (uses_offsets (directory_section (ordered_of m cs))) r 0, get_or (uses_offsets (class_data_section (ordered_of m cs))) r 0, get_or (uses_offsets (array_section (ordered_of m cs))) r 0)) (get_or-drop (length m.protos) (uses_offsets (type_list_section (ordered_of m cs))) r 0)
+  class_offsets_at r lt = class_at (ordered_of m cs) r no_offsets (omega (arith, lt, length-map cs (definition_of m)))
 
   -- a row for each class
   pub count_class_rows : length (rows_with m cs (class_offsets (ordered_of m cs))) ≡ length cs
-  count_class_rows = length-zip_with (class_row_bytes m) (map (definition_of m) cs) (class_offsets (ordered_of m cs)) (count_class_offsets ∙ sym (length-map cs (definition_of m))) ∙ length-map cs (definition_of m)
+  count_class_rows = length-zip_with (class_row_bytes m) (map (definition_of m) cs) (class_offsets (ordered_of m cs)) (length cs) (length-map cs (definition_of m)) count_class_offsets
 
   -- the row of the r-th class
   pub class_row_at : (r : ℕ) (c : NumberedClass) → RanksAreNumbers m → IsKnownClass m c → r < length cs → c ≡ get_or cs r c
       → get_or (rows_with m cs (class_offsets (ordered_of m cs))) r [] ≡ class_row c (get_or (class_offsets (ordered_of m cs)) r no_offsets)
   class_row_at r c ranks h lt is =
-      zip_with_at (class_row_bytes m) (map (definition_of m) cs) (class_offsets (ordered_of m cs)) r (definition_of m c) no_offsets [] (omega (arith, lt, length-map cs (definition_of m))) (omega (arith, lt, count_class_offsets))
+      get_or-zip_with (class_row_bytes m) (map (definition_of m) cs) (class_offsets (ordered_of m cs)) r (definition_of m c) no_offsets [] (omega (arith, lt, length-map cs (definition_of m))) (omega (arith, lt, count_class_offsets))
       ∙ ap (λ z. class_row_bytes m z (get_or (class_offsets (ordered_of m cs)) r no_offsets)) (get_or-map (definition_of m) cs r c (definition_of m c) lt ∙ ap (definition_of m) (sym is))
       ∙ row_is m c h ranks (get_or (class_offsets (ordered_of m cs)) r no_offsets)

@@ -14,7 +14,7 @@ use Rattle.dexrows.specs.declared.fields.FieldRow.{FieldRow}
 use Rattle.dexrows.specs.declared.methods.MethodRow.{MethodRow}
 use Rattle.dexpool.specs.Numberings.{IsAt, DenotesProto, DenotesField, DenotesMethod}
 use Rattle.dexpool.specs.Laws.{RanksAreNumbers}
-use Rattle.dexcanon.proofs.Zipped.{zip_with_at}
+use Rattle.dexspec.proofs.layout.SectionPlaces.{get_or-zip_with}
 
 -- a type_id_item
 abbrev pub type_row : Mentions → Text → List ℕ
@@ -44,7 +44,7 @@ proto_row_at m offs i a b row d ranks lt less h ea eb =
     let p = get_or m.protos i d in
     let off = get_or offs i 0 in
     let R : ℕ → ℕ → List ℕ = λ x y. uint x ++ (uint y ++ uint off) in
-    zip_with_at (proto_row_bytes m) m.protos offs i d 0 [] lt less
+    get_or-zip_with (proto_row_bytes m) m.protos offs i d 0 [] lt less
     ∙ ap (λ n. R n (type_index m p.return_type)) (text_number m row.shorty _ ranks h.shorty_is ∙ sym ea)
     ∙ ap (λ n. R a n) (type_number m row.return_type _ ranks h.return_is ∙ sym eb)
     ∙ ap (λ z. uint a ++ (uint b ++ z)) (sym (append-nil (uint off)))

@@ -1,5 +1,5 @@
 -- What follows the header, part by part.
-use Rattle.std.proofs.Common.{◌≡◌, ◌<◌, ◌^◌, List, length, arith}
+use Rattle.std.proofs.Common.{◌≡◌, suc, ◌<◌, ◌≤◌, ◌^◌, List, [], ◌∷◌, length, refl, ap, arith}
 use Rattle.dexspec.specs.Lists.{zip_with}
 use Rattle.dexspec.specs.Mentions.{Mentions}
 use Rattle.dexspec.specs.Placing.{uses_offsets}
@@ -8,7 +8,12 @@ use Rattle.dexspec.proofs.layout.Placements.{length-type_list_offsets}
 use Rattle.dexclass.specs.Numbered.{NumberedClass}
 use Rattle.dexlayout.specs.Laid.{ordered_of, AreWritable}
 use Rattle.dexlayout.proofs.Ends.{end_in_file}
-use Rattle.dexcanon.proofs.Zipped.{length-zip_with_long}
+
+-- two lists that are zipped, of which the second is no shorter
+length-zip_with_long : {X Y Z : Type 0} (f : X → Y → Z) (xs : List X) (ys : List Y) → length xs ≤ length ys → length (zip_with f xs ys) ≡ length xs
+length-zip_with_long f [] ys enough = refl
+length-zip_with_long f (x ∷ xs) [] enough = absurd (omega (arith, enough))
+length-zip_with_long f (x ∷ xs) (y ∷ ys) enough = ap suc (length-zip_with_long f xs ys (omega (arith, enough)))
 
 module _ (m : Mentions) (cs : List NumberedClass) where
   -- there is a row for each proto

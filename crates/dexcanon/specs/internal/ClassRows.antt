@@ -1,6 +1,5 @@
 -- The rows of classes, by numbers.
 use Rattle.std.specs.Prelude.{ℕ, List, ◌++◌, map, unwrap_or}
-use Rattle.std.specs.List.{zip}
 use Rattle.dexspec.specs.Lists.{zip_with}
 use Rattle.dexspec.specs.Mentions.{Mentions}
 use Rattle.dexspec.specs.Bytes.{uint}
@@ -13,11 +12,6 @@ abbrev pub class_row : NumberedClass → ℕ × ℕ × ℕ × ℕ → List ℕ
 class_row c offs =
     uint c.name ++ (uint c.flags ++ (uint (unwrap_or c.superclass no_index) ++ (uint offs.0
     ++ (uint (unwrap_or c.source no_index) ++ (uint offs.1 ++ (uint offs.2 ++ uint offs.3))))))
-
--- the offsets in the rows, from those of each kind
-abbrev pub row_offsets : List ℕ → List ℕ → List ℕ → List ℕ → List (ℕ × ℕ × ℕ × ℕ)
-row_offsets interfaces annotations class_data static_values =
-    zip_with (λ p q. (p.0, p.1, q.0, q.1)) (zip interfaces annotations) (zip class_data static_values)
 
 -- where there is no class
 abbrev pub no_offsets : ℕ × ℕ × ℕ × ℕ

@@ -3,7 +3,7 @@ use Rattle.std.proofs.Common.{◌≡◌, ℕ, ◌+◌, ◌<◌, List, [], ◌∷
 use Rattle.std.specs.Prelude.{◌==◌, if◌then◌else◌}
 use Rattle.std.specs.List.{All}
 use Rattle.std.specs.Option.{option_map}
-use Rattle.std.proofs.lemmas.List.{length-append, length-map, length-drop, map-append}
+use Rattle.std.proofs.lemmas.List.{length-append, length-map, length-drop}
 use Rattle.std.proofs.lemmas.List.Elements.{All-head, All-tail}
 use Rattle.dexspec.specs.Lists.{zip_with, chunks}
 use Rattle.dexspec.specs.Classes.{MethodDef, Definition, declared_fields, declared_methods}
@@ -14,7 +14,7 @@ use Rattle.dexspec.specs.Sections.{ClassDataItems}
 use Rattle.dexspec.specs.Canonical.{code_section, class_data_section}
 use Rattle.dexpool.specs.Numberings.{AreRising}
 use Rattle.dexpool.proofs.UnionLaws.{ranks_are_numbers}
-use Rattle.dexmembers.specs.Numbered.{NumberedMembers, method_in, field_in, fields_of, methods_of}
+use Rattle.dexmembers.specs.Numbered.{NumberedMembers, method_in, methods_of}
 use Rattle.dexmembers.specs.Spelled.{numbered_class_data_bytes}
 use Rattle.dexmembers.proofs.ClassDataSpelled.{class_data_spelled}
 use Rattle.dexclass.specs.Numbered.{NumberedClass, definition_of, type_at}
@@ -25,6 +25,7 @@ use Rattle.dexlayout.specs.internal.Encoding.{has_no_members, class_data_item, c
 use Rattle.dexlayout.proofs.EncodedUses.{own_in}
 use Rattle.dexlayout.proofs.CodeItems.{methods_in_all}
 use Rattle.dexlayout.proofs.OwnSteps.{drop_next}
+use Rattle.dexlayout.proofs.SetsCollected.{fields_count, methods_are}
 
 -- ---- the data of one class
 
@@ -50,10 +51,7 @@ module _ (m : Mentions) (rising : AreRising m) where
   data_use d offs = if is_empty_class d.1 then None else Some (d, offs)
 
   method_count : (c : NumberedClass) → length (declared_methods (definition_of m c).1) ≡ length (methods_of c.members)
-  method_count c = ap (λ (xs : List MethodDef). length xs) (sym (map-append (method_in m) c.members.direct_methods c.members.virtual_methods)) ∙ length-map (methods_of c.members) (method_in m)
-
-  field_count : (c : NumberedClass) → length (declared_fields (definition_of m c).1) ≡ length (fields_of c.members)
-  field_count c = ap (λ xs. length xs) (sym (map-append (field_in m) c.members.static_fields c.members.instance_fields)) ∙ length-map (fields_of c.members) (field_in m)
+  method_count c = ap (λ (xs : List MethodDef). length xs) (methods_are m c) ∙ length-map (methods_of c.members) (method_in m)
 
   -- by cases on whether there are members
   either_way : (d : Definition) (offs bytes : List ℕ) (b : Bool) → bytes ≡ data_of (d, offs)
@@ -66,7 +64,7 @@ module _ (m : Mentions) (rising : AreRising m) where
       let d = definition_of m c in
       let bytes = class_data_spelled m (ranks_are_numbers m rising) (type_at m c.name) d.1 c.members offs known.members_known known.members_own refl in
       let none : has_no_members c.members ≡ is_empty_class d.1 =
-      ap (λ n. n + length (methods_of c.members) == 0) (sym (field_count c)) ∙ ap (λ n. length (declared_fields d.1) + n == 0) (sym (method_count c)) in
+      ap (λ n. n + length (methods_of c.members) == 0) (sym (fields_count m c)) ∙ ap (λ n. length (declared_fields d.1) + n == 0) (sym (method_count c)) in
       ap (λ (b : Bool). if◌then◌else◌ {A = Option (List ℕ)} b None (Some (numbered_class_data_bytes c.members offs))) none
       ∙ either_way d offs (numbered_class_data_bytes c.members offs) (is_empty_class d.1) bytes
 

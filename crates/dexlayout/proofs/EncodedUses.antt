@@ -16,6 +16,7 @@ use Rattle.dexlayout.specs.internal.Encoding.{no_items_from, pass_use, align_nex
 use Rattle.dexlayout.specs.internal.Running.{none_from, put_next, place_uses}
 use Rattle.dexlayout.proofs.Owned.{sizes, own_encoded}
 use Rattle.dexlayout.proofs.OwnSteps.{all_encoded, drop_next}
+use Rattle.dexlayout.proofs.SharedUses.{present-map}
 
 -- ---- one item
 
@@ -144,11 +145,6 @@ module _ (align : ℕ) where
         })
 
     -- those that some uses have
-    own_present : (us : List (Option X)) → present (map (option_map f) us) ≡ map f (present us)
-    own_present [] = refl
-    own_present (None ∷ us) = own_present us
-    own_present (Some x ∷ us) = ap (λ ys. f x ∷ ys) (own_present us)
-
     own_lens : (us : List (Option X)) → lens (map (option_map f) us) ≡ sizes f us
     own_lens [] = refl
     own_lens (None ∷ us) = ap (λ (ns : List (Option ℕ)). None ∷ ns) (own_lens us)
@@ -160,7 +156,7 @@ module _ (align : ℕ) where
         let us = map (option_map f) uses in
         let places = encoded_places (no_items_from start) us ∙ ap (place_uses align (none_from start)) (own_lens uses) in
         subst (AreEncodedIn S) (λ i. encode_uses align (no_items_from (sym here i)) (sym are i)) (record {
-          bytes_are = encoded_bytes (no_items_from start) us ∙ ap (bytes_from align start) (own_present uses);
+          bytes_are = encoded_bytes (no_items_from start) us ∙ ap (bytes_from align start) (present-map f uses);
           places_are = subst (AreLaidIn S) (sym places) (own_encoded f align start uses);
         })
 

@@ -9,7 +9,7 @@ use Rattle.std.proofs.lemmas.List.Elements.{filter-append, All-nil, All-cons, Al
 use Rattle.std.proofs.lemmas.Map.Views.{any-filter_same}
 use Rattle.dexspec.specs.Lists.{present, distinct}
 use Rattle.dexspec.specs.Placing.{shared_items, unless_empty}
-use Rattle.dexspec.proofs.lists.Distinct.{with_last, distinct_mapped}
+use Rattle.dexspec.proofs.lists.Distinct.{with_last, insert_grows, distinct_mapped}
 use Rattle.dexspec.proofs.lists.FirstPlaces.{position_within, position_stays, position_last, position_none, position_equal, any_equal}
 use Rattle.dexspec.proofs.lists.Members.{Contains-nil, Contains-first, Contains-later, Contains-cons_cases, list_any-source}
 use Rattle.dexspec.proofs.sharing.Sharing.{present-append, numbers_mapped}
@@ -91,11 +91,6 @@ module _ {X : Type 0} (same : X → X → Bool) (laws : IsEquivalence same) wher
       position_last (λ y. same y x) ds x (any_equal (λ y. same y x) (same x) (λ y. laws.symm y x) ds ∙ any) (laws.refl x)
       ∙ sym (position_none (same x) ds any)
 
-  -- a list only grows at its end
-  grows_by : (b : Bool) (ks : List X) (x : X) → (more : List X) × ((if b then ks else ks ++ x ∷ []) ≡ ks ++ more)
-  grows_by true ks x = ([], sym (append-nil ks))
-  grows_by false ks x = (x ∷ [], refl)
-
   -- the same, of equal lists
   pub items_same : {uses vs : List (Option X)} {written ks : List X} {numbers ns : List (Option ℕ)} → vs ≡ uses → ks ≡ written → ns ≡ numbers → HaveItems same uses written numbers → HaveItems same vs ks ns
   items_same ev ek en h = rw (ev, ek, en) h
@@ -117,7 +112,7 @@ module _ {X : Type 0} (same : X → X → Bool) (laws : IsEquivalence same) wher
         let ds = distinct same (present uses) in
         let is : distinct same (present (uses ++ Some x ∷ [])) ≡ with_last same ds x = ap (distinct same) (present-append uses (Some x ∷ [])) ∙ distinct_with (present uses) x in
         let all = with_last same ds x in
-        let more = grows_by (list_any (same x) ds) ds x in
+        let more = insert_grows same ds x in
         let stay : map (option_map (number_in all)) uses ≡ map (option_map (number_in ds)) uses =
         ap (λ es. map (option_map (number_in es)) uses) more.1 ∙ numbers_stay ds more.0 uses (equivalent_in (present uses)) in
         let last : number_in all x ≡ number = number_of (list_any (same x) ds) ds x refl ∙ ap (position_or_len (same x)) (sym h.written_are) ∙ sym e in
@@ -131,7 +126,7 @@ module _ {X : Type 0} (same : X → X → Bool) (laws : IsEquivalence same) wher
 -- ---- what the items mean
 
 -- the images of the present uses are present
-present-map : {X Y : Type 0} (f : X → Y) (us : List (Option X)) → present (map (option_map f) us) ≡ map f (present us)
+pub present-map : {X Y : Type 0} (f : X → Y) (us : List (Option X)) → present (map (option_map f) us) ≡ map f (present us)
 present-map f [] = refl
 present-map f (None ∷ us) = present-map f us
 present-map f (Some x ∷ us) = ap (λ ys. f x ∷ ys) (present-map f us)

@@ -3,7 +3,7 @@ use Rattle.std.proofs.Common.{◌≡◌, ℕ, ◌+◌, ◌<◌, ◌≤◌, List,
 use Rattle.std.specs.Prelude.{IfSome}
 use Rattle.std.specs.List.{All, flat_map}
 use Rattle.std.specs.Option.{option_map, option_map_or}
-use Rattle.std.proofs.lemmas.List.{drop_more, length-append, length-drop, length-map, map-append}
+use Rattle.std.proofs.lemmas.List.{drop_more, length-drop, length-map, map-append}
 use Rattle.std.proofs.lemmas.List.Elements.{All-nil, All-head, All-tail, All-append}
 use Rattle.dexspec.specs.Lists.{zip_with}
 use Rattle.dexspec.specs.Code as symbolic
@@ -15,7 +15,7 @@ use Rattle.dexspec.specs.Placing.{all_methods, code_uses, uses_offsets}
 use Rattle.dexspec.specs.Canonical.{debug_section, code_section}
 use Rattle.dexspec.proofs.layout.Uses.{length-debug_offsets, length-code_offsets}
 use Rattle.dexpool.specs.Numberings.{AreRising}
-use Rattle.dexpool.proofs.Parts.{all_back, all_of, all_prefix}
+use Rattle.dexpool.proofs.Parts.{all_of}
 use Rattle.dexcode.specs.Numbered.{NumberedItem, handlers_of}
 use Rattle.dexcode.specs.Meaning.{code_in, IsKnownCode}
 use Rattle.dexcode.specs.CodePut.{numbered_code_bytes, HasShortTypes}
@@ -28,7 +28,7 @@ use Rattle.dexlayout.specs.Laid.{AreCodes, AreLaidIn, AreWritable, ordered_of}
 use Rattle.dexlayout.specs.Places.{EncodedItems, ItemPlaces}
 use Rattle.dexlayout.specs.internal.Codes.{code_item, code_items, HasShortCode}
 use Rattle.dexlayout.specs.internal.Encoding.{encode_use, encode_uses, no_items_from}
-use Rattle.dexlayout.proofs.EncodedUses.{own_in, use_encoded, use_fits, uses_encoded, uses_fit}
+use Rattle.dexlayout.proofs.EncodedUses.{own_in, use_encoded, use_fits}
 use Rattle.dexlayout.proofs.OwnSteps.{drop_next}
 
 -- ---- the methods of classes
@@ -69,13 +69,6 @@ module _ (m : Mentions) (cs : List NumberedClass) where
   code_offsets_count offs e = ap (λ (l : List ℕ). length l) e ∙ length-code_offsets (ordered_of m cs) ∙ count_methods
 
 -- ---- by numbers it is the code of the file
-
--- two lists together, of which the first is joined
-zip_with_append : {X Y Z : Type 0} (f : X → Y → Z) (xs ws : List X) (ys : List Y) → zip_with f (xs ++ ws) ys ≡ zip_with f xs ys ++ zip_with f ws (drop (length xs) ys)
-zip_with_append f [] ws ys = refl
-zip_with_append f (x ∷ xs) [] [] = refl
-zip_with_append f (x ∷ xs) (w ∷ ws) [] = refl
-zip_with_append f (x ∷ xs) ws (y ∷ ys) = ap (λ zs. f x y ∷ zs) (zip_with_append f xs ws ys)
 
 module _ (m : Mentions) (rising : AreRising m) (bytes : CodeBytesAreDenoted) where
   abbrev use_of : MethodDef → ℕ → Option (symbolic.Code × ℕ)
@@ -126,33 +119,15 @@ module _ (m : Mentions) (cs : List NumberedClass) (w : AreWritable m cs) (types 
     encoded = λ i. encode_uses 4 (none i) (code_items (methods_in_all cs) (are i));
   }
 
--- the code of some methods is next, and then that of others
-module _ {items all : EncodedItems} {left : List NumberedMethod} {offs : List ℕ} (h : CodesLeft items left offs all) (xs ys : List NumberedMethod) (are : left ≡ xs ++ ys) where
-  both_left : CodesLeft items (xs ++ ys) offs all
-  both_left = subst (λ zs. CodesLeft items zs offs all) are h
-
-  pub next_enough : length xs ≤ length offs
-  next_enough = omega (arith, both_left.enough, length-append xs ys)
-
-  pub next_short : All HasShortCode xs
-  next_short = all_prefix HasShortCode xs ys both_left.short
-
-  pub next_fits : (encode_uses 4 items (code_items xs offs)).places.end ≤ all.places.end
-  next_fits = uses_fit 4 items (code_items xs offs) (code_items ys (drop (length xs) offs)) (zip_with_append code_item xs ys offs) both_left.encoded
-
-  pub next_encoded : {more : EncodedItems} {others : List ℕ} → more ≡ encode_uses 4 items (code_items xs offs) → others ≡ drop (length xs) offs → CodesLeft more ys others all
-  next_encoded {more} is back = record {
-    enough = omega (arith, both_left.enough, length-append xs ys, ap (λ (l : List ℕ). length l) back, length-drop (length xs) offs);
-    short = all_back HasShortCode xs ys both_left.short;
-    encoded = ap (λ os. encode_uses 4 more (code_items ys os)) back ∙ uses_encoded 4 items (code_items xs offs) (code_items ys (drop (length xs) offs)) (zip_with_append code_item xs ys offs) both_left.encoded is;
-  }
-
 -- that of one method is next
 module _ {items all : EncodedItems} (xs : List NumberedMethod) (offs : List ℕ) (i : ℕ) (x : NumberedMethod) (lt : i < length xs) (is : get_or xs i x ≡ x) (h : CodesLeft items (drop i xs) (drop i offs) all) where
   one_left : CodesLeft items (x ∷ drop (i + 1) xs) (get_or offs i 0 ∷ drop (i + 1) offs) all
   one_left =
       subst (λ os. CodesLeft items (x ∷ drop (i + 1) xs) os all) (drop_more offs i 0 (omega (arith, lt, h.enough, length-drop i xs, length-drop i offs)))
       (subst (λ ys. CodesLeft items ys (drop i offs) all) (drop_next xs i x lt is) h)
+
+  pub one_short : HasShortCode x
+  one_short = All-head HasShortCode x (drop (i + 1) xs) one_left.short
 
   pub one_fits : (encode_use 4 items (code_item x (get_or offs i 0))).places.end ≤ all.places.end
   one_fits = use_fits 4 {left = code_items (x ∷ drop (i + 1) xs) (get_or offs i 0 ∷ drop (i + 1) offs)} items refl one_left.encoded

@@ -45,11 +45,6 @@ module _ {p : EncodedItems} {bytes more : List ℕ} {places : ItemPlaces} {befor
 -- ---- the next of the uses that are left
 
 module _ (align : ℕ) where
-  -- uses after others
-  encode_append : (p : EncodedItems) (us vs : List (Option (List ℕ))) → encode_uses align p (us ++ vs) ≡ encode_uses align (encode_uses align p us) vs
-  encode_append p [] vs = refl
-  encode_append p (u ∷ us) vs = encode_append (encode_use align p u) us vs
-
   -- they do not end before they begin
   encode_grows : (p : EncodedItems) (us : List (Option (List ℕ))) → p.places.end ≤ (encode_uses align p us).places.end
   encode_grows p [] = omega arith
@@ -68,17 +63,6 @@ module _ (align : ℕ) where
 
     pub use_encoded : {more : EncodedItems} → more ≡ encode_use align p u → encode_uses align more rest ≡ all
     use_encoded is = ap (λ q. encode_uses align q rest) is ∙ use_then
-
-  -- several are the next
-  module _ {all : EncodedItems} {left : List (Option (List ℕ))} (p : EncodedItems) (us rest : List (Option (List ℕ))) (next : left ≡ us ++ rest) (whole : encode_uses align p left ≡ all) where
-    uses_then : encode_uses align (encode_uses align p us) rest ≡ all
-    uses_then = sym (ap (encode_uses align p) next ∙ encode_append p us rest) ∙ whole
-
-    pub uses_fit : (encode_uses align p us).places.end ≤ all.places.end
-    uses_fit = omega (arith, ap (λ (q : EncodedItems). q.places.end) uses_then, encode_grows (encode_uses align p us) rest)
-
-    pub uses_encoded : {more : EncodedItems} → more ≡ encode_uses align p us → encode_uses align more rest ≡ all
-    uses_encoded is = ap (λ q. encode_uses align q rest) is ∙ uses_then
 
   -- none is left
   pub all_encoded_by : {p all : EncodedItems} {left : List (Option (List ℕ))} → left ≡ [] → encode_uses align p left ≡ all → p ≡ all

@@ -1,7 +1,7 @@
 -- Lists of offsets that are encoded one after the other, and the offsets that are left.
 use Rattle.std.proofs.Common.{◌≡◌, ℕ, zero, suc, ◌+◌, ◌<◌, ◌≤◌, List, [], ◌∷◌, ◌++◌, length, get_or, map, take, drop, Option, None, Some, refl, sym, ap, ◌∙◌, arith}
 use Rattle.std.specs.List.{flat_map}
-use Rattle.std.proofs.lemmas.List.{length-append, length-drop, drop-drop}
+use Rattle.std.proofs.lemmas.List.{length-append, length-drop}
 use Rattle.dexspec.specs.Lists.{chunks}
 use Rattle.dexspec.specs.Spellings.{offsets_bytes}
 use Rattle.dexmembers.specs.Numbered.{methods_of}
@@ -59,10 +59,6 @@ next_counts count xs i x n lt is e =
 pub class_counts : (cs : List NumberedClass) (i : ℕ) (c : NumberedClass) → i < length cs → get_or cs i c ≡ c → class_parameter_counts (drop i cs) ≡ parameter_counts (methods_of c.members) ++ class_parameter_counts (drop (i + 1) cs)
 class_counts cs i c lt is = ap class_parameter_counts (drop_next cs i c lt is)
 
-total_append : (ms ns : List ℕ) → total (ms ++ ns) ≡ total ms + total ns
-total_append [] ns = omega arith
-total_append (m ∷ ms) ns = omega (arith, total_append ms ns)
-
 -- ---- the next list, of this number of offsets
 
 pub list_enough : {n : ℕ} {ns left : List ℕ} (rest : List ℕ) → left ≡ n ∷ ns → total left ≤ length rest → n ≤ length rest
@@ -72,28 +68,5 @@ module _ {n : ℕ} {ns left others : List ℕ} (rest : List ℕ) (e : left ≡ n
   pub enough_left : total left ≤ length rest → total ns ≤ length others
   enough_left enough = omega (arith, enough, ap total e, ap (λ (os : List ℕ). length os) back, length-drop n rest)
 
-  pub same_left : drop (total ns) others ≡ drop (total left) rest
-  same_left = ap (drop (total ns)) back ∙ drop-drop (total ns) n rest ∙ ap (λ ms. drop (total ms) rest) (sym e)
-
   pub next_list : {list : List ℕ} (item_of : List ℕ → Option (List ℕ)) → list ≡ take n rest → offset_lists item_of left rest ≡ item_of list ∷ offset_lists item_of ns others
   next_list item_of front = ap (λ ms. offset_lists item_of ms rest) e ∙ (λ i. item_of (sym front i) ∷ offset_lists item_of ns (sym back i))
-
--- ---- the next lists, of these numbers of offsets
-
--- the lists of joined numbers
-lists_append : (item_of : List ℕ → Option (List ℕ)) (ms ns offs : List ℕ) → offset_lists item_of (ms ++ ns) offs ≡ offset_lists item_of ms offs ++ offset_lists item_of ns (drop (total ms) offs)
-lists_append item_of [] ns offs = refl
-lists_append item_of (m ∷ ms) ns offs =
-    ap (λ l. item_of (take m offs) ∷ l) (lists_append item_of ms ns (drop m offs))
-    ∙ ap (λ os. item_of (take m offs) ∷ (offset_lists item_of ms (drop m offs) ++ offset_lists item_of ns os)) (drop-drop (total ms) m offs)
-
-pub lists_enough : {left : List ℕ} (ms ns rest : List ℕ) → left ≡ ms ++ ns → total left ≤ length rest → total ms ≤ length rest
-lists_enough ms ns rest e enough = omega (arith, enough, ap total e, total_append ms ns)
-
-module _ {left others : List ℕ} (ms ns rest : List ℕ) (e : left ≡ ms ++ ns) (back : others ≡ drop (total ms) rest) where
-  pub enough_after : total left ≤ length rest → total ns ≤ length others
-  enough_after enough = omega (arith, enough, ap total e, total_append ms ns, ap (λ (os : List ℕ). length os) back, length-drop (total ms) rest)
-
-  pub next_lists : (item_of : List ℕ → Option (List ℕ)) → offset_lists item_of left rest ≡ offset_lists item_of ms rest ++ offset_lists item_of ns others
-  next_lists item_of =
-      ap (λ ks. offset_lists item_of ks rest) e ∙ lists_append item_of ms ns rest ∙ ap (λ os. offset_lists item_of ms rest ++ offset_lists item_of ns os) (sym back)

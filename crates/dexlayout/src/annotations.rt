@@ -1,9 +1,9 @@
 //! The annotations of each annotation set that is written, set by set.
 
 ghost use Rattle.std.specs.Prelude.{◌≡◌, ◌^◌, ◌≤◌, IfOk, OnOk, Some};
-ghost use Rattle.dexval.specs.Code.{annotation_of, set_of};
-ghost use Rattle.dexval.specs.Numbered.{IsKnownAnnotation, IsKnownSet};
-ghost use Rattle.dexlayout.specs.internal.Annotated.{annotation_item, annotation_items, set_annotations};
+ghost use Rattle.dexval.specs.Code.{annotation_of};
+ghost use Rattle.dexval.specs.Numbered.{IsKnownAnnotation};
+ghost use Rattle.dexlayout.specs.internal.Annotated.{annotation_item, set_annotations};
 ghost use Rattle.dexlayout.specs.internal.Encoding.{encode_use, encode_uses, no_items_from};
 ghost use Rattle.dexlayout.specs.internal.Placing.{AreKnownSets};
 
@@ -30,24 +30,6 @@ fn put_next(
     items.end_item(before)
 }
 
-// Encodes the annotations of one set after the others.
-fn put_annotations(
-    numbering: &Numbering<'_>,
-    set: &AnnotationSet,
-    items: &mut Items,
-) -> Result<(), AllocError>
-    requires known { IsKnownSet numbering.now (set_of set.now) }
-    requires fits { (encode_uses 1 items.old (annotation_items numbering.now (set_of set.now))).places.end
-        ≤ 2 ^ 30 }
-    ensures { OnOk result (items.new
-        ≡ encode_uses 1 items.old (annotation_items numbering.now (set_of set.now))) }
-{
-    for annotation in set.annotations() {
-        put_next(numbering, annotation, items)?;
-    }
-    Ok(())
-}
-
 /// The annotations of sets, encoded, and the offset of each, from an offset on, set by set.
 ///
 /// Condition: they end within what a file may have.
@@ -67,7 +49,9 @@ pub(crate) fn place_annotations(
 {
     let mut items = Items::starting_at(alloc, from, sets.len())?;
     for set in sets {
-        put_annotations(numbering, set, &mut items)?;
+        for annotation in set.annotations() {
+            put_next(numbering, annotation, &mut items)?;
+        }
     }
     Ok(items)
 }

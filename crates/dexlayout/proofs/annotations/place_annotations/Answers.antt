@@ -1,41 +1,59 @@
-use Rattle.std.proofs.Common.{ℕ, ◌+◌, List, Option, Bor, drop, sym, ap, subst, arith}
+use Rattle.std.proofs.Common.{ℕ, ◌+◌, ◌++◌, List, Option, Some, Bor, map, drop, sym, ap, subst, ◌∙◌, arith, All}
+use Rattle.std.proofs.lemmas.Simd.{map-map}
 use Rattle.dexspec.specs.Mentions.{Mentions}
+use Rattle.dexval.specs.declared.annotation.Annotation.{Annotation}
 use Rattle.dexval.specs.declared.set.AnnotationSet.{AnnotationSet}
-use Rattle.dexval.specs.Code.{set_of}
-use Rattle.dexval.specs.Numbered.{IsKnownSet}
+use Rattle.dexval.specs.Code.{annotation_of, set_of}
+use Rattle.dexval.specs.Numbered.{NumberedAnnotation, IsKnownAnnotation, IsKnownSet}
 use Rattle.dexlayout.specs.internal.Encoding.{encode_uses}
-use Rattle.dexlayout.specs.internal.Annotated.{annotation_items, set_annotations}
-use Rattle.dexlayout.proofs.EncodedUses.{all_encoded_by, next_of_several, several_left, uses_encoded, uses_fit}
+use Rattle.dexlayout.specs.internal.Annotated.{annotation_item, annotation_items, set_annotations}
+use Rattle.dexlayout.proofs.EncodedUses.{all_encoded_by, each_left, next_of_each, next_of_several, several_left, use_encoded, use_fits}
+use Rattle.dexlayout.proofs.SetAnnotations.{known_at}
 use Rattle.dexlayout.proofs.annotations.place_annotations.Goals as goal
 
--- the items of the annotations of a set
+-- the item of an annotation, and those of a set
+abbrev item_of : Mentions → Annotation → Option (List ℕ)
+item_of m a = Some (annotation_item m (annotation_of a))
+
 abbrev items_of : Mentions → Bor AnnotationSet → List (Option (List ℕ))
 items_of m s = annotation_items m (set_of s.now)
 
 pub loop-set-init : goal.loop-set-init
 loop-set-init c = ap (λ p. encode_uses 1 p (set_annotations c.args.numbering.now c.args.sets.now)) c.in_ok-items.ensures
 
-pub put_annotations-requires-clause-known : goal.put_annotations-requires-clause-known
-put_annotations-requires-clause-known c =
-    subst (λ (s : Bor AnnotationSet). IsKnownSet c.args.numbering.now (set_of s.now)) (sym c.set-item.is) (c.requires.known c.loop-set.set-index c.set-item.result c.loop-set-test.true)
-
-pub put_annotations-requires-clause-fits : goal.put_annotations-requires-clause-fits
-put_annotations-requires-clause-fits c =
+pub loop-annotation-init : goal.loop-annotation-init
+loop-annotation-init c =
     let m = c.args.numbering.now in
-    let xs = c.args.sets.now in
-    let i = c.loop-set.set-index in
-    let s = c.set-item.result in
-    let next = next_of_several (items_of m) xs i s c.loop-set-test.true (sym c.set-item.is) in
-    omega (arith, uses_fit 1 c.loop-set.items (items_of m s) (set_annotations m (drop (i + 1) xs)) next c.loop-set.invariant, c.requires.fits)
+    let one = λ (a : NumberedAnnotation). Some (annotation_item m a) in
+    let here = sym (map-map one annotation_of c.annotations-annotation-items.result.now) ∙ ap (map one) c.annotations-annotation-items.ensures in
+    let rest = set_annotations m (drop (c.loop-set.set-index + 1) c.args.sets.now) in
+    let next = next_of_several (items_of m) c.args.sets.now c.loop-set.set-index c.set-item.result c.loop-set-test.true (sym c.set-item.is) in
+    ap (encode_uses 1 c.loop-set.items) (ap (λ us. us ++ rest) here ∙ sym next) ∙ c.loop-set.invariant
+
+pub put_next-requires-clause-known : goal.put_next-requires-clause-known
+put_next-requires-clause-known c =
+    let m = c.args.numbering.now in
+    let set = subst (λ (s : Bor AnnotationSet). IsKnownSet m (set_of s.now)) (sym c.set-item.is) (c.requires.known c.loop-set.set-index c.set-item.result c.loop-set-test.true) in
+    known_at m annotation_of c.annotations-annotation-items.result.now c.loop-annotation.annotation-index c.annotation-item.result c.loop-annotation-test.true (sym c.annotation-item.is)
+    (subst (All (IsKnownAnnotation m)) (sym c.annotations-annotation-items.ensures) set)
+
+pub put_next-requires-clause-fits : goal.put_next-requires-clause-fits
+put_next-requires-clause-fits c =
+    let m = c.args.numbering.now in
+    let next = next_of_each (item_of m) c.annotations-annotation-items.result.now c.loop-annotation.annotation-index c.annotation-item.result c.loop-annotation-test.true (sym c.annotation-item.is) in
+    omega (arith, use_fits 1 c.loop-annotation.items (ap (λ us. us ++ set_annotations m (drop (c.loop-set.set-index + 1) c.args.sets.now)) next) c.loop-annotation.invariant, c.requires.fits)
+
+pub loop-annotation-preserved : goal.loop-annotation-preserved
+loop-annotation-preserved c =
+    let m = c.args.numbering.now in
+    let next = next_of_each (item_of m) c.annotations-annotation-items.result.now c.loop-annotation.annotation-index c.annotation-item.result c.loop-annotation-test.true (sym c.annotation-item.is) in
+    use_encoded 1 c.loop-annotation.items (ap (λ us. us ++ set_annotations m (drop (c.loop-set.set-index + 1) c.args.sets.now)) next) c.loop-annotation.invariant c.in_ok-put_next.ensures
 
 pub loop-set-preserved : goal.loop-set-preserved
 loop-set-preserved c =
     let m = c.args.numbering.now in
-    let xs = c.args.sets.now in
-    let i = c.loop-set.set-index in
-    let s = c.set-item.result in
-    let next = next_of_several (items_of m) xs i s c.loop-set-test.true (sym c.set-item.is) in
-    uses_encoded 1 c.loop-set.items (items_of m s) (set_annotations m (drop (i + 1) xs)) next c.loop-set.invariant c.in_ok-put_annotations.ensures
+    let none = each_left (item_of m) c.annotations-annotation-items.result.now c.loop-annotation.annotation-index c.loop-annotation-test.false in
+    ap (λ us. encode_uses 1 c.loop-annotation.items (us ++ set_annotations m (drop (c.loop-set.set-index + 1) c.args.sets.now))) (sym none) ∙ c.loop-annotation.invariant
 
 pub returns : goal.returns
 returns c = all_encoded_by 1 (several_left (items_of c.args.numbering.now) c.args.sets.now c.loop-set.set-index c.loop-set-test.false) c.loop-set.invariant

@@ -1,74 +1,75 @@
-use Rattle.std.proofs.Common.{◌≡◌, ℕ, ◌+◌, ◌++◌, List, length, drop, refl, sym, ap, subst, ◌∙◌, arith}
+use Rattle.std.proofs.Common.{◌≡◌, ℕ, ◌+◌, ◌∷◌, ◌++◌, List, length, drop, sym, ap, subst, ◌∙◌, arith}
 use Rattle.std.proofs.lemmas.List.{drop_all}
-use Rattle.dexmembers.specs.Numbered.{NumberedMembers, methods_of}
+use Rattle.dexval.specs.Numbered.{NumberedSet}
+use Rattle.dexmembers.specs.Numbered.{NumberedMembers, NumberedMethod, methods_of}
 use Rattle.dexlayout.specs.Laid.{ordered_of, AreRefLists}
 use Rattle.dexlayout.specs.Places.{ItemPlaces, EncodedItems}
 use Rattle.dexlayout.specs.internal.Encoding.{encode_uses, no_items_from}
 use Rattle.dexlayout.specs.internal.OffsetLists.{class_parameter_counts, list_item, offset_lists, parameter_counts, total}
-use Rattle.dexlayout.proofs.EncodedUses.{all_encoded_by, uses_encoded, uses_fit}
+use Rattle.dexlayout.proofs.EncodedUses.{all_encoded_by, use_encoded, use_fits}
 use Rattle.dexlayout.proofs.Ends.{end_in_file}
-use Rattle.dexlayout.proofs.OffsetLists.{class_counts, lists_enough, enough_after, next_lists}
+use Rattle.dexlayout.proofs.OffsetLists.{class_counts, next_counts, list_enough, enough_left, next_list}
 use Rattle.dexlayout.proofs.RefLists.{parameters_enough, ref_lists_laid}
 use Rattle.dexlayout.proofs.ref_lists.place_ref_lists.Goals as goal
-use Rattle.dexlayout.proofs.ref_lists.place_ref_lists.Goals.{After-members, In_ok-items}
-
--- the lists of all classes, encoded from the offsets of the layout
-all_are : (c : In_ok-items) → encode_uses 4 c.in_ok-items.items (offset_lists list_item (class_parameter_counts c.args.classes.now) c.args.sets.now.parameters)
-    ≡ encode_uses 4 (no_items_from c.args.sets.now.written.places.end) (offset_lists list_item (class_parameter_counts c.args.classes.now) c.args.sets.now.parameters)
-all_are c =
-    let from = c.end-from.ensures ∙ ap (λ (q : ItemPlaces). q.end) c.places.ensures ∙ ap (λ (q : EncodedItems). q.places.end) c.written.ensures in
-    ap (λ p. encode_uses 4 p (offset_lists list_item (class_parameter_counts c.args.classes.now) c.args.sets.now.parameters)) (c.in_ok-items.ensures ∙ ap no_items_from from)
+use Rattle.dexlayout.proofs.ref_lists.place_ref_lists.Goals.{After-len}
 
 pub loop-class-init : goal.loop-class-init
-loop-class-init c = record {
-  encoded = refl;
-  enough = omega (arith, parameters_enough c.requires.0 c.args.classes.now c.requires.2, ap (λ (l : List ℕ). length l) c.parameters-rest.ensures);
-}
+loop-class-init c =
+    let cs = c.args.classes.now in
+    let from = c.end-from.ensures ∙ ap (λ (q : ItemPlaces). q.end) c.places.ensures ∙ ap (λ (q : EncodedItems). q.places.end) c.written.ensures in
+    record {
+      encoded = ap (λ offs. encode_uses 4 c.in_ok-items.items (offset_lists list_item (class_parameter_counts cs) offs)) c.parameters-rest.ensures
+          ∙ ap (λ p. encode_uses 4 p (offset_lists list_item (class_parameter_counts cs) c.args.sets.now.parameters)) (c.in_ok-items.ensures ∙ ap no_items_from from);
+      enough = omega (arith, parameters_enough c.requires.0 cs c.requires.2, ap (λ (l : List ℕ). length l) c.parameters-rest.ensures);
+    }
 
--- the numbers of offsets of the class's lists are the next
-counts : (c : After-members) → class_parameter_counts (drop c.loop-class.class-index c.args.classes.now) ≡ parameter_counts (methods_of c.members.result.now) ++ class_parameter_counts (drop (c.loop-class.class-index + 1) c.args.classes.now)
+pub loop-i-init : goal.loop-i-init
+loop-i-init c =
+    let cs = c.args.classes.now in
+    let counts = class_counts cs c.loop-class.class-index c.class-item.result c.loop-class-test.true (sym c.class-item.is)
+    ∙ ap (λ (x : NumberedMembers). parameter_counts (methods_of x) ++ class_parameter_counts (drop (c.loop-class.class-index + 1) cs)) (sym c.members-members.ensures) in
+    record {
+      encoded = ap (λ ns. encode_uses 4 c.loop-class.items (offset_lists list_item ns c.loop-class.rest.now)) (sym counts) ∙ c.loop-class.invariant.encoded;
+      enough = omega (arith, ap total counts, c.loop-class.invariant.enough);
+    }
+
+-- the number of parameters of the method is the next
+counts : (c : After-len) → parameter_counts (drop c.loop-i.i (methods_of c.members-members.result.now)) ++ class_parameter_counts (drop (c.loop-class.class-index + 1) c.args.classes.now)
+    ≡ c.len.result ∷ (parameter_counts (drop (c.loop-i.i + 1) (methods_of c.members-members.result.now)) ++ class_parameter_counts (drop (c.loop-class.class-index + 1) c.args.classes.now))
 counts c =
-    class_counts c.args.classes.now c.loop-class.class-index c.class-item.result c.loop-class-test.true (sym c.class-item.is)
-    ∙ ap (λ (x : NumberedMembers). parameter_counts (methods_of x) ++ class_parameter_counts (drop (c.loop-class.class-index + 1) c.args.classes.now)) (sym c.members.ensures)
+    let many : c.len.result ≡ length c.method_at.result.parameter_annotations = c.len.ensures ∙ ap (λ (l : List NumberedSet). length l) c.parameter_annotations-parameters.ensures in
+    ap (λ ns. ns ++ class_parameter_counts (drop (c.loop-class.class-index + 1) c.args.classes.now))
+    (next_counts (λ (x : NumberedMethod). length x.parameter_annotations) (methods_of c.members-members.result.now) c.loop-i.i c.method_at.result c.len.result (omega (arith, c.loop-i-test.true, c.method_count-i-end.ensures)) (sym c.method_at.ensures) many)
 
-pub put_lists-requires-clause-enough : goal.put_lists-requires-clause-enough
-put_lists-requires-clause-enough c =
-    let ns = class_parameter_counts (drop (c.loop-class.class-index + 1) c.args.classes.now) in
-    lists_enough (parameter_counts (methods_of c.members.result.now)) ns c.loop-class.rest.now (counts (goal.at.put_lists-requires-clause-enough c).After-members) c.loop-class.invariant.enough
+pub split_at-requires : goal.split_at-requires
+split_at-requires c = list_enough c.loop-i.rest.now (counts (goal.at.split_at-requires c).After-len) c.loop-i.invariant.enough
 
-pub put_lists-requires-clause-fits : goal.put_lists-requires-clause-fits
-put_lists-requires-clause-fits c =
+pub put_list-requires : goal.put_list-requires
+put_list-requires c =
     let m = c.requires.0 in
     let cs = c.args.classes.now in
-    let ms = parameter_counts (methods_of c.members.result.now) in
-    let ns = class_parameter_counts (drop (c.loop-class.class-index + 1) cs) in
-    let rest = c.loop-class.rest.now in
-    let here = goal.at.put_lists-requires-clause-fits c in
-    let next = next_lists ms ns rest (counts here.After-members) refl list_item in
-    let whole = c.loop-class.invariant.encoded ∙ ap (λ offs. encode_uses 4 c.in_ok-items.items (offset_lists list_item (class_parameter_counts cs) offs)) c.parameters-rest.ensures ∙ all_are here.In_ok-items in
-    omega (
-      arith,
-      uses_fit 4 c.loop-class.items (offset_lists list_item ms rest) (offset_lists list_item ns (drop (total ms) rest)) next whole,
-      (ref_lists_laid m cs c.requires.2).places_are.end_is,
-      (end_in_file (ordered_of m cs) c.requires.1.fits).ref_lists,
-    )
+    let next = next_list c.loop-i.rest.now (counts (goal.at.put_list-requires c).After-len) c.split_at.ensures.back list_item c.split_at.ensures.front in
+    omega (arith, use_fits 4 c.loop-i.items next c.loop-i.invariant.encoded, (ref_lists_laid m cs c.requires.2).places_are.end_is, (end_in_file (ordered_of m cs) c.requires.1.fits).ref_lists)
+
+pub loop-i-preserved : goal.loop-i-preserved
+loop-i-preserved c =
+    let left = counts (goal.at.loop-i-preserved c).After-len in
+    record {
+      encoded = use_encoded 4 c.loop-i.items (next_list c.loop-i.rest.now left c.split_at.ensures.back list_item c.split_at.ensures.front) c.loop-i.invariant.encoded c.in_ok-put_list.ensures;
+      enough = enough_left c.loop-i.rest.now left c.split_at.ensures.back c.loop-i.invariant.enough;
+    }
 
 pub loop-class-preserved : goal.loop-class-preserved
 loop-class-preserved c =
-    let ms = parameter_counts (methods_of c.members.result.now) in
     let ns = class_parameter_counts (drop (c.loop-class.class-index + 1) c.args.classes.now) in
-    let rest = c.loop-class.rest.now in
-    let next = counts (goal.at.loop-class-preserved c).After-members in
-    let back = c.in_ok-rest.ensures.left in
+    let none = drop_all c.loop-i.i (methods_of c.members-members.result.now) (omega (arith, c.loop-i-test.false, c.method_count-i-end.ensures)) in
     record {
-      encoded = uses_encoded 4 c.loop-class.items (offset_lists list_item ms rest) (offset_lists list_item ns c.in_ok-rest.rest.now) (next_lists ms ns rest next back list_item) c.loop-class.invariant.encoded c.in_ok-rest.ensures.encoded;
-      enough = enough_after ms ns rest next back c.loop-class.invariant.enough;
+      encoded = ap (λ xs. encode_uses 4 c.loop-i.items (offset_lists list_item (parameter_counts xs ++ ns) c.loop-i.rest.now)) (sym none) ∙ c.loop-i.invariant.encoded;
+      enough = omega (arith, ap (λ xs. total (parameter_counts xs ++ ns)) none, c.loop-i.invariant.enough);
     }
 
 pub returns : goal.returns
 returns c = λ m w sets.
     let cs = c.args.classes.now in
     let none = ap (λ ks. offset_lists list_item (class_parameter_counts ks) c.loop-class.rest.now) (drop_all c.loop-class.class-index cs c.loop-class-test.false) in
-    let whole = all_encoded_by 4 none c.loop-class.invariant.encoded ∙ ap (λ offs. encode_uses 4 c.in_ok-items.items (offset_lists list_item (class_parameter_counts cs) offs)) c.parameters-rest.ensures
-    ∙ all_are (goal.at.returns c).In_ok-items in
-    subst (AreRefLists m cs) (sym whole) (ref_lists_laid m cs sets)
+    subst (AreRefLists m cs) (sym (all_encoded_by 4 none c.loop-class.invariant.encoded)) (ref_lists_laid m cs sets)

@@ -18,7 +18,6 @@ pub mod SetLists
 pub mod SetParts
 pub mod SetsCollected
 pub mod SetsAreAt
-pub mod SharedIdentity
 pub mod SharedKinds
 pub mod SharedPlaces
 pub mod SharedSame

@@ -16,10 +16,8 @@ use Rattle.dexdebug.specs.Debug.{NumberedDebug}
 use Rattle.dexdebug.specs.Meaning.{debug_in, IsKnownDebug}
 use Rattle.dexdebug.proofs.DebugRanked as debugs
 use Rattle.dexval.specs.Numbered.{NumberedSet, set_in, type_at, IsKnownSet}
-use Rattle.dexval.proofs.Images.{known_set_remapped}
 use Rattle.dexval.proofs.Ranked as sets
 use Rattle.dexlayout.specs.ListKeys.{same_numbers, same_numbers_decides}
-use Rattle.dexlayout.proofs.SharedIdentity.{itself, all_map_to_itself, maps_all_itself, set_stays}
 
 -- ---- tests of what is mapped one to one
 
@@ -49,10 +47,7 @@ module _ (m : Mentions) (rising : AreRising m) where
 
   pub sets_agree : (same : Bool) (x y : NumberedSet) → Decides same (x ≡ y) → IsKnownSet m x → IsKnownSet m y → same_set (set_in m x) (set_in m y) ≡ same
   sets_agree same x y is hx hy =
-      let r = itself m in
-      let remapped = sets.same_set m m m r r (ranks_are_numbers m rising) (all_map_to_itself m) (all_map_to_itself m) x y (set_in m x) (set_in m y)
-      (known_set_remapped m r (maps_all_itself m) x hx) (known_set_remapped m r (maps_all_itself m) y hy) (record { known = hx; means = refl }) (record { known = hy; means = refl }) in
-      agree (set_in m) same same_set set_decides x y is (λ e. sym (set_stays m x) ∙ remapped.1 e ∙ set_stays m y)
+      agree (set_in m) same same_set set_decides x y is (λ e. sets.one_set m (ranks_are_numbers m rising) x y (set_in m x) (record { known = hx; means = refl }) (record { known = hy; means = sym e }))
 
   -- ---- debug programs
 

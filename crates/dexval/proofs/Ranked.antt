@@ -107,7 +107,7 @@ module _ (m : Mentions) (ranks : RanksAreNumbers m) where
   one_list : (xs ys : NumberedValues) (vs : Values) → Denote m xs vs → Denote m ys vs → xs ≡ ys
   one_list xs ys vs h k = sym (values_ranked xs h.known) ∙ ap (ranked_values m) (h.mean ∙ sym k.mean) ∙ values_ranked ys k.known
 
-  one_set : (xs ys : NumberedSet) (s : AnnotationSet) → DenotesSet m xs s → DenotesSet m ys s → xs ≡ ys
+  pub one_set : (xs ys : NumberedSet) (s : AnnotationSet) → DenotesSet m xs s → DenotesSet m ys s → xs ≡ ys
   one_set xs ys s h k = sym (set_ranked xs h.known) ∙ ap (map (ranked_annotation m)) (h.means ∙ sym k.means) ∙ set_ranked ys k.known
 
 -- ---- values of two numberings, remapped to a third

@@ -12,15 +12,17 @@ use std::rt::Files;
 // The name of standard input and of standard output. A file of that name is `./-`.
 const STANDARD: &str = "-";
 
+// Standard input is read through a reader of its own for each call: such a reader has a buffer of some kilobytes, and
+// leaves nothing in it where no line is asked for.
 #[derive(Drop)]
-enum Origin<'a, R: Files + Input> {
+enum Origin<'a, R: Files> {
     File(OldFile<'a, R>),
-    Standard(R::Reader),
+    Standard(&'a R),
 }
 
 /// What the input of a name reads: the file at that path, or standard input for `-`.
 #[derive(Drop)]
-pub struct NamedInput<'a, R: Files + Input> {
+pub struct NamedInput<'a, R: Files> {
     name: &'a str,
     origin: Origin<'a, R>,
 }
@@ -29,7 +31,7 @@ impl<'a, R: Files + Input> Read for NamedInput<'a, R> {
     fn read(&mut self, buf: &mut [u8]) -> io::Result<usize> {
         match &mut self.origin {
             Origin::File(file) => file.read(buf),
-            Origin::Standard(reader) => reader.read(buf),
+            Origin::Standard(rt) => rt.reader().read(buf),
         }
     }
 }
@@ -101,7 +103,7 @@ impl<'a, R: Files + Print + Input> Devices<'a> for SystemDevices<'a, R> {
 
     fn input(&self, name: &'a str) -> Device<NamedInput<'a, R>> {
         if name == STANDARD {
-            let origin = Origin::Standard(self.rt.reader());
+            let origin = Origin::Standard(self.rt);
             return Device::new(NamedInput { name, origin });
         }
         let origin = Origin::File(OldFile::new(self.rt, name));

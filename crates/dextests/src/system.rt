@@ -27,6 +27,8 @@ pub(crate) struct Log {
     pub(crate) opened: Cell<usize>,
     /// How often a file was made or emptied.
     pub(crate) made: Cell<usize>,
+    /// How many bytes of standard input were read.
+    read: Cell<usize>,
     /// The bytes that were written to files or to standard output.
     pub(crate) written: RefCell<Vec<u8>>,
 }
@@ -36,6 +38,7 @@ impl Log {
         Log {
             opened: Cell::new(0),
             made: Cell::new(0),
+            read: Cell::new(0),
             written: RefCell::new(Vec::new(alloc)),
         }
     }
@@ -227,7 +230,16 @@ impl<'a> Input for System<'a> {
         self.reader().lines(alloc)
     }
 
+    // A reader has the next byte, and leaves nothing when it is dropped after a call.
     fn reader(&self) -> Cursor<Vec<u8>> {
-        Cursor::new(file(self.alloc, STANDARD).unwrap_or(Vec::new(self.alloc)))
+        let at = self.log.read.get();
+        count(&self.log.read);
+        let mut next = Vec::new(self.alloc);
+        if let Some(bytes) = file(self.alloc, STANDARD) {
+            if let Some(byte) = bytes.get(at) {
+                let _ = next.push(*byte);
+            }
+        }
+        Cursor::new(next)
     }
 }

@@ -29,7 +29,7 @@ pub(crate) fn merge<R: Row>(alloc: Global, left: &[R], right: &[R]) -> Result<Me
         return Err(AllocError);
     }
     let mut merged = Merged {
-        rows: Vec::with_capacity(alloc, left.len().max(right.len()))?,
+        rows: Vec::with_capacity(alloc, left.len() + right.len())?,
         left_places: Vec::with_capacity(alloc, left.len())?,
         right_places: Vec::with_capacity(alloc, right.len())?,
     };

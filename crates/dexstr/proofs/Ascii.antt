@@ -1,10 +1,12 @@
 -- Texts whose units are spelled by one byte each.
-use Rattle.std.proofs.Common.{◌≡◌, ◌≢◌, ℕ, suc, ◌≤◌, List, [], ◌∷◌, ◌++◌, refl, sym, ap, ◌∙◌, length, arith, inl, inr}
+use Rattle.std.proofs.Common.{◌≡◌, ◌≢◌, ℕ, suc, ◌+◌, ◌-◌, ◌^◌, ◌<◌, ◌≤◌, List, [], ◌∷◌, ◌++◌, refl, sym, ap, ◌∙◌, length, take, drop, get_or, take_all, append_assoc, length-append, arith, inl, inr}
 use Rattle.std.specs.List.{All}
-use Rattle.std.proofs.lemmas.List.Elements.{All-head, All-tail}
+use Rattle.std.proofs.lemmas.List.Elements.{All-head, All-tail, All-cons, All-append}
+use Rattle.std.proofs.lemmas.Grind.{flat_map-append}
+use Rattle.dexstr.proofs.Passing.{Passed}
 use Rattle.dexspec.specs.Texts.{form, spelling, AreUnits}
 use Rattle.dexspec.proofs.determined.OneText.{Shape, One, Two, Three, shape_of}
-use Rattle.dexstr.specs.Units.{units_of, IsSpelling, IsAscii}
+use Rattle.dexstr.specs.Units.{units_of, BeginsWithAscii, IsSpelling, IsAscii}
 
 -- at least one byte for each unit
 more_bytes : (bytes : List ℕ) (u : ℕ) (rest : List ℕ) → Shape bytes u rest → suc (length rest) ≤ length bytes
@@ -50,3 +52,26 @@ module _ (bytes s : List ℕ) (spelled : IsSpelling bytes) (is : units_of bytes 
 
   pub not_ascii : length s ≢ length bytes → ¬ All IsAscii s
   not_ascii unequal all = unequal (ap length (sym (ascii_spelling s all) ∙ same))
+
+-- four units of ASCII first
+pub four_ascii : (bytes : List ℕ) → 4 ≤ length bytes → IsAscii (get_or bytes 0 0) → IsAscii (get_or bytes 1 0) → IsAscii (get_or bytes 2 0) → IsAscii (get_or bytes 3 0) → BeginsWithAscii 4 bytes (take (length bytes - 4) (drop 4 bytes))
+four_ascii (a ∷ b ∷ c ∷ d ∷ rest) enough first second third fourth = record {
+  us = a ∷ b ∷ c ∷ d ∷ [];
+  len = refl;
+  ascii = All-cons IsAscii a (b ∷ c ∷ d ∷ []) first (All-cons IsAscii b (c ∷ d ∷ []) second (All-cons IsAscii c (d ∷ []) third (All-cons IsAscii d [] fourth (λ k e lt. absurd (omega (arith, lt))))));
+  parts = ap (λ (t : List ℕ). a ∷ b ∷ c ∷ d ∷ t) (sym (take_all (length (a ∷ b ∷ c ∷ d ∷ rest) - 4) rest (omega arith)));
+}
+four_ascii [] enough first second third fourth = absurd (omega (arith, enough))
+four_ascii (a ∷ []) enough first second third fourth = absurd (omega (arith, enough))
+four_ascii (a ∷ b ∷ []) enough first second third fourth = absurd (omega (arith, enough))
+four_ascii (a ∷ b ∷ c ∷ []) enough first second third fourth = absurd (omega (arith, enough))
+
+-- units of ASCII are passed where their bytes are
+pub ascii_passed : (bytes : List ℕ) (n : ℕ) (rest : List ℕ) (k : ℕ) (after : List ℕ) → Passed bytes n rest → BeginsWithAscii k rest after → Passed bytes (n + k) after
+ascii_passed bytes n rest k after passed begins = record {
+  us = passed.us ++ begins.us;
+  len = omega (arith, length-append passed.us begins.us, passed.len, begins.len);
+  units = All-append (λ v. v < 2 ^ 16) passed.us begins.us passed.units (λ i d lt. omega (arith, (begins.ascii i d lt).1));
+  parts = passed.parts ∙ ap (λ (x : List ℕ). spelling passed.us ++ x) (begins.parts ∙ ap (λ (x : List ℕ). x ++ after) (sym (ascii_spelling begins.us begins.ascii))) ∙ sym (append_assoc (spelling passed.us) (spelling begins.us) after) ∙ ap (λ (x : List ℕ). x ++ after) (sym (flat_map-append form passed.us begins.us));
+  room = omega (arith, passed.room, ap length begins.parts, length-append begins.us after, begins.len);
+}

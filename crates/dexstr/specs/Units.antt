@@ -1,5 +1,5 @@
 -- The units that bytes spell.
-use Rattle.std.specs.Prelude.{◌≡◌, ◌≢◌, ℕ, ◌+◌, ◌*◌, ◌-◌, ◌^◌, ◌<◌, Bool, not, ◌&&◌, List, [], ◌∷◌, ◌++◌, length, if◌then◌else◌, nat_lt, nat_le}
+use Rattle.std.specs.Prelude.{◌≡◌, ◌≢◌, ℕ, ◌+◌, ◌*◌, ◌-◌, ◌^◌, ◌<◌, Bool, not, ◌&&◌, List, [], ◌∷◌, ◌++◌, length, if◌then◌else◌, nat_lt, nat_le, All}
 use Rattle.dexspec.specs.Texts.{Text, AreUnits, form, spelling}
 
 -- the bytes begin with the spelling of a unit
@@ -48,3 +48,10 @@ begins_unit b = not (nat_le 0x80 b && nat_le b 0xbf)
 -- a unit that is spelled by the byte that it is
 abbrev pub IsAscii : ℕ → Type 0
 IsAscii u = (0 < u) × (u < 0x80)
+
+-- the bytes begin with `n` units of ASCII
+pub record BeginsWithAscii (n : ℕ) (bytes rest : List ℕ) : Type 0 where
+  pub us : Text
+  pub len : length us ≡ n
+  pub ascii : All IsAscii us
+  pub parts : bytes ≡ us ++ rest

@@ -1,6 +1,6 @@
 ghost use Rattle.std.specs.Prelude.{◌≡◌, ℕ, ◌+◌, ◌<◌, ◌∷◌, IfSome, IfNone, length, count_by};
 ghost use Rattle.std.specs.Iterator.{YieldsFirst, item_count};
-ghost use Rattle.dexstr.specs.Units.{BeginsWithUnit, BeginsWithNone, IsNoTail, AfterUnits, begins_unit};
+ghost use Rattle.dexstr.specs.Units.{BeginsWithAscii, BeginsWithUnit, BeginsWithNone, IsNoTail, AfterUnits, begins_unit};
 
 use std::marker::Model;
 
@@ -55,11 +55,32 @@ pub(crate) fn skip_units(bytes: &[u8]) -> (usize, &[u8])
 {
     let mut count = 0;
     let mut rest = bytes;
+    while let Some(after) = after_ascii(rest) {
+        count += 4;
+        rest = after;
+    }
     while let Some((_, after)) = first_unit(rest) {
         count += 1;
         rest = after;
     }
     (count, rest)
+}
+
+// The bytes after the first four, if each of these spells a unit of ASCII. Most texts are of such units alone.
+#[inline]
+fn after_ascii(bytes: &[u8]) -> Option<&[u8]>
+    ensures { IfSome result (λ rest. BeginsWithAscii 4 bytes.now rest.now) }
+{
+    match bytes {
+        [
+            0x01..=0x7f,
+            0x01..=0x7f,
+            0x01..=0x7f,
+            0x01..=0x7f,
+            rest @ ..,
+        ] => Some(rest),
+        _ => None,
+    }
 }
 
 /// The unit whose spelling comes first, and the bytes after it.

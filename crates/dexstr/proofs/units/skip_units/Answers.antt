@@ -1,5 +1,9 @@
+use Rattle.dexstr.proofs.Ascii.{ascii_passed}
 use Rattle.dexstr.proofs.Passing.{passed_more}
 use Rattle.dexstr.proofs.units.skip_units.Goals as goal
 
 pub loop-after-preserved : goal.loop-after-preserved
-loop-after-preserved c = passed_more c.args.bytes.now c.loop-after.count c.loop-after.rest.now c.in-Some.field-0-0 c.in-Some.after.now c.loop-after.invariant c.in-Some.ensures.found
+loop-after-preserved c = ascii_passed c.args.bytes.now c.loop-after.count c.loop-after.rest.now 4 c.in-Some.after.now c.loop-after.invariant c.in-Some.ensures
+
+pub loop-after-2-preserved : goal.loop-after-2-preserved
+loop-after-2-preserved c = passed_more c.args.bytes.now c.loop-after-2.count c.loop-after-2.rest.now c.in-Some-first_unit.field-0-0 c.in-Some-first_unit.after.now c.loop-after-2.invariant c.in-Some-first_unit.ensures.found

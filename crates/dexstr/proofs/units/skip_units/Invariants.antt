@@ -7,3 +7,9 @@ invariant-loop-after l = Passed l.bytes l.count l.rest
 
 abbrev pub decreases-loop-after : goal.decreases-loop-after
 decreases-loop-after l = length l.rest
+
+abbrev pub invariant-loop-after-2 : goal.invariant-loop-after-2
+invariant-loop-after-2 l = Passed l.bytes l.count l.rest
+
+abbrev pub decreases-loop-after-2 : goal.decreases-loop-after-2
+decreases-loop-after-2 l = length l.rest

@@ -26,7 +26,7 @@ pub use condition::Condition;
 pub use device::{Device, DeviceFault, Sink, Source, write_whole};
 pub use frame::Frame;
 pub use head::{Head, Rows};
-pub use little_endian::{push_u16, push_u32, put_u16, put_u32, u16_at, u32_at};
+pub use little_endian::{put_u16, put_u32, u16_at, u32_at};
 pub use map_list::{MapEntry, MapList};
 pub use output::{Count, Encode, Output, encode_all, encoded_len, put_encoded, put_with_len};
 pub use refusal::Refusal;

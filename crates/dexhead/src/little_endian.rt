@@ -2,7 +2,7 @@
 //!
 //! Source: the heading "Overall file layout" of the Android page "Dalvik Executable format".
 
-ghost use Rattle.std.specs.Prelude.{◌≡◌, ◌++◌, ◌+◌, ◌≤◌, length, vec_len, vec_capacity};
+ghost use Rattle.std.specs.Prelude.{◌≡◌, ◌+◌, ◌≤◌, length};
 ghost use Rattle.dexspec.specs.Bytes.{ushort, uint, ushort_at, uint_at};
 ghost use Rattle.dexspec.specs.internal.Writing.{Puts};
 
@@ -59,30 +59,4 @@ pub fn put_u32(value: u32, out: &mut Vec<u8>) -> Result<(), AllocError>
     let mut bytes = [0; 4];
     LittleEndian::write_u32(&mut bytes, value);
     out.extend_from_slice(&bytes)
-}
-
-/// Appends a number as two bytes (a `ushort`), where there is room for it.
-///
-/// Condition: the spare room is at least two bytes.
-#[tactic(auto, using(crate::proofs::Spelled::length_ushort))]
-pub fn push_u16(value: u16, out: &mut Vec<u8>)
-    requires { vec_len out.old + 2 ≤ vec_capacity out.old }
-    ensures items { out.new.items ≡ out.old.items ++ ushort value }
-    ensures len { vec_len out.new ≡ vec_len out.old + 2 }
-    ensures capacity { vec_capacity out.old ≤ vec_capacity out.new }
-{
-    put_u16(value, out).unwrap();
-}
-
-/// Appends a number as four bytes (a `uint`), where there is room for it.
-///
-/// Condition: the spare room is at least four bytes.
-#[tactic(auto, using(crate::proofs::Spelled::length_uint))]
-pub fn push_u32(value: u32, out: &mut Vec<u8>)
-    requires { vec_len out.old + 4 ≤ vec_capacity out.old }
-    ensures items { out.new.items ≡ out.old.items ++ uint value }
-    ensures len { vec_len out.new ≡ vec_len out.old + 4 }
-    ensures capacity { vec_capacity out.old ≤ vec_capacity out.new }
-{
-    put_u32(value, out).unwrap();
 }

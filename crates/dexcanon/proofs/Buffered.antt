@@ -29,39 +29,39 @@ module _ {T : Type 0} {gives gives_prefix : List ℕ → T → T → Type 0} {ha
       → Adds gives gives_prefix has_failed x a (record { buffer = w; failed = b.failed; target = b.target })
   flushed_first more a b w x first room push = adds_both gives gives_prefix has_failed [] x a b (record { buffer = w; failed = b.failed; target = b.target }) first (buffered more b w x room push)
 
-  -- the target has failed, and what is buffered is dropped
-  pub dropped : (more : (x y : List ℕ) (s t : T) → gives_prefix x s t → gives_prefix (x ++ y) s t) (a : Out T) (w : Vec ℕ) → a.failed ≡ true → vec_capacity w ≡ vec_capacity a.buffer
-      → Adds gives gives_prefix has_failed [] a (record { buffer = w; failed = a.failed; target = a.target })
-  dropped more a w fails same = record {
+  -- the target has failed: what is buffered is dropped, and no bytes are written
+  pub dropped : (more : (x y : List ℕ) (s t : T) → gives_prefix x s t → gives_prefix (x ++ y) s t) (a : Out T) (w : Vec ℕ) (x : List ℕ) → a.failed ≡ true → vec_capacity w ≡ vec_capacity a.buffer
+      → Adds gives gives_prefix has_failed x a (record { buffer = w; failed = a.failed; target = a.target })
+  dropped more a w x fails same = record {
     written = λ r start m h. record {
       made = λ e. absurd (let never : true ≡ false = sym fails ∙ e in cc);
-      prefix = λ f. more m [] start a.target (h.prefix f);
+      prefix = λ f. more m x start a.target (h.prefix f);
     };
     reports = λ t. t;
     room = λ r. let enough : 112 ≤ vec_capacity a.buffer = r in omega (arith, same, enough);
   }
 
-  -- what is buffered was written to the target, which may have failed
+  -- what is buffered and bytes after it were written to the target, which may have failed
   pub flushed : {E : Type 0} (both : (x y : List ℕ) (p q r : T) → gives x p q → gives y q r → gives (x ++ y) p r) (after : (x y : List ℕ) (p q r : T) → gives x p q → gives_prefix y q r → gives_prefix (x ++ y) p r)
-      (a : Out T) (t : T) (w : Vec ℕ) (r : Result (Unit {0}) E) (failed : Bool) → a.failed ≡ false → failed ≡ is_err r
-      → OnOk r (has_failed t ≡ false) → OnErr r (has_failed t ≡ true) → OnOk r (gives a.buffer.items a.target t) → OnErr r (gives_prefix a.buffer.items a.target t)
-      → w.items ≡ [] → vec_capacity w ≡ vec_capacity a.buffer → Adds gives gives_prefix has_failed [] a (record { buffer = w; failed = failed; target = t })
-  flushed both after a t w (Ok u) failed fine is works fails given prefix empty same = record {
+      (a : Out T) (t : T) (w : Vec ℕ) (x y : List ℕ) (r : Result (Unit {0}) E) (failed : Bool) → a.buffer.items ++ x ≡ y → a.failed ≡ false → failed ≡ is_err r
+      → OnOk r (has_failed t ≡ false) → OnErr r (has_failed t ≡ true) → OnOk r (gives y a.target t) → OnErr r (gives_prefix y a.target t)
+      → w.items ≡ [] → vec_capacity w ≡ vec_capacity a.buffer → Adds gives gives_prefix has_failed x a (record { buffer = w; failed = failed; target = t })
+  flushed both after a t w x y (Ok u) failed all fine is works fails given prefix empty same = record {
     written = λ r start m h. record {
       made = λ e. let k = h.made fine in record {
-        gone = k.gone ++ a.buffer.items;
-        given = both k.gone a.buffer.items start a.target t k.given given;
-        joined = ap (λ z. (k.gone ++ a.buffer.items) ++ z) empty ∙ ap (λ z. z ++ []) k.joined;
+        gone = k.gone ++ y;
+        given = both k.gone y start a.target t k.given given;
+        joined = ap (λ z. (k.gone ++ y) ++ z) empty ∙ append-nil (k.gone ++ y) ∙ ap (λ z. k.gone ++ z) (sym all) ∙ sym (append_assoc k.gone a.buffer.items x) ∙ ap (λ z. z ++ x) k.joined;
       };
       prefix = λ f. absurd (let never : false ≡ true = sym is ∙ f in cc);
     };
     reports = λ s. works ∙ sym is;
     room = λ r. let enough : 112 ≤ vec_capacity a.buffer = r in omega (arith, same, enough);
   }
-  flushed both after a t w (Err e) failed fine is works fails given prefix empty same = record {
+  flushed both after a t w x y (Err e) failed all fine is works fails given prefix empty same = record {
     written = λ r start m h. record {
       made = λ f. absurd (let never : true ≡ false = sym is ∙ f in cc);
-      prefix = λ f. let k = h.made fine in subst (λ z. gives_prefix z start t) (k.joined ∙ sym (append-nil m)) (after k.gone a.buffer.items start a.target t k.given prefix);
+      prefix = λ f. let k = h.made fine in subst (λ z. gives_prefix z start t) (ap (λ z. k.gone ++ z) (sym all) ∙ sym (append_assoc k.gone a.buffer.items x) ∙ ap (λ z. z ++ x) k.joined) (after k.gone y start a.target t k.given prefix);
     };
     reports = λ s. fails ∙ sym is;
     room = λ r. let enough : 112 ≤ vec_capacity a.buffer = r in omega (arith, same, enough);

@@ -95,17 +95,27 @@ impl<T: Target> Output for Out<T> {
 }
 
 impl<T: Target> Out<T> {
-    // Writes bytes in parts, each as long as the buffer has room for.
+    // Writes bytes in parts that are as long as the buffer.
     fn bytes_in_parts(&mut self, bytes: &[u8])
         ensures { Adds T.gives T.gives_prefix T.has_failed bytes.now self.old self.new }
     {
         let mut rest = bytes;
         'parts: while !rest.is_empty() {
-            self.make_room();
-            let room = self.buffer.capacity() - self.buffer.len();
-            let (part, after) = rest.split_at(rest.len().min(room.max(1)));
-            self.buffer.bytes(part);
+            let (part, after) = rest.split_at(rest.len().min(self.buffer.capacity().max(1)));
+            self.write_part(part);
             rest = after;
+        }
+    }
+
+    // Flushes the buffer, and writes a part: to the target if it would fill the buffer.
+    fn write_part(&mut self, part: &[u8])
+        ensures { Adds T.gives T.gives_prefix T.has_failed part.now self.old self.new }
+    {
+        self.flush();
+        if part.len() < self.buffer.capacity() {
+            self.buffer.bytes(part);
+        } else if !self.failed {
+            self.failed = self.target.write(part).is_err();
         }
     }
 

@@ -3,7 +3,6 @@ use Rattle.std.proofs.lemmas.List.{take-append-drop, length-take}
 use Rattle.std.proofs.lemmas.Grind.{common_steps}
 use Rattle.dexhead.proofs.Encoded.{completes_none, completes_more, completes_all}
 use Rattle.dexcanon.specs.internal.Output.{Adds, adds_nothing, adds_both}
-use Rattle.dexcanon.proofs.Buffered.{flushed_first}
 use Rattle.dexcanon.proofs.output.Out.bytes_in_parts.Goals as goal
 
 pub parts-init : goal.parts-init
@@ -16,8 +15,7 @@ parts-preserved g c =
     let after = c.split_at.result.1.now in
     let parts : rest ≡ part ++ after = sym (take-append-drop c.min.result rest) ∙ (λ i. sym c.split_at.ensures.front i ++ sym c.split_at.ensures.back i) in
     completes_more (Adds g.T.Target.gives g.T.Target.gives_prefix g.T.Target.has_failed) (adds_both g.T.Target.gives g.T.Target.gives_prefix g.T.Target.has_failed) part after rest c.args.bytes.now c.args.self.now c.parts.self _ parts c.parts.invariant
-    (flushed_first g.met.T.Target.more c.parts.self c.make_room.new.self c.bytes.new.self part c.make_room.ensures.adds
-    (λ room. omega (arith, c.make_room.ensures.room room, c.min.ensures, c.max.ensures, c.capacity.ensures, c.len.ensures, ap (λ (xs : List ℕ). length xs) c.split_at.ensures.front, length-take c.min.result rest)) c.bytes.ensures)
+    c.write_part.ensures
 
 pub returns : goal.returns
 returns g c =

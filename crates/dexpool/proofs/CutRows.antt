@@ -1,8 +1,11 @@
 -- What is kept of a table, and where.
-use Rattle.std.proofs.Common.{◌≡◌, ℕ, ◌+◌, ◌<◌, Bool, true, false, List, [], ◌∷◌, ◌++◌, length, get_or, map, drop, refl, sym, ap, ◌∙◌, arith, append_assoc, add-one, Option, Some, None}
-use Rattle.std.proofs.lemmas.List.{length-drop, drop_more}
+use Rattle.std.proofs.Common.{◌≡◌, ℕ, ◌+◌, ◌<◌, ◌≤◌, Bool, true, false, List, [], ◌∷◌, ◌++◌, length, get_or, set, take, drop, refl, sym, ap, ◌∙◌, arith, append_assoc, add-one, inl, inr, Option, Some, None}
+use Rattle.std.specs.List.{swap}
+use Rattle.std.proofs.lemmas.Bool.{cases_eq}
+use Rattle.std.proofs.lemmas.List.{length-drop, drop_more, set-set, take_more_set, take-set-le, drop-set-lt, get_or_default}
+use Rattle.std.proofs.lemmas.List.Edits.{swap_is, length-swap}
 use Rattle.dexpool.specs.Cut.{kept, places}
-use Rattle.dexpool.proofs.KeptRows.{kept_first, kept_next}
+use Rattle.dexpool.proofs.InPlace.{same_at, rest_more}
 
 first_of : {X : Type 0} (xs : List X) → 0 < length xs → X
 first_of [] lt = absurd (omega arith)
@@ -23,16 +26,58 @@ module _ {R : Type 0} (rows : List R) (marks : List Bool) (i : ℕ) where
       let front : kept (drop i marks) (drop i rows) ≡ kept (drop (i + 1) marks) (drop (i + 1) rows) = rw (drop_more marks i d less, drop_more rows i row lt, marked) refl in
       ap (λ xs. so_far ++ xs) (sym front) ∙ h
 
--- the same of rows that are mapped as they are kept
-module _ {R S : Type 0} (f : R → S) (rows : List R) (marks : List Bool) (i : ℕ) (lt : i < length rows) (count : length marks ≡ length rows) where
-  pub keeps_mapped : (so_far ys : List S) (row d : R) → get_or marks i false ≡ true → row ≡ get_or rows i d → ys ≡ so_far ++ f row ∷ [] → so_far ++ map f (kept (drop i marks) (drop i rows)) ≡ map f (kept marks rows) → ys ++ map f (kept (drop (i + 1) marks) (drop (i + 1) rows)) ≡ map f (kept marks rows)
-  keeps_mapped so_far ys row d marked at grown h =
-      let rest = kept (drop (i + 1) marks) (drop (i + 1) rows) in
-      let front : kept (drop i marks) (drop i rows) ≡ row ∷ rest = kept_first marks rows i d lt count marked ∙ ap (λ x. x ∷ rest) (sym at) in
-      ap (λ xs. xs ++ map f rest) grown ∙ append_assoc so_far (f row ∷ []) (map f rest) ∙ ap (λ ks. so_far ++ map f ks) (sym front) ∙ h
+-- ---- a table that is cut in place
 
-  pub leaves_mapped : (so_far : List S) → get_or marks i false ≡ false → so_far ++ map f (kept (drop i marks) (drop i rows)) ≡ map f (kept marks rows) → so_far ++ map f (kept (drop (i + 1) marks) (drop (i + 1) rows)) ≡ map f (kept marks rows)
-  leaves_mapped so_far marked h = ap (λ ks. so_far ++ map f ks) (sym (kept_next marks rows i (first_of (drop i rows) (omega (arith, lt, length-drop i rows))) lt count marked)) ∙ h
+-- a swap of two places that moves a row to the front
+module _ {R : Type 0} (rows : List R) (count i : ℕ) (d : R) (front : count ≤ i) (lt : i < length rows) where
+  swapped : swap rows count i ≡ set (set rows count (get_or rows i d)) i (get_or rows count d)
+  swapped = sym (swap_is rows count i d (omega (arith, front, lt)) lt)
+
+  moved_front : take (count + 1) (swap rows count i) ≡ take count rows ++ get_or rows i d ∷ []
+  moved_front =
+      let x = get_or rows i d in
+      let y = get_or rows count d in
+      let less : count < length rows = omega (arith, front, lt) in
+      ap (take (count + 1)) swapped ∙ elim (cases_eq count i) [
+        | inl same ↦ ap (λ k. take (count + 1) (set (set rows count x) k y)) (sym same) ∙ ap (take (count + 1)) (set-set rows count x y) ∙ take_more_set rows count y less ∙ ap (λ k. take count rows ++ get_or rows k d ∷ []) same
+        | inr other ↦ take-set-le (count + 1) (set rows count x) i y (omega (arith, front, other)) ∙ take_more_set rows count x less
+      ]
+
+  left_rest : drop (i + 1) (swap rows count i) ≡ drop (i + 1) rows
+  left_rest =
+      let x = get_or rows i d in
+      ap (drop (i + 1)) swapped ∙ drop-set-lt (i + 1) (set rows count x) i (get_or rows count d) (omega arith) ∙ drop-set-lt (i + 1) rows count x (omega (arith, front))
+
+-- the rows that are kept so far are first, and those from i on are still the old ones
+pub record IsCutTo {R : Type 0} (old : List R) (marks : List Bool) (i count : ℕ) (rows : List R) : Type 0 where
+  pub so_far : take count rows ++ kept (drop i marks) (drop i old) ≡ kept marks old
+  pub rest : drop i rows ≡ drop i old
+  pub size : length rows ≡ length old
+  pub front : count ≤ i
+
+module _ {R : Type 0} (old : List R) (marks : List Bool) (i count : ℕ) (rows : List R) (h : IsCutTo old marks i count rows) (lt : i < length old) (sized : length marks ≡ length old) where
+  pub cut_more : get_or marks i false ≡ true → IsCutTo old marks (i + 1) (count + 1) (swap rows count i)
+  cut_more marked =
+      let d = first_of (drop i old) (omega (arith, lt, length-drop i old)) in
+      let row = get_or old i d in
+      let less : i < length rows = omega (arith, lt, h.size) in
+      record {
+        so_far = keeps old marks i (take count rows) (take (count + 1) (swap rows count i)) row false lt (omega (arith, lt, sized)) marked (get_or_default old i d row lt)
+            (moved_front rows count i d h.front less ∙ ap (λ x. take count rows ++ x ∷ []) (same_at old rows i h.rest d)) h.so_far;
+        rest = left_rest rows count i d h.front less ∙ rest_more old rows i h.rest;
+        size = length-swap rows count i ∙ h.size;
+        front = omega (arith, h.front);
+      }
+
+  pub cut_past : get_or marks i false ≡ false → IsCutTo old marks (i + 1) count rows
+  cut_past unmarked = record {
+    so_far = leaves old marks i (take count rows) false lt (omega (arith, lt, sized)) unmarked h.so_far;
+    rest = rest_more old rows i h.rest;
+    size = h.size;
+    front = omega (arith, h.front);
+  }
+
+-- ---- places
 
 -- the places so far, and that of a marked row
 pub places_if : (marks : List Bool) (i n m : ℕ) (d : Bool) (so_far ps : List (Option ℕ)) → i < length marks → get_or marks i d ≡ true → m ≡ n + 1 → ps ≡ so_far ++ Some n ∷ [] → so_far ++ places n (drop i marks) ≡ places 0 marks → ps ++ places m (drop (i + 1) marks) ≡ places 0 marks

@@ -14,6 +14,8 @@ use Rattle.dexspec.proofs.merge.SymbolOrders.{text_total}
 use Rattle.dexpool.specs.Cut.{kept}
 use Rattle.dexrows.specs.Join.{row_cmp, AreSorted}
 use Rattle.dexrows.specs.Numbers.{ProtoNumbers}
+use Rattle.dexrows.specs.declared.fields.FieldRow.{FieldRow}
+use Rattle.dexrows.specs.declared.methods.MethodRow.{MethodRow}
 use Rattle.dexpool.specs.declared.rows.ProtoEntry.{ProtoEntry}
 use Rattle.dexpool.specs.declared.tables.Tables.{Tables}
 use Rattle.dexpool.specs.declared.marks.Marks.{Marks}
@@ -286,34 +288,43 @@ module _ (t : Tables) (ok : AreTables t) (marks : Marks) (count : AreMarksOf (sy
 
 -- ---- numbers in range of the new ones
 
-module _ (t : Tables) (ok : AreTables t) (ss : List ℕ) (strings : length ss ≡ length t.strings.items) where
-  pub types_within : All (λ n. n < length ss) t.types.items
-  types_within = All-weaker (IsTypeNumber t) (λ n. n < length ss) (λ n k. omega (arith, k.text_in, strings)) t.types.items ok.types_at_ranks
+-- what holds of all rows holds of what is left of them
+left_all : {X : Type 0} (P : X → Type 0) (marks : List Bool) (rows left : List X) → left ≡ kept marks rows → All P rows → All P left
+left_all P marks rows left e all = subst (All P) (sym e) (kept_all P marks rows all)
+
+module _ (t : Tables) (ok : AreTables t) (marks : List Bool) (ss : List ℕ) (strings : length ss ≡ length t.strings.items) where
+  pub types_within : (types : List ℕ) → types ≡ kept marks t.types.items → All (λ n. n < length ss) types
+  types_within types e = left_all (λ n. n < length ss) marks t.types.items types e
+      (All-weaker (IsTypeNumber t) (λ n. n < length ss) (λ n k. omega (arith, k.text_in, strings)) t.types.items ok.types_at_ranks)
 
   module _ (ts : List ℕ) (types : length ts ≡ length t.types.items) where
-    pub protos_within : (marks : List Bool) (protos : List ProtoEntry) → protos ≡ kept marks t.protos.items → All (IsEntryWithin (length ss) (length ts) t.parameters) protos
-    protos_within marks protos e =
+    pub protos_within : (protos : List ProtoEntry) → protos ≡ kept marks t.protos.items → All (IsEntryWithin (length ss) (length ts) t.parameters) protos
+    protos_within protos e =
         let Within : ProtoEntry → Type 0 = IsEntryWithin (length ss) (length ts) t.parameters in
-        subst (All Within) (sym e) (kept_all Within marks t.protos.items (All-weaker (IsProtoEntry t) Within (λ p k. record {
+        left_all Within marks t.protos.items protos e (All-weaker (IsProtoEntry t) Within (λ p k. record {
           shorty_in = omega (arith, k.shorty_in, strings);
           return_in = omega (arith, k.return_in, types);
           span = k.span;
           parameters_in = All-weaker (IsTypeOf IsValueType t) (λ n. n < length ts) (λ n i. omega (arith, i.type_in, types)) (span_of t.parameters p.parameters) k.parameters_in;
-        }) t.protos.items ok.protos_at_ranks))
+        }) t.protos.items ok.protos_at_ranks)
 
-    pub fields_within : All (IsFieldWithin (length ss) (length ts)) t.fields.items
-    fields_within = All-weaker (IsFieldRow t) (IsFieldWithin (length ss) (length ts)) (λ f k. record {
-      class_in = omega (arith, k.class_is.type_in, types);
-      name_in = omega (arith, k.name_in, strings);
-      type_in = omega (arith, k.type_is.type_in, types);
-    }) t.fields.items ok.fields_at_ranks
+    pub fields_within : (fields : List FieldRow) → fields ≡ kept marks t.fields.items → All (IsFieldWithin (length ss) (length ts)) fields
+    fields_within fields e =
+        let Within : FieldRow → Type 0 = IsFieldWithin (length ss) (length ts) in
+        left_all Within marks t.fields.items fields e (All-weaker (IsFieldRow t) Within (λ f k. record {
+          class_in = omega (arith, k.class_is.type_in, types);
+          name_in = omega (arith, k.name_in, strings);
+          type_in = omega (arith, k.type_is.type_in, types);
+        }) t.fields.items ok.fields_at_ranks)
 
-    pub methods_within : (ps : List ℕ) → length ps ≡ length t.protos.items → All (IsMethodWithin (length ss) (length ts) (length ps)) t.methods.items
-    methods_within ps protos = All-weaker (IsMethodRow t) (IsMethodWithin (length ss) (length ts) (length ps)) (λ m k. record {
-      class_in = omega (arith, k.class_is.type_in, types);
-      name_in = omega (arith, k.name_in, strings);
-      proto_in = omega (arith, k.proto_in, protos);
-    }) t.methods.items ok.methods_at_ranks
+    pub methods_within : (ps : List ℕ) → length ps ≡ length t.protos.items → (methods : List MethodRow) → methods ≡ kept marks t.methods.items → All (IsMethodWithin (length ss) (length ts) (length ps)) methods
+    methods_within ps protos methods e =
+        let Within : MethodRow → Type 0 = IsMethodWithin (length ss) (length ts) (length ps) in
+        left_all Within marks t.methods.items methods e (All-weaker (IsMethodRow t) Within (λ m k. record {
+          class_in = omega (arith, k.class_is.type_in, types);
+          name_in = omega (arith, k.name_in, strings);
+          proto_in = omega (arith, k.proto_in, protos);
+        }) t.methods.items ok.methods_at_ranks)
 
 -- as many new numbers as marks
 pub numbers_count : (ns : List ℕ) (marks : List Bool) (n : ℕ) → ns ≡ new_numbers marks → length marks ≡ n → length ns ≡ n

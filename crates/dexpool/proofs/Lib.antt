@@ -41,5 +41,6 @@ pub mod FileLists
 pub mod ListedPlaces
 pub mod SpelledLists
 pub mod StoredImages
+pub mod InPlace
 pub mod CutRows
 pub mod KeptPlaces

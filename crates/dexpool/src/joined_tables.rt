@@ -167,7 +167,7 @@ fn renumbered_tables<'a>(
         let part = part.tables();
         tables.push(renumbered_protos(
             alloc,
-            &part.protos,
+            Vec::from_slice(alloc, &part.protos)?,
             &part.parameters,
             &strings.images[i],
             &types.images[i],
@@ -223,7 +223,8 @@ fn join_fields<'a>(
             types: &types.images[i],
             protos: &[],
         };
-        rows.push(renumbered_rows(alloc, &part.tables().fields, lower)?)?;
+        let fields = Vec::from_slice(alloc, &part.tables().fields)?;
+        rows.push(renumbered_rows(fields, lower))?;
     }
     join_rows(alloc, &rows)
 }
@@ -250,7 +251,8 @@ fn join_methods<'a>(
             types: &types.images[i],
             protos: &protos.images[i],
         };
-        rows.push(renumbered_rows(alloc, &part.tables().methods, lower)?)?;
+        let methods = Vec::from_slice(alloc, &part.tables().methods)?;
+        rows.push(renumbered_rows(methods, lower))?;
     }
     join_rows(alloc, &rows)
 }

@@ -27,9 +27,9 @@ impl<'a> Numbering<'a> {
         ensures marked { IfOk result (λ cut. MapsMarked marks.now cut.1) }
         ensures down { IfOk result (λ cut. MapsDown cut.1) }
     {
-        let tables = self.tables();
-        let marks = closed(tables, marks)?;
-        let (tables, remap) = keep_marked(alloc, tables, &marks)?;
+        let tables = self.copy()?.into_tables();
+        let closed = closed(&tables, marks)?;
+        let (tables, remap) = keep_marked(alloc, tables, &closed)?;
         Ok((Numbering { tables }, remap))
     }
 
@@ -52,10 +52,10 @@ impl<'a> Numbering<'a> {
         ensures marked { IfOk result (λ cut. IfSome cut.1 (MapsMarked marks.now)) }
         ensures down { IfOk result (λ cut. IfSome cut.1 MapsDown) }
     {
-        let tables = self.tables();
-        let closed = closed(tables, marks)?;
+        let tables = self.into_tables();
+        let closed = closed(&tables, marks)?;
         if closed.are_all() {
-            return Ok((self, None));
+            return Ok((Numbering { tables }, None));
         }
         let (tables, remap) = keep_marked(alloc, tables, &closed)?;
         Ok((Numbering { tables }, Some(remap)))

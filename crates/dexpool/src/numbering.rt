@@ -53,6 +53,15 @@ impl<'a> Numbering<'a> {
         &self.tables
     }
 
+    /// The tables, moved out of the numbering.
+    pub(crate) fn into_tables(self) -> Tables<'a>
+        ensures tables { AreTables result }
+        ensures symbols { symbols_in result ≡ self.entry }
+    {
+        let Numbering { tables } = self;
+        tables
+    }
+
     /// A numbering of no symbol.
     pub fn empty(alloc: Global) -> Numbering<'a>
         ensures { result

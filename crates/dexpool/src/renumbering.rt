@@ -29,6 +29,17 @@ pub(crate) fn renumbered_types(
     Ok(rows)
 }
 
+/// The numbers, by their images.
+pub(crate) fn renumbered_numbers(mut numbers: Vec<usize>, images: &[u32]) -> Vec<usize>
+    requires { All (λ n. n < length images.now) numbers.items }
+    ensures { result.items ≡ map (slice_index images.now) numbers.items }
+{
+    for i in 0..numbers.len() {
+        numbers[i] = images[numbers[i]] as usize;
+    }
+    numbers
+}
+
 /// The number of the text of each row of types.
 pub(crate) fn descriptors(alloc: Global, rows: &[TypeRow]) -> Result<Vec<usize>, AllocError>
     ensures { IfOk result (λ numbers. numbers.items ≡ map (λ row. row.descriptor) rows.now) }
@@ -59,42 +70,37 @@ fn push_images(
 /// The protos, by the images of their texts and types. The numbers of all rows' parameters are not more than those
 /// from the first that one of them has up to the last: where rows share parameters, so do their images.
 ///
-/// Error: the memory for the rows and their parameters was refused.
+/// Error: the memory for the parameters was refused.
 pub(crate) fn renumbered_protos(
     alloc: Global,
-    protos: &[ProtoEntry],
+    mut rows: Vec<ProtoEntry>,
     parameters: &Parameters<'_>,
     strings: &[u32],
     types: &[u32],
 ) -> Result<Protos, AllocError>
     requires { All
-        (IsEntryWithin (length strings.now) (length types.now) parameters.now) protos.now }
+        (IsEntryWithin (length strings.now) (length types.now) parameters.now) rows.items }
     ensures spans { IfOk result HasSpans }
-    ensures rows { IfOk result (AreMovedProtos strings.now types.now parameters.now protos.now) }
+    ensures rows { IfOk result
+        (AreMovedProtos strings.now types.now parameters.now rows.items) }
 {
-    let range = covering(protos);
-    let count = listed(protos);
+    let range = covering(&rows);
+    let count = listed(&rows);
     if count > range.end.saturating_sub(range.start) {
         let lower = LowerPlaces {
             strings,
             types,
             protos: &[],
         };
-        return renumbered_together(alloc, protos, parameters, range, lower);
+        return renumbered_together(alloc, rows, parameters, range, lower);
     }
-    let mut rows = Vec::with_capacity(alloc, protos.len())?;
     let mut moved = Vec::with_capacity(alloc, count)?;
-    for entry in protos {
+    for i in 0..rows.len() {
+        let entry = rows[i];
         let start = moved.len();
         push_images(&parameters.part(entry.parameters), types, &mut moved)?;
-        rows.push(ProtoEntry {
-            shorty: strings[entry.shorty] as usize,
-            return_type: types[entry.return_type] as usize,
-            parameters: Span {
-                start,
-                end: moved.len(),
-            },
-        })?;
+        let end = moved.len();
+        rows[i] = entry.renumbered(strings, types, Span { start, end });
     }
     Ok(Protos {
         rows,
@@ -152,22 +158,15 @@ pub(crate) fn stored(alloc: Global, protos: &[ProtoRow<'_>]) -> Result<Protos, A
 }
 
 /// The rows, by the images of the rows of lower tables that they name.
-///
-/// Error: the memory for the rows was refused.
-pub(crate) fn renumbered_rows<R: Row<List = ()>>(
-    alloc: Global,
-    rows: &[R],
-    lower: LowerPlaces<'_>,
-) -> Result<Vec<R>, AllocError>
-    requires within { All (R.numbers_in (among_of lower)) rows.now }
-    requires list { All (λ row. R.can_move lower row tt) rows.now }
-    ensures { IfOk result (λ moved. moved.items ≡ map (R.mapped (lower_of lower.entry)) rows.now) }
+pub(crate) fn renumbered_rows<R: Row<List = ()>>(mut rows: Vec<R>, lower: LowerPlaces<'_>) -> Vec<R>
+    requires within { All (R.numbers_in (among_of lower)) rows.items }
+    requires list { All (λ row. R.can_move lower row tt) rows.items }
+    ensures { result.items ≡ map (R.mapped (lower_of lower.entry)) rows.items }
 {
-    let mut moved = Vec::with_capacity(alloc, rows.len())?;
-    for row in rows {
-        moved.push(row.renumbered(lower, ()))?;
+    for i in 0..rows.len() {
+        rows[i] = rows[i].renumbered(lower, ());
     }
-    Ok(moved)
+    rows
 }
 
 /// Sorted rows stay sorted where the numbers that they name are replaced in the order of these.

@@ -1,7 +1,7 @@
 //! The rows of protos as a table keeps them. Those of fields and methods are `dexrows`', and a row of types is
 //! the number of its text.
 
-ghost use Rattle.std.specs.Prelude.{◌≡◌, ◌-◌, ◌≤◌, length, take, drop};
+ghost use Rattle.std.specs.Prelude.{◌≡◌, ◌-◌, ◌<◌, ◌≤◌, length, take, drop, slice_index};
 
 /// A row of protos.
 ///
@@ -14,6 +14,25 @@ pub struct ProtoEntry {
     pub return_type: usize,
     /// Where the numbers of the types of the parameters are.
     pub parameters: Span,
+}
+
+impl ProtoEntry {
+    /// The row, by the images of its text and its type, with its parameters in another place.
+    pub(crate) fn renumbered(self, strings: &[u32], types: &[u32], parameters: Span) -> ProtoEntry
+        requires shorty { self.shorty < length strings.now }
+        requires return_type { self.return_type < length types.now }
+        ensures { result ≡ record {
+          shorty = slice_index strings.now self.shorty;
+          return_type = slice_index types.now self.return_type;
+          parameters = parameters;
+        } }
+    {
+        ProtoEntry {
+            shorty: strings[self.shorty] as usize,
+            return_type: types[self.return_type] as usize,
+            parameters,
+        }
+    }
 }
 
 /// A part of a list that rows share: from `start` on, up to `end`.

@@ -84,32 +84,28 @@ fn images_or_none(
 /// The protos, by the images of their texts and types. Their parameters are parts of one list, which has an image for
 /// each number of the range.
 ///
-/// Condition: the range has the parameters of each row. Error: the memory for the rows and their parameters was
-/// refused.
+/// Condition: the range has the parameters of each row. Error: the memory for the parameters was refused.
 pub(crate) fn renumbered_together(
     alloc: Global,
-    protos: &[ProtoEntry],
+    mut rows: Vec<ProtoEntry>,
     parameters: &Parameters<'_>,
     range: Span,
     lower: LowerPlaces<'_>,
 ) -> Result<Protos, AllocError>
     requires protos { All
-        (IsEntryWithin (length lower.strings.now) (length lower.types.now) parameters.now) protos.now }
+        (IsEntryWithin (length lower.strings.now) (length lower.types.now) parameters.now) rows.items }
     requires range { HasSpan parameters.now range }
-    requires covers { All (λ p. Covers range p.parameters) protos.now }
+    requires covers { All (λ p. Covers range p.parameters) rows.items }
     ensures spans { IfOk result HasSpans }
     ensures rows { IfOk result
         (AreMovedProtos lower.entry.strings.now lower.entry.types.now
-        parameters.now protos.now) }
+        parameters.now rows.items) }
 {
     let moved = images_or_none(alloc, &parameters.part(range), lower.types)?;
-    let mut rows = Vec::with_capacity(alloc, protos.len())?;
-    for entry in protos {
-        rows.push(ProtoEntry {
-            shorty: lower.strings[entry.shorty] as usize,
-            return_type: lower.types[entry.return_type] as usize,
-            parameters: place_within(range, entry.parameters),
-        })?;
+    for i in 0..rows.len() {
+        let entry = rows[i];
+        let place = place_within(range, entry.parameters);
+        rows[i] = entry.renumbered(lower.strings, lower.types, place);
     }
     Ok(Protos {
         rows,

@@ -23,7 +23,7 @@ renumbered_rows-requires-clause-within c =
     let by_strings = subst (λ (m : Mentions). Moves m.texts c.args.strings.now.rows.items c.index.result.now.items) (sym c.tables.ensures.symbols) seen_strings in
     let seen_types = zip_seen (λ (m : Mentions) image. Moves m.types (map (text_of c.args.strings.now.rows.items) c.args.types.now.numbers.items) image) (λ part. part.now) (λ image. image.items) c.args.parts.now c.args.types.now.images.items c.loop-i.i c.index-parts-i.result c.index-in-loop-i.result.now c.requires.types.union.moves c.loop-i-test.true c.index-parts-i.is c.index-in-loop-i.ensures in
     let by_types = subst (λ (m : Mentions). Moves m.types (map (text_of c.args.strings.now.rows.items) c.args.types.now.numbers.items) c.index-in-loop-i.result.now.items) (sym c.tables.ensures.symbols) seen_types in
-    rw (c.deref.ensures.value, c.deref-in-loop-i.ensures.value, c.deref-in-loop-i-2.ensures.value) (fields_among _ _ c.tables.result.now.fields.items (fields_movable c.tables.result.now c.tables.ensures.tables c.args.strings.now.rows.items c.index.result.now.items by_strings c.args.types.now.numbers.items c.index-in-loop-i.result.now.items by_types))
+    rw (c.deref.ensures.value, c.deref-in-loop-i.ensures.value, c.in_ok-fields.ensures.items, c.deref-in-loop-i-2.ensures.value) (fields_among _ _ c.tables.result.now.fields.items (fields_movable c.tables.result.now c.tables.ensures.tables c.args.strings.now.rows.items c.index.result.now.items by_strings c.args.types.now.numbers.items c.index-in-loop-i.result.now.items by_types))
 
 pub loop-i-preserved : goal.loop-i-preserved
 loop-i-preserved c =
@@ -31,14 +31,14 @@ loop-i-preserved c =
     let by_strings = subst (λ (m : Mentions). Moves m.texts c.args.strings.now.rows.items c.index.result.now.items) (sym c.tables.ensures.symbols) seen_strings in
     let seen_types = zip_seen (λ (m : Mentions) image. Moves m.types (map (text_of c.args.strings.now.rows.items) c.args.types.now.numbers.items) image) (λ part. part.now) (λ image. image.items) c.args.parts.now c.args.types.now.images.items c.loop-i.i c.index-parts-i.result c.index-in-loop-i.result.now c.requires.types.union.moves c.loop-i-test.true c.index-parts-i.is c.index-in-loop-i.ensures in
     let by_types = subst (λ (m : Mentions). Moves m.types (map (text_of c.args.strings.now.rows.items) c.args.types.now.numbers.items) c.index-in-loop-i.result.now.items) (sym c.tables.ensures.symbols) seen_types in
-    let rows = c.in_ok-renumbered_rows.field-0.items in
-    let is = c.in_ok-renumbered_rows.ensures ∙ (λ i. map (moved_field (c.deref.ensures.value i) (c.deref-in-loop-i.ensures.value i)) (c.deref-in-loop-i-2.ensures.value i)) in
+    let rows = c.renumbered_rows.result.items in
+    let is = c.renumbered_rows.ensures ∙ (λ i. map (moved_field (c.deref.ensures.value i) (c.deref-in-loop-i.ensures.value i)) ((c.in_ok-fields.ensures.items ∙ c.deref-in-loop-i-2.ensures.value) i)) in
     let are_encoded = fields_at_ranks c.tables.result.now c.tables.ensures.tables c.args.strings.now.rows.items c.index.result.now.items by_strings c.args.types.now.numbers.items c.index-in-loop-i.result.now.items by_types rows is in
     record {
       are_encoded = zip_more (λ (part : Mentions) xs. Denote (field_of c.args.strings.now.rows.items c.args.types.now.numbers.items) (IsFieldWithin (length c.args.strings.now.rows.items) (length c.args.types.now.numbers.items)) part.fields xs) (λ part. part.now) (λ xs. xs.items)
-          c.args.parts.now c.loop-i.rows.items c.push.new.self.items c.loop-i.i c.index-parts-i.result c.in_ok-renumbered_rows.field-0 c.loop-i.invariant.are_encoded c.loop-i-test.true c.index-parts-i.is c.in_ok-push.ensures.items
+          c.args.parts.now c.loop-i.rows.items c.push.new.self.items c.loop-i.i c.index-parts-i.result c.renumbered_rows.result c.loop-i.invariant.are_encoded c.loop-i-test.true c.index-parts-i.is c.in_ok-push.ensures.items
           (subst (λ (m : Mentions). Denote (field_of c.args.strings.now.rows.items c.args.types.now.numbers.items) (IsFieldWithin (length c.args.strings.now.rows.items) (length c.args.types.now.numbers.items)) m.fields rows) c.tables.ensures.symbols are_encoded);
-      sorted = all_pushed (AreSorted field_key) (λ rows. rows.items) c.loop-i.rows.items c.push.new.self.items c.in_ok-renumbered_rows.field-0 c.in_ok-push.ensures.items c.loop-i.invariant.sorted
+      sorted = all_pushed (AreSorted field_key) (λ rows. rows.items) c.loop-i.rows.items c.push.new.self.items c.renumbered_rows.result c.in_ok-push.ensures.items c.loop-i.invariant.sorted
           (fields_sorted c.tables.result.now c.tables.ensures.tables c.args.strings.now.rows.items (texts_rise (map (λ part. part.now) c.args.parts.now) c.requires.numberings c.args.strings.now.rows.items (map (λ image. image.items) c.args.strings.now.images.items) c.requires.strings) c.index.result.now.items by_strings
           c.args.types.now.numbers.items (type_texts_rise (map (λ part. part.now) c.args.parts.now) c.requires.numberings c.args.strings.now.rows.items (map (λ image. image.items) c.args.strings.now.images.items) c.requires.strings c.args.types.now.numbers.items (map (λ image. image.items) c.args.types.now.images.items) c.requires.types) c.index-in-loop-i.result.now.items by_types
           c.sorted_law.ensures rows is);

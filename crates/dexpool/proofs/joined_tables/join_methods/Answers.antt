@@ -28,7 +28,7 @@ renumbered_rows-requires-clause-within c =
     let by_types = subst (λ (m : Mentions). Moves m.types (map (text_of c.args.strings.now.rows.items) c.args.types.now.numbers.items) c.index-in-loop-i.result.now.items) (sym c.tables.ensures.symbols) seen_types in
     let seen_protos = zip_seen (λ (m : Mentions) image. Moves m.protos (map (proto_of c.args.strings.now.rows.items c.args.types.now.numbers.items c.args.protos.now.table.parameters.items) c.args.protos.now.table.rows.items) image) (λ part. part.now) (λ image. image.items) c.args.parts.now c.args.protos.now.images.items c.loop-i.i c.index-parts-i.result c.index-in-loop-i-2.result.now c.requires.protos.union.moves c.loop-i-test.true c.index-parts-i.is c.index-in-loop-i-2.ensures in
     let by_protos = subst (λ (m : Mentions). Moves m.protos (map (proto_of c.args.strings.now.rows.items c.args.types.now.numbers.items c.args.protos.now.table.parameters.items) c.args.protos.now.table.rows.items) c.index-in-loop-i-2.result.now.items) (sym c.tables.ensures.symbols) seen_protos in
-    rw (c.deref.ensures.value, c.deref-in-loop-i.ensures.value, c.deref-in-loop-i-2.ensures.value, c.deref-in-loop-i-3.ensures.value) (methods_among _ _ _ c.tables.result.now.methods.items (methods_movable c.tables.result.now c.tables.ensures.tables c.args.strings.now.rows.items c.index.result.now.items by_strings c.args.types.now.numbers.items c.index-in-loop-i.result.now.items by_types c.args.protos.now.table.parameters.items c.args.protos.now.table.rows.items c.index-in-loop-i-2.result.now.items by_protos))
+    rw (c.deref.ensures.value, c.deref-in-loop-i.ensures.value, c.deref-in-loop-i-2.ensures.value, c.in_ok-methods.ensures.items, c.deref-in-loop-i-3.ensures.value) (methods_among _ _ _ c.tables.result.now.methods.items (methods_movable c.tables.result.now c.tables.ensures.tables c.args.strings.now.rows.items c.index.result.now.items by_strings c.args.types.now.numbers.items c.index-in-loop-i.result.now.items by_types c.args.protos.now.table.parameters.items c.args.protos.now.table.rows.items c.index-in-loop-i-2.result.now.items by_protos))
 
 pub loop-i-preserved : goal.loop-i-preserved
 loop-i-preserved c =
@@ -38,14 +38,14 @@ loop-i-preserved c =
     let by_types = subst (λ (m : Mentions). Moves m.types (map (text_of c.args.strings.now.rows.items) c.args.types.now.numbers.items) c.index-in-loop-i.result.now.items) (sym c.tables.ensures.symbols) seen_types in
     let seen_protos = zip_seen (λ (m : Mentions) image. Moves m.protos (map (proto_of c.args.strings.now.rows.items c.args.types.now.numbers.items c.args.protos.now.table.parameters.items) c.args.protos.now.table.rows.items) image) (λ part. part.now) (λ image. image.items) c.args.parts.now c.args.protos.now.images.items c.loop-i.i c.index-parts-i.result c.index-in-loop-i-2.result.now c.requires.protos.union.moves c.loop-i-test.true c.index-parts-i.is c.index-in-loop-i-2.ensures in
     let by_protos = subst (λ (m : Mentions). Moves m.protos (map (proto_of c.args.strings.now.rows.items c.args.types.now.numbers.items c.args.protos.now.table.parameters.items) c.args.protos.now.table.rows.items) c.index-in-loop-i-2.result.now.items) (sym c.tables.ensures.symbols) seen_protos in
-    let rows = c.in_ok-renumbered_rows.field-0.items in
-    let is = c.in_ok-renumbered_rows.ensures ∙ (λ i. map (moved_method (c.deref.ensures.value i) (c.deref-in-loop-i.ensures.value i) (c.deref-in-loop-i-2.ensures.value i)) (c.deref-in-loop-i-3.ensures.value i)) in
+    let rows = c.renumbered_rows.result.items in
+    let is = c.renumbered_rows.ensures ∙ (λ i. map (moved_method (c.deref.ensures.value i) (c.deref-in-loop-i.ensures.value i) (c.deref-in-loop-i-2.ensures.value i)) ((c.in_ok-methods.ensures.items ∙ c.deref-in-loop-i-3.ensures.value) i)) in
     let are_encoded = methods_at_ranks c.tables.result.now c.tables.ensures.tables c.args.strings.now.rows.items c.index.result.now.items by_strings c.args.types.now.numbers.items c.index-in-loop-i.result.now.items by_types c.args.protos.now.table.parameters.items c.args.protos.now.table.rows.items c.index-in-loop-i-2.result.now.items by_protos rows is in
     record {
       are_encoded = zip_more (λ (part : Mentions) xs. Denote (method_of c.args.strings.now.rows.items c.args.types.now.numbers.items c.args.protos.now.table.parameters.items c.args.protos.now.table.rows.items) (IsMethodWithin (length c.args.strings.now.rows.items) (length c.args.types.now.numbers.items) (length c.args.protos.now.table.rows.items)) part.methods xs) (λ part. part.now) (λ xs. xs.items)
-          c.args.parts.now c.loop-i.rows.items c.push.new.self.items c.loop-i.i c.index-parts-i.result c.in_ok-renumbered_rows.field-0 c.loop-i.invariant.are_encoded c.loop-i-test.true c.index-parts-i.is c.in_ok-push.ensures.items
+          c.args.parts.now c.loop-i.rows.items c.push.new.self.items c.loop-i.i c.index-parts-i.result c.renumbered_rows.result c.loop-i.invariant.are_encoded c.loop-i-test.true c.index-parts-i.is c.in_ok-push.ensures.items
           (subst (λ (m : Mentions). Denote (method_of c.args.strings.now.rows.items c.args.types.now.numbers.items c.args.protos.now.table.parameters.items c.args.protos.now.table.rows.items) (IsMethodWithin (length c.args.strings.now.rows.items) (length c.args.types.now.numbers.items) (length c.args.protos.now.table.rows.items)) m.methods rows) c.tables.ensures.symbols are_encoded);
-      sorted = all_pushed (AreSorted method_key) (λ rows. rows.items) c.loop-i.rows.items c.push.new.self.items c.in_ok-renumbered_rows.field-0 c.in_ok-push.ensures.items c.loop-i.invariant.sorted
+      sorted = all_pushed (AreSorted method_key) (λ rows. rows.items) c.loop-i.rows.items c.push.new.self.items c.renumbered_rows.result c.in_ok-push.ensures.items c.loop-i.invariant.sorted
           (methods_sorted c.tables.result.now c.tables.ensures.tables c.args.strings.now.rows.items (texts_rise (map (λ part. part.now) c.args.parts.now) c.requires.numberings c.args.strings.now.rows.items (map (λ image. image.items) c.args.strings.now.images.items) c.requires.strings) c.index.result.now.items by_strings
           c.args.types.now.numbers.items (type_texts_rise (map (λ part. part.now) c.args.parts.now) c.requires.numberings c.args.strings.now.rows.items (map (λ image. image.items) c.args.strings.now.images.items) c.requires.strings c.args.types.now.numbers.items (map (λ image. image.items) c.args.types.now.images.items) c.requires.types) c.index-in-loop-i.result.now.items by_types
           c.args.protos.now.table.parameters.items c.args.protos.now.table.rows.items (proto_symbols_rise (map (λ part. part.now) c.args.parts.now) c.requires.numberings c.args.strings.now.rows.items (map (λ image. image.items) c.args.strings.now.images.items) c.requires.strings c.args.types.now.numbers.items (map (λ image. image.items) c.args.types.now.images.items) c.requires.types c.args.protos.now.table.parameters.items c.args.protos.now.table.rows.items (map (λ image. image.items) c.args.protos.now.images.items) c.requires.protos) c.index-in-loop-i-2.result.now.items by_protos

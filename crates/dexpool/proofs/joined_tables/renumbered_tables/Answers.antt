@@ -24,7 +24,7 @@ renumbered_protos-requires c =
     let by_strings = subst (λ (m : Mentions). Moves m.texts c.args.strings.now.rows.items c.index.result.now.items) (sym c.tables-part.ensures.symbols) seen_strings in
     let seen_types = zip_seen (λ (m : Mentions) image. Moves m.types (map (text_of c.args.strings.now.rows.items) c.args.types.now.numbers.items) image) (λ part. part.now) (λ image. image.items) c.args.parts.now c.args.types.now.images.items c.loop-i.i c.index-parts-i.result c.index-in-loop-i.result.now c.requires.types.union.moves c.loop-i-test.true c.index-parts-i.is c.index-in-loop-i.ensures in
     let by_types = subst (λ (m : Mentions). Moves m.types (map (text_of c.args.strings.now.rows.items) c.args.types.now.numbers.items) c.index-in-loop-i.result.now.items) (sym c.tables-part.ensures.symbols) seen_types in
-    rw (c.deref.ensures.value, c.deref-in-loop-i.ensures.value, c.deref-in-loop-i-2.ensures.value) (protos_movable c.tables-part.result.now c.tables-part.ensures.tables c.args.strings.now.rows.items c.index.result.now.items by_strings c.args.types.now.numbers.items c.index-in-loop-i.result.now.items by_types)
+    rw (c.in_ok-from_slice.ensures.items, c.deref.ensures.value, c.deref-in-loop-i.ensures.value, c.deref-in-loop-i-2.ensures.value) (protos_movable c.tables-part.result.now c.tables-part.ensures.tables c.args.strings.now.rows.items c.index.result.now.items by_strings c.args.types.now.numbers.items c.index-in-loop-i.result.now.items by_types)
 
 pub loop-i-preserved : goal.loop-i-preserved
 loop-i-preserved c =
@@ -33,7 +33,7 @@ loop-i-preserved c =
     let seen_types = zip_seen (λ (m : Mentions) image. Moves m.types (map (text_of c.args.strings.now.rows.items) c.args.types.now.numbers.items) image) (λ part. part.now) (λ image. image.items) c.args.parts.now c.args.types.now.images.items c.loop-i.i c.index-parts-i.result c.index-in-loop-i.result.now c.requires.types.union.moves c.loop-i-test.true c.index-parts-i.is c.index-in-loop-i.ensures in
     let by_types = subst (λ (m : Mentions). Moves m.types (map (text_of c.args.strings.now.rows.items) c.args.types.now.numbers.items) c.index-in-loop-i.result.now.items) (sym c.tables-part.ensures.symbols) seen_types in
     let table = c.in_ok-renumbered_protos.field-0 in
-    let is = c.in_ok-renumbered_protos.ensures.rows ∙ (λ i. map (moved_proto (c.deref-in-loop-i.ensures.value i) (c.deref-in-loop-i-2.ensures.value i) c.tables-part.result.now.parameters) (c.deref.ensures.value i)) in
+    let is = c.in_ok-renumbered_protos.ensures.rows ∙ (λ i. map (moved_proto (c.deref-in-loop-i.ensures.value i) (c.deref-in-loop-i-2.ensures.value i) c.tables-part.result.now.parameters) ((c.in_ok-from_slice.ensures.items ∙ c.deref.ensures.value) i)) in
     let are_encoded = protos_at_ranks c.tables-part.result.now c.tables-part.ensures.tables c.args.strings.now.rows.items c.index.result.now.items by_strings c.args.types.now.numbers.items c.index-in-loop-i.result.now.items by_types (numbers_in table) is in
     record {
       spans = subst (All HasSpans) (sym c.in_ok-push.ensures.items) (All-push HasSpans c.loop-i.tables.items table c.loop-i.invariant.spans c.in_ok-renumbered_protos.ensures.spans);

@@ -1,14 +1,14 @@
-use Rattle.std.proofs.Common.{arith}
-use Rattle.dexpool.proofs.CutRows.{keeps, leaves}
-use Rattle.dexpool.proofs.kept_tables.marked.Goals.{then-marks-i+in_ok-push, else-marks-i}
+use Rattle.std.proofs.Common.{◌<◌, length, arith}
+use Rattle.dexpool.proofs.CutRows.{cut_more, cut_past}
+use Rattle.dexpool.proofs.kept_tables.marked.Goals.{then-marks-i, else-marks-i}
 use Rattle.dexpool.proofs.kept_tables.marked.Goals as goal
 
 pub loop-i-preserved : goal.loop-i-preserved
 loop-i-preserved g c =
-    let rows = c.args.rows.now in
+    let old = c.args.rows.items in
     let marks = c.args.marks.now in
-    let i = c.loop-i.i in
+    let lt : c.loop-i.i < length old = omega (arith, c.loop-i-test.true, c.len-i-end.ensures, c.args.rows.ok.0) in
     elim c.if-marks-i.branch [
-      | then-marks-i+in_ok-push w ↦ rw w.left-is (keeps rows marks i c.loop-i.left.items w.push.new.self.items w.index-rows-i.result _ (omega arith) (omega arith) w.if-marks-i.true w.index-rows-i.is w.in_ok-push.ensures.items c.loop-i.invariant)
-      | else-marks-i w ↦ rw w.left-is (leaves rows marks i c.loop-i.left.items _ (omega arith) (omega arith) w.if-marks-i.false c.loop-i.invariant)
+      | then-marks-i w ↦ rw (w.rows-is, w.count-is, w.swap.ensures.items) (cut_more old marks c.loop-i.i c.loop-i.count c.loop-i.rows.items c.loop-i.invariant lt c.requires w.if-marks-i.true)
+      | else-marks-i w ↦ rw (w.rows-is, w.count-is) (cut_past old marks c.loop-i.i c.loop-i.count c.loop-i.rows.items c.loop-i.invariant lt c.requires w.if-marks-i.false)
     ]

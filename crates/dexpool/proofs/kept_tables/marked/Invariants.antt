@@ -1,6 +1,5 @@
-use Rattle.std.proofs.Common.{◌≡◌, ◌++◌, drop}
-use Rattle.dexpool.specs.Cut.{kept}
+use Rattle.dexpool.proofs.CutRows.{IsCutTo}
 use Rattle.dexpool.proofs.kept_tables.marked.Given as goal
 
 abbrev pub invariant-loop-i : goal.invariant-loop-i
-invariant-loop-i g l = l.left.items ++ kept (drop l.i l.marks) (drop l.i l.rows) ≡ kept l.marks l.rows
+invariant-loop-i g l = IsCutTo l.fn.rows.items l.marks l.i l.count l.rows.items

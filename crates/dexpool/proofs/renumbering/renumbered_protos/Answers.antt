@@ -1,38 +1,50 @@
-use Rattle.std.proofs.Common.{◌≡◌, [], ◌∷◌, ◌++◌, ◌<◌, length, map, ap, sym, subst, ◌∙◌, arith, slice_index}
+use Rattle.std.proofs.Common.{◌≡◌, [], ◌∷◌, ◌++◌, ◌+◌, ◌<◌, length, map, take, set, ap, sym, subst, ◌∙◌, arith, slice_index}
 use Rattle.std.specs.List.{All}
-use Rattle.std.proofs.lemmas.List.{map_more, take_all}
+use Rattle.std.proofs.lemmas.List.{map_more, take_more_set, length-set}
 use Rattle.dexrows.specs.Numbers.{ProtoNumbers}
 use Rattle.dexpool.specs.declared.rows.ProtoEntry.{ProtoEntry}
-use Rattle.dexpool.specs.Tables.{proto_at}
-use Rattle.dexpool.specs.internal.Renumbering.{moved_proto}
+use Rattle.dexpool.specs.internal.Renumbering.{moved_proto, IsEntryWithin}
+use Rattle.dexpool.proofs.InPlace.{same_at, rest_set, still_holds}
 use Rattle.dexpool.proofs.StoredProtos.{rows_more, spans_more}
 use Rattle.dexpool.proofs.renumbering.renumbered_protos.Goals as goal
 
-pub push_images-requires : goal.push_images-requires
-push_images-requires c =
-    let none : ProtoEntry = record { shorty = 0; return_type = 0; parameters = record { start = 0; end = 0 } } in
-    subst (All (λ n. n < length c.args.types.now)) (sym c.part.ensures) (c.requires c.loop-entry.entry-index none c.loop-entry-test.true).parameters_in
+pub part-requires : goal.part-requires
+part-requires c = (still_holds c.args.rows.items c.loop-i.rows.items c.loop-i.i c.loop-i.invariant.rest (IsEntryWithin (length c.args.strings.now) (length c.args.types.now) c.args.parameters.now) c.index-entry.result.now c.index-entry.ensures (omega (arith, c.loop-i-test.true, c.len-i-end.ensures, c.args.rows.ok.0)) c.requires).span
 
-pub loop-entry-preserved : goal.loop-entry-preserved
-loop-entry-preserved c =
-    let i = c.loop-entry.entry-index in
+pub push_images-requires : goal.push_images-requires
+push_images-requires c = subst (All (λ n. n < length c.args.types.now)) (sym c.part.ensures) (still_holds c.args.rows.items c.loop-i.rows.items c.loop-i.i c.loop-i.invariant.rest (IsEntryWithin (length c.args.strings.now) (length c.args.types.now) c.args.parameters.now) c.index-entry.result.now c.index-entry.ensures (omega (arith, c.loop-i-test.true, c.len-i-end.ensures, c.args.rows.ok.0)) c.requires).parameters_in
+
+pub renumbered-requires-clause-shorty : goal.renumbered-requires-clause-shorty
+renumbered-requires-clause-shorty c = (still_holds c.args.rows.items c.loop-i.rows.items c.loop-i.i c.loop-i.invariant.rest (IsEntryWithin (length c.args.strings.now) (length c.args.types.now) c.args.parameters.now) c.index-entry.result.now c.index-entry.ensures (omega (arith, c.loop-i-test.true, c.len-i-end.ensures, c.args.rows.ok.0)) c.requires).shorty_in
+
+pub renumbered-requires-clause-return_type : goal.renumbered-requires-clause-return_type
+renumbered-requires-clause-return_type c = (still_holds c.args.rows.items c.loop-i.rows.items c.loop-i.i c.loop-i.invariant.rest (IsEntryWithin (length c.args.strings.now) (length c.args.types.now) c.args.parameters.now) c.index-entry.result.now c.index-entry.ensures (omega (arith, c.loop-i-test.true, c.len-i-end.ensures, c.args.rows.ok.0)) c.requires).return_in
+
+pub loop-i-preserved : goal.loop-i-preserved
+loop-i-preserved c =
+    let i = c.loop-i.i in
     let strings = c.args.strings.now in
     let types = c.args.types.now in
     let ps = c.args.parameters.now in
-    let protos = c.args.protos.now in
-    let p = proto_at protos i in
-    let old = c.loop-entry.moved.items in
+    let protos = c.args.rows.items in
+    let rows = c.loop-i.rows.items in
+    let h = c.loop-i.invariant in
+    let lt : i < length protos = omega (arith, c.loop-i-test.true, c.len-i-end.ensures, c.args.rows.ok.0) in
+    let p = c.index-entry.result.now in
+    let moved = c.renumbered.result in
+    let old = c.loop-i.moved.items in
     let new = c.push_images.new.to.items in
-    let entry : ProtoEntry = record { shorty = slice_index strings p.shorty; return_type = slice_index types p.return_type; parameters = record { start = c.len-start.result; end = c.len.result } } in
-    let numbers : ProtoNumbers = record { shorty = entry.shorty; return_type = entry.return_type; parameters = map (slice_index types) c.part.result } in
+    let more = map (slice_index types) c.part.result in
+    let entry : ProtoEntry = record { shorty = slice_index strings p.shorty; return_type = slice_index types p.return_type; parameters = record { start = c.len-start.result; end = c.len-end.result } } in
+    let numbers : ProtoNumbers = record { shorty = entry.shorty; return_type = entry.return_type; parameters = more } in
     let row : numbers ≡ moved_proto strings types ps p = λ k. record { shorty = entry.shorty; return_type = entry.return_type; parameters = map (slice_index types) (c.part.ensures k) } in
+    let pushed : take (i + 1) (set rows i moved) ≡ take i rows ++ entry ∷ [] = take_more_set rows i moved (omega (arith, lt, h.size)) ∙ ap (λ (q : ProtoEntry). take i rows ++ q ∷ []) c.renumbered.ensures in
+    let start : c.len-start.result ≡ length old = omega (arith, c.len-start.ensures, c.loop-i.moved.ok.0) in
+    let end : c.len-end.result ≡ length new = omega (arith, c.len-end.ensures, c.push_images.new.to.ok.0) in
     record {
-      rows = rows_more old new (map (slice_index types) c.part.result) c.in_ok-push_images.ensures c.loop-entry.rows.items c.push.new.self.items entry c.loop-entry.invariant.spans c.in_ok-push.ensures.items
-          (omega (arith, c.len-start.ensures, c.loop-entry.moved.ok.0)) (omega (arith, c.len.ensures, c.push_images.new.to.ok.0))
-          ∙ (λ k. c.loop-entry.invariant.rows k ++ row k ∷ []) ∙ sym (map_more (moved_proto strings types ps) protos i _ c.loop-entry-test.true);
-      spans = spans_more old new (map (slice_index types) c.part.result) c.in_ok-push_images.ensures c.loop-entry.rows.items c.push.new.self.items entry c.loop-entry.invariant.spans c.in_ok-push.ensures.items
-          (omega (arith, c.len-start.ensures, c.loop-entry.moved.ok.0)) (omega (arith, c.len.ensures, c.push_images.new.to.ok.0));
+      so_far = rows_more old new more c.in_ok-push_images.ensures (take i rows) (take (i + 1) (set rows i moved)) entry h.spans pushed start end
+          ∙ (λ k. h.so_far k ++ (row ∙ ap (moved_proto strings types ps) (c.index-entry.ensures ∙ same_at protos rows i h.rest p)) k ∷ []) ∙ sym (map_more (moved_proto strings types ps) protos i p lt);
+      spans = spans_more old new more c.in_ok-push_images.ensures (take i rows) (take (i + 1) (set rows i moved)) entry h.spans pushed start end;
+      rest = rest_set protos rows i h.rest moved;
+      size = length-set rows i moved ∙ h.size;
     }
-
-pub returns-clause-rows : goal.returns-clause-rows
-returns-clause-rows c = c.loop-entry.invariant.rows ∙ ap (map (moved_proto c.args.strings.now c.args.types.now c.args.parameters.now)) (take_all c.loop-entry.entry-index c.args.protos.now c.loop-entry-test.false)

@@ -1,13 +1,10 @@
-use Rattle.std.proofs.Common.{map, ap, ◌∙◌, [], ◌∷◌, ◌++◌, sym}
-use Rattle.std.proofs.lemmas.List.{map_more, take_all}
+use Rattle.std.proofs.Common.{◌<◌, length, set, ap, ◌∙◌, arith}
+use Rattle.std.proofs.lemmas.List.Edits.{map_over_more}
 use Rattle.dexrows.specs.Numbers.{lower_of}
 use Rattle.dexpool.proofs.renumbering.renumbered_rows.Goals as goal
 
-pub loop-row-preserved : goal.loop-row-preserved
-loop-row-preserved g c =
-    let f = g.R.Row.mapped (lower_of c.args.lower) in
-    c.in_ok-push.ensures.items ∙ (λ k. c.loop-row.invariant k ++ (c.renumbered.ensures ∙ ap f c.row-item.is) k ∷ [])
-    ∙ sym (map_more f c.args.rows.now c.loop-row.row-index c.row-item.result c.loop-row-test.true)
-
-pub returns : goal.returns
-returns g c = c.loop-row.invariant ∙ ap (map (g.R.Row.mapped (lower_of c.args.lower))) (take_all c.loop-row.row-index c.args.rows.now c.loop-row-test.false)
+pub loop-i-preserved : goal.loop-i-preserved
+loop-i-preserved g c =
+    let lt : c.loop-i.i < length c.args.rows.items = omega (arith, c.loop-i-test.true, c.len-i-end.ensures, c.args.rows.ok.0) in
+    ap (set c.loop-i.rows.items c.loop-i.i) {y = g.R.Row.mapped (lower_of c.args.lower) c.index.result.now} c.renumbered.ensures
+    ∙ map_over_more (g.R.Row.mapped (lower_of c.args.lower)) c.args.rows.items c.loop-i.rows.items c.loop-i.i c.index.result.now lt c.loop-i.invariant c.index.ensures

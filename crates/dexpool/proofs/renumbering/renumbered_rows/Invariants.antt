@@ -1,6 +1,6 @@
-use Rattle.std.proofs.Common.{◌≡◌, map, take}
+use Rattle.std.proofs.Common.{◌≡◌, ◌++◌, map, take, drop}
 use Rattle.dexrows.specs.Numbers.{lower_of}
 use Rattle.dexpool.proofs.renumbering.renumbered_rows.Given as goal
 
-abbrev pub invariant-loop-row : goal.invariant-loop-row
-invariant-loop-row g l = l.moved.items ≡ map (g.R.Row.mapped (lower_of l.lower)) (take l.row-index l.rows)
+abbrev pub invariant-loop-i : goal.invariant-loop-i
+invariant-loop-i g l = l.rows.items ≡ map (g.R.Row.mapped (lower_of l.lower)) (take l.i l.fn.rows.items) ++ drop l.i l.fn.rows.items

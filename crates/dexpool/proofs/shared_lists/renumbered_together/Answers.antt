@@ -1,25 +1,45 @@
-use Rattle.std.proofs.Common.{ap, ◌∙◌, refl, map, slice_index}
-use Rattle.std.proofs.lemmas.List.{take_all}
+use Rattle.std.proofs.Common.{◌+◌, ◌<◌, length, map, take, set, ap, sym, subst, ◌∙◌, arith, slice_index}
+use Rattle.std.proofs.lemmas.List.{take_more_set, length-set}
 use Rattle.dexpool.specs.declared.rows.ProtoEntry.{ProtoEntry}
-use Rattle.dexpool.specs.internal.Renumbering.{moved_proto}
+use Rattle.dexpool.specs.declared.rows.Span.{Span}
+use Rattle.dexpool.specs.internal.Renumbering.{IsEntryWithin}
+use Rattle.dexpool.specs.internal.SharedLists.{Covers, IsPlaceWithin}
+use Rattle.dexpool.proofs.InPlace.{same_at, rest_set, still_holds}
 use Rattle.dexpool.proofs.SharedLists.{spans_placed, rows_placed}
 use Rattle.dexpool.proofs.shared_lists.renumbered_together.Goals as goal
 
-pub loop-entry-preserved : goal.loop-entry-preserved
-loop-entry-preserved c =
+pub place_within-place-requires : goal.place_within-place-requires
+place_within-place-requires c = still_holds c.args.rows.items c.loop-i.rows.items c.loop-i.i c.loop-i.invariant.rest (λ p. Covers c.args.range p.parameters) c.index-entry.result.now c.index-entry.ensures (omega (arith, c.loop-i-test.true, c.len-i-end.ensures, c.args.rows.ok.0)) c.requires.covers
+
+pub renumbered-requires-clause-shorty : goal.renumbered-requires-clause-shorty
+renumbered-requires-clause-shorty c = (still_holds c.args.rows.items c.loop-i.rows.items c.loop-i.i c.loop-i.invariant.rest (IsEntryWithin (length c.args.lower.strings.now) (length c.args.lower.types.now) c.args.parameters.now) c.index-entry.result.now c.index-entry.ensures (omega (arith, c.loop-i-test.true, c.len-i-end.ensures, c.args.rows.ok.0)) c.requires.protos).shorty_in
+
+pub renumbered-requires-clause-return_type : goal.renumbered-requires-clause-return_type
+renumbered-requires-clause-return_type c = (still_holds c.args.rows.items c.loop-i.rows.items c.loop-i.i c.loop-i.invariant.rest (IsEntryWithin (length c.args.lower.strings.now) (length c.args.lower.types.now) c.args.parameters.now) c.index-entry.result.now c.index-entry.ensures (omega (arith, c.loop-i-test.true, c.len-i-end.ensures, c.args.rows.ok.0)) c.requires.protos).return_in
+
+pub loop-i-preserved : goal.loop-i-preserved
+loop-i-preserved c =
     let strings = c.args.lower.strings.now in
     let types = c.args.lower.types.now in
     let ps = c.args.parameters.now in
-    let protos = c.args.protos.now in
-    let i = c.loop-entry.entry-index in
-    let none : ProtoEntry = record { shorty = 0; return_type = 0; parameters = record { start = 0; end = 0 } } in
-    let lt = c.loop-entry-test.true in
+    let protos = c.args.rows.items in
+    let i = c.loop-i.i in
+    let rows = c.loop-i.rows.items in
+    let h = c.loop-i.invariant in
+    let lt : i < length protos = omega (arith, c.loop-i-test.true, c.len-i-end.ensures, c.args.rows.ok.0) in
+    let p = c.index-entry.result.now in
+    let moved = c.renumbered.result in
+    let is = c.index-entry.ensures ∙ same_at protos rows i h.rest p in
+    let shorty = ap (λ (q : ProtoEntry). q.shorty) c.renumbered.ensures ∙ ap (λ (q : ProtoEntry). slice_index strings q.shorty) is in
+    let back = ap (λ (q : ProtoEntry). q.return_type) c.renumbered.ensures ∙ ap (λ (q : ProtoEntry). slice_index types q.return_type) is in
+    let place = subst (λ (q : ProtoEntry). IsPlaceWithin c.args.range q.parameters moved.parameters) is
+    (subst (λ (s : Span). IsPlaceWithin c.args.range p.parameters s) (sym (ap (λ (q : ProtoEntry). q.parameters) c.renumbered.ensures)) c.place_within-place.ensures) in
+    let pushed = take_more_set rows i moved (omega (arith, lt, h.size)) in
     let images = c.in_ok-moved.ensures ∙ ap (map (slice_index types)) c.part.ensures in
-    let h = (c.requires.protos i none lt).span in
+    let span = (c.requires.protos i p lt).span in
     record {
-      rows = rows_placed strings types ps c.in_ok-moved.moved.items c.args.range c.requires.range images protos c.loop-entry.rows.items c.push.new.self.items i none _ lt h refl refl c.place_within.ensures c.in_ok-push.ensures.items c.loop-entry.invariant.rows;
-      spans = spans_placed strings types ps c.in_ok-moved.moved.items c.args.range c.requires.range images protos c.loop-entry.rows.items c.push.new.self.items i none _ lt h refl refl c.place_within.ensures c.in_ok-push.ensures.items c.loop-entry.invariant.spans;
+      so_far = rows_placed strings types ps c.in_ok-moved.moved.items c.args.range c.requires.range images protos (take i rows) (take (i + 1) (set rows i moved)) i p moved lt span shorty back place pushed h.so_far;
+      spans = spans_placed strings types ps c.in_ok-moved.moved.items c.args.range c.requires.range images protos (take i rows) (take (i + 1) (set rows i moved)) i p moved lt span shorty back place pushed h.spans;
+      rest = rest_set protos rows i h.rest moved;
+      size = length-set rows i moved ∙ h.size;
     }
-
-pub returns-clause-rows : goal.returns-clause-rows
-returns-clause-rows c = c.loop-entry.invariant.rows ∙ ap (map (moved_proto c.args.lower.strings.now c.args.lower.types.now c.args.parameters.now)) (take_all c.loop-entry.entry-index c.args.protos.now c.loop-entry-test.false)

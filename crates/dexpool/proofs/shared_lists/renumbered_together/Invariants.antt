@@ -1,11 +1,13 @@
-use Rattle.std.proofs.Common.{◌≡◌, map, take}
+use Rattle.std.proofs.Common.{◌≡◌, length, map, take, drop}
 use Rattle.std.specs.List.{All}
 use Rattle.dexpool.specs.Reading.{HasSpan}
 use Rattle.dexpool.specs.internal.Renumbering.{numbers_of, moved_proto}
 use Rattle.dexpool.proofs.shared_lists.renumbered_together.Given as goal
 
-abbrev pub invariant-loop-entry : goal.invariant-loop-entry
-invariant-loop-entry l = record {
-  rows : map (numbers_of l.moved.items) l.rows.items ≡ map (moved_proto l.lower.strings.now l.lower.types.now l.parameters) (take l.entry-index l.protos);
-  spans : All (λ entry. HasSpan l.moved.items entry.parameters) l.rows.items;
+abbrev pub invariant-loop-i : goal.invariant-loop-i
+invariant-loop-i l = record {
+  so_far : map (numbers_of l.moved.items) (take l.i l.rows.items) ≡ map (moved_proto l.lower.strings.now l.lower.types.now l.parameters) (take l.i l.fn.rows.items);
+  spans : All (λ entry. HasSpan l.moved.items entry.parameters) (take l.i l.rows.items);
+  rest : drop l.i l.rows.items ≡ drop l.i l.fn.rows.items;
+  size : length l.rows.items ≡ length l.fn.rows.items;
 }

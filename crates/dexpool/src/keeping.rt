@@ -29,7 +29,7 @@ impl<'a> Numbering<'a> {
     {
         let tables = self.copy()?.into_tables();
         let closed = closed(&tables, marks)?;
-        let (tables, remap) = keep_marked(alloc, tables, &closed)?;
+        let (tables, remap) = keep_marked(alloc, tables, closed)?;
         Ok((Numbering { tables }, remap))
     }
 
@@ -57,7 +57,7 @@ impl<'a> Numbering<'a> {
         if closed.are_all() {
             return Ok((Numbering { tables }, None));
         }
-        let (tables, remap) = keep_marked(alloc, tables, &closed)?;
+        let (tables, remap) = keep_marked(alloc, tables, closed)?;
         Ok((Numbering { tables }, Some(remap)))
     }
 }

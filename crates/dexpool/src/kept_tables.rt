@@ -22,52 +22,32 @@ use std::alloc::{AllocError, Global};
 pub(crate) fn keep_marked<'a>(
     alloc: Global,
     tables: Tables<'a>,
-    marks: &Marks,
+    marks: Marks,
 ) -> Result<(Tables<'a>, Remap), AllocError>
     requires tables { AreTables tables }
-    requires marks { AreMarksOf (symbols_in tables) marks.now }
-    requires closed { AreClosed tables marks.now }
-    ensures { IfOk result (λ cut. AreKept tables.entry marks.now cut.0 cut.1) }
+    requires marks { AreMarksOf (symbols_in tables) marks }
+    requires closed { AreClosed tables marks }
+    ensures { IfOk result (λ cut. AreKept tables.entry marks cut.0 cut.1) }
 {
-    let remap = kept_remap(alloc, marks)?;
-    let kept = kept_rows(alloc, tables, marks, &remap)?;
+    let kept = kept_rows(alloc, tables, marks)?;
     sorted_law::<TypeRow>();
     sorted_law::<ProtoRow<'_>>();
     sorted_law::<FieldRow>();
     sorted_law::<MethodRow>();
-    Ok((kept, remap))
+    Ok(kept)
 }
 
-// Where each number leads.
-fn kept_remap(alloc: Global, marks: &Marks) -> Result<Remap, AllocError>
-    ensures { IfOk result (λ remap. remap ≡ kept_places marks.now) }
-{
-    Ok(Remap {
-        strings: places_of(alloc, &marks.strings)?,
-        types: places_of(alloc, &marks.types)?,
-        protos: places_of(alloc, &marks.protos)?,
-        fields: places_of(alloc, &marks.fields)?,
-        methods: places_of(alloc, &marks.methods)?,
-    })
-}
-
-// The tables of the marked rows, by their new numbers.
+// The tables of the marked rows, by their new numbers, and where each number leads.
 fn kept_rows<'a>(
     alloc: Global,
     tables: Tables<'a>,
-    marks: &Marks,
-    remap: &Remap,
-) -> Result<Tables<'a>, AllocError>
+    marks: Marks,
+) -> Result<(Tables<'a>, Remap), AllocError>
     requires tables { AreTables tables }
-    requires marks { AreMarksOf (symbols_in tables) marks.now }
-    requires remap { remap.now ≡ kept_places marks.now }
-    ensures { IfOk result (IsCut tables.entry marks.now) }
+    requires marks { AreMarksOf (symbols_in tables) marks }
+    ensures cut { IfOk result (λ kept. IsCut tables.entry marks kept.0) }
+    ensures remap { IfOk result (λ kept. kept.1 ≡ kept_places marks) }
 {
-    let lower = LowerPlaces {
-        strings: remap.strings.numbers(),
-        types: remap.types.numbers(),
-        protos: remap.protos.numbers(),
-    };
     let Tables {
         strings,
         types,
@@ -81,14 +61,34 @@ fn kept_rows<'a>(
     let protos = marked(protos, &marks.protos);
     let fields = marked(fields, &marks.fields);
     let methods = marked(methods, &marks.methods);
+    let remap = kept_remap(alloc, marks)?;
+    let lower = LowerPlaces {
+        strings: remap.strings.numbers(),
+        types: remap.types.numbers(),
+        protos: remap.protos.numbers(),
+    };
     let protos = renumbered_protos(alloc, protos, &parameters, lower.strings, lower.types)?;
-    Ok(Tables {
+    let kept = Tables {
         strings,
         types: renumbered_numbers(types, lower.strings),
         protos: protos.rows,
         parameters: Parameters::own(protos.parameters),
         fields: renumbered_rows(fields, lower),
         methods: renumbered_rows(methods, lower),
+    };
+    Ok((kept, remap))
+}
+
+// Where each number leads.
+fn kept_remap(alloc: Global, marks: Marks) -> Result<Remap, AllocError>
+    ensures { IfOk result (λ remap. remap ≡ kept_places marks) }
+{
+    Ok(Remap {
+        strings: places_of(alloc, &marks.strings)?,
+        types: places_of(alloc, &marks.types)?,
+        protos: places_of(alloc, &marks.protos)?,
+        fields: places_of(alloc, &marks.fields)?,
+        methods: places_of(alloc, &marks.methods)?,
     })
 }
 

@@ -13,28 +13,28 @@ use Rattle.dexpool.proofs.kept_tables.kept_rows.Goals as goal
 
 pub renumbered_protos-requires : goal.renumbered_protos-requires
 renumbered_protos-requires c =
-    protos_within c.args.tables c.requires.tables c.args.marks.now.protos.items _ (numbers_count _ _ _ (c.numbers.ensures ∙ ap (λ (m : Maps). map number_or_none m.texts) (c.remap.view_is ∙ c.requires.remap)) c.requires.marks.strings_count) _ (numbers_count _ _ _ (c.numbers-2.ensures ∙ ap (λ (m : Maps). map number_or_none m.types) (c.remap.view_is ∙ c.requires.remap)) (c.requires.marks.types_count ∙ length-map c.args.tables.types.items _)) _
+    protos_within c.args.tables c.requires.tables c.args.marks.protos.items _ (numbers_count _ _ _ (c.numbers.ensures ∙ ap (λ (m : Maps). map number_or_none m.texts) (c.remap.view_is ∙ c.in_ok-remap.ensures)) c.requires.marks.strings_count) _ (numbers_count _ _ _ (c.numbers-2.ensures ∙ ap (λ (m : Maps). map number_or_none m.types) (c.remap.view_is ∙ c.in_ok-remap.ensures)) (c.requires.marks.types_count ∙ length-map c.args.tables.types.items _)) _
     (c.marked-protos.ensures ∙ ap (λ (ms : List Bool). kept ms c.args.tables.protos.items) c.deref-3.ensures.value)
 
 pub renumbered_numbers-requires : goal.renumbered_numbers-requires
 renumbered_numbers-requires c =
-    types_within c.args.tables c.requires.tables c.args.marks.now.types.items _ (numbers_count _ _ _ (c.numbers.ensures ∙ ap (λ (m : Maps). map number_or_none m.texts) (c.remap.view_is ∙ c.requires.remap)) c.requires.marks.strings_count) _
+    types_within c.args.tables c.requires.tables c.args.marks.types.items _ (numbers_count _ _ _ (c.numbers.ensures ∙ ap (λ (m : Maps). map number_or_none m.texts) (c.remap.view_is ∙ c.in_ok-remap.ensures)) c.requires.marks.strings_count) _
     (c.marked-types.ensures ∙ ap (λ (ms : List Bool). kept ms c.args.tables.types.items) c.deref-2.ensures.value)
 
 pub renumbered_rows-requires-clause-within : goal.renumbered_rows-requires-clause-within
 renumbered_rows-requires-clause-within c =
-    fields_among _ _ _ (fields_within c.args.tables c.requires.tables c.args.marks.now.fields.items _ (numbers_count _ _ _ (c.numbers.ensures ∙ ap (λ (m : Maps). map number_or_none m.texts) (c.remap.view_is ∙ c.requires.remap)) c.requires.marks.strings_count) _ (numbers_count _ _ _ (c.numbers-2.ensures ∙ ap (λ (m : Maps). map number_or_none m.types) (c.remap.view_is ∙ c.requires.remap)) (c.requires.marks.types_count ∙ length-map c.args.tables.types.items _)) _
+    fields_among _ _ _ (fields_within c.args.tables c.requires.tables c.args.marks.fields.items _ (numbers_count _ _ _ (c.numbers.ensures ∙ ap (λ (m : Maps). map number_or_none m.texts) (c.remap.view_is ∙ c.in_ok-remap.ensures)) c.requires.marks.strings_count) _ (numbers_count _ _ _ (c.numbers-2.ensures ∙ ap (λ (m : Maps). map number_or_none m.types) (c.remap.view_is ∙ c.in_ok-remap.ensures)) (c.requires.marks.types_count ∙ length-map c.args.tables.types.items _)) _
     (c.marked-fields.ensures ∙ ap (λ (ms : List Bool). kept ms c.args.tables.fields.items) c.deref-4.ensures.value))
 
 pub renumbered_rows-requires-2-clause-within : goal.renumbered_rows-requires-2-clause-within
 renumbered_rows-requires-2-clause-within c =
-    methods_among _ _ _ _ (methods_within c.args.tables c.requires.tables c.args.marks.now.methods.items _ (numbers_count _ _ _ (c.numbers.ensures ∙ ap (λ (m : Maps). map number_or_none m.texts) (c.remap.view_is ∙ c.requires.remap)) c.requires.marks.strings_count) _ (numbers_count _ _ _ (c.numbers-2.ensures ∙ ap (λ (m : Maps). map number_or_none m.types) (c.remap.view_is ∙ c.requires.remap)) (c.requires.marks.types_count ∙ length-map c.args.tables.types.items _)) _ (numbers_count _ _ _ (c.numbers-3.ensures ∙ ap (λ (m : Maps). map number_or_none m.protos) (c.remap.view_is ∙ c.requires.remap)) (c.requires.marks.protos_count ∙ length-map c.args.tables.protos.items _)) _
+    methods_among _ _ _ _ (methods_within c.args.tables c.requires.tables c.args.marks.methods.items _ (numbers_count _ _ _ (c.numbers.ensures ∙ ap (λ (m : Maps). map number_or_none m.texts) (c.remap.view_is ∙ c.in_ok-remap.ensures)) c.requires.marks.strings_count) _ (numbers_count _ _ _ (c.numbers-2.ensures ∙ ap (λ (m : Maps). map number_or_none m.types) (c.remap.view_is ∙ c.in_ok-remap.ensures)) (c.requires.marks.types_count ∙ length-map c.args.tables.types.items _)) _ (numbers_count _ _ _ (c.numbers-3.ensures ∙ ap (λ (m : Maps). map number_or_none m.protos) (c.remap.view_is ∙ c.in_ok-remap.ensures)) (c.requires.marks.protos_count ∙ length-map c.args.tables.protos.items _)) _
     (c.marked-methods.ensures ∙ ap (λ (ms : List Bool). kept ms c.args.tables.methods.items) c.deref-5.ensures.value))
 
-pub returns : goal.returns
-returns c =
+pub returns-clause-cut : goal.returns-clause-cut
+returns-clause-cut c =
     let t = c.args.tables in
-    let maps = c.remap.view_is ∙ c.requires.remap in
+    let maps = c.remap.view_is ∙ c.in_ok-remap.ensures in
     let ns = c.numbers.ensures ∙ ap (λ (m : Maps). map number_or_none m.texts) maps in
     let nt = c.numbers-2.ensures ∙ ap (λ (m : Maps). map number_or_none m.types) maps in
     let np = c.numbers-3.ensures ∙ ap (λ (m : Maps). map number_or_none m.protos) maps in

@@ -7,7 +7,7 @@ ghost use Rattle.dexpool.specs.Orderly.{MapsDown};
 ghost use Rattle.dexpool.specs.Uses.{MapsMarked};
 
 use crate::closing::closed;
-use crate::kept_tables::keep_marked;
+use crate::kept_tables::{marked_copies, marked_rows, renumbered};
 use crate::marks::Marks;
 use crate::numbering::Numbering;
 use crate::remap::Remap;
@@ -27,9 +27,10 @@ impl<'a> Numbering<'a> {
         ensures marked { IfOk result (λ cut. MapsMarked marks.now cut.1) }
         ensures down { IfOk result (λ cut. MapsDown cut.1) }
     {
-        let tables = self.copy()?.into_tables();
-        let closed = closed(&tables, marks)?;
-        let (tables, remap) = keep_marked(alloc, tables, closed)?;
+        let tables = self.tables();
+        let marks = closed(tables, marks)?;
+        let rows = marked_copies(alloc, tables, &marks)?;
+        let (tables, remap) = renumbered(alloc, rows, marks)?;
         Ok((Numbering { tables }, remap))
     }
 
@@ -57,7 +58,8 @@ impl<'a> Numbering<'a> {
         if closed.are_all() {
             return Ok((Numbering { tables }, None));
         }
-        let (tables, remap) = keep_marked(alloc, tables, closed)?;
+        let rows = marked_rows(tables, &closed);
+        let (tables, remap) = renumbered(alloc, rows, closed)?;
         Ok((Numbering { tables }, Some(remap)))
     }
 }

@@ -2,51 +2,28 @@
 //! places of the rows below them.
 
 ghost use Rattle.std.specs.Prelude.{◌≡◌, length, IfOk};
+ghost use Rattle.dexpool.specs.declared.tables.Tables.{Tables};
 ghost use Rattle.dexpool.specs.Cut.{kept, places};
 ghost use Rattle.dexpool.specs.Numberings.{AreMarksOf};
 ghost use Rattle.dexpool.specs.Stored.{symbols_in, AreTables};
-ghost use Rattle.dexpool.specs.internal.Closing.{AreClosed, AreKept, IsCut, kept_places};
+ghost use Rattle.dexpool.specs.internal.Closing.{AreClosed, AreMarkedRows, AreKept, IsCut, kept_places};
 
 use crate::images::Images;
 use crate::lists::Parameters;
 use crate::marks::Marks;
+use crate::numbering::copied;
 use crate::remap::Remap;
 use crate::renumbering::{renumbered_numbers, renumbered_protos, renumbered_rows, sorted_law};
 use crate::tables::Tables;
 use dexrows::{FieldRow, LowerPlaces, MethodRow, ProtoRow, TypeRow};
 use std::alloc::{AllocError, Global};
 
-/// The marked rows, where what a marked row names is marked; and where each number leads.
-///
-/// Error: the memory for the map and the parameters was refused.
-pub(crate) fn keep_marked<'a>(
-    alloc: Global,
-    tables: Tables<'a>,
-    marks: Marks,
-) -> Result<(Tables<'a>, Remap), AllocError>
+/// The marked rows by their old numbers, where what a marked row names is marked.
+pub(crate) fn marked_rows<'a>(tables: Tables<'a>, marks: &Marks) -> Tables<'a>
     requires tables { AreTables tables }
-    requires marks { AreMarksOf (symbols_in tables) marks }
-    requires closed { AreClosed tables marks }
-    ensures { IfOk result (λ cut. AreKept tables.entry marks cut.0 cut.1) }
-{
-    let kept = kept_rows(alloc, tables, marks)?;
-    sorted_law::<TypeRow>();
-    sorted_law::<ProtoRow<'_>>();
-    sorted_law::<FieldRow>();
-    sorted_law::<MethodRow>();
-    Ok(kept)
-}
-
-// The tables of the marked rows, by their new numbers, and where each number leads.
-fn kept_rows<'a>(
-    alloc: Global,
-    tables: Tables<'a>,
-    marks: Marks,
-) -> Result<(Tables<'a>, Remap), AllocError>
-    requires tables { AreTables tables }
-    requires marks { AreMarksOf (symbols_in tables) marks }
-    ensures cut { IfOk result (λ kept. IsCut tables.entry marks kept.0) }
-    ensures remap { IfOk result (λ kept. kept.1 ≡ kept_places marks) }
+    requires marks { AreMarksOf (symbols_in tables) marks.now }
+    requires closed { AreClosed tables marks.now }
+    ensures { AreMarkedRows tables.entry marks.now result }
 {
     let Tables {
         strings,
@@ -56,17 +33,85 @@ fn kept_rows<'a>(
         fields,
         methods,
     } = tables;
-    let strings = marked(strings, &marks.strings);
-    let types = marked(types, &marks.types);
-    let protos = marked(protos, &marks.protos);
-    let fields = marked(fields, &marks.fields);
-    let methods = marked(methods, &marks.methods);
+    Tables {
+        strings: marked(strings, &marks.strings),
+        types: marked(types, &marks.types),
+        protos: marked(protos, &marks.protos),
+        parameters,
+        fields: marked(fields, &marks.fields),
+        methods: marked(methods, &marks.methods),
+    }
+}
+
+/// Copies of the [`marked_rows`]. Each table is copied and cut before the next one is, so that no two whole ones are
+/// held.
+///
+/// Error: the memory for the copies was refused.
+pub(crate) fn marked_copies<'a>(
+    alloc: Global,
+    tables: &Tables<'a>,
+    marks: &Marks,
+) -> Result<Tables<'a>, AllocError>
+    requires tables { AreTables tables.now }
+    requires marks { AreMarksOf (symbols_in tables.now) marks.now }
+    requires closed { AreClosed tables.now marks.now }
+    ensures { IfOk result (AreMarkedRows tables.now marks.now) }
+{
+    Ok(Tables {
+        strings: marked(copied(alloc, &tables.strings)?, &marks.strings),
+        types: marked(Vec::from_slice(alloc, &tables.types)?, &marks.types),
+        protos: marked(Vec::from_slice(alloc, &tables.protos)?, &marks.protos),
+        parameters: tables.parameters.copy()?,
+        fields: marked(Vec::from_slice(alloc, &tables.fields)?, &marks.fields),
+        methods: marked(Vec::from_slice(alloc, &tables.methods)?, &marks.methods),
+    })
+}
+
+/// The tables of the marked rows, by their new numbers; and where each number leads.
+///
+/// Condition: these are the marked rows of some tables. Error: the memory for the map and the parameters was refused.
+pub(crate) fn renumbered<'a>(
+    alloc: Global,
+    rows: Tables<'a>,
+    marks: Marks,
+) -> Result<(Tables<'a>, Remap), AllocError>
+    requires { (t : Tables) × AreMarkedRows t marks rows }
+    ensures { IfOk result (λ cut. (t : Tables)
+        → AreMarkedRows t marks rows.entry → AreKept t marks cut.0 cut.1) }
+{
+    let kept = renumbered_tables(alloc, rows, marks)?;
+    sorted_law::<TypeRow>();
+    sorted_law::<ProtoRow<'_>>();
+    sorted_law::<FieldRow>();
+    sorted_law::<MethodRow>();
+    Ok(kept)
+}
+
+// The rows by their new numbers, and where each number leads.
+fn renumbered_tables<'a>(
+    alloc: Global,
+    rows: Tables<'a>,
+    marks: Marks,
+) -> Result<(Tables<'a>, Remap), AllocError>
+    requires { (t : Tables) × AreMarkedRows t marks rows }
+    ensures cut { IfOk result (λ kept. (t : Tables)
+        → AreMarkedRows t marks rows.entry → IsCut t marks kept.0) }
+    ensures remap { IfOk result (λ kept. kept.1 ≡ kept_places marks) }
+{
     let remap = kept_remap(alloc, marks)?;
     let lower = LowerPlaces {
         strings: remap.strings.numbers(),
         types: remap.types.numbers(),
         protos: remap.protos.numbers(),
     };
+    let Tables {
+        strings,
+        types,
+        protos,
+        parameters,
+        fields,
+        methods,
+    } = rows;
     let protos = renumbered_protos(alloc, protos, &parameters, lower.strings, lower.types)?;
     let kept = Tables {
         strings,

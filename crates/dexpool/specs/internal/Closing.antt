@@ -11,7 +11,7 @@ use Rattle.dexpool.specs.declared.tables.Tables.{Tables}
 use Rattle.dexpool.specs.declared.marks.Marks.{Marks}
 use Rattle.dexpool.specs.Tables.{span_of}
 use Rattle.dexpool.specs.Reading.{HasSpan}
-use Rattle.dexpool.specs.Numberings.{Maps}
+use Rattle.dexpool.specs.Numberings.{Maps, AreMarksOf}
 use Rattle.dexpool.specs.internal.Renumbering.{numbers_of, moved_proto, moved_field, moved_method, IsMethodWithin}
 use Rattle.dexpool.specs.Stored.{symbols_in, AreTables}
 
@@ -114,6 +114,18 @@ kept_places marks = record {
   fields = places 0 marks.fields.items;
   methods = places 0 marks.methods.items;
 }
+
+-- the rows are the marked ones of the tables, by their old numbers; what a marked row names is marked
+pub record AreMarkedRows (t : Tables) (marks : Marks) (rows : Tables) : Type 0 where
+  pub tables : AreTables t
+  pub counted : AreMarksOf (symbols_in t) marks
+  pub closed : AreClosed t marks
+  pub strings_are : rows.strings.items ≡ kept marks.strings.items t.strings.items
+  pub types_are : rows.types.items ≡ kept marks.types.items t.types.items
+  pub protos_are : rows.protos.items ≡ kept marks.protos.items t.protos.items
+  pub parameters_are : rows.parameters ≡ t.parameters
+  pub fields_are : rows.fields.items ≡ kept marks.fields.items t.fields.items
+  pub methods_are : rows.methods.items ≡ kept marks.methods.items t.methods.items
 
 -- the tables of the marked symbols, and where each number leads
 pub record AreKept (t : Tables) (marks : Marks) (cut : Tables) (maps : Maps) : Type 0 where

@@ -32,36 +32,39 @@ mentioned c =
 pub returns-then-are_all-clause-kept : goal.returns-then-are_all-clause-kept
 returns-then-are_all-clause-kept c = c.into_tables-tables.ensures.symbols ∙ sym ((whole (goal.at.returns-then-are_all-clause-kept c).In_ok-closed).0 (c.are_all.ensures.0 c.if-are_all.true))
 
-pub keep_marked-requires-clause-marks : goal.keep_marked-requires-clause-marks
-keep_marked-requires-clause-marks c =
-    let k = (goal.at.keep_marked-requires-clause-marks c).In_ok-closed in
+pub marked_rows-rows-requires-clause-marks : goal.marked_rows-rows-requires-clause-marks
+marked_rows-rows-requires-clause-marks c =
+    let k = (goal.at.marked_rows-rows-requires-clause-marks c).In_ok-closed in
     closed_count c.into_tables-tables.result c.into_tables-tables.ensures.tables c.args.marks.now (counted k) c.in_ok-closed.closed c.in_ok-closed.ensures
 
-pub keep_marked-requires-clause-closed : goal.keep_marked-requires-clause-closed
-keep_marked-requires-clause-closed c =
-    let k = (goal.at.keep_marked-requires-clause-closed c).In_ok-closed in
+pub marked_rows-rows-requires-clause-closed : goal.marked_rows-rows-requires-clause-closed
+marked_rows-rows-requires-clause-closed c =
+    let k = (goal.at.marked_rows-rows-requires-clause-closed c).In_ok-closed in
     are_closed c.into_tables-tables.result c.into_tables-tables.ensures.tables c.args.marks.now (counted k) c.in_ok-closed.closed c.in_ok-closed.ensures
+
+pub renumbered-requires : goal.renumbered-requires
+renumbered-requires c = (c.into_tables-tables.result, c.marked_rows-rows.ensures)
 
 pub returns-clause-kept : goal.returns-clause-kept
 returns-clause-kept c =
-    c.in_ok-tables.ensures.symbols_are ∙ ap (kept_symbols c.in_ok-closed.closed) c.into_tables-tables.ensures.symbols ∙ sym (mentioned (goal.at.returns-clause-kept c).In_ok-closed)
+    (c.in_ok-tables.ensures c.into_tables-tables.result c.marked_rows-rows.ensures).symbols_are ∙ ap (kept_symbols c.in_ok-closed.closed) c.into_tables-tables.ensures.symbols ∙ sym (mentioned (goal.at.returns-clause-kept c).In_ok-closed)
 
 pub returns-clause-less : goal.returns-clause-less
 returns-clause-less c e =
     let k = (goal.at.returns-clause-less c).In_ok-closed in
-    false≢true (sym c.if-are_all.false ∙ c.are_all.ensures.1 ((whole k).1 (mentioned k ∙ sym (c.in_ok-tables.ensures.symbols_are ∙ ap (kept_symbols c.in_ok-closed.closed) c.into_tables-tables.ensures.symbols) ∙ e)))
+    false≢true (sym c.if-are_all.false ∙ c.are_all.ensures.1 ((whole k).1 (mentioned k ∙ sym ((c.in_ok-tables.ensures c.into_tables-tables.result c.marked_rows-rows.ensures).symbols_are ∙ ap (kept_symbols c.in_ok-closed.closed) c.into_tables-tables.ensures.symbols) ∙ e)))
 
 pub returns-clause-map : goal.returns-clause-map
 returns-clause-map c =
     let t = c.into_tables-tables.result in
-    let k = c.in_ok-tables.ensures in
+    let k = (c.in_ok-tables.ensures c.into_tables-tables.result c.marked_rows-rows.ensures) in
     let are_mapped = kept_mapped t c.into_tables-tables.ensures.tables c.args.marks.now (counted (goal.at.returns-clause-map c).In_ok-closed) c.in_ok-closed.closed c.in_ok-closed.ensures in
     let there = subst (λ (m : Mentions). AllMapTo (symbols_in t) m (kept_places c.in_ok-closed.closed)) (sym k.symbols_are) are_mapped in
     let maps = subst (λ (r : Maps). AllMapTo (symbols_in t) (symbols_in c.in_ok-tables.tables) r) (sym k.maps_are) there in
     subst (λ (m : Mentions). AllMapTo m (symbols_in c.in_ok-tables.tables) c.in_ok-tables.remap) c.into_tables-tables.ensures.symbols maps
 
 pub returns-clause-marked : goal.returns-clause-marked
-returns-clause-marked c = subst (MapsMarked c.args.marks.now) (sym c.in_ok-tables.ensures.maps_are) (kept_marked c.into_tables-tables.result c.args.marks.now c.in_ok-closed.closed c.in_ok-closed.ensures)
+returns-clause-marked c = subst (MapsMarked c.args.marks.now) (sym (c.in_ok-tables.ensures c.into_tables-tables.result c.marked_rows-rows.ensures).maps_are) (kept_marked c.into_tables-tables.result c.args.marks.now c.in_ok-closed.closed c.in_ok-closed.ensures)
 
 pub returns-clause-down : goal.returns-clause-down
-returns-clause-down c = subst MapsDown (sym c.in_ok-tables.ensures.maps_are) (kept_down c.in_ok-closed.closed)
+returns-clause-down c = subst MapsDown (sym (c.in_ok-tables.ensures c.into_tables-tables.result c.marked_rows-rows.ensures).maps_are) (kept_down c.in_ok-closed.closed)

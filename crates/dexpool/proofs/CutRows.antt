@@ -89,6 +89,3 @@ pub places_else : (marks : List Bool) (i n : ℕ) (d : Bool) (so_far ps : List (
 places_else marks i n d so_far ps less marked grown h =
     let front : places n (drop i marks) ≡ None ∷ places n (drop (i + 1) marks) = rw (drop_more marks i d less, marked) refl in
     ap (λ xs. xs ++ places n (drop (i + 1) marks)) grown ∙ append_assoc so_far (None ∷ []) (places n (drop (i + 1) marks)) ∙ ap (λ xs. so_far ++ xs) (sym front) ∙ h
-
-pub some_place : (so_far : List (Option ℕ)) (m n : ℕ) → m ≡ n → so_far ++ Some m ∷ [] ≡ so_far ++ Some n ∷ []
-some_place so_far m n e = ap (λ k. so_far ++ Some k ∷ []) e

@@ -14,7 +14,7 @@ use Rattle.dexspec.specs.Symbols as symbols
 use Rattle.dexspec.specs.Mentions.{Mentions}
 use Rattle.dexspec.proofs.lists.InOrder.{rises-in_order}
 use Rattle.dexspec.proofs.merge.SymbolOrders.{text_total, text_exact, proto_total, proto_exact, field_total, field_exact, method_total, method_exact}
-use Rattle.dexrows.specs.Join.{row_cmp, AreSorted, IsJoin}
+use Rattle.dexrows.specs.Join.{row_cmp, IsJoin}
 use Rattle.dexrows.specs.Numbers.{ProtoNumbers}
 use Rattle.dexrows.specs.declared.types.TypeRow.{TypeRow}
 use Rattle.dexrows.specs.declared.fields.FieldRow.{FieldRow}
@@ -45,9 +45,6 @@ module _ (parts : List Mentions) (numberings : All IsNumbering parts) where
   texts_of_parts : (ms : List Mentions) → AllZip (λ (part : Mentions) rows. Denote (λ (t : Text). t) (λ (t : Text). Unit {0}) part.texts rows) ms (map (λ (m : Mentions). m.texts) ms)
   texts_of_parts [] = tt
   texts_of_parts (m ∷ ms) = (record { same = map-id m.texts; within = λ k d lt. tt }, texts_of_parts ms)
-
-  pub texts_sorted : All (AreSorted (λ (t : Text). t)) (map (λ (m : Mentions). m.texts) parts)
-  texts_sorted = All-map (AreSorted (λ (t : Text). t)) (λ (m : Mentions). m.texts) parts (All-weaker IsNumbering (λ m. rises text_cmp m.texts ≡ true) (λ m n. n.rising.texts_rise) parts numberings)
 
   pub texts_joined : (joined : List Text) (images : List (List ℕ)) → IsJoin (λ (t : Text). t) (map (λ (m : Mentions). m.texts) parts) joined images → AreJoinedTexts parts joined images
   texts_joined joined images j = same_union (λ (m : Mentions). m.texts) text_cmp parts (map (λ (t : Text). t) joined) joined images (map-id joined)

@@ -1,10 +1,7 @@
--- What a cut leaves: the kept rows rise where the rows do, and each has its place.
-use Rattle.std.proofs.Common.{◌≡◌, ℕ, zero, suc, ◌+◌, ◌<◌, ◌≤◌, Bool, true, false, List, [], ◌∷◌, length, get_or, refl, ap, arith, inl, inr, Ordering, Option, Some, None}
+-- What a cut leaves: each kept row is a row, and has its place.
+use Rattle.std.proofs.Common.{◌≡◌, ℕ, zero, suc, ◌+◌, ◌<◌, ◌≤◌, Bool, true, false, List, [], ◌∷◌, length, get_or, refl, ap, arith, inl, inr, Option, Some, None}
 use Rattle.dexspec.proofs.lists.Members.{AreAmong, Contains-nil, Contains-later, Contains-cons_cases}
-use Rattle.dexspec.proofs.lists.InOrder.{Rises, rises-from_Rises, Rises-from_rises}
-use Rattle.dexrows.specs.Join.{row_cmp, AreSorted}
 use Rattle.dexpool.specs.Cut.{kept, places}
-use Rattle.dexrows.proofs.MergeSteps.{row_total}
 
 -- a kept row is a row
 pub kept_among : {R : Type 0} (marks : List Bool) (rows : List R) → AreAmong (kept marks rows) rows
@@ -15,16 +12,6 @@ kept_among (true ∷ marks) (row ∷ rows) x c = elim (Contains-cons_cases row x
   | inr later ↦ Contains-later row x rows (kept_among marks rows x later)
 ]
 kept_among (false ∷ marks) (row ∷ rows) x c = Contains-later row x rows (kept_among marks rows x c)
-
-Rises-kept : {R : Type 0} (cmp : R → R → Ordering) (marks : List Bool) (rows : List R) → Rises cmp rows → Rises cmp (kept marks rows)
-Rises-kept cmp [] rows h = tt
-Rises-kept cmp (mark ∷ marks) [] h = tt
-Rises-kept cmp (true ∷ marks) (row ∷ rows) h = (λ y c. h.0 y (kept_among marks rows y c), Rises-kept cmp marks rows h.1)
-Rises-kept cmp (false ∷ marks) (row ∷ rows) h = Rises-kept cmp marks rows h.1
-
--- what is kept of a sorted table is sorted
-pub kept_sorted : {R : Type 0} (key : R → List ℕ) (marks : List Bool) (rows : List R) → AreSorted key rows → AreSorted key (kept marks rows)
-kept_sorted key marks rows sorted = rises-from_Rises (row_cmp key) (kept marks rows) (Rises-kept (row_cmp key) marks rows (Rises-from_rises (row_cmp key) (row_total key) rows sorted))
 
 -- ---- places
 

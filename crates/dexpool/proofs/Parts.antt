@@ -1,7 +1,7 @@
 -- What holds of all members of joined lists.
-use Rattle.std.proofs.Common.{ℕ, ◌<◌, List, [], ◌∷◌, ◌++◌, length, map, get_or}
+use Rattle.std.proofs.Common.{List, [], ◌∷◌, ◌++◌, map}
 use Rattle.std.specs.List.{All, flat_map}
-use Rattle.std.proofs.lemmas.List.Elements.{All-nil, All-cons, All-head, All-tail, All-get_or}
+use Rattle.std.proofs.lemmas.List.Elements.{All-nil, All-cons, All-head, All-tail}
 
 pub all_prefix : {X : Type 0} (P : X → Type 0) (xs ys : List X) → All P (xs ++ ys) → All P xs
 all_prefix P [] ys h = All-nil P
@@ -15,9 +15,6 @@ all_back P (x ∷ xs) ys h = all_back P xs ys (All-tail P x (xs ++ ys) h)
 pub all_parts : {X Y : Type 0} (P : Y → Type 0) (f : X → List Y) (xs : List X) → All P (flat_map f xs) → All (λ x. All P (f x)) xs
 all_parts P f [] h = All-nil (λ x. All P (f x))
 all_parts P f (x ∷ xs) h = All-cons (λ x. All P (f x)) x xs (all_prefix P (f x) (flat_map f xs) h) (all_parts P f xs (all_back P (f x) (flat_map f xs) h))
-
-pub all_part : {X Y : Type 0} (P : Y → Type 0) (f : X → List Y) (xs : List X) (i : ℕ) (d : X) → i < length xs → All P (flat_map f xs) → All P (f (get_or xs i d))
-all_part P f xs i d lt h = All-get_or (λ x. All P (f x)) xs i d lt (all_parts P f xs h)
 
 -- what holds of each member holds of all
 pub all_of : {X : Type 0} (P Q : X → Type 0) (xs : List X) → ((x : X) → P x → Q x) → All P xs → All Q xs

@@ -1,5 +1,5 @@
 -- A rank found by halving: of numbers that pass a test and come first, the count is the rank.
-use Rattle.std.proofs.Common.{◌≡◌, ℕ, zero, suc, ◌+◌, ◌<◌, ◌≤◌, Bool, true, false, List, [], ◌∷◌, length, get_or, map, drop, min, add-one, refl, sym, ap, ◌∙◌, subst, arith, inl, inr, Ordering, Less, Equal, Greater}
+use Rattle.std.proofs.Common.{◌≡◌, ℕ, zero, suc, ◌+◌, ◌<◌, ◌≤◌, true, false, List, [], ◌∷◌, length, get_or, map, drop, min, add-one, refl, sym, ap, ◌∙◌, subst, arith, inl, inr, Ordering, Less, Equal, Greater}
 use Rattle.std.specs.Ordering.{is_lt, nat_cmp, ordering_then}
 use Rattle.std.specs.Cmp.Lexicographic.{slice_cmp}
 use Rattle.std.proofs.Math.Seq.{drop-cons}
@@ -11,33 +11,6 @@ use Rattle.dexspec.specs.Lists.{rises, rank}
 use Rattle.dexspec.proofs.lists.InOrder.{less_is, rank-cons, Rises-from_rises, Rises-places}
 use Rattle.dexpool.specs.internal.Ranking.{ComeFirst, PassBelow}
 use Rattle.dexpool.specs.Numberings.{IsAt}
-
--- ---- halving
-
--- where a number passes, those up to it do
-pub pass_up_to : (test : ℕ → Bool) (n m : ℕ) → ComeFirst test n → m < n → test m ≡ true → (i : ℕ) → i < m + 1 → test i ≡ true
-pass_up_to test n m first lt passes i less = elim (cases_order i m) [
-  | inl same ↦ ap test same ∙ passes
-  | inr other ↦ elim other [
-    | inl before ↦ first i m before lt passes
-    | inr after ↦ absurd (omega arith)
-  ]
-]
-
--- a test that is not false is true
-not_false : (b : Bool) → (b ≡ true → ⊥) → b ≡ false
-not_false true h = absurd (h refl)
-not_false false h = refl
-
--- where a number fails, those from it on do
-pub fail_from : (test : ℕ → Bool) (n m : ℕ) → ComeFirst test n → test m ≡ false → (i : ℕ) → m ≤ i → i < n → test i ≡ false
-fail_from test n m first fails i le lt = elim (cases_order m i) [
-  | inl same ↦ ap test (sym same) ∙ fails
-  | inr other ↦ elim other [
-    | inl before ↦ not_false (test i) (λ passes. let k : test m ≡ true = first m i before lt passes in cc)
-    | inr after ↦ absurd (omega arith)
-  ]
-]
 
 -- ---- the rank
 

@@ -1,5 +1,5 @@
 -- Parts of lists of parameters that have the numbers of other parts, and their images.
-use Rattle.std.proofs.Common.{◌≡◌, ℕ, ◌+◌, ◌-◌, ◌<◌, ◌≤◌, List, [], ◌∷◌, ◌++◌, length, get_or, map, take, drop, sym, ap, ◌∙◌, subst, arith, slice_index}
+use Rattle.std.proofs.Common.{◌≡◌, ℕ, ◌+◌, ◌-◌, ◌<◌, List, [], ◌∷◌, ◌++◌, length, get_or, map, take, drop, sym, ap, ◌∙◌, subst, arith, slice_index}
 use Rattle.std.specs.List.{All}
 use Rattle.std.proofs.lemmas.List.{length-map, length-take, length-drop, take-map, drop-map, drop-drop, drop-take, take-take, map_more, map-append}
 use Rattle.std.proofs.lemmas.List.Elements.{All-weaker, All-push, All-more}
@@ -46,16 +46,6 @@ place_in range part place covers some start end =
           ∙ ap (λ n. take n (drop place.start rest)) long
           ∙ ap (take (part.end - part.start)) (drop-drop place.start range.start ps ∙ ap (λ n. drop n ps) at);
     }
-
--- the place of a part without numbers is empty
-pub place_of_none : (range part place : Span) → part.end ≤ part.start → place.start ≡ 0 → place.end ≡ 0 → IsPlaceWithin range part place
-place_of_none range part place none start end = record {
-  within = λ ps r h. record { ordered = omega (arith, start, end); within = omega (arith, end) };
-  same = λ ps r h.
-      let e : place.end - place.start ≡ 0 = omega (arith, start, end) in
-      let f : 0 ≡ part.end - part.start = omega (arith, none) in
-      ap (λ n. take n (drop place.start (span_of ps range))) e ∙ ap (λ n. take n (drop part.start ps)) f;
-}
 
 -- ---- images
 

@@ -11,9 +11,6 @@ use Rattle.dexpool.specs.internal.Renumbering.{numbers_of}
 
 -- ---- the shared list
 
-empty_part : (xs : List ℕ) (n : ℕ) → n ≡ 0 → take n xs ≡ []
-empty_part xs n e = ap (λ (m : ℕ). take m xs) e
-
 -- a part stays as it was where the list grows
 span_grown : (xs ys : List ℕ) (s : Span) → HasSpan xs s → span_of (xs ++ ys) s ≡ span_of xs s
 span_grown xs ys s h =

@@ -1,19 +1,22 @@
--- In a union each number of a part has an image.
+-- In a union each number of a part has an image; and where each number has one, the symbols that occur have.
 use Rattle.std.proofs.Common.{◌≡◌, ℕ, ◌<◌, List, [], ◌∷◌, length, get_or, Option, Some, None, IsSome, refl, subst, arith}
-use Rattle.std.specs.List.{AllZip, Contains, flat_map}
+use Rattle.std.specs.List.{All, AllZip, Contains, flat_map}
 use Rattle.std.specs.Cmp.{IsTotalOrder}
 use Rattle.std.specs.FinMap.{IsAntisymmetric}
 use Rattle.std.specs.declared.cmp.Ordering.{Ordering}
-use Rattle.std.proofs.lemmas.List.Elements.{Contains-get_or}
+use Rattle.std.proofs.lemmas.List.Elements.{All-nil, All-cons, Contains-get_or}
 use Rattle.dexspec.specs.Lists.{in_order}
 use Rattle.dexspec.specs.Texts.{text_cmp}
-use Rattle.dexspec.specs.Symbols.{proto_cmp, field_cmp, method_cmp}
+use Rattle.dexspec.specs.Symbols.{Symbol, TextSymbol, TypeSymbol, ProtoSymbol, FieldSymbol, MethodSymbol, proto_cmp, field_cmp, method_cmp}
 use Rattle.dexspec.specs.Mentions.{Mentions}
 use Rattle.dexspec.proofs.lists.Members.{Contains-first, Contains-later, Contains-flat_map}
 use Rattle.dexspec.proofs.merge.SymbolOrders.{text_total, text_exact, proto_total, proto_exact, field_total, field_exact, method_total, method_exact}
 use Rattle.dexspec.proofs.lists.InOrder.{in_order-has}
+use Rattle.dexpool.specs.declared.symbols.SymbolKind.{SymbolKind}
 use Rattle.dexpool.specs.declared.symbols.SymbolKind.TheVariants as kinds
-use Rattle.dexpool.specs.Numberings.{Maps, image, MapsTo, AllMapTo, union_of}
+use Rattle.dexpool.specs.Numberings.{Maps, image, MapsTo, AllMapTo, IsNumbered, IsOfKind, union_of}
+use Rattle.dexpool.specs.Pools.{count_of}
+use Rattle.dexpool.specs.Uses.{Use, IsUseOf, IsMappedUse}
 use Rattle.dexpool.specs.Laws.{MapsAll}
 
 -- there is a value, or there is none
@@ -49,3 +52,19 @@ zip_members R S (x ∷ xs) (y ∷ ys) f h = (f x y (Contains-first x xs) h.0, zi
 
 pub all_map_to_all : (ms : List Mentions) (all : Mentions) (rs : List Maps) → all ≡ union_of ms → AllZip (λ m r. AllMapTo m all r) ms rs → AllZip MapsAll ms rs
 all_map_to_all ms all rs e h = zip_members (λ m r. AllMapTo m all r) MapsAll ms rs (λ m r c l. maps_all ms m r c (subst (λ n. AllMapTo m n r) e l)) h
+
+-- ---- the symbols that occur
+
+number_within : (m : Mentions) (kind : SymbolKind) (i : ℕ) (s : Symbol) → IsNumbered m i s → IsOfKind kind s → i < count_of kind m
+number_within m kinds.Text i (TextSymbol x) at of = at.within
+number_within m kinds.Typ i (TypeSymbol x) at of = at.within
+number_within m kinds.Proto i (ProtoSymbol x) at of = at.within
+number_within m kinds.Field i (FieldSymbol x) at of = at.within
+number_within m kinds.Method i (MethodSymbol x) at of = at.within
+number_within m _ i _ at of = absurd of
+
+-- where each number has an image, those of the symbols that occur have
+pub uses_mapped : (m : Mentions) (r : Maps) → MapsAll m r → (us : List Use) (ss : List Symbol) → AllZip (IsUseOf m) us ss → All (IsMappedUse r) us
+uses_mapped m r all [] ss h = All-nil (IsMappedUse r)
+uses_mapped m r all (u ∷ us) [] h = absurd h
+uses_mapped m r all (u ∷ us) (s ∷ ss) h = All-cons (IsMappedUse r) u us (all u.kind u.number (number_within m u.kind u.number s h.0.0 h.0.1)) (uses_mapped m r all us ss h.1)

@@ -9,14 +9,21 @@ use Rattle.dexpool.specs.declared.marks.Marks.{Marks}
 use Rattle.dexpool.specs.declared.visiting.Fits.{Fits}
 use Rattle.dexpool.specs.Uses.{Use, HasMark, AreMarkedToo, marks_of, same_kind, occurs}
 use Rattle.dexpool.specs.Images.{IsMapped, MapsUse}
-use Rattle.dexpool.proofs.MarksMade.{none_marked, still_marked}
 use Rattle.dexpool.proofs.Parts.{all_of}
 
 -- ---- marks on one list of symbols after the other
 
+or_false : (b : Bool) → b ≡ (b || false)
+or_false true = refl
+or_false false = refl
+
 or_assoc : (a b c : Bool) → ((a || b) || c) ≡ (a || (b || c))
 or_assoc true b c = refl
 or_assoc false b c = refl
+
+-- no mark is made
+none_marked : (old : Marks) → AreMarkedToo [] old old
+none_marked old = record { count = λ j. refl; each = λ j i. or_false (get_or (marks_of j old) i false) }
 
 -- the marks of two lists, one made after the other
 pub marked_both : (us vs : List Use) (a b c : Marks) → AreMarkedToo us a b → AreMarkedToo vs b c → AreMarkedToo (us ++ vs) a c
@@ -27,7 +34,10 @@ marked_both us vs a b c before more = record {
       ∙ ap (λ (t : Bool). get_or (marks_of j a) i false || t) (sym (list_any-append (λ v. same_kind v.kind j && v.number == i) us vs));
 }
 
--- there still is a mark for each that had one
+-- there still is a mark for what had one
+pub still_marked : (us : List Use) (u : Use) (a b : Marks) → AreMarkedToo us a b → HasMark a u → HasMark b u
+still_marked us u a b h lt = subst (λ (n : ℕ). u.number < n) (sym (h.count u.kind)) lt
+
 pub still_all : (us vs : List Use) (a b : Marks) → AreMarkedToo us a b → All (HasMark a) vs → All (HasMark b) vs
 still_all us vs a b h all = all_of (HasMark a) (HasMark b) vs (λ u lt. still_marked us u a b h lt) all
 

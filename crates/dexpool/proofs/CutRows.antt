@@ -2,29 +2,15 @@
 use Rattle.std.proofs.Common.{◌≡◌, ℕ, ◌+◌, ◌<◌, ◌≤◌, Bool, true, false, List, [], ◌∷◌, ◌++◌, length, get_or, set, take, drop, refl, sym, ap, ◌∙◌, arith, append_assoc, add-one, inl, inr, Option, Some, None}
 use Rattle.std.specs.List.{swap}
 use Rattle.std.proofs.lemmas.Bool.{cases_eq}
-use Rattle.std.proofs.lemmas.List.{length-drop, drop_more, set-set, take_more_set, take-set-le, drop-set-lt, get_or_default}
+use Rattle.std.proofs.lemmas.List.{length-drop, drop_more, set-set, take_more_set, take-set-le, drop-set-lt}
 use Rattle.std.proofs.lemmas.List.Edits.{swap_is, length-swap}
 use Rattle.dexpool.specs.Cut.{kept, places}
 use Rattle.dexpool.proofs.InPlace.{same_at, rest_more}
+use Rattle.dexpool.proofs.KeptRows.{kept_first, kept_next}
 
 first_of : {X : Type 0} (xs : List X) → 0 < length xs → X
 first_of [] lt = absurd (omega arith)
 first_of (x ∷ xs) lt = x
-
-module _ {R : Type 0} (rows : List R) (marks : List Bool) (i : ℕ) where
-  -- a marked row comes to those so far
-  pub keeps : (so_far ys : List R) (row : R) (d : Bool) → i < length rows → i < length marks → get_or marks i d ≡ true → row ≡ get_or rows i row → ys ≡ so_far ++ row ∷ [] → so_far ++ kept (drop i marks) (drop i rows) ≡ kept marks rows → ys ++ kept (drop (i + 1) marks) (drop (i + 1) rows) ≡ kept marks rows
-  keeps so_far ys row d lt less marked at grown h =
-      let front : kept (drop i marks) (drop i rows) ≡ row ∷ kept (drop (i + 1) marks) (drop (i + 1) rows) = rw (drop_more marks i d less, drop_more rows i row lt, marked, ← at) refl in
-      ap (λ xs. xs ++ kept (drop (i + 1) marks) (drop (i + 1) rows)) grown ∙ append_assoc so_far (row ∷ []) (kept (drop (i + 1) marks) (drop (i + 1) rows)) ∙ ap (λ xs. so_far ++ xs) (sym front) ∙ h
-
-  -- and another one does not
-  pub leaves : (so_far : List R) (d : Bool) → i < length rows → i < length marks → get_or marks i d ≡ false → so_far ++ kept (drop i marks) (drop i rows) ≡ kept marks rows → so_far ++ kept (drop (i + 1) marks) (drop (i + 1) rows) ≡ kept marks rows
-  leaves so_far d lt less marked h =
-      let some : 0 < length (drop i rows) = omega (arith, length-drop i rows) in
-      let row = first_of (drop i rows) some in
-      let front : kept (drop i marks) (drop i rows) ≡ kept (drop (i + 1) marks) (drop (i + 1) rows) = rw (drop_more marks i d less, drop_more rows i row lt, marked) refl in
-      ap (λ xs. so_far ++ xs) (sym front) ∙ h
 
 -- ---- a table that is cut in place
 
@@ -56,22 +42,25 @@ pub record IsCutTo {R : Type 0} (old : List R) (marks : List Bool) (i count : �
   pub front : count ≤ i
 
 module _ {R : Type 0} (old : List R) (marks : List Bool) (i count : ℕ) (rows : List R) (h : IsCutTo old marks i count rows) (lt : i < length old) (sized : length marks ≡ length old) where
+  -- any row, where a default is asked for
+  any_row : R
+  any_row = first_of (drop i old) (omega (arith, lt, length-drop i old))
+
   pub cut_more : get_or marks i false ≡ true → IsCutTo old marks (i + 1) (count + 1) (swap rows count i)
   cut_more marked =
-      let d = first_of (drop i old) (omega (arith, lt, length-drop i old)) in
-      let row = get_or old i d in
       let less : i < length rows = omega (arith, lt, h.size) in
+      let left = kept (drop (i + 1) marks) (drop (i + 1) old) in
       record {
-        so_far = keeps old marks i (take count rows) (take (count + 1) (swap rows count i)) row false lt (omega (arith, lt, sized)) marked (get_or_default old i d row lt)
-            (moved_front rows count i d h.front less ∙ ap (λ x. take count rows ++ x ∷ []) (same_at old rows i h.rest d)) h.so_far;
-        rest = left_rest rows count i d h.front less ∙ rest_more old rows i h.rest;
+        so_far = ap (λ xs. xs ++ left) (moved_front rows count i any_row h.front less ∙ ap (λ x. take count rows ++ x ∷ []) (same_at old rows i h.rest any_row))
+            ∙ append_assoc (take count rows) (get_or old i any_row ∷ []) left ∙ ap (λ xs. take count rows ++ xs) (sym (kept_first marks old i any_row lt sized marked)) ∙ h.so_far;
+        rest = left_rest rows count i any_row h.front less ∙ rest_more old rows i h.rest;
         size = length-swap rows count i ∙ h.size;
         front = omega (arith, h.front);
       }
 
   pub cut_past : get_or marks i false ≡ false → IsCutTo old marks (i + 1) count rows
   cut_past unmarked = record {
-    so_far = leaves old marks i (take count rows) false lt (omega (arith, lt, sized)) unmarked h.so_far;
+    so_far = ap (λ xs. take count rows ++ xs) (sym (kept_next marks old i any_row lt sized unmarked)) ∙ h.so_far;
     rest = rest_more old rows i h.rest;
     size = h.size;
     front = omega (arith, h.front);

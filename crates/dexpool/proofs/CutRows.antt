@@ -2,15 +2,29 @@
 use Rattle.std.proofs.Common.{◌≡◌, ℕ, ◌+◌, ◌<◌, ◌≤◌, Bool, true, false, List, [], ◌∷◌, ◌++◌, length, get_or, set, take, drop, refl, sym, ap, ◌∙◌, arith, append_assoc, add-one, inl, inr, Option, Some, None}
 use Rattle.std.specs.List.{swap}
 use Rattle.std.proofs.lemmas.Bool.{cases_eq}
-use Rattle.std.proofs.lemmas.List.{length-drop, drop_more, set-set, take_more_set, take-set-le, drop-set-lt}
+use Rattle.std.proofs.lemmas.List.{drop_more, set-set, take_more_set, take-set-le, drop-set-lt}
 use Rattle.std.proofs.lemmas.List.Edits.{swap_is, length-swap}
 use Rattle.dexpool.specs.Cut.{kept, places}
 use Rattle.dexpool.proofs.InPlace.{same_at, rest_more}
 use Rattle.dexpool.proofs.KeptRows.{kept_first, kept_next}
 
-first_of : {X : Type 0} (xs : List X) → 0 < length xs → X
-first_of [] lt = absurd (omega arith)
-first_of (x ∷ xs) lt = x
+-- any row, where a default is asked for
+pub any_of : {R : Type 0} (rows : List R) (i : ℕ) → i < length rows → R
+any_of [] i lt = absurd (omega arith)
+any_of (row ∷ rows) i lt = row
+
+-- ---- a pass over a table
+
+module _ {R : Type 0} (marks : List Bool) (rows : List R) (i : ℕ) (d : R) (lt : i < length rows) (sized : length marks ≡ length rows) (so_far : List R) where
+  -- a marked row comes to those so far
+  pub keeps : (more : List R) → get_or marks i false ≡ true → more ≡ so_far ++ get_or rows i d ∷ [] → so_far ++ kept (drop i marks) (drop i rows) ≡ kept marks rows → more ++ kept (drop (i + 1) marks) (drop (i + 1) rows) ≡ kept marks rows
+  keeps more marked grown h =
+      let left = kept (drop (i + 1) marks) (drop (i + 1) rows) in
+      ap (λ xs. xs ++ left) grown ∙ append_assoc so_far (get_or rows i d ∷ []) left ∙ ap (λ xs. so_far ++ xs) (sym (kept_first marks rows i d lt sized marked)) ∙ h
+
+  -- and another one does not
+  pub leaves : get_or marks i false ≡ false → so_far ++ kept (drop i marks) (drop i rows) ≡ kept marks rows → so_far ++ kept (drop (i + 1) marks) (drop (i + 1) rows) ≡ kept marks rows
+  leaves unmarked h = ap (λ xs. so_far ++ xs) (sym (kept_next marks rows i d lt sized unmarked)) ∙ h
 
 -- ---- a table that is cut in place
 
@@ -42,25 +56,23 @@ pub record IsCutTo {R : Type 0} (old : List R) (marks : List Bool) (i count : �
   pub front : count ≤ i
 
 module _ {R : Type 0} (old : List R) (marks : List Bool) (i count : ℕ) (rows : List R) (h : IsCutTo old marks i count rows) (lt : i < length old) (sized : length marks ≡ length old) where
-  -- any row, where a default is asked for
-  any_row : R
-  any_row = first_of (drop i old) (omega (arith, lt, length-drop i old))
+  any : R
+  any = any_of old i lt
 
   pub cut_more : get_or marks i false ≡ true → IsCutTo old marks (i + 1) (count + 1) (swap rows count i)
   cut_more marked =
       let less : i < length rows = omega (arith, lt, h.size) in
-      let left = kept (drop (i + 1) marks) (drop (i + 1) old) in
       record {
-        so_far = ap (λ xs. xs ++ left) (moved_front rows count i any_row h.front less ∙ ap (λ x. take count rows ++ x ∷ []) (same_at old rows i h.rest any_row))
-            ∙ append_assoc (take count rows) (get_or old i any_row ∷ []) left ∙ ap (λ xs. take count rows ++ xs) (sym (kept_first marks old i any_row lt sized marked)) ∙ h.so_far;
-        rest = left_rest rows count i any_row h.front less ∙ rest_more old rows i h.rest;
+        so_far = keeps marks old i any lt sized (take count rows) (take (count + 1) (swap rows count i)) marked
+            (moved_front rows count i any h.front less ∙ ap (λ x. take count rows ++ x ∷ []) (same_at old rows i h.rest any)) h.so_far;
+        rest = left_rest rows count i any h.front less ∙ rest_more old rows i h.rest;
         size = length-swap rows count i ∙ h.size;
         front = omega (arith, h.front);
       }
 
   pub cut_past : get_or marks i false ≡ false → IsCutTo old marks (i + 1) count rows
   cut_past unmarked = record {
-    so_far = ap (λ xs. take count rows ++ xs) (sym (kept_next marks old i any_row lt sized unmarked)) ∙ h.so_far;
+    so_far = leaves marks old i any lt sized (take count rows) unmarked h.so_far;
     rest = rest_more old rows i h.rest;
     size = h.size;
     front = omega (arith, h.front);

@@ -11,11 +11,10 @@ ghost use Rattle.dexpool.specs.internal.Closing.{AreClosed, AreMarkedRows, AreKe
 use crate::images::Images;
 use crate::lists::Parameters;
 use crate::marks::Marks;
-use crate::numbering::copied;
 use crate::remap::Remap;
 use crate::renumbering::{renumbered_numbers, renumbered_protos, renumbered_rows, sorted_law};
 use crate::tables::Tables;
-use dexrows::{FieldRow, LowerPlaces, MethodRow, ProtoRow, TypeRow};
+use dexrows::{FieldRow, LowerPlaces, MethodRow, ProtoRow, Row, TypeRow};
 use std::alloc::{AllocError, Global};
 
 /// The marked rows by their old numbers, where what a marked row names is marked.
@@ -43,8 +42,7 @@ pub(crate) fn marked_rows<'a>(tables: Tables<'a>, marks: &Marks) -> Tables<'a>
     }
 }
 
-/// Copies of the [`marked_rows`]. Each table is copied and cut before the next one is, so that no two whole ones are
-/// held.
+/// Copies of the [`marked_rows`], one table after the other.
 ///
 /// Error: the memory for the copies was refused.
 pub(crate) fn marked_copies<'a>(
@@ -58,12 +56,12 @@ pub(crate) fn marked_copies<'a>(
     ensures { IfOk result (AreMarkedRows tables.now marks.now) }
 {
     Ok(Tables {
-        strings: marked(copied(alloc, &tables.strings)?, &marks.strings),
+        strings: marked_copy(alloc, &tables.strings, &marks.strings)?,
         types: marked(Vec::from_slice(alloc, &tables.types)?, &marks.types),
         protos: marked(Vec::from_slice(alloc, &tables.protos)?, &marks.protos),
         parameters: tables.parameters.copy()?,
-        fields: marked(Vec::from_slice(alloc, &tables.fields)?, &marks.fields),
-        methods: marked(Vec::from_slice(alloc, &tables.methods)?, &marks.methods),
+        fields: marked_copy(alloc, &tables.fields, &marks.fields)?,
+        methods: marked_copy(alloc, &tables.methods, &marks.methods)?,
     })
 }
 
@@ -152,6 +150,21 @@ fn marked<T: Drop>(mut rows: Vec<T>, marks: &[bool]) -> Vec<T>
     rows.truncate(count);
     rows.shrink_to_fit();
     rows
+}
+
+// Copies of the rows that are marked.
+fn marked_copy<R: Row>(alloc: Global, rows: &[R], marks: &[bool]) -> Result<Vec<R>, AllocError>
+    requires { length marks.now ≡ length rows.now }
+    ensures { IfOk result (λ copy. copy.items ≡ kept marks.now rows.now) }
+{
+    let count = marks.iter().filter(|is_marked| **is_marked).count();
+    let mut copy = Vec::with_capacity(alloc, count)?;
+    for i in 0..rows.len() {
+        if marks[i] {
+            copy.push(rows[i].copied())?;
+        }
+    }
+    Ok(copy)
 }
 
 // The place of each row among the marked ones, if it is one.

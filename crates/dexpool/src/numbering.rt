@@ -189,8 +189,8 @@ impl<'a> Numbering<'a> {
     }
 }
 
-/// Returns a copy of the texts, in a table of their own.
-pub(crate) fn copied<'a>(alloc: Global, texts: &[Text<'a>]) -> Result<Vec<Text<'a>>, AllocError>
+// Returns a copy of the texts, in a table of their own.
+fn copied<'a>(alloc: Global, texts: &[Text<'a>]) -> Result<Vec<Text<'a>>, AllocError>
     ensures { IfOk result (λ copy. copy.items ≡ texts.now) }
 {
     let mut copy = Vec::with_capacity(alloc, texts.len())?;

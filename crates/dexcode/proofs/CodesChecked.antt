@@ -13,7 +13,8 @@ use Rattle.dexpool.specs.Pools.{ArePools}
 use Rattle.dexpool.specs.Numberings.{AreRising}
 use Rattle.dexinsn.specs.declared.shape.PiecesShape.{PiecesShape}
 use Rattle.dexinsn.specs.Checking.{HasPiecesOf}
-use Rattle.dexinsn.specs.Reading.{AreStartsAt}
+use Rattle.dexinsn.specs.Numbered.{NumberedPiece}
+use Rattle.dexinsn.specs.Reading.{ArePiecesAt, AreStartsAt}
 use Rattle.dexdebug.specs.Checking.{HasDebugAt}
 use Rattle.dexcode.specs.Checking.{HasCodeOf, HasProgramOf, HaveTriesOf, IsProgramFault}
 use Rattle.dexdebug.specs.DebugReading.{IsDebugFault}
@@ -56,9 +57,9 @@ code_weighed law b off m pools rising starts starts_are s pieces tries program t
     }
 
 -- where there are pieces and no debug program, there is no code
-pub program_fault : (b : List ℕ) (off : ℕ) (m : Mentions) (s : PiecesShape) → HasPiecesOf b off m s → (fault : ItemFault) → IsProgramFault b off fault → IsCodeFault b off fault
-program_fault b off m s pieces (Refused number) h = inr (inr (h.0, record { cuts = pieces.at.cuts; pieces = pieces.at.symbolic; at = pieces.at.at }, h.1, h.2))
-program_fault b off m s pieces Memory h = tt
+pub program_fault : {b : List ℕ} {off : ℕ} {m : Mentions} {ps : List NumberedPiece} → ArePiecesAt b off m ps → (fault : ItemFault) → IsProgramFault b off fault → IsCodeFault b off fault
+program_fault pieces (Refused number) h = inr (inr (h.0, record { cuts = pieces.cuts; pieces = pieces.symbolic; at = pieces.at }, h.1, h.2))
+program_fault pieces Memory h = tt
 
 -- the debug program at the offset is that of the code_item
 pub program_found : (b : List ℕ) (off debug_off weight : ℕ) → debug_off ≡ uint_at b (off + 8) → (debug_off ≡ 0 → ⊥) → HasDebugAt b debug_off weight → HasProgramOf b off weight

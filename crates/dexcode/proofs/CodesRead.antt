@@ -1,13 +1,12 @@
 -- Code items read: what is at the offset, and which condition fails.
 use Rattle.std.proofs.Common.{◌≡◌, ◌≢◌, ℕ, ◌+◌, ◌*◌, ◌%◌, Bool, false, List, [], length, map, get_or, Option, Some, None, refl, ap, sym, subst, ◌∙◌, inl, inr, arith}
-use Rattle.std.specs.Prelude.{Result, Ok, Err, IfErr, pos}
+use Rattle.std.specs.Prelude.{pos}
 use Rattle.std.specs.List.{All}
 use Rattle.std.proofs.lemmas.List.Elements.{All-nil}
-use Rattle.dexspec.specs.Lists.{OrNone, SomeAt, BothOrNone}
 use Rattle.dexspec.specs.Bytes.{uint_at, ushort_at}
 use Rattle.dexspec.specs.Mentions.{Mentions}
 use Rattle.dexspec.specs.Pieces.{Cut, Piece, is_instruction_start}
-use Rattle.dexspec.specs.Debug.{Debug, DebugAt}
+use Rattle.dexspec.specs.Debug.{DebugAt}
 use Rattle.dexspec.specs.Code.{code_units, PiecesAt, RegistersAt, CodeAt}
 use Rattle.dexspec.specs.Code as whole
 use Rattle.dexspec.proofs.wellformed.FormedRows.{length-ushorts_at}
@@ -17,18 +16,14 @@ use Rattle.dexpool.specs.Pools.{ArePools}
 use Rattle.dexpool.specs.Numberings.{AreRising}
 use Rattle.dexinsn.specs.Numbered.{NumberedCode}
 use Rattle.dexinsn.specs.Reading.{ArePiecesAt, AreStartsAt}
-use Rattle.dexdebug.specs.Debug.{NumberedDebug, DenotesDebug}
-use Rattle.dexdebug.specs.DebugReading.{IsDebugAt, IsDebugFault}
+use Rattle.dexdebug.specs.Debug.{NumberedDebug}
+use Rattle.dexdebug.specs.DebugReading.{IsDebugAt}
 use Rattle.dexcode.specs.Numbered.{NumberedTry, try_meant}
 use Rattle.dexcode.specs.Reading.{TryItemsAt, TriesAt, IsTriesFault, IsCodeAt, IsCodeFault}
-use Rattle.dexcode.proofs.HandlersRead.{fault_so}
+use Rattle.dexcode.specs.internal.Extras.{IsDebugOf}
 use Rattle.dexcode.proofs.TryRows.{IsInRange, items_found, items_back, items_in_range, tries_encoded}
 
 -- ---- tries, by the number of units
-
-pub if_err_so : {T P Q : Type 0} → (P → Q) → (r : Result T ItemFault) → IfErr r (IsTriesFault P) → IfErr r (IsTriesFault Q)
-if_err_so so (Ok x) h = tt
-if_err_so so (Err fault) h = fault_so so fault h
 
 module _ (starts : List Bool) (types : ℕ) (b : List ℕ) (o units count : ℕ) (units_is : units ≡ uint_at b (o + 12)) (count_is : count ≡ ushort_at b (o + 6)) (some : count ≢ 0) where
   pub even_none : units % 2 ≡ 0 → ((ts : List NumberedTry) → TryItemsAt starts types units b (o + 16 + 2 * units) count ts → ⊥) → (ts : List NumberedTry) → TriesAt starts types b o ts → ⊥
@@ -81,12 +76,6 @@ module _ (b : List ℕ) (off : ℕ) (m : Mentions) (pools : ArePools b m) (risin
       let ts = items_back b m pools rising us cuts starts report (off + 18 + 2 * uint_at b (off + 12)) (ushort_at b (off + 6)) xs g.2 in
       (ts.0, inr (d, inr (g.0, g.1, subst (λ (n : ℕ). TryItemsAt starts (length m.types) n b (off + 18 + 2 * uint_at b (off + 12)) (ushort_at b (off + 6)) ts.0) units ts.1)))
 
--- the debug program, if there is one, is that of the code_item
-pub record IsDebugOf (b : List ℕ) (off : ℕ) (m : Mentions) (d : Option NumberedDebug) : Type 0 where
-  pub program : Option Debug
-  pub at : OrNone (SomeAt DebugAt) None b (uint_at b (off + 8)) program
-  pub encodes : BothOrNone (DenotesDebug m) d program
-
 pub no_debug : (b : List ℕ) (off : ℕ) (m : Mentions) → uint_at b (off + 8) ≡ 0 → IsDebugOf b off m None
 no_debug b off m zero = record { program = None; at = inl (zero, refl); encodes = tt }
 
@@ -127,8 +116,3 @@ tries_fault b off m pools rising starts starts_are body pieces (Refused number) 
       λ cuts ps tries at there. let back = tries_back b off m pools rising starts starts_are cuts ps at tries there in h.1 back.0 back.1,
     ))
 tries_fault b off m pools rising starts starts_are body pieces Memory h = tt
-
-pub debug_fault : (b : List ℕ) (off debug_off : ℕ) (m : Mentions) → debug_off ≡ uint_at b (off + 8) → (debug_off ≡ 0 → ⊥) → (body : NumberedCode) → ArePiecesAt b off m body.pieces → (fault : ItemFault) → IsDebugFault b debug_off fault → IsCodeFault b off fault
-debug_fault b off debug_off m is some body pieces (Refused number) h =
-    inr (inr (h.0, record { cuts = pieces.cuts; pieces = pieces.symbolic; at = pieces.at }, (λ e. some (is ∙ e)), λ d at. h.1 d (subst (λ (o : ℕ). DebugAt b o d) (sym is) at)))
-debug_fault b off debug_off m is some body pieces Memory h = tt

@@ -2,6 +2,7 @@
 
 ghost use Rattle.std.specs.Prelude.{◌≡◌, Some, None, MatchOption, IfOk};
 
+use crate::extras::Extras;
 use crate::tries::Tries;
 use dexdebug::Debug;
 use dexinsn::Pieces;
@@ -15,10 +16,8 @@ use std::marker::Model;
 pub struct Code<'a> {
     /// The numbers of registers, and the instructions and payloads.
     pub(crate) pieces: Pieces<'a>,
-    /// The tries, with the handlers that they name.
-    pub(crate) tries: Tries,
-    /// The debug program, if there is one.
-    pub(crate) debug: Option<Box<Debug<'a>>>,
+    /// The tries, with the handlers that they name, and the debug program.
+    pub(crate) extras: Extras<'a>,
 }
 
 // So that code is dropped by one call, in the crates above too.
@@ -26,19 +25,18 @@ impl Drop for Code<'_> {
     fn drop(self) {
         let Code {
             pieces: _,
-            tries: _,
-            debug: _,
+            extras: _,
         } = self;
     }
 }
 
 impl<'a> Model for Code<'a> {
-    ghost use Rattle.std.specs.Option.{option_map};
     ghost use Rattle.dexcode.specs.Numbered.{NumberedItem};
+    ghost use Rattle.dexcode.specs.internal.Extras.{tries_of, debug_of};
 
     ghost Value = { NumberedItem };
 
-    ghost view = { λ c. record { body = c.pieces; tries = c.tries; debug = option_map (λ debug. debug.value) c.debug } };
+    ghost view = { λ c. record { body = c.pieces; tries = tries_of c.extras; debug = debug_of c.extras } };
 }
 
 impl<'a> Code<'a> {
@@ -54,10 +52,13 @@ impl<'a> Code<'a> {
     /// The tries, with the handlers that they name.
     ///
     /// Source: "code_item", the fields `tries` and `handlers`.
-    pub fn tries(&self) -> &Tries
-        ensures { result.now ≡ self.now.tries }
+    pub fn tries(&self) -> Tries<'_>
+        ensures { result ≡ self.now.tries }
     {
-        &self.tries
+        match &self.extras {
+            Extras::Tries(both) => both.tries.as_tries(),
+            _ => Tries::none(),
+        }
     }
 
     /// The debug program, if there is one.
@@ -67,9 +68,13 @@ impl<'a> Code<'a> {
         ensures { MatchOption result (self.now.debug ≡ None) (λ debug.
             self.now.debug ≡ Some debug.now) }
     {
-        match &self.debug {
-            Some(debug) => Some(debug),
-            None => None,
+        match &self.extras {
+            Extras::None => None,
+            Extras::Debug(debug) => Some(debug),
+            Extras::Tries(both) => match &both.debug {
+                Some(debug) => Some(debug),
+                None => None,
+            },
         }
     }
 
@@ -79,7 +84,11 @@ impl<'a> Code<'a> {
     pub fn drop_debug(&mut self)
         ensures { self.new ≡ record { body = self.old.body; tries = self.old.tries; debug = None } }
     {
-        self.debug = None;
+        match &mut self.extras {
+            Extras::None => {}
+            Extras::Debug(_) => self.extras = Extras::None,
+            Extras::Tries(both) => both.debug = None,
+        }
     }
 
     /// The same code, with lists of its own. Its units are borrowed as before.
@@ -91,15 +100,7 @@ impl<'a> Code<'a> {
         ensures { IfOk result (λ copy. copy ≡ self.now) }
     {
         let pieces = self.pieces.copy()?;
-        let tries = self.tries.copy()?;
-        let debug = match &self.debug {
-            Some(debug) => Some(Box::new(*Box::allocator(debug), debug.copy()?)?),
-            None => None,
-        };
-        Ok(Code {
-            pieces,
-            tries,
-            debug,
-        })
+        let extras = self.extras.copy()?;
+        Ok(Code { pieces, extras })
     }
 }

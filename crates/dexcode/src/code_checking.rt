@@ -35,8 +35,10 @@ impl TriesReader<'_, '_> {
         ensures fault { IfErr result (IsTriesFault
             (HasNoTries self.now.starts.now self.now.types self.now.bytes.now off)) }
     {
-        let tries = self.read_tries(off)?;
-        Ok(tries_weight(&tries))
+        match &self.read_tries(off)? {
+            Some(tries) => Ok(tries_weight(&tries.as_tries())),
+            None => Ok(0),
+        }
     }
 }
 

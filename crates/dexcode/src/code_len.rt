@@ -88,7 +88,7 @@ impl<'a> Code<'a> {
         ensures symbolic { IsCodeLen self.now result }
     {
         code_bytes_law();
-        let (items, handlers) = self.tries.parts();
+        let (items, handlers) = self.tries().parts();
         placed_len(unit_count(&self.pieces), items, list_len(handlers))
     }
 }

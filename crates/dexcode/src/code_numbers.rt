@@ -6,6 +6,7 @@ ghost use Rattle.dexinsn.specs.Fitting.{IsGreatest, short_strings};
 ghost use Rattle.dexcode.specs.Renumbering.{item_uses, HasPlaces, NumbersFit, renumbered_item};
 
 use crate::code::Code;
+use crate::extras::Extras;
 use dexpool::{Marks, Remap, Symbols, Visitor, mark};
 
 impl Symbols for Code<'_> {
@@ -13,7 +14,7 @@ impl Symbols for Code<'_> {
 
     fn visit<V: Visitor>(&self, visitor: &mut V) {
         self.pieces.visit(visitor);
-        self.tries.visit(visitor);
+        self.tries().visit(visitor);
         if let Some(debug) = self.debug() {
             debug.visit(visitor);
         }
@@ -28,7 +29,7 @@ impl<'a> Code<'a> {
         ensures { NumbersFit self.now }
     {
         self.pieces.numbers_fit();
-        self.tries.numbers_fit();
+        self.tries().numbers_fit();
         if let Some(debug) = self.debug() {
             debug.numbers_fit();
         }
@@ -55,9 +56,15 @@ impl<'a> Code<'a> {
         ensures { self.new ≡ renumbered_item remap.now self.old }
     {
         self.pieces.renumber(remap);
-        self.tries.renumber(remap);
-        if let Some(debug) = &mut self.debug {
-            debug.renumber(remap);
+        match &mut self.extras {
+            Extras::None => {}
+            Extras::Debug(debug) => debug.renumber(remap),
+            Extras::Tries(both) => {
+                both.tries.renumber(remap);
+                if let Some(debug) = &mut both.debug {
+                    debug.renumber(remap);
+                }
+            }
         }
     }
 
@@ -85,7 +92,7 @@ impl<'a> Code<'a> {
         if !self.pieces.same_mapped(mine, &other.pieces, theirs) {
             return false;
         }
-        if !self.tries.same_mapped(mine, &other.tries, theirs) {
+        if !self.tries().same_mapped(mine, &other.tries(), theirs) {
             return false;
         }
         match (self.debug(), other.debug()) {

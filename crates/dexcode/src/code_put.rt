@@ -164,7 +164,7 @@ fn encode_head<O: Output>(pieces: &Pieces<'_>, tries: u16, debug_off: u32, out: 
 // Writes a code item. The offsets of its handlers are set in `places`, which has one for each.
 fn encode_placed<O: Output>(
     pieces: &Pieces<'_>,
-    tries: &Tries,
+    tries: &Tries<'_>,
     places: &mut [u16],
     debug_off: u32,
     out: &mut O,
@@ -181,7 +181,7 @@ fn encode_placed<O: Output>(
 }
 
 // Writes a code item.
-fn encode_item<O: Output>(pieces: &Pieces<'_>, tries: &Tries, debug_off: u32, out: &mut O)
+fn encode_item<O: Output>(pieces: &Pieces<'_>, tries: &Tries<'_>, debug_off: u32, out: &mut O)
     requires { All HasShortTypes (handlers_of tries.now) }
     ensures { O.gives (numbered_item_bytes debug_off pieces.now tries.now) out.old out.new }
 {
@@ -214,7 +214,7 @@ impl Encode for CodeItem<'_, '_> {
     ghost bytes = { λ i. numbered_code_bytes i.debug_off i.code.now };
 
     fn encode<O: Output>(&self, out: &mut O) {
-        encode_item(self.code.pieces(), self.code.tries(), self.debug_off, out);
+        encode_item(self.code.pieces(), &self.code.tries(), self.debug_off, out);
     }
 }
 

@@ -1,38 +1,42 @@
 //! Code items read from a file.
 
-ghost use Rattle.std.specs.Prelude.{◌≡◌, ◌≤◌, ◌+◌, ◌*◌, length, IfOk, IfErr};
+ghost use Rattle.std.specs.Prelude.{◌≡◌, ◌≤◌, ◌+◌, ◌*◌, [], length, unwrap_or, IfOk, IfErr};
+ghost use Rattle.std.specs.Option.{option_map};
 ghost use Rattle.dexspec.specs.Bytes.{uint_at};
 ghost use Rattle.dexpool.specs.Pools.{ArePools};
+ghost use Rattle.dexcode.specs.Checking.{IsProgramFault};
 ghost use Rattle.dexcode.specs.Reading.{TriesAt, IsTriesFault, IsCodeAt, IsCodeFault};
+ghost use Rattle.dexcode.specs.internal.Extras.{IsDebugOf};
 ghost use Rattle.dexcode.specs.internal.TriesReading.{HasNoTries};
 
 use crate::code::Code;
-use crate::tries::Tries;
+use crate::extras::Extras;
+use crate::stored_tries::StoredTries;
 use crate::tries_reader::TriesReader;
-use dexdebug::read_debug;
+use dexdebug::{Debug, read_debug};
 use dexhead::{Condition, Frame, u16_at, u32_at};
 use dexinsn::{Scratch, build_pieces, check_pieces};
 use dexpool::{ItemFault, Pools, SymbolKind};
 use std::alloc::Global;
 
 impl TriesReader<'_, '_> {
-    // The tries of the code_item at an offset, where its units are in the data.
-    pub(crate) fn read_tries(&self, off: usize) -> Result<Tries, ItemFault>
+    // The tries of the code_item at an offset, if it has any, where its units are in the data.
+    pub(crate) fn read_tries(&self, off: usize) -> Result<Option<StoredTries>, ItemFault>
         requires { off + 16 + 2 * uint_at self.now.bytes.now (off + 12)
             ≤ length self.now.bytes.now }
-        ensures tries { IfOk result
-            (TriesAt self.now.starts.now self.now.types self.now.bytes.now off) }
+        ensures tries { IfOk result (λ tries. TriesAt self.now.starts.now self.now.types
+            self.now.bytes.now off (unwrap_or tries [])) }
         ensures fault { IfErr result (IsTriesFault
             (HasNoTries self.now.starts.now self.now.types self.now.bytes.now off)) }
     {
         let count = u16_at(self.bytes, off + 6);
         if count == 0 {
-            return Ok(Tries::none());
+            return Ok(None);
         }
         let units = u32_at(self.bytes, off + 12);
         let following = off + 16 + 2 * units as usize;
         if units % 2 == 0 {
-            return self.read_try_table(following, count, units);
+            return Ok(Some(self.read_try_table(following, count, units)?));
         }
         if self.bytes.len() < following + 2 {
             return Err(ItemFault::Refused(Condition::Tries as u8));
@@ -40,8 +44,29 @@ impl TriesReader<'_, '_> {
         if u16_at(self.bytes, following) != 0 {
             return Err(ItemFault::Refused(Condition::Tries as u8));
         }
-        self.read_try_table(following + 2, count, units)
+        Ok(Some(self.read_try_table(following + 2, count, units)?))
     }
+}
+
+// Reads the debug program of the code_item at an offset, if it has one.
+fn read_program<'a>(
+    alloc: Global,
+    frame: &Frame<'a>,
+    pools: &Pools<'_>,
+    off: u32,
+) -> Result<Option<Box<Debug<'a>>>, ItemFault>
+    requires { off + 16 ≤ length frame.now }
+    ensures program { ArePools frame.now pools.now → IfOk result (λ program.
+        IsDebugOf frame.now off pools.now (option_map (λ debug. debug.value) program)) }
+    ensures refused { ArePools frame.now pools.now → IfErr result (IsProgramFault frame.now off) }
+{
+    let debug_off = u32_at(frame.bytes(), off as usize + 8);
+    if debug_off == 0 {
+        return Ok(None);
+    }
+    let program = read_debug(alloc, frame, pools, debug_off)?;
+    let debug = Box::new(alloc, program)?;
+    Ok(Some(debug))
 }
 
 /// Reads the code_item at an offset, whose indices count in the pools: those of the file. Its units are borrowed.
@@ -87,27 +112,14 @@ pub fn read_code_in<'a>(
     let pieces = build_pieces(alloc, frame, pools, off, shape)?;
     let types = pools.len(SymbolKind::Typ);
     let starts = scratch.starts();
-    let bytes = frame.bytes();
     let reader = TriesReader {
         alloc,
-        bytes,
+        bytes: frame.bytes(),
         starts: &starts,
         types,
     };
     let tries = reader.read_tries(off as usize)?;
-    let debug_off = u32_at(bytes, off as usize + 8);
-    if debug_off == 0 {
-        return Ok(Code {
-            pieces,
-            tries,
-            debug: None,
-        });
-    }
-    let program = read_debug(alloc, frame, pools, debug_off)?;
-    let debug = Box::new(alloc, program)?;
-    Ok(Code {
-        pieces,
-        tries,
-        debug: Some(debug),
-    })
+    let debug = read_program(alloc, frame, pools, off)?;
+    let extras = Extras::of(alloc, tries, debug)?;
+    Ok(Code { pieces, extras })
 }

@@ -25,7 +25,7 @@ fn handlers_weight(handlers: &[Handler]) -> u64
 }
 
 // Returns the weight of the tries.
-pub(crate) fn tries_weight(tries: &Tries) -> u64
+pub(crate) fn tries_weight(tries: &Tries<'_>) -> u64
     ensures weight { result ≡ numbered_tries_weight tries.now }
     ensures few { result < 0x10_0000 }
 {
@@ -45,6 +45,6 @@ impl<'a> Code<'a> {
         ensures symbolic { ForDenoted self.now (λ m x. result ≡ code_weight x) }
     {
         code_weight_law();
-        24 + 2 * u64::from(unit_count(&self.pieces)) + tries_weight(&self.tries)
+        24 + 2 * u64::from(unit_count(&self.pieces)) + tries_weight(&self.tries())
     }
 }

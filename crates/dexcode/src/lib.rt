@@ -37,6 +37,7 @@ mod code_put;
 mod code_reading;
 mod code_types;
 mod code_weight;
+mod extras;
 mod handler_list;
 mod handlers;
 mod meaning_laws;

@@ -2,12 +2,12 @@
 
 ghost use Rattle.std.specs.Prelude.{◌≡◌, ◌↔◌, ◌^◌, ◌<◌, ◌≤◌, ◌+◌, ◌*◌, IsTrue, List, length, IfOk, IfSome};
 ghost use Rattle.dexspec.specs.Code.{most_handlers};
-ghost use Rattle.dexcode.specs.Numbered.{AreStored, all_named, handlers_weight};
+ghost use Rattle.dexcode.specs.Numbered.{handlers_weight};
 ghost use Rattle.dexcode.specs.internal.NamedHandlers.{HaveListed};
 ghost use Rattle.dexcode.specs.internal.TriesReading.{HaveLightHandlers, IsFoundNamed, IsMissedHeavy};
 
 use crate::handlers::Handler;
-use crate::tries::Try;
+use crate::tries::{Tries, Try};
 use crate::tries_reader::TriesReader;
 use dexhead::u16_at;
 use indexmap::IndexSet;
@@ -45,12 +45,14 @@ impl Model for StoredTries {
 }
 
 impl StoredTries {
-    // The tries and the handlers.
-    pub(crate) fn parts(&self) -> (&[Try], &[Handler])
-        ensures named { all_named result.1.now result.0.now ≡ self.now }
-        ensures stored { AreStored result.1.now result.0.now }
+    // The tries and the handlers, borrowed.
+    pub(crate) fn as_tries(&self) -> Tries<'_>
+        ensures { result ≡ self.now }
     {
-        (&self.tries, &self.handlers)
+        Tries {
+            tries: &self.tries,
+            handlers: &self.handlers,
+        }
     }
 
     // The same tries, with lists of their own.

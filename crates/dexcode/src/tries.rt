@@ -1,11 +1,9 @@
 //! Tries: the units that are covered, and their handlers.
 
-ghost use Rattle.std.specs.Prelude.{◌≡◌, ◌<◌, List, [], All, length, IfOk};
+ghost use Rattle.std.specs.Prelude.{◌≡◌, ◌<◌, List, [], All, length};
 ghost use Rattle.dexcode.specs.Numbered.{NumberedHandler, AreStored, IsFormedHandler, all_named, handlers_of};
 
 use crate::handlers::Handler;
-use crate::stored_tries::StoredTries;
-use std::alloc::{AllocError, Global};
 use std::marker::Model;
 
 /// The code units that are covered, and the number of their handler.
@@ -21,37 +19,34 @@ pub struct Try {
     pub handler: usize,
 }
 
-/// Tries, and the handlers that they name, each once and in order of first use. Contracts see tries with their
-/// handlers.
+/// The tries of code, and the handlers that they name, each once and in order of first use, both borrowed from the code.
+/// Contracts see tries with their handlers.
 ///
 /// Source: "try_item" and "encoded_catch_handler_list".
-pub struct Tries {
-    // Most code has none.
-    pub(crate) stored: Option<Box<StoredTries>>,
+#[derive(Drop)]
+pub struct Tries<'c> {
+    /// The tries, each with the number of its handler.
+    pub(crate) tries: &'c [Try],
+    /// The handlers that they name, each once.
+    pub(crate) handlers: &'c [Handler],
 }
 
-// So that tries are dropped by one call.
-impl Drop for Tries {
-    fn drop(self) {
-        let Tries { stored: _ } = self;
-    }
-}
-
-impl Model for Tries {
-    ghost use Rattle.std.specs.Prelude.{List, []};
-    ghost use Rattle.std.specs.Option.{option_map_or};
-    ghost use Rattle.dexcode.specs.Numbered.{NumberedTry};
+impl<'c> Model for Tries<'c> {
+    ghost use Rattle.std.specs.Prelude.{List};
+    ghost use Rattle.dexcode.specs.Numbered.{NumberedTry, AreStored, all_named};
 
     ghost Value = { List NumberedTry };
 
-    ghost view = { λ t. option_map_or (λ stored. stored.value) t.stored [] };
+    ghost view = { λ t. all_named t.handlers.now t.tries.now };
+
+    ghost invariant = { λ t. AreStored t.handlers.now t.tries.now };
 }
 
-impl Tries {
+impl<'c> Tries<'c> {
     /// The tries, as read. Each names its handler by its number in [`handlers`](Tries::handlers).
     ///
     /// Source: "try_item".
-    pub fn tries(&self) -> &[Try]
+    pub fn tries(&self) -> &'c [Try]
         ensures tries { (hs : List NumberedHandler) → hs ≡ handlers_of self.now
             → all_named hs result.now ≡ self.now }
         ensures within { All (λ t. t.handler < length (handlers_of self.now)) result.now }
@@ -63,51 +58,28 @@ impl Tries {
     /// and the number of each type that is caught has 32 bits.
     ///
     /// Source: "encoded_catch_handler".
-    pub fn handlers(&self) -> &[Handler]
+    pub fn handlers(&self) -> &'c [Handler]
         ensures handlers { result.now ≡ handlers_of self.now }
         ensures formed { All IsFormedHandler result.now }
     {
         self.parts().1
     }
 
-    /// The same tries, with lists of their own.
-    ///
-    /// Error: the memory for the lists was refused.
-    ///
-    /// Source: "try_item" and "encoded_catch_handler".
-    pub fn copy(&self) -> Result<Tries, AllocError>
-        ensures { IfOk result (λ copy. copy ≡ self.now) }
-    {
-        match &self.stored {
-            Some(stored) => Tries::of(*Box::allocator(stored), stored.copy()?),
-            None => Ok(Tries::none()),
-        }
-    }
-
     // The tries and the handlers, as they are stored.
-    pub(crate) fn parts(&self) -> (&[Try], &[Handler])
+    pub(crate) fn parts(&self) -> (&'c [Try], &'c [Handler])
         ensures named { all_named result.1.now result.0.now ≡ self.now }
         ensures stored { AreStored result.1.now result.0.now }
     {
-        match &self.stored {
-            Some(stored) => stored.parts(),
-            None => (&[], &[]),
-        }
+        (self.tries, self.handlers)
     }
 
     // No tries.
-    pub(crate) fn none() -> Tries
+    pub(crate) fn none() -> Tries<'c>
         ensures { result ≡ [] }
     {
-        Tries { stored: None }
-    }
-
-    // These tries.
-    pub(crate) fn of(alloc: Global, stored: StoredTries) -> Result<Tries, AllocError>
-        ensures { IfOk result (λ tries. tries ≡ stored) }
-    {
-        Ok(Tries {
-            stored: Some(Box::new(alloc, stored)?),
-        })
+        Tries {
+            tries: &[],
+            handlers: &[],
+        }
     }
 }

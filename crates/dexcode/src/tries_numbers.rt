@@ -47,7 +47,7 @@ impl Symbols for Handler {
     }
 }
 
-impl Symbols for Tries {
+impl Symbols for Tries<'_> {
     ghost uses = { tries_uses };
 
     fn visit<V: Visitor>(&self, visitor: &mut V) {
@@ -67,21 +67,11 @@ impl StoredTries {
     }
 }
 
-impl Tries {
+impl Tries<'_> {
     // The number of each type that is caught has 32 bits.
     pub(crate) fn numbers_fit(&self)
         ensures { All (λ u. u.number < 2 ^ 32) (tries_uses self.now) }
     {
         let (_tries, _handlers) = self.parts();
-    }
-
-    // Replaces each type that is caught by the one that it maps to.
-    pub(crate) fn renumber(&mut self, remap: &Remap)
-        requires { All (HasTypePlace remap.now) (tries_uses self.old) }
-        ensures { self.new ≡ map (renumbered_try remap.now) self.old }
-    {
-        if let Some(stored) = &mut self.stored {
-            stored.renumber(remap);
-        }
     }
 }

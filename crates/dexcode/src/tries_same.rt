@@ -118,9 +118,9 @@ impl RemappedTries<'_> {
     }
 }
 
-impl Tries {
+impl Tries<'_> {
     // Whether these and other tries are equal once the types of each are remapped by a map of its own.
-    pub(crate) fn same_mapped(&self, mine: &Remap, other: &Tries, theirs: &Remap) -> bool
+    pub(crate) fn same_mapped(&self, mine: &Remap, other: &Tries<'_>, theirs: &Remap) -> bool
         ensures { IsTrue result
             ↔ SameRemapped renumbered_try mine.now theirs.now self.now other.now }
     {

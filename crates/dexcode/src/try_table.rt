@@ -5,7 +5,6 @@ ghost use Rattle.dexcode.specs.Reading.{TryItemsAt, IsTriesFault};
 ghost use Rattle.dexcode.specs.internal.TriesReading.{NoTryItems};
 
 use crate::stored_tries::StoredTries;
-use crate::tries::Tries;
 use crate::tries_reader::TriesReader;
 use dexhead::Condition;
 use dexpool::ItemFault;
@@ -22,7 +21,7 @@ impl TriesReader<'_, '_> {
         at: usize,
         count: u16,
         units: u32,
-    ) -> Result<Tries, ItemFault>
+    ) -> Result<StoredTries, ItemFault>
         requires { at ≤ length self.now.bytes.now }
         ensures tries { IfOk result (λ tries. TryItemsAt self.now.starts.now self.now.types units
             self.now.bytes.now at count tries) }
@@ -39,7 +38,7 @@ impl TriesReader<'_, '_> {
         let items = self.read_try_items(at, count, units, &numbers)?;
         let tries = StoredTries::of(self, at, list_at, &items)?;
         match tries {
-            Some(tries) => Ok(Tries::of(self.alloc, tries)?),
+            Some(tries) => Ok(tries),
             None => Err(ItemFault::Refused(Condition::Tries as u8)),
         }
     }

@@ -25,7 +25,7 @@ returns-in_err-tries-clause-refused c = λ pools.
 pub returns-in_err-program-clause-refused : goal.returns-in_err-program-clause-refused
 returns-in_err-program-clause-refused c = λ pools.
     let p = err_from_is_err_and c.from_residual-in_err-program.result c.from_residual-in_err-program.ensures.1 in
-    rw (p.1, p.2) (program_fault c.args.frame.now c.args.off c.args.pools.now c.in_ok-pieces.pieces (c.in_ok-pieces.ensures.pieces pools) c.in_err-program.field-0.0 (c.in_err-program.ensures.refused pools))
+    rw (p.1, p.2) (program_fault (c.in_ok-pieces.ensures.pieces pools).at c.in_err-program.field-0.0 (c.in_err-program.ensures.refused pools))
 
 pub returns-clause-code : goal.returns-clause-code
 returns-clause-code c = λ pools.

@@ -3,14 +3,23 @@ use Rattle.std.specs.List.{All}
 use Rattle.std.specs.Option.{option_map}
 use Rattle.dexdebug.specs.Debug.{HasPlace}
 use Rattle.dexcode.specs.Renumbering.{tries_uses, HasTypePlace}
-use Rattle.dexcode.proofs.CodeUses.{optional_debug_uses, debug_part}
+use Rattle.dexcode.specs.internal.Extras.{tries_of, debug_of}
+use Rattle.dexcode.proofs.CodeUses.{debug_part, optional_debug_uses}
 use Rattle.dexcode.proofs.code.Code.renumber.Goals as goal
 
-pub renumber-requires-2 : goal.renumber-requires-2
-renumber-requires-2 c = subst (λ x. All (HasTypePlace c.args.remap.now) (tries_uses x.tries)) (sym c.self.view_is) c.requires.catches_have
+pub renumber-requires-in-Debug : goal.renumber-requires-in-Debug
+renumber-requires-in-Debug c =
+    debug_part (HasPlace c.args.remap.now) (debug_of c.self.inside.extras) c.deref_mut.result.now (subst (λ x. All (HasPlace c.args.remap.now) (optional_debug_uses x.debug)) (sym c.self.view_is) c.requires.debug_has)
+    (ap debug_of c.in-Debug.is ∙ ap Some (sym c.deref_mut.ensures.value))
+
+pub renumber-requires-in-Tries : goal.renumber-requires-in-Tries
+renumber-requires-in-Tries c =
+    let tries = sym (ap (λ x. x.tries) c.self.view_is) ∙ ap tries_of c.in-Tries.is ∙ ap (λ b. b.tries) (sym c.deref_mut-in-Tries.ensures.value) in
+    subst (λ ts. All (HasTypePlace c.args.remap.now) (tries_uses ts)) tries c.requires.catches_have
 
 pub renumber-requires-in-Some : goal.renumber-requires-in-Some
 renumber-requires-in-Some c =
-    let debug = ap (option_map (λ b. b.value)) c.in-Some.is ∙ ap Some (sym c.deref_mut.ensures.value) in
-    debug_part (HasPlace c.args.remap.now) (option_map (λ b. b.value) c.self.inside.debug) c.deref_mut.result.now
-    (subst (λ x. All (HasPlace c.args.remap.now) (optional_debug_uses x.debug)) (sym c.self.view_is) c.requires.debug_has) debug
+    debug_part (HasPlace c.args.remap.now) (debug_of c.self.inside.extras) c.deref_mut-in-Some.result.now (subst (λ x. All (HasPlace c.args.remap.now) (optional_debug_uses x.debug)) (sym c.self.view_is) c.requires.debug_has)
+    (ap debug_of c.in-Tries.is
+    ∙ ap (option_map (λ b. b.value)) (sym (ap (λ b. b.debug) c.deref_mut-in-Tries.ensures.value) ∙ sym (ap (λ b. b.debug) c.deref_mut-in-Tries-2.ensures.value) ∙ c.in-Some.is)
+    ∙ ap Some (sym c.deref_mut-in-Some.ensures.value))

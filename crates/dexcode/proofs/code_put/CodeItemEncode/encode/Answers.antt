@@ -11,5 +11,5 @@ pub returns : goal.returns
 returns g c =
     let gives = g.O.Output.gives in
     let off = c.args.self.now.debug_off in
-    let body = subst (λ body. gives (numbered_item_bytes off body c.tries.result.now) c.args.out.now c.encode_item.new.out) c.pieces.ensures c.encode_item.ensures in
+    let body = subst (λ body. gives (numbered_item_bytes off body c.tries.result) c.args.out.now c.encode_item.new.out) c.pieces.ensures c.encode_item.ensures in
     subst (λ ts. gives (numbered_item_bytes off c.args.self.now.code.now.body ts) c.args.out.now c.encode_item.new.out) c.tries.ensures body

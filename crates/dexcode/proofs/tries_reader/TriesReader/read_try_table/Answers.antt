@@ -44,7 +44,7 @@ returns-in-Some-clause-tries c =
     let hs = list.handlers in
     let is : c.in-Some.tries ≡ all_named hs ts = (rw c.in-Some.is at c.in_ok-tries.ensures.some hs (rw c.deref-2.ensures.value (rw c.from-size.ensures listed))) ∙ (λ i. all_named hs (c.deref-2.ensures.value i)) in
     let light = subst (λ all. handlers_weight (handlers_of all) ≤ most_handlers) is (rw c.in-Some.is at c.in_ok-tries.ensures.light) in
-    subst (TryItemsAt c.args.self.now.starts.now c.args.self.now.types c.args.units c.args.self.now.bytes.now c.args.at c.args.count) (sym (c.in_ok-of-in-Some.ensures ∙ is))
+    subst (TryItemsAt c.args.self.now.starts.now c.args.self.now.types c.args.units c.args.self.now.bytes.now c.args.at c.args.count) (sym is)
     (found_tries c.args.self.now.starts.now c.args.self.now.types c.args.units c.args.self.now.bytes.now c.args.at c.args.count hs numbers ts to list.is read light)
 
 pub returns-clause-fault : goal.returns-clause-fault

@@ -1,0 +1,29 @@
+-- What code has besides its pieces.
+use Rattle.std.specs.Prelude.{ℕ, ◌+◌, List, [], Option, Some, None as nothing}
+use Rattle.std.specs.Option.{option_map}
+use Rattle.dexspec.specs.Bytes.{uint_at}
+use Rattle.dexspec.specs.Debug as symbolic
+use Rattle.dexspec.specs.Lists.{OrNone, SomeAt, BothOrNone}
+use Rattle.dexspec.specs.Mentions.{Mentions}
+use Rattle.dexdebug.specs.Debug.{NumberedDebug, DenotesDebug}
+use Rattle.dexcode.specs.declared.extras.Extras.{Extras}
+use Rattle.dexcode.specs.declared.extras.Extras.TheVariants.{None, Debug, Tries}
+use Rattle.dexcode.specs.Numbered.{NumberedTry}
+
+-- the tries
+abbrev pub tries_of : Extras → List NumberedTry
+tries_of None = []
+tries_of (Debug debug) = []
+tries_of (Tries both) = both.value.tries
+
+-- the debug program, if there is one
+abbrev pub debug_of : Extras → Option NumberedDebug
+debug_of None = nothing
+debug_of (Debug debug) = Some debug.value
+debug_of (Tries both) = option_map (λ debug. debug.value) both.value.debug
+
+-- the debug program, if there is one, is that of the code_item at an offset
+pub record IsDebugOf (b : List ℕ) (off : ℕ) (m : Mentions) (d : Option NumberedDebug) : Type 0 where
+  pub program : Option symbolic.Debug
+  pub at : OrNone (SomeAt symbolic.DebugAt) nothing b (uint_at b (off + 8)) program
+  pub encodes : BothOrNone (DenotesDebug m) d program

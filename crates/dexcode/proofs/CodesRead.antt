@@ -7,7 +7,7 @@ use Rattle.dexspec.specs.Bytes.{uint_at, ushort_at}
 use Rattle.dexspec.specs.Mentions.{Mentions}
 use Rattle.dexspec.specs.Pieces.{Cut, Piece, is_instruction_start}
 use Rattle.dexspec.specs.Debug.{DebugAt}
-use Rattle.dexspec.specs.Code.{code_units, PiecesAt, RegistersAt, CodeAt}
+use Rattle.dexspec.specs.Code.{code_units, PiecesAt, RegistersAt}
 use Rattle.dexspec.specs.Code as whole
 use Rattle.dexspec.proofs.wellformed.FormedRows.{length-ushorts_at}
 use Rattle.dexpool.specs.declared.faults.ItemFault.{ItemFault}

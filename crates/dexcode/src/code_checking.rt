@@ -1,6 +1,6 @@
 //! Code items checked, with nothing kept of them.
 
-ghost use Rattle.std.specs.Prelude.{◌≡◌, ◌^◌, ◌<◌, ◌≤◌, ◌+◌, ◌*◌, length, IfOk, IfErr, OnOk};
+ghost use Rattle.std.specs.Prelude.{◌^◌, ◌<◌, ◌≤◌, ◌+◌, ◌*◌, length, IfOk, IfErr, OnOk};
 ghost use Rattle.dexspec.specs.Bytes.{uint_at};
 ghost use Rattle.dexpool.specs.Pools.{ArePools};
 ghost use Rattle.dexdebug.specs.Checking.{AreCheckedDebugs};

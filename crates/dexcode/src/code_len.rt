@@ -1,10 +1,8 @@
 //! The lengths of code items.
 
-ghost use Rattle.std.specs.Prelude.{◌≡◌, ◌+◌, ◌*◌, ◌^◌, ◌<◌, ◌≤◌, ℕ, length, option_to_list};
-ghost use Rattle.std.specs.List.{flat_map};
+ghost use Rattle.std.specs.Prelude.{◌≡◌, ◌+◌, ◌*◌, ◌^◌, ◌<◌, ◌≤◌, ℕ, length};
 ghost use Rattle.dexspec.specs.Code.{most_handlers};
-ghost use Rattle.dexspec.specs.Numbers.{uleb128};
-ghost use Rattle.dexcode.specs.CodePut.{gap_bytes, handler_count, numbered_catch_bytes, numbered_code_bytes, numbered_handler_bytes, numbered_list_bytes, unit_count, IsCodeLen};
+ghost use Rattle.dexcode.specs.CodePut.{gap_bytes, handler_count, numbered_code_bytes, numbered_handler_bytes, numbered_list_bytes, unit_count, IsCodeLen};
 ghost use Rattle.dexcode.specs.Numbered.{handlers_weight};
 ghost use Rattle.dexcode.specs.internal.Writing.{IsPlacedLen};
 

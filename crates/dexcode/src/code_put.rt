@@ -1,8 +1,7 @@
 //! Code items written.
 
-ghost use Rattle.std.specs.Prelude.{◌≡◌, ◌++◌, ◌*◌, ◌^◌, ◌<◌, ◌≤◌, ℕ, All, ⊤, length, option_to_list};
+ghost use Rattle.std.specs.Prelude.{◌^◌, ◌<◌, ◌≤◌, All, ⊤, length, option_to_list};
 ghost use Rattle.std.specs.List.{flat_map};
-ghost use Rattle.dexspec.specs.Bytes.{ushort, uint};
 ghost use Rattle.dexspec.specs.Code.{most_handlers};
 ghost use Rattle.dexspec.specs.Numbers.{uleb128};
 ghost use Rattle.dexspec.specs.internal.Writing.{Puts};

@@ -1,18 +1,15 @@
 -- Tries and handlers with numbers are where those with types are whose rows have these numbers.
-use Rattle.std.proofs.Common.{◌≡◌, ℕ, suc, ◌+◌, ◌*◌, ◌<◌, ◌≤◌, ◌==◌, Bool, false, List, [], ◌∷◌, ◌++◌, length, map, take, drop, get_or, Option, Some, None, refl, ap, sym, subst, ◌∙◌, arith}
+use Rattle.std.proofs.Common.{◌≡◌, ℕ, suc, ◌+◌, ◌*◌, ◌<◌, ◌≤◌, Bool, false, List, [], ◌∷◌, ◌++◌, length, map, take, drop, get_or, Option, Some, None, refl, ap, sym, subst, ◌∙◌, arith}
 use Rattle.std.specs.Prelude.{ℤ, pos, sum_by}
-use Rattle.std.specs.Bool.{Decides, one_answer}
-use Rattle.std.specs.Option.{option_eq}
+use Rattle.std.specs.Bool.{one_answer}
 use Rattle.std.specs.List.{All, AllZip}
 use Rattle.std.proofs.lemmas.List.Elements.{All-nil, All-cons, All-head, All-tail}
-use Rattle.std.specs.Cmp.{unsigned_Decides, first_so, second_so}
-use Rattle.std.specs.Cmp.Lexicographic.{pointwise, pointwise_decides}
 use Rattle.std.proofs.lemmas.List.{length-map, length-append, map-append, get_or-map, get_or_default}
 use Rattle.std.proofs.lemmas.Simd.{map-map}
 use Rattle.std.proofs.lemmas.List.Sums.{sum_by-cons}
 use Rattle.dexspec.specs.Lists.{Sequence, distinct, rank}
 use Rattle.dexspec.specs.Numbers.{Uleb128At}
-use Rattle.dexspec.specs.Texts.{Text, same_text, text_cmp}
+use Rattle.dexspec.specs.Texts.{Text, text_cmp}
 use Rattle.dexspec.specs.Pieces.{Cut, is_instruction_start}
 use Rattle.dexspec.specs.Mentions.{Mentions}
 use Rattle.dexspec.specs.Code as symbolic
@@ -21,36 +18,14 @@ use Rattle.dexspec.proofs.merge.SymbolOrders.{text_total}
 use Rattle.dexspec.proofs.determined.OneRow.{one_type}
 use Rattle.dexspec.proofs.determined.OneCode as one
 use Rattle.dexspec.proofs.lists.Sequences.{one_sequence}
+use Rattle.dexspec.proofs.written.HandlerPlaces.{handler_decides as symbolic_decides}
 use Rattle.dexpool.specs.Pools.{ArePools}
 use Rattle.dexpool.specs.Numberings.{AreRising}
 use Rattle.dexcode.specs.declared.handlers.Catch.{Catch}
-use Rattle.dexdebug.specs.Equality.{both, option_decides}
 use Rattle.dexcode.specs.Equality.{handler_decides}
 use Rattle.dexcode.specs.Numbered.{NumberedHandler, NumberedTry, no_handler, catch_meant, handler_meant, try_meant, same_handler, handlers_of, handlers_weight, DenotesCatch, DenotesTry}
 use Rattle.dexcode.specs.Reading.{CatchAt, CatchAllAt, HandlerAt, IsHandler, TryAt, AreApart, TryItemsAt}
 use Rattle.dexcode.proofs.Images.{seq_map, seq_back, seq_take, seq_all, split_at, distinct_map}
-
--- ---- equality
-
-same_catch_decides : (c d : symbolic.Catch) → Decides (symbolic.same_catch c d) (c ≡ d)
-same_catch_decides c d =
-    let text = pointwise_decides unsigned_Decides c.type d.type in
-    let number = unsigned_Decides c.address d.address in (
-      λ e. let type : c.type ≡ d.type = text.0 (first_so (same_text c.type d.type) (c.address == d.address) e) in
-          let address : c.address ≡ d.address = number.0 (second_so (same_text c.type d.type) (c.address == d.address) e) in
-          λ i. record { type = type i; address = address i },
-      λ e. both (same_text c.type d.type) (c.address == d.address) (text.1 (ap (λ x. x.type) e)) (number.1 (ap (λ x. x.address) e)),
-    )
-
-same_handler_decides : (h k : symbolic.Handler) → Decides (symbolic.same_handler h k) (h ≡ k)
-same_handler_decides h k =
-    let catches = pointwise symbolic.same_catch h.catches k.catches in
-    let all = option_eq ◌==◌ h.catch_all k.catch_all in (
-      λ e. let first : h.catches ≡ k.catches = (pointwise_decides same_catch_decides h.catches k.catches).0 (first_so catches all e) in
-          let second : h.catch_all ≡ k.catch_all = (option_decides h.catch_all k.catch_all).0 (second_so catches all e) in
-          λ i. record { catches = first i; catch_all = second i },
-      λ e. both catches all ((pointwise_decides same_catch_decides h.catches k.catches).1 (ap (λ x. x.catches) e)) ((option_decides h.catch_all k.catch_all).1 (ap (λ x. x.catch_all) e)),
-    )
 
 -- ---- weight
 
@@ -96,7 +71,7 @@ module _ (m : Mentions) (rising : AreRising m) where
 
   pub same_meant : (h k : NumberedHandler) → IsInRange m h → IsInRange m k → symbolic.same_handler (handler_meant m h) (handler_meant m k) ≡ same_handler h k
   same_meant h k p q =
-      let s = same_handler_decides (handler_meant m h) (handler_meant m k) in
+      let s = symbolic_decides (handler_meant m h) (handler_meant m k) in
       one_answer (symbolic.same_handler (handler_meant m h) (handler_meant m k)) (same_handler h k) ((λ e. one_meaning h k p q (s.0 e)), (λ e. s.1 (ap (handler_meant m) e))) (handler_decides h k)
 
   handlers_map : (ts : List NumberedTry) → map (λ (t : symbolic.Try). t.handler) (map (try_meant m) ts) ≡ map (handler_meant m) (map (λ (t : NumberedTry). t.handler) ts)

@@ -1,5 +1,5 @@
 -- Handlers that are the same are equal, and have equal hashes.
-use Rattle.std.specs.Prelude.{◌≡◌, ◌==◌, ◌++◌, IsTrue}
+use Rattle.std.specs.Prelude.{◌≡◌, ◌==◌, ◌&&◌, ◌++◌, Bool, IsTrue}
 use Rattle.std.proofs.Common.{ap}
 use Rattle.std.specs.Bool.{Decides}
 use Rattle.std.specs.Option.{option_eq}
@@ -10,23 +10,20 @@ use Rattle.dexdebug.specs.Equality.{both, option_decides}
 use Rattle.dexcode.specs.declared.handlers.Catch.{Catch}
 use Rattle.dexcode.specs.Numbered.{NumberedHandler, same_catch, same_handler}
 
+-- a test of two parts decides whether both are equal
+both_decide : {P Q R : Type 0} (a b : Bool) → Decides a P → Decides b Q → (P → Q → R) → (R → P) → (R → Q) → Decides (a && b) R
+both_decide a b p q join first second = (λ e. join (p.0 (first_so a b e)) (q.0 (second_so a b e)), λ e. both a b (p.1 (first e)) (q.1 (second e)))
+
 pub catch_decides : (c d : Catch) → Decides (same_catch c d) (c ≡ d)
-catch_decides c d = (
-  λ e. let typ : c.typ ≡ d.typ = (unsigned_Decides c.typ d.typ).0 (first_so (c.typ == d.typ) (c.addr == d.addr) e) in
-      let addr : c.addr ≡ d.addr = (unsigned_Decides c.addr d.addr).0 (second_so (c.typ == d.typ) (c.addr == d.addr) e) in
-      λ i. record { typ = typ i; addr = addr i },
-  λ e. both (c.typ == d.typ) (c.addr == d.addr) ((unsigned_Decides c.typ d.typ).1 (ap (λ x. x.typ) e)) ((unsigned_Decides c.addr d.addr).1 (ap (λ x. x.addr) e)),
-)
+catch_decides c d =
+    both_decide (c.typ == d.typ) (c.addr == d.addr) (unsigned_Decides c.typ d.typ) (unsigned_Decides c.addr d.addr)
+    (λ e f i. record { typ = e i; addr = f i }) (ap (λ x. x.typ)) (ap (λ x. x.addr))
 
 pub handler_decides : (h k : NumberedHandler) → Decides (same_handler h k) (h ≡ k)
 handler_decides h k =
-    let catches = pointwise same_catch h.catches k.catches in
-    let all = option_eq ◌==◌ h.catch_all_addr k.catch_all_addr in (
-      λ e. let first : h.catches ≡ k.catches = (pointwise_decides catch_decides h.catches k.catches).0 (first_so catches all e) in
-          let second : h.catch_all_addr ≡ k.catch_all_addr = (option_decides h.catch_all_addr k.catch_all_addr).0 (second_so catches all e) in
-          λ i. record { catches = first i; catch_all_addr = second i },
-      λ e. both catches all ((pointwise_decides catch_decides h.catches k.catches).1 (ap (λ x. x.catches) e)) ((option_decides h.catch_all_addr k.catch_all_addr).1 (ap (λ x. x.catch_all_addr) e)),
-    )
+    both_decide (pointwise same_catch h.catches k.catches) (option_eq ◌==◌ h.catch_all_addr k.catch_all_addr)
+    (pointwise_decides catch_decides h.catches k.catches) (option_decides h.catch_all_addr k.catch_all_addr)
+    (λ e f i. record { catches = e i; catch_all_addr = f i }) (ap (λ x. x.catches)) (ap (λ x. x.catch_all_addr))
 
 pub handler_equiv : IsEquivalence same_handler
 handler_equiv = decided same_handler handler_decides

@@ -13,7 +13,7 @@ use Rattle.dexcode.specs.declared.handlers.Catch.{Catch}
 use Rattle.dexcode.specs.Numbered.{NumberedHandler}
 use Rattle.dexcode.specs.internal.NamedHandlers.{HaveCatches}
 use Rattle.dexcode.specs.Reading.{IsStart, IsTriesFault, CatchAt, CatchesRead, CatchAllAt, HandlerAt}
-use Rattle.dexcode.proofs.Prefixes.{sequence_more}
+use Rattle.dexdebug.proofs.DebugRuns.{one_after}
 use Rattle.dexcode.proofs.OneHandler.{one_catch}
 
 -- a fault has another reason that follows
@@ -69,7 +69,7 @@ pub one_catch_more : (starts : List Bool) (types : ℕ) (b : List ℕ) (o count 
 one_catch_more starts types b o count size n c h at within = record {
   catches = h.catches ++ c ∷ [];
   read = record {
-    are_encoded = sequence_more (CatchAt starts types) b o h.catches c size n h.read.are_encoded at;
+    are_encoded = one_after (CatchAt starts types) b o h.catches c size n h.read.are_encoded at;
     many = omega (arith, length-append h.catches (c ∷ []), h.read.many);
     within = omega (arith, within);
   };

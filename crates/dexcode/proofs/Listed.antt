@@ -1,7 +1,7 @@
 -- Handlers one after the other, and their numbers by the bytes of their list.
-use Rattle.std.proofs.Common.{◌≡◌, ◌≢◌, ◌⊎◌, ℕ, zero, suc, ◌+◌, ◌-◌, ◌<◌, ◌≤◌, ◌^◌, Bool, List, [], ◌∷◌, ◌++◌, length, take, get_or, Option, Some, None, refl, ap, sym, subst, ◌∙◌, inl, inr, arith}
+use Rattle.std.proofs.Common.{◌≡◌, ◌≢◌, ℕ, zero, suc, ◌+◌, ◌-◌, ◌<◌, ◌≤◌, ◌^◌, Bool, List, [], ◌∷◌, ◌++◌, length, take, get_or, Option, Some, None, refl, ap, sym, subst, ◌∙◌, inl, inr, arith}
 use Rattle.std.specs.Prelude.{ℤ, unwrap_or}
-use Rattle.std.proofs.lemmas.Bool.{cases_eq}
+use Rattle.std.proofs.lemmas.Bool.{cases_eq, cases_lt}
 use Rattle.std.proofs.lemmas.List.{length-append, get_or_past, take-append-le, take_all}
 use Rattle.dexspec.specs.Lists.{Sequence}
 use Rattle.dexspec.specs.Numbers.{Sleb128At}
@@ -9,27 +9,17 @@ use Rattle.dexspec.proofs.lists.Sequences.{one_sequence}
 use Rattle.dexcode.specs.Numbered.{NumberedHandler}
 use Rattle.dexcode.specs.internal.NamedHandlers.{HasHandler}
 use Rattle.dexcode.specs.Reading.{HandlerAt, HandlersRead, BeginsAt, AreNumbered, IsNumberPut}
-use Rattle.dexcode.proofs.Prefixes.{sequence_more}
+use Rattle.dexdebug.proofs.DebugRuns.{one_after}
 use Rattle.dexcode.proofs.OneHandler.{one_handler}
-
--- one number is less than another, or is not
-pub below_or_not : (i j : ℕ) → (i < j) ⊎ (j ≤ i)
-below_or_not i zero = inr (omega arith)
-below_or_not zero (suc j) = inl (omega arith)
-below_or_not (suc i) (suc j) = elim (below_or_not i j) [ inl lt ↦ inl (omega (arith, lt)) | inr le ↦ inr (omega (arith, le)) ]
 
 -- a number with a sign takes a byte or more
 pub sleb_some : (b : List ℕ) (o : ℕ) (v : ℤ) (n : ℕ) → Sleb128At b o v n → 0 < n
 sleb_some b o v zero h = absurd h.spelled.chain
 sleb_some b o v (suc n) h = omega arith
 
-abbrev is_some : Option ℕ → Bool
-is_some None = Bool.false
-is_some (Some n) = Bool.true
-
 -- where nothing is, no number is
 pub no_number : (i : ℕ) → None ≡ Some i → ⊥
-no_number i e = let f : Bool.false ≡ Bool.true = ap is_some e in cc
+no_number i e = cc
 
 module _ (starts : List Bool) (types : ℕ) where
   -- a handler takes a byte or more
@@ -65,7 +55,7 @@ module _ (starts : List Bool) (types : ℕ) where
       → AreNumbered starts types b o first hs numbers → IsNumberPut place (length hs) numbers numbers' → AreNumbered starts types b o first (hs ++ h ∷ []) numbers'
   numbered_more b o first n place hs h numbers numbers' are_encoded at short numbered put = record {
     begins = λ k i e. elim (cases_eq k place) [
-      | inl here ↦ elim (below_or_not place (2 ^ 16)) [
+      | inl here ↦ elim (cases_lt place (2 ^ 16)) [
         | inl near ↦
             let is : Some (length hs) ≡ Some i = sym (put.here near) ∙ ap (λ (p : ℕ). get_or numbers' p None) (sym here) ∙ e in
             let last : length hs ≡ i = ap (λ (x : Option ℕ). unwrap_or x 0) is in
@@ -76,7 +66,7 @@ module _ (starts : List Bool) (types : ℕ) where
           let old = numbered.begins k i (sym (put.others k other) ∙ e) in
           (old.0, begins_more b first hs (h ∷ []) i old.0 old.1, old.2)
     ];
-    known = λ k i before lt begins e. elim (below_or_not i (length hs)) [
+    known = λ k i before lt begins e. elim (cases_lt i (length hs)) [
       | inl less ↦
           let old : get_or numbers k None ≡ Some i = numbered.known k i before lt (begins_less b first hs (h ∷ []) i before less begins) e in
           let other : k ≢ place = λ here. no_number i (sym (get_or_past numbers k None (omega (arith, here, short))) ∙ old) in
@@ -102,7 +92,7 @@ module _ (starts : List Bool) (types : ℕ) where
   one_handler_more b o first count size n hs numbers numbers' order read more put =
       let place : o + (first + size - o) ≡ first + size = omega (arith, order) in
       record {
-        are_encoded = sequence_more (HandlerAt starts types) b first hs more.handler size n read.are_encoded more.encodes;
+        are_encoded = one_after (HandlerAt starts types) b first hs more.handler size n read.are_encoded more.encodes;
         many = omega (arith, length-append hs (more.handler ∷ []), read.many);
         within = omega (arith, more.within);
         short = omega (arith, put.short, handler_some b (first + size) more.handler n more.encodes);

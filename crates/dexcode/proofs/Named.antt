@@ -1,35 +1,25 @@
 -- Tries and the list of the handlers that they name.
-use Rattle.std.proofs.Common.{◌≡◌, ℕ, zero, suc, ◌+◌, ◌<◌, ◌||◌, Bool, true, false, List, [], ◌∷◌, ◌++◌, length, map, get_or, All, Option, None, refl, ap, sym, ◌∙◌, subst, inl, inr, take, if◌then◌else◌, arith}
+use Rattle.std.proofs.Common.{◌≡◌, ℕ, ◌+◌, ◌<◌, Bool, List, [], ◌∷◌, ◌++◌, length, map, get_or, All, Option, None, refl, ap, sym, ◌∙◌, subst, inl, inr, take, if◌then◌else◌, arith}
 use Rattle.std.specs.Prelude.{unwrap_or}
-use Rattle.std.specs.Bool.{Decides}
-use Rattle.std.specs.List.{list_any}
+use Rattle.std.specs.List.{Contains}
 use Rattle.std.proofs.lemmas.Bool.{cases_eq}
+use Rattle.std.proofs.lemmas.Map.Views.{list_any-from_Contains}
 use Rattle.std.proofs.lemmas.List.{length-append, get_or_append_left, map-append, map_more}
-use Rattle.std.proofs.lemmas.List.Elements.{All-nil, All-head, All-tail, All-push, All-weaker}
+use Rattle.std.proofs.lemmas.List.Elements.{Contains-get_or, All-nil, All-head, All-tail, All-push, All-weaker}
 use Rattle.indexmap.specs.IndexSet.{insert_key}
 use Rattle.dexcode.specs.declared.tries.Try.{Try}
 use Rattle.dexspec.specs.Lists.{distinct}
 use Rattle.dexcode.specs.Numbered.{NumberedHandler, NumberedTry, IsFormedHandler, no_handler, named, all_named, handlers_of, same_handler}
-use Rattle.dexcode.specs.Equality.{handler_decides}
+use Rattle.dexcode.specs.Equality.{handler_decides, handler_equiv}
 use Rattle.dexcode.specs.internal.NamedHandlers.{AreKnown, IsHandlerAt, IsPutAt}
 use Rattle.dexcode.specs.Reading.{HandlerAt}
 use Rattle.dexcode.proofs.Listed.{no_number}
 use Rattle.dexcode.proofs.OneHandler.{one_handler}
 use Rattle.dexspec.proofs.lists.Distinct.{insert_grows, distinct_more}
 
-module _ {X : Type 0} (same : X → X → Bool) (decides : (x y : X) → Decides (same x y) (x ≡ y)) where
-  either : (b c : Bool) → c ≡ true → (b || c) ≡ true
-  either true c h = refl
-  either false c h = h
-
-  present : (ks : List X) (x : X) (k : ℕ) (d : X) → k < length ks → get_or ks k d ≡ x → list_any (same x) ks ≡ true
-  present [] x k d lt e = absurd (omega (arith, lt))
-  present (y ∷ ks) x zero d lt e = ap (λ b. b || list_any (same x) ks) ((decides x y).1 (sym e))
-  present (y ∷ ks) x (suc k) d lt e = either (same x y) (list_any (same x) ks) (present ks x k d (omega (arith, lt)) e)
-
-  -- a member that is there is not added
-  pub insert_there : (ks : List X) (x : X) (k : ℕ) (d : X) → k < length ks → get_or ks k d ≡ x → insert_key same ks x ≡ ks
-  insert_there ks x k d lt e = ap (λ b. if b then ks else ks ++ x ∷ []) (present ks x k d lt e)
+-- a handler that is there is not added
+pub insert_there : (hs : List NumberedHandler) (h d : NumberedHandler) (k : ℕ) → k < length hs → get_or hs k d ≡ h → insert_key same_handler hs h ≡ hs
+insert_there hs h d k lt e = ap (λ b. if b then hs else hs ++ h ∷ []) (list_any-from_Contains handler_equiv h hs (subst (Contains hs) e (Contains-get_or hs k d lt)))
 
 -- a handler that is after those known is known too
 pub known_more : (starts : List Bool) (types : ℕ) (b : List ℕ) (list : ℕ) (h : NumberedHandler) {off : ℕ} → IsHandlerAt starts types b (list + off) h → (hs hs' more : List NumberedHandler) (numbers numbers' : List (Option ℕ)) (number : ℕ) → AreKnown starts types b list hs numbers → hs' ≡ hs ++ more

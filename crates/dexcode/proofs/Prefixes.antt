@@ -3,15 +3,6 @@ use Rattle.std.proofs.Common.{◌≡◌, ℕ, ◌+◌, ◌<◌, ◌≤◌, List,
 use Rattle.std.proofs.lemmas.List.{length-append}
 use Rattle.dexspec.specs.Lists.{Item, Sequence}
 
--- one item more
-pub sequence_more : {X : Type 0} (At : Item X) (b : List ℕ) (o : ℕ) (xs : List X) (x : X) (n k : ℕ) → Sequence At b o xs n → At b (o + n) x k → Sequence At b o (xs ++ x ∷ []) (n + k)
-sequence_more At b o [] x n k h at =
-    let place : o + n ≡ o = omega (arith, h) in
-    (k, 0, subst (λ (i : ℕ). At b i x k) place at, refl, omega (arith, h))
-sequence_more At b o (y ∷ ys) x n k h at =
-    let place : o + n ≡ o + h.0 + h.1 = omega (arith, h.4) in
-    (h.0, h.1 + k, h.2, sequence_more At b (o + h.0) ys x h.1 k h.3 (subst (λ (i : ℕ). At b i x k) place at), omega (arith, h.4))
-
 module _ {X : Type 0} (At : Item X) (one : (b : List ℕ) (o : ℕ) (x y : X) (n k : ℕ) → At b o x n → At b o y k → (x ≡ y) × (n ≡ k)) where
   -- the items that were read are a prefix of those that are there
   pub same_prefix : (b : List ℕ) (o : ℕ) (xs ys : List X) (n m : ℕ) → length xs ≤ length ys → Sequence At b o xs n → Sequence At b o ys m → (zs : List X) × (k : ℕ) × (ys ≡ xs ++ zs) × Sequence At b (o + n) zs k × (m ≡ n + k)

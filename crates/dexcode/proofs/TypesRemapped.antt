@@ -4,6 +4,7 @@ use Rattle.std.specs.Prelude.{sum_by}
 use Rattle.std.specs.Bool.{Decides, one_answer}
 use Rattle.std.specs.Option.{unwrap_or}
 use Rattle.std.specs.List.{All, flat_map}
+use Rattle.std.proofs.lemmas.Bool.{cases_lt}
 use Rattle.std.proofs.lemmas.List.{length-map, get_or-map}
 use Rattle.std.proofs.lemmas.List.Elements.{All-nil, All-cons, All-head, All-tail, All-contains, Contains-get_or}
 use Rattle.std.proofs.lemmas.Simd.{map-map}
@@ -20,7 +21,6 @@ use Rattle.dexcode.specs.Numbered.{NumberedHandler, NumberedTry, AreStored, same
 use Rattle.dexcode.specs.Renumbering.{catch_use, handler_uses, tries_uses, HasTypePlace, AreTypesApart, remapped_type, remapped_try, renumbered_catch, renumbered_handler, renumbered_try}
 use Rattle.dexpool.proofs.Parts.{all_parts}
 use Rattle.dexcode.proofs.Images.{distinct_map}
-use Rattle.dexcode.proofs.Listed.{below_or_not}
 use Rattle.dexcode.proofs.Whole.{formed_remapped}
 
 -- what holds of the images holds of the members
@@ -41,9 +41,9 @@ HaveTypePlaces r h = All (HasTypePlace r) (handler_uses h)
 
 -- no two types have one image
 pub types_apart : (r : Maps) → KeepOrder r → AreTypesApart r
-types_apart r keep = λ i j k e f. elim (below_or_not i j) [
+types_apart r keep = λ i j k e f. elim (cases_lt i j) [
   | inl lt ↦ absurd (omega (arith, keep.types_keep i j k k lt e f))
-  | inr le ↦ elim (below_or_not j i) [ inl gt ↦ absurd (omega (arith, keep.types_keep j i k k gt f e)) | inr ge ↦ omega (arith, le, ge) ]
+  | inr le ↦ elim (cases_lt j i) [ inl gt ↦ absurd (omega (arith, keep.types_keep j i k k gt f e)) | inr ge ↦ omega (arith, le, ge) ]
 ]
 
 module _ (r : Maps) (apart : AreTypesApart r) where

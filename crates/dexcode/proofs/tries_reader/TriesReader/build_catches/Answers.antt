@@ -4,7 +4,8 @@ use Rattle.std.proofs.lemmas.List.{length-append}
 use Rattle.dexspec.specs.Lists.{Sequence}
 use Rattle.dexspec.proofs.lists.Sequences.{one_sequence}
 use Rattle.dexcode.specs.Reading.{CatchAt}
-use Rattle.dexcode.proofs.Prefixes.{sequence_more, stuck}
+use Rattle.dexdebug.proofs.DebugRuns.{one_after}
+use Rattle.dexcode.proofs.Prefixes.{stuck}
 use Rattle.dexcode.proofs.OneHandler.{one_catch}
 use Rattle.dexcode.proofs.HandlersRead.{there_is}
 use Rattle.dexcode.proofs.tries_reader.TriesReader.build_catches.Goals as goal
@@ -25,7 +26,7 @@ loop-preserved c =
     let within = rw c.unwrap-len.ensures at c.read_catch.ensures.within in
     record {
       are_encoded = subst (λ cs. Sequence at c.args.self.now.bytes.now c.args.at cs (c.loop.size + len)) (sym pushed)
-          (sequence_more at c.args.self.now.bytes.now c.args.at c.loop.catches.items caught c.loop.size len c.loop.invariant.are_encoded some);
+          (one_after at c.args.self.now.bytes.now c.args.at c.loop.catches.items caught c.loop.size len c.loop.invariant.are_encoded some);
       many = rw pushed (omega (arith, length-append c.loop.catches.items (caught ∷ []), c.loop.invariant.many));
       within = omega (arith, within);
     }

@@ -14,7 +14,7 @@ returns-in-Some c = λ h there known.
     let is = at.1 h there in
     record {
       known = known;
-      keys = sym (insert_there same_handler handler_decides c.args.handlers.now.keys h c.in-Some.number no_handler at.0 is);
+      keys = sym (insert_there c.args.handlers.now.keys h no_handler c.in-Some.number at.0 is);
       number = at.0;
       is = is;
     }

@@ -3,7 +3,8 @@ use Rattle.std.proofs.lemmas.Grind.{common_steps}
 use Rattle.std.proofs.lemmas.List.{length-append}
 use Rattle.dexspec.specs.Lists.{Sequence}
 use Rattle.dexcode.specs.Reading.{ListedTryAt}
-use Rattle.dexcode.proofs.Prefixes.{sequence_more, stuck}
+use Rattle.dexdebug.proofs.DebugRuns.{one_after}
+use Rattle.dexcode.proofs.Prefixes.{stuck}
 use Rattle.dexcode.proofs.TriesListed.{one_listed_try, apart_more, overlap}
 use Rattle.dexcode.proofs.tries_reader.TriesReader.read_try_items.Goals as goal
 
@@ -32,7 +33,7 @@ loop-preserved c =
     let next : c.in-Some.item.start_addr + c.from-in-loop.result ≡ c.in-Some.item.start_addr + c.in-Some.item.insn_count = omega arith in
     let size : 8 * c.loop.counter + 8 ≡ 8 * (c.loop.counter + 1) = omega arith in
     let are_encoded = subst (λ n. Sequence at c.args.self.now.bytes.now c.args.at (c.loop.tries.items ++ c.in-Some.item ∷ []) n) size
-    (sequence_more at c.args.self.now.bytes.now c.args.at c.loop.tries.items c.in-Some.item (8 * c.loop.counter) 8 c.loop.invariant.2.are_encoded
+    (one_after at c.args.self.now.bytes.now c.args.at c.loop.tries.items c.in-Some.item (8 * c.loop.counter) 8 c.loop.invariant.2.are_encoded
     (subst (λ i. at c.args.self.now.bytes.now i c.in-Some.item 8) c.loop.invariant.0 c.in-Some.ensures.some)) in
     let apart = apart_more 0 c.loop.end c.loop.tries.items c.in-Some.item c.loop.invariant.2.apart (omega arith) in (
       omega (arith, c.loop.invariant.0),

@@ -9,6 +9,7 @@ use Rattle.dexspec.specs.Bytes.{ushort, uint}
 use Rattle.dexspec.specs.Numbers.{uleb128, sleb128, size_u}
 use Rattle.dexspec.proofs.numbers.ByteNumbers.{length-ushort, length-uint}
 use Rattle.dexspec.proofs.numbers.Groups.{length-groups}
+use Rattle.dexspec.proofs.written.PlacedBytes.{length_rows}
 use Rattle.dexspec.proofs.size.SizeItems.{uleb128-size, sleb128-size, if-size}
 use Rattle.dexinsn.specs.Numbered.{NumberedPiece, NumberedCode, numbered_units, numbered_bytes}
 use Rattle.dexcode.specs.declared.handlers.Catch.{Catch}
@@ -18,13 +19,9 @@ use Rattle.dexcode.specs.CodePut.{HasShortTypes, handler_count, numbered_catch_b
 
 -- ---- units
 
-pub ushorts_length : (us : List ℕ) → length (flat_map ushort us) ≡ 2 * length us
-ushorts_length [] = refl
-ushorts_length (u ∷ us) = omega (arith, length-append (ushort u) (flat_map ushort us), length-ushort u, ushorts_length us)
-
 pub units_length : (ps : List NumberedPiece) → length (numbered_bytes ps) ≡ 2 * length (flat_map numbered_units ps)
 unfolding numbered_bytes
-units_length ps = ushorts_length (flat_map numbered_units ps)
+units_length ps = length_rows ushort 2 length-ushort (flat_map numbered_units ps)
 
 -- ---- tries
 
@@ -34,8 +31,7 @@ try_length hs t =
     omega (arith, length-append (uint t.start_addr) (ushort t.insn_count ++ ushort off), length-append (ushort t.insn_count) (ushort off), length-uint t.start_addr, length-ushort t.insn_count, length-ushort off)
 
 pub tries_length : (hs : List NumberedHandler) (ts : List NumberedTry) → length (flat_map (numbered_try_bytes hs) ts) ≡ 8 * length ts
-tries_length hs [] = refl
-tries_length hs (t ∷ ts) = omega (arith, length-append (numbered_try_bytes hs t) (flat_map (numbered_try_bytes hs) ts), try_length hs t, tries_length hs ts)
+tries_length hs = length_rows (numbered_try_bytes hs) 8 (try_length hs)
 
 -- the bytes after the units, where there are tries
 pub tries_parts : (count : ℕ) (hs : List NumberedHandler) (ts : List Try) → AreStored hs ts → (ts ≡ [] → ⊥) → numbered_tries_bytes count (all_named hs ts) ≡ gap_bytes count ++ numbered_table_bytes hs (all_named hs ts)

@@ -23,7 +23,7 @@ use Rattle.dexcode.specs.Numbered.{NumberedItem, DenotesCode, try_meant}
 use Rattle.dexcode.specs.Reading.{IsCodeFault}
 use Rattle.dexcode.proofs.CodeSizes.{units_length}
 use Rattle.dexcode.proofs.CodesRead.{tries_found, tries_range}
-use Rattle.dexcode.proofs.TryRows.{tries_encoded}
+use Rattle.dexcode.proofs.Meanings.{tries_encoded}
 
 -- a numbered code item weighs as much as the code that it denotes
 abbrev pub WeightLaw : Type 0

@@ -21,7 +21,8 @@ use Rattle.dexdebug.specs.DebugReading.{IsDebugAt}
 use Rattle.dexcode.specs.Numbered.{NumberedTry, try_meant}
 use Rattle.dexcode.specs.Reading.{TryItemsAt, TriesAt, IsTriesFault, IsCodeAt, IsCodeFault}
 use Rattle.dexcode.specs.internal.Extras.{IsDebugOf}
-use Rattle.dexcode.proofs.TryRows.{IsInRange, items_found, items_back, items_in_range, tries_encoded}
+use Rattle.dexcode.proofs.Meanings.{tries_encoded}
+use Rattle.dexcode.proofs.TryRows.{IsInRange, items_found, items_back, items_in_range}
 
 -- ---- tries, by the number of units
 

@@ -1,4 +1,3 @@
-pub mod Counted
 pub mod Prefixes
 pub mod HandlersRead
 pub mod Listed

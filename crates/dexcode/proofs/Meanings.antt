@@ -1,5 +1,6 @@
 -- What numbered code means, as a function.
-use Rattle.std.proofs.Common.{◌≡◌, ℕ, ◌<◌, List, [], length, Option, Some, None, refl, ap, sym, subst}
+use Rattle.std.proofs.Common.{◌≡◌, ℕ, ◌<◌, List, [], length, map, Option, Some, None, refl, ap, sym, subst}
+use Rattle.std.specs.List.{All, AllZip}
 use Rattle.std.specs.Option.{IsSome, option_map_or}
 use Rattle.dexspec.specs.Symbols.{Pool, StringPool, TypePool, ProtoPool, FieldPool, MethodPool, Symbol, TextSymbol, TypeSymbol, ProtoSymbol, FieldSymbol, MethodSymbol, pool_of}
 use Rattle.dexspec.specs.Pieces.{Piece, index_pool}
@@ -17,6 +18,8 @@ use Rattle.dexdebug.specs.Meaning.{debug_in, IsKnownDebug}
 use Rattle.dexcode.specs.Meaning.{symbol_at, piece_in, code_in, IsKnownPiece, IsKnownTry, IsKnownCode}
 use Rattle.dexcode.specs.Numbered.{NumberedTry, NumberedItem, DenotesCatch, DenotesTry, DenotesCode, catch_meant, try_meant}
 use Rattle.dexdebug.proofs.MeaningDebug.{all_known, all_mean, all_encoded, one_known, one_means, one_encoded, at_place, debug_known, debug_means, debug_encoded}
+use Rattle.dexcode.proofs.TryRows.{IsInRange}
+use Rattle.dexcode.proofs.TypesRemapped.{all_back_map}
 
 module _ (m : Mentions) where
   -- ---- pieces
@@ -96,6 +99,9 @@ module _ (m : Mentions) where
       catch_all_is = refl;
     };
   }
+
+  pub tries_encoded : (ts : List NumberedTry) → All (IsInRange m) (map (λ t. t.handler) ts) → AllZip (DenotesTry m) ts (map (try_meant m) ts)
+  tries_encoded ts all = all_encoded (DenotesTry m) (IsKnownTry m) (try_meant m) try_encoded ts (all_back_map (IsInRange m) (λ (t : NumberedTry). t.handler) ts all)
 
   -- ---- the whole
 

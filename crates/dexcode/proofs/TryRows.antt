@@ -2,8 +2,8 @@
 use Rattle.std.proofs.Common.{◌≡◌, ℕ, suc, ◌+◌, ◌*◌, ◌<◌, ◌≤◌, Bool, false, List, [], ◌∷◌, ◌++◌, length, map, take, drop, get_or, Option, Some, None, refl, ap, sym, subst, ◌∙◌, arith}
 use Rattle.std.specs.Prelude.{ℤ, pos, sum_by}
 use Rattle.std.specs.Bool.{one_answer}
-use Rattle.std.specs.List.{All, AllZip}
-use Rattle.std.proofs.lemmas.List.Elements.{All-nil, All-cons, All-head, All-tail}
+use Rattle.std.specs.List.{All}
+use Rattle.std.proofs.lemmas.List.Elements.{All-map, All-head, All-tail}
 use Rattle.std.proofs.lemmas.List.{length-map, length-append, map-append, get_or-map, get_or_default}
 use Rattle.std.proofs.lemmas.Simd.{map-map}
 use Rattle.std.proofs.lemmas.List.Sums.{sum_by-cons}
@@ -23,7 +23,7 @@ use Rattle.dexpool.specs.Pools.{ArePools}
 use Rattle.dexpool.specs.Numberings.{AreRising}
 use Rattle.dexcode.specs.declared.handlers.Catch.{Catch}
 use Rattle.dexcode.specs.Equality.{handler_decides}
-use Rattle.dexcode.specs.Numbered.{NumberedHandler, NumberedTry, no_handler, catch_meant, handler_meant, try_meant, same_handler, handlers_of, handlers_weight, DenotesCatch, DenotesTry}
+use Rattle.dexcode.specs.Numbered.{NumberedHandler, NumberedTry, no_handler, catch_meant, handler_meant, try_meant, same_handler, handlers_of, handlers_weight}
 use Rattle.dexcode.specs.Reading.{CatchAt, CatchAllAt, HandlerAt, IsHandler, TryAt, AreApart, TryItemsAt}
 use Rattle.dexcode.proofs.Images.{seq_map, seq_back, seq_take, seq_all, split_at, distinct_map}
 
@@ -218,14 +218,10 @@ module _ (b : List ℕ) (m : Mentions) (pools : ArePools b m) (rising : AreRisin
   try_in_range : (list size : ℕ) (hs : List NumberedHandler) → All (IsInRange m) hs → (o : ℕ) (t : NumberedTry) (n : ℕ) → TryAt starts (length m.types) (length us) list size hs b o t n → IsInRange m t.handler
   try_in_range list size hs all o t n h = subst (IsInRange m) (h.handler_is.is no_handler) (all h.handler_is.index no_handler h.handler_is.begins.within)
 
-  all_in_range : (ts : List NumberedTry) → All (λ t. IsInRange m t.handler) ts → All (IsInRange m) (map (λ t. t.handler) ts)
-  all_in_range [] all = All-nil (IsInRange m)
-  all_in_range (t ∷ ts) all = All-cons (IsInRange m) t.handler (map (λ t. t.handler) ts) (All-head (λ (t : NumberedTry). IsInRange m t.handler) t ts all) (all_in_range ts (All-tail (λ (t : NumberedTry). IsInRange m t.handler) t ts all))
-
   pub items_in_range : (list size total o n : ℕ) (hs : List NumberedHandler) (ts : List NumberedTry) → Sequence (HandlerAt starts (length m.types)) b (list + size) hs total → Sequence (TryAt starts (length m.types) (length us) list size hs) b o ts n → All (IsInRange m) (map (λ t. t.handler) ts)
   items_in_range list size total o n hs ts are_encoded items =
       let all = seq_all (HandlerAt starts (length m.types)) (IsInRange m) b handler_in_range (list + size) hs total are_encoded in
-      all_in_range ts (seq_all (TryAt starts (length m.types) (length us) list size hs) (λ t. IsInRange m t.handler) b (try_in_range list size hs all) o ts n items)
+      All-map (IsInRange m) (λ (t : NumberedTry). t.handler) ts (seq_all (TryAt starts (length m.types) (length us) list size hs) (λ t. IsInRange m t.handler) b (try_in_range list size hs all) o ts n items)
 
   same_weight : (ts : List NumberedTry) → All (IsInRange m) (map (λ t. t.handler) ts) → symbolic.handlers_weight (symbolic.handlers_of (map (try_meant m) ts)) ≡ handlers_weight (handlers_of ts)
   same_weight ts all = ap symbolic.handlers_weight (handlers_meant m rising ts all) ∙ weight_meant m (handlers_of ts)
@@ -268,19 +264,3 @@ module _ (b : List ℕ) (m : Mentions) (pools : ArePools b m) (rising : AreRisin
           few = omega (arith, few, same_weight ts.0 (items_in_range list h.count_size h.handlers_size o (8 * count) hs.0 ts.0 hs.1 ts.1));
         },
       )
-
--- ---- what tries denote
-
-catch_encoded : (m : Mentions) (c : Catch) → c.typ < length m.types → DenotesCatch m c (catch_meant m c)
-catch_encoded m c lt = record { type_is = record { within = lt; is = λ d. get_or_default m.types c.typ d [] lt }; address_is = refl }
-
-catches_encoded : (m : Mentions) (cs : List Catch) → All (λ c. c.typ < length m.types) cs → AllZip (DenotesCatch m) cs (map (catch_meant m) cs)
-catches_encoded m [] all = tt
-catches_encoded m (c ∷ cs) all = (catch_encoded m c (All-head (λ (c : Catch). c.typ < length m.types) c cs all), catches_encoded m cs (All-tail (λ (c : Catch). c.typ < length m.types) c cs all))
-
-pub tries_encoded : (m : Mentions) (ts : List NumberedTry) → All (IsInRange m) (map (λ t. t.handler) ts) → AllZip (DenotesTry m) ts (map (try_meant m) ts)
-tries_encoded m [] all = tt
-tries_encoded m (t ∷ ts) all =
-    let first = All-head (IsInRange m) t.handler (map (λ t. t.handler) ts) all in
-    let rest = All-tail (IsInRange m) t.handler (map (λ t. t.handler) ts) all in
-    (record { start_is = refl; count_is = refl; handler_is = record { catches_are = catches_encoded m t.handler.catches first; catch_all_is = refl } }, tries_encoded m ts rest)

@@ -2,7 +2,6 @@
 use Rattle.std.proofs.Common.{◌≡◌, ℕ, zero, suc, ◌+◌, ◌*◌, ◌^◌, ◌<◌, ◌≤◌, Bool, List, [], ◌∷◌, length, take, drop, get_or, Option, refl, ap, sym, subst, ◌∙◌, arith}
 use Rattle.std.proofs.lemmas.List.{length-drop, length-map, get_or-drop, get_or_default}
 use Rattle.std.specs.List.{All}
-use Rattle.std.proofs.lemmas.List.Elements.{All-nil, All-cons}
 use Rattle.dexspec.specs.Lists.{Sequence}
 use Rattle.dexspec.specs.Bytes.{number_of, ushort_at}
 use Rattle.dexspec.specs.Numbers.{Uleb128At}
@@ -13,6 +12,7 @@ use Rattle.dexcode.specs.declared.tries.Try.{Try}
 use Rattle.dexcode.specs.Numbered.{NumberedHandler, NumberedTry, IsFormedHandler, no_handler, named, all_named, handlers_of, handlers_weight}
 use Rattle.dexcode.specs.internal.NamedHandlers.{IsHandlerAt, AreListed}
 use Rattle.dexcode.specs.Reading.{HandlerAt, IsListAt, TryAt, ListedTryAt, AreApart, AreApartFrom, TriesRead, TryItemsAt}
+use Rattle.dexcode.proofs.Images.{seq_map, seq_back, seq_all}
 use Rattle.dexcode.proofs.Listed.{handler_some, sleb_some}
 use Rattle.dexcode.proofs.OneHandler.{one_handler}
 use Rattle.dexcode.proofs.TriesListed.{one_listed_try}
@@ -53,8 +53,7 @@ ushort_small b o small = two_small (drop o b) (λ i. subst (λ (x : ℕ). x < 25
 module _ (starts : List Bool) (types units : ℕ) (b : List ℕ) (list : ℕ) (hs : List NumberedHandler) (numbers : List (Option ℕ)) (at : IsListAt starts types b list hs numbers) where
   -- each names a handler
   handlers_named : (o : ℕ) (ts : List Try) (n : ℕ) → Sequence (ListedTryAt units numbers) b o ts n → All (λ t. t.handler < length hs) ts
-  handlers_named o [] n h = All-nil (λ (t : Try). t.handler < length hs)
-  handlers_named o (t ∷ ts) n h = All-cons (λ (t : Try). t.handler < length hs) t ts (at.numbered.begins (ushort_at b (o + 6)) t.handler h.2.named).1.within (handlers_named (o + h.0) ts h.1 h.3)
+  handlers_named = seq_all (ListedTryAt units numbers) (λ t. t.handler < length hs) b (λ o t n h. (at.numbered.begins (ushort_at b (o + 6)) t.handler h.named).1.within)
 
   -- the try that names the number of a handler
   try_named : (o : ℕ) (t : Try) (n : ℕ) → ListedTryAt units numbers b o t n → TryAt starts types units list at.count_size hs b o (named hs t) n
@@ -76,8 +75,7 @@ module _ (starts : List Bool) (types units : ℕ) (b : List ℕ) (list : ℕ) (h
       }
 
   tries_named : (o : ℕ) (ts : List Try) (n : ℕ) → Sequence (ListedTryAt units numbers) b o ts n → Sequence (TryAt starts types units list at.count_size hs) b o (all_named hs ts) n
-  tries_named o [] n h = h
-  tries_named o (t ∷ ts) n h = (h.0, h.1, try_named o t h.0 h.2, tries_named (o + h.0) ts h.1 h.3, h.4)
+  tries_named = seq_map (ListedTryAt units numbers) (TryAt starts types units list at.count_size hs) (named hs) b try_named
 
   -- and back
   module _ (small : (i : ℕ) → get_or b i 0 < 256) where
@@ -98,11 +96,7 @@ module _ (starts : List Bool) (types units : ℕ) (b : List ℕ) (list : ℕ) (h
         )
 
     tries_listed : (o : ℕ) (ss : List NumberedTry) (n : ℕ) → Sequence (TryAt starts types units list at.count_size hs) b o ss n → (ts : List Try) × Sequence (ListedTryAt units numbers) b o ts n × (all_named hs ts ≡ ss)
-    tries_listed o [] n h = ([], h, refl)
-    tries_listed o (s ∷ ss) n h =
-        let first = try_listed o s h.0 h.2 in
-        let rest = tries_listed (o + h.0) ss h.1 h.3 in
-        (first.0 ∷ rest.0, (h.0, h.1, first.1, rest.1, h.4), λ j. first.2 j ∷ rest.2 j)
+    tries_listed = seq_back (ListedTryAt units numbers) (TryAt starts types units list at.count_size hs) (named hs) b try_listed
 
 -- ---- handlers where try_items say
 

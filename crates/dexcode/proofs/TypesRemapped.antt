@@ -6,7 +6,7 @@ use Rattle.std.specs.Option.{unwrap_or}
 use Rattle.std.specs.List.{All, flat_map}
 use Rattle.std.proofs.lemmas.Bool.{cases_lt}
 use Rattle.std.proofs.lemmas.List.{length-map, get_or-map}
-use Rattle.std.proofs.lemmas.List.Elements.{All-nil, All-cons, All-head, All-tail, All-contains, Contains-get_or}
+use Rattle.std.proofs.lemmas.List.Elements.{All-head, All-tail, All-contains, Contains-get_or}
 use Rattle.std.proofs.lemmas.Simd.{map-map}
 use Rattle.dexspec.proofs.lists.Distinct.{distinct_has}
 use Rattle.std.proofs.lemmas.List.Sums.{sum_by-cons}
@@ -25,8 +25,7 @@ use Rattle.dexcode.proofs.Whole.{formed_remapped}
 
 -- what holds of the images holds of the members
 pub all_back_map : {X Y : Type 0} (P : Y → Type 0) (f : X → Y) (xs : List X) → All P (map f xs) → All (λ x. P (f x)) xs
-all_back_map P f [] h = All-nil (λ x. P (f x))
-all_back_map P f (x ∷ xs) h = All-cons (λ x. P (f x)) x xs (All-head P (f x) (map f xs) h) (all_back_map P f xs (All-tail P (f x) (map f xs) h))
+all_back_map P f xs h = λ k d lt. subst P (get_or-map f xs k d (f d) lt) (h k (f d) (omega (arith, lt, length-map xs f)))
 
 -- what holds of the distinct members holds of all
 pub all_from_distinct : {X : Type 0} (same : X → X → Bool) → ((x y : X) → Decides (same x y) (x ≡ y)) → (P : X → Type 0) (xs : List X) → All P (distinct same xs) → All P xs

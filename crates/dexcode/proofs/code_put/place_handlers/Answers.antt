@@ -3,7 +3,7 @@ use Rattle.std.proofs.lemmas.List.{length-set, get_or-set_same, get_or-set_other
 use Rattle.std.proofs.lemmas.Bool.{cases_eq}
 use Rattle.dexcode.specs.Numbered.{no_handler}
 use Rattle.dexcode.specs.CodePut.{numbered_handler_bytes, place_of}
-use Rattle.dexcode.proofs.HandlerPlaces.{weight_count, weight_more, typed_at, place_more}
+use Rattle.dexcode.proofs.HandlerPlaces.{weight_count, weight_more, place_more}
 use Rattle.dexcode.proofs.CodeSizes.{handler_length}
 use Rattle.dexcode.proofs.code_put.place_handlers.Goals as goal
 
@@ -24,7 +24,7 @@ loop-i-preserved c =
     let is : get_or hs i no_handler ≡ c.index-handlers-i.result = get_or_default hs i no_handler c.index-handlers-i.result lt ∙ sym c.index-handlers-i.is in
     record {
       sum = place_more hs i no_handler place c.handler_len-place.result lt inv.sum (c.handler_len-place.ensures.len ∙ ap (λ h. length (numbered_handler_bytes h)) (sym is));
-      few = omega (arith, inv.few, c.handler_len-place.ensures.len, ap (λ h. length (numbered_handler_bytes h)) is, handler_length (get_or hs i no_handler) (typed_at hs i no_handler c.requires.short.typed lt), weight_more hs i no_handler lt);
+      few = omega (arith, inv.few, c.handler_len-place.ensures.len, ap (λ h. length (numbered_handler_bytes h)) is, handler_length (get_or hs i no_handler) (c.requires.short.typed i no_handler lt), weight_more hs i no_handler lt);
       count = length-set places i place ∙ inv.count;
       each = λ k less. elim (cases_eq k i) [
         | inl here ↦ ap (λ (q : ℕ). get_or (slice_set places i place) q 0) here ∙ get_or-set_same places i place 0 (omega (arith, inv.count, c.requires.enough, lt)) ∙ inv.sum ∙ ap (place_of hs) (sym here)

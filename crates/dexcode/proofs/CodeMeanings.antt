@@ -3,7 +3,7 @@ use Rattle.std.proofs.Common.{◌≡◌, ℕ, ◌<◌, List, [], ◌∷◌, ◌+
 use Rattle.std.specs.List.{All, AllZip, flat_map}
 use Rattle.std.specs.Option.{IsSome, unwrap_or, option_map}
 use Rattle.std.proofs.lemmas.List.{get_or_default}
-use Rattle.std.proofs.lemmas.List.Elements.{All-nil, All-cons, All-head, All-tail, All-append}
+use Rattle.std.proofs.lemmas.List.Elements.{All-nil, All-head, All-tail, All-append}
 use Rattle.dexspec.specs.Lists.{BothOrNone, distinct}
 use Rattle.dexspec.specs.Texts.{Text}
 use Rattle.dexspec.specs.Symbols.{TypeSymbol}
@@ -19,13 +19,14 @@ use Rattle.dexinsn.proofs.Meanings as pieces
 use Rattle.dexcode.specs.declared.handlers.Catch.{Catch}
 use Rattle.dexdebug.specs.Debug.{NumberedDebug, DenotesDebug, HasPlace, renumbered_debug, debug_uses}
 use Rattle.dexcode.specs.Equality.{handler_decides}
-use Rattle.dexcode.specs.Numbered.{NumberedHandler, NumberedTry, NumberedItem, DenotesCatch, DenotesTry, DenotesCode, same_handler, handlers_of, catch_meant, handler_meant, try_meant}
+use Rattle.dexcode.specs.Numbered.{NumberedHandler, NumberedTry, NumberedItem, DenotesCatch, DenotesTry, DenotesCode, same_handler, handlers_of, catch_meant, handler_meant}
 use Rattle.dexcode.specs.Renumbering.{catch_use, handler_uses, tries_uses, item_uses, HasTypePlace, HasPlaces, HasImages, renumbered_catch, renumbered_try, renumbered_item}
 use Rattle.dexcode.proofs.CodeUses.{optional_debug_uses, debug_part, all_flat}
 use Rattle.dexdebug.proofs.DebugMeanings as debugs
 use Rattle.dexdebug.proofs.DebugMeanings.{mapped_at, zip-append}
 use Rattle.dexpool.proofs.Parts.{all_of, all_parts, all_map}
 use Rattle.dexcode.proofs.Images.{all_distinct}
+use Rattle.dexcode.proofs.Meanings.{tries_mean, tries_in_range}
 use Rattle.dexcode.proofs.TryRows.{IsInRange, handlers_meant}
 use Rattle.dexcode.proofs.TypesRemapped.{all_from_distinct}
 
@@ -94,33 +95,8 @@ images_of_places r c h = record {
 -- ---- the symbols that occur
 
 module _ (m : Mentions) where
-  catches_meant : (cs : List Catch) (xs : List symbolic.Catch) → AllZip (DenotesCatch m) cs xs → map (catch_meant m) cs ≡ xs
-  catches_meant [] [] h = refl
-  catches_meant [] (x ∷ xs) h = absurd h
-  catches_meant (c ∷ cs) [] h = absurd h
-  catches_meant (c ∷ cs) (x ∷ xs) h = λ i. record { type = h.0.type_is.is [] i; address = h.0.address_is i } ∷ catches_meant cs xs h.1 i
-
-  catches_in : (cs : List Catch) (xs : List symbolic.Catch) → AllZip (DenotesCatch m) cs xs → All (λ c. c.typ < length m.types) cs
-  catches_in [] xs h = All-nil (λ (c : Catch). c.typ < length m.types)
-  catches_in (c ∷ cs) [] h = absurd h
-  catches_in (c ∷ cs) (x ∷ xs) h = All-cons (λ (c : Catch). c.typ < length m.types) c cs h.0.type_is.within (catches_in cs xs h.1)
-
-  tries_meant : (ts : List NumberedTry) (xs : List symbolic.Try) → AllZip (DenotesTry m) ts xs → map (try_meant m) ts ≡ xs
-  tries_meant [] [] h = refl
-  tries_meant [] (x ∷ xs) h = absurd h
-  tries_meant (t ∷ ts) [] h = absurd h
-  tries_meant (t ∷ ts) (x ∷ xs) h =
-      let is = h.0.handler_is in
-      let catches = catches_meant t.handler.catches x.handler.catches is.catches_are in
-      λ i. record { start = h.0.start_is i; count = h.0.count_is i; handler = record { catches = catches i; catch_all = is.catch_all_is i } } ∷ tries_meant ts xs h.1 i
-
-  tries_in : (ts : List NumberedTry) (xs : List symbolic.Try) → AllZip (DenotesTry m) ts xs → All (IsInRange m) (map (λ t. t.handler) ts)
-  tries_in [] xs h = All-nil (IsInRange m)
-  tries_in (t ∷ ts) [] h = absurd h
-  tries_in (t ∷ ts) (x ∷ xs) h = All-cons (IsInRange m) t.handler (map (λ (u : NumberedTry). u.handler) ts) (catches_in t.handler.catches x.handler.catches h.0.handler_is.catches_are) (tries_in ts xs h.1)
-
   pub handlers_in : (ts : List NumberedTry) (xs : List symbolic.Try) → AllZip (DenotesTry m) ts xs → All (IsInRange m) (handlers_of ts)
-  handlers_in ts xs h = all_distinct (IsInRange m) same_handler (map (λ (t : NumberedTry). t.handler) ts) (tries_in ts xs h)
+  handlers_in ts xs h = all_distinct (IsInRange m) same_handler (map (λ (t : NumberedTry). t.handler) ts) (tries_in_range m ts xs h)
 
   type_used : (i : ℕ) → i < length m.types → IsUseOf m (record { kind = kinds.Typ; number = i }) (TypeSymbol (get_or m.types i []))
   type_used i lt = (record { within = lt; is = λ d. get_or_default m.types i d [] lt }, tt)
@@ -143,7 +119,7 @@ module _ (m : Mentions) where
 
   tries_used : (ts : List NumberedTry) (xs : List symbolic.Try) → AreRising m → AllZip (DenotesTry m) ts xs → AllZip (IsUseOf m) (tries_uses ts) (flat_map handler_symbols (symbolic.handlers_of xs))
   tries_used ts xs rising h =
-      let same : map (handler_meant m) (handlers_of ts) ≡ symbolic.handlers_of xs = sym (handlers_meant m rising ts (tries_in ts xs h)) ∙ ap symbolic.handlers_of (tries_meant ts xs h) in
+      let same : map (handler_meant m) (handlers_of ts) ≡ symbolic.handlers_of xs = sym (handlers_meant m rising ts (tries_in_range m ts xs h)) ∙ ap symbolic.handlers_of (sym (tries_mean m ts xs h)) in
       subst (λ ys. AllZip (IsUseOf m) (tries_uses ts) (flat_map handler_symbols ys)) same (handlers_used (handlers_of ts) (handlers_in ts xs h))
 
   pub uses_encoded : (c : NumberedItem) (x : symbolic.Code) → AreRising m → DenotesCode m c x → AllZip (IsUseOf m) (item_uses c) (code_symbols x)

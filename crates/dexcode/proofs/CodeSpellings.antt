@@ -2,8 +2,8 @@
 use Rattle.std.proofs.Common.{◌≡◌, ℕ, ◌+◌, ◌%◌, ◌<◌, ◌==◌, if◌then◌else◌, List, [], ◌∷◌, ◌++◌, length, map, option_to_list, refl, ap, sym, ◌∙◌, arith, append_assoc}
 use Rattle.std.specs.Prelude.{pos, ◌-ℤ◌}
 use Rattle.std.specs.Option.{option_map_or}
-use Rattle.std.specs.List.{All, AllZip, flat_map}
-use Rattle.std.proofs.lemmas.List.Elements.{All-nil, All-cons, All-head, All-tail}
+use Rattle.std.specs.List.{All, flat_map}
+use Rattle.std.proofs.lemmas.List.Elements.{All-head, All-tail}
 use Rattle.std.proofs.lemmas.List.{length-map}
 use Rattle.dexspec.specs.Bytes.{ushort, uint}
 use Rattle.dexspec.specs.Numbers.{uleb128, sleb128}
@@ -20,47 +20,12 @@ use Rattle.dexspec.proofs.size.SizeCode.{length-units}
 use Rattle.dexpool.specs.Numberings.{AreRising}
 use Rattle.dexinsn.specs.Numbered.{NumberedPiece, Denote, numbered_units, numbered_bytes}
 use Rattle.dexcode.specs.declared.handlers.Catch.{Catch}
-use Rattle.dexcode.specs.Numbered.{NumberedHandler, NumberedTry, NumberedItem, catch_meant, handler_meant, try_meant, same_handler, handlers_of, DenotesCatch, DenotesTry, DenotesCode}
+use Rattle.dexcode.specs.Numbered.{NumberedHandler, NumberedTry, NumberedItem, catch_meant, handler_meant, try_meant, same_handler, handlers_of, DenotesCode}
 use Rattle.dexcode.specs.CodePut.{numbered_catch_bytes, handler_count, numbered_handler_bytes, numbered_handler_off, numbered_try_bytes, numbered_list_bytes, numbered_table_bytes, numbered_tries_bytes, unit_count, numbered_item_bytes, numbered_code_bytes, numbered_tries_weight, numbered_code_weight}
 use Rattle.dexcode.proofs.TryRows.{IsInRange, same_meant, handlers_meant, weight_meant}
-use Rattle.dexcode.proofs.Images.{all_distinct}
-
--- ---- tries that denote others have parts that denote the parts of these
-
-catch_is : (m : Mentions) (c : Catch) (x : symbolic.Catch) → DenotesCatch m c x → catch_meant m c ≡ x
-catch_is m c x h = let type = h.type_is.is [] in let address = h.address_is in λ i. record { type = type i; address = address i }
-
-catches_are : (m : Mentions) (cs : List Catch) (xs : List symbolic.Catch) → AllZip (DenotesCatch m) cs xs → map (catch_meant m) cs ≡ xs
-catches_are m [] [] h = refl
-catches_are m [] (x ∷ xs) h = absurd h
-catches_are m (c ∷ cs) [] h = absurd h
-catches_are m (c ∷ cs) (x ∷ xs) h = let first = catch_is m c x h.0 in let rest = catches_are m cs xs h.1 in λ i. first i ∷ rest i
-
-in_range : (m : Mentions) (cs : List Catch) (xs : List symbolic.Catch) → AllZip (DenotesCatch m) cs xs → All (λ c. c.typ < length m.types) cs
-in_range m [] [] h = All-nil (λ (c : Catch). c.typ < length m.types)
-in_range m [] (x ∷ xs) h = absurd h
-in_range m (c ∷ cs) [] h = absurd h
-in_range m (c ∷ cs) (x ∷ xs) h = All-cons (λ (c : Catch). c.typ < length m.types) c cs h.0.type_is.within (in_range m cs xs h.1)
-
-try_is : (m : Mentions) (t : NumberedTry) (x : symbolic.Try) → DenotesTry m t x → try_meant m t ≡ x
-try_is m t x h =
-    let start = h.start_is in
-    let count = h.count_is in
-    let catches = catches_are m t.handler.catches x.handler.catches h.handler_is.catches_are in
-    let all = h.handler_is.catch_all_is in
-    λ i. record { start = start i; count = count i; handler = record { catches = catches i; catch_all = all i } }
-
-pub tries_are : (m : Mentions) (ts : List NumberedTry) (xs : List symbolic.Try) → AllZip (DenotesTry m) ts xs → map (try_meant m) ts ≡ xs
-tries_are m [] [] h = refl
-tries_are m [] (x ∷ xs) h = absurd h
-tries_are m (t ∷ ts) [] h = absurd h
-tries_are m (t ∷ ts) (x ∷ xs) h = let first = try_is m t x h.0 in let rest = tries_are m ts xs h.1 in λ i. first i ∷ rest i
-
-pub tries_in_range : (m : Mentions) (ts : List NumberedTry) (xs : List symbolic.Try) → AllZip (DenotesTry m) ts xs → All (IsInRange m) (map (λ t. t.handler) ts)
-tries_in_range m [] [] h = All-nil (IsInRange m)
-tries_in_range m [] (x ∷ xs) h = absurd h
-tries_in_range m (t ∷ ts) [] h = absurd h
-tries_in_range m (t ∷ ts) (x ∷ xs) h = All-cons (IsInRange m) t.handler (map (λ (t : NumberedTry). t.handler) ts) (in_range m t.handler.catches x.handler.catches h.0.handler_is.catches_are) (tries_in_range m ts xs h.1)
+use Rattle.dexcode.proofs.Images.{all_distinct, flat_mapped}
+use Rattle.dexcode.proofs.Meanings.{tries_mean, tries_in_range}
+use Rattle.dexcode.proofs.TypesRemapped.{all_back_map}
 
 -- ---- bytes
 
@@ -69,11 +34,7 @@ module _ (m : Mentions) (rising : AreRising m) where
   catch_bytes_are c lt = ap (λ (n : ℕ). uleb128 n ++ uleb128 c.addr) (rank-get_or text_cmp text_total m.types c.typ [] (Rises-from_rises text_cmp text_total m.types rising.types_rise) lt)
 
   catches_bytes_are : (cs : List Catch) → All (λ c. c.typ < length m.types) cs → flat_map (spelled.catch_bytes m) (map (catch_meant m) cs) ≡ flat_map numbered_catch_bytes cs
-  catches_bytes_are [] all = refl
-  catches_bytes_are (c ∷ cs) all =
-      let first = catch_bytes_are c (All-head (λ (c : Catch). c.typ < length m.types) c cs all) in
-      let rest = catches_bytes_are cs (All-tail (λ (c : Catch). c.typ < length m.types) c cs all) in
-      λ i. first i ++ rest i
+  catches_bytes_are = flat_mapped (λ c. c.typ < length m.types) (spelled.catch_bytes m) (catch_meant m) numbered_catch_bytes catch_bytes_are
 
   count_is : (h : NumberedHandler) → spelled.handler_count (handler_meant m h) ≡ handler_count h
   count_is h = ap (λ (n : ℕ). option_map_or (λ address. pos 0 -ℤ pos n) h.catch_all_addr (pos n)) (length-map h.catches (catch_meant m))
@@ -85,11 +46,7 @@ module _ (m : Mentions) (rising : AreRising m) where
       λ i. sleb128 (count i) ++ (catches i ++ flat_map uleb128 (option_to_list h.catch_all_addr))
 
   handlers_bytes_are : (hs : List NumberedHandler) → All (IsInRange m) hs → flat_map (spelled.handler_bytes m) (map (handler_meant m) hs) ≡ flat_map numbered_handler_bytes hs
-  handlers_bytes_are [] all = refl
-  handlers_bytes_are (h ∷ hs) all =
-      let first = handler_bytes_are h (All-head (IsInRange m) h hs all) in
-      let rest = handlers_bytes_are hs (All-tail (IsInRange m) h hs all) in
-      λ i. first i ++ rest i
+  handlers_bytes_are = flat_mapped (IsInRange m) (spelled.handler_bytes m) (handler_meant m) numbered_handler_bytes handler_bytes_are
 
   off_is : (from : ℕ) (hs : List NumberedHandler) (h : NumberedHandler) → All (IsInRange m) hs → IsInRange m h → spelled.handler_off m from (map (handler_meant m) hs) (handler_meant m h) ≡ numbered_handler_off from hs h
   off_is from [] h all own = refl
@@ -114,11 +71,8 @@ module _ (m : Mentions) (rising : AreRising m) where
       ap (λ (n : ℕ). uint t.start_addr ++ (ushort t.insn_count ++ ushort n)) off
 
   all_try_bytes_are : (hs : List NumberedHandler) (ts : List NumberedTry) → All (IsInRange m) hs → All (IsInRange m) (map (λ t. t.handler) ts) → flat_map (spelled.try_bytes m (map (handler_meant m) hs)) (map (try_meant m) ts) ≡ flat_map (numbered_try_bytes hs) ts
-  all_try_bytes_are hs [] all own = refl
-  all_try_bytes_are hs (t ∷ ts) all own =
-      let first = try_bytes_are hs t all (All-head (IsInRange m) t.handler (map (λ (t : NumberedTry). t.handler) ts) own) in
-      let rest = all_try_bytes_are hs ts all (All-tail (IsInRange m) t.handler (map (λ (t : NumberedTry). t.handler) ts) own) in
-      λ i. first i ++ rest i
+  all_try_bytes_are hs ts all own =
+      flat_mapped (λ t. IsInRange m t.handler) (spelled.try_bytes m (map (handler_meant m) hs)) (try_meant m) (numbered_try_bytes hs) (λ t own. try_bytes_are hs t all own) ts (all_back_map (IsInRange m) (λ (t : NumberedTry). t.handler) ts own)
 
   handlers_in_range : (ts : List NumberedTry) → All (IsInRange m) (map (λ t. t.handler) ts) → All (IsInRange m) (handlers_of ts)
   handlers_in_range ts all = all_distinct (IsInRange m) same_handler (map (λ (t : NumberedTry). t.handler) ts) all
@@ -157,7 +111,7 @@ code_bytes_are law m debug_off c x rising h =
     let ins = h.ins_are in
     let outs = h.outs_are in
     let all = tries_in_range m c.tries x.tries h.tries_are in
-    let meant = tries_are m c.tries x.tries h.tries_are in
+    let meant = sym (tries_mean m c.tries x.tries h.tries_are) in
     let count : length c.tries ≡ length x.tries = sym (length-map c.tries (try_meant m)) ∙ ap length meant in
     let tries : numbered_tries_bytes (unit_count c.body) c.tries ≡ spelled.tries_bytes m (length (flat_map (spelled.piece_units m) x.pieces)) x.tries =
     sym (tries_bytes_are m rising (unit_count c.body) c.tries all) ∙ (λ i. spelled.tries_bytes m (length (units i)) (meant i)) in
@@ -177,5 +131,5 @@ pub code_weighs : UnitsLaw → (m : Mentions) (c : NumberedItem) (x : symbolic.C
 code_weighs law m c x rising h =
     let units : unit_count c.body ≡ length (flat_map units_of x.pieces) = ap length (law m c.body.pieces x.pieces rising h.pieces_are) ∙ length-units m x.pieces in
     let all = tries_in_range m c.tries x.tries h.tries_are in
-    let tries : numbered_tries_weight c.tries ≡ tries_weight x.tries = sym (tries_weigh m rising c.tries all) ∙ ap tries_weight (tries_are m c.tries x.tries h.tries_are) in
+    let tries : numbered_tries_weight c.tries ≡ tries_weight x.tries = sym (tries_weigh m rising c.tries all) ∙ ap tries_weight (sym (tries_mean m c.tries x.tries h.tries_are)) in
     omega (arith, units, tries)

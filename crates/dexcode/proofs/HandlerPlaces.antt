@@ -2,7 +2,6 @@
 use Rattle.std.proofs.Common.{◌≡◌, ℕ, zero, suc, ◌+◌, ◌*◌, ◌^◌, ◌<◌, ◌≤◌, Bool, List, [], ◌∷◌, ◌++◌, length, map, take, get_or, refl, ap, sym, subst, ◌∙◌, if◌then◌else◌, arith, length-append}
 use Rattle.std.specs.List.{All, flat_map}
 use Rattle.std.proofs.lemmas.Bool.{false_from_ne_true}
-use Rattle.std.proofs.lemmas.List.Elements.{All-head, All-tail}
 use Rattle.std.proofs.lemmas.List.Concat.{length-flat_map}
 use Rattle.std.proofs.lemmas.List.Sums.{sum_by-cons, sum_by_more}
 use Rattle.dexspec.specs.Lists.{AreDistinct}
@@ -15,7 +14,7 @@ use Rattle.dexcode.specs.Numbered.{NumberedHandler, NumberedTry, no_handler, sam
 use Rattle.dexcode.specs.CodePut.{HasShortTypes, ArePlaces, numbered_handler_bytes, numbered_handler_off, numbered_try_bytes, place_of, placed_try_bytes}
 use Rattle.dexspec.proofs.lists.Distinct.{distinct_once}
 use Rattle.dexpool.proofs.Parts.{all_of}
-use Rattle.dexcode.proofs.Images.{all_distinct}
+use Rattle.dexcode.proofs.Images.{all_distinct, flat_mapped}
 use Rattle.dexcode.proofs.TryRows.{IsInRange}
 
 abbrev one_weight : NumberedHandler → ℕ
@@ -62,11 +61,8 @@ try_placed hs places t apart are lt =
     ap (λ (n : ℕ). uint t.start_addr ++ (ushort t.insn_count ++ ushort n)) off
 
 pub tries_placed : (hs : List NumberedHandler) (places : List ℕ) (ts : List Try) → AreDistinct hs → ArePlaces hs places → All (λ t. t.handler < length hs) ts → flat_map (placed_try_bytes places) ts ≡ flat_map (numbered_try_bytes hs) (all_named hs ts)
-tries_placed hs places [] apart are all = refl
-tries_placed hs places (t ∷ ts) apart are all =
-    let first = try_placed hs places t apart are (All-head (λ (t : Try). t.handler < length hs) t ts all) in
-    let rest = tries_placed hs places ts apart are (All-tail (λ (t : Try). t.handler < length hs) t ts all) in
-    λ i. first i ++ rest i
+tries_placed hs places ts apart are all =
+    sym (flat_mapped (λ t. t.handler < length hs) (numbered_try_bytes hs) (named hs) (placed_try_bytes places) (λ t lt. sym (try_placed hs places t apart are lt)) ts all)
 
 -- handlers that are stored are listed once
 pub stored_apart : (hs : List NumberedHandler) (ts : List Try) → AreStored hs ts → AreDistinct hs

@@ -2,6 +2,7 @@
 use Rattle.std.proofs.Common.{◌≡◌, ℕ, ◌<◌, List, [], length, map, Option, Some, None, refl, ap, sym, subst}
 use Rattle.std.specs.List.{All, AllZip}
 use Rattle.std.specs.Option.{IsSome, option_map_or}
+use Rattle.std.proofs.lemmas.List.Elements.{All-map}
 use Rattle.dexspec.specs.Symbols.{Pool, StringPool, TypePool, ProtoPool, FieldPool, MethodPool, Symbol, TextSymbol, TypeSymbol, ProtoSymbol, FieldSymbol, MethodSymbol, pool_of}
 use Rattle.dexspec.specs.Pieces.{Piece, index_pool}
 use Rattle.dexspec.specs.Pieces as pieces
@@ -100,6 +101,12 @@ module _ (m : Mentions) where
     };
   }
 
+  pub tries_mean : (ts : List NumberedTry) (xs : List symbolic.Try) → AllZip (DenotesTry m) ts xs → xs ≡ map (try_meant m) ts
+  tries_mean = all_mean (DenotesTry m) (IsKnownTry m) (try_meant m) try_means
+
+  pub tries_in_range : (ts : List NumberedTry) (xs : List symbolic.Try) → AllZip (DenotesTry m) ts xs → All (IsInRange m) (map (λ t. t.handler) ts)
+  tries_in_range ts xs h = All-map (IsInRange m) (λ (t : NumberedTry). t.handler) ts (all_known (DenotesTry m) (IsKnownTry m) (try_meant m) try_known ts xs h)
+
   pub tries_encoded : (ts : List NumberedTry) → All (IsInRange m) (map (λ t. t.handler) ts) → AllZip (DenotesTry m) ts (map (try_meant m) ts)
   tries_encoded ts all = all_encoded (DenotesTry m) (IsKnownTry m) (try_meant m) try_encoded ts (all_back_map (IsInRange m) (λ (t : NumberedTry). t.handler) ts all)
 
@@ -118,7 +125,7 @@ module _ (m : Mentions) where
       let ins = sym h.ins_are in
       let outs = sym h.outs_are in
       let ps = all_mean (Denotes m) (IsKnownPiece m) (piece_in m) piece_means c.body.pieces x.pieces h.pieces_are in
-      let tries = all_mean (DenotesTry m) (IsKnownTry m) (try_meant m) try_means c.tries x.tries h.tries_are in
+      let tries = tries_mean c.tries x.tries h.tries_are in
       let debug = one_means (DenotesDebug m) (IsKnownDebug m) (debug_in m) (debug_means m) c.debug x.debug h.debug_is in
       λ i. record { registers = registers i; ins = ins i; outs = outs i; pieces = ps i; tries = tries i; debug = debug i }
 

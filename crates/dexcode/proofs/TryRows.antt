@@ -1,12 +1,11 @@
 -- Tries and handlers with numbers are where those with types are whose rows have these numbers.
 use Rattle.std.proofs.Common.{◌≡◌, ℕ, suc, ◌+◌, ◌*◌, ◌<◌, ◌≤◌, Bool, false, List, [], ◌∷◌, ◌++◌, length, map, take, drop, get_or, Option, Some, None, refl, ap, sym, subst, ◌∙◌, arith}
-use Rattle.std.specs.Prelude.{ℤ, pos, sum_by}
+use Rattle.std.specs.Prelude.{ℤ, pos}
 use Rattle.std.specs.Bool.{one_answer}
 use Rattle.std.specs.List.{All}
 use Rattle.std.proofs.lemmas.List.Elements.{All-map, All-head, All-tail}
 use Rattle.std.proofs.lemmas.List.{length-map, length-append, map-append, get_or-map, get_or_default}
 use Rattle.std.proofs.lemmas.Simd.{map-map}
-use Rattle.std.proofs.lemmas.List.Sums.{sum_by-cons}
 use Rattle.dexspec.specs.Lists.{Sequence, distinct, rank}
 use Rattle.dexspec.specs.Numbers.{Uleb128At}
 use Rattle.dexspec.specs.Texts.{Text, text_cmp}
@@ -19,6 +18,7 @@ use Rattle.dexspec.proofs.determined.OneRow.{one_type}
 use Rattle.dexspec.proofs.determined.OneCode as one
 use Rattle.dexspec.proofs.lists.Sequences.{one_sequence}
 use Rattle.dexspec.proofs.written.HandlerPlaces.{handler_decides as symbolic_decides}
+use Rattle.dexpool.proofs.Weighing.{sum_by-mapped}
 use Rattle.dexpool.specs.Pools.{ArePools}
 use Rattle.dexpool.specs.Numberings.{AreRising}
 use Rattle.dexcode.specs.declared.handlers.Catch.{Catch}
@@ -29,15 +29,10 @@ use Rattle.dexcode.proofs.Images.{seq_map, seq_back, seq_take, seq_all, split_at
 
 -- ---- weight
 
-sum_meant : (m : Mentions) (hs : List NumberedHandler) → sum_by (λ (h : symbolic.Handler). 10 + 8 * length h.catches) (map (handler_meant m) hs) ≡ sum_by (λ (h : NumberedHandler). 10 + 8 * length h.catches) hs
-sum_meant m [] = refl
-sum_meant m (h ∷ hs) =
-    let first = sum_by-cons (λ (h : symbolic.Handler). 10 + 8 * length h.catches) (handler_meant m h) (map (handler_meant m) hs) in
-    let second = sum_by-cons (λ (h : NumberedHandler). 10 + 8 * length h.catches) h hs in
-    omega (arith, first, second, sum_meant m hs, length-map h.catches (catch_meant m))
-
 pub weight_meant : (m : Mentions) (hs : List NumberedHandler) → symbolic.handlers_weight (map (handler_meant m) hs) ≡ handlers_weight hs
-weight_meant m hs = ap (λ (n : ℕ). 5 + n) (sum_meant m hs)
+weight_meant m hs =
+    ap (λ (n : ℕ). 5 + n) (sum_by-mapped (λ (h : symbolic.Handler). 10 + 8 * length h.catches) (handler_meant m) (λ (h : NumberedHandler). 10 + 8 * length h.catches) hs
+    (λ k d lt. ap (λ (n : ℕ). 10 + 8 * n) (length-map (get_or hs k d).catches (catch_meant m))))
 
 -- ---- numbers of types
 

@@ -1,6 +1,5 @@
 -- The types of handlers, remapped: which handlers stay distinct, and what tries name then.
 use Rattle.std.proofs.Common.{◌≡◌, ℕ, ◌+◌, ◌*◌, ◌<◌, Bool, List, [], ◌∷◌, length, map, get_or, Some, refl, ap, sym, ◌∙◌, subst, arith, inl, inr}
-use Rattle.std.specs.Prelude.{sum_by}
 use Rattle.std.specs.Bool.{Decides, one_answer}
 use Rattle.std.specs.Option.{unwrap_or}
 use Rattle.std.specs.List.{All, flat_map}
@@ -9,7 +8,6 @@ use Rattle.std.proofs.lemmas.List.{length-map, get_or-map}
 use Rattle.std.proofs.lemmas.List.Elements.{All-head, All-tail, All-contains, Contains-get_or}
 use Rattle.std.proofs.lemmas.Simd.{map-map}
 use Rattle.dexspec.proofs.lists.Distinct.{distinct_has}
-use Rattle.std.proofs.lemmas.List.Sums.{sum_by-cons}
 use Rattle.dexspec.specs.Lists.{distinct}
 use Rattle.dexpool.specs.declared.symbols.SymbolKind.TheVariants as kinds
 use Rattle.dexpool.specs.Numberings.{Maps}
@@ -20,6 +18,7 @@ use Rattle.dexcode.specs.Equality.{handler_decides}
 use Rattle.dexcode.specs.Numbered.{NumberedHandler, NumberedTry, AreStored, same_handler, handlers_of, handlers_weight, no_handler, named, all_named}
 use Rattle.dexcode.specs.Renumbering.{catch_use, handler_uses, tries_uses, HasTypePlace, AreTypesApart, remapped_type, remapped_try, renumbered_catch, renumbered_handler, renumbered_try}
 use Rattle.dexpool.proofs.Parts.{all_parts}
+use Rattle.dexpool.proofs.Weighing.{sum_by-mapped}
 use Rattle.dexcode.proofs.Images.{distinct_map}
 use Rattle.dexcode.proofs.Whole.{formed_remapped}
 
@@ -87,15 +86,10 @@ module _ (r : Maps) (apart : AreTypesApart r) where
 
 -- ---- as they are stored
 
-sum_remapped : (r : Maps) (hs : List NumberedHandler) → sum_by (λ (h : NumberedHandler). 10 + 8 * length h.catches) (map (renumbered_handler r) hs) ≡ sum_by (λ (h : NumberedHandler). 10 + 8 * length h.catches) hs
-sum_remapped r [] = refl
-sum_remapped r (h ∷ hs) =
-    let first = sum_by-cons (λ (h : NumberedHandler). 10 + 8 * length h.catches) (renumbered_handler r h) (map (renumbered_handler r) hs) in
-    let second = sum_by-cons (λ (h : NumberedHandler). 10 + 8 * length h.catches) h hs in
-    omega (arith, first, second, sum_remapped r hs, length-map h.catches (renumbered_catch r))
-
 weight_remapped : (r : Maps) (hs : List NumberedHandler) → handlers_weight (map (renumbered_handler r) hs) ≡ handlers_weight hs
-weight_remapped r hs = ap (λ (n : ℕ). 5 + n) (sum_remapped r hs)
+weight_remapped r hs =
+    let weight : NumberedHandler → ℕ = λ h. 10 + 8 * length h.catches in
+    ap (λ (n : ℕ). 5 + n) (sum_by-mapped weight (renumbered_handler r) weight hs (λ k d lt. ap (λ (n : ℕ). 10 + 8 * n) (length-map (get_or hs k d).catches (renumbered_catch r))))
 
 -- tries of remapped handlers are the remapped tries
 pub named_remapped : (r : Maps) (hs : List NumberedHandler) (ts : List Try) → All (λ t. t.handler < length hs) ts → all_named (map (renumbered_handler r) hs) ts ≡ map (renumbered_try r) (all_named hs ts)

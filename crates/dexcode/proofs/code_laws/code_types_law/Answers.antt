@@ -1,4 +1,4 @@
-use Rattle.dexcode.proofs.CodeSpellings.{tries_in_range}
+use Rattle.dexcode.proofs.Meanings.{tries_in_range}
 use Rattle.dexcode.proofs.HandlerPlaces.{named_short}
 use Rattle.dexcode.proofs.code_laws.code_types_law.Goals as goal
 

@@ -23,9 +23,8 @@ use Rattle.dexcode.specs.declared.handlers.Catch.{Catch}
 use Rattle.dexcode.specs.Numbered.{NumberedHandler, NumberedTry, NumberedItem, catch_meant, handler_meant, try_meant, same_handler, handlers_of, DenotesCode}
 use Rattle.dexcode.specs.CodePut.{numbered_catch_bytes, handler_count, numbered_handler_bytes, numbered_handler_off, numbered_try_bytes, numbered_list_bytes, numbered_table_bytes, numbered_tries_bytes, unit_count, numbered_item_bytes, numbered_code_bytes, numbered_tries_weight, numbered_code_weight}
 use Rattle.dexcode.proofs.TryRows.{IsInRange, same_meant, handlers_meant, weight_meant}
-use Rattle.dexcode.proofs.Images.{all_distinct, flat_mapped}
+use Rattle.dexcode.proofs.Images.{all_back_map, all_distinct, flat_mapped}
 use Rattle.dexcode.proofs.Meanings.{tries_mean, tries_in_range}
-use Rattle.dexcode.proofs.TypesRemapped.{all_back_map}
 
 -- ---- bytes
 

@@ -1,7 +1,8 @@
 -- Items that are images of others: their offsets are those of the others, and the distinct ones are images of the
 -- distinct others.
-use Rattle.std.proofs.Common.{◌≡◌, ℕ, zero, suc, ◌+◌, ◌<◌, Bool, List, [], ◌∷◌, ◌++◌, length, map, take, drop, get_or, refl, ap, arith}
+use Rattle.std.proofs.Common.{◌≡◌, ℕ, zero, suc, ◌+◌, ◌<◌, Bool, List, [], ◌∷◌, ◌++◌, length, map, take, drop, get_or, refl, ap, subst, arith}
 use Rattle.std.specs.List.{All, flat_map}
+use Rattle.std.proofs.lemmas.List.{length-map, get_or-map}
 use Rattle.std.proofs.lemmas.List.Elements.{All-nil, All-cons, All-head, All-tail, All-contains, Contains-get_or}
 use Rattle.dexspec.specs.Lists.{Item, Sequence, distinct}
 use Rattle.dexspec.proofs.lists.Distinct.{distinct_mapped}
@@ -36,6 +37,10 @@ pub split_at : {X : Type 0} (xs : List X) (i : ℕ) (d : X) → i < length xs �
 split_at [] i d lt = absurd (omega (arith, lt))
 split_at (x ∷ xs) zero d lt = refl
 split_at (x ∷ xs) (suc i) d lt = ap (λ ys. x ∷ ys) (split_at xs i d (omega (arith, lt)))
+
+-- what holds of the images holds of the members
+pub all_back_map : {X Y : Type 0} (P : Y → Type 0) (f : X → Y) (xs : List X) → All P (map f xs) → All (λ x. P (f x)) xs
+all_back_map P f xs h = λ k d lt. subst P (get_or-map f xs k d (f d) lt) (h k (f d) (omega (arith, lt, length-map xs f)))
 
 -- what holds of all members holds of the distinct ones
 pub all_distinct : {X : Type 0} (P : X → Type 0) (same : X → X → Bool) (xs : List X) → All P xs → All P (distinct same xs)

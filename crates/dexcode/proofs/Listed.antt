@@ -26,13 +26,6 @@ module _ (starts : List Bool) (types : ℕ) where
   pub handler_some : (b : List ℕ) (o : ℕ) (h : NumberedHandler) (n : ℕ) → HandlerAt starts types b o h n → 0 < n
   handler_some b o h n at = omega (arith, at.size, sleb_some b o at.count at.count_size at.count_is)
 
-  -- those before the first of them are none
-  pub numbered_none : (b : List ℕ) (o first : ℕ) → AreNumbered starts types b o first [] []
-  numbered_none b o first = record {
-    begins = λ k i e. absurd (no_number i e);
-    known = λ k i before lt begins e. absurd (omega (arith, begins.within));
-  }
-
   -- with one more after them, each begins where it did
   begins_more : (b : List ℕ) (first : ℕ) (hs more : List NumberedHandler) (i before : ℕ) → BeginsAt starts types b first hs i before → BeginsAt starts types b first (hs ++ more) i before
   begins_more b first hs more i before begins = record {

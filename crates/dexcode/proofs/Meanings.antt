@@ -20,7 +20,7 @@ use Rattle.dexcode.specs.Meaning.{symbol_at, piece_in, code_in, IsKnownPiece, Is
 use Rattle.dexcode.specs.Numbered.{NumberedTry, NumberedItem, DenotesCatch, DenotesTry, DenotesCode, catch_meant, try_meant}
 use Rattle.dexdebug.proofs.MeaningDebug.{all_known, all_mean, all_encoded, one_known, one_means, one_encoded, at_place, debug_known, debug_means, debug_encoded}
 use Rattle.dexcode.proofs.TryRows.{IsInRange}
-use Rattle.dexcode.proofs.TypesRemapped.{all_back_map}
+use Rattle.dexcode.proofs.Images.{all_back_map}
 
 module _ (m : Mentions) where
   -- ---- pieces

@@ -4,7 +4,6 @@ use Rattle.std.proofs.lemmas.List.{length-drop, length-map, get_or-drop, get_or_
 use Rattle.std.specs.List.{All}
 use Rattle.dexspec.specs.Lists.{Sequence}
 use Rattle.dexspec.specs.Bytes.{number_of, ushort_at}
-use Rattle.dexspec.specs.Numbers.{Uleb128At}
 use Rattle.dexspec.specs.Code.{most_handlers}
 use Rattle.dexspec.proofs.determined.OneNumber.{one_uleb128}
 use Rattle.dexspec.proofs.lists.Sequences.{one_sequence}
@@ -172,20 +171,10 @@ module _ (starts : List Bool) (types units : ℕ) (b : List ℕ) (o count : ℕ)
       let items = subst (λ (gs : List NumberedHandler). Sequence (TryAt starts types units list at.count_size gs) b o ss (8 * count)) same.0 moved in
       tries_listed starts types units b list hs numbers at small o ss (8 * count) items
 
-  -- if there is no list, if its tries are missing, or if their handlers weigh too much, there are no try_items
-  pub no_list : ((hs : List NumberedHandler) (size n : ℕ) → Uleb128At b (o + 8 * count) (length hs) size → Sequence (HandlerAt starts types) b (o + 8 * count + size) hs n → ⊥) → (ss : List NumberedTry) → TryItemsAt starts types units b o count ss → ⊥
-  no_list none ss h = none h.handlers h.count_size h.handlers_size h.list_count h.list
-
-  uleb_some : (at v n : ℕ) → Uleb128At b at v n → 0 < n
-  uleb_some at v zero h = absurd h.spelled.chain
-  uleb_some at v (suc n) h = omega arith
-
-  pub no_room : length b ≤ o + 8 * count → (ss : List NumberedTry) → TryItemsAt starts types units b o count ss → ⊥
-  no_room le ss h = omega (arith, le, uleb_some (o + 8 * count) (length h.handlers) h.count_size h.list_count, h.list_count.within, length-drop (o + 8 * count) b)
-
   length-same : (hs : List NumberedHandler) (ts : List Try) (ss : List NumberedTry) → all_named hs ts ≡ ss → length ts ≡ length ss
   length-same hs ts ss e = sym (length-map ts (named hs)) ∙ ap length e
 
+  -- if its tries are missing, or if their handlers weigh too much, there are no try_items
   pub no_tries : ((i : ℕ) → get_or b i 0 < 256) → (hs : List NumberedHandler) (numbers : List (Option ℕ)) → IsListAt starts types b (o + 8 * count) hs numbers
       → NoTries units numbers b o count → (ss : List NumberedTry) → TryItemsAt starts types units b o count ss → ⊥
   no_tries small hs numbers at none ss h =

@@ -22,10 +22,6 @@ use Rattle.dexpool.proofs.Weighing.{sum_by-mapped}
 use Rattle.dexcode.proofs.Images.{distinct_map}
 use Rattle.dexcode.proofs.Whole.{formed_remapped}
 
--- what holds of the images holds of the members
-pub all_back_map : {X Y : Type 0} (P : Y → Type 0) (f : X → Y) (xs : List X) → All P (map f xs) → All (λ x. P (f x)) xs
-all_back_map P f xs h = λ k d lt. subst P (get_or-map f xs k d (f d) lt) (h k (f d) (omega (arith, lt, length-map xs f)))
-
 -- what holds of the distinct members holds of all
 pub all_from_distinct : {X : Type 0} (same : X → X → Bool) → ((x y : X) → Decides (same x y) (x ≡ y)) → (P : X → Type 0) (xs : List X) → All P (distinct same xs) → All P xs
 all_from_distinct same decides P xs h =

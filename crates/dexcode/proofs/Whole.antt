@@ -2,7 +2,7 @@
 use Rattle.std.proofs.Common.{◌≡◌, ℕ, ◌+◌, ◌<◌, Bool, true, false, List, [], ◌∷◌, ◌++◌, length, map, get_or, ◌^◌, subst, sym, ap, if◌then◌else◌, arith}
 use Rattle.std.proofs.lemmas.Int.{ints}
 use Rattle.std.specs.List.{All, list_any}
-use Rattle.std.proofs.lemmas.List.Elements.{All-nil, All-cons, All-head, All-tail, All-push, All-get_or, All-weaker}
+use Rattle.std.proofs.lemmas.List.Elements.{All-map, All-push, All-get_or}
 use Rattle.std.proofs.lemmas.List.{length-map}
 use Rattle.std.specs.Option.{unwrap_or}
 use Rattle.indexmap.specs.IndexSet.{insert_key}
@@ -12,7 +12,8 @@ use Rattle.dexcode.specs.declared.handlers.Catch.{Catch}
 use Rattle.dexcode.specs.Numbered.{NumberedHandler, IsWhole, IsFormedHandler, same_handler, no_handler}
 use Rattle.dexcode.specs.Reading.{CatchAt, CatchAllAt, HandlerAt}
 use Rattle.dexcode.specs.Renumbering.{catch_use, handler_uses, HasTypePlace, remapped_type, renumbered_catch, renumbered_handler}
-use Rattle.dexcode.proofs.Images.{seq_all}
+use Rattle.dexpool.proofs.Parts.{all_map}
+use Rattle.dexcode.proofs.Images.{all_back_map, seq_all}
 
 -- a handler that was read is whole
 module _ (starts : List Bool) (types : ℕ) (b : List ℕ) where
@@ -43,24 +44,19 @@ formed_more listed hs hs' place lt formed all inserted =
     let h = get_or listed place no_handler in
     subst (All IsFormedHandler) (sym inserted) (insert_formed (list_any (same_handler h) hs) hs h all (All-get_or IsFormedHandler listed place no_handler lt formed))
 
--- the handlers of which each is formed are whole
-pub wholes : (hs : List NumberedHandler) → All IsFormedHandler hs → All IsWhole hs
-wholes hs all = All-weaker IsFormedHandler IsWhole (λ h formed. formed.whole) hs all
-
 -- types that have places, remapped
 types_remapped : (r : Maps) (cs : List Catch) → All (HasTypePlace r) (map catch_use cs) → All (λ c. c.typ < 2 ^ 32) (map (renumbered_catch r) cs)
-types_remapped r [] all = All-nil (λ (c : Catch). c.typ < 2 ^ 32)
-types_remapped r (c ∷ cs) all =
-    let place = All-head (HasTypePlace r) (catch_use c) (map catch_use cs) all in
-    let is : remapped_type r c.typ ≡ place.0 = ap (λ o. unwrap_or o c.typ) place.1 in
-    All-cons (λ (c : Catch). c.typ < 2 ^ 32) (renumbered_catch r c) (map (renumbered_catch r) cs) (omega (arith, is, place.2)) (types_remapped r cs (All-tail (HasTypePlace r) (catch_use c) (map catch_use cs) all))
+types_remapped r cs all = all_map (λ c. HasTypePlace r (catch_use c)) (λ c. c.typ < 2 ^ 32) (renumbered_catch r) cs place_fits (all_back_map (HasTypePlace r) catch_use cs all)
+  where
+    place_fits : (c : Catch) → HasTypePlace r (catch_use c) → remapped_type r c.typ < 2 ^ 32
+    place_fits c place = let is : remapped_type r c.typ ≡ place.0 = ap (λ o. unwrap_or o c.typ) place.1 in omega (arith, is, place.2)
+
+handler_remapped : (r : Maps) (h : NumberedHandler) → All (HasTypePlace r) (handler_uses h) → IsFormedHandler h → IsFormedHandler (renumbered_handler r h)
+handler_remapped r h places formed = record {
+  whole = λ none. let some = formed.whole none in omega (arith, some, length-map h.catches (renumbered_catch r));
+  types_fit = types_remapped r h.catches places;
+}
 
 -- remapped handlers are formed
 pub formed_remapped : (r : Maps) (hs : List NumberedHandler) → All (λ h. All (HasTypePlace r) (handler_uses h)) hs → All IsFormedHandler hs → All IsFormedHandler (map (renumbered_handler r) hs)
-formed_remapped r [] places all = All-nil IsFormedHandler
-formed_remapped r (h ∷ hs) places all =
-    let formed = All-head IsFormedHandler h hs all in
-    let whole : IsWhole (renumbered_handler r h) = λ none. let some = formed.whole none in omega (arith, some, length-map h.catches (renumbered_catch r)) in
-    All-cons IsFormedHandler (renumbered_handler r h) (map (renumbered_handler r) hs)
-    (record { whole = whole; types_fit = types_remapped r h.catches (All-head (λ h. All (HasTypePlace r) (handler_uses h)) h hs places) })
-    (formed_remapped r hs (All-tail (λ h. All (HasTypePlace r) (handler_uses h)) h hs places) (All-tail IsFormedHandler h hs all))
+formed_remapped r hs places all = All-map IsFormedHandler (renumbered_handler r) hs (λ k d lt. handler_remapped r (get_or hs k d) (places k d lt) (all k d lt))

@@ -1,5 +1,5 @@
 use Rattle.std.proofs.Common.{subst, sym, ◌∙◌, ap}
-use Rattle.std.specs.List.{All, flat_map}
+use Rattle.std.specs.List.{All}
 use Rattle.dexpool.proofs.Parts.{all_parts}
 use Rattle.dexdebug.specs.Debug.{HasPlace, IsFormedDebug, number_uses, debug_uses, renumbered_debug}
 use Rattle.dexdebug.specs.declared.indices.Index.{Index}

@@ -1,20 +1,16 @@
 -- Classes that are remapped denote the same definitions; remapped into one numbering they are the same if and only if
 -- their definitions are.
-use Rattle.std.proofs.Common.{◌≡◌, ℕ, ◌-◌, ◌^◌, ◌<◌, min, List, [], ◌∷◌, ◌++◌, length, map, option_to_list, sym, ap, ◌∙◌, subst}
+use Rattle.std.proofs.Common.{◌≡◌, ℕ, ◌-◌, ◌^◌, ◌<◌, min, List, ◌∷◌, ◌++◌, length, map, option_to_list, sym, ap, ◌∙◌, subst}
 use Rattle.std.specs.Prelude.{◌↔◌, IsSome}
-use Rattle.std.specs.List.{All, AllZip}
-use Rattle.std.proofs.lemmas.List.Elements.{All-nil, All-cons, All-head, All-tail}
+use Rattle.std.specs.List.{All}
+use Rattle.std.proofs.lemmas.List.Elements.{All-head, All-tail}
 use Rattle.dexspec.specs.Texts.{Text}
-use Rattle.dexspec.specs.Symbols.{Symbol, TextSymbol, TypeSymbol, ProtoSymbol, FieldSymbol, MethodSymbol}
 use Rattle.dexspec.specs.Classes.{Definition}
 use Rattle.dexspec.specs.Mentions.{Mentions}
 use Rattle.dexspec.specs.Weight.{body_weight}
-use Rattle.dexpool.specs.declared.symbols.SymbolKind.{SymbolKind}
 use Rattle.dexpool.specs.declared.symbols.SymbolKind.TheVariants as kinds
-use Rattle.dexpool.specs.Pools.{count_of}
-use Rattle.dexpool.specs.Laws.{MapsAll}
-use Rattle.dexpool.specs.Numberings.{AreRising, Maps, AllMapTo, IsNumbered, IsOfKind, image}
-use Rattle.dexpool.specs.Uses.{Use, IsUseOf, IsMappedUse}
+use Rattle.dexpool.specs.Numberings.{AreRising, Maps, AllMapTo, image}
+use Rattle.dexpool.specs.Uses.{Use, IsMappedUse}
 use Rattle.dexmembers.specs.Numbered.{NumberedMembers, members_in, members_of, AreKnownMembers, AreOrdered, AreOfClass}
 use Rattle.dexmembers.specs.Renumbering.{renumbered_members}
 use Rattle.dexmembers.specs.Uses.{members_uses}
@@ -24,23 +20,6 @@ use Rattle.dexclass.specs.Renumbering.{remapped, renumbered, IsMappedClass, Stay
 use Rattle.dexpool.proofs.Parts.{all_prefix, all_back}
 use Rattle.dexclass.proofs.OwnUses.{all_mapped}
 use Rattle.dexclass.proofs.Remapped.{remapped_is, all_remapped, optional_remapped, all_within, optional_numbers, numbers_after, one_at, one_list, one_optional}
-
--- ---- where all symbols have images
-
-use_within : (m : Mentions) (kind : SymbolKind) (i : ℕ) (s : Symbol) → IsNumbered m i s → IsOfKind kind s → i < count_of kind m
-use_within m kinds.Text i (TextSymbol x) at of = at.within
-use_within m kinds.Typ i (TypeSymbol x) at of = at.within
-use_within m kinds.Proto i (ProtoSymbol x) at of = at.within
-use_within m kinds.Field i (FieldSymbol x) at of = at.within
-use_within m kinds.Method i (MethodSymbol x) at of = at.within
-use_within m _ i _ at of = absurd of
-
--- those that occur do
-pub uses_remapped : (m : Mentions) (r : Maps) (us : List Use) (ss : List Symbol) → MapsAll m r → AllZip (IsUseOf m) us ss → All (IsMappedUse r) us
-uses_remapped m r [] [] all zip = All-nil (IsMappedUse r)
-uses_remapped m r [] (s ∷ ss) all zip = absurd zip
-uses_remapped m r (u ∷ us) [] all zip = absurd zip
-uses_remapped m r (u ∷ us) (s ∷ ss) all zip = All-cons (IsMappedUse r) u us (all u.kind u.number (use_within m u.kind u.number s zip.0.0 zip.0.1)) (uses_remapped m r us ss all zip.1)
 
 -- ---- a class that is remapped
 

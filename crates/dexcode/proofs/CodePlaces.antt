@@ -1,17 +1,16 @@
 -- The numbers in a code item have places where all numbers have images.
-use Rattle.std.proofs.Common.{◌≡◌, ℕ, ◌+◌, ◌<◌, ◌^◌, List, [], ◌∷◌, ◌++◌, length, Option, Some, None, option_to_list, refl, subst, arith}
-use Rattle.std.specs.List.{All, AllZip, flat_map}
+use Rattle.std.proofs.Common.{◌≡◌, ℕ, ◌+◌, ◌<◌, ◌^◌, List, [], ◌++◌, length, Option, Some, None, option_to_list, refl, subst, arith}
+use Rattle.std.specs.List.{All, flat_map}
 use Rattle.std.specs.Option.{IsSome, IfSome}
 use Rattle.std.proofs.lemmas.List.Elements.{All-nil, All-cons, All-append}
 use Rattle.dexspec.specs.Mentions.{Mentions, piece_symbols, debug_symbols}
-use Rattle.dexspec.specs.Symbols.{Symbol, TextSymbol, TypeSymbol, ProtoSymbol, FieldSymbol, MethodSymbol}
 use Rattle.dexspec.specs.Code as symbolic
 use Rattle.dexpool.specs.declared.symbols.SymbolKind.{SymbolKind}
 use Rattle.dexpool.specs.declared.symbols.SymbolKind.TheVariants as kinds
 use Rattle.dexpool.specs.Pools.{count_of}
 use Rattle.dexpool.specs.Laws.{MapsAll}
-use Rattle.dexpool.specs.Numberings.{IsNumbered, IsOfKind, Maps, image_of, AllMapTo}
-use Rattle.dexpool.specs.Uses.{Use, IsUseOf, IsMappedUse}
+use Rattle.dexpool.specs.Numberings.{Maps, image_of, AllMapTo}
+use Rattle.dexpool.specs.Uses.{Use, IsMappedUse}
 use Rattle.dexinsn.specs.Numbered.{uses_of}
 use Rattle.dexinsn.specs.Numbered as pieces
 use Rattle.dexinsn.proofs.Fits as insn_proofs
@@ -27,6 +26,7 @@ use Rattle.dexcode.proofs.CodeMeanings.{handlers_in, debug_used}
 use Rattle.dexcode.proofs.CodeUses.{optional_debug_uses, all_flat, pieces_part, tries_part, debugs_part}
 use Rattle.dexpool.proofs.KeptNumbers.{maps_within}
 use Rattle.dexpool.proofs.KeptTables.{all_both}
+use Rattle.dexpool.proofs.MappingAll.{uses_mapped}
 use Rattle.dexpool.proofs.Parts.{all_of, all_prefix, all_map}
 use Rattle.dexcode.proofs.TryRows.{IsInRange}
 
@@ -41,19 +41,6 @@ images_of_uses r c all = record {
 -- ---- all numbers have images
 
 module _ (m : Mentions) (r : Maps) (maps_to : MapsAll m r) where
-  image_by : (k : SymbolKind) (i : ℕ) (s : Symbol) → IsNumbered m i s → IsOfKind k s → IsSome (image_of r k i)
-  image_by kinds.Text i (TextSymbol s) h kind = maps_to kinds.Text i h.within
-  image_by kinds.Typ i (TypeSymbol s) h kind = maps_to kinds.Typ i h.within
-  image_by kinds.Proto i (ProtoSymbol s) h kind = maps_to kinds.Proto i h.within
-  image_by kinds.Field i (FieldSymbol s) h kind = maps_to kinds.Field i h.within
-  image_by kinds.Method i (MethodSymbol s) h kind = maps_to kinds.Method i h.within
-  image_by k i s h kind = absurd kind
-
-  uses_mapped : (us : List Use) (ss : List Symbol) → AllZip (IsUseOf m) us ss → All (IsMappedUse r) us
-  uses_mapped [] ss h = All-nil (IsMappedUse r)
-  uses_mapped (u ∷ us) [] h = absurd h
-  uses_mapped (u ∷ us) (s ∷ ss) h = All-cons (IsMappedUse r) u us (image_by u.kind u.number s h.0.0 h.0.1) (uses_mapped us ss h.1)
-
   handlers_mapped : (hs : List NumberedHandler) → All (IsInRange m) hs → All (IsMappedUse r) (flat_map handler_uses hs)
   handlers_mapped hs all = all_flat (IsInRange m) (IsMappedUse r) handler_uses hs (λ h known. all_map (λ c. c.typ < length m.types) (IsMappedUse r) catch_use h.catches (λ c lt. maps_to kinds.Typ c.typ lt) known) all
 

@@ -1,7 +1,8 @@
 use Rattle.dexspec.specs.Mentions.{symbols_of}
 use Rattle.dexclass.specs.Numbered.{type_at, definition_of}
 use Rattle.dexclass.specs.Uses.{class_uses}
-use Rattle.dexclass.proofs.SameClasses.{uses_remapped, members_mapped, stays_same}
+use Rattle.dexpool.proofs.MappingAll.{uses_mapped}
+use Rattle.dexclass.proofs.SameClasses.{members_mapped, stays_same}
 use Rattle.dexclass.proofs.laws.renumbering_law.Goals as goal
 
 pub returns-clause-same : goal.returns-clause-same
@@ -16,4 +17,4 @@ returns-clause-same c = λ m n r class are_mapped maps_to known.
     }) known
 
 pub returns-clause-all : goal.returns-clause-all
-returns-clause-all c = λ m r class rising all known. uses_remapped m r (class_uses class) (symbols_of (definition_of m class)) all (c.uses_law.ensures.uses m class rising known)
+returns-clause-all c = λ m r class rising all known. uses_mapped m r all (class_uses class) (symbols_of (definition_of m class)) (c.uses_law.ensures.uses m class rising known)

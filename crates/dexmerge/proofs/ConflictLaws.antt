@@ -22,9 +22,6 @@ option_is None s = absurd cc
 option_is (Some k) s = (k, refl)
 
 module _ (cs : List NumberedClass) (places : List (Option ℕ)) where
-  pub no_conflict : IsLeastTo cs places 0 None
-  no_conflict i lt = absurd (omega (arith, lt))
-
   -- one more class that is equal to the kept one
   last_equivalent : (n i : ℕ) → i < n + 1 → IsEqualCopy cs places n → (i < n → IsEqualCopy cs places i) → IsEqualCopy cs places i
   last_equivalent n i lt equivalent before = elim (cases_lt i n) [

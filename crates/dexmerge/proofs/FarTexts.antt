@@ -1,13 +1,11 @@
 -- Texts that a const-string names, whose numbers are not below a cap.
-use Rattle.std.proofs.Common.{◌≡◌, ℕ, ◌+◌, ◌<◌, ◌≤◌, Bool, true, false, leb, List, [], ◌∷◌, ◌++◌, length, take, map, refl, sym, ap, ◌∙◌, subst, arith, inl, inr, Option, Some, None}
+use Rattle.std.proofs.Common.{◌≡◌, ℕ, ◌+◌, ◌<◌, ◌≤◌, Bool, true, false, leb, List, ◌++◌, length, map, refl, sym, ap, ◌∙◌, subst, arith, inl, inr, Option, Some, None}
 use Rattle.std.specs.Prelude.{All, IsSome, IfSome, nat_lt, not, option_to_list}
 use Rattle.std.specs.List.{Contains}
-use Rattle.std.proofs.lemmas.Bool.{ltb-true, ltb-false, lt-ltb, leb-true, le-leb, cases_lt, false≢true}
-use Rattle.std.proofs.lemmas.List.{take_more, append-nil}
-use Rattle.std.proofs.lemmas.Grind.{flat_map-append}
-use Rattle.std.proofs.lemmas.List.Elements.{All-append, All-get_or, Contains-get_or, Contains-append_cases}
+use Rattle.std.proofs.lemmas.Bool.{ltb-true, ltb-false, lt-ltb, leb-true, le-leb, cases_lt}
+use Rattle.std.proofs.lemmas.List.Elements.{All-append, All-get_or}
 use Rattle.dexspec.specs.Mentions.{Mentions}
-use Rattle.dexspec.proofs.lists.Members.{Contains-nil, list_any-member, list_any-source, Contains-flat_map, Contains-flat_map_source}
+use Rattle.dexspec.proofs.lists.Members.{Contains-nil, list_any-member, list_any-source, Contains-flat_map_source}
 use Rattle.dexpool.specs.Numberings.{Maps, image}
 use Rattle.dexpool.specs.Orderly.{KeepOrder}
 use Rattle.dexpool.specs.Uses.{IsMappedUse}
@@ -23,10 +21,8 @@ use Rattle.dexmembers.specs.Fitting.{code_short_strings, method_short_strings, m
 use Rattle.dexmembers.proofs.Images.{MethodHasImages, members_images}
 use Rattle.dexpool.proofs.Parts.{all_back}
 use Rattle.dexclass.specs.Numbered.{NumberedClass}
-use Rattle.dexclass.specs.Parents.{no_class}
 use Rattle.dexclass.specs.Renumbering.{IsMappedClass}
 use Rattle.dexclass.specs.Uses.{IsKnownClass, type_use, text_use, type_numbers, text_numbers}
-use Rattle.dexmerge.specs.Candidates.{class_at}
 use Rattle.dexmerge.specs.internal.Amounts.{short_numbers, has_from}
 use Rattle.dexmerge.proofs.ShortStrings.{remapped_short, maps_short, option_source, short_denotes_text}
 
@@ -118,23 +114,3 @@ module _ (r : Maps) (c : NumberedClass) (remapped : IsMappedClass r c) where
 -- where there are no more texts than the cap, each number is below it
 pub few_texts : (m : Mentions) (cs : List NumberedClass) (cap : ℕ) → All (IsKnownClass m) cs → length m.texts ≤ cap → has_from cap (short_numbers cs) ≡ false
 few_texts m cs cap known few = none_far cap (short_numbers cs) (λ n has. let s = short_denotes_text m cs known n has in omega (arith, s.1.within, few))
-
--- where one class names a text from the cap on, they do
-pub one_names : (cs : List NumberedClass) (i cap : ℕ) → i < length cs → has_from cap (members_short_strings (class_at cs i).members) ≡ true → has_from cap (short_numbers cs) ≡ true
-one_names cs i cap lt far =
-    let s = list_any-source (λ (n : ℕ). not (nat_lt n cap)) (members_short_strings (class_at cs i).members) far in
-    list_any-member (λ (n : ℕ). not (nat_lt n cap)) (short_numbers cs) s.0 (Contains-flat_map (λ (x : NumberedClass). members_short_strings x.members) cs (class_at cs i) s.0 (Contains-get_or cs i no_class lt) s.1) s.2
-
--- one class more that names none
-pub more_near : (cs : List NumberedClass) (i cap : ℕ) → i < length cs → has_from cap (short_numbers (take i cs)) ≡ false → has_from cap (members_short_strings (class_at cs i).members) ≡ false → has_from cap (short_numbers (take (i + 1) cs)) ≡ false
-more_near cs i cap lt before last =
-    let test : ℕ → Bool = λ n. not (nat_lt n cap) in
-    let own : List ℕ = members_short_strings (class_at cs i).members in
-    let more : short_numbers (take (i + 1) cs) ≡ short_numbers (take i cs) ++ own =
-    ap short_numbers (take_more cs i no_class lt) ∙ flat_map-append (λ (x : NumberedClass). members_short_strings x.members) (take i cs) (class_at cs i ∷ []) ∙ ap (λ (l : List ℕ). short_numbers (take i cs) ++ l) (append-nil own) in
-    not_false (has_from cap (short_numbers (take (i + 1) cs))) (λ e.
-    let s = list_any-source test (short_numbers (take (i + 1) cs)) e in
-    elim (Contains-append_cases (short_numbers (take i cs)) own s.0 (subst (λ (l : List ℕ). Contains l s.0) more s.1)) [
-      | inl first ↦ false≢true (sym before ∙ list_any-member test (short_numbers (take i cs)) s.0 first s.2)
-      | inr now ↦ false≢true (sym last ∙ list_any-member test own s.0 now s.2)
-    ])

@@ -22,7 +22,7 @@ use Rattle.dexmerge.specs.Candidates.{AreMembers, IsOfPart, IsEqualCopy, IsFirst
 use Rattle.dexmerge.specs.internal.Cycles.{AreKept, AreAcyclic, IsFirstCycle}
 use Rattle.dexmerge.specs.internal.Amounts.{first_over}
 use Rattle.dexmerge.specs.internal.Unions.{AreCopies, AreOnce, IsJoined}
-use Rattle.dexmerge.proofs.UnionLaws.{AreDistinguished, name_in, conflict_reported, kept_members, kept_rise, are_kept, definitions_differ, consistent, cycle_reported}
+use Rattle.dexmerge.proofs.UnionLaws.{AreDistinguished, conflict_reported, kept_members, kept_rise, are_kept, definitions_differ, consistent, cycle_reported}
 use Rattle.dexmerge.proofs.CapLaws.{found_cap}
 use Rattle.dexmerge.proofs.CycleLaws.{depths_same}
 
@@ -72,10 +72,6 @@ module _ (m : Mentions) (D : List Definition) (cs : List Candidate) (h : AreCopi
     -- a conflict
     pub copies_conflict : Distinguishes → (caps : Caps) (name : ℕ) → IsFirstConflict Cs places name → IsFirstCause caps D (Conflict (type_at m name))
     copies_conflict report caps name l = first_cause-same caps (map (definition_of m) Cs) D (Conflict (type_at m name)) h.members.same (conflict_reported m h.rising Cs h.members.known places p (distinguished report) caps name l)
-
-    -- the name of a conflict is a type
-    pub conflict_name : (name : ℕ) → IsFirstConflict Cs places name → name < length m.types
-    conflict_name name l = subst (λ (n : ℕ). n < length m.types) l.is.name_is (name_in m h.rising Cs h.members.known l.is.place l.is.within)
 
     -- one of each name
     pub copies_once : (ks : List Candidate) → classes_of ks ≡ kept_classes Cs places → AreIn ks cs → ((i : ℕ) → i < length Cs → IsEqualCopy Cs places i) → AreOnce m D ks

@@ -1,7 +1,7 @@
 -- The lines of the classes of a program, one after the other.
 use Rattle.std.proofs.Common.{◌≡◌, ℕ, ◌+◌, ◌<◌, List, [], ◌∷◌, ◌++◌, length, get_or, take, map, sym, ap, subst, ◌∙◌, append-nil, arith}
 use Rattle.std.proofs.lemmas.Grind.{flat_map-append}
-use Rattle.std.proofs.lemmas.List.{get_or-map, length-map, take_all, take_more}
+use Rattle.std.proofs.lemmas.List.{get_or-map, length-map, take_more}
 use Rattle.std.specs.Prelude.{All}
 use Rattle.dexspec.specs.Files.{Collection, Denotes}
 use Rattle.dexspec.specs.Classes.{Definition}
@@ -27,9 +27,6 @@ module _ (m : Mentions) (cs : List NumberedClass) (D : List Definition) (are : m
   many : length D ≡ length cs
   many = ap (λ l. length l) (sym are) ∙ length-map cs (definition_of m)
 
-  pub digests_count : (digests : List (List ℕ)) → digests ≡ map class_digest D → length digests ≡ length cs
-  digests_count digests is = ap (λ l. length l) is ∙ length-map D class_digest ∙ many
-
   -- the line of one more class is appended
   pub line_more : (file : List ℕ) (digests : List (List ℕ)) (i : ℕ) (c : NumberedClass) (digest name old new : List ℕ) → digests ≡ map class_digest D →
       i < length cs → c ≡ get_or cs i c → digest ≡ get_or digests i digest → name ≡ type_at m c.name →
@@ -42,10 +39,6 @@ module _ (m : Mentions) (cs : List NumberedClass) (D : List Definition) (are : m
       after ∙ ap (λ l. l ++ digest_line file digest name) before ∙ ap (λ x. digest_lines_of file (take i D) ++ digest_line file x name) last
       ∙ ap (λ x. digest_lines_of file (take i D) ++ digest_line file (class_digest (get_or D i (definition_of m c))) x) title
       ∙ sym (lines_more file D i (definition_of m c) (omega (arith, lt, many)))
-
-  -- all lines are there
-  pub all_lines : (file : List ℕ) (i : ℕ) (text : List ℕ) → i ≡ length cs → text ≡ digest_lines_of file (take i D) → text ≡ digest_lines_of file D
-  all_lines file i text end before = before ∙ ap (digest_lines_of file) (take_all i D (omega (arith, end, many)))
 
 -- a class of known ones has a name
 pub name_in : (m : Mentions) (cs : List NumberedClass) (i : ℕ) (c : NumberedClass) → All (IsKnownClass m) cs → i < length cs → c ≡ get_or cs i c → c.name < length m.types

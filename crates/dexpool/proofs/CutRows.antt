@@ -28,32 +28,32 @@ module _ {R : Type 0} (marks : List Bool) (rows : List R) (i : ℕ) (d : R) (lt 
 
 -- ---- a table that is cut in place
 
--- a swap of two places that moves a row to the front
-module _ {R : Type 0} (rows : List R) (count i : ℕ) (d : R) (front : count ≤ i) (lt : i < length rows) where
+-- a swap of two places that moves a row after those that were kept
+module _ {R : Type 0} (rows : List R) (count i : ℕ) (d : R) (within : count ≤ i) (lt : i < length rows) where
   swapped : swap rows count i ≡ set (set rows count (get_or rows i d)) i (get_or rows count d)
-  swapped = sym (swap_is rows count i d (omega (arith, front, lt)) lt)
+  swapped = sym (swap_is rows count i d (omega (arith, within, lt)) lt)
 
-  moved_front : take (count + 1) (swap rows count i) ≡ take count rows ++ get_or rows i d ∷ []
-  moved_front =
+  moved_last : take (count + 1) (swap rows count i) ≡ take count rows ++ get_or rows i d ∷ []
+  moved_last =
       let x = get_or rows i d in
       let y = get_or rows count d in
-      let less : count < length rows = omega (arith, front, lt) in
+      let less : count < length rows = omega (arith, within, lt) in
       ap (take (count + 1)) swapped ∙ elim (cases_eq count i) [
         | inl same ↦ ap (λ k. take (count + 1) (set (set rows count x) k y)) (sym same) ∙ ap (take (count + 1)) (set-set rows count x y) ∙ take_more_set rows count y less ∙ ap (λ k. take count rows ++ get_or rows k d ∷ []) same
-        | inr other ↦ take-set-le (count + 1) (set rows count x) i y (omega (arith, front, other)) ∙ take_more_set rows count x less
+        | inr other ↦ take-set-le (count + 1) (set rows count x) i y (omega (arith, within, other)) ∙ take_more_set rows count x less
       ]
 
   left_rest : drop (i + 1) (swap rows count i) ≡ drop (i + 1) rows
   left_rest =
       let x = get_or rows i d in
-      ap (drop (i + 1)) swapped ∙ drop-set-lt (i + 1) (set rows count x) i (get_or rows count d) (omega arith) ∙ drop-set-lt (i + 1) rows count x (omega (arith, front))
+      ap (drop (i + 1)) swapped ∙ drop-set-lt (i + 1) (set rows count x) i (get_or rows count d) (omega arith) ∙ drop-set-lt (i + 1) rows count x (omega (arith, within))
 
 -- the rows that are kept so far are first, and those from i on are still the old ones
 pub record IsCutTo {R : Type 0} (old : List R) (marks : List Bool) (i count : ℕ) (rows : List R) : Type 0 where
   pub so_far : take count rows ++ kept (drop i marks) (drop i old) ≡ kept marks old
   pub rest : drop i rows ≡ drop i old
   pub size : length rows ≡ length old
-  pub front : count ≤ i
+  pub within : count ≤ i
 
 module _ {R : Type 0} (old : List R) (marks : List Bool) (i count : ℕ) (rows : List R) (h : IsCutTo old marks i count rows) (lt : i < length old) (sized : length marks ≡ length old) where
   any : R
@@ -64,10 +64,10 @@ module _ {R : Type 0} (old : List R) (marks : List Bool) (i count : ℕ) (rows :
       let less : i < length rows = omega (arith, lt, h.size) in
       record {
         so_far = keeps marks old i any lt sized (take count rows) (take (count + 1) (swap rows count i)) marked
-            (moved_front rows count i any h.front less ∙ ap (λ x. take count rows ++ x ∷ []) (same_at old rows i h.rest any)) h.so_far;
-        rest = left_rest rows count i any h.front less ∙ rest_more old rows i h.rest;
+            (moved_last rows count i any h.within less ∙ ap (λ x. take count rows ++ x ∷ []) (same_at old rows i h.rest any)) h.so_far;
+        rest = left_rest rows count i any h.within less ∙ rest_more old rows i h.rest;
         size = length-swap rows count i ∙ h.size;
-        front = omega (arith, h.front);
+        within = omega (arith, h.within);
       }
 
   pub cut_past : get_or marks i false ≡ false → IsCutTo old marks (i + 1) count rows
@@ -75,7 +75,7 @@ module _ {R : Type 0} (old : List R) (marks : List Bool) (i count : ℕ) (rows :
     so_far = leaves marks old i any lt sized (take count rows) unmarked h.so_far;
     rest = rest_more old rows i h.rest;
     size = h.size;
-    front = omega (arith, h.front);
+    within = omega (arith, h.within);
   }
 
 -- ---- places

@@ -135,7 +135,7 @@ fn kept_remap(alloc: Global, marks: Marks) -> Result<Remap, AllocError>
     })
 }
 
-// The rows that are marked, moved to the front of their table.
+// The rows that are marked, moved to the places before the others of their table.
 fn marked<T: Drop>(mut rows: Vec<T>, marks: &[bool]) -> Vec<T>
     requires { length marks.now ≡ length rows.items }
     ensures { result.items ≡ kept marks.now rows.items }

@@ -1,5 +1,5 @@
 -- Names and operations that are read one after the other.
-use Rattle.std.proofs.Common.{◌≡◌, ℕ, ◌+◌, ◌-◌, ◌*◌, ◌^◌, ◌<◌, ◌≤◌, List, [], ◌∷◌, ◌++◌, length, map, take, get_or, sum_by, Option, Some, None, refl, ap, sym, subst, ◌∙◌, arith, length-append}
+use Rattle.std.proofs.Common.{◌≡◌, ℕ, ◌+◌, ◌-◌, ◌*◌, ◌<◌, ◌≤◌, List, [], ◌∷◌, ◌++◌, length, map, take, get_or, sum_by, Option, Some, None, refl, ap, sym, subst, ◌∙◌, arith, length-append}
 use Rattle.std.specs.List.{All, flat_map}
 use Rattle.std.proofs.lemmas.Grind.{flat_map-append}
 use Rattle.std.proofs.lemmas.List.{drop_more, append_assoc, append-nil, map-append}
@@ -137,16 +137,6 @@ pub record NamesChecked (texts : ℕ) (b : List ℕ) (from count counter at : �
   pub names : List (Option ℕ)
   pub so_far : NamesSoFar texts b from count counter at names
 
-pub no_names_yet : (texts : ℕ) (b : List ℕ) (from count : ℕ) (names : List (Option ℕ)) → from ≤ length b → names ≡ [] → NamesSoFar texts b from count 0 from names
-no_names_yet texts b from count names le e = rw e (record {
-  following = omega arith;
-  within = le;
-  counted = refl;
-  before = omega arith;
-  fit = All-nil FitsIndex;
-  others = λ ys n p. (ys, n, subst (λ (k : ℕ). NamesAt texts b from k ys n) (omega arith) p, refl);
-})
-
 pub one_name_more : (texts : ℕ) (b : List ℕ) (from count counter at : ℕ) (names more : List (Option ℕ)) (i : Option ℕ) (k : ℕ) → NamesSoFar texts b from count counter at names → counter < count → at + k ≤ length b → IndexAt texts b at i k
     → ((j : Option ℕ) (n : ℕ) → IndexAt texts b at j n → ◌≡◌ {A = Option (Option ℕ × ℕ)} (Some (i, k)) (Some (j, n))) → more ≡ names ++ i ∷ [] → NamesSoFar texts b from count (counter + 1) (at + k) more
 one_name_more texts b from count counter at names more i k h lt le here only e =
@@ -167,22 +157,6 @@ one_name_more texts b from count counter at names more i k h lt le here only e =
           let fewer : count - counter - 1 ≡ count - (counter + 1) = omega arith in
           (on.2, on.3, subst (λ (q : ℕ). NamesAt texts b (at + k) q on.2 on.3) fewer (subst (λ (q : ℕ). NamesAt texts b (at + q) (count - counter - 1) on.2 on.3) (sym same) on.5), omega (arith, g.3, on.6, same));
     })
-
-pub all_names : (texts : ℕ) (b : List ℕ) (from count counter at : ℕ) → NamesChecked texts b from count counter at → counter ≡ count → EndNames texts b from count at
-all_names texts b from count counter at checked e =
-    let h = checked.so_far in
-    let counted = h.counted in record {
-      names = checked.names;
-      before = h.following;
-      within = h.within;
-      names_at = record { many = omega (arith, counted, e); each = h.before };
-      fit = h.fit;
-      ends = λ ys n p. let g = h.others ys n p in ended g.0 g.1 n g.2 g.3;
-    }
-  where
-    ended : (rest : List (Option ℕ)) (k n : ℕ) → NamesAt texts b at (count - counter) rest k → from + n ≡ at + k → from + n ≡ at
-    ended [] k n p q = let each = p.each in omega (arith, q, each)
-    ended (i ∷ rest) k n p q = let many = p.many in absurd (omega (arith, many, e))
 
 -- where one of the names is not read, there are no such names
 pub no_name : (texts : ℕ) (b : List ℕ) (from count counter at : ℕ) (names : List (Option ℕ)) → NamesSoFar texts b from count counter at names → counter < count
@@ -212,9 +186,6 @@ pub record OperationsChecked (m : Counts) (b : List ℕ) (from at count indices 
   pub few : count ≤ at
   pub light : weight ≤ 21 * count
   pub bounded : indices ≤ 3 * count
-
-pub no_operations_yet : (m : Counts) (b : List ℕ) (from : ℕ) (ops : List Operation) → from ≤ length b → ops ≡ [] → OperationsSoFar m b from from ops
-no_operations_yet m b from ops le e = rw e (record { following = omega arith; within = le; few = omega arith; before = omega arith; formed = All-nil IsFormedOperation; others = λ xs p. (xs, p) })
 
 pub one_operation_more : (m : Counts) (b : List ℕ) (from at c : ℕ) (ops more : List Operation) (op : Operation) (k : ℕ) → OperationsSoFar m b from at ops → at + 1 + k ≤ length b → BytesAt b at (c ∷ []) → 0 < c → c ≤ 0xff
     → OperandsAt m c b (at + 1) op k → ((x : Operation) (n : ℕ) → OperandsAt m c b (at + 1) x n → ◌≡◌ {A = Option (Operation × ℕ)} (Some (op, k)) (Some (x, n))) → more ≡ ops ++ op ∷ [] → OperationsSoFar m b from (at + (1 + k)) more
@@ -269,23 +240,6 @@ one_more_checked m b from at c count indices weight op k n i h le here some byte
       few = omega arith;
       light = omega arith;
       bounded = omega arith;
-    }
-
-pub all_operations : (m : Counts) (b : List ℕ) (from at count indices weight : ℕ) → OperationsChecked m b from at count indices weight → BytesAt b at (0x00 ∷ []) → 0 < from → length b ≤ 2 ^ 30 → AreTallied m b from (record { operations = count; indices = indices; weight = weight })
-all_operations m b from at count indices weight checked end some small =
-    let h = checked.so_far in
-    let following = h.following in
-    let within = h.within in
-    let few = h.few in record {
-      operations = checked.operations;
-      program = record { size = at - from; operations = h.before; end = is_at (omega arith) end };
-      formed = h.formed;
-      few = omega arith;
-      count = checked.counted;
-      indices = checked.indexed;
-      weight = checked.weighed;
-      light = checked.light;
-      bounded = checked.bounded;
     }
 
 -- ---- names and operations that are known to be there

@@ -1,6 +1,6 @@
 -- Debug programs that are the same once remapped by two maps.
-use Rattle.std.proofs.Common.{◌≡◌, ℕ, ◌+◌, ◌<◌, ◌≤◌, List, [], ◌∷◌, ◌++◌, length, take, map, get_or, Option, refl, ap, sym, ◌∙◌}
-use Rattle.std.proofs.lemmas.List.{map_more, take_all, get_or-map}
+use Rattle.std.proofs.Common.{◌≡◌, ℕ, ◌<◌, ◌≤◌, List, length, take, map, get_or, Option, refl, ap, sym, ◌∙◌}
+use Rattle.std.proofs.lemmas.List.{take_all, get_or-map}
 use Rattle.dexpool.specs.declared.symbols.SymbolKind.TheVariants as kinds
 use Rattle.dexpool.specs.Numberings.{Maps}
 use Rattle.dexdebug.specs.declared.debug_operation.Operation.{Operation}
@@ -9,9 +9,6 @@ use Rattle.dexdebug.specs.Debug.{image_or_none, name_of, type_of, signature_of, 
 use Rattle.dexdebug.specs.Operations.{unindexed_of}
 
 -- ---- lists that are the same, mapped
-
-pub same_more : {X Y : Type 0} (f g : X → Y) (xs ys : List X) (i : ℕ) (d : X) → i < length xs → i < length ys → map f (take i xs) ≡ map g (take i ys) → f (get_or xs i d) ≡ g (get_or ys i d) → map f (take (i + 1) xs) ≡ map g (take (i + 1) ys)
-same_more f g xs ys i d lt lt' before here = map_more f xs i d lt ∙ (λ j. before j ++ here j ∷ []) ∙ sym (map_more g ys i d lt')
 
 pub same_all : {X Y : Type 0} (f g : X → Y) (xs ys : List X) (i : ℕ) → length xs ≤ i → length ys ≤ i → map f (take i xs) ≡ map g (take i ys) → map f xs ≡ map g ys
 same_all f g xs ys i end end' h = ap (map f) (sym (take_all i xs end)) ∙ h ∙ ap (map g) (take_all i ys end')

@@ -37,7 +37,7 @@ abbrev pub methods_in_all : List NumberedClass → List NumberedMethod
 methods_in_all cs = flat_map (λ c. methods_of c.members) cs
 
 -- they denote those of the definitions
-methods_mean : (m : Mentions) (cs : List NumberedClass) → all_methods (map (definition_of m) cs) ≡ map (method_in m) (methods_in_all cs)
+pub methods_mean : (m : Mentions) (cs : List NumberedClass) → all_methods (map (definition_of m) cs) ≡ map (method_in m) (methods_in_all cs)
 methods_mean m [] = refl
 methods_mean m (c ∷ cs) =
     ap (λ xs. declared_methods (definition_of m c).1 ++ xs) (methods_mean m cs)
@@ -49,7 +49,7 @@ pub class_methods_known : (m : Mentions) (x : NumberedMembers) → AreKnownMembe
 class_methods_known m x known = All-append (IsKnownMethod m) x.direct_methods x.virtual_methods known.direct_methods_known known.virtual_methods_known
 
 -- and those of all
-methods_known : (m : Mentions) (cs : List NumberedClass) → All (IsKnownClass m) cs → All (IsKnownMethod m) (methods_in_all cs)
+pub methods_known : (m : Mentions) (cs : List NumberedClass) → All (IsKnownClass m) cs → All (IsKnownMethod m) (methods_in_all cs)
 methods_known m [] known = All-nil (IsKnownMethod m)
 methods_known m (c ∷ cs) known =
     All-append (IsKnownMethod m) (methods_of c.members) (methods_in_all cs) (class_methods_known m c.members (All-head (IsKnownClass m) c cs known).members_known) (methods_known m cs (All-tail (IsKnownClass m) c cs known))

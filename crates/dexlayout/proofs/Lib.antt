@@ -1,6 +1,7 @@
 pub mod CodeItems
 pub mod Counted
 pub mod DataItems
+pub mod DebugsApart
 pub mod EncodedItems
 pub mod EncodedUses
 pub mod Ends

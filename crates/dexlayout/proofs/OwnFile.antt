@@ -7,7 +7,8 @@ use Rattle.dexspec.specs.Header.{HasSize}
 use Rattle.dexspec.specs.Sections.{Section, HeaderItem, MapList}
 use Rattle.dexspec.specs.Files.{Collection, definitions}
 use Rattle.dexspec.specs.Mentions.{Mentions, mentions}
-use Rattle.dexspec.specs.Merging.{Caps, greatest_caps, AreCaps, Fits}
+use Rattle.dexspec.specs.Merging.{Caps, greatest_caps, AreCaps, Fits, IsGood}
+use Rattle.dexspec.specs.WellFormed.{AreWellFormed}
 use Rattle.dexspec.specs.Placing.{Ordered, EqualOnce, end, offsets}
 use Rattle.dexspec.specs.Canonical.{map_of, map_bytes, unsigned_file, with_sums, ordered, canonical, data_start, type_list_section, annotation_section, array_section, string_section, debug_section, code_section, class_data_section, set_section, set_offsets, ref_list_section, directory_section}
 use Rattle.dexspec.proofs.layout.SectionPlaces.{data_before_map, map_place, map_place_is, map_list_named, parts}
@@ -18,9 +19,10 @@ use Rattle.dexpool.specs.Numberings.{IsNumbering}
 use Rattle.dexclass.specs.Numbered.{NumberedClass}
 use Rattle.dexclass.specs.Programs.{AreClassesOf}
 use Rattle.dexlayout.specs.Places.{SetPlaces, Places}
-use Rattle.dexlayout.specs.Laid.{ordered_of, file_end, AreWritable, AreLaidSo, AreEncodedIn, AreSharedIn, AreSets, IsLaid, IsMap, AreItemsIn}
+use Rattle.dexlayout.specs.Laid.{ordered_of, file_end, AreWritable, AreLaidSo, AreEncodedIn, AreSharedIn, AreSets, HaveOwnBytes, IsLaid, IsMap, AreItemsIn}
 use Rattle.dexlayout.specs.internal.Parts.{entry_of, table_parts, section_parts}
 use Rattle.dexlayout.specs.internal.Placing.{placed_map, whole_map}
+use Rattle.dexlayout.proofs.DebugsApart.{debugs_apart}
 use Rattle.dexlayout.proofs.Ends.{map_start_is}
 use Rattle.dexlayout.proofs.OwnParts.{map_parts}
 
@@ -51,15 +53,16 @@ ordered_is C cs of = ap (λ ds. record { classes = ds; pools = mentions (definit
 greatest_are : AreCaps greatest_caps
 greatest_are = record { types = omega arith; protos = omega arith; fields = omega arith; methods = omega arith; short_strings = omega arith; weight = omega arith }
 
--- what fits the greatest caps can be written
-pub writable : (C : Collection) (cs : List NumberedClass) → IsNumbering (mentions (definitions C)) → Fits greatest_caps (definitions C)
+-- what is good can be written
+pub writable : (C : Collection) (cs : List NumberedClass) → IsNumbering (mentions (definitions C)) → IsGood greatest_caps (definitions C) → AreWellFormed (definitions C)
     → ((caps : Caps) (D : Collection) → AreCaps caps → Fits caps (definitions D) → HasSize (canonical D)) → AreClassesOf C cs → AreWritable (mentions (definitions C)) cs
-writable C cs numbering fits law of = record {
+writable C cs numbering good formed law of = record {
   numbering = numbering;
   known = of.known;
-  types_few = fits.types;
-  protos_few = fits.protos;
-  fits = omega (arith, (law greatest_caps C greatest_are fits).most, length_canonical C, ap file_end (ordered_is C cs of));
+  types_few = good.fits.types;
+  protos_few = good.fits.protos;
+  debugs_apart = subst HaveOwnBytes (sym (ordered_is C cs of)) (debugs_apart C good formed);
+  fits = omega (arith, (law greatest_caps C greatest_are good.fits).most, length_canonical C, ap file_end (ordered_is C cs of));
 }
 
 -- ---- classes of the same definitions have the same layout

@@ -1,26 +1,28 @@
 -- The kinds of item that uses share, in a whole file: type lists, annotation sets and debug programs.
-use Rattle.std.proofs.Common.{◌≡◌, ℕ, ◌^◌, ◌<◌, ◌≤◌, List, [], ◌∷◌, ◌++◌, length, map, None, Some, refl, sym, ap, ◌∙◌, arith, append_assoc}
-use Rattle.std.specs.Prelude.{All, IfSome, IsTrue, Option, ◌↔◌}
+use Rattle.std.proofs.Common.{◌≡◌, ℕ, ◌^◌, ◌<◌, ◌≤◌, List, [], ◌∷◌, ◌++◌, length, map, None, Some, refl, sym, ap, subst, ◌∙◌, arith, append_assoc}
+use Rattle.std.specs.Prelude.{All, IfSome, Option}
 use Rattle.std.specs.Borrow.{Bor}
 use Rattle.std.specs.List.{flat_map}
 use Rattle.std.specs.Option.{option_map, option_map_or}
 use Rattle.std.proofs.lemmas.Grind.{flat_map-append}
 use Rattle.std.proofs.lemmas.List.{map-append, length-map}
+use Rattle.std.proofs.lemmas.List.Elements.{All-head, All-tail}
 use Rattle.std.proofs.lemmas.Simd.{map-map}
 use Rattle.dexspec.specs.Annotations.{AnnotationSet}
 use Rattle.dexspec.specs.Canonical.{data_start, type_list_items, type_list_section, set_items, string_section, debug_items, debug_section}
 use Rattle.dexspec.specs.Classes.{FieldDef, MethodDef}
 use Rattle.dexspec.specs.Debug.{Debug}
 use Rattle.dexspec.specs.Mentions.{Mentions}
-use Rattle.dexspec.specs.Placing.{unless_empty, method_sets, class_sets, type_list_uses, set_uses, debug_uses, all_methods, end}
+use Rattle.dexspec.specs.Placing.{unless_empty, method_sets, class_sets, type_list_uses, set_uses, debug_uses, shared_items, end}
 use Rattle.dexspec.specs.Sameness.{same_types, same_set, same_debug}
 use Rattle.dexspec.specs.Sections.{TypeLists, DebugInfoItems}
 use Rattle.dexspec.specs.Spellings.{type_list_bytes, debug_bytes}
 use Rattle.dexspec.proofs.layout.Uses.{shared_numbered}
+use Rattle.dexspec.proofs.lists.Equality.{text_decides}
 use Rattle.dexspec.proofs.sharing.Sameness.{types_decide, debug_decides}
 use Rattle.dexdebug.specs.Debug.{NumberedDebug, numbered_debug_bytes}
 use Rattle.dexdebug.specs.Meaning.{debug_in, IsKnownDebug}
-use Rattle.dexcode.specs.Meaning.{code_in}
+use Rattle.dexcode.specs.Meaning.{code_in, IsKnownCode}
 use Rattle.dexcode.specs.Numbered.{NumberedItem}
 use Rattle.dexdebug.proofs.DebugMeanings.{bytes_are}
 use Rattle.dexdebug.proofs.MeaningDebug.{debug_encoded}
@@ -28,21 +30,25 @@ use Rattle.dexval.specs.declared.set.AnnotationSet.{AnnotationSet as CodeSet}
 use Rattle.dexval.specs.Code.{set_of}
 use Rattle.dexval.specs.Equality.{equal_sets, set_decides}
 use Rattle.dexval.specs.Numbered.{set_in}
-use Rattle.dexmembers.specs.Numbered.{NumberedField, NumberedMethod, field_in, method_in, methods_of}
+use Rattle.dexmembers.specs.Numbered.{NumberedField, NumberedMethod, IsKnownMethod, field_in, method_in, methods_of}
 use Rattle.dexpool.specs.Numberings.{AreRising}
 use Rattle.dexpool.proofs.UnionLaws.{ranks_are_numbers}
 use Rattle.dexclass.specs.Numbered.{NumberedClass, definition_of, type_at}
 use Rattle.dexlayout.specs.Laid.{AreShared, AreItemsIn, AreTypeLists, AreDebugs, AreWritable, ordered_of}
+use Rattle.dexlayout.specs.ItemKeys.{same_bytes}
 use Rattle.dexlayout.specs.internal.Encoding.{list_bytes}
+use Rattle.dexlayout.specs.internal.Encodings.{debug_encoding, debug_encodings, all_debug_encodings}
 use Rattle.dexlayout.specs.internal.Placing.{shared_by, encoded_lists, encoded_debugs}
-use Rattle.dexlayout.specs.internal.SharedUses.{AreTypes, SharesLists, SharesSets, SharesDebugs, interfaces_use, set_use, field_uses, method_uses, methods_uses, members_uses, equal_debugs, debugs_uses}
+use Rattle.dexlayout.specs.internal.Sharing.{HaveItems}
+use Rattle.dexlayout.specs.internal.SharedUses.{AreTypes, SharesLists, SharesSets, interfaces_use, set_use, field_uses, method_uses, methods_uses, members_uses}
+use Rattle.dexlayout.proofs.CodeItems.{methods_in_all, methods_mean as all_methods_mean, methods_known}
 use Rattle.dexlayout.proofs.EncodedItems.{items_agree}
 use Rattle.dexlayout.proofs.EncodedUses.{all_in}
 use Rattle.dexlayout.proofs.Ends.{end_in_file}
 use Rattle.dexlayout.proofs.ListBytes.{list_bytes_are}
 use Rattle.dexlayout.proofs.SharedPlaces.{shared_in, numbers_within, offsets_count}
-use Rattle.dexlayout.proofs.SharedSame.{lists_agree, sets_agree, debugs_agree}
-use Rattle.dexlayout.proofs.SharedUses.{shared_are}
+use Rattle.dexlayout.proofs.SharedSame.{agree, lists_agree, sets_agree}
+use Rattle.dexlayout.proofs.SharedUses.{shared_are, shared_mapped}
 
 -- ---- type lists
 
@@ -132,63 +138,68 @@ sets_shared m cs ks ns rising h = shared_are h same_set (λ s t. sets_agree m ri
 
 -- ---- debug programs
 
--- the debug program that code means
-code_debug : (m : Mentions) (code : Option NumberedItem) → option_map_or (λ c. c.debug) (option_map (code_in m) code) None ≡ option_map (debug_in m) (option_map_or (λ c. c.debug) code None)
-code_debug m None = refl
-code_debug m (Some c) = refl
-
--- those of methods
+-- the debug program of a method's code
 abbrev method_debug : MethodDef → Option Debug
 method_debug x = option_map_or (λ c. c.debug) x.code None
 
-debugs_mean : (m : Mentions) (xs : List NumberedMethod) → map method_debug (map (method_in m) xs) ≡ debugs_uses m xs
-debugs_mean m [] = refl
-debugs_mean m (x ∷ xs) = λ i. code_debug m x.code i ∷ debugs_mean m xs i
+module _ (m : Mentions) (rising : AreRising m) where
+  -- an encoding by numbers is that of the debug program that they denote
+  debug_encoded_in : (code : Option NumberedItem) → IfSome code (IsKnownCode m)
+      → option_map (debug_bytes m) (option_map_or (λ c. c.debug) (option_map (code_in m) code) None) ≡ option_map numbered_debug_bytes (option_map_or (λ c. c.debug) code None)
+  debug_encoded_in None known = refl
+  debug_encoded_in (Some c) known = by c.debug known.debug_known
+    where
+      by : (debug : Option NumberedDebug) → IfSome debug (IsKnownDebug m) → option_map (debug_bytes m) (option_map (debug_in m) debug) ≡ option_map numbered_debug_bytes debug
+      by None known = refl
+      by (Some d) known = ap Some (sym (bytes_are m d (debug_in m d) rising (debug_encoded m d known)))
 
--- those of classes
-pub debug_uses_are : (m : Mentions) (cs : List NumberedClass) → flat_map (λ c. debugs_uses m (methods_of c.members)) cs ≡ debug_uses (ordered_of m cs)
-debug_uses_are m [] = refl
-debug_uses_are m (c ∷ cs) =
-    let dm = c.members.direct_methods in
-    let vm = c.members.virtual_methods in
-    let here : debugs_uses m (dm ++ vm) ≡ map method_debug (map (method_in m) dm ++ map (method_in m) vm) = sym (debugs_mean m (dm ++ vm)) ∙ ap (map method_debug) (map-append (method_in m) dm vm) in
-    (λ i. here i ++ debug_uses_are m cs i) ∙ sym (map-append method_debug (map (method_in m) dm ++ map (method_in m) vm) (all_methods (map (definition_of m) cs)))
+  debugs_encoded_in : (xs : List NumberedMethod) → All (IsKnownMethod m) xs → map (option_map (debug_bytes m)) (map method_debug (map (method_in m) xs)) ≡ debug_encodings xs
+  debugs_encoded_in [] known = refl
+  debugs_encoded_in (x ∷ xs) known = λ i. debug_encoded_in x.code (All-head (IsKnownMethod m) x xs known).code_known i ∷ debugs_encoded_in xs (All-tail (IsKnownMethod m) x xs known) i
 
-pub debugs_shared : (m : Mentions) (cs : List NumberedClass) (ks : List (Bor NumberedDebug)) (ns : List (Option ℕ)) → ((d e : NumberedDebug) → IsTrue (equal_debugs d e) ↔ (d ≡ e)) → AreRising m
-    → SharesDebugs m (debug_uses (ordered_of m cs)) ks ns → AreShared (λ (d : Bor NumberedDebug). debug_in m d.now) (debug_items (ordered_of m cs)) ks ns
-debugs_shared m cs ks ns exact rising h = shared_are h same_debug (λ d e. debugs_agree m rising (equal_debugs d.now e.now) d.now e.now (exact d.now e.now))
+-- those of all methods
+all_encodings : (cs : List NumberedClass) → all_debug_encodings cs ≡ debug_encodings (methods_in_all cs)
+all_encodings [] = refl
+all_encodings (c ∷ cs) = ap (λ us. debug_encodings (methods_of c.members) ++ us) (all_encodings cs) ∙ sym (map-append debug_encoding (methods_of c.members) (methods_in_all cs))
 
--- the bytes of a debug program
-abbrev pub debug_code : Bor NumberedDebug → List ℕ
-debug_code d = numbered_debug_bytes d.now
+module _ (m : Mentions) (cs : List NumberedClass) (w : AreWritable m cs) (from : ℕ) (is : from ≡ end (string_section (ordered_of m cs))) (written : List (List ℕ)) (numbers : List (Option ℕ))
+    (h : HaveItems same_bytes (all_debug_encodings cs) written numbers) where
+  uses_are : map (option_map (debug_bytes m)) (debug_uses (ordered_of m cs)) ≡ all_debug_encodings cs
+  uses_are =
+      ap (λ xs. map (option_map (debug_bytes m)) (map method_debug xs)) (all_methods_mean m cs) ∙ debugs_encoded_in m w.numbering.rising (methods_in_all cs) (methods_known m cs w.known)
+      ∙ sym (all_encodings cs)
 
-module _ (m : Mentions) (cs : List NumberedClass) (w : AreWritable m cs) (from : ℕ) (is : from ≡ end (string_section (ordered_of m cs))) (written : List (Bor NumberedDebug)) (numbers : List (Option ℕ))
-    (known : All (λ d. IsKnownDebug m d.now) written) (h : AreShared (λ (d : Bor NumberedDebug). debug_in m d.now) (debug_items (ordered_of m cs)) written numbers) where
-  debug_code_is : (d : Bor NumberedDebug) → IsKnownDebug m d.now → debug_code d ≡ debug_bytes m (debug_in m d.now)
-  debug_code_is d k = bytes_are m d.now (debug_in m d.now) w.numbering.rising (debug_encoded m d.now k)
+  -- debug programs share what their encodings share
+  debugs_shared : AreShared (debug_bytes m) (shared_items same_bytes (all_debug_encodings cs)) (debug_items (ordered_of m cs)).written (debug_items (ordered_of m cs)).numbers
+  debugs_shared =
+      let its = debug_items (ordered_of m cs) in
+      subst (λ us. AreShared (debug_bytes m) (shared_items same_bytes us) its.written its.numbers) uses_are
+      (shared_mapped (debug_bytes m) same_debug same_bytes (debug_uses (ordered_of m cs)) its.written its.numbers
+      (λ x y here there. agree (debug_bytes m) (same_debug x y) same_bytes text_decides x y (debug_decides x y) (w.debugs_apart x y here there))
+      (record { written_are = refl; numbers_are = refl }))
 
   debugs_encoded : AreItemsIn (debug_section (ordered_of m cs)) (encoded_debugs from written)
   unfolding debug_section
   debugs_encoded =
       let its = debug_items (ordered_of m cs) in
       all_in 1 (debug_bytes m) DebugInfoItems its is
-      (items_agree debug_code (debug_bytes m) (λ d. debug_in m d.now) (λ d. IsKnownDebug m d.now) debug_code_is written known ∙ ap (map (λ d. Some (debug_bytes m d))) h.written_are)
+      (ap (map Some) (h.written_are ∙ sym debugs_shared.written_are) ∙ map-map Some (debug_bytes m) its.written)
 
   -- they end within the file
   pub debugs_fit : (encoded_debugs from written).places.end ≤ 2 ^ 30
   debugs_fit = omega (arith, debugs_encoded.places_are.end_is, (end_in_file (ordered_of m cs) w.fits).debugs)
+
+  debugs_numbers : numbers ≡ (debug_section (ordered_of m cs)).numbers
+  unfolding debug_section
+  debugs_numbers = h.numbers_are ∙ sym debugs_shared.numbers_are
 
   -- each use has the number of one of them
   pub debugs_numbered : All (λ n. IfSome n (λ i. i < length (encoded_debugs from written).places.offsets)) numbers
   unfolding debug_section
   debugs_numbered =
       let items = debug_items (ordered_of m cs) in
-      numbers_within numbers (length (encoded_debugs from written).places.offsets) (shared_numbered same_debug debug_decides (debug_uses (ordered_of m cs))) h.numbers_are
+      numbers_within numbers (length (encoded_debugs from written).places.offsets) (shared_numbered same_debug debug_decides (debug_uses (ordered_of m cs))) debugs_numbers
       (offsets_count 1 (end (string_section (ordered_of m cs))) (map (debug_bytes m) items.written) debugs_encoded.places_are ∙ length-map items.written (debug_bytes m))
-
-  debugs_numbers : numbers ≡ (debug_section (ordered_of m cs)).numbers
-  unfolding debug_section
-  debugs_numbers = h.numbers_are
 
   -- the debug programs of the file
   pub debugs_laid : AreDebugs m cs (shared_by numbers (encoded_debugs from written))

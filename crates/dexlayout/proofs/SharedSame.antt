@@ -1,4 +1,4 @@
--- Numbers of a numbering are the same if and only if they denote the same: of type lists, sets and debug programs.
+-- Numbers of a numbering are the same if and only if they denote the same: of type lists and sets.
 use Rattle.std.proofs.Common.{◌≡◌, ℕ, ◌<◌, Bool, List, [], ◌∷◌, length, map, refl, sym, ap, ◌∙◌}
 use Rattle.std.specs.Prelude.{All}
 use Rattle.std.specs.Bool.{Decides}
@@ -7,14 +7,11 @@ use Rattle.std.proofs.lemmas.List.Elements.{All-head, All-tail}
 use Rattle.dexspec.specs.Lists.{rank}
 use Rattle.dexspec.specs.Texts.{text_cmp}
 use Rattle.dexspec.specs.Mentions.{Mentions}
-use Rattle.dexspec.specs.Sameness.{same_types, same_debug, same_set}
+use Rattle.dexspec.specs.Sameness.{same_types, same_set}
 use Rattle.dexspec.proofs.lists.Equality.{IsEquality}
-use Rattle.dexspec.proofs.sharing.Sameness.{types_decide, debug_decides, set_decides}
+use Rattle.dexspec.proofs.sharing.Sameness.{types_decide, set_decides}
 use Rattle.dexpool.specs.Numberings.{AreRising}
 use Rattle.dexpool.proofs.UnionLaws.{ranks_are_numbers}
-use Rattle.dexdebug.specs.Debug.{NumberedDebug}
-use Rattle.dexdebug.specs.Meaning.{debug_in, IsKnownDebug}
-use Rattle.dexdebug.proofs.DebugRanked as debugs
 use Rattle.dexval.specs.Numbered.{NumberedSet, set_in, type_at, IsKnownSet}
 use Rattle.dexval.proofs.Ranked as sets
 use Rattle.dexlayout.specs.ListKeys.{same_numbers, same_numbers_decides}
@@ -22,7 +19,7 @@ use Rattle.dexlayout.specs.ListKeys.{same_numbers, same_numbers_decides}
 -- ---- tests of what is mapped one to one
 
 -- where numbers are equal if and only if they denote equal things, the tests agree
-agree : {X Y : Type 0} (f : X → Y) (same : Bool) (equivalent : Y → Y → Bool) → IsEquality equivalent → (x y : X) → Decides same (x ≡ y) → (f x ≡ f y → x ≡ y) → equivalent (f x) (f y) ≡ same
+pub agree : {X Y : Type 0} (f : X → Y) (same : Bool) (equivalent : Y → Y → Bool) → IsEquality equivalent → (x y : X) → Decides same (x ≡ y) → (f x ≡ f y → x ≡ y) → equivalent (f x) (f y) ≡ same
 agree f same equivalent exact x y is one = same_from_decides (equivalent (f x) (f y)) same (exact (f x) (f y)) ((λ e. ap f (is.0 e)), (λ e. is.1 (one e)))
 
 module _ (m : Mentions) (rising : AreRising m) where
@@ -48,10 +45,3 @@ module _ (m : Mentions) (rising : AreRising m) where
   pub sets_agree : (same : Bool) (x y : NumberedSet) → Decides same (x ≡ y) → IsKnownSet m x → IsKnownSet m y → same_set (set_in m x) (set_in m y) ≡ same
   sets_agree same x y is hx hy =
       agree (set_in m) same same_set set_decides x y is (λ e. sets.one_set m (ranks_are_numbers m rising) x y (set_in m x) (record { known = hx; means = refl }) (record { known = hy; means = sym e }))
-
-  -- ---- debug programs
-
-  pub debugs_agree : (same : Bool) (d e : NumberedDebug) → Decides same (d ≡ e) → IsKnownDebug m d → IsKnownDebug m e → same_debug (debug_in m d) (debug_in m e) ≡ same
-  debugs_agree same d e is hd he =
-      let ranks = ranks_are_numbers m rising in
-      agree (debug_in m) same same_debug debug_decides d e is (λ h. sym (debugs.debug_back m ranks d hd) ∙ ap (debugs.ranked_debug m) h ∙ debugs.debug_back m ranks e he)

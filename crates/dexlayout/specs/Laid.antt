@@ -1,10 +1,13 @@
 -- When a layout is that of the canonical file of classes.
 use Rattle.std.specs.Prelude.{◌≡◌, ℕ, ◌+◌, ◌^◌, ◌≤◌, Option, List, [], ◌∷◌, ◌++◌, map, length, All, drop, slice_index}
-use Rattle.std.specs.List.{flat_map}
+use Rattle.std.specs.List.{Contains, flat_map}
 use Rattle.dexspec.specs.Bytes.{padding}
+use Rattle.dexspec.specs.Debug.{Debug}
+use Rattle.dexspec.specs.Lists.{present}
 use Rattle.dexspec.specs.Mentions.{Mentions, mentions}
 use Rattle.dexspec.specs.Files.{Collection, definitions}
-use Rattle.dexspec.specs.Placing.{Ordered, EqualOnce, Placed, Items, section_bytes, end, uses_offsets, offsets}
+use Rattle.dexspec.specs.Placing.{Ordered, EqualOnce, Placed, Items, section_bytes, end, uses_offsets, offsets, debug_uses}
+use Rattle.dexspec.specs.Spellings.{debug_bytes}
 use Rattle.dexspec.specs.Canonical.{type_list_section, annotation_section, array_section, string_section, debug_section, code_section, class_data_section, set_section, set_offsets, ref_list_section, directory_section, ordered}
 use Rattle.dexhead.specs.Laid.{StatesLayout, map_start, map_list}
 use Rattle.dexpool.specs.Numberings.{IsNumbering}
@@ -23,12 +26,18 @@ ordered_of m cs = record { classes = map (definition_of m) cs; pools = m; sharin
 abbrev pub file_end : Ordered → ℕ
 file_end K = map_start K + length (map_list K)
 
--- the classes are those of a numbering, their indices fit, and the file is not too long
+-- debug programs of the file that have the same bytes are the same
+abbrev pub HaveOwnBytes : Ordered → Type 0
+HaveOwnBytes K = (x y : Debug) → Contains (present (debug_uses K)) x → Contains (present (debug_uses K)) y → debug_bytes K.pools x ≡ debug_bytes K.pools y → x ≡ y
+
+-- the classes are those of a numbering, their indices fit, their debug programs differ in their bytes, and the file is
+-- not too long
 pub record AreWritable (m : Mentions) (cs : List NumberedClass) : Type 0 where
   pub numbering : IsNumbering m
   pub known : All (IsKnownClass m) cs
   pub types_few : length m.types ≤ 65535
   pub protos_few : length m.protos ≤ 65535
+  pub debugs_apart : HaveOwnBytes (ordered_of m cs)
   pub fits : file_end (ordered_of m cs) ≤ 2 ^ 30
 
 -- ---- parts of a layout

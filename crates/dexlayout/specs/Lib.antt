@@ -1,3 +1,4 @@
+pub mod ItemKeys
 pub mod Laid
 pub mod ListKeys
 pub mod Places

@@ -4,6 +4,7 @@ pub mod Annotated
 pub mod Codes
 pub mod Directories
 pub mod Encoding
+pub mod Encodings
 pub mod Collecting
 pub mod OffsetLists
 pub mod Parts

@@ -1,6 +1,6 @@
 //! The layout of the canonical file of a program: the offset of each item, and the length of the file.
 //!
-//! Public contracts use the definitions of `specs/Laid`, `specs/ListKeys` and `specs/Places`.
+//! Public contracts use the definitions of `specs/ItemKeys`, `specs/Laid`, `specs/ListKeys` and `specs/Places`.
 //!
 //! Source: the Android page "Dalvik Executable format", "Overall file layout". This project's rules are the order of
 //! the items in each section, and that equal type lists, debug programs and annotation sets are written once.
@@ -12,6 +12,7 @@ mod codes;
 mod data;
 mod debugs;
 mod directories;
+mod item_keys;
 mod items;
 mod layout;
 mod layout_build;

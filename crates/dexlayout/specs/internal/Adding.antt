@@ -3,19 +3,18 @@ use Rattle.std.specs.Prelude.{◌≡◌, ℕ, Bool, List, [], ◌∷◌, ◌++�
 use Rattle.std.specs.Borrow.{Bor}
 use Rattle.dexspec.specs.Texts.{Text}
 use Rattle.dexspec.specs.Annotations.{AnnotationSet}
-use Rattle.dexspec.specs.Debug.{Debug}
 use Rattle.dexspec.specs.Mentions.{Mentions}
 use Rattle.dexspec.specs.Placing.{unless_empty}
 use Rattle.dexval.specs.declared.set.AnnotationSet.{AnnotationSet as CodeSet}
 use Rattle.dexval.specs.Code.{set_of}
 use Rattle.dexval.specs.Numbered.{NumberedSet, type_at, IsKnownSet}
-use Rattle.dexmembers.specs.Numbered.{NumberedField, NumberedMethod, NumberedMembers, IsKnownField, IsKnownMethod, methods_of}
+use Rattle.dexmembers.specs.Numbered.{NumberedField, NumberedMethod, IsKnownField, IsKnownMethod}
 use Rattle.dexclass.specs.Numbered.{NumberedClass}
 use Rattle.dexclass.specs.Uses.{IsKnownClass}
 use Rattle.dexlayout.specs.declared.sharing.Sharing.{Sharing}
 use Rattle.dexlayout.specs.declared.sharing.Shared.{Shared}
 use Rattle.dexlayout.specs.internal.Sharing.{HaveItems}
-use Rattle.dexlayout.specs.internal.SharedUses.{SharesLists, SharesSets, interfaces_use, set_use, debugs_uses}
+use Rattle.dexlayout.specs.internal.SharedUses.{SharesLists, SharesSets, interfaces_use, set_use}
 
 -- ---- uses of any kind
 
@@ -76,9 +75,3 @@ AreKnownFields m fields = All (IsKnownField m) fields
 -- those in methods
 abbrev pub AreKnownMethods : Mentions → List NumberedMethod → Type 0
 AreKnownMethods m methods = All (IsKnownMethod m) methods
-
--- ---- debug programs
-
--- the uses of what a class declares
-abbrev pub members_debugs : Mentions → NumberedMembers → List (Option Debug)
-members_debugs m x = debugs_uses m (methods_of x)

@@ -8,13 +8,11 @@ use Rattle.dexspec.specs.Texts.{string_data}
 use Rattle.dexspec.specs.Mentions.{Mentions}
 use Rattle.dexspec.specs.Sections.{Section, HeaderItem, MapList}
 use Rattle.dexspec.specs.Placing.{Ordered, offsets_from, end_from, end, Placed}
-use Rattle.dexspec.specs.Canonical.{data_start, type_list_items, set_items, debug_items, debug_section, code_section, class_data_section, placed_tables, map_bytes}
+use Rattle.dexspec.specs.Canonical.{data_start, type_list_items, set_items, debug_section, code_section, class_data_section, placed_tables, map_bytes}
 use Rattle.dexhead.specs.declared.head.Head.{Head}
 use Rattle.dexhead.specs.declared.map_list.MapEntry.{MapEntry}
 use Rattle.dexhead.specs.Laid.{StatesLayout, map_start}
 use Rattle.dexhead.specs.Written.{entry_meant}
-use Rattle.dexdebug.specs.Debug.{NumberedDebug, numbered_debug_bytes}
-use Rattle.dexdebug.specs.Meaning.{debug_in, IsKnownDebug}
 use Rattle.dexval.specs.declared.set.AnnotationSet.{AnnotationSet as CodeSet}
 use Rattle.dexval.specs.Code.{set_of}
 use Rattle.dexval.specs.Numbered.{set_in, type_at, IsKnownSet}
@@ -124,17 +122,9 @@ no_sets written = record { own = []; fields = []; methods = []; parameters = [];
 
 -- ---- debug programs
 
--- the debug programs are those of the file of these classes
-abbrev pub HaveDebugs : List NumberedClass → Shared (Bor NumberedDebug) → Type 0
-HaveDebugs cs shared = (m : Mentions) → AreWritable m cs → AreShared (λ d. debug_in m d.now) (debug_items (ordered_of m cs)) shared.written.items shared.numbers.items
-
--- the numbers in the debug programs are known
-abbrev pub HaveKnownDebugs : List NumberedClass → Shared (Bor NumberedDebug) → Type 0
-HaveKnownDebugs cs shared = (m : Mentions) → AreWritable m cs → All (λ d. IsKnownDebug m d.now) shared.written.items
-
--- the debug programs from the offset on
-abbrev pub encoded_debugs : ℕ → List (Bor NumberedDebug) → EncodedItems
-encoded_debugs from debugs = encode_uses 1 (no_items_from from) (map (λ debug. Some (numbered_debug_bytes debug.now)) debugs)
+-- their encodings from the offset on
+abbrev pub encoded_debugs : ℕ → List (List ℕ) → EncodedItems
+encoded_debugs from written = encode_uses 1 (no_items_from from) (map Some written)
 
 -- ---- the header and the map
 

@@ -1,16 +1,11 @@
--- The uses of type lists, sets and debug programs, as they are found: by numbers, with what these denote.
-use Rattle.std.specs.Prelude.{ℕ, ◌<◌, Bool, List, ◌∷◌, ◌++◌, Option, None, length, map, All}
+-- The uses of type lists and sets, as they are found: by numbers, with what these denote.
+use Rattle.std.specs.Prelude.{ℕ, ◌<◌, List, ◌∷◌, ◌++◌, Option, length, map, All}
 use Rattle.std.specs.Borrow.{Bor}
 use Rattle.std.specs.List.{flat_map}
-use Rattle.std.specs.Option.{option_map, option_map_or}
 use Rattle.dexspec.specs.Texts.{Text}
 use Rattle.dexspec.specs.Annotations.{AnnotationSet}
-use Rattle.dexspec.specs.Debug.{Debug}
 use Rattle.dexspec.specs.Mentions.{Mentions}
 use Rattle.dexspec.specs.Placing.{unless_empty}
-use Rattle.dexdebug.specs.Debug.{NumberedDebug}
-use Rattle.dexdebug.specs.contracts.debug_equality.DebugPartialEq.TheImpl as equality
-use Rattle.dexdebug.specs.Meaning.{debug_in, IsKnownDebug}
 use Rattle.dexval.specs.declared.set.AnnotationSet.{AnnotationSet as CodeSet}
 use Rattle.dexval.specs.Code.{set_of}
 use Rattle.dexval.specs.Equality.{equal_sets}
@@ -59,21 +54,3 @@ methods_uses m xs = flat_map (method_uses m) xs
 -- those of a class and of what it declares
 abbrev pub members_uses : Mentions → NumberedMembers → List (Option AnnotationSet)
 members_uses m x = set_use m x.annotations ∷ (field_uses m x.static_fields ++ (field_uses m x.instance_fields ++ (methods_uses m x.direct_methods ++ methods_uses m x.virtual_methods)))
-
--- ---- debug programs
-
--- the debug program of a method, if it has one
-abbrev pub debug_of : NumberedMethod → Option NumberedDebug
-debug_of x = option_map_or (λ c. c.debug) x.code None
-
--- what methods use
-abbrev pub debugs_uses : Mentions → List NumberedMethod → List (Option Debug)
-debugs_uses m xs = map (λ x. option_map (debug_in m) (debug_of x)) xs
-
--- whether two are equal
-abbrev pub equal_debugs : NumberedDebug → NumberedDebug → Bool
-equal_debugs = equality.ghosts.eq
-
--- the debug programs so far are those of these uses
-abbrev pub SharesDebugs : Mentions → List (Option Debug) → List (Bor NumberedDebug) → List (Option ℕ) → Type 0
-SharesDebugs m = SharedTo (λ d e. equal_debugs d.now e.now) (λ d. debug_in m d.now) (λ d. IsKnownDebug m d.now)

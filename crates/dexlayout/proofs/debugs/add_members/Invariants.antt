@@ -1,11 +1,9 @@
-use Rattle.std.proofs.Common.{◌++◌, take}
-use Rattle.std.specs.Prelude.{List, Option}
-use Rattle.dexspec.specs.Debug.{Debug as DebugMeant}
-use Rattle.dexspec.specs.Mentions.{Mentions}
-use Rattle.dexmembers.specs.Numbered.{AreKnownMembers, methods_of}
-use Rattle.dexlayout.specs.internal.SharedUses.{SharesDebugs, debugs_uses}
+use Rattle.std.proofs.Common.{◌++◌, ℕ, List, Option, take}
+use Rattle.dexmembers.specs.Numbered.{methods_of}
+use Rattle.dexlayout.specs.ItemKeys.{same_bytes}
+use Rattle.dexlayout.specs.internal.Adding.{HasUses}
+use Rattle.dexlayout.specs.internal.Encodings.{debug_encodings}
 use Rattle.dexlayout.proofs.debugs.add_members.Given as goal
 
 abbrev pub invariant-loop-i : goal.invariant-loop-i
-invariant-loop-i l = (m : Mentions) (uses : List (Option DebugMeant)) → AreKnownMembers m l.members → SharesDebugs m uses l.fn.sharing.items.keys l.fn.sharing.numbers.items
-    → SharesDebugs m (uses ++ debugs_uses m (take l.i (methods_of l.members))) l.sharing.items.keys l.sharing.numbers.items
+invariant-loop-i l = (uses : List (Option (List ℕ))) → HasUses same_bytes uses l.fn.encodings.sharing → HasUses same_bytes (uses ++ debug_encodings (take l.i (methods_of l.members))) l.encodings.sharing

@@ -8,13 +8,11 @@ use Rattle.dexlayout.proofs.SharedKinds.{debugs_fit, debugs_numbered, debugs_lai
 use Rattle.dexlayout.proofs.debugs.place_debugs.Goals as goal
 use Rattle.dexlayout.proofs.debugs.place_debugs.Goals.{In_ok-items}
 
-pub encode_written-requires : goal.encode_written-requires
-encode_written-requires c =
+pub put_written-requires : goal.put_written-requires
+put_written-requires c =
     let s = c.in_ok-shared.shared in
-    let m = c.requires.0 in
-    let w = c.requires.1 in
     subst (λ ws. (encoded_debugs c.args.from ws).places.end ≤ 2 ^ 30) (sym c.deref.ensures.value)
-    (debugs_fit m c.args.classes.now w c.args.from c.requires.2 s.written.items s.numbers.items (c.in_ok-shared.ensures.known m w) (c.in_ok-shared.ensures.shared m w))
+    (debugs_fit c.requires.0 c.args.classes.now c.requires.1 c.args.from c.requires.2 s.written.items s.numbers.items c.in_ok-shared.ensures)
 
 -- those that are written
 items_are : (c : In_ok-items) → c.in_ok-items.items ≡ encoded_debugs c.args.from c.in_ok-shared.shared.written.items
@@ -23,18 +21,16 @@ items_are c = c.in_ok-items.ensures ∙ ap (encoded_debugs c.args.from) c.deref.
 pub of-requires : goal.of-requires
 of-requires c =
     let s = c.in_ok-shared.shared in
-    let m = c.requires.0 in
-    let w = c.requires.1 in
-    let here = (goal.at.of-requires c).In_ok-items in
+    let here = goal.at.of-requires c in
     subst (All (λ n. IfSome n (λ i. i < length c.in_ok-items.items.places.offsets))) (sym c.deref-2.ensures.value)
-    (subst (λ (e : EncodedItems). All (λ n. IfSome n (λ i. i < length e.places.offsets)) s.numbers.items) (sym (items_are here))
-    (debugs_numbered m c.args.classes.now w c.args.from c.requires.2 s.written.items s.numbers.items (c.in_ok-shared.ensures.known m w) (c.in_ok-shared.ensures.shared m w)))
+    (subst (λ (e : EncodedItems). All (λ n. IfSome n (λ i. i < length e.places.offsets)) s.numbers.items) (sym (items_are here.In_ok-items))
+    (debugs_numbered c.requires.0 c.args.classes.now c.requires.1 c.args.from c.requires.2 s.written.items s.numbers.items c.in_ok-shared.ensures))
 
 pub returns : goal.returns
 returns c =
     let cs = c.args.classes.now in
     let s = c.in_ok-shared.shared in
-    let here = (goal.at.returns c).In_ok-items in
+    let here = goal.at.returns c in
     IfOk-weaker c.of.result _ _ (λ x e m w is.
-    subst (AreDebugs m cs) (sym (e ∙ (λ i. shared_by (c.deref-2.ensures.value i) (items_are here i))))
-    (debugs_laid m cs w c.args.from is s.written.items s.numbers.items (c.in_ok-shared.ensures.known m w) (c.in_ok-shared.ensures.shared m w))) c.of.ensures
+    subst (AreDebugs m cs) (sym (e ∙ (λ i. shared_by (c.deref-2.ensures.value i) (items_are here.In_ok-items i))))
+    (debugs_laid m cs w c.args.from is s.written.items s.numbers.items c.in_ok-shared.ensures)) c.of.ensures

@@ -1,13 +1,12 @@
 use Rattle.std.proofs.Common.{sym, ◌∙◌}
 use Rattle.std.proofs.lemmas.Result.{on_ok_weaker}
-use Rattle.dexdebug.specs.Debug.{numbered_debug_bytes}
 use Rattle.dexlayout.proofs.EncodedUses.{align_one, ended, ended_fits}
 use Rattle.dexlayout.proofs.debugs.put_next.Goals as goal
 
 pub end_item-requires-clause-fits : goal.end_item-requires-clause-fits
 end_item-requires-clause-fits c =
-    ended_fits (numbered_debug_bytes c.args.debug.now) (c.items.view_is ∙ sym (align_one c.args.items.now)) (c.len-before.ensures ∙ c.items.inside.bytes.ok.0) c.in_ok-put_debug.ensures.bytes.ok c.requires
+    ended_fits c.args.item.now (c.items.view_is ∙ sym (align_one c.args.items.now)) (c.len-before.ensures ∙ c.items.inside.bytes.ok.0) c.in_ok-extend_from_slice.ensures.items c.requires
 
 pub returns : goal.returns
 returns c =
-    on_ok_weaker c.end_item.result (λ e. e ∙ ended (numbered_debug_bytes c.args.debug.now) (c.items.view_is ∙ sym (align_one c.args.items.now)) (c.len-before.ensures ∙ c.items.inside.bytes.ok.0) c.in_ok-put_debug.ensures.bytes.ok) c.end_item.ensures
+    on_ok_weaker c.end_item.result (λ e. e ∙ ended c.args.item.now (c.items.view_is ∙ sym (align_one c.args.items.now)) (c.len-before.ensures ∙ c.items.inside.bytes.ok.0) c.in_ok-extend_from_slice.ensures.items) c.end_item.ensures

@@ -10,7 +10,7 @@ pub build_layout-requires : goal.build_layout-requires
 build_layout-requires c =
     let C = c.args.program.now in
     let is = c.numbering-numbering.ensures in
-    let w = writable C c.classes.result.now (subst IsNumbering is c.is_numbering.ensures) c.is_good.ensures.good.fits c.fitting_size_law.ensures.canonical c.classes.ensures in
+    let w = writable C c.classes.result.now (subst IsNumbering is c.is_numbering.ensures) c.is_good.ensures.good c.is_good.ensures.formed c.fitting_size_law.ensures.canonical c.classes.ensures in
     subst (λ m. AreWritable m c.classes.result.now) (sym is) w
 
 pub returns-clause-laid : goal.returns-clause-laid
@@ -25,13 +25,13 @@ pub returns-clause-writable : goal.returns-clause-writable
 returns-clause-writable c = λ cs of.
     let C = c.args.program.now in
     let numbering = subst IsNumbering c.numbering-numbering.ensures c.is_numbering.ensures in
-    (writable C cs numbering c.is_good.ensures.good.fits c.fitting_size_law.ensures.canonical of, ordered_is C cs of)
+    (writable C cs numbering c.is_good.ensures.good c.is_good.ensures.formed c.fitting_size_law.ensures.canonical of, ordered_is C cs of)
 
 pub returns-in_err-layout-clause-writable : goal.returns-in_err-layout-clause-writable
 returns-in_err-layout-clause-writable c = λ cs of.
     let C = c.args.program.now in
     let numbering = subst IsNumbering c.numbering-numbering.ensures c.is_numbering.ensures in
-    (writable C cs numbering c.is_good.ensures.good.fits c.fitting_size_law.ensures.canonical of, ordered_is C cs of)
+    (writable C cs numbering c.is_good.ensures.good c.is_good.ensures.formed c.fitting_size_law.ensures.canonical of, ordered_is C cs of)
 
 pub returns-clause-len : goal.returns-clause-len
 returns-clause-len c =

@@ -1,0 +1,8 @@
+use Rattle.std.proofs.Common.{◌≡◌, map, drop, Some}
+use Rattle.dexlayout.specs.internal.Encoding.{encode_uses}
+use Rattle.dexlayout.specs.internal.Placing.{encoded_debugs}
+use Rattle.dexlayout.proofs.debugs.put_written.Given as goal
+
+-- encoding what is left gives the whole
+abbrev pub invariant-loop-key : goal.invariant-loop-key
+invariant-loop-key l = encode_uses 1 l.items (map Some (drop l.key-index l.written)) ≡ encoded_debugs l.fn.from l.written

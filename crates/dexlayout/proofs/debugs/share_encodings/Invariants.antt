@@ -1,0 +1,8 @@
+use Rattle.std.proofs.Common.{take}
+use Rattle.dexlayout.specs.ItemKeys.{same_bytes}
+use Rattle.dexlayout.specs.internal.Adding.{HasUses}
+use Rattle.dexlayout.specs.internal.Encodings.{all_debug_encodings}
+use Rattle.dexlayout.proofs.debugs.share_encodings.Given as goal
+
+abbrev pub invariant-loop-i : goal.invariant-loop-i
+invariant-loop-i l = HasUses same_bytes (all_debug_encodings (take l.i l.classes)) l.encodings.sharing

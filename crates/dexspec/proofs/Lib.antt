@@ -1,3 +1,4 @@
+pub mod Common
 pub mod numbers
 pub mod lists
 pub mod determined

@@ -1,15 +1,7 @@
 -- A file whose class rows can be read denotes a collection.
-use Rattle.std.proofs.Common.{◌≡◌, ℕ, ◌<◌, ◌≤◌, List, sym, subst, arith, inl, inr}
+use Rattle.dexspec.proofs.Common.{◌≡◌, ℕ, ◌<◌, ◌≤◌, List, sym, subst, arith, inl, inr, Contains, cases_lt}
 use Rattle.std.specs.FinMap as map
-use Rattle.std.specs.List.{Contains}
-use Rattle.std.proofs.lemmas.Bool.{cases_lt}
-use Rattle.dexspec.specs.Texts.{Text}
-use Rattle.dexspec.specs.Header.{ClassDefs, table_size}
-use Rattle.dexspec.specs.Classes.{Body, Definition, ClassRow, class_idx}
-use Rattle.dexspec.specs.Files.{Collection, definitions, Defines, Denotes, AreSame}
-use Rattle.dexspec.specs.Merging.{IsConsistent}
-use Rattle.dexspec.specs.Conditions.{Condition}
-use Rattle.dexspec.specs.Accepted.{HasClass, IsReadable, AreRows, HoldBelow, IsAccepted}
+use Rattle.dexspec.specs.{Text, ClassDefs, table_size, Body, Definition, ClassRow, class_idx, Collection, definitions, Defines, Denotes, AreSame, IsConsistent, Condition, HasClass, IsReadable, AreRows, HoldBelow, IsAccepted}
 use Rattle.dexspec.proofs.determined.OneClass.{HasFewRows, one_class_row}
 use Rattle.dexspec.proofs.wellformed.PoolRows.{AreStrings, AreTypes, same_type_row, laid_few}
 use Rattle.dexspec.proofs.determined.Readable.{row_there, all_rows, row_of, member_of}

@@ -1,19 +1,6 @@
 -- A class row denotes at most one definition: its annotations, class data and members are determined.
-use Rattle.std.proofs.Common.{◌≡◌, ℕ, ◌+◌, ◌*◌, List, [], ◌∷◌, length, map, get_or, Option, Some, None, refl, ap, sym, subst, ◌∙◌, arith, ◌≤◌, ◌<◌, All, take, drop, length-take, ◌^◌}
-use Rattle.std.proofs.Math.Nat.{pow-le-pow_right}
-use Rattle.std.proofs.lemmas.List.Elements.{All-take, All-drop}
-use Rattle.std.specs.List.{AllZip}
-use Rattle.dexspec.specs.Lists.{OrNone, SomeAt}
-use Rattle.dexspec.specs.Bytes.{uint_at, uints_at}
-use Rattle.dexspec.specs.Numbers.{Uleb128At}
-use Rattle.dexspec.specs.Texts.{Text}
-use Rattle.dexspec.specs.Rows.{StringRow, FieldRow, MethodRow}
-use Rattle.dexspec.specs.Code.{CodeAt}
-use Rattle.dexspec.specs.Values.{Values, NoValues}
-use Rattle.dexspec.specs.Annotations.{Annotation, AnnotationSet, AnnotationAt, SetAt, RefListAt, Directory, no_directory, pairs_at, PairAt, PairsAt, fields_count, methods_count, parameters_count, DirectoryAt}
-use Rattle.dexspec.specs.ClassData.{EncodedField, EncodedMethod, ClassData, no_class_data, IsNextIndex, EncodedFieldsAt, EncodedMethodsAt, ClassDataAt}
-use Rattle.dexspec.specs.Classes.{MethodDef, Body, class_idx, superclass_idx, interfaces_off, source_file_idx, annotations_off, class_data_off, static_values_off, no_index, IndexOrNone, ClassTypeRow, ClassListAt, StaticValuesAt, field_def, MakesMethod, ClassRow}
-use Rattle.dexspec.specs.Header.{Table, StringIds, TypeIds, table_size, size_place}
+use Rattle.dexspec.proofs.Common.{◌≡◌, ℕ, ◌+◌, ◌*◌, List, [], ◌∷◌, length, map, get_or, Option, Some, None, refl, ap, sym, subst, ◌∙◌, arith, ◌≤◌, ◌<◌, All, take, drop, length-take, ◌^◌, pow-le-pow_right, All-take, All-drop, AllZip, Values, ClassData}
+use Rattle.dexspec.specs.{OrNone, SomeAt, uint_at, uints_at, Uleb128At, Text, StringRow, FieldRow, MethodRow, CodeAt, NoValues, Annotation, AnnotationSet, AnnotationAt, SetAt, RefListAt, Directory, no_directory, pairs_at, PairAt, PairsAt, fields_count, methods_count, parameters_count, DirectoryAt, EncodedField, EncodedMethod, no_class_data, IsNextIndex, EncodedFieldsAt, EncodedMethodsAt, ClassDataAt, MethodDef, Body, class_idx, superclass_idx, interfaces_off, source_file_idx, annotations_off, class_data_off, static_values_off, no_index, IndexOrNone, ClassTypeRow, ClassListAt, StaticValuesAt, field_def, MakesMethod, ClassRow, Table, StringIds, TypeIds, table_size, size_place}
 use Rattle.dexspec.proofs.numbers.ByteNumbers.{number_bound}
 use Rattle.dexspec.proofs.written.PlacedBytes.{same_first}
 use Rattle.dexspec.proofs.lists.Sequences.{one_sequence}

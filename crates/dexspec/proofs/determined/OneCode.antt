@@ -1,18 +1,6 @@
 -- There is at most one code item at an offset: its units are cut in one way, and the offset of a handler determines it.
-use Rattle.std.proofs.Common.{◌≡◌, ℕ, ◌+◌, ◌*◌, ◌<◌, inl, inr, List, [], ◌∷◌, ◌++◌, length, drop, Option, Some, None, refl, ap, sym, subst, ◌∙◌, arith, zero, suc, slice_index, nat_abs}
-use Rattle.std.specs.Prelude.{ℤ, Bool, true, false, if◌then◌else◌}
-use Rattle.std.specs.Option.{option_and_then}
-use Rattle.std.proofs.lemmas.Int.{ints}
-use Rattle.std.specs.List.{AllZip}
-use Rattle.dexspec.specs.Lists.{Item, Sequence, SomeAt}
-use Rattle.dexspec.specs.Bytes.{uint_at, ushort_at}
-use Rattle.dexspec.specs.Numbers.{Uleb128At, Sleb128At}
-use Rattle.dexspec.specs.Symbols.{pool_of}
-use Rattle.dexspec.specs.Opcodes.{opcode_of}
-use Rattle.dexspec.specs.Rows.{TypeRow, SymbolRow}
-use Rattle.dexspec.specs.Pieces.{Cut, AreCut, piece_size, Piece, Instruction, Payload, DenotesPiece, index_pool, index_in, is_payload_ident, low_byte, cut_units}
-use Rattle.dexspec.specs.Debug.{DebugAt}
-use Rattle.dexspec.specs.Code.{Catch, Handler, Try, Code, code_units, PiecesAt, CatchAt, CatchAllAt, HandlerAt, IsHandler, TryAt, TryItemsAt, TriesAt, CodeAt}
+use Rattle.dexspec.proofs.Common.{◌≡◌, ℕ, ◌+◌, ◌*◌, ◌<◌, inl, inr, List, [], ◌∷◌, ◌++◌, length, drop, Option, Some, None, refl, ap, sym, subst, ◌∙◌, arith, zero, suc, slice_index, nat_abs, ℤ, Bool, true, false, if◌then◌else◌, option_and_then, ints, AllZip, Code}
+use Rattle.dexspec.specs.{Item, Sequence, SomeAt, uint_at, ushort_at, Uleb128At, Sleb128At, pool_of, opcode_of, TypeRow, SymbolRow, Cut, AreCut, piece_size, Piece, Instruction, Payload, DenotesPiece, index_pool, index_in, is_payload_ident, low_byte, cut_units, DebugAt, Catch, Handler, Try, code_units, PiecesAt, CatchAt, CatchAllAt, HandlerAt, IsHandler, TryAt, TryItemsAt, TriesAt, CodeAt}
 use Rattle.dexspec.proofs.lists.Sequences.{one_sequence}
 use Rattle.dexspec.proofs.determined.OneNumber.{one_uleb128, one_sleb128}
 use Rattle.dexspec.proofs.determined.OneRow.{one_type, one_symbol, one_all_zip, one_or_none}

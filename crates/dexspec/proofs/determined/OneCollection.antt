@@ -1,7 +1,7 @@
 -- A file denotes at most one collection.
-use Rattle.std.proofs.Common.{◌≡◌, ℕ, List, Option, Some, None, refl, sym}
+use Rattle.dexspec.proofs.Common.{◌≡◌, ℕ, List, Option, Some, None, refl, sym}
 use Rattle.std.specs.FinMap as map
-use Rattle.dexspec.specs.Files.{Collection, Denotes}
+use Rattle.dexspec.specs.{Collection, Denotes}
 use Rattle.dexspec.proofs.merge.SymbolOrders.{text_total, text_exact}
 
 -- options with equal values are equal

@@ -1,14 +1,7 @@
 -- There is at most one operation of a debug program at an offset, in one size, and at most one program: the opcode
 -- determines the kind of operation, and the opcode 0 ends the program.
-use Rattle.std.proofs.Common.{◌≡◌, ℕ, ◌+◌, ◌≤◌, List, [], ◌∷◌, length, Option, Some, None, refl, ap, sym, subst, ◌∙◌, arith}
-use Rattle.std.specs.Prelude.{ℤ, pos, if◌then◌else◌, nat_lt, ◌==◌}
-use Rattle.std.proofs.lemmas.Bool.{le-ltb}
-use Rattle.dexspec.specs.Lists.{Sequence, BothOrNone}
-use Rattle.dexspec.specs.Bytes.{BytesAt}
-use Rattle.dexspec.specs.Numbers.{Uleb128At, Uleb128p1At}
-use Rattle.dexspec.specs.Texts.{Text}
-use Rattle.dexspec.specs.Rows.{StringRow, TypeRow}
-use Rattle.dexspec.specs.Debug.{Operation, AdvancePc, AdvanceLine, StartLocal, StartLocalExtended, EndLocal, RestartLocal, SetPrologueEnd, SetEpilogueBegin, SetFile, Special, Debug, OptionalTextAt, OptionalTypeAt, OperationAt, DebugAt}
+use Rattle.dexspec.proofs.Common.{◌≡◌, ℕ, ◌+◌, ◌≤◌, List, [], ◌∷◌, length, Option, Some, None, refl, ap, sym, subst, ◌∙◌, arith, ℤ, pos, if◌then◌else◌, nat_lt, ◌==◌, le-ltb, Debug}
+use Rattle.dexspec.specs.{Sequence, BothOrNone, BytesAt, Uleb128At, Uleb128p1At, Text, StringRow, TypeRow, Operation, AdvancePc, AdvanceLine, StartLocal, StartLocalExtended, EndLocal, RestartLocal, SetPrologueEnd, SetEpilogueBegin, SetFile, Special, OptionalTextAt, OptionalTypeAt, OperationAt, DebugAt}
 use Rattle.dexspec.proofs.written.PlacedBytes.{same_first, is_at}
 use Rattle.dexspec.proofs.lists.Sequences.{one_sequence}
 use Rattle.dexspec.proofs.determined.OneNumber.{one_uleb128, one_sleb128, one_uleb128p1}

@@ -1,8 +1,6 @@
 -- There is at most one number at an offset, in one size.
-use Rattle.std.proofs.Common.{◌≡◌, ℕ, ◌^◌, ◌<◌, List, drop, Option, sym}
-use Rattle.std.specs.Prelude.{ℤ, FitsSigned}
-use Rattle.std.specs.Int.{w32}
-use Rattle.dexspec.specs.Numbers.{Uleb128At, Sleb128At, Uleb128p1At, sum_of_groups, signed_sum, plus_one}
+use Rattle.dexspec.proofs.Common.{◌≡◌, ℕ, ◌^◌, ◌<◌, List, drop, Option, sym, ℤ, FitsSigned, w32}
+use Rattle.dexspec.specs.{Uleb128At, Sleb128At, Uleb128p1At, sum_of_groups, signed_sum, plus_one}
 use Rattle.dexspec.proofs.numbers.Spellings.{same_number, same_plus_one, begins_plus_one}
 
 -- one uleb128

@@ -1,12 +1,6 @@
 -- A row of a pool denotes at most one symbol.
-use Rattle.std.proofs.Common.{◌≡◌, ℕ, inl, inr, List, [], ◌∷◌, drop, refl, sym, ◌∙◌}
-use Rattle.std.specs.List.{AllZip}
-use Rattle.dexspec.specs.Lists.{OrNone}
-use Rattle.dexspec.specs.Bytes.{uint_at}
-use Rattle.dexspec.specs.Texts.{Text}
-use Rattle.dexspec.specs.Symbols.{Proto, Field, Method, Symbol, TextSymbol, TypeSymbol, ProtoSymbol, FieldSymbol, MethodSymbol, pool_of}
-use Rattle.dexspec.specs.Header.{StringIds}
-use Rattle.dexspec.specs.Rows.{row_at, StringRow, TypeRow, type_indices, TypeListAt, ProtoRow, FieldRow, MethodRow, SymbolRow}
+use Rattle.dexspec.proofs.Common.{◌≡◌, ℕ, inl, inr, List, [], ◌∷◌, drop, refl, sym, ◌∙◌, AllZip}
+use Rattle.dexspec.specs.{OrNone, uint_at, Text, Proto, Field, Method, Symbol, TextSymbol, TypeSymbol, ProtoSymbol, FieldSymbol, MethodSymbol, pool_of, StringIds, row_at, StringRow, TypeRow, type_indices, TypeListAt, ProtoRow, FieldRow, MethodRow, SymbolRow}
 use Rattle.dexspec.proofs.determined.OneText.{one_string_data}
 
 -- row i is at most one text

@@ -1,10 +1,6 @@
 -- Bytes begin with the encoding of at most one unit, and with the item of at most one text.
-use Rattle.std.proofs.Common.{◌≡◌, ◌≢◌, ℕ, zero, suc, ◌+◌, ◌/◌, ◌%◌, ◌^◌, ◌≤◌, ◌<◌, ◌⊎◌, inl, inr, List, [], ◌∷◌, ◌++◌, length, take, drop, refl, ap, sym, ◌∙◌, arith, append_assoc, length-append, length-take, take_at, drop_at, take-append-drop}
-use Rattle.std.proofs.lemmas.Bool.{cases_lt, lt-ltb, le-ltb, ne_eqb}
-use Rattle.std.proofs.lemmas.List.{append_cancel_left}
-use Rattle.std.proofs.lemmas.List.Concat.{flat_map-cons}
-use Rattle.dexspec.specs.Numbers.{IsUleb128, BeginsWith, sum_of_groups}
-use Rattle.dexspec.specs.Texts.{Text, AreUnits, form, spelling, IsStringData, string_data}
+use Rattle.dexspec.proofs.Common.{◌≡◌, ◌≢◌, ℕ, zero, suc, ◌+◌, ◌/◌, ◌%◌, ◌^◌, ◌≤◌, ◌<◌, ◌⊎◌, inl, inr, List, [], ◌∷◌, ◌++◌, length, take, drop, refl, ap, sym, ◌∙◌, arith, append_assoc, length-append, length-take, take_at, drop_at, take-append-drop, cases_lt, lt-ltb, le-ltb, ne_eqb, append_cancel_left, flat_map-cons}
+use Rattle.dexspec.specs.{IsUleb128, BeginsWith, sum_of_groups, Text, AreUnits, form, spelling, IsStringData, string_data}
 use Rattle.dexspec.proofs.written.PlacedBytes.{same_heads}
 use Rattle.dexspec.proofs.numbers.Spellings.{same_number, uleb128_is}
 

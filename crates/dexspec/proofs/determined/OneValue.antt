@@ -1,13 +1,7 @@
 -- There is at most one encoded value at an offset, in one size: the type code of the first byte determines the kind of
 -- value, and its argument the number of bytes that follow.
-use Rattle.std.proofs.Common.{◌≡◌, ℕ, suc, ◌+◌, ◌-◌, ◌*◌, ◌%◌, ◌^◌, ◌<◌, List, [], ◌∷◌, length, drop, refl, ap, sym, subst, ◌∙◌, arith}
-use Rattle.std.specs.Prelude.{ℤ, pos, Bool, true, false, if◌then◌else◌, ◌==◌}
-use Rattle.dexspec.specs.Bytes.{number_of, signed_in, BytesAt}
-use Rattle.dexspec.specs.Numbers.{Uleb128At}
-use Rattle.dexspec.specs.Texts.{Text}
-use Rattle.dexspec.specs.Symbols.{Field, Method}
-use Rattle.dexspec.specs.Rows.{StringRow, TypeRow, FieldRow, MethodRow}
-use Rattle.dexspec.specs.Values.{Value, ByteValue, ShortValue, CharValue, IntValue, LongValue, FloatValue, DoubleValue, StringValue, TypeValue, FieldValue, MethodValue, EnumValue, ArrayValue, AnnotationValue, NullValue, BooleanValue, Values, NoValues, ThenValue, Elements, NoElements, ThenElement, count_values, names_of, value_byte, SizedAt, IndexAt, ArrayAround, AnnotationAround, ValueAt, ValuesAt, ElementsAt, EncodedArrayAt, EncodedAnnotationAt}
+use Rattle.dexspec.proofs.Common.{◌≡◌, ℕ, suc, ◌+◌, ◌-◌, ◌*◌, ◌%◌, ◌^◌, ◌<◌, List, [], ◌∷◌, length, drop, refl, ap, sym, subst, ◌∙◌, arith, ℤ, pos, Bool, true, false, if◌then◌else◌, ◌==◌, Values}
+use Rattle.dexspec.specs.{number_of, signed_in, BytesAt, Uleb128At, Text, Field, Method, StringRow, TypeRow, FieldRow, MethodRow, Value, ByteValue, ShortValue, CharValue, IntValue, LongValue, FloatValue, DoubleValue, StringValue, TypeValue, FieldValue, MethodValue, EnumValue, ArrayValue, AnnotationValue, NullValue, BooleanValue, NoValues, ThenValue, Elements, NoElements, ThenElement, count_values, names_of, value_byte, SizedAt, IndexAt, ArrayAround, AnnotationAround, ValueAt, ValuesAt, ElementsAt, EncodedArrayAt, EncodedAnnotationAt}
 use Rattle.dexspec.proofs.written.PlacedBytes.{same_first, same_bytes_at}
 use Rattle.dexspec.proofs.determined.OneNumber.{one_uleb128}
 use Rattle.dexspec.proofs.determined.OneRow.{one_string, one_type, one_field, one_method}

@@ -1,18 +1,6 @@
 -- A class row whose items can all be read is a definition.
-use Rattle.std.proofs.Common.{◌≢◌, ℕ, zero, suc, ◌+◌, ◌<◌, ◌≤◌, List, [], ◌∷◌, map, Option, Some, None, refl, subst, arith, inl, inr}
-use Rattle.std.specs.List.{Contains, AllZip, range_with_len}
-use Rattle.std.proofs.lemmas.Bool.{cases_eq}
-use Rattle.std.proofs.lemmas.List.Elements.{All-contains, Contains-append_left, Contains-append_right}
-use Rattle.dexspec.specs.Lists.{OrNone, SomeAt}
-use Rattle.dexspec.specs.Bytes.{uint_at, ushort_at}
-use Rattle.dexspec.specs.Symbols.{method_cmp}
-use Rattle.dexspec.specs.Header.{ClassDefs, table_size}
-use Rattle.dexspec.specs.Debug.{DebugAt}
-use Rattle.dexspec.specs.Code.{Code, CodeAt}
-use Rattle.dexspec.specs.Annotations.{Directory, annotated}
-use Rattle.dexspec.specs.ClassData.{EncodedMethod, methods_of}
-use Rattle.dexspec.specs.Classes.{MethodDef, Definition, access_flags, field_def, MakesMethod, ClassRow}
-use Rattle.dexspec.specs.Accepted.{HasClass, HasPiecesAt, HasTriesAt, HasDebugAt, IsReadable}
+use Rattle.dexspec.proofs.Common.{◌≢◌, ℕ, zero, suc, ◌+◌, ◌<◌, ◌≤◌, List, [], ◌∷◌, map, Option, Some, None, refl, subst, arith, inl, inr, Contains, AllZip, range_with_len, cases_eq, All-contains, Contains-append_left, Contains-append_right, Code}
+use Rattle.dexspec.specs.{OrNone, SomeAt, uint_at, ushort_at, method_cmp, ClassDefs, table_size, DebugAt, CodeAt, Directory, annotated, EncodedMethod, methods_of, MethodDef, Definition, access_flags, field_def, MakesMethod, ClassRow, HasClass, HasPiecesAt, HasTriesAt, HasDebugAt, IsReadable}
 use Rattle.dexspec.proofs.lists.Members.{Contains-nil, Contains-first, Contains-later, Contains-cons_cases}
 
 -- ---- code

@@ -1,13 +1,6 @@
 -- A canonical file meets conditions 1 to 15.
-use Rattle.std.proofs.Common.{ℕ, List, arith}
-use Rattle.dexspec.specs.Header.{StringIds, TypeIds, ProtoIds, FieldIds, MethodIds}
-use Rattle.dexspec.specs.Conditions.{Condition}
-use Rattle.dexspec.specs.Accepted.{HoldBelow, IsFrame}
-use Rattle.dexspec.specs.Files.{Collection, definitions}
-use Rattle.dexspec.specs.WellFormed.{AreWellFormed}
-use Rattle.dexspec.specs.Merging.{Caps, AreCaps, Fits}
-use Rattle.dexspec.specs.Placing.{Ordered}
-use Rattle.dexspec.specs.Canonical.{canonical}
+use Rattle.dexspec.proofs.Common.{ℕ, List, arith}
+use Rattle.dexspec.specs.{StringIds, TypeIds, ProtoIds, FieldIds, MethodIds, Condition, HoldBelow, IsFrame, Collection, definitions, AreWellFormed, Caps, AreCaps, Fits, Ordered, canonical}
 use Rattle.dexspec.proofs.layout.SectionPlaces.{Laid}
 use Rattle.dexspec.proofs.layout.HeaderLaws.{AreFew}
 use Rattle.dexspec.proofs.layout.Frames.{fits_few, fitting_laid, fitting_frame}

@@ -1,11 +1,6 @@
 -- Conditions 4 to 6 and 9 of the file of classes in order.
-use Rattle.std.proofs.Common.{◌≡◌, ℕ, ◌+◌, ◌*◌, ◌%◌, List, [], ◌∷◌, refl, sym, ap, subst, ◌∙◌, arith, inl, inr}
-use Rattle.std.specs.Prelude.{◌==◌, Bool, true, false, if◌then◌else◌}
-use Rattle.std.proofs.lemmas.Bool.{eqb-true, eqb-false}
-use Rattle.dexspec.specs.Header.{Table, StringIds, TypeIds, ProtoIds, FieldIds, MethodIds, ClassDefs, tables, header_length, row_size, table_size, table_off, data_off, MayHave, HasLengths, HasEndian, HasNoLink}
-use Rattle.dexspec.specs.Sections.{AreLaidOut, HasLayout}
-use Rattle.dexspec.specs.Placing.{Ordered}
-use Rattle.dexspec.specs.Canonical.{table_count, tables_from, placed_tables}
+use Rattle.dexspec.proofs.Common.{◌≡◌, ℕ, ◌+◌, ◌*◌, ◌%◌, List, [], ◌∷◌, refl, sym, ap, subst, ◌∙◌, arith, inl, inr, ◌==◌, Bool, true, false, if◌then◌else◌, eqb-true, eqb-false}
+use Rattle.dexspec.specs.{Table, StringIds, TypeIds, ProtoIds, FieldIds, MethodIds, ClassDefs, tables, header_length, row_size, table_size, table_off, data_off, MayHave, HasLengths, HasEndian, HasNoLink, AreLaidOut, HasLayout, Ordered, table_count, tables_from, placed_tables}
 use Rattle.dexspec.proofs.layout.SectionPlaces.{Laid}
 
 -- 4 Lengths

@@ -1,18 +1,7 @@
 -- Lists of map entries: read back from their bytes, without some entries, with different kinds, with rising offsets.
-use Rattle.std.proofs.Common.{◌≡◌, ◌≢◌, ℕ, zero, suc, ◌+◌, ◌*◌, ◌^◌, ◌<◌, ◌≤◌, List, [], ◌∷◌, ◌++◌, length, get_or, map, refl, sym, ap, ◌∙◌, arith}
-use Rattle.std.specs.Prelude.{◌==◌, ◌&&◌, not, Bool, true, false, if◌then◌else◌, nat_lt, IsTrue}
-use Rattle.std.specs.List.{flat_map, All, list_all, Contains}
-use Rattle.std.specs.Ordering.{nat_cmp, is_lt}
-use Rattle.std.specs.declared.cmp.Ordering.TheVariants.{Less}
-use Rattle.std.proofs.lemmas.List.{length-append}
-use Rattle.std.proofs.lemmas.List.Elements.{All-nil, All-cons, All-head, All-tail, All-map}
+use Rattle.dexspec.proofs.Common.{◌≡◌, ◌≢◌, ℕ, zero, suc, ◌+◌, ◌*◌, ◌^◌, ◌<◌, ◌≤◌, List, [], ◌∷◌, ◌++◌, length, get_or, map, refl, sym, ap, ◌∙◌, arith, ◌==◌, ◌&&◌, not, Bool, true, false, if◌then◌else◌, nat_lt, IsTrue, flat_map, All, list_all, Contains, nat_cmp, is_lt, Less, length-append, All-nil, All-cons, All-head, All-tail, All-map, true≢false, cond-true, lt-ltb, eqb-false, not-true}
 use Rattle.std.proofs.lemmas.List.Kept.{AllPairs-cons}
-use Rattle.std.proofs.lemmas.Bool.{true≢false, cond-true, lt-ltb, eqb-false, not-true}
-use Rattle.dexspec.specs.Lists.{rises, AreDistinct}
-use Rattle.dexspec.specs.Bytes.{ushort, uint, ushort_at, uint_at, BytesAt}
-use Rattle.dexspec.specs.Header.{StringIds, TypeIds, ProtoIds, FieldIds, MethodIds, ClassDefs}
-use Rattle.dexspec.specs.Sections.{Section, HeaderItem, TableOf, MapList, TypeLists, AnnotationSetRefLists, AnnotationSets, ClassDataItems, CodeItems, StringDataItems, DebugInfoItems, AnnotationItems, EncodedArrayItems, AnnotationsDirectories, type_code, MapEntry, entries_at}
-use Rattle.dexspec.specs.Canonical.{map_entry_bytes, map_bytes}
+use Rattle.dexspec.specs.{rises, AreDistinct, ushort, uint, ushort_at, uint_at, BytesAt, StringIds, TypeIds, ProtoIds, FieldIds, MethodIds, ClassDefs, Section, HeaderItem, TableOf, MapList, TypeLists, AnnotationSetRefLists, AnnotationSets, ClassDataItems, CodeItems, StringDataItems, DebugInfoItems, AnnotationItems, EncodedArrayItems, AnnotationsDirectories, type_code, MapEntry, entries_at, map_entry_bytes, map_bytes}
 use Rattle.dexspec.proofs.written.PlacedBytes.{is_at, length_rows}
 use Rattle.dexspec.proofs.numbers.ByteNumbers.{length-uint, length-ushort, ushort_at-encodes, uint_at-encodes}
 use Rattle.dexspec.proofs.lists.Members.{and_first, and_second, and_both}

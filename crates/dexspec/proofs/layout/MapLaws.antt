@@ -1,19 +1,6 @@
 -- Condition 10 of the file of classes in order: its map.
-use Rattle.std.proofs.Common.{◌≡◌, ◌≢◌, ℕ, ◌+◌, ◌*◌, ◌%◌, ◌^◌, ◌<◌, ◌≤◌, List, [], ◌∷◌, ◌++◌, length, get_or, map, refl, sym, ap, subst, ◌∙◌, arith, inl, inr}
-use Rattle.std.specs.Prelude.{slice_index, ◌==◌, Bool, true, false, if◌then◌else◌, IsTrue}
-use Rattle.std.specs.List.{flat_map, All, Contains}
-use Rattle.std.specs.Ordering.{nat_cmp}
-use Rattle.std.proofs.lemmas.List.{get_or-map, length-map}
-use Rattle.std.proofs.lemmas.List.Concat.{flat_map-append}
-use Rattle.std.proofs.lemmas.List.Folds.{flat_map-map}
-use Rattle.std.proofs.lemmas.List.Elements.{All-nil, All-cons, All-head, All-tail, All-append, All-map}
-use Rattle.std.proofs.lemmas.Bool.{eqb-true, eqb-false}
-use Rattle.dexspec.specs.Lists.{rises, AreDistinct}
-use Rattle.dexspec.specs.Bytes.{uint, uint_at, BytesAt}
-use Rattle.dexspec.specs.Header.{Table, StringIds, TypeIds, ProtoIds, FieldIds, MethodIds, ClassDefs, tables, header_length, row_size, table_off, map_off}
-use Rattle.dexspec.specs.Sections.{Section, HeaderItem, TableOf, MapList, type_code, MapEntry, map_entries, entries_at, IsKnown, HasTable, IsPlaced, HasMap}
-use Rattle.dexspec.specs.Placing.{Ordered, Placed, offsets, end}
-use Rattle.dexspec.specs.Canonical.{table_count, tables_from, placed_tables, data_start, map_bytes, map_entry_bytes, data_sections, directory_section, type_list_section, annotation_section, array_section, string_section, debug_section, code_section, class_data_section, set_section, ref_list_section}
+use Rattle.dexspec.proofs.Common.{◌≡◌, ◌≢◌, ℕ, ◌+◌, ◌*◌, ◌%◌, ◌^◌, ◌<◌, ◌≤◌, List, [], ◌∷◌, ◌++◌, length, get_or, map, refl, sym, ap, subst, ◌∙◌, arith, inl, inr, slice_index, ◌==◌, Bool, true, false, if◌then◌else◌, IsTrue, flat_map, All, Contains, nat_cmp, get_or-map, length-map, flat_map-append, flat_map-map, All-nil, All-cons, All-head, All-tail, All-append, All-map, eqb-true, eqb-false}
+use Rattle.dexspec.specs.{rises, AreDistinct, uint, uint_at, BytesAt, Table, StringIds, TypeIds, ProtoIds, FieldIds, MethodIds, ClassDefs, tables, header_length, row_size, table_off, map_off, Section, HeaderItem, TableOf, MapList, type_code, MapEntry, map_entries, entries_at, IsKnown, HasTable, IsPlaced, HasMap, Ordered, Placed, offsets, end, table_count, tables_from, placed_tables, data_start, map_bytes, map_entry_bytes, data_sections, directory_section, type_list_section, annotation_section, array_section, string_section, debug_section, code_section, class_data_section, set_section, ref_list_section}
 use Rattle.dexspec.proofs.written.PlacedBytes.{is_at}
 use Rattle.dexspec.proofs.numbers.ByteNumbers.{uint_at-encodes}
 use Rattle.dexspec.proofs.layout.Places.{IsAlign, items_within, items_few, FollowFrom, last_end, round_up_four, length-padding}

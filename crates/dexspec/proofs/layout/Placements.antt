@@ -1,24 +1,7 @@
 -- The ten sections of the data: they follow one another after the tables, each item has bytes, and each row has its
 -- offsets.
-use Rattle.std.proofs.Common.{◌≡◌, ℕ, zero, suc, ◌+◌, ◌<◌, List, [], ◌∷◌, ◌++◌, length, get_or, map, drop, refl, sym, ap, subst, ◌∙◌, arith, inl, inr}
-use Rattle.std.specs.Prelude.{Option, Some, None, IfSome, Bool, true, false, if◌then◌else◌, slice_index}
-use Rattle.std.specs.Option.{option_map_or}
-use Rattle.std.specs.List.{flat_map, All, zip}
-use Rattle.std.proofs.lemmas.List.{length-append, length-map, length-drop, map-id}
-use Rattle.std.proofs.lemmas.List.Elements.{All-from_recursion, All-nil, All-cons, All-head, All-tail, All-map}
-use Rattle.dexspec.specs.Lists.{chunks, zip_with, present}
-use Rattle.dexspec.specs.Bytes.{ushort, uint}
-use Rattle.dexspec.specs.Numbers.{uleb128}
-use Rattle.dexspec.specs.Texts.{string_data}
-use Rattle.dexspec.specs.Classes.{Definition}
-use Rattle.dexspec.specs.Code.{Code}
-use Rattle.dexspec.specs.Debug.{Debug}
-use Rattle.dexspec.specs.Values.{count_values}
-use Rattle.dexspec.specs.Mentions.{Mentions}
-use Rattle.dexspec.specs.Sameness.{same_types}
-use Rattle.dexspec.specs.Spellings.{code_bytes, debug_bytes, encoded_array_bytes, annotation_bytes, offsets_bytes, class_data_bytes, type_list_bytes}
-use Rattle.dexspec.specs.Placing.{unless_empty, own_numbers, own_items, shared_items, Sharing, EqualOnce, EachForItself, items_by, Placed, offsets, uses_offsets, Ordered, by_class, SetOffsets, type_list_uses, code_uses, static_values_uses, class_data_uses, ref_list_uses, directory_uses, directory_bytes, end}
-use Rattle.dexspec.specs.Canonical.{data_start, class_offsets, type_list_items, type_list_section, set_items, annotation_section, annotation_offsets, array_section, string_section, debug_items, debug_section, code_section, class_data_section, set_section, set_offsets, ref_list_section, directory_section, data_sections}
+use Rattle.dexspec.proofs.Common.{◌≡◌, ℕ, zero, suc, ◌+◌, ◌<◌, List, [], ◌∷◌, ◌++◌, length, get_or, map, drop, refl, sym, ap, subst, ◌∙◌, arith, inl, inr, Option, Some, None, IfSome, Bool, true, false, if◌then◌else◌, slice_index, option_map_or, flat_map, All, zip, length-append, length-map, length-drop, map-id, All-from_recursion, All-nil, All-cons, All-head, All-tail, All-map, Code, Debug, Mentions}
+use Rattle.dexspec.specs.{chunks, zip_with, present, ushort, uint, uleb128, string_data, Definition, count_values, same_types, code_bytes, debug_bytes, encoded_array_bytes, annotation_bytes, offsets_bytes, class_data_bytes, type_list_bytes, unless_empty, own_numbers, own_items, shared_items, Sharing, EqualOnce, EachForItself, items_by, Placed, offsets, uses_offsets, Ordered, by_class, SetOffsets, type_list_uses, code_uses, static_values_uses, class_data_uses, ref_list_uses, directory_uses, directory_bytes, end, data_start, class_offsets, type_list_items, type_list_section, set_items, annotation_section, annotation_offsets, array_section, string_section, debug_items, debug_section, code_section, class_data_section, set_section, set_offsets, ref_list_section, directory_section, data_sections}
 use Rattle.dexspec.proofs.numbers.ByteNumbers.{length-uint, length-ushort}
 use Rattle.dexspec.proofs.numbers.Spellings.{uleb128_bounds}
 use Rattle.dexspec.proofs.layout.Places.{IsAlign, length-offsets_from, FollowFrom}

@@ -1,11 +1,6 @@
 -- Items that follow one another in a section, and sections that follow one another.
-use Rattle.std.proofs.Common.{◌≡◌, ◌⊎◌, ℕ, zero, suc, ◌+◌, ◌-◌, ◌%◌, ◌<◌, ◌≤◌, List, [], ◌∷◌, ◌++◌, length, get_or, refl, ap, ◌∙◌, arith, inl, inr}
-use Rattle.std.specs.List.{flat_map, All}
-use Rattle.std.specs.Prelude.{slice_index}
-use Rattle.std.proofs.lemmas.List.{length-append, length-replicate}
-use Rattle.std.proofs.lemmas.List.Elements.{All-head, All-tail}
-use Rattle.dexspec.specs.Bytes.{BytesAt, round_up, padding}
-use Rattle.dexspec.specs.Placing.{Placed, offsets_from, end_from, bytes_from, end, section_bytes}
+use Rattle.dexspec.proofs.Common.{◌≡◌, ◌⊎◌, ℕ, zero, suc, ◌+◌, ◌-◌, ◌%◌, ◌<◌, ◌≤◌, List, [], ◌∷◌, ◌++◌, length, get_or, refl, ap, ◌∙◌, arith, inl, inr, flat_map, All, slice_index, length-append, length-replicate, All-head, All-tail}
+use Rattle.dexspec.specs.{BytesAt, round_up, padding, Placed, offsets_from, end_from, bytes_from, end, section_bytes}
 use Rattle.dexspec.proofs.written.PlacedBytes.{is_at_first, is_at_whole, is_at_later, is_at_in, is_at}
 
 -- ---- alignment

@@ -1,12 +1,7 @@
 -- A header's first fields, whatever the bytes after them: conditions 1, 4, 5 and 6; and a map that is read at its
 -- offset.
-use Rattle.std.proofs.Common.{◌≡◌, ℕ, ◌+◌, ◌^◌, ◌<◌, ◌≤◌, List, ◌++◌, length, map, refl, ◌∙◌, arith}
-use Rattle.std.specs.Prelude.{All}
-use Rattle.std.specs.List.{flat_map}
-use Rattle.dexspec.specs.Bytes.{uint, uint_at, BytesAt}
-use Rattle.dexspec.specs.Header.{header_length, HasSize, HasLengths, HasEndian, HasNoLink}
-use Rattle.dexspec.specs.Sections.{Section, entries_at}
-use Rattle.dexspec.specs.Canonical.{with_sums, map_bytes, map_entry_bytes}
+use Rattle.dexspec.proofs.Common.{◌≡◌, ℕ, ◌+◌, ◌^◌, ◌<◌, ◌≤◌, List, ◌++◌, length, map, refl, ◌∙◌, arith, All, flat_map}
+use Rattle.dexspec.specs.{uint, uint_at, BytesAt, header_length, HasSize, HasLengths, HasEndian, HasNoLink, Section, entries_at, with_sums, map_bytes, map_entry_bytes}
 use Rattle.dexspec.proofs.written.PlacedBytes.{is_at_whole, is_at}
 use Rattle.dexspec.proofs.numbers.ByteNumbers.{uint_at-encodes}
 use Rattle.dexspec.proofs.layout.Sums.{with_sums_is_at}

@@ -1,21 +1,6 @@
 -- The symbols of the pools of a file with this layout are in the rows of their ranks.
-use Rattle.std.proofs.Common.{◌≡◌, ℕ, ◌+◌, ◌%◌, ◌^◌, ◌<◌, ◌≤◌, ◌/◌, List, [], ◌∷◌, ◌++◌, drop, length, get_or, map, refl, sym, ap, subst, ◌∙◌, arith, inl, inr}
-use Rattle.std.specs.Prelude.{◌==◌, if◌then◌else◌, nat_lt}
-use Rattle.std.proofs.lemmas.Bool.{cond_both}
-use Rattle.std.specs.List.{All, AllZip, Contains}
-use Rattle.std.proofs.lemmas.List.{length-drop, length-append}
-use Rattle.std.proofs.lemmas.List.Elements.{Contains-get_or}
-use Rattle.dexspec.specs.Lists.{OrNone}
-use Rattle.dexspec.specs.Bytes.{uint_at, BytesAt}
-use Rattle.dexspec.specs.Numbers.{BeginsWith, uleb128}
-use Rattle.dexspec.specs.Texts.{Text, text_cmp, AreUnits, form, spelling, string_data, IsStringData}
-use Rattle.dexspec.specs.Names.{IsDescriptor, IsValueType, shorty}
-use Rattle.dexspec.specs.Symbols.{Proto, Field, Method, proto_cmp, field_cmp, method_cmp, IsField, IsMethod}
-use Rattle.dexspec.specs.Header.{StringIds, TypeIds, ProtoIds, FieldIds, MethodIds}
-use Rattle.dexspec.specs.Rows.{row_at, StringRow, TypeRow, TypeListAt, ProtoRow, FieldRow, MethodRow}
-use Rattle.dexspec.specs.Mentions.{Mentions}
-use Rattle.dexspec.specs.Spellings.{text_index, type_index, proto_index, field_index, method_index, type_list_bytes}
-use Rattle.dexspec.specs.Placing.{Ordered, unless_empty}
+use Rattle.dexspec.proofs.Common.{◌≡◌, ℕ, ◌+◌, ◌%◌, ◌^◌, ◌<◌, ◌≤◌, ◌/◌, List, [], ◌∷◌, ◌++◌, drop, length, get_or, map, refl, sym, ap, subst, ◌∙◌, arith, inl, inr, ◌==◌, if◌then◌else◌, nat_lt, cond_both, All, AllZip, Contains, length-drop, length-append, Contains-get_or, Mentions}
+use Rattle.dexspec.specs.{OrNone, uint_at, BytesAt, BeginsWith, uleb128, Text, text_cmp, AreUnits, form, spelling, string_data, IsStringData, IsDescriptor, IsValueType, shorty, Proto, Field, Method, proto_cmp, field_cmp, method_cmp, IsField, IsMethod, StringIds, TypeIds, ProtoIds, FieldIds, MethodIds, row_at, StringRow, TypeRow, TypeListAt, ProtoRow, FieldRow, MethodRow, text_index, type_index, proto_index, field_index, method_index, type_list_bytes, Ordered, unless_empty}
 use Rattle.dexspec.proofs.written.PlacedBytes.{is_at_within}
 use Rattle.dexspec.proofs.lists.Members.{Contains-first, Contains-later}
 use Rattle.dexspec.proofs.lists.InOrder.{Rises, rank-place}

@@ -1,13 +1,6 @@
 -- The symbols that well-formed definitions mention are pools that a file can have.
-use Rattle.std.proofs.Common.{List, [], ◌∷◌, subst, inl, inr}
-use Rattle.std.specs.List.{Contains, flat_map}
-use Rattle.std.proofs.lemmas.List.Elements.{All-contains}
-use Rattle.dexspec.specs.Texts.{Text}
-use Rattle.dexspec.specs.Names.{IsDescriptor, IsValueType, IsReferenceType, PrimitiveType, ClassType, ArrayType}
-use Rattle.dexspec.specs.Symbols.{Proto, Field, Method, Symbol, TextSymbol, TypeSymbol, ProtoSymbol, FieldSymbol, MethodSymbol, IsProto, IsField, IsMethod}
-use Rattle.dexspec.specs.Classes.{Definition}
-use Rattle.dexspec.specs.Mentions.{mentions, symbols_of, texts_in, types_in, protos_in, fields_in, methods_in, proto_types}
-use Rattle.dexspec.specs.WellFormed.{IsText, IsSymbol, AreWellFormed}
+use Rattle.dexspec.proofs.Common.{List, [], ◌∷◌, subst, inl, inr, Contains, flat_map, All-contains}
+use Rattle.dexspec.specs.{Text, IsDescriptor, IsValueType, IsReferenceType, PrimitiveType, ClassType, ArrayType, Proto, Field, Method, Symbol, TextSymbol, TypeSymbol, ProtoSymbol, FieldSymbol, MethodSymbol, IsProto, IsField, IsMethod, Definition, mentions, symbols_of, texts_in, types_in, protos_in, fields_in, methods_in, proto_types, IsText, IsSymbol, AreWellFormed}
 use Rattle.dexspec.proofs.lists.Members.{Contains-nil, Contains-first, Contains-later, Contains-cons_cases, Contains-flat_map}
 use Rattle.dexspec.proofs.merge.Growth.{mentions-rising}
 use Rattle.dexspec.proofs.merge.MentionMembers.{Occurs, texts-source, types-source, protos-source, fields-source, methods-source, type-text, proto-shorty, proto-types, field-class, field-name, field-type, method-class, method-name, method-proto}

@@ -1,23 +1,6 @@
 -- Conditions 11 to 15 of a file with this layout: its rows denote symbols, in order.
-use Rattle.std.proofs.Common.{◌≡◌, ℕ, zero, suc, ◌+◌, ◌<◌, List, [], ◌∷◌, drop, length, get_or, map, refl, sym, ap, subst, ◌∙◌, arith, inl, inr}
-use Rattle.std.specs.Prelude.{◌==◌, if◌then◌else◌, nat_lt}
-use Rattle.std.specs.List.{Contains}
-use Rattle.std.specs.Cmp.{IsTotalOrder}
-use Rattle.std.specs.Cmp.Lexicographic.{slice_cmp}
-use Rattle.std.specs.Ordering.{nat_cmp, ordering_then, ordering_reverse}
-use Rattle.std.specs.declared.cmp.Ordering.{Ordering}
-use Rattle.std.specs.declared.cmp.Ordering.TheVariants.{Less, Equal, Greater}
-use Rattle.std.proofs.lemmas.Bool.{cond-true, cond-false, lt-ltb, le-ltb, eq-eqb, ne_eqb, cases_order}
-use Rattle.std.proofs.lemmas.Cmp.{tied_itself}
-use Rattle.std.proofs.lemmas.List.Elements.{Contains-get_or}
-use Rattle.dexspec.specs.Lists.{rank}
-use Rattle.dexspec.specs.Bytes.{uint_at, ushort_at}
-use Rattle.dexspec.specs.Texts.{Text, text_cmp}
-use Rattle.dexspec.specs.Symbols.{Proto, Field, Method, proto_cmp, field_cmp, method_cmp}
-use Rattle.dexspec.specs.Header.{StringIds, ProtoIds, FieldIds, MethodIds}
-use Rattle.dexspec.specs.Rows.{row_at, TypeRow, ProtoRow, FieldRow, MethodRow, type_indices, key_cmp, type_row_key, proto_row_key, HasString, HasType, HasProto, HasField, HasMethod}
-use Rattle.dexspec.specs.Spellings.{text_index, type_index, proto_index, type_list_bytes}
-use Rattle.dexspec.specs.Placing.{Ordered, unless_empty}
+use Rattle.dexspec.proofs.Common.{◌≡◌, ℕ, zero, suc, ◌+◌, ◌<◌, List, [], ◌∷◌, drop, length, get_or, map, refl, sym, ap, subst, ◌∙◌, arith, inl, inr, ◌==◌, if◌then◌else◌, nat_lt, Contains, IsTotalOrder, slice_cmp, nat_cmp, ordering_then, ordering_reverse, Ordering, Less, Equal, Greater, cond-true, cond-false, lt-ltb, le-ltb, eq-eqb, ne_eqb, cases_order, tied_itself, Contains-get_or}
+use Rattle.dexspec.specs.{rank, uint_at, ushort_at, Text, text_cmp, Proto, Field, Method, proto_cmp, field_cmp, method_cmp, StringIds, ProtoIds, FieldIds, MethodIds, row_at, TypeRow, ProtoRow, FieldRow, MethodRow, type_indices, key_cmp, type_row_key, proto_row_key, HasString, HasType, HasProto, HasField, HasMethod, text_index, type_index, proto_index, type_list_bytes, Ordered, unless_empty}
 use Rattle.dexspec.proofs.lists.Members.{Contains-first, Contains-later}
 use Rattle.dexspec.proofs.lists.InOrder.{Rises, rank-place, rank-get_or}
 use Rattle.dexspec.proofs.merge.SymbolOrders.{text_total, proto_total, field_total, method_total}

@@ -1,14 +1,7 @@
 -- The magic and the two sums before the bytes that they cover: conditions 2, 3, 7 and 8.
-use Rattle.std.proofs.Common.{◌≡◌, ℕ, zero, suc, ◌+◌, ◌*◌, ◌/◌, ◌^◌, ◌<◌, List, [], ◌∷◌, ◌++◌, length, take, drop, refl, sym, ap, ◌∙◌, arith}
-use Rattle.std.specs.Prelude.{slice_index}
-use Rattle.std.specs.Int.{w32, to_be_bytes}
-use Rattle.std.proofs.lemmas.List.{length-append, take_at, drop_at}
-use Rattle.std.proofs.lemmas.List.Elements.{All-nil, All-cons}
-use Rattle.std.proofs.Math.Seq.{drop-append-add}
+use Rattle.dexspec.proofs.Common.{◌≡◌, ℕ, zero, suc, ◌+◌, ◌*◌, ◌/◌, ◌^◌, ◌<◌, List, [], ◌∷◌, ◌++◌, length, take, drop, refl, sym, ap, ◌∙◌, arith, slice_index, w32, to_be_bytes, length-append, take_at, drop_at, All-nil, All-cons, drop-append-add}
 use Rattle.sha1.specs.Sha1.{sha1, digest_bytes, hash_after, padded_message}
-use Rattle.dexspec.specs.Bytes.{uint, BytesAt}
-use Rattle.dexspec.specs.Header.{adler_step, adler_sums, adler_32, HasMagic, HasVersion, HasChecksum, HasSignature, IsDigit}
-use Rattle.dexspec.specs.Canonical.{magic, with_sums}
+use Rattle.dexspec.specs.{uint, BytesAt, adler_step, adler_sums, adler_32, HasMagic, HasVersion, HasChecksum, HasSignature, IsDigit, magic, with_sums}
 use Rattle.dexspec.proofs.written.PlacedBytes.{is_at_first, is_at_later, is_at}
 use Rattle.dexspec.proofs.numbers.ByteNumbers.{length-uint, uint_at-encodes}
 

@@ -1,17 +1,6 @@
 -- The header and the rows of the tables: their contents by offset.
-use Rattle.std.proofs.Common.{◌≡◌, ℕ, zero, suc, ◌+◌, ◌-◌, ◌*◌, ◌<◌, ◌≤◌, List, [], ◌∷◌, ◌++◌, length, get_or, ap, ◌∙◌, arith}
-use Rattle.std.specs.Prelude.{◌==◌, if◌then◌else◌}
-use Rattle.std.specs.List.{flat_map, concat}
-use Rattle.std.proofs.lemmas.List.{length-append}
-use Rattle.dexspec.specs.Lists.{zip_with}
-use Rattle.dexspec.specs.Bytes.{uint, BytesAt}
-use Rattle.dexspec.specs.Symbols.{Proto, Field, Method}
-use Rattle.dexspec.specs.Classes.{Definition}
-use Rattle.dexspec.specs.Header.{Table, StringIds, TypeIds, ProtoIds, FieldIds, MethodIds, ClassDefs, header_length, size_place, row_size}
-use Rattle.dexspec.specs.Mentions.{Mentions}
-use Rattle.dexspec.specs.Spellings.{text_index}
-use Rattle.dexspec.specs.Placing.{Ordered, offsets, uses_offsets}
-use Rattle.dexspec.specs.Canonical.{table_count, placed_tables, data_start, proto_row_bytes, field_row_bytes, method_row_bytes, class_offsets, class_row_bytes, string_section, type_list_section, table_bytes, header_bytes}
+use Rattle.dexspec.proofs.Common.{◌≡◌, ℕ, zero, suc, ◌+◌, ◌-◌, ◌*◌, ◌<◌, ◌≤◌, List, [], ◌∷◌, ◌++◌, length, get_or, ap, ◌∙◌, arith, ◌==◌, if◌then◌else◌, flat_map, concat, length-append, Mentions}
+use Rattle.dexspec.specs.{zip_with, uint, BytesAt, Proto, Field, Method, Definition, Table, StringIds, TypeIds, ProtoIds, FieldIds, MethodIds, ClassDefs, header_length, size_place, row_size, text_index, Ordered, offsets, uses_offsets, table_count, placed_tables, data_start, proto_row_bytes, field_row_bytes, method_row_bytes, class_offsets, class_row_bytes, string_section, type_list_section, table_bytes, header_bytes}
 use Rattle.dexspec.proofs.written.PlacedBytes.{is_at_first, is_at_whole, is_at_later, is_at_in, is_at, is_at_row, length_rows}
 use Rattle.dexspec.proofs.numbers.ByteNumbers.{length-uint, length-ushort}
 use Rattle.dexspec.proofs.layout.Placements.{length-string_offsets, length-type_list_offsets, length-class_offsets}

@@ -1,24 +1,8 @@
 -- The offset of each use of an item in a file with this layout: it is 0 if the use has no item, and otherwise the item
 -- is there. By class and method: type lists, static values, class data, code, debug programs, sets, ref lists and
 -- directories.
-use Rattle.std.proofs.Common.{◌≡◌, ℕ, zero, suc, ◌+◌, ◌<◌, ◌≤◌, List, [], ◌∷◌, ◌++◌, length, get_or, map, take, drop, refl, sym, ap, subst, ◌∙◌, arith}
-use Rattle.std.specs.Prelude.{slice_index, Option, Some, None, Bool, if◌then◌else◌}
-use Rattle.std.specs.Option.{option_map, option_map_or}
-use Rattle.std.specs.List.{flat_map, zip, Contains, position_or_len}
-use Rattle.std.proofs.lemmas.List.{length-take, length-drop, length-append, length-map, get_or-map, get_or-take, get_or-drop, get_or_append_left, get_or-append-add, drop-drop, take_all}
-use Rattle.std.proofs.lemmas.List.Concat.{get_or-flat_map}
-use Rattle.dexspec.specs.Canonical.{type_list_items, type_list_section, annotation_section, annotation_offsets, array_section, debug_items, debug_section, code_section, class_data_section, set_items, set_section, set_offsets, ref_list_section, directory_section}
-use Rattle.dexspec.specs.Lists.{chunks, zip_with, present, distinct}
-use Rattle.dexspec.specs.Symbols.{Proto}
-use Rattle.dexspec.specs.Code.{Code}
-use Rattle.dexspec.specs.Debug.{Debug}
-use Rattle.dexspec.specs.Annotations.{Annotation, AnnotationSet}
-use Rattle.dexspec.specs.Classes.{FieldDef, MethodDef, Definition, declared_fields, declared_methods}
-use Rattle.dexspec.specs.Mentions.{Mentions}
-use Rattle.dexspec.specs.Sameness.{same_types, same_debug, same_set}
-use Rattle.dexspec.specs.Spellings.{code_bytes, debug_bytes, encoded_array_bytes, annotation_bytes, offsets_bytes, class_data_bytes, type_list_bytes}
-use Rattle.dexspec.specs.Placing.{unless_empty, values_unless_empty, own_numbers, own_items, Items, shared_items, Sharing, EqualOnce, EachForItself, items_by, Placed, offsets, uses_offsets, Ordered, all_methods, by_class, is_empty_class, method_sets, class_sets, SetOffsets, set_offsets_of, type_list_uses, set_uses, debug_uses, code_uses, static_values_uses, class_data_uses, ref_list_uses, directory_uses, directory_bytes}
-use Rattle.std.proofs.lemmas.List.Folds.{length-flat_map-take}
+use Rattle.dexspec.proofs.Common.{◌≡◌, ℕ, zero, suc, ◌+◌, ◌<◌, ◌≤◌, List, [], ◌∷◌, ◌++◌, length, get_or, map, take, drop, refl, sym, ap, subst, ◌∙◌, arith, slice_index, Option, Some, None, Bool, if◌then◌else◌, option_map, option_map_or, flat_map, zip, Contains, position_or_len, length-take, length-drop, length-append, length-map, get_or-map, get_or-take, get_or-drop, get_or_append_left, get_or-append-add, drop-drop, take_all, get_or-flat_map, Code, Debug, Mentions, length-flat_map-take}
+use Rattle.dexspec.specs.{type_list_items, type_list_section, annotation_section, annotation_offsets, array_section, debug_items, debug_section, code_section, class_data_section, set_items, set_section, set_offsets, ref_list_section, directory_section, chunks, zip_with, present, distinct, Proto, Annotation, AnnotationSet, FieldDef, MethodDef, Definition, declared_fields, declared_methods, same_types, same_debug, same_set, code_bytes, debug_bytes, encoded_array_bytes, annotation_bytes, offsets_bytes, class_data_bytes, type_list_bytes, unless_empty, values_unless_empty, own_numbers, own_items, Items, shared_items, Sharing, EqualOnce, EachForItself, items_by, Placed, offsets, uses_offsets, Ordered, all_methods, by_class, is_empty_class, method_sets, class_sets, SetOffsets, set_offsets_of, type_list_uses, set_uses, debug_uses, code_uses, static_values_uses, class_data_uses, ref_list_uses, directory_uses, directory_bytes}
 use Rattle.dexspec.proofs.layout.Places.{length-offsets_from}
 use Rattle.dexspec.proofs.layout.Placements.{numbers_offsets, length-own_numbers, length-uses_offsets, length-items_offsets, length-chunks, length-by_class, length-zip, length-zip_with, length-set_offsets}
 use Rattle.dexspec.proofs.lists.Distinct.{distinct_has}

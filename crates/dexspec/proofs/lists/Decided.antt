@@ -1,17 +1,8 @@
 -- Equality of values of the model is decidable, by their codes.
-use Rattle.std.proofs.Common.{◌≡◌, ◌≢◌, ◌⊎◌, ℕ, refl, ap, subst, inl, inr}
-use Rattle.std.proofs.lemmas.Bool.{cases_eq}
+use Rattle.dexspec.proofs.Common.{◌≡◌, ◌≢◌, ◌⊎◌, ℕ, refl, ap, subst, inl, inr, cases_eq, Debug, Code, Values}
 use Rattle.std.specs.Coded.{Coded}
 use base.Stored.{Gv, gnil, gnum, gcons}
-use Rattle.dexspec.specs.Texts.{Text}
-use Rattle.dexspec.specs.Symbols.{Proto, Field, Method, Symbol}
-use Rattle.dexspec.specs.Pieces.{Piece}
-use Rattle.dexspec.specs.Debug.{Operation, Debug}
-use Rattle.dexspec.specs.Code.{Catch, Handler, Try, Code}
-use Rattle.dexspec.specs.Values.{Value, Values, Elements}
-use Rattle.dexspec.specs.Annotations.{Annotation, AnnotationSet}
-use Rattle.dexspec.specs.Classes.{FieldDef, MethodDef, Body, Definition}
-use Rattle.dexspec.specs.Files.{Collection}
+use Rattle.dexspec.specs.{Text, Proto, Field, Method, Symbol, Piece, Operation, Catch, Handler, Try, Value, Elements, Annotation, AnnotationSet, FieldDef, MethodDef, Body, Definition, Collection}
 use Rattle.dexspec.specs.internal.Codes as codes
 
 -- two values are equal or not

@@ -1,10 +1,7 @@
 -- The distinct members of a list: with one more member at the end, their sources, and their images.
-use Rattle.std.proofs.Common.{◌≡◌, ◌≢◌, zero, suc, Bool, true, false, cond, not, ◌||◌, if◌then◌else◌, List, [], ◌∷◌, ◌++◌, get_or, map, refl, ap, sym, ◌∙◌, subst, arith, append_assoc, inl, inr}
-use Rattle.std.specs.List.{Contains, filter, list_any}
-use Rattle.std.proofs.lemmas.List.{append-nil, map-append}
-use Rattle.std.proofs.lemmas.List.Elements.{filter-append, Contains-get_or}
+use Rattle.dexspec.proofs.Common.{◌≡◌, ◌≢◌, zero, suc, Bool, true, false, cond, not, ◌||◌, if◌then◌else◌, List, [], ◌∷◌, ◌++◌, get_or, map, refl, ap, sym, ◌∙◌, subst, arith, append_assoc, inl, inr, Contains, filter, list_any, append-nil, map-append, filter-append, Contains-get_or}
 use Rattle.std.proofs.lemmas.Map.Views.{any-filter_same}
-use Rattle.dexspec.specs.Lists.{AreDistinct, distinct}
+use Rattle.dexspec.specs.{AreDistinct, distinct}
 use Rattle.dexspec.proofs.lists.Equality.{IsEquality, turned}
 use Rattle.dexspec.proofs.lists.Members.{Contains-first, Contains-later, Contains-cons_cases, Contains-filter, Contains-filter_source}
 use Rattle.dexspec.proofs.lists.Sources.{distinct_source}

@@ -1,11 +1,6 @@
 -- Tests that decide equality: of any type, of lists, of options and of texts.
-use Rattle.std.proofs.Common.{◌≡◌, Bool, true, Some, None, refl, sym, ap, subst}
-use Rattle.std.specs.Bool.{Decides}
-use Rattle.std.specs.Option.{option_eq}
-use Rattle.std.specs.Cmp.Lexicographic.{pointwise}
-use Rattle.std.proofs.lemmas.Bool.Decides.{Decides-eqb, same_from_decides}
-use Rattle.std.proofs.lemmas.Slice.Eq.{slice_eq-Decides}
-use Rattle.dexspec.specs.Texts.{same_text}
+use Rattle.dexspec.proofs.Common.{◌≡◌, Bool, true, Some, None, refl, sym, ap, subst, Decides, option_eq, pointwise, Decides-eqb, same_from_decides, slice_eq-Decides}
+use Rattle.dexspec.specs.{same_text}
 
 -- the test passes exactly for equal values
 abbrev pub IsEquality : {X : Type 0} → (X → X → Bool) → Type 0

@@ -1,8 +1,5 @@
 -- The first place in a list at which a test passes.
-use Rattle.std.proofs.Common.{◌≡◌, ◌<◌, Bool, true, false, cond, not, ◌||◌, List, [], ◌∷◌, ◌++◌, length, get_or, map, suc, ◌+◌, refl, sym, ap, ◌∙◌, arith, inl, inr}
-use Rattle.std.specs.List.{Contains, list_any, position_or_len}
-use Rattle.std.proofs.lemmas.Bool.{cases_lt}
-use Rattle.std.proofs.lemmas.List.Sums.{fails_before_first}
+use Rattle.dexspec.proofs.Common.{◌≡◌, ◌<◌, Bool, true, false, cond, not, ◌||◌, List, [], ◌∷◌, ◌++◌, length, get_or, map, suc, ◌+◌, refl, sym, ap, ◌∙◌, arith, inl, inr, Contains, list_any, position_or_len, cases_lt, fails_before_first}
 use Rattle.dexspec.proofs.lists.Members.{Contains-first, Contains-later}
 
 -- ---- some member passes

@@ -1,15 +1,8 @@
 -- Lists in order: the result of `in_order` rises, has the members of its argument, and depends on these alone.
-use Rattle.std.proofs.Common.{◌≡◌, ◌⊎◌, ℕ, zero, suc, ◌+◌, ◌<◌, ◌≤◌, Bool, true, false, cond, List, [], ◌∷◌, length, get_or, refl, sym, ap, ◌∙◌, subst, arith, inl, inr, Ordering, Less, Equal, Greater}
-use Rattle.std.specs.List.{Contains}
-use Rattle.std.specs.Ordering.{is_lt, ordering_reverse}
-use Rattle.std.specs.Cmp.{IsTotalOrder}
+use Rattle.dexspec.proofs.Common.{◌≡◌, ◌⊎◌, ℕ, zero, suc, ◌+◌, ◌<◌, ◌≤◌, Bool, true, false, cond, List, [], ◌∷◌, length, get_or, refl, sym, ap, ◌∙◌, subst, arith, inl, inr, Ordering, Less, Equal, Greater, Contains, is_lt, ordering_reverse, IsTotalOrder, tied_itself, get_or_default, Contains-get_or, sum_by-cons}
 use Rattle.std.specs.FinMap.{IsAntisymmetric}
 use Rattle.std.specs.FinMap.Entries.{by_order}
-use Rattle.std.proofs.lemmas.Cmp.{tied_itself}
-use Rattle.std.proofs.lemmas.List.{get_or_default}
-use Rattle.std.proofs.lemmas.List.Elements.{Contains-get_or}
-use Rattle.std.proofs.lemmas.List.Sums.{sum_by-cons}
-use Rattle.dexspec.specs.Lists.{rises, add_in_order, in_order, rank, AreDistinct}
+use Rattle.dexspec.specs.{rises, add_in_order, in_order, rank, AreDistinct}
 use Rattle.dexspec.proofs.lists.Members.{and_first, and_second, and_both, AreAmong, Contains-nil, Contains-first, Contains-later, Contains-cons_cases, sum_by-among}
 
 -- by cases: each member is less than all members after it

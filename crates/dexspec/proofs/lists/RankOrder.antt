@@ -1,12 +1,7 @@
 -- Members of a rising list with equal ranks are equal, and a property of members at their ranks holds at all places.
-use Rattle.std.proofs.Common.{◌≡◌, ℕ, ◌<◌, List, length, get_or, refl, sym, ap, ◌∙◌, subst, arith, Ordering, Greater}
-use Rattle.std.specs.List.{Contains}
-use Rattle.std.specs.Ordering.{nat_cmp}
-use Rattle.std.specs.Cmp.{IsTotalOrder}
-use Rattle.std.proofs.lemmas.Bool.{le-ltb, ne_eqb}
-use Rattle.dexspec.specs.Lists.{rank}
+use Rattle.dexspec.proofs.Common.{◌≡◌, ℕ, ◌<◌, List, length, get_or, refl, sym, ap, ◌∙◌, subst, arith, Ordering, Greater, Contains, nat_cmp, IsTotalOrder, le-ltb, ne_eqb, Contains-get_or}
+use Rattle.dexspec.specs.{rank}
 use Rattle.dexspec.proofs.lists.InOrder.{Rises, rank-place, rank-get_or}
-use Rattle.std.proofs.lemmas.List.Elements.{Contains-get_or}
 
 -- a greater number is greater by order
 pub nat_more : (x y : ℕ) → y < x → nat_cmp x y ≡ Greater

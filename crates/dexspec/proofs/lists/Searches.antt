@@ -1,9 +1,6 @@
 -- A list has a least member that passes a test, or none; and lists without their repeats.
-use Rattle.std.proofs.Common.{◌≡◌, ◌≢◌, ◌⊎◌, zero, suc, List, [], ◌∷◌, refl, sym, ◌∙◌, subst, arith, inl, inr, Ordering, Less, Equal, Greater}
-use Rattle.std.specs.List.{Contains}
-use Rattle.std.specs.Cmp.{IsTotalOrder}
-use Rattle.std.proofs.lemmas.List.Elements.{Contains-get_or}
-use Rattle.dexspec.specs.Lists.{AreDistinct}
+use Rattle.dexspec.proofs.Common.{◌≡◌, ◌≢◌, ◌⊎◌, zero, suc, List, [], ◌∷◌, refl, sym, ◌∙◌, subst, arith, inl, inr, Ordering, Less, Equal, Greater, Contains, IsTotalOrder, Contains-get_or}
+use Rattle.dexspec.specs.{AreDistinct}
 use Rattle.dexspec.proofs.lists.Members.{AreAmong, Contains-nil, Contains-first, Contains-later, Contains-cons_cases}
 use Rattle.dexspec.proofs.lists.InOrder.{irreflexive}
 

@@ -1,10 +1,7 @@
 -- Items in sequence: there is at most one list of a given length at an offset, if there is at most one item at an
 -- offset.
-use Rattle.std.proofs.Common.{◌≡◌, ℕ, ◌+◌, List, [], ◌∷◌, length, refl, sym, subst, ◌∙◌, arith}
-use Rattle.std.specs.List.{flat_map}
-use Rattle.std.proofs.lemmas.List.{length-append}
-use Rattle.dexspec.specs.Lists.{Item, Sequence}
-use Rattle.dexspec.specs.Bytes.{BytesAt}
+use Rattle.dexspec.proofs.Common.{◌≡◌, ℕ, ◌+◌, List, [], ◌∷◌, length, refl, sym, subst, ◌∙◌, arith, flat_map, length-append}
+use Rattle.dexspec.specs.{Item, Sequence, BytesAt}
 use Rattle.dexspec.proofs.written.PlacedBytes.{is_at_first, is_at_whole, is_at_later, is_at_in, is_at}
 
 -- items that are written one after the other are in sequence

@@ -1,12 +1,7 @@
 -- The sources of the members of a sequence, of a list of members, and of a list without repeats.
-use Rattle.std.proofs.Common.{◌≡◌, ℕ, ◌+◌, Bool, true, false, cond, not, List, [], ◌∷◌, map, Option, Some, unwrap_or, subst, inl, inr, Ordering}
-use Rattle.std.specs.List.{Contains, filter}
-use Rattle.std.specs.Ordering.{eq_by_cmp}
+use Rattle.dexspec.proofs.Common.{◌≡◌, ℕ, ◌+◌, Bool, true, false, cond, not, List, [], ◌∷◌, map, Option, Some, unwrap_or, subst, inl, inr, Ordering, Contains, filter, eq_by_cmp}
 use Rattle.std.specs.FinMap.Entries.{find}
-use Rattle.dexspec.specs.Lists.{Item, Sequence, distinct}
-use Rattle.dexspec.specs.Annotations.{annotated}
-use Rattle.dexspec.specs.ClassData.{EncodedField, EncodedMethod, EncodedFieldsAt, EncodedMethodsAt}
-use Rattle.dexspec.specs.Rows.{FieldRow, MethodRow}
+use Rattle.dexspec.specs.{Item, Sequence, distinct, annotated, EncodedField, EncodedMethod, EncodedFieldsAt, EncodedMethodsAt, FieldRow, MethodRow}
 use Rattle.dexspec.proofs.lists.Members.{Contains-nil, Contains-first, Contains-later, Contains-cons_cases, Contains-filter_source}
 
 -- a member of a sequence is at some offset

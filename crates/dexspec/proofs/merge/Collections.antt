@@ -1,19 +1,8 @@
 -- Definitions without two different ones of a name form exactly one collection.
-use Rattle.std.proofs.Common.{◌≡◌, Bool, true, false, cond, T, List, [], ◌∷◌, Option, Some, None, refl, sym, ap, arith, ◌≤◌, ◌∙◌, subst, inl, inr, is_lt, is_eq, Less}
-use Rattle.std.specs.List.{Contains}
+use Rattle.dexspec.proofs.Common.{◌≡◌, Bool, true, false, cond, T, List, [], ◌∷◌, Option, Some, None, refl, sym, ap, arith, ◌≤◌, ◌∙◌, subst, inl, inr, is_lt, is_eq, Less, Contains, eq_by_cmp, Equal-is, tied_itself, get_or-map, length-map, same_Some}
 use Rattle.std.specs.FinMap as finite
 use Rattle.std.specs.FinMap.Entries.{find, is_sorted, below_all}
-use Rattle.std.specs.Ordering.{eq_by_cmp}
-use Rattle.std.specs.Cmp.{Equal-is}
-use Rattle.std.proofs.lemmas.Cmp.{tied_itself}
-use Rattle.std.proofs.lemmas.List.{get_or-map, length-map}
-use Rattle.std.proofs.lemmas.Option.{same_Some}
-use Rattle.dexspec.specs.Lists.{AreDistinct}
-use Rattle.dexspec.specs.Texts.{Text, text_cmp}
-use Rattle.dexspec.specs.Classes.{Body, Definition}
-use Rattle.dexspec.specs.Files.{Collection, definitions, AreSame, AreWithin, IsCollectionOf}
-use Rattle.dexspec.specs.Weight.{weight}
-use Rattle.dexspec.specs.Merging.{IsConsistent}
+use Rattle.dexspec.specs.{AreDistinct, Text, text_cmp, Body, Definition, Collection, definitions, AreSame, AreWithin, IsCollectionOf, weight, IsConsistent}
 use Rattle.dexspec.proofs.lists.Members.{and_first, and_second, Contains-nil, Contains-first, Contains-later, Contains-cons_cases}
 use Rattle.dexspec.proofs.merge.SymbolOrders.{text_total, text_exact}
 use Rattle.dexspec.proofs.lists.InOrder.{Rises, less_is, AreDistinct-from_Rises, irreflexive}

@@ -1,9 +1,6 @@
 -- Whether a name has two different definitions is decidable.
-use Rattle.std.proofs.Common.{◌≡◌, ◌≢◌, ◌⊎◌, List, refl, subst, inl, inr}
-use Rattle.std.specs.List.{Contains}
-use Rattle.dexspec.specs.Texts.{Text}
-use Rattle.dexspec.specs.Classes.{Definition}
-use Rattle.dexspec.specs.Merging.{IsConflict, IsConsistent}
+use Rattle.dexspec.proofs.Common.{◌≡◌, ◌≢◌, ◌⊎◌, List, refl, subst, inl, inr, Contains}
+use Rattle.dexspec.specs.{Text, Definition, IsConflict, IsConsistent}
 use Rattle.dexspec.proofs.lists.Searches.{some_or_none}
 use Rattle.dexspec.proofs.merge.Depths.{names_in, Contains-map}
 use Rattle.dexspec.proofs.lists.Decided.{text_same_or_not, body_same_or_not}

@@ -1,10 +1,6 @@
 -- A name that has a depth among more definitions has a depth among fewer, and it is no greater.
-use Rattle.std.proofs.Common.{◌≡◌, ℕ, zero, suc, true, List}
-use Rattle.std.specs.List.{flat_map, filter}
-use Rattle.dexspec.specs.Texts.{Text, same_text}
-use Rattle.dexspec.specs.Classes.{Definition}
-use Rattle.dexspec.specs.Files.{AreWithin}
-use Rattle.dexspec.specs.Depth.{parents, is_defined, above, is_below, HasDepth, IsAcyclic}
+use Rattle.dexspec.proofs.Common.{◌≡◌, ℕ, zero, suc, true, List, flat_map, filter}
+use Rattle.dexspec.specs.{Text, same_text, Definition, AreWithin, parents, is_defined, above, is_below, HasDepth, IsAcyclic}
 use Rattle.dexspec.proofs.lists.Members.{AreAmong, AreAmong-flat_map, AreAmong-filter, list_any-member, list_any-source, list_all-member, list_all-from_members}
 
 module _ (D E : List Definition) (h : AreWithin D E) where

@@ -1,16 +1,7 @@
 -- A name that has a depth has a depth below the number of definitions, and it is greater than the depths of its
 -- parents.
-use Rattle.std.proofs.Common.{◌≡◌, ◌⊎◌, ℕ, zero, suc, ◌+◌, ◌<◌, ◌≤◌, Bool, true, false, cond, List, [], ◌∷◌, length, map, count_by, refl, sym, ap, ◌∙◌, subst, arith, inl, inr}
-use Rattle.std.specs.List.{Contains, flat_map, filter}
-use Rattle.std.specs.Cmp.Lexicographic.{same_text as texts_same}
-use Rattle.std.proofs.lemmas.Bool.{cases_lt}
-use Rattle.std.proofs.lemmas.List.{length-map}
-use Rattle.std.proofs.lemmas.List.Sums.{sum_by-cons, count_by-le-length}
-use Rattle.dexspec.specs.Texts.{Text, same_text}
-use Rattle.dexspec.specs.Classes.{Definition}
-use Rattle.dexspec.specs.Files.{AreWithin}
-use Rattle.dexspec.specs.Depth.{parents, is_defined, above, is_below, HasDepth, IsAcyclic, depth_to, depth}
-use Rattle.dexspec.specs.Merging.{IsCycle}
+use Rattle.dexspec.proofs.Common.{◌≡◌, ◌⊎◌, ℕ, zero, suc, ◌+◌, ◌<◌, ◌≤◌, Bool, true, false, cond, List, [], ◌∷◌, length, map, count_by, refl, sym, ap, ◌∙◌, subst, arith, inl, inr, Contains, flat_map, filter, same_text as texts_same, cases_lt, length-map, sum_by-cons, count_by-le-length}
+use Rattle.dexspec.specs.{Text, same_text, Definition, AreWithin, parents, is_defined, above, is_below, HasDepth, IsAcyclic, depth_to, depth, IsCycle}
 use Rattle.dexspec.proofs.merge.DepthGrowth.{is_below-within, HasDepth-within}
 use Rattle.dexspec.proofs.lists.Members.{Contains-nil, Contains-first, Contains-later, Contains-cons_cases, Contains-filter_source, list_all-member, list_all-from_members, list_any-source, list_any-member, Contains-flat_map_source}
 

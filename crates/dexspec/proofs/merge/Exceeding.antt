@@ -1,17 +1,6 @@
 -- Whether definitions exceed a cap is decidable.
-use Rattle.std.proofs.Common.{◌≡◌, ◌⊎◌, ℕ, ◌<◌, ◌≤◌, ◌==◌, Bool, true, false, cond, List, [], ◌∷◌, length, slice_index, Option, Some, None, option_to_list, refl, sym, ap, subst, arith, inl, inr, eqb-true}
-use Rattle.std.specs.List.{Contains, flat_map}
-use Rattle.std.proofs.lemmas.Bool.{cases_lt}
-use Rattle.dexspec.specs.Lists.{AreDistinct, rank}
-use Rattle.dexspec.specs.Texts.{Text, text_cmp}
-use Rattle.dexspec.specs.Symbols.{TextSymbol}
-use Rattle.dexspec.specs.Pieces.{Piece, Instruction, low_byte}
-use Rattle.dexspec.specs.Code.{Code}
-use Rattle.dexspec.specs.Classes.{Definition, MethodDef, declared_methods}
-use Rattle.dexspec.specs.Files.{AreWithin}
-use Rattle.dexspec.specs.Mentions.{mentions}
-use Rattle.dexspec.specs.Weight.{weight}
-use Rattle.dexspec.specs.Merging.{Caps, Cap, TypeCap, ProtoCap, FieldCap, MethodCap, ShortStringCap, WeightCap, HasShortString, Exceeds, Fits}
+use Rattle.dexspec.proofs.Common.{◌≡◌, ◌⊎◌, ℕ, ◌<◌, ◌≤◌, ◌==◌, Bool, true, false, cond, List, [], ◌∷◌, length, slice_index, Option, Some, None, option_to_list, refl, sym, ap, subst, arith, inl, inr, eqb-true, Contains, flat_map, cases_lt, Code}
+use Rattle.dexspec.specs.{AreDistinct, rank, Text, text_cmp, TextSymbol, Piece, Instruction, low_byte, Definition, MethodDef, declared_methods, AreWithin, mentions, weight, Caps, Cap, TypeCap, ProtoCap, FieldCap, MethodCap, ShortStringCap, WeightCap, HasShortString, Exceeds, Fits}
 use Rattle.dexspec.proofs.lists.Members.{Contains-nil, Contains-first, Contains-cons_cases, Contains-flat_map, Contains-flat_map_source}
 use Rattle.dexspec.proofs.lists.Searches.{some_or_none, once_of}
 use Rattle.dexspec.proofs.lists.Decided.{definition_same_or_not}

@@ -1,15 +1,6 @@
 -- Definitions are mergeable, or there is exactly one first cause against it, which depends on the members alone.
-use Rattle.std.proofs.Common.{◌≡◌, ◌⊎◌, ℕ, zero, suc, ◌<◌, List, [], ◌∷◌, refl, sym, ap, ◌∙◌, arith, inl, inr, Ordering, Less, Equal, Greater, nat_cmp}
-use Rattle.std.specs.List.{Contains}
-use Rattle.std.specs.Ordering.{ordering_reverse}
-use Rattle.std.specs.Cmp.{IsTotalOrder, nat_cmp_is}
-use Rattle.std.proofs.lemmas.Bool.{cases_lt}
-use Rattle.std.proofs.lemmas.Cmp.{on_total, nat_cmp_total}
-use Rattle.dexspec.specs.Texts.{Text, text_cmp}
-use Rattle.dexspec.specs.Classes.{Definition}
-use Rattle.dexspec.specs.Files.{AreSame}
-use Rattle.dexspec.specs.Depth.{IsAcyclic}
-use Rattle.dexspec.specs.Merging.{Caps, Cap, TypeCap, ProtoCap, FieldCap, MethodCap, ShortStringCap, WeightCap, cap_number, Exceeds, Fits, IsConflict, IsConsistent, IsCycle, IsGood, Cause, Conflict, Cycle, Exceeded, IsCause, IsReportedBefore, IsFirstCause}
+use Rattle.dexspec.proofs.Common.{◌≡◌, ◌⊎◌, ℕ, zero, suc, ◌<◌, List, [], ◌∷◌, refl, sym, ap, ◌∙◌, arith, inl, inr, Ordering, Less, Equal, Greater, nat_cmp, Contains, ordering_reverse, IsTotalOrder, nat_cmp_is, cases_lt, on_total, nat_cmp_total}
+use Rattle.dexspec.specs.{Text, text_cmp, Definition, AreSame, IsAcyclic, Caps, Cap, TypeCap, ProtoCap, FieldCap, MethodCap, ShortStringCap, WeightCap, cap_number, Exceeds, Fits, IsConflict, IsConsistent, IsCycle, IsGood, Cause, Conflict, Cycle, Exceeded, IsCause, IsReportedBefore, IsFirstCause}
 use Rattle.dexspec.proofs.merge.SymbolOrders.{text_total, text_exact}
 use Rattle.dexspec.proofs.lists.Searches.{least_or_none}
 use Rattle.dexspec.proofs.merge.Absorption.{IsCause-within}

@@ -1,11 +1,6 @@
 -- The mentioned symbols do not become fewer as definitions are added.
-use Rattle.std.proofs.Common.{◌≡◌, List}
-use Rattle.std.specs.List.{flat_map}
-use Rattle.dexspec.specs.Texts.{text_cmp}
-use Rattle.dexspec.specs.Symbols.{Symbol, proto_cmp, field_cmp, method_cmp}
-use Rattle.dexspec.specs.Classes.{Definition}
-use Rattle.dexspec.specs.Files.{AreWithin}
-use Rattle.dexspec.specs.Mentions.{Mentions, closed, mentions, symbols_of, texts_in, types_in, protos_in, fields_in, methods_in}
+use Rattle.dexspec.proofs.Common.{◌≡◌, List, flat_map, Mentions}
+use Rattle.dexspec.specs.{text_cmp, Symbol, proto_cmp, field_cmp, method_cmp, Definition, AreWithin, closed, mentions, symbols_of, texts_in, types_in, protos_in, fields_in, methods_in}
 use Rattle.dexspec.proofs.lists.Members.{AreAmong, AreAmong-flat_map}
 use Rattle.dexspec.proofs.merge.SymbolOrders.{text_total, text_exact, proto_total, proto_exact, field_total, field_exact, method_total, method_exact}
 use Rattle.dexspec.proofs.lists.InOrder.{Rises, Rises-in_order, in_order-among, in_order-same}

@@ -1,14 +1,7 @@
 -- The members of the five lists of mentions, and that these lists contain the parts of their members.
-use Rattle.std.proofs.Common.{◌≡◌, List, [], ◌∷◌, refl, sym, ap, subst, arith, inl, inr, Ordering}
-use Rattle.std.specs.List.{Contains, flat_map}
-use Rattle.std.specs.Cmp.{IsTotalOrder}
+use Rattle.dexspec.proofs.Common.{◌≡◌, List, [], ◌∷◌, refl, sym, ap, subst, arith, inl, inr, Ordering, Contains, flat_map, IsTotalOrder}
 use Rattle.std.specs.FinMap.{IsAntisymmetric}
-use Rattle.dexspec.specs.Lists.{in_order}
-use Rattle.dexspec.specs.Texts.{Text, text_cmp}
-use Rattle.dexspec.specs.Names.{shorty}
-use Rattle.dexspec.specs.Symbols.{Symbol, TextSymbol, TypeSymbol, ProtoSymbol, FieldSymbol, MethodSymbol, Proto, Field, Method, proto_cmp, field_cmp, method_cmp}
-use Rattle.dexspec.specs.Classes.{Definition}
-use Rattle.dexspec.specs.Mentions.{mentions, symbols_of, texts_in, types_in, protos_in, fields_in, methods_in, proto_types}
+use Rattle.dexspec.specs.{in_order, Text, text_cmp, shorty, Symbol, TextSymbol, TypeSymbol, ProtoSymbol, FieldSymbol, MethodSymbol, Proto, Field, Method, proto_cmp, field_cmp, method_cmp, Definition, mentions, symbols_of, texts_in, types_in, protos_in, fields_in, methods_in, proto_types}
 use Rattle.dexspec.proofs.lists.Members.{AreAmong, Contains-nil, Contains-first, Contains-later, Contains-cons_cases, Contains-flat_map, Contains-flat_map_source}
 use Rattle.dexspec.proofs.merge.SymbolOrders.{text_total, text_exact, proto_total, proto_exact, field_total, field_exact, method_total, method_exact}
 use Rattle.dexspec.proofs.lists.InOrder.{in_order-has, in_order-only}

@@ -1,12 +1,7 @@
 -- The orders of texts and symbols are total, and only equal symbols are equal by order.
-use Rattle.std.proofs.Common.{◌≡◌, refl, Ordering, Less, Equal, Greater}
-use Rattle.std.specs.Ordering.{ordering_then}
-use Rattle.std.specs.Cmp.{IsTotalOrder}
-use Rattle.std.specs.Cmp.Lexicographic.{slice_cmp}
+use Rattle.dexspec.proofs.Common.{◌≡◌, refl, Ordering, Less, Equal, Greater, ordering_then, IsTotalOrder, slice_cmp, then_total, on_total, nat_list_cmp_total, lists_total}
 use Rattle.std.specs.FinMap.{IsAntisymmetric, slice_cmp-IsAntisymmetric, nat_cmp-IsAntisymmetric}
-use Rattle.std.proofs.lemmas.Cmp.{then_total, on_total, nat_list_cmp_total, lists_total}
-use Rattle.dexspec.specs.Texts.{text_cmp}
-use Rattle.dexspec.specs.Symbols.{Proto, Field, Method, proto_cmp, field_cmp, method_cmp}
+use Rattle.dexspec.specs.{text_cmp, Proto, Field, Method, proto_cmp, field_cmp, method_cmp}
 
 pub text_total : IsTotalOrder text_cmp
 text_total = nat_list_cmp_total

@@ -1,12 +1,6 @@
 -- The weight does not decrease as definitions are added.
-use Rattle.std.proofs.Common.{◌≡◌, ◌≤◌, List, arith}
-use Rattle.dexspec.specs.Lists.{AreDistinct}
-use Rattle.dexspec.specs.Texts.{text_cmp}
-use Rattle.dexspec.specs.Symbols.{proto_cmp, field_cmp, method_cmp}
-use Rattle.dexspec.specs.Classes.{Definition}
-use Rattle.dexspec.specs.Files.{AreWithin}
-use Rattle.dexspec.specs.Mentions.{Mentions, mentions}
-use Rattle.dexspec.specs.Weight.{text_weight, proto_weight, mentions_weight, body_weight, weight}
+use Rattle.dexspec.proofs.Common.{◌≡◌, ◌≤◌, List, arith, Mentions}
+use Rattle.dexspec.specs.{AreDistinct, text_cmp, proto_cmp, field_cmp, method_cmp, Definition, AreWithin, mentions, text_weight, proto_weight, mentions_weight, body_weight, weight}
 use Rattle.dexspec.proofs.lists.Members.{sum_by-among, length-among}
 use Rattle.dexspec.proofs.merge.SymbolOrders.{text_total, proto_total, field_total, method_total}
 use Rattle.dexspec.proofs.lists.InOrder.{AreDistinct-from_Rises}

@@ -1,25 +1,8 @@
 -- The sets, ref lists and directory of a class in the file of definitions: they are at the offsets of its row, and hold
 -- the annotations of the class and its members.
-use Rattle.std.proofs.Common.{◌≡◌, ℕ, suc, ◌+◌, ◌-◌, ◌%◌, ◌<◌, ◌^◌, List, [], ◌∷◌, ◌++◌, length, get_or, map, drop, slice_index, refl, sym, ap, ◌∙◌, subst, arith, inl, inr, Some, None}
-use Rattle.std.specs.Prelude.{◌==◌, IsTrue}
-use Rattle.std.specs.List.{Contains, AllZip}
-use Rattle.std.proofs.lemmas.Bool.{cases_lt, cond-true, cond-false, eq-eqb, ne_eqb}
-use Rattle.std.proofs.lemmas.List.{length-map, length-drop, get_or-map, get_or-drop, get_or_default, map-append, get_or_append_left, get_or-append-add, length-append}
+use Rattle.dexspec.proofs.Common.{◌≡◌, ℕ, suc, ◌+◌, ◌-◌, ◌%◌, ◌<◌, ◌^◌, List, [], ◌∷◌, ◌++◌, length, get_or, map, drop, slice_index, refl, sym, ap, ◌∙◌, subst, arith, inl, inr, Some, None, ◌==◌, IsTrue, Contains, AllZip, cases_lt, cond-true, cond-false, eq-eqb, ne_eqb, length-map, length-drop, get_or-map, get_or-drop, get_or_default, map-append, get_or_append_left, get_or-append-add, length-append, All-contains, Contains-get_or, Mentions, nat_cmp, ◌≤◌, Option}
 use Rattle.std.proofs.lemmas.Simd.{map-map}
-use Rattle.std.proofs.lemmas.List.Elements.{All-contains, Contains-get_or}
-use Rattle.dexspec.specs.Lists.{rises, OrNone, AreDistinct}
-use Rattle.dexspec.specs.Texts.{Text}
-use Rattle.dexspec.specs.Symbols.{Field, Method, FieldSymbol, MethodSymbol, field_cmp, method_cmp}
-use Rattle.dexspec.specs.Rows.{FieldRow, MethodRow}
-use Rattle.dexspec.specs.Annotations.{AnnotationSet, AnnotationAt, SetAt, RefListAt, PairAt, DirectoryAt, no_directory, annotated}
-use Rattle.dexspec.specs.ClassData.{ShareNone}
-use Rattle.dexspec.specs.Classes.{FieldDef, MethodDef, Body, Definition, declared_fields, declared_methods, annotations_off}
-use Rattle.dexspec.specs.Mentions.{Mentions, mentions, symbols_of, field_of, method_of, annotation_symbols, set_symbols}
-use Rattle.dexspec.specs.Spellings.{field_index, method_index, offsets_bytes}
-use Rattle.dexspec.specs.WellFormed.{IsSet, IsAnnotation, IsFieldDef, IsMethodDef, IsWellFormed, field_key, field_key_cmp, method_key, method_key_cmp}
-use Rattle.dexspec.specs.Placing.{unless_empty, Ordered, by_class, method_sets, SetOffsets, pairs, directory_bytes, uses_offsets}
-use Rattle.dexspec.specs.Canonical.{ordered, ref_list_section}
-use Rattle.dexspec.specs.Depth.{in_class_order}
+use Rattle.dexspec.specs.{rises, OrNone, AreDistinct, Text, Field, Method, FieldSymbol, MethodSymbol, field_cmp, method_cmp, FieldRow, MethodRow, AnnotationSet, AnnotationAt, SetAt, RefListAt, PairAt, DirectoryAt, no_directory, annotated, ShareNone, FieldDef, MethodDef, Body, Definition, declared_fields, declared_methods, annotations_off, mentions, symbols_of, field_of, method_of, annotation_symbols, set_symbols, field_index, method_index, offsets_bytes, IsSet, IsAnnotation, IsFieldDef, IsMethodDef, IsWellFormed, field_key, field_key_cmp, method_key, method_key_cmp, unless_empty, Ordered, by_class, method_sets, SetOffsets, pairs, directory_bytes, uses_offsets, ordered, ref_list_section, in_class_order, BytesAt, data_off}
 use Rattle.dexspec.specs.internal.OwnDirectories.{BytesIfSome, HasSetsAt, entries_of, field_sets, own_method_sets, parameter_sets, own_directory}
 use Rattle.dexspec.proofs.lists.Members.{Contains-flat_map}
 use Rattle.dexspec.proofs.merge.Depths.{Contains-map}
@@ -35,10 +18,6 @@ use Rattle.dexspec.proofs.written.SetsWritten.{set_written, ref_list_written}
 use Rattle.dexspec.proofs.written.DirectoriesWritten.{ArePairs, directory_of, directory_written}
 use Rattle.dexspec.proofs.written.DirectoryEntries.{pairs_are, no_entries, own_entry}
 use Rattle.dexspec.proofs.written.ClassDataWritten.{field_occurs, method_occurs}
-use Rattle.std.specs.Ordering.{nat_cmp}
-use Rattle.std.specs.Prelude.{◌≤◌, Option}
-use Rattle.dexspec.specs.Bytes.{BytesAt}
-use Rattle.dexspec.specs.Header.{data_off}
 use Rattle.dexspec.proofs.normal.MemberRanks.{rank_cmp, rises_equally, field_cmp_key, method_cmp_key, symbols_in_rows, field_mentioned, method_mentioned, own_set_occurs, field_set_occurs, method_set_occurs, parameter_set_occurs}
 use Rattle.dexspec.proofs.normal.NormalClasses.{AreNormal, class_member}
 

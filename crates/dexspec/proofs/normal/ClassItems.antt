@@ -1,32 +1,9 @@
 -- The items of a class in the file of definitions are at the offsets of its row: class data, code, debug programs,
 -- static values and directory; and all items that the row refers to can be read.
-use Rattle.std.proofs.Common.{◌≡◌, ℕ, ◌+◌, ◌<◌, ◌≤◌, ◌^◌, List, [], ◌∷◌, ◌++◌, length, get_or, map, take, drop, slice_index, refl, sym, ap, subst, arith, inl, inr, All, Option, Some, None}
-use Rattle.std.specs.Prelude.{◌==◌, IfSome, option_to_list}
-use Rattle.std.specs.Option.{option_map_or}
-use Rattle.std.specs.List.{Contains, AllZip, flat_map}
-use Rattle.std.proofs.lemmas.Bool.{cases_lt, cond-true, cond-false, eq-eqb, ne_eqb}
-use Rattle.std.proofs.lemmas.List.{length-append, get_or_default, nil_from_length}
-use Rattle.std.proofs.lemmas.List.Elements.{All-contains, Contains-get_or, Contains-append_left, Contains-append_right}
-use Rattle.dexspec.specs.Lists.{OrNone, SomeAt, zip_with}
-use Rattle.dexspec.specs.Texts.{Text}
-use Rattle.dexspec.specs.Symbols.{field_cmp, method_cmp}
-use Rattle.dexspec.specs.Header.{data_off}
-use Rattle.dexspec.specs.Bytes.{BytesAt}
+use Rattle.dexspec.proofs.Common.{◌≡◌, ℕ, ◌+◌, ◌<◌, ◌≤◌, ◌^◌, List, [], ◌∷◌, ◌++◌, length, get_or, map, take, drop, slice_index, refl, sym, ap, subst, arith, inl, inr, All, Option, Some, None, ◌==◌, IfSome, option_to_list, option_map_or, Contains, AllZip, flat_map, cases_lt, cond-true, cond-false, eq-eqb, ne_eqb, length-append, get_or_default, nil_from_length, All-contains, Contains-get_or, Contains-append_left, Contains-append_right, Debug, Code, Values, ClassData, Mentions}
+use Rattle.dexspec.specs.{OrNone, SomeAt, zip_with, Text, field_cmp, method_cmp, data_off, BytesAt, DebugAt, CodeAt, handlers_of, NoValues, ThenValue, values_depth, most_depth, count_values, Directory, annotated, ClassDataAt, no_class_data, FieldDef, MethodDef, Body, Definition, MakesMethod, field_def, StaticValuesAt, declared_fields, declared_methods, class_data_off, static_values_off, mentions, symbols_of, field_of, method_of, debug_symbols, code_symbols, handler_symbols, piece_symbols, values_symbols, code_bytes, debug_bytes, encoded_array_bytes, class_data_bytes, IsDebug, IsCodeItem, IsMethodDef, IsWellFormed, AreValues, values_unless_empty, by_class, Ordered, uses_offsets, ordered, debug_section, code_section, in_class_order, greatest_caps, Fits}
 use Rattle.dexspec.proofs.layout.SectionPlaces.{ItemIsAt}
-use Rattle.dexspec.specs.Debug.{Debug, DebugAt}
-use Rattle.dexspec.specs.Code.{Code, CodeAt, handlers_of}
-use Rattle.dexspec.specs.Values.{Values, NoValues, ThenValue, values_depth, most_depth, count_values}
-use Rattle.dexspec.specs.Annotations.{Directory, annotated}
-use Rattle.dexspec.specs.ClassData.{ClassData, ClassDataAt, no_class_data}
-use Rattle.dexspec.specs.Classes.{FieldDef, MethodDef, Body, Definition, MakesMethod, field_def, StaticValuesAt, declared_fields, declared_methods, class_data_off, static_values_off}
-use Rattle.dexspec.specs.Mentions.{Mentions, mentions, symbols_of, field_of, method_of, debug_symbols, code_symbols, handler_symbols, piece_symbols, values_symbols}
-use Rattle.dexspec.specs.Spellings.{code_bytes, debug_bytes, encoded_array_bytes, class_data_bytes}
-use Rattle.dexspec.specs.WellFormed.{IsDebug, IsCodeItem, IsMethodDef, IsWellFormed, AreValues}
 use Rattle.dexspec.specs.internal.IndexPlaces.{IndexFits}
-use Rattle.dexspec.specs.Placing.{values_unless_empty, by_class, Ordered, uses_offsets}
-use Rattle.dexspec.specs.Canonical.{ordered, debug_section, code_section}
-use Rattle.dexspec.specs.Depth.{in_class_order}
-use Rattle.dexspec.specs.Merging.{greatest_caps, Fits}
 use Rattle.dexspec.specs.internal.OwnDirectories.{own_directory}
 use Rattle.dexspec.proofs.lists.Members.{Contains-first, Contains-later}
 use Rattle.dexspec.proofs.layout.Uses as uses

@@ -1,18 +1,11 @@
 -- Definitions of different names are in class order, each once.
-use Rattle.std.proofs.Common.{◌≡◌, ◌≢◌, ◌⊎◌, ℕ, zero, suc, ◌+◌, Bool, true, false, ◌&&◌, T, List, [], ◌∷◌, map, length, get_or, ◌<◌, refl, sym, ap, ◌∙◌, subst, arith, inl, inr, sum_by, Ordering, Less, Equal, Greater}
-use Rattle.std.specs.List.{Contains}
-use Rattle.std.specs.Ordering.{ordering_then, nat_cmp, is_lt}
+use Rattle.dexspec.proofs.Common.{◌≡◌, ◌≢◌, ◌⊎◌, ℕ, zero, suc, ◌+◌, Bool, true, false, ◌&&◌, T, List, [], ◌∷◌, map, length, get_or, ◌<◌, refl, sym, ap, ◌∙◌, subst, arith, inl, inr, sum_by, Ordering, Less, Equal, Greater, Contains, ordering_then, nat_cmp, is_lt, sum_by-cons}
 use Rattle.std.specs.FinMap.Entries.{put, by_order, below_all, is_sorted}
 use Rattle.std.specs.FinMap.{entries_sorted}
-use Rattle.std.proofs.lemmas.List.Sums.{sum_by-cons}
-use Rattle.dexspec.specs.Lists.{AreDistinct}
-use Rattle.dexspec.specs.Texts.{Text, text_cmp}
-use Rattle.dexspec.specs.Classes.{Body, Definition}
-use Rattle.dexspec.specs.Depth.{place_cmp, put_all, depth, in_class_order}
+use Rattle.dexspec.specs.{AreDistinct, Text, text_cmp, Body, Definition, place_cmp, put_all, depth, in_class_order, Collection, definitions}
 use Rattle.dexspec.proofs.lists.Members.{Contains-nil, Contains-first, Contains-later, Contains-cons_cases, AreDistinct-first, AreDistinct-rest}
 use Rattle.dexspec.proofs.merge.SymbolOrders.{text_exact, text_total}
 use Rattle.dexspec.proofs.lists.InOrder.{Rises, AreDistinct-from_Rises}
-use Rattle.dexspec.specs.Files.{Collection, definitions}
 use Rattle.dexspec.proofs.size.SizeSums.{sum_by-map, map-length}
 
 -- a definition with its depth

@@ -1,17 +1,8 @@
 -- The classes of a file are the definitions, in the order of their depths and names.
-use Rattle.std.proofs.Common.{◌≡◌, ◌≢◌, ◌⊎◌, ℕ, ◌<◌, List, [], ◌∷◌, length, get_or, map, refl, sym, ap, ◌∙◌, subst, arith, inl, inr, Ordering, Less, Equal, Greater}
-use Rattle.std.specs.List.{Contains}
-use Rattle.std.specs.Ordering.{nat_cmp, ordering_then}
-use Rattle.std.specs.Cmp.{IsTotalOrder, nat_cmp_total}
+use Rattle.dexspec.proofs.Common.{◌≡◌, ◌≢◌, ◌⊎◌, ℕ, ◌<◌, List, [], ◌∷◌, length, get_or, map, refl, sym, ap, ◌∙◌, subst, arith, inl, inr, Ordering, Less, Equal, Greater, Contains, nat_cmp, ordering_then, IsTotalOrder, nat_cmp_total, then_total, on_total, cases_lt, length-map, get_or-map}
 use Rattle.std.specs.FinMap.{IsAntisymmetric, nat_cmp-IsAntisymmetric}
 use Rattle.std.specs.FinMap.Entries.{put, by_order}
-use Rattle.std.proofs.lemmas.Cmp.{then_total, on_total}
-use Rattle.std.proofs.lemmas.Bool.{cases_lt}
-use Rattle.std.proofs.lemmas.List.{length-map, get_or-map}
-use Rattle.dexspec.specs.Lists.{AreDistinct, add_in_order, in_order}
-use Rattle.dexspec.specs.Texts.{Text, text_cmp}
-use Rattle.dexspec.specs.Classes.{Body, Definition}
-use Rattle.dexspec.specs.Depth.{place_cmp, put_all, depth, in_class_order}
+use Rattle.dexspec.specs.{AreDistinct, add_in_order, in_order, Text, text_cmp, Body, Definition, place_cmp, put_all, depth, in_class_order}
 use Rattle.dexspec.proofs.lists.Members.{Contains-nil, Contains-first, Contains-later, Contains-cons_cases, AreDistinct-first, AreDistinct-rest}
 use Rattle.dexspec.proofs.merge.SymbolOrders.{text_exact, text_total}
 use Rattle.dexspec.proofs.lists.InOrder.{Rises, Rises-in_order, Rises-places, irreflexive}

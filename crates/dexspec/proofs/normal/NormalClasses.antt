@@ -1,31 +1,7 @@
 -- The class rows in the file of definitions: each denotes the definition at its place, if the items of the class are at
 -- the offsets of its row; condition 16.
-use Rattle.std.proofs.Common.{◌≡◌, ℕ, ◌<◌, List, [], ◌∷◌, ◌++◌, length, get_or, map, refl, sym, ap, ◌∙◌, subst, arith, inl, inr, All, true}
-use Rattle.std.specs.Prelude.{◌==◌, if◌then◌else◌, Option, Some, None, IfSome, option_to_list}
-use Rattle.std.specs.List.{Contains, AllZip, filter, flat_map}
-use Rattle.std.specs.Option.{option_map_or}
-use Rattle.std.proofs.lemmas.Bool.{cond-false, ne_eqb}
-use Rattle.std.proofs.lemmas.Bool.Decides.{Decides-eqb}
-use Rattle.std.proofs.lemmas.Slice.Eq.{slice_eq-Decides}
-use Rattle.std.proofs.lemmas.List.{map-append}
-use Rattle.std.proofs.lemmas.List.Elements.{Contains-get_or, Contains-append_left, Contains-append_right, Contains-append_cases, All-map}
-use Rattle.dexspec.specs.Lists.{OrNone, AreDistinct}
-use Rattle.dexspec.specs.Texts.{Text, text_cmp, same_text}
-use Rattle.dexspec.specs.Names.{IsClass}
-use Rattle.dexspec.specs.Symbols.{TextSymbol, TypeSymbol}
-use Rattle.dexspec.specs.Header.{ClassDefs, table_size}
-use Rattle.dexspec.specs.Rows.{StringRow, TypeListAt, type_indices}
-use Rattle.dexspec.specs.Values.{NoValues}
-use Rattle.dexspec.specs.Annotations.{Directory, DirectoryAt, no_directory}
-use Rattle.dexspec.specs.ClassData.{ClassData, ClassDataAt, no_class_data}
-use Rattle.dexspec.specs.Classes.{Body, Definition, ClassRow, ClassTypeRow, ClassListAt, IndexOrNone, StaticValuesAt, field_def, MakesMethod, class_idx, superclass_idx, interfaces_off, source_file_idx, annotations_off, class_data_off, static_values_off, no_index}
-use Rattle.dexspec.specs.Mentions.{mentions, symbols_of, optional_type, optional_text}
-use Rattle.dexspec.specs.Depth.{parents, is_defined, IsAcyclic, depth, in_class_order}
-use Rattle.dexspec.specs.WellFormed.{AreWellFormed}
-use Rattle.dexspec.specs.Accepted.{parent_indices, IsDefinedBefore, HasClass}
-use Rattle.dexspec.specs.Spellings.{text_index, type_index, type_list_bytes}
-use Rattle.dexspec.specs.Placing.{unless_empty}
-use Rattle.dexspec.specs.Canonical.{ordered}
+use Rattle.dexspec.proofs.Common.{◌≡◌, ℕ, ◌<◌, List, [], ◌∷◌, ◌++◌, length, get_or, map, refl, sym, ap, ◌∙◌, subst, arith, inl, inr, All, true, ◌==◌, if◌then◌else◌, Option, Some, None, IfSome, option_to_list, Contains, AllZip, filter, flat_map, option_map_or, cond-false, ne_eqb, Decides-eqb, slice_eq-Decides, map-append, Contains-get_or, Contains-append_left, Contains-append_right, Contains-append_cases, All-map, ClassData}
+use Rattle.dexspec.specs.{OrNone, AreDistinct, Text, text_cmp, same_text, IsClass, TextSymbol, TypeSymbol, ClassDefs, table_size, StringRow, TypeListAt, type_indices, NoValues, Directory, DirectoryAt, no_directory, ClassDataAt, no_class_data, Body, Definition, ClassRow, ClassTypeRow, ClassListAt, IndexOrNone, StaticValuesAt, field_def, MakesMethod, class_idx, superclass_idx, interfaces_off, source_file_idx, annotations_off, class_data_off, static_values_off, no_index, mentions, symbols_of, optional_type, optional_text, parents, is_defined, IsAcyclic, depth, in_class_order, AreWellFormed, parent_indices, IsDefinedBefore, HasClass, text_index, type_index, type_list_bytes, unless_empty, ordered}
 use Rattle.dexspec.proofs.lists.Members.{AreAmong, Contains-first, Contains-later, Contains-flat_map, Contains-filter, list_any-member}
 use Rattle.dexspec.proofs.merge.SymbolOrders.{text_total}
 use Rattle.dexspec.proofs.merge.Growth.{mentions-rising}

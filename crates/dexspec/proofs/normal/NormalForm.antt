@@ -1,19 +1,6 @@
 -- The canonical file of a collection is accepted and denotes it, if the items of its classes are valid.
-use Rattle.std.proofs.Common.{◌≡◌, ℕ, zero, suc, ◌+◌, ◌<◌, List, [], ◌∷◌, length, get_or, refl, sym, ap, ◌∙◌, subst, arith}
-use Rattle.std.specs.List.{AllZip, Contains, range_with_len}
-use Rattle.std.proofs.lemmas.List.{get_or_default}
-use Rattle.std.proofs.lemmas.List.Elements.{Contains-get_or}
-use Rattle.std.specs.Prelude.{None}
-use Rattle.dexspec.specs.Values.{NoValues}
-use Rattle.dexspec.specs.Header.{ClassDefs, table_size}
-use Rattle.dexspec.specs.Classes.{Definition, ClassRow}
-use Rattle.dexspec.specs.Files.{Collection, definitions, Denotes}
-use Rattle.dexspec.specs.Depth.{in_class_order}
-use Rattle.dexspec.specs.WellFormed.{AreWellFormed}
-use Rattle.dexspec.specs.Merging.{AreCaps, greatest_caps, Fits, IsGood}
-use Rattle.dexspec.specs.Conditions.{Condition}
-use Rattle.dexspec.specs.Accepted.{IsReadable, HasWeight, HoldBelow, IsFrame, IsAccepted}
-use Rattle.dexspec.specs.Canonical.{canonical}
+use Rattle.dexspec.proofs.Common.{◌≡◌, ℕ, zero, suc, ◌+◌, ◌<◌, List, [], ◌∷◌, length, get_or, refl, sym, ap, ◌∙◌, subst, arith, AllZip, Contains, range_with_len, get_or_default, Contains-get_or, None}
+use Rattle.dexspec.specs.{NoValues, ClassDefs, table_size, Definition, ClassRow, Collection, definitions, Denotes, in_class_order, AreWellFormed, AreCaps, greatest_caps, Fits, IsGood, Condition, IsReadable, HasWeight, HoldBelow, IsFrame, IsAccepted, canonical}
 use Rattle.dexspec.proofs.determined.OneClass.{HasFewRows, one_class_row}
 use Rattle.dexspec.proofs.merge.Collections.{definitions-are}
 use Rattle.dexspec.proofs.normal.ClassOrder.{definitions-distinct}

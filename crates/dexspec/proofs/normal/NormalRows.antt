@@ -1,14 +1,6 @@
 -- The rows of the five pools in the file of definitions: each denotes the symbol at its place, in order.
-use Rattle.std.proofs.Common.{◌≡◌, ℕ, ◌^◌, ◌<◌, List, length, get_or, arith}
-use Rattle.std.specs.List.{Contains}
-use Rattle.dexspec.specs.Lists.{rank}
-use Rattle.dexspec.specs.Texts.{Text, text_cmp}
-use Rattle.dexspec.specs.Symbols.{Proto, Field, Method, proto_cmp, field_cmp, method_cmp}
-use Rattle.dexspec.specs.Header.{Table, StringIds, TypeIds, ProtoIds, FieldIds, MethodIds, table_size}
-use Rattle.dexspec.specs.Rows.{StringRow, TypeRow, ProtoRow, FieldRow, MethodRow, HasString, HasType, HasProto, HasField, HasMethod}
-use Rattle.dexspec.specs.Classes.{Definition}
-use Rattle.dexspec.specs.Mentions.{mentions}
-use Rattle.dexspec.specs.Canonical.{table_count, ordered}
+use Rattle.dexspec.proofs.Common.{◌≡◌, ℕ, ◌^◌, ◌<◌, List, length, get_or, arith, Contains}
+use Rattle.dexspec.specs.{rank, Text, text_cmp, Proto, Field, Method, proto_cmp, field_cmp, method_cmp, Table, StringIds, TypeIds, ProtoIds, FieldIds, MethodIds, table_size, StringRow, TypeRow, ProtoRow, FieldRow, MethodRow, HasString, HasType, HasProto, HasField, HasMethod, Definition, mentions, table_count, ordered}
 use Rattle.dexspec.proofs.determined.OneRow.{one_string, one_type, one_proto, one_field, one_method}
 use Rattle.dexspec.proofs.merge.SymbolOrders.{text_total, proto_total, field_total, method_total}
 use Rattle.dexspec.proofs.merge.Growth.{mentions-rising}

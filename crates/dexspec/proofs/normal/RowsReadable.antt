@@ -1,29 +1,7 @@
 -- All items of a class row in the file of definitions can be read: conditions 17 to 22. So the canonical file of each
 -- collection that can be written is accepted, and denotes it.
-use Rattle.std.proofs.Common.{◌≡◌, ◌≢◌, ℕ, ◌+◌, ◌<◌, ◌≤◌, List, [], ◌∷◌, length, get_or, map, take, drop, sym, ap, ◌∙◌, subst, arith, inl, inr, All, Option, Some, None}
-use Rattle.std.specs.List.{Contains, AllZip}
-use Rattle.std.proofs.lemmas.List.{length-map}
-use Rattle.std.proofs.lemmas.List.Elements.{Contains-append_left, Contains-append_right, Contains-append_cases}
-use Rattle.dexspec.specs.Lists.{OrNone, SomeAt, zip_with}
-use Rattle.dexspec.specs.Bytes.{uint_at}
-use Rattle.dexspec.specs.Texts.{Text}
-use Rattle.dexspec.specs.Symbols.{Field, Method, field_cmp, method_cmp}
-use Rattle.dexspec.specs.Header.{ClassDefs}
-use Rattle.dexspec.specs.Pieces.{Cut}
-use Rattle.dexspec.specs.Debug.{Debug, DebugAt}
-use Rattle.dexspec.specs.Code.{Code, CodeAt, TriesAt}
-use Rattle.dexspec.specs.Annotations.{AnnotationSet}
-use Rattle.dexspec.specs.ClassData.{ClassData, EncodedField, EncodedMethod, fields_of, methods_of, BelongTo}
-use Rattle.dexspec.specs.Classes.{FieldDef, MethodDef, Body, Definition, declared_fields, declared_methods, class_data_off}
-use Rattle.dexspec.specs.Mentions.{field_of, method_of}
-use Rattle.dexspec.specs.WellFormed.{IsWellFormed, AreWellFormed, field_key, method_key}
-use Rattle.dexspec.specs.Accepted.{Declares, AllCode, HasPiecesAt, HasTriesAt, HasDebugAt, HasValues, NamesDeclared, IsReadable}
-use Rattle.dexspec.specs.Values.{count_values}
-use Rattle.dexspec.specs.Placing.{by_class, uses_offsets}
-use Rattle.dexspec.specs.Canonical.{ordered, canonical, code_section}
-use Rattle.dexspec.specs.Depth.{in_class_order}
-use Rattle.dexspec.specs.Files.{Collection, definitions}
-use Rattle.dexspec.specs.Merging.{greatest_caps, Fits, IsGood}
+use Rattle.dexspec.proofs.Common.{◌≡◌, ◌≢◌, ℕ, ◌+◌, ◌<◌, ◌≤◌, List, [], ◌∷◌, length, get_or, map, take, drop, sym, ap, ◌∙◌, subst, arith, inl, inr, All, Option, Some, None, Contains, AllZip, length-map, Contains-append_left, Contains-append_right, Contains-append_cases, Debug, Code, ClassData}
+use Rattle.dexspec.specs.{OrNone, SomeAt, zip_with, uint_at, Text, Field, Method, field_cmp, method_cmp, ClassDefs, Cut, DebugAt, CodeAt, TriesAt, AnnotationSet, EncodedField, EncodedMethod, fields_of, methods_of, BelongTo, FieldDef, MethodDef, Body, Definition, declared_fields, declared_methods, class_data_off, field_of, method_of, IsWellFormed, AreWellFormed, field_key, method_key, Declares, AllCode, HasPiecesAt, HasTriesAt, HasDebugAt, HasValues, NamesDeclared, IsReadable, count_values, by_class, uses_offsets, ordered, canonical, code_section, in_class_order, Collection, definitions, greatest_caps, Fits, IsGood}
 use Rattle.dexspec.specs.internal.OwnDirectories.{field_sets, own_method_sets, parameter_sets, own_directory}
 use Rattle.dexspec.proofs.lists.Members.{Contains-nil, Contains-first, Contains-later, Contains-cons_cases}
 use Rattle.dexspec.proofs.merge.Depths.{Contains-map}

@@ -1,15 +1,6 @@
 -- Numbers of a fixed number of bytes: what their bytes encode, and that they are read at the offsets of their bytes.
-use Rattle.std.proofs.Common.{◌≡◌, All, ℕ, zero, suc, ◌+◌, ◌-◌, ◌*◌, ◌/◌, ◌%◌, ◌^◌, ◌<◌, List, [], ◌∷◌, length, refl, ap, ◌∙◌, arith, inl, inr}
-use Rattle.std.specs.Int.{w64}
-use Rattle.std.specs.Prelude.{ℤ, FitsSigned, pos, negsuc}
-use Rattle.std.proofs.Math.Nat.{pow-suc}
-use Rattle.std.proofs.lemmas.Nat.{pow-add, pow_pos}
-use Rattle.std.proofs.lemmas.Int.{ints}
-use Rattle.std.proofs.lemmas.Bool.{cases_lt, lt-ltb, le-ltb}
-use Rattle.std.proofs.lemmas.List.Elements.{All-nil, All-cons}
-use Rattle.dexspec.specs.Bytes.{number_of, bytes_of, signed_in, ushort, uint, ushort_at, uint_at, BytesAt}
-use Rattle.dexspec.specs.Numbers.{magnitude}
-use Rattle.dexspec.specs.Spellings.{complement}
+use Rattle.dexspec.proofs.Common.{◌≡◌, All, ℕ, zero, suc, ◌+◌, ◌-◌, ◌*◌, ◌/◌, ◌%◌, ◌^◌, ◌<◌, List, [], ◌∷◌, length, refl, ap, ◌∙◌, arith, inl, inr, w64, ℤ, FitsSigned, pos, negsuc, pow-suc, pow-add, pow_pos, ints, cases_lt, lt-ltb, le-ltb, All-nil, All-cons}
+use Rattle.dexspec.specs.{number_of, bytes_of, signed_in, ushort, uint, ushort_at, uint_at, BytesAt, magnitude, complement}
 
 -- ---- powers
 

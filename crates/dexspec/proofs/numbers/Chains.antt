@@ -1,9 +1,6 @@
 -- Chains of bytes, each but the last with its top bit set, and the sums of their groups.
-use Rattle.std.proofs.Common.{◌≡◌, ℕ, zero, suc, ◌+◌, ◌*◌, ◌^◌, ◌<◌, ◌≤◌, List, [], ◌∷◌, length, take, All, refl, arith}
-use Rattle.std.proofs.lemmas.List.Elements.{All-get_or}
-use Rattle.std.proofs.Math.Nat.{pow-le-pow_right}
-use Rattle.std.proofs.lemmas.Nat.{pow-add}
-use Rattle.dexspec.specs.Numbers.{IsChain, sum_of_groups, last_of}
+use Rattle.dexspec.proofs.Common.{◌≡◌, ℕ, zero, suc, ◌+◌, ◌*◌, ◌^◌, ◌<◌, ◌≤◌, List, [], ◌∷◌, length, take, All, refl, arith, All-get_or, pow-le-pow_right, pow-add}
+use Rattle.dexspec.specs.{IsChain, sum_of_groups, last_of}
 
 -- a chain has a byte
 pub chain_some : (bytes : List ℕ) → IsChain bytes → 0 < length bytes

@@ -1,8 +1,6 @@
 -- A number in groups of seven bits: a chain whose sum is the number, and the minimum number of groups.
-use Rattle.std.proofs.Common.{◌≡◌, ℕ, zero, suc, ◌+◌, ◌*◌, ◌/◌, ◌%◌, ◌^◌, ◌<◌, ◌≤◌, length, refl, ap, inl, inr, arith}
-use Rattle.std.proofs.Math.Nat.{pow-le-pow_right}
-use Rattle.std.proofs.lemmas.Bool.{cases_lt, lt-ltb, le-ltb}
-use Rattle.dexspec.specs.Numbers.{IsChain, sum_of_groups, groups, size_u}
+use Rattle.dexspec.proofs.Common.{◌≡◌, ℕ, zero, suc, ◌+◌, ◌*◌, ◌/◌, ◌%◌, ◌^◌, ◌<◌, ◌≤◌, length, refl, ap, inl, inr, arith, pow-le-pow_right, cases_lt, lt-ltb, le-ltb}
+use Rattle.dexspec.specs.{IsChain, sum_of_groups, groups, size_u}
 use Rattle.dexspec.proofs.numbers.Chains.{chain_cons, sevens}
 
 -- n groups are n bytes

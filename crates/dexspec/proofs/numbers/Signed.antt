@@ -1,10 +1,6 @@
 -- Signed numbers: bit 6 of the last group is the sign.
-use Rattle.std.proofs.Common.{◌≡◌, ℕ, suc, ◌+◌, ◌*◌, ◌^◌, ◌<◌, ◌≤◌, List, [], ◌∷◌, length, refl, ap, ◌∙◌, inl, inr, arith}
-use Rattle.std.specs.Prelude.{ℤ, pos, negsuc, ◌-ℤ◌, FitsSigned}
-use Rattle.std.specs.Int.{w32}
-use Rattle.std.proofs.lemmas.Int.{ints}
-use Rattle.std.proofs.lemmas.Bool.{cases_lt, le-leb, lt-leb}
-use Rattle.dexspec.specs.Numbers.{IsChain, last_of, sum_of_groups, signed_sum, magnitude, held_in, size_s}
+use Rattle.dexspec.proofs.Common.{◌≡◌, ℕ, suc, ◌+◌, ◌*◌, ◌^◌, ◌<◌, ◌≤◌, List, [], ◌∷◌, length, refl, ap, ◌∙◌, inl, inr, arith, ℤ, pos, negsuc, ◌-ℤ◌, FitsSigned, w32, ints, cases_lt, le-leb, lt-leb}
+use Rattle.dexspec.specs.{IsChain, last_of, sum_of_groups, signed_sum, magnitude, held_in, size_s}
 use Rattle.dexspec.proofs.numbers.Chains.{sevens, sum_bound}
 use Rattle.dexspec.proofs.numbers.Groups.{HasSize, size_u_is}
 

@@ -1,8 +1,6 @@
 -- Encodings of numbers: bytes begin with one number, and the shortest encoding is such.
-use Rattle.std.proofs.Common.{All, ◌≡◌, ◌↔◌, ℕ, ◌*◌, ◌^◌, ◌<◌, ◌≤◌, List, ◌++◌, length, take, Option, Some, None, refl, ap, sym, ◌∙◌, arith, length-take, length-append, take_at}
-use Rattle.std.specs.Prelude.{ℤ, FitsSigned}
-use Rattle.std.specs.Int.{w32}
-use Rattle.dexspec.specs.Numbers.{Spells, BeginsWith, IsUleb128, IsSleb128, IsUleb128p1, sum_of_groups, size_u, size_s, magnitude, held_in, plus_one, uleb128, sleb128, uleb128p1}
+use Rattle.dexspec.proofs.Common.{All, ◌≡◌, ◌↔◌, ℕ, ◌*◌, ◌^◌, ◌<◌, ◌≤◌, List, ◌++◌, length, take, Option, Some, None, refl, ap, sym, ◌∙◌, arith, length-take, length-append, take_at, ℤ, FitsSigned, w32}
+use Rattle.dexspec.specs.{Spells, BeginsWith, IsUleb128, IsSleb128, IsUleb128p1, sum_of_groups, size_u, size_s, magnitude, held_in, plus_one, uleb128, sleb128, uleb128p1}
 use Rattle.dexspec.proofs.numbers.Chains.{chain_some, chain_same, no_chain, sum_bound}
 use Rattle.dexspec.proofs.numbers.Groups.{length-groups, spelled_in, size_u_is, size_u_bounds}
 use Rattle.dexspec.proofs.numbers.Signed.{signed_of, magnitude_of, size_s_is, held_fits}

@@ -1,14 +1,6 @@
 -- The widths of numbers in values: the minimum number of bytes.
-use Rattle.std.proofs.Common.{◌≡◌, All, ℕ, zero, suc, ◌+◌, ◌-◌, ◌*◌, ◌/◌, ◌%◌, ◌^◌, ◌<◌, ◌≤◌, ◌⊎◌, List, [], ◌∷◌, length, refl, ap, sym, ◌∙◌, arith, inl, inr}
-use Rattle.std.specs.Prelude.{ℤ, Bool, true, false, cond, Some, unwrap_or, nat_lt, ◌==◌}
-use Rattle.std.specs.List.{find}
-use Rattle.std.proofs.Math.Nat.{pow-le-pow_right, div-add-mod, div-lt_iff_lt-mul, mul-mod_right}
-use Rattle.std.proofs.lemmas.Nat.{pow-add}
-use Rattle.std.proofs.lemmas.Bool.{both_ways, cases_lt, cases_eq, lt-ltb, ltb-true, eq-eqb, eqb-true}
-use Rattle.dexspec.specs.Bytes.{number_of, bytes_of, signed_in, BytesAt}
-use Rattle.dexspec.specs.Numbers.{magnitude}
-use Rattle.dexspec.specs.Values.{SizedAt, SignedAt, UnsignedAt, BitsAt, value_byte}
-use Rattle.dexspec.specs.Spellings.{unsigned_width, signed_width, bits_width, complement, unsigned_bytes, signed_bytes, bits_bytes}
+use Rattle.dexspec.proofs.Common.{◌≡◌, All, ℕ, zero, suc, ◌+◌, ◌-◌, ◌*◌, ◌/◌, ◌%◌, ◌^◌, ◌<◌, ◌≤◌, ◌⊎◌, List, [], ◌∷◌, length, refl, ap, sym, ◌∙◌, arith, inl, inr, ℤ, Bool, true, false, cond, Some, unwrap_or, nat_lt, ◌==◌, find, pow-le-pow_right, div-add-mod, div-lt_iff_lt-mul, mul-mod_right, pow-add, both_ways, cases_lt, cases_eq, lt-ltb, ltb-true, eq-eqb, eqb-true}
+use Rattle.dexspec.specs.{number_of, bytes_of, signed_in, BytesAt, magnitude, SizedAt, SignedAt, UnsignedAt, BitsAt, value_byte, unsigned_width, signed_width, bits_width, complement, unsigned_bytes, signed_bytes, bits_bytes}
 use Rattle.dexspec.proofs.numbers.ByteNumbers.{pow_256_pos, length-bytes_of, number_of-bytes_of, number_bound, signed_in-bytes_of, signed_in_room}
 
 -- ---- the first of some numbers that passes a test

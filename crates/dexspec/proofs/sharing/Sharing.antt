@@ -1,15 +1,8 @@
 -- Items that equal uses share: each use has the number of its item, the items are numbered in order of first use, and
 -- they count at most as much as the uses.
-use Rattle.std.proofs.Common.{◌≡◌, ℕ, zero, suc, ◌+◌, ◌<◌, ◌≤◌, Bool, true, false, not, if◌then◌else◌, append_assoc, List, [], ◌∷◌, ◌++◌, length, get_or, map, take, drop, refl, sym, ap, ◌∙◌, subst, arith, sum_by, inl, inr}
-use Rattle.std.specs.Prelude.{Option, Some, None}
-use Rattle.std.specs.List.{Contains, filter, list_any, position_or_len}
-use Rattle.std.specs.Option.{option_map}
-use Rattle.std.proofs.lemmas.List.{length-append, length-take, get_or-take, get_or-map, get_or_append_left, take-append-drop, drop_more}
-use Rattle.std.proofs.lemmas.List.Elements.{Contains-get_or}
-use Rattle.std.proofs.lemmas.List.Sums.{sum_by-cons, passes_at_first, position_or_len_is}
+use Rattle.dexspec.proofs.Common.{◌≡◌, ℕ, zero, suc, ◌+◌, ◌<◌, ◌≤◌, Bool, true, false, not, if◌then◌else◌, append_assoc, List, [], ◌∷◌, ◌++◌, length, get_or, map, take, drop, refl, sym, ap, ◌∙◌, subst, arith, sum_by, inl, inr, Option, Some, None, Contains, filter, list_any, position_or_len, option_map, length-append, length-take, get_or-take, get_or-map, get_or_append_left, take-append-drop, drop_more, Contains-get_or, sum_by-cons, passes_at_first, position_or_len_is}
 use Rattle.std.proofs.lemmas.List.Filters.{sum_by-filter_both}
-use Rattle.dexspec.specs.Lists.{AreDistinct, present, distinct}
-use Rattle.dexspec.specs.Placing.{shared_items, Sharing, EqualOnce, EachForItself, items_by}
+use Rattle.dexspec.specs.{AreDistinct, present, distinct, shared_items, Sharing, EqualOnce, EachForItself, items_by}
 use Rattle.dexspec.proofs.lists.Equality.{IsEquality, self, turned}
 use Rattle.dexspec.proofs.lists.Members.{Contains-nil, Contains-first, Contains-later, Contains-cons_cases, list_any-source}
 use Rattle.dexspec.proofs.lists.Sources.{distinct_source}

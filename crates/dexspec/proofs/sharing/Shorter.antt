@@ -1,19 +1,9 @@
 -- Items that cover others: a list in which each of the others has a matching item that is at least as long. A section
 -- whose items are covered ends no later, and offsets that are no greater, or are zero at the same places, make items
 -- that are covered.
-use Rattle.std.proofs.Common.{◌≡◌, ◌⊎◌, ℕ, zero, suc, ◌+◌, ◌<◌, ◌≤◌, Ordering, Bool, true, false, cond, not, if◌then◌else◌, ◌==◌, List, [], ◌∷◌, ◌++◌, length, map, take, drop, zip, flat_map, refl, sym, ap, subst, ◌∙◌, arith, inl, inr}
-use Rattle.std.specs.Prelude.{slice_index, nat_lt, Option, Some, None}
-use Rattle.std.specs.List.{filter}
-use Rattle.std.specs.Option.{option_map_or}
-use Rattle.std.specs.Ordering.{nat_cmp}
+use Rattle.dexspec.proofs.Common.{◌≡◌, ◌⊎◌, ℕ, zero, suc, ◌+◌, ◌<◌, ◌≤◌, Ordering, Bool, true, false, cond, not, if◌then◌else◌, ◌==◌, List, [], ◌∷◌, ◌++◌, length, map, take, drop, zip, flat_map, refl, sym, ap, subst, ◌∙◌, arith, inl, inr, slice_index, nat_lt, Option, Some, None, filter, option_map_or, nat_cmp, Less, Equal, Greater, eqb-true, lt-ltb, ltb-true, map-append}
 use Rattle.std.specs.FinMap.Entries.{by_order}
-use Rattle.std.specs.declared.cmp.Ordering.TheVariants.{Less, Equal, Greater}
-use Rattle.std.proofs.lemmas.Bool.{eqb-true, lt-ltb, ltb-true}
-use Rattle.std.proofs.lemmas.List.{map-append}
-use Rattle.dexspec.specs.Lists.{present, distinct, chunks, add_in_order, in_order}
-use Rattle.dexspec.specs.Bytes.{round_up}
-use Rattle.dexspec.specs.Numbers.{size_u, uleb128}
-use Rattle.dexspec.specs.Placing.{offsets_from, end_from, own_numbers, pair_cmp, pairs}
+use Rattle.dexspec.specs.{present, distinct, chunks, add_in_order, in_order, round_up, size_u, uleb128, offsets_from, end_from, own_numbers, pair_cmp, pairs}
 use Rattle.dexspec.proofs.numbers.Groups.{length-groups}
 use Rattle.dexspec.proofs.layout.Places.{IsAlign, length-padding, end_from_le}
 use Rattle.dexspec.proofs.layout.Placements.{numbers_offsets}

@@ -1,24 +1,7 @@
 -- The file in which equal items are written once is at most as long as the one in which each use has its own: section
 -- by section, the items of the first are covered by those of the second.
-use Rattle.std.proofs.Common.{◌≡◌, ℕ, zero, suc, ◌+◌, ◌*◌, ◌<◌, ◌≤◌, Bool, true, false, if◌then◌else◌, ◌==◌, List, [], ◌∷◌, ◌++◌, length, map, take, drop, zip, flat_map, get_or, refl, sym, ap, subst, ◌∙◌, arith, inl, inr}
-use Rattle.std.specs.Prelude.{slice_index, Option, Some, None}
-use Rattle.std.specs.List.{concat}
-use Rattle.std.specs.Option.{option_map_or}
-use Rattle.std.proofs.lemmas.List.{length-append, length-map, length-take, length-drop}
-use Rattle.dexspec.specs.Lists.{present, chunks, zip_with}
-use Rattle.dexspec.specs.Bytes.{ushort, uint, round_up, padding}
-use Rattle.dexspec.specs.Numbers.{uleb128}
-use Rattle.dexspec.specs.Sections.{Section, TableOf, MapList}
-use Rattle.dexspec.specs.Code.{Code}
-use Rattle.dexspec.specs.Annotations.{Annotation, AnnotationSet}
-use Rattle.dexspec.specs.Classes.{MethodDef, Definition, declared_fields, declared_methods}
-use Rattle.dexspec.specs.Files.{Collection, definitions}
-use Rattle.dexspec.specs.Depth.{in_class_order}
-use Rattle.dexspec.specs.Mentions.{Mentions, mentions, field_of, method_of}
-use Rattle.dexspec.specs.Sameness.{same_types, same_debug, same_set}
-use Rattle.dexspec.specs.Spellings.{type_list_bytes, annotation_bytes, debug_bytes, code_bytes, piece_units, tries_bytes, differences, encoded_fields_bytes, encoded_method_bytes, encoded_methods_bytes, class_data_bytes, offsets_bytes, field_index, method_index}
-use Rattle.dexspec.specs.Placing.{EqualOnce, EachForItself, Items, Placed, offsets, offsets_from, uses_offsets, Ordered, is_empty_class, method_sets, class_sets, all_methods, type_list_uses, set_uses, debug_uses, code_uses, class_data_uses, by_class, SetOffsets, set_offsets_of, ref_list_uses, directory_uses, directory_bytes, unless_empty, section_bytes, own_numbers, pairs, pairs_bytes, end}
-use Rattle.dexspec.specs.Canonical.{data_start, type_list_section, set_items, annotation_section, annotation_offsets, array_section, string_section, debug_section, code_section, class_data_section, set_section, set_offsets, ref_list_section, directory_section, data_sections, placed_tables, table_bytes, map_of, map_bytes, header_bytes, unsigned_file, with_sums, ordered, canonical}
+use Rattle.dexspec.proofs.Common.{◌≡◌, ℕ, zero, suc, ◌+◌, ◌*◌, ◌<◌, ◌≤◌, Bool, true, false, if◌then◌else◌, ◌==◌, List, [], ◌∷◌, ◌++◌, length, map, take, drop, zip, flat_map, get_or, refl, sym, ap, subst, ◌∙◌, arith, inl, inr, slice_index, Option, Some, None, concat, option_map_or, length-append, length-map, length-take, length-drop, Code, Mentions}
+use Rattle.dexspec.specs.{present, chunks, zip_with, ushort, uint, round_up, padding, uleb128, Section, TableOf, MapList, Annotation, AnnotationSet, MethodDef, Definition, declared_fields, declared_methods, Collection, definitions, in_class_order, mentions, field_of, method_of, same_types, same_debug, same_set, type_list_bytes, annotation_bytes, debug_bytes, code_bytes, piece_units, tries_bytes, differences, encoded_fields_bytes, encoded_method_bytes, encoded_methods_bytes, class_data_bytes, offsets_bytes, field_index, method_index, EqualOnce, EachForItself, Items, Placed, offsets, offsets_from, uses_offsets, Ordered, is_empty_class, method_sets, class_sets, all_methods, type_list_uses, set_uses, debug_uses, code_uses, class_data_uses, by_class, SetOffsets, set_offsets_of, ref_list_uses, directory_uses, directory_bytes, unless_empty, section_bytes, own_numbers, pairs, pairs_bytes, end, data_start, type_list_section, set_items, annotation_section, annotation_offsets, array_section, string_section, debug_section, code_section, class_data_section, set_section, set_offsets, ref_list_section, directory_section, data_sections, placed_tables, table_bytes, map_of, map_bytes, header_bytes, unsigned_file, with_sums, ordered, canonical}
 use Rattle.dexspec.proofs.numbers.ByteNumbers.{length-uint, length-ushort}
 use Rattle.dexspec.proofs.written.PlacedBytes.{length_rows}
 use Rattle.dexspec.proofs.layout.Places.{length-padding, length-offsets_from, length-sections, sections_between}

@@ -1,18 +1,7 @@
 -- Upper bounds on the bytes of class data and directories, by the numbers of members.
-use Rattle.std.proofs.Common.{ℕ, ◌+◌, ◌*◌, ◌≤◌, Bool, true, false, List, [], ◌∷◌, ◌++◌, map, length, take, drop, Option, Some, None, arith, flat_map, if◌then◌else◌, ◌==◌, length-append, slice_index, zip, IfSome}
-use Rattle.std.specs.List.{concat}
+use Rattle.dexspec.proofs.Common.{ℕ, ◌+◌, ◌*◌, ◌≤◌, Bool, true, false, List, [], ◌∷◌, ◌++◌, map, length, take, drop, Option, Some, None, arith, flat_map, if◌then◌else◌, ◌==◌, length-append, slice_index, zip, IfSome, concat, Ordering, Less, Equal, Greater, length-flat_map, Mentions}
 use Rattle.std.specs.FinMap.Entries.{by_order}
-use Rattle.std.specs.declared.cmp.Ordering.{Ordering}
-use Rattle.std.specs.declared.cmp.Ordering.TheVariants.{Less, Equal, Greater}
-use Rattle.std.proofs.lemmas.List.Concat.{length-flat_map}
-use Rattle.dexspec.specs.Lists.{zip_with, add_in_order, in_order}
-use Rattle.dexspec.specs.Bytes.{uint}
-use Rattle.dexspec.specs.Numbers.{uleb128}
-use Rattle.dexspec.specs.Texts.{Text}
-use Rattle.dexspec.specs.Classes.{FieldDef, MethodDef, Definition, declared_fields, declared_methods}
-use Rattle.dexspec.specs.Mentions.{Mentions, field_of, method_of}
-use Rattle.dexspec.specs.Spellings.{field_index, method_index, differences, encoded_fields_bytes, encoded_method_bytes, encoded_methods_bytes, class_data_bytes}
-use Rattle.dexspec.specs.Placing.{SetOffsets, pair_cmp, pairs, pairs_bytes, directory_bytes}
+use Rattle.dexspec.specs.{zip_with, add_in_order, in_order, uint, uleb128, Text, FieldDef, MethodDef, Definition, declared_fields, declared_methods, field_of, method_of, field_index, method_index, differences, encoded_fields_bytes, encoded_method_bytes, encoded_methods_bytes, class_data_bytes, SetOffsets, pair_cmp, pairs, pairs_bytes, directory_bytes}
 use Rattle.dexspec.proofs.numbers.ByteNumbers.{length-uint}
 use Rattle.dexspec.proofs.size.SizeSums.{or_zero, sum_by-at_most, sum_by-zip_with, map-length, length-concat}
 use Rattle.dexspec.proofs.size.SizeItems.{uleb128-size}

@@ -1,17 +1,6 @@
 -- An upper bound on the bytes of a code item, by its weight.
-use Rattle.std.proofs.Common.{◌≡◌, ℕ, ◌+◌, ◌*◌, ◌%◌, ◌/◌, ◌<◌, ◌≤◌, Bool, true, false, List, [], ◌∷◌, ◌++◌, length, Option, Some, None, refl, ◌∙◌, arith, flat_map, option_to_list, if◌then◌else◌, nat_lt, ◌==◌, length-append, length-set, slice_set}
-use Rattle.std.proofs.lemmas.Bool.{lt-ltb}
-use Rattle.std.proofs.lemmas.List.Sums.{sum_by-le-sum_by, count_by-le-length}
-use Rattle.std.proofs.lemmas.List.Concat.{length-flat_map}
-use Rattle.std.specs.Ordering.{is_lt}
-use Rattle.dexspec.specs.Bytes.{ushort, uint}
-use Rattle.dexspec.specs.Numbers.{uleb128, sleb128, size_u}
-use Rattle.dexspec.specs.Texts.{Text, text_cmp}
-use Rattle.dexspec.specs.Pieces.{Piece, Instruction, Payload, units_of, with_index, is_wide_index}
-use Rattle.dexspec.specs.Code.{same_handler, Catch, Handler, Try, Code, handlers_of, handlers_weight}
-use Rattle.dexspec.specs.Mentions.{Mentions}
-use Rattle.dexspec.specs.Spellings.{type_index, symbol_index, piece_units, catch_bytes, handler_count, handler_bytes, handler_off, try_bytes, handler_list_bytes, tries_bytes, code_bytes}
-use Rattle.dexspec.specs.Weight.{tries_weight, code_weight}
+use Rattle.dexspec.proofs.Common.{◌≡◌, ℕ, ◌+◌, ◌*◌, ◌%◌, ◌/◌, ◌<◌, ◌≤◌, Bool, true, false, List, [], ◌∷◌, ◌++◌, length, Option, Some, None, refl, ◌∙◌, arith, flat_map, option_to_list, if◌then◌else◌, nat_lt, ◌==◌, length-append, length-set, slice_set, lt-ltb, sum_by-le-sum_by, count_by-le-length, length-flat_map, is_lt, Code, Mentions}
+use Rattle.dexspec.specs.{ushort, uint, uleb128, sleb128, size_u, Text, text_cmp, Piece, Instruction, Payload, units_of, with_index, is_wide_index, same_handler, Catch, Handler, Try, handlers_of, handlers_weight, type_index, symbol_index, piece_units, catch_bytes, handler_count, handler_bytes, handler_off, try_bytes, handler_list_bytes, tries_bytes, code_bytes, tries_weight, code_weight}
 use Rattle.dexspec.proofs.numbers.ByteNumbers.{length-ushort, length-uint}
 use Rattle.dexspec.proofs.numbers.Groups.{length-groups}
 use Rattle.dexspec.proofs.size.SizeSums.{sum_by-at_most}

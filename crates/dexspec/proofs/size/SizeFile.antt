@@ -1,32 +1,8 @@
 -- The canonical file has at most as many bytes as its class definitions weigh.
-use Rattle.std.proofs.Common.{◌≡◌, ℕ, zero, suc, ◌+◌, ◌-◌, ◌*◌, ◌%◌, ◌/◌, ◌≤◌, Bool, true, false, List, [], ◌∷◌, ◌++◌, map, length, refl, arith, sum_by, flat_map, if◌then◌else◌, ◌==◌, length-append, slice_index}
-use Rattle.std.specs.List.{concat}
-use Rattle.std.specs.Int.{w32, to_be_bytes}
+use Rattle.dexspec.proofs.Common.{◌≡◌, ℕ, zero, suc, ◌+◌, ◌-◌, ◌*◌, ◌%◌, ◌/◌, ◌≤◌, Bool, true, false, List, [], ◌∷◌, ◌++◌, map, length, refl, arith, sum_by, flat_map, if◌then◌else◌, ◌==◌, length-append, slice_index, concat, w32, to_be_bytes, option_map_or, Ordering, Less, Equal, Greater, length-replicate, sum_by-cons, length-flat_map, Mentions}
 use Rattle.std.specs.FinMap.Entries.{put, by_order}
-use Rattle.std.specs.Option.{option_map_or}
-use Rattle.std.specs.declared.cmp.Ordering.{Ordering}
-use Rattle.std.specs.declared.cmp.Ordering.TheVariants.{Less, Equal, Greater}
-use Rattle.std.proofs.lemmas.List.{length-replicate}
-use Rattle.std.proofs.lemmas.List.Sums.{sum_by-cons}
-use Rattle.std.proofs.lemmas.List.Concat.{length-flat_map}
 use Rattle.sha1.specs.Sha1.{sha1, digest_bytes, hash_after, padded_message}
-use Rattle.dexspec.specs.Bytes.{ushort, uint, round_up, padding}
-use Rattle.dexspec.specs.Texts.{Text}
-use Rattle.dexspec.specs.Names.{shorty}
-use Rattle.dexspec.specs.Lists.{AreDistinct, zip_with}
-use Rattle.dexspec.specs.Symbols.{Proto, Field, Method}
-use Rattle.dexspec.specs.Header.{HasSize, Table, header_length, adler_32}
-use Rattle.dexspec.specs.Sections.{Section, TableOf, MapList, type_code}
-use Rattle.dexspec.specs.Classes.{Body, Definition, declared_methods, no_index}
-use Rattle.dexspec.specs.Merging.{Caps, AreCaps, Fits}
-use Rattle.dexspec.specs.Files.{Collection, definitions}
-use Rattle.dexspec.specs.Mentions.{Mentions, mentions}
-use Rattle.dexspec.specs.Depth.{place_cmp, put_all, depth, in_class_order}
-use Rattle.dexspec.specs.Weight.{mentions_weight, static_values_weight, body_weight, weight}
-use Rattle.dexspec.specs.Spellings.{text_index, type_index, proto_index}
-use Rattle.dexspec.specs.Sameness.{same_types, same_debug, same_set}
-use Rattle.dexspec.specs.Placing.{Placed, offsets, end, section_bytes, uses_offsets, Ordered, class_sets}
-use Rattle.dexspec.specs.Canonical.{type_list_section, annotation_section, annotation_offsets, array_section, string_section, debug_section, code_section, class_data_section, set_section, set_offsets, ref_list_section, directory_section, data_sections, class_offsets, data_start, placed_tables, proto_row_bytes, field_row_bytes, method_row_bytes, class_row_bytes, map_entry_bytes, map_of, map_bytes, table_bytes, header_bytes, unsigned_file, magic, with_sums, ordered, canonical}
+use Rattle.dexspec.specs.{ushort, uint, round_up, padding, Text, shorty, AreDistinct, zip_with, Proto, Field, Method, HasSize, Table, header_length, adler_32, Section, TableOf, MapList, type_code, Body, Definition, declared_methods, no_index, Caps, AreCaps, Fits, Collection, definitions, mentions, place_cmp, put_all, depth, in_class_order, mentions_weight, static_values_weight, body_weight, weight, text_index, type_index, proto_index, same_types, same_debug, same_set, Placed, offsets, end, section_bytes, uses_offsets, Ordered, class_sets, type_list_section, annotation_section, annotation_offsets, array_section, string_section, debug_section, code_section, class_data_section, set_section, set_offsets, ref_list_section, directory_section, data_sections, class_offsets, data_start, placed_tables, proto_row_bytes, field_row_bytes, method_row_bytes, class_row_bytes, map_entry_bytes, map_of, map_bytes, table_bytes, header_bytes, unsigned_file, magic, with_sums, ordered, canonical}
 use Rattle.dexspec.proofs.numbers.ByteNumbers.{length-ushort, length-uint}
 use Rattle.dexspec.proofs.layout.Placements.{length-string_offsets}
 use Rattle.dexspec.proofs.size.SizeSums.{sum_by-map, sum_by-at_most, padding-at_most}

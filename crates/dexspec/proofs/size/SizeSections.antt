@@ -1,27 +1,11 @@
 -- Upper bounds on the bytes of each section of items, as sums over protos, texts and classes.
-use Rattle.std.proofs.Common.{◌≡◌, ℕ, zero, suc, ◌+◌, ◌*◌, ◌≤◌, Bool, true, false, List, [], ◌∷◌, ◌++◌, map, length, drop, Option, Some, None, refl, arith, sum_by, flat_map, option_to_list, if◌then◌else◌, zip}
-use Rattle.std.specs.Option.{option_map_or}
-use Rattle.std.proofs.lemmas.List.Sums.{sum_by-append, sum_by-le-sum_by}
-use Rattle.dexspec.specs.Lists.{chunks, present}
-use Rattle.dexspec.specs.Bytes.{ushort, uint}
-use Rattle.dexspec.specs.Texts.{Text, string_data}
-use Rattle.dexspec.specs.Symbols.{Proto}
-use Rattle.dexspec.specs.Code.{Code}
-use Rattle.dexspec.specs.Debug.{Debug}
-use Rattle.dexspec.specs.Values.{Values, NoValues, ThenValue, count_values}
-use Rattle.dexspec.specs.Annotations.{Annotation, AnnotationSet}
-use Rattle.dexspec.specs.Classes.{MethodDef, Definition, declared_fields, declared_methods}
-use Rattle.dexspec.specs.Mentions.{Mentions}
-use Rattle.dexspec.specs.Weight.{debug_weight, code_weight, values_weight, annotation_weight, static_values_weight}
-use Rattle.dexspec.specs.Spellings.{type_index, code_bytes, debug_bytes, values_bytes, encoded_array_bytes, annotation_bytes, offsets_bytes, class_data_bytes}
-use Rattle.dexspec.specs.Placing.{unless_empty, values_unless_empty, bytes_from, Sharing, items_by, Ordered, all_methods, type_list_uses, method_sets, class_sets, set_uses, debug_uses, code_uses, static_values_uses, by_class, is_empty_class, class_data_uses, SetOffsets, set_offsets_of, set_offsets_by_class, ref_list_uses, directory_uses, directory_bytes}
-use Rattle.dexspec.specs.Numbers.{uleb128}
+use Rattle.dexspec.proofs.Common.{◌≡◌, ℕ, zero, suc, ◌+◌, ◌*◌, ◌≤◌, Bool, true, false, List, [], ◌∷◌, ◌++◌, map, length, drop, Option, Some, None, refl, arith, sum_by, flat_map, option_to_list, if◌then◌else◌, zip, option_map_or, sum_by-append, sum_by-le-sum_by, Code, Debug, Values, Mentions, length-append}
+use Rattle.dexspec.specs.{chunks, present, ushort, uint, Text, string_data, Proto, NoValues, ThenValue, count_values, Annotation, AnnotationSet, MethodDef, Definition, declared_fields, declared_methods, debug_weight, code_weight, values_weight, annotation_weight, static_values_weight, type_index, code_bytes, debug_bytes, values_bytes, encoded_array_bytes, annotation_bytes, offsets_bytes, class_data_bytes, unless_empty, values_unless_empty, bytes_from, Sharing, items_by, Ordered, all_methods, type_list_uses, method_sets, class_sets, set_uses, debug_uses, code_uses, static_values_uses, by_class, is_empty_class, class_data_uses, SetOffsets, set_offsets_of, set_offsets_by_class, ref_list_uses, directory_uses, directory_bytes, uleb128}
 use Rattle.dexspec.proofs.size.SizeSums.{sum_by-map, sum_by-flat_map, sum_by-zip_with, sum_by-present, sum_by-chunks, or_zero, bytes_from-at_most}
 use Rattle.dexspec.proofs.sharing.Sharing.{sum_by-items}
 use Rattle.dexspec.proofs.size.SizeItems.{uleb128-size, string_data-size, debug_bytes-size, values_bytes-size, annotation_bytes-size, offsets_bytes-size, type_list-size}
 use Rattle.dexspec.proofs.size.SizeCode.{code_bytes-size}
 use Rattle.dexspec.proofs.size.SizeClass.{class_data_bytes-size, directory_bytes-size}
-use Rattle.std.proofs.Common.{length-append}
 
 -- a list of types, and the bytes of its alignment
 abbrev pub list_part : List Text → ℕ

@@ -1,12 +1,6 @@
 -- Lengths of combined lists, sums over lists that are made of others, and the end of a section.
-use Rattle.std.proofs.Common.{◌≡◌, ℕ, zero, suc, ◌+◌, ◌-◌, ◌*◌, ◌%◌, ◌<◌, ◌≤◌, List, [], ◌∷◌, ◌++◌, map, length, take, drop, Option, Some, None, refl, ap, subst, arith, sum_by, flat_map, length-append, length-take}
-use Rattle.std.specs.List.{concat}
-use Rattle.std.proofs.lemmas.List.{length-replicate}
-use Rattle.std.proofs.lemmas.List.Sums.{sum_by-cons, sum_by-append}
-use Rattle.std.proofs.lemmas.Nat.{mod_below}
-use Rattle.dexspec.specs.Lists.{chunks, zip_with, present}
-use Rattle.dexspec.specs.Bytes.{round_up, padding}
-use Rattle.dexspec.specs.Placing.{offsets_from, end_from, bytes_from}
+use Rattle.dexspec.proofs.Common.{◌≡◌, ℕ, zero, suc, ◌+◌, ◌-◌, ◌*◌, ◌%◌, ◌<◌, ◌≤◌, List, [], ◌∷◌, ◌++◌, map, length, take, drop, Option, Some, None, refl, ap, subst, arith, sum_by, flat_map, length-append, length-take, concat, length-replicate, sum_by-cons, sum_by-append, mod_below}
+use Rattle.dexspec.specs.{chunks, zip_with, present, round_up, padding, offsets_from, end_from, bytes_from}
 
 -- ---- sums over lists that are made of others
 

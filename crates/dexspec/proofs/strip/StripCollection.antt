@@ -1,18 +1,11 @@
 -- The definitions of a stripped collection are the stripped definitions of the collection.
-use Rattle.std.proofs.Common.{◌≡◌, true, false, cond, ◌&&◌, T, List, [], ◌∷◌, map, Some, refl, sym, ap, ◌∙◌, subst, is_lt}
-use Rattle.std.specs.List.{Contains}
-use Rattle.std.specs.Option.{option_map}
+use Rattle.dexspec.proofs.Common.{◌≡◌, true, false, cond, ◌&&◌, T, List, [], ◌∷◌, map, Some, refl, sym, ap, ◌∙◌, subst, is_lt, Contains, option_map, eq_by_cmp}
 use Rattle.std.specs.FinMap as finite
 use Rattle.std.specs.FinMap.Entries.{find, is_sorted, below_all}
-use Rattle.std.specs.Ordering.{eq_by_cmp}
-use Rattle.dexspec.specs.Texts.{Text, text_cmp}
-use Rattle.dexspec.specs.Classes.{Definition}
-use Rattle.dexspec.specs.Files.{Collection, definitions, IsCollectionOf}
-use Rattle.dexspec.specs.Stripping.{strip_body, strip_definition, strip, strip_collection}
+use Rattle.dexspec.specs.{Text, text_cmp, Definition, Collection, definitions, IsCollectionOf, strip_body, strip_definition, strip, strip_collection, Plan, union}
 use Rattle.dexspec.proofs.merge.SymbolOrders.{text_total, text_exact}
 use Rattle.dexspec.proofs.merge.Depths.{Contains-map}
 use Rattle.dexspec.proofs.lists.Mapped.{Contains-map_source}
-use Rattle.dexspec.specs.Merging.{Plan, union}
 use Rattle.dexspec.proofs.merge.Collections.{definitions-are, collection-one}
 use Rattle.dexspec.proofs.strip.StripUnion.{strip-twice, strip-union}
 

@@ -1,12 +1,7 @@
 -- Stripped mergeable definitions are mergeable, and a cause against stripped definitions is a cause against the
 -- definitions.
-use Rattle.std.proofs.Common.{◌≡◌, List, sym, ap, ◌∙◌, subst, arith}
-use Rattle.std.specs.List.{Contains}
-use Rattle.dexspec.specs.Texts.{Text}
-use Rattle.dexspec.specs.Classes.{Body, Definition}
-use Rattle.dexspec.specs.Depth.{HasDepth, IsAcyclic}
-use Rattle.dexspec.specs.Merging.{Caps, Cap, TypeCap, ProtoCap, FieldCap, MethodCap, ShortStringCap, WeightCap, Exceeds, Fits, IsConflict, IsConsistent, IsCycle, IsGood, Cause, Conflict, Cycle, Exceeded, IsCause}
-use Rattle.dexspec.specs.Stripping.{strip_body, strip_definition, strip}
+use Rattle.dexspec.proofs.Common.{◌≡◌, List, sym, ap, ◌∙◌, subst, arith, Contains}
+use Rattle.dexspec.specs.{Text, Body, Definition, HasDepth, IsAcyclic, Caps, Cap, TypeCap, ProtoCap, FieldCap, MethodCap, ShortStringCap, WeightCap, Exceeds, Fits, IsConflict, IsConsistent, IsCycle, IsGood, Cause, Conflict, Cycle, Exceeded, IsCause, strip_body, strip_definition, strip}
 use Rattle.dexspec.proofs.lists.Mapped.{Contains-map_source}
 use Rattle.dexspec.proofs.strip.StripUnion.{is_defined-strip, is_below-strip}
 use Rattle.dexspec.proofs.strip.StripMentions.{types-strip, protos-strip, fields-strip, methods-strip, text_rank-strip, HasShortString-strip_source}

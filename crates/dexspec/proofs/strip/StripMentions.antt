@@ -1,17 +1,6 @@
 -- The symbols that stripped definitions mention are mentioned by the definitions, and their short strings are the same.
-use Rattle.std.proofs.Common.{◌≡◌, ◌≤◌, List, [], ◌++◌, length, map, Option, Some, None, refl, sym, ap, ◌∙◌, subst}
-use Rattle.std.specs.List.{Contains, flat_map}
-use Rattle.std.specs.Option.{option_map, option_to_list}
-use Rattle.std.proofs.lemmas.Option.{same_Some}
-use Rattle.dexspec.specs.Lists.{rank}
-use Rattle.dexspec.specs.Texts.{Text, text_cmp}
-use Rattle.dexspec.specs.Pieces.{Instruction}
-use Rattle.dexspec.specs.Symbols.{Symbol, TextSymbol, TypeSymbol, MethodSymbol, proto_cmp, field_cmp, method_cmp}
-use Rattle.dexspec.specs.Code.{Code, handlers_of}
-use Rattle.dexspec.specs.Classes.{MethodDef, Body, Definition, declared_fields, declared_methods}
-use Rattle.dexspec.specs.Mentions.{mentions, symbols_of, optional_text, optional_type, piece_symbols, handler_symbols, debug_symbols, code_symbols, set_symbols, field_symbols, method_symbols, values_symbols, method_of, texts_in, types_in, protos_in, fields_in, methods_in}
-use Rattle.dexspec.specs.Merging.{HasShortString}
-use Rattle.dexspec.specs.Stripping.{strip_code, strip_method, strip_body, strip_definition, strip}
+use Rattle.dexspec.proofs.Common.{◌≡◌, ◌≤◌, List, [], ◌++◌, length, map, Option, Some, None, refl, sym, ap, ◌∙◌, subst, Contains, flat_map, option_map, option_to_list, same_Some, Code}
+use Rattle.dexspec.specs.{rank, Text, text_cmp, Instruction, Symbol, TextSymbol, TypeSymbol, MethodSymbol, proto_cmp, field_cmp, method_cmp, handlers_of, MethodDef, Body, Definition, declared_fields, declared_methods, mentions, symbols_of, optional_text, optional_type, piece_symbols, handler_symbols, debug_symbols, code_symbols, set_symbols, field_symbols, method_symbols, values_symbols, method_of, texts_in, types_in, protos_in, fields_in, methods_in, HasShortString, strip_code, strip_method, strip_body, strip_definition, strip}
 use Rattle.dexspec.proofs.lists.Members.{AreAmong, length-among}
 use Rattle.dexspec.proofs.merge.SymbolOrders.{text_total, proto_total, field_total, method_total}
 use Rattle.dexspec.proofs.lists.InOrder.{AreDistinct-from_Rises, rank-among}

@@ -1,10 +1,7 @@
 -- Stripped definitions have the same class order.
-use Rattle.std.proofs.Common.{◌≡◌, ℕ, List, [], ◌∷◌, map, refl, ap, ◌∙◌, Less, Equal, Greater}
+use Rattle.dexspec.proofs.Common.{◌≡◌, ℕ, List, [], ◌∷◌, map, refl, ap, ◌∙◌, Less, Equal, Greater}
 use Rattle.std.specs.FinMap.Entries.{put, by_order}
-use Rattle.dexspec.specs.Texts.{Text}
-use Rattle.dexspec.specs.Classes.{Body, Definition}
-use Rattle.dexspec.specs.Depth.{depth, place_cmp, put_all, in_class_order}
-use Rattle.dexspec.specs.Stripping.{strip_body, strip}
+use Rattle.dexspec.specs.{Text, Body, Definition, depth, place_cmp, put_all, in_class_order, strip_body, strip}
 use Rattle.dexspec.proofs.strip.StripUnion.{depth-strip}
 
 -- a definition at its place in the class order

@@ -1,17 +1,6 @@
 -- Stripping a union, stripping twice, and what stripping does not change: names, parents and depths.
-use Rattle.std.proofs.Common.{◌≡◌, ℕ, zero, suc, ◌+◌, cond, List, [], ◌∷◌, ◌++◌, length, map, get_or, Option, Some, None, refl, sym, ap, ◌∙◌}
-use Rattle.std.specs.List.{flat_map, filter, list_all}
-use Rattle.std.specs.Option.{option_map}
-use Rattle.std.proofs.lemmas.List.{length-map, map-append}
-use Rattle.std.proofs.lemmas.List.Elements.{filter_agree}
-use Rattle.std.proofs.lemmas.List.Folds.{flat_map-map}
-use Rattle.dexspec.specs.Texts.{Text, same_text}
-use Rattle.dexspec.specs.Code.{Code}
-use Rattle.dexspec.specs.Classes.{MethodDef, Body, Definition, declared_methods}
-use Rattle.dexspec.specs.Files.{AreWithin}
-use Rattle.dexspec.specs.Depth.{parents, is_defined, above, is_below, depth_to, depth}
-use Rattle.dexspec.specs.Merging.{Plan, leaves, union}
-use Rattle.dexspec.specs.Stripping.{strip_code, strip_method, strip_body, strip_definition, strip}
+use Rattle.dexspec.proofs.Common.{◌≡◌, ℕ, zero, suc, ◌+◌, cond, List, [], ◌∷◌, ◌++◌, length, map, get_or, Option, Some, None, refl, sym, ap, ◌∙◌, flat_map, filter, list_all, option_map, length-map, map-append, filter_agree, flat_map-map, Code}
+use Rattle.dexspec.specs.{Text, same_text, MethodDef, Body, Definition, declared_methods, AreWithin, parents, is_defined, above, is_below, depth_to, depth, Plan, leaves, union, strip_code, strip_method, strip_body, strip_definition, strip}
 use Rattle.dexspec.proofs.lists.Mapped.{AreAmong-map, list_any-map, filter-map, map-twice, list_all-agree, map-flat_map}
 
 -- ---- stripping twice

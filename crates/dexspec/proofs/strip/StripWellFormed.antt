@@ -1,16 +1,6 @@
 -- Stripped well-formed definitions are well formed.
-use Rattle.std.proofs.Common.{IsTrue, ◌≡◌, List, map, All, Option, Some, None, refl, sym, subst}
-use Rattle.std.specs.Option.{option_map, IfSome}
-use Rattle.std.specs.List.{flat_map}
-use Rattle.std.proofs.lemmas.List.{length-map}
-use Rattle.std.proofs.lemmas.List.Elements.{All-map, All-weaker}
-use Rattle.dexspec.specs.Lists.{rises}
-use Rattle.dexspec.specs.Code.{Code}
-use Rattle.dexspec.specs.ClassData.{ShareNone}
-use Rattle.dexspec.specs.Classes.{MethodDef, Body, Definition, declared_methods}
-use Rattle.dexspec.specs.Mentions.{symbols_of, texts_in}
-use Rattle.dexspec.specs.WellFormed.{FitsUint, IsText, IsSymbol, IsCodeItem, IsMethodDef, method_key, method_key_cmp, IsWellFormed, AreWellFormed}
-use Rattle.dexspec.specs.Stripping.{strip_code, strip_method, strip_body, strip_definition, strip}
+use Rattle.dexspec.proofs.Common.{IsTrue, ◌≡◌, List, map, All, Option, Some, None, refl, sym, subst, option_map, IfSome, flat_map, length-map, All-map, All-weaker, Code}
+use Rattle.dexspec.specs.{rises, ShareNone, MethodDef, Body, Definition, declared_methods, symbols_of, texts_in, FitsUint, IsText, IsSymbol, IsCodeItem, IsMethodDef, method_key, method_key_cmp, IsWellFormed, AreWellFormed, strip_code, strip_method, strip_body, strip_definition, strip}
 use Rattle.dexspec.proofs.lists.Members.{AreAmong-flat_map}
 use Rattle.dexspec.proofs.lists.Mapped.{All-among, Contains-map_source, map-kept}
 use Rattle.dexspec.proofs.strip.StripUnion.{declared_methods-strip}

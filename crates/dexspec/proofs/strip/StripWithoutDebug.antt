@@ -1,10 +1,6 @@
 -- Stripping leaves no debug program, and changes only definitions that have a debug program or a source text.
-use Rattle.std.proofs.Common.{◌≡◌, List, [], ◌∷◌, map, All, Option, Some, None, get_or, refl, sym, arith}
-use Rattle.std.specs.Option.{option_map, IfSome}
-use Rattle.std.proofs.lemmas.List.Elements.{All-map, All-tail}
-use Rattle.dexspec.specs.Code.{Code}
-use Rattle.dexspec.specs.Classes.{MethodDef, Body}
-use Rattle.dexspec.specs.Stripping.{strip_code, strip_method, strip_body}
+use Rattle.dexspec.proofs.Common.{◌≡◌, List, [], ◌∷◌, map, All, Option, Some, None, get_or, refl, sym, arith, option_map, IfSome, All-map, All-tail, Code}
+use Rattle.dexspec.specs.{MethodDef, Body, strip_code, strip_method, strip_body}
 
 -- the code, if there is any, has no debug program
 abbrev pub HasNoDebug : Option Code → Type 0

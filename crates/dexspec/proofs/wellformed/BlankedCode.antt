@@ -1,19 +1,7 @@
 -- Pieces without their indices are code again: cut in the same way, with the same targets.
-use Rattle.std.proofs.Common.{◌≡◌, ℕ, zero, suc, ◌+◌, ◌-◌, ◌*◌, ◌<◌, ◌≤◌, Bool, true, false, ◌&&◌, ◌||◌, not, cond, List, [], ◌∷◌, ◌++◌, length, take, drop, get_or, slice_index, nat_abs, slice_index_or, Option, Some, None, refl, sym, ap, ◌∙◌, subst, arith, inl, inr, length-take, length-drop, length-append, take_at, drop_at}
-use Rattle.std.specs.Prelude.{if◌then◌else◌, ◌==◌, ℤ, pos, ◌+ℤ◌}
-use Rattle.std.specs.Option.{option_and_then, option_map}
-use Rattle.std.specs.List.{Contains, AllZip, flat_map, list_any, list_all, find}
-use Rattle.std.specs.Ordering.{int_eq}
-use Rattle.std.specs.Cmp.{signed_Decides}
-use Rattle.std.proofs.lemmas.Bool.{eqb-true}
-use Rattle.std.proofs.lemmas.List.{get_or-take, get_or-drop, drop-drop}
-use Rattle.dexspec.specs.Bytes.{signed_in}
-use Rattle.dexspec.specs.Symbols.{Pool, Symbol}
-use Rattle.dexspec.specs.Opcodes.{Format, F10t, F20t, F21t, F22t, F30t, F31t, Opcode, OpcodeRun, opcode_runs, opcode_of, units_in, is_in_run}
-use Rattle.dexspec.specs.Pieces.{Cut, AreCut, piece_size, packed_switch_ident, sparse_switch_ident, array_data_ident, is_payload_ident, payload_ident, payload_targets, ints_in, branch_offset, is_right_target, all_of_option, is_instruction_start, is_payload_start, has_right_targets, IsCode, Piece, units_of, DenotesPiece, low_byte, high_byte, cut_units}
+use Rattle.dexspec.proofs.Common.{◌≡◌, ℕ, zero, suc, ◌+◌, ◌-◌, ◌*◌, ◌<◌, ◌≤◌, Bool, true, false, ◌&&◌, ◌||◌, not, cond, List, [], ◌∷◌, ◌++◌, length, take, drop, get_or, slice_index, nat_abs, slice_index_or, Option, Some, None, refl, sym, ap, ◌∙◌, subst, arith, inl, inr, length-take, length-drop, length-append, take_at, drop_at, if◌then◌else◌, ◌==◌, ℤ, pos, ◌+ℤ◌, option_and_then, option_map, Contains, AllZip, flat_map, list_any, list_all, find, int_eq, signed_Decides, eqb-true, get_or-take, get_or-drop, drop-drop, IsTrue, All-contains}
+use Rattle.dexspec.specs.{signed_in, Pool, Symbol, Format, F10t, F20t, F21t, F22t, F30t, F31t, Opcode, OpcodeRun, opcode_runs, opcode_of, units_in, is_in_run, Cut, AreCut, piece_size, packed_switch_ident, sparse_switch_ident, array_data_ident, is_payload_ident, payload_ident, payload_targets, ints_in, branch_offset, is_right_target, all_of_option, is_instruction_start, is_payload_start, has_right_targets, IsCode, Piece, units_of, DenotesPiece, low_byte, high_byte, cut_units}
 use Rattle.dexspec.proofs.lists.Members.{and_first, and_second, and_both, Contains-nil, Contains-first, Contains-later, Contains-cons_cases, list_any-source, list_all-member, list_all-from_members}
-use Rattle.std.specs.Prelude.{IsTrue}
-use Rattle.std.proofs.lemmas.List.Elements.{All-contains}
 use Rattle.dexspec.proofs.wellformed.FormedRows.{all_from}
 use Rattle.dexspec.proofs.wellformed.Blanked.{IsZero, pool_at, blank, zeroed, if_true, if_false, piece_is, Kept, ints_same, units_by, piece_same, piece_bounds}
 

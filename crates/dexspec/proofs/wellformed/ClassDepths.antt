@@ -1,18 +1,6 @@
 -- The definitions of a file have depths: a class comes after its superclass and interfaces.
-use Rattle.std.proofs.Common.{◌≡◌, ◌≢◌, ℕ, zero, suc, ◌<◌, true, List, [], ◌∷◌, Option, Some, None, option_to_list, sym, subst, arith, inl, inr}
-use Rattle.std.specs.Prelude.{if◌then◌else◌, ◌==◌}
-use Rattle.std.specs.List.{Contains, filter, flat_map}
-use Rattle.std.specs.Cmp.Lexicographic.{same_text as texts_same}
-use Rattle.std.proofs.lemmas.Bool.{cases_lt, ne_eqb}
-use Rattle.std.proofs.lemmas.List.Elements.{All-contains, Contains-append_left, Contains-append_right, Contains-append_cases}
-use Rattle.dexspec.specs.Lists.{OrNone}
-use Rattle.dexspec.specs.Texts.{Text, same_text}
-use Rattle.dexspec.specs.Header.{TypeIds, ClassDefs, table_size}
-use Rattle.dexspec.specs.Rows.{TypeRow, type_indices}
-use Rattle.dexspec.specs.Classes.{Body, Definition, ClassRow, ClassTypeRow, ClassListAt, IndexOrNone, class_idx, superclass_idx, interfaces_off, no_index}
-use Rattle.dexspec.specs.Files.{Defines}
-use Rattle.dexspec.specs.Depth.{parents, is_defined, above, is_below, IsAcyclic}
-use Rattle.dexspec.specs.Accepted.{parent_indices, IsDefinedBefore}
+use Rattle.dexspec.proofs.Common.{◌≡◌, ◌≢◌, ℕ, zero, suc, ◌<◌, true, List, [], ◌∷◌, Option, Some, None, option_to_list, sym, subst, arith, inl, inr, if◌then◌else◌, ◌==◌, Contains, filter, flat_map, same_text as texts_same, cases_lt, ne_eqb, All-contains, Contains-append_left, Contains-append_right, Contains-append_cases}
+use Rattle.dexspec.specs.{OrNone, Text, same_text, TypeIds, ClassDefs, table_size, TypeRow, type_indices, Body, Definition, ClassRow, ClassTypeRow, ClassListAt, IndexOrNone, class_idx, superclass_idx, interfaces_off, no_index, Defines, parents, is_defined, above, is_below, IsAcyclic, parent_indices, IsDefinedBefore}
 use Rattle.dexspec.proofs.lists.Members.{Contains-nil, Contains-first, Contains-cons_cases, Contains-filter_source, Contains-flat_map_source, list_all-from_members, list_any-source}
 use Rattle.dexspec.proofs.wellformed.Fitting.{zip_source}
 use Rattle.dexspec.proofs.wellformed.PoolRows.{same_type_row}

@@ -1,18 +1,6 @@
 -- The collection that a file denotes is good under the greatest caps, if its symbols have rows.
-use Rattle.std.proofs.Common.{◌≡◌, ℕ, zero, suc, ◌+◌, ◌-◌, ◌<◌, ◌≤◌, List, [], ◌∷◌, refl, subst, arith, inl, inr}
-use Rattle.std.specs.List.{Contains}
-use Rattle.std.proofs.lemmas.Bool.{cases_lt}
-use Rattle.dexspec.specs.Lists.{AreDistinct}
-use Rattle.dexspec.specs.Texts.{Text}
-use Rattle.dexspec.specs.Header.{ClassDefs, table_size}
-use Rattle.dexspec.specs.Rows.{StringRow}
-use Rattle.dexspec.specs.Classes.{Definition}
-use Rattle.dexspec.specs.Files.{Collection, definitions, Defines, Denotes, AreWithin}
-use Rattle.dexspec.specs.Mentions.{mentions}
-use Rattle.dexspec.specs.Weight.{weight, most_weight}
-use Rattle.dexspec.specs.Merging.{IsGood, greatest_caps, HasShortString}
-use Rattle.dexspec.specs.Conditions.{Condition}
-use Rattle.dexspec.specs.Accepted.{AreRows, IsAccepted}
+use Rattle.dexspec.proofs.Common.{◌≡◌, ℕ, zero, suc, ◌+◌, ◌-◌, ◌<◌, ◌≤◌, List, [], ◌∷◌, refl, subst, arith, inl, inr, Contains, cases_lt}
+use Rattle.dexspec.specs.{AreDistinct, Text, ClassDefs, table_size, StringRow, Definition, Collection, definitions, Defines, Denotes, AreWithin, mentions, weight, most_weight, IsGood, greatest_caps, HasShortString, Condition, AreRows, IsAccepted}
 use Rattle.dexspec.proofs.lists.Members.{Contains-nil}
 use Rattle.dexspec.proofs.merge.WeightGrowth.{weight-within}
 use Rattle.dexspec.proofs.merge.Collections.{definitions-are, collection-consistent}

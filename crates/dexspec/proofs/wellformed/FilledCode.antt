@@ -1,19 +1,6 @@
 -- Pieces with their indices are code: cut in the same way, with the same targets, and encoding the pieces.
-use Rattle.std.proofs.Common.{◌≡◌, ℕ, ◌+◌, ◌-◌, ◌/◌, ◌%◌, ◌<◌, ◌≤◌, ◌^◌, Bool, true, false, List, [], ◌∷◌, ◌++◌, length, take, drop, slice_index, Option, Some, None, refl, sym, ap, ◌∙◌, subst, arith, inl, inr, length-take, length-drop, length-append, take_at, drop_at}
-use Rattle.std.specs.Prelude.{if◌then◌else◌, ◌==◌, ℤ, nat_le, slice_set, slice_index_or, IsTrue}
-use Rattle.std.specs.Option.{option_and_then}
-use Rattle.std.specs.List.{Contains, AllZip, flat_map, list_all, find}
-use Rattle.std.proofs.Math.ListN.{length-set}
-use Rattle.std.proofs.lemmas.Bool.{eqb-true, leb-true}
-use Rattle.std.proofs.lemmas.List.{get_or-set_same, get_or-set_other, get_or-take, drop-drop}
-use Rattle.std.proofs.lemmas.List.Elements.{All-contains, All-set}
-use Rattle.dexspec.specs.Texts.{AreUnits}
-use Rattle.dexspec.specs.Symbols.{Pool, pool_of}
-use Rattle.dexspec.specs.Opcodes.{Format, F31c, Opcode, OpcodeRun, opcode_runs, opcode_of, units_in, is_in_run}
-use Rattle.dexspec.specs.Rows.{SymbolRow}
-use Rattle.dexspec.specs.Pieces.{Cut, AreCut, piece_size, is_payload_ident, is_instruction_start, has_right_targets, IsCode, Piece, Instruction, Payload, units_of, DenotesPiece, index_pool, index_in, is_wide_index, with_index, two_units, low_byte, cut_units}
-use Rattle.dexspec.specs.Mentions.{Mentions, piece_symbols}
-use Rattle.dexspec.specs.Spellings.{symbol_index, piece_units}
+use Rattle.dexspec.proofs.Common.{◌≡◌, ℕ, ◌+◌, ◌-◌, ◌/◌, ◌%◌, ◌<◌, ◌≤◌, ◌^◌, Bool, true, false, List, [], ◌∷◌, ◌++◌, length, take, drop, slice_index, Option, Some, None, refl, sym, ap, ◌∙◌, subst, arith, inl, inr, length-take, length-drop, length-append, take_at, drop_at, if◌then◌else◌, ◌==◌, ℤ, nat_le, slice_set, slice_index_or, IsTrue, option_and_then, Contains, AllZip, flat_map, list_all, find, length-set, eqb-true, leb-true, get_or-set_same, get_or-set_other, get_or-take, drop-drop, All-contains, All-set, Mentions}
+use Rattle.dexspec.specs.{AreUnits, Pool, pool_of, Format, F31c, Opcode, OpcodeRun, opcode_runs, opcode_of, units_in, is_in_run, SymbolRow, Cut, AreCut, piece_size, is_payload_ident, is_instruction_start, has_right_targets, IsCode, Piece, Instruction, Payload, units_of, DenotesPiece, index_pool, index_in, is_wide_index, with_index, two_units, low_byte, cut_units, piece_symbols, symbol_index, piece_units}
 use Rattle.dexspec.specs.internal.IndexPlaces.{IndexFits}
 use Rattle.dexspec.proofs.lists.Members.{Contains-nil, Contains-first, Contains-later, Contains-cons_cases, Contains-flat_map, Contains-flat_map_source}
 use Rattle.dexspec.proofs.wellformed.FormedRows.{all_from}

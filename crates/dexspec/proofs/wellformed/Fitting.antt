@@ -1,22 +1,6 @@
 -- Definitions whose symbols have rows fit the greatest caps.
-use Rattle.std.proofs.Common.{◌≡◌, ℕ, zero, suc, ◌+◌, ◌<◌, ◌≤◌, Bool, true, false, cond, List, [], ◌∷◌, length, count_by, refl, ap, ◌∙◌, subst, arith, inl, inr}
-use Rattle.std.specs.Ordering.{is_lt}
-use Rattle.std.specs.List.{Contains, AllZip, range_with_len}
-use Rattle.std.proofs.lemmas.Bool.{cases_eq}
-use Rattle.std.proofs.lemmas.List.Sums.{sum_by-cons}
-use Rattle.dexspec.specs.Lists.{AreDistinct, rank, OrNone}
-use Rattle.dexspec.specs.Bytes.{uint_at, ushort_at}
-use Rattle.dexspec.specs.Texts.{Text, text_cmp}
-use Rattle.dexspec.specs.Names.{shorty}
-use Rattle.dexspec.specs.Symbols.{Proto, Field, Method, Symbol, TextSymbol, TypeSymbol, ProtoSymbol, FieldSymbol, MethodSymbol, proto_cmp, field_cmp, method_cmp}
-use Rattle.dexspec.specs.Header.{TypeIds, ProtoIds, FieldIds, MethodIds, table_size}
-use Rattle.dexspec.specs.Sections.{HasLayout}
-use Rattle.dexspec.specs.Rows.{row_at, StringRow, TypeRow, type_indices, TypeListAt, ProtoRow, FieldRow, MethodRow, SymbolRow}
-use Rattle.dexspec.specs.Classes.{Definition}
-use Rattle.dexspec.specs.Files.{AreWithin}
-use Rattle.dexspec.specs.Mentions.{symbols_of, mentions, texts_in, types_in, protos_in, fields_in, methods_in, proto_types, proto_texts}
-use Rattle.dexspec.specs.Weight.{weight, most_weight}
-use Rattle.dexspec.specs.Merging.{Fits, greatest_caps, HasShortString}
+use Rattle.dexspec.proofs.Common.{◌≡◌, ℕ, zero, suc, ◌+◌, ◌<◌, ◌≤◌, Bool, true, false, cond, List, [], ◌∷◌, length, count_by, refl, ap, ◌∙◌, subst, arith, inl, inr, is_lt, Contains, AllZip, range_with_len, cases_eq, sum_by-cons}
+use Rattle.dexspec.specs.{AreDistinct, rank, OrNone, uint_at, ushort_at, Text, text_cmp, shorty, Proto, Field, Method, Symbol, TextSymbol, TypeSymbol, ProtoSymbol, FieldSymbol, MethodSymbol, proto_cmp, field_cmp, method_cmp, TypeIds, ProtoIds, FieldIds, MethodIds, table_size, HasLayout, row_at, StringRow, TypeRow, type_indices, TypeListAt, ProtoRow, FieldRow, MethodRow, SymbolRow, Definition, AreWithin, symbols_of, mentions, texts_in, types_in, protos_in, fields_in, methods_in, proto_types, proto_texts, weight, most_weight, Fits, greatest_caps, HasShortString}
 use Rattle.dexspec.proofs.lists.Members.{Contains-nil, Contains-first, Contains-later, Contains-cons_cases, AreDistinct-first, AreDistinct-rest, length-among}
 use Rattle.dexspec.proofs.lists.InOrder.{less_is, AreDistinct-from_Rises}
 use Rattle.dexspec.proofs.merge.Growth.{mentions-rising}

@@ -1,12 +1,6 @@
 -- Rows can denote the symbols that well-formed definitions mention.
-use Rattle.std.proofs.Common.{◌≡◌, List, [], ◌∷◌, subst, inl, inr, All}
-use Rattle.std.specs.List.{Contains}
-use Rattle.dexspec.specs.Texts.{Text}
-use Rattle.dexspec.specs.Names.{IsDescriptor, IsValueType, IsReferenceType, IsClass, PrimitiveType, ClassType, ArrayType}
-use Rattle.dexspec.specs.Symbols.{Symbol, TextSymbol, TypeSymbol, ProtoSymbol, FieldSymbol, MethodSymbol, Proto, Field, Method, IsProto, IsField, IsMethod}
-use Rattle.dexspec.specs.Classes.{Definition}
-use Rattle.dexspec.specs.Mentions.{Mentions, mentions, symbols_of, texts_in, types_in, protos_in, fields_in, methods_in, proto_types}
-use Rattle.dexspec.specs.WellFormed.{IsText, IsSymbol, AreWellFormed}
+use Rattle.dexspec.proofs.Common.{◌≡◌, List, [], ◌∷◌, subst, inl, inr, All, Contains, Mentions}
+use Rattle.dexspec.specs.{Text, IsDescriptor, IsValueType, IsReferenceType, IsClass, PrimitiveType, ClassType, ArrayType, Symbol, TextSymbol, TypeSymbol, ProtoSymbol, FieldSymbol, MethodSymbol, Proto, Field, Method, IsProto, IsField, IsMethod, Definition, mentions, symbols_of, texts_in, types_in, protos_in, fields_in, methods_in, proto_types, IsText, IsSymbol, AreWellFormed}
 use Rattle.dexspec.proofs.lists.Members.{Contains-nil, Contains-first, Contains-later, Contains-cons_cases, Contains-flat_map}
 use Rattle.dexspec.proofs.merge.MentionMembers.{Occurs, texts-source, types-source, protos-source, fields-source, methods-source, type-text, proto-shorty, proto-types, field-class, field-name, field-type, method-class, method-name, method-proto}
 use Rattle.dexspec.proofs.merge.Growth.{mentions-rising}

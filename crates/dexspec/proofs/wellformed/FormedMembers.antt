@@ -1,24 +1,6 @@
 -- The definition of a class row of a list of bytes is well formed, if its code is.
-use Rattle.std.proofs.Common.{◌≡◌, ℕ, ◌+◌, ◌<◌, List, [], ◌∷◌, length, map, All, Option, Some, None, refl, sym, ap, ◌∙◌, subst, arith, inl, inr, Ordering, Less, Equal, Greater}
-use Rattle.std.specs.Prelude.{IfSome}
-use Rattle.std.specs.List.{Contains, AllZip}
-use Rattle.std.specs.Ordering.{ordering_then}
-use Rattle.std.proofs.lemmas.Cmp.{tied_itself}
-use Rattle.std.proofs.lemmas.List.{length-map}
-use Rattle.std.proofs.lemmas.List.Elements.{All-contains, Contains-append_left, Contains-append_right, Contains-append_cases}
-use Rattle.dexspec.specs.Lists.{OrNone}
-use Rattle.dexspec.specs.Texts.{Text, text_cmp}
-use Rattle.dexspec.specs.Names.{IsMemberName}
-use Rattle.dexspec.specs.Symbols.{Proto, Field, Method, IsProto, field_cmp, method_cmp}
-use Rattle.dexspec.specs.Header.{ClassDefs}
-use Rattle.dexspec.specs.Rows.{row_at, FieldRow, MethodRow}
-use Rattle.dexspec.specs.Values.{NoValues, count_values}
-use Rattle.dexspec.specs.Annotations.{Directory}
-use Rattle.dexspec.specs.ClassData.{EncodedField, EncodedMethod, ClassData, no_class_data, IsNextIndex, EncodedFieldsAt, EncodedMethodsAt, ClassDataAt, fields_of, methods_of, ShareNone}
-use Rattle.dexspec.specs.Classes.{FieldDef, MethodDef, Body, ClassRow, StaticValuesAt, field_def, MakesMethod, declared_fields, declared_methods, superclass_idx, interfaces_off, annotations_off, class_data_off, static_values_off}
-use Rattle.dexspec.specs.Mentions.{symbols_of}
-use Rattle.dexspec.specs.WellFormed.{FitsUint, IsCodeItem, IsSet, IsFieldDef, IsMethodDef, field_key, field_key_cmp, method_key, method_key_cmp, IsWellFormed}
-use Rattle.dexspec.specs.Accepted.{HasMembers, HasValues, Declares}
+use Rattle.dexspec.proofs.Common.{◌≡◌, ℕ, ◌+◌, ◌<◌, List, [], ◌∷◌, length, map, All, Option, Some, None, refl, sym, ap, ◌∙◌, subst, arith, inl, inr, Ordering, Less, Equal, Greater, IfSome, Contains, AllZip, ordering_then, tied_itself, length-map, All-contains, Contains-append_left, Contains-append_right, Contains-append_cases, ClassData}
+use Rattle.dexspec.specs.{OrNone, Text, text_cmp, IsMemberName, Proto, Field, Method, IsProto, field_cmp, method_cmp, ClassDefs, row_at, FieldRow, MethodRow, NoValues, count_values, Directory, EncodedField, EncodedMethod, no_class_data, IsNextIndex, EncodedFieldsAt, EncodedMethodsAt, ClassDataAt, fields_of, methods_of, ShareNone, FieldDef, MethodDef, Body, ClassRow, StaticValuesAt, field_def, MakesMethod, declared_fields, declared_methods, superclass_idx, interfaces_off, annotations_off, class_data_off, static_values_off, symbols_of, FitsUint, IsCodeItem, IsSet, IsFieldDef, IsMethodDef, field_key, field_key_cmp, method_key, method_key_cmp, IsWellFormed, HasMembers, HasValues, Declares}
 use Rattle.dexspec.proofs.lists.Members.{Contains-nil, Contains-first, Contains-later, Contains-cons_cases}
 use Rattle.dexspec.proofs.lists.InOrder.{Rises, rises-from_Rises}
 use Rattle.dexspec.proofs.merge.Depths.{Contains-map}

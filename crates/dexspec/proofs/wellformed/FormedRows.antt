@@ -1,18 +1,6 @@
 -- The contents of a row of a list of bytes are well formed: texts, symbols, and a class without its members.
-use Rattle.std.proofs.Common.{◌≡◌, ℕ, zero, suc, ◌+◌, ◌<◌, ◌≤◌, ◌^◌, List, [], ◌∷◌, length, take, drop, get_or, All, Option, Some, None, refl, sym, ap, subst, arith, inl, inr, length-take}
-use Rattle.std.specs.Prelude.{IfSome}
-use Rattle.std.specs.List.{Contains, AllZip, flat_map}
-use Rattle.std.proofs.Math.Nat.{pow-le-pow_right}
-use Rattle.std.proofs.lemmas.List.Elements.{All-take, All-drop, Contains-get_or}
-use Rattle.dexspec.specs.Lists.{OrNone}
-use Rattle.dexspec.specs.Bytes.{uint_at, ushorts_at, uints_at}
-use Rattle.dexspec.specs.Texts.{Text}
-use Rattle.dexspec.specs.Names.{IsClass}
-use Rattle.dexspec.specs.Symbols.{Symbol, TextSymbol, TypeSymbol, ProtoSymbol, FieldSymbol, MethodSymbol}
-use Rattle.dexspec.specs.Rows.{StringRow, TypeRow, type_indices}
-use Rattle.dexspec.specs.Classes.{ClassTypeRow, ClassListAt, IndexOrNone}
-use Rattle.dexspec.specs.Mentions.{texts_in}
-use Rattle.dexspec.specs.WellFormed.{FitsUint, IsText, IsSymbol}
+use Rattle.dexspec.proofs.Common.{◌≡◌, ℕ, zero, suc, ◌+◌, ◌<◌, ◌≤◌, ◌^◌, List, [], ◌∷◌, length, take, drop, get_or, All, Option, Some, None, refl, sym, ap, subst, arith, inl, inr, length-take, IfSome, Contains, AllZip, flat_map, pow-le-pow_right, All-take, All-drop, Contains-get_or}
+use Rattle.dexspec.specs.{OrNone, uint_at, ushorts_at, uints_at, Text, IsClass, Symbol, TextSymbol, TypeSymbol, ProtoSymbol, FieldSymbol, MethodSymbol, StringRow, TypeRow, type_indices, ClassTypeRow, ClassListAt, IndexOrNone, texts_in, FitsUint, IsText, IsSymbol}
 use Rattle.dexspec.proofs.lists.Members.{Contains-nil, Contains-flat_map_source}
 use Rattle.dexspec.proofs.numbers.ByteNumbers.{number_bound}
 use Rattle.dexspec.proofs.wellformed.Fitting.{HasRow, HaveRows, text_rows}

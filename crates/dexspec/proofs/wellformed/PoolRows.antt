@@ -1,14 +1,6 @@
 -- The rows of strings and of types are in the order of their texts, and a table has few rows.
-use Rattle.std.proofs.Common.{◌≡◌, ℕ, zero, suc, ◌+◌, ◌*◌, ◌<◌, ◌≤◌, List, [], ◌∷◌, refl, sym, subst, arith, inl, inr, Ordering, Less, Equal, Greater}
-use Rattle.std.specs.List.{Contains}
-use Rattle.std.specs.Ordering.{nat_cmp, ordering_then}
-use Rattle.std.specs.Cmp.{IsTotalOrder, ranked}
-use Rattle.std.proofs.lemmas.Bool.{cases_lt}
-use Rattle.dexspec.specs.Bytes.{uint_at}
-use Rattle.dexspec.specs.Texts.{Text, text_cmp}
-use Rattle.dexspec.specs.Header.{Table, StringIds, TypeIds, ProtoIds, FieldIds, MethodIds, ClassDefs, tables, table_size, table_off, row_size, data_off, header_length, HasSize, HasLengths}
-use Rattle.dexspec.specs.Sections.{AreLaidOut, HasLayout}
-use Rattle.dexspec.specs.Rows.{row_at, StringRow, TypeRow, HasString, HasType}
+use Rattle.dexspec.proofs.Common.{◌≡◌, ℕ, zero, suc, ◌+◌, ◌*◌, ◌<◌, ◌≤◌, List, [], ◌∷◌, refl, sym, subst, arith, inl, inr, Ordering, Less, Equal, Greater, Contains, nat_cmp, ordering_then, IsTotalOrder, ranked, cases_lt}
+use Rattle.dexspec.specs.{uint_at, Text, text_cmp, Table, StringIds, TypeIds, ProtoIds, FieldIds, MethodIds, ClassDefs, tables, table_size, table_off, row_size, data_off, header_length, HasSize, HasLengths, AreLaidOut, HasLayout, row_at, StringRow, TypeRow, HasString, HasType}
 use Rattle.dexspec.proofs.lists.Members.{Contains-nil, Contains-cons_cases}
 use Rattle.dexspec.proofs.lists.InOrder.{irreflexive, asymmetric}
 use Rattle.dexspec.proofs.merge.SymbolOrders.{text_total}

@@ -1,23 +1,9 @@
 -- The indices of 16 bits fit their fields in definitions that fit the greatest caps: a const-string that is not a jumbo
 -- one names a text of a small rank, and the other pools are small.
-use Rattle.std.proofs.Common.{◌≡◌, ℕ, ◌+◌, ◌<◌, ◌≤◌, ◌^◌, Bool, true, false, ◌&&◌, cond, List, [], ◌∷◌, length, slice_index, All, Option, Some, None, refl, sym, ap, ◌∙◌, arith, inl, inr}
-use Rattle.std.specs.Prelude.{◌-◌, slice_index_or, if◌then◌else◌, nat_le, nat_lt}
-use Rattle.std.specs.Option.{option_and_then}
-use Rattle.std.specs.List.{Contains, list_all, find, flat_map}
-use Rattle.std.proofs.lemmas.Bool.{cases_lt, leb-true, eq-eqb, ltb-true}
-use Rattle.dexspec.specs.Symbols.{Pool, StringPool, Symbol, TextSymbol, TypeSymbol, ProtoSymbol, FieldSymbol, MethodSymbol}
-use Rattle.dexspec.specs.Symbols.{field_cmp, method_cmp, proto_cmp}
-use Rattle.dexspec.specs.Texts.{text_cmp}
-use Rattle.dexspec.specs.Opcodes.{Opcode, OpcodeRun, opcode_runs, opcode_of, is_in_run}
-use Rattle.dexspec.specs.Pieces.{Cut, is_payload_ident, Piece, Instruction, Payload, units_of, DenotesPiece, index_pool, is_wide_index, low_byte, cut_units}
-use Rattle.dexspec.specs.Code.{Code}
-use Rattle.dexspec.specs.Classes.{MethodDef, Definition, declared_methods}
-use Rattle.dexspec.specs.Mentions.{mentions, piece_symbols}
-use Rattle.dexspec.specs.WellFormed.{IsCodeItem}
-use Rattle.dexspec.specs.Merging.{greatest_caps, Fits}
+use Rattle.dexspec.proofs.Common.{◌≡◌, ℕ, ◌+◌, ◌<◌, ◌≤◌, ◌^◌, Bool, true, false, ◌&&◌, cond, List, [], ◌∷◌, length, slice_index, All, Option, Some, None, refl, sym, ap, ◌∙◌, arith, inl, inr, ◌-◌, slice_index_or, if◌then◌else◌, nat_le, nat_lt, option_and_then, Contains, list_all, find, flat_map, cases_lt, leb-true, eq-eqb, ltb-true, Code, Contains-append_left}
+use Rattle.dexspec.specs.{Pool, StringPool, Symbol, TextSymbol, TypeSymbol, ProtoSymbol, FieldSymbol, MethodSymbol, field_cmp, method_cmp, proto_cmp, text_cmp, Opcode, OpcodeRun, opcode_runs, opcode_of, is_in_run, Cut, is_payload_ident, Piece, Instruction, Payload, units_of, DenotesPiece, index_pool, is_wide_index, low_byte, cut_units, MethodDef, Definition, declared_methods, mentions, piece_symbols, IsCodeItem, greatest_caps, Fits, symbol_index}
 use Rattle.dexspec.specs.internal.IndexPlaces.{IndexFits}
 use Rattle.dexspec.proofs.lists.Members.{and_first, and_second, Contains-first, Contains-flat_map}
-use Rattle.std.proofs.lemmas.List.Elements.{Contains-append_left}
 use Rattle.dexspec.proofs.lists.InOrder.{rank-place}
 use Rattle.dexspec.proofs.merge.SymbolOrders.{text_total, proto_total, field_total, method_total}
 use Rattle.dexspec.proofs.merge.Growth.{mentions-rising}
@@ -26,7 +12,6 @@ use Rattle.dexspec.proofs.wellformed.Fitting.{zip_source}
 use Rattle.dexspec.proofs.wellformed.Blanked.{IsZero, zeroed}
 use Rattle.dexspec.proofs.wellformed.BlankedCode.{found_passes, mapped_some}
 use Rattle.dexspec.proofs.normal.MemberRanks.{IsMentioned, mentioned, code_occurs}
-use Rattle.dexspec.specs.Spellings.{symbol_index}
 
 -- ---- the opcodes that name texts
 

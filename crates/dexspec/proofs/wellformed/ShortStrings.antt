@@ -1,26 +1,7 @@
 -- The text of a const-string that is not a jumbo one has a row below 65536; so the collection that an accepted file
 -- denotes is good.
-use Rattle.std.proofs.Common.{◌≡◌, ℕ, zero, suc, ◌+◌, ◌/◌, ◌%◌, ◌<◌, ◌≤◌, ◌^◌, Bool, true, false, List, length, take, drop, slice_index, All, Option, Some, None, refl, sym, ap, ◌∙◌, subst, arith, inl, inr, length-take}
-use Rattle.std.specs.Prelude.{if◌then◌else◌, ◌==◌, slice_set}
-use Rattle.std.specs.List.{Contains}
-use Rattle.std.proofs.Math.Nat.{pow-le-pow_right}
-use Rattle.std.proofs.Math.ListN.{get_or-eq_default}
-use Rattle.std.proofs.lemmas.Bool.{cases_lt}
-use Rattle.std.proofs.lemmas.List.{get_or-set_other}
-use Rattle.std.proofs.lemmas.List.Elements.{All-take, All-drop, Contains-append_cases}
-use Rattle.dexspec.specs.Lists.{OrNone, SomeAt}
-use Rattle.dexspec.specs.Bytes.{uint_at, ushort_at, ushorts_at}
-use Rattle.dexspec.specs.Texts.{Text}
-use Rattle.dexspec.specs.Symbols.{TextSymbol}
-use Rattle.dexspec.specs.Rows.{StringRow, SymbolRow}
-use Rattle.dexspec.specs.Pieces.{Cut, Piece, Instruction, DenotesPiece, cut_units, index_in, is_wide_index, with_index, two_units, low_byte}
-use Rattle.dexspec.specs.Code.{Code, CodeAt, code_units}
-use Rattle.dexspec.specs.ClassData.{EncodedMethod}
-use Rattle.dexspec.specs.Classes.{MethodDef, Body, ClassRow, MakesMethod, declared_methods}
-use Rattle.dexspec.specs.Files.{Collection, definitions, Denotes}
-use Rattle.dexspec.specs.Merging.{IsGood, greatest_caps}
-use Rattle.dexspec.specs.Conditions.{Condition}
-use Rattle.dexspec.specs.Accepted.{IsAccepted}
+use Rattle.dexspec.proofs.Common.{◌≡◌, ℕ, zero, suc, ◌+◌, ◌/◌, ◌%◌, ◌<◌, ◌≤◌, ◌^◌, Bool, true, false, List, length, take, drop, slice_index, All, Option, Some, None, refl, sym, ap, ◌∙◌, subst, arith, inl, inr, length-take, if◌then◌else◌, ◌==◌, slice_set, Contains, pow-le-pow_right, get_or-eq_default, cases_lt, get_or-set_other, All-take, All-drop, Contains-append_cases, Code}
+use Rattle.dexspec.specs.{OrNone, SomeAt, uint_at, ushort_at, ushorts_at, Text, TextSymbol, StringRow, SymbolRow, Cut, Piece, Instruction, DenotesPiece, cut_units, index_in, is_wide_index, with_index, two_units, low_byte, CodeAt, code_units, EncodedMethod, MethodDef, Body, ClassRow, MakesMethod, declared_methods, Collection, definitions, Denotes, IsGood, greatest_caps, Condition, IsAccepted}
 use Rattle.dexspec.proofs.numbers.ByteNumbers.{number_bound}
 use Rattle.dexspec.proofs.wellformed.Fitting.{zip_source}
 use Rattle.dexspec.proofs.wellformed.SymbolRows.{row_symbols}

@@ -1,26 +1,6 @@
 -- Class data is at the offset of its canonical bytes, if each member is in the row of its index and the indices rise.
-use Rattle.std.proofs.Common.{◌≡◌, ℕ, ◌+◌, ◌-◌, ◌^◌, ◌<◌, ◌≤◌, List, [], ◌∷◌, ◌++◌, length, map, Option, Some, None, refl, sym, ap, ◌∙◌, arith, inl, inr, All, subst, take, drop, length-take, length-drop}
-use Rattle.std.specs.Prelude.{◌==◌, false, nat_lt, IsTrue}
-use Rattle.std.specs.List.{Contains, concat, zip, flat_map}
-use Rattle.std.specs.Ordering.{is_lt, nat_cmp}
-use Rattle.std.specs.declared.cmp.Ordering.{Ordering}
-use Rattle.std.specs.declared.cmp.Ordering.TheVariants.{Less, Equal, Greater}
-use Rattle.std.proofs.lemmas.Bool.{true≢false, cond-false, cond_both, cases_lt, le-ltb}
-use Rattle.std.specs.Prelude.{option_to_list}
-use Rattle.std.proofs.lemmas.List.{length-append, length-map}
-use Rattle.std.proofs.lemmas.List.Elements.{All-contains, All-take, All-drop, Contains-append_left, Contains-append_right}
-use Rattle.dexspec.specs.Lists.{rises, zip_with}
-use Rattle.dexspec.specs.Bytes.{BytesAt}
-use Rattle.dexspec.specs.Numbers.{uleb128}
-use Rattle.dexspec.specs.Texts.{Text}
-use Rattle.dexspec.specs.Symbols.{Symbol, TypeSymbol, FieldSymbol, MethodSymbol}
-use Rattle.dexspec.specs.ClassData.{EncodedField, EncodedMethod, IsNextIndex, EncodedFieldsAt, EncodedMethodsAt, ClassData, ClassDataAt}
-use Rattle.dexspec.specs.Header.{data_off}
-use Rattle.dexspec.specs.Numbers.{Uleb128At}
-use Rattle.dexspec.specs.Classes.{FieldDef, MethodDef, Body, declared_fields, declared_methods}
-use Rattle.dexspec.specs.WellFormed.{IsFieldDef, IsMethodDef, IsWellFormed}
-use Rattle.dexspec.specs.Mentions.{Mentions, field_of, method_of, optional_type, optional_text, set_symbols, field_symbols, method_symbols, values_symbols, code_symbols, symbols_of}
-use Rattle.dexspec.specs.Spellings.{field_index, method_index, differences, encoded_method_bytes, class_data_bytes}
+use Rattle.dexspec.proofs.Common.{◌≡◌, ℕ, ◌+◌, ◌-◌, ◌^◌, ◌<◌, ◌≤◌, List, [], ◌∷◌, ◌++◌, length, map, Option, Some, None, refl, sym, ap, ◌∙◌, arith, inl, inr, All, subst, take, drop, length-take, length-drop, ◌==◌, false, nat_lt, IsTrue, Contains, concat, zip, flat_map, is_lt, nat_cmp, Ordering, Less, Equal, Greater, true≢false, cond-false, cond_both, cases_lt, le-ltb, option_to_list, length-append, length-map, All-contains, All-take, All-drop, Contains-append_left, Contains-append_right, ClassData, Mentions}
+use Rattle.dexspec.specs.{rises, zip_with, BytesAt, uleb128, Text, Symbol, TypeSymbol, FieldSymbol, MethodSymbol, EncodedField, EncodedMethod, IsNextIndex, EncodedFieldsAt, EncodedMethodsAt, ClassDataAt, data_off, Uleb128At, FieldDef, MethodDef, Body, declared_fields, declared_methods, IsFieldDef, IsMethodDef, IsWellFormed, field_of, method_of, optional_type, optional_text, set_symbols, field_symbols, method_symbols, values_symbols, code_symbols, symbols_of, field_index, method_index, differences, encoded_method_bytes, class_data_bytes}
 use Rattle.dexspec.proofs.lists.Members.{and_first, and_second, Contains-first, Contains-later, Contains-flat_map}
 use Rattle.dexspec.proofs.written.PlacedBytes.{is_at}
 use Rattle.dexspec.proofs.written.NumbersWritten.{prefix_is_at, suffix_is_at, uleb128_written, AreInRows, IsInRow}

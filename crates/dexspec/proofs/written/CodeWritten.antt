@@ -1,29 +1,7 @@
 -- A code item is at the offset of its canonical bytes, if each symbol is in the row of its index.
-use Rattle.std.proofs.Common.{◌≡◌, ◌≢◌, ℕ, ◌+◌, ◌*◌, ◌%◌, ◌<◌, ◌≤◌, ◌^◌, ◌&&◌, List, [], ◌∷◌, ◌++◌, length, nat_abs, All, Option, Some, None, refl, sym, ap, ◌∙◌, subst, arith, inl, inr, length-append}
-use Rattle.std.specs.Prelude.{if◌then◌else◌, ◌==◌, pos, IfSome}
-use Rattle.std.specs.List.{Contains, flat_map}
-use Rattle.std.specs.Ordering.{int_eq}
-use Rattle.std.specs.Cmp.{signed_Decides}
-use Rattle.std.specs.Prelude.{not, slice_index, map, option_to_list}
-use Rattle.std.specs.List.{AllZip}
-use Rattle.std.proofs.lemmas.Bool.{cases_lt, cond-true, cond-false, ne_eqb}
-use Rattle.std.proofs.lemmas.Bool.Decides.{Decides-eqb}
-use Rattle.std.proofs.lemmas.List.{append_assoc}
-use Rattle.dexspec.specs.Rows.{SymbolRow}
-use Rattle.std.proofs.lemmas.List.Concat.{flat_map-append}
-use Rattle.std.proofs.lemmas.List.Elements.{All-contains, Contains-append_left, All-head, All-tail}
-use Rattle.dexspec.specs.Lists.{OrNone, SomeAt, Sequence}
-use Rattle.dexspec.specs.Bytes.{ushort, uint, uint_at, ushort_at, ushorts_at, BytesAt}
-use Rattle.dexspec.specs.Numbers.{uleb128}
-use Rattle.dexspec.specs.Texts.{AreUnits}
-use Rattle.dexspec.specs.Header.{data_off}
-use Rattle.dexspec.specs.Pieces.{Cut, IsCode, is_payload_ident, Piece, units_of, DenotesPiece, cut_units}
-use Rattle.dexspec.specs.Debug.{Debug, DebugAt}
-use Rattle.dexspec.specs.Code.{Catch, Handler, Try, Code, IsStart, AreApart, same_handler, handlers_of, handlers_weight, code_units, RegistersAt, HandlerAt, TryAt, TryItemsAt, TriesAt, CodeAt}
-use Rattle.dexspec.specs.Mentions.{Mentions, piece_symbols, handler_symbols, debug_symbols, code_symbols}
-use Rattle.dexspec.specs.Spellings.{piece_units, handler_bytes, handler_off, try_bytes, handler_list_bytes, tries_bytes, code_bytes}
+use Rattle.dexspec.proofs.Common.{◌≡◌, ◌≢◌, ℕ, ◌+◌, ◌*◌, ◌%◌, ◌<◌, ◌≤◌, ◌^◌, ◌&&◌, List, [], ◌∷◌, ◌++◌, length, nat_abs, All, Option, Some, None, refl, sym, ap, ◌∙◌, subst, arith, inl, inr, length-append, if◌then◌else◌, ◌==◌, pos, IfSome, Contains, flat_map, int_eq, signed_Decides, not, slice_index, map, option_to_list, AllZip, cases_lt, cond-true, cond-false, ne_eqb, Decides-eqb, append_assoc, flat_map-append, All-contains, Contains-append_left, All-head, All-tail, Debug, Code, Mentions}
+use Rattle.dexspec.specs.{SymbolRow, OrNone, SomeAt, Sequence, ushort, uint, uint_at, ushort_at, ushorts_at, BytesAt, uleb128, AreUnits, data_off, Cut, IsCode, is_payload_ident, Piece, units_of, DenotesPiece, cut_units, DebugAt, Catch, Handler, Try, IsStart, AreApart, same_handler, handlers_of, handlers_weight, code_units, RegistersAt, HandlerAt, TryAt, TryItemsAt, TriesAt, CodeAt, piece_symbols, handler_symbols, debug_symbols, code_symbols, piece_units, handler_bytes, handler_off, try_bytes, handler_list_bytes, tries_bytes, code_bytes, IsHandlerOf, IsTryOf, IsCodeItem}
 use Rattle.dexspec.specs.internal.IndexPlaces.{IndexFits}
-use Rattle.dexspec.specs.WellFormed.{IsHandlerOf, IsTryOf, IsCodeItem}
 use Rattle.dexspec.proofs.lists.Members.{and_first, Contains-flat_map, list_any-source}
 use Rattle.dexspec.proofs.merge.Depths.{Contains-map}
 use Rattle.dexspec.proofs.lists.Sources.{map_source, distinct_source}

@@ -1,18 +1,6 @@
 -- A debug program is at the offset of its canonical bytes, if each symbol is in the row of its index.
-use Rattle.std.proofs.Common.{ℕ, ◌+◌, ◌≤◌, List, [], ◌∷◌, ◌++◌, length, Option, Some, None, refl, arith}
-use Rattle.std.specs.List.{flat_map, Contains}
-use Rattle.std.proofs.lemmas.List.{length-append}
-use Rattle.std.proofs.lemmas.List.Elements.{All-contains}
-use Rattle.dexspec.specs.Lists.{Item, Sequence}
-use Rattle.dexspec.specs.Bytes.{BytesAt}
-use Rattle.dexspec.specs.Numbers.{uleb128, sleb128}
-use Rattle.dexspec.specs.Texts.{Text}
-use Rattle.dexspec.specs.Symbols.{TextSymbol, TypeSymbol}
-use Rattle.dexspec.specs.Header.{data_off}
-use Rattle.dexspec.specs.Debug.{Operation, AdvancePc, AdvanceLine, StartLocal, StartLocalExtended, EndLocal, RestartLocal, SetPrologueEnd, SetEpilogueBegin, SetFile, Special, Debug, OptionalTextAt, OptionalTypeAt, OperationAt, DebugAt}
-use Rattle.dexspec.specs.Mentions.{Mentions, optional_text, optional_type, operation_symbols, debug_symbols}
-use Rattle.dexspec.specs.Spellings.{text_index, type_index, optional_text_bytes, optional_type_bytes, operation_bytes, debug_bytes}
-use Rattle.dexspec.specs.WellFormed.{IsOperation, IsDebug}
+use Rattle.dexspec.proofs.Common.{ℕ, ◌+◌, ◌≤◌, List, [], ◌∷◌, ◌++◌, length, Option, Some, None, refl, arith, flat_map, Contains, length-append, All-contains, Debug, Mentions}
+use Rattle.dexspec.specs.{Item, Sequence, BytesAt, uleb128, sleb128, Text, TextSymbol, TypeSymbol, data_off, Operation, AdvancePc, AdvanceLine, StartLocal, StartLocalExtended, EndLocal, RestartLocal, SetPrologueEnd, SetEpilogueBegin, SetFile, Special, OptionalTextAt, OptionalTypeAt, OperationAt, DebugAt, optional_text, optional_type, operation_symbols, debug_symbols, text_index, type_index, optional_text_bytes, optional_type_bytes, operation_bytes, debug_bytes, IsOperation, IsDebug}
 use Rattle.dexspec.proofs.lists.Members.{Contains-first, Contains-later, Contains-flat_map}
 use Rattle.dexspec.proofs.written.NumbersWritten.{prefix_is_at, suffix_is_at, head_is_at, tail_is_at, uleb128_written, sleb128_written, uleb128p1_written, AreInRows, first_in_row, prefix_in_rows, back_in_rows}
 

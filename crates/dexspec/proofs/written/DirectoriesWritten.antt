@@ -1,16 +1,6 @@
 -- An annotations directory is at the offset of its canonical bytes, if its sets and ref lists are at their offsets.
-use Rattle.std.proofs.Common.{◌≡◌, ℕ, ◌+◌, ◌-◌, ◌*◌, ◌%◌, ◌^◌, ◌<◌, ◌≤◌, All, List, [], ◌∷◌, ◌++◌, length, map, refl, subst, sym, arith}
-use Rattle.std.specs.Prelude.{IsTrue}
-use Rattle.std.specs.List.{AllZip}
-use Rattle.std.specs.Ordering.{nat_cmp}
-use Rattle.std.proofs.lemmas.List.{length-append}
-use Rattle.std.proofs.lemmas.List.Elements.{All-head, All-tail}
-use Rattle.dexspec.specs.Lists.{rises, OrNone}
-use Rattle.dexspec.specs.Bytes.{uint, uint_at, BytesAt}
-use Rattle.dexspec.specs.Header.{data_off}
-use Rattle.dexspec.specs.Rows.{FieldRow, MethodRow}
-use Rattle.dexspec.specs.Annotations.{Directory, SetAt, RefListAt, PairAt, PairsAt, DirectoryAt, pairs_at}
-use Rattle.dexspec.specs.Placing.{pairs_bytes}
+use Rattle.dexspec.proofs.Common.{◌≡◌, ℕ, ◌+◌, ◌-◌, ◌*◌, ◌%◌, ◌^◌, ◌<◌, ◌≤◌, All, List, [], ◌∷◌, ◌++◌, length, map, refl, subst, sym, arith, IsTrue, AllZip, nat_cmp, length-append, All-head, All-tail}
+use Rattle.dexspec.specs.{rises, OrNone, uint, uint_at, BytesAt, data_off, FieldRow, MethodRow, Directory, SetAt, RefListAt, PairAt, PairsAt, DirectoryAt, pairs_at, pairs_bytes}
 use Rattle.dexspec.proofs.written.PlacedBytes.{is_at_within, is_at, length_rows}
 use Rattle.dexspec.proofs.numbers.ByteNumbers.{length-uint, uint_at-encodes}
 use Rattle.dexspec.proofs.written.NumbersWritten.{prefix_is_at, suffix_is_at}

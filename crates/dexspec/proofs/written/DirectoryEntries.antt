@@ -1,18 +1,9 @@
 -- The pairs of a written directory are those of the entries of its members: in order, with the members' indices and the
 -- offsets of their items.
-use Rattle.std.proofs.Common.{◌≡◌, ◌≢◌, ℕ, ◌<◌, ◌^◌, Bool, true, false, cond, List, [], ◌∷◌, ◌++◌, length, map, Option, Some, None, unwrap_or, refl, sym, ap, ◌∙◌, subst, arith, inl, inr, All, Ordering, Less, Equal, Greater}
-use Rattle.std.specs.Prelude.{if◌then◌else◌, ◌==◌, IsTrue, ◌⊎◌}
-use Rattle.std.specs.List.{Contains, AllZip, flat_map, zip}
-use Rattle.std.specs.Ordering.{nat_cmp, is_eq, eq_by_cmp}
-use Rattle.std.specs.Cmp.{IsTotalOrder, nat_cmp_total}
+use Rattle.dexspec.proofs.Common.{◌≡◌, ◌≢◌, ℕ, ◌<◌, ◌^◌, Bool, true, false, cond, List, [], ◌∷◌, ◌++◌, length, map, Option, Some, None, unwrap_or, refl, sym, ap, ◌∙◌, subst, arith, inl, inr, All, Ordering, Less, Equal, Greater, if◌then◌else◌, ◌==◌, IsTrue, ◌⊎◌, Contains, AllZip, flat_map, zip, nat_cmp, is_eq, eq_by_cmp, IsTotalOrder, nat_cmp_total, cond-true, cond-false, eq-eqb, ne_eqb, tied_itself, All-nil, All-cons}
 use Rattle.std.specs.FinMap.{IsAntisymmetric, nat_cmp-IsAntisymmetric}
 use Rattle.std.specs.FinMap.Entries.{by_order, put, find, find-put}
-use Rattle.std.proofs.lemmas.Bool.{cond-true, cond-false, eq-eqb, ne_eqb}
-use Rattle.std.proofs.lemmas.Cmp.{tied_itself}
-use Rattle.std.proofs.lemmas.List.Elements.{All-nil, All-cons}
-use Rattle.dexspec.specs.Lists.{AreDistinct, rises, in_order, add_in_order}
-use Rattle.dexspec.specs.Annotations.{PairAt, annotated}
-use Rattle.dexspec.specs.Placing.{pair_cmp, pairs}
+use Rattle.dexspec.specs.{AreDistinct, rises, in_order, add_in_order, PairAt, annotated, pair_cmp, pairs}
 use Rattle.dexspec.specs.internal.OwnDirectories.{BytesIfSome, entries_of}
 use Rattle.dexspec.proofs.lists.Members.{Contains-nil, Contains-first, Contains-later, Contains-cons_cases, AreDistinct-first, AreDistinct-rest}
 use Rattle.dexspec.proofs.merge.Depths.{Contains-map}

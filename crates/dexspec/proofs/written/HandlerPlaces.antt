@@ -1,19 +1,6 @@
 -- The handlers of tries: the tests decide equality, and each handler begins at its offset.
-use Rattle.std.proofs.Common.{◌≡◌, ℕ, ◌+◌, ◌*◌, ◌≤◌, Bool, true, false, List, [], ◌∷◌, ◌++◌, length, Option, refl, sym, ap, ◌∙◌, subst, arith, inl, inr, sum_by}
-use Rattle.std.specs.Prelude.{if◌then◌else◌, ◌==◌}
-use Rattle.std.specs.Bool.{Decides}
-use Rattle.std.specs.List.{Contains, flat_map}
-use Rattle.std.specs.Option.{option_eq}
-use Rattle.std.specs.Cmp.Lexicographic.{pointwise}
-use Rattle.std.proofs.lemmas.Bool.{eqb-true}
-use Rattle.std.proofs.lemmas.Bool.Decides.{Decides-eqb}
-use Rattle.std.proofs.lemmas.Slice.Eq.{slice_eq-Decides}
-use Rattle.std.proofs.lemmas.List.{length-append}
-use Rattle.std.proofs.lemmas.List.Sums.{sum_by-cons, get_or-le-sum_by}
-use Rattle.dexspec.specs.Texts.{same_text}
-use Rattle.dexspec.specs.Code.{Catch, Handler, same_catch, same_handler}
-use Rattle.dexspec.specs.Mentions.{Mentions}
-use Rattle.dexspec.specs.Spellings.{handler_bytes, handler_off}
+use Rattle.dexspec.proofs.Common.{◌≡◌, ℕ, ◌+◌, ◌*◌, ◌≤◌, Bool, true, false, List, [], ◌∷◌, ◌++◌, length, Option, refl, sym, ap, ◌∙◌, subst, arith, inl, inr, sum_by, if◌then◌else◌, ◌==◌, Decides, Contains, flat_map, option_eq, pointwise, eqb-true, Decides-eqb, slice_eq-Decides, length-append, sum_by-cons, get_or-le-sum_by, Mentions}
+use Rattle.dexspec.specs.{same_text, Catch, Handler, same_catch, same_handler, handler_bytes, handler_off}
 use Rattle.dexspec.proofs.lists.Equality.{options_decide, text_decides}
 use Rattle.dexspec.proofs.lists.Members.{and_first, and_second, and_both, Contains-nil, Contains-cons_cases}
 

@@ -1,20 +1,6 @@
 -- Handlers are at the offset of their canonical bytes, if each caught type is in the row of its index.
-use Rattle.std.proofs.Common.{◌≡◌, ℕ, ◌+◌, ◌^◌, ◌<◌, All, List, [], ◌∷◌, ◌++◌, length, map, Option, Some, None, refl, arith}
-use Rattle.std.specs.Prelude.{pos, ◌-ℤ◌, nat_abs, ◌≤ℤ◌, FitsSigned, IfSome}
-use Rattle.std.specs.Int.{w32}
-use Rattle.std.specs.List.{flat_map, Contains}
-use Rattle.std.proofs.lemmas.Int.{ints}
-use Rattle.std.proofs.lemmas.List.{length-append}
-use Rattle.std.proofs.lemmas.List.Elements.{All-contains}
-use Rattle.dexspec.specs.Lists.{Sequence}
-use Rattle.dexspec.specs.Bytes.{BytesAt}
-use Rattle.dexspec.specs.Numbers.{uleb128, sleb128}
-use Rattle.dexspec.specs.Symbols.{TypeSymbol}
-use Rattle.dexspec.specs.Pieces.{Cut}
-use Rattle.dexspec.specs.Code.{Catch, Handler, IsStart, CatchAt, HandlerAt}
-use Rattle.dexspec.specs.Mentions.{Mentions, handler_symbols}
-use Rattle.dexspec.specs.Spellings.{type_index, catch_bytes, handler_bytes}
-use Rattle.dexspec.specs.WellFormed.{IsHandlerOf}
+use Rattle.dexspec.proofs.Common.{◌≡◌, ℕ, ◌+◌, ◌^◌, ◌<◌, All, List, [], ◌∷◌, ◌++◌, length, map, Option, Some, None, refl, arith, pos, ◌-ℤ◌, nat_abs, ◌≤ℤ◌, FitsSigned, IfSome, w32, flat_map, Contains, ints, length-append, All-contains, Mentions}
+use Rattle.dexspec.specs.{Sequence, BytesAt, uleb128, sleb128, TypeSymbol, Cut, Catch, Handler, IsStart, CatchAt, HandlerAt, handler_symbols, type_index, catch_bytes, handler_bytes, IsHandlerOf}
 use Rattle.dexspec.proofs.lists.Members.{Contains-first, Contains-later}
 use Rattle.dexspec.proofs.written.NumbersWritten.{prefix_is_at, suffix_is_at, uleb128_written, sleb128_written, AreInRows, IsInRow, first_in_row, rest_in_rows}
 

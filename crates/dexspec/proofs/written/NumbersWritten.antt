@@ -1,15 +1,6 @@
 -- LEB128 numbers are at the offsets of their shortest encodings; symbols are in the rows of their indices.
-use Rattle.std.proofs.Common.{ℕ, ◌+◌, ◌^◌, ◌<◌, List, [], ◌∷◌, ◌++◌, length, Option, arith}
-use Rattle.std.specs.Prelude.{ℤ, FitsSigned}
-use Rattle.std.specs.Int.{w32}
-use Rattle.std.specs.List.{Contains}
-use Rattle.std.proofs.lemmas.List.Elements.{Contains-append_left, Contains-append_right}
-use Rattle.dexspec.specs.Bytes.{BytesAt}
-use Rattle.dexspec.specs.Numbers.{Uleb128At, Sleb128At, Uleb128p1At, IsUleb128, IsSleb128, IsUleb128p1, plus_one, uleb128, sleb128, uleb128p1}
-use Rattle.dexspec.specs.Symbols.{Symbol}
-use Rattle.dexspec.specs.Rows.{SymbolRow}
-use Rattle.dexspec.specs.Mentions.{Mentions}
-use Rattle.dexspec.specs.Spellings.{symbol_index}
+use Rattle.dexspec.proofs.Common.{ℕ, ◌+◌, ◌^◌, ◌<◌, List, [], ◌∷◌, ◌++◌, length, Option, arith, ℤ, FitsSigned, w32, Contains, Contains-append_left, Contains-append_right, Mentions}
+use Rattle.dexspec.specs.{BytesAt, Uleb128At, Sleb128At, Uleb128p1At, IsUleb128, IsSleb128, IsUleb128p1, plus_one, uleb128, sleb128, uleb128p1, Symbol, SymbolRow, symbol_index}
 use Rattle.dexspec.proofs.written.PlacedBytes.{is_at_first, is_at_whole, is_at_later, is_at_in, is_at}
 use Rattle.dexspec.proofs.lists.Members.{Contains-first, Contains-later}
 use Rattle.dexspec.proofs.numbers.Spellings.{uleb128_is, sleb128_is, uleb128p1_is}

@@ -1,10 +1,6 @@
 -- Bytes at offsets of a list that is joined from parts.
-use Rattle.std.proofs.Common.{◌≡◌, ℕ, zero, suc, ◌+◌, ◌*◌, ◌-◌, ◌<◌, ◌≤◌, List, [], ◌∷◌, ◌++◌, length, get_or, take, drop, refl, sym, ap, subst, ◌∙◌, arith, inl, inr}
-use Rattle.std.specs.List.{flat_map}
-use Rattle.std.proofs.lemmas.Bool.{cases_lt}
-use Rattle.std.proofs.lemmas.List.{take_at, take-append-drop, take-append-le, drop-append-le, drop-drop, length-append, length-take, length-drop, append-nil, nil_from_length}
-use Rattle.std.proofs.Math.Seq.{drop-append-add}
-use Rattle.dexspec.specs.Bytes.{BytesAt}
+use Rattle.dexspec.proofs.Common.{◌≡◌, ℕ, zero, suc, ◌+◌, ◌*◌, ◌-◌, ◌<◌, ◌≤◌, List, [], ◌∷◌, ◌++◌, length, get_or, take, drop, refl, sym, ap, subst, ◌∙◌, arith, inl, inr, flat_map, cases_lt, take_at, take-append-drop, take-append-le, drop-append-le, drop-drop, length-append, length-take, length-drop, append-nil, nil_from_length, drop-append-add}
+use Rattle.dexspec.specs.{BytesAt}
 
 -- a prefix of a list is at offset 0
 pub is_at_first : (x r : List ℕ) → BytesAt (x ++ r) 0 x

@@ -1,15 +1,6 @@
 -- Annotation sets and ref lists are at the offset of their canonical bytes, if their members are at their offsets.
-use Rattle.std.proofs.Common.{◌≡◌, ℕ, ◌+◌, ◌-◌, ◌*◌, ◌%◌, ◌^◌, ◌<◌, ◌≤◌, List, [], ◌∷◌, length, map, refl, ap, subst, sym, ◌∙◌, arith, inl, inr}
-use Rattle.std.specs.Prelude.{IsTrue}
-use Rattle.std.specs.List.{flat_map, AllZip}
-use Rattle.std.proofs.lemmas.List.{length-append}
-use Rattle.dexspec.specs.Lists.{rises, OrNone}
-use Rattle.dexspec.specs.Bytes.{uint, uint_at, uints_at, BytesAt}
-use Rattle.dexspec.specs.Texts.{text_cmp}
-use Rattle.dexspec.specs.Header.{data_off}
-use Rattle.dexspec.specs.Sections.{IsInData}
-use Rattle.dexspec.specs.Annotations.{Annotation, AnnotationSet, AnnotationAt, SetAt, RefListAt}
-use Rattle.dexspec.specs.Spellings.{offsets_bytes}
+use Rattle.dexspec.proofs.Common.{◌≡◌, ℕ, ◌+◌, ◌-◌, ◌*◌, ◌%◌, ◌^◌, ◌<◌, ◌≤◌, List, [], ◌∷◌, length, map, refl, ap, subst, sym, ◌∙◌, arith, inl, inr, IsTrue, flat_map, AllZip, length-append}
+use Rattle.dexspec.specs.{rises, OrNone, uint, uint_at, uints_at, BytesAt, text_cmp, data_off, IsInData, Annotation, AnnotationSet, AnnotationAt, SetAt, RefListAt, offsets_bytes}
 use Rattle.dexspec.proofs.written.PlacedBytes.{is_at_within, is_at, length_rows}
 use Rattle.dexspec.proofs.numbers.ByteNumbers.{length-uint, uint_at-encodes}
 use Rattle.dexspec.proofs.written.NumbersWritten.{prefix_is_at, suffix_is_at}

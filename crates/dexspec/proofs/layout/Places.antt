@@ -85,26 +85,6 @@ items_few align from (x ∷ xs) some =
 
 -- ---- items after others
 
--- one more item is after the others
-pub end_more : (align from : ℕ) (xs : List (List ℕ)) (y : List ℕ) → end_from align from (xs ++ y ∷ []) ≡ round_up align (end_from align from xs) + length y
-end_more align from [] y = refl
-end_more align from (x ∷ xs) y = end_more align (round_up align from + length x) xs y
-
-pub offsets_more : (align from : ℕ) (xs : List (List ℕ)) (y : List ℕ) → offsets_from align from (xs ++ y ∷ []) ≡ offsets_from align from xs ++ round_up align (end_from align from xs) ∷ []
-offsets_more align from [] y = refl
-offsets_more align from (x ∷ xs) y = ap (λ os. round_up align from ∷ os) (offsets_more align (round_up align from + length x) xs y)
-
--- more items begin at the end of the others
-pub end_append : (align from : ℕ) (xs ys : List (List ℕ)) → end_from align from (xs ++ ys) ≡ end_from align (end_from align from xs) ys
-end_append align from [] ys = refl
-end_append align from (x ∷ xs) ys = end_append align (round_up align from + length x) xs ys
-
--- the offsets of the first are unchanged
-pub offset_stays : (align from : ℕ) (xs ys : List (List ℕ)) (k : ℕ) → k < length xs → slice_index (offsets_from align from (xs ++ ys)) k ≡ slice_index (offsets_from align from xs) k
-offset_stays align from [] ys k lt = absurd (omega (arith, lt))
-offset_stays align from (x ∷ xs) ys zero lt = refl
-offset_stays align from (x ∷ xs) ys (suc k) lt = offset_stays align (round_up align from + length x) xs ys k (omega (arith, lt))
-
 -- ---- sections
 
 -- each section begins at the end of the one before it, the first begins at the first offset, and the last ends at the

@@ -19,15 +19,6 @@ ushorts_at-encodes {b = b} f small o (x ∷ xs) h =
     let others : ushorts_at b (o + 2) (length xs) ≡ map f xs = ushorts_at-encodes f small (o + 2) xs (is_at_end (ushort (f x)) rest 2 (length-ushort (f x)) h) in
     ap (λ n. n ∷ ushorts_at b (o + 2) (length xs)) first ∙ ap (λ l. f x ∷ l) others
 
--- uints that were written are read
-pub uints_at-encodes : {X : Type 0} {b : List ℕ} (f : X → ℕ) → ((x : X) → f x < 2 ^ 32) → (o : ℕ) (xs : List X) → BytesAt b o (flat_map (λ x. uint (f x)) xs) → uints_at b o (length xs) ≡ map f xs
-uints_at-encodes f small o [] h = refl
-uints_at-encodes {b = b} f small o (x ∷ xs) h =
-    let rest = flat_map (λ x. uint (f x)) xs in
-    let first : uint_at b o ≡ f x = uint_at-encodes (small x) (is_at_here (uint (f x)) rest h) in
-    let others : uints_at b (o + 4) (length xs) ≡ map f xs = uints_at-encodes f small (o + 4) xs (is_at_next (f x) rest h) in
-    ap (λ n. n ∷ uints_at b (o + 4) (length xs)) first ∙ ap (λ l. f x ∷ l) others
-
 -- ---- bounds
 
 -- an offset of a use fits four bytes

@@ -62,78 +62,6 @@ same_or_not c x y = elim (tree_same_or_not (c.code x) (c.code y)) [ inl e ↦ in
 pub text_same_or_not : (x y : Text) → SameOrNot x y
 text_same_or_not = same_or_not codes.text_code
 
--- protos
-pub proto_same_or_not : (x y : Proto) → SameOrNot x y
-proto_same_or_not = same_or_not codes.proto_code
-
--- fields
-pub field_same_or_not : (x y : Field) → SameOrNot x y
-field_same_or_not = same_or_not codes.field_code
-
--- methods
-pub method_same_or_not : (x y : Method) → SameOrNot x y
-method_same_or_not = same_or_not codes.method_code
-
--- symbols
-pub symbol_same_or_not : (x y : Symbol) → SameOrNot x y
-symbol_same_or_not = same_or_not codes.symbol_code
-
--- pieces of code
-pub piece_same_or_not : (x y : Piece) → SameOrNot x y
-piece_same_or_not = same_or_not codes.piece_code
-
--- operations of debug programs
-pub operation_same_or_not : (x y : Operation) → SameOrNot x y
-operation_same_or_not = same_or_not codes.operation_code
-
--- debug programs
-pub debug_same_or_not : (x y : Debug) → SameOrNot x y
-debug_same_or_not = same_or_not codes.debug_code
-
--- catches
-pub catch_same_or_not : (x y : Catch) → SameOrNot x y
-catch_same_or_not = same_or_not codes.catch_code
-
--- handlers
-pub handler_same_or_not : (x y : Handler) → SameOrNot x y
-handler_same_or_not = same_or_not codes.handler_code
-
--- tries
-pub try_same_or_not : (x y : Try) → SameOrNot x y
-try_same_or_not = same_or_not codes.try_code
-
--- code
-pub code_same_or_not : (x y : Code) → SameOrNot x y
-code_same_or_not = same_or_not codes.code_code
-
--- values
-pub value_same_or_not : (x y : Value) → SameOrNot x y
-value_same_or_not = same_or_not codes.value_code
-
--- arrays of values
-pub values_same_or_not : (x y : Values) → SameOrNot x y
-values_same_or_not = same_or_not codes.values_code
-
--- elements of annotations
-pub elements_same_or_not : (x y : Elements) → SameOrNot x y
-elements_same_or_not = same_or_not codes.elements_code
-
--- annotations
-pub annotation_same_or_not : (x y : Annotation) → SameOrNot x y
-annotation_same_or_not = same_or_not codes.annotation_code
-
--- sets of annotations
-pub set_same_or_not : (x y : AnnotationSet) → SameOrNot x y
-set_same_or_not = same_or_not codes.set_code
-
--- declared fields
-pub field_def_same_or_not : (x y : FieldDef) → SameOrNot x y
-field_def_same_or_not = same_or_not codes.field_def_code
-
--- declared methods
-pub method_def_same_or_not : (x y : MethodDef) → SameOrNot x y
-method_def_same_or_not = same_or_not codes.method_def_code
-
 -- classes without their names
 pub body_same_or_not : (x y : Body) → SameOrNot x y
 body_same_or_not = same_or_not codes.body_code
@@ -141,7 +69,3 @@ body_same_or_not = same_or_not codes.body_code
 -- class definitions
 pub definition_same_or_not : (x y : Definition) → SameOrNot x y
 definition_same_or_not = same_or_not codes.definition_code
-
--- collections of definitions
-pub collection_same_or_not : (x y : Collection) → SameOrNot x y
-collection_same_or_not = same_or_not codes.collection_code

@@ -77,7 +77,3 @@ any_equal p q e (x ∷ xs) = ap (λ b. b || list_any p xs) (e x) ∙ ap (λ b. q
 pub position_mapped : {K X : Type 0} (f : K → X) (p : X → Bool) (ks : List K) → position_or_len p (map f ks) ≡ position_or_len (λ k. p (f k)) ks
 position_mapped f p [] = refl
 position_mapped f p (k ∷ ks) = ap (λ n. cond (not (p (f k))) (1 + n) 0) (position_mapped f p ks)
-
-pub any_mapped : {K X : Type 0} (f : K → X) (p : X → Bool) (ks : List K) → list_any p (map f ks) ≡ list_any (λ k. p (f k)) ks
-any_mapped f p [] = refl
-any_mapped f p (k ∷ ks) = ap (λ b. p (f k) || b) (any_mapped f p ks)

@@ -4,19 +4,6 @@ use Rattle.dexspec.proofs.Common.{◌≡◌, ℕ, ◌+◌, List, [], ◌∷◌, 
 use Rattle.dexspec.specs.{Item, Sequence, BytesAt}
 use Rattle.dexspec.proofs.written.PlacedBytes.{is_at_first, is_at_whole, is_at_later, is_at_in, is_at}
 
--- items that are written one after the other are in sequence
-pub sequence_written : {X : Type 0} (At : Item X) (f : X → List ℕ) → ((b : List ℕ) (o : ℕ) (x : X) → BytesAt b o (f x) → At b o x (length (f x)))
-    → (b : List ℕ) (o : ℕ) (xs : List X) → BytesAt b o (flat_map f xs) → Sequence At b o xs (length (flat_map f xs))
-sequence_written At f each b o [] h = refl
-sequence_written At f each b o (x ∷ xs) h =
-    let rest = flat_map f xs in (
-      length (f x),
-      length rest,
-      each b o x (is_at (omega arith) (is_at_in h (is_at_first (f x) rest))),
-      sequence_written At f each b (o + length (f x)) xs (is_at (omega arith) (is_at_in h (is_at_later (f x) (is_at_whole rest)))),
-      length-append (f x) rest,
-    )
-
 -- and no other items are
 pub one_sequence : {X : Type 0} (At : Item X) → ((b : List ℕ) (o : ℕ) (x y : X) (n k : ℕ) → At b o x n → At b o y k → (x ≡ y) × (n ≡ k))
     → (b : List ℕ) (o : ℕ) (xs ys : List X) (n k : ℕ) → length xs ≡ length ys → Sequence At b o xs n → Sequence At b o ys k → (xs ≡ ys) × (n ≡ k)

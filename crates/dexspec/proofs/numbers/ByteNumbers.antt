@@ -27,12 +27,6 @@ unfolding bytes_of number_of
 number_of-bytes_of zero v lt = omega arith
 number_of-bytes_of (suc n) v lt = let rest = number_of-bytes_of n (v / 256) (omega (arith, pow-suc 256 n)) in omega (arith, rest)
 
--- each of them fits a byte
-pub are_bytes-bytes_of : (n v : ℕ) → All (λ x. x < 256) (bytes_of n v)
-unfolding bytes_of
-are_bytes-bytes_of zero v = All-nil (λ x. x < 256)
-are_bytes-bytes_of (suc n) v = All-cons (λ x. x < 256) (v % 256) (bytes_of n (v / 256)) (omega arith) (are_bytes-bytes_of n (v / 256))
-
 -- n bytes encode a number below 256 ^ n
 pub number_bound : (bytes : List ℕ) → All (λ x. x < 256) bytes → number_of bytes < 256 ^ length bytes
 unfolding number_of

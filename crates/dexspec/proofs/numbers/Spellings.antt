@@ -14,13 +14,6 @@ module _ {V : Type 0} (number : List ℕ → V) (InRange : V → Type 0) where
       let e : m ≡ n = chain_same bytes m n other.spelled.chain one.spelled.chain other.within one.within in
       (sym other.spelled.value ∙ ap (λ k. number (take k bytes)) e ∙ one.spelled.value, e)
 
-  -- it has one to five bytes
-  pub number_size : (bytes : List ℕ) (v : V) (n : ℕ) → BeginsWith (Spells number InRange) bytes v n → (1 ≤ n) × (n ≤ 5)
-  number_size bytes v n begins =
-      let some = chain_some (take n bytes) begins.spelled.chain in
-      let len = length-take n bytes in
-      (omega (arith, begins.within), omega (arith, begins.within, begins.spelled.few))
-
   -- an encoding with bytes after it begins with the number
   pub spelling_begins : (a rest : List ℕ) (v : V) → Spells number InRange a v → BeginsWith (Spells number InRange) (a ++ rest) v (length a)
   spelling_begins a rest v says = record {

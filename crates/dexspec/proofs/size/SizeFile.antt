@@ -4,7 +4,8 @@ use Rattle.std.specs.FinMap.Entries.{put, by_order}
 use Rattle.sha1.specs.Sha1.{sha1, digest_bytes, hash_after, padded_message}
 use Rattle.dexspec.specs.{ushort, uint, round_up, padding, Text, shorty, AreDistinct, zip_with, Proto, Field, Method, HasSize, Table, header_length, adler_32, Section, TableOf, MapList, type_code, Body, Definition, declared_methods, no_index, Caps, AreCaps, Fits, Collection, definitions, mentions, place_cmp, put_all, depth, in_class_order, mentions_weight, static_values_weight, body_weight, weight, text_index, type_index, proto_index, same_types, same_debug, same_set, Placed, offsets, end, section_bytes, uses_offsets, Ordered, class_sets, type_list_section, annotation_section, annotation_offsets, array_section, string_section, debug_section, code_section, class_data_section, set_section, set_offsets, ref_list_section, directory_section, data_sections, class_offsets, data_start, placed_tables, proto_row_bytes, field_row_bytes, method_row_bytes, class_row_bytes, map_entry_bytes, map_of, map_bytes, table_bytes, header_bytes, unsigned_file, magic, with_sums, ordered, canonical}
 use Rattle.dexspec.proofs.numbers.ByteNumbers.{length-ushort, length-uint}
-use Rattle.dexspec.proofs.layout.Placements.{length-string_offsets}
+use Rattle.dexspec.proofs.layout.Tables.{length-table_bytes, length-header_bytes}
+use Rattle.dexspec.proofs.layout.MapEntries.{length-map_bytes}
 use Rattle.dexspec.proofs.size.SizeSums.{sum_by-map, sum_by-at_most, padding-at_most}
 use Rattle.dexspec.proofs.size.SizeItems.{each-is}
 use Rattle.dexspec.proofs.size.SizeClass.{zipped-size}
@@ -55,94 +56,6 @@ sections-within K few = (
   ),
 )
 
--- ---- tables
-
-proto_row-size : (m : Mentions) (p : Proto) (off : ℕ) → length (proto_row_bytes m p off) ≤ 12
-proto_row-size m p off =
-    let a = uint (text_index m (shorty p.return_type p.parameters)) in
-    let b = uint (type_index m p.return_type) in
-    omega (arith, length-append a (b ++ uint off), length-append b (uint off), length-uint (text_index m (shorty p.return_type p.parameters)), length-uint (type_index m p.return_type), length-uint off)
-
-field_row-size : (m : Mentions) (f : Field) → length (field_row_bytes m f) ≤ 8
-field_row-size m f =
-    let a = ushort (type_index m f.class) in
-    let b = ushort (type_index m f.type) in
-    let c = uint (text_index m f.name) in
-    omega (arith, length-append a (b ++ c), length-append b c, length-ushort (type_index m f.class), length-ushort (type_index m f.type), length-uint (text_index m f.name))
-
-method_row-size : (m : Mentions) (x : Method) → length (method_row_bytes m x) ≤ 8
-method_row-size m x =
-    let a = ushort (type_index m x.class) in
-    let b = ushort (proto_index m x.proto) in
-    let c = uint (text_index m x.name) in
-    omega (arith, length-append a (b ++ c), length-append b c, length-ushort (type_index m x.class), length-ushort (proto_index m x.proto), length-uint (text_index m x.name))
-
--- the numbers of four bytes each
-numbers-size : (ns : List ℕ) → length (flat_map uint ns) ≡ 4 * length ns
-numbers-size [] = refl
-numbers-size (n ∷ ns) = omega (arith, length-append (uint n) (flat_map uint ns), length-uint n, numbers-size ns)
-
-class_row-size : (m : Mentions) (d : Definition) (offs : ℕ × ℕ × ℕ × ℕ) → length (class_row_bytes m d offs) ≤ 32
-class_row-size m (name, c) offs =
-    let super = option_map_or (type_index m) c.superclass no_index in
-    let source = option_map_or (text_index m) c.source no_index in
-    let x7 = uint offs.2 ++ uint offs.3 in
-    let x6 = uint offs.1 ++ x7 in
-    let x5 = uint source ++ x6 in
-    let x4 = uint offs.0 ++ x5 in
-    let x3 = uint super ++ x4 in
-    let x2 = uint c.flags ++ x3 in
-    omega (
-      arith,
-      length-append (uint (type_index m name)) x2,
-      length-append (uint c.flags) x3,
-      length-append (uint super) x4,
-      length-append (uint offs.0) x5,
-      length-append (uint source) x6,
-      length-append (uint offs.1) x7,
-      length-append (uint offs.2) (uint offs.3),
-      length-uint (type_index m name),
-      length-uint c.flags,
-      length-uint super,
-      length-uint offs.0,
-      length-uint source,
-      length-uint offs.1,
-      length-uint offs.2,
-      length-uint offs.3,
-    )
-
-tables-size : (K : Ordered)
-    → length (table_bytes K) ≤ 4 * length K.pools.texts + 4 * length K.pools.types + 12 * length K.pools.protos + 8 * length K.pools.fields + 8 * length K.pools.methods + 32 * length K.classes
-tables-size K =
-    let m = K.pools in
-    let strings = offsets (string_section K) in
-    let lists = uses_offsets (type_list_section K) in
-    let type_row = λ (t : Text). uint (text_index m t) in
-    let x1 = flat_map uint strings in
-    let x2 = flat_map type_row m.types in
-    let x3 = concat (zip_with (proto_row_bytes m) m.protos lists) in
-    let x4 = flat_map (field_row_bytes m) m.fields in
-    let x5 = flat_map (method_row_bytes m) m.methods in
-    let x6 = concat (zip_with (class_row_bytes m) K.classes (class_offsets K)) in
-    omega (
-      arith,
-      length-append x1 (x2 ++ (x3 ++ (x4 ++ (x5 ++ x6)))),
-      length-append x2 (x3 ++ (x4 ++ (x5 ++ x6))),
-      length-append x3 (x4 ++ (x5 ++ x6)),
-      length-append x4 (x5 ++ x6),
-      length-append x5 x6,
-      length-string_offsets K,
-      numbers-size strings,
-      length-flat_map type_row m.types,
-      sum_by-at_most (λ (t : Text). length (type_row t)) 4 m.types (λ t. omega (arith, length-uint (text_index m t))),
-      zipped-size (proto_row_bytes m) 12 m.protos lists (proto_row-size m),
-      length-flat_map (field_row_bytes m) m.fields,
-      sum_by-at_most (λ (f : Field). length (field_row_bytes m f)) 8 m.fields (field_row-size m),
-      length-flat_map (method_row_bytes m) m.methods,
-      sum_by-at_most (λ (x : Method). length (method_row_bytes m x)) 8 m.methods (method_row-size m),
-      zipped-size (class_row_bytes m) 32 K.classes (class_offsets K) (class_row-size m),
-    )
-
 -- ---- the map
 
 one-at_most : {X : Type 0} (b : Bool) (x : X) → length (if b then [] else x ∷ []) ≤ 1
@@ -154,66 +67,9 @@ map_of-size : (K : Ordered) (map_off : ℕ) → length (map_of K map_off) ≤ 18
 map_of-size K map_off =
     let table : Table × ℕ × ℕ → List (Section × ℕ × ℕ) = λ t. if t.1 == 0 then [] else (TableOf t.0, t.1, t.2) ∷ [] in
     let section : Placed → List (Section × ℕ × ℕ) = λ p. if length p.items == 0 then [] else (p.kind, length p.items, slice_index (offsets p) 0) ∷ [] in
-    let tables = flat_map table (placed_tables K) in
-    let sections = flat_map section (data_sections K) in
-    let last : List (Section × ℕ × ℕ) = (MapList, 1, map_off) ∷ [] in
-    omega (
-      arith,
-      length-append tables (sections ++ last),
-      length-append sections last,
-      length-flat_map table (placed_tables K),
-      sum_by-at_most (λ (t : Table × ℕ × ℕ). length (table t)) 1 (placed_tables K) (λ t. one-at_most {X = Section × ℕ × ℕ} (t.1 == 0) (TableOf t.0, t.1, t.2)),
-      length-flat_map section (data_sections K),
-      sum_by-at_most (λ (p : Placed). length (section p)) 1 (data_sections K) (λ p. one-at_most {X = Section × ℕ × ℕ} (length p.items == 0) (p.kind, length p.items, slice_index (offsets p) 0)),
-    )
-
-map_bytes-size : (es : List (Section × ℕ × ℕ)) → length (map_bytes es) ≤ 4 + 12 * length es
-map_bytes-size es =
-    let each = sum_by-at_most (λ (e : Section × ℕ × ℕ). length (map_entry_bytes e)) 12 es
-    (λ e. omega (
-      arith,
-      length-append (ushort (type_code e.0)) (ushort 0 ++ (uint e.1 ++ uint e.2)),
-      length-append (ushort 0) (uint e.1 ++ uint e.2),
-      length-append (uint e.1) (uint e.2),
-      length-ushort (type_code e.0),
-      length-ushort 0,
-      length-uint e.1,
-      length-uint e.2,
-    )) in
-    omega (arith, length-append (uint (length es)) (flat_map map_entry_bytes es), length-uint (length es), length-flat_map map_entry_bytes es, each)
-
--- ---- the header
-
-header-size : (K : Ordered) (map_off file_size : ℕ) → length (header_bytes K map_off file_size) ≡ 80
-header-size K map_off file_size =
-    let row = λ (t : Table × ℕ × ℕ). uint t.1 ++ uint t.2 in
-    let rows = flat_map row (placed_tables K) in
-    let x8 = uint (file_size - data_start K) ++ uint (data_start K) in
-    let x7 = rows ++ x8 in
-    let x6 = uint map_off ++ x7 in
-    let x5 = uint 0 ++ x6 in
-    let x4 = uint 0 ++ x5 in
-    let x3 = uint 0x12345678 ++ x4 in
-    let x2 = uint header_length ++ x3 in
-    omega (
-      arith,
-      length-append (uint file_size) x2,
-      length-append (uint header_length) x3,
-      length-append (uint 0x12345678) x4,
-      length-append (uint 0) x5,
-      length-append (uint 0) x6,
-      length-append (uint map_off) x7,
-      length-append rows x8,
-      length-append (uint (file_size - data_start K)) (uint (data_start K)),
-      length-uint file_size,
-      length-uint header_length,
-      length-uint 0x12345678,
-      length-uint 0,
-      length-uint map_off,
-      length-uint (file_size - data_start K),
-      length-uint (data_start K),
-      each-is row 8 (placed_tables K) (λ t. omega (arith, length-append (uint t.1) (uint t.2), length-uint t.1, length-uint t.2)),
-    )
+    let tables = sum_by-at_most (λ t. length (table t)) 1 (placed_tables K) (λ t. one-at_most {X = Section × ℕ × ℕ} (t.1 == 0) (TableOf t.0, t.1, t.2)) in
+    let sections = sum_by-at_most (λ p. length (section p)) 1 (data_sections K) (λ p. one-at_most {X = Section × ℕ × ℕ} (length p.items == 0) (p.kind, length p.items, slice_index (offsets p) 0)) in
+    omega (arith, length-append {A = Section × ℕ × ℕ}, length-flat_map table (placed_tables K), length-flat_map section (data_sections K), tables, sections)
 
 digest-size : (h : List ℕ) (n : ℕ) → length (digest_bytes h n) ≡ 4 * n
 unfolding digest_bytes
@@ -227,9 +83,7 @@ sha1-size bytes = digest-size (hash_after (padded_message bytes) (length (padded
 -- magic, checksum and signature
 pub with_sums-size : (rest : List ℕ) → length (with_sums rest) ≡ 32 + length rest
 unfolding with_sums
-with_sums-size rest =
-    let sum = adler_32 (sha1 rest ++ rest) in
-    omega (arith, length-append magic (uint sum ++ (sha1 rest ++ rest)), length-append (uint sum) (sha1 rest ++ rest), length-append (sha1 rest) rest, length-uint sum, sha1-size rest)
+with_sums-size rest = omega (arith, length-append {A = ℕ}, length-uint, sha1-size)
 
 -- ---- the whole
 
@@ -239,41 +93,19 @@ padding-size at = omega (arith, length-replicate {A = ℕ} ((4 - at % 4) % 4) 0,
 -- rows and sections have at most as many bytes as their contents weigh
 pub parts-size : (K : Ordered) → length K.pools.types ≤ 65536 → length (table_bytes K) + length (flat_map section_bytes (data_sections K)) ≤ mentions_weight K.pools + sum_by (λ d. body_weight d.1) K.classes
 parts-size K few =
-    omega (arith, tables-size K, sections-size (data_sections K) (section_sizes K) (sections-within K few), mentions-cover K.pools, classes-cover K.classes)
+    omega (arith, length-table_bytes K, sections-size (data_sections K) (section_sizes K) (sections-within K few), mentions-cover K.pools, classes-cover K.classes)
 
 pub file-size : (K : Ordered) → length K.pools.types ≤ 65536 → length (with_sums (unsigned_file K)) ≤ 1024 + mentions_weight K.pools + sum_by (λ d. body_weight d.1) K.classes
 unfolding unsigned_file
 file-size K few =
     let data_end = end (directory_section K) in
     let map_off = round_up 4 data_end in
-    let map_list = map_bytes (map_of K map_off) in
-    let header = header_bytes K map_off (map_off + length map_list) in
-    let sections = flat_map section_bytes (data_sections K) in
-    let gap = padding 4 data_end in
-    omega (
-      arith,
-      with_sums-size (unsigned_file K),
-      length-append header (table_bytes K ++ (sections ++ (gap ++ map_list))),
-      length-append (table_bytes K) (sections ++ (gap ++ map_list)),
-      length-append sections (gap ++ map_list),
-      length-append gap map_list,
-      header-size K map_off (map_off + length map_list),
-      parts-size K few,
-      padding-size data_end,
-      map_bytes-size (map_of K map_off),
-      map_of-size K map_off,
-    )
+    omega (arith, with_sums-size (unsigned_file K), length-append {A = ℕ}, length-header_bytes K, parts-size K few, padding-size data_end, length-map_bytes (map_of K map_off), map_of-size K map_off)
 
 -- the file is at least as long as its header
 pub file-least : (K : Ordered) → 112 ≤ length (with_sums (unsigned_file K))
 unfolding unsigned_file
-file-least K =
-    let data_end = end (directory_section K) in
-    let map_off = round_up 4 data_end in
-    let map_list = map_bytes (map_of K map_off) in
-    let file_size = map_off + length map_list in
-    let rest = table_bytes K ++ (flat_map section_bytes (data_sections K) ++ (padding 4 data_end ++ map_list)) in
-    omega (arith, with_sums-size (unsigned_file K), length-append (header_bytes K map_off file_size) rest, header-size K map_off file_size)
+file-least K = omega (arith, with_sums-size (unsigned_file K), length-append {A = ℕ}, length-header_bytes K)
 
 -- ---- classes in order
 

@@ -42,13 +42,6 @@ is_at_in {b} {x} {y} {o} {p} h k = record { here = ap (λ (z : List ℕ). take (
 pub is_at : {b x : List ℕ} {o p : ℕ} → o ≡ p → BytesAt b o x → BytesAt b p x
 is_at {b} {x} e h = subst (λ o. BytesAt b o x) e h
 
--- the i-th of pieces in sequence
-pub is_at_piece : {X : Type 0} (f : X → List ℕ) (xs : List X) (i : ℕ) (d : X) → i < length xs → BytesAt (flat_map f xs) (length (flat_map f (take i xs))) (f (get_or xs i d))
-is_at_piece f [] i d lt = absurd (omega arith)
-is_at_piece f (x ∷ xs) zero d lt = is_at_first (f x) (flat_map f xs)
-is_at_piece f (x ∷ xs) (suc i) d lt =
-    is_at (sym (length-append (f x) (flat_map f (take i xs)))) (is_at_later (f x) (is_at_piece f xs i d (omega arith)))
-
 -- the i-th of pieces of one size
 pub is_at_row : {X : Type 0} (f : X → List ℕ) (w : ℕ) → ((x : X) → length (f x) ≡ w) → (xs : List X) (i : ℕ) (d : X) → i < length xs → BytesAt (flat_map f xs) (w * i) (f (get_or xs i d))
 is_at_row f w each [] i d lt = absurd (omega arith)

@@ -135,14 +135,8 @@ sum_by-filter f p xs = omega (arith, sum_by-filter_both p (λ x. not (p x)) (λ 
 -- a list without its repeats counts at most as much
 pub sum_by-distinct : {X : Type 0} (f : X → ℕ) (same : X → X → Bool) (xs : List X) → sum_by f (distinct same xs) ≤ sum_by f xs
 sum_by-distinct f same [] = omega arith
-sum_by-distinct f same (x ∷ xs) =
-    omega (
-      arith,
-      sum_by-cons f x (filter (λ y. not (same x y)) (distinct same xs)),
-      sum_by-cons f x xs,
-      sum_by-filter f (λ y. not (same x y)) (distinct same xs),
-      sum_by-distinct f same xs,
-    )
+sum_by-distinct {X} f same (x ∷ xs) =
+    omega (arith, sum_by-cons {X = X}, sum_by-filter f (λ y. not (same x y)) (distinct same xs), sum_by-distinct f same xs)
 
 -- the items of uses count at most as much as the uses
 pub sum_by-items : {X : Type 0} (how : Sharing) (same : X → X → Bool) (f : X → ℕ) (uses : List (Option X)) → sum_by f (items_by how same uses).written ≤ sum_by f (present uses)

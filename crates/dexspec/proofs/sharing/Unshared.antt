@@ -17,24 +17,7 @@ use Rattle.dexspec.proofs.sharing.Shorter.{IsCovered, covered_itself, covered_th
 
 code_same : (m : Mentions) (c : Code) (o p : ℕ) → length (code_bytes m o c) ≤ length (code_bytes m p c)
 unfolding code_bytes
-code_same m c o p =
-    let units = flat_map (piece_units m) c.pieces in
-    let x6 = uint (length units) ++ (flat_map ushort units ++ tries_bytes m (length units) c.tries) in
-    let size : (off : ℕ) → length (ushort c.registers ++ (ushort c.ins ++ (ushort c.outs ++ (ushort (length c.tries) ++ (uint off ++ x6))))) ≡ 12 + length x6 = λ off.
-    omega (
-      arith,
-      length-append (ushort c.registers) (ushort c.ins ++ (ushort c.outs ++ (ushort (length c.tries) ++ (uint off ++ x6)))),
-      length-append (ushort c.ins) (ushort c.outs ++ (ushort (length c.tries) ++ (uint off ++ x6))),
-      length-append (ushort c.outs) (ushort (length c.tries) ++ (uint off ++ x6)),
-      length-append (ushort (length c.tries)) (uint off ++ x6),
-      length-append (uint off) x6,
-      length-ushort c.registers,
-      length-ushort c.ins,
-      length-ushort c.outs,
-      length-ushort (length c.tries),
-      length-uint off,
-    ) in
-    omega (arith, size o, size p)
+code_same m c o p = omega (arith, length-append {A = ℕ}, length-uint)
 
 -- code with the offset of its debug program
 abbrev code_item : Mentions → Code × ℕ → List ℕ
@@ -71,18 +54,7 @@ methods_most (x ∷ xs) [] os ps h = omega arith
 methods_most (x ∷ xs) (d ∷ ds) [] [] h = omega arith
 methods_most (x ∷ xs) (d ∷ ds) [] (p ∷ ps) h = absurd h
 methods_most (x ∷ xs) (d ∷ ds) (o ∷ os) [] h = absurd h
-methods_most (x ∷ xs) (d ∷ ds) (o ∷ os) (p ∷ ps) h =
-    omega (
-      arith,
-      length-append (encoded_method_bytes x (d, o)) (concat (zip_with encoded_method_bytes xs (zip ds os))),
-      length-append (encoded_method_bytes x (d, p)) (concat (zip_with encoded_method_bytes xs (zip ds ps))),
-      length-append (uleb128 d) (uleb128 x.flags ++ uleb128 o),
-      length-append (uleb128 x.flags) (uleb128 o),
-      length-append (uleb128 d) (uleb128 x.flags ++ uleb128 p),
-      length-append (uleb128 x.flags) (uleb128 p),
-      uleb128_most o p h.0,
-      methods_most xs ds os ps h.1,
-    )
+methods_most (x ∷ xs) (d ∷ ds) (o ∷ os) (p ∷ ps) h = omega (arith, length-append {A = ℕ}, uleb128_most o p h.0, methods_most xs ds os ps h.1)
 
 class_data_most : (m : Mentions) (d : Definition) (os ps : List ℕ) → AreBelow os ps → length (class_data_bytes m d os) ≤ length (class_data_bytes m d ps)
 unfolding class_data_bytes
@@ -90,30 +62,7 @@ class_data_most m (name, c) os ps h =
     let n = length c.direct_methods in
     let direct = differences 0 (map (λ x. method_index m (method_of name x)) c.direct_methods) in
     let virtual = differences 0 (map (λ x. method_index m (method_of name x)) c.virtual_methods) in
-    let x1 = uleb128 (length c.static_fields) in
-    let x2 = uleb128 (length c.instance_fields) in
-    let x3 = uleb128 n in
-    let x4 = uleb128 (length c.virtual_methods) in
-    let x5 = encoded_fields_bytes m name c.static_fields in
-    let x6 = encoded_fields_bytes m name c.instance_fields in
-    let size : (y z : List ℕ) → length (x1 ++ (x2 ++ (x3 ++ (x4 ++ (x5 ++ (x6 ++ (y ++ z))))))) ≡ length x1 + (length x2 + (length x3 + (length x4 + (length x5 + (length x6 + (length y + length z)))))) = λ y z.
-    omega (
-      arith,
-      length-append x1 (x2 ++ (x3 ++ (x4 ++ (x5 ++ (x6 ++ (y ++ z)))))),
-      length-append x2 (x3 ++ (x4 ++ (x5 ++ (x6 ++ (y ++ z))))),
-      length-append x3 (x4 ++ (x5 ++ (x6 ++ (y ++ z)))),
-      length-append x4 (x5 ++ (x6 ++ (y ++ z))),
-      length-append x5 (x6 ++ (y ++ z)),
-      length-append x6 (y ++ z),
-      length-append y z,
-    ) in
-    omega (
-      arith,
-      size (encoded_methods_bytes m name c.direct_methods (take n os)) (encoded_methods_bytes m name c.virtual_methods (drop n os)),
-      size (encoded_methods_bytes m name c.direct_methods (take n ps)) (encoded_methods_bytes m name c.virtual_methods (drop n ps)),
-      methods_most c.direct_methods direct (take n os) (take n ps) (take_below n os ps h),
-      methods_most c.virtual_methods virtual (drop n os) (drop n ps) (drop_below n os ps h),
-    )
+    omega (arith, length-append {A = ℕ}, methods_most c.direct_methods direct (take n os) (take n ps) (take_below n os ps h), methods_most c.virtual_methods virtual (drop n os) (drop n ps) (drop_below n os ps h))
 
 -- a class with the offsets of its code
 abbrev data_item : Mentions → Definition × List ℕ → List ℕ
@@ -269,24 +218,7 @@ sum_equivalent o p n k (inl h) e = zero_equivalent (o + n) (p + k) (by n k e h)
 sum_equivalent o p n k (inr h) e = zero_equivalent (o + n) (p + k) (inr (omega (arith, h.0), omega (arith, h.1)))
 
 directory_parts : (own : ℕ) (x y z : List (ℕ × ℕ)) → length (uint own ++ (uint (length x) ++ (uint (length y) ++ (uint (length z) ++ (pairs_bytes x ++ (pairs_bytes y ++ pairs_bytes z)))))) ≡ 16 + (8 * length x + (8 * length y + 8 * length z))
-directory_parts own x y z =
-    let w5 = pairs_bytes x ++ (pairs_bytes y ++ pairs_bytes z) in
-    omega (
-      arith,
-      length-append (uint own) (uint (length x) ++ (uint (length y) ++ (uint (length z) ++ w5))),
-      length-append (uint (length x)) (uint (length y) ++ (uint (length z) ++ w5)),
-      length-append (uint (length y)) (uint (length z) ++ w5),
-      length-append (uint (length z)) w5,
-      length-append (pairs_bytes x) (pairs_bytes y ++ pairs_bytes z),
-      length-append (pairs_bytes y) (pairs_bytes z),
-      length-uint own,
-      length-uint (length x),
-      length-uint (length y),
-      length-uint (length z),
-      length-pairs_bytes x,
-      length-pairs_bytes y,
-      length-pairs_bytes z,
-    )
+directory_parts own x y z = omega (arith, length-append {A = ℕ}, length-uint, length-pairs_bytes)
 
 directory_use : (m : Mentions) (d : Definition) (s t : SetOffsets) (os ps : List ℕ) → AreSetsEquivalent s t → AllEquivalent os ps → IsCoveredUse bytes bytes (directory_bytes m d s os) (directory_bytes m d t ps)
 directory_use m (name, c) s t os ps h k =
@@ -340,13 +272,8 @@ sections_most [] [] h = omega arith
 sections_most [] (q ∷ qs) h = absurd h
 sections_most (p ∷ ps) [] h = absurd h
 sections_most (p ∷ ps) (q ∷ qs) h =
-    omega (
-      arith,
-      length-append (section_entry p) (flat_map section_entry ps),
-      length-append (section_entry q) (flat_map section_entry qs),
-      entry_most (length p.items) (length q.items) (p.kind, length p.items, slice_index (offsets p) 0) (q.kind, length q.items, slice_index (offsets q) 0) h.0,
-      sections_most ps qs h.1,
-    )
+    let one = entry_most (length p.items) (length q.items) (p.kind, length p.items, slice_index (offsets p) 0) (q.kind, length q.items, slice_index (offsets q) 0) h.0 in
+    omega (arith, length-append {A = Section × ℕ × ℕ}, one, sections_most ps qs h.1)
 
 -- the entries of tables
 abbrev table_entries : Ordered → List (Section × ℕ × ℕ)
@@ -360,27 +287,8 @@ file_length : (K : Ordered) → 32 + length (unsigned_file K) ≡ round_up 4 (en
 unfolding unsigned_file
 file_length K =
     let data_end = end (directory_section K) in
-    let map_off = round_up 4 data_end in
-    let entries = map_of K map_off in
-    let list = map_bytes entries in
-    let header = header_bytes K map_off (map_off + length list) in
-    let sections = flat_map section_bytes (data_sections K) in
-    let gap = padding 4 data_end in
-    let rest : List (Section × ℕ × ℕ) = (MapList, 1, map_off) ∷ [] in
-    omega (
-      arith,
-      length-append header (table_bytes K ++ (sections ++ (gap ++ list))),
-      length-append (table_bytes K) (sections ++ (gap ++ list)),
-      length-append sections (gap ++ list),
-      length-append gap list,
-      length-header_bytes K map_off (map_off + length list),
-      length-table_bytes K,
-      length-sections (data_start K) (data_sections K) (end (directory_section K)) (sections_follow K),
-      length-padding 4 data_end,
-      length-map_bytes entries,
-      length-append (table_entries K) (flat_map section_entry (data_sections K) ++ rest),
-      length-append (flat_map section_entry (data_sections K)) rest,
-    )
+    let last = length-sections (data_start K) (data_sections K) data_end (sections_follow K) in
+    omega (arith, length-append {A = ℕ}, length-append {A = Section × ℕ × ℕ}, length-header_bytes K, length-table_bytes K, last, length-padding 4 data_end, length-map_bytes (map_of K (round_up 4 data_end)))
 
 -- ---- the sections of both forms
 

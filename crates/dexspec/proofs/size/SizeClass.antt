@@ -29,36 +29,9 @@ methods-size m class xs offs = zipped-size encoded_method_bytes 15 xs (zip (diff
 pub class_data_bytes-size : (m : Mentions) (d : Definition) (offs : List ℕ) → length (class_data_bytes m d offs) ≤ 20 + 10 * length (declared_fields d.1) + 15 * length (declared_methods d.1)
 unfolding class_data_bytes
 class_data_bytes-size m (name, c) offs =
-    let direct_offs = take (length c.direct_methods) offs in
-    let virtual_offs = drop (length c.direct_methods) offs in
-    let x8 = encoded_methods_bytes m name c.virtual_methods virtual_offs in
-    let x7 = encoded_methods_bytes m name c.direct_methods direct_offs in
-    let x6 = encoded_fields_bytes m name c.instance_fields in
-    let x5 = encoded_fields_bytes m name c.static_fields in
-    let x4 = uleb128 (length c.virtual_methods) in
-    let x3 = uleb128 (length c.direct_methods) in
-    let x2 = uleb128 (length c.instance_fields) in
-    let x1 = uleb128 (length c.static_fields) in
-    omega (
-      arith,
-      length-append x1 (x2 ++ (x3 ++ (x4 ++ (x5 ++ (x6 ++ (x7 ++ x8)))))),
-      length-append x2 (x3 ++ (x4 ++ (x5 ++ (x6 ++ (x7 ++ x8))))),
-      length-append x3 (x4 ++ (x5 ++ (x6 ++ (x7 ++ x8)))),
-      length-append x4 (x5 ++ (x6 ++ (x7 ++ x8))),
-      length-append x5 (x6 ++ (x7 ++ x8)),
-      length-append x6 (x7 ++ x8),
-      length-append x7 x8,
-      uleb128-size (length c.static_fields),
-      uleb128-size (length c.instance_fields),
-      uleb128-size (length c.direct_methods),
-      uleb128-size (length c.virtual_methods),
-      fields-size m name c.static_fields,
-      fields-size m name c.instance_fields,
-      methods-size m name c.direct_methods direct_offs,
-      methods-size m name c.virtual_methods virtual_offs,
-      length-append c.static_fields c.instance_fields,
-      length-append c.direct_methods c.virtual_methods,
-    )
+    let direct = methods-size m name c.direct_methods (take (length c.direct_methods) offs) in
+    let virtual = methods-size m name c.virtual_methods (drop (length c.direct_methods) offs) in
+    omega (arith, length-append {A = ℕ}, length-append {A = FieldDef}, length-append {A = MethodDef}, uleb128-size, fields-size m name c.static_fields, fields-size m name c.instance_fields, direct, virtual)
 
 -- ---- directories
 
@@ -103,46 +76,17 @@ unless-size false n xs h = h
 
 parts-size : (own : ℕ) (a b c : List (ℕ × ℕ))
     → length (uint own ++ (uint (length a) ++ (uint (length b) ++ (uint (length c) ++ (pairs_bytes a ++ (pairs_bytes b ++ pairs_bytes c)))))) ≤ 16 + 8 * length a + 8 * length b + 8 * length c
-parts-size own a b c =
-    let x5 = pairs_bytes a ++ (pairs_bytes b ++ pairs_bytes c) in
-    let x4 = uint (length c) ++ x5 in
-    let x3 = uint (length b) ++ x4 in
-    let x2 = uint (length a) ++ x3 in
-    omega (
-      arith,
-      length-append (uint own) x2,
-      length-append (uint (length a)) x3,
-      length-append (uint (length b)) x4,
-      length-append (uint (length c)) x5,
-      length-append (pairs_bytes a) (pairs_bytes b ++ pairs_bytes c),
-      length-append (pairs_bytes b) (pairs_bytes c),
-      length-uint own,
-      length-uint (length a),
-      length-uint (length b),
-      length-uint (length c),
-      pairs_bytes-size a,
-      pairs_bytes-size b,
-      pairs_bytes-size c,
-    )
+parts-size own a b c = omega (arith, length-append {A = ℕ}, length-uint, pairs_bytes-size a, pairs_bytes-size b, pairs_bytes-size c)
 
 pub directory_bytes-size : (m : Mentions) (d : Definition) (sets : SetOffsets) (refs : List ℕ) → or_zero (λ (x : List ℕ). length x) (directory_bytes m d sets refs) ≤ 16 + 8 * length (declared_fields d.1) + 16 * length (declared_methods d.1)
 directory_bytes-size m (name, c) sets refs =
     let field_indices = map (λ f. field_index m (field_of name f)) (declared_fields c) in
     let method_indices = map (λ x. method_index m (method_of name x)) (declared_methods c) in
-    let method_sets = map (λ (offs : List ℕ). slice_index offs 0) sets.methods in
     let a = pairs field_indices sets.fields in
-    let b = pairs method_indices method_sets in
+    let b = pairs method_indices (map (λ (offs : List ℕ). slice_index offs 0) sets.methods) in
     let p = pairs method_indices refs in
     unless-size (sets.own + (length a + (length b + length p)) == 0) (16 + 8 * length (declared_fields c) + 16 * length (declared_methods c)) _
-    (omega (
-      arith,
-      parts-size sets.own a b p,
-      pairs-size field_indices sets.fields,
-      pairs-size method_indices method_sets,
-      pairs-size method_indices refs,
-      map-length (λ f. field_index m (field_of name f)) (declared_fields c),
-      map-length (λ x. method_index m (method_of name x)) (declared_methods c),
-    ))
+    (omega (arith, parts-size sets.own a b p, pairs-size, map-length (λ f. field_index m (field_of name f)) (declared_fields c), map-length (λ x. method_index m (method_of name x)) (declared_methods c)))
 
 some-within : (n : ℕ) (o : Option (List ℕ)) → or_zero (λ (x : List ℕ). length x) o ≤ n → IfSome o (λ bytes. length bytes ≤ n)
 some-within n None h = tt

@@ -51,23 +51,11 @@ method-cover x = omega (arith, code-cover x.code, set-cover x.annotations, refs-
 
 methods-cover : (xs : List MethodDef) → 31 * length xs + sum_by debug_part xs + sum_by code_part xs + sum_by (method_sum items_part) xs + sum_by (method_sum set_part) xs + sum_by (λ x. refs_part x.parameter_annotations) xs ≤ sum_by method_weight xs
 methods-cover [] = omega arith
-methods-cover (x ∷ xs) =
-    omega (
-      arith,
-      sum_by-cons debug_part x xs,
-      sum_by-cons code_part x xs,
-      sum_by-cons (method_sum items_part) x xs,
-      sum_by-cons (method_sum set_part) x xs,
-      sum_by-cons (λ (y : MethodDef). refs_part y.parameter_annotations) x xs,
-      sum_by-cons method_weight x xs,
-      method-cover x,
-      methods-cover xs,
-    )
+methods-cover (x ∷ xs) = omega (arith, sum_by-cons {X = MethodDef}, method-cover x, methods-cover xs)
 
 fields-cover : (fs : List FieldDef) → 18 * length fs + sum_by (λ f. items_part f.annotations) fs + sum_by (λ f. set_part f.annotations) fs ≤ sum_by field_weight fs
 fields-cover [] = omega arith
-fields-cover (f ∷ fs) =
-    omega (arith, sum_by-cons (λ (g : FieldDef). items_part g.annotations) f fs, sum_by-cons (λ (g : FieldDef). set_part g.annotations) f fs, sum_by-cons field_weight f fs, set-cover f.annotations, fields-cover fs)
+fields-cover (f ∷ fs) = omega (arith, sum_by-cons {X = FieldDef}, set-cover f.annotations, fields-cover fs)
 
 -- ---- classes
 
@@ -78,16 +66,8 @@ method_sets-sum f (x ∷ xs) =
 
 class_sets-sum : (f : AnnotationSet → ℕ) (d : Definition) → sum_by f (class_sets d) ≡ f d.1.annotations + sum_by (λ x. f x.annotations) (declared_fields d.1) + sum_by (method_sum f) (declared_methods d.1)
 class_sets-sum f d =
-    let fields = map (λ (x : FieldDef). x.annotations) (declared_fields d.1) in
-    let methods = flat_map method_sets (declared_methods d.1) in
-    omega (
-      arith,
-      sum_by-cons f d.1.annotations (fields ++ methods),
-      sum_by-append f fields methods,
-      sum_by-map f (λ (x : FieldDef). x.annotations) (declared_fields d.1),
-      sum_by-flat_map f method_sets (declared_methods d.1),
-      method_sets-sum f (declared_methods d.1),
-    )
+    let fields = sum_by-map f (λ (x : FieldDef). x.annotations) (declared_fields d.1) in
+    omega (arith, sum_by-cons {X = AnnotationSet}, sum_by-append {X = AnnotationSet}, fields, sum_by-flat_map f method_sets (declared_methods d.1), method_sets-sum f (declared_methods d.1))
 
 class-cover : (d : Definition)
     → 32 + list_part d.1.interfaces + sum_by items_part (class_sets d) + static_values_weight d.1.static_values + sum_by debug_part (declared_methods d.1) + sum_by code_part (declared_methods d.1)
@@ -101,19 +81,4 @@ pub classes-cover : (cs : List Definition)
     + sum_by (λ d. sum_by debug_part (declared_methods d.1)) cs + sum_by (λ d. sum_by code_part (declared_methods d.1)) cs + sum_by data_part cs + sum_by (λ d. sum_by set_part (class_sets d)) cs
     + sum_by (λ d. sum_by (λ x. refs_part x.parameter_annotations) (declared_methods d.1)) cs + sum_by directory_part cs ≤ sum_by (λ d. body_weight d.1) cs
 classes-cover [] = omega arith
-classes-cover (c ∷ cs) =
-    omega (
-      arith,
-      sum_by-cons (λ (d : Definition). list_part d.1.interfaces) c cs,
-      sum_by-cons (λ (d : Definition). sum_by items_part (class_sets d)) c cs,
-      sum_by-cons (λ (d : Definition). static_values_weight d.1.static_values) c cs,
-      sum_by-cons (λ (d : Definition). sum_by debug_part (declared_methods d.1)) c cs,
-      sum_by-cons (λ (d : Definition). sum_by code_part (declared_methods d.1)) c cs,
-      sum_by-cons data_part c cs,
-      sum_by-cons (λ (d : Definition). sum_by set_part (class_sets d)) c cs,
-      sum_by-cons (λ (d : Definition). sum_by (λ (x : MethodDef). refs_part x.parameter_annotations) (declared_methods d.1)) c cs,
-      sum_by-cons directory_part c cs,
-      sum_by-cons (λ (d : Definition). body_weight d.1) c cs,
-      class-cover c,
-      classes-cover cs,
-    )
+classes-cover (c ∷ cs) = omega (arith, sum_by-cons {X = Definition}, class-cover c, classes-cover cs)

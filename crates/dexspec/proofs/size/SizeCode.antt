@@ -53,10 +53,8 @@ catch_all-size (Some address) = omega (arith, length-append (uleb128 address) []
 
 handler_bytes-size : (m : Mentions) → length m.types ≤ 65536 → (h : Handler) → length (handler_bytes m h) ≤ 10 + 8 * length h.catches
 handler_bytes-size m few h =
-    let catches = flat_map (catch_bytes m) h.catches in
-    let all = flat_map uleb128 (option_to_list h.catch_all) in
     let each = sum_by-at_most (λ c. length (catch_bytes m c)) 8 h.catches (catch_bytes-size m few) in
-    omega (arith, length-append (sleb128 (handler_count h)) (catches ++ all), length-append catches all, sleb128-size (handler_count h), length-flat_map (catch_bytes m) h.catches, each, catch_all-size h.catch_all)
+    omega (arith, length-append {A = ℕ}, sleb128-size (handler_count h), length-flat_map (catch_bytes m) h.catches, each, catch_all-size h.catch_all)
 
 pub handler_list_bytes-size : (m : Mentions) → length m.types ≤ 65536 → (hs : List Handler) → length (handler_list_bytes m hs) ≤ handlers_weight hs
 handler_list_bytes-size m few hs =
@@ -82,20 +80,16 @@ handler_off-size m hs h = omega (arith, handler_off-from m (length (uleb128 (len
 -- ---- tries
 
 try_bytes-size : (m : Mentions) (hs : List Handler) (t : Try) → length (try_bytes m hs t) ≤ 8
-try_bytes-size m hs t =
-    let off = handler_off m (length (uleb128 (length hs))) hs t.handler in
-    omega (arith, length-append (uint t.start) (ushort t.count ++ ushort off), length-append (ushort t.count) (ushort off), length-uint t.start, length-ushort t.count, length-ushort off)
+try_bytes-size m hs t = omega (arith, length-append {A = ℕ}, length-uint, length-ushort)
 
 tries_bytes-size : (m : Mentions) → length m.types ≤ 65536 → (count : ℕ) (ts : List Try) → length (tries_bytes m count ts) ≤ 2 + tries_weight ts
 tries_bytes-size m few count [] = omega arith
 tries_bytes-size m few count (t ∷ ts) =
     let all = t ∷ ts in
     let hs = handlers_of all in
-    let gap = if count % 2 == 1 then ushort 0 else [] in
-    let tries = flat_map (try_bytes m hs) all in
     let gap_size = if-size (count % 2 == 1) 2 (ushort 0) [] (omega (arith, length-ushort 0)) (omega arith) in
     let each = sum_by-at_most (λ u. length (try_bytes m hs u)) 8 all (try_bytes-size m hs) in
-    omega (arith, length-append gap (tries ++ handler_list_bytes m hs), length-append tries (handler_list_bytes m hs), gap_size, length-flat_map (try_bytes m hs) all, each, handler_list_bytes-size m few hs)
+    omega (arith, length-append {A = ℕ}, gap_size, length-flat_map (try_bytes m hs) all, each, handler_list_bytes-size m few hs)
 
 -- ---- the whole, with the bytes of its alignment
 
@@ -103,31 +97,5 @@ pub code_bytes-size : (m : Mentions) → length m.types ≤ 65536 → (debug_off
 unfolding code_bytes
 code_bytes-size m few debug_off c =
     let units = flat_map (piece_units m) c.pieces in
-    let tries = tries_bytes m (length units) c.tries in
-    let x7 = flat_map ushort units ++ tries in
-    let x6 = uint (length units) ++ x7 in
-    let x5 = uint debug_off ++ x6 in
-    let x4 = ushort (length c.tries) ++ x5 in
-    let x3 = ushort c.outs ++ x4 in
-    let x2 = ushort c.ins ++ x3 in
     let each = sum_by-at_most (λ u. length (ushort u)) 2 units (λ u. omega (arith, length-ushort u)) in
-    omega (
-      arith,
-      length-append (ushort c.registers) x2,
-      length-append (ushort c.ins) x3,
-      length-append (ushort c.outs) x4,
-      length-append (ushort (length c.tries)) x5,
-      length-append (uint debug_off) x6,
-      length-append (uint (length units)) x7,
-      length-append (flat_map ushort units) tries,
-      length-ushort c.registers,
-      length-ushort c.ins,
-      length-ushort c.outs,
-      length-ushort (length c.tries),
-      length-uint debug_off,
-      length-uint (length units),
-      length-flat_map ushort units,
-      each,
-      length-units m c.pieces,
-      tries_bytes-size m few (length units) c.tries,
-    )
+    omega (arith, length-append {A = ℕ}, length-ushort, length-uint, length-flat_map ushort units, each, length-units m c.pieces, tries_bytes-size m few (length units) c.tries)

@@ -26,7 +26,7 @@ pub string_data-size : (s : Text) → length (string_data s) + 4 ≤ text_weight
 string_data-size s =
     let count = uleb128-size (length s) in
     let units = sum_by-at_most (λ u. length (form u)) 3 s form-size in
-    omega (arith, length-append (uleb128 (length s)) (spelling s ++ 0 ∷ []), length-append (spelling s) (0 ∷ []), length-flat_map form s, count, units)
+    omega (arith, length-append {A = ℕ}, length-flat_map form s, count, units)
 
 -- ---- debug programs
 
@@ -39,15 +39,8 @@ optional_type-size m t = uleb128-size (plus_one (option_map (type_index m) t))
 operation-size : (m : Mentions) (op : Operation) → length (operation_bytes m op) ≤ 1 + 5 * operands op
 operation-size m (AdvancePc addresses) = omega (arith, uleb128-size addresses)
 operation-size m (AdvanceLine lines) = omega (arith, sleb128-size lines)
-operation-size m (StartLocal register name type) =
-    let b = optional_text_bytes m name in
-    let c = optional_type_bytes m type in
-    omega (arith, length-append (uleb128 register) (b ++ c), length-append b c, uleb128-size register, optional_text-size m name, optional_type-size m type)
-operation-size m (StartLocalExtended register name type signature) =
-    let b = optional_text_bytes m name in
-    let c = optional_type_bytes m type in
-    let d = optional_text_bytes m signature in
-    omega (arith, length-append (uleb128 register) (b ++ (c ++ d)), length-append b (c ++ d), length-append c d, uleb128-size register, optional_text-size m name, optional_type-size m type, optional_text-size m signature)
+operation-size m (StartLocal register name type) = omega (arith, length-append {A = ℕ}, uleb128-size register, optional_text-size m name, optional_type-size m type)
+operation-size m (StartLocalExtended register name type signature) = omega (arith, length-append {A = ℕ}, uleb128-size register, optional_text-size m name, optional_type-size m type, optional_text-size m signature)
 operation-size m (EndLocal register) = omega (arith, uleb128-size register)
 operation-size m (RestartLocal register) = omega (arith, uleb128-size register)
 operation-size m SetPrologueEnd = omega arith
@@ -58,25 +51,9 @@ operation-size m (Special opcode) = omega arith
 pub debug_bytes-size : (m : Mentions) (d : Debug) → length (debug_bytes m d) ≤ debug_weight d
 unfolding debug_bytes
 debug_bytes-size m d =
-    let names = flat_map (optional_text_bytes m) d.parameter_names in
-    let ops = flat_map (operation_bytes m) d.operations in
-    let rest = names ++ (ops ++ 0x00 ∷ []) in
-    let count = uleb128 (length d.parameter_names) in
     let each = sum_by-at_most (λ s. length (optional_text_bytes m s)) 5 d.parameter_names (optional_text-size m) in
     let all = sum_by-le-sum_by (λ op. length (operation_bytes m op)) (λ op. 1 + 5 * operands op) d.operations (operation-size m) in
-    omega (
-      arith,
-      length-append (uleb128 d.line_start) (count ++ rest),
-      length-append count rest,
-      length-append names (ops ++ 0x00 ∷ []),
-      length-append ops (0x00 ∷ []),
-      uleb128-size d.line_start,
-      uleb128-size (length d.parameter_names),
-      length-flat_map (optional_text_bytes m) d.parameter_names,
-      length-flat_map (operation_bytes m) d.operations,
-      each,
-      all,
-    )
+    omega (arith, length-append {A = ℕ}, uleb128-size, length-flat_map (optional_text_bytes m) d.parameter_names, length-flat_map (operation_bytes m) d.operations, each, all)
 
 -- ---- values and annotations
 
@@ -116,16 +93,7 @@ mutual
   value_bytes-size m (MethodValue x) = unsigned_bytes-size 0x1a (method_index m x)
   value_bytes-size m (EnumValue f) = unsigned_bytes-size 0x1b (field_index m f)
   value_bytes-size m (ArrayValue vs) = omega (arith, length-append (uleb128 (count_values vs)) (values_bytes m vs), uleb128-size (count_values vs), values_bytes-size m vs)
-  value_bytes-size m (AnnotationValue t es) =
-      let count = uleb128 (length (names_of es)) in
-      omega (
-        arith,
-        length-append (uleb128 (type_index m t)) (count ++ elements_bytes m es),
-        length-append count (elements_bytes m es),
-        uleb128-size (type_index m t),
-        uleb128-size (length (names_of es)),
-        elements_bytes-size m es,
-      )
+  value_bytes-size m (AnnotationValue t es) = omega (arith, length-append {A = ℕ}, uleb128-size, elements_bytes-size m es)
   value_bytes-size m NullValue = omega arith
   value_bytes-size m (BooleanValue is) = omega arith
 
@@ -135,32 +103,13 @@ mutual
 
   pub elements_bytes-size : (m : Mentions) (es : Elements) → length (elements_bytes m es) ≤ elements_weight es
   elements_bytes-size m NoElements = omega arith
-  elements_bytes-size m (ThenElement name v es) =
-      omega (
-        arith,
-        length-append (uleb128 (text_index m name)) (value_bytes m v ++ elements_bytes m es),
-        length-append (value_bytes m v) (elements_bytes m es),
-        uleb128-size (text_index m name),
-        value_bytes-size m v,
-        elements_bytes-size m es,
-      )
+  elements_bytes-size m (ThenElement name v es) = omega (arith, length-append {A = ℕ}, uleb128-size, value_bytes-size m v, elements_bytes-size m es)
 
 pub encoded_array_bytes-size : (m : Mentions) (v : Value) (vs : Values) → length (encoded_array_bytes m (ThenValue v vs)) ≤ static_values_weight (ThenValue v vs)
-encoded_array_bytes-size m v vs =
-    let all = ThenValue v vs in
-    omega (arith, length-append (uleb128 (count_values all)) (values_bytes m all), uleb128-size (count_values all), values_bytes-size m all)
+encoded_array_bytes-size m v vs = omega (arith, length-append {A = ℕ}, uleb128-size, values_bytes-size m (ThenValue v vs))
 
 pub annotation_bytes-size : (m : Mentions) (a : Annotation) → length (annotation_bytes m a) ≤ annotation_weight a
-annotation_bytes-size m a =
-    let count = uleb128 (length (names_of a.elements)) in
-    omega (
-      arith,
-      length-append (uleb128 (type_index m a.type)) (count ++ elements_bytes m a.elements),
-      length-append count (elements_bytes m a.elements),
-      uleb128-size (type_index m a.type),
-      uleb128-size (length (names_of a.elements)),
-      elements_bytes-size m a.elements,
-    )
+annotation_bytes-size m a = omega (arith, length-append {A = ℕ}, uleb128-size, elements_bytes-size m a.elements)
 
 -- ---- lists of offsets and of types
 

@@ -61,22 +61,7 @@ directory_written b o own fs ms ps d short following aligned own_is fields metho
     let r3 = n3 ++ r4 in
     let r2 = n2 ++ r3 in
     let r1 = n1 ++ r2 in
-    let size : length (n0 ++ r1) ≡ 16 + 8 * (length fs + length ms + length ps) = omega (
-      arith,
-      length-append n0 r1,
-      length-append n1 r2,
-      length-append n2 r3,
-      length-append n3 r4,
-      length-append x0 r5,
-      length-append x1 x2,
-      length-uint own,
-      length-uint (length fs),
-      length-uint (length ms),
-      length-uint (length ps),
-      pairs_size fs,
-      pairs_size ms,
-      pairs_size ps,
-    ) in
+    let size : length (n0 ++ r1) ≡ 16 + 8 * (length fs + length ms + length ps) = omega (arith, length-append {A = ℕ}, length-uint, pairs_size) in
     let within : 16 + 8 * (length fs + length ms + length ps) ≤ length b - o = omega (arith, size, is_at_within h) in
     let h1 : BytesAt b (o + 4) r1 = is_at (omega (arith, length-uint own)) (suffix_is_at n0 r1 h) in
     let h2 : BytesAt b (o + 8) r2 = is_at (omega (arith, length-uint (length fs))) (suffix_is_at n1 r2 h1) in

@@ -75,9 +75,8 @@ module _ (us : List ℕ) (cuts : List Cut) where
   -- one catch-all address, or none
   one_catch_all : (size : ℤ) (b : List ℕ) (o : ℕ) (c d : Option ℕ) (n k : ℕ) → CatchAllAt us cuts size b o c n → CatchAllAt us cuts size b o d k → (c ≡ d) × (n ≡ k)
   one_catch_all size b o None None n k h g = (refl, h.1 ∙ sym g.1)
-  one_catch_all size b o None (Some d) n k h g = absurd (omega (arith, ints, h.0, g.0))
-  one_catch_all size b o (Some c) None n k h g = absurd (omega (arith, ints, h.0, g.0))
   one_catch_all size b o (Some c) (Some d) n k h g = let e = one_uleb128 b o c d n k h.1 g.1 in (ap Some e.0, e.1)
+  one_catch_all size b o _ _ n k h g = absurd (omega (arith, ints, h.0, g.0))
 
   -- one handler
   pub one_handler : (b : List ℕ) (o : ℕ) (x y : Handler) (n k : ℕ) → HandlerAt us cuts b o x n → HandlerAt us cuts b o y k → (x ≡ y) × (n ≡ k)

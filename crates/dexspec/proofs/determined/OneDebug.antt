@@ -12,11 +12,10 @@ use Rattle.dexspec.proofs.determined.OneRow.{one_string, one_type}
 -- the value of a row, or nothing without an index
 one_both : {X : Type 0} (R : ℕ → X → Type 0) → ((i : ℕ) (x y : X) → R i x → R i y → x ≡ y) → (i : Option ℕ) (x y : Option X) → BothOrNone R i x → BothOrNone R i y → x ≡ y
 one_both R one None None None h g = refl
-one_both R one None None (Some y) h g = absurd g
 one_both R one None (Some x) y h g = absurd h
 one_both R one (Some i) None y h g = absurd h
-one_both R one (Some i) (Some x) None h g = absurd g
 one_both R one (Some i) (Some x) (Some y) h g = ap Some (one i x y h g)
+one_both _ one _ _ _ h g = absurd g
 
 -- an optional index has at most one value
 one_optional : {X : Type 0} (Row : List ℕ → ℕ → X → Type 0) → ((b : List ℕ) (i : ℕ) (x y : X) → Row b i x → Row b i y → x ≡ y)
@@ -108,16 +107,8 @@ record ByOpcode (b : List ℕ) (o : ℕ) (op : Operation) : Type 0 where
 
 -- each operation in a file is determined by its opcode
 by_opcode : (b : List ℕ) (o : ℕ) (op : Operation) (n : ℕ) → OperationAt b o op n → ByOpcode b o op
-by_opcode b o (AdvancePc addresses) n h = record { encodes = h.0; some = omega arith; own = refl }
-by_opcode b o (AdvanceLine lines) n h = record { encodes = h.0; some = omega arith; own = refl }
-by_opcode b o (StartLocal register name type) n h = record { encodes = h.0; some = omega arith; own = refl }
-by_opcode b o (StartLocalExtended register name type signature) n h = record { encodes = h.0; some = omega arith; own = refl }
-by_opcode b o (EndLocal register) n h = record { encodes = h.0; some = omega arith; own = refl }
-by_opcode b o (RestartLocal register) n h = record { encodes = h.0; some = omega arith; own = refl }
-by_opcode b o SetPrologueEnd n h = record { encodes = h.0; some = omega arith; own = refl }
-by_opcode b o SetEpilogueBegin n h = record { encodes = h.0; some = omega arith; own = refl }
-by_opcode b o (SetFile name) n h = record { encodes = h.0; some = omega arith; own = refl }
 by_opcode b o (Special opcode) n h = record { encodes = h.0; some = omega (arith, h.1); own = special_code opcode (Special opcode) h.1 }
+by_opcode b o _ n h = record { encodes = h.0; some = omega arith; own = refl }
 
 -- operations at one offset have the same kind
 same_kind : (b : List ℕ) (o : ℕ) (x y : Operation) (n k : ℕ) → OperationAt b o x n → OperationAt b o y k → y ≡ with_opcode (opcode_of x) y

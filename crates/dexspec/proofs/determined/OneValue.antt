@@ -42,10 +42,9 @@ one_index Row one code b o x y n k h g =
 
 -- a boolean is in the argument of its first byte
 one_boolean : (b : List ℕ) (o : ℕ) (x y : Bool) (n k : ℕ) → ValueAt b o (BooleanValue x) n → ValueAt b o (BooleanValue y) k → (x ≡ y) × (n ≡ k)
-one_boolean b o false false n k h g = (refl, h.1 ∙ sym g.1)
 one_boolean b o false true n k h g = absurd (let e = same_first (value_byte 0 0x1f) (value_byte 1 0x1f) [] [] h.0 g.0 in omega arith)
 one_boolean b o true false n k h g = absurd (let e = same_first (value_byte 1 0x1f) (value_byte 0 0x1f) [] [] h.0 g.0 in omega arith)
-one_boolean b o true true n k h g = (refl, h.1 ∙ sym g.1)
+one_boolean b o _ _ n k h g = (refl, h.1 ∙ sym g.1)
 
 -- ---- the kinds of value, by type code
 
@@ -159,21 +158,7 @@ with_code c v =
 -- with its own type code a value is itself
 with_own_code : (v : Value) → with_code (code_of v) v ≡ v
 with_own_code (ByteValue z) = refl
-with_own_code (ShortValue z) = refl
-with_own_code (CharValue u) = refl
-with_own_code (IntValue z) = refl
-with_own_code (LongValue z) = refl
-with_own_code (FloatValue bits) = refl
-with_own_code (DoubleValue bits) = refl
-with_own_code (StringValue s) = refl
-with_own_code (TypeValue t) = refl
-with_own_code (FieldValue f) = refl
-with_own_code (MethodValue m) = refl
-with_own_code (EnumValue f) = refl
-with_own_code (ArrayValue vs) = refl
-with_own_code (AnnotationValue t es) = refl
-with_own_code NullValue = refl
-with_own_code (BooleanValue is) = refl
+with_own_code _ = refl
 
 -- values at one offset have the same kind
 same_kind : (b : List ℕ) (o : ℕ) (v w : Value) (n k : ℕ) → ValueAt b o v n → ValueAt b o w k → w ≡ with_code (code_of v) w

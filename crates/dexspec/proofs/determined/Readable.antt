@@ -111,12 +111,11 @@ module _ {X : Type 0} (P : ℕ → X → Type 0) where
   -- each member is the value of a row
   pub row_of : (n a : ℕ) (xs : List X) → AllZip P (range_with_len a n) xs → (x : X) → Contains xs x → (r : ℕ) × (a ≤ r) × (r < a + n) × P r x
   row_of zero a [] h x c = absurd (Contains-nil x c)
-  row_of zero a (y ∷ xs) h x c = absurd h
-  row_of (suc n) a [] h x c = absurd h
   row_of (suc n) a (y ∷ xs) h x c = elim (Contains-cons_cases y x xs c) [
     | inl e ↦ (a, omega arith, omega arith, subst (P a) e h.0)
     | inr l ↦ let s = row_of n (a + 1) xs h.1 x l in (s.0, omega (arith, s.1), omega (arith, s.2), s.3)
   ]
+  row_of _ a _ h x c = absurd h
 
   -- each row has a value
   pub member_of : (n a : ℕ) (xs : List X) → AllZip P (range_with_len a n) xs → (r : ℕ) → a ≤ r → r < a + n → (x : X) × Contains xs x × P r x

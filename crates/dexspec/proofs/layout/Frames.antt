@@ -32,28 +32,15 @@ file_frame K few most = each
     each Condition.Signature lt r at = with_sums_signature rest
     each Condition.Layout lt r at = laid_layout h few
     each Condition.Map lt r at = laid_map h
-    each Condition.Strings lt r at = absurd (omega (arith, lt))
-    each Condition.Types lt r at = absurd (omega (arith, lt))
-    each Condition.Protos lt r at = absurd (omega (arith, lt))
-    each Condition.Fields lt r at = absurd (omega (arith, lt))
-    each Condition.Methods lt r at = absurd (omega (arith, lt))
-    each Condition.Classes lt r at = absurd (omega (arith, lt))
-    each Condition.Members lt r at = absurd (omega (arith, lt))
-    each Condition.Code lt r at = absurd (omega (arith, lt))
-    each Condition.Tries lt r at = absurd (omega (arith, lt))
-    each Condition.Debug lt r at = absurd (omega (arith, lt))
-    each Condition.Values lt r at = absurd (omega (arith, lt))
-    each Condition.Annotations lt r at = absurd (omega (arith, lt))
-    each Condition.Weight lt r at = absurd (omega (arith, lt))
+    each _ lt r at = absurd (omega (arith, lt))
 
 -- a collection that fits caps has few symbols
 pub fits_few : (caps : Caps) (K : Collection) → AreCaps caps → Fits caps (definitions K) → AreFew (ordered (definitions K))
-fits_few caps K c f StringIds = tt
 fits_few caps K c f TypeIds = omega (arith, c.types, f.types)
 fits_few caps K c f ProtoIds = omega (arith, c.protos, f.protos)
 fits_few caps K c f FieldIds = omega (arith, c.fields, f.fields)
 fits_few caps K c f MethodIds = omega (arith, c.methods, f.methods)
-fits_few caps K c f ClassDefs = tt
+fits_few caps _ c f _ = tt
 
 -- a canonical file has this layout
 pub canonical_laid : (K : Collection) → length (canonical K) < 2 ^ 32 → Laid (ordered (definitions K)) (canonical K)

@@ -30,11 +30,7 @@ tables_end K from (t ∷ ts) = tables_end K (from + row_size t * table_count K t
 -- rows keep the alignment
 rows_aligned : (t : Table) (from n : ℕ) → from % 4 ≡ 0 → (from + row_size t * n) % 4 ≡ 0
 rows_aligned StringIds from n e = omega (arith, e)
-rows_aligned TypeIds from n e = omega (arith, e)
-rows_aligned ProtoIds from n e = omega (arith, e)
-rows_aligned FieldIds from n e = omega (arith, e)
-rows_aligned MethodIds from n e = omega (arith, e)
-rows_aligned ClassDefs from n e = omega (arith, e)
+rows_aligned _ from n e = omega (arith, e)
 
 -- no rows have no bytes
 no_rows : (t : Table) (from n : ℕ) → n ≡ 0 → from + row_size t * n ≡ from

@@ -28,11 +28,7 @@ one_entry P e false h = All-cons P e [] h (All-nil P)
 -- a table's code is less than 7
 table_code : (t : Table) → type_code (TableOf t) < 7
 table_code StringIds = omega arith
-table_code TypeIds = omega arith
-table_code ProtoIds = omega arith
-table_code FieldIds = omega arith
-table_code MethodIds = omega arith
-table_code ClassDefs = omega arith
+table_code _ = omega arith
 
 -- an entry of a table
 record IsOfTable (K : Ordered) (e : Section × ℕ × ℕ) : Type 0 where
@@ -62,11 +58,7 @@ sections_few at (p ∷ ps) last h some =
 -- rows have bytes
 rows_some : (t : Table) (n : ℕ) → (n ≡ 0 → ⊥) → 0 < row_size t * n
 rows_some StringIds n some = omega (arith, some)
-rows_some TypeIds n some = omega (arith, some)
-rows_some ProtoIds n some = omega (arith, some)
-rows_some FieldIds n some = omega (arith, some)
-rows_some MethodIds n some = omega (arith, some)
-rows_some ClassDefs n some = omega (arith, some)
+rows_some _ n some = omega (arith, some)
 
 -- one table's offset, if it has an entry
 table_rises : (t : Table) (from n : ℕ) (empty : Bool) → (n == 0) ≡ empty → RisesTo from (if empty then [] else (TableOf t, n, if empty then 0 else from) ∷ []) (from + row_size t * n)
@@ -195,20 +187,12 @@ table_number ClassDefs = 6
 -- it is a number of a candidate
 table_number_few : (K : Ordered) (t : Table) → table_number t < length (candidates K)
 table_number_few K StringIds = omega arith
-table_number_few K TypeIds = omega arith
-table_number_few K ProtoIds = omega arith
-table_number_few K FieldIds = omega arith
-table_number_few K MethodIds = omega arith
-table_number_few K ClassDefs = omega arith
+table_number_few _ _ = omega arith
 
 -- the candidate is the table's
 candidate_at : (K : Ordered) (t : Table) (d : Candidate) → get_or (candidates K) (table_number t) d ≡ (table_count K t == 0, (TableOf t, table_count K t, table_place K t))
 candidate_at K StringIds d = refl
-candidate_at K TypeIds d = refl
-candidate_at K ProtoIds d = refl
-candidate_at K FieldIds d = refl
-candidate_at K MethodIds d = refl
-candidate_at K ClassDefs d = refl
+candidate_at _ _ d = refl
 
 -- an entry is in the list in its other form
 entry_there : (es : List (Section × ℕ × ℕ)) (e : Section × ℕ × ℕ) → Contains es e → Contains (map entry_of es) (entry_of e)

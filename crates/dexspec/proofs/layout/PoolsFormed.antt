@@ -42,27 +42,19 @@ type_formed (MethodSymbol m) t is c = elim (Contains-cons_cases m.class t (proto
 
 -- a symbol's protos
 proto_formed : (y : Symbol) (p : Proto) → IsSymbol y → Contains (protos_in y) p → IsProto p
-proto_formed (TextSymbol s) p is c = absurd (Contains-nil p c)
-proto_formed (TypeSymbol u) p is c = absurd (Contains-nil p c)
 proto_formed (ProtoSymbol q) p is c = elim (Contains-cons_cases q p [] c) [ inl e ↦ subst IsProto e is | inr l ↦ absurd (Contains-nil p l) ]
-proto_formed (FieldSymbol f) p is c = absurd (Contains-nil p c)
 proto_formed (MethodSymbol m) p is c = elim (Contains-cons_cases m.proto p [] c) [ inl e ↦ subst IsProto e is.proto | inr l ↦ absurd (Contains-nil p l) ]
+proto_formed _ p is c = absurd (Contains-nil p c)
 
 -- a symbol's fields
 field_formed : (y : Symbol) (f : Field) → IsSymbol y → Contains (fields_in y) f → IsField f
-field_formed (TextSymbol s) f is c = absurd (Contains-nil f c)
-field_formed (TypeSymbol u) f is c = absurd (Contains-nil f c)
-field_formed (ProtoSymbol q) f is c = absurd (Contains-nil f c)
 field_formed (FieldSymbol g) f is c = elim (Contains-cons_cases g f [] c) [ inl e ↦ subst IsField e is | inr l ↦ absurd (Contains-nil f l) ]
-field_formed (MethodSymbol m) f is c = absurd (Contains-nil f c)
+field_formed _ f is c = absurd (Contains-nil f c)
 
 -- a symbol's methods
 method_formed : (y : Symbol) (m : Method) → IsSymbol y → Contains (methods_in y) m → IsMethod m
-method_formed (TextSymbol s) m is c = absurd (Contains-nil m c)
-method_formed (TypeSymbol u) m is c = absurd (Contains-nil m c)
-method_formed (ProtoSymbol q) m is c = absurd (Contains-nil m c)
-method_formed (FieldSymbol g) m is c = absurd (Contains-nil m c)
 method_formed (MethodSymbol n) m is c = elim (Contains-cons_cases n m [] c) [ inl e ↦ subst IsMethod e is | inr l ↦ absurd (Contains-nil m l) ]
+method_formed _ m is c = absurd (Contains-nil m c)
 
 -- ---- the mentions of definitions
 

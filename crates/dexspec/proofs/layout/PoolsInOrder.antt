@@ -28,8 +28,7 @@ nat_more x y lt = cond-false (nat_lt x y) Less _ (le-ltb x y (omega arith)) ∙ 
 -- a further key that is equal does not matter
 then_equal : (o : Ordering) → ordering_then o Equal ≡ o
 then_equal Less = refl
-then_equal Equal = refl
-then_equal Greater = refl
+then_equal _ = refl
 
 -- three keys in sequence
 three_keys : {o o' p p' q q' : Ordering} → o ≡ o' → p ≡ p' → q ≡ q' → ordering_then o (ordering_then p (ordering_then q Equal)) ≡ ordering_then o' (ordering_then p' q')
@@ -40,10 +39,9 @@ three_keys {o} {o'} {p} {p'} {q} {q'} e f g =
 module _ {X : Type 0} (R : X → X → Ordering) where
   -- an earlier member of a rising list is less
   pub rises_at : (xs : List X) (i j : ℕ) (d : X) → Rises R xs → i < j → j < length xs → R (get_or xs i d) (get_or xs j d) ≡ Less
-  rises_at [] i j d h lt less = absurd (omega arith)
-  rises_at (x ∷ xs) i zero d h lt less = absurd (omega arith)
   rises_at (x ∷ xs) zero (suc j) d h lt less = h.0 (get_or xs j d) (Contains-get_or xs j d (omega arith))
   rises_at (x ∷ xs) (suc i) (suc j) d h lt less = rises_at xs i j d h.1 (omega arith) (omega arith)
+  rises_at _ i _ d h lt less = absurd (omega arith)
 
   -- the ranks of members are in the order of the members
   pub ranks_agree : IsTotalOrder R → (xs : List X) (s t : X) → Rises R xs → Contains xs s → Contains xs t → nat_cmp (rank R s xs) (rank R t xs) ≡ R s t

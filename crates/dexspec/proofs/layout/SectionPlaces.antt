@@ -141,17 +141,15 @@ pub record Laid (K : Ordered) (b : List ℕ) : Type 0 where
 
 -- an element of two lists that are combined
 pub get_or-zip_with : {X Y Z : Type 0} (f : X → Y → Z) (xs : List X) (ys : List Y) (i : ℕ) (d : X) (e : Y) (z : Z) → i < length xs → i < length ys → get_or (zip_with f xs ys) i z ≡ f (get_or xs i d) (get_or ys i e)
-get_or-zip_with f [] ys i d e z lt le = absurd (omega arith)
-get_or-zip_with f (x ∷ xs) [] i d e z lt le = absurd (omega arith)
 get_or-zip_with f (x ∷ xs) (y ∷ ys) zero d e z lt le = refl
 get_or-zip_with f (x ∷ xs) (y ∷ ys) (suc i) d e z lt le = get_or-zip_with f xs ys i d e z (omega arith) (omega arith)
+get_or-zip_with f _ _ i d e z lt le = absurd (omega arith)
 
 -- an element of two lists as pairs
 pub get_or-zip : {X Y : Type 0} (xs : List X) (ys : List Y) (i : ℕ) (d : X) (e : Y) → i < length xs → i < length ys → get_or (zip xs ys) i (d, e) ≡ (get_or xs i d, get_or ys i e)
-get_or-zip [] ys i d e lt le = absurd (omega arith)
-get_or-zip (x ∷ xs) [] i d e lt le = absurd (omega arith)
 get_or-zip (x ∷ xs) (y ∷ ys) zero d e lt le = refl
 get_or-zip (x ∷ xs) (y ∷ ys) (suc i) d e lt le = get_or-zip xs ys i d e (omega arith) (omega arith)
+get_or-zip _ _ i d e lt le = absurd (omega arith)
 
 -- the offsets of a class
 pub class_at : (K : Ordered) (r : ℕ) (e : ℕ × ℕ × ℕ × ℕ) → r < length K.classes → get_or (class_offsets K) r e ≡ class_places K r
@@ -180,20 +178,12 @@ class_at K r e lt =
 -- a table ends before the data
 table_within : (K : Ordered) (t : Table) → table_start K t + row_size t * table_count K t ≤ data_start K
 table_within K StringIds = omega arith
-table_within K TypeIds = omega arith
-table_within K ProtoIds = omega arith
-table_within K FieldIds = omega arith
-table_within K MethodIds = omega arith
-table_within K ClassDefs = omega arith
+table_within _ _ = omega arith
 
 -- a table has at most as many rows as bytes
 pub table_few : (K : Ordered) (t : Table) → table_count K t ≤ data_start K
 table_few K StringIds = omega arith
-table_few K TypeIds = omega arith
-table_few K ProtoIds = omega arith
-table_few K FieldIds = omega arith
-table_few K MethodIds = omega arith
-table_few K ClassDefs = omega arith
+table_few _ _ = omega arith
 
 -- zero, or the number
 unless_zero : (c : Bool) (n m : ℕ) → n ≤ m → (if c then 0 else n) ≤ m

@@ -26,9 +26,8 @@ lists_decide same is xs ys = slice_eq-Decides is xs ys (pointwise same xs ys) re
 -- options
 pub options_decide : {X : Type 0} (same : X → X → Bool) → IsEquality same → IsEquality (option_eq same)
 options_decide same is None None = (λ e. refl, λ e. refl)
-options_decide same is None (Some y) = (λ e. absurd cc, λ e. absurd cc)
-options_decide same is (Some x) None = (λ e. absurd cc, λ e. absurd cc)
 options_decide same is (Some x) (Some y) = (λ e. ap Some ((is x y).0 e), λ e. let one : x ≡ y = cc in (is x y).1 one)
+options_decide same is _ _ = (λ e. absurd cc, λ e. absurd cc)
 
 -- texts, unit by unit
 pub text_decides : IsEquality same_text

@@ -12,14 +12,12 @@ Rises {K} R (x ∷ xs) = ((y : K) → Contains xs y → R x y ≡ Less) × Rises
 
 pub less_is : (o : Ordering) → is_lt o ≡ true → o ≡ Less
 less_is Less e = refl
-less_is Equal e = absurd cc
-less_is Greater e = absurd cc
+less_is _ e = absurd cc
 
 module _ {K : Type 0} (R : K → K → Ordering) where
   pub rises-from_Rises : (xs : List K) → Rises R xs → rises R xs ≡ true
-  rises-from_Rises [] h = refl
-  rises-from_Rises (x ∷ []) h = refl
   rises-from_Rises (x ∷ y ∷ ys) h = and_both (is_lt (R x y)) (rises R (y ∷ ys)) (ap is_lt (h.0 y (Contains-first y ys))) (rises-from_Rises (y ∷ ys) h.1)
+  rises-from_Rises _ h = refl
 
   module _ (o : IsTotalOrder R) where
     greater : (x y : K) → R x y ≡ Greater → R y x ≡ Less
@@ -42,10 +40,9 @@ module _ {K : Type 0} (R : K → K → Ordering) where
     -- ---- a rising list by its places
 
     pub Rises-places : (xs : List K) (i j : ℕ) (d : K) → Rises R xs → i < j → j < length xs → R (get_or xs i d) (get_or xs j d) ≡ Less
-    Rises-places [] i j d h ij lt = absurd (omega arith)
-    Rises-places (x ∷ xs) i zero d h ij lt = absurd (omega arith)
     Rises-places (x ∷ xs) zero (suc j) d h ij lt = h.0 (get_or xs j d) (Contains-get_or xs j d (omega arith))
     Rises-places (x ∷ xs) (suc i) (suc j) d h ij lt = Rises-places xs i j d h.1 (omega arith) (omega arith)
+    Rises-places _ i _ d h ij lt = absurd (omega arith)
 
     pub AreDistinct-from_Rises : (xs : List K) → Rises R xs → AreDistinct xs
     AreDistinct-from_Rises xs h i j d ij lt e = irreflexive (get_or xs i d) (get_or xs j d) e (Rises-places xs i j d h ij lt)

@@ -71,10 +71,9 @@ module _ {X : Type 0} where
 
   -- one more member that is not in the list
   pub AreDistinct-cons : (x : X) (xs : List X) → (¬ (Contains xs x)) → AreDistinct xs → AreDistinct (x ∷ xs)
-  AreDistinct-cons x xs never d zero zero z lt le e = absurd (omega arith)
   AreDistinct-cons x xs never d zero (suc j) z lt le e = never (subst (Contains xs) (sym e) (Contains-get_or xs j z (omega arith)))
-  AreDistinct-cons x xs never d (suc i) zero z lt le e = absurd (omega arith)
   AreDistinct-cons x xs never d (suc i) (suc j) z lt le e = d i j z (omega arith) (omega arith) e
+  AreDistinct-cons x xs never d _ _ z lt le e = absurd (omega arith)
 
   -- a list of the same members, each once
   pub record Once (xs : List X) : Type 0 where

@@ -134,11 +134,7 @@ numbered (suc (suc (suc (suc (suc (suc n)))))) = WeightCap
 -- a cap is determined by its number
 numbered-is : (cap : Cap) → numbered (cap_number cap) ≡ cap
 numbered-is TypeCap = refl
-numbered-is ProtoCap = refl
-numbered-is FieldCap = refl
-numbered-is MethodCap = refl
-numbered-is ShortStringCap = refl
-numbered-is WeightCap = refl
+numbered-is _ = refl
 
 -- numbers of which neither is less are equal
 one_number : (m n : ℕ) → (m < n → ⊥) → (n < m → ⊥) → m ≡ n
@@ -154,14 +150,12 @@ one_cap j k f g = sym (numbered-is j) ∙ ap numbered (one_number (cap_number j)
 -- two causes of which neither is reported before the other are equal
 one_cause : (c d : Cause) → (IsReportedBefore c d → ⊥) → (IsReportedBefore d c → ⊥) → c ≡ d
 one_cause (Conflict m) (Conflict n) f g = ap Conflict (one_text m n (text_cmp m n) refl f g)
-one_cause (Conflict m) (Cycle n) f g = absurd (f tt)
-one_cause (Conflict m) (Exceeded k) f g = absurd (f tt)
 one_cause (Cycle m) (Conflict n) f g = absurd (g tt)
 one_cause (Cycle m) (Cycle n) f g = ap Cycle (one_text m n (text_cmp m n) refl f g)
-one_cause (Cycle m) (Exceeded k) f g = absurd (f tt)
 one_cause (Exceeded j) (Conflict n) f g = absurd (g tt)
 one_cause (Exceeded j) (Cycle n) f g = absurd (g tt)
 one_cause (Exceeded j) (Exceeded k) f g = ap Exceeded (one_cap j k f g)
+one_cause _ _ f g = absurd (f tt)
 
 -- so there is one first cause
 pub first_cause-one : (caps : Caps) (D : List Definition) (c d : Cause) → IsFirstCause caps D c → IsFirstCause caps D d → c ≡ d

@@ -90,30 +90,20 @@ types_in-texts_in (MethodSymbol m) t c = elim (Contains-cons_cases m.class t (pr
 protos_in-shorty : (y : Symbol) (p : Proto) → Contains (protos_in y) p → Contains (texts_in y) (shorty p.return_type p.parameters)
 protos_in-shorty (ProtoSymbol q) p c = (0, omega arith, ap (λ (r : Proto). shorty r.return_type r.parameters) (only q p c))
 protos_in-shorty (MethodSymbol m) p c = (2, omega arith, ap (λ (r : Proto). shorty r.return_type r.parameters) (only m.proto p c))
-protos_in-shorty (TextSymbol s) p c = absurd (Contains-nil p c)
-protos_in-shorty (TypeSymbol s) p c = absurd (Contains-nil p c)
-protos_in-shorty (FieldSymbol f) p c = absurd (Contains-nil p c)
+protos_in-shorty _ p c = absurd (Contains-nil p c)
 
 protos_in-types_in : (y : Symbol) (p : Proto) → Contains (protos_in y) p → AreAmong (proto_types p) (types_in y)
 protos_in-types_in (ProtoSymbol q) p c t d = subst (λ (r : Proto). Contains (proto_types r) t) (sym (only q p c)) d
 protos_in-types_in (MethodSymbol m) p c t d = Contains-later m.class t (proto_types m.proto) (subst (λ (r : Proto). Contains (proto_types r) t) (sym (only m.proto p c)) d)
-protos_in-types_in (TextSymbol s) p c t d = absurd (Contains-nil p c)
-protos_in-types_in (TypeSymbol s) p c t d = absurd (Contains-nil p c)
-protos_in-types_in (FieldSymbol f) p c t d = absurd (Contains-nil p c)
+protos_in-types_in _ p c t d = absurd (Contains-nil p c)
 
 fields_in-is : (y : Symbol) (f : Field) → Contains (fields_in y) f → FieldSymbol f ≡ y
 fields_in-is (FieldSymbol g) f c = ap FieldSymbol (sym (only g f c))
-fields_in-is (TextSymbol s) f c = absurd (Contains-nil f c)
-fields_in-is (TypeSymbol s) f c = absurd (Contains-nil f c)
-fields_in-is (ProtoSymbol p) f c = absurd (Contains-nil f c)
-fields_in-is (MethodSymbol m) f c = absurd (Contains-nil f c)
+fields_in-is _ f c = absurd (Contains-nil f c)
 
 methods_in-is : (y : Symbol) (m : Method) → Contains (methods_in y) m → MethodSymbol m ≡ y
 methods_in-is (MethodSymbol n) m c = ap MethodSymbol (sym (only n m c))
-methods_in-is (TextSymbol s) m c = absurd (Contains-nil m c)
-methods_in-is (TypeSymbol s) m c = absurd (Contains-nil m c)
-methods_in-is (ProtoSymbol p) m c = absurd (Contains-nil m c)
-methods_in-is (FieldSymbol f) m c = absurd (Contains-nil m c)
+methods_in-is _ m c = absurd (Contains-nil m c)
 
 -- another part of the symbol that has this part
 also : {X Y : Type 0} {parts : Symbol → List X} (others : Symbol → List Y) (D : List Definition) (x : X) (y : Y) (w : Occurs parts D x) → Contains (others w.symbol) y → Occurs others D y

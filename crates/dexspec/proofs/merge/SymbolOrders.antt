@@ -11,9 +11,8 @@ text_exact = slice_cmp-IsAntisymmetric nat_cmp-IsAntisymmetric
 
 -- if one of two orders decides, they are equal together only if both are equal
 both_tie : (a b : Ordering) → ordering_then a b ≡ Equal → (a ≡ Equal) × (b ≡ Equal)
-both_tie Less b e = absurd cc
 both_tie Equal b e = (refl, e)
-both_tie Greater b e = absurd cc
+both_tie _ b e = absurd cc
 
 pub proto_total : IsTotalOrder proto_cmp
 proto_total = then_total (on_total (λ (p : Proto). p.return_type) text_total) (on_total (λ (p : Proto). p.parameters) (lists_total text_total))

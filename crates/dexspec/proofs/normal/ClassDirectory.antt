@@ -26,16 +26,14 @@ use Rattle.dexspec.proofs.normal.NormalClasses.{AreNormal, class_member}
 -- lists that are related at each place
 pub zip_from_places : {X : Type 0} (P : ℕ → X → Type 0) (offs : List ℕ) (xs : List X) → length offs ≡ length xs → ((j : ℕ) (d : X) → j < length xs → P (slice_index offs j) (get_or xs j d)) → AllZip P offs xs
 zip_from_places P [] [] e h = tt
-zip_from_places P [] (x ∷ xs) e h = absurd (omega (arith, e))
-zip_from_places P (o ∷ offs) [] e h = absurd (omega (arith, e))
 zip_from_places P (o ∷ offs) (x ∷ xs) e h = (h 0 x (omega arith), zip_from_places P offs xs (omega (arith, e)) (λ j d lt. h (suc j) d (omega (arith, lt))))
+zip_from_places _ _ _ e h = absurd (omega (arith, e))
 
 -- lists that are related to mapped lists
 pub zip_mapped : {X Y : Type 0} (P : ℕ → Y → Type 0) (f : X → Y) (offs : List ℕ) (xs : List X) → AllZip (λ o x. P o (f x)) offs xs → AllZip P offs (map f xs)
 zip_mapped P f [] [] h = tt
-zip_mapped P f [] (x ∷ xs) h = absurd h
-zip_mapped P f (o ∷ offs) [] h = absurd h
 zip_mapped P f (o ∷ offs) (x ∷ xs) h = (h.0, zip_mapped P f offs xs h.1)
+zip_mapped _ f _ _ h = absurd h
 
 -- lists without repeats that share no member have no repeats together
 AreDistinct-append : {X : Type 0} (xs ys : List X) → AreDistinct xs → AreDistinct ys → ShareNone xs ys → AreDistinct (xs ++ ys)
@@ -114,9 +112,8 @@ module _ (b : List ℕ) (m : Mentions) (short : length b < 2 ^ 32) where
   -- a ref list is at its offset, or is empty
   pub ref_list_use : (o : ℕ) (offs : List ℕ) (list : List AnnotationSet) → AllZip (OrNone SetAt [] b) offs list → UseIsAt b 4 offsets_bytes (unless_empty offs) o → BytesIfSome (RefListAt b) o list
   ref_list_use o [] [] are h = h
-  ref_list_use o [] (s ∷ list) are h = absurd are
-  ref_list_use o (p ∷ offs) [] are h = absurd are
   ref_list_use o (p ∷ offs) (s ∷ list) are h = (h.some, ref_list_written b short o (p ∷ offs) (s ∷ list) h.in_data.following h.multiple are h.encodes)
+  ref_list_use o _ _ are h = absurd are
 
 -- ---- the directory of a definition
 

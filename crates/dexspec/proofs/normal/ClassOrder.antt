@@ -13,9 +13,8 @@ abbrev PlacedClass : Type 0
 PlacedClass = (ℕ × Text) × Body
 
 then_equal : (a b : Ordering) → ordering_then a b ≡ Equal → b ≡ Equal
-then_equal Less b e = absurd cc
 then_equal Equal b e = e
-then_equal Greater b e = absurd cc
+then_equal _ b e = absurd cc
 
 -- only places of one name are equal by order
 place_name : (x y : ℕ × Text) → place_cmp x y ≡ Equal → x.1 ≡ y.1
@@ -95,8 +94,7 @@ both_hold false b h = absurd h
 
 less_holds : (o : Ordering) → T (is_lt o) → o ≡ Less
 less_holds Less h = refl
-less_holds Equal h = absurd h
-less_holds Greater h = absurd h
+less_holds _ h = absurd h
 
 below_names : (name : Text) (es : List Definition) → T (below_all text_cmp name es) → (other : Text) → Contains (map (λ d. d.0) es) other → text_cmp name other ≡ Less
 below_names name [] h other c = absurd (Contains-nil other c)
@@ -118,9 +116,8 @@ pub definitions-distinct : (K : Collection) → AreDistinct (map (λ d. d.0) (de
 definitions-distinct K = AreDistinct-from_Rises text_cmp text_total (map (λ (d : Definition). d.0) (definitions K)) (sorted_rises (definitions K) (entries_sorted K))
 
 named_at : (es : List Definition) (i : ℕ) (d : Definition) → get_or (map (λ e. e.0) es) i d.0 ≡ (get_or es i d).0
-named_at [] i d = refl
-named_at (e ∷ es) zero d = refl
 named_at (e ∷ es) (suc i) d = named_at es i d
+named_at _ _ d = refl
 
 -- so no two of them are equal
 pub definitions-different : (K : Collection) → AreDistinct (definitions K)

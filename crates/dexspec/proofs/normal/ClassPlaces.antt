@@ -21,9 +21,8 @@ place_total = then_total (on_total (λ (x : ℕ × Text). x.0) nat_cmp_total) (o
 
 -- if one of two orders decides, they are equal together only if both are equal
 both_equal : (a b : Ordering) → ordering_then a b ≡ Equal → (a ≡ Equal) × (b ≡ Equal)
-both_equal Less b e = absurd cc
 both_equal Equal b e = (refl, e)
-both_equal Greater b e = absurd cc
+both_equal _ b e = absurd cc
 
 -- only equal places are equal by order
 place_exact : IsAntisymmetric place_cmp

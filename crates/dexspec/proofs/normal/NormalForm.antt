@@ -27,9 +27,8 @@ related R from n x xs h rest (suc k) d lt = let e : from + 1 + k ≡ from + suc 
 -- a list that is related to numbers is related at each place
 rows_at : {X : Type 0} (R : ℕ → X → Type 0) (from n : ℕ) (xs : List X) → AllZip R (range_with_len from n) xs → (length xs ≡ n) × RelatedFrom R from n xs
 rows_at R from zero [] h = (refl, λ k d lt. absurd (omega arith))
-rows_at R from zero (x ∷ xs) h = absurd h
-rows_at R from (suc n) [] h = absurd h
 rows_at R from (suc n) (x ∷ xs) h = let rest = rows_at R (from + 1) n xs h.1 in (ap suc rest.0, related R from n x xs h.0 rest.1)
+rows_at _ from _ _ h = absurd h
 
 -- the conditions on the items of classes: the items of each class are at the offsets of its row, and each row is
 -- readable
@@ -138,13 +137,7 @@ canonical_rows_hold K good formed = each
     each Condition.Fields lt = has_field (definitions K) (canonical K) n.file
     each Condition.Methods lt = has_method (definitions K) (canonical K) n.file
     each Condition.Classes lt = λ r within. has_class (definitions K) (canonical K) n r some_class within
-    each Condition.Members lt = absurd (omega (arith, lt))
-    each Condition.Code lt = absurd (omega (arith, lt))
-    each Condition.Tries lt = absurd (omega (arith, lt))
-    each Condition.Debug lt = absurd (omega (arith, lt))
-    each Condition.Values lt = absurd (omega (arith, lt))
-    each Condition.Annotations lt = absurd (omega (arith, lt))
-    each Condition.Weight lt = absurd (omega (arith, lt))
+    each _ lt = absurd (omega (arith, lt))
 
 -- the bytes are accepted, and denote the collection
 pub record IsFileOf (K : Collection) (b : List ℕ) : Type 0 where

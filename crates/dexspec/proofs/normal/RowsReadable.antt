@@ -23,12 +23,11 @@ use Rattle.dexspec.proofs.normal.ClassItems.{own_members, members_there, values_
 -- a member is combined from two related members
 zip_with_source : {X Y : Type 0} (P : ℕ → X → Type 0) (f : X → ℕ → Y) (xs : List X) (offs : List ℕ) (y : Y) → AllZip P offs xs → Contains (zip_with f xs offs) y → (x : X) × (o : ℕ) × Contains xs x × P o x × (f x o ≡ y)
 zip_with_source P f [] [] y h c = absurd (Contains-nil y c)
-zip_with_source P f [] (o ∷ offs) y h c = absurd h
-zip_with_source P f (x ∷ xs) [] y h c = absurd h
 zip_with_source P f (x ∷ xs) (o ∷ offs) y h c = elim (Contains-cons_cases (f x o) y (zip_with f xs offs) c) [
   | inl e ↦ (x, o, Contains-first x xs, h.0, e)
   | inr l ↦ let w = zip_with_source P f xs offs y h.1 l in (w.0, w.1, Contains-later x w.0 xs w.2, w.3, w.4)
 ]
+zip_with_source _ f _ _ y h c = absurd h
 
 -- each member of the first list is in a combined member
 zip_with_has : {X Y : Type 0} (P : ℕ → X → Type 0) (f : X → ℕ → Y) (xs : List X) (offs : List ℕ) (x : X) → AllZip P offs xs → Contains xs x → (o : ℕ) × Contains (zip_with f xs offs) (f x o)

@@ -14,15 +14,14 @@ chain_cons b (c ∷ bs) top chain = (top, chain)
 
 -- no chain is a proper prefix of another
 pub chain_same : (l : List ℕ) (n m : ℕ) → IsChain (take n l) → IsChain (take m l) → n ≤ length l → m ≤ length l → n ≡ m
-chain_same l zero m one other le le' = absurd one
 chain_same l (suc n) zero one other le le' = absurd other
-chain_same [] (suc n) (suc m) one other le le' = absurd one
 chain_same (b ∷ bs) (suc zero) (suc zero) one other le le' = refl
 chain_same (b ∷ []) (suc zero) (suc (suc m)) one other le le' = absurd (omega arith)
 chain_same (b ∷ []) (suc (suc n)) (suc m) one other le le' = absurd (omega arith)
 chain_same (b ∷ c ∷ bs) (suc zero) (suc (suc m)) one other le le' = absurd (omega (arith, one, other.0))
 chain_same (b ∷ c ∷ bs) (suc (suc n)) (suc zero) one other le le' = absurd (omega (arith, one.0, other))
 chain_same (b ∷ c ∷ bs) (suc (suc n)) (suc (suc m)) one other le le' = omega (arith, chain_same (c ∷ bs) (suc n) (suc m) one.1 other.1 (omega arith) (omega arith))
+chain_same _ _ _ one other le le' = absurd one
 
 -- bytes that all have their top bits set begin with no chain
 pub no_chain : (l : List ℕ) (n : ℕ) → n ≤ length l → All (λ byte. 128 ≤ byte) l → ¬ IsChain (take n l)

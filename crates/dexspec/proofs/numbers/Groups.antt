@@ -5,9 +5,8 @@ use Rattle.dexspec.proofs.numbers.Chains.{chain_cons, sevens}
 
 -- n groups are n bytes
 pub length-groups : (n v : ℕ) → length (groups n v) ≡ n
-length-groups zero v = refl
-length-groups (suc zero) v = refl
 length-groups (suc (suc n)) v = ap suc (length-groups (suc n) (v / 128))
+length-groups _ v = refl
 
 -- without its lowest group a number needs one group fewer
 pub group_less : (n v : ℕ) → v < 2 ^ (7 * suc n) → v / 128 < 2 ^ (7 * n)

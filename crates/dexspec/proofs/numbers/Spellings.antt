@@ -37,9 +37,8 @@ module _ {V : Type 0} (number : List ℕ → V) (InRange : V → Type 0) where
 -- a number, or none, is determined by the number plus one
 pub same_plus_one : (v w : Option ℕ) → plus_one v ≡ plus_one w → v ≡ w
 same_plus_one None None e = refl
-same_plus_one None (Some w) e = absurd (omega arith)
-same_plus_one (Some v) None e = absurd (omega arith)
 same_plus_one (Some v) (Some w) e = let same : v ≡ w = omega arith in ap Some same
+same_plus_one _ _ e = absurd (omega arith)
 
 -- bytes begin with a number as a uleb128p1 exactly if they begin with the number plus one as a uleb128
 pub begins_plus_one : (bytes : List ℕ) (v : Option ℕ) (n : ℕ) → BeginsWith IsUleb128p1 bytes v n ↔ BeginsWith IsUleb128 bytes (plus_one v) n

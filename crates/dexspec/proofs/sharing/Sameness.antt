@@ -119,10 +119,9 @@ debug_decides = reports same_debug
 -- ---- annotation sets
 
 flag_only : (b c : Bool) → (if b then c else not c) ≡ true → b ≡ c
-flag_only true true e = refl
-flag_only false false e = refl
 flag_only true false e = absurd cc
 flag_only false true e = absurd cc
+flag_only _ _ e = refl
 
 flag_again : (b : Bool) → (if b then b else not b) ≡ true
 flag_again true = refl

@@ -1,12 +1,57 @@
 -- Items that cover others: a list in which each of the others has a matching item that is at least as long. A section
 -- whose items are covered ends no later, and offsets that are no greater, or are zero at the same places, make items
 -- that are covered.
-use Rattle.dexspec.proofs.Common.{◌≡◌, ◌⊎◌, ℕ, zero, suc, ◌+◌, ◌<◌, ◌≤◌, Ordering, Bool, true, false, cond, not, if◌then◌else◌, ◌==◌, List, [], ◌∷◌, ◌++◌, length, map, take, drop, zip, flat_map, refl, sym, ap, subst, ◌∙◌, arith, inl, inr, slice_index, nat_lt, Option, Some, None, filter, option_map_or, nat_cmp, Less, Equal, Greater, eqb-true, lt-ltb, ltb-true, map-append}
+use Rattle.dexspec.proofs.Common.{AllZip, get_or, ◌≡◌, ◌⊎◌, ℕ, zero, suc, ◌+◌, ◌<◌, ◌≤◌, Ordering, Bool, true, false, cond, not, if◌then◌else◌, ◌==◌, List, [], ◌∷◌, ◌++◌, length, map, take, drop, zip, flat_map, refl, sym, ap, subst, ◌∙◌, arith, inl, inr, slice_index, nat_lt, Option, Some, None, filter, option_map_or, nat_cmp, Less, Equal, Greater, eqb-true, lt-ltb, ltb-true, map-append}
 use Rattle.std.specs.FinMap.Entries.{by_order}
-use Rattle.dexspec.specs.{present, distinct, chunks, add_in_order, in_order, round_up, size_u, uleb128, offsets_from, end_from, own_numbers, pair_cmp, pairs}
+use Rattle.dexspec.specs.{present, zip_with, distinct, chunks, add_in_order, in_order, round_up, size_u, uleb128, offsets_from, end_from, own_numbers, pair_cmp, pairs}
 use Rattle.dexspec.proofs.numbers.Groups.{length-groups}
 use Rattle.dexspec.proofs.layout.Places.{IsAlign, length-padding, end_from_le}
 use Rattle.dexspec.proofs.layout.Placements.{numbers_offsets}
+
+-- ---- lists that agree place by place
+
+module _ {A B : Type 0} (R : A → B → Type 0) where
+  pub zip_take : (n : ℕ) (xs : List A) (ys : List B) → AllZip R xs ys → AllZip R (take n xs) (take n ys)
+  zip_take (suc n) [] (y ∷ ys) h = absurd h
+  zip_take (suc n) (x ∷ xs) [] h = absurd h
+  zip_take (suc n) (x ∷ xs) (y ∷ ys) h = (h.0, zip_take n xs ys h.1)
+  zip_take _ _ _ h = tt
+
+  pub zip_drop : (n : ℕ) (xs : List A) (ys : List B) → AllZip R xs ys → AllZip R (drop n xs) (drop n ys)
+  zip_drop zero xs ys h = h
+  zip_drop (suc n) [] [] h = tt
+  zip_drop (suc n) (x ∷ xs) (y ∷ ys) h = zip_drop n xs ys h.1
+  zip_drop _ _ _ h = absurd h
+
+  pub zip_chunks : (ns : List ℕ) (xs : List A) (ys : List B) → AllZip R xs ys → AllZip (AllZip R) (chunks ns xs) (chunks ns ys)
+  zip_chunks [] xs ys h = tt
+  zip_chunks (n ∷ ns) xs ys h = (zip_take n xs ys h, zip_chunks ns (drop n xs) (drop n ys) (zip_drop n xs ys h))
+
+  pub zip_from : (d : A) (e : B) (xs : List A) (ys : List B) → length xs ≡ length ys → ((k : ℕ) → k < length xs → R (get_or xs k d) (get_or ys k e)) → AllZip R xs ys
+  zip_from d e [] [] same each = tt
+  zip_from d e (x ∷ xs) (y ∷ ys) same each = (each 0 (omega arith), zip_from d e xs ys (omega (arith, same)) (λ k lt. each (suc k) (omega (arith, lt))))
+  zip_from d e _ _ same each = absurd (omega (arith, same))
+
+  module _ {C D : Type 0} (S : C → D → Type 0) where
+    pub zip_map : (f : A → C) (g : B → D) → ((x : A) (y : B) → R x y → S (f x) (g y)) → (xs : List A) (ys : List B) → AllZip R xs ys → AllZip S (map f xs) (map g ys)
+    zip_map f g each [] [] h = tt
+    zip_map f g each (x ∷ xs) (y ∷ ys) h = (each x y h.0, zip_map f g each xs ys h.1)
+    zip_map f g each _ _ h = absurd h
+
+    pub zip_combine : {E : Type 0} (f : E → A → C) (g : E → B → D) → ((e : E) (x : A) (y : B) → R x y → S (f e x) (g e y)) → (es : List E) (xs : List A) (ys : List B) → AllZip R xs ys → AllZip S (zip_with f es xs) (zip_with g es ys)
+    zip_combine f g each (e ∷ es) [] (y ∷ ys) h = absurd h
+    zip_combine f g each (e ∷ es) (x ∷ xs) [] h = absurd h
+    zip_combine f g each (e ∷ es) (x ∷ xs) (y ∷ ys) h = (each e x y h.0, zip_combine f g each es xs ys h.1)
+    zip_combine f g each _ _ _ h = tt
+
+    -- two lists beside each other
+    pub zip_pairs : (xs : List A) (ys : List B) (us : List C) (vs : List D) → AllZip R xs ys → AllZip S us vs → AllZip (λ p q. R p.0 q.0 × S p.1 q.1) (zip xs us) (zip ys vs)
+    zip_pairs [] (y ∷ ys) us vs h k = absurd h
+    zip_pairs (x ∷ xs) [] us vs h k = absurd h
+    zip_pairs (x ∷ xs) (y ∷ ys) [] (v ∷ vs) h k = absurd k
+    zip_pairs (x ∷ xs) (y ∷ ys) (u ∷ us) [] h k = absurd k
+    zip_pairs (x ∷ xs) (y ∷ ys) (u ∷ us) (v ∷ vs) h k = ((h.0, k.0), zip_pairs xs ys us vs h.1 k.1)
+    zip_pairs _ _ _ _ h k = tt
 
 -- ---- items
 
@@ -96,17 +141,13 @@ end_covered align is m n (x ∷ xs) (y ∷ ys) (inr h) le =
 
 -- each offset is at most the other at its place
 abbrev pub AreBelow : List ℕ → List ℕ → Type 0
-AreBelow [] [] = Unit {0}
-AreBelow [] (p ∷ ps) = ⊥
-AreBelow (o ∷ os) [] = ⊥
-AreBelow (o ∷ os) (p ∷ ps) = (o ≤ p) × AreBelow os ps
+AreBelow = AllZip ◌≤◌
 
 below_at : (os ps : List ℕ) → AreBelow os ps → (i : ℕ) → slice_index os i ≤ slice_index ps i
 below_at [] [] h i = omega arith
-below_at [] (p ∷ ps) h i = absurd h
-below_at (o ∷ os) [] h i = absurd h
 below_at (o ∷ os) (p ∷ ps) h zero = h.0
 below_at (o ∷ os) (p ∷ ps) h (suc i) = below_at os ps h.1 i
+below_at _ _ h i = absurd h
 
 below_number : (os ps : List ℕ) → AreBelow os ps → (n : Option ℕ) → option_map_or (slice_index os) n 0 ≤ option_map_or (slice_index ps) n 0
 below_number os ps h None = omega arith
@@ -116,20 +157,6 @@ below_number os ps h (Some i) = below_at os ps h i
 pub uses_below : (os ps : List ℕ) → AreBelow os ps → (numbers : List (Option ℕ)) → AreBelow (numbers_offsets numbers os) (numbers_offsets numbers ps)
 uses_below os ps h [] = tt
 uses_below os ps h (n ∷ numbers) = (below_number os ps h n, uses_below os ps h numbers)
-
-pub take_below : (n : ℕ) (os ps : List ℕ) → AreBelow os ps → AreBelow (take n os) (take n ps)
-take_below zero os ps h = tt
-take_below (suc n) [] [] h = tt
-take_below (suc n) [] (p ∷ ps) h = absurd h
-take_below (suc n) (o ∷ os) [] h = absurd h
-take_below (suc n) (o ∷ os) (p ∷ ps) h = (h.0, take_below n os ps h.1)
-
-pub drop_below : (n : ℕ) (os ps : List ℕ) → AreBelow os ps → AreBelow (drop n os) (drop n ps)
-drop_below zero os ps h = h
-drop_below (suc n) [] [] h = tt
-drop_below (suc n) [] (p ∷ ps) h = absurd h
-drop_below (suc n) (o ∷ os) [] h = absurd h
-drop_below (suc n) (o ∷ os) (p ∷ ps) h = drop_below n os ps h.1
 
 -- a greater number has at least as many bytes
 at_least : (b : Bool) (k n x : ℕ) → k ≤ n → k ≤ x → k ≤ (if b then n else x)
@@ -180,59 +207,19 @@ zero_equivalent o p (inr h) = not_zero o h.0 ∙ sym (not_zero p h.1)
 
 -- at each place
 abbrev pub AllEquivalent : List ℕ → List ℕ → Type 0
-AllEquivalent [] [] = Unit {0}
-AllEquivalent [] (p ∷ ps) = ⊥
-AllEquivalent (o ∷ os) [] = ⊥
-AllEquivalent (o ∷ os) (p ∷ ps) = AreEquivalent o p × AllEquivalent os ps
+AllEquivalent = AllZip AreEquivalent
 
 -- in each list
 abbrev pub ListsEquivalent : List (List ℕ) → List (List ℕ) → Type 0
-ListsEquivalent [] [] = Unit {0}
-ListsEquivalent [] (ps ∷ pss) = ⊥
-ListsEquivalent (os ∷ oss) [] = ⊥
-ListsEquivalent (os ∷ oss) (ps ∷ pss) = AllEquivalent os ps × ListsEquivalent oss pss
-
-pub equivalent_from : (os ps : List ℕ) → length os ≡ length ps → ((k : ℕ) → k < length os → AreEquivalent (slice_index os k) (slice_index ps k)) → AllEquivalent os ps
-equivalent_from [] [] e each = tt
-equivalent_from [] (p ∷ ps) e each = absurd (omega (arith, e))
-equivalent_from (o ∷ os) [] e each = absurd (omega (arith, e))
-equivalent_from (o ∷ os) (p ∷ ps) e each = (each 0 (omega arith), equivalent_from os ps (omega (arith, e)) (λ k lt. each (suc k) (omega (arith, lt))))
-
-pub equivalent_length : (os ps : List ℕ) → AllEquivalent os ps → length os ≡ length ps
-equivalent_length [] [] h = refl
-equivalent_length [] (p ∷ ps) h = absurd h
-equivalent_length (o ∷ os) [] h = absurd h
-equivalent_length (o ∷ os) (p ∷ ps) h = ap suc (equivalent_length os ps h.1)
+ListsEquivalent = AllZip AllEquivalent
 
 pub equivalent_first : (os ps : List ℕ) → AllEquivalent os ps → AreEquivalent (slice_index os 0) (slice_index ps 0)
 equivalent_first [] [] h = inl (refl, refl)
-equivalent_first [] (p ∷ ps) h = absurd h
-equivalent_first (o ∷ os) [] h = absurd h
 equivalent_first (o ∷ os) (p ∷ ps) h = h.0
-
-pub take_equivalent : (n : ℕ) (os ps : List ℕ) → AllEquivalent os ps → AllEquivalent (take n os) (take n ps)
-take_equivalent zero os ps h = tt
-take_equivalent (suc n) [] [] h = tt
-take_equivalent (suc n) [] (p ∷ ps) h = absurd h
-take_equivalent (suc n) (o ∷ os) [] h = absurd h
-take_equivalent (suc n) (o ∷ os) (p ∷ ps) h = (h.0, take_equivalent n os ps h.1)
-
-pub drop_equivalent : (n : ℕ) (os ps : List ℕ) → AllEquivalent os ps → AllEquivalent (drop n os) (drop n ps)
-drop_equivalent zero os ps h = h
-drop_equivalent (suc n) [] [] h = tt
-drop_equivalent (suc n) [] (p ∷ ps) h = absurd h
-drop_equivalent (suc n) (o ∷ os) [] h = absurd h
-drop_equivalent (suc n) (o ∷ os) (p ∷ ps) h = drop_equivalent n os ps h.1
-
-pub chunks_equivalent : (ns os ps : List ℕ) → AllEquivalent os ps → ListsEquivalent (chunks ns os) (chunks ns ps)
-chunks_equivalent [] os ps h = tt
-chunks_equivalent (n ∷ ns) os ps h = (take_equivalent n os ps h, chunks_equivalent ns (drop n os) (drop n ps) (drop_equivalent n os ps h))
+equivalent_first _ _ h = absurd h
 
 pub firsts_equivalent : (oss pss : List (List ℕ)) → ListsEquivalent oss pss → AllEquivalent (map (λ os. slice_index os 0) oss) (map (λ ps. slice_index ps 0) pss)
-firsts_equivalent [] [] h = tt
-firsts_equivalent [] (ps ∷ pss) h = absurd h
-firsts_equivalent (os ∷ oss) [] h = absurd h
-firsts_equivalent (os ∷ oss) (ps ∷ pss) h = (equivalent_first os ps h.0, firsts_equivalent oss pss h.1)
+firsts_equivalent = zip_map AllEquivalent AreEquivalent (λ os. slice_index os 0) (λ ps. slice_index ps 0) equivalent_first
 
 -- two lists of items of one length, from offsets that are not 0, have offsets that are zero at the same places
 pub offsets_equivalent : (align m n : ℕ) (xs ys : List (List ℕ)) → length xs ≡ length ys → 0 < m → 0 < n → (i : ℕ) → AreEquivalent (slice_index (offsets_from align m xs) i) (slice_index (offsets_from align n ys) i)
@@ -263,41 +250,35 @@ IsCoveredUse g h (Some x) (Some y) = length (g x) ≤ length (h y)
 
 -- each use
 abbrev pub AreCoveredUses : {X Y : Type 0} → (X → List ℕ) → (Y → List ℕ) → List (Option X) → List (Option Y) → Type 0
-AreCoveredUses g h [] [] = Unit {0}
-AreCoveredUses g h [] (v ∷ vs) = ⊥
-AreCoveredUses g h (u ∷ us) [] = ⊥
-AreCoveredUses g h (u ∷ us) (v ∷ vs) = IsCoveredUse g h u v × AreCoveredUses g h us vs
+AreCoveredUses g h = AllZip (IsCoveredUse g h)
 
 module _ {X Y : Type 0} (g : X → List ℕ) (h : Y → List ℕ) where
   -- their items are covered
   pub covered_present : (us : List (Option X)) (vs : List (Option Y)) → AreCoveredUses g h us vs → IsCovered (map g (present us)) (map h (present vs))
   covered_present [] [] c = tt
-  covered_present [] (v ∷ vs) c = absurd c
-  covered_present (u ∷ us) [] c = absurd c
   covered_present (None ∷ us) (None ∷ vs) c = covered_present us vs c.1
   covered_present (None ∷ us) (Some y ∷ vs) c = absurd c.0
   covered_present (Some x ∷ us) (None ∷ vs) c = absurd c.0
   covered_present (Some x ∷ us) (Some y ∷ vs) c = inl (c.0, covered_present us vs c.1)
+  covered_present _ _ c = absurd c
 
   -- they have the same numbers
   pub covered_numbers : (n : ℕ) (us : List (Option X)) (vs : List (Option Y)) → AreCoveredUses g h us vs → own_numbers n us ≡ own_numbers n vs
   covered_numbers n [] [] c = refl
-  covered_numbers n [] (v ∷ vs) c = absurd c
-  covered_numbers n (u ∷ us) [] c = absurd c
   covered_numbers n (None ∷ us) (None ∷ vs) c = ap (λ ns. None ∷ ns) (covered_numbers n us vs c.1)
   covered_numbers n (None ∷ us) (Some y ∷ vs) c = absurd c.0
   covered_numbers n (Some x ∷ us) (None ∷ vs) c = absurd c.0
   covered_numbers n (Some x ∷ us) (Some y ∷ vs) c = ap (λ ns. Some n ∷ ns) (covered_numbers (n + 1) us vs c.1)
+  covered_numbers n _ _ c = absurd c
 
   -- their counts are equal
   pub covered_count : (us : List (Option X)) (vs : List (Option Y)) → AreCoveredUses g h us vs → length (map g (present us)) ≡ length (map h (present vs))
   covered_count [] [] c = refl
-  covered_count [] (v ∷ vs) c = absurd c
-  covered_count (u ∷ us) [] c = absurd c
   covered_count (None ∷ us) (None ∷ vs) c = covered_count us vs c.1
   covered_count (None ∷ us) (Some y ∷ vs) c = absurd c.0
   covered_count (Some x ∷ us) (None ∷ vs) c = absurd c.0
   covered_count (Some x ∷ us) (Some y ∷ vs) c = ap suc (covered_count us vs c.1)
+  covered_count _ _ c = absurd c
 
   -- they begin at offsets that are no greater
   pub offsets_below : (align m n : ℕ) → IsAlign align → (us : List (Option X)) (vs : List (Option Y)) → AreCoveredUses g h us vs → m ≤ n → AreBelow (offsets_from align m (map g (present us))) (offsets_from align n (map h (present vs)))
@@ -315,9 +296,8 @@ module _ {X Y : Type 0} (g : X → List ℕ) (h : Y → List ℕ) where
 
 firsts_by : (o : Ordering) (p q : ℕ × ℕ) (qs : List (ℕ × ℕ)) (rest : List ℕ) → map (λ (p : ℕ × ℕ). p.0) (add_in_order pair_cmp p qs) ≡ rest
     → map (λ (p : ℕ × ℕ). p.0) (by_order o (p ∷ q ∷ qs) (q ∷ qs) (q ∷ add_in_order pair_cmp p qs)) ≡ by_order o (p.0 ∷ q.0 ∷ map (λ (p : ℕ × ℕ). p.0) qs) (q.0 ∷ map (λ (p : ℕ × ℕ). p.0) qs) (q.0 ∷ rest)
-firsts_by Less p q qs rest e = refl
-firsts_by Equal p q qs rest e = refl
 firsts_by Greater p q qs rest e = ap (λ is. q.0 ∷ is) e
+firsts_by _ p q qs rest e = refl
 
 firsts_added : (p : ℕ × ℕ) (qs : List (ℕ × ℕ)) → map (λ (p : ℕ × ℕ). p.0) (add_in_order pair_cmp p qs) ≡ add_in_order nat_cmp p.0 (map (λ (p : ℕ × ℕ). p.0) qs)
 firsts_added p [] = refl
@@ -335,16 +315,14 @@ some_pairs indices offs = flat_map (λ (p : ℕ × ℕ). if p.1 == 0 then [] els
 kept_by : (b c : Bool) (i o p : ℕ) (os ps : List (ℕ × ℕ)) → b ≡ c → map (λ (p : ℕ × ℕ). p.0) os ≡ map (λ (p : ℕ × ℕ). p.0) ps
     → map (λ (p : ℕ × ℕ). p.0) ((if b then [] else (i, o) ∷ []) ++ os) ≡ map (λ (p : ℕ × ℕ). p.0) ((if c then [] else (i, p) ∷ []) ++ ps)
 kept_by true true i o p os ps same e = e
-kept_by true false i o p os ps same e = absurd cc
-kept_by false true i o p os ps same e = absurd cc
 kept_by false false i o p os ps same e = ap (λ is. i ∷ is) e
+kept_by _ _ i o p os ps same e = absurd cc
 
 firsts_equivalent_pairs : (indices os ps : List ℕ) → AllEquivalent os ps → map (λ (p : ℕ × ℕ). p.0) (some_pairs indices os) ≡ map (λ (p : ℕ × ℕ). p.0) (some_pairs indices ps)
-firsts_equivalent_pairs [] os ps h = refl
-firsts_equivalent_pairs (i ∷ indices) [] [] h = refl
 firsts_equivalent_pairs (i ∷ indices) [] (p ∷ ps) h = absurd h
 firsts_equivalent_pairs (i ∷ indices) (o ∷ os) [] h = absurd h
 firsts_equivalent_pairs (i ∷ indices) (o ∷ os) (p ∷ ps) h = kept_by (o == 0) (p == 0) i o p (some_pairs indices os) (some_pairs indices ps) (zero_equivalent o p h.0) (firsts_equivalent_pairs indices os ps h.1)
+firsts_equivalent_pairs _ _ _ h = refl
 
 length-firsts : (ps : List (ℕ × ℕ)) → length (map (λ (p : ℕ × ℕ). p.0) ps) ≡ length ps
 length-firsts [] = refl

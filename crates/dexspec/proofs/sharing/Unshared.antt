@@ -1,6 +1,7 @@
 -- The file in which equal items are written once is at most as long as the one in which each use has its own: section
 -- by section, the items of the first are covered by those of the second.
-use Rattle.dexspec.proofs.Common.{◌≡◌, ℕ, zero, suc, ◌+◌, ◌*◌, ◌<◌, ◌≤◌, Bool, true, false, if◌then◌else◌, ◌==◌, List, [], ◌∷◌, ◌++◌, length, map, take, drop, zip, flat_map, get_or, refl, sym, ap, subst, ◌∙◌, arith, inl, inr, slice_index, Option, Some, None, concat, option_map_or, length-append, length-map, length-take, length-drop, Code, Mentions}
+use Rattle.std.proofs.lemmas.List.Elements.{length_all_zip}
+use Rattle.dexspec.proofs.Common.{AllZip, ◌≡◌, ℕ, zero, suc, ◌+◌, ◌*◌, ◌<◌, ◌≤◌, Bool, true, false, if◌then◌else◌, ◌==◌, List, [], ◌∷◌, ◌++◌, length, map, take, drop, zip, flat_map, get_or, refl, sym, ap, subst, ◌∙◌, arith, inl, inr, slice_index, Option, Some, None, concat, option_map_or, length-append, length-map, length-take, length-drop, Code, Mentions}
 use Rattle.dexspec.specs.{present, chunks, zip_with, ushort, uint, round_up, padding, uleb128, Section, TableOf, MapList, Annotation, AnnotationSet, MethodDef, Definition, declared_fields, declared_methods, Collection, definitions, in_class_order, mentions, field_of, method_of, same_types, same_debug, same_set, type_list_bytes, annotation_bytes, debug_bytes, code_bytes, piece_units, tries_bytes, differences, encoded_fields_bytes, encoded_method_bytes, encoded_methods_bytes, class_data_bytes, offsets_bytes, field_index, method_index, EqualOnce, EachForItself, Items, Placed, offsets, offsets_from, uses_offsets, Ordered, is_empty_class, method_sets, class_sets, all_methods, type_list_uses, set_uses, debug_uses, code_uses, class_data_uses, by_class, SetOffsets, set_offsets_of, ref_list_uses, directory_uses, directory_bytes, unless_empty, section_bytes, own_numbers, pairs, pairs_bytes, end, data_start, type_list_section, set_items, annotation_section, annotation_offsets, array_section, string_section, debug_section, code_section, class_data_section, set_section, set_offsets, ref_list_section, directory_section, data_sections, placed_tables, table_bytes, map_of, map_bytes, header_bytes, unsigned_file, with_sums, ordered, canonical}
 use Rattle.dexspec.proofs.numbers.ByteNumbers.{length-uint, length-ushort}
 use Rattle.dexspec.proofs.written.PlacedBytes.{length_rows}
@@ -11,7 +12,7 @@ use Rattle.dexspec.proofs.size.SizeFile.{with_sums-size}
 use Rattle.dexspec.proofs.layout.MapEntries.{length-map_bytes}
 use Rattle.dexspec.proofs.sharing.Sameness.{set_decides}
 use Rattle.dexspec.proofs.layout.Uses.{IsNumber, AreNumbered, items_numbered, number_offset, length-debug_offsets}
-use Rattle.dexspec.proofs.sharing.Shorter.{IsCovered, covered_itself, covered_then, covered_few, covered_items, covered_lists, end_covered, AreBelow, uses_below, take_below, drop_below, uleb128_most, AreEquivalent, AllEquivalent, ListsEquivalent, not_zero, zero_equivalent, equivalent_from, equivalent_length, equivalent_first, take_equivalent, drop_equivalent, chunks_equivalent, firsts_equivalent, offsets_equivalent, uses_equivalent, IsCoveredUse, AreCoveredUses, covered_present, covered_numbers, covered_count, offsets_below, pairs_equivalent}
+use Rattle.dexspec.proofs.sharing.Shorter.{IsCovered, covered_itself, covered_then, covered_few, covered_items, covered_lists, end_covered, AreBelow, uses_below, zip_take, zip_drop, zip_chunks, zip_from, zip_map, zip_combine, zip_pairs, uleb128_most, AreEquivalent, AllEquivalent, ListsEquivalent, not_zero, zero_equivalent, equivalent_first, firsts_equivalent, offsets_equivalent, uses_equivalent, IsCoveredUse, AreCoveredUses, covered_present, covered_numbers, covered_count, offsets_below, pairs_equivalent}
 
 -- ---- code
 
@@ -29,32 +30,15 @@ code_use m (Some c) o p = code_same m c o p
 
 codes_covered : (m : Mentions) (xs : List MethodDef) (os ps : List ℕ) → length os ≡ length ps
     → AreCoveredUses (code_item m) (code_item m) (zip_with (λ x o. option_map_or (λ c. Some (c, o)) x.code None) xs os) (zip_with (λ x o. option_map_or (λ c. Some (c, o)) x.code None) xs ps)
-codes_covered m [] os ps e = tt
-codes_covered m (x ∷ xs) [] [] e = tt
-codes_covered m (x ∷ xs) [] (p ∷ ps) e = absurd (omega (arith, e))
-codes_covered m (x ∷ xs) (o ∷ os) [] e = absurd (omega (arith, e))
-codes_covered m (x ∷ xs) (o ∷ os) (p ∷ ps) e = (code_use m x.code o p, codes_covered m xs os ps (omega (arith, e)))
+codes_covered m xs os ps e = zip_combine (λ (o p : ℕ). Unit {0}) (IsCoveredUse (code_item m) (code_item m)) _ _ (λ x o p h. code_use m x.code o p) xs os ps (zip_from (λ (o p : ℕ). Unit {0}) 0 0 os ps e (λ k lt. tt))
 
 -- ---- class data
 
--- each list is below the other
-abbrev ListsBelow : List (List ℕ) → List (List ℕ) → Type 0
-ListsBelow [] [] = Unit {0}
-ListsBelow [] (ps ∷ pss) = ⊥
-ListsBelow (os ∷ oss) [] = ⊥
-ListsBelow (os ∷ oss) (ps ∷ pss) = AreBelow os ps × ListsBelow oss pss
-
-chunks_below : (ns os ps : List ℕ) → AreBelow os ps → ListsBelow (chunks ns os) (chunks ns ps)
-chunks_below [] os ps h = tt
-chunks_below (n ∷ ns) os ps h = (take_below n os ps h, chunks_below ns (drop n os) (drop n ps) (drop_below n os ps h))
-
 methods_most : (xs : List MethodDef) (ds os ps : List ℕ) → AreBelow os ps → length (concat (zip_with encoded_method_bytes xs (zip ds os))) ≤ length (concat (zip_with encoded_method_bytes xs (zip ds ps)))
-methods_most [] ds os ps h = omega arith
-methods_most (x ∷ xs) [] os ps h = omega arith
-methods_most (x ∷ xs) (d ∷ ds) [] [] h = omega arith
 methods_most (x ∷ xs) (d ∷ ds) [] (p ∷ ps) h = absurd h
 methods_most (x ∷ xs) (d ∷ ds) (o ∷ os) [] h = absurd h
 methods_most (x ∷ xs) (d ∷ ds) (o ∷ os) (p ∷ ps) h = omega (arith, length-append {A = ℕ}, uleb128_most o p h.0, methods_most xs ds os ps h.1)
+methods_most _ _ _ _ h = omega arith
 
 class_data_most : (m : Mentions) (d : Definition) (os ps : List ℕ) → AreBelow os ps → length (class_data_bytes m d os) ≤ length (class_data_bytes m d ps)
 unfolding class_data_bytes
@@ -62,7 +46,7 @@ class_data_most m (name, c) os ps h =
     let n = length c.direct_methods in
     let direct = differences 0 (map (λ x. method_index m (method_of name x)) c.direct_methods) in
     let virtual = differences 0 (map (λ x. method_index m (method_of name x)) c.virtual_methods) in
-    omega (arith, length-append {A = ℕ}, methods_most c.direct_methods direct (take n os) (take n ps) (take_below n os ps h), methods_most c.virtual_methods virtual (drop n os) (drop n ps) (drop_below n os ps h))
+    omega (arith, length-append {A = ℕ}, methods_most c.direct_methods direct (take n os) (take n ps) (zip_take ◌≤◌ n os ps h), methods_most c.virtual_methods virtual (drop n os) (drop n ps) (zip_drop ◌≤◌ n os ps h))
 
 -- a class with the offsets of its code
 abbrev data_item : Mentions → Definition × List ℕ → List ℕ
@@ -71,14 +55,6 @@ data_item m p = class_data_bytes m p.0 p.1
 data_use : (m : Mentions) (d : Definition) (os ps : List ℕ) → AreBelow os ps → (b : Bool) → IsCoveredUse (data_item m) (data_item m) (if b then None else Some (d, os)) (if b then None else Some (d, ps))
 data_use m d os ps h true = tt
 data_use m d os ps h false = class_data_most m d os ps h
-
-data_covered : (m : Mentions) (cs : List Definition) (oss pss : List (List ℕ)) → ListsBelow oss pss
-    → AreCoveredUses (data_item m) (data_item m) (zip_with (λ d offs. if is_empty_class d.1 then None else Some (d, offs)) cs oss) (zip_with (λ d offs. if is_empty_class d.1 then None else Some (d, offs)) cs pss)
-data_covered m [] oss pss h = tt
-data_covered m (d ∷ cs) [] [] h = tt
-data_covered m (d ∷ cs) [] (ps ∷ pss) h = absurd h
-data_covered m (d ∷ cs) (os ∷ oss) [] h = absurd h
-data_covered m (d ∷ cs) (os ∷ oss) (ps ∷ pss) h = (data_use m d os ps h.0 (is_empty_class d.1), data_covered m cs oss pss h.1)
 
 -- ---- sets
 
@@ -140,57 +116,36 @@ record AreSetsEquivalent (s t : SetOffsets) : Type 0 where
   fields : AllEquivalent s.fields t.fields
   methods : ListsEquivalent s.methods t.methods
 
--- the sets of each class
-abbrev AllSetsEquivalent : List SetOffsets → List SetOffsets → Type 0
-AllSetsEquivalent [] [] = Unit {0}
-AllSetsEquivalent [] (t ∷ ts) = ⊥
-AllSetsEquivalent (s ∷ ss) [] = ⊥
-AllSetsEquivalent (s ∷ ss) (t ∷ ts) = AreSetsEquivalent s t × AllSetsEquivalent ss ts
-
 sets_of_equivalent : (d : Definition) (os ps : List ℕ) → AllEquivalent os ps → AreSetsEquivalent (set_offsets_of d os) (set_offsets_of d ps)
 sets_of_equivalent d os ps h =
     let n = length (declared_fields d.1) in
     record {
       own = equivalent_first os ps h;
-      fields = take_equivalent n (drop 1 os) (drop 1 ps) (drop_equivalent 1 os ps h);
-      methods = chunks_equivalent (map (λ x. length (method_sets x)) (declared_methods d.1)) (drop (1 + n) os) (drop (1 + n) ps) (drop_equivalent (1 + n) os ps h);
+      fields = zip_take AreEquivalent n (drop 1 os) (drop 1 ps) (zip_drop AreEquivalent 1 os ps h);
+      methods = zip_chunks AreEquivalent (map (λ x. length (method_sets x)) (declared_methods d.1)) (drop (1 + n) os) (drop (1 + n) ps) (zip_drop AreEquivalent (1 + n) os ps h);
     }
-
-sets_by_equivalent : (cs : List Definition) (oss pss : List (List ℕ)) → ListsEquivalent oss pss → AllSetsEquivalent (zip_with set_offsets_of cs oss) (zip_with set_offsets_of cs pss)
-sets_by_equivalent [] oss pss h = tt
-sets_by_equivalent (d ∷ cs) [] [] h = tt
-sets_by_equivalent (d ∷ cs) [] (ps ∷ pss) h = absurd h
-sets_by_equivalent (d ∷ cs) (os ∷ oss) [] h = absurd h
-sets_by_equivalent (d ∷ cs) (os ∷ oss) (ps ∷ pss) h = (sets_of_equivalent d os ps h.0, sets_by_equivalent cs oss pss h.1)
 
 -- ---- ref lists
 
 ref_use : (os ps : List ℕ) → length os ≡ length ps → IsCoveredUse offsets_bytes offsets_bytes (unless_empty os) (unless_empty ps)
 ref_use [] [] e = tt
-ref_use [] (p ∷ ps) e = absurd (omega (arith, e))
-ref_use (o ∷ os) [] e = absurd (omega (arith, e))
 ref_use (o ∷ os) (p ∷ ps) e = omega (arith, e, length-offsets_bytes (o ∷ os), length-offsets_bytes (p ∷ ps))
+ref_use _ _ e = absurd (omega (arith, e))
 
 uses_append : {X Y : Type 0} (g : X → List ℕ) (h : Y → List ℕ) (us us' : List (Option X)) (vs vs' : List (Option Y)) → AreCoveredUses g h us vs → AreCoveredUses g h us' vs' → AreCoveredUses g h (us ++ us') (vs ++ vs')
 uses_append g h [] us' [] vs' c d = d
-uses_append g h [] us' (v ∷ vs) vs' c d = absurd c
-uses_append g h (u ∷ us) us' [] vs' c d = absurd c
 uses_append g h (u ∷ us) us' (v ∷ vs) vs' c d = (c.0, uses_append g h us us' vs vs' c.1 d)
+uses_append g h _ us' _ vs' c d = absurd c
 
-refs_of : (oss pss : List (List ℕ)) → ListsEquivalent oss pss → AreCoveredUses offsets_bytes offsets_bytes (map (λ offs. unless_empty (drop 1 offs)) oss) (map (λ offs. unless_empty (drop 1 offs)) pss)
-refs_of [] [] h = tt
-refs_of [] (ps ∷ pss) h = absurd h
-refs_of (os ∷ oss) [] h = absurd h
-refs_of (os ∷ oss) (ps ∷ pss) h = (ref_use (drop 1 os) (drop 1 ps) (equivalent_length (drop 1 os) (drop 1 ps) (drop_equivalent 1 os ps h.0)), refs_of oss pss h.1)
-
-refs_covered : (ss ts : List SetOffsets) → AllSetsEquivalent ss ts
+refs_covered : (ss ts : List SetOffsets) → AllZip AreSetsEquivalent ss ts
     → AreCoveredUses offsets_bytes offsets_bytes (flat_map (λ s. map (λ offs. unless_empty (drop 1 offs)) s.methods) ss) (flat_map (λ s. map (λ offs. unless_empty (drop 1 offs)) s.methods) ts)
 refs_covered [] [] h = tt
 refs_covered [] (t ∷ ts) h = absurd h
 refs_covered (s ∷ ss) [] h = absurd h
 refs_covered (s ∷ ss) (t ∷ ts) h =
     uses_append offsets_bytes offsets_bytes (map (λ offs. unless_empty (drop 1 offs)) s.methods) (flat_map (λ (s : SetOffsets). map (λ offs. unless_empty (drop 1 offs)) s.methods) ss)
-    (map (λ offs. unless_empty (drop 1 offs)) t.methods) (flat_map (λ (s : SetOffsets). map (λ offs. unless_empty (drop 1 offs)) s.methods) ts) (refs_of s.methods t.methods h.0.methods) (refs_covered ss ts h.1)
+    (map (λ offs. unless_empty (drop 1 offs)) t.methods) (flat_map (λ (s : SetOffsets). map (λ offs. unless_empty (drop 1 offs)) s.methods) ts) 
+    (zip_map AllEquivalent (IsCoveredUse offsets_bytes offsets_bytes) _ _ (λ os ps h. ref_use (drop 1 os) (drop 1 ps) (length_all_zip AreEquivalent (drop 1 os) (drop 1 ps) (zip_drop AreEquivalent 1 os ps h))) s.methods t.methods h.0.methods) (refs_covered ss ts h.1)
 
 -- ---- directories
 
@@ -203,9 +158,8 @@ bytes x = x
 
 unless_by : (b c : Bool) (x y : List ℕ) → b ≡ c → length x ≤ length y → IsCoveredUse bytes bytes (if b then None else Some x) (if c then None else Some y)
 unless_by true true x y e le = tt
-unless_by true false x y e le = absurd cc
-unless_by false true x y e le = absurd cc
 unless_by false false x y e le = le
+unless_by _ _ x y e le = absurd cc
 
 sum_equivalent : (o p n k : ℕ) → AreEquivalent o p → n ≡ k → (o + n == 0) ≡ (p + k == 0)
 sum_equivalent o p n k (inl h) e = zero_equivalent (o + n) (p + k) (by n k e h)
@@ -233,17 +187,6 @@ directory_use m (name, c) s t os ps h k =
     unless_by _ _ _ _ (sum_equivalent s.own t.own _ _ h.own all)
     (omega (arith, directory_parts s.own (pairs fields s.fields) (pairs methods sm) (pairs methods os), directory_parts t.own (pairs fields t.fields) (pairs methods tm) (pairs methods ps), one, two, three))
 
-directories_covered : (m : Mentions) (cs : List Definition) (ss ts : List SetOffsets) (oss pss : List (List ℕ)) → AllSetsEquivalent ss ts → ListsEquivalent oss pss
-    → AreCoveredUses bytes bytes (zip_with (λ d p. directory_bytes m d p.0 p.1) cs (zip ss oss)) (zip_with (λ d p. directory_bytes m d p.0 p.1) cs (zip ts pss))
-directories_covered m [] ss ts oss pss h k = tt
-directories_covered m (d ∷ cs) [] [] oss pss h k = tt
-directories_covered m (d ∷ cs) [] (t ∷ ts) oss pss h k = absurd h
-directories_covered m (d ∷ cs) (s ∷ ss) [] oss pss h k = absurd h
-directories_covered m (d ∷ cs) (s ∷ ss) (t ∷ ts) [] [] h k = tt
-directories_covered m (d ∷ cs) (s ∷ ss) (t ∷ ts) [] (ps ∷ pss) h k = absurd k
-directories_covered m (d ∷ cs) (s ∷ ss) (t ∷ ts) (os ∷ oss) [] h k = absurd k
-directories_covered m (d ∷ cs) (s ∷ ss) (t ∷ ts) (os ∷ oss) (ps ∷ pss) h k = (directory_use m d s t os ps h.0 k.0, directories_covered m cs ss ts oss pss h.1 k.1)
-
 -- ---- the length of a file
 
 -- the entry of a section, if it has items
@@ -252,10 +195,7 @@ section_entry p = if length p.items == 0 then [] else (p.kind, length p.items, s
 
 -- each section has at most as many items as the other at its place
 abbrev AreFew : List Placed → List Placed → Type 0
-AreFew [] [] = Unit {0}
-AreFew [] (q ∷ qs) = ⊥
-AreFew (p ∷ ps) [] = ⊥
-AreFew (p ∷ ps) (q ∷ qs) = (length p.items ≤ length q.items) × AreFew ps qs
+AreFew = AllZip (λ p q. length p.items ≤ length q.items)
 
 entry_most : (n k : ℕ) (e f : Section × ℕ × ℕ) → n ≤ k → length (if n == 0 then [] else e ∷ []) ≤ length (if k == 0 then [] else f ∷ [])
 entry_most zero k e f le = omega arith
@@ -352,7 +292,9 @@ module _ (cs : List Definition) (m : Mentions) where
       (uses_below (offsets (code_section K)) (offsets (code_section L)) (offsets_below (code_item m) (code_item m) 4 (end (debug_section K)) (end (debug_section L)) (inl refl) us vs code_uses_covered debug_end_most) (own_numbers 0 us))
 
   data_uses_covered : AreCoveredUses (data_item m) (data_item m) (class_data_uses K (uses_offsets (code_section K))) (class_data_uses L (uses_offsets (code_section L)))
-  data_uses_covered = data_covered m cs (by_class K (uses_offsets (code_section K))) (by_class L (uses_offsets (code_section L))) (chunks_below (map (λ d. length (declared_methods d.1)) cs) (uses_offsets (code_section K)) (uses_offsets (code_section L)) code_offsets_below)
+  data_uses_covered = 
+      zip_combine AreBelow (IsCoveredUse (data_item m) (data_item m)) _ _ (λ d os ps h. data_use m d os ps h (is_empty_class d.1)) cs (by_class K (uses_offsets (code_section K))) (by_class L (uses_offsets (code_section L)))
+      (zip_chunks ◌≤◌ (map (λ d. length (declared_methods d.1)) cs) (uses_offsets (code_section K)) (uses_offsets (code_section L)) code_offsets_below)
 
   class_data_covered : IsCovered (class_data_section K).items (class_data_section L).items
   unfolding class_data_section
@@ -410,16 +352,16 @@ module _ (cs : List Definition) (m : Mentions) where
 
   set_places_equivalent : AllEquivalent (set_places K) (set_places L)
   set_places_equivalent =
-      equivalent_from (set_places K) (set_places L) (length-set_places K ∙ sym (length-set_places L))
+      zip_from AreEquivalent 0 0 (set_places K) (set_places L) (length-set_places K ∙ sym (length-set_places L))
       (λ k lt.
       let less : k < length (set_uses K) = omega (arith, lt, length-set_places K) in
       marks_equivalent (get_or (set_uses K) k None) (slice_index (set_places K) k) (slice_index (set_places L) k) (set_marked K k less) (set_marked L k less))
 
-  sets_equivalent : AllSetsEquivalent (set_offsets K) (set_offsets L)
+  sets_equivalent : AllZip AreSetsEquivalent (set_offsets K) (set_offsets L)
   unfolding set_offsets
   sets_equivalent =
       let counts = map (λ d. length (class_sets d)) cs in
-      sets_by_equivalent cs (chunks counts (set_places K)) (chunks counts (set_places L)) (chunks_equivalent counts (set_places K) (set_places L) set_places_equivalent)
+      zip_combine AllEquivalent AreSetsEquivalent set_offsets_of set_offsets_of sets_of_equivalent cs (chunks counts (set_places K)) (chunks counts (set_places L)) (zip_chunks AreEquivalent counts (set_places K) (set_places L) set_places_equivalent)
 
   ref_uses_covered : AreCoveredUses offsets_bytes offsets_bytes (ref_list_uses K (set_offsets K)) (ref_list_uses L (set_offsets L))
   ref_uses_covered = refs_covered (set_offsets K) (set_offsets L) sets_equivalent
@@ -443,8 +385,9 @@ module _ (cs : List Definition) (m : Mentions) where
 
   directory_uses_covered : AreCoveredUses bytes bytes (directory_uses K (set_offsets K) (uses_offsets (ref_list_section K))) (directory_uses L (set_offsets L) (uses_offsets (ref_list_section L)))
   directory_uses_covered =
-      directories_covered m cs (set_offsets K) (set_offsets L) (by_class K (uses_offsets (ref_list_section K))) (by_class L (uses_offsets (ref_list_section L))) sets_equivalent
-      (chunks_equivalent (map (λ d. length (declared_methods d.1)) cs) (uses_offsets (ref_list_section K)) (uses_offsets (ref_list_section L)) ref_places_equivalent)
+      zip_combine (λ p q. AreSetsEquivalent p.0 q.0 × AllEquivalent p.1 q.1) (IsCoveredUse bytes bytes) _ _ (λ d p q h. directory_use m d p.0 q.0 p.1 q.1 h.0 h.1) cs _ _
+      (zip_pairs AreSetsEquivalent AllEquivalent (set_offsets K) (set_offsets L) (by_class K (uses_offsets (ref_list_section K))) (by_class L (uses_offsets (ref_list_section L))) sets_equivalent
+      (zip_chunks AreEquivalent (map (λ d. length (declared_methods d.1)) cs) (uses_offsets (ref_list_section K)) (uses_offsets (ref_list_section L)) ref_places_equivalent))
 
   directories_are_covered : IsCovered (directory_section K).items (directory_section L).items
   unfolding directory_section

@@ -36,9 +36,8 @@ class_data_bytes-size m (name, c) offs =
 -- ---- directories
 
 ordered-size : {K : Type 0} (o : Ordering) (k x : K) (xs ys : List K) → length ys ≤ length xs + 1 → length (by_order o (k ∷ x ∷ xs) (x ∷ xs) (x ∷ ys)) ≤ length xs + 2
-ordered-size Less k x xs ys h = omega arith
-ordered-size Equal k x xs ys h = omega arith
 ordered-size Greater k x xs ys h = omega (arith, h)
+ordered-size _ k x xs ys h = omega arith
 
 module _ {K : Type 0} (R : K → K → Ordering) where
   add_in_order-size : (k : K) (xs : List K) → length (add_in_order R k xs) ≤ length xs + 1
@@ -50,9 +49,8 @@ module _ {K : Type 0} (R : K → K → Ordering) where
   in_order-size (x ∷ xs) = omega (arith, add_in_order-size x (in_order R xs), in_order-size xs)
 
 zip-size : {X Y : Type 0} (xs : List X) (ys : List Y) → length (zip xs ys) ≤ length xs
-zip-size [] ys = omega arith
-zip-size (x ∷ xs) [] = omega arith
 zip-size (x ∷ xs) (y ∷ ys) = omega (arith, zip-size xs ys)
+zip-size _ _ = omega arith
 
 kept-size : (b : Bool) (p : ℕ × ℕ) → length (if b then [] else p ∷ []) ≤ 1
 kept-size true p = omega arith

@@ -20,9 +20,8 @@ length-with_index i us =
     (length-set us 1 i)
 
 length-piece_units : (m : Mentions) (p : Piece) → length (piece_units m p) ≡ length (units_of p)
-length-piece_units m (Instruction us None) = refl
 length-piece_units m (Instruction us (Some s)) = length-with_index (symbol_index m s) us
-length-piece_units m (Payload us) = refl
+length-piece_units m _ = refl
 
 pub length-units : (m : Mentions) (ps : List Piece) → length (flat_map (piece_units m) ps) ≡ length (flat_map units_of ps)
 length-units m [] = refl

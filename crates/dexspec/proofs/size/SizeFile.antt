@@ -1,5 +1,5 @@
 -- The canonical file has at most as many bytes as its class definitions weigh.
-use Rattle.dexspec.proofs.Common.{◌≡◌, ℕ, zero, suc, ◌+◌, ◌-◌, ◌*◌, ◌%◌, ◌/◌, ◌≤◌, Bool, true, false, List, [], ◌∷◌, ◌++◌, map, length, refl, arith, sum_by, flat_map, if◌then◌else◌, ◌==◌, length-append, slice_index, concat, w32, to_be_bytes, option_map_or, Ordering, Less, Equal, Greater, length-replicate, sum_by-cons, length-flat_map, Mentions}
+use Rattle.dexspec.proofs.Common.{AllZip, ◌≡◌, ℕ, zero, suc, ◌+◌, ◌-◌, ◌*◌, ◌%◌, ◌/◌, ◌≤◌, Bool, true, false, List, [], ◌∷◌, ◌++◌, map, length, refl, arith, sum_by, flat_map, if◌then◌else◌, ◌==◌, length-append, slice_index, concat, w32, to_be_bytes, option_map_or, Ordering, Less, Equal, Greater, length-replicate, sum_by-cons, length-flat_map, Mentions}
 use Rattle.std.specs.FinMap.Entries.{put, by_order}
 use Rattle.sha1.specs.Sha1.{sha1, digest_bytes, hash_after, padded_message}
 use Rattle.dexspec.specs.{ushort, uint, round_up, padding, Text, shorty, AreDistinct, zip_with, Proto, Field, Method, HasSize, Table, header_length, adler_32, Section, TableOf, MapList, type_code, Body, Definition, declared_methods, no_index, Caps, AreCaps, Fits, Collection, definitions, mentions, place_cmp, put_all, depth, in_class_order, mentions_weight, static_values_weight, body_weight, weight, text_index, type_index, proto_index, same_types, same_debug, same_set, Placed, offsets, end, section_bytes, uses_offsets, Ordered, class_sets, type_list_section, annotation_section, annotation_offsets, array_section, string_section, debug_section, code_section, class_data_section, set_section, set_offsets, ref_list_section, directory_section, data_sections, class_offsets, data_start, placed_tables, proto_row_bytes, field_row_bytes, method_row_bytes, class_row_bytes, map_entry_bytes, map_of, map_bytes, table_bytes, header_bytes, unsigned_file, magic, with_sums, ordered, canonical}
@@ -17,16 +17,12 @@ use Rattle.dexspec.proofs.size.SizeClasses.{mentions-cover, classes-cover}
 
 -- each section has at most that many bytes
 abbrev AreWithinSizes : List Placed → List ℕ → Type 0
-AreWithinSizes [] [] = Unit {0}
-AreWithinSizes [] (n ∷ ns) = ⊥
-AreWithinSizes (p ∷ ps) [] = ⊥
-AreWithinSizes (p ∷ ps) (n ∷ ns) = (length (section_bytes p) ≤ n) × AreWithinSizes ps ns
+AreWithinSizes = AllZip (λ p n. length (section_bytes p) ≤ n)
 
 sections-size : (ps : List Placed) (ns : List ℕ) → AreWithinSizes ps ns → length (flat_map section_bytes ps) ≤ sum_by (λ n. n) ns
 sections-size [] [] h = omega arith
-sections-size [] (n ∷ ns) h = absurd h
-sections-size (p ∷ ps) [] h = absurd h
 sections-size (p ∷ ps) (n ∷ ns) h = omega (arith, length-append (section_bytes p) (flat_map section_bytes ps), sum_by-cons (λ n. n) n ns, h.0, sections-size ps ns h.1)
+sections-size _ _ h = absurd h
 
 -- an upper bound for each of the ten sections
 abbrev section_sizes : Ordered → List ℕ

@@ -43,10 +43,8 @@ operation-size m (StartLocal register name type) = omega (arith, length-append {
 operation-size m (StartLocalExtended register name type signature) = omega (arith, length-append {A = ℕ}, uleb128-size register, optional_text-size m name, optional_type-size m type, optional_text-size m signature)
 operation-size m (EndLocal register) = omega (arith, uleb128-size register)
 operation-size m (RestartLocal register) = omega (arith, uleb128-size register)
-operation-size m SetPrologueEnd = omega arith
-operation-size m SetEpilogueBegin = omega arith
 operation-size m (SetFile name) = omega (arith, optional_text-size m name)
-operation-size m (Special opcode) = omega arith
+operation-size m _ = omega arith
 
 pub debug_bytes-size : (m : Mentions) (d : Debug) → length (debug_bytes m d) ≤ debug_weight d
 unfolding debug_bytes
@@ -94,8 +92,7 @@ mutual
   value_bytes-size m (EnumValue f) = unsigned_bytes-size 0x1b (field_index m f)
   value_bytes-size m (ArrayValue vs) = omega (arith, length-append (uleb128 (count_values vs)) (values_bytes m vs), uleb128-size (count_values vs), values_bytes-size m vs)
   value_bytes-size m (AnnotationValue t es) = omega (arith, length-append {A = ℕ}, uleb128-size, elements_bytes-size m es)
-  value_bytes-size m NullValue = omega arith
-  value_bytes-size m (BooleanValue is) = omega arith
+  value_bytes-size m _ = omega arith
 
   pub values_bytes-size : (m : Mentions) (vs : Values) → length (values_bytes m vs) ≤ values_weight vs
   values_bytes-size m NoValues = omega arith

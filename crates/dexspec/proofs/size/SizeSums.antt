@@ -19,9 +19,8 @@ module _ {X Y : Type 0} where
 
   -- a combination of two lists counts at most as much as the first
   pub sum_by-zip_with : {Z : Type 0} (f : Z → ℕ) (h : X → ℕ) (g : X → Y → Z) (xs : List X) (ys : List Y) → ((x : X) (y : Y) → f (g x y) ≤ h x) → sum_by f (zip_with g xs ys) ≤ sum_by h xs
-  sum_by-zip_with f h g [] ys le = omega arith
-  sum_by-zip_with f h g (x ∷ xs) [] le = omega arith
   sum_by-zip_with f h g (x ∷ xs) (y ∷ ys) le = omega (arith, sum_by-cons f (g x y) (zip_with g xs ys), sum_by-cons h x xs, le x y, sum_by-zip_with f h g xs ys le)
+  sum_by-zip_with f h g _ _ le = omega arith
 
 module _ {X : Type 0} where
   -- a present value counts, and nothing else

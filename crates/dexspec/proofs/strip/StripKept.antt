@@ -146,25 +146,19 @@ kept-definition (name, c) =
 protos-other : (s : Symbol) (p : Proto) → Contains (protos_in s) p → IsOther s
 protos-other (TextSymbol s) p c = Contains-nil p c
 protos-other (TypeSymbol t) p c = Contains-nil p c
-protos-other (ProtoSymbol q) p c = tt
-protos-other (FieldSymbol f) p c = tt
-protos-other (MethodSymbol m) p c = tt
+protos-other _ p c = tt
 
 -- a text or type has no field
 fields-other : (s : Symbol) (f : Field) → Contains (fields_in s) f → IsOther s
 fields-other (TextSymbol s) f c = Contains-nil f c
 fields-other (TypeSymbol t) f c = Contains-nil f c
-fields-other (ProtoSymbol q) f c = tt
-fields-other (FieldSymbol g) f c = tt
-fields-other (MethodSymbol m) f c = tt
+fields-other _ f c = tt
 
 -- a text or type has no method
 methods-other : (s : Symbol) (m : Method) → Contains (methods_in s) m → IsOther s
 methods-other (TextSymbol s) m c = Contains-nil m c
 methods-other (TypeSymbol t) m c = Contains-nil m c
-methods-other (ProtoSymbol q) m c = tt
-methods-other (FieldSymbol g) m c = tt
-methods-other (MethodSymbol n) m c = tt
+methods-other _ m c = tt
 
 module _ (D : List Definition) where
   -- a part that is not a part of a text or type still occurs

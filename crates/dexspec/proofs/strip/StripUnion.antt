@@ -29,9 +29,8 @@ strip-twice D = map-twice strip_definition (λ d i. (d.0, strip_body-twice d.1 i
 
 -- the file of a number, and no definitions without a file
 strip-file : (files : List (List Definition)) (k : ℕ) → strip (get_or files k []) ≡ get_or (map strip files) k []
-strip-file [] k = refl
-strip-file (D ∷ files) zero = refl
 strip-file (D ∷ files) (suc k) = strip-file files k
+strip-file _ _ = refl
 
 -- a union stripped is the union of the stripped files
 pub strip-union : (files : List (List Definition)) (plan : Plan) → strip (union files plan) ≡ union (map strip files) plan

@@ -178,29 +178,7 @@ piece_from at (u ∷ us) n some (inr p) =
 -- every format has a unit
 some_units : (f : Format) → 0 < units_in f
 some_units F10x = omega arith
-some_units F12x = omega arith
-some_units F11n = omega arith
-some_units F11x = omega arith
-some_units F10t = omega arith
-some_units F20t = omega arith
-some_units F22x = omega arith
-some_units F21t = omega arith
-some_units F21s = omega arith
-some_units F21h = omega arith
-some_units F21c = omega arith
-some_units F23x = omega arith
-some_units F22b = omega arith
-some_units F22s = omega arith
-some_units F22t = omega arith
-some_units F22c = omega arith
-some_units F30t = omega arith
-some_units F32x = omega arith
-some_units F31i = omega arith
-some_units F31t = omega arith
-some_units F31c = omega arith
-some_units F35c = omega arith
-some_units F3rc = omega arith
-some_units F51l = omega arith
+some_units _ = omega arith
 
 -- ---- what is kept
 

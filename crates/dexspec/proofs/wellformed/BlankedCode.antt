@@ -17,22 +17,20 @@ AreDenoted N us (c ∷ cs) (p ∷ ps) = DenotesPiece N (take c.units us) p × Ar
 -- from the whole to the rest
 pub pieces_denoted : (N : ℕ → Symbol → Type 0) (all : List ℕ) (at : ℕ) (us : List ℕ) (cs : List Cut) (ps : List Piece) → drop at all ≡ us → AreCut at us cs [] → AllZip (λ c p. DenotesPiece N (cut_units all c) p) cs ps → AreDenoted N us cs ps
 pieces_denoted N all at us [] [] e h g = tt
-pieces_denoted N all at us [] (p ∷ ps) e h g = absurd g
-pieces_denoted N all at us (c ∷ cs) [] e h g = absurd g
 pieces_denoted N all at us (c ∷ cs) (p ∷ ps) e h g = (
   subst (λ (ys : List ℕ). DenotesPiece N (take c.units ys) p) (ap (λ (k : ℕ). drop k all) h.0 ∙ e) g.0,
   pieces_denoted N all (at + c.units) (drop c.units us) cs ps (sym (drop-drop c.units at all) ∙ ap (drop c.units) e) h.2 g.1,
 )
+pieces_denoted _ all at us _ _ e h g = absurd g
 
 -- from the rest to the whole
 pub pieces_denoted_back : (N : ℕ → Symbol → Type 0) (all : List ℕ) (at : ℕ) (us : List ℕ) (cs : List Cut) (ps : List Piece) → drop at all ≡ us → AreCut at us cs [] → AreDenoted N us cs ps → AllZip (λ c p. DenotesPiece N (cut_units all c) p) cs ps
 pieces_denoted_back N all at us [] [] e h g = tt
-pieces_denoted_back N all at us [] (p ∷ ps) e h g = absurd g
-pieces_denoted_back N all at us (c ∷ cs) [] e h g = absurd g
 pieces_denoted_back N all at us (c ∷ cs) (p ∷ ps) e h g = (
   subst (λ (ys : List ℕ). DenotesPiece N (take c.units ys) p) (sym (ap (λ (k : ℕ). drop k all) h.0 ∙ e)) g.0,
   pieces_denoted_back N all (at + c.units) (drop c.units us) cs ps (sym (drop-drop c.units at all) ∙ ap (drop c.units) e) h.2 g.1,
 )
+pieces_denoted_back _ all at us _ _ e h g = absurd g
 
 -- an element of the first part
 pub append_left : (xs ys : List ℕ) (i d : ℕ) → i < length xs → get_or (xs ++ ys) i d ≡ get_or xs i d

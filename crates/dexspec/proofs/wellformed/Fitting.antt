@@ -181,25 +181,17 @@ module _ (b : List ℕ) where
     | inl e ↦ (ushort_at b (row_at b MethodIds i + 2), subst (ProtoRow b (ushort_at b (row_at b MethodIds i + 2))) e h.proto)
     | inr l ↦ absurd (Contains-nil p l)
   ]
-  proto_rows (TextSymbol s) h p c = absurd (Contains-nil p c)
-  proto_rows (TypeSymbol s) h p c = absurd (Contains-nil p c)
-  proto_rows (FieldSymbol s) h p c = absurd (Contains-nil p c)
+  proto_rows _ h p c = absurd (Contains-nil p c)
 
   -- the field of a symbol with a row has a row
   field_rows : (s : Symbol) → HasRow b s → (f : Field) → Contains (fields_in s) f → (i : ℕ) × FieldRow b i f
   field_rows (FieldSymbol g) (i, h) f c = elim (Contains-cons_cases g f [] c) [ inl e ↦ (i, subst (FieldRow b i) e h) | inr l ↦ absurd (Contains-nil f l) ]
-  field_rows (TextSymbol s) h f c = absurd (Contains-nil f c)
-  field_rows (TypeSymbol s) h f c = absurd (Contains-nil f c)
-  field_rows (ProtoSymbol s) h f c = absurd (Contains-nil f c)
-  field_rows (MethodSymbol s) h f c = absurd (Contains-nil f c)
+  field_rows _ h f c = absurd (Contains-nil f c)
 
   -- the method of a symbol with a row has a row
   method_rows : (s : Symbol) → HasRow b s → (m : Method) → Contains (methods_in s) m → (i : ℕ) × MethodRow b i m
   method_rows (MethodSymbol n) (i, h) m c = elim (Contains-cons_cases n m [] c) [ inl e ↦ (i, subst (MethodRow b i) e h) | inr l ↦ absurd (Contains-nil m l) ]
-  method_rows (TextSymbol s) h m c = absurd (Contains-nil m c)
-  method_rows (TypeSymbol s) h m c = absurd (Contains-nil m c)
-  method_rows (ProtoSymbol s) h m c = absurd (Contains-nil m c)
-  method_rows (FieldSymbol s) h m c = absurd (Contains-nil m c)
+  method_rows _ h m c = absurd (Contains-nil m c)
 
   -- ---- mentioned symbols
 

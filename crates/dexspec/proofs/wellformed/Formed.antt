@@ -52,27 +52,19 @@ symbol_types (MethodSymbol m) h t c = elim (Contains-cons_cases m.class t (proto
 
 -- its proto
 symbol_protos : (y : Symbol) → IsSymbol y → (p : Proto) → Contains (protos_in y) p → IsProto p
-symbol_protos (TextSymbol s) h p c = absurd (Contains-nil p c)
-symbol_protos (TypeSymbol s) h p c = absurd (Contains-nil p c)
 symbol_protos (ProtoSymbol q) h p c = subst IsProto (one_member q p c) h
-symbol_protos (FieldSymbol f) h p c = absurd (Contains-nil p c)
 symbol_protos (MethodSymbol m) h p c = subst IsProto (one_member m.proto p c) h.proto
+symbol_protos _ h p c = absurd (Contains-nil p c)
 
 -- its field
 symbol_fields : (y : Symbol) → IsSymbol y → (f : Field) → Contains (fields_in y) f → IsField f
-symbol_fields (TextSymbol s) h f c = absurd (Contains-nil f c)
-symbol_fields (TypeSymbol s) h f c = absurd (Contains-nil f c)
-symbol_fields (ProtoSymbol q) h f c = absurd (Contains-nil f c)
 symbol_fields (FieldSymbol g) h f c = subst IsField (one_member g f c) h
-symbol_fields (MethodSymbol m) h f c = absurd (Contains-nil f c)
+symbol_fields _ h f c = absurd (Contains-nil f c)
 
 -- its method
 symbol_methods : (y : Symbol) → IsSymbol y → (m : Method) → Contains (methods_in y) m → IsMethod m
-symbol_methods (TextSymbol s) h m c = absurd (Contains-nil m c)
-symbol_methods (TypeSymbol s) h m c = absurd (Contains-nil m c)
-symbol_methods (ProtoSymbol q) h m c = absurd (Contains-nil m c)
-symbol_methods (FieldSymbol g) h m c = absurd (Contains-nil m c)
 symbol_methods (MethodSymbol n) h m c = subst IsMethod (one_member n m c) h
+symbol_methods _ h m c = absurd (Contains-nil m c)
 
 -- rows can denote the symbols
 pub record AreFormed (m : Mentions) : Type 0 where

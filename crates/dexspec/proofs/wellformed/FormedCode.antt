@@ -15,16 +15,11 @@ use Rattle.dexspec.proofs.wellformed.DenotedGood.{accepted_classes, member_row}
 
 -- an operation has a byte
 operation_some : (b : List ℕ) (o : ℕ) (op : Operation) (n : ℕ) → OperationAt b o op n → 0 < n
-operation_some b o (AdvancePc addresses) n h = omega (arith, h.3)
-operation_some b o (AdvanceLine lines) n h = omega (arith, h.3)
 operation_some b o (StartLocal register name type) n h = omega (arith, h.7)
 operation_some b o (StartLocalExtended register name type signature) n h = omega (arith, h.9)
-operation_some b o (EndLocal register) n h = omega (arith, h.3)
-operation_some b o (RestartLocal register) n h = omega (arith, h.3)
 operation_some b o SetPrologueEnd n h = omega (arith, h.1)
 operation_some b o SetEpilogueBegin n h = omega (arith, h.1)
-operation_some b o (SetFile name) n h = omega (arith, h.3)
-operation_some b o (Special opcode) n h = omega (arith, h.3)
+operation_some b o _ n h = omega (arith, h.3)
 
 -- operations have at least as many bytes as there are operations
 operations_few : (b : List ℕ) (o : ℕ) (ops : List Operation) (n : ℕ) → Sequence OperationAt b o ops n → length ops ≤ n
@@ -33,16 +28,13 @@ operations_few b o (op ∷ ops) n h = omega (arith, h.4, operation_some b o op h
 
 -- an operation is well formed
 operation_formed : (b : List ℕ) (o : ℕ) (op : Operation) (n : ℕ) → OperationAt b o op n → IsOperation op
-operation_formed b o (AdvancePc addresses) n h = h.2.spelled.in_range
-operation_formed b o (AdvanceLine lines) n h = h.2.spelled.in_range
 operation_formed b o (StartLocal register name type) n h = h.4.spelled.in_range
 operation_formed b o (StartLocalExtended register name type signature) n h = h.5.spelled.in_range
-operation_formed b o (EndLocal register) n h = h.2.spelled.in_range
-operation_formed b o (RestartLocal register) n h = h.2.spelled.in_range
 operation_formed b o SetPrologueEnd n h = tt
 operation_formed b o SetEpilogueBegin n h = tt
 operation_formed b o (SetFile name) n h = tt
 operation_formed b o (Special opcode) n h = (h.1, h.2)
+operation_formed b o _ n h = h.2.spelled.in_range
 
 -- a debug program is well formed
 debug_formed : (b : List ℕ) (o : ℕ) (d : Debug) → length b ≤ 2 ^ 30 → DebugAt b o d → IsDebug d

@@ -20,9 +20,8 @@ use Rattle.dexspec.proofs.wellformed.FormedValues.{HasSets, AreSets, empty_set, 
 
 -- the first order does not decide
 rest_less : (a r : Ordering) → a ≡ Equal → ordering_then a r ≡ Less → r ≡ Less
-rest_less Less r e l = absurd cc
 rest_less Equal r e l = l
-rest_less Greater r e l = absurd cc
+rest_less _ r e l = absurd cc
 
 -- one class does not decide the order
 same_class : (name s t : Text) → s ≡ name → t ≡ name → text_cmp s t ≡ Equal
@@ -91,8 +90,6 @@ module _ (b : List ℕ) (rise : MembersRise b) (name : Text) (d : Directory) whe
   -- the keys of methods of one class rise
   method_keys : (o : ℕ) (last : Option ℕ) (xs : List EncodedMethod) (ms : List MethodDef) (n : ℕ) → EncodedMethodsAt b o last xs n → ((x : EncodedMethod) → Contains xs x → x.method.class ≡ name) → AllZip (MakesMethod b d) xs ms → Rises method_key_cmp (map method_key ms)
   method_keys o last [] [] n h own made = tt
-  method_keys o last [] (m ∷ ms) n h own made = absurd made
-  method_keys o last (x ∷ xs) [] n h own made = absurd made
   method_keys o last (x ∷ xs) (m ∷ ms) n h own made = (
     λ key c.
         let s = map_source method_key ms key c in
@@ -104,6 +101,7 @@ module _ (b : List ℕ) (rise : MembersRise b) (name : Text) (d : Directory) whe
         subst (λ (k : Text × Proto). method_key_cmp k key ≡ Less) (made_key x m made.0) (subst (λ (k : Text × Proto). method_key_cmp (x.method.name, x.method.proto) k ≡ Less) (made_key y s.0 t.2 ∙ s.2) rest),
     method_keys (o + h.0 + h.1 + h.2) (Some h.5) xs ms h.3 h.11 (λ y c. own y (Contains-later x y xs c)) made.1,
   )
+  method_keys o last _ _ n h own made = absurd made
 
 -- the properties of the class data of a class
 record DataFormed (b : List ℕ) (name : Text) (d : ClassData) : Type 0 where
@@ -207,9 +205,8 @@ map_map f g (x ∷ xs) = ap (λ zs. f (g x) ∷ zs) (map_map f g xs)
 -- the keys of methods are those of their encoded methods
 made_keys : (b : List ℕ) (d : Directory) (xs : List EncodedMethod) (ms : List MethodDef) → AllZip (MakesMethod b d) xs ms → map method_key ms ≡ map encoded_method_key xs
 made_keys b d [] [] h = refl
-made_keys b d [] (m ∷ ms) h = absurd h
-made_keys b d (x ∷ xs) [] h = absurd h
 made_keys b d (x ∷ xs) (m ∷ ms) h = λ i. (h.0.name i, h.0.proto i) ∷ made_keys b d xs ms h.1 i
+made_keys b d _ _ h = absurd h
 
 -- ---- class rows
 

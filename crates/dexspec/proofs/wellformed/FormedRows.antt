@@ -31,9 +31,8 @@ length-uints_at b o (suc n) = omega (arith, length-uints_at b (o + 4) n)
 -- related lists have equal lengths
 pub length-zip : {A X : Type 0} (R : A → X → Type 0) (keys : List A) (xs : List X) → AllZip R keys xs → length keys ≡ length xs
 length-zip R [] [] h = refl
-length-zip R [] (x ∷ xs) h = absurd h
-length-zip R (a ∷ keys) [] h = absurd h
 length-zip R (a ∷ keys) (x ∷ xs) h = omega (arith, length-zip R keys xs h.1)
+length-zip _ _ _ h = absurd h
 
 module _ (b : List ℕ) where
   -- ---- symbols

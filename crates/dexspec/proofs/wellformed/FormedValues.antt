@@ -100,15 +100,9 @@ module _ (b : List ℕ) (bytes : All (λ byte. byte < 256) b) where
     value_formed o (LongValue z) n h = fits_64 z (signed_room_at 0x06 8 o z n h)
     value_formed o (FloatValue bits) n h = bits_room_at 0x10 4 o bits n h
     value_formed o (DoubleValue bits) n h = bits_room_at 0x11 8 o bits n h
-    value_formed o (StringValue s) n h = tt
-    value_formed o (TypeValue t) n h = tt
-    value_formed o (FieldValue f) n h = tt
-    value_formed o (MethodValue m) n h = tt
-    value_formed o (EnumValue f) n h = tt
     value_formed o (ArrayValue vs) n h = (values_formed (o + 1 + h.2.0) vs h.2.1 h.2.3, h.2.2.spelled.in_range)
     value_formed o (AnnotationValue t es) n h = (elements_formed (o + 1 + h.2.0 + h.2.1) es h.2.2 h.2.7, h.2.6.spelled.in_range, h.2.8)
-    value_formed o NullValue n h = tt
-    value_formed o (BooleanValue is) n h = tt
+    value_formed o _ n h = tt
 
     -- values are well formed
     pub values_formed : (o : ℕ) (vs : Values) (n : ℕ) → ValuesAt b o vs n → AreValues vs

@@ -30,8 +30,7 @@ module _ {X : Type 0} (R : X → X → Ordering) (o : IsTotalOrder R) (Row : ℕ
 -- keys of one number each
 pub first_less : (r : Ordering) → ordering_then r Equal ≡ Less → r ≡ Less
 first_less Less e = refl
-first_less Equal e = absurd cc
-first_less Greater e = absurd cc
+first_less _ e = absurd cc
 
 -- the meaning of a lesser number
 pub less_number : (x y : ℕ) → nat_cmp x y ≡ Less → x < y
@@ -92,11 +91,7 @@ module _ (b : List ℕ) (strings : AreStrings b) where
 -- a row has at least one byte
 row_bytes : (t : Table) (n : ℕ) → n ≤ row_size t * n
 row_bytes StringIds n = omega arith
-row_bytes TypeIds n = omega arith
-row_bytes ProtoIds n = omega arith
-row_bytes FieldIds n = omega arith
-row_bytes MethodIds n = omega arith
-row_bytes ClassDefs n = omega arith
+row_bytes _ n = omega arith
 
 -- the tables end at the start of the data
 laid_within : (b : List ℕ) (from : ℕ) (ts : List Table) → AreLaidOut b from ts → from ≤ data_off b

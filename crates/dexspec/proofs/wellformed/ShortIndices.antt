@@ -76,8 +76,6 @@ short_string us pool short =
 module _ (D : List Definition) (fits : Fits greatest_caps D) (d : Definition) (x : MethodDef) (c : Code) (in_file : Contains D d) (declared : Contains (declared_methods d.1) x) (has : x.code ≡ Some c) (is : IsCodeItem c) where
   -- a piece's index fits its field
   index_fits : (p : Piece) → Contains c.pieces p → IndexFits (mentions D) p
-  index_fits (Instruction us None) k = tt
-  index_fits (Payload us) k = tt
   index_fits (Instruction us (Some s)) k = λ short.
       let occurs = code_occurs d.0 d.1 x c s declared has
       (Contains-append_left _ _ s (Contains-flat_map piece_symbols c.pieces (Instruction us (Some s)) s k (Contains-first s []))) in
@@ -94,6 +92,7 @@ module _ (D : List Definition) (fits : Fits greatest_caps D) (d : Definition) (x
       by (ProtoSymbol p) k short m = omega (arith, (rank-place proto_cmp proto_total (mentions D).protos p p (mentions-rising D).protos m).0, fits.protos)
       by (FieldSymbol f) k short m = omega (arith, (rank-place field_cmp field_total (mentions D).fields f f (mentions-rising D).fields m).0, fits.fields)
       by (MethodSymbol y) k short m = omega (arith, (rank-place method_cmp method_total (mentions D).methods y y (mentions-rising D).methods m).0, fits.methods)
+  index_fits _ k = tt
 
   -- the indices of all pieces fit
   pub indices_fit : All (IndexFits (mentions D)) c.pieces

@@ -100,9 +100,8 @@ module _ (b : List ℕ) where
 
   -- the symbol of a piece
   piece_rows : (us : List ℕ) (p : Piece) → DenotesPiece (SymbolRow b) us p → HaveRows b (piece_symbols p)
-  piece_rows us (Instruction xs None) h = have_none
   piece_rows us (Instruction xs (Some s)) h = have_first s [] (index_in us, h.1) have_none
-  piece_rows us (Payload xs) h = have_none
+  piece_rows us _ h = have_none
 
   module _ (us : List ℕ) (cuts : List Cut) where
     -- the types that a handler catches
@@ -155,15 +154,7 @@ module _ (b : List ℕ) where
     value_rows o (EnumValue f) n h = have_first (FieldSymbol f) [] (h.0, h.2) have_none
     value_rows o (ArrayValue vs) n h = values_rows (o + 1 + h.2.0) vs h.2.1 h.2.3
     value_rows o (AnnotationValue t es) n h = have_first (TypeSymbol t) (elements_symbols es) (h.2.3, h.2.5) (elements_rows (o + 1 + h.2.0 + h.2.1) es h.2.2 h.2.7)
-    value_rows o (ByteValue z) n h = have_none
-    value_rows o (ShortValue z) n h = have_none
-    value_rows o (CharValue u) n h = have_none
-    value_rows o (IntValue z) n h = have_none
-    value_rows o (LongValue z) n h = have_none
-    value_rows o (FloatValue bits) n h = have_none
-    value_rows o (DoubleValue bits) n h = have_none
-    value_rows o NullValue n h = have_none
-    value_rows o (BooleanValue is) n h = have_none
+    value_rows o _ n h = have_none
 
     -- the symbols of values
     values_rows : (o : ℕ) (vs : Values) (n : ℕ) → ValuesAt b o vs n → HaveRows b (values_symbols vs)

@@ -110,16 +110,14 @@ pairs_rise is offs =
 -- a property of the keys of related places
 all_keys : {A B : Type 0} (R : A → B → Type 0) (P : A → Type 0) → ((a : A) (x : B) → R a x → P a) → (ks : List A) (xs : List B) → AllZip R ks xs → All P ks
 all_keys R P f [] [] h = All-nil P
-all_keys R P f [] (x ∷ xs) h = absurd h
-all_keys R P f (k ∷ ks) [] h = absurd h
 all_keys R P f (k ∷ ks) (x ∷ xs) h = All-cons P k ks (f k x h.0) (all_keys R P f ks xs h.1)
+all_keys _ _ f _ _ h = absurd h
 
 -- a relation that follows from another
 pub zip_weaker : {A B : Type 0} (R S : A → B → Type 0) → ((a : A) (x : B) → R a x → S a x) → (ks : List A) (xs : List B) → AllZip R ks xs → AllZip S ks xs
 zip_weaker R S f [] [] h = tt
-zip_weaker R S f [] (x ∷ xs) h = absurd h
-zip_weaker R S f (k ∷ ks) [] h = absurd h
 zip_weaker R S f (k ∷ ks) (x ∷ xs) h = (f k x h.0, zip_weaker R S f ks xs h.1)
+zip_weaker _ _ f _ _ h = absurd h
 
 module _ {M X : Type 0} (R : M → M → Ordering) (exact : IsAntisymmetric R) (index : M → ℕ) (Known : M → Type 0) (compare : (m n : M) → Known m → Known n → nat_cmp (index m) (index n) ≡ R m n) (At : ℕ → List X → Type 0) where
   -- the pair has the index of the entry's member, and the offset of its list

@@ -1,7 +1,7 @@
 -- The canonical bytes of each item, for given pools and offsets: every encoding is the shortest. Source: "Dalvik
 -- Executable format", the headings that the files on reading each item name. The shortest encoding, and the order of
 -- handlers by first use, are this project's rule.
-use Rattle.std.specs.Prelude.{ℕ, suc, ℤ, pos, negsuc, ◌-ℤ◌, ◌+◌, ◌-◌, ◌*◌, ◌/◌, ◌%◌, ◌^◌, ◌==◌, nat_lt, if◌then◌else◌, List, [], ◌∷◌, ◌++◌, length, map, take, drop, Option, Some, None, unwrap_or, option_to_list}
+use Rattle.std.specs.Prelude.{ℕ, suc, ℤ, pos, negsuc, ◌-ℤ◌, ◌+◌, ◌-◌, ◌*◌, ◌/◌, ◌%◌, ◌^◌, ◌==◌, nat_lt, if◌then◌else◌, List, [], ◌∷◌, ◌++◌, length, map, take, drop, Option, Some, unwrap_or, option_to_list}
 use Rattle.std.specs.List.{flat_map, concat, find, zip}
 use Rattle.std.specs.Option.{option_map, option_map_or}
 use Rattle.dexspec.specs.Lists.{rank, zip_with}

@@ -1,6 +1,6 @@
 -- A canonical file has a valid frame: conditions 1 to 10.
 use Rattle.dexspec.proofs.Common.{ℕ, ◌^◌, ◌<◌, ◌≤◌, List, length, arith}
-use Rattle.dexspec.specs.{StringIds, TypeIds, ProtoIds, FieldIds, MethodIds, ClassDefs, HasSize, Condition, IsFrame, Collection, definitions, Caps, AreCaps, Fits, Ordered, with_sums, unsigned_file, ordered, canonical}
+use Rattle.dexspec.specs.{TypeIds, ProtoIds, FieldIds, MethodIds, HasSize, Condition, IsFrame, Collection, definitions, Caps, AreCaps, Fits, Ordered, with_sums, unsigned_file, ordered, canonical}
 use Rattle.dexspec.proofs.layout.Sums.{with_sums_magic, with_sums_version, with_sums_checksum, with_sums_signature}
 use Rattle.dexspec.proofs.layout.SectionPlaces.{Laid, laid, data_before_map}
 use Rattle.dexspec.proofs.size.SizeFile.{canonical-has_size}

@@ -1,6 +1,6 @@
 -- The rows of a file with this layout, as they are read: indices, offsets, and the items at the offsets.
 use Rattle.dexspec.proofs.Common.{◌≡◌, ℕ, ◌+◌, ◌*◌, ◌^◌, ◌<◌, ◌≤◌, List, [], ◌∷◌, ◌++◌, length, get_or, map, refl, sym, ap, subst, ◌∙◌, arith, slice_index, Option, Some, None, option_map_or, flat_map, is_lt, get_or-map, length-map, length-append, count_by-le-length}
-use Rattle.dexspec.specs.{ushort, uint, ushort_at, uint_at, ushorts_at, uints_at, BytesAt, Text, text_cmp, string_data, shorty, Proto, Field, Method, proto_cmp, Table, StringIds, TypeIds, ProtoIds, FieldIds, MethodIds, ClassDefs, IsInData, row_at, type_indices, Definition, class_idx, access_flags, superclass_idx, interfaces_off, source_file_idx, annotations_off, class_data_off, static_values_off, no_index, text_index, type_index, proto_index, encoded_array_bytes, class_data_bytes, type_list_bytes, unless_empty, values_unless_empty, offsets, Ordered, by_class, directory_bytes, uses_offsets, table_count, string_section, type_list_section, code_section, ref_list_section}
+use Rattle.dexspec.specs.{ushort, uint, ushort_at, uint_at, ushorts_at, BytesAt, Text, text_cmp, string_data, shorty, Proto, Field, Method, proto_cmp, Table, StringIds, TypeIds, ProtoIds, FieldIds, MethodIds, ClassDefs, IsInData, row_at, type_indices, Definition, class_idx, access_flags, superclass_idx, interfaces_off, source_file_idx, annotations_off, class_data_off, static_values_off, no_index, text_index, type_index, proto_index, encoded_array_bytes, class_data_bytes, type_list_bytes, unless_empty, values_unless_empty, offsets, Ordered, by_class, directory_bytes, uses_offsets, table_count, string_section, type_list_section, code_section, ref_list_section}
 use Rattle.dexspec.proofs.written.PlacedBytes.{is_at, length_rows}
 use Rattle.dexspec.proofs.numbers.ByteNumbers.{length-uint, length-ushort, ushort_at-encodes, uint_at-encodes}
 use Rattle.dexspec.proofs.layout.Tables.{is_at_here, is_at_end, is_at_next}

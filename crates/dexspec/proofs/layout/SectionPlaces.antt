@@ -1,6 +1,6 @@
 -- The contents of the file of classes in order, by offset: `Laid`, which the laws on header, layout, map, rows and
 -- items use.
-use Rattle.dexspec.proofs.Common.{◌≡◌, ◌≢◌, ℕ, zero, suc, ◌+◌, ◌-◌, ◌*◌, ◌%◌, ◌^◌, ◌<◌, ◌≤◌, List, [], ◌∷◌, ◌++◌, length, get_or, drop, refl, sym, ap, subst, ◌∙◌, arith, slice_index, ◌==◌, Bool, true, false, if◌then◌else◌, flat_map, zip, length-append, length-drop, get_or-drop, cond-false, ne_eqb}
+use Rattle.dexspec.proofs.Common.{◌≡◌, ◌≢◌, ℕ, zero, suc, ◌+◌, ◌-◌, ◌*◌, ◌%◌, ◌^◌, ◌<◌, ◌≤◌, List, ◌∷◌, ◌++◌, length, get_or, drop, refl, sym, ap, subst, ◌∙◌, arith, slice_index, ◌==◌, Bool, true, false, if◌then◌else◌, flat_map, zip, length-append, length-drop, get_or-drop, cond-false, ne_eqb}
 use Rattle.dexspec.specs.{zip_with, uint, BytesAt, round_up, padding, Text, Proto, Field, Method, Definition, Table, StringIds, TypeIds, ProtoIds, FieldIds, MethodIds, ClassDefs, header_length, row_size, table_size, table_off, file_size, header_size, endian_tag, link_size, link_off, map_off, data_size, data_off, Section, IsInData, row_at, text_index, Ordered, Placed, offsets, section_bytes, end, uses_offsets, table_count, data_start, proto_row_bytes, field_row_bytes, method_row_bytes, class_offsets, class_row_bytes, table_bytes, header_bytes, map_of, map_bytes, unsigned_file, with_sums, type_list_section, annotation_section, array_section, debug_section, code_section, class_data_section, set_section, ref_list_section, directory_section, data_sections, string_section}
 use Rattle.dexspec.proofs.written.PlacedBytes.{is_at_in, is_at, is_at_row, is_at_whole}
 use Rattle.dexspec.proofs.numbers.ByteNumbers.{length-uint, uint_at-encodes}

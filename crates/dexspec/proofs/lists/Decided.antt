@@ -1,8 +1,8 @@
 -- Equality of values of the model is decidable, by their codes.
-use Rattle.dexspec.proofs.Common.{◌≡◌, ◌≢◌, ◌⊎◌, ℕ, refl, ap, subst, inl, inr, cases_eq, Debug, Code, Values}
+use Rattle.dexspec.proofs.Common.{◌≡◌, ◌≢◌, ◌⊎◌, ℕ, refl, ap, subst, inl, inr, cases_eq}
 use Rattle.std.specs.Coded.{Coded}
 use base.Stored.{Gv, gnil, gnum, gcons}
-use Rattle.dexspec.specs.{Text, Proto, Field, Method, Symbol, Piece, Operation, Catch, Handler, Try, Value, Elements, Annotation, AnnotationSet, FieldDef, MethodDef, Body, Definition, Collection}
+use Rattle.dexspec.specs.{Text, Body, Definition}
 use Rattle.dexspec.specs.internal.Codes as codes
 
 -- two values are equal or not

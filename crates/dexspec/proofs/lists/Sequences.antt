@@ -1,8 +1,7 @@
 -- Items in sequence: there is at most one list of a given length at an offset, if there is at most one item at an
 -- offset.
-use Rattle.dexspec.proofs.Common.{◌≡◌, ℕ, ◌+◌, List, [], ◌∷◌, length, refl, sym, subst, ◌∙◌, arith, flat_map, length-append}
-use Rattle.dexspec.specs.{Item, Sequence, BytesAt}
-use Rattle.dexspec.proofs.written.PlacedBytes.{is_at_first, is_at_whole, is_at_later, is_at_in, is_at}
+use Rattle.dexspec.proofs.Common.{◌≡◌, ℕ, ◌+◌, List, [], ◌∷◌, length, refl, sym, subst, ◌∙◌, arith}
+use Rattle.dexspec.specs.{Item, Sequence}
 
 -- and no other items are
 pub one_sequence : {X : Type 0} (At : Item X) → ((b : List ℕ) (o : ℕ) (x y : X) (n k : ℕ) → At b o x n → At b o y k → (x ≡ y) × (n ≡ k))

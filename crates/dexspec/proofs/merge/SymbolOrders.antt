@@ -1,5 +1,5 @@
 -- The orders of texts and symbols are total, and only equal symbols are equal by order.
-use Rattle.dexspec.proofs.Common.{◌≡◌, refl, Ordering, Less, Equal, Greater, ordering_then, IsTotalOrder, slice_cmp, then_total, on_total, nat_list_cmp_total, lists_total}
+use Rattle.dexspec.proofs.Common.{◌≡◌, refl, Ordering, Equal, ordering_then, IsTotalOrder, slice_cmp, then_total, on_total, nat_list_cmp_total, lists_total}
 use Rattle.std.specs.FinMap.{IsAntisymmetric, slice_cmp-IsAntisymmetric, nat_cmp-IsAntisymmetric}
 use Rattle.dexspec.specs.{text_cmp, Proto, Field, Method, proto_cmp, field_cmp, method_cmp}
 

@@ -1,5 +1,5 @@
 -- Numbers of a fixed number of bytes: what their bytes encode, and that they are read at the offsets of their bytes.
-use Rattle.dexspec.proofs.Common.{◌≡◌, All, ℕ, zero, suc, ◌+◌, ◌-◌, ◌*◌, ◌/◌, ◌%◌, ◌^◌, ◌<◌, List, [], ◌∷◌, length, refl, ap, ◌∙◌, arith, inl, inr, w64, ℤ, FitsSigned, pos, negsuc, pow-suc, pow-add, pow_pos, ints, cases_lt, lt-ltb, le-ltb, All-nil, All-cons}
+use Rattle.dexspec.proofs.Common.{◌≡◌, All, ℕ, zero, suc, ◌+◌, ◌-◌, ◌*◌, ◌/◌, ◌^◌, ◌<◌, List, [], ◌∷◌, length, refl, ap, ◌∙◌, arith, inl, inr, w64, ℤ, FitsSigned, pos, negsuc, pow-suc, pow-add, pow_pos, ints, cases_lt, lt-ltb, le-ltb}
 use Rattle.dexspec.specs.{number_of, bytes_of, signed_in, ushort, uint, ushort_at, uint_at, BytesAt, magnitude, complement}
 
 -- ---- powers

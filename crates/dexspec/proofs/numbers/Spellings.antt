@@ -1,5 +1,5 @@
 -- Encodings of numbers: bytes begin with one number, and the shortest encoding is such.
-use Rattle.dexspec.proofs.Common.{All, ◌≡◌, ◌↔◌, ℕ, ◌*◌, ◌^◌, ◌<◌, ◌≤◌, List, ◌++◌, length, take, Option, Some, None, refl, ap, sym, ◌∙◌, arith, length-take, length-append, take_at, ℤ, FitsSigned, w32}
+use Rattle.dexspec.proofs.Common.{All, ◌≡◌, ◌↔◌, ℕ, ◌*◌, ◌^◌, ◌<◌, ◌≤◌, List, ◌++◌, length, take, Option, Some, None, refl, ap, sym, ◌∙◌, arith, length-append, take_at, ℤ, FitsSigned, w32}
 use Rattle.dexspec.specs.{Spells, BeginsWith, IsUleb128, IsSleb128, IsUleb128p1, sum_of_groups, size_u, size_s, magnitude, held_in, plus_one, uleb128, sleb128, uleb128p1}
 use Rattle.dexspec.proofs.numbers.Chains.{chain_some, chain_same, no_chain, sum_bound}
 use Rattle.dexspec.proofs.numbers.Groups.{length-groups, spelled_in, size_u_is, size_u_bounds}

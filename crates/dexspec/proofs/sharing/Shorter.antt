@@ -1,7 +1,7 @@
 -- Items that cover others: a list in which each of the others has a matching item that is at least as long. A section
 -- whose items are covered ends no later, and offsets that are no greater, or are zero at the same places, make items
 -- that are covered.
-use Rattle.dexspec.proofs.Common.{AllZip, get_or, ◌≡◌, ◌⊎◌, ℕ, zero, suc, ◌+◌, ◌<◌, ◌≤◌, Ordering, Bool, true, false, cond, not, if◌then◌else◌, ◌==◌, List, [], ◌∷◌, ◌++◌, length, map, take, drop, zip, flat_map, refl, sym, ap, subst, ◌∙◌, arith, inl, inr, slice_index, nat_lt, Option, Some, None, filter, option_map_or, nat_cmp, Less, Equal, Greater, eqb-true, lt-ltb, ltb-true, map-append}
+use Rattle.dexspec.proofs.Common.{AllZip, get_or, ◌≡◌, ◌⊎◌, ℕ, zero, suc, ◌+◌, ◌<◌, ◌≤◌, Ordering, Bool, true, false, cond, not, if◌then◌else◌, ◌==◌, List, [], ◌∷◌, ◌++◌, length, map, take, drop, zip, flat_map, refl, sym, ap, subst, ◌∙◌, arith, inl, inr, slice_index, nat_lt, Option, Some, None, filter, option_map_or, nat_cmp, Greater, eqb-true, lt-ltb, ltb-true, map-append}
 use Rattle.std.specs.FinMap.Entries.{by_order}
 use Rattle.dexspec.specs.{present, zip_with, distinct, chunks, add_in_order, in_order, round_up, size_u, uleb128, offsets_from, end_from, own_numbers, pair_cmp, pairs}
 use Rattle.dexspec.proofs.numbers.Groups.{length-groups}

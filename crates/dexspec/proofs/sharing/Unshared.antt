@@ -2,8 +2,8 @@
 -- by section, the items of the first are covered by those of the second.
 use Rattle.std.proofs.lemmas.List.Elements.{length_all_zip}
 use Rattle.dexspec.proofs.Common.{AllZip, ◌≡◌, ℕ, zero, suc, ◌+◌, ◌*◌, ◌<◌, ◌≤◌, Bool, true, false, if◌then◌else◌, ◌==◌, List, [], ◌∷◌, ◌++◌, length, map, take, drop, zip, flat_map, get_or, refl, sym, ap, subst, ◌∙◌, arith, inl, inr, slice_index, Option, Some, None, concat, option_map_or, length-append, length-map, length-take, length-drop, Code, Mentions}
-use Rattle.dexspec.specs.{present, chunks, zip_with, ushort, uint, round_up, padding, uleb128, Section, TableOf, MapList, Annotation, AnnotationSet, MethodDef, Definition, declared_fields, declared_methods, Collection, definitions, in_class_order, mentions, field_of, method_of, same_types, same_debug, same_set, type_list_bytes, annotation_bytes, debug_bytes, code_bytes, piece_units, tries_bytes, differences, encoded_fields_bytes, encoded_method_bytes, encoded_methods_bytes, class_data_bytes, offsets_bytes, field_index, method_index, EqualOnce, EachForItself, Items, Placed, offsets, offsets_from, uses_offsets, Ordered, is_empty_class, method_sets, class_sets, all_methods, type_list_uses, set_uses, debug_uses, code_uses, class_data_uses, by_class, SetOffsets, set_offsets_of, ref_list_uses, directory_uses, directory_bytes, unless_empty, section_bytes, own_numbers, pairs, pairs_bytes, end, data_start, type_list_section, set_items, annotation_section, annotation_offsets, array_section, string_section, debug_section, code_section, class_data_section, set_section, set_offsets, ref_list_section, directory_section, data_sections, placed_tables, table_bytes, map_of, map_bytes, header_bytes, unsigned_file, with_sums, ordered, canonical}
-use Rattle.dexspec.proofs.numbers.ByteNumbers.{length-uint, length-ushort}
+use Rattle.dexspec.specs.{present, chunks, zip_with, uint, round_up, Section, TableOf, Annotation, AnnotationSet, MethodDef, Definition, declared_fields, declared_methods, Collection, definitions, in_class_order, mentions, field_of, method_of, same_types, same_debug, same_set, type_list_bytes, annotation_bytes, debug_bytes, code_bytes, differences, encoded_method_bytes, class_data_bytes, offsets_bytes, field_index, method_index, EqualOnce, EachForItself, Items, Placed, offsets, offsets_from, uses_offsets, Ordered, is_empty_class, method_sets, class_sets, all_methods, type_list_uses, set_uses, debug_uses, code_uses, class_data_uses, by_class, SetOffsets, set_offsets_of, ref_list_uses, directory_uses, directory_bytes, unless_empty, own_numbers, pairs, pairs_bytes, end, data_start, type_list_section, set_items, annotation_section, annotation_offsets, array_section, string_section, debug_section, code_section, class_data_section, set_section, set_offsets, ref_list_section, directory_section, data_sections, placed_tables, map_of, unsigned_file, with_sums, ordered, canonical}
+use Rattle.dexspec.proofs.numbers.ByteNumbers.{length-uint}
 use Rattle.dexspec.proofs.written.PlacedBytes.{length_rows}
 use Rattle.dexspec.proofs.layout.Places.{length-padding, length-offsets_from, length-sections, sections_between}
 use Rattle.dexspec.proofs.layout.Placements.{numbers_offsets, sections_follow, length-chunks, length-items_offsets}
@@ -144,7 +144,7 @@ refs_covered [] (t ∷ ts) h = absurd h
 refs_covered (s ∷ ss) [] h = absurd h
 refs_covered (s ∷ ss) (t ∷ ts) h =
     uses_append offsets_bytes offsets_bytes (map (λ offs. unless_empty (drop 1 offs)) s.methods) (flat_map (λ (s : SetOffsets). map (λ offs. unless_empty (drop 1 offs)) s.methods) ss)
-    (map (λ offs. unless_empty (drop 1 offs)) t.methods) (flat_map (λ (s : SetOffsets). map (λ offs. unless_empty (drop 1 offs)) s.methods) ts) 
+    (map (λ offs. unless_empty (drop 1 offs)) t.methods) (flat_map (λ (s : SetOffsets). map (λ offs. unless_empty (drop 1 offs)) s.methods) ts)
     (zip_map AllEquivalent (IsCoveredUse offsets_bytes offsets_bytes) _ _ (λ os ps h. ref_use (drop 1 os) (drop 1 ps) (length_all_zip AreEquivalent (drop 1 os) (drop 1 ps) (zip_drop AreEquivalent 1 os ps h))) s.methods t.methods h.0.methods) (refs_covered ss ts h.1)
 
 -- ---- directories
@@ -292,7 +292,7 @@ module _ (cs : List Definition) (m : Mentions) where
       (uses_below (offsets (code_section K)) (offsets (code_section L)) (offsets_below (code_item m) (code_item m) 4 (end (debug_section K)) (end (debug_section L)) (inl refl) us vs code_uses_covered debug_end_most) (own_numbers 0 us))
 
   data_uses_covered : AreCoveredUses (data_item m) (data_item m) (class_data_uses K (uses_offsets (code_section K))) (class_data_uses L (uses_offsets (code_section L)))
-  data_uses_covered = 
+  data_uses_covered =
       zip_combine AreBelow (IsCoveredUse (data_item m) (data_item m)) _ _ (λ d os ps h. data_use m d os ps h (is_empty_class d.1)) cs (by_class K (uses_offsets (code_section K))) (by_class L (uses_offsets (code_section L)))
       (zip_chunks ◌≤◌ (map (λ d. length (declared_methods d.1)) cs) (uses_offsets (code_section K)) (uses_offsets (code_section L)) code_offsets_below)
 

@@ -1,5 +1,5 @@
 -- Upper bounds on the bytes of class data and directories, by the numbers of members.
-use Rattle.dexspec.proofs.Common.{ℕ, ◌+◌, ◌*◌, ◌≤◌, Bool, true, false, List, [], ◌∷◌, ◌++◌, map, length, take, drop, Option, Some, None, arith, flat_map, if◌then◌else◌, ◌==◌, length-append, slice_index, zip, IfSome, concat, Ordering, Less, Equal, Greater, length-flat_map, Mentions}
+use Rattle.dexspec.proofs.Common.{ℕ, ◌+◌, ◌*◌, ◌≤◌, Bool, true, false, List, [], ◌∷◌, ◌++◌, map, length, take, drop, Option, Some, None, arith, flat_map, if◌then◌else◌, ◌==◌, length-append, slice_index, zip, IfSome, concat, Ordering, Greater, length-flat_map, Mentions}
 use Rattle.std.specs.FinMap.Entries.{by_order}
 use Rattle.dexspec.specs.{zip_with, add_in_order, in_order, uint, uleb128, Text, FieldDef, MethodDef, Definition, declared_fields, declared_methods, field_of, method_of, field_index, method_index, differences, encoded_fields_bytes, encoded_method_bytes, encoded_methods_bytes, class_data_bytes, SetOffsets, pair_cmp, pairs, pairs_bytes, directory_bytes}
 use Rattle.dexspec.proofs.numbers.ByteNumbers.{length-uint}

@@ -1,5 +1,5 @@
 -- The bytes of a class, a proto and a text in the sections are at most their weights.
-use Rattle.dexspec.proofs.Common.{◌≡◌, ℕ, ◌+◌, ◌*◌, ◌≤◌, List, [], ◌∷◌, ◌++◌, map, length, Option, Some, None, refl, arith, sum_by, flat_map, option_to_list, sum_by-cons, sum_by-append, Code, Mentions}
+use Rattle.dexspec.proofs.Common.{◌≡◌, ℕ, ◌+◌, ◌*◌, ◌≤◌, List, [], ◌∷◌, length, Option, Some, None, refl, arith, sum_by, option_to_list, sum_by-cons, sum_by-append, Code, Mentions}
 use Rattle.dexspec.specs.{Proto, Text, Annotation, AnnotationSet, FieldDef, MethodDef, Definition, declared_fields, declared_methods, method_sets, class_sets, text_weight, proto_weight, mentions_weight, debug_weight, code_weight, annotation_weight, set_weight, ref_list_weight, static_values_weight, field_weight, method_weight, body_weight}
 use Rattle.dexspec.proofs.size.SizeSums.{sum_by-map, sum_by-flat_map}
 use Rattle.dexspec.proofs.size.SizeSections.{list_part, items_part, set_part, refs_part, debug_part, code_part, data_part, directory_part}

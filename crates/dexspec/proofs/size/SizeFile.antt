@@ -1,14 +1,12 @@
 -- The canonical file has at most as many bytes as its class definitions weigh.
-use Rattle.dexspec.proofs.Common.{AllZip, ◌≡◌, ℕ, zero, suc, ◌+◌, ◌-◌, ◌*◌, ◌%◌, ◌/◌, ◌≤◌, Bool, true, false, List, [], ◌∷◌, ◌++◌, map, length, refl, arith, sum_by, flat_map, if◌then◌else◌, ◌==◌, length-append, slice_index, concat, w32, to_be_bytes, option_map_or, Ordering, Less, Equal, Greater, length-replicate, sum_by-cons, length-flat_map, Mentions}
+use Rattle.dexspec.proofs.Common.{AllZip, ◌≡◌, ℕ, zero, suc, ◌+◌, ◌-◌, ◌*◌, ◌%◌, ◌/◌, ◌≤◌, Bool, true, false, List, [], ◌∷◌, map, length, refl, arith, sum_by, flat_map, if◌then◌else◌, ◌==◌, length-append, slice_index, w32, to_be_bytes, Ordering, Less, Equal, Greater, length-replicate, sum_by-cons, length-flat_map}
 use Rattle.std.specs.FinMap.Entries.{put, by_order}
 use Rattle.sha1.specs.Sha1.{sha1, digest_bytes, hash_after, padded_message}
-use Rattle.dexspec.specs.{ushort, uint, round_up, padding, Text, shorty, AreDistinct, zip_with, Proto, Field, Method, HasSize, Table, header_length, adler_32, Section, TableOf, MapList, type_code, Body, Definition, declared_methods, no_index, Caps, AreCaps, Fits, Collection, definitions, mentions, place_cmp, put_all, depth, in_class_order, mentions_weight, static_values_weight, body_weight, weight, text_index, type_index, proto_index, same_types, same_debug, same_set, Placed, offsets, end, section_bytes, uses_offsets, Ordered, class_sets, type_list_section, annotation_section, annotation_offsets, array_section, string_section, debug_section, code_section, class_data_section, set_section, set_offsets, ref_list_section, directory_section, data_sections, class_offsets, data_start, placed_tables, proto_row_bytes, field_row_bytes, method_row_bytes, class_row_bytes, map_entry_bytes, map_of, map_bytes, table_bytes, header_bytes, unsigned_file, magic, with_sums, ordered, canonical}
-use Rattle.dexspec.proofs.numbers.ByteNumbers.{length-ushort, length-uint}
+use Rattle.dexspec.specs.{round_up, padding, Text, AreDistinct, HasSize, Table, Section, TableOf, Body, Definition, declared_methods, Caps, AreCaps, Fits, Collection, definitions, mentions, place_cmp, put_all, depth, in_class_order, mentions_weight, static_values_weight, body_weight, weight, same_types, same_debug, same_set, Placed, offsets, end, section_bytes, Ordered, class_sets, type_list_section, annotation_section, annotation_offsets, array_section, string_section, debug_section, code_section, class_data_section, set_section, set_offsets, ref_list_section, directory_section, data_sections, placed_tables, map_of, table_bytes, unsigned_file, with_sums, ordered, canonical}
+use Rattle.dexspec.proofs.numbers.ByteNumbers.{length-uint}
 use Rattle.dexspec.proofs.layout.Tables.{length-table_bytes, length-header_bytes}
 use Rattle.dexspec.proofs.layout.MapEntries.{length-map_bytes}
 use Rattle.dexspec.proofs.size.SizeSums.{sum_by-map, sum_by-at_most, padding-at_most}
-use Rattle.dexspec.proofs.size.SizeItems.{each-is}
-use Rattle.dexspec.proofs.size.SizeClass.{zipped-size}
 use Rattle.dexspec.proofs.size.SizeSections.{list_part, items_part, set_part, refs_part, debug_part, code_part, data_part, directory_part, type_lists-size, annotations-size, sets-size, arrays-size, strings-size, debugs-size, codes-size, class_data-size, refs-size, directories-size}
 use Rattle.dexspec.proofs.normal.ClassOrder.{definitions-different}
 use Rattle.dexspec.proofs.size.SizeClasses.{mentions-cover, classes-cover}

@@ -1,6 +1,6 @@
 -- Code with zero for its indices is cut in the same way, and is the same except for these indices.
 use Rattle.dexspec.proofs.Common.{◌≡◌, ◌⊎◌, ℕ, zero, suc, ◌+◌, ◌*◌, ◌/◌, ◌%◌, ◌<◌, ◌≤◌, Bool, true, false, ◌&&◌, List, [], ◌∷◌, length, get_or, slice_index, Option, Some, None, refl, sym, ap, ◌∙◌, subst, arith, inl, inr, if◌then◌else◌, ◌==◌, slice_set, nat_le, option_and_then, list_any, int_cmp, get_or-eq_default, length-set, cases_lt, leb-true, le-leb, get_or-set_same, get_or-set_other, set-get_or}
-use Rattle.dexspec.specs.{rises, signed_in, Pool, Symbol, pool_of, Format, F10x, F12x, F11n, F11x, F10t, F20t, F22x, F21t, F21s, F21h, F21c, F23x, F22b, F22s, F22t, F22c, F30t, F32x, F31i, F31t, F31c, F35c, F3rc, F51l, Opcode, opcode_of, units_in, piece_size, payload_size, instruction_size, payload_units, is_payload_in_order, packed_switch_ident, sparse_switch_ident, is_payload_ident, is_first_unit, ints_in, Piece, Instruction, Payload, units_of, DenotesPiece, index_pool, index_in, is_wide_index, with_index, two_units, low_byte}
+use Rattle.dexspec.specs.{rises, signed_in, Pool, Symbol, pool_of, Format, F10x, Opcode, opcode_of, units_in, piece_size, payload_size, instruction_size, payload_units, is_payload_in_order, packed_switch_ident, sparse_switch_ident, is_payload_ident, is_first_unit, ints_in, Piece, Instruction, Payload, units_of, DenotesPiece, index_pool, index_in, is_wide_index, with_index, two_units, low_byte}
 use Rattle.dexspec.proofs.lists.Members.{and_first, and_second, and_both}
 use Rattle.dexspec.proofs.wellformed.ShortStrings.{first_kept}
 

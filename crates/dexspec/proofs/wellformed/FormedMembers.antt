@@ -1,5 +1,5 @@
 -- The definition of a class row of a list of bytes is well formed, if its code is.
-use Rattle.dexspec.proofs.Common.{◌≡◌, ℕ, ◌+◌, ◌<◌, List, [], ◌∷◌, length, map, All, Option, Some, None, refl, sym, ap, ◌∙◌, subst, arith, inl, inr, Ordering, Less, Equal, Greater, IfSome, Contains, AllZip, ordering_then, tied_itself, length-map, All-contains, Contains-append_left, Contains-append_right, Contains-append_cases, ClassData}
+use Rattle.dexspec.proofs.Common.{◌≡◌, ℕ, ◌+◌, ◌<◌, List, [], ◌∷◌, length, map, All, Option, Some, None, refl, sym, ap, ◌∙◌, subst, arith, inl, inr, Ordering, Less, Equal, IfSome, Contains, AllZip, ordering_then, tied_itself, length-map, All-contains, Contains-append_left, Contains-append_right, Contains-append_cases, ClassData}
 use Rattle.dexspec.specs.{OrNone, Text, text_cmp, IsMemberName, Proto, Field, Method, IsProto, field_cmp, method_cmp, ClassDefs, row_at, FieldRow, MethodRow, NoValues, count_values, Directory, EncodedField, EncodedMethod, no_class_data, IsNextIndex, EncodedFieldsAt, EncodedMethodsAt, ClassDataAt, fields_of, methods_of, ShareNone, FieldDef, MethodDef, Body, ClassRow, StaticValuesAt, field_def, MakesMethod, declared_fields, declared_methods, superclass_idx, interfaces_off, annotations_off, class_data_off, static_values_off, symbols_of, FitsUint, IsCodeItem, IsSet, IsFieldDef, IsMethodDef, field_key, field_key_cmp, method_key, method_key_cmp, IsWellFormed, HasMembers, HasValues, Declares}
 use Rattle.dexspec.proofs.lists.Members.{Contains-nil, Contains-first, Contains-later, Contains-cons_cases}
 use Rattle.dexspec.proofs.lists.InOrder.{Rises, rises-from_Rises}

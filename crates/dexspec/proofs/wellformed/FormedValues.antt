@@ -1,6 +1,6 @@
 -- Values and annotations in a list of bytes are well formed.
 use Rattle.dexspec.proofs.Common.{◌≡◌, ℕ, suc, ◌+◌, ◌-◌, ◌*◌, ◌<◌, ◌≤◌, ◌^◌, List, [], ◌∷◌, length, drop, All, refl, sym, ap, ◌∙◌, subst, arith, inl, inr, ℤ, pos, negsuc, FitsSigned, w8, w16, w32, w64, Contains, pow-le-pow_right, mul-le-mul_left, mul-suc, pow-add, ints, All-take, All-drop, Values}
-use Rattle.dexspec.specs.{OrNone, number_of, BytesAt, uint_at, uints_at, magnitude, Field, Method, FieldRow, MethodRow, Value, ByteValue, ShortValue, CharValue, IntValue, LongValue, FloatValue, DoubleValue, StringValue, TypeValue, FieldValue, MethodValue, EnumValue, ArrayValue, AnnotationValue, NullValue, BooleanValue, NoValues, ThenValue, Elements, NoElements, ThenElement, value_byte, SignedAt, UnsignedAt, BitsAt, ValueAt, ValuesAt, ElementsAt, values_depth, most_depth, Annotation, AnnotationSet, AnnotationAt, SetAt, RefListAt, Directory, no_directory, DirectoryAt, PairAt, pairs_at, fields_count, methods_count, parameters_count, StaticValuesAt, FitsUint, IsValue, AreValues, AreElements, IsAnnotation, IsSet}
+use Rattle.dexspec.specs.{OrNone, number_of, BytesAt, uint_at, uints_at, magnitude, Field, Method, FieldRow, MethodRow, Value, ByteValue, ShortValue, CharValue, IntValue, LongValue, FloatValue, DoubleValue, ArrayValue, AnnotationValue, NoValues, ThenValue, Elements, NoElements, ThenElement, value_byte, SignedAt, UnsignedAt, BitsAt, ValueAt, ValuesAt, ElementsAt, values_depth, most_depth, Annotation, AnnotationSet, AnnotationAt, SetAt, RefListAt, Directory, no_directory, DirectoryAt, PairAt, pairs_at, fields_count, methods_count, parameters_count, StaticValuesAt, FitsUint, IsValue, AreValues, AreElements, IsAnnotation, IsSet}
 use Rattle.dexspec.proofs.lists.Members.{Contains-nil}
 use Rattle.dexspec.proofs.numbers.ByteNumbers.{number_bound, signed_in_room, pow_256_pos}
 use Rattle.dexspec.proofs.wellformed.Fitting.{zip_source}

@@ -5,19 +5,9 @@ use Rattle.dexspec.proofs.lists.Members.{Contains-nil, Contains-first, Contains-
 use Rattle.dexspec.proofs.merge.Growth.{mentions-rising}
 use Rattle.dexspec.proofs.merge.MentionMembers.{Occurs, texts-source, types-source, protos-source, fields-source, methods-source, type-text, proto-shorty, proto-types, field-class, field-name, field-type, method-class, method-name, method-proto}
 use Rattle.dexspec.proofs.layout.PoolsAreAt.{ArePools}
+use Rattle.dexspec.proofs.wellformed.Formed.{value_descriptor, reference_descriptor}
 
 -- ---- the parts of symbols are well formed
-
--- a value type is a type
-value_descriptor : (t : Text) → IsValueType t → IsDescriptor t
-value_descriptor t (inl p) = (PrimitiveType, p)
-value_descriptor t (inr (inl c)) = (ClassType, c)
-value_descriptor t (inr (inr a)) = (ArrayType, a)
-
--- a type that may have methods is a type
-reference_descriptor : (t : Text) → IsReferenceType t → IsDescriptor t
-reference_descriptor t (inl c) = (ClassType, c)
-reference_descriptor t (inr a) = (ArrayType, a)
 
 -- the types of a proto
 proto_descriptor : (p : Proto) (t : Text) → IsProto p → Contains (proto_types p) t → IsDescriptor t

@@ -10,20 +10,13 @@ use Rattle.dexspec.proofs.layout.HeaderLaws.{AreFew}
 use Rattle.dexspec.proofs.layout.Uses.{UseIsAt}
 use Rattle.dexspec.proofs.layout.RowsRead.{type_read, proto_read, field_read, method_read, type_list_indices}
 use Rattle.dexspec.proofs.layout.PoolsAreAt.{ArePools, text_row_at, type_row, proto_row, field_row, method_row}
+use Rattle.dexspec.proofs.lists.RankOrder.{nat_less, nat_more}
 
 -- ---- ranks are in the order of the symbols
-
--- a lesser number is less by order
-nat_less : (x y : ℕ) → x < y → nat_cmp x y ≡ Less
-nat_less x y lt = cond-true (nat_lt x y) Less _ (lt-ltb x y lt)
 
 -- equal numbers are equal by order
 nat_same : (x y : ℕ) → x ≡ y → nat_cmp x y ≡ Equal
 nat_same x y e = cond-false (nat_lt x y) Less _ (le-ltb x y (omega (arith, e))) ∙ cond-true (x == y) Equal Greater (eq-eqb x y e)
-
--- a greater number is greater by order
-nat_more : (x y : ℕ) → y < x → nat_cmp x y ≡ Greater
-nat_more x y lt = cond-false (nat_lt x y) Less _ (le-ltb x y (omega arith)) ∙ cond-false (x == y) Equal Greater (ne_eqb x y (λ e. omega (arith, e)))
 
 -- a further key that is equal does not matter
 then_equal : (o : Ordering) → ordering_then o Equal ≡ o

@@ -1,9 +1,16 @@
 -- Members of a rising list with equal ranks are equal, and a property of members at their ranks holds at all places.
-use Rattle.dexspec.proofs.Common.{◌≡◌, ℕ, ◌<◌, List, length, get_or, refl, sym, ap, ◌∙◌, subst, arith, Ordering, Greater, Contains, nat_cmp, IsTotalOrder, le-ltb, ne_eqb, Contains-get_or}
+use Rattle.dexspec.proofs.Common.{◌≡◌, ℕ, ◌<◌, List, length, get_or, refl, sym, ap, ◌∙◌, subst, arith, Ordering, Greater, Contains, nat_cmp, IsTotalOrder, le-ltb, ne_eqb, Contains-get_or, lt-ltb, eq-eqb, Less, Equal}
 use Rattle.dexspec.specs.{rank}
 use Rattle.dexspec.proofs.lists.InOrder.{Rises, rank-place, rank-get_or}
 
 -- a greater number is greater by order
+-- numbers by their order
+pub nat_less : (x y : ℕ) → x < y → nat_cmp x y ≡ Less
+nat_less x y lt = rw (lt-ltb x y lt) refl
+
+pub nat_tied : (x : ℕ) → nat_cmp x x ≡ Equal
+nat_tied x = rw (le-ltb x x (omega arith), eq-eqb x x refl) refl
+
 pub nat_more : (x y : ℕ) → y < x → nat_cmp x y ≡ Greater
 nat_more x y lt = rw (le-ltb x y (omega arith), ne_eqb x y (omega arith)) refl
 

@@ -70,9 +70,9 @@ module _ (D : List Definition) where
 
 -- ---- the parts of members
 
--- the only member of a list of one
-only : {X : Type 0} (y x : X) → Contains (y ∷ []) x → y ≡ x
-only y x c = elim (Contains-cons_cases y x [] c) [ inl e ↦ e | inr l ↦ absurd (Contains-nil x l) ]
+-- the one_member member of a list of one
+pub one_member : {X : Type 0} (y x : X) → Contains (y ∷ []) x → y ≡ x
+one_member y x c = elim (Contains-cons_cases y x [] c) [ inl e ↦ e | inr l ↦ absurd (Contains-nil x l) ]
 
 types_in-texts_in : (y : Symbol) → AreAmong (types_in y) (texts_in y)
 types_in-texts_in (TextSymbol s) t c = absurd (Contains-nil t c)
@@ -80,7 +80,7 @@ types_in-texts_in (TypeSymbol s) t c = c
 types_in-texts_in (ProtoSymbol p) t c = Contains-later (shorty p.return_type p.parameters) t (proto_types p) c
 types_in-texts_in (FieldSymbol f) t c = elim (Contains-cons_cases f.class t (f.type ∷ []) c) [
   | inl e ↦ (0, omega arith, e)
-  | inr l ↦ (2, omega arith, only f.type t l)
+  | inr l ↦ (2, omega arith, one_member f.type t l)
 ]
 types_in-texts_in (MethodSymbol m) t c = elim (Contains-cons_cases m.class t (proto_types m.proto) c) [
   | inl e ↦ (0, omega arith, e)
@@ -88,21 +88,21 @@ types_in-texts_in (MethodSymbol m) t c = elim (Contains-cons_cases m.class t (pr
 ]
 
 protos_in-shorty : (y : Symbol) (p : Proto) → Contains (protos_in y) p → Contains (texts_in y) (shorty p.return_type p.parameters)
-protos_in-shorty (ProtoSymbol q) p c = (0, omega arith, ap (λ (r : Proto). shorty r.return_type r.parameters) (only q p c))
-protos_in-shorty (MethodSymbol m) p c = (2, omega arith, ap (λ (r : Proto). shorty r.return_type r.parameters) (only m.proto p c))
+protos_in-shorty (ProtoSymbol q) p c = (0, omega arith, ap (λ (r : Proto). shorty r.return_type r.parameters) (one_member q p c))
+protos_in-shorty (MethodSymbol m) p c = (2, omega arith, ap (λ (r : Proto). shorty r.return_type r.parameters) (one_member m.proto p c))
 protos_in-shorty _ p c = absurd (Contains-nil p c)
 
 protos_in-types_in : (y : Symbol) (p : Proto) → Contains (protos_in y) p → AreAmong (proto_types p) (types_in y)
-protos_in-types_in (ProtoSymbol q) p c t d = subst (λ (r : Proto). Contains (proto_types r) t) (sym (only q p c)) d
-protos_in-types_in (MethodSymbol m) p c t d = Contains-later m.class t (proto_types m.proto) (subst (λ (r : Proto). Contains (proto_types r) t) (sym (only m.proto p c)) d)
+protos_in-types_in (ProtoSymbol q) p c t d = subst (λ (r : Proto). Contains (proto_types r) t) (sym (one_member q p c)) d
+protos_in-types_in (MethodSymbol m) p c t d = Contains-later m.class t (proto_types m.proto) (subst (λ (r : Proto). Contains (proto_types r) t) (sym (one_member m.proto p c)) d)
 protos_in-types_in _ p c t d = absurd (Contains-nil p c)
 
 fields_in-is : (y : Symbol) (f : Field) → Contains (fields_in y) f → FieldSymbol f ≡ y
-fields_in-is (FieldSymbol g) f c = ap FieldSymbol (sym (only g f c))
+fields_in-is (FieldSymbol g) f c = ap FieldSymbol (sym (one_member g f c))
 fields_in-is _ f c = absurd (Contains-nil f c)
 
 methods_in-is : (y : Symbol) (m : Method) → Contains (methods_in y) m → MethodSymbol m ≡ y
-methods_in-is (MethodSymbol n) m c = ap MethodSymbol (sym (only n m c))
+methods_in-is (MethodSymbol n) m c = ap MethodSymbol (sym (one_member n m c))
 methods_in-is _ m c = absurd (Contains-nil m c)
 
 -- another part of the symbol that has this part

@@ -10,7 +10,7 @@ pub text_exact : IsAntisymmetric text_cmp
 text_exact = slice_cmp-IsAntisymmetric nat_cmp-IsAntisymmetric
 
 -- if one of two orders decides, they are equal together only if both are equal
-both_tie : (a b : Ordering) → ordering_then a b ≡ Equal → (a ≡ Equal) × (b ≡ Equal)
+pub both_tie : (a b : Ordering) → ordering_then a b ≡ Equal → (a ≡ Equal) × (b ≡ Equal)
 both_tie Equal b e = (refl, e)
 both_tie _ b e = absurd cc
 

@@ -7,6 +7,8 @@ use Rattle.dexspec.proofs.lists.Members.{Contains-nil, Contains-first, Contains-
 use Rattle.dexspec.proofs.merge.SymbolOrders.{text_exact, text_total}
 use Rattle.dexspec.proofs.lists.InOrder.{Rises, AreDistinct-from_Rises}
 use Rattle.dexspec.proofs.size.SizeSums.{sum_by-map, map-length}
+use Rattle.dexspec.proofs.normal.ClassPlaces.{names-kept}
+pub use Rattle.dexspec.proofs.merge.Collections.{definitions-distinct as definitions-different}
 
 -- a definition with its depth
 abbrev PlacedClass : Type 0
@@ -73,17 +75,13 @@ put_all_sum f (e ∷ es) d =
     λ x c tie. let n = put_all_named es x c in AreDistinct-first e.0.1 names d n.0.0.1 (named_in es n.0 n.1) (n.2 ∙ sym (place_name e.0 x.0 tie)) in
     omega (arith, put_apart f e.0 e.1 (put_all es) other, sum_by-cons f e es, put_all_sum f es (AreDistinct-rest e.0.1 names d))
 
-names_kept : (g : Definition → ℕ) (D : List Definition) → map (λ (e : PlacedClass). e.0.1) (map (λ d. ((g d, d.0), d.1)) D) ≡ map (λ d. d.0) D
-names_kept g [] = refl
-names_kept g (d ∷ D) = ap (λ ns. d.0 ∷ ns) (names_kept g D)
-
 -- any sum over definitions of different names is the sum over them in order
 pub in_class_order-same_sum : (f : Definition → ℕ) (D : List Definition) → AreDistinct (map (λ d. d.0) D) → sum_by f (in_class_order D) ≡ sum_by f D
 unfolding in_class_order
 in_class_order-same_sum f D distinct =
     let place : Definition → PlacedClass = λ d. ((depth D d.0, d.0), d.1) in
     let back : PlacedClass → Definition = λ e. (e.0.1, e.1) in
-    let apart : AreDistinct (map (λ (e : PlacedClass). e.0.1) (map place D)) = subst AreDistinct (sym (names_kept (λ d. depth D d.0) D)) distinct in
+    let apart : AreDistinct (map (λ (e : PlacedClass). e.0.1) (map place D)) = subst AreDistinct (sym (names-kept (λ d. depth D d.0) D)) distinct in
     sum_by-map f back (put_all (map place D)) ∙ put_all_sum (λ e. f (back e)) (map place D) apart ∙ sum_by-map (λ e. f (back e)) place D
 
 -- ---- a collection's definitions
@@ -118,10 +116,3 @@ definitions-distinct K = AreDistinct-from_Rises text_cmp text_total (map (λ (d 
 named_at : (es : List Definition) (i : ℕ) (d : Definition) → get_or (map (λ e. e.0) es) i d.0 ≡ (get_or es i d).0
 named_at (e ∷ es) (suc i) d = named_at es i d
 named_at _ _ d = refl
-
--- so no two of them are equal
-pub definitions-different : (K : Collection) → AreDistinct (definitions K)
-definitions-different K i j d lt le e =
-    let D = definitions K in
-    let within : j < length (map (λ (x : Definition). x.0) D) = omega (arith, le, map-length (λ (x : Definition). x.0) D) in
-    definitions-distinct K i j d.0 lt within (named_at D i d ∙ ap (λ (x : Definition). x.0) e ∙ sym (named_at D j d))

@@ -4,7 +4,7 @@ use Rattle.std.specs.FinMap.{IsAntisymmetric, nat_cmp-IsAntisymmetric}
 use Rattle.std.specs.FinMap.Entries.{put, by_order}
 use Rattle.dexspec.specs.{AreDistinct, add_in_order, in_order, Text, text_cmp, Body, Definition, place_cmp, put_all, depth, in_class_order}
 use Rattle.dexspec.proofs.lists.Members.{Contains-nil, Contains-first, Contains-later, Contains-cons_cases, AreDistinct-first, AreDistinct-rest}
-use Rattle.dexspec.proofs.merge.SymbolOrders.{text_exact, text_total}
+use Rattle.dexspec.proofs.merge.SymbolOrders.{text_exact, text_total, both_tie}
 use Rattle.dexspec.proofs.lists.InOrder.{Rises, Rises-in_order, Rises-places, irreflexive}
 use Rattle.dexspec.proofs.merge.Depths.{Contains-map}
 use Rattle.dexspec.proofs.lists.RankOrder.{nat_more}
@@ -19,15 +19,10 @@ PlacedClass = (ℕ × Text) × Body
 place_total : IsTotalOrder place_cmp
 place_total = then_total (on_total (λ (x : ℕ × Text). x.0) nat_cmp_total) (on_total (λ (x : ℕ × Text). x.1) text_total)
 
--- if one of two orders decides, they are equal together only if both are equal
-both_equal : (a b : Ordering) → ordering_then a b ≡ Equal → (a ≡ Equal) × (b ≡ Equal)
-both_equal Equal b e = (refl, e)
-both_equal _ b e = absurd cc
-
 -- only equal places are equal by order
 place_exact : IsAntisymmetric place_cmp
 place_exact x y e =
-    let k = both_equal (nat_cmp x.0 y.0) (text_cmp x.1 y.1) e in
+    let k = both_tie (nat_cmp x.0 y.0) (text_cmp x.1 y.1) e in
     let depths = nat_cmp-IsAntisymmetric x.0 y.0 k.0 in
     let names = text_exact x.1 y.1 k.1 in
     λ i. (depths i, names i)
@@ -121,7 +116,7 @@ Contains-map_source f (x ∷ xs) y c = elim (Contains-cons_cases (f x) y (map f 
 ]
 
 -- the names stay with the depths
-names-kept : (g : Definition → ℕ) (D : List Definition) → map (λ (e : PlacedClass). e.0.1) (map (λ d. ((g d, d.0), d.1)) D) ≡ map (λ d. d.0) D
+pub names-kept : (g : Definition → ℕ) (D : List Definition) → map (λ (e : PlacedClass). e.0.1) (map (λ d. ((g d, d.0), d.1)) D) ≡ map (λ d. d.0) D
 names-kept g [] = refl
 names-kept g (d ∷ D) = ap (λ ns. d.0 ∷ ns) (names-kept g D)
 

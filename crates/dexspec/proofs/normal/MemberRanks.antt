@@ -4,7 +4,7 @@ use Rattle.dexspec.proofs.Common.{◌≡◌, ℕ, ◌<◌, List, [], ◌∷◌, 
 use Rattle.dexspec.specs.{rank, rises, Text, text_cmp, Symbol, TextSymbol, TypeSymbol, ProtoSymbol, FieldSymbol, MethodSymbol, field_cmp, method_cmp, proto_cmp, StringIds, TypeIds, ProtoIds, FieldIds, MethodIds, AnnotationSet, FieldDef, MethodDef, Body, Definition, declared_fields, declared_methods, mentions, symbols_of, field_of, method_of, set_symbols, code_symbols, field_symbols, method_symbols, values_symbols, optional_type, optional_text, field_index, method_index, IsWellFormed, field_key, field_key_cmp, method_key, method_key_cmp}
 use Rattle.dexspec.proofs.lists.Members.{Contains-first, Contains-later, Contains-flat_map}
 use Rattle.dexspec.proofs.lists.InOrder.{Rises, Rises-places, rank-place}
-use Rattle.dexspec.proofs.lists.RankOrder.{nat_more, rank_one}
+use Rattle.dexspec.proofs.lists.RankOrder.{nat_more, rank_one, nat_less, nat_tied}
 use Rattle.dexspec.proofs.merge.SymbolOrders.{text_total, proto_total, field_total, method_total}
 use Rattle.dexspec.proofs.merge.Growth.{mentions-rising}
 use Rattle.dexspec.proofs.merge.MentionMembers.{texts-listed, types-listed, protos-listed, fields-listed, methods-listed}
@@ -13,14 +13,6 @@ use Rattle.dexspec.proofs.normal.NormalRows.{IsNormal, count_small, string_ranke
 use Rattle.dexspec.proofs.written.ClassDataWritten.{IndicesRise, own_first, field_occurs, method_occurs}
 
 -- ---- ranks
-
--- a lesser number is less by order
-nat_less : (x y : ℕ) → x < y → nat_cmp x y ≡ Less
-nat_less x y lt = rw (lt-ltb x y lt) refl
-
--- a number is equal to itself by order
-nat_tied : (x : ℕ) → nat_cmp x x ≡ Equal
-nat_tied x = rw (le-ltb x x (omega arith), eq-eqb x x refl) refl
 
 -- ranks of members compare as the members
 pub rank_cmp : {K : Type 0} (R : K → K → Ordering) → IsTotalOrder R → (xs : List K) → Rises R xs → (s t : K) → Contains xs s → Contains xs t → nat_cmp (rank R s xs) (rank R t xs) ≡ R s t

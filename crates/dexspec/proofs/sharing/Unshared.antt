@@ -8,11 +8,13 @@ use Rattle.dexspec.proofs.written.PlacedBytes.{length_rows}
 use Rattle.dexspec.proofs.layout.Places.{length-padding, length-offsets_from, length-sections, sections_between}
 use Rattle.dexspec.proofs.layout.Placements.{numbers_offsets, sections_follow, length-chunks, length-items_offsets}
 use Rattle.dexspec.proofs.layout.Tables.{length-table_bytes, length-header_bytes}
-use Rattle.dexspec.proofs.size.SizeFile.{with_sums-size}
 use Rattle.dexspec.proofs.layout.MapEntries.{length-map_bytes}
 use Rattle.dexspec.proofs.sharing.Sameness.{set_decides}
 use Rattle.dexspec.proofs.layout.Uses.{IsNumber, AreNumbered, items_numbered, number_offset, length-debug_offsets}
 use Rattle.dexspec.proofs.sharing.Shorter.{IsCovered, covered_itself, covered_then, covered_few, covered_items, covered_lists, end_covered, AreBelow, uses_below, zip_take, zip_drop, zip_chunks, zip_from, zip_map, zip_combine, zip_pairs, uleb128_most, AreEquivalent, AllEquivalent, ListsEquivalent, not_zero, zero_equivalent, equivalent_first, firsts_equivalent, offsets_equivalent, uses_equivalent, IsCoveredUse, AreCoveredUses, covered_present, covered_numbers, covered_count, offsets_below, pairs_equivalent}
+use Rattle.dexspec.proofs.layout.Sums.{length-with_sums}
+use Rattle.dexspec.proofs.written.DirectoriesWritten.{pairs_size}
+use Rattle.dexspec.proofs.size.SizeItems.{offsets_bytes-size}
 
 -- ---- code
 
@@ -58,9 +60,6 @@ data_use m d os ps h false = class_data_most m d os ps h
 
 -- ---- sets
 
-length-offsets_bytes : (offs : List ℕ) → length (offsets_bytes offs) ≡ 4 + 4 * length offs
-length-offsets_bytes offs = length-append (uint (length offs)) (flat_map uint offs) ∙ omega (arith, length-uint (length offs), length_rows uint 4 length-uint offs)
-
 abbrev nowhere : Annotation → ℕ
 nowhere a = 0
 
@@ -69,17 +68,17 @@ abbrev blank : AnnotationSet → List ℕ
 blank set = offsets_bytes (map nowhere set)
 
 length-blank : (set : AnnotationSet) → length (blank set) ≡ 4 + 4 * length set
-length-blank set = length-offsets_bytes (map nowhere set) ∙ omega (arith, length-map set nowhere)
+length-blank set = offsets_bytes-size (map nowhere set) ∙ omega (arith, length-map set nowhere)
 
 sets_under : (sets : List AnnotationSet) (os : List ℕ) → IsCovered (map offsets_bytes (chunks (map (λ set. length set) sets) os)) (map blank sets)
 sets_under [] os = tt
-sets_under (s ∷ sets) os = inl (omega (arith, length-offsets_bytes (take (length s) os), length-blank s, length-take (length s) os), sets_under sets (drop (length s) os))
+sets_under (s ∷ sets) os = inl (omega (arith, offsets_bytes-size (take (length s) os), length-blank s, length-take (length s) os), sets_under sets (drop (length s) os))
 
 sets_over : (sets : List AnnotationSet) (os : List ℕ) → length (flat_map (λ set. set) sets) ≤ length os → IsCovered (map blank sets) (map offsets_bytes (chunks (map (λ set. length set) sets) os))
 sets_over [] os le = tt
 sets_over (s ∷ sets) os le =
     inl (
-      omega (arith, length-offsets_bytes (take (length s) os), length-blank s, length-take (length s) os, length-append s (flat_map (λ (set : AnnotationSet). set) sets), le),
+      omega (arith, offsets_bytes-size (take (length s) os), length-blank s, length-take (length s) os, length-append s (flat_map (λ (set : AnnotationSet). set) sets), le),
       sets_over sets (drop (length s) os) (omega (arith, length-drop (length s) os, length-append s (flat_map (λ (set : AnnotationSet). set) sets), le)),
     )
 
@@ -129,7 +128,7 @@ sets_of_equivalent d os ps h =
 
 ref_use : (os ps : List ℕ) → length os ≡ length ps → IsCoveredUse offsets_bytes offsets_bytes (unless_empty os) (unless_empty ps)
 ref_use [] [] e = tt
-ref_use (o ∷ os) (p ∷ ps) e = omega (arith, e, length-offsets_bytes (o ∷ os), length-offsets_bytes (p ∷ ps))
+ref_use (o ∷ os) (p ∷ ps) e = omega (arith, e, offsets_bytes-size (o ∷ os), offsets_bytes-size (p ∷ ps))
 ref_use _ _ e = absurd (omega (arith, e))
 
 uses_append : {X Y : Type 0} (g : X → List ℕ) (h : Y → List ℕ) (us us' : List (Option X)) (vs vs' : List (Option Y)) → AreCoveredUses g h us vs → AreCoveredUses g h us' vs' → AreCoveredUses g h (us ++ us') (vs ++ vs')
@@ -148,9 +147,6 @@ refs_covered (s ∷ ss) (t ∷ ts) h =
     (zip_map AllEquivalent (IsCoveredUse offsets_bytes offsets_bytes) _ _ (λ os ps h. ref_use (drop 1 os) (drop 1 ps) (length_all_zip AreEquivalent (drop 1 os) (drop 1 ps) (zip_drop AreEquivalent 1 os ps h))) s.methods t.methods h.0.methods) (refs_covered ss ts h.1)
 
 -- ---- directories
-
-length-pairs_bytes : (ps : List (ℕ × ℕ)) → length (pairs_bytes ps) ≡ 8 * length ps
-length-pairs_bytes ps = length_rows (λ (p : ℕ × ℕ). uint p.0 ++ uint p.1) 8 (λ p. omega (arith, length-append (uint p.0) (uint p.1), length-uint p.0, length-uint p.1)) ps
 
 -- the bytes themselves
 abbrev bytes : List ℕ → List ℕ
@@ -172,7 +168,7 @@ sum_equivalent o p n k (inl h) e = zero_equivalent (o + n) (p + k) (by n k e h)
 sum_equivalent o p n k (inr h) e = zero_equivalent (o + n) (p + k) (inr (omega (arith, h.0), omega (arith, h.1)))
 
 directory_parts : (own : ℕ) (x y z : List (ℕ × ℕ)) → length (uint own ++ (uint (length x) ++ (uint (length y) ++ (uint (length z) ++ (pairs_bytes x ++ (pairs_bytes y ++ pairs_bytes z)))))) ≡ 16 + (8 * length x + (8 * length y + 8 * length z))
-directory_parts own x y z = omega (arith, length-append {A = ℕ}, length-uint, length-pairs_bytes)
+directory_parts own x y z = omega (arith, length-append {A = ℕ}, length-uint, pairs_size)
 
 directory_use : (m : Mentions) (d : Definition) (s t : SetOffsets) (os ps : List ℕ) → AreSetsEquivalent s t → AllEquivalent os ps → IsCoveredUse bytes bytes (directory_bytes m d s os) (directory_bytes m d t ps)
 directory_use m (name, c) s t os ps h k =
@@ -440,7 +436,7 @@ each_for_itself D = record { classes = in_class_order D; pools = mentions D; sha
 
 -- the whole file is no longer
 pub ordered_no_longer : (D : List Definition) → length (with_sums (unsigned_file (ordered D))) ≤ length (with_sums (unsigned_file (each_for_itself D)))
-ordered_no_longer D = omega (arith, with_sums-size (unsigned_file (ordered D)), with_sums-size (unsigned_file (each_for_itself D)), shared_no_longer (in_class_order D) (mentions D))
+ordered_no_longer D = omega (arith, length-with_sums (unsigned_file (ordered D)), length-with_sums (unsigned_file (each_for_itself D)), shared_no_longer (in_class_order D) (mentions D))
 
 -- the file of a collection is no longer
 pub canonical_no_longer : (K : Collection) → length (canonical K) ≤ length (with_sums (unsigned_file (each_for_itself (definitions K))))

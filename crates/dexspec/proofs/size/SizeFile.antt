@@ -10,6 +10,7 @@ use Rattle.dexspec.proofs.size.SizeSums.{sum_by-map, sum_by-at_most, padding-at_
 use Rattle.dexspec.proofs.size.SizeSections.{list_part, items_part, set_part, refs_part, debug_part, code_part, data_part, directory_part, type_lists-size, annotations-size, sets-size, arrays-size, strings-size, debugs-size, codes-size, class_data-size, refs-size, directories-size}
 use Rattle.dexspec.proofs.normal.ClassOrder.{definitions-different}
 use Rattle.dexspec.proofs.size.SizeClasses.{mentions-cover, classes-cover}
+use Rattle.dexspec.proofs.layout.Sums.{length-with_sums}
 
 -- ---- sections
 
@@ -65,20 +66,6 @@ map_of-size K map_off =
     let sections = sum_by-at_most (λ p. length (section p)) 1 (data_sections K) (λ p. one-at_most {X = Section × ℕ × ℕ} (length p.items == 0) (p.kind, length p.items, slice_index (offsets p) 0)) in
     omega (arith, length-append {A = Section × ℕ × ℕ}, length-flat_map table (placed_tables K), length-flat_map section (data_sections K), tables, sections)
 
-digest-size : (h : List ℕ) (n : ℕ) → length (digest_bytes h n) ≡ 4 * n
-unfolding digest_bytes
-digest-size h zero = refl
-digest-size h (suc n) = omega (arith, length-append (digest_bytes h n) (to_be_bytes w32 (slice_index h n)), digest-size h n)
-
-sha1-size : (bytes : List ℕ) → length (sha1 bytes) ≡ 20
-unfolding sha1
-sha1-size bytes = digest-size (hash_after (padded_message bytes) (length (padded_message bytes) / 64)) 5
-
--- magic, checksum and signature
-pub with_sums-size : (rest : List ℕ) → length (with_sums rest) ≡ 32 + length rest
-unfolding with_sums
-with_sums-size rest = omega (arith, length-append {A = ℕ}, length-uint, sha1-size)
-
 -- ---- the whole
 
 padding-size : (at : ℕ) → length (padding 4 at) ≤ 3
@@ -94,12 +81,12 @@ unfolding unsigned_file
 file-size K few =
     let data_end = end (directory_section K) in
     let map_off = round_up 4 data_end in
-    omega (arith, with_sums-size (unsigned_file K), length-append {A = ℕ}, length-header_bytes K, parts-size K few, padding-size data_end, length-map_bytes (map_of K map_off), map_of-size K map_off)
+    omega (arith, length-with_sums (unsigned_file K), length-append {A = ℕ}, length-header_bytes K, parts-size K few, padding-size data_end, length-map_bytes (map_of K map_off), map_of-size K map_off)
 
 -- the file is at least as long as its header
 pub file-least : (K : Ordered) → 112 ≤ length (with_sums (unsigned_file K))
 unfolding unsigned_file
-file-least K = omega (arith, with_sums-size (unsigned_file K), length-append {A = ℕ}, length-header_bytes K)
+file-least K = omega (arith, length-with_sums (unsigned_file K), length-append {A = ℕ}, length-header_bytes K)
 
 -- ---- classes in order
 

@@ -4,6 +4,7 @@ use Rattle.dexspec.specs.{ushort, uint, uleb128, sleb128, plus_one, magnitude, T
 use Rattle.dexspec.proofs.numbers.ByteNumbers.{length-bytes_of, length-ushort, length-uint}
 use Rattle.dexspec.proofs.numbers.Spellings.{uleb128_bounds, sleb128_bounds}
 use Rattle.dexspec.proofs.size.SizeSums.{sum_by-at_most}
+use Rattle.dexspec.proofs.written.PlacedBytes.{length_rows}
 
 -- ---- numbers
 
@@ -110,14 +111,10 @@ annotation_bytes-size m a = omega (arith, length-append {A = ℕ}, uleb128-size,
 
 -- ---- lists of offsets and of types
 
-pub each-is : {X : Type 0} (f : X → List ℕ) (k : ℕ) (xs : List X) → ((x : X) → length (f x) ≡ k) → length (flat_map f xs) ≡ length xs * k
-each-is f k [] e = omega arith
-each-is f k (x ∷ xs) e = omega (arith, length-append (f x) (flat_map f xs), e x, each-is f k xs e)
-
 pub offsets_bytes-size : (offs : List ℕ) → length (offsets_bytes offs) ≡ 4 + 4 * length offs
-offsets_bytes-size offs = omega (arith, length-append (uint (length offs)) (flat_map uint offs), length-uint (length offs), each-is uint 4 offs length-uint)
+offsets_bytes-size offs = omega (arith, length-append (uint (length offs)) (flat_map uint offs), length-uint (length offs), length_rows uint 4 length-uint offs)
 
 pub type_list-size : (m : Mentions) (ts : List Text) → length (uint (length ts) ++ flat_map (λ t. ushort (type_index m t)) ts) ≡ 4 + 2 * length ts
 type_list-size m ts =
     let row = λ (t : Text). ushort (type_index m t) in
-    omega (arith, length-append (uint (length ts)) (flat_map row ts), length-uint (length ts), each-is row 2 ts (λ t. length-ushort (type_index m t)))
+    omega (arith, length-append (uint (length ts)) (flat_map row ts), length-uint (length ts), length_rows row 2 (λ t. length-ushort (type_index m t)) ts)

@@ -1,6 +1,7 @@
 -- Lengths of combined lists, sums over lists that are made of others, and the end of a section.
 use Rattle.dexspec.proofs.Common.{◌≡◌, ℕ, zero, suc, ◌+◌, ◌-◌, ◌*◌, ◌%◌, ◌<◌, ◌≤◌, List, [], ◌∷◌, ◌++◌, map, length, take, drop, Option, Some, None, refl, ap, subst, arith, sum_by, flat_map, length-append, length-take, concat, length-replicate, sum_by-cons, sum_by-append, mod_below}
 use Rattle.dexspec.specs.{chunks, zip_with, present, round_up, padding, offsets_from, end_from, bytes_from}
+use Rattle.dexspec.proofs.layout.Places.{length-bytes_from}
 
 -- ---- sums over lists that are made of others
 
@@ -55,13 +56,6 @@ length-concat (xs ∷ xss) = omega (arith, length-append xs (concat xss), sum_by
 pub padding-at_most : (k at : ℕ) → (suc k - at % suc k) % suc k ≤ k
 padding-at_most k at = omega (arith, mod_below (suc k - at % suc k) (suc k) (omega arith))
 
--- the bytes of a section are those between its ends
-pub length-bytes_from : (align from : ℕ) (xs : List (List ℕ)) → from + length (bytes_from align from xs) ≡ end_from align from xs
-length-bytes_from align from [] = omega arith
-length-bytes_from align from (x ∷ xs) =
-    let rest = bytes_from align (round_up align from + length x) xs in
-    omega (arith, length-append (padding align from) (x ++ rest), length-append x rest, length-replicate {A = ℕ} ((align - from % align) % align) 0, length-bytes_from align (round_up align from + length x) xs)
-
 -- each item adds at most its length and the bytes of its alignment
 pub end_from-at_most : (k from : ℕ) (xs : List (List ℕ)) → end_from (suc k) from xs ≤ from + sum_by (λ x. length x + k) xs
 end_from-at_most k from [] = omega arith
@@ -75,8 +69,3 @@ end-at_most (suc k) from xs h = subst (λ n. end_from (suc k) from xs ≤ from +
 
 pub bytes_from-at_most : (k from : ℕ) (xs : List (List ℕ)) → length (bytes_from (suc k) from xs) ≤ sum_by (λ x. length x + k) xs
 bytes_from-at_most k from xs = omega (arith, length-bytes_from (suc k) from xs, end_from-at_most k from xs)
-
--- there are as many offsets as items
-pub length-offsets_from : (align from : ℕ) (xs : List (List ℕ)) → length (offsets_from align from xs) ≡ length xs
-length-offsets_from align from [] = refl
-length-offsets_from align from (x ∷ xs) = ap suc (length-offsets_from align (round_up align from + length x) xs)

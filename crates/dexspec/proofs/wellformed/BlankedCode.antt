@@ -4,6 +4,7 @@ use Rattle.dexspec.specs.{signed_in, Pool, Symbol, Format, F10t, F20t, F21t, F22
 use Rattle.dexspec.proofs.lists.Members.{and_first, and_second, and_both, Contains-nil, Contains-first, Contains-later, Contains-cons_cases, list_any-source, list_all-member, list_all-from_members}
 use Rattle.dexspec.proofs.wellformed.FormedRows.{all_from}
 use Rattle.dexspec.proofs.wellformed.Blanked.{IsZero, pool_at, blank, zeroed, if_true, if_false, piece_is, Kept, ints_same, units_by, piece_same, piece_bounds}
+use Rattle.std.proofs.lemmas.Bool.{or_left, or_right}
 
 -- ---- pieces in sequence
 
@@ -161,16 +162,6 @@ read_later l k j n e = get_or-drop k l j 0 ∙ ap (slice_index l) e
 any_same : (p q : Cut → Bool) (cs : List Cut) → ((c : Cut) → Contains cs c → p c ≡ q c) → list_any p cs ≡ list_any q cs
 any_same p q [] h = refl
 any_same p q (c ∷ cs) h = let first = h c (Contains-first c cs) in let rest = any_same p q cs (λ d m. h d (Contains-later c d cs m)) in λ i. first i || rest i
-
--- the left side of a disjunction
-or_left : (a b : Bool) → a ≡ true → (a || b) ≡ true
-or_left true b e = refl
-or_left false b e = absurd cc
-
--- the right side of a disjunction
-or_right : (a b : Bool) → b ≡ true → (a || b) ≡ true
-or_right true b e = refl
-or_right false b e = e
 
 -- if the left side is false, the right side is true
 or_other : (a b : Bool) → a ≡ false → (a || b) ≡ true → b ≡ true

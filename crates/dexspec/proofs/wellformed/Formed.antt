@@ -1,18 +1,10 @@
 -- Rows can denote the symbols that well-formed definitions mention.
-use Rattle.dexspec.proofs.Common.{◌≡◌, List, [], ◌∷◌, subst, inl, inr, All, Contains, Mentions}
+use Rattle.dexspec.proofs.Common.{◌≡◌, List, [], ◌∷◌, subst, inl, inr, All, Contains, Mentions, All-contains}
 use Rattle.dexspec.specs.{Text, IsDescriptor, IsValueType, IsReferenceType, IsClass, PrimitiveType, ClassType, ArrayType, Symbol, TextSymbol, TypeSymbol, ProtoSymbol, FieldSymbol, MethodSymbol, Proto, Field, Method, IsProto, IsField, IsMethod, Definition, mentions, symbols_of, texts_in, types_in, protos_in, fields_in, methods_in, proto_types, IsText, IsSymbol, AreWellFormed}
 use Rattle.dexspec.proofs.lists.Members.{Contains-nil, Contains-first, Contains-later, Contains-cons_cases, Contains-flat_map}
-use Rattle.dexspec.proofs.merge.MentionMembers.{Occurs, texts-source, types-source, protos-source, fields-source, methods-source, type-text, proto-shorty, proto-types, field-class, field-name, field-type, method-class, method-name, method-proto}
+use Rattle.dexspec.proofs.merge.MentionMembers.{Occurs, texts-source, types-source, protos-source, fields-source, methods-source, type-text, proto-shorty, proto-types, field-class, field-name, field-type, method-class, method-name, method-proto, one_member}
 use Rattle.dexspec.proofs.merge.Growth.{mentions-rising}
 use Rattle.dexspec.proofs.layout.PoolsAreAt.{ArePools}
-
--- a property of all members holds for a member
-pub All-member : {X : Type 0} (P : X → Type 0) (xs : List X) (x : X) → All P xs → Contains xs x → P x
-All-member P xs x h c = subst P c.2 (h c.0 x c.1)
-
--- the only member of a list of one
-pub one_member : {X : Type 0} (y x : X) → Contains (y ∷ []) x → y ≡ x
-one_member y x c = elim (Contains-cons_cases y x [] c) [ inl e ↦ e | inr l ↦ absurd (Contains-nil x l) ]
 
 -- a value type is a descriptor
 pub value_descriptor : (t : Text) → IsValueType t → IsDescriptor t
@@ -25,7 +17,7 @@ pub class_descriptor : (t : Text) → IsClass t → IsDescriptor t
 class_descriptor t c = (ClassType, c)
 
 -- a type that may have methods is a descriptor
-reference_descriptor : (t : Text) → IsReferenceType t → IsDescriptor t
+pub reference_descriptor : (t : Text) → IsReferenceType t → IsDescriptor t
 reference_descriptor t (inl c) = (ClassType, c)
 reference_descriptor t (inr a) = (ArrayType, a)
 
@@ -33,7 +25,7 @@ reference_descriptor t (inr a) = (ArrayType, a)
 proto_descriptors : (p : Proto) → IsProto p → (t : Text) → Contains (proto_types p) t → IsDescriptor t
 proto_descriptors p h t c = elim (Contains-cons_cases p.return_type t p.parameters c) [
   | inl e ↦ subst IsDescriptor e h.return_type
-  | inr l ↦ value_descriptor t (All-member IsValueType p.parameters t h.parameters l)
+  | inr l ↦ value_descriptor t (All-contains IsValueType p.parameters t h.parameters l)
 ]
 
 -- the types of a symbol
@@ -76,13 +68,13 @@ pub record AreFormed (m : Mentions) : Type 0 where
 
 -- the symbol of a part that occurs
 occurring : {X : Type 0} (parts : Symbol → List X) (D : List Definition) (x : X) → AreWellFormed D → (w : Occurs parts D x) → IsSymbol w.symbol
-occurring parts D x h w = All-member IsSymbol (symbols_of w.definition) w.symbol (h w.definition w.member).symbols w.occurs
+occurring parts D x h w = All-contains IsSymbol (symbols_of w.definition) w.symbol (h w.definition w.member).symbols w.occurs
 
 -- the symbols that well-formed definitions mention are well formed
 pub mentions-formed : (D : List Definition) → AreWellFormed D → AreFormed (mentions D)
 mentions-formed D h = record {
   texts = λ s c. let w = texts-source D s c in
-      All-member IsText _ s (h w.definition w.member).texts (Contains-flat_map texts_in (symbols_of w.definition) w.symbol s w.occurs w.part);
+      All-contains IsText _ s (h w.definition w.member).texts (Contains-flat_map texts_in (symbols_of w.definition) w.symbol s w.occurs w.part);
   types = λ t c. let w = types-source D t c in symbol_types w.symbol (occurring types_in D t h w) t w.part;
   protos = λ p c. let w = protos-source D p c in symbol_protos w.symbol (occurring protos_in D p h w) p w.part;
   fields = λ f c. let w = fields-source D f c in symbol_fields w.symbol (occurring fields_in D f h w) f w.part;

@@ -15,7 +15,7 @@ pair_size : (p : ℕ × ℕ) → length (uint p.0 ++ uint p.1) ≡ 8
 pair_size p = omega (arith, length-append (uint p.0) (uint p.1), length-uint p.0, length-uint p.1)
 
 -- n pairs have n times eight bytes
-pairs_size : (ps : List (ℕ × ℕ)) → length (pairs_bytes ps) ≡ 8 * length ps
+pub pairs_size : (ps : List (ℕ × ℕ)) → length (pairs_bytes ps) ≡ 8 * length ps
 pairs_size ps = length_rows (λ (p : ℕ × ℕ). uint p.0 ++ uint p.1) 8 pair_size ps
 
 module _ {M X : Type 0} (Row : List ℕ → ℕ → M → Type 0) (At : List ℕ → ℕ → X → Type 0) (b : List ℕ) (small : (p : ℕ) (x : X) → At b p x → p < 2 ^ 32) where

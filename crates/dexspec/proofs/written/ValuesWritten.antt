@@ -1,7 +1,7 @@
 -- Values and annotations are at the offset of their canonical bytes, if each symbol is in the row of its index.
 use Rattle.dexspec.proofs.Common.{◌≡◌, ℕ, ◌+◌, ◌-◌, ◌*◌, ◌/◌, ◌^◌, ◌<◌, ◌≤◌, List, [], ◌++◌, length, refl, subst, arith, ℤ, pos, negsuc, true, false, FitsSigned, IsTrue, w8, w16, w32, w64, ints, length-append, Values, Mentions}
 use Rattle.dexspec.specs.{rises, BytesAt, magnitude, uleb128, Text, text_cmp, TextSymbol, TypeSymbol, FieldSymbol, MethodSymbol, data_off, StringRow, TypeRow, FieldRow, MethodRow, Value, ByteValue, ShortValue, CharValue, IntValue, LongValue, FloatValue, DoubleValue, StringValue, TypeValue, FieldValue, MethodValue, EnumValue, ArrayValue, AnnotationValue, NullValue, BooleanValue, NoValues, ThenValue, Elements, NoElements, ThenElement, count_values, names_of, value_byte, SignedAt, UnsignedAt, BitsAt, IndexAt, ArrayAround, AnnotationAround, ValueAt, ValuesAt, ElementsAt, EncodedArrayAt, Annotation, AnnotationAt, value_symbols, values_symbols, elements_symbols, annotation_symbols, text_index, type_index, field_index, method_index, unsigned_width, signed_width, bits_width, complement, unsigned_bytes, signed_bytes, bits_bytes, value_bytes, values_bytes, elements_bytes, encoded_array_bytes, annotation_bytes, IsValue, AreValues, AreElements, IsAnnotation}
-use Rattle.dexspec.proofs.numbers.ByteNumbers.{length-bytes_of}
+use Rattle.dexspec.proofs.numbers.ByteNumbers.{length-bytes_of, fits_64}
 use Rattle.dexspec.proofs.numbers.Widths.{unsigned_at, signed_at, bits_at}
 use Rattle.dexspec.proofs.written.NumbersWritten.{prefix_is_at, suffix_is_at, head_is_at, tail_is_at, uleb128_written, AreInRows, first_in_row, rest_in_rows, prefix_in_rows, back_in_rows}
 
@@ -18,10 +18,6 @@ room_16 (negsuc n) fits = omega (arith, ints)
 room_32 : (z : ℤ) → FitsSigned w32 z → 2 * magnitude z < 256 ^ 4
 room_32 (pos n) fits = omega (arith, ints)
 room_32 (negsuc n) fits = omega (arith, ints)
-
-room_64 : (z : ℤ) → FitsSigned w64 z → 2 * magnitude z < 256 ^ 8
-room_64 (pos n) fits = omega (arith, ints)
-room_64 (negsuc n) fits = omega (arith, ints)
 
 -- ---- scalars
 
@@ -87,7 +83,7 @@ module _ (b : List ℕ) (m : Mentions) where
     value_written o (ShortValue z) is are h = signed_written 0x02 2 b o z (omega arith) (omega arith) (room_16 z is) h
     value_written o (CharValue u) is are h = unsigned_written 0x03 2 b o u (omega arith) (omega arith) is h
     value_written o (IntValue z) is are h = signed_written 0x04 4 b o z (omega arith) (omega arith) (room_32 z is) h
-    value_written o (LongValue z) is are h = signed_written 0x06 8 b o z (omega arith) (omega arith) (room_64 z is) h
+    value_written o (LongValue z) is are h = signed_written 0x06 8 b o z (omega arith) (omega arith) (fits_64 z is) h
     value_written o (FloatValue bits) is are h = bits_written 0x10 4 b o bits (omega arith) (omega arith) is h
     value_written o (DoubleValue bits) is are h = bits_written 0x11 8 b o bits (omega arith) (omega arith) is h
     value_written o (StringValue s) is are h = index_written StringRow 0x17 b o (text_index m s) s (first_in_row b m (TextSymbol s) [] are) h

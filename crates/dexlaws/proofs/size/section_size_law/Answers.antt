@@ -1,4 +1,5 @@
-use Rattle.dexspec.proofs.size.SizeSums.{length-bytes_from, end-at_most}
+use Rattle.dexspec.proofs.size.SizeSums.{end-at_most}
+use Rattle.dexspec.proofs.layout.Places.{length-bytes_from}
 use Rattle.dexlaws.proofs.size.section_size_law.Goals as goal
 
 pub returns-clause-bytes : goal.returns-clause-bytes

@@ -13,5 +13,4 @@ pub mod RowsRead
 pub mod PoolsAreAt
 pub mod PoolsInOrder
 pub mod PlainHeaders
-pub mod PoolsFormed
 pub mod FileRows

@@ -6,7 +6,7 @@ use Rattle.dexspec.proofs.layout.HeaderLaws.{AreFew}
 use Rattle.dexspec.proofs.layout.Frames.{fits_few, fitting_laid, fitting_frame}
 use Rattle.dexspec.proofs.layout.PoolsAreAt.{ArePools}
 use Rattle.dexspec.proofs.layout.PoolsInOrder.{string_holds, type_holds, proto_holds, field_holds, method_holds}
-use Rattle.dexspec.proofs.layout.PoolsFormed.{mentions_pools}
+use Rattle.dexspec.proofs.wellformed.Formed.{mentions-pools}
 
 -- the conditions on the rows of the pools, in addition to those on the frame
 pub laid_rows : {K : Ordered} {b : List ℕ} → Laid K b → AreFew K → ArePools K.pools → IsFrame b → HoldBelow 16 b
@@ -40,4 +40,4 @@ laid_rows {K} {b} h few p frame = each
 -- the canonical file of well-formed definitions that fit caps meets all of these conditions
 pub canonical_rows : (caps : Caps) (K : Collection) → AreCaps caps → Fits caps (definitions K) → AreWellFormed (definitions K) → HoldBelow 16 (canonical K)
 canonical_rows caps K are fits formed =
-    laid_rows (fitting_laid caps K are fits) (fits_few caps K are fits) (mentions_pools (definitions K) formed) (fitting_frame caps K are fits)
+    laid_rows (fitting_laid caps K are fits) (fits_few caps K are fits) (mentions-pools (definitions K) formed) (fitting_frame caps K are fits)

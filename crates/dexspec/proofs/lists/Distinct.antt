@@ -5,6 +5,7 @@ use Rattle.dexspec.specs.{AreDistinct, distinct}
 use Rattle.dexspec.proofs.lists.Equality.{IsEquality, turned}
 use Rattle.dexspec.proofs.lists.Members.{Contains-first, Contains-later, Contains-cons_cases, Contains-filter, Contains-filter_source}
 use Rattle.dexspec.proofs.lists.Sources.{distinct_source}
+use Rattle.dexspec.proofs.lists.Mapped.{filter-map}
 
 -- ---- one member more
 
@@ -111,15 +112,6 @@ distinct_once {X = X} same again (x ∷ xs) =
 
 -- ---- members under an injective map
 
--- a filter of a mapped list
-filter_mapped : {X Y : Type 0} (f : X → Y) (p : Y → Bool) (xs : List X) → filter p (map f xs) ≡ map f (filter (λ x. p (f x)) xs)
-filter_mapped f p [] = refl
-filter_mapped f p (x ∷ xs) = by (p (f x)) (filter_mapped f p xs)
-  where
-    by : (b : Bool) → filter p (map f xs) ≡ map f (filter (λ x. p (f x)) xs) → cond b (f x ∷ filter p (map f xs)) (filter p (map f xs)) ≡ map f (cond b (x ∷ filter (λ x. p (f x)) xs) (filter (λ x. p (f x)) xs))
-    by true again = ap (λ ys. f x ∷ ys) again
-    by false again = again
-
 -- a filter by a test that agrees on the members
 filter_agrees : {X : Type 0} (p q : X → Bool) (xs : List X) → ((x : X) → Contains xs x → p x ≡ q x) → filter p xs ≡ filter q xs
 filter_agrees p q [] e = refl
@@ -133,5 +125,5 @@ distinct_mapped f same equivalent [] e = refl
 distinct_mapped f same equivalent (x ∷ xs) e =
     let ds = distinct same xs in
     ap (λ zs. f x ∷ filter (λ z. not (equivalent (f x) z)) zs) (distinct_mapped f same equivalent xs (λ y z cy cz. e y z (Contains-later x y xs cy) (Contains-later x z xs cz)))
-    ∙ ap (λ zs. f x ∷ zs) (filter_mapped f (λ z. not (equivalent (f x) z)) ds)
+    ∙ ap (λ zs. f x ∷ zs) (filter-map f (λ z. not (equivalent (f x) z)) ds)
     ∙ ap (λ zs. f x ∷ map f zs) (filter_agrees (λ z. not (equivalent (f x) (f z))) (λ z. not (same x z)) ds (λ z c. ap not (e x z (Contains-first x xs) (Contains-later x z xs (distinct_source same xs z c)))))

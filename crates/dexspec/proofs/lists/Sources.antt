@@ -3,6 +3,7 @@ use Rattle.dexspec.proofs.Common.{◌≡◌, ℕ, ◌+◌, Bool, true, false, co
 use Rattle.std.specs.FinMap.Entries.{find}
 use Rattle.dexspec.specs.{Item, Sequence, distinct, annotated, EncodedField, EncodedMethod, EncodedFieldsAt, EncodedMethodsAt, FieldRow, MethodRow}
 use Rattle.dexspec.proofs.lists.Members.{Contains-nil, Contains-first, Contains-later, Contains-cons_cases, Contains-filter_source}
+pub use Rattle.dexspec.proofs.lists.Mapped.{Contains-map_source as map_source}
 
 -- a member of a sequence is at some offset
 pub sequence_source : {X : Type 0} (At : Item X) (b : List ℕ) (o : ℕ) (xs : List X) (n : ℕ) (x : X) → Sequence At b o xs n → Contains xs x → (p : ℕ) × (k : ℕ) × At b p x k
@@ -10,14 +11,6 @@ sequence_source At b o [] n x h c = absurd (Contains-nil x c)
 sequence_source At b o (y ∷ xs) n x h c = elim (Contains-cons_cases y x xs c) [
   | inl e ↦ (o, h.0, subst (λ z. At b o z h.0) e h.2)
   | inr l ↦ sequence_source At b (o + h.0) xs h.1 x h.3 l
-]
-
--- a member of a mapped list is the image of a member
-pub map_source : {X Y : Type 0} (f : X → Y) (xs : List X) (y : Y) → Contains (map f xs) y → (x : X) × Contains xs x × (f x ≡ y)
-map_source f [] y c = absurd (Contains-nil y c)
-map_source f (z ∷ xs) y c = elim (Contains-cons_cases (f z) y (map f xs) c) [
-  | inl e ↦ (z, Contains-first z xs, e)
-  | inr l ↦ let s = map_source f xs y l in (s.0, Contains-later z s.0 xs s.1, s.2)
 ]
 
 -- a list without its repeats has no other members

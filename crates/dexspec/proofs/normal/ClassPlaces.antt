@@ -8,6 +8,7 @@ use Rattle.dexspec.proofs.merge.SymbolOrders.{text_exact, text_total, both_tie}
 use Rattle.dexspec.proofs.lists.InOrder.{Rises, Rises-in_order, Rises-places, irreflexive}
 use Rattle.dexspec.proofs.merge.Depths.{Contains-map}
 use Rattle.dexspec.proofs.lists.RankOrder.{nat_more}
+pub use Rattle.dexspec.proofs.lists.Mapped.{Contains-map_source}
 
 -- a definition with its depth
 abbrev PlacedClass : Type 0
@@ -106,14 +107,6 @@ put_all-has (e ∷ es) x d c =
     ]
 
 -- ---- the classes in their order
-
--- a member of a mapped list is mapped from a member
-pub Contains-map_source : {X Y : Type 0} (f : X → Y) (xs : List X) (y : Y) → Contains (map f xs) y → (x : X) × Contains xs x × (f x ≡ y)
-Contains-map_source f [] y c = absurd (Contains-nil y c)
-Contains-map_source f (x ∷ xs) y c = elim (Contains-cons_cases (f x) y (map f xs) c) [
-  | inl e ↦ (x, Contains-first x xs, e)
-  | inr l ↦ let s = Contains-map_source f xs y l in (s.0, Contains-later x s.0 xs s.1, s.2)
-]
 
 -- the names stay with the depths
 pub names-kept : (g : Definition → ℕ) (D : List Definition) → map (λ (e : PlacedClass). e.0.1) (map (λ d. ((g d, d.0), d.1)) D) ≡ map (λ d. d.0) D

@@ -8,7 +8,7 @@ use Rattle.dexspec.proofs.layout.SectionPlaces.{Laid}
 use Rattle.dexspec.proofs.layout.HeaderLaws.{AreFew}
 use Rattle.dexspec.proofs.layout.Frames.{fits_few, fitting_laid}
 use Rattle.dexspec.proofs.layout.PoolsAreAt.{ArePools, text_row, type_row, proto_row, field_row, method_row}
-use Rattle.dexspec.proofs.layout.PoolsFormed.{mentions_pools}
+use Rattle.dexspec.proofs.wellformed.Formed.{mentions-pools}
 use Rattle.dexspec.proofs.layout.FileRows.{canonical_rows}
 use Rattle.dexlaws.specs.Frame.{IsMentioned}
 use Rattle.dexlaws.proofs.frame.pools_law.Goals as goal
@@ -25,4 +25,4 @@ pub returns-clause-rows : goal.returns-clause-rows
 returns-clause-rows c = canonical_rows
 
 pub returns-clause-symbols : goal.returns-clause-symbols
-returns-clause-symbols c = λ caps K s are fits formed is. symbol_row (fitting_laid caps K are fits) (fits_few caps K are fits) (mentions_pools (definitions K) formed) s is
+returns-clause-symbols c = λ caps K s are fits formed is. symbol_row (fitting_laid caps K are fits) (fits_few caps K are fits) (mentions-pools (definitions K) formed) s is

@@ -3,7 +3,7 @@ use Rattle.dexspec.proofs.Common.{◌≡◌, ℕ, zero, suc, ◌+◌, ◌-◌, �
 use Rattle.dexspec.specs.{signed_in, Pool, Symbol, Format, F10t, F20t, F21t, F22t, F30t, F31t, Opcode, OpcodeRun, opcode_runs, opcode_of, units_in, is_in_run, Cut, AreCut, piece_size, packed_switch_ident, sparse_switch_ident, array_data_ident, is_payload_ident, payload_ident, payload_targets, ints_in, branch_offset, is_right_target, all_of_option, is_instruction_start, is_payload_start, has_right_targets, IsCode, Piece, units_of, DenotesPiece, low_byte, high_byte, cut_units}
 use Rattle.dexspec.proofs.lists.Members.{and_first, and_second, and_both, Contains-nil, Contains-first, Contains-later, Contains-cons_cases, list_any-source, list_all-member, list_all-from_members}
 use Rattle.dexspec.proofs.wellformed.FormedRows.{all_from}
-use Rattle.dexspec.proofs.wellformed.Blanked.{IsZero, pool_at, blank, zeroed, if_true, if_false, piece_is, Kept, ints_same, units_by, piece_same, piece_bounds}
+use Rattle.dexspec.proofs.wellformed.Blanked.{IsZero, pool_at, blank, zeroed, if_true, if_false, piece_is, Kept, ints_same, units_by, piece_same, piece_bounds, Blank}
 use Rattle.std.proofs.lemmas.Bool.{or_left, or_right}
 
 -- ---- pieces in sequence
@@ -45,70 +45,73 @@ pub record KeptCut (at : ℕ) (us vs : List ℕ) (c : Cut) : Type 0 where
   pub kept : Kept (drop (c.unit - at) us) (drop (c.unit - at) vs) c.units
   pub piece : piece_size c.unit (drop (c.unit - at) us) ≡ Some c.units
 
--- the units without indices
-record Blanked (at : ℕ) (us vs : List ℕ) (cs : List Cut) (ps : List Piece) : Type 0 where
-  size : length vs ≡ length us
-  cut : AreCut at vs cs []
-  encodes : AreDenoted IsZero vs cs ps
-  kept : (c : Cut) → Contains cs c → KeptCut at us vs c
+-- the units after a change of indices
+pub record Rewritten (N : ℕ → Symbol → Type 0) (at : ℕ) (us vs : List ℕ) (cs : List Cut) (ps : List Piece) : Type 0 where
+  pub size : length vs ≡ length us
+  pub cut : AreCut at vs cs []
+  pub encodes : AreDenoted N vs cs ps
+  pub kept : (c : Cut) → Contains cs c → KeptCut at us vs c
 
 -- one piece is kept
-kept_first : (N : ℕ → Symbol → Type 0) (us rest : List ℕ) (p : Piece) (n : ℕ) → n ≤ length us → 0 < n → DenotesPiece N (take n us) p → Kept us (units_of p ++ rest) n
-kept_first N us rest p n le some h =
-    let b = blank N (take n us) p h in
-    let size : length (units_of p) ≡ n = omega (arith, b.size, length-take n us, le) in
+kept_first : (x us rest : List ℕ) (n : ℕ) → n ≤ length us → 0 < n → Blank (take n us) x → Kept us (x ++ rest) n
+kept_first x us rest n le some b =
+    let size : length x ≡ n = omega (arith, b.size, length-take n us, le) in
     let front : slice_index (take n us) 0 ≡ slice_index us 0 = get_or-take n us 0 0 some in
     record {
-      first = append_left (units_of p) rest 0 0 (omega (arith, size, some)) ∙ b.first ∙ front;
+      first = append_left x rest 0 0 (omega (arith, size, some)) ∙ b.first ∙ front;
       same = λ none j lt.
           let whole = b.same (ap pool_at front ∙ none) in
-          append_left (units_of p) rest j 0 (omega (arith, size, lt)) ∙ ap (λ (ys : List ℕ). slice_index ys j) whole ∙ get_or-take n us j 0 lt;
+          append_left x rest j 0 (omega (arith, size, lt)) ∙ ap (λ (ys : List ℕ). slice_index ys j) whole ∙ get_or-take n us j 0 lt;
     }
 
--- pieces without their indices are cut as they were
-blanked : (N : ℕ → Symbol → Type 0) (at : ℕ) (us : List ℕ) (cs : List Cut) (ps : List Piece) → AreCut at us cs [] → AreDenoted N us cs ps → Blanked at us (flat_map units_of ps) cs ps
-blanked N at us [] [] h g = record { size = ap length (sym h); cut = refl; encodes = tt; kept = λ c m. absurd (Contains-nil c m) }
-blanked N at us [] (p ∷ ps) h g = absurd g
-blanked N at us (c ∷ cs) [] h g = absurd g
-blanked N at us (c ∷ cs) (p ∷ ps) h g =
-    let r = blanked N (at + c.units) (drop c.units us) cs ps h.2 g.1 in
-    let x = units_of p in
-    let others = flat_map units_of ps in
-    let vs = x ++ others in
-    let bounds = piece_bounds at c.units us h.1 in
-    let b = blank N (take c.units us) p g.0 in
-    let len : length x ≡ c.units = omega (arith, b.size, length-take c.units us, bounds.1) in
-    let size : length vs ≡ length us = omega (arith, length-append x others, len, r.size, length-drop c.units us, bounds.1) in
-    let kept = kept_first N us others p c.units bounds.1 bounds.0 g.0 in
-    let piece = piece_same at c.units us vs size kept h.1 in
-    let taken : take c.units vs ≡ x = ap (λ (k : ℕ). take k vs) (sym len) ∙ take_at x others (length x) refl in
-    let dropped : drop c.units vs ≡ others = ap (λ (k : ℕ). drop k vs) (sym len) ∙ drop_at x others (length x) refl in
-    let here : KeptCut at us vs c =
-    let none : 0 ≡ c.unit - at = omega (arith, h.0) in
-    record {
-      place = omega (arith, h.0);
-      kept = subst (λ (k : ℕ). Kept (drop k us) (drop k vs) c.units) none kept;
-      piece = subst (λ (k : ℕ). piece_size c.unit (drop k us) ≡ Some c.units) none (subst (λ (k : ℕ). piece_size k us ≡ Some c.units) (sym h.0) h.1);
-    } in
-    record {
-      size = size;
-      cut = (h.0, piece, subst (λ (ys : List ℕ). AreCut (at + c.units) ys cs []) (sym dropped) r.cut);
-      encodes = (subst (λ (ys : List ℕ). DenotesPiece IsZero ys p) (sym taken) (zeroed N (take c.units us) p g.0), subst (λ (ys : List ℕ). AreDenoted IsZero ys cs ps) (sym dropped) r.encodes);
-      kept = λ d m. elim (Contains-cons_cases c d cs m) [
-        | inl e ↦ subst (KeptCut at us vs) e here
-        | inr l ↦
-            let k = r.kept d l in
-            let back = d.unit - (at + c.units) in
-            let far : c.units + back ≡ d.unit - at = omega (arith, k.place) in
-            let in_us : drop back (drop c.units us) ≡ drop (d.unit - at) us = drop-drop back c.units us ∙ ap (λ (n : ℕ). drop n us) far in
-            let in_vs : drop back others ≡ drop (d.unit - at) vs = ap (drop back) (sym dropped) ∙ drop-drop back c.units vs ∙ ap (λ (n : ℕ). drop n vs) far in
-            record {
-              place = omega (arith, k.place);
-              kept = subst (λ (ys : List ℕ). Kept ys (drop (d.unit - at) vs) d.units) in_us (subst (λ (ys : List ℕ). Kept (drop back (drop c.units us)) ys d.units) in_vs k.kept);
-              piece = subst (λ (ys : List ℕ). piece_size d.unit ys ≡ Some d.units) in_us k.piece;
-            }
-      ];
-    }
+-- pieces whose indices change are cut as they were
+module _ (N M : ℕ → Symbol → Type 0) (Fits : Piece → Type 0) (f : Piece → List ℕ) (change : (w : List ℕ) (p : Piece) → DenotesPiece N w p → Blank w (f p)) (
+  encode : (at n : ℕ) (us : List ℕ) (p : Piece) → n ≤ length us → 0 < n → piece_size at us ≡ Some n → DenotesPiece N (take n us) p → Fits p → DenotesPiece M (f p) p
+) where
+  pub rewritten : (at : ℕ) (us : List ℕ) (cs : List Cut) (ps : List Piece) → AreCut at us cs [] → AreDenoted N us cs ps → ((p : Piece) → Contains ps p → Fits p) → Rewritten M at us (flat_map f ps) cs ps
+  rewritten at us [] [] h g fits = record { size = ap length (sym h); cut = refl; encodes = tt; kept = λ c m. absurd (Contains-nil c m) }
+  rewritten at us [] (p ∷ ps) h g fits = absurd g
+  rewritten at us (c ∷ cs) [] h g fits = absurd g
+  rewritten at us (c ∷ cs) (p ∷ ps) h g fits =
+      let r = rewritten (at + c.units) (drop c.units us) cs ps h.2 g.1 (λ q k. fits q (Contains-later p q ps k)) in
+      let x = f p in
+      let others = flat_map f ps in
+      let vs = x ++ others in
+      let bounds = piece_bounds at c.units us h.1 in
+      let b = change (take c.units us) p g.0 in
+      let len : length x ≡ c.units = omega (arith, b.size, length-take c.units us, bounds.1) in
+      let size : length vs ≡ length us = omega (arith, length-append x others, len, r.size, length-drop c.units us, bounds.1) in
+      let kept = kept_first x us others c.units bounds.1 bounds.0 b in
+      let piece = piece_same at c.units us vs size kept h.1 in
+      let taken : take c.units vs ≡ x = ap (λ (k : ℕ). take k vs) (sym len) ∙ take_at x others (length x) refl in
+      let dropped : drop c.units vs ≡ others = ap (λ (k : ℕ). drop k vs) (sym len) ∙ drop_at x others (length x) refl in
+      let encodes = encode at c.units us p bounds.1 bounds.0 h.1 g.0 (fits p (Contains-first p ps)) in
+      let here : KeptCut at us vs c =
+      let none : 0 ≡ c.unit - at = omega (arith, h.0) in
+      record {
+        place = omega (arith, h.0);
+        kept = subst (λ (k : ℕ). Kept (drop k us) (drop k vs) c.units) none kept;
+        piece = subst (λ (k : ℕ). piece_size c.unit (drop k us) ≡ Some c.units) none (subst (λ (k : ℕ). piece_size k us ≡ Some c.units) (sym h.0) h.1);
+      } in
+      record {
+        size = size;
+        cut = (h.0, piece, subst (λ (ys : List ℕ). AreCut (at + c.units) ys cs []) (sym dropped) r.cut);
+        encodes = (subst (λ (ys : List ℕ). DenotesPiece M ys p) (sym taken) encodes, subst (λ (ys : List ℕ). AreDenoted M ys cs ps) (sym dropped) r.encodes);
+        kept = λ d m. elim (Contains-cons_cases c d cs m) [
+          | inl e ↦ subst (KeptCut at us vs) e here
+          | inr l ↦
+              let k = r.kept d l in
+              let back = d.unit - (at + c.units) in
+              let far : c.units + back ≡ d.unit - at = omega (arith, k.place) in
+              let in_us : drop back (drop c.units us) ≡ drop (d.unit - at) us = drop-drop back c.units us ∙ ap (λ (n : ℕ). drop n us) far in
+              let in_vs : drop back others ≡ drop (d.unit - at) vs = ap (drop back) (sym dropped) ∙ drop-drop back c.units vs ∙ ap (λ (n : ℕ). drop n vs) far in
+              record {
+                place = omega (arith, k.place);
+                kept = subst (λ (ys : List ℕ). Kept ys (drop (d.unit - at) vs) d.units) in_us (subst (λ (ys : List ℕ). Kept (drop back (drop c.units us)) ys d.units) in_vs k.kept);
+                piece = subst (λ (ys : List ℕ). piece_size d.unit ys ≡ Some d.units) in_us k.piece;
+              }
+        ];
+      }
 
 -- ---- the table of opcodes
 
@@ -327,7 +330,7 @@ pub record BlankedCode (us : List ℕ) (cs : List Cut) (ps : List Piece) : Type 
 pub blanked_code : (N : ℕ → Symbol → Type 0) (us : List ℕ) (cs : List Cut) (ps : List Piece) → IsCode us cs → AllZip (λ c p. DenotesPiece N (cut_units us c) p) cs ps → BlankedCode us cs ps
 blanked_code N us cs ps code pieces =
     let vs = flat_map units_of ps in
-    let b = blanked N 0 us cs ps code.cut (pieces_denoted N us 0 us cs ps refl code.cut pieces) in
+    let b = rewritten N IsZero (λ p. Unit {0}) units_of (blank N) (λ at n us p le some size h fits. zeroed N (take n us) p h) 0 us cs ps code.cut (pieces_denoted N us 0 us cs ps refl code.cut pieces) (λ p k. tt) in
     let keeps = λ (c : Cut) (m : Contains cs c). kept_piece us vs c (b.kept c m) in
     record {
       size = b.size;

@@ -6,7 +6,7 @@ use Rattle.dexspec.proofs.lists.Members.{Contains-nil, Contains-first, Contains-
 use Rattle.dexspec.proofs.wellformed.FormedRows.{all_from}
 use Rattle.dexspec.proofs.wellformed.ShortStrings.{first_kept}
 use Rattle.dexspec.proofs.wellformed.Blanked.{IsZero, pool_at, Blank, zeroed, if_true, if_false, piece_is, Kept, piece_same, piece_bounds}
-use Rattle.dexspec.proofs.wellformed.BlankedCode.{AreDenoted, pieces_denoted, pieces_denoted_back, append_left, KeptCut, kept_piece, found_passes, mapped_some, instruction_same, right_same}
+use Rattle.dexspec.proofs.wellformed.BlankedCode.{AreDenoted, pieces_denoted, pieces_denoted_back, append_left, KeptCut, kept_piece, found_passes, mapped_some, instruction_same, right_same, rewritten}
 use Rattle.dexspec.proofs.written.NumbersWritten.{AreInRows, first_in_row, prefix_in_rows, back_in_rows}
 
 -- ---- an index that is set
@@ -135,76 +135,6 @@ module _ (b : List ℕ) (m : Mentions) where
       (ap pool_at kept ∙ z.0, subst (λ (k : ℕ). SymbolRow b k s) (sym index) row.0, back)
   named at n us (Payload xs) le some size h are fits = zeroed IsZero (take n us) (Payload xs) h
 
-  -- ---- pieces in sequence
-
-  -- the units with indices
-  record Filled (at : ℕ) (us vs : List ℕ) (cs : List Cut) (ps : List Piece) : Type 0 where
-    size : length vs ≡ length us
-    cut : AreCut at vs cs []
-    encodes : AreDenoted (SymbolRow b) vs cs ps
-    kept : (c : Cut) → Contains cs c → KeptCut at us vs c
-
-  -- one piece is kept
-  kept_first : (us rest : List ℕ) (p : Piece) (n : ℕ) → n ≤ length us → 0 < n → DenotesPiece IsZero (take n us) p → Kept us (piece_units m p ++ rest) n
-  kept_first us rest p n le some h =
-      let x = piece_units m p in
-      let f = fill (take n us) p h in
-      let size : length x ≡ n = omega (arith, f.size, length-take n us, le) in
-      let front : slice_index (take n us) 0 ≡ slice_index us 0 = get_or-take n us 0 0 some in
-      record {
-        first = append_left x rest 0 0 (omega (arith, size, some)) ∙ f.first ∙ front;
-        same = λ none j lt.
-            let whole = f.same (ap pool_at front ∙ none) in
-            append_left x rest j 0 (omega (arith, size, lt)) ∙ ap (λ (ys : List ℕ). slice_index ys j) whole ∙ get_or-take n us j 0 lt;
-      }
-
-  -- pieces with their indices are cut as they were
-  filled : (at : ℕ) (us : List ℕ) (cs : List Cut) (ps : List Piece) → AreCut at us cs [] → AreDenoted IsZero us cs ps → AreInRows b m (flat_map piece_symbols ps) → ((p : Piece) → Contains ps p → IndexFits m p) → Filled at us (flat_map (piece_units m) ps) cs ps
-  filled at us [] [] h g are fits = record { size = ap length (sym h); cut = refl; encodes = tt; kept = λ c m. absurd (Contains-nil c m) }
-  filled at us [] (p ∷ ps) h g are fits = absurd g
-  filled at us (c ∷ cs) [] h g are fits = absurd g
-  filled at us (c ∷ cs) (p ∷ ps) h g are fits =
-      let others_are = back_in_rows b m (piece_symbols p) (flat_map piece_symbols ps) are in
-      let r = filled (at + c.units) (drop c.units us) cs ps h.2 g.1 others_are (λ q k. fits q (Contains-later p q ps k)) in
-      let x = piece_units m p in
-      let others = flat_map (piece_units m) ps in
-      let vs = x ++ others in
-      let bounds = piece_bounds at c.units us h.1 in
-      let f = fill (take c.units us) p g.0 in
-      let len : length x ≡ c.units = omega (arith, f.size, length-take c.units us, bounds.1) in
-      let size : length vs ≡ length us = omega (arith, length-append x others, len, r.size, length-drop c.units us, bounds.1) in
-      let kept = kept_first us others p c.units bounds.1 bounds.0 g.0 in
-      let piece = piece_same at c.units us vs size kept h.1 in
-      let taken : take c.units vs ≡ x = ap (λ (k : ℕ). take k vs) (sym len) ∙ take_at x others (length x) refl in
-      let dropped : drop c.units vs ≡ others = ap (λ (k : ℕ). drop k vs) (sym len) ∙ drop_at x others (length x) refl in
-      let encodes = named at c.units us p bounds.1 bounds.0 h.1 g.0 (prefix_in_rows b m (piece_symbols p) (flat_map piece_symbols ps) are) (fits p (Contains-first p ps)) in
-      let here : KeptCut at us vs c =
-      let none : 0 ≡ c.unit - at = omega (arith, h.0) in
-      record {
-        place = omega (arith, h.0);
-        kept = subst (λ (k : ℕ). Kept (drop k us) (drop k vs) c.units) none kept;
-        piece = subst (λ (k : ℕ). piece_size c.unit (drop k us) ≡ Some c.units) none (subst (λ (k : ℕ). piece_size k us ≡ Some c.units) (sym h.0) h.1);
-      } in
-      record {
-        size = size;
-        cut = (h.0, piece, subst (λ (ys : List ℕ). AreCut (at + c.units) ys cs []) (sym dropped) r.cut);
-        encodes = (subst (λ (ys : List ℕ). DenotesPiece (SymbolRow b) ys p) (sym taken) encodes, subst (λ (ys : List ℕ). AreDenoted (SymbolRow b) ys cs ps) (sym dropped) r.encodes);
-        kept = λ d k. elim (Contains-cons_cases c d cs k) [
-          | inl e ↦ subst (KeptCut at us vs) e here
-          | inr l ↦
-              let t = r.kept d l in
-              let back = d.unit - (at + c.units) in
-              let far : c.units + back ≡ d.unit - at = omega (arith, t.place) in
-              let in_us : drop back (drop c.units us) ≡ drop (d.unit - at) us = drop-drop back c.units us ∙ ap (λ (n : ℕ). drop n us) far in
-              let in_vs : drop back others ≡ drop (d.unit - at) vs = ap (drop back) (sym dropped) ∙ drop-drop back c.units vs ∙ ap (λ (n : ℕ). drop n vs) far in
-              record {
-                place = omega (arith, t.place);
-                kept = subst (λ (ys : List ℕ). Kept ys (drop (d.unit - at) vs) d.units) in_us (subst (λ (ys : List ℕ). Kept (drop back (drop c.units us)) ys d.units) in_vs t.kept);
-                piece = subst (λ (ys : List ℕ). piece_size d.unit ys ≡ Some d.units) in_us t.piece;
-              }
-        ];
-      }
-
 -- ---- the whole
 
 -- code with its indices
@@ -221,7 +151,9 @@ pub filled_code : (b : List ℕ) (m : Mentions) (cs : List Cut) (ps : List Piece
 filled_code b m cs ps code pieces are fits =
     let us = flat_map units_of ps in
     let vs = flat_map (piece_units m) ps in
-    let f = filled b m 0 us cs ps code.cut (pieces_denoted IsZero us 0 us cs ps refl code.cut pieces) are fits in
+    let f =
+        rewritten IsZero (SymbolRow b) (λ p. AreInRows b m (piece_symbols p) × IndexFits m p) (piece_units m) (fill b m) (λ at n us p le some size h g. named b m at n us p le some size h g.0 g.1) 0 us cs ps code.cut
+        (pieces_denoted IsZero us 0 us cs ps refl code.cut pieces) (λ p k. (λ s l. are s (Contains-flat_map piece_symbols ps p s k l), fits p k)) in
     let keeps = λ (c : Cut) (k : Contains cs c). kept_piece us vs c (f.kept c k) in
     record {
       size = f.size;

@@ -1,5 +1,5 @@
 -- Conditions 11 to 15 of a file with this layout: its rows denote symbols, in order.
-use Rattle.dexspec.proofs.Common.{◌≡◌, ℕ, zero, suc, ◌+◌, ◌<◌, List, [], ◌∷◌, drop, length, get_or, map, refl, sym, ap, subst, ◌∙◌, arith, inl, inr, ◌==◌, if◌then◌else◌, nat_lt, Contains, IsTotalOrder, slice_cmp, nat_cmp, ordering_then, ordering_reverse, Ordering, Less, Equal, Greater, cond-true, cond-false, lt-ltb, le-ltb, eq-eqb, ne_eqb, cases_order, tied_itself, Contains-get_or}
+use Rattle.dexspec.proofs.Common.{◌≡◌, ℕ, zero, suc, ◌+◌, ◌<◌, List, [], ◌∷◌, drop, length, get_or, map, refl, sym, ap, subst, ◌∙◌, arith, inl, inr, ◌==◌, if◌then◌else◌, nat_lt, Contains, IsTotalOrder, slice_cmp, nat_cmp, ordering_then, ordering_reverse, Ordering, Less, Equal, Greater, cond-true, cond-false, le-ltb, eq-eqb, ne_eqb, cases_order, tied_itself, Contains-get_or}
 use Rattle.dexspec.specs.{rank, uint_at, ushort_at, Text, text_cmp, Proto, Field, Method, proto_cmp, field_cmp, method_cmp, StringIds, ProtoIds, FieldIds, MethodIds, row_at, TypeRow, ProtoRow, FieldRow, MethodRow, type_indices, key_cmp, type_row_key, proto_row_key, HasString, HasType, HasProto, HasField, HasMethod, text_index, type_index, proto_index, type_list_bytes, Ordered, unless_empty}
 use Rattle.dexspec.proofs.lists.Members.{Contains-first, Contains-later}
 use Rattle.dexspec.proofs.lists.InOrder.{Rises, rank-place, rank-get_or}

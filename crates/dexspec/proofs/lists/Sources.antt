@@ -1,5 +1,5 @@
 -- The sources of the members of a sequence, of a list of members, and of a list without repeats.
-use Rattle.dexspec.proofs.Common.{◌≡◌, ℕ, ◌+◌, Bool, true, false, cond, not, List, [], ◌∷◌, map, Option, Some, unwrap_or, subst, inl, inr, Ordering, Contains, filter, eq_by_cmp}
+use Rattle.dexspec.proofs.Common.{ℕ, ◌+◌, Bool, true, false, cond, not, List, [], ◌∷◌, Option, Some, unwrap_or, subst, inl, inr, Ordering, Contains, filter, eq_by_cmp}
 use Rattle.std.specs.FinMap.Entries.{find}
 use Rattle.dexspec.specs.{Item, Sequence, distinct, annotated, EncodedField, EncodedMethod, EncodedFieldsAt, EncodedMethodsAt, FieldRow, MethodRow}
 use Rattle.dexspec.proofs.lists.Members.{Contains-nil, Contains-first, Contains-later, Contains-cons_cases, Contains-filter_source}

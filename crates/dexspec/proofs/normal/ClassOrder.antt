@@ -1,12 +1,12 @@
 -- Definitions of different names are in class order, each once.
-use Rattle.dexspec.proofs.Common.{◌≡◌, ◌≢◌, ◌⊎◌, ℕ, suc, ◌+◌, Bool, true, false, ◌&&◌, T, List, [], ◌∷◌, map, length, get_or, ◌<◌, refl, sym, ap, ◌∙◌, subst, arith, inl, inr, sum_by, Ordering, Less, Equal, Greater, Contains, ordering_then, nat_cmp, is_lt, sum_by-cons}
+use Rattle.dexspec.proofs.Common.{◌≡◌, ◌≢◌, ◌⊎◌, ℕ, suc, ◌+◌, Bool, true, false, ◌&&◌, T, List, [], ◌∷◌, map, get_or, refl, sym, ap, ◌∙◌, subst, arith, inl, inr, sum_by, Ordering, Less, Equal, Greater, Contains, ordering_then, nat_cmp, is_lt, sum_by-cons}
 use Rattle.std.specs.FinMap.Entries.{put, by_order, below_all, is_sorted}
 use Rattle.std.specs.FinMap.{entries_sorted}
 use Rattle.dexspec.specs.{AreDistinct, Text, text_cmp, Body, Definition, place_cmp, put_all, depth, in_class_order, Collection, definitions}
 use Rattle.dexspec.proofs.lists.Members.{Contains-nil, Contains-first, Contains-later, Contains-cons_cases, AreDistinct-first, AreDistinct-rest}
 use Rattle.dexspec.proofs.merge.SymbolOrders.{text_exact, text_total}
 use Rattle.dexspec.proofs.lists.InOrder.{Rises, AreDistinct-from_Rises}
-use Rattle.dexspec.proofs.size.SizeSums.{sum_by-map, map-length}
+use Rattle.dexspec.proofs.size.SizeSums.{sum_by-map}
 use Rattle.dexspec.proofs.normal.ClassPlaces.{names-kept}
 pub use Rattle.dexspec.proofs.merge.Collections.{definitions-distinct as definitions-different}
 

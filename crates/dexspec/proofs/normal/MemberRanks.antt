@@ -1,6 +1,6 @@
 -- Ranks compare as members do, so the indices of rising members rise too; each symbol of a definition is in the row of
 -- its index; and which symbols occur in which part of a definition.
-use Rattle.dexspec.proofs.Common.{◌≡◌, ℕ, ◌<◌, List, [], ◌∷◌, ◌++◌, map, Option, Some, refl, sym, ap, ◌∙◌, subst, arith, inl, inr, Ordering, Less, Equal, IsTrue, option_to_list, ◌&&◌, Contains, flat_map, nat_cmp, is_lt, ordering_then, ordering_reverse, IsTotalOrder, cases_lt, lt-ltb, le-ltb, eq-eqb, tied_itself, Contains-append_left, Contains-append_right, Code, Mentions}
+use Rattle.dexspec.proofs.Common.{◌≡◌, ℕ, List, [], ◌∷◌, ◌++◌, map, Option, Some, refl, sym, ap, ◌∙◌, subst, arith, inl, inr, Ordering, Less, IsTrue, option_to_list, ◌&&◌, Contains, flat_map, nat_cmp, is_lt, ordering_then, ordering_reverse, IsTotalOrder, cases_lt, tied_itself, Contains-append_left, Contains-append_right, Code, Mentions}
 use Rattle.dexspec.specs.{rank, rises, Text, text_cmp, Symbol, TextSymbol, TypeSymbol, ProtoSymbol, FieldSymbol, MethodSymbol, field_cmp, method_cmp, proto_cmp, StringIds, TypeIds, ProtoIds, FieldIds, MethodIds, AnnotationSet, FieldDef, MethodDef, Body, Definition, declared_fields, declared_methods, mentions, symbols_of, field_of, method_of, set_symbols, code_symbols, field_symbols, method_symbols, values_symbols, optional_type, optional_text, field_index, method_index, IsWellFormed, field_key, field_key_cmp, method_key, method_key_cmp}
 use Rattle.dexspec.proofs.lists.Members.{Contains-first, Contains-later, Contains-flat_map}
 use Rattle.dexspec.proofs.lists.InOrder.{Rises, Rises-places, rank-place}

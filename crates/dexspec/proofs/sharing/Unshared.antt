@@ -4,7 +4,6 @@ use Rattle.std.proofs.lemmas.List.Elements.{length_all_zip}
 use Rattle.dexspec.proofs.Common.{AllZip, ◌≡◌, ℕ, zero, suc, ◌+◌, ◌*◌, ◌<◌, ◌≤◌, Bool, true, false, if◌then◌else◌, ◌==◌, List, [], ◌∷◌, ◌++◌, length, map, take, drop, zip, flat_map, get_or, refl, sym, ap, subst, ◌∙◌, arith, inl, inr, slice_index, Option, Some, None, concat, option_map_or, length-append, length-map, length-take, length-drop, Code, Mentions}
 use Rattle.dexspec.specs.{present, chunks, zip_with, uint, round_up, Section, TableOf, Annotation, AnnotationSet, MethodDef, Definition, declared_fields, declared_methods, Collection, definitions, in_class_order, mentions, field_of, method_of, same_types, same_debug, same_set, type_list_bytes, annotation_bytes, debug_bytes, code_bytes, differences, encoded_method_bytes, class_data_bytes, offsets_bytes, field_index, method_index, EqualOnce, EachForItself, Items, Placed, offsets, offsets_from, uses_offsets, Ordered, is_empty_class, method_sets, class_sets, all_methods, type_list_uses, set_uses, debug_uses, code_uses, class_data_uses, by_class, SetOffsets, set_offsets_of, ref_list_uses, directory_uses, directory_bytes, unless_empty, own_numbers, pairs, pairs_bytes, end, data_start, type_list_section, set_items, annotation_section, annotation_offsets, array_section, string_section, debug_section, code_section, class_data_section, set_section, set_offsets, ref_list_section, directory_section, data_sections, placed_tables, map_of, unsigned_file, with_sums, ordered, canonical}
 use Rattle.dexspec.proofs.numbers.ByteNumbers.{length-uint}
-use Rattle.dexspec.proofs.written.PlacedBytes.{length_rows}
 use Rattle.dexspec.proofs.layout.Places.{length-padding, length-offsets_from, length-sections, sections_between}
 use Rattle.dexspec.proofs.layout.Placements.{numbers_offsets, sections_follow, length-chunks, length-items_offsets}
 use Rattle.dexspec.proofs.layout.Tables.{length-table_bytes, length-header_bytes}

@@ -1,9 +1,7 @@
 -- The canonical file has at most as many bytes as its class definitions weigh.
-use Rattle.dexspec.proofs.Common.{AllZip, ◌≡◌, ℕ, zero, suc, ◌+◌, ◌-◌, ◌*◌, ◌%◌, ◌/◌, ◌≤◌, Bool, true, false, List, [], ◌∷◌, map, length, refl, arith, sum_by, flat_map, if◌then◌else◌, ◌==◌, length-append, slice_index, w32, to_be_bytes, Ordering, Less, Equal, Greater, length-replicate, sum_by-cons, length-flat_map}
+use Rattle.dexspec.proofs.Common.{AllZip, ℕ, ◌+◌, ◌-◌, ◌*◌, ◌%◌, ◌≤◌, Bool, true, false, List, [], ◌∷◌, map, length, arith, sum_by, flat_map, if◌then◌else◌, ◌==◌, length-append, slice_index, Ordering, Less, Equal, Greater, length-replicate, sum_by-cons, length-flat_map}
 use Rattle.std.specs.FinMap.Entries.{put, by_order}
-use Rattle.sha1.specs.Sha1.{sha1, digest_bytes, hash_after, padded_message}
 use Rattle.dexspec.specs.{round_up, padding, Text, AreDistinct, HasSize, Table, Section, TableOf, Body, Definition, declared_methods, Caps, AreCaps, Fits, Collection, definitions, mentions, place_cmp, put_all, depth, in_class_order, mentions_weight, static_values_weight, body_weight, weight, same_types, same_debug, same_set, Placed, offsets, end, section_bytes, Ordered, class_sets, type_list_section, annotation_section, annotation_offsets, array_section, string_section, debug_section, code_section, class_data_section, set_section, set_offsets, ref_list_section, directory_section, data_sections, placed_tables, map_of, table_bytes, unsigned_file, with_sums, ordered, canonical}
-use Rattle.dexspec.proofs.numbers.ByteNumbers.{length-uint}
 use Rattle.dexspec.proofs.layout.Tables.{length-table_bytes, length-header_bytes}
 use Rattle.dexspec.proofs.layout.MapEntries.{length-map_bytes}
 use Rattle.dexspec.proofs.size.SizeSums.{sum_by-map, sum_by-at_most, padding-at_most}

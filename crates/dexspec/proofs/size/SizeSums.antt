@@ -1,6 +1,6 @@
 -- Lengths of combined lists, sums over lists that are made of others, and the end of a section.
-use Rattle.dexspec.proofs.Common.{◌≡◌, ℕ, zero, suc, ◌+◌, ◌-◌, ◌*◌, ◌%◌, ◌<◌, ◌≤◌, List, [], ◌∷◌, ◌++◌, map, length, take, drop, Option, Some, None, refl, ap, subst, arith, sum_by, flat_map, length-append, length-take, concat, length-replicate, sum_by-cons, sum_by-append, mod_below}
-use Rattle.dexspec.specs.{chunks, zip_with, present, round_up, padding, offsets_from, end_from, bytes_from}
+use Rattle.dexspec.proofs.Common.{◌≡◌, ℕ, zero, suc, ◌+◌, ◌-◌, ◌*◌, ◌%◌, ◌<◌, ◌≤◌, List, [], ◌∷◌, map, length, take, drop, Option, Some, None, refl, ap, subst, arith, sum_by, flat_map, length-append, length-take, concat, sum_by-cons, sum_by-append, mod_below}
+use Rattle.dexspec.specs.{chunks, zip_with, present, round_up, end_from, bytes_from}
 use Rattle.dexspec.proofs.layout.Places.{length-bytes_from}
 
 -- ---- sums over lists that are made of others

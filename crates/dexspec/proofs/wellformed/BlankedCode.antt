@@ -66,8 +66,8 @@ kept_first x us rest n le some b =
 
 -- pieces whose indices change are cut as they were
 module _ (N M : ℕ → Symbol → Type 0) (Fits : Piece → Type 0) (f : Piece → List ℕ) (change : (w : List ℕ) (p : Piece) → DenotesPiece N w p → Blank w (f p)) (
-  encode : (at n : ℕ) (us : List ℕ) (p : Piece) → n ≤ length us → 0 < n → piece_size at us ≡ Some n → DenotesPiece N (take n us) p → Fits p → DenotesPiece M (f p) p
-) where
+    encode : (at n : ℕ) (us : List ℕ) (p : Piece) → n ≤ length us → 0 < n → piece_size at us ≡ Some n → DenotesPiece N (take n us) p → Fits p → DenotesPiece M (f p) p
+    ) where
   pub rewritten : (at : ℕ) (us : List ℕ) (cs : List Cut) (ps : List Piece) → AreCut at us cs [] → AreDenoted N us cs ps → ((p : Piece) → Contains ps p → Fits p) → Rewritten M at us (flat_map f ps) cs ps
   rewritten at us [] [] h g fits = record { size = ap length (sym h); cut = refl; encodes = tt; kept = λ c m. absurd (Contains-nil c m) }
   rewritten at us [] (p ∷ ps) h g fits = absurd g

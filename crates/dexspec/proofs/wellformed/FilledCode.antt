@@ -1,13 +1,13 @@
 -- Pieces with their indices are code: cut in the same way, with the same targets, and encoding the pieces.
-use Rattle.dexspec.proofs.Common.{◌≡◌, ℕ, ◌+◌, ◌-◌, ◌/◌, ◌%◌, ◌<◌, ◌≤◌, ◌^◌, Bool, true, false, List, [], ◌∷◌, ◌++◌, length, take, drop, slice_index, Option, Some, None, refl, sym, ap, ◌∙◌, subst, arith, inl, inr, length-take, length-drop, length-append, take_at, drop_at, if◌then◌else◌, ◌==◌, ℤ, nat_le, slice_set, slice_index_or, IsTrue, option_and_then, Contains, AllZip, flat_map, list_all, find, length-set, eqb-true, leb-true, get_or-set_same, get_or-set_other, get_or-take, drop-drop, All-contains, All-set, Mentions}
-use Rattle.dexspec.specs.{AreUnits, Pool, pool_of, Format, F31c, Opcode, OpcodeRun, opcode_runs, opcode_of, units_in, is_in_run, SymbolRow, Cut, AreCut, piece_size, is_payload_ident, is_instruction_start, has_right_targets, IsCode, Piece, Instruction, Payload, units_of, DenotesPiece, index_pool, index_in, is_wide_index, with_index, two_units, low_byte, cut_units, piece_symbols, symbol_index, piece_units}
+use Rattle.dexspec.proofs.Common.{◌≡◌, ℕ, ◌-◌, ◌/◌, ◌%◌, ◌<◌, ◌≤◌, ◌^◌, Bool, true, false, List, [], ◌∷◌, length, take, drop, slice_index, Option, Some, None, refl, sym, ap, ◌∙◌, subst, arith, inl, inr, length-take, length-drop, if◌then◌else◌, ◌==◌, ℤ, nat_le, slice_set, slice_index_or, IsTrue, option_and_then, Contains, AllZip, flat_map, list_all, find, length-set, eqb-true, leb-true, get_or-set_same, get_or-set_other, get_or-take, All-contains, All-set, Mentions}
+use Rattle.dexspec.specs.{AreUnits, Pool, pool_of, Format, F31c, Opcode, OpcodeRun, opcode_runs, opcode_of, units_in, is_in_run, SymbolRow, Cut, piece_size, is_payload_ident, is_instruction_start, has_right_targets, IsCode, Piece, Instruction, Payload, units_of, DenotesPiece, index_pool, index_in, is_wide_index, with_index, two_units, low_byte, cut_units, piece_symbols, symbol_index, piece_units}
 use Rattle.dexspec.specs.internal.IndexPlaces.{IndexFits}
-use Rattle.dexspec.proofs.lists.Members.{Contains-nil, Contains-first, Contains-later, Contains-cons_cases, Contains-flat_map, Contains-flat_map_source}
+use Rattle.dexspec.proofs.lists.Members.{Contains-flat_map, Contains-flat_map_source}
 use Rattle.dexspec.proofs.wellformed.FormedRows.{all_from}
 use Rattle.dexspec.proofs.wellformed.ShortStrings.{first_kept}
-use Rattle.dexspec.proofs.wellformed.Blanked.{IsZero, pool_at, Blank, zeroed, if_true, if_false, piece_is, Kept, piece_same, piece_bounds}
-use Rattle.dexspec.proofs.wellformed.BlankedCode.{AreDenoted, pieces_denoted, pieces_denoted_back, append_left, KeptCut, kept_piece, found_passes, mapped_some, instruction_same, right_same, rewritten}
-use Rattle.dexspec.proofs.written.NumbersWritten.{AreInRows, first_in_row, prefix_in_rows, back_in_rows}
+use Rattle.dexspec.proofs.wellformed.Blanked.{IsZero, pool_at, Blank, zeroed, if_true, if_false, piece_is, piece_bounds}
+use Rattle.dexspec.proofs.wellformed.BlankedCode.{pieces_denoted, pieces_denoted_back, kept_piece, found_passes, mapped_some, instruction_same, right_same, rewritten}
+use Rattle.dexspec.proofs.written.NumbersWritten.{AreInRows, first_in_row}
 
 -- ---- an index that is set
 
@@ -152,8 +152,8 @@ filled_code b m cs ps code pieces are fits =
     let us = flat_map units_of ps in
     let vs = flat_map (piece_units m) ps in
     let f =
-        rewritten IsZero (SymbolRow b) (λ p. AreInRows b m (piece_symbols p) × IndexFits m p) (piece_units m) (fill b m) (λ at n us p le some size h g. named b m at n us p le some size h g.0 g.1) 0 us cs ps code.cut
-        (pieces_denoted IsZero us 0 us cs ps refl code.cut pieces) (λ p k. (λ s l. are s (Contains-flat_map piece_symbols ps p s k l), fits p k)) in
+    rewritten IsZero (SymbolRow b) (λ p. AreInRows b m (piece_symbols p) × IndexFits m p) (piece_units m) (fill b m) (λ at n us p le some size h g. named b m at n us p le some size h g.0 g.1) 0 us cs ps code.cut
+    (pieces_denoted IsZero us 0 us cs ps refl code.cut pieces) (λ p k. (λ s l. are s (Contains-flat_map piece_symbols ps p s k l), fits p k)) in
     let keeps = λ (c : Cut) (k : Contains cs c). kept_piece us vs c (f.kept c k) in
     record {
       size = f.size;

@@ -1,5 +1,5 @@
 -- Rows can denote the symbols that well-formed definitions mention.
-use Rattle.dexspec.proofs.Common.{◌≡◌, List, [], ◌∷◌, subst, inl, inr, All, Contains, Mentions, All-contains}
+use Rattle.dexspec.proofs.Common.{List, [], ◌∷◌, subst, inl, inr, Contains, Mentions, All-contains}
 use Rattle.dexspec.specs.{Text, IsDescriptor, IsValueType, IsReferenceType, IsClass, PrimitiveType, ClassType, ArrayType, Symbol, TextSymbol, TypeSymbol, ProtoSymbol, FieldSymbol, MethodSymbol, Proto, Field, Method, IsProto, IsField, IsMethod, Definition, mentions, symbols_of, texts_in, types_in, protos_in, fields_in, methods_in, proto_types, IsText, IsSymbol, AreWellFormed}
 use Rattle.dexspec.proofs.lists.Members.{Contains-nil, Contains-first, Contains-later, Contains-cons_cases, Contains-flat_map}
 use Rattle.dexspec.proofs.merge.MentionMembers.{Occurs, texts-source, types-source, protos-source, fields-source, methods-source, type-text, proto-shorty, proto-types, field-class, field-name, field-type, method-class, method-name, method-proto, one_member}

@@ -1,5 +1,5 @@
 -- Values and annotations are at the offset of their canonical bytes, if each symbol is in the row of its index.
-use Rattle.dexspec.proofs.Common.{◌≡◌, ℕ, ◌+◌, ◌-◌, ◌*◌, ◌/◌, ◌^◌, ◌<◌, ◌≤◌, List, [], ◌++◌, length, refl, subst, arith, ℤ, pos, negsuc, true, false, FitsSigned, IsTrue, w8, w16, w32, w64, ints, length-append, Values, Mentions}
+use Rattle.dexspec.proofs.Common.{◌≡◌, ℕ, ◌+◌, ◌-◌, ◌*◌, ◌/◌, ◌^◌, ◌<◌, ◌≤◌, List, [], ◌++◌, length, refl, subst, arith, ℤ, pos, negsuc, true, false, FitsSigned, IsTrue, w8, w16, w32, ints, length-append, Values, Mentions}
 use Rattle.dexspec.specs.{rises, BytesAt, magnitude, uleb128, Text, text_cmp, TextSymbol, TypeSymbol, FieldSymbol, MethodSymbol, data_off, StringRow, TypeRow, FieldRow, MethodRow, Value, ByteValue, ShortValue, CharValue, IntValue, LongValue, FloatValue, DoubleValue, StringValue, TypeValue, FieldValue, MethodValue, EnumValue, ArrayValue, AnnotationValue, NullValue, BooleanValue, NoValues, ThenValue, Elements, NoElements, ThenElement, count_values, names_of, value_byte, SignedAt, UnsignedAt, BitsAt, IndexAt, ArrayAround, AnnotationAround, ValueAt, ValuesAt, ElementsAt, EncodedArrayAt, Annotation, AnnotationAt, value_symbols, values_symbols, elements_symbols, annotation_symbols, text_index, type_index, field_index, method_index, unsigned_width, signed_width, bits_width, complement, unsigned_bytes, signed_bytes, bits_bytes, value_bytes, values_bytes, elements_bytes, encoded_array_bytes, annotation_bytes, IsValue, AreValues, AreElements, IsAnnotation}
 use Rattle.dexspec.proofs.numbers.ByteNumbers.{length-bytes_of, fits_64}
 use Rattle.dexspec.proofs.numbers.Widths.{unsigned_at, signed_at, bits_at}

@@ -28,14 +28,7 @@ laid_rows {K} {b} h few p frame = each
     each Condition.Protos lt = λ r at. proto_holds h few p r (omega (arith, at, h.count ProtoIds))
     each Condition.Fields lt = λ r at. field_holds h few p r (omega (arith, at, h.count FieldIds))
     each Condition.Methods lt = λ r at. method_holds h few p r (omega (arith, at, h.count MethodIds))
-    each Condition.Classes lt = absurd (omega (arith, lt))
-    each Condition.Members lt = absurd (omega (arith, lt))
-    each Condition.Code lt = absurd (omega (arith, lt))
-    each Condition.Tries lt = absurd (omega (arith, lt))
-    each Condition.Debug lt = absurd (omega (arith, lt))
-    each Condition.Values lt = absurd (omega (arith, lt))
-    each Condition.Annotations lt = absurd (omega (arith, lt))
-    each Condition.Weight lt = absurd (omega (arith, lt))
+    each _ lt = absurd (omega (arith, lt))
 
 -- the canonical file of well-formed definitions that fit caps meets all of these conditions
 pub canonical_rows : (caps : Caps) (K : Collection) → AreCaps caps → Fits caps (definitions K) → AreWellFormed (definitions K) → HoldBelow 16 (canonical K)

@@ -79,8 +79,7 @@ module _ (caps : Caps) (D : List Definition) where
     where
       before : (other : Cause) → IsCause caps D other → IsReportedBefore other (Conflict name) → ⊥
       before (Conflict m) x less = l.none_less m x less
-      before (Cycle m) x never = never
-      before (Exceeded j) x never = never
+      before _ x never = never
 
   -- without a conflict the least cycle is the first cause
   cycle_first : (name : Text) → IsConsistent D → IsLeastOf text_cmp (IsCycle D) name → IsFirstCause caps D (Cycle name)

@@ -37,9 +37,8 @@ keys-put k v (e ∷ es) = by (place_cmp k e.0) (keys-put k v es)
   where
     by : (o : Ordering) → map (λ (x : PlacedClass). x.0) (put place_cmp k v es) ≡ add_in_order place_cmp k (map (λ x. x.0) es)
         → map (λ (x : PlacedClass). x.0) (by_order o ((k, v) ∷ e ∷ es) ((e.0, v) ∷ es) (e ∷ put place_cmp k v es)) ≡ by_order o (k ∷ e.0 ∷ map (λ (x : PlacedClass). x.0) es) (e.0 ∷ map (λ (x : PlacedClass). x.0) es) (e.0 ∷ add_in_order place_cmp k (map (λ (x : PlacedClass). x.0) es))
-    by Less again = refl
-    by Equal again = refl
     by Greater again = ap (λ ks. e.0 ∷ ks) again
+    by _ again = refl
 
 -- and so are the places of all
 keys-put_all : (es : List PlacedClass) → map (λ e. e.0) (put_all es) ≡ in_order place_cmp (map (λ e. e.0) es)

@@ -161,9 +161,8 @@ sum_equivalent o p n k (inl h) e = zero_equivalent (o + n) (p + k) (by n k e h)
   where
     by : (n k : ℕ) → n ≡ k → (o ≡ 0) × (p ≡ 0) → AreEquivalent (o + n) (p + k)
     by zero zero e h = inl (omega (arith, h.0), omega (arith, h.1))
-    by zero (suc k) e h = absurd (omega (arith, e))
-    by (suc n) zero e h = absurd (omega (arith, e))
     by (suc n) (suc k) e h = inr (omega arith, omega arith)
+    by _ _ e h = absurd (omega (arith, e))
 sum_equivalent o p n k (inr h) e = zero_equivalent (o + n) (p + k) (inr (omega (arith, h.0), omega (arith, h.1)))
 
 directory_parts : (own : ℕ) (x y z : List (ℕ × ℕ)) → length (uint own ++ (uint (length x) ++ (uint (length y) ++ (uint (length z) ++ (pairs_bytes x ++ (pairs_bytes y ++ pairs_bytes z)))))) ≡ 16 + (8 * length x + (8 * length y + 8 * length z))

@@ -176,6 +176,5 @@ filled_units b m ps are rows fits =
     All-contains (λ (v : ℕ). v < 65536) (piece_units m w.0) u (one w.0 own (λ s l. rows s (Contains-flat_map piece_symbols ps w.0 s w.1 l)) (fits w.0 w.1)) w.2)
   where
     one : (p : Piece) → AreUnits (units_of p) → AreInRows b m (piece_symbols p) → IndexFits m p → AreUnits (piece_units m p)
-    one (Instruction xs None) units rows fits = units
     one (Instruction xs (Some s)) units rows fits = let row = first_in_row b m s [] rows in units_put xs (is_wide_index xs) (symbol_index m s) units (omega (arith, row.1)) fits
-    one (Payload xs) units rows fits = units
+    one _ units rows fits = units

@@ -17,9 +17,8 @@ apart : {M : Type 0} (R : M → M → Ordering) → IsAntisymmetric R → (m n :
 apart R exact m n ne = by (R m n) refl
   where
     by : (r : Ordering) → R m n ≡ r → is_eq (R m n) ≡ false
-    by Less e = ap is_eq e
     by Equal e = absurd (ne (exact m n e))
-    by Greater e = ap is_eq e
+    by _ e = ap is_eq e
 
 module _ {M X : Type 0} (R : M → M → Ordering) (o : IsTotalOrder R) (exact : IsAntisymmetric R) where
   -- an entry is the one that is put, or was there before
@@ -92,9 +91,8 @@ indices_add p (q ∷ ps) = by (nat_cmp p.0 q.0) (indices_add p ps)
   where
     by : (r : Ordering) → map (λ (x : ℕ × ℕ). x.0) (add_in_order pair_cmp p ps) ≡ add_in_order nat_cmp p.0 (map (λ x. x.0) ps)
         → map (λ (x : ℕ × ℕ). x.0) (by_order r (p ∷ q ∷ ps) (q ∷ ps) (q ∷ add_in_order pair_cmp p ps)) ≡ by_order r (p.0 ∷ q.0 ∷ map (λ (x : ℕ × ℕ). x.0) ps) (q.0 ∷ map (λ (x : ℕ × ℕ). x.0) ps) (q.0 ∷ add_in_order nat_cmp p.0 (map (λ (x : ℕ × ℕ). x.0) ps))
-    by Less again = refl
-    by Equal again = refl
     by Greater again = ap (λ is. q.0 ∷ is) again
+    by _ again = refl
 
 -- the indices of all pairs in order
 indices_in_order : (ps : List (ℕ × ℕ)) → map (λ q. q.0) (in_order pair_cmp ps) ≡ in_order nat_cmp (map (λ q. q.0) ps)

@@ -1,13 +1,11 @@
 -- The depth of a name is one more than the greatest depth of its defined parents.
-use Rattle.std.proofs.Common.{◌≡◌, ℕ, suc, ◌+◌, ◌≤◌, true, List, [], ◌∷◌, map, arith, inl, inr}
-use Rattle.std.specs.List.{Contains}
-use Rattle.std.proofs.lemmas.Bool.{cases_lt}
+use Rattle.dexspec.proofs.Common.{◌≡◌, ℕ, suc, ◌+◌, ◌≤◌, true, List, [], ◌∷◌, map, arith, inl, inr, Contains, cases_lt}
 use Rattle.dexspec.specs.Texts.{Text}
 use Rattle.dexspec.specs.Classes.{Definition}
 use Rattle.dexspec.specs.Depth.{above, is_below, HasDepth, depth}
 use Rattle.dexspec.proofs.lists.Members.{Contains-nil, Contains-first, Contains-later, Contains-cons_cases, list_all-from_members}
 use Rattle.dexspec.proofs.merge.Depths.{is_below-later, depth-is, HasDepth-parent, depth-parent}
-use Rattle.dexlaws.specs.Causes.{greatest}
+use Rattle.dexlaws.specs.{greatest}
 
 -- no number exceeds the greatest
 greatest_most : {X : Type 0} (f : X → ℕ) (xs : List X) (x : X) → Contains xs x → f x ≤ greatest (map f xs)

@@ -1,7 +1,5 @@
 -- Lists of definitions with the same members, and the definitions of the files that plans name.
-use Rattle.std.proofs.Common.{◌≡◌, ℕ, ◌<◌, List, [], ◌++◌, subst, inl, inr}
-use Rattle.std.specs.Prelude.{slice_index_or}
-use Rattle.std.proofs.lemmas.List.Elements.{Contains-append_left, Contains-append_right, Contains-append_cases}
+use Rattle.dexspec.proofs.Common.{◌≡◌, ℕ, ◌<◌, List, [], ◌++◌, subst, inl, inr, slice_index_or, Contains-append_left, Contains-append_right, Contains-append_cases}
 use Rattle.dexspec.specs.Classes.{Definition}
 use Rattle.dexspec.specs.Files.{Collection, definitions, AreSame, AreWithin, IsCollectionOf}
 use Rattle.dexspec.specs.Merging.{Caps, Plan, leaves, IsPlanFor, union}

@@ -1,7 +1,5 @@
 -- How items are shared by a test that decides equality.
-use Rattle.std.proofs.Common.{ℕ, Bool, List, Option, None, Some, get_or, ◌∙◌}
-use Rattle.std.specs.List.{Contains}
-use Rattle.std.proofs.lemmas.List.{get_or_default}
+use Rattle.dexspec.proofs.Common.{ℕ, Bool, List, Option, None, Some, get_or, ◌∙◌, Contains, get_or_default}
 use Rattle.dexspec.specs.Lists.{present}
 use Rattle.dexspec.specs.Placing.{shared_items}
 use Rattle.dexspec.proofs.lists.Equality.{IsEquality, self}
@@ -9,7 +7,7 @@ use Rattle.dexspec.proofs.lists.Sources.{distinct_source}
 use Rattle.dexspec.proofs.lists.Distinct.{distinct_once}
 use Rattle.dexspec.proofs.sharing.Sharing.{present_source, first_uses_rise}
 use Rattle.dexspec.proofs.layout.Uses.{IsNumber, shared_numbered}
-use Rattle.dexlaws.specs.Items.{PointsTo, AreShared}
+use Rattle.dexlaws.specs.{PointsTo, AreShared}
 
 -- each present value is that of some use
 some_use : {X : Type 0} (uses : List (Option X)) (x : X) → Contains (present uses) x → Contains uses (Some x)

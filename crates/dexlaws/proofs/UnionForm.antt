@@ -1,7 +1,6 @@
 -- The definitions of accepted files are well formed, and definitions that are good under caps of the format are good
 -- under the greatest caps.
-use Rattle.std.proofs.Common.{ℕ, List, arith}
-use Rattle.std.specs.List.{AllZip, flat_map}
+use Rattle.dexspec.proofs.Common.{ℕ, List, arith, AllZip, flat_map}
 use Rattle.dexspec.specs.Classes.{Definition}
 use Rattle.dexspec.specs.Files.{Collection, definitions, IsCollectionOf}
 use Rattle.dexspec.specs.WellFormed.{AreWellFormed}
@@ -14,7 +13,7 @@ use Rattle.dexspec.proofs.merge.Collections.{definitions-same}
 use Rattle.dexspec.proofs.wellformed.FormedCode.{denoted_well_formed}
 use Rattle.dexspec.proofs.normal.NormalForm.{IsFileOf}
 use Rattle.dexspec.proofs.normal.RowsReadable.{whole_normal_form}
-use Rattle.dexlaws.specs.Normal.{IsAcceptedAs}
+use Rattle.dexlaws.specs.{IsAcceptedAs}
 
 -- also under the greatest caps
 good_greatest : (caps : Caps) (D : List Definition) → AreCaps caps → IsGood caps D → IsGood greatest_caps D

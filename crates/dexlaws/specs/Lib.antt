@@ -9,3 +9,13 @@ pub mod Normal
 pub mod Size
 pub mod Strip
 pub mod Written
+unfoldable pub use Causes.*
+unfoldable pub use Denotes.*
+unfoldable pub use Frame.*
+unfoldable pub use Growth.*
+unfoldable pub use Items.*
+unfoldable pub use Leb128.*
+unfoldable pub use Normal.*
+unfoldable pub use Size.*
+unfoldable pub use Strip.*
+unfoldable pub use Written.*

@@ -1,4 +1,4 @@
-use Rattle.std.proofs.Common.{inl, inr}
+use Rattle.dexspec.proofs.Common.{inl, inr}
 use Rattle.dexspec.proofs.merge.FirstCauses.{cycle_or_acyclic}
 use Rattle.dexlaws.proofs.causes.acyclic_or_cycle.Goals as goal
 

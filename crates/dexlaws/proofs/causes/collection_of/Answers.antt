@@ -6,23 +6,17 @@ use Rattle.dexspec.proofs.merge.Depths.{names_in}
 use Rattle.dexspec.proofs.merge.Collections.{collection-is, collection-one, collection-consistent, names-rise, definitions-are, definitions-same, definitions-distinct, definitions-weigh_most}
 use Rattle.dexlaws.proofs.causes.collection_of.Goals as goal
 
-pub returns-clause-is : goal.returns-clause-is
-returns-clause-is c = collection-is
-
-pub returns-clause-one : goal.returns-clause-one
-returns-clause-one c = collection-one
-
-pub returns-clause-members : goal.returns-clause-members
-returns-clause-members c = λ D K h. record {
-  members = definitions-same D K h;
-  rise = rises-from_Rises text_cmp (names_in (definitions K)) (names-rise K);
-  names = AreDistinct-from_Rises text_cmp text_total (names_in (definitions K)) (names-rise K);
-  distinct = definitions-distinct K;
-  most = definitions-weigh_most D K h;
+pub returns : goal.returns
+returns c = record {
+  is = collection-is;
+  one = collection-one;
+  members = λ D K h. record {
+    members = definitions-same D K h;
+    rise = rises-from_Rises text_cmp (names_in (definitions K)) (names-rise K);
+    names = AreDistinct-from_Rises text_cmp text_total (names_in (definitions K)) (names-rise K);
+    distinct = definitions-distinct K;
+    most = definitions-weigh_most D K h;
+  };
+  consistent = collection-consistent;
+  own = definitions-are;
 }
-
-pub returns-clause-consistent : goal.returns-clause-consistent
-returns-clause-consistent c = collection-consistent
-
-pub returns-clause-own : goal.returns-clause-own
-returns-clause-own c = definitions-are

@@ -1,4 +1,4 @@
-use Rattle.std.proofs.Common.{inl, inr}
+use Rattle.dexspec.proofs.Common.{inl, inr}
 use Rattle.dexspec.proofs.merge.Conflicts.{consistent-apart}
 use Rattle.dexspec.proofs.merge.FirstCauses.{conflict_or_consistent}
 use Rattle.dexlaws.proofs.causes.consistent_or_conflict.Goals as goal

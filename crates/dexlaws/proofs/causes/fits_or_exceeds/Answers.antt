@@ -1,4 +1,4 @@
-use Rattle.std.proofs.Common.{inl, inr}
+use Rattle.dexspec.proofs.Common.{inl, inr}
 use Rattle.dexspec.proofs.merge.Absorption.{Fits-apart}
 use Rattle.dexspec.proofs.merge.FirstCauses.{exceeds_or_fits, cap_less}
 use Rattle.dexlaws.proofs.causes.fits_or_exceeds.Goals as goal

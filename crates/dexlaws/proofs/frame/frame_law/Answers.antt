@@ -4,7 +4,7 @@ use Rattle.dexspec.specs.Mentions.{mentions}
 use Rattle.dexspec.specs.Canonical.{ordered}
 use Rattle.dexspec.proofs.layout.HeaderLaws.{AreFew}
 use Rattle.dexspec.proofs.layout.Frames.{canonical_frame, fitting_frame}
-use Rattle.dexlaws.specs.Frame.{HasFewSymbols}
+use Rattle.dexlaws.specs.{HasFewSymbols}
 use Rattle.dexlaws.proofs.frame.frame_law.Goals as goal
 
 -- no table has too many rows
@@ -16,8 +16,5 @@ few_rows K h FieldIds = h.fields
 few_rows K h MethodIds = h.methods
 few_rows K h ClassDefs = tt
 
-pub returns-clause-frame : goal.returns-clause-frame
-returns-clause-frame c = λ K few most. canonical_frame K (few_rows K few) most
-
-pub returns-clause-fits : goal.returns-clause-fits
-returns-clause-fits c = fitting_frame
+pub returns : goal.returns
+returns c = record { frame = λ K few most. canonical_frame K (few_rows K few) most; fits = fitting_frame }

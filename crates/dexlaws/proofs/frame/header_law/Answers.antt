@@ -1,6 +1,6 @@
 use Rattle.dexspec.proofs.layout.PlainHeaders.{opened}
 use Rattle.dexspec.proofs.layout.Sums.{with_sums_magic, with_sums_version, with_sums_checksum, with_sums_signature}
-use Rattle.dexlaws.specs.Frame.{opening}
+use Rattle.dexlaws.specs.{opening}
 use Rattle.dexlaws.proofs.frame.header_law.Goals as goal
 
 pub returns : goal.returns

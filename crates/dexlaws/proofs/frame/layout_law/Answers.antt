@@ -1,6 +1,4 @@
-use Rattle.std.proofs.Common.{ℕ, List, get_or, sym, ap, subst, ◌∙◌, ◌%◌}
-use Rattle.std.specs.List.{All}
-use Rattle.std.proofs.lemmas.List.Elements.{All-from_recursion, All-contains}
+use Rattle.dexspec.proofs.Common.{ℕ, List, get_or, sym, ap, subst, ◌∙◌, ◌%◌, All, All-from_recursion, All-contains}
 use Rattle.dexspec.specs.Bytes.{BytesAt}
 use Rattle.dexspec.specs.Header.{ClassDefs}
 use Rattle.dexspec.specs.Rows.{row_at}
@@ -8,7 +6,7 @@ use Rattle.dexspec.specs.Placing.{Ordered, end}
 use Rattle.dexspec.specs.Canonical.{map_of, map_bytes, class_row_bytes, data_sections, directory_section}
 use Rattle.dexspec.proofs.layout.Places.{round_up_four}
 use Rattle.dexspec.proofs.layout.SectionPlaces.{Laid, laid, SectionIsAt, class_at, map_place, map_place_is, map_list_named}
-use Rattle.dexlaws.specs.Frame.{HasFields, HasRows, HasItems, BytesAligned}
+use Rattle.dexlaws.specs.{HasFields, HasRows, HasItems, BytesAligned}
 use Rattle.dexlaws.proofs.frame.layout_law.Goals as goal
 
 -- the header's fields
@@ -47,11 +45,5 @@ items {K} {b} h = record {
       (subst (λ es. BytesAligned b 4 (map_place K) (map_bytes es)) (map_list_named K) (record { encodes = h.entries; in_data = h.map_in_data; multiple = ap (λ n. n % 4) (map_place_is K) ∙ round_up_four (end (directory_section K)) }));
 }
 
-pub returns-clause-fields : goal.returns-clause-fields
-returns-clause-fields c = λ K small. fields (laid K small)
-
-pub returns-clause-rows : goal.returns-clause-rows
-returns-clause-rows c = λ K small. rows (laid K small)
-
-pub returns-clause-items : goal.returns-clause-items
-returns-clause-items c = λ K small. items (laid K small)
+pub returns : goal.returns
+returns c = record { fields = λ K small. fields (laid K small); rows = λ K small. rows (laid K small); items = λ K small. items (laid K small) }

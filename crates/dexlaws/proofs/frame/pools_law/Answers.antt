@@ -1,4 +1,4 @@
-use Rattle.std.proofs.Common.{ℕ, List}
+use Rattle.dexspec.proofs.Common.{ℕ, List}
 use Rattle.dexspec.specs.Symbols.{Symbol, TextSymbol, TypeSymbol, ProtoSymbol, FieldSymbol, MethodSymbol}
 use Rattle.dexspec.specs.Rows.{SymbolRow}
 use Rattle.dexspec.specs.Files.{definitions}
@@ -10,7 +10,7 @@ use Rattle.dexspec.proofs.layout.Frames.{fits_few, fitting_laid}
 use Rattle.dexspec.proofs.layout.PoolsAreAt.{ArePools, text_row, type_row, proto_row, field_row, method_row}
 use Rattle.dexspec.proofs.wellformed.Formed.{mentions-pools}
 use Rattle.dexspec.proofs.layout.FileRows.{canonical_rows}
-use Rattle.dexlaws.specs.Frame.{IsMentioned}
+use Rattle.dexlaws.specs.{IsMentioned}
 use Rattle.dexlaws.proofs.frame.pools_law.Goals as goal
 
 -- each symbol in the row of its index
@@ -21,8 +21,5 @@ symbol_row h few p (ProtoSymbol q) c = proto_row h few p q c
 symbol_row h few p (FieldSymbol f) c = field_row h few p f c
 symbol_row h few p (MethodSymbol x) c = method_row h few p x c
 
-pub returns-clause-rows : goal.returns-clause-rows
-returns-clause-rows c = canonical_rows
-
-pub returns-clause-symbols : goal.returns-clause-symbols
-returns-clause-symbols c = λ caps K s are fits formed is. symbol_row (fitting_laid caps K are fits) (fits_few caps K are fits) (mentions-pools (definitions K) formed) s is
+pub returns : goal.returns
+returns c = record { rows = canonical_rows; symbols = λ caps K s are fits formed is. symbol_row (fitting_laid caps K are fits) (fits_few caps K are fits) (mentions-pools (definitions K) formed) s is }

@@ -1,11 +1,10 @@
-use Rattle.std.proofs.Common.{Ordering}
-use Rattle.std.specs.Cmp.{IsTotalOrder}
+use Rattle.dexspec.proofs.Common.{Ordering, IsTotalOrder}
 use Rattle.std.specs.FinMap.{IsAntisymmetric}
 use Rattle.dexspec.specs.Texts.{text_cmp}
 use Rattle.dexspec.specs.Symbols.{proto_cmp, field_cmp, method_cmp}
 use Rattle.dexspec.proofs.merge.SymbolOrders.{text_total, text_exact, proto_total, proto_exact, field_total, field_exact, method_total, method_exact}
 use Rattle.dexspec.proofs.lists.InOrder.{rises-in_order, in_order-has, in_order-only, in_order-same}
-use Rattle.dexlaws.specs.Growth.{PutsInOrder}
+use Rattle.dexlaws.specs.{PutsInOrder}
 use Rattle.dexlaws.proofs.growth.in_order_law.Goals as goal
 
 puts : {K : Type 0} (R : K → K → Ordering) → IsTotalOrder R → IsAntisymmetric R → PutsInOrder R
@@ -15,14 +14,5 @@ puts R o exact = record {
   alone = λ xs ys same. in_order-same R o exact xs ys (λ x. (same x).0) (λ x. (same x).1);
 }
 
-pub returns-clause-texts : goal.returns-clause-texts
-returns-clause-texts c = puts text_cmp text_total text_exact
-
-pub returns-clause-protos : goal.returns-clause-protos
-returns-clause-protos c = puts proto_cmp proto_total proto_exact
-
-pub returns-clause-fields : goal.returns-clause-fields
-returns-clause-fields c = puts field_cmp field_total field_exact
-
-pub returns-clause-methods : goal.returns-clause-methods
-returns-clause-methods c = puts method_cmp method_total method_exact
+pub returns : goal.returns
+returns c = record { texts = puts text_cmp text_total text_exact; protos = puts proto_cmp proto_total proto_exact; fields = puts field_cmp field_total field_exact; methods = puts method_cmp method_total method_exact }

@@ -1,5 +1,4 @@
-use Rattle.std.proofs.Common.{List, Ordering}
-use Rattle.std.specs.Cmp.{IsTotalOrder}
+use Rattle.dexspec.proofs.Common.{List, Ordering, IsTotalOrder}
 use Rattle.dexspec.specs.Texts.{text_cmp}
 use Rattle.dexspec.specs.Symbols.{proto_cmp, field_cmp, method_cmp}
 use Rattle.dexspec.specs.Mentions.{mentions}
@@ -7,7 +6,7 @@ use Rattle.dexspec.proofs.lists.Members.{AreAmong, length-among}
 use Rattle.dexspec.proofs.merge.SymbolOrders.{text_total, proto_total, field_total, method_total}
 use Rattle.dexspec.proofs.lists.InOrder.{Rises, rises-from_Rises, AreDistinct-from_Rises, rank-among}
 use Rattle.dexspec.proofs.merge.Growth.{mentions-rising, mentions-among, mentions-same}
-use Rattle.dexlaws.specs.Growth.{IsPartOf}
+use Rattle.dexlaws.specs.{IsPartOf}
 use Rattle.dexlaws.proofs.growth.mentions_law.Goals as goal
 
 part : {K : Type 0} (R : K → K → Ordering) → IsTotalOrder R → (xs ys : List K) → Rises R xs → AreAmong xs ys → IsPartOf R xs ys

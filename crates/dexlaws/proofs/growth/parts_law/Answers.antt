@@ -1,9 +1,9 @@
-use Rattle.std.proofs.Common.{List}
+use Rattle.dexspec.proofs.Common.{List}
 use Rattle.dexspec.specs.Symbols.{Symbol}
 use Rattle.dexspec.specs.Classes.{Definition}
 use Rattle.dexspec.specs.Mentions.{texts_in, types_in, protos_in, fields_in, methods_in}
 use Rattle.dexspec.proofs.merge.MentionMembers as members
-use Rattle.dexlaws.specs.Growth.{Occurs}
+use Rattle.dexlaws.specs.{Occurs}
 use Rattle.dexlaws.proofs.growth.parts_law.Goals as goal
 
 module _ {X : Type 0} (parts : Symbol → List X) (D : List Definition) (x : X) where

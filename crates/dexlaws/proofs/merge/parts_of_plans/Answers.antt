@@ -3,11 +3,5 @@ use Rattle.dexspec.proofs.merge.Absorption.{IsGood-within, IsCause-within}
 use Rattle.dexlaws.proofs.SameUnions.{union-within}
 use Rattle.dexlaws.proofs.merge.parts_of_plans.Goals as goal
 
-pub returns-clause-within : goal.returns-clause-within
-returns-clause-within c = union-within
-
-pub returns-clause-causes : goal.returns-clause-causes
-returns-clause-causes c = λ caps files p q cause within x. IsCause-within (union files p) (union files q) (union-within files p q within) caps cause x
-
-pub returns-clause-good : goal.returns-clause-good
-returns-clause-good c = λ caps files p q within g. IsGood-within (union files p) (union files q) (union-within files p q within) caps g
+pub returns : goal.returns
+returns c = record { within = union-within; causes = λ caps files p q cause within x. IsCause-within (union files p) (union files q) (union-within files p q within) caps cause x; good = λ caps files p q within g. IsGood-within (union files p) (union files q) (union-within files p q within) caps g }

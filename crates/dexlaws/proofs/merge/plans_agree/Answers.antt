@@ -1,11 +1,8 @@
-use Rattle.std.proofs.Common.{length, ap}
+use Rattle.dexspec.proofs.Common.{length, ap}
 use Rattle.dexspec.specs.Canonical.{canonical}
 use Rattle.dexspec.specs.Merging.{union}
 use Rattle.dexlaws.proofs.SameUnions.{one_collection, unions-same}
 use Rattle.dexlaws.proofs.merge.plans_agree.Goals as goal
 
-pub returns-clause-members : goal.returns-clause-members
-returns-clause-members c = λ files p q h k. unions-same files (length files) p q h k
-
-pub returns-clause-bytes : goal.returns-clause-bytes
-returns-clause-bytes c = λ files p q K L h k is are. ap canonical (one_collection (union files p) (union files q) K L (unions-same files (length files) p q h k) is are)
+pub returns : goal.returns
+returns c = record { members = λ files p q h k. unions-same files (length files) p q h k; bytes = λ files p q K L h k is are. ap canonical (one_collection (union files p) (union files q) K L (unions-same files (length files) p q h k) is are) }

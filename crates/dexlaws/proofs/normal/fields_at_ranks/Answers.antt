@@ -1,4 +1,4 @@
-use Rattle.std.proofs.Common.{subst}
+use Rattle.dexspec.proofs.Common.{subst}
 use Rattle.dexspec.specs.Rows.{FieldRow}
 use Rattle.dexspec.specs.Files.{definitions}
 use Rattle.dexspec.specs.Canonical.{canonical}

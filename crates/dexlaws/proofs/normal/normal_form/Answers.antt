@@ -1,4 +1,4 @@
-use Rattle.std.proofs.Common.{sym, subst}
+use Rattle.dexspec.proofs.Common.{sym, subst}
 use Rattle.dexspec.specs.Files.{Denotes}
 use Rattle.dexspec.specs.Canonical.{canonical}
 use Rattle.dexspec.proofs.determined.OneCollection.{one_collection}

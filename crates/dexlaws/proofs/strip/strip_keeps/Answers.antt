@@ -1,12 +1,9 @@
-use Rattle.std.proofs.Common.{◌≡◌, List, [], ◌∷◌, map, Option, Some, None, refl}
-use Rattle.std.specs.Option.{option_map}
-use Rattle.std.specs.List.{AllZip}
-use Rattle.dexspec.specs.Code.{Code}
+use Rattle.dexspec.proofs.Common.{◌≡◌, List, [], ◌∷◌, map, Option, Some, None, refl, option_map, AllZip, Code}
 use Rattle.dexspec.specs.Classes.{MethodDef}
 use Rattle.dexspec.specs.Stripping.{strip_code, strip_method}
 use Rattle.dexspec.proofs.strip.StripWithoutDebug.{no_debug}
 use Rattle.dexspec.proofs.strip.StripWellFormed.{method_keys-strip}
-use Rattle.dexlaws.specs.Strip.{code_parts, IsMethodLeft}
+use Rattle.dexlaws.specs.{code_parts, IsMethodLeft}
 use Rattle.dexlaws.proofs.strip.strip_keeps.Goals as goal
 
 parts : (o : Option Code) → option_map code_parts (option_map strip_code o) ≡ option_map code_parts o

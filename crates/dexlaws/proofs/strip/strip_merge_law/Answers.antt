@@ -1,4 +1,4 @@
-use Rattle.std.proofs.Common.{map, sym, subst}
+use Rattle.dexspec.proofs.Common.{map, sym, subst}
 use Rattle.dexspec.specs.Files.{definitions}
 use Rattle.dexspec.specs.Merging.{IsGood, union}
 use Rattle.dexspec.proofs.strip.StripGood.{IsGood-strip}

@@ -3,11 +3,5 @@ use Rattle.dexspec.proofs.sharing.Sameness.{types_decide, debug_decides, set_dec
 use Rattle.dexlaws.proofs.Shared.{shared}
 use Rattle.dexlaws.proofs.items.sharing.items_are_shared.Goals as goal
 
-pub returns-clause-type_lists : goal.returns-clause-type_lists
-returns-clause-type_lists c = shared same_types types_decide
-
-pub returns-clause-debugs : goal.returns-clause-debugs
-returns-clause-debugs c = shared same_debug debug_decides
-
-pub returns-clause-sets : goal.returns-clause-sets
-returns-clause-sets c = shared same_set set_decides
+pub returns : goal.returns
+returns c = record { type_lists = shared same_types types_decide; debugs = shared same_debug debug_decides; sets = shared same_set set_decides }

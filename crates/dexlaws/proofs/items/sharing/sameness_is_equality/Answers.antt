@@ -1,11 +1,5 @@
 use Rattle.dexspec.proofs.sharing.Sameness.{types_decide, debug_decides, set_decides}
 use Rattle.dexlaws.proofs.items.sharing.sameness_is_equality.Goals as goal
 
-pub returns-clause-type_lists : goal.returns-clause-type_lists
-returns-clause-type_lists c = types_decide
-
-pub returns-clause-debugs : goal.returns-clause-debugs
-returns-clause-debugs c = debug_decides
-
-pub returns-clause-sets : goal.returns-clause-sets
-returns-clause-sets c = set_decides
+pub returns : goal.returns
+returns c = record { type_lists = types_decide; debugs = debug_decides; sets = set_decides }

@@ -1,4 +1,4 @@
-use Rattle.std.proofs.Common.{drop}
+use Rattle.dexspec.proofs.Common.{drop}
 use Rattle.dexspec.proofs.determined.OneText.{one_string_data}
 use Rattle.dexlaws.proofs.items.texts.string_data_is_determined.Goals as goal
 

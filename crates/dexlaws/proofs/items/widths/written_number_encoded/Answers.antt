@@ -1,11 +1,5 @@
 use Rattle.dexspec.proofs.numbers.Widths.{unsigned_at, signed_at, bits_at}
 use Rattle.dexlaws.proofs.items.widths.written_number_encoded.Goals as goal
 
-pub returns-clause-unsigned : goal.returns-clause-unsigned
-returns-clause-unsigned c = unsigned_at
-
-pub returns-clause-signed : goal.returns-clause-signed
-returns-clause-signed c = signed_at
-
-pub returns-clause-bits : goal.returns-clause-bits
-returns-clause-bits c = bits_at
+pub returns : goal.returns
+returns c = record { unsigned = unsigned_at; signed = signed_at; bits = bits_at }

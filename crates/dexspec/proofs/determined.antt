@@ -9,3 +9,13 @@ pub mod OneClass
 pub mod OneCollection
 pub mod Readable
 pub mod Denoted
+unfoldable pub use OneNumber.*
+unfoldable pub use OneText.*
+unfoldable pub use OneRow.*
+unfoldable pub use OneValue.*
+unfoldable pub use OneDebug.*
+unfoldable pub use OneCode.*
+unfoldable pub use OneClass.*
+unfoldable pub use OneCollection.*
+unfoldable pub use Readable.*
+unfoldable pub use Denoted.*

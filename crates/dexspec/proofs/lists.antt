@@ -10,3 +10,14 @@ pub mod Sources
 pub mod Equality
 pub mod FirstPlaces
 pub mod Distinct
+unfoldable pub use Members.*
+unfoldable pub use InOrder.*
+unfoldable pub use Decided.*
+unfoldable pub use Searches.*
+unfoldable pub use Sequences.*
+unfoldable pub use Mapped.*
+unfoldable pub use RankOrder.*
+unfoldable pub use Sources.*
+unfoldable pub use Equality.*
+unfoldable pub use FirstPlaces.*
+unfoldable pub use Distinct.*

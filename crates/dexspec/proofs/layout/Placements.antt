@@ -2,8 +2,7 @@
 -- offsets.
 use Rattle.dexspec.proofs.Common.{◌≡◌, ℕ, zero, suc, ◌+◌, ◌<◌, List, [], ◌∷◌, ◌++◌, length, get_or, map, drop, refl, sym, ap, subst, ◌∙◌, arith, inl, inr, Option, Some, None, IfSome, Bool, true, false, if◌then◌else◌, slice_index, option_map_or, flat_map, All, zip, length-append, length-map, length-drop, map-id, All-from_recursion, All-nil, All-cons, All-head, All-tail, All-map, Code, Debug, Mentions}
 use Rattle.dexspec.specs.{chunks, zip_with, present, ushort, uint, uleb128, string_data, Definition, count_values, same_types, code_bytes, debug_bytes, encoded_array_bytes, annotation_bytes, offsets_bytes, class_data_bytes, type_list_bytes, unless_empty, own_numbers, own_items, shared_items, Sharing, EqualOnce, EachForItself, items_by, Placed, offsets, uses_offsets, Ordered, by_class, SetOffsets, type_list_uses, code_uses, static_values_uses, class_data_uses, ref_list_uses, directory_uses, directory_bytes, end, data_start, class_offsets, type_list_items, type_list_section, set_items, annotation_section, annotation_offsets, array_section, string_section, debug_items, debug_section, code_section, class_data_section, set_section, set_offsets, ref_list_section, directory_section, data_sections}
-use Rattle.dexspec.proofs.numbers.ByteNumbers.{length-uint, length-ushort}
-use Rattle.dexspec.proofs.numbers.Spellings.{uleb128_bounds}
+use Rattle.dexspec.proofs.numbers.{length-uint, length-ushort, uleb128_bounds}
 use Rattle.dexspec.proofs.layout.Places.{IsAlign, length-offsets_from, FollowFrom}
 
 -- each section begins where the one before it ends

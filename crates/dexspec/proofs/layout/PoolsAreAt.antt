@@ -2,8 +2,7 @@
 use Rattle.dexspec.proofs.Common.{◌≡◌, ℕ, ◌+◌, ◌%◌, ◌^◌, ◌<◌, ◌≤◌, ◌/◌, List, [], ◌∷◌, ◌++◌, drop, length, get_or, map, refl, sym, ap, subst, ◌∙◌, arith, inl, inr, ◌==◌, if◌then◌else◌, nat_lt, cond_both, All, AllZip, Contains, length-drop, length-append, Contains-get_or, Mentions}
 use Rattle.dexspec.specs.{OrNone, uint_at, BytesAt, BeginsWith, uleb128, Text, text_cmp, AreUnits, form, spelling, string_data, IsStringData, IsDescriptor, IsValueType, shorty, Proto, Field, Method, proto_cmp, field_cmp, method_cmp, IsField, IsMethod, StringIds, TypeIds, ProtoIds, FieldIds, MethodIds, row_at, StringRow, TypeRow, TypeListAt, ProtoRow, FieldRow, MethodRow, text_index, type_index, proto_index, field_index, method_index, type_list_bytes, Ordered, unless_empty}
 use Rattle.dexspec.proofs.written.PlacedBytes.{is_at_within}
-use Rattle.dexspec.proofs.lists.Members.{Contains-first, Contains-later}
-use Rattle.dexspec.proofs.lists.InOrder.{Rises, rank-place}
+use Rattle.dexspec.proofs.lists.{Contains-first, Contains-later, Rises, rank-place}
 use Rattle.dexspec.proofs.merge.SymbolOrders.{text_total, proto_total, field_total, method_total}
 use Rattle.dexspec.proofs.determined.OneText.{string_data_is}
 use Rattle.dexspec.proofs.layout.SectionPlaces.{Laid, ItemIsAt}

@@ -1,8 +1,7 @@
 -- Conditions 11 to 15 of a file with this layout: its rows denote symbols, in order.
 use Rattle.dexspec.proofs.Common.{◌≡◌, ℕ, zero, suc, ◌+◌, ◌<◌, List, [], ◌∷◌, drop, length, get_or, map, refl, sym, ap, subst, ◌∙◌, arith, inl, inr, ◌==◌, if◌then◌else◌, nat_lt, Contains, IsTotalOrder, slice_cmp, nat_cmp, ordering_then, ordering_reverse, Ordering, Less, Equal, Greater, cond-true, cond-false, le-ltb, eq-eqb, ne_eqb, cases_order, tied_itself, Contains-get_or}
 use Rattle.dexspec.specs.{rank, uint_at, ushort_at, Text, text_cmp, Proto, Field, Method, proto_cmp, field_cmp, method_cmp, StringIds, ProtoIds, FieldIds, MethodIds, row_at, TypeRow, ProtoRow, FieldRow, MethodRow, type_indices, key_cmp, type_row_key, proto_row_key, HasString, HasType, HasProto, HasField, HasMethod, text_index, type_index, proto_index, type_list_bytes, Ordered, unless_empty}
-use Rattle.dexspec.proofs.lists.Members.{Contains-first, Contains-later}
-use Rattle.dexspec.proofs.lists.InOrder.{Rises, rank-place, rank-get_or}
+use Rattle.dexspec.proofs.lists.{Contains-first, Contains-later, Rises, rank-place, rank-get_or, nat_less, nat_more}
 use Rattle.dexspec.proofs.merge.SymbolOrders.{text_total, proto_total, field_total, method_total}
 use Rattle.dexspec.proofs.determined.OneText.{one_string_data}
 use Rattle.dexspec.proofs.layout.SectionPlaces.{Laid}
@@ -10,7 +9,6 @@ use Rattle.dexspec.proofs.layout.HeaderLaws.{AreFew}
 use Rattle.dexspec.proofs.layout.Uses.{UseIsAt}
 use Rattle.dexspec.proofs.layout.RowsRead.{type_read, proto_read, field_read, method_read, type_list_indices}
 use Rattle.dexspec.proofs.layout.PoolsAreAt.{ArePools, text_row_at, type_row, proto_row, field_row, method_row}
-use Rattle.dexspec.proofs.lists.RankOrder.{nat_less, nat_more}
 
 -- ---- ranks are in the order of the symbols
 

@@ -5,8 +5,7 @@ use Rattle.dexspec.proofs.Common.{◌≡◌, ℕ, zero, suc, ◌+◌, ◌<◌, �
 use Rattle.dexspec.specs.{type_list_items, type_list_section, annotation_section, annotation_offsets, array_section, debug_items, debug_section, code_section, class_data_section, set_items, set_section, set_offsets, ref_list_section, directory_section, chunks, zip_with, present, distinct, Proto, Annotation, AnnotationSet, FieldDef, MethodDef, Definition, declared_fields, declared_methods, same_types, same_debug, same_set, code_bytes, debug_bytes, encoded_array_bytes, annotation_bytes, offsets_bytes, class_data_bytes, type_list_bytes, unless_empty, values_unless_empty, own_numbers, own_items, Items, shared_items, Sharing, EqualOnce, EachForItself, items_by, Placed, offsets, uses_offsets, Ordered, all_methods, by_class, is_empty_class, method_sets, class_sets, SetOffsets, set_offsets_of, type_list_uses, set_uses, debug_uses, code_uses, static_values_uses, class_data_uses, ref_list_uses, directory_uses, directory_bytes}
 use Rattle.dexspec.proofs.layout.Places.{length-offsets_from}
 use Rattle.dexspec.proofs.layout.Placements.{numbers_offsets, length-own_numbers, length-uses_offsets, length-items_offsets, length-chunks, length-by_class, length-zip, length-zip_with, length-set_offsets}
-use Rattle.dexspec.proofs.lists.Distinct.{distinct_has}
-use Rattle.dexspec.proofs.lists.Equality.{IsEquality}
+use Rattle.dexspec.proofs.lists.{distinct_has, IsEquality}
 use Rattle.dexspec.proofs.sharing.Sharing.{present_has, position_is}
 use Rattle.dexspec.proofs.sharing.Sameness.{types_decide, debug_decides, set_decides}
 use Rattle.dexspec.proofs.layout.SectionPlaces.{ItemIsAt, SectionIsAt, Laid, get_or-zip_with, get_or-zip}

@@ -1,9 +1,8 @@
 -- Any part of mergeable definitions is mergeable, and a cause against a part is a cause against the whole.
 use Rattle.dexspec.proofs.Common.{◌≤◌, List, length, arith}
 use Rattle.dexspec.specs.{rank, Text, text_cmp, proto_cmp, field_cmp, method_cmp, Definition, AreWithin, mentions, Caps, Cap, TypeCap, ProtoCap, FieldCap, MethodCap, ShortStringCap, WeightCap, HasShortString, Exceeds, Fits, IsGood, Cause, Conflict, Cycle, Exceeded, IsCause}
-use Rattle.dexspec.proofs.lists.Members.{length-among}
+use Rattle.dexspec.proofs.lists.{length-among, AreDistinct-from_Rises, rank-among}
 use Rattle.dexspec.proofs.merge.SymbolOrders.{text_total, proto_total, field_total, method_total}
-use Rattle.dexspec.proofs.lists.InOrder.{AreDistinct-from_Rises, rank-among}
 use Rattle.dexspec.proofs.merge.Growth.{mentions-rising, mentions-among}
 use Rattle.dexspec.proofs.merge.DepthGrowth.{is_defined-within, HasDepth-within, IsAcyclic-within}
 

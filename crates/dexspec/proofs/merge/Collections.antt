@@ -3,9 +3,8 @@ use Rattle.dexspec.proofs.Common.{◌≡◌, Bool, true, false, cond, T, List, [
 use Rattle.std.specs.FinMap as finite
 use Rattle.std.specs.FinMap.Entries.{find, is_sorted, below_all}
 use Rattle.dexspec.specs.{AreDistinct, Text, text_cmp, Body, Definition, Collection, definitions, AreSame, AreWithin, IsCollectionOf, weight, IsConsistent}
-use Rattle.dexspec.proofs.lists.Members.{and_first, and_second, Contains-nil, Contains-first, Contains-later, Contains-cons_cases}
+use Rattle.dexspec.proofs.lists.{and_first, and_second, Contains-nil, Contains-first, Contains-later, Contains-cons_cases, Rises, less_is, AreDistinct-from_Rises, irreflexive}
 use Rattle.dexspec.proofs.merge.SymbolOrders.{text_total, text_exact}
-use Rattle.dexspec.proofs.lists.InOrder.{Rises, less_is, AreDistinct-from_Rises, irreflexive}
 use Rattle.dexspec.proofs.merge.WeightGrowth.{weight-within}
 use Rattle.dexspec.proofs.merge.Depths.{names_in, Contains-map}
 

@@ -1,9 +1,8 @@
 -- Whether a name has two different definitions is decidable.
 use Rattle.dexspec.proofs.Common.{◌≡◌, ◌≢◌, ◌⊎◌, List, refl, subst, inl, inr, Contains}
 use Rattle.dexspec.specs.{Text, Definition, IsConflict, IsConsistent}
-use Rattle.dexspec.proofs.lists.Searches.{some_or_none}
+use Rattle.dexspec.proofs.lists.{some_or_none, text_same_or_not, body_same_or_not}
 use Rattle.dexspec.proofs.merge.Depths.{names_in, Contains-map}
-use Rattle.dexspec.proofs.lists.Decided.{text_same_or_not, body_same_or_not}
 
 module _ (D : List Definition) (name : Text) where
   -- the second has the name, and a body different from the first's

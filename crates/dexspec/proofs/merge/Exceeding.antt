@@ -1,9 +1,7 @@
 -- Whether definitions exceed a cap is decidable.
 use Rattle.dexspec.proofs.Common.{◌≡◌, ◌⊎◌, ℕ, ◌<◌, ◌≤◌, ◌==◌, Bool, true, false, cond, List, [], ◌∷◌, length, slice_index, Option, Some, None, option_to_list, refl, sym, ap, subst, arith, inl, inr, eqb-true, Contains, flat_map, cases_lt, Code}
 use Rattle.dexspec.specs.{AreDistinct, rank, Text, text_cmp, TextSymbol, Piece, Instruction, low_byte, Definition, MethodDef, declared_methods, AreWithin, mentions, weight, Caps, Cap, TypeCap, ProtoCap, FieldCap, MethodCap, ShortStringCap, WeightCap, HasShortString, Exceeds, Fits}
-use Rattle.dexspec.proofs.lists.Members.{Contains-nil, Contains-first, Contains-cons_cases, Contains-flat_map, Contains-flat_map_source}
-use Rattle.dexspec.proofs.lists.Searches.{some_or_none, once_of}
-use Rattle.dexspec.proofs.lists.Decided.{definition_same_or_not}
+use Rattle.dexspec.proofs.lists.{Contains-nil, Contains-first, Contains-cons_cases, Contains-flat_map, Contains-flat_map_source, some_or_none, once_of, definition_same_or_not}
 use Rattle.dexspec.proofs.merge.WeightGrowth.{weight-within}
 
 -- ---- the texts of const-strings that are not jumbo

@@ -1,9 +1,8 @@
 -- The mentioned symbols do not become fewer as definitions are added.
 use Rattle.dexspec.proofs.Common.{◌≡◌, List, flat_map, Mentions}
 use Rattle.dexspec.specs.{text_cmp, Symbol, proto_cmp, field_cmp, method_cmp, Definition, AreWithin, closed, mentions, symbols_of, texts_in, types_in, protos_in, fields_in, methods_in}
-use Rattle.dexspec.proofs.lists.Members.{AreAmong, AreAmong-flat_map}
+use Rattle.dexspec.proofs.lists.{AreAmong, AreAmong-flat_map, Rises, Rises-in_order, in_order-among, in_order-same}
 use Rattle.dexspec.proofs.merge.SymbolOrders.{text_total, text_exact, proto_total, proto_exact, field_total, field_exact, method_total, method_exact}
-use Rattle.dexspec.proofs.lists.InOrder.{Rises, Rises-in_order, in_order-among, in_order-same}
 
 -- the five lists rise
 pub record AreRising (m : Mentions) : Type 0 where

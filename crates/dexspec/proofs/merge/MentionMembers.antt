@@ -2,9 +2,8 @@
 use Rattle.dexspec.proofs.Common.{◌≡◌, List, [], ◌∷◌, refl, sym, ap, subst, arith, inl, inr, Ordering, Contains, flat_map, IsTotalOrder}
 use Rattle.std.specs.FinMap.{IsAntisymmetric}
 use Rattle.dexspec.specs.{in_order, Text, text_cmp, shorty, Symbol, TextSymbol, TypeSymbol, ProtoSymbol, FieldSymbol, MethodSymbol, Proto, Field, Method, proto_cmp, field_cmp, method_cmp, Definition, mentions, symbols_of, texts_in, types_in, protos_in, fields_in, methods_in, proto_types}
-use Rattle.dexspec.proofs.lists.Members.{AreAmong, Contains-nil, Contains-first, Contains-later, Contains-cons_cases, Contains-flat_map, Contains-flat_map_source}
+use Rattle.dexspec.proofs.lists.{AreAmong, Contains-nil, Contains-first, Contains-later, Contains-cons_cases, Contains-flat_map, Contains-flat_map_source, in_order-has, in_order-only}
 use Rattle.dexspec.proofs.merge.SymbolOrders.{text_total, text_exact, proto_total, proto_exact, field_total, field_exact, method_total, method_exact}
-use Rattle.dexspec.proofs.lists.InOrder.{in_order-has, in_order-only}
 
 -- a symbol that occurs in one of the definitions has this among its parts
 pub record Occurs {X : Type 0} (parts : Symbol → List X) (D : List Definition) (x : X) : Type 0 where

@@ -1,9 +1,8 @@
 -- The weight does not decrease as definitions are added.
 use Rattle.dexspec.proofs.Common.{◌≡◌, ◌≤◌, List, arith, Mentions}
 use Rattle.dexspec.specs.{AreDistinct, text_cmp, proto_cmp, field_cmp, method_cmp, Definition, AreWithin, mentions, text_weight, proto_weight, mentions_weight, body_weight, weight}
-use Rattle.dexspec.proofs.lists.Members.{sum_by-among, length-among}
+use Rattle.dexspec.proofs.lists.{sum_by-among, length-among, AreDistinct-from_Rises}
 use Rattle.dexspec.proofs.merge.SymbolOrders.{text_total, proto_total, field_total, method_total}
-use Rattle.dexspec.proofs.lists.InOrder.{AreDistinct-from_Rises}
 use Rattle.dexspec.proofs.merge.Growth.{AreRising, AreMentioned, mentions-rising, mentions-among}
 
 pub mentions_weight-among : (m n : Mentions) → AreRising m → AreMentioned m n → mentions_weight m ≤ mentions_weight n

@@ -4,20 +4,11 @@ use Rattle.dexspec.proofs.Common.{◌≡◌, ℕ, suc, ◌+◌, ◌-◌, ◌%◌
 use Rattle.std.proofs.lemmas.Simd.{map-map}
 use Rattle.dexspec.specs.{rises, OrNone, AreDistinct, Text, Field, Method, FieldSymbol, MethodSymbol, field_cmp, method_cmp, FieldRow, MethodRow, AnnotationSet, AnnotationAt, SetAt, RefListAt, PairAt, DirectoryAt, no_directory, annotated, ShareNone, FieldDef, MethodDef, Body, Definition, declared_fields, declared_methods, annotations_off, mentions, symbols_of, field_of, method_of, annotation_symbols, set_symbols, field_index, method_index, offsets_bytes, IsSet, IsAnnotation, IsFieldDef, IsMethodDef, IsWellFormed, field_key, field_key_cmp, method_key, method_key_cmp, unless_empty, Ordered, by_class, method_sets, SetOffsets, pairs, directory_bytes, uses_offsets, ordered, ref_list_section, in_class_order, BytesAt, data_off}
 use Rattle.dexspec.specs.internal.OwnDirectories.{BytesIfSome, HasSetsAt, entries_of, field_sets, own_method_sets, parameter_sets, own_directory}
-use Rattle.dexspec.proofs.lists.Members.{Contains-flat_map}
-use Rattle.dexspec.proofs.merge.Depths.{Contains-map}
-use Rattle.dexspec.proofs.lists.Sources.{map_source}
-use Rattle.dexspec.proofs.lists.InOrder.{Rises-from_rises, AreDistinct-from_Rises}
-use Rattle.dexspec.proofs.merge.SymbolOrders.{field_total, field_exact, method_total, method_exact}
-use Rattle.dexspec.proofs.merge.Growth.{mentions-rising}
+use Rattle.dexspec.proofs.lists.{Contains-flat_map, map_source, Rises-from_rises, AreDistinct-from_Rises}
+use Rattle.dexspec.proofs.merge.{Contains-map, field_total, field_exact, method_total, method_exact, mentions-rising}
 use Rattle.dexspec.proofs.layout.Uses.{UseIsAt, SetIsAt, class_set_offsets, own_set_encoded, field_set_encoded, method_set_encoded, ref_list_encoded, length-field_set_offsets, length-method_set_offsets, length-one_method_set_offsets, length-class_part, length-ref_list_offsets}
 use Rattle.dexspec.proofs.layout.RowsRead.{class_read}
-use Rattle.dexspec.proofs.written.NumbersWritten.{AreInRows}
-use Rattle.dexspec.proofs.written.ValuesWritten.{annotation_written}
-use Rattle.dexspec.proofs.written.SetsWritten.{set_written, ref_list_written}
-use Rattle.dexspec.proofs.written.DirectoriesWritten.{ArePairs, directory_of, directory_written}
-use Rattle.dexspec.proofs.written.DirectoryEntries.{pairs_are, no_entries, own_entry}
-use Rattle.dexspec.proofs.written.ClassDataWritten.{field_occurs, method_occurs}
+use Rattle.dexspec.proofs.written.{AreInRows, annotation_written, set_written, ref_list_written, ArePairs, directory_of, directory_written, pairs_are, no_entries, own_entry, field_occurs, method_occurs}
 use Rattle.dexspec.proofs.normal.MemberRanks.{rank_cmp, rises_equally, field_cmp_key, method_cmp_key, symbols_in_rows, field_mentioned, method_mentioned, own_set_occurs, field_set_occurs, method_set_occurs, parameter_set_occurs}
 use Rattle.dexspec.proofs.normal.NormalClasses.{AreNormal, class_member}
 

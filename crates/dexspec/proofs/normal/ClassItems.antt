@@ -9,11 +9,7 @@ use Rattle.dexspec.proofs.lists.Members.{Contains-first, Contains-later}
 use Rattle.dexspec.proofs.layout.Uses as uses
 use Rattle.dexspec.proofs.layout.Uses.{UseIsAt, method_place, debug_of, code_of_method, debug_encoded, code_encoded, length-class_part, length-code_offsets}
 use Rattle.dexspec.proofs.layout.RowsRead.{use_small, class_read}
-use Rattle.dexspec.proofs.written.NumbersWritten.{AreInRows, back_in_rows}
-use Rattle.dexspec.proofs.written.ValuesWritten.{array_written}
-use Rattle.dexspec.proofs.written.DebugWritten.{debug_written}
-use Rattle.dexspec.proofs.written.CodeWritten.{code_written}
-use Rattle.dexspec.proofs.written.ClassDataWritten.{class_data_of, class_data_written, encoded_field, encoded_method}
+use Rattle.dexspec.proofs.written.{AreInRows, back_in_rows, array_written, debug_written, code_written, class_data_of, class_data_written, encoded_field, encoded_method}
 use Rattle.dexspec.proofs.normal.MemberRanks.{symbols_in_rows, indices_rise, code_occurs, static_values_occur}
 use Rattle.dexspec.proofs.wellformed.ShortIndices.{indices_fit}
 use Rattle.dexspec.proofs.normal.NormalClasses.{AreNormal, BelongsAt, class_member}

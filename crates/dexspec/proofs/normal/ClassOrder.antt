@@ -3,9 +3,8 @@ use Rattle.dexspec.proofs.Common.{◌≡◌, ◌≢◌, ◌⊎◌, ℕ, suc, ◌
 use Rattle.std.specs.FinMap.Entries.{put, by_order, below_all, is_sorted}
 use Rattle.std.specs.FinMap.{entries_sorted}
 use Rattle.dexspec.specs.{AreDistinct, Text, text_cmp, Body, Definition, place_cmp, put_all, depth, in_class_order, Collection, definitions}
-use Rattle.dexspec.proofs.lists.Members.{Contains-nil, Contains-first, Contains-later, Contains-cons_cases, AreDistinct-first, AreDistinct-rest}
-use Rattle.dexspec.proofs.merge.SymbolOrders.{text_exact, text_total}
-use Rattle.dexspec.proofs.lists.InOrder.{Rises, AreDistinct-from_Rises}
+use Rattle.dexspec.proofs.lists.{Contains-nil, Contains-first, Contains-later, Contains-cons_cases, AreDistinct-first, AreDistinct-rest, Rises, AreDistinct-from_Rises}
+use Rattle.dexspec.proofs.merge.{text_exact, text_total}
 use Rattle.dexspec.proofs.size.SizeSums.{sum_by-map}
 use Rattle.dexspec.proofs.normal.ClassPlaces.{names-kept}
 pub use Rattle.dexspec.proofs.merge.Collections.{definitions-distinct as definitions-different}

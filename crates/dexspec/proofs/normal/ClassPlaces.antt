@@ -3,11 +3,8 @@ use Rattle.dexspec.proofs.Common.{◌≡◌, ◌≢◌, ◌⊎◌, ℕ, ◌<◌,
 use Rattle.std.specs.FinMap.{IsAntisymmetric, nat_cmp-IsAntisymmetric}
 use Rattle.std.specs.FinMap.Entries.{put, by_order}
 use Rattle.dexspec.specs.{AreDistinct, add_in_order, in_order, Text, text_cmp, Body, Definition, place_cmp, put_all, depth, in_class_order}
-use Rattle.dexspec.proofs.lists.Members.{Contains-nil, Contains-first, Contains-later, Contains-cons_cases, AreDistinct-first, AreDistinct-rest}
-use Rattle.dexspec.proofs.merge.SymbolOrders.{text_exact, text_total, both_tie}
-use Rattle.dexspec.proofs.lists.InOrder.{Rises, Rises-in_order, Rises-places, irreflexive}
-use Rattle.dexspec.proofs.merge.Depths.{Contains-map}
-use Rattle.dexspec.proofs.lists.RankOrder.{nat_more}
+use Rattle.dexspec.proofs.lists.{Contains-nil, Contains-first, Contains-later, Contains-cons_cases, AreDistinct-first, AreDistinct-rest, Rises, Rises-in_order, Rises-places, irreflexive, nat_more}
+use Rattle.dexspec.proofs.merge.{text_exact, text_total, both_tie, Contains-map}
 pub use Rattle.dexspec.proofs.lists.Mapped.{Contains-map_source}
 
 -- a definition with its depth

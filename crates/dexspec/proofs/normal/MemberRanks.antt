@@ -2,15 +2,10 @@
 -- its index; and which symbols occur in which part of a definition.
 use Rattle.dexspec.proofs.Common.{◌≡◌, ℕ, List, [], ◌∷◌, ◌++◌, map, Option, Some, refl, sym, ap, ◌∙◌, subst, arith, inl, inr, Ordering, Less, IsTrue, option_to_list, ◌&&◌, Contains, flat_map, nat_cmp, is_lt, ordering_then, ordering_reverse, IsTotalOrder, cases_lt, tied_itself, Contains-append_left, Contains-append_right, Code, Mentions}
 use Rattle.dexspec.specs.{rank, rises, Text, text_cmp, Symbol, TextSymbol, TypeSymbol, ProtoSymbol, FieldSymbol, MethodSymbol, field_cmp, method_cmp, proto_cmp, StringIds, TypeIds, ProtoIds, FieldIds, MethodIds, AnnotationSet, FieldDef, MethodDef, Body, Definition, declared_fields, declared_methods, mentions, symbols_of, field_of, method_of, set_symbols, code_symbols, field_symbols, method_symbols, values_symbols, optional_type, optional_text, field_index, method_index, IsWellFormed, field_key, field_key_cmp, method_key, method_key_cmp}
-use Rattle.dexspec.proofs.lists.Members.{Contains-first, Contains-later, Contains-flat_map}
-use Rattle.dexspec.proofs.lists.InOrder.{Rises, Rises-places, rank-place}
-use Rattle.dexspec.proofs.lists.RankOrder.{nat_more, rank_one, nat_less, nat_tied}
-use Rattle.dexspec.proofs.merge.SymbolOrders.{text_total, proto_total, field_total, method_total}
-use Rattle.dexspec.proofs.merge.Growth.{mentions-rising}
-use Rattle.dexspec.proofs.merge.MentionMembers.{texts-listed, types-listed, protos-listed, fields-listed, methods-listed}
-use Rattle.dexspec.proofs.written.NumbersWritten.{IsInRow, AreInRows}
+use Rattle.dexspec.proofs.lists.{Contains-first, Contains-later, Contains-flat_map, Rises, Rises-places, rank-place, nat_more, rank_one, nat_less, nat_tied}
+use Rattle.dexspec.proofs.merge.{text_total, proto_total, field_total, method_total, mentions-rising, texts-listed, types-listed, protos-listed, fields-listed, methods-listed}
+use Rattle.dexspec.proofs.written.{IsInRow, AreInRows, IndicesRise, own_first, field_occurs, method_occurs}
 use Rattle.dexspec.proofs.normal.NormalRows.{IsNormal, count_small, string_ranked, type_ranked, proto_ranked, field_ranked, method_ranked}
-use Rattle.dexspec.proofs.written.ClassDataWritten.{IndicesRise, own_first, field_occurs, method_occurs}
 
 -- ---- ranks
 

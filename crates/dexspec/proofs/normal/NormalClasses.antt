@@ -2,12 +2,8 @@
 -- the offsets of its row; condition 16.
 use Rattle.dexspec.proofs.Common.{◌≡◌, ℕ, ◌<◌, List, [], ◌∷◌, ◌++◌, length, get_or, map, refl, sym, ap, ◌∙◌, subst, arith, inl, inr, All, true, ◌==◌, if◌then◌else◌, Option, Some, None, IfSome, option_to_list, Contains, AllZip, filter, flat_map, option_map_or, cond-false, ne_eqb, Decides-eqb, slice_eq-Decides, map-append, Contains-get_or, Contains-append_left, Contains-append_right, Contains-append_cases, All-map, ClassData}
 use Rattle.dexspec.specs.{OrNone, AreDistinct, Text, text_cmp, same_text, IsClass, TextSymbol, TypeSymbol, ClassDefs, table_size, StringRow, TypeListAt, type_indices, NoValues, Directory, DirectoryAt, no_directory, ClassDataAt, no_class_data, Body, Definition, ClassRow, ClassTypeRow, ClassListAt, IndexOrNone, StaticValuesAt, field_def, MakesMethod, class_idx, superclass_idx, interfaces_off, source_file_idx, annotations_off, class_data_off, static_values_off, no_index, mentions, symbols_of, optional_type, optional_text, parents, is_defined, IsAcyclic, depth, in_class_order, AreWellFormed, parent_indices, IsDefinedBefore, HasClass, text_index, type_index, type_list_bytes, unless_empty, ordered}
-use Rattle.dexspec.proofs.lists.Members.{AreAmong, Contains-first, Contains-later, Contains-flat_map, Contains-filter, list_any-member}
-use Rattle.dexspec.proofs.merge.SymbolOrders.{text_total}
-use Rattle.dexspec.proofs.merge.Growth.{mentions-rising}
-use Rattle.dexspec.proofs.merge.MentionMembers.{texts-listed, types-listed}
-use Rattle.dexspec.proofs.merge.Depths.{Contains-map, depth-parent}
-use Rattle.dexspec.proofs.lists.RankOrder.{rank_one}
+use Rattle.dexspec.proofs.lists.{AreAmong, Contains-first, Contains-later, Contains-flat_map, Contains-filter, list_any-member, rank_one}
+use Rattle.dexspec.proofs.merge.{text_total, mentions-rising, texts-listed, types-listed, Contains-map, depth-parent}
 use Rattle.dexspec.proofs.layout.Uses.{UseIsAt}
 use Rattle.dexspec.proofs.layout.RowsRead.{ClassRead, class_read, type_index_small, type_list_indices}
 use Rattle.dexspec.proofs.layout.PoolsAreAt.{type_list_or_none}

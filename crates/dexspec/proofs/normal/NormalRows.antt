@@ -2,8 +2,7 @@
 use Rattle.dexspec.proofs.Common.{◌≡◌, ℕ, ◌^◌, ◌<◌, List, length, get_or, arith, Contains}
 use Rattle.dexspec.specs.{rank, Text, text_cmp, Proto, Field, Method, proto_cmp, field_cmp, method_cmp, Table, StringIds, TypeIds, ProtoIds, FieldIds, MethodIds, table_size, StringRow, TypeRow, ProtoRow, FieldRow, MethodRow, HasString, HasType, HasProto, HasField, HasMethod, Definition, mentions, table_count, ordered}
 use Rattle.dexspec.proofs.determined.OneRow.{one_string, one_type, one_proto, one_field, one_method}
-use Rattle.dexspec.proofs.merge.SymbolOrders.{text_total, proto_total, field_total, method_total}
-use Rattle.dexspec.proofs.merge.Growth.{mentions-rising}
+use Rattle.dexspec.proofs.merge.{text_total, proto_total, field_total, method_total, mentions-rising}
 use Rattle.dexspec.proofs.layout.SectionPlaces.{Laid, table_few}
 use Rattle.dexspec.proofs.layout.HeaderLaws.{AreFew}
 use Rattle.dexspec.proofs.layout.PoolsAreAt.{ArePools, text_row, type_row, proto_row, field_row, method_row}

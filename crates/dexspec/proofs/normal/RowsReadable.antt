@@ -3,15 +3,11 @@
 use Rattle.dexspec.proofs.Common.{◌≡◌, ◌≢◌, ℕ, ◌+◌, ◌<◌, ◌≤◌, List, [], ◌∷◌, length, get_or, map, take, drop, sym, ap, ◌∙◌, subst, arith, inl, inr, All, Option, Some, None, Contains, AllZip, length-map, Contains-append_left, Contains-append_right, Contains-append_cases, Debug, Code, ClassData}
 use Rattle.dexspec.specs.{OrNone, SomeAt, zip_with, uint_at, Text, Field, Method, field_cmp, method_cmp, ClassDefs, Cut, DebugAt, CodeAt, TriesAt, AnnotationSet, EncodedField, EncodedMethod, fields_of, methods_of, BelongTo, FieldDef, MethodDef, Body, Definition, declared_fields, declared_methods, class_data_off, field_of, method_of, IsWellFormed, AreWellFormed, field_key, method_key, Declares, AllCode, HasPiecesAt, HasTriesAt, HasDebugAt, HasValues, NamesDeclared, IsReadable, count_values, by_class, uses_offsets, ordered, canonical, code_section, in_class_order, Collection, definitions, greatest_caps, Fits, IsGood}
 use Rattle.dexspec.specs.internal.OwnDirectories.{field_sets, own_method_sets, parameter_sets, own_directory}
-use Rattle.dexspec.proofs.lists.Members.{Contains-nil, Contains-first, Contains-later, Contains-cons_cases}
-use Rattle.dexspec.proofs.merge.Depths.{Contains-map}
-use Rattle.dexspec.proofs.lists.Sources.{map_source}
-use Rattle.dexspec.proofs.merge.SymbolOrders.{field_total, field_exact, method_total, method_exact}
+use Rattle.dexspec.proofs.lists.{Contains-nil, Contains-first, Contains-later, Contains-cons_cases, map_source}
+use Rattle.dexspec.proofs.merge.{Contains-map, field_total, field_exact, method_total, method_exact}
 use Rattle.dexspec.proofs.wellformed.FormedRows.{all_from}
-use Rattle.dexspec.proofs.determined.OneClass.{HasFewRows, one_row_data}
-use Rattle.dexspec.proofs.determined.OneCode.{one_pieces}
-use Rattle.dexspec.proofs.written.ClassDataWritten.{encoded_field, encoded_method}
-use Rattle.dexspec.proofs.written.DirectoryEntries.{entries_source}
+use Rattle.dexspec.proofs.determined.{HasFewRows, one_row_data, one_pieces}
+use Rattle.dexspec.proofs.written.{encoded_field, encoded_method, entries_source}
 use Rattle.dexspec.proofs.normal.NormalRows.{count_small}
 use Rattle.dexspec.proofs.normal.NormalClasses.{AreNormal, class_member, own_class}
 use Rattle.dexspec.proofs.normal.NormalForm.{ItemsAreRight, IsFileOf, normal_form, canonical_all_normal, some_class}

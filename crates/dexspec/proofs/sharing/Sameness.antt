@@ -1,8 +1,7 @@
 -- The tests of sameness decide equality.
 use Rattle.dexspec.proofs.Common.{◌≡◌, Bool, true, false, not, ◌&&◌, ◌==◌, if◌then◌else◌, refl, ap, pointwise, eqb-true, Decides-eqb, Decides-int_eq, Values}
 use Rattle.dexspec.specs.{same_text, Operation, AdvancePc, AdvanceLine, StartLocal, StartLocalExtended, EndLocal, RestartLocal, SetPrologueEnd, SetEpilogueBegin, SetFile, Special, Value, ByteValue, ShortValue, CharValue, IntValue, LongValue, FloatValue, DoubleValue, StringValue, TypeValue, FieldValue, MethodValue, EnumValue, ArrayValue, AnnotationValue, NullValue, BooleanValue, NoValues, ThenValue, Elements, NoElements, ThenElement, same_types, same_proto, same_field, same_method, same_optional, same_operation, same_debug, same_value, same_values, same_elements, same_annotation, same_set}
-use Rattle.dexspec.proofs.lists.Members.{and_first, and_second, and_both}
-use Rattle.dexspec.proofs.lists.Equality.{IsEquality, reports, lists_decide, options_decide, text_decides}
+use Rattle.dexspec.proofs.lists.{and_first, and_second, and_both, IsEquality, reports, lists_decide, options_decide, text_decides}
 
 -- a value is equal to itself
 again : {X : Type 0} {same : X → X → Bool} → IsEquality same → (x : X) → same x x ≡ true

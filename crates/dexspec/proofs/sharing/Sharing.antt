@@ -3,11 +3,7 @@
 use Rattle.dexspec.proofs.Common.{◌≡◌, ℕ, zero, suc, ◌+◌, ◌<◌, ◌≤◌, Bool, true, false, not, if◌then◌else◌, append_assoc, List, [], ◌∷◌, ◌++◌, length, get_or, map, take, drop, refl, sym, ap, ◌∙◌, subst, arith, sum_by, inl, inr, Option, Some, None, Contains, filter, list_any, position_or_len, option_map, length-append, length-take, get_or-take, get_or-map, get_or_append_left, take-append-drop, drop_more, Contains-get_or, sum_by-cons, passes_at_first, position_or_len_is}
 use Rattle.std.proofs.lemmas.List.Filters.{sum_by-filter_both}
 use Rattle.dexspec.specs.{AreDistinct, present, distinct, shared_items, Sharing, EqualOnce, EachForItself, items_by}
-use Rattle.dexspec.proofs.lists.Equality.{IsEquality, self, turned}
-use Rattle.dexspec.proofs.lists.Members.{Contains-nil, Contains-first, Contains-later, Contains-cons_cases, list_any-source}
-use Rattle.dexspec.proofs.lists.Sources.{distinct_source}
-use Rattle.dexspec.proofs.lists.FirstPlaces.{any_equal, position_within, position_stays, position_last, position_mapped, position_agrees}
-use Rattle.dexspec.proofs.lists.Distinct.{with_last, distinct_more, distinct_prefix, distinct_has, distinct_once}
+use Rattle.dexspec.proofs.lists.{IsEquality, self, turned, Contains-nil, Contains-first, Contains-later, Contains-cons_cases, list_any-source, distinct_source, any_equal, position_within, position_stays, position_last, position_mapped, position_agrees, with_last, distinct_more, distinct_prefix, distinct_has, distinct_once}
 
 -- ---- present values
 

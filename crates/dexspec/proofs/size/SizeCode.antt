@@ -1,8 +1,7 @@
 -- An upper bound on the bytes of a code item, by its weight.
 use Rattle.dexspec.proofs.Common.{◌≡◌, ℕ, ◌+◌, ◌*◌, ◌%◌, ◌/◌, ◌<◌, ◌≤◌, Bool, true, false, List, [], ◌∷◌, length, Option, Some, None, refl, ◌∙◌, arith, flat_map, option_to_list, if◌then◌else◌, nat_lt, ◌==◌, length-append, length-set, slice_set, lt-ltb, sum_by-le-sum_by, count_by-le-length, length-flat_map, is_lt, Code, Mentions}
 use Rattle.dexspec.specs.{ushort, uleb128, size_u, Text, text_cmp, Piece, Instruction, units_of, with_index, is_wide_index, same_handler, Catch, Handler, Try, handlers_of, handlers_weight, type_index, symbol_index, piece_units, catch_bytes, handler_count, handler_bytes, handler_off, try_bytes, handler_list_bytes, tries_bytes, code_bytes, tries_weight, code_weight}
-use Rattle.dexspec.proofs.numbers.ByteNumbers.{length-ushort, length-uint}
-use Rattle.dexspec.proofs.numbers.Groups.{length-groups}
+use Rattle.dexspec.proofs.numbers.{length-ushort, length-uint, length-groups}
 use Rattle.dexspec.proofs.size.SizeSums.{sum_by-at_most}
 use Rattle.dexspec.proofs.size.SizeItems.{uleb128-size, sleb128-size, if-size}
 

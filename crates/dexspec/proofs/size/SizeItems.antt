@@ -1,8 +1,7 @@
 -- Upper bounds on the bytes of each item, by its weight.
 use Rattle.dexspec.proofs.Common.{◌≡◌, ℕ, ◌+◌, ◌-◌, ◌*◌, ◌/◌, ◌%◌, ◌^◌, ◌≤◌, Bool, true, false, cond, List, [], ◌∷◌, ◌++◌, length, Option, Some, arith, flat_map, if◌then◌else◌, nat_lt, ◌==◌, length-append, unwrap_or, find, ℤ, All, rules, sum_by-le-sum_by, All-head, All-tail, length-flat_map, option_map, Debug, Values, Mentions}
 use Rattle.dexspec.specs.{ushort, uint, uleb128, sleb128, plus_one, magnitude, Text, form, string_data, Operation, AdvancePc, AdvanceLine, StartLocal, StartLocalExtended, EndLocal, RestartLocal, SetFile, Value, ByteValue, ShortValue, CharValue, IntValue, LongValue, FloatValue, DoubleValue, StringValue, TypeValue, FieldValue, MethodValue, EnumValue, ArrayValue, AnnotationValue, NoValues, ThenValue, Elements, NoElements, ThenElement, count_values, Annotation, text_index, type_index, field_index, method_index, optional_text_bytes, optional_type_bytes, operation_bytes, debug_bytes, widths, unsigned_width, signed_width, bits_width, complement, unsigned_bytes, signed_bytes, bits_bytes, value_bytes, values_bytes, elements_bytes, encoded_array_bytes, annotation_bytes, offsets_bytes, text_weight, operands, debug_weight, value_weight, values_weight, elements_weight, annotation_weight, static_values_weight}
-use Rattle.dexspec.proofs.numbers.ByteNumbers.{length-bytes_of, length-ushort, length-uint}
-use Rattle.dexspec.proofs.numbers.Spellings.{uleb128_bounds, sleb128_bounds}
+use Rattle.dexspec.proofs.numbers.{length-bytes_of, length-ushort, length-uint, uleb128_bounds, sleb128_bounds}
 use Rattle.dexspec.proofs.size.SizeSums.{sum_by-at_most}
 use Rattle.dexspec.proofs.written.PlacedBytes.{length_rows}
 

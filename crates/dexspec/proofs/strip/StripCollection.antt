@@ -3,10 +3,8 @@ use Rattle.dexspec.proofs.Common.{◌≡◌, true, false, cond, ◌&&◌, T, Lis
 use Rattle.std.specs.FinMap as finite
 use Rattle.std.specs.FinMap.Entries.{find, is_sorted, below_all}
 use Rattle.dexspec.specs.{Text, text_cmp, Definition, Collection, definitions, IsCollectionOf, strip_body, strip_definition, strip, strip_collection, Plan, union}
-use Rattle.dexspec.proofs.merge.SymbolOrders.{text_total, text_exact}
-use Rattle.dexspec.proofs.merge.Depths.{Contains-map}
+use Rattle.dexspec.proofs.merge.{text_total, text_exact, Contains-map, definitions-are, collection-one}
 use Rattle.dexspec.proofs.lists.Mapped.{Contains-map_source}
-use Rattle.dexspec.proofs.merge.Collections.{definitions-are, collection-one}
 use Rattle.dexspec.proofs.strip.StripUnion.{strip-twice, strip-union}
 
 -- ---- stripped definitions whose names rise

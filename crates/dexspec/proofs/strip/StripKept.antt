@@ -1,12 +1,8 @@
 -- Stripping removes no proto, field or method from the mentions of definitions.
 use Rattle.dexspec.proofs.Common.{◌≡◌, List, [], ◌∷◌, ◌++◌, map, Option, Some, None, sym, subst, arith, inl, inr, Contains, flat_map, option_map, option_to_list, Contains-append_left, Contains-append_right, Contains-append_cases, Debug, Code}
 use Rattle.dexspec.specs.{Text, Symbol, TextSymbol, TypeSymbol, MethodSymbol, Proto, Field, Method, proto_cmp, field_cmp, method_cmp, Operation, AdvancePc, AdvanceLine, StartLocal, StartLocalExtended, EndLocal, RestartLocal, SetPrologueEnd, SetEpilogueBegin, SetFile, Special, handlers_of, MethodDef, Definition, declared_fields, declared_methods, mentions, symbols_of, optional_text, optional_type, piece_symbols, operation_symbols, handler_symbols, debug_symbols, code_symbols, set_symbols, field_symbols, method_symbols, values_symbols, method_of, protos_in, fields_in, methods_in, strip_code, strip_method, strip_body, strip_definition, strip}
-use Rattle.dexspec.proofs.lists.Members.{Contains-nil, Contains-later, Contains-cons_cases, Contains-flat_map_source}
-use Rattle.dexspec.proofs.merge.SymbolOrders.{proto_total, field_total, method_total}
-use Rattle.dexspec.proofs.lists.InOrder.{Rises-same}
-use Rattle.dexspec.proofs.merge.Growth.{mentions-rising}
-use Rattle.dexspec.proofs.merge.MentionMembers.{Occurs, protos-listed, protos-source, fields-listed, fields-source, methods-listed, methods-source}
-use Rattle.dexspec.proofs.merge.Depths.{Contains-map}
+use Rattle.dexspec.proofs.lists.{Contains-nil, Contains-later, Contains-cons_cases, Contains-flat_map_source, Rises-same}
+use Rattle.dexspec.proofs.merge.{proto_total, field_total, method_total, mentions-rising, Occurs, protos-listed, protos-source, fields-listed, fields-source, methods-listed, methods-source, Contains-map}
 use Rattle.dexspec.proofs.strip.StripUnion.{declared_methods-strip}
 use Rattle.dexspec.proofs.strip.StripMentions.{mentions-strip}
 

@@ -1,13 +1,8 @@
 -- The symbols that stripped definitions mention are mentioned by the definitions, and their short strings are the same.
 use Rattle.dexspec.proofs.Common.{◌≡◌, ◌≤◌, List, [], ◌++◌, length, map, Option, Some, None, refl, sym, ap, ◌∙◌, subst, Contains, flat_map, option_map, option_to_list, same_Some, Code}
 use Rattle.dexspec.specs.{rank, Text, text_cmp, Instruction, Symbol, TextSymbol, TypeSymbol, MethodSymbol, proto_cmp, field_cmp, method_cmp, handlers_of, MethodDef, Body, Definition, declared_fields, declared_methods, mentions, symbols_of, optional_text, optional_type, piece_symbols, handler_symbols, debug_symbols, code_symbols, set_symbols, field_symbols, method_symbols, values_symbols, method_of, texts_in, types_in, protos_in, fields_in, methods_in, HasShortString, strip_code, strip_method, strip_body, strip_definition, strip}
-use Rattle.dexspec.proofs.lists.Members.{AreAmong, length-among}
-use Rattle.dexspec.proofs.merge.SymbolOrders.{text_total, proto_total, field_total, method_total}
-use Rattle.dexspec.proofs.lists.InOrder.{AreDistinct-from_Rises, rank-among}
-use Rattle.dexspec.proofs.merge.Growth.{AreMentioned, mentions-rising}
-use Rattle.dexspec.proofs.merge.MentionMembers.{Occurs, texts-listed, texts-source, types-listed, types-source, protos-listed, protos-source, fields-listed, fields-source, methods-listed, methods-source}
-use Rattle.dexspec.proofs.merge.Depths.{Contains-map}
-use Rattle.dexspec.proofs.lists.Mapped.{AreAmong-refl, AreAmong-none, AreAmong-cons, AreAmong-append, Contains-map_source, AreAmong-flat_map_map}
+use Rattle.dexspec.proofs.lists.{AreAmong, length-among, AreDistinct-from_Rises, rank-among, AreAmong-refl, AreAmong-none, AreAmong-cons, AreAmong-append, Contains-map_source, AreAmong-flat_map_map}
+use Rattle.dexspec.proofs.merge.{text_total, proto_total, field_total, method_total, AreMentioned, mentions-rising, Occurs, texts-listed, texts-source, types-listed, types-source, protos-listed, protos-source, fields-listed, fields-source, methods-listed, methods-source, Contains-map}
 use Rattle.dexspec.proofs.strip.StripUnion.{declared_methods-strip}
 
 -- ---- the symbols that occur

@@ -1,8 +1,7 @@
 -- Stripped definitions weigh at most as much as the definitions.
 use Rattle.dexspec.proofs.Common.{◌≡◌, ℕ, ◌+◌, ◌≤◌, List, map, Option, Some, None, sym, ap, subst, arith, sum_by, option_map, option_to_list, Code}
 use Rattle.dexspec.specs.{AreDistinct, MethodDef, Body, Definition, declared_methods, AreWithin, mentions, debug_weight, code_weight, method_weight, body_weight, weight, strip_code, strip_method, strip_body, strip_definition, strip}
-use Rattle.dexspec.proofs.merge.WeightGrowth.{mentions_weight-among}
-use Rattle.dexspec.proofs.merge.Growth.{mentions-rising}
+use Rattle.dexspec.proofs.merge.{mentions_weight-among, mentions-rising}
 use Rattle.dexspec.proofs.lists.Mapped.{originals, AreDistinct-map_source, sum_by-map_within}
 use Rattle.dexspec.proofs.strip.StripUnion.{declared_methods-strip}
 use Rattle.dexspec.proofs.strip.StripMentions.{mentions-strip}

@@ -1,8 +1,7 @@
 -- Stripped well-formed definitions are well formed.
 use Rattle.dexspec.proofs.Common.{IsTrue, ◌≡◌, List, map, All, Option, Some, None, refl, sym, subst, option_map, IfSome, flat_map, length-map, All-map, All-weaker, Code}
 use Rattle.dexspec.specs.{rises, ShareNone, MethodDef, Body, Definition, declared_methods, symbols_of, texts_in, FitsUint, IsText, IsSymbol, IsCodeItem, IsMethodDef, method_key, method_key_cmp, IsWellFormed, AreWellFormed, strip_code, strip_method, strip_body, strip_definition, strip}
-use Rattle.dexspec.proofs.lists.Members.{AreAmong-flat_map}
-use Rattle.dexspec.proofs.lists.Mapped.{All-among, Contains-map_source, map-kept}
+use Rattle.dexspec.proofs.lists.{AreAmong-flat_map, All-among, Contains-map_source, map-kept}
 use Rattle.dexspec.proofs.strip.StripUnion.{declared_methods-strip}
 use Rattle.dexspec.proofs.strip.StripMentions.{symbols_of-strip}
 

@@ -2,8 +2,7 @@
 use Rattle.dexspec.proofs.Common.{◌≡◌, ℕ, zero, suc, ◌+◌, ◌-◌, ◌<◌, ◌≤◌, List, [], ◌∷◌, refl, subst, arith, inl, inr, Contains, cases_lt}
 use Rattle.dexspec.specs.{AreDistinct, Text, ClassDefs, table_size, StringRow, Definition, Collection, definitions, Defines, Denotes, AreWithin, mentions, weight, most_weight, IsGood, greatest_caps, HasShortString, Condition, AreRows, IsAccepted}
 use Rattle.dexspec.proofs.lists.Members.{Contains-nil}
-use Rattle.dexspec.proofs.merge.WeightGrowth.{weight-within}
-use Rattle.dexspec.proofs.merge.Collections.{definitions-are, collection-consistent}
+use Rattle.dexspec.proofs.merge.{weight-within, definitions-are, collection-consistent}
 use Rattle.dexspec.proofs.wellformed.Fitting.{DefinitionsHaveRows, rows_fit}
 use Rattle.dexspec.proofs.wellformed.ClassDepths.{rows_acyclic}
 use Rattle.dexspec.proofs.determined.Denoted.{HasClasses, has_classes, accepted_readable, readable_rows, denoted_rows}

@@ -1,12 +1,8 @@
 -- Definitions whose symbols have rows fit the greatest caps.
 use Rattle.dexspec.proofs.Common.{◌≡◌, ℕ, zero, suc, ◌+◌, ◌<◌, ◌≤◌, Bool, true, false, cond, List, [], ◌∷◌, length, count_by, refl, ap, ◌∙◌, subst, arith, inl, inr, is_lt, Contains, AllZip, range_with_len, cases_eq, sum_by-cons}
 use Rattle.dexspec.specs.{AreDistinct, rank, OrNone, uint_at, ushort_at, Text, text_cmp, shorty, Proto, Field, Method, Symbol, TextSymbol, TypeSymbol, ProtoSymbol, FieldSymbol, MethodSymbol, proto_cmp, field_cmp, method_cmp, TypeIds, ProtoIds, FieldIds, MethodIds, table_size, HasLayout, row_at, StringRow, TypeRow, type_indices, TypeListAt, ProtoRow, FieldRow, MethodRow, SymbolRow, Definition, AreWithin, symbols_of, mentions, texts_in, types_in, protos_in, fields_in, methods_in, proto_types, proto_texts, weight, most_weight, Fits, greatest_caps, HasShortString}
-use Rattle.dexspec.proofs.lists.Members.{Contains-nil, Contains-first, Contains-later, Contains-cons_cases, AreDistinct-first, AreDistinct-rest, length-among}
-use Rattle.dexspec.proofs.lists.InOrder.{less_is, AreDistinct-from_Rises}
-use Rattle.dexspec.proofs.merge.Growth.{mentions-rising}
-use Rattle.dexspec.proofs.merge.SymbolOrders.{text_total, proto_total, field_total, method_total}
-use Rattle.dexspec.proofs.merge.MentionMembers.{Occurs, texts-source, types-source, protos-source, fields-source, methods-source}
-use Rattle.dexspec.proofs.lists.Searches.{AreDistinct-cons}
+use Rattle.dexspec.proofs.lists.{Contains-nil, Contains-first, Contains-later, Contains-cons_cases, AreDistinct-first, AreDistinct-rest, length-among, less_is, AreDistinct-from_Rises, AreDistinct-cons}
+use Rattle.dexspec.proofs.merge.{mentions-rising, text_total, proto_total, field_total, method_total, Occurs, texts-source, types-source, protos-source, fields-source, methods-source}
 use Rattle.dexspec.proofs.determined.OneRow.{one_string, one_type, one_proto, one_field, one_method}
 use Rattle.dexspec.proofs.wellformed.PoolRows.{AreStrings, string_before}
 

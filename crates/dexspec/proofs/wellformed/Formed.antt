@@ -2,8 +2,7 @@
 use Rattle.dexspec.proofs.Common.{List, [], ◌∷◌, subst, inl, inr, Contains, Mentions, All-contains}
 use Rattle.dexspec.specs.{Text, IsDescriptor, IsValueType, IsReferenceType, IsClass, PrimitiveType, ClassType, ArrayType, Symbol, TextSymbol, TypeSymbol, ProtoSymbol, FieldSymbol, MethodSymbol, Proto, Field, Method, IsProto, IsField, IsMethod, Definition, mentions, symbols_of, texts_in, types_in, protos_in, fields_in, methods_in, proto_types, IsText, IsSymbol, AreWellFormed}
 use Rattle.dexspec.proofs.lists.Members.{Contains-nil, Contains-first, Contains-later, Contains-cons_cases, Contains-flat_map}
-use Rattle.dexspec.proofs.merge.MentionMembers.{Occurs, texts-source, types-source, protos-source, fields-source, methods-source, type-text, proto-shorty, proto-types, field-class, field-name, field-type, method-class, method-name, method-proto, one_member}
-use Rattle.dexspec.proofs.merge.Growth.{mentions-rising}
+use Rattle.dexspec.proofs.merge.{Occurs, texts-source, types-source, protos-source, fields-source, methods-source, type-text, proto-shorty, proto-types, field-class, field-name, field-type, method-class, method-name, method-proto, one_member, mentions-rising}
 use Rattle.dexspec.proofs.layout.PoolsAreAt.{ArePools}
 
 -- a value type is a descriptor

@@ -1,10 +1,9 @@
 -- Code items of a list of bytes are well formed; so the collection that an accepted file denotes is well formed.
 use Rattle.dexspec.proofs.Common.{◌≡◌, ℕ, ◌+◌, ◌*◌, ◌/◌, ◌%◌, ◌<◌, ◌≤◌, ◌^◌, Bool, true, false, List, [], ◌∷◌, length, drop, nat_abs, All, Option, Some, None, sym, ◌∙◌, subst, arith, inl, inr, if◌then◌else◌, IfSome, IfNone, ℤ, pos, negsuc, ◌<ℤ◌, slice_set, Contains, flat_map, ints, All-take, All-drop, All-set, All-contains, Contains-append_right, Contains-append_cases, Debug, Code}
 use Rattle.dexspec.specs.{OrNone, SomeAt, Sequence, uint_at, ushort_at, Text, AreUnits, Symbol, SymbolRow, Cut, Piece, Instruction, Payload, units_of, DenotesPiece, cut_units, is_wide_index, Operation, StartLocal, StartLocalExtended, SetPrologueEnd, SetEpilogueBegin, SetFile, Special, DebugAt, OperationAt, Catch, Handler, Try, IsStart, AreApart, handlers_of, handlers_weight, most_handlers, code_units, CatchAt, CatchAllAt, HandlerAt, TryAt, TryItemsAt, TriesAt, CodeAt, MethodDef, Body, ClassRow, MakesMethod, declared_methods, Collection, definitions, Denotes, FitsUshort, IsHandlerOf, IsTryOf, IsOperation, IsDebug, IsCodeItem, AreWellFormed, Condition, IsAccepted}
-use Rattle.dexspec.proofs.lists.Members.{Contains-first, Contains-flat_map_source}
+use Rattle.dexspec.proofs.lists.{Contains-first, Contains-flat_map_source, sequence_source}
 use Rattle.dexspec.proofs.written.PlacedBytes.{is_at_within}
 use Rattle.dexspec.proofs.wellformed.Fitting.{zip_source}
-use Rattle.dexspec.proofs.lists.Sources.{sequence_source}
 use Rattle.dexspec.proofs.wellformed.ShortStrings.{ushort_bound, ushorts_bound}
 use Rattle.dexspec.proofs.wellformed.FormedRows.{all_from, uint_bound, length-ushorts_at}
 use Rattle.dexspec.proofs.wellformed.FormedMembers.{members_rise, row_formed}

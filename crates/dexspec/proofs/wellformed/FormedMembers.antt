@@ -1,17 +1,12 @@
 -- The definition of a class row of a list of bytes is well formed, if its code is.
 use Rattle.dexspec.proofs.Common.{◌≡◌, ℕ, ◌+◌, ◌<◌, List, [], ◌∷◌, length, map, All, Option, Some, None, refl, sym, ap, ◌∙◌, subst, arith, inl, inr, Ordering, Less, Equal, IfSome, Contains, AllZip, ordering_then, tied_itself, length-map, All-contains, Contains-append_left, Contains-append_right, Contains-append_cases, ClassData}
 use Rattle.dexspec.specs.{OrNone, Text, text_cmp, IsMemberName, Proto, Field, Method, IsProto, field_cmp, method_cmp, ClassDefs, row_at, FieldRow, MethodRow, NoValues, count_values, Directory, EncodedField, EncodedMethod, no_class_data, IsNextIndex, EncodedFieldsAt, EncodedMethodsAt, ClassDataAt, fields_of, methods_of, ShareNone, FieldDef, MethodDef, Body, ClassRow, StaticValuesAt, field_def, MakesMethod, declared_fields, declared_methods, superclass_idx, interfaces_off, annotations_off, class_data_off, static_values_off, symbols_of, FitsUint, IsCodeItem, IsSet, IsFieldDef, IsMethodDef, field_key, field_key_cmp, method_key, method_key_cmp, IsWellFormed, HasMembers, HasValues, Declares}
-use Rattle.dexspec.proofs.lists.Members.{Contains-nil, Contains-first, Contains-later, Contains-cons_cases}
-use Rattle.dexspec.proofs.lists.InOrder.{Rises, rises-from_Rises}
-use Rattle.dexspec.proofs.merge.Depths.{Contains-map}
-use Rattle.dexspec.proofs.merge.SymbolOrders.{text_total}
-use Rattle.dexspec.proofs.determined.OneRow.{one_or_none}
-use Rattle.dexspec.proofs.determined.OneValue.{one_array}
-use Rattle.dexspec.proofs.determined.OneClass.{HasFewRows}
+use Rattle.dexspec.proofs.lists.{Contains-nil, Contains-first, Contains-later, Contains-cons_cases, Rises, rises-from_Rises, map_source, annotated_source}
+use Rattle.dexspec.proofs.merge.{Contains-map, text_total}
+use Rattle.dexspec.proofs.determined.{one_or_none, one_array, HasFewRows}
 use Rattle.dexspec.proofs.wellformed.PoolRows.{AreStrings, AreTypes}
 use Rattle.dexspec.proofs.wellformed.MemberOrder.{AreProtos, AreFields, AreMethods, fields_rise, methods_rise}
 use Rattle.dexspec.proofs.wellformed.Fitting.{zip_source}
-use Rattle.dexspec.proofs.lists.Sources.{map_source, annotated_source}
 use Rattle.dexspec.proofs.wellformed.SymbolRows.{row_members, row_symbols}
 use Rattle.dexspec.proofs.wellformed.FormedRows.{all_from, length-zip, uint_bound, symbols_formed, texts_formed, superclass_formed, interfaces_formed, interfaces_few}
 use Rattle.dexspec.proofs.wellformed.FormedValues.{HasSets, AreSets, empty_set, empty_list, directory_formed, static_values_formed}

@@ -1,8 +1,7 @@
 -- The rows of strings and of types are in the order of their texts, and a table has few rows.
 use Rattle.dexspec.proofs.Common.{◌≡◌, ℕ, zero, suc, ◌+◌, ◌*◌, ◌<◌, ◌≤◌, List, [], ◌∷◌, refl, sym, subst, arith, inl, inr, Ordering, Less, Equal, Contains, nat_cmp, ordering_then, IsTotalOrder, ranked, cases_lt}
 use Rattle.dexspec.specs.{uint_at, Text, text_cmp, Table, StringIds, TypeIds, ProtoIds, FieldIds, MethodIds, ClassDefs, tables, table_size, table_off, row_size, data_off, header_length, HasSize, HasLengths, AreLaidOut, HasLayout, row_at, StringRow, TypeRow, HasString, HasType}
-use Rattle.dexspec.proofs.lists.Members.{Contains-nil, Contains-cons_cases}
-use Rattle.dexspec.proofs.lists.InOrder.{irreflexive, asymmetric}
+use Rattle.dexspec.proofs.lists.{Contains-nil, Contains-cons_cases, irreflexive, asymmetric}
 use Rattle.dexspec.proofs.merge.SymbolOrders.{text_total}
 use Rattle.dexspec.proofs.determined.OneRow.{one_string, one_type}
 use Rattle.dexspec.proofs.determined.OneClass.{HasFewRows}

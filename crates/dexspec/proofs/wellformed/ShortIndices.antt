@@ -3,10 +3,8 @@
 use Rattle.dexspec.proofs.Common.{◌≡◌, ℕ, ◌+◌, ◌<◌, ◌≤◌, ◌^◌, Bool, true, false, ◌&&◌, cond, List, [], ◌∷◌, length, slice_index, All, Option, Some, None, refl, sym, ap, ◌∙◌, arith, inl, inr, ◌-◌, slice_index_or, if◌then◌else◌, nat_le, nat_lt, option_and_then, Contains, list_all, find, flat_map, cases_lt, leb-true, eq-eqb, ltb-true, Code, Contains-append_left}
 use Rattle.dexspec.specs.{Pool, StringPool, Symbol, TextSymbol, TypeSymbol, ProtoSymbol, FieldSymbol, MethodSymbol, field_cmp, method_cmp, proto_cmp, text_cmp, Opcode, OpcodeRun, opcode_runs, opcode_of, is_in_run, Cut, is_payload_ident, Piece, Instruction, units_of, DenotesPiece, index_pool, is_wide_index, low_byte, cut_units, MethodDef, Definition, declared_methods, mentions, piece_symbols, IsCodeItem, greatest_caps, Fits, symbol_index}
 use Rattle.dexspec.specs.internal.IndexPlaces.{IndexFits}
-use Rattle.dexspec.proofs.lists.Members.{and_first, and_second, Contains-first, Contains-flat_map}
-use Rattle.dexspec.proofs.lists.InOrder.{rank-place}
-use Rattle.dexspec.proofs.merge.SymbolOrders.{text_total, proto_total, field_total, method_total}
-use Rattle.dexspec.proofs.merge.Growth.{mentions-rising}
+use Rattle.dexspec.proofs.lists.{and_first, and_second, Contains-first, Contains-flat_map, rank-place}
+use Rattle.dexspec.proofs.merge.{text_total, proto_total, field_total, method_total, mentions-rising}
 use Rattle.dexspec.proofs.wellformed.FormedRows.{all_from}
 use Rattle.dexspec.proofs.wellformed.Fitting.{zip_source}
 use Rattle.dexspec.proofs.wellformed.Blanked.{IsZero, zeroed}

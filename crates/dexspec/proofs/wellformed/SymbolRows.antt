@@ -1,11 +1,9 @@
 -- Each symbol of a class row's definition has a row of its pool.
 use Rattle.dexspec.proofs.Common.{◌≡◌, ℕ, ◌+◌, ◌*◌, List, [], ◌∷◌, ◌++◌, map, Option, Some, None, option_to_list, sym, subst, inl, inr, Contains, flat_map, All-contains, Contains-append_left, Contains-append_right, Contains-append_cases, Debug, Code, Values, ClassData}
 use Rattle.dexspec.specs.{OrNone, SomeAt, BothOrNone, uint_at, ushort_at, uints_at, Text, Field, Method, Symbol, TextSymbol, TypeSymbol, FieldSymbol, MethodSymbol, field_cmp, method_cmp, StringRow, TypeRow, FieldRow, MethodRow, SymbolRow, type_indices, Cut, Piece, Instruction, DenotesPiece, cut_units, index_in, Operation, AdvancePc, AdvanceLine, StartLocal, StartLocalExtended, EndLocal, RestartLocal, SetPrologueEnd, SetEpilogueBegin, SetFile, Special, DebugAt, OptionalTextAt, OptionalTypeAt, OperationAt, Catch, Handler, Try, same_handler, handlers_of, code_units, CatchAt, HandlerAt, TryAt, TryItemsAt, TriesAt, CodeAt, Value, StringValue, TypeValue, FieldValue, MethodValue, EnumValue, ArrayValue, AnnotationValue, NoValues, ThenValue, Elements, NoElements, ThenElement, ValueAt, ValuesAt, ElementsAt, Annotation, AnnotationSet, AnnotationAt, SetAt, RefListAt, Directory, no_directory, DirectoryAt, PairAt, pairs_at, fields_count, methods_count, parameters_count, annotated, EncodedField, EncodedMethod, no_class_data, ClassDataAt, fields_of, methods_of, BelongTo, FieldDef, MethodDef, Body, ClassRow, ClassTypeRow, ClassListAt, IndexOrNone, StaticValuesAt, superclass_idx, interfaces_off, source_file_idx, annotations_off, class_data_off, static_values_off, class_idx, field_def, MakesMethod, declared_fields, declared_methods, optional_text, optional_type, piece_symbols, operation_symbols, debug_symbols, handler_symbols, code_symbols, value_symbols, values_symbols, elements_symbols, annotation_symbols, set_symbols, field_of, method_of, field_symbols, method_symbols, symbols_of, HasMembers}
-use Rattle.dexspec.proofs.lists.Members.{Contains-nil, Contains-first, Contains-cons_cases, Contains-flat_map_source}
-use Rattle.dexspec.proofs.determined.OneRow.{one_type}
-use Rattle.dexspec.proofs.determined.OneClass.{HasFewRows, one_row_data}
+use Rattle.dexspec.proofs.lists.{Contains-nil, Contains-first, Contains-cons_cases, Contains-flat_map_source, sequence_source, map_source, distinct_source, annotated_source, field_source, method_source}
+use Rattle.dexspec.proofs.determined.{one_type, HasFewRows, one_row_data}
 use Rattle.dexspec.proofs.wellformed.Fitting.{HasRow, HaveRows, zip_source}
-use Rattle.dexspec.proofs.lists.Sources.{sequence_source, map_source, distinct_source, annotated_source, field_source, method_source}
 
 module _ (b : List ℕ) where
   -- ---- lists of symbols

@@ -2,9 +2,8 @@
 use Rattle.dexspec.proofs.Common.{◌≡◌, ◌≢◌, ℕ, ◌+◌, ◌*◌, ◌%◌, ◌<◌, ◌≤◌, ◌^◌, ◌&&◌, List, [], ◌∷◌, ◌++◌, length, nat_abs, All, Option, Some, None, refl, sym, ap, ◌∙◌, subst, arith, inl, inr, length-append, if◌then◌else◌, ◌==◌, pos, IfSome, Contains, flat_map, int_eq, signed_Decides, not, slice_index, map, option_to_list, AllZip, cases_lt, cond-true, cond-false, ne_eqb, Decides-eqb, append_assoc, flat_map-append, All-contains, Contains-append_left, All-head, All-tail, Debug, Code, Mentions}
 use Rattle.dexspec.specs.{SymbolRow, OrNone, SomeAt, Sequence, ushort, uint, uint_at, ushort_at, ushorts_at, BytesAt, uleb128, AreUnits, data_off, Cut, IsCode, is_payload_ident, Piece, units_of, DenotesPiece, cut_units, DebugAt, Catch, Handler, Try, IsStart, AreApart, same_handler, handlers_of, handlers_weight, code_units, RegistersAt, HandlerAt, TryAt, TryItemsAt, TriesAt, CodeAt, piece_symbols, handler_symbols, debug_symbols, code_symbols, piece_units, handler_bytes, handler_off, try_bytes, handler_list_bytes, tries_bytes, code_bytes, IsHandlerOf, IsTryOf, IsCodeItem}
 use Rattle.dexspec.specs.internal.IndexPlaces.{IndexFits}
-use Rattle.dexspec.proofs.lists.Members.{and_first, Contains-flat_map, list_any-source}
+use Rattle.dexspec.proofs.lists.{and_first, Contains-flat_map, list_any-source, map_source, distinct_source, distinct_has}
 use Rattle.dexspec.proofs.merge.Depths.{Contains-map}
-use Rattle.dexspec.proofs.lists.Sources.{map_source, distinct_source}
 use Rattle.dexspec.proofs.written.PlacedBytes.{is_at_within, is_at, length_rows}
 use Rattle.dexspec.proofs.numbers.ByteNumbers.{length-ushort, length-uint, ushort_at-encodes, uint_at-encodes}
 use Rattle.dexspec.proofs.wellformed.FormedRows.{all_from}
@@ -12,7 +11,6 @@ use Rattle.dexspec.proofs.size.SizeCode.{handler_list_bytes-size, handler_off-si
 use Rattle.dexspec.proofs.written.NumbersWritten.{prefix_is_at, suffix_is_at, uleb128_written, AreInRows, prefix_in_rows, back_in_rows}
 use Rattle.dexspec.proofs.written.DebugWritten.{sequence_of}
 use Rattle.dexspec.proofs.written.HandlersWritten.{handler_written}
-use Rattle.dexspec.proofs.lists.Distinct.{distinct_has}
 use Rattle.dexspec.proofs.written.HandlerPlaces.{handler_decides, handler_place, handlers_few, catches_few}
 use Rattle.dexspec.proofs.wellformed.FilledCode.{FilledCode, filled_code, filled_units}
 

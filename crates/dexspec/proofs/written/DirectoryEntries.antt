@@ -5,9 +5,8 @@ use Rattle.std.specs.FinMap.{IsAntisymmetric, nat_cmp-IsAntisymmetric}
 use Rattle.std.specs.FinMap.Entries.{by_order, put, find, find-put}
 use Rattle.dexspec.specs.{AreDistinct, rises, in_order, add_in_order, PairAt, annotated, pair_cmp, pairs}
 use Rattle.dexspec.specs.internal.OwnDirectories.{BytesIfSome, entries_of}
-use Rattle.dexspec.proofs.lists.Members.{Contains-nil, Contains-first, Contains-later, Contains-cons_cases, AreDistinct-first, AreDistinct-rest}
+use Rattle.dexspec.proofs.lists.{Contains-nil, Contains-first, Contains-later, Contains-cons_cases, AreDistinct-first, AreDistinct-rest, rises-in_order}
 use Rattle.dexspec.proofs.merge.Depths.{Contains-map}
-use Rattle.dexspec.proofs.lists.InOrder.{rises-in_order}
 use Rattle.dexspec.proofs.written.DirectoriesWritten.{ArePairs}
 
 -- ---- entries

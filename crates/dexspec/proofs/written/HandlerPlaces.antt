@@ -1,8 +1,7 @@
 -- The handlers of tries: the tests decide equality, and each handler begins at its offset.
 use Rattle.dexspec.proofs.Common.{◌≡◌, ℕ, ◌+◌, ◌*◌, ◌≤◌, Bool, true, false, List, [], ◌∷◌, ◌++◌, length, Option, refl, sym, ap, ◌∙◌, subst, arith, inl, inr, sum_by, if◌then◌else◌, ◌==◌, Decides, Contains, flat_map, option_eq, pointwise, eqb-true, Decides-eqb, slice_eq-Decides, length-append, sum_by-cons, get_or-le-sum_by, Mentions}
 use Rattle.dexspec.specs.{same_text, Catch, Handler, same_catch, same_handler, handler_bytes, handler_off}
-use Rattle.dexspec.proofs.lists.Equality.{options_decide, text_decides}
-use Rattle.dexspec.proofs.lists.Members.{and_first, and_second, and_both, Contains-nil, Contains-cons_cases}
+use Rattle.dexspec.proofs.lists.{options_decide, text_decides, and_first, and_second, and_both, Contains-nil, Contains-cons_cases}
 
 -- ---- equal handlers
 

@@ -1,8 +1,7 @@
 -- Values and annotations are at the offset of their canonical bytes, if each symbol is in the row of its index.
 use Rattle.dexspec.proofs.Common.{◌≡◌, ℕ, ◌+◌, ◌-◌, ◌*◌, ◌/◌, ◌^◌, ◌<◌, ◌≤◌, List, [], ◌++◌, length, refl, subst, arith, ℤ, pos, negsuc, true, false, FitsSigned, IsTrue, w8, w16, w32, ints, length-append, Values, Mentions}
 use Rattle.dexspec.specs.{rises, BytesAt, magnitude, uleb128, Text, text_cmp, TextSymbol, TypeSymbol, FieldSymbol, MethodSymbol, data_off, StringRow, TypeRow, FieldRow, MethodRow, Value, ByteValue, ShortValue, CharValue, IntValue, LongValue, FloatValue, DoubleValue, StringValue, TypeValue, FieldValue, MethodValue, EnumValue, ArrayValue, AnnotationValue, NullValue, BooleanValue, NoValues, ThenValue, Elements, NoElements, ThenElement, count_values, names_of, value_byte, SignedAt, UnsignedAt, BitsAt, IndexAt, ArrayAround, AnnotationAround, ValueAt, ValuesAt, ElementsAt, EncodedArrayAt, Annotation, AnnotationAt, value_symbols, values_symbols, elements_symbols, annotation_symbols, text_index, type_index, field_index, method_index, unsigned_width, signed_width, bits_width, complement, unsigned_bytes, signed_bytes, bits_bytes, value_bytes, values_bytes, elements_bytes, encoded_array_bytes, annotation_bytes, IsValue, AreValues, AreElements, IsAnnotation}
-use Rattle.dexspec.proofs.numbers.ByteNumbers.{length-bytes_of, fits_64}
-use Rattle.dexspec.proofs.numbers.Widths.{unsigned_at, signed_at, bits_at}
+use Rattle.dexspec.proofs.numbers.{length-bytes_of, fits_64, unsigned_at, signed_at, bits_at}
 use Rattle.dexspec.proofs.written.NumbersWritten.{prefix_is_at, suffix_is_at, head_is_at, tail_is_at, uleb128_written, AreInRows, first_in_row, rest_in_rows, prefix_in_rows, back_in_rows}
 
 -- ---- signed numbers fit their widths

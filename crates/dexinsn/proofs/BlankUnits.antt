@@ -1,16 +1,8 @@
 -- The units of pieces with zeros for the numbers, one by one.
-use Rattle.std.proofs.Common.{◌≡◌, ℕ, zero, suc, ◌+◌, ◌-◌, ◌<◌, ◌≤◌, ◌==◌, ◌&&◌, ◌||◌, Bool, true, false, cond, List, [], ◌∷◌, ◌++◌, length, drop, take, map, get_or, slice_index, slice_set, Option, Some, None, inl, inr, refl, ap, sym, ◌∙◌, subst, arith, eq-eqb, ne_eqb, length-drop}
-use Rattle.std.specs.List.{Any, flat_map, list_any}
-use Rattle.std.specs.List.Sorted.{IsNonDecreasingBy}
-use Rattle.std.proofs.lemmas.Bool.{cases_eq, cases_lt}
-use Rattle.std.proofs.lemmas.List.{get_or-take, get_or-drop, get_or_append_left, get_or-append_right, length-take-le}
-use Rattle.std.proofs.lemmas.List.Folds.{list_any_at, Any-from_list_any}
-use Rattle.dexspec.specs.Symbols.{Pool}
-use Rattle.dexspec.specs.Pieces.{index_pool, is_payload_ident, is_wide_index, with_index}
+use Rattle.dexinsn.proofs.Common.{◌≡◌, ℕ, zero, suc, ◌+◌, ◌-◌, ◌<◌, ◌≤◌, ◌==◌, ◌&&◌, ◌||◌, Bool, true, false, cond, List, [], ◌∷◌, ◌++◌, length, drop, take, map, get_or, slice_index, slice_set, Option, Some, None, inl, inr, refl, ap, sym, ◌∙◌, subst, arith, eq-eqb, ne_eqb, length-drop, Any, flat_map, list_any, IsNonDecreasingBy, cases_eq, cases_lt, get_or-take, get_or-drop, get_or_append_left, get_or-append_right, length-take-le, list_any_at, Any-from_list_any, Pool, index_pool, is_payload_ident, is_wide_index, with_index}
 use Rattle.dexinsn.specs.declared.pieces.Index.{Index}
-use Rattle.dexinsn.specs.Numbered.{Instruction, Payload, numbered_units}
-use Rattle.dexinsn.specs.Blank.{IsCountBefore, Rise, blank_units, covers}
-use Rattle.dexinsn.specs.Stored.{AreStored, Follow, after_index, cuts_in, index_units, left_by, parts_in, piece_with, pieces_with, spelled_from}
+use Rattle.dexinsn.specs.{Instruction, numbered_units, IsCountBefore, Rise, blank_units, covers, AreStored, Follow, after_index, cuts_in, index_units, left_by, parts_in, piece_with, pieces_with, spelled_from}
+use Rattle.dexinsn.specs.Numbered.{Payload}
 use Rattle.dexinsn.proofs.PutUnits.{spelled_all, stored_follow}
 use Rattle.dexinsn.proofs.StartBits.{same_test}
 use Rattle.dexinsn.proofs.StoredRead.{first_kept, same_wide}

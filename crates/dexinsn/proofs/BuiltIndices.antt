@@ -1,19 +1,8 @@
 -- Indices that are built from units that are checked.
-use Rattle.std.proofs.Common.{◌≡◌, ℕ, ◌+◌, ◌*◌, ◌<◌, ◌≤◌, true, false, List, [], ◌∷◌, ◌++◌, length, drop, take, Option, Some, None, refl, ap, sym, ◌∙◌, subst, arith, length-drop, zero-add}
-use Rattle.std.specs.List.{All}
-use Rattle.std.specs.Option.{IsSome, is_some, option_map}
-use Rattle.std.proofs.lemmas.List.{append_assoc, drop-drop, length-append}
-use Rattle.dexspec.specs.Mentions.{Mentions}
-use Rattle.dexspec.specs.Sections.{IsInData}
-use Rattle.dexspec.specs.Symbols.{Pool}
-use Rattle.dexspec.specs.Pieces.{Cut, AreCut, index_in, index_pool, piece_size}
+use Rattle.dexinsn.proofs.Common.{◌≡◌, ℕ, ◌+◌, ◌*◌, ◌<◌, ◌≤◌, true, false, List, [], ◌∷◌, ◌++◌, length, drop, take, Option, Some, None, refl, ap, sym, ◌∙◌, subst, arith, length-drop, zero-add, All, IsSome, is_some, option_map, append_assoc, drop-drop, length-append, Mentions, IsInData, Pool, Cut, AreCut, index_in, index_pool, piece_size}
 use Rattle.dexinsn.specs.declared.pieces.Index.{Index}
 use Rattle.dexinsn.specs.declared.shape.PiecesShape.{PiecesShape}
-use Rattle.dexinsn.specs.Units.{units_in}
-use Rattle.dexinsn.specs.Numbered.{kind_of_pool}
-use Rattle.dexinsn.specs.Stored.{FitsAt}
-use Rattle.dexinsn.specs.Reading.{AreCodeIndices, AreUnitsAt, indices_at, with_index_at}
-use Rattle.dexinsn.specs.Checking.{AreTheIndices, HaveIndices, IsChecked, IsShapeAt}
+use Rattle.dexinsn.specs.{units_in, kind_of_pool, FitsAt, AreCodeIndices, AreUnitsAt, indices_at, with_index_at, AreTheIndices, HaveIndices, IsChecked, IsShapeAt}
 use Rattle.dexinsn.proofs.CodeRead.{units_there}
 use Rattle.dexinsn.proofs.Halves.{uint_after}
 use Rattle.dexinsn.proofs.Passed.{same_cuts}

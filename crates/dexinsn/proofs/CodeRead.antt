@@ -1,13 +1,7 @@
 -- The units of a code_item, and that they are code.
-use Rattle.std.proofs.Common.{◌≡◌, ℕ, ◌+◌, ◌*◌, ◌%◌, ◌^◌, ◌<◌, ◌≤◌, List, length, drop, take, Ok, Err, ap, sym, ◌∙◌, subst, arith}
-use Rattle.std.proofs.lemmas.List.{drop-drop}
-use Rattle.dexspec.specs.Bytes.{uint_at, ushorts_at}
-use Rattle.dexspec.specs.Sections.{IsInData}
-use Rattle.dexspec.specs.Pieces.{Cut, IsCode}
-use Rattle.dexinsn.specs.Split.{BreaksAt}
+use Rattle.dexinsn.proofs.Common.{◌≡◌, ℕ, ◌+◌, ◌*◌, ◌%◌, ◌^◌, ◌<◌, ◌≤◌, List, length, drop, take, Ok, Err, ap, sym, ◌∙◌, subst, arith, drop-drop, uint_at, ushorts_at, IsInData, Cut, IsCode}
+use Rattle.dexinsn.specs.{BreaksAt, units_in, HasCodeRoom, AreUnitsAt}
 use Rattle.dexinsn.specs.declared.code.SplitFault.TheVariants.{Piece}
-use Rattle.dexinsn.specs.Units.{units_in}
-use Rattle.dexinsn.specs.Reading.{HasCodeRoom, AreUnitsAt}
 use Rattle.dexinsn.proofs.Halves.{uint_after, units_of_part}
 use Rattle.dexinsn.proofs.Once.{result_once}
 

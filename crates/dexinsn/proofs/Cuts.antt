@@ -1,9 +1,7 @@
 -- Cutting on by one piece.
-use Rattle.std.proofs.Common.{◌≡◌, ℕ, ◌+◌, List, [], ◌∷◌, ◌++◌, drop, Some, ap, sym, ◌∙◌, arith}
-use Rattle.std.proofs.lemmas.List.{map-append}
-use Rattle.dexspec.specs.Pieces.{Cut, AreCut, piece_size}
+use Rattle.dexinsn.proofs.Common.{◌≡◌, ℕ, ◌+◌, List, [], ◌∷◌, ◌++◌, drop, Some, ap, sym, ◌∙◌, arith, map-append, Cut, AreCut, piece_size}
 use Rattle.dexinsn.specs.declared.code.Cut.{Cut as CutOfCode}
-use Rattle.dexinsn.specs.Split.{cut_of, cuts_of, units_of_all}
+use Rattle.dexinsn.specs.{cut_of, cuts_of, units_of_all}
 
 pub AreCut-push : (at : ℕ) (us rest : List ℕ) (cs : List Cut) (c : Cut) → AreCut at us cs rest → at + units_of_all cs ≡ c.unit → piece_size c.unit rest ≡ Some c.units → AreCut at us (cs ++ c ∷ []) (drop c.units rest)
 AreCut-push at us rest [] c cut reached is =

@@ -1,28 +1,12 @@
 -- Remapped numbers fit their places.
-use Rattle.std.proofs.Common.{◌≡◌, ℕ, ◌+◌, ◌^◌, ◌<◌, ◌≤◌, max, nat_lt, ◌==◌, Bool, true, false, not, ◌&&◌, ◌||◌, cond, if◌then◌else◌, replicate, List, [], ◌∷◌, ◌++◌, length, take, drop, map, get_or, slice_index, Option, Some, None, inl, inr, refl, ap, sym, ◌∙◌, subst, arith, zero-add}
-use Rattle.std.specs.List.{All, Contains, flat_map, range_with_len}
-use Rattle.std.specs.Option.{IsSome, option_and_then, option_map_or}
-use Rattle.std.proofs.lemmas.Bool.{ltb-true, ltb-false, eqb-true, and_parts}
-use Rattle.std.proofs.lemmas.List.{take_more, append-nil, get_or-replicate}
-use Rattle.std.proofs.lemmas.List.FromFn.{get_or-map-range_with_len}
-use Rattle.std.proofs.lemmas.List.Concat.{flat_map-append}
-use Rattle.std.proofs.lemmas.List.Elements.{All-nil, All-cons, All-head, All-tail, All-push, All-weaker, All-get_or, Contains-append_left, Contains-append_right, Contains-append_cases}
-use Rattle.dexspec.specs.Symbols.{Pool, StringPool, TypePool, ProtoPool, FieldPool, MethodPool, Symbol, TextSymbol, TypeSymbol, ProtoSymbol, FieldSymbol, MethodSymbol}
-use Rattle.dexspec.specs.Mentions.{Mentions}
-use Rattle.dexspec.specs.Opcodes.{Opcode, opcode_of, opcode_runs}
-use Rattle.dexspec.specs.Pieces.{Piece, index_pool, is_wide_index, is_payload_ident, low_byte, with_index}
+use Rattle.dexinsn.proofs.Common.{◌≡◌, ℕ, ◌+◌, ◌^◌, ◌<◌, ◌≤◌, max, nat_lt, ◌==◌, Bool, true, false, not, ◌&&◌, ◌||◌, cond, if◌then◌else◌, replicate, List, [], ◌∷◌, ◌++◌, length, take, drop, map, get_or, slice_index, Option, Some, None, inl, inr, refl, ap, sym, ◌∙◌, subst, arith, zero-add, All, Contains, flat_map, range_with_len, IsSome, option_and_then, option_map_or, ltb-true, ltb-false, eqb-true, and_parts, take_more, append-nil, get_or-replicate, get_or-map-range_with_len, flat_map-append, All-nil, All-cons, All-head, All-tail, All-push, All-weaker, All-get_or, Contains-append_left, Contains-append_right, Contains-append_cases, Pool, StringPool, TypePool, ProtoPool, FieldPool, MethodPool, Symbol, TextSymbol, TypeSymbol, ProtoSymbol, FieldSymbol, MethodSymbol, Mentions, Opcode, opcode_of, opcode_runs, Piece, index_pool, is_wide_index, is_payload_ident, low_byte, with_index, Text, SymbolKind, IsAt, Maps, image, image_of, AllMapTo, Use, IsMappedUse}
 use Rattle.dexspec.specs.Pieces as symbolic
-use Rattle.dexspec.specs.Texts.{Text}
 use Rattle.dexspec.proofs.lists.Members.{Contains-nil, Contains-cons_cases, Contains-first, Contains-later}
-use Rattle.dexpool.specs.declared.symbols.SymbolKind.{SymbolKind}
 use Rattle.dexpool.specs.declared.symbols.SymbolKind.TheVariants as kinds
-use Rattle.dexpool.specs.Numberings.{IsAt, Maps, image, image_of, AllMapTo}
 use Rattle.dexpool.specs.Orderly.{KeepOrder, MapsDown}
-use Rattle.dexpool.specs.Uses.{Use, IsMappedUse}
 use Rattle.dexinsn.specs.declared.pieces.Index.{Index}
-use Rattle.dexinsn.specs.Fitting.{is_text, is_short_string, short_number, short_string, short_strings, HasConstString, IsGreatest, short_at, ImagesFit, IsNotTooLarge, MapsShort}
-use Rattle.dexinsn.specs.Numbered.{NumberedPiece, Instruction, Payload, Denotes, Denote, kind_in, kind_of_pool, uses_of, index_room, FitsPlace, FitPlaces, HasImage, HasPlace}
-use Rattle.dexinsn.specs.Stored.{parts_in, piece_with, left_by, pieces_with, AreStored, FitsAt}
+use Rattle.dexinsn.specs.{is_text, is_short_string, short_number, short_string, short_strings, HasConstString, IsGreatest, short_at, ImagesFit, IsNotTooLarge, MapsShort, NumberedPiece, Instruction, Denotes, Denote, kind_in, kind_of_pool, uses_of, index_room, FitsPlace, FitPlaces, HasImage, HasPlace, parts_in, piece_with, left_by, pieces_with, AreStored, FitsAt}
+use Rattle.dexinsn.specs.Numbered.{Payload}
 use Rattle.dexinsn.proofs.Lined.{Heads, Lined, LinedBy, stored_lined, head_kind, head_room, head_wide}
 
 -- ---- images, piece by piece and use by use
@@ -97,10 +81,7 @@ image_by r false kinds.Method i j fit short e = fit.methods_fit i j e
 
 text_image : (r : Maps) (k : SymbolKind) (w : Bool) (i j : ℕ) → (is_text k && not w) ≡ true → image_of r k i ≡ Some j → image r.texts i ≡ Some j
 text_image r kinds.Text w i j is e = e
-text_image r kinds.Typ w i j is e = absurd cc
-text_image r kinds.Proto w i j is e = absurd cc
-text_image r kinds.Field w i j is e = absurd cc
-text_image r kinds.Method w i j is e = absurd cc
+text_image r _ w i j is e = absurd cc
 
 first_short : (b : Bool) (n : ℕ) (ns : List ℕ) → b ≡ true → Contains ((if b then n ∷ [] else []) ++ ns) n
 first_short true n ns is = Contains-first n ns
@@ -122,10 +103,7 @@ joined_places r (p ∷ ps) fit short images =
 -- the number of a short string has an image if each symbol has one
 text_remapped : (r : Maps) (k : SymbolKind) (w : Bool) (i : ℕ) → (is_text k && not w) ≡ true → IsSome (image_of r k i) → IsSome (image r.texts i)
 text_remapped r kinds.Text w i is some = some
-text_remapped r kinds.Typ w i is some = absurd cc
-text_remapped r kinds.Proto w i is some = absurd cc
-text_remapped r kinds.Field w i is some = absurd cc
-text_remapped r kinds.Method w i is some = absurd cc
+text_remapped r _ w i is some = absurd cc
 
 short_is : (b : Bool) (n k : ℕ) → Contains (if b then n ∷ [] else []) k → (b ≡ true) × (n ≡ k)
 short_is true n k c = elim (Contains-cons_cases n k [] c) [

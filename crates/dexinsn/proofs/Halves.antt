@@ -1,9 +1,6 @@
 -- Units that bytes encode, two for each.
-use Rattle.std.proofs.Common.{◌≡◌, ℕ, zero, suc, ◌+◌, ◌-◌, ◌*◌, ◌/◌, ◌<◌, ◌≤◌, List, ◌∷◌, length, take, drop, slice_index, refl, sym, ap, ◌∙◌, arith, length-drop}
-use Rattle.std.proofs.lemmas.List.{drop-drop, drop-take, take-take, length-take-le}
-use Rattle.dexspec.specs.Bytes.{number_of, ushort_at, ushorts_at, uint_at}
-use Rattle.dexspec.proofs.wellformed.FormedRows.{length-ushorts_at}
-use Rattle.dexinsn.specs.Units.{units_in}
+use Rattle.dexinsn.proofs.Common.{◌≡◌, ℕ, zero, suc, ◌+◌, ◌-◌, ◌*◌, ◌/◌, ◌<◌, ◌≤◌, List, ◌∷◌, length, take, drop, slice_index, refl, sym, ap, ◌∙◌, arith, length-drop, drop-drop, drop-take, take-take, length-take-le, number_of, ushort_at, ushorts_at, uint_at, length-ushorts_at}
+use Rattle.dexinsn.specs.{units_in}
 
 -- the unit at a place
 unit_at : (b : List ℕ) (o n i : ℕ) → i < n → slice_index (ushorts_at b o n) i ≡ ushort_at b (o + 2 * i)

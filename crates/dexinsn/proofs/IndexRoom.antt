@@ -1,13 +1,5 @@
 -- An instruction with an index has room for it.
-use Rattle.std.proofs.Common.{◌≡◌, ℕ, ◌+◌, ◌-◌, ◌<◌, ◌≤◌, nat_le, Bool, true, false, ◌&&◌, ◌||◌, ◌==◌, cond, List, [], ◌∷◌, length, drop, slice_index, Option, Some, None, inl, inr, refl, ap, sym, ◌∙◌, subst, arith, length-drop}
-use Rattle.std.specs.List.{find, list_all}
-use Rattle.std.specs.Option.{option_map, option_and_then}
-use Rattle.std.proofs.lemmas.Bool.{leb-true, and_parts, eqb-true}
-use Rattle.std.proofs.lemmas.Option.{same_Some}
-use Rattle.dexspec.specs.Symbols.{Pool}
-use Rattle.dexspec.specs.Opcodes.{Opcode, OpcodeRun, Format, units_in, opcode_of, opcode_runs, is_in_run}
-use Rattle.dexspec.specs.Pieces.{piece_size, index_pool, is_wide_index, is_payload_ident, packed_switch_ident, sparse_switch_ident, array_data_ident, low_byte}
-use Rattle.dexspec.proofs.wellformed.Blanked.{InstructionPiece, piece_is}
+use Rattle.dexinsn.proofs.Common.{◌≡◌, ℕ, ◌+◌, ◌-◌, ◌<◌, ◌≤◌, nat_le, Bool, true, false, ◌&&◌, ◌||◌, ◌==◌, cond, List, [], ◌∷◌, length, drop, slice_index, Option, Some, None, inl, inr, refl, ap, sym, ◌∙◌, subst, arith, length-drop, find, list_all, option_map, option_and_then, leb-true, and_parts, eqb-true, same_Some, Pool, Opcode, OpcodeRun, Format, units_in, opcode_of, opcode_runs, is_in_run, piece_size, index_pool, is_wide_index, is_payload_ident, packed_switch_ident, sparse_switch_ident, array_data_ident, low_byte, InstructionPiece, piece_is}
 
 -- what has an index has two units at least
 abbrev is_long : Format → Option Pool → Bool

@@ -1,20 +1,7 @@
 -- The indices of pieces, one after the other.
-use Rattle.std.proofs.Common.{◌≡◌, ℕ, List, [], ◌∷◌, ◌++◌, drop, Option, Some, None, refl, ap, ◌∙◌}
-use Rattle.std.specs.Option.{option_map}
-use Rattle.dexspec.specs.Symbols.{Pool}
-use Rattle.dexspec.specs.Pieces.{Cut, index_pool}
-use Rattle.dexpool.specs.declared.symbols.SymbolKind.{SymbolKind}
+use Rattle.dexinsn.proofs.Common.{◌≡◌, ℕ, List, [], ◌∷◌, ◌++◌, drop, Option, Some, None, refl, ap, ◌∙◌, option_map, Pool, Cut, index_pool, SymbolKind}
 use Rattle.dexinsn.specs.declared.pieces.Index.{Index}
-use Rattle.dexinsn.specs.Numbered.{kind_of_pool}
-use Rattle.dexinsn.specs.Reading.{with_index_at, indices_at}
-
-pub pool_is : (o : Option Pool) (kind : SymbolKind) → Some kind ≡ option_map kind_of_pool o → (pool : Pool) × (o ≡ Some pool) × (kind ≡ kind_of_pool pool)
-pool_is None kind e = absurd cc
-pool_is (Some pool) kind e = (pool, refl, cc)
-
-pub no_pool_is : (o : Option Pool) → None ≡ option_map kind_of_pool o → o ≡ None
-no_pool_is None e = refl
-no_pool_is (Some pool) e = cc
+use Rattle.dexinsn.specs.{kind_of_pool, with_index_at, indices_at}
 
 -- ---- one piece more
 

@@ -1,9 +1,5 @@
 -- Whether the keys of a sparse switch rise, one key after the other.
-use Rattle.std.proofs.Common.{◌≡◌, ℕ, zero, suc, ◌+◌, ◌<◌, ℤ, ◌<ℤ◌, ◌≤ℤ◌, Bool, true, false, ◌&&◌, List, ap, sym, ◌∙◌, arith}
-use Rattle.std.proofs.lemmas.Int.{ints}
-use Rattle.std.specs.Ordering.{int_cmp, is_lt}
-use Rattle.dexspec.specs.Lists.{rises}
-use Rattle.dexspec.specs.Pieces.{int_in, ints_in}
+use Rattle.dexinsn.proofs.Common.{◌≡◌, ℕ, zero, suc, ◌+◌, ◌<◌, ℤ, ◌<ℤ◌, ◌≤ℤ◌, Bool, true, false, ◌&&◌, List, ap, sym, ◌∙◌, arith, ints, int_cmp, is_lt, rises, int_in, ints_in}
 
 -- whether n signed numbers of two units each, from unit i on, rise
 abbrev pub do_rise : List ℕ → ℕ → ℕ → Bool

@@ -1,3 +1,4 @@
+pub mod Common
 pub mod StartsRead
 pub mod SamePieces
 pub mod Listings
@@ -14,7 +15,6 @@ pub mod IndicesRead
 pub mod IndexRoom
 pub mod Halves
 pub mod Table
-pub mod Signed
 pub mod Keys
 pub mod Sizes
 pub mod Cuts

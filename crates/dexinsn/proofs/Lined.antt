@@ -1,18 +1,9 @@
 -- Pieces and the indices beside them, one after the other.
-use Rattle.std.proofs.Common.{get_or, ◌≡◌, ℕ, ◌+◌, ◌-◌, ◌<◌, ◌^◌, Bool, true, false, cond, List, [], ◌∷◌, ◌++◌, length, drop, map, slice_index, Option, Some, None, refl, ap, sym, ◌∙◌, subst, arith, length-drop}
-use Rattle.std.specs.List.{All}
-use Rattle.std.specs.Option.{option_map_or, unwrap_or}
-use Rattle.std.proofs.lemmas.List.{drop-drop, get_or-map, length-map}
-use Rattle.std.proofs.lemmas.List.Elements.{All-cons, All-get_or, All-head, All-nil, All-tail}
-use Rattle.dexspec.specs.Symbols.{Pool}
-use Rattle.dexspec.specs.Pieces.{Cut, AreCut, piece_size, cut_units, index_pool, is_wide_index, is_payload_ident, with_index}
+use Rattle.dexinsn.proofs.Common.{get_or, ◌≡◌, ℕ, ◌+◌, ◌-◌, ◌<◌, ◌^◌, Bool, true, false, cond, List, [], ◌∷◌, ◌++◌, length, drop, map, slice_index, Option, Some, None, refl, ap, sym, ◌∙◌, subst, arith, length-drop, All, option_map_or, unwrap_or, drop-drop, get_or-map, length-map, All-cons, All-get_or, All-head, All-nil, All-tail, Pool, Cut, AreCut, piece_size, cut_units, index_pool, is_wide_index, is_payload_ident, with_index, Maps, image_of, Use}
 use Rattle.dexpool.specs.declared.symbols.SymbolKind.TheVariants as kinds
-use Rattle.dexpool.specs.Numberings.{Maps, image_of}
 use Rattle.dexinsn.specs.declared.pieces.Index.{Index}
-use Rattle.dexinsn.specs.Split.{IsPieceAt}
-use Rattle.dexpool.specs.Uses.{Use}
-use Rattle.dexinsn.specs.Numbered.{NumberedPiece, Instruction, Payload, kind_in, kind_of_pool, index_room, piece_uses, uses_of, HasPlace, renumbered_piece}
-use Rattle.dexinsn.specs.Stored.{cuts_in, parts_in, piece_with, left_by, pieces_with, with_place, index_places, AreStored, FitsAt, use_at, HasPlaceAt, renumbered_index, IsIndexed}
+use Rattle.dexinsn.specs.{IsPieceAt, NumberedPiece, Instruction, kind_in, kind_of_pool, index_room, piece_uses, uses_of, HasPlace, renumbered_piece, cuts_in, parts_in, piece_with, left_by, pieces_with, with_place, index_places, AreStored, FitsAt, use_at, HasPlaceAt, renumbered_index, IsIndexed}
+use Rattle.dexinsn.specs.Numbered.{Payload}
 use Rattle.dexinsn.proofs.IndexRoom.{HasRoom, has_room}
 use Rattle.dexinsn.proofs.StoredRead.{same_pool, same_wide, first_kept, cut_pool, cut_first, cut_length}
 

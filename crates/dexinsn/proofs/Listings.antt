@@ -1,19 +1,11 @@
 -- Pieces listed one by one.
-use Rattle.std.proofs.Common.{◌≡◌, ℕ, ◌+◌, ◌-◌, ◌*◌, ◌/◌, ◌<◌, ◌≤◌, ◌==◌, Bool, true, false, cond, List, [], ◌∷◌, length, drop, take, map, slice_index, Option, Some, None, inl, inr, refl, ap, sym, ◌∙◌, subst, arith, length-drop}
-use Rattle.std.specs.Option.{option_map, option_map_or}
-use Rattle.std.proofs.lemmas.List.{drop-drop, drop_all, get_or-take}
-use Rattle.dexspec.specs.Symbols.{Pool}
-use Rattle.dexspec.specs.Pieces.{Cut, AreCut, piece_size, cut_units, index_pool, is_payload_ident, packed_switch_ident, sparse_switch_ident, array_data_ident, with_index, low_byte}
-use Rattle.dexspec.proofs.wellformed.Blanked.{piece_is, units_by}
-use Rattle.dexpool.specs.declared.symbols.SymbolKind.{SymbolKind}
+use Rattle.dexinsn.proofs.Common.{◌≡◌, ℕ, ◌+◌, ◌-◌, ◌*◌, ◌/◌, ◌<◌, ◌≤◌, ◌==◌, Bool, true, false, cond, List, [], ◌∷◌, length, drop, take, map, slice_index, Option, Some, None, inl, inr, refl, ap, sym, ◌∙◌, subst, arith, length-drop, option_map, option_map_or, drop-drop, drop_all, get_or-take, Pool, Cut, AreCut, piece_size, cut_units, index_pool, is_payload_ident, packed_switch_ident, sparse_switch_ident, array_data_ident, with_index, low_byte, piece_is, units_by, SymbolKind}
 use Rattle.dexpool.specs.declared.symbols.SymbolKind.TheVariants as symbols
 use Rattle.dexinsn.specs.declared.pieces.Index.{Index}
 use Rattle.dexinsn.specs.declared.listing.PieceKind.{PieceKind}
 use Rattle.dexinsn.specs.declared.listing.PieceKind.TheVariants as kinds
-use Rattle.dexinsn.specs.Split.{IsPieceAt}
-use Rattle.dexinsn.specs.Numbered.{Instruction, Payload, kind_in, kind_of_pool}
-use Rattle.dexinsn.specs.Stored.{cuts_from, cuts_in, parts_in, first_number, piece_with, left_by, pieces_with, with_place, index_places, AreStored}
-use Rattle.dexinsn.specs.Listing.{units_of, payload_shown, kind_of, listed, symbol_by, kind_from, listing, IsListing, ListsFirst}
+use Rattle.dexinsn.specs.{IsPieceAt, Instruction, kind_in, kind_of_pool, cuts_from, cuts_in, parts_in, first_number, piece_with, left_by, pieces_with, with_place, index_places, AreStored, units_of, payload_shown, kind_of, listed, symbol_by, kind_from, listing, IsListing, ListsFirst}
+use Rattle.dexinsn.specs.Numbered.{Payload}
 use Rattle.dexinsn.proofs.Sizes.{Fits, piece_size-fits}
 use Rattle.dexinsn.proofs.StoredRead.{cuts_from_is, same_pool, first_kept, cut_pool, cut_length, payload_pool}
 use Rattle.dexinsn.proofs.SamePieces.{left_by_places, length-blank, blank_is}

@@ -1,12 +1,8 @@
 -- The next bit that is set.
-use Rattle.std.proofs.Common.{◌≡◌, ℕ, ◌+◌, ◌-◌, ◌*◌, ◌/◌, ◌%◌, ◌^◌, ◌<◌, ◌≤◌, w64, List, length, slice_index, inl, inr, ap, sym, ◌∙◌, arith}
-use Rattle.std.specs.Int.{bit_at, trailing_zeros}
-use Rattle.std.proofs.lemmas.Bool.{cases_lt}
-use Rattle.std.proofs.lemmas.List.{get_or_past}
-use Rattle.std.proofs.lemmas.Nat.Bits.{bit_at-zero, bit_at_above, bit_at-trailing_zeros}
+use Rattle.dexinsn.proofs.Common.{◌≡◌, ℕ, ◌+◌, ◌-◌, ◌*◌, ◌/◌, ◌%◌, ◌^◌, ◌<◌, ◌≤◌, w64, List, length, slice_index, inl, inr, ap, sym, ◌∙◌, arith, bit_at, trailing_zeros, cases_lt, get_or_past, bit_at-zero, bit_at_above, bit_at-trailing_zeros}
 use Rattle.std.proofs.Math.Nat.{div-le_self}
-use Rattle.dexinsn.specs.internal.LongSwitches.{HasBit}
-use Rattle.dexinsn.specs.Checking.{HasNoBit, IsNextBit}
+use Rattle.dexinsn.specs.internal.{HasBit}
+use Rattle.dexinsn.specs.{HasNoBit, IsNextBit}
 use Rattle.dexinsn.proofs.StartBits.{low_part}
 
 -- no bit is set from one unit up to another

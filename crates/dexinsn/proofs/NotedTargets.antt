@@ -1,57 +1,24 @@
 -- Whether all pieces have valid targets, by those that are noted.
-use Rattle.std.proofs.Common.{◌≡◌, ℕ, ◌+◌, ◌*◌, ◌<◌, ◌==◌, ◌||◌, ◌&&◌, Bool, true, false, List, length, get_or, slice_index, Option, Some, None, refl, ap, sym, ◌∙◌, subst, arith, eq-eqb, eqb-true}
-use Rattle.std.specs.Bool.{IsTrue}
-use Rattle.std.specs.Option.{option_map, option_map_or}
-use Rattle.std.specs.List.{All, Any, list_any}
-use Rattle.std.proofs.lemmas.List.Elements.{All-from_get_or, All-get_or}
-use Rattle.std.proofs.lemmas.List.Folds.{list_any_at, Any-from_list_any}
-use Rattle.dexspec.specs.Opcodes.{Opcode, Format, opcode_of, F10x, F12x, F11n, F11x, F10t, F20t, F22x, F21t, F21s, F21h, F21c, F23x, F22b, F22s, F22t, F22c, F30t, F32x, F31i, F31t, F31c, F35c, F3rc, F51l}
-use Rattle.dexspec.specs.Pieces.{Cut, branch_offset, has_right_targets, is_payload_ident, low_byte}
-use Rattle.dexspec.specs.Mentions.{Mentions}
-use Rattle.dexinsn.specs.internal.LongSwitches.{HasBit}
-use Rattle.dexspec.specs.Bytes.{uint_at}
-use Rattle.dexspec.specs.Code.{RegistersAt}
-use Rattle.dexspec.proofs.wellformed.FormedRows.{length-ushorts_at}
-use Rattle.dexpool.specs.Pools.{ArePools}
+use Rattle.dexinsn.proofs.Common.{◌≡◌, ℕ, ◌+◌, ◌*◌, ◌<◌, ◌==◌, ◌||◌, ◌&&◌, Bool, true, false, List, length, get_or, slice_index, Option, Some, None, refl, ap, sym, ◌∙◌, subst, arith, eq-eqb, eqb-true, IsTrue, option_map, option_map_or, All, Any, list_any, All-from_get_or, All-get_or, list_any_at, Any-from_list_any, Opcode, Format, opcode_of, F10x, F12x, F11n, F11x, F10t, F20t, F22x, F21t, F21s, F21h, F21c, F23x, F22b, F22s, F22t, F22c, F30t, F32x, F31i, F31t, F31c, F35c, F3rc, F51l, Cut, branch_offset, has_right_targets, is_payload_ident, low_byte, Mentions, uint_at, RegistersAt, length-ushorts_at, ArePools}
+use Rattle.dexinsn.specs.internal.{HasBit}
 use Rattle.dexinsn.specs.declared.shape.PiecesShape.{PiecesShape}
-use Rattle.dexinsn.specs.Units.{units_in}
-use Rattle.dexinsn.specs.Stored.{parts_in, pieces_with}
-use Rattle.dexinsn.specs.Reading.{AreCodeIndices, AreUnitsAt, indices_at}
+use Rattle.dexinsn.specs.{units_in, parts_in, pieces_with, AreCodeIndices, AreUnitsAt, indices_at, IsPieceAt, AreBitsOf, AreCodeStarts, AreNoted, ArePassed, AreAllRight, HasTargetsAt, HasNoCode, HasPiecesOf, IsChecked, IsShapeAt, begins_instruction, branches, is_noted, has_targets}
 use Rattle.dexinsn.proofs.StoredRead.{few_units, read_pieces, read_stored}
 use Rattle.dexinsn.proofs.PutUnits.{stored_length}
 use Rattle.dexinsn.proofs.Lined.{count_for}
-use Rattle.dexinsn.specs.Split.{IsPieceAt}
-use Rattle.dexinsn.specs.Checking.{AreBitsOf, AreCodeStarts, AreNoted, ArePassed, AreAllRight, HasTargetsAt, HasNoCode, HasPiecesOf, IsChecked, IsShapeAt, begins_instruction, branches, is_noted, has_targets}
 use Rattle.dexinsn.proofs.RightTargets.{branches-none, right-instruction}
 use Rattle.dexinsn.proofs.Starts.{starts_with-pos, piece_at}
 use Rattle.dexinsn.proofs.Passed.{same_cuts, all_cut}
 
 -- a format that does not branch has no target
 no_offset : (f : Format) (us : List ℕ) (at : ℕ) → branches f ≡ false → None ≡ branch_offset f us at
-no_offset F10x us at e = refl
-no_offset F12x us at e = refl
-no_offset F11n us at e = refl
-no_offset F11x us at e = refl
 no_offset F10t us at e = absurd cc
 no_offset F20t us at e = absurd cc
-no_offset F22x us at e = refl
 no_offset F21t us at e = absurd cc
-no_offset F21s us at e = refl
-no_offset F21h us at e = refl
-no_offset F21c us at e = refl
-no_offset F23x us at e = refl
-no_offset F22b us at e = refl
-no_offset F22s us at e = refl
 no_offset F22t us at e = absurd cc
-no_offset F22c us at e = refl
 no_offset F30t us at e = absurd cc
-no_offset F32x us at e = refl
-no_offset F31i us at e = refl
 no_offset F31t us at e = absurd cc
-no_offset F31c us at e = refl
-no_offset F35c us at e = refl
-no_offset F3rc us at e = refl
-no_offset F51l us at e = refl
+no_offset _ us at e = refl
 
 or_left : (a b : Bool) → (a || b) ≡ false → a ≡ false
 or_left true b e = e

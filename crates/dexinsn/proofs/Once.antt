@@ -1,20 +1,12 @@
 -- Units have one answer only: they are cut in one way, which ends at their end or breaks at one unit.
-use Rattle.std.proofs.Common.{◌≡◌, ◌≢◌, inl, inr, ℕ, ◌+◌, ◌-◌, ◌<◌, ◌≤◌, Bool, not, cond, List, [], ◌∷◌, length, drop, Some, None, Result, Ok, Err, refl, ap, sym, ◌∙◌, subst, arith, add-zero, add_assoc, zero-add, length-drop}
-use Rattle.std.specs.Bool.{IsTrue}
-use Rattle.std.specs.List.{All, find}
-use Rattle.std.specs.Option.{option_map}
-use Rattle.std.proofs.lemmas.List.Elements.{All-head, All-tail}
-use Rattle.std.proofs.lemmas.Option.{same_Some}
-use Rattle.dexspec.specs.Pieces.{Cut, AreCut, IsCode, has_right_targets, piece_size}
-use Rattle.dexinsn.specs.Split.{BreaksAt}
-use Rattle.std.specs.Prelude.{Vec, IfOk, IfErr}
-use Rattle.std.specs.declared.alloc.Global.{Global}
+use Rattle.dexinsn.proofs.Common.{◌≡◌, ◌≢◌, inl, inr, ℕ, ◌+◌, ◌-◌, ◌<◌, ◌≤◌, Bool, not, cond, List, [], ◌∷◌, length, drop, Some, None, Result, Ok, Err, refl, ap, sym, ◌∙◌, subst, arith, add-zero, add_assoc, zero-add, length-drop, IsTrue, All, find, option_map, All-head, All-tail, same_Some, Cut, AreCut, IsCode, has_right_targets, piece_size, Vec, IfOk, Global}
+use Rattle.dexinsn.specs.{BreaksAt, cuts_of, units_of_all, first_bad_target, first_bad_target_of, HasBadTargetAt, IsFault, IsResult, IsReturned}
+use Rattle.std.specs.Prelude.{IfErr}
 use Rattle.dexinsn.specs.declared.code.Cut.{Cut as CutOfCode}
 use Rattle.dexinsn.specs.declared.code.SplitFault.{SplitFault}
 use Rattle.dexinsn.specs.declared.code.SplitFault.TheVariants.{Empty, Piece, Target, Memory}
 use Rattle.dexinsn.specs.declared.code_fault.CodeFault.{CodeFault}
-use Rattle.dexinsn.specs.Split.{cuts_of, units_of_all, first_bad_target, first_bad_target_of, HasBadTargetAt, IsFault, IsResult, IsReturned}
-use Rattle.dexinsn.specs.internal.Splitting.{HasNumbersOf, IsCutFault, IsSplitFault, kind_of, unit_of}
+use Rattle.dexinsn.specs.internal.{HasNumbersOf, IsCutFault, IsSplitFault, kind_of, unit_of}
 use Rattle.dexinsn.proofs.Sizes.{piece_size-fits}
 
 -- the pieces, and what is left, where no piece begins
@@ -164,30 +156,20 @@ result_once us (Ok cs) (Ok ds) x y = ap Ok (whole_once us cs ds x.cut y.cut)
 result_once us (Ok cs) (Err Empty) x y = absurd (empty_code us cs y x)
 result_once us (Ok cs) (Err (Piece n)) x y = absurd (not_both us cs n x.cut y)
 result_once us (Ok cs) (Err (Target n)) x y = absurd (is_no_bad_target us cs n x y)
-result_once us (Ok cs) (Err Memory) x y = absurd y
 result_once us (Err Empty) (Ok ds) x y = absurd (empty_code us ds x y)
 result_once us (Err Empty) (Err Empty) x y = refl
 result_once us (Err Empty) (Err (Piece m)) x y = absurd (empty_breaks us m x y)
 result_once us (Err Empty) (Err (Target m)) x y = absurd (empty_bad_target us m x y)
-result_once us (Err Empty) (Err Memory) x y = absurd y
 result_once us (Err (Piece n)) (Ok ds) x y = absurd (not_both us ds n y.cut x)
 result_once us (Err (Piece n)) (Err Empty) x y = absurd (empty_breaks us n y x)
 result_once us (Err (Piece n)) (Err (Piece m)) x y = ap (λ (k : ℕ). Err (Piece k)) (breaks_once us n m x y)
 result_once us (Err (Piece n)) (Err (Target m)) x y = absurd (not_both us y.cuts n y.cut x)
-result_once us (Err (Piece n)) (Err Memory) x y = absurd y
 result_once us (Err (Target n)) (Ok ds) x y = absurd (is_no_bad_target us ds n y x)
 result_once us (Err (Target n)) (Err Empty) x y = absurd (empty_bad_target us n y x)
 result_once us (Err (Target n)) (Err (Piece m)) x y = absurd (not_both us x.cuts m x.cut y)
 result_once us (Err (Target n)) (Err (Target m)) x y = ap (λ (k : ℕ). Err (Target k)) (bad_target_once us n m x y)
-result_once us (Err (Target n)) (Err Memory) x y = absurd y
 result_once us (Err Memory) b x y = absurd x
-
--- why the units are not cut is why they are no code
-pub cut_fault : (us : List ℕ) (fault : SplitFault) → IsCutFault us fault → IsSplitFault us fault
-cut_fault us Empty is = absurd is
-cut_fault us (Piece n) is = is
-cut_fault us (Target n) is = absurd is
-cut_fault us Memory is = tt
+result_once us _ _ x y = absurd y
 
 -- a fault of these numbers
 pub reported : (us : List ℕ) (named : SplitFault) (fault : CodeFault) → IsSplitFault us named → HasNumbersOf named fault → IsFault us fault

@@ -1,20 +1,7 @@
 -- Units checked in one pass.
-use Rattle.std.proofs.Common.{◌≡◌, ℕ, ◌+◌, ◌-◌, ◌/◌, ◌<◌, ◌≤◌, ◌||◌, ◌&&◌, pos, Bool, true, false, List, [], ◌∷◌, ◌++◌, length, drop, slice_index, replicate, Some, None, inl, inr, refl, ap, sym, ◌∙◌, subst, arith, zero-add, length-drop, length-append}
-use Rattle.std.specs.Prelude.{◌↔◌}
-use Rattle.std.specs.List.{All}
-use Rattle.std.specs.Ordering.{int_eq}
-use Rattle.std.proofs.lemmas.Bool.{cases_eq}
-use Rattle.std.proofs.lemmas.List.{drop-drop, drop_all, length-replicate}
-use Rattle.std.proofs.lemmas.List.Elements.{All-nil, All-push, All-head, All-tail, All-append}
-use Rattle.std.proofs.lemmas.List.Folds.{list_any-append}
-use Rattle.dexspec.specs.Mentions.{Mentions}
-use Rattle.dexspec.specs.Pieces.{Cut, AreCut, index_pool, piece_size}
-use Rattle.dexinsn.specs.Split.{BreaksAt}
-use Rattle.dexinsn.specs.internal.LongSwitches.{HasBit}
-use Rattle.dexinsn.specs.Stored.{FitsAt}
-use Rattle.dexinsn.specs.Reading.{IsInRange, indices_at, with_index_at}
-use Rattle.dexinsn.specs.Split.{IsPieceAt, starts_with, units_of_all}
-use Rattle.dexinsn.specs.Checking.{AreBitsOf, AreCutWith, ArePassed, HasNoCode, HasNoStep, IndexCount, IsOutside, begins_instruction, is_noted}
+use Rattle.dexinsn.proofs.Common.{◌≡◌, ℕ, ◌+◌, ◌-◌, ◌/◌, ◌<◌, ◌≤◌, ◌||◌, ◌&&◌, pos, Bool, true, false, List, [], ◌∷◌, ◌++◌, length, drop, slice_index, replicate, Some, None, inl, inr, refl, ap, sym, ◌∙◌, subst, arith, zero-add, length-drop, length-append, ◌↔◌, All, int_eq, cases_eq, drop-drop, drop_all, length-replicate, All-nil, All-push, All-head, All-tail, All-append, list_any-append, Mentions, Cut, AreCut, index_pool, piece_size}
+use Rattle.dexinsn.specs.{BreaksAt, FitsAt, IsInRange, indices_at, with_index_at, IsPieceAt, starts_with, units_of_all, AreBitsOf, AreCutWith, ArePassed, HasNoCode, HasNoStep, IndexCount, IsOutside, begins_instruction, is_noted}
+use Rattle.dexinsn.specs.internal.{HasBit}
 use Rattle.dexinsn.proofs.Cuts.{AreCut-push, units_of_all-push}
 use Rattle.dexinsn.proofs.CodeRead.{broken_is_none}
 use Rattle.dexinsn.proofs.IndicesRead.{indices_push}
@@ -87,21 +74,6 @@ next_in P a us rest (c ∷ cs) (d ∷ ds) e f some all =
     let found = next_in P (a + c.units) (drop c.units us) rest cs ds e.2 later some (All-tail P d ds all) in
     (found.0, omega (arith, found.1), found.2)
 
-pub none_passed : (us : List ℕ) (m : Mentions) (starts noted : List ℕ) → AreBitsOf begins_instruction us [] starts → AreBitsOf is_noted us [] noted → ArePassed us m starts noted 0 0
-none_passed us m starts noted s n = record {
-  cuts = [];
-  cut = refl;
-  reached = refl;
-  within = omega arith;
-  pieces = All-nil (IsPieceAt us);
-  in_range = All-nil (IsInRange us m);
-  counted = refl;
-  few = omega arith;
-  fit = All-nil (FitsAt us);
-  starts_are = s;
-  noted_are = n;
-}
-
 -- a piece more
 pub one_passed : (us : List ℕ) (m : Mentions) (starts noted news newn : List ℕ) (at indices size count : ℕ) → ArePassed us m starts noted at indices → at < length us → piece_size at (drop at us) ≡ Some size → 0 < size → IndexCount us m at count
     → ((cs : List Cut) (n : ℕ) → AreBitsOf begins_instruction us cs starts → AreBitsOf begins_instruction us (cs ++ record { unit = at; units = n } ∷ []) news)
@@ -160,16 +132,6 @@ none_bits test us words n room is = subst (AreBitsOf test us []) (sym is) record
 }
 
 -- ---- cuts that are kept
-
-pub none_cut : (us starts noted : List ℕ) → AreBitsOf begins_instruction us [] starts → AreBitsOf is_noted us [] noted → AreCutWith us [] starts noted 0
-none_cut us starts noted s n = record {
-  cut = refl;
-  reached = refl;
-  within = omega arith;
-  pieces = All-nil (IsPieceAt us);
-  starts_are = s;
-  noted_are = n;
-}
 
 -- a piece more is cut off
 pub one_cut_more : (us : List ℕ) (cs : List Cut) (starts noted news newn : List ℕ) (at size : ℕ) → AreCutWith us cs starts noted at → at < length us → piece_size at (drop at us) ≡ Some size

@@ -1,31 +1,13 @@
 -- Places by their bits.
-use Rattle.std.proofs.Common.{◌≡◌, ℕ, ◌/◌, ◌%◌, ◌^◌, ◌≤◌, ◌==◌, ◌||◌, ◌&&◌, ℤ, pos, ◌<ℤ◌, Bool, true, false, List, length, slice_index, Option, Some, None, refl, ap, sym, ◌∙◌, subst, arith, eqb-true}
-use lib.IntN.{negsuc, nat_abs}
-use Rattle.std.specs.Prelude.{◌↔◌}
-use Rattle.std.specs.List.{list_any}
-use Rattle.std.specs.Option.{IsSome}
-use Rattle.std.specs.Int.{bit_at}
-use Rattle.std.proofs.lemmas.Int.{ints}
-use Rattle.std.proofs.lemmas.List.{get_or_past}
-use Rattle.std.proofs.lemmas.Nat.Bits.{bit_at-zero}
-use Rattle.dexspec.specs.Pieces.{Cut, is_payload_ident}
-use Rattle.dexspec.specs.Opcodes.{F31t}
+use Rattle.dexinsn.proofs.Common.{◌≡◌, ℕ, ◌/◌, ◌%◌, ◌^◌, ◌≤◌, ◌==◌, ◌||◌, ◌&&◌, ℤ, pos, ◌<ℤ◌, Bool, true, false, List, length, slice_index, Option, Some, None, refl, ap, sym, ◌∙◌, subst, arith, eqb-true, negsuc, nat_abs, ◌↔◌, list_any, IsSome, bit_at, ints, get_or_past, bit_at-zero, Cut, is_payload_ident, F31t}
 use Rattle.dexinsn.specs.declared.format.Format.{Format}
 use Rattle.dexinsn.specs.declared.format.Format.TheVariants.{Format10x, Format12x, Format11n, Format11x, Format10t, Format20t, Format22x, Format21t, Format21s, Format21h, Format21c, Format23x, Format22b, Format22s, Format22t, Format22c, Format30t, Format32x, Format31i, Format31t, Format31c, Format35c, Format3rc, Format51l}
-use Rattle.dexinsn.specs.Opcode.{format_of}
+use Rattle.dexinsn.specs.{format_of, ident_of, starts_with, AreBitsOf, is_noted, has_targets}
 use Rattle.dexinsn.specs.declared.payload.PayloadKind.{PayloadKind}
 use Rattle.dexinsn.specs.declared.payload.PayloadKind.TheVariants.{PackedSwitch, SparseSwitch, ArrayData}
-use Rattle.dexinsn.specs.Payload.{ident_of}
-use Rattle.dexinsn.specs.internal.LongSwitches.{HasBit, HasPlace}
-use Rattle.dexinsn.specs.Split.{starts_with}
-use Rattle.dexinsn.specs.Checking.{AreBitsOf, is_noted, has_targets}
+use Rattle.dexinsn.specs.internal.{HasBit, HasPlace}
 use Rattle.dexinsn.proofs.StartBits.{same_test}
 use Rattle.dexinsn.proofs.Starts.{starts_with-negsuc, starts_with-pos}
-
--- no place is below 0
-pub no_place_below : (words : List ℕ) (z : ℤ) → z <ℤ pos 0 → HasPlace words z → ⊥
-no_place_below words (pos n) below h = omega (arith, ints)
-no_place_below words (negsuc n) below h = h
 
 -- nor is one after the words
 pub no_bit_past : (words : List ℕ) (unit : ℕ) → length words ≤ unit / 64 → HasBit words unit → ⊥
@@ -92,35 +74,12 @@ pub format_switch : (f : Format) → f ≡ Format31t → format_of f ≡ F31t
 format_switch f is = ap format_of is
 
 pub format_other : (f : Format) → (f ≡ Format31t → ⊥) → format_of f ≡ F31t → ⊥
-format_other Format10x other e = cc
-format_other Format12x other e = cc
-format_other Format11n other e = cc
-format_other Format11x other e = cc
-format_other Format10t other e = cc
-format_other Format20t other e = cc
-format_other Format22x other e = cc
-format_other Format21t other e = cc
-format_other Format21s other e = cc
-format_other Format21h other e = cc
-format_other Format21c other e = cc
-format_other Format23x other e = cc
-format_other Format22b other e = cc
-format_other Format22s other e = cc
-format_other Format22t other e = cc
-format_other Format22c other e = cc
-format_other Format30t other e = cc
-format_other Format32x other e = cc
-format_other Format31i other e = cc
 format_other Format31t other e = other refl
-format_other Format31c other e = cc
-format_other Format35c other e = cc
-format_other Format3rc other e = cc
-format_other Format51l other e = cc
+format_other _ other e = cc
 
 pub ident_begins : (kind : PayloadKind) → is_payload_ident (ident_of kind) ≡ true
 ident_begins PackedSwitch = refl
-ident_begins SparseSwitch = refl
-ident_begins ArrayData = refl
+ident_begins _ = refl
 
 -- a place with a bit is a unit
 pub at_place : (words : List ℕ) (z : ℤ) → HasPlace words z → z ≡ pos (nat_abs z)

@@ -1,22 +1,6 @@
 -- Instructions with no index or one of 16 bits, found by their first unit and the row of their opcode.
-use Rattle.std.proofs.Common.{◌≡◌, ℕ, ◌+◌, ◌-◌, ◌/◌, ◌%◌, ◌^◌, ◌<◌, ◌≤◌, ◌==◌, ◌&&◌, ◌||◌, nat_le, Bool, true, false, cond, List, [], length, drop, slice_index, Option, Some, None, refl, ap, sym, ◌∙◌, subst, arith, add-zero, length-drop}
-use Rattle.std.specs.List.{All}
-use Rattle.std.specs.Prelude.{MatchOption}
-use Rattle.std.specs.Option.{option_map, option_map_or, option_and_then}
-use Rattle.std.proofs.lemmas.Bool.{le-leb, eqb-true}
-use Rattle.std.proofs.lemmas.List.{get_or-drop}
-use Rattle.std.proofs.lemmas.List.Elements.{All-nil, All-cons}
-use Rattle.dexspec.specs.Mentions.{Mentions}
-use Rattle.dexspec.specs.Symbols.{Pool}
-use Rattle.dexspec.specs.Opcodes.{Format, Opcode, opcode_of, opcode_runs, units_in, F10x, F12x, F11n, F11x, F10t, F20t, F22x, F21t, F21s, F21h, F21c, F23x, F22b, F22s, F22t, F22c, F30t, F32x, F31i, F31t, F31c, F35c, F3rc, F51l}
-use Rattle.dexspec.specs.Pieces.{index_in, index_pool, instruction_size, is_first_unit, is_payload_ident, is_wide_index, low_byte, payload_size, piece_size, two_units}
-use Rattle.dexpool.specs.Pools.{count_of}
-use Rattle.dexpool.specs.declared.symbols.SymbolKind.{SymbolKind}
-use Rattle.dexinsn.specs.Checking.{IndexCount, IsStep, count_of_index, limit_of}
-use Rattle.dexinsn.specs.Numbered.{index_room, kind_of_pool}
-use Rattle.dexinsn.specs.Opcode.{IsPlainRow, IsRowOf, greatest_at, greatest_first, kind_of_index}
-use Rattle.dexinsn.specs.Reading.{with_index_at}
-use Rattle.dexinsn.specs.Stored.{FitsAt}
+use Rattle.dexinsn.proofs.Common.{◌≡◌, ℕ, ◌+◌, ◌-◌, ◌/◌, ◌%◌, ◌^◌, ◌<◌, ◌≤◌, ◌==◌, ◌&&◌, ◌||◌, nat_le, Bool, true, false, cond, List, [], length, drop, slice_index, Option, Some, None, refl, ap, sym, ◌∙◌, subst, arith, add-zero, length-drop, All, MatchOption, option_map, option_map_or, option_and_then, le-leb, eqb-true, get_or-drop, All-nil, All-cons, Mentions, Pool, Format, Opcode, opcode_of, opcode_runs, units_in, F10x, F12x, F11n, F11x, F10t, F20t, F22x, F21t, F21s, F21h, F21c, F23x, F22b, F22s, F22t, F22c, F30t, F32x, F31i, F31t, F31c, F35c, F3rc, F51l, index_in, index_pool, instruction_size, is_first_unit, is_payload_ident, is_wide_index, low_byte, payload_size, piece_size, two_units, count_of, SymbolKind}
+use Rattle.dexinsn.specs.{IndexCount, IsStep, count_of_index, limit_of, index_room, kind_of_pool, IsPlainRow, IsRowOf, greatest_at, greatest_first, kind_of_index, with_index_at, FitsAt}
 use Rattle.dexinsn.specs.declared.opcodes.Row.{Row}
 use Rattle.dexinsn.proofs.IndexRoom.{pool_of_first}
 use Rattle.dexinsn.proofs.Sizes.{first_is, units_in-some}
@@ -31,29 +15,11 @@ counted u le = le-leb (u / 4096) 5 (omega (arith, le))
 
 begins : (f : Format) (u : ℕ) → u ≤ greatest_first f → is_first_unit f u ≡ true
 begins F10x u le = zero_byte u le
-begins F12x u le = refl
-begins F11n u le = refl
-begins F11x u le = refl
-begins F10t u le = refl
 begins F20t u le = zero_byte u le
-begins F22x u le = refl
-begins F21t u le = refl
-begins F21s u le = refl
-begins F21h u le = refl
-begins F21c u le = refl
-begins F23x u le = refl
-begins F22b u le = refl
-begins F22s u le = refl
-begins F22t u le = refl
-begins F22c u le = refl
 begins F30t u le = zero_byte u le
 begins F32x u le = zero_byte u le
-begins F31i u le = refl
-begins F31t u le = refl
-begins F31c u le = refl
 begins F35c u le = counted u le
-begins F3rc u le = refl
-begins F51l u le = refl
+begins _ u le = refl
 
 nop_greatest : greatest_at 0 ≡ 0x00ff
 unfolding opcode_of opcode_runs

@@ -1,20 +1,11 @@
 -- The units of pieces, their numbers put in, as they are appended.
-use Rattle.std.proofs.Common.{◌≡◌, ℕ, zero, suc, ◌+◌, ◌-◌, ◌*◌, ◌/◌, ◌%◌, ◌<◌, ◌≤◌, Bool, true, false, cond, List, [], ◌∷◌, ◌++◌, length, drop, take, map, get_or, slice_index, slice_set, Option, Some, None, refl, ap, sym, ◌∙◌, subst, arith, length-drop, append_assoc, drop-cons, add-one, length-append}
+use Rattle.dexinsn.proofs.Common.{◌≡◌, ℕ, zero, suc, ◌+◌, ◌-◌, ◌*◌, ◌/◌, ◌%◌, ◌<◌, ◌≤◌, Bool, true, false, cond, List, [], ◌∷◌, ◌++◌, length, drop, take, map, get_or, slice_index, slice_set, Option, Some, None, refl, ap, sym, ◌∙◌, subst, arith, length-drop, append_assoc, drop-cons, add-one, length-append, Completes, completes_more, flat_map, drop-drop, length-take-le, take-append-drop, get_or-drop, take_all, drop_all, flat_map-append, number_of, bytes_of, ushort, uint, ushort_at, ushorts_at, Pool, Cut, AreCut, piece_size, cut_units, index_pool, is_wide_index, is_payload_ident, with_index}
 use Rattle.dexspec.proofs.numbers.ByteNumbers.{length-ushort}
-use Rattle.dexhead.proofs.Encoded.{Completes, completes_more}
-use Rattle.std.specs.List.{flat_map}
-use Rattle.std.proofs.lemmas.List.{drop-drop, length-take-le, take-append-drop, get_or-drop, take_all, drop_all}
 use Rattle.std.proofs.Math.Seq.{take-add}
-use Rattle.std.proofs.lemmas.List.Concat.{flat_map-append}
-use Rattle.dexspec.specs.Bytes.{number_of, bytes_of, ushort, uint, ushort_at, ushorts_at}
-use Rattle.dexspec.specs.Symbols.{Pool}
-use Rattle.dexspec.specs.Pieces.{Cut, AreCut, piece_size, cut_units, index_pool, is_wide_index, is_payload_ident, with_index}
 use Rattle.dexinsn.specs.declared.pieces.Index.{Index}
-use Rattle.dexinsn.specs.Units.{units_in}
-use Rattle.dexinsn.specs.Split.{IsPieceAt}
-use Rattle.dexinsn.specs.Numbered.{NumberedPiece, Instruction, Payload, numbered_units, numbered_bytes, unit_count}
-use Rattle.dexinsn.specs.Stored.{cuts_in, parts_in, piece_with, left_by, pieces_with, with_place, index_places, AreStored, index_units, after_index, spelled_from, Follow}
-use Rattle.dexinsn.specs.internal.Writing.{bytes_between}
+use Rattle.dexinsn.specs.{units_in, IsPieceAt, NumberedPiece, Instruction, numbered_units, numbered_bytes, unit_count, cuts_in, parts_in, piece_with, left_by, pieces_with, with_place, index_places, AreStored, index_units, after_index, spelled_from, Follow}
+use Rattle.dexinsn.specs.Numbered.{Payload}
+use Rattle.dexinsn.specs.internal.{bytes_between}
 use Rattle.dexinsn.proofs.Sizes.{Fits, piece_size-fits}
 use Rattle.dexinsn.proofs.IndexRoom.{HasRoom, has_room}
 use Rattle.dexinsn.proofs.Halves.{length_from, ushorts_from}
@@ -23,20 +14,12 @@ use Rattle.dexinsn.proofs.StoredRead.{same_wide, first_kept, cut_pool, cut_first
 -- ---- one instruction
 
 put_short : (ys : List ℕ) (n k j : ℕ) → 2 ≤ length ys → k ≡ j + 2 → slice_set (slice_set (take k ys) 1 0) 1 n ≡ take 1 ys ++ (n ∷ take j (drop 2 ys))
-put_short [] n k j long e = absurd (omega arith)
-put_short (a ∷ []) n k j long e = absurd (omega arith)
-put_short (a ∷ b ∷ ys) n zero j long e = absurd (omega arith)
-put_short (a ∷ b ∷ ys) n (suc zero) j long e = absurd (omega arith)
 put_short (a ∷ b ∷ ys) n (suc (suc k)) j long e = let same : k ≡ j = omega arith in ap (λ (x : ℕ). a ∷ n ∷ take x ys) same
+put_short _ n _ j long e = absurd (omega arith)
 
 put_wide : (ys : List ℕ) (n m k j : ℕ) → 3 ≤ length ys → k ≡ j + 3 → slice_set (slice_set (slice_set (slice_set (take k ys) 1 0) 2 0) 1 n) 2 m ≡ take 1 ys ++ (n ∷ m ∷ take j (drop 3 ys))
-put_wide [] n m k j long e = absurd (omega arith)
-put_wide (a ∷ []) n m k j long e = absurd (omega arith)
-put_wide (a ∷ b ∷ []) n m k j long e = absurd (omega arith)
-put_wide (a ∷ b ∷ c ∷ ys) n m zero j long e = absurd (omega arith)
-put_wide (a ∷ b ∷ c ∷ ys) n m (suc zero) j long e = absurd (omega arith)
-put_wide (a ∷ b ∷ c ∷ ys) n m (suc (suc zero)) j long e = absurd (omega arith)
 put_wide (a ∷ b ∷ c ∷ ys) n m (suc (suc (suc k))) j long e = let same : k ≡ j = omega arith in ap (λ (x : ℕ). a ∷ n ∷ m ∷ take x ys) same
+put_wide _ n m _ j long e = absurd (omega arith)
 
 put_by : (w : Bool) (ys : List ℕ) (n k : ℕ) → HasRoom ys k → is_wide_index ys ≡ w → is_wide_index (take k ys) ≡ w → is_wide_index (with_index 0 (take k ys)) ≡ w
     → with_index n (with_index 0 (take k ys)) ≡ take 1 ys ++ (index_units w n ++ take (k - after_index w 0) (drop (after_index w 0) ys))

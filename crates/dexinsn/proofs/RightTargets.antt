@@ -1,12 +1,6 @@
 -- Whether targets are right, one after the other.
-use Rattle.std.proofs.Common.{◌≡◌, ℕ, suc, ◌+◌, ◌^◌, ◌<◌, ◌==◌, ℤ, pos, ◌+ℤ◌, to_z, of_z, w32, w64, Bool, true, false, ◌&&◌, ◌||◌, List, slice_index, Option, Some, None, refl, ap, sym, ◌∙◌, arith, eq-eqb}
-use lib.IntN.{nat_abs}
-use mir.Val.{SFits}
-use Rattle.std.specs.Option.{option_map}
-use Rattle.std.proofs.lemmas.Int.{ints}
-use Rattle.dexspec.specs.Opcodes.{Opcode, Format, opcode_of, F10x, F12x, F11n, F11x, F10t, F20t, F22x, F21t, F21s, F21h, F21c, F23x, F22b, F22s, F22t, F22c, F30t, F32x, F31i, F31t, F31c, F35c, F3rc, F51l}
-use Rattle.dexspec.specs.Pieces.{Cut, all_of_option, branch_offset, has_right_targets, int_in, ints_in, is_instruction_start, is_payload_ident, is_right_target, low_byte, payload_ident, payload_targets}
-use Rattle.dexinsn.specs.Split.{branches_right, are_right_targets, targets_payload, starts_with}
+use Rattle.dexinsn.proofs.Common.{◌≡◌, ℕ, suc, ◌+◌, ◌^◌, ◌<◌, ◌==◌, ℤ, pos, ◌+ℤ◌, to_z, of_z, w32, w64, Bool, true, false, ◌&&◌, ◌||◌, List, slice_index, Option, Some, None, refl, ap, sym, ◌∙◌, arith, eq-eqb, nat_abs, SFits, option_map, ints, Opcode, Format, opcode_of, F10x, F12x, F11n, F11x, F10t, F20t, F22x, F21t, F21s, F21h, F21c, F23x, F22b, F22s, F22t, F22c, F30t, F32x, F31i, F31t, F31c, F35c, F3rc, F51l, Cut, all_of_option, branch_offset, has_right_targets, int_in, ints_in, is_instruction_start, is_payload_ident, is_right_target, low_byte, payload_ident, payload_targets}
+use Rattle.dexinsn.specs.{branches_right, are_right_targets, targets_payload, starts_with}
 
 -- whether n targets, from unit i on, are right
 abbrev pub do_target : List ℕ → List Cut → ℕ → ℕ → ℕ → Bool
@@ -38,30 +32,8 @@ branches-payload us cs at f ident z place r named is target kind says =
 
 -- the target of one of another format is an instruction
 has_targets-other : (us : List ℕ) (cs : List Cut) (at : ℕ) (f : Format) (z : ℤ) → (f ≡ F31t → ⊥) → is_instruction_start us cs (pos at +ℤ z) ≡ is_right_target us cs at f z
-has_targets-other us cs at F10x z other = refl
-has_targets-other us cs at F12x z other = refl
-has_targets-other us cs at F11n z other = refl
-has_targets-other us cs at F11x z other = refl
-has_targets-other us cs at F10t z other = refl
-has_targets-other us cs at F20t z other = refl
-has_targets-other us cs at F22x z other = refl
-has_targets-other us cs at F21t z other = refl
-has_targets-other us cs at F21s z other = refl
-has_targets-other us cs at F21h z other = refl
-has_targets-other us cs at F21c z other = refl
-has_targets-other us cs at F23x z other = refl
-has_targets-other us cs at F22b z other = refl
-has_targets-other us cs at F22s z other = refl
-has_targets-other us cs at F22t z other = refl
-has_targets-other us cs at F22c z other = refl
-has_targets-other us cs at F30t z other = refl
-has_targets-other us cs at F32x z other = refl
-has_targets-other us cs at F31i z other = refl
 has_targets-other us cs at F31t z other = absurd (other refl)
-has_targets-other us cs at F31c z other = refl
-has_targets-other us cs at F35c z other = refl
-has_targets-other us cs at F3rc z other = refl
-has_targets-other us cs at F51l z other = refl
+has_targets-other us cs at _ z other = refl
 
 -- one that branches is right where an instruction begins at its target
 pub branches-other : (us : List ℕ) (cs : List Cut) (at : ℕ) (f : Format) (z place : ℤ) (r : Bool) → (f ≡ F31t → ⊥) → Some z ≡ branch_offset f us at → pos at +ℤ z ≡ place → r ≡ is_instruction_start us cs place → r ≡ branches_right us cs at f

@@ -1,19 +1,10 @@
 -- Stored pieces are the same once remapped by two maps just where their units agree beside the indices and these have
 -- the same images.
-use Rattle.std.proofs.Common.{◌≡◌, ℕ, zero, suc, ◌+◌, ◌-◌, ◌<◌, ◌≤◌, Bool, true, false, cond, List, [], ◌∷◌, length, drop, take, map, slice_index, slice_set, Option, Some, None, inl, inr, refl, ap, sym, ◌∙◌, subst, arith, length-drop, get_or-set_other}
-use Rattle.std.specs.List.{AllZip}
-use Rattle.std.proofs.lemmas.Bool.{cases_lt}
-use Rattle.std.proofs.lemmas.Grind.{same_number_lists}
-use Rattle.std.proofs.lemmas.List.{drop-drop, drop_all, get_or-take, get_or-drop, get_or-set_same, length-set, length-take-le}
-use Rattle.dexspec.specs.Symbols.{Pool}
-use Rattle.dexspec.specs.Pieces.{Cut, AreCut, piece_size, cut_units, index_pool, is_wide_index, is_payload_ident, with_index}
-use Rattle.dexspec.proofs.wellformed.Blanked.{Kept, piece_same}
-use Rattle.dexpool.specs.Numberings.{Maps, image_of}
+use Rattle.dexinsn.proofs.Common.{◌≡◌, ℕ, zero, suc, ◌+◌, ◌-◌, ◌<◌, ◌≤◌, Bool, true, false, cond, List, [], ◌∷◌, length, drop, take, map, slice_index, slice_set, Option, Some, None, inl, inr, refl, ap, sym, ◌∙◌, subst, arith, length-drop, get_or-set_other, AllZip, cases_lt, same_number_lists, drop-drop, drop_all, get_or-take, get_or-drop, get_or-set_same, length-set, length-take-le, Pool, Cut, AreCut, piece_size, cut_units, index_pool, is_wide_index, is_payload_ident, with_index, Kept, piece_same, Maps, image_of}
 use Rattle.dexinsn.specs.declared.pieces.Index.{Index}
-use Rattle.dexinsn.specs.Split.{IsPieceAt}
-use Rattle.dexinsn.specs.Numbered.{NumberedPiece, Instruction, Payload, kind_in, renumbered_piece}
-use Rattle.dexinsn.specs.Stored.{cuts_in, parts_in, piece_with, left_by, pieces_with, with_place, index_places, after_index, AreStored, Follow}
-use Rattle.dexinsn.specs.internal.Same.{Agree, AgreeBeside, AreEqualMapped, AreEquivalent}
+use Rattle.dexinsn.specs.{IsPieceAt, NumberedPiece, Instruction, kind_in, renumbered_piece, cuts_in, parts_in, piece_with, left_by, pieces_with, with_place, index_places, after_index, AreStored, Follow}
+use Rattle.dexinsn.specs.Numbered.{Payload}
+use Rattle.dexinsn.specs.internal.{Agree, AgreeBeside, AreEqualMapped, AreEquivalent}
 use Rattle.dexinsn.proofs.Sizes.{Fits, piece_size-fits}
 use Rattle.dexinsn.proofs.IndexRoom.{HasRoom, has_room}
 use Rattle.dexinsn.proofs.StoredRead.{cuts_in_is, same_pool, same_wide, first_kept, cut_pool, cut_first, cut_length}
@@ -78,13 +69,10 @@ blank_after true xs k le = get_or-set_other (slice_set xs 1 0) 2 k 0 0 (λ e. om
 blank_after false xs k le = get_or-set_other xs 1 k 0 0 (λ e. omega arith)
 
 blank_inside : (w : Bool) (xs : List ℕ) (k : ℕ) → 0 < k → k < after_index w 0 → k < length xs → slice_index (blank_by w xs) k ≡ 0
-blank_inside w xs zero some lt within = absurd (omega arith)
 blank_inside true xs (suc zero) some lt within = get_or-set_other (slice_set xs 1 0) 2 1 0 0 (λ e. omega arith) ∙ get_or-set_same xs 1 0 0 within
 blank_inside false xs (suc zero) some lt within = get_or-set_same xs 1 0 0 within
 blank_inside true xs (suc (suc zero)) some lt within = get_or-set_same (slice_set xs 1 0) 2 0 0 (omega (arith, length-set xs 1 0))
-blank_inside false xs (suc (suc zero)) some lt within = absurd (omega arith)
-blank_inside true xs (suc (suc (suc k))) some lt within = absurd (omega arith)
-blank_inside false xs (suc (suc (suc k))) some lt within = absurd (omega arith)
+blank_inside _ xs _ some lt within = absurd (omega arith)
 
 -- units that are the same but for the index
 blank_unit : (w : Bool) (xs ys : List ℕ) (k : ℕ) → k < length xs → length xs ≡ length ys → slice_index xs 0 ≡ slice_index ys 0 → ((j : ℕ) → after_index w 0 ≤ j → j < length xs → slice_index xs j ≡ slice_index ys j) → slice_index (blank_by w xs) k ≡ slice_index (blank_by w ys) k
@@ -291,10 +279,9 @@ same_from_equivalent r q us vs is js s t h =
 -- ---- and pieces that are the same have equal units and images
 
 plain_units : (r q : Maps) (t v : Bool) (xs ys : List ℕ) → renumbered_piece r (cond t (Payload xs) (Instruction xs None)) ≡ renumbered_piece q (cond v (Payload ys) (Instruction ys None)) → xs ≡ ys
-plain_units r q true true xs ys e = cc
 plain_units r q true false xs ys e = absurd cc
 plain_units r q false true xs ys e = absurd cc
-plain_units r q false false xs ys e = cc
+plain_units r q _ _ xs ys e = cc
 
 plain_named : (r : Maps) (t : Bool) (xs ys : List ℕ) (n : Option ℕ) → renumbered_piece r (cond t (Payload xs) (Instruction xs None)) ≡ Instruction (with_index 0 ys) n → slice_index xs 0 ≡ slice_index ys 0
 plain_named r true xs ys n e = absurd cc

@@ -1,13 +1,8 @@
 -- Comparing units in parts, and indices one by one.
-use Rattle.std.proofs.Common.{◌≡◌, ℕ, zero, suc, ◌+◌, ◌-◌, ◌*◌, ◌/◌, ◌<◌, ◌≤◌, List, [], ◌∷◌, length, drop, take, get_or, refl, ap, sym, ◌∙◌, subst, arith}
-use Rattle.std.specs.List.{AllZip, flat_map}
-use Rattle.std.proofs.lemmas.List.{drop_all}
-use Rattle.dexspec.specs.Bytes.{ushort, ushorts_at}
-use Rattle.dexspec.specs.Pieces.{is_wide_index}
+use Rattle.dexinsn.proofs.Common.{◌≡◌, ℕ, zero, suc, ◌+◌, ◌-◌, ◌*◌, ◌/◌, ◌<◌, ◌≤◌, List, [], ◌∷◌, length, drop, take, get_or, refl, ap, sym, ◌∙◌, subst, arith, AllZip, flat_map, drop_all, ushort, ushorts_at, is_wide_index}
 use Rattle.dexinsn.specs.declared.pieces.Index.{Index}
-use Rattle.dexinsn.specs.Units.{units_in}
-use Rattle.dexinsn.specs.Stored.{after_index}
-use Rattle.dexinsn.specs.internal.Same.{Agree, AgreeBeside}
+use Rattle.dexinsn.specs.{units_in, after_index}
+use Rattle.dexinsn.specs.internal.{Agree, AgreeBeside}
 use Rattle.dexinsn.proofs.Halves.{length_from, ushorts_from, units_of_part}
 use Rattle.dexinsn.proofs.PutUnits.{next_is, ushorts_taken, part_bytes}
 use Rattle.dexinsn.proofs.SamePieces.{agree_part, part_agrees}
@@ -56,9 +51,8 @@ last_beside us vs from is k end h = subst (AgreeBeside us vs from) (sym (drop_al
 -- pair by pair
 pub zip_from : (P : Index → Index → Type 0) (xs ys : List Index) (d : Index) → length xs ≡ length ys → ((k : ℕ) → k < length xs → P (get_or xs k d) (get_or ys k d)) → AllZip P xs ys
 zip_from P [] [] d same h = tt
-zip_from P [] (y ∷ ys) d same h = absurd (omega arith)
-zip_from P (x ∷ xs) [] d same h = absurd (omega arith)
 zip_from P (x ∷ xs) (y ∷ ys) d same h = (h 0 (omega arith), zip_from P xs ys d (omega arith) (λ k lt. h (suc k) (omega arith)))
+zip_from _ _ _ d same h = absurd (omega arith)
 
 pub zip_at : (P : Index → Index → Type 0) (xs ys : List Index) (d : Index) (k : ℕ) → k < length xs → AllZip P xs ys → P (get_or xs k d) (get_or ys k d)
 zip_at P [] ys d k lt h = absurd (omega arith)
@@ -68,6 +62,5 @@ zip_at P (x ∷ xs) (y ∷ ys) d (suc k) lt h = zip_at P xs ys d k (omega arith)
 
 pub zip_length : (P : Index → Index → Type 0) (xs ys : List Index) → AllZip P xs ys → length xs ≡ length ys
 zip_length P [] [] h = refl
-zip_length P [] (y ∷ ys) h = absurd h
-zip_length P (x ∷ xs) [] h = absurd h
 zip_length P (x ∷ xs) (y ∷ ys) h = ap suc (zip_length P xs ys h.1)
+zip_length _ _ _ h = absurd h

@@ -1,11 +1,5 @@
 -- The number of units of a piece: at least one, and no more than there are.
-use Rattle.std.proofs.Common.{◌≡◌, ℕ, ◌+◌, ◌-◌, ◌*◌, ◌/◌, ◌%◌, ◌<◌, ◌≤◌, ◌==◌, nat_le, Bool, true, false, ◌&&◌, cond, List, [], ◌∷◌, length, drop, slice_index, Option, Some, None, refl, ap, sym, ◌∙◌, subst, arith, add-zero, length-drop}
-use Rattle.std.specs.Option.{IsSome, option_map}
-use Rattle.std.proofs.lemmas.Bool.{leb-true, and_parts}
-use Rattle.std.proofs.lemmas.Option.{cond_some, option_and_then_some, same_Some}
-use Rattle.std.proofs.lemmas.List.{get_or-drop}
-use Rattle.dexspec.specs.Opcodes.{Opcode, Format, units_in, opcode_of, F10x, F12x, F11n, F11x, F10t, F20t, F22x, F21t, F21s, F21h, F21c, F23x, F22b, F22s, F22t, F22c, F30t, F32x, F31i, F31t, F31c, F35c, F3rc, F51l}
-use Rattle.dexspec.specs.Pieces.{piece_size, payload_size, payload_units, is_payload_in_order, is_payload_ident, element_count, element_width, instruction_size, is_first_unit, low_byte, packed_switch_ident, sparse_switch_ident}
+use Rattle.dexinsn.proofs.Common.{◌≡◌, ℕ, ◌+◌, ◌-◌, ◌*◌, ◌/◌, ◌%◌, ◌<◌, ◌≤◌, ◌==◌, nat_le, Bool, true, false, ◌&&◌, cond, List, [], ◌∷◌, length, drop, slice_index, Option, Some, None, refl, ap, sym, ◌∙◌, subst, arith, add-zero, length-drop, IsSome, option_map, leb-true, and_parts, cond_some, option_and_then_some, same_Some, get_or-drop, Opcode, Format, units_in, opcode_of, F10x, F12x, F11n, F11x, F10t, F20t, F22x, F21t, F21s, F21h, F21c, F23x, F22b, F22s, F22t, F22c, F30t, F32x, F31i, F31t, F31c, F35c, F3rc, F51l, piece_size, payload_size, payload_units, is_payload_in_order, is_payload_ident, element_count, element_width, instruction_size, is_first_unit, low_byte, packed_switch_ident, sparse_switch_ident}
 
 -- the piece's size n is at least one, and within the units
 abbrev pub Fits : List ℕ → ℕ → Type 0
@@ -13,29 +7,7 @@ Fits us n = (0 < n) × (n ≤ length us)
 
 pub units_in-some : (f : Format) → 0 < units_in f
 units_in-some F10x = omega arith
-units_in-some F12x = omega arith
-units_in-some F11n = omega arith
-units_in-some F11x = omega arith
-units_in-some F10t = omega arith
-units_in-some F20t = omega arith
-units_in-some F22x = omega arith
-units_in-some F21t = omega arith
-units_in-some F21s = omega arith
-units_in-some F21h = omega arith
-units_in-some F21c = omega arith
-units_in-some F23x = omega arith
-units_in-some F22b = omega arith
-units_in-some F22s = omega arith
-units_in-some F22t = omega arith
-units_in-some F22c = omega arith
-units_in-some F30t = omega arith
-units_in-some F32x = omega arith
-units_in-some F31i = omega arith
-units_in-some F31t = omega arith
-units_in-some F31c = omega arith
-units_in-some F35c = omega arith
-units_in-some F3rc = omega arith
-units_in-some F51l = omega arith
+units_in-some _ = omega arith
 
 -- a size is returned only where it fits
 reported : (us : List ℕ) (size n : ℕ) (rest : Bool) → 0 < size → cond (nat_le size (length us) && rest) (Some size) None ≡ Some n → Fits us n
@@ -91,8 +63,7 @@ piece_within us at n is =
 
 payload_of : (b even : Bool) (x y : Option ℕ) (n : ℕ) → b ≡ true → cond b (cond even x None) y ≡ Some n → x ≡ Some n
 payload_of true true x y n here is = is
-payload_of true false x y n here is = cc
-payload_of false even x y n here is = cc
+payload_of _ _ x y n here is = cc
 
 instruction_of : (b : Bool) (x y : Option ℕ) (n : ℕ) → b ≡ false → cond b x y ≡ Some n → y ≡ Some n
 instruction_of true x y n here is = cc

@@ -1,21 +1,9 @@
 -- Starts of instructions as bits of words.
-use Rattle.std.proofs.Common.{◌≡◌, ℕ, ◌+◌, ◌-◌, ◌*◌, ◌/◌, ◌%◌, ◌^◌, ◌<◌, ◌≤◌, ℤ, pos, ◌+ℤ◌, ◌<ℤ◌, to_z, of_z, w32, Bool, true, false, not, ◌&&◌, ◌||◌, List, length, set, slice_index, replicate, inl, inr, refl, ap, sym, ◌∙◌, subst, arith, w64}
-use lib.IntN.{negsuc}
-use mir.Val.{SFits}
-use Rattle.std.specs.Prelude.{◌↔◌, ◌⊎◌, bit_and, bit_or, max}
-use Rattle.std.specs.Int.{bit_at, bit_not, from_bool}
-use Rattle.std.proofs.lemmas.Int.{ints}
-use Rattle.std.proofs.lemmas.Bool.{cases_eq, cases_lt}
-use Rattle.std.specs.List.{All}
-use Rattle.std.proofs.lemmas.List.Elements.{All-weaker}
-use Rattle.std.proofs.lemmas.List.{get_or-set_same, get_or-set_other, get_or-replicate, get_or_past, length-replicate}
+use Rattle.dexinsn.proofs.Common.{◌≡◌, ℕ, ◌+◌, ◌-◌, ◌*◌, ◌/◌, ◌%◌, ◌^◌, ◌<◌, ◌≤◌, ℤ, pos, ◌+ℤ◌, ◌<ℤ◌, to_z, of_z, w32, Bool, true, false, not, ◌&&◌, ◌||◌, List, length, set, slice_index, replicate, inl, inr, refl, ap, sym, ◌∙◌, subst, arith, w64, negsuc, SFits, ◌↔◌, ◌⊎◌, bit_and, bit_or, max, bit_at, bit_not, from_bool, ints, cases_eq, cases_lt, All, All-weaker, get_or-set_same, get_or-set_other, get_or-replicate, get_or_past, length-replicate, bit_at_and, bit_at_or, bit_at_not, bit_at-lt, bit_at-zero, bit_at_above, bit_at_cat_low, bit_at_cat_high, bit_at_set_same, bit_at_set_other, same_from_bits_below, Cut, is_instruction_start, is_payload_ident}
 use Rattle.std.proofs.lemmas.Nat.{and_le_l, shr-shr, shr_split, pow_pos}
-use Rattle.std.proofs.lemmas.Nat.Bits.{bit_at_and, bit_at_or, bit_at_not, bit_at-lt, bit_at-zero, bit_at_above, bit_at_cat_low, bit_at_cat_high, bit_at_set_same, bit_at_set_other, same_from_bits_below}
-use Rattle.dexspec.specs.Pieces.{Cut, is_instruction_start, is_payload_ident}
-use Rattle.dexinsn.specs.internal.LongSwitches.{AllInGroup, AreGrouped, AreStartBits, HasBit, HasPlace, HasPlaces, EndsEmpty}
-use Rattle.dexinsn.specs.Split.{are_right_targets}
+use Rattle.dexinsn.specs.internal.{AllInGroup, AreGrouped, AreStartBits, HasBit, HasPlace, HasPlaces, EndsEmpty}
+use Rattle.dexinsn.specs.{are_right_targets, AreBitsOf, begins_instruction}
 use Rattle.dexinsn.specs.declared.target_group.TargetGroup.{TargetGroup}
-use Rattle.dexinsn.specs.Checking.{AreBitsOf, begins_instruction}
 use Rattle.dexinsn.proofs.Starts.{starts_with-below}
 
 -- ---- 64 bits from one on
@@ -104,12 +92,6 @@ none_below words (pos n) mask below first all = omega (arith, ints)
 none_below words (negsuc n) mask below first all =
     let same : negsuc n +ℤ pos 0 ≡ negsuc n = omega (arith, ints) in
     subst (HasPlace words) same (all 0 (omega arith) first)
-
--- nor is one from the last word on
-pub none_beyond : (words : List ℕ) (z : ℤ) (unit mask : ℕ) → z ≡ pos unit → length words ≤ unit / 64 + 1 → EndsEmpty words → bit_at mask 0 ≡ 1 → HasPlaces words z mask → ⊥
-none_beyond words z unit mask at past last first all =
-    let same : z +ℤ pos 0 ≡ pos unit = omega (arith, ints) in
-    last unit (omega arith) (subst (HasPlace words) same (all 0 (omega arith) first))
 
 -- the places from a unit on are those of the word from it on
 pub places_are : (words : List ℕ) (z : ℤ) (unit mask word : ℕ) → z ≡ pos unit → mask < 2 ^ 64 → word < 2 ^ 64 → ((i : ℕ) → i < 64 → HasBit words (unit + i) ↔ (bit_at word i ≡ 1))

@@ -1,17 +1,7 @@
 -- Where pieces begin.
-use Rattle.std.proofs.Common.{◌≡◌, ℕ, ◌==◌, ℤ, pos, ◌<ℤ◌, Bool, true, false, cond, ◌&&◌, ◌||◌, List, [], ◌∷◌, drop, slice_index, Option, Some, None, inl, inr, refl, ap, sym, ◌∙◌, subst, arith, eqb-true, eq-eqb, ne_eqb}
-use lib.IntN.{negsuc}
-use Rattle.std.specs.Option.{IsSome, is_some, option_map}
-use Rattle.std.specs.List.{All, Any, list_any}
-use Rattle.std.specs.Ordering.{int_eq}
-use Rattle.std.proofs.lemmas.Int.{ints}
-use Rattle.std.proofs.lemmas.Bool.{cases_eq}
-use Rattle.std.proofs.lemmas.List.Elements.{All-get_or}
-use Rattle.std.proofs.lemmas.List.Folds.{Any-from_list_any}
-use Rattle.dexspec.specs.Pieces.{Cut, piece_size}
+use Rattle.dexinsn.proofs.Common.{◌≡◌, ℕ, ◌==◌, ℤ, pos, ◌<ℤ◌, Bool, true, false, cond, ◌&&◌, ◌||◌, List, [], ◌∷◌, drop, slice_index, Option, Some, None, inl, inr, refl, ap, sym, ◌∙◌, subst, arith, eqb-true, eq-eqb, ne_eqb, negsuc, IsSome, is_some, option_map, All, Any, list_any, int_eq, ints, cases_eq, All-get_or, Any-from_list_any, Cut, piece_size}
 use Rattle.dexinsn.specs.declared.payload.PayloadKind.{PayloadKind}
-use Rattle.dexinsn.specs.Payload.{ident_of}
-use Rattle.dexinsn.specs.Split.{IsPieceAt, starts_with}
+use Rattle.dexinsn.specs.{ident_of, IsPieceAt, starts_with}
 
 -- nothing begins at a negative number
 pub starts_with-negsuc : (test : ℕ → Bool) (us : List ℕ) (cs : List Cut) (n : ℕ) → starts_with test us cs (negsuc n) ≡ false

@@ -1,15 +1,7 @@
 -- Where instructions begin, by the bits.
-use Rattle.std.proofs.Common.{◌≡◌, ℕ, zero, suc, ◌+◌, ◌*◌, ◌/◌, ◌%◌, ◌<◌, ◌≤◌, pos, Bool, true, false, List, length, get_or, slice_index, inl, inr, refl, ap, sym, ◌∙◌, subst, arith, eqb-true, eq-eqb, zero-add}
-use Rattle.std.specs.Prelude.{◌↔◌}
-use Rattle.std.specs.Int.{bit_at}
-use Rattle.std.proofs.lemmas.Bool.{cases_lt}
-use Rattle.std.proofs.lemmas.List.{get_or_past}
-use Rattle.dexspec.specs.Pieces.{IsCode, is_instruction_start}
-use Rattle.dexinsn.specs.Units.{units_in}
-use Rattle.dexinsn.specs.Bits.{bits_from, bits_in, has_bit}
-use Rattle.dexinsn.specs.internal.LongSwitches.{HasBit, HasPlace}
-use Rattle.dexinsn.specs.Reading.{AreUnitsAt, AreStartsAt}
-use Rattle.dexinsn.specs.Checking.{AreCodeStarts}
+use Rattle.dexinsn.proofs.Common.{◌≡◌, ℕ, zero, suc, ◌+◌, ◌*◌, ◌/◌, ◌%◌, ◌<◌, ◌≤◌, pos, Bool, true, false, List, length, get_or, slice_index, inl, inr, refl, ap, sym, ◌∙◌, subst, arith, eqb-true, eq-eqb, zero-add, ◌↔◌, bit_at, cases_lt, get_or_past, IsCode, is_instruction_start}
+use Rattle.dexinsn.specs.{units_in, bits_from, bits_in, has_bit, AreUnitsAt, AreStartsAt, AreCodeStarts}
+use Rattle.dexinsn.specs.internal.{HasBit, HasPlace}
 use Rattle.dexinsn.proofs.StartBits.{same_test}
 use Rattle.dexinsn.proofs.Placed.{no_bit_past}
 

@@ -1,8 +1,5 @@
 -- A list that is changed member by member.
-use Rattle.std.proofs.Common.{◌≡◌, ℕ, ◌+◌, ◌<◌, ◌≤◌, List, [], ◌∷◌, ◌++◌, length, drop, take, map, get_or, set, refl, ap, sym, ◌∙◌, subst, arith}
-use Rattle.std.specs.List.{All}
-use Rattle.std.proofs.lemmas.List.{drop-drop, get_or-drop, take_more_set, map_more, take_all, drop-set-lt, length-set}
-use Rattle.std.proofs.lemmas.List.Elements.{All-get_or}
+use Rattle.dexinsn.proofs.Common.{◌≡◌, ℕ, ◌+◌, ◌<◌, ◌≤◌, List, [], ◌∷◌, ◌++◌, length, drop, take, map, get_or, set, refl, ap, sym, ◌∙◌, subst, arith, All, drop-drop, get_or-drop, take_more_set, map_more, take_all, drop-set-lt, length-set, All-get_or}
 
 -- the first i members are changed, and the others are as they were
 pub record AreChanged {X : Type 0} (f : X → X) (i : ℕ) (old new : List X) : Type 0 where

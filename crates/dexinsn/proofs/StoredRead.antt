@@ -1,26 +1,10 @@
 -- What is read is stored so that it denotes the pieces of the code_item.
-use Rattle.std.proofs.Common.{◌≡◌, ℕ, zero, suc, ◌+◌, ◌-◌, ◌*◌, ◌/◌, ◌%◌, ◌^◌, ◌<◌, ◌≤◌, ◌==◌, Bool, true, false, cond, List, [], ◌∷◌, length, drop, map, get_or, slice_index, slice_set, Option, Some, None, refl, ap, sym, ◌∙◌, subst, arith, length-drop, get_or-set_other}
-use Rattle.std.specs.List.{All, AllZip}
-use Rattle.std.specs.Option.{option_map_or, option_and_then, MatchOption}
-use Rattle.std.proofs.lemmas.List.{drop-drop, get_or-take, length-take-le}
-use Rattle.std.proofs.lemmas.List.Elements.{All-nil, All-cons, All-head, All-tail}
-use Rattle.dexspec.specs.Bytes.{uint_at}
-use Rattle.dexspec.specs.Opcodes.{opcode_of}
-use Rattle.dexspec.specs.Symbols.{Pool, StringPool, TypePool, ProtoPool, FieldPool, MethodPool, Proto, Symbol, TextSymbol, TypeSymbol, ProtoSymbol, FieldSymbol, MethodSymbol, pool_of}
+use Rattle.dexinsn.proofs.Common.{◌≡◌, ℕ, zero, suc, ◌+◌, ◌-◌, ◌*◌, ◌/◌, ◌%◌, ◌^◌, ◌<◌, ◌≤◌, ◌==◌, Bool, true, false, cond, List, [], ◌∷◌, length, drop, map, get_or, slice_index, slice_set, Option, Some, None, refl, ap, sym, ◌∙◌, subst, arith, length-drop, get_or-set_other, All, AllZip, option_map_or, option_and_then, MatchOption, drop-drop, get_or-take, length-take-le, All-nil, All-cons, All-head, All-tail, uint_at, opcode_of, Pool, StringPool, TypePool, ProtoPool, FieldPool, MethodPool, Proto, Symbol, TextSymbol, TypeSymbol, ProtoSymbol, FieldSymbol, MethodSymbol, pool_of, Mentions, Cut, AreCut, IsCode, Piece, DenotesPiece, piece_size, cut_units, index_pool, index_in, is_wide_index, is_payload_ident, with_index, low_byte, two_units, PiecesAt, length-ushorts_at, ArePools, count_of, IsNumbered}
 use Rattle.dexspec.specs.Rows.{SymbolRow}
-use Rattle.dexspec.specs.Mentions.{Mentions}
-use Rattle.dexspec.specs.Pieces.{Cut, AreCut, IsCode, Piece, DenotesPiece, piece_size, cut_units, index_pool, index_in, is_wide_index, is_payload_ident, with_index, low_byte, two_units}
 use Rattle.dexspec.specs.Pieces as symbolic
-use Rattle.dexspec.specs.Code.{PiecesAt}
-use Rattle.dexspec.proofs.wellformed.FormedRows.{length-ushorts_at}
-use Rattle.dexpool.specs.Pools.{ArePools, count_of}
-use Rattle.dexpool.specs.Numberings.{IsNumbered}
 use Rattle.dexinsn.specs.declared.pieces.Index.{Index}
-use Rattle.dexinsn.specs.Units.{units_in}
-use Rattle.dexinsn.specs.Split.{IsPieceAt}
-use Rattle.dexinsn.specs.Numbered.{Instruction, Payload, kind_of_pool, Denotes, Denote}
-use Rattle.dexinsn.specs.Stored.{cuts_from, cuts_in, parts_in, piece_with, left_by, pieces_with, with_place, index_places, AreStored}
-use Rattle.dexinsn.specs.Reading.{ArePiecesAt, AreUnitsAt, with_index_at, indices_at, IsInRange, AreCodeIndices}
+use Rattle.dexinsn.specs.{units_in, IsPieceAt, Instruction, kind_of_pool, Denotes, Denote, cuts_from, cuts_in, parts_in, piece_with, left_by, pieces_with, with_place, index_places, AreStored, ArePiecesAt, AreUnitsAt, with_index_at, indices_at, IsInRange, AreCodeIndices}
+use Rattle.dexinsn.specs.Numbered.{Payload}
 use Rattle.dexinsn.proofs.Sizes.{Fits, piece_size-fits}
 use Rattle.dexinsn.proofs.IndexRoom.{HasRoom, has_room}
 
@@ -134,10 +118,7 @@ symbol_at m MethodPool n = MethodSymbol (get_or m.methods n (record { class = []
 symbol_pool : (m : Mentions) (pool : Pool) (n : ℕ) → pool_of (symbol_at m pool n) ≡ pool
 unfolding symbol_at
 symbol_pool m StringPool n = refl
-symbol_pool m TypePool n = refl
-symbol_pool m ProtoPool n = refl
-symbol_pool m FieldPool n = refl
-symbol_pool m MethodPool n = refl
+symbol_pool m _ n = refl
 
 symbol_row : (b : List ℕ) (m : Mentions) (pool : Pool) (n : ℕ) → ArePools b m → n < count_of (kind_of_pool pool) m → SymbolRow b n (symbol_at m pool n)
 unfolding symbol_at

@@ -1,20 +1,8 @@
 -- Targets in groups.
-use Rattle.std.proofs.Common.{◌≡◌, ℕ, suc, ◌+◌, ◌*◌, ◌%◌, ◌^◌, ◌<◌, ℤ, pos, ◌+ℤ◌, Bool, true, ◌&&◌, List, [], ◌∷◌, ◌++◌, length, take, get_or, Some, inl, inr, refl, ap, sym, ◌∙◌, arith, w64}
-use Rattle.std.specs.Prelude.{◌↔◌, bit_or}
-use Rattle.std.specs.Int.{bit_at}
-use Rattle.std.specs.List.{All, list_all}
-use Rattle.std.specs.List.Sorted.{IsPermutation}
-use Rattle.std.proofs.lemmas.Int.{ints}
-use Rattle.std.proofs.lemmas.Bool.{cases_eq, and_parts}
-use Rattle.std.proofs.lemmas.Nat.Bits.{bit_at_or, bit_at-lt, bit_at_set_same, bit_at_set_other, bit_at-pow_same, bit_at-pow_other}
-use Rattle.std.proofs.lemmas.List.{append_assoc}
-use Rattle.std.proofs.lemmas.List.Elements.{All-push, All-pop}
-use Rattle.std.proofs.lemmas.List.Folds.{list_all_more}
+use Rattle.dexinsn.proofs.Common.{◌≡◌, ℕ, suc, ◌+◌, ◌*◌, ◌%◌, ◌^◌, ◌<◌, ℤ, pos, ◌+ℤ◌, Bool, true, ◌&&◌, List, [], ◌∷◌, ◌++◌, length, take, get_or, Some, inl, inr, refl, ap, sym, ◌∙◌, arith, w64, ◌↔◌, bit_or, bit_at, All, list_all, IsPermutation, ints, cases_eq, and_parts, bit_at_or, bit_at-lt, bit_at_set_same, bit_at_set_other, bit_at-pow_same, bit_at-pow_other, append_assoc, All-push, All-pop, list_all_more, All-permutation, IsPermutation-sym, int_in, ints_in}
 use Rattle.std.proofs.lemmas.List.Sums.{AllPass-from_list_all, list_all-from_AllPass}
-use Rattle.std.proofs.lemmas.List.Sorted.{All-permutation, IsPermutation-sym}
-use Rattle.dexspec.specs.Pieces.{int_in, ints_in}
 use Rattle.dexinsn.specs.declared.target_group.TargetGroup.{TargetGroup}
-use Rattle.dexinsn.specs.internal.LongSwitches.{AllFrom, AllInGroup, AreGrouped}
+use Rattle.dexinsn.specs.internal.{AllFrom, AllInGroup, AreGrouped}
 
 -- a number and nothing
 and_none : (z : ℤ) → z +ℤ pos 0 ≡ z

@@ -5,3 +5,9 @@ pub mod Same
 pub mod LongSwitches
 pub mod Writing
 pub mod Splitting
+unfoldable pub use Checking.*
+unfoldable pub use Props.*
+unfoldable pub use Same.*
+unfoldable pub use LongSwitches.*
+unfoldable pub use Writing.*
+unfoldable pub use Splitting.*

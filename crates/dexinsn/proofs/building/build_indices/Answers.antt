@@ -1,6 +1,4 @@
-use Rattle.std.proofs.Common.{◌≡◌, true, false, drop, Some, IsSome, sym, ap, subst, ◌∙◌, arith, rules}
-use Rattle.std.specs.Option.{is_some}
-use Rattle.dexspec.specs.Pieces.{index_pool, piece_size}
+use Rattle.dexinsn.proofs.Common.{◌≡◌, true, false, drop, Some, IsSome, sym, ap, subst, ◌∙◌, arith, rules, is_some, index_pool, piece_size}
 use Rattle.dexinsn.proofs.BuiltIndices.{all_built, index_built, next_begins, next_piece, next_size, next_within, no_pool, none_built, plain_built, some_pool, some_units}
 use Rattle.dexinsn.proofs.IndexRoom.{room_after, wide_room_after}
 use Rattle.dexinsn.proofs.building.build_indices.Goals as goal

@@ -1,5 +1,4 @@
-use Rattle.std.proofs.Common.{◌-◌, ◌≤◌, length}
-use Rattle.std.specs.Prelude.{vec_capacity}
+use Rattle.dexinsn.proofs.Common.{◌-◌, ◌≤◌, length, vec_capacity}
 use Rattle.dexinsn.proofs.BuiltIndices.{IndicesBuilt}
 use Rattle.dexinsn.proofs.building.build_indices.Given as goal
 

@@ -1,6 +1,5 @@
-use Rattle.std.proofs.Common.{ℕ, List, length, ◌^◌, ◌<◌, drop, ap, sym, subst, ◌∙◌}
-use Rattle.dexinsn.specs.Units.{units_in}
-use Rattle.dexinsn.specs.Checking.{AreTheIndices, HaveIndices}
+use Rattle.dexinsn.proofs.Common.{ℕ, List, length, ◌^◌, ◌<◌, drop, ap, sym, subst, ◌∙◌}
+use Rattle.dexinsn.specs.{units_in, AreTheIndices, HaveIndices}
 use Rattle.dexinsn.proofs.BuiltIndices.{built_read, checked_have, shape_checked, shape_units}
 use Rattle.dexinsn.proofs.StoredRead.{few_units, read_pieces, read_stored}
 use Rattle.dexinsn.proofs.building.build_pieces.Goals as goal

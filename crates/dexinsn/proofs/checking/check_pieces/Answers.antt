@@ -1,10 +1,6 @@
-use Rattle.std.proofs.Common.{◌≡◌, ◌+◌, ◌/◌, length, ap, sym, subst, ◌∙◌, arith}
+use Rattle.dexinsn.proofs.Common.{◌≡◌, ◌+◌, ◌/◌, length, ap, sym, subst, ◌∙◌, arith, ushort_at, RegistersAt, length-ushorts_at}
 use Rattle.std.proofs.lemmas.Result.{err_from_is_err_and}
-use Rattle.dexspec.specs.Bytes.{ushort_at}
-use Rattle.dexspec.specs.Code.{RegistersAt}
-use Rattle.dexspec.proofs.wellformed.FormedRows.{length-ushorts_at}
-use Rattle.dexinsn.specs.Units.{units_in}
-use Rattle.dexinsn.specs.Reading.{AreStartsAt}
+use Rattle.dexinsn.specs.{units_in, AreStartsAt}
 use Rattle.dexinsn.proofs.FaultsRead.{pieces_fault}
 use Rattle.dexinsn.proofs.Halves.{ushort_after}
 use Rattle.dexinsn.proofs.NotedTargets.{pieces_there, shape_there}

@@ -1,5 +1,5 @@
-use Rattle.std.proofs.Common.{drop, arith, length-drop}
-use Rattle.dexinsn.specs.Checking.{begins_instruction, is_noted}
+use Rattle.dexinsn.proofs.Common.{drop, arith, length-drop}
+use Rattle.dexinsn.specs.{begins_instruction, is_noted}
 use Rattle.dexinsn.proofs.Sizes.{piece_size-fits}
 use Rattle.dexinsn.proofs.Passed.{bits_put, no_step, one_passed}
 use Rattle.dexinsn.proofs.checking.pass.Goals as goal

@@ -1,5 +1,5 @@
-use Rattle.std.proofs.Common.{◌-◌, length}
-use Rattle.dexinsn.specs.Checking.{ArePassed}
+use Rattle.dexinsn.proofs.Common.{◌-◌, length}
+use Rattle.dexinsn.specs.{ArePassed}
 use Rattle.dexinsn.proofs.checking.pass.Given as goal
 
 abbrev pub invariant-loop-at : goal.invariant-loop-at

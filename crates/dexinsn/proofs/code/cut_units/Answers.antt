@@ -1,9 +1,6 @@
-use Rattle.std.proofs.Common.{◌≡◌, ◌+◌, List, ◌∷◌, [], ◌++◌, drop, Some, None, sym, ◌∙◌, ap, subst, arith}
-use Rattle.std.proofs.lemmas.Grind.{common_steps}
-use Rattle.dexspec.specs.Pieces.{Cut as Meant, piece_size}
+use Rattle.dexinsn.proofs.Common.{◌≡◌, ◌+◌, List, ◌∷◌, [], ◌++◌, drop, Some, None, sym, ◌∙◌, ap, subst, arith, common_steps, Cut as Meant, piece_size}
 use Rattle.dexinsn.specs.declared.code.Cut.{Cut}
-use Rattle.dexinsn.specs.Split.{cuts_of}
-use Rattle.dexinsn.specs.Checking.{AreCutWith}
+use Rattle.dexinsn.specs.{cuts_of, AreCutWith}
 use Rattle.dexinsn.proofs.Cuts.{cuts_of-push}
 use Rattle.dexinsn.proofs.Passed.{one_cut_more, cut_breaks}
 use Rattle.dexinsn.proofs.code.cut_units.Goals as goal

@@ -1,6 +1,5 @@
-use Rattle.std.proofs.Common.{◌-◌, length}
-use Rattle.dexinsn.specs.Split.{cuts_of}
-use Rattle.dexinsn.specs.Checking.{AreCutWith}
+use Rattle.dexinsn.proofs.Common.{◌-◌, length}
+use Rattle.dexinsn.specs.{cuts_of, AreCutWith}
 use Rattle.dexinsn.proofs.code.cut_units.Given as goal
 
 abbrev pub invariant-loop-at : goal.invariant-loop-at

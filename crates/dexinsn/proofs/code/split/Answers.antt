@@ -1,5 +1,4 @@
-use Rattle.std.proofs.Common.{Ok, rules}
-use Rattle.std.proofs.lemmas.List.{nil_from_length}
+use Rattle.dexinsn.proofs.Common.{Ok, rules, nil_from_length}
 use Rattle.dexinsn.specs.declared.code.SplitFault.TheVariants.{Empty}
 use Rattle.dexinsn.proofs.Once.{reported, only_fault, returned_all}
 use Rattle.dexinsn.proofs.code.split.Goals as goal

@@ -1,6 +1,5 @@
-use Rattle.std.proofs.Common.{◌≡◌, ◌/◌, ◌+◌, length, ap, sym, subst, arith}
-use Rattle.dexinsn.specs.Split.{cuts_of}
-use Rattle.dexinsn.specs.Checking.{AreNoted, begins_instruction, is_noted}
+use Rattle.dexinsn.proofs.Common.{◌≡◌, ◌/◌, ◌+◌, length, ap, sym, subst, arith}
+use Rattle.dexinsn.specs.{cuts_of, AreNoted, begins_instruction, is_noted}
 use Rattle.dexinsn.proofs.Outcome.{cut_bad_target, cut_code, cut_noted}
 use Rattle.dexinsn.proofs.Passed.{none_bits}
 use Rattle.dexinsn.proofs.code.split_units.Goals as goal

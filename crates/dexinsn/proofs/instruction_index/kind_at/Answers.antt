@@ -1,9 +1,5 @@
-use Rattle.std.proofs.Common.{◌≡◌, ℕ, ◌+◌, drop, get_or, slice_index, ap, sym, ◌∙◌, arith}
-use Rattle.std.specs.Option.{option_map, option_and_then}
-use Rattle.std.proofs.lemmas.List.{get_or-drop}
-use Rattle.dexspec.specs.Opcodes.{Opcode, opcode_of}
-use Rattle.dexspec.specs.Pieces.{low_byte}
-use Rattle.dexinsn.specs.Numbered.{kind_of_pool}
+use Rattle.dexinsn.proofs.Common.{◌≡◌, ℕ, ◌+◌, drop, get_or, slice_index, ap, sym, ◌∙◌, arith, option_map, option_and_then, get_or-drop, Opcode, opcode_of, low_byte}
+use Rattle.dexinsn.specs.{kind_of_pool}
 use Rattle.dexinsn.proofs.IndexRoom.{pool_of_first}
 use Rattle.dexinsn.proofs.instruction_index.kind_at.Goals as goal
 

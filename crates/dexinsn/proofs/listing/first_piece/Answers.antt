@@ -1,7 +1,5 @@
-use Rattle.std.proofs.Common.{◌≡◌, drop, ap, sym, ◌∙◌, subst, arith}
-use Rattle.dexspec.specs.Pieces.{piece_size, index_pool}
-use Rattle.dexinsn.specs.Stored.{left_by}
-use Rattle.dexinsn.specs.Listing.{kind_from, symbol_by, ListsFirst}
+use Rattle.dexinsn.proofs.Common.{◌≡◌, drop, ap, sym, ◌∙◌, subst, arith, piece_size, index_pool}
+use Rattle.dexinsn.specs.{left_by, kind_from, symbol_by, ListsFirst}
 use Rattle.dexinsn.proofs.Listings.{listing_end, listing_on, listing_more, payload_two, payload_four}
 use Rattle.dexinsn.proofs.listing.first_piece.Goals as goal
 

@@ -1,8 +1,6 @@
-use Rattle.std.proofs.Common.{◌≡◌, ℕ, Some, sym, subst, ◌∙◌, inl, inr, ne_eqb, nat_eq, Vec, Global, List, ℤ}
-use Rattle.std.proofs.lemmas.Bool.{cases_eq}
+use Rattle.dexinsn.proofs.Common.{◌≡◌, ℕ, Some, sym, subst, ◌∙◌, inl, inr, ne_eqb, nat_eq, Vec, Global, List, ℤ, cases_eq, ints_in, payload_targets}
 use Rattle.std.specs.HashMap.{get}
-use Rattle.dexspec.specs.Pieces.{ints_in, payload_targets}
-use Rattle.dexinsn.specs.internal.LongSwitches.{AreGrouped}
+use Rattle.dexinsn.specs.internal.{AreGrouped}
 use Rattle.dexinsn.specs.declared.target_group.TargetGroup.{TargetGroup}
 use Rattle.dexinsn.proofs.Placed.{some_size}
 use Rattle.dexinsn.proofs.Sizes.{piece_within}

@@ -1,5 +1,5 @@
-use Rattle.std.proofs.Common.{◌-◌, length}
-use Rattle.dexinsn.specs.internal.LongSwitches.{ArePayloads}
+use Rattle.dexinsn.proofs.Common.{◌-◌, length}
+use Rattle.dexinsn.specs.internal.{ArePayloads}
 use Rattle.dexinsn.proofs.long_switches.note_all.Given as goal
 
 abbrev pub invariant-loop-at : goal.invariant-loop-at

@@ -1,7 +1,4 @@
-use Rattle.std.proofs.Common.{◌+◌, ◌-◌, ◌*◌, sym, ap, subst, ◌++◌, ◌∷◌, [], List, ℤ, ◌≡◌, to_z, of_z, w32, rules, arith}
-use mir.Val.{SFits}
-use Rattle.std.proofs.lemmas.Int.{to_z-of_z}
-use Rattle.dexspec.specs.Pieces.{ints_in}
+use Rattle.dexinsn.proofs.Common.{◌+◌, ◌-◌, ◌*◌, sym, ap, subst, ◌++◌, ◌∷◌, [], List, ℤ, ◌≡◌, to_z, of_z, w32, rules, arith, SFits, to_z-of_z, ints_in}
 use Rattle.dexinsn.proofs.TargetGroups.{one_read}
 use Rattle.dexinsn.proofs.long_switches.sorted_targets.Goals as goal
 

@@ -1,5 +1,4 @@
-use Rattle.std.proofs.Common.{◌≡◌, ◌+◌, ◌-◌, ◌*◌, ◌++◌}
-use Rattle.dexspec.specs.Pieces.{ints_in}
+use Rattle.dexinsn.proofs.Common.{◌≡◌, ◌+◌, ◌-◌, ◌*◌, ◌++◌, ints_in}
 use Rattle.dexinsn.proofs.long_switches.sorted_targets.Given as goal
 
 abbrev pub invariant-loop-i : goal.invariant-loop-i

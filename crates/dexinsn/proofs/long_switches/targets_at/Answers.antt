@@ -1,6 +1,5 @@
-use Rattle.std.proofs.Common.{◌≡◌, ◌∙◌, ap, slice_index, arith}
-use Rattle.dexspec.specs.Pieces.{packed_switch_ident, sparse_switch_ident}
-use Rattle.dexinsn.specs.Payload.{ident_of}
+use Rattle.dexinsn.proofs.Common.{◌≡◌, ◌∙◌, ap, slice_index, arith, packed_switch_ident, sparse_switch_ident}
+use Rattle.dexinsn.specs.{ident_of}
 use Rattle.dexinsn.proofs.Sizes.{packed_fits, sparse_fits}
 use Rattle.dexinsn.proofs.long_switches.targets_at.Goals as goal
 

@@ -1,5 +1,4 @@
-use Rattle.std.proofs.Common.{◌+◌, ◌-◌, ◌*◌, sym, ◌∙◌, arith}
-use Rattle.std.proofs.lemmas.Int.{ints}
+use Rattle.dexinsn.proofs.Common.{◌+◌, ◌-◌, ◌*◌, sym, ◌∙◌, arith, ints}
 use Rattle.dexinsn.proofs.Keys.{do_rise-less, do_rise-not}
 use Rattle.dexinsn.proofs.payload.keys_rise.Goals as goal
 

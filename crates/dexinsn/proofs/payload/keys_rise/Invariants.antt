@@ -1,4 +1,4 @@
-use Rattle.std.proofs.Common.{◌≡◌, ◌+◌, ◌-◌, ◌*◌}
+use Rattle.dexinsn.proofs.Common.{◌≡◌, ◌+◌, ◌-◌, ◌*◌}
 use Rattle.dexinsn.proofs.Keys.{do_rise}
 use Rattle.dexinsn.proofs.payload.keys_rise.Given as goal
 

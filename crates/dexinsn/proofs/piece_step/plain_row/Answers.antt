@@ -1,6 +1,5 @@
-use Rattle.std.proofs.Common.{ℕ, ap, ◌∙◌, subst, arith}
-use Rattle.dexspec.specs.Pieces.{low_byte}
-use Rattle.dexinsn.specs.Opcode.{IsRowOf}
+use Rattle.dexinsn.proofs.Common.{ℕ, ap, ◌∙◌, subst, arith, low_byte}
+use Rattle.dexinsn.specs.{IsRowOf}
 use Rattle.dexinsn.proofs.piece_step.plain_row.Goals as goal
 
 pub returns : goal.returns

@@ -1,6 +1,5 @@
-use Rattle.std.proofs.Common.{◌≡◌, ◌+◌, ◌^◌, ◌<◌, slice_index, sym, ◌∙◌, arith}
-use Rattle.dexinsn.specs.Checking.{limit_of}
-use Rattle.dexinsn.specs.Opcode.{kind_of_index}
+use Rattle.dexinsn.proofs.Common.{◌≡◌, ◌+◌, ◌^◌, ◌<◌, slice_index, sym, ◌∙◌, arith}
+use Rattle.dexinsn.specs.{limit_of, kind_of_index}
 use Rattle.dexinsn.proofs.Plain.{plain_step, some_units}
 use Rattle.dexinsn.proofs.piece_step.plain_step.Goals as goal
 

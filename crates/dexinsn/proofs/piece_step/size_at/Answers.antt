@@ -1,5 +1,4 @@
-use Rattle.std.proofs.Common.{ap, ◌∙◌, sym}
-use Rattle.std.specs.Prelude.{Some}
+use Rattle.dexinsn.proofs.Common.{ap, ◌∙◌, sym, Some}
 use Rattle.dexinsn.proofs.Plain.{row_size}
 use Rattle.dexinsn.proofs.piece_step.size_at.Goals as goal
 

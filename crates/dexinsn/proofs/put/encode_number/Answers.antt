@@ -1,7 +1,5 @@
-use Rattle.std.proofs.Common.{ap, sym, subst, ◌∙◌}
-use Rattle.std.specs.List.{flat_map}
-use Rattle.dexspec.specs.Bytes.{ushort}
-use Rattle.dexinsn.specs.Stored.{index_units}
+use Rattle.dexinsn.proofs.Common.{ap, sym, subst, ◌∙◌, flat_map, ushort}
+use Rattle.dexinsn.specs.{index_units}
 use Rattle.dexinsn.proofs.PutUnits.{halves, one_half}
 use Rattle.dexinsn.proofs.put.encode_number.Goals as goal
 

@@ -1,10 +1,5 @@
-use Rattle.std.proofs.Common.{◌≡◌, ℕ, ◌+◌, ◌<◌, length, drop, get_or, ap, sym, ◌∙◌, subst, arith}
-use Rattle.std.specs.List.{flat_map}
-use Rattle.dexspec.specs.Bytes.{ushort}
-use Rattle.dexspec.specs.Pieces.{is_wide_index}
-use Rattle.dexhead.proofs.Encoded.{Completes, completes_none}
-use Rattle.dexinsn.specs.Units.{units_in}
-use Rattle.dexinsn.specs.Stored.{after_index, spelled_from, Follow}
+use Rattle.dexinsn.proofs.Common.{◌≡◌, ℕ, ◌+◌, ◌<◌, length, drop, get_or, ap, sym, ◌∙◌, subst, arith, flat_map, ushort, is_wide_index, Completes, completes_none}
+use Rattle.dexinsn.specs.{units_in, after_index, spelled_from, Follow}
 use Rattle.dexinsn.proofs.Halves.{length_from}
 use Rattle.dexinsn.proofs.PutUnits.{stored_follow, Next, next_index, follow_within, put_more, put_last}
 use Rattle.dexinsn.proofs.put.encode_numbered.Goals as goal

@@ -1,9 +1,5 @@
-use Rattle.std.proofs.Common.{drop}
-use Rattle.std.specs.List.{flat_map}
-use Rattle.dexspec.specs.Bytes.{ushort}
-use Rattle.dexhead.proofs.Encoded.{Completes}
-use Rattle.dexinsn.specs.Units.{units_in}
-use Rattle.dexinsn.specs.Stored.{spelled_from, Follow}
+use Rattle.dexinsn.proofs.Common.{drop, flat_map, ushort, Completes}
+use Rattle.dexinsn.specs.{units_in, spelled_from, Follow}
 use Rattle.dexinsn.proofs.put.encode_numbered.Given as goal
 
 abbrev pub invariant-loop-index : goal.invariant-loop-index

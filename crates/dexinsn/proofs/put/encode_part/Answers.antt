@@ -1,4 +1,4 @@
-use Rattle.std.proofs.Common.{sym, subst, ◌∙◌}
+use Rattle.dexinsn.proofs.Common.{sym, subst, ◌∙◌}
 use Rattle.dexinsn.proofs.PutUnits.{part_bytes}
 use Rattle.dexinsn.proofs.put.encode_part.Goals as goal
 

@@ -1,4 +1,4 @@
-use Rattle.std.proofs.Common.{arith}
+use Rattle.dexinsn.proofs.Common.{arith}
 use Rattle.dexinsn.proofs.Meanings.{bytes_put}
 use Rattle.dexinsn.proofs.PutUnits.{bytes_bound}
 use Rattle.dexinsn.proofs.put.put_pieces.Goals as goal

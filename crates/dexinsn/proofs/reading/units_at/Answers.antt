@@ -1,5 +1,4 @@
-use Rattle.std.proofs.Common.{◌≡◌, ◌+◌, ◌*◌, true, false, sym, ap, drop, subst, arith, ◌∙◌}
-use Rattle.dexspec.specs.Sections.{IsInData}
+use Rattle.dexinsn.proofs.Common.{◌≡◌, ◌+◌, ◌*◌, true, false, sym, ap, drop, subst, arith, ◌∙◌, IsInData}
 use Rattle.dexinsn.proofs.CodeRead.{no_room, units_there}
 use Rattle.dexinsn.proofs.reading.units_at.Goals as goal
 

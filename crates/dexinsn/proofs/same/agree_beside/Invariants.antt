@@ -1,7 +1,6 @@
-use Rattle.std.proofs.Common.{drop}
-use Rattle.dexinsn.specs.Units.{units_in}
-use Rattle.dexinsn.specs.Stored.{Follow}
-use Rattle.dexinsn.specs.internal.Same.{AgreeBeside}
+use Rattle.dexinsn.proofs.Common.{drop}
+use Rattle.dexinsn.specs.{units_in, Follow}
+use Rattle.dexinsn.specs.internal.{AgreeBeside}
 use Rattle.dexinsn.proofs.same.agree_beside.Given as goal
 
 abbrev pub invariant-loop-index : goal.invariant-loop-index

@@ -1,8 +1,4 @@
-use Rattle.std.proofs.Common.{◌≡◌, ℕ, ◌^◌, ◌<◌, pos, to_z, of_z, w64, arith, eqb-true, eq-eqb}
-use Rattle.std.specs.Prelude.{bit_and}
-use Rattle.std.specs.Int.{bit_not}
-use lib.IntN.{nat_abs}
-use Rattle.std.proofs.lemmas.Int.{ints}
+use Rattle.dexinsn.proofs.Common.{◌≡◌, ℕ, ◌^◌, ◌<◌, pos, to_z, of_z, w64, arith, eqb-true, eq-eqb, bit_and, bit_not, nat_abs, ints}
 use Rattle.dexinsn.proofs.StartBits.{places_are}
 use Rattle.dexinsn.proofs.start_bits.are_set.Goals as goal
 

@@ -1,4 +1,4 @@
-use Rattle.std.proofs.Common.{◌%◌, ◌^◌, ◌<◌, slice_index, ◌/◌, rules, refl, arith}
+use Rattle.dexinsn.proofs.Common.{◌%◌, ◌^◌, ◌<◌, slice_index, ◌/◌, rules, refl, arith}
 use Rattle.dexinsn.proofs.StartBits.{bits_of_word, bits_of_words}
 use Rattle.dexinsn.proofs.start_bits.bits_from.Goals as goal
 

@@ -1,8 +1,5 @@
-use Rattle.std.proofs.Common.{pos, ◌+ℤ◌, refl, rules, subst, sym, w32}
-use mir.Val.{SFits}
-use Rattle.std.proofs.lemmas.List.{take_all}
-use Rattle.std.proofs.lemmas.List.Elements.{All-more, All-same}
-use Rattle.dexinsn.specs.internal.LongSwitches.{HasPlaces}
+use Rattle.dexinsn.proofs.Common.{pos, ◌+ℤ◌, refl, rules, subst, sym, w32, SFits, take_all, All-more, All-same}
+use Rattle.dexinsn.specs.internal.{HasPlaces}
 use Rattle.dexinsn.specs.declared.target_group.TargetGroup.{TargetGroup}
 use Rattle.dexinsn.proofs.StartBits.{sum_is}
 use Rattle.dexinsn.proofs.start_bits.groups_right.Goals as goal

@@ -1,6 +1,5 @@
-use Rattle.std.proofs.Common.{take, pos, ◌+ℤ◌}
-use Rattle.std.specs.List.{All}
-use Rattle.dexinsn.specs.internal.LongSwitches.{HasPlaces}
+use Rattle.dexinsn.proofs.Common.{take, pos, ◌+ℤ◌, All}
+use Rattle.dexinsn.specs.internal.{HasPlaces}
 use Rattle.dexinsn.proofs.start_bits.groups_right.Given as goal
 
 abbrev pub invariant-loop-group : goal.invariant-loop-group

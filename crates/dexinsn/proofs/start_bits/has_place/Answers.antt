@@ -1,6 +1,4 @@
-use Rattle.std.proofs.Common.{◌≡◌, ℕ, ◌/◌, ◌%◌, ◌^◌, pos, slice_index, to_z, of_z, w64, arith, eqb-true, eq-eqb}
-use lib.IntN.{nat_abs}
-use Rattle.std.proofs.lemmas.Int.{ints}
+use Rattle.dexinsn.proofs.Common.{◌≡◌, ℕ, ◌/◌, ◌%◌, ◌^◌, pos, slice_index, to_z, of_z, w64, arith, eqb-true, eq-eqb, nat_abs, ints}
 use Rattle.dexinsn.proofs.Placed.{no_place_past, bit_is}
 use Rattle.dexinsn.proofs.start_bits.has_place.Goals as goal
 

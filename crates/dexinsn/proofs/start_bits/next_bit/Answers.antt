@@ -1,4 +1,4 @@
-use Rattle.std.proofs.Common.{◌/◌, ◌^◌, ◌<◌, slice_index, refl, arith}
+use Rattle.dexinsn.proofs.Common.{◌/◌, ◌^◌, ◌<◌, slice_index, refl, arith}
 use Rattle.dexinsn.proofs.NextBits.{none_left, word_done, word_has}
 use Rattle.dexinsn.proofs.start_bits.next_bit.Goals as goal
 

@@ -1,4 +1,4 @@
-use Rattle.std.proofs.Common.{◌-◌, ◌*◌, length}
+use Rattle.dexinsn.proofs.Common.{◌-◌, ◌*◌, length}
 use Rattle.dexinsn.proofs.NextBits.{NoneUpTo}
 use Rattle.dexinsn.proofs.start_bits.next_bit.Given as goal
 

@@ -1,8 +1,5 @@
-use Rattle.std.proofs.Common.{◌≡◌, ℕ, ◌*◌, ◌/◌, ◌%◌, ◌^◌, get_or, set, subst, sym}
-use Rattle.std.specs.Prelude.{◌↔◌, bit_or}
-use Rattle.std.specs.Int.{from_bool}
-use Rattle.std.proofs.lemmas.List.{get_or_read}
-use Rattle.dexinsn.specs.internal.LongSwitches.{HasBit}
+use Rattle.dexinsn.proofs.Common.{◌≡◌, ℕ, ◌*◌, ◌/◌, ◌%◌, ◌^◌, get_or, set, subst, sym, ◌↔◌, bit_or, from_bool, get_or_read}
+use Rattle.dexinsn.specs.internal.{HasBit}
 use Rattle.dexinsn.proofs.StartBits.{bit_is_put, others_kept}
 use Rattle.dexinsn.proofs.start_bits.put_bit.Goals as goal
 

@@ -1,7 +1,5 @@
-use Rattle.std.proofs.Common.{◌≡◌, ℕ, ◌*◌, ◌/◌, ◌%◌, ◌^◌, get_or, set, subst, sym}
-use Rattle.std.specs.Prelude.{◌↔◌, bit_or}
-use Rattle.std.proofs.lemmas.List.{get_or_read}
-use Rattle.dexinsn.specs.internal.LongSwitches.{HasBit}
+use Rattle.dexinsn.proofs.Common.{◌≡◌, ℕ, ◌*◌, ◌/◌, ◌%◌, ◌^◌, get_or, set, subst, sym, ◌↔◌, bit_or, get_or_read}
+use Rattle.dexinsn.specs.internal.{HasBit}
 use Rattle.dexinsn.proofs.StartBits.{bit_is_set, others_stay}
 use Rattle.dexinsn.proofs.start_bits.set_bit.Goals as goal
 

@@ -1,5 +1,5 @@
-use Rattle.std.proofs.Common.{◌∷◌, ◌++◌, [], Some, sym, ap, subst}
-use Rattle.dexinsn.specs.Fitting.{IsGreatest}
+use Rattle.dexinsn.proofs.Common.{◌∷◌, ◌++◌, [], Some, sym, ap, subst}
+use Rattle.dexinsn.specs.{IsGreatest}
 use Rattle.dexinsn.proofs.Fits.{greater_most}
 use Rattle.dexinsn.proofs.symbol_indices.greater.Goals as goal
 

@@ -1,6 +1,5 @@
-use Rattle.std.proofs.Common.{take}
-use Rattle.std.specs.List.{flat_map}
-use Rattle.dexinsn.specs.Fitting.{IsGreatest, short_at}
+use Rattle.dexinsn.proofs.Common.{take, flat_map}
+use Rattle.dexinsn.specs.{IsGreatest, short_at}
 use Rattle.dexinsn.proofs.symbol_indices.greatest_short_string.Given as goal
 
 abbrev pub invariant-loop-index : goal.invariant-loop-index

@@ -1,8 +1,5 @@
-use Rattle.std.proofs.Common.{refl, subst, arith}
-use Rattle.std.specs.List.{All}
-use Rattle.std.proofs.lemmas.List.{take_all}
-use Rattle.std.proofs.lemmas.List.Elements.{All-more}
-use Rattle.dexinsn.specs.Stored.{HasPlaceAt}
+use Rattle.dexinsn.proofs.Common.{refl, subst, arith, All, take_all, All-more}
+use Rattle.dexinsn.specs.{HasPlaceAt}
 use Rattle.dexinsn.proofs.symbol_indices.have_places.Goals as goal
 
 pub loop-index-preserved : goal.loop-index-preserved

@@ -1,6 +1,5 @@
-use Rattle.std.proofs.Common.{take}
-use Rattle.std.specs.List.{All}
-use Rattle.dexinsn.specs.Stored.{HasPlaceAt}
+use Rattle.dexinsn.proofs.Common.{take, All}
+use Rattle.dexinsn.specs.{HasPlaceAt}
 use Rattle.dexinsn.proofs.symbol_indices.have_places.Given as goal
 
 abbrev pub invariant-loop-index : goal.invariant-loop-index

@@ -1,5 +1,5 @@
-use Rattle.std.proofs.Common.{sym, ◌∙◌, ap, subst, arith}
-use Rattle.dexinsn.specs.Stored.{HasPlaceAt, IsIndexed, renumbered_index}
+use Rattle.dexinsn.proofs.Common.{sym, ◌∙◌, ap, subst, arith}
+use Rattle.dexinsn.specs.{HasPlaceAt, IsIndexed, renumbered_index}
 use Rattle.dexinsn.proofs.Steps.{unchanged, changed_more}
 use Rattle.dexinsn.proofs.symbol_indices.renumber_indices.Goals as goal
 

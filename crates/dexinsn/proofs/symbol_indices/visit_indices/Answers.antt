@@ -1,7 +1,6 @@
-use Rattle.std.proofs.Common.{◌∷◌, [], get_or, refl, subst}
+use Rattle.dexinsn.proofs.Common.{◌∷◌, [], get_or, refl, subst, visited_more, visited_all}
 use Rattle.dexinsn.specs.declared.pieces.Index.{Index}
-use Rattle.dexinsn.specs.Stored.{use_at}
-use Rattle.dexpool.proofs.Visits.{visited_more, visited_all}
+use Rattle.dexinsn.specs.{use_at}
 use Rattle.dexinsn.proofs.symbol_indices.visit_indices.Goals as goal
 
 -- instead of an index that is not there

@@ -1,6 +1,5 @@
-use Rattle.std.proofs.Common.{◌∷◌, [], take}
-use Rattle.std.specs.List.{FoldsTo, flat_map}
-use Rattle.dexinsn.specs.Stored.{use_at}
+use Rattle.dexinsn.proofs.Common.{◌∷◌, [], take, FoldsTo, flat_map}
+use Rattle.dexinsn.specs.{use_at}
 use Rattle.dexinsn.proofs.symbol_indices.visit_indices.Given as goal
 
 abbrev pub invariant-loop-index : goal.invariant-loop-index

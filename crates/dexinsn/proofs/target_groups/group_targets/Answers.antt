@@ -1,9 +1,5 @@
-use Rattle.std.proofs.Common.{◌≡◌, ℤ, pos, Bool, true, List, get_or, to_z, of_z, w32, sym, ◌∙◌, subst, arith, rules}
-use Rattle.std.specs.Prelude.{◌↔◌}
-use mir.Val.{SFits}
-use Rattle.std.proofs.lemmas.Int.{to_z-of_z}
-use Rattle.std.proofs.lemmas.List.{take_all}
-use Rattle.dexinsn.specs.internal.LongSwitches.{AllInGroup, AreGrouped}
+use Rattle.dexinsn.proofs.Common.{◌≡◌, ℤ, pos, Bool, true, List, get_or, to_z, of_z, w32, sym, ◌∙◌, subst, arith, rules, ◌↔◌, SFits, to_z-of_z, take_all}
+use Rattle.dexinsn.specs.internal.{AllInGroup, AreGrouped}
 use Rattle.dexinsn.specs.declared.target_group.TargetGroup.{TargetGroup}
 use Rattle.dexinsn.proofs.TargetGroups.{AreGroupedTo, first_grouped, next_near, next_far, all_grouped}
 use Rattle.dexinsn.proofs.target_groups.group_targets.Goals as goal

@@ -1,5 +1,4 @@
-use Rattle.std.proofs.Common.{ltb, ltb-false, ltb-true, arith, rules}
-use Rattle.std.proofs.lemmas.List.Sorted.{IsPartitionPoint-from_clause, IsPartitionedBy-ltb}
+use Rattle.dexinsn.proofs.Common.{ltb, ltb-false, ltb-true, arith, rules, IsPartitionPoint-from_clause, IsPartitionedBy-ltb}
 use Rattle.dexinsn.specs.declared.pieces.Index.{Index}
 use Rattle.dexinsn.proofs.BlankUnits.{rise_by_unit}
 use Rattle.dexinsn.proofs.unit.count_before.Goals as goal

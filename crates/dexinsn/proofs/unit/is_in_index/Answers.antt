@@ -1,5 +1,4 @@
-use Rattle.std.proofs.Common.{◌==◌, ◌&&◌, ◌||◌, ◌+◌, Bool, drop, ap, sym, ◌∙◌, eq-eqb, ne_eqb}
-use Rattle.dexspec.specs.Pieces.{is_wide_index}
+use Rattle.dexinsn.proofs.Common.{◌==◌, ◌&&◌, ◌||◌, ◌+◌, Bool, drop, ap, sym, ◌∙◌, eq-eqb, ne_eqb, is_wide_index}
 use Rattle.dexinsn.proofs.unit.is_in_index.Goals as goal
 
 pub returns-then-unit-first : goal.returns-then-unit-first

@@ -1,6 +1,6 @@
-use Rattle.std.proofs.Common.{◌≡◌, ℕ, ◌+◌, ◌-◌, ◌<◌, length, get_or, subst, ◌∙◌, arith}
+use Rattle.dexinsn.proofs.Common.{◌≡◌, ℕ, ◌+◌, ◌-◌, ◌<◌, length, get_or, subst, ◌∙◌, arith}
 use Rattle.dexinsn.specs.declared.pieces.Index.{Index}
-use Rattle.dexinsn.specs.Blank.{IsCountBefore}
+use Rattle.dexinsn.specs.{IsCountBefore}
 use Rattle.dexinsn.proofs.BlankUnits.{any_default, last_covers, none_covers, stored_rise}
 use Rattle.dexinsn.proofs.Lined.{indexed_at}
 use Rattle.dexinsn.proofs.unit.is_of_index.Goals as goal

@@ -1,6 +1,5 @@
-use Rattle.std.proofs.Common.{inl, inr, arith, subst, Bool}
-use Rattle.std.proofs.lemmas.Bool.{cases_lt}
-use Rattle.dexinsn.specs.Checking.{HasTargetsAt}
+use Rattle.dexinsn.proofs.Common.{inl, inr, arith, subst, Bool, cases_lt}
+use Rattle.dexinsn.specs.{HasTargetsAt}
 use Rattle.dexinsn.proofs.NotedTargets.{all_right, one_wrong}
 use Rattle.dexinsn.proofs.checking.TargetChecker.all_targets_right.Goals as goal
 

@@ -1,9 +1,5 @@
-use Rattle.std.proofs.Common.{refl, rules, arith}
-use mir.Val.{SFits}
-use mir.Syntax.{w32}
-use Rattle.dexinsn.specs.Opcode.{format_of}
-use Rattle.dexinsn.specs.Payload.{ident_of}
-use Rattle.dexinsn.specs.Checking.{begins_instruction}
+use Rattle.dexinsn.proofs.Common.{refl, rules, arith, SFits, w32}
+use Rattle.dexinsn.specs.{format_of, ident_of, begins_instruction}
 use Rattle.dexinsn.proofs.RightTargets.{branches-payload, branches-other, place_is}
 use Rattle.dexinsn.proofs.Placed.{test_is, format_other, format_switch}
 use Rattle.dexinsn.proofs.checking.TargetChecker.branch_targets_right.Goals as goal

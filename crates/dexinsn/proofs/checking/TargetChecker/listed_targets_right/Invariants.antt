@@ -1,7 +1,5 @@
-use Rattle.std.proofs.Common.{◌≡◌, ◌+◌, ◌-◌, ◌*◌, List}
-use Rattle.dexspec.specs.Pieces.{Cut, ints_in}
-use Rattle.dexinsn.specs.Split.{are_right_targets}
-use Rattle.dexinsn.specs.Checking.{AreBitsOf, begins_instruction}
+use Rattle.dexinsn.proofs.Common.{◌≡◌, ◌+◌, ◌-◌, ◌*◌, List, Cut, ints_in}
+use Rattle.dexinsn.specs.{are_right_targets, AreBitsOf, begins_instruction}
 use Rattle.dexinsn.proofs.checking.TargetChecker.listed_targets_right.Given as goal
 
 abbrev pub invariant-loop-i : goal.invariant-loop-i

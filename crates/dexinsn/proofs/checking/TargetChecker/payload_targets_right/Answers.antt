@@ -1,10 +1,6 @@
-use Rattle.std.proofs.Common.{◌≡◌, ℕ, pos, slice_index, to_z, of_z, w64, ap, sym, ◌∙◌, subst, ne_eqb}
-use lib.IntN.{nat_abs}
-use Rattle.std.proofs.lemmas.Int.{to_z-of_z}
-use Rattle.dexspec.specs.Pieces.{payload_targets}
-use Rattle.dexinsn.specs.Payload.{ident_of}
-use Rattle.dexinsn.specs.internal.LongSwitches.{HasPlace}
-use Rattle.dexinsn.specs.Split.{are_right_targets}
+use Rattle.dexinsn.proofs.Common.{◌≡◌, ℕ, pos, slice_index, to_z, of_z, w64, ap, sym, ◌∙◌, subst, ne_eqb, nat_abs, to_z-of_z, payload_targets}
+use Rattle.dexinsn.specs.{ident_of, are_right_targets}
+use Rattle.dexinsn.specs.internal.{HasPlace}
 use Rattle.dexinsn.proofs.RightTargets.{has_targets-nowhere, has_targets-payload}
 use Rattle.dexinsn.proofs.Placed.{at_place, ident_begins, no_payload, payload_by_unit}
 use Rattle.dexinsn.proofs.StartBits.{groups_are, start_bits}

@@ -1,8 +1,5 @@
-use Rattle.std.proofs.Common.{ℕ, slice_index, Some, None, ap, sym, ◌∙◌}
-use Rattle.std.specs.Option.{option_map}
-use Rattle.dexspec.specs.Opcodes.{Opcode, opcode_of}
-use Rattle.dexspec.specs.Pieces.{is_payload_ident}
-use Rattle.dexinsn.specs.Opcode.{format_of}
+use Rattle.dexinsn.proofs.Common.{ℕ, slice_index, Some, None, ap, sym, ◌∙◌, option_map, Opcode, opcode_of, is_payload_ident}
+use Rattle.dexinsn.specs.{format_of}
 use Rattle.dexinsn.proofs.Sizes.{instruction_fits, piece_within}
 use Rattle.dexinsn.proofs.Starts.{payload_is}
 use Rattle.dexinsn.proofs.RightTargets.{right-payload, right-instruction}

@@ -1,7 +1,5 @@
-use Rattle.std.proofs.Common.{◌≡◌, pos, false, get_or, to_z, of_z, w64, ap, ◌∙◌, subst, arith}
-use Rattle.std.specs.Prelude.{◌↔◌, true}
-use Rattle.std.proofs.lemmas.Int.{ints}
-use Rattle.dexinsn.specs.internal.LongSwitches.{HasPlace}
+use Rattle.dexinsn.proofs.Common.{◌≡◌, pos, false, get_or, to_z, of_z, w64, ap, ◌∙◌, subst, arith, ◌↔◌, true, ints}
+use Rattle.dexinsn.specs.internal.{HasPlace}
 use Rattle.dexinsn.proofs.StartsRead.{test_in}
 use Rattle.dexinsn.proofs.instruction_starts.InstructionStarts.contains.Goals as goal
 

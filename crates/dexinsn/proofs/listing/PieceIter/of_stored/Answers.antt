@@ -1,4 +1,4 @@
-use Rattle.dexinsn.specs.Units.{units_in}
+use Rattle.dexinsn.specs.{units_in}
 use Rattle.dexinsn.proofs.Listings.{listing_start, listing_whole}
 use Rattle.dexinsn.proofs.listing.PieceIter.of_stored.Goals as goal
 

@@ -1,7 +1,5 @@
-use Rattle.std.proofs.Common.{sym, subst}
-use Rattle.std.specs.List.{All}
-use Rattle.dexinsn.specs.Units.{units_in}
-use Rattle.dexinsn.specs.Numbered.{HasPlace}
+use Rattle.dexinsn.proofs.Common.{sym, subst, All}
+use Rattle.dexinsn.specs.{units_in, HasPlace}
 use Rattle.dexinsn.proofs.Lined.{indexed_for, places_for, places_back_for}
 use Rattle.dexinsn.proofs.pieces.Pieces.fits.Goals as goal
 

@@ -1,6 +1,5 @@
-use Rattle.std.proofs.Common.{subst}
-use Rattle.dexinsn.specs.Numbered.{FitPlaces}
-use Rattle.dexinsn.specs.Units.{units_in}
+use Rattle.dexinsn.proofs.Common.{subst}
+use Rattle.dexinsn.specs.{FitPlaces, units_in}
 use Rattle.dexinsn.proofs.Fits.{stored_fit}
 use Rattle.dexinsn.proofs.pieces.Pieces.numbers_fit.Goals as goal
 

@@ -1,8 +1,5 @@
-use Rattle.std.proofs.Common.{List, sym, ◌∙◌, ap, subst}
-use Rattle.std.specs.List.{All}
-use Rattle.dexinsn.specs.Units.{units_in}
-use Rattle.dexinsn.specs.Numbered.{NumberedPiece, HasPlace, renumbered}
-use Rattle.dexinsn.specs.Stored.{HasPlaceAt, IsIndexed}
+use Rattle.dexinsn.proofs.Common.{List, sym, ◌∙◌, ap, subst, All}
+use Rattle.dexinsn.specs.{units_in, NumberedPiece, HasPlace, renumbered, HasPlaceAt, IsIndexed}
 use Rattle.dexinsn.proofs.Lined.{stored_indexed, stored_places, renumber_all}
 use Rattle.dexinsn.proofs.pieces.Pieces.renumber.Goals as goal
 

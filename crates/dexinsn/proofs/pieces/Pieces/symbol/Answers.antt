@@ -1,8 +1,5 @@
-use Rattle.std.proofs.Common.{◌≡◌, ◌<◌, get_or, length, ap, sym, ◌∙◌, subst, arith}
-use Rattle.std.proofs.lemmas.Grind.{common_steps}
-use Rattle.dexinsn.specs.Units.{units_in}
-use Rattle.dexinsn.specs.Numbered.{uses_of}
-use Rattle.dexinsn.specs.Stored.{IsIndexed}
+use Rattle.dexinsn.proofs.Common.{◌≡◌, ◌<◌, get_or, length, ap, sym, ◌∙◌, subst, arith, common_steps}
+use Rattle.dexinsn.specs.{units_in, uses_of, IsIndexed}
 use Rattle.dexinsn.proofs.Lined.{count_for, symbol_for, indexed_at}
 use Rattle.dexinsn.proofs.pieces.Pieces.symbol.Goals as goal
 

@@ -1,7 +1,5 @@
-use Rattle.std.proofs.Common.{◌≡◌, length, ap, sym, ◌∙◌, arith}
-use Rattle.std.proofs.lemmas.Grind.{common_steps}
-use Rattle.dexinsn.specs.Units.{units_in}
-use Rattle.dexinsn.specs.Numbered.{uses_of}
+use Rattle.dexinsn.proofs.Common.{◌≡◌, length, ap, sym, ◌∙◌, arith, common_steps}
+use Rattle.dexinsn.specs.{units_in, uses_of}
 use Rattle.dexinsn.proofs.Lined.{count_for}
 use Rattle.dexinsn.proofs.pieces.Pieces.symbol_count.Goals as goal
 

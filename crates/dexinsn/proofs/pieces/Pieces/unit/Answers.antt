@@ -1,8 +1,5 @@
-use Rattle.std.proofs.Common.{◌≡◌, ◌*◌, ◌<◌, Bool, true, false, cond, length, slice_index, ap, sym, ◌∙◌, arith}
-use Rattle.std.specs.List.{flat_map, list_any}
-use Rattle.dexinsn.specs.Units.{units_in}
-use Rattle.dexinsn.specs.Numbered.{numbered_bytes}
-use Rattle.dexinsn.specs.Blank.{blank_units, covers}
+use Rattle.dexinsn.proofs.Common.{◌≡◌, ◌*◌, ◌<◌, Bool, true, false, cond, length, slice_index, ap, sym, ◌∙◌, arith, flat_map, list_any}
+use Rattle.dexinsn.specs.{units_in, numbered_bytes, blank_units, covers}
 use Rattle.dexinsn.proofs.BlankUnits.{blank_unit}
 use Rattle.dexinsn.proofs.PutUnits.{stored_length}
 use Rattle.dexinsn.proofs.pieces.Pieces.unit.Goals as goal

@@ -1,6 +1,5 @@
-use Rattle.std.proofs.Common.{◌≡◌, ◌*◌, length, ap, sym, ◌∙◌, arith}
-use Rattle.dexinsn.specs.Units.{units_in}
-use Rattle.dexinsn.specs.Numbered.{numbered_bytes}
+use Rattle.dexinsn.proofs.Common.{◌≡◌, ◌*◌, length, ap, sym, ◌∙◌, arith}
+use Rattle.dexinsn.specs.{units_in, numbered_bytes}
 use Rattle.dexinsn.proofs.PutUnits.{stored_length}
 use Rattle.dexinsn.proofs.pieces.Pieces.units.Goals as goal
 

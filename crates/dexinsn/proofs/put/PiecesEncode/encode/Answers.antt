@@ -1,9 +1,5 @@
-use Rattle.std.proofs.Common.{ap, sym, subst, ◌∙◌}
-use Rattle.std.specs.List.{flat_map}
-use Rattle.dexspec.specs.Bytes.{ushort}
-use Rattle.dexinsn.specs.Units.{units_in}
-use Rattle.dexinsn.specs.Numbered.{numbered_bytes}
-use Rattle.dexinsn.specs.Stored.{AreStored, spelled_from}
+use Rattle.dexinsn.proofs.Common.{ap, sym, subst, ◌∙◌, flat_map, ushort}
+use Rattle.dexinsn.specs.{units_in, numbered_bytes, AreStored, spelled_from}
 use Rattle.dexinsn.proofs.PutUnits.{stored_bytes}
 use Rattle.dexinsn.proofs.put.PiecesEncode.encode.Goals as goal
 

@@ -1,7 +1,6 @@
-use Rattle.std.proofs.Common.{◌≡◌, length, subst, sym, ap, ◌∙◌, refl}
-use Rattle.std.specs.List.{AllZip}
-use Rattle.dexinsn.specs.Units.{units_in}
-use Rattle.dexinsn.specs.internal.Same.{AreEquivalent, AreEqualMapped}
+use Rattle.dexinsn.proofs.Common.{◌≡◌, length, subst, sym, ap, ◌∙◌, refl, AllZip}
+use Rattle.dexinsn.specs.{units_in}
+use Rattle.dexinsn.specs.internal.{AreEquivalent, AreEqualMapped}
 use Rattle.dexinsn.proofs.SamePieces.{same_from_equivalent, equivalent_from_same}
 use Rattle.dexinsn.proofs.PutUnits.{stored_follow}
 use Rattle.dexinsn.proofs.Lined.{indexed_for}

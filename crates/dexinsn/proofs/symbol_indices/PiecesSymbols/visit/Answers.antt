@@ -1,9 +1,5 @@
-use Rattle.std.proofs.Common.{ap, subst, sym, ◌∙◌}
-use Rattle.std.specs.List.{FoldsTo}
-use Rattle.dexinsn.specs.Units.{units_in}
-use Rattle.dexinsn.specs.Numbered.{uses_of}
-use Rattle.dexinsn.specs.Stored.{use_at}
-use Rattle.dexpool.proofs.Visits.{one_each}
+use Rattle.dexinsn.proofs.Common.{ap, subst, sym, ◌∙◌, FoldsTo, one_each}
+use Rattle.dexinsn.specs.{units_in, uses_of, use_at}
 use Rattle.dexinsn.proofs.Lined.{indexed_for, uses_for}
 use Rattle.dexinsn.proofs.symbol_indices.PiecesSymbols.visit.Goals as goal
 

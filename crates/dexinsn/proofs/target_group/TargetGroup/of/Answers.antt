@@ -1,7 +1,5 @@
-use Rattle.std.proofs.Common.{◌≡◌, ℤ, true, w32, sym, subst}
-use Rattle.std.specs.Prelude.{◌↔◌}
-use Rattle.std.proofs.lemmas.Int.{to_z-of_z}
-use Rattle.dexinsn.specs.internal.LongSwitches.{AllFrom}
+use Rattle.dexinsn.proofs.Common.{◌≡◌, ℤ, true, w32, sym, subst, ◌↔◌, to_z-of_z}
+use Rattle.dexinsn.specs.internal.{AllFrom}
 use Rattle.dexinsn.proofs.TargetGroups.{one_target}
 use Rattle.dexinsn.proofs.target_group.TargetGroup.of.Goals as goal
 

@@ -1,9 +1,5 @@
-use Rattle.std.proofs.Common.{◌≡◌, ℕ, ◌*◌, ◌%◌, ◌^◌, ◌<◌, ℤ, pos, ◌+ℤ◌, ◌-ℤ◌, true, rules, to_z, of_z, w32, w64, sym, subst, arith}
-use Rattle.std.specs.Prelude.{◌↔◌, bit_or}
-use lib.IntN.{nat_abs}
-use mir.Val.{SFits}
-use Rattle.std.proofs.lemmas.Int.{ints, to_z-of_z}
-use Rattle.dexinsn.specs.internal.LongSwitches.{AllFrom}
+use Rattle.dexinsn.proofs.Common.{◌≡◌, ℕ, ◌*◌, ◌%◌, ◌^◌, ◌<◌, ℤ, pos, ◌+ℤ◌, ◌-ℤ◌, true, rules, to_z, of_z, w32, w64, sym, subst, arith, ◌↔◌, bit_or, nat_abs, SFits, ints, to_z-of_z}
+use Rattle.dexinsn.specs.internal.{AllFrom}
 use Rattle.dexinsn.proofs.TargetGroups.{bit_stays, one_more}
 use Rattle.dexinsn.proofs.target_group.TargetGroup.with.Goals as goal
 

@@ -1,6 +1,5 @@
 -- What faults of reading say of the file.
-use Rattle.dexinsn.proofs.Common.{◌≡◌, ℕ, List, Result, Ok, Err, Mentions, Cut, IsCode, ArePools}
-use Rattle.std.specs.Result.{IfErr}
+use Rattle.dexinsn.proofs.Common.{◌≡◌, ℕ, List, Result, Ok, Mentions, Cut, IsCode, ArePools}
 use Rattle.dexpool.specs.declared.faults.ItemFault.{ItemFault}
 use Rattle.dexpool.specs.declared.faults.ItemFault.TheVariants.{Refused, Memory}
 use Rattle.dexinsn.specs.declared.code.SplitFault.{SplitFault}

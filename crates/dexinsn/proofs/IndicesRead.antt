@@ -1,7 +1,7 @@
 -- The indices of pieces, one after the other.
-use Rattle.dexinsn.proofs.Common.{◌≡◌, ℕ, List, [], ◌∷◌, ◌++◌, drop, Option, Some, None, refl, ap, ◌∙◌, option_map, Pool, Cut, index_pool, SymbolKind}
+use Rattle.dexinsn.proofs.Common.{◌≡◌, ℕ, List, [], ◌∷◌, ◌++◌, drop, Option, Some, None, refl, ap, ◌∙◌, Pool, Cut, index_pool}
 use Rattle.dexinsn.specs.declared.pieces.Index.{Index}
-use Rattle.dexinsn.specs.{kind_of_pool, with_index_at, indices_at}
+use Rattle.dexinsn.specs.{with_index_at, indices_at}
 
 -- ---- one piece more
 

@@ -1,5 +1,5 @@
 -- Whether all pieces have valid targets, by those that are noted.
-use Rattle.dexinsn.proofs.Common.{◌≡◌, ℕ, ◌+◌, ◌*◌, ◌<◌, ◌==◌, ◌||◌, ◌&&◌, Bool, true, false, List, length, get_or, slice_index, Option, Some, None, refl, ap, sym, ◌∙◌, subst, arith, eq-eqb, eqb-true, IsTrue, option_map, option_map_or, All, Any, list_any, All-from_get_or, All-get_or, list_any_at, Any-from_list_any, Opcode, Format, opcode_of, F10x, F12x, F11n, F11x, F10t, F20t, F22x, F21t, F21s, F21h, F21c, F23x, F22b, F22s, F22t, F22c, F30t, F32x, F31i, F31t, F31c, F35c, F3rc, F51l, Cut, branch_offset, has_right_targets, is_payload_ident, low_byte, Mentions, uint_at, RegistersAt, length-ushorts_at, ArePools}
+use Rattle.dexinsn.proofs.Common.{◌≡◌, ℕ, ◌+◌, ◌*◌, ◌<◌, ◌==◌, ◌||◌, ◌&&◌, Bool, true, false, List, length, get_or, slice_index, Option, Some, None, refl, ap, sym, ◌∙◌, subst, arith, eq-eqb, eqb-true, IsTrue, option_map, option_map_or, All, Any, list_any, All-from_get_or, All-get_or, list_any_at, Any-from_list_any, Opcode, Format, opcode_of, F10t, F20t, F21t, F22t, F30t, F31t, Cut, branch_offset, has_right_targets, is_payload_ident, low_byte, Mentions, uint_at, RegistersAt, length-ushorts_at, ArePools}
 use Rattle.dexinsn.specs.internal.{HasBit}
 use Rattle.dexinsn.specs.declared.shape.PiecesShape.{PiecesShape}
 use Rattle.dexinsn.specs.{units_in, parts_in, pieces_with, AreCodeIndices, AreUnitsAt, indices_at, IsPieceAt, AreBitsOf, AreCodeStarts, AreNoted, ArePassed, AreAllRight, HasTargetsAt, HasNoCode, HasPiecesOf, IsChecked, IsShapeAt, begins_instruction, branches, is_noted, has_targets}

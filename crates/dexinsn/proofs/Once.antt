@@ -6,7 +6,7 @@ use Rattle.dexinsn.specs.declared.code.Cut.{Cut as CutOfCode}
 use Rattle.dexinsn.specs.declared.code.SplitFault.{SplitFault}
 use Rattle.dexinsn.specs.declared.code.SplitFault.TheVariants.{Empty, Piece, Target, Memory}
 use Rattle.dexinsn.specs.declared.code_fault.CodeFault.{CodeFault}
-use Rattle.dexinsn.specs.internal.{HasNumbersOf, IsCutFault, IsSplitFault, kind_of, unit_of}
+use Rattle.dexinsn.specs.internal.{HasNumbersOf, IsSplitFault, kind_of, unit_of}
 use Rattle.dexinsn.proofs.Sizes.{piece_size-fits}
 
 -- the pieces, and what is left, where no piece begins

@@ -1,5 +1,5 @@
 -- Units checked in one pass.
-use Rattle.dexinsn.proofs.Common.{◌≡◌, ℕ, ◌+◌, ◌-◌, ◌/◌, ◌<◌, ◌≤◌, ◌||◌, ◌&&◌, pos, Bool, true, false, List, [], ◌∷◌, ◌++◌, length, drop, slice_index, replicate, Some, None, inl, inr, refl, ap, sym, ◌∙◌, subst, arith, zero-add, length-drop, length-append, ◌↔◌, All, int_eq, cases_eq, drop-drop, drop_all, length-replicate, All-nil, All-push, All-head, All-tail, All-append, list_any-append, Mentions, Cut, AreCut, index_pool, piece_size}
+use Rattle.dexinsn.proofs.Common.{◌≡◌, ℕ, ◌+◌, ◌-◌, ◌/◌, ◌<◌, ◌≤◌, ◌||◌, ◌&&◌, pos, Bool, true, false, List, [], ◌∷◌, ◌++◌, length, drop, slice_index, replicate, Some, None, inl, inr, refl, ap, sym, ◌∙◌, subst, arith, zero-add, length-drop, length-append, ◌↔◌, All, int_eq, cases_eq, drop-drop, drop_all, length-replicate, All-push, All-head, All-tail, All-append, list_any-append, Mentions, Cut, AreCut, index_pool, piece_size}
 use Rattle.dexinsn.specs.{BreaksAt, FitsAt, IsInRange, indices_at, with_index_at, IsPieceAt, starts_with, units_of_all, AreBitsOf, AreCutWith, ArePassed, HasNoCode, HasNoStep, IndexCount, IsOutside, begins_instruction, is_noted}
 use Rattle.dexinsn.specs.internal.{HasBit}
 use Rattle.dexinsn.proofs.Cuts.{AreCut-push, units_of_all-push}

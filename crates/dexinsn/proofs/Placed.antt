@@ -1,10 +1,10 @@
 -- Places by their bits.
-use Rattle.dexinsn.proofs.Common.{◌≡◌, ℕ, ◌/◌, ◌%◌, ◌^◌, ◌≤◌, ◌==◌, ◌||◌, ◌&&◌, ℤ, pos, ◌<ℤ◌, Bool, true, false, List, length, slice_index, Option, Some, None, refl, ap, sym, ◌∙◌, subst, arith, eqb-true, negsuc, nat_abs, ◌↔◌, list_any, IsSome, bit_at, ints, get_or_past, bit_at-zero, Cut, is_payload_ident, F31t}
+use Rattle.dexinsn.proofs.Common.{◌≡◌, ℕ, ◌/◌, ◌%◌, ◌^◌, ◌≤◌, ◌==◌, ◌||◌, ◌&&◌, ℤ, pos, Bool, true, false, List, length, slice_index, Option, Some, None, refl, ap, sym, ◌∙◌, subst, arith, eqb-true, negsuc, nat_abs, ◌↔◌, list_any, IsSome, bit_at, get_or_past, bit_at-zero, Cut, is_payload_ident, F31t}
 use Rattle.dexinsn.specs.declared.format.Format.{Format}
-use Rattle.dexinsn.specs.declared.format.Format.TheVariants.{Format10x, Format12x, Format11n, Format11x, Format10t, Format20t, Format22x, Format21t, Format21s, Format21h, Format21c, Format23x, Format22b, Format22s, Format22t, Format22c, Format30t, Format32x, Format31i, Format31t, Format31c, Format35c, Format3rc, Format51l}
+use Rattle.dexinsn.specs.declared.format.Format.TheVariants.{Format31t}
 use Rattle.dexinsn.specs.{format_of, ident_of, starts_with, AreBitsOf, is_noted, has_targets}
 use Rattle.dexinsn.specs.declared.payload.PayloadKind.{PayloadKind}
-use Rattle.dexinsn.specs.declared.payload.PayloadKind.TheVariants.{PackedSwitch, SparseSwitch, ArrayData}
+use Rattle.dexinsn.specs.declared.payload.PayloadKind.TheVariants.{PackedSwitch}
 use Rattle.dexinsn.specs.internal.{HasBit, HasPlace}
 use Rattle.dexinsn.proofs.StartBits.{same_test}
 use Rattle.dexinsn.proofs.Starts.{starts_with-negsuc, starts_with-pos}

@@ -1,5 +1,5 @@
 -- Instructions with no index or one of 16 bits, found by their first unit and the row of their opcode.
-use Rattle.dexinsn.proofs.Common.{◌≡◌, ℕ, ◌+◌, ◌-◌, ◌/◌, ◌%◌, ◌^◌, ◌<◌, ◌≤◌, ◌==◌, ◌&&◌, ◌||◌, nat_le, Bool, true, false, cond, List, [], length, drop, slice_index, Option, Some, None, refl, ap, sym, ◌∙◌, subst, arith, add-zero, length-drop, All, MatchOption, option_map, option_map_or, option_and_then, le-leb, eqb-true, get_or-drop, All-nil, All-cons, Mentions, Pool, Format, Opcode, opcode_of, opcode_runs, units_in, F10x, F12x, F11n, F11x, F10t, F20t, F22x, F21t, F21s, F21h, F21c, F23x, F22b, F22s, F22t, F22c, F30t, F32x, F31i, F31t, F31c, F35c, F3rc, F51l, index_in, index_pool, instruction_size, is_first_unit, is_payload_ident, is_wide_index, low_byte, payload_size, piece_size, two_units, count_of, SymbolKind}
+use Rattle.dexinsn.proofs.Common.{◌≡◌, ℕ, ◌+◌, ◌-◌, ◌/◌, ◌%◌, ◌^◌, ◌<◌, ◌≤◌, ◌==◌, ◌&&◌, ◌||◌, nat_le, Bool, true, false, cond, List, [], length, drop, slice_index, Option, Some, None, refl, ap, sym, ◌∙◌, subst, arith, add-zero, length-drop, All, MatchOption, option_map, option_map_or, option_and_then, le-leb, eqb-true, get_or-drop, All-nil, All-cons, Mentions, Pool, Format, Opcode, opcode_of, opcode_runs, units_in, F10x, F20t, F30t, F32x, F35c, index_in, index_pool, instruction_size, is_first_unit, is_payload_ident, is_wide_index, low_byte, payload_size, piece_size, two_units, count_of, SymbolKind}
 use Rattle.dexinsn.specs.{IndexCount, IsStep, count_of_index, limit_of, index_room, kind_of_pool, IsPlainRow, IsRowOf, greatest_at, greatest_first, kind_of_index, with_index_at, FitsAt}
 use Rattle.dexinsn.specs.declared.opcodes.Row.{Row}
 use Rattle.dexinsn.proofs.IndexRoom.{pool_of_first}

@@ -1,5 +1,5 @@
 -- The number of units of a piece: at least one, and no more than there are.
-use Rattle.dexinsn.proofs.Common.{◌≡◌, ℕ, ◌+◌, ◌-◌, ◌*◌, ◌/◌, ◌%◌, ◌<◌, ◌≤◌, ◌==◌, nat_le, Bool, true, false, ◌&&◌, cond, List, [], ◌∷◌, length, drop, slice_index, Option, Some, None, refl, ap, sym, ◌∙◌, subst, arith, add-zero, length-drop, IsSome, option_map, leb-true, and_parts, cond_some, option_and_then_some, same_Some, get_or-drop, Opcode, Format, units_in, opcode_of, F10x, F12x, F11n, F11x, F10t, F20t, F22x, F21t, F21s, F21h, F21c, F23x, F22b, F22s, F22t, F22c, F30t, F32x, F31i, F31t, F31c, F35c, F3rc, F51l, piece_size, payload_size, payload_units, is_payload_in_order, is_payload_ident, element_count, element_width, instruction_size, is_first_unit, low_byte, packed_switch_ident, sparse_switch_ident}
+use Rattle.dexinsn.proofs.Common.{◌≡◌, ℕ, ◌+◌, ◌-◌, ◌*◌, ◌/◌, ◌%◌, ◌<◌, ◌≤◌, ◌==◌, nat_le, Bool, true, false, ◌&&◌, cond, List, [], ◌∷◌, length, drop, slice_index, Option, Some, None, refl, ap, sym, ◌∙◌, subst, arith, add-zero, length-drop, IsSome, option_map, leb-true, and_parts, cond_some, option_and_then_some, same_Some, get_or-drop, Opcode, Format, units_in, opcode_of, F10x, piece_size, payload_size, payload_units, is_payload_in_order, is_payload_ident, element_count, element_width, instruction_size, is_first_unit, low_byte, packed_switch_ident, sparse_switch_ident}
 
 -- the piece's size n is at least one, and within the units
 abbrev pub Fits : List ℕ → ℕ → Type 0

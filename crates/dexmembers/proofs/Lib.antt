@@ -7,7 +7,6 @@ pub mod DataOfFile
 pub mod DirectorySpelled
 pub mod Entered
 pub mod FewMembers
-pub mod FittingMembers
 pub mod HeldMembers
 pub mod Images
 pub mod DirectoryCache

@@ -1,17 +1,13 @@
 -- What a class declares, with its numbers mapped to those of another numbering.
-use Rattle.std.specs.Prelude.{◌^◌, ◌<◌, map, All, IfSome, ◌↔◌, Bool, IsTrue, List}
+use Rattle.std.specs.Prelude.{map, All, IfSome}
 use Rattle.std.specs.Option.{option_map}
-use Rattle.dexspec.specs.Mentions.{Mentions}
-use Rattle.dexpool.specs.declared.symbols.SymbolKind.{SymbolKind}
 use Rattle.dexpool.specs.declared.symbols.SymbolKind.TheVariants as kinds
-use Rattle.dexpool.specs.Laws.{MapsAll}
-use Rattle.dexpool.specs.Numberings.{Maps, AllMapTo}
-use Rattle.dexpool.specs.Pools.{count_of}
+use Rattle.dexpool.specs.Numberings.{Maps}
 use Rattle.dexcode.specs.Renumbering.{renumbered_item}
 use Rattle.dexcode.specs.Renumbering as code
 use Rattle.dexval.specs.Renumbering.{remapped, renumbered_set, renumbered_values, SetHasPlaces, HavePlaces}
 use Rattle.dexpool.specs.Images.{IsMapped}
-use Rattle.dexmembers.specs.Numbered.{NumberedField, NumberedMethod, NumberedMembers, IsKnownMethod}
+use Rattle.dexmembers.specs.Numbered.{NumberedField, NumberedMethod, NumberedMembers}
 use Rattle.dexmembers.specs.Held.{HeldField, HeldMethod}
 
 -- ---- other numbers
@@ -80,22 +76,3 @@ pub record MembersHavePlaces (r : Maps) (x : NumberedMembers) : Type 0 where
   pub direct_methods_mapped : All (MethodHasPlaces r) x.direct_methods
   pub virtual_methods_mapped : All (MethodHasPlaces r) x.virtual_methods
   pub values_mapped : HavePlaces r x.static_values
-
--- the image of each number of the first numbering is that of the same symbol in the second, which has less than 2^32 of
--- each kind
-pub record MapsInto (m n : Mentions) (r : Maps) : Type 0 where
-  pub maps_to : AllMapTo m n r
-  pub all : MapsAll m r
-  pub few : (kind : SymbolKind) → count_of kind n < 2 ^ 32
-
--- each number of the methods is that of a symbol
-abbrev pub AreKnownMethods : Mentions → List NumberedMethod → Type 0
-AreKnownMethods m xs = All (IsKnownMethod m) xs
-
--- the image of each number of the methods fits its place
-abbrev pub MethodsHavePlaces : Maps → List NumberedMethod → Type 0
-MethodsHavePlaces r xs = All (MethodHasPlaces r) xs
-
--- where numbers are known, and map into another numbering, the answer says whether their images fit their places
-abbrev pub ReportsPlaces : {X : Type 0} → (Mentions → X → Type 0) → (Maps → X → Type 0) → Maps → X → Bool → Type 0
-ReportsPlaces Known Fit r x answer = (m n : Mentions) → MapsInto m n r → Known m x → IsTrue answer ↔ Fit r x

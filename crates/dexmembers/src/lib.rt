@@ -21,7 +21,6 @@ mod directory_put;
 mod encoded_lists;
 mod encodings;
 mod field_views;
-mod fitting;
 mod marking;
 mod members;
 mod method_views;

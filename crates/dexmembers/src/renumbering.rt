@@ -36,8 +36,8 @@ impl<'a> Members<'a> {
     /// Maps each number of a symbol in what the class declares to its image.
     ///
     /// Condition: each number has an image that fits its place: below 2^16 in an instruction but for
-    /// const-string/jumbo, below 2^32 - 1 in a debug program, and below 2^32 elsewhere. For numberings that are joined
-    /// [`instructions_fit`](Members::instructions_fit) checks it.
+    /// const-string/jumbo, below 2^32 - 1 in a debug program, and below 2^32 elsewhere.
+    /// [`members_cut_law`](crate::members_cut_law) and [`members_joined_law`](crate::members_joined_law) say when it has.
     pub fn renumber(&mut self, remap: &Remap)
         requires { MembersHavePlaces remap.now self.old }
         ensures { self.new ≡ renumbered_members remap.now self.old }

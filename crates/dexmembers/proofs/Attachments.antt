@@ -1,10 +1,11 @@
 -- Members put together: what the places of a directory are looked up to.
-use Rattle.std.proofs.Common.{◌≡◌, ℕ, ◌<◌, Bool, true, false, cond, List, [], ◌∷◌, length, map, refl, sym, ap, ◌∙◌, subst, Option, Some, None}
+use Rattle.std.proofs.Common.{◌≡◌, ℕ, ◌<◌, Bool, true, false, cond, List, [], ◌∷◌, get_or, length, map, refl, sym, ap, ◌∙◌, subst, Option, Some, None}
 use Rattle.std.specs.Prelude.{All, IfSome, unwrap_or}
 use Rattle.std.specs.Ordering.{nat_cmp, is_eq}
 use Rattle.std.specs.FinMap.Entries.{find}
 use Rattle.dexspec.specs.Lists.{zip_with}
 use Rattle.dexspec.specs.Annotations.{annotated}
+use Rattle.dexpool.proofs.Pairs.{map_both}
 use Rattle.dexcode.specs.Numbered.{NumberedItem}
 use Rattle.dexval.specs.Numbered.{NumberedSet}
 use Rattle.dexval.specs.Tables.{NumberedTable, IsPlaceIn, set_at, sets_at}
@@ -25,11 +26,9 @@ look_placed {Y} at none (e ∷ es) n = step (is_eq (nat_cmp n e.0)) (look_placed
 
 -- the fields of a list
 pub fields_looked_up : (sets : List NumberedSet) (es : List (ℕ × ℕ)) (xs : List FieldRead) → map (field_of sets) (map (held_field es) xs) ≡ map (field_with (map (λ (e : ℕ × ℕ). (e.0, set_at sets (Some e.1))) es)) xs
-fields_looked_up sets es [] = refl
-fields_looked_up sets es (x ∷ xs) =
-    let set = look_placed (set_at sets) refl es x.index in
-    let rest = fields_looked_up sets es xs in
-    λ i. record { number = x.index; flags = x.flags; annotations = set i } ∷ rest i
+fields_looked_up sets es xs =
+    map_both (held_field es) (field_of sets) (field_with (map (λ (e : ℕ × ℕ). (e.0, set_at sets (Some e.1))) es)) xs
+    (λ k d lt. let x = get_or xs k d in let set = look_placed (set_at sets) refl es x.index in λ i. record { number = x.index; flags = x.flags; annotations = set i })
 
 -- the methods
 pub methods_looked_up : (t : NumberedTable) (es ls : List (ℕ × ℕ)) (xs : List MethodRead) (cs : List (Option NumberedItem))

@@ -22,54 +22,18 @@ use Rattle.dexmembers.specs.Spelled.{numbered_field_bytes, numbered_fields_bytes
 
 pub fields_size : (last : ℕ) (fs : List NumberedField) → length (numbered_fields_bytes last fs) ≤ 10 * length fs
 fields_size last [] = omega arith
-fields_size last (f ∷ fs) =
-    omega (arith, length-append (numbered_field_bytes last f) (numbered_fields_bytes f.number fs), length-append (uleb128 (f.number - last)) (uleb128 f.flags), uleb128-size (f.number - last), uleb128-size f.flags, fields_size f.number fs)
+fields_size last (f ∷ fs) = omega (arith, length-append {A = ℕ}, uleb128-size, fields_size f.number fs)
 
 pub methods_size : (last : ℕ) (xs : List NumberedMethod) (offs : List ℕ) → length (numbered_methods_bytes last xs offs) ≤ 15 * length xs
 methods_size last [] offs = omega arith
 methods_size last (x ∷ xs) [] = omega arith
-methods_size last (x ∷ xs) (o ∷ offs) =
-    let a = uleb128 (x.number - last) in
-    let b = uleb128 x.flags in
-    let c = uleb128 o in
-    omega (arith, length-append (a ++ (b ++ c)) (numbered_methods_bytes x.number xs offs), length-append a (b ++ c), length-append b c, uleb128-size (x.number - last), uleb128-size x.flags, uleb128-size o, methods_size x.number xs offs)
+methods_size last (x ∷ xs) (o ∷ offs) = omega (arith, length-append {A = ℕ}, uleb128-size, methods_size x.number xs offs)
 
 pub class_data_size : (x : NumberedMembers) (offs : List ℕ) → length (numbered_class_data_bytes x offs) ≤ 20 + 10 * length (fields_of x) + 15 * length (methods_of x)
 class_data_size x offs =
-    let statics = x.static_fields in
-    let instances = x.instance_fields in
-    let directs = x.direct_methods in
-    let virtuals = x.virtual_methods in
-    let d0 = take (length directs) offs in
-    let d1 = drop (length directs) offs in
-    let x0 = numbered_fields_bytes 0 statics in
-    let x1 = numbered_fields_bytes 0 instances in
-    let x2 = numbered_methods_bytes 0 directs d0 in
-    let x3 = numbered_methods_bytes 0 virtuals d1 in
-    let n0 = uleb128 (length statics) in
-    let n1 = uleb128 (length instances) in
-    let n2 = uleb128 (length directs) in
-    let n3 = uleb128 (length virtuals) in
-    omega (
-      arith,
-      length-append n0 (n1 ++ (n2 ++ (n3 ++ (x0 ++ (x1 ++ (x2 ++ x3)))))),
-      length-append n1 (n2 ++ (n3 ++ (x0 ++ (x1 ++ (x2 ++ x3))))),
-      length-append n2 (n3 ++ (x0 ++ (x1 ++ (x2 ++ x3)))),
-      length-append n3 (x0 ++ (x1 ++ (x2 ++ x3))),
-      length-append x0 (x1 ++ (x2 ++ x3)),
-      length-append x1 (x2 ++ x3),
-      length-append x2 x3,
-      uleb128-size (length statics),
-      uleb128-size (length instances),
-      uleb128-size (length directs),
-      uleb128-size (length virtuals),
-      fields_size 0 statics,
-      fields_size 0 instances,
-      methods_size 0 directs d0,
-      methods_size 0 virtuals d1,
-      length-append statics instances,
-      length-append directs virtuals,
-    )
+    let fields = length-append x.static_fields x.instance_fields in
+    let methods = length-append x.direct_methods x.virtual_methods in
+    omega (arith, length-append {A = ℕ}, uleb128-size, fields_size, methods_size, fields, methods)
 
 -- ---- one member more
 

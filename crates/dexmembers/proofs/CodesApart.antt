@@ -4,6 +4,7 @@ use Rattle.std.proofs.lemmas.List.{map-append}
 use Rattle.std.proofs.lemmas.List.Sums.{sum_by-cons, sum_by-append}
 use Rattle.std.specs.Prelude.{option_to_list}
 use Rattle.dexspec.specs.Lists.{zip_with}
+use Rattle.dexspec.proofs.size.SizeSums.{sum_by-map}
 use Rattle.dexcode.specs.Numbered.{NumberedItem}
 use Rattle.dexval.specs.Numbered.{NumberedSet, NumberedDirectory, NumberedValues}
 use Rattle.dexmembers.specs.Numbered.{NumberedMethod, NumberedMembers, methods_of}
@@ -27,8 +28,7 @@ codes_append xs ys = sum_by-append optional_weight xs ys
 
 -- code method by method
 codes_by_method : (xs : List NumberedMethod) → codes_weight (map code_of xs) ≡ sum_by method_code_weight xs
-codes_by_method [] = refl
-codes_by_method (x ∷ xs) = omega (arith, codes_by_method xs, sum_by-cons method_code_weight x xs, sum_by-cons optional_weight x.code (map code_of xs))
+codes_by_method xs = sum_by-map optional_weight code_of xs
 
 methods_apart : (xs : List NumberedMethod) → sum_by numbered_method_weight xs ≡ sum_by method_code_weight xs + sum_by own_method_weight xs
 methods_apart [] = refl

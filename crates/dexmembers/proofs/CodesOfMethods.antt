@@ -9,19 +9,13 @@ use Rattle.dexspec.specs.Code.{Code, CodeAt}
 use Rattle.dexspec.specs.Mentions.{Mentions}
 use Rattle.dexspec.proofs.determined.OneRow.{one_or_none}
 use Rattle.dexspec.proofs.determined.OneCode.{one_some, one_code_item}
+use Rattle.dexpool.proofs.Pairs.{zip_push}
 use Rattle.dexpool.specs.declared.faults.ItemFault.{ItemFault}
 use Rattle.dexpool.specs.declared.faults.ItemFault.TheVariants.{Refused, Memory}
 use Rattle.dexcode.specs.Numbered.{NumberedItem, DenotesCode}
 use Rattle.dexcode.specs.Reading.{IsCodeAt}
 use Rattle.dexmembers.specs.declared.class_data.EncodedMethod.{EncodedMethod}
 use Rattle.dexmembers.specs.internal.MethodCodes.{AreCodesAt, IsCodeOrNone, IsCodeOrNoneFault, AreCodesOf, IsCodesFault, IsCodesFaultWithin, optional_code_weight}
-
--- related lists are so with one more member each
-pub zip_more : {A B : Type 0} (R : A → B → Type 0) (xs : List A) (ys : List B) (x : A) (y : B) → AllZip R xs ys → R x y → AllZip R (xs ++ x ∷ []) (ys ++ y ∷ [])
-zip_more R [] [] x y all here = (here, tt)
-zip_more R [] (b ∷ ys) x y all here = absurd all
-zip_more R (a ∷ xs) [] x y all here = absurd all
-zip_more R (a ∷ xs) (b ∷ ys) x y all here = (all.0, zip_more R xs ys x y all.1 here)
 
 -- code that was read is code or none
 pub some_code : (b : List ℕ) (off : ℕ) (m : Mentions) (code : NumberedItem) → off ≢ 0 → IsCodeAt b off m code → IsCodeOrNone b off m (Some code)
@@ -52,8 +46,8 @@ pub one_more_read : (b : List ℕ) (m : Mentions) (xs : List EncodedMethod) (mos
     → HaveReadCodes b m xs most left codes → (is : IsCodeOrNone b x.code_off m code) → rest + optional_code_weight is.symbolic ≡ left → HaveReadCodes b m (xs ++ x ∷ []) most rest (codes ++ code ∷ [])
 one_more_read b m xs most left rest codes x code read is weight = record {
   symbolic = read.symbolic ++ is.symbolic ∷ [];
-  at = zip_more (λ (x : EncodedMethod) c. OrNone (SomeAt CodeAt) None b x.code_off c) xs read.symbolic x is.symbolic read.at is.at;
-  are_encoded = zip_more (BothOrNone (DenotesCode m)) codes read.symbolic code is.symbolic read.are_encoded is.encodes;
+  at = zip_push (λ (x : EncodedMethod) c. OrNone (SomeAt CodeAt) None b x.code_off c) xs read.symbolic x is.symbolic read.at is.at;
+  are_encoded = zip_push (BothOrNone (DenotesCode m)) codes read.symbolic code is.symbolic read.are_encoded is.encodes;
   weight = omega (arith, read.weight, weight, sum_by_push optional_code_weight read.symbolic is.symbolic);
 }
 
@@ -75,7 +69,7 @@ prefix_within b (x ∷ xs) us (c ∷ prefix) (d ∷ codes) at all =
 pub heavy_read : (b : List ℕ) (m : Mentions) (xs : List EncodedMethod) (i most left : ℕ) (d : EncodedMethod) (read : List (Option NumberedItem)) (code : Option NumberedItem) → i < length xs → HaveReadCodes b m (take i xs) most left read
     → (is : IsCodeOrNone b (get_or xs i d).code_off m code) → left < optional_code_weight is.symbolic → (codes : List (Option Code)) → AreCodesAt b xs codes → most < sum_by optional_code_weight codes
 heavy_read b m xs i most left d read code lt have is heavy codes at =
-    let prefix = zip_more (λ (x : EncodedMethod) c. OrNone (SomeAt CodeAt) None b x.code_off c) (take i xs) have.symbolic (get_or xs i d) is.symbolic have.at is.at in
+    let prefix = zip_push (λ (x : EncodedMethod) c. OrNone (SomeAt CodeAt) None b x.code_off c) (take i xs) have.symbolic (get_or xs i d) is.symbolic have.at is.at in
     let so_far : AreCodesAt b (take (i + 1) xs) (have.symbolic ++ is.symbolic ∷ []) = subst (λ l. AreCodesAt b l (have.symbolic ++ is.symbolic ∷ [])) (sym (take_more xs i d lt)) prefix in
     let all : AreCodesAt b (take (i + 1) xs ++ drop (i + 1) xs) codes = subst (λ l. AreCodesAt b l codes) (sym (take-append-drop (i + 1) xs)) at in
     omega (arith, have.weight, heavy, sum_by_push optional_code_weight have.symbolic is.symbolic, prefix_within b (take (i + 1) xs) (drop (i + 1) xs) (have.symbolic ++ is.symbolic ∷ []) codes so_far all)

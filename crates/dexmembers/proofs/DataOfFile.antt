@@ -11,7 +11,7 @@ use Rattle.dexspec.specs.Sections.{IsInData}
 use Rattle.dexspec.specs.Symbols.{Field, Method, field_cmp, method_cmp}
 use Rattle.dexspec.specs.Header.{FieldIds, MethodIds, table_size, data_off}
 use Rattle.dexspec.specs.ClassData as items
-use Rattle.dexspec.specs.ClassData.{EncodedFieldsAt, EncodedMethodsAt, ClassDataAt, no_class_data, ShareNone, BelongTo}
+use Rattle.dexspec.specs.ClassData.{EncodedFieldsAt, EncodedMethodsAt, ClassDataAt, ShareNone, BelongTo}
 use Rattle.dexspec.specs.Classes.{ClassTypeRow, class_idx, class_data_off}
 use Rattle.dexspec.specs.Mentions.{Mentions}
 use Rattle.dexspec.specs.Accepted.{IsFrame, HasClass, HasMembers}
@@ -149,6 +149,9 @@ module _ (b : List ℕ) (m : Mentions) (pools : ArePools b m) (class : ℕ) (nam
 
 -- ---- class data of the file
 
+mapped_length : {X Y : Type 0} (f : X → Y) (xs : List X) {ys : List Y} → map f xs ≡ ys → length ys ≡ length xs
+mapped_length f xs e = sym (ap length e) ∙ length-map xs f
+
 -- a file has few rows
 few_fields : (b : List ℕ) → IsFrame b → (i : ℕ) → i < table_size b FieldIds → i < 2 ^ 32
 few_fields b frame i lt = let row = row_within FieldIds i frame lt in let few = few_bytes b frame in omega (arith, row, few)
@@ -187,18 +190,12 @@ module _ (b : List ℕ) (m : Mentions) (pools : ArePools b m) (is : IsNumbering 
       let method_index = λ (y : EncodedMethod). y.index in
       let enc_field = encoded_field_in m in
       let enc_method = encoded_method_in m in
-      let own_field : (xs : List EncodedField) (p n : ℕ) → Chain (FieldAt m class) field_index b p None xs n → All (λ f. IsOwnField m class f.index) xs =
-      λ xs p n chain. chain_all (FieldAt m class) field_index (λ f. IsOwnField m class f.index) (λ b o last f n h. h.own) b p None xs n chain in
-      let own_method : (xs : List EncodedMethod) (p n : ℕ) → Chain (MethodAt m class) method_index b p None xs n → All (λ y. IsOwnMethod m class y.index) xs =
-      λ xs p n chain. chain_all (MethodAt m class) method_index (λ y. IsOwnMethod m class y.index) (λ b o last y n h. h.own) b p None xs n chain in
-      let s_own = own_field ss (o + x.counts_size) fields.first_size fields.first in
-      let i_own = own_field is' (o + x.counts_size + fields.first_size) fields.second_size fields.second in
-      let d_own = own_method ds (o + x.counts_size + x.fields_size) methods.first_size methods.first in
-      let v_own = own_method vs (o + x.counts_size + x.fields_size + methods.first_size) methods.second_size methods.second in
-      let field_named : (xs : List EncodedField) → All (λ f. IsOwnField m class f.index) xs → All (λ e. e.field.class ≡ h.name) (map enc_field xs) =
-      λ xs own. All-map (λ (e : items.EncodedField). e.field.class ≡ h.name) enc_field xs (λ k d lt. sym ((own k d lt).class_is.is h.name) ∙ at.is h.name) in
-      let method_named : (xs : List EncodedMethod) → All (λ y. IsOwnMethod m class y.index) xs → All (λ e. e.method.class ≡ h.name) (map enc_method xs) =
-      λ xs own. All-map (λ (e : items.EncodedMethod). e.method.class ≡ h.name) enc_method xs (λ k d lt. sym ((own k d lt).class_is.is h.name) ∙ at.is h.name) in
+      let s_own = chain_all (FieldAt m class) field_index (λ f. IsOwnField m class f.index) (λ b o last f n h. h.own) b (o + x.counts_size) None ss fields.first_size fields.first in
+      let i_own = chain_all (FieldAt m class) field_index (λ f. IsOwnField m class f.index) (λ b o last f n h. h.own) b (o + x.counts_size + fields.first_size) None is' fields.second_size fields.second in
+      let d_own = chain_all (MethodAt m class) method_index (λ y. IsOwnMethod m class y.index) (λ b o last y n h. h.own) b (o + x.counts_size + x.fields_size) None ds methods.first_size methods.first in
+      let v_own = chain_all (MethodAt m class) method_index (λ y. IsOwnMethod m class y.index) (λ b o last y n h. h.own) b (o + x.counts_size + x.fields_size + methods.first_size) None vs methods.second_size methods.second in
+      let FieldNamed = λ (e : items.EncodedField). e.field.class ≡ h.name in
+      let MethodNamed = λ (e : items.EncodedMethod). e.method.class ≡ h.name in
       let many : (length ss ∷ length is' ∷ length ds ∷ length vs ∷ []) ≡ (length (map enc_field ss) ∷ length (map enc_field is') ∷ length (map enc_method ds) ∷ length (map enc_method vs) ∷ []) =
       λ i. sym (length-map ss enc_field) i ∷ sym (length-map is' enc_field) i ∷ sym (length-map ds enc_method) i ∷ sym (length-map vs enc_method) i ∷ [] in
       let p3 : o + x.counts_size + x.fields_size ≡ o + x.counts_size + fields.first_size + fields.second_size = omega (arith, fields.size) in
@@ -217,8 +214,8 @@ module _ (b : List ℕ) (m : Mentions) (pools : ArePools b m) (is : IsNumbering 
         virtual_methods = subst (λ (p : ℕ). EncodedMethodsAt b p None (map enc_method vs) methods.second_size) p4 (methods_to_file b m pools class h.name at (o + x.counts_size + x.fields_size + methods.first_size) None vs methods.second_size methods.second);
       } in
       let own : BelongTo h.name (class_data_in m d) = record {
-        fields = All-append (λ (e : items.EncodedField). e.field.class ≡ h.name) (map enc_field ss) (map enc_field is') (field_named ss s_own) (field_named is' i_own);
-        methods = All-append (λ (e : items.EncodedMethod). e.method.class ≡ h.name) (map enc_method ds) (map enc_method vs) (method_named ds d_own) (method_named vs v_own);
+        fields = All-append FieldNamed (map enc_field ss) (map enc_field is') (All-map FieldNamed enc_field ss (λ k d lt. sym ((s_own k d lt).class_is.is h.name) ∙ at.is h.name)) (All-map FieldNamed enc_field is' (λ k d lt. sym ((i_own k d lt).class_is.is h.name) ∙ at.is h.name));
+        methods = All-append MethodNamed (map enc_method ds) (map enc_method vs) (All-map MethodNamed enc_method ds (λ k d lt. sym ((d_own k d lt).class_is.is h.name) ∙ at.is h.name)) (All-map MethodNamed enc_method vs (λ k d lt. sym ((v_own k d lt).class_is.is h.name) ∙ at.is h.name));
         fields_apart = apart_symbols enc_field (λ (e : items.EncodedField). e.field) field_index (field_at m) (λ f. refl) (IsOwnField m class) one_field_number ss is' s_own i_own fields.apart;
         methods_apart = apart_symbols enc_method (λ (e : items.EncodedMethod). e.method) method_index (method_at m) (λ y. refl) (IsOwnMethod m class) one_method_number ds vs d_own v_own methods.apart;
       } in
@@ -250,11 +247,8 @@ module _ (b : List ℕ) (m : Mentions) (pools : ArePools b m) (is : IsNumbering 
       let is' = fields_of_file b m pools class name at few_f (o + s.counts_bytes + s.static_fields_bytes) None d.instance_fields s.instance_fields_bytes s.instance_fields (all_back FieldNamed d.static_fields d.instance_fields own.fields) in
       let ds = methods_of_file b m pools class name at few_m (o + s.counts_bytes + s.static_fields_bytes + s.instance_fields_bytes) None d.direct_methods s.direct_methods_bytes s.direct_methods (all_prefix MethodNamed d.direct_methods d.virtual_methods own.methods) in
       let vs = methods_of_file b m pools class name at few_m (o + s.counts_bytes + s.static_fields_bytes + s.instance_fields_bytes + s.direct_methods_bytes) None d.virtual_methods s.virtual_methods_bytes s.virtual_methods (all_back MethodNamed d.direct_methods d.virtual_methods own.methods) in
-      let n0 : length d.static_fields ≡ length ss.0 = sym (ap length ss.1) ∙ length-map ss.0 (encoded_field_in m) in
-      let n1 : length d.instance_fields ≡ length is'.0 = sym (ap length is'.1) ∙ length-map is'.0 (encoded_field_in m) in
-      let n2 : length d.direct_methods ≡ length ds.0 = sym (ap length ds.1) ∙ length-map ds.0 (encoded_method_in m) in
-      let n3 : length d.virtual_methods ≡ length vs.0 = sym (ap length vs.1) ∙ length-map vs.0 (encoded_method_in m) in
-      let many : (length d.static_fields ∷ length d.instance_fields ∷ length d.direct_methods ∷ length d.virtual_methods ∷ []) ≡ (length ss.0 ∷ length is'.0 ∷ length ds.0 ∷ length vs.0 ∷ []) = λ i. n0 i ∷ n1 i ∷ n2 i ∷ n3 i ∷ [] in
+      let many : (length d.static_fields ∷ length d.instance_fields ∷ length d.direct_methods ∷ length d.virtual_methods ∷ []) ≡ (length ss.0 ∷ length is'.0 ∷ length ds.0 ∷ length vs.0 ∷ []) =
+      λ i. mapped_length (encoded_field_in m) ss.0 ss.1 i ∷ mapped_length (encoded_field_in m) is'.0 is'.1 i ∷ mapped_length (encoded_method_in m) ds.0 ds.1 i ∷ mapped_length (encoded_method_in m) vs.0 vs.1 i ∷ [] in
       let fields_apart = subst (λ (es : List items.EncodedField). ShareNone (map (λ e. e.field) es) (map (λ e. e.field) (map (encoded_field_in m) is'.0))) (sym ss.1)
       (subst (λ (es : List items.EncodedField). ShareNone (map (λ e. e.field) d.static_fields) (map (λ e. e.field) es)) (sym is'.1) own.fields_apart) in
       let methods_apart = subst (λ (es : List items.EncodedMethod). ShareNone (map (λ e. e.method) es) (map (λ e. e.method) (map (encoded_method_in m) vs.0))) (sym ds.1)

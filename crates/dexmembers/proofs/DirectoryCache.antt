@@ -39,17 +39,11 @@ data_refused b r (Refused n) h = (Condition.Members, h.0, omega (arith, h.0), om
 
 -- ---- code
 
--- code at an offset that is not 0
-code_there : (b : List ℕ) (o : ℕ) (c : Option Code) → OrNone (SomeAt CodeAt) None b o c → o ≢ 0 → (k : Code) × CodeAt b o k
-code_there b o c (inl h) some = absurd (some h.0)
-code_there b o None (inr h) some = absurd h.1
-code_there b o (Some k) (inr h) some = (k, h.1)
-
--- its debug program
-debug_there : (b : List ℕ) (o : ℕ) (d : Option Debug) → OrNone (SomeAt DebugAt) None b o d → o ≢ 0 → (x : Debug) × DebugAt b o x
-debug_there b o d (inl h) some = absurd (some h.0)
-debug_there b o None (inr h) some = absurd h.1
-debug_there b o (Some x) (inr h) some = (x, h.1)
+-- what is at an offset that is not 0
+some_there : {X : Type 0} (At : List ℕ → ℕ → X → Type 0) (b : List ℕ) (o : ℕ) (x : Option X) → OrNone (SomeAt At) None b o x → o ≢ 0 → (y : X) × At b o y
+some_there At b o x (inl h) some = absurd (some h.0)
+some_there At b o None (inr h) some = absurd h.1
+some_there At b o (Some y) (inr h) some = (y, h.1)
 
 pieces_hold : (b : List ℕ) (o : ℕ) (k : Code) → CodeAt b o k → HasPiecesAt b o
 pieces_hold b o k h = (h.cuts, k.pieces, h.pieces)
@@ -58,7 +52,7 @@ tries_hold : (b : List ℕ) (o : ℕ) (k : Code) → CodeAt b o k → HasTriesAt
 tries_hold b o k h = λ cuts ps g. (k.tries, subst (λ (cs : List Cut). TriesAt b o cs k.tries) (one_pieces b o h.cuts cuts k.pieces ps h.pieces g).0 h.tries)
 
 debug_holds : (b : List ℕ) (o : ℕ) (k : Code) → CodeAt b o k → HasDebugAt b o
-debug_holds b o k h = λ cuts ps g some. debug_there b (uint_at b (o + 8)) k.debug h.debug some
+debug_holds b o k h = λ cuts ps g some. some_there DebugAt b (uint_at b (o + 8)) k.debug h.debug some
 
 -- the code of each method of a list
 list_coded : (P : List ℕ → ℕ → Type 0) (b : List ℕ) (m : Mentions) → ((o : ℕ) (k : Code) → CodeAt b o k → P b o) → (xs : List MethodRead) (codes : List (Option Code)) → AreCodesAt b xs codes
@@ -67,7 +61,7 @@ list_coded P b m holds [] codes h = All-nil (λ (y : EncodedMethod). y.code_off 
 list_coded P b m holds (x ∷ xs) [] h = absurd h
 list_coded P b m holds (x ∷ xs) (c ∷ codes) h =
     All-cons (λ (y : EncodedMethod). y.code_off ≢ 0 → P b y.code_off) (encoded_method_in m x) (map (encoded_method_in m) xs)
-    (λ some. let k = code_there b x.code_off c h.0 some in holds x.code_off k.0 k.1) (list_coded P b m holds xs codes h.1)
+    (λ some. let k = some_there CodeAt b x.code_off c h.0 some in holds x.code_off k.0 k.1) (list_coded P b m holds xs codes h.1)
 
 module _ (b : List ℕ) (r : ℕ) (m : Mentions) (read : DataRead) (is : IsDataOf b r m read) where
   -- what the row declares is what was read

@@ -1,5 +1,5 @@
 -- An annotations directory with numbers put in is that of what the numbers denote.
-use Rattle.std.proofs.Common.{◌≡◌, ◌≢◌, ℕ, ◌+◌, ◌*◌, ◌<◌, ◌≤◌, Bool, true, false, List, [], ◌∷◌, ◌++◌, length, map, take, drop, Option, Some, None, unwrap_or, refl, sym, ap, ◌∙◌, subst, arith, inl, inr, All}
+use Rattle.std.proofs.Common.{◌≡◌, ◌≢◌, ℕ, ◌+◌, ◌*◌, ◌<◌, ◌≤◌, Bool, true, false, List, [], ◌∷◌, ◌++◌, length, map, get_or, take, drop, Option, Some, None, unwrap_or, refl, sym, ap, ◌∙◌, subst, arith, inl, inr, All}
 use Rattle.std.specs.Prelude.{if◌then◌else◌, ◌==◌, slice_index, nat_lt}
 use Rattle.std.specs.List.{Contains, zip}
 use Rattle.std.specs.Ordering.{nat_cmp, is_lt}
@@ -7,7 +7,7 @@ use Rattle.std.specs.declared.cmp.Ordering.{Ordering}
 use Rattle.std.specs.declared.cmp.Ordering.TheVariants.{Less, Equal, Greater}
 use Rattle.std.proofs.lemmas.Bool.{cases_lt, true≢false, cond-false, cond_both, le-ltb}
 use Rattle.std.proofs.lemmas.List.{length-append, length-map, map-append, take-append-drop, length-take, length-drop}
-use Rattle.std.proofs.lemmas.List.Elements.{All-nil, All-cons, All-head, All-tail}
+use Rattle.std.proofs.lemmas.List.Elements.{All-nil, All-cons}
 use Rattle.dexspec.specs.Lists.{rises, in_order}
 use Rattle.dexspec.specs.Bytes.{uint}
 use Rattle.dexspec.specs.Texts.{Text}
@@ -22,6 +22,7 @@ use Rattle.dexpool.specs.Laws.{RanksAreNumbers}
 use Rattle.dexval.specs.Numbered.{field_at, method_at}
 use Rattle.dexmembers.specs.Numbered.{NumberedField, NumberedMethod, NumberedMembers, Members, field_in, method_in, members_in, members_of, fields_of, methods_of, IsKnownField, IsKnownMethod, AreKnownMembers, AreOfClass, AreOrdered}
 use Rattle.dexmembers.specs.DirectoryPut.{count_placed, pairs_of_both, both_bytes, field_numbers, method_numbers, numbered_directory_bytes}
+use Rattle.dexpool.proofs.Pairs.{map_both}
 use Rattle.dexpool.proofs.Parts.{all_prefix, all_back}
 use Rattle.dexmembers.proofs.ClassDataSpelled.{field_number, method_number}
 use Rattle.dexmembers.proofs.PairsMerged.{kept, AreAbove, Ascend, AreOther, AreApart, lower_above, merged_in_order, kept_bytes, kept_count, placed_count, placed_append, pairs_size}
@@ -96,6 +97,10 @@ module _ (is js offs : List ℕ) (many : length offs ≡ length is + length js) 
   both_size : length (both_bytes is js offs) ≡ 8 * count_placed offs
   both_size = omega (arith, pairs_size (pairs_of_both is js offs), count_both)
 
+-- as many offsets as two lists have members
+many_both : {X : Type 0} (number : X → ℕ) (xs ys : List X) {n : ℕ} → n ≡ length (xs ++ ys) → n ≡ length (map number xs) + length (map number ys)
+many_both number xs ys e = omega (arith, e, length-append xs ys, length-map xs number, length-map ys number)
+
 -- how many bytes a directory has
 pub directory_size : (x : NumberedMembers) (own : ℕ) (fo mo po : List ℕ) → length fo ≡ length (fields_of x) → length mo ≡ length (methods_of x) → length po ≡ length (methods_of x)
     → length (numbered_directory_bytes x own fo mo po) ≡ 16 + 8 * (count_placed fo + count_placed mo + count_placed po)
@@ -104,32 +109,7 @@ directory_size x own fo mo po many_fields many_methods many_parameters =
     let t = x.instance_fields in
     let d = x.direct_methods in
     let v = x.virtual_methods in
-    let fm : length fo ≡ length (field_numbers s) + length (field_numbers t) = omega (arith, many_fields, length-append s t, length-map s (λ (f : NumberedField). f.number), length-map t (λ (f : NumberedField). f.number)) in
-    let mm : length mo ≡ length (method_numbers d) + length (method_numbers v) = omega (arith, many_methods, length-append d v, length-map d (λ (y : NumberedMethod). y.number), length-map v (λ (y : NumberedMethod). y.number)) in
-    let pm : length po ≡ length (method_numbers d) + length (method_numbers v) = omega (arith, many_parameters, length-append d v, length-map d (λ (y : NumberedMethod). y.number), length-map v (λ (y : NumberedMethod). y.number)) in
-    let fb = both_bytes (field_numbers s) (field_numbers t) fo in
-    let mb = both_bytes (method_numbers d) (method_numbers v) mo in
-    let pb = both_bytes (method_numbers d) (method_numbers v) po in
-    let n0 = uint own in
-    let n1 = uint (count_placed fo) in
-    let n2 = uint (count_placed mo) in
-    let n3 = uint (count_placed po) in
-    omega (
-      arith,
-      length-append n0 (n1 ++ (n2 ++ (n3 ++ (fb ++ (mb ++ pb))))),
-      length-append n1 (n2 ++ (n3 ++ (fb ++ (mb ++ pb)))),
-      length-append n2 (n3 ++ (fb ++ (mb ++ pb))),
-      length-append n3 (fb ++ (mb ++ pb)),
-      length-append fb (mb ++ pb),
-      length-append mb pb,
-      length-uint own,
-      length-uint (count_placed fo),
-      length-uint (count_placed mo),
-      length-uint (count_placed po),
-      both_size (field_numbers s) (field_numbers t) fo fm,
-      both_size (method_numbers d) (method_numbers v) mo mm,
-      both_size (method_numbers d) (method_numbers v) po pm,
-    )
+    omega (arith, length-append {A = ℕ}, length-uint, both_size (field_numbers s) (field_numbers t) fo (many_both (λ f. f.number) s t many_fields), both_size (method_numbers d) (method_numbers v) mo (many_both (λ y. y.number) d v many_methods), both_size (method_numbers d) (method_numbers v) po (many_both (λ y. y.number) d v many_parameters))
 
 -- ---- symbols
 
@@ -150,20 +130,10 @@ module _ (m : Mentions) (ranks : RanksAreNumbers m) (name : Text) where
   method_indices xs = map (λ x. method_index m (method_of name x)) xs
 
   fields_numbered : (fs : List NumberedField) → All (IsKnownField m) fs → All (λ f. (field_at m f.number).class ≡ name) fs → field_indices (map (field_in m) fs) ≡ field_numbers fs
-  fields_numbered [] h k = refl
-  fields_numbered (f ∷ fs) h k =
-      let OfClass : NumberedField → Type 0 = λ g. (field_at m g.number).class ≡ name in
-      let e = field_number m ranks name f (All-head (IsKnownField m) f fs h) (All-head OfClass f fs k) in
-      let es = fields_numbered fs (All-tail (IsKnownField m) f fs h) (All-tail OfClass f fs k) in
-      λ i. e i ∷ es i
+  fields_numbered fs h k = map_both (field_in m) (λ f. field_index m (field_of name f)) (λ (f : NumberedField). f.number) fs (λ i d lt. field_number m ranks name (get_or fs i d) (h i d lt) (k i d lt))
 
   methods_numbered : (xs : List NumberedMethod) → All (IsKnownMethod m) xs → All (λ x. (method_at m x.number).class ≡ name) xs → method_indices (map (method_in m) xs) ≡ method_numbers xs
-  methods_numbered [] h k = refl
-  methods_numbered (x ∷ xs) h k =
-      let OfClass : NumberedMethod → Type 0 = λ y. (method_at m y.number).class ≡ name in
-      let e = method_number m ranks name x (All-head (IsKnownMethod m) x xs h) (All-head OfClass x xs k) in
-      let es = methods_numbered xs (All-tail (IsKnownMethod m) x xs h) (All-tail OfClass x xs k) in
-      λ i. e i ∷ es i
+  methods_numbered xs h k = map_both (method_in m) (λ x. method_index m (method_of name x)) (λ (x : NumberedMethod). x.number) xs (λ i d lt. method_number m ranks name (get_or xs i d) (h i d lt) (k i d lt))
 
   -- a directory is that of what the numbers denote
   pub directory_spelled : (c : Body) (x : NumberedMembers) (own : ℕ) (fo mo po : List ℕ) (sets : SetOffsets) (bytes : List ℕ) → AreKnownMembers m x → AreOrdered x → AreOfClass m name x → members_of c ≡ members_in m x
@@ -184,9 +154,9 @@ module _ (m : Mentions) (ranks : RanksAreNumbers m) (name : Text) where
       ap (λ (y : Members). method_indices (y.direct_methods ++ y.virtual_methods)) same
       ∙ map-append (λ (y : MethodDef). method_index m (method_of name y)) (map (method_in m) d) (map (method_in m) v)
       ∙ (let e = methods_numbered d h.direct_methods_known (all_prefix OfMethods d v k.methods_of_class) in let f = methods_numbered v h.virtual_methods_known (all_back OfMethods d v k.methods_of_class) in λ i. e i ++ f i) in
-      let fm : length fo ≡ length (field_numbers s) + length (field_numbers t) = omega (arith, many_fields, length-append s t, length-map s (λ (f : NumberedField). f.number), length-map t (λ (f : NumberedField). f.number)) in
-      let mm : length mo ≡ length (method_numbers d) + length (method_numbers v) = omega (arith, many_methods, length-append d v, length-map d (λ (y : NumberedMethod). y.number), length-map v (λ (y : NumberedMethod). y.number)) in
-      let pm : length po ≡ length (method_numbers d) + length (method_numbers v) = omega (arith, many_parameters, length-append d v, length-map d (λ (y : NumberedMethod). y.number), length-map v (λ (y : NumberedMethod). y.number)) in
+      let fm = many_both (λ (f : NumberedField). f.number) s t many_fields in
+      let mm = many_both (λ (y : NumberedMethod). y.number) d v many_methods in
+      let pm = many_both (λ (y : NumberedMethod). y.number) d v many_parameters in
       let fk = kept (pairs_of_both (field_numbers s) (field_numbers t) fo) in
       let mk = kept (pairs_of_both (method_numbers d) (method_numbers v) mo) in
       let pk = kept (pairs_of_both (method_numbers d) (method_numbers v) po) in

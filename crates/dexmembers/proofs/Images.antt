@@ -1,8 +1,8 @@
 -- The images of the numbers of what a class declares, part by part.
-use Rattle.std.proofs.Common.{◌≡◌, ℕ, List, [], ◌∷◌, ◌++◌, Option, Some, None, refl}
+use Rattle.std.proofs.Common.{◌≡◌, ℕ, List, [], ◌++◌, Option, Some, None, refl}
 use Rattle.std.specs.Prelude.{IsSome, IfSome, option_to_list}
 use Rattle.std.specs.List.{All, flat_map}
-use Rattle.std.proofs.lemmas.List.Elements.{All-nil, All-cons, All-head, All-tail}
+use Rattle.std.proofs.lemmas.List.Elements.{All-head, All-tail}
 use Rattle.dexpool.specs.declared.symbols.SymbolKind.TheVariants as kinds
 use Rattle.dexpool.specs.Numberings.{Maps}
 use Rattle.dexpool.specs.Uses.{Use, IsMappedUse}
@@ -10,7 +10,7 @@ use Rattle.dexcode.specs.Numbered.{NumberedItem}
 use Rattle.dexcode.specs.Renumbering.{item_uses, HasImages}
 use Rattle.dexval.specs.Numbered.{NumberedSet, NumberedValues}
 use Rattle.dexval.specs.Uses.{set_uses, values_uses}
-use Rattle.dexpool.proofs.Parts.{all_prefix, all_back}
+use Rattle.dexpool.proofs.Parts.{all_prefix, all_back, all_parts, all_of}
 use Rattle.dexmembers.specs.Numbered.{NumberedField, NumberedMethod, NumberedMembers, fields_of, methods_of}
 use Rattle.dexmembers.specs.Uses.{field_uses, method_uses, members_uses}
 
@@ -55,12 +55,7 @@ pub some_of : (o : Option ℕ) → IsSome o → (j : ℕ) × (o ≡ Some j)
 some_of None h = absurd cc
 some_of (Some j) h = (j, refl)
 
--- what holds of the uses of all holds of those of each
-each : {X : Type 0} (P : Use → Type 0) (u : X → List Use) (Q : X → Type 0) → ((x : X) → All P (u x) → Q x) → (xs : List X) → All P (flat_map u xs) → All Q xs
-each P u Q step [] h = All-nil Q
-each P u Q step (x ∷ xs) h = All-cons Q x xs (step x (all_prefix P (u x) (flat_map u xs) h)) (each P u Q step xs (all_back P (u x) (flat_map u xs) h))
-
--- of those of one or none
+-- what holds of the uses of one or none
 one : {X : Type 0} (P : Use → Type 0) (u : X → List Use) (Q : X → Type 0) → ((x : X) → All P (u x) → Q x) → (o : Option X) → All P (flat_map u (option_to_list o)) → IfSome o Q
 one P u Q step None h = tt
 one P u Q step (Some x) h = step x (all_prefix P (u x) [] h)
@@ -83,7 +78,7 @@ module _ (r : Maps) (code_images : (c : NumberedItem) → All (IsMappedUse r) (i
         number_mapped = All-head (IsMappedUse r) (method_use x.number) (coded ++ (own ++ parameters)) h;
         code_mapped = one (IsMappedUse r) item_uses (HasImages r) code_images x.code (all_prefix (IsMappedUse r) coded (own ++ parameters) following);
         annotations_mapped = all_prefix (IsMappedUse r) own parameters sets;
-        parameters_mapped = each (IsMappedUse r) set_uses (SetHasImages r) (λ s all. all) x.parameter_annotations (all_back (IsMappedUse r) own parameters sets);
+        parameters_mapped = all_parts (IsMappedUse r) set_uses x.parameter_annotations (all_back (IsMappedUse r) own parameters sets);
       }
 
   -- all of them
@@ -95,8 +90,8 @@ module _ (r : Maps) (code_images : (c : NumberedItem) → All (IsMappedUse r) (i
       let vs = values_uses x.static_values in
       let following = all_back (IsMappedUse r) own (fs ++ (ms ++ vs)) h in
       let rest = all_back (IsMappedUse r) fs (ms ++ vs) following in
-      let fields = each (IsMappedUse r) field_uses (FieldHasImages r) field_images (fields_of x) (all_prefix (IsMappedUse r) fs (ms ++ vs) following) in
-      let methods = each (IsMappedUse r) method_uses (MethodHasImages r) method_images (methods_of x) (all_prefix (IsMappedUse r) ms vs rest) in
+      let fields = all_of (λ f. All (IsMappedUse r) (field_uses f)) (FieldHasImages r) (fields_of x) field_images (all_parts (IsMappedUse r) field_uses (fields_of x) (all_prefix (IsMappedUse r) fs (ms ++ vs) following)) in
+      let methods = all_of (λ y. All (IsMappedUse r) (method_uses y)) (MethodHasImages r) (methods_of x) method_images (all_parts (IsMappedUse r) method_uses (methods_of x) (all_prefix (IsMappedUse r) ms vs rest)) in
       record {
         annotations_mapped = all_prefix (IsMappedUse r) own (fs ++ (ms ++ vs)) h;
         static_fields_mapped = all_prefix (FieldHasImages r) x.static_fields x.instance_fields fields;

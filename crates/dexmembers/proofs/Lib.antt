@@ -10,7 +10,6 @@ pub mod FewMembers
 pub mod HeldMembers
 pub mod Images
 pub mod DirectoryCache
-pub mod Made
 pub mod Meant
 pub mod MemberChains
 pub mod MembersUsed
@@ -30,7 +29,6 @@ pub mod RowAnnotations
 pub mod RowChecked
 pub mod RowRead
 pub mod RowsAreAt
-pub mod RowSummed
 pub mod RowWeighed
 pub mod SameMembers
 pub mod StaticValuesRead

@@ -6,7 +6,7 @@ use Rattle.std.specs.Option.{option_map}
 use Rattle.std.specs.Ordering.{nat_cmp, is_eq}
 use Rattle.std.specs.Cmp.{IsTotalOrder}
 use Rattle.std.specs.FinMap.Entries.{find}
-use Rattle.std.proofs.lemmas.List.Elements.{All-head, All-tail, All-nil, All-cons}
+use Rattle.std.proofs.lemmas.List.Elements.{All-head, All-tail, All-nil, All-cons, All-map, All-contains}
 use Rattle.dexspec.specs.Lists.{rises, zip_with, OrNone, SomeAt, BothOrNone}
 use Rattle.dexspec.specs.Symbols.{field_cmp, method_cmp}
 use Rattle.dexspec.specs.Annotations.{annotated}
@@ -14,13 +14,15 @@ use Rattle.dexspec.specs.Classes.{field_def, MakesMethod}
 use Rattle.dexspec.specs.Code.{Code, CodeAt}
 use Rattle.dexspec.specs.Mentions.{Mentions}
 use Rattle.dexspec.proofs.merge.SymbolOrders.{field_total, method_total}
+use Rattle.dexspec.proofs.lists.Sources.{annotated_source}
 use Rattle.dexpool.specs.Numberings.{AreRising}
 use Rattle.dexpool.proofs.NumberOrder.{places_agree}
 use Rattle.dexcode.specs.Numbered.{NumberedItem, DenotesCode}
 use Rattle.dexcode.specs.Meaning.{code_in, IsKnownCode}
-use Rattle.dexval.specs.Numbered.{NumberedSet, IsKnownAnnotation, IsKnownSet, NumberedDirectory, IsKnownDirectory, annotation_in, set_in, directory_in, field_at, method_at}
+use Rattle.dexval.specs.Numbered.{IsKnownAnnotation, IsKnownSet, NumberedDirectory, IsKnownDirectory, annotation_in, set_in, directory_in, field_at, method_at}
 use Rattle.dexmembers.specs.Numbered.{IsKnownField, IsKnownMethod, field_in, method_in}
 use Rattle.dexmembers.specs.internal.ClassData.{encoded_field_in, encoded_method_in}
+use Rattle.dexmembers.proofs.RenumberingLists.{both_where}
 use Rattle.dexmembers.specs.internal.MethodCodes.{AreCodesAt}
 use Rattle.dexmembers.specs.internal.Attaching.{field_with, method_with}
 use Rattle.dexmembers.specs.declared.class_data.EncodedField.{EncodedField as FieldRead}
@@ -46,18 +48,7 @@ look_meant {K} {X} {Y} R o ks rise none g (e ∷ es) n below lt =
 
 -- what holds of the sets of entries holds of that for a number
 pub look_known : {X : Type 0} (P : List X → Type 0) → P [] → (es : List (ℕ × List X)) (n : ℕ) → All (λ (e : ℕ × List X). P e.1) es → P (annotated nat_cmp es n)
-look_known P nothing [] n h = nothing
-look_known {X} P nothing (e ∷ es) n h = step (is_eq (nat_cmp n e.0)) (look_known P nothing es n (All-tail (λ (x : ℕ × List X). P x.1) e es h))
-  where
-    step : (b : Bool) → P (annotated nat_cmp es n) → P (unwrap_or (cond b (Some e.1) (find nat_cmp n es)) [])
-    step true r = All-head (λ (x : ℕ × List X). P x.1) e es h
-    step false r = r
-
-All-first : {X : Type 0} (P Q : X → Type 0) (xs : List X) → All (λ x. P x × Q x) xs → All P xs
-All-first P Q xs h k d lt = (h k d lt).0
-
-All-second : {X : Type 0} (P Q : X → Type 0) (xs : List X) → All (λ x. P x × Q x) xs → All Q xs
-All-second P Q xs h k d lt = (h k d lt).1
+look_known P nothing es n h = annotated_source nat_cmp n P es nothing (λ e c. All-contains (λ (x : ℕ × List _). P x.1) es e h c)
 
 -- ---- members
 
@@ -65,23 +56,20 @@ module _ (m : Mentions) (rising : AreRising m) (dir : NumberedDirectory) (known 
   -- the set of a field
   field_set : (n : ℕ) → n < length m.fields → set_in m (annotated nat_cmp dir.fields n) ≡ annotated field_cmp ((directory_in m dir).fields) (field_at m n)
   field_set n lt =
-      let es = dir.fields in
-      sym (look_meant field_cmp field_total m.fields rising.fields_rise (record { class = []; name = []; type = [] }) (annotation_in m) es n
-      (All-first (λ (e : ℕ × NumberedSet). e.0 < length m.fields) (λ e. IsKnownSet m e.1) es known.fields_known) lt)
+      sym (look_meant field_cmp field_total m.fields rising.fields_rise (record { class = []; name = []; type = [] }) (annotation_in m) dir.fields n
+      (λ i e le. (known.fields_known i e le).0) lt)
 
   -- the set of a method
   method_set : (n : ℕ) → n < length m.methods → set_in m (annotated nat_cmp dir.methods n) ≡ annotated method_cmp ((directory_in m dir).methods) (method_at m n)
   method_set n lt =
-      let es = dir.methods in
-      sym (look_meant method_cmp method_total m.methods rising.methods_rise (record { class = []; name = []; proto = record { return_type = []; parameters = [] } }) (annotation_in m) es n
-      (All-first (λ (e : ℕ × NumberedSet). e.0 < length m.methods) (λ e. IsKnownSet m e.1) es known.methods_known) lt)
+      sym (look_meant method_cmp method_total m.methods rising.methods_rise (record { class = []; name = []; proto = record { return_type = []; parameters = [] } }) (annotation_in m) dir.methods n
+      (λ i e le. (known.methods_known i e le).0) lt)
 
   -- the sets of its parameters
   method_list : (n : ℕ) → n < length m.methods → map (set_in m) (annotated nat_cmp dir.parameters n) ≡ annotated method_cmp ((directory_in m dir).parameters) (method_at m n)
   method_list n lt =
-      let es = dir.parameters in
-      sym (look_meant method_cmp method_total m.methods rising.methods_rise (record { class = []; name = []; proto = record { return_type = []; parameters = [] } }) (set_in m) es n
-      (All-first (λ (e : ℕ × List NumberedSet). e.0 < length m.methods) (λ e. All (IsKnownSet m) e.1) es known.parameters_known) lt)
+      sym (look_meant method_cmp method_total m.methods rising.methods_rise (record { class = []; name = []; proto = record { return_type = []; parameters = [] } }) (set_in m) dir.parameters n
+      (λ i e le. (known.parameters_known i e le).0) lt)
 
   -- a field means what its index and its set make
   pub field_meant : (x : FieldRead) → x.index < length m.fields → field_in m (field_with dir.fields x) ≡ field_def (directory_in m dir) (encoded_field_in m x)
@@ -91,22 +79,13 @@ module _ (m : Mentions) (rising : AreRising m) (dir : NumberedDirectory) (known 
   -- so do the fields of a list
   pub fields_meant : (xs : List FieldRead) → All (λ (x : FieldRead). x.index < length m.fields) xs
       → map (field_in m) (map (field_with dir.fields) xs) ≡ map (field_def (directory_in m dir)) (map (encoded_field_in m) xs)
-  fields_meant [] h = refl
-  fields_meant (x ∷ xs) h =
-      let first = field_meant x (All-head (λ (y : FieldRead). y.index < length m.fields) x xs h) in
-      let rest = fields_meant xs (All-tail (λ (y : FieldRead). y.index < length m.fields) x xs h) in
-      λ i. first i ∷ rest i
+  fields_meant = both_where (field_with dir.fields) (field_in m) (encoded_field_in m) (field_def (directory_in m dir)) (λ (x : FieldRead). x.index < length m.fields) field_meant
 
   -- and their numbers are those of symbols
   pub fields_known : (xs : List FieldRead) → All (λ (x : FieldRead). x.index < length m.fields) xs → All (IsKnownField m) (map (field_with dir.fields) xs)
-  fields_known [] h = All-nil (IsKnownField m)
-  fields_known (x ∷ xs) h =
-      let es = dir.fields in
-      let first : IsKnownField m (field_with dir.fields x) = record {
-        number_in = All-head (λ (y : FieldRead). y.index < length m.fields) x xs h;
-        annotations_known = look_known (IsKnownSet m) (All-nil (IsKnownAnnotation m)) es x.index (All-second (λ (e : ℕ × NumberedSet). e.0 < length m.fields) (λ e. IsKnownSet m e.1) es known.fields_known);
-      } in
-      All-cons (IsKnownField m) (field_with dir.fields x) (map (field_with dir.fields) xs) first (fields_known xs (All-tail (λ (y : FieldRead). y.index < length m.fields) x xs h))
+  fields_known xs h =
+      All-map (IsKnownField m) (field_with dir.fields) xs
+      (λ k d lt. record { number_in = h k d lt; annotations_known = look_known (IsKnownSet m) (All-nil (IsKnownAnnotation m)) dir.fields (get_or xs k d).index (λ i e le. (known.fields_known i e le).1) })
 
   module _ (b : List ℕ) (is_known : (c : NumberedItem) (x : Code) → DenotesCode m c x → IsKnownCode m c) (is_meant : (c : NumberedItem) (x : Code) → DenotesCode m c x → x ≡ code_in m c) where
     -- the code of a method
@@ -153,8 +132,8 @@ module _ (m : Mentions) (rising : AreRising m) (dir : NumberedDirectory) (known 
         let first : IsKnownMethod m (method_with dir.methods dir.parameters x c) = record {
           number_in = All-head (λ (z : MethodRead). z.index < length m.methods) x xs h;
           code_known = code_known c y s.0;
-          annotations_known = look_known (IsKnownSet m) (All-nil (IsKnownAnnotation m)) es x.index (All-second (λ (e : ℕ × NumberedSet). e.0 < length m.methods) (λ e. IsKnownSet m e.1) es known.methods_known);
-          parameters_known = look_known (All (IsKnownSet m)) (All-nil (IsKnownSet m)) fs x.index (All-second (λ (e : ℕ × List NumberedSet). e.0 < length m.methods) (λ e. All (IsKnownSet m) e.1) fs known.parameters_known);
+          annotations_known = look_known (IsKnownSet m) (All-nil (IsKnownAnnotation m)) es x.index (λ i e le. (known.methods_known i e le).1);
+          parameters_known = look_known (All (IsKnownSet m)) (All-nil (IsKnownSet m)) fs x.index (λ i e le. (known.parameters_known i e le).1);
         } in
         All-cons (IsKnownMethod m) (method_with dir.methods dir.parameters x c) (zip_with (method_with dir.methods dir.parameters) xs codes) first
         (methods_known xs codes symbolic (All-tail (λ (z : MethodRead). z.index < length m.methods) x xs h) at.1 s.1)

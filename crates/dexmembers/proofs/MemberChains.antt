@@ -3,10 +3,9 @@
 use Rattle.std.proofs.Common.{◌≡◌, ◌⊎◌, ℕ, ◌+◌, ◌<◌, ◌≤◌, true, List, [], ◌∷◌, ◌++◌, length, map, get_or, Option, Some, None, refl, ap, sym, ◌∙◌, subst, arith, inl, inr}
 use Rattle.std.specs.Prelude.{All}
 use Rattle.std.specs.List.{Contains}
-use Rattle.std.specs.Ordering.{nat_cmp, is_lt, MatchOrdering}
-use Rattle.std.specs.Cmp.{nat_cmp_is, nat_cmp_total, ranks}
-use Rattle.std.specs.declared.cmp.Ordering.{Ordering}
-use Rattle.std.specs.declared.cmp.Ordering.TheVariants.{Less, Equal, Greater}
+use Rattle.std.specs.Ordering.{nat_cmp, is_lt}
+use Rattle.std.specs.Cmp.{nat_cmp_is, nat_cmp_total}
+use Rattle.std.specs.declared.cmp.Ordering.TheVariants.{Less}
 use Rattle.std.proofs.lemmas.Bool.{cases_lt}
 use Rattle.std.proofs.lemmas.List.{get_or_default, get_or-map, length-map}
 use Rattle.std.proofs.lemmas.List.Elements.{Contains-get_or, All-cons, All-nil}
@@ -116,81 +115,45 @@ later_no_less xs i j rise le lt =
       | inr rest ↦ let same : i ≡ j = omega (arith, le, rest) in let e : get_or xs i 0 ≡ get_or xs j 0 = ap (λ (k : ℕ). get_or xs k 0) same in omega (arith, e)
     ]
 
-module _ (xs ys : List ℕ) (i j : ℕ) (passed : ArePassed xs ys i j) where
+module _ {X : Type 0} (index : X → ℕ) where
+  -- the index of the member at a place
+  number_here : (xs : List X) (i n : ℕ) (x : X) → i < length xs → x ≡ get_or xs i x → n ≡ index x → (i < length (map index xs)) × (get_or (map index xs) i 0 ≡ n)
+  number_here xs i n x lt at is = (omega (arith, lt, length-map xs index), get_or-map index xs i x 0 lt ∙ ap index (sym at) ∙ sym is)
+
   -- the lesser of the next two is in the other list no more
-  pub pass_left : NumbersRise ys → i < length xs → j < length ys → get_or xs i 0 < get_or ys j 0 → ArePassed xs ys (i + 1) j
-  pass_left rise lt lt' less k l in_x in_y same =
-      let p = passed k l in_x in_y same in
-      let above = later_no_less ys j l rise p.1 in_y in
-      elim (cases_lt i k) as (λ _. (i + 1 ≤ k) × (j ≤ l)) [
-        | inl later ↦ (omega (arith, later), p.1)
-        | inr rest ↦ let at : k ≡ i = omega (arith, p.0, rest) in let e : get_or xs k 0 ≡ get_or xs i 0 = ap (λ (z : ℕ). get_or xs z 0) at in absurd (omega (arith, e, same, above, less))
+  pub passed_left : (xs ys : List X) (i j n k : ℕ) (x y : X) → i < length xs → j < length ys → x ≡ get_or xs i x → y ≡ get_or ys j y → n ≡ index x → k ≡ index y → NumbersRise (map index ys) → ArePassed (map index xs) (map index ys) i j → n < k
+      → ArePassed (map index xs) (map index ys) (i + 1) j
+  passed_left xs ys i j n k x y lt lt' at at' is is' rise passed less p q in_x in_y same =
+      let before = passed p q in_x in_y same in
+      let above = later_no_less (map index ys) j q rise before.1 in_y in
+      let first = (number_here xs i n x lt at is).1 in
+      let second = (number_here ys j k y lt' at' is').1 in
+      elim (cases_lt i p) as (λ _. (i + 1 ≤ p) × (j ≤ q)) [
+        | inl later ↦ (omega (arith, later), before.1)
+        | inr rest ↦ let here : p ≡ i = omega (arith, before.0, rest) in let e = ap (λ (z : ℕ). get_or (map index xs) z 0) here in absurd (omega (arith, e, same, above, first, second, less))
       ]
 
   -- the same for the other list
-  pub pass_right : NumbersRise xs → i < length xs → j < length ys → get_or ys j 0 < get_or xs i 0 → ArePassed xs ys i (j + 1)
-  pass_right rise lt lt' less k l in_x in_y same =
-      let p = passed k l in_x in_y same in
-      let above = later_no_less xs i k rise p.0 in_x in
-      elim (cases_lt j l) as (λ _. (i ≤ k) × (j + 1 ≤ l)) [
-        | inl later ↦ (p.0, omega (arith, later))
-        | inr rest ↦ let at : l ≡ j = omega (arith, p.1, rest) in let e : get_or ys l 0 ≡ get_or ys j 0 = ap (λ (z : ℕ). get_or ys z 0) at in absurd (omega (arith, e, same, above, less))
-      ]
+  pub passed_right : (xs ys : List X) (i j n k : ℕ) (x y : X) → i < length xs → j < length ys → x ≡ get_or xs i x → y ≡ get_or ys j y → n ≡ index x → k ≡ index y → NumbersRise (map index xs) → ArePassed (map index xs) (map index ys) i j → k < n
+      → ArePassed (map index xs) (map index ys) i (j + 1)
+  passed_right xs ys i j n k x y lt lt' at at' is is' rise passed less p q in_x in_y same =
+      let turned = passed_left ys xs j i k n y x lt' lt at' at is' is rise (λ u v a b e. let h = passed v u b a (sym e) in (h.1, h.0)) less q p in_y in_x (sym same) in
+      (turned.1, turned.0)
+
+  -- where the next two are equal, an index is in both
+  pub passed_same : (xs ys : List X) (i j n : ℕ) (x y : X) → i < length xs → j < length ys → x ≡ get_or xs i x → y ≡ get_or ys j y → n ≡ index x → n ≡ index y → ShareNone (map index xs) (map index ys) → ⊥
+  passed_same xs ys i j n x y lt lt' at at' is is' none =
+      let first = number_here xs i n x lt at is in
+      let second = number_here ys j n y lt' at' is' in
+      none (get_or (map index xs) i 0) (Contains-get_or (map index xs) i 0 first.0) (subst (Contains (map index ys)) (second.1 ∙ sym first.1) (Contains-get_or (map index ys) j 0 second.0))
 
   -- at the end of one of them no index is in both
-  pub none_shared : (i < length xs → j < length ys → ⊥) → ShareNone xs ys
-  none_shared ended n in_x in_y =
-      let a : get_or xs in_x.0 n ≡ get_or xs in_x.0 0 = get_or_default xs in_x.0 n 0 in_x.1 in
-      let c : get_or ys in_y.0 n ≡ get_or ys in_y.0 0 = get_or_default ys in_y.0 n 0 in_y.1 in
+  pub passed_all : (xs ys : List X) (i j : ℕ) → ArePassed (map index xs) (map index ys) i j → (length xs ≤ i) ⊎ (length ys ≤ j) → ShareNone (map index xs) (map index ys)
+  passed_all xs ys i j passed ended n in_x in_y =
+      let a = get_or_default (map index xs) in_x.0 n 0 in_x.1 in
+      let c = get_or_default (map index ys) in_y.0 n 0 in_y.1 in
       let p = passed in_x.0 in_y.0 in_x.1 in_y.1 (sym a ∙ in_x.2 ∙ sym in_y.2 ∙ c) in
-      ended (omega (arith, p.0, in_x.1)) (omega (arith, p.1, in_y.1))
-
--- where the next two are equal, an index is in both
-pub one_shared : (xs ys : List ℕ) (i j : ℕ) → i < length xs → j < length ys → get_or xs i 0 ≡ get_or ys j 0 → ShareNone xs ys → ⊥
-one_shared xs ys i j lt lt' same none = none (get_or xs i 0) (Contains-get_or xs i 0 lt) (subst (Contains ys) (sym same) (Contains-get_or ys j 0 lt'))
-
--- ---- the pass, over members
-
--- the index of the member at a place
-number_here : {X : Type 0} (index : X → ℕ) (xs : List X) (i n : ℕ) (x : X) → i < length xs → x ≡ get_or xs i x → n ≡ index x → get_or (map index xs) i 0 ≡ n
-number_here index xs i n x lt at is = get_or-map index xs i x 0 lt ∙ ap index (sym at) ∙ sym is
-
-module _ {X : Type 0} (index : X → ℕ) (xs ys : List X) (i j : ℕ) where
-  -- at the end of one of the lists
-  pub passed_all : ArePassed (map index xs) (map index ys) i j → (length xs ≤ i) ⊎ (length ys ≤ j) → ShareNone (map index xs) (map index ys)
-  passed_all passed (inl ended) = none_shared (map index xs) (map index ys) i j passed (λ lt lt'. let e = length-map xs index in omega (arith, e, lt, ended))
-  passed_all passed (inr ended) = none_shared (map index xs) (map index ys) i j passed (λ lt lt'. let e = length-map ys index in omega (arith, e, lt', ended))
-
-  module _ (n k : ℕ) (x y : X) (lt : i < length xs) (lt' : j < length ys) (at : x ≡ get_or xs i x) (at' : y ≡ get_or ys j y) (is : n ≡ index x) (is' : k ≡ index y) where
-    -- the next index of the one list is less
-    pub passed_left : NumbersRise (map index ys) → ArePassed (map index xs) (map index ys) i j → Less ≡ nat_cmp n k → ArePassed (map index xs) (map index ys) (i + 1) j
-    passed_left rise passed e =
-        let less : n < k = subst (λ (r : Ordering). MatchOrdering r (n < k) (n ≡ k) (k < n)) (sym e) (ranks n k) in
-        let first = number_here index xs i n x lt at is in
-        let second = number_here index ys j k y lt' at' is' in
-        let l = length-map xs index in
-        let m = length-map ys index in
-        pass_left (map index xs) (map index ys) i j passed rise (omega (arith, l, lt)) (omega (arith, m, lt')) (omega (arith, first, second, less))
-
-    -- that of the other list is
-    pub passed_right : NumbersRise (map index xs) → ArePassed (map index xs) (map index ys) i j → Greater ≡ nat_cmp n k → ArePassed (map index xs) (map index ys) i (j + 1)
-    passed_right rise passed e =
-        let less : k < n = subst (λ (r : Ordering). MatchOrdering r (n < k) (n ≡ k) (k < n)) (sym e) (ranks n k) in
-        let first = number_here index xs i n x lt at is in
-        let second = number_here index ys j k y lt' at' is' in
-        let l = length-map xs index in
-        let m = length-map ys index in
-        pass_right (map index xs) (map index ys) i j passed rise (omega (arith, l, lt)) (omega (arith, m, lt')) (omega (arith, first, second, less))
-
-    -- they are equal
-    pub passed_same : Equal ≡ nat_cmp n k → ShareNone (map index xs) (map index ys) → ⊥
-    passed_same e =
-        let same : n ≡ k = subst (λ (r : Ordering). MatchOrdering r (n < k) (n ≡ k) (k < n)) (sym e) (ranks n k) in
-        let first = number_here index xs i n x lt at is in
-        let second = number_here index ys j k y lt' at' is' in
-        let l = length-map xs index in
-        let m = length-map ys index in
-        one_shared (map index xs) (map index ys) i j (omega (arith, l, lt)) (omega (arith, m, lt')) (first ∙ same ∙ sym second)
+      elim ended [ inl e ↦ omega (arith, e, p.0, in_x.1, length-map xs index) | inr e ↦ omega (arith, e, p.1, in_y.1, length-map ys index) ]
 
 -- a refusal has another reason that follows
 pub refused_so : {P Q : Type 0} → (P → Q) → (fault : ItemFault) → IsDataRefusal P fault → IsDataRefusal Q fault

@@ -17,14 +17,14 @@ use Rattle.dexval.proofs.Meanings.{set_encoded, values_encoded, set_marks, value
 use Rattle.dexcode.specs.Numbered.{NumberedItem}
 use Rattle.dexcode.specs.Meaning.{code_in, IsKnownCode}
 use Rattle.dexcode.specs.Renumbering.{item_uses}
-use Rattle.dexdebug.proofs.DebugMeanings.{zip-append}
+pub use Rattle.dexdebug.proofs.DebugMeanings.{zip-append}
 use Rattle.dexmembers.specs.Numbered.{NumberedField, NumberedMethod, NumberedMembers, field_in, method_in, members_in, fields_of, methods_of, IsKnownField, IsKnownMethod, AreKnownMembers, AreOfClass}
 use Rattle.dexmembers.specs.Uses.{field_uses, method_uses, members_uses, members_symbols}
 
 -- ---- parts
 
 -- what members give goes together where that of each does
-parts_zip : {X Y U S : Type 0} (R : U → S → Type 0) (P Q : X → Type 0) (f : X → List U) (g : Y → List S) (h : X → Y) → ((x : X) → P x → Q x → AllZip R (f x) (g (h x))) → (xs : List X) → All P xs → All Q xs → AllZip R (flat_map f xs) (flat_map g (map h xs))
+pub parts_zip : {X Y U S : Type 0} (R : U → S → Type 0) (P Q : X → Type 0) (f : X → List U) (g : Y → List S) (h : X → Y) → ((x : X) → P x → Q x → AllZip R (f x) (g (h x))) → (xs : List X) → All P xs → All Q xs → AllZip R (flat_map f xs) (flat_map g (map h xs))
 parts_zip R P Q f g h step [] all also = tt
 parts_zip R P Q f g h step (x ∷ xs) all also =
     zip-append R (f x) (g (h x)) (flat_map f xs) (flat_map g (map h xs)) (step x (All-head P x xs all) (All-head Q x xs also)) (parts_zip R P Q f g h step xs (All-tail P x xs all) (All-tail Q x xs also))

@@ -7,7 +7,7 @@ use Rattle.std.specs.Cmp.{IsTotalOrder}
 use Rattle.std.proofs.lemmas.List.{map-append}
 use Rattle.std.proofs.lemmas.List.Elements.{All-head, All-tail, All-nil, All-cons, All-contains, Contains-append_left, Contains-append_right, Contains-append_cases}
 use Rattle.dexspec.specs.Lists.{rises, OrNone}
-use Rattle.dexspec.specs.Symbols.{Field, Method, field_cmp, method_cmp}
+use Rattle.dexspec.specs.Symbols.{field_cmp, method_cmp}
 use Rattle.dexspec.specs.Header.{FieldIds, MethodIds, table_size}
 use Rattle.dexspec.specs.Rows.{FieldRow, MethodRow}
 use Rattle.dexspec.specs.Annotations.{Directory, DirectoryAt, no_directory, PairAt, PairsAt, pairs_at, SetAt, RefListAt, fields_count, methods_count, parameters_count}
@@ -28,6 +28,7 @@ use Rattle.dexmembers.specs.declared.class_data.EncodedField.{EncodedField as Fi
 use Rattle.dexmembers.specs.declared.class_data.EncodedMethod.{EncodedMethod as MethodRead}
 use Rattle.dexmembers.specs.declared.class_data.ClassData.{ClassData as DataRead}
 use Rattle.dexmembers.proofs.Owned.{one_place}
+use Rattle.dexmembers.proofs.RenumberingKept.{no_field, no_method}
 
 module _ {K : Type 0} (R : K → K → Ordering) (o : IsTotalOrder R) (Row : List ℕ → ℕ → K → Type 0) (one : (b : List ℕ) (i : ℕ) (x y : K) → Row b i x → Row b i y → x ≡ y) (b : List ℕ) (size : ℕ) (within : (i : ℕ) (x : K) → Row b i x → i < size)
     (ks : List K) (rise : rises R ks ≡ true) (rows : AreAll Row b size ks) (none : K) where
@@ -114,12 +115,6 @@ module _ {K : Type 0} (R : K → K → Ordering) (o : IsTotalOrder R) (Row : Lis
           | inl l ↦ Contains-append_left (map index xs) (map index ys) i (numbers_have xs below i lt l)
           | inr r ↦ Contains-append_right (map index xs) (map index ys) i (numbers_have ys below' i lt r)
         ]
-
-abbrev no_field : Field
-no_field = record { class = []; name = []; type = [] }
-
-abbrev no_method : Method
-no_method = record { class = []; name = []; proto = record { return_type = []; parameters = [] } }
 
 module _ (b : List ℕ) (m : Mentions) (pools : ArePools b m) (rising : AreRising m) (off : ℕ) (a : Directory) (at : DirectoryAt b off a) where
   -- the members of a directory rise

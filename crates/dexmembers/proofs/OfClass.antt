@@ -1,13 +1,14 @@
--- Members put together are of the class of their row.
-use Rattle.std.proofs.Common.{◌≡◌, ℕ, List, [], ◌∷◌, map, subst, Option}
+-- Members put together have the indices of what was read, and are of the class of their row.
+use Rattle.std.proofs.Common.{◌≡◌, ℕ, List, [], ◌∷◌, map, refl, sym, ap, subst, Option}
 use Rattle.std.specs.Prelude.{All}
 use Rattle.std.specs.List.{AllZip}
-use Rattle.std.proofs.lemmas.List.Elements.{All-head, All-tail, All-nil, All-cons, All-append}
+use Rattle.std.proofs.lemmas.List.Elements.{All-map, All-append}
 use Rattle.dexspec.specs.Lists.{zip_with, BothOrNone}
 use Rattle.dexspec.specs.Texts.{Text}
 use Rattle.dexspec.specs.ClassData.{EncodedField, EncodedMethod, fields_of, methods_of}
 use Rattle.dexspec.specs.Classes.{ClassTypeRow, class_idx}
 use Rattle.dexspec.proofs.determined.OneRow.{one_type}
+use Rattle.dexpool.proofs.Pairs.{map_both}
 use Rattle.dexpool.proofs.Parts.{all_prefix, all_back}
 use Rattle.dexspec.specs.Code.{Code}
 use Rattle.dexspec.specs.Mentions.{Mentions}
@@ -15,6 +16,7 @@ use Rattle.dexcode.specs.Numbered.{NumberedItem, DenotesCode}
 use Rattle.dexval.specs.Numbered.{NumberedSet, NumberedDirectory, NumberedValues, field_at, method_at}
 use Rattle.dexmembers.specs.Numbered.{NumberedField, NumberedMethod, AreOfClass}
 use Rattle.dexmembers.specs.internal.ClassData.{encoded_field_in, encoded_method_in, class_data_in, IsDataOf}
+use Rattle.dexmembers.proofs.RenumberingLists.{all_seen}
 use Rattle.dexmembers.specs.internal.RowParts.{attached}
 use Rattle.dexmembers.specs.internal.MethodCodes.{AreCodesAt}
 use Rattle.dexmembers.specs.internal.Attaching.{field_with, method_with}
@@ -22,23 +24,30 @@ use Rattle.dexmembers.specs.declared.class_data.EncodedField.{EncodedField as Fi
 use Rattle.dexmembers.specs.declared.class_data.EncodedMethod.{EncodedMethod as MethodRead}
 use Rattle.dexmembers.specs.declared.class_data.ClassData.{ClassData as DataRead}
 
+-- fields keep their indices
+pub field_numbers : (sets : List (ℕ × NumberedSet)) (xs : List FieldRead) → map (λ (f : NumberedField). f.number) (map (field_with sets) xs) ≡ map (λ (x : FieldRead). x.index) xs
+field_numbers sets xs = map_both (field_with sets) (λ (f : NumberedField). f.number) (λ (x : FieldRead). x.index) xs (λ k d lt. refl)
+
+-- and so do methods
+pub method_numbers : (b : List ℕ) (m : Mentions) (sets : List (ℕ × NumberedSet)) (lists : List (ℕ × List NumberedSet)) (xs : List MethodRead) (codes : List (Option NumberedItem)) (symbolic : List (Option Code)) → AreCodesAt b xs symbolic → AllZip (BothOrNone (DenotesCode m)) codes symbolic
+    → map (λ (y : NumberedMethod). y.number) (zip_with (method_with sets lists) xs codes) ≡ map (λ (x : MethodRead). x.index) xs
+method_numbers b m sets lists [] codes symbolic h s = refl
+method_numbers b m sets lists (x ∷ xs) codes [] h s = absurd h
+method_numbers b m sets lists (x ∷ xs) [] (y ∷ symbolic) h s = absurd s
+method_numbers b m sets lists (x ∷ xs) (c ∷ codes) (y ∷ symbolic) h s = ap (λ (l : List ℕ). x.index ∷ l) (method_numbers b m sets lists xs codes symbolic h.1 s.1)
+
 -- the fields of a list
 pub fields_of_class : (m : Mentions) (name : Text) (sets : List (ℕ × NumberedSet)) (xs : List FieldRead) → All (λ (x : EncodedField). x.field.class ≡ name) (map (encoded_field_in m) xs)
     → All (λ (f : NumberedField). (field_at m f.number).class ≡ name) (map (field_with sets) xs)
-fields_of_class m name sets [] h = All-nil (λ (f : NumberedField). (field_at m f.number).class ≡ name)
-fields_of_class m name sets (x ∷ xs) h =
-    All-cons (λ (f : NumberedField). (field_at m f.number).class ≡ name) (field_with sets x) (map (field_with sets) xs) (All-head (λ (y : EncodedField). y.field.class ≡ name) (encoded_field_in m x) (map (encoded_field_in m) xs) h)
-    (fields_of_class m name sets xs (All-tail (λ (y : EncodedField). y.field.class ≡ name) (encoded_field_in m x) (map (encoded_field_in m) xs) h))
+fields_of_class m name sets xs h = All-map (λ (f : NumberedField). (field_at m f.number).class ≡ name) (field_with sets) xs (all_seen (encoded_field_in m) (λ (x : EncodedField). x.field.class ≡ name) xs h)
 
 -- the methods
 pub methods_of_class : (b : List ℕ) (m : Mentions) (name : Text) (sets : List (ℕ × NumberedSet)) (lists : List (ℕ × List NumberedSet)) (xs : List MethodRead) (codes : List (Option NumberedItem)) (symbolic : List (Option Code)) → AreCodesAt b xs symbolic → AllZip (BothOrNone (DenotesCode m)) codes symbolic
     → All (λ (x : EncodedMethod). x.method.class ≡ name) (map (encoded_method_in m) xs) → All (λ (y : NumberedMethod). (method_at m y.number).class ≡ name) (zip_with (method_with sets lists) xs codes)
-methods_of_class b m name sets lists [] codes symbolic at s h = All-nil (λ (y : NumberedMethod). (method_at m y.number).class ≡ name)
-methods_of_class b m name sets lists (x ∷ xs) codes [] at s h = absurd at
-methods_of_class b m name sets lists (x ∷ xs) [] (y ∷ symbolic) at s h = absurd s
-methods_of_class b m name sets lists (x ∷ xs) (c ∷ codes) (y ∷ symbolic) at s h =
-    All-cons (λ (z : NumberedMethod). (method_at m z.number).class ≡ name) (method_with sets lists x c) (zip_with (method_with sets lists) xs codes) (All-head (λ (z : EncodedMethod). z.method.class ≡ name) (encoded_method_in m x) (map (encoded_method_in m) xs) h)
-    (methods_of_class b m name sets lists xs codes symbolic at.1 s.1 (All-tail (λ (z : EncodedMethod). z.method.class ≡ name) (encoded_method_in m x) (map (encoded_method_in m) xs) h))
+methods_of_class b m name sets lists xs codes symbolic at s h =
+    let Of = λ (i : ℕ). (method_at m i).class ≡ name in
+    all_seen (λ (y : NumberedMethod). y.number) Of (zip_with (method_with sets lists) xs codes)
+    (subst (All Of) (sym (method_numbers b m sets lists xs codes symbolic at s)) (All-map Of (λ (x : MethodRead). x.index) xs (all_seen (encoded_method_in m) (λ (x : EncodedMethod). x.method.class ≡ name) xs h)))
 
 module _ (b : List ℕ) (r : ℕ) (m : Mentions) (read : DataRead) (is : IsDataOf b r m read) (name : Text) (at : ClassTypeRow b (class_idx b r) name) where
   -- the class that the members belong to is that of the row

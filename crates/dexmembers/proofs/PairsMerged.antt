@@ -4,7 +4,7 @@ use Rattle.std.specs.Prelude.{slice_index, slice_index_or, drop, take, if◌then
 use Rattle.std.specs.List.{flat_map, zip}
 use Rattle.std.specs.Ordering.{nat_cmp}
 use Rattle.std.specs.FinMap.Entries.{by_order}
-use Rattle.std.proofs.lemmas.Bool.{cases_lt, lt-ltb, le-ltb}
+use Rattle.std.proofs.lemmas.Bool.{cases_lt, cond_both, lt-ltb, le-ltb}
 use Rattle.std.proofs.lemmas.List.{length-append, length-drop, drop_more, drop_all, get_or-drop, take_more}
 use Rattle.std.proofs.lemmas.List.Elements.{All-nil, All-cons, All-head, All-tail}
 use Rattle.dexspec.specs.Lists.{in_order, add_in_order}
@@ -37,14 +37,10 @@ AreOther i ps = All (λ p. i ≢ p.0) ps
 
 -- ---- what holds of all
 
-choose_all : (P : ℕ × ℕ → Type 0) (b : Bool) (xs ys : List (ℕ × ℕ)) → All P xs → All P ys → All P (if b then xs else ys)
-choose_all P true xs ys h k = h
-choose_all P false xs ys h k = k
-
 among_all : (P : ℕ × ℕ → Type 0) (p : ℕ × ℕ) (rest : List (ℕ × ℕ) → List (ℕ × ℕ)) → P p → ((ys : List (ℕ × ℕ)) → All P ys → All P (rest ys)) → (qs : List (ℕ × ℕ)) → All P qs → All P (put_among p rest qs)
 among_all P p rest h f [] k = All-cons P p (rest []) h (f [] k)
 among_all P p rest h f (q ∷ qs) k =
-    choose_all P (nat_lt p.0 q.0) (p ∷ rest (q ∷ qs)) (q ∷ put_among p rest qs) (All-cons P p (rest (q ∷ qs)) h (f (q ∷ qs) k)) (All-cons P q (put_among p rest qs) (All-head P q qs k) (among_all P p rest h f qs (All-tail P q qs k)))
+    cond_both (nat_lt p.0 q.0) (p ∷ rest (q ∷ qs)) (q ∷ put_among p rest qs) (All P) (λ e. All-cons P p (rest (q ∷ qs)) h (f (q ∷ qs) k)) (λ e. All-cons P q (put_among p rest qs) (All-head P q qs k) (among_all P p rest h f qs (All-tail P q qs k)))
 
 pub merged_all : (P : ℕ × ℕ → Type 0) (ps qs : List (ℕ × ℕ)) → All P ps → All P qs → All P (merged ps qs)
 merged_all P [] qs h k = k
@@ -172,16 +168,12 @@ pairs_size (p ∷ ps) = by (p.1 == 0) (pairs_size ps)
 kept_more : (p : ℕ × ℕ) (ps : List (ℕ × ℕ)) → length (kept (p ∷ ps)) ≡ length (kept_pair p) + length (kept ps)
 kept_more p ps = length-append (kept_pair p) (kept ps)
 
-choose_count : (n : ℕ) (b : Bool) (xs ys : List (ℕ × ℕ)) → length (kept xs) ≡ n → length (kept ys) ≡ n → length (kept (if b then xs else ys)) ≡ n
-choose_count n true xs ys h k = h
-choose_count n false xs ys h k = k
-
 among_count : (p : ℕ × ℕ) (n : ℕ) (rest : List (ℕ × ℕ) → List (ℕ × ℕ)) → ((ys : List (ℕ × ℕ)) → length (kept (rest ys)) ≡ n + length (kept ys)) → (qs : List (ℕ × ℕ)) → length (kept (put_among p rest qs)) ≡ length (kept_pair p) + n + length (kept qs)
 among_count p n rest f [] = omega (arith, kept_more p (rest []), f [])
 among_count p n rest f (q ∷ qs) =
-    choose_count (length (kept_pair p) + n + length (kept (q ∷ qs))) (nat_lt p.0 q.0) (p ∷ rest (q ∷ qs)) (q ∷ put_among p rest qs)
-    (omega (arith, kept_more p (rest (q ∷ qs)), f (q ∷ qs)))
-    (omega (arith, kept_more q (put_among p rest qs), kept_more q qs, among_count p n rest f qs))
+    cond_both (nat_lt p.0 q.0) (p ∷ rest (q ∷ qs)) (q ∷ put_among p rest qs) (λ (l : List (ℕ × ℕ)). length (kept l) ≡ length (kept_pair p) + n + length (kept (q ∷ qs)))
+    (λ e. omega (arith, kept_more p (rest (q ∷ qs)), f (q ∷ qs)))
+    (λ e. omega (arith, kept_more q (put_among p rest qs), kept_more q qs, among_count p n rest f qs))
 
 pub kept_count : (ps qs : List (ℕ × ℕ)) → length (kept (merged ps qs)) ≡ length (kept ps) + length (kept qs)
 kept_count [] qs = omega arith

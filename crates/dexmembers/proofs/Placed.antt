@@ -13,7 +13,7 @@ use Rattle.dexpool.specs.Orderly.{KeepOrder}
 use Rattle.dexinsn.specs.Fitting.{ImagesFit, IsGreatest, MapsShort, short_strings}
 use Rattle.dexinsn.proofs.Fits.{ShortMapped, short_mapped, shorts_remapped}
 use Rattle.dexcode.specs.Numbered.{NumberedItem}
-use Rattle.dexcode.specs.Renumbering.{item_uses, HasPlaces, HasImages}
+use Rattle.dexcode.specs.Renumbering.{HasPlaces, HasImages}
 use Rattle.dexcode.specs.Renumbering as code
 use Rattle.dexval.specs.Numbered.{NumberedSet, NumberedValues}
 use Rattle.dexval.specs.Renumbering.{MapsNarrow, SetHasPlaces, HavePlaces}
@@ -23,16 +23,12 @@ use Rattle.dexmembers.specs.Renumbering.{FieldHasPlaces, MethodHasPlaces, Member
 use Rattle.dexmembers.specs.Fitting.{MethodFits, NumbersFit, code_short_strings, method_short_strings, members_short_strings}
 use Rattle.dexpool.proofs.KeptTables.{all_both}
 use Rattle.dexpool.proofs.Parts.{all_prefix, all_back}
+use Rattle.dexmembers.proofs.RenumberingLists.{options_both}
 use Rattle.dexmembers.proofs.Images.{SetHasImages, HaveImages, FieldHasImages, MethodHasImages, MembersHaveImages, some_of}
 
 -- the code of the method, if it has some, has places
 abbrev pub CodePlaced : Maps → NumberedMethod → Type 0
 CodePlaced r x = IfSome x.code (HasPlaces r)
-
--- what holds of the code, if there is some, for two reasons
-coded : {P K Q : NumberedItem → Type 0} (o : Option NumberedItem) → ((c : NumberedItem) → P c → K c → Q c) → IfSome o P → IfSome o K → IfSome o Q
-coded None step h k = tt
-coded (Some c) step h k = step c h k
 
 -- ---- from code that has places to members that have
 
@@ -68,7 +64,7 @@ methods_mapped r x h = All-append (MethodHasImages r) x.direct_methods x.virtual
 -- ---- after a cut
 
 pub code_cut : (r : Maps) (x : NumberedMembers) → ((c : NumberedItem) → HasImages r c → code.NumbersFit c → HasPlaces r c) → MembersHaveImages r x → NumbersFit x → All (CodePlaced r) (methods_of x)
-code_cut r x cut h fit = all_both (MethodHasImages r) MethodFits (CodePlaced r) (methods_of x) (methods_mapped r x h) fit (λ y maps_to fits. coded y.code cut maps_to.code_mapped fits)
+code_cut r x cut h fit = all_both (MethodHasImages r) MethodFits (CodePlaced r) (methods_of x) (methods_mapped r x h) fit (λ y maps_to fits. options_both (HasImages r) code.NumbersFit (HasPlaces r) cut y.code maps_to.code_mapped fits)
 
 -- ---- the greatest of numbers
 

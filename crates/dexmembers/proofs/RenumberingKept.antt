@@ -1,8 +1,8 @@
 -- What members denote stays the same once they are renumbered, and so do their order and their class.
-use Rattle.std.proofs.Common.{◌≡◌, ℕ, ◌<◌, List, [], ◌∷◌, length, map, get_or, Option, Some, refl, sym, ap, ◌∙◌, subst}
+use Rattle.std.proofs.Common.{◌≡◌, ℕ, ◌<◌, List, [], length, map, get_or, Option, Some, refl, sym, ap, ◌∙◌, subst}
 use Rattle.std.specs.Prelude.{unwrap_or}
 use Rattle.std.specs.List.{All}
-use Rattle.std.proofs.lemmas.List.Elements.{All-append}
+use Rattle.std.proofs.lemmas.List.Elements.{All-append, All-map}
 use Rattle.std.proofs.lemmas.List.{map-append}
 use Rattle.dexspec.specs.Texts.{Text}
 use Rattle.dexspec.specs.Symbols.{Field, Method}
@@ -19,7 +19,7 @@ use Rattle.dexval.specs.Renumbering.{remapped, renumbered_set, renumbered_values
 use Rattle.dexmembers.specs.Numbered.{NumberedField, NumberedMethod, NumberedMembers, fields_of, methods_of, field_in, method_in, members_in, IsKnownField, IsKnownMethod, AreKnownMembers, AreOrdered, AreOfClass, NumbersRise}
 use Rattle.dexmembers.specs.Renumbering.{renumbered_field, renumbered_method, renumbered_members}
 use Rattle.dexmembers.proofs.Images.{field_use, method_use, SetHasImages, HaveImages, FieldHasImages, MethodHasImages, MembersHaveImages, some_of}
-use Rattle.dexmembers.proofs.RenumberingLists.{all_mapped, maps_keep, options_keep}
+use Rattle.dexmembers.proofs.RenumberingLists.{both_ways, all_mapped, maps_keep, options_keep}
 use Rattle.dexmembers.proofs.RenumberingOrder.{Goes, end, rise_kept, apart_kept}
 
 abbrev pub no_field : Field
@@ -108,18 +108,16 @@ members_keep m n r x maps_to sets codes values places known =
 -- ---- order
 
 field_numbers : (r : Maps) (fs : List NumberedField) → map (end r.fields) (map (λ f. f.number) fs) ≡ map (λ f. f.number) (map (renumbered_field r) fs)
-field_numbers r [] = refl
-field_numbers r (f ∷ fs) = ap (λ ns. remapped r kinds.Field f.number ∷ ns) (field_numbers r fs)
+field_numbers r = both_ways (λ (f : NumberedField). f.number) (end r.fields) (renumbered_field r) (λ (f : NumberedField). f.number) (λ f. refl)
 
 method_numbers : (r : Maps) (xs : List NumberedMethod) → map (end r.methods) (map (λ x. x.number) xs) ≡ map (λ x. x.number) (map (renumbered_method r) xs)
-method_numbers r [] = refl
-method_numbers r (x ∷ xs) = ap (λ ns. remapped r kinds.Method x.number ∷ ns) (method_numbers r xs)
+method_numbers r = both_ways (λ (x : NumberedMethod). x.number) (end r.methods) (renumbered_method r) (λ (x : NumberedMethod). x.number) (λ x. refl)
 
 fields_go : (r : Maps) (fs : List NumberedField) → All (FieldHasImages r) fs → All (Goes r.fields) (map (λ f. f.number) fs)
-fields_go r fs h = all_mapped (λ (f : NumberedField). f.number) (FieldHasImages r) (FieldHasImages r) (Goes r.fields) (λ f places same. some_of (image r.fields f.number) places.number_mapped) fs h h
+fields_go r fs h = All-map (Goes r.fields) (λ (f : NumberedField). f.number) fs (λ k d lt. some_of (image r.fields (get_or fs k d).number) (h k d lt).number_mapped)
 
 methods_go : (r : Maps) (xs : List NumberedMethod) → All (MethodHasImages r) xs → All (Goes r.methods) (map (λ x. x.number) xs)
-methods_go r xs h = all_mapped (λ (x : NumberedMethod). x.number) (MethodHasImages r) (MethodHasImages r) (Goes r.methods) (λ x places same. some_of (image r.methods x.number) places.number_mapped) xs h h
+methods_go r xs h = All-map (Goes r.methods) (λ (x : NumberedMethod). x.number) xs (λ k d lt. some_of (image r.methods (get_or xs k d).number) (h k d lt).number_mapped)
 
 pub order_kept : (m n : Mentions) (r : Maps) (x : NumberedMembers) → AllMapTo m n r → MembersHaveImages r x → AreOrdered x → AreOrdered (renumbered_members r x)
 order_kept m n r x maps_to places h =

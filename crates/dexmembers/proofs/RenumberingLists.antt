@@ -1,9 +1,10 @@
 -- What holds of mapped lists and options, member by member.
-use Rattle.std.proofs.Common.{◌≡◌, List, [], ◌∷◌, map, Option, Some, None, refl, ap}
+use Rattle.std.proofs.Common.{◌≡◌, List, [], ◌∷◌, get_or, map, Option, Some, None, refl, ap, subst, arith}
 use Rattle.std.specs.Prelude.{◌↔◌, IfSome}
 use Rattle.std.specs.List.{All}
 use Rattle.std.specs.Option.{option_map}
-use Rattle.std.proofs.lemmas.List.Elements.{All-nil, All-cons, All-head, All-tail}
+use Rattle.std.proofs.lemmas.List.{get_or-map, length-map}
+use Rattle.std.proofs.lemmas.List.Elements.{All-nil, All-cons, All-head, All-tail, All-map}
 
 -- the first member, if there is one
 abbrev first_or : {X : Type 0} → X → List X → X
@@ -20,11 +21,24 @@ abbrev value_or : {X : Type 0} → X → Option X → X
 value_or d None = d
 value_or d (Some x) = x
 
+-- two ways of two steps that lead to the same
+pub both_where : {A B C D : Type 0} (f : A → B) (g : B → D) (h : A → C) (k : C → D) (P : A → Type 0) → ((x : A) → P x → g (f x) ≡ k (h x)) → (xs : List A) → All P xs → map g (map f xs) ≡ map k (map h xs)
+both_where f g h k P e [] all = refl
+both_where f g h k P e (x ∷ xs) all =
+    let here = e x (All-head P x xs all) in
+    let rest = both_where f g h k P e xs (All-tail P x xs all) in
+    λ i. here i ∷ rest i
+
+pub both_ways : {A B C D : Type 0} (f : A → B) (g : B → D) (h : A → C) (k : C → D) → ((x : A) → g (f x) ≡ k (h x)) → (xs : List A) → map g (map f xs) ≡ map k (map h xs)
+both_ways f g h k e xs = both_where f g h k (λ x. Unit {0}) (λ x u. e x) xs (λ i d lt. tt)
+
+-- what holds of what members are mapped to
+pub all_seen : {X Y : Type 0} (g : X → Y) (P : Y → Type 0) (xs : List X) → All P (map g xs) → All (λ x. P (g x)) xs
+all_seen g P xs h = λ k d lt. subst P (get_or-map g xs k d (g d) lt) (h k (g d) (omega (arith, length-map xs g, lt)))
+
 -- what a step gives for each member
 pub all_mapped : {X Y : Type 0} (f : X → Y) (P K : X → Type 0) (Q : Y → Type 0) → ((x : X) → P x → K x → Q (f x)) → (xs : List X) → All P xs → All K xs → All Q (map f xs)
-all_mapped f P K Q each [] h k = All-nil Q
-all_mapped f P K Q each (x ∷ xs) h k =
-    All-cons Q (f x) (map f xs) (each x (All-head P x xs h) (All-head K x xs k)) (all_mapped f P K Q each xs (All-tail P x xs h) (All-tail K x xs k))
+all_mapped f P K Q each xs h k = All-map Q f xs (λ i d lt. each (get_or xs i d) (h i d lt) (k i d lt))
 
 -- what holds of what may be there, by parts
 pub options_both : {X : Type 0} (P K L : X → Type 0) → ((x : X) → P x → K x → L x) → (o : Option X) → IfSome o P → IfSome o K → IfSome o L

@@ -25,13 +25,12 @@ use Rattle.dexmembers.specs.internal.StaticValues.{HasValuesFor, IsValuesFault}
 use Rattle.dexmembers.specs.Checking.{HasCodeOrNoneOf, HaveCodesOf, coded_weight, HasAnnotationsOf, HasValuesOf, HasMembersOf}
 use Rattle.dexmembers.specs.declared.class_data.EncodedMethod.{EncodedMethod}
 use Rattle.dexmembers.specs.declared.class_data.ClassData.{ClassData as DataRead}
-use Rattle.dexmembers.proofs.CodesOfMethods.{zip_more}
+use Rattle.dexpool.proofs.Pairs.{zip_push}
 use Rattle.dexmembers.proofs.StaticValuesRead.{none_there}
 use Rattle.dexmembers.proofs.NamesKept.{named_members, directory_rises}
 use Rattle.dexmembers.proofs.RowAnnotations.{directory_here}
-use Rattle.dexmembers.proofs.RowWeighed.{members_made}
-use Rattle.dexmembers.proofs.RowsAreAt.{HasDirectory, symbols_coded, row_readable, row_made}
-use Rattle.dexmembers.proofs.RowSummed.{parts_sum, declared_fields_apart, declared_methods_apart}
+use Rattle.dexmembers.proofs.RowWeighed.{members_made, parts_sum, declared_fields_apart, declared_methods_apart}
+use Rattle.dexmembers.proofs.RowsAreAt.{many_codes, row_readable, row_made}
 
 -- ---- code
 
@@ -62,7 +61,7 @@ no_codes_of b = record { item = []; is_read = tt; weight_is = omega arith }
 pub one_more_code : (b : List ℕ) (xs : List EncodedMethod) (x : EncodedMethod) (old one new : ℕ) → HaveCodesOf b xs old → HasCodeOrNoneOf b x.code_off one → new ≡ min (2 ^ 64 - 1) (min (2 ^ 64 - 1) (old + 31) + one) → HaveCodesOf b (xs ++ x ∷ []) new
 one_more_code b xs x old one new h is sum = record {
   item = h.item ++ is.code ∷ [];
-  is_read = zip_more (λ (x : EncodedMethod) c. OrNone (SomeAt CodeAt) None b x.code_off c) xs h.item x is.code h.is_read is.at;
+  is_read = zip_push (λ (x : EncodedMethod) c. OrNone (SomeAt CodeAt) None b x.code_off c) xs h.item x is.code h.is_read is.at;
   weight_is = omega (arith, sum, h.weight_is, is.weighs, sum_by_push coded_weight h.item is.code);
 }
 
@@ -120,15 +119,14 @@ module _ (b : List ℕ) (r : ℕ) (m : Mentions) (pools : ArePools b m) (rising 
       → weight ≡ min (2 ^ 64 - 1) (min (2 ^ 64 - 1) (min (2 ^ 64 - 1) (min (2 ^ 64 - 1) (fields + annotations) + direct) + virtual) + values) → HasMembersOf b r weight
   members_of fields annotations direct virtual values weight fields_are a ds vs xs sum =
       let d = class_data_in m read in
-      let directory : HasDirectory b r m read = record { directory = a.item; at = a.is_read.at; named = a.is_read.named } in
       let direct_codes : HaveCodes b read.direct_methods.items = (ds.item, ds.is_read) in
       let virtual_codes : HaveCodes b read.virtual_methods.items = (vs.item, vs.is_read) in
       let statics : (x : Values) × HasValuesFor b r (length read.static_fields.items) x = (xs.values, xs.are) in
       let rise = directory_rises b m pools rising (annotations_off b r) a.item a.is_read.at in
       record {
-        readable = row_readable b r m read is directory direct_codes virtual_codes statics;
+        readable = row_readable b r m read is a.item a.is_read direct_codes virtual_codes statics;
         members = members_made d a.item ds.item vs.item xs.values;
-        row = row_made b r m read is directory direct_codes virtual_codes statics;
+        row = row_made b r m read is a.item a.is_read direct_codes virtual_codes statics;
         weight_is = omega (
           arith,
           sum,
@@ -139,7 +137,7 @@ module _ (b : List ℕ) (r : ℕ) (m : Mentions) (pools : ArePools b m) (rising 
           xs.weighs,
           length-map read.static_fields.items (encoded_field_in m),
           length-map read.instance_fields.items (encoded_field_in m),
-          parts_sum _ d a.item ds.item vs.item xs.values (symbols_coded b m read.direct_methods.items ds.item ds.is_read) (symbols_coded b m read.virtual_methods.items vs.item vs.is_read)
+          parts_sum d a.item ds.item vs.item xs.values (many_codes b m read.direct_methods.items ds.item ds.is_read) (many_codes b m read.virtual_methods.items vs.item vs.is_read)
               a.is_read.named rise.0 rise.1 rise.2 (declared_fields_apart b r m rising read is) (declared_methods_apart b r m rising read is),
         );
       }

@@ -1,10 +1,11 @@
 -- What is returned for a row that was read.
-use Rattle.std.proofs.Common.{◌≡◌, ℕ, suc, ◌+◌, ◌-◌, ◌^◌, ◌<◌, ◌≤◌, min, List, [], ◌∷◌, length, refl, sym, ap, ◌∙◌, subst, inl, inr, Option}
+use Rattle.std.proofs.Common.{◌≡◌, ℕ, ◌+◌, ◌-◌, ◌^◌, ◌<◌, ◌≤◌, min, List, length, refl, sym, ap, ◌∙◌, subst, inl, inr, Option, map}
 use Rattle.std.specs.Prelude.{Result, Ok, Err, IfOk, IfErr}
 use Rattle.std.specs.List.{AllZip}
-use Rattle.dexspec.specs.Lists.{BothOrNone}
+use Rattle.dexspec.specs.Lists.{BothOrNone, rises}
 use Rattle.dexspec.specs.Code.{Code}
 use Rattle.dexspec.specs.Accepted.{IsReadable}
+use Rattle.dexpool.proofs.Pairs.{zip_length}
 use Rattle.dexspec.specs.Mentions.{Mentions}
 use Rattle.dexpool.specs.declared.faults.ItemFault.{ItemFault}
 use Rattle.dexpool.specs.declared.faults.ItemFault.TheVariants.{Refused, Memory}
@@ -12,11 +13,11 @@ use Rattle.dexpool.specs.Numberings.{AreRising}
 use Rattle.dexcode.specs.Numbered.{NumberedItem, DenotesCode}
 use Rattle.dexcode.specs.Meaning.{code_in, IsKnownCode}
 use Rattle.dexval.specs.Shared.{shared_directory_of}
-use Rattle.dexval.specs.Numbered.{NumberedValues, directory_in, values_in}
+use Rattle.dexval.specs.Numbered.{NumberedValues, directory_in, values_in, NumberedDirectory}
 use Rattle.dexval.specs.declared.directory.SharedDirectory.{SharedDirectory}
-use Rattle.dexmembers.specs.Numbered.{NumberedMembers, members_in, AreKnownMembers}
+use Rattle.dexmembers.specs.Numbered.{NumberedMembers, members_in, AreKnownMembers, NumberedField, NumberedMethod, AreOrdered}
 use Rattle.dexmembers.specs.Weight.{members_weight}
-use Rattle.dexmembers.specs.internal.ClassData.{IsDataOf}
+use Rattle.dexmembers.specs.internal.ClassData.{IsDataOf, class_data_in}
 use Rattle.dexmembers.specs.internal.MethodCodes.{AreCodesAt}
 use Rattle.dexmembers.specs.Weighing.{codes_weight, codes_of}
 use Rattle.dexmembers.specs.Reading.{MembersRow, AreReadWithin, IsMembersFault, IsMembersFaultWithin}
@@ -25,20 +26,16 @@ use Rattle.dexmembers.specs.internal.Weighed.{AreWithin, IsWeighedWithin}
 use Rattle.dexmembers.specs.declared.class_data.EncodedMethod.{EncodedMethod as MethodRead}
 use Rattle.dexmembers.specs.declared.class_data.ClassData.{ClassData as DataRead}
 use Rattle.dexmembers.proofs.CodesApart.{attached_codes}
-use Rattle.dexmembers.proofs.Made.{made_row, made_known, made_ordered}
-use Rattle.dexmembers.proofs.OfClass.{attached_of_class}
+use Rattle.dexmembers.proofs.OfClass.{attached_of_class, field_numbers, method_numbers}
 use Rattle.dexmembers.proofs.RowsAreAt.{row_readable}
-
--- lists that are paired have one length
-zip_many : {A B : Type 0} (R : A → B → Type 0) (xs : List A) (ys : List B) → AllZip R xs ys → length xs ≡ length ys
-zip_many R [] [] h = refl
-zip_many R [] (y ∷ ys) h = absurd h
-zip_many R (x ∷ xs) [] h = absurd h
-zip_many R (x ∷ xs) (y ∷ ys) h = ap suc (zip_many R xs ys h.1)
+use Rattle.std.specs.Ordering.{nat_cmp}
+use Rattle.dexspec.specs.ClassData.{ShareNone}
+use Rattle.dexmembers.specs.declared.class_data.EncodedField.{EncodedField as FieldRead}
+use Rattle.dexmembers.proofs.Meant.{fields_meant, fields_known, methods_meant, methods_known}
 
 -- there is code or none for each method
 codes_many : (b : List ℕ) (m : Mentions) (xs : List MethodRead) (codes : List (Option NumberedItem)) (symbolic : List (Option Code)) → AreCodesAt b xs symbolic → AllZip (BothOrNone (DenotesCode m)) codes symbolic → length codes ≡ length xs
-codes_many b m xs codes symbolic at are_encoded = zip_many (BothOrNone (DenotesCode m)) codes symbolic are_encoded ∙ sym (zip_many _ xs symbolic at)
+codes_many b m xs codes symbolic at are_encoded = zip_length (BothOrNone (DenotesCode m)) codes symbolic are_encoded ∙ sym (zip_length _ xs symbolic at)
 
 module _ (b : List ℕ) (r : ℕ) (m : Mentions) (rising : AreRising m) (read : DataRead) (is : IsDataOf b r m read) (most : ℕ) (a : SharedDirectory) (direct virtual : List (Option NumberedItem)) (vs : NumberedValues) (parts : ArePartsOf b r m read most a direct virtual vs) where
   -- the parts can be put together
@@ -50,34 +47,72 @@ module _ (b : List ℕ) (r : ℕ) (m : Mentions) (rising : AreRising m) (read : 
   }
 
   module _ (is_known : (c : NumberedItem) (x : Code) → DenotesCode m c x → IsKnownCode m c) (is_meant : (c : NumberedItem) (x : Code) → DenotesCode m c x → x ≡ code_in m c) where
-    -- their numbers are those of symbols
-    parts_known : AreKnownMembers m (attached read (shared_directory_of a) direct virtual vs)
-    parts_known =
-        made_known b r m rising (shared_directory_of a) parts.annotations.known read is is_known is_meant direct virtual parts.direct_codes.symbolic parts.virtual_codes.symbolic parts.direct_codes.at parts.direct_codes.are_encoded parts.virtual_codes.at parts.virtual_codes.are_encoded vs parts.values.known
+    abbrev d : NumberedDirectory
+    d = shared_directory_of a
+
+    abbrev put : NumberedMembers
+    put = attached read d direct virtual vs
 
     -- the row declares what they mean
-    parts_row : MembersRow b r (members_in m (attached read (shared_directory_of a) direct virtual vs))
-    parts_row =
-        made_row b r m rising (shared_directory_of a) parts.annotations.known read is is_known is_meant direct virtual parts.direct_codes.symbolic parts.virtual_codes.symbolic parts.direct_codes.at parts.direct_codes.are_encoded parts.virtual_codes.at parts.virtual_codes.are_encoded vs parts.annotations.at parts.values.are.at
+    parts_row : MembersRow b r (members_in m put)
+    parts_row = record {
+      directory = directory_in m d;
+      directory_is = parts.annotations.at;
+      declared = class_data_in m read;
+      declared_is = is.declared.is;
+      annotations = refl;
+      static_fields = fields_meant m rising d parts.annotations.known read.static_fields.items is.static_fields_are.fields_in;
+      instance_fields = fields_meant m rising d parts.annotations.known read.instance_fields.items is.instance_fields_are.fields_in;
+      direct_methods = methods_meant m rising d parts.annotations.known b is_known is_meant read.direct_methods.items direct parts.direct_codes.symbolic is.direct_methods_are.methods_in parts.direct_codes.at parts.direct_codes.are_encoded;
+      virtual_methods = methods_meant m rising d parts.annotations.known b is_known is_meant read.virtual_methods.items virtual parts.virtual_codes.symbolic is.virtual_methods_are.methods_in parts.virtual_codes.at parts.virtual_codes.are_encoded;
+      static_values = parts.values.are.at;
+    }
+
+    -- their numbers are those of symbols
+    parts_known : AreKnownMembers m put
+    parts_known = record {
+      annotations_known = parts.annotations.known.own_known;
+      static_fields_known = fields_known m rising d parts.annotations.known read.static_fields.items is.static_fields_are.fields_in;
+      instance_fields_known = fields_known m rising d parts.annotations.known read.instance_fields.items is.instance_fields_are.fields_in;
+      direct_methods_known = methods_known m rising d parts.annotations.known b is_known is_meant read.direct_methods.items direct parts.direct_codes.symbolic is.direct_methods_are.methods_in parts.direct_codes.at parts.direct_codes.are_encoded;
+      virtual_methods_known = methods_known m rising d parts.annotations.known b is_known is_meant read.virtual_methods.items virtual parts.virtual_codes.symbolic is.virtual_methods_are.methods_in parts.virtual_codes.at parts.virtual_codes.are_encoded;
+      values_known = parts.values.known;
+    }
+
+    -- and in order
+    parts_ordered : AreOrdered put
+    parts_ordered =
+        let statics = field_numbers d.fields read.static_fields.items in
+        let instances = field_numbers d.fields read.instance_fields.items in
+        let directs = method_numbers b m d.methods d.parameters read.direct_methods.items direct parts.direct_codes.symbolic parts.direct_codes.at parts.direct_codes.are_encoded in
+        let virtuals = method_numbers b m d.methods d.parameters read.virtual_methods.items virtual parts.virtual_codes.symbolic parts.virtual_codes.at parts.virtual_codes.are_encoded in
+        record {
+          static_fields_rise = ap (rises nat_cmp) statics ∙ is.static_fields_are.fields_rise;
+          instance_fields_rise = ap (rises nat_cmp) instances ∙ is.instance_fields_are.fields_rise;
+          direct_methods_rise = ap (rises nat_cmp) directs ∙ is.direct_methods_are.methods_rise;
+          virtual_methods_rise = ap (rises nat_cmp) virtuals ∙ is.virtual_methods_are.methods_rise;
+          fields_apart = subst (λ (l : List ℕ). ShareNone l (map (λ (f : NumberedField). f.number) put.instance_fields)) (sym statics) (subst (λ (l : List ℕ). ShareNone (map (λ (x : FieldRead). x.index) read.static_fields.items) l) (sym instances) is.fields_apart);
+          methods_apart = subst (λ (l : List ℕ). ShareNone l (map (λ (y : NumberedMethod). y.number) put.virtual_methods)) (sym directs) (subst (λ (l : List ℕ). ShareNone (map (λ (x : MethodRead). x.index) read.direct_methods.items) l) (sym virtuals) is.methods_apart);
+        }
 
     parts_readable : IsReadable b r
-    parts_readable = row_readable b r m read is (record { directory = directory_in m (shared_directory_of a); at = parts.annotations.at; named = parts.annotations.named }) (parts.direct_codes.symbolic, parts.direct_codes.at) (parts.virtual_codes.symbolic, parts.virtual_codes.at) (values_in m vs, parts.values.are)
+    parts_readable = row_readable b r m read is (directory_in m d) (record { at = parts.annotations.at; named = parts.annotations.named }) (parts.direct_codes.symbolic, parts.direct_codes.at) (parts.virtual_codes.symbolic, parts.virtual_codes.at) (values_in m vs, parts.values.are)
 
-    module _ (made : NumberedMembers) (same : made ≡ attached read (shared_directory_of a) direct virtual vs) where
-      weighs : members_weight (members_in m made) ≡ members_weight (members_in m (attached read (shared_directory_of a) direct virtual vs))
+    module _ (made : NumberedMembers) (same : made ≡ put) where
+      weighs : members_weight (members_in m made) ≡ members_weight (members_in m put)
       weighs = ap (λ (x : NumberedMembers). members_weight (members_in m x)) same
 
       -- what is returned for them, by what they weigh
       returned : (found : Result (NumberedMembers × ℕ) ItemFault) → AreWithin made (members_weight (members_in m made)) most found → IfOk found (AreReadWithin b r m most) × IfErr found (IsPartFault b r most)
-      returned (Err fault) h = (tt, subst (IsPartFault b r most) (sym h.0) (inr (refl, λ readable. record { readable = parts_readable; members = members_in m (attached read (shared_directory_of a) direct virtual vs); row = parts_row; heavy = subst (λ (n : ℕ). most < n) weighs h.1 })))
+      returned (Err fault) h = (tt, subst (IsPartFault b r most) (sym h.0) (inr (refl, λ readable. record { readable = parts_readable; members = members_in m (put); row = parts_row; heavy = subst (λ (n : ℕ). most < n) weighs h.1 })))
       returned (Ok y) h = (
         subst (λ (x : NumberedMembers). AreReadWithin b r m most (x, y.1)) (sym (h.0 ∙ same)) (
           record {
             readable = parts_readable;
             known = parts_known;
             row = parts_row;
-            ordered = made_ordered b r m rising (shared_directory_of a) parts.annotations.known read is is_known is_meant direct virtual parts.direct_codes.symbolic parts.virtual_codes.symbolic parts.direct_codes.at parts.direct_codes.are_encoded parts.virtual_codes.at parts.virtual_codes.are_encoded vs;
-            of_class = λ name at. attached_of_class b r m read is name at (shared_directory_of a) direct virtual vs parts.direct_codes.symbolic parts.virtual_codes.symbolic parts.direct_codes.at parts.direct_codes.are_encoded parts.virtual_codes.at parts.virtual_codes.are_encoded;
+            ordered = parts_ordered;
+            of_class = λ name at. attached_of_class b r m read is name at d direct virtual vs parts.direct_codes.symbolic parts.virtual_codes.symbolic parts.direct_codes.at parts.direct_codes.are_encoded parts.virtual_codes.at parts.virtual_codes.are_encoded;
             light = subst (λ (n : ℕ). n ≤ most) (h.1 ∙ weighs) h.2;
           },
           h.1 ∙ weighs,
@@ -88,7 +123,7 @@ module _ (b : List ℕ) (r : ℕ) (m : Mentions) (rising : AreRising m) (read : 
       -- by what their code weighs
       pub parts_returned : (codes : ℕ) → codes ≡ min (2 ^ 64 - 1) (codes_weight direct + codes_weight virtual) → (found : Result (NumberedMembers × ℕ) ItemFault) → IsWeighedWithin made codes most found → IfOk found (AreReadWithin b r m most) × IfErr found (IsPartFault b r most)
       parts_returned codes codes_are found weighed =
-          let apart = attached_codes read (shared_directory_of a) direct virtual vs parts_attachable.direct_many parts_attachable.virtual_many in
+          let apart = attached_codes read d direct virtual vs parts_attachable.direct_many parts_attachable.virtual_many in
           let whole : codes ≡ min (2 ^ 64 - 1) (codes_weight (codes_of made)) = codes_are ∙ ap (λ (n : ℕ). min (2 ^ 64 - 1) n) (sym (ap (λ (x : NumberedMembers). codes_weight (codes_of x)) same ∙ apart)) in
           returned found (weighed m rising (subst (AreKnownMembers m) (sym same) parts_known) whole)
 

@@ -1,5 +1,5 @@
 -- A class row of which all is there: it is readable, and declares what its parts make.
-use Rattle.std.proofs.Common.{◌≢◌, ℕ, ◌<◌, ◌≤◌, List, [], ◌∷◌, length, map, refl, sym, subst, arith, inl, inr, Option, Some, None}
+use Rattle.std.proofs.Common.{◌≡◌, ◌≢◌, ℕ, ◌<◌, ◌≤◌, List, [], ◌∷◌, length, map, refl, sym, subst, ◌∙◌, arith, inl, inr, Option, Some, None}
 use Rattle.std.specs.Prelude.{All, sum_by}
 use Rattle.std.specs.List.{AllZip}
 use Rattle.std.proofs.lemmas.Bool.{cases_eq}
@@ -8,7 +8,7 @@ use Rattle.std.proofs.lemmas.List.Elements.{All-head, All-tail}
 use Rattle.dexspec.specs.Lists.{OrNone, SomeAt, zip_with}
 use Rattle.dexspec.specs.Code.{Code, CodeAt}
 use Rattle.dexspec.specs.Values.{Values, count_values}
-use Rattle.dexspec.specs.Annotations.{Directory, DirectoryAt, no_directory}
+use Rattle.dexspec.specs.Annotations.{Directory}
 use Rattle.dexspec.specs.ClassData.{ClassData, EncodedMethod}
 use Rattle.dexspec.specs.Classes.{MakesMethod, annotations_off}
 use Rattle.dexspec.specs.Conditions.{Condition}
@@ -21,8 +21,8 @@ use Rattle.dexpool.specs.declared.faults.ItemFault.TheVariants.{Refused, Memory}
 use Rattle.dexpool.specs.Numberings.{AreRising}
 use Rattle.dexpool.specs.Pools.{ArePools}
 use Rattle.dexpool.proofs.Parts.{all_prefix, all_back}
-use Rattle.dexval.specs.Directories.{directory_weight}
-use Rattle.dexmembers.specs.Weight.{members_weight}
+use Rattle.dexmembers.specs.Checking.{IsDirectoryOf}
+use Rattle.dexpool.proofs.Pairs.{zip_length}
 use Rattle.dexmembers.specs.internal.ClassData.{encoded_field_in, encoded_method_in, class_data_in, IsDataOf}
 use Rattle.dexmembers.specs.internal.MethodCodes.{optional_code_weight, AreCodesAt, HaveCodes, IsCodesFaultWithin}
 use Rattle.dexmembers.specs.Reading.{MembersRow, AreHeavyMembers, IsMembersFault}
@@ -32,7 +32,7 @@ use Rattle.dexmembers.specs.declared.class_data.EncodedMethod.{EncodedMethod as 
 use Rattle.dexmembers.specs.declared.class_data.ClassData.{ClassData as DataRead}
 use Rattle.dexmembers.proofs.DirectoryCache.{declared_is, code_holds, direct_refused, virtual_refused}
 use Rattle.dexmembers.proofs.NamesKept.{directory_rises}
-use Rattle.dexmembers.proofs.RowWeighed.{method_made, members_made, direct_within, virtual_within, values_within, annotations_within}
+use Rattle.dexmembers.proofs.RowWeighed.{method_made, members_made, made_weight, code_within, annotations_within}
 
 -- ---- refusals
 
@@ -47,12 +47,6 @@ values_refused b r m read is Memory h = tt
 values_refused b r m read is (Refused n) h = (Condition.Values, h.0, omega (arith, h.0), omega (arith, h.0), h.2 (class_data_in m read) is.declared (length-map read.static_fields.items (encoded_field_in m)))
 
 -- ---- what is there
-
--- the directory of a row
-pub record HasDirectory (b : List ℕ) (r : ℕ) (m : Mentions) (read : DataRead) : Type 0 where
-  pub directory : Directory
-  pub at : OrNone DirectoryAt no_directory b (annotations_off b r) directory
-  pub named : NamesDeclared directory (class_data_in m read)
 
 -- code is there for a method, if it has some
 abbrev IsCoded : (ℕ → Type 0) → EncodedMethod → Type 0
@@ -86,14 +80,11 @@ methods_make b m a [] (c ∷ cs) h = absurd h
 methods_make b m a (x ∷ xs) [] h = absurd h
 methods_make b m a (x ∷ xs) (c ∷ cs) h = (record { name = refl; proto = refl; flags = refl; code = h.0; annotations = refl; parameter_annotations = refl }, methods_make b m a xs cs h.1)
 
--- there is code for methods by their symbols
-pub symbols_coded : (b : List ℕ) (m : Mentions) (xs : List MethodRead) (cs : List (Option Code)) → AreCodesAt b xs cs → AllZip (λ (y : EncodedMethod) (c : Option Code). OrNone (SomeAt CodeAt) None b y.code_off c) (map (encoded_method_in m) xs) cs
-symbols_coded b m [] [] h = tt
-symbols_coded b m [] (c ∷ cs) h = absurd h
-symbols_coded b m (x ∷ xs) [] h = absurd h
-symbols_coded b m (x ∷ xs) (c ∷ cs) h = (h.0, symbols_coded b m xs cs h.1)
+-- there is code or none for each of them
+pub many_codes : (b : List ℕ) (m : Mentions) (xs : List MethodRead) (cs : List (Option Code)) → AreCodesAt b xs cs → length (map (encoded_method_in m) xs) ≡ length cs
+many_codes b m xs cs at = length-map xs (encoded_method_in m) ∙ zip_length _ xs cs at
 
-module _ (b : List ℕ) (r : ℕ) (m : Mentions) (read : DataRead) (is : IsDataOf b r m read) (a : HasDirectory b r m read) (direct : HaveCodes b read.direct_methods.items) (virtual : HaveCodes b read.virtual_methods.items)
+module _ (b : List ℕ) (r : ℕ) (m : Mentions) (read : DataRead) (is : IsDataOf b r m read) (a : Directory) (has : IsDirectoryOf b r m read a) (direct : HaveCodes b read.direct_methods.items) (virtual : HaveCodes b read.virtual_methods.items)
     (vs : (x : Values) × HasValuesFor b r (length read.static_fields.items) x) where
   -- the row is readable
   pub row_readable : IsReadable b r
@@ -109,126 +100,79 @@ module _ (b : List ℕ) (r : ℕ) (m : Mentions) (read : DataRead) (is : IsDataO
           vs.1.at,
           subst (λ (x : ClassData). count_values vs.0 ≤ length x.static_fields) (declared_is b r m read is d declares) (subst (λ (k : ℕ). count_values vs.0 ≤ k) (sym (length-map read.static_fields.items (encoded_field_in m))) vs.1.few),
         );
-        annotations = λ d declares. (a.directory, a.at, subst (λ (x : ClassData). NamesDeclared a.directory x) (declared_is b r m read is d declares) a.named);
+        annotations = λ d declares. (a, has.at, subst (NamesDeclared a) (declared_is b r m read is d declares) has.named);
       }
 
   -- it declares what its parts make
-  pub row_made : MembersRow b r (members_made (class_data_in m read) a.directory direct.0 virtual.0 vs.0)
+  pub row_made : MembersRow b r (members_made (class_data_in m read) a direct.0 virtual.0 vs.0)
   row_made = record {
-    directory = a.directory;
-    directory_is = a.at;
+    directory = a;
+    directory_is = has.at;
     declared = class_data_in m read;
     declared_is = is.declared.is;
     annotations = refl;
     static_fields = refl;
     instance_fields = refl;
-    direct_methods = methods_make b m a.directory read.direct_methods.items direct.0 direct.1;
-    virtual_methods = methods_make b m a.directory read.virtual_methods.items virtual.0 virtual.1;
+    direct_methods = methods_make b m a read.direct_methods.items direct.0 direct.1;
+    virtual_methods = methods_make b m a read.virtual_methods.items virtual.0 virtual.1;
     static_values = vs.1.at;
   }
 
-  -- where what its parts make is heavy, so is what it declares
-  heavy_row : (most : ℕ) → most < members_weight (members_made (class_data_in m read) a.directory direct.0 virtual.0 vs.0) → AreHeavyMembers b r most
-  heavy_row most heavy = record {
-    readable = row_readable;
-    members = members_made (class_data_in m read) a.directory direct.0 virtual.0 vs.0;
-    row = row_made;
-    heavy = heavy;
-  }
+-- ---- a readable row has all its parts, and weighs too much where one of them does
 
-  abbrev pub Coded : EncodedMethod → Option Code → Type 0
-  Coded y c = OrNone (SomeAt CodeAt) None b y.code_off c
-
-  -- by the code of direct methods
-  heavy_direct : (most : ℕ) → most < sum_by optional_code_weight direct.0 → AreHeavyMembers b r most
-  heavy_direct most heavy =
-      heavy_row most
-      (omega (arith, heavy, direct_within Coded (class_data_in m read) a.directory direct.0 virtual.0 vs.0 (symbols_coded b m read.direct_methods.items direct.0 direct.1) (symbols_coded b m read.virtual_methods.items virtual.0 virtual.1)))
-
-  -- by that of virtual ones
-  heavy_virtual : (most : ℕ) → most < sum_by optional_code_weight virtual.0 → AreHeavyMembers b r most
-  heavy_virtual most heavy =
-      heavy_row most
-      (omega (arith, heavy, virtual_within Coded (class_data_in m read) a.directory direct.0 virtual.0 vs.0 (symbols_coded b m read.direct_methods.items direct.0 direct.1) (symbols_coded b m read.virtual_methods.items virtual.0 virtual.1)))
-
-  -- by static values
-  heavy_values : (most : ℕ) → most < static_values_weight vs.0 → AreHeavyMembers b r most
-  heavy_values most heavy =
-      heavy_row most
-      (omega (arith, heavy, values_within Coded (class_data_in m read) a.directory direct.0 virtual.0 vs.0 (symbols_coded b m read.direct_methods.items direct.0 direct.1) (symbols_coded b m read.virtual_methods.items virtual.0 virtual.1)))
-
-  -- by annotations
-  heavy_annotations : ArePools b m → AreRising m → (most : ℕ) → most < directory_weight a.directory → AreHeavyMembers b r most
-  heavy_annotations pools rising most heavy =
-      let up = directory_rises b m pools rising (annotations_off b r) a.directory a.at in
-      heavy_row most
-      (omega (arith, heavy, annotations_within Coded (class_data_in m read) a.directory direct.0 virtual.0 vs.0 (symbols_coded b m read.direct_methods.items direct.0 direct.1) (symbols_coded b m read.virtual_methods.items virtual.0 virtual.1) a.named up.0 up.1 up.2))
-
--- ---- a readable row has all its parts
-
-module _ (b : List ℕ) (r : ℕ) (m : Mentions) (read : DataRead) (is : IsDataOf b r m read) (readable : IsReadable b r) where
-  directory_there : HasDirectory b r m read
-  directory_there =
-      let a = readable.annotations (class_data_in m read) is.declared in
-      record { directory = a.0; at = a.1; named = a.2 }
-
-  direct_there : HaveCodes b read.direct_methods.items
-  direct_there =
-      let d = class_data_in m read in
-      let xs = map (encoded_method_in m) read.direct_methods.items in
-      let ys = map (encoded_method_in m) read.virtual_methods.items in
-      codes_there b m read.direct_methods.items (all_prefix (IsCoded (HasPiecesAt b)) xs ys (readable.code d is.declared)) (all_prefix (IsCoded (HasTriesAt b)) xs ys (readable.tries d is.declared)) (all_prefix (IsCoded (HasDebugAt b)) xs ys (readable.debug d is.declared))
-
-  virtual_there : HaveCodes b read.virtual_methods.items
-  virtual_there =
-      let d = class_data_in m read in
-      let xs = map (encoded_method_in m) read.direct_methods.items in
-      let ys = map (encoded_method_in m) read.virtual_methods.items in
-      codes_there b m read.virtual_methods.items (all_back (IsCoded (HasPiecesAt b)) xs ys (readable.code d is.declared)) (all_back (IsCoded (HasTriesAt b)) xs ys (readable.tries d is.declared)) (all_back (IsCoded (HasDebugAt b)) xs ys (readable.debug d is.declared))
-
-  values_there : (vs : Values) × HasValuesFor b r (length read.static_fields.items) vs
-  values_there =
-      let h = readable.values (class_data_in m read) is.declared in
-      (h.0, record { at = h.1; few = subst (λ (k : ℕ). count_values h.0 ≤ k) (length-map read.static_fields.items (encoded_field_in m)) h.2 })
-
--- so it weighs too much where one of them does
 module _ (b : List ℕ) (r : ℕ) (m : Mentions) (read : DataRead) (is : IsDataOf b r m read) (most : ℕ) where
+  -- where what its parts make does
+  heavy_made : ((a : Directory) → IsDirectoryOf b r m read a → (direct : HaveCodes b read.direct_methods.items) (virtual : HaveCodes b read.virtual_methods.items) (vs : Values) → HasValuesFor b r (length read.static_fields.items) vs
+      → most < made_weight (class_data_in m read) a direct.0 virtual.0 vs) → IsReadable b r → AreHeavyMembers b r most
+  heavy_made heavy readable =
+      let d = class_data_in m read in
+      let xs = map (encoded_method_in m) read.direct_methods.items in
+      let ys = map (encoded_method_in m) read.virtual_methods.items in
+      let P = IsCoded (HasPiecesAt b) in
+      let T = IsCoded (HasTriesAt b) in
+      let D = IsCoded (HasDebugAt b) in
+      let pieces = readable.code d is.declared in
+      let tries = readable.tries d is.declared in
+      let debug = readable.debug d is.declared in
+      let direct = codes_there b m read.direct_methods.items (all_prefix P xs ys pieces) (all_prefix T xs ys tries) (all_prefix D xs ys debug) in
+      let virtual = codes_there b m read.virtual_methods.items (all_back P xs ys pieces) (all_back T xs ys tries) (all_back D xs ys debug) in
+      let a = readable.annotations d is.declared in
+      let has : IsDirectoryOf b r m read a.0 = record { at = a.1; named = a.2 } in
+      let v = readable.values d is.declared in
+      let vs : HasValuesFor b r (length read.static_fields.items) v.0 = record { at = v.1; few = subst (λ (k : ℕ). count_values v.0 ≤ k) (length-map read.static_fields.items (encoded_field_in m)) v.2 } in
+      record { readable = readable; members = members_made d a.0 direct.0 virtual.0 v.0; row = row_made b r m read is a.0 has direct virtual (v.0, vs); heavy = heavy a.0 has direct virtual v.0 vs }
+
   -- its annotations
   pub annotations_part : ArePools b m → AreRising m → (fault : ItemFault) → IsAnnotationsFaultWithin b r most fault → IsPartFault b r most fault
   annotations_part pools rising Memory h = tt
   annotations_part pools rising (Refused n) (inl h) = inl (annotations_refused b r (Refused n) h)
   annotations_part pools rising (Refused n) (inr h) = inr (
     h.0,
-    λ readable. let a = directory_there b r m read is readable in
-        heavy_annotations b r m read is a (direct_there b r m read is readable) (virtual_there b r m read is readable) (values_there b r m read is readable) pools rising most (h.1 a.directory a.at),
+    heavy_made (λ a has ds vs xs are.
+        let up = directory_rises b m pools rising (annotations_off b r) a has.at in
+        let within = annotations_within (class_data_in m read) a ds.0 vs.0 xs (many_codes b m read.direct_methods.items ds.0 ds.1) (many_codes b m read.virtual_methods.items vs.0 vs.1) has.named up.0 up.1 up.2 in
+        omega (arith, h.1 a has.at, within)),
   )
+
+  -- what code and static values weigh
+  within : (a : Directory) (ds : HaveCodes b read.direct_methods.items) (vs : HaveCodes b read.virtual_methods.items) (xs : Values)
+      → (sum_by optional_code_weight ds.0 ≤ made_weight (class_data_in m read) a ds.0 vs.0 xs) × (sum_by optional_code_weight vs.0 ≤ made_weight (class_data_in m read) a ds.0 vs.0 xs) × (static_values_weight xs ≤ made_weight (class_data_in m read) a ds.0 vs.0 xs)
+  within a ds vs xs = code_within (class_data_in m read) a ds.0 vs.0 xs (many_codes b m read.direct_methods.items ds.0 ds.1) (many_codes b m read.virtual_methods.items vs.0 vs.1)
 
   -- the code of its direct methods
   pub direct_part : (fault : ItemFault) → IsCodesFaultWithin b read.direct_methods.items most fault → IsPartFault b r most fault
   direct_part Memory h = tt
   direct_part (Refused n) (inl h) = inl (direct_refused b r m read is (Refused n) h)
-  direct_part (Refused n) (inr h) = inr (
-    h.0,
-    λ readable. let codes = direct_there b r m read is readable in
-        heavy_direct b r m read is (directory_there b r m read is readable) codes (virtual_there b r m read is readable) (values_there b r m read is readable) most (h.1 codes.0 codes.1),
-  )
+  direct_part (Refused n) (inr h) = inr (h.0, heavy_made (λ a has ds vs xs are. omega (arith, h.1 ds.0 ds.1, (within a ds vs xs).0)))
 
   -- that of its virtual ones
   pub virtual_part : (fault : ItemFault) → IsCodesFaultWithin b read.virtual_methods.items most fault → IsPartFault b r most fault
   virtual_part Memory h = tt
   virtual_part (Refused n) (inl h) = inl (virtual_refused b r m read is (Refused n) h)
-  virtual_part (Refused n) (inr h) = inr (
-    h.0,
-    λ readable. let codes = virtual_there b r m read is readable in
-        heavy_virtual b r m read is (directory_there b r m read is readable) (direct_there b r m read is readable) codes (values_there b r m read is readable) most (h.1 codes.0 codes.1),
-  )
+  virtual_part (Refused n) (inr h) = inr (h.0, heavy_made (λ a has ds vs xs are. omega (arith, h.1 vs.0 vs.1, (within a ds vs xs).1)))
 
   -- its static values
   pub values_part : (fault : ItemFault) → IsValuesFaultWithin b r (length read.static_fields.items) most fault → IsPartFault b r most fault
   values_part Memory h = tt
   values_part (Refused n) (inl h) = inl (values_refused b r m read is (Refused n) h)
-  values_part (Refused n) (inr h) = inr (
-    h.0,
-    λ readable. let values = values_there b r m read is readable in
-        heavy_values b r m read is (directory_there b r m read is readable) (direct_there b r m read is readable) (virtual_there b r m read is readable) values most (h.1 values.0 values.1),
-  )
+  values_part (Refused n) (inr h) = inr (h.0, heavy_made (λ a has ds vs xs are. omega (arith, h.1 xs are, (within a ds vs xs).2)))

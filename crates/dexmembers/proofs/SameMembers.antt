@@ -19,32 +19,9 @@ use Rattle.dexval.specs.Renumbering.{remapped, renumbered_set, renumbered_values
 use Rattle.dexmembers.specs.Numbered.{NumberedField, NumberedMethod, NumberedMembers, field_in, method_in, members_in, IsKnownField, IsKnownMethod, AreKnownMembers, AreOfClass}
 use Rattle.dexmembers.specs.Renumbering.{renumbered_field, renumbered_method, renumbered_members}
 use Rattle.dexmembers.proofs.Images.{field_use, method_use, SetHasImages, HaveImages, FieldHasImages, MethodHasImages, MembersHaveImages}
-use Rattle.dexpool.proofs.KeptTables.{all_both}
 use Rattle.dexpool.proofs.Parts.{all_prefix, all_back}
 use Rattle.dexmembers.proofs.RenumberingLists.{maps_same, options_same, options_both}
 use Rattle.dexmembers.proofs.RenumberingKept.{no_field, no_method, field_remapped, method_remapped, FieldIsOf, MethodIsOf}
-
--- what is known of a set: its numbers have images, and are those of symbols
-record IsPartSet (m : Mentions) (r : Maps) (xs : NumberedSet) : Type 0 where
-  pub maps_to : SetHasImages r xs
-  pub known : IsKnownSet m xs
-
--- of code
-record IsPartCode (m : Mentions) (r : Maps) (c : NumberedItem) : Type 0 where
-  pub maps_to : HasImages r c
-  pub known : IsKnownCode m c
-
--- of a field, which is one of a class
-record IsPartField (m : Mentions) (r : Maps) (class : Text) (f : NumberedField) : Type 0 where
-  pub maps_to : FieldHasImages r f
-  pub known : IsKnownField m f
-  pub is_of : FieldIsOf m class f
-
--- of a method
-record IsPartMethod (m : Mentions) (r : Maps) (class : Text) (x : NumberedMethod) : Type 0 where
-  pub maps_to : MethodHasImages r x
-  pub known : IsKnownMethod m x
-  pub is_of : MethodIsOf m class x
 
 -- sets are the same once remapped just where they denote the same
 abbrev pub SetsSame : Mentions → Mentions → Maps → Maps → Type 0
@@ -64,16 +41,14 @@ module _ (m n : Mentions) (r s : Maps) where
   code_same : CodesSame m n r s → (o u : Option NumberedItem) → IfSome o (HasImages r) → IfSome u (HasImages s) → IfSome o (IsKnownCode m) → IfSome u (IsKnownCode n)
       → (option_map (renumbered_item r) o ≡ option_map (renumbered_item s) u) ↔ (option_map (code_in m) o ≡ option_map (code_in n) u)
   code_same codes o u maps_to maps_to' known known' =
-      options_same (renumbered_item r) (renumbered_item s) (code_in m) (code_in n) (IsPartCode m r) (IsPartCode n s) (λ c d h k. codes c d h.maps_to k.maps_to h.known k.known) o u
-      (options_both (HasImages r) (IsKnownCode m) (IsPartCode m r) (λ c a b. record { maps_to = a; known = b }) o maps_to known)
-      (options_both (HasImages s) (IsKnownCode n) (IsPartCode n s) (λ c a b. record { maps_to = a; known = b }) u maps_to' known')
+      options_same (renumbered_item r) (renumbered_item s) (code_in m) (code_in n) (λ c. HasImages r c × IsKnownCode m c) (λ c. HasImages s c × IsKnownCode n c) (λ c d h k. codes c d h.0 k.0 h.1 k.1) o u
+      (options_both (HasImages r) (IsKnownCode m) (λ c. HasImages r c × IsKnownCode m c) (λ c a b. (a, b)) o maps_to known) (options_both (HasImages s) (IsKnownCode n) (λ c. HasImages s c × IsKnownCode n c) (λ c a b. (a, b)) u maps_to' known')
 
   parameters_same : SetsSame m n r s → (xs ys : List NumberedSet) → All (SetHasImages r) xs → All (SetHasImages s) ys → All (IsKnownSet m) xs → All (IsKnownSet n) ys
       → (map (renumbered_set r) xs ≡ map (renumbered_set s) ys) ↔ (map (set_in m) xs ≡ map (set_in n) ys)
   parameters_same sets xs ys maps_to maps_to' known known' =
-      maps_same (renumbered_set r) (renumbered_set s) (set_in m) (set_in n) (IsPartSet m r) (IsPartSet n s) (λ x y h k. sets x y h.maps_to k.maps_to h.known k.known) xs ys
-      (all_both (SetHasImages r) (IsKnownSet m) (IsPartSet m r) xs maps_to known (λ x a b. record { maps_to = a; known = b }))
-      (all_both (SetHasImages s) (IsKnownSet n) (IsPartSet n s) ys maps_to' known' (λ x a b. record { maps_to = a; known = b }))
+      maps_same (renumbered_set r) (renumbered_set s) (set_in m) (set_in n) (λ x. SetHasImages r x × IsKnownSet m x) (λ y. SetHasImages s y × IsKnownSet n y) (λ x y h k. sets x y h.0 k.0 h.1 k.1) xs ys
+      (λ i d lt. (maps_to i d lt, known i d lt)) (λ i d lt. (maps_to' i d lt, known' i d lt))
 
 -- ---- numbers
 
@@ -96,17 +71,17 @@ module _ (m n whole : Mentions) (r s : Maps) (ranks : RanksAreNumbers whole) (fr
 
   -- ---- members
 
-  same_field : SetsSame m n r s → (class : Text) (f g : NumberedField) → IsPartField m r class f → IsPartField n s class g → (renumbered_field r f ≡ renumbered_field s g) ↔ (field_in m f ≡ field_in n g)
+  same_field : SetsSame m n r s → (class : Text) (f g : NumberedField) → FieldHasImages r f × IsKnownField m f × FieldIsOf m class f → FieldHasImages s g × IsKnownField n g × FieldIsOf n class g → (renumbered_field r f ≡ renumbered_field s g) ↔ (field_in m f ≡ field_in n g)
   same_field sets class f g h k =
-      let numbers = fields_same f.number g.number h.maps_to.number_mapped k.maps_to.number_mapped in
-      let set = sets f.annotations g.annotations h.maps_to.annotations_mapped k.maps_to.annotations_mapped h.known.annotations_known k.known.annotations_known in (
+      let numbers = fields_same f.number g.number h.0.number_mapped k.0.number_mapped in
+      let set = sets f.annotations g.annotations h.0.annotations_mapped k.0.annotations_mapped h.1.annotations_known k.1.annotations_known in (
         (λ e.
             let at = numbers.0 (ap (λ x. x.number) e) in
             let flags = ap (λ x. x.flags) e in
             let annotations = set.0 (ap (λ x. x.annotations) e) in
             λ i. record { name = (at i).name; type = (at i).type; flags = flags i; annotations = annotations i }),
         (λ e.
-            let class_is = h.is_of ∙ sym k.is_of in
+            let class_is = h.2 ∙ sym k.2 in
             let name_is = ap (λ x. x.name) e in
             let type_is = ap (λ x. x.type) e in
             let at : field_at m f.number ≡ field_at n g.number = λ i. record { class = class_is i; name = name_is i; type = type_is i } in
@@ -116,12 +91,12 @@ module _ (m n whole : Mentions) (r s : Maps) (ranks : RanksAreNumbers whole) (fr
             λ i. record { number = number i; flags = flags i; annotations = annotations i }),
       )
 
-  same_method : SetsSame m n r s → CodesSame m n r s → (class : Text) (x y : NumberedMethod) → IsPartMethod m r class x → IsPartMethod n s class y → (renumbered_method r x ≡ renumbered_method s y) ↔ (method_in m x ≡ method_in n y)
+  same_method : SetsSame m n r s → CodesSame m n r s → (class : Text) (x y : NumberedMethod) → MethodHasImages r x × IsKnownMethod m x × MethodIsOf m class x → MethodHasImages s y × IsKnownMethod n y × MethodIsOf n class y → (renumbered_method r x ≡ renumbered_method s y) ↔ (method_in m x ≡ method_in n y)
   same_method sets codes class x y h k =
-      let numbers = methods_same x.number y.number h.maps_to.number_mapped k.maps_to.number_mapped in
-      let set = sets x.annotations y.annotations h.maps_to.annotations_mapped k.maps_to.annotations_mapped h.known.annotations_known k.known.annotations_known in
-      let code = code_same m n r s codes x.code y.code h.maps_to.code_mapped k.maps_to.code_mapped h.known.code_known k.known.code_known in
-      let parameters = parameters_same m n r s sets x.parameter_annotations y.parameter_annotations h.maps_to.parameters_mapped k.maps_to.parameters_mapped h.known.parameters_known k.known.parameters_known in (
+      let numbers = methods_same x.number y.number h.0.number_mapped k.0.number_mapped in
+      let set = sets x.annotations y.annotations h.0.annotations_mapped k.0.annotations_mapped h.1.annotations_known k.1.annotations_known in
+      let code = code_same m n r s codes x.code y.code h.0.code_mapped k.0.code_mapped h.1.code_known k.1.code_known in
+      let parameters = parameters_same m n r s sets x.parameter_annotations y.parameter_annotations h.0.parameters_mapped k.0.parameters_mapped h.1.parameters_known k.1.parameters_known in (
         (λ e.
             let at = numbers.0 (ap (λ z. z.number) e) in
             let flags = ap (λ z. z.flags) e in
@@ -130,7 +105,7 @@ module _ (m n whole : Mentions) (r s : Maps) (ranks : RanksAreNumbers whole) (fr
             let parameters_are = parameters.0 (ap (λ z. z.parameter_annotations) e) in
             λ i. record { name = (at i).name; proto = (at i).proto; flags = flags i; code = code_is i; annotations = annotations i; parameter_annotations = parameters_are i }),
         (λ e.
-            let class_is = h.is_of ∙ sym k.is_of in
+            let class_is = h.2 ∙ sym k.2 in
             let name_is = ap (λ z. z.name) e in
             let proto_is = ap (λ z. z.proto) e in
             let at : method_at m x.number ≡ method_at n y.number = λ i. record { class = class_is i; name = name_is i; proto = proto_is i } in
@@ -142,49 +117,26 @@ module _ (m n whole : Mentions) (r s : Maps) (ranks : RanksAreNumbers whole) (fr
             λ i. record { number = number i; flags = flags i; code = code_is i; annotations = annotations i; parameter_annotations = parameters_are i }),
       )
 
--- ---- parts
-
-fields_part : (m : Mentions) (r : Maps) (class : Text) (fs : List NumberedField) → All (FieldHasImages r) fs → All (IsKnownField m) fs → All (FieldIsOf m class) fs → All (IsPartField m r class) fs
-fields_part m r class fs maps_to known are =
-    all_both (λ (f : NumberedField). FieldHasImages r f × IsKnownField m f) (FieldIsOf m class) (IsPartField m r class) fs
-    (all_both (FieldHasImages r) (IsKnownField m) (λ (f : NumberedField). FieldHasImages r f × IsKnownField m f) fs maps_to known (λ f a b. (a, b))) are (λ f a b. record { maps_to = a.0; known = a.1; is_of = b })
-
-methods_part : (m : Mentions) (r : Maps) (class : Text) (xs : List NumberedMethod) → All (MethodHasImages r) xs → All (IsKnownMethod m) xs → All (MethodIsOf m class) xs → All (IsPartMethod m r class) xs
-methods_part m r class xs maps_to known are =
-    all_both (λ (x : NumberedMethod). MethodHasImages r x × IsKnownMethod m x) (MethodIsOf m class) (IsPartMethod m r class) xs
-    (all_both (MethodHasImages r) (IsKnownMethod m) (λ (x : NumberedMethod). MethodHasImages r x × IsKnownMethod m x) xs maps_to known (λ x a b. (a, b))) are (λ x a b. record { maps_to = a.0; known = a.1; is_of = b })
-
--- all that is known of the members of a class
-record AreParts (m : Mentions) (r : Maps) (class : Text) (x : NumberedMembers) : Type 0 where
-  pub statics : All (IsPartField m r class) x.static_fields
-  pub instances : All (IsPartField m r class) x.instance_fields
-  pub directs : All (IsPartMethod m r class) x.direct_methods
-  pub virtuals : All (IsPartMethod m r class) x.virtual_methods
-
-are_parts : (m : Mentions) (r : Maps) (class : Text) (x : NumberedMembers) → MembersHaveImages r x → AreKnownMembers m x → AreOfClass m class x → AreParts m r class x
-are_parts m r class x maps_to known are = record {
-  statics = fields_part m r class x.static_fields maps_to.static_fields_mapped known.static_fields_known (all_prefix (FieldIsOf m class) x.static_fields x.instance_fields are.fields_of_class);
-  instances = fields_part m r class x.instance_fields maps_to.instance_fields_mapped known.instance_fields_known (all_back (FieldIsOf m class) x.static_fields x.instance_fields are.fields_of_class);
-  directs = methods_part m r class x.direct_methods maps_to.direct_methods_mapped known.direct_methods_known (all_prefix (MethodIsOf m class) x.direct_methods x.virtual_methods are.methods_of_class);
-  virtuals = methods_part m r class x.virtual_methods maps_to.virtual_methods_mapped known.virtual_methods_known (all_back (MethodIsOf m class) x.direct_methods x.virtual_methods are.methods_of_class);
-}
-
 -- ---- all members
 
 pub members_same : (m n whole : Mentions) (r s : Maps) (class : Text) (x y : NumberedMembers) → RanksAreNumbers whole → AllMapTo m whole r → AllMapTo n whole s → SetsSame m n r s → CodesSame m n r s → ValuesSame m n r s
     → MembersHaveImages r x → MembersHaveImages s y → AreKnownMembers m x → AreKnownMembers n y → AreOfClass m class x → AreOfClass n class y → (renumbered_members r x ≡ renumbered_members s y) ↔ (members_in m x ≡ members_in n y)
 members_same m n whole r s class x y ranks from_first from_second sets codes values maps_to maps_to' known known' are are' =
-    let mine = are_parts m r class x maps_to known are in
-    let theirs = are_parts n s class y maps_to' known' are' in
-    let field = same_field m n whole r s ranks from_first from_second sets class in
-    let method = same_method m n whole r s ranks from_first from_second sets codes class in
-    let fields = maps_same (renumbered_field r) (renumbered_field s) (field_in m) (field_in n) (IsPartField m r class) (IsPartField n s class) field in
-    let methods = maps_same (renumbered_method r) (renumbered_method s) (method_in m) (method_in n) (IsPartMethod m r class) (IsPartMethod n s class) method in
+    let fields = maps_same (renumbered_field r) (renumbered_field s) (field_in m) (field_in n) (λ f. FieldHasImages r f × IsKnownField m f × FieldIsOf m class f) (λ g. FieldHasImages s g × IsKnownField n g × FieldIsOf n class g) (same_field m n whole r s ranks from_first from_second sets class) in
+    let methods = maps_same (renumbered_method r) (renumbered_method s) (method_in m) (method_in n) (λ x. MethodHasImages r x × IsKnownMethod m x × MethodIsOf m class x) (λ y. MethodHasImages s y × IsKnownMethod n y × MethodIsOf n class y) (same_method m n whole r s ranks from_first from_second sets codes class) in
+    let first = all_prefix (FieldIsOf m class) x.static_fields x.instance_fields are.fields_of_class in
+    let first' = all_prefix (FieldIsOf n class) y.static_fields y.instance_fields are'.fields_of_class in
+    let second = all_back (FieldIsOf m class) x.static_fields x.instance_fields are.fields_of_class in
+    let second' = all_back (FieldIsOf n class) y.static_fields y.instance_fields are'.fields_of_class in
+    let third = all_prefix (MethodIsOf m class) x.direct_methods x.virtual_methods are.methods_of_class in
+    let third' = all_prefix (MethodIsOf n class) y.direct_methods y.virtual_methods are'.methods_of_class in
+    let fourth = all_back (MethodIsOf m class) x.direct_methods x.virtual_methods are.methods_of_class in
+    let fourth' = all_back (MethodIsOf n class) y.direct_methods y.virtual_methods are'.methods_of_class in
     let set = sets x.annotations y.annotations maps_to.annotations_mapped maps_to'.annotations_mapped known.annotations_known known'.annotations_known in
-    let statics = fields x.static_fields y.static_fields mine.statics theirs.statics in
-    let instances = fields x.instance_fields y.instance_fields mine.instances theirs.instances in
-    let directs = methods x.direct_methods y.direct_methods mine.directs theirs.directs in
-    let virtuals = methods x.virtual_methods y.virtual_methods mine.virtuals theirs.virtuals in
+    let statics = fields x.static_fields y.static_fields (λ i d lt. (maps_to.static_fields_mapped i d lt, known.static_fields_known i d lt, first i d lt)) (λ i d lt. (maps_to'.static_fields_mapped i d lt, known'.static_fields_known i d lt, first' i d lt)) in
+    let instances = fields x.instance_fields y.instance_fields (λ i d lt. (maps_to.instance_fields_mapped i d lt, known.instance_fields_known i d lt, second i d lt)) (λ i d lt. (maps_to'.instance_fields_mapped i d lt, known'.instance_fields_known i d lt, second' i d lt)) in
+    let directs = methods x.direct_methods y.direct_methods (λ i d lt. (maps_to.direct_methods_mapped i d lt, known.direct_methods_known i d lt, third i d lt)) (λ i d lt. (maps_to'.direct_methods_mapped i d lt, known'.direct_methods_known i d lt, third' i d lt)) in
+    let virtuals = methods x.virtual_methods y.virtual_methods (λ i d lt. (maps_to.virtual_methods_mapped i d lt, known.virtual_methods_known i d lt, fourth i d lt)) (λ i d lt. (maps_to'.virtual_methods_mapped i d lt, known'.virtual_methods_known i d lt, fourth' i d lt)) in
     let beginnings = values x.static_values y.static_values maps_to.values_mapped maps_to'.values_mapped known.values_known known'.values_known in (
       (λ e.
           let a = set.0 (ap (λ z. z.annotations) e) in

@@ -11,17 +11,16 @@ use Rattle.std.specs.FinMap.{nat_cmp-IsAntisymmetric}
 use Rattle.std.specs.FinMap.Entries.{find}
 use Rattle.std.proofs.lemmas.Bool.{cases_lt}
 use Rattle.std.proofs.lemmas.Cmp.{tied_itself}
-use Rattle.std.proofs.lemmas.List.{get_or-map, length-drop, length-append, take_more, drop_more, map-append}
+use Rattle.std.proofs.lemmas.List.{get_or-map, get_or_default, length-map, length-drop, length-append, take_more, drop_more, map-append}
 use Rattle.dexspec.specs.Lists.{zip_with}
-use Rattle.dexspec.proofs.lists.Members.{Contains-nil, Contains-first, Contains-later, Contains-cons_cases}
+use Rattle.dexspec.proofs.lists.Mapped.{Contains-map_source}
+use Rattle.dexspec.proofs.lists.Members.{Contains-first, Contains-later}
+use Rattle.dexspec.proofs.wellformed.PoolRows.{less_number}
 use Rattle.dexspec.proofs.lists.InOrder.{Rises, Rises-from_rises, Rises-places}
 use Rattle.dexmembers.specs.Numbered.{NumbersRise}
 use Rattle.dexmembers.specs.internal.Attaching.{EntriesRise, HasNumberAt}
 
 -- ---- numbers in order
-
-pub less_below : (x y : ℕ) → nat_cmp x y ≡ Less → x < y
-less_below x y e = grind arith
 
 indices_rise : (x y n : ℕ) → x < y → ordering_index (nat_cmp x n) ≤ ordering_index (nat_cmp y n)
 indices_rise x y n lt = grind arith
@@ -35,16 +34,12 @@ not_tied m n ne = by (nat_cmp m n) refl
     by Greater e = refl
 
 module _ {T : Type 0} (key : T → ℕ) where
-  many_keys : (xs : List T) → length (map key xs) ≡ length xs
-  many_keys [] = refl
-  many_keys (x ∷ xs) = ap suc (many_keys xs)
-
   -- keys of a rising list, by their places
   pub keys_less : (xs : List T) (i j : ℕ) (d : T) → NumbersRise (map key xs) → i < j → j < length xs → key (get_or xs i d) < key (get_or xs j d)
   keys_less xs i j d h ij lt =
-      let many : j < length (map key xs) = omega (arith, many_keys xs) in
+      let many : j < length (map key xs) = omega (arith, lt, length-map xs key) in
       let r = Rises-places nat_cmp nat_cmp_total (map key xs) i j (key d) (Rises-from_rises nat_cmp nat_cmp_total (map key xs) h) ij many in
-      less_below (key (get_or xs i d)) (key (get_or xs j d))
+      less_number (key (get_or xs i d)) (key (get_or xs j d))
       ((λ k. nat_cmp (sym (get_or-map key xs i d (key d) (omega arith)) k) (sym (get_or-map key xs j d (key d) lt) k)) ∙ r)
 
   -- so the answers of a search rise
@@ -72,17 +67,12 @@ module _ {T : Type 0} (key : T → ℕ) where
 
   -- so it is not among the keys
   pub key_not_among : (xs : List T) (n : ℕ) → ((k : ℕ) (d : T) → k < length xs → key (get_or xs k d) ≢ n) → Contains (map key xs) n → ⊥
-  key_not_among [] n h c = Contains-nil n c
-  key_not_among (x ∷ xs) n h c = elim (Contains-cons_cases (key x) n (map key xs) c) [
-    | inl e ↦ h 0 x (omega arith) e
-    | inr l ↦ key_not_among xs n (λ k d lt. h (suc k) d (omega arith)) l
-  ]
+  key_not_among xs n h c = let s = Contains-map_source key xs n c in h s.1.0 s.0 s.1.1 (ap key s.1.2 ∙ s.2)
 
   -- a key that is there is among the keys
   pub key_among : (xs : List T) (n k : ℕ) → k < length xs → ((d : T) → key (get_or xs k d) ≡ n) → Contains (map key xs) n
   key_among [] n k lt h = absurd (omega arith)
-  key_among (x ∷ xs) n zero lt h = subst (Contains (map key (x ∷ xs))) (h x) (Contains-first (key x) (map key xs))
-  key_among (x ∷ xs) n (suc k) lt h = Contains-later (key x) n (map key xs) (key_among xs n k (omega arith) h)
+  key_among (x ∷ xs) n k lt h = (k, omega (arith, lt, length-map (x ∷ xs) key), get_or-map key (x ∷ xs) k x n lt ∙ h x)
 
 -- ---- entries
 
@@ -106,14 +96,9 @@ module _ {X : Type 0} where
   find_found_in [] n at d h lt e = absurd (omega arith)
   find_found_in (x ∷ es) n zero d h lt e = find_here x es n (sym e)
   find_found_in (x ∷ es) n (suc at) d h lt e =
-      let less : nat_cmp x.0 n ≡ Less = h.0 n (key_among (λ (y : ℕ × X). y.0) es n at (omega arith) (λ c. subst (λ (y : ℕ × X). y.0 ≡ n) (same_default es at d c (omega arith)) e)) in
-      find_past x es n (λ same. let lt : x.0 < n = less_below x.0 n less in omega (arith, same, lt))
+      let less : nat_cmp x.0 n ≡ Less = h.0 n (key_among (λ (y : ℕ × X). y.0) es n at (omega arith) (λ c. subst (λ (y : ℕ × X). y.0 ≡ n) (get_or_default es at d c (omega arith)) e)) in
+      find_past x es n (λ same. let lt : x.0 < n = less_number x.0 n less in omega (arith, same, lt))
       ∙ find_found_in es n at d h.1 (omega arith) e
-    where
-      same_default : (l : List (ℕ × X)) (k : ℕ) (c d : ℕ × X) → k < length l → get_or l k c ≡ get_or l k d
-      same_default [] k c d lt = absurd (omega arith)
-      same_default (x ∷ l) zero c d lt = refl
-      same_default (x ∷ l) (suc k) c d lt = same_default l k c d (omega arith)
 
   -- the entry of a number is found
   pub find_found : (es : List (ℕ × X)) (n at : ℕ) (d : ℕ × X) → EntriesRise es → at < length es → (get_or es at d).0 ≡ n → find nat_cmp n es ≡ Some (get_or es at d).1

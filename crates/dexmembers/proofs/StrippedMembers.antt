@@ -16,6 +16,7 @@ use Rattle.dexcode.specs.Numbered.{NumberedItem}
 use Rattle.dexval.specs.Numbered.{set_in, values_in, method_at}
 use Rattle.dexmembers.specs.Fitting.{code_short_strings, method_short_strings, members_short_strings}
 use Rattle.dexmembers.specs.Numbered.{NumberedMethod, NumberedMembers, field_in, method_in, members_in, methods_of, IsKnownMethod, AreKnownMembers, NumbersRise, AreOrdered, AreOfClass}
+use Rattle.dexmembers.proofs.RenumberingLists.{both_ways}
 use Rattle.dexmembers.specs.Stripped.{method_tries, stripped_code, stripped_method, stripped_members, strip_members}
 
 code_stripped : (m : Mentions) (o : Option NumberedItem) → option_map (code_in m) (option_map stripped_code o) ≡ option_map strip_code (option_map (code_in m) o)
@@ -32,17 +33,13 @@ method_stripped m x = λ i. record {
   parameter_annotations = map (set_in m) x.parameter_annotations;
 }
 
-methods_stripped : (m : Mentions) (xs : List NumberedMethod) → map (method_in m) (map stripped_method xs) ≡ map strip_method (map (method_in m) xs)
-methods_stripped m [] = refl
-methods_stripped m (x ∷ xs) = λ i. method_stripped m x i ∷ methods_stripped m xs i
-
 pub members_stripped : (m : Mentions) (x : NumberedMembers) → members_in m (stripped_members x) ≡ strip_members (members_in m x)
 members_stripped m x = λ i. record {
   annotations = set_in m x.annotations;
   static_fields = map (field_in m) x.static_fields;
   instance_fields = map (field_in m) x.instance_fields;
-  direct_methods = methods_stripped m x.direct_methods i;
-  virtual_methods = methods_stripped m x.virtual_methods i;
+  direct_methods = both_ways stripped_method (method_in m) (method_in m) strip_method (method_stripped m) x.direct_methods i;
+  virtual_methods = both_ways stripped_method (method_in m) (method_in m) strip_method (method_stripped m) x.virtual_methods i;
   static_values = values_in m x.static_values;
 }
 

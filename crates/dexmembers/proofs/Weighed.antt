@@ -17,7 +17,7 @@ use Rattle.dexcode.specs.CodePut.{numbered_code_weight}
 use Rattle.dexdebug.specs.Meaning.{debug_in, IsKnownDebug}
 use Rattle.dexcode.specs.Meaning.{code_in, IsKnownCode}
 use Rattle.dexspec.specs.Code.{Code}
-use Rattle.dexmembers.specs.Numbered.{NumberedField, NumberedMethod, NumberedMembers, field_in, method_in, members_in, fields_of, methods_of, IsKnownMethod, AreKnownMembers}
+use Rattle.dexmembers.specs.Numbered.{NumberedMethod, NumberedMembers, field_in, method_in, members_in, fields_of, methods_of, IsKnownMethod, AreKnownMembers}
 use Rattle.dexmembers.specs.Weight.{members_weight}
 use Rattle.dexmembers.specs.Weighing.{numbered_field_weight, numbered_debug_weight, numbered_whole_weight, numbered_method_weight, numbered_members_weight}
 
@@ -39,14 +39,10 @@ optional_are P f g h step (Some x) known = omega (arith, sum_by-cons f x [], sum
 
 -- ---- sets and values
 
-sets_sum : (m : Mentions) (xs : List NumberedSet) → sum_by numbered_set_weight xs ≡ sum_by set_weight (map (set_in m) xs)
-sets_sum m [] = refl
-sets_sum m (x ∷ xs) = omega (arith, sum_by-cons numbered_set_weight x xs, sum_by-cons set_weight (set_in m x) (map (set_in m) xs), set_weight_is m x, sets_sum m xs)
-
 -- sets of parameters
 pub sets_are : (m : Mentions) (xs : List NumberedSet) → numbered_sets_weight xs ≡ ref_list_weight (map (set_in m) xs)
 sets_are m [] = refl
-sets_are m (x ∷ xs) = omega (arith, length-map xs (set_in m), sets_sum m (x ∷ xs))
+sets_are m (x ∷ xs) = omega (arith, length-map xs (set_in m), sums_are (λ y. Unit {0}) numbered_set_weight set_weight (set_in m) (λ y u. set_weight_is m y) (x ∷ xs) (λ i d lt. tt))
 
 -- static values
 pub statics_are : (m : Mentions) (xs : NumberedValues) → numbered_statics_weight xs ≡ static_values_weight (values_in m xs)
@@ -67,15 +63,11 @@ module _ (m : Mentions) (code_is : (c : NumberedItem) → IsKnownCode m c → nu
   method_is x known =
       omega (arith, optional_are (IsKnownCode m) numbered_whole_weight whole_weight (code_in m) whole_is x.code known.code_known, set_weight_is m x.annotations, sets_are m x.parameter_annotations)
 
-  fields_are : (fs : List NumberedField) → sum_by numbered_field_weight fs ≡ sum_by field_weight (map (field_in m) fs)
-  fields_are [] = refl
-  fields_are (f ∷ fs) = omega (arith, sum_by-cons numbered_field_weight f fs, sum_by-cons field_weight (field_in m f) (map (field_in m) fs), set_weight_is m f.annotations, fields_are fs)
-
   -- all of them
   pub members_are : (x : NumberedMembers) → AreKnownMembers m x → numbered_members_weight x ≡ members_weight (members_in m x)
   members_are x known =
       let fs : sum_by numbered_field_weight (fields_of x) ≡ sum_by field_weight (map (field_in m) x.static_fields ++ map (field_in m) x.instance_fields) =
-      fields_are (fields_of x) ∙ ap (sum_by field_weight) (map-append (field_in m) x.static_fields x.instance_fields) in
+      sums_are (λ f. Unit {0}) numbered_field_weight field_weight (field_in m) (λ f u. ap (λ (n : ℕ). 18 + n) (set_weight_is m f.annotations)) (fields_of x) (λ i d lt. tt) ∙ ap (sum_by field_weight) (map-append (field_in m) x.static_fields x.instance_fields) in
       let all = All-append (IsKnownMethod m) x.direct_methods x.virtual_methods known.direct_methods_known known.virtual_methods_known in
       let ms : sum_by numbered_method_weight (methods_of x) ≡ sum_by method_weight (map (method_in m) x.direct_methods ++ map (method_in m) x.virtual_methods) =
       sums_are (IsKnownMethod m) numbered_method_weight method_weight (method_in m) method_is (methods_of x) all ∙ ap (sum_by method_weight) (map-append (method_in m) x.direct_methods x.virtual_methods) in

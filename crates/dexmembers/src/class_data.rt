@@ -8,9 +8,8 @@ ghost use Rattle.dexmembers.specs.internal.ClassData.{ReadsData, RefusesData};
 
 use crate::class_def::ClassDef;
 use crate::encoded_lists::ClassDataReader;
-use crate::encodings::Owner;
+use crate::encodings::{Owner, number_at};
 use dexhead::{Condition, Frame};
-use dexleb::read_u;
 use dexpool::{ItemFault, Pools};
 use std::alloc::Global;
 
@@ -61,22 +60,10 @@ fn read_counts(bytes: &[u8], at: usize) -> Option<(Counts, usize)>
     ensures some { IfSome result (λ x. AreCountsAt bytes.now at x.0 x.1) }
     ensures within { IfSome result (λ x. at + x.1 ≤ length bytes.now) }
 {
-    let (static_fields, first) = match read_u(bytes, at) {
-        Ok(read) => read,
-        Err(_) => return None,
-    };
-    let (instance_fields, second) = match read_u(bytes, at + first) {
-        Ok(read) => read,
-        Err(_) => return None,
-    };
-    let (direct_methods, third) = match read_u(bytes, at + first + second) {
-        Ok(read) => read,
-        Err(_) => return None,
-    };
-    let (virtual_methods, fourth) = match read_u(bytes, at + first + second + third) {
-        Ok(read) => read,
-        Err(_) => return None,
-    };
+    let (static_fields, first) = number_at(bytes, at)?;
+    let (instance_fields, second) = number_at(bytes, at + first)?;
+    let (direct_methods, third) = number_at(bytes, at + first + second)?;
+    let (virtual_methods, fourth) = number_at(bytes, at + first + second + third)?;
     let counts = Counts {
         static_fields,
         instance_fields,

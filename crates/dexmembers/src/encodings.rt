@@ -1,6 +1,7 @@
 //! Members of class data as they are encoded, one by one.
 
 ghost use Rattle.std.specs.Prelude.{◌≡◌, ◌↔◌, ◌≤◌, ◌+◌, ℕ, List, Option, length, IsTrue, IfSome, IfNone, MatchOption};
+ghost use Rattle.dexspec.specs.Numbers.{Uleb128At};
 ghost use Rattle.dexspec.specs.Mentions.{Mentions};
 ghost use Rattle.dexspec.specs.ClassData.{IsNextIndex};
 ghost use Rattle.dexmembers.specs.internal.EncodedMembers.{IsOwnField, IsOwnMethod, HeadAt, FieldAt, MethodAt, HasGreaterIndex, IsMember, IsOneMember, IsOnlyHead, NoMember, NoNextIndex};
@@ -95,16 +96,26 @@ impl Encoded for EncodedMethod {
         if !owner.has_method(index) {
             return None;
         }
-        let (code_off, code_size) = match read_u(bytes, at + head_size) {
-            Ok(read) => read,
-            Err(_) => return None,
-        };
+        let (code_off, code_size) = number_at(bytes, at + head_size)?;
         let method = EncodedMethod {
             index,
             flags,
             code_off,
         };
         Some((method, head_size + code_size))
+    }
+}
+
+/// Reads the number at an offset. Returns it with the number of bytes that encode it, or `None` if no number is there.
+pub(crate) fn number_at(bytes: &[u8], at: usize) -> Option<(u32, usize)>
+    requires { at ≤ length bytes.now }
+    ensures none { IfNone result ((v n : ℕ) → Uleb128At bytes.now at v n → ⊥) }
+    ensures some { IfSome result (λ x. Uleb128At bytes.now at x.0 x.1) }
+    ensures within { IfSome result (λ x. at + x.1 ≤ length bytes.now) }
+{
+    match read_u(bytes, at) {
+        Ok(read) => Some(read),
+        Err(_) => None,
     }
 }
 
@@ -116,15 +127,9 @@ fn head_at(bytes: &[u8], at: usize, last: Option<u32>) -> Option<(u32, u32, usiz
     ensures only { IsOnlyHead bytes.now at last result }
     ensures within { IfSome result (λ x. at + x.2 ≤ length bytes.now) }
 {
-    let (difference, index_size) = match read_u(bytes, at) {
-        Ok(read) => read,
-        Err(_) => return None,
-    };
+    let (difference, index_size) = number_at(bytes, at)?;
     let index = next_index(last, difference)?;
-    let (flags, flags_size) = match read_u(bytes, at + index_size) {
-        Ok(read) => read,
-        Err(_) => return None,
-    };
+    let (flags, flags_size) = number_at(bytes, at + index_size)?;
     Some((index, flags, index_size + flags_size))
 }
 

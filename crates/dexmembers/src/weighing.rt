@@ -118,13 +118,6 @@ impl Method<'_, '_> {
 }
 
 impl<'a> Members<'a> {
-    // Returns the weight of members by their numbers.
-    fn numbered_weight(&self) -> u64
-        ensures { result ≡ min (2 ^ 64 - 1) (numbered_members_weight self.now) }
-    {
-        self.contents.weight()
-    }
-
     /// Returns the weight of all members, in bytes, or 2^64 - 1 where that is more: a class without its row and its
     /// interfaces.
     ///
@@ -136,7 +129,7 @@ impl<'a> Members<'a> {
             result ≡ min (2 ^ 64 - 1) (weight_in m self.now)) }
     {
         members_weight_law();
-        self.numbered_weight()
+        self.contents.weight()
     }
 }
 

@@ -1,35 +1,31 @@
 use Rattle.std.proofs.Common.{◌+◌, ◌∷◌, [], refl, arith}
 use Rattle.dexmembers.proofs.DataCounts.{numbers_stuck}
-use Rattle.dexmembers.proofs.Owned.{ok_no_err}
 use Rattle.dexmembers.proofs.class_data.read_counts.Goals as goal
 
-pub returns-in-Err-read_u-clause-none : goal.returns-in-Err-read_u-clause-none
-returns-in-Err-read_u-clause-none c = λ a d e f n h.
-    let at = c.args.at in
-    let i = c.in-Ok.read.1 in
-    numbers_stuck c.args.bytes.now at (at + i) (c.in-Ok.read.0 ∷ []) (a ∷ d ∷ e ∷ f ∷ []) (i + 0) n (omega arith) (i, 0, c.in-Ok.ensures.found, refl, refl) (omega arith) (λ v k there. ok_no_err _ (v, k) _ (c.read_u-2.ensures.only v k there) c.in-Err-read_u.is) h
+pub returns-in_err-instance_fields-clause-none : goal.returns-in_err-instance_fields-clause-none
+returns-in_err-instance_fields-clause-none c = rw c.from_residual-in_err-instance_fields.ensures (λ a d e f n h.
+    let x = c.in_ok-static_fields in
+    numbers_stuck c.args.bytes.now c.args.at (c.args.at + x.first) (x.static_fields ∷ []) (a ∷ d ∷ e ∷ f ∷ []) (x.first + 0) n (omega arith) (x.first, 0, x.ensures.some, refl, refl) (omega arith) c.in_err-instance_fields.ensures.none h)
 
-pub returns-in-Err-read_u-2-clause-none : goal.returns-in-Err-read_u-2-clause-none
-returns-in-Err-read_u-2-clause-none c = λ a d e f n h.
-    let at = c.args.at in
-    let i = c.in-Ok.read.1 in
-    let j = c.in-Ok-read_u.read.1 in
-    numbers_stuck c.args.bytes.now at (at + i + j) (c.in-Ok.read.0 ∷ c.in-Ok-read_u.read.0 ∷ []) (a ∷ d ∷ e ∷ f ∷ []) (i + (j + 0)) n (omega arith) (i, j + 0, c.in-Ok.ensures.found, (j, 0, c.in-Ok-read_u.ensures.found, refl, refl), refl) (omega arith)
-    (λ v k there. ok_no_err _ (v, k) _ (c.read_u-3.ensures.only v k there) c.in-Err-read_u-2.is) h
+pub returns-in_err-direct_methods-clause-none : goal.returns-in_err-direct_methods-clause-none
+returns-in_err-direct_methods-clause-none c = rw c.from_residual-in_err-direct_methods.ensures (λ a d e f n h.
+    let x = c.in_ok-static_fields in
+    let y = c.in_ok-instance_fields in
+    numbers_stuck c.args.bytes.now c.args.at (c.args.at + x.first + y.second) (x.static_fields ∷ y.instance_fields ∷ []) (a ∷ d ∷ e ∷ f ∷ []) (x.first + (y.second + 0)) n (omega arith)
+    (x.first, y.second + 0, x.ensures.some, (y.second, 0, y.ensures.some, refl, refl), refl) (omega arith) c.in_err-direct_methods.ensures.none h)
 
-pub returns-in-Err-read_u-3-clause-none : goal.returns-in-Err-read_u-3-clause-none
-returns-in-Err-read_u-3-clause-none c = λ a d e f n h.
-    let at = c.args.at in
-    let i = c.in-Ok.read.1 in
-    let j = c.in-Ok-read_u.read.1 in
-    let k = c.in-Ok-read_u-2.read.1 in
-    numbers_stuck c.args.bytes.now at (at + i + j + k) (c.in-Ok.read.0 ∷ c.in-Ok-read_u.read.0 ∷ c.in-Ok-read_u-2.read.0 ∷ []) (a ∷ d ∷ e ∷ f ∷ []) (i + (j + (k + 0))) n (omega arith)
-    (i, j + (k + 0), c.in-Ok.ensures.found, (j, k + 0, c.in-Ok-read_u.ensures.found, (k, 0, c.in-Ok-read_u-2.ensures.found, refl, refl), refl), refl) (omega arith) (λ v l there. ok_no_err _ (v, l) _ (c.read_u-4.ensures.only v l there) c.in-Err-read_u-3.is) h
+pub returns-in_err-virtual_methods-clause-none : goal.returns-in_err-virtual_methods-clause-none
+returns-in_err-virtual_methods-clause-none c = rw c.from_residual-in_err-virtual_methods.ensures (λ a d e f n h.
+    let x = c.in_ok-static_fields in
+    let y = c.in_ok-instance_fields in
+    let z = c.in_ok-direct_methods in
+    numbers_stuck c.args.bytes.now c.args.at (c.args.at + x.first + y.second + z.third) (x.static_fields ∷ y.instance_fields ∷ z.direct_methods ∷ []) (a ∷ d ∷ e ∷ f ∷ []) (x.first + (y.second + (z.third + 0))) n (omega arith)
+    (x.first, y.second + (z.third + 0), x.ensures.some, (y.second, z.third + 0, y.ensures.some, (z.third, 0, z.ensures.some, refl, refl), refl), refl) (omega arith) c.in_err-virtual_methods.ensures.none h)
 
 pub returns-clause-some : goal.returns-clause-some
 returns-clause-some c =
-    let i = c.in-Ok.read.1 in
-    let j = c.in-Ok-read_u.read.1 in
-    let k = c.in-Ok-read_u-2.read.1 in
-    let l = c.in-Ok-read_u-3.read.1 in
-    (i, j + (k + (l + 0)), c.in-Ok.ensures.found, (j, k + (l + 0), c.in-Ok-read_u.ensures.found, (k, l + 0, c.in-Ok-read_u-2.ensures.found, (l, 0, c.in-Ok-read_u-3.ensures.found, refl, refl), refl), refl), omega arith)
+    let x = c.in_ok-static_fields in
+    let y = c.in_ok-instance_fields in
+    let z = c.in_ok-direct_methods in
+    let w = c.in_ok-virtual_methods in
+    (x.first, y.second + (z.third + (w.fourth + 0)), x.ensures.some, (y.second, z.third + (w.fourth + 0), y.ensures.some, (z.third, w.fourth + 0, z.ensures.some, (w.fourth, 0, w.ensures.some, refl, refl), refl), refl), omega arith)

@@ -1,6 +1,5 @@
 use Rattle.std.proofs.Common.{◌≡◌, ◌∙◌, sym, true, false}
 use Rattle.dexmembers.proofs.OneMember.{no_code, other_method}
-use Rattle.dexmembers.proofs.Owned.{ok_no_err}
 use Rattle.dexmembers.proofs.encodings.EncodedMethodEncoded.read.Goals as goal
 
 pub returns-in_err-index-clause-none : goal.returns-in_err-index-clause-none
@@ -11,7 +10,6 @@ returns-then-not-has_method-clause-none c =
     other_method c.args.owner.pools.now c.args.owner.class c.args.bytes.now c.args.at c.args.last c.in_ok-index.index c.in_ok-index.flags c.in_ok-index.head_size c.in_ok-index.ensures.some
     (λ own. let e : false ≡ true = sym c.if-not-has_method.true ∙ c.has_method.ensures.1 own in absurd cc)
 
-pub returns-in-Err-clause-none : goal.returns-in-Err-clause-none
-returns-in-Err-clause-none c =
-    no_code c.args.owner.pools.now c.args.owner.class c.args.bytes.now c.args.at c.args.last c.in_ok-index.index c.in_ok-index.flags c.in_ok-index.head_size c.in_ok-index.ensures.some
-    (λ v n there. ok_no_err _ (v, n) _ (c.read_u.ensures.only v n there) c.in-Err.is)
+pub returns-in_err-code_off-clause-none : goal.returns-in_err-code_off-clause-none
+returns-in_err-code_off-clause-none c =
+    rw c.from_residual-in_err-code_off.ensures (no_code c.args.owner.pools.now c.args.owner.class c.args.bytes.now c.args.at c.args.last c.in_ok-index.index c.in_ok-index.flags c.in_ok-index.head_size c.in_ok-index.ensures.some c.in_err-code_off.ensures.none)

@@ -6,7 +6,7 @@ use Rattle.dexmembers.specs.Numbered.{NumberedMembers}
 use Rattle.dexmembers.specs.Held.{field_of, method_of, IsHeldField, IsHeldMethod}
 use Rattle.dexmembers.specs.Contents.{contents_in}
 use Rattle.dexmembers.specs.Renumbering.{renumbered_field, renumbered_method, renumbered_members, MembersHavePlaces}
-use Rattle.dexmembers.proofs.HeldMembers.{fields_mapped, methods_mapped, fields_remapped, methods_remapped, own_kept, fields_kept, methods_kept, few_mapped, same_few}
+use Rattle.dexmembers.proofs.HeldMembers.{fields_mapped, methods_mapped, fields_remapped, methods_remapped, place_kept, fields_kept, methods_kept, few_mapped, same_few}
 use Rattle.dexmembers.proofs.members.Members.renumber.Goals as goal
 
 pub renumber_all-requires : goal.renumber_all-requires
@@ -39,7 +39,7 @@ invariant_of-self c =
     record {
       few = same_few (sym statics) (sym instances) (sym directs) (sym virtuals) few;
       held = record {
-        own_held = own_kept x.table.sets t'.sets size x.set kept.held.own_held;
+        own_held = place_kept x.table.sets t'.sets size x.set kept.held.own_held;
         static_fields_held = subst (All (IsHeldField t'.sets)) (sym c.renumber_all.ensures) (fields_kept r x.table.sets t'.sets size x.static_fields.items kept.held.static_fields_held);
         instance_fields_held = subst (All (IsHeldField t'.sets)) (sym c.renumber_all-2.ensures) (fields_kept r x.table.sets t'.sets size x.instance_fields.items kept.held.instance_fields_held);
         direct_methods_held = subst (All (IsHeldMethod t')) (sym c.renumber_all-3.ensures) (methods_kept r x.table t' size lists x.direct_methods.items kept.held.direct_methods_held);

@@ -1,13 +1,5 @@
 -- The cache of directories: what was read, noted and looked up.
-use Rattle.std.proofs.Common.{◌≡◌, ◌⊎◌, ℕ, List, false, Some, nat_eq, sym, subst, ◌∙◌, inl, inr, ne_eqb}
-use Rattle.std.proofs.lemmas.Bool.{cases_eq}
-use Rattle.std.specs.HashMap.{get}
-use Rattle.dexspec.specs.Mentions.{Mentions}
-use Rattle.dexval.specs.declared.directory_cache.DirectoryCache.{DirectoryCache}
-use Rattle.dexval.specs.Directories.{IsRefListAt}
-use Rattle.dexval.specs.DirectoryCache.{AreHeld, AreCached}
-use Rattle.dexval.specs.Reading.{IsSetAt}
-use Rattle.dexval.specs.Tables.{Extends, set_at, sets_at}
+use Rattle.dexval.proofs.Common.{◌≡◌, ◌⊎◌, ℕ, List, false, Some, nat_eq, sym, subst, ◌∙◌, inl, inr, ne_eqb, cases_eq, get, Mentions, DirectoryCache, IsRefListAt, AreHeld, AreCached, IsSetAt, Extends, set_at, sets_at}
 
 -- if one value is inserted, each of the others was there before
 pub from_before : {X : Type 0} (f g : ℕ → X) (o : ℕ) (v : X) → g o ≡ v → ((q : ℕ) → nat_eq o q ≡ false → g q ≡ f q) → (q : ℕ) (w : X) → g q ≡ w → (f q ≡ w) ⊎ ((o ≡ q) × (v ≡ w))

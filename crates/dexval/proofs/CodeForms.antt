@@ -1,15 +1,8 @@
 -- Each variant of a value of the code, as contracts see it.
-use Rattle.std.proofs.Common.{◌≡◌, ℕ, map, sym, ap, ◌∙◌}
-use Rattle.std.specs.Global.{Box, Vec}
-use Rattle.std.specs.Prelude.{ℤ}
-use Rattle.dexval.specs.declared.value.Value.{Value}
-use Rattle.dexval.specs.declared.value.Element.{Element}
-use Rattle.dexval.specs.declared.value.EncodedAnnotation.{EncodedAnnotation}
+use Rattle.dexval.proofs.Common.{◌≡◌, ℕ, map, sym, ap, ◌∙◌, Box, Vec, ℤ, Value, Element, EncodedAnnotation, NumberedValue, NumberedAnnotation, NoElement, Plain, Named, Array, Annotated, ByteLiteral, ShortLiteral, CharLiteral, IntLiteral, LongLiteral, FloatLiteral, DoubleLiteral, StringReference, TypeReference, FieldReference, MethodReference, EnumReference, values_of_list, value_step, element_step, annotation_step, value_of, element_of, encoded_of}
 use Rattle.dexval.specs.declared.value.Value.TheVariants as variants
 use Rattle.dexval.specs.declared.value.Value.TheOpen as layers
 use Rattle.dexval.specs.declared.value.Value.TheFolds.{fold-roll-Value, fold_out-Element, fold_out-EncodedAnnotation}
-use Rattle.dexval.specs.Numbered.{NumberedValue, NumberedAnnotation, NoElement, Plain, Named, Array, Annotated, ByteLiteral, ShortLiteral, CharLiteral, IntLiteral, LongLiteral, FloatLiteral, DoubleLiteral, StringReference, TypeReference, FieldReference, MethodReference, EnumReference, values_of_list}
-use Rattle.dexval.specs.Code.{value_step, element_step, annotation_step, value_of, element_of, encoded_of}
 
 pub byte_is : (z : ℤ) → value_of (variants.Byte z) ≡ Plain (ByteLiteral z)
 byte_is z = ap value_of (sym (variants.rolls-Byte z)) ∙ fold-roll-Value NumberedValue (ℕ × NumberedValue) NumberedValue value_step element_step annotation_step (layers.Byte z)

@@ -1,9 +1,5 @@
 -- Lists that are equal member by member, once their numbers are remapped.
-use Rattle.std.proofs.Common.{◌≡◌, ℕ, ◌<◌, ◌≤◌, List, [], ◌∷◌, length, take, map, get_or, refl, ap, sym, ◌∙◌, arith}
-use Rattle.std.proofs.lemmas.List.{take_all, get_or-map, length-map}
-use Rattle.dexpool.specs.Numberings.{Maps}
-use Rattle.dexval.specs.Numbered.{NumberedValue, NumberedValues, NumberedElements, NoValue, ThenNext, NoElement, ThenNamed, values_of_list, elements_of_list}
-use Rattle.dexval.specs.Renumbering.{renumbered, renumbered_values, renumbered_elements, renumbered_element}
+use Rattle.dexval.proofs.Common.{◌≡◌, ℕ, ◌<◌, ◌≤◌, List, [], ◌∷◌, length, take, map, get_or, refl, ap, sym, ◌∙◌, arith, take_all, get_or-map, length-map, Maps, NumberedValue, NumberedValues, NumberedElements, NoValue, ThenNext, NoElement, ThenNamed, values_of_list, elements_of_list, renumbered, renumbered_values, renumbered_elements, renumbered_element}
 use Rattle.dexval.proofs.Renumbered.{values_renumbered, elements_renumbered}
 
 -- ---- lists that are equal once mapped

@@ -1,6 +1,5 @@
 -- Lists that are made member by member from the members of others.
-use Rattle.std.proofs.Common.{◌≡◌, ℕ, ◌+◌, ◌<◌, ◌≤◌, List, [], ◌∷◌, ◌++◌, length, get_or, take, map, sym, ap, subst, ◌∙◌}
-use Rattle.std.proofs.lemmas.List.{map-append, map_more, take_all}
+use Rattle.dexval.proofs.Common.{◌≡◌, ℕ, ◌+◌, ◌<◌, ◌≤◌, List, [], ◌∷◌, ◌++◌, length, get_or, take, map, sym, ap, subst, ◌∙◌, map-append, map_more, take_all}
 
 module _ {X Y Z : Type 0} (f : X → Z) (g : Y → Z) (ys seen : List Y) (same : seen ≡ ys) where
   -- one more, of the next member

@@ -1,12 +1,5 @@
 -- An item of small weight has few members.
-use Rattle.std.proofs.Common.{All, ℕ, ◌+◌, ◌^◌, ◌<◌, ◌≤◌, List, [], ◌∷◌, length, arith, sum_by}
-use Rattle.std.proofs.lemmas.List.Sums.{sum_by-cons}
-use Rattle.std.proofs.lemmas.List.Elements.{All-cons}
-use Rattle.dexspec.specs.Bytes.{round_up}
-use Rattle.dexspec.specs.Mentions.{Mentions}
-use Rattle.dexspec.specs.Weight.{value_weight, static_values_weight, annotation_weight, set_weight}
-use Rattle.dexval.specs.Numbered.{NumberedValue, NumberedValues, NumberedElements, NumberedAnnotation, NumberedSet, Plain, Named, Array, Annotated, NoValue, ThenNext, NoElement, ThenNamed, value_in, values_in, annotation_in, set_in, values_of_list}
-use Rattle.dexval.specs.Spelled.{values_count, elements_count, IsCounted, AreCounted, HaveCounted, IsCountedAnnotation, numbered_annotation_bytes, numbered_offsets, numbered_weight, numbered_values_weight, numbered_elements_weight, numbered_annotation_weight, numbered_set_weight}
+use Rattle.dexval.proofs.Common.{All, ℕ, ◌+◌, ◌^◌, ◌<◌, ◌≤◌, List, [], ◌∷◌, length, arith, sum_by, sum_by-cons, All-cons, round_up, Mentions, value_weight, static_values_weight, annotation_weight, set_weight, NumberedValue, NumberedValues, NumberedElements, NumberedAnnotation, NumberedSet, Plain, Array, Annotated, NoValue, ThenNext, NoElement, ThenNamed, value_in, values_in, annotation_in, set_in, values_of_list, values_count, elements_count, IsCounted, AreCounted, HaveCounted, IsCountedAnnotation, numbered_annotation_bytes, numbered_offsets, numbered_weight, numbered_values_weight, numbered_elements_weight, numbered_annotation_weight, numbered_set_weight}
 use Rattle.dexval.proofs.Members.{count_of_list}
 use Rattle.dexval.proofs.Offsets.{here}
 use Rattle.dexval.proofs.Spelling.{annotation_size_is}
@@ -17,9 +10,7 @@ use Rattle.dexval.proofs.Weights.{weight_is, values_weight_is, elements_weight_i
 -- a value weighs at least 1
 some_weight : (x : NumberedValue) → 1 ≤ numbered_weight x
 some_weight (Plain literal) = omega arith
-some_weight (Named reference i) = omega arith
-some_weight (Array xs) = omega arith
-some_weight (Annotated t es) = omega arith
+some_weight x = omega arith
 
 -- there are at most as many values as they weigh
 values_few : (xs : NumberedValues) → values_count xs ≤ numbered_values_weight xs
@@ -33,10 +24,9 @@ elements_few (ThenNamed name x es) = omega (arith, elements_few es)
 
 mutual
   counted : (x : NumberedValue) → numbered_weight x < 2 ^ 32 → IsCounted x
-  counted (Plain literal) lt = tt
-  counted (Named reference i) lt = tt
   counted (Array xs) lt = (omega (arith, lt, values_few xs), values_counted xs (omega (arith, lt)))
   counted (Annotated t es) lt = (omega (arith, lt, elements_few es), elements_counted es (omega (arith, lt)))
+  counted x lt = tt
 
   values_counted : (xs : NumberedValues) → numbered_values_weight xs < 2 ^ 32 → AreCounted xs
   values_counted NoValue lt = tt
@@ -71,10 +61,9 @@ annotation_is_counted m a lt = annotation_counted a (omega (arith, lt, elements_
 heavy_offsets : (m : Mentions) (from : ℕ) (s : NumberedSet) → from + sum_by (λ (a : NumberedAnnotation). 4 + numbered_annotation_weight a) s < 2 ^ 32 → All (λ n. n < 2 ^ 32) (numbered_offsets from s)
 heavy_offsets m from [] lt = λ i d none. absurd (omega arith)
 heavy_offsets m from (a ∷ s) lt =
-    let size = annotation_size_is m a in
     let sum = sum_by-cons (λ (x : NumberedAnnotation). 4 + numbered_annotation_weight x) a s in
     All-cons (λ n. n < 2 ^ 32) (round_up 1 from) (numbered_offsets (round_up 1 from + length (numbered_annotation_bytes a)) s) (omega (arith, lt, sum, here from))
-    (heavy_offsets m (round_up 1 from + length (numbered_annotation_bytes a)) s (omega (arith, lt, sum, size, here from)))
+    (heavy_offsets m (round_up 1 from + length (numbered_annotation_bytes a)) s (omega (arith, lt, sum, annotation_size_is m a, here from)))
 
 -- its annotations are counted
 set_counted : (s : NumberedSet) → sum_by (λ (a : NumberedAnnotation). 4 + numbered_annotation_weight a) s < 2 ^ 32 → All IsCountedAnnotation s

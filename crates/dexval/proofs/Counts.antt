@@ -1,9 +1,6 @@
 -- The bytes of counts.
-use Rattle.std.proofs.Common.{◌≡◌, ℕ, ◌-◌, ◌^◌, ◌<◌, ◌≤◌, min, inl, inr, length, refl, ap, sym, ◌∙◌, arith}
-use Rattle.std.proofs.lemmas.Bool.{cases_lt, le-ltb}
-use Rattle.dexspec.specs.Numbers.{uleb128, size_u}
+use Rattle.dexval.proofs.Common.{◌≡◌, ℕ, ◌-◌, ◌^◌, ◌<◌, ◌≤◌, min, inl, inr, length, refl, ap, sym, ◌∙◌, arith, cases_lt, le-ltb, uleb128, size_u, uleb128-size}
 use Rattle.dexspec.proofs.numbers.Groups.{length-groups}
-use Rattle.dexspec.proofs.size.SizeItems.{uleb128-size}
 use Rattle.dexval.specs.Spelled.{count_bytes}
 
 -- the bytes of a count

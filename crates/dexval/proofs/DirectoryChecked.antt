@@ -1,17 +1,5 @@
 -- Sets, lists of sets and directories that are each checked once.
-use Rattle.std.proofs.Common.{◌≡◌, ℕ, ◌+◌, ◌-◌, ◌*◌, ◌^◌, ◌<◌, min, false, List, [], ◌∷◌, ◌++◌, nat_eq, map, sum_by, length, Some, subst, inl, inr, arith}
-use Rattle.std.specs.Prelude.{All}
-use Rattle.std.specs.HashMap.{get}
-use Rattle.dexspec.specs.Bytes.{uint_at}
-use Rattle.dexspec.specs.Annotations.{SetAt, RefListAt, fields_count, methods_count, parameters_count}
-use Rattle.dexspec.specs.Mentions.{Mentions}
-use Rattle.dexval.specs.declared.directory_checking.CheckedSets.{CheckedSets}
-use Rattle.dexval.specs.Checking.{HasSetOf}
-use Rattle.dexval.specs.CheckedSets.{IsWeighed, AreChecked, HasDirectoryOf}
-use Rattle.dexval.specs.Directories.{IsSetOrEmptyAt, IsRefListAt, ArePairsAt, HasMembers, set_weight_in, sets_weight_in}
-use Rattle.dexval.specs.Nesting.{HasPools}
-use Rattle.dexval.specs.Numbered.{NumberedDirectory, IsKnownSet, set_in}
-use Rattle.dexval.specs.Reading.{IsSetAt}
+use Rattle.dexval.proofs.Common.{◌≡◌, ℕ, ◌+◌, ◌-◌, ◌*◌, ◌^◌, ◌<◌, min, false, List, [], ◌∷◌, ◌++◌, nat_eq, map, sum_by, length, Some, subst, inl, inr, arith, All, get, uint_at, SetAt, RefListAt, fields_count, methods_count, parameters_count, Mentions, CheckedSets, HasSetOf, IsWeighed, AreChecked, HasDirectoryOf, IsSetOrEmptyAt, IsRefListAt, ArePairsAt, HasMembers, set_weight_in, sets_weight_in, HasPools, NumberedDirectory, IsKnownSet, set_in, IsSetAt}
 use Rattle.dexval.proofs.DirectoryRead.{directory_read}
 use Rattle.dexval.proofs.CachedSets.{from_before}
 use Rattle.dexval.proofs.Keeping.{parts_weigh}

@@ -1,19 +1,5 @@
 -- The parts of a directory of annotations, as they are counted.
-use Rattle.std.proofs.Common.{◌≡◌, ℕ, ◌+◌, ◌-◌, ◌*◌, ◌^◌, min, List, length, map, sum_by, ap, sym, subst, arith}
-use Rattle.std.specs.Prelude.{All}
-use Rattle.dexspec.specs.Annotations.{AnnotationSet, Directory, SetAt, RefListAt, DirectoryAt, PairsAt, fields_count, methods_count, parameters_count}
-use Rattle.dexspec.specs.Bytes.{uint_at}
-use Rattle.dexspec.specs.Mentions.{Mentions}
-use Rattle.dexspec.specs.Rows.{FieldRow, MethodRow}
-use Rattle.dexspec.specs.Weight.{set_weight, ref_list_weight}
-use Rattle.dexspec.proofs.determined.OneClass.{one_set}
-use Rattle.dexpool.specs.declared.faults.ItemFault.{ItemFault}
-use Rattle.dexval.specs.declared.budget.Budget.{Budget}
-use Rattle.dexval.specs.Numbered.{NumberedSet, IsKnownSet, set_in, directory_in}
-use Rattle.dexval.specs.Nesting.{HasPools}
-use Rattle.dexval.specs.Directories.{IsSetOrEmptyAt, IsIndexBelow, ArePairsAt, HasMembers, directory_weight, set_weight_in, sets_weight_in}
-use Rattle.dexval.specs.Reading.{IsDirectoryAt}
-use Rattle.dexval.specs.internal.Counting.{HasCounted, IsFaultWithin}
+use Rattle.dexval.proofs.Common.{◌≡◌, ℕ, ◌+◌, ◌-◌, ◌*◌, ◌^◌, min, List, length, map, sum_by, ap, sym, subst, arith, All, AnnotationSet, Directory, SetAt, RefListAt, DirectoryAt, PairsAt, fields_count, methods_count, parameters_count, uint_at, Mentions, FieldRow, MethodRow, set_weight, ref_list_weight, one_set, ItemFault, Budget, NumberedSet, IsKnownSet, set_in, directory_in, HasPools, IsSetOrEmptyAt, IsIndexBelow, ArePairsAt, HasMembers, directory_weight, set_weight_in, sets_weight_in, IsDirectoryAt, HasCounted, IsFaultWithin}
 use Rattle.dexval.proofs.DirectoryRead.{one_set_or_empty, pairs_moved, part_moved, rows_part, rows_weigh, field_below, method_below, directory_read}
 use Rattle.dexval.proofs.Keeping.{counts_as, counts_then, parts_weigh, directory_parts}
 use Rattle.dexval.proofs.Refusals.{part_refused}

@@ -1,28 +1,5 @@
 -- The pairs and lists of a directory of annotations, as they are read.
-use Rattle.std.proofs.Common.{◌≡◌, ◌≢◌, ℕ, zero, suc, ◌+◌, ◌*◌, ◌<◌, ◌≤◌, true, List, [], ◌∷◌, ◌++◌, length, map, sum_by, refl, ap, sym, subst, ◌∙◌, arith, inl, inr, append_assoc}
-use Rattle.std.proofs.lemmas.Bool.{cases_lt}
-use Rattle.std.specs.Prelude.{All}
-use Rattle.std.specs.List.{AllZip}
-use Rattle.std.specs.Ordering.{is_lt, nat_cmp}
-use Rattle.std.proofs.lemmas.List.{map-append}
-use Rattle.std.proofs.lemmas.List.Elements.{All-append, All-cons, All-nil}
-use Rattle.std.proofs.lemmas.List.Sums.{sum_by-cons}
-use Rattle.dexspec.specs.Lists.{rises, OrNone}
-use Rattle.dexspec.specs.Bytes.{uint_at, uints_at}
-use Rattle.dexspec.specs.Symbols.{Field, Method}
-use Rattle.dexspec.specs.Rows.{FieldRow, MethodRow}
-use Rattle.dexspec.specs.Annotations.{AnnotationSet, Directory, SetAt, RefListAt, DirectoryAt, PairAt, PairsAt, pairs_at, fields_count, methods_count, parameters_count}
-use Rattle.dexspec.specs.Mentions.{Mentions}
-use Rattle.dexspec.specs.Weight.{set_weight, ref_list_weight}
-use Rattle.dexspec.proofs.determined.OneClass.{one_set}
-use Rattle.dexspec.proofs.determined.OneRow.{one_all_zip, one_or_none}
-use Rattle.dexspec.proofs.size.SizeSums.{sum_by-map}
-use Rattle.dexspec.proofs.wellformed.FormedRows.{length-uints_at, length-zip}
-use Rattle.dexval.specs.Numbered.{NumberedSet, IsKnownSet, set_in, field_at, method_at}
-use Rattle.dexval.specs.Nesting.{HasPools}
-use Rattle.dexval.specs.Items.{NoSetAt, HasOffsets}
-use Rattle.dexval.specs.Directories.{IsSetOrEmptyAt, NoSetOrEmptyAt, IsRefListAt, NoRefListAt, IsIndexBelow, HasPair, ArePairsAt, NoPairsAt, HasMembers, NoDirectoryAt, directory_weight, set_weight_in}
-use Rattle.dexval.specs.Reading.{IsSetAt, IsDirectoryAt}
+use Rattle.dexval.proofs.Common.{◌≡◌, ◌≢◌, ℕ, zero, suc, ◌+◌, ◌*◌, ◌<◌, ◌≤◌, true, List, [], ◌∷◌, ◌++◌, length, map, sum_by, refl, ap, sym, subst, ◌∙◌, arith, inl, inr, append_assoc, cases_lt, All, AllZip, is_lt, nat_cmp, map-append, All-append, All-cons, All-nil, sum_by-cons, rises, OrNone, uint_at, uints_at, Field, Method, FieldRow, MethodRow, AnnotationSet, Directory, SetAt, RefListAt, DirectoryAt, PairAt, PairsAt, pairs_at, fields_count, methods_count, parameters_count, Mentions, set_weight, ref_list_weight, one_set, one_all_zip, one_or_none, sum_by-map, length-uints_at, length-zip, NumberedSet, IsKnownSet, set_in, field_at, method_at, HasPools, NoSetAt, HasOffsets, IsSetOrEmptyAt, NoSetOrEmptyAt, IsRefListAt, NoRefListAt, IsIndexBelow, HasPair, ArePairsAt, NoPairsAt, HasMembers, NoDirectoryAt, directory_weight, set_weight_in, IsSetAt, IsDirectoryAt}
 use Rattle.dexval.proofs.Refusals.{HasPart}
 use Rattle.dexval.proofs.Rising.{rises_more, rises_next, split_at}
 use Rattle.dexval.proofs.SetsRead.{uints_more, zip_more}
@@ -282,23 +259,20 @@ part_moved At weighs b before total {p} {q} {n} {k} {limit} {most} place count b
 rows_encoded : {M X Y : Type 0} (Row : List ℕ → ℕ → M → Type 0) (member : ℕ → M) (inside : X → Y) (At : List ℕ → ℕ → Y → Type 0) (b : List ℕ) (limit : ℕ) → ((i : ℕ) → i < limit → Row b i (member i)) → (ps : List (ℕ × ℕ)) (xs : List (ℕ × X))
     → AllZip (PairAt (IsIndexBelow limit) At b) ps (map (λ e. (e.0, inside e.1)) xs) → AllZip (PairAt Row At b) ps (map (λ e. (member e.0, inside e.1)) xs)
 rows_encoded Row member inside At b limit row [] [] h = tt
-rows_encoded Row member inside At b limit row [] (x ∷ xs) h = absurd h
-rows_encoded Row member inside At b limit row (p ∷ ps) [] h = absurd h
 rows_encoded Row member inside At b limit row (p ∷ ps) (x ∷ xs) h =
     ((subst (λ (i : ℕ). Row b p.0 (member i)) (sym h.0.0.is) (row p.0 h.0.0.below), h.0.1, h.0.2), rows_encoded Row member inside At b limit row ps xs h.1)
+rows_encoded Row member inside At b limit row v y h = absurd h
 
 -- members by number
 abbrev numbered : {M Y : Type 0} → List (ℕ × ℕ) → List (M × Y) → List (ℕ × Y)
-numbered [] es = []
-numbered (p ∷ ps) [] = []
 numbered (p ∷ ps) (e ∷ es) = (p.0, e.1) ∷ numbered ps es
+numbered x v = []
 
 numbers_encoded : {M Y : Type 0} (Row : List ℕ → ℕ → M → Type 0) (At : List ℕ → ℕ → Y → Type 0) (b : List ℕ) (limit : ℕ) → ((i : ℕ) (x : M) → Row b i x → i < limit) → (ps : List (ℕ × ℕ)) (es : List (M × Y))
     → AllZip (PairAt Row At b) ps es → AllZip (PairAt (IsIndexBelow limit) At b) ps (numbered ps es)
 numbers_encoded Row At b limit below [] [] h = tt
-numbers_encoded Row At b limit below [] (e ∷ es) h = absurd h
-numbers_encoded Row At b limit below (p ∷ ps) [] h = absurd h
 numbers_encoded Row At b limit below (p ∷ ps) (e ∷ es) h = ((record { is = refl; below = below p.0 e.0 h.0.0 }, h.0.1, h.0.2), numbers_encoded Row At b limit below ps es h.1)
+numbers_encoded Row At b limit below x v h = absurd h
 
 pairs_named : {M X Y : Type 0} (Row : List ℕ → ℕ → M → Type 0) (member : ℕ → M) (Known : X → Type 0) (inside : X → Y) (At : List ℕ → ℕ → Y → Type 0) (b : List ℕ) (p n limit : ℕ) → ((i : ℕ) → i < limit → Row b i (member i)) → (xs : List (ℕ × X))
     → ArePairsAt Known inside At b p n limit xs → PairsAt Row At b p n (map (λ e. (member e.0, inside e.1)) xs)

@@ -1,21 +1,8 @@
 -- Elements that are read one after the other: the numbers of their names rise as the names do, the elements that were
 -- read are in the file, and the other elements come after them.
-use Rattle.std.proofs.Common.{◌≡◌, ℕ, suc, ◌+◌, ◌-◌, ◌<◌, ◌≤◌, max, true, List, [], ◌∷◌, ◌++◌, length, refl, ap, sym, subst, ◌∙◌, arith}
-use Rattle.std.specs.Ordering.{is_lt}
-use Rattle.std.proofs.lemmas.List.{length-append}
-use Rattle.dexspec.specs.Lists.{rises}
-use Rattle.dexspec.specs.Numbers.{Uleb128At}
-use Rattle.dexspec.specs.Texts.{Text, text_cmp}
-use Rattle.dexspec.specs.Rows.{StringRow, TypeRow}
-use Rattle.dexspec.specs.Values.{Value, Elements, NoElements, ThenElement, ValueAt, ElementsAt, value_depth, elements_depth, names_of}
-use Rattle.dexspec.specs.Mentions.{Mentions}
-use Rattle.dexspec.proofs.lists.Members.{and_first, and_second}
-use Rattle.dexspec.proofs.determined.OneNumber.{one_uleb128}
-use Rattle.dexspec.proofs.determined.OneRow.{one_string}
-use Rattle.dexspec.proofs.determined.OneValue.{one_value}
-use Rattle.dexval.specs.Numbered.{NumberedValue, NumberedElements, HaveKnown, IsKnown, elements_in, value_in, elements_of_list, text_at, type_at}
+use Rattle.dexval.proofs.Common.{◌≡◌, ℕ, suc, ◌+◌, ◌-◌, ◌<◌, ◌≤◌, max, true, List, [], ◌∷◌, ◌++◌, length, refl, ap, sym, subst, ◌∙◌, arith, is_lt, length-append, rises, Uleb128At, Text, text_cmp, StringRow, TypeRow, Elements, NoElements, ThenElement, ValueAt, ElementsAt, value_depth, elements_depth, names_of, Mentions, and_first, and_second, one_uleb128, one_string, one_value, NumberedValue, NumberedElements, HaveKnown, IsKnown, elements_in, value_in, elements_of_list, text_at, type_at, HasPools, NoElementAt, IsElementReadAt, NoElementsAt, AreElementsReadAt, NoAnnotationAt, IsAnnotationReadAt}
+use Rattle.dexspec.specs.Values.{Value}
 use Rattle.dexval.proofs.Rising.{is_less, is_greater, rises_more}
-use Rattle.dexval.specs.Nesting.{HasPools, NoElementAt, IsElementReadAt, NoElementsAt, AreElementsReadAt, NoAnnotationAt, IsAnnotationReadAt}
 
 -- the name of the first element, if there is one, has at least this number
 abbrev pub IsAbove : List ℕ → ℕ → Elements → Type 0
@@ -211,8 +198,7 @@ module _ (b : List ℕ) (m : Mentions) (file : HasPools b m) where
   -- the bytes of the value are no value
   pub no_value : (o depth least index head : ℕ) → Uleb128At b o index head → ((v : Value) (n : ℕ) → ValueAt b (o + head) v n → value_depth v ≤ depth → ⊥) → NoElementAt b o depth least
   no_value o depth least index head u none other name v i j w row above h shallow =
-      let same = one_uleb128 b o other index i head w u in
-      none v j (subst (λ (x : ℕ). ValueAt b (o + x) v j) same.1 h) shallow
+      none v j (subst (λ (x : ℕ). ValueAt b (o + x) v j) (one_uleb128 b o other index i head w u).1 h) shallow
 
   -- ---- annotations
 
@@ -227,13 +213,11 @@ module _ (b : List ℕ) (m : Mentions) (file : HasPools b m) where
 
   pub no_such_type : (o depth index head : ℕ) → Uleb128At b o index head → (index < length m.types → ⊥) → NoAnnotationAt b o depth
   no_such_type o depth index head u none t es n h shallow =
-      let same = one_uleb128 b o h.3 index h.0 head h.4 u in
-      none (omega (arith, type_within h.3 t h.5, same.0))
+      none (omega (arith, type_within h.3 t h.5, (one_uleb128 b o h.3 index h.0 head h.4 u).0))
 
   pub no_element_count : (o depth index head : ℕ) → Uleb128At b o index head → ((count i : ℕ) → Uleb128At b (o + head) count i → ⊥) → NoAnnotationAt b o depth
   no_element_count o depth index head u none t es n h shallow =
-      let same = one_uleb128 b o h.3 index h.0 head h.4 u in
-      none (length (names_of es)) h.1 (subst (λ (x : ℕ). Uleb128At b (o + x) (length (names_of es)) h.1) same.1 h.6)
+      none (length (names_of es)) h.1 (subst (λ (x : ℕ). Uleb128At b (o + x) (length (names_of es)) h.1) (one_uleb128 b o h.3 index h.0 head h.4 u).1 h.6)
 
   pub no_elements : (o depth index head count second : ℕ) → Uleb128At b o index head → Uleb128At b (o + head) count second → NoElementsAt b (o + head + second) depth count → NoAnnotationAt b o depth
   no_elements o depth index head count second u w none t es n h shallow =

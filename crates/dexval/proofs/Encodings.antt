@@ -1,10 +1,5 @@
 -- The encodings of scalar values, by any output.
-use Rattle.std.proofs.Common.{◌≡◌, ℕ, List, sym, ap, ◌∙◌, subst}
-use Rattle.std.specs.Prelude.{ℤ}
-use Rattle.dexspec.specs.Spellings.{unsigned_bytes, signed_bytes, bits_bytes}
-use Rattle.dexval.specs.declared.value.Value.{Value}
-use Rattle.dexval.specs.Code.{value_of}
-use Rattle.dexval.specs.Spelled.{numbered_bytes}
+use Rattle.dexval.proofs.Common.{◌≡◌, ℕ, List, sym, ap, ◌∙◌, subst, ℤ, unsigned_bytes, signed_bytes, bits_bytes, Value, value_of, numbered_bytes}
 
 module _ {O : Type 0} (gives : List ℕ → O → O → Type 0) where
   -- a value of an unsigned kind

@@ -1,12 +1,5 @@
 -- Items that are checked at an offset of a file.
-use Rattle.std.proofs.Common.{◌≡◌, ◌≢◌, ℕ, zero, suc, ◌+◌, ◌≤◌, List, refl, ap, sym, ◌∙◌, arith}
-use Rattle.dexspec.specs.Header.{data_off}
-use Rattle.dexspec.specs.Values.{most_depth, count_values}
-use Rattle.dexspec.specs.Mentions.{Mentions}
-use Rattle.dexspec.specs.Weight.{static_values_weight}
-use Rattle.dexval.specs.Checking.{HasValue, HasArray, HasValueOf, HasStaticsOf}
-use Rattle.dexval.specs.Numbered.{NumberedValues, NoValue, ThenNext, values_in}
-use Rattle.dexval.specs.Spelled.{values_count, numbered_values_weight}
+use Rattle.dexval.proofs.Common.{◌≡◌, ◌≢◌, ℕ, zero, suc, ◌+◌, ◌≤◌, List, refl, ap, sym, ◌∙◌, arith, data_off, most_depth, count_values, Mentions, static_values_weight, HasValue, HasArray, HasValueOf, HasStaticsOf, NumberedValues, NoValue, ThenNext, values_in, values_count, numbered_values_weight}
 use Rattle.dexval.proofs.Weights.{weight_is, values_weight_is}
 
 pub value_checked : (b : List ℕ) (off : ℕ) (m : Mentions) (n weight : ℕ) → data_off b ≤ off → HasValue b off m most_depth n weight → HasValueOf b off m n weight

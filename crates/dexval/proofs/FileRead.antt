@@ -1,15 +1,8 @@
 -- Items that are read at an offset of a file.
-use Rattle.std.proofs.Common.{◌≡◌, ℕ, ◌^◌, ◌≤◌, List, [], ◌∷◌, length, take, refl, zero, suc, arith, subst}
-use Rattle.dexspec.specs.Numbers.{BeginsWith, IsUleb128, IsChain}
+use Rattle.dexval.proofs.Common.{◌≡◌, ℕ, ◌^◌, ◌≤◌, List, [], ◌∷◌, length, take, refl, zero, suc, arith, subst, BeginsWith, IsUleb128, IsChain, Values, EncodedArrayItemAt, most_depth, EncodedValueAt, Mentions, ArePools, IsNumbering, NoValueAt, HasPools, NoArrayAt}
 use Rattle.dexspec.specs.Conditions.{Condition}
 use Rattle.dexspec.specs.Accepted.{IsFrame}
-use Rattle.dexspec.specs.Values.{Value, Values, EncodedArrayItemAt, most_depth}
-use Rattle.dexval.specs.Reading.{EncodedValueAt}
-use Rattle.dexspec.specs.Mentions.{Mentions}
-use Rattle.dexpool.specs.Pools.{ArePools}
-use Rattle.dexpool.specs.Numberings.{IsNumbering}
-use Rattle.dexval.specs.internal.Scalars.{NoValueAt}
-use Rattle.dexval.specs.Nesting.{HasPools, NoArrayAt}
+use Rattle.dexspec.specs.Values.{Value}
 
 -- a file has at most 2 ^ 30 bytes
 pub few_bytes : (b : List ℕ) → IsFrame b → length b ≤ 2 ^ 30

@@ -1,19 +1,8 @@
 -- The hash input of values and annotations, member by member.
-use Rattle.std.proofs.Common.{◌≡◌, ℕ, ◌+◌, ◌<◌, ◌≤◌, List, [], ◌∷◌, ◌++◌, get_or, length, take, map, fold, refl, sym, ap, ◌∙◌, append_assoc}
-use Rattle.std.proofs.lemmas.List.{take_all, take_more, append-nil, length-map}
+use Rattle.dexval.proofs.Common.{◌≡◌, ℕ, ◌+◌, ◌<◌, ◌≤◌, List, [], ◌∷◌, ◌++◌, get_or, length, take, map, fold, refl, sym, ap, ◌∙◌, append_assoc, take_all, take_more, append-nil, length-map, flat_map-append, flat_map, Box, Vec, Annotation, Value, Element, EncodedAnnotation, out-EncodedAnnotation, value_of, element_of, elements_of, encoded_of, encoded_type, encoded_elements, annotation_of, value_input, values_input, elements_input, encoded_input, annotation_input, NumberedValue, Array, values_of_list, elements_of_list}
 use Rattle.std.proofs.lemmas.List.Folds.{flat_map-map}
-use Rattle.std.proofs.lemmas.Grind.{flat_map-append}
-use Rattle.std.specs.List.{flat_map}
 use Rattle.std.specs.Hash as fed
-use Rattle.std.specs.Global.{Box, Vec}
-use Rattle.dexval.specs.declared.annotation.Annotation.{Annotation}
-use Rattle.dexval.specs.declared.value.Value.{Value}
 use Rattle.dexval.specs.declared.value.Value.TheVariants as variants
-use Rattle.dexval.specs.declared.value.Element.{Element}
-use Rattle.dexval.specs.declared.value.EncodedAnnotation.{EncodedAnnotation, out-EncodedAnnotation}
-use Rattle.dexval.specs.Code.{value_of, element_of, elements_of, encoded_of, encoded_type, encoded_elements, annotation_of}
-use Rattle.dexval.specs.Equality.{value_input, values_input, elements_input, encoded_input, annotation_input}
-use Rattle.dexval.specs.Numbered.{NumberedValue, Array, values_of_list, elements_of_list}
 use Rattle.dexval.proofs.CodeForms.{element_is, array_is, annotation_is}
 use Rattle.dexval.proofs.Members.{count_values_is, count_elements_is}
 

@@ -1,12 +1,7 @@
 -- A value is determined by its head and its contents.
-use Rattle.std.proofs.Common.{◌≡◌, ◌+◌, ◌<◌, refl, ap, sym, ◌∙◌, arith}
-use Rattle.dexpool.specs.Numberings.{Maps}
+use Rattle.dexval.proofs.Common.{◌≡◌, ◌+◌, ◌<◌, refl, ap, sym, ◌∙◌, arith, Maps, head_of, held_values, held_elements, NumberedValue, NumberedValues, NumberedElements, Plain, Named, Array, Annotated, ByteLiteral, ShortLiteral, CharLiteral, IntLiteral, LongLiteral, FloatLiteral, DoubleLiteral, NullLiteral, BooleanLiteral, StringReference, TypeReference, FieldReference, MethodReference, EnumReference, renumbered, renumbered_values, renumbered_elements, numbered_weight, numbered_values_weight, numbered_elements_weight}
 use Rattle.dexval.specs.declared.head.Head.{Head}
 use Rattle.dexval.specs.declared.head.Head.TheVariants as heads
-use Rattle.dexval.specs.internal.Heads.{head_of, held_values, held_elements}
-use Rattle.dexval.specs.Numbered.{NumberedValue, NumberedValues, NumberedElements, Plain, Named, Array, Annotated, ByteLiteral, ShortLiteral, CharLiteral, IntLiteral, LongLiteral, FloatLiteral, DoubleLiteral, NullLiteral, BooleanLiteral, StringReference, TypeReference, FieldReference, MethodReference, EnumReference}
-use Rattle.dexval.specs.Renumbering.{renumbered, renumbered_values, renumbered_elements}
-use Rattle.dexval.specs.Spelled.{numbered_weight, numbered_values_weight, numbered_elements_weight}
 
 -- a value made of both
 abbrev made : Head → NumberedValues → NumberedElements → NumberedValue
@@ -29,21 +24,8 @@ made (heads.Boolean is) xs es = Plain (BooleanLiteral is)
 
 made_again : (x : NumberedValue) → made (head_of x) (held_values x) (held_elements x) ≡ x
 made_again (Plain (ByteLiteral z)) = refl
-made_again (Plain (ShortLiteral z)) = refl
-made_again (Plain (CharLiteral u)) = refl
-made_again (Plain (IntLiteral z)) = refl
-made_again (Plain (LongLiteral z)) = refl
-made_again (Plain (FloatLiteral bits)) = refl
-made_again (Plain (DoubleLiteral bits)) = refl
-made_again (Plain NullLiteral) = refl
-made_again (Plain (BooleanLiteral is)) = refl
 made_again (Named StringReference i) = refl
-made_again (Named TypeReference i) = refl
-made_again (Named FieldReference i) = refl
-made_again (Named MethodReference i) = refl
-made_again (Named EnumReference i) = refl
-made_again (Array xs) = refl
-made_again (Annotated t es) = refl
+made_again x = refl
 
 -- values with equal heads and equal contents are equal
 same_parts : (x y : NumberedValue) → head_of x ≡ head_of y → held_values x ≡ held_values y → held_elements x ≡ held_elements y → x ≡ y
@@ -54,15 +36,11 @@ same_parts x y h v e =
 
 values_remapped : (r : Maps) (x : NumberedValue) → held_values (renumbered r x) ≡ renumbered_values r (held_values x)
 values_remapped r (Plain literal) = refl
-values_remapped r (Named reference i) = refl
-values_remapped r (Array xs) = refl
-values_remapped r (Annotated t es) = refl
+values_remapped r x = refl
 
 elements_remapped : (r : Maps) (x : NumberedValue) → held_elements (renumbered r x) ≡ renumbered_elements r (held_elements x)
 elements_remapped r (Plain literal) = refl
-elements_remapped r (Named reference i) = refl
-elements_remapped r (Array xs) = refl
-elements_remapped r (Annotated t es) = refl
+elements_remapped r x = refl
 
 module _ (r q : Maps) (x y : NumberedValue) where
   -- values that are equal once remapped hold equal values
@@ -83,12 +61,8 @@ module _ (r q : Maps) (x y : NumberedValue) where
 
 pub held_values_lighter : (x : NumberedValue) → numbered_values_weight (held_values x) + 1 < numbered_weight x
 held_values_lighter (Plain literal) = omega arith
-held_values_lighter (Named reference i) = omega arith
-held_values_lighter (Array xs) = omega arith
-held_values_lighter (Annotated t es) = omega arith
+held_values_lighter x = omega arith
 
 pub held_elements_lighter : (x : NumberedValue) → numbered_elements_weight (held_elements x) + 2 < numbered_weight x
 held_elements_lighter (Plain literal) = omega arith
-held_elements_lighter (Named reference i) = omega arith
-held_elements_lighter (Array xs) = omega arith
-held_elements_lighter (Annotated t es) = omega arith
+held_elements_lighter x = omega arith

@@ -1,25 +1,11 @@
 -- The images of the numbers in values: all numbers that occur have one, in a map that has an image for each number; and
 -- which images have 32 bits.
-use Rattle.std.proofs.Common.{◌≡◌, ℕ, ◌^◌, ◌≤◌, List, [], ◌∷◌, ◌++◌, Option, Some, None, refl, sym, subst, arith}
-use Rattle.std.specs.Prelude.{IsSome}
-use Rattle.std.specs.List.{All, flat_map}
-use Rattle.std.proofs.lemmas.List.Elements.{All-nil, All-cons, All-head, All-tail, All-append}
-use Rattle.dexspec.specs.Mentions.{Mentions}
-use Rattle.dexpool.specs.declared.symbols.SymbolKind.{SymbolKind}
+use Rattle.dexval.proofs.Common.{◌≡◌, ℕ, ◌^◌, ◌≤◌, List, [], ◌∷◌, ◌++◌, Option, Some, None, refl, sym, subst, arith, IsSome, All, flat_map, All-nil, All-cons, All-head, All-tail, All-append, Mentions, SymbolKind, MapsAll, MapsWithin, Maps, image_of, count_of, Use, IsMappedUse, IsMapped, MapsUse, NumberedValue, NumberedValues, NumberedElements, NumberedAnnotation, NumberedSet, Plain, Named, Array, Annotated, NoValue, ThenNext, NoElement, ThenNamed, kind_of_reference, IsKnown, AreKnown, HaveKnown, IsKnownAnnotation, IsKnownSet, MapsNarrow, HasPlaces, HavePlaces, SetHasPlaces, value_uses, values_uses, elements_uses, annotation_uses, set_uses, all_prefix, all_back}
 use Rattle.dexpool.specs.declared.symbols.SymbolKind.TheVariants as kinds
-use Rattle.dexpool.specs.Laws.{MapsAll, MapsWithin}
-use Rattle.dexpool.specs.Numberings.{Maps, image_of}
 use Rattle.dexpool.specs.Orderly.{MapsDown}
-use Rattle.dexpool.specs.Pools.{count_of}
-use Rattle.dexpool.specs.Uses.{Use, IsMappedUse}
-use Rattle.dexpool.specs.Images.{IsMapped, MapsUse}
-use Rattle.dexval.specs.Numbered.{NumberedValue, NumberedValues, NumberedElements, NumberedAnnotation, NumberedSet, Plain, Named, Array, Annotated, NoValue, ThenNext, NoElement, ThenNamed, kind_of_reference, IsKnown, AreKnown, HaveKnown, IsKnownAnnotation, IsKnownSet}
-use Rattle.dexval.specs.Renumbering.{MapsNarrow, HasPlaces, HavePlaces, SetHasPlaces}
-use Rattle.dexval.specs.Uses.{value_uses, values_uses, elements_uses, annotation_uses, set_uses}
-use Rattle.dexpool.proofs.Parts.{all_prefix, all_back}
 
 -- a symbol that occurs
-abbrev use_of : SymbolKind → ℕ → Use
+abbrev pub use_of : SymbolKind → ℕ → Use
 use_of kind i = record { kind = kind; number = i }
 
 -- ---- maps from numbers of 32 bits to numbers of 32 bits
@@ -32,7 +18,7 @@ join_within n r within few kind i j e lt = omega (arith, within kind i j e, few 
 
 -- ---- from images to places
 
-some_of : (o : Option ℕ) → IsSome o → (j : ℕ) × (o ≡ Some j)
+pub some_of : (o : Option ℕ) → IsSome o → (j : ℕ) × (o ≡ Some j)
 some_of None h = absurd cc
 some_of (Some j) h = (j, refl)
 

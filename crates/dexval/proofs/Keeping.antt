@@ -1,19 +1,5 @@
 -- What is counted of a directory while it is read.
-use Rattle.std.proofs.Common.{◌≡◌, ℕ, ◌+◌, ◌-◌, ◌*◌, ◌^◌, ◌<◌, min, List, [], ◌∷◌, ◌++◌, length, map, sum_by, refl, ap, sym, subst, ◌∙◌, arith}
-use Rattle.std.proofs.lemmas.List.{length-map}
-use Rattle.std.proofs.lemmas.List.Sums.{sum_by-append, sum_by-cons}
-use Rattle.dexspec.specs.Lists.{OrNone}
-use Rattle.dexspec.specs.Bytes.{uints_at}
-use Rattle.dexspec.specs.Symbols.{Field, Method}
-use Rattle.dexspec.specs.Annotations.{AnnotationSet, SetAt}
-use Rattle.dexspec.specs.Mentions.{Mentions}
-use Rattle.dexspec.specs.Weight.{set_weight, ref_list_weight}
-use Rattle.dexspec.proofs.wellformed.FormedRows.{length-uints_at, length-zip}
-use Rattle.dexspec.proofs.size.SizeSums.{sum_by-map}
-use Rattle.dexval.specs.Numbered.{NumberedSet, NumberedDirectory, set_in, directory_in, field_at, method_at}
-use Rattle.dexval.specs.Directories.{directory_weight, set_weight_in, sets_weight_in}
-use Rattle.dexval.specs.declared.budget.Budget.{Budget}
-use Rattle.dexval.specs.internal.Counting.{Counts, HasCounted}
+use Rattle.dexval.proofs.Common.{◌≡◌, ℕ, ◌+◌, ◌-◌, ◌*◌, ◌^◌, ◌<◌, min, List, [], ◌∷◌, ◌++◌, length, map, sum_by, refl, ap, sym, subst, ◌∙◌, arith, length-map, sum_by-append, sum_by-cons, OrNone, uints_at, Field, Method, AnnotationSet, SetAt, Mentions, set_weight, ref_list_weight, length-uints_at, length-zip, sum_by-map, NumberedSet, NumberedDirectory, set_in, directory_in, field_at, method_at, directory_weight, set_weight_in, sets_weight_in, Budget, Counts, HasCounted}
 use Rattle.dexval.proofs.DirectoryRead.{HaveReadList}
 
 -- ---- steps

@@ -1,3 +1,4 @@
+pub mod Common
 pub mod CodeForms
 pub mod Counted
 pub mod Counts

@@ -1,21 +1,8 @@
 -- Numbers written as their lowest bytes.
-use Rattle.std.proofs.Common.{◌≡◌, ℕ, zero, suc, ◌+◌, ◌-◌, ◌*◌, ◌/◌, ◌%◌, ◌^◌, ◌<◌, ◌≤◌, List, ◌∷◌, ◌++◌, length, take, ◌⊎◌, inl, inr, refl, ap, sym, ◌∙◌, subst, arith}
-use Rattle.std.specs.Prelude.{ℤ, pos, negsuc, ◌≢◌, FitsSigned}
-use Rattle.std.specs.Int.{w64}
-use Rattle.std.proofs.lemmas.Int.{ints}
-use Rattle.std.specs.Int.{bytes_low_first}
-use Rattle.std.proofs.lemmas.List.{take-append-le}
-use Rattle.byteorder.specs.Endian.{little_bytes}
+use Rattle.dexval.proofs.Common.{◌≡◌, ℕ, zero, suc, ◌+◌, ◌-◌, ◌*◌, ◌/◌, ◌%◌, ◌^◌, ◌<◌, ◌≤◌, List, ◌∷◌, ◌++◌, length, take, ◌⊎◌, inl, inr, refl, ap, sym, ◌∙◌, subst, arith, ℤ, pos, negsuc, ◌≢◌, bytes_low_first, take-append-le, little_bytes, mul_assoc, mul-suc, mul-mod_right, mul-div_cancel_left, div-add-mod, cases_lt, pow-add, magnitude, value_byte, unsigned_width, signed_width, bits_width, complement, signed_bytes, bits_bytes, pow_256, pow_256_pos}
 use Rattle.byteorder.proofs.Bytes.{take-bytes_low_first}
 use native.Mathlib.Nat.{div-div-eq-div-mul}
-use Rattle.std.proofs.Math.Nat.{mul_assoc, mul-suc, mul-mod_right, mul-div_cancel_left, div-add-mod}
-use Rattle.std.proofs.lemmas.Bool.{cases_lt}
-use Rattle.std.proofs.lemmas.Nat.{pow-add}
 use Rattle.dexspec.specs.Bytes.{bytes_of}
-use Rattle.dexspec.specs.Numbers.{magnitude}
-use Rattle.dexspec.specs.Values.{value_byte}
-use Rattle.dexspec.specs.Spellings.{unsigned_width, signed_width, bits_width, complement, signed_bytes, bits_bytes}
-use Rattle.dexspec.proofs.numbers.ByteNumbers.{pow_256, pow_256_pos}
 use Rattle.dexspec.proofs.numbers.Widths.{signed_width_is, bits_width_is}
 
 -- the lowest bytes of a number, as `byteorder` writes them
@@ -62,8 +49,7 @@ low_complement n (pos v) few room = refl
 low_complement n (negsuc v) few room =
     let parts : n + (8 - n) ≡ 8 = omega arith in
     let whole : 256 ^ 8 ≡ 256 ^ n * 256 ^ (8 - n) = ap (λ (k : ℕ). 256 ^ k) (sym parts) ∙ pow-add 256 n (8 - n) in
-    let some = pow_256_pos (8 - n) in
-    let less : 256 ^ n * 256 ^ (8 - n) ≡ 256 ^ n + 256 ^ n * (256 ^ (8 - n) - 1) = one_less (256 ^ n) (256 ^ (8 - n)) some in
+    let less : 256 ^ n * 256 ^ (8 - n) ≡ 256 ^ n + 256 ^ n * (256 ^ (8 - n) - 1) = one_less (256 ^ n) (256 ^ (8 - n)) (pow_256_pos (8 - n)) in
     let is : 256 ^ 8 - suc v ≡ (256 ^ n - suc v) + 256 ^ n * (256 ^ (8 - n) - 1) = omega (arith, whole, less, room) in
     ap (bytes_of n) is ∙ bytes_of-more n (256 ^ n - suc v) (256 ^ (8 - n) - 1)
 
@@ -118,11 +104,6 @@ left_is width n v rest some few most is end =
 pub bits_shifted : (code width n v : ℕ) → n ≡ bits_width width v → value_byte (n - 1) code ∷ bytes_of n (v / 2 ^ (8 * (width - n))) ≡ bits_bytes code width v
 bits_shifted code width n v is =
     ap (λ (p : ℕ). value_byte (n - 1) code ∷ bytes_of n (v / p)) (pow_256 (width - n)) ∙ ap (λ (k : ℕ). value_byte (k - 1) code ∷ bytes_of k (v / 256 ^ (width - k))) is
-
--- a number of 64 bits fits in eight bytes
-pub long_room : (z : ℤ) → FitsSigned w64 z → 2 * magnitude z < 256 ^ 8
-long_room (pos n) fits = omega (arith, ints)
-long_room (negsuc n) fits = omega (arith, ints)
 
 -- the signed number
 pub signed_spelled : (code : ℕ) (z : ℤ) (width bits : ℕ) → 2 * magnitude z < 256 ^ 8 → width ≡ signed_width z → width ≤ 8 → bits ≡ complement 8 z

@@ -1,13 +1,5 @@
 -- The symbols of lists are those of each item.
-use Rattle.std.proofs.Common.{◌≡◌, ℕ, List, [], ◌∷◌, ◌++◌, map, refl, ap, sym, ◌∙◌}
-use Rattle.std.specs.List.{flat_map}
-use Rattle.dexval.specs.declared.annotation.Annotation.{Annotation}
-use Rattle.dexval.specs.declared.value.Value.{Value}
-use Rattle.dexval.specs.declared.value.Element.{Element}
-use Rattle.dexval.specs.Code.{value_of, element_of, annotation_of}
-use Rattle.dexval.specs.Numbered.{NumberedValue, values_of_list, elements_of_list}
-use Rattle.dexpool.specs.Uses.{Use}
-use Rattle.dexval.specs.Uses.{value_uses, values_uses, element_uses, elements_uses, annotation_uses, set_uses}
+use Rattle.dexval.proofs.Common.{◌≡◌, ℕ, List, [], ◌∷◌, ◌++◌, map, refl, ap, sym, ◌∙◌, flat_map, Annotation, Value, Element, value_of, element_of, annotation_of, NumberedValue, values_of_list, elements_of_list, Use, value_uses, values_uses, element_uses, elements_uses, annotation_uses, set_uses}
 use Rattle.dexval.proofs.CodeForms.{element_is}
 
 -- the symbols of a value of the code

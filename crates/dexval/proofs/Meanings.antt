@@ -1,34 +1,16 @@
 -- What values denote, which is the same under other numbers, and the symbols that occur in them.
-use Rattle.std.proofs.Common.{◌≡◌, ℕ, ◌<◌, List, [], ◌∷◌, ◌++◌, length, get_or, Option, Some, None, refl, ap, sym, ◌∙◌, subst, arith}
-use Rattle.std.specs.Prelude.{unwrap_or}
-use Rattle.std.specs.List.{All, AllZip}
-use Rattle.std.proofs.lemmas.List.{get_or_default}
-use Rattle.std.proofs.lemmas.List.Elements.{All-nil, All-cons, All-head, All-tail}
-use Rattle.dexspec.specs.Texts.{Text}
-use Rattle.dexspec.specs.Symbols.{Field, Method, Symbol, TextSymbol, TypeSymbol, ProtoSymbol, FieldSymbol, MethodSymbol}
-use Rattle.dexspec.specs.Values.{Value, Values, Elements, ThenValue, ThenElement, ArrayValue, AnnotationValue, StringValue, TypeValue, FieldValue, MethodValue, EnumValue}
-use Rattle.dexspec.specs.Annotations.{Annotation, AnnotationSet}
-use Rattle.dexspec.specs.Mentions.{Mentions, value_symbols, values_symbols, elements_symbols, annotation_symbols, set_symbols}
-use Rattle.dexpool.specs.declared.symbols.SymbolKind.{SymbolKind}
+use Rattle.dexval.proofs.Common.{◌≡◌, ℕ, ◌<◌, List, [], ◌∷◌, ◌++◌, length, get_or, Option, Some, refl, ap, sym, ◌∙◌, subst, arith, unwrap_or, All, AllZip, get_or_default, All-nil, All-cons, All-head, All-tail, Text, Field, Method, Symbol, TextSymbol, TypeSymbol, ProtoSymbol, FieldSymbol, MethodSymbol, Values, Elements, ThenValue, ThenElement, ArrayValue, AnnotationValue, StringValue, TypeValue, FieldValue, MethodValue, EnumValue, AnnotationSet, Mentions, value_symbols, values_symbols, elements_symbols, annotation_symbols, set_symbols, SymbolKind, IsSome, IsAt, IsNumbered, IsOfKind, AreMarksOf, Maps, image, image_of, MapsTo, AllMapTo, Literal, ByteLiteral, Reference, StringReference, TypeReference, FieldReference, MethodReference, EnumReference, NumberedValue, NumberedValues, NumberedElements, NumberedAnnotation, NumberedSet, Plain, Named, Array, Annotated, NoValue, ThenNext, NoElement, ThenNamed, text_at, type_at, field_at, method_at, plain_value, named_value, kind_of_reference, value_in, values_in, elements_in, annotation_in, set_in, IsKnown, AreKnown, HaveKnown, IsKnownAnnotation, IsKnownSet, Denotes, Denote, DenotesSet, remapped, renumbered, renumbered_values, renumbered_elements, renumbered_annotation, renumbered_set, Use, IsUseOf, IsMappedUse, HasMark, marks_of, value_uses, values_uses, elements_uses, annotation_uses, set_uses, all_prefix, all_back}
+use Rattle.dexspec.specs.Values.{Value}
+use Rattle.dexspec.specs.Annotations.{Annotation}
 use Rattle.dexpool.specs.declared.symbols.SymbolKind.TheVariants as kinds
 use Rattle.dexpool.specs.declared.marks.Marks.{Marks}
-use Rattle.std.specs.Option.{IsSome}
-use Rattle.dexpool.specs.Numberings.{IsAt, IsNumbered, IsOfKind, AreMarksOf, Maps, image, image_of, MapsTo, AllMapTo}
-use Rattle.dexval.specs.Numbered.{Literal, ByteLiteral, ShortLiteral, CharLiteral, IntLiteral, LongLiteral, FloatLiteral, DoubleLiteral, NullLiteral, BooleanLiteral, Reference, StringReference, TypeReference, FieldReference, MethodReference, EnumReference, NumberedValue, NumberedValues, NumberedElements, NumberedAnnotation, NumberedSet, Plain, Named, Array, Annotated, NoValue, ThenNext, NoElement, ThenNamed, text_at, type_at, field_at, method_at, plain_value, named_value, kind_of_reference, value_in, values_in, elements_in, annotation_in, set_in, IsKnown, AreKnown, HaveKnown, IsKnownAnnotation, IsKnownSet, Denotes, Denote, DenotesSet}
-use Rattle.dexval.specs.Renumbering.{remapped, renumbered, renumbered_values, renumbered_elements, renumbered_annotation, renumbered_set}
-use Rattle.dexpool.specs.Uses.{Use, IsUseOf, IsMappedUse, HasMark, marks_of}
-use Rattle.dexval.specs.Uses.{value_uses, values_uses, elements_uses, annotation_uses, set_uses}
-use Rattle.dexpool.proofs.Parts.{all_prefix, all_back}
+use Rattle.dexval.proofs.Images.{use_of, some_of}
 
 abbrev no_field : Field
 no_field = record { class = []; name = []; type = [] }
 
 abbrev no_method : Method
 no_method = record { class = []; name = []; proto = record { return_type = []; parameters = [] } }
-
--- a symbol that occurs
-abbrev use_of : SymbolKind → ℕ → Use
-use_of kind i = record { kind = kind; number = i }
 
 -- an annotation by its parts
 abbrev annotation_with : ℕ → Text → Elements → Annotation
@@ -43,10 +25,6 @@ remapped_to from to images i j d l e =
     let at = l.same i j d e in
     let is : unwrap_or (image images i) i ≡ j = ap (λ (o : Option ℕ). unwrap_or o i) e in
     (subst (λ (k : ℕ). k < length to) (sym is) at.within, ap (λ (k : ℕ). get_or to k d) is ∙ at.is d)
-
-some_of : (o : Option ℕ) → IsSome o → (j : ℕ) × (o ≡ Some j)
-some_of None h = absurd cc
-some_of (Some j) h = (j, refl)
 
 module _ (m n : Mentions) (r : Maps) (maps_to : AllMapTo m n r) where
   text_remapped : (i : ℕ) → IsSome (image r.texts i) → (remapped r kinds.Text i < length n.texts) × (text_at n (remapped r kinds.Text i) ≡ text_at m i)
@@ -132,28 +110,19 @@ is_at xs i d lt = record { within = lt; is = λ e. get_or_default xs i e d lt }
 
 zip_both : {X Y : Type 0} (R : X → Y → Type 0) (xs us : List X) (ys vs : List Y) → AllZip R xs ys → AllZip R us vs → AllZip R (xs ++ us) (ys ++ vs)
 zip_both R [] us [] vs h k = k
-zip_both R [] us (y ∷ ys) vs h k = absurd h
-zip_both R (x ∷ xs) us [] vs h k = absurd h
 zip_both R (x ∷ xs) us (y ∷ ys) vs h k = (h.0, zip_both R xs us ys vs h.1 k)
+zip_both R v us w vs h k = absurd h
 
 module _ (m : Mentions) where
   plain_used : (l : Literal) → AllZip (IsUseOf m) [] (value_symbols (plain_value l))
   plain_used (ByteLiteral z) = tt
-  plain_used (ShortLiteral z) = tt
-  plain_used (CharLiteral u) = tt
-  plain_used (IntLiteral z) = tt
-  plain_used (LongLiteral z) = tt
-  plain_used (FloatLiteral bits) = tt
-  plain_used (DoubleLiteral bits) = tt
-  plain_used NullLiteral = tt
-  plain_used (BooleanLiteral is) = tt
+  plain_used x = tt
 
   named_used : (x : Reference) (i : ℕ) → IsKnown m (Named x i) → AllZip (IsUseOf m) (value_uses (Named x i)) (value_symbols (named_value m x i))
   named_used StringReference i h = ((is_at m.texts i [] h, tt), tt)
   named_used TypeReference i h = ((is_at m.types i [] h, tt), tt)
-  named_used FieldReference i h = ((is_at m.fields i no_field h, tt), tt)
   named_used MethodReference i h = ((is_at m.methods i no_method h, tt), tt)
-  named_used EnumReference i h = ((is_at m.fields i no_field h, tt), tt)
+  named_used x i h = ((is_at m.fields i no_field h, tt), tt)
 
   mutual
     value_used : (x : NumberedValue) → IsKnown m x → AllZip (IsUseOf m) (value_uses x) (value_symbols (value_in m x))

@@ -1,14 +1,5 @@
 -- The bytes of values and elements in sequence.
-use Rattle.std.proofs.Common.{◌≡◌, ℕ, zero, suc, ◌+◌, ◌<◌, ◌≤◌, List, [], ◌∷◌, ◌++◌, get_or, length, map, sum_by, refl, sym, ap, ◌∙◌, subst, arith, append_assoc}
-use Rattle.std.proofs.lemmas.List.{length-map, get_or-map}
-use Rattle.std.proofs.lemmas.List.Sums.{sum_by-cons}
-use Rattle.std.specs.List.{flat_map}
-use Rattle.dexspec.specs.Numbers.{uleb128}
-use Rattle.dexval.specs.declared.value.Value.{Value}
-use Rattle.dexval.specs.declared.value.Element.{Element}
-use Rattle.dexval.specs.Code.{value_of, element_of}
-use Rattle.dexval.specs.Numbered.{NumberedValue, values_of_list, elements_of_list}
-use Rattle.dexval.specs.Spelled.{values_count, elements_count, numbered_weight, numbered_values_weight, numbered_elements_weight, numbered_bytes, numbered_values_bytes, numbered_elements_bytes}
+use Rattle.dexval.proofs.Common.{◌≡◌, ℕ, zero, suc, ◌+◌, ◌<◌, ◌≤◌, List, [], ◌∷◌, ◌++◌, get_or, length, map, sum_by, refl, sym, ap, ◌∙◌, subst, arith, append_assoc, length-map, get_or-map, sum_by-cons, flat_map, uleb128, Value, Element, value_of, element_of, NumberedValue, values_of_list, elements_of_list, values_count, elements_count, numbered_weight, numbered_values_weight, numbered_elements_weight, numbered_bytes, numbered_values_bytes, numbered_elements_bytes}
 use Rattle.dexval.proofs.CodeForms.{element_is}
 
 -- ---- values
@@ -38,8 +29,7 @@ element_spelled e = uleb128 e.name ++ value_spelled e.value
 pub elements_are_spelled : (xs : List Element) → flat_map element_spelled xs ≡ numbered_elements_bytes (elements_of_list (map element_of xs))
 elements_are_spelled [] = refl
 elements_are_spelled (x ∷ xs) =
-    let rest = elements_of_list (map element_of xs) in
-    ap (λ (l : List ℕ). element_spelled x ++ l) (elements_are_spelled xs) ∙ append_assoc (uleb128 x.name) (value_spelled x.value) (numbered_elements_bytes rest)
+    ap (λ (l : List ℕ). element_spelled x ++ l) (elements_are_spelled xs) ∙ append_assoc (uleb128 x.name) (value_spelled x.value) (numbered_elements_bytes (elements_of_list (map element_of xs)))
     ∙ ap (λ (e : ℕ × NumberedValue). numbered_elements_bytes (elements_of_list (e ∷ map element_of xs))) (sym (element_is x))
 
 elements_count_of_list : (ys : List (ℕ × NumberedValue)) → elements_count (elements_of_list ys) ≡ length ys
@@ -91,5 +81,4 @@ values_weigh (x ∷ xs) = omega (arith, sum_by-cons value_weighs x xs, values_we
 pub elements_weigh : (xs : List Element) → sum_by element_weighs xs ≡ numbered_elements_weight (elements_of_list (map element_of xs))
 elements_weigh [] = refl
 elements_weigh (x ∷ xs) =
-    let here = ap (λ (e : ℕ × NumberedValue). numbered_elements_weight (elements_of_list (e ∷ map element_of xs))) (element_is x) in
-    omega (arith, sum_by-cons element_weighs x xs, elements_weigh xs, here)
+    omega (arith, sum_by-cons element_weighs x xs, elements_weigh xs, ap (λ (e : ℕ × NumberedValue). numbered_elements_weight (elements_of_list (e ∷ map element_of xs))) (element_is x))

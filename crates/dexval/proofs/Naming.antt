@@ -1,12 +1,5 @@
 -- The items of a directory that were read, and their places in the table.
-use Rattle.std.proofs.Common.{◌≡◌, ℕ, ◌<◌, List, [], ◌∷◌, ◌++◌, length, ap, sym, subst, inl, inr, arith, Option, Some}
-use Rattle.std.specs.List.{All, Contains}
-use Rattle.std.proofs.lemmas.List.Elements.{All-append, All-cons, All-nil, Contains-append_left, Contains-push}
-use Rattle.dexval.specs.declared.directory_cache.DirectoryCache.{DirectoryCache}
-use Rattle.dexval.specs.DirectoryCache.{IsNoted, IsNamedOf}
-use Rattle.dexval.specs.Numbered.{NumberedSet}
-use Rattle.dexval.specs.Shared.{HoldsPlaces, NamesAll, IsNamedBy, sets_of_members}
-use Rattle.dexval.specs.Tables.{NumberedTable, Extends, IsListed, IsPlaceIn, set_at}
+use Rattle.dexval.proofs.Common.{◌≡◌, ℕ, ◌<◌, List, [], ◌∷◌, ◌++◌, length, ap, sym, subst, inl, inr, arith, Option, Some, All, Contains, All-append, All-cons, All-nil, Contains-append_left, Contains-push, DirectoryCache, IsNoted, IsNamedOf, NumberedSet, HoldsPlaces, NamesAll, IsNamedBy, sets_of_members, NumberedTable, Extends, IsListed, IsPlaceIn, set_at}
 use Rattle.dexval.proofs.CachedSets.{one_place}
 use Rattle.dexval.proofs.TableGrowth.{extends_then, new_then}
 use Rattle.dexval.proofs.Tables.{map_stays, all_as}

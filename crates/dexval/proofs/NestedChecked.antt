@@ -1,25 +1,15 @@
 -- Nested values and annotations that are checked: each item that a reader would read is there.
-use Rattle.std.proofs.Common.{◌≡◌, ◌≢◌, ℕ, ◌+◌, ◌-◌, ◌<◌, ◌≤◌, List, [], ◌∷◌, ◌++◌, length, refl, ap, arith}
-use Rattle.std.specs.Prelude.{slice_index}
-use Rattle.dexspec.specs.Numbers.{Uleb128At}
-use Rattle.dexspec.specs.Values.{value_depth}
-use Rattle.dexspec.specs.Mentions.{Mentions}
-use Rattle.dexpool.specs.Pools.{ArePools}
-use Rattle.dexval.specs.Checking.{HasValue, HasArray, HasElement, HasElements, HasAnnotation}
-use Rattle.dexval.specs.Nesting.{HasPools, NoArrayAt, NoElementsAt, NoElementAt}
-use Rattle.dexval.specs.Numbered.{NumberedValue, Plain, Named, Array, Annotated, values_of_list, elements_of_list, value_in}
-use Rattle.dexval.specs.internal.Scalars.{NoValueAt, IsReadAt}
-use Rattle.dexval.specs.Spelled.{values_count, numbered_weight, numbered_values_weight, numbered_elements_weight}
+use Rattle.dexval.proofs.Common.{◌≡◌, ◌≢◌, ℕ, ◌+◌, ◌-◌, ◌<◌, ◌≤◌, List, [], ◌∷◌, ◌++◌, length, refl, ap, arith, slice_index, Uleb128At, value_depth, Mentions, ArePools, HasValue, HasArray, HasElement, HasElements, HasAnnotation, HasPools, NoArrayAt, NoElementsAt, NoElementAt, NumberedValue, Array, Annotated, values_of_list, elements_of_list, value_in, NoValueAt, IsReadAt, numbered_weight, numbered_values_weight, numbered_elements_weight}
 use Rattle.dexval.proofs.ElementsRead.{HaveReadOf, no_element_read, one_element_more, no_next_element, all_elements_read, annotation_read}
+use Rattle.dexval.proofs.Members.{count_of_list}
 use Rattle.dexval.proofs.NestedRead.{array_encoded, annotation_encoded}
 use Rattle.dexval.proofs.ValuesRead.{HaveRead, none_read, one_more, no_next, no_values, all_read}
 
 -- a value that holds no other value weighs 9
 flat_weight : (m : Mentions) (x : NumberedValue) → value_depth (value_in m x) ≤ 0 → numbered_weight x ≡ 9
-flat_weight m (Plain literal) flat = refl
-flat_weight m (Named reference i) flat = refl
 flat_weight m (Array xs) flat = absurd (omega (arith, flat))
 flat_weight m (Annotated t es) flat = absurd (omega (arith, flat))
+flat_weight m x flat = refl
 
 pub flat_checked : (b : List ℕ) (o : ℕ) (m : Mentions) (depth : ℕ) (x : NumberedValue) (n : ℕ) → IsReadAt b o m 0 x n → HasValue b o m depth n 9
 flat_checked b o m depth x n h = record { value = x; read = record { known = h.known; encodes = h.encodes; shallow = omega (arith, h.shallow) }; weighs = flat_weight m x h.shallow }
@@ -60,16 +50,12 @@ module _ (b : List ℕ) (m : Mentions) (o depth count : ℕ) where
 pub no_value_next : (b : List ℕ) (m : Mentions) (o depth count head i k weight : ℕ) → Uleb128At b o count head → i < count → ValuesChecked b (o + head) m depth count i k weight → NoValueAt b (o + head + k) depth → NoArrayAt b o depth
 no_value_next b m o depth count head i k weight number lt h none = no_values b m o depth count head number (no_next b m (o + head) depth count i h.values k lt h.so_far none)
 
-values_are : (xs : List NumberedValue) → values_count (values_of_list xs) ≡ length xs
-values_are [] = refl
-values_are (x ∷ xs) = omega (arith, values_are xs)
-
 -- all were checked
 pub values_checked : (b : List ℕ) (m : Mentions) (o depth count head i k weight : ℕ) → Uleb128At b o count head → i ≡ count → ValuesChecked b (o + head) m depth count i k weight → HasArray b o m depth count (head + k) weight
 values_checked b m o depth count head i k weight number all h = record {
   values = values_of_list h.values;
   read = all_read b m o depth count i head h.values k number all h.so_far;
-  counted = omega (arith, values_are h.values, h.so_far.number, all);
+  counted = omega (arith, count_of_list h.values, h.so_far.number, all);
   weighs = h.weighed;
 }
 

@@ -1,12 +1,6 @@
 -- Arrays and annotations as values.
-use Rattle.std.proofs.Common.{◌≡◌, ◌≢◌, ℕ, ◌+◌, ◌-◌, ◌<◌, ◌≤◌, List, length, Option, Some, None, Result, Ok, Err, refl, subst, arith}
-use Rattle.std.specs.Prelude.{slice_index, MatchOption}
-use Rattle.dexspec.specs.Values.{Value, ValueAt, value_depth}
-use Rattle.dexspec.specs.Mentions.{Mentions}
-use Rattle.dexpool.specs.Pools.{ArePools}
-use Rattle.dexval.specs.Numbered.{NumberedValue, NumberedValues, NumberedElements, Array, Annotated}
-use Rattle.dexval.specs.internal.Scalars.{NoValueAt, IsReadAt}
-use Rattle.dexval.specs.Nesting.{NoArrayAt, AreReadAt, NoAnnotationAt, IsAnnotationReadAt}
+use Rattle.dexval.proofs.Common.{◌≡◌, ◌≢◌, ℕ, ◌+◌, ◌-◌, ◌<◌, ◌≤◌, List, length, Option, Some, None, Result, Ok, Err, refl, subst, arith, slice_index, MatchOption, ValueAt, value_depth, Mentions, ArePools, NumberedValue, NumberedValues, NumberedElements, Array, Annotated, NoValueAt, IsReadAt, NoArrayAt, AreReadAt, NoAnnotationAt, IsAnnotationReadAt}
+use Rattle.dexspec.specs.Values.{Value}
 use Rattle.dexval.proofs.Shapes.{is_at_byte, value_within, array_only, annotation_only}
 
 -- a result is not both a value and an error
@@ -21,15 +15,11 @@ module _ (b : List ℕ) (o depth : ℕ) (m : Mentions) (p : ArePools b m) where
   -- without depth there is no value that holds other values
   pub no_deep_array : slice_index b o ≡ 28 → depth ≡ 0 → NoValueAt b o depth
   no_deep_array is none v n h d =
-      let a = array_only b o m v n p is h in
-      let deep = subst (λ (x : Value). value_depth x ≤ depth) a.1 d in
-      omega (arith, deep)
+      omega (arith, subst (λ (x : Value). value_depth x ≤ depth) (array_only b o m v n p is h).1 d)
 
   pub no_deep_annotation : slice_index b o ≡ 29 → depth ≡ 0 → NoValueAt b o depth
   no_deep_annotation is none v n h d =
-      let a = annotation_only b o m v n p is h in
-      let deep = subst (λ (x : Value). value_depth x ≤ depth) a.2 d in
-      omega (arith, deep)
+      omega (arith, subst (λ (x : Value). value_depth x ≤ depth) (annotation_only b o m v n p is h).2 d)
 
   -- an array after its first byte
   pub array_encoded : (xs : NumberedValues) (n : ℕ) → o < length b → slice_index b o ≡ 28 → depth ≢ 0 → AreReadAt b (o + 1) m (depth - 1) xs n → IsReadAt b o m depth (Array xs) (1 + n)
@@ -39,8 +29,7 @@ module _ (b : List ℕ) (o depth : ℕ) (m : Mentions) (p : ArePools b m) where
   no_array is none v n h d =
       let a = array_only b o m v n p is h in
       let w = subst (λ (x : Value). ValueAt b o x n) a.1 h in
-      let deep = subst (λ (x : Value). value_depth x ≤ depth) a.1 d in
-      none a.0 w.1 w.2 (omega (arith, deep))
+      none a.0 w.1 w.2 (omega (arith, subst (λ (x : Value). value_depth x ≤ depth) a.1 d))
 
   -- an annotation after its first byte
   pub annotation_encoded : (t : ℕ) (es : NumberedElements) (n : ℕ) → o < length b → slice_index b o ≡ 29 → depth ≢ 0 → IsAnnotationReadAt b (o + 1) m (depth - 1) t es n → IsReadAt b o m depth (Annotated t es) (1 + n)
@@ -50,8 +39,7 @@ module _ (b : List ℕ) (o depth : ℕ) (m : Mentions) (p : ArePools b m) where
   no_annotation is none v n h d =
       let a = annotation_only b o m v n p is h in
       let w = subst (λ (x : Value). ValueAt b o x n) a.2 h in
-      let deep = subst (λ (x : Value). value_depth x ≤ depth) a.2 d in
-      none a.0 a.1 w.1 w.2 (omega (arith, deep))
+      none a.0 a.1 w.1 w.2 (omega (arith, subst (λ (x : Value). value_depth x ≤ depth) a.2 d))
 
   -- a value that holds no other value nests at most as deep as any bound
   pub deeper : {X : Type 0} (x_of : X → NumberedValue) (n_of : X → ℕ) (r : Option X) → MatchOption r ((d : ℕ) → NoValueAt b o d) (λ x. IsReadAt b o m 0 (x_of x) (n_of x)) → MatchOption r (NoValueAt b o depth) (λ x. IsReadAt b o m depth (x_of x) (n_of x))

@@ -1,26 +1,8 @@
 -- Where the annotations of a set begin.
-use Rattle.std.proofs.Common.{◌≡◌, All, ℕ, zero, suc, ◌+◌, ◌*◌, ◌^◌, ◌<◌, ◌≤◌, List, [], ◌∷◌, ◌++◌, get_or, length, length-take, take, map, sum_by, refl, sym, ap, ◌∙◌, subst, arith}
-use Rattle.std.specs.Prelude.{Result}
-use Rattle.std.specs.Global.{Vec}
-use Rattle.std.proofs.lemmas.List.Sums.{sum_by-cons}
-use Rattle.std.proofs.lemmas.List.{length-append, length-map, take-map, take_all, take_more, map-append, append-nil}
-use Rattle.std.proofs.lemmas.Grind.{flat_map-append}
-use Rattle.std.specs.List.{flat_map}
-use Rattle.dexspec.specs.Bytes.{uint, round_up}
-use Rattle.dexspec.specs.Numbers.{uleb128}
+use Rattle.dexval.proofs.Common.{◌≡◌, All, ℕ, zero, suc, ◌+◌, ◌*◌, ◌^◌, ◌<◌, ◌≤◌, List, [], ◌∷◌, ◌++◌, get_or, length, length-take, take, map, sum_by, refl, sym, ap, ◌∙◌, subst, arith, Result, Vec, sum_by-cons, length-append, length-map, take-map, take_all, take_more, map-append, append-nil, flat_map-append, flat_map, uint, round_up, uleb128, offsets_bytes-size, AnnotationSet, Mentions, annotation_bytes, offsets_bytes, Puts, AreRising, Annotation, annotation_of, NumberedAnnotation, NumberedSet, IsKnownSet, annotation_in, set_in, DenotesSet, elements_count, count_bytes, numbered_elements_bytes, numbered_annotation_bytes, numbered_offsets, numbered_set_bytes, numbered_annotation_weight, numbered_set_weight}
 use Rattle.dexspec.specs.Placing.{offsets_from, end_from}
 use Rattle.dexspec.proofs.layout.Places.{length-offsets_from}
 use Rattle.dexspec.proofs.numbers.Spellings.{uleb128_bounds}
-use Rattle.dexspec.proofs.size.SizeItems.{offsets_bytes-size}
-use Rattle.dexspec.specs.Annotations.{AnnotationSet}
-use Rattle.dexspec.specs.Mentions.{Mentions}
-use Rattle.dexspec.specs.Spellings.{annotation_bytes, offsets_bytes}
-use Rattle.dexspec.specs.internal.Writing.{Puts}
-use Rattle.dexpool.specs.Numberings.{AreRising}
-use Rattle.dexval.specs.declared.annotation.Annotation.{Annotation}
-use Rattle.dexval.specs.Code.{annotation_of}
-use Rattle.dexval.specs.Numbered.{NumberedAnnotation, NumberedSet, IsKnownSet, annotation_in, set_in, DenotesSet}
-use Rattle.dexval.specs.Spelled.{elements_count, count_bytes, numbered_elements_bytes, numbered_annotation_bytes, numbered_offsets, numbered_set_bytes, numbered_annotation_weight, numbered_set_weight}
 use Rattle.dexval.proofs.Spelling.{annotation_lengths_are}
 
 -- ---- items in sequence
@@ -114,8 +96,7 @@ set_size first s = omega (arith, offsets_bytes-size (numbered_offsets first s), 
 -- it begins with the number of annotations
 pub set_begins : (first : ℕ) (xs : List Annotation) → uint (length xs) ++ offsets_spelled first xs ≡ numbered_set_bytes first (map annotation_of xs)
 set_begins first xs =
-    let count = length-offsets_from 1 first (items_of xs) ∙ length-map (map annotation_of xs) numbered_annotation_bytes ∙ length-map xs annotation_of in
-    ap (λ (n : ℕ). uint n ++ offsets_spelled first xs) (sym count)
+    ap (λ (n : ℕ). uint n ++ offsets_spelled first xs) (sym (length-offsets_from 1 first (items_of xs) ∙ length-map (map annotation_of xs) numbered_annotation_bytes ∙ length-map xs annotation_of))
 
 heavy : (s : NumberedSet) → 4 * length s ≤ sum_by (λ (a : NumberedAnnotation). 4 + numbered_annotation_weight a) s
 heavy [] = omega arith

@@ -1,10 +1,5 @@
 -- Items of a table have each an offset of their own, so that there are fewer than 2^32.
-use Rattle.std.proofs.Common.{◌≡◌, ◌≢◌, ℕ, zero, suc, ◌+◌, ◌-◌, ◌<◌, ◌≤◌, ◌^◌, false, List, [], ◌∷◌, length, get_or, Option, Some, None, nat_eq, refl, sym, ap, subst, ◌∙◌, inl, inr, arith, ne_eqb}
-use Rattle.std.specs.List.{Contains}
-use Rattle.std.proofs.lemmas.List.Elements.{Contains-get_or}
-use Rattle.dexspec.specs.Lists.{AreDistinct}
-use Rattle.dexspec.proofs.lists.Members.{Contains-nil, Contains-cons_cases, length-among}
-use Rattle.dexval.specs.DirectoryCache.{HaveOffsets}
+use Rattle.dexval.proofs.Common.{◌≡◌, ◌≢◌, ℕ, zero, suc, ◌+◌, ◌-◌, ◌<◌, ◌≤◌, ◌^◌, false, List, [], ◌∷◌, length, get_or, Option, Some, None, nat_eq, refl, sym, ap, subst, ◌∙◌, inl, inr, arith, ne_eqb, Contains, Contains-get_or, AreDistinct, Contains-nil, Contains-cons_cases, length-among, HaveOffsets}
 
 -- ---- numbers below another
 

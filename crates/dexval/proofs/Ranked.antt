@@ -1,19 +1,7 @@
 -- A value determines its numbers: each number is the rank of its symbol.
-use Rattle.std.proofs.Common.{◌≡◌, ℕ, [], ◌∷◌, map, refl, ap, sym, ◌∙◌, subst}
-use Rattle.std.specs.Prelude.{◌↔◌, All}
-use Rattle.std.proofs.lemmas.List.Elements.{All-head, All-tail}
-use Rattle.dexspec.specs.Lists.{rank}
-use Rattle.dexspec.specs.Texts.{text_cmp}
-use Rattle.dexspec.specs.Symbols.{field_cmp, method_cmp}
-use Rattle.dexspec.specs.Values.{Value, ByteValue, ShortValue, CharValue, IntValue, LongValue, FloatValue, DoubleValue, StringValue, TypeValue, FieldValue, MethodValue, EnumValue, ArrayValue, AnnotationValue, NullValue, BooleanValue, Values, NoValues, ThenValue, Elements, NoElements, ThenElement}
-use Rattle.dexspec.specs.Annotations.{Annotation, AnnotationSet}
-use Rattle.dexspec.specs.Mentions.{Mentions}
-use Rattle.dexpool.specs.Laws.{RanksAreNumbers}
-use Rattle.dexpool.specs.Numberings.{Maps, AllMapTo}
-use Rattle.dexpool.specs.Uses.{IsMappedUse}
-use Rattle.dexval.specs.Numbered.{Literal, ByteLiteral, ShortLiteral, CharLiteral, IntLiteral, LongLiteral, FloatLiteral, DoubleLiteral, NullLiteral, BooleanLiteral, Reference, StringReference, TypeReference, FieldReference, MethodReference, EnumReference, NumberedValue, NumberedValues, NumberedElements, NumberedAnnotation, NumberedSet, Plain, Named, Array, Annotated, NoValue, ThenNext, NoElement, ThenNamed, plain_value, named_value, value_in, values_in, elements_in, annotation_in, set_in, IsKnown, AreKnown, HaveKnown, IsKnownAnnotation, IsKnownSet, Denotes, Denote, DenotesSet}
-use Rattle.dexval.specs.Renumbering.{renumbered, renumbered_values, renumbered_set}
-use Rattle.dexval.specs.Uses.{value_uses, values_uses, set_uses}
+use Rattle.dexval.proofs.Common.{◌≡◌, ℕ, [], ◌∷◌, map, refl, ap, sym, ◌∙◌, subst, ◌↔◌, All, All-head, All-tail, rank, text_cmp, field_cmp, method_cmp, ByteValue, ShortValue, CharValue, IntValue, LongValue, FloatValue, DoubleValue, StringValue, TypeValue, FieldValue, MethodValue, EnumValue, ArrayValue, AnnotationValue, NullValue, BooleanValue, Values, NoValues, ThenValue, Elements, NoElements, ThenElement, AnnotationSet, Mentions, RanksAreNumbers, Maps, AllMapTo, IsMappedUse, Literal, ByteLiteral, ShortLiteral, CharLiteral, IntLiteral, LongLiteral, FloatLiteral, DoubleLiteral, NullLiteral, BooleanLiteral, Reference, StringReference, TypeReference, FieldReference, MethodReference, EnumReference, NumberedValue, NumberedValues, NumberedElements, NumberedAnnotation, NumberedSet, Plain, Named, Array, Annotated, NoValue, ThenNext, NoElement, ThenNamed, plain_value, named_value, value_in, values_in, elements_in, annotation_in, set_in, IsKnown, AreKnown, HaveKnown, IsKnownAnnotation, IsKnownSet, Denotes, Denote, DenotesSet, renumbered, renumbered_values, renumbered_set, value_uses, values_uses, set_uses}
+use Rattle.dexspec.specs.Values.{Value}
+use Rattle.dexspec.specs.Annotations.{Annotation}
 use Rattle.dexval.proofs.Meanings.{value_keeps, values_keep, set_keeps}
 
 -- ---- values with symbols replaced by their ranks
@@ -56,14 +44,7 @@ ranked_annotation m a = numbered_with a.visibility (rank text_cmp a.type m.types
 
 plain_ranked : (m : Mentions) (l : Literal) → ranked m (plain_value l) ≡ Plain l
 plain_ranked m (ByteLiteral z) = refl
-plain_ranked m (ShortLiteral z) = refl
-plain_ranked m (CharLiteral u) = refl
-plain_ranked m (IntLiteral z) = refl
-plain_ranked m (LongLiteral z) = refl
-plain_ranked m (FloatLiteral bits) = refl
-plain_ranked m (DoubleLiteral bits) = refl
-plain_ranked m NullLiteral = refl
-plain_ranked m (BooleanLiteral is) = refl
+plain_ranked m x = refl
 
 module _ (m : Mentions) (ranks : RanksAreNumbers m) where
   named_ranked : (x : Reference) (i : ℕ) → IsKnown m (Named x i) → ranked m (named_value m x i) ≡ Named x i

@@ -1,13 +1,11 @@
 -- Refusals of annotations, sets and directories.
-use Rattle.std.proofs.Common.{◌≡◌, ℕ, ◌+◌, ◌-◌, ◌^◌, ◌≤◌, min, List, refl, ap, arith, inl, inr}
-use Rattle.dexspec.specs.Annotations.{DirectoryAt}
-use Rattle.dexpool.specs.declared.faults.ItemFault.{ItemFault}
+use Rattle.dexval.proofs.Common.{◌≡◌, ◌∙◌, ℕ, ◌+◌, ◌-◌, ◌^◌, ◌≤◌, min, List, Result, Err, refl, ap, arith, inl, inr, IsErrAnd, DirectoryAt, ItemFault, Budget, NoSetAt, IsRefusal, NoDirectoryAt, directory_weight, IsSetFault, IsDirectoryFault, IsDirectoryFaultWithin, Counts, IsFaultWithin, IsTooHeavy}
+use Rattle.std.proofs.lemmas.Result.{err_from_is_err_and}
 use Rattle.dexpool.specs.declared.faults.ItemFault.TheVariants.{Refused, Memory}
-use Rattle.dexval.specs.declared.budget.Budget.{Budget}
-use Rattle.dexval.specs.Items.{NoSetAt, IsRefusal}
-use Rattle.dexval.specs.Directories.{NoDirectoryAt, directory_weight}
-use Rattle.dexval.specs.Reading.{IsSetFault, IsDirectoryFault, IsDirectoryFaultWithin}
-use Rattle.dexval.specs.internal.Counting.{Counts, IsFaultWithin, IsTooHeavy}
+
+-- what the exit of a `?` returns, where the fault is passed on unchanged
+pub err_is : {T E : Type 0} {fault : E} (r : Result T E) → IsErrAnd r (λ y. y ≡ fault) → r ≡ Err fault
+err_is r h = let e = err_from_is_err_and r h in e.1 ∙ ap (λ y. Err y) e.2
 
 -- if one statement implies another, so do their refusals
 pub refused_so : {P Q : Type 0} → (P → Q) → (fault : ItemFault) → IsRefusal P fault → IsRefusal Q fault

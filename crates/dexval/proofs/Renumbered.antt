@@ -1,14 +1,7 @@
 -- Lists whose members are renumbered one at a time.
-use Rattle.std.proofs.Common.{◌≡◌, ℕ, ◌+◌, ◌<◌, ◌≤◌, List, [], ◌∷◌, ◌++◌, length, drop, take, map, get_or, set, refl, ap, sym, ◌∙◌, subst, arith}
-use Rattle.std.specs.List.{All}
-use Rattle.std.proofs.lemmas.List.{drop-drop, get_or-drop, get_or-map, take_more_set, map-append, map_more, take_all, drop-set-lt, length-set, length-map}
-use Rattle.std.proofs.lemmas.List.Elements.{All-nil, All-cons, All-get_or}
-use Rattle.dexpool.specs.Numberings.{Maps}
-use Rattle.dexval.specs.Numbered.{NumberedValue, NumberedAnnotation, values_of_list, elements_of_list, ThenNext, ThenNamed}
-use Rattle.dexval.specs.Renumbering.{renumbered, renumbered_values, renumbered_elements, renumbered_element, HasPlaces, HavePlaces, ElementsHavePlaces, ElementHasPlaces, AnnotationHasPlaces, SetHasPlaces}
-use Rattle.dexpool.specs.Images.{MapsUse}
-use Rattle.dexval.specs.Uses.{value_uses, values_uses, element_uses, elements_uses, annotation_uses, set_uses}
-use Rattle.dexpool.proofs.Parts.{all_prefix, all_back}
+use Rattle.dexval.proofs.Common.{◌≡◌, ℕ, ◌+◌, ◌<◌, ◌≤◌, List, [], ◌∷◌, ◌++◌, length, drop, take, map, get_or, set, refl, ap, sym, ◌∙◌, arith, All, take_more_set, map-append, map_more, take_all, length-set, All-nil, All-cons, Maps, NumberedValue, NumberedAnnotation, values_of_list, elements_of_list, ThenNext, ThenNamed, renumbered, renumbered_values, renumbered_elements, renumbered_element, HasPlaces, HavePlaces, ElementsHavePlaces, ElementHasPlaces, AnnotationHasPlaces, SetHasPlaces, MapsUse, value_uses, values_uses, element_uses, elements_uses, annotation_uses, set_uses, all_prefix, all_back}
+use Rattle.dexpool.proofs.InPlace.{same_at, rest_set}
+use Rattle.dexval.proofs.Tables.{mapped_at}
 
 -- ---- a list that is changed member by member
 
@@ -18,31 +11,23 @@ pub record AreRemapped {X Y : Type 0} (of : X → Y) (f : Y → Y) (i : ℕ) (ol
   pub rest : drop i new ≡ drop i old
   pub size : length new ≡ length old
 
-same_member : {X : Type 0} (xs ys : List X) (i : ℕ) (d : X) → drop i xs ≡ drop i ys → get_or xs i d ≡ get_or ys i d
-same_member xs ys i d e =
-    let z : i + 0 ≡ i = omega arith in
-    ap (λ (k : ℕ). get_or xs k d) (sym z) ∙ sym (get_or-drop i xs 0 d) ∙ ap (λ zs. get_or zs 0 d) e ∙ get_or-drop i ys 0 d ∙ ap (λ (k : ℕ). get_or ys k d) z
-
 -- the next member is the old one
 pub next_is : {X Y : Type 0} (of : X → Y) (f : Y → Y) (old new : List X) (i : ℕ) (x : X) → AreRemapped of f i old new → x ≡ get_or new i x → x ≡ get_or old i x
-next_is of f old new i x h e = e ∙ same_member new old i x h.rest
+next_is of f old new i x h e = e ∙ same_at old new i h.rest x
 
 -- a property of all old models holds for the next one
 pub next_member : {X Y : Type 0} (of : X → Y) (f : Y → Y) (P : Y → Type 0) (old new : List X) (i : ℕ) (x : X) → AreRemapped of f i old new → i < length old → All P (map of old) → x ≡ get_or new i x → P (of x)
-next_member of f P old new i x h lt all e =
-    let inside : i < length (map of old) = omega (arith, length-map old of) in
-    subst P (get_or-map of old i x (of x) lt ∙ ap of (sym (next_is of f old new i x h e))) (All-get_or P (map of old) i (of x) inside all)
+next_member of f P old new i x h lt all e = mapped_at of P old i x lt (next_is of f old new i x h e) all
 
 -- one more member
 pub remapped_more : {X Y : Type 0} (of : X → Y) (f : Y → Y) (old new : List X) (i : ℕ) (x y : X) → AreRemapped of f i old new → i < length old → x ≡ get_or new i x → of y ≡ f (of x) → AreRemapped of f (i + 1) old (set new i y)
 remapped_more of f old new i x y h lt e is =
     let inside : i < length new = omega (arith, h.size) in
-    let more : i < i + 1 = omega arith in
     let here : of y ≡ f (of (get_or old i x)) = is ∙ ap (λ z. f (of z)) (next_is of f old new i x h e) in
     record {
       prefix = ap (map of) (take_more_set new i y inside) ∙ map-append of (take i new) (y ∷ []) ∙ ap (λ zs. zs ++ of y ∷ []) h.prefix ∙ ap (λ z. map f (map of (take i old)) ++ z ∷ []) here
           ∙ sym (map-append f (map of (take i old)) (of (get_or old i x) ∷ [])) ∙ ap (map f) (sym (map_more of old i x lt));
-      rest = drop-set-lt (i + 1) new i y more ∙ sym (drop-drop 1 i new) ∙ ap (drop 1) h.rest ∙ drop-drop 1 i old;
+      rest = rest_set old new i h.rest y;
       size = length-set new i y ∙ h.size;
     }
 

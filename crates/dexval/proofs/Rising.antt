@@ -1,10 +1,5 @@
 -- Lists that rise, and lists that grow at their ends.
-use Rattle.std.proofs.Common.{◌≡◌, ℕ, zero, suc, ◌<◌, true, List, [], ◌∷◌, ◌++◌, length, slice_index_or, refl, ap, sym, ◌∙◌, arith, inl, inr, append_assoc, Ordering}
-use Rattle.std.proofs.lemmas.Bool.{cases_lt}
-use Rattle.std.specs.Ordering.{is_lt, nat_cmp}
-use Rattle.dexspec.specs.Lists.{rises}
-use Rattle.dexspec.specs.Texts.{Text, text_cmp}
-use Rattle.dexspec.proofs.lists.Members.{and_first, and_second, and_both}
+use Rattle.dexval.proofs.Common.{◌≡◌, ℕ, zero, suc, ◌<◌, true, List, [], ◌∷◌, ◌++◌, length, slice_index_or, refl, ap, sym, ◌∙◌, arith, inl, inr, append_assoc, Ordering, cases_lt, is_lt, nat_cmp, rises, Text, text_cmp, and_first, and_second, and_both}
 use Rattle.dexspec.proofs.merge.SymbolOrders.{text_total}
 use Rattle.dexpool.proofs.NumberOrder.{places_agree}
 

@@ -1,13 +1,6 @@
 -- Values that hold no other value, as they are read: a value that is read is at the offset, and if none is read, none
 -- is at the offset.
-use Rattle.std.proofs.Common.{◌≡◌, ◌≢◌, ℕ, ◌%◌, List, [], Some, None, refl, ap, sym, subst, ◌∙◌, arith}
-use Rattle.std.specs.Prelude.{slice_index}
-use Rattle.dexspec.specs.Bytes.{number_of}
-use Rattle.dexspec.specs.Values.{SizedAt}
-use Rattle.dexspec.specs.Mentions.{Mentions}
-use Rattle.dexpool.specs.Pools.{ArePools}
-use Rattle.dexval.specs.Numbered.{NumberedValue, Plain, Named, Array, Annotated, ByteLiteral, ShortLiteral, CharLiteral, IntLiteral, LongLiteral, FloatLiteral, DoubleLiteral, NullLiteral, BooleanLiteral, StringReference, TypeReference, FieldReference, MethodReference, EnumReference}
-use Rattle.dexval.specs.internal.Scalars.{width_of, IsUnknown, Spells, NoValueAt, IsReadAt}
+use Rattle.dexval.proofs.Common.{◌≡◌, ◌≢◌, ℕ, ◌%◌, List, [], Some, None, refl, ap, sym, subst, ◌∙◌, arith, slice_index, number_of, SizedAt, Mentions, ArePools, NumberedValue, Plain, Named, ByteLiteral, ShortLiteral, CharLiteral, IntLiteral, LongLiteral, FloatLiteral, DoubleLiteral, StringReference, TypeReference, FieldReference, MethodReference, EnumReference, width_of, IsUnknown, Spells, NoValueAt, IsReadAt}
 use Rattle.dexval.proofs.Shapes.{sized_only, one_number}
 
 module _ (b : List ℕ) (o : ℕ) (m : Mentions) (p : ArePools b m) where
@@ -26,15 +19,12 @@ module _ (b : List ℕ) (o : ℕ) (m : Mentions) (p : ArePools b m) where
   spelled_encoded code width bytes n (Plain (LongLiteral z)) w h s = record { known = tt; encodes = (bytes, as_code code 0x06 width 8 bytes n s.0 w refl h, s.1); shallow = omega arith }
   spelled_encoded code width bytes n (Plain (FloatLiteral bits)) w h s = record { known = tt; encodes = (bytes, as_code code 0x10 width 4 bytes n s.0 w refl h, s.1); shallow = omega arith }
   spelled_encoded code width bytes n (Plain (DoubleLiteral bits)) w h s = record { known = tt; encodes = (bytes, as_code code 0x11 width 8 bytes n s.0 w refl h, s.1); shallow = omega arith }
-  spelled_encoded code width bytes n (Plain NullLiteral) w h s = absurd s
-  spelled_encoded code width bytes n (Plain (BooleanLiteral is)) w h s = absurd s
   spelled_encoded code width bytes n (Named StringReference i) w h s = record { known = s.1.known; encodes = (i, (bytes, as_code code 0x17 width 4 bytes n s.0 w refl h, s.1.is), p.texts_are.each i [] (omega (arith, s.1.known, p.texts_are.count))); shallow = omega arith }
   spelled_encoded code width bytes n (Named TypeReference i) w h s = record { known = s.1.known; encodes = (i, (bytes, as_code code 0x18 width 4 bytes n s.0 w refl h, s.1.is), p.types_are.each i [] (omega (arith, s.1.known, p.types_are.count))); shallow = omega arith }
   spelled_encoded code width bytes n (Named FieldReference i) w h s = record { known = s.1.known; encodes = (i, (bytes, as_code code 0x19 width 4 bytes n s.0 w refl h, s.1.is), p.fields_are.each i _ (omega (arith, s.1.known, p.fields_are.count))); shallow = omega arith }
   spelled_encoded code width bytes n (Named MethodReference i) w h s = record { known = s.1.known; encodes = (i, (bytes, as_code code 0x1a width 4 bytes n s.0 w refl h, s.1.is), p.methods_are.each i _ (omega (arith, s.1.known, p.methods_are.count))); shallow = omega arith }
   spelled_encoded code width bytes n (Named EnumReference i) w h s = record { known = s.1.known; encodes = (i, (bytes, as_code code 0x1b width 4 bytes n s.0 w refl h, s.1.is), p.fields_are.each i _ (omega (arith, s.1.known, p.fields_are.count))); shallow = omega arith }
-  spelled_encoded code width bytes n (Array xs) w h s = absurd s
-  spelled_encoded code width bytes n (Annotated t es) w h s = absurd s
+  spelled_encoded code width bytes n x w h s = absurd s
 
   module _ (c : slice_index b o ≢ 0x1c) (d : slice_index b o ≢ 0x1d) (e : slice_index b o ≢ 0x1e) (f : slice_index b o ≢ 0x1f) (t : slice_index b o ≢ 0x3f) (depth : ℕ) where
     -- a type code that has no width
@@ -52,6 +42,5 @@ module _ (b : List ℕ) (o : ℕ) (m : Mentions) (p : ArePools b m) where
     pub no_symbol : (width : ℕ) (xs : List ℕ) (k : ℕ) → width_of (slice_index b o % 32) ≡ Some width → SizedAt (slice_index b o % 32) width b o xs k → IsUnknown m (slice_index b o % 32) xs → NoValueAt b o depth
     no_symbol width xs k w g u v n h shallow =
         let s = sized_only b o m v n p c d e f t h in
-        let same = one_number (slice_index b o % 32) s.width width b o s.bytes xs n k s.encodes g in
         let named = u.names width w in
-        omega (arith, u.unknown named.0 named.1, s.known named.0 named.1, ap number_of same)
+        omega (arith, u.unknown named.0 named.1, s.known named.0 named.1, ap number_of (one_number (slice_index b o % 32) s.width width b o s.bytes xs n k s.encodes g))

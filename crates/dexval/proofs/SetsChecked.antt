@@ -1,19 +1,5 @@
 -- The annotations of a set, checked one after the other.
-use Rattle.std.proofs.Common.{◌≡◌, ℕ, ◌+◌, ◌*◌, ◌<◌, ◌≤◌, List, [], ◌∷◌, ◌++◌, length, sum_by, refl, sym, subst, ◌∙◌, arith}
-use Rattle.std.proofs.lemmas.List.{length-map}
-use Rattle.std.proofs.lemmas.List.Sums.{sum_by-append, sum_by-cons}
-use Rattle.std.specs.Prelude.{slice_index}
-use Rattle.dexspec.specs.Bytes.{uint_at, uints_at}
-use Rattle.dexspec.specs.Header.{data_off}
-use Rattle.dexspec.specs.Values.{most_depth}
-use Rattle.dexspec.specs.Annotations.{AnnotationAt}
-use Rattle.dexspec.specs.Mentions.{Mentions}
-use Rattle.dexspec.proofs.wellformed.FormedRows.{length-uints_at, length-zip}
-use Rattle.dexval.specs.Checking.{HasAnnotation, HasItem, HasSetOf}
-use Rattle.dexval.specs.Items.{NoItemAt, NoSetAt, HasOffsets}
-use Rattle.dexval.specs.Nesting.{HasPools}
-use Rattle.dexval.specs.Numbered.{NumberedAnnotation, NumberedSet, annotation_in, set_in}
-use Rattle.dexval.specs.Spelled.{numbered_annotation_weight, numbered_set_weight}
+use Rattle.dexval.proofs.Common.{◌≡◌, ℕ, ◌+◌, ◌*◌, ◌<◌, ◌≤◌, List, [], ◌∷◌, ◌++◌, length, sum_by, refl, sym, subst, ◌∙◌, arith, length-map, sum_by-append, sum_by-cons, slice_index, uint_at, uints_at, data_off, most_depth, AnnotationAt, Mentions, length-uints_at, length-zip, HasAnnotation, HasItem, HasSetOf, NoItemAt, NoSetAt, HasOffsets, HasPools, NumberedAnnotation, NumberedSet, annotation_in, set_in, numbered_annotation_weight, numbered_set_weight}
 use Rattle.dexval.proofs.SetsRead.{HaveReadSet, item_read, none_read, one_more, no_next, no_order, all_read}
 use Rattle.dexval.proofs.Weights.{set_weight_is}
 

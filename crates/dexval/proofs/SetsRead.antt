@@ -1,26 +1,7 @@
 -- The annotations of a set that are read one after the other: the numbers of their types rise as the types do, the
 -- annotations that were read are in the file, and the other annotations come after them.
-use Rattle.std.proofs.Common.{◌≡◌, ℕ, zero, suc, ◌+◌, ◌-◌, ◌*◌, ◌<◌, ◌≤◌, true, List, [], ◌∷◌, ◌++◌, length, map, refl, ap, sym, subst, ◌∙◌, arith}
-use Rattle.std.specs.Prelude.{slice_index}
-use Rattle.std.specs.List.{AllZip}
-use Rattle.std.specs.Ordering.{is_lt}
-use Rattle.std.proofs.lemmas.List.{map-append}
-use Rattle.std.proofs.lemmas.List.Elements.{All-append, All-cons, All-nil}
-use Rattle.dexspec.specs.Lists.{rises}
-use Rattle.dexspec.specs.Bytes.{uint_at, uints_at}
-use Rattle.dexspec.specs.Header.{data_off}
-use Rattle.dexspec.specs.Texts.{Text, text_cmp}
-use Rattle.dexspec.specs.Rows.{TypeRow}
-use Rattle.dexspec.specs.Values.{most_depth}
-use Rattle.dexspec.specs.Annotations.{Annotation, AnnotationSet, AnnotationAt, SetAt}
-use Rattle.dexspec.specs.Mentions.{Mentions}
-use Rattle.dexspec.proofs.lists.Members.{and_first, and_second}
-use Rattle.dexspec.proofs.determined.OneClass.{one_annotation_item}
-use Rattle.dexspec.proofs.determined.OneRow.{one_type}
-use Rattle.dexval.specs.Numbered.{NumberedAnnotation, NumberedElements, IsKnownSet, IsKnownAnnotation, annotation_in, set_in, type_at}
-use Rattle.dexval.specs.Nesting.{HasPools, NoAnnotationAt, IsAnnotationReadAt}
-use Rattle.dexval.specs.Items.{IsItemAt, NoItemAt, NoSetAt, HasOffsets}
-use Rattle.dexval.specs.Reading.{IsSetAt}
+use Rattle.dexval.proofs.Common.{◌≡◌, ℕ, zero, suc, ◌+◌, ◌-◌, ◌*◌, ◌<◌, ◌≤◌, true, List, [], ◌∷◌, ◌++◌, length, map, refl, ap, sym, subst, ◌∙◌, arith, slice_index, AllZip, is_lt, map-append, All-append, All-cons, All-nil, rises, uint_at, uints_at, data_off, Text, text_cmp, TypeRow, most_depth, AnnotationSet, AnnotationAt, SetAt, Mentions, and_first, and_second, one_annotation_item, one_type, NumberedAnnotation, NumberedElements, IsKnownSet, IsKnownAnnotation, annotation_in, set_in, type_at, HasPools, NoAnnotationAt, IsAnnotationReadAt, IsItemAt, NoItemAt, NoSetAt, HasOffsets, IsSetAt}
+use Rattle.dexspec.specs.Annotations.{Annotation}
 use Rattle.dexval.proofs.Rising.{is_less, is_greater, one_number, rises_more}
 use Rattle.dexval.proofs.Shapes.{first_is, is_at_byte}
 
@@ -49,9 +30,8 @@ uints_more b p (suc k) =
 
 pub zip_more : {A X : Type 0} (R : A → X → Type 0) (keys : List A) (xs : List X) (a : A) (x : X) → AllZip R keys xs → R a x → AllZip R (keys ++ a ∷ []) (xs ++ x ∷ [])
 zip_more R [] [] a x h r = (r, tt)
-zip_more R [] (y ∷ ys) a x h r = absurd h
-zip_more R (c ∷ cs) [] a x h r = absurd h
 zip_more R (c ∷ cs) (y ∷ ys) a x h r = (h.0, zip_more R cs ys a x h.1 r)
+zip_more R v w a x h r = absurd h
 
 -- the type of the first annotation, if there is one, has at least this number
 abbrev pub IsAbove : List ℕ → ℕ → AnnotationSet → Type 0

@@ -1,16 +1,9 @@
 -- The values that may be at an offset, by the first byte.
-use Rattle.std.proofs.Common.{◌≡◌, ◌≢◌, ◌⊎◌, ℕ, suc, ◌-◌, ◌%◌, ◌<◌, List, [], ◌∷◌, length, drop, take, get_or, Some, None, refl, ap, subst, ◌∙◌, arith, inl, inr}
-use Rattle.std.specs.Prelude.{true, false, slice_index}
+use Rattle.dexval.proofs.Common.{◌≡◌, ◌≢◌, ◌⊎◌, ℕ, suc, ◌-◌, ◌%◌, ◌<◌, List, [], ◌∷◌, length, drop, take, get_or, Some, None, refl, ap, subst, ◌∙◌, arith, inl, inr, true, false, slice_index, number_of, BytesAt, Text, ByteValue, ShortValue, CharValue, IntValue, LongValue, FloatValue, DoubleValue, StringValue, TypeValue, FieldValue, MethodValue, EnumValue, ArrayValue, AnnotationValue, NullValue, BooleanValue, Values, Elements, value_byte, SizedAt, ValueAt, Mentions, SymbolKind, ArePools, count_of, width_of, kind_of_code}
 use Rattle.std.proofs.Math.Seq.{drop-cons}
-use Rattle.dexspec.specs.Bytes.{number_of, BytesAt}
-use Rattle.dexspec.specs.Texts.{Text}
-use Rattle.dexspec.specs.Values.{Value, ByteValue, ShortValue, CharValue, IntValue, LongValue, FloatValue, DoubleValue, StringValue, TypeValue, FieldValue, MethodValue, EnumValue, ArrayValue, AnnotationValue, NullValue, BooleanValue, Values, Elements, value_byte, SizedAt, ValueAt}
-use Rattle.dexspec.specs.Mentions.{Mentions}
+use Rattle.dexspec.specs.Values.{Value}
 use Rattle.dexspec.proofs.written.PlacedBytes.{same_first, same_bytes_at, is_at_within}
-use Rattle.dexpool.specs.declared.symbols.SymbolKind.{SymbolKind}
 use Rattle.dexpool.specs.declared.symbols.SymbolKind.TheVariants as kinds
-use Rattle.dexpool.specs.Pools.{ArePools, count_of}
-use Rattle.dexval.specs.internal.Scalars.{width_of, kind_of_code}
 
 -- ---- the first byte
 
@@ -31,8 +24,7 @@ is_at_byte b o x lt e = record { here = ap (take 1) (drop-cons b o 0 lt) ∙ ap 
 -- the bytes of the number are the bytes of the file at the offset
 pub one_number : (code width wide : ℕ) (b : List ℕ) (o : ℕ) (xs ys : List ℕ) (n k : ℕ) → SizedAt code width b o xs n → SizedAt code wide b o ys k → xs ≡ ys
 one_number code width wide b o xs ys n k h g =
-    let first = same_first (value_byte (length xs - 1) code) (value_byte (length ys - 1) code) xs ys h.encodes g.encodes in
-    let len : length xs ≡ length ys = omega (arith, first, h.some, g.some) in
+    let len : length xs ≡ length ys = omega (arith, same_first (value_byte (length xs - 1) code) (value_byte (length ys - 1) code) xs ys h.encodes g.encodes, h.some, g.some) in
     ap (λ (z : List ℕ). drop 1 z) (same_bytes_at (value_byte (length xs - 1) code ∷ xs) (value_byte (length ys - 1) code ∷ ys) h.encodes g.encodes (ap suc len))
 
 -- ---- the shapes

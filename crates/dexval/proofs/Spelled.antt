@@ -1,16 +1,6 @@
 -- Numbers of values as `byteorder` reads them.
-use Rattle.std.proofs.Common.{◌≡◌, All, ℕ, suc, ◌+◌, ◌-◌, ◌*◌, ◌%◌, ◌^◌, ◌<◌, ◌≤◌, List, [], ◌∷◌, length, get_or, refl, sym, ap, subst, ◌∙◌, arith, inl, inr}
-use Rattle.std.specs.Prelude.{ℤ, pos, negsuc, FitsSigned}
-use Rattle.std.specs.Int.{w8, w16, w32, w64}
-use Rattle.std.proofs.Math.Nat.{pow-suc, pow-le-pow_right, mod-eq_of_lt, mul-lt-mul_of_pos_right, mul_comm}
-use Rattle.std.proofs.lemmas.Nat.{pow-add}
-use Rattle.std.proofs.lemmas.List.{get_or_default}
-use Rattle.std.proofs.lemmas.Int.{ints}
-use Rattle.std.proofs.lemmas.Bool.{cases_lt, lt-ltb, le-ltb}
-use Rattle.dexspec.specs.Bytes.{number_of, signed_in}
-use Rattle.dexspec.specs.Numbers.{magnitude}
-use Rattle.dexspec.proofs.numbers.ByteNumbers.{pow_256, pow_256_pos, number_bound, signed_in_room}
-use Rattle.byteorder.specs.Endian.{little_number, twos_complement}
+use Rattle.dexval.proofs.Common.{◌≡◌, All, ℕ, suc, ◌+◌, ◌-◌, ◌*◌, ◌%◌, ◌^◌, ◌<◌, ◌≤◌, List, [], ◌∷◌, length, get_or, refl, sym, ap, subst, ◌∙◌, arith, inl, inr, ℤ, pos, negsuc, FitsSigned, w8, w16, w32, w64, pow-suc, pow-le-pow_right, mod-eq_of_lt, mul-lt-mul_of_pos_right, mul_comm, pow-add, get_or_default, ints, cases_lt, lt-ltb, le-ltb, signed_in, magnitude, pow_256, pow_256_pos, number_bound, signed_in_room, little_number, twos_complement}
+use Rattle.dexspec.specs.Bytes.{number_of}
 use Rattle.byteorder.specs.Numbers.{little_from-cons}
 
 -- an unsigned number

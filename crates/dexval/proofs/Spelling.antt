@@ -1,60 +1,24 @@
 -- The encoding of numbered items is the encoding of the symbols that the numbers denote, and is at most as long as the
 -- items weigh.
-use Rattle.std.proofs.Common.{◌≡◌, ℕ, suc, ◌+◌, ◌^◌, ◌<◌, ◌≤◌, List, [], ◌∷◌, ◌++◌, length, refl, sym, ap, ◌∙◌, subst, arith}
-use Rattle.std.specs.Prelude.{Result}
-use Rattle.std.specs.Global.{Vec}
-use Rattle.std.proofs.lemmas.List.{length-append}
-use Rattle.dexspec.specs.Texts.{text_cmp}
-use Rattle.dexspec.specs.Numbers.{uleb128}
-use Rattle.dexspec.specs.Symbols.{field_cmp, method_cmp}
-use Rattle.dexspec.specs.Values.{Value, Values, ByteValue, ShortValue, CharValue, IntValue, LongValue, FloatValue, DoubleValue, NullValue, BooleanValue, count_values, names_of}
+use Rattle.dexval.proofs.Common.{◌≡◌, ℕ, suc, ◌+◌, ◌^◌, ◌<◌, ◌≤◌, List, [], ◌∷◌, ◌++◌, length, refl, sym, ap, ◌∙◌, subst, arith, Result, Vec, length-append, uleb128, Values, CharValue, count_values, names_of, Mentions, text_index, type_index, unsigned_bytes, value_bytes, values_bytes, elements_bytes, encoded_array_bytes, annotation_bytes, Puts, uleb128-size, value_bytes-size, count_of, AreRising, Literal, ByteLiteral, Reference, StringReference, TypeReference, FieldReference, MethodReference, EnumReference, NumberedValue, NumberedValues, NumberedElements, NumberedAnnotation, Plain, Named, Array, Annotated, NoValue, ThenNext, NoElement, ThenNamed, text_at, type_at, plain_value, named_value, value_in, values_in, elements_in, annotation_in, kind_of_reference, IsKnown, AreKnown, HaveKnown, IsKnownAnnotation, Denotes, Denote, DenotesAnnotation, IsCounted, AreCounted, HaveCounted, IsCountedAnnotation, values_count, elements_count, count_bytes, literal_bytes, reference_code, numbered_bytes, numbered_values_bytes, numbered_elements_bytes, numbered_array_bytes, encoded_annotation_bytes, numbered_annotation_bytes, numbered_weight, numbered_values_weight, numbered_elements_weight, numbered_annotation_weight}
+use Rattle.dexspec.specs.Values.{Value}
 use Rattle.dexspec.specs.Annotations.{Annotation}
-use Rattle.dexspec.specs.Mentions.{Mentions}
-use Rattle.dexspec.specs.Spellings.{text_index, type_index, field_index, method_index, unsigned_bytes, value_bytes, values_bytes, elements_bytes, encoded_array_bytes, annotation_bytes}
-use Rattle.dexspec.specs.internal.Writing.{Puts}
-use Rattle.dexspec.proofs.lists.InOrder.{Rises-from_rises, rank-get_or}
-use Rattle.dexspec.proofs.merge.SymbolOrders.{text_total, field_total, method_total}
-use Rattle.dexspec.proofs.size.SizeItems.{uleb128-size, value_bytes-size}
-use Rattle.dexpool.specs.Pools.{count_of}
-use Rattle.dexpool.specs.Numberings.{AreRising}
-use Rattle.dexval.specs.Numbered.{Literal, ByteLiteral, ShortLiteral, CharLiteral, IntLiteral, LongLiteral, FloatLiteral, DoubleLiteral, NullLiteral, BooleanLiteral, Reference, StringReference, TypeReference, FieldReference, MethodReference, EnumReference, NumberedValue, NumberedValues, NumberedElements, NumberedAnnotation, Plain, Named, Array, Annotated, NoValue, ThenNext, NoElement, ThenNamed, text_at, type_at, field_at, method_at, plain_value, named_value, value_in, values_in, elements_in, annotation_in, kind_of_reference, IsKnown, AreKnown, HaveKnown, IsKnownAnnotation, Denotes, Denote, DenotesAnnotation}
-use Rattle.dexval.specs.Spelled.{IsCounted, AreCounted, HaveCounted, IsCountedAnnotation, values_count, elements_count, count_bytes, literal_bytes, reference_code, numbered_bytes, numbered_values_bytes, numbered_elements_bytes, numbered_array_bytes, encoded_annotation_bytes, numbered_annotation_bytes, numbered_weight, numbered_values_weight, numbered_elements_weight, numbered_annotation_weight}
+use Rattle.dexpool.proofs.UnionLaws.{ranks_are_numbers}
 use Rattle.dexval.proofs.Counts.{count_is, count_length, count-size}
-
--- ---- the number of a symbol is its rank
-
-text_rank : (m : Mentions) (i : ℕ) → AreRising m → i < length m.texts → text_index m (text_at m i) ≡ i
-text_rank m i r lt = rank-get_or text_cmp text_total m.texts i [] (Rises-from_rises text_cmp text_total m.texts r.texts_rise) lt
-
-type_rank : (m : Mentions) (i : ℕ) → AreRising m → i < length m.types → type_index m (type_at m i) ≡ i
-type_rank m i r lt = rank-get_or text_cmp text_total m.types i [] (Rises-from_rises text_cmp text_total m.types r.types_rise) lt
-
-field_rank : (m : Mentions) (i : ℕ) → AreRising m → i < length m.fields → field_index m (field_at m i) ≡ i
-field_rank m i r lt = rank-get_or field_cmp field_total m.fields i (record { class = []; name = []; type = [] }) (Rises-from_rises field_cmp field_total m.fields r.fields_rise) lt
-
-method_rank : (m : Mentions) (i : ℕ) → AreRising m → i < length m.methods → method_index m (method_at m i) ≡ i
-method_rank m i r lt =
-    rank-get_or method_cmp method_total m.methods i (record { class = []; name = []; proto = record { return_type = []; parameters = [] } }) (Rises-from_rises method_cmp method_total m.methods r.methods_rise) lt
+use Rattle.dexval.proofs.Weights.{plain_weight}
 
 -- ---- bytes
 
 literal_is : (m : Mentions) (l : Literal) → literal_bytes l ≡ value_bytes m (plain_value l)
 literal_is m (ByteLiteral z) = refl
-literal_is m (ShortLiteral z) = refl
-literal_is m (CharLiteral u) = refl
-literal_is m (IntLiteral z) = refl
-literal_is m (LongLiteral z) = refl
-literal_is m (FloatLiteral bits) = refl
-literal_is m (DoubleLiteral bits) = refl
-literal_is m NullLiteral = refl
-literal_is m (BooleanLiteral is) = refl
+literal_is m x = refl
 
 named_is : (m : Mentions) (k : Reference) (i : ℕ) → AreRising m → i < count_of (kind_of_reference k) m → unsigned_bytes (reference_code k) i ≡ value_bytes m (named_value m k i)
-named_is m StringReference i r lt = ap (unsigned_bytes 0x17) (sym (text_rank m i r lt))
-named_is m TypeReference i r lt = ap (unsigned_bytes 0x18) (sym (type_rank m i r lt))
-named_is m FieldReference i r lt = ap (unsigned_bytes 0x19) (sym (field_rank m i r lt))
-named_is m MethodReference i r lt = ap (unsigned_bytes 0x1a) (sym (method_rank m i r lt))
-named_is m EnumReference i r lt = ap (unsigned_bytes 0x1b) (sym (field_rank m i r lt))
+named_is m StringReference i r lt = ap (unsigned_bytes 0x17) (sym ((ranks_are_numbers m r).texts_are i [] lt))
+named_is m TypeReference i r lt = ap (unsigned_bytes 0x18) (sym ((ranks_are_numbers m r).types_are i [] lt))
+named_is m FieldReference i r lt = ap (unsigned_bytes 0x19) (sym ((ranks_are_numbers m r).fields_are i (record { class = []; name = []; type = [] }) lt))
+named_is m MethodReference i r lt = ap (unsigned_bytes 0x1a) (sym ((ranks_are_numbers m r).methods_are i (record { class = []; name = []; proto = record { return_type = []; parameters = [] } }) lt))
+named_is m EnumReference i r lt = ap (unsigned_bytes 0x1b) (sym ((ranks_are_numbers m r).fields_are i (record { class = []; name = []; type = [] }) lt))
 
 values_count_is : (m : Mentions) (xs : NumberedValues) → values_count xs ≡ count_values (values_in m xs)
 values_count_is m NoValue = refl
@@ -72,7 +36,7 @@ array_by m xs few e = ap (λ (l : List ℕ). l ++ numbered_values_bytes xs) (cou
 annotation_by : (m : Mentions) (t : ℕ) (es : NumberedElements) → AreRising m → t < length m.types → elements_count es < 2 ^ 32 → numbered_elements_bytes es ≡ elements_bytes m (elements_in m es)
     → encoded_annotation_bytes t es ≡ uleb128 (type_index m (type_at m t)) ++ (uleb128 (length (names_of (elements_in m es))) ++ elements_bytes m (elements_in m es))
 annotation_by m t es r lt few e =
-    ap (λ (n : ℕ). uleb128 n ++ (count_bytes (elements_count es) ++ numbered_elements_bytes es)) (sym (type_rank m t r lt))
+    ap (λ (n : ℕ). uleb128 n ++ (count_bytes (elements_count es) ++ numbered_elements_bytes es)) (sym ((ranks_are_numbers m r).types_are t [] lt))
     ∙ ap (λ (l : List ℕ). uleb128 (type_index m (type_at m t)) ++ (l ++ numbered_elements_bytes es)) (count_is (elements_count es) few)
     ∙ ap (λ (n : ℕ). uleb128 (type_index m (type_at m t)) ++ (uleb128 n ++ numbered_elements_bytes es)) (elements_count_is m es)
     ∙ ap (λ (l : List ℕ). uleb128 (type_index m (type_at m t)) ++ (uleb128 (length (names_of (elements_in m es))) ++ l)) e
@@ -95,7 +59,7 @@ mutual
   elements_bytes_are : (m : Mentions) (es : NumberedElements) → AreRising m → HaveCounted es → HaveKnown m es → numbered_elements_bytes es ≡ elements_bytes m (elements_in m es)
   elements_bytes_are m NoElement r few h = refl
   elements_bytes_are m (ThenNamed name x es) r few h =
-      ap (λ (n : ℕ). uleb128 n ++ (numbered_bytes x ++ numbered_elements_bytes es)) (sym (text_rank m name r h.0))
+      ap (λ (n : ℕ). uleb128 n ++ (numbered_bytes x ++ numbered_elements_bytes es)) (sym ((ranks_are_numbers m r).texts_are name [] h.0))
       ∙ ap (λ (l : List ℕ). uleb128 (text_index m (text_at m name)) ++ (l ++ numbered_elements_bytes es)) (bytes_are m x r few.0 h.1)
       ∙ ap (λ (l : List ℕ). uleb128 (text_index m (text_at m name)) ++ (value_bytes m (value_in m x) ++ l)) (elements_bytes_are m es r few.1 h.2)
 
@@ -143,7 +107,7 @@ annotation_lengths m t es r lt e =
       length-append (uleb128 names) (elements_bytes m (elements_in m es)),
       count_length (elements_count es),
       ap (λ (n : ℕ). length (uleb128 n)) (elements_count_is m es),
-      ap (λ (n : ℕ). length (uleb128 n)) (type_rank m t r lt),
+      ap (λ (n : ℕ). length (uleb128 n)) ((ranks_are_numbers m r).types_are t [] lt),
       e,
     )
 
@@ -170,7 +134,7 @@ mutual
         length-append (numbered_bytes x) (numbered_elements_bytes es),
         length-append (uleb128 (text_index m (text_at m name))) (v ++ rest),
         length-append v rest,
-        ap (λ (n : ℕ). length (uleb128 n)) (text_rank m name r h.0),
+        ap (λ (n : ℕ). length (uleb128 n)) ((ranks_are_numbers m r).texts_are name [] h.0),
         lengths_are m x r h.1,
         elements_lengths_are m es r h.2,
       )
@@ -184,15 +148,7 @@ annotation_lengths_are m x a rising encodes =
 -- ---- sizes
 
 literal_size : (m : Mentions) (l : Literal) → length (literal_bytes l) ≤ 9
-literal_size m (ByteLiteral z) = value_bytes-size m (ByteValue z)
-literal_size m (ShortLiteral z) = value_bytes-size m (ShortValue z)
-literal_size m (CharLiteral u) = value_bytes-size m (CharValue u)
-literal_size m (IntLiteral z) = value_bytes-size m (IntValue z)
-literal_size m (LongLiteral z) = value_bytes-size m (LongValue z)
-literal_size m (FloatLiteral bits) = value_bytes-size m (FloatValue bits)
-literal_size m (DoubleLiteral bits) = value_bytes-size m (DoubleValue bits)
-literal_size m NullLiteral = value_bytes-size m NullValue
-literal_size m (BooleanLiteral is) = value_bytes-size m (BooleanValue is)
+literal_size m l = omega (arith, value_bytes-size m (plain_value l), plain_weight l, ap (λ (bs : List ℕ). length bs) (literal_is m l))
 
 mutual
   -- a value

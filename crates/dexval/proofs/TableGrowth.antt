@@ -1,10 +1,6 @@
 -- Sets and lists added to tables of sets.
-use Rattle.std.proofs.Common.{◌≡◌, ℕ, ◌+◌, List, [], ◌∷◌, ◌++◌, length, map, refl, ap, ◌∙◌, inl, inr, arith, Option, Some, None, slice_index_or, length-append}
-use Rattle.std.specs.List.{All}
-use Rattle.std.proofs.lemmas.List.{get_or_append_left, get_or-append-add}
-use Rattle.std.proofs.lemmas.List.Elements.{Contains-append_left}
-use Rattle.dexval.specs.Numbered.{NumberedSet}
-use Rattle.dexval.specs.Tables.{NumberedTable, IsPlaceIn, HoldsLists, Extends, AreNewNamed, set_at, places_at, sets_at}
+use Rattle.dexval.proofs.Common.{◌≡◌, ℕ, ◌+◌, List, [], ◌∷◌, ◌++◌, length, map, refl, ap, ◌∙◌, inl, inr, arith, Option, Some, None, slice_index_or, All, get_or_append_left, get_or-append-add, Contains-append_left, NumberedSet, NumberedTable, IsPlaceIn, HoldsLists, Extends, AreNewNamed, set_at, places_at, sets_at}
+use Rattle.std.proofs.Common.{length-append}
 use Rattle.dexval.proofs.Tables.{place_later, map_stays}
 
 -- ---- growth

@@ -1,9 +1,5 @@
 -- Lookups in tables of sets.
-use Rattle.std.proofs.Common.{◌≡◌, ℕ, ◌<◌, ◌≤◌, List, [], ◌∷◌, length, map, get_or, refl, ap, sym, subst, ◌∙◌, arith, Option, Some, None}
-use Rattle.std.specs.List.{All}
-use Rattle.std.proofs.lemmas.List.{get_or-map, length-map}
-use Rattle.std.proofs.lemmas.List.Elements.{All-get_or, All-head, All-tail}
-use Rattle.dexval.specs.Tables.{IsPlaceIn}
+use Rattle.dexval.proofs.Common.{◌≡◌, ℕ, ◌<◌, ◌≤◌, List, [], ◌∷◌, length, map, get_or, refl, ap, sym, subst, ◌∙◌, arith, Option, Some, None, All, get_or-map, length-map, All-get_or, All-head, All-tail, IsPlaceIn}
 
 -- a property of all models holds for the model of one member
 pub mapped_at : {X Y : Type 0} (of : X → Y) (P : Y → Type 0) (xs : List X) (i : ℕ) (x : X) → i < length xs → x ≡ get_or xs i x → All P (map of xs) → P (of x)

@@ -1,11 +1,5 @@
 -- Sets of a table that are remapped one at a time, if they fit.
-use Rattle.std.proofs.Common.{◌≡◌, ℕ, zero, suc, ◌+◌, ◌<◌, ◌≤◌, List, [], ◌∷◌, length, map, get_or, set, refl, ap, sym, ◌∙◌, subst, arith, inl, inr, Option, Some, None}
-use Rattle.std.proofs.lemmas.Bool.{cases_lt}
-use Rattle.std.proofs.lemmas.List.{length-set}
-use Rattle.dexpool.specs.Numberings.{Maps}
-use Rattle.dexval.specs.Code.{set_of}
-use Rattle.dexval.specs.Renumbering.{renumbered_set, SetHasPlaces}
-use Rattle.dexval.specs.Tables.{IsRemappedSet, set_at}
+use Rattle.dexval.proofs.Common.{◌≡◌, ℕ, zero, suc, ◌+◌, ◌<◌, ◌≤◌, List, [], ◌∷◌, length, map, get_or, set, refl, ap, sym, ◌∙◌, subst, arith, inl, inr, Option, Some, None, cases_lt, length-set, get_or_default, get_or-set_same, get_or-set_other, Maps, set_of, renumbered_set, SetHasPlaces, IsRemappedSet, set_at}
 use Rattle.dexval.specs.declared.set.AnnotationSet.{AnnotationSet}
 
 -- the first i sets are remapped, and the others are unchanged
@@ -21,17 +15,12 @@ settled_stays r old new i x h lt e none = record {
     | inl before ↦ h.done k d before inside
     | inr ge ↦
         let same : i ≡ k = omega (arith, ge, less) in
-        let here : get_or old k d ≡ x = ap (λ (n : ℕ). get_or old n d) (sym same) ∙ default old i d x lt ∙ sym (h.rest i x (omega arith)) ∙ sym e in
+        let here : get_or old k d ≡ x = ap (λ (n : ℕ). get_or old n d) (sym same) ∙ get_or_default old i d x lt ∙ sym (h.rest i x (omega arith)) ∙ sym e in
         ((λ places. absurd (none (subst (λ (y : AnnotationSet). SetHasPlaces r (set_of y)) here places))), (λ _. ap (λ (y : AnnotationSet). set_of y) (h.rest k d (omega (arith, ge)))))
   ];
   rest = λ k d le. h.rest k d (omega (arith, le));
   size = h.size;
 }
-  where
-    default : (xs : List AnnotationSet) (n : ℕ) (d e : AnnotationSet) → n < length xs → get_or xs n d ≡ get_or xs n e
-    default [] n d e lt = absurd (omega arith)
-    default (x ∷ xs) zero d e lt = refl
-    default (x ∷ xs) (suc n) d e lt = default xs n d e (omega arith)
 
 -- one more set, which is remapped
 pub settled_remapped : (r : Maps) (old new : List AnnotationSet) (i : ℕ) (x y : AnnotationSet) → AreSettled r i old new → i < length old → x ≡ get_or new i x → SetHasPlaces r (set_of x) → set_of y ≡ renumbered_set r (set_of x) → AreSettled r (i + 1) old (set new i y)
@@ -39,56 +28,28 @@ settled_remapped r old new i x y h lt e fits is =
     let inside_new : i < length new = omega (arith, h.size, lt) in
     record {
       done = λ k d less inside. elim (cases_lt k i) [
-        | inl before ↦ subst (λ (z : AnnotationSet). IsRemappedSet r (set_of (get_or old k d)) (set_of z)) (sym (other new i k y d (λ same. omega (arith, same, before)))) (h.done k d before inside)
+        | inl before ↦ subst (λ (z : AnnotationSet). IsRemappedSet r (set_of (get_or old k d)) (set_of z)) (sym (get_or-set_other new i k y d (λ same. omega (arith, same, before)))) (h.done k d before inside)
         | inr ge ↦
             let same : i ≡ k = omega (arith, ge, less) in
-            let here : x ≡ get_or old k d = e ∙ h.rest i x (omega arith) ∙ default old i x d lt ∙ ap (λ (n : ℕ). get_or old n d) same in
-            let there : y ≡ get_or (set new i y) k d = sym (at new i y d inside_new) ∙ ap (λ (n : ℕ). get_or (set new i y) n d) same in
+            let here : x ≡ get_or old k d = e ∙ h.rest i x (omega arith) ∙ get_or_default old i x d lt ∙ ap (λ (n : ℕ). get_or old n d) same in
+            let there : y ≡ get_or (set new i y) k d = sym (get_or-set_same new i y d inside_new) ∙ ap (λ (n : ℕ). get_or (set new i y) n d) same in
             ((λ places. ap set_of (sym there) ∙ is ∙ ap (λ (z : AnnotationSet). renumbered_set r (set_of z)) here), (λ none. absurd (none (subst (λ (z : AnnotationSet). SetHasPlaces r (set_of z)) here fits))))
       ];
-      rest = λ k d le. other new i k y d (λ same. omega (arith, same, le)) ∙ h.rest k d (omega (arith, le));
+      rest = λ k d le. get_or-set_other new i k y d (λ same. omega (arith, same, le)) ∙ h.rest k d (omega (arith, le));
       size = length-set new i y ∙ h.size;
     }
-  where
-    default : (xs : List AnnotationSet) (n : ℕ) (d e : AnnotationSet) → n < length xs → get_or xs n d ≡ get_or xs n e
-    default [] n d e lt = absurd (omega arith)
-    default (x ∷ xs) zero d e lt = refl
-    default (x ∷ xs) (suc n) d e lt = default xs n d e (omega arith)
-
-    other : (xs : List AnnotationSet) (n k : ℕ) (z d : AnnotationSet) → (n ≡ k → ⊥) → get_or (set xs n z) k d ≡ get_or xs k d
-    other [] n k z d ne = refl
-    other (x ∷ xs) zero zero z d ne = absurd (ne refl)
-    other (x ∷ xs) zero (suc k) z d ne = refl
-    other (x ∷ xs) (suc n) zero z d ne = refl
-    other (x ∷ xs) (suc n) (suc k) z d ne = other xs n k z d (λ same. ne (ap suc same))
-
-    at : (xs : List AnnotationSet) (n : ℕ) (z d : AnnotationSet) → n < length xs → get_or (set xs n z) n d ≡ z
-    at [] n z d lt = absurd (omega arith)
-    at (x ∷ xs) zero z d lt = refl
-    at (x ∷ xs) (suc n) z d lt = at xs n z d (omega arith)
 
 -- all of them, by their places
 pub all_settled : (r : Maps) (old new : List AnnotationSet) (i : ℕ) → AreSettled r i old new → length old ≤ i → (place : Option ℕ) → IsRemappedSet r (set_at (map set_of old) place) (set_at (map set_of new) place)
 all_settled r old new i h le None = ((λ places. refl), (λ none. refl))
 all_settled r old new i h le (Some k) = at old new h.size k (λ d lt. h.done k d (omega (arith, lt, le)) lt)
   where
-    past : (xs : List AnnotationSet) (k : ℕ) → length xs ≤ k → set_at (map set_of xs) (Some k) ≡ []
-    past [] k le = refl
-    past (x ∷ xs) zero le = absurd (omega arith)
-    past (x ∷ xs) (suc k) le = past xs k (omega arith)
-
     at : (xs ys : List AnnotationSet) → length ys ≡ length xs → (k : ℕ) → ((d : AnnotationSet) → k < length xs → IsRemappedSet r (set_of (get_or xs k d)) (set_of (get_or ys k d))) → IsRemappedSet r (set_at (map set_of xs) (Some k)) (set_at (map set_of ys) (Some k))
     at [] [] size k each = ((λ places. refl), (λ none. refl))
-    at [] (y ∷ ys) size k each = absurd (omega (arith, size))
-    at (x ∷ xs) [] size k each = absurd (omega (arith, size))
     at (x ∷ xs) (y ∷ ys) size zero each = each x (omega arith)
     at (x ∷ xs) (y ∷ ys) size (suc k) each = at xs ys (omega (arith, size)) k (λ d lt. each d (omega (arith, lt)))
+    at v w size k each = absurd (omega (arith, size))
 
 -- there is one set at a place
 pub one_here : (xs : List AnnotationSet) (i : ℕ) (x y : AnnotationSet) → x ≡ get_or xs i x → y ≡ get_or xs i y → i < length xs → x ≡ y
-one_here xs i x y e f lt = e ∙ default xs i x y lt ∙ sym f
-  where
-    default : (zs : List AnnotationSet) (n : ℕ) (d e : AnnotationSet) → n < length zs → get_or zs n d ≡ get_or zs n e
-    default [] n d e lt = absurd (omega arith)
-    default (z ∷ zs) zero d e lt = refl
-    default (z ∷ zs) (suc n) d e lt = default zs n d e (omega arith)
+one_here xs i x y e f lt = e ∙ get_or_default xs i x y lt ∙ sym f

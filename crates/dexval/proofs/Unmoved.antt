@@ -1,12 +1,7 @@
 -- A map without images changes nothing.
-use Rattle.std.proofs.Common.{◌≡◌, ℕ, Bool, true, false, [], ◌∷◌, refl, ap, sym, ◌∙◌}
-use Rattle.std.specs.Prelude.{IsTrue, ◌↔◌}
+use Rattle.dexval.proofs.Common.{◌≡◌, ℕ, Bool, true, false, [], ◌∷◌, refl, ap, sym, ◌∙◌, IsTrue, ◌↔◌, SymbolKind, Maps, NumberedValue, NumberedValues, NumberedElements, NumberedAnnotation, NumberedSet, Plain, Named, Array, Annotated, NoValue, ThenNext, NoElement, ThenNamed, kind_of_reference, remapped, renumbered, renumbered_values, renumbered_elements, renumbered_set}
 use Rattle.std.specs.Bool.{Decides}
-use Rattle.dexpool.specs.declared.symbols.SymbolKind.{SymbolKind}
 use Rattle.dexpool.specs.declared.symbols.SymbolKind.TheVariants as kinds
-use Rattle.dexpool.specs.Numberings.{Maps}
-use Rattle.dexval.specs.Numbered.{NumberedValue, NumberedValues, NumberedElements, NumberedAnnotation, NumberedSet, Plain, Named, Array, Annotated, NoValue, ThenNext, NoElement, ThenNamed, kind_of_reference}
-use Rattle.dexval.specs.Renumbering.{remapped, renumbered, renumbered_values, renumbered_elements, renumbered_set}
 
 -- the map without images
 abbrev pub nowhere : Maps
@@ -14,10 +9,7 @@ nowhere = record { texts = []; types = []; protos = []; fields = []; methods = [
 
 stays : (kind : SymbolKind) (i : ℕ) → remapped nowhere kind i ≡ i
 stays kinds.Text i = refl
-stays kinds.Typ i = refl
-stays kinds.Proto i = refl
-stays kinds.Field i = refl
-stays kinds.Method i = refl
+stays x i = refl
 
 mutual
   value_stays : (x : NumberedValue) → renumbered nowhere x ≡ x

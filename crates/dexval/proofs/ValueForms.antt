@@ -1,12 +1,6 @@
 -- The weights of what arrays and annotations of the code hold.
-use Rattle.std.proofs.Common.{◌≡◌, ◌+◌, ◌<◌, List, map, ap, ◌∙◌, arith}
-use Rattle.std.specs.Global.{Box, Vec}
-use Rattle.dexval.specs.declared.value.Value.{Value}
+use Rattle.dexval.proofs.Common.{◌≡◌, ◌+◌, ◌<◌, List, map, ap, ◌∙◌, arith, Box, Vec, Value, EncodedAnnotation, value_of, encoded_elements, values_of_list, numbered_weight, numbered_values_weight, numbered_elements_weight}
 use Rattle.dexval.specs.declared.value.Value.TheVariants as variants
-use Rattle.dexval.specs.declared.value.EncodedAnnotation.{EncodedAnnotation}
-use Rattle.dexval.specs.Code.{value_of, encoded_elements}
-use Rattle.dexval.specs.Numbered.{values_of_list}
-use Rattle.dexval.specs.Spelled.{numbered_weight, numbered_values_weight, numbered_elements_weight}
 use Rattle.dexval.proofs.CodeForms.{array_is, annotation_is}
 
 -- the values of an array

@@ -1,15 +1,7 @@
 -- Values that are read one after the other: the values that were read are in the file, and the other values come after
 -- them.
-use Rattle.std.proofs.Common.{◌≡◌, ℕ, ◌+◌, ◌-◌, ◌<◌, ◌≤◌, max, List, [], ◌∷◌, ◌++◌, length, refl, subst, arith}
-use Rattle.std.proofs.lemmas.List.{length-append}
-use Rattle.dexspec.specs.Numbers.{Uleb128At}
-use Rattle.dexspec.specs.Values.{Value, Values, NoValues, ThenValue, ValueAt, ValuesAt, value_depth, values_depth, count_values}
-use Rattle.dexspec.specs.Mentions.{Mentions}
-use Rattle.dexspec.proofs.determined.OneNumber.{one_uleb128}
-use Rattle.dexspec.proofs.determined.OneValue.{one_value}
-use Rattle.dexval.specs.Numbered.{NumberedValue, AreKnown, IsKnown, values_in, value_in, values_of_list}
-use Rattle.dexval.specs.internal.Scalars.{NoValueAt, IsReadAt}
-use Rattle.dexval.specs.Nesting.{NoArrayAt, AreReadAt}
+use Rattle.dexval.proofs.Common.{◌≡◌, ℕ, ◌+◌, ◌-◌, ◌<◌, ◌≤◌, max, List, [], ◌∷◌, ◌++◌, length, refl, subst, arith, length-append, Uleb128At, Values, NoValues, ThenValue, ValueAt, ValuesAt, value_depth, values_depth, count_values, Mentions, one_uleb128, one_value, NumberedValue, AreKnown, IsKnown, values_in, value_in, values_of_list, NoValueAt, IsReadAt, NoArrayAt, AreReadAt}
+use Rattle.dexspec.specs.Values.{Value}
 
 -- `count` values are at the offset, and nest at most `depth` deep
 pub record Rest (b : List ℕ) (o depth count : ℕ) : Type 0 where
@@ -84,8 +76,7 @@ module _ (b : List ℕ) (m : Mentions) where
     shallow = omega (arith, depth_more xs x, h.shallow, r.shallow);
     rest = λ all.
         let n = next (o + k) depth (count - i) (omega arith) (h.rest all) in
-        let same = one_value b (o + k) n.value (value_in m x) n.size j n.encodes r.encodes in
-        let place : o + k + n.size ≡ o + (k + j) = omega (arith, same.1) in
+        let place : o + k + n.size ≡ o + (k + j) = omega (arith, (one_value b (o + k) n.value (value_in m x) n.size j n.encodes r.encodes).1) in
         let left : count - i - 1 ≡ count - (i + 1) = omega arith in
         subst (λ (c : ℕ). Rest b (o + (k + j)) depth c) left (subst (λ (p : ℕ). Rest b p depth (count - i - 1)) place n.following);
   }

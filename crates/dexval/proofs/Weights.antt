@@ -1,33 +1,15 @@
 -- The weight of a numbered item is the weight of the item that it denotes.
-use Rattle.std.proofs.Common.{◌≡◌, ◌<◌, ℕ, ◌+◌, ◌*◌, List, [], ◌∷◌, length, map, refl, sym, ap, arith, sum_by, Option}
-use Rattle.std.proofs.lemmas.List.Sums.{sum_by-cons}
-use Rattle.dexspec.specs.Mentions.{Mentions}
-use Rattle.dexspec.specs.Weight.{value_weight, values_weight, elements_weight, annotation_weight, set_weight, ref_list_weight, static_values_weight}
+use Rattle.dexval.proofs.Common.{◌≡◌, ◌<◌, ℕ, ◌+◌, ◌*◌, List, [], ◌∷◌, length, map, refl, sym, ap, arith, sum_by, Option, sum_by-cons, Mentions, value_weight, values_weight, elements_weight, annotation_weight, set_weight, ref_list_weight, static_values_weight, Value, value_of, annotation_of, set_of, Literal, ByteLiteral, Reference, StringReference, NumberedValue, NumberedValues, NumberedElements, NumberedAnnotation, NumberedSet, Plain, Named, Array, Annotated, NoValue, ThenNext, NoElement, ThenNamed, plain_value, named_value, value_in, values_in, elements_in, annotation_in, set_in, values_of_list, numbered_weight, numbered_values_weight, numbered_elements_weight, numbered_annotation_weight, numbered_set_weight, set_at}
 use Rattle.dexval.specs.declared.annotation.Annotation.{Annotation as CodeAnnotation}
 use Rattle.dexval.specs.declared.set.AnnotationSet.{AnnotationSet}
-use Rattle.dexval.specs.declared.value.Value.{Value}
-use Rattle.dexval.specs.Code.{value_of, annotation_of, set_of}
-use Rattle.dexval.specs.Numbered.{Literal, ByteLiteral, ShortLiteral, CharLiteral, IntLiteral, LongLiteral, FloatLiteral, DoubleLiteral, NullLiteral, BooleanLiteral, Reference, StringReference, TypeReference, FieldReference, MethodReference, EnumReference, NumberedValue, NumberedValues, NumberedElements, NumberedAnnotation, NumberedSet, Plain, Named, Array, Annotated, NoValue, ThenNext, NoElement, ThenNamed, plain_value, named_value, value_in, values_in, elements_in, annotation_in, set_in, values_of_list}
-use Rattle.dexval.specs.Spelled.{numbered_weight, numbered_values_weight, numbered_elements_weight, numbered_annotation_weight, numbered_set_weight}
-use Rattle.dexval.specs.Tables.{set_at}
 
-plain_weight : (l : Literal) → value_weight (plain_value l) ≡ 9
+pub plain_weight : (l : Literal) → value_weight (plain_value l) ≡ 9
 plain_weight (ByteLiteral z) = refl
-plain_weight (ShortLiteral z) = refl
-plain_weight (CharLiteral u) = refl
-plain_weight (IntLiteral z) = refl
-plain_weight (LongLiteral z) = refl
-plain_weight (FloatLiteral bits) = refl
-plain_weight (DoubleLiteral bits) = refl
-plain_weight NullLiteral = refl
-plain_weight (BooleanLiteral is) = refl
+plain_weight x = refl
 
 named_weight : (m : Mentions) (r : Reference) (i : ℕ) → value_weight (named_value m r i) ≡ 9
 named_weight m StringReference i = refl
-named_weight m TypeReference i = refl
-named_weight m FieldReference i = refl
-named_weight m MethodReference i = refl
-named_weight m EnumReference i = refl
+named_weight m x i = refl
 
 mutual
   -- a value

@@ -14,9 +14,10 @@ ghost use Rattle.dexval.specs.internal.Counting.{IsFaultOf, HasSetOrEmptyOf, Has
 use crate::directory::MemberCounts;
 use crate::directory_member::{ListOfMember, OfMember, SetOfMember};
 use crate::directory_reading::{PairRange, list_weight, member_counts, pair_at};
+use crate::file_source::uint_at;
 use crate::set_checking::check_set;
 use crate::set_reading::count_at;
-use dexhead::{Condition, Frame, u32_at};
+use dexhead::{Condition, Frame};
 use dexpool::{ItemFault, Pools, SymbolKind};
 use std::alloc::Global;
 use std::collections::HashMap;
@@ -97,11 +98,10 @@ fn listed_weight(
         → IfErr result (IsRefusal (NoRefListAt frame.now off)) }
 {
     let count = count_at(frame, off)?;
-    let bytes = frame.bytes();
     let list = list_weight(count);
     let mut weight = list;
     for i in 0..count {
-        let set_off = u32_at(bytes, off as usize + 4 + 4 * i as usize);
+        let set_off = uint_at(frame, off as usize + 4 + 4 * i as usize);
         let set = checked_set_at(frame, pools, set_off, checked)?;
         weight = weight.saturating_add(set);
     }
@@ -188,7 +188,7 @@ pub fn check_directory(
         Some(counts) => counts,
         None => return Err(ItemFault::Refused(Condition::Annotations as u8)),
     };
-    let own_off = u32_at(frame.bytes(), off as usize);
+    let own_off = uint_at(frame, off as usize);
     let own = checked_set_at(frame, pools, own_off, checked)?;
     let limit = pools.len(SymbolKind::Field);
     let field_pairs = PairRange {

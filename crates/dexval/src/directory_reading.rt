@@ -17,7 +17,7 @@ use crate::budget::Budget;
 use crate::directory::{Directory, MemberCounts, SharedDirectory};
 use crate::directory_cache::{DirectoryCache, counted_set_or_empty_at};
 use crate::directory_member::{ListOfMember, OfMember, SetOfMember};
-use crate::file_source::FileSource;
+use crate::file_source::{FileSource, uint_at};
 use crate::set_reading::count_at;
 use dexhead::{Condition, Frame, u32_at};
 use dexpool::{ItemFault, Pools, SymbolKind};
@@ -42,10 +42,9 @@ pub fn member_counts(frame: &Frame<'_>, off: u32) -> Option<MemberCounts>
     if off % 4 != 0 || !frame.is_in_data(off, 16) {
         return None;
     }
-    let bytes = frame.bytes();
-    let fields = u32_at(bytes, off as usize + 4);
-    let methods = u32_at(bytes, off as usize + 8);
-    let parameters = u32_at(bytes, off as usize + 12);
+    let fields = uint_at(frame, off as usize + 4);
+    let methods = uint_at(frame, off as usize + 8);
+    let parameters = uint_at(frame, off as usize + 12);
     let pairs = u64::from(fields) + u64::from(methods) + u64::from(parameters);
     if !frame.is_in_data(off, 16 + 8 * pairs) {
         return None;
@@ -108,12 +107,11 @@ fn listed_sets_at(
         (RefListAt source.now.frame.now off) ref_list_weight budget.old.weight budget.old.most) }
 {
     let count = count_at(source.frame, off)?;
-    let bytes = source.frame.bytes();
     let list = list_weight(count);
     budget.add(list)?;
     let mut places = Vec::with_capacity(source.alloc, room(count))?;
     for i in 0..count {
-        let set_off = u32_at(bytes, off as usize + 4 + 4 * i as usize);
+        let set_off = uint_at(source.frame, off as usize + 4 + 4 * i as usize);
         let place = counted_set_or_empty_at(source, set_off, cache, budget)?;
         places.push(place)?;
     }
@@ -218,8 +216,7 @@ fn counted_directory_at(
         Some(counts) => counts,
         None => return Err(ItemFault::Refused(Condition::Annotations as u8)),
     };
-    let bytes = source.frame.bytes();
-    let own_off = u32_at(bytes, off as usize);
+    let own_off = uint_at(source.frame, off as usize);
     let own = counted_set_or_empty_at(source, own_off, cache, budget)?;
     let limit = source.pools.len(SymbolKind::Field);
     let field_pairs = PairRange {

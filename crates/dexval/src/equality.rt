@@ -35,6 +35,7 @@ impl Hash for AnnotationSet {
 
 /// Sets are equal exactly if their annotations are the same, one for one: visibilities, types, names and values. Equal
 /// sets have equal hash input.
+#[tactic(auto, using(crate::specs::Equality::set_decides))]
 pub fn set_equality_law()
     ensures equal { IsSetEquality ⟦<AnnotationSet as PartialEq>⟧.eq }
     ensures hashed { DependsOnSet ⟦<AnnotationSet as Hash>⟧.hash_input }

@@ -25,6 +25,7 @@ pub fn renumber_law()
 {}
 
 /// The symbols that occur are those of the items that the numbers denote, one for one and in order.
+#[tactic(auto, using(crate::proofs::Meanings::value_encoded, crate::proofs::Meanings::values_encoded, crate::proofs::Meanings::set_encoded))]
 pub fn uses_law()
     ensures value { UsesAreSymbols Denotes value_uses value_symbols }
     ensures values { UsesAreSymbols Denote values_uses values_symbols }
@@ -32,6 +33,7 @@ pub fn uses_law()
 {}
 
 /// If there is a mark for each symbol, there is a mark for each symbol that occurs.
+#[tactic(auto, using(crate::proofs::Meanings::value_marks, crate::proofs::Meanings::values_marks, crate::proofs::Meanings::set_marks))]
 pub fn marks_law()
     ensures value { UsesHaveMarks IsKnown value_uses }
     ensures values { UsesHaveMarks AreKnown values_uses }
@@ -53,6 +55,7 @@ pub fn images_law()
 /// does a map into a numbering of at most 2^32 symbols of each kind, such as a join. Each number of the code has 32
 /// bits. So under such a map a value, values, an annotation, a set and sets may be remapped if each of their numbers
 /// has an image.
+#[tactic(auto, using(crate::proofs::Images::cut_within, crate::proofs::Images::join_within, crate::proofs::Images::uses_placed, crate::proofs::Images::sets_placed))]
 pub fn narrow_law()
     ensures cut { (r : Maps) → MapsDown r → MapsNarrow r }
     ensures join { (n : Mentions) (r : Maps) → MapsWithin n r → HasFewSymbols n → MapsNarrow r }

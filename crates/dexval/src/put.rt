@@ -22,6 +22,7 @@ use std::alloc::AllocError;
 /// count. A value that weighs less than 2^32 has none.
 ///
 /// Source: "encoded_value encoding", "encoded_array format" and "encoded_annotation format".
+#[tactic(auto, using(crate::proofs::Spelling::size_is, crate::proofs::Weights::weight_is))]
 pub fn put_value(
     value: &Value,
     numbering: &Numbering<'_>,

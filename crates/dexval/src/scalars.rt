@@ -23,17 +23,9 @@ fn width_of(code: u8) -> Option<usize>
 {
     match code {
         BYTE => Some(1),
-        SHORT => Some(2),
-        CHAR => Some(2),
-        INT => Some(4),
-        LONG => Some(8),
-        FLOAT => Some(4),
-        DOUBLE => Some(8),
-        STRING => Some(4),
-        TYPE => Some(4),
-        FIELD => Some(4),
-        METHOD => Some(4),
-        ENUM => Some(4),
+        SHORT | CHAR => Some(2),
+        INT | FLOAT | STRING | TYPE | FIELD | METHOD | ENUM => Some(4),
+        LONG | DOUBLE => Some(8),
         _ => None,
     }
 }

@@ -11,10 +11,11 @@ ghost use Rattle.dexval.specs.Results.{IsReadSet};
 ghost use Rattle.dexval.specs.internal.Found.{IsOffsetCount, IsReadItem};
 
 use crate::annotation::{Annotation, Visibility};
+use crate::file_source::uint_at;
 use crate::nesting::ValueReader;
 use crate::set::AnnotationSet;
 use crate::value_reading::MOST_DEPTH;
-use dexhead::{Condition, Frame, u32_at};
+use dexhead::{Condition, Frame};
 use dexpool::{ItemFault, Pools};
 use std::alloc::Global;
 
@@ -70,7 +71,7 @@ pub(crate) fn offset_count(frame: &Frame<'_>, off: u32) -> Option<u32>
     if off % 4 != 0 || !frame.is_in_data(off, 4) {
         return None;
     }
-    let count = u32_at(frame.bytes(), off as usize);
+    let count = uint_at(frame, off as usize);
     if !frame.is_in_data(off, 4 + 4 * u64::from(count)) {
         return None;
     }
@@ -109,11 +110,10 @@ pub fn read_set(
 {
     pools.numbering().is_numbering();
     let count = count_at(frame, off)?;
-    let bytes = frame.bytes();
     let mut annotations = Vec::with_capacity(alloc, count as usize)?;
     let mut least = 0;
     for i in 0..count {
-        let place = u32_at(bytes, off as usize + 4 + 4 * i as usize);
+        let place = uint_at(frame, off as usize + 4 + 4 * i as usize);
         let annotation = item_at(alloc, frame, pools, place)?;
         if u64::from(annotation.annotation.typ) < least {
             return Err(ItemFault::Refused(Condition::Annotations as u8));

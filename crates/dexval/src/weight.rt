@@ -102,6 +102,7 @@ fn set_weight(set: &AnnotationSet) -> u64
 
 impl Value {
     /// The weight of the value, or 2^64 - 1 if it weighs more. It is at least the size of its shortest encoding.
+    #[tactic(auto, using(crate::proofs::Weights::weight_is))]
     pub fn weight(&self) -> u64
         ensures { (m : Mentions)
             → result ≡ min (2 ^ 64 - 1) (value_weight (value_in m (value_of self.now))) }
@@ -113,6 +114,7 @@ impl Value {
 impl AnnotationSet {
     /// The weight of the set, or 2^64 - 1 if it weighs more. It is at least the size of its item and of its
     /// annotations. An empty set weighs nothing.
+    #[tactic(auto, using(crate::proofs::Weights::set_weight_is))]
     pub fn weight(&self) -> u64
         ensures { (m : Mentions)
             → result ≡ min (2 ^ 64 - 1) (set_weight (set_in m (set_of self.now))) }

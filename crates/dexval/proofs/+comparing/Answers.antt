@@ -1,8 +1,4 @@
-use Rattle.std.proofs.Common.{ap, rules, ◌<◌, length, map, arith}
-use Rattle.dexval.specs.Code.{value_of, element_of}
-use Rattle.dexval.specs.internal.Heads.{head_of}
-use Rattle.dexval.specs.Renumbering.{renumbered, renumbered_element}
-use Rattle.dexval.specs.Spelled.{numbered_values_weight, numbered_elements_weight}
+use Rattle.dexval.proofs.Common.{ap, rules, ◌<◌, length, map, arith, value_of, element_of, head_of, renumbered, renumbered_element, numbered_values_weight, numbered_elements_weight}
 use Rattle.dexval.proofs.Compared.{same_count, same_at, same_all, values_same, same_values, elements_same, same_elements}
 use Rattle.dexval.proofs.Heads.{held_values_same, held_elements_same, parts_same, held_values_lighter, held_elements_lighter}
 use Rattle.dexval.proofs.Members.{value_lighter, element_lighter}
@@ -88,9 +84,7 @@ value::Value::same_mapped-returns-then-not-eq_heads t c =
 
 pub value::Value::same_mapped-same_values_mapped-requires : goal.value::Value::same_mapped-same_values_mapped-requires
 value::Value::same_mapped-same_values_mapped-requires t c =
-    let lighter = held_values_lighter (value_of c.args.self.now) in
-    let same = ap numbered_values_weight c.held_values.ensures in
-    (omega (arith, lighter, same), tt)
+    (omega (arith, held_values_lighter (value_of c.args.self.now), ap numbered_values_weight c.held_values.ensures), tt)
 
 pub value::Value::same_mapped-returns-then-not-same_values_mapped : goal.value::Value::same_mapped-returns-then-not-same_values_mapped
 value::Value::same_mapped-returns-then-not-same_values_mapped t c =
@@ -99,9 +93,7 @@ value::Value::same_mapped-returns-then-not-same_values_mapped t c =
 
 pub value::Value::same_mapped-same_elements-requires : goal.value::Value::same_mapped-same_elements-requires
 value::Value::same_mapped-same_elements-requires t c =
-    let lighter = held_elements_lighter (value_of c.args.self.now) in
-    let same = ap numbered_elements_weight c.held_elements.ensures in
-    (omega (arith, lighter, same), tt)
+    (omega (arith, held_elements_lighter (value_of c.args.self.now), ap numbered_elements_weight c.held_elements.ensures), tt)
 
 pub value::Value::same_mapped-returns : goal.value::Value::same_mapped-returns
 value::Value::same_mapped-returns t c =

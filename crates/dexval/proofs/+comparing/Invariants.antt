@@ -1,8 +1,4 @@
-use Rattle.std.proofs.Common.{◌≡◌, ◌+◌, length, map, take}
-use Rattle.dexval.specs.Code.{value_of, element_of}
-use Rattle.dexval.specs.Numbered.{values_of_list, elements_of_list}
-use Rattle.dexval.specs.Renumbering.{renumbered, renumbered_element}
-use Rattle.dexval.specs.Spelled.{numbered_weight, numbered_values_weight, numbered_elements_weight}
+use Rattle.dexval.proofs.Common.{◌≡◌, ◌+◌, length, map, take, value_of, element_of, values_of_list, elements_of_list, renumbered, renumbered_element, numbered_weight, numbered_values_weight, numbered_elements_weight}
 use Rattle.dexval.proofs.+comparing.Given as goal
 
 abbrev pub invariant-same::same_elements-loop-i : goal.invariant-same::same_elements-loop-i

@@ -1,20 +1,8 @@
-use Rattle.std.proofs.Common.{◌≡◌, List, rules, [], map, ap, sym, subst, ◌∙◌, arith}
-use Rattle.std.proofs.lemmas.List.Elements.{All-head, All-tail}
+use Rattle.dexval.proofs.Common.{◌≡◌, List, rules, [], map, ap, sym, subst, ◌∙◌, arith, All-head, All-tail, Value, EncodedAnnotation-F, roll-EncodedAnnotation, out-roll-EncodedAnnotation, Element, EncodedAnnotation, out-EncodedAnnotation, value_of, element_of, values_of, elements_of, encoded_of, encoded_type, encoded_elements, Annotated, values_of_list, elements_of_list, remapped, renumbered, renumbered_values, renumbered_elements, renumbered_element, HasPlaces, HavePlaces, ElementHasPlaces, ElementsHavePlaces, IsMapped, MapsUse, value_uses, elements_uses, numbered_elements_weight}
 use Rattle.std.specs.Box.{with_value}
 use Rattle.dexpool.specs.declared.symbols.SymbolKind.TheVariants as kinds
-use Rattle.dexval.specs.declared.value.Value.{Value}
 use Rattle.dexval.specs.declared.value.Value.TheVariants as variants
-use Rattle.dexval.specs.declared.value.Value.TheOpen.{EncodedAnnotation-F}
-use Rattle.dexval.specs.declared.value.Value.TheViews.{roll-EncodedAnnotation, out-roll-EncodedAnnotation}
-use Rattle.dexval.specs.declared.value.Element.{Element}
-use Rattle.dexval.specs.declared.value.EncodedAnnotation.{EncodedAnnotation, out-EncodedAnnotation}
-use Rattle.dexval.specs.Code.{value_of, element_of, values_of, elements_of, encoded_of, encoded_type, encoded_elements}
-use Rattle.dexval.specs.Numbered.{Annotated, values_of_list, elements_of_list}
 use Rattle.dexval.specs.Numbered as numbered
-use Rattle.dexval.specs.Renumbering.{remapped, renumbered, renumbered_values, renumbered_elements, renumbered_element, HasPlaces, HavePlaces, ElementHasPlaces, ElementsHavePlaces}
-use Rattle.dexpool.specs.Images.{IsMapped, MapsUse}
-use Rattle.dexval.specs.Uses.{value_uses, elements_uses}
-use Rattle.dexval.specs.Spelled.{numbered_elements_weight}
 use Rattle.dexval.proofs.CodeForms.{string_is, typ_is, field_is, method_is, enum_is, array_is, annotation_is, element_is}
 use Rattle.dexval.proofs.Members.{value_lighter, element_lighter}
 use Rattle.dexval.proofs.ValueForms.{array_lighter, annotation_lighter}
@@ -96,17 +84,15 @@ value::Value::renumber-renumber_values-requires t c =
 pub value::Value::renumber-renumber-requires : goal.value::Value::renumber-renumber-requires
 value::Value::renumber-renumber-requires t c =
     let same = c.deref_mut-in-Annotation.ensures.value ∙ ap (λ b. b.value) c.in-Annotation.annotation-is in
-    let placed = subst (HasPlaces c.args.remap.now) (ap value_of c.in-Annotation.is ∙ annotation_is c.in-Annotation.annotation) c.requires in
     let lighter = annotation_lighter c.args.self.now c.in-Annotation.annotation c.in-Annotation.is in
     let weight = ap (λ a. numbered_elements_weight (encoded_elements a)) same in
-    (search rules, subst (λ a. HasPlaces c.args.remap.now (encoded_of a)) (sym same) placed)
+    (search rules, subst (λ a. HasPlaces c.args.remap.now (encoded_of a)) (sym same) (subst (HasPlaces c.args.remap.now) (ap value_of c.in-Annotation.is ∙ annotation_is c.in-Annotation.annotation) c.requires))
 
 pub value::Value::renumber-returns-in-Annotation : goal.value::Value::renumber-returns-in-Annotation
 value::Value::renumber-returns-in-Annotation t c =
     let r = c.args.remap.now in
     let b = c.in-Annotation.annotation in
-    let same = c.deref_mut-in-Annotation.ensures.value ∙ ap (λ b. b.value) c.in-Annotation.annotation-is in
-    let is = c.renumber.ensures ∙ ap (λ a. renumbered r (encoded_of a)) same ∙ ap (renumbered r) (sym (annotation_is b)) in
+    let is = c.renumber.ensures ∙ ap (λ a. renumbered r (encoded_of a)) (c.deref_mut-in-Annotation.ensures.value ∙ ap (λ b. b.value) c.in-Annotation.annotation-is) ∙ ap (renumbered r) (sym (annotation_is b)) in
     let whole : value_of (variants.Annotation (with_value b c.renumber.new.self)) ≡ renumbered r (value_of (variants.Annotation b)) = annotation_is (with_value b c.renumber.new.self) ∙ is in
     search rules
 

@@ -1,8 +1,4 @@
-use Rattle.std.proofs.Common.{◌+◌, map}
-use Rattle.dexval.specs.Code.{value_of, element_of, encoded_elements}
-use Rattle.dexval.specs.Numbered.{values_of_list, elements_of_list}
-use Rattle.dexval.specs.Renumbering.{renumbered, renumbered_element}
-use Rattle.dexval.specs.Spelled.{numbered_weight, numbered_values_weight, numbered_elements_weight}
+use Rattle.dexval.proofs.Common.{◌+◌, map, value_of, element_of, encoded_elements, values_of_list, elements_of_list, renumbered, renumbered_element, numbered_weight, numbered_values_weight, numbered_elements_weight}
 use Rattle.dexval.proofs.Renumbered.{AreRemapped}
 use Rattle.dexval.proofs.+renumbering.Given as goal
 

@@ -1,16 +1,8 @@
-use Rattle.std.proofs.Common.{rules, sym, subst}
-use Rattle.std.specs.List.{FoldsTo}
-use Rattle.dexval.specs.Uses.{element_uses}
+use Rattle.dexval.proofs.Common.{sym, subst, FoldsTo, element_uses}
 use Rattle.dexval.proofs.CodeForms.{element_is}
-use Rattle.dexval.proofs.Members.{value_lighter, element_lighter}
 use Rattle.dexval.proofs.Marked.{code_uses, part_uses, uses_of_values, uses_of_elements}
 use Rattle.dexpool.proofs.Visits.{visited_more, visited_all}
 use Rattle.dexval.proofs.+visiting.Goals as goal
-
-pub visiting::visit_elements-visit-requires : goal.visiting::visit_elements-visit-requires
-visiting::visit_elements-visit-requires g t c =
-    let lighter = element_lighter c.args.elements.now c.loop-element.element-index c.element-item.result c.loop-element-test.true c.element-item.is in
-    search rules
 
 pub visiting::visit_elements-loop-element-preserved : goal.visiting::visit_elements-loop-element-preserved
 visiting::visit_elements-loop-element-preserved g t c =
@@ -20,11 +12,6 @@ pub visiting::visit_elements-returns : goal.visiting::visit_elements-returns
 visiting::visit_elements-returns g t c =
     subst (λ us. FoldsTo g.V.Visitor.step c.args.visitor.now us c.loop-element.visitor) (sym (uses_of_elements c.args.elements.now))
     (visited_all g.V.Visitor.step part_uses c.args.elements.now c.loop-element.element-index c.args.visitor.now c.loop-element.visitor c.loop-element-test.false c.loop-element.invariant)
-
-pub visiting::visit_values-visit-requires : goal.visiting::visit_values-visit-requires
-visiting::visit_values-visit-requires g t c =
-    let lighter = value_lighter c.args.values.now c.loop-value.value-index c.value-item.result c.loop-value-test.true c.value-item.is in
-    search rules
 
 pub visiting::visit_values-loop-value-preserved : goal.visiting::visit_values-loop-value-preserved
 visiting::visit_values-loop-value-preserved g t c =
@@ -37,5 +24,4 @@ visiting::visit_values-returns g t c =
 
 pub value::Element::visit-returns : goal.value::Element::visit-returns
 value::Element::visit-returns g t c =
-    let name = c.symbol.ensures in
-    subst (λ p. FoldsTo g.V.Visitor.step c.args.visitor.now (element_uses p) c.visit.new.visitor) (sym (element_is c.args.self.now)) (c.symbol.new.self, name, c.visit.ensures)
+    subst (λ p. FoldsTo g.V.Visitor.step c.args.visitor.now (element_uses p) c.visit.new.visitor) (sym (element_is c.args.self.now)) (c.symbol.new.self, c.symbol.ensures, c.visit.ensures)

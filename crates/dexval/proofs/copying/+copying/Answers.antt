@@ -1,25 +1,7 @@
-use Rattle.std.proofs.Common.{List, map, ap, sym, ◌∙◌, rules}
-use Rattle.dexval.specs.declared.value.Value.{Value}
-use Rattle.dexval.specs.declared.value.Element.{Element}
-use Rattle.dexval.specs.Code.{value_of, element_of}
-use Rattle.dexval.specs.Numbered.{NumberedValue, values_of_list, elements_of_list}
-use Rattle.dexval.specs.Spelled.{numbered_values_weight, numbered_elements_weight}
+use Rattle.dexval.proofs.Common.{ap, sym, ◌∙◌, Element, value_of, element_of, NumberedValue}
 use Rattle.dexval.proofs.CodeForms.{element_is}
 use Rattle.dexval.proofs.Copies.{copied_more, copied_all}
-use Rattle.dexval.proofs.Members.{value_lighter, element_lighter}
 use Rattle.dexval.proofs.copying.+copying.Goals as goal
-
-pub copied_values-copied_value-requires : goal.copied_values-copied_value-requires
-copied_values-copied_value-requires t c =
-    let lighter = value_lighter c.deref-value-items.result.now c.loop-value.value-index c.value-item.result c.loop-value-test.true c.value-item.is in
-    let same = ap (λ (l : List Value). numbered_values_weight (values_of_list (map value_of l))) c.deref-value-items.ensures.value in
-    search rules
-
-pub copied_elements-copied_value-requires : goal.copied_elements-copied_value-requires
-copied_elements-copied_value-requires t c =
-    let lighter = element_lighter c.deref-element-items.result.now c.loop-element.element-index c.element-item.result c.loop-element-test.true c.element-item.is in
-    let same = ap (λ (l : List Element). numbered_elements_weight (elements_of_list (map element_of l))) c.deref-element-items.ensures.value in
-    search rules
 
 pub copied_elements-loop-element-preserved : goal.copied_elements-loop-element-preserved
 copied_elements-loop-element-preserved t c =

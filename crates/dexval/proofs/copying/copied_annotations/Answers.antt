@@ -1,6 +1,4 @@
-use Rattle.std.proofs.Common.{ap}
-use Rattle.dexval.specs.declared.annotation.Annotation.{Annotation}
-use Rattle.dexval.specs.Code.{annotation_of, visibility_of}
+use Rattle.dexval.proofs.Common.{ap, Annotation, annotation_of, visibility_of}
 use Rattle.dexval.proofs.CodeForms.{annotation_with}
 use Rattle.dexval.proofs.Copies.{copied_more, copied_all}
 use Rattle.dexval.proofs.copying.copied_annotations.Goals as goal

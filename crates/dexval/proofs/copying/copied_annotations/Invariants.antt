@@ -1,5 +1,4 @@
-use Rattle.std.proofs.Common.{◌≡◌, take, map}
-use Rattle.dexval.specs.Code.{annotation_of}
+use Rattle.dexval.proofs.Common.{◌≡◌, take, map, annotation_of}
 use Rattle.dexval.proofs.copying.copied_annotations.Given as goal
 
 abbrev pub invariant-loop-annotation : goal.invariant-loop-annotation

@@ -1,7 +1,4 @@
-use Rattle.std.proofs.Common.{ℕ, Option, None, get_or, refl}
-use Rattle.std.proofs.lemmas.List.{get_or_default}
-use Rattle.dexval.specs.Code.{set_of}
-use Rattle.dexval.specs.Tables.{set_at}
+use Rattle.dexval.proofs.Common.{ℕ, Option, None, get_or, refl, get_or_default, set_of, set_at}
 use Rattle.dexval.proofs.Copies.{copied_more}
 use Rattle.dexval.proofs.directory.copied_list.Goals as goal
 

@@ -1,6 +1,4 @@
-use Rattle.std.proofs.Common.{◌≡◌, take, map}
-use Rattle.dexval.specs.Code.{set_of}
-use Rattle.dexval.specs.Tables.{set_at}
+use Rattle.dexval.proofs.Common.{◌≡◌, take, map, set_of, set_at}
 use Rattle.dexval.proofs.directory.copied_list.Given as goal
 
 abbrev pub invariant-loop-place : goal.invariant-loop-place

@@ -1,10 +1,5 @@
-use Rattle.std.proofs.Common.{ℕ, get_or, map, sym}
-use Rattle.std.specs.Prelude.{Some}
-use Rattle.std.specs.Global.{Vec}
+use Rattle.dexval.proofs.Common.{ℕ, get_or, map, sym, Some, Vec, set_of, sets_at, get_or_default}
 use Rattle.dexval.specs.declared.set.AnnotationSet.{AnnotationSet}
-use Rattle.dexval.specs.Code.{set_of}
-use Rattle.dexval.specs.Tables.{sets_at}
-use Rattle.std.proofs.lemmas.List.{get_or_default}
 use Rattle.dexval.proofs.Copies.{copied_more, copied_all}
 use Rattle.dexval.proofs.directory.copied_lists.Goals as goal
 

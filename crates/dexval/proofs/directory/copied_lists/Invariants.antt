@@ -1,6 +1,4 @@
-use Rattle.std.proofs.Common.{◌≡◌, take, map}
-use Rattle.dexval.specs.Code.{set_of}
-use Rattle.dexval.specs.Shared.{lists_of_members}
+use Rattle.dexval.proofs.Common.{◌≡◌, take, map, set_of, lists_of_members}
 use Rattle.dexval.proofs.directory.copied_lists.Given as goal
 
 abbrev pub invariant-loop-member : goal.invariant-loop-member

@@ -1,9 +1,5 @@
-use Rattle.std.proofs.Common.{ℕ, get_or, sym}
+use Rattle.dexval.proofs.Common.{ℕ, get_or, sym, set_of, set_at, Some, get_or_default}
 use Rattle.dexval.specs.declared.set.AnnotationSet.{AnnotationSet}
-use Rattle.dexval.specs.Code.{set_of}
-use Rattle.dexval.specs.Tables.{set_at}
-use Rattle.std.specs.Prelude.{Some}
-use Rattle.std.proofs.lemmas.List.{get_or_default}
 use Rattle.dexval.proofs.Copies.{copied_more, copied_all}
 use Rattle.dexval.proofs.directory.copied_sets.Goals as goal
 

@@ -1,10 +1,5 @@
-use Rattle.std.proofs.Common.{◌≡◌, ◌+◌, ◌∷◌, [], length, None, nat_eq, refl, sym, ap, subst, arith, rules, length-append}
-use Rattle.std.specs.HashMap.{get}
-use Rattle.dexval.specs.declared.directory_cache.DirectoryCache.{DirectoryCache}
-use Rattle.dexval.specs.Reading.{IsSetAt}
-use Rattle.dexval.specs.Code.{set_of}
-use Rattle.dexval.specs.DirectoryCache.{HaveOffsets}
-use Rattle.dexval.specs.Tables.{NumberedTable}
+use Rattle.dexval.proofs.Common.{◌≡◌, ◌+◌, ◌∷◌, [], length, None, nat_eq, refl, sym, ap, subst, arith, rules, get, DirectoryCache, IsSetAt, set_of, HaveOffsets, NumberedTable}
+use Rattle.std.proofs.Common.{length-append}
 use Rattle.dexval.proofs.CachedSets.{set_cached}
 use Rattle.dexval.proofs.PlacedItems.{fewer, one_placed}
 use Rattle.dexval.proofs.TableGrowth.{set_is_added}

@@ -1,12 +1,6 @@
-use Rattle.std.proofs.Common.{Some, arith}
-use Rattle.std.proofs.lemmas.Result.{err_from_is_err_and}
-use Rattle.dexspec.specs.Annotations.{SetAt}
-use Rattle.dexspec.specs.Weight.{set_weight}
-use Rattle.dexspec.proofs.determined.OneClass.{one_set}
-use Rattle.dexval.specs.Numbered.{set_in}
-use Rattle.dexval.specs.Tables.{set_at}
+use Rattle.dexval.proofs.Common.{Some, arith, SetAt, set_weight, one_set, set_in, set_at}
 use Rattle.dexval.proofs.Keeping.{counts_as}
-use Rattle.dexval.proofs.Refusals.{refused_set, refused_within, item_refused}
+use Rattle.dexval.proofs.Refusals.{err_is, refused_set, refused_within, item_refused}
 use Rattle.dexval.proofs.directory_cache.counted_set_at.Goals as goal
 
 pub returns-in_err-place-clause-refused : goal.returns-in_err-place-clause-refused
@@ -14,8 +8,7 @@ returns-in_err-place-clause-refused c = λ p.
     let b = c.args.source.now.frame.now in
     let off = c.args.off in
     let fault = c.in_err-place.field-0.0 in
-    let e = err_from_is_err_and c.from_residual.result c.from_residual.ensures.1 in
-    rw (e.1, e.2) (refused_within (SetAt b off) set_weight c.args.budget.now.weight c.args.budget.now.most (λ none. none) fault (refused_set b off (λ none. none) fault (c.in_err-place.ensures.refused p)))
+    rw (err_is c.from_residual.result c.from_residual.ensures.1) (refused_within (SetAt b off) set_weight c.args.budget.now.weight c.args.budget.now.most (λ none. none) fault (refused_set b off (λ none. none) fault (c.in_err-place.ensures.refused p)))
 
 pub returns-in_err-add-clause-refused : goal.returns-in_err-add-clause-refused
 returns-in_err-add-clause-refused c = λ p.
@@ -23,8 +16,7 @@ returns-in_err-add-clause-refused c = λ p.
     let m = c.args.source.now.pools.now in
     let off = c.args.off in
     let set = set_at c.cached_set_at.new.cache.table.sets (Some c.in_ok-place.place) in
-    let e = err_from_is_err_and c.from_residual-in_err-add.result c.from_residual-in_err-add.ensures.1 in
-    rw (e.1, e.2) (item_refused (SetAt b off) set_weight c.args.budget.now (set_in m set) c.set_weight.result (one_set b off) (c.in_ok-place.ensures.read p).at (c.set_weight.ensures m) c.in_err-add.field-0.0 c.in_err-add.ensures.refused)
+    rw (err_is c.from_residual-in_err-add.result c.from_residual-in_err-add.ensures.1) (item_refused (SetAt b off) set_weight c.args.budget.now (set_in m set) c.set_weight.result (one_set b off) (c.in_ok-place.ensures.read p).at (c.set_weight.ensures m) c.in_err-add.field-0.0 c.in_err-add.ensures.refused)
 
 pub returns-clause-read : goal.returns-clause-read
 returns-clause-read c = λ p.

@@ -1,11 +1,6 @@
-use Rattle.std.proofs.Common.{Some, [], arith}
-use Rattle.std.proofs.lemmas.Result.{err_from_is_err_and}
-use Rattle.dexspec.specs.Annotations.{SetAt}
-use Rattle.dexspec.specs.Lists.{OrNone}
-use Rattle.dexspec.specs.Weight.{set_weight}
-use Rattle.dexval.specs.Tables.{set_at}
+use Rattle.dexval.proofs.Common.{Some, [], arith, SetAt, OrNone, set_weight, set_at}
 use Rattle.dexval.proofs.DirectoryRead.{empty_set, some_set, set_or_empty_part}
-use Rattle.dexval.proofs.Refusals.{none_counted, part_refused}
+use Rattle.dexval.proofs.Refusals.{err_is, none_counted, part_refused}
 use Rattle.dexval.proofs.directory_cache.counted_set_or_empty_at.Goals as goal
 
 pub returns-then-off-eq0-clause-read : goal.returns-then-off-eq0-clause-read
@@ -16,8 +11,7 @@ returns-in_err-counted_set_at-clause-refused c = λ p.
     let b = c.args.source.now.frame.now in
     let off = c.args.off in
     let budget = c.args.budget.now in
-    let e = err_from_is_err_and c.from_residual.result c.from_residual.ensures.1 in
-    rw (e.1, e.2) (part_refused (OrNone SetAt [] b off) (SetAt b off) set_weight set_weight budget budget 0 (none_counted budget) (set_or_empty_part b off (omega arith)) c.in_err-counted_set_at.field-0.0 (c.in_err-counted_set_at.ensures.refused p))
+    rw (err_is c.from_residual.result c.from_residual.ensures.1) (part_refused (OrNone SetAt [] b off) (SetAt b off) set_weight set_weight budget budget 0 (none_counted budget) (set_or_empty_part b off (omega arith)) c.in_err-counted_set_at.field-0.0 (c.in_err-counted_set_at.ensures.refused p))
 
 pub returns-clause-read : goal.returns-clause-read
 returns-clause-read c = λ p.

@@ -1,14 +1,8 @@
-use Rattle.std.proofs.Common.{◌≡◌, ◌∙◌, ℕ, List, map, sum_by, refl, ap, subst, arith}
-use Rattle.std.specs.Prelude.{All}
-use Rattle.std.proofs.lemmas.Result.{err_from_is_err_and}
-use Rattle.dexspec.specs.Bytes.{uint_at}
-use Rattle.dexspec.specs.Annotations.{SetAt, RefListAt}
-use Rattle.dexval.specs.Directories.{IsSetOrEmptyAt, NoSetOrEmptyAt, set_weight_in, sets_weight_in}
-use Rattle.dexval.specs.Numbered.{NumberedSet, IsKnownSet, set_in}
+use Rattle.dexval.proofs.Common.{ℕ, List, map, sum_by, refl, subst, arith, All, SetAt, RefListAt, IsSetOrEmptyAt, NoSetOrEmptyAt, set_weight_in, sets_weight_in, NumberedSet, IsKnownSet, set_in}
 use Rattle.dexval.proofs.DirectoryRead.{no_members, no_own, no_fields, no_methods, no_parameters, pairs_moved, no_pairs_moved}
 use Rattle.dexval.proofs.DirectoryChecked.{weighed_as, directory_checked}
 use Rattle.dexval.proofs.FileRead.{file_pools}
-use Rattle.dexval.proofs.Refusals.{directory_refused}
+use Rattle.dexval.proofs.Refusals.{err_is, directory_refused}
 use Rattle.dexval.proofs.directory_checking.check_directory.Goals as goal
 
 pub checked_set_at-requires : goal.checked_set_at-requires
@@ -21,29 +15,25 @@ pub returns-in_err-own-clause-refused : goal.returns-in_err-own-clause-refused
 returns-in_err-own-clause-refused c = λ pools.
     let b = c.args.frame.now in
     let p = file_pools b c.args.pools.now c.numbering.result.now c.numbering.ensures c.is_numbering.ensures pools in
-    let e = err_from_is_err_and c.from_residual.result c.from_residual.ensures.1 in
-    rw (e.1, e.2) (directory_refused b c.args.off (λ none. no_own b c.args.off (subst (NoSetOrEmptyAt b) (c.u32_at-own_off.ensures ∙ ap (λ (x : List ℕ). uint_at x c.args.off) c.bytes.ensures.bytes) none)) c.in_err-own.field-0.0 (c.in_err-own.ensures.refused p))
+    rw (err_is c.from_residual.result c.from_residual.ensures.1) (directory_refused b c.args.off (λ none. no_own b c.args.off (subst (NoSetOrEmptyAt b) c.uint_at-own_off.ensures none)) c.in_err-own.field-0.0 (c.in_err-own.ensures.refused p))
 
 pub returns-in_err-fields-clause-refused : goal.returns-in_err-fields-clause-refused
 returns-in_err-fields-clause-refused c = λ pools.
     let b = c.args.frame.now in
     let p = file_pools b c.args.pools.now c.numbering.result.now c.numbering.ensures c.is_numbering.ensures pools in
-    let e = err_from_is_err_and c.from_residual-in_err-fields.result c.from_residual-in_err-fields.ensures.1 in
-    rw (e.1, e.2) (directory_refused b c.args.off (λ none. no_fields b c.args.off c.args.pools.now p (no_pairs_moved SetAt b (omega arith) c.in-Some.ensures.some.1 c.len-limit.ensures none)) c.in_err-fields.field-0.0 (c.in_err-fields.ensures.refused p))
+    rw (err_is c.from_residual-in_err-fields.result c.from_residual-in_err-fields.ensures.1) (directory_refused b c.args.off (λ none. no_fields b c.args.off c.args.pools.now p (no_pairs_moved SetAt b (omega arith) c.in-Some.ensures.some.1 c.len-limit.ensures none)) c.in_err-fields.field-0.0 (c.in_err-fields.ensures.refused p))
 
 pub returns-in_err-methods-clause-refused : goal.returns-in_err-methods-clause-refused
 returns-in_err-methods-clause-refused c = λ pools.
     let b = c.args.frame.now in
     let p = file_pools b c.args.pools.now c.numbering.result.now c.numbering.ensures c.is_numbering.ensures pools in
-    let e = err_from_is_err_and c.from_residual-in_err-methods.result c.from_residual-in_err-methods.ensures.1 in
-    rw (e.1, e.2) (directory_refused b c.args.off (λ none. no_methods b c.args.off c.args.pools.now p (no_pairs_moved SetAt b (omega (arith, c.in-Some.ensures.some.1)) c.in-Some.ensures.some.2 c.len-limit-2.ensures none)) c.in_err-methods.field-0.0 (c.in_err-methods.ensures.refused p))
+    rw (err_is c.from_residual-in_err-methods.result c.from_residual-in_err-methods.ensures.1) (directory_refused b c.args.off (λ none. no_methods b c.args.off c.args.pools.now p (no_pairs_moved SetAt b (omega (arith, c.in-Some.ensures.some.1)) c.in-Some.ensures.some.2 c.len-limit-2.ensures none)) c.in_err-methods.field-0.0 (c.in_err-methods.ensures.refused p))
 
 pub returns-in_err-parameters-clause-refused : goal.returns-in_err-parameters-clause-refused
 returns-in_err-parameters-clause-refused c = λ pools.
     let b = c.args.frame.now in
     let p = file_pools b c.args.pools.now c.numbering.result.now c.numbering.ensures c.is_numbering.ensures pools in
-    let e = err_from_is_err_and c.from_residual-in_err-parameters.result c.from_residual-in_err-parameters.ensures.1 in
-    rw (e.1, e.2) (directory_refused b c.args.off (λ none. no_parameters b c.args.off c.args.pools.now p (no_pairs_moved RefListAt b (omega (arith, c.in-Some.ensures.some.1, c.in-Some.ensures.some.2)) c.in-Some.ensures.some.3 c.len-limit-2.ensures none)) c.in_err-parameters.field-0.0 (c.in_err-parameters.ensures.refused p))
+    rw (err_is c.from_residual-in_err-parameters.result c.from_residual-in_err-parameters.ensures.1) (directory_refused b c.args.off (λ none. no_parameters b c.args.off c.args.pools.now p (no_pairs_moved RefListAt b (omega (arith, c.in-Some.ensures.some.1, c.in-Some.ensures.some.2)) c.in-Some.ensures.some.3 c.len-limit-2.ensures none)) c.in_err-parameters.field-0.0 (c.in_err-parameters.ensures.refused p))
 
 pub returns-clause-checked : goal.returns-clause-checked
 returns-clause-checked c = λ pools. c.in_ok-parameters.ensures.checked (file_pools c.args.frame.now c.args.pools.now c.numbering.result.now c.numbering.ensures c.is_numbering.ensures pools)
@@ -52,18 +42,14 @@ pub returns-clause-directory : goal.returns-clause-directory
 returns-clause-directory c = λ pools.
     let b = c.args.frame.now in
     let m = c.args.pools.now in
-    let o = c.args.off in
     let p = file_pools b m c.numbering.result.now c.numbering.ensures c.is_numbering.ensures pools in
-    let r1 = c.in_ok-own.ensures.weight p in
-    let r2 = c.in_ok-fields.ensures.weight p in
     let r3 = c.in_ok-methods.ensures.weight p in
     let r4 = c.in_ok-parameters.ensures.weight p in
-    let place : c.u32_at-own_off.result ≡ uint_at b o = c.u32_at-own_off.ensures ∙ ap (λ (x : List ℕ). uint_at x o) c.bytes.ensures.bytes in
     let sets = sum_by (λ (e : ℕ × NumberedSet). set_weight_in m e.1) in
     let lists = sum_by (λ (e : ℕ × List NumberedSet). sets_weight_in m e.1) in
-    directory_checked b o m p c.in_ok-own.own c.in_ok-fields.fields c.in_ok-methods.methods c.in_ok-parameters.parameters _ c.in-Some.ensures.some.0
-    (weighed_as _ _ (set_weight_in m) (set_weight_in m) (λ x k. subst (λ (n : ℕ). IsSetOrEmptyAt b n m x) place k) (λ x k. refl) r1)
-    (weighed_as _ _ sets sets (λ xs k. pairs_moved (IsKnownSet m) (set_in m) SetAt b (omega arith) c.in-Some.ensures.some.1 c.len-limit.ensures k) (λ x k. refl) r2)
+    directory_checked b c.args.off m p c.in_ok-own.own c.in_ok-fields.fields c.in_ok-methods.methods c.in_ok-parameters.parameters _ c.in-Some.ensures.some.0
+    (weighed_as _ _ (set_weight_in m) (set_weight_in m) (λ x k. subst (λ (n : ℕ). IsSetOrEmptyAt b n m x) c.uint_at-own_off.ensures k) (λ x k. refl) (c.in_ok-own.ensures.weight p))
+    (weighed_as _ _ sets sets (λ xs k. pairs_moved (IsKnownSet m) (set_in m) SetAt b (omega arith) c.in-Some.ensures.some.1 c.len-limit.ensures k) (λ x k. refl) (c.in_ok-fields.ensures.weight p))
     (weighed_as _ _ sets sets (λ xs k. pairs_moved (IsKnownSet m) (set_in m) SetAt b (omega (arith, c.in-Some.ensures.some.1)) c.in-Some.ensures.some.2 c.len-limit-2.ensures k) (λ x k. refl) r3)
     (weighed_as _ _ lists lists (λ xs k. pairs_moved (All (IsKnownSet m)) (map (set_in m)) RefListAt b (omega (arith, c.in-Some.ensures.some.1, c.in-Some.ensures.some.2)) c.in-Some.ensures.some.3 c.len-limit-2.ensures k) (λ x k. refl) r4)
     (omega (arith, c.saturating_add.ensures, c.saturating_add-2.ensures, c.saturating_add-weight.ensures))

@@ -1,7 +1,6 @@
-use Rattle.std.proofs.Common.{refl, sym}
-use Rattle.std.proofs.lemmas.Result.{err_from_is_err_and}
-use Rattle.dexval.specs.declared.directory_checking.CheckedSets.{CheckedSets}
+use Rattle.dexval.proofs.Common.{refl, sym, CheckedSets}
 use Rattle.dexval.proofs.DirectoryChecked.{list_added}
+use Rattle.dexval.proofs.Refusals.{err_is}
 use Rattle.dexval.proofs.directory_checking.checked_list_at.Goals as goal
 
 pub returns-in-Some-clause-weight : goal.returns-in-Some-clause-weight
@@ -15,5 +14,4 @@ returns-clause-checked c = λ p.
 
 pub returns-in_err-weight-clause-refused : goal.returns-in_err-weight-clause-refused
 returns-in_err-weight-clause-refused c = λ p.
-    let e = err_from_is_err_and c.from_residual.result c.from_residual.ensures.1 in
-    rw (e.1, e.2) (c.in_err-weight.ensures.refused p)
+    rw (err_is c.from_residual.result c.from_residual.ensures.1) (c.in_err-weight.ensures.refused p)

@@ -1,25 +1,18 @@
-use Rattle.std.proofs.Common.{◌≡◌, ◌+◌, ◌*◌, ◌∙◌, ℕ, List, [], sum_by, ap, subst, arith}
-use Rattle.std.proofs.lemmas.Result.{err_from_is_err_and}
-use Rattle.dexspec.specs.Bytes.{uint_at}
-use Rattle.dexval.specs.Numbered.{NumberedSet}
-use Rattle.dexval.specs.Directories.{IsSetOrEmptyAt, NoSetOrEmptyAt, IsRefListAt, set_weight_in, sets_weight_in}
+use Rattle.dexval.proofs.Common.{◌≡◌, ◌+◌, ◌*◌, ℕ, List, [], sum_by, subst, arith, uint_at, NumberedSet, IsSetOrEmptyAt, NoSetOrEmptyAt, IsRefListAt, set_weight_in, sets_weight_in}
 use Rattle.dexval.proofs.DirectoryRead.{HaveReadList, no_list_yet, one_set_more, no_set_next, no_list_room, list_read}
 use Rattle.dexval.proofs.DirectoryChecked.{one_weighed, weighed_as}
 use Rattle.dexval.proofs.Keeping.{list_adds, list_weighs}
-use Rattle.dexval.proofs.Refusals.{refused_so}
+use Rattle.dexval.proofs.Refusals.{err_is, refused_so}
 use Rattle.dexval.proofs.directory_checking.listed_weight.Goals as goal
 
 pub returns-in_err-count-clause-refused : goal.returns-in_err-count-clause-refused
 returns-in_err-count-clause-refused c = λ p.
-    let e = err_from_is_err_and c.from_residual.result c.from_residual.ensures.1 in
-    rw (e.1, e.2) (refused_so (no_list_room c.args.frame.now c.args.off) c.in_err-count.field-0.0 c.in_err-count.ensures.refused)
+    rw (err_is c.from_residual.result c.from_residual.ensures.1) (refused_so (no_list_room c.args.frame.now c.args.off) c.in_err-count.field-0.0 c.in_err-count.ensures.refused)
 
 pub returns-in_err-set-clause-refused : goal.returns-in_err-set-clause-refused
 returns-in_err-set-clause-refused c = λ p.
     let b = c.args.frame.now in
-    let place : c.u32_at-set_off.result ≡ uint_at b (c.args.off + 4 + 4 * c.loop-i.i) = c.u32_at-set_off.ensures ∙ ap (λ (x : List ℕ). uint_at x (c.args.off + 4 + 4 * c.loop-i.i)) c.bytes-bytes.ensures.bytes in
-    let e = err_from_is_err_and c.from_residual-in_err-set.result c.from_residual-in_err-set.ensures.1 in
-    rw (e.1, e.2) (refused_so (λ none. no_set_next b c.args.off c.loop-i.i (omega (arith, c.in_ok-count.ensures.count.1)) (subst (NoSetOrEmptyAt b) place none)) c.in_err-set.field-0.0 (c.in_err-set.ensures.refused p))
+    rw (err_is c.from_residual-in_err-set.result c.from_residual-in_err-set.ensures.1) (refused_so (λ none. no_set_next b c.args.off c.loop-i.i (omega (arith, c.in_ok-count.ensures.count.1)) (subst (NoSetOrEmptyAt b) c.uint_at-set_off.ensures none)) c.in_err-set.field-0.0 (c.in_err-set.ensures.refused p))
 
 pub loop-i-init : goal.loop-i-init
 loop-i-init c = record {
@@ -34,12 +27,11 @@ loop-i-preserved c =
     let p4 = c.args.off + 4 in
     let i = c.loop-i.i in
     let list = c.list_weight-list.result in
-    let are_encoded : c.u32_at-set_off.result ≡ uint_at b (c.args.off + 4 + 4 * i) = c.u32_at-set_off.ensures ∙ ap (λ (x : List ℕ). uint_at x (c.args.off + 4 + 4 * i)) c.bytes-bytes.ensures.bytes in
     record {
       checked = λ p. c.in_ok-set.ensures.checked p;
       weighed = λ p.
           let r = c.in_ok-set.ensures.weight p in
-          let encodes : IsSetOrEmptyAt b (uint_at b (c.args.off + 4 + 4 * i)) m r.item = subst (λ (x : ℕ). IsSetOrEmptyAt b x m r.item) are_encoded r.is_read in
+          let encodes : IsSetOrEmptyAt b (uint_at b (c.args.off + 4 + 4 * i)) m r.item = subst (λ (x : ℕ). IsSetOrEmptyAt b x m r.item) c.uint_at-set_off.ensures r.is_read in
           one_weighed (HaveReadList b p4 m i) (HaveReadList b p4 m (i + 1)) (λ (ss : List NumberedSet). list + sum_by (set_weight_in m) ss) (set_weight_in m) r.item (λ ss k. one_set_more b p4 m i ss r.item k encodes) (list_adds m list r.item) (c.loop-i.invariant.weighed p) r.weight_is (omega (arith, c.saturating_add-weight.ensures));
     }
 

@@ -1,7 +1,4 @@
-use Rattle.std.specs.Prelude.{◌+◌, sum_by}
-use Rattle.dexval.specs.CheckedSets.{AreChecked, IsWeighed}
-use Rattle.dexval.specs.Nesting.{HasPools}
-use Rattle.dexval.specs.Directories.{set_weight_in}
+use Rattle.dexval.proofs.Common.{◌+◌, sum_by, AreChecked, IsWeighed, HasPools, set_weight_in}
 use Rattle.dexval.proofs.DirectoryRead.{HaveReadList}
 use Rattle.dexval.proofs.directory_checking.listed_weight.Given as goal
 

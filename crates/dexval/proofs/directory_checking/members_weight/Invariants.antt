@@ -1,6 +1,4 @@
-use Rattle.std.specs.Prelude.{◌^◌, ◌≤◌, sum_by}
-use Rattle.dexval.specs.CheckedSets.{AreChecked, IsWeighed}
-use Rattle.dexval.specs.Nesting.{HasPools}
+use Rattle.dexval.proofs.Common.{◌^◌, ◌≤◌, sum_by, AreChecked, IsWeighed, HasPools}
 use Rattle.dexval.proofs.DirectoryRead.{HaveReadPairs}
 use Rattle.dexval.proofs.directory_checking.members_weight.Given as goal
 

@@ -1,18 +1,9 @@
-use Rattle.std.proofs.Common.{◌≡◌, ◌∙◌, ℕ, List, [], refl, ap, sym, subst, arith, inl}
-use Rattle.std.proofs.lemmas.Result.{err_from_is_err_and}
-use Rattle.dexspec.specs.Annotations.{SetAt, DirectoryAt}
-use Rattle.dexspec.specs.Bytes.{uint_at}
-use Rattle.dexspec.specs.Lists.{OrNone}
-use Rattle.dexspec.specs.Weight.{set_weight}
-use Rattle.dexval.specs.Numbered.{directory_in}
-use Rattle.dexval.specs.Directories.{directory_weight}
-use Rattle.dexval.specs.Reading.{IsDirectoryAt}
-use Rattle.dexval.specs.internal.Counting.{HasCounted}
+use Rattle.dexval.proofs.Common.{ℕ, [], refl, ap, sym, subst, arith, inl, SetAt, DirectoryAt, OrNone, set_weight, directory_in, directory_weight, IsDirectoryAt, HasCounted}
 use Rattle.dexval.proofs.DirectoryCounted.{fields_refused, methods_refused, parameters_refused, directory_counted}
 use Rattle.dexval.proofs.DirectoryRead.{no_members, own_part}
 use Rattle.dexval.proofs.Keeping.{same_parts}
 use Rattle.dexval.proofs.Naming.{directory_held, directory_named, own_stays, fields_stay, methods_stay}
-use Rattle.dexval.proofs.Refusals.{HasPart, none_counted, part_refused}
+use Rattle.dexval.proofs.Refusals.{err_is, HasPart, none_counted, part_refused}
 use Rattle.dexval.proofs.directory_reading.counted_directory_at.Goals as goal
 
 pub returns-in-None-clause-refused : goal.returns-in-None-clause-refused
@@ -23,35 +14,27 @@ returns-in_err-own-clause-refused c = λ p.
     let b = c.args.source.now.frame.now in
     let o = c.args.off in
     let budget = c.args.budget.now in
-    let place : c.u32_at-own_off.result ≡ uint_at b o = c.u32_at-own_off.ensures ∙ ap (λ (x : List ℕ). uint_at x o) c.bytes-bytes.ensures.bytes in
-    let e = err_from_is_err_and c.from_residual.result c.from_residual.ensures.1 in
-    rw (e.1, e.2)
-    (part_refused (DirectoryAt b o) (OrNone SetAt [] b c.u32_at-own_off.result) directory_weight set_weight budget budget 0 (none_counted budget) (λ d k. subst (λ (n : ℕ). HasPart (OrNone SetAt [] b n) set_weight 0 (directory_weight d)) (sym place) (own_part b o d k))
+    rw (err_is c.from_residual.result c.from_residual.ensures.1)
+    (part_refused (DirectoryAt b o) (OrNone SetAt [] b c.uint_at-own_off.result) directory_weight set_weight budget budget 0 (none_counted budget) (λ d k. subst (λ (n : ℕ). HasPart (OrNone SetAt [] b n) set_weight 0 (directory_weight d)) (sym c.uint_at-own_off.ensures) (own_part b o d k))
     c.in_err-own.field-0.0 (c.in_err-own.ensures.refused p))
 
 pub returns-in_err-fields-clause-refused : goal.returns-in_err-fields-clause-refused
 returns-in_err-fields-clause-refused c = λ p.
     let b = c.args.source.now.frame.now in
     let o = c.args.off in
-    let place = c.u32_at-own_off.ensures ∙ ap (λ (x : List ℕ). uint_at x o) c.bytes-bytes.ensures.bytes in
-    let e = err_from_is_err_and c.from_residual-in_err-fields.result c.from_residual-in_err-fields.ensures.1 in
-    rw (e.1, e.2) (fields_refused b o c.args.source.now.pools.now p place (c.in_ok-own.ensures.read p) (omega arith, c.in-Some.ensures.some.1, c.len-limit.ensures) c.in_err-fields.field-0.0 (c.in_err-fields.ensures.refused p))
+    rw (err_is c.from_residual-in_err-fields.result c.from_residual-in_err-fields.ensures.1) (fields_refused b o c.args.source.now.pools.now p c.uint_at-own_off.ensures (c.in_ok-own.ensures.read p) (omega arith, c.in-Some.ensures.some.1, c.len-limit.ensures) c.in_err-fields.field-0.0 (c.in_err-fields.ensures.refused p))
 
 pub returns-in_err-methods-clause-refused : goal.returns-in_err-methods-clause-refused
 returns-in_err-methods-clause-refused c = λ p.
     let b = c.args.source.now.frame.now in
     let o = c.args.off in
-    let place = c.u32_at-own_off.ensures ∙ ap (λ (x : List ℕ). uint_at x o) c.bytes-bytes.ensures.bytes in
-    let e = err_from_is_err_and c.from_residual-in_err-methods.result c.from_residual-in_err-methods.ensures.1 in
-    rw (e.1, e.2) (methods_refused b o c.args.source.now.pools.now p place (c.in_ok-own.ensures.read p) (omega arith, c.in-Some.ensures.some.1, c.len-limit.ensures) (c.in_ok-fields.ensures.read p) (omega (arith, c.in-Some.ensures.some.1), c.in-Some.ensures.some.2, c.len-limit-2.ensures) c.in_err-methods.field-0.0 (c.in_err-methods.ensures.refused p))
+    rw (err_is c.from_residual-in_err-methods.result c.from_residual-in_err-methods.ensures.1) (methods_refused b o c.args.source.now.pools.now p c.uint_at-own_off.ensures (c.in_ok-own.ensures.read p) (omega arith, c.in-Some.ensures.some.1, c.len-limit.ensures) (c.in_ok-fields.ensures.read p) (omega (arith, c.in-Some.ensures.some.1), c.in-Some.ensures.some.2, c.len-limit-2.ensures) c.in_err-methods.field-0.0 (c.in_err-methods.ensures.refused p))
 
 pub returns-in_err-parameters-clause-refused : goal.returns-in_err-parameters-clause-refused
 returns-in_err-parameters-clause-refused c = λ p.
     let b = c.args.source.now.frame.now in
     let o = c.args.off in
-    let place = c.u32_at-own_off.ensures ∙ ap (λ (x : List ℕ). uint_at x o) c.bytes-bytes.ensures.bytes in
-    let e = err_from_is_err_and c.from_residual-in_err-parameters.result c.from_residual-in_err-parameters.ensures.1 in
-    rw (e.1, e.2) (parameters_refused b o c.args.source.now.pools.now p place (c.in_ok-own.ensures.read p) (omega arith, c.in-Some.ensures.some.1, c.len-limit.ensures) (c.in_ok-fields.ensures.read p) (omega (arith, c.in-Some.ensures.some.1), c.in-Some.ensures.some.2, c.len-limit-2.ensures) (c.in_ok-methods.ensures.read p) (omega (arith, c.in-Some.ensures.some.1, c.in-Some.ensures.some.2), c.in-Some.ensures.some.3, c.len-limit-2.ensures) c.in_err-parameters.field-0.0 (c.in_err-parameters.ensures.refused p))
+    rw (err_is c.from_residual-in_err-parameters.result c.from_residual-in_err-parameters.ensures.1) (parameters_refused b o c.args.source.now.pools.now p c.uint_at-own_off.ensures (c.in_ok-own.ensures.read p) (omega arith, c.in-Some.ensures.some.1, c.len-limit.ensures) (c.in_ok-fields.ensures.read p) (omega (arith, c.in-Some.ensures.some.1), c.in-Some.ensures.some.2, c.len-limit-2.ensures) (c.in_ok-methods.ensures.read p) (omega (arith, c.in-Some.ensures.some.1, c.in-Some.ensures.some.2), c.in-Some.ensures.some.3, c.len-limit-2.ensures) c.in_err-parameters.field-0.0 (c.in_err-parameters.ensures.refused p))
 
 pub returns-clause-held : goal.returns-clause-held
 returns-clause-held c =
@@ -80,8 +63,7 @@ returns-clause-read c = λ p.
     let n2 = c.in_ok-fields.ensures.noted in
     let n3 = c.in_ok-methods.ensures.noted in
     let n4 = c.in_ok-parameters.ensures.noted in
-    let place = c.u32_at-own_off.ensures ∙ ap (λ (x : List ℕ). uint_at x o) c.bytes-bytes.ensures.bytes in
-    let counted = directory_counted b o m p place (c.in_ok-own.ensures.read p) (omega arith, c.in-Some.ensures.some.1, c.len-limit.ensures) (c.in_ok-fields.ensures.read p) (omega (arith, c.in-Some.ensures.some.1), c.in-Some.ensures.some.2, c.len-limit-2.ensures) (c.in_ok-methods.ensures.read p) c.in-Some.ensures.some.0 (omega (arith, c.in-Some.ensures.some.1, c.in-Some.ensures.some.2), c.in-Some.ensures.some.3, c.len-limit-2.ensures) (c.in_ok-parameters.ensures.read p) in
+    let counted = directory_counted b o m p c.uint_at-own_off.ensures (c.in_ok-own.ensures.read p) (omega arith, c.in-Some.ensures.some.1, c.len-limit.ensures) (c.in_ok-fields.ensures.read p) (omega (arith, c.in-Some.ensures.some.1), c.in-Some.ensures.some.2, c.len-limit-2.ensures) (c.in_ok-methods.ensures.read p) c.in-Some.ensures.some.0 (omega (arith, c.in-Some.ensures.some.1, c.in-Some.ensures.some.2), c.in-Some.ensures.some.3, c.len-limit-2.ensures) (c.in_ok-parameters.ensures.read p) in
     let old = c.args.cache.now in
     let own_is = own_stays old first second third new own fields methods parameters n1 n2 n3 n4 in
     let fields_are = fields_stay old first second third new own fields methods parameters n1 n2 n3 n4 in

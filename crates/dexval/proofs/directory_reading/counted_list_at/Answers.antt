@@ -1,21 +1,9 @@
-use Rattle.std.proofs.Common.{◌≡◌, ◌+◌, ◌∷◌, [], length, Some, None, nat_eq, map, refl, sym, ap, subst, rules, arith, length-append}
-use Rattle.std.specs.HashMap.{get}
-use Rattle.std.specs.List.{Contains}
-use Rattle.std.proofs.lemmas.List.Elements.{Contains-push}
-use Rattle.std.proofs.lemmas.Result.{err_from_is_err_and}
-use Rattle.dexspec.specs.Annotations.{RefListAt}
-use Rattle.dexspec.specs.Weight.{ref_list_weight}
-use Rattle.dexspec.proofs.determined.OneClass.{one_ref_list}
-use Rattle.dexval.specs.declared.directory_cache.DirectoryCache.{DirectoryCache}
-use Rattle.dexval.specs.Directories.{IsRefListAt, sets_weight_in}
-use Rattle.dexval.specs.DirectoryCache.{HaveOffsets}
-use Rattle.dexval.specs.Numbered.{set_in}
-use Rattle.dexval.specs.Tables.{NumberedTable, AreNewNamed, sets_at}
-use Rattle.dexval.specs.internal.Counting.{HasCounted}
+use Rattle.dexval.proofs.Common.{◌≡◌, ◌+◌, ◌∷◌, [], length, Some, None, nat_eq, map, refl, sym, ap, subst, rules, arith, get, Contains, Contains-push, RefListAt, ref_list_weight, one_ref_list, DirectoryCache, IsRefListAt, sets_weight_in, HaveOffsets, set_in, NumberedTable, AreNewNamed, sets_at, HasCounted}
+use Rattle.std.proofs.Common.{length-append}
 use Rattle.dexval.proofs.CachedSets.{list_cached}
 use Rattle.dexval.proofs.Keeping.{counts_as}
 use Rattle.dexval.proofs.PlacedItems.{fewer, one_placed}
-use Rattle.dexval.proofs.Refusals.{item_refused}
+use Rattle.dexval.proofs.Refusals.{err_is, item_refused}
 use Rattle.dexval.proofs.TableGrowth.{extends_then, new_then, list_is_added}
 use Rattle.dexval.proofs.directory_reading.counted_list_at.Goals as goal
 
@@ -30,13 +18,11 @@ returns-in_err-add-clause-refused c = λ p.
     let off = c.args.off in
     let place = c.in-Some.place.now in
     let here = (c.requires.cache p).lists_cached off place (sym c.in-Some.ensures.value) in
-    let e = err_from_is_err_and c.from_residual.result c.from_residual.ensures.1 in
-    rw (e.1, e.2) (item_refused (RefListAt b off) ref_list_weight c.args.budget.now (map (set_in m) (sets_at c.args.cache.now.table (Some place))) c.list_weight.result (one_ref_list b off) here.at (c.list_weight.ensures m) c.in_err-add.field-0.0 c.in_err-add.ensures.refused)
+    rw (err_is c.from_residual.result c.from_residual.ensures.1) (item_refused (RefListAt b off) ref_list_weight c.args.budget.now (map (set_in m) (sets_at c.args.cache.now.table (Some place))) c.list_weight.result (one_ref_list b off) here.at (c.list_weight.ensures m) c.in_err-add.field-0.0 c.in_err-add.ensures.refused)
 
 pub returns-in_err-places-clause-refused : goal.returns-in_err-places-clause-refused
 returns-in_err-places-clause-refused c = λ p.
-    let e = err_from_is_err_and c.from_residual-in_err-places.result c.from_residual-in_err-places.ensures.1 in
-    rw (e.1, e.2) (c.in_err-places.ensures.refused p)
+    rw (err_is c.from_residual-in_err-places.result c.from_residual-in_err-places.ensures.1) (c.in_err-places.ensures.refused p)
 
 pub add_list-requires-clause-few : goal.add_list-requires-clause-few
 add_list-requires-clause-few c =

@@ -1,11 +1,10 @@
-use Rattle.std.proofs.Common.{arith}
-use Rattle.std.proofs.lemmas.Result.{err_from_is_err_and}
+use Rattle.dexval.proofs.Common.{arith}
+use Rattle.dexval.proofs.Refusals.{err_is}
 use Rattle.dexval.proofs.directory_reading.directory_at.Goals as goal
 
 pub returns-in_err-places-clause-refused : goal.returns-in_err-places-clause-refused
 returns-in_err-places-clause-refused c = λ p.
-    let e = err_from_is_err_and c.from_residual.result c.from_residual.ensures.1 in
-    rw (e.1, e.2) (c.in_err-places.ensures.refused p)
+    rw (err_is c.from_residual.result c.from_residual.ensures.1) (c.in_err-places.ensures.refused p)
 
 pub returns-clause-read : goal.returns-clause-read
 returns-clause-read c = λ p.

@@ -1,22 +1,8 @@
-use Rattle.std.proofs.Common.{◌≡◌, ◌+◌, ◌*◌, ◌++◌, ◌∷◌, ◌∙◌, ℕ, List, [], Option, Some, map, sum_by, refl, ap, sym, subst, arith}
-use Rattle.std.specs.Prelude.{All}
-use Rattle.std.specs.List.{Contains}
-use Rattle.std.proofs.lemmas.List.{map-append}
-use Rattle.std.proofs.lemmas.List.Elements.{All-nil}
-use Rattle.std.proofs.lemmas.Result.{err_from_is_err_and}
-use Rattle.dexspec.specs.Annotations.{SetAt, RefListAt}
-use Rattle.dexspec.specs.Bytes.{uint_at}
-use Rattle.dexspec.specs.Lists.{OrNone}
-use Rattle.dexspec.specs.Weight.{set_weight, ref_list_weight}
-use Rattle.dexval.specs.Numbered.{NumberedSet}
-use Rattle.dexval.specs.Directories.{IsSetOrEmptyAt, IsRefListAt, set_weight_in, sets_weight_in}
-use Rattle.dexval.specs.DirectoryCache.{IsNoted}
-use Rattle.dexval.specs.Tables.{IsPlaceIn, set_at}
-use Rattle.dexval.specs.internal.Counting.{HasCounted}
+use Rattle.dexval.proofs.Common.{◌≡◌, ◌+◌, ◌*◌, ◌++◌, ◌∷◌, ◌∙◌, ℕ, List, [], Option, Some, map, sum_by, refl, ap, sym, subst, arith, All, Contains, map-append, All-nil, SetAt, RefListAt, uint_at, OrNone, set_weight, ref_list_weight, NumberedSet, IsSetOrEmptyAt, IsRefListAt, set_weight_in, sets_weight_in, IsNoted, IsPlaceIn, set_at, HasCounted}
 use Rattle.dexval.proofs.DirectoryRead.{HaveReadList, no_list_yet, one_set_more, no_list_room, list_part, set_part, list_read}
 use Rattle.dexval.proofs.Keeping.{counts_as, counted_as, one_counted, list_adds, list_weighs}
 use Rattle.dexval.proofs.Naming.{list_step}
-use Rattle.dexval.proofs.Refusals.{HasPart, none_counted, refused_within, part_refused}
+use Rattle.dexval.proofs.Refusals.{err_is, HasPart, none_counted, refused_within, part_refused}
 use Rattle.dexval.proofs.TableGrowth.{extends_same, none_new}
 use Rattle.dexval.proofs.Tables.{map_stays}
 use Rattle.dexval.proofs.directory_reading.listed_sets_at.Goals as goal
@@ -24,8 +10,7 @@ use Rattle.dexval.proofs.directory_reading.listed_sets_at.Goals as goal
 pub returns-in_err-count-clause-refused : goal.returns-in_err-count-clause-refused
 returns-in_err-count-clause-refused c = λ p.
     let b = c.args.source.now.frame.now in
-    let e = err_from_is_err_and c.from_residual.result c.from_residual.ensures.1 in
-    rw (e.1, e.2) (refused_within (RefListAt b c.args.off) ref_list_weight c.args.budget.now.weight c.args.budget.now.most (no_list_room b c.args.off) c.in_err-count.field-0.0 c.in_err-count.ensures.refused)
+    rw (err_is c.from_residual.result c.from_residual.ensures.1) (refused_within (RefListAt b c.args.off) ref_list_weight c.args.budget.now.weight c.args.budget.now.most (no_list_room b c.args.off) c.in_err-count.field-0.0 c.in_err-count.ensures.refused)
 
 pub returns-in_err-add-clause-refused : goal.returns-in_err-add-clause-refused
 returns-in_err-add-clause-refused c = λ p.
@@ -34,8 +19,7 @@ returns-in_err-add-clause-refused c = λ p.
     let budget = c.args.budget.now in
     let list = c.list_weight-list.result in
     let count : c.in_ok-count.count ≡ uint_at b off = c.in_ok-count.ensures.count.1 in
-    let e = err_from_is_err_and c.from_residual-in_err-add.result c.from_residual-in_err-add.ensures.1 in
-    rw (e.1, e.2)
+    rw (err_is c.from_residual-in_err-add.result c.from_residual-in_err-add.ensures.1)
     (part_refused (RefListAt b off) (λ n. n ≡ list) ref_list_weight (λ n. n) budget budget 0 (none_counted budget)
     (list_part b off list (λ none. c.list_weight-list.ensures.none (omega (arith, none, count))) (λ some. omega (arith, count, c.list_weight-list.ensures.some (omega (arith, some, count))))) c.in_err-add.field-0.0 c.in_err-add.ensures.refused)
 
@@ -50,11 +34,9 @@ returns-in_err-place-clause-refused c = λ p.
     let before = list + sum_by (set_weight_in m) kept in
     let h = c.loop-i.invariant.read p in
     let count : c.in_ok-count.count ≡ uint_at b off = c.in_ok-count.ensures.count.1 in
-    let place : c.u32_at-set_off.result ≡ uint_at b (off + 4 + 4 * i) = c.u32_at-set_off.ensures ∙ ap (λ (x : List ℕ). uint_at x (off + 4 + 4 * i)) c.bytes-bytes.ensures.bytes in
-    let e = err_from_is_err_and c.from_residual-in_err-place.result c.from_residual-in_err-place.ensures.1 in
-    rw (e.1, e.2)
-    (part_refused (RefListAt b off) (OrNone SetAt [] b c.u32_at-set_off.result) ref_list_weight set_weight c.args.budget.now c.loop-i.budget before h.counted
-    (λ ss k. subst (λ (n : ℕ). HasPart (OrNone SetAt [] b n) set_weight before (ref_list_weight ss)) (sym place) (set_part b off i list m kept (omega (arith, count)) (λ some. omega (arith, count, c.list_weight-list.ensures.some (omega (arith, some, count)))) h.is_read ss k))
+    rw (err_is c.from_residual-in_err-place.result c.from_residual-in_err-place.ensures.1)
+    (part_refused (RefListAt b off) (OrNone SetAt [] b c.uint_at-set_off.result) ref_list_weight set_weight c.args.budget.now c.loop-i.budget before h.counted
+    (λ ss k. subst (λ (n : ℕ). HasPart (OrNone SetAt [] b n) set_weight before (ref_list_weight ss)) (sym c.uint_at-set_off.ensures) (set_part b off i list m kept (omega (arith, count)) (λ some. omega (arith, count, c.list_weight-list.ensures.some (omega (arith, some, count)))) h.is_read ss k))
     c.in_err-place.field-0.0 (c.in_err-place.ensures.refused p))
 
 pub loop-i-init : goal.loop-i-init
@@ -88,7 +70,6 @@ loop-i-preserved c =
     let noted = c.in_ok-place.ensures.noted in
     let set = set_at new.table.sets place in
     let kept = map (set_at mid.table.sets) before in
-    let are_encoded : c.u32_at-set_off.result ≡ uint_at b (c.args.off + 4 + 4 * i) = c.u32_at-set_off.ensures ∙ ap (λ (x : List ℕ). uint_at x (c.args.off + 4 + 4 * i)) c.bytes-bytes.ensures.bytes in
     let put : after ≡ before ++ place ∷ [] = c.in_ok-push.ensures.items in
     let pushed : map (set_at new.table.sets) after ≡ kept ++ set ∷ [] =
     ap (map (set_at new.table.sets)) put ∙ map-append (set_at new.table.sets) before (place ∷ [])
@@ -100,7 +81,7 @@ loop-i-preserved c =
       cache = λ p. c.in_ok-place.ensures.cache p;
       read = λ p.
           let r = c.in_ok-place.ensures.read p in
-          let encodes : IsSetOrEmptyAt b (uint_at b (c.args.off + 4 + 4 * i)) m set = subst (λ (x : ℕ). IsSetOrEmptyAt b x m set) are_encoded r.is_read in
+          let encodes : IsSetOrEmptyAt b (uint_at b (c.args.off + 4 + 4 * i)) m set = subst (λ (x : ℕ). IsSetOrEmptyAt b x m set) c.uint_at-set_off.ensures r.is_read in
           one_counted (HaveReadList b p4 m i) (HaveReadList b p4 m (i + 1)) (λ (ss : List NumberedSet). list + sum_by (set_weight_in m) ss) (set_weight_in m) (list_adds m list set kept) (c.loop-i.invariant.read p) r.counted (λ k. one_set_more b p4 m i kept set k encodes) pushed;
     }
 

@@ -1,10 +1,4 @@
-use Rattle.std.specs.Prelude.{◌≡◌, ◌+◌, Some, All, map, sum_by}
-use Rattle.std.specs.List.{Contains}
-use Rattle.dexval.specs.Nesting.{HasPools}
-use Rattle.dexval.specs.Directories.{set_weight_in}
-use Rattle.dexval.specs.DirectoryCache.{AreCached, IsNoted}
-use Rattle.dexval.specs.Tables.{IsPlaceIn, set_at}
-use Rattle.dexval.specs.internal.Counting.{HasCounted}
+use Rattle.dexval.proofs.Common.{◌≡◌, ◌+◌, Some, All, map, sum_by, Contains, HasPools, set_weight_in, AreCached, IsNoted, IsPlaceIn, set_at, HasCounted}
 use Rattle.dexval.proofs.DirectoryRead.{HaveReadList}
 use Rattle.dexval.proofs.directory_reading.listed_sets_at.Given as goal
 

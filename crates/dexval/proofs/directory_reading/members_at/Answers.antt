@@ -1,17 +1,8 @@
-use Rattle.std.proofs.Common.{◌≡◌, ◌+◌, ◌*◌, ◌++◌, ◌∷◌, ◌∙◌, ℕ, List, [], Some, map, sum_by, ap, sym, subst, arith}
-use Rattle.std.proofs.lemmas.List.{map-append}
-use Rattle.std.proofs.lemmas.List.Elements.{All-nil}
-use Rattle.std.proofs.lemmas.Result.{err_from_is_err_and}
-use Rattle.dexspec.specs.Annotations.{PairsAt}
-use Rattle.dexspec.specs.Bytes.{uint_at}
-use Rattle.dexval.specs.Directories.{IsIndexBelow}
-use Rattle.dexval.specs.DirectoryCache.{IsNamedOf}
-use Rattle.dexval.specs.Tables.{NumberedTable}
-use Rattle.dexval.specs.internal.Counting.{HasCounted}
+use Rattle.dexval.proofs.Common.{◌≡◌, ◌+◌, ◌*◌, ◌++◌, ◌∷◌, ◌∙◌, ℕ, List, [], Some, map, sum_by, ap, sym, subst, arith, map-append, All-nil, PairsAt, uint_at, IsIndexBelow, IsNamedOf, NumberedTable, HasCounted}
 use Rattle.dexval.proofs.DirectoryRead.{HaveReadPairs, no_pair_yet, one_pair_more, no_pair_next, item_part, pairs_end}
 use Rattle.dexval.proofs.Keeping.{one_counted, members_add}
 use Rattle.dexval.proofs.Naming.{AreNoted, members_step}
-use Rattle.dexval.proofs.Refusals.{HasPart, none_counted, refused_within, part_refused}
+use Rattle.dexval.proofs.Refusals.{err_is, HasPart, none_counted, refused_within, part_refused}
 use Rattle.dexval.proofs.TableGrowth.{extends_same, none_new}
 use Rattle.dexval.proofs.Tables.{map_stays}
 use Rattle.dexval.proofs.directory_reading.members_at.Goals as goal
@@ -23,8 +14,7 @@ returns-in_err-number-clause-refused g c = λ p.
     let pairs = c.args.pairs.now in
     let encodes = g.T.OfMember.encodes in
     let kept : List (ℕ × g.T.OfMember.Numbered) = map (λ (e : ℕ × ℕ). (e.0, g.T.OfMember.of c.loop-i.cache.table (Some e.1))) c.loop-i.members.items in
-    let e = err_from_is_err_and c.from_residual-in_err-number.result c.from_residual-in_err-number.ensures.1 in
-    rw (e.1, e.2)
+    rw (err_is c.from_residual-in_err-number.result c.from_residual-in_err-number.ensures.1)
     (refused_within (PairsAt (IsIndexBelow pairs.limit) encodes b pairs.at pairs.count) (sum_by (λ (e : ℕ × g.T.OfMember.Meant). g.T.OfMember.weighs e.1)) c.args.budget.now.weight c.args.budget.now.most
     (no_pair_next (g.T.OfMember.is_known m) (g.T.OfMember.inside m) encodes b pairs.at pairs.count pairs.limit c.loop-i.i c.loop-i.least kept (omega arith) (c.loop-i.invariant.read p).is_read) c.in_err-number.field-0.0 c.in_err-number.ensures.refused)
 
@@ -39,11 +29,9 @@ returns-in_err-place-clause-refused g c = λ p.
     let all = sum_by (λ (e : ℕ × g.T.OfMember.Meant). weighs e.1) in
     let kept : List (ℕ × g.T.OfMember.Numbered) = map (λ (e : ℕ × ℕ). (e.0, g.T.OfMember.of c.loop-i.cache.table (Some e.1))) c.loop-i.members.items in
     let before = sum_by (λ (e : ℕ × g.T.OfMember.Numbered). weighs (inside e.1)) kept in
-    let off = c.in_ok-number.off in
     let h = c.loop-i.invariant.read p in
-    let e = err_from_is_err_and c.from_residual-in_err-place.result c.from_residual-in_err-place.ensures.1 in
-    rw (e.1, e.2)
-    (part_refused (PairsAt (IsIndexBelow pairs.limit) encodes b pairs.at pairs.count) (encodes b off) all weighs c.args.budget.now c.loop-i.budget before h.counted
+    rw (err_is c.from_residual-in_err-place.result c.from_residual-in_err-place.ensures.1)
+    (part_refused (PairsAt (IsIndexBelow pairs.limit) encodes b pairs.at pairs.count) (encodes b c.in_ok-number.off) all weighs c.args.budget.now c.loop-i.budget before h.counted
     (λ entries k. subst (λ (o : ℕ). HasPart (encodes b o) weighs before (all entries)) (sym c.in_ok-number.ensures.pair.2)
     (item_part (g.T.OfMember.is_known m) inside encodes weighs g.met.T.OfMember.one b pairs.at pairs.count pairs.limit c.loop-i.i c.loop-i.least kept (omega arith) h.is_read entries k))
     c.in_err-place.field-0.0 (c.in_err-place.ensures.refused p))
@@ -120,11 +108,10 @@ loop-i-preserved g c =
 pub returns-clause-read : goal.returns-clause-read
 returns-clause-read g c = λ p.
     let encodes = g.T.OfMember.encodes in
-    let b = c.args.source.now.frame.now in
     let m = c.args.source.now.pools.now in
     let pairs = c.args.pairs.now in
     let Known = g.T.OfMember.is_known m in
     let inside = g.T.OfMember.inside m in
     let weighs = sum_by (λ (e : ℕ × g.T.OfMember.Numbered). g.T.OfMember.weighs (inside e.1)) in
     let h = c.loop-i.invariant.read p in
-    record { is_read = pairs_end Known inside encodes b pairs.at pairs.count pairs.limit c.loop-i.i c.loop-i.least _ (omega arith) h.is_read; counted = h.counted }
+    record { is_read = pairs_end Known inside encodes c.args.source.now.frame.now pairs.at pairs.count pairs.limit c.loop-i.i c.loop-i.least _ (omega arith) h.is_read; counted = h.counted }

@@ -1,7 +1,4 @@
-use Rattle.std.specs.Prelude.{◌^◌, ◌≤◌, Some, map, sum_by}
-use Rattle.dexval.specs.Nesting.{HasPools}
-use Rattle.dexval.specs.DirectoryCache.{AreCached}
-use Rattle.dexval.specs.internal.Counting.{HasCounted}
+use Rattle.dexval.proofs.Common.{◌^◌, ◌≤◌, Some, map, sum_by, HasPools, AreCached, HasCounted}
 use Rattle.dexval.proofs.DirectoryRead.{HaveReadPairs}
 use Rattle.dexval.proofs.Naming.{AreNoted}
 use Rattle.dexval.proofs.directory_reading.members_at.Given as goal

@@ -1,29 +1,15 @@
-use Rattle.std.proofs.Common.{ℕ, List, ◌∷◌, [], ◌++◌, subst, sym, ap, ◌∙◌, rules, length, map, to_z, of_z, w64}
-use Rattle.dexspec.specs.Numbers.{uleb128}
-use Rattle.dexval.specs.declared.value.Value.{Value}
-use Rattle.dexval.specs.declared.value.Element.{Element}
-use Rattle.dexval.specs.declared.value.EncodedAnnotation.{EncodedAnnotation, out-EncodedAnnotation}
-use Rattle.dexval.specs.Code.{value_of, elements_of, encoded_of, encoded_type, encoded_elements}
-use Rattle.dexval.specs.Numbered.{values_of_list}
-use Rattle.dexval.specs.Spelled.{values_count, elements_count, count_bytes, numbered_bytes, numbered_values_bytes, numbered_elements_bytes, numbered_array_bytes, encoded_annotation_bytes, numbered_elements_weight}
+use Rattle.dexval.proofs.Common.{ℕ, List, ◌∷◌, [], ◌++◌, subst, sym, ap, ◌∙◌, rules, length, map, to_z, of_z, w64, uleb128, Value, Element, EncodedAnnotation, out-EncodedAnnotation, value_of, elements_of, encoded_of, encoded_type, encoded_elements, values_of_list, values_count, elements_count, count_bytes, numbered_bytes, numbered_values_bytes, numbered_elements_bytes, numbered_array_bytes, encoded_annotation_bytes}
 use Rattle.dexval.proofs.CodeForms.{byte_is, short_is, char_is, int_is, long_is, float_is, double_is, string_is, typ_is, field_is, method_is, enum_is, array_is, annotation_is}
 use Rattle.dexhead.proofs.Encoded.{given_more, given_all}
 use Rattle.dexval.proofs.Encodings.{unsigned_given, signed_given, bits_given}
-use Rattle.dexval.proofs.Members.{value_spelled, element_spelled, values_are_spelled, elements_are_spelled, count_values_is, count_elements_is, value_lighter, element_lighter}
-use Rattle.dexval.proofs.ValueForms.{array_lighter, annotation_lighter}
+use Rattle.dexval.proofs.Members.{value_spelled, element_spelled, values_are_spelled, elements_are_spelled, count_values_is, count_elements_is}
 use Rattle.dexval.proofs.encoding.+encoding.Goals as goal
 
 pub encode_array-returns : goal.encode_array-returns
 encode_array-returns g t c =
-    let gives = g.O.Output.gives in
     let xs = values_of_list (map value_of c.args.values.now) in
-    let count = subst (λ (n : ℕ). gives (count_bytes n) c.args.out.now c.encode_count.new.out) (sym (count_values_is c.args.values.now)) c.encode_count.ensures in
+    let count = subst (λ (n : ℕ). g.O.Output.gives (count_bytes n) c.args.out.now c.encode_count.new.out) (sym (count_values_is c.args.values.now)) c.encode_count.ensures in
     g.met.O.Output.both (count_bytes (values_count xs)) (numbered_values_bytes xs) c.args.out.now c.encode_count.new.out c.encode_values.new.out count c.encode_values.ensures
-
-pub encode_values-encode_value-requires : goal.encode_values-encode_value-requires
-encode_values-encode_value-requires g t c =
-    let lighter = value_lighter c.args.values.now c.loop-value.value-index c.value-item.result c.loop-value-test.true c.value-item.is in
-    search rules
 
 pub encode_values-loop-value-preserved : goal.encode_values-loop-value-preserved
 encode_values-loop-value-preserved g t c =
@@ -35,11 +21,6 @@ encode_values-returns g t c =
     subst (λ bytes. g.O.Output.gives bytes c.args.out.now c.loop-value.out) (values_are_spelled c.args.values.now)
     (given_all g.O.Output.gives g.met.O.Output.both value_spelled c.args.values.now c.loop-value.value-index c.args.out.now c.loop-value.out c.loop-value-test.false c.loop-value.invariant)
 
-pub encode_annotation-encode_elements-requires : goal.encode_annotation-encode_elements-requires
-encode_annotation-encode_elements-requires g t c =
-    let same = ap (λ (l : List Element). numbered_elements_weight (elements_of l)) c.deref.ensures.value in
-    search rules
-
 pub encode_annotation-returns : goal.encode_annotation-returns
 encode_annotation-returns g t c =
     let gives = g.O.Output.gives in
@@ -49,11 +30,6 @@ encode_annotation-returns g t c =
     let each = subst (λ (l : List Element). gives (numbered_elements_bytes (elements_of l)) c.encode_count.new.out c.encode_elements.new.out) c.deref.ensures.value c.encode_elements.ensures in
     let members = g.met.O.Output.both (count_bytes (elements_count es)) (numbered_elements_bytes es) c.uleb.new.self c.encode_count.new.out c.encode_elements.new.out count each in
     g.met.O.Output.both (uleb128 (encoded_type a)) (count_bytes (elements_count es) ++ numbered_elements_bytes es) c.args.out.now c.uleb.new.self c.encode_elements.new.out c.uleb.ensures members
-
-pub encode_elements-encode_value-requires : goal.encode_elements-encode_value-requires
-encode_elements-encode_value-requires g t c =
-    let lighter = element_lighter c.args.elements.now c.loop-element.element-index c.element-item.result c.loop-element-test.true c.element-item.is in
-    search rules
 
 pub encode_elements-loop-element-preserved : goal.encode_elements-loop-element-preserved
 encode_elements-loop-element-preserved g t c =
@@ -66,17 +42,6 @@ pub encode_elements-returns : goal.encode_elements-returns
 encode_elements-returns g t c =
     subst (λ bytes. g.O.Output.gives bytes c.args.out.now c.loop-element.out) (elements_are_spelled c.args.elements.now)
     (given_all g.O.Output.gives g.met.O.Output.both element_spelled c.args.elements.now c.loop-element.element-index c.args.out.now c.loop-element.out c.loop-element-test.false c.loop-element.invariant)
-
-pub encode_value-encode_array-requires : goal.encode_value-encode_array-requires
-encode_value-encode_array-requires g t c =
-    let lighter = array_lighter c.args.value.now c.in-Array.values c.in-Array.is (c.deref-in-Array.ensures.value ∙ ap (λ v. v.items) c.deref.ensures) in
-    search rules
-
-pub encode_value-encode_annotation-requires : goal.encode_value-encode_annotation-requires
-encode_value-encode_annotation-requires g t c =
-    let lighter = annotation_lighter c.args.value.now c.in-Annotation.annotation c.in-Annotation.is in
-    let same = ap (λ (a : EncodedAnnotation). numbered_elements_weight (encoded_elements a)) c.deref-in-Annotation.ensures in
-    search rules
 
 pub encode_value-returns-in-Array : goal.encode_value-returns-in-Array
 encode_value-returns-in-Array g t c =

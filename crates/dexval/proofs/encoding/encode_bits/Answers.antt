@@ -1,4 +1,4 @@
-use Rattle.std.proofs.Common.{subst}
+use Rattle.dexval.proofs.Common.{subst}
 use Rattle.dexval.proofs.LowBytes.{bits_shifted}
 use Rattle.dexval.proofs.encoding.encode_bits.Goals as goal
 

@@ -1,6 +1,4 @@
-use Rattle.std.proofs.Common.{◌-◌, ◌∷◌, ◌∙◌, [], ap, subst, take}
-use Rattle.dexspec.specs.Bytes.{bytes_of}
-use Rattle.dexspec.specs.Values.{value_byte}
+use Rattle.dexval.proofs.Common.{◌-◌, ◌∷◌, ◌∙◌, [], ap, subst, take, bytes_of, value_byte}
 use Rattle.dexval.proofs.LowBytes.{low_bytes}
 use Rattle.dexval.proofs.encoding.encode_low.Goals as goal
 

@@ -1,5 +1,4 @@
-use Rattle.std.proofs.Common.{◌≡◌, fold, take}
-use Rattle.std.specs.List.{flat_map}
+use Rattle.dexval.proofs.Common.{◌≡◌, fold, take, flat_map}
 use Rattle.dexval.proofs.Hashed.{value_fed, element_fed}
 use Rattle.dexval.proofs.hashing.+hashing.Given as goal
 

@@ -1,7 +1,5 @@
-use Rattle.std.proofs.Common.{ℕ, ◌++◌, ap}
+use Rattle.dexval.proofs.Common.{ℕ, ◌++◌, ap, encoded_type, encoded_elements, encoded_input}
 use Rattle.std.specs.Hash as fed
-use Rattle.dexval.specs.Code.{encoded_type, encoded_elements}
-use Rattle.dexval.specs.Equality.{encoded_input}
 use Rattle.dexval.proofs.hashing.hash_annotation.Goals as goal
 
 pub returns : goal.returns

@@ -1,4 +1,4 @@
-use Rattle.std.proofs.Common.{length, arith}
+use Rattle.dexval.proofs.Common.{length, arith}
 use Rattle.std.specs.Hash as fed
 use Rattle.dexval.proofs.Hashed.{annotation_fed, annotations_are_fed, fed_more, fed_all}
 use Rattle.dexval.proofs.hashing.hash_annotations.Goals as goal

@@ -1,6 +1,5 @@
-use Rattle.std.proofs.Common.{◌≡◌, ◌++◌, length, fold, take}
+use Rattle.dexval.proofs.Common.{◌≡◌, ◌++◌, length, fold, take, flat_map}
 use Rattle.std.specs.Hash as fed
-use Rattle.std.specs.List.{flat_map}
 use Rattle.dexval.proofs.Hashed.{annotation_fed}
 use Rattle.dexval.proofs.hashing.hash_annotations.Given as goal
 

@@ -1,4 +1,4 @@
-use Rattle.std.proofs.Common.{◌≡◌, ◌+◌, ℕ, refl, ap, subst, arith}
+use Rattle.dexval.proofs.Common.{◌≡◌, ◌+◌, ℕ, refl, ap, subst, arith}
 use Rattle.dexval.proofs.NestedRead.{nothing_after, no_deep_array, no_deep_annotation, no_array, no_annotation}
 use Rattle.dexval.proofs.ValuesRead.{no_count}
 use Rattle.dexval.proofs.ElementsRead.{no_such_name, no_such_type, no_name, no_value, no_type, no_element_count, no_elements}

@@ -1,5 +1,4 @@
-use Rattle.std.specs.Prelude.{◌+◌, ◌*◌, ◌^◌, ◌≤◌, length}
-use Rattle.dexval.specs.Nesting.{HasPools}
+use Rattle.dexval.proofs.Common.{◌+◌, ◌*◌, ◌^◌, ◌≤◌, length, HasPools}
 use Rattle.dexval.proofs.NestedChecked.{ValuesChecked, ElementsChecked}
 use Rattle.dexval.proofs.nested_checking.+checking.Given as goal
 

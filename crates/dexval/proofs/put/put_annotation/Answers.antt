@@ -1,5 +1,4 @@
-use Rattle.std.proofs.Common.{arith}
-use Rattle.dexval.specs.Code.{annotation_of}
+use Rattle.dexval.proofs.Common.{arith, annotation_of}
 use Rattle.dexval.proofs.Spelling.{annotation_put_is, annotation_size_is}
 use Rattle.dexval.proofs.Weights.{elements_weight_is}
 use Rattle.dexval.proofs.put.put_annotation.Goals as goal

@@ -1,6 +1,4 @@
-use Rattle.std.proofs.Common.{map, arith}
-use Rattle.dexval.specs.Code.{annotation_of}
-use Rattle.dexval.specs.Renumbering.{renumbered_annotation, AnnotationHasPlaces}
+use Rattle.dexval.proofs.Common.{map, arith, annotation_of, renumbered_annotation, AnnotationHasPlaces}
 use Rattle.dexval.proofs.Renumbered.{next_member, remapped_more, annotations_placed}
 use Rattle.dexval.proofs.renumbering.renumber_annotations.Goals as goal
 

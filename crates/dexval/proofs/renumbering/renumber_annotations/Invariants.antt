@@ -1,5 +1,4 @@
-use Rattle.dexval.specs.Code.{annotation_of}
-use Rattle.dexval.specs.Renumbering.{renumbered_annotation}
+use Rattle.dexval.proofs.Common.{annotation_of, renumbered_annotation}
 use Rattle.dexval.proofs.Renumbered.{AreRemapped}
 use Rattle.dexval.proofs.renumbering.renumber_annotations.Given as goal
 

@@ -1,6 +1,4 @@
-use Rattle.std.proofs.Common.{◌<◌, length, arith}
-use Rattle.dexval.specs.Code.{annotation_of}
-use Rattle.dexval.specs.Renumbering.{renumbered_annotation}
+use Rattle.dexval.proofs.Common.{◌<◌, length, arith, annotation_of, renumbered_annotation}
 use Rattle.dexval.proofs.Compared.{same_at}
 use Rattle.dexval.proofs.same.same_annotations.Goals as goal
 

@@ -1,6 +1,4 @@
-use Rattle.std.proofs.Common.{◌≡◌, length, map, take}
-use Rattle.dexval.specs.Code.{annotation_of}
-use Rattle.dexval.specs.Renumbering.{renumbered_annotation}
+use Rattle.dexval.proofs.Common.{◌≡◌, length, map, take, annotation_of, renumbered_annotation}
 use Rattle.dexval.proofs.same.same_annotations.Given as goal
 
 abbrev pub invariant-loop-i : goal.invariant-loop-i

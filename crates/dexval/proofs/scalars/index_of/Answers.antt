@@ -1,4 +1,4 @@
-use Rattle.std.proofs.Common.{arith}
+use Rattle.dexval.proofs.Common.{arith}
 use Rattle.dexval.proofs.scalars.index_of.Goals as goal
 
 pub overflow_cast-index : goal.overflow_cast-index

@@ -1,4 +1,4 @@
-use Rattle.std.proofs.Common.{sym}
+use Rattle.dexval.proofs.Common.{sym}
 use Rattle.dexval.proofs.ScalarsRead.{spelled_encoded, no_width, no_number, no_symbol}
 use Rattle.dexval.proofs.scalars.sized_at.Goals as goal
 

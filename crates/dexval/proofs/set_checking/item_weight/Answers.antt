@@ -1,9 +1,4 @@
-use Rattle.std.proofs.Common.{ℕ, List, ap, sym, subst, refl, arith}
-use Rattle.std.specs.Prelude.{slice_index}
-use Rattle.dexspec.specs.Header.{data_off}
-use Rattle.dexval.specs.Checking.{HasItem}
-use Rattle.dexval.specs.Items.{NoItemAt}
-use Rattle.dexval.specs.Nesting.{HasPools}
+use Rattle.dexval.proofs.Common.{ℕ, List, ap, sym, subst, refl, arith, slice_index, data_off, HasItem, NoItemAt, HasPools}
 use Rattle.dexval.proofs.SetsChecked.{item_checked}
 use Rattle.dexval.proofs.SetsRead.{no_item, no_visibility}
 use Rattle.dexval.proofs.set_checking.item_weight.Goals as goal

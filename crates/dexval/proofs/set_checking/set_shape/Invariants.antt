@@ -1,6 +1,4 @@
-use Rattle.std.specs.Prelude.{◌+◌, ◌*◌, ◌^◌, ◌≤◌}
-use Rattle.dexspec.specs.Bytes.{uint_at}
-use Rattle.dexval.specs.Nesting.{HasPools}
+use Rattle.dexval.proofs.Common.{◌+◌, ◌*◌, ◌^◌, ◌≤◌, uint_at, HasPools}
 use Rattle.dexval.proofs.SetsChecked.{SetChecked}
 use Rattle.dexval.proofs.set_checking.set_shape.Given as goal
 

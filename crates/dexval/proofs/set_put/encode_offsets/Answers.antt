@@ -1,5 +1,4 @@
-use Rattle.std.proofs.Common.{◌≡◌, ℕ, take, sym, subst, arith}
-use Rattle.dexspec.specs.Bytes.{uint}
+use Rattle.dexval.proofs.Common.{◌≡◌, ℕ, take, sym, subst, arith, uint}
 use Rattle.dexval.proofs.Offsets.{end_of, offsets_spelled, one_offset, next_offset, offset_fits, offsets_end}
 use Rattle.dexval.proofs.set_put.encode_offsets.Goals as goal
 
@@ -13,8 +12,7 @@ loop-annotation-preserved g c =
     let i = c.loop-annotation.annotation-index in
     let d = c.annotation-item.result in
     let lt = c.loop-annotation-test.true in
-    let fits = offset_fits c.args.first xs i lt c.requires in
-    let is : c.loop-annotation.offset ≡ end_of c.args.first (take i xs) = omega (arith, c.loop-annotation.invariant.next, fits) in
+    let is : c.loop-annotation.offset ≡ end_of c.args.first (take i xs) = omega (arith, c.loop-annotation.invariant.next, offset_fits c.args.first xs i lt c.requires) in
     let before = offsets_spelled c.args.first (take i xs) in
     let here = subst (λ (n : ℕ). gives (uint n) c.loop-annotation.out c.u32.new.self) is c.u32.ensures in
     let both = g.met.O.Output.both before (uint (end_of c.args.first (take i xs))) c.args.out.now c.loop-annotation.out c.u32.new.self c.loop-annotation.invariant.given here in
@@ -25,5 +23,4 @@ loop-annotation-preserved g c =
 
 pub returns : goal.returns
 returns g c =
-    let i = c.loop-annotation.invariant in
-    subst (λ bs. g.O.Output.gives bs c.args.out.now c.loop-annotation.out) (offsets_end c.args.first c.args.annotations.now c.loop-annotation.annotation-index (omega arith)) i.given
+    subst (λ bs. g.O.Output.gives bs c.args.out.now c.loop-annotation.out) (offsets_end c.args.first c.args.annotations.now c.loop-annotation.annotation-index (omega arith)) c.loop-annotation.invariant.given

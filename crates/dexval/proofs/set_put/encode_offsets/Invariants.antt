@@ -1,4 +1,4 @@
-use Rattle.std.proofs.Common.{◌≡◌, ◌-◌, ◌^◌, min, take}
+use Rattle.dexval.proofs.Common.{◌≡◌, ◌-◌, ◌^◌, min, take}
 use Rattle.dexval.proofs.Offsets.{end_of, offsets_spelled}
 use Rattle.dexval.proofs.set_put.encode_offsets.Given as goal
 

@@ -1,10 +1,6 @@
-use Rattle.std.proofs.Common.{◌≡◌, ◌+◌, ◌*◌, ◌++◌, length, map, refl, ap, ◌∙◌, subst, arith, rules}
-use Rattle.std.proofs.lemmas.List.{length-map}
-use Rattle.dexspec.specs.Bytes.{uint}
+use Rattle.dexval.proofs.Common.{◌≡◌, ◌+◌, ◌*◌, ◌++◌, length, map, refl, ap, ◌∙◌, subst, arith, rules, length-map, uint, annotation_of, numbered_set_bytes}
 use Rattle.dexhead.specs.OutputLaws.{pushed_both}
 use Rattle.dexhead.specs.Pushing.{HasRoomFor, Pushes}
-use Rattle.dexval.specs.Code.{annotation_of}
-use Rattle.dexval.specs.Spelled.{numbered_set_bytes}
 use Rattle.dexval.proofs.Offsets.{annotations_few, set_size, set_begins, offsets_spelled}
 use Rattle.dexval.proofs.set_put.put_offsets.Goals as goal
 
@@ -20,15 +16,13 @@ returns-in_err-reserve c =
 pub returns : goal.returns
 returns c =
     let xs = c.args.annotations.now in
-    let item = numbered_set_bytes c.args.first (map annotation_of xs) in
-    let size = set_size c.args.first (map annotation_of xs) in
     let b = c.reserve.new.self in
     let d = c.encode_offsets.new.out in
     let both = pushed_both (uint (length xs)) (offsets_spelled c.args.first xs) b c.u32.new.self d c.u32.ensures c.encode_offsets.ensures in
     let whole = subst (λ bs. HasRoomFor bs b → Pushes bs b d) (set_begins c.args.first xs) both in
-    let pushes = whole (omega (arith, c.in_ok-reserve.ensures.ok, size, length-map xs annotation_of)) in
+    let pushes = whole (omega (arith, c.in_ok-reserve.ensures.ok, set_size c.args.first (map annotation_of xs), length-map xs annotation_of)) in
     record {
-      ok = pushes.items ∙ ap (λ bs. bs ++ item) c.in_ok-reserve.ensures.items;
+      ok = pushes.items ∙ ap (λ bs. bs ++ (numbered_set_bytes c.args.first (map annotation_of xs))) c.in_ok-reserve.ensures.items;
       len = omega (arith, pushes.len, c.in_ok-reserve.ensures.len);
       err = tt;
       room = λ _. refl;

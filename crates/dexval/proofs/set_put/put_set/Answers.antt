@@ -1,5 +1,4 @@
-use Rattle.std.proofs.Common.{arith}
-use Rattle.dexval.specs.Code.{set_of}
+use Rattle.dexval.proofs.Common.{arith, set_of}
 use Rattle.dexval.proofs.Offsets.{set_size, set_size_is, set_put_is}
 use Rattle.dexval.proofs.Weights.{set_weight_is}
 use Rattle.dexval.proofs.set_put.put_set.Goals as goal
@@ -16,5 +15,4 @@ returns-clause-most c = omega (arith, set_size c.args.first (set_of c.args.set.n
 pub returns-clause-room : goal.returns-clause-room
 returns-clause-room c = λ m some le.
     let s = set_of c.args.set.now in
-    let puts = rw c.annotations.ensures at c.put_offsets.ensures in
-    puts.room (omega (arith, le, set_size_is c.args.first s some, set_weight_is m s))
+    (rw c.annotations.ensures at c.put_offsets.ensures).room (omega (arith, le, set_size_is c.args.first s some, set_weight_is m s))

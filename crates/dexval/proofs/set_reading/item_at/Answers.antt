@@ -1,28 +1,18 @@
-use Rattle.std.proofs.Common.{◌≤◌, ℕ, List, refl, sym, ap, subst, arith}
-use Rattle.std.specs.Prelude.{slice_index}
-use Rattle.std.proofs.lemmas.Result.{err_from_is_err_and}
-use Rattle.dexspec.specs.Header.{data_off}
+use Rattle.dexval.proofs.Common.{◌≤◌, ℕ, List, refl, sym, ap, subst, arith, slice_index, data_off, encoded_type, encoded_elements, visibility_of, NumberedAnnotation, HasPools, NoItemAt, IsItemAt}
 use Rattle.dexval.specs.declared.annotation.Visibility.{Visibility}
-use Rattle.dexval.specs.declared.annotation.Visibility.TheVariants.{Build, Runtime, System}
-use Rattle.dexval.specs.Code.{encoded_type, encoded_elements, visibility_of}
-use Rattle.dexval.specs.Numbered.{NumberedAnnotation}
-use Rattle.dexval.specs.Nesting.{HasPools}
-use Rattle.dexval.specs.Items.{NoItemAt, IsItemAt}
-use Rattle.dexval.proofs.Refusals.{refused_so}
+use Rattle.dexval.specs.declared.annotation.Visibility.TheVariants.{Build}
+use Rattle.dexval.proofs.Refusals.{err_is, refused_so}
 use Rattle.dexval.proofs.SetsRead.{item_read, no_item, no_visibility}
 use Rattle.dexval.proofs.set_reading.item_at.Goals as goal
 
 known : (v : Visibility) → visibility_of v ≤ 2
 known Build = omega arith
-known Runtime = omega arith
-known System = omega arith
+known x = omega arith
 
 pub returns-in-Some-clause-read : goal.returns-in-Some-clause-read
 returns-in-Some-clause-read c = λ p.
     let e = c.bytes-bytes.ensures.bytes in
-    let q = subst (λ (b : List ℕ). HasPools b c.args.pools.now) (sym e) p in
-    let h = c.in_ok-annotation.ensures.read q in
-    let r = rw c.in-Some.is at h in
+    let r = rw c.in-Some.is at (c.in_ok-annotation.ensures.read (subst (λ (b : List ℕ). HasPools b c.args.pools.now) (sym e) p)) in
     let x : NumberedAnnotation = record { visibility = visibility_of c.in_ok-visibility.visibility; type = encoded_type c.in-Some.annotation; elements = encoded_elements c.in-Some.annotation } in
     subst (λ (b : List ℕ). IsItemAt b c.args.off c.args.pools.now x) e
     (item_read c.bytes-bytes.result.now c.args.off c.args.pools.now (visibility_of c.in_ok-visibility.visibility) (encoded_type c.in-Some.annotation) (encoded_elements c.in-Some.annotation) _ (omega (arith, ap data_off e)) (omega arith) (sym c.in_ok-visibility.ensures.visibility) (known c.in_ok-visibility.visibility) r)
@@ -30,13 +20,10 @@ returns-in-Some-clause-read c = λ p.
 pub returns-in-None-clause-refused : goal.returns-in-None-clause-refused
 returns-in-None-clause-refused c = λ p.
     let e = c.bytes-bytes.ensures.bytes in
-    let q = subst (λ (b : List ℕ). HasPools b c.args.pools.now) (sym e) p in
-    let h = c.in_ok-annotation.ensures.read q in
-    let none = rw c.in-None.is at h in
+    let none = rw c.in-None.is at (c.in_ok-annotation.ensures.read (subst (λ (b : List ℕ). HasPools b c.args.pools.now) (sym e) p)) in
     (refl, subst (λ (b : List ℕ). NoItemAt b c.args.off) e (no_item c.bytes-bytes.result.now c.args.off c.args.pools.now none))
 
 pub returns-in_err-visibility-clause-refused : goal.returns-in_err-visibility-clause-refused
 returns-in_err-visibility-clause-refused c = λ p.
     let b = c.bytes-bytes.result.now in
-    let e = err_from_is_err_and c.from_residual.result c.from_residual.ensures.1 in
-    rw (e.1, e.2) (refused_so (λ unknown. subst (λ (b : List ℕ). NoItemAt b c.args.off) c.bytes-bytes.ensures.bytes (no_visibility b c.args.off c.args.pools.now (slice_index b c.args.off) refl unknown)) c.in_err-visibility.field-0.0 c.in_err-visibility.ensures.refused)
+    rw (err_is c.from_residual.result c.from_residual.ensures.1) (refused_so (λ unknown. subst (λ (b : List ℕ). NoItemAt b c.args.off) c.bytes-bytes.ensures.bytes (no_visibility b c.args.off c.args.pools.now (slice_index b c.args.off) refl unknown)) c.in_err-visibility.field-0.0 c.in_err-visibility.ensures.refused)

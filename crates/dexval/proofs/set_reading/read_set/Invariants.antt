@@ -1,7 +1,4 @@
-use Rattle.std.specs.Prelude.{◌+◌, ◌^◌, ◌≤◌, map}
-use Rattle.dexspec.specs.Bytes.{uint_at}
-use Rattle.dexval.specs.Code.{annotation_of}
-use Rattle.dexval.specs.Nesting.{HasPools}
+use Rattle.dexval.proofs.Common.{◌+◌, ◌^◌, ◌≤◌, map, uint_at, annotation_of, HasPools}
 use Rattle.dexval.proofs.SetsRead.{HaveReadSet}
 use Rattle.dexval.proofs.set_reading.read_set.Given as goal
 

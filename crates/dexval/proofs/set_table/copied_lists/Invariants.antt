@@ -1,4 +1,4 @@
-use Rattle.std.proofs.Common.{◌≡◌, take, map}
+use Rattle.dexval.proofs.Common.{◌≡◌, take, map}
 use Rattle.dexval.proofs.set_table.copied_lists.Given as goal
 
 abbrev pub invariant-loop-list : goal.invariant-loop-list

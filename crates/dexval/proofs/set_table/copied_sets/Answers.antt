@@ -1,4 +1,4 @@
-use Rattle.dexval.specs.Code.{set_of}
+use Rattle.dexval.proofs.Common.{set_of}
 use Rattle.dexval.proofs.Copies.{copied_more, copied_all}
 use Rattle.dexval.proofs.set_table.copied_sets.Goals as goal
 

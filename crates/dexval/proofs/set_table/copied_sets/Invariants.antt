@@ -1,5 +1,4 @@
-use Rattle.std.proofs.Common.{◌≡◌, take, map}
-use Rattle.dexval.specs.Code.{set_of}
+use Rattle.dexval.proofs.Common.{◌≡◌, take, map, set_of}
 use Rattle.dexval.proofs.set_table.copied_sets.Given as goal
 
 abbrev pub invariant-loop-set : goal.invariant-loop-set

@@ -1,6 +1,4 @@
-use Rattle.std.proofs.Common.{◌≡◌, ◌+◌, true, false, sym, subst, ◌∙◌, arith}
-use Rattle.dexval.specs.Code.{set_of}
-use Rattle.dexval.specs.Renumbering.{SetHasPlaces}
+use Rattle.dexval.proofs.Common.{◌≡◌, ◌+◌, true, false, sym, subst, ◌∙◌, arith, set_of, SetHasPlaces}
 use Rattle.dexval.proofs.TablesRemapped.{AreSettled, settled_stays, settled_remapped, all_settled, one_here}
 use Rattle.dexval.proofs.set_table.renumber_sets.Goals as goal
 use Rattle.dexval.proofs.set_table.renumber_sets.Goals.{then-fits, else-fits}

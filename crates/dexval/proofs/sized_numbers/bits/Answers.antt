@@ -1,4 +1,4 @@
-use Rattle.std.proofs.Common.{◌∙◌, ℕ, ◌-◌, ◌*◌, ◌^◌, ◌<◌, length, arith, ap, subst, sym}
+use Rattle.dexval.proofs.Common.{◌∙◌, ℕ, ◌-◌, ◌*◌, ◌^◌, ◌<◌, length, arith, ap, subst, sym}
 use Rattle.dexval.proofs.Spelled.{shifted, shifted_room}
 use Rattle.dexval.proofs.sized_numbers.bits.Goals as goal
 

@@ -1,8 +1,4 @@
-use Rattle.std.proofs.Common.{◌∙◌, ℕ, ◌*◌, ◌^◌, ◌<◌, subst, sym}
-use Rattle.std.specs.Prelude.{ℤ}
-use Rattle.std.specs.Int.{w64}
-use Rattle.std.proofs.lemmas.Int.{to_z-of_z}
-use Rattle.dexspec.specs.Numbers.{magnitude}
+use Rattle.dexval.proofs.Common.{◌∙◌, ℕ, ◌*◌, ◌^◌, ◌<◌, subst, sym, ℤ, w64, to_z-of_z, magnitude}
 use Rattle.dexval.proofs.Spelled.{signed_is, signed_room, fits_64}
 use Rattle.dexval.proofs.sized_numbers.signed.Goals as goal
 

@@ -1,5 +1,4 @@
-use Rattle.std.proofs.Common.{ℕ, ap, ◌∙◌, min, ◌^◌, ◌-◌}
-use Rattle.dexval.specs.Code.{annotation_of}
+use Rattle.dexval.proofs.Common.{ℕ, ap, ◌∙◌, min, ◌^◌, ◌-◌, annotation_of}
 use Rattle.dexval.proofs.Spelling.{annotation_lengths_are}
 use Rattle.dexval.proofs.sizes.annotation_size.Goals as goal
 

@@ -1,5 +1,4 @@
-use Rattle.std.proofs.Common.{arith}
-use Rattle.dexspec.proofs.size.SizeItems.{offsets_bytes-size}
+use Rattle.dexval.proofs.Common.{arith, offsets_bytes-size}
 use Rattle.dexval.proofs.sizes.ref_list_size.Goals as goal
 
 pub returns : goal.returns

@@ -1,8 +1,4 @@
-use Rattle.std.proofs.Common.{◌+◌, ℕ, List, refl, sym, subst, arith}
-use Rattle.dexspec.specs.Values.{most_depth}
-use Rattle.dexpool.specs.Pools.{ArePools}
-use Rattle.dexval.specs.Checking.{HasArray}
-use Rattle.dexval.specs.Nesting.{NoArrayAt}
+use Rattle.dexval.proofs.Common.{◌+◌, ℕ, List, refl, sym, subst, arith, most_depth, ArePools, HasArray, NoArrayAt}
 use Rattle.dexval.proofs.FileRead.{file_pools, no_statics}
 use Rattle.dexval.proofs.FileChecked.{statics_checked}
 use Rattle.dexval.proofs.value_checking.statics_shape.Goals as goal

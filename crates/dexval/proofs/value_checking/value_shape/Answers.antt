@@ -1,8 +1,4 @@
-use Rattle.std.proofs.Common.{ℕ, List, sym, subst, arith}
-use Rattle.dexspec.specs.Values.{most_depth}
-use Rattle.dexpool.specs.Pools.{ArePools}
-use Rattle.dexval.specs.Checking.{HasValue}
-use Rattle.dexval.specs.internal.Scalars.{NoValueAt}
+use Rattle.dexval.proofs.Common.{ℕ, List, sym, subst, arith, most_depth, ArePools, HasValue, NoValueAt}
 use Rattle.dexval.proofs.FileRead.{file_pools, no_value}
 use Rattle.dexval.proofs.FileChecked.{value_checked}
 use Rattle.dexval.proofs.value_checking.value_shape.Goals as goal

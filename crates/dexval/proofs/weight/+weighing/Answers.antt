@@ -1,6 +1,4 @@
-use Rattle.std.proofs.Common.{ℕ, ◌-◌, ◌^◌, min, sum_by, ap, ◌∙◌, arith}
-use Rattle.std.proofs.lemmas.List.{take_all}
-use Rattle.std.proofs.lemmas.List.Sums.{sum_by_more}
+use Rattle.dexval.proofs.Common.{ℕ, ◌-◌, ◌^◌, min, sum_by, ap, ◌∙◌, arith, take_all, sum_by_more}
 use Rattle.dexval.proofs.Members.{value_weighs, element_weighs, values_weigh, elements_weigh}
 use Rattle.dexval.proofs.weight.+weighing.Goals as goal
 

@@ -1,4 +1,4 @@
-use Rattle.std.proofs.Common.{◌≡◌, ◌-◌, ◌^◌, min, sum_by, take}
+use Rattle.dexval.proofs.Common.{◌≡◌, ◌-◌, ◌^◌, min, sum_by, take}
 use Rattle.dexval.proofs.Members.{value_weighs, element_weighs}
 use Rattle.dexval.proofs.weight.+weighing.Given as goal
 

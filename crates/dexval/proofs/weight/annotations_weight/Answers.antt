@@ -1,6 +1,4 @@
-use Rattle.std.proofs.Common.{rules}
-use Rattle.dexval.specs.Code.{annotation_of}
-use Rattle.dexval.specs.Spelled.{numbered_annotation_weight}
+use Rattle.dexval.proofs.Common.{rules, annotation_of, numbered_annotation_weight}
 use Rattle.dexval.proofs.weight.annotations_weight.Goals as goal
 
 pub returns : goal.returns

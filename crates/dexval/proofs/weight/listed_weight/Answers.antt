@@ -1,7 +1,5 @@
-use Rattle.std.proofs.Common.{◌+◌, ap, refl, arith}
+use Rattle.dexval.proofs.Common.{◌+◌, ap, refl, arith, sum_by_more, FnReturnsAt}
 use Rattle.std.proofs.lemmas.Fn.{says_at}
-use Rattle.std.proofs.lemmas.List.Sums.{sum_by_more}
-use Rattle.std.specs.Fn.{FnReturnsAt}
 use Rattle.dexval.proofs.weight.listed_weight.Goals as goal
 
 pub loop-item-preserved : goal.loop-item-preserved

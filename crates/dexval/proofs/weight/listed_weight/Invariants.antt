@@ -1,5 +1,4 @@
-use Rattle.std.proofs.Common.{◌≡◌, ◌+◌, ◌-◌, ◌^◌, ℕ, min, sum_by, take}
-use Rattle.std.specs.Fn.{FnReturnsAt}
+use Rattle.dexval.proofs.Common.{◌≡◌, ◌+◌, ◌-◌, ◌^◌, ℕ, min, sum_by, take, FnReturnsAt}
 use Rattle.dexval.proofs.weight.listed_weight.Given as goal
 
 abbrev pub invariant-loop-item : goal.invariant-loop-item

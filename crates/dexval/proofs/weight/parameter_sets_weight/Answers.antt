@@ -1,4 +1,4 @@
-use Rattle.std.proofs.Common.{ap, ◌∙◌, ◌-◌, ◌^◌, min, ℕ, rules}
+use Rattle.dexval.proofs.Common.{ap, ◌∙◌, ◌-◌, ◌^◌, min, ℕ, rules}
 use Rattle.dexval.proofs.Weights.{sets_weight_is}
 use Rattle.dexval.proofs.weight.parameter_sets_weight.Goals as goal
 

@@ -1,7 +1,4 @@
-use Rattle.std.proofs.Common.{ap, ◌∙◌, ◌-◌, ◌+◌, ◌^◌, min, ℕ, List, sum_by, rules}
-use Rattle.dexval.specs.declared.annotation.Annotation.{Annotation}
-use Rattle.dexval.specs.Code.{annotation_of}
-use Rattle.dexval.specs.Spelled.{numbered_annotation_weight}
+use Rattle.dexval.proofs.Common.{ap, ◌∙◌, ◌-◌, ◌+◌, ◌^◌, min, ℕ, List, sum_by, rules, Annotation, annotation_of, numbered_annotation_weight}
 use Rattle.dexval.proofs.Weights.{annotations_weight_is}
 use Rattle.dexval.proofs.weight.set_weight.Goals as goal
 

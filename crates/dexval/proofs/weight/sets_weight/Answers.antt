@@ -1,6 +1,4 @@
-use Rattle.std.proofs.Common.{rules}
-use Rattle.dexval.specs.Code.{set_of}
-use Rattle.dexval.specs.Spelled.{numbered_set_weight}
+use Rattle.dexval.proofs.Common.{rules, set_of, numbered_set_weight}
 use Rattle.dexval.proofs.weight.sets_weight.Goals as goal
 
 pub returns : goal.returns

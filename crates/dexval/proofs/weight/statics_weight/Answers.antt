@@ -1,4 +1,4 @@
-use Rattle.std.proofs.Common.{arith, rules}
+use Rattle.dexval.proofs.Common.{arith, rules}
 use Rattle.dexval.proofs.Weights.{statics_weight_is}
 use Rattle.dexval.proofs.weight.statics_weight.Goals as goal
 

@@ -1,4 +1,4 @@
-use Rattle.std.proofs.Common.{inl, inr, arith}
+use Rattle.dexval.proofs.Common.{inl, inr, arith}
 use Rattle.dexval.proofs.LowBytes.{zero_less, left_is}
 use Rattle.dexval.proofs.widths.bits_width.Goals as goal
 

@@ -1,4 +1,4 @@
-use Rattle.std.proofs.Common.{◌≡◌, ◌-◌, ◌*◌, ◌^◌, ◌≤◌}
+use Rattle.dexval.proofs.Common.{◌≡◌, ◌-◌, ◌*◌, ◌^◌, ◌≤◌}
 use Rattle.dexval.proofs.widths.bits_width.Given as goal
 
 abbrev pub invariant-loop-left : goal.invariant-loop-left

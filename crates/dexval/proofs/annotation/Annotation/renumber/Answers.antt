@@ -1,5 +1,4 @@
-use Rattle.std.proofs.Common.{ap}
-use Rattle.dexval.specs.Code.{visibility_of}
+use Rattle.dexval.proofs.Common.{ap, visibility_of}
 use Rattle.dexval.proofs.CodeForms.{annotation_with}
 use Rattle.dexval.proofs.annotation.Annotation.renumber.Goals as goal
 

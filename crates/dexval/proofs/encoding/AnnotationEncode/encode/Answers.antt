@@ -1,6 +1,4 @@
-use Rattle.std.proofs.Common.{ℕ, ◌∷◌, [], subst}
-use Rattle.dexval.specs.Code.{encoded_type, encoded_elements, visibility_of}
-use Rattle.dexval.specs.Spelled.{encoded_annotation_bytes}
+use Rattle.dexval.proofs.Common.{ℕ, ◌∷◌, [], subst, encoded_type, encoded_elements, visibility_of, encoded_annotation_bytes}
 use Rattle.dexval.proofs.encoding.AnnotationEncode.encode.Goals as goal
 
 pub returns : goal.returns

@@ -1,5 +1,4 @@
-use Rattle.dexval.specs.Code.{set_of}
-use Rattle.dexval.specs.Equality.{equal_sets, set_decides}
+use Rattle.dexval.proofs.Common.{set_of, equal_sets, set_decides}
 use Rattle.dexval.proofs.Unmoved.{same_decision}
 use Rattle.dexval.proofs.equality.AnnotationSetPartialEq.eq.Goals as goal
 

@@ -1,6 +1,4 @@
-use Rattle.std.specs.Prelude.{◌+◌, ◌*◌, ◌^◌, ◌≤◌, length, map}
-use Rattle.dexval.specs.Code.{value_of, element_of}
-use Rattle.dexval.specs.Nesting.{HasPools}
+use Rattle.dexval.proofs.Common.{◌+◌, ◌*◌, ◌^◌, ◌≤◌, length, map, value_of, element_of, HasPools}
 use Rattle.dexval.proofs.ValuesRead.{HaveRead}
 use Rattle.dexval.proofs.ElementsRead.{HaveReadOf}
 use Rattle.dexval.proofs.nesting.ValueReader.+reading.Given as goal

@@ -1,8 +1,4 @@
-use Rattle.std.proofs.Common.{◌≡◌, ◌∙◌, List, [], ◌∷◌, ◌++◌, map, ap, sym, subst}
-use Rattle.std.specs.Prelude.{ℕ, Option}
-use Rattle.std.proofs.lemmas.List.{map-append}
-use Rattle.dexval.specs.Code.{set_of}
-use Rattle.dexval.specs.Tables.{NumberedTable, Extends}
+use Rattle.dexval.proofs.Common.{◌≡◌, ◌∙◌, List, [], ◌∷◌, ◌++◌, map, ap, sym, subst, ℕ, Option, map-append, set_of, NumberedTable, Extends}
 use Rattle.dexval.proofs.TableGrowth.{list_added}
 use Rattle.dexval.proofs.set_table.SetTable.add_list.Goals as goal
 

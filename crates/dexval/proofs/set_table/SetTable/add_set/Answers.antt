@@ -1,8 +1,4 @@
-use Rattle.std.proofs.Common.{◌≡◌, ◌∙◌, List, [], ◌∷◌, ◌++◌, map, ap, sym, subst}
-use Rattle.std.proofs.lemmas.List.{map-append}
-use Rattle.dexval.specs.Code.{set_of}
-use Rattle.dexval.specs.Numbered.{NumberedSet}
-use Rattle.dexval.specs.Tables.{NumberedTable, Extends}
+use Rattle.dexval.proofs.Common.{◌≡◌, ◌∙◌, List, [], ◌∷◌, ◌++◌, map, ap, sym, subst, map-append, set_of, NumberedSet, NumberedTable, Extends}
 use Rattle.dexval.proofs.TableGrowth.{set_added}
 use Rattle.dexval.proofs.set_table.SetTable.add_set.Goals as goal
 

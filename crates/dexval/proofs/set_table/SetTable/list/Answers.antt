@@ -1,8 +1,4 @@
-use Rattle.std.proofs.Common.{Some, ◌<◌, length, map, sym, subst, arith}
-use Rattle.std.specs.Prelude.{All}
-use Rattle.std.proofs.lemmas.List.{length-map}
-use Rattle.dexval.specs.Code.{set_of}
-use Rattle.dexval.specs.Tables.{IsPlaceIn}
+use Rattle.dexval.proofs.Common.{Some, ◌<◌, length, map, sym, subst, arith, All, length-map, set_of, IsPlaceIn}
 use Rattle.dexval.proofs.Tables.{mapped_at}
 use Rattle.dexval.proofs.set_table.SetTable.list.Goals as goal
 

@@ -1,8 +1,4 @@
-use Rattle.std.proofs.Common.{ℕ, List, Option, None, ◌≡◌, ◌<◌, ◌+◌, ◌-◌, ◌^◌, ◌∙◌, length, map, min, sum_by, take, ap, arith, rules}
-use Rattle.std.proofs.lemmas.List.{take_all}
-use Rattle.std.proofs.lemmas.List.Sums.{sum_by_more}
-use Rattle.dexval.specs.Directories.{set_weight_in, sets_weight_in}
-use Rattle.dexval.specs.Tables.{set_at}
+use Rattle.dexval.proofs.Common.{ℕ, List, Option, None, ◌≡◌, ◌<◌, ◌+◌, ◌-◌, ◌^◌, ◌∙◌, length, map, min, sum_by, take, ap, arith, rules, take_all, sum_by_more, set_weight_in, sets_weight_in, set_at}
 use Rattle.dexval.proofs.Weights.{places_weigh}
 use Rattle.dexval.proofs.set_table.SetTable.list_weight.Goals as goal
 

@@ -1,7 +1,4 @@
-use Rattle.std.proofs.Common.{◌≡◌, ◌+◌, ◌-◌, ◌^◌, min, sum_by, take}
-use Rattle.dexspec.specs.Mentions.{Mentions}
-use Rattle.dexval.specs.Directories.{set_weight_in}
-use Rattle.dexval.specs.Tables.{set_at}
+use Rattle.dexval.proofs.Common.{◌≡◌, ◌+◌, ◌-◌, ◌^◌, min, sum_by, take, Mentions, set_weight_in, set_at}
 use Rattle.dexval.proofs.set_table.SetTable.list_weight.Given as goal
 
 abbrev pub invariant-loop-place : goal.invariant-loop-place

@@ -1,6 +1,4 @@
-use Rattle.std.proofs.Common.{map, subst, Option}
-use Rattle.dexval.specs.Code.{set_of}
-use Rattle.dexval.specs.Tables.{IsRemappedSet, set_at}
+use Rattle.dexval.proofs.Common.{map, subst, Option, set_of, IsRemappedSet, set_at}
 use Rattle.dexval.proofs.set_table.SetTable.renumber.Goals as goal
 
 pub returns-clause-sets : goal.returns-clause-sets

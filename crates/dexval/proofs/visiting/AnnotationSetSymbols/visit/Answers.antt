@@ -1,5 +1,4 @@
-use Rattle.std.proofs.Common.{ap, sym, ◌∙◌, subst}
-use Rattle.std.specs.List.{FoldsTo, flat_map}
+use Rattle.dexval.proofs.Common.{ap, sym, ◌∙◌, subst, FoldsTo, flat_map}
 use Rattle.dexval.proofs.Marked.{note_uses, uses_of_annotations}
 use Rattle.dexval.proofs.visiting.AnnotationSetSymbols.visit.Goals as goal
 

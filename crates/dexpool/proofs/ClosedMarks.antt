@@ -18,7 +18,7 @@ use Rattle.dexspec.proofs.merge.SymbolOrders.{text_total, text_exact, proto_tota
 use Rattle.dexpool.specs.Cut.{kept}
 use Rattle.dexpool.specs.internal.Closing.{mark_all}
 use Rattle.dexpool.proofs.KeptRows.{kept_from, kept_has, mark_stays, mark_comes, mark_from}
-use Rattle.dexpool.proofs.KeptTables.{mapped_twice}
+use Rattle.dexpool.proofs.Pairs.{map_both}
 
 -- ---- lists of the same members
 
@@ -51,7 +51,7 @@ kept_grown more marks ns xs ys d count within e f =
 
 -- what rows name, as parts of what they denote
 pub named : {R X Y : Type 0} (f : R → ℕ) (at : ℕ → Y) (of : R → X) (part : X → Y) (rows : List R) → All (λ r. at (f r) ≡ part (of r)) rows → map at (map f rows) ≡ map part (map of rows)
-named f at of part rows h = mapped_twice f at (λ r. part (of r)) rows h ∙ sym (mapped_twice of part (λ r. part (of r)) rows (λ k d lt. refl))
+named f at of part rows h = map_both f at (λ r. part (of r)) rows h ∙ sym (map_both of part (λ r. part (of r)) rows (λ k d lt. refl))
 
 pub named_flat : {R X Y : Type 0} (f : R → List ℕ) (at : ℕ → Y) (of : R → X) (parts : X → List Y) (rows : List R) → All (λ r. map at (f r) ≡ parts (of r)) rows → map at (flat_map f rows) ≡ flat_map parts (map of rows)
 named_flat f at of parts [] h = refl

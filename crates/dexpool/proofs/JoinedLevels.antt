@@ -7,7 +7,7 @@ use Rattle.std.specs.Cmp.Lexicographic.{slice_cmp}
 use Rattle.std.specs.FinMap.{IsAntisymmetric}
 use Rattle.std.specs.declared.cmp.Ordering.{Ordering}
 use Rattle.std.proofs.lemmas.List.{map-id}
-use Rattle.std.proofs.lemmas.List.Elements.{All-map, All-weaker}
+use Rattle.std.proofs.lemmas.List.Elements.{All-map}
 use Rattle.dexspec.specs.Lists.{rises}
 use Rattle.dexspec.specs.Texts.{Text, text_cmp}
 use Rattle.dexspec.specs.Symbols as symbols
@@ -19,15 +19,15 @@ use Rattle.dexrows.specs.Numbers.{ProtoNumbers}
 use Rattle.dexrows.specs.declared.types.TypeRow.{TypeRow}
 use Rattle.dexrows.specs.declared.fields.FieldRow.{FieldRow}
 use Rattle.dexrows.specs.declared.methods.MethodRow.{MethodRow}
-use Rattle.dexrows.proofs.Composing as composing
 use Rattle.dexpool.specs.declared.rows.ProtoEntry.{ProtoEntry}
 use Rattle.dexpool.specs.declared.protos.Protos.{Protos}
 use Rattle.dexpool.specs.Tables.{text_of, type_of, proto_of, field_of, method_of, type_cmp, proto_cmp, field_key, method_key}
 use Rattle.dexpool.specs.Numberings.{IsNumbering}
-use Rattle.dexpool.specs.internal.Renumbering.{numbers_of, numbers_in, HasSpans, IsEntryWithin, IsFieldWithin, IsMethodWithin}
+use Rattle.dexpool.specs.internal.Renumbering.{numbers_of, numbers_in, HasSpans, IsFieldWithin, IsMethodWithin}
 use Rattle.dexpool.specs.internal.Joining.{IsUnion, Denote, AreJoinedTexts, AreJoinedTypes, AreJoinedProtos, AreJoinedFields, AreJoinedMethods, proto_of_row, IsRowOf}
+use Rattle.dexpool.proofs.Moved.{entries_of}
 use Rattle.dexpool.proofs.NumberOrder as order
-use Rattle.dexpool.proofs.NumberOrder.{HasTypeNumbers, HasFieldNumbers, HasMethodNumbers, slices-map}
+use Rattle.dexpool.proofs.NumberOrder.{slices-map}
 use Rattle.dexpool.proofs.Pairs.{map_both}
 use Rattle.dexpool.proofs.Unions.{joined_within, union}
 
@@ -96,21 +96,18 @@ module _ (parts : List Mentions) (numberings : All IsNumbering parts) where
             let entries = table.rows.items in
             let u = union (λ (row : ProtoNumbers). row.return_type ∷ row.parameters) (proto_of_row texts types) (IsRowOf texts types) symbols.proto_cmp proto_total proto_exact rows_agree (λ (m : Mentions). m.protos) parts rows are_encoded joined images j in
             let w = joined_within (λ (row : ProtoNumbers). row.return_type ∷ row.parameters) (proto_of_row texts types) (IsRowOf texts types) symbols.proto_cmp proto_total proto_exact rows_agree (λ (m : Mentions). m.protos) parts rows are_encoded joined images j in
-            let each : All (λ p. IsRowOf texts types (numbers_of ps p)) entries = composing.all_seen (numbers_of ps) (IsRowOf texts types) entries (subst (All (IsRowOf texts types)) (sym is) w) in
+            let parts_of = entries_of texts types ps entries spans (rw is w) in
             record {
               union = same_union (λ (m : Mentions). m.protos) symbols.proto_cmp parts (map (proto_of_row texts types) joined) (map (proto_of texts types ps) entries) images
                   (ap (map (proto_of_row texts types)) (sym is) ∙ map_both (numbers_of ps) (proto_of_row texts types) (proto_of texts types ps) entries (λ k d lt. refl)) u;
-              within = λ k d lt. let r = each k d lt in record { shorty_in = r.shorty_in; return_in = r.return_in; span = spans k d lt; parameters_in = r.parameters_in };
-              shorties = λ k d lt. (each k d lt).shorty_is;
+              within = parts_of.0;
+              shorties = parts_of.1;
             }
 
       -- ---- fields
 
-      field_numbers : (f : FieldRow) → IsFieldWithin (length texts) (length types) f → HasFieldNumbers (length types) (length texts) f
-      field_numbers f h = record { class_in = h.class_in; name_in = h.name_in; type_in = h.type_in }
-
       fields_agree : (f g : FieldRow) → IsFieldWithin (length texts) (length types) f → IsFieldWithin (length texts) (length types) g → row_cmp field_key f g ≡ symbols.field_cmp (field_of texts types f) (field_of texts types g)
-      fields_agree f g h k = order.field_rows_agree texts texts_rise types jy.within types_rise f g (field_numbers f h) (field_numbers g k)
+      fields_agree f g h k = order.field_rows_agree texts texts_rise types jy.within types_rise f g h k
 
       module _ (rows : List (List FieldRow)) (are_encoded : AllZip (λ (part : Mentions) xs. Denote (field_of texts types) (IsFieldWithin (length texts) (length types)) part.fields xs) parts rows) where
         pub fields_joined : (joined : List FieldRow) (images : List (List ℕ)) → IsJoin field_key rows joined images → AreJoinedFields parts texts types joined images
@@ -122,21 +119,15 @@ module _ (parts : List Mentions) (numberings : All IsNumbering parts) where
       -- ---- methods
 
       module _ (ps : List ℕ) (protos : List ProtoEntry) (proto_images : List (List ℕ)) (jp : AreJoinedProtos parts texts types ps protos proto_images) where
-        entries_in : All (HasTypeNumbers ps (length types)) protos
-        entries_in = All-weaker (IsEntryWithin (length texts) (length types) ps) (HasTypeNumbers ps (length types)) (λ p h. record { return_in = h.return_in; parameters_in = h.parameters_in }) protos jp.within
-
         pub proto_symbols_rise : rises symbols.proto_cmp (map (proto_of texts types ps) protos) ≡ true
         proto_symbols_rise = union_rises (λ (m : Mentions). m.protos) symbols.proto_cmp proto_total proto_exact parts (map (proto_of texts types ps) protos) proto_images jp.union
 
         pub protos_rise : rises (proto_cmp ps) protos ≡ true
-        protos_rise = order.protos_rise_equally texts texts_rise types jy.within types_rise ps protos entries_in ∙ proto_symbols_rise
-
-        method_numbers : (m : MethodRow) → IsMethodWithin (length texts) (length types) (length protos) m → HasMethodNumbers (length types) (length texts) (length protos) m
-        method_numbers m h = record { class_in = h.class_in; name_in = h.name_in; proto_in = h.proto_in }
+        protos_rise = order.protos_rise_equally texts texts_rise types jy.within types_rise ps protos jp.within ∙ proto_symbols_rise
 
         methods_agree : (m n : MethodRow) → IsMethodWithin (length texts) (length types) (length protos) m → IsMethodWithin (length texts) (length types) (length protos) n
             → row_cmp method_key m n ≡ symbols.method_cmp (method_of texts types ps protos m) (method_of texts types ps protos n)
-        methods_agree m n h k = order.method_rows_agree texts texts_rise types jy.within types_rise ps protos entries_in protos_rise m n (method_numbers m h) (method_numbers n k)
+        methods_agree m n h k = order.method_rows_agree texts texts_rise types jy.within types_rise ps protos jp.within protos_rise m n h k
 
         module _ (rows : List (List MethodRow)) (are_encoded : AllZip (λ (part : Mentions) xs. Denote (method_of texts types ps protos) (IsMethodWithin (length texts) (length types) (length protos)) part.methods xs) parts rows) where
           pub methods_joined : (joined : List MethodRow) (images : List (List ℕ)) → IsJoin method_key rows joined images → AreJoinedMethods parts texts types ps protos joined images
@@ -146,11 +137,9 @@ module _ (parts : List Mentions) (numberings : All IsNumbering parts) where
           }
 
         pub method_rows_rise : (methods : List MethodRow) (method_images : List (List ℕ)) → AreJoinedMethods parts texts types ps protos methods method_images → rises (row_cmp method_key) methods ≡ true
-        method_rows_rise methods method_images jm = order.methods_rise_equally texts texts_rise types jy.within types_rise ps protos entries_in protos_rise methods
-            (All-weaker (IsMethodWithin (length texts) (length types) (length protos)) (HasMethodNumbers (length types) (length texts) (length protos)) method_numbers methods jm.within)
+        method_rows_rise methods method_images jm = order.methods_rise_equally texts texts_rise types jy.within types_rise ps protos jp.within protos_rise methods jm.within
             ∙ union_rises (λ (m : Mentions). m.methods) symbols.method_cmp method_total method_exact parts (map (method_of texts types ps protos) methods) method_images jm.union
 
       pub field_rows_rise : (fields : List FieldRow) (field_images : List (List ℕ)) → AreJoinedFields parts texts types fields field_images → rises (row_cmp field_key) fields ≡ true
-      field_rows_rise fields field_images jf = order.fields_rise_equally texts texts_rise types jy.within types_rise fields
-          (All-weaker (IsFieldWithin (length texts) (length types)) (HasFieldNumbers (length types) (length texts)) field_numbers fields jf.within)
+      field_rows_rise fields field_images jf = order.fields_rise_equally texts texts_rise types jy.within types_rise fields jf.within
           ∙ union_rises (λ (m : Mentions). m.fields) symbols.field_cmp field_total field_exact parts (map (field_of texts types) fields) field_images jf.union

@@ -1,5 +1,7 @@
 -- The five joined tables are tables of a numbering, the union of the parts, and their images are maps.
 use Rattle.std.proofs.Common.{◌≡◌, ℕ, ◌+◌, ◌<◌, true, List, [], ◌∷◌, ◌++◌, length, get_or, take, map, Option, Some, sym, ap, ◌∙◌, subst, arith}
+use Rattle.std.specs.Borrow.{Bor}
+use Rattle.std.specs.Global.{Vec}
 use Rattle.std.specs.List.{All, AllZip}
 use Rattle.std.specs.Cmp.{IsTotalOrder}
 use Rattle.std.specs.FinMap.{IsAntisymmetric}
@@ -7,20 +9,20 @@ use Rattle.std.specs.declared.cmp.Ordering.{Ordering}
 use Rattle.std.proofs.lemmas.List.{get_or-map, length-map, map-append, map_more}
 use Rattle.std.proofs.lemmas.List.Elements.{All-weaker, All-get_or}
 use Rattle.dexspec.specs.Lists.{rises}
-use Rattle.dexspec.specs.Texts.{Text, text_cmp}
-use Rattle.dexspec.specs.Names.{IsDescriptor, IsValueType}
+use Rattle.dexspec.specs.Texts.{text_cmp}
+use Rattle.dexspec.specs.Names.{IsDescriptor}
 use Rattle.dexspec.specs.Symbols as symbols
 use Rattle.dexspec.specs.Symbols.{IsProto, IsField, IsMethod}
 use Rattle.dexspec.specs.Mentions.{Mentions}
 use Rattle.dexspec.proofs.merge.SymbolOrders.{text_total, text_exact, proto_total, proto_exact, field_total, field_exact, method_total, method_exact}
-use Rattle.dexrows.proofs.Composing.{all_seen}
 use Rattle.dexpool.specs.declared.tables.Tables.{Tables}
-use Rattle.dexpool.specs.Tables.{text_of, type_of, span_of, proto_of, field_of, method_of}
+use Rattle.dexpool.specs.Tables.{text_of, proto_of, field_of, method_of}
 use Rattle.dexpool.specs.Numberings.{IsNumbering, Maps, MapsTo, AllMapTo, union_of}
 use Rattle.dexpool.specs.Orderly.{KeepsOrder}
-use Rattle.dexpool.specs.internal.Joining.{Moves, IsUnion, AreJoinedTexts, AreJoinedTypes, AreJoinedProtos, AreJoinedFields, AreJoinedMethods, AreMapsOf}
+use Rattle.dexpool.specs.internal.Joining.{numberings_of, lists_in, Moves, IsUnion, AreJoinedTexts, AreJoinedTypes, AreJoinedProtos, AreJoinedFields, AreJoinedMethods, AreMapsOf}
 use Rattle.dexpool.specs.Stored.{symbols_in, AreTables}
-use Rattle.dexpool.proofs.Pairs.{zip_length, zip_at, zip_from}
+use Rattle.dexpool.proofs.Pairs.{zip_length, zip_at, zip_from, zip_seen}
+use Rattle.dexpool.proofs.TablesAreAt.{tables_made}
 use Rattle.dexpool.proofs.Unions.{some, all_union}
 use Rattle.dexpool.proofs.Mapping.{maps_to}
 use Rattle.dexpool.proofs.JoinedLevels.{union_rises, texts_rise, types_rise, protos_rise, field_rows_rise, method_rows_rise}
@@ -30,6 +32,12 @@ pub images_count : {P X Y Z W : Type 0} (of : P → List X) (R : X → X → Ord
     → IsUnion of R parts xs (map f images) → IsUnion to S parts ys (map g others) → length others ≡ length images
 images_count of R to S f g parts xs ys images others u v =
     omega (arith, zip_length (λ p image. Moves (of p) xs image) parts (map f images) u.moves, zip_length (λ p image. Moves (to p) ys image) parts (map g others) v.moves, length-map images f, length-map others g)
+
+-- the images of the numbers of one part, by its tables
+pub part_moves : {X : Type 0} (of : Mentions → List X) (to : List X) (parts : List (Bor Mentions)) (images : List (Vec ℕ)) (i : ℕ) (part : Bor Mentions) (image : Vec ℕ) (m : Mentions)
+    → AllZip (λ part image. Moves (of part) to image) (numberings_of parts) (lists_in images) → i < length parts → part ≡ get_or parts i part → image ≡ get_or images i image → m ≡ part.now → Moves (of m) to image.items
+part_moves of to parts images i part image m moves lt is_part is_image same =
+    subst (λ (n : Mentions). Moves (of n) to image.items) (sym same) (zip_seen (λ (n : Mentions) places. Moves (of n) to places) (λ n. n.now) (λ places. places.items) parts images i part image moves lt is_part is_image)
 
 -- the images of a part are a map
 one_mapped : {X : Type 0} (of : Mentions → List X) (R : X → X → Ordering) (o : IsTotalOrder R) (exact : IsAntisymmetric R) (parts : List Mentions) (to : List X) (images : List (List ℕ)) → IsUnion of R parts to images → All (λ m. rises R (of m) ≡ true) parts
@@ -44,7 +52,7 @@ one_mapped of R o exact parts to images u rise seen maps is i d e lt =
     (zip_at (λ m image. Moves (of m) to image) parts images i d [] u.moves lt))
 
 -- the images of each part keep the order of its numbers
-images_keep : {X Z : Type 0} (of : Mentions → List X) (R : X → X → Ordering) (o : IsTotalOrder R) (exact : IsAntisymmetric R) (parts : List Mentions) (to : List X) (items : Z → List ℕ) (images : List Z)
+pub images_keep : {X Z : Type 0} (of : Mentions → List X) (R : X → X → Ordering) (o : IsTotalOrder R) (exact : IsAntisymmetric R) (parts : List Mentions) (to : List X) (items : Z → List ℕ) (images : List Z)
     → IsUnion of R parts to (map items images) → All (λ m. rises R (of m) ≡ true) parts → All (λ image. KeepsOrder (map Some (items image))) images
 images_keep of R o exact parts to items images u rise i d lt =
     let n : length images ≡ length parts = sym (zip_length (λ m image. Moves (of m) to image) parts (map items images) u.moves ∙ length-map images items) in
@@ -64,56 +72,22 @@ maps_more items seen old new m images i d more so_far lt is =
 module _ (parts : List Mentions) (numberings : All IsNumbering parts) (t : Tables) (strings types protos fields methods : List (List ℕ))
     (jt : AreJoinedTexts parts t.strings.items strings) (jy : AreJoinedTypes parts t.strings.items t.types.items types) (jp : AreJoinedProtos parts t.strings.items t.types.items t.parameters t.protos.items protos)
     (jf : AreJoinedFields parts t.strings.items t.types.items t.fields.items fields) (jm : AreJoinedMethods parts t.strings.items t.types.items t.parameters t.protos.items t.methods.items methods) where
-  descriptors : All (λ n. IsDescriptor (text_of t.strings.items n)) t.types.items
-  descriptors = all_seen (text_of t.strings.items) IsDescriptor t.types.items
-      (all_union (λ (m : Mentions). m.types) text_cmp text_total text_exact IsDescriptor parts (map (text_of t.strings.items) t.types.items) jy.union.all
-      (All-weaker IsNumbering (λ m. All IsDescriptor m.types) (λ m n. n.types_formed) parts numberings))
-
-  protos_formed : All (λ p. IsProto (proto_of t.strings.items t.types.items t.parameters p)) t.protos.items
-  protos_formed = all_seen (proto_of t.strings.items t.types.items t.parameters) IsProto t.protos.items
-      (all_union (λ (m : Mentions). m.protos) symbols.proto_cmp proto_total proto_exact IsProto parts (map (proto_of t.strings.items t.types.items t.parameters) t.protos.items) jp.union.all
-      (All-weaker IsNumbering (λ m. All IsProto m.protos) (λ m n. n.protos_formed) parts numberings))
-
-  fields_formed : All (λ f. IsField (field_of t.strings.items t.types.items f)) t.fields.items
-  fields_formed = all_seen (field_of t.strings.items t.types.items) IsField t.fields.items
-      (all_union (λ (m : Mentions). m.fields) symbols.field_cmp field_total field_exact IsField parts (map (field_of t.strings.items t.types.items) t.fields.items) jf.union.all
-      (All-weaker IsNumbering (λ m. All IsField m.fields) (λ m n. n.fields_formed) parts numberings))
-
-  methods_formed : All (λ m. IsMethod (method_of t.strings.items t.types.items t.parameters t.protos.items m)) t.methods.items
-  methods_formed = all_seen (method_of t.strings.items t.types.items t.parameters t.protos.items) IsMethod t.methods.items
-      (all_union (λ (m : Mentions). m.methods) symbols.method_cmp method_total method_exact IsMethod parts (map (method_of t.strings.items t.types.items t.parameters t.protos.items) t.methods.items) jm.union.all
-      (All-weaker IsNumbering (λ m. All IsMethod m.methods) (λ m n. n.methods_formed) parts numberings))
-
   pub are_tables : AreTables t
-  are_tables = record {
-    texts_rise = texts_rise parts numberings t.strings.items strings jt;
-    types_rise = types_rise parts numberings t.strings.items strings jt t.types.items types jy;
-    protos_rise = protos_rise parts numberings t.strings.items strings jt t.types.items types jy t.parameters t.protos.items protos jp;
-    fields_rise = field_rows_rise parts numberings t.strings.items strings jt t.types.items types jy t.fields.items fields jf;
-    methods_rise = method_rows_rise parts numberings t.strings.items strings jt t.types.items types jy t.parameters t.protos.items protos jp t.methods.items methods jm;
-    types_at_ranks = λ k d lt. record { text_in = jy.within k d lt; descriptor = descriptors k d lt };
-    protos_at_ranks = λ k d lt.
-        let w = jp.within k d lt in
-        let formed = protos_formed k d lt in
-        record {
-          span = w.span;
-          return_in = w.return_in;
-          parameters_in = λ j e less. record {
-            type_in = w.parameters_in j e less;
-            is = all_seen (type_of t.strings.items t.types.items) IsValueType (span_of t.parameters (get_or t.protos.items k d).parameters) formed.parameters j e less;
-          };
-          shorty_in = w.shorty_in;
-          shorty_is = jp.shorties k d lt;
-        };
-    fields_at_ranks = λ k d lt.
-        let w = jf.within k d lt in
-        let formed = fields_formed k d lt in
-        record { class_is = record { type_in = w.class_in; is = formed.class }; name_in = w.name_in; name_is = formed.name; type_is = record { type_in = w.type_in; is = formed.type } };
-    methods_at_ranks = λ k d lt.
-        let w = jm.within k d lt in
-        let formed = methods_formed k d lt in
-        record { class_is = record { type_in = w.class_in; is = formed.class }; name_in = w.name_in; name_is = formed.name; proto_in = w.proto_in };
-  }
+  are_tables =
+      tables_made t
+      (texts_rise parts numberings t.strings.items strings jt)
+      (types_rise parts numberings t.strings.items strings jt t.types.items types jy)
+      (protos_rise parts numberings t.strings.items strings jt t.types.items types jy t.parameters t.protos.items protos jp)
+      (field_rows_rise parts numberings t.strings.items strings jt t.types.items types jy t.fields.items fields jf)
+      (method_rows_rise parts numberings t.strings.items strings jt t.types.items types jy t.parameters t.protos.items protos jp t.methods.items methods jm)
+      jy.within
+      (all_union (λ (m : Mentions). m.types) text_cmp text_total text_exact IsDescriptor parts (symbols_in t).types jy.union.all (All-weaker IsNumbering (λ m. All IsDescriptor m.types) (λ m n. n.types_formed) parts numberings))
+      jp.within jp.shorties
+      (all_union (λ (m : Mentions). m.protos) symbols.proto_cmp proto_total proto_exact IsProto parts (symbols_in t).protos jp.union.all (All-weaker IsNumbering (λ m. All IsProto m.protos) (λ m n. n.protos_formed) parts numberings))
+      jf.within
+      (all_union (λ (m : Mentions). m.fields) symbols.field_cmp field_total field_exact IsField parts (symbols_in t).fields jf.union.all (All-weaker IsNumbering (λ m. All IsField m.fields) (λ m n. n.fields_formed) parts numberings))
+      jm.within
+      (all_union (λ (m : Mentions). m.methods) symbols.method_cmp method_total method_exact IsMethod parts (symbols_in t).methods jm.union.all (All-weaker IsNumbering (λ m. All IsMethod m.methods) (λ m n. n.methods_formed) parts numberings))
 
   pub are_union : symbols_in t ≡ union_of parts
   are_union = λ i. record { texts = jt.all i; types = jy.union.all i; protos = jp.union.all i; fields = jf.union.all i; methods = jm.union.all i }
@@ -132,20 +106,3 @@ module _ (parts : List Mentions) (numberings : All IsNumbering parts) (t : Table
         methods_mapped = one_mapped (λ (m : Mentions). m.methods) symbols.method_cmp method_total method_exact parts (map (method_of t.strings.items t.types.items t.parameters t.protos.items) t.methods.items) methods jm.union
             (All-weaker IsNumbering (λ m. rises symbols.method_cmp m.methods ≡ true) (λ m n. n.rising.methods_rise) parts numberings) (λ m. m.methods) maps h.methods_are i d e lt;
       })
-
--- so those of all five kinds
-module _ {Z : Type 0} (items : Z → List ℕ) (parts : List Mentions) (numberings : All IsNumbering parts) (images : List Z) where
-  pub texts_keep : (to : List Text) → IsUnion (λ (m : Mentions). m.texts) text_cmp parts to (map items images) → All (λ image. KeepsOrder (map Some (items image))) images
-  texts_keep to u = images_keep (λ (m : Mentions). m.texts) text_cmp text_total text_exact parts to items images u (All-weaker IsNumbering (λ m. rises text_cmp m.texts ≡ true) (λ m n. n.rising.texts_rise) parts numberings)
-
-  pub types_keep : (to : List Text) → IsUnion (λ (m : Mentions). m.types) text_cmp parts to (map items images) → All (λ image. KeepsOrder (map Some (items image))) images
-  types_keep to u = images_keep (λ (m : Mentions). m.types) text_cmp text_total text_exact parts to items images u (All-weaker IsNumbering (λ m. rises text_cmp m.types ≡ true) (λ m n. n.rising.types_rise) parts numberings)
-
-  pub protos_keep : (to : List symbols.Proto) → IsUnion (λ (m : Mentions). m.protos) symbols.proto_cmp parts to (map items images) → All (λ image. KeepsOrder (map Some (items image))) images
-  protos_keep to u = images_keep (λ (m : Mentions). m.protos) symbols.proto_cmp proto_total proto_exact parts to items images u (All-weaker IsNumbering (λ m. rises symbols.proto_cmp m.protos ≡ true) (λ m n. n.rising.protos_rise) parts numberings)
-
-  pub fields_keep : (to : List symbols.Field) → IsUnion (λ (m : Mentions). m.fields) symbols.field_cmp parts to (map items images) → All (λ image. KeepsOrder (map Some (items image))) images
-  fields_keep to u = images_keep (λ (m : Mentions). m.fields) symbols.field_cmp field_total field_exact parts to items images u (All-weaker IsNumbering (λ m. rises symbols.field_cmp m.fields ≡ true) (λ m n. n.rising.fields_rise) parts numberings)
-
-  pub methods_keep : (to : List symbols.Method) → IsUnion (λ (m : Mentions). m.methods) symbols.method_cmp parts to (map items images) → All (λ image. KeepsOrder (map Some (items image))) images
-  methods_keep to u = images_keep (λ (m : Mentions). m.methods) symbols.method_cmp method_total method_exact parts to items images u (All-weaker IsNumbering (λ m. rises symbols.method_cmp m.methods ≡ true) (λ m n. n.rising.methods_rise) parts numberings)

@@ -1,7 +1,8 @@
 -- The images of the numbers of marked symbols: each has one, which is not greater, and is a number of the other
 -- numbering.
-use Rattle.std.proofs.Common.{◌≡◌, ℕ, zero, suc, ◌+◌, ◌≤◌, ◌||◌, ◌&&◌, ◌==◌, Bool, true, false, List, [], ◌∷◌, get_or, map, refl, sym, ◌∙◌, subst, arith, eq-eqb, Option, Some, None, IsSome}
+use Rattle.std.proofs.Common.{◌≡◌, ℕ, zero, suc, ◌+◌, ◌≤◌, ◌&&◌, ◌==◌, Bool, true, false, List, [], ◌∷◌, get_or, map, refl, sym, ◌∙◌, subst, arith, eq-eqb, Option, Some, None, IsSome}
 use Rattle.std.specs.List.{All, Contains, flat_map}
+use Rattle.std.proofs.lemmas.Bool.{or_left, or_right}
 use Rattle.std.proofs.lemmas.List.Elements.{All-weaker, Contains-get_or}
 use Rattle.dexspec.proofs.lists.Members.{list_any-member}
 use Rattle.dexspec.specs.Mentions.{Mentions}
@@ -92,19 +93,8 @@ same_kind-refl kinds.Proto = refl
 same_kind-refl kinds.Field = refl
 same_kind-refl kinds.Method = refl
 
-or_true : (a b : Bool) → b ≡ true → (a || b) ≡ true
-or_true true b e = refl
-or_true false b e = e
-
-true_or : (a b : Bool) → a ≡ true → (a || b) ≡ true
-true_or true b e = refl
-true_or false b e = absurd cc
-
-same_number : (n : ℕ) → (n == n) ≡ true
-same_number n = eq-eqb n n refl
-
 uses_itself : (u : Use) → (same_kind u.kind u.kind && u.number == u.number) ≡ true
-uses_itself u = rw (same_kind-refl u.kind) (same_number u.number)
+uses_itself u = rw (same_kind-refl u.kind) (eq-eqb u.number u.number refl)
 
 member_occurs : (us : List Use) (u : Use) → Contains us u → occurs us u.kind u.number ≡ true
 member_occurs us u c = list_any-member (λ v. same_kind v.kind u.kind && v.number == u.number) us u c (uses_itself u)
@@ -112,10 +102,10 @@ member_occurs us u c = list_any-member (λ v. same_kind v.kind u.kind && v.numbe
 pub are_marked : (us : List Use) (old new : Marks) → AreMarkedToo us old new → All (IsMarkedUse new) us
 are_marked us old new is k d lt =
     let u = get_or us k d in
-    is.each u.kind u.number ∙ or_true (get_or (marks_of u.kind old) u.number false) (occurs us u.kind u.number) (member_occurs us u (Contains-get_or us k d lt))
+    is.each u.kind u.number ∙ or_right (get_or (marks_of u.kind old) u.number false) (occurs us u.kind u.number) (member_occurs us u (Contains-get_or us k d lt))
 
 pub stay_marked : (us : List Use) (old new : Marks) → AreMarkedToo us old new → (vs : List Use) → All (IsMarkedUse old) vs → All (IsMarkedUse new) vs
-stay_marked us old new is vs h = All-weaker (IsMarkedUse old) (IsMarkedUse new) (λ u e. is.each u.kind u.number ∙ true_or (get_or (marks_of u.kind old) u.number false) (occurs us u.kind u.number) e) vs h
+stay_marked us old new is vs h = All-weaker (IsMarkedUse old) (IsMarkedUse new) (λ u e. is.each u.kind u.number ∙ or_left (get_or (marks_of u.kind old) u.number false) (occurs us u.kind u.number) e) vs h
 
 pub marked_remapped : (marks : Marks) (r : Maps) → MapsMarked marks r → (us : List Use) → All (IsMarkedUse marks) us → All (IsMappedUse r) us
 marked_remapped marks r are_mapped us h = All-weaker (IsMarkedUse marks) (IsMappedUse r) (λ u e. are_mapped u.kind u.number e) us h

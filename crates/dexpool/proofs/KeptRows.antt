@@ -1,14 +1,15 @@
 -- Marked members of a list: which they are, where they are, and what more marks keep.
-use Rattle.std.proofs.Common.{◌≡◌, ◌≢◌, ◌⊎◌, ℕ, zero, suc, ◌+◌, ◌<◌, Bool, true, false, List, [], ◌∷◌, ◌++◌, length, get_or, map, set, drop, replicate, refl, sym, ap, ◌∙◌, arith, inl, inr, Ordering, Option, Some, None, slice_index}
+use Rattle.std.proofs.Common.{◌≡◌, ◌≢◌, ◌⊎◌, ℕ, zero, suc, ◌+◌, ◌<◌, Bool, true, false, List, [], ◌∷◌, ◌++◌, length, get_or, map, set, drop, replicate, refl, sym, ap, ◌∙◌, arith, inl, inr, Ordering, Option, Some, None, slice_index, slice_index_or}
 use Rattle.std.specs.List.{All, Contains, flat_map}
 use Rattle.std.specs.Cmp.{IsTotalOrder}
 use Rattle.std.proofs.lemmas.Bool.{cases_eq, cases_order}
-use Rattle.std.proofs.lemmas.List.{length-set, length-map, get_or-map, get_or-set_same, get_or-set_other, drop_more}
+use Rattle.std.proofs.lemmas.List.{length-set, length-map, get_or-map, get_or-set_same, get_or-set_other, get_or_default, drop_more}
 use Rattle.dexspec.proofs.lists.Members.{Contains-nil, Contains-first, Contains-later, Contains-cons_cases}
 use Rattle.dexspec.proofs.lists.Mapped.{All-among}
 use Rattle.dexspec.proofs.lists.InOrder.{Rises, AreDistinct-from_Rises}
 use Rattle.dexpool.specs.Cut.{kept, places}
 use Rattle.dexpool.proofs.KeptPlaces.{kept_among, length_places, marked_has, is_at, places_rise}
+use Rattle.dexpool.proofs.Moved.{Keeps}
 use Rattle.dexpool.specs.Numberings.{MapsTo, image}
 use Rattle.dexpool.specs.Orderly.{KeepsOrder}
 use Rattle.dexpool.specs.internal.Closing.{IsMarked, mark_all, number_or_none, new_numbers}
@@ -73,29 +74,30 @@ kept_rises R (false ∷ marks) (x ∷ xs) h = kept_rises R marks xs h.1
 pub length-new_numbers : (marks : List Bool) → length (new_numbers marks) ≡ length marks
 length-new_numbers marks = length-map (places 0 marks) number_or_none ∙ length_places 0 marks
 
--- the member at a marked number is at its new number afterwards
-pub record IsMoved {X : Type 0} (marks : List Bool) (xs : List X) (n : ℕ) : Type 0 where
-  pub within : slice_index (new_numbers marks) n < length (kept marks xs)
-  pub same : (d : X) → get_or (kept marks xs) (slice_index (new_numbers marks) n) d ≡ get_or xs n d
+-- the test of marks
+abbrev pub is_marked : List Bool → ℕ → Bool
+is_marked marks n = slice_index_or marks n false
 
-pub is_moved : {X : Type 0} (marks : List Bool) (xs : List X) (n : ℕ) → length marks ≡ length xs → IsMarked marks n → IsMoved marks xs n
-is_moved marks xs n count marked =
-    let lt = mark_within marks n marked in
-    let place = marked_has marks n 0 false None lt marked in
-    let at = is_at marks xs n 0 place.0 None count lt place.1 in
-    let is : slice_index (new_numbers marks) n ≡ at.among =
-    get_or-map number_or_none (places 0 marks) n None 0 (omega (arith, length_places 0 marks, lt)) ∙ ap number_or_none place.1 ∙ omega (arith, at.place_is) in
-    record {
-      within = omega (arith, is, at.within);
-      same = λ d. ap (λ k. get_or (kept marks xs) k d) is ∙ at.same d;
-    }
+-- the new number of a marked one
+pub new_number : (marks : List Bool) (n place : ℕ) → IsMarked marks n → get_or (places 0 marks) n None ≡ Some place → slice_index (new_numbers marks) n ≡ place
+new_number marks n place marked e = get_or-map number_or_none (places 0 marks) n None 0 (omega (arith, length_places 0 marks, mark_within marks n marked)) ∙ ap number_or_none e
+
+-- the member at a marked number is at its new number afterwards
+pub kept_keeps : {X : Type 0} (marks : List Bool) (xs : List X) → length marks ≡ length xs → Keeps (is_marked marks) xs (kept marks xs) (new_numbers marks)
+kept_keeps marks xs count = record {
+  there = λ n marked. omega (arith, mark_within marks n marked, count);
+  same = λ n d marked.
+      let lt = mark_within marks n marked in
+      let place = marked_has marks n 0 false None lt marked in
+      let at = is_at marks xs n 0 place.0 None count lt place.1 in
+      let is : slice_index (new_numbers marks) n ≡ at.among = new_number marks n place.0 marked place.1 ∙ omega (arith, at.place_is) in
+      record {
+        within = omega (arith, is, at.within);
+        is = λ e. ap (λ k. get_or (kept marks xs) k e) is ∙ at.same e ∙ get_or_default xs n e d (omega (arith, lt, count));
+      };
+}
 
 -- ---- the images of numbers
-
-same_default : {X : Type 0} (xs : List X) (i : ℕ) (d e : X) → i < length xs → get_or xs i d ≡ get_or xs i e
-same_default [] i d e lt = absurd (omega arith)
-same_default (x ∷ xs) zero d e lt = refl
-same_default (x ∷ xs) (suc i) d e lt = same_default xs i d e (omega arith)
 
 some_within : {X : Type 0} (os : List (Option X)) (i : ℕ) (x : X) → get_or os i None ≡ Some x → i < length os
 some_within [] i x e = absurd cc
@@ -127,7 +129,7 @@ kept_maps R o marks xs count rising = record {
       let is : j ≡ at.among = omega (arith, at.place_is) in
       record {
         within = omega (arith, is, at.within);
-        is = λ z. ap (λ k. get_or (kept marks xs) k z) is ∙ at.same z ∙ same_default xs i z d (omega (arith, lt, count));
+        is = λ z. ap (λ k. get_or (kept marks xs) k z) is ∙ at.same z ∙ get_or_default xs i z d (omega (arith, lt, count));
       };
   none = λ i d lt e c.
       let k = kept_from marks xs (get_or xs i d) c in

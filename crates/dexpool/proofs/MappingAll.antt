@@ -1,5 +1,5 @@
 -- In a union each number of a part has an image; and where each number has one, the symbols that occur have.
-use Rattle.std.proofs.Common.{◌≡◌, ℕ, ◌<◌, List, [], ◌∷◌, length, get_or, Option, Some, None, IsSome, refl, subst, arith}
+use Rattle.std.proofs.Common.{◌≡◌, ℕ, ◌<◌, List, [], ◌∷◌, length, get_or, Option, Some, None, IsSome, refl, subst}
 use Rattle.std.specs.List.{All, AllZip, Contains, flat_map}
 use Rattle.std.specs.Cmp.{IsTotalOrder}
 use Rattle.std.specs.FinMap.{IsAntisymmetric}
@@ -18,16 +18,12 @@ use Rattle.dexpool.specs.Numberings.{Maps, image, MapsTo, AllMapTo, IsNumbered, 
 use Rattle.dexpool.specs.Pools.{count_of}
 use Rattle.dexpool.specs.Uses.{Use, IsUseOf, IsMappedUse}
 use Rattle.dexpool.specs.Laws.{MapsAll}
+use Rattle.dexpool.proofs.Unions.{some}
 
 -- there is a value, or there is none
 some_or : (o : Option ℕ) → (o ≡ None → ⊥) → IsSome o
 some_or None h = absurd (h refl)
 some_or (Some j) h = refl
-
--- any member of a list that has one
-some : {X : Type 0} (xs : List X) (i : ℕ) → i < length xs → X
-some [] i lt = absurd (omega arith)
-some (x ∷ xs) i lt = x
 
 module _ {X : Type 0} (R : X → X → Ordering) (o : IsTotalOrder R) (exact : IsAntisymmetric R) (of : Mentions → List X) where
   maps_somewhere : (ms : List Mentions) (m : Mentions) (images : List (Option ℕ)) → Contains ms m → MapsTo (of m) (in_order R (flat_map of ms)) images → (i : ℕ) → i < length (of m) → IsSome (image images i)

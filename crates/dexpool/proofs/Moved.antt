@@ -1,181 +1,177 @@
--- Rows of a part that are renumbered denote the same symbols as before.
-use Rattle.std.proofs.Common.{◌≡◌, ℕ, ◌<◌, true, List, [], length, map, sym, ap, ◌∙◌, subst, arith, slice_index, nat_lt, lt-ltb}
+-- Rows whose numbers are replaced denote the same symbols as before, in joins and in cuts.
+use Rattle.std.proofs.Common.{◌≡◌, ℕ, ◌<◌, Bool, true, List, [], length, get_or, map, sym, ◌∙◌, arith, slice_index, slice_index_or, nat_lt, lt-ltb, ltb-true}
 use Rattle.std.specs.List.{All}
 use Rattle.std.proofs.lemmas.List.{get_or-map, length-map}
 use Rattle.std.proofs.lemmas.List.Elements.{All-map, All-weaker}
 use Rattle.dexspec.specs.Texts.{Text}
-use Rattle.dexspec.specs.Names.{IsValueType, shorty}
-use Rattle.dexrows.specs.Numbers.{ProtoNumbers}
+use Rattle.dexspec.specs.Names.{shorty}
+use Rattle.dexrows.specs.Numbers.{Among, ProtoNumbers}
 use Rattle.dexrows.specs.declared.types.TypeRow.{TypeRow}
 use Rattle.dexrows.specs.declared.fields.FieldRow.{FieldRow}
 use Rattle.dexrows.specs.declared.methods.MethodRow.{MethodRow}
+use Rattle.dexrows.proofs.Composing.{all_seen}
 use Rattle.dexpool.specs.declared.rows.ProtoEntry.{ProtoEntry}
 use Rattle.dexpool.specs.declared.tables.Tables.{Tables}
-use Rattle.dexpool.specs.Tables.{text_of, type_of, span_of, proto_of, field_of, proto_at, method_of}
-use Rattle.dexpool.specs.internal.Renumbering.{moved_type, moved_proto, moved_field, moved_method, IsEntryWithin, IsFieldWithin, IsMethodWithin}
-use Rattle.dexpool.specs.internal.Joining.{Moves, Denote, proto_of_row, IsRowOf}
-use Rattle.dexpool.specs.Stored.{symbols_in, IsTypeOf, IsProtoEntry, IsFieldRow, IsMethodRow, AreTables}
+use Rattle.dexpool.specs.Tables.{text_of, type_of, span_of, proto_of, field_of, method_of}
+use Rattle.dexpool.specs.Numberings.{IsAt}
+use Rattle.dexpool.specs.Reading.{HasSpan}
+use Rattle.dexpool.specs.internal.Renumbering.{numbers_of, moved_type, moved_proto, moved_field, moved_method, IsEntryWithin, IsFieldWithin, IsMethodWithin}
+use Rattle.dexpool.specs.internal.Joining.{Moves, Denote, HasShorty, proto_of_row, IsRowOf}
+use Rattle.dexpool.specs.Stored.{symbols_in, AreTables, stored_proto, stored_field, stored_method}
 use Rattle.dexpool.proofs.Pairs.{map_both}
-use Rattle.dexpool.proofs.TablesAreAt.{types_in}
+use Rattle.dexpool.proofs.TablesAreAt.{types_in, protos_in, fields_in, methods_in}
 
--- numbers in range are among those that have a place
-pub fields_among : (strings types : ℕ) (fields : List FieldRow) → All (IsFieldWithin strings types) fields → All (λ f. (nat_lt f.class types ≡ true) × (nat_lt f.name strings ≡ true) × (nat_lt f.typ types ≡ true)) fields
-fields_among strings types = All-weaker (IsFieldWithin strings types) (λ f. (nat_lt f.class types ≡ true) × (nat_lt f.name strings ≡ true) × (nat_lt f.typ types ≡ true))
-    (λ f h. (lt-ltb f.class types h.class_in, lt-ltb f.name strings h.name_in, lt-ltb f.typ types h.type_in))
+-- the numbers among these are replaced by those of the same members
+pub record Keeps {X : Type 0} (among : ℕ → Bool) (from to : List X) (image : List ℕ) : Type 0 where
+  pub there : (n : ℕ) → among n ≡ true → n < length from
+  pub same : (n : ℕ) (d : X) → among n ≡ true → IsAt to (slice_index image n) (slice_index_or from n d)
 
-pub methods_among : (strings types protos : ℕ) (methods : List MethodRow) → All (IsMethodWithin strings types protos) methods → All (λ m. (nat_lt m.class types ≡ true) × (nat_lt m.name strings ≡ true) × (nat_lt m.proto protos ≡ true)) methods
-methods_among strings types protos = All-weaker (IsMethodWithin strings types protos) (λ m. (nat_lt m.class types ≡ true) × (nat_lt m.name strings ≡ true) × (nat_lt m.proto protos ≡ true))
-    (λ m h. (lt-ltb m.class types h.class_in, lt-ltb m.name strings h.name_in, lt-ltb m.proto protos h.proto_in))
+-- the rows denote what those denote that they replace
+pub denote : {Q R X : Type 0} (P : R → Type 0) (moved : R → Q) (old : R → X) (new : Q → X) (Within : Q → Type 0) → ((r : R) → P r → (new (moved r) ≡ old r) × Within (moved r)) → (rows : List R) → All P rows → Denote new Within (map old rows) (map moved rows)
+denote P moved old new Within each rows h = record {
+  same = map_both moved new old rows (All-weaker P (λ r. new (moved r) ≡ old r) (λ r p. (each r p).0) rows h);
+  within = All-map Within moved rows (All-weaker P (λ r. Within (moved r)) (λ r p. (each r p).1) rows h);
+}
 
-module _ (t : Tables) (ok : AreTables t) (texts : List Text) (strings : List ℕ) (by_texts : Moves t.strings.items texts strings) where
-  text_moved : (n : ℕ) → n < length t.strings.items → text_of texts (slice_index strings n) ≡ text_of t.strings.items n
-  text_moved n lt = (by_texts.same n [] lt).is []
+-- a row at a number denotes what that at its image does
+row_kept : {Q R X : Type 0} (among : ℕ → Bool) (old : R → X) (new : Q → X) (from : List R) (to : List Q) (image : List ℕ) → Keeps among (map old from) (map new to) image
+    → (n : ℕ) (d : R) (e : Q) → among n ≡ true → (new (get_or to (slice_index image n) e) ≡ old (get_or from n d)) × (slice_index image n < length to)
+row_kept among old new from to image k n d e m =
+    let at = k.same n (old d) m in
+    let lt : n < length from = omega (arith, k.there n m, length-map from old) in
+    let less : slice_index image n < length to = omega (arith, at.within, length-map to new) in
+    (sym (get_or-map new to (slice_index image n) e (old d) less) ∙ at.is (old d) ∙ get_or-map old from n d (old d) lt, less)
 
-  text_within : (n : ℕ) → n < length t.strings.items → slice_index strings n < length texts
-  text_within n lt = (by_texts.same n [] lt).within
+-- an entry's numbers are among these, and its shorty is the text of its shorty
+pub record IsEntryAmong (t : Tables) (among : Among) (p : ProtoEntry) : Type 0 where
+  pub shorty_among : among.strings p.shorty ≡ true
+  pub return_among : among.types p.return_type ≡ true
+  pub parameters_among : All (λ n. among.types n ≡ true) (span_of t.parameters p.parameters)
+  pub shorty_is : HasShorty t.strings.items t.types.items t.parameters p
 
-  -- the texts of types have images
+-- those of a field
+abbrev pub IsFieldAmong : Among → FieldRow → Type 0
+IsFieldAmong among f = (among.types f.class ≡ true) × (among.strings f.name ≡ true) × (among.types f.typ ≡ true)
+
+-- those of a method
+abbrev pub IsMethodAmong : Among → MethodRow → Type 0
+IsMethodAmong among m = (among.types m.class ≡ true) × (among.strings m.name ≡ true) × (among.protos m.proto ≡ true)
+
+module _ (t : Tables) (among : Among) (texts : List Text) (strings : List ℕ) (by_texts : Keeps among.strings t.strings.items texts strings) where
+  pub text_kept : (n : ℕ) → among.strings n ≡ true → (text_of texts (slice_index strings n) ≡ text_of t.strings.items n) × (slice_index strings n < length texts)
+  text_kept n m = let at = by_texts.same n [] m in (at.is [], at.within)
+
+  module _ (types images : List ℕ) (by_types : Keeps among.types (symbols_in t).types (map (text_of texts) types) images) where
+    type_kept : (n : ℕ) → among.types n ≡ true → (type_of texts types (slice_index images n) ≡ type_of t.strings.items t.types.items n) × (slice_index images n < length types)
+    type_kept n m = row_kept among.types (text_of t.strings.items) (text_of texts) t.types.items types images by_types n 0 0 m
+
+    pub protos_denote : (protos : List ProtoEntry) → All (IsEntryAmong t among) protos → Denote (proto_of_row texts types) (IsRowOf texts types) (map (stored_proto t) protos) (map (moved_proto strings images t.parameters) protos)
+    protos_denote = denote (IsEntryAmong t among) (moved_proto strings images t.parameters) (stored_proto t) (proto_of_row texts types) (IsRowOf texts types) (λ p m.
+        let ns = span_of t.parameters p.parameters in
+        let s = text_kept p.shorty m.shorty_among in
+        let r = type_kept p.return_type m.return_among in
+        let ps = denote (λ n. among.types n ≡ true) (slice_index images) (type_of t.strings.items t.types.items) (type_of texts types) (λ n. n < length types) type_kept ns m.parameters_among in (
+          λ i. record { return_type = r.0 i; parameters = ps.same i },
+          record { shorty_in = s.1; return_in = r.1; parameters_in = ps.within; shorty_is = s.0 ∙ m.shorty_is ∙ sym (λ i. shorty (r.0 i) (ps.same i)) },
+        ))
+
+    pub fields_denote : (fields : List FieldRow) → All (IsFieldAmong among) fields → Denote (field_of texts types) (IsFieldWithin (length texts) (length types)) (map (stored_field t) fields) (map (moved_field strings images) fields)
+    fields_denote = denote (IsFieldAmong among) (moved_field strings images) (stored_field t) (field_of texts types) (IsFieldWithin (length texts) (length types)) (λ f m.
+        let c = type_kept f.class m.0 in
+        let n = text_kept f.name m.1 in
+        let y = type_kept f.typ m.2 in
+        (λ i. record { class = c.0 i; name = n.0 i; type = y.0 i }, record { class_in = c.1; name_in = n.1; type_in = y.1 }))
+
+    module _ (parameters : List ℕ) (protos : List ProtoEntry) (places : List ℕ) (by_protos : Keeps among.protos (symbols_in t).protos (map (proto_of texts types parameters) protos) places) where
+      pub methods_denote : (methods : List MethodRow) → All (IsMethodAmong among) methods
+          → Denote (method_of texts types parameters protos) (IsMethodWithin (length texts) (length types) (length protos)) (map (stored_method t) methods) (map (moved_method strings images places) methods)
+      methods_denote = denote (IsMethodAmong among) (moved_method strings images places) (stored_method t) (method_of texts types parameters protos) (IsMethodWithin (length texts) (length types) (length protos)) (λ m k.
+          let c = type_kept m.class k.0 in
+          let n = text_kept m.name k.1 in
+          let p = row_kept among.protos (stored_proto t) (proto_of texts types parameters) t.protos.items protos places by_protos m.proto _ _ k.2 in
+          (λ i. record { class = c.0 i; name = n.0 i; proto = p.0 i }, record { class_in = c.1; name_in = n.1; proto_in = p.1 }))
+
+-- entries whose numbers make rows of protos
+pub entries_of : (texts : List Text) (types ps : List ℕ) (protos : List ProtoEntry) → All (λ p. HasSpan ps p.parameters) protos → All (IsRowOf texts types) (map (numbers_of ps) protos)
+    → All (IsEntryWithin (length texts) (length types) ps) protos × All (HasShorty texts types ps) protos
+entries_of texts types ps protos spans rows =
+    let each = all_seen (numbers_of ps) (IsRowOf texts types) protos rows in (
+      λ k d lt. let r = each k d lt in record { shorty_in = r.shorty_in; return_in = r.return_in; span = spans k d lt; parameters_in = r.parameters_in },
+      λ k d lt. (each k d lt).shorty_is,
+    )
+
+-- ---- joins: images of all numbers
+
+-- the numbers that have an image
+abbrev pub has_image : List ℕ → ℕ → Bool
+has_image images n = nat_lt n (length images)
+
+-- the numbers that have one of these images
+abbrev pub have_images : List ℕ → List ℕ → List ℕ → Among
+have_images strings types protos = record { strings = has_image strings; types = has_image types; protos = has_image protos }
+
+images_keep : {X : Type 0} (from to : List X) (images : List ℕ) → Moves from to images → Keeps (has_image images) from to images
+images_keep from to images m =
+    let there : (n : ℕ) → has_image images n ≡ true → n < length from = λ n h. omega (arith, ltb-true n (length images) h, m.count) in
+    record { there = there; same = λ n d h. m.same n d (there n h) }
+
+-- where there is an image for each number, all rows name numbers that have one
+module _ (t : Tables) (ok : AreTables t) (strings : List ℕ) (texts_count : length strings ≡ length t.strings.items) where
   pub types_movable : All (λ n. n < length strings) t.types.items
-  types_movable = All-weaker (λ n. n < length t.strings.items) (λ n. n < length strings) (λ n lt. omega (arith, lt, by_texts.count)) t.types.items (types_in t ok)
+  types_movable = rw texts_count (types_in t ok)
 
-  pub types_at_ranks : (rows : List TypeRow) → rows ≡ map (moved_type strings) t.types.items → Denote (λ (row : TypeRow). text_of texts row.descriptor) (λ row. row.descriptor < length texts) (symbols_in t).types rows
-  types_at_ranks rows is = record {
-    same = ap (map (λ (row : TypeRow). text_of texts row.descriptor)) is
-        ∙ map_both (moved_type strings) (λ (row : TypeRow). text_of texts row.descriptor) (text_of t.strings.items) t.types.items
-        (All-weaker (λ n. n < length t.strings.items) (λ n. text_of texts (slice_index strings n) ≡ text_of t.strings.items n) text_moved t.types.items (types_in t ok));
-    within = subst (All (λ (row : TypeRow). row.descriptor < length texts)) (sym is)
-        (All-map (λ (row : TypeRow). row.descriptor < length texts) (moved_type strings) t.types.items
-        (All-weaker (λ n. n < length t.strings.items) (λ n. slice_index strings n < length texts) text_within t.types.items (types_in t ok)));
-  }
+  pub types_among : All (λ n. has_image strings n ≡ true) t.types.items
+  types_among = All-weaker (λ n. n < length strings) (λ n. has_image strings n ≡ true) (λ n lt. lt-ltb n (length strings) lt) t.types.items types_movable
 
-  module _ (types images : List ℕ) (by_types : Moves (symbols_in t).types (map (text_of texts) types) images) where
-    types_count : length images ≡ length t.types.items
-    types_count = by_types.count ∙ length-map t.types.items (text_of t.strings.items)
+  module _ (types : List ℕ) (types_count : length types ≡ length t.types.items) where
+    pub protos_movable : All (IsEntryWithin (length strings) (length types) t.parameters) t.protos.items
+    protos_movable = rw (texts_count, types_count) (protos_in t ok)
 
-    type_within : (n : ℕ) → n < length t.types.items → slice_index images n < length types
-    type_within n lt = omega (arith, (by_types.same n [] (omega (arith, lt, length-map t.types.items (text_of t.strings.items)))).within, length-map types (text_of texts))
-
-    type_moved : (n : ℕ) → n < length t.types.items → type_of texts types (slice_index images n) ≡ type_of t.strings.items t.types.items n
-    type_moved n lt =
-        let at = by_types.same n [] (omega (arith, lt, length-map t.types.items (text_of t.strings.items))) in
-        sym (get_or-map (text_of texts) types (slice_index images n) 0 [] (type_within n lt)) ∙ at.is [] ∙ get_or-map (text_of t.strings.items) t.types.items n 0 [] lt
-
-    types_moved : (ns : List ℕ) → All (IsTypeOf IsValueType t) ns → map (type_of texts types) (map (slice_index images) ns) ≡ map (type_of t.strings.items t.types.items) ns
-    types_moved ns h = map_both (slice_index images) (type_of texts types) (type_of t.strings.items t.types.items) ns
-        (All-weaker (IsTypeOf IsValueType t) (λ n. type_of texts types (slice_index images n) ≡ type_of t.strings.items t.types.items n) (λ n k. type_moved n k.type_in) ns h)
-
-    -- ---- protos
-
-    entry_within : (p : ProtoEntry) → IsProtoEntry t p → IsEntryWithin (length strings) (length images) t.parameters p
-    entry_within p h = record {
-      shorty_in = omega (arith, h.shorty_in, by_texts.count);
-      return_in = omega (arith, h.return_in, types_count);
-      span = h.span;
-      parameters_in = All-weaker (IsTypeOf IsValueType t) (λ n. n < length images) (λ n k. omega (arith, k.type_in, types_count)) (span_of t.parameters p.parameters) h.parameters_in;
-    }
-
-    -- the parts of protos have images
-    pub protos_movable : All (IsEntryWithin (length strings) (length images) t.parameters) t.protos.items
-    protos_movable = All-weaker (IsProtoEntry t) (IsEntryWithin (length strings) (length images) t.parameters) entry_within t.protos.items ok.protos_at_ranks
-
-    proto_moved : (p : ProtoEntry) → IsProtoEntry t p → proto_of_row texts types (moved_proto strings images t.parameters p) ≡ proto_of t.strings.items t.types.items t.parameters p
-    proto_moved p h =
-        let r = type_moved p.return_type h.return_in in
-        let ps = types_moved (span_of t.parameters p.parameters) h.parameters_in in
-        λ i. record { return_type = r i; parameters = ps i }
-
-    row_within : (p : ProtoEntry) → IsProtoEntry t p → IsRowOf texts types (moved_proto strings images t.parameters p)
-    row_within p h =
-        let r = type_moved p.return_type h.return_in in
-        let ps = types_moved (span_of t.parameters p.parameters) h.parameters_in in
+    pub protos_among : All (IsEntryAmong t (have_images strings types [])) t.protos.items
+    protos_among k d lt =
+        let p = get_or t.protos.items k d in
+        let h = protos_movable k d lt in
         record {
-          shorty_in = text_within p.shorty h.shorty_in;
-          return_in = type_within p.return_type h.return_in;
-          parameters_in = All-map (λ n. n < length types) (slice_index images) (span_of t.parameters p.parameters)
-              (All-weaker (IsTypeOf IsValueType t) (λ n. slice_index images n < length types) (λ n k. type_within n k.type_in) (span_of t.parameters p.parameters) h.parameters_in);
-          shorty_is = text_moved p.shorty h.shorty_in ∙ h.shorty_is ∙ sym (λ i. shorty (r i) (ps i));
+          shorty_among = lt-ltb p.shorty (length strings) h.shorty_in;
+          return_among = lt-ltb p.return_type (length types) h.return_in;
+          parameters_among = All-weaker (λ n. n < length types) (λ n. has_image types n ≡ true) (λ n lt. lt-ltb n (length types) lt) (span_of t.parameters p.parameters) h.parameters_in;
+          shorty_is = (ok.protos_at_ranks k d lt).shorty_is;
         }
 
+    pub fields_among : All (IsFieldAmong (have_images strings types [])) t.fields.items
+    fields_among = rw (texts_count, types_count) (All-weaker (IsFieldWithin (length t.strings.items) (length t.types.items)) (λ f. (nat_lt f.class (length t.types.items) ≡ true) × (nat_lt f.name (length t.strings.items) ≡ true) × (nat_lt f.typ (length t.types.items) ≡ true))
+        (λ f h. (lt-ltb f.class (length t.types.items) h.class_in, lt-ltb f.name (length t.strings.items) h.name_in, lt-ltb f.typ (length t.types.items) h.type_in)) t.fields.items (fields_in t ok))
+
+    pub methods_among : (protos : List ℕ) → length protos ≡ length t.protos.items → All (IsMethodAmong (have_images strings types protos)) t.methods.items
+    methods_among protos count = rw (texts_count, types_count, count) (All-weaker (IsMethodWithin (length t.strings.items) (length t.types.items) (length t.protos.items)) (λ m. (nat_lt m.class (length t.types.items) ≡ true) × (nat_lt m.name (length t.strings.items) ≡ true) × (nat_lt m.proto (length t.protos.items) ≡ true))
+        (λ m h. (lt-ltb m.class (length t.types.items) h.class_in, lt-ltb m.name (length t.strings.items) h.name_in, lt-ltb m.proto (length t.protos.items) h.proto_in)) t.methods.items (methods_in t ok))
+
+module _ (t : Tables) (ok : AreTables t) (texts : List Text) (strings : List ℕ) (by_texts : Moves t.strings.items texts strings) where
+  pub types_at_ranks : (rows : List TypeRow) → rows ≡ map (moved_type strings) t.types.items → Denote (λ (row : TypeRow). text_of texts row.descriptor) (λ row. row.descriptor < length texts) (symbols_in t).types rows
+  types_at_ranks rows is = rw is
+      (denote (λ n. has_image strings n ≡ true) (moved_type strings) (text_of t.strings.items) (λ (row : TypeRow). text_of texts row.descriptor) (λ (row : TypeRow). row.descriptor < length texts)
+      (text_kept t (have_images strings [] []) texts strings (images_keep t.strings.items texts strings by_texts)) t.types.items (types_among t ok strings by_texts.count))
+
+  module _ (types images : List ℕ) (by_types : Moves (symbols_in t).types (map (text_of texts) types) images) where
+    pub types_count : length images ≡ length t.types.items
+    types_count = by_types.count ∙ length-map t.types.items (text_of t.strings.items)
+
     pub protos_at_ranks : (rows : List ProtoNumbers) → rows ≡ map (moved_proto strings images t.parameters) t.protos.items → Denote (proto_of_row texts types) (IsRowOf texts types) (symbols_in t).protos rows
-    protos_at_ranks rows is = record {
-      same = ap (map (proto_of_row texts types)) is
-          ∙ map_both (moved_proto strings images t.parameters) (proto_of_row texts types) (proto_of t.strings.items t.types.items t.parameters) t.protos.items
-          (All-weaker (IsProtoEntry t) (λ p. proto_of_row texts types (moved_proto strings images t.parameters p) ≡ proto_of t.strings.items t.types.items t.parameters p) proto_moved t.protos.items ok.protos_at_ranks);
-      within = subst (All (IsRowOf texts types)) (sym is)
-          (All-map (IsRowOf texts types) (moved_proto strings images t.parameters) t.protos.items
-          (All-weaker (IsProtoEntry t) (λ p. IsRowOf texts types (moved_proto strings images t.parameters p)) row_within t.protos.items ok.protos_at_ranks));
-    }
-
-    -- ---- fields
-
-    field_within : (f : FieldRow) → IsFieldRow t f → IsFieldWithin (length strings) (length images) f
-    field_within f h = record { class_in = omega (arith, h.class_is.type_in, types_count); name_in = omega (arith, h.name_in, by_texts.count); type_in = omega (arith, h.type_is.type_in, types_count) }
-
-    -- the parts of fields have images
-    pub fields_movable : All (IsFieldWithin (length strings) (length images)) t.fields.items
-    fields_movable = All-weaker (IsFieldRow t) (IsFieldWithin (length strings) (length images)) field_within t.fields.items ok.fields_at_ranks
-
-    field_moved : (f : FieldRow) → IsFieldRow t f → field_of texts types (moved_field strings images f) ≡ field_of t.strings.items t.types.items f
-    field_moved f h =
-        let c = type_moved f.class h.class_is.type_in in
-        let n = text_moved f.name h.name_in in
-        let y = type_moved f.typ h.type_is.type_in in
-        λ i. record { class = c i; name = n i; type = y i }
-
-    moved_field_within : (f : FieldRow) → IsFieldRow t f → IsFieldWithin (length texts) (length types) (moved_field strings images f)
-    moved_field_within f h = record { class_in = type_within f.class h.class_is.type_in; name_in = text_within f.name h.name_in; type_in = type_within f.typ h.type_is.type_in }
+    protos_at_ranks rows is = rw is
+        (protos_denote t (have_images strings images []) texts strings (images_keep t.strings.items texts strings by_texts) types images (images_keep (symbols_in t).types (map (text_of texts) types) images by_types)
+        t.protos.items (protos_among t ok strings by_texts.count images types_count))
 
     pub fields_at_ranks : (rows : List FieldRow) → rows ≡ map (moved_field strings images) t.fields.items → Denote (field_of texts types) (IsFieldWithin (length texts) (length types)) (symbols_in t).fields rows
-    fields_at_ranks rows is = record {
-      same = ap (map (field_of texts types)) is
-          ∙ map_both (moved_field strings images) (field_of texts types) (field_of t.strings.items t.types.items) t.fields.items
-          (All-weaker (IsFieldRow t) (λ f. field_of texts types (moved_field strings images f) ≡ field_of t.strings.items t.types.items f) field_moved t.fields.items ok.fields_at_ranks);
-      within = subst (All (IsFieldWithin (length texts) (length types))) (sym is)
-          (All-map (IsFieldWithin (length texts) (length types)) (moved_field strings images) t.fields.items
-          (All-weaker (IsFieldRow t) (λ f. IsFieldWithin (length texts) (length types) (moved_field strings images f)) moved_field_within t.fields.items ok.fields_at_ranks));
-    }
-
-    -- ---- methods
+    fields_at_ranks rows is = rw is
+        (fields_denote t (have_images strings images []) texts strings (images_keep t.strings.items texts strings by_texts) types images (images_keep (symbols_in t).types (map (text_of texts) types) images by_types)
+        t.fields.items (fields_among t ok strings by_texts.count images types_count))
 
     module _ (parameters : List ℕ) (protos : List ProtoEntry) (places : List ℕ) (by_protos : Moves (symbols_in t).protos (map (proto_of texts types parameters) protos) places) where
-      protos_count : length places ≡ length t.protos.items
-      protos_count = by_protos.count ∙ length-map t.protos.items (proto_of t.strings.items t.types.items t.parameters)
-
-      proto_within : (n : ℕ) → n < length t.protos.items → slice_index places n < length protos
-      proto_within n lt =
-          let d = proto_of texts types parameters (proto_at protos n) in
-          omega (arith, (by_protos.same n d (omega (arith, lt, length-map t.protos.items (proto_of t.strings.items t.types.items t.parameters)))).within, length-map protos (proto_of texts types parameters))
-
-      proto_kept : (n : ℕ) → n < length t.protos.items → proto_of texts types parameters (proto_at protos (slice_index places n)) ≡ proto_of t.strings.items t.types.items t.parameters (proto_at t.protos.items n)
-      proto_kept n lt =
-          let d = proto_of texts types parameters (proto_at protos n) in
-          let at = by_protos.same n d (omega (arith, lt, length-map t.protos.items (proto_of t.strings.items t.types.items t.parameters))) in
-          sym (get_or-map (proto_of texts types parameters) protos (slice_index places n) _ d (proto_within n lt)) ∙ at.is d ∙ get_or-map (proto_of t.strings.items t.types.items t.parameters) t.protos.items n _ d lt
-
-      method_within : (m : MethodRow) → IsMethodRow t m → IsMethodWithin (length strings) (length images) (length places) m
-      method_within m h = record { class_in = omega (arith, h.class_is.type_in, types_count); name_in = omega (arith, h.name_in, by_texts.count); proto_in = omega (arith, h.proto_in, protos_count) }
-
-      -- the parts of methods have images
-      pub methods_movable : All (IsMethodWithin (length strings) (length images) (length places)) t.methods.items
-      methods_movable = All-weaker (IsMethodRow t) (IsMethodWithin (length strings) (length images) (length places)) method_within t.methods.items ok.methods_at_ranks
-
-      method_moved : (m : MethodRow) → IsMethodRow t m → method_of texts types parameters protos (moved_method strings images places m) ≡ method_of t.strings.items t.types.items t.parameters t.protos.items m
-      method_moved m h =
-          let c = type_moved m.class h.class_is.type_in in
-          let n = text_moved m.name h.name_in in
-          let p = proto_kept m.proto h.proto_in in
-          λ i. record { class = c i; name = n i; proto = p i }
-
-      moved_method_within : (m : MethodRow) → IsMethodRow t m → IsMethodWithin (length texts) (length types) (length protos) (moved_method strings images places m)
-      moved_method_within m h = record { class_in = type_within m.class h.class_is.type_in; name_in = text_within m.name h.name_in; proto_in = proto_within m.proto h.proto_in }
+      pub protos_count : length places ≡ length t.protos.items
+      protos_count = by_protos.count ∙ length-map t.protos.items (stored_proto t)
 
       pub methods_at_ranks : (rows : List MethodRow) → rows ≡ map (moved_method strings images places) t.methods.items
           → Denote (method_of texts types parameters protos) (IsMethodWithin (length texts) (length types) (length protos)) (symbols_in t).methods rows
-      methods_at_ranks rows is = record {
-        same = ap (map (method_of texts types parameters protos)) is
-            ∙ map_both (moved_method strings images places) (method_of texts types parameters protos) (method_of t.strings.items t.types.items t.parameters t.protos.items) t.methods.items
-            (All-weaker (IsMethodRow t) (λ m. method_of texts types parameters protos (moved_method strings images places m) ≡ method_of t.strings.items t.types.items t.parameters t.protos.items m) method_moved t.methods.items ok.methods_at_ranks);
-        within = subst (All (IsMethodWithin (length texts) (length types) (length protos))) (sym is)
-            (All-map (IsMethodWithin (length texts) (length types) (length protos)) (moved_method strings images places) t.methods.items
-            (All-weaker (IsMethodRow t) (λ m. IsMethodWithin (length texts) (length types) (length protos) (moved_method strings images places m)) moved_method_within t.methods.items ok.methods_at_ranks));
-      }
+      methods_at_ranks rows is = rw is
+          (methods_denote t (have_images strings images places) texts strings (images_keep t.strings.items texts strings by_texts) types images (images_keep (symbols_in t).types (map (text_of texts) types) images by_types)
+          parameters protos places (images_keep (symbols_in t).protos (map (proto_of texts types parameters) protos) places by_protos) t.methods.items (methods_among t ok strings by_texts.count images types_count places protos_count))

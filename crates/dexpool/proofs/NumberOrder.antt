@@ -18,6 +18,7 @@ use Rattle.dexspec.proofs.merge.SymbolOrders.{text_total}
 use Rattle.dexrows.specs.declared.fields.FieldRow.{FieldRow}
 use Rattle.dexrows.specs.declared.methods.MethodRow.{MethodRow}
 use Rattle.dexpool.specs.declared.rows.ProtoEntry.{ProtoEntry}
+use Rattle.dexpool.specs.internal.Renumbering.{IsEntryWithin, IsFieldWithin, IsMethodWithin}
 use Rattle.dexpool.specs.Tables.{text_of, type_of, span_of, proto_of, field_of, proto_at, method_of, proto_key, field_key, method_key, type_cmp, proto_cmp, field_cmp, method_cmp}
 
 -- ---- any list
@@ -69,23 +70,6 @@ three_keys {o} {o'} {p} {p'} {q} {q'} e f g =
     let h : ordering_then q Equal ≡ q' = then_equal q ∙ g in
     λ i. ordering_then (e i) (ordering_then (f i) (h i))
 
--- the entry's numbers of types are in range
-pub record HasTypeNumbers (ps : List ℕ) (n : ℕ) (p : ProtoEntry) : Type 0 where
-  pub return_in : p.return_type < n
-  pub parameters_in : All (λ k. k < n) (span_of ps p.parameters)
-
--- the row's numbers of types and texts are
-pub record HasFieldNumbers (types texts : ℕ) (f : FieldRow) : Type 0 where
-  pub class_in : f.class < types
-  pub name_in : f.name < texts
-  pub type_in : f.typ < types
-
--- and those of a method, with its proto's
-pub record HasMethodNumbers (types texts protos : ℕ) (m : MethodRow) : Type 0 where
-  pub class_in : m.class < types
-  pub name_in : m.name < texts
-  pub proto_in : m.proto < protos
-
 -- the orders of rows are total
 pub type_total : IsTotalOrder type_cmp
 type_total = on_total (λ (n : ℕ). n ∷ []) nat_list_cmp_total
@@ -118,7 +102,7 @@ module _ (texts : List Text) (texts_rise : rises text_cmp texts ≡ true) where
     types_agree m n lt lt' = places_agree type_cmp type_total types types_rise m n 0 0 lt lt' ∙ type_rows_agree (get_or types m 0) (get_or types n 0) (types_in m 0 lt) (types_in n 0 lt')
 
     -- rows of protos
-    pub proto_rows_agree : (ps : List ℕ) (p q : ProtoEntry) → HasTypeNumbers ps (length types) p → HasTypeNumbers ps (length types) q
+    pub proto_rows_agree : (ps : List ℕ) (p q : ProtoEntry) → IsEntryWithin (length texts) (length types) ps p → IsEntryWithin (length texts) (length types) ps q
         → proto_cmp ps p q ≡ symbols.proto_cmp (proto_of texts types ps p) (proto_of texts types ps q)
     proto_rows_agree ps p q h k =
         let e : nat_cmp p.return_type q.return_type ≡ text_cmp (type_of texts types p.return_type) (type_of texts types q.return_type) = types_agree p.return_type q.return_type h.return_in k.return_in in
@@ -127,28 +111,28 @@ module _ (texts : List Text) (texts_rise : rises text_cmp texts ≡ true) where
         λ i. ordering_then (e i) (r i)
 
     -- a table of protos rises by numbers as by texts
-    pub protos_rise_equally : (ps : List ℕ) (protos : List ProtoEntry) → All (HasTypeNumbers ps (length types)) protos → rises (proto_cmp ps) protos ≡ rises symbols.proto_cmp (map (proto_of texts types ps) protos)
-    protos_rise_equally ps protos h = rises-map (proto_cmp ps) symbols.proto_cmp (proto_of texts types ps) (HasTypeNumbers ps (length types)) (proto_rows_agree ps) protos h
+    pub protos_rise_equally : (ps : List ℕ) (protos : List ProtoEntry) → All (IsEntryWithin (length texts) (length types) ps) protos → rises (proto_cmp ps) protos ≡ rises symbols.proto_cmp (map (proto_of texts types ps) protos)
+    protos_rise_equally ps protos h = rises-map (proto_cmp ps) symbols.proto_cmp (proto_of texts types ps) (IsEntryWithin (length texts) (length types) ps) (proto_rows_agree ps) protos h
 
     -- rows of fields
-    pub field_rows_agree : (f g : FieldRow) → HasFieldNumbers (length types) (length texts) f → HasFieldNumbers (length types) (length texts) g → field_cmp f g ≡ symbols.field_cmp (field_of texts types f) (field_of texts types g)
+    pub field_rows_agree : (f g : FieldRow) → IsFieldWithin (length texts) (length types) f → IsFieldWithin (length texts) (length types) g → field_cmp f g ≡ symbols.field_cmp (field_of texts types f) (field_of texts types g)
     field_rows_agree f g h k = three_keys (types_agree f.class g.class h.class_in k.class_in) (texts_agree f.name g.name h.name_in k.name_in) (types_agree f.typ g.typ h.type_in k.type_in)
 
     -- a table of fields rises by numbers as by texts
-    pub fields_rise_equally : (fields : List FieldRow) → All (HasFieldNumbers (length types) (length texts)) fields → rises field_cmp fields ≡ rises symbols.field_cmp (map (field_of texts types) fields)
-    fields_rise_equally fields h = rises-map field_cmp symbols.field_cmp (field_of texts types) (HasFieldNumbers (length types) (length texts)) field_rows_agree fields h
+    pub fields_rise_equally : (fields : List FieldRow) → All (IsFieldWithin (length texts) (length types)) fields → rises field_cmp fields ≡ rises symbols.field_cmp (map (field_of texts types) fields)
+    fields_rise_equally fields h = rises-map field_cmp symbols.field_cmp (field_of texts types) (IsFieldWithin (length texts) (length types)) field_rows_agree fields h
 
-    module _ (ps : List ℕ) (protos : List ProtoEntry) (protos_in : All (HasTypeNumbers ps (length types)) protos) (protos_rise : rises (proto_cmp ps) protos ≡ true) where
+    module _ (ps : List ℕ) (protos : List ProtoEntry) (protos_in : All (IsEntryWithin (length texts) (length types) ps) protos) (protos_rise : rises (proto_cmp ps) protos ≡ true) where
       -- numbers of protos
       pub protos_agree : (m n : ℕ) → m < length protos → n < length protos → nat_cmp m n ≡ symbols.proto_cmp (proto_of texts types ps (proto_at protos m)) (proto_of texts types ps (proto_at protos n))
       protos_agree m n lt lt' =
           places_agree (proto_cmp ps) (proto_rows_total ps) protos protos_rise m n _ _ lt lt' ∙ proto_rows_agree ps (proto_at protos m) (proto_at protos n) (protos_in m _ lt) (protos_in n _ lt')
 
       -- rows of methods
-      pub method_rows_agree : (m n : MethodRow) → HasMethodNumbers (length types) (length texts) (length protos) m → HasMethodNumbers (length types) (length texts) (length protos) n
+      pub method_rows_agree : (m n : MethodRow) → IsMethodWithin (length texts) (length types) (length protos) m → IsMethodWithin (length texts) (length types) (length protos) n
           → method_cmp m n ≡ symbols.method_cmp (method_of texts types ps protos m) (method_of texts types ps protos n)
       method_rows_agree m n h k = three_keys (types_agree m.class n.class h.class_in k.class_in) (texts_agree m.name n.name h.name_in k.name_in) (protos_agree m.proto n.proto h.proto_in k.proto_in)
 
       -- a table of methods rises by numbers as by texts
-      pub methods_rise_equally : (methods : List MethodRow) → All (HasMethodNumbers (length types) (length texts) (length protos)) methods → rises method_cmp methods ≡ rises symbols.method_cmp (map (method_of texts types ps protos) methods)
-      methods_rise_equally methods h = rises-map method_cmp symbols.method_cmp (method_of texts types ps protos) (HasMethodNumbers (length types) (length texts) (length protos)) method_rows_agree methods h
+      pub methods_rise_equally : (methods : List MethodRow) → All (IsMethodWithin (length texts) (length types) (length protos)) methods → rises method_cmp methods ≡ rises symbols.method_cmp (map (method_of texts types ps protos) methods)
+      methods_rise_equally methods h = rises-map method_cmp symbols.method_cmp (method_of texts types ps protos) (IsMethodWithin (length texts) (length types) (length protos)) method_rows_agree methods h

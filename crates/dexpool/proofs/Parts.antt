@@ -1,7 +1,7 @@
 -- What holds of all members of joined lists.
 use Rattle.std.proofs.Common.{List, [], ◌∷◌, ◌++◌, map}
 use Rattle.std.specs.List.{All, flat_map}
-use Rattle.std.proofs.lemmas.List.Elements.{All-nil, All-cons, All-head, All-tail}
+use Rattle.std.proofs.lemmas.List.Elements.{All-nil, All-cons, All-head, All-tail, All-map, All-weaker}
 
 pub all_prefix : {X : Type 0} (P : X → Type 0) (xs ys : List X) → All P (xs ++ ys) → All P xs
 all_prefix P [] ys h = All-nil P
@@ -18,9 +18,7 @@ all_parts P f (x ∷ xs) h = All-cons (λ x. All P (f x)) x xs (all_prefix P (f 
 
 -- what holds of each member holds of all
 pub all_of : {X : Type 0} (P Q : X → Type 0) (xs : List X) → ((x : X) → P x → Q x) → All P xs → All Q xs
-all_of P Q [] step h = All-nil Q
-all_of P Q (x ∷ xs) step h = All-cons Q x xs (step x (All-head P x xs h)) (all_of P Q xs step (All-tail P x xs h))
+all_of P Q xs step h = All-weaker P Q step xs h
 
 pub all_map : {X Y : Type 0} (P : X → Type 0) (Q : Y → Type 0) (f : X → Y) (xs : List X) → ((x : X) → P x → Q (f x)) → All P xs → All Q (map f xs)
-all_map P Q f [] step h = All-nil Q
-all_map P Q f (x ∷ xs) step h = All-cons Q (f x) (map f xs) (step x (All-head P x xs h)) (all_map P Q f xs step (All-tail P x xs h))
+all_map P Q f xs step h = All-map Q f xs (All-weaker P (λ x. Q (f x)) step xs h)

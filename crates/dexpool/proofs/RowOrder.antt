@@ -1,6 +1,6 @@
 -- Rows whose numbers are replaced in their order stay sorted: what the law of rows says of each kind, in joins and in
 -- cuts.
-use Rattle.std.proofs.Common.{◌≡◌, ℕ, ◌<◌, Bool, true, false, List, [], ◌∷◌, length, get_or, map, Option, Some, None, refl, sym, ap, ◌∙◌, subst, arith, nat_lt, lt-ltb, ltb-true, slice_index, slice_index_or}
+use Rattle.std.proofs.Common.{◌≡◌, ℕ, Bool, true, false, List, [], ◌∷◌, length, get_or, map, Option, Some, None, refl, sym, ap, ◌∙◌, subst, arith, ltb-true, slice_index}
 use Rattle.std.specs.List.{All}
 use Rattle.std.specs.Cmp.{IsTotalOrder}
 use Rattle.std.specs.declared.cmp.Ordering.{Ordering}
@@ -10,24 +10,23 @@ use Rattle.dexspec.specs.Lists.{rises}
 use Rattle.dexspec.specs.Texts.{Text, text_cmp}
 use Rattle.dexspec.specs.Symbols as symbols
 use Rattle.dexspec.proofs.merge.SymbolOrders.{text_total, proto_total}
-use Rattle.dexpool.specs.Cut.{places}
 use Rattle.dexrows.specs.Join.{row_cmp, AreSorted}
 use Rattle.dexrows.specs.Numbers.{Among, Lower, RisesOn, RiseAmong, ProtoNumbers}
 use Rattle.dexrows.specs.declared.types.TypeRow.{TypeRow}
 use Rattle.dexrows.specs.declared.fields.FieldRow.{FieldRow}
 use Rattle.dexrows.specs.declared.methods.MethodRow.{MethodRow}
-use Rattle.dexpool.proofs.KeptPlaces.{length_places, marked_has}
+use Rattle.dexpool.proofs.KeptPlaces.{marked_has}
 use Rattle.dexpool.specs.declared.rows.ProtoEntry.{ProtoEntry}
 use Rattle.dexpool.specs.declared.tables.Tables.{Tables}
 use Rattle.dexpool.specs.declared.marks.Marks.{Marks}
 use Rattle.dexpool.specs.Tables.{text_of, proto_of, span_of, type_cmp, proto_cmp, field_key, method_key}
-use Rattle.dexpool.specs.internal.Renumbering.{StaySorted, numbers_of, moved_type, moved_proto, moved_field, moved_method, IsEntryWithin}
+use Rattle.dexpool.specs.internal.Renumbering.{StaySorted, numbers_of, moved_type, moved_proto, moved_field, moved_method}
 use Rattle.dexpool.specs.internal.Joining.{Moves, proto_key}
 use Rattle.dexpool.specs.Stored.{symbols_in, AreTables}
-use Rattle.dexpool.specs.internal.Closing.{IsMarked, new_numbers, number_or_none}
-use Rattle.dexpool.proofs.KeptRows.{mark_within, places_keep}
+use Rattle.dexpool.specs.internal.Closing.{new_numbers}
+use Rattle.dexpool.proofs.KeptRows.{is_marked, mark_within, new_number, places_keep}
 use Rattle.dexpool.proofs.Mapping.{maps_to}
-use Rattle.dexpool.proofs.Moved.{types_movable, protos_movable, fields_among, fields_movable, methods_among, methods_movable}
+use Rattle.dexpool.proofs.Moved.{IsEntryAmong, has_image, have_images, types_among, types_count, protos_among, fields_among, protos_count, methods_among}
 use Rattle.dexpool.proofs.NumberOrder.{rises-map}
 use Rattle.dexpool.proofs.Pairs.{map_both}
 use Rattle.dexpool.proofs.TablesAreAt.{are_rising}
@@ -73,25 +72,22 @@ module _ (among : Among) (lower : Lower) (rise : RiseAmong among lower) where
       ∙ ap (rises (row_cmp Key)) (map_both lower.strings type_row (λ n. type_row (lower.strings n)) types (λ k d lt. refl)) ∙ types_stay law types within sorted
 
   -- protos, as their entries
-  pub protos_stay : ProtosStay → (ps : List ℕ) (protos : List ProtoEntry)
-      → All (λ p. (among.types p.return_type ≡ true) × All (λ number. among.types number ≡ true) (span_of ps p.parameters)) protos → rises (proto_cmp ps) protos ≡ true
-      → AreSorted proto_key (map (λ p. record { shorty = lower.strings p.shorty; return_type = lower.types p.return_type; parameters = map lower.types (span_of ps p.parameters) }) protos)
-  protos_stay law ps protos within sorted =
+  pub protos_stay : ProtosStay → (t : Tables) (protos : List ProtoEntry) → All (IsEntryAmong t among) protos → rises (proto_cmp t.parameters) protos ≡ true
+      → AreSorted proto_key (map (λ p. record { shorty = lower.strings p.shorty; return_type = lower.types p.return_type; parameters = map lower.types (span_of t.parameters p.parameters) }) protos)
+  protos_stay law t protos within sorted =
+      let numbers : ProtoEntry → ProtoNumbers = numbers_of t.parameters in
       let mapped : ProtoNumbers → ProtoNumbers = λ row. record { shorty = lower.strings row.shorty; return_type = lower.types row.return_type; parameters = map lower.types row.parameters } in
-      subst (AreSorted proto_key) (map_both (numbers_of ps) mapped (λ p. mapped (numbers_of ps p)) protos (λ k d lt. refl))
-      (law among lower (map (numbers_of ps) protos) rise
-      (All-map (λ row. (among.types row.return_type ≡ true) × All (λ number. among.types number ≡ true) row.parameters) (numbers_of ps) protos within)
-      (sym (rises-map (proto_cmp ps) (row_cmp proto_key) (numbers_of ps) (λ p. Unit {0}) (λ x y p q. refl) protos (λ k d lt. tt)) ∙ sorted))
+      let Within : ProtoNumbers → Type 0 = λ row. (among.types row.return_type ≡ true) × All (λ number. among.types number ≡ true) row.parameters in
+      subst (AreSorted proto_key) (map_both numbers mapped (λ p. mapped (numbers p)) protos (λ k d lt. refl))
+      (law among lower (map numbers protos) rise
+      (All-map Within numbers protos (All-weaker (IsEntryAmong t among) (λ p. Within (numbers p)) (λ p m. (m.return_among, m.parameters_among)) protos within))
+      (sym (rises-map (proto_cmp t.parameters) (row_cmp proto_key) numbers (λ p. Unit {0}) (λ x y p q. refl) protos (λ k d lt. tt)) ∙ sorted))
 
--- no number is among these
-none_rise : (f : ℕ → ℕ) → RisesOn (λ n. false) f
-none_rise f m n p q lt = absurd (let e : false ≡ true = p in cc)
+-- no number has one of no images
+none_rise : (f : ℕ → ℕ) → RisesOn (has_image []) f
+none_rise f m n p q lt = absurd (omega (arith, ltb-true m 0 p))
 
 -- ---- joins: images of all numbers
-
--- the numbers that have an image
-abbrev pub has_image : List ℕ → ℕ → Bool
-has_image images n = nat_lt n (length images)
 
 -- the images of sorted members among sorted ones rise
 images_rise : {X : Type 0} (R : X → X → Ordering) (o : IsTotalOrder R) (from to : List X) → rises R from ≡ true → rises R to ≡ true → (images : List ℕ) → Moves from to images → RisesOn (has_image images) (slice_index images)
@@ -105,54 +101,42 @@ module _ (t : Tables) (ok : AreTables t) (texts : List Text) (texts_rise : rises
   strings_rise = images_rise text_cmp text_total t.strings.items texts ok.texts_rise texts_rise strings by_texts
 
   pub types_sorted : TypesStay → (rows : List TypeRow) → rows ≡ map (moved_type strings) t.types.items → AreSorted (λ (row : TypeRow). row.descriptor ∷ []) rows
-  types_sorted law rows is = subst (AreSorted (λ (row : TypeRow). row.descriptor ∷ [])) (sym is)
-      (types_stay (record { strings = has_image strings; types = λ n. false; protos = λ n. false }) (record { strings = slice_index strings; types = λ n. n; protos = λ n. n })
-      (record { strings = strings_rise; types = none_rise (λ n. n); protos = none_rise (λ n. n) }) law t.types.items
-      (All-weaker (λ n. n < length strings) (λ n. has_image strings n ≡ true) (λ n lt. lt-ltb n (length strings) lt) t.types.items (types_movable t ok texts strings by_texts)) ok.types_rise)
+  types_sorted law rows is = rw is
+      (types_stay (have_images strings [] []) (record { strings = slice_index strings; types = λ n. n; protos = λ n. n })
+      (record { strings = strings_rise; types = none_rise (λ n. n); protos = none_rise (λ n. n) }) law t.types.items (types_among t ok strings by_texts.count) ok.types_rise)
 
   module _ (types : List ℕ) (types_rise : rises text_cmp (map (text_of texts) types) ≡ true) (images : List ℕ) (by_types : Moves (symbols_in t).types (map (text_of texts) types) images) where
     images_of_types_rise : RisesOn (has_image images) (slice_index images)
     images_of_types_rise = images_rise text_cmp text_total (symbols_in t).types (map (text_of texts) types) (are_rising t ok).types_rise types_rise images by_types
 
+    -- the images of the numbers of texts and types
+    abbrev lower_images : Lower
+    lower_images = record { strings = slice_index strings; types = slice_index images; protos = λ n. n }
+
+    lower_rise : RiseAmong (have_images strings images []) lower_images
+    lower_rise = record { strings = strings_rise; types = images_of_types_rise; protos = none_rise (λ n. n) }
+
     pub protos_sorted : ProtosStay → (rows : List ProtoNumbers) → rows ≡ map (moved_proto strings images t.parameters) t.protos.items → AreSorted proto_key rows
-    protos_sorted law rows is =
-        let Within : ProtoEntry → Type 0 = λ p. (has_image images p.return_type ≡ true) × All (λ n. has_image images n ≡ true) (span_of t.parameters p.parameters) in
-        subst (AreSorted proto_key) (sym is)
-        (protos_stay (record { strings = λ n. false; types = has_image images; protos = λ n. false }) (record { strings = slice_index strings; types = slice_index images; protos = λ n. n })
-        (record { strings = none_rise (slice_index strings); types = images_of_types_rise; protos = none_rise (λ n. n) }) law t.parameters t.protos.items
-        (All-weaker (IsEntryWithin (length strings) (length images) t.parameters) Within
-        (λ p h. (lt-ltb p.return_type (length images) h.return_in, All-weaker (λ n. n < length images) (λ n. has_image images n ≡ true) (λ n lt. lt-ltb n (length images) lt) (span_of t.parameters p.parameters) h.parameters_in))
-        t.protos.items (protos_movable t ok texts strings by_texts types images by_types)) ok.protos_rise)
+    protos_sorted law rows is = rw is
+        (protos_stay (have_images strings images []) lower_images lower_rise law t t.protos.items (protos_among t ok strings by_texts.count images (types_count t ok texts strings by_texts types images by_types)) ok.protos_rise)
 
     pub fields_sorted : FieldsStay → (rows : List FieldRow) → rows ≡ map (moved_field strings images) t.fields.items → AreSorted field_key rows
-    fields_sorted law rows is =
-        subst (AreSorted field_key) (sym is)
-        (law (record { strings = has_image strings; types = has_image images; protos = λ n. false }) (record { strings = slice_index strings; types = slice_index images; protos = λ n. n }) t.fields.items
-        (record { strings = strings_rise; types = images_of_types_rise; protos = none_rise (λ n. n) })
-        (fields_among (length strings) (length images) t.fields.items (fields_movable t ok texts strings by_texts types images by_types)) ok.fields_rise)
+    fields_sorted law rows is = rw is
+        (law (have_images strings images []) lower_images t.fields.items lower_rise (fields_among t ok strings by_texts.count images (types_count t ok texts strings by_texts types images by_types)) ok.fields_rise)
 
     module _ (parameters : List ℕ) (protos : List ProtoEntry) (protos_rise : rises symbols.proto_cmp (map (proto_of texts types parameters) protos) ≡ true)
         (proto_images : List ℕ) (by_protos : Moves (symbols_in t).protos (map (proto_of texts types parameters) protos) proto_images) where
       pub methods_sorted : MethodsStay → (rows : List MethodRow) → rows ≡ map (moved_method strings images proto_images) t.methods.items → AreSorted method_key rows
-      methods_sorted law rows is =
-          subst (AreSorted method_key) (sym is)
-          (law (record { strings = has_image strings; types = has_image images; protos = has_image proto_images })
-          (record { strings = slice_index strings; types = slice_index images; protos = slice_index proto_images }) t.methods.items
+      methods_sorted law rows is = rw is
+          (law (have_images strings images proto_images) (record { strings = slice_index strings; types = slice_index images; protos = slice_index proto_images }) t.methods.items
           (record {
             strings = strings_rise;
             types = images_of_types_rise;
             protos = images_rise symbols.proto_cmp proto_total (symbols_in t).protos (map (proto_of texts types parameters) protos) (are_rising t ok).protos_rise protos_rise proto_images by_protos;
           })
-          (methods_among (length strings) (length images) (length proto_images) t.methods.items (methods_movable t ok texts strings by_texts types images by_types parameters protos proto_images by_protos)) ok.methods_rise)
+          (methods_among t ok strings by_texts.count images (types_count t ok texts strings by_texts types images by_types) proto_images (protos_count t ok texts strings by_texts types images by_types parameters protos proto_images by_protos)) ok.methods_rise)
 
 -- ---- cuts: new numbers of marked ones
-
--- the test of marks
-abbrev pub is_marked : List Bool → ℕ → Bool
-is_marked marks n = slice_index_or marks n false
-
-new_number : (marks : List Bool) (n place : ℕ) → IsMarked marks n → get_or (places 0 marks) n None ≡ Some place → slice_index (new_numbers marks) n ≡ place
-new_number marks n place marked e = get_or-map number_or_none (places 0 marks) n None 0 (omega (arith, length_places 0 marks, mark_within marks n marked)) ∙ ap number_or_none e
 
 -- marked numbers are replaced in their order
 new_rise : (marks : List Bool) → RisesOn (is_marked marks) (slice_index (new_numbers marks))

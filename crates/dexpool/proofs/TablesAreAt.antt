@@ -1,13 +1,14 @@
 -- What tables whose rows are in range denote: the symbols of a numbering.
-use Rattle.std.proofs.Common.{◌≡◌, ℕ, ◌<◌, [], length, get_or, sym, ◌∙◌, subst, inl, inr}
+use Rattle.std.proofs.Common.{◌≡◌, ℕ, ◌<◌, true, [], length, get_or, sym, ◌∙◌, subst, inl, inr}
 use Rattle.std.specs.Prelude.{map, All}
 use Rattle.std.specs.List.{Contains}
 use Rattle.std.specs.Ordering.{nat_cmp}
 use Rattle.std.proofs.lemmas.List.Elements.{All-weaker, All-map, All-contains, Contains-get_or}
+use Rattle.dexspec.specs.Lists.{rises}
 use Rattle.dexspec.specs.Texts.{text_cmp}
 use Rattle.dexspec.specs.Names.{IsDescriptor, IsValueType}
 use Rattle.dexspec.specs.Symbols as symbols
-use Rattle.dexspec.specs.Symbols.{Proto, Field, Method, IsProto, IsField, IsMethod}
+use Rattle.dexspec.specs.Symbols.{IsProto, IsField, IsMethod}
 use Rattle.dexspec.proofs.lists.Members.{Contains-cons_cases}
 use Rattle.dexspec.proofs.merge.Depths.{Contains-map}
 use Rattle.dexspec.proofs.lists.Mapped.{Contains-map_source}
@@ -16,38 +17,42 @@ use Rattle.dexrows.specs.declared.methods.MethodRow.{MethodRow}
 use Rattle.dexpool.specs.declared.rows.ProtoEntry.{ProtoEntry}
 use Rattle.dexpool.specs.declared.tables.Tables.{Tables}
 use Rattle.dexpool.specs.Tables.{text_of, type_of, span_of, proto_of, field_of, proto_at, method_of, type_cmp, proto_cmp, field_cmp, method_cmp}
-use Rattle.dexpool.specs.Stored.{symbols_in, IsTypeNumber, IsTypeOf, IsProtoEntry, IsFieldRow, IsMethodRow, AreTables}
+use Rattle.dexrows.proofs.Composing.{all_seen}
+use Rattle.dexpool.specs.internal.Joining.{HasShorty}
+use Rattle.dexpool.specs.Stored.{symbols_in, stored_type, stored_proto, stored_field, stored_method, IsTypeNumber, IsTypeOf, IsProtoEntry, IsFieldRow, IsMethodRow, AreTables}
 use Rattle.dexpool.specs.Numberings.{HasProtoParts, HasFieldParts, HasMethodParts, AreRising, IsNumbering}
 use Rattle.dexpool.proofs.NumberOrder as order
-use Rattle.dexpool.proofs.NumberOrder.{HasTypeNumbers, HasFieldNumbers, HasMethodNumbers}
+use Rattle.dexpool.specs.internal.Renumbering.{IsEntryWithin, IsFieldWithin, IsMethodWithin}
 
 module _ (t : Tables) where
   -- ---- the numbers of rows in range
 
-  pub entry_numbers : (p : ProtoEntry) → IsProtoEntry t p → HasTypeNumbers t.parameters (length t.types.items) p
+  pub entry_numbers : (p : ProtoEntry) → IsProtoEntry t p → IsEntryWithin (length t.strings.items) (length t.types.items) t.parameters p
   entry_numbers p h = record {
+    shorty_in = h.shorty_in;
     return_in = h.return_in;
+    span = h.span;
     parameters_in = All-weaker (IsTypeOf IsValueType t) (λ k. k < length t.types.items) (λ n k. k.type_in) (span_of t.parameters p.parameters) h.parameters_in;
   }
 
-  pub field_numbers : (f : FieldRow) → IsFieldRow t f → HasFieldNumbers (length t.types.items) (length t.strings.items) f
+  pub field_numbers : (f : FieldRow) → IsFieldRow t f → IsFieldWithin (length t.strings.items) (length t.types.items) f
   field_numbers f h = record { class_in = h.class_is.type_in; name_in = h.name_in; type_in = h.type_is.type_in }
 
-  pub method_numbers : (m : MethodRow) → IsMethodRow t m → HasMethodNumbers (length t.types.items) (length t.strings.items) (length t.protos.items) m
+  pub method_numbers : (m : MethodRow) → IsMethodRow t m → IsMethodWithin (length t.strings.items) (length t.types.items) (length t.protos.items) m
   method_numbers m h = record { class_in = h.class_is.type_in; name_in = h.name_in; proto_in = h.proto_in }
 
   module _ (h : AreTables t) where
     pub types_in : All (λ n. n < length t.strings.items) t.types.items
     types_in = All-weaker (IsTypeNumber t) (λ n. n < length t.strings.items) (λ n k. k.text_in) t.types.items h.types_at_ranks
 
-    pub protos_in : All (HasTypeNumbers t.parameters (length t.types.items)) t.protos.items
-    protos_in = All-weaker (IsProtoEntry t) (HasTypeNumbers t.parameters (length t.types.items)) entry_numbers t.protos.items h.protos_at_ranks
+    pub protos_in : All (IsEntryWithin (length t.strings.items) (length t.types.items) t.parameters) t.protos.items
+    protos_in = All-weaker (IsProtoEntry t) (IsEntryWithin (length t.strings.items) (length t.types.items) t.parameters) entry_numbers t.protos.items h.protos_at_ranks
 
-    pub fields_in : All (HasFieldNumbers (length t.types.items) (length t.strings.items)) t.fields.items
-    fields_in = All-weaker (IsFieldRow t) (HasFieldNumbers (length t.types.items) (length t.strings.items)) field_numbers t.fields.items h.fields_at_ranks
+    pub fields_in : All (IsFieldWithin (length t.strings.items) (length t.types.items)) t.fields.items
+    fields_in = All-weaker (IsFieldRow t) (IsFieldWithin (length t.strings.items) (length t.types.items)) field_numbers t.fields.items h.fields_at_ranks
 
-    pub methods_in : All (HasMethodNumbers (length t.types.items) (length t.strings.items) (length t.protos.items)) t.methods.items
-    methods_in = All-weaker (IsMethodRow t) (HasMethodNumbers (length t.types.items) (length t.strings.items) (length t.protos.items)) method_numbers t.methods.items h.methods_at_ranks
+    pub methods_in : All (IsMethodWithin (length t.strings.items) (length t.types.items) (length t.protos.items)) t.methods.items
+    methods_in = All-weaker (IsMethodRow t) (IsMethodWithin (length t.strings.items) (length t.types.items) (length t.protos.items)) method_numbers t.methods.items h.methods_at_ranks
 
     -- ---- rows in the order of their symbols
 
@@ -166,3 +171,39 @@ module _ (t : Tables) where
           methods_named = All-map (HasMethodParts (symbols_in t)) (method_of texts types ps protos) t.methods.items
               (All-weaker (IsMethodRow t) (λ m. HasMethodParts (symbols_in t) (method_of texts types ps protos m)) method_parts t.methods.items h.methods_at_ranks);
         }
+
+-- rows in order and in range, of symbols that are well formed, make tables
+pub tables_made : (t : Tables) → rises text_cmp t.strings.items ≡ true → rises type_cmp t.types.items ≡ true → rises (proto_cmp t.parameters) t.protos.items ≡ true → rises field_cmp t.fields.items ≡ true → rises method_cmp t.methods.items ≡ true
+    → All (λ n. n < length t.strings.items) t.types.items → All IsDescriptor (symbols_in t).types
+    → All (IsEntryWithin (length t.strings.items) (length t.types.items) t.parameters) t.protos.items → All (HasShorty t.strings.items t.types.items t.parameters) t.protos.items → All IsProto (symbols_in t).protos
+    → All (IsFieldWithin (length t.strings.items) (length t.types.items)) t.fields.items → All IsField (symbols_in t).fields
+    → All (IsMethodWithin (length t.strings.items) (length t.types.items) (length t.protos.items)) t.methods.items → All IsMethod (symbols_in t).methods → AreTables t
+tables_made t texts_rise types_rise protos_rise fields_rise methods_rise types_in descriptors protos_in shorties protos_formed fields_in fields_formed methods_in methods_formed = record {
+  texts_rise = texts_rise;
+  types_rise = types_rise;
+  protos_rise = protos_rise;
+  fields_rise = fields_rise;
+  methods_rise = methods_rise;
+  types_at_ranks = λ k d lt. record { text_in = types_in k d lt; descriptor = all_seen (text_of t.strings.items) IsDescriptor t.types.items descriptors k d lt };
+  protos_at_ranks = λ k d lt.
+      let w = protos_in k d lt in
+      let formed = all_seen (stored_proto t) IsProto t.protos.items protos_formed k d lt in
+      record {
+        span = w.span;
+        return_in = w.return_in;
+        parameters_in = λ j e less. record {
+          type_in = w.parameters_in j e less;
+          is = all_seen (stored_type t) IsValueType (span_of t.parameters (get_or t.protos.items k d).parameters) formed.parameters j e less;
+        };
+        shorty_in = w.shorty_in;
+        shorty_is = shorties k d lt;
+      };
+  fields_at_ranks = λ k d lt.
+      let w = fields_in k d lt in
+      let formed = all_seen (stored_field t) IsField t.fields.items fields_formed k d lt in
+      record { class_is = record { type_in = w.class_in; is = formed.class }; name_in = w.name_in; name_is = formed.name; type_is = record { type_in = w.type_in; is = formed.type } };
+  methods_at_ranks = λ k d lt.
+      let w = methods_in k d lt in
+      let formed = all_seen (stored_method t) IsMethod t.methods.items methods_formed k d lt in
+      record { class_is = record { type_in = w.class_in; is = formed.class }; name_in = w.name_in; name_is = formed.name; proto_in = w.proto_in };
+}

@@ -1,14 +1,15 @@
-use Rattle.std.proofs.Common.{length, map, sym, ◌∙◌, subst}
+use Rattle.std.proofs.Common.{length, map, ◌∙◌, subst}
 use Rattle.dexspec.specs.Mentions.{Mentions}
 use Rattle.dexrows.specs.Join.{AreSorted}
 use Rattle.dexpool.specs.Tables.{text_of, field_of, field_key}
 use Rattle.dexpool.specs.internal.Renumbering.{moved_field, IsFieldWithin}
 use Rattle.dexpool.specs.internal.Joining.{Moves, Denote}
-use Rattle.dexpool.proofs.Pairs.{zip_seen, within_other, zip_more, zip_all, all_pushed}
+use Rattle.dexpool.proofs.Pairs.{within_other, zip_more, zip_all, all_pushed}
 use Rattle.dexpool.proofs.TypeLists.{if_ok_map}
-use Rattle.dexpool.proofs.Moved.{fields_among, fields_movable, fields_at_ranks}
+use Rattle.dexpool.proofs.Moved.{types_count, fields_among, fields_at_ranks}
 use Rattle.dexpool.proofs.RowOrder.{fields_sorted}
 use Rattle.dexpool.proofs.JoinedLevels.{texts_rise, type_texts_rise, fields_joined}
+use Rattle.dexpool.proofs.JoinedTables.{part_moves}
 use Rattle.dexpool.proofs.joined_tables.join_fields.Goals as goal
 
 pub index-requires : goal.index-requires
@@ -19,18 +20,14 @@ index-requires-in-loop-i c = within_other (λ (m : Mentions) image. Moves m.type
 
 pub renumbered_rows-requires-clause-within : goal.renumbered_rows-requires-clause-within
 renumbered_rows-requires-clause-within c =
-    let seen_strings = zip_seen (λ (m : Mentions) image. Moves m.texts c.args.strings.now.rows.items image) (λ part. part.now) (λ image. image.items) c.args.parts.now c.args.strings.now.images.items c.loop-i.i c.index-parts-i.result c.index.result.now c.requires.strings.moves c.loop-i-test.true c.index-parts-i.is c.index.ensures in
-    let by_strings = subst (λ (m : Mentions). Moves m.texts c.args.strings.now.rows.items c.index.result.now.items) (sym c.tables.ensures.symbols) seen_strings in
-    let seen_types = zip_seen (λ (m : Mentions) image. Moves m.types (map (text_of c.args.strings.now.rows.items) c.args.types.now.numbers.items) image) (λ part. part.now) (λ image. image.items) c.args.parts.now c.args.types.now.images.items c.loop-i.i c.index-parts-i.result c.index-in-loop-i.result.now c.requires.types.union.moves c.loop-i-test.true c.index-parts-i.is c.index-in-loop-i.ensures in
-    let by_types = subst (λ (m : Mentions). Moves m.types (map (text_of c.args.strings.now.rows.items) c.args.types.now.numbers.items) c.index-in-loop-i.result.now.items) (sym c.tables.ensures.symbols) seen_types in
-    rw (c.deref.ensures.value, c.deref-in-loop-i.ensures.value, c.in_ok-fields.ensures.items, c.deref-in-loop-i-2.ensures.value) (fields_among _ _ c.tables.result.now.fields.items (fields_movable c.tables.result.now c.tables.ensures.tables c.args.strings.now.rows.items c.index.result.now.items by_strings c.args.types.now.numbers.items c.index-in-loop-i.result.now.items by_types))
+    let by_strings = part_moves (λ (m : Mentions). m.texts) c.args.strings.now.rows.items c.args.parts.now c.args.strings.now.images.items c.loop-i.i c.index-parts-i.result c.index.result.now _ c.requires.strings.moves c.loop-i-test.true c.index-parts-i.is c.index.ensures c.tables.ensures.symbols in
+    let by_types = part_moves (λ (m : Mentions). m.types) (map (text_of c.args.strings.now.rows.items) c.args.types.now.numbers.items) c.args.parts.now c.args.types.now.images.items c.loop-i.i c.index-parts-i.result c.index-in-loop-i.result.now _ c.requires.types.union.moves c.loop-i-test.true c.index-parts-i.is c.index-in-loop-i.ensures c.tables.ensures.symbols in
+    rw (c.deref.ensures.value, c.deref-in-loop-i.ensures.value, c.in_ok-fields.ensures.items, c.deref-in-loop-i-2.ensures.value) (fields_among c.tables.result.now c.tables.ensures.tables c.index.result.now.items by_strings.count c.index-in-loop-i.result.now.items (types_count c.tables.result.now c.tables.ensures.tables c.args.strings.now.rows.items c.index.result.now.items by_strings c.args.types.now.numbers.items c.index-in-loop-i.result.now.items by_types))
 
 pub loop-i-preserved : goal.loop-i-preserved
 loop-i-preserved c =
-    let seen_strings = zip_seen (λ (m : Mentions) image. Moves m.texts c.args.strings.now.rows.items image) (λ part. part.now) (λ image. image.items) c.args.parts.now c.args.strings.now.images.items c.loop-i.i c.index-parts-i.result c.index.result.now c.requires.strings.moves c.loop-i-test.true c.index-parts-i.is c.index.ensures in
-    let by_strings = subst (λ (m : Mentions). Moves m.texts c.args.strings.now.rows.items c.index.result.now.items) (sym c.tables.ensures.symbols) seen_strings in
-    let seen_types = zip_seen (λ (m : Mentions) image. Moves m.types (map (text_of c.args.strings.now.rows.items) c.args.types.now.numbers.items) image) (λ part. part.now) (λ image. image.items) c.args.parts.now c.args.types.now.images.items c.loop-i.i c.index-parts-i.result c.index-in-loop-i.result.now c.requires.types.union.moves c.loop-i-test.true c.index-parts-i.is c.index-in-loop-i.ensures in
-    let by_types = subst (λ (m : Mentions). Moves m.types (map (text_of c.args.strings.now.rows.items) c.args.types.now.numbers.items) c.index-in-loop-i.result.now.items) (sym c.tables.ensures.symbols) seen_types in
+    let by_strings = part_moves (λ (m : Mentions). m.texts) c.args.strings.now.rows.items c.args.parts.now c.args.strings.now.images.items c.loop-i.i c.index-parts-i.result c.index.result.now _ c.requires.strings.moves c.loop-i-test.true c.index-parts-i.is c.index.ensures c.tables.ensures.symbols in
+    let by_types = part_moves (λ (m : Mentions). m.types) (map (text_of c.args.strings.now.rows.items) c.args.types.now.numbers.items) c.args.parts.now c.args.types.now.images.items c.loop-i.i c.index-parts-i.result c.index-in-loop-i.result.now _ c.requires.types.union.moves c.loop-i-test.true c.index-parts-i.is c.index-in-loop-i.ensures c.tables.ensures.symbols in
     let rows = c.renumbered_rows.result.items in
     let is = c.renumbered_rows.ensures ∙ (λ i. map (moved_field (c.deref.ensures.value i) (c.deref-in-loop-i.ensures.value i)) ((c.in_ok-fields.ensures.items ∙ c.deref-in-loop-i-2.ensures.value) i)) in
     let are_encoded = fields_at_ranks c.tables.result.now c.tables.ensures.tables c.args.strings.now.rows.items c.index.result.now.items by_strings c.args.types.now.numbers.items c.index-in-loop-i.result.now.items by_types rows is in

@@ -1,10 +1,14 @@
-use Rattle.std.proofs.Common.{ℕ, List, map, sym, subst}
+use Rattle.std.proofs.Common.{◌≡◌, ℕ, true, List, map, sym, subst}
+use Rattle.std.proofs.lemmas.List.Elements.{All-weaker}
 use Rattle.dexspec.specs.Texts.{text_cmp}
 use Rattle.dexspec.specs.Symbols.{proto_cmp, field_cmp, method_cmp}
+use Rattle.dexspec.specs.Lists.{rises}
 use Rattle.dexspec.specs.Mentions.{Mentions}
+use Rattle.dexspec.proofs.merge.SymbolOrders.{text_total, text_exact, proto_total, proto_exact, field_total, field_exact, method_total, method_exact}
+use Rattle.dexpool.specs.Numberings.{IsNumbering}
 use Rattle.dexpool.specs.internal.Joining.{AreJoinedProtos, AreJoinedMethods}
 use Rattle.dexpool.specs.Tables.{text_of, proto_of, field_of, method_of}
-use Rattle.dexpool.proofs.JoinedTables.{images_count, are_tables, are_union, all_map_to, texts_keep, types_keep, protos_keep, fields_keep, methods_keep}
+use Rattle.dexpool.proofs.JoinedTables.{images_count, are_tables, are_union, all_map_to, images_keep}
 use Rattle.dexpool.proofs.joined_tables.join_tables.Goals as goal
 
 pub remaps-requires-clause-types : goal.remaps-requires-clause-types
@@ -25,23 +29,23 @@ remaps-requires-clause-methods c = rw (c.deref.ensures.value, c.deref-5.ensures.
 
 pub remaps-requires-clause-strings_keep : goal.remaps-requires-clause-strings_keep
 remaps-requires-clause-strings_keep c = rw c.deref.ensures.value
-    (texts_keep (λ image. image.items) (map (λ part. part.now) c.args.parts.now) c.in_ok-strings.ensures.numberings c.in_ok-strings.strings.images.items c.in_ok-strings.strings.rows.items c.in_ok-strings.ensures.texts)
+    (images_keep (λ (m : Mentions). m.texts) text_cmp text_total text_exact (map (λ part. part.now) c.args.parts.now) c.in_ok-strings.strings.rows.items (λ image. image.items) c.in_ok-strings.strings.images.items c.in_ok-strings.ensures.texts (All-weaker IsNumbering (λ m. rises text_cmp m.texts ≡ true) (λ m n. n.rising.texts_rise) (map (λ part. part.now) c.args.parts.now) c.in_ok-strings.ensures.numberings))
 
 pub remaps-requires-clause-types_keep : goal.remaps-requires-clause-types_keep
 remaps-requires-clause-types_keep c = rw c.deref-2.ensures.value
-    (types_keep (λ image. image.items) (map (λ part. part.now) c.args.parts.now) c.in_ok-strings.ensures.numberings c.in_ok-types.types.images.items (map (text_of c.in_ok-strings.strings.rows.items) c.in_ok-types.types.numbers.items) c.in_ok-types.ensures.union)
+    (images_keep (λ (m : Mentions). m.types) text_cmp text_total text_exact (map (λ part. part.now) c.args.parts.now) (map (text_of c.in_ok-strings.strings.rows.items) c.in_ok-types.types.numbers.items) (λ image. image.items) c.in_ok-types.types.images.items c.in_ok-types.ensures.union (All-weaker IsNumbering (λ m. rises text_cmp m.types ≡ true) (λ m n. n.rising.types_rise) (map (λ part. part.now) c.args.parts.now) c.in_ok-strings.ensures.numberings))
 
 pub remaps-requires-clause-protos_keep : goal.remaps-requires-clause-protos_keep
 remaps-requires-clause-protos_keep c = rw c.deref-3.ensures.value
-    (protos_keep (λ image. image.items) (map (λ part. part.now) c.args.parts.now) c.in_ok-strings.ensures.numberings c.in_ok-protos.protos.images.items (map (proto_of c.in_ok-strings.strings.rows.items c.in_ok-types.types.numbers.items c.in_ok-protos.protos.table.parameters.items) c.in_ok-protos.protos.table.rows.items) c.in_ok-protos.ensures.union)
+    (images_keep (λ (m : Mentions). m.protos) proto_cmp proto_total proto_exact (map (λ part. part.now) c.args.parts.now) (map (proto_of c.in_ok-strings.strings.rows.items c.in_ok-types.types.numbers.items c.in_ok-protos.protos.table.parameters.items) c.in_ok-protos.protos.table.rows.items) (λ image. image.items) c.in_ok-protos.protos.images.items c.in_ok-protos.ensures.union (All-weaker IsNumbering (λ m. rises proto_cmp m.protos ≡ true) (λ m n. n.rising.protos_rise) (map (λ part. part.now) c.args.parts.now) c.in_ok-strings.ensures.numberings))
 
 pub remaps-requires-clause-fields_keep : goal.remaps-requires-clause-fields_keep
 remaps-requires-clause-fields_keep c = rw c.deref-4.ensures.value
-    (fields_keep (λ image. image.items) (map (λ part. part.now) c.args.parts.now) c.in_ok-strings.ensures.numberings c.in_ok-fields.fields.images.items (map (field_of c.in_ok-strings.strings.rows.items c.in_ok-types.types.numbers.items) c.in_ok-fields.fields.rows.items) c.in_ok-fields.ensures.union)
+    (images_keep (λ (m : Mentions). m.fields) field_cmp field_total field_exact (map (λ part. part.now) c.args.parts.now) (map (field_of c.in_ok-strings.strings.rows.items c.in_ok-types.types.numbers.items) c.in_ok-fields.fields.rows.items) (λ image. image.items) c.in_ok-fields.fields.images.items c.in_ok-fields.ensures.union (All-weaker IsNumbering (λ m. rises field_cmp m.fields ≡ true) (λ m n. n.rising.fields_rise) (map (λ part. part.now) c.args.parts.now) c.in_ok-strings.ensures.numberings))
 
 pub remaps-requires-clause-methods_keep : goal.remaps-requires-clause-methods_keep
 remaps-requires-clause-methods_keep c = rw c.deref-5.ensures.value
-    (methods_keep (λ image. image.items) (map (λ part. part.now) c.args.parts.now) c.in_ok-strings.ensures.numberings c.in_ok-methods.methods.images.items (map (method_of c.in_ok-strings.strings.rows.items c.in_ok-types.types.numbers.items c.in_ok-protos.protos.table.parameters.items c.in_ok-protos.protos.table.rows.items) c.in_ok-methods.methods.rows.items) c.in_ok-methods.ensures.union)
+    (images_keep (λ (m : Mentions). m.methods) method_cmp method_total method_exact (map (λ part. part.now) c.args.parts.now) (map (method_of c.in_ok-strings.strings.rows.items c.in_ok-types.types.numbers.items c.in_ok-protos.protos.table.parameters.items c.in_ok-protos.protos.table.rows.items) c.in_ok-methods.methods.rows.items) (λ image. image.items) c.in_ok-methods.methods.images.items c.in_ok-methods.ensures.union (All-weaker IsNumbering (λ m. rises method_cmp m.methods ≡ true) (λ m n. n.rising.methods_rise) (map (λ part. part.now) c.args.parts.now) c.in_ok-strings.ensures.numberings))
 
 -- the joined protos and methods, whose parameters the tables own
 own_protos : (c : goal.After-drop-strings-2) → AreJoinedProtos (map (λ part. part.now) c.args.parts.now) c.in_ok-strings.strings.rows.items c.in_ok-types.types.numbers.items c.own.result c.in_ok-protos.protos.table.rows.items (map (λ image. image.items) c.in_ok-protos.protos.images.items)

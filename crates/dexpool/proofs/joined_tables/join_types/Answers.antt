@@ -1,14 +1,15 @@
-use Rattle.std.proofs.Common.{ap, length, map, sym, ◌∙◌, subst, ◌<◌, [], ◌∷◌}
+use Rattle.std.proofs.Common.{ap, length, map, ◌∙◌, subst, ◌<◌, [], ◌∷◌}
 use Rattle.dexspec.specs.Mentions.{Mentions}
 use Rattle.dexrows.specs.Join.{AreSorted}
 use Rattle.dexrows.specs.declared.types.TypeRow.{TypeRow}
 use Rattle.dexpool.specs.Tables.{text_of}
 use Rattle.dexpool.specs.internal.Renumbering.{moved_type}
 use Rattle.dexpool.specs.internal.Joining.{Moves, Denote}
-use Rattle.dexpool.proofs.Pairs.{zip_seen, within_other, zip_more, zip_all, all_pushed}
+use Rattle.dexpool.proofs.Pairs.{within_other, zip_more, zip_all, all_pushed}
 use Rattle.dexpool.proofs.Moved.{types_movable, types_at_ranks}
 use Rattle.dexpool.proofs.RowOrder.{types_sorted}
 use Rattle.dexpool.proofs.JoinedLevels.{texts_rise, types_joined}
+use Rattle.dexpool.proofs.JoinedTables.{part_moves}
 use Rattle.dexpool.proofs.joined_tables.join_types.Goals as goal
 
 pub index-requires : goal.index-requires
@@ -16,15 +17,13 @@ index-requires c = within_other (λ (m : Mentions) image. Moves m.texts c.args.s
 
 pub renumbered_types-requires : goal.renumbered_types-requires
 renumbered_types-requires c =
-    let m = zip_seen (λ (m : Mentions) image. Moves m.texts c.args.strings.now.rows.items image) (λ part. part.now) (λ image. image.items) c.args.parts.now c.args.strings.now.images.items c.loop-i.i c.index-parts-i.result c.index.result.now c.requires.strings.moves c.loop-i-test.true c.index-parts-i.is c.index.ensures in
-    let by_texts = subst (λ (m : Mentions). Moves m.texts c.args.strings.now.rows.items c.index.result.now.items) (sym c.tables.ensures.symbols) m in
-    rw (c.deref.ensures.value, c.deref-in-loop-i.ensures.value) (types_movable c.tables.result.now c.tables.ensures.tables c.args.strings.now.rows.items c.index.result.now.items by_texts)
+    let by_texts = part_moves (λ (m : Mentions). m.texts) c.args.strings.now.rows.items c.args.parts.now c.args.strings.now.images.items c.loop-i.i c.index-parts-i.result c.index.result.now _ c.requires.strings.moves c.loop-i-test.true c.index-parts-i.is c.index.ensures c.tables.ensures.symbols in
+    rw (c.deref.ensures.value, c.deref-in-loop-i.ensures.value) (types_movable c.tables.result.now c.tables.ensures.tables c.index.result.now.items by_texts.count)
 
 pub loop-i-preserved : goal.loop-i-preserved
 loop-i-preserved c =
     let texts = c.args.strings.now.rows.items in
-    let m = zip_seen (λ (m : Mentions) image. Moves m.texts texts image) (λ part. part.now) (λ image. image.items) c.args.parts.now c.args.strings.now.images.items c.loop-i.i c.index-parts-i.result c.index.result.now c.requires.strings.moves c.loop-i-test.true c.index-parts-i.is c.index.ensures in
-    let by_texts = subst (λ (m : Mentions). Moves m.texts texts c.index.result.now.items) (sym c.tables.ensures.symbols) m in
+    let by_texts = part_moves (λ (m : Mentions). m.texts) texts c.args.parts.now c.args.strings.now.images.items c.loop-i.i c.index-parts-i.result c.index.result.now _ c.requires.strings.moves c.loop-i-test.true c.index-parts-i.is c.index.ensures c.tables.ensures.symbols in
     let rows = c.in_ok-renumbered_types.field-0.items in
     let is = c.in_ok-renumbered_types.ensures ∙ (λ i. map (moved_type (c.deref-in-loop-i.ensures.value i)) (c.deref.ensures.value i)) in
     let are_encoded = types_at_ranks c.tables.result.now c.tables.ensures.tables texts c.index.result.now.items by_texts rows is in

@@ -6,10 +6,11 @@ use Rattle.dexrows.specs.Join.{AreSorted}
 use Rattle.dexpool.specs.Tables.{text_of}
 use Rattle.dexpool.specs.internal.Renumbering.{moved_proto, numbers_in, HasSpans}
 use Rattle.dexpool.specs.internal.Joining.{Moves, Denote, proto_of_row, proto_key, IsRowOf}
-use Rattle.dexpool.proofs.Pairs.{zip_seen, within_other, zip_more, zip_all, all_pushed}
-use Rattle.dexpool.proofs.Moved.{protos_movable, protos_at_ranks}
+use Rattle.dexpool.proofs.Pairs.{within_other, zip_more, zip_all, all_pushed}
+use Rattle.dexpool.proofs.Moved.{types_count, protos_movable, protos_at_ranks}
 use Rattle.dexpool.proofs.RowOrder.{protos_sorted}
 use Rattle.dexpool.proofs.JoinedLevels.{texts_rise, type_texts_rise}
+use Rattle.dexpool.proofs.JoinedTables.{part_moves}
 use Rattle.dexpool.proofs.joined_tables.renumbered_tables.Goals as goal
 
 pub index-requires : goal.index-requires
@@ -20,18 +21,14 @@ index-requires-in-loop-i c = within_other (λ (m : Mentions) image. Moves m.type
 
 pub renumbered_protos-requires : goal.renumbered_protos-requires
 renumbered_protos-requires c =
-    let seen_strings = zip_seen (λ (m : Mentions) image. Moves m.texts c.args.strings.now.rows.items image) (λ part. part.now) (λ image. image.items) c.args.parts.now c.args.strings.now.images.items c.loop-i.i c.index-parts-i.result c.index.result.now c.requires.strings.moves c.loop-i-test.true c.index-parts-i.is c.index.ensures in
-    let by_strings = subst (λ (m : Mentions). Moves m.texts c.args.strings.now.rows.items c.index.result.now.items) (sym c.tables-part.ensures.symbols) seen_strings in
-    let seen_types = zip_seen (λ (m : Mentions) image. Moves m.types (map (text_of c.args.strings.now.rows.items) c.args.types.now.numbers.items) image) (λ part. part.now) (λ image. image.items) c.args.parts.now c.args.types.now.images.items c.loop-i.i c.index-parts-i.result c.index-in-loop-i.result.now c.requires.types.union.moves c.loop-i-test.true c.index-parts-i.is c.index-in-loop-i.ensures in
-    let by_types = subst (λ (m : Mentions). Moves m.types (map (text_of c.args.strings.now.rows.items) c.args.types.now.numbers.items) c.index-in-loop-i.result.now.items) (sym c.tables-part.ensures.symbols) seen_types in
-    rw (c.in_ok-from_slice.ensures.items, c.deref.ensures.value, c.deref-in-loop-i.ensures.value, c.deref-in-loop-i-2.ensures.value) (protos_movable c.tables-part.result.now c.tables-part.ensures.tables c.args.strings.now.rows.items c.index.result.now.items by_strings c.args.types.now.numbers.items c.index-in-loop-i.result.now.items by_types)
+    let by_strings = part_moves (λ (m : Mentions). m.texts) c.args.strings.now.rows.items c.args.parts.now c.args.strings.now.images.items c.loop-i.i c.index-parts-i.result c.index.result.now _ c.requires.strings.moves c.loop-i-test.true c.index-parts-i.is c.index.ensures c.tables-part.ensures.symbols in
+    let by_types = part_moves (λ (m : Mentions). m.types) (map (text_of c.args.strings.now.rows.items) c.args.types.now.numbers.items) c.args.parts.now c.args.types.now.images.items c.loop-i.i c.index-parts-i.result c.index-in-loop-i.result.now _ c.requires.types.union.moves c.loop-i-test.true c.index-parts-i.is c.index-in-loop-i.ensures c.tables-part.ensures.symbols in
+    rw (c.in_ok-from_slice.ensures.items, c.deref.ensures.value, c.deref-in-loop-i.ensures.value, c.deref-in-loop-i-2.ensures.value) (protos_movable c.tables-part.result.now c.tables-part.ensures.tables c.index.result.now.items by_strings.count c.index-in-loop-i.result.now.items (types_count c.tables-part.result.now c.tables-part.ensures.tables c.args.strings.now.rows.items c.index.result.now.items by_strings c.args.types.now.numbers.items c.index-in-loop-i.result.now.items by_types))
 
 pub loop-i-preserved : goal.loop-i-preserved
 loop-i-preserved c =
-    let seen_strings = zip_seen (λ (m : Mentions) image. Moves m.texts c.args.strings.now.rows.items image) (λ part. part.now) (λ image. image.items) c.args.parts.now c.args.strings.now.images.items c.loop-i.i c.index-parts-i.result c.index.result.now c.requires.strings.moves c.loop-i-test.true c.index-parts-i.is c.index.ensures in
-    let by_strings = subst (λ (m : Mentions). Moves m.texts c.args.strings.now.rows.items c.index.result.now.items) (sym c.tables-part.ensures.symbols) seen_strings in
-    let seen_types = zip_seen (λ (m : Mentions) image. Moves m.types (map (text_of c.args.strings.now.rows.items) c.args.types.now.numbers.items) image) (λ part. part.now) (λ image. image.items) c.args.parts.now c.args.types.now.images.items c.loop-i.i c.index-parts-i.result c.index-in-loop-i.result.now c.requires.types.union.moves c.loop-i-test.true c.index-parts-i.is c.index-in-loop-i.ensures in
-    let by_types = subst (λ (m : Mentions). Moves m.types (map (text_of c.args.strings.now.rows.items) c.args.types.now.numbers.items) c.index-in-loop-i.result.now.items) (sym c.tables-part.ensures.symbols) seen_types in
+    let by_strings = part_moves (λ (m : Mentions). m.texts) c.args.strings.now.rows.items c.args.parts.now c.args.strings.now.images.items c.loop-i.i c.index-parts-i.result c.index.result.now _ c.requires.strings.moves c.loop-i-test.true c.index-parts-i.is c.index.ensures c.tables-part.ensures.symbols in
+    let by_types = part_moves (λ (m : Mentions). m.types) (map (text_of c.args.strings.now.rows.items) c.args.types.now.numbers.items) c.args.parts.now c.args.types.now.images.items c.loop-i.i c.index-parts-i.result c.index-in-loop-i.result.now _ c.requires.types.union.moves c.loop-i-test.true c.index-parts-i.is c.index-in-loop-i.ensures c.tables-part.ensures.symbols in
     let table = c.in_ok-renumbered_protos.field-0 in
     let is = c.in_ok-renumbered_protos.ensures.rows ∙ (λ i. map (moved_proto (c.deref-in-loop-i.ensures.value i) (c.deref-in-loop-i-2.ensures.value i) c.tables-part.result.now.parameters) ((c.in_ok-from_slice.ensures.items ∙ c.deref.ensures.value) i)) in
     let are_encoded = protos_at_ranks c.tables-part.result.now c.tables-part.ensures.tables c.args.strings.now.rows.items c.index.result.now.items by_strings c.args.types.now.numbers.items c.index-in-loop-i.result.now.items by_types (numbers_in table) is in

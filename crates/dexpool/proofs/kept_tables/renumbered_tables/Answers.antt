@@ -1,4 +1,4 @@
-use Rattle.std.proofs.Common.{ℕ, List, length, sym, ◌∙◌, ap, map, subst, slice_index}
+use Rattle.std.proofs.Common.{ℕ, ◌<◌, List, [], length, sym, ◌∙◌, ap, map, subst, slice_index}
 use Rattle.std.specs.List.{All}
 use Rattle.std.proofs.lemmas.List.{length-map}
 use Rattle.dexpool.specs.declared.rows.ProtoEntry.{ProtoEntry}
@@ -6,25 +6,27 @@ use Rattle.dexpool.specs.Numberings.{Maps}
 use Rattle.dexpool.specs.Reading.{HasSpan}
 use Rattle.dexpool.specs.internal.Renumbering.{numbers_of, moved_proto, moved_field, moved_method, IsEntryWithin}
 use Rattle.dexpool.specs.internal.Closing.{number_or_none}
-use Rattle.dexpool.proofs.KeptTables.{types_within, protos_within, fields_within, methods_within, numbers_count}
-use Rattle.dexpool.proofs.Moved.{fields_among, methods_among}
+use Rattle.dexpool.proofs.KeptTables.{left_all, numbers_count}
+use Rattle.dexpool.proofs.Moved.{have_images, IsFieldAmong, IsMethodAmong, types_movable, protos_movable, fields_among, methods_among}
 use Rattle.dexpool.proofs.kept_tables.renumbered_tables.Goals as goal
 
 pub renumbered_protos-requires : goal.renumbered_protos-requires
-renumbered_protos-requires c =
-    subst (λ (ps : List ℕ). All (IsEntryWithin (length c.numbers.result.now) (length c.numbers-2.result.now) ps) c.args.rows.protos.items) (sym c.requires.1.parameters_are)
-    (protos_within c.requires.0 c.requires.1.tables c.args.marks.protos.items _ (numbers_count _ _ _ (c.numbers.ensures ∙ ap (λ (m : Maps). map number_or_none m.texts) (c.remap.view_is ∙ c.in_ok-remap.ensures)) c.requires.1.counted.strings_count) _ (numbers_count _ _ _ (c.numbers-2.ensures ∙ ap (λ (m : Maps). map number_or_none m.types) (c.remap.view_is ∙ c.in_ok-remap.ensures)) (c.requires.1.counted.types_count ∙ length-map c.requires.0.types.items _)) _ c.requires.1.protos_are)
+renumbered_protos-requires c = rw c.requires.1.parameters_are
+    (left_all (IsEntryWithin (length c.numbers.result.now) (length c.numbers-2.result.now) c.requires.0.parameters) c.args.marks.protos.items _ _ c.requires.1.protos_are
+    (protos_movable c.requires.0 c.requires.1.tables _ (numbers_count _ _ _ (c.numbers.ensures ∙ ap (λ (m : Maps). map number_or_none m.texts) (c.remap.view_is ∙ c.in_ok-remap.ensures)) c.requires.1.counted.strings_count) _ (numbers_count _ _ _ (c.numbers-2.ensures ∙ ap (λ (m : Maps). map number_or_none m.types) (c.remap.view_is ∙ c.in_ok-remap.ensures)) (c.requires.1.counted.types_count ∙ length-map c.requires.0.types.items _))))
 
 pub renumbered_numbers-requires : goal.renumbered_numbers-requires
-renumbered_numbers-requires c = types_within c.requires.0 c.requires.1.tables c.args.marks.types.items _ (numbers_count _ _ _ (c.numbers.ensures ∙ ap (λ (m : Maps). map number_or_none m.texts) (c.remap.view_is ∙ c.in_ok-remap.ensures)) c.requires.1.counted.strings_count) _ c.requires.1.types_are
+renumbered_numbers-requires c = left_all (λ n. n < length c.numbers.result.now) c.args.marks.types.items _ _ c.requires.1.types_are (types_movable c.requires.0 c.requires.1.tables _ (numbers_count _ _ _ (c.numbers.ensures ∙ ap (λ (m : Maps). map number_or_none m.texts) (c.remap.view_is ∙ c.in_ok-remap.ensures)) c.requires.1.counted.strings_count))
 
 pub renumbered_rows-requires-clause-within : goal.renumbered_rows-requires-clause-within
 renumbered_rows-requires-clause-within c =
-    fields_among _ _ _ (fields_within c.requires.0 c.requires.1.tables c.args.marks.fields.items _ (numbers_count _ _ _ (c.numbers.ensures ∙ ap (λ (m : Maps). map number_or_none m.texts) (c.remap.view_is ∙ c.in_ok-remap.ensures)) c.requires.1.counted.strings_count) _ (numbers_count _ _ _ (c.numbers-2.ensures ∙ ap (λ (m : Maps). map number_or_none m.types) (c.remap.view_is ∙ c.in_ok-remap.ensures)) (c.requires.1.counted.types_count ∙ length-map c.requires.0.types.items _)) _ c.requires.1.fields_are)
+    left_all (IsFieldAmong (have_images c.numbers.result.now c.numbers-2.result.now [])) c.args.marks.fields.items _ _ c.requires.1.fields_are
+    (fields_among c.requires.0 c.requires.1.tables _ (numbers_count _ _ _ (c.numbers.ensures ∙ ap (λ (m : Maps). map number_or_none m.texts) (c.remap.view_is ∙ c.in_ok-remap.ensures)) c.requires.1.counted.strings_count) _ (numbers_count _ _ _ (c.numbers-2.ensures ∙ ap (λ (m : Maps). map number_or_none m.types) (c.remap.view_is ∙ c.in_ok-remap.ensures)) (c.requires.1.counted.types_count ∙ length-map c.requires.0.types.items _)))
 
 pub renumbered_rows-requires-2-clause-within : goal.renumbered_rows-requires-2-clause-within
 renumbered_rows-requires-2-clause-within c =
-    methods_among _ _ _ _ (methods_within c.requires.0 c.requires.1.tables c.args.marks.methods.items _ (numbers_count _ _ _ (c.numbers.ensures ∙ ap (λ (m : Maps). map number_or_none m.texts) (c.remap.view_is ∙ c.in_ok-remap.ensures)) c.requires.1.counted.strings_count) _ (numbers_count _ _ _ (c.numbers-2.ensures ∙ ap (λ (m : Maps). map number_or_none m.types) (c.remap.view_is ∙ c.in_ok-remap.ensures)) (c.requires.1.counted.types_count ∙ length-map c.requires.0.types.items _)) _ (numbers_count _ _ _ (c.numbers-3.ensures ∙ ap (λ (m : Maps). map number_or_none m.protos) (c.remap.view_is ∙ c.in_ok-remap.ensures)) (c.requires.1.counted.protos_count ∙ length-map c.requires.0.protos.items _)) _ c.requires.1.methods_are)
+    left_all (IsMethodAmong (have_images c.numbers.result.now c.numbers-2.result.now c.numbers-3.result.now)) c.args.marks.methods.items _ _ c.requires.1.methods_are
+    (methods_among c.requires.0 c.requires.1.tables _ (numbers_count _ _ _ (c.numbers.ensures ∙ ap (λ (m : Maps). map number_or_none m.texts) (c.remap.view_is ∙ c.in_ok-remap.ensures)) c.requires.1.counted.strings_count) _ (numbers_count _ _ _ (c.numbers-2.ensures ∙ ap (λ (m : Maps). map number_or_none m.types) (c.remap.view_is ∙ c.in_ok-remap.ensures)) (c.requires.1.counted.types_count ∙ length-map c.requires.0.types.items _)) _ (numbers_count _ _ _ (c.numbers-3.ensures ∙ ap (λ (m : Maps). map number_or_none m.protos) (c.remap.view_is ∙ c.in_ok-remap.ensures)) (c.requires.1.counted.protos_count ∙ length-map c.requires.0.protos.items _)))
 
 pub returns-clause-cut : goal.returns-clause-cut
 returns-clause-cut c = λ t rows.

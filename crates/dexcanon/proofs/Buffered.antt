@@ -1,9 +1,6 @@
 -- What one write does to the buffer, and to the target.
-use Rattle.std.proofs.Common.{◌≡◌, ℕ, ◌≤◌, List, [], ◌++◌, Bool, true, false, Result, Ok, Err, OnOk, OnErr, sym, subst, ◌∙◌, ap, append_assoc, arith}
-use Rattle.std.specs.Prelude.{is_err, vec_capacity}
+use Rattle.dexcanon.proofs.Common.{◌≡◌, ℕ, ◌≤◌, List, [], ◌++◌, Bool, true, false, Result, Ok, Err, OnOk, OnErr, sym, subst, ◌∙◌, ap, append_assoc, arith, is_err, vec_capacity, append-nil, Pushes, HasRoomFor}
 use Rattle.std.specs.Global.{Vec}
-use Rattle.std.proofs.lemmas.List.{append-nil}
-use Rattle.dexhead.specs.Pushing.{Pushes, HasRoomFor}
 use Rattle.dexcanon.specs.declared.output.Out.{Out}
 use Rattle.dexcanon.specs.internal.Output.{Adds, HasRoom, adds_both}
 

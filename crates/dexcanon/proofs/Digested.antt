@@ -1,28 +1,13 @@
 -- Signatures of files, and the digests of classes.
-use Rattle.std.proofs.Common.{◌≡◌, ℕ, List, [], ◌∷◌, ◌++◌, length, take, drop, map, sym, ap, ◌∙◌, subst, arith, inl, inr}
-use Rattle.std.specs.List.{Contains}
-use Rattle.std.proofs.lemmas.List.{take_at, drop_at}
-use Rattle.std.proofs.Math.Seq.{drop-append-add}
-use Rattle.sha1.specs.Sha1.{sha1}
-use Rattle.dexspec.specs.Bytes.{uint}
-use Rattle.dexspec.specs.Header.{adler_32}
-use Rattle.dexspec.specs.Classes.{Definition}
-use Rattle.dexspec.specs.Files.{Collection, definitions, Defines, Denotes, IsCollectionOf}
+use Rattle.dexcanon.proofs.Common.{◌≡◌, ℕ, List, [], ◌∷◌, ◌++◌, length, take, drop, map, sym, ap, ◌∙◌, subst, arith, inl, inr, Contains, take_at, drop_at, drop-append-add, sha1, uint, adler_32, Definition, Collection, definitions, Defines, Denotes, IsCollectionOf, Ordered, magic, unsigned_file, with_sums, canonical, length-uint, Head, with_sums_set, StatesLayout, after_header, field_bytes, head_bytes}
 use Rattle.dexspec.specs.WellFormed.{AreWellFormed}
 use Rattle.dexspec.specs.Merging.{IsConsistent, IsGood, greatest_caps}
 use Rattle.dexspec.specs.Accepted.{IsAccepted}
-use Rattle.dexspec.specs.Placing.{Ordered}
-use Rattle.dexspec.specs.Canonical.{magic, unsigned_file, with_sums, canonical}
 use Rattle.dexspec.proofs.merge.Absorption.{IsGood-within}
-use Rattle.dexspec.proofs.numbers.ByteNumbers.{length-uint}
 use Rattle.dexspec.proofs.merge.Collections.{collection-is, collection-one, collection-consistent, definitions-same}
 use Rattle.dexspec.proofs.lists.Members.{Contains-nil, Contains-first, Contains-cons_cases}
 use Rattle.dexspec.proofs.layout.Sums.{length-sha1}
-use Rattle.dexhead.specs.declared.head.Head.{Head}
-use Rattle.dexhead.specs.Sums.{with_sums_set}
-use Rattle.dexhead.specs.Laid.{StatesLayout, after_header}
-use Rattle.dexhead.specs.Written.{field_bytes, head_bytes}
-use Rattle.dexcanon.specs.Digests.{class_alone, class_digest, IsFileAlone}
+use Rattle.dexcanon.specs.{class_alone, class_digest, IsFileAlone}
 use Rattle.dexcanon.proofs.Reported.{after_signature}
 
 -- ---- signatures

@@ -1,15 +1,13 @@
 -- What an output has done at its end.
-use Rattle.std.proofs.Common.{◌≡◌, ℕ, List, [], ◌++◌, Bool, true, false, Result, Err, OnOk, IfErr, refl, sym, ap, subst, ◌∙◌, arith, append-nil}
-use Rattle.std.specs.Prelude.{◌↔◌, vec_len}
+use Rattle.dexcanon.proofs.Common.{◌≡◌, ℕ, List, [], ◌++◌, Bool, true, false, Result, Err, OnOk, IfErr, refl, sym, ap, subst, ◌∙◌, arith, append-nil, ◌↔◌, vec_len, nil_from_length}
 use Rattle.std.specs.Global.{Vec}
-use Rattle.std.proofs.lemmas.List.{nil_from_length}
 use Rattle.dexcanon.specs.declared.faults.StoreFault.{StoreFault}
 use Rattle.dexcanon.specs.declared.faults.StoreFault.TheVariants.{Io}
 use Rattle.dexcanon.specs.declared.output.Out.{Out}
 use Rattle.dexcanon.specs.declared.targets.Writer.{Writer}
 use Rattle.dexcanon.specs.internal.Output.{Adds, HasRoom, HasWritten, result_of}
-use Rattle.dexcanon.specs.Took.{Took, TookPrefix}
-use Rattle.dexcanon.specs.Written.{HasLeft}
+use Rattle.dexcanon.specs.Took.{Took}
+use Rattle.dexcanon.specs.{TookPrefix, HasLeft}
 
 -- a vector without items
 no_items : (v : Vec ℕ) → vec_len v ≡ 0 → v.items ≡ []

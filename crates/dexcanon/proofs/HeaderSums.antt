@@ -1,16 +1,5 @@
 -- A header with the two sums of its file.
-use Rattle.std.proofs.Common.{◌≡◌, ℕ, ◌+◌, List, ◌++◌, length, drop, ap, ◌∙◌, arith}
-use Rattle.std.proofs.lemmas.List.{length-append, take_at}
-use Rattle.std.specs.Prelude.{take}
-use Rattle.sha1.specs.Sha1.{sha1}
-use Rattle.dexspec.specs.Header.{adler_32}
-use Rattle.dexspec.specs.Placing.{Ordered}
-use Rattle.dexspec.specs.Canonical.{header_bytes, unsigned_file, with_sums}
-use Rattle.dexspec.proofs.layout.Tables.{length-header_bytes}
-use Rattle.dexhead.specs.declared.head.Head.{Head}
-use Rattle.dexhead.specs.Sums.{with_sums_set}
-use Rattle.dexhead.specs.Laid.{StatesLayout, after_header}
-use Rattle.dexhead.specs.Written.{StatesTables, field_bytes, head_bytes}
+use Rattle.dexcanon.proofs.Common.{◌≡◌, ℕ, ◌+◌, List, ◌++◌, length, drop, ap, ◌∙◌, arith, length-append, take_at, take, sha1, adler_32, Ordered, header_bytes, unsigned_file, with_sums, length-header_bytes, Head, with_sums_set, StatesLayout, after_header, StatesTables, field_bytes, head_bytes}
 use Rattle.dexcanon.proofs.Reported.{after_signature, stated_is}
 use Rattle.dexcanon.proofs.WholeFile.{length_after}
 

@@ -1,8 +1,5 @@
 -- The two sums of joined bytes, from those of each part.
-use Rattle.std.proofs.Common.{◌≡◌, ℕ, suc, ◌+◌, ◌*◌, ◌<◌, List, [], ◌∷◌, ◌++◌, length, sym, ap, ◌∙◌, arith}
-use Rattle.std.specs.Prelude.{◌%◌, ◌/◌}
-use Rattle.std.proofs.lemmas.Grind.{fold-append}
-use Rattle.dexspec.specs.Header.{adler_step, adler_sums, adler_number, adler_32}
+use Rattle.dexcanon.proofs.Common.{◌≡◌, ℕ, suc, ◌+◌, ◌*◌, ◌<◌, List, [], ◌∷◌, ◌++◌, length, sym, ap, ◌∙◌, arith, ◌%◌, ◌/◌, fold-append, adler_step, adler_sums, adler_number, adler_32}
 
 -- both sums are reduced
 abbrev AreReduced : ℕ × ℕ → Type 0

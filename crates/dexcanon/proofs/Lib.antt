@@ -1,3 +1,4 @@
+pub mod Common
 pub mod Buffered
 pub mod Digested
 pub mod JoinedSums

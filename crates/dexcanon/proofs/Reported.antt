@@ -1,15 +1,5 @@
 -- A header with its two sums, and what follows it.
-use Rattle.std.proofs.Common.{◌≡◌, ℕ, List, ◌++◌, length, drop, sym, ap, ◌∙◌}
-use Rattle.std.proofs.lemmas.List.{drop_at, drop-drop}
-use Rattle.std.proofs.Math.Seq.{drop-append-add}
-use Rattle.sha1.specs.Sha1.{sha1}
-use Rattle.dexspec.specs.Bytes.{uint}
-use Rattle.dexspec.specs.Header.{adler_32}
-use Rattle.dexspec.specs.Canonical.{magic, with_sums}
-use Rattle.dexspec.proofs.numbers.ByteNumbers.{length-uint}
-use Rattle.dexhead.specs.declared.head.Head.{Head}
-use Rattle.dexhead.specs.Sums.{with_sums_set}
-use Rattle.dexhead.specs.Written.{field_bytes, head_bytes}
+use Rattle.dexcanon.proofs.Common.{◌≡◌, ℕ, List, ◌++◌, length, drop, sym, ap, ◌∙◌, drop_at, drop-drop, drop-append-add, sha1, uint, adler_32, magic, with_sums, length-uint, Head, with_sums_set, field_bytes, head_bytes}
 
 -- the part of a header after its checksum
 pub after_checksum : (h : Head) → drop 12 (head_bytes h) ≡ h.signature ++ field_bytes h

@@ -1,13 +1,5 @@
 -- Items one after the other: what is left of them before and after the next.
-use Rattle.std.proofs.Common.{◌≡◌, ℕ, ◌+◌, ◌<◌, List, [], ◌∷◌, ◌++◌, length, get_or, map, drop, refl, sym, ap, subst, ◌∙◌}
-use Rattle.std.specs.List.{flat_map, concat}
-use Rattle.std.proofs.lemmas.List.{drop_more, length-map}
-use Rattle.dexspec.specs.Mentions.{Mentions}
-use Rattle.dexspec.specs.Placing.{end, section_bytes}
-use Rattle.dexspec.specs.Texts.{string_data}
-use Rattle.dexspec.specs.Canonical.{array_section, string_section}
-use Rattle.dexclass.specs.Numbered.{NumberedClass}
-use Rattle.dexlayout.specs.Laid.{ordered_of}
+use Rattle.dexcanon.proofs.Common.{◌≡◌, ℕ, ◌+◌, ◌<◌, List, [], ◌∷◌, ◌++◌, length, get_or, map, drop, refl, sym, ap, subst, ◌∙◌, flat_map, concat, drop_more, length-map, Mentions, end, section_bytes, string_data, array_section, string_section, NumberedClass, ordered_of}
 use Rattle.dexlayout.proofs.EncodedItems.{bytes_plain}
 
 -- ---- items that need no alignment

@@ -1,22 +1,8 @@
 -- The rows of classes, class by class.
-use Rattle.std.proofs.Common.{◌≡◌, ℕ, ◌+◌, ◌<◌, ◌^◌, List, [], ◌++◌, length, get_or, map, Option, Some, None, refl, sym, ap, ◌∙◌, arith}
-use Rattle.std.specs.Prelude.{All, IfSome, unwrap_or, option_to_list}
+use Rattle.dexcanon.proofs.Common.{◌≡◌, ℕ, ◌+◌, ◌<◌, ◌^◌, List, [], ◌++◌, length, get_or, map, Option, Some, None, refl, sym, ap, ◌∙◌, arith, All, IfSome, unwrap_or, option_to_list, get_or-map, length-map, uint, no_index, Mentions, text_index, type_index, uses_offsets, class_row_bytes, class_offsets, type_list_section, directory_section, class_data_section, array_section, length-zip_with, length-type_list_offsets, length-array_offsets, length-class_data_offsets, length-directory_offsets, length-class_offsets, class_at, get_or-zip_with, RanksAreNumbers, NumberedClass, definition_of, text_at, type_at, IsKnownClass, ordered_of}
 use Rattle.std.specs.Option.{option_map, option_map_or}
-use Rattle.std.proofs.lemmas.List.{get_or-map, length-map}
 use Rattle.std.proofs.lemmas.List.Elements.{All-head, All-tail}
-use Rattle.dexspec.specs.Bytes.{uint}
-use Rattle.dexspec.specs.Classes.{no_index}
-use Rattle.dexspec.specs.Mentions.{Mentions}
-use Rattle.dexspec.specs.Spellings.{text_index, type_index}
-use Rattle.dexspec.specs.Placing.{uses_offsets}
-use Rattle.dexspec.specs.Canonical.{class_row_bytes, class_offsets, type_list_section, directory_section, class_data_section, array_section}
-use Rattle.dexspec.proofs.layout.Placements.{length-zip_with, length-type_list_offsets, length-array_offsets, length-class_data_offsets, length-directory_offsets, length-class_offsets}
-use Rattle.dexspec.proofs.layout.SectionPlaces.{class_at, get_or-zip_with}
-use Rattle.dexpool.specs.Laws.{RanksAreNumbers}
 use Rattle.dexpool.proofs.Parts.{all_prefix}
-use Rattle.dexclass.specs.Numbered.{NumberedClass, definition_of, text_at, type_at}
-use Rattle.dexclass.specs.Uses.{IsKnownClass}
-use Rattle.dexlayout.specs.Laid.{ordered_of}
 use Rattle.dexcanon.specs.internal.ClassRows.{class_row, no_offsets, rows_with}
 
 -- ---- numbers

@@ -1,20 +1,10 @@
 -- Rows of symbols, by their numbers.
-use Rattle.std.proofs.Common.{◌≡◌, ℕ, ◌<◌, List, [], ◌∷◌, ◌++◌, length, map, get_or, sym, ap, ◌∙◌, append-nil}
-use Rattle.std.specs.List.{flat_map}
-use Rattle.std.proofs.lemmas.List.{get_or-map}
-use Rattle.dexspec.specs.Bytes.{ushort, uint}
-use Rattle.dexspec.specs.Texts.{Text}
-use Rattle.dexspec.specs.Mentions.{Mentions}
+use Rattle.dexcanon.proofs.Common.{◌≡◌, ℕ, ◌<◌, List, [], ◌∷◌, ◌++◌, length, map, get_or, sym, ap, ◌∙◌, append-nil, flat_map, get_or-map, ushort, uint, Text, Mentions, text_index, type_index, proto_index, proto_row_bytes, field_row_bytes, method_row_bytes, zip_with, RanksAreNumbers, get_or-zip_with}
 use Rattle.dexspec.specs.Symbols.{Proto, Field, Method}
-use Rattle.dexspec.specs.Spellings.{text_index, type_index, proto_index}
-use Rattle.dexspec.specs.Canonical.{proto_row_bytes, field_row_bytes, method_row_bytes}
-use Rattle.dexspec.specs.Lists.{zip_with}
 use Rattle.dexrows.specs.Numbers.{ProtoNumbers}
 use Rattle.dexrows.specs.declared.fields.FieldRow.{FieldRow}
 use Rattle.dexrows.specs.declared.methods.MethodRow.{MethodRow}
 use Rattle.dexpool.specs.Numberings.{IsAt, DenotesProto, DenotesField, DenotesMethod}
-use Rattle.dexpool.specs.Laws.{RanksAreNumbers}
-use Rattle.dexspec.proofs.layout.SectionPlaces.{get_or-zip_with}
 
 -- a type_id_item
 abbrev pub type_row : Mentions → Text → List ℕ

@@ -1,12 +1,5 @@
 -- What follows the header, part by part.
-use Rattle.std.proofs.Common.{◌≡◌, suc, ◌<◌, ◌≤◌, ◌^◌, List, [], ◌∷◌, length, refl, ap, arith}
-use Rattle.dexspec.specs.Lists.{zip_with}
-use Rattle.dexspec.specs.Mentions.{Mentions}
-use Rattle.dexspec.specs.Placing.{uses_offsets}
-use Rattle.dexspec.specs.Canonical.{proto_row_bytes, type_list_section}
-use Rattle.dexspec.proofs.layout.Placements.{length-type_list_offsets}
-use Rattle.dexclass.specs.Numbered.{NumberedClass}
-use Rattle.dexlayout.specs.Laid.{ordered_of, AreWritable}
+use Rattle.dexcanon.proofs.Common.{◌≡◌, suc, ◌<◌, ◌≤◌, ◌^◌, List, [], ◌∷◌, length, refl, ap, arith, zip_with, Mentions, uses_offsets, proto_row_bytes, type_list_section, length-type_list_offsets, NumberedClass, ordered_of, AreWritable}
 use Rattle.dexlayout.proofs.Ends.{end_in_file}
 
 -- two lists that are zipped, of which the second is no shorter

@@ -1,20 +1,6 @@
 -- How long a whole file is.
-use Rattle.std.proofs.Common.{◌≡◌, ℕ, ◌+◌, List, ◌++◌, length, sym, ap, subst, ◌∙◌, arith}
-use Rattle.std.specs.List.{flat_map}
-use Rattle.std.proofs.lemmas.List.{length-append}
-use Rattle.dexspec.specs.Bytes.{round_up, padding}
-use Rattle.dexspec.specs.Files.{Collection, definitions}
-use Rattle.dexspec.specs.Header.{header_length}
-use Rattle.dexspec.specs.Mentions.{Mentions, mentions}
-use Rattle.dexspec.specs.Placing.{Ordered, section_bytes, end}
-use Rattle.dexspec.specs.Canonical.{table_bytes, data_start, data_sections, directory_section, unsigned_file, with_sums, ordered, canonical}
+use Rattle.dexcanon.proofs.Common.{◌≡◌, ℕ, ◌+◌, List, ◌++◌, length, sym, ap, subst, ◌∙◌, arith, flat_map, length-append, round_up, padding, Collection, definitions, header_length, Mentions, mentions, Ordered, section_bytes, end, table_bytes, data_start, data_sections, directory_section, unsigned_file, with_sums, ordered, canonical, sections_follow, length-table_bytes, map_list, after_header, NumberedClass, Places, AreWritable, IsLaid, ordered_of, file_end}
 use Rattle.dexspec.proofs.layout.Places.{length-padding, length-sections}
-use Rattle.dexspec.proofs.layout.Placements.{sections_follow}
-use Rattle.dexspec.proofs.layout.Tables.{length-table_bytes}
-use Rattle.dexhead.specs.Laid.{map_list, after_header}
-use Rattle.dexclass.specs.Numbered.{NumberedClass}
-use Rattle.dexlayout.specs.Places.{Places}
-use Rattle.dexlayout.specs.Laid.{AreWritable, IsLaid, ordered_of, file_end}
 use Rattle.dexcanon.specs.internal.Ready.{IsReady}
 
 -- the header and what follows it, where the map is m

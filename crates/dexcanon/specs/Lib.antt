@@ -3,3 +3,7 @@ pub mod Sums
 pub mod Took
 pub mod Written
 pub mod internal
+unfoldable pub use Digests.*
+unfoldable pub use Sums.*
+unfoldable pub use Took.*
+unfoldable pub use Written.*

@@ -1,11 +1,5 @@
 -- Elements that are put into another order, one by one.
-use Rattle.std.proofs.Common.{◌≡◌, ◌≢◌, ℕ, ◌+◌, ◌<◌, ◌≤◌, List, [], ◌∷◌, ◌++◌, length, get_or, map, sym, ap, ◌∙◌, refl, subst, arith, ◌⊎◌, inl, inr}
-use Rattle.std.specs.Prelude.{All, slice_set}
-use Rattle.std.specs.List.{range_with_len, SwappedAt}
-use Rattle.std.proofs.lemmas.List.{length-set, length-map, get_or-map, map-id, get_or-set_same, get_or-set_other, ext_get_or}
-use Rattle.std.proofs.lemmas.List.FromFn.{get_or-range_with_len, length-range_with_len, map-range_with_len_more}
-use Rattle.std.proofs.lemmas.Bool.{cases_eq}
-use Rattle.dexspec.specs.Lists.{AreDistinct}
+use Rattle.dexclass.proofs.Common.{◌≡◌, ◌≢◌, ℕ, ◌+◌, ◌<◌, ◌≤◌, List, [], ◌∷◌, ◌++◌, length, get_or, map, sym, ap, ◌∙◌, refl, subst, arith, ◌⊎◌, inl, inr, All, slice_set, range_with_len, SwappedAt, length-set, length-map, get_or-map, map-id, get_or-set_same, get_or-set_other, ext_get_or, get_or-range_with_len, length-range_with_len, map-range_with_len_more, cases_eq, AreDistinct}
 
 -- the element that was at place i is now at the place that is kept for it, which is not before place k
 pub record IsMoved {X : Type 0} (old now : List X) (places owners : List ℕ) (k i : ℕ) : Type 0 where

@@ -1,9 +1,5 @@
 -- A class is known by the first unit of its descriptor.
-use Rattle.std.proofs.Common.{◌≡◌, ◌≢◌, ◌≤◌, ℕ, zero, suc, List, [], ◌∷◌, ◌++◌, sym, ◌∙◌, arith}
-use Rattle.std.specs.Prelude.{◌↔◌, replicate}
-use Rattle.std.specs.List.{Contains}
-use Rattle.dexspec.specs.Texts.{Text}
-use Rattle.dexspec.specs.Names.{TypeKind, VoidType, PrimitiveType, ClassType, ArrayType, HasKind, IsClass, IsDescriptor, primitive_letters}
+use Rattle.dexclass.proofs.Common.{◌≡◌, ◌≢◌, ◌≤◌, ℕ, zero, suc, List, [], ◌∷◌, ◌++◌, sym, ◌∙◌, arith, ◌↔◌, replicate, Contains, Text, TypeKind, VoidType, PrimitiveType, ClassType, ArrayType, HasKind, IsClass, IsDescriptor, primitive_letters}
 
 first_is : (x y : ℕ) (xs ys : List ℕ) → x ∷ xs ≡ y ∷ ys → x ≡ y
 first_is x y xs ys e = cc

@@ -1,11 +1,6 @@
 -- The symbols that occur in a class, and those of its definition.
-use Rattle.std.specs.List.{AllZip}
-use Rattle.dexspec.specs.Mentions.{Mentions, symbols_of}
-use Rattle.dexpool.specs.Uses.{IsUseOf}
-use Rattle.dexmembers.specs.Numbered.{members_in}
-use Rattle.dexmembers.specs.Uses.{members_uses, members_symbols}
-use Rattle.dexclass.specs.Numbered.{NumberedClass, type_at, definition_of}
-use Rattle.dexclass.specs.Uses.{class_uses, IsKnownClass}
+use Rattle.dexclass.proofs.Common.{AllZip, Mentions, symbols_of, IsUseOf, members_in, members_uses, members_symbols}
+use Rattle.dexclass.specs.{NumberedClass, type_at, definition_of, class_uses, IsKnownClass}
 use Rattle.dexclass.proofs.OwnUses.{own_zip}
 
 -- they go together, where those of what it declares do

@@ -1,27 +1,8 @@
 -- Classes with their parents number the definitions that they denote.
-use Rattle.std.proofs.Common.{◌≡◌, ℕ, ◌<◌, true, List, [], ◌∷◌, ◌++◌, length, get_or, map, refl, sym, ap, ◌∙◌, subst, arith, inl, inr, Option, Some, None}
-use Rattle.std.specs.Prelude.{All, IsSome, option_to_list}
-use Rattle.std.specs.Option.{option_map}
-use Rattle.std.specs.List.{Contains, flat_map, filter}
-use Rattle.std.proofs.lemmas.Bool.{cases_order}
-use Rattle.std.proofs.lemmas.List.{length-map, get_or-map, get_or_default}
-use Rattle.std.proofs.lemmas.List.Elements.{All-contains, Contains-get_or}
+use Rattle.dexclass.proofs.Common.{◌≡◌, ℕ, ◌<◌, true, List, [], ◌∷◌, ◌++◌, length, get_or, map, refl, sym, ap, ◌∙◌, subst, arith, inl, inr, Option, Some, None, All, IsSome, option_to_list, option_map, Contains, flat_map, filter, cases_order, length-map, get_or-map, get_or_default, All-contains, Contains-get_or, present, Text, text_cmp, same_text, Definition, parents, is_defined, above, Mentions, Contains-nil, Contains-first, Contains-later, Contains-cons_cases, Contains-flat_map, Contains-flat_map_source, Contains-filter, Contains-filter_source, list_any-member, list_any-source, Contains-map, Contains-map_source, Rises-from_rises, Rises-places, irreflexive, text_total, parents_of, AreWithin, name_at, AreClassesOf}
 use Rattle.std.proofs.lemmas.Slice.Eq.{slice_eq-Decides}
 use Rattle.std.proofs.lemmas.Bool.Decides.{Decides-eqb}
-use Rattle.dexspec.specs.Lists.{present}
-use Rattle.dexspec.specs.Texts.{Text, text_cmp, same_text}
-use Rattle.dexspec.specs.Classes.{Definition}
-use Rattle.dexspec.specs.Depth.{parents, is_defined, above}
-use Rattle.dexspec.specs.Mentions.{Mentions}
-use Rattle.dexspec.proofs.lists.Members.{Contains-nil, Contains-first, Contains-later, Contains-cons_cases, Contains-flat_map, Contains-flat_map_source, Contains-filter, Contains-filter_source, list_any-member, list_any-source}
-use Rattle.dexspec.proofs.merge.Depths.{Contains-map}
-use Rattle.dexspec.proofs.lists.Mapped.{Contains-map_source}
-use Rattle.dexspec.proofs.lists.InOrder.{Rises-from_rises, Rises-places, irreflexive}
-use Rattle.dexspec.proofs.merge.SymbolOrders.{text_total}
-use Rattle.dexorder.specs.Depths.{parents_of, AreWithin}
-use Rattle.dexorder.specs.Definitions.{name_at, AreClassesOf}
-use Rattle.dexclass.specs.Numbered.{NumberedClass, type_at, definition_of}
-use Rattle.dexclass.specs.Parents.{parent_numbers, no_class, name_number, ArePlaces, AreNamed}
+use Rattle.dexclass.specs.{NumberedClass, type_at, definition_of, parent_numbers, no_class, name_number, ArePlaces, AreNamed}
 use Rattle.dexclass.proofs.Places.{places_some, places_all, defined_parents}
 
 same_is : (s t : Text) → same_text s t ≡ true → s ≡ t

@@ -1,21 +1,7 @@
 -- No definitions are a program of no class.
-use Rattle.std.proofs.Common.{◌≡◌, List, [], map, refl, sym, ap, ◌∙◌, subst, arith}
-use Rattle.std.specs.Prelude.{All}
+use Rattle.dexclass.proofs.Common.{◌≡◌, List, [], map, refl, sym, ap, ◌∙◌, subst, arith, All, nil_from_length, text_cmp, Body, definitions, AreWellFormed, Mentions, mentions, in_class_order, weight, Fits, IsGood, greatest_caps, Contains-nil, weight-within}
 use Rattle.std.specs.FinMap as finite
-use Rattle.std.proofs.lemmas.List.{nil_from_length}
-use Rattle.dexspec.specs.Texts.{text_cmp}
-use Rattle.dexspec.specs.Classes.{Body}
-use Rattle.dexspec.specs.Files.{definitions}
-use Rattle.dexspec.specs.WellFormed.{AreWellFormed}
-use Rattle.dexspec.specs.Mentions.{Mentions, mentions}
-use Rattle.dexspec.specs.Depth.{in_class_order}
-use Rattle.dexspec.specs.Weight.{weight}
-use Rattle.dexspec.specs.Merging.{Fits, IsGood, greatest_caps}
-use Rattle.dexspec.proofs.lists.Members.{Contains-nil}
-use Rattle.dexspec.proofs.merge.WeightGrowth.{weight-within}
-use Rattle.dexclass.specs.Numbered.{NumberedClass, definition_of}
-use Rattle.dexclass.specs.Uses.{IsKnownClass}
-use Rattle.dexclass.specs.Programs.{collection_of, IsProgram}
+use Rattle.dexclass.specs.{NumberedClass, definition_of, IsKnownClass, collection_of, IsProgram}
 
 -- no symbol
 abbrev no_mentions : Mentions

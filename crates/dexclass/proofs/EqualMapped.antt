@@ -1,7 +1,5 @@
 -- Two lists that two functions map to the same list.
-use Rattle.std.proofs.Common.{◌≡◌, ℕ, suc, ◌<◌, List, [], ◌∷◌, length, get_or, refl, sym, ap, ◌∙◌, arith}
-use Rattle.std.specs.Prelude.{map}
-use Rattle.std.proofs.lemmas.List.{length-map, get_or-map}
+use Rattle.dexclass.proofs.Common.{◌≡◌, ℕ, suc, ◌<◌, List, [], ◌∷◌, length, get_or, refl, sym, ap, ◌∙◌, arith, map, length-map, get_or-map}
 
 module _ (f g : ℕ → ℕ) where
   -- member by member

@@ -1,14 +1,5 @@
 -- Indices of classes and texts, and what tests and marks say of them.
-use Rattle.std.proofs.Common.{◌≡◌, ◌≢◌, ℕ, zero, suc, ◌<◌, Bool, false, List, [], ◌∷◌, length, get_or, refl, sym, subst, arith}
-use Rattle.std.specs.Prelude.{◌↔◌, IsTrue, All, nat_lt, Some, None}
-use Rattle.std.proofs.lemmas.Bool.{ltb-true, lt-ltb, ne_eqb}
-use Rattle.dexspec.specs.Names.{IsClass}
-use Rattle.dexspec.specs.Header.{TypeIds, table_size}
-use Rattle.dexspec.specs.Classes.{no_index}
-use Rattle.dexspec.specs.Mentions.{Mentions}
-use Rattle.dexspec.specs.Accepted.{IsDefinedBefore}
-use Rattle.dexspec.proofs.determined.OneRow.{one_type}
-use Rattle.dexpool.specs.Pools.{ArePools}
+use Rattle.dexclass.proofs.Common.{◌≡◌, ◌≢◌, ℕ, zero, suc, ◌<◌, Bool, false, List, [], ◌∷◌, length, get_or, refl, sym, subst, arith, ◌↔◌, IsTrue, All, nat_lt, Some, None, ltb-true, lt-ltb, ne_eqb, IsClass, TypeIds, table_size, no_index, Mentions, IsDefinedBefore, one_type, ArePools}
 use Rattle.dexclass.specs.internal.Rows.{AreClassTests, IsClassIndex, IsParentIndex, IsSourceIndex, IsInterfaceIndex, superclass_indices}
 
 -- a test in range says whether the index is that of a class

@@ -1,19 +1,6 @@
 -- Lists of interfaces.
-use Rattle.std.proofs.Common.{◌≡◌, ◌≢◌, ℕ, zero, suc, ◌+◌, ◌*◌, ◌<◌, ◌≤◌, List, [], ◌∷◌, length, drop, get_or, refl, sym, ap, ◌∙◌, subst, arith, inl, inr}
-use Rattle.std.specs.Prelude.{All}
-use Rattle.std.specs.List.{AllZip}
-use Rattle.std.proofs.lemmas.Bool.{cases_lt, ne_eqb}
-use Rattle.dexspec.specs.Bytes.{uint_at, ushort_at, ushorts_at}
-use Rattle.dexspec.specs.Texts.{Text}
-use Rattle.dexspec.specs.Names.{IsClass}
-use Rattle.dexspec.specs.Rows.{TypeRow, type_indices}
-use Rattle.dexspec.specs.Lists.{OrNone}
-use Rattle.dexspec.specs.Classes.{ClassListAt, interfaces_off}
-use Rattle.dexspec.specs.Accepted.{IsDefinedBefore}
+use Rattle.dexclass.proofs.Common.{◌≡◌, ◌≢◌, ℕ, zero, suc, ◌+◌, ◌*◌, ◌<◌, ◌≤◌, List, [], ◌∷◌, length, drop, get_or, refl, sym, ap, ◌∙◌, subst, arith, inl, inr, All, AllZip, cases_lt, ne_eqb, uint_at, ushort_at, ushorts_at, Text, IsClass, TypeRow, type_indices, OrNone, ClassListAt, interfaces_off, IsDefinedBefore, ushort_at_rest, IsClassDef, ClassDef}
 use Rattle.dexpool.specs.Reading.{HasRoom}
-use Rattle.dexpool.proofs.Bytes.{ushort_at_rest}
-use Rattle.dexmembers.specs.ClassDefs.{IsClassDef}
-use Rattle.dexmembers.specs.declared.class_def.ClassDef.{ClassDef}
 use Rattle.dexclass.specs.internal.Rows.{IsClassIndex, IsInterfaceIndex, interface_indices, HasInterfaceList, HasInterfaces}
 
 -- ---- indices one by one

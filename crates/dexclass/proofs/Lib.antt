@@ -1,3 +1,4 @@
+pub mod Common
 pub mod Indices
 pub mod ClassStarts
 pub mod Interfaces

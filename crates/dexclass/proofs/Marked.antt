@@ -1,15 +1,7 @@
 -- Marks on one list of symbols after the other.
-use Rattle.std.proofs.Common.{◌≡◌, ℕ, ◌+◌, ◌<◌, ◌==◌, Bool, ◌||◌, ◌&&◌, List, [], ◌∷◌, ◌++◌, length, take, get_or, ap, sym, ◌∙◌, subst}
-use Rattle.std.specs.List.{All, flat_map}
-use Rattle.std.proofs.lemmas.List.{take_more, append-nil}
+use Rattle.dexclass.proofs.Common.{◌≡◌, ℕ, ◌+◌, ◌<◌, ◌==◌, Bool, ◌||◌, ◌&&◌, List, [], ◌∷◌, ◌++◌, length, take, get_or, ap, sym, ◌∙◌, subst, All, flat_map, take_more, append-nil, flat_map-append, Marks, SymbolKind, Use, HasMark, same_kind, occurs, AreMarkedToo, all_back, still_all}
 use Rattle.std.proofs.lemmas.List.Folds.{list_any-append}
-use Rattle.std.proofs.lemmas.Grind.{flat_map-append}
-use Rattle.dexpool.specs.declared.marks.Marks.{Marks}
-use Rattle.dexpool.specs.declared.symbols.SymbolKind.{SymbolKind}
-use Rattle.dexpool.specs.Uses.{Use, HasMark, same_kind, occurs, AreMarkedToo}
-use Rattle.dexpool.proofs.Parts.{all_back}
-use Rattle.dexpool.proofs.Visits.{still_all}
-use Rattle.dexclass.specs.Uses.{HaveMarked}
+use Rattle.dexclass.specs.{HaveMarked}
 
 -- ---- one list after the other
 

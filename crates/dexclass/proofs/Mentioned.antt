@@ -1,23 +1,9 @@
 -- The symbols that are marked are those that occur, and so are those that they mention.
-use Rattle.std.proofs.Common.{◌≡◌, ℕ, ◌==◌, ◌&&◌, Bool, true, false, List, [], ◌∷◌, ◌++◌, map, get_or, refl, sym, ap, ◌∙◌, subst, inl, inr, eq-eqb}
-use Rattle.std.specs.List.{All, AllZip, Contains, flat_map}
-use Rattle.std.proofs.lemmas.Bool.{eqb-true}
-use Rattle.std.proofs.lemmas.List.Elements.{Contains-append_left, Contains-append_right, Contains-append_cases}
+use Rattle.dexclass.proofs.Common.{◌≡◌, ℕ, ◌==◌, ◌&&◌, Bool, true, false, List, [], ◌∷◌, ◌++◌, map, get_or, refl, sym, ap, ◌∙◌, subst, inl, inr, eq-eqb, All, AllZip, Contains, flat_map, eqb-true, Contains-append_left, Contains-append_right, Contains-append_cases, Text, text_cmp, Proto, Field, Method, Symbol, TextSymbol, TypeSymbol, ProtoSymbol, FieldSymbol, MethodSymbol, proto_cmp, field_cmp, method_cmp, Mentions, closed, texts_in, types_in, protos_in, fields_in, methods_in, AreAmong, Contains-nil, Contains-first, Contains-later, Contains-cons_cases, AreAmong-flat_map, and_first, and_second, list_any-member, list_any-source, in_order-same, text_total, text_exact, proto_total, proto_exact, field_total, field_exact, method_total, method_exact, SymbolKind, Marks, IsNumbered, IsOfKind, marked, Use, IsUseOf, IsMarkedUse, marks_of, same_kind, kept_from, kept_has}
 use Rattle.dexpool.specs.Cut.{kept}
-use Rattle.dexspec.specs.Texts.{Text, text_cmp}
-use Rattle.dexspec.specs.Symbols.{Proto, Field, Method, Symbol, TextSymbol, TypeSymbol, ProtoSymbol, FieldSymbol, MethodSymbol, proto_cmp, field_cmp, method_cmp}
-use Rattle.dexspec.specs.Mentions.{Mentions, closed, texts_in, types_in, protos_in, fields_in, methods_in}
-use Rattle.dexspec.proofs.lists.Members.{AreAmong, Contains-nil, Contains-first, Contains-later, Contains-cons_cases, AreAmong-flat_map, and_first, and_second, list_any-member, list_any-source}
-use Rattle.dexspec.proofs.lists.InOrder.{in_order-same}
-use Rattle.dexspec.proofs.merge.SymbolOrders.{text_total, text_exact, proto_total, proto_exact, field_total, field_exact, method_total, method_exact}
-use Rattle.dexpool.specs.declared.symbols.SymbolKind.{SymbolKind}
 use Rattle.dexpool.specs.declared.symbols.SymbolKind.TheVariants as kinds
-use Rattle.dexpool.specs.declared.marks.Marks.{Marks}
-use Rattle.dexpool.specs.Numberings.{IsNumbered, IsOfKind, marked}
-use Rattle.dexpool.specs.Uses.{Use, IsUseOf, IsMarkedUse, marks_of, same_kind}
-use Rattle.dexpool.proofs.KeptRows.{kept_from, kept_has}
 use Rattle.dexpool.proofs.Pairs.{zip_source, zip_target}
-use Rattle.dexclass.specs.Uses.{HaveMarked}
+use Rattle.dexclass.specs.{HaveMarked}
 
 -- ---- members of mapped lists
 

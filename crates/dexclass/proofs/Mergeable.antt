@@ -1,16 +1,6 @@
 -- Trimmed classes that can be merged.
-use Rattle.std.proofs.Common.{◌≡◌, ℕ, ◌<◌, List, length, get_or, map, sym, ap, ◌∙◌, subst, arith}
-use Rattle.std.specs.Prelude.{All}
-use Rattle.std.proofs.lemmas.List.{length-map, get_or-map}
-use Rattle.dexspec.specs.Lists.{AreDistinct}
-use Rattle.dexspec.specs.Classes.{Definition}
-use Rattle.dexspec.specs.Mentions.{Mentions, mentions}
-use Rattle.dexspec.specs.WellFormed.{AreWellFormed}
-use Rattle.dexspec.specs.Merging.{IsGood, greatest_caps}
-use Rattle.dexclass.specs.Numbered.{NumberedClass, type_at, definition_of}
-use Rattle.dexclass.specs.Uses.{IsKnownClass}
-use Rattle.dexclass.specs.Parents.{no_class}
-use Rattle.dexclass.specs.Programs.{AreMergeable}
+use Rattle.dexclass.proofs.Common.{◌≡◌, ℕ, ◌<◌, List, length, get_or, map, sym, ap, ◌∙◌, subst, arith, All, length-map, get_or-map, AreDistinct, Definition, Mentions, mentions, AreWellFormed, IsGood, greatest_caps}
+use Rattle.dexclass.specs.{NumberedClass, type_at, definition_of, IsKnownClass, no_class, AreMergeable}
 
 -- ---- names
 

@@ -1,16 +1,7 @@
 -- The numbers of names order as the names.
-use Rattle.std.proofs.Common.{◌≡◌, ℕ, ◌<◌, List, [], length, get_or, map, sym, ap, ◌∙◌, arith, inl, inr}
-use Rattle.std.specs.Prelude.{◌↔◌}
-use Rattle.std.proofs.lemmas.Bool.{cases_order}
-use Rattle.std.proofs.lemmas.List.{length-map, get_or-map}
-use Rattle.dexspec.specs.Texts.{text_cmp}
-use Rattle.dexspec.specs.Mentions.{Mentions}
-use Rattle.dexspec.proofs.lists.InOrder.{Rises-from_rises, Rises-places, irreflexive, asymmetric}
-use Rattle.dexspec.proofs.merge.SymbolOrders.{text_total}
+use Rattle.dexclass.proofs.Common.{◌≡◌, ℕ, ◌<◌, List, [], length, get_or, map, sym, ap, ◌∙◌, arith, inl, inr, ◌↔◌, cases_order, length-map, get_or-map, text_cmp, Mentions, Rises-from_rises, Rises-places, irreflexive, asymmetric, text_total, AreNamesOf}
 use Rattle.std.specs.declared.cmp.Ordering.TheVariants.{Less}
-use Rattle.dexorder.specs.Definitions.{AreNamesOf}
-use Rattle.dexclass.specs.Numbered.{NumberedClass, type_at, definition_of}
-use Rattle.dexclass.specs.Parents.{no_class, name_number, AreNamed}
+use Rattle.dexclass.specs.{NumberedClass, type_at, definition_of, no_class, name_number, AreNamed}
 use Rattle.dexclass.proofs.Classed.{name_is}
 
 module _ (m : Mentions) (cs : List NumberedClass) (named : AreNamed m cs) where

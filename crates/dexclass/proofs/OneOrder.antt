@@ -1,19 +1,7 @@
 -- The order of class definitions rests on their members alone.
-use Rattle.std.proofs.Common.{◌≡◌, true, List, [], ◌∷◌, map, Ordering, ℕ, refl, sym, subst}
-use Rattle.std.specs.List.{Contains}
+use Rattle.dexclass.proofs.Common.{◌≡◌, true, List, [], ◌∷◌, map, Ordering, ℕ, refl, sym, subst, Contains, AreDistinct, Text, same_text, Definition, AreSame, place_cmp, is_defined, IsAcyclic, in_class_order, Contains-first, Contains-later, list_any-member, Rises, Rises-same, Contains-map, depth-same, text_total, class_place, in_class_order-only, in_class_order-has, class_places-rise, same_from_equal}
 use Rattle.std.specs.Cmp.{IsTotalOrder}
 use Rattle.std.proofs.lemmas.Cmp.{nat_cmp_total, on_total, then_total}
-use Rattle.dexspec.specs.Lists.{AreDistinct}
-use Rattle.dexspec.specs.Texts.{Text, same_text}
-use Rattle.dexspec.specs.Classes.{Definition}
-use Rattle.dexspec.specs.Files.{AreSame}
-use Rattle.dexspec.specs.Depth.{place_cmp, is_defined, IsAcyclic, in_class_order}
-use Rattle.dexspec.proofs.lists.Members.{Contains-first, Contains-later, list_any-member}
-use Rattle.dexspec.proofs.lists.InOrder.{Rises, Rises-same}
-use Rattle.dexspec.proofs.merge.Depths.{Contains-map, depth-same}
-use Rattle.dexspec.proofs.merge.SymbolOrders.{text_total}
-use Rattle.dexspec.proofs.normal.ClassPlaces.{class_place, in_class_order-only, in_class_order-has, class_places-rise}
-use Rattle.dexorder.proofs.DefinitionDepths.{same_from_equal}
 
 place_total : IsTotalOrder place_cmp
 place_total = then_total (on_total (λ (x : ℕ × Text). x.0) nat_cmp_total) (on_total (λ (x : ℕ × Text). x.1) text_total)

@@ -1,28 +1,11 @@
 -- Classes in the order of their definitions.
-use Rattle.std.proofs.Common.{◌≡◌, ℕ, suc, ◌+◌, ◌<◌, true, List, [], ◌∷◌, length, get_or, map, refl, sym, ap, ◌∙◌, subst, arith, Option, Some, None}
-use Rattle.std.specs.Prelude.{All}
-use Rattle.std.specs.List.{Contains, range_with_len}
+use Rattle.dexclass.proofs.Common.{◌≡◌, ℕ, suc, ◌+◌, ◌<◌, true, List, [], ◌∷◌, length, get_or, map, refl, sym, ap, ◌∙◌, subst, arith, Option, Some, None, All, Contains, range_with_len, length-map, get_or-map, get_or_default, get_or-range_with_len, length-range_with_len, All-contains, Contains-get_or, rises, AreDistinct, Text, Definition, IsAcyclic, depth, in_class_order, Mentions, Rises-from_rises, AreDistinct-from_Rises, Contains-map, Contains-map_source, AreDistinct-map_source, AreWithin, AreDepths, AreClassesOf, AreDepthsOf, AreNamesOf, all_known}
 use Rattle.std.specs.List.Sorted.{IsPermutation}
-use Rattle.std.proofs.lemmas.List.{length-map, get_or-map, get_or_default}
-use Rattle.std.proofs.lemmas.List.FromFn.{get_or-range_with_len, length-range_with_len}
 use Rattle.std.proofs.lemmas.List.Sorted.{Contains-permutation, IsPermutation-sym, length_permutation}
-use Rattle.std.proofs.lemmas.List.Elements.{All-contains, Contains-get_or}
-use Rattle.dexspec.specs.Lists.{rises, AreDistinct}
-use Rattle.dexspec.specs.Texts.{Text}
-use Rattle.dexspec.specs.Classes.{Definition}
-use Rattle.dexspec.specs.Depth.{IsAcyclic, depth, in_class_order}
-use Rattle.dexspec.specs.Mentions.{Mentions}
-use Rattle.dexspec.proofs.lists.InOrder.{Rises-from_rises, AreDistinct-from_Rises}
-use Rattle.dexspec.proofs.merge.Depths.{Contains-map}
-use Rattle.dexspec.proofs.lists.Mapped.{Contains-map_source, AreDistinct-map_source}
-use Rattle.dexorder.specs.Depths.{AreWithin, AreDepths}
-use Rattle.dexorder.specs.Definitions.{AreClassesOf, AreDepthsOf, AreNamesOf}
 use Rattle.dexorder.specs.Places.{class_place, class_cmp}
 use Rattle.dexorder.proofs.PlaceLaws.{class_total}
-use Rattle.dexorder.proofs.DefinitionDepths.{all_known}
 use Rattle.dexorder.proofs.DefinitionOrder.{own_depths, same_order}
-use Rattle.dexclass.specs.Numbered.{NumberedClass, type_at, definition_of}
-use Rattle.dexclass.specs.Parents.{no_class, name_number, IsHierarchy, AreNamed, AreDepthsByName}
+use Rattle.dexclass.specs.{NumberedClass, type_at, definition_of, no_class, name_number, IsHierarchy, AreNamed, AreDepthsByName}
 use Rattle.dexclass.proofs.Classed.{name_is, one_number, classes_of}
 use Rattle.dexclass.proofs.NamesOf.{names_of}
 use Rattle.dexclass.proofs.Places.{parents_are}

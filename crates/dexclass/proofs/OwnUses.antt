@@ -1,17 +1,6 @@
 -- The symbols of a class's own types and text, and of what follows them.
-use Rattle.std.proofs.Common.{◌≡◌, ℕ, ◌<◌, List, [], ◌∷◌, ◌++◌, length, map, Option, Some, None, option_to_list, refl, arith}
-use Rattle.std.specs.List.{All, AllZip, flat_map}
-use Rattle.std.specs.Option.{option_map}
-use Rattle.std.proofs.lemmas.List.{get_or_default}
-use Rattle.std.proofs.lemmas.List.Elements.{All-nil, All-cons, All-head, All-tail, All-append}
-use Rattle.dexspec.specs.Symbols.{Symbol, TypeSymbol}
-use Rattle.dexspec.specs.Mentions.{Mentions, optional_text, optional_type}
-use Rattle.dexpool.specs.declared.marks.Marks.{Marks}
-use Rattle.dexpool.specs.Numberings.{IsAt, AreMarksOf}
-use Rattle.dexpool.specs.Uses.{Use, HasMark, IsUseOf}
-use Rattle.dexpool.proofs.Parts.{all_map}
-use Rattle.dexclass.specs.Numbered.{type_at, text_at}
-use Rattle.dexclass.specs.Uses.{type_use, text_use}
+use Rattle.dexclass.proofs.Common.{◌≡◌, ℕ, ◌<◌, List, [], ◌∷◌, ◌++◌, length, map, Option, Some, None, option_to_list, refl, arith, All, AllZip, flat_map, option_map, get_or_default, All-nil, All-cons, All-head, All-tail, All-append, Symbol, TypeSymbol, Mentions, optional_text, optional_type, Marks, IsAt, AreMarksOf, Use, HasMark, IsUseOf, all_map}
+use Rattle.dexclass.specs.{type_at, text_at, type_use, text_use}
 
 -- ---- parts
 

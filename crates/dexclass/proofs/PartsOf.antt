@@ -1,27 +1,7 @@
 -- Some of the classes that can be merged, and the classes of a program, can be merged.
-use Rattle.std.proofs.Common.{◌≡◌, ◌≢◌, ℕ, ◌+◌, ◌<◌, List, [], ◌∷◌, ◌++◌, length, get_or, map, take, drop, sym, ap, ◌∙◌, subst, arith, inl, inr, append-nil}
-use Rattle.std.specs.Prelude.{All}
-use Rattle.std.specs.List.{Contains, flat_map}
-use Rattle.std.proofs.lemmas.Bool.{cases_order}
-use Rattle.std.proofs.lemmas.List.{length-map, get_or-map, get_or-take, get_or-drop, length-take, length-drop, take-map, drop-map, take-append-drop, map-append, append_assoc}
-use Rattle.std.proofs.lemmas.Grind.{flat_map-append}
-use Rattle.std.proofs.lemmas.List.Elements.{All-take, All-drop, Contains-append_left, Contains-append_right}
-use Rattle.dexspec.specs.Lists.{AreDistinct}
-use Rattle.dexspec.specs.Classes.{Definition}
-use Rattle.dexspec.specs.Files.{Collection, definitions}
-use Rattle.dexspec.specs.Mentions.{Mentions, mentions}
-use Rattle.dexspec.specs.Depth.{in_class_order}
-use Rattle.dexspec.specs.WellFormed.{AreWellFormed}
-use Rattle.dexspec.specs.Merging.{IsGood, greatest_caps}
-use Rattle.dexspec.proofs.merge.Absorption.{IsGood-within}
-use Rattle.dexspec.proofs.merge.Growth.{mentions-same}
-use Rattle.dexspec.proofs.normal.ClassOrder.{definitions-distinct}
-use Rattle.dexspec.proofs.normal.ClassPlaces.{in_class_order-only, in_class_order-has, class_names-apart}
-use Rattle.dexpool.specs.Numberings.{IsNumbering}
-use Rattle.dexclass.specs.Numbered.{NumberedClass, definition_of}
-use Rattle.dexclass.specs.Uses.{IsKnownClass}
+use Rattle.dexclass.proofs.Common.{◌≡◌, ◌≢◌, ℕ, ◌+◌, ◌<◌, List, [], ◌∷◌, ◌++◌, length, get_or, map, take, drop, sym, ap, ◌∙◌, subst, arith, inl, inr, append-nil, All, Contains, flat_map, cases_order, length-map, get_or-map, get_or-take, get_or-drop, length-take, length-drop, take-map, drop-map, take-append-drop, map-append, append_assoc, flat_map-append, All-take, All-drop, Contains-append_left, Contains-append_right, AreDistinct, Definition, Collection, definitions, Mentions, mentions, in_class_order, AreWellFormed, IsGood, greatest_caps, IsGood-within, mentions-same, definitions-distinct, in_class_order-only, in_class_order-has, class_names-apart, IsNumbering}
+use Rattle.dexclass.specs.{NumberedClass, definition_of, IsKnownClass, AreClassesOf, AreMergeable}
 use Rattle.dexclass.specs.internal.Parts.{AreGoodClasses}
-use Rattle.dexclass.specs.Programs.{AreClassesOf, AreMergeable}
 use Rattle.dexclass.proofs.Mergeable.{AreTrimmed, trimmed_mergeable}
 use Rattle.dexclass.proofs.Ordered.{names_apart}
 use Rattle.dexclass.proofs.ProgramsOf.{named}

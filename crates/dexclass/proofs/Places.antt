@@ -1,11 +1,8 @@
 -- Which class has a type as its name, and which classes are parents.
-use Rattle.std.proofs.Common.{◌≡◌, ℕ, ◌<◌, List, length, get_or, map, sym, ◌∙◌, subst, arith, Option, Some, None}
-use Rattle.std.specs.Prelude.{IsSome}
-use Rattle.std.proofs.lemmas.List.{length-map, get_or-map}
+use Rattle.dexclass.proofs.Common.{◌≡◌, ℕ, ◌<◌, List, length, get_or, map, sym, ◌∙◌, subst, arith, Option, Some, None, IsSome, length-map, get_or-map}
 use Rattle.dexorder.specs.Parents.{classes_of_types}
 use Rattle.dexorder.proofs.ByType.{map-after}
-use Rattle.dexclass.specs.Numbered.{NumberedClass}
-use Rattle.dexclass.specs.Parents.{no_class, name_number, parent_numbers, ArePlaces, IsHierarchy}
+use Rattle.dexclass.specs.{NumberedClass, no_class, name_number, parent_numbers, ArePlaces, IsHierarchy}
 
 -- the classes that are parents
 abbrev pub defined_parents : List (Option ℕ) → NumberedClass → List ℕ

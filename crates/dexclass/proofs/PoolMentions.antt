@@ -1,25 +1,8 @@
 -- What the definitions of readable class rows mention is in the pools, and weighs no more than these.
-use Rattle.std.proofs.Common.{◌≡◌, ℕ, ◌+◌, ◌<◌, ◌≤◌, List, [], ◌∷◌, get_or, subst, inl, inr, arith}
-use Rattle.std.specs.List.{Contains}
-use Rattle.std.proofs.lemmas.List.Elements.{Contains-get_or}
-use Rattle.dexspec.specs.Bytes.{ushort_at}
-use Rattle.dexspec.specs.Symbols.{Proto, Field, Method, Symbol, TextSymbol, TypeSymbol, ProtoSymbol, FieldSymbol, MethodSymbol}
-use Rattle.dexspec.specs.Header.{StringIds, TypeIds, ProtoIds, FieldIds, MethodIds, ClassDefs, table_size}
-use Rattle.dexspec.specs.Rows.{row_at, StringRow, TypeRow, ProtoRow, FieldRow, MethodRow}
-use Rattle.dexspec.specs.Classes.{Definition}
-use Rattle.dexspec.specs.Mentions.{Mentions, mentions, texts_in, types_in, protos_in, fields_in, methods_in}
-use Rattle.dexspec.specs.Weight.{mentions_weight}
-use Rattle.dexspec.specs.Accepted.{HoldBelow, AreRows}
-use Rattle.dexspec.proofs.lists.Members.{Contains-nil, Contains-cons_cases}
+use Rattle.dexclass.proofs.Common.{◌≡◌, ℕ, ◌+◌, ◌<◌, ◌≤◌, List, [], ◌∷◌, get_or, subst, inl, inr, arith, Contains, Contains-get_or, ushort_at, Proto, Field, Method, Symbol, TextSymbol, TypeSymbol, ProtoSymbol, FieldSymbol, MethodSymbol, StringIds, TypeIds, ProtoIds, FieldIds, MethodIds, ClassDefs, table_size, row_at, StringRow, TypeRow, ProtoRow, FieldRow, MethodRow, Definition, Mentions, mentions, texts_in, types_in, protos_in, fields_in, methods_in, mentions_weight, HoldBelow, AreRows, Contains-nil, Contains-cons_cases, AreMentioned, mentions-rising, mentions_weight-among, one_string, one_type, one_proto, one_field, one_method, row_of, has_classes, AreReadable, AreAll, ArePools}
 use Rattle.dexspec.proofs.merge.MentionMembers.{Occurs, texts-source, types-source, protos-source, fields-source, methods-source}
-use Rattle.dexspec.proofs.merge.Growth.{AreMentioned, mentions-rising}
-use Rattle.dexspec.proofs.merge.WeightGrowth.{mentions_weight-among}
-use Rattle.dexspec.proofs.determined.OneRow.{one_string, one_type, one_proto, one_field, one_method}
 use Rattle.dexspec.proofs.wellformed.Fitting.{HasRow, DefinitionsHaveRows, type_rows, text_rows}
 use Rattle.dexspec.proofs.wellformed.SymbolRows.{row_symbols}
-use Rattle.dexspec.proofs.determined.Readable.{row_of}
-use Rattle.dexspec.proofs.determined.Denoted.{has_classes, AreReadable}
-use Rattle.dexpool.specs.Pools.{AreAll, ArePools}
 use Rattle.dexclass.proofs.RowsBelow.{IsRow}
 
 -- the one member

@@ -1,15 +1,6 @@
 -- What a program keeps of its collection.
-use Rattle.std.proofs.Common.{◌≡◌, ℕ, ◌<◌, List, [], ◌∷◌, length, get_or, refl, sym, ap, ◌∙◌, subst, arith, sum_by}
-use Rattle.std.proofs.lemmas.List.{length-map, get_or-map}
-use Rattle.std.proofs.lemmas.List.Sums.{sum_by-cons}
-use Rattle.dexspec.specs.Classes.{Definition}
-use Rattle.dexspec.specs.Files.{Collection, definitions}
-use Rattle.dexspec.specs.Mentions.{mentions}
-use Rattle.dexspec.specs.Depth.{in_class_order}
-use Rattle.dexspec.proofs.normal.ClassOrder.{in_class_order-same_sum, definitions-distinct}
-use Rattle.dexclass.specs.Numbered.{NumberedClass, definition_of}
-use Rattle.dexclass.specs.Uses.{IsKnownClass}
-use Rattle.dexclass.specs.Programs.{AreClassesOf, IsClassAt}
+use Rattle.dexclass.proofs.Common.{◌≡◌, ℕ, ◌<◌, List, [], ◌∷◌, length, get_or, refl, sym, ap, ◌∙◌, subst, arith, sum_by, length-map, get_or-map, sum_by-cons, Definition, Collection, definitions, mentions, in_class_order, in_class_order-same_sum, definitions-distinct}
+use Rattle.dexclass.specs.{NumberedClass, definition_of, IsKnownClass, AreClassesOf, IsClassAt}
 
 -- one for each member
 each_counts : {X : Type 0} (xs : List X) → sum_by (λ (x : X). 1) xs ≡ length xs

@@ -1,28 +1,7 @@
 -- Classes in the order of a canonical file are a program, which weighs what they weigh with the numbering.
-use Rattle.std.proofs.Common.{◌≡◌, ℕ, suc, ◌^◌, ◌+◌, ◌≤◌, List, map, get_or, sym, ap, ◌∙◌, subst, arith, sum_by}
-use Rattle.std.specs.Prelude.{All}
-use Rattle.std.specs.List.{Contains}
-use Rattle.std.proofs.lemmas.List.Elements.{Contains-get_or}
-use Rattle.dexspec.specs.Lists.{AreDistinct}
-use Rattle.dexspec.specs.Classes.{Definition}
-use Rattle.dexspec.specs.Files.{Collection, definitions, AreSame, IsCollectionOf}
-use Rattle.dexspec.specs.Mentions.{Mentions, mentions}
-use Rattle.dexspec.specs.Depth.{in_class_order}
-use Rattle.dexspec.specs.Weight.{mentions_weight, body_weight, weight}
-use Rattle.dexspec.specs.Merging.{IsConsistent, greatest_caps}
-use Rattle.dexspec.proofs.lists.Mapped.{AreDistinct-map_source}
+use Rattle.dexclass.proofs.Common.{◌≡◌, ℕ, suc, ◌^◌, ◌+◌, ◌≤◌, List, map, get_or, sym, ap, ◌∙◌, subst, arith, sum_by, All, Contains, Contains-get_or, AreDistinct, Definition, Collection, definitions, AreSame, IsCollectionOf, Mentions, mentions, in_class_order, mentions_weight, body_weight, weight, IsConsistent, greatest_caps, AreDistinct-map_source, mentions-same, IsGood-within, weight-same, in_class_order-only, in_class_order-has, definitions-distinct, definitions-different, collection-is, definitions-same, IsNumbering}
 use Rattle.dexspec.proofs.size.SizeSums.{sum_by-map}
-use Rattle.dexspec.proofs.merge.Growth.{mentions-same}
-use Rattle.dexspec.proofs.merge.Absorption.{IsGood-within}
-use Rattle.dexspec.proofs.merge.WeightGrowth.{weight-same}
-use Rattle.dexspec.proofs.normal.ClassPlaces.{in_class_order-only, in_class_order-has}
-use Rattle.dexspec.proofs.normal.ClassOrder.{definitions-distinct, definitions-different}
-use Rattle.dexspec.proofs.merge.Collections.{collection-is, definitions-same}
-use Rattle.dexpool.specs.Numberings.{IsNumbering}
-use Rattle.dexclass.specs.Numbered.{NumberedClass, definition_of}
-use Rattle.dexclass.specs.Uses.{IsKnownClass}
-use Rattle.dexclass.specs.Parents.{no_class, AreNamed}
-use Rattle.dexclass.specs.Programs.{collection_of, AreMergeable, IsProgram}
+use Rattle.dexclass.specs.{NumberedClass, definition_of, IsKnownClass, no_class, AreNamed, collection_of, AreMergeable, IsProgram}
 use Rattle.dexclass.proofs.Ordered.{names_apart}
 use Rattle.dexclass.proofs.OneOrder.{one_class_order}
 

@@ -1,18 +1,7 @@
 -- Classes that are trimmed make the program that a file denotes.
-use Rattle.std.proofs.Common.{◌≡◌, ℕ, List, map, sym, ap, ◌∙◌, subst, arith}
+use Rattle.dexclass.proofs.Common.{◌≡◌, ℕ, List, map, sym, ap, ◌∙◌, subst, arith, ClassDefs, table_size, Definition, Collection, definitions, Denotes, IsCollectionOf, Mentions, weight, mentions_weight, AreWellFormed, IsGood, greatest_caps, HoldBelow, AreRows, IsAccepted, IsGood-within, has_classes, AreReadable, rows_denote, denoted_rows}
 use Rattle.std.specs.FinMap as finite
-use Rattle.dexspec.specs.Header.{ClassDefs, table_size}
-use Rattle.dexspec.specs.Classes.{Definition}
-use Rattle.dexspec.specs.Files.{Collection, definitions, Denotes, IsCollectionOf}
-use Rattle.dexspec.specs.Mentions.{Mentions}
-use Rattle.dexspec.specs.Weight.{weight, mentions_weight}
-use Rattle.dexspec.specs.WellFormed.{AreWellFormed}
-use Rattle.dexspec.specs.Merging.{IsGood, greatest_caps}
-use Rattle.dexspec.specs.Accepted.{HoldBelow, AreRows, IsAccepted}
-use Rattle.dexspec.proofs.merge.Absorption.{IsGood-within}
-use Rattle.dexspec.proofs.determined.Denoted.{has_classes, AreReadable, rows_denote, denoted_rows}
-use Rattle.dexclass.specs.Numbered.{NumberedClass, definition_of}
-use Rattle.dexclass.specs.Programs.{AreMergeable, IsReadAs}
+use Rattle.dexclass.specs.{NumberedClass, definition_of, AreMergeable, IsReadAs}
 use Rattle.dexclass.specs.internal.Reading.{bodies_weight, IsWhole}
 use Rattle.dexclass.proofs.Mergeable.{AreTrimmed, trimmed_mergeable}
 use Rattle.dexclass.proofs.RowsBelow.{weight_is, one_name, collection_denoted, light_accepted}

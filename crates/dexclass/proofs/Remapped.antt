@@ -1,16 +1,6 @@
 -- Numbers of texts that are remapped, and what they denote.
-use Rattle.std.proofs.Common.{◌≡◌, ℕ, ◌<◌, true, List, [], ◌∷◌, ◌++◌, length, map, get_or, Option, Some, None, option_to_list, refl, sym, ap, subst, inl, inr}
-use Rattle.std.specs.Prelude.{IsSome}
-use Rattle.std.specs.List.{All}
-use Rattle.std.specs.Option.{option_map}
-use Rattle.std.proofs.lemmas.Bool.{cases_order}
-use Rattle.std.proofs.lemmas.List.Elements.{All-nil, All-cons, All-head, All-tail}
-use Rattle.dexspec.specs.Lists.{rises}
-use Rattle.dexspec.specs.Texts.{Text, text_cmp}
-use Rattle.dexspec.proofs.lists.InOrder.{Rises-from_rises, Rises-places, irreflexive}
-use Rattle.dexspec.proofs.merge.SymbolOrders.{text_total}
-use Rattle.dexpool.specs.Numberings.{IsAt, MapsTo, image}
-use Rattle.dexclass.specs.Renumbering.{remapped}
+use Rattle.dexclass.proofs.Common.{◌≡◌, ℕ, ◌<◌, true, List, [], ◌∷◌, ◌++◌, length, map, get_or, Option, Some, None, option_to_list, refl, sym, ap, subst, inl, inr, IsSome, All, option_map, cases_order, All-nil, All-cons, All-head, All-tail, rises, Text, text_cmp, Rises-from_rises, Rises-places, irreflexive, text_total, IsAt, MapsTo, image}
+use Rattle.dexclass.specs.{remapped}
 
 -- ---- the same text
 

@@ -1,8 +1,5 @@
 -- Items that are remapped one by one.
-use Rattle.std.proofs.Common.{◌≡◌, ℕ, ◌+◌, ◌<◌, List, [], ◌∷◌, ◌++◌, length, get_or, take, drop, sym, ap, ◌∙◌, arith}
-use Rattle.std.specs.Prelude.{map, slice_set}
-use Rattle.std.proofs.lemmas.List.{length-set, take_more, take_more_set, drop-set-lt, get_or-drop, map-append}
-use Rattle.std.proofs.lemmas.Grind.{drop_more_same}
+use Rattle.dexclass.proofs.Common.{◌≡◌, ℕ, ◌+◌, ◌<◌, List, [], ◌∷◌, ◌++◌, length, get_or, take, drop, sym, ap, ◌∙◌, arith, map, slice_set, length-set, take_more, take_more_set, drop-set-lt, get_or-drop, map-append, drop_more_same}
 
 -- the first k are remapped, and the rest is as it was
 pub record RemappedAt {X : Type 0} (f : X → X) (new old : List X) (k : ℕ) : Type 0 where

@@ -1,25 +1,7 @@
 -- The numbers of a class row denote the definition that the row is.
-use Rattle.std.proofs.Common.{◌≡◌, ℕ, ◌+◌, ◌*◌, ◌<◌, Bool, true, false, List, [], ◌∷◌, ◌++◌, length, refl, sym, ap, ◌∙◌, subst, arith, inl, inr, sum_by}
-use Rattle.std.specs.Prelude.{◌==◌, if◌then◌else◌, map, Option, Some, None}
-use Rattle.std.specs.Option.{option_map}
-use Rattle.std.specs.List.{AllZip}
-use Rattle.std.proofs.lemmas.Bool.{eqb-true, false≢true}
-use Rattle.std.proofs.lemmas.List.{length-map}
-use Rattle.dexspec.specs.Lists.{OrNone}
-use Rattle.dexspec.specs.Texts.{Text}
-use Rattle.dexspec.specs.Header.{ClassDefs, table_size}
-use Rattle.dexspec.specs.Rows.{StringRow, TypeRow, type_indices}
-use Rattle.dexspec.specs.Classes.{Body, ClassRow, ClassTypeRow, ClassListAt, IndexOrNone, class_idx, access_flags, superclass_idx, interfaces_off, source_file_idx, no_index}
-use Rattle.dexspec.specs.Mentions.{Mentions}
-use Rattle.dexspec.specs.Weight.{set_weight, field_weight, method_weight, static_values_weight, body_weight}
-use Rattle.dexspec.specs.Accepted.{HasClass}
-use Rattle.dexspec.proofs.determined.OneRow.{one_string, one_type}
-use Rattle.dexpool.specs.Pools.{ArePools}
-use Rattle.dexmembers.specs.Numbered.{Members}
-use Rattle.dexmembers.specs.Weight.{members_weight}
-use Rattle.dexmembers.specs.Reading.{MembersRow}
+use Rattle.dexclass.proofs.Common.{◌≡◌, ℕ, ◌+◌, ◌*◌, ◌<◌, Bool, true, false, List, [], ◌∷◌, ◌++◌, length, refl, sym, ap, ◌∙◌, subst, arith, inl, inr, sum_by, ◌==◌, if◌then◌else◌, map, Option, Some, None, option_map, AllZip, eqb-true, false≢true, length-map, OrNone, Text, ClassDefs, table_size, StringRow, TypeRow, type_indices, Body, ClassRow, ClassTypeRow, ClassListAt, IndexOrNone, class_idx, access_flags, superclass_idx, interfaces_off, source_file_idx, no_index, Mentions, set_weight, field_weight, method_weight, static_values_weight, body_weight, HasClass, one_string, one_type, ArePools, Members, members_weight, MembersRow}
 use Rattle.dexclass.specs.internal.Rows.{interface_indices}
-use Rattle.dexclass.specs.Numbered.{text_at, type_at, number_of}
+use Rattle.dexclass.specs.{text_at, type_at, number_of}
 use Rattle.dexclass.proofs.Interfaces.{listed_interfaces}
 
 -- the body of a row that declares this

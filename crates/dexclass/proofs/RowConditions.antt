@@ -1,14 +1,6 @@
 -- Condition 16 at a row, from its parts.
-use Rattle.std.proofs.Common.{◌≡◌, ℕ, ◌+◌, ◌<◌, Bool, true, false, List, get_or, sym, ◌∙◌, subst, arith, inl, inr}
-use Rattle.std.specs.Prelude.{All}
-use Rattle.std.proofs.lemmas.Bool.{cases_lt, false≢true}
-use Rattle.std.proofs.lemmas.List.Elements.{All-append}
-use Rattle.dexspec.specs.Classes.{superclass_idx, interfaces_off, ClassTypeRow}
-use Rattle.dexspec.specs.Accepted.{HasClass, IsDefinedBefore}
-use Rattle.dexmembers.specs.ClassDefs.{IsClassDef}
-use Rattle.dexmembers.specs.declared.class_def.ClassDef.{ClassDef}
+use Rattle.dexclass.proofs.Common.{◌≡◌, ℕ, ◌+◌, ◌<◌, Bool, true, false, List, get_or, sym, ◌∙◌, subst, arith, inl, inr, All, cases_lt, false≢true, All-append, superclass_idx, interfaces_off, ClassTypeRow, HasClass, IsDefinedBefore, IsClassDef, ClassDef, all_prefix, all_back}
 use Rattle.dexclass.specs.internal.Rows.{IsClassIndex, IsParentIndex, IsSourceIndex, superclass_indices, interface_indices, HasInterfaces, AreDefinedMarks}
-use Rattle.dexpool.proofs.Parts.{all_prefix, all_back}
 use Rattle.dexclass.proofs.Indices.{class_in_range}
 
 -- ---- the parts

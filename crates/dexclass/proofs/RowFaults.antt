@@ -1,23 +1,11 @@
 -- The faults of class rows as they are read.
-use Rattle.std.proofs.Common.{◌≡◌, ℕ, zero, suc, ◌+◌, ◌*◌, ◌-◌, ◌<◌, ◌≤◌, List, [], ◌∷◌, length, map, refl, sym, ap, subst, arith, inl, inr}
-use Rattle.dexspec.specs.Header.{ClassDefs, table_size}
-use Rattle.dexspec.specs.Classes.{Definition, class_idx, interfaces_off}
-use Rattle.dexspec.specs.Mentions.{Mentions, mentions}
-use Rattle.dexspec.specs.Weight.{weight, mentions_weight, most_weight}
-use Rattle.dexspec.specs.Conditions.{Condition}
-use Rattle.dexspec.specs.Accepted.{number, HasClass, HoldBelow, AreRows, FailsAt, place, rows_checked, IsRefused}
-use Rattle.dexspec.proofs.determined.Denoted.{AreReadable}
+use Rattle.dexclass.proofs.Common.{◌≡◌, ℕ, zero, suc, ◌+◌, ◌*◌, ◌-◌, ◌<◌, ◌≤◌, List, [], ◌∷◌, length, map, refl, sym, ap, subst, arith, inl, inr, ClassDefs, table_size, Definition, class_idx, interfaces_off, Mentions, mentions, weight, mentions_weight, most_weight, Condition, number, HasClass, HoldBelow, AreRows, FailsAt, place, rows_checked, IsRefused, AreReadable, ArePools, ItemFault, Refused, Memory, AreHeavyMembers, IsMembersFault, IsMembersFaultWithin}
 use Rattle.dexhead.specs.declared.refusal.Refusal.{Refusal}
-use Rattle.dexpool.specs.Pools.{ArePools}
 use Rattle.dexpool.specs.declared.faults.ItemFault.TheVariants as items
-use Rattle.dexpool.specs.declared.faults.ItemFault.{ItemFault}
 use Rattle.dexpool.specs.declared.faults.ReadFault.{ReadFault}
-use Rattle.dexpool.specs.declared.faults.ReadFault.TheVariants.{Refused, Memory}
-use Rattle.dexmembers.specs.Reading.{AreHeavyMembers, IsMembersFault, IsMembersFaultWithin}
 use Rattle.dexclass.specs.internal.Rows.{IsClassFault, interface_indices}
 use Rattle.dexclass.specs.internal.Checked.{IsFaultAtRow}
-use Rattle.dexclass.specs.Numbered.{type_at, definition_of}
-use Rattle.dexclass.specs.Programs.{IsFaultOf}
+use Rattle.dexclass.specs.{type_at, definition_of, IsFaultOf}
 use Rattle.dexclass.specs.internal.Reading.{bodies_weight, AreBodies, AreHeavyTogether}
 use Rattle.dexclass.specs.declared.reading.Bodies.{Bodies}
 use Rattle.dexclass.proofs.RowClasses.{row_body, row_weight, row_encoded}

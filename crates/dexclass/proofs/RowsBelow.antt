@@ -1,19 +1,6 @@
 -- The class rows of a file, the definitions that they are, and what these weigh.
-use Rattle.std.proofs.Common.{◌≡◌, ℕ, zero, suc, ◌+◌, ◌<◌, ◌≤◌, List, [], ◌∷◌, ◌++◌, length, get_or, ap, subst, arith, refl, inl, inr}
-use Rattle.std.specs.List.{AllZip, range_with_len}
-use Rattle.std.proofs.lemmas.Bool.{cases_lt}
-use Rattle.std.proofs.lemmas.List.Sums.{sum_by_push}
-use Rattle.dexspec.specs.Lists.{AreDistinct}
-use Rattle.dexspec.specs.Header.{ClassDefs, table_size}
-use Rattle.dexspec.specs.Classes.{Definition, ClassRow}
-use Rattle.dexspec.specs.Files.{Collection, Denotes, IsCollectionOf, AreWithin}
-use Rattle.dexspec.specs.Mentions.{mentions}
-use Rattle.dexspec.specs.Weight.{weight, body_weight, mentions_weight, most_weight}
-use Rattle.dexspec.specs.Conditions.{Condition}
-use Rattle.dexspec.specs.Accepted.{HoldBelow, IsReadable, AreRows, FailsAt, IsAccepted}
-use Rattle.dexspec.proofs.determined.Readable.{row_of}
-use Rattle.dexspec.proofs.merge.WeightGrowth.{weight-within}
-use Rattle.dexspec.proofs.determined.Denoted.{HasClasses, has_classes, AreReadable, same_class_row, rows_define, defined_rows}
+use Rattle.dexclass.proofs.Common.{◌≡◌, ℕ, zero, suc, ◌+◌, ◌<◌, ◌≤◌, List, [], ◌∷◌, ◌++◌, length, get_or, ap, subst, arith, refl, inl, inr, AllZip, range_with_len, cases_lt, sum_by_push, AreDistinct, ClassDefs, table_size, Definition, ClassRow, Collection, Denotes, IsCollectionOf, mentions, weight, body_weight, mentions_weight, most_weight, Condition, HoldBelow, IsReadable, AreRows, FailsAt, IsAccepted, row_of, weight-within, HasClasses, has_classes, AreReadable, same_class_row, rows_define, defined_rows}
+use Rattle.dexspec.specs.Files.{AreWithin}
 use Rattle.dexclass.specs.internal.Reading.{bodies_weight}
 
 -- the definition is what a row is

@@ -1,25 +1,11 @@
 -- Class rows that were checked, and the file whose rows they are.
-use Rattle.std.proofs.Common.{◌≡◌, ℕ, ◌+◌, ◌-◌, ◌*◌, ◌^◌, ◌<◌, ◌≤◌, min, List, [], ◌∷◌, ◌++◌, length, refl, sym, ap, ◌∙◌, arith}
-use Rattle.std.proofs.lemmas.List.FromFn.{length-range_with_len}
+use Rattle.dexclass.proofs.Common.{◌≡◌, ℕ, ◌+◌, ◌-◌, ◌*◌, ◌^◌, ◌<◌, ◌≤◌, min, List, [], ◌∷◌, ◌++◌, length, refl, sym, ap, ◌∙◌, arith, length-range_with_len, range_with_len, ClassDefs, table_size, Definition, class_idx, interfaces_off, Collection, definitions, Mentions, mentions_weight, most_weight, Condition, HoldBelow, AreRows, IsRefused, length-among, has_classes, denoted_rows, ArePools}
 use Rattle.std.proofs.lemmas.Slice.Zip.{AllZip-long}
-use Rattle.std.specs.List.{range_with_len}
-use Rattle.dexspec.specs.Header.{ClassDefs, table_size}
-use Rattle.dexspec.specs.Classes.{Definition, class_idx, interfaces_off}
-use Rattle.dexspec.specs.Files.{Collection, definitions}
-use Rattle.dexspec.specs.Mentions.{Mentions}
-use Rattle.dexspec.specs.Weight.{mentions_weight, most_weight}
-use Rattle.dexspec.specs.Conditions.{Condition}
-use Rattle.dexspec.specs.Accepted.{HoldBelow, AreRows, IsRefused}
-use Rattle.dexspec.proofs.lists.Members.{length-among}
 use Rattle.dexspec.proofs.merge.Collections.{definitions-distinct}
-use Rattle.dexspec.proofs.determined.Denoted.{has_classes, denoted_rows}
 use Rattle.dexspec.proofs.determined.OneCollection.{one_collection}
-use Rattle.dexpool.specs.Pools.{ArePools}
 use Rattle.dexmembers.specs.Checking.{HasMembersOf}
 use Rattle.dexclass.specs.internal.Rows.{interface_indices}
-use Rattle.dexclass.specs.Numbered.{type_at}
-use Rattle.dexclass.specs.Programs.{IsReadAs}
-use Rattle.dexclass.specs.Checking.{HaveBodiesOf, IsCheckedAs}
+use Rattle.dexclass.specs.{type_at, IsReadAs, HaveBodiesOf, IsCheckedAs}
 use Rattle.dexclass.proofs.RowClasses.{row_body, row_weight, row_encoded}
 use Rattle.dexclass.proofs.RowsBelow.{IsRow, weight_is, bodies_more, rows_more, readable_more, rows_distinct, heavy_row, light_accepted}
 use Rattle.dexclass.proofs.RowFaults.{heavy_refused}

@@ -1,21 +1,7 @@
 -- The numbers of a class row, and of what it declares, are those of symbols of the pools.
-use Rattle.std.proofs.Common.{◌≡◌, ◌≢◌, ℕ, ◌<◌, ◌-◌, ◌^◌, min, List, [], length, sym, subst, arith, inl, inr, refl}
-use Rattle.std.specs.Prelude.{All, Option, Some, None, option_to_list}
-use Rattle.std.proofs.lemmas.Bool.{cases_eq, ne_eqb}
-use Rattle.std.proofs.lemmas.List.Elements.{All-nil, All-cons, All-append}
-use Rattle.dexspec.specs.Lists.{OrNone}
-use Rattle.dexspec.specs.Texts.{Text}
-use Rattle.dexspec.specs.Rows.{StringRow, type_indices}
-use Rattle.dexspec.specs.Classes.{ClassTypeRow, ClassListAt, IndexOrNone, class_idx, superclass_idx, interfaces_off, source_file_idx, no_index}
-use Rattle.dexspec.specs.Mentions.{Mentions}
-use Rattle.dexspec.specs.Weight.{body_weight}
-use Rattle.dexspec.specs.Accepted.{HasClass}
-use Rattle.dexpool.specs.Pools.{ArePools}
-use Rattle.dexmembers.specs.Numbered.{NumberedMembers}
-use Rattle.dexmembers.specs.Reading.{AreMembersOf}
+use Rattle.dexclass.proofs.Common.{◌≡◌, ◌≢◌, ℕ, ◌<◌, ◌-◌, ◌^◌, min, List, [], length, sym, subst, arith, inl, inr, refl, All, Option, Some, None, option_to_list, cases_eq, ne_eqb, All-nil, All-cons, All-append, OrNone, Text, StringRow, type_indices, ClassTypeRow, ClassListAt, IndexOrNone, class_idx, superclass_idx, interfaces_off, source_file_idx, no_index, Mentions, body_weight, HasClass, ArePools, NumberedMembers, AreMembersOf}
 use Rattle.dexclass.specs.internal.Rows.{interface_indices}
-use Rattle.dexclass.specs.Numbered.{type_at, number_of, definition_of, class_of_row}
-use Rattle.dexclass.specs.Uses.{IsKnownClass}
+use Rattle.dexclass.specs.{type_at, number_of, definition_of, class_of_row, IsKnownClass}
 use Rattle.dexclass.proofs.Indices.{class_in_range}
 use Rattle.dexclass.proofs.Interfaces.{of_classes, listed_interfaces}
 use Rattle.dexclass.proofs.RowClasses.{row_name}

@@ -1,23 +1,9 @@
 -- Classes that are remapped denote the same definitions; remapped into one numbering they are the same if and only if
 -- their definitions are.
-use Rattle.std.proofs.Common.{◌≡◌, ℕ, ◌-◌, ◌^◌, ◌<◌, min, List, ◌∷◌, ◌++◌, length, map, option_to_list, sym, ap, ◌∙◌, subst}
-use Rattle.std.specs.Prelude.{◌↔◌, IsSome}
-use Rattle.std.specs.List.{All}
-use Rattle.std.proofs.lemmas.List.Elements.{All-head, All-tail}
-use Rattle.dexspec.specs.Texts.{Text}
-use Rattle.dexspec.specs.Classes.{Definition}
-use Rattle.dexspec.specs.Mentions.{Mentions}
-use Rattle.dexspec.specs.Weight.{body_weight}
+use Rattle.dexclass.proofs.Common.{◌≡◌, ℕ, ◌-◌, ◌^◌, ◌<◌, min, List, ◌∷◌, ◌++◌, length, map, option_to_list, sym, ap, ◌∙◌, subst, ◌↔◌, IsSome, All, All-head, All-tail, Text, Definition, Mentions, body_weight, AreRising, Maps, AllMapTo, image, Use, IsMappedUse, NumberedMembers, members_in, members_of, AreKnownMembers, AreOrdered, AreOfClass, members_uses, all_prefix, all_back}
 use Rattle.dexpool.specs.declared.symbols.SymbolKind.TheVariants as kinds
-use Rattle.dexpool.specs.Numberings.{AreRising, Maps, AllMapTo, image}
-use Rattle.dexpool.specs.Uses.{Use, IsMappedUse}
-use Rattle.dexmembers.specs.Numbered.{NumberedMembers, members_in, members_of, AreKnownMembers, AreOrdered, AreOfClass}
 use Rattle.dexmembers.specs.Renumbering.{renumbered_members}
-use Rattle.dexmembers.specs.Uses.{members_uses}
-use Rattle.dexclass.specs.Numbered.{NumberedClass, type_at, definition_of}
-use Rattle.dexclass.specs.Uses.{type_numbers, text_numbers, type_use, text_use, IsKnownClass}
-use Rattle.dexclass.specs.Renumbering.{remapped, renumbered, IsMappedClass, StaysSame, IsPartClass}
-use Rattle.dexpool.proofs.Parts.{all_prefix, all_back}
+use Rattle.dexclass.specs.{NumberedClass, type_at, definition_of, type_numbers, text_numbers, type_use, text_use, IsKnownClass, remapped, renumbered, IsMappedClass, StaysSame, IsPartClass}
 use Rattle.dexclass.proofs.OwnUses.{all_mapped}
 use Rattle.dexclass.proofs.Remapped.{remapped_is, all_remapped, optional_remapped, all_within, optional_numbers, numbers_after, one_at, one_list, one_optional}
 

@@ -1,31 +1,9 @@
 -- Classes without their debug programs and source texts make the stripped program.
-use Rattle.std.proofs.Common.{◌≡◌, ℕ, ◌+◌, ◌-◌, ◌*◌, ◌^◌, ◌<◌, min, List, [], ◌∷◌, ◌++◌, length, get_or, map, refl, sym, ap, ◌∙◌, subst, arith, sum_by, inl, inr}
-use Rattle.std.specs.Prelude.{All}
-use Rattle.std.specs.List.{Contains}
-use Rattle.std.proofs.lemmas.Bool.{cases_order}
-use Rattle.std.proofs.lemmas.List.{length-map, get_or-map}
-use Rattle.std.proofs.lemmas.List.Elements.{All-nil, All-map}
-use Rattle.dexspec.specs.Classes.{Definition}
-use Rattle.dexspec.specs.Files.{Collection, definitions, IsCollectionOf}
-use Rattle.dexspec.specs.Mentions.{Mentions, mentions}
-use Rattle.dexspec.specs.Weight.{body_weight, set_weight, field_weight, method_weight, static_values_weight}
-use Rattle.dexspec.specs.Depth.{in_class_order}
-use Rattle.dexspec.specs.WellFormed.{AreWellFormed}
-use Rattle.dexspec.specs.Merging.{Caps, IsGood, greatest_caps}
-use Rattle.dexspec.specs.Stripping.{strip_definition, strip, strip_collection}
-use Rattle.dexspec.proofs.merge.Absorption.{IsGood-within}
-use Rattle.dexspec.proofs.normal.ClassOrder.{definitions-distinct}
-use Rattle.dexspec.proofs.normal.ClassPlaces.{in_class_order-only, in_class_order-has, class_names-apart}
-use Rattle.dexspec.proofs.merge.Collections.{definitions-are, collection-one}
+use Rattle.dexclass.proofs.Common.{◌≡◌, ℕ, ◌+◌, ◌-◌, ◌*◌, ◌^◌, ◌<◌, min, List, [], ◌∷◌, ◌++◌, length, get_or, map, refl, sym, ap, ◌∙◌, subst, arith, sum_by, inl, inr, All, Contains, cases_order, length-map, get_or-map, All-nil, All-map, Definition, Collection, definitions, IsCollectionOf, Mentions, mentions, body_weight, set_weight, field_weight, method_weight, static_values_weight, in_class_order, AreWellFormed, Caps, IsGood, greatest_caps, strip_definition, strip, strip_collection, IsGood-within, definitions-distinct, in_class_order-only, in_class_order-has, class_names-apart, definitions-are, collection-one, members_in, AreKnownMembers, AreOrdered, AreOfClass, stripped_members, strip_members, members_weight}
 use Rattle.dexspec.proofs.strip.StripCollection.{definitions-strip_collection}
 use Rattle.dexspec.proofs.strip.StripGood.{IsGood-strip}
-use Rattle.dexmembers.specs.Numbered.{members_in, AreKnownMembers, AreOrdered, AreOfClass}
-use Rattle.dexmembers.specs.Stripped.{stripped_members, strip_members}
-use Rattle.dexmembers.specs.Weight.{members_weight}
 use Rattle.dexmembers.specs.Weighing.{numbered_members_weight}
-use Rattle.dexclass.specs.Numbered.{NumberedClass, type_at, definition_of}
-use Rattle.dexclass.specs.Uses.{IsKnownClass}
-use Rattle.dexclass.specs.Programs.{AreClassesOf, AreMergeable}
+use Rattle.dexclass.specs.{NumberedClass, type_at, definition_of, IsKnownClass, AreClassesOf, AreMergeable}
 use Rattle.dexclass.specs.internal.Stripped.{stripped_class}
 use Rattle.dexclass.proofs.Mergeable.{AreTrimmed, trimmed_mergeable}
 

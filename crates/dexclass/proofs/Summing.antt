@@ -1,21 +1,7 @@
 -- A class row more, and what the classes weigh with it.
-use Rattle.std.proofs.Common.{◌≡◌, ℕ, ◌+◌, ◌*◌, ◌<◌, ◌≤◌, List, [], ◌∷◌, ◌++◌, length, map, sym, ap, ◌∙◌, subst, arith}
-use Rattle.std.specs.Prelude.{All}
-use Rattle.std.proofs.lemmas.List.{map-append}
-use Rattle.std.proofs.lemmas.List.Elements.{All-nil, All-cons, All-append}
-use Rattle.dexspec.specs.Header.{ClassDefs, table_size}
-use Rattle.dexspec.specs.Classes.{Definition, interfaces_off}
-use Rattle.dexspec.specs.Mentions.{Mentions}
-use Rattle.dexspec.specs.Weight.{body_weight, most_weight}
-use Rattle.dexspec.specs.Conditions.{Condition}
-use Rattle.dexspec.specs.Accepted.{HoldBelow, AreRows, IsRefused}
-use Rattle.dexpool.specs.Pools.{ArePools}
-use Rattle.dexmembers.specs.Numbered.{NumberedMembers, members_in}
-use Rattle.dexmembers.specs.Weight.{members_weight}
-use Rattle.dexmembers.specs.Reading.{AreMembersOf}
+use Rattle.dexclass.proofs.Common.{◌≡◌, ℕ, ◌+◌, ◌*◌, ◌<◌, ◌≤◌, List, [], ◌∷◌, ◌++◌, length, map, sym, ap, ◌∙◌, subst, arith, All, map-append, All-nil, All-cons, All-append, ClassDefs, table_size, Definition, interfaces_off, Mentions, body_weight, most_weight, Condition, HoldBelow, AreRows, IsRefused, ArePools, NumberedMembers, members_in, members_weight, AreMembersOf}
 use Rattle.dexclass.specs.internal.Rows.{interface_indices}
-use Rattle.dexclass.specs.Numbered.{NumberedClass, definition_of, class_of_row}
-use Rattle.dexclass.specs.Uses.{IsKnownClass}
+use Rattle.dexclass.specs.{NumberedClass, definition_of, class_of_row, IsKnownClass}
 use Rattle.dexclass.specs.internal.Reading.{bodies_weight, AreBodies}
 use Rattle.dexclass.specs.declared.reading.Bodies.{Bodies}
 use Rattle.dexclass.proofs.RowClasses.{row_weight, row_encoded}

@@ -1,15 +1,6 @@
 -- Classes whose numbers are mapped to those of what they mention.
-use Rattle.std.proofs.Common.{◌≡◌, List, [], ◌∷◌, map, get_or, refl, sym, ap, ◌∙◌, subst}
-use Rattle.std.specs.List.{All, AllZip, flat_map}
-use Rattle.std.proofs.lemmas.List.Elements.{All-nil, All-cons, All-head, All-tail, All-map, Contains-get_or}
-use Rattle.dexspec.specs.Mentions.{Mentions, symbols_of, mentions, closed}
-use Rattle.dexspec.proofs.lists.Members.{Contains-flat_map}
-use Rattle.dexpool.specs.declared.marks.Marks.{Marks}
-use Rattle.dexpool.specs.Numberings.{Maps, marked}
-use Rattle.dexpool.specs.Uses.{IsUseOf, MapsMarked}
-use Rattle.dexclass.specs.Numbered.{NumberedClass, definition_of}
-use Rattle.dexclass.specs.Uses.{class_uses, IsKnownClass, HaveMarked}
-use Rattle.dexclass.specs.Renumbering.{renumbered, IsMappedClass, StaysSame}
+use Rattle.dexclass.proofs.Common.{◌≡◌, List, [], ◌∷◌, map, get_or, refl, sym, ap, ◌∙◌, subst, All, AllZip, flat_map, All-nil, All-cons, All-head, All-tail, All-map, Contains-get_or, Mentions, symbols_of, mentions, closed, Contains-flat_map, Marks, Maps, marked, IsUseOf, MapsMarked}
+use Rattle.dexclass.specs.{NumberedClass, definition_of, class_uses, IsKnownClass, HaveMarked, renumbered, IsMappedClass, StaysSame}
 use Rattle.dexclass.proofs.Mentioned.{kept_closed, is_marked}
 use Rattle.dexclass.proofs.OwnUses.{parts_zip}
 

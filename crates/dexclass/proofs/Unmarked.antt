@@ -1,18 +1,7 @@
 -- Marks of which none is set.
-use Rattle.std.proofs.Common.{◌≡◌, ℕ, ◌<◌, Bool, true, false, List, [], length, get_or, refl, ◌∙◌, subst, arith}
-use Rattle.std.specs.List.{Contains}
-use Rattle.std.proofs.lemmas.List.{get_or_default}
-use Rattle.dexspec.specs.Symbols.{Proto, Field, Method, Symbol, TextSymbol, TypeSymbol, ProtoSymbol, FieldSymbol, MethodSymbol}
-use Rattle.dexspec.specs.Mentions.{Mentions}
-use Rattle.dexspec.proofs.lists.Members.{Contains-nil}
-use Rattle.dexpool.specs.declared.symbols.SymbolKind.{SymbolKind}
+use Rattle.dexclass.proofs.Common.{◌≡◌, ℕ, ◌<◌, Bool, true, false, List, [], length, get_or, refl, ◌∙◌, subst, arith, Contains, get_or_default, Proto, Field, Method, Symbol, TextSymbol, TypeSymbol, ProtoSymbol, FieldSymbol, MethodSymbol, Mentions, Contains-nil, SymbolKind, Marks, IsAt, IsNumbered, IsOfKind, AreMarksOf, marked, marks_of, AreMarkedToo, Use, mark_within}
 use Rattle.dexpool.specs.declared.symbols.SymbolKind.TheVariants as kinds
-use Rattle.dexpool.specs.declared.marks.Marks.{Marks}
-use Rattle.dexpool.specs.Numberings.{IsAt, IsNumbered, IsOfKind, AreMarksOf, marked}
-use Rattle.dexpool.specs.Uses.{marks_of, AreMarkedToo}
-use Rattle.dexpool.specs.Uses.{Use}
-use Rattle.dexpool.proofs.KeptRows.{mark_within}
-use Rattle.dexclass.specs.Uses.{HaveMarked}
+use Rattle.dexclass.specs.{HaveMarked}
 use Rattle.dexclass.proofs.Mentioned.{is_kept}
 
 -- the item at a place

@@ -1,30 +1,13 @@
 -- What the numbers in code items denote.
-use Rattle.std.proofs.Common.{◌≡◌, ℕ, ◌<◌, List, [], ◌∷◌, ◌++◌, length, map, get_or, Option, Some, None, option_to_list, refl, ap, sym, ◌∙◌, subst, arith}
-use Rattle.std.specs.List.{All, AllZip, flat_map}
-use Rattle.std.specs.Option.{IsSome, unwrap_or, option_map}
-use Rattle.std.proofs.lemmas.List.{get_or_default}
-use Rattle.std.proofs.lemmas.List.Elements.{All-nil, All-head, All-tail, All-append}
-use Rattle.dexspec.specs.Lists.{BothOrNone, distinct}
-use Rattle.dexspec.specs.Texts.{Text}
-use Rattle.dexspec.specs.Symbols.{TypeSymbol}
-use Rattle.dexspec.specs.Mentions.{Mentions, piece_symbols, handler_symbols, debug_symbols, code_symbols}
+use Rattle.dexcode.proofs.Common.{◌≡◌, ℕ, ◌<◌, List, [], ◌∷◌, ◌++◌, length, map, get_or, Option, Some, None, option_to_list, refl, ap, sym, ◌∙◌, subst, arith, All, AllZip, flat_map, IsSome, unwrap_or, option_map, get_or_default, All-nil, All-head, All-tail, All-append, BothOrNone, distinct, Text, TypeSymbol, Mentions, piece_symbols, handler_symbols, debug_symbols, code_symbols, Debug, Marks, IsAt, AreRising, AreMarksOf, Maps, image_of, AllMapTo, HasMark, IsUseOf, IsMappedUse, uses_of, NumberedDebug, DenotesDebug, HasPlace, renumbered_debug, debug_uses, all_of, all_parts, all_map}
 use Rattle.dexspec.specs.Code as symbolic
-use Rattle.dexspec.specs.Debug.{Debug}
 use Rattle.dexpool.specs.declared.symbols.SymbolKind.TheVariants as kinds
-use Rattle.dexpool.specs.declared.marks.Marks.{Marks}
-use Rattle.dexpool.specs.Numberings.{IsAt, AreRising, AreMarksOf, Maps, image_of, AllMapTo}
-use Rattle.dexpool.specs.Uses.{HasMark, IsUseOf, IsMappedUse}
-use Rattle.dexinsn.specs.Numbered.{uses_of}
 use Rattle.dexinsn.proofs.Meanings as pieces
 use Rattle.dexcode.specs.declared.handlers.Catch.{Catch}
-use Rattle.dexdebug.specs.Debug.{NumberedDebug, DenotesDebug, HasPlace, renumbered_debug, debug_uses}
-use Rattle.dexcode.specs.Equality.{handler_decides}
-use Rattle.dexcode.specs.Numbered.{NumberedHandler, NumberedTry, NumberedItem, DenotesCatch, DenotesTry, DenotesCode, same_handler, handlers_of, catch_meant, handler_meant}
-use Rattle.dexcode.specs.Renumbering.{catch_use, handler_uses, tries_uses, item_uses, HasTypePlace, HasPlaces, HasImages, renumbered_catch, renumbered_try, renumbered_item}
+use Rattle.dexcode.specs.{handler_decides, NumberedHandler, NumberedTry, NumberedItem, DenotesCatch, DenotesTry, DenotesCode, same_handler, handlers_of, catch_meant, handler_meant, catch_use, handler_uses, tries_uses, item_uses, HasTypePlace, HasPlaces, HasImages, renumbered_catch, renumbered_try, renumbered_item}
 use Rattle.dexcode.proofs.CodeUses.{optional_debug_uses, debug_part, all_flat}
 use Rattle.dexdebug.proofs.DebugMeanings as debugs
 use Rattle.dexdebug.proofs.DebugMeanings.{mapped_at, zip-append}
-use Rattle.dexpool.proofs.Parts.{all_of, all_parts, all_map}
 use Rattle.dexcode.proofs.Images.{all_distinct}
 use Rattle.dexcode.proofs.Meanings.{tries_mean, tries_in_range}
 use Rattle.dexcode.proofs.TryRows.{IsInRange, handlers_meant}

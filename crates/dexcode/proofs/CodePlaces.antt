@@ -1,33 +1,18 @@
 -- The numbers in a code item have places where all numbers have images.
-use Rattle.std.proofs.Common.{◌≡◌, ℕ, ◌+◌, ◌<◌, ◌^◌, List, [], ◌++◌, length, Option, Some, None, option_to_list, refl, subst, arith}
-use Rattle.std.specs.List.{All, flat_map}
-use Rattle.std.specs.Option.{IsSome, IfSome}
-use Rattle.std.proofs.lemmas.List.Elements.{All-nil, All-cons, All-append}
-use Rattle.dexspec.specs.Mentions.{Mentions, piece_symbols, debug_symbols}
+use Rattle.dexcode.proofs.Common.{◌≡◌, ℕ, ◌+◌, ◌<◌, ◌^◌, List, [], ◌++◌, length, Option, Some, None, option_to_list, refl, subst, arith, All, flat_map, IsSome, IfSome, All-nil, All-cons, All-append, Mentions, piece_symbols, debug_symbols, SymbolKind, count_of, MapsAll, Maps, image_of, AllMapTo, Use, IsMappedUse, uses_of, KeepOrder, MapsDown, NumberedDebug, FitsIndex, IsFormedOperation, IsFormedDebug, HasPlace, number_uses, operation_uses, debug_uses, name_of, type_of, signature_of, maps_within, all_of, all_prefix, all_map}
 use Rattle.dexspec.specs.Code as symbolic
-use Rattle.dexpool.specs.declared.symbols.SymbolKind.{SymbolKind}
 use Rattle.dexpool.specs.declared.symbols.SymbolKind.TheVariants as kinds
-use Rattle.dexpool.specs.Pools.{count_of}
-use Rattle.dexpool.specs.Laws.{MapsAll}
-use Rattle.dexpool.specs.Numberings.{Maps, image_of, AllMapTo}
-use Rattle.dexpool.specs.Uses.{Use, IsMappedUse}
-use Rattle.dexinsn.specs.Numbered.{uses_of}
 use Rattle.dexinsn.specs.Numbered as pieces
 use Rattle.dexinsn.proofs.Fits as insn_proofs
 use Rattle.dexinsn.proofs.Meanings as pieces_proofs
 use Rattle.dexinsn.specs.Fitting.{ImagesFit, IsGreatest, MapsShort, short_strings}
-use Rattle.dexpool.specs.Orderly.{KeepOrder, MapsDown}
 use Rattle.dexcode.specs.declared.tries.Try.{Try}
 use Rattle.dexdebug.specs.declared.debug_operation.Operation.{Operation}
-use Rattle.dexdebug.specs.Debug.{NumberedDebug, FitsIndex, IsFormedOperation, IsFormedDebug, HasPlace, number_uses, operation_uses, debug_uses, name_of, type_of, signature_of}
-use Rattle.dexcode.specs.Numbered.{NumberedHandler, NumberedItem, DenotesCode, IsFormedHandler, AreStored, all_named, handlers_of}
-use Rattle.dexcode.specs.Renumbering.{catch_use, handler_uses, tries_uses, item_uses, HasTypePlace, HasPlaces, HasImages, NumbersFit}
+use Rattle.dexcode.specs.{NumberedHandler, NumberedItem, DenotesCode, IsFormedHandler, AreStored, all_named, handlers_of, catch_use, handler_uses, tries_uses, item_uses, HasTypePlace, HasPlaces, HasImages, NumbersFit}
 use Rattle.dexcode.proofs.CodeMeanings.{handlers_in, debug_used}
 use Rattle.dexcode.proofs.CodeUses.{optional_debug_uses, all_flat, pieces_part, tries_part, debugs_part}
-use Rattle.dexpool.proofs.KeptNumbers.{maps_within}
 use Rattle.dexpool.proofs.KeptTables.{all_both}
 use Rattle.dexpool.proofs.MappingAll.{uses_mapped}
-use Rattle.dexpool.proofs.Parts.{all_of, all_prefix, all_map}
 use Rattle.dexcode.proofs.TryRows.{IsInRange}
 
 -- the numbers of the code have images if its symbols have

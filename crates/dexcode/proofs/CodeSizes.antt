@@ -1,21 +1,11 @@
 -- How many bytes a code item of numbers has, against what it weighs.
-use Rattle.std.proofs.Common.{◌≡◌, ℕ, ◌+◌, ◌*◌, ◌%◌, ◌^◌, ◌<◌, ◌≤◌, ◌==◌, Bool, true, false, if◌then◌else◌, nat_lt, List, [], ◌∷◌, ◌++◌, length, Option, Some, None, option_to_list, refl, ap, sym, arith, length-append}
-use Rattle.std.specs.List.{All, flat_map}
-use Rattle.std.proofs.lemmas.Bool.{lt-ltb}
-use Rattle.std.proofs.lemmas.List.{length-map}
-use Rattle.std.proofs.lemmas.List.Elements.{All-head, All-tail}
-use Rattle.std.proofs.lemmas.List.Sums.{sum_by-cons}
-use Rattle.dexspec.specs.Bytes.{ushort, uint}
-use Rattle.dexspec.specs.Numbers.{uleb128, sleb128, size_u}
-use Rattle.dexspec.proofs.numbers.ByteNumbers.{length-ushort, length-uint}
+use Rattle.dexcode.proofs.Common.{◌≡◌, ℕ, ◌+◌, ◌*◌, ◌%◌, ◌^◌, ◌<◌, ◌≤◌, ◌==◌, Bool, true, false, if◌then◌else◌, nat_lt, List, [], ◌∷◌, ◌++◌, length, Option, Some, None, option_to_list, refl, ap, sym, arith, length-append, All, flat_map, lt-ltb, length-map, All-head, All-tail, sum_by-cons, ushort, uint, uleb128, sleb128, size_u, length-ushort, length-uint, NumberedPiece, NumberedCode, numbered_units, numbered_bytes}
 use Rattle.dexspec.proofs.numbers.Groups.{length-groups}
 use Rattle.dexspec.proofs.written.PlacedBytes.{length_rows}
 use Rattle.dexspec.proofs.size.SizeItems.{uleb128-size, sleb128-size, if-size}
-use Rattle.dexinsn.specs.Numbered.{NumberedPiece, NumberedCode, numbered_units, numbered_bytes}
 use Rattle.dexcode.specs.declared.handlers.Catch.{Catch}
 use Rattle.dexcode.specs.declared.tries.Try.{Try}
-use Rattle.dexcode.specs.Numbered.{NumberedHandler, NumberedTry, NumberedItem, named, all_named, handlers_of, handlers_weight, AreStored}
-use Rattle.dexcode.specs.CodePut.{HasShortTypes, handler_count, numbered_catch_bytes, numbered_handler_bytes, numbered_handler_off, numbered_try_bytes, numbered_list_bytes, numbered_table_bytes, gap_bytes, numbered_tries_bytes, numbered_head_bytes, unit_count, numbered_item_bytes, numbered_code_bytes, numbered_tries_weight, numbered_code_weight}
+use Rattle.dexcode.specs.{NumberedHandler, NumberedTry, NumberedItem, named, all_named, handlers_of, handlers_weight, AreStored, HasShortTypes, handler_count, numbered_catch_bytes, numbered_handler_bytes, numbered_handler_off, numbered_try_bytes, numbered_list_bytes, numbered_table_bytes, gap_bytes, numbered_tries_bytes, numbered_head_bytes, unit_count, numbered_item_bytes, numbered_code_bytes, numbered_tries_weight, numbered_code_weight}
 
 -- ---- units
 

@@ -1,27 +1,11 @@
 -- Code items of numbers: their bytes and their weight are those of the code that they denote.
-use Rattle.std.proofs.Common.{◌≡◌, ℕ, ◌+◌, ◌%◌, ◌<◌, ◌==◌, if◌then◌else◌, List, [], ◌∷◌, ◌++◌, length, map, option_to_list, refl, ap, sym, ◌∙◌, arith, append_assoc}
-use Rattle.std.specs.Prelude.{pos, ◌-ℤ◌}
-use Rattle.std.specs.Option.{option_map_or}
-use Rattle.std.specs.List.{All, flat_map}
-use Rattle.std.proofs.lemmas.List.Elements.{All-head, All-tail}
-use Rattle.std.proofs.lemmas.List.{length-map}
-use Rattle.dexspec.specs.Bytes.{ushort, uint}
-use Rattle.dexspec.specs.Numbers.{uleb128, sleb128}
-use Rattle.dexspec.specs.Texts.{text_cmp}
-use Rattle.dexspec.specs.Mentions.{Mentions}
+use Rattle.dexcode.proofs.Common.{◌≡◌, ℕ, ◌+◌, ◌%◌, ◌<◌, ◌==◌, if◌then◌else◌, List, [], ◌∷◌, ◌++◌, length, map, option_to_list, refl, ap, sym, ◌∙◌, arith, append_assoc, pos, ◌-ℤ◌, option_map_or, All, flat_map, All-head, All-tail, length-map, ushort, uint, uleb128, sleb128, text_cmp, Mentions, units_of, tries_weight, code_weight, Rises-from_rises, rank-get_or, text_total, AreRising, NumberedPiece, Denote, numbered_units, numbered_bytes}
 use Rattle.dexspec.specs.Code as symbolic
-use Rattle.dexspec.specs.Pieces.{units_of}
 use Rattle.dexspec.specs.Pieces as pieces
 use Rattle.dexspec.specs.Spellings as spelled
-use Rattle.dexspec.specs.Weight.{tries_weight, code_weight}
-use Rattle.dexspec.proofs.lists.InOrder.{Rises-from_rises, rank-get_or}
-use Rattle.dexspec.proofs.merge.SymbolOrders.{text_total}
 use Rattle.dexspec.proofs.size.SizeCode.{length-units}
-use Rattle.dexpool.specs.Numberings.{AreRising}
-use Rattle.dexinsn.specs.Numbered.{NumberedPiece, Denote, numbered_units, numbered_bytes}
 use Rattle.dexcode.specs.declared.handlers.Catch.{Catch}
-use Rattle.dexcode.specs.Numbered.{NumberedHandler, NumberedTry, NumberedItem, catch_meant, handler_meant, try_meant, same_handler, handlers_of, DenotesCode}
-use Rattle.dexcode.specs.CodePut.{numbered_catch_bytes, handler_count, numbered_handler_bytes, numbered_handler_off, numbered_try_bytes, numbered_list_bytes, numbered_table_bytes, numbered_tries_bytes, unit_count, numbered_item_bytes, numbered_code_bytes, numbered_tries_weight, numbered_code_weight}
+use Rattle.dexcode.specs.{NumberedHandler, NumberedTry, NumberedItem, catch_meant, handler_meant, try_meant, same_handler, handlers_of, DenotesCode, numbered_catch_bytes, handler_count, numbered_handler_bytes, numbered_handler_off, numbered_try_bytes, numbered_list_bytes, numbered_table_bytes, numbered_tries_bytes, unit_count, numbered_item_bytes, numbered_code_bytes, numbered_tries_weight, numbered_code_weight}
 use Rattle.dexcode.proofs.TryRows.{IsInRange, same_meant, handlers_meant, weight_meant}
 use Rattle.dexcode.proofs.Images.{all_back_map, all_distinct, flat_mapped}
 use Rattle.dexcode.proofs.Meanings.{tries_mean, tries_in_range}

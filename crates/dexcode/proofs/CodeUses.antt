@@ -1,15 +1,6 @@
 -- The symbols of a code item, part by part.
-use Rattle.std.proofs.Common.{◌≡◌, List, [], ◌∷◌, ◌++◌, Option, Some, None, option_to_list, refl, sym, subst}
-use Rattle.std.specs.List.{All, FoldsTo, flat_map}
-use Rattle.std.proofs.lemmas.List.{append-nil}
-use Rattle.std.proofs.lemmas.List.Elements.{All-nil, All-append, All-head, All-tail}
-use Rattle.dexpool.specs.Uses.{Use}
-use Rattle.dexinsn.specs.Numbered.{uses_of}
-use Rattle.dexdebug.specs.Debug.{NumberedDebug, debug_uses}
-use Rattle.dexcode.specs.Numbered.{NumberedItem}
-use Rattle.dexcode.specs.Renumbering.{tries_uses, item_uses}
-use Rattle.dexpool.proofs.Parts.{all_prefix, all_back}
-use Rattle.dexpool.proofs.Visits.{visited_both}
+use Rattle.dexcode.proofs.Common.{◌≡◌, List, [], ◌∷◌, ◌++◌, Option, Some, None, option_to_list, refl, sym, subst, All, FoldsTo, flat_map, append-nil, All-nil, All-append, All-head, All-tail, Use, uses_of, NumberedDebug, debug_uses, all_prefix, all_back, visited_both}
+use Rattle.dexcode.specs.{NumberedItem, tries_uses, item_uses}
 
 -- what holds of all that each member gives holds of all together
 pub all_flat : {X : Type 0} (P : X → Type 0) (Q : Use → Type 0) (f : X → List Use) (xs : List X) → ((x : X) → P x → All Q (f x)) → All P xs → All Q (flat_map f xs)

@@ -1,26 +1,9 @@
 -- Code items checked: what is at the offset and what it weighs, and which condition fails.
-use Rattle.std.proofs.Common.{◌≡◌, ℕ, ◌+◌, ◌*◌, Bool, List, [], length, map, Some, None, refl, sym, subst, ◌∙◌, inr, arith}
-use Rattle.std.specs.Prelude.{Result, Ok, Err, IfOk, IfErr}
-use Rattle.std.proofs.lemmas.List.Sums.{sum_by-cons}
-use Rattle.dexspec.specs.Bytes.{uint_at}
-use Rattle.dexspec.specs.Mentions.{Mentions}
-use Rattle.dexspec.specs.Code.{Code}
-use Rattle.dexspec.specs.Debug.{DebugAt}
-use Rattle.dexspec.specs.Weight.{code_weight, debug_weight}
-use Rattle.dexpool.specs.declared.faults.ItemFault.{ItemFault}
-use Rattle.dexpool.specs.declared.faults.ItemFault.TheVariants.{Refused, Memory}
-use Rattle.dexpool.specs.Pools.{ArePools}
-use Rattle.dexpool.specs.Numberings.{AreRising}
+use Rattle.dexcode.proofs.Common.{◌≡◌, ℕ, ◌+◌, ◌*◌, Bool, List, [], length, map, Some, None, refl, sym, subst, ◌∙◌, inr, arith, Result, Ok, Err, IfOk, IfErr, sum_by-cons, uint_at, Mentions, Code, DebugAt, code_weight, debug_weight, ItemFault, Refused, Memory, ArePools, AreRising, NumberedPiece, ArePiecesAt, AreStartsAt, IsDebugFault}
 use Rattle.dexinsn.specs.declared.shape.PiecesShape.{PiecesShape}
 use Rattle.dexinsn.specs.Checking.{HasPiecesOf}
-use Rattle.dexinsn.specs.Numbered.{NumberedPiece}
-use Rattle.dexinsn.specs.Reading.{ArePiecesAt, AreStartsAt}
 use Rattle.dexdebug.specs.Checking.{HasDebugAt}
-use Rattle.dexcode.specs.Checking.{HasCodeOf, HasProgramOf, HaveTriesOf, IsProgramFault}
-use Rattle.dexdebug.specs.DebugReading.{IsDebugFault}
-use Rattle.dexcode.specs.CodePut.{numbered_code_weight}
-use Rattle.dexcode.specs.Numbered.{NumberedItem, DenotesCode, try_meant}
-use Rattle.dexcode.specs.Reading.{IsCodeFault}
+use Rattle.dexcode.specs.{HasCodeOf, HasProgramOf, HaveTriesOf, IsProgramFault, numbered_code_weight, NumberedItem, DenotesCode, try_meant, IsCodeFault}
 use Rattle.dexcode.proofs.CodeSizes.{units_length}
 use Rattle.dexcode.proofs.CodesRead.{tries_found, tries_range}
 use Rattle.dexcode.proofs.Meanings.{tries_encoded}

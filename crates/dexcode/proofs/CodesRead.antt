@@ -1,25 +1,8 @@
 -- Code items read: what is at the offset, and which condition fails.
-use Rattle.std.proofs.Common.{◌≡◌, ◌≢◌, ℕ, ◌+◌, ◌*◌, ◌%◌, Bool, false, List, [], length, map, get_or, Option, Some, None, refl, ap, sym, subst, ◌∙◌, inl, inr, arith}
-use Rattle.std.specs.Prelude.{pos}
-use Rattle.std.specs.List.{All}
-use Rattle.std.proofs.lemmas.List.Elements.{All-nil}
-use Rattle.dexspec.specs.Bytes.{uint_at, ushort_at}
-use Rattle.dexspec.specs.Mentions.{Mentions}
-use Rattle.dexspec.specs.Pieces.{Cut, Piece, is_instruction_start}
-use Rattle.dexspec.specs.Debug.{DebugAt}
-use Rattle.dexspec.specs.Code.{code_units, PiecesAt, RegistersAt}
+use Rattle.dexcode.proofs.Common.{◌≡◌, ◌≢◌, ℕ, ◌+◌, ◌*◌, ◌%◌, Bool, false, List, [], length, map, get_or, Option, Some, None, refl, ap, sym, subst, ◌∙◌, inl, inr, arith, pos, All, All-nil, uint_at, ushort_at, Mentions, Cut, Piece, is_instruction_start, DebugAt, code_units, PiecesAt, RegistersAt, ItemFault, Refused, Memory, ArePools, AreRising, NumberedCode, ArePiecesAt, AreStartsAt, NumberedDebug, IsDebugAt}
 use Rattle.dexspec.specs.Code as whole
 use Rattle.dexspec.proofs.wellformed.FormedRows.{length-ushorts_at}
-use Rattle.dexpool.specs.declared.faults.ItemFault.{ItemFault}
-use Rattle.dexpool.specs.declared.faults.ItemFault.TheVariants.{Refused, Memory}
-use Rattle.dexpool.specs.Pools.{ArePools}
-use Rattle.dexpool.specs.Numberings.{AreRising}
-use Rattle.dexinsn.specs.Numbered.{NumberedCode}
-use Rattle.dexinsn.specs.Reading.{ArePiecesAt, AreStartsAt}
-use Rattle.dexdebug.specs.Debug.{NumberedDebug}
-use Rattle.dexdebug.specs.DebugReading.{IsDebugAt}
-use Rattle.dexcode.specs.Numbered.{NumberedTry, try_meant}
-use Rattle.dexcode.specs.Reading.{TryItemsAt, TriesAt, IsTriesFault, IsCodeAt, IsCodeFault}
+use Rattle.dexcode.specs.{NumberedTry, try_meant, TryItemsAt, TriesAt, IsTriesFault, IsCodeAt, IsCodeFault}
 use Rattle.dexcode.specs.internal.Extras.{IsDebugOf}
 use Rattle.dexcode.proofs.Meanings.{tries_encoded}
 use Rattle.dexcode.proofs.TryRows.{IsInRange, items_found, items_back, items_in_range}

@@ -1,19 +1,8 @@
 -- If a part of a handler is missing, there is no handler.
-use Rattle.std.proofs.Common.{◌≡◌, ℕ, ◌+◌, ◌≤◌, Bool, List, [], ◌∷◌, ◌++◌, length, Option, Some, None, refl, ap, sym, subst, ◌∙◌, arith}
-use Rattle.std.specs.Prelude.{ℤ, nat_abs, IfNone}
-use Rattle.std.specs.Option.{IsSome}
-use Rattle.std.proofs.lemmas.List.{length-append}
-use Rattle.dexspec.specs.Lists.{Sequence}
-use Rattle.dexspec.specs.Numbers.{Uleb128At, Sleb128At}
-use Rattle.dexspec.proofs.determined.OneNumber.{one_uleb128, one_sleb128}
-use Rattle.dexspec.proofs.lists.Sequences.{one_sequence}
-use Rattle.dexpool.specs.declared.faults.ItemFault.{ItemFault}
-use Rattle.dexpool.specs.declared.faults.ItemFault.TheVariants.{Refused, Memory}
+use Rattle.dexcode.proofs.Common.{◌≡◌, ℕ, ◌+◌, ◌≤◌, Bool, List, [], ◌∷◌, ◌++◌, length, Option, Some, None, refl, ap, sym, subst, ◌∙◌, arith, ℤ, nat_abs, IfNone, IsSome, length-append, Sequence, Uleb128At, Sleb128At, one_uleb128, one_sleb128, one_sequence, ItemFault, Refused, Memory, one_after}
 use Rattle.dexcode.specs.declared.handlers.Catch.{Catch}
-use Rattle.dexcode.specs.Numbered.{NumberedHandler}
+use Rattle.dexcode.specs.{NumberedHandler, IsStart, IsTriesFault, CatchAt, CatchesRead, CatchAllAt, HandlerAt}
 use Rattle.dexcode.specs.internal.NamedHandlers.{HaveCatches}
-use Rattle.dexcode.specs.Reading.{IsStart, IsTriesFault, CatchAt, CatchesRead, CatchAllAt, HandlerAt}
-use Rattle.dexdebug.proofs.DebugRuns.{one_after}
 use Rattle.dexcode.proofs.OneHandler.{one_catch}
 
 -- a fault has another reason that follows

@@ -1,11 +1,6 @@
 -- Items that are images of others: their offsets are those of the others, and the distinct ones are images of the
 -- distinct others.
-use Rattle.std.proofs.Common.{◌≡◌, ℕ, zero, suc, ◌+◌, ◌<◌, Bool, List, [], ◌∷◌, ◌++◌, length, map, take, drop, get_or, refl, ap, subst, arith}
-use Rattle.std.specs.List.{All, flat_map}
-use Rattle.std.proofs.lemmas.List.{length-map, get_or-map}
-use Rattle.std.proofs.lemmas.List.Elements.{All-nil, All-cons, All-head, All-tail, All-contains, Contains-get_or}
-use Rattle.dexspec.specs.Lists.{Item, Sequence, distinct}
-use Rattle.dexspec.proofs.lists.Distinct.{distinct_mapped}
+use Rattle.dexcode.proofs.Common.{◌≡◌, ℕ, zero, suc, ◌+◌, ◌<◌, Bool, List, [], ◌∷◌, ◌++◌, length, map, take, drop, get_or, refl, ap, subst, arith, All, flat_map, length-map, get_or-map, All-nil, All-cons, All-head, All-tail, All-contains, Contains-get_or, Item, Sequence, distinct, distinct_mapped}
 use Rattle.dexspec.proofs.lists.Sources.{distinct_source}
 
 -- the images of items are at the offsets of the items

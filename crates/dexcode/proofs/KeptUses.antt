@@ -1,28 +1,14 @@
 -- Symbols that are marked are kept, and their numbers have images.
-use Rattle.std.proofs.Common.{◌≡◌, ℕ, ◌<◌, Bool, List, [], ◌∷◌, ◌++◌, length, map, get_or, Option, Some, None, refl, arith}
-use Rattle.std.specs.List.{All, Contains, flat_map}
-use Rattle.std.specs.Option.{IsSome}
+use Rattle.dexcode.proofs.Common.{◌≡◌, ℕ, ◌<◌, Bool, List, [], ◌∷◌, ◌++◌, length, map, get_or, Option, Some, None, refl, arith, All, Contains, flat_map, IsSome, Contains-append_left, Contains-append_right, in_order, text_cmp, Symbol, TextSymbol, TypeSymbol, ProtoSymbol, FieldSymbol, MethodSymbol, proto_cmp, field_cmp, method_cmp, Mentions, closed, texts_in, types_in, protos_in, fields_in, methods_in, text_total, text_exact, proto_total, proto_exact, field_total, field_exact, method_total, method_exact, in_order-has, SymbolKind, Marks, Maps, image, image_of, MapsTo, AllMapTo, AreMarksOf, marked, marked_remapped, Use, marks_of, IsMappedUse, IsMarkedUse}
 use Rattle.std.specs.Cmp.{IsTotalOrder}
 use Rattle.std.specs.FinMap.{IsAntisymmetric}
 use Rattle.std.specs.declared.cmp.Ordering.{Ordering}
-use Rattle.std.proofs.lemmas.List.Elements.{Contains-append_left, Contains-append_right}
-use Rattle.dexspec.specs.Lists.{in_order}
-use Rattle.dexspec.specs.Texts.{text_cmp}
-use Rattle.dexspec.specs.Symbols.{Symbol, TextSymbol, TypeSymbol, ProtoSymbol, FieldSymbol, MethodSymbol, proto_cmp, field_cmp, method_cmp}
-use Rattle.dexspec.specs.Mentions.{Mentions, closed, texts_in, types_in, protos_in, fields_in, methods_in}
 use Rattle.dexspec.proofs.lists.Members.{Contains-first, Contains-flat_map}
 use Rattle.dexspec.proofs.merge.Depths.{Contains-map}
-use Rattle.dexspec.proofs.merge.SymbolOrders.{text_total, text_exact, proto_total, proto_exact, field_total, field_exact, method_total, method_exact}
-use Rattle.dexspec.proofs.lists.InOrder.{in_order-has}
 use Rattle.dexpool.specs.Cut.{kept}
-use Rattle.dexpool.specs.declared.symbols.SymbolKind.{SymbolKind}
 use Rattle.dexpool.specs.declared.symbols.SymbolKind.TheVariants as kinds
-use Rattle.dexpool.specs.declared.marks.Marks.{Marks}
 use Rattle.dexpool.specs.internal.Closing.{IsMarked}
-use Rattle.dexpool.specs.Numberings.{Maps, image, image_of, MapsTo, AllMapTo, AreMarksOf, marked}
 use Rattle.dexpool.proofs.KeptRows.{mark_within, kept_has}
-use Rattle.dexpool.proofs.KeptNumbers.{marked_remapped}
-use Rattle.dexpool.specs.Uses.{Use, marks_of, IsMappedUse, IsMarkedUse}
 
 some_or : (o : Option ℕ) → (o ≡ None → ⊥) → IsSome o
 some_or None h = absurd (h refl)

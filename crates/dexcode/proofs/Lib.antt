@@ -1,3 +1,4 @@
+pub mod Common
 pub mod Prefixes
 pub mod HandlersRead
 pub mod Listed

@@ -1,15 +1,7 @@
 -- Handlers one after the other, and their numbers by the bytes of their list.
-use Rattle.std.proofs.Common.{◌≡◌, ◌≢◌, ℕ, zero, suc, ◌+◌, ◌-◌, ◌<◌, ◌≤◌, ◌^◌, Bool, List, [], ◌∷◌, ◌++◌, length, take, get_or, Option, Some, None, refl, ap, sym, subst, ◌∙◌, inl, inr, arith}
-use Rattle.std.specs.Prelude.{ℤ, unwrap_or}
-use Rattle.std.proofs.lemmas.Bool.{cases_eq, cases_lt}
-use Rattle.std.proofs.lemmas.List.{length-append, get_or_past, take-append-le, take_all}
-use Rattle.dexspec.specs.Lists.{Sequence}
-use Rattle.dexspec.specs.Numbers.{Sleb128At}
-use Rattle.dexspec.proofs.lists.Sequences.{one_sequence}
-use Rattle.dexcode.specs.Numbered.{NumberedHandler}
+use Rattle.dexcode.proofs.Common.{◌≡◌, ◌≢◌, ℕ, zero, suc, ◌+◌, ◌-◌, ◌<◌, ◌≤◌, ◌^◌, Bool, List, [], ◌∷◌, ◌++◌, length, take, get_or, Option, Some, None, refl, ap, sym, subst, ◌∙◌, inl, inr, arith, ℤ, unwrap_or, cases_eq, cases_lt, length-append, get_or_past, take-append-le, take_all, Sequence, Sleb128At, one_sequence, one_after}
+use Rattle.dexcode.specs.{NumberedHandler, HandlerAt, HandlersRead, BeginsAt, AreNumbered, IsNumberPut}
 use Rattle.dexcode.specs.internal.NamedHandlers.{HasHandler}
-use Rattle.dexcode.specs.Reading.{HandlerAt, HandlersRead, BeginsAt, AreNumbered, IsNumberPut}
-use Rattle.dexdebug.proofs.DebugRuns.{one_after}
 use Rattle.dexcode.proofs.OneHandler.{one_handler}
 
 -- a number with a sign takes a byte or more

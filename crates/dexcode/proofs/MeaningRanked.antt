@@ -1,25 +1,11 @@
 -- Numbers are the ranks of what they mean, so code of two numberings, mapped to a third, is the same there just where
 -- it means the same.
-use Rattle.std.proofs.Common.{◌≡◌, ℕ, ◌<◌, [], length, map, Some, None, refl, ap, sym, ◌∙◌}
-use Rattle.std.specs.Prelude.{◌↔◌}
-use Rattle.std.specs.Option.{option_map}
-use Rattle.dexspec.specs.Lists.{rank}
-use Rattle.dexspec.specs.Symbols.{Symbol, TextSymbol, TypeSymbol, ProtoSymbol, FieldSymbol, MethodSymbol, proto_cmp, field_cmp, method_cmp}
-use Rattle.dexspec.specs.Mentions.{Mentions}
-use Rattle.dexspec.specs.Pieces.{Piece}
+use Rattle.dexcode.proofs.Common.{◌≡◌, ℕ, ◌<◌, [], length, map, Some, None, refl, ap, sym, ◌∙◌, ◌↔◌, option_map, rank, Symbol, TextSymbol, TypeSymbol, ProtoSymbol, FieldSymbol, MethodSymbol, proto_cmp, field_cmp, method_cmp, Mentions, Piece, SymbolKind, RanksAreNumbers, Maps, AllMapTo, count_of, NumberedPiece, Instruction, Payload, kind_in, debug_in, IsKnownDebug}
 use Rattle.dexspec.specs.Pieces as pieces
 use Rattle.dexspec.specs.Code as symbolic
-use Rattle.dexpool.specs.declared.symbols.SymbolKind.{SymbolKind}
 use Rattle.dexpool.specs.declared.symbols.SymbolKind.TheVariants as kinds
-use Rattle.dexpool.specs.Laws.{RanksAreNumbers}
-use Rattle.dexpool.specs.Numberings.{Maps, AllMapTo}
-use Rattle.dexpool.specs.Pools.{count_of}
-use Rattle.dexinsn.specs.Numbered.{NumberedPiece, Instruction, Payload, kind_in}
 use Rattle.dexcode.specs.declared.handlers.Catch.{Catch}
-use Rattle.dexdebug.specs.Meaning.{debug_in, IsKnownDebug}
-use Rattle.dexcode.specs.Meaning.{symbol_at, piece_in, code_in, IsKnownPiece, IsKnownTry, IsKnownCode}
-use Rattle.dexcode.specs.Numbered.{NumberedTry, NumberedItem, catch_meant, try_meant}
-use Rattle.dexcode.specs.Renumbering.{HasImages, renumbered_item}
+use Rattle.dexcode.specs.{symbol_at, piece_in, code_in, IsKnownPiece, IsKnownTry, IsKnownCode, NumberedTry, NumberedItem, catch_meant, try_meant, HasImages, renumbered_item}
 use Rattle.dexcode.proofs.CodeMeanings as codes_remapped
 use Rattle.dexcode.proofs.Meanings.{code_known, code_means, code_encoded}
 use Rattle.dexdebug.proofs.DebugRanked.{all_back, one_back, text_rank, type_rank, ranked_debug, debug_back}

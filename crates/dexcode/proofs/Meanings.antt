@@ -1,23 +1,10 @@
 -- What numbered code means, as a function.
-use Rattle.std.proofs.Common.{◌≡◌, ℕ, ◌<◌, List, [], length, map, Option, Some, None, refl, ap, sym, subst}
-use Rattle.std.specs.List.{All, AllZip}
-use Rattle.std.specs.Option.{IsSome, option_map_or}
-use Rattle.std.proofs.lemmas.List.Elements.{All-map}
-use Rattle.dexspec.specs.Symbols.{Pool, StringPool, TypePool, ProtoPool, FieldPool, MethodPool, Symbol, TextSymbol, TypeSymbol, ProtoSymbol, FieldSymbol, MethodSymbol, pool_of}
-use Rattle.dexspec.specs.Pieces.{Piece, index_pool}
+use Rattle.dexcode.proofs.Common.{◌≡◌, ℕ, ◌<◌, List, [], length, map, Option, Some, None, refl, ap, sym, subst, All, AllZip, IsSome, option_map_or, All-map, Pool, StringPool, TypePool, ProtoPool, FieldPool, MethodPool, Symbol, TextSymbol, TypeSymbol, ProtoSymbol, FieldSymbol, MethodSymbol, pool_of, Piece, index_pool, Mentions, SymbolKind, IsNumbered, count_of, NumberedPiece, Instruction, Payload, Denotes, kind_of_pool, DenotesDebug, debug_in, IsKnownDebug}
 use Rattle.dexspec.specs.Pieces as pieces
-use Rattle.dexspec.specs.Mentions.{Mentions}
 use Rattle.dexspec.specs.Code as symbolic
-use Rattle.dexpool.specs.declared.symbols.SymbolKind.{SymbolKind}
 use Rattle.dexpool.specs.declared.symbols.SymbolKind.TheVariants as kinds
-use Rattle.dexpool.specs.Numberings.{IsNumbered}
-use Rattle.dexpool.specs.Pools.{count_of}
-use Rattle.dexinsn.specs.Numbered.{NumberedPiece, Instruction, Payload, Denotes, kind_of_pool}
 use Rattle.dexcode.specs.declared.handlers.Catch.{Catch}
-use Rattle.dexdebug.specs.Debug.{DenotesDebug}
-use Rattle.dexdebug.specs.Meaning.{debug_in, IsKnownDebug}
-use Rattle.dexcode.specs.Meaning.{symbol_at, piece_in, code_in, IsKnownPiece, IsKnownTry, IsKnownCode}
-use Rattle.dexcode.specs.Numbered.{NumberedTry, NumberedItem, DenotesCatch, DenotesTry, DenotesCode, catch_meant, try_meant}
+use Rattle.dexcode.specs.{symbol_at, piece_in, code_in, IsKnownPiece, IsKnownTry, IsKnownCode, NumberedTry, NumberedItem, DenotesCatch, DenotesTry, DenotesCode, catch_meant, try_meant}
 use Rattle.dexdebug.proofs.MeaningDebug.{all_known, all_mean, all_encoded, one_known, one_means, one_encoded, at_place, debug_known, debug_means, debug_encoded}
 use Rattle.dexcode.proofs.TryRows.{IsInRange}
 use Rattle.dexcode.proofs.Images.{all_back_map}

@@ -1,21 +1,11 @@
 -- Tries and the list of the handlers that they name.
-use Rattle.std.proofs.Common.{◌≡◌, ℕ, ◌+◌, ◌<◌, Bool, List, [], ◌∷◌, ◌++◌, length, map, get_or, All, Option, None, refl, ap, sym, ◌∙◌, subst, inl, inr, take, if◌then◌else◌, arith}
-use Rattle.std.specs.Prelude.{unwrap_or}
-use Rattle.std.specs.List.{Contains}
-use Rattle.std.proofs.lemmas.Bool.{cases_eq}
+use Rattle.dexcode.proofs.Common.{◌≡◌, ℕ, ◌+◌, ◌<◌, Bool, List, [], ◌∷◌, ◌++◌, length, map, get_or, All, Option, None, refl, ap, sym, ◌∙◌, subst, inl, inr, take, if◌then◌else◌, arith, unwrap_or, Contains, cases_eq, length-append, get_or_append_left, map-append, map_more, Contains-get_or, All-nil, All-head, All-tail, All-push, All-weaker, insert_key, distinct, insert_grows, distinct_more}
 use Rattle.std.proofs.lemmas.Map.Views.{list_any-from_Contains}
-use Rattle.std.proofs.lemmas.List.{length-append, get_or_append_left, map-append, map_more}
-use Rattle.std.proofs.lemmas.List.Elements.{Contains-get_or, All-nil, All-head, All-tail, All-push, All-weaker}
-use Rattle.indexmap.specs.IndexSet.{insert_key}
 use Rattle.dexcode.specs.declared.tries.Try.{Try}
-use Rattle.dexspec.specs.Lists.{distinct}
-use Rattle.dexcode.specs.Numbered.{NumberedHandler, NumberedTry, IsFormedHandler, no_handler, named, all_named, handlers_of, same_handler}
-use Rattle.dexcode.specs.Equality.{handler_decides, handler_equiv}
+use Rattle.dexcode.specs.{NumberedHandler, NumberedTry, IsFormedHandler, no_handler, named, all_named, handlers_of, same_handler, handler_decides, handler_equiv, HandlerAt}
 use Rattle.dexcode.specs.internal.NamedHandlers.{AreKnown, IsHandlerAt, IsPutAt}
-use Rattle.dexcode.specs.Reading.{HandlerAt}
 use Rattle.dexcode.proofs.Listed.{no_number}
 use Rattle.dexcode.proofs.OneHandler.{one_handler}
-use Rattle.dexspec.proofs.lists.Distinct.{insert_grows, distinct_more}
 
 -- a handler that is there is not added
 pub insert_there : (hs : List NumberedHandler) (h d : NumberedHandler) (k : ℕ) → k < length hs → get_or hs k d ≡ h → insert_key same_handler hs h ≡ hs

@@ -1,14 +1,7 @@
 -- There is at most one handler at an offset, and it has one size.
-use Rattle.std.proofs.Common.{◌≡◌, ℕ, ◌+◌, Bool, List, length, Option, Some, None, refl, ap, sym, subst, ◌∙◌, arith}
-use Rattle.std.specs.Prelude.{ℤ, nat_abs}
-use Rattle.std.proofs.lemmas.Int.{ints}
-use Rattle.dexspec.specs.Lists.{Sequence}
-use Rattle.dexspec.specs.Numbers.{Uleb128At}
-use Rattle.dexspec.proofs.determined.OneNumber.{one_uleb128, one_sleb128}
-use Rattle.dexspec.proofs.lists.Sequences.{one_sequence}
+use Rattle.dexcode.proofs.Common.{◌≡◌, ℕ, ◌+◌, Bool, List, length, Option, Some, None, refl, ap, sym, subst, ◌∙◌, arith, ℤ, nat_abs, ints, Sequence, Uleb128At, one_uleb128, one_sleb128, one_sequence}
 use Rattle.dexcode.specs.declared.handlers.Catch.{Catch}
-use Rattle.dexcode.specs.Numbered.{NumberedHandler}
-use Rattle.dexcode.specs.Reading.{CatchAt, CatchAllAt, HandlerAt}
+use Rattle.dexcode.specs.{NumberedHandler, CatchAt, CatchAllAt, HandlerAt}
 
 -- one address for all else, or none
 pub one_catch_all : (starts : List Bool) (size : ℤ) (b : List ℕ) (o : ℕ) (c d : Option ℕ) (n k : ℕ) → CatchAllAt starts size b o c n → CatchAllAt starts size b o d k → (c ≡ d) × (n ≡ k)

@@ -1,10 +1,7 @@
 -- Tries that name handlers by their numbers: there is at most one at an offset; they do not overlap.
-use Rattle.std.proofs.Common.{◌≡◌, ℕ, ◌+◌, ◌<◌, ◌≤◌, List, [], ◌∷◌, ◌++◌, length, Option, refl, ap, sym, subst, ◌∙◌, arith}
-use Rattle.std.specs.Prelude.{unwrap_or}
-use Rattle.std.proofs.lemmas.List.{length-append}
-use Rattle.dexspec.specs.Lists.{Sequence}
+use Rattle.dexcode.proofs.Common.{◌≡◌, ℕ, ◌+◌, ◌<◌, ◌≤◌, List, [], ◌∷◌, ◌++◌, length, Option, refl, ap, sym, subst, ◌∙◌, arith, unwrap_or, length-append, Sequence}
 use Rattle.dexcode.specs.declared.tries.Try.{Try}
-use Rattle.dexcode.specs.Reading.{ListedTryAt, AreApartFrom}
+use Rattle.dexcode.specs.{ListedTryAt, AreApartFrom}
 use Rattle.dexcode.proofs.Prefixes.{same_prefix}
 
 -- one try

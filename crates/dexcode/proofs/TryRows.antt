@@ -1,30 +1,11 @@
 -- Tries and handlers with numbers are where those with types are whose rows have these numbers.
-use Rattle.std.proofs.Common.{◌≡◌, ℕ, suc, ◌+◌, ◌*◌, ◌<◌, ◌≤◌, Bool, false, List, [], ◌∷◌, ◌++◌, length, map, take, drop, get_or, Option, Some, None, refl, ap, sym, subst, ◌∙◌, arith}
-use Rattle.std.specs.Prelude.{ℤ, pos}
-use Rattle.std.specs.Bool.{one_answer}
-use Rattle.std.specs.List.{All}
-use Rattle.std.proofs.lemmas.List.Elements.{All-map, All-head, All-tail}
-use Rattle.std.proofs.lemmas.List.{length-map, length-append, map-append, get_or-map, get_or_default}
-use Rattle.std.proofs.lemmas.Simd.{map-map}
-use Rattle.dexspec.specs.Lists.{Sequence, distinct, rank}
-use Rattle.dexspec.specs.Numbers.{Uleb128At}
-use Rattle.dexspec.specs.Texts.{Text, text_cmp}
-use Rattle.dexspec.specs.Pieces.{Cut, is_instruction_start}
-use Rattle.dexspec.specs.Mentions.{Mentions}
+use Rattle.dexcode.proofs.Common.{◌≡◌, ℕ, suc, ◌+◌, ◌*◌, ◌<◌, ◌≤◌, Bool, false, List, [], ◌∷◌, ◌++◌, length, map, take, drop, get_or, Option, Some, None, refl, ap, sym, subst, ◌∙◌, arith, ℤ, pos, one_answer, All, All-map, All-head, All-tail, length-map, length-append, map-append, get_or-map, get_or_default, map-map, Sequence, distinct, rank, Uleb128At, Text, text_cmp, Cut, is_instruction_start, Mentions, Rises-from_rises, rank-get_or, text_total, one_sequence, sum_by-mapped, ArePools, AreRising}
 use Rattle.dexspec.specs.Code as symbolic
-use Rattle.dexspec.proofs.lists.InOrder.{Rises-from_rises, rank-get_or}
-use Rattle.dexspec.proofs.merge.SymbolOrders.{text_total}
 use Rattle.dexspec.proofs.determined.OneRow.{one_type}
 use Rattle.dexspec.proofs.determined.OneCode as one
-use Rattle.dexspec.proofs.lists.Sequences.{one_sequence}
 use Rattle.dexspec.proofs.written.HandlerPlaces.{handler_decides as symbolic_decides}
-use Rattle.dexpool.proofs.Weighing.{sum_by-mapped}
-use Rattle.dexpool.specs.Pools.{ArePools}
-use Rattle.dexpool.specs.Numberings.{AreRising}
 use Rattle.dexcode.specs.declared.handlers.Catch.{Catch}
-use Rattle.dexcode.specs.Equality.{handler_decides}
-use Rattle.dexcode.specs.Numbered.{NumberedHandler, NumberedTry, no_handler, catch_meant, handler_meant, try_meant, same_handler, handlers_of, handlers_weight}
-use Rattle.dexcode.specs.Reading.{CatchAt, CatchAllAt, HandlerAt, IsHandler, TryAt, AreApart, TryItemsAt}
+use Rattle.dexcode.specs.{handler_decides, NumberedHandler, NumberedTry, no_handler, catch_meant, handler_meant, try_meant, same_handler, handlers_of, handlers_weight, CatchAt, CatchAllAt, HandlerAt, IsHandler, TryAt, AreApart, TryItemsAt}
 use Rattle.dexcode.proofs.Images.{seq_map, seq_back, seq_take, seq_all, split_at, distinct_map}
 
 -- ---- weight

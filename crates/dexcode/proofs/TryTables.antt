@@ -1,16 +1,8 @@
 -- Tries that name handlers by their numbers are the try_items at their offset.
-use Rattle.std.proofs.Common.{◌≡◌, ℕ, zero, suc, ◌+◌, ◌*◌, ◌^◌, ◌<◌, ◌≤◌, Bool, List, [], ◌∷◌, length, take, drop, get_or, Option, refl, ap, sym, subst, ◌∙◌, arith}
-use Rattle.std.proofs.lemmas.List.{length-drop, length-map, get_or-drop, get_or_default}
-use Rattle.std.specs.List.{All}
-use Rattle.dexspec.specs.Lists.{Sequence}
-use Rattle.dexspec.specs.Bytes.{number_of, ushort_at}
-use Rattle.dexspec.specs.Code.{most_handlers}
-use Rattle.dexspec.proofs.determined.OneNumber.{one_uleb128}
-use Rattle.dexspec.proofs.lists.Sequences.{one_sequence}
+use Rattle.dexcode.proofs.Common.{◌≡◌, ℕ, zero, suc, ◌+◌, ◌*◌, ◌^◌, ◌<◌, ◌≤◌, Bool, List, [], ◌∷◌, length, take, drop, get_or, Option, refl, ap, sym, subst, ◌∙◌, arith, length-drop, length-map, get_or-drop, get_or_default, All, Sequence, number_of, ushort_at, most_handlers, one_uleb128, one_sequence}
 use Rattle.dexcode.specs.declared.tries.Try.{Try}
-use Rattle.dexcode.specs.Numbered.{NumberedHandler, NumberedTry, IsFormedHandler, no_handler, named, all_named, handlers_of, handlers_weight}
+use Rattle.dexcode.specs.{NumberedHandler, NumberedTry, IsFormedHandler, no_handler, named, all_named, handlers_of, handlers_weight, HandlerAt, IsListAt, TryAt, ListedTryAt, AreApart, AreApartFrom, TriesRead, TryItemsAt}
 use Rattle.dexcode.specs.internal.NamedHandlers.{IsHandlerAt, AreListed}
-use Rattle.dexcode.specs.Reading.{HandlerAt, IsListAt, TryAt, ListedTryAt, AreApart, AreApartFrom, TriesRead, TryItemsAt}
 use Rattle.dexcode.proofs.Images.{seq_map, seq_back, seq_all}
 use Rattle.dexcode.proofs.Listed.{handler_some, sleb_some}
 use Rattle.dexcode.proofs.OneHandler.{one_handler}

@@ -1,24 +1,9 @@
 -- The types of handlers, remapped: which handlers stay distinct, and what tries name then.
-use Rattle.std.proofs.Common.{◌≡◌, ℕ, ◌+◌, ◌*◌, ◌<◌, Bool, List, [], ◌∷◌, length, map, get_or, Some, refl, ap, sym, ◌∙◌, subst, arith, inl, inr}
-use Rattle.std.specs.Bool.{Decides, one_answer}
-use Rattle.std.specs.Option.{unwrap_or}
-use Rattle.std.specs.List.{All, flat_map}
-use Rattle.std.proofs.lemmas.Bool.{cases_lt}
-use Rattle.std.proofs.lemmas.List.{length-map, get_or-map}
-use Rattle.std.proofs.lemmas.List.Elements.{All-head, All-tail, All-contains, Contains-get_or}
-use Rattle.std.proofs.lemmas.Simd.{map-map}
-use Rattle.dexspec.proofs.lists.Distinct.{distinct_has}
-use Rattle.dexspec.specs.Lists.{distinct}
+use Rattle.dexcode.proofs.Common.{◌≡◌, ℕ, ◌+◌, ◌*◌, ◌<◌, Bool, List, [], ◌∷◌, length, map, get_or, Some, refl, ap, sym, ◌∙◌, subst, arith, inl, inr, Decides, one_answer, unwrap_or, All, flat_map, cases_lt, length-map, get_or-map, All-head, All-tail, All-contains, Contains-get_or, map-map, distinct_has, distinct, Maps, KeepOrder, all_parts, sum_by-mapped}
 use Rattle.dexpool.specs.declared.symbols.SymbolKind.TheVariants as kinds
-use Rattle.dexpool.specs.Numberings.{Maps}
-use Rattle.dexpool.specs.Orderly.{KeepOrder}
 use Rattle.dexcode.specs.declared.handlers.Catch.{Catch}
 use Rattle.dexcode.specs.declared.tries.Try.{Try}
-use Rattle.dexcode.specs.Equality.{handler_decides}
-use Rattle.dexcode.specs.Numbered.{NumberedHandler, NumberedTry, AreStored, same_handler, handlers_of, handlers_weight, no_handler, named, all_named}
-use Rattle.dexcode.specs.Renumbering.{catch_use, handler_uses, tries_uses, HasTypePlace, AreTypesApart, remapped_type, remapped_try, renumbered_catch, renumbered_handler, renumbered_try}
-use Rattle.dexpool.proofs.Parts.{all_parts}
-use Rattle.dexpool.proofs.Weighing.{sum_by-mapped}
+use Rattle.dexcode.specs.{handler_decides, NumberedHandler, NumberedTry, AreStored, same_handler, handlers_of, handlers_weight, no_handler, named, all_named, catch_use, handler_uses, tries_uses, HasTypePlace, AreTypesApart, remapped_type, remapped_try, renumbered_catch, renumbered_handler, renumbered_try}
 use Rattle.dexcode.proofs.Images.{distinct_map}
 use Rattle.dexcode.proofs.Whole.{formed_remapped}
 

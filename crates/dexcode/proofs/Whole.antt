@@ -1,18 +1,7 @@
 -- Handlers that catch no type have an address for all else, and the numbers of types have 32 bits.
-use Rattle.std.proofs.Common.{◌≡◌, ℕ, ◌+◌, ◌<◌, Bool, true, false, List, [], ◌∷◌, ◌++◌, length, map, get_or, ◌^◌, subst, sym, ap, if◌then◌else◌, arith}
-use Rattle.std.proofs.lemmas.Int.{ints}
-use Rattle.std.specs.List.{All, list_any}
-use Rattle.std.proofs.lemmas.List.Elements.{All-map, All-push, All-get_or}
-use Rattle.std.proofs.lemmas.List.{length-map}
-use Rattle.std.specs.Option.{unwrap_or}
-use Rattle.indexmap.specs.IndexSet.{insert_key}
-use Rattle.dexspec.specs.Lists.{Sequence}
-use Rattle.dexpool.specs.Numberings.{Maps}
+use Rattle.dexcode.proofs.Common.{◌≡◌, ℕ, ◌+◌, ◌<◌, Bool, true, false, List, [], ◌∷◌, ◌++◌, length, map, get_or, ◌^◌, subst, sym, ap, if◌then◌else◌, arith, ints, All, list_any, All-map, All-push, All-get_or, length-map, unwrap_or, insert_key, Sequence, Maps, all_map}
 use Rattle.dexcode.specs.declared.handlers.Catch.{Catch}
-use Rattle.dexcode.specs.Numbered.{NumberedHandler, IsWhole, IsFormedHandler, same_handler, no_handler}
-use Rattle.dexcode.specs.Reading.{CatchAt, CatchAllAt, HandlerAt}
-use Rattle.dexcode.specs.Renumbering.{catch_use, handler_uses, HasTypePlace, remapped_type, renumbered_catch, renumbered_handler}
-use Rattle.dexpool.proofs.Parts.{all_map}
+use Rattle.dexcode.specs.{NumberedHandler, IsWhole, IsFormedHandler, same_handler, no_handler, CatchAt, CatchAllAt, HandlerAt, catch_use, handler_uses, HasTypePlace, remapped_type, renumbered_catch, renumbered_handler}
 use Rattle.dexcode.proofs.Images.{all_back_map, seq_all}
 
 -- a handler that was read is whole

@@ -7,3 +7,11 @@ pub mod Numbered
 pub mod Reading
 pub mod Renumbering
 pub mod internal
+unfoldable pub use Checking.*
+unfoldable pub use CodePut.*
+unfoldable pub use Equality.*
+unfoldable pub use Laws.*
+unfoldable pub use Meaning.*
+unfoldable pub use Numbered.*
+unfoldable pub use Reading.*
+unfoldable pub use Renumbering.*

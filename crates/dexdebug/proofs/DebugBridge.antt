@@ -1,25 +1,15 @@
 -- Debug programs by the rows of their symbols and by the numbers of these.
-use Rattle.std.proofs.Common.{◌≡◌, ℕ, ◌+◌, ◌<◌, ◌≤◌, List, [], ◌∷◌, length, take, drop, get_or, length-take, length-drop, Option, Some, None, refl, sym, subst, arith}
-use Rattle.std.specs.List.{AllZip}
-use Rattle.std.proofs.lemmas.List.{get_or_default}
-use Rattle.std.specs.Prelude.{◌-◌, ◌^◌, Result, Ok, Err, IfOk, MatchOption}
-use Rattle.dexspec.specs.Lists.{Sequence, BothOrNone}
-use Rattle.dexspec.specs.Bytes.{BytesAt}
-use Rattle.dexspec.specs.Numbers.{Uleb128At, Uleb128p1At, IsChain}
-use Rattle.dexspec.specs.Texts.{Text}
+use Rattle.dexdebug.proofs.Common.{◌≡◌, ℕ, ◌+◌, ◌<◌, ◌≤◌, List, [], ◌∷◌, length, take, drop, get_or, length-take, length-drop, Option, Some, None, refl, sym, subst, arith, AllZip, get_or_default, ◌-◌, ◌^◌, Result, Ok, Err, IfOk, MatchOption, Sequence, BothOrNone, BytesAt, Uleb128At, Uleb128p1At, IsChain, Text, Mentions, IsAt}
 use Rattle.dexspec.specs.Header.{data_off}
 use Rattle.dexspec.specs.Rows.{StringRow, TypeRow}
 use Rattle.dexspec.specs.Debug as symbolic
-use Rattle.dexspec.specs.Mentions.{Mentions}
 use Rattle.dexpool.specs.declared.faults.ItemFault.{ItemFault}
-use Rattle.dexpool.specs.Numberings.{IsAt}
 use Rattle.dexpool.specs.Pools.{ArePools}
 use Rattle.dexdebug.specs.declared.debug_operation.Operation.{Operation}
 use Rattle.dexdebug.specs.declared.debug_operation.Operation.TheVariants.{AdvancePc, AdvanceLine, StartLocal, StartLocalExtended, EndLocal, RestartLocal, SetPrologueEnd, SetEpilogueBegin, SetFile, Special}
 use Rattle.dexdebug.specs.declared.debug_reading.DebugShape.{DebugShape}
 use Rattle.dexdebug.proofs.DebugWeights.{weight_is}
-use Rattle.dexdebug.specs.Debug.{NumberedDebug, DenotesText, DenotesType, DenotesOperation}
-use Rattle.dexdebug.specs.DebugReading.{IsDebugAt, IndexAt, OperandsAt, NumberedAt, NamesAt, ProgramAt, NumberedDebugAt, IsShape, IsShapeAt, HasDebugOf, HasNoDebug, counts_of}
+use Rattle.dexdebug.specs.{NumberedDebug, DenotesText, DenotesType, DenotesOperation, IsDebugAt, IndexAt, OperandsAt, NumberedAt, NamesAt, ProgramAt, NumberedDebugAt, IsShape, IsShapeAt, HasDebugOf, HasNoDebug, counts_of}
 
 -- the number of each symbol is its row
 member_at : {X : Type 0} (xs : List X) (i : ℕ) (d : X) → i < length xs → IsAt xs i (get_or xs i d)

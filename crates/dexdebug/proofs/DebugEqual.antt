@@ -1,13 +1,9 @@
 -- Debug programs that are equal are the same.
-use Rattle.std.proofs.Common.{◌≡◌, ◌==◌, ◌&&◌, Bool, ap}
+use Rattle.dexdebug.proofs.Common.{◌≡◌, ◌==◌, ◌&&◌, Bool, ap, pointwise, pointwise_decides, option_eq}
 use Rattle.std.specs.Bool.{Decides}
 use Rattle.std.specs.Cmp.{unsigned_Decides, first_so, second_so}
-use Rattle.std.specs.Cmp.Lexicographic.{pointwise, pointwise_decides}
-use Rattle.std.specs.Option.{option_eq}
 use Rattle.dexdebug.specs.declared.debug_operation.Operation.{Operation}
-use Rattle.dexdebug.specs.Debug.{NumberedDebug}
-use Rattle.dexdebug.specs.DebugEquality.{same_debug}
-use Rattle.dexdebug.specs.Equality.{both, option_decides}
+use Rattle.dexdebug.specs.{NumberedDebug, same_debug, both, option_decides}
 
 pub debug_decides : (operation : Operation → Operation → Bool) → ((x y : Operation) → Decides (operation x y) (x ≡ y)) → (d e : NumberedDebug) → Decides (same_debug operation d e) (d ≡ e)
 debug_decides operation operations_decided d e =

@@ -1,34 +1,19 @@
 -- What the numbers in debug programs denote.
-use Rattle.std.proofs.Common.{◌≡◌, ℕ, ◌+◌, ◌*◌, ◌≤◌, List, [], ◌∷◌, ◌++◌, length, map, get_or, Option, Some, None, refl, ap, sym, ◌∙◌, subst, arith, length-append}
-use Rattle.std.specs.Prelude.{ℤ, pos, ◌+ℤ◌, sum_by, if◌then◌else◌}
-use Rattle.std.specs.List.{All, AllZip, flat_map}
-use Rattle.std.specs.Option.{IsSome}
-use Rattle.std.proofs.lemmas.List.{append-nil}
-use Rattle.std.proofs.lemmas.List.Elements.{All-nil, All-cons, All-head, All-tail, All-append}
+use Rattle.dexdebug.proofs.Common.{◌≡◌, ℕ, ◌+◌, ◌*◌, ◌≤◌, List, [], ◌∷◌, ◌++◌, length, map, get_or, Option, Some, None, refl, ap, sym, ◌∙◌, subst, arith, length-append, ℤ, pos, ◌+ℤ◌, sum_by, if◌then◌else◌, All, AllZip, flat_map, IsSome, append-nil, All-nil, All-cons, All-head, All-tail, All-append, sum_by-le-sum_by, sum_by-cons, rank, plus_one, uleb128, sleb128, uleb128p1, Text, text_cmp, Mentions, optional_text, optional_type, operation_symbols, debug_symbols, operands, debug_weight, sum_by-at_most, IsAt, AreRising, AreMarksOf, Maps, image_of, MapsTo, AllMapTo, Use, HasMark, IsUseOf, IsMappedUse, all_prefix, all_back}
 use Rattle.std.proofs.lemmas.List.Concat.{length-flat_map}
-use Rattle.std.proofs.lemmas.List.Sums.{sum_by-le-sum_by, sum_by-cons}
-use Rattle.dexspec.specs.Lists.{rank}
-use Rattle.dexspec.specs.Numbers.{plus_one, uleb128, sleb128, uleb128p1}
-use Rattle.dexspec.specs.Texts.{Text, text_cmp}
 use Rattle.dexspec.specs.Symbols.{Symbol}
 use Rattle.dexspec.specs.Debug as symbolic
 use Rattle.dexdebug.specs.Positions as recorded
-use Rattle.dexspec.specs.Mentions.{Mentions, optional_text, optional_type, operation_symbols, debug_symbols}
 use Rattle.dexspec.specs.Spellings.{text_index, type_index, optional_text_bytes, optional_type_bytes, operation_bytes, debug_bytes}
-use Rattle.dexspec.specs.Weight.{operands, debug_weight}
 use Rattle.dexspec.proofs.lists.InOrder.{Rises-from_rises, rank-get_or}
 use Rattle.dexspec.proofs.merge.SymbolOrders.{text_total}
 use Rattle.dexspec.proofs.size.SizeItems.{uleb128-size, sleb128-size}
-use Rattle.dexspec.proofs.size.SizeSums.{sum_by-at_most}
 use Rattle.dexpool.specs.declared.symbols.SymbolKind.TheVariants as kinds
 use Rattle.dexpool.specs.declared.marks.Marks.{Marks}
-use Rattle.dexpool.specs.Numberings.{IsAt, AreRising, AreMarksOf, Maps, image_of, MapsTo, AllMapTo}
-use Rattle.dexpool.specs.Uses.{Use, HasMark, IsUseOf, IsMappedUse}
 use Rattle.dexdebug.specs.declared.debug_operation.Operation.{Operation}
 use Rattle.dexdebug.specs.declared.debug_operation.Operation.TheVariants.{AdvancePc, AdvanceLine, StartLocal, StartLocalExtended, EndLocal, RestartLocal, SetPrologueEnd, SetEpilogueBegin, SetFile, Special}
-use Rattle.dexdebug.specs.Debug.{NumberedDebug, DenotesText, DenotesType, DenotesOperation, DenotesDebug, unindexed_operation, unindexed, operation_weight, numbered_operation_bytes, numbered_debug_bytes, number_uses, operation_uses, debug_uses, HasPlace, image_or_none, renumbered_operation, renumbered_debug, name_of, type_of, signature_of}
+use Rattle.dexdebug.specs.{NumberedDebug, DenotesText, DenotesType, DenotesOperation, DenotesDebug, unindexed_operation, unindexed, operation_weight, numbered_operation_bytes, numbered_debug_bytes, number_uses, operation_uses, debug_uses, HasPlace, image_or_none, renumbered_operation, renumbered_debug, name_of, type_of, signature_of}
 use Rattle.dexdebug.proofs.DebugUses.{use_of}
-use Rattle.dexpool.proofs.Parts.{all_prefix, all_back}
 use Rattle.dexdebug.proofs.DebugWeights.{weight_is}
 
 -- ---- the bytes
@@ -41,15 +26,13 @@ type_is m n s r h = ap (λ t. rank text_cmp t m.types) (sym (h.is [])) ∙ rank-
 
 text_bytes : (m : Mentions) (i : Option ℕ) (s : Option Text) → AreRising m → DenotesText m i s → uleb128p1 i ≡ optional_text_bytes m s
 text_bytes m None None r h = refl
-text_bytes m None (Some s) r h = absurd h
-text_bytes m (Some n) None r h = absurd h
 text_bytes m (Some n) (Some s) r h = ap (λ (k : ℕ). uleb128p1 (Some k)) (sym (text_is m n s r h))
+text_bytes m _ _ r h = absurd h
 
 type_bytes : (m : Mentions) (i : Option ℕ) (t : Option Text) → AreRising m → DenotesType m i t → uleb128p1 i ≡ optional_type_bytes m t
 type_bytes m None None r h = refl
-type_bytes m None (Some t) r h = absurd h
-type_bytes m (Some n) None r h = absurd h
 type_bytes m (Some n) (Some t) r h = ap (λ (k : ℕ). uleb128p1 (Some k)) (sym (type_is m n t r h))
+type_bytes m _ _ r h = absurd h
 
 operation_is : (m : Mentions) (op : Operation) (x : symbolic.Operation) → AreRising m → DenotesOperation m op x → numbered_operation_bytes op ≡ operation_bytes m x
 operation_is m (AdvancePc addresses) (symbolic.AdvancePc others) r h = ap (λ (k : ℕ). 0x01 ∷ uleb128 k) h
@@ -69,15 +52,13 @@ operation_is m _ _ r h = absurd h
 -- bytes of lists of which one denotes the other
 joined_is : {X Y : Type 0} (R : X → Y → Type 0) (f : X → List ℕ) (g : Y → List ℕ) (xs : List X) (ys : List Y) → ((x : X) (y : Y) → R x y → f x ≡ g y) → AllZip R xs ys → flat_map f xs ≡ flat_map g ys
 joined_is R f g [] [] same h = refl
-joined_is R f g [] (y ∷ ys) same h = absurd h
-joined_is R f g (x ∷ xs) [] same h = absurd h
 joined_is R f g (x ∷ xs) (y ∷ ys) same h = λ i. same x y h.0 i ++ joined_is R f g xs ys same h.1 i
+joined_is _ f g _ _ same h = absurd h
 
 same_count : {X Y : Type 0} (R : X → Y → Type 0) (xs : List X) (ys : List Y) → AllZip R xs ys → length xs ≡ length ys
 same_count R [] [] h = refl
-same_count R [] (y ∷ ys) h = absurd h
-same_count R (x ∷ xs) [] h = absurd h
 same_count R (x ∷ xs) (y ∷ ys) h = omega (arith, same_count R xs ys h.1)
+same_count _ _ _ h = absurd h
 
 pub bytes_are : (m : Mentions) (d : NumberedDebug) (x : symbolic.Debug) → AreRising m → DenotesDebug m d x → numbered_debug_bytes d ≡ debug_bytes m x
 unfolding numbered_debug_bytes debug_bytes
@@ -138,15 +119,7 @@ bytes_few d =
 -- an operation has four operands at most
 operation-light : (op : Operation) → operation_weight op ≤ 21
 operation-light (AdvancePc addresses) = omega arith
-operation-light (AdvanceLine lines) = omega arith
-operation-light (StartLocal register name typ) = omega arith
-operation-light (StartLocalExtended register name typ signature) = omega arith
-operation-light (EndLocal register) = omega arith
-operation-light (RestartLocal register) = omega arith
-operation-light SetPrologueEnd = omega arith
-operation-light SetEpilogueBegin = omega arith
-operation-light (SetFile name) = omega arith
-operation-light (Special opcode) = omega arith
+operation-light _ = omega arith
 
 -- no more bytes than five for each name and 21 for each operation
 pub bytes_most : (d : NumberedDebug) → length (numbered_debug_bytes d) ≤ 11 + 5 * length d.parameter_names + 21 * length d.operations
@@ -227,15 +200,13 @@ type_remapped m n r i (Some j) t l e some h = mapped_at m.types n.types r.types 
 module _ (m n : Mentions) (r : Maps) (l : AllMapTo m n r) where
   texts_remapped : (i : Option ℕ) (s : Option Text) → All (IsMappedUse r) (number_uses kinds.Text i) → DenotesText m i s → DenotesText n (image_or_none r kinds.Text i) s
   texts_remapped None None all h = tt
-  texts_remapped None (Some s) all h = absurd h
-  texts_remapped (Some i) None all h = absurd h
   texts_remapped (Some i) (Some s) all h = text_remapped m n r i (image_of r kinds.Text i) s l refl (use_of (IsMappedUse r) kinds.Text (Some i) i all refl) h
+  texts_remapped _ _ all h = absurd h
 
   types_remapped : (i : Option ℕ) (t : Option Text) → All (IsMappedUse r) (number_uses kinds.Typ i) → DenotesType m i t → DenotesType n (image_or_none r kinds.Typ i) t
   types_remapped None None all h = tt
-  types_remapped None (Some t) all h = absurd h
-  types_remapped (Some i) None all h = absurd h
   types_remapped (Some i) (Some t) all h = type_remapped m n r i (image_of r kinds.Typ i) t l refl (use_of (IsMappedUse r) kinds.Typ (Some i) i all refl) h
+  types_remapped _ _ all h = absurd h
 
   operation_remapped : (op : Operation) (x : symbolic.Operation) → All (IsMappedUse r) (number_uses kinds.Text (name_of op)) → All (IsMappedUse r) (number_uses kinds.Typ (type_of op)) → All (IsMappedUse r) (number_uses kinds.Text (signature_of op)) → DenotesOperation m op x → DenotesOperation n (renumbered_operation r op) x
   operation_remapped (AdvancePc addresses) (symbolic.AdvancePc others) name typ signature h = h
@@ -290,22 +261,19 @@ images_of_places r d h = images_of r (debug_uses d) h
 
 pub zip-append : {X Y : Type 0} (R : X → Y → Type 0) (xs : List X) (ys : List Y) (us : List X) (vs : List Y) → AllZip R xs ys → AllZip R us vs → AllZip R (xs ++ us) (ys ++ vs)
 zip-append R [] [] us vs h g = g
-zip-append R [] (y ∷ ys) us vs h g = absurd h
-zip-append R (x ∷ xs) [] us vs h g = absurd h
 zip-append R (x ∷ xs) (y ∷ ys) us vs h g = (h.0, zip-append R xs ys us vs h.1 g)
+zip-append _ _ _ us vs h g = absurd h
 
 module _ (m : Mentions) where
   text_used : (i : Option ℕ) (s : Option Text) → DenotesText m i s → AllZip (IsUseOf m) (number_uses kinds.Text i) (optional_text s)
   text_used None None h = tt
-  text_used None (Some s) h = absurd h
-  text_used (Some i) None h = absurd h
   text_used (Some i) (Some s) h = ((h, tt), tt)
+  text_used _ _ h = absurd h
 
   type_used : (i : Option ℕ) (t : Option Text) → DenotesType m i t → AllZip (IsUseOf m) (number_uses kinds.Typ i) (optional_type t)
   type_used None None h = tt
-  type_used None (Some t) h = absurd h
-  type_used (Some i) None h = absurd h
   type_used (Some i) (Some t) h = ((h, tt), tt)
+  type_used _ _ h = absurd h
 
   operation_used : (op : Operation) (x : symbolic.Operation) → DenotesOperation m op x → AllZip (IsUseOf m) (operation_uses op) (operation_symbols x)
   operation_used (AdvancePc addresses) (symbolic.AdvancePc others) h = tt
@@ -326,9 +294,8 @@ module _ (m : Mentions) where
   -- the symbols that occur in lists of which one denotes the other
   all_used : {X Y : Type 0} (R : X → Y → Type 0) (f : X → List Use) (g : Y → List Symbol) (xs : List X) (ys : List Y) → ((x : X) (y : Y) → R x y → AllZip (IsUseOf m) (f x) (g y)) → AllZip R xs ys → AllZip (IsUseOf m) (flat_map f xs) (flat_map g ys)
   all_used R f g [] [] used h = tt
-  all_used R f g [] (y ∷ ys) used h = absurd h
-  all_used R f g (x ∷ xs) [] used h = absurd h
   all_used R f g (x ∷ xs) (y ∷ ys) used h = zip-append (IsUseOf m) (f x) (g y) (flat_map f xs) (flat_map g ys) (used x y h.0) (all_used R f g xs ys used h.1)
+  all_used _ f g _ _ used h = absurd h
 
   pub uses_encoded : (d : NumberedDebug) (x : symbolic.Debug) → DenotesDebug m d x → AllZip (IsUseOf m) (debug_uses d) (debug_symbols x)
   uses_encoded d x h =

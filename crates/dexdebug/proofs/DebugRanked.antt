@@ -1,20 +1,11 @@
 -- Numbers are the ranks of what they mean, so debug programs of two numberings, mapped to a third, are the same there
 -- just where they mean the same.
-use Rattle.std.proofs.Common.{◌≡◌, ℕ, ◌<◌, List, [], ◌∷◌, length, map, Option, Some, None, refl, ap, sym, ◌∙◌}
-use Rattle.std.specs.Prelude.{◌↔◌, IfSome}
-use Rattle.std.specs.List.{All}
-use Rattle.std.specs.Option.{option_map}
-use Rattle.std.proofs.lemmas.List.Elements.{All-head, All-tail}
-use Rattle.dexspec.specs.Lists.{rank}
-use Rattle.dexspec.specs.Texts.{Text, text_cmp}
-use Rattle.dexspec.specs.Mentions.{Mentions}
+use Rattle.dexdebug.proofs.Common.{◌≡◌, ℕ, ◌<◌, List, [], ◌∷◌, length, map, Option, Some, None, refl, ap, sym, ◌∙◌, ◌↔◌, IfSome, All, option_map, All-head, All-tail, rank, Text, text_cmp, Mentions, Maps, AllMapTo, IsMappedUse}
 use Rattle.dexspec.specs.Debug as debugs
 use Rattle.dexpool.specs.Laws.{RanksAreNumbers}
-use Rattle.dexpool.specs.Numberings.{Maps, AllMapTo}
-use Rattle.dexpool.specs.Uses.{IsMappedUse}
 use Rattle.dexdebug.specs.declared.debug_operation.Operation.{Operation}
 use Rattle.dexdebug.specs.declared.debug_operation.Operation.TheVariants.{AdvancePc, AdvanceLine, StartLocal, StartLocalExtended, EndLocal, RestartLocal, SetPrologueEnd, SetEpilogueBegin, SetFile, Special}
-use Rattle.dexdebug.specs.Debug.{NumberedDebug, debug_uses, renumbered_debug}
+use Rattle.dexdebug.specs.{NumberedDebug, debug_uses, renumbered_debug}
 use Rattle.dexdebug.specs.Meaning.{text_at, type_at, operation_in, debug_in, IsKnownText, IsKnownType, IsKnownOperation, IsKnownDebug}
 use Rattle.dexdebug.proofs.DebugMeanings as debugs_remapped
 use Rattle.dexdebug.proofs.MeaningDebug.{debug_known, debug_means, debug_encoded}
@@ -62,16 +53,10 @@ module _ (m : Mentions) (ranks : RanksAreNumbers m) where
   type_back = one_back (type_at m) (type_rank m) (λ n. n < length m.types) (λ n lt. ranks.types_are n [] lt)
 
   operation_back : (op : Operation) → IsKnownOperation m op → ranked_operation m (operation_in m op) ≡ op
-  operation_back (AdvancePc addresses) h = refl
-  operation_back (AdvanceLine lines) h = refl
   operation_back (StartLocal register name typ) h = λ i. StartLocal register (text_back name h.name_known i) (type_back typ h.type_known i)
   operation_back (StartLocalExtended register name typ signature) h = λ i. StartLocalExtended register (text_back name h.name_known i) (type_back typ h.type_known i) (text_back signature h.signature_known i)
-  operation_back (EndLocal register) h = refl
-  operation_back (RestartLocal register) h = refl
-  operation_back SetPrologueEnd h = refl
-  operation_back SetEpilogueBegin h = refl
   operation_back (SetFile name) h = ap SetFile (text_back name h.name_known)
-  operation_back (Special opcode) h = refl
+  operation_back _ h = refl
 
   pub debug_back : (d : NumberedDebug) → IsKnownDebug m d → ranked_debug m (debug_in m d) ≡ d
   debug_back d h =

@@ -1,24 +1,12 @@
 -- Names and operations that are read one after the other.
-use Rattle.std.proofs.Common.{◌≡◌, ℕ, ◌+◌, ◌-◌, ◌*◌, ◌<◌, ◌≤◌, List, [], ◌∷◌, ◌++◌, length, map, take, get_or, sum_by, Option, Some, None, refl, ap, sym, subst, ◌∙◌, arith, length-append}
-use Rattle.std.specs.List.{All, flat_map}
-use Rattle.std.proofs.lemmas.Grind.{flat_map-append}
-use Rattle.std.proofs.lemmas.List.{drop_more, append_assoc, append-nil, map-append}
-use Rattle.std.proofs.lemmas.List.Sums.{sum_by-append}
-use Rattle.std.proofs.lemmas.List.Elements.{All-nil, All-cons, All-append}
-use Rattle.std.specs.Option.{IsSome}
-use Rattle.dexspec.specs.Lists.{Item, Sequence}
-use Rattle.dexspec.specs.Bytes.{BytesAt}
-use Rattle.dexspec.proofs.written.PlacedBytes.{is_at, is_at_within, same_first}
+use Rattle.dexdebug.proofs.Common.{◌≡◌, ℕ, ◌+◌, ◌-◌, ◌*◌, ◌<◌, ◌≤◌, List, [], ◌∷◌, ◌++◌, length, map, take, get_or, sum_by, Option, Some, None, refl, ap, sym, subst, ◌∙◌, arith, length-append, All, flat_map, flat_map-append, drop_more, append_assoc, append-nil, map-append, sum_by-append, All-nil, All-cons, All-append, IsSome, Item, Sequence, BytesAt, is_at, is_at_within, same_first, Uleb128At, operands}
 use Rattle.dexdebug.specs.declared.debug_operation.Operation.{Operation}
 use Rattle.dexdebug.specs.declared.debug_operation.Operation.TheVariants.{AdvancePc, AdvanceLine, StartLocal, StartLocalExtended, EndLocal, RestartLocal, SetPrologueEnd, SetEpilogueBegin, SetFile, Special}
 use Rattle.dexdebug.specs.declared.debug_reading.Counts.{Counts}
 use Rattle.dexdebug.specs.declared.debug_reading.Tally.{Tally}
 use Rattle.dexdebug.specs.declared.debug_reading.DebugShape.{DebugShape}
 use Rattle.dexdebug.specs.declared.indices.Index.{Index}
-use Rattle.dexspec.specs.Numbers.{Uleb128At}
-use Rattle.dexspec.specs.Weight.{operands}
-use Rattle.dexdebug.specs.Debug.{NumberedDebug, FitsIndex, IsFormedOperation, IsFormedDebug, unindexed_operation, operation_weight}
-use Rattle.dexdebug.specs.DebugReading.{IndexAt, OperandsAt, NumberedAt, ProgramAt, NamesAt, NumberedDebugAt, EndNames, AreTallied, IsShape, HaveNames, AreTheNames, AreTheOperations, indices_of, text_index}
+use Rattle.dexdebug.specs.{NumberedDebug, FitsIndex, IsFormedOperation, IsFormedDebug, unindexed_operation, operation_weight, IndexAt, OperandsAt, NumberedAt, ProgramAt, NamesAt, NumberedDebugAt, EndNames, AreTallied, IsShape, HaveNames, AreTheNames, AreTheOperations, indices_of, text_index}
 use Rattle.dexdebug.proofs.DebugRead.{some_parts}
 
 -- ---- one more
@@ -97,16 +85,8 @@ goes_on m b o c r here some only (op ∷ ops) p =
 
 -- the opcode of an operation is not that of the end
 pub code_some : (m : Counts) (b : List ℕ) (o : ℕ) (op : Operation) (n c : ℕ) → OperandsAt m c b (o + 1) op n → 0 < c
-code_some m b o (AdvancePc addresses) n c h = omega (arith, h.0)
-code_some m b o (AdvanceLine lines) n c h = omega (arith, h.0)
-code_some m b o (StartLocal register name typ) n c h = omega (arith, h.0)
-code_some m b o (StartLocalExtended register name typ signature) n c h = omega (arith, h.0)
-code_some m b o (EndLocal register) n c h = omega (arith, h.0)
-code_some m b o (RestartLocal register) n c h = omega (arith, h.0)
-code_some m b o SetPrologueEnd n c h = omega (arith, h.0)
-code_some m b o SetEpilogueBegin n c h = omega (arith, h.0)
-code_some m b o (SetFile name) n c h = omega (arith, h.0)
 code_some m b o (Special opcode) n c h = omega (arith, h.0, h.1)
+code_some m b o _ n c h = omega (arith, h.0)
 
 -- an operation is where its opcode and its operands are
 pub operation_encoded : (m : Counts) (b : List ℕ) (o c : ℕ) (op : Operation) (n : ℕ) → BytesAt b o (c ∷ []) → c ≤ 0xff → OperandsAt m c b (o + 1) op n → NumberedAt m b o op (1 + n)

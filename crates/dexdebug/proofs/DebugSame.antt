@@ -1,12 +1,9 @@
 -- Debug programs that are the same once remapped by two maps.
-use Rattle.std.proofs.Common.{◌≡◌, ℕ, ◌<◌, ◌≤◌, List, length, take, map, get_or, Option, refl, ap, sym, ◌∙◌}
-use Rattle.std.proofs.lemmas.List.{take_all, get_or-map}
+use Rattle.dexdebug.proofs.Common.{◌≡◌, ℕ, ◌<◌, ◌≤◌, List, length, take, map, get_or, Option, refl, ap, sym, ◌∙◌, take_all, get_or-map, Maps}
 use Rattle.dexpool.specs.declared.symbols.SymbolKind.TheVariants as kinds
-use Rattle.dexpool.specs.Numberings.{Maps}
 use Rattle.dexdebug.specs.declared.debug_operation.Operation.{Operation}
 use Rattle.dexdebug.specs.declared.debug_operation.Operation.TheVariants.{AdvancePc, AdvanceLine, StartLocal, StartLocalExtended, EndLocal, RestartLocal, SetPrologueEnd, SetEpilogueBegin, SetFile, Special}
-use Rattle.dexdebug.specs.Debug.{image_or_none, name_of, type_of, signature_of, with_numbers, renumbered_operation}
-use Rattle.dexdebug.specs.Operations.{unindexed_of}
+use Rattle.dexdebug.specs.{image_or_none, name_of, type_of, signature_of, with_numbers, renumbered_operation, unindexed_of}
 
 -- ---- lists that are the same, mapped
 
@@ -21,65 +18,25 @@ same_at f g xs ys i d lt lt' e = sym (get_or-map f xs i d (f d) lt) ∙ ap (λ z
 -- other numbers are not seen without numbers
 pub unindexed_with : (op : Operation) (s t u : Option ℕ) → unindexed_of (with_numbers op s t u) ≡ unindexed_of op
 unindexed_with (AdvancePc addresses) s t u = refl
-unindexed_with (AdvanceLine lines) s t u = refl
-unindexed_with (StartLocal register name typ) s t u = refl
-unindexed_with (StartLocalExtended register name typ signature) s t u = refl
-unindexed_with (EndLocal register) s t u = refl
-unindexed_with (RestartLocal register) s t u = refl
-unindexed_with SetPrologueEnd s t u = refl
-unindexed_with SetEpilogueBegin s t u = refl
-unindexed_with (SetFile name) s t u = refl
-unindexed_with (Special opcode) s t u = refl
+unindexed_with _ s t u = refl
 
 -- numbers are put in where there were others
 pub with_unindexed : (op : Operation) (s t u : Option ℕ) → with_numbers (unindexed_of op) s t u ≡ with_numbers op s t u
 with_unindexed (AdvancePc addresses) s t u = refl
-with_unindexed (AdvanceLine lines) s t u = refl
-with_unindexed (StartLocal register name typ) s t u = refl
-with_unindexed (StartLocalExtended register name typ signature) s t u = refl
-with_unindexed (EndLocal register) s t u = refl
-with_unindexed (RestartLocal register) s t u = refl
-with_unindexed SetPrologueEnd s t u = refl
-with_unindexed SetEpilogueBegin s t u = refl
-with_unindexed (SetFile name) s t u = refl
-with_unindexed (Special opcode) s t u = refl
+with_unindexed _ s t u = refl
 
 module _ (r : Maps) where
   name_remapped : (op : Operation) → name_of (renumbered_operation r op) ≡ image_or_none r kinds.Text (name_of op)
   name_remapped (AdvancePc addresses) = refl
-  name_remapped (AdvanceLine lines) = refl
-  name_remapped (StartLocal register name typ) = refl
-  name_remapped (StartLocalExtended register name typ signature) = refl
-  name_remapped (EndLocal register) = refl
-  name_remapped (RestartLocal register) = refl
-  name_remapped SetPrologueEnd = refl
-  name_remapped SetEpilogueBegin = refl
-  name_remapped (SetFile name) = refl
-  name_remapped (Special opcode) = refl
+  name_remapped _ = refl
 
   type_remapped : (op : Operation) → type_of (renumbered_operation r op) ≡ image_or_none r kinds.Typ (type_of op)
   type_remapped (AdvancePc addresses) = refl
-  type_remapped (AdvanceLine lines) = refl
-  type_remapped (StartLocal register name typ) = refl
-  type_remapped (StartLocalExtended register name typ signature) = refl
-  type_remapped (EndLocal register) = refl
-  type_remapped (RestartLocal register) = refl
-  type_remapped SetPrologueEnd = refl
-  type_remapped SetEpilogueBegin = refl
-  type_remapped (SetFile name) = refl
-  type_remapped (Special opcode) = refl
+  type_remapped _ = refl
 
   signature_remapped : (op : Operation) → signature_of (renumbered_operation r op) ≡ image_or_none r kinds.Text (signature_of op)
   signature_remapped (AdvancePc addresses) = refl
-  signature_remapped (AdvanceLine lines) = refl
-  signature_remapped (StartLocal register name typ) = refl
-  signature_remapped (StartLocalExtended register name typ signature) = refl
-  signature_remapped (EndLocal register) = refl
-  signature_remapped (RestartLocal register) = refl
-  signature_remapped SetPrologueEnd = refl
-  signature_remapped SetEpilogueBegin = refl
-  signature_remapped (SetFile name) = refl
-  signature_remapped (Special opcode) = refl
+  signature_remapped _ = refl
 
 -- if two operations are the same once remapped, their parts are
 module _ (r q : Maps) (x y : Operation) (e : renumbered_operation r x ≡ renumbered_operation q y) where

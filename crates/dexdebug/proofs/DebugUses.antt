@@ -1,16 +1,10 @@
 -- The symbols of a debug program, part by part, and what becomes of their numbers.
-use Rattle.std.proofs.Common.{◌≡◌, ℕ, ◌+◌, ◌<◌, ◌^◌, List, [], ◌∷◌, ◌++◌, map, Option, Some, None, refl, sym, subst, arith}
-use Rattle.std.proofs.lemmas.List.{length-map}
-use Rattle.std.specs.List.{All, flat_map}
-use Rattle.std.proofs.lemmas.List.Elements.{All-nil, All-cons, All-head, All-tail}
+use Rattle.dexdebug.proofs.Common.{◌≡◌, ℕ, ◌+◌, ◌<◌, ◌^◌, List, [], ◌∷◌, ◌++◌, map, Option, Some, None, refl, sym, subst, arith, length-map, All, flat_map, All-nil, All-cons, All-head, All-tail, Maps, image_of, Use, all_prefix, all_back, all_parts, all_map}
 use Rattle.dexpool.specs.declared.symbols.SymbolKind.{SymbolKind}
 use Rattle.dexpool.specs.declared.symbols.SymbolKind.TheVariants as kinds
-use Rattle.dexpool.specs.Numberings.{Maps, image_of}
-use Rattle.dexpool.specs.Uses.{Use}
-use Rattle.dexpool.proofs.Parts.{all_prefix, all_back, all_parts, all_map}
 use Rattle.dexdebug.specs.declared.debug_operation.Operation.{Operation}
 use Rattle.dexdebug.specs.declared.debug_operation.Operation.TheVariants.{AdvancePc, AdvanceLine, StartLocal, StartLocalExtended, EndLocal, RestartLocal, SetPrologueEnd, SetEpilogueBegin, SetFile, Special}
-use Rattle.dexdebug.specs.Debug.{NumberedDebug, HasPlace, FitsIndex, IsFormedOperation, IsFormedDebug, IsSpecial, number_uses, operation_uses, debug_uses, image_or_none, name_of, type_of, signature_of, with_numbers, renumbered_operation, renumbered_debug}
+use Rattle.dexdebug.specs.{NumberedDebug, HasPlace, FitsIndex, IsFormedOperation, IsFormedDebug, IsSpecial, number_uses, operation_uses, debug_uses, image_or_none, name_of, type_of, signature_of, with_numbers, renumbered_operation, renumbered_debug}
 
 -- what holds of the symbol of a number, if there is one
 pub use_of : (P : Use → Type 0) (kind : SymbolKind) (i : Option ℕ) (n : ℕ) → All P (number_uses kind i) → i ≡ Some n → P (record { kind = kind; number = n })
@@ -49,16 +43,10 @@ image_fits r kind (Some n) all =
     subst FitsIndex (sym place.1) place.2
 
 formed_with : (op : Operation) (s t u : Option ℕ) → IsSpecial op → FitsIndex s → FitsIndex t → FitsIndex u → IsFormedOperation (with_numbers op s t u)
-formed_with (AdvancePc addresses) s t u special hs ht hu = record { name_fits = omega arith; type_fits = omega arith; signature_fits = omega arith; is_special = special }
-formed_with (AdvanceLine lines) s t u special hs ht hu = record { name_fits = omega arith; type_fits = omega arith; signature_fits = omega arith; is_special = special }
 formed_with (StartLocal register name typ) s t u special hs ht hu = record { name_fits = hs; type_fits = ht; signature_fits = omega arith; is_special = special }
 formed_with (StartLocalExtended register name typ signature) s t u special hs ht hu = record { name_fits = hs; type_fits = ht; signature_fits = hu; is_special = special }
-formed_with (EndLocal register) s t u special hs ht hu = record { name_fits = omega arith; type_fits = omega arith; signature_fits = omega arith; is_special = special }
-formed_with (RestartLocal register) s t u special hs ht hu = record { name_fits = omega arith; type_fits = omega arith; signature_fits = omega arith; is_special = special }
-formed_with SetPrologueEnd s t u special hs ht hu = record { name_fits = omega arith; type_fits = omega arith; signature_fits = omega arith; is_special = special }
-formed_with SetEpilogueBegin s t u special hs ht hu = record { name_fits = omega arith; type_fits = omega arith; signature_fits = omega arith; is_special = special }
 formed_with (SetFile name) s t u special hs ht hu = record { name_fits = hs; type_fits = omega arith; signature_fits = omega arith; is_special = special }
-formed_with (Special opcode) s t u special hs ht hu = record { name_fits = omega arith; type_fits = omega arith; signature_fits = omega arith; is_special = special }
+formed_with _ s t u special hs ht hu = record { name_fits = omega arith; type_fits = omega arith; signature_fits = omega arith; is_special = special }
 
 operation_formed : (r : Maps) (op : Operation) → All (HasPlace r) (operation_uses op) → IsFormedOperation op → IsFormedOperation (renumbered_operation r op)
 operation_formed r op all is =

@@ -1,10 +1,6 @@
 -- What a debug program weighs, added up operation by operation.
-use Rattle.std.proofs.Common.{◌≡◌, ℕ, ◌+◌, ◌*◌, length, sum_by, Option, None, arith}
-use Rattle.std.proofs.lemmas.List.{length-map}
-use Rattle.dexspec.specs.Texts.{Text}
-use Rattle.dexspec.specs.Weight.{operands, debug_weight}
-use Rattle.dexspec.proofs.size.SizeSums.{sum_by-map}
-use Rattle.dexdebug.specs.Debug.{NumberedDebug, unindexed, unindexed_operation, operation_weight}
+use Rattle.dexdebug.proofs.Common.{◌≡◌, ℕ, ◌+◌, ◌*◌, length, sum_by, Option, None, arith, length-map, Text, operands, debug_weight, sum_by-map}
+use Rattle.dexdebug.specs.{NumberedDebug, unindexed, unindexed_operation, operation_weight}
 
 -- the weight, by the lists
 pub weight_is : (d : NumberedDebug) → debug_weight (unindexed d) ≡ 11 + 5 * length d.parameter_names + sum_by operation_weight d.operations

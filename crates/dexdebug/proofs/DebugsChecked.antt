@@ -1,10 +1,7 @@
 -- Debug programs checked: what is at the offset and what it weighs.
-use Rattle.std.proofs.Common.{◌≡◌, ℕ, false, List, nat_eq, Option, Some, ap, sym, subst, ◌∙◌, inl, inr, ne_eqb, arith}
-use Rattle.std.proofs.lemmas.Bool.{cases_eq}
-use Rattle.dexspec.specs.Mentions.{Mentions}
-use Rattle.dexdebug.specs.Checking.{HasDebugAt}
+use Rattle.dexdebug.proofs.Common.{◌≡◌, ℕ, false, List, nat_eq, Option, Some, ap, sym, subst, ◌∙◌, inl, inr, ne_eqb, arith, cases_eq, Mentions}
+use Rattle.dexdebug.specs.{HasDebugAt, HasDebugOf, IsShapeAt}
 use Rattle.dexdebug.specs.declared.debug_reading.DebugShape.{DebugShape}
-use Rattle.dexdebug.specs.DebugReading.{HasDebugOf, IsShapeAt}
 use Rattle.dexdebug.proofs.DebugMeanings.{weights_are}
 
 -- the debug program that was checked is at the offset

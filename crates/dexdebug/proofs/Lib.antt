@@ -1,3 +1,4 @@
+pub mod Common
 pub mod DebugBridge
 pub mod DebugEqual
 pub mod DebugMeanings

@@ -1,18 +1,9 @@
 -- What numbered debug programs mean, as a function.
-use Rattle.std.proofs.Common.{◌≡◌, ℕ, ◌<◌, List, [], ◌∷◌, length, map, get_or, Option, Some, None, refl, ap, sym}
-use Rattle.std.specs.Prelude.{IfSome}
-use Rattle.std.specs.List.{All, AllZip}
-use Rattle.std.specs.Option.{option_map}
-use Rattle.std.proofs.lemmas.List.{get_or_default}
-use Rattle.std.proofs.lemmas.List.Elements.{All-nil, All-cons, All-head, All-tail}
-use Rattle.dexspec.specs.Lists.{BothOrNone}
-use Rattle.dexspec.specs.Texts.{Text}
+use Rattle.dexdebug.proofs.Common.{◌≡◌, ℕ, ◌<◌, List, [], ◌∷◌, length, map, get_or, Option, Some, None, refl, ap, sym, IfSome, All, AllZip, option_map, get_or_default, All-nil, All-cons, All-head, All-tail, BothOrNone, Text, Mentions, IsAt}
 use Rattle.dexspec.specs.Debug as symbolic
-use Rattle.dexspec.specs.Mentions.{Mentions}
-use Rattle.dexpool.specs.Numberings.{IsAt}
 use Rattle.dexdebug.specs.declared.debug_operation.Operation.{Operation}
 use Rattle.dexdebug.specs.declared.debug_operation.Operation.TheVariants.{AdvancePc, AdvanceLine, StartLocal, StartLocalExtended, EndLocal, RestartLocal, SetPrologueEnd, SetEpilogueBegin, SetFile, Special}
-use Rattle.dexdebug.specs.Debug.{NumberedDebug, DenotesText, DenotesType, DenotesOperation, DenotesDebug}
+use Rattle.dexdebug.specs.{NumberedDebug, DenotesText, DenotesType, DenotesOperation, DenotesDebug}
 use Rattle.dexdebug.specs.Meaning.{text_at, type_at, operation_in, debug_in, IsKnownText, IsKnownType, IsKnownOperation, IsKnownDebug}
 
 -- ---- a relation that is a function on what is known
@@ -25,9 +16,8 @@ module _ {X Y : Type 0} (R : X → Y → Type 0) (K : X → Type 0) (f : X → Y
 
   pub all_mean : ((x : X) (y : Y) → R x y → y ≡ f x) → (xs : List X) (ys : List Y) → AllZip R xs ys → ys ≡ map f xs
   all_mean each [] [] h = refl
-  all_mean each [] (y ∷ ys) h = absurd h
-  all_mean each (x ∷ xs) [] h = absurd h
   all_mean each (x ∷ xs) (y ∷ ys) h = λ i. each x y h.0 i ∷ all_mean each xs ys h.1 i
+  all_mean each _ _ h = absurd h
 
   pub all_encoded : ((x : X) → K x → R x (f x)) → (xs : List X) → All K xs → AllZip R xs (map f xs)
   all_encoded each [] h = tt
@@ -40,9 +30,8 @@ module _ {X Y : Type 0} (R : X → Y → Type 0) (K : X → Type 0) (f : X → Y
 
   pub one_means : ((x : X) (y : Y) → R x y → y ≡ f x) → (o : Option X) (p : Option Y) → BothOrNone R o p → p ≡ option_map f o
   one_means each None None h = refl
-  one_means each None (Some y) h = absurd h
-  one_means each (Some x) None h = absurd h
   one_means each (Some x) (Some y) h = ap Some (each x y h)
+  one_means each _ _ h = absurd h
 
   pub one_encoded : ((x : X) → K x → R x (f x)) → (o : Option X) → IfSome o K → BothOrNone R o (option_map f o)
   one_encoded each None h = tt
@@ -102,16 +91,12 @@ module _ (m : Mentions) where
   operation_means _ _ h = absurd h
 
   operation_encoded : (op : Operation) → IsKnownOperation m op → DenotesOperation m op (operation_in m op)
-  operation_encoded (AdvancePc addresses) h = refl
-  operation_encoded (AdvanceLine lines) h = refl
   operation_encoded (StartLocal register name typ) h = (refl, text_encoded name h.name_known, type_encoded typ h.type_known)
   operation_encoded (StartLocalExtended register name typ signature) h = (refl, text_encoded name h.name_known, type_encoded typ h.type_known, text_encoded signature h.signature_known)
-  operation_encoded (EndLocal register) h = refl
-  operation_encoded (RestartLocal register) h = refl
   operation_encoded SetPrologueEnd h = tt
   operation_encoded SetEpilogueBegin h = tt
   operation_encoded (SetFile name) h = text_encoded name h.name_known
-  operation_encoded (Special opcode) h = refl
+  operation_encoded _ h = refl
 
   pub debug_known : (d : NumberedDebug) (x : symbolic.Debug) → DenotesDebug m d x → IsKnownDebug m d
   debug_known d x h = record {

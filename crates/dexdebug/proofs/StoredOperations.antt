@@ -1,35 +1,22 @@
 -- Operations as they are stored: the bytes and the numbers give back the operations.
-use Rattle.std.proofs.Common.{◌≡◌, ℕ, zero, suc, ◌+◌, ◌-◌, ◌<◌, ◌≤◌, List, [], ◌∷◌, ◌++◌, length, take, drop, map, get_or, Option, Some, None, refl, ap, sym, subst, ◌∙◌, arith, length-append}
-use Rattle.std.specs.Option.{IsSome}
-use Rattle.std.specs.List.{flat_map}
-use Rattle.std.proofs.lemmas.Bool.{lt-ltb, le-ltb}
-use Rattle.std.proofs.lemmas.List.{length-take-le, length-map, take_at, drop_at, map-append, append-nil}
-use Rattle.std.proofs.lemmas.Grind.{flat_map-append}
-use Rattle.dexspec.specs.Lists.{Sequence}
-use Rattle.dexspec.specs.Numbers.{IsChain, Uleb128At, sum_of_groups, signed_sum}
-use Rattle.dexspec.specs.Weight.{operands}
-use Rattle.dexspec.proofs.written.PlacedBytes.{is_at_within, same_first}
+use Rattle.dexdebug.proofs.Common.{◌≡◌, ℕ, zero, suc, ◌+◌, ◌-◌, ◌<◌, ◌≤◌, List, [], ◌∷◌, ◌++◌, length, take, drop, map, get_or, Option, Some, None, refl, ap, sym, subst, ◌∙◌, arith, length-append, IsSome, flat_map, lt-ltb, le-ltb, length-take-le, length-map, take_at, drop_at, map-append, append-nil, flat_map-append, Sequence, IsChain, Uleb128At, sum_of_groups, signed_sum, operands, is_at_within, same_first, Maps}
 use Rattle.dexpool.specs.declared.symbols.SymbolKind.TheVariants as kinds
-use Rattle.dexpool.specs.Numberings.{Maps}
 use Rattle.dexdebug.specs.declared.debug_operation.Operation.{Operation}
 use Rattle.dexdebug.specs.declared.debug_operation.Operation.TheVariants.{AdvancePc, AdvanceLine, StartLocal, StartLocalExtended, EndLocal, RestartLocal, SetPrologueEnd, SetEpilogueBegin, SetFile, Special}
 use Rattle.dexdebug.specs.declared.debug_reading.Counts.{Counts}
 use Rattle.dexdebug.specs.declared.debug_reading.Tally.{Tally}
 use Rattle.dexdebug.specs.declared.indices.Index.{Index}
-use Rattle.dexdebug.specs.Debug.{number_uses, operation_uses, debug_uses, renumbered_operation, renumbered_debug, image_or_none, name_of, type_of, signature_of, unindexed_operation, with_numbers}
-use Rattle.dexdebug.specs.DebugReading.{IndexAt, LocalAt, OperandsAt, NumberedAt, AreTheOperations, KeepsNames, KeepsSymbols, every, indices_of, text_index}
-use Rattle.dexdebug.specs.Operations.{chain_of, chain_at, after_numbers, after_operation, operation_of, number_in, operation_in, operations_in, unindexed_of, IsStoredAt, AreStored, IsStored, numbers_in, stored_debug, renumbered_index}
+use Rattle.dexdebug.specs.{number_uses, operation_uses, debug_uses, renumbered_operation, renumbered_debug, image_or_none, name_of, type_of, signature_of, unindexed_operation, with_numbers, IndexAt, LocalAt, OperandsAt, NumberedAt, AreTheOperations, KeepsNames, KeepsSymbols, every, indices_of, text_index, chain_of, chain_at, after_numbers, after_operation, operation_of, number_in, operation_in, operations_in, unindexed_of, IsStoredAt, AreStored, IsStored, numbers_in, stored_debug, renumbered_index}
 use Rattle.dexdebug.proofs.DebugRuns.{byte_encoded, code_some}
 use Rattle.dexdebug.proofs.DebugSame.{unindexed_with, with_unindexed}
 
 -- ---- the bytes
 
 chain_is : (n : ℕ) (bs : List ℕ) → n ≤ length bs → IsChain (take n bs) → chain_of bs ≡ take n bs
-chain_is zero bs le h = absurd h
-chain_is (suc n) [] le h = absurd h
 chain_is (suc zero) (b ∷ bs) le h = rw (lt-ltb b 128 h) refl
 chain_is (suc (suc n)) (b ∷ []) le h = absurd (omega (arith, le))
 chain_is (suc (suc n)) (b ∷ c ∷ bs) le h = rw (le-ltb b 128 h.0) (ap (λ cs. b ∷ cs) (chain_is (suc n) (c ∷ bs) (omega (arith, le)) h.1))
+chain_is _ _ le h = absurd h
 
 -- a number at an offset
 module _ (b : List ℕ) (o n : ℕ) (within : n ≤ length (drop o b)) (chain : IsChain (take n (drop o b))) where
@@ -95,41 +82,19 @@ module _ (b : List ℕ) (o : ℕ) (is : List Index) where
 -- its own numbers
 own_numbers : (op : Operation) (is : List Index) → with_numbers op (number_in (indices_of op ++ is) 0) (number_in (indices_of op ++ is) 1) (number_in (indices_of op ++ is) 2) ≡ op
 own_numbers (AdvancePc addresses) is = refl
-own_numbers (AdvanceLine lines) is = refl
-own_numbers (StartLocal register name typ) is = refl
-own_numbers (StartLocalExtended register name typ signature) is = refl
-own_numbers (EndLocal register) is = refl
-own_numbers (RestartLocal register) is = refl
-own_numbers SetPrologueEnd is = refl
-own_numbers SetEpilogueBegin is = refl
-own_numbers (SetFile name) is = refl
-own_numbers (Special opcode) is = refl
+own_numbers _ is = refl
 
 -- an operation without places keeps no number
 pub without_places : (op : Operation) (s t u : Option ℕ) → length (indices_of op) ≡ 0 → with_numbers op s t u ≡ op
-without_places (AdvancePc addresses) s t u none = refl
-without_places (AdvanceLine lines) s t u none = refl
 without_places (StartLocal register name typ) s t u none = absurd (omega (arith, none))
 without_places (StartLocalExtended register name typ signature) s t u none = absurd (omega (arith, none))
-without_places (EndLocal register) s t u none = refl
-without_places (RestartLocal register) s t u none = refl
-without_places SetPrologueEnd s t u none = refl
-without_places SetEpilogueBegin s t u none = refl
 without_places (SetFile name) s t u none = absurd (omega (arith, none))
-without_places (Special opcode) s t u none = refl
+without_places _ s t u none = refl
 
 -- what does not depend on numbers of symbols
 plain_parts : (op : Operation) → (unindexed_operation (unindexed_of op) ≡ unindexed_operation op) × (length (indices_of (unindexed_of op)) ≡ length (indices_of op))
 plain_parts (AdvancePc addresses) = (refl, refl)
-plain_parts (AdvanceLine lines) = (refl, refl)
-plain_parts (StartLocal register name typ) = (refl, refl)
-plain_parts (StartLocalExtended register name typ signature) = (refl, refl)
-plain_parts (EndLocal register) = (refl, refl)
-plain_parts (RestartLocal register) = (refl, refl)
-plain_parts SetPrologueEnd = (refl, refl)
-plain_parts SetEpilogueBegin = (refl, refl)
-plain_parts (SetFile name) = (refl, refl)
-plain_parts (Special opcode) = (refl, refl)
+plain_parts _ = (refl, refl)
 
 module _ (x y : Operation) (same : unindexed_of x ≡ unindexed_of y) where
   same_places : length (indices_of x) ≡ length (indices_of y)
@@ -244,16 +209,8 @@ module _ (count : ℕ) (b : List ℕ) (o : ℕ) (is : List Index) (s : AreStored
 
 -- a special opcode is an operation by itself
 only_special : (m : Counts) (c : ℕ) (b : List ℕ) (o : ℕ) (op : Operation) (n : ℕ) → 0x0a ≤ c → OperandsAt m c b o op n → ◌≡◌ {A = Option (Operation × ℕ)} (Some (Special c, 0)) (Some (op, n))
-only_special m c b o (AdvancePc addresses) n high h = absurd (omega (arith, high, h.0))
-only_special m c b o (AdvanceLine lines) n high h = absurd (omega (arith, high, h.0))
-only_special m c b o (StartLocal register name typ) n high h = absurd (omega (arith, high, h.0))
-only_special m c b o (StartLocalExtended register name typ signature) n high h = absurd (omega (arith, high, h.0))
-only_special m c b o (EndLocal register) n high h = absurd (omega (arith, high, h.0))
-only_special m c b o (RestartLocal register) n high h = absurd (omega (arith, high, h.0))
-only_special m c b o SetPrologueEnd n high h = absurd (omega (arith, high, h.0))
-only_special m c b o SetEpilogueBegin n high h = absurd (omega (arith, high, h.0))
-only_special m c b o (SetFile name) n high h = absurd (omega (arith, high, h.0))
 only_special m c b o (Special opcode) n high h = λ i. Some (Special (h.0 i), sym h.2 i)
+only_special m c b o _ n high h = absurd (omega (arith, high, h.0))
 
 pub special_follows : (count : ℕ) (b : List ℕ) (o : ℕ) (is : List Index) → AreStored count b o is → 0 < count → 0x0a ≤ get_or b o 0 → Follows count b o is (Special (get_or b o 0), 0)
 special_follows count b o is s some high =
@@ -279,8 +236,6 @@ any_local m b o register name typ n h = record {
 }
 
 any_operands : (m : Counts) (c : ℕ) (b : List ℕ) (o : ℕ) (op : Operation) (n : ℕ) → OperandsAt m c b o op n → OperandsAt every c b o op n
-any_operands m c b o (AdvancePc addresses) n h = h
-any_operands m c b o (AdvanceLine lines) n h = h
 any_operands m c b o (StartLocal register name typ) n h = (h.0, any_local m b o register name typ n h.1)
 any_operands m c b o (StartLocalExtended register name typ signature) n h = (
   h.0,
@@ -292,12 +247,8 @@ any_operands m c b o (StartLocalExtended register name typ signature) n h = (
     size = h.1.size;
   },
 )
-any_operands m c b o (EndLocal register) n h = h
-any_operands m c b o (RestartLocal register) n h = h
-any_operands m c b o SetPrologueEnd n h = h
-any_operands m c b o SetEpilogueBegin n h = h
 any_operands m c b o (SetFile name) n h = (h.0, any_index m.texts b o name n h.1)
-any_operands m c b o (Special opcode) n h = h
+any_operands m c b o _ n h = h
 
 read_stored : (m : Counts) (b : List ℕ) (o : ℕ) (ops : List Operation) (n : ℕ) → Sequence (NumberedAt m) b o ops n → Sequence IsStoredAt b o ops n
 read_stored m b o [] n h = h
@@ -321,16 +272,8 @@ built_stored m b o t ops is h are = record { operations = ops; size = h.program.
 -- ---- symbols
 
 uses_one : (op : Operation) → flat_map (λ (i : Index). number_uses i.kind i.number) (indices_of op) ≡ operation_uses op
-uses_one (AdvancePc addresses) = refl
-uses_one (AdvanceLine lines) = refl
-uses_one (StartLocal register name typ) = refl
 uses_one (StartLocalExtended register name typ signature) = ap (λ us. number_uses kinds.Text name ++ (number_uses kinds.Typ typ ++ us)) (append-nil (number_uses kinds.Text signature))
-uses_one (EndLocal register) = refl
-uses_one (RestartLocal register) = refl
-uses_one SetPrologueEnd = refl
-uses_one SetEpilogueBegin = refl
-uses_one (SetFile name) = refl
-uses_one (Special opcode) = refl
+uses_one _ = refl
 
 uses_all : (ops : List Operation) → flat_map (λ (i : Index). number_uses i.kind i.number) (flat_map indices_of ops) ≡ flat_map operation_uses ops
 uses_all [] = refl
@@ -341,15 +284,7 @@ uses_all (op ∷ ops) = flat_map-append (λ (i : Index). number_uses i.kind i.nu
 module _ (r : Maps) where
   remapped_one : (op : Operation) → map (renumbered_index r) (indices_of op) ≡ indices_of (renumbered_operation r op)
   remapped_one (AdvancePc addresses) = refl
-  remapped_one (AdvanceLine lines) = refl
-  remapped_one (StartLocal register name typ) = refl
-  remapped_one (StartLocalExtended register name typ signature) = refl
-  remapped_one (EndLocal register) = refl
-  remapped_one (RestartLocal register) = refl
-  remapped_one SetPrologueEnd = refl
-  remapped_one SetEpilogueBegin = refl
-  remapped_one (SetFile name) = refl
-  remapped_one (Special opcode) = refl
+  remapped_one _ = refl
 
   remapped_all : (ops : List Operation) → map (renumbered_index r) (flat_map indices_of ops) ≡ flat_map indices_of (map (renumbered_operation r) ops)
   remapped_all [] = refl

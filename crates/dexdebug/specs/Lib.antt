@@ -9,3 +9,12 @@ pub mod Operations
 pub mod Packed
 pub mod Positions
 pub mod internal
+unfoldable pub use Checking.*
+unfoldable pub use Debug.*
+unfoldable pub use DebugEquality.*
+unfoldable pub use DebugReading.*
+unfoldable pub use Equality.*
+unfoldable pub use Laws.*
+unfoldable pub use Operations.*
+unfoldable pub use Packed.*
+unfoldable pub use Positions.*

@@ -1,21 +1,6 @@
 -- Tests of values, annotations, members and definitions, each with what it implies.
-use Rattle.std.proofs.Common.{◌≡◌, Bool, true, false, not, ◌&&◌, nat_lt, nat_le, List, [], ◌∷◌, length, map, refl, ap, arith, ltb-true, leb-true}
-use Rattle.std.specs.Prelude.{◌^◌}
-use Rattle.std.specs.List.{flat_map, list_all, list_any}
-use Rattle.dexspec.specs.Lists.{rises}
-use Rattle.dexspec.specs.Texts.{Text, text_cmp, same_text}
-use Rattle.dexspec.specs.Names.{IsClass}
-use Rattle.dexspec.specs.Symbols.{Proto}
-use Rattle.dexspec.specs.Pieces.{all_of_option}
+use Rattle.dexexamples.proofs.Common.{◌≡◌, Bool, true, false, not, ◌&&◌, nat_lt, nat_le, List, [], ◌∷◌, length, map, refl, ap, arith, ltb-true, leb-true, ◌^◌, flat_map, list_all, list_any, rises, Text, text_cmp, same_text, IsClass, Proto, all_of_option, Value, ByteValue, ShortValue, CharValue, IntValue, LongValue, FloatValue, DoubleValue, StringValue, TypeValue, FieldValue, MethodValue, EnumValue, ArrayValue, AnnotationValue, NullValue, BooleanValue, Values, NoValues, ThenValue, Elements, NoElements, ThenElement, names_of, count_values, values_depth, elements_depth, most_depth, Annotation, AnnotationSet, ShareNone, FieldDef, MethodDef, Definition, declared_fields, declared_methods, symbols_of, texts_in, IsText, IsSymbol, IsCodeItem, IsValue, AreValues, AreElements, IsAnnotation, IsSet, field_key, field_key_cmp, method_key, method_key_cmp, IsFieldDef, IsMethodDef, IsWellFormed, AreWellFormed, and_first, and_second, and_both, list_all-member, list_any-member, text_decides}
 use Rattle.dexspec.specs.Sameness.{same_proto}
-use Rattle.dexspec.specs.Values.{Value, ByteValue, ShortValue, CharValue, IntValue, LongValue, FloatValue, DoubleValue, StringValue, TypeValue, FieldValue, MethodValue, EnumValue, ArrayValue, AnnotationValue, NullValue, BooleanValue, Values, NoValues, ThenValue, Elements, NoElements, ThenElement, names_of, count_values, values_depth, elements_depth, most_depth}
-use Rattle.dexspec.specs.Annotations.{Annotation, AnnotationSet}
-use Rattle.dexspec.specs.ClassData.{ShareNone}
-use Rattle.dexspec.specs.Classes.{FieldDef, MethodDef, Definition, declared_fields, declared_methods}
-use Rattle.dexspec.specs.Mentions.{symbols_of, texts_in}
-use Rattle.dexspec.specs.WellFormed.{IsText, IsSymbol, IsCodeItem, IsValue, AreValues, AreElements, IsAnnotation, IsSet, field_key, field_key_cmp, method_key, method_key_cmp, IsFieldDef, IsMethodDef, IsWellFormed, AreWellFormed}
-use Rattle.dexspec.proofs.lists.Members.{and_first, and_second, and_both, list_all-member, list_any-member}
-use Rattle.dexspec.proofs.lists.Equality.{text_decides}
 use Rattle.dexspec.proofs.sharing.Sameness.{proto_decides}
 use Rattle.dexexamples.proofs.NameTests.{all_by, some_by, are_true, each, fits_uint, uint_by, is_class, class_by, is_member_name, member_name_by, is_value_type, value_type_by, is_proto, proto_by, is_symbol, symbol_by, is_text, text_by}
 use Rattle.dexexamples.proofs.CodeTests.{is_below, byte_by, short_by, int_by, long_by, is_code_item, code_by}

@@ -1,16 +1,8 @@
 -- Tests of code and debug programs, each with what it implies.
-use Rattle.std.proofs.Common.{◌≡◌, ℕ, ◌+◌, ◌<◌, Bool, true, false, not, ◌&&◌, ◌||◌, nat_lt, nat_le, ◌==◌, List, [], ◌∷◌, length, drop, Option, Some, None, refl, ap, arith, ltb-true, leb-true, eqb-true, IfNone, is_some, is_none}
-use Rattle.std.specs.Prelude.{ℤ, pos, negsuc, ◌^◌, slice_index, FitsSigned}
+use Rattle.dexexamples.proofs.Common.{◌≡◌, ℕ, ◌+◌, ◌<◌, Bool, true, false, not, ◌&&◌, ◌||◌, nat_lt, nat_le, ◌==◌, List, [], ◌∷◌, length, drop, Option, Some, None, refl, ap, arith, ltb-true, leb-true, eqb-true, IfNone, is_some, is_none, ℤ, pos, negsuc, ◌^◌, slice_index, FitsSigned, flat_map, list_all, AllZip, same_text, Pool, StringPool, TypePool, ProtoPool, FieldPool, MethodPool, pool_of, Cut, AreCut, piece_size, has_right_targets, is_payload_ident, is_instruction_start, all_of_option, Piece, Instruction, Payload, units_of, index_pool, index_in, with_index, DenotesPiece, cut_units, Handler, Try, Code, IsStart, AreApart, handlers_of, handlers_weight, most_handlers, ArePieces, IsHandlerOf, IsTryOf, IsOperation, IsDebug, IsCodeItem, and_first, and_second}
 use Rattle.std.specs.Int.{w8, w16, w32, w64}
-use Rattle.std.specs.List.{flat_map, list_all, AllZip}
 use Rattle.std.proofs.lemmas.Int.{ints}
-use Rattle.dexspec.specs.Texts.{same_text}
-use Rattle.dexspec.specs.Symbols.{Pool, StringPool, TypePool, ProtoPool, FieldPool, MethodPool, pool_of}
-use Rattle.dexspec.specs.Pieces.{Cut, AreCut, piece_size, has_right_targets, is_payload_ident, is_instruction_start, all_of_option, Piece, Instruction, Payload, units_of, index_pool, index_in, with_index, DenotesPiece, cut_units}
 use Rattle.dexspec.specs.Debug.{Operation, AdvancePc, AdvanceLine, StartLocal, StartLocalExtended, EndLocal, RestartLocal, SetPrologueEnd, SetEpilogueBegin, SetFile, Special, Debug}
-use Rattle.dexspec.specs.Code.{Handler, Try, Code, IsStart, AreApart, handlers_of, handlers_weight, most_handlers}
-use Rattle.dexspec.specs.WellFormed.{ArePieces, IsHandlerOf, IsTryOf, IsOperation, IsDebug, IsCodeItem}
-use Rattle.dexspec.proofs.lists.Members.{and_first, and_second}
 use Rattle.dexexamples.proofs.NameTests.{all_by, some_by, are_true, each, fits_uint, uint_by, fits_ushort, ushort_by, text_is}
 
 -- ---- signed numbers

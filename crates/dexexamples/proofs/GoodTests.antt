@@ -1,28 +1,12 @@
 -- Tests that definitions can be written as one file, with what they imply; and some collections that pass.
-use Rattle.std.proofs.Common.{◌≡◌, Bool, true, T, nat_lt, nat_le, List, [], ◌∷◌, length, refl, sym, ap, ◌∙◌, subst, arith, ltb-true, leb-true, is_lt}
-use Rattle.std.specs.Prelude.{codes}
-use Rattle.std.specs.List.{list_all}
+use Rattle.dexexamples.proofs.Common.{◌≡◌, Bool, true, T, nat_lt, nat_le, List, [], ◌∷◌, length, refl, sym, ap, ◌∙◌, subst, arith, ltb-true, leb-true, is_lt, codes, list_all, is_sorted, count_by-le-length, text_cmp, opcode_of, opcode_runs, piece_size, has_right_targets, Definition, Collection, definitions, Mentions, mentions, symbols_of, is_below, IsAcyclic, weight, most_weight, AreWellFormed, list_all-member, text_total, text_exact}
 use Rattle.std.specs.FinMap as finite
-use Rattle.std.specs.FinMap.Entries.{is_sorted}
 use Rattle.std.proofs.lemmas.Float.{T_from_true}
-use Rattle.std.proofs.lemmas.List.Sums.{count_by-le-length}
-use Rattle.dexspec.specs.Texts.{text_cmp}
-use Rattle.dexspec.specs.Opcodes.{opcode_of, opcode_runs}
-use Rattle.dexspec.specs.Pieces.{piece_size, has_right_targets}
-use Rattle.dexspec.specs.Classes.{Definition}
-use Rattle.dexspec.specs.Files.{Collection, definitions}
-use Rattle.dexspec.specs.Mentions.{Mentions, mentions, symbols_of}
-use Rattle.dexspec.specs.Depth.{is_below, IsAcyclic}
-use Rattle.dexspec.specs.Weight.{weight, most_weight}
-use Rattle.dexspec.specs.WellFormed.{AreWellFormed}
 use Rattle.dexspec.specs.Merging.{greatest_caps, Fits, IsGood}
-use Rattle.dexspec.proofs.lists.Members.{list_all-member}
-use Rattle.dexspec.proofs.merge.SymbolOrders.{text_total, text_exact}
 use Rattle.dexspec.proofs.merge.Depths.{names_in, is_defined-name}
 use Rattle.dexspec.proofs.merge.WeightGrowth.{weight-within}
 use Rattle.dexspec.proofs.merge.Collections.{collection-consistent, definitions-are}
-use Rattle.dexexamples.specs.Examples.{class_p, class_f, class_debug_twice}
-use Rattle.dexexamples.specs.Varied.{varied}
+use Rattle.dexexamples.specs.{class_p, class_f, class_debug_twice, varied}
 use Rattle.dexexamples.proofs.NameTests.{are_true, each}
 use Rattle.dexexamples.proofs.ClassTests.{are_well_formed, well_formed_by}
 

@@ -1,3 +1,4 @@
+pub mod Common
 pub mod NameTests
 pub mod CodeTests
 pub mod ClassTests

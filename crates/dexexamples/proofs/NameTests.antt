@@ -1,18 +1,7 @@
 -- Tests of names, symbols and numbers, each with what it implies: that they are well formed then follows by
 -- computation.
-use Rattle.std.proofs.Common.{◌≡◌, ℕ, ◌<◌, Bool, true, false, not, ◌&&◌, ◌||◌, nat_lt, nat_le, ◌==◌, List, [], ◌∷◌, ◌++◌, length, take, drop, replicate, Option, Some, None, sym, ap, subst, arith, inl, inr, ltb-true, leb-true, eqb-true, eq-eqb, All, IfSome}
-use Rattle.std.specs.Prelude.{◌≢◌, ◌⊎◌, ◌-◌, ◌^◌, ◌+◌, if◌then◌else◌, slice_index, slice_index_or}
-use Rattle.std.specs.List.{Contains, list_all, list_any, slice_split}
-use Rattle.std.proofs.lemmas.List.Elements.{All-weaker}
-use Rattle.std.proofs.lemmas.List.Sums.{AllPass-from_list_all}
+use Rattle.dexexamples.proofs.Common.{◌≡◌, ℕ, ◌<◌, Bool, true, false, not, ◌&&◌, ◌||◌, nat_lt, nat_le, ◌==◌, List, [], ◌∷◌, ◌++◌, length, take, drop, replicate, Option, Some, None, sym, ap, subst, arith, inl, inr, ltb-true, leb-true, eqb-true, eq-eqb, All, IfSome, ◌≢◌, ◌⊎◌, ◌-◌, ◌^◌, ◌+◌, if◌then◌else◌, slice_index, slice_index_or, Contains, list_all, list_any, slice_split, All-weaker, AllPass-from_list_all, Text, same_text, IsNameUnit, IsMemberName, IsClassName, primitive_letters, VoidType, PrimitiveType, ClassType, ArrayType, IsPrimitive, IsClass, IsArray, IsDescriptor, IsValueType, IsReferenceType, Proto, Field, Method, Symbol, TextSymbol, TypeSymbol, ProtoSymbol, FieldSymbol, MethodSymbol, IsProto, IsField, IsMethod, all_of_option, FitsUint, FitsUshort, IsText, IsSymbol, and_first, and_second, list_any-source, text_decides}
 use Rattle.std.proofs.lemmas.List.Splits.{length-slice_split, join_with_byte-slice_split}
-use Rattle.dexspec.specs.Texts.{Text, same_text}
-use Rattle.dexspec.specs.Names.{IsNameUnit, IsMemberName, IsClassName, primitive_letters, VoidType, PrimitiveType, ClassType, ArrayType, IsPrimitive, IsClass, IsArray, IsDescriptor, IsValueType, IsReferenceType}
-use Rattle.dexspec.specs.Symbols.{Proto, Field, Method, Symbol, TextSymbol, TypeSymbol, ProtoSymbol, FieldSymbol, MethodSymbol, IsProto, IsField, IsMethod}
-use Rattle.dexspec.specs.Pieces.{all_of_option}
-use Rattle.dexspec.specs.WellFormed.{FitsUint, FitsUshort, IsText, IsSymbol}
-use Rattle.dexspec.proofs.lists.Members.{and_first, and_second, list_any-source}
-use Rattle.dexspec.proofs.lists.Equality.{text_decides}
 
 -- ---- tests
 

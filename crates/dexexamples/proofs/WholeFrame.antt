@@ -1,17 +1,8 @@
 -- Conditions 1 to 10 at the whole file, by computation.
-use Rattle.std.proofs.Common.{◌≢◌, ℕ, inl, inr, List, [], ◌∷◌, drop, refl, arith}
-use Rattle.std.specs.Prelude.{map, All}
-use Rattle.std.specs.List.{AllByRecursion}
-use Rattle.std.proofs.lemmas.List.Elements.{All-from_recursion}
+use Rattle.dexexamples.proofs.Common.{◌≢◌, ℕ, inl, inr, List, [], ◌∷◌, drop, refl, arith, map, All, AllByRecursion, All-from_recursion, sha1, digest_bytes, hash_after, compress, rounds, schedule, first_words, AreDistinct, number_of, uint_at, ushort_at, Table, StringIds, TypeIds, ProtoIds, FieldIds, MethodIds, ClassDefs, table_size, MayHave, HasSize, IsDigit, HasMagic, HasVersion, HasLengths, HasEndian, HasNoLink, HasChecksum, HasSignature, adler_32, Condition, IsFrame}
 use Rattle.std.proofs.lemmas.List.Kept.{AllPairs-cons}
-use Rattle.sha1.specs.Sha1.{sha1, digest_bytes, hash_after, compress, rounds, schedule, first_words}
-use Rattle.dexspec.specs.Lists.{AreDistinct}
-use Rattle.dexspec.specs.Bytes.{number_of, uint_at, ushort_at}
-use Rattle.dexspec.specs.Header.{Table, StringIds, TypeIds, ProtoIds, FieldIds, MethodIds, ClassDefs, table_size, MayHave, HasSize, IsDigit, HasMagic, HasVersion, HasLengths, HasEndian, HasNoLink, HasChecksum, HasSignature, adler_32}
 use Rattle.dexspec.specs.Sections.{HasLayout, HeaderItem, TableOf, MapList, StringDataItems, map_entries, type_code, IsKnown, HasTable, IsPlaced, HasMap}
-use Rattle.dexspec.specs.Conditions.{Condition}
-use Rattle.dexspec.specs.Accepted.{IsFrame}
-use Rattle.dexexamples.specs.Whole.{whole_a}
+use Rattle.dexexamples.specs.{whole_a}
 
 has_size : HasSize whole_a
 unfolding whole_a

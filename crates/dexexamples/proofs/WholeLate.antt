@@ -1,30 +1,10 @@
 -- The whole file is accepted, and denotes its class: conditions 17 to 23, and the definition of its class row.
-use Rattle.std.proofs.Common.{◌≡◌, ℕ, zero, suc, ◌<◌, inl, inr, List, [], ◌∷◌, refl, ap, subst, sym, ◌∙◌, arith}
-use Rattle.std.specs.Prelude.{◌≢◌, ◌≤◌, Bool, true, false, cond, map, Option, Some, None, codes}
-use Rattle.std.specs.List.{AllZip}
+use Rattle.dexexamples.proofs.Common.{◌≡◌, ℕ, zero, suc, ◌<◌, inl, inr, List, [], ◌∷◌, refl, ap, subst, sym, ◌∙◌, arith, ◌≢◌, ◌≤◌, Bool, true, false, cond, map, Option, Some, None, codes, AllZip, All-nil, All-same, OrNone, number_of, uint_at, ClassDefs, table_size, Text, text_cmp, NoValues, Directory, DirectoryAt, no_directory, ClassData, ClassDataAt, EncodedMethod, no_class_data, methods_of, StringRow, Definition, Body, MethodDef, ClassTypeRow, ClassListAt, IndexOrNone, StaticValuesAt, MakesMethod, ClassRow, field_def, Defines, Denotes, mentions, symbols_of, weight, most_weight, Condition, HoldsThroughout, IsAccepted, Declares, AllCode, HasPiecesAt, HasTriesAt, HasDebugAt, AreRows, one_type, text_total, text_exact}
 use Rattle.std.specs.Ordering.{eq_by_cmp}
 use Rattle.std.specs.FinMap as finmap
 use Rattle.std.specs.FinMap.Entries.{find}
 use Rattle.std.proofs.lemmas.Map.Views.{tells_apart}
-use Rattle.std.proofs.lemmas.List.Elements.{All-nil, All-same}
-use Rattle.dexspec.specs.Lists.{OrNone}
-use Rattle.dexspec.specs.Bytes.{number_of, uint_at}
-use Rattle.dexspec.specs.Header.{ClassDefs, table_size}
-use Rattle.dexspec.specs.Texts.{Text, text_cmp}
-use Rattle.dexspec.specs.Values.{NoValues}
-use Rattle.dexspec.specs.Annotations.{Directory, DirectoryAt, no_directory}
-use Rattle.dexspec.specs.ClassData.{ClassData, ClassDataAt, EncodedMethod, no_class_data, methods_of}
-use Rattle.dexspec.specs.Rows.{StringRow}
-use Rattle.dexspec.specs.Classes.{Definition, Body, MethodDef, ClassTypeRow, ClassListAt, IndexOrNone, StaticValuesAt, MakesMethod, ClassRow, field_def}
-use Rattle.dexspec.specs.Files.{Defines, Denotes}
-use Rattle.dexspec.specs.Mentions.{mentions, symbols_of}
-use Rattle.dexspec.specs.Weight.{weight, most_weight}
-use Rattle.dexspec.specs.Conditions.{Condition}
-use Rattle.dexspec.specs.Accepted.{HoldsThroughout, IsAccepted, Declares, AllCode, HasPiecesAt, HasTriesAt, HasDebugAt, AreRows}
-use Rattle.dexspec.proofs.determined.OneRow.{one_type}
-use Rattle.dexspec.proofs.merge.SymbolOrders.{text_total, text_exact}
-use Rattle.dexexamples.specs.Examples.{object, body_under, class_a}
-use Rattle.dexexamples.specs.Whole.{whole_a}
+use Rattle.dexexamples.specs.{object, body_under, class_a, whole_a}
 use Rattle.dexexamples.proofs.WholeFrame.{frame}
 use Rattle.dexexamples.proofs.WholeRows.{class_of_a, type_0, type_1, strings, types, protos, fields, methods, class_row, classes}
 

@@ -1,24 +1,7 @@
 -- A file whose class has a method with code: what its rows, class data and code denote.
-use Rattle.std.proofs.Common.{◌≡◌, ℕ, ◌<◌, inl, inr, [], ◌∷◌, refl, arith}
-use Rattle.std.specs.Prelude.{codes}
-use Rattle.std.proofs.lemmas.List.Elements.{All-from_recursion, All-nil}
-use Rattle.std.proofs.lemmas.List.Sums.{AllPass-from_list_all}
-use Rattle.dexspec.specs.Bytes.{number_of, uint_at, ushort_at}
+use Rattle.dexexamples.proofs.Common.{◌≡◌, ℕ, ◌<◌, inl, inr, [], ◌∷◌, refl, arith, codes, All-from_recursion, All-nil, AllPass-from_list_all, number_of, uint_at, ushort_at, IsNameUnit, IsMemberName, VoidType, ClassType, IsValueType, IsStringData, Method, opcode_of, opcode_runs, piece_size, has_right_targets, IsCode, StringRow, TypeRow, ProtoRow, MethodRow, CodeAt, PiecesAt, no_directory, ClassData, ClassDataAt, ClassRow, HasMembers}
 use Rattle.dexspec.specs.Numbers.{IsUleb128}
-use Rattle.dexspec.specs.Names.{IsNameUnit, IsMemberName, VoidType, ClassType, IsValueType}
-use Rattle.dexspec.specs.Texts.{IsStringData}
-use Rattle.dexspec.specs.Symbols.{Method}
-use Rattle.dexspec.specs.Opcodes.{opcode_of, opcode_runs}
-use Rattle.dexspec.specs.Pieces.{piece_size, has_right_targets, IsCode}
-use Rattle.dexspec.specs.Rows.{StringRow, TypeRow, ProtoRow, MethodRow}
-use Rattle.dexspec.specs.Code.{CodeAt, PiecesAt}
-use Rattle.dexspec.specs.Annotations.{no_directory}
-use Rattle.dexspec.specs.ClassData.{ClassData, ClassDataAt}
-use Rattle.dexspec.specs.Classes.{ClassRow}
-use Rattle.dexspec.specs.Accepted.{HasMembers}
-use Rattle.dexexamples.specs.Examples.{object, void_proto, string_code, class_p}
-use Rattle.dexexamples.specs.Units.{cut}
-use Rattle.dexexamples.specs.Whole.{whole_p}
+use Rattle.dexexamples.specs.{object, void_proto, string_code, class_p, cut, whole_p}
 use Rattle.dexexamples.proofs.WholeRows.{class_of_a, class_of_object, units_by, data_of_a, data_of_object}
 
 data_of_v : IsStringData (0x01 ∷ 0x56 ∷ 0x00 ∷ []) (codes "V")

@@ -1,12 +1,6 @@
 -- Files with one error are refused with its number.
-use Rattle.std.proofs.Common.{◌≡◌, ℕ, ◌<◌, inl, ◌≤◌, List, [], ◌∷◌, refl, arith}
-use Rattle.std.specs.Prelude.{All}
-use Rattle.std.proofs.lemmas.List.Elements.{All-from_recursion}
-use Rattle.dexspec.specs.Bytes.{number_of, uint_at}
-use Rattle.dexspec.specs.Header.{IsDigit, HasVersion, HasLengths, HasChecksum, adler_32}
-use Rattle.dexspec.specs.Conditions.{Condition}
-use Rattle.dexspec.specs.Accepted.{number, rows_checked, Holds, HoldBelow, place, IsRefused}
-use Rattle.dexexamples.specs.Whole.{whole_a, changed_a, cut_a, later_a}
+use Rattle.dexexamples.proofs.Common.{◌≡◌, ℕ, ◌<◌, inl, ◌≤◌, List, [], ◌∷◌, refl, arith, All, All-from_recursion, number_of, uint_at, IsDigit, HasVersion, HasLengths, HasChecksum, adler_32, Condition, number, rows_checked, Holds, HoldBelow, place, IsRefused}
+use Rattle.dexexamples.specs.{whole_a, changed_a, cut_a, later_a}
 
 -- a condition without rows that is the first to fail
 refused : (c : Condition) (b : List ℕ) (n p : ℕ) → n ≡ number c → n ≤ 16 → p ≡ place c b 0 → HoldBelow (number c) b → 0 < rows_checked c b → (Holds c b 0 → ⊥) → IsRefused b n p

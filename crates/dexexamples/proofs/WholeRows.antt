@@ -1,24 +1,7 @@
 -- What the rows of the whole file denote: conditions 11 to 16.
-use Rattle.std.proofs.Common.{◌≡◌, ℕ, zero, suc, ◌+◌, ◌<◌, inl, [], ◌∷◌, refl, ap, arith}
-use Rattle.std.specs.Prelude.{◌++◌, ◌^◌, length, take, drop, true, nat_lt, Some, None, codes}
-use Rattle.std.specs.List.{list_all}
+use Rattle.dexexamples.proofs.Common.{◌≡◌, ℕ, zero, suc, ◌+◌, ◌<◌, inl, [], ◌∷◌, refl, ap, arith, ◌++◌, ◌^◌, length, take, drop, true, nat_lt, Some, None, codes, list_all, All-from_recursion, All-cons, All-weaker, AllPass-from_list_all, ltb-true, number_of, uint_at, IsNameUnit, IsMemberName, IsClass, ClassType, Text, text_cmp, AreUnits, IsStringData, StringRow, TypeRow, Follows, type_row_key, no_directory, no_class_data, ClassTypeRow, ClassRow, Condition, HoldsThroughout, IsDefinedBefore, parent_indices, one_string}
 use Rattle.std.specs.declared.cmp.Ordering.TheVariants.{Less}
-use Rattle.std.proofs.lemmas.List.Elements.{All-from_recursion, All-cons, All-weaker}
-use Rattle.std.proofs.lemmas.List.Sums.{AllPass-from_list_all}
-use borrow.Author.Tests.{ltb-true}
-use Rattle.dexspec.specs.Bytes.{number_of, uint_at}
-use Rattle.dexspec.specs.Names.{IsNameUnit, IsMemberName, IsClass, ClassType}
-use Rattle.dexspec.specs.Texts.{Text, text_cmp, AreUnits, IsStringData}
-use Rattle.dexspec.specs.Rows.{StringRow, TypeRow, Follows, type_row_key}
-use Rattle.dexspec.specs.Annotations.{no_directory}
-use Rattle.dexspec.specs.ClassData.{no_class_data}
-use Rattle.dexspec.specs.Classes.{ClassTypeRow, ClassRow}
-use Rattle.dexspec.specs.Conditions.{Condition}
-use Rattle.dexspec.specs.Accepted.{HoldsThroughout, IsDefinedBefore, parent_indices}
-use Rattle.dexspec.proofs.determined.OneRow.{one_string}
-use Rattle.dexexamples.specs.Examples.{object, body_under}
-use Rattle.dexexamples.specs.ExpectedFiles.{prefix_a, file_a}
-use Rattle.dexexamples.specs.Whole.{whole_a}
+use Rattle.dexexamples.specs.{object, body_under, prefix_a, file_a, whole_a}
 
 -- ---- texts and types
 

@@ -1,16 +1,10 @@
 -- The entries of a map, one by one.
-use Rattle.std.proofs.Common.{◌≡◌, ◌≢◌, ◌⊎◌, inl, inr, ◌↔◌, ℕ, zero, suc, ◌+◌, ◌-◌, ◌*◌, ◌<◌, ◌≤◌, List, [], ◌∷◌, ◌++◌, length, map, take, get_or, Bool, true, false, ◌&&◌, IsTrue, All, refl, subst, sym, ap, ◌∙◌, arith}
-use Rattle.std.specs.List.{Contains}
+use Rattle.dexhead.proofs.Common.{◌≡◌, ◌≢◌, ◌⊎◌, inl, inr, ◌↔◌, ℕ, zero, suc, ◌+◌, ◌-◌, ◌*◌, ◌<◌, ◌≤◌, List, [], ◌∷◌, ◌++◌, length, map, take, get_or, Bool, true, false, ◌&&◌, IsTrue, All, refl, subst, sym, ap, ◌∙◌, arith, Contains, take_more, take_all, map-append, length-map, length-take-le, get_or-map, get_or-take, All-more, All-map, All-get_or, All-contains, Contains-get_or, ushort_at, uint_at, table_size, table_off, StringIds, TypeIds, ProtoIds, FieldIds, MethodIds, ClassDefs, MapEntry, Section, HeaderItem, TableOf, MapList, TypeLists, AnnotationSetRefLists, AnnotationSets, ClassDataItems, CodeItems, StringDataItems, DebugInfoItems, AnnotationItems, EncodedArrayItems, AnnotationsDirectories, type_code, entries_at, IsKnown, IsPlaced, HasTable, HasMap, map_entries}
 use Rattle.std.specs.Ordering.{nat_cmp, is_lt}
-use Rattle.std.proofs.lemmas.List.{take_more, take_all, map-append, length-map, length-take-le, get_or-map, get_or-take}
-use Rattle.std.proofs.lemmas.List.Elements.{All-more, All-map, All-get_or, All-contains, Contains-get_or}
 use Rattle.std.proofs.lemmas.List.Quantifiers.{all_pairs_push}
 use Rattle.std.proofs.lemmas.Bool.Decides.{nat_tests}
 use Rattle.dexspec.specs.Lists.{rises, AreDistinct}
-use Rattle.dexspec.specs.Bytes.{ushort_at, uint_at}
 use Rattle.dexspec.specs.Header as header
-use Rattle.dexspec.specs.Header.{table_size, table_off, StringIds, TypeIds, ProtoIds, FieldIds, MethodIds, ClassDefs}
-use Rattle.dexspec.specs.Sections.{MapEntry, Section, HeaderItem, TableOf, MapList, TypeLists, AnnotationSetRefLists, AnnotationSets, ClassDataItems, CodeItems, StringDataItems, DebugInfoItems, AnnotationItems, EncodedArrayItems, AnnotationsDirectories, type_code, entries_at, IsKnown, IsPlaced, HasTable, HasMap, map_entries}
 use Rattle.dexhead.specs.declared.map.Map.{Map}
 use Rattle.dexhead.specs.internal.Found.{entries}
 use Rattle.dexhead.specs.internal.Map.{entry_of, IsCode, IsNext, AreInOrder, BeginsWithHeader, IsThere, HaveTables, AreRight, IsInPlace}

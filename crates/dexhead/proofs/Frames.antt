@@ -1,10 +1,7 @@
 -- The first ten conditions, one after the other.
-use Rattle.std.proofs.Common.{◌≡◌, ◌≢◌, ◌⊎◌, inl, inr, ℕ, zero, suc, ◌+◌, ◌<◌, ◌≤◌, List, [], ◌∷◌, length, get_or, ◌*◌, refl, subst, sym, ap, ◌∙◌, arith}
-use Rattle.dexspec.specs.Header.{Table, StringIds, TypeIds, ProtoIds, FieldIds, MethodIds, ClassDefs, tables, table_size, table_off, row_size, data_off, version, HasSize, HasMagic, HasVersion, HasLengths, HasEndian, HasNoLink, HasChecksum, HasSignature}
-use Rattle.dexspec.specs.Sections.{AreLaidOut, HasLayout, HasMap}
+use Rattle.dexhead.proofs.Common.{◌≡◌, ◌≢◌, ◌⊎◌, inl, inr, ℕ, zero, suc, ◌+◌, ◌<◌, ◌≤◌, List, [], ◌∷◌, length, get_or, ◌*◌, refl, subst, sym, ap, ◌∙◌, arith, Table, StringIds, TypeIds, ProtoIds, FieldIds, MethodIds, ClassDefs, tables, table_size, table_off, row_size, data_off, version, HasSize, HasMagic, HasVersion, HasLengths, HasEndian, HasNoLink, HasChecksum, HasSignature, AreLaidOut, HasLayout, HasMap, number, rows_checked, place, Holds, HoldBelow, IsFrame, IsRefused}
 use Rattle.dexspec.specs.Rows.{row_at}
 use Rattle.dexspec.specs.Conditions.{Condition}
-use Rattle.dexspec.specs.Accepted.{number, rows_checked, place, Holds, HoldBelow, IsFrame, IsRefused}
 use Rattle.dexhead.specs.declared.refusal.Refusal.{Refusal}
 use Rattle.dexhead.specs.internal.Refusals.{IsEarly}
 

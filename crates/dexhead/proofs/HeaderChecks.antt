@@ -1,13 +1,9 @@
 -- What the header's own functions check, in terms of the conditions.
-use Rattle.std.proofs.Common.{◌≡◌, ◌↔◌, ℕ, ◌+◌, ◌<◌, List, ◌∷◌, length, map, take, drop, get_or, IsTrue, subst, sym}
-use Rattle.std.proofs.lemmas.List.{drop_more}
+use Rattle.dexhead.proofs.Common.{◌≡◌, ◌↔◌, ℕ, ◌+◌, ◌<◌, List, ◌∷◌, length, map, take, drop, get_or, IsTrue, subst, sym, drop_more, sha1, StringIds, TypeIds, ProtoIds, FieldIds, MethodIds, ClassDefs, MayHave, table_size, HasSignature, tables, data_off, data_size, file_size, HasLayout}
 use Rattle.std.proofs.lemmas.Slice.Eq.{bytes_eq-Decides}
-use Rattle.sha1.specs.Sha1.{sha1}
 use Rattle.dexspec.specs.Header as header
-use Rattle.dexspec.specs.Header.{StringIds, TypeIds, ProtoIds, FieldIds, MethodIds, ClassDefs, MayHave, table_size, HasSignature, tables, data_off, data_size, file_size}
-use Rattle.dexspec.specs.Sections.{HasLayout}
 use Rattle.dexhead.specs.declared.tables.Table.{Table}
-use Rattle.dexhead.specs.Tables.{meant}
+use Rattle.dexhead.specs.{meant}
 use Rattle.dexhead.specs.internal.HeaderChecks.{AreFew, IsLaidOut, has_signature}
 
 -- ---- the signature

@@ -1,17 +1,9 @@
 -- A header before the rest of the file of classes in order.
-use Rattle.std.proofs.Common.{◌≡◌, ℕ, List, ◌++◌, length, map, refl, sym, ap, ◌∙◌}
-use Rattle.std.specs.List.{flat_map}
-use Rattle.std.proofs.lemmas.List.Folds.{flat_map-map}
-use Rattle.sha1.specs.Sha1.{sha1}
-use Rattle.dexspec.specs.Bytes.{uint}
-use Rattle.dexspec.specs.Header.{Table, adler_32}
+use Rattle.dexhead.proofs.Common.{◌≡◌, ℕ, List, ◌++◌, length, map, refl, sym, ap, ◌∙◌, flat_map, flat_map-map, sha1, uint, Table, adler_32, placed_tables, header_bytes, unsigned_file, with_sums}
 use Rattle.dexspec.specs.Placing.{Ordered}
-use Rattle.dexspec.specs.Canonical.{placed_tables, header_bytes, unsigned_file, with_sums}
 use Rattle.dexhead.specs.declared.head.Head.{Head}
 use Rattle.dexhead.specs.declared.head.Rows.{Rows}
-use Rattle.dexhead.specs.Sums.{with_sums_set}
-use Rattle.dexhead.specs.Written.{rows_bytes, rows_meant, field_bytes, head_bytes, StatesTables}
-use Rattle.dexhead.specs.Laid.{StatesLayout, after_header, map_start}
+use Rattle.dexhead.specs.{with_sums_set, rows_bytes, rows_meant, field_bytes, head_bytes, StatesTables, StatesLayout, after_header, map_start}
 use Rattle.dexhead.proofs.PutHeads.{head_set, head_stated}
 
 -- two numbers of four bytes each

@@ -1,18 +1,10 @@
 -- How many bytes a header and a map have.
-use Rattle.std.proofs.Common.{◌≡◌, ℕ, ◌+◌, ◌*◌, List, length, map, arith}
-use Rattle.std.specs.List.{flat_map}
+use Rattle.dexhead.proofs.Common.{◌≡◌, ℕ, ◌+◌, ◌*◌, List, length, map, arith, flat_map, length-map, uint, header_length, Section, type_code, map_entry_bytes, map_bytes, length_rows, length-ushort, length-uint}
 use Rattle.std.proofs.Math.ListN.{length-append}
-use Rattle.std.proofs.lemmas.List.{length-map}
-use Rattle.dexspec.specs.Bytes.{uint}
-use Rattle.dexspec.specs.Header.{header_length}
-use Rattle.dexspec.specs.Sections.{Section, type_code}
-use Rattle.dexspec.specs.Canonical.{map_entry_bytes, map_bytes}
-use Rattle.dexspec.proofs.written.PlacedBytes.{length_rows}
-use Rattle.dexspec.proofs.numbers.ByteNumbers.{length-ushort, length-uint}
 use Rattle.dexhead.specs.declared.head.Head.{Head}
 use Rattle.dexhead.specs.declared.head.Rows.{Rows}
 use Rattle.dexhead.specs.declared.map_list.MapEntry.{MapEntry}
-use Rattle.dexhead.specs.Written.{rows_bytes, field_bytes, head_bytes, entry_meant}
+use Rattle.dexhead.specs.{rows_bytes, field_bytes, head_bytes, entry_meant}
 
 pub length_rows_bytes : (r : Rows) → length (rows_bytes r) ≡ 8
 length_rows_bytes r = omega (arith, length-append (uint r.size) (uint r.off), length-uint r.size, length-uint r.off)

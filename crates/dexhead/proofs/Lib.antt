@@ -1,3 +1,4 @@
+pub mod Common
 pub mod Encoded
 pub mod Entries
 pub mod Frames

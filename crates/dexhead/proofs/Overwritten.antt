@@ -1,15 +1,7 @@
 -- A file whose sums are set.
-use Rattle.std.proofs.Common.{◌≡◌, ℕ, ◌+◌, ◌-◌, ◌≤◌, List, ◌++◌, length, take, drop, refl, sym, ap, ◌∙◌, arith}
-use Rattle.std.proofs.lemmas.List.{drop_at, drop-drop, length-take-le, take_at, take-append-le, take-take, take_rest}
-use Rattle.std.proofs.Math.Seq.{drop-append-add}
-use Rattle.sha1.specs.Sha1.{sha1}
-use Rattle.byteorder.specs.Endian.{little_bytes}
-use Rattle.dexspec.specs.Bytes.{uint}
-use Rattle.dexspec.specs.Header.{adler_32, HasChecksum, HasSignature}
-use Rattle.dexspec.proofs.numbers.ByteNumbers.{length-uint, uint_at-encodes}
-use Rattle.dexspec.proofs.written.PlacedBytes.{is_at_first, is_at_later, is_at}
+use Rattle.dexhead.proofs.Common.{◌≡◌, ℕ, ◌+◌, ◌-◌, ◌≤◌, List, ◌++◌, length, take, drop, refl, sym, ap, ◌∙◌, arith, drop_at, drop-drop, length-take-le, take_at, take-append-le, take-take, take_rest, drop-append-add, sha1, little_bytes, uint, adler_32, HasChecksum, HasSignature, length-uint, uint_at-encodes, is_at_first, is_at_later, is_at}
 use Rattle.dexspec.proofs.layout.Sums.{length-sha1, adler_32_small}
-use Rattle.dexhead.specs.Sums.{signed, with_sums_set}
+use Rattle.dexhead.specs.{signed, with_sums_set}
 use Rattle.dexhead.proofs.Spelled.{four_bytes}
 use borrow.Rule.Slice.PartMut.{put_mid}
 

@@ -1,14 +1,7 @@
 -- A header that was put before the rest of a file, with the sums set.
-use Rattle.std.proofs.Common.{◌≡◌, ℕ, List, ◌++◌, length, take, drop, refl, ap, ◌∙◌, append_assoc}
-use Rattle.std.proofs.lemmas.List.{take_at, drop_at}
-use Rattle.sha1.specs.Sha1.{sha1}
-use Rattle.dexspec.specs.Bytes.{uint}
-use Rattle.dexspec.specs.Header.{adler_32}
-use Rattle.dexspec.specs.Canonical.{magic, with_sums}
-use Rattle.dexspec.proofs.numbers.ByteNumbers.{length-uint}
+use Rattle.dexhead.proofs.Common.{◌≡◌, ℕ, List, ◌++◌, length, take, drop, refl, ap, ◌∙◌, append_assoc, take_at, drop_at, sha1, uint, adler_32, magic, with_sums, length-uint}
 use Rattle.dexhead.specs.declared.head.Head.{Head}
-use Rattle.dexhead.specs.Sums.{signed, with_sums_set}
-use Rattle.dexhead.specs.Written.{field_bytes, head_bytes}
+use Rattle.dexhead.specs.{signed, with_sums_set, field_bytes, head_bytes}
 use Rattle.dexhead.proofs.Overwritten.{drop_after}
 
 -- three parts, and more after them

@@ -1,9 +1,6 @@
 -- The two ways to say which number some bytes spell, and which bytes spell a number: from the start of the list, and by
 -- places.
-use Rattle.std.proofs.Common.{◌≡◌, ℕ, ◌/◌, ◌%◌, ◌^◌, List, [], ◌∷◌, length, take, refl, arith}
-use Rattle.dexspec.specs.Bytes.{number_of, bytes_of, ushort, uint}
-use Rattle.dexspec.proofs.numbers.ByteNumbers.{length-ushort, length-uint}
-use Rattle.byteorder.specs.Endian.{little_number, little_bytes}
+use Rattle.dexhead.proofs.Common.{◌≡◌, ℕ, ◌/◌, ◌%◌, ◌^◌, List, [], ◌∷◌, length, take, refl, arith, number_of, bytes_of, ushort, uint, length-ushort, length-uint, little_number, little_bytes}
 
 pub number_of_two : (xs : List ℕ) → number_of (take 2 xs) ≡ little_number 2 xs
 unfolding number_of

@@ -1,6 +1,5 @@
 -- Bytes that come and go in pieces.
-use Rattle.std.proofs.Common.{◌≡◌, ℕ, ◌+◌, List, ◌++◌, take, drop, append_assoc}
-use Rattle.std.proofs.Math.Seq.{take-add}
+use Rattle.dexhead.proofs.Common.{◌≡◌, ℕ, ◌+◌, List, ◌++◌, take, drop, append_assoc, take-add}
 
 -- after a prefix, a prefix of the rest
 pub written_more : (old mid new bytes rest : List ℕ) (i n : ℕ) → mid ≡ old ++ take i bytes → rest ≡ drop i bytes → new ≡ mid ++ take n rest → new ≡ old ++ take (i + n) bytes

@@ -1,31 +1,9 @@
 -- The code of methods: by numbers, it is the code_items of the file.
-use Rattle.std.proofs.Common.{◌≡◌, ℕ, ◌+◌, ◌<◌, ◌≤◌, List, [], ◌∷◌, ◌++◌, length, get_or, map, drop, Option, None, Some, refl, sym, ap, subst, ◌∙◌, arith}
-use Rattle.std.specs.Prelude.{IfSome}
-use Rattle.std.specs.List.{All, flat_map}
-use Rattle.std.specs.Option.{option_map, option_map_or}
-use Rattle.std.proofs.lemmas.List.{drop_more, length-drop, length-map, map-append}
-use Rattle.std.proofs.lemmas.List.Elements.{All-nil, All-head, All-tail, All-append}
-use Rattle.dexspec.specs.Lists.{zip_with}
+use Rattle.dexlayout.proofs.Common.{◌≡◌, ℕ, ◌+◌, ◌<◌, ◌≤◌, List, [], ◌∷◌, ◌++◌, length, get_or, map, drop, Option, None, Some, refl, sym, ap, subst, ◌∙◌, arith, IfSome, All, flat_map, option_map, option_map_or, drop_more, length-drop, length-map, map-append, All-nil, All-head, All-tail, All-append, zip_with, MethodDef, declared_methods, Mentions, CodeItems, code_bytes, all_methods, code_uses, uses_offsets, debug_section, code_section, length-debug_offsets, length-code_offsets, AreRising, all_of, NumberedItem, handlers_of, code_in, IsKnownCode, numbered_code_bytes, HasShortTypes, NumberedMembers, NumberedMethod, method_in, AreKnownMembers, IsKnownMethod, methods_of, NumberedClass, definition_of, IsKnownClass}
 use Rattle.dexspec.specs.Code as symbolic
-use Rattle.dexspec.specs.Classes.{MethodDef, declared_methods}
-use Rattle.dexspec.specs.Mentions.{Mentions}
-use Rattle.dexspec.specs.Sections.{CodeItems}
-use Rattle.dexspec.specs.Spellings.{code_bytes}
-use Rattle.dexspec.specs.Placing.{all_methods, code_uses, uses_offsets}
-use Rattle.dexspec.specs.Canonical.{debug_section, code_section}
-use Rattle.dexspec.proofs.layout.Uses.{length-debug_offsets, length-code_offsets}
-use Rattle.dexpool.specs.Numberings.{AreRising}
-use Rattle.dexpool.proofs.Parts.{all_of}
-use Rattle.dexcode.specs.Numbered.{NumberedItem, handlers_of}
-use Rattle.dexcode.specs.Meaning.{code_in, IsKnownCode}
-use Rattle.dexcode.specs.CodePut.{numbered_code_bytes, HasShortTypes}
 use Rattle.dexcode.specs.Laws.{CodeBytesAreDenoted, CaughtTypesAreShort}
 use Rattle.dexcode.proofs.Meanings.{code_encoded}
-use Rattle.dexmembers.specs.Numbered.{NumberedMembers, NumberedMethod, method_in, AreKnownMembers, IsKnownMethod, methods_of}
-use Rattle.dexclass.specs.Numbered.{NumberedClass, definition_of}
-use Rattle.dexclass.specs.Uses.{IsKnownClass}
-use Rattle.dexlayout.specs.Laid.{AreCodes, AreLaidIn, AreWritable, ordered_of}
-use Rattle.dexlayout.specs.Places.{EncodedItems, ItemPlaces}
+use Rattle.dexlayout.specs.{AreCodes, AreLaidIn, AreWritable, ordered_of, EncodedItems, ItemPlaces}
 use Rattle.dexlayout.specs.internal.Codes.{code_item, code_items, HasShortCode}
 use Rattle.dexlayout.specs.internal.Encoding.{encode_use, encode_uses, no_items_from}
 use Rattle.dexlayout.proofs.EncodedUses.{own_in, use_encoded, use_fits}

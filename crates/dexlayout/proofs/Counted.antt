@@ -1,11 +1,7 @@
 -- What has few bytes has few members.
-use Rattle.std.proofs.Common.{ℕ, ◌+◌, ◌^◌, ◌<◌, ◌≤◌, ◌++◌, length, arith}
-use Rattle.std.proofs.lemmas.List.{length-append}
-use Rattle.dexspec.specs.Mentions.{Mentions}
+use Rattle.dexlayout.proofs.Common.{ℕ, ◌+◌, ◌^◌, ◌<◌, ◌≤◌, ◌++◌, length, arith, length-append, Mentions, type_index, text_index, value_bytes, values_bytes, elements_bytes, encoded_array_bytes, annotation_bytes, NumberedValue, NumberedValues, NumberedElements, NumberedAnnotation, Plain, Named, Array, Annotated, NoValue, ThenNext, NoElement, ThenNamed, value_in, values_in, elements_in, annotation_in, text_at, type_at, ByteLiteral, ShortLiteral, CharLiteral, IntLiteral, LongLiteral, FloatLiteral, DoubleLiteral, NullLiteral, BooleanLiteral, StringReference, TypeReference, FieldReference, MethodReference, EnumReference}
 use Rattle.dexspec.specs.Numbers.{uleb128}
-use Rattle.dexspec.specs.Spellings.{type_index, text_index, value_bytes, values_bytes, elements_bytes, encoded_array_bytes, annotation_bytes}
 use Rattle.dexspec.specs.Values.{count_values, names_of}
-use Rattle.dexval.specs.Numbered.{NumberedValue, NumberedValues, NumberedElements, NumberedAnnotation, Plain, Named, Array, Annotated, NoValue, ThenNext, NoElement, ThenNamed, value_in, values_in, elements_in, annotation_in, text_at, type_at, ByteLiteral, ShortLiteral, CharLiteral, IntLiteral, LongLiteral, FloatLiteral, DoubleLiteral, NullLiteral, BooleanLiteral, StringReference, TypeReference, FieldReference, MethodReference, EnumReference}
 use Rattle.dexval.specs.Spelled.{values_count, elements_count, IsCounted, AreCounted, HaveCounted, IsCountedAnnotation}
 
 -- a value has a byte

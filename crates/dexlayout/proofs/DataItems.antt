@@ -1,26 +1,8 @@
 -- The data of classes: by numbers, they are the items of the file.
-use Rattle.std.proofs.Common.{◌≡◌, ℕ, ◌+◌, ◌<◌, List, [], ◌∷◌, length, get_or, map, take, drop, Option, None, Some, Bool, true, false, refl, sym, ap, ◌∙◌, arith}
-use Rattle.std.specs.Prelude.{◌==◌, if◌then◌else◌}
-use Rattle.std.specs.List.{All}
-use Rattle.std.specs.Option.{option_map}
-use Rattle.std.proofs.lemmas.List.{length-append, length-map, length-drop}
-use Rattle.std.proofs.lemmas.List.Elements.{All-head, All-tail}
-use Rattle.dexspec.specs.Lists.{zip_with, chunks}
-use Rattle.dexspec.specs.Classes.{MethodDef, Definition, declared_fields, declared_methods}
-use Rattle.dexspec.specs.Mentions.{Mentions}
-use Rattle.dexspec.specs.Spellings.{class_data_bytes}
-use Rattle.dexspec.specs.Placing.{class_data_uses, is_empty_class, end, uses_offsets}
-use Rattle.dexspec.specs.Sections.{ClassDataItems}
-use Rattle.dexspec.specs.Canonical.{code_section, class_data_section}
-use Rattle.dexpool.specs.Numberings.{AreRising}
-use Rattle.dexpool.proofs.UnionLaws.{ranks_are_numbers}
-use Rattle.dexmembers.specs.Numbered.{NumberedMembers, method_in, methods_of}
-use Rattle.dexmembers.specs.Spelled.{numbered_class_data_bytes}
+use Rattle.dexlayout.proofs.Common.{◌≡◌, ℕ, ◌+◌, ◌<◌, List, [], ◌∷◌, length, get_or, map, take, drop, Option, None, Some, Bool, true, false, refl, sym, ap, ◌∙◌, arith, ◌==◌, if◌then◌else◌, All, option_map, length-append, length-map, length-drop, All-head, All-tail, zip_with, chunks, MethodDef, Definition, declared_fields, declared_methods, Mentions, class_data_bytes, class_data_uses, is_empty_class, end, uses_offsets, ClassDataItems, code_section, class_data_section, AreRising, ranks_are_numbers, NumberedMembers, method_in, methods_of, numbered_class_data_bytes, NumberedClass, definition_of, IsKnownClass}
 use Rattle.dexmembers.proofs.ClassDataSpelled.{class_data_spelled}
-use Rattle.dexclass.specs.Numbered.{NumberedClass, definition_of, type_at}
-use Rattle.dexclass.specs.Uses.{IsKnownClass}
-use Rattle.dexlayout.specs.Laid.{AreWritable, AreClassData, ordered_of}
-use Rattle.dexlayout.specs.Places.{EncodedItems}
+use Rattle.dexclass.specs.Numbered.{type_at}
+use Rattle.dexlayout.specs.{AreWritable, AreClassData, ordered_of, EncodedItems}
 use Rattle.dexlayout.specs.internal.Encoding.{has_no_members, class_data_item, class_data_items, encode_uses, no_items_from}
 use Rattle.dexlayout.proofs.EncodedUses.{own_in}
 use Rattle.dexlayout.proofs.CodeItems.{methods_in_all}

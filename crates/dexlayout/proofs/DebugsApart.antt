@@ -1,38 +1,15 @@
 -- Debug programs of a canonical file differ in their bytes: there is at most one debug program at an offset.
-use Rattle.std.proofs.Common.{◌≡◌, ℕ, List, Option, Some, None, refl, sym, subst, ◌∙◌}
-use Rattle.std.specs.Prelude.{IfSome, option_to_list, slice_index}
-use Rattle.std.specs.List.{Contains, flat_map}
-use Rattle.std.specs.Option.{option_map_or}
-use Rattle.std.proofs.lemmas.List.{get_or_default}
-use Rattle.std.proofs.lemmas.List.Elements.{All-contains, Contains-append_left, Contains-append_right}
-use Rattle.dexspec.specs.Bytes.{BytesAt}
-use Rattle.dexspec.specs.Lists.{present}
-use Rattle.dexspec.specs.Code.{Code, handlers_of}
-use Rattle.dexspec.specs.Debug.{Debug}
-use Rattle.dexspec.specs.Classes.{MethodDef, Definition, declared_methods}
-use Rattle.dexspec.specs.Files.{Collection, definitions}
-use Rattle.dexspec.specs.Mentions.{mentions, piece_symbols, handler_symbols, debug_symbols}
-use Rattle.dexspec.specs.Merging.{IsGood, greatest_caps}
-use Rattle.dexspec.specs.WellFormed.{IsDebug, IsCodeItem, IsMethodDef, AreWellFormed}
+use Rattle.dexlayout.proofs.Common.{◌≡◌, ℕ, List, Option, Some, None, refl, sym, subst, ◌∙◌, IfSome, option_to_list, slice_index, Contains, flat_map, option_map_or, get_or_default, All-contains, Contains-append_left, Contains-append_right, BytesAt, present, Code, Debug, MethodDef, Definition, declared_methods, Collection, definitions, mentions, piece_symbols, handler_symbols, debug_symbols, IsGood, greatest_caps, IsDebug, IsCodeItem, IsMethodDef, AreWellFormed, all_methods, debug_uses, uses_offsets, canonical, debug_items, debug_section, ordered, same_debug, debug_bytes, ItemIsAt, UseIsAt, use_encoded, shared_numbered, Contains-flat_map_source, map_source, debug_decides, present_source}
+use Rattle.dexspec.specs.Code.{handlers_of}
 use Rattle.dexspec.specs.Depth.{in_class_order}
-use Rattle.dexspec.specs.Placing.{all_methods, debug_uses, uses_offsets}
-use Rattle.dexspec.specs.Canonical.{canonical, debug_items, debug_section, ordered}
-use Rattle.dexspec.specs.Sameness.{same_debug}
-use Rattle.dexspec.specs.Spellings.{debug_bytes}
 use Rattle.dexspec.proofs.determined.OneDebug.{one_debug}
-use Rattle.dexspec.proofs.layout.SectionPlaces.{ItemIsAt}
-use Rattle.dexspec.proofs.layout.Uses.{UseIsAt, use_encoded, shared_numbered}
-use Rattle.dexspec.proofs.lists.Members.{Contains-flat_map_source}
-use Rattle.dexspec.proofs.lists.Sources.{map_source}
 use Rattle.dexspec.proofs.normal.ClassPlaces.{in_class_order-only}
 use Rattle.dexspec.proofs.normal.MemberRanks.{symbols_in_rows, code_occurs}
 use Rattle.dexspec.proofs.normal.NormalClasses.{AreNormal}
 use Rattle.dexspec.proofs.normal.NormalForm.{canonical_all_normal}
-use Rattle.dexspec.proofs.sharing.Sameness.{debug_decides}
-use Rattle.dexspec.proofs.sharing.Sharing.{present_source}
 use Rattle.dexspec.proofs.written.DebugWritten.{debug_written}
 use Rattle.dexspec.proofs.written.NumbersWritten.{AreInRows}
-use Rattle.dexlayout.specs.Laid.{HaveOwnBytes}
+use Rattle.dexlayout.specs.{HaveOwnBytes}
 
 -- the code that has the debug program of a use
 with_debug : (code : Option Code) (x : Debug) → option_map_or (λ c. c.debug) code None ≡ Some x → (c : Code) × (code ≡ Some c) × (c.debug ≡ Some x)

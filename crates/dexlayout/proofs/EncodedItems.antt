@@ -1,10 +1,5 @@
 -- Items that are encoded one after the other are those of a section.
-use Rattle.std.proofs.Common.{◌≡◌, ℕ, ◌+◌, List, [], ◌∷◌, ◌++◌, length, map, Some, refl, ap, ◌∙◌, arith}
-use Rattle.std.specs.Prelude.{All, replicate, ◌-◌, ◌%◌}
-use Rattle.std.specs.List.{flat_map}
-use Rattle.std.proofs.lemmas.List.Elements.{All-head, All-tail}
-use Rattle.dexspec.specs.Bytes.{round_up}
-use Rattle.dexspec.specs.Placing.{bytes_from}
+use Rattle.dexlayout.proofs.Common.{◌≡◌, ℕ, ◌+◌, List, [], ◌∷◌, ◌++◌, length, map, Some, refl, ap, ◌∙◌, arith, All, replicate, ◌-◌, ◌%◌, flat_map, All-head, All-tail, round_up, bytes_from}
 
 -- bytes without alignment are those of the items
 pub bytes_plain : {X : Type 0} (f : X → List ℕ) (from : ℕ) (xs : List X) → bytes_from 1 from (map f xs) ≡ flat_map f xs

@@ -1,17 +1,6 @@
 -- Items that are encoded use by use, one after the other and aligned, are those of a section.
-use Rattle.std.proofs.Common.{◌≡◌, ℕ, zero, suc, ◌+◌, ◌<◌, ◌≤◌, ◌^◌, Bool, true, false, List, [], ◌∷◌, ◌++◌, length, get_or, map, drop, Option, None, Some, refl, sym, ap, subst, ◌∙◌, arith, append_assoc}
-use Rattle.std.specs.Prelude.{◌==◌, ◌-◌, ◌%◌, replicate}
-use Rattle.std.specs.List.{flat_map}
-use Rattle.std.specs.Option.{option_map}
-use Rattle.std.proofs.lemmas.Bool.{eqb-true}
-use Rattle.std.proofs.lemmas.List.{append-nil, length-append, drop_all}
-use Rattle.dexspec.specs.Bytes.{round_up, padding}
-use Rattle.dexspec.specs.Lists.{present}
-use Rattle.dexspec.specs.Placing.{Items, own_items, bytes_from, end, offsets, section}
-use Rattle.dexspec.specs.Sections.{Section}
-use Rattle.dexspec.proofs.layout.Places.{length-padding}
-use Rattle.dexlayout.specs.Places.{ItemPlaces, EncodedItems}
-use Rattle.dexlayout.specs.Laid.{AreEncodedIn, AreItemsIn, AreLaidIn, AreLaidSo}
+use Rattle.dexlayout.proofs.Common.{◌≡◌, ℕ, zero, suc, ◌+◌, ◌<◌, ◌≤◌, ◌^◌, Bool, true, false, List, [], ◌∷◌, ◌++◌, length, get_or, map, drop, Option, None, Some, refl, sym, ap, subst, ◌∙◌, arith, append_assoc, ◌==◌, ◌-◌, ◌%◌, replicate, flat_map, option_map, eqb-true, append-nil, length-append, drop_all, round_up, padding, present, Items, own_items, bytes_from, end, offsets, section, Section, length-padding}
+use Rattle.dexlayout.specs.{ItemPlaces, EncodedItems, AreEncodedIn, AreItemsIn, AreLaidIn, AreLaidSo}
 use Rattle.dexlayout.specs.internal.Encoding.{no_items_from, pass_use, align_next, put_item, end_item, encode_use, encode_uses}
 use Rattle.dexlayout.specs.internal.Running.{none_from, put_next, place_uses}
 use Rattle.dexlayout.proofs.Owned.{sizes, own_encoded}

@@ -1,12 +1,6 @@
 -- Each part of a file that is not too long ends within its bytes.
-use Rattle.std.proofs.Common.{◌≡◌, ℕ, ◌+◌, ◌^◌, ◌≤◌, length, refl, arith}
-use Rattle.dexspec.specs.Bytes.{round_up}
-use Rattle.dexspec.specs.Placing.{Ordered, end, Placed}
-use Rattle.dexspec.specs.Canonical.{data_start, type_list_section, annotation_section, array_section, string_section, debug_section, code_section, class_data_section, set_section, ref_list_section, directory_section}
-use Rattle.dexspec.proofs.layout.Placements.{sections_follow}
-use Rattle.dexspec.proofs.layout.Places.{end_from_le, length-padding}
-use Rattle.dexhead.specs.Laid.{map_start, map_list}
-use Rattle.dexlayout.specs.Laid.{file_end}
+use Rattle.dexlayout.proofs.Common.{◌≡◌, ℕ, ◌+◌, ◌^◌, ◌≤◌, length, refl, arith, round_up, Ordered, end, Placed, data_start, type_list_section, annotation_section, array_section, string_section, debug_section, code_section, class_data_section, set_section, ref_list_section, directory_section, sections_follow, end_from_le, length-padding, map_start, map_list}
+use Rattle.dexlayout.specs.{file_end}
 
 -- where the map begins
 pub map_start_is : (K : Ordered) → map_start K ≡ round_up 4 (end (directory_section K))

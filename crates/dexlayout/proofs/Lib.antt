@@ -1,3 +1,4 @@
+pub mod Common
 pub mod CodeItems
 pub mod Counted
 pub mod DataItems

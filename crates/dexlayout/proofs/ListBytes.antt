@@ -1,15 +1,7 @@
 -- The bytes of type lists by numbers of types.
-use Rattle.std.proofs.Common.{◌≡◌, ℕ, ◌+◌, ◌*◌, ◌<◌, List, [], ◌∷◌, ◌++◌, length, map, refl, sym, ap, ◌∙◌, arith}
-use Rattle.std.specs.List.{flat_map}
-use Rattle.std.proofs.lemmas.List.{length-append, length-map}
-use Rattle.std.proofs.lemmas.List.Elements.{All-head, All-tail}
-use Rattle.dexspec.specs.Bytes.{ushort, uint}
-use Rattle.dexspec.specs.Mentions.{Mentions}
-use Rattle.dexspec.specs.Spellings.{type_index, type_list_bytes}
+use Rattle.dexlayout.proofs.Common.{◌≡◌, ℕ, ◌+◌, ◌*◌, ◌<◌, List, [], ◌∷◌, ◌++◌, length, map, refl, sym, ap, ◌∙◌, arith, flat_map, length-append, length-map, All-head, All-tail, ushort, uint, Mentions, type_index, type_list_bytes, RanksAreNumbers, type_at}
 use Rattle.dexspec.proofs.numbers.ByteNumbers.{length-uint, length-ushort}
 use Rattle.dexspec.proofs.written.PlacedBytes.{length_rows}
-use Rattle.dexpool.specs.Laws.{RanksAreNumbers}
-use Rattle.dexval.specs.Numbered.{type_at}
 use Rattle.dexlayout.specs.internal.Encoding.{list_bytes}
 use Rattle.dexlayout.specs.internal.SharedUses.{AreTypes}
 

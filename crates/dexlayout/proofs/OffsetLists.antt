@@ -1,11 +1,5 @@
 -- Lists of offsets that are encoded one after the other, and the offsets that are left.
-use Rattle.std.proofs.Common.{◌≡◌, ℕ, zero, suc, ◌+◌, ◌<◌, ◌≤◌, List, [], ◌∷◌, ◌++◌, length, get_or, map, take, drop, Option, None, Some, refl, sym, ap, ◌∙◌, arith}
-use Rattle.std.specs.List.{flat_map}
-use Rattle.std.proofs.lemmas.List.{length-append, length-drop}
-use Rattle.dexspec.specs.Lists.{chunks}
-use Rattle.dexspec.specs.Spellings.{offsets_bytes}
-use Rattle.dexmembers.specs.Numbered.{methods_of}
-use Rattle.dexclass.specs.Numbered.{NumberedClass}
+use Rattle.dexlayout.proofs.Common.{◌≡◌, ℕ, zero, suc, ◌+◌, ◌<◌, ◌≤◌, List, [], ◌∷◌, ◌++◌, length, get_or, map, take, drop, Option, None, Some, refl, sym, ap, ◌∙◌, arith, flat_map, length-append, length-drop, chunks, offsets_bytes, methods_of, NumberedClass}
 use Rattle.dexlayout.specs.internal.OffsetLists.{offset_lists, total, list_item, parameter_counts, class_parameter_counts}
 use Rattle.dexlayout.proofs.OwnSteps.{drop_next}
 

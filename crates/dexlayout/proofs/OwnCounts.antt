@@ -1,26 +1,10 @@
 -- How many items each section of the data has, and how long the longest of several is.
-use Rattle.std.proofs.Common.{◌≡◌, ℕ, ◌+◌, ◌<◌, ◌≤◌, ◌^◌, Bool, true, false, cond, List, [], ◌∷◌, ◌++◌, length, map, Option, None, Some, refl, sym, ap, ◌∙◌, arith}
-use Rattle.std.specs.Prelude.{◌==◌, not}
-use Rattle.std.proofs.lemmas.Bool.{ne_eqb}
-use Rattle.std.proofs.lemmas.List.{length-map}
+use Rattle.dexlayout.proofs.Common.{◌≡◌, ℕ, ◌+◌, ◌<◌, ◌≤◌, ◌^◌, Bool, true, false, cond, List, [], ◌∷◌, ◌++◌, length, map, Option, None, Some, refl, sym, ap, ◌∙◌, arith, ◌==◌, not, ne_eqb, length-map, present, round_up, Code, Definition, Mentions, string_data, code_bytes, encoded_array_bytes, class_data_bytes, offsets_bytes, own_items, uses_offsets, offsets_from, end_from, offsets, Ordered, static_values_uses, code_uses, class_data_uses, ref_list_uses, directory_uses, end, Placed, data_start, type_list_section, annotation_section, array_section, string_section, debug_section, code_section, class_data_section, set_section, set_offsets, ref_list_section, directory_section, length-padding, items_few, length-offsets_from, sections_have_bytes, numbers_offsets, HasBytes, NumberedClass}
 use Rattle.std.proofs.lemmas.List.Sums.{sum_by-append}
-use Rattle.dexspec.specs.Lists.{present}
-use Rattle.dexspec.specs.Bytes.{round_up}
-use Rattle.dexspec.specs.Code.{Code}
-use Rattle.dexspec.specs.Classes.{Definition}
-use Rattle.dexspec.specs.Mentions.{Mentions}
-use Rattle.dexspec.specs.Texts.{string_data}
-use Rattle.dexspec.specs.Spellings.{code_bytes, encoded_array_bytes, class_data_bytes, offsets_bytes}
-use Rattle.dexspec.specs.Placing.{own_items, uses_offsets, offsets_from, end_from, offsets, Ordered, static_values_uses, code_uses, class_data_uses, ref_list_uses, directory_uses, end, Placed}
-use Rattle.dexspec.specs.Canonical.{data_start, type_list_section, annotation_section, array_section, string_section, debug_section, code_section, class_data_section, set_section, set_offsets, ref_list_section, directory_section}
-use Rattle.dexspec.proofs.layout.Places.{length-padding, items_few, length-offsets_from}
-use Rattle.dexspec.proofs.layout.Placements.{sections_have_bytes, numbers_offsets, HasBytes}
-use Rattle.dexclass.specs.Numbered.{NumberedClass}
-use Rattle.dexlayout.specs.Places.{ItemPlaces}
+use Rattle.dexlayout.specs.{ItemPlaces, AreLaidSo, ordered_of}
 use Rattle.dexlayout.specs.internal.Running.{none_from, pass, put_at, place_uses}
 use Rattle.dexlayout.specs.internal.Parts.{AreData, count_placed}
 use Rattle.dexlayout.specs.declared.data.Data.{Data}
-use Rattle.dexlayout.specs.Laid.{AreLaidSo, ordered_of}
 use Rattle.dexlayout.proofs.Ends.{EndInFile, chained}
 use Rattle.dexlayout.proofs.Owned.{sizes, own_encoded}
 

@@ -1,25 +1,9 @@
 -- The file of a program's classes: if the program is good, it can be written, and its length is that of its layout.
-use Rattle.std.proofs.Common.{◌≡◌, ℕ, ◌+◌, ◌≤◌, List, [], ◌∷◌, ◌++◌, length, map, sym, ap, subst, ◌∙◌, arith}
-use Rattle.std.specs.List.{flat_map}
-use Rattle.std.specs.Prelude.{slice_index, drop}
-use Rattle.dexspec.specs.Bytes.{padding, round_up}
-use Rattle.dexspec.specs.Header.{HasSize}
-use Rattle.dexspec.specs.Sections.{Section, HeaderItem, MapList}
-use Rattle.dexspec.specs.Files.{Collection, definitions}
-use Rattle.dexspec.specs.Mentions.{Mentions, mentions}
-use Rattle.dexspec.specs.Merging.{Caps, greatest_caps, AreCaps, Fits, IsGood}
-use Rattle.dexspec.specs.WellFormed.{AreWellFormed}
-use Rattle.dexspec.specs.Placing.{Ordered, EqualOnce, end, offsets}
-use Rattle.dexspec.specs.Canonical.{map_of, map_bytes, unsigned_file, with_sums, ordered, canonical, data_start, type_list_section, annotation_section, array_section, string_section, debug_section, code_section, class_data_section, set_section, set_offsets, ref_list_section, directory_section}
-use Rattle.dexspec.proofs.layout.SectionPlaces.{data_before_map, map_place, map_place_is, map_list_named, parts}
+use Rattle.dexlayout.proofs.Common.{◌≡◌, ℕ, ◌+◌, ◌≤◌, List, [], ◌∷◌, ◌++◌, length, map, sym, ap, subst, ◌∙◌, arith, flat_map, slice_index, drop, padding, round_up, HasSize, Section, HeaderItem, MapList, Collection, definitions, Mentions, mentions, Caps, greatest_caps, AreCaps, Fits, IsGood, AreWellFormed, Ordered, EqualOnce, end, offsets, map_of, map_bytes, unsigned_file, with_sums, ordered, canonical, data_start, type_list_section, annotation_section, array_section, string_section, debug_section, code_section, class_data_section, set_section, set_offsets, ref_list_section, directory_section, data_before_map, map_place, map_place_is, map_list_named, parts, StatesLayout, map_start, map_list, entry_meant, IsNumbering, NumberedClass}
 use Rattle.dexhead.specs.declared.map_list.MapEntry.{MapEntry}
-use Rattle.dexhead.specs.Laid.{StatesLayout, map_start, map_list}
-use Rattle.dexhead.specs.Written.{entry_meant}
-use Rattle.dexpool.specs.Numberings.{IsNumbering}
-use Rattle.dexclass.specs.Numbered.{NumberedClass}
 use Rattle.dexclass.specs.Programs.{AreClassesOf}
-use Rattle.dexlayout.specs.Places.{SetPlaces, Places}
-use Rattle.dexlayout.specs.Laid.{ordered_of, file_end, AreWritable, AreLaidSo, AreEncodedIn, AreSharedIn, AreSets, HaveOwnBytes, IsLaid, IsMap, AreItemsIn}
+use Rattle.dexlayout.specs.{SetPlaces, ordered_of, file_end, AreWritable, AreLaidSo, AreEncodedIn, AreSharedIn, AreSets, HaveOwnBytes, IsLaid, IsMap, AreItemsIn}
+use Rattle.dexlayout.specs.Places.{Places}
 use Rattle.dexlayout.specs.internal.Parts.{entry_of, table_parts, section_parts}
 use Rattle.dexlayout.specs.internal.Placing.{placed_map, whole_map}
 use Rattle.dexlayout.proofs.DebugsApart.{debugs_apart}

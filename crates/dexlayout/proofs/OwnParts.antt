@@ -1,16 +1,6 @@
 -- The tables and the map's entries, from their parts.
-use Rattle.std.proofs.Common.{◌≡◌, ℕ, ◌+◌, ◌*◌, ◌≤◌, List, [], ◌∷◌, ◌++◌, length, map, refl, ap, ◌∙◌, arith}
-use Rattle.std.specs.List.{flat_map}
-use Rattle.std.specs.Prelude.{◌==◌, if◌then◌else◌, slice_index}
-use Rattle.std.proofs.lemmas.List.{length-map}
-use Rattle.dexspec.specs.Bytes.{round_up}
-use Rattle.dexspec.specs.Header.{Table}
-use Rattle.dexspec.specs.Mentions.{Mentions}
-use Rattle.dexspec.specs.Sections.{Section, HeaderItem, TableOf, MapList, TypeLists, AnnotationItems, EncodedArrayItems, StringDataItems, DebugInfoItems, CodeItems, ClassDataItems, AnnotationSets, AnnotationSetRefLists, AnnotationsDirectories}
-use Rattle.dexspec.specs.Placing.{Ordered, Placed, offsets, offsets_from, end}
-use Rattle.dexspec.specs.Canonical.{placed_tables, data_sections, map_of, data_start, type_list_section, annotation_section, array_section, string_section, debug_section, code_section, class_data_section, set_section, ref_list_section, directory_section}
-use Rattle.dexclass.specs.Numbered.{NumberedClass, definition_of}
-use Rattle.dexlayout.specs.Laid.{AreWritable, ordered_of}
+use Rattle.dexlayout.proofs.Common.{◌≡◌, ℕ, ◌+◌, ◌*◌, ◌≤◌, List, [], ◌∷◌, ◌++◌, length, map, refl, ap, ◌∙◌, arith, flat_map, ◌==◌, if◌then◌else◌, slice_index, length-map, round_up, Table, Mentions, Section, HeaderItem, TableOf, MapList, TypeLists, AnnotationItems, EncodedArrayItems, StringDataItems, DebugInfoItems, CodeItems, ClassDataItems, AnnotationSets, AnnotationSetRefLists, AnnotationsDirectories, Ordered, Placed, offsets, offsets_from, end, placed_tables, data_sections, map_of, data_start, type_list_section, annotation_section, array_section, string_section, debug_section, code_section, class_data_section, set_section, ref_list_section, directory_section, NumberedClass, definition_of}
+use Rattle.dexlayout.specs.{AreWritable, ordered_of}
 use Rattle.dexlayout.specs.internal.Parts.{entry_of, table_parts, section_parts}
 use Rattle.dexlayout.proofs.Ends.{end_in_file}
 

@@ -1,11 +1,7 @@
 -- Items that are placed one after the other by a loop: what is still to be placed.
-use Rattle.std.proofs.Common.{◌≡◌, ℕ, ◌+◌, ◌<◌, ◌≤◌, List, [], ◌∷◌, ◌++◌, length, get_or, map, drop, Option, Some, refl, sym, ap, ◌∙◌, arith, append_assoc}
-use Rattle.std.proofs.lemmas.List.{append-nil, drop_more, drop_all}
-use Rattle.dexspec.specs.Bytes.{round_up}
-use Rattle.dexspec.specs.Placing.{offsets_from, end_from}
-use Rattle.dexlayout.specs.Places.{ItemPlaces}
+use Rattle.dexlayout.proofs.Common.{◌≡◌, ℕ, ◌+◌, ◌<◌, ◌≤◌, List, [], ◌∷◌, ◌++◌, length, get_or, map, drop, Option, Some, refl, sym, ap, ◌∙◌, arith, append_assoc, append-nil, drop_more, drop_all, round_up, offsets_from, end_from}
+use Rattle.dexlayout.specs.{ItemPlaces, AreLaidSo}
 use Rattle.dexlayout.specs.internal.Running.{none_from, put_at, put_next, place_use, place_uses}
-use Rattle.dexlayout.specs.Laid.{AreLaidSo}
 use Rattle.dexlayout.proofs.Owned.{place_grows}
 
 -- an item that is not aligned begins at the end of the one before it

@@ -1,16 +1,7 @@
 -- Items of their own: going through the uses with a running end gives the offsets of the uses, and where the items end.
-use Rattle.std.proofs.Common.{◌≡◌, ℕ, ◌+◌, ◌≤◌, List, [], ◌∷◌, ◌++◌, length, map, Option, None, Some, refl, sym, ap, ◌∙◌, arith, append_assoc}
-use Rattle.std.specs.Prelude.{slice_index}
-use Rattle.std.specs.Option.{option_map, option_map_or}
-use Rattle.std.proofs.lemmas.List.{append-nil, length-append, get_or-append-add}
-use Rattle.dexspec.specs.Lists.{present}
-use Rattle.dexspec.specs.Bytes.{round_up}
-use Rattle.dexspec.specs.Placing.{own_numbers, own_items, offsets_from, end_from}
-use Rattle.dexspec.proofs.layout.Places.{length-padding}
-use Rattle.dexspec.proofs.layout.Placements.{numbers_offsets}
-use Rattle.dexlayout.specs.Places.{ItemPlaces}
+use Rattle.dexlayout.proofs.Common.{◌≡◌, ℕ, ◌+◌, ◌≤◌, List, [], ◌∷◌, ◌++◌, length, map, Option, None, Some, refl, sym, ap, ◌∙◌, arith, append_assoc, slice_index, option_map, option_map_or, append-nil, length-append, get_or-append-add, present, round_up, own_numbers, own_items, offsets_from, end_from, length-padding, numbers_offsets}
+use Rattle.dexlayout.specs.{ItemPlaces, AreLaidSo}
 use Rattle.dexlayout.specs.internal.Running.{none_from, pass, put_at, place_uses}
-use Rattle.dexlayout.specs.Laid.{AreLaidSo}
 
 -- how many bytes each use has, if it has an item
 abbrev pub sizes : {X : Type 0} → (X → List ℕ) → List (Option X) → List (Option ℕ)

@@ -1,23 +1,7 @@
 -- The lists of the sets of parameters, of a file.
-use Rattle.std.proofs.Common.{◌≡◌, ℕ, ◌+◌, ◌≤◌, List, [], ◌∷◌, ◌++◌, length, map, take, drop, refl, sym, ap, ◌∙◌, arith}
-use Rattle.std.specs.List.{flat_map}
-use Rattle.std.specs.Option.{option_map}
-use Rattle.std.proofs.lemmas.List.{length-append, length-drop, length-map, length-take, map-append}
-use Rattle.std.proofs.lemmas.Grind.{flat_map-append}
+use Rattle.dexlayout.proofs.Common.{◌≡◌, ℕ, ◌+◌, ◌≤◌, List, [], ◌∷◌, ◌++◌, length, map, take, drop, refl, sym, ap, ◌∙◌, arith, flat_map, option_map, length-append, length-drop, length-map, length-take, map-append, flat_map-append, map-map, chunks, Definition, MethodDef, declared_fields, declared_methods, Mentions, SetOffsets, set_offsets_of, class_sets, method_sets, ref_list_uses, unless_empty, offsets_bytes, set_offsets, ref_list_section, AnnotationSetRefLists, set_in, NumberedMethod, method_in, methods_of, NumberedClass, definition_of}
 use Rattle.std.proofs.lemmas.List.Folds.{flat_map-map}
-use Rattle.std.proofs.lemmas.Simd.{map-map}
-use Rattle.dexspec.specs.Lists.{chunks}
-use Rattle.dexspec.specs.Classes.{Definition, MethodDef, declared_fields, declared_methods}
-use Rattle.dexspec.specs.Mentions.{Mentions}
-use Rattle.dexspec.specs.Placing.{SetOffsets, set_offsets_of, class_sets, method_sets, ref_list_uses, unless_empty}
-use Rattle.dexspec.specs.Spellings.{offsets_bytes}
-use Rattle.dexspec.specs.Canonical.{set_offsets, ref_list_section}
-use Rattle.dexspec.specs.Sections.{AnnotationSetRefLists}
-use Rattle.dexval.specs.Numbered.{set_in}
-use Rattle.dexmembers.specs.Numbered.{NumberedMethod, method_in, methods_of}
-use Rattle.dexclass.specs.Numbered.{NumberedClass, definition_of}
-use Rattle.dexlayout.specs.Places.{SetPlaces}
-use Rattle.dexlayout.specs.Laid.{ordered_of, AreRefLists, AreSets}
+use Rattle.dexlayout.specs.{SetPlaces, ordered_of, AreRefLists, AreSets}
 use Rattle.dexlayout.specs.internal.Encoding.{encode_uses, no_items_from}
 use Rattle.dexlayout.specs.internal.OffsetLists.{class_parameter_counts, list_item, offset_lists, parameter_counts, total}
 use Rattle.dexlayout.proofs.EncodedUses.{own_in}

@@ -1,17 +1,7 @@
 -- The annotations of the sets of a file.
-use Rattle.std.proofs.Common.{◌≡◌, ℕ, ◌<◌, ◌≤◌, ◌^◌, List, [], ◌∷◌, ◌++◌, Option, Some, length, get_or, map, refl, sym, ap, subst, ◌∙◌, arith}
-use Rattle.std.specs.List.{flat_map}
-use Rattle.std.proofs.lemmas.List.{length-map, map-append, get_or-map}
-use Rattle.std.proofs.lemmas.Simd.{map-map}
-use Rattle.dexspec.specs.Annotations.{Annotation, AnnotationSet}
-use Rattle.dexspec.specs.Mentions.{Mentions}
-use Rattle.dexspec.specs.Placing.{end}
-use Rattle.dexspec.specs.Sections.{AnnotationItems}
-use Rattle.dexspec.specs.Canonical.{set_items, type_list_section, annotation_section}
-use Rattle.dexspec.specs.Spellings.{annotation_bytes}
-use Rattle.dexval.specs.Numbered.{NumberedAnnotation, NumberedSet, annotation_in, set_in, IsKnownAnnotation, IsKnownSet}
-use Rattle.dexclass.specs.Numbered.{NumberedClass}
-use Rattle.dexlayout.specs.Laid.{ordered_of, file_end, AreAnnotations}
+use Rattle.dexlayout.proofs.Common.{◌≡◌, ℕ, ◌<◌, ◌≤◌, ◌^◌, List, [], ◌∷◌, ◌++◌, Option, Some, length, get_or, map, refl, sym, ap, subst, ◌∙◌, arith, flat_map, length-map, map-append, get_or-map, map-map, AnnotationSet, Mentions, end, AnnotationItems, set_items, type_list_section, annotation_section, annotation_bytes, NumberedAnnotation, NumberedSet, annotation_in, set_in, IsKnownAnnotation, IsKnownSet, NumberedClass}
+use Rattle.dexspec.specs.Annotations.{Annotation}
+use Rattle.dexlayout.specs.{ordered_of, file_end, AreAnnotations}
 use Rattle.dexlayout.specs.internal.Annotated.{annotation_items}
 use Rattle.dexlayout.specs.internal.Encoding.{encode_uses, no_items_from}
 use Rattle.dexlayout.proofs.EncodedUses.{all_in}

@@ -1,33 +1,13 @@
 -- The directories of classes: by numbers, they are the items of the file.
-use Rattle.std.proofs.Common.{◌≡◌, ℕ, zero, suc, ◌+◌, ◌*◌, ◌<◌, ◌≤◌, Bool, true, false, Ordering, ◌⊎◌, inl, inr, List, [], ◌∷◌, ◌++◌, length, get_or, map, take, drop, refl, sym, ap, ◌∙◌, arith, Some, None, All}
-use Rattle.std.specs.Prelude.{slice_index, ◌==◌, if◌then◌else◌}
-use Rattle.std.specs.List.{flat_map, zip}
-use Rattle.std.specs.Option.{option_map}
+use Rattle.dexlayout.proofs.Common.{◌≡◌, ℕ, zero, suc, ◌+◌, ◌*◌, ◌<◌, ◌≤◌, Bool, true, false, Ordering, ◌⊎◌, inl, inr, List, [], ◌∷◌, ◌++◌, length, get_or, map, take, drop, refl, sym, ap, ◌∙◌, arith, Some, None, All, slice_index, ◌==◌, if◌then◌else◌, flat_map, zip, option_map, cond-false, cond-true, eqb-true, eq-eqb, length-append, length-map, length-take, length-drop, drop-drop, get_or-drop, All-head, All-tail, chunks, zip_with, in_order, add_in_order, Definition, MethodDef, declared_fields, declared_methods, Mentions, field_of, method_of, SetOffsets, pair_cmp, pairs, directory_bytes, directory_uses, end, uses_offsets, AnnotationsDirectories, field_index, method_index, set_offsets, ref_list_section, directory_section, length-chunks, length-set_offsets, RanksAreNumbers, NumberedMembers, fields_of, methods_of, method_in, count_placed, numbered_directory_bytes, NumberedClass, definition_of, IsKnownClass}
 use Rattle.std.specs.FinMap.Entries.{by_order}
 use Rattle.std.specs.declared.cmp.Ordering.TheVariants.{Less, Equal, Greater}
-use Rattle.std.proofs.lemmas.Bool.{cond-false, cond-true, eqb-true}
-use Rattle.std.proofs.Common.{eq-eqb}
-use Rattle.std.proofs.lemmas.List.{length-append, length-map, length-take, length-drop, drop-drop, get_or-drop}
-use Rattle.std.proofs.lemmas.List.Elements.{All-head, All-tail}
-use Rattle.dexspec.specs.Lists.{chunks, zip_with, in_order, add_in_order}
-use Rattle.dexspec.specs.Classes.{Definition, MethodDef, declared_fields, declared_methods}
-use Rattle.dexspec.specs.Mentions.{Mentions, field_of, method_of}
-use Rattle.dexspec.specs.Placing.{SetOffsets, pair_cmp, pairs, directory_bytes, directory_uses, end, uses_offsets}
-use Rattle.dexspec.specs.Sections.{AnnotationsDirectories}
-use Rattle.dexspec.specs.Spellings.{field_index, method_index}
-use Rattle.dexspec.specs.Canonical.{set_offsets, ref_list_section, directory_section}
-use Rattle.dexspec.proofs.layout.Placements.{length-chunks, length-set_offsets}
 use Rattle.dexspec.proofs.layout.Uses as uses
 use Rattle.dexspec.proofs.sharing.Shorter.{not_zero}
-use Rattle.dexpool.specs.Laws.{RanksAreNumbers}
-use Rattle.dexmembers.specs.Numbered.{NumberedMembers, fields_of, methods_of, method_in}
-use Rattle.dexmembers.specs.DirectoryPut.{count_placed, numbered_directory_bytes}
 use Rattle.dexmembers.proofs.PairsMerged.{kept, placed_count}
 use Rattle.dexmembers.proofs.DirectorySpelled as spelled
-use Rattle.dexclass.specs.Numbered.{NumberedClass, definition_of, type_at}
-use Rattle.dexclass.specs.Uses.{IsKnownClass}
-use Rattle.dexlayout.specs.Places.{EncodedItems, SetPlaces}
-use Rattle.dexlayout.specs.Laid.{ordered_of, AreDirectories, AreSets, AreWritable}
+use Rattle.dexclass.specs.Numbered.{type_at}
+use Rattle.dexlayout.specs.{EncodedItems, SetPlaces, ordered_of, AreDirectories, AreSets, AreWritable}
 use Rattle.dexlayout.specs.internal.Encoding.{encode_use, encode_uses, no_items_from}
 use Rattle.dexlayout.specs.internal.Directories.{directory_item, directory_items}
 use Rattle.dexlayout.specs.internal.Collecting.{sets_of_method, sets_of_class, parts_of_class, parts_of_classes}

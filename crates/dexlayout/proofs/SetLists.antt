@@ -1,11 +1,5 @@
 -- The offsets of all uses of sets.
-use Rattle.std.proofs.Common.{◌≡◌, ℕ, List, length, refl, ◌∙◌}
-use Rattle.std.specs.List.{flat_map}
-use Rattle.std.proofs.lemmas.List.{length-map}
-use Rattle.dexspec.specs.Placing.{Ordered, class_sets, set_uses, offsets, unless_empty}
-use Rattle.dexspec.specs.Sameness.{same_set}
-use Rattle.dexspec.specs.Canonical.{set_items, set_section, set_offsets}
-use Rattle.dexspec.proofs.layout.Placements.{length-items_offsets, numbers_offsets}
+use Rattle.dexlayout.proofs.Common.{◌≡◌, ℕ, List, length, refl, ◌∙◌, flat_map, length-map, Ordered, class_sets, set_uses, offsets, unless_empty, same_set, set_items, set_section, set_offsets, length-items_offsets, numbers_offsets}
 use Rattle.dexlayout.proofs.SetParts.{parts}
 
 -- the offsets of all uses of sets

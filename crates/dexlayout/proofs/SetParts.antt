@@ -1,10 +1,5 @@
 -- The offsets of the sets of classes, class by class.
-use Rattle.std.proofs.Common.{◌≡◌, ℕ, ◌+◌, List, length, map, arith}
-use Rattle.std.specs.List.{flat_map}
-use Rattle.std.proofs.lemmas.List.{length-append, length-map}
-use Rattle.dexspec.specs.Lists.{chunks, zip_with}
-use Rattle.dexspec.specs.Classes.{Definition, declared_fields, declared_methods}
-use Rattle.dexspec.specs.Placing.{SetOffsets, set_offsets_of, class_sets, method_sets}
+use Rattle.dexlayout.proofs.Common.{◌≡◌, ℕ, ◌+◌, List, length, map, arith, flat_map, length-append, length-map, chunks, zip_with, Definition, declared_fields, declared_methods, SetOffsets, set_offsets_of, class_sets, method_sets}
 
 -- the offsets of the sets of classes
 abbrev pub parts : List Definition → List ℕ → List SetOffsets

@@ -1,20 +1,6 @@
 -- The sets that are written, and the offset for each use.
-use Rattle.std.proofs.Common.{◌≡◌, ℕ, ◌≤◌, List, [], ◌∷◌, length, map, drop, refl, sym, ap, subst, ◌∙◌, arith}
-use Rattle.std.specs.Prelude.{slice_index}
-use Rattle.std.specs.List.{flat_map}
-use Rattle.std.proofs.lemmas.List.{length-map}
-use Rattle.dexspec.specs.Annotations.{AnnotationSet}
-use Rattle.dexspec.specs.Mentions.{Mentions}
-use Rattle.dexspec.specs.Placing.{Ordered, SetOffsets, offsets, end}
-use Rattle.dexspec.specs.Canonical.{set_items, set_section, set_offsets, annotation_offsets, annotation_section, class_data_section}
-use Rattle.dexspec.specs.Sections.{AnnotationSets}
-use Rattle.dexspec.specs.Spellings.{offsets_bytes, annotation_bytes}
-use Rattle.dexspec.proofs.layout.Placements.{length-chunks}
-use Rattle.dexspec.proofs.layout.Places.{length-offsets_from}
-use Rattle.dexval.specs.Numbered.{NumberedSet, annotation_in, set_in}
-use Rattle.dexclass.specs.Numbered.{NumberedClass}
-use Rattle.dexlayout.specs.Places.{EncodedItems, SetPlaces}
-use Rattle.dexlayout.specs.Laid.{ordered_of, AreItemsIn, AreSets}
+use Rattle.dexlayout.proofs.Common.{◌≡◌, ℕ, ◌≤◌, List, [], ◌∷◌, length, map, drop, refl, sym, ap, subst, ◌∙◌, arith, slice_index, flat_map, length-map, AnnotationSet, Mentions, Ordered, SetOffsets, offsets, end, set_items, set_section, set_offsets, annotation_offsets, annotation_section, class_data_section, AnnotationSets, offsets_bytes, annotation_bytes, length-chunks, length-offsets_from, NumberedSet, annotation_in, set_in, NumberedClass}
+use Rattle.dexlayout.specs.{EncodedItems, SetPlaces, ordered_of, AreItemsIn, AreSets}
 use Rattle.dexlayout.specs.internal.Collecting.{parts_of_classes, collect_classes}
 use Rattle.dexlayout.specs.internal.Encoding.{encode_uses, no_items_from}
 use Rattle.dexlayout.specs.internal.OffsetLists.{offset_lists, set_item, total}

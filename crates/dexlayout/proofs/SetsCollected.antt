@@ -1,16 +1,6 @@
 -- The offsets of the sets of classes, collected method by method and class by class.
-use Rattle.std.proofs.Common.{◌≡◌, ℕ, ◌+◌, ◌<◌, List, [], ◌∷◌, ◌++◌, length, get_or, map, take, drop, refl, sym, ap, ◌∙◌, arith, append_assoc}
-use Rattle.std.specs.Prelude.{slice_index}
-use Rattle.std.specs.List.{flat_map}
-use Rattle.std.proofs.lemmas.List.{append-nil, length-append, length-map, map-append, take-take, drop-take, drop-drop, get_or-take}
-use Rattle.dexspec.specs.Lists.{chunks}
-use Rattle.dexspec.specs.Classes.{MethodDef, FieldDef, declared_fields, declared_methods}
-use Rattle.dexspec.specs.Mentions.{Mentions}
-use Rattle.dexspec.specs.Placing.{SetOffsets, set_offsets_of, class_sets, method_sets}
-use Rattle.dexval.specs.Numbered.{set_in}
-use Rattle.dexmembers.specs.Numbered.{NumberedField, NumberedMembers, NumberedMethod, field_in, method_in, fields_of, methods_of}
-use Rattle.dexclass.specs.Numbered.{NumberedClass, definition_of}
-use Rattle.dexlayout.specs.Places.{SetPlaces}
+use Rattle.dexlayout.proofs.Common.{◌≡◌, ℕ, ◌+◌, ◌<◌, List, [], ◌∷◌, ◌++◌, length, get_or, map, take, drop, refl, sym, ap, ◌∙◌, arith, append_assoc, slice_index, flat_map, append-nil, length-append, length-map, map-append, take-take, drop-take, drop-drop, get_or-take, chunks, MethodDef, FieldDef, declared_fields, declared_methods, Mentions, SetOffsets, set_offsets_of, class_sets, method_sets, set_in, NumberedField, NumberedMembers, NumberedMethod, field_in, method_in, fields_of, methods_of, NumberedClass, definition_of}
+use Rattle.dexlayout.specs.{SetPlaces}
 use Rattle.dexlayout.specs.internal.Collecting.{sets_of_method, sets_of_class, parts_of_methods, parts_of_class, parts_of_classes, collect_own, collect_method, collect_methods, collect_class, collect_classes}
 use Rattle.dexlayout.proofs.OwnSteps.{drop_next}
 use Rattle.dexlayout.proofs.SetParts.{parts, class_count}

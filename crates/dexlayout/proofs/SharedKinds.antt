@@ -1,41 +1,13 @@
 -- The kinds of item that uses share, in a whole file: type lists, annotation sets and debug programs.
-use Rattle.std.proofs.Common.{◌≡◌, ℕ, ◌^◌, ◌<◌, ◌≤◌, List, [], ◌∷◌, ◌++◌, length, map, None, Some, refl, sym, ap, subst, ◌∙◌, arith, append_assoc}
-use Rattle.std.specs.Prelude.{All, IfSome, Option}
-use Rattle.std.specs.Borrow.{Bor}
-use Rattle.std.specs.List.{flat_map}
-use Rattle.std.specs.Option.{option_map, option_map_or}
-use Rattle.std.proofs.lemmas.Grind.{flat_map-append}
-use Rattle.std.proofs.lemmas.List.{map-append, length-map}
-use Rattle.std.proofs.lemmas.List.Elements.{All-head, All-tail}
-use Rattle.std.proofs.lemmas.Simd.{map-map}
-use Rattle.dexspec.specs.Annotations.{AnnotationSet}
-use Rattle.dexspec.specs.Canonical.{data_start, type_list_items, type_list_section, set_items, string_section, debug_items, debug_section}
-use Rattle.dexspec.specs.Classes.{FieldDef, MethodDef}
-use Rattle.dexspec.specs.Debug.{Debug}
-use Rattle.dexspec.specs.Mentions.{Mentions}
-use Rattle.dexspec.specs.Placing.{unless_empty, method_sets, class_sets, type_list_uses, set_uses, debug_uses, shared_items, end}
-use Rattle.dexspec.specs.Sameness.{same_types, same_set, same_debug}
-use Rattle.dexspec.specs.Sections.{TypeLists, DebugInfoItems}
-use Rattle.dexspec.specs.Spellings.{type_list_bytes, debug_bytes}
-use Rattle.dexspec.proofs.layout.Uses.{shared_numbered}
-use Rattle.dexspec.proofs.lists.Equality.{text_decides}
-use Rattle.dexspec.proofs.sharing.Sameness.{types_decide, debug_decides}
+use Rattle.dexlayout.proofs.Common.{◌≡◌, ℕ, ◌^◌, ◌<◌, ◌≤◌, List, [], ◌∷◌, ◌++◌, length, map, None, Some, refl, sym, ap, subst, ◌∙◌, arith, append_assoc, All, IfSome, Option, Bor, flat_map, option_map, option_map_or, flat_map-append, map-append, length-map, All-head, All-tail, map-map, AnnotationSet, data_start, type_list_items, type_list_section, set_items, string_section, debug_items, debug_section, FieldDef, MethodDef, Debug, Mentions, unless_empty, method_sets, class_sets, type_list_uses, set_uses, debug_uses, shared_items, end, same_types, same_set, same_debug, TypeLists, DebugInfoItems, type_list_bytes, debug_bytes, shared_numbered, text_decides, types_decide, debug_decides, code_in, IsKnownCode, NumberedItem, set_of, set_in, NumberedField, NumberedMethod, IsKnownMethod, field_in, method_in, methods_of, AreRising, ranks_are_numbers, NumberedClass, definition_of}
 use Rattle.dexdebug.specs.Debug.{NumberedDebug, numbered_debug_bytes}
 use Rattle.dexdebug.specs.Meaning.{debug_in, IsKnownDebug}
-use Rattle.dexcode.specs.Meaning.{code_in, IsKnownCode}
-use Rattle.dexcode.specs.Numbered.{NumberedItem}
 use Rattle.dexdebug.proofs.DebugMeanings.{bytes_are}
 use Rattle.dexdebug.proofs.MeaningDebug.{debug_encoded}
 use Rattle.dexval.specs.declared.set.AnnotationSet.{AnnotationSet as CodeSet}
-use Rattle.dexval.specs.Code.{set_of}
 use Rattle.dexval.specs.Equality.{equal_sets, set_decides}
-use Rattle.dexval.specs.Numbered.{set_in}
-use Rattle.dexmembers.specs.Numbered.{NumberedField, NumberedMethod, IsKnownMethod, field_in, method_in, methods_of}
-use Rattle.dexpool.specs.Numberings.{AreRising}
-use Rattle.dexpool.proofs.UnionLaws.{ranks_are_numbers}
-use Rattle.dexclass.specs.Numbered.{NumberedClass, definition_of, type_at}
-use Rattle.dexlayout.specs.Laid.{AreShared, AreItemsIn, AreTypeLists, AreDebugs, AreWritable, ordered_of}
-use Rattle.dexlayout.specs.ItemKeys.{same_bytes}
+use Rattle.dexclass.specs.Numbered.{type_at}
+use Rattle.dexlayout.specs.{AreShared, AreItemsIn, AreTypeLists, AreDebugs, AreWritable, ordered_of, same_bytes}
 use Rattle.dexlayout.specs.internal.Encoding.{list_bytes}
 use Rattle.dexlayout.specs.internal.Encodings.{debug_encoding, debug_encodings, all_debug_encodings}
 use Rattle.dexlayout.specs.internal.Placing.{shared_by, encoded_lists, encoded_debugs}

@@ -1,13 +1,6 @@
 -- The offsets of the items that uses share.
-use Rattle.std.proofs.Common.{◌≡◌, ℕ, ◌<◌, List, length, get_or, Some, sym, ap, subst, ◌∙◌, arith}
-use Rattle.std.specs.Prelude.{All, IfSome, None, Option}
-use Rattle.std.proofs.lemmas.List.{get_or_default}
-use Rattle.dexspec.specs.Placing.{Items, Placed, offsets_from}
-use Rattle.dexspec.proofs.layout.Places.{length-offsets_from}
-use Rattle.dexspec.proofs.layout.Placements.{numbers_offsets}
-use Rattle.dexspec.proofs.layout.Uses.{AreNumbered, IsNumber}
-use Rattle.dexlayout.specs.Places.{ItemPlaces, EncodedItems}
-use Rattle.dexlayout.specs.Laid.{AreItemsIn, AreLaidSo, AreSharedIn}
+use Rattle.dexlayout.proofs.Common.{◌≡◌, ℕ, ◌<◌, List, length, get_or, Some, sym, ap, subst, ◌∙◌, arith, All, IfSome, None, Option, get_or_default, Items, Placed, offsets_from, length-offsets_from, numbers_offsets, AreNumbered, IsNumber}
+use Rattle.dexlayout.specs.{ItemPlaces, EncodedItems, AreItemsIn, AreLaidSo, AreSharedIn}
 use Rattle.dexlayout.specs.internal.Placing.{shared_by}
 
 -- a number is that of an item

@@ -1,20 +1,9 @@
 -- Numbers of a numbering are the same if and only if they denote the same: of type lists and sets.
-use Rattle.std.proofs.Common.{◌≡◌, ℕ, ◌<◌, Bool, List, [], ◌∷◌, length, map, refl, sym, ap, ◌∙◌}
-use Rattle.std.specs.Prelude.{All}
+use Rattle.dexlayout.proofs.Common.{◌≡◌, ℕ, ◌<◌, Bool, List, [], ◌∷◌, length, map, refl, sym, ap, ◌∙◌, All, All-head, All-tail, rank, text_cmp, Mentions, same_types, same_set, IsEquality, types_decide, set_decides, AreRising, ranks_are_numbers, NumberedSet, set_in, type_at, IsKnownSet}
 use Rattle.std.specs.Bool.{Decides}
 use Rattle.std.proofs.lemmas.Bool.Decides.{same_from_decides}
-use Rattle.std.proofs.lemmas.List.Elements.{All-head, All-tail}
-use Rattle.dexspec.specs.Lists.{rank}
-use Rattle.dexspec.specs.Texts.{text_cmp}
-use Rattle.dexspec.specs.Mentions.{Mentions}
-use Rattle.dexspec.specs.Sameness.{same_types, same_set}
-use Rattle.dexspec.proofs.lists.Equality.{IsEquality}
-use Rattle.dexspec.proofs.sharing.Sameness.{types_decide, set_decides}
-use Rattle.dexpool.specs.Numberings.{AreRising}
-use Rattle.dexpool.proofs.UnionLaws.{ranks_are_numbers}
-use Rattle.dexval.specs.Numbered.{NumberedSet, set_in, type_at, IsKnownSet}
 use Rattle.dexval.proofs.Ranked as sets
-use Rattle.dexlayout.specs.ListKeys.{same_numbers, same_numbers_decides}
+use Rattle.dexlayout.specs.{same_numbers, same_numbers_decides}
 
 -- ---- tests of what is mapped one to one
 

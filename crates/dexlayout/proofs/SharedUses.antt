@@ -1,20 +1,10 @@
 -- Uses that share items by a test of equality: one use more, and items that are mapped one to one.
-use Rattle.std.proofs.Common.{◌≡◌, ◌⊎◌, ℕ, Bool, true, false, cond, not, ◌||◌, List, [], ◌∷◌, ◌++◌, ◌+◌, ◌<◌, length, get_or, map, take, append_assoc, None, Some, refl, sym, ap, subst, ◌∙◌, inl, inr}
-use Rattle.std.specs.Prelude.{Option, All, IfSome, Result, Ok, Err, IfOk, OnOk, if◌then◌else◌}
-use Rattle.std.specs.List.{Contains, filter, list_any, position_or_len}
-use Rattle.std.specs.Option.{option_map}
+use Rattle.dexlayout.proofs.Common.{◌≡◌, ◌⊎◌, ℕ, Bool, true, false, cond, not, ◌||◌, List, [], ◌∷◌, ◌++◌, ◌+◌, ◌<◌, length, get_or, map, take, append_assoc, None, Some, refl, sym, ap, subst, ◌∙◌, inl, inr, Option, All, IfSome, Result, Ok, Err, IfOk, OnOk, if◌then◌else◌, Contains, filter, list_any, position_or_len, option_map, append-nil, map-append, take_more, filter-append, All-nil, All-cons, All-append, All-contains, Contains-get_or, present, distinct, shared_items, unless_empty, Contains-nil, Contains-first, Contains-later, Contains-cons_cases, list_any-source, present-append, numbers_mapped, distinct_source}
 use Rattle.std.specs.Cmp.{IsEquivalence}
-use Rattle.std.proofs.lemmas.List.{append-nil, map-append, take_more}
-use Rattle.std.proofs.lemmas.List.Elements.{filter-append, All-nil, All-cons, All-append, All-contains, Contains-get_or}
 use Rattle.std.proofs.lemmas.Map.Views.{any-filter_same}
-use Rattle.dexspec.specs.Lists.{present, distinct}
-use Rattle.dexspec.specs.Placing.{shared_items, unless_empty}
 use Rattle.dexspec.proofs.lists.Distinct.{with_last, insert_grows, distinct_mapped}
 use Rattle.dexspec.proofs.lists.FirstPlaces.{position_within, position_stays, position_last, position_none, position_equal, any_equal}
-use Rattle.dexspec.proofs.lists.Members.{Contains-nil, Contains-first, Contains-later, Contains-cons_cases, list_any-source}
-use Rattle.dexspec.proofs.sharing.Sharing.{present-append, numbers_mapped}
-use Rattle.dexspec.proofs.lists.Sources.{distinct_source}
-use Rattle.dexlayout.specs.Laid.{AreShared}
+use Rattle.dexlayout.specs.{AreShared}
 use Rattle.dexlayout.specs.internal.Sharing.{HaveItems, SharedTo}
 
 -- ---- one more item

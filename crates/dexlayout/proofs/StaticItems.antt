@@ -1,15 +1,6 @@
 -- The arrays of static values of classes.
-use Rattle.std.proofs.Common.{◌≡◌, ℕ, ◌<◌, List, [], ◌∷◌, length, map, None, Some, refl, sym, ap, ◌∙◌, arith}
-use Rattle.std.specs.Option.{option_map}
-use Rattle.dexspec.specs.Classes.{Definition}
-use Rattle.dexspec.specs.Mentions.{Mentions}
-use Rattle.dexspec.specs.Placing.{values_unless_empty, static_values_uses, end}
-use Rattle.dexspec.specs.Sections.{EncodedArrayItems}
-use Rattle.dexspec.specs.Canonical.{annotation_section, array_section}
-use Rattle.dexspec.specs.Spellings.{encoded_array_bytes}
-use Rattle.dexval.specs.Numbered.{NumberedValue, values_in, values_of_list}
-use Rattle.dexclass.specs.Numbered.{NumberedClass, definition_of}
-use Rattle.dexlayout.specs.Laid.{AreStaticValues, ordered_of}
+use Rattle.dexlayout.proofs.Common.{◌≡◌, ℕ, ◌<◌, List, [], ◌∷◌, length, map, None, Some, refl, sym, ap, ◌∙◌, arith, option_map, Definition, Mentions, values_unless_empty, static_values_uses, end, EncodedArrayItems, annotation_section, array_section, encoded_array_bytes, NumberedValue, values_in, values_of_list, NumberedClass, definition_of}
+use Rattle.dexlayout.specs.{AreStaticValues, ordered_of}
 use Rattle.dexlayout.specs.internal.Encoding.{encode_uses, no_items_from, static_item}
 use Rattle.dexlayout.proofs.EncodedUses.{own_in}
 

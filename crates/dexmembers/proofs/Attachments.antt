@@ -1,15 +1,7 @@
 -- Members put together: what the places of a directory are looked up to.
-use Rattle.std.proofs.Common.{◌≡◌, ℕ, ◌<◌, Bool, true, false, cond, List, [], ◌∷◌, get_or, length, map, refl, sym, ap, ◌∙◌, subst, Option, Some, None}
-use Rattle.std.specs.Prelude.{All, IfSome, unwrap_or}
-use Rattle.std.specs.Ordering.{nat_cmp, is_eq}
+use Rattle.dexmembers.proofs.Common.{◌≡◌, ℕ, ◌<◌, Bool, true, false, cond, List, [], ◌∷◌, get_or, length, map, refl, sym, ap, ◌∙◌, subst, Option, Some, None, All, IfSome, unwrap_or, nat_cmp, is_eq, zip_with, annotated, map_both, NumberedItem, NumberedSet, NumberedTable, IsPlaceIn, set_at, sets_at}
 use Rattle.std.specs.FinMap.Entries.{find}
-use Rattle.dexspec.specs.Lists.{zip_with}
-use Rattle.dexspec.specs.Annotations.{annotated}
-use Rattle.dexpool.proofs.Pairs.{map_both}
-use Rattle.dexcode.specs.Numbered.{NumberedItem}
-use Rattle.dexval.specs.Numbered.{NumberedSet}
-use Rattle.dexval.specs.Tables.{NumberedTable, IsPlaceIn, set_at, sets_at}
-use Rattle.dexmembers.specs.Held.{HeldField, HeldMethod, field_of, method_of, IsHeldField, IsHeldMethod}
+use Rattle.dexmembers.specs.{HeldField, HeldMethod, field_of, method_of, IsHeldField, IsHeldMethod}
 use Rattle.dexmembers.specs.internal.Attaching.{EntriesRise, place_for, held_field, held_method, field_with, method_with}
 use Rattle.dexmembers.specs.declared.class_data.EncodedField.{EncodedField as FieldRead}
 use Rattle.dexmembers.specs.declared.class_data.EncodedMethod.{EncodedMethod as MethodRead}

@@ -1,22 +1,7 @@
 -- Class data with numbers put in is that of what the numbers denote.
-use Rattle.std.proofs.Common.{◌≡◌, ℕ, ◌+◌, ◌*◌, ◌-◌, ◌<◌, ◌≤◌, List, [], ◌∷◌, ◌++◌, get_or, length, map, take, drop, refl, sym, ap, ◌∙◌, arith, All}
-use Rattle.std.specs.Prelude.{slice_index}
-use Rattle.std.specs.List.{concat, zip}
-use Rattle.std.proofs.lemmas.List.{length-append, length-map, drop_more, drop_all}
-use Rattle.std.proofs.lemmas.List.Elements.{All-head, All-tail}
-use Rattle.dexspec.specs.Lists.{zip_with}
-use Rattle.dexspec.specs.Numbers.{uleb128}
-use Rattle.dexspec.specs.Texts.{Text}
-use Rattle.dexspec.specs.Symbols.{Field, Method}
-use Rattle.dexspec.specs.Classes.{Body, FieldDef, MethodDef}
-use Rattle.dexspec.specs.Mentions.{Mentions, field_of, method_of}
-use Rattle.dexspec.specs.Spellings.{field_index, method_index, differences, encoded_method_bytes, class_data_bytes}
+use Rattle.dexmembers.proofs.Common.{◌≡◌, ℕ, ◌+◌, ◌*◌, ◌-◌, ◌<◌, ◌≤◌, List, [], ◌∷◌, ◌++◌, get_or, length, map, take, drop, refl, sym, ap, ◌∙◌, arith, All, slice_index, concat, zip, length-append, length-map, drop_more, drop_all, All-head, All-tail, zip_with, uleb128, Text, Field, Method, Body, FieldDef, MethodDef, Mentions, field_of, method_of, field_index, method_index, differences, encoded_method_bytes, class_data_bytes, RanksAreNumbers, field_at, method_at, all_prefix, all_back}
 use Rattle.dexspec.proofs.size.SizeItems.{uleb128-size}
-use Rattle.dexpool.specs.Laws.{RanksAreNumbers}
-use Rattle.dexval.specs.Numbered.{field_at, method_at}
-use Rattle.dexpool.proofs.Parts.{all_prefix, all_back}
-use Rattle.dexmembers.specs.Numbered.{NumberedField, NumberedMethod, NumberedMembers, Members, field_in, method_in, members_in, members_of, fields_of, methods_of, IsKnownField, IsKnownMethod, AreKnownMembers, AreOfClass}
-use Rattle.dexmembers.specs.Spelled.{numbered_field_bytes, numbered_fields_bytes, numbered_method_bytes, numbered_methods_bytes, numbered_class_data_bytes}
+use Rattle.dexmembers.specs.{NumberedField, NumberedMethod, NumberedMembers, Members, field_in, method_in, members_in, members_of, fields_of, methods_of, IsKnownField, IsKnownMethod, AreKnownMembers, AreOfClass, numbered_field_bytes, numbered_fields_bytes, numbered_method_bytes, numbered_methods_bytes, numbered_class_data_bytes}
 
 -- ---- sizes
 

@@ -1,16 +1,9 @@
 -- What members weigh, by their code and by all else.
-use Rattle.std.proofs.Common.{◌≡◌, ℕ, ◌+◌, ◌-◌, ◌^◌, min, List, [], ◌∷◌, ◌++◌, length, map, refl, ap, ◌∙◌, arith, sum_by, Option}
-use Rattle.std.proofs.lemmas.List.{map-append}
-use Rattle.std.proofs.lemmas.List.Sums.{sum_by-cons, sum_by-append}
-use Rattle.std.specs.Prelude.{option_to_list}
-use Rattle.dexspec.specs.Lists.{zip_with}
+use Rattle.dexmembers.proofs.Common.{◌≡◌, ℕ, ◌+◌, ◌-◌, ◌^◌, min, List, [], ◌∷◌, ◌++◌, length, map, refl, ap, ◌∙◌, arith, sum_by, Option, map-append, sum_by-cons, sum_by-append, option_to_list, zip_with, NumberedItem, NumberedSet, NumberedDirectory, NumberedValues}
 use Rattle.dexspec.proofs.size.SizeSums.{sum_by-map}
-use Rattle.dexcode.specs.Numbered.{NumberedItem}
-use Rattle.dexval.specs.Numbered.{NumberedSet, NumberedDirectory, NumberedValues}
-use Rattle.dexmembers.specs.Numbered.{NumberedMethod, NumberedMembers, methods_of}
+use Rattle.dexmembers.specs.{NumberedMethod, NumberedMembers, methods_of, numbered_whole_weight, numbered_method_weight, numbered_members_weight, codes_weight, codes_of, method_code_weight, own_method_weight, own_members_weight}
 use Rattle.dexmembers.specs.internal.Attaching.{method_with}
 use Rattle.dexmembers.specs.internal.RowParts.{attached}
-use Rattle.dexmembers.specs.Weighing.{numbered_whole_weight, numbered_method_weight, numbered_members_weight, codes_weight, codes_of, method_code_weight, own_method_weight, own_members_weight}
 use Rattle.dexmembers.specs.declared.class_data.EncodedMethod.{EncodedMethod as MethodRead}
 use Rattle.dexmembers.specs.declared.class_data.ClassData.{ClassData as DataRead}
 

@@ -1,19 +1,5 @@
 -- The code of methods, one after the other.
-use Rattle.std.proofs.Common.{◌≡◌, ◌≢◌, ℕ, ◌+◌, ◌<◌, ◌≤◌, List, [], ◌∷◌, ◌++◌, length, take, drop, get_or, inl, inr, Option, Some, None, sym, subst, ap, arith}
-use Rattle.std.specs.Prelude.{sum_by}
-use Rattle.std.specs.List.{AllZip, Contains}
-use Rattle.std.proofs.lemmas.List.{take-append-drop, take_more}
-use Rattle.std.proofs.lemmas.List.Sums.{sum_by_push, sum_by-cons}
-use Rattle.dexspec.specs.Lists.{OrNone, SomeAt, BothOrNone}
-use Rattle.dexspec.specs.Code.{Code, CodeAt}
-use Rattle.dexspec.specs.Mentions.{Mentions}
-use Rattle.dexspec.proofs.determined.OneRow.{one_or_none}
-use Rattle.dexspec.proofs.determined.OneCode.{one_some, one_code_item}
-use Rattle.dexpool.proofs.Pairs.{zip_push}
-use Rattle.dexpool.specs.declared.faults.ItemFault.{ItemFault}
-use Rattle.dexpool.specs.declared.faults.ItemFault.TheVariants.{Refused, Memory}
-use Rattle.dexcode.specs.Numbered.{NumberedItem, DenotesCode}
-use Rattle.dexcode.specs.Reading.{IsCodeAt}
+use Rattle.dexmembers.proofs.Common.{◌≡◌, ◌≢◌, ℕ, ◌+◌, ◌<◌, ◌≤◌, List, [], ◌∷◌, ◌++◌, length, take, drop, get_or, inl, inr, Option, Some, None, sym, subst, ap, arith, sum_by, AllZip, Contains, take-append-drop, take_more, sum_by_push, sum_by-cons, OrNone, SomeAt, BothOrNone, Code, CodeAt, Mentions, one_or_none, one_some, one_code_item, zip_push, ItemFault, Refused, Memory, NumberedItem, DenotesCode, IsCodeAt}
 use Rattle.dexmembers.specs.declared.class_data.EncodedMethod.{EncodedMethod}
 use Rattle.dexmembers.specs.internal.MethodCodes.{AreCodesAt, IsCodeOrNone, IsCodeOrNoneFault, AreCodesOf, IsCodesFault, IsCodesFaultWithin, optional_code_weight}
 

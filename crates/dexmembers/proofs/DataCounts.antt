@@ -1,9 +1,5 @@
 -- Class data in the file: without one of its parts there is none.
-use Rattle.std.proofs.Common.{◌≡◌, ℕ, ◌+◌, ◌<◌, List, [], ◌∷◌, length, get_or, ap, sym, subst, ◌∙◌, refl, arith}
-use Rattle.dexspec.specs.Lists.{Sequence}
-use Rattle.dexspec.specs.Numbers.{Uleb128At}
-use Rattle.dexspec.specs.Mentions.{Mentions}
-use Rattle.dexspec.proofs.determined.OneNumber.{one_uleb128}
+use Rattle.dexmembers.proofs.Common.{◌≡◌, ℕ, ◌+◌, ◌<◌, List, [], ◌∷◌, length, get_or, ap, sym, subst, ◌∙◌, refl, arith, Sequence, Uleb128At, Mentions, one_uleb128}
 use Rattle.dexspec.proofs.lists.Sequences.{one_sequence}
 use Rattle.dexcode.proofs.Prefixes.{stuck}
 use Rattle.dexmembers.specs.declared.class_data.EncodedField.{EncodedField}

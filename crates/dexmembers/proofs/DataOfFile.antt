@@ -1,30 +1,9 @@
 -- Class data by numbers is that of the file.
-use Rattle.std.proofs.Common.{◌≡◌, ◌≢◌, ℕ, ◌+◌, ◌^◌, ◌<◌, ◌≤◌, List, [], ◌∷◌, length, map, get_or, Option, Some, None, refl, ap, sym, ◌∙◌, subst, arith, inl, inr}
-use Rattle.std.specs.Prelude.{All, Result, Ok, Err, IfOk, IfErr}
-use Rattle.std.specs.List.{Contains}
-use Rattle.std.proofs.lemmas.List.{length-map}
-use Rattle.std.proofs.lemmas.List.Elements.{All-head, All-tail, All-map, All-contains, All-append}
-use Rattle.dexspec.specs.Lists.{Sequence}
-use Rattle.dexspec.specs.Numbers.{Uleb128At}
-use Rattle.dexspec.specs.Texts.{Text}
+use Rattle.dexmembers.proofs.Common.{◌≡◌, ◌≢◌, ℕ, ◌+◌, ◌^◌, ◌<◌, ◌≤◌, List, [], ◌∷◌, length, map, get_or, Option, Some, None, refl, ap, sym, ◌∙◌, subst, arith, inl, inr, All, Result, Ok, Err, IfOk, IfErr, Contains, length-map, All-head, All-tail, All-map, All-contains, All-append, Sequence, Uleb128At, Text, Field, Method, field_cmp, method_cmp, FieldIds, MethodIds, table_size, data_off, EncodedFieldsAt, EncodedMethodsAt, ClassDataAt, ShareNone, BelongTo, ClassTypeRow, class_idx, class_data_off, Mentions, IsFrame, HasClass, one_type, one_field, one_method, Contains-map, Contains-map_source, field_total, method_total, ItemFault, Refused, Memory, ArePools, IsAt, IsNumbering, field_at, method_at, all_prefix, all_back}
 use Rattle.dexspec.specs.Sections.{IsInData}
-use Rattle.dexspec.specs.Symbols.{Field, Method, field_cmp, method_cmp}
-use Rattle.dexspec.specs.Header.{FieldIds, MethodIds, table_size, data_off}
 use Rattle.dexspec.specs.ClassData as items
-use Rattle.dexspec.specs.ClassData.{EncodedFieldsAt, EncodedMethodsAt, ClassDataAt, ShareNone, BelongTo}
-use Rattle.dexspec.specs.Classes.{ClassTypeRow, class_idx, class_data_off}
-use Rattle.dexspec.specs.Mentions.{Mentions}
-use Rattle.dexspec.specs.Accepted.{IsFrame, HasClass, HasMembers}
-use Rattle.dexspec.proofs.determined.OneRow.{one_type, one_field, one_method}
-use Rattle.dexspec.proofs.merge.Depths.{Contains-map}
-use Rattle.dexspec.proofs.normal.ClassPlaces.{Contains-map_source}
-use Rattle.dexspec.proofs.merge.SymbolOrders.{field_total, method_total}
+use Rattle.dexspec.specs.Accepted.{HasMembers}
 use Rattle.dexhead.proofs.Frames.{row_within}
-use Rattle.dexpool.specs.declared.faults.ItemFault.{ItemFault}
-use Rattle.dexpool.specs.declared.faults.ItemFault.TheVariants.{Refused, Memory}
-use Rattle.dexpool.specs.Pools.{ArePools}
-use Rattle.dexpool.specs.Numberings.{IsAt, IsNumbering}
-use Rattle.dexval.specs.Numbered.{field_at, method_at}
 use Rattle.dexval.proofs.FileRead.{few_bytes}
 use Rattle.dexmembers.specs.declared.class_data.EncodedField.{EncodedField}
 use Rattle.dexmembers.specs.declared.class_data.EncodedMethod.{EncodedMethod}
@@ -32,7 +11,6 @@ use Rattle.dexmembers.specs.declared.class_data.ClassData.{ClassData}
 use Rattle.dexmembers.specs.internal.ClassData.{encoded_field_in, encoded_method_in, class_data_in, IsDataOf, IsDataFault}
 use Rattle.dexmembers.specs.internal.EncodedMembers.{IsDataRefusal, Chain, FieldAt, MethodAt, IsOwnField, IsOwnMethod, DataAt, NoData}
 use Rattle.dexmembers.proofs.Owned.{one_place}
-use Rattle.dexpool.proofs.Parts.{all_prefix, all_back}
 use Rattle.dexmembers.proofs.MemberChains.{chain_all, chain_rises}
 use Rattle.dexmembers.proofs.OneMember.{field_follows, method_follows}
 

@@ -1,28 +1,11 @@
 -- The conditions of class data and code at a row: what was read meets them, and what was refused fails one.
-use Rattle.std.proofs.Common.{◌≡◌, ◌≢◌, ℕ, ◌+◌, List, [], ◌∷◌, map, subst, arith, inl, inr, Option, Some, None}
-use Rattle.std.specs.Prelude.{All}
-use Rattle.std.specs.List.{Contains}
-use Rattle.std.proofs.lemmas.List.Elements.{All-nil, All-cons, All-append, All-contains, Contains-append_left, Contains-append_right}
-use Rattle.dexspec.specs.Lists.{OrNone, SomeAt}
-use Rattle.dexspec.specs.Bytes.{uint_at}
+use Rattle.dexmembers.proofs.Common.{◌≡◌, ◌≢◌, ℕ, ◌+◌, List, [], ◌∷◌, map, subst, arith, inl, inr, Option, Some, None, All, Contains, All-nil, All-cons, All-append, All-contains, Contains-append_left, Contains-append_right, OrNone, SomeAt, uint_at, Code, CodeAt, TriesAt, ClassData, ClassDataAt, no_class_data, EncodedMethod, methods_of, class_data_off, Condition, Declares, AllCode, HasPiecesAt, HasTriesAt, HasDebugAt, HasCode, HasTries, HasDebug, Mentions, Contains-map, one_or_none, one_pieces, ItemFault, Refused, Memory, IsCodeFault}
 use Rattle.dexspec.specs.Pieces.{Cut}
 use Rattle.dexspec.specs.Debug.{Debug, DebugAt}
-use Rattle.dexspec.specs.Code.{Code, CodeAt, TriesAt}
-use Rattle.dexspec.specs.ClassData.{ClassData, ClassDataAt, no_class_data, EncodedMethod, methods_of}
-use Rattle.dexspec.specs.Classes.{class_data_off}
-use Rattle.dexspec.specs.Conditions.{Condition}
-use Rattle.dexspec.specs.Accepted.{Declares, AllCode, HasPiecesAt, HasTriesAt, HasDebugAt, HasCode, HasTries, HasDebug}
-use Rattle.dexspec.specs.Mentions.{Mentions}
-use Rattle.dexspec.proofs.merge.Depths.{Contains-map}
-use Rattle.dexspec.proofs.determined.OneRow.{one_or_none}
 use Rattle.dexspec.proofs.determined.OneClass.{one_class_data}
-use Rattle.dexspec.proofs.determined.OneCode.{one_pieces}
-use Rattle.dexpool.specs.declared.faults.ItemFault.{ItemFault}
-use Rattle.dexpool.specs.declared.faults.ItemFault.TheVariants.{Refused, Memory}
-use Rattle.dexcode.specs.Reading.{IsCodeFault}
 use Rattle.dexmembers.specs.internal.ClassData.{encoded_method_in, class_data_in, IsDataOf, IsDataFault}
 use Rattle.dexmembers.specs.internal.MethodCodes.{AreCodesAt, IsCodesFault}
-use Rattle.dexmembers.specs.Reading.{IsMembersFault}
+use Rattle.dexmembers.specs.{IsMembersFault}
 use Rattle.dexmembers.specs.declared.class_data.EncodedMethod.{EncodedMethod as MethodRead}
 use Rattle.dexmembers.specs.declared.class_data.ClassData.{ClassData as DataRead}
 

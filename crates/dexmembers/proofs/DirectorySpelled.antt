@@ -1,29 +1,6 @@
 -- An annotations directory with numbers put in is that of what the numbers denote.
-use Rattle.std.proofs.Common.{◌≡◌, ◌≢◌, ℕ, ◌+◌, ◌*◌, ◌<◌, ◌≤◌, Bool, true, false, List, [], ◌∷◌, ◌++◌, length, map, get_or, take, drop, Option, Some, None, unwrap_or, refl, sym, ap, ◌∙◌, subst, arith, inl, inr, All}
-use Rattle.std.specs.Prelude.{if◌then◌else◌, ◌==◌, slice_index, nat_lt}
-use Rattle.std.specs.List.{Contains, zip}
-use Rattle.std.specs.Ordering.{nat_cmp, is_lt}
-use Rattle.std.specs.declared.cmp.Ordering.{Ordering}
-use Rattle.std.specs.declared.cmp.Ordering.TheVariants.{Less, Equal, Greater}
-use Rattle.std.proofs.lemmas.Bool.{cases_lt, true≢false, cond-false, cond_both, le-ltb}
-use Rattle.std.proofs.lemmas.List.{length-append, length-map, map-append, take-append-drop, length-take, length-drop}
-use Rattle.std.proofs.lemmas.List.Elements.{All-nil, All-cons}
-use Rattle.dexspec.specs.Lists.{rises, in_order}
-use Rattle.dexspec.specs.Bytes.{uint}
-use Rattle.dexspec.specs.Texts.{Text}
-use Rattle.dexspec.specs.ClassData.{ShareNone}
-use Rattle.dexspec.specs.Classes.{Body, FieldDef, MethodDef}
-use Rattle.dexspec.specs.Mentions.{Mentions, field_of, method_of}
-use Rattle.dexspec.specs.Placing.{SetOffsets, pair_cmp, pairs, pairs_bytes, directory_bytes}
-use Rattle.dexspec.specs.Spellings.{field_index, method_index}
-use Rattle.dexspec.proofs.numbers.ByteNumbers.{length-uint}
-use Rattle.dexspec.proofs.lists.Members.{and_first, and_second, Contains-first, Contains-later}
-use Rattle.dexpool.specs.Laws.{RanksAreNumbers}
-use Rattle.dexval.specs.Numbered.{field_at, method_at}
-use Rattle.dexmembers.specs.Numbered.{NumberedField, NumberedMethod, NumberedMembers, Members, field_in, method_in, members_in, members_of, fields_of, methods_of, IsKnownField, IsKnownMethod, AreKnownMembers, AreOfClass, AreOrdered}
-use Rattle.dexmembers.specs.DirectoryPut.{count_placed, pairs_of_both, both_bytes, field_numbers, method_numbers, numbered_directory_bytes}
-use Rattle.dexpool.proofs.Pairs.{map_both}
-use Rattle.dexpool.proofs.Parts.{all_prefix, all_back}
+use Rattle.dexmembers.proofs.Common.{◌≡◌, ◌≢◌, ℕ, ◌+◌, ◌*◌, ◌<◌, ◌≤◌, Bool, true, false, List, [], ◌∷◌, ◌++◌, length, map, get_or, take, drop, Option, Some, None, unwrap_or, refl, sym, ap, ◌∙◌, subst, arith, inl, inr, All, if◌then◌else◌, ◌==◌, slice_index, nat_lt, Contains, zip, nat_cmp, is_lt, Ordering, Less, Equal, Greater, cases_lt, true≢false, cond-false, cond_both, le-ltb, length-append, length-map, map-append, take-append-drop, length-take, length-drop, All-nil, All-cons, rises, in_order, uint, Text, ShareNone, Body, FieldDef, MethodDef, Mentions, field_of, method_of, SetOffsets, pair_cmp, pairs, pairs_bytes, directory_bytes, field_index, method_index, length-uint, and_first, and_second, Contains-first, Contains-later, RanksAreNumbers, field_at, method_at, map_both, all_prefix, all_back}
+use Rattle.dexmembers.specs.{NumberedField, NumberedMethod, NumberedMembers, Members, field_in, method_in, members_in, members_of, fields_of, methods_of, IsKnownField, IsKnownMethod, AreKnownMembers, AreOfClass, AreOrdered, count_placed, pairs_of_both, both_bytes, field_numbers, method_numbers, numbered_directory_bytes}
 use Rattle.dexmembers.proofs.ClassDataSpelled.{field_number, method_number}
 use Rattle.dexmembers.proofs.PairsMerged.{kept, AreAbove, Ascend, AreOther, AreApart, lower_above, merged_in_order, kept_bytes, kept_count, placed_count, placed_append, pairs_size}
 

@@ -1,25 +1,5 @@
 -- The entries of a directory that was read are in the order of their numbers.
-use Rattle.std.proofs.Common.{◌≡◌, ℕ, ◌+◌, ◌*◌, ◌<◌, true, List, [], ◌∷◌, length, get_or, map, refl, sym, ap, ◌∙◌, subst, Ordering}
-use Rattle.std.specs.Prelude.{All}
-use Rattle.std.specs.List.{AllZip}
-use Rattle.std.specs.Ordering.{nat_cmp}
-use Rattle.std.specs.Cmp.{IsTotalOrder}
-use Rattle.std.specs.FinMap.{nat_cmp-IsAntisymmetric}
-use Rattle.std.proofs.lemmas.Cmp.{tied_itself}
-use Rattle.std.proofs.lemmas.List.Elements.{All-head, All-tail}
-use Rattle.dexspec.specs.Lists.{rises}
-use Rattle.dexspec.specs.Symbols.{field_cmp, method_cmp}
-use Rattle.dexspec.specs.Header.{FieldIds, MethodIds, table_size}
-use Rattle.dexspec.specs.Rows.{FieldRow, MethodRow}
-use Rattle.dexspec.specs.Annotations.{PairAt, PairsAt, pairs_at, SetAt, RefListAt, fields_count, methods_count, parameters_count}
-use Rattle.dexspec.specs.Mentions.{Mentions}
-use Rattle.dexspec.proofs.determined.OneRow.{one_field, one_method}
-use Rattle.dexspec.proofs.merge.SymbolOrders.{field_total, method_total}
-use Rattle.dexpool.specs.Numberings.{AreRising}
-use Rattle.dexpool.specs.Pools.{AreAll, ArePools}
-use Rattle.dexpool.proofs.NumberOrder.{places_agree}
-use Rattle.dexval.specs.Numbered.{NumberedDirectory, set_in}
-use Rattle.dexval.specs.Reading.{IsDirectoryAt}
+use Rattle.dexmembers.proofs.Common.{◌≡◌, ℕ, ◌+◌, ◌*◌, ◌<◌, true, List, [], ◌∷◌, length, get_or, map, refl, sym, ap, ◌∙◌, subst, Ordering, All, AllZip, nat_cmp, IsTotalOrder, nat_cmp-IsAntisymmetric, tied_itself, All-head, All-tail, rises, field_cmp, method_cmp, FieldIds, MethodIds, table_size, FieldRow, MethodRow, PairAt, PairsAt, pairs_at, SetAt, RefListAt, fields_count, methods_count, parameters_count, Mentions, one_field, one_method, field_total, method_total, AreRising, AreAll, ArePools, places_agree, NumberedDirectory, set_in, IsDirectoryAt}
 use Rattle.dexmembers.specs.internal.Attaching.{EntriesRise}
 
 module _ {K : Type 0} (R : K → K → Ordering) (o : IsTotalOrder R) (Row : List ℕ → ℕ → K → Type 0) (one : (b : List ℕ) (i : ℕ) (x y : K) → Row b i x → Row b i y → x ≡ y) (b : List ℕ) (size : ℕ) (within : (i : ℕ) (x : K) → Row b i x → i < size)

@@ -1,9 +1,6 @@
 -- Members weigh something each.
-use Rattle.std.proofs.Common.{◌*◌, ◌^◌, ◌<◌, ◌≤◌, List, [], ◌∷◌, length, sum_by, arith}
-use Rattle.std.proofs.lemmas.List.{length-append}
-use Rattle.std.proofs.lemmas.List.Sums.{sum_by-cons}
-use Rattle.dexmembers.specs.Numbered.{NumberedField, NumberedMethod, NumberedMembers, AreFew, fields_of, methods_of}
-use Rattle.dexmembers.specs.Weighing.{numbered_field_weight, own_method_weight, own_members_weight}
+use Rattle.dexmembers.proofs.Common.{◌*◌, ◌^◌, ◌<◌, ◌≤◌, List, [], ◌∷◌, length, sum_by, arith, length-append, sum_by-cons}
+use Rattle.dexmembers.specs.{NumberedField, NumberedMethod, NumberedMembers, AreFew, fields_of, methods_of, numbered_field_weight, own_method_weight, own_members_weight}
 
 numbered_fields_weigh : (fs : List NumberedField) → 18 * length fs ≤ sum_by numbered_field_weight fs
 numbered_fields_weigh [] = omega arith

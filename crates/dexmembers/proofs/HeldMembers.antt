@@ -1,17 +1,6 @@
 -- Members as they are held, remapped and stripped: what is looked up for them then.
-use Rattle.std.proofs.Common.{◌≡◌, ℕ, List, get_or, length, map, refl, sym, ap, ◌∙◌, arith, Option, Some, None}
-use Rattle.std.specs.List.{All}
-use Rattle.std.proofs.lemmas.List.{length-map}
-use Rattle.std.proofs.lemmas.List.Elements.{All-map}
-use Rattle.dexpool.specs.Numberings.{Maps}
-use Rattle.dexpool.proofs.Pairs.{map_both}
-use Rattle.dexval.specs.Numbered.{NumberedSet}
-use Rattle.dexval.specs.Renumbering.{renumbered_set, SetHasPlaces}
-use Rattle.dexval.specs.Tables.{NumberedTable, IsPlaceIn, IsRemappedSet, set_at, places_at}
-use Rattle.dexmembers.specs.Numbered.{NumberedField, NumberedMethod, AreFew}
-use Rattle.dexmembers.specs.Held.{HeldField, HeldMethod, field_of, method_of, IsHeldField, IsHeldMethod}
-use Rattle.dexmembers.specs.Renumbering.{renumbered_field, renumbered_method, remapped_field, remapped_method, FieldHasPlaces, MethodHasPlaces, IsHeldFieldMapped, IsHeldMethodMapped}
-use Rattle.dexmembers.specs.Stripped.{stripped_held, stripped_method}
+use Rattle.dexmembers.proofs.Common.{◌≡◌, ℕ, List, get_or, length, map, refl, sym, ap, ◌∙◌, arith, Option, Some, None, All, length-map, All-map, Maps, map_both, NumberedSet, renumbered_set, SetHasPlaces, NumberedTable, IsPlaceIn, IsRemappedSet, set_at, places_at}
+use Rattle.dexmembers.specs.{NumberedField, NumberedMethod, AreFew, HeldField, HeldMethod, field_of, method_of, IsHeldField, IsHeldMethod, renumbered_field, renumbered_method, remapped_field, remapped_method, FieldHasPlaces, MethodHasPlaces, IsHeldFieldMapped, IsHeldMethodMapped, stripped_held, stripped_method}
 use Rattle.dexmembers.proofs.RenumberingLists.{both_where, both_ways, all_seen}
 
 -- ---- the images of the numbers of members

@@ -1,18 +1,7 @@
 -- The images of the numbers of what a class declares, part by part.
-use Rattle.std.proofs.Common.{◌≡◌, ℕ, List, [], ◌++◌, Option, Some, None, refl}
-use Rattle.std.specs.Prelude.{IsSome, IfSome, option_to_list}
-use Rattle.std.specs.List.{All, flat_map}
-use Rattle.std.proofs.lemmas.List.Elements.{All-head, All-tail}
+use Rattle.dexmembers.proofs.Common.{◌≡◌, ℕ, List, [], ◌++◌, Option, Some, None, refl, IsSome, IfSome, option_to_list, All, flat_map, All-head, All-tail, Maps, Use, IsMappedUse, NumberedItem, item_uses, HasImages, NumberedSet, NumberedValues, set_uses, values_uses, all_prefix, all_back, all_parts, all_of}
 use Rattle.dexpool.specs.declared.symbols.SymbolKind.TheVariants as kinds
-use Rattle.dexpool.specs.Numberings.{Maps}
-use Rattle.dexpool.specs.Uses.{Use, IsMappedUse}
-use Rattle.dexcode.specs.Numbered.{NumberedItem}
-use Rattle.dexcode.specs.Renumbering.{item_uses, HasImages}
-use Rattle.dexval.specs.Numbered.{NumberedSet, NumberedValues}
-use Rattle.dexval.specs.Uses.{set_uses, values_uses}
-use Rattle.dexpool.proofs.Parts.{all_prefix, all_back, all_parts, all_of}
-use Rattle.dexmembers.specs.Numbered.{NumberedField, NumberedMethod, NumberedMembers, fields_of, methods_of}
-use Rattle.dexmembers.specs.Uses.{field_uses, method_uses, members_uses}
+use Rattle.dexmembers.specs.{NumberedField, NumberedMethod, NumberedMembers, fields_of, methods_of, field_uses, method_uses, members_uses}
 
 -- the field of a number
 abbrev pub field_use : ℕ → Use

@@ -1,3 +1,4 @@
+pub mod Common
 pub mod Attachments
 pub mod ClassDataSpelled
 pub mod CodesApart

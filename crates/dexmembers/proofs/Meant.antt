@@ -1,26 +1,8 @@
 -- Members put together denote what the row declares.
-use Rattle.std.proofs.Common.{◌≡◌, ℕ, ◌<◌, Bool, true, false, cond, List, [], ◌∷◌, length, get_or, map, refl, sym, ap, ◌∙◌, subst, Option, Some, None, Ordering}
-use Rattle.std.specs.Prelude.{All, IfSome, unwrap_or}
-use Rattle.std.specs.List.{AllZip}
-use Rattle.std.specs.Option.{option_map}
-use Rattle.std.specs.Ordering.{nat_cmp, is_eq}
-use Rattle.std.specs.Cmp.{IsTotalOrder}
+use Rattle.dexmembers.proofs.Common.{◌≡◌, ℕ, ◌<◌, Bool, true, false, cond, List, [], ◌∷◌, length, get_or, map, refl, sym, ap, ◌∙◌, subst, Option, Some, None, Ordering, All, IfSome, unwrap_or, AllZip, option_map, nat_cmp, is_eq, IsTotalOrder, All-head, All-tail, All-nil, All-cons, All-map, All-contains, rises, zip_with, OrNone, SomeAt, BothOrNone, field_cmp, method_cmp, annotated, field_def, MakesMethod, Code, CodeAt, Mentions, field_total, method_total, AreRising, places_agree, NumberedItem, DenotesCode, code_in, IsKnownCode, IsKnownAnnotation, IsKnownSet, NumberedDirectory, IsKnownDirectory, annotation_in, set_in, directory_in, field_at, method_at}
 use Rattle.std.specs.FinMap.Entries.{find}
-use Rattle.std.proofs.lemmas.List.Elements.{All-head, All-tail, All-nil, All-cons, All-map, All-contains}
-use Rattle.dexspec.specs.Lists.{rises, zip_with, OrNone, SomeAt, BothOrNone}
-use Rattle.dexspec.specs.Symbols.{field_cmp, method_cmp}
-use Rattle.dexspec.specs.Annotations.{annotated}
-use Rattle.dexspec.specs.Classes.{field_def, MakesMethod}
-use Rattle.dexspec.specs.Code.{Code, CodeAt}
-use Rattle.dexspec.specs.Mentions.{Mentions}
-use Rattle.dexspec.proofs.merge.SymbolOrders.{field_total, method_total}
 use Rattle.dexspec.proofs.lists.Sources.{annotated_source}
-use Rattle.dexpool.specs.Numberings.{AreRising}
-use Rattle.dexpool.proofs.NumberOrder.{places_agree}
-use Rattle.dexcode.specs.Numbered.{NumberedItem, DenotesCode}
-use Rattle.dexcode.specs.Meaning.{code_in, IsKnownCode}
-use Rattle.dexval.specs.Numbered.{IsKnownAnnotation, IsKnownSet, NumberedDirectory, IsKnownDirectory, annotation_in, set_in, directory_in, field_at, method_at}
-use Rattle.dexmembers.specs.Numbered.{IsKnownField, IsKnownMethod, field_in, method_in}
+use Rattle.dexmembers.specs.{IsKnownField, IsKnownMethod, field_in, method_in}
 use Rattle.dexmembers.specs.internal.ClassData.{encoded_field_in, encoded_method_in}
 use Rattle.dexmembers.proofs.RenumberingLists.{both_where}
 use Rattle.dexmembers.specs.internal.MethodCodes.{AreCodesAt}

@@ -1,22 +1,7 @@
 -- Members one after the other: those that were read are the first of any others at the same offset, and their indices
 -- rise.
-use Rattle.std.proofs.Common.{◌≡◌, ◌⊎◌, ℕ, ◌+◌, ◌<◌, ◌≤◌, true, List, [], ◌∷◌, ◌++◌, length, map, get_or, Option, Some, None, refl, ap, sym, ◌∙◌, subst, arith, inl, inr}
-use Rattle.std.specs.Prelude.{All}
-use Rattle.std.specs.List.{Contains}
-use Rattle.std.specs.Ordering.{nat_cmp, is_lt}
-use Rattle.std.specs.Cmp.{nat_cmp_is, nat_cmp_total}
-use Rattle.std.specs.declared.cmp.Ordering.TheVariants.{Less}
-use Rattle.std.proofs.lemmas.Bool.{cases_lt}
-use Rattle.std.proofs.lemmas.List.{get_or_default, get_or-map, length-map}
-use Rattle.std.proofs.lemmas.List.Elements.{Contains-get_or, All-cons, All-nil}
-use Rattle.dexspec.specs.Lists.{rises}
-use Rattle.dexspec.specs.ClassData.{ShareNone}
-use Rattle.dexspec.proofs.lists.InOrder.{Rises-from_rises, Rises-places}
-use Rattle.dexspec.proofs.lists.Members.{and_both}
-use Rattle.dexspec.proofs.wellformed.PoolRows.{less_number}
-use Rattle.dexpool.specs.declared.faults.ItemFault.{ItemFault}
-use Rattle.dexpool.specs.declared.faults.ItemFault.TheVariants.{Refused, Memory}
-use Rattle.dexmembers.specs.Numbered.{NumbersRise}
+use Rattle.dexmembers.proofs.Common.{◌≡◌, ◌⊎◌, ℕ, ◌+◌, ◌<◌, ◌≤◌, true, List, [], ◌∷◌, ◌++◌, length, map, get_or, Option, Some, None, refl, ap, sym, ◌∙◌, subst, arith, inl, inr, All, Contains, nat_cmp, is_lt, nat_cmp_is, nat_cmp_total, Less, cases_lt, get_or_default, get_or-map, length-map, Contains-get_or, All-cons, All-nil, rises, ShareNone, Rises-from_rises, Rises-places, and_both, less_number, ItemFault, Refused, Memory}
+use Rattle.dexmembers.specs.{NumbersRise}
 use Rattle.dexmembers.specs.internal.EncodedMembers.{IsDataRefusal, Member, Chain, last_index, IsListRead, NoList, ListsAt, NoLists, ArePassed}
 
 -- ---- members in a row

@@ -1,25 +1,10 @@
 -- The symbols that occur in members are those of what the numbers denote.
-use Rattle.std.proofs.Common.{◌≡◌, ℕ, ◌<◌, List, [], ◌∷◌, ◌++◌, length, map, Option, Some, None, option_to_list, refl, ◌∙◌, subst, arith}
-use Rattle.std.specs.Prelude.{IfSome}
-use Rattle.std.specs.List.{All, AllZip, flat_map}
-use Rattle.std.specs.Option.{option_map}
-use Rattle.std.proofs.lemmas.List.{map-append, get_or_default}
-use Rattle.std.proofs.lemmas.List.Elements.{All-nil, All-cons, All-head, All-tail, All-append}
-use Rattle.dexspec.specs.Texts.{Text}
-use Rattle.dexspec.specs.Mentions.{Mentions, set_symbols, field_symbols, method_symbols, code_symbols, values_symbols}
+use Rattle.dexmembers.proofs.Common.{◌≡◌, ℕ, ◌<◌, List, [], ◌∷◌, ◌++◌, length, map, Option, Some, None, option_to_list, refl, ◌∙◌, subst, arith, IfSome, All, AllZip, flat_map, option_map, map-append, get_or_default, All-nil, All-cons, All-head, All-tail, All-append, Text, Mentions, set_symbols, field_symbols, method_symbols, code_symbols, values_symbols, IsAt, AreMarksOf, Use, HasMark, IsUseOf, NumberedSet, set_in, values_in, field_at, method_at, IsKnownSet, set_uses, values_uses, NumberedItem, code_in, IsKnownCode, item_uses}
 use Rattle.dexpool.specs.declared.symbols.SymbolKind.TheVariants as kinds
 use Rattle.dexpool.specs.declared.marks.Marks.{Marks}
-use Rattle.dexpool.specs.Numberings.{IsAt, AreMarksOf}
-use Rattle.dexpool.specs.Uses.{Use, HasMark, IsUseOf}
-use Rattle.dexval.specs.Numbered.{NumberedSet, set_in, values_in, field_at, method_at, IsKnownSet}
-use Rattle.dexval.specs.Uses.{set_uses, values_uses}
 use Rattle.dexval.proofs.Meanings.{set_encoded, values_encoded, set_marks, values_marks}
-use Rattle.dexcode.specs.Numbered.{NumberedItem}
-use Rattle.dexcode.specs.Meaning.{code_in, IsKnownCode}
-use Rattle.dexcode.specs.Renumbering.{item_uses}
+use Rattle.dexmembers.specs.{NumberedField, NumberedMethod, NumberedMembers, field_in, method_in, members_in, fields_of, methods_of, IsKnownField, IsKnownMethod, AreKnownMembers, AreOfClass, field_uses, method_uses, members_uses, members_symbols}
 pub use Rattle.dexdebug.proofs.DebugMeanings.{zip-append}
-use Rattle.dexmembers.specs.Numbered.{NumberedField, NumberedMethod, NumberedMembers, field_in, method_in, members_in, fields_of, methods_of, IsKnownField, IsKnownMethod, AreKnownMembers, AreOfClass}
-use Rattle.dexmembers.specs.Uses.{field_uses, method_uses, members_uses, members_symbols}
 
 -- ---- parts
 

@@ -1,10 +1,5 @@
 -- Members named by the pairs of a directory.
-use Rattle.std.proofs.Common.{◌≡◌, ℕ, zero, suc, ◌+◌, ◌*◌, ◌<◌, List, [], ◌∷◌, ◌++◌, sym, ap, ◌∙◌, subst, arith}
-use Rattle.std.specs.Prelude.{All}
-use Rattle.std.specs.List.{Contains}
-use Rattle.std.proofs.lemmas.List.Elements.{All-nil, All-cons, All-append, All-head, All-tail}
-use Rattle.dexspec.specs.Bytes.{uint_at}
-use Rattle.dexspec.specs.Annotations.{pairs_at}
+use Rattle.dexmembers.proofs.Common.{◌≡◌, ℕ, zero, suc, ◌+◌, ◌*◌, ◌<◌, List, [], ◌∷◌, ◌++◌, sym, ap, ◌∙◌, subst, arith, All, Contains, All-nil, All-cons, All-append, All-head, All-tail, uint_at, pairs_at}
 use Rattle.dexmembers.specs.internal.Naming.{NamesOnly}
 
 pairs_more : (b : List ℕ) (p k : ℕ) → pairs_at b p (suc k) ≡ pairs_at b p k ++ (uint_at b (p + 8 * k), uint_at b (p + 8 * k + 4)) ∷ []

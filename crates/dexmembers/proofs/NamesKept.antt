@@ -1,27 +1,5 @@
 -- The members that a directory names, by indices and by symbols.
-use Rattle.std.proofs.Common.{◌≡◌, ℕ, ◌+◌, ◌*◌, ◌<◌, true, List, [], ◌∷◌, ◌++◌, length, get_or, map, refl, sym, ap, ◌∙◌, subst, inl, inr, Ordering}
-use Rattle.std.specs.Prelude.{All}
-use Rattle.std.specs.List.{AllZip, Contains}
-use Rattle.std.specs.Ordering.{nat_cmp}
-use Rattle.std.specs.Cmp.{IsTotalOrder}
-use Rattle.std.proofs.lemmas.List.{map-append}
-use Rattle.std.proofs.lemmas.List.Elements.{All-head, All-tail, All-nil, All-cons, All-contains, Contains-append_left, Contains-append_right, Contains-append_cases}
-use Rattle.dexspec.specs.Lists.{rises, OrNone}
-use Rattle.dexspec.specs.Symbols.{field_cmp, method_cmp}
-use Rattle.dexspec.specs.Header.{FieldIds, MethodIds, table_size}
-use Rattle.dexspec.specs.Rows.{FieldRow, MethodRow}
-use Rattle.dexspec.specs.Annotations.{Directory, DirectoryAt, no_directory, PairAt, PairsAt, pairs_at, SetAt, RefListAt, fields_count, methods_count, parameters_count}
-use Rattle.dexspec.specs.ClassData.{EncodedField, EncodedMethod, fields_of, methods_of}
-use Rattle.dexspec.specs.Accepted.{NamesDeclared}
-use Rattle.dexspec.specs.Mentions.{Mentions}
-use Rattle.dexspec.proofs.merge.Depths.{Contains-map}
-use Rattle.dexspec.proofs.normal.ClassPlaces.{Contains-map_source}
-use Rattle.dexspec.proofs.determined.OneRow.{one_field, one_method}
-use Rattle.dexspec.proofs.merge.SymbolOrders.{field_total, method_total}
-use Rattle.dexspec.proofs.lists.InOrder.{Rises, Rises-from_rises}
-use Rattle.dexpool.specs.Numberings.{AreRising}
-use Rattle.dexpool.specs.Pools.{AreAll, ArePools}
-use Rattle.dexpool.proofs.NumberOrder.{places_agree, rises-map}
+use Rattle.dexmembers.proofs.Common.{◌≡◌, ℕ, ◌+◌, ◌*◌, ◌<◌, true, List, [], ◌∷◌, ◌++◌, length, get_or, map, refl, sym, ap, ◌∙◌, subst, inl, inr, Ordering, All, AllZip, Contains, nat_cmp, IsTotalOrder, map-append, All-head, All-tail, All-nil, All-cons, All-contains, Contains-append_left, Contains-append_right, Contains-append_cases, rises, OrNone, field_cmp, method_cmp, FieldIds, MethodIds, table_size, FieldRow, MethodRow, Directory, DirectoryAt, no_directory, PairAt, PairsAt, pairs_at, SetAt, RefListAt, fields_count, methods_count, parameters_count, EncodedField, EncodedMethod, fields_of, methods_of, NamesDeclared, Mentions, Contains-map, Contains-map_source, one_field, one_method, field_total, method_total, Rises, Rises-from_rises, AreRising, AreAll, ArePools, places_agree, rises-map}
 use Rattle.dexmembers.specs.internal.ClassData.{encoded_field_in, encoded_method_in, class_data_in, IsDataOf}
 use Rattle.dexmembers.specs.internal.Naming.{NamesRead, fields_read, methods_read}
 use Rattle.dexmembers.specs.declared.class_data.EncodedField.{EncodedField as FieldRead}

@@ -1,20 +1,6 @@
 -- Members put together have the indices of what was read, and are of the class of their row.
-use Rattle.std.proofs.Common.{◌≡◌, ℕ, List, [], ◌∷◌, map, refl, sym, ap, subst, Option}
-use Rattle.std.specs.Prelude.{All}
-use Rattle.std.specs.List.{AllZip}
-use Rattle.std.proofs.lemmas.List.Elements.{All-map, All-append}
-use Rattle.dexspec.specs.Lists.{zip_with, BothOrNone}
-use Rattle.dexspec.specs.Texts.{Text}
-use Rattle.dexspec.specs.ClassData.{EncodedField, EncodedMethod, fields_of, methods_of}
-use Rattle.dexspec.specs.Classes.{ClassTypeRow, class_idx}
-use Rattle.dexspec.proofs.determined.OneRow.{one_type}
-use Rattle.dexpool.proofs.Pairs.{map_both}
-use Rattle.dexpool.proofs.Parts.{all_prefix, all_back}
-use Rattle.dexspec.specs.Code.{Code}
-use Rattle.dexspec.specs.Mentions.{Mentions}
-use Rattle.dexcode.specs.Numbered.{NumberedItem, DenotesCode}
-use Rattle.dexval.specs.Numbered.{NumberedSet, NumberedDirectory, NumberedValues, field_at, method_at}
-use Rattle.dexmembers.specs.Numbered.{NumberedField, NumberedMethod, AreOfClass}
+use Rattle.dexmembers.proofs.Common.{◌≡◌, ℕ, List, [], ◌∷◌, map, refl, sym, ap, subst, Option, All, AllZip, All-map, All-append, zip_with, BothOrNone, Text, EncodedField, EncodedMethod, fields_of, methods_of, ClassTypeRow, class_idx, one_type, map_both, all_prefix, all_back, Code, Mentions, NumberedItem, DenotesCode, NumberedSet, NumberedDirectory, NumberedValues, field_at, method_at}
+use Rattle.dexmembers.specs.{NumberedField, NumberedMethod, AreOfClass}
 use Rattle.dexmembers.specs.internal.ClassData.{encoded_field_in, encoded_method_in, class_data_in, IsDataOf}
 use Rattle.dexmembers.proofs.RenumberingLists.{all_seen}
 use Rattle.dexmembers.specs.internal.RowParts.{attached}

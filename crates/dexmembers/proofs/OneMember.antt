@@ -1,9 +1,5 @@
 -- There is at most one member at an offset of class data, and indices rise.
-use Rattle.std.proofs.Common.{◌≡◌, ℕ, ◌+◌, ◌<◌, List, Option, Some, None, sym, subst, ◌∙◌, arith}
-use Rattle.dexspec.specs.Numbers.{Uleb128At}
-use Rattle.dexspec.specs.ClassData.{IsNextIndex}
-use Rattle.dexspec.specs.Mentions.{Mentions}
-use Rattle.dexspec.proofs.determined.OneNumber.{one_uleb128}
+use Rattle.dexmembers.proofs.Common.{◌≡◌, ℕ, ◌+◌, ◌<◌, List, Option, Some, None, sym, subst, ◌∙◌, arith, Uleb128At, IsNextIndex, Mentions, one_uleb128}
 use Rattle.dexmembers.specs.declared.class_data.EncodedField.{EncodedField}
 use Rattle.dexmembers.specs.declared.class_data.EncodedMethod.{EncodedMethod}
 use Rattle.dexmembers.specs.internal.EncodedMembers.{IsOwnField, IsOwnMethod, HeadAt, FieldAt, MethodAt}

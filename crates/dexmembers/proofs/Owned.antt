@@ -1,18 +1,5 @@
 -- Members of a class, by the numbers of their rows.
-use Rattle.std.proofs.Common.{◌≡◌, ℕ, ◌^◌, ◌<◌, List, length, get_or, sym, ap, ◌∙◌, subst, Result, Ok, Err}
-use Rattle.std.specs.Prelude.{IsTrue, ◌==◌, ◌↔◌, true}
-use Rattle.std.proofs.lemmas.Bool.{eq-eqb, eqb-true}
-use Rattle.std.specs.Cmp.{IsTotalOrder}
-use Rattle.std.specs.FinMap.{nat_cmp-IsAntisymmetric}
-use Rattle.std.specs.declared.cmp.Ordering.{Ordering}
-use Rattle.std.proofs.lemmas.Cmp.{tied_itself}
-use Rattle.dexspec.specs.Lists.{rises}
-use Rattle.dexspec.specs.Texts.{Text, text_cmp}
-use Rattle.dexspec.specs.Mentions.{Mentions}
-use Rattle.dexspec.proofs.merge.SymbolOrders.{text_total}
-use Rattle.dexpool.specs.Numberings.{IsAt, IsNumbering}
-use Rattle.dexpool.proofs.NumberOrder.{places_agree}
-use Rattle.dexval.specs.Numbered.{field_at, method_at}
+use Rattle.dexmembers.proofs.Common.{◌≡◌, ℕ, ◌^◌, ◌<◌, List, length, get_or, sym, ap, ◌∙◌, subst, Result, Ok, Err, IsTrue, ◌==◌, ◌↔◌, true, eq-eqb, eqb-true, IsTotalOrder, nat_cmp-IsAntisymmetric, Ordering, tied_itself, rises, Text, text_cmp, Mentions, text_total, IsAt, IsNumbering, places_agree, field_at, method_at}
 use Rattle.dexmembers.specs.internal.EncodedMembers.{IsOwnField, IsOwnMethod}
 
 -- what is there is not missing

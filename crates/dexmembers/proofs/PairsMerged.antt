@@ -1,18 +1,7 @@
 -- Pairs of two lists that rise, merged, are all of them in their order.
-use Rattle.std.proofs.Common.{◌≡◌, ◌≢◌, ℕ, ◌+◌, ◌*◌, ◌^◌, ◌<◌, ◌≤◌, nat_lt, Bool, true, false, List, [], ◌∷◌, ◌++◌, length, refl, sym, ap, ◌∙◌, arith, inl, inr, All, Ordering, Less}
-use Rattle.std.specs.Prelude.{slice_index, slice_index_or, drop, take, if◌then◌else◌, ◌==◌}
-use Rattle.std.specs.List.{flat_map, zip}
-use Rattle.std.specs.Ordering.{nat_cmp}
-use Rattle.std.specs.FinMap.Entries.{by_order}
-use Rattle.std.proofs.lemmas.Bool.{cases_lt, cond_both, lt-ltb, le-ltb}
-use Rattle.std.proofs.lemmas.List.{length-append, length-drop, drop_more, drop_all, get_or-drop, take_more}
-use Rattle.std.proofs.lemmas.List.Elements.{All-nil, All-cons, All-head, All-tail}
-use Rattle.dexspec.specs.Lists.{in_order, add_in_order}
-use Rattle.dexspec.specs.Bytes.{uint}
-use Rattle.dexspec.specs.Placing.{pair_cmp, pairs_bytes}
-use Rattle.dexspec.proofs.numbers.ByteNumbers.{length-uint}
+use Rattle.dexmembers.proofs.Common.{◌≡◌, ◌≢◌, ℕ, ◌+◌, ◌*◌, ◌^◌, ◌<◌, ◌≤◌, nat_lt, Bool, true, false, List, [], ◌∷◌, ◌++◌, length, refl, sym, ap, ◌∙◌, arith, inl, inr, All, Ordering, Less, slice_index, slice_index_or, drop, take, if◌then◌else◌, ◌==◌, flat_map, zip, nat_cmp, by_order, cases_lt, cond_both, lt-ltb, le-ltb, length-append, length-drop, drop_more, drop_all, get_or-drop, take_more, All-nil, All-cons, All-head, All-tail, in_order, add_in_order, uint, pair_cmp, pairs_bytes, length-uint}
 use Rattle.dexspec.proofs.lists.RankOrder.{nat_more}
-use Rattle.dexmembers.specs.DirectoryPut.{put_among, merged, kept_pair, pair_bytes, count_placed}
+use Rattle.dexmembers.specs.{put_among, merged, kept_pair, pair_bytes, count_placed}
 
 -- the lesser number first
 less : (x y : ℕ) → x < y → nat_cmp x y ≡ Less

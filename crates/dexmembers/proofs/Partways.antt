@@ -1,6 +1,5 @@
 -- Items that are written one by one, and where this has come to.
-use Rattle.std.proofs.Common.{◌≡◌, ℕ, List, [], ◌++◌, sym, ap, ◌∙◌, subst, append_assoc}
-use Rattle.std.proofs.lemmas.List.{append-nil}
+use Rattle.dexmembers.proofs.Common.{◌≡◌, ℕ, List, [], ◌++◌, sym, ap, ◌∙◌, subst, append_assoc, append-nil}
 
 -- of these bytes all but the rest are written
 pub record Partway {O : Type 0} (gives : List ℕ → O → O → Type 0) (rest all : List ℕ) (old now : O) : Type 0 where

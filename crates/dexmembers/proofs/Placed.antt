@@ -1,28 +1,12 @@
 -- Members whose numbers have images, after a cut and after a join: each image fits its place.
-use Rattle.std.proofs.Common.{◌≡◌, ℕ, ◌<◌, ◌≤◌, Bool, true, false, nat_lt, max, List, [], ◌∷◌, ◌++◌, Option, Some, None, refl, sym, ap, subst, ◌∙◌, arith, inl, inr}
-use Rattle.std.specs.Prelude.{IsSome, IfSome, option_to_list}
-use Rattle.std.specs.List.{All, Contains, flat_map}
-use Rattle.std.proofs.lemmas.Bool.{ltb-true, ltb-false}
-use Rattle.std.proofs.lemmas.List.{append-nil}
-use Rattle.std.proofs.lemmas.List.Elements.{All-nil, All-cons, All-head, All-tail, All-append, All-weaker, Contains-append_left, Contains-append_right, Contains-append_cases}
-use Rattle.dexspec.proofs.lists.Members.{Contains-nil, Contains-first}
+use Rattle.dexmembers.proofs.Common.{◌≡◌, ℕ, ◌<◌, ◌≤◌, Bool, true, false, nat_lt, max, List, [], ◌∷◌, ◌++◌, Option, Some, None, refl, sym, ap, subst, ◌∙◌, arith, inl, inr, IsSome, IfSome, option_to_list, All, Contains, flat_map, ltb-true, ltb-false, append-nil, All-nil, All-cons, All-head, All-tail, All-append, All-weaker, Contains-append_left, Contains-append_right, Contains-append_cases, Contains-nil, Contains-first, Maps, image, image_of, KeepOrder, ImagesFit, IsGreatest, MapsShort, short_strings, NumberedItem, HasPlaces, HasImages, NumberedSet, NumberedValues, MapsNarrow, SetHasPlaces, HavePlaces, all_prefix, all_back}
 use Rattle.dexpool.specs.declared.symbols.SymbolKind.{SymbolKind}
 use Rattle.dexpool.specs.declared.symbols.SymbolKind.TheVariants as kinds
-use Rattle.dexpool.specs.Numberings.{Maps, image, image_of}
-use Rattle.dexpool.specs.Orderly.{KeepOrder}
-use Rattle.dexinsn.specs.Fitting.{ImagesFit, IsGreatest, MapsShort, short_strings}
 use Rattle.dexinsn.proofs.Fits.{ShortMapped, short_mapped, shorts_remapped}
-use Rattle.dexcode.specs.Numbered.{NumberedItem}
-use Rattle.dexcode.specs.Renumbering.{HasPlaces, HasImages}
 use Rattle.dexcode.specs.Renumbering as code
-use Rattle.dexval.specs.Numbered.{NumberedSet, NumberedValues}
-use Rattle.dexval.specs.Renumbering.{MapsNarrow, SetHasPlaces, HavePlaces}
 use Rattle.dexpool.specs.Images.{IsMapped}
-use Rattle.dexmembers.specs.Numbered.{NumberedField, NumberedMethod, NumberedMembers, methods_of}
-use Rattle.dexmembers.specs.Renumbering.{FieldHasPlaces, MethodHasPlaces, MembersHavePlaces}
-use Rattle.dexmembers.specs.Fitting.{MethodFits, NumbersFit, code_short_strings, method_short_strings, members_short_strings}
+use Rattle.dexmembers.specs.{NumberedField, NumberedMethod, NumberedMembers, methods_of, FieldHasPlaces, MethodHasPlaces, MembersHavePlaces, MethodFits, NumbersFit, code_short_strings, method_short_strings, members_short_strings}
 use Rattle.dexpool.proofs.KeptTables.{all_both}
-use Rattle.dexpool.proofs.Parts.{all_prefix, all_back}
 use Rattle.dexmembers.proofs.RenumberingLists.{options_both}
 use Rattle.dexmembers.proofs.Images.{SetHasImages, HaveImages, FieldHasImages, MethodHasImages, MembersHaveImages, some_of}
 

@@ -1,23 +1,7 @@
 -- What members denote stays the same once they are renumbered, and so do their order and their class.
-use Rattle.std.proofs.Common.{◌≡◌, ℕ, ◌<◌, List, [], length, map, get_or, Option, Some, refl, sym, ap, ◌∙◌, subst}
-use Rattle.std.specs.Prelude.{unwrap_or}
-use Rattle.std.specs.List.{All}
-use Rattle.std.proofs.lemmas.List.Elements.{All-append, All-map}
-use Rattle.std.proofs.lemmas.List.{map-append}
-use Rattle.dexspec.specs.Texts.{Text}
-use Rattle.dexspec.specs.Symbols.{Field, Method}
-use Rattle.dexspec.specs.ClassData.{ShareNone}
-use Rattle.dexspec.specs.Mentions.{Mentions}
+use Rattle.dexmembers.proofs.Common.{◌≡◌, ℕ, ◌<◌, List, [], length, map, get_or, Option, Some, refl, sym, ap, ◌∙◌, subst, unwrap_or, All, All-append, All-map, map-append, Text, Field, Method, ShareNone, Mentions, Maps, image, MapsTo, AllMapTo, IsMappedUse, NumberedItem, code_in, IsKnownCode, renumbered_item, HasImages, NumberedSet, NumberedValues, field_at, method_at, set_in, values_in, IsKnownSet, AreKnown, remapped, renumbered_set, renumbered_values}
 use Rattle.dexpool.specs.declared.symbols.SymbolKind.TheVariants as kinds
-use Rattle.dexpool.specs.Numberings.{Maps, image, MapsTo, AllMapTo}
-use Rattle.dexpool.specs.Uses.{IsMappedUse}
-use Rattle.dexcode.specs.Numbered.{NumberedItem}
-use Rattle.dexcode.specs.Meaning.{code_in, IsKnownCode}
-use Rattle.dexcode.specs.Renumbering.{renumbered_item, HasImages}
-use Rattle.dexval.specs.Numbered.{NumberedSet, NumberedValues, field_at, method_at, set_in, values_in, IsKnownSet, AreKnown}
-use Rattle.dexval.specs.Renumbering.{remapped, renumbered_set, renumbered_values}
-use Rattle.dexmembers.specs.Numbered.{NumberedField, NumberedMethod, NumberedMembers, fields_of, methods_of, field_in, method_in, members_in, IsKnownField, IsKnownMethod, AreKnownMembers, AreOrdered, AreOfClass, NumbersRise}
-use Rattle.dexmembers.specs.Renumbering.{renumbered_field, renumbered_method, renumbered_members}
+use Rattle.dexmembers.specs.{NumberedField, NumberedMethod, NumberedMembers, fields_of, methods_of, field_in, method_in, members_in, IsKnownField, IsKnownMethod, AreKnownMembers, AreOrdered, AreOfClass, NumbersRise, renumbered_field, renumbered_method, renumbered_members}
 use Rattle.dexmembers.proofs.Images.{field_use, method_use, SetHasImages, HaveImages, FieldHasImages, MethodHasImages, MembersHaveImages, some_of}
 use Rattle.dexmembers.proofs.RenumberingLists.{both_ways, all_mapped, maps_keep, options_keep}
 use Rattle.dexmembers.proofs.RenumberingOrder.{Goes, end, rise_kept, apart_kept}

@@ -1,10 +1,5 @@
 -- What holds of mapped lists and options, member by member.
-use Rattle.std.proofs.Common.{◌≡◌, List, [], ◌∷◌, get_or, map, Option, Some, None, refl, ap, subst, arith}
-use Rattle.std.specs.Prelude.{◌↔◌, IfSome}
-use Rattle.std.specs.List.{All}
-use Rattle.std.specs.Option.{option_map}
-use Rattle.std.proofs.lemmas.List.{get_or-map, length-map}
-use Rattle.std.proofs.lemmas.List.Elements.{All-nil, All-cons, All-head, All-tail, All-map}
+use Rattle.dexmembers.proofs.Common.{◌≡◌, List, [], ◌∷◌, get_or, map, Option, Some, None, refl, ap, subst, arith, ◌↔◌, IfSome, All, option_map, get_or-map, length-map, All-nil, All-cons, All-head, All-tail, All-map}
 
 -- the first member, if there is one
 abbrev first_or : {X : Type 0} → X → List X → X

@@ -1,18 +1,5 @@
 -- Remapped numbers keep their order, and stay apart.
-use Rattle.std.proofs.Common.{◌≡◌, ℕ, ◌<◌, true, List, length, map, get_or, Option, Some, refl, sym, ap, ◌∙◌, subst, arith, inl, inr}
-use Rattle.std.specs.Prelude.{unwrap_or}
-use Rattle.std.specs.List.{All, Contains}
-use Rattle.std.specs.Ordering.{nat_cmp}
-use Rattle.std.specs.Cmp.{nat_cmp_is}
-use Rattle.std.specs.declared.cmp.Ordering.TheVariants.{Less, Equal, Greater}
-use Rattle.std.proofs.lemmas.Bool.{cases_order}
-use Rattle.std.proofs.lemmas.List.{get_or-map, length-map}
-use Rattle.std.proofs.lemmas.List.Elements.{Contains-get_or, All-get_or}
-use Rattle.dexspec.specs.Lists.{rises}
-use Rattle.dexspec.specs.ClassData.{ShareNone}
-use Rattle.dexpool.specs.Numberings.{image}
-use Rattle.dexpool.specs.Orderly.{KeepsOrder}
-use Rattle.dexpool.proofs.NumberOrder.{rises-map}
+use Rattle.dexmembers.proofs.Common.{◌≡◌, ℕ, ◌<◌, true, List, length, map, get_or, Option, Some, refl, sym, ap, ◌∙◌, subst, arith, inl, inr, unwrap_or, All, Contains, nat_cmp, nat_cmp_is, Less, Equal, Greater, cases_order, get_or-map, length-map, Contains-get_or, All-get_or, rises, ShareNone, image, KeepsOrder, rises-map}
 
 -- the image of a number; a number without an image stays
 abbrev pub end : List (Option ℕ) → ℕ → ℕ

@@ -1,6 +1,5 @@
 -- Lists that are equal, mapped.
-use Rattle.std.proofs.Common.{◌≡◌, ℕ, ◌<◌, List, length, map, get_or, ap, sym, ◌∙◌}
-use Rattle.std.proofs.lemmas.List.{get_or-map}
+use Rattle.dexmembers.proofs.Common.{◌≡◌, ℕ, ◌<◌, List, length, map, get_or, ap, sym, ◌∙◌, get_or-map}
 
 -- ---- lists that are the same, mapped
 

@@ -1,21 +1,5 @@
 -- The annotations of a row: condition 22, and what was read.
-use Rattle.std.proofs.Common.{◌≡◌, ◌≢◌, ℕ, List, [], ◌∷◌, map, refl, sym, ap, ◌∙◌, subst, inl, inr, Some}
-use Rattle.std.specs.Ordering.{nat_cmp}
-use Rattle.dexspec.specs.Lists.{rises, OrNone}
-use Rattle.dexspec.specs.Annotations.{Directory, DirectoryAt, no_directory}
-use Rattle.dexspec.specs.Classes.{annotations_off}
-use Rattle.dexspec.specs.Accepted.{HasAnnotations}
-use Rattle.dexspec.specs.Mentions.{Mentions}
-use Rattle.dexpool.specs.declared.faults.ItemFault.{ItemFault}
-use Rattle.dexpool.specs.declared.faults.ItemFault.TheVariants.{Refused, Memory}
-use Rattle.dexpool.specs.Numberings.{AreRising}
-use Rattle.dexpool.specs.Pools.{ArePools}
-use Rattle.dexval.specs.Shared.{shared_directory_of}
-use Rattle.dexval.specs.Tables.{set_at, sets_at}
-use Rattle.dexval.specs.Numbered.{directory_in}
-use Rattle.dexval.specs.Directories.{HasMembers}
-use Rattle.dexval.specs.Reading.{IsDirectoryFault, IsDirectoryFaultWithin, IsDirectoryWithin}
-use Rattle.dexval.specs.declared.directory.SharedDirectory.{SharedDirectory}
+use Rattle.dexmembers.proofs.Common.{◌≡◌, ◌≢◌, ℕ, List, [], ◌∷◌, map, refl, sym, ap, ◌∙◌, subst, inl, inr, Some, nat_cmp, rises, OrNone, Directory, DirectoryAt, no_directory, annotations_off, HasAnnotations, Mentions, ItemFault, Refused, Memory, AreRising, ArePools, shared_directory_of, set_at, sets_at, directory_in, HasMembers, IsDirectoryFault, IsDirectoryFaultWithin, IsDirectoryWithin, SharedDirectory}
 use Rattle.dexmembers.specs.internal.ClassData.{class_data_in, IsDataOf}
 use Rattle.dexmembers.specs.internal.Attaching.{EntriesRise}
 use Rattle.dexmembers.specs.internal.Naming.{NamesRead, ListsRise}

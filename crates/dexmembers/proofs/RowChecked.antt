@@ -1,31 +1,16 @@
 -- A class row of which all was checked.
-use Rattle.std.proofs.Common.{◌≡◌, ◌≢◌, ℕ, ◌+◌, ◌-◌, ◌*◌, ◌^◌, ◌<◌, ◌≤◌, min, List, [], ◌∷◌, ◌++◌, length, false, nat_eq, refl, ap, ◌∙◌, subst, inl, inr, Option, Some, None, arith}
-use Rattle.std.proofs.lemmas.List.{length-map}
-use Rattle.std.proofs.lemmas.List.Sums.{sum_by_push}
-use Rattle.dexspec.specs.Lists.{OrNone, SomeAt}
-use Rattle.dexspec.specs.Code.{CodeAt}
-use Rattle.dexspec.specs.Values.{Values, NoValues, count_values, EncodedArrayItemAt}
-use Rattle.dexspec.specs.Annotations.{no_directory}
-use Rattle.dexspec.specs.Classes.{StaticValuesAt, annotations_off, static_values_off}
-use Rattle.dexspec.specs.Mentions.{Mentions}
-use Rattle.dexspec.proofs.determined.OneRow.{one_or_none}
-use Rattle.dexspec.proofs.determined.OneValue.{one_array}
-use Rattle.dexpool.specs.declared.faults.ItemFault.TheVariants.{Refused}
-use Rattle.dexpool.specs.Numberings.{AreRising}
-use Rattle.dexpool.specs.Pools.{ArePools}
+use Rattle.dexmembers.proofs.Common.{◌≡◌, ◌≢◌, ℕ, ◌+◌, ◌-◌, ◌*◌, ◌^◌, ◌<◌, ◌≤◌, min, List, [], ◌∷◌, ◌++◌, length, false, nat_eq, refl, ap, ◌∙◌, subst, inl, inr, Option, Some, None, arith, length-map, sum_by_push, OrNone, SomeAt, CodeAt, Values, NoValues, count_values, EncodedArrayItemAt, no_directory, StaticValuesAt, annotations_off, static_values_off, Mentions, one_or_none, one_array, Refused, AreRising, ArePools, directory_in, values_in, zip_push}
 use Rattle.dexcode.specs.Checking.{HasCodeOf}
 use Rattle.dexval.specs.Checking.{HasStaticsOf}
 use Rattle.dexval.specs.CheckedSets.{HasDirectoryOf}
-use Rattle.dexval.specs.Numbered.{directory_in, values_in}
 use Rattle.dexval.proofs.CachedSets.{from_before}
 use Rattle.dexmembers.specs.internal.ClassData.{encoded_field_in, class_data_in, IsDataOf}
 use Rattle.dexmembers.specs.internal.Naming.{NamesRead}
 use Rattle.dexmembers.specs.internal.MethodCodes.{HaveCodes}
 use Rattle.dexmembers.specs.internal.StaticValues.{HasValuesFor, IsValuesFault}
-use Rattle.dexmembers.specs.Checking.{HasCodeOrNoneOf, HaveCodesOf, coded_weight, HasAnnotationsOf, HasValuesOf, HasMembersOf}
+use Rattle.dexmembers.specs.{HasCodeOrNoneOf, HaveCodesOf, coded_weight, HasAnnotationsOf, HasValuesOf, HasMembersOf}
 use Rattle.dexmembers.specs.declared.class_data.EncodedMethod.{EncodedMethod}
 use Rattle.dexmembers.specs.declared.class_data.ClassData.{ClassData as DataRead}
-use Rattle.dexpool.proofs.Pairs.{zip_push}
 use Rattle.dexmembers.proofs.StaticValuesRead.{none_there}
 use Rattle.dexmembers.proofs.NamesKept.{named_members, directory_rises}
 use Rattle.dexmembers.proofs.RowAnnotations.{directory_here}

@@ -1,26 +1,8 @@
 -- What is returned for a row that was read.
-use Rattle.std.proofs.Common.{◌≡◌, ℕ, ◌+◌, ◌-◌, ◌^◌, ◌<◌, ◌≤◌, min, List, length, refl, sym, ap, ◌∙◌, subst, inl, inr, Option, map}
-use Rattle.std.specs.Prelude.{Result, Ok, Err, IfOk, IfErr}
-use Rattle.std.specs.List.{AllZip}
-use Rattle.dexspec.specs.Lists.{BothOrNone, rises}
-use Rattle.dexspec.specs.Code.{Code}
-use Rattle.dexspec.specs.Accepted.{IsReadable}
-use Rattle.dexpool.proofs.Pairs.{zip_length}
-use Rattle.dexspec.specs.Mentions.{Mentions}
-use Rattle.dexpool.specs.declared.faults.ItemFault.{ItemFault}
-use Rattle.dexpool.specs.declared.faults.ItemFault.TheVariants.{Refused, Memory}
-use Rattle.dexpool.specs.Numberings.{AreRising}
-use Rattle.dexcode.specs.Numbered.{NumberedItem, DenotesCode}
-use Rattle.dexcode.specs.Meaning.{code_in, IsKnownCode}
-use Rattle.dexval.specs.Shared.{shared_directory_of}
-use Rattle.dexval.specs.Numbered.{NumberedValues, directory_in, values_in, NumberedDirectory}
-use Rattle.dexval.specs.declared.directory.SharedDirectory.{SharedDirectory}
-use Rattle.dexmembers.specs.Numbered.{NumberedMembers, members_in, AreKnownMembers, NumberedField, NumberedMethod, AreOrdered}
-use Rattle.dexmembers.specs.Weight.{members_weight}
+use Rattle.dexmembers.proofs.Common.{◌≡◌, ℕ, ◌+◌, ◌-◌, ◌^◌, ◌<◌, ◌≤◌, min, List, length, refl, sym, ap, ◌∙◌, subst, inl, inr, Option, map, Result, Ok, Err, IfOk, IfErr, AllZip, BothOrNone, rises, Code, IsReadable, zip_length, Mentions, ItemFault, Refused, Memory, AreRising, NumberedItem, DenotesCode, code_in, IsKnownCode, shared_directory_of, NumberedValues, directory_in, values_in, NumberedDirectory, SharedDirectory, nat_cmp, ShareNone}
+use Rattle.dexmembers.specs.{NumberedMembers, members_in, AreKnownMembers, NumberedField, NumberedMethod, AreOrdered, members_weight, codes_weight, codes_of, MembersRow, AreReadWithin, IsMembersFault, IsMembersFaultWithin}
 use Rattle.dexmembers.specs.internal.ClassData.{IsDataOf, class_data_in}
 use Rattle.dexmembers.specs.internal.MethodCodes.{AreCodesAt}
-use Rattle.dexmembers.specs.Weighing.{codes_weight, codes_of}
-use Rattle.dexmembers.specs.Reading.{MembersRow, AreReadWithin, IsMembersFault, IsMembersFaultWithin}
 use Rattle.dexmembers.specs.internal.RowParts.{ArePartsOf, AreAttachable, IsPartFault, attached}
 use Rattle.dexmembers.specs.internal.Weighed.{AreWithin, IsWeighedWithin}
 use Rattle.dexmembers.specs.declared.class_data.EncodedMethod.{EncodedMethod as MethodRead}
@@ -28,8 +10,6 @@ use Rattle.dexmembers.specs.declared.class_data.ClassData.{ClassData as DataRead
 use Rattle.dexmembers.proofs.CodesApart.{attached_codes}
 use Rattle.dexmembers.proofs.OfClass.{attached_of_class, field_numbers, method_numbers}
 use Rattle.dexmembers.proofs.RowsAreAt.{row_readable}
-use Rattle.std.specs.Ordering.{nat_cmp}
-use Rattle.dexspec.specs.ClassData.{ShareNone}
 use Rattle.dexmembers.specs.declared.class_data.EncodedField.{EncodedField as FieldRead}
 use Rattle.dexmembers.proofs.Meant.{fields_meant, fields_known, methods_meant, methods_known}
 

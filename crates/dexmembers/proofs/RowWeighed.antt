@@ -1,45 +1,16 @@
 -- What a row declares weighs what its parts do together.
-use Rattle.std.proofs.Common.{◌≡◌, ◌⊎◌, ℕ, ◌+◌, ◌*◌, ◌<◌, Bool, true, false, cond, List, [], ◌∷◌, ◌++◌, length, get_or, map, refl, sym, ap, ◌∙◌, subst, arith, inl, inr, Option, Some, Ordering, Less, Equal, Greater, ◌≤◌}
-use Rattle.std.specs.Prelude.{◌==◌, not, All, sum_by, unwrap_or}
-use Rattle.std.specs.List.{Contains, filter}
-use Rattle.std.specs.Ordering.{is_eq, nat_cmp, ordering_reverse}
-use Rattle.std.specs.Cmp.{IsTotalOrder}
+use Rattle.dexmembers.proofs.Common.{◌≡◌, ◌⊎◌, ℕ, ◌+◌, ◌*◌, ◌<◌, Bool, true, false, cond, List, [], ◌∷◌, ◌++◌, length, get_or, map, refl, sym, ap, ◌∙◌, subst, arith, inl, inr, Option, Some, Ordering, Less, Equal, Greater, ◌≤◌, ◌==◌, not, All, sum_by, unwrap_or, Contains, filter, is_eq, nat_cmp, ordering_reverse, IsTotalOrder, map-append, All-map, All-weaker, filter_passes, Contains-append_cases, All-contains, sum_by-cons, sum_by-append, sum_by-le, sum_by-le-sum_by, cond_both, eqb-true, AreDistinct, rises, zip_with, Field, Method, field_cmp, method_cmp, Code, Values, Directory, annotated, ClassData, EncodedField, EncodedMethod, ShareNone, fields_of, methods_of, field_def, MethodDef, NamesDeclared, Mentions, set_weight, ref_list_weight, field_weight, method_weight, static_values_weight, AreAmong, Contains-nil, Contains-first, Contains-later, Contains-cons_cases, Contains-filter_source, AreDistinct-first, AreDistinct-rest, sum_by-among, Rises, Rises-from_rises, AreDistinct-from_Rises, field_total, field_exact, method_total, method_exact, AreRising, places_agree, rises-map, directory_weight, tied_itself, Contains-map, Contains-map_source}
 use Rattle.std.specs.FinMap.Entries.{find}
-use Rattle.std.proofs.lemmas.List.{map-append}
-use Rattle.std.proofs.lemmas.List.Elements.{All-map, All-weaker, filter_passes, Contains-append_cases, All-contains}
-use Rattle.std.proofs.lemmas.List.Sums.{sum_by-cons, sum_by-append, sum_by-le, sum_by-le-sum_by}
 use Rattle.std.proofs.lemmas.List.Filters.{sum_by-filter_both}
-use Rattle.std.proofs.lemmas.Bool.{cond_both, eqb-true}
-use Rattle.dexspec.specs.Lists.{AreDistinct, rises, zip_with}
-use Rattle.dexspec.specs.Symbols.{Field, Method, field_cmp, method_cmp}
-use Rattle.dexspec.specs.Code.{Code}
-use Rattle.dexspec.specs.Values.{Values}
-use Rattle.dexspec.specs.Annotations.{Directory, annotated}
-use Rattle.dexspec.specs.ClassData.{ClassData, EncodedField, EncodedMethod, ShareNone, fields_of, methods_of}
-use Rattle.dexspec.specs.Classes.{field_def, MethodDef}
-use Rattle.dexspec.specs.Accepted.{NamesDeclared}
-use Rattle.dexspec.specs.Mentions.{Mentions}
-use Rattle.dexspec.specs.Weight.{set_weight, ref_list_weight, field_weight, method_weight, static_values_weight}
-use Rattle.dexspec.proofs.lists.Members.{AreAmong, Contains-nil, Contains-first, Contains-later, Contains-cons_cases, Contains-filter_source, AreDistinct-first, AreDistinct-rest, sum_by-among}
-use Rattle.dexspec.proofs.lists.InOrder.{Rises, Rises-from_rises, AreDistinct-from_Rises}
 use Rattle.dexspec.proofs.lists.Searches.{AreDistinct-cons}
-use Rattle.dexspec.proofs.merge.SymbolOrders.{field_total, field_exact, method_total, method_exact}
-use Rattle.dexpool.specs.Numberings.{AreRising}
-use Rattle.dexpool.proofs.NumberOrder.{places_agree, rises-map}
-use Rattle.dexval.specs.Directories.{directory_weight}
-use Rattle.dexmembers.specs.Numbered.{NumbersRise, Members}
-use Rattle.dexmembers.specs.Weight.{members_weight}
+use Rattle.dexmembers.specs.{NumbersRise, Members, members_weight, coded_weight}
 use Rattle.dexmembers.specs.internal.ClassData.{encoded_field_in, encoded_method_in, class_data_in, IsDataOf}
 use Rattle.dexmembers.specs.internal.MethodCodes.{optional_code_weight}
-use Rattle.dexmembers.specs.Checking.{coded_weight}
 use Rattle.dexmembers.specs.declared.class_data.EncodedField.{EncodedField as FieldRead}
 use Rattle.dexmembers.specs.declared.class_data.EncodedMethod.{EncodedMethod as MethodRead}
 use Rattle.dexmembers.specs.declared.class_data.ClassData.{ClassData as DataRead}
-use Rattle.std.proofs.lemmas.Cmp.{tied_itself}
-use Rattle.dexspec.proofs.merge.Depths.{Contains-map}
 use Rattle.dexmembers.proofs.RenumberingLists.{both_ways}
 use Rattle.dexmembers.proofs.RenumberingKept.{no_field, no_method}
-use Rattle.dexspec.proofs.normal.ClassPlaces.{Contains-map_source}
 
 -- ---- lists without repeats
 

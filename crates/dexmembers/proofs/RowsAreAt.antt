@@ -1,31 +1,9 @@
 -- A class row of which all is there: it is readable, and declares what its parts make.
-use Rattle.std.proofs.Common.{◌≡◌, ◌≢◌, ℕ, ◌<◌, ◌≤◌, List, [], ◌∷◌, length, map, refl, sym, subst, ◌∙◌, arith, inl, inr, Option, Some, None}
-use Rattle.std.specs.Prelude.{All, sum_by}
-use Rattle.std.specs.List.{AllZip}
-use Rattle.std.proofs.lemmas.Bool.{cases_eq}
-use Rattle.std.proofs.lemmas.List.{length-map}
-use Rattle.std.proofs.lemmas.List.Elements.{All-head, All-tail}
-use Rattle.dexspec.specs.Lists.{OrNone, SomeAt, zip_with}
-use Rattle.dexspec.specs.Code.{Code, CodeAt}
-use Rattle.dexspec.specs.Values.{Values, count_values}
-use Rattle.dexspec.specs.Annotations.{Directory}
-use Rattle.dexspec.specs.ClassData.{ClassData, EncodedMethod}
-use Rattle.dexspec.specs.Classes.{MakesMethod, annotations_off}
-use Rattle.dexspec.specs.Conditions.{Condition}
-use Rattle.dexspec.specs.Accepted.{NamesDeclared, HasPiecesAt, HasTriesAt, HasDebugAt, IsReadable}
-use Rattle.dexspec.specs.Mentions.{Mentions}
-use Rattle.dexspec.specs.Weight.{static_values_weight}
+use Rattle.dexmembers.proofs.Common.{◌≡◌, ◌≢◌, ℕ, ◌<◌, ◌≤◌, List, [], ◌∷◌, length, map, refl, sym, subst, ◌∙◌, arith, inl, inr, Option, Some, None, All, sum_by, AllZip, cases_eq, length-map, All-head, All-tail, OrNone, SomeAt, zip_with, Code, CodeAt, Values, count_values, Directory, ClassData, EncodedMethod, MakesMethod, annotations_off, Condition, NamesDeclared, HasPiecesAt, HasTriesAt, HasDebugAt, IsReadable, Mentions, static_values_weight, ItemFault, Refused, Memory, AreRising, ArePools, all_prefix, all_back, zip_length}
 use Rattle.dexspec.proofs.determined.Readable.{code_there}
-use Rattle.dexpool.specs.declared.faults.ItemFault.{ItemFault}
-use Rattle.dexpool.specs.declared.faults.ItemFault.TheVariants.{Refused, Memory}
-use Rattle.dexpool.specs.Numberings.{AreRising}
-use Rattle.dexpool.specs.Pools.{ArePools}
-use Rattle.dexpool.proofs.Parts.{all_prefix, all_back}
-use Rattle.dexmembers.specs.Checking.{IsDirectoryOf}
-use Rattle.dexpool.proofs.Pairs.{zip_length}
+use Rattle.dexmembers.specs.{IsDirectoryOf, MembersRow, AreHeavyMembers, IsMembersFault}
 use Rattle.dexmembers.specs.internal.ClassData.{encoded_field_in, encoded_method_in, class_data_in, IsDataOf}
 use Rattle.dexmembers.specs.internal.MethodCodes.{optional_code_weight, AreCodesAt, HaveCodes, IsCodesFaultWithin}
-use Rattle.dexmembers.specs.Reading.{MembersRow, AreHeavyMembers, IsMembersFault}
 use Rattle.dexmembers.specs.internal.RowParts.{IsAnnotationsFault, IsAnnotationsFaultWithin, IsPartFault}
 use Rattle.dexmembers.specs.internal.StaticValues.{HasValuesFor, IsValuesFault, IsValuesFaultWithin}
 use Rattle.dexmembers.specs.declared.class_data.EncodedMethod.{EncodedMethod as MethodRead}

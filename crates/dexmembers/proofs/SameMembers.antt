@@ -1,25 +1,8 @@
 -- Members of two numberings, mapped to a third, are the same there just where they denote the same.
-use Rattle.std.proofs.Common.{◌≡◌, ℕ, List, map, Option, sym, ap, ◌∙◌}
-use Rattle.std.specs.Prelude.{◌↔◌, IfSome}
-use Rattle.std.specs.List.{All}
-use Rattle.std.specs.Option.{option_map}
-use Rattle.dexspec.specs.Lists.{rank}
-use Rattle.dexspec.specs.Texts.{Text}
-use Rattle.dexspec.specs.Symbols.{Field, Method, field_cmp, method_cmp}
-use Rattle.dexspec.specs.Mentions.{Mentions}
+use Rattle.dexmembers.proofs.Common.{◌≡◌, ℕ, List, map, Option, sym, ap, ◌∙◌, ◌↔◌, IfSome, All, option_map, rank, Text, Field, Method, field_cmp, method_cmp, Mentions, RanksAreNumbers, Maps, AllMapTo, IsMappedUse, NumberedItem, code_in, IsKnownCode, renumbered_item, HasImages, NumberedSet, NumberedValues, field_at, method_at, set_in, values_in, IsKnownSet, AreKnown, remapped, renumbered_set, renumbered_values, all_prefix, all_back}
 use Rattle.dexpool.specs.declared.symbols.SymbolKind.TheVariants as kinds
-use Rattle.dexpool.specs.Laws.{RanksAreNumbers}
-use Rattle.dexpool.specs.Numberings.{Maps, AllMapTo}
-use Rattle.dexpool.specs.Uses.{IsMappedUse}
-use Rattle.dexcode.specs.Numbered.{NumberedItem}
-use Rattle.dexcode.specs.Meaning.{code_in, IsKnownCode}
-use Rattle.dexcode.specs.Renumbering.{renumbered_item, HasImages}
-use Rattle.dexval.specs.Numbered.{NumberedSet, NumberedValues, field_at, method_at, set_in, values_in, IsKnownSet, AreKnown}
-use Rattle.dexval.specs.Renumbering.{remapped, renumbered_set, renumbered_values}
-use Rattle.dexmembers.specs.Numbered.{NumberedField, NumberedMethod, NumberedMembers, field_in, method_in, members_in, IsKnownField, IsKnownMethod, AreKnownMembers, AreOfClass}
-use Rattle.dexmembers.specs.Renumbering.{renumbered_field, renumbered_method, renumbered_members}
+use Rattle.dexmembers.specs.{NumberedField, NumberedMethod, NumberedMembers, field_in, method_in, members_in, IsKnownField, IsKnownMethod, AreKnownMembers, AreOfClass, renumbered_field, renumbered_method, renumbered_members}
 use Rattle.dexmembers.proofs.Images.{field_use, method_use, SetHasImages, HaveImages, FieldHasImages, MethodHasImages, MembersHaveImages}
-use Rattle.dexpool.proofs.Parts.{all_prefix, all_back}
 use Rattle.dexmembers.proofs.RenumberingLists.{maps_same, options_same, options_both}
 use Rattle.dexmembers.proofs.RenumberingKept.{no_field, no_method, field_remapped, method_remapped, FieldIsOf, MethodIsOf}
 

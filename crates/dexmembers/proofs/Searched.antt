@@ -1,23 +1,10 @@
 -- Entries by number: a search among them, and lists that are put together member by member.
-use Rattle.std.proofs.Common.{◌≡◌, ◌≢◌, ℕ, zero, suc, ◌+◌, ◌<◌, ◌≤◌, Bool, true, false, cond, List, [], ◌∷◌, ◌++◌, length, get_or, map, refl, sym, ap, ◌∙◌, subst, arith, inl, inr, Option, Some, None, Ordering, Less, Equal, Greater}
-use Rattle.std.specs.Prelude.{IsTrue, Result, Ok, Err, MatchOption, take, drop, option_to_list}
-use Rattle.std.specs.List.{Contains, HoldsAt}
+use Rattle.dexmembers.proofs.Common.{◌≡◌, ◌≢◌, ℕ, zero, suc, ◌+◌, ◌<◌, ◌≤◌, Bool, true, false, cond, List, [], ◌∷◌, ◌++◌, length, get_or, map, refl, sym, ap, ◌∙◌, subst, arith, inl, inr, Option, Some, None, Ordering, Less, Equal, Greater, IsTrue, Result, Ok, Err, MatchOption, take, drop, option_to_list, Contains, HoldsAt, IsSome, option_flatten, nat_cmp, is_eq, ordering_index, nat_cmp_total, nat_cmp-IsAntisymmetric, cases_lt, tied_itself, get_or-map, get_or_default, length-map, length-drop, length-append, take_more, drop_more, map-append, zip_with, Contains-first, Contains-later, less_number, Rises, Rises-from_rises, Rises-places}
 use Rattle.std.specs.List.Sorted.{IsNonDecreasingBy, IsPartitionPoint, IsSearchInRange, IsBinarySearchResult}
 use Rattle.std.specs.Result.{result_ok, is_ok}
-use Rattle.std.specs.Option.{IsSome, option_flatten}
-use Rattle.std.specs.Ordering.{nat_cmp, is_eq, ordering_index}
-use Rattle.std.specs.Cmp.{nat_cmp_total}
-use Rattle.std.specs.FinMap.{nat_cmp-IsAntisymmetric}
 use Rattle.std.specs.FinMap.Entries.{find}
-use Rattle.std.proofs.lemmas.Bool.{cases_lt}
-use Rattle.std.proofs.lemmas.Cmp.{tied_itself}
-use Rattle.std.proofs.lemmas.List.{get_or-map, get_or_default, length-map, length-drop, length-append, take_more, drop_more, map-append}
-use Rattle.dexspec.specs.Lists.{zip_with}
 use Rattle.dexspec.proofs.lists.Mapped.{Contains-map_source}
-use Rattle.dexspec.proofs.lists.Members.{Contains-first, Contains-later}
-use Rattle.dexspec.proofs.wellformed.PoolRows.{less_number}
-use Rattle.dexspec.proofs.lists.InOrder.{Rises, Rises-from_rises, Rises-places}
-use Rattle.dexmembers.specs.Numbered.{NumbersRise}
+use Rattle.dexmembers.specs.{NumbersRise}
 use Rattle.dexmembers.specs.internal.Attaching.{EntriesRise, HasNumberAt}
 
 -- ---- numbers in order

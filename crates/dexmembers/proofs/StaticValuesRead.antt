@@ -1,20 +1,8 @@
 -- Static values of a row, checked and then read.
-use Rattle.std.proofs.Common.{◌≡◌, ◌≢◌, ℕ, ◌<◌, ◌≤◌, List, map, inl, inr, ap, sym, subst, ◌∙◌, arith}
-use Rattle.dexspec.specs.Lists.{OrNone}
-use Rattle.dexspec.specs.Mentions.{Mentions}
-use Rattle.dexspec.specs.Values.{Values, NoValues, count_values, EncodedArrayItemAt}
-use Rattle.dexspec.specs.Classes.{StaticValuesAt, static_values_off}
-use Rattle.dexspec.specs.Weight.{static_values_weight}
-use Rattle.dexspec.proofs.determined.OneRow.{one_or_none}
-use Rattle.dexspec.proofs.determined.OneValue.{one_array}
-use Rattle.dexpool.specs.declared.faults.ItemFault.{ItemFault}
-use Rattle.dexpool.specs.declared.faults.ItemFault.TheVariants.{Refused, Memory}
+use Rattle.dexmembers.proofs.Common.{◌≡◌, ◌≢◌, ℕ, ◌<◌, ◌≤◌, List, map, inl, inr, ap, sym, subst, ◌∙◌, arith, OrNone, Mentions, Values, NoValues, count_values, EncodedArrayItemAt, StaticValuesAt, static_values_off, static_values_weight, one_or_none, one_array, ItemFault, Refused, Memory, value_of, NumberedValues, values_in, values_of_list, AreStaticsAt, IsStaticsFault}
 use Rattle.dexval.specs.declared.value.Value.{Value as ValueRead}
-use Rattle.dexval.specs.Code.{value_of}
-use Rattle.dexval.specs.Numbered.{NumberedValues, values_in, values_of_list}
-use Rattle.dexval.specs.Reading.{AreStaticsAt, IsStaticsFault}
 use Rattle.dexmembers.specs.internal.StaticValues.{HasValuesFor, AreValuesOf, IsValuesFault, IsValuesFaultWithin}
-use Rattle.dexmembers.specs.Checking.{HasValuesOf}
+use Rattle.dexmembers.specs.{HasValuesOf}
 
 -- ---- the static values of a row
 

@@ -1,23 +1,9 @@
 -- Members without their debug programs denote what they denoted without them, and stay known, in order, and of their
 -- class. They keep their short strings and their tries.
-use Rattle.std.proofs.Common.{◌≡◌, ℕ, List, [], ◌∷◌, ◌++◌, map, Option, Some, None, get_or, option_to_list, refl, ap, sym, ◌∙◌, subst}
-use Rattle.std.specs.Prelude.{All, IfSome}
-use Rattle.std.specs.List.{flat_map}
-use Rattle.std.specs.Option.{option_map}
-use Rattle.std.proofs.lemmas.List.{map-append}
-use Rattle.std.proofs.lemmas.List.Elements.{All-map}
-use Rattle.dexspec.specs.ClassData.{ShareNone}
-use Rattle.dexspec.specs.Texts.{Text}
-use Rattle.dexspec.specs.Mentions.{Mentions}
+use Rattle.dexmembers.proofs.Common.{◌≡◌, ℕ, List, [], ◌∷◌, ◌++◌, map, Option, Some, None, get_or, option_to_list, refl, ap, sym, ◌∙◌, subst, All, IfSome, flat_map, option_map, map-append, All-map, ShareNone, Text, Mentions, map-kept, code_in, IsKnownCode, NumberedItem, set_in, values_in, method_at}
 use Rattle.dexspec.specs.Stripping.{strip_code, strip_method}
-use Rattle.dexspec.proofs.lists.Mapped.{map-kept}
-use Rattle.dexcode.specs.Meaning.{code_in, IsKnownCode}
-use Rattle.dexcode.specs.Numbered.{NumberedItem}
-use Rattle.dexval.specs.Numbered.{set_in, values_in, method_at}
-use Rattle.dexmembers.specs.Fitting.{code_short_strings, method_short_strings, members_short_strings}
-use Rattle.dexmembers.specs.Numbered.{NumberedMethod, NumberedMembers, field_in, method_in, members_in, methods_of, IsKnownMethod, AreKnownMembers, NumbersRise, AreOrdered, AreOfClass}
+use Rattle.dexmembers.specs.{code_short_strings, method_short_strings, members_short_strings, NumberedMethod, NumberedMembers, field_in, method_in, members_in, methods_of, IsKnownMethod, AreKnownMembers, NumbersRise, AreOrdered, AreOfClass, method_tries, stripped_code, stripped_method, stripped_members, strip_members}
 use Rattle.dexmembers.proofs.RenumberingLists.{both_ways}
-use Rattle.dexmembers.specs.Stripped.{method_tries, stripped_code, stripped_method, stripped_members, strip_members}
 
 code_stripped : (m : Mentions) (o : Option NumberedItem) → option_map (code_in m) (option_map stripped_code o) ≡ option_map strip_code (option_map (code_in m) o)
 code_stripped m None = refl

@@ -1,25 +1,8 @@
 -- What members weigh by their numbers is what the members that they denote weigh.
-use Rattle.std.proofs.Common.{◌≡◌, ℕ, ◌+◌, List, [], ◌∷◌, ◌++◌, map, Option, Some, None, option_to_list, refl, ap, ◌∙◌, arith, sum_by}
-use Rattle.std.specs.Prelude.{IfSome}
-use Rattle.std.specs.List.{All}
-use Rattle.std.specs.Option.{option_map}
-use Rattle.std.proofs.lemmas.List.{length-map, map-append}
-use Rattle.std.proofs.lemmas.List.Elements.{All-head, All-tail, All-append}
-use Rattle.std.proofs.lemmas.List.Sums.{sum_by-cons}
-use Rattle.dexspec.specs.Mentions.{Mentions}
-use Rattle.dexspec.specs.Weight.{code_weight, debug_weight, set_weight, ref_list_weight, static_values_weight, field_weight, method_weight}
-use Rattle.dexval.specs.Numbered.{NumberedSet, NumberedValues, NoValue, ThenNext, set_in, values_in}
-use Rattle.dexval.specs.Spelled.{numbered_set_weight, numbered_sets_weight, numbered_statics_weight}
-use Rattle.dexval.proofs.Weights.{set_weight_is, values_weight_is}
+use Rattle.dexmembers.proofs.Common.{◌≡◌, ℕ, ◌+◌, List, [], ◌∷◌, ◌++◌, map, Option, Some, None, option_to_list, refl, ap, ◌∙◌, arith, sum_by, IfSome, All, option_map, length-map, map-append, All-head, All-tail, All-append, sum_by-cons, Mentions, code_weight, debug_weight, set_weight, ref_list_weight, static_values_weight, field_weight, method_weight, NumberedSet, NumberedValues, NoValue, ThenNext, set_in, values_in, numbered_set_weight, numbered_sets_weight, numbered_statics_weight, set_weight_is, values_weight_is, NumberedItem, debug_in, IsKnownDebug, code_in, IsKnownCode, Code}
 use Rattle.dexdebug.specs.Debug.{NumberedDebug}
-use Rattle.dexcode.specs.Numbered.{NumberedItem}
 use Rattle.dexcode.specs.CodePut.{numbered_code_weight}
-use Rattle.dexdebug.specs.Meaning.{debug_in, IsKnownDebug}
-use Rattle.dexcode.specs.Meaning.{code_in, IsKnownCode}
-use Rattle.dexspec.specs.Code.{Code}
-use Rattle.dexmembers.specs.Numbered.{NumberedMethod, NumberedMembers, field_in, method_in, members_in, fields_of, methods_of, IsKnownMethod, AreKnownMembers}
-use Rattle.dexmembers.specs.Weight.{members_weight}
-use Rattle.dexmembers.specs.Weighing.{numbered_field_weight, numbered_debug_weight, numbered_whole_weight, numbered_method_weight, numbered_members_weight}
+use Rattle.dexmembers.specs.{NumberedMethod, NumberedMembers, field_in, method_in, members_in, fields_of, methods_of, IsKnownMethod, AreKnownMembers, members_weight, numbered_field_weight, numbered_debug_weight, numbered_whole_weight, numbered_method_weight, numbered_members_weight}
 
 -- a numbering of no symbol: by which the weights of sets and values are as by any other
 abbrev pub no_symbols : Mentions

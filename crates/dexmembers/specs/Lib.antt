@@ -16,3 +16,20 @@ pub mod Fitting
 pub mod FormedDirectory
 pub mod Stripped
 pub mod internal
+unfoldable pub use Borrowed.*
+unfoldable pub use Checking.*
+unfoldable pub use ClassDefs.*
+unfoldable pub use Contents.*
+unfoldable pub use DirectoryPut.*
+unfoldable pub use Held.*
+unfoldable pub use Laws.*
+unfoldable pub use Numbered.*
+unfoldable pub use Reading.*
+unfoldable pub use Renumbering.*
+unfoldable pub use Spelled.*
+unfoldable pub use Uses.*
+unfoldable pub use Weighing.*
+unfoldable pub use Weight.*
+unfoldable pub use Fitting.*
+unfoldable pub use FormedDirectory.*
+unfoldable pub use Stripped.*

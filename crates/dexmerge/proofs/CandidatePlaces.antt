@@ -1,16 +1,7 @@
 -- Candidates by their numbers.
-use Rattle.std.proofs.Common.{◌≡◌, ℕ, ◌+◌, ◌<◌, List, [], ◌∷◌, ◌++◌, length, get_or, take, map, sym, ap, ◌∙◌, subst, arith, Option, Some, None}
-use Rattle.std.specs.Prelude.{◌↔◌, All}
-use Rattle.std.proofs.lemmas.List.{length-map, get_or-map, take_more, map-append, append_assoc}
-use Rattle.dexspec.specs.Lists.{present}
-use Rattle.dexpool.specs.Numberings.{Maps}
-use Rattle.dexclass.specs.Numbered.{NumberedClass}
-use Rattle.dexclass.specs.Renumbering.{renumbered}
-use Rattle.dexorder.specs.Parents.{AreByType, IsHierarchyOf}
+use Rattle.dexmerge.proofs.Common.{◌≡◌, ℕ, ◌+◌, ◌<◌, List, [], ◌∷◌, ◌++◌, length, get_or, take, map, sym, ap, ◌∙◌, subst, arith, Option, Some, None, ◌↔◌, All, length-map, get_or-map, take_more, map-append, append_assoc, present, Maps, NumberedClass, renumbered, AreByType, IsHierarchyOf, no_class, name_number, parent_numbers, ArePlaces, IsHierarchy, places_some}
 use Rattle.dexorder.proofs.ByType.{map-after, present-append}
-use Rattle.dexclass.specs.Parents.{no_class, name_number, parent_numbers, ArePlaces, IsHierarchy}
-use Rattle.dexclass.proofs.Places.{places_some}
-use Rattle.dexmerge.specs.Candidates.{class_of, classes_of, class_at, kept_classes, IsEqualCopy}
+use Rattle.dexmerge.specs.{class_of, classes_of, class_at, kept_classes, IsEqualCopy}
 use Rattle.dexmerge.specs.declared.candidates.Candidate.{Candidate}
 
 -- the class of the candidate at a place

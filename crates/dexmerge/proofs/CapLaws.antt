@@ -1,26 +1,9 @@
 -- The first cap that a union exceeds, by what its classes come to.
-use Rattle.std.proofs.Common.{◌≡◌, ℕ, ◌<◌, ◌≤◌, Bool, true, false, cond, ltb, List, map, refl, sym, ap, ◌∙◌, subst, arith, inl, inr, Option, Some, None, length}
-use Rattle.std.specs.Prelude.{MatchOption, All, nat_lt, not}
-use Rattle.std.specs.List.{Contains}
-use Rattle.std.proofs.lemmas.Bool.{ltb-true, lt-ltb, cases_lt}
+use Rattle.dexmerge.proofs.Common.{◌≡◌, ℕ, ◌<◌, ◌≤◌, Bool, true, false, cond, ltb, List, map, refl, sym, ap, ◌∙◌, subst, arith, inl, inr, Option, Some, None, length, MatchOption, All, nat_lt, not, Contains, ltb-true, lt-ltb, cases_lt, AreDistinct, rank, Text, text_cmp, Definition, AreWithin, Mentions, mentions, IsAcyclic, weight, body_weight, mentions_weight, Caps, AreCaps, greatest_caps, Cap, TypeCap, ProtoCap, FieldCap, MethodCap, ShortStringCap, WeightCap, cap_number, HasShortString, Exceeds, IsConsistent, IsGood, Cause, Conflict, Cycle, Exceeded, IsCause, IsReportedBefore, IsFirstCause, list_any-member, list_any-source, consistent-apart, acyclic-apart, IsAt, AreRising, NumberedClass, definition_of, IsKnownClass}
 use Rattle.dexspec.proofs.size.SizeSums.{sum_by-map}
-use Rattle.dexspec.specs.Lists.{AreDistinct, rank}
-use Rattle.dexspec.specs.Texts.{Text, text_cmp}
-use Rattle.dexspec.specs.Classes.{Definition}
-use Rattle.dexspec.specs.Files.{AreWithin}
-use Rattle.dexspec.specs.Mentions.{Mentions, mentions}
-use Rattle.dexspec.specs.Depth.{IsAcyclic}
-use Rattle.dexspec.specs.Weight.{weight, body_weight, mentions_weight}
-use Rattle.dexspec.specs.Merging.{Caps, AreCaps, greatest_caps, Cap, TypeCap, ProtoCap, FieldCap, MethodCap, ShortStringCap, WeightCap, cap_number, HasShortString, Exceeds, IsConsistent, IsGood, Cause, Conflict, Cycle, Exceeded, IsCause, IsReportedBefore, IsFirstCause}
-use Rattle.dexspec.proofs.lists.Members.{list_any-member, list_any-source}
 use Rattle.dexspec.proofs.merge.WeightGrowth.{weight-within}
-use Rattle.dexspec.proofs.merge.Conflicts.{consistent-apart}
-use Rattle.dexspec.proofs.merge.Depths.{acyclic-apart}
-use Rattle.dexpool.specs.Numberings.{IsAt, AreRising}
-use Rattle.dexclass.specs.Numbered.{NumberedClass, definition_of}
-use Rattle.dexclass.specs.Uses.{IsKnownClass}
 use Rattle.dexmerge.specs.internal.Amounts.{weight_over, short_numbers, has_from, first_over}
-use Rattle.dexmerge.specs.Faults.{IsOfCap}
+use Rattle.dexmerge.specs.{IsOfCap}
 use Rattle.dexmerge.proofs.ShortStrings.{short_named_by, short_denotes_text, rank_is}
 
 -- a number that is no less

@@ -1,33 +1,7 @@
 -- One class of each name, class by class and part by part.
-use Rattle.std.proofs.Common.{◌≡◌, ◌≢◌, ℕ, zero, suc, ◌+◌, ◌<◌, Bool, true, false, List, [], ◌∷◌, ◌++◌, length, get_or, take, drop, map, replicate, length-take, refl, sym, ap, ◌∙◌, subst, arith, inl, inr, Option}
-use Rattle.std.specs.Prelude.{slice_set, slice_index_or}
-use Rattle.std.specs.List.{Contains, AllZip, flat_map}
-use Rattle.std.specs.Borrow.{Bor}
-use Rattle.std.proofs.lemmas.Bool.{false≢true, cases_eq}
-use Rattle.std.proofs.lemmas.List.{append_assoc, length-set, map-append, get_or-set_same, get_or-set_other, length-replicate, length-append, length-drop, get_or_default}
-use Rattle.std.proofs.lemmas.List.Elements.{All-nil, All-push, Contains-append_left, Contains-append_right, Contains-append_cases}
+use Rattle.dexmerge.proofs.Common.{◌≡◌, ◌≢◌, ℕ, zero, suc, ◌+◌, ◌<◌, Bool, true, false, List, [], ◌∷◌, ◌++◌, length, get_or, take, drop, map, replicate, length-take, refl, sym, ap, ◌∙◌, subst, arith, inl, inr, Option, slice_set, slice_index_or, Contains, AllZip, flat_map, Bor, false≢true, cases_eq, append_assoc, length-set, map-append, get_or-set_same, get_or-set_other, length-replicate, length-append, length-drop, get_or_default, All-nil, All-push, Contains-append_left, Contains-append_right, Contains-append_cases, AreDistinct, Text, Definition, in_class_order, Collection, definitions, AreSame, IsCollectionOf, Mentions, mentions, Caps, AreCaps, IsConsistent, IsGood, greatest_caps, IsWellFormed, AreWellFormed, IsGood-within, definitions-distinct, in_class_order-only, in_class_order-has, Contains-map_source, Contains-map, mentions-same, Contains-nil, Contains-first, Contains-later, Contains-cons_cases, Contains-flat_map, Maps, NumberedClass, type_at, definition_of, IsKnownClass, AreDepthsByName, AreClassesOf, AreMergeable, remapped, renumbered, MapsAllInto, StaysSame}
 use Rattle.std.proofs.lemmas.List.Quantifiers.{all_pairs_push}
-use Rattle.dexspec.specs.Lists.{AreDistinct}
-use Rattle.dexspec.specs.Texts.{Text}
-use Rattle.dexspec.specs.Classes.{Definition}
-use Rattle.dexspec.specs.Depth.{in_class_order}
-use Rattle.dexspec.specs.Files.{Collection, definitions, AreSame, IsCollectionOf}
-use Rattle.dexspec.specs.Mentions.{Mentions, mentions}
-use Rattle.dexspec.specs.Merging.{Caps, AreCaps, IsConsistent, IsGood, greatest_caps}
-use Rattle.dexspec.specs.WellFormed.{IsWellFormed, AreWellFormed}
-use Rattle.dexspec.proofs.merge.Absorption.{IsGood-within}
-use Rattle.dexspec.proofs.normal.ClassOrder.{definitions-distinct}
-use Rattle.dexspec.proofs.normal.ClassPlaces.{in_class_order-only, in_class_order-has, Contains-map_source}
-use Rattle.dexspec.proofs.merge.Depths.{Contains-map}
-use Rattle.dexspec.proofs.merge.Growth.{mentions-same}
-use Rattle.dexspec.proofs.lists.Members.{Contains-nil, Contains-first, Contains-later, Contains-cons_cases, Contains-flat_map}
-use Rattle.dexpool.specs.Numberings.{Maps}
-use Rattle.dexclass.specs.Numbered.{NumberedClass, type_at, definition_of}
-use Rattle.dexclass.specs.Uses.{IsKnownClass}
-use Rattle.dexclass.specs.Parents.{AreDepthsByName}
-use Rattle.dexclass.specs.Programs.{AreClassesOf, AreMergeable}
-use Rattle.dexclass.specs.Renumbering.{remapped, renumbered, MapsAllInto, StaysSame}
-use Rattle.dexmerge.specs.Parts.{all_parts}
+use Rattle.dexmerge.specs.{all_parts}
 use Rattle.dexmerge.specs.internal.Collecting.{IsPartOf, ArePartsOf, AreCollected, IsAdded, AreOneOfEach}
 use Rattle.dexmerge.specs.declared.class_union.Collected.{Collected}
 use Rattle.dexmerge.specs.internal.Unions.{IsChecked}

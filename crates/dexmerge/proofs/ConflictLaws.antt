@@ -1,11 +1,6 @@
 -- The least name of different classes, class by class.
-use Rattle.std.proofs.Common.{◌≡◌, ℕ, ◌+◌, ◌<◌, min, List, length, get_or, refl, sym, ap, ◌∙◌, subst, arith, inl, inr, Option, Some, None}
-use Rattle.std.specs.Prelude.{IsSome, MatchOption}
-use Rattle.std.proofs.lemmas.Bool.{cases_lt}
-use Rattle.dexclass.specs.Numbered.{NumberedClass}
-use Rattle.dexclass.specs.Parents.{name_number, ArePlaces}
-use Rattle.dexclass.proofs.Places.{places_all}
-use Rattle.dexmerge.specs.Candidates.{class_at, IsEqualCopy, IsConflicting, IsFirstConflict, lesser_of}
+use Rattle.dexmerge.proofs.Common.{◌≡◌, ℕ, ◌+◌, ◌<◌, min, List, length, get_or, refl, sym, ap, ◌∙◌, subst, arith, inl, inr, Option, Some, None, IsSome, MatchOption, cases_lt, NumberedClass, name_number, ArePlaces, places_all}
+use Rattle.dexmerge.specs.{class_at, IsEqualCopy, IsConflicting, IsFirstConflict, lesser_of}
 
 -- this name has different classes, and no lesser name has any among the first n classes
 pub record IsConflictingWith (cs : List NumberedClass) (places : List (Option ℕ)) (n name : ℕ) : Type 0 where

@@ -1,31 +1,10 @@
 -- What a union holds, in numbers.
-use Rattle.std.proofs.Common.{◌≡◌, ℕ, ◌+◌, ◌-◌, ◌^◌, ◌<◌, ◌≤◌, Bool, true, false, not, ◌||◌, min, List, [], ◌∷◌, ◌++◌, length, take, map, refl, sym, ap, ◌∙◌, arith, Option, Some, None}
-use Rattle.std.specs.Prelude.{All, nat_lt}
-use Rattle.std.specs.List.{list_any}
-use Rattle.std.proofs.lemmas.Bool.{ltb-true, ltb-false, lt-ltb}
-use Rattle.std.proofs.lemmas.List.{take_more, append-nil, length-map}
+use Rattle.dexmerge.proofs.Common.{◌≡◌, ℕ, ◌+◌, ◌-◌, ◌^◌, ◌<◌, ◌≤◌, Bool, true, false, not, ◌||◌, min, List, [], ◌∷◌, ◌++◌, length, take, map, refl, sym, ap, ◌∙◌, arith, Option, Some, None, All, nat_lt, list_any, ltb-true, ltb-false, lt-ltb, take_more, append-nil, length-map, flat_map-append, rank, Text, text_cmp, Definition, Mentions, mentions, HasShortString, list_any-source, IsAt, Maps, image, KeepOrder, IsGreatest, members_short_strings, renumbered_members, NumberedClass, definition_of, no_class, IsMappedClass, IsKnownClass}
 use Rattle.std.proofs.lemmas.List.Folds.{list_any-append}
-use Rattle.std.proofs.lemmas.Grind.{flat_map-append}
-use Rattle.dexspec.specs.Lists.{rank}
-use Rattle.dexspec.specs.Texts.{Text, text_cmp}
-use Rattle.dexspec.specs.Classes.{Definition}
-use Rattle.dexspec.specs.Mentions.{Mentions, mentions}
-use Rattle.dexspec.specs.Merging.{HasShortString}
-use Rattle.dexspec.proofs.lists.Members.{list_any-source}
-use Rattle.dexpool.specs.Numberings.{IsAt, Maps, image}
-use Rattle.dexpool.specs.Orderly.{KeepOrder}
-use Rattle.dexinsn.specs.Fitting.{IsGreatest}
-use Rattle.dexmembers.specs.Fitting.{members_short_strings}
-use Rattle.dexmembers.specs.Renumbering.{renumbered_members}
-use Rattle.dexclass.specs.Numbered.{NumberedClass, definition_of}
-use Rattle.dexclass.specs.Parents.{no_class}
-use Rattle.dexclass.specs.Renumbering.{IsMappedClass}
-use Rattle.dexclass.specs.Uses.{IsKnownClass}
 use Rattle.dexmerge.specs.declared.candidates.Candidate.{Candidate}
 use Rattle.dexmerge.specs.declared.measuring.Counts.{Counts}
 use Rattle.dexmerge.specs.internal.Amounts.{short_numbers}
-use Rattle.dexmerge.specs.Candidates.{classes_of, class_at}
-use Rattle.dexmerge.specs.Counting.{AreCounts, AreCountsOver, Decides, above_it, is_from}
+use Rattle.dexmerge.specs.{classes_of, class_at, AreCounts, AreCountsOver, Decides, above_it, is_from}
 use Rattle.dexmerge.specs.internal.Unions.{AreOnce}
 use Rattle.dexmerge.proofs.CapLaws.{none_from, weight_is}
 use Rattle.dexmerge.proofs.FarTexts.{few_texts, greatest_decides, none_remapped}

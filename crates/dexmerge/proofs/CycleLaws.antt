@@ -1,27 +1,10 @@
 -- The depths of classes by name, and the first class without one, which has the least name that has none.
-use Rattle.std.proofs.Common.{◌≡◌, ℕ, ◌+◌, ◌<◌, true, List, [], length, get_or, map, refl, sym, ap, ◌∙◌, subst, arith, inl, inr, Option, Some, None, Less}
-use Rattle.std.specs.Prelude.{All, IsSome, slice_set}
-use Rattle.std.specs.List.{Contains}
-use Rattle.std.proofs.lemmas.Bool.{cases_order, cases_lt}
-use Rattle.std.proofs.lemmas.List.{length-map, get_or_default, get_or-set_same, get_or-set_other}
-use Rattle.dexspec.specs.Texts.{Text, text_cmp, same_text}
-use Rattle.dexspec.specs.Classes.{Definition}
-use Rattle.dexspec.specs.Files.{AreSame}
-use Rattle.dexspec.specs.Depth.{IsAcyclic, depth, is_defined}
-use Rattle.dexspec.specs.Mentions.{Mentions}
-use Rattle.dexspec.specs.Merging.{IsCycle}
-use Rattle.dexspec.proofs.lists.Members.{list_any-member}
-use Rattle.dexspec.proofs.merge.Depths.{depth-same}
+use Rattle.dexmerge.proofs.Common.{◌≡◌, ℕ, ◌+◌, ◌<◌, true, List, [], length, get_or, map, refl, sym, ap, ◌∙◌, subst, arith, inl, inr, Option, Some, None, Less, All, IsSome, slice_set, Contains, cases_order, cases_lt, length-map, get_or_default, get_or-set_same, get_or-set_other, Text, text_cmp, same_text, Definition, AreSame, IsAcyclic, depth, is_defined, Mentions, IsCycle, list_any-member, depth-same, Rises-from_rises, Rises-places, irreflexive, asymmetric, text_total, AreDepths, IsDepthOrNone, HasNone, AllHaveDepths, IsFirstWithout, NumberedClass, type_at, definition_of, no_class, name_number, IsHierarchy, AreDepthsByName}
 use Rattle.dexspec.proofs.lists.Mapped.{Contains-map_source}
-use Rattle.dexspec.proofs.lists.InOrder.{Rises-from_rises, Rises-places, irreflexive, asymmetric}
-use Rattle.dexspec.proofs.merge.SymbolOrders.{text_total}
-use Rattle.dexorder.specs.Depths.{AreDepths, AreWithin, IsDepthOrNone, HasNone}
-use Rattle.dexorder.specs.Parents.{AllHaveDepths, IsFirstWithout}
+use Rattle.dexorder.specs.Depths.{AreWithin}
 use Rattle.dexorder.specs.Definitions.{AreClassesOf, name_at}
 use Rattle.dexorder.proofs.DefinitionDepths.{no_cycle, is_cycle, cycle_class, same_from_equal}
 use Rattle.dexorder.proofs.DefinitionOrder.{own_depths}
-use Rattle.dexclass.specs.Numbered.{NumberedClass, type_at, definition_of}
-use Rattle.dexclass.specs.Parents.{no_class, name_number, IsHierarchy, AreDepthsByName}
 use Rattle.dexclass.proofs.Classed.{name_is, one_number}
 use Rattle.dexclass.proofs.Ordered.{are_classes}
 use Rattle.dexmerge.specs.internal.Cycles.{AreKept, HaveDepths, IsFirstCycle}

@@ -1,28 +1,7 @@
 -- Texts that a const-string names, whose numbers are not below a cap.
-use Rattle.std.proofs.Common.{◌≡◌, ℕ, ◌+◌, ◌<◌, ◌≤◌, Bool, true, false, leb, List, ◌++◌, length, map, refl, sym, ap, ◌∙◌, subst, arith, inl, inr, Option, Some, None}
-use Rattle.std.specs.Prelude.{All, IsSome, IfSome, nat_lt, not, option_to_list}
-use Rattle.std.specs.List.{Contains}
-use Rattle.std.proofs.lemmas.Bool.{ltb-true, ltb-false, lt-ltb, leb-true, le-leb, cases_lt}
-use Rattle.std.proofs.lemmas.List.Elements.{All-append, All-get_or}
-use Rattle.dexspec.specs.Mentions.{Mentions}
-use Rattle.dexspec.proofs.lists.Members.{Contains-nil, list_any-member, list_any-source, Contains-flat_map_source}
-use Rattle.dexpool.specs.Numberings.{Maps, image}
-use Rattle.dexpool.specs.Orderly.{KeepOrder}
-use Rattle.dexpool.specs.Uses.{IsMappedUse}
-use Rattle.dexinsn.specs.Fitting.{IsGreatest}
-use Rattle.dexinsn.proofs.Fits.{shorts_remapped}
-use Rattle.dexcode.specs.Numbered.{NumberedItem}
-use Rattle.dexcode.specs.Renumbering.{HasImages}
+use Rattle.dexmerge.proofs.Common.{◌≡◌, ℕ, ◌+◌, ◌<◌, ◌≤◌, Bool, true, false, leb, List, ◌++◌, length, map, refl, sym, ap, ◌∙◌, subst, arith, inl, inr, Option, Some, None, All, IsSome, IfSome, nat_lt, not, option_to_list, Contains, ltb-true, ltb-false, lt-ltb, leb-true, le-leb, cases_lt, All-append, All-get_or, Mentions, Contains-nil, list_any-member, list_any-source, Contains-flat_map_source, Maps, image, KeepOrder, IsMappedUse, IsGreatest, shorts_remapped, NumberedItem, HasImages, NumberedMethod, methods_of, renumbered_members, members_uses, code_short_strings, method_short_strings, members_short_strings, all_back, NumberedClass, IsMappedClass, IsKnownClass, type_use, text_use, type_numbers, text_numbers}
 use Rattle.dexcode.proofs.CodePlaces.{images_of_uses}
-use Rattle.dexmembers.specs.Numbered.{NumberedMethod, methods_of}
-use Rattle.dexmembers.specs.Renumbering.{renumbered_members}
-use Rattle.dexmembers.specs.Uses.{members_uses}
-use Rattle.dexmembers.specs.Fitting.{code_short_strings, method_short_strings, members_short_strings}
 use Rattle.dexmembers.proofs.Images.{MethodHasImages, members_images}
-use Rattle.dexpool.proofs.Parts.{all_back}
-use Rattle.dexclass.specs.Numbered.{NumberedClass}
-use Rattle.dexclass.specs.Renumbering.{IsMappedClass}
-use Rattle.dexclass.specs.Uses.{IsKnownClass, type_use, text_use, type_numbers, text_numbers}
 use Rattle.dexmerge.specs.internal.Amounts.{short_numbers, has_from}
 use Rattle.dexmerge.proofs.ShortStrings.{remapped_short, maps_short, option_source, short_denotes_text}
 

@@ -1,13 +1,5 @@
 -- A join of what parts mention is what their union mentions.
-use Rattle.std.proofs.Common.{◌≡◌, ℕ, ◌+◌, ◌<◌, ◌∙◌, Bor, List, [], ◌∷◌, ◌++◌, length, get_or, take, map, refl, sym, ap, subst, suc, arith}
-use Rattle.std.proofs.lemmas.List.{length-map, get_or-map, take_more, map-append, append_assoc}
-use Rattle.std.specs.List.{AllZip, flat_map}
-use Rattle.dexspec.specs.Classes.{Definition}
-use Rattle.dexspec.specs.Files.{Collection, definitions}
-use Rattle.dexspec.specs.Mentions.{Mentions, mentions}
-use Rattle.dexpool.specs.Numberings.{AreRising, Maps, AllMapTo, union_of}
-use Rattle.dexpool.specs.Laws.{MapsAll}
-use Rattle.dexclass.specs.Renumbering.{MapsAllInto}
+use Rattle.dexmerge.proofs.Common.{◌≡◌, ℕ, ◌+◌, ◌<◌, ◌∙◌, Bor, List, [], ◌∷◌, ◌++◌, length, get_or, take, map, refl, sym, ap, subst, suc, arith, length-map, get_or-map, take_more, map-append, append_assoc, AllZip, flat_map, Definition, Collection, definitions, Mentions, mentions, AreRising, Maps, AllMapTo, union_of, MapsAll, MapsAllInto}
 use Rattle.dexmerge.specs.internal.Unions.{IsJoined}
 
 abbrev own : Bor Collection → Mentions

@@ -1,34 +1,8 @@
 -- In a part of a union that is good under the greatest caps each number of a class maps to one that fits its place.
-use Rattle.std.proofs.Common.{◌≡◌, ℕ, ◌*◌, ◌^◌, ◌<◌, ◌≤◌, List, [], ◌∷◌, ◌++◌, length, map, refl, sym, ap, ◌∙◌, subst, arith, inl, inr, Option, Some, None}
-use Rattle.std.specs.Prelude.{All}
-use Rattle.std.specs.List.{Contains}
-use Rattle.std.proofs.lemmas.Bool.{cases_lt}
-use Rattle.std.proofs.lemmas.List.Elements.{All-nil, All-cons, All-weaker}
-use Rattle.dexspec.specs.Lists.{rank}
-use Rattle.dexspec.specs.Texts.{text_cmp}
-use Rattle.dexspec.specs.Classes.{Definition}
-use Rattle.dexspec.specs.Files.{Collection, definitions, AreWithin}
-use Rattle.dexspec.specs.Mentions.{Mentions, mentions}
-use Rattle.dexspec.specs.Weight.{weight}
-use Rattle.dexspec.specs.Merging.{IsGood, greatest_caps}
-use Rattle.dexspec.proofs.merge.Absorption.{HasShortString-within}
+use Rattle.dexmerge.proofs.Common.{◌≡◌, ℕ, ◌*◌, ◌^◌, ◌<◌, ◌≤◌, List, [], ◌∷◌, ◌++◌, length, map, refl, sym, ap, ◌∙◌, subst, arith, inl, inr, Option, Some, None, All, Contains, cases_lt, All-nil, All-cons, All-weaker, rank, text_cmp, Definition, Collection, definitions, AreWithin, Mentions, mentions, weight, IsGood, greatest_caps, HasShortString-within, mentions-same, Contains-nil, Contains-first, Contains-later, Contains-cons_cases, Contains-flat_map, Maps, AllMapTo, KeepOrder, IsMappedUse, ImagesFit, IsGreatest, IsNotTooLarge, MapsShort, NumberedMembers, members_uses, members_short_strings, MembersHavePlaces, all_back, NumberedClass, definition_of, IsKnownClass, type_use, text_use, type_numbers, text_numbers, renumbered, ClassHasPlaces, StaysSame}
 use Rattle.dexspec.proofs.lists.Decided.{definition_same_or_not}
-use Rattle.dexspec.proofs.merge.Growth.{mentions-same}
-use Rattle.dexspec.proofs.lists.Members.{Contains-nil, Contains-first, Contains-later, Contains-cons_cases, Contains-flat_map}
 use Rattle.dexspec.proofs.lists.Searches.{once_of}
 use Rattle.dexspec.proofs.size.SizeClasses.{mentions-cover}
-use Rattle.dexpool.specs.Numberings.{Maps, AllMapTo}
-use Rattle.dexpool.specs.Orderly.{KeepOrder}
-use Rattle.dexpool.specs.Uses.{IsMappedUse}
-use Rattle.dexinsn.specs.Fitting.{ImagesFit, IsGreatest, IsNotTooLarge, MapsShort}
-use Rattle.dexmembers.specs.Numbered.{NumberedMembers}
-use Rattle.dexmembers.specs.Uses.{members_uses}
-use Rattle.dexmembers.specs.Fitting.{members_short_strings}
-use Rattle.dexmembers.specs.Renumbering.{MembersHavePlaces}
-use Rattle.dexpool.proofs.Parts.{all_back}
-use Rattle.dexclass.specs.Numbered.{NumberedClass, definition_of}
-use Rattle.dexclass.specs.Uses.{IsKnownClass, type_use, text_use, type_numbers, text_numbers}
-use Rattle.dexclass.specs.Renumbering.{renumbered, ClassHasPlaces, StaysSame}
 use Rattle.dexmerge.specs.internal.Collecting.{IsPartOf}
 use Rattle.dexmerge.proofs.PartMembers.{KeepMeaning, MapClasses, remapped_class}
 use Rattle.dexmerge.proofs.ShortStrings.{maps_short, short_denotes_text, rank_is}

@@ -1,3 +1,4 @@
+pub mod Common
 pub mod Marked
 pub mod PlanForms
 pub mod PartMembers

@@ -1,12 +1,6 @@
 -- Plans whose files are marked part by part.
-use Rattle.std.proofs.Common.{◌≡◌, ℕ, ◌-◌, ◌<◌, ◌≤◌, max, Bool, List, [], ◌∷◌, ◌++◌, length, get_or, refl, sym, ap, ◌∙◌, subst, arith, inl, inr}
-use Rattle.std.specs.Prelude.{All}
-use Rattle.std.specs.List.{Contains}
-use Rattle.std.proofs.lemmas.List.{append_assoc, append-nil}
-use Rattle.std.proofs.lemmas.List.Elements.{All-append, Contains-append_left, Contains-append_right, Contains-append_cases, Contains-get_or}
-use Rattle.dexspec.proofs.lists.Members.{Contains-nil, Contains-cons_cases}
-use Rattle.dexspec.specs.Merging.{Plan, Node, leaves, all_leaves, plan_depth, plans_depth}
-use Rattle.dexmerge.specs.Plans.{plans_of}
+use Rattle.dexmerge.proofs.Common.{◌≡◌, ℕ, ◌-◌, ◌<◌, ◌≤◌, max, Bool, List, [], ◌∷◌, ◌++◌, length, get_or, refl, sym, ap, ◌∙◌, subst, arith, inl, inr, All, Contains, append_assoc, append-nil, All-append, Contains-append_left, Contains-append_right, Contains-append_cases, Contains-get_or, Contains-nil, Contains-cons_cases, Plan, Node, leaves, all_leaves, plan_depth, plans_depth}
+use Rattle.dexmerge.specs.{plans_of}
 use Rattle.dexmerge.specs.internal.UnionChecks.{AreMarkedBy, IsMarkedBy, IsNoPlan}
 
 -- the parts are less deep, name only files that there are, and just these are marked beside those that were

@@ -1,24 +1,7 @@
 -- What the steps of a merge know.
-use Rattle.std.proofs.Common.{◌≡◌, ℕ, ◌<◌, List, [], ◌∷◌, length, get_or, map, sym, ap, ◌∙◌, subst, arith, Option, Some, None}
-use Rattle.std.specs.Prelude.{All, MatchOption, ◌↔◌}
-use Rattle.std.specs.List.{AllZip, Contains, flat_map}
-use Rattle.std.proofs.lemmas.List.{length-map, get_or-map}
-use Rattle.std.proofs.lemmas.List.Elements.{All-get_or, Contains-get_or}
-use Rattle.dexspec.specs.Lists.{AreDistinct}
-use Rattle.dexspec.specs.Classes.{Definition}
-use Rattle.dexspec.specs.Files.{Collection, definitions, AreSame}
-use Rattle.dexspec.specs.Mentions.{Mentions, mentions}
-use Rattle.dexspec.specs.Merging.{Caps, IsConsistent, IsGood, IsFirstCause, Conflict, Cycle}
-use Rattle.dexspec.proofs.merge.Growth.{mentions-same}
-use Rattle.dexspec.proofs.merge.FirstCauses.{first_cause-same}
-use Rattle.dexspec.proofs.merge.Absorption.{IsGood-within}
-use Rattle.dexpool.specs.Numberings.{AreRising, AreIn, Maps}
-use Rattle.dexclass.specs.Numbered.{NumberedClass, type_at, definition_of}
-use Rattle.dexclass.specs.Parents.{no_class, name_number, ArePlaces, AreDepthsByName}
-use Rattle.dexclass.specs.Renumbering.{renumbered, MapsAllInto, IsPartClass}
-use Rattle.dexmerge.specs.Faults.{IsOfCap}
+use Rattle.dexmerge.proofs.Common.{◌≡◌, ℕ, ◌<◌, List, [], ◌∷◌, length, get_or, map, sym, ap, ◌∙◌, subst, arith, Option, Some, None, All, MatchOption, ◌↔◌, AllZip, Contains, flat_map, length-map, get_or-map, All-get_or, Contains-get_or, AreDistinct, Definition, Collection, definitions, AreSame, Mentions, mentions, Caps, IsConsistent, IsGood, IsFirstCause, Conflict, Cycle, mentions-same, first_cause-same, IsGood-within, AreRising, AreIn, Maps, NumberedClass, type_at, definition_of, no_class, name_number, ArePlaces, AreDepthsByName, renumbered, MapsAllInto, IsPartClass}
+use Rattle.dexmerge.specs.{IsOfCap, AreMembers, IsOfPart, IsEqualCopy, IsFirstConflict, kept_classes, class_of, classes_of, class_at}
 use Rattle.dexmerge.specs.declared.candidates.Candidate.{Candidate}
-use Rattle.dexmerge.specs.Candidates.{AreMembers, IsOfPart, IsEqualCopy, IsFirstConflict, kept_classes, class_of, classes_of, class_at}
 use Rattle.dexmerge.specs.internal.Cycles.{AreKept, AreAcyclic, IsFirstCycle}
 use Rattle.dexmerge.specs.internal.Amounts.{first_over}
 use Rattle.dexmerge.specs.internal.Unions.{AreCopies, AreOnce, IsJoined}

@@ -1,29 +1,6 @@
 -- The definitions of parts, one part after the other.
-use Rattle.std.proofs.Common.{◌≡◌, ℕ, zero, suc, Bor, ◌+◌, ◌<◌, List, [], ◌∷◌, ◌++◌, length, get_or, take, map, refl, sym, ap, ◌∙◌, subst, arith, inl, inr}
-use Rattle.std.specs.Prelude.{All}
-use Rattle.std.specs.List.{Contains, AllZip, flat_map}
-use Rattle.std.proofs.lemmas.List.{take_more, map-append, append-nil, get_or-map}
-use Rattle.std.proofs.lemmas.Grind.{flat_map-append}
-use Rattle.std.proofs.lemmas.List.Elements.{All-append, All-map, All-nil, Contains-append_left, Contains-append_right, Contains-append_cases}
-use Rattle.dexspec.specs.Classes.{Definition}
-use Rattle.dexspec.specs.Files.{Collection, definitions}
-use Rattle.dexspec.specs.WellFormed.{AreWellFormed}
-use Rattle.dexspec.specs.Depth.{in_class_order}
-use Rattle.dexspec.specs.Mentions.{Mentions, mentions}
-use Rattle.dexspec.specs.Texts.{text_cmp}
-use Rattle.dexspec.specs.Symbols.{proto_cmp, field_cmp, method_cmp}
-use Rattle.dexspec.proofs.lists.Members.{Contains-nil}
-use Rattle.dexspec.proofs.merge.Growth.{mentions-rising}
-use Rattle.dexspec.proofs.lists.InOrder.{rises-from_Rises}
-use Rattle.dexspec.proofs.normal.ClassOrder.{definitions-distinct}
-use Rattle.dexspec.proofs.normal.ClassPlaces.{in_class_order-only, in_class_order-has}
-use Rattle.dexpool.specs.Numberings.{AreRising, Maps, AllMapTo}
-use Rattle.dexpool.specs.Laws.{MapsAll}
-use Rattle.dexclass.specs.Numbered.{NumberedClass, definition_of}
-use Rattle.dexclass.specs.Uses.{IsKnownClass}
-use Rattle.dexclass.specs.Programs.{AreClassesOf}
-use Rattle.dexclass.specs.Renumbering.{renumbered, MapsAllInto, IsMappedClass, StaysSame}
-use Rattle.dexmerge.specs.Candidates.{AreMembers, IsOfPart}
+use Rattle.dexmerge.proofs.Common.{◌≡◌, ℕ, zero, suc, Bor, ◌+◌, ◌<◌, List, [], ◌∷◌, ◌++◌, length, get_or, take, map, refl, sym, ap, ◌∙◌, subst, arith, inl, inr, All, Contains, AllZip, flat_map, take_more, map-append, append-nil, get_or-map, flat_map-append, All-append, All-map, All-nil, Contains-append_left, Contains-append_right, Contains-append_cases, Definition, Collection, definitions, AreWellFormed, in_class_order, Mentions, mentions, text_cmp, proto_cmp, field_cmp, method_cmp, Contains-nil, mentions-rising, rises-from_Rises, definitions-distinct, in_class_order-only, in_class_order-has, AreRising, Maps, AllMapTo, MapsAll, NumberedClass, definition_of, IsKnownClass, AreClassesOf, renumbered, MapsAllInto, IsMappedClass, StaysSame}
+use Rattle.dexmerge.specs.{AreMembers, IsOfPart}
 use Rattle.dexmerge.specs.declared.candidates.Candidate.{Candidate}
 
 -- what is the same of each member is so of the list

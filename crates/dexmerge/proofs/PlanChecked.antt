@@ -1,9 +1,5 @@
 -- Whether the marks on files are those of a plan for them.
-use Rattle.std.proofs.Common.{◌≡◌, ℕ, zero, suc, ◌<◌, Bool, true, false, List, length, get_or, replicate, refl, sym, ◌∙◌, arith, inl, inr}
-use Rattle.std.specs.Prelude.{MatchBool}
-use Rattle.std.proofs.lemmas.Bool.{false≢true}
-use Rattle.std.proofs.lemmas.List.{length-replicate}
-use Rattle.dexspec.specs.Merging.{Plan, IsPlanFor}
+use Rattle.dexmerge.proofs.Common.{◌≡◌, ℕ, zero, suc, ◌<◌, Bool, true, false, List, length, get_or, replicate, refl, sym, ◌∙◌, arith, inl, inr, MatchBool, false≢true, length-replicate, Plan, IsPlanFor}
 use Rattle.dexmerge.specs.internal.UnionChecks.{IsNamed, IsMarkedBy, HasUnnamed}
 
 -- no mark is set at first

@@ -1,14 +1,11 @@
 -- A plan of the code as the definitions see it.
-use Rattle.std.proofs.Common.{◌≡◌, ℕ, ◌+◌, ◌<◌, List, [], ◌∷◌, ◌++◌, length, get_or, take, map, sym, ap, ◌∙◌, Vec, Global}
-use Rattle.std.specs.List.{Contains}
-use Rattle.std.proofs.lemmas.List.{take_more, map-append}
-use Rattle.dexspec.proofs.merge.Depths.{Contains-map}
+use Rattle.dexmerge.proofs.Common.{◌≡◌, ℕ, ◌+◌, ◌<◌, List, [], ◌∷◌, ◌++◌, length, get_or, take, map, sym, ap, ◌∙◌, Vec, Global, Contains, take_more, map-append, Contains-map}
 use Rattle.dexspec.specs.Merging as merging
 use Rattle.dexmerge.specs.declared.plan.Plan.{Plan}
 use Rattle.dexmerge.specs.declared.plan.Plan.TheVariants as variants
 use Rattle.dexmerge.specs.declared.plan.Plan.TheOpen as layers
 use Rattle.dexmerge.specs.declared.plan.Plan.TheFolds.{fold-roll-Plan}
-use Rattle.dexmerge.specs.Plans.{plans_of, plan_step, plan_of}
+use Rattle.dexmerge.specs.{plans_of, plan_step, plan_of}
 
 -- a node is the node of its parts
 pub node_is : (plan : Plan) (parts : Vec Plan Global) → plan ≡ variants.Node parts → plan_of plan ≡ merging.Node (plans_of (map plan_of parts.items))

@@ -1,24 +1,10 @@
 -- The definitions of the parts of a plan.
-use Rattle.std.proofs.Common.{◌≡◌, ◌⊎◌, ℕ, zero, suc, ◌<◌, List, [], ◌∷◌, ◌++◌, length, get_or, map, refl, sym, ap, ◌∙◌, subst, arith, inl, inr}
-use Rattle.std.specs.Prelude.{All, slice_index_or}
-use Rattle.std.specs.Borrow.{Bor}
-use Rattle.std.specs.List.{Contains, flat_map}
-use Rattle.std.proofs.lemmas.List.{append-nil}
-use Rattle.std.proofs.lemmas.Grind.{flat_map-append}
-use Rattle.std.proofs.lemmas.List.Elements.{Contains-append_left, Contains-append_right, Contains-append_cases, Contains-get_or, All-get_or}
-use Rattle.dexspec.specs.Classes.{Definition}
-use Rattle.dexspec.specs.Files.{Collection, definitions, AreSame, AreWithin}
+use Rattle.dexmerge.proofs.Common.{◌≡◌, ◌⊎◌, ℕ, zero, suc, ◌<◌, List, [], ◌∷◌, ◌++◌, length, get_or, map, refl, sym, ap, ◌∙◌, subst, arith, inl, inr, All, slice_index_or, Bor, Contains, flat_map, append-nil, flat_map-append, Contains-append_left, Contains-append_right, Contains-append_cases, Contains-get_or, All-get_or, Definition, Collection, definitions, AreSame, AreWithin, Caps, Cause, IsCause, IsFirstCause, IsFlat, IsPlanFor, AreLeaves, Plan, Leaf, Node, leaves, all_leaves, Contains-nil, Contains-cons_cases, Contains-flat_map, Contains-flat_map_source, IsGood-within, IsCause-within, first_cause-same}
 use Rattle.dexspec.specs.Merging as merging
-use Rattle.dexspec.specs.Merging.{Caps, Cause, IsCause, IsFirstCause, IsFlat, IsPlanFor, AreLeaves, Plan, Leaf, Node, leaves, all_leaves}
-use Rattle.dexspec.proofs.lists.Members.{Contains-nil, Contains-cons_cases, Contains-flat_map, Contains-flat_map_source}
-use Rattle.dexspec.proofs.merge.Absorption.{IsGood-within, IsCause-within}
-use Rattle.dexspec.proofs.merge.FirstCauses.{first_cause-same}
 use Rattle.dexmerge.specs.declared.faults.MergeFault.{MergeFault}
 use Rattle.dexmerge.specs.declared.faults.MergeFault.TheVariants as fault
 use Rattle.dexmerge.proofs.Marked.{part_leaves}
-use Rattle.dexmerge.specs.Parts.{referents, definitions_in, all_definitions}
-use Rattle.dexmerge.specs.Plans.{plans_of}
-use Rattle.dexmerge.specs.Faults.{IsMerged, Reports, planned}
+use Rattle.dexmerge.specs.{referents, definitions_in, all_definitions, plans_of, IsMerged, Reports, planned}
 use Rattle.dexmerge.specs.internal.Parts.{files_in, nodes_in, of_files, of_plans, AreKnown, IsCauseOf}
 
 -- ---- what faults report

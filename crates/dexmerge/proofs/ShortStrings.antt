@@ -1,39 +1,14 @@
 -- The texts that a const-string of classes names, by their numbers: what they denote, and their images.
-use Rattle.std.proofs.Common.{◌≡◌, ℕ, Bool, true, false, not, ◌&&◌, if◌then◌else◌, List, [], ◌∷◌, map, Option, Some, None, refl, sym, ap, ◌∙◌, subst, inl, inr}
-use Rattle.std.specs.Prelude.{All, IfSome, option_to_list}
-use Rattle.std.specs.List.{Contains, flat_map}
+use Rattle.dexmerge.proofs.Common.{◌≡◌, ℕ, Bool, true, false, not, ◌&&◌, if◌then◌else◌, List, [], ◌∷◌, map, Option, Some, None, refl, sym, ap, ◌∙◌, subst, inl, inr, All, IfSome, option_to_list, Contains, flat_map, map-append, All-append, All-get_or, Text, text_cmp, rank, TextSymbol, Definition, MethodDef, declared_methods, Mentions, HasShortString, Contains-nil, Contains-first, Contains-cons_cases, Contains-flat_map, Contains-flat_map_source, Rises-from_rises, rank-get_or, text_total, Contains-map, Contains-map_source, IsAt, AreRising, Maps, image, image_of, is_text, is_short_string, short_string, HasConstString, short_named, short_denoted, NumberedItem, renumbered_item, NumberedMethod, NumberedMembers, methods_of, method_in, IsKnownMethod, AreKnownMembers, renumbered_method, renumbered_members, code_short_strings, method_short_strings, members_short_strings, NumberedClass, definition_of, IsKnownClass}
 use Rattle.std.specs.Option.{option_map}
-use Rattle.std.proofs.lemmas.List.{map-append}
-use Rattle.std.proofs.lemmas.List.Elements.{All-append, All-get_or}
-use Rattle.dexspec.specs.Texts.{Text, text_cmp}
-use Rattle.dexspec.specs.Lists.{rank}
-use Rattle.dexspec.specs.Symbols.{TextSymbol}
 use Rattle.dexspec.specs.Pieces.{low_byte, is_wide_index}
 use Rattle.dexspec.specs.Pieces as symbolic
 use Rattle.dexspec.specs.Code.{Code}
-use Rattle.dexspec.specs.Classes.{Definition, MethodDef, declared_methods}
-use Rattle.dexspec.specs.Mentions.{Mentions}
-use Rattle.dexspec.specs.Merging.{HasShortString}
-use Rattle.dexspec.proofs.lists.Members.{Contains-nil, Contains-first, Contains-cons_cases, Contains-flat_map, Contains-flat_map_source}
-use Rattle.dexspec.proofs.lists.InOrder.{Rises-from_rises, rank-get_or}
-use Rattle.dexspec.proofs.merge.SymbolOrders.{text_total}
-use Rattle.dexspec.proofs.merge.Depths.{Contains-map}
-use Rattle.dexspec.proofs.normal.ClassPlaces.{Contains-map_source}
 use Rattle.dexpool.specs.declared.symbols.SymbolKind.{SymbolKind}
 use Rattle.dexpool.specs.declared.symbols.SymbolKind.TheVariants as kinds
-use Rattle.dexpool.specs.Numberings.{IsAt, AreRising, Maps, image, image_of}
-use Rattle.dexinsn.specs.Fitting.{is_text, is_short_string, short_string, HasConstString}
 use Rattle.dexinsn.specs.Numbered.{NumberedPiece, Instruction, Payload, kind_in, renumbered_piece}
-use Rattle.dexinsn.proofs.Fits.{short_named, short_denoted}
-use Rattle.dexcode.specs.Numbered.{NumberedItem}
 use Rattle.dexcode.specs.Meaning.{code_in, IsKnownCode}
-use Rattle.dexcode.specs.Renumbering.{renumbered_item}
 use Rattle.dexcode.proofs.Meanings.{code_encoded}
-use Rattle.dexmembers.specs.Numbered.{NumberedMethod, NumberedMembers, methods_of, method_in, IsKnownMethod, AreKnownMembers}
-use Rattle.dexmembers.specs.Renumbering.{renumbered_method, renumbered_members}
-use Rattle.dexmembers.specs.Fitting.{code_short_strings, method_short_strings, members_short_strings}
-use Rattle.dexclass.specs.Numbered.{NumberedClass, definition_of}
-use Rattle.dexclass.specs.Uses.{IsKnownClass}
 use Rattle.dexmerge.specs.internal.Amounts.{short_numbers}
 
 -- ---- in symbols

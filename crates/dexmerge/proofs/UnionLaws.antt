@@ -1,27 +1,6 @@
 -- What the numbers of a union's classes say of its definitions.
-use Rattle.std.proofs.Common.{◌≡◌, ℕ, zero, suc, ◌+◌, ◌<◌, ◌≤◌, List, [], ◌∷◌, length, get_or, map, refl, sym, ap, ◌∙◌, subst, arith, inl, inr, Option, Some, None, Less}
-use Rattle.std.specs.Prelude.{All, IsSome}
-use Rattle.std.specs.List.{Contains}
-use Rattle.std.proofs.lemmas.Bool.{cases_order}
-use Rattle.std.proofs.lemmas.List.{length-map, get_or-map, get_or_default}
-use Rattle.std.proofs.lemmas.List.Elements.{Contains-get_or}
-use Rattle.dexspec.specs.Lists.{present, AreDistinct}
-use Rattle.dexspec.specs.Texts.{Text, text_cmp}
-use Rattle.dexspec.specs.Classes.{Body, Definition}
-use Rattle.dexspec.specs.Mentions.{Mentions}
-use Rattle.dexspec.specs.Merging.{Caps, IsConflict, IsConsistent, Cause, Conflict, Cycle, Exceeded, IsCause, IsReportedBefore, IsFirstCause}
-use Rattle.dexspec.proofs.lists.Members.{Contains-nil, Contains-first, Contains-later, Contains-cons_cases}
-use Rattle.dexspec.proofs.lists.InOrder.{Rises-from_rises, Rises-places, irreflexive, asymmetric}
-use Rattle.dexspec.proofs.merge.SymbolOrders.{text_total}
-use Rattle.dexspec.proofs.merge.Conflicts.{consistent-apart}
-use Rattle.dexspec.proofs.merge.Depths.{Contains-map}
-use Rattle.dexspec.proofs.normal.ClassPlaces.{Contains-map_source}
-use Rattle.dexpool.specs.Numberings.{AreRising}
-use Rattle.dexclass.specs.Numbered.{NumberedClass, type_at, definition_of}
-use Rattle.dexclass.specs.Uses.{IsKnownClass}
-use Rattle.dexclass.specs.Parents.{no_class, name_number, parent_numbers, ArePlaces}
-use Rattle.dexclass.proofs.Places.{places_some, places_all}
-use Rattle.dexmerge.specs.Candidates.{AreMembers, class_at, IsEqualCopy, IsFirstConflict, kept_classes}
+use Rattle.dexmerge.proofs.Common.{◌≡◌, ℕ, zero, suc, ◌+◌, ◌<◌, ◌≤◌, List, [], ◌∷◌, length, get_or, map, refl, sym, ap, ◌∙◌, subst, arith, inl, inr, Option, Some, None, Less, All, IsSome, Contains, cases_order, length-map, get_or-map, get_or_default, Contains-get_or, present, AreDistinct, Text, text_cmp, Body, Definition, Mentions, Caps, IsConflict, IsConsistent, Cause, Conflict, Cycle, Exceeded, IsCause, IsReportedBefore, IsFirstCause, Contains-nil, Contains-first, Contains-later, Contains-cons_cases, Rises-from_rises, Rises-places, irreflexive, asymmetric, text_total, consistent-apart, Contains-map, Contains-map_source, AreRising, NumberedClass, type_at, definition_of, IsKnownClass, no_class, name_number, parent_numbers, ArePlaces, places_some, places_all}
+use Rattle.dexmerge.specs.{AreMembers, class_at, IsEqualCopy, IsFirstConflict, kept_classes}
 use Rattle.dexmerge.specs.internal.Cycles.{AreKept, IsFirstCycle}
 
 option_is : (o : Option ℕ) → IsSome o → (k : ℕ) × (o ≡ Some k)

@@ -1,12 +1,7 @@
 -- What classes weigh over a numbering.
-use Rattle.std.proofs.Common.{◌≡◌, ℕ, ◌+◌, ◌<◌, min, List, length, take, ap, ◌∙◌, arith, sum_by}
-use Rattle.std.proofs.lemmas.List.{take_more}
+use Rattle.dexmerge.proofs.Common.{◌≡◌, ℕ, ◌+◌, ◌<◌, min, List, length, take, ap, ◌∙◌, arith, sum_by, take_more, Mentions, body_weight, NumberedClass, definition_of, no_class}
 use Rattle.std.proofs.lemmas.List.Sums.{sum_by_push}
-use Rattle.dexspec.specs.Mentions.{Mentions}
-use Rattle.dexspec.specs.Weight.{body_weight}
-use Rattle.dexclass.specs.Numbered.{NumberedClass, definition_of}
-use Rattle.dexclass.specs.Parents.{no_class}
-use Rattle.dexmerge.specs.Candidates.{class_at}
+use Rattle.dexmerge.specs.{class_at}
 use Rattle.dexmerge.specs.internal.Amounts.{weight_over}
 
 -- one class more

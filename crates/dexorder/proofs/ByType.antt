@@ -1,10 +1,6 @@
 -- For each type the class that it names, and the parents of a class, one element at a time.
-use Rattle.std.proofs.Common.{◌≡◌, ℕ, ◌+◌, ◌<◌, List, [], ◌∷◌, ◌++◌, length, get_or, take, refl, sym, ap, ◌∙◌, subst, arith, inl, inr, length-take}
-use Rattle.std.specs.Prelude.{map, Option, Some, None, IsSome, slice_set}
-use Rattle.std.proofs.lemmas.Bool.{cases_eq, cases_lt}
-use Rattle.std.proofs.lemmas.List.{get_or-set_same, get_or-set_other, take_more, length_push, get_or_append_left, get_or_push, append_assoc, map-append, length-map}
-use Rattle.dexspec.specs.Lists.{present}
-use Rattle.dexorder.specs.Parents.{AreByType, classes_of_types}
+use Rattle.dexorder.proofs.Common.{◌≡◌, ℕ, ◌+◌, ◌<◌, List, [], ◌∷◌, ◌++◌, length, get_or, take, refl, sym, ap, ◌∙◌, subst, arith, inl, inr, length-take, map, Option, Some, None, IsSome, slice_set, cases_eq, cases_lt, get_or-set_same, get_or-set_other, take_more, length_push, get_or_append_left, get_or_push, append_assoc, map-append, length-map, present}
+use Rattle.dexorder.specs.{AreByType, classes_of_types}
 
 some_is : (m n : ℕ) → Some m ≡ Some n → m ≡ n
 some_is m n e = cc

@@ -1,20 +1,9 @@
 -- The depths of numbered classes are those of the definitions that they number.
-use Rattle.std.proofs.Common.{◌≡◌, ℕ, zero, suc, ◌<◌, Bool, true, false, List, [], length, map, get_or, Option, Some, None, refl, sym, ap, ◌∙◌, subst, arith, All}
-use Rattle.std.specs.Option.{IsSome}
-use Rattle.std.proofs.lemmas.List.{get_or_default}
-use Rattle.std.proofs.lemmas.List.Elements.{All-from_get_or, Contains-get_or}
+use Rattle.dexorder.proofs.Common.{◌≡◌, ℕ, zero, suc, ◌<◌, Bool, true, false, List, [], length, map, get_or, Option, Some, None, refl, sym, ap, ◌∙◌, subst, arith, All, IsSome, get_or_default, All-from_get_or, Contains-get_or, Text, same_text, Definition, is_defined, above, is_below, HasDepth, IsAcyclic, depth, list_all-member, list_all-from_members, list_any-member, Contains-map, is_defined-name, depth-is, Contains-map_source, map-length}
 use Rattle.std.proofs.lemmas.Slice.Eq.{slice_eq-Decides}
 use Rattle.std.proofs.lemmas.Bool.Decides.{Decides-eqb}
-use Rattle.dexspec.specs.Texts.{Text, same_text}
-use Rattle.dexspec.specs.Classes.{Definition}
-use Rattle.dexspec.specs.Depth.{is_defined, above, is_below, HasDepth, IsAcyclic, depth}
 use Rattle.dexspec.specs.Merging.{IsCycle}
-use Rattle.dexspec.proofs.lists.Members.{list_all-member, list_all-from_members, list_any-member}
-use Rattle.dexspec.proofs.merge.Depths.{Contains-map, is_defined-name, depth-is}
-use Rattle.dexspec.proofs.normal.ClassPlaces.{Contains-map_source}
-use Rattle.dexspec.proofs.size.SizeSums.{map-length}
-use Rattle.dexorder.specs.Depths.{parents_of, is_under, IsDepth, HasNone, IsDepthOrNone, AreDepths}
-use Rattle.dexorder.specs.Definitions.{name_at, AreClassesOf}
+use Rattle.dexorder.specs.{parents_of, is_under, IsDepth, HasNone, IsDepthOrNone, AreDepths, name_at, AreClassesOf}
 use Rattle.dexorder.proofs.DepthLaws.{less_than, parent_within}
 
 -- two tests that imply each other are equal

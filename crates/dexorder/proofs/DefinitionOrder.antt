@@ -1,28 +1,8 @@
 -- The order of numbered classes is that of the definitions that they number.
-use Rattle.std.proofs.Common.{◌≡◌, ◌≢◌, ◌⊎◌, ℕ, ◌+◌, ◌<◌, true, List, [], ◌∷◌, length, map, get_or, Option, Some, None, Ordering, Less, Equal, Greater, refl, sym, ap, ◌∙◌, subst, arith, inl, inr, All}
-use Rattle.std.specs.List.{Contains, range_with_len}
-use Rattle.std.specs.List.Sorted.{IsPermutation}
-use Rattle.std.specs.Option.{IsSome, unwrap_or}
-use Rattle.std.specs.Ordering.{nat_cmp, ordering_then, ordering_reverse, MatchOrdering}
-use Rattle.std.specs.Cmp.{IsTotalOrder}
-use Rattle.std.proofs.lemmas.Cmp.{ranked, nat_cmp_total, on_total, then_total}
-use Rattle.std.proofs.lemmas.List.{get_or_default, get_or-map}
-use Rattle.std.proofs.lemmas.List.Elements.{Contains-get_or}
-use Rattle.std.proofs.lemmas.List.FromFn.{get_or-range_with_len, length-range_with_len}
-use Rattle.std.proofs.lemmas.List.Sorted.{Contains-permutation, IsPermutation-sym}
-use Rattle.dexspec.specs.Lists.{AreDistinct, rises}
-use Rattle.dexspec.specs.Texts.{Text, text_cmp}
-use Rattle.dexspec.specs.Classes.{Definition}
-use Rattle.dexspec.specs.Depth.{depth, place_cmp, in_class_order}
-use Rattle.dexspec.proofs.lists.Members.{AreAmong, Contains-first, Contains-later}
+use Rattle.dexorder.proofs.Common.{◌≡◌, ◌≢◌, ◌⊎◌, ℕ, ◌+◌, ◌<◌, true, List, [], ◌∷◌, length, map, get_or, Option, Some, None, Ordering, Less, Equal, Greater, refl, sym, ap, ◌∙◌, subst, arith, inl, inr, All, Contains, range_with_len, IsPermutation, IsSome, unwrap_or, nat_cmp, ordering_then, ordering_reverse, MatchOrdering, IsTotalOrder, ranked, nat_cmp_total, on_total, then_total, get_or_default, get_or-map, Contains-get_or, get_or-range_with_len, length-range_with_len, Contains-permutation, IsPermutation-sym, AreDistinct, rises, Text, text_cmp, Definition, depth, place_cmp, in_class_order, AreAmong, Contains-first, Contains-later, Contains-map, Contains-map_source, class_place as definition_place, in_class_order-only, in_class_order-has, class_places-rise, map-length}
 use Rattle.dexspec.proofs.lists.InOrder.{Rises, Rises-from_rises, Rises-same}
-use Rattle.dexspec.proofs.merge.Depths.{Contains-map}
 use Rattle.dexspec.proofs.merge.SymbolOrders.{text_total, text_exact}
-use Rattle.dexspec.proofs.normal.ClassPlaces.{Contains-map_source, class_place as definition_place, in_class_order-only, in_class_order-has, class_places-rise}
-use Rattle.dexspec.proofs.size.SizeSums.{map-length}
-use Rattle.dexorder.specs.Depths.{IsDepthOrNone, AreDepths}
-use Rattle.dexorder.specs.Places.{class_place, class_cmp}
-use Rattle.dexorder.specs.Definitions.{name_at, AreClassesOf, AreDepthsOf, AreNamesOf}
+use Rattle.dexorder.specs.{IsDepthOrNone, AreDepths, class_place, class_cmp, name_at, AreClassesOf, AreDepthsOf, AreNamesOf}
 use Rattle.dexorder.proofs.DepthLaws.{Contains-range}
 use Rattle.dexorder.proofs.DefinitionDepths.{same_depth}
 use Rattle.dexorder.proofs.PlaceLaws.{class_total}

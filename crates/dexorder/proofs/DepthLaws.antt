@@ -1,12 +1,6 @@
 -- Bounds on depths, and that each depth is less than the number of classes.
-use Rattle.std.proofs.Common.{◌≡◌, ℕ, zero, suc, ◌+◌, ◌<◌, ◌≤◌, Bool, true, false, ◌&&◌, cond, List, [], ◌∷◌, length, count_by, refl, ap, ◌∙◌, subst, arith, inl, inr, All}
-use Rattle.std.specs.List.{Contains, list_all, range_with_len}
-use Rattle.std.proofs.lemmas.Bool.{cases_lt}
-use Rattle.std.proofs.lemmas.List.Elements.{All-contains, All-get_or}
-use Rattle.std.proofs.lemmas.List.FromFn.{length-range_with_len}
-use Rattle.std.proofs.lemmas.List.Sums.{sum_by-cons, count_by-le-length}
-use Rattle.dexspec.proofs.lists.Members.{Contains-nil, Contains-first, Contains-later, Contains-cons_cases, list_all-member, list_all-from_members}
-use Rattle.dexorder.specs.Depths.{parents_of, is_under, AreWithin, IsDepth, HasNone}
+use Rattle.dexorder.proofs.Common.{◌≡◌, ℕ, zero, suc, ◌+◌, ◌<◌, ◌≤◌, Bool, true, false, ◌&&◌, cond, List, [], ◌∷◌, length, count_by, refl, ap, ◌∙◌, subst, arith, inl, inr, All, Contains, list_all, range_with_len, cases_lt, All-contains, All-get_or, length-range_with_len, sum_by-cons, count_by-le-length, Contains-nil, Contains-first, Contains-later, Contains-cons_cases, list_all-member, list_all-from_members}
+use Rattle.dexorder.specs.{parents_of, is_under, AreWithin, IsDepth, HasNone}
 
 module _ (classes : List (List ℕ)) where
   -- less than n is less than n + 1

@@ -1,3 +1,4 @@
+pub mod Common
 pub mod ByType
 pub mod DefinitionDepths
 pub mod DefinitionOrder

@@ -1,17 +1,7 @@
 -- The defined parents of definitions of different names.
-use Rattle.std.proofs.Common.{◌≡◌, ◌≢◌, ℕ, zero, suc, ◌<◌, Bool, true, false, cond, List, [], ◌∷◌, length, map, get_or, refl, sym, ap, ◌∙◌, subst, arith, append-nil}
-use Rattle.std.specs.List.{Contains, filter, flat_map}
+use Rattle.dexorder.proofs.Common.{◌≡◌, ◌≢◌, ℕ, zero, suc, ◌<◌, Bool, true, false, cond, List, [], ◌∷◌, length, map, get_or, refl, sym, ap, ◌∙◌, subst, arith, append-nil, Contains, filter, flat_map, get_or-map, Contains-get_or, AreDistinct, Text, same_text, Definition, parents, is_defined, above, Contains-first, Contains-later, AreDistinct-first, AreDistinct-rest, Contains-map}
 use Rattle.std.specs.Cmp.Lexicographic.{same_text as texts_same}
-use Rattle.std.proofs.lemmas.List.{get_or-map}
-use Rattle.std.proofs.lemmas.List.Elements.{Contains-get_or}
-use Rattle.dexspec.specs.Lists.{AreDistinct}
-use Rattle.dexspec.specs.Texts.{Text, same_text}
-use Rattle.dexspec.specs.Classes.{Definition}
-use Rattle.dexspec.specs.Depth.{parents, is_defined, above}
-use Rattle.dexspec.proofs.lists.Members.{Contains-first, Contains-later, AreDistinct-first, AreDistinct-rest}
-use Rattle.dexspec.proofs.merge.Depths.{Contains-map}
-use Rattle.dexorder.specs.Depths.{parents_of, AreWithin}
-use Rattle.dexorder.specs.Definitions.{name_at, AreClassesOf}
+use Rattle.dexorder.specs.{parents_of, AreWithin, name_at, AreClassesOf}
 use Rattle.dexorder.proofs.DefinitionDepths.{same_from_equal}
 
 -- no member passes

@@ -1,11 +1,7 @@
 -- Parts of a list that grows at its end.
-use Rattle.std.proofs.Common.{◌≡◌, ℕ, ◌-◌, ◌≤◌, List, [], ◌∷◌, ◌++◌, length, map, take, drop, refl, ap, ◌∙◌, arith, length-append, All}
-use Rattle.std.proofs.lemmas.List.{take_all, take-append-le, drop-append-le, map-append}
-use Rattle.std.proofs.lemmas.List.Elements.{All-head, All-tail}
-use Rattle.std.proofs.Math.Seq.{drop-append_seam}
-use Rattle.std.proofs.lemmas.List.{length-drop}
+use Rattle.dexorder.proofs.Common.{◌≡◌, ℕ, ◌-◌, ◌≤◌, List, [], ◌∷◌, ◌++◌, length, map, take, drop, refl, ap, ◌∙◌, arith, length-append, All, take_all, take-append-le, drop-append-le, map-append, All-head, All-tail, drop-append_seam, length-drop}
 use Rattle.dexorder.specs.declared.hierarchy.Span.{Span}
-use Rattle.dexorder.specs.Spans.{part, IsPart}
+use Rattle.dexorder.specs.{part, IsPart}
 
 -- a part of the list stays what it was
 part-append : (xs ys : List ℕ) (s : Span) → IsPart (length xs) s → part (xs ++ ys) s ≡ part xs s

@@ -1,21 +1,8 @@
 -- Places of classes that are put in order.
-use Rattle.std.proofs.Common.{◌≡◌, ◌≢◌, ℕ, suc, ◌<◌, Bool, true, false, eqb, List, [], ◌∷◌, length, map, get_or, Option, Ordering, Less, Equal, Greater, refl, sym, ap, ◌∙◌, subst, arith, inl, inr, All, add-one}
-use Rattle.std.specs.List.{IsDistinct, range_with_len}
-use Rattle.std.specs.List.Sorted.{IsPermutation, IsSorted}
-use Rattle.std.specs.Ordering.{nat_cmp, ordering_then, ordering_reverse, is_lt, MatchOrdering}
-use Rattle.std.specs.Cmp.{IsTotalOrder}
-use Rattle.std.proofs.lemmas.Cmp.{ranked, nat_cmp_total, on_total, then_total}
-use Rattle.std.proofs.lemmas.Bool.{cases_eq, ne_eqb, eqb-false}
-use Rattle.std.proofs.lemmas.List.{get_or-map}
-use Rattle.std.proofs.lemmas.List.FromFn.{get_or-map-range_with_len, length-map-range_with_len}
-use Rattle.std.proofs.lemmas.List.Elements.{All-head, All-tail, All-map}
-use Rattle.std.proofs.lemmas.List.Sorted.{IsPermutation-map, All-permutation}
+use Rattle.dexorder.proofs.Common.{◌≡◌, ◌≢◌, ℕ, suc, ◌<◌, Bool, true, false, eqb, List, [], ◌∷◌, length, map, get_or, Option, Ordering, Less, Equal, Greater, refl, sym, ap, ◌∙◌, subst, arith, inl, inr, All, add-one, IsDistinct, range_with_len, IsPermutation, IsSorted, nat_cmp, ordering_then, ordering_reverse, is_lt, MatchOrdering, IsTotalOrder, ranked, nat_cmp_total, on_total, then_total, cases_eq, ne_eqb, eqb-false, get_or-map, get_or-map-range_with_len, length-map-range_with_len, All-head, All-tail, All-map, IsPermutation-map, All-permutation, AreDistinct, rises, and_both, map-length}
 use Rattle.std.proofs.lemmas.Map.Keys.{IsDistinct-from_apart, IsDistinct-IsPermutation, apart_from_distinct}
-use Rattle.dexspec.specs.Lists.{AreDistinct, rises}
-use Rattle.dexspec.proofs.lists.Members.{and_both}
-use Rattle.dexspec.proofs.size.SizeSums.{map-length}
 use Rattle.dexorder.specs.declared.order.Place.{Place}
-use Rattle.dexorder.specs.Places.{class_place, class_cmp, place_of}
+use Rattle.dexorder.specs.{class_place, class_cmp, place_of}
 
 -- ---- orders
 

@@ -1,17 +1,11 @@
 -- The steps of a search for depths.
-use Rattle.std.proofs.Common.{◌≡◌, ◌≢◌, ◌⊎◌, ℕ, zero, suc, ◌+◌, ◌<◌, ◌≤◌, Bool, true, false, ◌&&◌, cond, max, List, [], ◌∷◌, ◌++◌, length, get_or, None, Some, refl, sym, ap, ◌∙◌, subst, arith, inl, inr, All, append_assoc, append-nil, length-append, length-set, get_or-set_same, get_or-set_other, set}
-use Rattle.std.specs.List.{AllPairs, Contains, list_all}
+use Rattle.dexorder.proofs.Common.{◌≡◌, ◌≢◌, ◌⊎◌, ℕ, zero, suc, ◌+◌, ◌<◌, ◌≤◌, Bool, true, false, ◌&&◌, cond, max, List, [], ◌∷◌, ◌++◌, length, get_or, None, Some, refl, sym, ap, ◌∙◌, subst, arith, inl, inr, All, append_assoc, append-nil, length-append, length-set, get_or-set_same, get_or-set_other, set, AllPairs, Contains, list_all, get_or-append_seam, cases_lt, cases_eq, All-push, All-contains, Contains-append_left, Contains-append_right, Contains-append_cases, sum_by_push, Contains-nil, Contains-first, Contains-cons_cases, list_all-member, list_all-from_members}
 use Rattle.std.proofs.Math.ListN.{get_or-append}
-use Rattle.std.proofs.Math.Seq.{get_or-append_seam}
-use Rattle.std.proofs.lemmas.Bool.{cases_lt, cases_eq}
-use Rattle.std.proofs.lemmas.List.Elements.{All-push, All-contains, Contains-append_left, Contains-append_right, Contains-append_cases}
 use Rattle.std.proofs.lemmas.List.Quantifiers.{all_pairs_push}
 use Rattle.std.proofs.lemmas.List.Folds.{list_all-append}
-use Rattle.std.proofs.lemmas.List.Sums.{sum_by_push}
-use Rattle.dexspec.proofs.lists.Members.{Contains-nil, Contains-first, Contains-cons_cases, list_all-member, list_all-from_members}
 use Rattle.dexorder.specs.declared.depths.Visit.{Visit}
 use Rattle.dexorder.specs.declared.depths.Search.{Search}
-use Rattle.dexorder.specs.Depths.{parents_of, is_under, AreWithin, IsDepth, HasNone}
+use Rattle.dexorder.specs.{parents_of, is_under, AreWithin, IsDepth, HasNone}
 use Rattle.dexorder.specs.internal.Searching.{is_under_all, IsVisit, IsWaitingFor, IsOn, IsSearch, work_left, work_unseen}
 use Rattle.dexorder.proofs.DepthLaws.{is_under-suc, is_under-later, parent_within}
 

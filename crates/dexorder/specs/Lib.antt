@@ -4,3 +4,8 @@ pub mod Parents
 pub mod Places
 pub mod Spans
 pub mod internal
+unfoldable pub use Definitions.*
+unfoldable pub use Depths.*
+unfoldable pub use Parents.*
+unfoldable pub use Places.*
+unfoldable pub use Spans.*

@@ -1,8 +1,5 @@
 -- Numbers in a row, and texts after the end.
-use Rattle.std.proofs.Common.{◌≡◌, ℕ, ◌+◌, ◌-◌, ◌<◌, ◌≤◌, List, [], ◌∷◌, ◌++◌, length, take, drop, ap, ◌∙◌, arith, length-append, length-take, length-drop}
-use Rattle.std.proofs.lemmas.List.{drop-drop, drop-take, take-take}
-use Rattle.dexspec.specs.Bytes.{number_of, ushort_at, uint_at}
-use Rattle.dexspec.specs.Texts.{StringDataAt, spelling}
+use Rattle.dexpool.proofs.Common.{◌≡◌, ℕ, ◌+◌, ◌-◌, ◌<◌, ◌≤◌, List, [], ◌∷◌, ◌++◌, length, take, drop, ap, ◌∙◌, arith, length-append, length-take, length-drop, drop-drop, drop-take, take-take, number_of, ushort_at, uint_at, StringDataAt, spelling}
 
 part_of : (b : List ℕ) (o n p k : ℕ) → p + k ≤ n → take k (drop p (take n (drop o b))) ≡ take k (drop (o + p) b)
 part_of b o n p k le =

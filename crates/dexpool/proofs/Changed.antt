@@ -1,8 +1,5 @@
 -- A list that is changed member by member.
-use Rattle.std.proofs.Common.{◌≡◌, ℕ, ◌+◌, ◌<◌, ◌≤◌, List, [], ◌∷◌, ◌++◌, length, drop, take, map, get_or, set, refl, ap, sym, ◌∙◌, arith}
-use Rattle.std.specs.List.{All}
-use Rattle.std.proofs.lemmas.List.{drop-drop, take_more_set, map_more, take_all, drop-set-lt, length-set}
-use Rattle.dexrows.proofs.Composing.{at_rest, holds_at_rest}
+use Rattle.dexpool.proofs.Common.{◌≡◌, ℕ, ◌+◌, ◌<◌, ◌≤◌, List, [], ◌∷◌, ◌++◌, length, drop, take, map, get_or, set, refl, ap, sym, ◌∙◌, arith, All, drop-drop, take_more_set, map_more, take_all, drop-set-lt, length-set, at_rest, holds_at_rest}
 
 -- the first i members are changed, and the others are as they were
 pub record AreChanged {X : Type 0} (f : X → X) (i : ℕ) (old new : List X) : Type 0 where

@@ -1,21 +1,6 @@
 -- What marks that are closed downwards keep: the marked symbols, and what these mention.
-use Rattle.std.proofs.Common.{◌≡◌, ℕ, ◌<◌, Bool, List, [], ◌∷◌, ◌++◌, length, get_or, map, refl, sym, ap, ◌∙◌, subst, arith, inl, inr, Ordering}
-use Rattle.std.specs.List.{All, Contains, flat_map}
-use Rattle.std.specs.Cmp.{IsTotalOrder}
-use Rattle.std.specs.FinMap.{IsAntisymmetric}
-use Rattle.std.proofs.lemmas.List.{map-append}
-use Rattle.std.proofs.lemmas.List.Elements.{All-head, All-tail, Contains-append_left, Contains-append_right, Contains-append_cases}
-use Rattle.dexspec.specs.Lists.{in_order}
-use Rattle.dexspec.specs.Texts.{Text, text_cmp}
-use Rattle.dexspec.specs.Names.{shorty}
-use Rattle.dexspec.specs.Symbols.{Proto, Field, Method, Symbol, TextSymbol, TypeSymbol, ProtoSymbol, FieldSymbol, MethodSymbol, proto_cmp, field_cmp, method_cmp}
-use Rattle.dexspec.specs.Mentions.{closed, texts_in, types_in, protos_in, fields_in, methods_in, proto_types}
-use Rattle.dexspec.proofs.lists.Members.{AreAmong, Contains-nil, Contains-first, Contains-later, Contains-cons_cases, Contains-flat_map, Contains-flat_map_source}
-use Rattle.dexspec.proofs.merge.Depths.{Contains-map}
-use Rattle.dexspec.proofs.lists.Mapped.{Contains-map_source}
-use Rattle.dexspec.proofs.lists.InOrder.{Rises, Rises-same, Rises-in_order, in_order-has, in_order-only}
-use Rattle.dexspec.proofs.merge.SymbolOrders.{text_total, text_exact, proto_total, proto_exact, field_total, field_exact, method_total, method_exact}
-use Rattle.dexpool.specs.Cut.{kept}
+use Rattle.dexpool.proofs.Common.{◌≡◌, ℕ, ◌<◌, Bool, List, [], ◌∷◌, ◌++◌, length, get_or, map, refl, sym, ap, ◌∙◌, subst, arith, inl, inr, Ordering, All, Contains, flat_map, IsTotalOrder, IsAntisymmetric, map-append, All-head, All-tail, Contains-append_left, Contains-append_right, Contains-append_cases, in_order, Text, text_cmp, shorty, Proto, Field, Method, Symbol, TextSymbol, TypeSymbol, ProtoSymbol, FieldSymbol, MethodSymbol, proto_cmp, field_cmp, method_cmp, closed, texts_in, types_in, protos_in, fields_in, methods_in, proto_types, AreAmong, Contains-nil, Contains-first, Contains-later, Contains-cons_cases, Contains-flat_map, Contains-flat_map_source, Contains-map, Contains-map_source, Rises, Rises-same, Rises-in_order, in_order-has, in_order-only, text_total, text_exact, proto_total, proto_exact, field_total, field_exact, method_total, method_exact}
+use Rattle.dexpool.specs.{kept}
 use Rattle.dexpool.specs.internal.Closing.{mark_all}
 use Rattle.dexpool.proofs.KeptRows.{kept_from, kept_has, mark_stays, mark_comes, mark_from}
 use Rattle.dexpool.proofs.Pairs.{map_both}

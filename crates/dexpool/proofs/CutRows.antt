@@ -1,10 +1,6 @@
 -- What is kept of a table, and where.
-use Rattle.std.proofs.Common.{◌≡◌, ℕ, ◌+◌, ◌<◌, ◌≤◌, Bool, true, false, List, [], ◌∷◌, ◌++◌, length, get_or, set, take, drop, refl, sym, ap, ◌∙◌, arith, append_assoc, add-one, inl, inr, Option, Some, None}
-use Rattle.std.specs.List.{swap}
-use Rattle.std.proofs.lemmas.Bool.{cases_eq}
-use Rattle.std.proofs.lemmas.List.{drop_more, set-set, take_more_set, take-set-le, drop-set-lt}
-use Rattle.std.proofs.lemmas.List.Edits.{swap_is, length-swap}
-use Rattle.dexpool.specs.Cut.{kept, places}
+use Rattle.dexpool.proofs.Common.{◌≡◌, ℕ, ◌+◌, ◌<◌, ◌≤◌, Bool, true, false, List, [], ◌∷◌, ◌++◌, length, get_or, set, take, drop, refl, sym, ap, ◌∙◌, arith, append_assoc, add-one, inl, inr, Option, Some, None, swap, cases_eq, drop_more, set-set, take_more_set, take-set-le, drop-set-lt, swap_is, length-swap}
+use Rattle.dexpool.specs.{kept, places}
 use Rattle.dexpool.proofs.InPlace.{same_at, rest_more}
 use Rattle.dexpool.proofs.KeptRows.{kept_first, kept_next}
 

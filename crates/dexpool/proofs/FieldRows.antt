@@ -1,15 +1,7 @@
 -- Rows of fields.
-use Rattle.std.proofs.Common.{◌≡◌, ℕ, List, [], ◌∷◌, subst}
-use Rattle.dexspec.specs.Texts.{Text}
-use Rattle.dexspec.specs.Names.{IsClass, IsMemberName, IsValueType}
-use Rattle.dexspec.specs.Symbols.{Field, IsField}
+use Rattle.dexpool.proofs.Common.{◌≡◌, ℕ, List, [], ◌∷◌, subst, Text, IsClass, IsMemberName, IsValueType, Field, IsField, row_at, StringRow, TypeRow, HasField, field_row_key, one_string, one_type, FieldRow, Condition}
 use Rattle.dexspec.specs.Rows as rows
-use Rattle.dexspec.specs.Rows.{row_at, StringRow, TypeRow, HasField, field_row_key}
-use Rattle.dexspec.proofs.determined.OneRow.{one_string, one_type}
-use Rattle.dexrows.specs.declared.fields.FieldRow.{FieldRow}
-use Rattle.dexpool.specs.Tables.{field_of, field_key, field_cmp}
-use Rattle.dexpool.specs.Reading.{FieldRowAt, HasFieldNumbers}
-use Rattle.dexspec.specs.Conditions.{Condition}
+use Rattle.dexpool.specs.{field_of, field_key, field_cmp, FieldRowAt, HasFieldNumbers}
 use Rattle.dexpool.specs.internal.ReadRows.{DecidesNext}
 use Rattle.dexpool.proofs.Steps.{decided}
 

@@ -1,11 +1,7 @@
 -- Parts of numbers that bytes encode, two bytes for each.
-use Rattle.std.proofs.Common.{◌≡◌, ℕ, zero, suc, ◌+◌, ◌-◌, ◌*◌, ◌/◌, ◌≤◌, List, ◌∷◌, length, take, drop, refl, sym, ap, ◌∙◌, arith}
-use Rattle.std.proofs.lemmas.List.{length-take, length-drop}
-use Rattle.dexspec.specs.Bytes.{ushort_at, ushorts_at}
-use Rattle.dexspec.proofs.wellformed.FormedRows.{length-ushorts_at}
+use Rattle.dexpool.proofs.Common.{◌≡◌, ℕ, zero, suc, ◌+◌, ◌-◌, ◌*◌, ◌/◌, ◌≤◌, List, ◌∷◌, length, take, drop, refl, sym, ap, ◌∙◌, arith, length-take, length-drop, ushort_at, ushorts_at, length-ushorts_at}
 use Rattle.dexpool.specs.declared.rows.Span.{Span}
-use Rattle.dexpool.specs.Tables.{span_of}
-use Rattle.dexpool.specs.Reading.{HasSpan, file_numbers}
+use Rattle.dexpool.specs.{span_of, HasSpan, file_numbers}
 use Rattle.dexpool.proofs.Bytes.{ushort_at_row}
 
 drop_shorts : (b : List ℕ) (o m k : ℕ) → k ≤ m → drop k (ushorts_at b o m) ≡ ushorts_at b (o + 2 * k) (m - k)

@@ -1,7 +1,5 @@
 -- Lists whose members are written over in their order: from a place on they are still the old ones.
-use Rattle.std.proofs.Common.{◌≡◌, ℕ, ◌+◌, ◌<◌, List, length, get_or, set, drop, sym, ap, ◌∙◌, subst, arith}
-use Rattle.std.specs.List.{All}
-use Rattle.std.proofs.lemmas.List.{get_or-drop, drop-drop, drop-set-lt}
+use Rattle.dexpool.proofs.Common.{◌≡◌, ℕ, ◌+◌, ◌<◌, List, length, get_or, set, drop, sym, ap, ◌∙◌, subst, arith, All, get_or-drop, drop-drop, drop-set-lt}
 
 module _ {X : Type 0} (old xs : List X) (i : ℕ) (rest : drop i xs ≡ drop i old) where
   pub same_at : (d : X) → get_or xs i d ≡ get_or old i d

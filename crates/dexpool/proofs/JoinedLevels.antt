@@ -1,28 +1,10 @@
 -- The rows of all parts, renumbered and joined, one kind of symbol after the other.
-use Rattle.std.proofs.Common.{◌≡◌, ℕ, ◌<◌, true, List, [], ◌∷◌, length, map, refl, sym, ap, ◌∙◌, subst}
-use Rattle.std.specs.List.{All, AllZip, flat_map}
-use Rattle.std.specs.Ordering.{ordering_then, nat_cmp}
-use Rattle.std.specs.Cmp.{IsTotalOrder}
-use Rattle.std.specs.Cmp.Lexicographic.{slice_cmp}
-use Rattle.std.specs.FinMap.{IsAntisymmetric}
-use Rattle.std.specs.declared.cmp.Ordering.{Ordering}
-use Rattle.std.proofs.lemmas.List.{map-id}
-use Rattle.std.proofs.lemmas.List.Elements.{All-map}
-use Rattle.dexspec.specs.Lists.{rises}
-use Rattle.dexspec.specs.Texts.{Text, text_cmp}
+use Rattle.dexpool.proofs.Common.{◌≡◌, ℕ, ◌<◌, true, List, [], ◌∷◌, length, map, refl, sym, ap, ◌∙◌, subst, All, AllZip, flat_map, ordering_then, nat_cmp, IsTotalOrder, slice_cmp, IsAntisymmetric, Ordering, map-id, All-map, rises, Text, text_cmp, Mentions, rises-in_order, text_total, text_exact, proto_total, proto_exact, field_total, field_exact, method_total, method_exact, row_cmp, IsJoin, ProtoNumbers, FieldRow, MethodRow}
 use Rattle.dexspec.specs.Symbols as symbols
-use Rattle.dexspec.specs.Mentions.{Mentions}
-use Rattle.dexspec.proofs.lists.InOrder.{rises-in_order}
-use Rattle.dexspec.proofs.merge.SymbolOrders.{text_total, text_exact, proto_total, proto_exact, field_total, field_exact, method_total, method_exact}
-use Rattle.dexrows.specs.Join.{row_cmp, IsJoin}
-use Rattle.dexrows.specs.Numbers.{ProtoNumbers}
 use Rattle.dexrows.specs.declared.types.TypeRow.{TypeRow}
-use Rattle.dexrows.specs.declared.fields.FieldRow.{FieldRow}
-use Rattle.dexrows.specs.declared.methods.MethodRow.{MethodRow}
 use Rattle.dexpool.specs.declared.rows.ProtoEntry.{ProtoEntry}
 use Rattle.dexpool.specs.declared.protos.Protos.{Protos}
-use Rattle.dexpool.specs.Tables.{text_of, type_of, proto_of, field_of, method_of, type_cmp, proto_cmp, field_key, method_key}
-use Rattle.dexpool.specs.Numberings.{IsNumbering}
+use Rattle.dexpool.specs.{text_of, type_of, proto_of, field_of, method_of, type_cmp, proto_cmp, field_key, method_key, IsNumbering}
 use Rattle.dexpool.specs.internal.Renumbering.{numbers_of, numbers_in, HasSpans, IsFieldWithin, IsMethodWithin}
 use Rattle.dexpool.specs.internal.Joining.{IsUnion, Denote, AreJoinedTexts, AreJoinedTypes, AreJoinedProtos, AreJoinedFields, AreJoinedMethods, proto_of_row, IsRowOf}
 use Rattle.dexpool.proofs.Moved.{entries_of}

@@ -1,26 +1,11 @@
 -- The five joined tables are tables of a numbering, the union of the parts, and their images are maps.
-use Rattle.std.proofs.Common.{◌≡◌, ℕ, ◌+◌, ◌<◌, true, List, [], ◌∷◌, ◌++◌, length, get_or, take, map, Option, Some, sym, ap, ◌∙◌, subst, arith}
+use Rattle.dexpool.proofs.Common.{◌≡◌, ℕ, ◌+◌, ◌<◌, true, List, [], ◌∷◌, ◌++◌, length, get_or, take, map, Option, Some, sym, ap, ◌∙◌, subst, arith, All, AllZip, IsTotalOrder, IsAntisymmetric, Ordering, get_or-map, length-map, map-append, map_more, All-weaker, All-get_or, rises, text_cmp, IsDescriptor, IsProto, IsField, IsMethod, Mentions, text_total, text_exact, proto_total, proto_exact, field_total, field_exact, method_total, method_exact}
 use Rattle.std.specs.Borrow.{Bor}
 use Rattle.std.specs.Global.{Vec}
-use Rattle.std.specs.List.{All, AllZip}
-use Rattle.std.specs.Cmp.{IsTotalOrder}
-use Rattle.std.specs.FinMap.{IsAntisymmetric}
-use Rattle.std.specs.declared.cmp.Ordering.{Ordering}
-use Rattle.std.proofs.lemmas.List.{get_or-map, length-map, map-append, map_more}
-use Rattle.std.proofs.lemmas.List.Elements.{All-weaker, All-get_or}
-use Rattle.dexspec.specs.Lists.{rises}
-use Rattle.dexspec.specs.Texts.{text_cmp}
-use Rattle.dexspec.specs.Names.{IsDescriptor}
 use Rattle.dexspec.specs.Symbols as symbols
-use Rattle.dexspec.specs.Symbols.{IsProto, IsField, IsMethod}
-use Rattle.dexspec.specs.Mentions.{Mentions}
-use Rattle.dexspec.proofs.merge.SymbolOrders.{text_total, text_exact, proto_total, proto_exact, field_total, field_exact, method_total, method_exact}
 use Rattle.dexpool.specs.declared.tables.Tables.{Tables}
-use Rattle.dexpool.specs.Tables.{text_of, proto_of, field_of, method_of}
-use Rattle.dexpool.specs.Numberings.{IsNumbering, Maps, MapsTo, AllMapTo, union_of}
-use Rattle.dexpool.specs.Orderly.{KeepsOrder}
+use Rattle.dexpool.specs.{text_of, proto_of, field_of, method_of, IsNumbering, Maps, MapsTo, AllMapTo, union_of, KeepsOrder, symbols_in, AreTables}
 use Rattle.dexpool.specs.internal.Joining.{numberings_of, lists_in, Moves, IsUnion, AreJoinedTexts, AreJoinedTypes, AreJoinedProtos, AreJoinedFields, AreJoinedMethods, AreMapsOf}
-use Rattle.dexpool.specs.Stored.{symbols_in, AreTables}
 use Rattle.dexpool.proofs.Pairs.{zip_length, zip_at, zip_from, zip_seen}
 use Rattle.dexpool.proofs.TablesAreAt.{tables_made}
 use Rattle.dexpool.proofs.Unions.{some, all_union}

@@ -1,24 +1,13 @@
 -- The images of the numbers of marked symbols: each has one, which is not greater, and is a number of the other
 -- numbering.
-use Rattle.std.proofs.Common.{◌≡◌, ℕ, zero, suc, ◌+◌, ◌≤◌, ◌&&◌, ◌==◌, Bool, true, false, List, [], ◌∷◌, get_or, map, refl, sym, ◌∙◌, subst, arith, eq-eqb, Option, Some, None, IsSome}
-use Rattle.std.specs.List.{All, Contains, flat_map}
-use Rattle.std.proofs.lemmas.Bool.{or_left, or_right}
-use Rattle.std.proofs.lemmas.List.Elements.{All-weaker, Contains-get_or}
-use Rattle.dexspec.proofs.lists.Members.{list_any-member}
-use Rattle.dexspec.specs.Mentions.{Mentions}
-use Rattle.dexpool.specs.Cut.{kept, places}
-use Rattle.dexrows.specs.declared.fields.FieldRow.{FieldRow}
-use Rattle.dexrows.specs.declared.methods.MethodRow.{MethodRow}
+use Rattle.dexpool.proofs.Common.{◌≡◌, ℕ, zero, suc, ◌+◌, ◌≤◌, ◌&&◌, ◌==◌, Bool, true, false, List, [], ◌∷◌, get_or, map, refl, sym, ◌∙◌, subst, arith, eq-eqb, Option, Some, None, IsSome, All, Contains, flat_map, or_left, or_right, All-weaker, Contains-get_or, list_any-member, Mentions, FieldRow, MethodRow}
+use Rattle.dexpool.specs.{kept, places, Maps, AllMapTo, image, MapsDown, MapsWithin, Use, AreMarkedToo, IsMarkedUse, IsMappedUse, MapsMarked, marks_of, same_kind, occurs}
 use Rattle.dexpool.specs.declared.rows.ProtoEntry.{ProtoEntry}
 use Rattle.dexpool.proofs.KeptPlaces.{marked_has}
 use Rattle.dexpool.specs.declared.tables.Tables.{Tables}
 use Rattle.dexpool.specs.declared.marks.Marks.{Marks}
 use Rattle.dexpool.specs.declared.symbols.SymbolKind.{SymbolKind}
 use Rattle.dexpool.specs.declared.symbols.SymbolKind.TheVariants as kinds
-use Rattle.dexpool.specs.Numberings.{Maps, AllMapTo, image}
-use Rattle.dexpool.specs.Orderly.{MapsDown}
-use Rattle.dexpool.specs.Laws.{MapsWithin}
-use Rattle.dexpool.specs.Uses.{Use, AreMarkedToo, IsMarkedUse, IsMappedUse, MapsMarked, marks_of, same_kind, occurs}
 use Rattle.dexpool.specs.internal.Closing.{IsMarked, AreClosure, kept_places, mark_all, field_types, entry_types}
 use Rattle.dexpool.proofs.KeptRows.{mark_within, mark_stays}
 

@@ -1,7 +1,6 @@
 -- What a cut leaves: each kept row is a row, and has its place.
-use Rattle.std.proofs.Common.{◌≡◌, ℕ, zero, suc, ◌+◌, ◌<◌, ◌≤◌, Bool, true, false, List, [], ◌∷◌, length, get_or, refl, ap, arith, inl, inr, Option, Some, None}
-use Rattle.dexspec.proofs.lists.Members.{AreAmong, Contains-nil, Contains-later, Contains-cons_cases}
-use Rattle.dexpool.specs.Cut.{kept, places}
+use Rattle.dexpool.proofs.Common.{◌≡◌, ℕ, zero, suc, ◌+◌, ◌<◌, ◌≤◌, Bool, true, false, List, [], ◌∷◌, length, get_or, refl, ap, arith, inl, inr, Option, Some, None, AreAmong, Contains-nil, Contains-later, Contains-cons_cases}
+use Rattle.dexpool.specs.{kept, places}
 
 -- a kept row is a row
 pub kept_among : {R : Type 0} (marks : List Bool) (rows : List R) → AreAmong (kept marks rows) rows

@@ -1,17 +1,8 @@
 -- Marked members of a list: which they are, where they are, and what more marks keep.
-use Rattle.std.proofs.Common.{◌≡◌, ◌≢◌, ◌⊎◌, ℕ, zero, suc, ◌+◌, ◌<◌, Bool, true, false, List, [], ◌∷◌, ◌++◌, length, get_or, map, set, drop, replicate, refl, sym, ap, ◌∙◌, arith, inl, inr, Ordering, Option, Some, None, slice_index, slice_index_or}
-use Rattle.std.specs.List.{All, Contains, flat_map}
-use Rattle.std.specs.Cmp.{IsTotalOrder}
-use Rattle.std.proofs.lemmas.Bool.{cases_eq, cases_order}
-use Rattle.std.proofs.lemmas.List.{length-set, length-map, get_or-map, get_or-set_same, get_or-set_other, get_or_default, drop_more}
-use Rattle.dexspec.proofs.lists.Members.{Contains-nil, Contains-first, Contains-later, Contains-cons_cases}
-use Rattle.dexspec.proofs.lists.Mapped.{All-among}
-use Rattle.dexspec.proofs.lists.InOrder.{Rises, AreDistinct-from_Rises}
-use Rattle.dexpool.specs.Cut.{kept, places}
+use Rattle.dexpool.proofs.Common.{◌≡◌, ◌≢◌, ◌⊎◌, ℕ, zero, suc, ◌+◌, ◌<◌, Bool, true, false, List, [], ◌∷◌, ◌++◌, length, get_or, map, set, drop, replicate, refl, sym, ap, ◌∙◌, arith, inl, inr, Ordering, Option, Some, None, slice_index, slice_index_or, All, Contains, flat_map, IsTotalOrder, cases_eq, cases_order, length-set, length-map, get_or-map, get_or-set_same, get_or-set_other, get_or_default, drop_more, Contains-nil, Contains-first, Contains-later, Contains-cons_cases, All-among, Rises, AreDistinct-from_Rises}
+use Rattle.dexpool.specs.{kept, places, MapsTo, image, KeepsOrder}
 use Rattle.dexpool.proofs.KeptPlaces.{kept_among, length_places, marked_has, is_at, places_rise}
 use Rattle.dexpool.proofs.Moved.{Keeps}
-use Rattle.dexpool.specs.Numberings.{MapsTo, image}
-use Rattle.dexpool.specs.Orderly.{KeepsOrder}
 use Rattle.dexpool.specs.internal.Closing.{IsMarked, mark_all, number_or_none, new_numbers}
 
 -- a marked number is one of the marks

@@ -1,27 +1,10 @@
 -- The closed marks of tables: they are closed, and keep what the marked symbols mention.
-use Rattle.std.proofs.Common.{◌≡◌, ℕ, ◌<◌, List, [], ◌∷◌, ◌++◌, length, get_or, map, refl, sym, ap, ◌∙◌, subst, arith, inl, inr}
-use Rattle.std.specs.List.{All, Contains, flat_map}
-use Rattle.std.proofs.lemmas.List.{length-map, get_or-map, map-append}
-use Rattle.std.proofs.lemmas.List.Elements.{All-weaker, All-contains, All-head, All-tail, Contains-get_or, Contains-append_left, Contains-append_right, Contains-append_cases}
-use Rattle.dexspec.specs.Texts.{Text, text_cmp}
-use Rattle.dexspec.specs.Names.{IsValueType, shorty}
-use Rattle.dexspec.specs.Symbols.{Proto, Field, Method, proto_cmp, field_cmp, method_cmp}
+use Rattle.dexpool.proofs.Common.{◌≡◌, ℕ, ◌<◌, List, [], ◌∷◌, ◌++◌, length, get_or, map, refl, sym, ap, ◌∙◌, subst, arith, inl, inr, All, Contains, flat_map, length-map, get_or-map, map-append, All-weaker, All-contains, All-head, All-tail, Contains-get_or, Contains-append_left, Contains-append_right, Contains-append_cases, Text, text_cmp, IsValueType, shorty, Proto, Field, Method, proto_cmp, field_cmp, method_cmp, proto_types, Contains-first, Contains-later, Contains-cons_cases, Contains-flat_map, Contains-flat_map_source, Contains-map, Contains-map_source, Rises-from_rises, text_total, proto_total, field_total, method_total, FieldRow, MethodRow}
 use Rattle.dexspec.specs.Mentions as mentions
-use Rattle.dexspec.specs.Mentions.{proto_types}
-use Rattle.dexspec.proofs.lists.Members.{Contains-first, Contains-later, Contains-cons_cases, Contains-flat_map, Contains-flat_map_source}
-use Rattle.dexspec.proofs.merge.Depths.{Contains-map}
-use Rattle.dexspec.proofs.lists.Mapped.{Contains-map_source}
-use Rattle.dexspec.proofs.lists.InOrder.{Rises-from_rises}
-use Rattle.dexspec.proofs.merge.SymbolOrders.{text_total, proto_total, field_total, method_total}
-use Rattle.dexpool.specs.Cut.{kept}
-use Rattle.dexrows.specs.declared.fields.FieldRow.{FieldRow}
-use Rattle.dexrows.specs.declared.methods.MethodRow.{MethodRow}
+use Rattle.dexpool.specs.{kept, text_of, type_of, span_of, proto_of, field_of, method_of, AreMarksOf, AllMapTo, marked, symbols_in, IsTypeNumber, IsTypeOf, IsProtoEntry, IsFieldRow, IsMethodRow, AreTables}
 use Rattle.dexpool.specs.declared.rows.ProtoEntry.{ProtoEntry}
 use Rattle.dexpool.specs.declared.tables.Tables.{Tables}
 use Rattle.dexpool.specs.declared.marks.Marks.{Marks}
-use Rattle.dexpool.specs.Tables.{text_of, type_of, span_of, proto_of, field_of, method_of}
-use Rattle.dexpool.specs.Numberings.{AreMarksOf, AllMapTo, marked}
-use Rattle.dexpool.specs.Stored.{symbols_in, IsTypeNumber, IsTypeOf, IsProtoEntry, IsFieldRow, IsMethodRow, AreTables}
 use Rattle.dexpool.specs.internal.Closing.{IsMarked, mark_all, field_types, entry_types, AreClosure, AreClosed, HasMarkedEntry, HasMarkedField, HasMarkedMethod, kept_symbols, kept_places}
 use Rattle.dexpool.proofs.KeptRows.{kept_all, kept-map, kept_rises, kept_maps, length-mark_all, mark_comes, mark_all-append}
 use Rattle.dexpool.proofs.ClosedMarks.{Same, kept_grown, named, named_flat, mentioned}

@@ -1,23 +1,11 @@
 -- The marked rows of tables, renumbered: tables of the marked symbols.
-use Rattle.std.proofs.Common.{◌≡◌, ℕ, ◌<◌, Bool, true, List, length, get_or, map, refl, sym, ap, ◌∙◌, subst, slice_index, Ordering}
-use Rattle.std.specs.List.{All}
-use Rattle.std.specs.Cmp.{IsTotalOrder}
-use Rattle.std.proofs.lemmas.List.Elements.{All-weaker}
-use Rattle.dexspec.specs.Lists.{rises}
-use Rattle.dexspec.specs.Texts.{text_cmp}
-use Rattle.dexspec.specs.Names.{IsDescriptor}
+use Rattle.dexpool.proofs.Common.{◌≡◌, ℕ, ◌<◌, Bool, true, List, length, get_or, map, refl, sym, ap, ◌∙◌, subst, slice_index, Ordering, All, IsTotalOrder, All-weaker, rises, text_cmp, IsDescriptor, Rises-from_rises, rises-from_Rises, text_total, row_cmp, AreSorted}
 use Rattle.dexspec.specs.Symbols as symbols
-use Rattle.dexspec.proofs.lists.InOrder.{Rises-from_rises, rises-from_Rises}
-use Rattle.dexspec.proofs.merge.SymbolOrders.{text_total}
-use Rattle.dexpool.specs.Cut.{kept}
-use Rattle.dexrows.specs.Join.{row_cmp, AreSorted}
+use Rattle.dexpool.specs.{kept, text_of, field_of, method_of, type_cmp, proto_cmp, field_cmp, method_cmp, AreMarksOf, symbols_in, stored_proto, stored_field, stored_method, IsProtoEntry, AreTables}
 use Rattle.dexpool.specs.declared.tables.Tables.{Tables}
 use Rattle.dexpool.specs.declared.marks.Marks.{Marks}
-use Rattle.dexpool.specs.Tables.{text_of, field_of, method_of, type_cmp, proto_cmp, field_cmp, method_cmp}
-use Rattle.dexpool.specs.Numberings.{AreMarksOf}
 use Rattle.dexpool.specs.internal.Renumbering.{numbers_of, IsFieldWithin, IsMethodWithin}
 use Rattle.dexpool.specs.internal.Joining.{Denote, proto_key, proto_of_row, IsRowOf}
-use Rattle.dexpool.specs.Stored.{symbols_in, stored_proto, stored_field, stored_method, IsProtoEntry, AreTables}
 use Rattle.dexpool.specs.internal.Closing.{new_numbers, IsCut, IsMarked, AreClosed, HasMarkedEntry, HasMarkedField, HasMarkedMethod, kept_symbols}
 use Rattle.dexpool.proofs.KeptRows.{is_marked, kept_all, kept-map, kept_rises, kept_keeps, length-new_numbers}
 use Rattle.dexpool.proofs.Moved.{Keeps, denote, text_kept, IsEntryAmong, IsFieldAmong, IsMethodAmong, protos_denote, fields_denote, methods_denote, entries_of}

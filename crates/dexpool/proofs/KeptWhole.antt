@@ -1,14 +1,8 @@
 -- Where every symbol is marked, a numbering is kept whole, and only there.
-use Rattle.std.proofs.Common.{◌≡◌, ◌↔◌, ◌≤◌, Bool, true, false, IsTrue, List, [], ◌∷◌, length, refl, sym, ap, ◌∙◌, arith}
-use Rattle.std.specs.List.{All}
-use Rattle.std.proofs.lemmas.Bool.{false≢true}
-use Rattle.std.proofs.lemmas.List.Elements.{All-nil, All-cons, All-head, All-tail}
-use Rattle.dexspec.specs.Mentions.{Mentions, closed}
-use Rattle.dexpool.specs.Cut.{kept}
+use Rattle.dexpool.proofs.Common.{◌≡◌, ◌↔◌, ◌≤◌, Bool, true, false, IsTrue, List, [], ◌∷◌, length, refl, sym, ap, ◌∙◌, arith, All, false≢true, All-nil, All-cons, All-head, All-tail, Mentions, closed}
+use Rattle.dexpool.specs.{kept, AreMarksOf, marked, symbols_in, AreTables}
 use Rattle.dexpool.specs.declared.tables.Tables.{Tables}
 use Rattle.dexpool.specs.declared.marks.Marks.{Marks}
-use Rattle.dexpool.specs.Numberings.{AreMarksOf, marked}
-use Rattle.dexpool.specs.Stored.{symbols_in, AreTables}
 use Rattle.dexpool.specs.internal.Closing.{AreClosure, kept_symbols}
 use Rattle.dexpool.specs.internal.Marking.{HaveAllMarks}
 use Rattle.dexpool.proofs.KeptSymbols.{closed_count, kept_mentioned}

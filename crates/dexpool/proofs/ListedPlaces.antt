@@ -1,9 +1,7 @@
 -- Where in a file the types of parameters are listed.
-use Rattle.std.proofs.Common.{◌≡◌, ◌≢◌, ℕ, ◌+◌, ◌-◌, ◌*◌, ◌/◌, List, [], length, sym, ap, ◌∙◌, subst, arith}
-use Rattle.dexspec.specs.Bytes.{uint_at, ushorts_at}
-use Rattle.dexspec.proofs.wellformed.FormedRows.{length-ushorts_at}
+use Rattle.dexpool.proofs.Common.{◌≡◌, ◌≢◌, ℕ, ◌+◌, ◌-◌, ◌*◌, ◌/◌, List, [], length, sym, ap, ◌∙◌, subst, arith, uint_at, ushorts_at, length-ushorts_at}
 use Rattle.dexpool.specs.declared.rows.Span.{Span}
-use Rattle.dexpool.specs.Reading.{HasSpan, HasRoom, IsPlaced, file_numbers, listed}
+use Rattle.dexpool.specs.{HasSpan, HasRoom, IsPlaced, file_numbers, listed}
 use Rattle.dexpool.proofs.TypeLists.{listed_is}
 use Rattle.dexpool.proofs.FileLists.{part_of_file}
 

@@ -1,13 +1,6 @@
 -- Images of each number are a map of numbers.
-use Rattle.std.proofs.Common.{◌≡◌, ℕ, ◌<◌, true, List, length, get_or, map, Option, Some, None, sym, ap, ◌∙◌, subst, arith, inl, inr, slice_index}
-use Rattle.std.specs.Cmp.{IsTotalOrder}
-use Rattle.std.specs.declared.cmp.Ordering.{Ordering}
-use Rattle.std.specs.declared.cmp.Ordering.TheVariants.{Less}
-use Rattle.std.proofs.lemmas.Bool.{cases_lt, cases_order}
-use Rattle.std.proofs.lemmas.List.{get_or-map, get_or_past, length-map}
-use Rattle.dexspec.specs.Lists.{rises}
-use Rattle.dexspec.proofs.lists.InOrder.{Rises-from_rises, Rises-places, irreflexive, asymmetric}
-use Rattle.dexpool.specs.Numberings.{IsAt, MapsTo, image}
+use Rattle.dexpool.proofs.Common.{◌≡◌, ℕ, ◌<◌, true, List, length, get_or, map, Option, Some, None, sym, ap, ◌∙◌, subst, arith, inl, inr, slice_index, IsTotalOrder, Ordering, Less, cases_lt, cases_order, get_or-map, get_or_past, length-map, rises, Rises-from_rises, Rises-places, irreflexive, asymmetric}
+use Rattle.dexpool.specs.{IsAt, MapsTo, image}
 use Rattle.dexpool.specs.internal.Joining.{Moves}
 use Rattle.dexpool.proofs.Unions.{some}
 

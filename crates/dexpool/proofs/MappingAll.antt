@@ -1,23 +1,8 @@
 -- In a union each number of a part has an image; and where each number has one, the symbols that occur have.
-use Rattle.std.proofs.Common.{◌≡◌, ℕ, ◌<◌, List, [], ◌∷◌, length, get_or, Option, Some, None, IsSome, refl, subst}
-use Rattle.std.specs.List.{All, AllZip, Contains, flat_map}
-use Rattle.std.specs.Cmp.{IsTotalOrder}
-use Rattle.std.specs.FinMap.{IsAntisymmetric}
-use Rattle.std.specs.declared.cmp.Ordering.{Ordering}
-use Rattle.std.proofs.lemmas.List.Elements.{All-nil, All-cons, Contains-get_or}
-use Rattle.dexspec.specs.Lists.{in_order}
-use Rattle.dexspec.specs.Texts.{text_cmp}
-use Rattle.dexspec.specs.Symbols.{Symbol, TextSymbol, TypeSymbol, ProtoSymbol, FieldSymbol, MethodSymbol, proto_cmp, field_cmp, method_cmp}
-use Rattle.dexspec.specs.Mentions.{Mentions}
-use Rattle.dexspec.proofs.lists.Members.{Contains-first, Contains-later, Contains-flat_map}
-use Rattle.dexspec.proofs.merge.SymbolOrders.{text_total, text_exact, proto_total, proto_exact, field_total, field_exact, method_total, method_exact}
-use Rattle.dexspec.proofs.lists.InOrder.{in_order-has}
+use Rattle.dexpool.proofs.Common.{◌≡◌, ℕ, ◌<◌, List, [], ◌∷◌, length, get_or, Option, Some, None, IsSome, refl, subst, All, AllZip, Contains, flat_map, IsTotalOrder, IsAntisymmetric, Ordering, All-nil, All-cons, Contains-get_or, in_order, text_cmp, Symbol, TextSymbol, TypeSymbol, ProtoSymbol, FieldSymbol, MethodSymbol, proto_cmp, field_cmp, method_cmp, Mentions, Contains-first, Contains-later, Contains-flat_map, text_total, text_exact, proto_total, proto_exact, field_total, field_exact, method_total, method_exact, in_order-has}
 use Rattle.dexpool.specs.declared.symbols.SymbolKind.{SymbolKind}
 use Rattle.dexpool.specs.declared.symbols.SymbolKind.TheVariants as kinds
-use Rattle.dexpool.specs.Numberings.{Maps, image, MapsTo, AllMapTo, IsNumbered, IsOfKind, union_of}
-use Rattle.dexpool.specs.Pools.{count_of}
-use Rattle.dexpool.specs.Uses.{Use, IsUseOf, IsMappedUse}
-use Rattle.dexpool.specs.Laws.{MapsAll}
+use Rattle.dexpool.specs.{Maps, image, MapsTo, AllMapTo, IsNumbered, IsOfKind, union_of, count_of, Use, IsUseOf, IsMappedUse, MapsAll}
 use Rattle.dexpool.proofs.Unions.{some}
 
 -- there is a value, or there is none

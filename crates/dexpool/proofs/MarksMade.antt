@@ -1,11 +1,8 @@
 -- Marks that are made one by one.
-use Rattle.std.proofs.Common.{ℕ, ◌+◌, ◌<◌, List, [], ◌∷◌, length, take, map, get_or, sym, subst}
-use Rattle.std.specs.List.{All}
-use Rattle.std.proofs.lemmas.List.{length-map, map_more}
-use Rattle.std.proofs.lemmas.List.Elements.{All-get_or}
+use Rattle.dexpool.proofs.Common.{ℕ, ◌+◌, ◌<◌, List, [], ◌∷◌, length, take, map, get_or, sym, subst, All, length-map, map_more, All-get_or}
 use Rattle.std.proofs.Math.ListN.{get_or-map}
 use Rattle.dexpool.specs.declared.marks.Marks.{Marks}
-use Rattle.dexpool.specs.Uses.{Use, HasMark, AreMarkedToo}
+use Rattle.dexpool.specs.{Use, HasMark, AreMarkedToo}
 use Rattle.dexpool.proofs.Visits.{marked_both, still_marked}
 
 -- one mark more

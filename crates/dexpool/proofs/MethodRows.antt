@@ -1,17 +1,8 @@
 -- Rows of methods.
-use Rattle.std.proofs.Common.{◌≡◌, ℕ, ◌<◌, ◌≤◌, List, [], ◌∷◌, length, sym, subst, arith}
-use Rattle.dexspec.specs.Texts.{Text}
-use Rattle.dexspec.specs.Names.{IsReferenceType, IsMemberName}
-use Rattle.dexspec.specs.Symbols.{Method}
-use Rattle.dexspec.specs.Header.{MethodIds, table_size}
+use Rattle.dexpool.proofs.Common.{◌≡◌, ℕ, ◌<◌, ◌≤◌, List, [], ◌∷◌, length, sym, subst, arith, Text, IsReferenceType, IsMemberName, Method, MethodIds, table_size, StringRow, TypeRow, HasMethod, method_row_key, one_string, one_type, MethodRow, Condition}
 use Rattle.dexspec.specs.Rows as rows
-use Rattle.dexspec.specs.Rows.{StringRow, TypeRow, HasMethod, method_row_key}
-use Rattle.dexspec.proofs.determined.OneRow.{one_string, one_type}
 use Rattle.dexpool.specs.declared.rows.ProtoEntry.{ProtoEntry}
-use Rattle.dexrows.specs.declared.methods.MethodRow.{MethodRow}
-use Rattle.dexpool.specs.Tables.{method_of, method_key, method_cmp}
-use Rattle.dexpool.specs.Reading.{IsText, IsType, AreProtos, MethodRowAt, HasMethodNumbers, AreMethodNames}
-use Rattle.dexspec.specs.Conditions.{Condition}
+use Rattle.dexpool.specs.{method_of, method_key, method_cmp, IsText, IsType, AreProtos, MethodRowAt, HasMethodNumbers, AreMethodNames}
 use Rattle.dexpool.specs.internal.ReadRows.{DecidesNext}
 use Rattle.dexpool.proofs.Steps.{decided}
 

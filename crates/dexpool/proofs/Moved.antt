@@ -1,23 +1,11 @@
 -- Rows whose numbers are replaced denote the same symbols as before, in joins and in cuts.
-use Rattle.std.proofs.Common.{◌≡◌, ℕ, ◌<◌, Bool, true, List, [], length, get_or, map, sym, ◌∙◌, arith, slice_index, slice_index_or, nat_lt, lt-ltb, ltb-true}
-use Rattle.std.specs.List.{All}
-use Rattle.std.proofs.lemmas.List.{get_or-map, length-map}
-use Rattle.std.proofs.lemmas.List.Elements.{All-map, All-weaker}
-use Rattle.dexspec.specs.Texts.{Text}
-use Rattle.dexspec.specs.Names.{shorty}
-use Rattle.dexrows.specs.Numbers.{Among, ProtoNumbers}
+use Rattle.dexpool.proofs.Common.{◌≡◌, ℕ, ◌<◌, Bool, true, List, [], length, get_or, map, sym, ◌∙◌, arith, slice_index, slice_index_or, nat_lt, lt-ltb, ltb-true, All, get_or-map, length-map, All-map, All-weaker, Text, shorty, Among, ProtoNumbers, FieldRow, MethodRow, all_seen}
 use Rattle.dexrows.specs.declared.types.TypeRow.{TypeRow}
-use Rattle.dexrows.specs.declared.fields.FieldRow.{FieldRow}
-use Rattle.dexrows.specs.declared.methods.MethodRow.{MethodRow}
-use Rattle.dexrows.proofs.Composing.{all_seen}
 use Rattle.dexpool.specs.declared.rows.ProtoEntry.{ProtoEntry}
 use Rattle.dexpool.specs.declared.tables.Tables.{Tables}
-use Rattle.dexpool.specs.Tables.{text_of, type_of, span_of, proto_of, field_of, method_of}
-use Rattle.dexpool.specs.Numberings.{IsAt}
-use Rattle.dexpool.specs.Reading.{HasSpan}
+use Rattle.dexpool.specs.{text_of, type_of, span_of, proto_of, field_of, method_of, IsAt, HasSpan, symbols_in, AreTables, stored_proto, stored_field, stored_method}
 use Rattle.dexpool.specs.internal.Renumbering.{numbers_of, moved_type, moved_proto, moved_field, moved_method, IsEntryWithin, IsFieldWithin, IsMethodWithin}
 use Rattle.dexpool.specs.internal.Joining.{Moves, Denote, HasShorty, proto_of_row, IsRowOf}
-use Rattle.dexpool.specs.Stored.{symbols_in, AreTables, stored_proto, stored_field, stored_method}
 use Rattle.dexpool.proofs.Pairs.{map_both}
 use Rattle.dexpool.proofs.TablesAreAt.{types_in, protos_in, fields_in, methods_in}
 

@@ -1,25 +1,9 @@
 -- Numbers of rows are in the order of the symbols that the rows denote.
-use Rattle.std.proofs.Common.{◌≡◌, ℕ, ◌<◌, ◌&&◌, true, List, [], ◌∷◌, length, get_or, refl, sym, ap, ◌∙◌, inl, inr}
-use Rattle.std.specs.Prelude.{map, All}
-use Rattle.std.specs.Ordering.{is_lt, nat_cmp, ordering_then, ordering_reverse}
-use Rattle.std.specs.Cmp.{IsTotalOrder, nat_cmp_is}
-use Rattle.std.specs.Cmp.Lexicographic.{slice_cmp}
-use Rattle.std.specs.declared.cmp.Ordering.{Ordering}
-use Rattle.std.specs.declared.cmp.Ordering.TheVariants.{Less, Equal, Greater}
-use Rattle.std.proofs.lemmas.Bool.{cases_order}
-use Rattle.std.proofs.lemmas.Cmp.{tied_itself, on_total, nat_list_cmp_total}
-use Rattle.std.proofs.lemmas.List.{get_or_default}
-use Rattle.std.proofs.lemmas.List.Elements.{All-head, All-tail}
-use Rattle.dexspec.specs.Lists.{rises}
-use Rattle.dexspec.specs.Texts.{Text, text_cmp}
+use Rattle.dexpool.proofs.Common.{◌≡◌, ℕ, ◌<◌, ◌&&◌, true, List, [], ◌∷◌, length, get_or, refl, sym, ap, ◌∙◌, inl, inr, map, All, is_lt, nat_cmp, ordering_then, ordering_reverse, IsTotalOrder, nat_cmp_is, slice_cmp, Ordering, Less, Equal, Greater, cases_order, tied_itself, on_total, nat_list_cmp_total, get_or_default, All-head, All-tail, rises, Text, text_cmp, Rises-from_rises, Rises-places, text_total, FieldRow, MethodRow}
 use Rattle.dexspec.specs.Symbols as symbols
-use Rattle.dexspec.proofs.lists.InOrder.{Rises-from_rises, Rises-places}
-use Rattle.dexspec.proofs.merge.SymbolOrders.{text_total}
-use Rattle.dexrows.specs.declared.fields.FieldRow.{FieldRow}
-use Rattle.dexrows.specs.declared.methods.MethodRow.{MethodRow}
 use Rattle.dexpool.specs.declared.rows.ProtoEntry.{ProtoEntry}
 use Rattle.dexpool.specs.internal.Renumbering.{IsEntryWithin, IsFieldWithin, IsMethodWithin}
-use Rattle.dexpool.specs.Tables.{text_of, type_of, span_of, proto_of, field_of, proto_at, method_of, proto_key, field_key, method_key, type_cmp, proto_cmp, field_cmp, method_cmp}
+use Rattle.dexpool.specs.{text_of, type_of, span_of, proto_of, field_of, proto_at, method_of, proto_key, field_key, method_key, type_cmp, proto_cmp, field_cmp, method_cmp}
 
 -- ---- any list
 

@@ -1,9 +1,5 @@
 -- Two lists whose members belong together, one by one.
-use Rattle.std.proofs.Common.{◌≡◌, ℕ, zero, suc, ◌+◌, ◌<◌, ◌≤◌, List, [], ◌∷◌, ◌++◌, length, get_or, take, map, refl, sym, ap, ◌∙◌, subst, arith, inl, inr}
-use Rattle.std.specs.List.{AllZip, Contains, All}
-use Rattle.std.proofs.lemmas.List.{get_or-map, length-map, map-append, map_more, take_more, take_all}
-use Rattle.std.proofs.lemmas.List.Elements.{All-head, All-tail, All-map, All-push}
-use Rattle.dexspec.proofs.lists.Members.{Contains-nil, Contains-first, Contains-later, Contains-cons_cases}
+use Rattle.dexpool.proofs.Common.{◌≡◌, ℕ, zero, suc, ◌+◌, ◌<◌, ◌≤◌, List, [], ◌∷◌, ◌++◌, length, get_or, take, map, refl, sym, ap, ◌∙◌, subst, arith, inl, inr, AllZip, Contains, All, get_or-map, length-map, map-append, map_more, take_more, take_all, All-head, All-tail, All-map, All-push, Contains-nil, Contains-first, Contains-later, Contains-cons_cases}
 
 module _ {A B : Type 0} (R : A → B → Type 0) where
   -- a member of the second belongs to one of the first

@@ -1,7 +1,5 @@
 -- What holds of all members of joined lists.
-use Rattle.std.proofs.Common.{List, [], ◌∷◌, ◌++◌, map}
-use Rattle.std.specs.List.{All, flat_map}
-use Rattle.std.proofs.lemmas.List.Elements.{All-nil, All-cons, All-head, All-tail, All-map, All-weaker}
+use Rattle.dexpool.proofs.Common.{List, [], ◌∷◌, ◌++◌, map, All, flat_map, All-nil, All-cons, All-head, All-tail, All-map, All-weaker}
 
 pub all_prefix : {X : Type 0} (P : X → Type 0) (xs ys : List X) → All P (xs ++ ys) → All P xs
 all_prefix P [] ys h = All-nil P

@@ -1,19 +1,8 @@
 -- Rows of protos.
-use Rattle.std.proofs.Common.{◌≡◌, ℕ, zero, suc, ◌<◌, List, [], ◌∷◌, length, get_or, sym, ap, ◌∙◌, subst, arith, inl, inr}
-use Rattle.std.specs.Prelude.{map, All}
-use Rattle.std.specs.List.{AllZip}
-use Rattle.dexspec.specs.Texts.{Text}
-use Rattle.dexspec.specs.Names.{IsValueType, shorty, shorty_letter}
-use Rattle.dexspec.specs.Lists.{OrNone}
-use Rattle.dexspec.specs.Symbols.{Proto}
-use Rattle.dexspec.specs.Header.{ProtoIds, table_size}
+use Rattle.dexpool.proofs.Common.{◌≡◌, ℕ, zero, suc, ◌<◌, List, [], ◌∷◌, length, get_or, sym, ap, ◌∙◌, subst, arith, inl, inr, map, All, AllZip, Text, IsValueType, shorty, shorty_letter, OrNone, Proto, ProtoIds, table_size, row_at, StringRow, TypeRow, TypeListAt, type_indices, HasProto, proto_row_key, one_string, one_type, Condition}
 use Rattle.dexspec.specs.Rows as rows
-use Rattle.dexspec.specs.Rows.{row_at, StringRow, TypeRow, TypeListAt, type_indices, HasProto, proto_row_key}
-use Rattle.dexspec.proofs.determined.OneRow.{one_string, one_type}
 use Rattle.dexpool.specs.declared.rows.ProtoEntry.{ProtoEntry}
-use Rattle.dexpool.specs.Tables.{type_of, span_of, proto_of, proto_key, proto_cmp}
-use Rattle.dexpool.specs.Reading.{IsText, IsType, HasIndices, ProtoRowAt, IsListed, AllTypes, listed, file_numbers}
-use Rattle.dexspec.specs.Conditions.{Condition}
+use Rattle.dexpool.specs.{type_of, span_of, proto_of, proto_key, proto_cmp, IsText, IsType, HasIndices, ProtoRowAt, IsListed, AllTypes, listed, file_numbers}
 use Rattle.dexpool.specs.internal.ReadRows.{DecidesNext}
 use Rattle.dexpool.proofs.Steps.{decided}
 use Rattle.dexpool.proofs.TypeLists.{listed_is}

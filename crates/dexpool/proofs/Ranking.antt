@@ -1,16 +1,8 @@
 -- A rank found by halving: of numbers that pass a test and come first, the count is the rank.
-use Rattle.std.proofs.Common.{◌≡◌, ℕ, zero, suc, ◌+◌, ◌<◌, ◌≤◌, true, false, List, [], ◌∷◌, length, get_or, map, drop, min, add-one, refl, sym, ap, ◌∙◌, subst, arith, inl, inr, Ordering, Less, Equal, Greater}
-use Rattle.std.specs.Ordering.{is_lt, nat_cmp, ordering_then}
-use Rattle.std.specs.Cmp.Lexicographic.{slice_cmp}
+use Rattle.dexpool.proofs.Common.{◌≡◌, ℕ, zero, suc, ◌+◌, ◌<◌, ◌≤◌, true, false, List, [], ◌∷◌, length, get_or, map, drop, min, add-one, refl, sym, ap, ◌∙◌, subst, arith, inl, inr, Ordering, Less, Equal, Greater, is_lt, nat_cmp, ordering_then, slice_cmp, IsTotalOrder, nat_cmp_is, cases_order, All, AllZip, All-nil, All-cons, rises, rank, less_is, rank-cons, Rises-from_rises, Rises-places}
 use Rattle.std.proofs.Math.Seq.{drop-cons}
-use Rattle.std.specs.Cmp.{IsTotalOrder, nat_cmp_is}
-use Rattle.std.proofs.lemmas.Bool.{cases_order}
-use Rattle.std.specs.List.{All, AllZip}
-use Rattle.std.proofs.lemmas.List.Elements.{All-nil, All-cons}
-use Rattle.dexspec.specs.Lists.{rises, rank}
-use Rattle.dexspec.proofs.lists.InOrder.{less_is, rank-cons, Rises-from_rises, Rises-places}
 use Rattle.dexpool.specs.internal.Ranking.{ComeFirst, PassBelow}
-use Rattle.dexpool.specs.Numberings.{IsAt}
+use Rattle.dexpool.specs.{IsAt}
 
 -- ---- the rank
 

@@ -1,25 +1,8 @@
 -- Tables that are read rise, and their rows are in range.
-use Rattle.std.proofs.Common.{◌≡◌, ℕ, suc, ◌+◌, ◌<◌, true, List, [], ◌∷◌, length, get_or, refl, sym, ap, ◌∙◌, subst, arith}
-use Rattle.std.specs.Prelude.{map, All}
-use Rattle.std.specs.Ordering.{is_lt}
-use Rattle.std.specs.declared.cmp.Ordering.{Ordering}
-use Rattle.std.specs.declared.cmp.Ordering.TheVariants.{Less}
-use Rattle.std.proofs.lemmas.List.{get_or-map, length-map}
-use Rattle.dexspec.specs.Lists.{rises, OrNone}
-use Rattle.dexspec.specs.Texts.{Text, text_cmp}
-use Rattle.dexspec.specs.Names.{IsValueType}
-use Rattle.dexspec.specs.Bytes.{uint_at}
-use Rattle.dexspec.specs.Header.{ProtoIds}
-use Rattle.dexspec.specs.Rows.{key_cmp, row_at, Follows, TypeListAt, type_row_key, proto_row_key, field_row_key, method_row_key, HasType, HasProto, HasField, HasMethod}
-use Rattle.dexspec.proofs.lists.Members.{and_both}
-use Rattle.dexspec.proofs.determined.OneRow.{one_string}
-use Rattle.dexrows.specs.declared.fields.FieldRow.{FieldRow}
-use Rattle.dexrows.specs.declared.methods.MethodRow.{MethodRow}
+use Rattle.dexpool.proofs.Common.{◌≡◌, ℕ, suc, ◌+◌, ◌<◌, true, List, [], ◌∷◌, length, get_or, refl, sym, ap, ◌∙◌, subst, arith, map, All, is_lt, Ordering, Less, get_or-map, length-map, rises, OrNone, Text, text_cmp, IsValueType, uint_at, ProtoIds, key_cmp, row_at, Follows, TypeListAt, type_row_key, proto_row_key, field_row_key, method_row_key, HasType, HasProto, HasField, HasMethod, and_both, one_string, FieldRow, MethodRow}
 use Rattle.dexpool.specs.declared.rows.ProtoEntry.{ProtoEntry}
 use Rattle.dexpool.specs.declared.tables.Tables.{Tables}
-use Rattle.dexpool.specs.Tables.{type_of, span_of, proto_key, field_key, method_key}
-use Rattle.dexpool.specs.Reading.{ReadTo, AreTexts, AreNames, AreProtos, TypeRowAt, ProtoRowAt, FieldRowAt, MethodRowAt, listed}
-use Rattle.dexpool.specs.Stored.{IsTypeNumber, IsTypeOf, IsProtoEntry, IsFieldRow, IsMethodRow, AreTables}
+use Rattle.dexpool.specs.{type_of, span_of, proto_key, field_key, method_key, ReadTo, AreTexts, AreNames, AreProtos, TypeRowAt, ProtoRowAt, FieldRowAt, MethodRowAt, listed, IsTypeNumber, IsTypeOf, IsProtoEntry, IsFieldRow, IsMethodRow, AreTables}
 use Rattle.dexpool.proofs.AllPools.{AreRead}
 use Rattle.dexpool.proofs.Steps.{text_row, type_key_is}
 use Rattle.dexpool.proofs.ProtoRows.{all_types, proto_key_is}

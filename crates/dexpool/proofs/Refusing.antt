@@ -1,9 +1,6 @@
 -- Which condition fails first.
-use Rattle.std.proofs.Common.{◌≡◌, ℕ, ◌+◌, ◌-◌, ◌<◌, List, [], ◌∷◌, get_or, refl, sym, ap, ◌∙◌, subst, arith, inl, inr, rules}
-use Rattle.std.proofs.lemmas.Bool.{cases_lt}
-use Rattle.dexspec.specs.Conditions.{Condition}
-use Rattle.dexspec.specs.Accepted.{number, rows_checked, Holds, HoldsThroughout, HoldBelow}
-use Rattle.dexpool.specs.Faults.{IsPoolRefusal}
+use Rattle.dexpool.proofs.Common.{◌≡◌, ℕ, ◌+◌, ◌-◌, ◌<◌, List, [], ◌∷◌, get_or, refl, sym, ap, ◌∙◌, subst, arith, inl, inr, rules, cases_lt, Condition, number, rows_checked, Holds, HoldsThroughout, HoldBelow}
+use Rattle.dexpool.specs.{IsPoolRefusal}
 use Rattle.dexpool.specs.internal.ReadRows.{IsOfPools}
 
 -- the conditions in the order of their numbers

@@ -1,28 +1,15 @@
 -- Rows whose numbers are replaced in their order stay sorted: what the law of rows says of each kind, in joins and in
 -- cuts.
-use Rattle.std.proofs.Common.{◌≡◌, ℕ, Bool, true, false, List, [], ◌∷◌, length, get_or, map, Option, Some, None, refl, sym, ap, ◌∙◌, subst, arith, ltb-true, slice_index}
-use Rattle.std.specs.List.{All}
-use Rattle.std.specs.Cmp.{IsTotalOrder}
-use Rattle.std.specs.declared.cmp.Ordering.{Ordering}
-use Rattle.std.proofs.lemmas.List.{get_or-map}
-use Rattle.std.proofs.lemmas.List.Elements.{All-map, All-weaker}
-use Rattle.dexspec.specs.Lists.{rises}
-use Rattle.dexspec.specs.Texts.{Text, text_cmp}
+use Rattle.dexpool.proofs.Common.{◌≡◌, ℕ, Bool, true, false, List, [], ◌∷◌, length, get_or, map, Option, Some, None, refl, sym, ap, ◌∙◌, subst, arith, ltb-true, slice_index, All, IsTotalOrder, Ordering, get_or-map, All-map, All-weaker, rises, Text, text_cmp, text_total, proto_total, row_cmp, AreSorted, Among, Lower, RisesOn, RiseAmong, ProtoNumbers, FieldRow, MethodRow}
 use Rattle.dexspec.specs.Symbols as symbols
-use Rattle.dexspec.proofs.merge.SymbolOrders.{text_total, proto_total}
-use Rattle.dexrows.specs.Join.{row_cmp, AreSorted}
-use Rattle.dexrows.specs.Numbers.{Among, Lower, RisesOn, RiseAmong, ProtoNumbers}
 use Rattle.dexrows.specs.declared.types.TypeRow.{TypeRow}
-use Rattle.dexrows.specs.declared.fields.FieldRow.{FieldRow}
-use Rattle.dexrows.specs.declared.methods.MethodRow.{MethodRow}
 use Rattle.dexpool.proofs.KeptPlaces.{marked_has}
 use Rattle.dexpool.specs.declared.rows.ProtoEntry.{ProtoEntry}
 use Rattle.dexpool.specs.declared.tables.Tables.{Tables}
 use Rattle.dexpool.specs.declared.marks.Marks.{Marks}
-use Rattle.dexpool.specs.Tables.{text_of, proto_of, span_of, type_cmp, proto_cmp, field_key, method_key}
+use Rattle.dexpool.specs.{text_of, proto_of, span_of, type_cmp, proto_cmp, field_key, method_key, symbols_in, AreTables}
 use Rattle.dexpool.specs.internal.Renumbering.{StaySorted, numbers_of, moved_type, moved_proto, moved_field, moved_method}
 use Rattle.dexpool.specs.internal.Joining.{Moves, proto_key}
-use Rattle.dexpool.specs.Stored.{symbols_in, AreTables}
 use Rattle.dexpool.specs.internal.Closing.{new_numbers}
 use Rattle.dexpool.proofs.KeptRows.{is_marked, mark_within, new_number, places_keep}
 use Rattle.dexpool.proofs.Mapping.{maps_to}

@@ -1,17 +1,8 @@
 -- The numbers of a row are those of its symbol's parts.
-use Rattle.std.proofs.Common.{◌≡◌, ℕ, ◌<◌, List, [], ◌∷◌, length, get_or, sym, ap, ◌∙◌, subst, arith}
-use Rattle.std.specs.Prelude.{map, All}
-use Rattle.std.specs.List.{AllZip}
-use Rattle.std.proofs.lemmas.List.{get_or-map, get_or_default, length-map}
-use Rattle.std.proofs.lemmas.List.Elements.{All-head, All-tail}
-use Rattle.dexspec.specs.Names.{IsValueType}
-use Rattle.dexspec.specs.Symbols.{Proto}
-use Rattle.dexrows.specs.Numbers.{ProtoNumbers}
+use Rattle.dexpool.proofs.Common.{◌≡◌, ℕ, ◌<◌, List, [], ◌∷◌, length, get_or, sym, ap, ◌∙◌, subst, arith, map, All, AllZip, get_or-map, get_or_default, length-map, All-head, All-tail, IsValueType, Proto, ProtoNumbers}
 use Rattle.dexpool.specs.declared.rows.ProtoEntry.{ProtoEntry}
 use Rattle.dexpool.specs.declared.tables.Tables.{Tables}
-use Rattle.dexpool.specs.Tables.{text_of, type_of, span_of, proto_of}
-use Rattle.dexpool.specs.Stored.{symbols_in, IsTypeOf, IsProtoEntry, AreTables}
-use Rattle.dexpool.specs.Numberings.{IsAt, DenotesProto}
+use Rattle.dexpool.specs.{text_of, type_of, span_of, proto_of, symbols_in, IsTypeOf, IsProtoEntry, AreTables, IsAt, DenotesProto}
 
 module _ (t : Tables) (h : AreTables t) where
   pub text_at : (n : ℕ) → n < length t.strings.items → IsAt t.strings.items n (text_of t.strings.items n)

@@ -1,12 +1,7 @@
 -- Tables of the same rows denote the same.
-use Rattle.std.proofs.Common.{◌≡◌, subst}
-use Rattle.std.specs.Prelude.{All}
-use Rattle.dexspec.specs.Names.{IsDescriptor}
-use Rattle.dexspec.specs.Symbols.{IsProto, IsField, IsMethod}
-use Rattle.dexspec.specs.Mentions.{Mentions}
+use Rattle.dexpool.proofs.Common.{◌≡◌, subst, All, IsDescriptor, IsProto, IsField, IsMethod, Mentions}
 use Rattle.dexpool.specs.declared.tables.Tables.{Tables}
-use Rattle.dexpool.specs.Pools.{symbols_of}
-use Rattle.dexpool.specs.Stored.{symbols_in, AreTables}
+use Rattle.dexpool.specs.{symbols_of, symbols_in, AreTables}
 use Rattle.dexpool.proofs.TablesAreAt.{types_in, protos_in, fields_in, methods_in, are_numbering, tables_made}
 
 -- the tables have the same rows

@@ -1,12 +1,8 @@
 -- Parts of lists of parameters that have the numbers of other parts, and their images.
-use Rattle.std.proofs.Common.{◌≡◌, ℕ, ◌+◌, ◌-◌, ◌<◌, List, [], ◌∷◌, ◌++◌, length, get_or, map, take, drop, sym, ap, ◌∙◌, subst, arith, slice_index}
-use Rattle.std.specs.List.{All}
-use Rattle.std.proofs.lemmas.List.{length-map, length-take, length-drop, take-map, drop-map, drop-drop, drop-take, take-take, map_more, map-append}
-use Rattle.std.proofs.lemmas.List.Elements.{All-weaker, All-push, All-more}
+use Rattle.dexpool.proofs.Common.{◌≡◌, ℕ, ◌+◌, ◌-◌, ◌<◌, List, [], ◌∷◌, ◌++◌, length, get_or, map, take, drop, sym, ap, ◌∙◌, subst, arith, slice_index, All, length-map, length-take, length-drop, take-map, drop-map, drop-drop, drop-take, take-take, map_more, map-append, All-weaker, All-push, All-more}
 use Rattle.dexpool.specs.declared.rows.Span.{Span}
 use Rattle.dexpool.specs.declared.rows.ProtoEntry.{ProtoEntry}
-use Rattle.dexpool.specs.Tables.{span_of}
-use Rattle.dexpool.specs.Reading.{HasSpan}
+use Rattle.dexpool.specs.{span_of, HasSpan}
 use Rattle.dexpool.specs.internal.Renumbering.{numbers_of, moved_proto}
 use Rattle.dexpool.specs.internal.SharedLists.{Covers, IsPlaceWithin}
 

@@ -1,20 +1,8 @@
 -- Lists of types whose letters a text spells.
-use Rattle.std.proofs.Common.{◌≡◌, ◌≢◌, ℕ, ◌<◌, List, [], ◌∷◌, length, get_or, refl, sym, ap, ◌∙◌, subst, arith, inl, inr}
-use Rattle.std.specs.Prelude.{map, All}
-use Rattle.std.specs.List.{AllZip}
-use Rattle.std.proofs.lemmas.Bool.{cases_lt, cases_eq}
-use Rattle.std.proofs.lemmas.List.{get_or-map, get_or_past, length-map}
-use Rattle.std.proofs.lemmas.List.Elements.{All-nil, All-cons, All-head, All-tail}
-use Rattle.dexspec.specs.Texts.{Text}
-use Rattle.dexspec.specs.Names.{IsValueType, shorty_letter}
-use Rattle.dexspec.specs.Lists.{OrNone}
-use Rattle.dexspec.specs.Rows.{TypeRow, TypeListAt}
-use Rattle.dexspec.proofs.determined.OneRow.{one_type}
-use Rattle.dexstr.specs.Units.{IsAscii}
+use Rattle.dexpool.proofs.Common.{◌≡◌, ◌≢◌, ℕ, ◌<◌, List, [], ◌∷◌, length, get_or, refl, sym, ap, ◌∙◌, subst, arith, inl, inr, map, All, AllZip, cases_lt, cases_eq, get_or-map, get_or_past, length-map, All-nil, All-cons, All-head, All-tail, Text, IsValueType, shorty_letter, OrNone, TypeRow, TypeListAt, one_type, IsAscii}
 use Rattle.dexpool.specs.declared.rows.Span.{Span}
 use Rattle.dexpool.specs.declared.checked_lists.CheckedList.{CheckedList}
-use Rattle.dexpool.specs.Tables.{text_of, type_of, span_of}
-use Rattle.dexpool.specs.Reading.{AreNames, IsParameter, IsPlaced, file_numbers, listed, letters_of}
+use Rattle.dexpool.specs.{text_of, type_of, span_of, AreNames, IsParameter, IsPlaced, file_numbers, listed, letters_of}
 use Rattle.dexpool.specs.internal.CheckedLists.{AreLetters, letter_in, letters_in, NoVoid, IsSpelled, IsChecked, NotListedAs}
 use Rattle.dexpool.proofs.FirstUnits.{letter_void, void_letter, letters_ascii}
 use Rattle.dexpool.proofs.TypeLists.{listed_is}

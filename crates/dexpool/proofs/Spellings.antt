@@ -1,14 +1,7 @@
 -- Units that are the letters of numbers, one number after the other.
-use Rattle.std.proofs.Common.{◌≡◌, ◌≢◌, ◌↔◌, ℕ, ◌+◌, ◌<◌, Bool, true, false, List, ◌∷◌, ◌-◌, ◌≤◌, not, length, get_or, take, drop, slice_index, ap, refl, subst, sym, ◌∙◌, arith}
-use Rattle.std.specs.Bool.{IsTrue}
-use Rattle.std.specs.List.{All}
-use Rattle.std.proofs.lemmas.Bool.{false≢true}
-use Rattle.std.proofs.lemmas.List.{drop_more, drop_all, take-map, drop-map, length-map}
-use Rattle.std.proofs.lemmas.List.Elements.{All-nil, All-cons, All-head, All-tail, All-map}
-use Rattle.dexrows.proofs.Composing.{all_seen}
+use Rattle.dexpool.proofs.Common.{◌≡◌, ◌≢◌, ◌↔◌, ℕ, ◌+◌, ◌<◌, Bool, true, false, List, ◌∷◌, ◌-◌, ◌≤◌, not, length, get_or, take, drop, slice_index, ap, refl, subst, sym, ◌∙◌, arith, IsTrue, All, false≢true, drop_more, drop_all, take-map, drop-map, length-map, All-nil, All-cons, All-head, All-tail, All-map, all_seen}
 use Rattle.dexpool.specs.declared.rows.Span.{Span}
-use Rattle.dexpool.specs.Tables.{span_of}
-use Rattle.dexpool.specs.Reading.{HasSpan}
+use Rattle.dexpool.specs.{span_of, HasSpan}
 use Rattle.dexpool.specs.internal.CheckedLists.{letter_in, letters_in, IsNotVoid, IsLetter, SpellNumbers, IsSpelled, IsShorty}
 
 module _ (letters : List ℕ) where

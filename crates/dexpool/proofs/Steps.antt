@@ -1,21 +1,6 @@
 -- One row more.
-use Rattle.std.proofs.Common.{◌≡◌, ℕ, zero, suc, ◌+◌, ◌-◌, ◌<◌, Bool, true, false, List, [], ◌∷◌, ◌++◌, length, get_or, refl, sym, ap, ◌∙◌, subst, arith, inl, inr}
-use Rattle.std.specs.Prelude.{Some, slice_get}
-use Rattle.std.specs.Ordering.{is_lt}
-use Rattle.std.specs.declared.cmp.Ordering.{Ordering}
-use Rattle.std.specs.declared.cmp.Ordering.TheVariants.{Less}
-use Rattle.std.proofs.lemmas.Bool.{cases_lt}
-use Rattle.std.proofs.lemmas.List.{length_push, get_or_append_left, get_or_push, get_or_default}
-use Rattle.dexspec.proofs.lists.InOrder.{less_is}
-use Rattle.dexspec.proofs.determined.OneRow.{one_string}
-use Rattle.dexspec.specs.Texts.{Text, text_cmp}
-use Rattle.dexspec.specs.Bytes.{uint_at}
-use Rattle.dexspec.specs.Names.{IsDescriptor}
-use Rattle.dexspec.specs.Header.{TypeIds, table_size}
-use Rattle.dexspec.specs.Rows.{key_cmp, row_at, type_row_key, HasRow, StringRow, TypeRow}
-use Rattle.dexspec.specs.Conditions.{Condition}
-use Rattle.dexpool.specs.Tables.{text_of, type_cmp}
-use Rattle.dexpool.specs.Reading.{ReadTo, is_above_last, AreTexts, TypeRowAt}
+use Rattle.dexpool.proofs.Common.{◌≡◌, ℕ, zero, suc, ◌+◌, ◌-◌, ◌<◌, Bool, true, false, List, [], ◌∷◌, ◌++◌, length, get_or, refl, sym, ap, ◌∙◌, subst, arith, inl, inr, Some, slice_get, is_lt, Ordering, Less, cases_lt, length_push, get_or_append_left, get_or_push, get_or_default, less_is, one_string, Text, text_cmp, uint_at, IsDescriptor, TypeIds, table_size, key_cmp, row_at, type_row_key, HasRow, StringRow, TypeRow, Condition}
+use Rattle.dexpool.specs.{text_of, type_cmp, ReadTo, is_above_last, AreTexts, TypeRowAt}
 use Rattle.dexpool.specs.internal.ReadRows.{DecidesNext}
 
 -- ---- the last row

@@ -1,7 +1,6 @@
 -- Images as they are stored.
-use Rattle.std.proofs.Common.{◌≡◌, ◌≢◌, ℕ, List, [], ◌∷◌, map, refl, ap, arith, inl, inr, Some}
-use Rattle.std.proofs.lemmas.Bool.{cases_order, ne_eqb}
-use Rattle.dexpool.specs.Packed.{image_in}
+use Rattle.dexpool.proofs.Common.{◌≡◌, ◌≢◌, ℕ, List, [], ◌∷◌, map, refl, ap, arith, inl, inr, Some, cases_order, ne_eqb}
+use Rattle.dexpool.specs.{image_in}
 use Rattle.dexpool.specs.internal.Closing.{number_or_none}
 
 -- a number that is not the greatest of 32 bits is its own image

@@ -1,12 +1,8 @@
 -- One entry more in a table of protos.
-use Rattle.std.proofs.Common.{◌≡◌, ℕ, ◌-◌, List, [], ◌∷◌, ◌++◌, length, map, take, drop, refl, ap, ◌∙◌, subst, sym, arith, drop_at}
-use Rattle.std.specs.List.{All}
-use Rattle.std.proofs.lemmas.List.{map-append, length-append, take_all, take-append-le, drop-append-le, length-drop}
-use Rattle.std.proofs.lemmas.List.Elements.{All-head, All-tail, All-weaker, All-push}
+use Rattle.dexpool.proofs.Common.{◌≡◌, ℕ, ◌-◌, List, [], ◌∷◌, ◌++◌, length, map, take, drop, refl, ap, ◌∙◌, subst, sym, arith, drop_at, All, map-append, length-append, take_all, take-append-le, drop-append-le, length-drop, All-head, All-tail, All-weaker, All-push}
 use Rattle.dexpool.specs.declared.rows.Span.{Span}
 use Rattle.dexpool.specs.declared.rows.ProtoEntry.{ProtoEntry}
-use Rattle.dexpool.specs.Tables.{span_of}
-use Rattle.dexpool.specs.Reading.{HasSpan}
+use Rattle.dexpool.specs.{span_of, HasSpan}
 use Rattle.dexpool.specs.internal.Renumbering.{numbers_of}
 
 -- ---- the shared list

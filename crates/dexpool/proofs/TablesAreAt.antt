@@ -1,26 +1,10 @@
 -- What tables whose rows are in range denote: the symbols of a numbering.
-use Rattle.std.proofs.Common.{◌≡◌, ℕ, ◌<◌, true, [], length, get_or, sym, ◌∙◌, subst, inl, inr}
-use Rattle.std.specs.Prelude.{map, All}
-use Rattle.std.specs.List.{Contains}
-use Rattle.std.specs.Ordering.{nat_cmp}
-use Rattle.std.proofs.lemmas.List.Elements.{All-weaker, All-map, All-contains, Contains-get_or}
-use Rattle.dexspec.specs.Lists.{rises}
-use Rattle.dexspec.specs.Texts.{text_cmp}
-use Rattle.dexspec.specs.Names.{IsDescriptor, IsValueType}
+use Rattle.dexpool.proofs.Common.{◌≡◌, ℕ, ◌<◌, true, [], length, get_or, sym, ◌∙◌, subst, inl, inr, map, All, Contains, nat_cmp, All-weaker, All-map, All-contains, Contains-get_or, rises, text_cmp, IsDescriptor, IsValueType, IsProto, IsField, IsMethod, Contains-cons_cases, Contains-map, Contains-map_source, FieldRow, MethodRow, all_seen}
 use Rattle.dexspec.specs.Symbols as symbols
-use Rattle.dexspec.specs.Symbols.{IsProto, IsField, IsMethod}
-use Rattle.dexspec.proofs.lists.Members.{Contains-cons_cases}
-use Rattle.dexspec.proofs.merge.Depths.{Contains-map}
-use Rattle.dexspec.proofs.lists.Mapped.{Contains-map_source}
-use Rattle.dexrows.specs.declared.fields.FieldRow.{FieldRow}
-use Rattle.dexrows.specs.declared.methods.MethodRow.{MethodRow}
 use Rattle.dexpool.specs.declared.rows.ProtoEntry.{ProtoEntry}
 use Rattle.dexpool.specs.declared.tables.Tables.{Tables}
-use Rattle.dexpool.specs.Tables.{text_of, type_of, span_of, proto_of, field_of, proto_at, method_of, type_cmp, proto_cmp, field_cmp, method_cmp}
-use Rattle.dexrows.proofs.Composing.{all_seen}
+use Rattle.dexpool.specs.{text_of, type_of, span_of, proto_of, field_of, proto_at, method_of, type_cmp, proto_cmp, field_cmp, method_cmp, symbols_in, stored_type, stored_proto, stored_field, stored_method, IsTypeNumber, IsTypeOf, IsProtoEntry, IsFieldRow, IsMethodRow, AreTables, HasProtoParts, HasFieldParts, HasMethodParts, AreRising, IsNumbering}
 use Rattle.dexpool.specs.internal.Joining.{HasShorty}
-use Rattle.dexpool.specs.Stored.{symbols_in, stored_type, stored_proto, stored_field, stored_method, IsTypeNumber, IsTypeOf, IsProtoEntry, IsFieldRow, IsMethodRow, AreTables}
-use Rattle.dexpool.specs.Numberings.{HasProtoParts, HasFieldParts, HasMethodParts, AreRising, IsNumbering}
 use Rattle.dexpool.proofs.NumberOrder as order
 use Rattle.dexpool.specs.internal.Renumbering.{IsEntryWithin, IsFieldWithin, IsMethodWithin}
 

@@ -1,26 +1,12 @@
 -- Ranks and counts in a union, numbers as ranks, and the union of what several lists of definitions mention.
-use Rattle.std.proofs.Common.{◌≡◌, ◌≤◌, true, List, length, map, sym, subst, arith, sum_by, Ordering}
-use Rattle.std.specs.List.{Contains, flat_map}
-use Rattle.std.specs.Cmp.{IsTotalOrder}
-use Rattle.std.specs.FinMap.{IsAntisymmetric}
+use Rattle.dexpool.proofs.Common.{◌≡◌, ◌≤◌, true, List, length, map, sym, subst, arith, sum_by, Ordering, Contains, flat_map, IsTotalOrder, IsAntisymmetric, rises, in_order, text_cmp, Symbol, proto_cmp, field_cmp, method_cmp, Mentions, mentions, texts_in, types_in, protos_in, fields_in, methods_in, Contains-flat_map, Contains-flat_map_source, length-among, Contains-map, Contains-map_source, text_total, text_exact, proto_total, proto_exact, field_total, field_exact, method_total, method_exact, Rises, Rises-from_rises, Rises-in_order, Rises-same, AreDistinct-from_Rises, in_order-has, in_order-only, rank-among, rank-get_or}
 use Rattle.std.proofs.lemmas.List.Concat.{length-flat_map}
-use Rattle.dexspec.specs.Lists.{rises, in_order}
-use Rattle.dexspec.specs.Texts.{text_cmp}
-use Rattle.dexspec.specs.Symbols.{Symbol, proto_cmp, field_cmp, method_cmp}
 use Rattle.dexspec.specs.Classes.{Definition}
-use Rattle.dexspec.specs.Mentions.{Mentions, mentions, texts_in, types_in, protos_in, fields_in, methods_in}
-use Rattle.dexspec.proofs.lists.Members.{Contains-flat_map, Contains-flat_map_source, length-among}
-use Rattle.dexspec.proofs.merge.Depths.{Contains-map}
-use Rattle.dexspec.proofs.lists.Mapped.{Contains-map_source}
-use Rattle.dexspec.proofs.merge.SymbolOrders.{text_total, text_exact, proto_total, proto_exact, field_total, field_exact, method_total, method_exact}
-use Rattle.dexspec.proofs.lists.InOrder.{Rises, Rises-from_rises, Rises-in_order, Rises-same, AreDistinct-from_Rises, in_order-has, in_order-only, rank-among, rank-get_or}
 use Rattle.dexspec.proofs.merge.Growth.{mentions-rising}
 use Rattle.dexspec.proofs.merge.MentionMembers.{Occurs, texts-listed, texts-source, types-listed, types-source, protos-listed, protos-source, fields-listed, fields-source, methods-listed, methods-source}
 use Rattle.dexpool.specs.declared.symbols.SymbolKind.{SymbolKind}
 use Rattle.dexpool.specs.declared.symbols.SymbolKind.TheVariants as kinds
-use Rattle.dexpool.specs.Pools.{count_of}
-use Rattle.dexpool.specs.Numberings.{AreRising, union_of}
-use Rattle.dexpool.specs.Laws.{RanksGrow, AllRanksGrow, RanksArePlaces, RanksAreNumbers}
+use Rattle.dexpool.specs.{count_of, AreRising, union_of, RanksGrow, AllRanksGrow, RanksArePlaces, RanksAreNumbers}
 
 module _ {K : Type 0} (R : K → K → Ordering) (o : IsTotalOrder R) where
   -- ---- numbers

@@ -1,20 +1,5 @@
 -- Sorted rows joined: what they denote is the union of what the parts' rows denote.
-use Rattle.std.proofs.Common.{◌≡◌, ℕ, ◌<◌, List, [], ◌∷◌, length, get_or, map, sym, ap, ◌∙◌, subst, arith, slice_index}
-use Rattle.std.specs.List.{All, AllZip, Contains, flat_map}
-use Rattle.std.specs.Cmp.{IsTotalOrder}
-use Rattle.std.specs.FinMap.{IsAntisymmetric}
-use Rattle.std.specs.declared.cmp.Ordering.{Ordering}
-use Rattle.std.proofs.lemmas.Cmp.{tied_itself}
-use Rattle.std.proofs.lemmas.List.{get_or-map, length-map}
-use Rattle.std.proofs.lemmas.List.Elements.{All-weaker, All-contains, All-contains_itself, Contains-get_or}
-use Rattle.dexspec.specs.Lists.{in_order}
-use Rattle.dexspec.specs.Rows.{key_cmp}
-use Rattle.dexspec.proofs.lists.InOrder.{Rises-from_rises, Rises-same, Rises-in_order, in_order-has, in_order-only}
-use Rattle.dexspec.proofs.lists.Members.{AreAmong, Contains-flat_map, Contains-flat_map_source}
-use Rattle.dexspec.proofs.lists.Mapped.{Contains-map_source}
-use Rattle.dexspec.proofs.merge.Depths.{Contains-map}
-use Rattle.dexspec.proofs.merge.SymbolOrders.{text_total}
-use Rattle.dexrows.specs.Join.{row_cmp, IsImage, IsOfParts, IsJoin}
+use Rattle.dexpool.proofs.Common.{◌≡◌, ℕ, ◌<◌, List, [], ◌∷◌, length, get_or, map, sym, ap, ◌∙◌, subst, arith, slice_index, All, AllZip, Contains, flat_map, IsTotalOrder, IsAntisymmetric, Ordering, tied_itself, get_or-map, length-map, All-weaker, All-contains, All-contains_itself, Contains-get_or, in_order, key_cmp, Rises-from_rises, Rises-same, Rises-in_order, in_order-has, in_order-only, AreAmong, Contains-flat_map, Contains-flat_map_source, Contains-map_source, Contains-map, text_total, row_cmp, IsImage, IsOfParts, IsJoin}
 use Rattle.dexpool.specs.internal.Joining.{Moves, IsUnion, Denote}
 use Rattle.dexpool.proofs.NumberOrder.{rises-map}
 use Rattle.dexpool.proofs.Pairs.{zip_source, zip_target, zip_along}

@@ -1,16 +1,9 @@
 -- What the symbols of tables weigh, by the numbers in the tables.
-use Rattle.std.proofs.Common.{◌≡◌, ℕ, ◌+◌, ◌-◌, ◌*◌, List, [], ◌∷◌, length, map, drop, refl, ap, ◌∙◌, arith, sum_by}
-use Rattle.std.specs.List.{All}
-use Rattle.std.proofs.lemmas.List.{length-map, length-take, length-drop}
-use Rattle.std.proofs.lemmas.List.Elements.{All-head, All-tail, All-weaker}
+use Rattle.dexpool.proofs.Common.{◌≡◌, ℕ, ◌+◌, ◌-◌, ◌*◌, List, [], ◌∷◌, length, map, drop, refl, ap, ◌∙◌, arith, sum_by, All, length-map, length-take, length-drop, All-head, All-tail, All-weaker, Text, text_weight, proto_weight, mentions_weight}
 use Rattle.std.proofs.lemmas.List.Sums.{sum_by-cons}
-use Rattle.dexspec.specs.Texts.{Text}
-use Rattle.dexspec.specs.Weight.{text_weight, proto_weight, mentions_weight}
 use Rattle.dexpool.specs.declared.rows.ProtoEntry.{ProtoEntry}
 use Rattle.dexpool.specs.declared.tables.Tables.{Tables}
-use Rattle.dexpool.specs.Tables.{text_of, type_of, span_of, proto_of, field_of, method_of}
-use Rattle.dexpool.specs.Reading.{HasSpan}
-use Rattle.dexpool.specs.Stored.{symbols_in, AreTables, IsProtoEntry}
+use Rattle.dexpool.specs.{text_of, type_of, span_of, proto_of, field_of, method_of, HasSpan, symbols_in, AreTables, IsProtoEntry}
 
 -- a sum over mapped members
 pub sum_by-mapped : {X Y : Type 0} (f : Y → ℕ) (g : X → Y) (h : X → ℕ) (xs : List X) → All (λ x. f (g x) ≡ h x) xs → sum_by f (map g xs) ≡ sum_by h xs

@@ -13,3 +13,17 @@ pub mod Packed
 pub mod Lists
 pub mod Cut
 pub mod internal
+unfoldable pub use Faults.*
+unfoldable pub use Reading.*
+unfoldable pub use Tables.*
+unfoldable pub use Pools.*
+unfoldable pub use Numberings.*
+unfoldable pub use Stored.*
+unfoldable pub use Owned.*
+unfoldable pub use Laws.*
+unfoldable pub use Orderly.*
+unfoldable pub use Uses.*
+unfoldable pub use Images.*
+unfoldable pub use Packed.*
+unfoldable pub use Lists.*
+unfoldable pub use Cut.*

@@ -1,16 +1,10 @@
 -- One more file checked.
-use Rattle.std.proofs.Common.{◌≡◌, ℕ, ◌+◌, ◌<◌, ◌≤◌, List, [], ◌∷◌, ◌++◌, length, get_or, take, drop, map, fold, refl, sym, ap, ◌∙◌, subst, arith, append_assoc, append-nil, length-append}
-use Rattle.std.proofs.Math.Seq.{take-append-add}
-use Rattle.std.proofs.lemmas.List.{take_more, drop_more, take_all, length-take-le, get_or-map}
-use Rattle.std.specs.Prelude.{All}
-use Rattle.std.specs.List.{AllZip}
+use Rattle.dexruns.proofs.Common.{◌≡◌, ℕ, ◌+◌, ◌<◌, ◌≤◌, List, [], ◌∷◌, ◌++◌, length, get_or, take, drop, map, fold, refl, sym, ap, ◌∙◌, subst, arith, append_assoc, append-nil, length-append, take-append-add, take_more, drop_more, take_all, length-take-le, get_or-map, All, AllZip, IsReadAs}
 use Rattle.dexspec.proofs.determined.Denoted.{denotes_some}
-use Rattle.dexclass.specs.Programs.{IsReadAs}
 use Rattle.dexclass.specs.Checking.{IsCheckedAs}
 use Rattle.dexruns.specs.declared.lines.Verdict.{Verdict}
 use Rattle.dexruns.specs.declared.lines.Verdict.TheVariants.{Accepted}
-use Rattle.dexruns.specs.Lines.{check_line, check_lines, status_after}
-use Rattle.dexruns.specs.Runs.{IsVerdict, AreChecked, AreBegun}
+use Rattle.dexruns.specs.{check_line, check_lines, status_after, IsVerdict, AreChecked, AreBegun}
 
 -- an accepted file has as many classes as were counted
 pub accepted_is : (b bytes : List ℕ) (n : ℕ) → bytes ≡ b → IsCheckedAs bytes n → IsVerdict b (Accepted n)

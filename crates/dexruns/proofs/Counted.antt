@@ -1,18 +1,13 @@
 -- Why definitions have no numbers: a cap is never the cause.
-use Rattle.std.proofs.Common.{ℕ, suc, List, length, arith}
+use Rattle.dexruns.proofs.Common.{ℕ, suc, List, length, arith, Definition, mentions, Caps, Cap, TypeCap, ProtoCap, FieldCap, MethodCap, ShortStringCap, WeightCap, Exceeds, IsFirstCause, IsOfCap, ReportsUnderAnyCaps}
 use Rattle.std.proofs.lemmas.List.Sums.{count_by-le-length}
 use Rattle.std.specs.Ordering.{is_lt}
-use Rattle.dexspec.specs.Classes.{Definition}
 use Rattle.dexspec.specs.Texts.{text_cmp}
-use Rattle.dexspec.specs.Mentions.{mentions}
 use Rattle.dexspec.specs.Weight.{weight}
-use Rattle.dexspec.specs.Merging.{Caps, Cap, TypeCap, ProtoCap, FieldCap, MethodCap, ShortStringCap, WeightCap, Exceeds, IsFirstCause}
 use Rattle.dexspec.proofs.merge.WeightGrowth.{weight-within}
 use Rattle.dexmerge.specs.declared.faults.MergeFault.{MergeFault}
 use Rattle.dexmerge.specs.declared.faults.MergeFault.TheVariants as fault
-use Rattle.dexmerge.specs.Faults.{IsOfCap, ReportsUnderAnyCaps}
-use Rattle.dexruns.specs.Counts.{IsUncountedFault}
-use Rattle.dexruns.specs.Faults.{fault_of_merge}
+use Rattle.dexruns.specs.{IsUncountedFault, fault_of_merge}
 
 -- the caps that the definitions just keep
 abbrev ample : List Definition → Caps

@@ -1,16 +1,8 @@
 -- The lines of the classes of a program, one after the other.
-use Rattle.std.proofs.Common.{◌≡◌, ℕ, ◌+◌, ◌<◌, List, [], ◌∷◌, ◌++◌, length, get_or, take, map, sym, ap, subst, ◌∙◌, append-nil, arith}
-use Rattle.std.proofs.lemmas.Grind.{flat_map-append}
-use Rattle.std.proofs.lemmas.List.{get_or-map, length-map, take_more}
-use Rattle.std.specs.Prelude.{All}
-use Rattle.dexspec.specs.Files.{Collection, Denotes}
-use Rattle.dexspec.specs.Classes.{Definition}
-use Rattle.dexspec.specs.Mentions.{Mentions}
-use Rattle.dexclass.specs.Numbered.{NumberedClass, definition_of, type_at}
-use Rattle.dexclass.specs.Programs.{IsReadAs}
+use Rattle.dexruns.proofs.Common.{◌≡◌, ℕ, ◌+◌, ◌<◌, List, [], ◌∷◌, ◌++◌, length, get_or, take, map, sym, ap, subst, ◌∙◌, append-nil, arith, flat_map-append, get_or-map, length-map, take_more, All, Collection, Denotes, Definition, Mentions, NumberedClass, definition_of, type_at, IsReadAs}
 use Rattle.dexclass.specs.Uses.{IsKnownClass}
 use Rattle.dexcanon.specs.Digests.{class_digest}
-use Rattle.dexruns.specs.Digests.{digest_line, digest_lines, digest_lines_of}
+use Rattle.dexruns.specs.{digest_line, digest_lines, digest_lines_of}
 use Rattle.dexruns.proofs.Normalised.{read_is}
 
 -- ---- the lines as they are made

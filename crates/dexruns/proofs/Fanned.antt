@@ -1,18 +1,9 @@
 -- Plans grouped level by level: the groups as they are made, the files that they name, and how deep they are.
-use Rattle.std.proofs.Common.{◌≡◌, ℕ, zero, suc, ◌+◌, ◌*◌, ◌^◌, ◌<◌, ◌≤◌, List, [], ◌∷◌, ◌++◌, length, get_or, take, drop, map, refl, sym, ap, ◌∙◌, subst, inl, inr, arith, add-one, length-append}
-use Rattle.std.specs.Prelude.{All}
-use Rattle.std.specs.List.{range_with_len, Contains}
+use Rattle.dexruns.proofs.Common.{◌≡◌, ℕ, zero, suc, ◌+◌, ◌*◌, ◌^◌, ◌<◌, ◌≤◌, List, [], ◌∷◌, ◌++◌, length, get_or, take, drop, map, refl, sym, ap, ◌∙◌, subst, inl, inr, arith, add-one, length-append, All, range_with_len, Contains, append_assoc, append-nil, drop-append-le, drop-take, length-take-le, take_all, take_more, cases_lt, div_ceil_times, drop_of_length-le, take-add, Plan, Leaf, Node, leaves, all_leaves, plan_depth, plans_depth, IsPlanFor, plans_of}
 use Rattle.std.specs.Int.{div_ceil}
-use Rattle.std.proofs.lemmas.List.{append_assoc, append-nil, drop-append-le, drop-take, length-take-le, take_all, take_more}
 use Rattle.std.proofs.lemmas.List.FromFn.{get_or-range_with_len, length-map-range_with_len, length-range_with_len, map-range_with_len_more}
-use Rattle.std.proofs.lemmas.Bool.{cases_lt}
-use Rattle.std.proofs.lemmas.Grind.{div_ceil_times}
-use Rattle.std.proofs.Math.ListN.{drop_of_length-le}
 use Rattle.std.proofs.Math.Nat.{eq-or-lt_of_le, lt_of_mul-lt-mul_right, mul-le-mul_left, mul-le-mul_right, pow-le-pow_right, two-pow-succ}
-use Rattle.std.proofs.Math.Seq.{take-add}
-use Rattle.dexspec.specs.Merging.{Plan, Leaf, Node, leaves, all_leaves, plan_depth, plans_depth, IsPlanFor}
-use Rattle.dexmerge.specs.Plans.{plans_of}
-use Rattle.dexruns.specs.Fans.{leaf_plans, group, in_groups, grouped_often, IsGrouped}
+use Rattle.dexruns.specs.{leaf_plans, group, in_groups, grouped_often, IsGrouped}
 
 -- ---- the groups as they are made
 

@@ -1,25 +1,16 @@
 -- Inputs read one after the other, and merged.
-use Rattle.std.proofs.Common.{◌≡◌, ℕ, suc, ◌+◌, ◌<◌, Bool, List, [], ◌∷◌, ◌++◌, length, get_or, take, drop, refl, sym, ap, ◌∙◌, subst, arith}
-use Rattle.std.proofs.lemmas.List.{take_more, take_all}
-use Rattle.std.specs.List.{AllZip}
-use Rattle.dexspec.specs.Files.{Collection, definitions, Denotes}
+use Rattle.dexruns.proofs.Common.{◌≡◌, ℕ, suc, ◌+◌, ◌<◌, Bool, List, [], ◌∷◌, ◌++◌, length, get_or, take, drop, refl, sym, ap, ◌∙◌, subst, arith, take_more, take_all, AllZip, Collection, definitions, Denotes, IsAccepted, canonical, Caps, IsGood, greatest_caps, Plan, IsPlanFor, planned, IsPlannedCause, IsPlanFault}
 use Rattle.dexspec.specs.WellFormed.{AreWellFormed}
-use Rattle.dexspec.specs.Accepted.{IsAccepted}
-use Rattle.dexspec.specs.Canonical.{canonical}
-use Rattle.dexspec.specs.Merging.{Caps, IsGood, greatest_caps, Plan, IsPlanFor}
 use Rattle.dexspec.specs.Merging as merging
 use Rattle.dexlaws.specs.Causes.{GoodHasNoCause}
 use Rattle.dexmerge.specs.declared.faults.MergeFault.TheVariants as unmerged
 use Rattle.dexmerge.specs.declared.faults.PlanFault.{PlanFault}
 use Rattle.dexmerge.specs.declared.faults.PlanFault.TheVariants as unplanned
-use Rattle.dexmerge.specs.Faults.{planned, IsPlannedCause, IsPlanFault}
-use Rattle.dexruns.specs.Faults.{fault_of_plan}
+use Rattle.dexruns.specs.{fault_of_plan, AllWork, IsLeft, AreReadFrom, ReportsCause, IsTrueCause, IsUnionFault, IsUnited, IsUnitedFault, IsFileOf, IsPrefixAppended, IsMergedFile, IsMergeFault, IsWriteFault, AreUncalled, IsOfWriter, IsOfDevices}
 use Rattle.dexruns.specs.declared.faults.MergeCause.{MergeCause}
 use Rattle.dexruns.specs.declared.faults.MergeCause.TheVariants as cause
 use Rattle.dexruns.specs.declared.faults.RunFault.{RunFault}
 use Rattle.dexruns.specs.declared.faults.RunFault.TheVariants as run
-use Rattle.dexruns.specs.Runs.{AllWork, IsLeft}
-use Rattle.dexruns.specs.Merges.{AreReadFrom, ReportsCause, IsTrueCause, IsUnionFault, IsUnited, IsUnitedFault, IsFileOf, IsPrefixAppended, IsMergedFile, IsMergeFault, IsWriteFault, AreUncalled, IsOfWriter, IsOfDevices}
 use Rattle.dexruns.proofs.Checked.{zip_more, same_head}
 
 -- ---- inputs one after the other

@@ -1,10 +1,6 @@
 -- How far inputs are read one after the other.
-use Rattle.std.proofs.Common.{◌≡◌, ℕ, zero, suc, ◌<◌, Bool, true, List, [], ◌∷◌, length, get_or, drop, refl, sym, ap, subst, ◌∙◌, arith}
-use Rattle.std.proofs.Math.ListN.{set}
-use Rattle.std.proofs.lemmas.List.{get_or-set_other, get_or-set_same, length-set}
-use Rattle.std.specs.List.{AllZip}
-use Rattle.dexruns.specs.Inputs.{IsReadNoFurther}
-use Rattle.dexruns.specs.Runs.{AllWork, HasFailed}
+use Rattle.dexruns.proofs.Common.{◌≡◌, ℕ, zero, suc, ◌<◌, Bool, true, List, [], ◌∷◌, length, get_or, drop, refl, sym, ap, subst, ◌∙◌, arith, set, get_or-set_other, get_or-set_same, length-set, AllZip}
+use Rattle.dexruns.specs.{IsReadNoFurther, AllWork, HasFailed}
 use Rattle.dexruns.proofs.Checked.{same_head}
 
 -- no input is read yet

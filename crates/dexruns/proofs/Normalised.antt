@@ -1,14 +1,9 @@
 -- What was written for bytes that were read is the canonical file of what they denote.
-use Rattle.std.proofs.Common.{◌≡◌, ℕ, List, ◌++◌, take, ap, ◌∙◌, subst}
-use Rattle.dexspec.specs.Accepted.{IsAccepted}
-use Rattle.dexspec.specs.Files.{Collection, Denotes}
-use Rattle.dexspec.specs.Canonical.{canonical}
-use Rattle.dexclass.specs.Programs.{IsReadAs}
+use Rattle.dexruns.proofs.Common.{◌≡◌, ℕ, List, ◌++◌, take, ap, ◌∙◌, subst, IsAccepted, Collection, Denotes, canonical, IsReadAs}
 use Rattle.dexcanon.specs.declared.faults.StoreFault.{StoreFault}
 use Rattle.dexcanon.specs.declared.faults.StoreFault.TheVariants.{Memory, Io}
 use Rattle.dexcanon.specs.Written as store
-use Rattle.dexruns.specs.Faults.{fault_of_store}
-use Rattle.dexruns.specs.Runs.{HasLeft}
+use Rattle.dexruns.specs.{fault_of_store, HasLeft}
 
 -- what was read is what the bytes denote
 pub read_is : (one : (b : List ℕ) (K L : Collection) → Denotes b K → Denotes b L → K ≡ L) (b bytes : List ℕ) (K L : Collection) →

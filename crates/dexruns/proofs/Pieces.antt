@@ -1,8 +1,5 @@
 -- Bytes that come and go in pieces.
-use Rattle.std.proofs.Common.{◌≡◌, ℕ, ◌≤◌, ◌+◌, List, [], ◌++◌, length, take, drop, sym, ap, ◌∙◌, append_assoc, append-nil, ◌⊎◌, inl, inr, arith}
-use Rattle.std.proofs.Math.Seq.{take-add, take-append-le}
-use Rattle.std.proofs.lemmas.List.{take_all, take_at, drop_at}
-use Rattle.std.specs.Prelude.{Result, Ok, Err, IfOk}
+use Rattle.dexruns.proofs.Common.{◌≡◌, ℕ, ◌≤◌, ◌+◌, List, [], ◌++◌, length, take, drop, sym, ap, ◌∙◌, append_assoc, append-nil, ◌⊎◌, inl, inr, arith, take-add, take-append-le, take_all, take_at, drop_at, Result, Ok, Err, IfOk}
 
 -- what was read is all, up to a limit, where no more is to come or the limit is reached
 pub read_all : (n : ℕ) (xs ys whole : List ℕ) → whole ≡ xs ++ ys → length xs ≤ n → ((ys ≡ []) ⊎ (n ≤ length xs)) → xs ≡ take n whole

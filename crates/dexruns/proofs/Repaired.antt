@@ -1,14 +1,11 @@
 -- A repaired file differs from the file in its two sums alone.
-use Rattle.std.proofs.Common.{◌≡◌, ℕ, ◌+◌, ◌≤◌, Bool, true, false, if◌then◌else◌, nat_lt, List, ◌++◌, length, take, drop, refl, sym, ap, subst, ◌∙◌, arith, length-append, length-take-le}
-use Rattle.std.proofs.lemmas.Bool.{ltb-false, ltb-true}
-use Rattle.std.proofs.lemmas.List.{take_at, drop_at, length-drop}
-use Rattle.dexspec.specs.Accepted.{IsAccepted}
+use Rattle.dexruns.proofs.Common.{◌≡◌, ℕ, ◌+◌, ◌≤◌, Bool, true, false, if◌then◌else◌, nat_lt, List, ◌++◌, length, take, drop, refl, sym, ap, subst, ◌∙◌, arith, length-append, length-take-le, ltb-false, ltb-true, take_at, drop_at, length-drop, IsAccepted}
 use Rattle.dexspec.proofs.numbers.ByteNumbers.{length-uint}
 use Rattle.dexspec.proofs.layout.Sums.{length-sha1}
 use Rattle.dexspec.specs.Header.{HasChecksum, HasSignature}
 use Rattle.dexhead.specs.Sums.{signed, with_sums_set}
 use Rattle.dexhead.proofs.Overwritten.{drop_after, has_checksum_set, has_signature_set}
-use Rattle.dexruns.specs.Repairs.{repaired, AreEqualButForSums}
+use Rattle.dexruns.specs.{repaired, AreEqualButForSums}
 
 -- the sums are the bytes 8 to 31
 set_only : (b first sum signature rest : List ℕ) → length first ≡ 8 → length sum ≡ 4 → length signature ≡ 20 → length b ≡ 32 + length rest → first ≡ take 8 b → rest ≡ drop 32 b →

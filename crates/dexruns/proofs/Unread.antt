@@ -1,17 +1,10 @@
 -- What a run says where one of its inputs was not read.
-use Rattle.std.proofs.Common.{◌≡◌, ℕ, ◌<◌, Bool, false, List, length, get_or, take, refl, subst}
-use Rattle.std.proofs.Math.ListN.{set}
-use Rattle.std.proofs.lemmas.List.Elements.{All-set}
-use Rattle.dexspec.specs.Accepted.{IsRefused}
-use Rattle.dexspec.specs.Files.{Collection}
-use Rattle.dexclass.specs.Programs.{IsFaultOf}
+use Rattle.dexruns.proofs.Common.{◌≡◌, ℕ, ◌<◌, Bool, false, List, length, get_or, take, refl, subst, set, All-set, IsRefused, Collection, IsFaultOf}
 use Rattle.dexpool.specs.declared.faults.ReadFault.{ReadFault}
 use Rattle.dexpool.specs.declared.faults.ReadFault.TheVariants as read
 use Rattle.dexruns.specs.declared.faults.RunFault.{RunFault}
 use Rattle.dexruns.specs.declared.faults.RunFault.TheVariants.{Input, Plan, Merge, Read, Write, Memory}
-use Rattle.dexruns.specs.Inputs.{bytes_read}
-use Rattle.dexruns.specs.Merges.{AreReadFrom, IsReadEachFault, IsOfDevices}
-use Rattle.dexruns.specs.Runs.{AllWork, IsOfInput, IsOfCheck}
+use Rattle.dexruns.specs.{bytes_read, AreReadFrom, IsReadEachFault, IsOfDevices, AllWork, IsOfInput, IsOfCheck}
 use Rattle.dexruns.specs.internal.Unread.{AreUnread, IsNoProgram, fault_of_input}
 use Rattle.dexruns.proofs.Moved.{one_failed}
 

@@ -1,12 +1,7 @@
 -- Texts whose units are spelled by one byte each.
-use Rattle.std.proofs.Common.{◌≡◌, ◌≢◌, ℕ, suc, ◌+◌, ◌-◌, ◌^◌, ◌<◌, ◌≤◌, List, [], ◌∷◌, ◌++◌, refl, sym, ap, ◌∙◌, length, take, drop, get_or, take_all, append_assoc, length-append, arith, inl, inr}
-use Rattle.std.specs.List.{All}
-use Rattle.std.proofs.lemmas.List.Elements.{All-head, All-tail, All-cons, All-append}
-use Rattle.std.proofs.lemmas.Grind.{flat_map-append}
+use Rattle.dexstr.proofs.Common.{◌≡◌, ◌≢◌, ℕ, suc, ◌+◌, ◌-◌, ◌^◌, ◌<◌, ◌≤◌, List, [], ◌∷◌, ◌++◌, refl, sym, ap, ◌∙◌, length, take, drop, get_or, take_all, append_assoc, length-append, arith, inl, inr, All, All-head, All-tail, All-cons, All-append, flat_map-append, form, spelling, AreUnits, Shape, One, Two, Three, shape_of}
 use Rattle.dexstr.proofs.Passing.{Passed}
-use Rattle.dexspec.specs.Texts.{form, spelling, AreUnits}
-use Rattle.dexspec.proofs.determined.OneText.{Shape, One, Two, Three, shape_of}
-use Rattle.dexstr.specs.Units.{units_of, BeginsWithAscii, IsSpelling, IsAscii}
+use Rattle.dexstr.specs.{units_of, BeginsWithAscii, IsSpelling, IsAscii}
 
 -- at least one byte for each unit
 more_bytes : (bytes : List ℕ) (u : ℕ) (rest : List ℕ) → Shape bytes u rest → suc (length rest) ≤ length bytes

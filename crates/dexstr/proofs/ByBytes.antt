@@ -1,15 +1,9 @@
 -- Texts come in the order of their bytes, with 0xc0 first.
-use Rattle.std.proofs.Common.{◌≡◌, ◌≢◌, ℕ, zero, suc, ◌+◌, ◌/◌, ◌%◌, ◌^◌, ◌<◌, List, [], ◌∷◌, ◌++◌, ◌⊎◌, inl, inr, refl, sym, ◌∙◌, length, nat_eq, take, drop, min, true, arith}
-use Rattle.std.proofs.lemmas.Bool.{cases_lt, cases_order, lt-ltb, le-ltb, eq-eqb, ne_eqb}
-use Rattle.std.proofs.lemmas.Bool.Decides.{nat_tests}
-use Rattle.std.proofs.lemmas.List.{append-nil, take-append-drop}
+use Rattle.dexstr.proofs.Common.{◌≡◌, ◌≢◌, ℕ, zero, suc, ◌+◌, ◌/◌, ◌%◌, ◌^◌, ◌<◌, List, [], ◌∷◌, ◌++◌, ◌⊎◌, inl, inr, refl, sym, ◌∙◌, length, nat_eq, take, drop, min, true, arith, cases_lt, cases_order, lt-ltb, le-ltb, eq-eqb, ne_eqb, nat_tests, append-nil, take-append-drop, slice_cmp, pointwise, same_text, form, spelling, AreUnits, text_cmp, Shape, One, Two, Three, shape_of}
 use Rattle.std.specs.Ordering.{nat_cmp}
 use Rattle.std.specs.declared.cmp.Ordering.TheVariants.{Less, Equal, Greater}
-use Rattle.std.specs.Cmp.Lexicographic.{slice_cmp, pointwise, same_text}
-use Rattle.dexspec.specs.Texts.{form, spelling, AreUnits, text_cmp}
-use Rattle.dexstr.specs.Units.{units_of, IsSpelling}
+use Rattle.dexstr.specs.{units_of, IsSpelling}
 use Rattle.dexstr.specs.internal.Order.{place_of, byte_cmp}
-use Rattle.dexspec.proofs.determined.OneText.{Shape, One, Two, Three, shape_of}
 
 -- ---- numbers
 

@@ -1,12 +1,6 @@
 -- A class's descriptor after its `L`, unit by unit.
-use Rattle.std.proofs.Common.{◌≡◌, ℕ, suc, ◌+◌, ◌/◌, ◌%◌, ◌<◌, ◌≤◌, Bool, true, false, List, [], ◌∷◌, ◌++◌, ◌⊎◌, inl, inr, refl, ap, sym, ◌∙◌, length, All, arith}
-use Rattle.std.specs.List.{join_with_byte}
-use Rattle.std.proofs.lemmas.Bool.{cases_eq, ne_eqb, and_parts, true≢false, false≢true}
-use Rattle.std.proofs.lemmas.List.Elements.{All-cons}
-use Rattle.dexspec.specs.Texts.{Text, form, spelling, AreUnits}
-use Rattle.dexspec.specs.Names.{IsNameUnit, IsMemberName, IsClassName}
-use Rattle.dexstr.specs.Kinds.{ends_class, is_end}
-use Rattle.dexspec.proofs.determined.OneText.{Shape, One, Two, Three, shape_of}
+use Rattle.dexstr.proofs.Common.{◌≡◌, ℕ, suc, ◌+◌, ◌/◌, ◌%◌, ◌<◌, ◌≤◌, Bool, true, false, List, [], ◌∷◌, ◌++◌, ◌⊎◌, inl, inr, refl, ap, sym, ◌∙◌, length, All, arith, join_with_byte, cases_eq, ne_eqb, and_parts, true≢false, false≢true, All-cons, Text, form, spelling, AreUnits, IsNameUnit, IsMemberName, IsClassName, Shape, One, Two, Three, shape_of}
+use Rattle.dexstr.specs.{ends_class, is_end}
 
 -- a unit of a name goes on
 step_name : (u : ℕ) → IsNameUnit u → (begun : Bool) (s : List ℕ) → ends_class begun (u ∷ s) ≡ ends_class true s

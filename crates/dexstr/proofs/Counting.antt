@@ -1,10 +1,7 @@
 -- A text has as many units as bytes of its spelling begin one.
-use Rattle.std.proofs.Common.{◌≡◌, ℕ, suc, ◌+◌, ◌*◌, ◌/◌, ◌%◌, ◌<◌, ◌≤◌, List, [], ◌∷◌, ◌++◌, refl, ap, ◌∙◌, length, count_by, cond, true, false, arith}
+use Rattle.dexstr.proofs.Common.{◌≡◌, ℕ, suc, ◌+◌, ◌*◌, ◌/◌, ◌%◌, ◌<◌, ◌≤◌, List, [], ◌∷◌, ◌++◌, refl, ap, ◌∙◌, length, count_by, cond, true, false, arith, nat_tests, form, spelling, AreUnits, Shape, One, Two, Three, shape_of}
 use Rattle.std.proofs.lemmas.List.Sums.{sum_by-cons}
-use Rattle.std.proofs.lemmas.Bool.Decides.{nat_tests}
-use Rattle.dexspec.specs.Texts.{form, spelling, AreUnits}
-use Rattle.dexstr.specs.Units.{begins_unit, units_of, IsSpelling}
-use Rattle.dexspec.proofs.determined.OneText.{Shape, One, Two, Three, shape_of}
+use Rattle.dexstr.specs.{begins_unit, units_of, IsSpelling}
 
 tail : (b : ℕ) → 0x80 ≤ b → b ≤ 0xbf → begins_unit b ≡ false
 tail b low high = grind (arith, nat_tests)

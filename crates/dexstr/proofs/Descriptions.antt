@@ -1,16 +1,8 @@
 -- The kind of a descriptor, from its units and from its bytes.
-use Rattle.std.proofs.Common.{◌≡◌, ℕ, zero, suc, ◌+◌, ◌/◌, ◌%◌, ◌^◌, ◌<◌, ◌≤◌, true, false, List, [], ◌∷◌, ◌++◌, ◌⊎◌, inl, inr, refl, ap, sym, ◌∙◌, drop, Option, Some, None, arith}
-use Rattle.std.specs.Prelude.{IfSome, replicate, is_some, ◌↔◌, ◌&&◌, ◌==◌, nat_le}
-use Rattle.std.specs.List.{Contains}
-use Rattle.std.proofs.lemmas.Bool.{cases_eq, cases_Bool, eqb-true, eq-eqb, ne_eqb, le-leb, leb-true, and_parts, false≢true}
-use Rattle.std.proofs.lemmas.List.Elements.{All-drop}
-use Rattle.dexspec.specs.Texts.{Text, form, spelling, AreUnits}
-use Rattle.dexspec.specs.Names.{TypeKind, VoidType, PrimitiveType, ClassType, ArrayType, IsVoid, IsPrimitive, IsClass, IsArray, HasKind, IsDescriptor, primitive_letters, shorty_letter}
-use Rattle.dexstr.specs.Units.{units_of, IsSpelling}
-use Rattle.dexstr.specs.Kinds.{type_kind, ends_class, is_end, is_primitive_letter, element_kind, dimensions, is_void, kind_of}
+use Rattle.dexstr.proofs.Common.{◌≡◌, ℕ, zero, suc, ◌+◌, ◌/◌, ◌%◌, ◌^◌, ◌<◌, ◌≤◌, true, false, List, [], ◌∷◌, ◌++◌, ◌⊎◌, inl, inr, refl, ap, sym, ◌∙◌, drop, Option, Some, None, arith, IfSome, replicate, is_some, ◌↔◌, ◌&&◌, ◌==◌, nat_le, Contains, cases_eq, cases_Bool, eqb-true, eq-eqb, ne_eqb, le-leb, leb-true, and_parts, false≢true, All-drop, Text, form, spelling, AreUnits, TypeKind, VoidType, PrimitiveType, ClassType, ArrayType, IsVoid, IsPrimitive, IsClass, IsArray, HasKind, IsDescriptor, primitive_letters, shorty_letter, Shape, One, Two, Three, shape_of}
+use Rattle.dexstr.specs.{units_of, IsSpelling, type_kind, ends_class, is_end, is_primitive_letter, element_kind, dimensions, is_void, kind_of}
 use Rattle.dexstr.specs.declared.descriptors.Kind.{Kind}
 use Rattle.dexstr.specs.declared.descriptors.Kind.TheVariants.{Void, Primitive, Class, Array}
-use Rattle.dexspec.proofs.determined.OneText.{Shape, One, Two, Three, shape_of}
 use Rattle.dexstr.proofs.ClassNames.{end_is, class_from, class_to, is_end-spelling, ends_class-spelling}
 
 -- ---- letters

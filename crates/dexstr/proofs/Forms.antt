@@ -1,15 +1,7 @@
 -- What bytes begin with, where they begin with the spelling of a unit.
-use Rattle.std.proofs.Common.{◌≡◌, ℕ, suc, ◌+◌, ◌-◌, ◌*◌, ◌/◌, ◌%◌, ◌<◌, ◌≤◌, List, [], ◌∷◌, ◌⊎◌, refl, ap, sym, ◌∙◌, arith}
-use Rattle.std.specs.Cmp.Lexicographic.{pointwise}
-use Rattle.std.proofs.lemmas.Bool.Decides.{same_from_decides, Decides-like, Decides-eqb}
+use Rattle.dexstr.proofs.Common.{◌≡◌, ℕ, suc, ◌+◌, ◌-◌, ◌*◌, ◌/◌, ◌%◌, ◌<◌, ◌≤◌, List, [], ◌∷◌, ◌⊎◌, refl, ap, sym, ◌∙◌, arith, pointwise, same_from_decides, Decides-like, Decides-eqb, Bool, ◌==◌, Option, Some, None, IfNone, lt-ltb, le-ltb, Shape, One, Two, Three, shape_of, form, spelling, AreUnits, flat_map-cons, append_cancel_left}
 use Rattle.std.proofs.lemmas.Slice.Eq.{slice_eq-Decides}
-use Rattle.std.specs.Prelude.{Bool, ◌==◌, Option, Some, None, IfNone}
-use Rattle.std.proofs.lemmas.Bool.{lt-ltb, le-ltb}
-use Rattle.dexspec.proofs.determined.OneText.{Shape, One, Two, Three, shape_of}
-use Rattle.dexspec.specs.Texts.{form, spelling, AreUnits}
-use Rattle.dexstr.specs.Units.{units_of, IsSpelling, BeginsWithUnit, BeginsWithNone, IsNoTail}
-use Rattle.std.proofs.lemmas.List.Concat.{flat_map-cons}
-use Rattle.std.proofs.lemmas.List.{append_cancel_left}
+use Rattle.dexstr.specs.{units_of, IsSpelling, BeginsWithUnit, BeginsWithNone, IsNoTail}
 
 -- the bytes of the first unit
 pub shape : (bytes : List ℕ) (u : ℕ) (rest : List ℕ) → BeginsWithUnit bytes u rest → Shape bytes u rest

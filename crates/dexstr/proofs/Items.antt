@@ -1,12 +1,6 @@
 -- A text's item: its count, its units and the zero byte.
-use Rattle.std.proofs.Common.{◌≡◌, ℕ, suc, ◌+◌, ◌-◌, ◌/◌, ◌%◌, ◌≤◌, ◌<◌, ◌^◌, List, [], ◌∷◌, ◌++◌, length, take, drop, get_or, refl, ap, sym, ◌∙◌, arith, append_assoc, length-append, length-drop, length-take, take_at, drop_at, take-append-drop, take_all, inl, inr, ◌⊎◌}
-use Rattle.std.proofs.lemmas.List.Concat.{flat_map-cons}
-use Rattle.dexspec.specs.Numbers.{IsUleb128, BeginsWith, sum_of_groups}
-use Rattle.dexspec.specs.Texts.{spelling, form, AreUnits, IsStringData}
-use Rattle.dexspec.proofs.numbers.Spellings.{same_number}
-use Rattle.dexstr.specs.Units.{units_of, IsSpelling, SpellsText, AfterUnits, BeginsWithUnit, BeginsWithNone}
-use Rattle.dexstr.specs.Faults.{HasBody, StartsWithZero}
-use Rattle.dexspec.proofs.determined.OneText.{Shape, One, Two, Three, one_unit}
+use Rattle.dexstr.proofs.Common.{◌≡◌, ℕ, suc, ◌+◌, ◌-◌, ◌/◌, ◌%◌, ◌≤◌, ◌<◌, ◌^◌, List, [], ◌∷◌, ◌++◌, length, take, drop, get_or, refl, ap, sym, ◌∙◌, arith, append_assoc, length-append, length-drop, length-take, take_at, drop_at, take-append-drop, take_all, inl, inr, ◌⊎◌, flat_map-cons, IsUleb128, BeginsWith, sum_of_groups, spelling, form, AreUnits, IsStringData, same_number, Shape, One, Two, Three, one_unit}
+use Rattle.dexstr.specs.{units_of, IsSpelling, SpellsText, AfterUnits, BeginsWithUnit, BeginsWithNone, HasBody, StartsWithZero}
 use Rattle.dexstr.proofs.Forms.{shape, units_of-spelling}
 
 spelling_is : (us : List ℕ) → AreUnits us → IsSpelling (spelling us)

@@ -1,3 +1,4 @@
+pub mod Common
 pub mod Forms
 pub mod Passing
 pub mod ByBytes

@@ -1,10 +1,6 @@
 -- A text may name a member where its bytes, as units, may.
-use Rattle.std.proofs.Common.{◌≡◌, ◌↔◌, ℕ, suc, ◌+◌, ◌/◌, ◌%◌, ◌<◌, List, [], ◌∷◌, ◌++◌, inr, length, All, arith}
-use Rattle.std.proofs.lemmas.List.Elements.{All-cons}
-use Rattle.dexspec.specs.Texts.{form, spelling, AreUnits}
-use Rattle.dexspec.specs.Names.{IsNameUnit, IsMemberName}
-use Rattle.dexstr.specs.Units.{units_of, IsSpelling}
-use Rattle.dexspec.proofs.determined.OneText.{Shape, One, Two, Three, shape_of}
+use Rattle.dexstr.proofs.Common.{◌≡◌, ◌↔◌, ℕ, suc, ◌+◌, ◌/◌, ◌%◌, ◌<◌, List, [], ◌∷◌, ◌++◌, inr, length, All, arith, All-cons, form, spelling, AreUnits, IsNameUnit, IsMemberName, Shape, One, Two, Three, shape_of}
+use Rattle.dexstr.specs.{units_of, IsSpelling}
 use Rattle.dexstr.proofs.ClassNames.{high_byte, long_unit}
 
 name_to : (bytes : List ℕ) (u : ℕ) (rest s : List ℕ) → Shape bytes u rest → All IsNameUnit (u ∷ s) → All IsNameUnit rest → All IsNameUnit bytes

@@ -1,14 +1,8 @@
 -- Bytes begin with an item, or have exactly one of the faults.
-use Rattle.std.proofs.Common.{◌≡◌, ◌≢◌, ◌↔◌, ℕ, ◌+◌, ◌-◌, ◌*◌, ◌/◌, ◌%◌, ◌≤◌, ◌<◌, ◌^◌, List, [], ◌∷◌, ◌++◌, length, Result, Ok, Err, IfOk, IfErr, OnErr, refl, ap, sym, arith, length-append, inl, inr, ◌⊎◌}
-use Rattle.std.proofs.lemmas.Bool.{cases_lt, cases_eq}
-use Rattle.std.proofs.lemmas.List.{append-nil}
-use Rattle.dexspec.specs.Numbers.{BeginsWith, sum_of_groups}
-use Rattle.dexspec.specs.Texts.{form, IsStringData}
-use Rattle.dexspec.proofs.numbers.Spellings.{not_cut_off}
-use Rattle.dexstr.specs.Faults.{HasBody, StartsWithZero, IsPart, IsProperPrefix, LooksCutOff, IsShort, IsBad, IsFault}
+use Rattle.dexstr.proofs.Common.{◌≡◌, ◌≢◌, ◌↔◌, ℕ, ◌+◌, ◌-◌, ◌*◌, ◌/◌, ◌%◌, ◌≤◌, ◌<◌, ◌^◌, List, [], ◌∷◌, ◌++◌, length, Result, Ok, Err, IfOk, IfErr, OnErr, refl, ap, sym, arith, length-append, inl, inr, ◌⊎◌, cases_lt, cases_eq, append-nil, BeginsWith, sum_of_groups, form, IsStringData, not_cut_off, Shape, One, Two, Three, shape_of, one_string_data}
+use Rattle.dexstr.specs.{HasBody, StartsWithZero, IsPart, IsProperPrefix, LooksCutOff, IsShort, IsBad, IsFault}
 use Rattle.dexstr.specs.declared.reading.TextFault.{TextFault}
 use Rattle.dexstr.specs.declared.reading.TextFault.TheVariants.{Short, Bad, Count}
-use Rattle.dexspec.proofs.determined.OneText.{Shape, One, Two, Three, shape_of, one_string_data}
 use Rattle.dexstr.proofs.Items.{body_once, item_body}
 
 -- ---- a proper front, by its bytes

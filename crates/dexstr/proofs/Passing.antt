@@ -1,12 +1,6 @@
 -- Going over units one after the other.
-use Rattle.std.proofs.Common.{◌≡◌, ℕ, ◌+◌, ◌≤◌, ◌<◌, ◌^◌, List, [], ◌∷◌, ◌++◌, length, refl, ap, sym, ◌∙◌, arith, append_assoc, length-append}
-use Rattle.std.proofs.lemmas.List.Concat.{flat_map-cons}
-use Rattle.std.proofs.lemmas.List.{append-nil}
-use Rattle.std.proofs.lemmas.Grind.{flat_map-append}
-use Rattle.std.proofs.lemmas.List.Elements.{All-push}
-use Rattle.dexspec.specs.Texts.{form, spelling, AreUnits}
-use Rattle.dexstr.specs.Units.{BeginsWithUnit}
-use Rattle.dexspec.proofs.determined.OneText.{Shape, One, Two, Three}
+use Rattle.dexstr.proofs.Common.{◌≡◌, ℕ, ◌+◌, ◌≤◌, ◌<◌, ◌^◌, List, [], ◌∷◌, ◌++◌, length, refl, ap, sym, ◌∙◌, arith, append_assoc, length-append, flat_map-cons, append-nil, flat_map-append, All-push, form, spelling, AreUnits, Shape, One, Two, Three}
+use Rattle.dexstr.specs.{BeginsWithUnit}
 use Rattle.dexstr.proofs.Forms.{shape}
 
 -- `n` units were skipped

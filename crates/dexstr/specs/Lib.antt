@@ -3,3 +3,7 @@ pub mod Escapes
 pub mod Faults
 pub mod Kinds
 pub mod internal
+unfoldable pub use Units.*
+unfoldable pub use Escapes.*
+unfoldable pub use Faults.*
+unfoldable pub use Kinds.*

@@ -1,4 +1,4 @@
-use Rattle.std.proofs.Common.{◌∙◌}
+use Rattle.dexcanon.proofs.Common.{◌∙◌}
 use Rattle.dexcanon.proofs.JoinedSums as sums
 use Rattle.dexcanon.proofs.adler_combine.adler_combine.Goals as goal
 

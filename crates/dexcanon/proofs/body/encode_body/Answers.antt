@@ -1,5 +1,4 @@
-use Rattle.std.proofs.Common.{refl, ap, subst, ◌∙◌}
-use Rattle.dexlayout.specs.Places.{EncodedItems}
+use Rattle.dexcanon.proofs.Common.{refl, ap, subst, ◌∙◌, EncodedItems}
 use Rattle.dexcanon.proofs.Rows.{next_part}
 use Rattle.dexcanon.proofs.body.encode_body.Goals as goal
 

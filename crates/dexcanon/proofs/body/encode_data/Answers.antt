@@ -1,5 +1,4 @@
-use Rattle.std.proofs.Common.{ap, sym, subst, append-nil, ◌∙◌}
-use Rattle.dexlayout.specs.Places.{EncodedItems, EncodedSharedItems, SetPlaces}
+use Rattle.dexcanon.proofs.Common.{ap, sym, subst, append-nil, ◌∙◌, EncodedItems, EncodedSharedItems, SetPlaces}
 use Rattle.dexcanon.proofs.Rows.{next_part, string_bytes}
 use Rattle.dexcanon.proofs.body.encode_data.Goals as goal
 

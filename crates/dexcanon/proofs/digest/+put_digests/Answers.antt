@@ -1,4 +1,4 @@
-use Rattle.std.proofs.Common.{arith}
+use Rattle.dexcanon.proofs.Common.{arith}
 use Rattle.dexcanon.proofs.Digested.{one_digest}
 use Rattle.dexcanon.proofs.digest.+put_digests.Goals as goal
 

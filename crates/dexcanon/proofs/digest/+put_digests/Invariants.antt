@@ -1,6 +1,5 @@
-use Rattle.std.specs.Prelude.{◌≡◌, ◌++◌, length, map}
-use Rattle.std.specs.List.{flat_map}
-use Rattle.dexcanon.specs.Digests.{class_digest}
+use Rattle.dexcanon.proofs.Common.{◌≡◌, ◌++◌, length, map, flat_map}
+use Rattle.dexcanon.specs.{class_digest}
 use Rattle.dexcanon.proofs.digest.+put_digests.Given as goal
 
 abbrev pub decreases-put_digests : goal.decreases-put_digests

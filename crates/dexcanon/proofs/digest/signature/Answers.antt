@@ -1,4 +1,4 @@
-use Rattle.std.proofs.Common.{take, drop, ap, ◌∙◌}
+use Rattle.dexcanon.proofs.Common.{take, drop, ap, ◌∙◌}
 use Rattle.dexcanon.proofs.digest.signature.Goals as goal
 
 pub returns : goal.returns

@@ -1,5 +1,4 @@
-use Rattle.std.proofs.Common.{[]}
-use Rattle.dexlayout.specs.Laid.{ordered_of}
+use Rattle.dexcanon.proofs.Common.{[], ordered_of}
 use Rattle.dexcanon.proofs.Digested.{signed_is}
 use Rattle.dexcanon.proofs.digest.signed.Goals as goal
 

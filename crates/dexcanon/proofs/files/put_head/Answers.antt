@@ -1,4 +1,4 @@
-use Rattle.std.proofs.Common.{arith}
+use Rattle.dexcanon.proofs.Common.{arith}
 use Rattle.dexcanon.proofs.files.put_head.Goals as goal
 
 pub unwrap-requires : goal.unwrap-requires

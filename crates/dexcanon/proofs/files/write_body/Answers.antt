@@ -1,4 +1,4 @@
-use Rattle.std.proofs.Common.{[], append-nil, subst}
+use Rattle.dexcanon.proofs.Common.{[], append-nil, subst}
 use Rattle.dexcanon.specs.internal.Adding.{after_header_of}
 use Rattle.dexcanon.specs.internal.Output.{Adds, adds_both}
 use Rattle.dexcanon.proofs.files.write_body.Goals as goal

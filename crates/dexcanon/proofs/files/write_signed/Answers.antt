@@ -1,6 +1,4 @@
-use Rattle.std.proofs.Common.{◌++◌, ◌≤◌, drop, refl, ap, subst, ◌∙◌, arith}
-use Rattle.std.specs.Prelude.{vec_capacity}
-use Rattle.dexhead.specs.Written.{head_bytes}
+use Rattle.dexcanon.proofs.Common.{◌++◌, ◌≤◌, drop, refl, ap, subst, ◌∙◌, arith, vec_capacity, head_bytes}
 use Rattle.dexcanon.specs.internal.Adding.{after_header_of}
 use Rattle.dexcanon.proofs.Finished.{sure}
 use Rattle.dexcanon.proofs.files.write_signed.Goals as goal

@@ -1,5 +1,4 @@
-use Rattle.std.proofs.Common.{◌++◌}
-use Rattle.dexspec.specs.Bytes.{ushort, uint}
+use Rattle.dexcanon.proofs.Common.{◌++◌, ushort, uint}
 use Rattle.dexcanon.proofs.tables.encode_member.Goals as goal
 
 pub returns : goal.returns

@@ -1,10 +1,4 @@
-use Rattle.std.proofs.Common.{◌≡◌, [], ◌++◌, length, drop, refl, sym, ap, subst, ◌∙◌, arith}
-use Rattle.sha1.specs.Sha1.{sha1}
-use Rattle.dexspec.specs.Header.{adler_32, adler_number, adler_sums}
-use Rattle.dexhead.specs.declared.head.Head.{Head}
-use Rattle.dexhead.specs.Laid.{StatesLayout, after_header}
-use Rattle.dexhead.specs.Written.{head_bytes, field_bytes}
-use Rattle.dexlayout.specs.Laid.{ordered_of}
+use Rattle.dexcanon.proofs.Common.{◌≡◌, [], ◌++◌, length, drop, refl, sym, ap, subst, ◌∙◌, arith, sha1, adler_32, adler_number, adler_sums, Head, StatesLayout, after_header, head_bytes, field_bytes, ordered_of}
 use Rattle.dexcanon.specs.internal.Adding.{signed_of}
 use Rattle.dexcanon.proofs.HeaderSums.{length_signed, summed}
 use Rattle.dexcanon.proofs.WholeFile.{length_after}

@@ -1,4 +1,4 @@
-use Rattle.std.proofs.Common.{◌≡◌, subst, IfOk}
+use Rattle.dexcanon.proofs.Common.{◌≡◌, subst, IfOk}
 use Rattle.dexcanon.proofs.writing.to_bytes.Goals as goal
 
 pub returns-clause-bytes : goal.returns-clause-bytes

@@ -1,9 +1,4 @@
-use Rattle.std.proofs.Common.{◌≡◌, ◌≤◌, ◌+◌, ◌++◌, length, arith, ap, ◌∙◌}
-use Rattle.std.specs.Prelude.{vec_len, vec_capacity}
-use Rattle.std.proofs.lemmas.List.{length-append}
-use Rattle.dexhead.specs.Sums.{with_sums_set}
-use Rattle.dexhead.specs.Laid.{after_header}
-use Rattle.dexhead.specs.Written.{head_bytes}
+use Rattle.dexcanon.proofs.Common.{◌≡◌, ◌≤◌, ◌+◌, ◌++◌, length, arith, ap, ◌∙◌, vec_len, vec_capacity, length-append, with_sums_set, after_header, head_bytes}
 use Rattle.dexcanon.specs.internal.Ready.{ordered_in}
 use Rattle.dexcanon.proofs.HeaderSums.{written_over}
 use Rattle.dexcanon.proofs.WholeFile.{length_after}

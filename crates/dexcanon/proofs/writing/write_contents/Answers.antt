@@ -1,8 +1,6 @@
-use Rattle.std.proofs.Common.{rules, ◌≡◌, ◌++◌, OnOk, IfErr, ap, subst, ◌∙◌}
-use Rattle.dexspec.specs.Canonical.{with_sums, unsigned_file}
-use Rattle.dexhead.specs.Laid.{after_header}
+use Rattle.dexcanon.proofs.Common.{rules, ◌≡◌, ◌++◌, OnOk, IfErr, ap, subst, ◌∙◌, with_sums, unsigned_file, after_header}
 use Rattle.dexcanon.specs.internal.Ready.{ordered_in}
-use Rattle.dexcanon.specs.Written.{HasLeft}
+use Rattle.dexcanon.specs.{HasLeft}
 use Rattle.dexcanon.proofs.writing.write_contents.Goals as goal
 use Rattle.dexcanon.proofs.writing.write_contents.Goals.{After-put_head}
 

@@ -1,8 +1,7 @@
-use Rattle.std.proofs.Common.{◌++◌, sym, ◌∙◌}
-use Rattle.dexhead.specs.Laid.{after_header}
-use Rattle.dexlayout.specs.Laid.{ordered_of}
+use Rattle.dexcanon.proofs.Common.{◌++◌, sym, ◌∙◌, after_header, ordered_of}
 use Rattle.dexcanon.specs.internal.Output.{HasWritten}
-use Rattle.dexcanon.specs.Took.{Took, TookPrefix, took_nothing}
+use Rattle.dexcanon.specs.Took.{Took}
+use Rattle.dexcanon.specs.{TookPrefix, took_nothing}
 use Rattle.dexcanon.proofs.Finished.{begun, same_writer, written_whole, written_prefix, reported_failed}
 use Rattle.dexcanon.proofs.writing.write_through.Goals as goal
 use Rattle.dexcanon.proofs.writing.write_through.Goals.{After-write_body}

@@ -1,5 +1,5 @@
-use Rattle.std.proofs.Common.{◌≡◌, ◌++◌, subst, OnOk, IfErr}
-use Rattle.dexcanon.specs.Written.{HasLeft}
+use Rattle.dexcanon.proofs.Common.{◌≡◌, ◌++◌, subst, OnOk, IfErr}
+use Rattle.dexcanon.specs.{HasLeft}
 use Rattle.dexcanon.proofs.writing.write_to.Goals as goal
 
 pub returns-clause-written : goal.returns-clause-written

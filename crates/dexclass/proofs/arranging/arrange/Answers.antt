@@ -1,5 +1,4 @@
-use Rattle.std.proofs.Common.{◌∙◌, ap, length, arith}
-use Rattle.std.proofs.lemmas.List.{get_or_default}
+use Rattle.dexclass.proofs.Common.{◌∙◌, ap, length, arith, get_or_default}
 use Rattle.std.proofs.lemmas.List.Edits.{length-swap}
 use Rattle.dexclass.proofs.Arranged.{none_arranged, more_arranged, all_arranged}
 use Rattle.dexclass.proofs.arranging.arrange.Goals as goal

@@ -1,4 +1,4 @@
-use Rattle.std.proofs.Common.{◌∙◌, ◌++◌, ◌∷◌, [], sym, ap, List, ℕ}
+use Rattle.dexclass.proofs.Common.{◌∙◌, ◌++◌, ◌∷◌, [], sym, ap, List, ℕ}
 use Rattle.dexclass.proofs.Arranged.{one_more}
 use Rattle.dexclass.proofs.arranging.places.Goals as goal
 

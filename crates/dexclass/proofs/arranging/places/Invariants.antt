@@ -1,5 +1,4 @@
-use Rattle.std.specs.Prelude.{◌≡◌}
-use Rattle.std.specs.List.{range_with_len}
+use Rattle.dexclass.proofs.Common.{◌≡◌, range_with_len}
 use Rattle.dexclass.proofs.arranging.places.Given as goal
 
 abbrev pub invariant-loop-place : goal.invariant-loop-place

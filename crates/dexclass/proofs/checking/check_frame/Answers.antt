@@ -1,7 +1,5 @@
-use Rattle.std.proofs.Common.{◌+◌, ◌≤◌, ap, sym, subst, arith}
-use Rattle.std.proofs.lemmas.Result.{err_from_is_err_and}
-use Rattle.dexspec.specs.Weight.{mentions_weight, most_weight}
-use Rattle.dexclass.specs.Checking.{IsCheckedAs}
+use Rattle.dexclass.proofs.Common.{◌+◌, ◌≤◌, ap, sym, subst, arith, err_from_is_err_and, mentions_weight, most_weight}
+use Rattle.dexclass.specs.{IsCheckedAs}
 use Rattle.dexclass.proofs.RowFaults.{class_fault}
 use Rattle.dexclass.proofs.RowsChecked.{all_checked}
 use Rattle.dexclass.proofs.checking.check_frame.Goals as goal

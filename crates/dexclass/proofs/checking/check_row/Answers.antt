@@ -1,9 +1,6 @@
-use Rattle.std.proofs.Common.{◌≡◌, ◌+◌, ◌*◌, ◌-◌, ◌^◌, min, length, sym, subst, arith}
-use Rattle.dexspec.specs.Classes.{interfaces_off}
-use Rattle.dexspec.specs.Conditions.{Condition}
-use Rattle.dexspec.specs.Accepted.{HasClass}
+use Rattle.dexclass.proofs.Common.{◌≡◌, ◌+◌, ◌*◌, ◌-◌, ◌^◌, min, length, sym, subst, arith, interfaces_off, Condition, HasClass}
 use Rattle.dexclass.specs.internal.Rows.{HasInterfaceList, interface_indices}
-use Rattle.dexclass.specs.Programs.{IsFaultOf}
+use Rattle.dexclass.specs.{IsFaultOf}
 use Rattle.dexclass.proofs.Interfaces.{row_interfaces}
 use Rattle.dexclass.proofs.RowFaults.{row_fault}
 use Rattle.dexclass.proofs.RowsChecked.{checked_heavy, checked_more}

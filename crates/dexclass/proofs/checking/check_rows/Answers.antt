@@ -1,6 +1,5 @@
-use Rattle.std.proofs.Common.{◌≡◌, ℕ, subst, arith}
-use Rattle.dexspec.specs.Header.{ClassDefs, table_size}
-use Rattle.dexclass.specs.Checking.{HaveBodiesOf}
+use Rattle.dexclass.proofs.Common.{◌≡◌, ℕ, subst, arith, ClassDefs, table_size}
+use Rattle.dexclass.specs.{HaveBodiesOf}
 use Rattle.dexclass.proofs.RowsChecked.{no_bodies}
 use Rattle.dexclass.proofs.checking.check_rows.Goals as goal
 

@@ -1,6 +1,5 @@
-use Rattle.std.proofs.Common.{refl, sym, ◌∙◌, arith}
-use Rattle.std.proofs.lemmas.Bool.{false≢true}
-use Rattle.dexclass.specs.Renumbering.{remapped}
+use Rattle.dexclass.proofs.Common.{refl, sym, ◌∙◌, arith, false≢true}
+use Rattle.dexclass.specs.{remapped}
 use Rattle.dexclass.proofs.EqualMapped.{equivalent, equivalent_at}
 use Rattle.dexclass.proofs.class_calls.eq_mapped.Goals as goal
 

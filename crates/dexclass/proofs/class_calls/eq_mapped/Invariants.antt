@@ -1,5 +1,5 @@
-use Rattle.std.proofs.Common.{◌≡◌, ℕ, ◌<◌, get_or}
-use Rattle.dexclass.specs.Renumbering.{remapped}
+use Rattle.dexclass.proofs.Common.{◌≡◌, ℕ, ◌<◌, get_or}
+use Rattle.dexclass.specs.{remapped}
 use Rattle.dexclass.proofs.class_calls.eq_mapped.Given as goal
 
 abbrev pub invariant-loop-k : goal.invariant-loop-k

@@ -1,5 +1,4 @@
-use Rattle.std.proofs.Common.{refl, sym, subst, arith}
-use Rattle.dexspec.specs.Conditions.{Condition}
+use Rattle.dexclass.proofs.Common.{refl, sym, subst, arith, Condition}
 use Rattle.dexpool.proofs.Refusing.{hold_next}
 use Rattle.dexclass.specs.internal.Rows.{AreDefinedMarks}
 use Rattle.dexclass.proofs.RowConditions.{rows_more}

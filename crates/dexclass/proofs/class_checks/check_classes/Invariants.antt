@@ -1,5 +1,4 @@
-use Rattle.std.specs.Prelude.{◌<◌, ℕ}
-use Rattle.dexspec.specs.Accepted.{HasClass}
+use Rattle.dexclass.proofs.Common.{◌<◌, ℕ, HasClass}
 use Rattle.dexclass.specs.internal.Rows.{AreDefinedMarks}
 use Rattle.dexclass.proofs.class_checks.check_classes.Given as goal
 

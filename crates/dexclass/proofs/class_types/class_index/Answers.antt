@@ -1,7 +1,4 @@
-use Rattle.std.proofs.Common.{◌∙◌, sym, arith}
-use Rattle.dexspec.specs.Rows.{row_at}
-use Rattle.dexspec.specs.Header.{ClassDefs}
-use Rattle.dexpool.proofs.Bytes.{uint_at_row}
+use Rattle.dexclass.proofs.Common.{◌∙◌, sym, arith, row_at, ClassDefs, uint_at_row}
 use Rattle.dexclass.proofs.class_types.class_index.Goals as goal
 
 pub returns : goal.returns

@@ -1,5 +1,4 @@
-use Rattle.std.proofs.Common.{subst}
-use Rattle.dexspec.specs.Names.{IsDescriptor}
+use Rattle.dexclass.proofs.Common.{subst, IsDescriptor}
 use Rattle.dexclass.proofs.class_types.class_types.Goals as goal
 
 pub is_class-requires : goal.is_class-requires

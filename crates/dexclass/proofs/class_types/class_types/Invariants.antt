@@ -1,5 +1,4 @@
-use Rattle.std.specs.Prelude.{◌≡◌, ◌↔◌, ◌<◌, ℕ, IsTrue, false, length, slice_index_or, []}
-use Rattle.dexspec.specs.Names.{IsClass}
+use Rattle.dexclass.proofs.Common.{◌≡◌, ◌↔◌, ◌<◌, ℕ, IsTrue, false, length, slice_index_or, [], IsClass}
 use Rattle.dexclass.proofs.class_types.class_types.Given as goal
 
 abbrev pub invariant-loop-i : goal.invariant-loop-i

@@ -1,5 +1,4 @@
-use Rattle.std.proofs.Common.{sym, ◌∙◌}
-use Rattle.std.proofs.lemmas.Bool.{eq-eqb, eqb-true}
+use Rattle.dexclass.proofs.Common.{sym, ◌∙◌, eq-eqb, eqb-true}
 use Rattle.dexclass.proofs.ClassStarts.{class_some, class_starts}
 use Rattle.dexclass.proofs.class_types.is_class.Goals as goal
 

@@ -1,6 +1,4 @@
-use Rattle.std.proofs.Common.{◌≡◌, ℕ, ◌+◌, ◌-◌, [], length, length-drop, ◌∙◌, ap, arith}
-use Rattle.dexspec.specs.Bytes.{ushorts_at}
-use Rattle.dexpool.proofs.TypeLists.{appended_more}
+use Rattle.dexclass.proofs.Common.{◌≡◌, ℕ, ◌+◌, ◌-◌, [], length, length-drop, ◌∙◌, ap, arith, ushorts_at, appended_more}
 use Rattle.dexclass.proofs.Interfaces.{index_is, list_within, index_within, counted_indices}
 use Rattle.dexclass.proofs.classes.interfaces_at.Goals as goal
 

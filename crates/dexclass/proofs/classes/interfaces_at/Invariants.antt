@@ -1,5 +1,4 @@
-use Rattle.std.specs.Prelude.{◌≡◌, ◌+◌}
-use Rattle.dexspec.specs.Bytes.{ushorts_at}
+use Rattle.dexclass.proofs.Common.{◌≡◌, ◌+◌, ushorts_at}
 use Rattle.dexclass.proofs.classes.interfaces_at.Given as goal
 
 abbrev pub invariant-loop-k : goal.invariant-loop-k

@@ -1,6 +1,5 @@
-use Rattle.dexmembers.specs.Uses.{members_uses}
-use Rattle.dexclass.specs.Numbered.{type_at}
-use Rattle.dexclass.specs.Uses.{type_numbers, text_numbers}
+use Rattle.dexclass.proofs.Common.{members_uses}
+use Rattle.dexclass.specs.{type_at, type_numbers, text_numbers}
 use Rattle.dexclass.proofs.OwnUses.{own_marks}
 use Rattle.dexclass.proofs.ClassSymbols.{class_zip}
 use Rattle.dexclass.proofs.laws.uses_law.Goals as goal

@@ -1,8 +1,5 @@
-use Rattle.std.proofs.Common.{[], map, Option, option_to_list, subst}
-use Rattle.std.specs.Prelude.{ℕ, All}
-use Rattle.std.proofs.lemmas.List.Elements.{All-head}
-use Rattle.dexpool.specs.Uses.{HasMark}
-use Rattle.dexclass.specs.Uses.{text_use}
+use Rattle.dexclass.proofs.Common.{[], map, Option, option_to_list, subst, ℕ, All, All-head, HasMark}
+use Rattle.dexclass.specs.{text_use}
 use Rattle.dexclass.proofs.marking.mark_optional_text.Goals as goal
 
 pub mark-requires : goal.mark-requires

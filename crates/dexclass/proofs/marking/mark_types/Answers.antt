@@ -1,6 +1,6 @@
-use Rattle.std.proofs.Common.{map, take}
+use Rattle.dexclass.proofs.Common.{map, take}
 use Rattle.dexpool.proofs.MarksMade.{mark_there, mapped_more}
-use Rattle.dexclass.specs.Uses.{type_use}
+use Rattle.dexclass.specs.{type_use}
 use Rattle.dexclass.proofs.marking.mark_types.Goals as goal
 
 pub mark-requires : goal.mark-requires

@@ -1,6 +1,5 @@
-use Rattle.std.proofs.Common.{map, take}
-use Rattle.dexpool.specs.Uses.{AreMarkedToo}
-use Rattle.dexclass.specs.Uses.{type_use}
+use Rattle.dexclass.proofs.Common.{map, take, AreMarkedToo}
+use Rattle.dexclass.specs.{type_use}
 use Rattle.dexclass.proofs.marking.mark_types.Given as goal
 
 abbrev pub invariant-loop-typ : goal.invariant-loop-typ

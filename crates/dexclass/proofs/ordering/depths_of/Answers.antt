@@ -1,4 +1,4 @@
-use Rattle.dexpool.proofs.TypeLists.{if_ok_map}
+use Rattle.dexclass.proofs.Common.{if_ok_map}
 use Rattle.dexclass.proofs.Ordered.{are_within, depths_are}
 use Rattle.dexclass.proofs.ordering.depths_of.Goals as goal
 

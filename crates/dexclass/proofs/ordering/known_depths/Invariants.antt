@@ -1,4 +1,4 @@
-use Rattle.std.specs.Prelude.{◌≡◌, map, take, None, slice_index_or}
+use Rattle.dexclass.proofs.Common.{◌≡◌, map, take, None, slice_index_or}
 use Rattle.dexclass.proofs.ordering.known_depths.Given as goal
 
 abbrev pub invariant-loop-i : goal.invariant-loop-i

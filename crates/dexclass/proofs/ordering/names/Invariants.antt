@@ -1,4 +1,4 @@
-use Rattle.std.specs.Prelude.{◌≡◌, map, take}
+use Rattle.dexclass.proofs.Common.{◌≡◌, map, take}
 use Rattle.dexclass.proofs.ordering.names.Given as goal
 
 abbrev pub invariant-loop-i : goal.invariant-loop-i

@@ -1,9 +1,5 @@
-use Rattle.std.proofs.Common.{◌<◌, ◌∙◌, sym, subst, ap}
-use Rattle.std.specs.Prelude.{ℕ, All, length, map, slice_index_or}
-use Rattle.std.proofs.lemmas.Result.{on_ok_weaker}
-use Rattle.dexspec.specs.Lists.{AreDistinct}
-use Rattle.dexclass.specs.Numbered.{NumberedClass}
-use Rattle.dexclass.specs.Parents.{no_class}
+use Rattle.dexclass.proofs.Common.{◌<◌, ◌∙◌, sym, subst, ap, ℕ, All, length, map, slice_index_or, on_ok_weaker, AreDistinct}
+use Rattle.dexclass.specs.{NumberedClass, no_class}
 use Rattle.dexclass.proofs.Ordered.{order_count, order_distinct, order_within, ordered_are, arranged_among}
 use Rattle.dexclass.proofs.ordering.put_in_order.Goals as goal
 

@@ -1,4 +1,4 @@
-use Rattle.std.proofs.Common.{◌≡◌, take}
+use Rattle.dexclass.proofs.Common.{◌≡◌, take}
 use Rattle.dexclass.proofs.programs.copied.Given as goal
 
 abbrev pub invariant-loop-i : goal.invariant-loop-i

@@ -1,7 +1,5 @@
-use Rattle.std.proofs.Common.{◌+◌, ◌-◌, ◌^◌, ◌∙◌, List, min, sum_by, ap, sym}
-use Rattle.std.proofs.lemmas.List.{take_all}
-use Rattle.dexspec.specs.Weight.{mentions_weight, body_weight}
-use Rattle.dexclass.specs.Numbered.{NumberedClass, definition_of}
+use Rattle.dexclass.proofs.Common.{◌+◌, ◌-◌, ◌^◌, ◌∙◌, List, min, sum_by, ap, sym, take_all, mentions_weight, body_weight}
+use Rattle.dexclass.specs.{NumberedClass, definition_of}
 use Rattle.dexclass.proofs.ProgramsOf.{weight_parts}
 use Rattle.dexclass.proofs.programs.weight_of.Goals as goal
 

@@ -1,6 +1,5 @@
-use Rattle.std.proofs.Common.{◌+◌, ◌-◌, ◌≡◌, ◌^◌, min, sum_by, take}
-use Rattle.dexspec.specs.Weight.{mentions_weight, body_weight}
-use Rattle.dexclass.specs.Numbered.{definition_of}
+use Rattle.dexclass.proofs.Common.{◌+◌, ◌-◌, ◌≡◌, ◌^◌, min, sum_by, take, mentions_weight, body_weight}
+use Rattle.dexclass.specs.{definition_of}
 use Rattle.dexclass.proofs.programs.weight_of.Given as goal
 
 abbrev pub invariant-loop-class : goal.invariant-loop-class

@@ -1,6 +1,4 @@
-use Rattle.std.proofs.Common.{refl, sym, subst}
-use Rattle.dexpool.specs.declared.faults.ItemFault.{ItemFault}
-use Rattle.dexpool.specs.declared.faults.ReadFault.TheVariants.{Refused}
+use Rattle.dexclass.proofs.Common.{refl, sym, subst, ItemFault, Refused}
 use Rattle.dexclass.specs.internal.Checked.{IsFaultAtRow}
 use Rattle.dexclass.proofs.reading.at_row.Goals as goal
 

@@ -1,4 +1,4 @@
-use Rattle.dexspec.specs.Bytes.{uint_at}
+use Rattle.dexclass.proofs.Common.{uint_at}
 use Rattle.dexclass.proofs.Interfaces.{interfaces_count, listed_room}
 use Rattle.dexclass.proofs.reading.interface_count.Goals as goal
 

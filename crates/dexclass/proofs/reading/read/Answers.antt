@@ -1,6 +1,5 @@
-use Rattle.std.proofs.Common.{subst, List, ℕ}
-use Rattle.std.proofs.lemmas.Result.{err_from_is_err_and}
-use Rattle.dexclass.specs.Programs.{IsFaultOf}
+use Rattle.dexclass.proofs.Common.{subst, List, ℕ, err_from_is_err_and}
+use Rattle.dexclass.specs.{IsFaultOf}
 use Rattle.dexclass.proofs.RowFaults.{class_fault}
 use Rattle.dexclass.proofs.reading.read.Goals as goal
 

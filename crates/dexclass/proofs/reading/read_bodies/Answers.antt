@@ -1,5 +1,4 @@
-use Rattle.std.proofs.Common.{◌≡◌, ℕ, subst, arith}
-use Rattle.dexspec.specs.Header.{ClassDefs, table_size}
+use Rattle.dexclass.proofs.Common.{◌≡◌, ℕ, subst, arith, ClassDefs, table_size}
 use Rattle.dexclass.specs.internal.Reading.{AreBodies}
 use Rattle.dexclass.proofs.reading.read_bodies.Goals as goal
 

@@ -1,11 +1,6 @@
-use Rattle.std.proofs.Common.{◌≡◌, ◌+◌, ◌*◌, ◌-◌, length, refl, sym, subst, arith}
-use Rattle.dexspec.specs.Classes.{interfaces_off}
-use Rattle.dexspec.specs.Weight.{most_weight}
-use Rattle.dexspec.specs.Conditions.{Condition}
-use Rattle.dexmembers.specs.Numbered.{members_in}
-use Rattle.dexmembers.specs.Weight.{members_weight}
+use Rattle.dexclass.proofs.Common.{◌≡◌, ◌+◌, ◌*◌, ◌-◌, length, refl, sym, subst, arith, interfaces_off, most_weight, Condition, members_in, members_weight}
 use Rattle.dexclass.specs.internal.Rows.{HasInterfaceList, interface_indices}
-use Rattle.dexclass.specs.Programs.{IsFaultOf}
+use Rattle.dexclass.specs.{IsFaultOf}
 use Rattle.dexclass.proofs.Interfaces.{row_interfaces}
 use Rattle.dexclass.proofs.RowFaults.{row_fault_within}
 use Rattle.dexclass.proofs.Summing.{class_heavy, class_more}

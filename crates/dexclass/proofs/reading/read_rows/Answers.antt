@@ -1,6 +1,5 @@
-use Rattle.std.proofs.Common.{map}
-use Rattle.std.proofs.lemmas.Result.{err_from_is_err_and}
-use Rattle.dexclass.specs.Numbered.{definition_of}
+use Rattle.dexclass.proofs.Common.{map, err_from_is_err_and}
+use Rattle.dexclass.specs.{definition_of}
 use Rattle.dexclass.proofs.RowFaults.{together_fault}
 use Rattle.dexclass.proofs.Mergeable.{AreTrimmed, are_trimmed}
 use Rattle.dexclass.proofs.ReadPrograms.{total_is, read_as, mergeable}

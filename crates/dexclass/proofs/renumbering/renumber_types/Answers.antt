@@ -1,5 +1,5 @@
-use Rattle.std.proofs.Common.{◌∙◌, ap, arith}
-use Rattle.dexclass.specs.Renumbering.{remapped}
+use Rattle.dexclass.proofs.Common.{◌∙◌, ap, arith}
+use Rattle.dexclass.specs.{remapped}
 use Rattle.dexclass.proofs.Renumbered.{remapped_more}
 use Rattle.dexclass.proofs.renumbering.renumber_types.Goals as goal
 

@@ -1,4 +1,4 @@
-use Rattle.dexclass.specs.Renumbering.{remapped}
+use Rattle.dexclass.specs.{remapped}
 use Rattle.dexclass.proofs.Renumbered.{RemappedAt}
 use Rattle.dexclass.proofs.renumbering.renumber_types.Given as goal
 

@@ -1,15 +1,5 @@
-use Rattle.std.proofs.Common.{sym, subst}
-use Rattle.std.specs.Prelude.{All}
-use Rattle.dexspec.specs.Files.{definitions}
-use Rattle.dexspec.specs.Depth.{in_class_order}
-use Rattle.dexspec.specs.Mentions.{Mentions, mentions}
-use Rattle.dexspec.specs.Merging.{greatest_caps}
-use Rattle.dexspec.specs.Stripping.{strip}
-use Rattle.dexmembers.specs.Stripped.{stripped_members}
-use Rattle.dexpool.specs.Numberings.{AreRising}
-use Rattle.dexpool.proofs.TypeLists.{if_ok_map}
-use Rattle.dexclass.specs.Numbered.{type_at}
-use Rattle.dexclass.specs.Uses.{IsKnownClass}
+use Rattle.dexclass.proofs.Common.{sym, subst, All, definitions, in_class_order, Mentions, mentions, greatest_caps, strip, stripped_members, AreRising, if_ok_map}
+use Rattle.dexclass.specs.{type_at, IsKnownClass}
 use Rattle.dexclass.proofs.Mergeable.{AreTrimmed, are_trimmed}
 use Rattle.dexclass.proofs.StrippedPrograms.{class_stripped, class_known, all_known, all_stripped, stripped_mergeable, stripped_collection}
 use Rattle.dexclass.proofs.stripping.into_stripped.Goals as goal

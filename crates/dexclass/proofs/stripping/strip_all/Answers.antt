@@ -1,4 +1,4 @@
-use Rattle.std.proofs.Common.{ap, arith, ◌∙◌}
+use Rattle.dexclass.proofs.Common.{ap, arith, ◌∙◌}
 use Rattle.dexclass.specs.internal.Stripped.{stripped_class}
 use Rattle.dexclass.proofs.Renumbered.{remapped_more}
 use Rattle.dexclass.proofs.stripping.strip_all.Goals as goal

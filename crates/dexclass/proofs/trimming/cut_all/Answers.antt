@@ -1,5 +1,5 @@
-use Rattle.std.proofs.Common.{◌<◌, ◌∙◌, length, sym, ap, subst, arith}
-use Rattle.dexclass.specs.Renumbering.{renumbered, IsMappedClass}
+use Rattle.dexclass.proofs.Common.{◌<◌, ◌∙◌, length, sym, ap, subst, arith}
+use Rattle.dexclass.specs.{renumbered, IsMappedClass}
 use Rattle.dexclass.proofs.Renumbered.{next_is, remapped_more}
 use Rattle.dexclass.proofs.trimming.cut_all.Goals as goal
 

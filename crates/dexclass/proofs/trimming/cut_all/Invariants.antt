@@ -1,4 +1,4 @@
-use Rattle.dexclass.specs.Renumbering.{renumbered}
+use Rattle.dexclass.specs.{renumbered}
 use Rattle.dexclass.proofs.Renumbered.{RemappedAt}
 use Rattle.dexclass.proofs.trimming.cut_all.Given as goal
 

@@ -1,12 +1,5 @@
-use Rattle.std.proofs.Common.{◌≡◌, List, Option, map, sym, ap, subst, ◌∙◌}
-use Rattle.std.specs.Prelude.{IfSome, IfNone}
-use Rattle.std.specs.List.{All}
-use Rattle.dexspec.specs.Mentions.{Mentions}
-use Rattle.dexpool.specs.Numberings.{Maps, AllMapTo}
-use Rattle.dexpool.specs.Uses.{MapsMarked}
-use Rattle.dexclass.specs.Numbered.{NumberedClass, definition_of}
-use Rattle.dexclass.specs.Uses.{IsKnownClass}
-use Rattle.dexclass.specs.Renumbering.{IsMappedClass}
+use Rattle.dexclass.proofs.Common.{◌≡◌, List, Option, map, sym, ap, subst, ◌∙◌, IfSome, IfNone, All, Mentions, Maps, AllMapTo, MapsMarked}
+use Rattle.dexclass.specs.{NumberedClass, definition_of, IsKnownClass, IsMappedClass}
 use Rattle.dexclass.specs.internal.Trimming.{MarkClasses}
 use Rattle.dexclass.proofs.Trimmed.{all_map_to, trimmed_same, trimmed_known}
 use Rattle.dexclass.proofs.trimming.into_trimmed.Goals as goal

@@ -1,8 +1,5 @@
-use Rattle.std.proofs.Common.{List, sym, subst}
-use Rattle.std.specs.List.{flat_map}
-use Rattle.std.proofs.lemmas.List.{take_all}
-use Rattle.dexclass.specs.Numbered.{NumberedClass}
-use Rattle.dexclass.specs.Uses.{HaveMarked, IsKnownClass, class_uses}
+use Rattle.dexclass.proofs.Common.{List, sym, subst, flat_map, take_all}
+use Rattle.dexclass.specs.{NumberedClass, HaveMarked, IsKnownClass, class_uses}
 use Rattle.dexclass.proofs.Marked.{have_next}
 use Rattle.dexclass.proofs.Trimmed.{marked_mentions}
 use Rattle.dexclass.proofs.Unmarked.{none_marked, still_marks}

@@ -1,7 +1,5 @@
-use Rattle.std.specs.Prelude.{take}
-use Rattle.std.specs.List.{flat_map}
-use Rattle.dexpool.specs.Numberings.{AreMarksOf}
-use Rattle.dexclass.specs.Uses.{HaveMarked, class_uses}
+use Rattle.dexclass.proofs.Common.{take, flat_map, AreMarksOf}
+use Rattle.dexclass.specs.{HaveMarked, class_uses}
 use Rattle.dexclass.proofs.trimming.marked.Given as goal
 
 abbrev pub invariant-loop-class : goal.invariant-loop-class

@@ -1,7 +1,5 @@
-use Rattle.std.proofs.Common.{List, subst, ◌∙◌}
-use Rattle.std.specs.List.{All}
-use Rattle.dexclass.specs.Numbered.{NumberedClass}
-use Rattle.dexclass.specs.Renumbering.{IsMappedClass}
+use Rattle.dexclass.proofs.Common.{List, subst, ◌∙◌, All}
+use Rattle.dexclass.specs.{NumberedClass, IsMappedClass}
 use Rattle.dexclass.specs.internal.Trimming.{MarkClasses}
 use Rattle.dexclass.proofs.Trimmed.{all_map_to, trimmed_same, trimmed_known}
 use Rattle.dexclass.proofs.trimming.trim.Goals as goal

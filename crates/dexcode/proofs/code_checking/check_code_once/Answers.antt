@@ -1,11 +1,5 @@
-use Rattle.std.proofs.Common.{◌≡◌, ◌+◌, ◌*◌, ℕ, List, sym, subst, ◌∙◌, arith}
-use Rattle.std.proofs.lemmas.Result.{err_from_is_err_and}
-use Rattle.dexpool.specs.Numberings.{AreRising}
-use Rattle.dexinsn.specs.Numbered.{NumberedCode}
-use Rattle.dexinsn.specs.Reading.{AreStartsAt}
-use Rattle.dexcode.specs.Checking.{HasCodeOf, HaveTriesOf}
-use Rattle.dexcode.specs.Numbered.{NumberedTry}
-use Rattle.dexcode.specs.Reading.{IsTriesFault, TriesAt}
+use Rattle.dexcode.proofs.Common.{◌≡◌, ◌+◌, ◌*◌, ℕ, List, sym, subst, ◌∙◌, arith, err_from_is_err_and, AreRising, NumberedCode, AreStartsAt}
+use Rattle.dexcode.specs.{HasCodeOf, HaveTriesOf, NumberedTry, IsTriesFault, TriesAt}
 use Rattle.dexcode.proofs.CodesChecked.{code_weighed, program_fault}
 use Rattle.dexcode.proofs.CodesRead.{tries_fault}
 use Rattle.dexcode.proofs.code_checking.check_code_once.Goals as goal

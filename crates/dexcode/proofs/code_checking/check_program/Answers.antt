@@ -1,6 +1,4 @@
-use Rattle.std.proofs.Common.{◌≡◌, ℕ, ◌+◌, List, ap, ◌∙◌, arith}
-use Rattle.std.proofs.lemmas.Grind.{common_steps}
-use Rattle.dexspec.specs.Bytes.{uint_at}
+use Rattle.dexcode.proofs.Common.{◌≡◌, ℕ, ◌+◌, List, ap, ◌∙◌, arith, common_steps, uint_at}
 use Rattle.dexcode.proofs.CodesChecked.{if_no_program, if_program_found}
 use Rattle.dexcode.proofs.code_checking.check_program.Goals as goal
 

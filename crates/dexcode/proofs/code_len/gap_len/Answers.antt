@@ -1,6 +1,4 @@
-use Rattle.std.proofs.Common.{ℕ, ◌==◌, [], length, ap, sym, ◌∙◌, if◌then◌else◌}
-use Rattle.dexspec.specs.Bytes.{ushort}
-use Rattle.dexspec.proofs.numbers.ByteNumbers.{length-ushort}
+use Rattle.dexcode.proofs.Common.{ℕ, ◌==◌, [], length, ap, sym, ◌∙◌, if◌then◌else◌, ushort, length-ushort}
 use Rattle.dexcode.proofs.code_len.gap_len.Goals as goal
 
 pub returns-then-units-eq1-clause-len : goal.returns-then-units-eq1-clause-len

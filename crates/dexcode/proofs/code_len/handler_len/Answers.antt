@@ -1,4 +1,4 @@
-use Rattle.std.proofs.Common.{◌^◌, ◌<◌, arith}
+use Rattle.dexcode.proofs.Common.{◌^◌, ◌<◌, arith}
 use Rattle.dexcode.proofs.CodeSizes.{handler_most}
 use Rattle.dexcode.proofs.code_len.handler_len.Goals as goal
 

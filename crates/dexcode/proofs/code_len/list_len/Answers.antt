@@ -1,4 +1,4 @@
-use Rattle.std.proofs.Common.{◌^◌, ◌<◌, arith}
+use Rattle.dexcode.proofs.Common.{◌^◌, ◌<◌, arith}
 use Rattle.dexcode.proofs.CodeSizes.{list_most}
 use Rattle.dexcode.proofs.code_len.list_len.Goals as goal
 

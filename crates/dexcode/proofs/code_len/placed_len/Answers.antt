@@ -1,6 +1,5 @@
-use Rattle.std.proofs.Common.{◌≡◌, [], length, ap, arith}
-use Rattle.std.proofs.lemmas.Grind.{common_steps}
-use Rattle.dexcode.specs.CodePut.{gap_bytes}
+use Rattle.dexcode.proofs.Common.{◌≡◌, [], length, ap, arith, common_steps}
+use Rattle.dexcode.specs.{gap_bytes}
 use Rattle.dexcode.proofs.CodeSizes.{item_alone, item_after}
 use Rattle.dexcode.proofs.code_len.placed_len.Goals as goal
 

@@ -1,4 +1,4 @@
-use Rattle.std.proofs.Common.{arith}
+use Rattle.dexcode.proofs.Common.{arith}
 use Rattle.dexcode.proofs.CodeSizes.{units_length}
 use Rattle.dexcode.proofs.code_len.unit_count.Goals as goal
 

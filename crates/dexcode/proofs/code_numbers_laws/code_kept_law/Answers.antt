@@ -1,4 +1,4 @@
-use Rattle.dexpool.proofs.KeptNumbers.{are_marked}
+use Rattle.dexcode.proofs.Common.{are_marked}
 use Rattle.dexcode.proofs.CodePlaces.{images_of_uses}
 use Rattle.dexcode.proofs.KeptUses.{uses_kept}
 use Rattle.dexcode.proofs.code_numbers_laws.code_kept_law.Goals as goal

@@ -1,4 +1,4 @@
-use Rattle.dexdebug.specs.Debug.{debug_uses}
+use Rattle.dexcode.proofs.Common.{debug_uses}
 use Rattle.dexcode.proofs.CodePlaces.{debug_cut, uses_joined}
 use Rattle.dexcode.proofs.code_numbers_laws.debug_places_law.Goals as goal
 

@@ -1,11 +1,7 @@
-use Rattle.std.proofs.Common.{◌≡◌, ◌++◌, List, to_z, of_z, w32, subst, ◌∙◌, rules}
+use Rattle.dexcode.proofs.Common.{◌≡◌, ◌++◌, List, to_z, of_z, w32, subst, ◌∙◌, rules, ℤ, option_to_list, flat_map, to_z-of_z, uleb128, sleb128}
 use mir.Val.{SFits}
-use Rattle.std.specs.Prelude.{ℤ, option_to_list}
-use Rattle.std.specs.List.{flat_map}
-use Rattle.std.proofs.lemmas.Int.{to_z-of_z}
-use Rattle.dexspec.specs.Numbers.{uleb128, sleb128}
 use Rattle.dexcode.specs.declared.handlers.Catch.{Catch}
-use Rattle.dexcode.specs.CodePut.{handler_count, numbered_catch_bytes}
+use Rattle.dexcode.specs.{handler_count, numbered_catch_bytes}
 use Rattle.dexcode.proofs.code_put.encode_handler.Goals as goal
 
 pub returns : goal.returns

@@ -1,8 +1,5 @@
-use Rattle.std.proofs.Common.{◌≡◌, get_or, sym, subst, ◌∙◌}
-use Rattle.std.proofs.lemmas.List.{get_or_default}
-use Rattle.dexcode.specs.Numbered.{no_handler}
-use Rattle.dexcode.specs.CodePut.{numbered_handler_bytes}
-use Rattle.dexhead.proofs.Encoded.{given_more, given_all}
+use Rattle.dexcode.proofs.Common.{◌≡◌, get_or, sym, subst, ◌∙◌, get_or_default, given_more, given_all}
+use Rattle.dexcode.specs.{no_handler, numbered_handler_bytes}
 use Rattle.dexcode.proofs.code_put.encode_handlers.Goals as goal
 
 pub loop-handler-preserved : goal.loop-handler-preserved

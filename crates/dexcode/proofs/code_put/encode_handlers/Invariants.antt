@@ -1,6 +1,5 @@
-use Rattle.std.proofs.Common.{take}
-use Rattle.std.specs.List.{flat_map}
-use Rattle.dexcode.specs.CodePut.{numbered_handler_bytes}
+use Rattle.dexcode.proofs.Common.{take, flat_map}
+use Rattle.dexcode.specs.{numbered_handler_bytes}
 use Rattle.dexcode.proofs.code_put.encode_handlers.Given as goal
 
 abbrev pub invariant-loop-handler : goal.invariant-loop-handler

@@ -1,5 +1,5 @@
-use Rattle.std.proofs.Common.{length, ap, ◌∙◌, arith}
-use Rattle.dexcode.specs.Numbered.{handlers_of}
+use Rattle.dexcode.proofs.Common.{length, ap, ◌∙◌, arith}
+use Rattle.dexcode.specs.{handlers_of}
 use Rattle.dexcode.proofs.HandlerPlaces.{weight_count}
 use Rattle.dexcode.proofs.code_put.encode_item.Goals as goal
 

@@ -1,6 +1,5 @@
-use Rattle.std.proofs.Common.{take}
-use Rattle.std.specs.List.{flat_map}
-use Rattle.dexcode.specs.CodePut.{placed_try_bytes}
+use Rattle.dexcode.proofs.Common.{take, flat_map}
+use Rattle.dexcode.specs.{placed_try_bytes}
 use Rattle.dexcode.proofs.code_put.encode_items.Given as goal
 
 abbrev pub invariant-loop-item : goal.invariant-loop-item

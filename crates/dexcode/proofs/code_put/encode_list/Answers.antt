@@ -1,4 +1,4 @@
-use Rattle.std.proofs.Common.{arith}
+use Rattle.dexcode.proofs.Common.{arith}
 use Rattle.dexcode.proofs.HandlerPlaces.{weight_count}
 use Rattle.dexcode.proofs.code_put.encode_list.Goals as goal
 

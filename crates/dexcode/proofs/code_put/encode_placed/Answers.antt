@@ -1,8 +1,5 @@
-use Rattle.std.proofs.Common.{ℕ, length, ◌++◌, ap, sym, subst, ◌∙◌}
-use Rattle.std.proofs.lemmas.List.{length-map}
-use Rattle.dexinsn.specs.Numbered.{numbered_bytes}
-use Rattle.dexcode.specs.Numbered.{named}
-use Rattle.dexcode.specs.CodePut.{unit_count, numbered_tries_bytes, numbered_head_bytes, numbered_item_bytes}
+use Rattle.dexcode.proofs.Common.{ℕ, length, ◌++◌, ap, sym, subst, ◌∙◌, length-map, numbered_bytes}
+use Rattle.dexcode.specs.{named, unit_count, numbered_tries_bytes, numbered_head_bytes, numbered_item_bytes}
 use Rattle.dexcode.proofs.code_put.encode_placed.Goals as goal
 
 pub returns : goal.returns

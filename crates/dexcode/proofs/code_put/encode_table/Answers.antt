@@ -1,7 +1,5 @@
-use Rattle.std.proofs.Common.{subst}
-use Rattle.std.specs.List.{flat_map}
-use Rattle.dexcode.specs.Numbered.{all_named}
-use Rattle.dexcode.specs.CodePut.{numbered_try_bytes, numbered_list_bytes}
+use Rattle.dexcode.proofs.Common.{subst, flat_map}
+use Rattle.dexcode.specs.{all_named, numbered_try_bytes, numbered_list_bytes}
 use Rattle.dexcode.proofs.HandlerPlaces.{stored_apart, tries_placed}
 use Rattle.dexcode.proofs.code_put.encode_table.Goals as goal
 

@@ -1,7 +1,5 @@
-use Rattle.std.proofs.Common.{◌≡◌, [], sym, subst, arith}
-use Rattle.std.proofs.lemmas.Grind.{common_steps}
-use Rattle.dexcode.specs.Numbered.{all_named}
-use Rattle.dexcode.specs.CodePut.{gap_bytes, numbered_table_bytes}
+use Rattle.dexcode.proofs.Common.{◌≡◌, [], sym, subst, arith, common_steps}
+use Rattle.dexcode.specs.{all_named, gap_bytes, numbered_table_bytes}
 use Rattle.dexcode.proofs.CodeSizes.{tries_parts}
 use Rattle.dexcode.proofs.code_put.encode_tries.Goals as goal
 

@@ -1,8 +1,5 @@
-use Rattle.std.proofs.Common.{◌≡◌, ℕ, length, get_or, slice_set, ap, sym, ◌∙◌, inl, inr, arith}
-use Rattle.std.proofs.lemmas.List.{length-set, get_or-set_same, get_or-set_other, get_or_default}
-use Rattle.std.proofs.lemmas.Bool.{cases_eq}
-use Rattle.dexcode.specs.Numbered.{no_handler}
-use Rattle.dexcode.specs.CodePut.{numbered_handler_bytes, place_of}
+use Rattle.dexcode.proofs.Common.{◌≡◌, ℕ, length, get_or, slice_set, ap, sym, ◌∙◌, inl, inr, arith, length-set, get_or-set_same, get_or-set_other, get_or_default, cases_eq}
+use Rattle.dexcode.specs.{no_handler, numbered_handler_bytes, place_of}
 use Rattle.dexcode.proofs.HandlerPlaces.{weight_count, weight_more, place_more}
 use Rattle.dexcode.proofs.CodeSizes.{handler_length}
 use Rattle.dexcode.proofs.code_put.place_handlers.Goals as goal

@@ -1,6 +1,5 @@
-use Rattle.std.proofs.Common.{◌≡◌, ◌<◌, ◌≤◌, ℕ, length, take, get_or}
-use Rattle.dexcode.specs.Numbered.{handlers_weight}
-use Rattle.dexcode.specs.CodePut.{place_of}
+use Rattle.dexcode.proofs.Common.{◌≡◌, ◌<◌, ◌≤◌, ℕ, length, take, get_or}
+use Rattle.dexcode.specs.{handlers_weight, place_of}
 use Rattle.dexcode.proofs.code_put.place_handlers.Given as goal
 
 abbrev pub invariant-loop-i : goal.invariant-loop-i

@@ -1,4 +1,4 @@
-use Rattle.std.proofs.Common.{arith}
+use Rattle.dexcode.proofs.Common.{arith}
 use Rattle.dexcode.proofs.code_put.put_code.Goals as goal
 
 pub returns-clause-bound : goal.returns-clause-bound

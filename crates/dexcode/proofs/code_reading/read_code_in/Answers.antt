@@ -1,9 +1,5 @@
-use Rattle.std.proofs.Common.{ℕ, List, sym, subst}
-use Rattle.std.proofs.lemmas.Result.{err_from_is_err_and}
-use Rattle.dexpool.specs.Numberings.{AreRising}
-use Rattle.dexinsn.specs.Reading.{AreStartsAt}
-use Rattle.dexcode.specs.Numbered.{NumberedTry}
-use Rattle.dexcode.specs.Reading.{TriesAt, IsTriesFault}
+use Rattle.dexcode.proofs.Common.{ℕ, List, sym, subst, err_from_is_err_and, AreRising, AreStartsAt}
+use Rattle.dexcode.specs.{NumberedTry, TriesAt, IsTriesFault}
 use Rattle.dexcode.specs.internal.Extras.{IsDebugOf, tries_of, debug_of}
 use Rattle.dexcode.proofs.CodesChecked.{program_fault}
 use Rattle.dexcode.proofs.CodesRead.{code_found, tries_fault}

@@ -1,8 +1,4 @@
-use Rattle.std.proofs.Common.{◌≡◌, ℕ, ◌+◌, List, ap, sym, subst, ◌∙◌, arith}
-use Rattle.std.proofs.lemmas.Grind.{common_steps}
-use Rattle.std.proofs.lemmas.Result.{err_from_is_err_and}
-use Rattle.dexspec.specs.Bytes.{uint_at}
-use Rattle.dexdebug.specs.DebugReading.{IsDebugAt}
+use Rattle.dexcode.proofs.Common.{◌≡◌, ℕ, ◌+◌, List, ap, sym, subst, ◌∙◌, arith, common_steps, err_from_is_err_and, uint_at, IsDebugAt}
 use Rattle.dexcode.proofs.CodesChecked.{no_program}
 use Rattle.dexcode.proofs.CodesRead.{no_debug, some_debug}
 use Rattle.dexcode.proofs.code_reading.read_program.Goals as goal

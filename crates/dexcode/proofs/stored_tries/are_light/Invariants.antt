@@ -1,6 +1,5 @@
-use Rattle.std.proofs.Common.{◌≡◌, ◌≤◌, take}
-use Rattle.dexspec.specs.Code.{most_handlers}
-use Rattle.dexcode.specs.Numbered.{handlers_weight}
+use Rattle.dexcode.proofs.Common.{◌≡◌, ◌≤◌, take, most_handlers}
+use Rattle.dexcode.specs.{handlers_weight}
 use Rattle.dexcode.proofs.stored_tries.are_light.Given as goal
 
 abbrev pub invariant-loop-handler : goal.invariant-loop-handler

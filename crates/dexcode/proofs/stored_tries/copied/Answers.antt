@@ -1,6 +1,5 @@
-use Rattle.std.proofs.Common.{List, [], ◌∷◌, ◌++◌, ◌<◌, ◌≤◌, length, get_or, ap, sym, subst, ◌∙◌}
-use Rattle.std.proofs.lemmas.List.{take_all, take_more}
-use Rattle.dexcode.specs.Numbered.{NumberedHandler}
+use Rattle.dexcode.proofs.Common.{List, [], ◌∷◌, ◌++◌, ◌<◌, ◌≤◌, length, get_or, ap, sym, subst, ◌∙◌, take_all, take_more}
+use Rattle.dexcode.specs.{NumberedHandler}
 use Rattle.dexcode.proofs.stored_tries.copied.Goals as goal
 
 pub loop-handler-preserved : goal.loop-handler-preserved

@@ -1,4 +1,4 @@
-use Rattle.std.proofs.Common.{◌≡◌, take}
+use Rattle.dexcode.proofs.Common.{◌≡◌, take}
 use Rattle.dexcode.proofs.stored_tries.copied.Given as goal
 
 abbrev pub invariant-loop-handler : goal.invariant-loop-handler

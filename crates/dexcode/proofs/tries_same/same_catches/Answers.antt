@@ -1,6 +1,5 @@
-use Rattle.std.proofs.Common.{◌<◌, length, arith}
-use Rattle.dexcode.specs.Renumbering.{renumbered_catch}
-use Rattle.dexdebug.proofs.DebugSame.{same_at}
+use Rattle.dexcode.proofs.Common.{◌<◌, length, arith, same_at}
+use Rattle.dexcode.specs.{renumbered_catch}
 use Rattle.dexcode.proofs.tries_same.same_catches.Goals as goal
 
 pub returns-then-not-same_catch : goal.returns-then-not-same_catch

@@ -1,5 +1,5 @@
-use Rattle.std.proofs.Common.{◌≡◌, length, map, take}
-use Rattle.dexcode.specs.Renumbering.{renumbered_catch}
+use Rattle.dexcode.proofs.Common.{◌≡◌, length, map, take}
+use Rattle.dexcode.specs.{renumbered_catch}
 use Rattle.dexcode.proofs.tries_same.same_catches.Given as goal
 
 abbrev pub invariant-loop-i : goal.invariant-loop-i

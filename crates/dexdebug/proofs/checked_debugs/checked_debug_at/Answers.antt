@@ -1,6 +1,6 @@
-use Rattle.std.proofs.Common.{ℕ, nat_eq, sym}
+use Rattle.dexdebug.proofs.Common.{ℕ, nat_eq, sym}
 use Rattle.std.specs.HashMap.{get}
-use Rattle.dexdebug.specs.Checking.{HasDebugAt}
+use Rattle.dexdebug.specs.{HasDebugAt}
 use Rattle.dexdebug.proofs.DebugsChecked.{debug_found, number_added}
 use Rattle.dexdebug.proofs.checked_debugs.checked_debug_at.Goals as goal
 

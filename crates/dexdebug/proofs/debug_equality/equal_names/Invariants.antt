@@ -1,6 +1,4 @@
-use Rattle.std.proofs.Common.{◌≡◌, ◌==◌}
-use Rattle.std.specs.Cmp.Lexicographic.{pointwise}
-use Rattle.std.specs.Option.{option_eq}
+use Rattle.dexdebug.proofs.Common.{◌≡◌, ◌==◌, pointwise, option_eq}
 use Rattle.dexdebug.proofs.debug_equality.equal_names.Given as goal
 
 abbrev pub invariant-loop-name : goal.invariant-loop-name

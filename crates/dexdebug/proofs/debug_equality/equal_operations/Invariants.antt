@@ -1,5 +1,4 @@
-use Rattle.std.proofs.Common.{◌≡◌}
-use Rattle.std.specs.Cmp.Lexicographic.{pointwise}
+use Rattle.dexdebug.proofs.Common.{◌≡◌, pointwise}
 use Rattle.dexdebug.specs.contracts.debug_operation.OperationPartialEq.TheImpl.{eq-value}
 use Rattle.dexdebug.proofs.debug_equality.equal_operations.Given as goal
 

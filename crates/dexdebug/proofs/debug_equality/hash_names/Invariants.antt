@@ -1,6 +1,5 @@
-use Rattle.std.proofs.Common.{◌≡◌}
+use Rattle.dexdebug.proofs.Common.{◌≡◌, flat_map, fold}
 use Rattle.std.specs.Hash as fed
-use Rattle.std.specs.List.{flat_map, fold}
 use Rattle.dexdebug.proofs.debug_equality.hash_names.Given as goal
 
 abbrev pub invariant-loop-name : goal.invariant-loop-name

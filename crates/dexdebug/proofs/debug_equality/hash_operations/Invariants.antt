@@ -1,5 +1,4 @@
-use Rattle.std.proofs.Common.{◌≡◌}
-use Rattle.std.specs.List.{flat_map, fold}
+use Rattle.dexdebug.proofs.Common.{◌≡◌, flat_map, fold}
 use Rattle.dexdebug.specs.contracts.debug_operation.OperationHash.TheImpl.{hash_input-value}
 use Rattle.dexdebug.proofs.debug_equality.hash_operations.Given as goal
 

@@ -1,6 +1,5 @@
-use Rattle.std.proofs.Common.{[], ◌∷◌, length, sum_by, ap, arith, length-append}
-use Rattle.std.proofs.lemmas.List.Sums.{sum_by-cons}
-use Rattle.dexdebug.specs.Debug.{operation_weight}
+use Rattle.dexdebug.proofs.Common.{[], ◌∷◌, length, sum_by, ap, arith, length-append, sum_by-cons}
+use Rattle.dexdebug.specs.{operation_weight}
 use Rattle.dexdebug.proofs.debug_numbers.operations_weight.Goals as goal
 
 pub loop-operation-preserved : goal.loop-operation-preserved

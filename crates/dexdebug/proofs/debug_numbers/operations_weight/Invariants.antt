@@ -1,5 +1,5 @@
-use Rattle.std.proofs.Common.{◌≡◌, ◌+◌, ◌*◌, ◌≤◌, length, sum_by}
-use Rattle.dexdebug.specs.Debug.{operation_weight}
+use Rattle.dexdebug.proofs.Common.{◌≡◌, ◌+◌, ◌*◌, ◌≤◌, length, sum_by}
+use Rattle.dexdebug.specs.{operation_weight}
 use Rattle.dexdebug.proofs.debug_numbers.operations_weight.Given as goal
 
 abbrev pub invariant-loop-operation : goal.invariant-loop-operation

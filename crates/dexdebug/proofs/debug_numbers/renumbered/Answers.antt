@@ -1,4 +1,4 @@
-use Rattle.std.proofs.Common.{◌≡◌, Some, arith, rules}
+use Rattle.dexdebug.proofs.Common.{◌≡◌, Some, arith, rules}
 use Rattle.dexdebug.proofs.DebugUses.{place_fits}
 use Rattle.dexdebug.proofs.debug_numbers.renumbered.Goals as goal
 

@@ -1,12 +1,8 @@
+use Rattle.dexdebug.proofs.Common.{◌+◌, ◌∷◌, [], length, map, ap, subst, arith, length-append, All-head, All-tail, All, pos, ints, to_z-of_z}
 use mir.Syntax.{w64}
 use mir.Val.{of_z, to_z}
-use Rattle.std.proofs.Common.{◌+◌, ◌∷◌, [], length, map, ap, subst, arith, length-append}
-use Rattle.std.proofs.lemmas.List.Elements.{All-head, All-tail}
-use Rattle.std.specs.List.{All}
-use Rattle.std.specs.Prelude.{pos}
-use Rattle.std.proofs.lemmas.Int.{ints, to_z-of_z}
 use Rattle.dexdebug.specs.Positions as recorded
-use Rattle.dexdebug.specs.Debug.{IsFormedOperation, unindexed_operation}
+use Rattle.dexdebug.specs.{IsFormedOperation, unindexed_operation}
 use Rattle.dexdebug.proofs.DebugPositions.{position_more}
 use Rattle.dexdebug.proofs.debug_positions.positions_from.Goals as goal
 

@@ -1,8 +1,6 @@
-use Rattle.std.proofs.Common.{◌≡◌, ◌+◌, ◌*◌, ◌^◌, ◌≤◌, ◌++◌, length, map}
-use Rattle.std.specs.List.{All}
-use Rattle.std.specs.Prelude.{pos, ◌+ℤ◌, ◌≤ℤ◌}
+use Rattle.dexdebug.proofs.Common.{◌≡◌, ◌+◌, ◌*◌, ◌^◌, ◌≤◌, ◌++◌, length, map, All, pos, ◌+ℤ◌, ◌≤ℤ◌}
 use Rattle.dexdebug.specs.Positions as recorded
-use Rattle.dexdebug.specs.Debug.{IsFormedOperation, unindexed_operation}
+use Rattle.dexdebug.specs.{IsFormedOperation, unindexed_operation}
 use Rattle.dexdebug.proofs.debug_positions.positions_from.Given as goal
 
 abbrev pub invariant-loop-operation : goal.invariant-loop-operation

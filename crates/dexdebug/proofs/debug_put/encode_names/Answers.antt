@@ -1,9 +1,5 @@
-use Rattle.std.proofs.Common.{ap, subst}
-use Rattle.std.specs.List.{All, flat_map}
-use Rattle.std.proofs.lemmas.List.Elements.{All-head, All-tail}
-use Rattle.dexspec.specs.Numbers.{uleb128p1}
-use Rattle.dexhead.proofs.Encoded.{completes_all, completes_more}
-use Rattle.dexdebug.specs.Debug.{FitsIndex}
+use Rattle.dexdebug.proofs.Common.{ap, subst, All, flat_map, All-head, All-tail, uleb128p1, completes_all, completes_more}
+use Rattle.dexdebug.specs.{FitsIndex}
 use Rattle.dexdebug.proofs.debug_put.encode_names.Goals as goal
 
 pub encode_index-requires : goal.encode_index-requires

@@ -1,7 +1,5 @@
-use Rattle.std.specs.List.{All, flat_map}
-use Rattle.dexspec.specs.Numbers.{uleb128p1}
-use Rattle.dexhead.proofs.Encoded.{Completes}
-use Rattle.dexdebug.specs.Debug.{FitsIndex}
+use Rattle.dexdebug.proofs.Common.{All, flat_map, uleb128p1, Completes}
+use Rattle.dexdebug.specs.{FitsIndex}
 use Rattle.dexdebug.proofs.debug_put.encode_names.Given as goal
 
 abbrev pub invariant-loop-name : goal.invariant-loop-name

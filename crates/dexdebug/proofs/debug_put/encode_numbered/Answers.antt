@@ -1,5 +1,4 @@
-use Rattle.std.proofs.Common.{◌∷◌, []}
-use Rattle.dexspec.specs.Numbers.{uleb128}
+use Rattle.dexdebug.proofs.Common.{◌∷◌, [], uleb128}
 use Rattle.dexdebug.proofs.debug_put.encode_numbered.Goals as goal
 
 pub returns : goal.returns

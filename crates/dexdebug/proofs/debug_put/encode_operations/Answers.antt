@@ -1,8 +1,5 @@
-use Rattle.std.proofs.Common.{ap, subst}
-use Rattle.std.specs.List.{All, flat_map}
-use Rattle.std.proofs.lemmas.List.Elements.{All-head, All-tail}
-use Rattle.dexhead.proofs.Encoded.{completes_all, completes_more}
-use Rattle.dexdebug.specs.Debug.{IsFormedOperation, numbered_operation_bytes}
+use Rattle.dexdebug.proofs.Common.{ap, subst, All, flat_map, All-head, All-tail, completes_all, completes_more}
+use Rattle.dexdebug.specs.{IsFormedOperation, numbered_operation_bytes}
 use Rattle.dexdebug.proofs.debug_put.encode_operations.Goals as goal
 
 pub encode-requires : goal.encode-requires

@@ -1,6 +1,5 @@
-use Rattle.std.specs.List.{All, flat_map}
-use Rattle.dexhead.proofs.Encoded.{Completes}
-use Rattle.dexdebug.specs.Debug.{IsFormedOperation, numbered_operation_bytes}
+use Rattle.dexdebug.proofs.Common.{All, flat_map, Completes}
+use Rattle.dexdebug.specs.{IsFormedOperation, numbered_operation_bytes}
 use Rattle.dexdebug.proofs.debug_put.encode_operations.Given as goal
 
 abbrev pub invariant-loop-operation : goal.invariant-loop-operation

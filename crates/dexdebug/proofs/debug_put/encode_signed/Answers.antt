@@ -1,6 +1,4 @@
-use Rattle.std.proofs.Common.{◌∷◌, [], w32, subst}
-use Rattle.std.proofs.lemmas.Int.{to_z-of_z}
-use Rattle.dexspec.specs.Numbers.{sleb128}
+use Rattle.dexdebug.proofs.Common.{◌∷◌, [], w32, subst, to_z-of_z, sleb128}
 use Rattle.dexdebug.proofs.debug_put.encode_signed.Goals as goal
 
 pub returns : goal.returns

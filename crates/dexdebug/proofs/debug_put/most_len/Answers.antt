@@ -1,4 +1,4 @@
-use Rattle.std.proofs.Common.{length, ap, arith}
+use Rattle.dexdebug.proofs.Common.{length, ap, arith}
 use Rattle.dexdebug.proofs.DebugMeanings.{bytes_most}
 use Rattle.dexdebug.proofs.StoredOperations.{names_many, operations_many}
 use Rattle.dexdebug.proofs.debug_put.most_len.Goals as goal

@@ -1,7 +1,6 @@
-use Rattle.std.proofs.Common.{ℕ, List, subst}
-use Rattle.std.specs.Prelude.{IfOk}
+use Rattle.dexdebug.proofs.Common.{ℕ, List, subst, IfOk}
 use Rattle.dexdebug.specs.declared.debug_reading.Counts.{Counts}
-use Rattle.dexdebug.specs.DebugReading.{NumberedDebugAt, counts_of}
+use Rattle.dexdebug.specs.{NumberedDebugAt, counts_of}
 use Rattle.dexdebug.proofs.DebugBridge.{ok_named}
 use Rattle.dexdebug.proofs.debug_reading.build_debug.Goals as goal
 

@@ -1,6 +1,5 @@
-use Rattle.std.proofs.Common.{◌≡◌, [], sym, subst, arith, rules}
-use Rattle.dexdebug.specs.Debug.{IsFormedDebug}
-use Rattle.dexdebug.specs.DebugReading.{NumberedDebugAt}
+use Rattle.dexdebug.proofs.Common.{◌≡◌, [], sym, subst, arith, rules}
+use Rattle.dexdebug.specs.{IsFormedDebug, NumberedDebugAt}
 use Rattle.dexdebug.proofs.DebugRuns.{built_at, built_formed}
 use Rattle.dexdebug.proofs.StoredOperations.{read_is, read_is_stored}
 use Rattle.dexdebug.proofs.debug_reading.build_numbered.Goals as goal

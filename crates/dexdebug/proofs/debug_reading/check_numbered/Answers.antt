@@ -1,5 +1,4 @@
-use Rattle.std.proofs.Common.{ℕ, ◌+◌, length, sym, subst, arith}
-use Rattle.dexspec.specs.Numbers.{Uleb128At}
+use Rattle.dexdebug.proofs.Common.{ℕ, ◌+◌, length, sym, subst, arith, Uleb128At}
 use Rattle.dexdebug.proofs.DebugRead.{some_parts}
 use Rattle.dexdebug.proofs.DebugRuns.{no_names, no_operations}
 use Rattle.dexdebug.proofs.debug_reading.check_numbered.Goals as goal

@@ -1,4 +1,4 @@
-use Rattle.std.proofs.Common.{get_or, arith}
+use Rattle.dexdebug.proofs.Common.{get_or, arith}
 use Rattle.dexdebug.proofs.DebugRuns.{byte_encoded, one_more_checked, no_operation, no_end}
 use Rattle.dexdebug.proofs.debug_reading.check_operations.Goals as goal
 

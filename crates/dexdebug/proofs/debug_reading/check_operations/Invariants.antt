@@ -1,4 +1,4 @@
-use Rattle.std.proofs.Common.{◌-◌, length}
+use Rattle.dexdebug.proofs.Common.{◌-◌, length}
 use Rattle.dexdebug.proofs.DebugRuns.{OperationsChecked}
 use Rattle.dexdebug.proofs.debug_reading.check_operations.Given as goal
 

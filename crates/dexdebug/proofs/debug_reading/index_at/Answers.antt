@@ -1,5 +1,4 @@
-use Rattle.std.proofs.Common.{◌<◌, sym, subst}
-use Rattle.std.specs.Prelude.{IfSome}
+use Rattle.dexdebug.proofs.Common.{◌<◌, sym, subst, IfSome}
 use Rattle.dexdebug.proofs.DebugRead.{some_of, some_parts}
 use Rattle.dexdebug.proofs.debug_reading.index_at.Goals as goal
 

@@ -1,4 +1,4 @@
-use Rattle.std.proofs.Common.{[], append-nil, refl, sym, arith, rules}
+use Rattle.dexdebug.proofs.Common.{[], append-nil, refl, sym, arith, rules}
 use Rattle.dexdebug.proofs.DebugRuns.{all_names_built, more_names, name_formed, next_name, no_names_built}
 use Rattle.dexdebug.proofs.debug_reading.keep_names.Goals as goal
 

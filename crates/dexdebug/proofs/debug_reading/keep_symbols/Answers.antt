@@ -1,7 +1,5 @@
-use Rattle.std.proofs.Common.{◌++◌, [], refl, ap, sym, ◌∙◌, arith, append-nil}
-use Rattle.std.proofs.lemmas.List.{nil_from_length}
-use Rattle.std.specs.List.{flat_map}
-use Rattle.dexdebug.specs.DebugReading.{indices_of}
+use Rattle.dexdebug.proofs.Common.{◌++◌, [], refl, ap, sym, ◌∙◌, arith, append-nil, nil_from_length, flat_map}
+use Rattle.dexdebug.specs.{indices_of}
 use Rattle.dexdebug.proofs.DebugRuns.{all_operations_built, are_tallied, more_symbols, no_operations_built, opcode_some, next_operation}
 use Rattle.dexdebug.proofs.debug_reading.keep_symbols.Goals as goal
 

@@ -1,5 +1,5 @@
-use Rattle.std.proofs.Common.{◌≡◌, ℕ, ◌+◌, Some, sym, subst, arith}
-use Rattle.dexdebug.specs.DebugReading.{IndexAt}
+use Rattle.dexdebug.proofs.Common.{◌≡◌, ℕ, ◌+◌, Some, sym, subst, arith}
+use Rattle.dexdebug.specs.{IndexAt}
 use Rattle.dexdebug.proofs.DebugRead.{some_parts}
 use Rattle.dexdebug.proofs.debug_reading.local_at.Goals as goal
 

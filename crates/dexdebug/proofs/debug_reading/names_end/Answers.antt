@@ -1,4 +1,4 @@
-use Rattle.std.proofs.Common.{◌++◌, [], ◌∷◌, refl}
+use Rattle.dexdebug.proofs.Common.{◌++◌, [], ◌∷◌, refl}
 use Rattle.dexdebug.proofs.DebugRuns.{one_name_more, no_name}
 use Rattle.dexdebug.proofs.debug_reading.names_end.Goals as goal
 

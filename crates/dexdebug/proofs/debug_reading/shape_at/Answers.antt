@@ -1,8 +1,6 @@
-use Rattle.std.proofs.Common.{ℕ, List, length, ap, subst, arith, rules}
-use Rattle.std.specs.Prelude.{MatchOption}
+use Rattle.dexdebug.proofs.Common.{ℕ, List, length, ap, subst, arith, rules, MatchOption}
 use Rattle.dexdebug.specs.declared.debug_reading.Counts.{Counts}
-use Rattle.dexdebug.specs.Debug.{NumberedDebug}
-use Rattle.dexdebug.specs.DebugReading.{NumberedDebugAt, IsShape, counts_of}
+use Rattle.dexdebug.specs.{NumberedDebug, NumberedDebugAt, IsShape, counts_of}
 use Rattle.dexdebug.proofs.DebugBridge.{reported}
 use Rattle.dexdebug.proofs.debug_reading.shape_at.Goals as goal
 

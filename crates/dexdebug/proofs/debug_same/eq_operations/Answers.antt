@@ -1,6 +1,6 @@
-use Rattle.std.proofs.Common.{sym, ◌∙◌, ap}
+use Rattle.dexdebug.proofs.Common.{sym, ◌∙◌, ap}
 use Rattle.dexpool.specs.declared.symbols.SymbolKind.TheVariants as kinds
-use Rattle.dexdebug.specs.Debug.{image_or_none}
+use Rattle.dexdebug.specs.{image_or_none}
 use Rattle.dexdebug.proofs.DebugSame.{same_unindexed, same_name, same_type, same_signature, same_parts}
 use Rattle.dexdebug.proofs.debug_same.eq_operations.Goals as goal
 

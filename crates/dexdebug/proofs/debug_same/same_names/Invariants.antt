@@ -1,6 +1,6 @@
-use Rattle.std.proofs.Common.{◌≡◌, ◌↔◌, map}
+use Rattle.dexdebug.proofs.Common.{◌≡◌, ◌↔◌, map}
 use Rattle.dexpool.specs.declared.symbols.SymbolKind.TheVariants as kinds
-use Rattle.dexdebug.specs.Debug.{image_or_none}
+use Rattle.dexdebug.specs.{image_or_none}
 use Rattle.dexdebug.proofs.debug_same.same_names.Given as goal
 
 abbrev pub invariant-loop-name : goal.invariant-loop-name

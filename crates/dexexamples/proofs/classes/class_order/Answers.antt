@@ -1,5 +1,4 @@
-use Rattle.std.proofs.Common.{refl}
-use Rattle.dexspec.specs.Depth.{depth, in_class_order}
+use Rattle.dexexamples.proofs.Common.{refl, depth, in_class_order}
 use Rattle.dexexamples.proofs.classes.class_order.Goals as goal
 
 pub returns-clause-one_way : goal.returns-clause-one_way

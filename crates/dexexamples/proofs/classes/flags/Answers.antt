@@ -1,4 +1,4 @@
-use Rattle.std.proofs.Common.{refl}
+use Rattle.dexexamples.proofs.Common.{refl}
 use Rattle.std.specs.Fmt.{digits}
 use Rattle.dexexamples.proofs.classes.flags.Goals as goal
 

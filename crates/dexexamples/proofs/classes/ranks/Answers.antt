@@ -1,5 +1,4 @@
-use Rattle.std.proofs.Common.{refl}
-use Rattle.dexspec.specs.Mentions.{mentions, symbols_of}
+use Rattle.dexexamples.proofs.Common.{refl, mentions, symbols_of}
 use Rattle.dexexamples.proofs.classes.ranks.Goals as goal
 
 pub returns-clause-alone : goal.returns-clause-alone

@@ -1,6 +1,4 @@
-use Rattle.std.proofs.Common.{refl}
-use Rattle.dexspec.specs.Mentions.{mentions, symbols_of}
-use Rattle.dexspec.specs.Weight.{weight}
+use Rattle.dexexamples.proofs.Common.{refl, mentions, symbols_of, weight}
 use Rattle.dexexamples.proofs.classes.weights.Goals as goal
 
 pub returns-clause-nothing : goal.returns-clause-nothing

@@ -1,9 +1,5 @@
-use Rattle.std.proofs.Common.{◌≡◌, ◌<◌, ℕ, List, [], ◌∷◌, length, true, refl, arith}
-use Rattle.std.specs.List.{list_all}
-use Rattle.std.proofs.lemmas.List.Sums.{AllPass-from_list_all}
-use Rattle.dexspec.specs.Opcodes.{opcode_of, opcode_runs}
-use Rattle.dexspec.specs.Pieces.{Cut, AreCut, IsCode, piece_size, has_right_targets}
-use Rattle.dexexamples.specs.Units.{cut, packed, sparse, array_data, invoke}
+use Rattle.dexexamples.proofs.Common.{◌≡◌, ◌<◌, ℕ, List, [], ◌∷◌, length, true, refl, arith, list_all, AllPass-from_list_all, opcode_of, opcode_runs, Cut, AreCut, IsCode, piece_size, has_right_targets}
+use Rattle.dexexamples.specs.{cut, packed, sparse, array_data, invoke}
 use Rattle.dexexamples.proofs.code.code_is_cut.Goals as goal
 
 -- code, by a test of its targets

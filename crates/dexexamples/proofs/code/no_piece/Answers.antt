@@ -1,8 +1,5 @@
-use Rattle.std.proofs.Common.{refl, arith}
-use Rattle.dexspec.specs.Opcodes.{opcode_of, opcode_runs}
-use Rattle.dexspec.specs.Pieces.{piece_size}
-use Rattle.dexexamples.specs.Units.{cut}
-use Rattle.std.specs.Prelude.{[], ◌∷◌}
+use Rattle.dexexamples.proofs.Common.{refl, arith, opcode_of, opcode_runs, piece_size, [], ◌∷◌}
+use Rattle.dexexamples.specs.{cut}
 use Rattle.dexexamples.proofs.code.no_piece.Goals as goal
 
 pub returns-clause-odd_payload : goal.returns-clause-odd_payload

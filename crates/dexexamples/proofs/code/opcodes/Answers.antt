@@ -1,5 +1,4 @@
-use Rattle.std.proofs.Common.{refl}
-use Rattle.dexspec.specs.Opcodes.{opcode_of, opcode_runs}
+use Rattle.dexexamples.proofs.Common.{refl, opcode_of, opcode_runs}
 use Rattle.dexexamples.proofs.code.opcodes.Goals as goal
 
 pub returns-clause-formats : goal.returns-clause-formats

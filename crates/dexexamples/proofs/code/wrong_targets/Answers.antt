@@ -1,6 +1,4 @@
-use Rattle.std.proofs.Common.{refl}
-use Rattle.dexspec.specs.Opcodes.{opcode_of, opcode_runs}
-use Rattle.dexspec.specs.Pieces.{has_right_targets}
+use Rattle.dexexamples.proofs.Common.{refl, opcode_of, opcode_runs, has_right_targets}
 use Rattle.dexexamples.proofs.code.wrong_targets.Goals as goal
 
 pub returns-clause-inside : goal.returns-clause-inside

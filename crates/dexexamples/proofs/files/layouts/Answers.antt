@@ -1,10 +1,4 @@
-use Rattle.std.proofs.Common.{refl}
-use Rattle.dexspec.specs.Mentions.{mentions, symbols_of}
-use Rattle.dexspec.specs.Depth.{depth, in_class_order}
-use Rattle.dexspec.specs.Bytes.{bytes_of, ushort, uint}
-use Rattle.dexspec.specs.Opcodes.{opcode_of, opcode_runs}
-use Rattle.dexspec.specs.Spellings.{code_bytes, debug_bytes, class_data_bytes}
-use Rattle.dexspec.specs.Canonical.{unsigned_file, type_list_section, annotation_section, annotation_offsets, array_section, string_section, debug_section, code_section, class_data_section, set_section, set_offsets, ref_list_section, directory_section}
+use Rattle.dexexamples.proofs.Common.{refl, mentions, symbols_of, depth, in_class_order, bytes_of, ushort, uint, opcode_of, opcode_runs, code_bytes, debug_bytes, class_data_bytes, unsigned_file, type_list_section, annotation_section, annotation_offsets, array_section, string_section, debug_section, code_section, class_data_section, set_section, set_offsets, ref_list_section, directory_section}
 use Rattle.dexexamples.proofs.files.layouts.Goals as goal
 
 pub returns-clause-nothing : goal.returns-clause-nothing

@@ -1,5 +1,5 @@
-use Rattle.std.specs.FinMap.{from_entries}
-use Rattle.dexexamples.specs.Varied.{varied}
+use Rattle.dexexamples.proofs.Common.{from_entries}
+use Rattle.dexexamples.specs.{varied}
 use Rattle.dexexamples.proofs.GoodTests.{all_kinds_written}
 use Rattle.dexexamples.proofs.good.of_all_kinds.Goals as goal
 

@@ -1,6 +1,5 @@
-use Rattle.std.specs.Prelude.{[], ◌∷◌}
-use Rattle.std.specs.FinMap.{from_entries}
-use Rattle.dexexamples.specs.Examples.{class_f}
+use Rattle.dexexamples.proofs.Common.{[], ◌∷◌, from_entries}
+use Rattle.dexexamples.specs.{class_f}
 use Rattle.dexexamples.proofs.GoodTests.{annotations_written}
 use Rattle.dexexamples.proofs.good.with_annotations.Goals as goal
 

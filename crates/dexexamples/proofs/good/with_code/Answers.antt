@@ -1,6 +1,5 @@
-use Rattle.std.specs.Prelude.{[], ◌∷◌, codes}
-use Rattle.std.specs.FinMap.{from_entries}
-use Rattle.dexexamples.specs.Examples.{class_p}
+use Rattle.dexexamples.proofs.Common.{[], ◌∷◌, codes, from_entries}
+use Rattle.dexexamples.specs.{class_p}
 use Rattle.dexexamples.proofs.GoodTests.{code_written}
 use Rattle.dexexamples.proofs.good.with_code.Goals as goal
 

@@ -1,6 +1,5 @@
-use Rattle.std.specs.Prelude.{[], ◌∷◌}
-use Rattle.std.specs.FinMap.{from_entries}
-use Rattle.dexexamples.specs.Examples.{class_debug_twice}
+use Rattle.dexexamples.proofs.Common.{[], ◌∷◌, from_entries}
+use Rattle.dexexamples.specs.{class_debug_twice}
 use Rattle.dexexamples.proofs.GoodTests.{equal_debug_written}
 use Rattle.dexexamples.proofs.good.with_equal_debug.Goals as goal
 

@@ -1,5 +1,4 @@
-use Rattle.std.proofs.Common.{refl}
-use Rattle.dexspec.specs.Header.{adler_32}
+use Rattle.dexexamples.proofs.Common.{refl, adler_32}
 use Rattle.dexexamples.proofs.leb128.adler_sums.Goals as goal
 
 pub returns-clause-nothing : goal.returns-clause-nothing

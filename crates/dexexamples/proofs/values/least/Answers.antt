@@ -1,5 +1,4 @@
-use Rattle.std.proofs.Common.{refl}
-use Rattle.dexspec.specs.Bytes.{bytes_of}
+use Rattle.dexexamples.proofs.Common.{refl, bytes_of}
 use Rattle.dexexamples.proofs.values.least.Goals as goal
 
 pub returns-clause-int : goal.returns-clause-int

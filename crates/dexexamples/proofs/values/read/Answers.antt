@@ -1,5 +1,4 @@
-use Rattle.std.proofs.Common.{[], ◌∷◌, refl, arith}
-use Rattle.dexspec.specs.Bytes.{number_of}
+use Rattle.dexexamples.proofs.Common.{[], ◌∷◌, refl, arith, number_of}
 use Rattle.dexexamples.proofs.values.read.Goals as goal
 
 pub returns-clause-wide : goal.returns-clause-wide

@@ -1,4 +1,4 @@
-use Rattle.std.proofs.Common.{rules}
+use Rattle.dexhead.proofs.Common.{rules}
 use Rattle.std.proofs.lemmas.Result.{err_from_is_err_and}
 use Rattle.dexhead.proofs.WrittenPieces.{written_more, prefix_more}
 use Rattle.dexhead.proofs.device.write_whole.Goals as goal

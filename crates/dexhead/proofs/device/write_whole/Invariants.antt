@@ -1,4 +1,4 @@
-use Rattle.std.proofs.Common.{◌≡◌, ◌≤◌, ◌++◌, false, length, take, ◌-◌}
+use Rattle.dexhead.proofs.Common.{◌≡◌, ◌≤◌, ◌++◌, false, length, take, ◌-◌}
 use Rattle.dexhead.proofs.device.write_whole.Given as goal
 
 -- a prefix was written

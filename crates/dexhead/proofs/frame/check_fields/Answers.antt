@@ -1,4 +1,4 @@
-use Rattle.std.proofs.Common.{arith, refl}
+use Rattle.dexhead.proofs.Common.{arith, refl}
 use Rattle.dexhead.proofs.Entries.{never}
 use Rattle.dexhead.proofs.Frames.{early, with_lengths, without_lengths, with_endian, without_endian, with_link, without_link}
 use Rattle.dexhead.proofs.frame.check_fields.Goals as goal

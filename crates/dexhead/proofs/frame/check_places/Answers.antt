@@ -1,4 +1,4 @@
-use Rattle.std.proofs.Common.{arith, refl}
+use Rattle.dexhead.proofs.Common.{arith, refl}
 use Rattle.dexhead.proofs.Entries.{never}
 use Rattle.dexhead.proofs.Frames.{early, with_layout, without_layout, with_map, without_map}
 use Rattle.dexhead.proofs.frame.check_places.Goals as goal

@@ -1,5 +1,4 @@
-use Rattle.std.proofs.Common.{arith, refl, sym, subst, ◌∙◌}
-use Rattle.dexspec.specs.Accepted.{IsRefused}
+use Rattle.dexhead.proofs.Common.{arith, refl, sym, subst, ◌∙◌, IsRefused}
 use Rattle.dexhead.proofs.Entries.{never}
 use Rattle.dexhead.proofs.Frames.{early, with_size, with_magic, with_version, without_size, without_magic, without_version}
 use Rattle.dexhead.proofs.frame.check_start.Goals as goal

@@ -1,4 +1,4 @@
-use Rattle.std.proofs.Common.{arith, refl, sym, ◌∙◌}
+use Rattle.dexhead.proofs.Common.{arith, refl, sym, ◌∙◌}
 use Rattle.dexhead.proofs.Entries.{never}
 use Rattle.dexhead.proofs.HeaderChecks.{has_signature-Decides}
 use Rattle.dexhead.proofs.Frames.{early, with_checksum, without_checksum, with_signature, without_signature}

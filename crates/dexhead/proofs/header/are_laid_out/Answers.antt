@@ -1,4 +1,4 @@
-use Rattle.std.proofs.Common.{arith, false, IsTrue, List, [], ◌∷◌}
+use Rattle.dexhead.proofs.Common.{arith, false, IsTrue, List, [], ◌∷◌}
 use Rattle.dexhead.specs.declared.tables.Table.{Table}
 use Rattle.dexhead.specs.declared.tables.Table.TheVariants.{StringIds, TypeIds, ProtoIds, FieldIds, MethodIds, ClassDefs}
 use Rattle.dexhead.proofs.HeaderChecks.{laid_more, laid_no_more}

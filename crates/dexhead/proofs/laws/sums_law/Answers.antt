@@ -1,4 +1,4 @@
-use Rattle.std.proofs.Common.{drop, refl}
+use Rattle.dexhead.proofs.Common.{drop, refl}
 use Rattle.dexhead.proofs.PutHeads.{sums_set, head_set, head_stated}
 use Rattle.dexhead.proofs.laws.sums_law.Goals as goal
 

@@ -1,5 +1,4 @@
-use Rattle.std.proofs.Common.{sym, subst}
-use Rattle.std.proofs.lemmas.List.Elements.{All-get_or}
+use Rattle.dexhead.proofs.Common.{sym, subst, All-get_or}
 use Rattle.dexhead.proofs.Encoded.{given_more, given_all}
 use Rattle.dexhead.proofs.output.encode_all.Goals as goal
 

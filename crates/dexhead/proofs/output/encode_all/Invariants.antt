@@ -1,5 +1,4 @@
-use Rattle.std.proofs.Common.{take}
-use Rattle.std.specs.List.{flat_map}
+use Rattle.dexhead.proofs.Common.{take, flat_map}
 use Rattle.dexhead.proofs.output.encode_all.Given as goal
 
 abbrev pub invariant-loop-item : goal.invariant-loop-item

@@ -1,4 +1,4 @@
-use Rattle.std.proofs.Common.{◌^◌, ◌<◌, arith}
+use Rattle.dexhead.proofs.Common.{◌^◌, ◌<◌, arith}
 use Rattle.dexhead.proofs.output.encoded_len.Goals as goal
 
 pub returns : goal.returns

@@ -1,4 +1,4 @@
-use Rattle.std.proofs.Common.{arith}
+use Rattle.dexhead.proofs.Common.{arith}
 use Rattle.dexhead.proofs.Encoded.{encoded_put}
 use Rattle.dexhead.proofs.output.put_with_len.Goals as goal
 

@@ -1,4 +1,4 @@
-use Rattle.std.proofs.Common.{◌∙◌}
+use Rattle.dexhead.proofs.Common.{◌∙◌}
 use Rattle.dexhead.proofs.Overwritten.{checksum_set}
 use Rattle.dexhead.proofs.sums.set_checksum.Goals as goal
 

@@ -1,10 +1,5 @@
-use Rattle.std.proofs.Common.{ℕ, ◌+◌, ◌++◌, List, Option, Some, Bor, map, drop, sym, ap, subst, ◌∙◌, arith, All}
-use Rattle.std.proofs.lemmas.Simd.{map-map}
-use Rattle.dexspec.specs.Mentions.{Mentions}
-use Rattle.dexval.specs.declared.annotation.Annotation.{Annotation}
+use Rattle.dexlayout.proofs.Common.{ℕ, ◌+◌, ◌++◌, List, Option, Some, Bor, map, drop, sym, ap, subst, ◌∙◌, arith, All, map-map, Mentions, Annotation, annotation_of, set_of, NumberedAnnotation, IsKnownAnnotation, IsKnownSet}
 use Rattle.dexval.specs.declared.set.AnnotationSet.{AnnotationSet}
-use Rattle.dexval.specs.Code.{annotation_of, set_of}
-use Rattle.dexval.specs.Numbered.{NumberedAnnotation, IsKnownAnnotation, IsKnownSet}
 use Rattle.dexlayout.specs.internal.Encoding.{encode_uses}
 use Rattle.dexlayout.specs.internal.Annotated.{annotation_item, annotation_items, set_annotations}
 use Rattle.dexlayout.proofs.EncodedUses.{all_encoded_by, each_left, next_of_each, next_of_several, several_left, use_encoded, use_fits}

@@ -1,5 +1,4 @@
-use Rattle.std.proofs.Common.{◌≡◌, ◌+◌, ◌++◌, map, drop, Some}
-use Rattle.dexval.specs.Code.{annotation_of}
+use Rattle.dexlayout.proofs.Common.{◌≡◌, ◌+◌, ◌++◌, map, drop, Some, annotation_of}
 use Rattle.dexlayout.specs.internal.Encoding.{encode_uses, no_items_from}
 use Rattle.dexlayout.specs.internal.Annotated.{annotation_item, set_annotations}
 use Rattle.dexlayout.proofs.annotations.place_annotations.Given as goal

@@ -1,7 +1,4 @@
-use Rattle.std.proofs.Common.{◌≡◌, ◌++◌, List, ℕ, refl, arith, sym, ◌∙◌}
-use Rattle.std.proofs.lemmas.Result.{on_ok_weaker}
-use Rattle.dexval.specs.Code.{annotation_of}
-use Rattle.dexval.specs.Numbered.{annotation_in}
+use Rattle.dexlayout.proofs.Common.{◌≡◌, ◌++◌, List, ℕ, refl, arith, sym, ◌∙◌, on_ok_weaker, annotation_of, annotation_in}
 use Rattle.dexlayout.specs.internal.Annotated.{annotation_item}
 use Rattle.dexlayout.proofs.Counted.{annotation_counted}
 use Rattle.dexlayout.proofs.EncodedUses.{align_one, ended, ended_fits}

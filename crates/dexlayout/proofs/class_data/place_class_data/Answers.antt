@@ -1,7 +1,5 @@
-use Rattle.std.proofs.Common.{◌≡◌, ◌+◌, [], ◌∷◌, length, drop, arith, ap, sym, subst, ◌∙◌}
-use Rattle.std.proofs.lemmas.List.{drop_all}
-use Rattle.dexmembers.specs.Numbered.{NumberedMembers, methods_of}
-use Rattle.dexlayout.specs.Laid.{AreClassData, ordered_of}
+use Rattle.dexlayout.proofs.Common.{◌≡◌, ◌+◌, [], ◌∷◌, length, drop, arith, ap, sym, subst, ◌∙◌, drop_all, NumberedMembers, methods_of}
+use Rattle.dexlayout.specs.{AreClassData, ordered_of}
 use Rattle.dexlayout.specs.internal.Encoding.{class_data_item, class_data_items, encode_uses, no_items_from}
 use Rattle.dexlayout.proofs.DataItems.{data_laid, data_split, data_rest}
 use Rattle.dexlayout.proofs.EncodedUses.{all_encoded_by, use_encoded, use_fits}

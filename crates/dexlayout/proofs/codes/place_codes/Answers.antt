@@ -1,7 +1,5 @@
-use Rattle.std.proofs.Common.{◌≡◌, ◌+◌, ◌<◌, ◌++◌, List, length, get_or, drop, arith, ap, sym, subst, ◌∙◌}
-use Rattle.std.proofs.lemmas.List.{drop_all, get_or_append_left, length-append, length-drop}
-use Rattle.dexmembers.specs.Numbered.{NumberedMethod, methods_of}
-use Rattle.dexlayout.specs.Laid.{AreCodes, ordered_of}
+use Rattle.dexlayout.proofs.Common.{◌≡◌, ◌+◌, ◌<◌, ◌++◌, List, length, get_or, drop, arith, ap, sym, subst, ◌∙◌, drop_all, get_or_append_left, length-append, length-drop, NumberedMethod, methods_of}
+use Rattle.dexlayout.specs.{AreCodes, ordered_of}
 use Rattle.dexlayout.specs.internal.Codes.{code_items}
 use Rattle.dexlayout.specs.internal.Encoding.{encode_uses, no_items_from}
 use Rattle.dexlayout.proofs.CodeItems.{CodesLeft, codes_laid, codes_left, methods_in_all, next_methods, one_encoded, one_fits, one_short}

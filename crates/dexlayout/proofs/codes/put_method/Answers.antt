@@ -1,6 +1,4 @@
-use Rattle.std.proofs.Common.{All, IfSome, arith, subst}
-use Rattle.dexcode.specs.CodePut.{HasShortTypes}
-use Rattle.dexcode.specs.Numbered.{NumberedItem, handlers_of}
+use Rattle.dexlayout.proofs.Common.{All, IfSome, arith, subst, HasShortTypes, NumberedItem, handlers_of}
 use Rattle.dexlayout.proofs.codes.put_method.Goals as goal
 
 pub put-requires-clause-most : goal.put-requires-clause-most

@@ -1,6 +1,5 @@
-use Rattle.std.proofs.Common.{sym, subst}
-use Rattle.dexspec.specs.Canonical.{code_section, debug_section}
-use Rattle.dexlayout.specs.Laid.{AreLaidIn, ordered_of}
+use Rattle.dexlayout.proofs.Common.{sym, subst, code_section, debug_section}
+use Rattle.dexlayout.specs.{AreLaidIn, ordered_of}
 use Rattle.dexlayout.proofs.data.place_bodies.Goals as goal
 
 pub place_codes-requires : goal.place_codes-requires

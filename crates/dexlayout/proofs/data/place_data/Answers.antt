@@ -1,5 +1,5 @@
-use Rattle.std.proofs.Common.{sym, ap, subst, ◌∙◌}
-use Rattle.dexlayout.specs.Places.{ItemPlaces}
+use Rattle.dexlayout.proofs.Common.{sym, ap, subst, ◌∙◌}
+use Rattle.dexlayout.specs.{ItemPlaces}
 use Rattle.dexlayout.specs.internal.Placing.{AreKnownSets, AreWrittenSets}
 use Rattle.dexlayout.proofs.data.place_data.Goals as goal
 

@@ -1,10 +1,6 @@
-use Rattle.std.proofs.Common.{sym, ap, subst, ◌∙◌}
-use Rattle.std.specs.Borrow.{Bor}
+use Rattle.dexlayout.proofs.Common.{sym, ap, subst, ◌∙◌, Bor, set_of, NumberedSet}
 use Rattle.dexval.specs.declared.set.AnnotationSet.{AnnotationSet}
-use Rattle.dexval.specs.Code.{set_of}
-use Rattle.dexval.specs.Numbered.{NumberedSet}
-use Rattle.dexlayout.specs.Places.{ItemPlaces}
-use Rattle.dexlayout.specs.Laid.{ordered_of, AreAnnotations}
+use Rattle.dexlayout.specs.{ItemPlaces, ordered_of, AreAnnotations}
 use Rattle.dexlayout.proofs.Ends.{end_in_file}
 use Rattle.dexlayout.proofs.OwnCounts.{strings_at_ranks, strings_fit}
 use Rattle.dexlayout.proofs.SetAnnotations.{annotations_laid, annotations_fit}

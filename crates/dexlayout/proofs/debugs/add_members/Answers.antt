@@ -1,9 +1,7 @@
-use Rattle.std.proofs.Common.{arith, length, take, subst, sym, ◌<◌, ◌++◌}
-use Rattle.dexmembers.specs.Numbered.{methods_of}
-use Rattle.dexlayout.specs.ItemKeys.{same_bytes}
+use Rattle.dexlayout.proofs.Common.{arith, length, take, subst, sym, ◌<◌, ◌++◌, methods_of, take_all}
+use Rattle.dexlayout.specs.{same_bytes}
 use Rattle.dexlayout.specs.internal.Adding.{HasUses}
 use Rattle.dexlayout.specs.internal.Encodings.{debug_encoding, debug_encodings}
-use Rattle.std.proofs.lemmas.List.{take_all}
 use Rattle.dexlayout.proofs.SharedUses.{uses_next}
 use Rattle.dexlayout.proofs.debugs.add_members.Goals as goal
 

@@ -1,6 +1,5 @@
-use Rattle.std.proofs.Common.{◌++◌, ℕ, List, Option, take}
-use Rattle.dexmembers.specs.Numbered.{methods_of}
-use Rattle.dexlayout.specs.ItemKeys.{same_bytes}
+use Rattle.dexlayout.proofs.Common.{◌++◌, ℕ, List, Option, take, methods_of}
+use Rattle.dexlayout.specs.{same_bytes}
 use Rattle.dexlayout.specs.internal.Adding.{HasUses}
 use Rattle.dexlayout.specs.internal.Encodings.{debug_encodings}
 use Rattle.dexlayout.proofs.debugs.add_members.Given as goal

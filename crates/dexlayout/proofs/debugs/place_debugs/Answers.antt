@@ -1,8 +1,5 @@
-use Rattle.std.proofs.Common.{◌≡◌, ◌^◌, ◌<◌, ◌≤◌, length, subst, sym, ap, ◌∙◌}
-use Rattle.std.specs.Prelude.{All, IfSome}
-use Rattle.std.proofs.lemmas.Result.{IfOk-weaker}
-use Rattle.dexlayout.specs.Laid.{AreDebugs}
-use Rattle.dexlayout.specs.Places.{EncodedItems}
+use Rattle.dexlayout.proofs.Common.{◌≡◌, ◌^◌, ◌<◌, ◌≤◌, length, subst, sym, ap, ◌∙◌, All, IfSome, IfOk-weaker}
+use Rattle.dexlayout.specs.{AreDebugs, EncodedItems}
 use Rattle.dexlayout.specs.internal.Placing.{encoded_debugs, shared_by}
 use Rattle.dexlayout.proofs.SharedKinds.{debugs_fit, debugs_numbered, debugs_laid}
 use Rattle.dexlayout.proofs.debugs.place_debugs.Goals as goal

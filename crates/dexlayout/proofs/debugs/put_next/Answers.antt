@@ -1,5 +1,4 @@
-use Rattle.std.proofs.Common.{sym, ◌∙◌}
-use Rattle.std.proofs.lemmas.Result.{on_ok_weaker}
+use Rattle.dexlayout.proofs.Common.{sym, ◌∙◌, on_ok_weaker}
 use Rattle.dexlayout.proofs.EncodedUses.{align_one, ended, ended_fits}
 use Rattle.dexlayout.proofs.debugs.put_next.Goals as goal
 

@@ -1,4 +1,4 @@
-use Rattle.std.proofs.Common.{List, ℕ, Some, length, map, arith, ap, sym, ◌∙◌}
+use Rattle.dexlayout.proofs.Common.{List, ℕ, Some, length, map, arith, ap, sym, ◌∙◌}
 use Rattle.dexlayout.specs.internal.Encoding.{encode_use, encode_uses}
 use Rattle.dexlayout.proofs.EncodedUses.{all_encoded_by, each_left, next_of_each, use_encoded, use_fits}
 use Rattle.dexlayout.proofs.debugs.put_written.Goals as goal

@@ -1,4 +1,4 @@
-use Rattle.std.proofs.Common.{◌≡◌, map, drop, Some}
+use Rattle.dexlayout.proofs.Common.{◌≡◌, map, drop, Some}
 use Rattle.dexlayout.specs.internal.Encoding.{encode_uses}
 use Rattle.dexlayout.specs.internal.Placing.{encoded_debugs}
 use Rattle.dexlayout.proofs.debugs.put_written.Given as goal

@@ -1,9 +1,5 @@
-use Rattle.std.proofs.Common.{[], take, subst, sym, ap, ◌∙◌, ◌∷◌, ◌++◌}
-use Rattle.std.specs.List.{flat_map}
-use Rattle.std.proofs.lemmas.List.{flat_map_more, take_more}
-use Rattle.dexclass.specs.Numbered.{NumberedClass}
-use Rattle.dexmembers.specs.Numbered.{methods_of}
-use Rattle.dexlayout.specs.ItemKeys.{same_bytes}
+use Rattle.dexlayout.proofs.Common.{[], take, subst, sym, ap, ◌∙◌, ◌∷◌, ◌++◌, flat_map, flat_map_more, take_more, NumberedClass, methods_of}
+use Rattle.dexlayout.specs.{same_bytes}
 use Rattle.dexlayout.specs.internal.Adding.{HasUses}
 use Rattle.dexlayout.specs.internal.Encodings.{all_debug_encodings, debug_encodings}
 use Rattle.dexlayout.proofs.debugs.share_encodings.Goals as goal

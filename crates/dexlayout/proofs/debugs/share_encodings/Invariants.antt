@@ -1,5 +1,5 @@
-use Rattle.std.proofs.Common.{take}
-use Rattle.dexlayout.specs.ItemKeys.{same_bytes}
+use Rattle.dexlayout.proofs.Common.{take}
+use Rattle.dexlayout.specs.{same_bytes}
 use Rattle.dexlayout.specs.internal.Adding.{HasUses}
 use Rattle.dexlayout.specs.internal.Encodings.{all_debug_encodings}
 use Rattle.dexlayout.proofs.debugs.share_encodings.Given as goal

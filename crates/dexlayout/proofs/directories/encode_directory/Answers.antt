@@ -1,6 +1,4 @@
-use Rattle.std.proofs.Common.{◌≡◌, ℕ, ◌+◌, ◌*◌, ◌^◌, ◌≤◌, List, sym, ap, subst, ◌∙◌}
-use Rattle.std.proofs.lemmas.Result.{on_ok_weaker}
-use Rattle.dexmembers.specs.DirectoryPut.{numbered_directory_bytes}
+use Rattle.dexlayout.proofs.Common.{◌≡◌, ℕ, ◌+◌, ◌*◌, ◌^◌, ◌≤◌, List, sym, ap, subst, ◌∙◌, on_ok_weaker, numbered_directory_bytes}
 use Rattle.dexmembers.proofs.DirectorySpelled as spelled
 use Rattle.dexlayout.specs.internal.Directories.{entry_count}
 use Rattle.dexlayout.specs.internal.Encoding.{encode_use}

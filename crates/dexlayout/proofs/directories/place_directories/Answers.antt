@@ -1,12 +1,7 @@
-use Rattle.std.proofs.Common.{◌≡◌, ℕ, List, [], length, drop, sym, ap, ◌∙◌, subst, arith}
-use Rattle.std.proofs.lemmas.List.{drop_all}
-use Rattle.dexspec.specs.Mentions.{Mentions}
-use Rattle.dexspec.specs.Placing.{end, uses_offsets}
-use Rattle.dexspec.specs.Canonical.{ref_list_section}
-use Rattle.dexlayout.specs.Places.{ItemPlaces}
+use Rattle.dexlayout.proofs.Common.{◌≡◌, ℕ, List, [], length, drop, sym, ap, ◌∙◌, subst, arith, drop_all, Mentions, end, uses_offsets, ref_list_section}
+use Rattle.dexlayout.specs.{ItemPlaces, ordered_of, AreDirectories, AreRefLists}
 use Rattle.dexlayout.specs.internal.Directories.{directory_items}
 use Rattle.dexlayout.specs.internal.Encoding.{encode_uses}
-use Rattle.dexlayout.specs.Laid.{ordered_of, AreDirectories, AreRefLists}
 use Rattle.dexlayout.proofs.EncodedUses.{all_encoded_by}
 use Rattle.dexlayout.proofs.Ends.{end_in_file}
 use Rattle.dexlayout.proofs.SetDirectories.{directories_fit, directories_more, directories_laid, own_count, field_count, method_count, length-ref_list_offsets}

@@ -1,4 +1,4 @@
-use Rattle.std.proofs.Common.{drop}
+use Rattle.dexlayout.proofs.Common.{drop}
 use Rattle.dexlayout.specs.internal.Directories.{directory_items}
 use Rattle.dexlayout.specs.internal.Encoding.{encode_uses, no_items_from}
 use Rattle.dexlayout.proofs.SetDirectories.{DirectoriesLeft}

@@ -1,5 +1,4 @@
-use Rattle.dexspec.specs.Bytes.{uint}
-use Rattle.dexhead.proofs.Encoded.{given_more, given_all}
+use Rattle.dexlayout.proofs.Common.{uint, given_more, given_all}
 use Rattle.dexlayout.proofs.items.encode_numbers.Goals as goal
 
 pub loop-number-preserved : goal.loop-number-preserved

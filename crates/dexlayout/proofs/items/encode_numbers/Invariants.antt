@@ -1,6 +1,4 @@
-use Rattle.std.proofs.Common.{take}
-use Rattle.std.specs.List.{flat_map}
-use Rattle.dexspec.specs.Bytes.{uint}
+use Rattle.dexlayout.proofs.Common.{take, flat_map, uint}
 use Rattle.dexlayout.proofs.items.encode_numbers.Given as goal
 
 abbrev pub invariant-loop-number : goal.invariant-loop-number

@@ -1,6 +1,5 @@
-use Rattle.std.proofs.Common.{ℕ, List, length, arith, ap, sym, subst, ◌∙◌}
-use Rattle.dexlayout.specs.Laid.{IsMap, ordered_of}
-use Rattle.dexlayout.specs.Places.{ItemPlaces}
+use Rattle.dexlayout.proofs.Common.{ℕ, List, length, arith, ap, sym, subst, ◌∙◌}
+use Rattle.dexlayout.specs.{IsMap, ordered_of, ItemPlaces}
 use Rattle.dexlayout.specs.internal.Placing.{placed_map}
 use Rattle.dexlayout.proofs.Ends.{end_in_file}
 use Rattle.dexlayout.proofs.OwnFile.{data_before, map_laid}

@@ -1,6 +1,5 @@
-use Rattle.std.proofs.Common.{◌-◌, ap, ◌∙◌}
-use Rattle.std.specs.Prelude.{slice_index}
-use Rattle.dexlayout.specs.Places.{ItemPlaces}
+use Rattle.dexlayout.proofs.Common.{◌-◌, ap, ◌∙◌, slice_index}
+use Rattle.dexlayout.specs.{ItemPlaces}
 use Rattle.dexlayout.proofs.layout_build.head_of.Goals as goal
 
 pub returns-clause-reports : goal.returns-clause-reports

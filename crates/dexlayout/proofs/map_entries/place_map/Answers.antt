@@ -1,9 +1,6 @@
-use Rattle.std.proofs.Common.{◌≡◌, ℕ, List, ◌++◌, length, map, arith, ap, ◌∙◌}
-use Rattle.dexspec.specs.Bytes.{round_up}
-use Rattle.dexspec.specs.Canonical.{map_bytes}
-use Rattle.dexhead.specs.Written.{entry_meant}
+use Rattle.dexlayout.proofs.Common.{◌≡◌, ℕ, List, ◌++◌, length, map, arith, ap, ◌∙◌, round_up, map_bytes, entry_meant}
 use Rattle.dexhead.proofs.Lengths.{length_map}
-use Rattle.dexlayout.specs.Places.{EncodedItems}
+use Rattle.dexlayout.specs.{EncodedItems}
 use Rattle.dexlayout.specs.internal.Encoding.{align_next, no_items_from}
 use Rattle.dexlayout.specs.internal.Placing.{whole_map}
 use Rattle.dexlayout.proofs.EncodedUses.{begins, ended, ended_fits}

@@ -1,6 +1,4 @@
-use Rattle.std.proofs.Common.{◌≡◌, ◌++◌, map, take}
-use Rattle.std.specs.List.{flat_map}
-use Rattle.dexhead.specs.Written.{entry_meant}
+use Rattle.dexlayout.proofs.Common.{◌≡◌, ◌++◌, map, take, flat_map, entry_meant}
 use Rattle.dexlayout.specs.internal.Parts.{entry_of}
 use Rattle.dexlayout.proofs.map_entries.push_parts.Given as goal
 

@@ -1,9 +1,5 @@
-use Rattle.std.proofs.Common.{◌≡◌, ℕ, ◌+◌, ◌∷◌, ◌++◌, List, length, drop, sym, ap, subst, ◌∙◌, arith}
-use Rattle.std.proofs.lemmas.List.{drop_all}
-use Rattle.dexval.specs.Numbered.{NumberedSet}
-use Rattle.dexmembers.specs.Numbered.{NumberedMembers, NumberedMethod, methods_of}
-use Rattle.dexlayout.specs.Laid.{ordered_of, AreRefLists}
-use Rattle.dexlayout.specs.Places.{ItemPlaces, EncodedItems}
+use Rattle.dexlayout.proofs.Common.{◌≡◌, ℕ, ◌+◌, ◌∷◌, ◌++◌, List, length, drop, sym, ap, subst, ◌∙◌, arith, drop_all, NumberedSet, NumberedMembers, NumberedMethod, methods_of}
+use Rattle.dexlayout.specs.{ordered_of, AreRefLists, ItemPlaces, EncodedItems}
 use Rattle.dexlayout.specs.internal.Encoding.{encode_uses, no_items_from}
 use Rattle.dexlayout.specs.internal.OffsetLists.{class_parameter_counts, list_item, offset_lists, parameter_counts, total}
 use Rattle.dexlayout.proofs.EncodedUses.{all_encoded_by, use_encoded, use_fits}

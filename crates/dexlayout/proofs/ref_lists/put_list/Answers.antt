@@ -1,5 +1,4 @@
-use Rattle.std.proofs.Common.{length, arith, ap, sym, ◌∙◌}
-use Rattle.std.proofs.lemmas.Result.{on_ok_weaker}
+use Rattle.dexlayout.proofs.Common.{length, arith, ap, sym, ◌∙◌, on_ok_weaker}
 use Rattle.dexlayout.specs.internal.Encoding.{encode_use}
 use Rattle.dexlayout.proofs.EncodedUses.{some_of, none_of}
 use Rattle.dexlayout.proofs.OffsetLists.{no_list, some_list}

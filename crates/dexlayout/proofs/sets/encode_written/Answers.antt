@@ -1,9 +1,5 @@
-use Rattle.std.proofs.Common.{◌≡◌, ℕ, List, Bor, length, map, sym, ap, ◌∙◌, arith}
-use Rattle.std.proofs.lemmas.List.{length-map, drop_all}
-use Rattle.dexval.specs.declared.annotation.Annotation.{Annotation}
+use Rattle.dexlayout.proofs.Common.{◌≡◌, ℕ, List, Bor, length, map, sym, ap, ◌∙◌, arith, length-map, drop_all, Annotation, annotation_of, set_of, NumberedSet}
 use Rattle.dexval.specs.declared.set.AnnotationSet.{AnnotationSet}
-use Rattle.dexval.specs.Code.{annotation_of, set_of}
-use Rattle.dexval.specs.Numbered.{NumberedSet}
 use Rattle.dexlayout.specs.internal.Encoding.{encode_uses}
 use Rattle.dexlayout.specs.internal.OffsetLists.{annotation_counts, offset_lists, set_item}
 use Rattle.dexlayout.proofs.EncodedUses.{all_encoded_by, use_encoded, use_fits}

@@ -1,17 +1,6 @@
-use Rattle.std.proofs.Common.{◌≡◌, ℕ, List, Bor, [], length, drop, refl, sym, ap, subst, ◌∙◌, arith}
-use Rattle.std.proofs.lemmas.List.{drop_all}
-use Rattle.dexspec.specs.Canonical.{class_data_section, set_items, set_section}
-use Rattle.dexspec.specs.Mentions.{Mentions}
-use Rattle.dexspec.specs.Placing.{end, set_uses}
-use Rattle.dexspec.specs.Sameness.{same_set}
-use Rattle.dexspec.proofs.layout.Placements.{numbers_offsets}
-use Rattle.dexspec.proofs.layout.Uses.{items_numbered}
-use Rattle.dexspec.proofs.sharing.Sameness.{set_decides}
+use Rattle.dexlayout.proofs.Common.{◌≡◌, ℕ, List, Bor, [], length, drop, refl, sym, ap, subst, ◌∙◌, arith, drop_all, class_data_section, set_items, set_section, Mentions, end, set_uses, same_set, numbers_offsets, items_numbered, set_decides, set_of, NumberedSet}
 use Rattle.dexval.specs.declared.set.AnnotationSet.{AnnotationSet}
-use Rattle.dexval.specs.Code.{set_of}
-use Rattle.dexval.specs.Numbered.{NumberedSet}
-use Rattle.dexlayout.specs.Laid.{ordered_of, AreAnnotations, AreItemsIn, AreWritable}
-use Rattle.dexlayout.specs.Places.{ItemPlaces}
+use Rattle.dexlayout.specs.{ordered_of, AreAnnotations, AreItemsIn, AreWritable, ItemPlaces}
 use Rattle.dexlayout.specs.internal.Collecting.{parts_of_classes, collect_classes}
 use Rattle.dexlayout.specs.internal.Placing.{AreWrittenSets}
 use Rattle.dexlayout.proofs.Ends.{end_in_file}

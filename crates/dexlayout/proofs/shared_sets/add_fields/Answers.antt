@@ -1,5 +1,4 @@
-use Rattle.std.proofs.Common.{◌++◌, ◌<◌, length, take, sym, subst, arith}
-use Rattle.dexmembers.specs.Numbered.{NumberedField, IsKnownField}
+use Rattle.dexlayout.proofs.Common.{◌++◌, ◌<◌, length, take, sym, subst, arith, NumberedField, IsKnownField}
 use Rattle.dexlayout.specs.internal.SharedUses.{SharesSets, set_use, field_uses}
 use Rattle.dexlayout.proofs.SharedUses.{uses_next}
 use Rattle.dexlayout.proofs.shared_sets.add_fields.Goals as goal

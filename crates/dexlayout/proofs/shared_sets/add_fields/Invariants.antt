@@ -1,8 +1,4 @@
-use Rattle.std.proofs.Common.{◌++◌, take}
-use Rattle.std.specs.Prelude.{All, List, Option}
-use Rattle.dexspec.specs.Annotations.{AnnotationSet as SetMeant}
-use Rattle.dexspec.specs.Mentions.{Mentions}
-use Rattle.dexmembers.specs.Numbered.{IsKnownField}
+use Rattle.dexlayout.proofs.Common.{◌++◌, take, All, List, Option, AnnotationSet as SetMeant, Mentions, IsKnownField}
 use Rattle.dexlayout.specs.internal.SharedUses.{SharesSets, field_uses}
 use Rattle.dexlayout.proofs.shared_sets.add_fields.Given as goal
 

@@ -1,6 +1,4 @@
-use Rattle.std.proofs.Common.{◌∷◌, [], ◌++◌, subst, sym, refl, ap}
-use Rattle.std.specs.Prelude.{All, OnOk}
-use Rattle.dexmembers.specs.Numbered.{IsKnownField, IsKnownMethod}
+use Rattle.dexlayout.proofs.Common.{◌∷◌, [], ◌++◌, subst, sym, refl, ap, All, OnOk, IsKnownField, IsKnownMethod}
 use Rattle.dexlayout.specs.internal.SharedUses.{SharesSets, set_use, field_uses, methods_uses}
 use Rattle.dexlayout.proofs.SharedUses.{uses_joined}
 use Rattle.dexlayout.proofs.shared_sets.add_members.Goals as goal

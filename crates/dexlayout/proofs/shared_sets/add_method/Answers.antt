@@ -1,6 +1,4 @@
-use Rattle.std.proofs.Common.{◌∷◌, [], ◌++◌, map, subst, sym, ap, ◌∙◌, append_assoc}
-use Rattle.std.specs.Prelude.{All, OnOk}
-use Rattle.dexval.specs.Numbered.{IsKnownSet}
+use Rattle.dexlayout.proofs.Common.{◌∷◌, [], ◌++◌, map, subst, sym, ap, ◌∙◌, append_assoc, All, OnOk, IsKnownSet}
 use Rattle.dexlayout.specs.internal.SharedUses.{SharesSets, set_use}
 use Rattle.dexlayout.proofs.shared_sets.add_method.Goals as goal
 

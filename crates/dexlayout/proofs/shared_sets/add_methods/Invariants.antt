@@ -1,8 +1,4 @@
-use Rattle.std.proofs.Common.{◌++◌, take}
-use Rattle.std.specs.Prelude.{All, List, Option}
-use Rattle.dexspec.specs.Annotations.{AnnotationSet as SetMeant}
-use Rattle.dexspec.specs.Mentions.{Mentions}
-use Rattle.dexmembers.specs.Numbered.{IsKnownMethod}
+use Rattle.dexlayout.proofs.Common.{◌++◌, take, All, List, Option, AnnotationSet as SetMeant, Mentions, IsKnownMethod}
 use Rattle.dexlayout.specs.internal.SharedUses.{SharesSets, methods_uses}
 use Rattle.dexlayout.proofs.shared_sets.add_methods.Given as goal
 

@@ -1,8 +1,5 @@
-use Rattle.std.proofs.Common.{◌≡◌, true, false, [], sym, subst, ◌∙◌, Option, Some, Bor}
-use Rattle.std.specs.Prelude.{MatchOption}
+use Rattle.dexlayout.proofs.Common.{◌≡◌, true, false, [], sym, subst, ◌∙◌, Option, Some, Bor, MatchOption, set_of, NumberedSet, IsKnownSet, annotation_in, set_in}
 use Rattle.dexval.specs.declared.set.AnnotationSet.{AnnotationSet}
-use Rattle.dexval.specs.Code.{set_of}
-use Rattle.dexval.specs.Numbered.{NumberedSet, IsKnownSet, annotation_in, set_in}
 use Rattle.dexlayout.specs.internal.SharedUses.{set_use}
 use Rattle.dexlayout.proofs.SharedUses.{shared_pass, shared_take, none_used, some_used}
 use Rattle.dexlayout.proofs.shared_sets.add_set.Goals as goal

@@ -1,5 +1,4 @@
-use Rattle.std.proofs.Common.{◌++◌, ◌<◌, [], length, map, take, get_or, subst, arith}
-use Rattle.std.proofs.lemmas.List.{get_or_default}
+use Rattle.dexlayout.proofs.Common.{◌++◌, ◌<◌, [], length, map, take, get_or, subst, arith, get_or_default}
 use Rattle.dexlayout.specs.internal.SharedUses.{SharesSets, set_use}
 use Rattle.dexlayout.proofs.SharedUses.{uses_next}
 use Rattle.dexlayout.proofs.shared_sets.add_sets.Goals as goal

@@ -1,8 +1,4 @@
-use Rattle.std.proofs.Common.{◌++◌, map, take}
-use Rattle.std.specs.Prelude.{All, List, Option}
-use Rattle.dexspec.specs.Annotations.{AnnotationSet as SetMeant}
-use Rattle.dexspec.specs.Mentions.{Mentions}
-use Rattle.dexval.specs.Numbered.{IsKnownSet}
+use Rattle.dexlayout.proofs.Common.{◌++◌, map, take, All, List, Option, AnnotationSet as SetMeant, Mentions, IsKnownSet}
 use Rattle.dexlayout.specs.internal.SharedUses.{SharesSets, set_use}
 use Rattle.dexlayout.proofs.shared_sets.add_sets.Given as goal
 

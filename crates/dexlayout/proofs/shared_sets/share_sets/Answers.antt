@@ -1,11 +1,5 @@
-use Rattle.std.proofs.Common.{subst, ap, ◌∙◌, arith}
-use Rattle.std.specs.Prelude.{All}
-use Rattle.std.specs.List.{flat_map}
-use Rattle.std.proofs.lemmas.List.{take_all}
-use Rattle.dexspec.specs.Mentions.{Mentions}
-use Rattle.dexspec.specs.Placing.{set_uses}
-use Rattle.dexclass.specs.Uses.{IsKnownClass}
-use Rattle.dexlayout.specs.Laid.{ordered_of}
+use Rattle.dexlayout.proofs.Common.{subst, ap, ◌∙◌, arith, All, flat_map, take_all, Mentions, set_uses, IsKnownClass}
+use Rattle.dexlayout.specs.{ordered_of}
 use Rattle.dexlayout.specs.internal.SharedUses.{SharesSets, members_uses}
 use Rattle.dexlayout.proofs.SharedUses.{shared_kept, shared_known, on_returned, of_returned}
 use Rattle.dexlayout.proofs.SharedKinds.{set_uses_are, sets_shared}

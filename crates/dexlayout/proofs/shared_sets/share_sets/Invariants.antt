@@ -1,8 +1,4 @@
-use Rattle.std.proofs.Common.{take}
-use Rattle.std.specs.Prelude.{All}
-use Rattle.std.specs.List.{flat_map}
-use Rattle.dexspec.specs.Mentions.{Mentions}
-use Rattle.dexclass.specs.Uses.{IsKnownClass}
+use Rattle.dexlayout.proofs.Common.{take, All, flat_map, Mentions, IsKnownClass}
 use Rattle.dexlayout.specs.internal.SharedUses.{SharesSets, members_uses}
 use Rattle.dexlayout.proofs.shared_sets.share_sets.Given as goal
 

@@ -1,5 +1,4 @@
-use Rattle.std.proofs.Common.{◌≡◌, take}
-use Rattle.dexspec.proofs.layout.Placements.{numbers_offsets}
+use Rattle.dexlayout.proofs.Common.{◌≡◌, take, numbers_offsets}
 use Rattle.dexlayout.proofs.sharing.place_shared.Given as goal
 
 abbrev pub invariant-loop-number : goal.invariant-loop-number

@@ -1,6 +1,5 @@
-use Rattle.std.proofs.Common.{map, arith, ap, sym, subst}
-use Rattle.dexclass.specs.Uses.{IsKnownClass}
-use Rattle.dexlayout.specs.Laid.{AreStaticValues, ordered_of}
+use Rattle.dexlayout.proofs.Common.{map, arith, ap, sym, subst, IsKnownClass}
+use Rattle.dexlayout.specs.{AreStaticValues, ordered_of}
 use Rattle.dexlayout.specs.internal.Encoding.{encode_uses, static_item}
 use Rattle.dexlayout.proofs.EncodedUses.{all_encoded_by, each_left, next_of_each, use_encoded, use_fits}
 use Rattle.dexlayout.proofs.Ends.{end_in_file}

@@ -1,4 +1,4 @@
-use Rattle.std.proofs.Common.{◌≡◌, map, drop}
+use Rattle.dexlayout.proofs.Common.{◌≡◌, map, drop}
 use Rattle.dexlayout.specs.internal.Encoding.{encode_uses, no_items_from, static_item}
 use Rattle.dexlayout.proofs.static_values.place_static_values.Given as goal
 

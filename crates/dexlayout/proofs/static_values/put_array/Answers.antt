@@ -1,11 +1,5 @@
-use Rattle.std.proofs.Common.{◌≡◌, ℕ, ◌≤◌, ◌^◌, List, ◌++◌, length, map, Some, refl, arith, ap, sym, subst, ◌∙◌}
-use Rattle.std.proofs.lemmas.List.{length-map}
-use Rattle.std.proofs.lemmas.Result.{on_ok_weaker}
-use Rattle.dexspec.specs.Spellings.{encoded_array_bytes}
-use Rattle.dexval.specs.Code.{value_of}
-use Rattle.dexval.specs.Numbered.{NumberedValue, values_in, values_of_list, AreKnown}
+use Rattle.dexlayout.proofs.Common.{◌≡◌, ℕ, ◌≤◌, ◌^◌, List, ◌++◌, length, map, Some, refl, arith, ap, sym, subst, ◌∙◌, length-map, on_ok_weaker, encoded_array_bytes, value_of, NumberedValue, values_in, values_of_list, AreKnown, NumberedMembers}
 use Rattle.dexval.proofs.Members.{count_of_list}
-use Rattle.dexmembers.specs.Numbered.{NumberedMembers}
 use Rattle.dexlayout.specs.internal.Encoding.{encode_use, static_item}
 use Rattle.dexlayout.proofs.Counted.{array_counted}
 use Rattle.dexlayout.proofs.EncodedUses.{align_one, ended, ended_fits, some_of, none_of}

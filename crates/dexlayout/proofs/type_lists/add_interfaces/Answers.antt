@@ -1,10 +1,5 @@
-use Rattle.std.proofs.Common.{◌≡◌, [], ◌∷◌, ◌++◌, map, take, subst, sym, ap, ◌∙◌}
-use Rattle.std.specs.Prelude.{◌<◌, option_to_list, length}
-use Rattle.std.proofs.lemmas.List.Elements.{All-tail}
-use Rattle.dexpool.proofs.Parts.{all_back}
-use Rattle.dexspec.specs.Placing.{unless_empty}
+use Rattle.dexlayout.proofs.Common.{◌≡◌, [], ◌∷◌, ◌++◌, map, take, subst, sym, ap, ◌∙◌, ◌<◌, option_to_list, length, All-tail, all_back, unless_empty, IsKnownClass}
 use Rattle.dexclass.specs.Numbered.{type_at}
-use Rattle.dexclass.specs.Uses.{IsKnownClass}
 use Rattle.dexlayout.specs.internal.SharedUses.{AreTypes, SharesLists, interfaces_use}
 use Rattle.dexlayout.proofs.SharedUses.{uses_next}
 use Rattle.dexlayout.proofs.type_lists.add_interfaces.Goals as goal

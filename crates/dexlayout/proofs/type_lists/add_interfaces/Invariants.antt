@@ -1,8 +1,4 @@
-use Rattle.std.proofs.Common.{◌++◌, map, take}
-use Rattle.std.specs.Prelude.{All, List, Option}
-use Rattle.dexspec.specs.Mentions.{Mentions}
-use Rattle.dexspec.specs.Texts.{Text}
-use Rattle.dexclass.specs.Uses.{IsKnownClass}
+use Rattle.dexlayout.proofs.Common.{◌++◌, map, take, All, List, Option, Mentions, Text, IsKnownClass}
 use Rattle.dexlayout.specs.internal.SharedUses.{SharesLists, interfaces_use}
 use Rattle.dexlayout.proofs.type_lists.add_interfaces.Given as goal
 

@@ -1,6 +1,4 @@
-use Rattle.std.proofs.Common.{◌≡◌, ℕ, List, [], ◌∷◌, length, map, refl, sym, ap, ◌∙◌, arith}
-use Rattle.dexspec.specs.Placing.{unless_empty}
-use Rattle.dexval.specs.Numbered.{type_at}
+use Rattle.dexlayout.proofs.Common.{◌≡◌, ℕ, List, [], ◌∷◌, length, map, refl, sym, ap, ◌∙◌, arith, unless_empty, type_at}
 use Rattle.dexlayout.proofs.SharedUses.{shared_pass, shared_take, none_used, some_used}
 use Rattle.dexlayout.proofs.type_lists.add_list.Goals as goal
 

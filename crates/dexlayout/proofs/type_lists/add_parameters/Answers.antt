@@ -1,9 +1,6 @@
-use Rattle.std.proofs.Common.{[], ◌∷◌, ◌++◌, ◌<◌, length, get_or, map, take, subst, sym, ap, ◌∙◌, arith}
-use Rattle.std.proofs.lemmas.List.{get_or_default}
+use Rattle.dexlayout.proofs.Common.{[], ◌∷◌, ◌++◌, ◌<◌, length, get_or, map, take, subst, sym, ap, ◌∙◌, arith, get_or_default, unless_empty, type_at}
 use Rattle.dexspec.specs.Symbols.{Proto}
-use Rattle.dexspec.specs.Placing.{unless_empty}
 use Rattle.dexpool.proofs.Ranking.{listed_at, listed_within}
-use Rattle.dexval.specs.Numbered.{type_at}
 use Rattle.dexlayout.specs.internal.SharedUses.{AreTypes, SharesLists}
 use Rattle.dexlayout.proofs.SharedUses.{uses_next}
 use Rattle.dexlayout.proofs.type_lists.add_parameters.Goals as goal

@@ -1,7 +1,4 @@
-use Rattle.std.proofs.Common.{◌++◌, map, take}
-use Rattle.std.specs.Prelude.{List, Option}
-use Rattle.dexspec.specs.Placing.{unless_empty}
-use Rattle.dexspec.specs.Texts.{Text}
+use Rattle.dexlayout.proofs.Common.{◌++◌, map, take, List, Option, unless_empty, Text}
 use Rattle.dexlayout.specs.internal.SharedUses.{SharesLists}
 use Rattle.dexlayout.proofs.type_lists.add_parameters.Given as goal
 

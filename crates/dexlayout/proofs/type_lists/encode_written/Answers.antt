@@ -1,4 +1,4 @@
-use Rattle.std.proofs.Common.{◌<◌, ◌^◌, List, ℕ, Option, Some, All, length, map, arith, ap, subst, sym}
+use Rattle.dexlayout.proofs.Common.{◌<◌, ◌^◌, List, ℕ, Option, Some, All, length, map, arith, ap, subst, sym}
 use Rattle.dexlayout.specs.internal.Encoding.{encode_uses, list_bytes}
 use Rattle.dexlayout.proofs.EncodedUses.{all_encoded_by, each_left, next_of_each, use_encoded, use_fits}
 use Rattle.dexlayout.proofs.ListBytes.{length_list}

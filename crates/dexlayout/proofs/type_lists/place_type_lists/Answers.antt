@@ -1,9 +1,5 @@
-use Rattle.std.proofs.Common.{◌≡◌, ◌^◌, ◌<◌, ◌≤◌, length, arith, subst, sym, ap, ◌∙◌}
-use Rattle.std.specs.Prelude.{All, IfSome}
-use Rattle.std.proofs.lemmas.List.Elements.{All-weaker}
-use Rattle.std.proofs.lemmas.Result.{IfOk-weaker}
-use Rattle.dexlayout.specs.Laid.{AreTypeLists}
-use Rattle.dexlayout.specs.Places.{EncodedItems}
+use Rattle.dexlayout.proofs.Common.{◌≡◌, ◌^◌, ◌<◌, ◌≤◌, length, arith, subst, sym, ap, ◌∙◌, All, IfSome, All-weaker, IfOk-weaker}
+use Rattle.dexlayout.specs.{AreTypeLists, EncodedItems}
 use Rattle.dexlayout.specs.internal.Placing.{encoded_lists, shared_by}
 use Rattle.dexlayout.specs.internal.SharedUses.{AreTypes}
 use Rattle.dexlayout.proofs.SharedKinds.{lists_fit, lists_numbered, lists_laid}

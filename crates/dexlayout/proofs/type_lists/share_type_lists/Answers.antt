@@ -1,6 +1,5 @@
-use Rattle.std.proofs.Common.{[], map, subst}
-use Rattle.dexspec.specs.Placing.{unless_empty, type_list_uses}
-use Rattle.dexlayout.specs.Laid.{ordered_of}
+use Rattle.dexlayout.proofs.Common.{[], map, subst, unless_empty, type_list_uses}
+use Rattle.dexlayout.specs.{ordered_of}
 use Rattle.dexlayout.specs.internal.SharedUses.{SharesLists}
 use Rattle.dexlayout.proofs.SharedKinds.{list_uses_are, lists_shared}
 use Rattle.dexlayout.proofs.SharedUses.{shared_none, shared_kept, shared_known, on_returned, of_returned}

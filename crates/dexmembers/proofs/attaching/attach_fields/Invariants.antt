@@ -1,4 +1,4 @@
-use Rattle.std.specs.Prelude.{◌≡◌, ◌<◌, ℕ, All, IfSome, map, take}
+use Rattle.dexmembers.proofs.Common.{◌≡◌, ◌<◌, ℕ, All, IfSome, map, take}
 use Rattle.dexmembers.specs.internal.Attaching.{EntriesRise, held_field}
 use Rattle.dexmembers.proofs.attaching.attach_fields.Given as goal
 

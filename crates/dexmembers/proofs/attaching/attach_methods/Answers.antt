@@ -1,10 +1,6 @@
-use Rattle.std.proofs.Common.{◌≡◌, ◌∙◌, ◌<◌, ◌++◌, ◌∷◌, [], length, get_or, sym, subst, arith}
-use Rattle.std.specs.Prelude.{All, IfSome}
-use Rattle.std.specs.Vec.Iter.{into_iter_items, into_iter_len}
-use Rattle.std.proofs.lemmas.List.{get_or_default}
-use Rattle.std.proofs.lemmas.List.Elements.{All-push}
+use Rattle.dexmembers.proofs.Common.{◌≡◌, ◌∙◌, ◌<◌, ◌++◌, ◌∷◌, [], length, get_or, sym, subst, arith, All, IfSome, into_iter_items, into_iter_len, get_or_default, All-push}
 use Rattle.dexmembers.specs.internal.Attaching.{held_method}
-use Rattle.dexmembers.specs.Held.{HeldMethod}
+use Rattle.dexmembers.specs.{HeldMethod}
 use Rattle.dexmembers.specs.declared.class_data.EncodedMethod.{EncodedMethod}
 use Rattle.dexmembers.proofs.Searched.{zip_more, rest_next, rest_size}
 use Rattle.dexmembers.proofs.attaching.attach_methods.Goals as goal

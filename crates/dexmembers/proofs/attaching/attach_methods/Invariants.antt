@@ -1,6 +1,4 @@
-use Rattle.std.specs.Prelude.{◌≡◌, ◌<◌, ℕ, All, IfSome, length, take, drop}
-use Rattle.std.specs.Vec.Iter.{into_iter_items, into_iter_len}
-use Rattle.dexspec.specs.Lists.{zip_with}
+use Rattle.dexmembers.proofs.Common.{◌≡◌, ◌<◌, ℕ, All, IfSome, length, take, drop, into_iter_items, into_iter_len, zip_with}
 use Rattle.dexmembers.specs.internal.Attaching.{EntriesRise, held_method}
 use Rattle.dexmembers.proofs.attaching.attach_methods.Given as goal
 

@@ -1,5 +1,4 @@
-use Rattle.std.proofs.Common.{rules}
-use Rattle.std.proofs.lemmas.List.Sorted.{answers_always}
+use Rattle.dexmembers.proofs.Common.{rules, answers_always}
 use Rattle.dexmembers.proofs.Searched.{entry_searched}
 use Rattle.dexmembers.proofs.attaching.entry_of.Goals as goal
 

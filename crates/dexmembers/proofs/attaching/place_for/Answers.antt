@@ -1,4 +1,4 @@
-use Rattle.std.proofs.Common.{sym}
+use Rattle.dexmembers.proofs.Common.{sym}
 use Rattle.dexmembers.proofs.Searched.{find_found, find_missing}
 use Rattle.dexmembers.proofs.attaching.place_for.Goals as goal
 

@@ -1,9 +1,7 @@
-use Rattle.std.proofs.Common.{◌∙◌, ℕ, List, sym, subst, arith}
-use Rattle.std.proofs.lemmas.Result.{err_from_is_err_and}
-use Rattle.dexpool.specs.Numberings.{AreRising}
+use Rattle.dexmembers.proofs.Common.{◌∙◌, ℕ, List, sym, subst, arith, err_from_is_err_and, AreRising}
 use Rattle.dexmembers.specs.internal.MethodCodes.{IsCodesFault}
 use Rattle.dexmembers.specs.internal.StaticValues.{IsValuesFault}
-use Rattle.dexmembers.specs.Checking.{HaveCodesOf, HasValuesOf}
+use Rattle.dexmembers.specs.{HaveCodesOf, HasValuesOf}
 use Rattle.dexmembers.specs.declared.class_data.EncodedMethod.{EncodedMethod}
 use Rattle.dexmembers.proofs.DirectoryCache.{data_refused, direct_refused, virtual_refused}
 use Rattle.dexmembers.proofs.RowsAreAt.{annotations_refused, values_refused}

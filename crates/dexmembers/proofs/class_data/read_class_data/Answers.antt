@@ -1,4 +1,4 @@
-use Rattle.std.proofs.Common.{sym}
+use Rattle.dexmembers.proofs.Common.{sym}
 use Rattle.dexmembers.proofs.DataOfFile.{data_returned, refusal_returned}
 use Rattle.dexmembers.proofs.class_data.read_class_data.Goals as goal
 

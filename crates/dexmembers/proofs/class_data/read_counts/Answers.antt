@@ -1,4 +1,4 @@
-use Rattle.std.proofs.Common.{◌+◌, ◌∷◌, [], refl, arith}
+use Rattle.dexmembers.proofs.Common.{◌+◌, ◌∷◌, [], refl, arith}
 use Rattle.dexmembers.proofs.DataCounts.{numbers_stuck}
 use Rattle.dexmembers.proofs.class_data.read_counts.Goals as goal
 

@@ -1,5 +1,5 @@
-use Rattle.std.proofs.Common.{ℕ, ◌+◌, drop, sym, subst, arith}
-use Rattle.dexmembers.specs.Spelled.{numbered_field_bytes, numbered_fields_bytes}
+use Rattle.dexmembers.proofs.Common.{ℕ, ◌+◌, drop, sym, subst, arith}
+use Rattle.dexmembers.specs.{numbered_field_bytes, numbered_fields_bytes}
 use Rattle.dexmembers.proofs.Partways.{Partway, partway_next, partway_last}
 use Rattle.dexmembers.proofs.ClassDataSpelled.{fields_next, fields_end}
 use Rattle.dexmembers.proofs.class_data_put.encode_fields.Goals as goal

@@ -1,5 +1,5 @@
-use Rattle.std.proofs.Common.{drop}
-use Rattle.dexmembers.specs.Spelled.{numbered_fields_bytes}
+use Rattle.dexmembers.proofs.Common.{drop}
+use Rattle.dexmembers.specs.{numbered_fields_bytes}
 use Rattle.dexmembers.proofs.Partways.{Partway}
 use Rattle.dexmembers.proofs.class_data_put.encode_fields.Given as goal
 

@@ -1,5 +1,4 @@
-use Rattle.std.proofs.Common.{ℕ, ◌-◌, ◌++◌, ap, ◌∙◌, subst}
-use Rattle.dexspec.specs.Numbers.{uleb128}
+use Rattle.dexmembers.proofs.Common.{ℕ, ◌-◌, ◌++◌, ap, ◌∙◌, subst, uleb128}
 use Rattle.dexmembers.proofs.class_data_put.encode_method.Goals as goal
 
 pub returns : goal.returns

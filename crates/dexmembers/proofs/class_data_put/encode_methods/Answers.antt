@@ -1,6 +1,5 @@
-use Rattle.std.proofs.Common.{ℕ, ◌+◌, drop, sym, subst, arith}
-use Rattle.std.specs.Prelude.{slice_index}
-use Rattle.dexmembers.specs.Spelled.{numbered_method_bytes, numbered_methods_bytes}
+use Rattle.dexmembers.proofs.Common.{ℕ, ◌+◌, drop, sym, subst, arith, slice_index}
+use Rattle.dexmembers.specs.{numbered_method_bytes, numbered_methods_bytes}
 use Rattle.dexmembers.proofs.Partways.{Partway, partway_next, partway_last}
 use Rattle.dexmembers.proofs.ClassDataSpelled.{methods_next, methods_end}
 use Rattle.dexmembers.proofs.class_data_put.encode_methods.Goals as goal

@@ -1,5 +1,5 @@
-use Rattle.std.proofs.Common.{drop}
-use Rattle.dexmembers.specs.Spelled.{numbered_methods_bytes}
+use Rattle.dexmembers.proofs.Common.{drop}
+use Rattle.dexmembers.specs.{numbered_methods_bytes}
 use Rattle.dexmembers.proofs.Partways.{Partway}
 use Rattle.dexmembers.proofs.class_data_put.encode_methods.Given as goal
 

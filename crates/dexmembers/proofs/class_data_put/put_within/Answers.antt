@@ -1,5 +1,4 @@
-use Rattle.std.proofs.Common.{◌^◌, ◌-◌, min, length, refl, arith}
-use Rattle.dexhead.proofs.Encoded.{encoded_put}
+use Rattle.dexmembers.proofs.Common.{◌^◌, ◌-◌, min, length, refl, arith, encoded_put}
 use Rattle.dexmembers.proofs.class_data_put.put_within.Goals as goal
 
 pub returns : goal.returns

@@ -1,9 +1,6 @@
-use Rattle.std.proofs.Common.{List, take, get_or, sym, subst, arith}
-use Rattle.std.proofs.lemmas.List.{take_all, take_more}
-use Rattle.std.proofs.lemmas.List.Elements.{Contains-get_or}
-use Rattle.std.proofs.lemmas.Result.{err_from_is_err_and}
+use Rattle.dexmembers.proofs.Common.{List, take, get_or, sym, subst, arith, take_all, take_more, Contains-get_or, err_from_is_err_and}
 use Rattle.dexmembers.specs.declared.class_data.EncodedMethod.{EncodedMethod}
-use Rattle.dexmembers.specs.Checking.{HaveCodesOf}
+use Rattle.dexmembers.specs.{HaveCodesOf}
 use Rattle.dexmembers.proofs.CodesOfMethods.{fault_among}
 use Rattle.dexmembers.proofs.RowChecked.{no_codes_of, one_more_code}
 use Rattle.dexmembers.proofs.code_checking.check_codes.Goals as goal

@@ -1,6 +1,5 @@
-use Rattle.std.proofs.Common.{take}
-use Rattle.dexpool.specs.Pools.{ArePools}
-use Rattle.dexmembers.specs.Checking.{AreCheckedCodes, HaveCodesOf}
+use Rattle.dexmembers.proofs.Common.{take, ArePools}
+use Rattle.dexmembers.specs.{AreCheckedCodes, HaveCodesOf}
 use Rattle.dexmembers.proofs.code_checking.check_codes.Given as goal
 
 abbrev pub invariant-loop-method : goal.invariant-loop-method

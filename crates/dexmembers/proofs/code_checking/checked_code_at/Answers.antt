@@ -1,4 +1,4 @@
-use Rattle.std.proofs.Common.{ℕ, nat_eq, sym, arith}
+use Rattle.dexmembers.proofs.Common.{ℕ, nat_eq, sym, arith}
 use Rattle.std.specs.HashMap.{get}
 use Rattle.dexmembers.proofs.RowChecked.{code_added, some_code_of, no_code_of}
 use Rattle.dexmembers.proofs.code_checking.checked_code_at.Goals as goal

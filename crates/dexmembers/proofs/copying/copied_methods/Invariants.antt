@@ -1,4 +1,4 @@
-use Rattle.std.proofs.Common.{◌≡◌, take}
+use Rattle.dexmembers.proofs.Common.{◌≡◌, take}
 use Rattle.dexmembers.proofs.copying.copied_methods.Given as goal
 
 abbrev pub invariant-loop-method : goal.invariant-loop-method

@@ -1,5 +1,4 @@
-use Rattle.std.proofs.Common.{◌++◌}
-use Rattle.dexspec.specs.Bytes.{uint}
+use Rattle.dexmembers.proofs.Common.{◌++◌, uint}
 use Rattle.dexmembers.proofs.directory_put.encode_head.Goals as goal
 
 pub returns : goal.returns

@@ -1,7 +1,5 @@
-use Rattle.std.proofs.Common.{◌≡◌, ◌+◌, ◌≤◌, length, map, arith}
-use Rattle.std.specs.Prelude.{slice_index}
-use Rattle.std.proofs.lemmas.List.{length-map}
-use Rattle.dexmembers.specs.DirectoryPut.{pair_bytes, both_bytes}
+use Rattle.dexmembers.proofs.Common.{◌≡◌, ◌+◌, ◌≤◌, length, map, arith, slice_index, length-map}
+use Rattle.dexmembers.specs.{pair_bytes, both_bytes}
 use Rattle.dexmembers.proofs.Partways.{partway_next, partway_last}
 use Rattle.dexmembers.proofs.PairsMerged.{rest_of, step_first, step_second, step_last, first_there, second_there}
 use Rattle.dexmembers.proofs.directory_put.encode_pairs.Goals as goal

@@ -1,5 +1,5 @@
-use Rattle.std.proofs.Common.{◌+◌, ◌-◌, ◌≤◌, length, map}
-use Rattle.dexmembers.specs.DirectoryPut.{both_bytes}
+use Rattle.dexmembers.proofs.Common.{◌+◌, ◌-◌, ◌≤◌, length, map}
+use Rattle.dexmembers.specs.{both_bytes}
 use Rattle.dexmembers.proofs.Partways.{Partway}
 use Rattle.dexmembers.proofs.PairsMerged.{rest_of}
 use Rattle.dexmembers.proofs.directory_put.encode_pairs.Given as goal

@@ -1,4 +1,4 @@
-use Rattle.std.proofs.Common.{arith}
+use Rattle.dexmembers.proofs.Common.{arith}
 use Rattle.dexmembers.proofs.PairsMerged.{placed_more}
 use Rattle.dexmembers.proofs.directory_put.placed.Goals as goal
 

@@ -1,5 +1,5 @@
-use Rattle.std.proofs.Common.{◌≡◌, ◌≤◌, take}
-use Rattle.dexmembers.specs.DirectoryPut.{count_placed}
+use Rattle.dexmembers.proofs.Common.{◌≡◌, ◌≤◌, take}
+use Rattle.dexmembers.specs.{count_placed}
 use Rattle.dexmembers.proofs.directory_put.placed.Given as goal
 
 abbrev pub invariant-loop-offset : goal.invariant-loop-offset

@@ -1,7 +1,4 @@
-use Rattle.std.proofs.Common.{refl, sym, ◌∙◌, inl, inr, arith}
-use Rattle.std.specs.FinMap.{nat_cmp-IsAntisymmetric}
-use Rattle.dexspec.proofs.wellformed.PoolRows.{less_number}
-use Rattle.std.proofs.lemmas.Bool.{false≢true}
+use Rattle.dexmembers.proofs.Common.{refl, sym, ◌∙◌, inl, inr, arith, nat_cmp-IsAntisymmetric, less_number, false≢true}
 use Rattle.dexmembers.proofs.MemberChains.{passed_left, passed_right, passed_same, passed_all}
 use Rattle.dexmembers.proofs.encoded_lists.are_apart.Goals as goal
 

@@ -1,4 +1,4 @@
-use Rattle.std.proofs.Common.{length, map, ◌+◌, ◌-◌}
+use Rattle.dexmembers.proofs.Common.{length, map, ◌+◌, ◌-◌}
 use Rattle.dexmembers.specs.internal.EncodedMembers.{ArePassed}
 use Rattle.dexmembers.proofs.encoded_lists.are_apart.Given as goal
 

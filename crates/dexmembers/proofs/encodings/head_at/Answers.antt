@@ -1,6 +1,4 @@
-use Rattle.std.proofs.Common.{ℕ, ◌+◌, Some, refl, subst}
-use Rattle.dexspec.specs.ClassData.{IsNextIndex}
-use Rattle.dexspec.proofs.determined.OneNumber.{one_uleb128}
+use Rattle.dexmembers.proofs.Common.{ℕ, ◌+◌, Some, refl, subst, IsNextIndex, one_uleb128}
 use Rattle.dexmembers.specs.internal.EncodedMembers.{HeadAt}
 use Rattle.dexmembers.proofs.OneMember.{one_head, no_flags}
 use Rattle.dexmembers.proofs.encodings.head_at.Goals as goal

@@ -1,8 +1,5 @@
-use Rattle.std.proofs.Common.{◌≡◌, append-nil, option_to_list, Bor, Option, Some, sym, subst}
-use Rattle.std.specs.List.{FoldsTo, flat_map}
-use Rattle.dexcode.specs.Numbered.{NumberedItem}
-use Rattle.dexcode.specs.Renumbering.{item_uses}
-use Rattle.dexmembers.specs.Borrowed.{IsBorrowedCode}
+use Rattle.dexmembers.proofs.Common.{◌≡◌, append-nil, option_to_list, Bor, Option, Some, sym, subst, FoldsTo, flat_map, NumberedItem, item_uses}
+use Rattle.dexmembers.specs.{IsBorrowedCode}
 use Rattle.dexmembers.proofs.marking.visit_code.Goals as goal
 
 pub returns-in-Some : goal.returns-in-Some

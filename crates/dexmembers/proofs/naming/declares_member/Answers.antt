@@ -1,5 +1,4 @@
-use Rattle.std.proofs.Common.{map}
-use Rattle.std.proofs.lemmas.List.Elements.{Contains-append_right}
+use Rattle.dexmembers.proofs.Common.{map, Contains-append_right}
 use Rattle.dexmembers.proofs.naming.declares_member.Goals as goal
 
 pub returns-clause-listed : goal.returns-clause-listed

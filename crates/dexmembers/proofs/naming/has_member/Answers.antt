@@ -1,6 +1,4 @@
-use Rattle.std.proofs.Common.{rules, sym, subst}
-use Rattle.std.specs.Prelude.{IsTrue}
-use Rattle.std.proofs.lemmas.List.Sorted.{answers_always}
+use Rattle.dexmembers.proofs.Common.{rules, sym, subst, IsTrue, answers_always}
 use Rattle.dexmembers.proofs.Searched.{index_searched}
 use Rattle.dexmembers.proofs.naming.has_member.Goals as goal
 

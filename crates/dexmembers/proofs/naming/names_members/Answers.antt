@@ -1,6 +1,4 @@
-use Rattle.std.proofs.Common.{◌≡◌, ◌∙◌, ◌+◌, ◌*◌, ◌++◌, ℕ, List, map, sym, ap, subst, true, false, arith}
-use Rattle.std.specs.List.{Contains}
-use Rattle.dexspec.specs.Bytes.{uint_at}
+use Rattle.dexmembers.proofs.Common.{◌≡◌, ◌∙◌, ◌+◌, ◌*◌, ◌++◌, ℕ, List, map, sym, ap, subst, true, false, arith, Contains, uint_at}
 use Rattle.dexmembers.specs.internal.Naming.{NamesOnly}
 use Rattle.dexmembers.proofs.Named.{names_more, names_each}
 use Rattle.dexmembers.proofs.naming.names_members.Goals as goal

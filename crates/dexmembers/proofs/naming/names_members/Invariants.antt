@@ -1,4 +1,4 @@
-use Rattle.std.specs.Prelude.{◌++◌, map}
+use Rattle.dexmembers.proofs.Common.{◌++◌, map}
 use Rattle.dexmembers.specs.internal.Naming.{NamesOnly}
 use Rattle.dexmembers.proofs.naming.names_members.Given as goal
 

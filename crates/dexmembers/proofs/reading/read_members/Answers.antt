@@ -1,4 +1,4 @@
-use Rattle.std.proofs.Common.{arith, subst}
+use Rattle.dexmembers.proofs.Common.{arith, subst}
 use Rattle.dexmembers.specs.internal.RowParts.{IsPartFault}
 use Rattle.dexmembers.proofs.RowRead.{fault_within}
 use Rattle.dexmembers.proofs.reading.read_members.Goals as goal

@@ -1,13 +1,5 @@
-use Rattle.std.proofs.Common.{ℕ, map, sym, subst}
-use Rattle.std.specs.Prelude.{IfOk, IfErr}
-use Rattle.std.proofs.lemmas.Result.{err_from_is_err_and}
-use Rattle.dexpool.specs.Numberings.{AreRising}
-use Rattle.dexval.specs.Code.{value_of}
-use Rattle.dexval.specs.Numbered.{values_of_list}
-use Rattle.dexmembers.specs.Contents.{contents_in}
-use Rattle.dexmembers.specs.Reading.{AreReadWithin}
-use Rattle.dexmembers.specs.Numbered.{members_in}
-use Rattle.dexmembers.specs.Weight.{members_weight}
+use Rattle.dexmembers.proofs.Common.{ℕ, map, sym, subst, IfOk, IfErr, err_from_is_err_and, AreRising, value_of, values_of_list}
+use Rattle.dexmembers.specs.{contents_in, AreReadWithin, members_in, members_weight}
 use Rattle.dexmembers.specs.internal.RowParts.{IsPartFault}
 use Rattle.dexmembers.specs.internal.Weighed.{AreWithin}
 use Rattle.dexmembers.proofs.DirectoryCache.{data_refused}

@@ -1,5 +1,5 @@
-use Rattle.std.proofs.Common.{arith, refl}
-use Rattle.dexmembers.specs.Contents.{contents_in}
+use Rattle.dexmembers.proofs.Common.{arith, refl}
+use Rattle.dexmembers.specs.{contents_in}
 use Rattle.dexmembers.proofs.CodesApart.{members_apart}
 use Rattle.dexmembers.proofs.FewMembers.{weighed_few}
 use Rattle.dexmembers.proofs.reading.within.Goals as goal

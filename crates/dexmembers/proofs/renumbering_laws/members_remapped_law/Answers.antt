@@ -1,5 +1,4 @@
-use Rattle.std.proofs.Common.{refl}
-use Rattle.dexval.specs.Numbered.{set_in, values_in}
+use Rattle.dexmembers.proofs.Common.{refl, set_in, values_in}
 use Rattle.dexmembers.proofs.Images.{members_images}
 use Rattle.dexmembers.proofs.RenumberingKept.{SetsKeep, ValuesKeep, CodesKeep, members_keep, order_kept, class_kept}
 use Rattle.dexmembers.proofs.renumbering_laws.members_remapped_law.Goals as goal

@@ -1,5 +1,4 @@
-use Rattle.std.proofs.Common.{refl}
-use Rattle.dexval.specs.Numbered.{set_in, values_in}
+use Rattle.dexmembers.proofs.Common.{refl, set_in, values_in}
 use Rattle.dexmembers.proofs.Images.{members_images}
 use Rattle.dexmembers.proofs.SameMembers.{SetsSame, ValuesSame, CodesSame, members_same}
 use Rattle.dexmembers.proofs.renumbering_laws.members_same_law.Goals as goal

@@ -1,5 +1,4 @@
-use Rattle.std.proofs.Common.{◌≡◌, ◌∙◌, ◌+◌, ◌*◌, ◌++◌, ℕ, refl, sym, ap, subst, true, false, arith}
-use Rattle.dexspec.specs.Annotations.{fields_count, methods_count, parameters_count}
+use Rattle.dexmembers.proofs.Common.{◌≡◌, ◌∙◌, ◌+◌, ◌*◌, ◌++◌, ℕ, refl, sym, ap, subst, true, false, arith, fields_count, methods_count, parameters_count}
 use Rattle.dexmembers.specs.internal.Naming.{field_indices, method_indices, fields_read, methods_read, BothRise}
 use Rattle.dexmembers.proofs.Named.{names_moved}
 use Rattle.dexmembers.proofs.row_annotations.names_declared.Goals as goal

@@ -1,6 +1,4 @@
-use Rattle.std.proofs.Common.{◌≡◌, ◌≢◌, ◌∙◌, refl, sym, subst, true, false, arith}
-use Rattle.std.proofs.lemmas.Result.{err_from_is_err_and}
-use Rattle.dexpool.specs.Numberings.{AreRising}
+use Rattle.dexmembers.proofs.Common.{◌≡◌, ◌≢◌, ◌∙◌, refl, sym, subst, true, false, arith, err_from_is_err_and, AreRising}
 use Rattle.dexmembers.proofs.RowAnnotations.{directory_refused, unnamed_refused}
 use Rattle.dexmembers.proofs.RowChecked.{no_annotations, annotations_of}
 use Rattle.dexmembers.proofs.row_checking.check_annotations.Goals as goal

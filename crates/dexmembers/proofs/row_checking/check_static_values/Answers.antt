@@ -1,5 +1,4 @@
-use Rattle.std.proofs.Common.{◌≢◌, arith}
-use Rattle.std.proofs.lemmas.Result.{err_from_is_err_and}
+use Rattle.dexmembers.proofs.Common.{◌≢◌, arith, err_from_is_err_and}
 use Rattle.dexmembers.proofs.StaticValuesRead.{no_statics}
 use Rattle.dexmembers.proofs.RowChecked.{no_values, too_many_values, values_of}
 use Rattle.dexmembers.proofs.row_checking.check_static_values.Goals as goal

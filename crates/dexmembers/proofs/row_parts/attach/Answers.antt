@@ -1,7 +1,4 @@
-use Rattle.std.proofs.Common.{length, map}
-use Rattle.dexval.specs.Code.{value_of}
-use Rattle.dexval.specs.Numbered.{values_of_list}
-use Rattle.dexval.specs.Tables.{set_at}
+use Rattle.dexmembers.proofs.Common.{length, map, value_of, values_of_list, set_at}
 use Rattle.dexmembers.proofs.Attachments.{fields_attached, methods_attached, fields_held, methods_held, few_places}
 use Rattle.dexmembers.proofs.row_parts.attach.Goals as goal
 

@@ -1,5 +1,5 @@
-use Rattle.std.proofs.Common.{◌<◌, length, arith}
-use Rattle.dexmembers.specs.Renumbering.{renumbered_field}
+use Rattle.dexmembers.proofs.Common.{◌<◌, length, arith}
+use Rattle.dexmembers.specs.{renumbered_field}
 use Rattle.dexmembers.proofs.RenumberingSteps.{same_at}
 use Rattle.dexmembers.proofs.same.same_fields.Goals as goal
 

@@ -1,5 +1,5 @@
-use Rattle.std.proofs.Common.{◌≡◌, length, map, take}
-use Rattle.dexmembers.specs.Renumbering.{renumbered_method}
+use Rattle.dexmembers.proofs.Common.{◌≡◌, length, map, take}
+use Rattle.dexmembers.specs.{renumbered_method}
 use Rattle.dexmembers.proofs.same.same_methods.Given as goal
 
 abbrev pub invariant-loop-i : goal.invariant-loop-i

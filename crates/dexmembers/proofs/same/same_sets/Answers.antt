@@ -1,6 +1,4 @@
-use Rattle.std.proofs.Common.{◌<◌, length, get_or, [], arith}
-use Rattle.std.proofs.lemmas.List.{get_or_default}
-use Rattle.dexval.specs.Renumbering.{renumbered_set}
+use Rattle.dexmembers.proofs.Common.{◌<◌, length, get_or, [], arith, get_or_default, renumbered_set}
 use Rattle.dexmembers.proofs.RenumberingSteps.{same_at}
 use Rattle.dexmembers.proofs.same.same_sets.Goals as goal
 

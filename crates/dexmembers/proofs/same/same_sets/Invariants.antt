@@ -1,5 +1,4 @@
-use Rattle.std.proofs.Common.{◌≡◌, length, map, take}
-use Rattle.dexval.specs.Renumbering.{renumbered_set}
+use Rattle.dexmembers.proofs.Common.{◌≡◌, length, map, take, renumbered_set}
 use Rattle.dexmembers.proofs.same.same_sets.Given as goal
 
 abbrev pub invariant-loop-i : goal.invariant-loop-i

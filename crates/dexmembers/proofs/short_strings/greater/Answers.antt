@@ -1,5 +1,4 @@
-use Rattle.std.proofs.Common.{◌++◌, Some, sym, ap, subst}
-use Rattle.dexinsn.specs.Fitting.{IsGreatest}
+use Rattle.dexmembers.proofs.Common.{◌++◌, Some, sym, ap, subst, IsGreatest}
 use Rattle.dexmembers.proofs.Placed.{both_greatest}
 use Rattle.dexmembers.proofs.short_strings.greater.Goals as goal
 

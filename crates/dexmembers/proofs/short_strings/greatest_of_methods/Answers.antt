@@ -1,10 +1,5 @@
-use Rattle.std.proofs.Common.{◌≡◌, ◌+◌, ◌<◌, ◌++◌, ◌∷◌, [], ℕ, List, take, get_or, length, sym, ap, subst, ◌∙◌, arith}
-use Rattle.std.specs.List.{flat_map}
-use Rattle.std.proofs.lemmas.List.{take_more, append-nil}
-use Rattle.std.proofs.lemmas.List.Concat.{flat_map-append}
-use Rattle.dexinsn.specs.Fitting.{IsGreatest}
-use Rattle.dexmembers.specs.Numbered.{NumberedMethod}
-use Rattle.dexmembers.specs.Fitting.{method_short_strings}
+use Rattle.dexmembers.proofs.Common.{◌≡◌, ◌+◌, ◌<◌, ◌++◌, ◌∷◌, [], ℕ, List, take, get_or, length, sym, ap, subst, ◌∙◌, arith, flat_map, take_more, append-nil, flat_map-append, IsGreatest}
+use Rattle.dexmembers.specs.{NumberedMethod, method_short_strings}
 use Rattle.dexmembers.proofs.short_strings.greatest_of_methods.Goals as goal
 
 -- the short strings of one method more

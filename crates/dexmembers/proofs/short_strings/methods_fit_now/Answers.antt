@@ -1,6 +1,6 @@
-use Rattle.std.proofs.Common.{arith}
+use Rattle.dexmembers.proofs.Common.{arith}
 use Rattle.dexval.proofs.Fitted.{all_more, all_end}
-use Rattle.dexmembers.specs.Fitting.{MethodFits}
+use Rattle.dexmembers.specs.{MethodFits}
 use Rattle.dexmembers.proofs.short_strings.methods_fit_now.Goals as goal
 
 pub loop-i-preserved : goal.loop-i-preserved

@@ -1,6 +1,5 @@
-use Rattle.std.proofs.Common.{take}
-use Rattle.std.specs.List.{All}
-use Rattle.dexmembers.specs.Fitting.{MethodFits}
+use Rattle.dexmembers.proofs.Common.{take, All}
+use Rattle.dexmembers.specs.{MethodFits}
 use Rattle.dexmembers.proofs.short_strings.methods_fit_now.Given as goal
 
 abbrev pub invariant-loop-i : goal.invariant-loop-i

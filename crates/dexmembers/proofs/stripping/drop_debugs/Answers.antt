@@ -1,6 +1,5 @@
-use Rattle.std.proofs.Common.{ap, ◌∙◌, arith}
-use Rattle.dexmembers.specs.Stripped.{stripped_held}
-use Rattle.dexpool.proofs.Changed.{changed_more}
+use Rattle.dexmembers.proofs.Common.{ap, ◌∙◌, arith, changed_more}
+use Rattle.dexmembers.specs.{stripped_held}
 use Rattle.dexmembers.proofs.stripping.drop_debugs.Goals as goal
 
 pub loop-i-preserved : goal.loop-i-preserved

@@ -1,5 +1,5 @@
-use Rattle.dexmembers.specs.Stripped.{stripped_held}
-use Rattle.dexpool.proofs.Changed.{AreChanged}
+use Rattle.dexmembers.proofs.Common.{AreChanged}
+use Rattle.dexmembers.specs.{stripped_held}
 use Rattle.dexmembers.proofs.stripping.drop_debugs.Given as goal
 
 abbrev pub invariant-loop-i : goal.invariant-loop-i

@@ -1,4 +1,4 @@
-use Rattle.dexcode.specs.Meaning.{code_in}
+use Rattle.dexmembers.proofs.Common.{code_in}
 use Rattle.dexmembers.proofs.MembersUsed.{members_used, members_marked}
 use Rattle.dexmembers.proofs.uses_laws.members_uses_law.Goals as goal
 

@@ -1,5 +1,5 @@
-use Rattle.std.proofs.Common.{◌≡◌, ◌-◌, ◌^◌, min, sum_by, take}
-use Rattle.dexmembers.specs.Weighing.{method_code_weight}
+use Rattle.dexmembers.proofs.Common.{◌≡◌, ◌-◌, ◌^◌, min, sum_by, take}
+use Rattle.dexmembers.specs.{method_code_weight}
 use Rattle.dexmembers.proofs.weighing.codes_weight.Given as goal
 
 abbrev pub invariant-loop-i : goal.invariant-loop-i

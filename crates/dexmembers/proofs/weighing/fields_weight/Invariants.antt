@@ -1,5 +1,5 @@
-use Rattle.std.proofs.Common.{◌≡◌, ◌-◌, ◌^◌, min, sum_by, take}
-use Rattle.dexmembers.specs.Weighing.{numbered_field_weight}
+use Rattle.dexmembers.proofs.Common.{◌≡◌, ◌-◌, ◌^◌, min, sum_by, take}
+use Rattle.dexmembers.specs.{numbered_field_weight}
 use Rattle.dexmembers.proofs.weighing.fields_weight.Given as goal
 
 abbrev pub invariant-loop-i : goal.invariant-loop-i

@@ -1,5 +1,4 @@
-use Rattle.dexdebug.specs.Meaning.{debug_in}
-use Rattle.dexcode.specs.Meaning.{code_in}
+use Rattle.dexmembers.proofs.Common.{debug_in, code_in}
 use Rattle.dexmembers.proofs.Weighed.{members_are}
 use Rattle.dexmembers.proofs.weighing.members_weight_law.Goals as goal
 

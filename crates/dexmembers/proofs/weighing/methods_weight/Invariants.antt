@@ -1,5 +1,5 @@
-use Rattle.std.proofs.Common.{◌≡◌, ◌-◌, ◌^◌, min, sum_by, take}
-use Rattle.dexmembers.specs.Weighing.{own_method_weight}
+use Rattle.dexmembers.proofs.Common.{◌≡◌, ◌-◌, ◌^◌, min, sum_by, take}
+use Rattle.dexmembers.specs.{own_method_weight}
 use Rattle.dexmembers.proofs.weighing.methods_weight.Given as goal
 
 abbrev pub invariant-loop-i : goal.invariant-loop-i

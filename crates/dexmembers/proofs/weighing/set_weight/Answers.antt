@@ -1,6 +1,4 @@
-use Rattle.std.proofs.Common.{ap, sym, ◌∙◌, ◌-◌, ◌^◌, min, ℕ}
-use Rattle.dexval.specs.Code.{set_of}
-use Rattle.dexval.proofs.Weights.{set_weight_is}
+use Rattle.dexmembers.proofs.Common.{ap, sym, ◌∙◌, ◌-◌, ◌^◌, min, ℕ, set_of, set_weight_is}
 use Rattle.dexmembers.proofs.Weighed.{no_symbols}
 use Rattle.dexmembers.proofs.weighing.set_weight.Goals as goal
 

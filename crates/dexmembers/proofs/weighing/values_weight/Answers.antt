@@ -1,6 +1,4 @@
-use Rattle.std.proofs.Common.{ap, sym, ◌∙◌, ◌-◌, ◌^◌, min, map, ℕ}
-use Rattle.dexval.specs.Code.{value_of}
-use Rattle.dexval.specs.Numbered.{values_of_list}
+use Rattle.dexmembers.proofs.Common.{ap, sym, ◌∙◌, ◌-◌, ◌^◌, min, map, ℕ, value_of, values_of_list}
 use Rattle.dexmembers.proofs.Weighed.{no_symbols, statics_are}
 use Rattle.dexmembers.proofs.weighing.values_weight.Goals as goal
 

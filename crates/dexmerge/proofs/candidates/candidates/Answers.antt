@@ -1,9 +1,5 @@
-use Rattle.std.proofs.Common.{◌≡◌, ◌<◌, ◌++◌, ◌∙◌, List, length, get_or, take, map, sym, ap, subst, arith}
-use Rattle.std.specs.List.{flat_map}
-use Rattle.std.proofs.lemmas.List.{length-map}
-use Rattle.dexspec.specs.Classes.{Definition}
-use Rattle.dexspec.specs.Files.{Collection, definitions}
-use Rattle.dexmerge.specs.Candidates.{AreMembers, classes_of}
+use Rattle.dexmerge.proofs.Common.{◌≡◌, ◌<◌, ◌++◌, ◌∙◌, List, length, get_or, take, map, sym, ap, subst, arith, flat_map, length-map, Definition, Collection, definitions}
+use Rattle.dexmerge.specs.{AreMembers, classes_of}
 use Rattle.dexmerge.proofs.PartMembers.{parts_more, part_at, mapped_at}
 use Rattle.dexmerge.proofs.candidates.candidates.Goals as goal
 

@@ -1,9 +1,5 @@
-use Rattle.std.specs.Prelude.{All, map, take}
-use Rattle.std.specs.List.{AllZip, flat_map}
-use Rattle.dexspec.specs.Files.{definitions}
-use Rattle.dexspec.specs.Mentions.{Mentions, mentions}
-use Rattle.dexclass.specs.Renumbering.{MapsAllInto}
-use Rattle.dexmerge.specs.Candidates.{AreMembers, IsOfPart, classes_of}
+use Rattle.dexmerge.proofs.Common.{All, map, take, AllZip, flat_map, definitions, Mentions, mentions, MapsAllInto}
+use Rattle.dexmerge.specs.{AreMembers, IsOfPart, classes_of}
 use Rattle.dexmerge.proofs.candidates.candidates.Given as goal
 
 abbrev pub invariant-loop-i : goal.invariant-loop-i

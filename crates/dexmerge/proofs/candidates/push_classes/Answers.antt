@@ -1,11 +1,5 @@
-use Rattle.std.proofs.Common.{◌≡◌, ◌++◌, ◌∙◌, List, map, sym, ap, subst, arith, refl}
-use Rattle.std.specs.Prelude.{All}
-use Rattle.std.proofs.lemmas.List.{take_all}
-use Rattle.std.proofs.lemmas.List.Elements.{All-push}
-use Rattle.dexspec.specs.Files.{definitions}
-use Rattle.dexclass.specs.Numbered.{NumberedClass}
-use Rattle.dexclass.specs.Renumbering.{renumbered}
-use Rattle.dexmerge.specs.Candidates.{AreMembers, IsOfPart, classes_of}
+use Rattle.dexmerge.proofs.Common.{◌≡◌, ◌++◌, ◌∙◌, List, map, sym, ap, subst, arith, refl, All, take_all, All-push, definitions, NumberedClass, renumbered}
+use Rattle.dexmerge.specs.{AreMembers, IsOfPart, classes_of}
 use Rattle.dexmerge.proofs.CandidatePlaces.{push_more}
 use Rattle.dexmerge.proofs.PartMembers.{members_more, class_known, of_part}
 use Rattle.dexmerge.proofs.candidates.push_classes.Goals as goal

@@ -1,8 +1,5 @@
-use Rattle.std.specs.Prelude.{◌≡◌, ◌++◌, All, map, take}
-use Rattle.dexspec.specs.Files.{definitions}
-use Rattle.dexspec.specs.Mentions.{Mentions, mentions}
-use Rattle.dexclass.specs.Renumbering.{MapsAllInto, renumbered}
-use Rattle.dexmerge.specs.Candidates.{IsOfPart, classes_of}
+use Rattle.dexmerge.proofs.Common.{◌≡◌, ◌++◌, All, map, take, definitions, Mentions, mentions, MapsAllInto, renumbered}
+use Rattle.dexmerge.specs.{IsOfPart, classes_of}
 use Rattle.dexmerge.proofs.candidates.push_classes.Given as goal
 
 abbrev pub invariant-loop-class : goal.invariant-loop-class

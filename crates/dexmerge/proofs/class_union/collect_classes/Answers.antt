@@ -1,8 +1,4 @@
-use Rattle.std.proofs.Common.{◌≡◌, ◌∙◌, ◌++◌, ℕ, List, [], length, take, drop, map, sym, ap, subst, arith}
-use Rattle.std.specs.List.{flat_map}
-use Rattle.std.proofs.lemmas.Grind.{flat_map-append}
-use Rattle.dexspec.specs.Classes.{Definition}
-use Rattle.dexspec.specs.Files.{Collection, definitions}
+use Rattle.dexmerge.proofs.Common.{◌≡◌, ◌∙◌, ◌++◌, ℕ, List, [], length, take, drop, map, sym, ap, subst, arith, flat_map, flat_map-append, Definition, Collection, definitions}
 use Rattle.dexmerge.specs.internal.Collecting.{ArePartsOf, AreCollected}
 use Rattle.dexmerge.proofs.Collected.{owned_parts, file_parts, one_of_each}
 use Rattle.dexmerge.proofs.class_union.collect_classes.Goals as goal

@@ -1,7 +1,5 @@
-use Rattle.std.proofs.Common.{◌≡◌, ◌<◌, ℕ, ◌+◌, ◌∙◌, refl, sym, ap, subst, arith, length}
-use Rattle.dexclass.specs.Parents.{name_number}
-use Rattle.std.proofs.lemmas.Bool.{false≢true}
-use Rattle.dexmerge.specs.Candidates.{classes_of, lesser_of}
+use Rattle.dexmerge.proofs.Common.{◌≡◌, ◌<◌, ℕ, ◌+◌, ◌∙◌, refl, sym, ap, subst, arith, length, name_number, false≢true}
+use Rattle.dexmerge.specs.{classes_of, lesser_of}
 use Rattle.dexmerge.proofs.CandidatePlaces.{name_at_place, count_classes}
 use Rattle.dexmerge.proofs.ConflictLaws.{IsLeastTo, equivalent_next, conflict_next, least_is}
 use Rattle.dexmerge.proofs.copies.first_conflict.Goals.{then-not-is_equal_copy, else-not-is_equal_copy}

@@ -1,4 +1,4 @@
-use Rattle.dexmerge.specs.Candidates.{classes_of}
+use Rattle.dexmerge.specs.{classes_of}
 use Rattle.dexmerge.proofs.ConflictLaws.{IsLeastTo}
 use Rattle.dexmerge.proofs.copies.first_conflict.Given as goal
 

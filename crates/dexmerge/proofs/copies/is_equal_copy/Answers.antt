@@ -1,7 +1,5 @@
-use Rattle.std.proofs.Common.{◌≡◌, ℕ, ◌∙◌, sym, ap, get_or, None}
-use Rattle.std.specs.Prelude.{IsTrue}
-use Rattle.dexclass.specs.Parents.{name_number}
-use Rattle.dexmerge.specs.Candidates.{classes_of}
+use Rattle.dexmerge.proofs.Common.{◌≡◌, ℕ, ◌∙◌, sym, ap, get_or, None, IsTrue, name_number}
+use Rattle.dexmerge.specs.{classes_of}
 use Rattle.dexmerge.proofs.CandidatePlaces.{name_at_place, kept_within, equivalent_by}
 use Rattle.dexmerge.proofs.copies.is_equal_copy.Goals as goal
 

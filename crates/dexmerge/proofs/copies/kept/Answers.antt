@@ -1,4 +1,4 @@
-use Rattle.dexmerge.specs.Candidates.{classes_of}
+use Rattle.dexmerge.specs.{classes_of}
 use Rattle.dexmerge.proofs.CandidatePlaces.{kept_within, kept_next}
 use Rattle.dexmerge.proofs.copies.kept.Goals as goal
 

@@ -1,6 +1,5 @@
-use Rattle.std.specs.Prelude.{◌≡◌, take}
-use Rattle.dexpool.specs.Numberings.{AreIn}
-use Rattle.dexmerge.specs.Candidates.{classes_of, kept_classes}
+use Rattle.dexmerge.proofs.Common.{◌≡◌, take, AreIn}
+use Rattle.dexmerge.specs.{classes_of, kept_classes}
 use Rattle.dexmerge.proofs.copies.kept.Given as goal
 
 abbrev pub invariant-loop-typ : goal.invariant-loop-typ

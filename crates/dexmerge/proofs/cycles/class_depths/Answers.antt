@@ -1,6 +1,5 @@
-use Rattle.std.proofs.Common.{ℕ, ◌<◌, get_or, sym, subst}
-use Rattle.dexorder.specs.Depths.{AreDepths}
-use Rattle.dexmerge.specs.Candidates.{classes_of}
+use Rattle.dexmerge.proofs.Common.{ℕ, ◌<◌, get_or, sym, subst, AreDepths}
+use Rattle.dexmerge.specs.{classes_of}
 use Rattle.dexmerge.specs.internal.Cycles.{HaveDepths}
 use Rattle.dexmerge.proofs.CandidatePlaces.{hierarchy_of, names_below}
 use Rattle.dexmerge.proofs.CycleLaws.{kept_below, parents_within, first_is, depths_are}

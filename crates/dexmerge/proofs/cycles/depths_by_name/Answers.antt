@@ -1,7 +1,5 @@
-use Rattle.std.proofs.Common.{◌≡◌, ◌∙◌, ◌<◌, length, None, get_or, refl, sym, arith}
-use Rattle.std.proofs.lemmas.List.{length-set}
-use Rattle.dexclass.specs.Parents.{name_number}
-use Rattle.dexmerge.specs.Candidates.{classes_of}
+use Rattle.dexmerge.proofs.Common.{◌≡◌, ◌∙◌, ◌<◌, length, None, get_or, refl, sym, arith, length-set, name_number}
+use Rattle.dexmerge.specs.{classes_of}
 use Rattle.dexmerge.proofs.CandidatePlaces.{count_classes, name_at_place}
 use Rattle.dexmerge.proofs.CycleLaws.{by_name_more, by_name_is}
 use Rattle.dexmerge.proofs.cycles.depths_by_name.Goals as goal

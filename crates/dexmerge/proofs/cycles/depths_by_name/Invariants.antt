@@ -1,6 +1,5 @@
-use Rattle.std.specs.Prelude.{◌≡◌, ℕ, ◌<◌, length, None, slice_index_or}
-use Rattle.dexclass.specs.Parents.{name_number}
-use Rattle.dexmerge.specs.Candidates.{classes_of}
+use Rattle.dexmerge.proofs.Common.{◌≡◌, ℕ, ◌<◌, length, None, slice_index_or, name_number}
+use Rattle.dexmerge.specs.{classes_of}
 use Rattle.dexmerge.proofs.cycles.depths_by_name.Given as goal
 
 abbrev pub invariant-loop-i : goal.invariant-loop-i

@@ -1,8 +1,5 @@
-use Rattle.std.proofs.Common.{◌<◌, length, arith, subst}
-use Rattle.dexclass.specs.Numbered.{NumberedClass}
-use Rattle.dexmembers.specs.Fitting.{members_short_strings}
-use Rattle.dexmerge.specs.Candidates.{classes_of}
-use Rattle.dexmerge.specs.Counting.{Decides}
+use Rattle.dexmerge.proofs.Common.{◌<◌, length, arith, subst, NumberedClass, members_short_strings}
+use Rattle.dexmerge.specs.{classes_of, Decides}
 use Rattle.dexmerge.proofs.CandidatePlaces.{at_place, count_classes}
 use Rattle.dexmerge.proofs.Counting.{decides_more}
 use Rattle.dexmerge.proofs.fitting.greatest_short_string.Goals as goal

@@ -1,7 +1,6 @@
-use Rattle.std.specs.Prelude.{take}
+use Rattle.dexmerge.proofs.Common.{take}
 use Rattle.dexmerge.specs.internal.Amounts.{short_numbers}
-use Rattle.dexmerge.specs.Candidates.{classes_of}
-use Rattle.dexmerge.specs.Counting.{Decides}
+use Rattle.dexmerge.specs.{classes_of, Decides}
 use Rattle.dexmerge.proofs.fitting.greatest_short_string.Given as goal
 
 -- the greatest of the first classes

@@ -1,6 +1,5 @@
-use Rattle.std.proofs.Common.{◌≤◌, ◌∙◌, length, sym}
-use Rattle.std.proofs.lemmas.Bool.{ltb-false}
-use Rattle.dexmerge.specs.Candidates.{classes_of}
+use Rattle.dexmerge.proofs.Common.{◌≤◌, ◌∙◌, length, sym, ltb-false}
+use Rattle.dexmerge.specs.{classes_of}
 use Rattle.dexmerge.proofs.FarTexts.{few_texts}
 use Rattle.dexmerge.proofs.fitting.has_text_from.Goals as goal
 

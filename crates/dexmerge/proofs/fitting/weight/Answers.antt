@@ -1,8 +1,6 @@
-use Rattle.std.proofs.Common.{◌≡◌, ◌+◌, ◌∙◌, ℕ, min, take, sym, ap, subst, arith}
+use Rattle.dexmerge.proofs.Common.{◌≡◌, ◌+◌, ◌∙◌, ℕ, min, take, sym, ap, subst, arith, body_weight, NumberedClass, definition_of}
 use Rattle.dexmerge.specs.internal.Amounts.{weight_over}
-use Rattle.dexspec.specs.Weight.{body_weight}
-use Rattle.dexclass.specs.Numbered.{NumberedClass, definition_of}
-use Rattle.dexmerge.specs.Candidates.{IsOfPart, classes_of, class_at}
+use Rattle.dexmerge.specs.{IsOfPart, classes_of, class_at}
 use Rattle.dexmerge.proofs.CandidatePlaces.{at_place, count_classes}
 use Rattle.dexmerge.proofs.Weighing.{weight_more, stops}
 use Rattle.dexmerge.proofs.fitting.weight.Goals as goal

@@ -1,5 +1,5 @@
-use Rattle.std.specs.Prelude.{◌≡◌, ◌-◌, ◌^◌, min, take}
-use Rattle.dexmerge.specs.Candidates.{classes_of}
+use Rattle.dexmerge.proofs.Common.{◌≡◌, ◌-◌, ◌^◌, min, take}
+use Rattle.dexmerge.specs.{classes_of}
 use Rattle.dexmerge.specs.internal.Amounts.{weight_over}
 use Rattle.dexmerge.proofs.fitting.weight.Given as goal
 

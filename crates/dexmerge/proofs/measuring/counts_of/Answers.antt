@@ -1,5 +1,5 @@
-use Rattle.std.proofs.Common.{arith}
-use Rattle.dexmerge.specs.Candidates.{classes_of}
+use Rattle.dexmerge.proofs.Common.{arith}
+use Rattle.dexmerge.specs.{classes_of}
 use Rattle.dexmerge.proofs.Counting.{within_texts}
 use Rattle.dexmerge.proofs.measuring.counts_of.Goals as goal
 

@@ -1,9 +1,4 @@
-use Rattle.std.proofs.Common.{List, map, sym, subst}
-use Rattle.std.specs.List.{flat_map}
-use Rattle.std.proofs.lemmas.Result.{err_from_is_err_and}
-use Rattle.dexspec.specs.Classes.{Definition}
-use Rattle.dexspec.specs.Files.{Collection, definitions}
-use Rattle.dexpool.specs.Numberings.{Maps}
+use Rattle.dexmerge.proofs.Common.{List, map, sym, subst, flat_map, err_from_is_err_and, Definition, Collection, definitions, Maps}
 use Rattle.dexmerge.specs.internal.Unions.{AreCopies, IsJoined}
 use Rattle.dexmerge.proofs.MergeLaws.{are_copies}
 use Rattle.dexmerge.proofs.measuring.measure.Goals as goal

@@ -1,8 +1,5 @@
-use Rattle.std.proofs.Common.{sym, subst}
-use Rattle.dexspec.specs.Texts.{Text}
-use Rattle.dexspec.specs.Mentions.{Mentions}
-use Rattle.dexspec.specs.Merging.{IsFirstCause, Cycle}
-use Rattle.dexmerge.specs.Candidates.{classes_of}
+use Rattle.dexmerge.proofs.Common.{sym, subst, Text, Mentions, IsFirstCause, Cycle}
+use Rattle.dexmerge.specs.{classes_of}
 use Rattle.dexmerge.specs.internal.Cycles.{AreKept, IsFirstCycle}
 use Rattle.dexmerge.proofs.Counting.{once_counts}
 use Rattle.dexmerge.proofs.MergeLaws.{once_cycle}

@@ -1,4 +1,4 @@
-use Rattle.std.specs.Prelude.{◌≡◌, ◌++◌, map, take}
+use Rattle.dexmerge.proofs.Common.{◌≡◌, ◌++◌, map, take}
 use Rattle.dexmerge.proofs.merging.all_parts.Given as goal
 
 abbrev pub invariant-loop-program : goal.invariant-loop-program

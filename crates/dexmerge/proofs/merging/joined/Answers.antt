@@ -1,7 +1,4 @@
-use Rattle.std.proofs.Common.{◌≡◌, ◌∙◌, Bor, List, map, ap, arith}
-use Rattle.std.proofs.lemmas.List.{take_all}
-use Rattle.dexspec.specs.Files.{Collection, definitions}
-use Rattle.dexspec.specs.Mentions.{Mentions, mentions}
+use Rattle.dexmerge.proofs.Common.{◌≡◌, ◌∙◌, Bor, List, map, ap, arith, take_all, Collection, definitions, Mentions, mentions}
 use Rattle.dexmerge.proofs.JoinLaws.{joined_is}
 use Rattle.dexmerge.proofs.merging.joined.Goals as goal
 

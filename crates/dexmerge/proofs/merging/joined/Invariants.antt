@@ -1,6 +1,4 @@
-use Rattle.std.specs.Prelude.{◌≡◌, map, take}
-use Rattle.dexspec.specs.Files.{definitions}
-use Rattle.dexspec.specs.Mentions.{mentions}
+use Rattle.dexmerge.proofs.Common.{◌≡◌, map, take, definitions, mentions}
 use Rattle.dexmerge.proofs.merging.joined.Given as goal
 
 abbrev pub invariant-loop-i : goal.invariant-loop-i

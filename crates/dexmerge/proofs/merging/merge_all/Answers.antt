@@ -1,9 +1,5 @@
-use Rattle.std.proofs.Common.{List, map, sym, subst}
-use Rattle.dexspec.specs.Files.{Collection}
-use Rattle.dexspec.specs.Merging.{IsGood, greatest_caps}
-use Rattle.dexclass.specs.Numbered.{definition_of}
-use Rattle.dexclass.specs.Parents.{AreDepthsByName}
-use Rattle.dexmerge.specs.Parts.{all_parts, all_definitions}
+use Rattle.dexmerge.proofs.Common.{List, map, sym, subst, Collection, IsGood, greatest_caps, definition_of, AreDepthsByName}
+use Rattle.dexmerge.specs.{all_parts, all_definitions}
 use Rattle.dexmerge.specs.internal.Collecting.{AreOneOfEach}
 use Rattle.dexmerge.specs.internal.Unions.{IsChecked}
 use Rattle.dexmerge.proofs.Collected.{checked_parts, are_mergeable, collection_is, depths_are}

@@ -1,8 +1,7 @@
-use Rattle.std.proofs.Common.{◌≡◌, ◌-◌, ◌∙◌, List, length, take, map, sym, ap, subst, arith}
-use Rattle.std.proofs.lemmas.List.{take_all}
+use Rattle.dexmerge.proofs.Common.{◌≡◌, ◌-◌, ◌∙◌, List, length, take, map, sym, ap, subst, arith, take_all}
 use Rattle.dexspec.specs.Merging as merging
 use Rattle.dexmerge.specs.declared.plan.Plan.{Plan}
-use Rattle.dexmerge.specs.Plans.{plan_of, plans_of}
+use Rattle.dexmerge.specs.{plan_of, plans_of}
 use Rattle.dexmerge.specs.internal.UnionChecks.{IsMarkedBy, IsNoPlan}
 use Rattle.dexmerge.proofs.Marked.{ArePartsMarked, one_more_marked, all_marked, no_part}
 use Rattle.dexmerge.proofs.PlanForms.{node_is, part_member, parts_more}

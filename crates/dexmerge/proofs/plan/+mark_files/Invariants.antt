@@ -1,5 +1,5 @@
-use Rattle.std.specs.Prelude.{map, take}
-use Rattle.dexmerge.specs.Plans.{plan_of}
+use Rattle.dexmerge.proofs.Common.{map, take}
+use Rattle.dexmerge.specs.{plan_of}
 use Rattle.dexmerge.proofs.Marked.{ArePartsMarked}
 use Rattle.dexmerge.proofs.plan.+mark_files.Given as goal
 

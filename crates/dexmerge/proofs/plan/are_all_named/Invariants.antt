@@ -1,4 +1,4 @@
-use Rattle.std.specs.Prelude.{ℕ, ◌<◌}
+use Rattle.dexmerge.proofs.Common.{ℕ, ◌<◌}
 use Rattle.dexmerge.specs.internal.UnionChecks.{IsNamed}
 use Rattle.dexmerge.proofs.plan.are_all_named.Given as goal
 

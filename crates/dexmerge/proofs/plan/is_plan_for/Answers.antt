@@ -1,6 +1,5 @@
-use Rattle.std.proofs.Common.{◌≡◌, ◌∙◌, List, Bool, length, false, ap, subst, replicate}
-use Rattle.std.specs.Prelude.{ℕ, ◌<◌, MatchBool}
-use Rattle.dexmerge.specs.Plans.{plan_of}
+use Rattle.dexmerge.proofs.Common.{◌≡◌, ◌∙◌, List, Bool, length, false, ap, subst, replicate, ℕ, ◌<◌, MatchBool}
+use Rattle.dexmerge.specs.{plan_of}
 use Rattle.dexmerge.specs.internal.UnionChecks.{IsMarkedBy, IsNamed, HasUnnamed}
 use Rattle.dexmerge.proofs.PlanChecked.{checked_by}
 use Rattle.dexmerge.proofs.plan.is_plan_for.Goals as goal

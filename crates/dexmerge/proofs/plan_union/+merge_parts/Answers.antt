@@ -1,19 +1,10 @@
-use Rattle.std.proofs.Common.{◌≡◌, ◌∙◌, ◌+◌, ◌++◌, ◌∷◌, List, [], map, take, sym, ap, subst, arith, rules}
-use Rattle.std.specs.Prelude.{Result, Err, IfErr}
-use Rattle.std.specs.List.{flat_map, Contains}
-use Rattle.std.proofs.lemmas.List.{take_all}
-use Rattle.std.proofs.lemmas.Result.{err_from_is_err_and}
-use Rattle.std.proofs.lemmas.Result.{IfErr-weaker}
-use Rattle.dexspec.specs.Classes.{Definition}
-use Rattle.dexspec.specs.Files.{Collection, definitions, AreSame}
+use Rattle.dexmerge.proofs.Common.{◌≡◌, ◌∙◌, ◌+◌, ◌++◌, ◌∷◌, List, [], map, take, sym, ap, subst, arith, rules, Result, Err, IfErr, flat_map, Contains, take_all, err_from_is_err_and, IfErr-weaker, Definition, Collection, definitions, AreSame, IsFirstCause}
 use Rattle.dexspec.specs.Merging as merging
-use Rattle.dexspec.specs.Merging.{IsFirstCause}
 use Rattle.dexspec.proofs.merge.Collections.{definitions-same}
 use Rattle.dexmerge.specs.declared.plan.Plan.{Plan}
 use Rattle.dexmerge.specs.declared.plan.Plan.TheViews.{the_lemmas}
 use Rattle.dexmerge.specs.declared.faults.MergeFault.{MergeFault}
-use Rattle.dexmerge.specs.Plans.{plan_of, plans_of}
-use Rattle.dexmerge.specs.Faults.{Reports, planned}
+use Rattle.dexmerge.specs.{plan_of, plans_of, Reports, planned}
 use Rattle.dexmerge.specs.internal.Parts.{AreKnown, IsCauseOf, nodes_in, of_plans}
 use Rattle.dexmerge.proofs.PlanForms.{leaf_is, node_is, part_member, parts_more}
 use Rattle.dexmerge.proofs.PlannedLaws.{first_reports, part_reports, leaf_no_node, node_more, part_known}

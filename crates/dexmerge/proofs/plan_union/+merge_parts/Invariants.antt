@@ -1,7 +1,5 @@
-use Rattle.std.specs.Prelude.{map, take}
-use Rattle.std.specs.List.{flat_map}
-use Rattle.dexspec.specs.Files.{definitions, AreSame}
-use Rattle.dexmerge.specs.Plans.{plan_of}
+use Rattle.dexmerge.proofs.Common.{map, take, flat_map, definitions, AreSame}
+use Rattle.dexmerge.specs.{plan_of}
 use Rattle.dexmerge.specs.internal.Parts.{nodes_in, of_plans}
 use Rattle.dexmerge.proofs.plan_union.+merge_parts.Given as goal
 

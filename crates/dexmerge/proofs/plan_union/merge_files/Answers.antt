@@ -1,9 +1,5 @@
-use Rattle.std.proofs.Common.{◌≡◌, length, arith}
-use Rattle.std.specs.Prelude.{vec_len}
-use Rattle.std.proofs.lemmas.Result.{err_from_is_err_and}
-use Rattle.dexspec.specs.Merging.{IsFirstCause, IsPlanFor}
-use Rattle.dexmerge.specs.Plans.{plan_of}
-use Rattle.dexmerge.specs.Faults.{IsPlannedCause, planned}
+use Rattle.dexmerge.proofs.Common.{◌≡◌, length, arith, vec_len, err_from_is_err_and, IsFirstCause, IsPlanFor}
+use Rattle.dexmerge.specs.{plan_of, IsPlannedCause, planned}
 use Rattle.dexmerge.proofs.PlannedLaws.{merged_same, reports_other, reports_same, files_same}
 use Rattle.dexmerge.proofs.plan_union.merge_files.Goals as goal
 

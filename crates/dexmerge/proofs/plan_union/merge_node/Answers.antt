@@ -1,7 +1,5 @@
-use Rattle.std.proofs.Common.{map}
-use Rattle.std.proofs.lemmas.Result.{IfOk-weaker, IfErr-weaker}
-use Rattle.dexmerge.specs.Faults.{planned}
-use Rattle.dexmerge.specs.Plans.{plan_of, node_of}
+use Rattle.dexmerge.proofs.Common.{map, IfOk-weaker, IfErr-weaker}
+use Rattle.dexmerge.specs.{planned, plan_of, node_of}
 use Rattle.dexmerge.proofs.PlannedLaws.{node_programs, merged_same, reports_same}
 use Rattle.dexmerge.proofs.plan_union.merge_node.Goals as goal
 

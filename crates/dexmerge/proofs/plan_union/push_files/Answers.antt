@@ -1,14 +1,6 @@
-use Rattle.std.proofs.Common.{◌≡◌, ◌∙◌, ◌+◌, ◌<◌, ◌++◌, ◌∷◌, ℕ, List, [], Bor, length, map, take, sym, ap, subst}
-use Rattle.std.specs.Prelude.{slice_index_or}
-use Rattle.std.specs.List.{flat_map, Contains}
-use Rattle.std.proofs.lemmas.List.{append_assoc, append-nil, map-append}
-use Rattle.std.proofs.lemmas.Grind.{flat_map-append}
-use Rattle.dexspec.specs.Classes.{Definition}
-use Rattle.dexspec.specs.Files.{Collection, definitions}
+use Rattle.dexmerge.proofs.Common.{◌≡◌, ◌∙◌, ◌+◌, ◌<◌, ◌++◌, ◌∷◌, ℕ, List, [], Bor, length, map, take, sym, ap, subst, slice_index_or, flat_map, Contains, append_assoc, append-nil, map-append, flat_map-append, Definition, Collection, definitions, leaves, all_leaves, Contains-first}
 use Rattle.dexspec.specs.Merging as merging
-use Rattle.dexspec.specs.Merging.{leaves, all_leaves}
-use Rattle.dexspec.proofs.lists.Members.{Contains-first}
-use Rattle.dexmerge.specs.Plans.{plan_of, plans_of}
+use Rattle.dexmerge.specs.{plan_of, plans_of}
 use Rattle.dexmerge.specs.internal.Parts.{files_in, of_files}
 use Rattle.dexmerge.proofs.Marked.{part_leaves}
 use Rattle.dexmerge.proofs.PlanForms.{leaf_is, node_is, part_member, parts_more}

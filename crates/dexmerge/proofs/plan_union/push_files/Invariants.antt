@@ -1,7 +1,5 @@
-use Rattle.std.specs.Prelude.{◌≡◌, ◌++◌, map, take}
-use Rattle.std.specs.List.{flat_map}
-use Rattle.dexspec.specs.Files.{definitions}
-use Rattle.dexmerge.specs.Plans.{plan_of}
+use Rattle.dexmerge.proofs.Common.{◌≡◌, ◌++◌, map, take, flat_map, definitions}
+use Rattle.dexmerge.specs.{plan_of}
 use Rattle.dexmerge.specs.internal.Parts.{files_in, of_files}
 use Rattle.dexmerge.proofs.plan_union.push_files.Given as goal
 

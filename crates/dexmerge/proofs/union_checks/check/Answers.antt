@@ -1,8 +1,4 @@
-use Rattle.std.proofs.Common.{List, map, sym, subst}
-use Rattle.std.specs.List.{flat_map}
-use Rattle.std.proofs.lemmas.Result.{err_from_is_err_and}
-use Rattle.dexspec.specs.Classes.{Definition}
-use Rattle.dexspec.specs.Files.{Collection, definitions}
+use Rattle.dexmerge.proofs.Common.{List, map, sym, subst, flat_map, err_from_is_err_and, Definition, Collection, definitions}
 use Rattle.dexmerge.specs.internal.Unions.{AreCopies}
 use Rattle.dexmerge.proofs.MergeLaws.{are_copies}
 use Rattle.dexmerge.proofs.union_checks.check.Goals as goal

@@ -1,8 +1,5 @@
-use Rattle.std.proofs.Common.{◌∙◌, Some, None, sym, subst}
-use Rattle.dexspec.specs.Texts.{Text}
-use Rattle.dexspec.specs.Mentions.{Mentions}
-use Rattle.dexspec.specs.Merging.{IsFirstCause, Cycle}
-use Rattle.dexmerge.specs.Candidates.{classes_of}
+use Rattle.dexmerge.proofs.Common.{◌∙◌, Some, None, sym, subst, Text, Mentions, IsFirstCause, Cycle}
+use Rattle.dexmerge.specs.{classes_of}
 use Rattle.dexmerge.specs.internal.Cycles.{AreKept, HaveDepths, IsFirstCycle}
 use Rattle.dexmerge.proofs.MergeLaws.{once_cycle, once_cap, once_depths}
 use Rattle.dexmerge.proofs.union_checks.check_once.Goals as goal

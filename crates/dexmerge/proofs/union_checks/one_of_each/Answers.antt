@@ -1,9 +1,5 @@
-use Rattle.std.proofs.Common.{◌≡◌, ◌<◌, ◌∙◌, ℕ, Option, List, [], sym, ap, subst, arith, length}
-use Rattle.dexspec.specs.Texts.{Text}
-use Rattle.dexspec.specs.Merging.{IsFirstCause, Conflict}
-use Rattle.dexclass.specs.Numbered.{type_at}
-use Rattle.dexclass.specs.Parents.{ArePlaces}
-use Rattle.dexmerge.specs.Candidates.{classes_of, IsEqualCopy, IsFirstConflict, kept_classes}
+use Rattle.dexmerge.proofs.Common.{◌≡◌, ◌<◌, ◌∙◌, ℕ, Option, List, [], sym, ap, subst, arith, length, Text, IsFirstCause, Conflict, type_at, ArePlaces}
+use Rattle.dexmerge.specs.{classes_of, IsEqualCopy, IsFirstConflict, kept_classes}
 use Rattle.dexmerge.proofs.CandidatePlaces.{count_classes, names_below, places_of}
 use Rattle.dexmerge.proofs.MergeLaws.{copy_names, copies_conflict, copies_once}
 use Rattle.dexmerge.proofs.union_checks.one_of_each.Goals as goal

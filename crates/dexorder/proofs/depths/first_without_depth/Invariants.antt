@@ -1,4 +1,4 @@
-use Rattle.std.specs.Prelude.{ℕ, ◌<◌, None, IsSome, slice_index_or}
+use Rattle.dexorder.proofs.Common.{ℕ, ◌<◌, None, IsSome, slice_index_or}
 use Rattle.dexorder.proofs.depths.first_without_depth.Given as goal
 
 abbrev pub invariant-loop-i : goal.invariant-loop-i

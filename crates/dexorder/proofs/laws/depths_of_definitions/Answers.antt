@@ -1,4 +1,4 @@
-use Rattle.std.proofs.Common.{arith}
+use Rattle.dexorder.proofs.Common.{arith}
 use Rattle.dexorder.proofs.DefinitionDepths.{has_depth, same_depth, is_cycle, cycle_class, no_cycle, all_known}
 use Rattle.dexorder.proofs.DefinitionOrder.{own_depths}
 use Rattle.dexorder.proofs.laws.depths_of_definitions.Goals as goal

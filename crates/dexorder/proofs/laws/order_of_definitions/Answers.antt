@@ -1,6 +1,4 @@
-use Rattle.std.proofs.Common.{subst}
-use Rattle.std.specs.List.{range_with_len}
-use Rattle.std.specs.List.Sorted.{IsPermutation}
+use Rattle.dexorder.proofs.Common.{subst, range_with_len, IsPermutation}
 use Rattle.dexorder.proofs.DefinitionOrder.{names_distinct, same_order}
 use Rattle.dexorder.proofs.laws.order_of_definitions.Goals as goal
 

@@ -1,9 +1,5 @@
-use Rattle.std.proofs.Common.{length, map, subst, sym, ap, ◌∙◌, refl}
-use Rattle.std.specs.List.{range_with_len}
-use Rattle.std.specs.List.Sorted.{IsPermutation}
-use Rattle.std.proofs.lemmas.Result.{IfOk-weaker}
-use Rattle.dexspec.specs.Lists.{rises}
-use Rattle.dexorder.specs.Places.{class_place, class_cmp}
+use Rattle.dexorder.proofs.Common.{length, map, subst, sym, ap, ◌∙◌, refl, range_with_len, IsPermutation, IfOk-weaker, rises}
+use Rattle.dexorder.specs.{class_place, class_cmp}
 use Rattle.dexorder.proofs.PlaceLaws.{classes_permuted, classes_rise}
 use Rattle.dexorder.proofs.order.class_order.Goals as goal
 

@@ -1,7 +1,6 @@
-use Rattle.std.proofs.Common.{arith}
-use Rattle.std.proofs.lemmas.List.FromFn.{map-range_with_len_more}
+use Rattle.dexorder.proofs.Common.{arith, map-range_with_len_more}
 use Rattle.std.proofs.lemmas.Grind.{common_steps}
-use Rattle.dexorder.specs.Places.{place_of}
+use Rattle.dexorder.specs.{place_of}
 use Rattle.dexorder.proofs.order.places.Goals as goal
 
 pub loop-class-preserved : goal.loop-class-preserved

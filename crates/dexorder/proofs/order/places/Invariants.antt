@@ -1,6 +1,5 @@
-use Rattle.std.proofs.Common.{◌≡◌, map}
-use Rattle.std.specs.List.{range_with_len}
-use Rattle.dexorder.specs.Places.{place_of}
+use Rattle.dexorder.proofs.Common.{◌≡◌, map, range_with_len}
+use Rattle.dexorder.specs.{place_of}
 use Rattle.dexorder.proofs.order.places.Given as goal
 
 abbrev pub invariant-loop-class : goal.invariant-loop-class

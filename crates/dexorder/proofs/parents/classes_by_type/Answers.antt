@@ -1,5 +1,4 @@
-use Rattle.std.proofs.Common.{◌∙◌, ap, arith, Some}
-use Rattle.std.proofs.lemmas.List.{length-set}
+use Rattle.dexorder.proofs.Common.{◌∙◌, ap, arith, Some, length-set}
 use Rattle.dexorder.proofs.ByType.{by_type_next}
 use Rattle.dexorder.proofs.parents.classes_by_type.Goals as goal
 

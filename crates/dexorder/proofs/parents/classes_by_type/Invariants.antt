@@ -1,5 +1,5 @@
-use Rattle.std.specs.Prelude.{◌≡◌, length, map, take}
-use Rattle.dexorder.specs.Parents.{AreByType}
+use Rattle.dexorder.proofs.Common.{◌≡◌, length, map, take}
+use Rattle.dexorder.specs.{AreByType}
 use Rattle.dexorder.proofs.parents.classes_by_type.Given as goal
 
 abbrev pub invariant-loop-i : goal.invariant-loop-i

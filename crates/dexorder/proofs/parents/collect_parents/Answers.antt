@@ -1,6 +1,5 @@
-use Rattle.std.proofs.Common.{◌∙◌, ap, arith, ◌++◌, ℕ, [], ◌∷◌}
-use Rattle.std.specs.Prelude.{option_to_list}
-use Rattle.dexorder.specs.Parents.{classes_of_types}
+use Rattle.dexorder.proofs.Common.{◌∙◌, ap, arith, ◌++◌, ℕ, [], ◌∷◌, option_to_list}
+use Rattle.dexorder.specs.{classes_of_types}
 use Rattle.dexorder.proofs.ByType.{parents_next}
 use Rattle.dexorder.proofs.parents.collect_parents.Goals as goal
 

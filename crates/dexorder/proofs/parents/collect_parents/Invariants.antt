@@ -1,5 +1,5 @@
-use Rattle.std.specs.Prelude.{◌≡◌, take}
-use Rattle.dexorder.specs.Parents.{classes_of_types, parent_types}
+use Rattle.dexorder.proofs.Common.{◌≡◌, take}
+use Rattle.dexorder.specs.{classes_of_types, parent_types}
 use Rattle.dexorder.proofs.parents.collect_parents.Given as goal
 
 abbrev pub invariant-loop-k : goal.invariant-loop-k

@@ -1,4 +1,4 @@
-use Rattle.std.proofs.Common.{◌∙◌}
+use Rattle.dexpool.proofs.Common.{◌∙◌}
 use Rattle.dexpool.proofs.closing.copied.Goals as goal
 
 pub returns-clause-strings : goal.returns-clause-strings

@@ -1,5 +1,4 @@
-use Rattle.std.proofs.Common.{arith}
-use Rattle.dexrows.specs.declared.fields.FieldRow.{FieldRow}
+use Rattle.dexpool.proofs.Common.{arith, FieldRow}
 use Rattle.dexpool.specs.internal.Closing.{field_types}
 use Rattle.dexpool.proofs.KeptRows.{number_marked, number_left, numbers_marked, numbers_left}
 use Rattle.dexpool.proofs.closing.mark_by_fields.Goals as goal

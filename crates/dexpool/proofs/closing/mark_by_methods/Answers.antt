@@ -1,5 +1,4 @@
-use Rattle.std.proofs.Common.{arith}
-use Rattle.dexrows.specs.declared.methods.MethodRow.{MethodRow}
+use Rattle.dexpool.proofs.Common.{arith, MethodRow}
 use Rattle.dexpool.proofs.KeptRows.{number_marked, number_left}
 use Rattle.dexpool.proofs.closing.mark_by_methods.Goals as goal
 use Rattle.dexpool.proofs.closing.mark_by_methods.Goals.{then-marks-i, else-marks-i}

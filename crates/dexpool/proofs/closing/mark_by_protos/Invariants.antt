@@ -1,6 +1,5 @@
-use Rattle.std.proofs.Common.{◌≡◌, map, drop}
-use Rattle.std.specs.List.{flat_map}
-use Rattle.dexpool.specs.Cut.{kept}
+use Rattle.dexpool.proofs.Common.{◌≡◌, map, drop, flat_map}
+use Rattle.dexpool.specs.{kept}
 use Rattle.dexpool.specs.internal.Closing.{mark_all, entry_types}
 use Rattle.dexpool.proofs.closing.mark_by_protos.Given as goal
 

@@ -1,5 +1,5 @@
-use Rattle.std.proofs.Common.{◌≡◌, drop}
-use Rattle.dexpool.specs.Cut.{kept}
+use Rattle.dexpool.proofs.Common.{◌≡◌, drop}
+use Rattle.dexpool.specs.{kept}
 use Rattle.dexpool.specs.internal.Closing.{mark_all}
 use Rattle.dexpool.proofs.closing.mark_by_types.Given as goal
 

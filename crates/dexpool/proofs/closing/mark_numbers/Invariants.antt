@@ -1,4 +1,4 @@
-use Rattle.std.proofs.Common.{◌≡◌, drop}
+use Rattle.dexpool.proofs.Common.{◌≡◌, drop}
 use Rattle.dexpool.specs.internal.Closing.{mark_all}
 use Rattle.dexpool.proofs.closing.mark_numbers.Given as goal
 

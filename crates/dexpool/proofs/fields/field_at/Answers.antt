@@ -1,6 +1,4 @@
-use Rattle.std.proofs.Common.{subst}
-use Rattle.std.proofs.lemmas.Bool.{false≢true}
-use Rattle.dexspec.specs.Rows.{StringRow, TypeRow}
+use Rattle.dexpool.proofs.Common.{subst, false≢true, StringRow, TypeRow}
 use Rattle.dexpool.proofs.FieldRows.{formed_field}
 use Rattle.dexpool.proofs.fields.field_at.Goals as goal
 

@@ -1,6 +1,4 @@
-use Rattle.std.proofs.Common.{refl, sym, ◌∙◌, arith}
-use Rattle.dexspec.specs.Rows.{row_at}
-use Rattle.dexspec.specs.Header.{FieldIds}
+use Rattle.dexpool.proofs.Common.{refl, sym, ◌∙◌, arith, row_at, FieldIds}
 use Rattle.dexpool.proofs.Bytes.{uint_at_row, ushort_at_row}
 use Rattle.dexpool.proofs.fields.field_numbers.Goals as goal
 

@@ -1,7 +1,5 @@
-use Rattle.std.proofs.Common.{length, map, ◌∙◌, subst}
-use Rattle.dexspec.specs.Mentions.{Mentions}
-use Rattle.dexrows.specs.Join.{AreSorted}
-use Rattle.dexpool.specs.Tables.{text_of, field_of, field_key}
+use Rattle.dexpool.proofs.Common.{length, map, ◌∙◌, subst, Mentions, AreSorted}
+use Rattle.dexpool.specs.{text_of, field_of, field_key}
 use Rattle.dexpool.specs.internal.Renumbering.{moved_field, IsFieldWithin}
 use Rattle.dexpool.specs.internal.Joining.{Moves, Denote}
 use Rattle.dexpool.proofs.Pairs.{within_other, zip_more, zip_all, all_pushed}

@@ -1,7 +1,5 @@
-use Rattle.std.proofs.Common.{map, take, length}
-use Rattle.std.specs.List.{All, AllZip}
-use Rattle.dexrows.specs.Join.{AreSorted}
-use Rattle.dexpool.specs.Tables.{method_of, method_key}
+use Rattle.dexpool.proofs.Common.{map, take, length, All, AllZip, AreSorted}
+use Rattle.dexpool.specs.{method_of, method_key}
 use Rattle.dexpool.specs.internal.Renumbering.{IsMethodWithin}
 use Rattle.dexpool.specs.internal.Joining.{Denote}
 use Rattle.dexpool.proofs.joined_tables.join_methods.Given as goal

@@ -1,7 +1,4 @@
-use Rattle.std.proofs.Common.{ap, map, sym, ◌∙◌, subst, refl}
-use Rattle.std.specs.Prelude.{Result, Ok, Err, IfOk}
-use Rattle.std.specs.List.{All}
-use Rattle.dexrows.specs.Join.{AreSorted, IsJoin}
+use Rattle.dexpool.proofs.Common.{ap, map, sym, ◌∙◌, subst, refl, Result, Ok, Err, IfOk, All, AreSorted, IsJoin}
 use Rattle.dexpool.specs.internal.Renumbering.{numbers_in, HasSpans}
 use Rattle.dexpool.specs.internal.Joining.{proto_key}
 use Rattle.dexpool.proofs.Pairs.{all_seen}

@@ -1,5 +1,4 @@
-use Rattle.std.proofs.Common.{ap, map, ◌∙◌}
-use Rattle.dexrows.specs.Join.{AreSorted}
+use Rattle.dexpool.proofs.Common.{ap, map, ◌∙◌, AreSorted}
 use Rattle.dexpool.proofs.Pairs.{all_seen}
 use Rattle.dexpool.proofs.joined_tables.join_rows.Goals as goal
 

@@ -1,11 +1,5 @@
-use Rattle.std.proofs.Common.{refl, ap, map, sym, ◌∙◌, subst, take_all}
-use Rattle.std.specs.List.{All}
-use Rattle.std.proofs.lemmas.List.Elements.{All-weaker}
-use Rattle.dexspec.specs.Mentions.{Mentions}
-use Rattle.dexspec.specs.Texts.{Text}
-use Rattle.dexrows.specs.Join.{AreSorted, IsJoin}
-use Rattle.dexrows.proofs.Composing.{all_seen as seen_all}
-use Rattle.dexpool.specs.Numberings.{IsNumbering}
+use Rattle.dexpool.proofs.Common.{refl, ap, map, sym, ◌∙◌, subst, take_all, All, All-weaker, Mentions, Text, AreSorted, IsJoin, all_seen as seen_all}
+use Rattle.dexpool.specs.{IsNumbering}
 use Rattle.dexpool.proofs.Pairs.{all_seen, seen_more, All_more, map_both}
 use Rattle.dexpool.proofs.TypeLists.{if_ok_map}
 use Rattle.dexpool.proofs.TablesAreAt.{are_numbering}

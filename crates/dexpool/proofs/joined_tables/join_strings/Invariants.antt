@@ -1,6 +1,5 @@
-use Rattle.std.proofs.Common.{◌≡◌, map, take}
-use Rattle.std.specs.List.{All}
-use Rattle.dexpool.specs.Numberings.{IsNumbering}
+use Rattle.dexpool.proofs.Common.{◌≡◌, map, take, All}
+use Rattle.dexpool.specs.{IsNumbering}
 use Rattle.dexpool.proofs.joined_tables.join_strings.Given as goal
 
 abbrev pub invariant-loop-part : goal.invariant-loop-part

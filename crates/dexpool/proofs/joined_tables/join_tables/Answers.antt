@@ -1,13 +1,6 @@
-use Rattle.std.proofs.Common.{◌≡◌, ℕ, true, List, map, sym, subst}
-use Rattle.std.proofs.lemmas.List.Elements.{All-weaker}
-use Rattle.dexspec.specs.Texts.{text_cmp}
-use Rattle.dexspec.specs.Symbols.{proto_cmp, field_cmp, method_cmp}
-use Rattle.dexspec.specs.Lists.{rises}
-use Rattle.dexspec.specs.Mentions.{Mentions}
-use Rattle.dexspec.proofs.merge.SymbolOrders.{text_total, text_exact, proto_total, proto_exact, field_total, field_exact, method_total, method_exact}
-use Rattle.dexpool.specs.Numberings.{IsNumbering}
+use Rattle.dexpool.proofs.Common.{◌≡◌, ℕ, true, List, map, sym, subst, All-weaker, text_cmp, proto_cmp, field_cmp, method_cmp, rises, Mentions, text_total, text_exact, proto_total, proto_exact, field_total, field_exact, method_total, method_exact}
+use Rattle.dexpool.specs.{IsNumbering, text_of, proto_of, field_of, method_of}
 use Rattle.dexpool.specs.internal.Joining.{AreJoinedProtos, AreJoinedMethods}
-use Rattle.dexpool.specs.Tables.{text_of, proto_of, field_of, method_of}
 use Rattle.dexpool.proofs.JoinedTables.{images_count, are_tables, are_union, all_map_to, images_keep}
 use Rattle.dexpool.proofs.joined_tables.join_tables.Goals as goal
 

@@ -1,8 +1,6 @@
-use Rattle.std.proofs.Common.{ap, length, map, ◌∙◌, subst, ◌<◌, [], ◌∷◌}
-use Rattle.dexspec.specs.Mentions.{Mentions}
-use Rattle.dexrows.specs.Join.{AreSorted}
+use Rattle.dexpool.proofs.Common.{ap, length, map, ◌∙◌, subst, ◌<◌, [], ◌∷◌, Mentions, AreSorted}
 use Rattle.dexrows.specs.declared.types.TypeRow.{TypeRow}
-use Rattle.dexpool.specs.Tables.{text_of}
+use Rattle.dexpool.specs.{text_of}
 use Rattle.dexpool.specs.internal.Renumbering.{moved_type}
 use Rattle.dexpool.specs.internal.Joining.{Moves, Denote}
 use Rattle.dexpool.proofs.Pairs.{within_other, zip_more, zip_all, all_pushed}

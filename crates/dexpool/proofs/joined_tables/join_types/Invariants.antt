@@ -1,7 +1,5 @@
-use Rattle.std.proofs.Common.{◌<◌, [], ◌∷◌, map, take, length}
-use Rattle.std.specs.List.{All, AllZip}
-use Rattle.dexrows.specs.Join.{AreSorted}
-use Rattle.dexpool.specs.Tables.{text_of}
+use Rattle.dexpool.proofs.Common.{◌<◌, [], ◌∷◌, map, take, length, All, AllZip, AreSorted}
+use Rattle.dexpool.specs.{text_of}
 use Rattle.dexpool.specs.internal.Joining.{Denote}
 use Rattle.dexpool.proofs.joined_tables.join_types.Given as goal
 

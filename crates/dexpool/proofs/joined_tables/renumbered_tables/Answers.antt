@@ -1,9 +1,5 @@
-use Rattle.std.proofs.Common.{map, sym, ◌∙◌, subst, refl}
-use Rattle.std.specs.List.{All}
-use Rattle.std.proofs.lemmas.List.Elements.{All-push}
-use Rattle.dexspec.specs.Mentions.{Mentions}
-use Rattle.dexrows.specs.Join.{AreSorted}
-use Rattle.dexpool.specs.Tables.{text_of}
+use Rattle.dexpool.proofs.Common.{map, sym, ◌∙◌, subst, refl, All, All-push, Mentions, AreSorted}
+use Rattle.dexpool.specs.{text_of}
 use Rattle.dexpool.specs.internal.Renumbering.{moved_proto, numbers_in, HasSpans}
 use Rattle.dexpool.specs.internal.Joining.{Moves, Denote, proto_of_row, proto_key, IsRowOf}
 use Rattle.dexpool.proofs.Pairs.{within_other, zip_more, zip_all, all_pushed}

@@ -1,6 +1,4 @@
-use Rattle.std.proofs.Common.{map, take}
-use Rattle.std.specs.List.{All, AllZip}
-use Rattle.dexrows.specs.Join.{AreSorted}
+use Rattle.dexpool.proofs.Common.{map, take, All, AllZip, AreSorted}
 use Rattle.dexpool.specs.internal.Renumbering.{numbers_in, HasSpans}
 use Rattle.dexpool.specs.internal.Joining.{Denote, proto_of_row, proto_key, IsRowOf}
 use Rattle.dexpool.proofs.joined_tables.renumbered_tables.Given as goal

@@ -1,4 +1,4 @@
-use Rattle.std.proofs.Common.{◌≡◌, map, take}
+use Rattle.dexpool.proofs.Common.{◌≡◌, map, take}
 use Rattle.dexpool.specs.internal.Renumbering.{numbers_in}
 use Rattle.dexpool.proofs.joined_tables.rows_of_tables.Given as goal
 

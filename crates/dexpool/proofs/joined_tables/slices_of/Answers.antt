@@ -1,5 +1,4 @@
-use Rattle.std.proofs.Common.{ap, ◌∙◌, map}
-use Rattle.std.proofs.lemmas.List.{take_all}
+use Rattle.dexpool.proofs.Common.{ap, ◌∙◌, map, take_all}
 use Rattle.dexpool.proofs.Pairs.{seen_more}
 use Rattle.dexpool.proofs.joined_tables.slices_of.Goals as goal
 

@@ -1,4 +1,4 @@
-use Rattle.std.proofs.Common.{◌≡◌, map, take}
+use Rattle.dexpool.proofs.Common.{◌≡◌, map, take}
 use Rattle.dexpool.proofs.joined_tables.slices_of.Given as goal
 
 abbrev pub invariant-loop-part : goal.invariant-loop-part

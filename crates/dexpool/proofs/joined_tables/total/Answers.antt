@@ -1,5 +1,4 @@
-use Rattle.std.proofs.Common.{[], ◌∷◌, ◌++◌, sym, ◌∙◌, Some, slice_index, map, ap}
-use Rattle.std.proofs.lemmas.List.{map_more, take_all}
+use Rattle.dexpool.proofs.Common.{[], ◌∷◌, ◌++◌, sym, ◌∙◌, Some, slice_index, map, ap, map_more, take_all}
 use Rattle.dexpool.proofs.joined_tables.total.Goals as goal
 
 pub loop-place-preserved : goal.loop-place-preserved

@@ -1,4 +1,4 @@
-use Rattle.std.proofs.Common.{◌≡◌, map, take, Some}
+use Rattle.dexpool.proofs.Common.{◌≡◌, map, take, Some}
 use Rattle.dexpool.proofs.joined_tables.total.Given as goal
 
 abbrev pub invariant-loop-place : goal.invariant-loop-place

@@ -1,6 +1,5 @@
-use Rattle.std.proofs.Common.{sym, ◌∙◌, ap, subst}
-use Rattle.dexpool.specs.Cut.{places}
-use Rattle.dexpool.specs.Orderly.{KeepsOrder}
+use Rattle.dexpool.proofs.Common.{sym, ◌∙◌, ap, subst}
+use Rattle.dexpool.specs.{places, KeepsOrder}
 use Rattle.dexpool.proofs.KeptRows.{places_keep}
 use Rattle.dexpool.proofs.kept_tables.kept_remap.Goals as goal
 

@@ -1,4 +1,4 @@
-use Rattle.std.proofs.Common.{◌<◌, length, arith}
+use Rattle.dexpool.proofs.Common.{◌<◌, length, arith}
 use Rattle.dexpool.proofs.CutRows.{cut_more, cut_past}
 use Rattle.dexpool.proofs.kept_tables.marked.Goals.{then-marks-i, else-marks-i}
 use Rattle.dexpool.proofs.kept_tables.marked.Goals as goal

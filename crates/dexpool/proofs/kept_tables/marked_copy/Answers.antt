@@ -1,4 +1,4 @@
-use Rattle.std.proofs.Common.{◌≡◌, [], ◌∷◌, ◌++◌, get_or, refl, arith}
+use Rattle.dexpool.proofs.Common.{◌≡◌, [], ◌∷◌, ◌++◌, get_or, refl, arith}
 use Rattle.dexpool.proofs.CutRows.{any_of, keeps, leaves}
 use Rattle.dexpool.proofs.kept_tables.marked_copy.Goals.{then-marks-i+in_ok-push, else-marks-i}
 use Rattle.dexpool.proofs.kept_tables.marked_copy.Goals as goal

@@ -1,5 +1,5 @@
-use Rattle.std.proofs.Common.{Bool, List, refl, ap, ◌∙◌}
-use Rattle.dexpool.specs.Cut.{kept}
+use Rattle.dexpool.proofs.Common.{Bool, List, refl, ap, ◌∙◌}
+use Rattle.dexpool.specs.{kept}
 use Rattle.dexpool.proofs.kept_tables.marked_rows.Goals as goal
 
 pub returns : goal.returns

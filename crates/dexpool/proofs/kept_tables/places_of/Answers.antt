@@ -1,4 +1,4 @@
-use Rattle.std.proofs.Common.{◌+◌, false, refl}
+use Rattle.dexpool.proofs.Common.{◌+◌, false, refl}
 use Rattle.dexpool.proofs.CutRows.{places_if, places_else}
 use Rattle.dexpool.proofs.kept_tables.places_of.Goals.{then-is_marked+in_ok-push_image, else-is_marked+in_ok-push_none}
 use Rattle.dexpool.proofs.kept_tables.places_of.Goals as goal

@@ -1,5 +1,5 @@
-use Rattle.std.proofs.Common.{◌≡◌, ◌++◌, drop}
-use Rattle.dexpool.specs.Cut.{places}
+use Rattle.dexpool.proofs.Common.{◌≡◌, ◌++◌, drop}
+use Rattle.dexpool.specs.{places}
 use Rattle.dexpool.proofs.kept_tables.places_of.Given as goal
 
 abbrev pub invariant-loop-is_marked : goal.invariant-loop-is_marked

@@ -1,9 +1,6 @@
-use Rattle.std.proofs.Common.{ℕ, ◌<◌, List, [], length, sym, ◌∙◌, ap, map, subst, slice_index}
-use Rattle.std.specs.List.{All}
-use Rattle.std.proofs.lemmas.List.{length-map}
+use Rattle.dexpool.proofs.Common.{ℕ, ◌<◌, List, [], length, sym, ◌∙◌, ap, map, subst, slice_index, All, length-map}
 use Rattle.dexpool.specs.declared.rows.ProtoEntry.{ProtoEntry}
-use Rattle.dexpool.specs.Numberings.{Maps}
-use Rattle.dexpool.specs.Reading.{HasSpan}
+use Rattle.dexpool.specs.{Maps, HasSpan}
 use Rattle.dexpool.specs.internal.Renumbering.{numbers_of, moved_proto, moved_field, moved_method, IsEntryWithin}
 use Rattle.dexpool.specs.internal.Closing.{number_or_none}
 use Rattle.dexpool.proofs.KeptTables.{left_all, numbers_count}

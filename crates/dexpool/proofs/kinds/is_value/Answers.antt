@@ -1,5 +1,4 @@
-use Rattle.std.proofs.Common.{sym, ◌∙◌}
-use Rattle.std.proofs.lemmas.Bool.{false≢true}
+use Rattle.dexpool.proofs.Common.{sym, ◌∙◌, false≢true}
 use Rattle.dexpool.proofs.FirstUnits.{value_not}
 use Rattle.dexpool.proofs.kinds.is_value.Goals as goal
 

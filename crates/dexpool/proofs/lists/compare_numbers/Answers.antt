@@ -1,9 +1,5 @@
-use Rattle.std.proofs.Common.{◌≡◌, ◌∙◌, ◌+◌, ◌/◌, min, length, drop, get_or, sym, arith}
-use Rattle.std.specs.Ordering.{nat_cmp}
-use Rattle.dexspec.specs.Rows.{key_cmp}
-use Rattle.dexspec.proofs.wellformed.FormedRows.{length-ushorts_at}
-use Rattle.dexrows.proofs.Shorts.{key_at, key_differs, key_agrees, key_ended}
-use Rattle.dexpool.specs.Reading.{file_numbers}
+use Rattle.dexpool.proofs.Common.{◌≡◌, ◌∙◌, ◌+◌, ◌/◌, min, length, drop, get_or, sym, arith, nat_cmp, key_cmp, length-ushorts_at, key_at, key_differs, key_agrees, key_ended}
+use Rattle.dexpool.specs.{file_numbers}
 use Rattle.dexpool.proofs.lists.compare_numbers.Goals as goal
 
 pub loop-i-preserved : goal.loop-i-preserved

@@ -1,6 +1,5 @@
-use Rattle.std.proofs.Common.{◌≡◌, drop}
-use Rattle.dexspec.specs.Rows.{key_cmp}
-use Rattle.dexpool.specs.Reading.{file_numbers}
+use Rattle.dexpool.proofs.Common.{◌≡◌, drop, key_cmp}
+use Rattle.dexpool.specs.{file_numbers}
 use Rattle.dexpool.proofs.lists.compare_numbers.Given as goal
 
 abbrev pub invariant-loop-i : goal.invariant-loop-i

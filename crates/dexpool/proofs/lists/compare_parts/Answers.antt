@@ -1,5 +1,4 @@
-use Rattle.std.proofs.Common.{◌∙◌}
-use Rattle.dexspec.specs.Rows.{key_cmp}
+use Rattle.dexpool.proofs.Common.{◌∙◌, key_cmp}
 use Rattle.dexpool.proofs.lists.compare_parts.Goals as goal
 
 pub returns : goal.returns

@@ -1,5 +1,4 @@
-use Rattle.std.proofs.Common.{◌∙◌, ◌*◌, ◌-◌, ◌/◌, length, ap, take, arith}
-use Rattle.dexspec.proofs.wellformed.FormedRows.{length-ushorts_at}
+use Rattle.dexpool.proofs.Common.{◌∙◌, ◌*◌, ◌-◌, ◌/◌, length, ap, take, arith, length-ushorts_at}
 use Rattle.dexpool.proofs.FileLists.{bytes_of_part}
 use Rattle.dexpool.proofs.lists.file_part.Goals as goal
 

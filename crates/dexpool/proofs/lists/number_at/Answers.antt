@@ -1,6 +1,4 @@
-use Rattle.std.proofs.Common.{◌≡◌, ◌∙◌, ◌+◌, ◌*◌, ◌/◌, length, ap, sym, arith}
-use Rattle.dexspec.specs.Bytes.{ushort_at}
-use Rattle.dexrows.proofs.Shorts.{short_of}
+use Rattle.dexpool.proofs.Common.{◌≡◌, ◌∙◌, ◌+◌, ◌*◌, ◌/◌, length, ap, sym, arith, ushort_at, short_of}
 use Rattle.dexpool.proofs.lists.number_at.Goals as goal
 
 pub returns : goal.returns

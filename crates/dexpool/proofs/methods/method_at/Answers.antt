@@ -1,7 +1,5 @@
-use Rattle.std.proofs.Common.{subst, refl, arith}
-use Rattle.std.proofs.lemmas.Bool.{false≢true}
-use Rattle.dexspec.specs.Rows.{StringRow, TypeRow}
-use Rattle.dexpool.specs.Reading.{file_numbers}
+use Rattle.dexpool.proofs.Common.{subst, refl, arith, false≢true, StringRow, TypeRow}
+use Rattle.dexpool.specs.{file_numbers}
 use Rattle.dexpool.proofs.MethodRows.{method_names, no_proto_row, method_has_row}
 use Rattle.dexpool.proofs.methods.method_at.Goals as goal
 

@@ -1,6 +1,4 @@
-use Rattle.std.proofs.Common.{refl, sym, ◌∙◌, arith}
-use Rattle.dexspec.specs.Rows.{row_at}
-use Rattle.dexspec.specs.Header.{MethodIds}
+use Rattle.dexpool.proofs.Common.{refl, sym, ◌∙◌, arith, row_at, MethodIds}
 use Rattle.dexpool.proofs.Bytes.{uint_at_row, ushort_at_row}
 use Rattle.dexpool.proofs.methods.method_numbers.Goals as goal
 

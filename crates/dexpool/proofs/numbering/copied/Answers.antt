@@ -1,5 +1,4 @@
-use Rattle.std.proofs.Common.{[], ◌∷◌, ◌++◌, sym, ◌∙◌}
-use Rattle.std.proofs.lemmas.List.{take_more, take_all}
+use Rattle.dexpool.proofs.Common.{[], ◌∷◌, ◌++◌, sym, ◌∙◌, take_more, take_all}
 use Rattle.dexpool.proofs.numbering.copied.Goals as goal
 
 pub loop-text-preserved : goal.loop-text-preserved

@@ -1,4 +1,4 @@
-use Rattle.std.proofs.Common.{refl}
+use Rattle.dexpool.proofs.Common.{refl}
 use Rattle.dexpool.proofs.ListedPlaces.{none_placed, some_placed}
 use Rattle.dexpool.proofs.parameters.place_at.Goals as goal
 

@@ -1,6 +1,4 @@
-use Rattle.std.proofs.Common.{◌≡◌, ℕ, ◌+◌, ◌*◌, List, drop, refl, sym, ◌∙◌, subst, arith}
-use Rattle.std.proofs.lemmas.Bool.{false≢true}
-use Rattle.dexspec.specs.Bytes.{uint_at}
+use Rattle.dexpool.proofs.Common.{◌≡◌, ℕ, ◌+◌, ◌*◌, List, drop, refl, sym, ◌∙◌, subst, arith, false≢true, uint_at}
 use Rattle.dexspec.specs.Sections.{IsInData}
 use Rattle.dexpool.proofs.Bytes.{uint_at_rest}
 use Rattle.dexpool.proofs.parameters.type_list_len.Goals as goal

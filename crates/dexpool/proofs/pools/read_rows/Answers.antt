@@ -1,6 +1,6 @@
-use Rattle.std.proofs.Common.{List, subst}
+use Rattle.dexpool.proofs.Common.{List, subst}
 use Rattle.dexpool.specs.declared.rows.ProtoEntry.{ProtoEntry}
-use Rattle.dexpool.specs.Reading.{AreMethods, file_numbers}
+use Rattle.dexpool.specs.{AreMethods, file_numbers}
 use Rattle.dexpool.proofs.pools.read_rows.Goals as goal
 
 pub returns-clause-methods : goal.returns-clause-methods

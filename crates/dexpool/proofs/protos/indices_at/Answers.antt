@@ -1,6 +1,4 @@
-use Rattle.std.proofs.Common.{refl, sym, ◌∙◌, arith}
-use Rattle.dexspec.specs.Rows.{row_at}
-use Rattle.dexspec.specs.Header.{ProtoIds}
+use Rattle.dexpool.proofs.Common.{refl, sym, ◌∙◌, arith, row_at, ProtoIds}
 use Rattle.dexpool.proofs.Bytes.{uint_at_row}
 use Rattle.dexpool.proofs.protos.indices_at.Goals as goal
 

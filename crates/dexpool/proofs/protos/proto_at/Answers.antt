@@ -1,10 +1,5 @@
-use Rattle.std.proofs.Common.{◌∷◌, ℕ, [], refl, sym, subst, ◌∙◌, ap}
-use Rattle.dexspec.specs.Lists.{OrNone}
-use Rattle.dexspec.specs.Names.{shorty}
-use Rattle.dexspec.specs.Rows.{StringRow, TypeRow, TypeListAt}
-use Rattle.dexpool.specs.Tables.{span_of}
-use Rattle.dexpool.specs.Reading.{letters_of, file_numbers}
-use Rattle.dexstr.specs.Units.{IsAscii}
+use Rattle.dexpool.proofs.Common.{◌∷◌, ℕ, [], refl, sym, subst, ◌∙◌, ap, OrNone, shorty, StringRow, TypeRow, TypeListAt, IsAscii}
+use Rattle.dexpool.specs.{span_of, letters_of, file_numbers}
 use Rattle.dexpool.proofs.FirstUnits.{letter_ascii}
 use Rattle.dexpool.proofs.ProtoRows.{shorty_same, is_at_there}
 use Rattle.dexpool.proofs.protos.proto_at.Goals as goal

@@ -1,4 +1,4 @@
-use Rattle.std.proofs.Common.{arith}
+use Rattle.dexpool.proofs.Common.{arith}
 use Rattle.dexpool.proofs.ranks.count_less.Goals as goal
 
 pub returns-clause-less : goal.returns-clause-less

@@ -1,5 +1,4 @@
-use Rattle.std.proofs.Common.{◌-◌, ◌≡◌, ◌<◌, ◌≤◌, ℕ, Bool, true, false}
-use Rattle.std.specs.Ordering.{is_lt}
+use Rattle.dexpool.proofs.Common.{◌-◌, ◌≡◌, ◌<◌, ◌≤◌, ℕ, Bool, true, false, is_lt}
 use Rattle.dexpool.specs.internal.Ranking.{ComeFirst}
 use Rattle.dexpool.proofs.ranks.count_less.Given as goal
 

@@ -1,5 +1,4 @@
-use Rattle.std.proofs.Common.{refl, ap, ◌∙◌}
-use Rattle.std.specs.Ordering.{is_lt}
+use Rattle.dexpool.proofs.Common.{refl, ap, ◌∙◌, is_lt}
 use Rattle.dexpool.proofs.Steps.{above_is}
 use Rattle.dexpool.proofs.reading.is_above.Goals as goal
 

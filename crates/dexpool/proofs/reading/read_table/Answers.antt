@@ -1,8 +1,6 @@
-use Rattle.std.proofs.Common.{sym, ap, subst, ◌∙◌, arith}
-use Rattle.dexspec.specs.Conditions.{Condition}
-use Rattle.dexspec.specs.Accepted.{number}
+use Rattle.dexpool.proofs.Common.{sym, ap, subst, ◌∙◌, arith, Condition, number}
 use Rattle.dexpool.specs.declared.faults.ReadFault.TheVariants.{Refused}
-use Rattle.dexpool.specs.Faults.{IsFault}
+use Rattle.dexpool.specs.{IsFault}
 use Rattle.dexpool.proofs.Refusing.{refused}
 use Rattle.dexpool.proofs.reading.read_table.Goals as goal
 

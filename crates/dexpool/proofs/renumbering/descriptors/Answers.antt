@@ -1,5 +1,4 @@
-use Rattle.std.proofs.Common.{[], ◌∷◌, ◌++◌, get_or, sym, ◌∙◌, map, ap}
-use Rattle.std.proofs.lemmas.List.{map_more, take_all}
+use Rattle.dexpool.proofs.Common.{[], ◌∷◌, ◌++◌, get_or, sym, ◌∙◌, map, ap, map_more, take_all}
 use Rattle.dexrows.specs.declared.types.TypeRow.{TypeRow}
 use Rattle.dexpool.proofs.renumbering.descriptors.Goals as goal
 

@@ -1,4 +1,4 @@
-use Rattle.std.proofs.Common.{◌≡◌, map, take}
+use Rattle.dexpool.proofs.Common.{◌≡◌, map, take}
 use Rattle.dexpool.proofs.renumbering.descriptors.Given as goal
 
 abbrev pub invariant-loop-row : goal.invariant-loop-row

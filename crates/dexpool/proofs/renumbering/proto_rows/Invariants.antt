@@ -1,4 +1,4 @@
-use Rattle.std.proofs.Common.{◌≡◌, map, take}
+use Rattle.dexpool.proofs.Common.{◌≡◌, map, take}
 use Rattle.dexpool.specs.internal.Renumbering.{numbers_of}
 use Rattle.dexpool.proofs.renumbering.proto_rows.Given as goal
 

@@ -1,5 +1,4 @@
-use Rattle.std.proofs.Common.{[], ◌∷◌, ◌++◌, map, take, sym, ap, ◌∙◌, arith, append_assoc, slice_index}
-use Rattle.std.proofs.lemmas.List.{map_more}
+use Rattle.dexpool.proofs.Common.{[], ◌∷◌, ◌++◌, map, take, sym, ap, ◌∙◌, arith, append_assoc, slice_index, map_more}
 use Rattle.dexpool.proofs.renumbering.push_images.Goals as goal
 
 pub loop-i-preserved : goal.loop-i-preserved

@@ -1,5 +1,4 @@
-use Rattle.std.proofs.Common.{[], ◌∷◌, ◌++◌, take, sym, ap, ◌∙◌, arith, append_assoc, slice_index}
-use Rattle.std.proofs.lemmas.List.{take_more}
+use Rattle.dexpool.proofs.Common.{[], ◌∷◌, ◌++◌, take, sym, ap, ◌∙◌, arith, append_assoc, slice_index, take_more}
 use Rattle.dexpool.proofs.renumbering.push_numbers.Goals as goal
 
 pub loop-i-preserved : goal.loop-i-preserved

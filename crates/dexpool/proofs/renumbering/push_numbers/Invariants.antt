@@ -1,4 +1,4 @@
-use Rattle.std.proofs.Common.{◌≡◌, ◌++◌, take}
+use Rattle.dexpool.proofs.Common.{◌≡◌, ◌++◌, take}
 use Rattle.dexpool.proofs.renumbering.push_numbers.Given as goal
 
 abbrev pub invariant-loop-i : goal.invariant-loop-i

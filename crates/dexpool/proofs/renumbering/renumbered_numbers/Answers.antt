@@ -1,5 +1,4 @@
-use Rattle.std.proofs.Common.{◌<◌, length, arith, slice_index}
-use Rattle.std.proofs.lemmas.List.Edits.{map_over_more}
+use Rattle.dexpool.proofs.Common.{◌<◌, length, arith, slice_index, map_over_more}
 use Rattle.dexpool.proofs.renumbering.renumbered_numbers.Goals as goal
 
 pub loop-i-preserved : goal.loop-i-preserved

@@ -1,7 +1,4 @@
-use Rattle.std.proofs.Common.{◌≡◌, [], ◌∷◌, ◌++◌, ◌+◌, ◌<◌, length, map, take, set, ap, sym, subst, ◌∙◌, arith, slice_index}
-use Rattle.std.specs.List.{All}
-use Rattle.std.proofs.lemmas.List.{map_more, take_more_set, length-set}
-use Rattle.dexrows.specs.Numbers.{ProtoNumbers}
+use Rattle.dexpool.proofs.Common.{◌≡◌, [], ◌∷◌, ◌++◌, ◌+◌, ◌<◌, length, map, take, set, ap, sym, subst, ◌∙◌, arith, slice_index, All, map_more, take_more_set, length-set, ProtoNumbers}
 use Rattle.dexpool.specs.declared.rows.ProtoEntry.{ProtoEntry}
 use Rattle.dexpool.specs.internal.Renumbering.{moved_proto, IsEntryWithin}
 use Rattle.dexpool.proofs.InPlace.{same_at, rest_set, still_holds}

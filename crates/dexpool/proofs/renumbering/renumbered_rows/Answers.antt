@@ -1,6 +1,4 @@
-use Rattle.std.proofs.Common.{◌<◌, length, set, ap, ◌∙◌, arith}
-use Rattle.std.proofs.lemmas.List.Edits.{map_over_more}
-use Rattle.dexrows.specs.Numbers.{lower_of}
+use Rattle.dexpool.proofs.Common.{◌<◌, length, set, ap, ◌∙◌, arith, map_over_more, lower_of}
 use Rattle.dexpool.proofs.renumbering.renumbered_rows.Goals as goal
 
 pub loop-i-preserved : goal.loop-i-preserved

@@ -1,5 +1,4 @@
-use Rattle.std.proofs.Common.{◌≡◌, ◌++◌, map, take, drop}
-use Rattle.dexrows.specs.Numbers.{lower_of}
+use Rattle.dexpool.proofs.Common.{◌≡◌, ◌++◌, map, take, drop, lower_of}
 use Rattle.dexpool.proofs.renumbering.renumbered_rows.Given as goal
 
 abbrev pub invariant-loop-i : goal.invariant-loop-i

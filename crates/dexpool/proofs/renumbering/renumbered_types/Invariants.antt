@@ -1,4 +1,4 @@
-use Rattle.std.proofs.Common.{◌≡◌, map, take}
+use Rattle.dexpool.proofs.Common.{◌≡◌, map, take}
 use Rattle.dexpool.specs.internal.Renumbering.{moved_type}
 use Rattle.dexpool.proofs.renumbering.renumbered_types.Given as goal
 

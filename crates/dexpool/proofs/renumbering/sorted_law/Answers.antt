@@ -1,5 +1,4 @@
-use Rattle.std.proofs.Common.{sym, ◌∙◌}
-use Rattle.dexrows.specs.Join.{row_cmp}
+use Rattle.dexpool.proofs.Common.{sym, ◌∙◌, row_cmp}
 use Rattle.dexpool.proofs.NumberOrder.{rises-map}
 use Rattle.dexpool.proofs.renumbering.sorted_law.Goals as goal
 

@@ -1,6 +1,4 @@
-use Rattle.std.proofs.Common.{◌++◌, ◌∷◌, [], ◌≡◌, arith, sym, ◌∙◌}
-use Rattle.std.proofs.lemmas.List.{take_more}
-use Rattle.dexrows.specs.Numbers.{ProtoNumbers}
+use Rattle.dexpool.proofs.Common.{◌++◌, ◌∷◌, [], ◌≡◌, arith, sym, ◌∙◌, take_more, ProtoNumbers}
 use Rattle.dexpool.specs.declared.rows.ProtoEntry.{ProtoEntry}
 use Rattle.dexpool.proofs.StoredProtos.{rows_more, spans_more}
 use Rattle.dexpool.proofs.renumbering.stored.Goals as goal

@@ -1,6 +1,5 @@
-use Rattle.std.proofs.Common.{◌≡◌, map, take}
-use Rattle.std.specs.List.{All}
-use Rattle.dexpool.specs.Reading.{HasSpan}
+use Rattle.dexpool.proofs.Common.{◌≡◌, map, take, All}
+use Rattle.dexpool.specs.{HasSpan}
 use Rattle.dexpool.specs.internal.Renumbering.{numbers_of}
 use Rattle.dexpool.proofs.renumbering.stored.Given as goal
 

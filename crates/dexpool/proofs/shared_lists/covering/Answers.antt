@@ -1,6 +1,4 @@
-use Rattle.std.proofs.Common.{rules, subst}
-use Rattle.std.specs.List.{All}
-use Rattle.std.proofs.lemmas.List.{take_all}
+use Rattle.dexpool.proofs.Common.{rules, subst, All, take_all}
 use Rattle.dexpool.specs.internal.SharedLists.{Covers}
 use Rattle.dexpool.specs.declared.rows.ProtoEntry.{ProtoEntry}
 use Rattle.dexpool.proofs.SharedLists.{covers_more}

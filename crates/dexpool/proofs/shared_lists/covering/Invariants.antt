@@ -1,6 +1,5 @@
-use Rattle.std.proofs.Common.{ℕ, List, take}
-use Rattle.std.specs.List.{All}
-use Rattle.dexpool.specs.Reading.{HasSpan}
+use Rattle.dexpool.proofs.Common.{ℕ, List, take, All}
+use Rattle.dexpool.specs.{HasSpan}
 use Rattle.dexpool.specs.internal.SharedLists.{Covers}
 use Rattle.dexpool.proofs.shared_lists.covering.Given as goal
 

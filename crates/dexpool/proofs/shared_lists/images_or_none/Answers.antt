@@ -1,5 +1,4 @@
-use Rattle.std.proofs.Common.{map, ap, ◌∙◌, arith, slice_index}
-use Rattle.std.proofs.lemmas.List.{take_all}
+use Rattle.dexpool.proofs.Common.{map, ap, ◌∙◌, arith, slice_index, take_all}
 use Rattle.dexpool.proofs.shared_lists.images_or_none.Goals as goal
 
 pub returns : goal.returns

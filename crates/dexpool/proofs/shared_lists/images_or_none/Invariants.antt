@@ -1,4 +1,4 @@
-use Rattle.std.proofs.Common.{◌≡◌, map, take, slice_index}
+use Rattle.dexpool.proofs.Common.{◌≡◌, map, take, slice_index}
 use Rattle.dexpool.proofs.shared_lists.images_or_none.Given as goal
 
 abbrev pub invariant-loop-i : goal.invariant-loop-i

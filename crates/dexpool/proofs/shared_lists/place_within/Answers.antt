@@ -1,4 +1,4 @@
-use Rattle.std.proofs.Common.{refl, arith}
+use Rattle.dexpool.proofs.Common.{refl, arith}
 use Rattle.dexpool.proofs.SharedLists.{place_in}
 use Rattle.dexpool.proofs.shared_lists.place_within.Goals as goal
 

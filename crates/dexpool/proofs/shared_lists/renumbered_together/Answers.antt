@@ -1,5 +1,4 @@
-use Rattle.std.proofs.Common.{◌+◌, ◌<◌, length, map, take, set, ap, sym, subst, ◌∙◌, arith, slice_index}
-use Rattle.std.proofs.lemmas.List.{take_more_set, length-set}
+use Rattle.dexpool.proofs.Common.{◌+◌, ◌<◌, length, map, take, set, ap, sym, subst, ◌∙◌, arith, slice_index, take_more_set, length-set}
 use Rattle.dexpool.specs.declared.rows.ProtoEntry.{ProtoEntry}
 use Rattle.dexpool.specs.declared.rows.Span.{Span}
 use Rattle.dexpool.specs.internal.Renumbering.{IsEntryWithin}

@@ -1,6 +1,5 @@
-use Rattle.std.proofs.Common.{◌≡◌, length, map, take, drop}
-use Rattle.std.specs.List.{All}
-use Rattle.dexpool.specs.Reading.{HasSpan}
+use Rattle.dexpool.proofs.Common.{◌≡◌, length, map, take, drop, All}
+use Rattle.dexpool.specs.{HasSpan}
 use Rattle.dexpool.specs.internal.Renumbering.{numbers_of, moved_proto}
 use Rattle.dexpool.proofs.shared_lists.renumbered_together.Given as goal
 

@@ -1,5 +1,4 @@
-use Rattle.std.proofs.Common.{◌∙◌, ap, arith, length, sym}
-use Rattle.std.proofs.lemmas.List.{length-map}
+use Rattle.dexpool.proofs.Common.{◌∙◌, ap, arith, length, sym, length-map}
 use Rattle.dexpool.proofs.Spellings.{spell_more, spell_not}
 use Rattle.dexpool.proofs.shorties.are_letters.Goals as goal
 

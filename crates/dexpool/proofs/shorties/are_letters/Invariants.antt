@@ -1,4 +1,4 @@
-use Rattle.std.specs.Prelude.{◌↔◌, drop}
+use Rattle.dexpool.proofs.Common.{◌↔◌, drop}
 use Rattle.dexpool.specs.internal.CheckedLists.{SpellNumbers}
 use Rattle.dexpool.proofs.shorties.are_letters.Given as goal
 

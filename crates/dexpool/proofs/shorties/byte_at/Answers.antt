@@ -1,5 +1,5 @@
-use Rattle.std.proofs.Common.{arith}
-use Rattle.dexpool.specs.Tables.{type_of}
+use Rattle.dexpool.proofs.Common.{arith}
+use Rattle.dexpool.specs.{type_of}
 use Rattle.dexpool.proofs.FirstUnits.{letter_ascii}
 use Rattle.dexpool.proofs.shorties.byte_at.Goals as goal
 

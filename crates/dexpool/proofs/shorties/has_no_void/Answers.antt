@@ -1,6 +1,4 @@
-use Rattle.std.proofs.Common.{◌≡◌, ◌+◌, Bool, drop, false, sym, subst, arith}
-use Rattle.std.specs.Prelude.{◌↔◌}
-use Rattle.std.specs.List.{All}
+use Rattle.dexpool.proofs.Common.{◌≡◌, ◌+◌, Bool, drop, false, sym, subst, arith, ◌↔◌, All}
 use Rattle.dexpool.specs.internal.CheckedLists.{IsNotVoid}
 use Rattle.dexpool.proofs.Spellings.{void_here, no_void_here, void_decides}
 use Rattle.dexpool.proofs.shorties.has_no_void.Goals as goal

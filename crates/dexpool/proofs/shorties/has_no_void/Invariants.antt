@@ -1,6 +1,4 @@
-use Rattle.std.proofs.Common.{◌≡◌, drop, false}
-use Rattle.std.specs.Prelude.{◌↔◌}
-use Rattle.std.specs.List.{All}
+use Rattle.dexpool.proofs.Common.{◌≡◌, drop, false, ◌↔◌, All}
 use Rattle.dexpool.specs.internal.CheckedLists.{IsNotVoid}
 use Rattle.dexpool.proofs.shorties.has_no_void.Given as goal
 

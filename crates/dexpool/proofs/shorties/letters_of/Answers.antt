@@ -1,7 +1,5 @@
-use Rattle.std.proofs.Common.{ℕ, [], ◌∷◌, ◌++◌, map, ap, sym, ◌∙◌}
-use Rattle.std.proofs.lemmas.List.{map_more, take_all}
-use Rattle.dexspec.specs.Names.{shorty_letter}
-use Rattle.dexpool.specs.Tables.{text_of}
+use Rattle.dexpool.proofs.Common.{ℕ, [], ◌∷◌, ◌++◌, map, ap, sym, ◌∙◌, map_more, take_all, shorty_letter}
+use Rattle.dexpool.specs.{text_of}
 use Rattle.dexpool.proofs.shorties.letters_of.Goals as goal
 
 pub loop-i-preserved : goal.loop-i-preserved

@@ -1,6 +1,5 @@
-use Rattle.std.proofs.Common.{◌≡◌, map, take}
-use Rattle.dexspec.specs.Names.{shorty_letter}
-use Rattle.dexpool.specs.Tables.{text_of}
+use Rattle.dexpool.proofs.Common.{◌≡◌, map, take, shorty_letter}
+use Rattle.dexpool.specs.{text_of}
 use Rattle.dexpool.proofs.shorties.letters_of.Given as goal
 
 abbrev pub invariant-loop-i : goal.invariant-loop-i

@@ -1,4 +1,4 @@
-use Rattle.std.proofs.Common.{◌≡◌, take}
+use Rattle.dexpool.proofs.Common.{◌≡◌, take}
 use Rattle.dexpool.specs.internal.CheckedLists.{letters_in}
 use Rattle.dexpool.proofs.shorties.spelling.Given as goal
 

@@ -1,8 +1,4 @@
-use Rattle.std.proofs.Common.{length, take, drop, ap, ◌≡◌, ℕ, List, sym, ◌∙◌, subst, arith}
-use Rattle.dexspec.specs.Bytes.{uint_at}
-use Rattle.dexspec.specs.Header.{StringIds}
-use Rattle.dexspec.specs.Rows.{row_at}
-use Rattle.dexspec.specs.Texts.{StringDataAt}
+use Rattle.dexpool.proofs.Common.{length, take, drop, ap, ◌≡◌, ℕ, List, sym, ◌∙◌, subst, arith, uint_at, StringIds, row_at, StringDataAt}
 use Rattle.dexpool.proofs.Bytes.{uint_at_row, no_text_after}
 use Rattle.dexpool.proofs.strings.string_at.Goals as goal
 

@@ -1,5 +1,4 @@
-use Rattle.std.proofs.Common.{◌∙◌, [], ◌∷◌, ◌++◌, sym}
-use Rattle.std.proofs.lemmas.List.{take_all, take_more}
+use Rattle.dexpool.proofs.Common.{◌∙◌, [], ◌∷◌, ◌++◌, sym, take_all, take_more}
 use Rattle.dexpool.proofs.symbols.copied.Goals as goal
 
 pub loop-name-preserved : goal.loop-name-preserved

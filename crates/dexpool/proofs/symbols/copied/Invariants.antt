@@ -1,4 +1,4 @@
-use Rattle.std.specs.Prelude.{◌≡◌, take}
+use Rattle.dexpool.proofs.Common.{◌≡◌, take}
 use Rattle.dexpool.proofs.symbols.copied.Given as goal
 
 abbrev pub invariant-loop-name : goal.invariant-loop-name

@@ -1,6 +1,5 @@
-use Rattle.std.proofs.Common.{[], ◌∷◌, ◌++◌, sym, ap, ◌∙◌, arith, map}
-use Rattle.std.proofs.lemmas.List.{map_more, take_all}
-use Rattle.dexpool.specs.Tables.{type_of}
+use Rattle.dexpool.proofs.Common.{[], ◌∷◌, ◌++◌, sym, ap, ◌∙◌, arith, map, map_more, take_all}
+use Rattle.dexpool.specs.{type_of}
 use Rattle.dexpool.proofs.symbols.type_names.Goals as goal
 
 pub loop-i-preserved : goal.loop-i-preserved

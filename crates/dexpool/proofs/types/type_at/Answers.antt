@@ -1,4 +1,4 @@
-use Rattle.std.proofs.Common.{refl}
+use Rattle.dexpool.proofs.Common.{refl}
 use Rattle.dexpool.proofs.Steps.{no_descriptor}
 use Rattle.dexpool.proofs.types.type_at.Goals as goal
 

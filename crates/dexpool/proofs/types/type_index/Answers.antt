@@ -1,6 +1,4 @@
-use Rattle.std.proofs.Common.{◌∙◌, arith}
-use Rattle.dexspec.specs.Rows.{row_at}
-use Rattle.dexspec.specs.Header.{TypeIds}
+use Rattle.dexpool.proofs.Common.{◌∙◌, arith, row_at, TypeIds}
 use Rattle.dexpool.proofs.Bytes.{uint_at_row}
 use Rattle.dexpool.proofs.types.type_index.Goals as goal
 

@@ -1,4 +1,4 @@
-use Rattle.std.proofs.Common.{sym, ◌∙◌, ap, subst, arith}
+use Rattle.dexpool.proofs.Common.{sym, ◌∙◌, ap, subst, arith}
 use Rattle.dexpool.proofs.Changed.{unchanged, changed_more}
 use Rattle.dexpool.proofs.visiting.renumber_all.Goals as goal
 

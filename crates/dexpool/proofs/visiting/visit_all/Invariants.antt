@@ -1,5 +1,4 @@
-use Rattle.std.proofs.Common.{take}
-use Rattle.std.specs.List.{FoldsTo, flat_map}
+use Rattle.dexpool.proofs.Common.{take, FoldsTo, flat_map}
 use Rattle.dexpool.proofs.visiting.visit_all.Given as goal
 
 abbrev pub invariant-loop-item : goal.invariant-loop-item

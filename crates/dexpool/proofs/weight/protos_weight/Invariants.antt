@@ -1,4 +1,4 @@
-use Rattle.std.proofs.Common.{◌-◌, ◌+◌, ◌*◌, ◌≡◌, ◌^◌, min, sum_by, take}
+use Rattle.dexpool.proofs.Common.{◌-◌, ◌+◌, ◌*◌, ◌≡◌, ◌^◌, min, sum_by, take}
 use Rattle.dexpool.proofs.weight.protos_weight.Given as goal
 
 abbrev pub invariant-loop-proto : goal.invariant-loop-proto

@@ -1,5 +1,4 @@
-use Rattle.std.proofs.Common.{◌-◌, ◌≡◌, ◌^◌, min, sum_by, take}
-use Rattle.dexspec.specs.Weight.{text_weight}
+use Rattle.dexpool.proofs.Common.{◌-◌, ◌≡◌, ◌^◌, min, sum_by, take, text_weight}
 use Rattle.dexpool.proofs.weight.texts_weight.Given as goal
 
 abbrev pub invariant-loop-text : goal.invariant-loop-text

@@ -1,4 +1,4 @@
-use Rattle.std.proofs.Common.{◌∙◌}
+use Rattle.dexruns.proofs.Common.{◌∙◌}
 use Rattle.dexruns.proofs.Checked.{accepted_is}
 use Rattle.dexruns.proofs.checking.check_input.Goals as goal
 

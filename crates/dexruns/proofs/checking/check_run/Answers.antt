@@ -1,9 +1,5 @@
-use Rattle.std.proofs.Common.{arith, ◌≡◌, ◌<◌, ◌≤◌, ◌+◌, refl, false, length, map}
-use Rattle.std.proofs.lemmas.List.{length-map, drop-set-lt}
-use Rattle.std.proofs.lemmas.List.Elements.{All-set}
-use Rattle.std.proofs.lemmas.Grind.{drop_more_same}
-use Rattle.std.proofs.lemmas.Result.{err_from_is_err_and}
-use Rattle.dexruns.specs.Inputs.{bytes_read, IsReadNoFurther}
+use Rattle.dexruns.proofs.Common.{arith, ◌≡◌, ◌<◌, ◌≤◌, ◌+◌, refl, false, length, map, length-map, drop-set-lt, All-set, drop_more_same, err_from_is_err_and}
+use Rattle.dexruns.specs.{bytes_read, IsReadNoFurther}
 use Rattle.dexruns.proofs.Moved.{none_moved, moved_now}
 use Rattle.dexruns.proofs.Unread.{check_unread}
 use Rattle.dexruns.proofs.Checked.{none_checked, checked_more, begun, begun_more, right_now, line_is}

@@ -1,8 +1,5 @@
-use Rattle.std.proofs.Common.{◌≡◌, false, map, drop, take}
-use Rattle.std.specs.Prelude.{All}
-use Rattle.std.specs.List.{AllZip}
-use Rattle.dexruns.specs.Inputs.{bytes_read, IsReadNoFurther}
-use Rattle.dexruns.specs.Runs.{AreChecked, AllWork}
+use Rattle.dexruns.proofs.Common.{◌≡◌, false, map, drop, take, All, AllZip}
+use Rattle.dexruns.specs.{bytes_read, IsReadNoFurther, AreChecked, AllWork}
 use Rattle.dexruns.proofs.checking.check_run.Given as goal
 
 -- the first i files are checked, the other readers are as they were, and no device has failed

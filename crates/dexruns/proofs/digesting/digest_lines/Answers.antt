@@ -1,7 +1,4 @@
-use Rattle.std.proofs.Common.{rules, arith, ◌≡◌, ◌<◌, ◌∙◌, ap, length, get_or}
-use Rattle.dexspec.specs.Files.{definitions}
-use Rattle.dexspec.specs.Mentions.{mentions}
-use Rattle.dexclass.specs.Numbered.{type_at}
+use Rattle.dexruns.proofs.Common.{rules, arith, ◌≡◌, ◌<◌, ◌∙◌, ap, length, get_or, definitions, mentions, type_at}
 use Rattle.dexruns.proofs.Digested.{line_more, name_in}
 use Rattle.dexruns.proofs.digesting.digest_lines.Goals as goal
 

@@ -1,7 +1,6 @@
-use Rattle.std.specs.Prelude.{◌≡◌, string_bytes, take}
-use Rattle.dexspec.specs.Files.{definitions}
+use Rattle.dexruns.proofs.Common.{◌≡◌, string_bytes, take, definitions}
 use Rattle.dexspec.specs.Depth.{in_class_order}
-use Rattle.dexruns.specs.Digests.{digest_lines_of}
+use Rattle.dexruns.specs.{digest_lines_of}
 use Rattle.dexruns.proofs.digesting.digest_lines.Given as goal
 
 -- the lines of the classes so far are there

@@ -1,6 +1,5 @@
-use Rattle.std.proofs.Common.{◌∙◌}
-use Rattle.std.proofs.lemmas.Result.{err_from_is_err_and}
-use Rattle.dexruns.specs.Inputs.{bytes_read}
+use Rattle.dexruns.proofs.Common.{◌∙◌, err_from_is_err_and}
+use Rattle.dexruns.specs.{bytes_read}
 use Rattle.dexruns.proofs.Normalised.{accepted_file}
 use Rattle.dexruns.proofs.Digested.{written_is, prefix_is}
 use Rattle.dexruns.proofs.Unread.{of_input}

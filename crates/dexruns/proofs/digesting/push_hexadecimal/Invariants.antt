@@ -1,5 +1,5 @@
-use Rattle.std.specs.Prelude.{◌≡◌, ◌++◌, string_bytes, take}
-use Rattle.dexruns.specs.Digests.{hexadecimal}
+use Rattle.dexruns.proofs.Common.{◌≡◌, ◌++◌, string_bytes, take}
+use Rattle.dexruns.specs.{hexadecimal}
 use Rattle.dexruns.proofs.digesting.push_hexadecimal.Given as goal
 
 -- the bytes so far are there in digits

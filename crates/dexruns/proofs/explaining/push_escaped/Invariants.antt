@@ -1,4 +1,4 @@
-use Rattle.std.specs.Prelude.{◌≡◌, ◌++◌, take, string_bytes}
+use Rattle.dexruns.proofs.Common.{◌≡◌, ◌++◌, take, string_bytes}
 use Rattle.dexstr.specs.Escapes.{escaped}
 use Rattle.dexruns.proofs.explaining.push_escaped.Given as goal
 

@@ -1,5 +1,5 @@
-use Rattle.std.specs.Prelude.{◌≡◌, ◌++◌, string_bytes}
-use Rattle.dexruns.specs.Lines.{class_text}
+use Rattle.dexruns.proofs.Common.{◌≡◌, ◌++◌, string_bytes}
+use Rattle.dexruns.specs.{class_text}
 use Rattle.dexruns.proofs.explaining.push_text.Given as goal
 
 -- the units so far are printed

@@ -1,13 +1,8 @@
-use Rattle.std.proofs.Common.{◌≡◌, ◌∙◌, ◌<◌, ◌≤◌, ◌∷◌, ◌++◌, ◌^◌, List, [], length, map, refl, sym, ap, subst, arith, vec_len, length-append}
-use Rattle.std.specs.Prelude.{ℕ, Option, Some, IfSome}
-use Rattle.std.proofs.lemmas.List.{length-map}
+use Rattle.dexruns.proofs.Common.{◌≡◌, ◌∙◌, ◌<◌, ◌≤◌, ◌∷◌, ◌++◌, ◌^◌, List, [], length, map, refl, sym, ap, subst, arith, vec_len, length-append, ℕ, Option, Some, IfSome, length-map, IsPlanFor, plan_of, plans_of, node_is}
 use Rattle.dexspec.specs.Merging as merging
-use Rattle.dexspec.specs.Merging.{IsPlanFor}
 use Rattle.dexmerge.specs.declared.plan.Plan.{Plan}
 use Rattle.dexmerge.specs.declared.plan.Plan.TheVariants as variants
-use Rattle.dexmerge.specs.Plans.{plan_of, plans_of}
-use Rattle.dexruns.specs.Fans.{in_groups}
-use Rattle.dexmerge.proofs.PlanForms.{node_is}
+use Rattle.dexruns.specs.{in_groups}
 use Rattle.dexruns.proofs.Fanned.{AreGrouped, one_node_plan, one_round, groups_fewer, last_round, grouped_plan, few_files}
 use Rattle.dexruns.proofs.fanning.fan_plan.Goals as goal
 use Rattle.dexruns.proofs.fanning.fan_plan.Goals.{In_ok-plans-2}

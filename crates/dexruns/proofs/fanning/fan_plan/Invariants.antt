@@ -1,5 +1,4 @@
-use Rattle.std.proofs.Common.{◌<◌, map, vec_len}
-use Rattle.dexmerge.specs.Plans.{plan_of}
+use Rattle.dexruns.proofs.Common.{◌<◌, map, vec_len, plan_of}
 use Rattle.dexruns.proofs.Fanned.{AreGrouped}
 use Rattle.dexruns.proofs.fanning.fan_plan.Given as goal
 

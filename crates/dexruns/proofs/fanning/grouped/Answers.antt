@@ -1,14 +1,9 @@
-use Rattle.std.proofs.Common.{◌≡◌, ◌∙◌, inl, inr, ◌<◌, ◌≢◌, ◌∷◌, ◌++◌, ℕ, List, [], length, get_or, map, refl, sym, ap, subst, arith, vec_len, length-append, Vec, Global}
-use Rattle.std.proofs.lemmas.List.{length-map, get_or-map, map-append}
-use Rattle.std.specs.Prelude.{Bool, true, false, ◌==◌, zero, suc}
-use Rattle.std.proofs.lemmas.Bool.{cases_lt, eqb-true, false≢true}
+use Rattle.dexruns.proofs.Common.{◌≡◌, ◌∙◌, inl, inr, ◌<◌, ◌≢◌, ◌∷◌, ◌++◌, ℕ, List, [], length, get_or, map, refl, sym, ap, subst, arith, vec_len, length-append, Vec, Global, length-map, get_or-map, map-append, Bool, true, false, ◌==◌, zero, suc, cases_lt, eqb-true, false≢true, plan_of, plans_of, node_is}
 use Rattle.std.proofs.lemmas.Iterator.Consumers.{YieldsList-turn, YieldsList-end}
 use Rattle.std.proofs.lemmas.Iterator.Adapters.{YieldsList-from_vec}
 use Rattle.dexspec.specs.Merging as merging
 use Rattle.dexmerge.specs.declared.plan.Plan.{Plan}
 use Rattle.dexmerge.specs.declared.plan.Plan.TheVariants as variants
-use Rattle.dexmerge.specs.Plans.{plan_of, plans_of}
-use Rattle.dexmerge.proofs.PlanForms.{node_is}
 use Rattle.dexruns.proofs.Fanned.{IsCut, same_cut, one_more, group_more, last_closed, nothing_open}
 use Rattle.dexruns.proofs.fanning.grouped.Goals as goal
 use Rattle.dexruns.proofs.fanning.grouped.Goals.{then-len-fan+in_ok-push, else-len-fan, then-not-is_empty+in_ok-push-3, else-not-is_empty}

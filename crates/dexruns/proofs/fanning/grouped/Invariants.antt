@@ -1,5 +1,4 @@
-use Rattle.std.proofs.Common.{◌<◌, length, map, vec_len}
-use Rattle.dexmerge.specs.Plans.{plan_of}
+use Rattle.dexruns.proofs.Common.{◌<◌, length, map, vec_len, plan_of}
 use Rattle.dexruns.proofs.Fanned.{IsCut}
 use Rattle.dexruns.proofs.fanning.grouped.Given as goal
 

@@ -1,10 +1,7 @@
-use Rattle.std.proofs.Common.{◌∙◌, ◌++◌, ◌∷◌, [], List, map, sym, ap, refl}
-use Rattle.std.proofs.lemmas.List.{map-append}
+use Rattle.dexruns.proofs.Common.{◌∙◌, ◌++◌, ◌∷◌, [], List, map, sym, ap, refl, map-append, plan_of, leaf_is}
 use Rattle.dexspec.specs.Merging as merging
 use Rattle.dexmerge.specs.declared.plan.Plan.TheVariants as variants
-use Rattle.dexmerge.specs.Plans.{plan_of}
-use Rattle.dexruns.specs.Fans.{leaf_plans}
-use Rattle.dexmerge.proofs.PlanForms.{leaf_is}
+use Rattle.dexruns.specs.{leaf_plans}
 use Rattle.dexruns.proofs.Fanned.{leaf_more}
 use Rattle.dexruns.proofs.fanning.leaves.Goals as goal
 

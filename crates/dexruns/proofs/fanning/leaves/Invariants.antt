@@ -1,6 +1,5 @@
-use Rattle.std.proofs.Common.{◌≡◌, map}
-use Rattle.dexmerge.specs.Plans.{plan_of}
-use Rattle.dexruns.specs.Fans.{leaf_plans}
+use Rattle.dexruns.proofs.Common.{◌≡◌, map, plan_of}
+use Rattle.dexruns.specs.{leaf_plans}
 use Rattle.dexruns.proofs.fanning.leaves.Given as goal
 
 -- the leaves of the files so far

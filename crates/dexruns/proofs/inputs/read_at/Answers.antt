@@ -1,4 +1,4 @@
-use Rattle.std.proofs.Common.{arith, length-take-le}
+use Rattle.dexruns.proofs.Common.{arith, length-take-le}
 use borrow.Rule.Slice.PartMut.{take_put}
 use Rattle.dexruns.proofs.Pieces.{moved_in_place}
 use Rattle.dexruns.proofs.inputs.read_at.Goals as goal

@@ -1,4 +1,4 @@
-use Rattle.std.proofs.Common.{◌≡◌, length}
+use Rattle.dexruns.proofs.Common.{◌≡◌, length}
 use Rattle.dexruns.proofs.merging.places.Given as goal
 
 abbrev pub invariant-loop : goal.invariant-loop

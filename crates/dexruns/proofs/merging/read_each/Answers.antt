@@ -1,11 +1,5 @@
-use Rattle.std.proofs.Common.{arith, ◌≡◌, ◌<◌, ◌+◌, ◌∙◌, refl, subst, false, length}
-use Rattle.std.proofs.lemmas.List.{drop-set-lt}
-use Rattle.std.proofs.lemmas.List.Elements.{All-set}
-use Rattle.std.proofs.lemmas.Grind.{drop_more_same}
-use Rattle.std.proofs.lemmas.Result.{err_from_is_err_and}
-use Rattle.dexclass.specs.Programs.{IsReadAs}
-use Rattle.dexruns.specs.Inputs.{bytes_read, IsReadNoFurther}
-use Rattle.dexruns.specs.Merges.{IsReadFrom}
+use Rattle.dexruns.proofs.Common.{arith, ◌≡◌, ◌<◌, ◌+◌, ◌∙◌, refl, subst, false, length, drop-set-lt, All-set, drop_more_same, err_from_is_err_and, IsReadAs}
+use Rattle.dexruns.specs.{bytes_read, IsReadNoFurther, IsReadFrom}
 use Rattle.dexruns.proofs.Checked.{same_head}
 use Rattle.dexruns.proofs.Merged.{held_first, read_more}
 use Rattle.dexruns.proofs.Moved.{none_moved, moved_now}

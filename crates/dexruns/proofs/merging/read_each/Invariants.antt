@@ -1,8 +1,5 @@
-use Rattle.std.proofs.Common.{◌≡◌, drop, take}
-use Rattle.std.specs.List.{AllZip}
-use Rattle.dexruns.specs.Inputs.{IsReadNoFurther}
-use Rattle.dexruns.specs.Merges.{AreReadFrom}
-use Rattle.dexruns.specs.Runs.{AllWork}
+use Rattle.dexruns.proofs.Common.{◌≡◌, drop, take, AllZip}
+use Rattle.dexruns.specs.{IsReadNoFurther, AreReadFrom, AllWork}
 use Rattle.dexruns.proofs.merging.read_each.Given as goal
 
 -- the first i inputs are read, the other readers are as they were, and none has failed

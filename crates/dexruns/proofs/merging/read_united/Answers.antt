@@ -1,6 +1,5 @@
-use Rattle.std.proofs.lemmas.Result.{IfErr-weaker}
-use Rattle.dexmerge.specs.Plans.{plan_of}
-use Rattle.dexruns.specs.Merges.{IsReadFrom, IsUnionFault}
+use Rattle.dexruns.proofs.Common.{IfErr-weaker, plan_of}
+use Rattle.dexruns.specs.{IsReadFrom, IsUnionFault}
 use Rattle.dexruns.proofs.Merged.{fault_of_merging, uncalled_by_merging}
 use Rattle.dexruns.proofs.Moved.{none_moved}
 use Rattle.dexruns.proofs.merging.read_united.Goals as goal

@@ -1,4 +1,4 @@
-use Rattle.std.proofs.lemmas.Result.{err_from_is_err_and}
+use Rattle.dexruns.proofs.Common.{err_from_is_err_and}
 use Rattle.dexruns.proofs.Merged.{fault_of_union}
 use Rattle.dexruns.proofs.merging.united.Goals as goal
 

@@ -1,7 +1,5 @@
-use Rattle.std.proofs.Common.{◌∙◌}
-use Rattle.std.proofs.lemmas.Result.{err_from_is_err_and}
-use Rattle.dexruns.specs.Inputs.{bytes_read}
-use Rattle.dexruns.specs.Repairs.{repaired}
+use Rattle.dexruns.proofs.Common.{◌∙◌, err_from_is_err_and}
+use Rattle.dexruns.specs.{bytes_read, repaired}
 use Rattle.dexruns.proofs.Repaired.{repaired_only, repaired_is, accepted_is, prefix_is, has_checksum, has_signature}
 use Rattle.dexruns.proofs.Unread.{of_input, no_program}
 use Rattle.dexruns.proofs.repairing.repair_run.Goals as goal

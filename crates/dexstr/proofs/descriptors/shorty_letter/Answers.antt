@@ -1,4 +1,4 @@
-use Rattle.std.proofs.Common.{◌∙◌}
+use Rattle.dexstr.proofs.Common.{◌∙◌}
 use Rattle.dexstr.proofs.Descriptions.{reference_letter}
 use Rattle.dexstr.proofs.descriptors.shorty_letter.Goals as goal
 

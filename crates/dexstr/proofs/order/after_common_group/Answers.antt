@@ -1,4 +1,4 @@
-use Rattle.std.proofs.Common.{sym, ◌∙◌}
+use Rattle.dexstr.proofs.Common.{sym, ◌∙◌}
 use Rattle.dexstr.proofs.ByBytes.{after_group}
 use Rattle.dexstr.proofs.order.after_common_group.Goals as goal
 

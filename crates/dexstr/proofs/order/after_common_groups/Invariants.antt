@@ -1,5 +1,4 @@
-use Rattle.std.proofs.Common.{◌≡◌, length}
-use Rattle.std.specs.Cmp.Lexicographic.{slice_cmp}
+use Rattle.dexstr.proofs.Common.{◌≡◌, length, slice_cmp}
 use Rattle.dexstr.specs.internal.Order.{byte_cmp}
 use Rattle.dexstr.proofs.order.after_common_groups.Given as goal
 

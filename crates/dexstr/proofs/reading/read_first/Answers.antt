@@ -1,5 +1,4 @@
-use Rattle.std.proofs.Common.{◌≡◌, ◌<◌, ◌⊎◌, inl, inr, length, get_or, refl, rules}
-use Rattle.std.proofs.lemmas.Bool.{false≢true}
+use Rattle.dexstr.proofs.Common.{◌≡◌, ◌<◌, ◌⊎◌, inl, inr, length, get_or, refl, rules, false≢true}
 use Rattle.dexstr.proofs.Items.{spells_prefix, item_found, from_place, no_zero}
 use Rattle.dexstr.proofs.Outcomes.{prefix_from, prefix_to}
 use Rattle.dexstr.proofs.reading.read_first.Goals as goal

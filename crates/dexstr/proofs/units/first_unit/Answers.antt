@@ -1,4 +1,4 @@
-use Rattle.std.proofs.Common.{arith, ◌+◌}
+use Rattle.dexstr.proofs.Common.{arith, ◌+◌}
 use Rattle.dexstr.proofs.Forms.{any_none, no_second, no_third}
 use Rattle.dexstr.proofs.units.first_unit.Goals as goal
 

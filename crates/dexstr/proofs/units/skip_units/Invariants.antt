@@ -1,4 +1,4 @@
-use Rattle.std.proofs.Common.{length}
+use Rattle.dexstr.proofs.Common.{length}
 use Rattle.dexstr.proofs.Passing.{Passed}
 use Rattle.dexstr.proofs.units.skip_units.Given as goal
 

@@ -1,4 +1,4 @@
-use Rattle.std.proofs.Common.{arith}
+use Rattle.dexstr.proofs.Common.{arith}
 use Rattle.dexstr.proofs.Counting.{spelled_length}
 use Rattle.dexstr.proofs.writing.counted_len.Goals as goal
 

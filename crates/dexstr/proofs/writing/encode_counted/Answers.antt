@@ -1,6 +1,4 @@
-use Rattle.std.proofs.Common.{◌≡◌, ℕ, ◌∷◌, [], ◌++◌, length, sym, subst, ap, ◌∙◌}
-use Rattle.dexspec.specs.Numbers.{uleb128}
-use Rattle.dexspec.specs.Texts.{spelling}
+use Rattle.dexstr.proofs.Common.{◌≡◌, ℕ, ◌∷◌, [], ◌++◌, length, sym, subst, ap, ◌∙◌, uleb128, spelling}
 use Rattle.dexstr.proofs.writing.encode_counted.Goals as goal
 
 pub returns : goal.returns

@@ -1,5 +1,4 @@
-use Rattle.std.proofs.Common.{arith}
-use Rattle.dexspec.specs.Texts.{string_data}
+use Rattle.dexstr.proofs.Common.{arith, string_data}
 use Rattle.dexhead.proofs.Encoded.{encoded_put}
 use Rattle.dexstr.proofs.writing.put_text.Goals as goal
 

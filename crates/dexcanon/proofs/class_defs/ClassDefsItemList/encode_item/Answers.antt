@@ -1,6 +1,4 @@
-use Rattle.std.proofs.Common.{◌<◌, length, sym, subst, ap, arith, rules, ◌∙◌}
-use Rattle.dexpool.proofs.UnionLaws.{ranks_are_numbers}
-use Rattle.dexclass.specs.Uses.{IsKnownClass}
+use Rattle.dexcanon.proofs.Common.{◌<◌, length, sym, subst, ap, arith, rules, ◌∙◌, ranks_are_numbers, IsKnownClass}
 use Rattle.dexcanon.specs.internal.ClassRows.{class_row}
 use Rattle.dexcanon.proofs.RowsOfClasses.{count_class_rows, class_row_at, name_small, superclass_small, source_small}
 use Rattle.dexcanon.proofs.WholeBody.{texts_few}

@@ -1,4 +1,4 @@
-use Rattle.std.proofs.Common.{sym}
+use Rattle.dexcanon.proofs.Common.{sym}
 use Rattle.dexcanon.proofs.RowsOfClasses.{count_class_rows}
 use Rattle.dexcanon.proofs.class_defs.ClassDefsItemList.len.Goals as goal
 

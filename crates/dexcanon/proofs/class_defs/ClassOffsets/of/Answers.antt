@@ -1,8 +1,4 @@
-use Rattle.std.proofs.Common.{◌≡◌, ◌+◌, ℕ, List, length, get_or, ap, arith, sym, ◌∙◌}
-use Rattle.dexspec.specs.Placing.{uses_offsets}
-use Rattle.dexspec.specs.Canonical.{type_list_section, directory_section, class_data_section, array_section}
-use Rattle.dexlayout.specs.Places.{ItemPlaces, EncodedItems, EncodedSharedItems}
-use Rattle.dexlayout.specs.Laid.{ordered_of}
+use Rattle.dexcanon.proofs.Common.{◌≡◌, ◌+◌, ℕ, List, length, get_or, ap, arith, sym, ◌∙◌, uses_offsets, type_list_section, directory_section, class_data_section, array_section, ItemPlaces, EncodedItems, EncodedSharedItems, ordered_of}
 use Rattle.dexcanon.proofs.RowsOfClasses.{class_offsets_at, count_lists, count_directories, count_class_data, count_static_values}
 use Rattle.dexcanon.proofs.class_defs.ClassOffsets.of.Goals as goal
 use Rattle.dexcanon.proofs.class_defs.ClassOffsets.of.Goals.{After-offsets-static_values}

@@ -1,7 +1,4 @@
-use Rattle.std.proofs.Common.{◌<◌, ◌+◌, [], length, drop, get_or, ap, arith}
-use Rattle.std.specs.List.{concat}
-use Rattle.std.proofs.lemmas.List.{drop_all}
-use Rattle.dexhead.proofs.Encoded.{completes_none, completes_more, completes_all}
+use Rattle.dexcanon.proofs.Common.{◌<◌, ◌+◌, [], length, drop, get_or, ap, arith, concat, drop_all, completes_none, completes_more, completes_all}
 use Rattle.dexcanon.proofs.Rows.{next_item}
 use Rattle.dexcanon.proofs.item_lists.ItemList.encode.Goals as goal
 

@@ -1,6 +1,4 @@
-use Rattle.std.proofs.Common.{drop}
-use Rattle.std.specs.List.{concat}
-use Rattle.dexhead.proofs.Encoded.{Completes}
+use Rattle.dexcanon.proofs.Common.{drop, concat, Completes}
 use Rattle.dexcanon.proofs.item_lists.ItemList.encode.Given as goal
 
 abbrev pub invariant-loop-i : goal.invariant-loop-i

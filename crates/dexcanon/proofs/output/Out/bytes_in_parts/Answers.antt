@@ -1,7 +1,4 @@
-use Rattle.std.proofs.Common.{◌≡◌, ◌++◌, List, ℕ, [], length, sym, ap, ◌∙◌, arith}
-use Rattle.std.proofs.lemmas.List.{take-append-drop, length-take}
-use Rattle.std.proofs.lemmas.Grind.{common_steps}
-use Rattle.dexhead.proofs.Encoded.{completes_none, completes_more, completes_all}
+use Rattle.dexcanon.proofs.Common.{◌≡◌, ◌++◌, List, ℕ, [], length, sym, ap, ◌∙◌, arith, take-append-drop, length-take, common_steps, completes_none, completes_more, completes_all}
 use Rattle.dexcanon.specs.internal.Output.{Adds, adds_nothing, adds_both}
 use Rattle.dexcanon.proofs.output.Out.bytes_in_parts.Goals as goal
 

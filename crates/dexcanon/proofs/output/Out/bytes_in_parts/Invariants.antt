@@ -1,5 +1,4 @@
-use Rattle.std.proofs.Common.{length}
-use Rattle.dexhead.proofs.Encoded.{Completes}
+use Rattle.dexcanon.proofs.Common.{length, Completes}
 use Rattle.dexcanon.specs.internal.Output.{Adds}
 use Rattle.dexcanon.proofs.output.Out.bytes_in_parts.Given as goal
 

@@ -1,4 +1,4 @@
-use Rattle.std.proofs.Common.{[], OnOk, OnErr, subst, append-nil}
+use Rattle.dexcanon.proofs.Common.{[], OnOk, OnErr, subst, append-nil}
 use Rattle.dexcanon.proofs.Buffered.{dropped, flushed}
 use Rattle.dexcanon.proofs.output.Out.flush.Goals as goal
 

@@ -1,4 +1,4 @@
-use Rattle.std.proofs.Common.{◌∷◌, [], arith}
+use Rattle.dexcanon.proofs.Common.{◌∷◌, [], arith}
 use Rattle.dexcanon.proofs.Buffered.{flushed_first}
 use Rattle.dexcanon.proofs.output.OutOutput.byte.Goals as goal
 

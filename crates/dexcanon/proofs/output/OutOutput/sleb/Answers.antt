@@ -1,8 +1,5 @@
-use Rattle.std.proofs.Common.{w32, subst, arith}
+use Rattle.dexcanon.proofs.Common.{w32, subst, arith, sleb128, sleb128-size, HasRoomFor, Pushes}
 use Rattle.std.proofs.lemmas.Int.{to_z-of_z}
-use Rattle.dexspec.specs.Numbers.{sleb128}
-use Rattle.dexspec.proofs.size.SizeItems.{sleb128-size}
-use Rattle.dexhead.specs.Pushing.{HasRoomFor, Pushes}
 use Rattle.dexcanon.proofs.Buffered.{flushed_first}
 use Rattle.dexcanon.proofs.output.OutOutput.sleb.Goals as goal
 

@@ -1,6 +1,4 @@
-use Rattle.std.proofs.Common.{arith}
-use Rattle.dexspec.specs.Bytes.{ushort}
-use Rattle.dexspec.proofs.numbers.ByteNumbers.{length-ushort}
+use Rattle.dexcanon.proofs.Common.{arith, ushort, length-ushort}
 use Rattle.dexcanon.proofs.Buffered.{flushed_first}
 use Rattle.dexcanon.proofs.output.OutOutput.u16.Goals as goal
 

@@ -1,6 +1,4 @@
-use Rattle.std.proofs.Common.{arith}
-use Rattle.dexspec.specs.Bytes.{uint}
-use Rattle.dexspec.proofs.numbers.ByteNumbers.{length-uint}
+use Rattle.dexcanon.proofs.Common.{arith, uint, length-uint}
 use Rattle.dexcanon.proofs.Buffered.{flushed_first}
 use Rattle.dexcanon.proofs.output.OutOutput.u32.Goals as goal
 

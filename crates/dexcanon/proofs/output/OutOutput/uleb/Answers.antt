@@ -1,6 +1,4 @@
-use Rattle.std.proofs.Common.{arith}
-use Rattle.dexspec.specs.Numbers.{uleb128}
-use Rattle.dexspec.proofs.size.SizeItems.{uleb128-size}
+use Rattle.dexcanon.proofs.Common.{arith, uleb128, uleb128-size}
 use Rattle.dexcanon.proofs.Buffered.{flushed_first}
 use Rattle.dexcanon.proofs.output.OutOutput.uleb.Goals as goal
 

@@ -1,6 +1,4 @@
-use Rattle.std.proofs.Common.{[], ap, sym, subst, ◌∙◌}
-use Rattle.std.proofs.lemmas.List.{get_or-map}
-use Rattle.dexspec.specs.Texts.{string_data}
+use Rattle.dexcanon.proofs.Common.{[], ap, sym, subst, ◌∙◌, get_or-map, string_data}
 use Rattle.dexcanon.proofs.strings.StringDataItemsItemList.encode_item.Goals as goal
 
 pub returns : goal.returns

@@ -1,7 +1,4 @@
-use Rattle.std.proofs.Common.{◌<◌, length, sym, subst, arith}
-use Rattle.std.proofs.lemmas.List.{length-map}
-use Rattle.dexspec.specs.Canonical.{field_row_bytes}
-use Rattle.dexpool.proofs.UnionLaws.{ranks_are_numbers}
+use Rattle.dexcanon.proofs.Common.{◌<◌, length, sym, subst, arith, length-map, field_row_bytes, ranks_are_numbers}
 use Rattle.dexcanon.proofs.SymbolRows.{field_row_at, no_field}
 use Rattle.dexcanon.proofs.tables.FieldIdsItemList.encode_item.Goals as goal
 

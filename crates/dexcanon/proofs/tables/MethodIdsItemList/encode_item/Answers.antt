@@ -1,7 +1,4 @@
-use Rattle.std.proofs.Common.{◌<◌, length, sym, subst, arith}
-use Rattle.std.proofs.lemmas.List.{length-map}
-use Rattle.dexspec.specs.Canonical.{method_row_bytes}
-use Rattle.dexpool.proofs.UnionLaws.{ranks_are_numbers}
+use Rattle.dexcanon.proofs.Common.{◌<◌, length, sym, subst, arith, length-map, method_row_bytes, ranks_are_numbers}
 use Rattle.dexcanon.proofs.SymbolRows.{method_row_at, no_method}
 use Rattle.dexcanon.proofs.tables.MethodIdsItemList.encode_item.Goals as goal
 

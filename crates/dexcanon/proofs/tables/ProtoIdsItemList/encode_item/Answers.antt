@@ -1,11 +1,4 @@
-use Rattle.std.proofs.Common.{◌≡◌, ◌<◌, ℕ, List, [], length, get_or, ap, sym, subst, arith, ◌∙◌}
-use Rattle.dexspec.specs.Lists.{zip_with}
-use Rattle.dexspec.specs.Placing.{uses_offsets}
-use Rattle.dexspec.specs.Canonical.{proto_row_bytes, type_list_section}
-use Rattle.dexspec.proofs.layout.Placements.{length-type_list_offsets}
-use Rattle.dexlayout.specs.Places.{ItemPlaces, EncodedSharedItems}
-use Rattle.dexlayout.specs.Laid.{ordered_of}
-use Rattle.dexpool.proofs.UnionLaws.{ranks_are_numbers}
+use Rattle.dexcanon.proofs.Common.{◌≡◌, ◌<◌, ℕ, List, [], length, get_or, ap, sym, subst, arith, ◌∙◌, zip_with, uses_offsets, proto_row_bytes, type_list_section, length-type_list_offsets, ItemPlaces, EncodedSharedItems, ordered_of, ranks_are_numbers}
 use Rattle.dexcanon.proofs.SymbolRows.{proto_row_at, no_proto}
 use Rattle.dexcanon.proofs.WholeBody.{count_proto_rows, texts_few}
 use Rattle.dexcanon.proofs.tables.ProtoIdsItemList.encode_item.Goals as goal

@@ -1,4 +1,4 @@
-use Rattle.std.proofs.Common.{sym, ◌∙◌}
+use Rattle.dexcanon.proofs.Common.{sym, ◌∙◌}
 use Rattle.dexcanon.proofs.WholeBody.{count_proto_rows}
 use Rattle.dexcanon.proofs.tables.ProtoIdsItemList.len.Goals as goal
 

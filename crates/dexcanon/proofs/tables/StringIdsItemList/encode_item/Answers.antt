@@ -1,10 +1,4 @@
-use Rattle.std.proofs.Common.{◌≡◌, ◌<◌, List, ℕ, length, map, get_or, [], ap, sym, subst, arith, ◌∙◌}
-use Rattle.std.proofs.lemmas.List.{get_or-map, length-map}
-use Rattle.dexspec.specs.Bytes.{uint}
-use Rattle.dexspec.specs.Placing.{offsets}
-use Rattle.dexspec.specs.Canonical.{string_section}
-use Rattle.dexlayout.specs.Places.{ItemPlaces}
-use Rattle.dexlayout.specs.Laid.{ordered_of}
+use Rattle.dexcanon.proofs.Common.{◌≡◌, ◌<◌, List, ℕ, length, map, get_or, [], ap, sym, subst, arith, ◌∙◌, get_or-map, length-map, uint, offsets, string_section, ItemPlaces, ordered_of}
 use Rattle.dexcanon.proofs.tables.StringIdsItemList.encode_item.Goals as goal
 use Rattle.dexcanon.proofs.tables.StringIdsItemList.encode_item.Goals.{After-offsets-offsets}
 

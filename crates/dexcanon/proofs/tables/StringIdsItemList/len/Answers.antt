@@ -1,7 +1,4 @@
-use Rattle.std.proofs.Common.{List, ℕ, length, ap, sym, ◌∙◌}
-use Rattle.std.proofs.lemmas.List.{length-map}
-use Rattle.dexspec.specs.Bytes.{uint}
-use Rattle.dexlayout.specs.Places.{ItemPlaces}
+use Rattle.dexcanon.proofs.Common.{List, ℕ, length, ap, sym, ◌∙◌, length-map, uint, ItemPlaces}
 use Rattle.dexcanon.proofs.tables.StringIdsItemList.len.Goals as goal
 
 pub returns : goal.returns

@@ -1,6 +1,4 @@
-use Rattle.std.proofs.Common.{◌<◌, [], length, sym, subst, arith}
-use Rattle.std.proofs.lemmas.List.{length-map}
-use Rattle.dexpool.proofs.UnionLaws.{ranks_are_numbers}
+use Rattle.dexcanon.proofs.Common.{◌<◌, [], length, sym, subst, arith, length-map, ranks_are_numbers}
 use Rattle.dexcanon.proofs.SymbolRows.{type_row, type_row_at}
 use Rattle.dexcanon.proofs.WholeBody.{texts_few}
 use Rattle.dexcanon.proofs.tables.TypeIdsItemList.encode_item.Goals as goal

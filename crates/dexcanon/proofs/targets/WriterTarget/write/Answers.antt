@@ -1,4 +1,4 @@
-use Rattle.std.proofs.Common.{refl}
+use Rattle.dexcanon.proofs.Common.{refl}
 use Rattle.dexcanon.proofs.Taken.{took_prefix}
 use Rattle.dexcanon.proofs.targets.WriterTarget.write.Goals as goal
 

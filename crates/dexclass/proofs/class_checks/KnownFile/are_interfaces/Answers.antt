@@ -1,5 +1,4 @@
-use Rattle.std.proofs.Common.{◌+◌, refl, sym, subst, arith}
-use Rattle.std.proofs.lemmas.Bool.{false≢true}
+use Rattle.dexclass.proofs.Common.{◌+◌, refl, sym, subst, arith, false≢true}
 use Rattle.dexclass.specs.internal.Rows.{IsInterfaceIndex}
 use Rattle.dexclass.proofs.Interfaces.{index_is, all_indices, index_of_all, interface_more}
 use Rattle.dexclass.proofs.class_checks.KnownFile.are_interfaces.Goals as goal

@@ -1,5 +1,4 @@
-use Rattle.std.specs.Prelude.{◌+◌, ◌*◌, ◌<◌, ℕ}
-use Rattle.dexspec.specs.Bytes.{ushort_at}
+use Rattle.dexclass.proofs.Common.{◌+◌, ◌*◌, ◌<◌, ℕ, ushort_at}
 use Rattle.dexclass.specs.internal.Rows.{AreDefinedMarks, IsInterfaceIndex}
 use Rattle.dexclass.proofs.class_checks.KnownFile.are_interfaces.Given as goal
 

@@ -1,5 +1,4 @@
-use Rattle.std.proofs.Common.{refl}
-use Rattle.std.proofs.lemmas.Bool.{false≢true}
+use Rattle.dexclass.proofs.Common.{refl, false≢true}
 use Rattle.dexclass.proofs.RowConditions.{class_of, parent_of, source_of, parent_before_of, interfaces_of, seen_not, has_class}
 use Rattle.dexclass.proofs.class_checks.KnownFile.holds.Goals as goal
 

@@ -1,4 +1,4 @@
-use Rattle.std.proofs.Common.{refl}
+use Rattle.dexclass.proofs.Common.{refl}
 use Rattle.dexclass.proofs.Indices.{interface_is}
 use Rattle.dexclass.proofs.class_checks.KnownFile.is_interface.Goals as goal
 

@@ -1,6 +1,6 @@
-use Rattle.std.proofs.Common.{subst}
+use Rattle.dexclass.proofs.Common.{subst}
 use Rattle.dexmembers.specs.Fitting.{NumbersFit}
-use Rattle.dexclass.specs.Numbered.{NumberedClass}
+use Rattle.dexclass.specs.{NumberedClass}
 use Rattle.dexclass.proofs.SameClasses.{members_mapped}
 use Rattle.dexclass.proofs.classes.Class.cut.Goals as goal
 

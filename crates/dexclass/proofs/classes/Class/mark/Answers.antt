@@ -1,12 +1,6 @@
-use Rattle.std.proofs.Common.{◌∷◌, [], ◌++◌, ℕ, List, map, option_to_list, ap, sym, ◌∙◌, subst}
-use Rattle.std.specs.List.{All}
-use Rattle.std.proofs.lemmas.List.Elements.{All-head}
-use Rattle.dexpool.specs.Uses.{HasMark, AreMarkedToo}
-use Rattle.dexmembers.specs.Uses.{members_uses}
-use Rattle.dexclass.specs.Uses.{type_use, text_use, class_uses}
+use Rattle.dexclass.proofs.Common.{◌∷◌, [], ◌++◌, ℕ, List, map, option_to_list, ap, sym, ◌∙◌, subst, All, All-head, HasMark, AreMarkedToo, members_uses, marked_both, all_prefix}
+use Rattle.dexclass.specs.{type_use, text_use, class_uses}
 use Rattle.dexclass.proofs.Marked.{rest_marked}
-use Rattle.dexpool.proofs.Visits.{marked_both}
-use Rattle.dexpool.proofs.Parts.{all_prefix}
 use Rattle.dexclass.proofs.OwnUses.{parts_are}
 use Rattle.dexclass.proofs.classes.Class.mark.Goals as goal
 

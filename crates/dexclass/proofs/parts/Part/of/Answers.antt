@@ -1,5 +1,5 @@
-use Rattle.std.proofs.Common.{sym, subst, ◌∙◌}
-use Rattle.dexclass.specs.Programs.{AreClassesOf}
+use Rattle.dexclass.proofs.Common.{sym, subst, ◌∙◌}
+use Rattle.dexclass.specs.{AreClassesOf}
 use Rattle.dexclass.proofs.PartsOf.{program_mergeable}
 use Rattle.dexclass.proofs.parts.Part.of.Goals as goal
 

@@ -1,9 +1,5 @@
-use Rattle.std.proofs.Common.{◌≤◌, ◌++◌, List, All, length, map, sym, ap, subst, ◌∙◌, arith}
-use Rattle.std.specs.List.{flat_map}
-use Rattle.std.proofs.lemmas.List.{length-map, length-take}
-use Rattle.std.proofs.lemmas.List.Elements.{All-nil, All-push}
-use Rattle.dexspec.specs.Classes.{Definition}
-use Rattle.dexclass.specs.Numbered.{definition_of}
+use Rattle.dexclass.proofs.Common.{◌≤◌, ◌++◌, List, All, length, map, sym, ap, subst, ◌∙◌, arith, flat_map, length-map, length-take, All-nil, All-push, Definition}
+use Rattle.dexclass.specs.{definition_of}
 use Rattle.dexclass.specs.internal.Parts.{AreGoodClasses}
 use Rattle.dexclass.proofs.PartsOf.{all_good, prefix_good, back_good, one_more_part}
 use Rattle.dexclass.proofs.parts.Part.split.Goals as goal

@@ -1,7 +1,5 @@
-use Rattle.std.specs.Prelude.{◌≡◌, ◌≤◌, ◌++◌, List, length, map, All, vec_len}
-use Rattle.std.specs.List.{flat_map}
-use Rattle.dexspec.specs.Classes.{Definition}
-use Rattle.dexclass.specs.Numbered.{definition_of}
+use Rattle.dexclass.proofs.Common.{◌≡◌, ◌≤◌, ◌++◌, List, length, map, All, vec_len, flat_map, Definition}
+use Rattle.dexclass.specs.{definition_of}
 use Rattle.dexclass.specs.internal.Parts.{AreGoodClasses}
 use Rattle.dexclass.proofs.parts.Part.split.Given as goal
 

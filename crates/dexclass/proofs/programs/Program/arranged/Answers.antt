@@ -1,6 +1,5 @@
-use Rattle.std.proofs.Common.{◌∙◌}
-use Rattle.std.proofs.lemmas.List.{length-map}
-use Rattle.dexclass.specs.Numbered.{definition_of}
+use Rattle.dexclass.proofs.Common.{◌∙◌, length-map}
+use Rattle.dexclass.specs.{definition_of}
 use Rattle.dexclass.proofs.ProgramsOf.{named, collection_is, program_is}
 use Rattle.dexclass.proofs.programs.Program.arranged.Goals as goal
 

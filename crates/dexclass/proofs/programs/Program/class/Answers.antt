@@ -1,6 +1,5 @@
-use Rattle.std.proofs.Common.{arith, subst, sym}
-use Rattle.dexspec.specs.Files.{Collection}
-use Rattle.dexclass.specs.Programs.{AreClassesOf}
+use Rattle.dexclass.proofs.Common.{arith, subst, sym, Collection}
+use Rattle.dexclass.specs.{AreClassesOf}
 use Rattle.dexclass.proofs.ProgramClasses.{classes_count, class_is_at}
 use Rattle.dexclass.proofs.programs.Program.class.Goals as goal
 

@@ -1,6 +1,4 @@
-use Rattle.std.proofs.Common.{subst}
-use Rattle.dexspec.specs.Files.{Collection, definitions}
-use Rattle.dexspec.specs.WellFormed.{AreWellFormed}
+use Rattle.dexclass.proofs.Common.{subst, Collection, definitions, AreWellFormed}
 use Rattle.dexclass.proofs.programs.Program.is_good.Goals as goal
 
 pub returns-clause-formed : goal.returns-clause-formed

@@ -1,6 +1,5 @@
-use Rattle.std.proofs.Common.{arith, subst}
-use Rattle.dexspec.specs.Files.{Collection}
-use Rattle.dexclass.specs.Programs.{AreClassesOf}
+use Rattle.dexclass.proofs.Common.{arith, subst, Collection}
+use Rattle.dexclass.specs.{AreClassesOf}
 use Rattle.dexclass.proofs.ProgramClasses.{classes_count}
 use Rattle.dexclass.proofs.programs.Program.len.Goals as goal
 

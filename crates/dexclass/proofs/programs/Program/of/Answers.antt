@@ -1,6 +1,5 @@
-use Rattle.std.proofs.Common.{◌≡◌, ◌-◌, ◌^◌, List, map, min, subst, arith}
-use Rattle.dexspec.specs.Weight.{weight}
-use Rattle.dexclass.specs.Numbered.{NumberedClass, definition_of}
+use Rattle.dexclass.proofs.Common.{◌≡◌, ◌-◌, ◌^◌, List, map, min, subst, arith, weight}
+use Rattle.dexclass.specs.{NumberedClass, definition_of}
 use Rattle.dexclass.proofs.ProgramsOf.{weight_bound}
 use Rattle.dexclass.proofs.programs.Program.of.Goals as goal
 

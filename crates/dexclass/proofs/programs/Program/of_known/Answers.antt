@@ -1,8 +1,5 @@
-use Rattle.std.proofs.Common.{◌≡◌, ◌<◌, ◌-◌, ◌^◌, ◌∙◌, List, Option, None, ℕ, length, map, min, sym, ap, subst, arith}
-use Rattle.std.specs.Prelude.{All, slice_index_or}
-use Rattle.dexspec.specs.Weight.{weight}
-use Rattle.dexorder.specs.Definitions.{AreDepthsOf}
-use Rattle.dexclass.specs.Numbered.{NumberedClass, definition_of}
+use Rattle.dexclass.proofs.Common.{◌≡◌, ◌<◌, ◌-◌, ◌^◌, ◌∙◌, List, Option, None, ℕ, length, map, min, sym, ap, subst, arith, All, slice_index_or, weight, AreDepthsOf}
+use Rattle.dexclass.specs.{NumberedClass, definition_of}
 use Rattle.dexclass.proofs.Ordered.{known_are, known_within}
 use Rattle.dexclass.proofs.ProgramsOf.{named, weight_bound}
 use Rattle.dexclass.proofs.programs.Program.of_known.Goals as goal

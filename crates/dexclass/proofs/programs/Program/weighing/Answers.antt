@@ -1,8 +1,5 @@
-use Rattle.std.proofs.Common.{List, map, sym, subst}
-use Rattle.dexorder.specs.Definitions.{AreDepthsOf}
-use Rattle.dexspec.specs.Depth.{IsAcyclic}
-use Rattle.dexclass.specs.Numbered.{NumberedClass, definition_of}
-use Rattle.dexclass.specs.Parents.{AreNamed}
+use Rattle.dexclass.proofs.Common.{List, map, sym, subst, AreDepthsOf, IsAcyclic}
+use Rattle.dexclass.specs.{NumberedClass, definition_of, AreNamed}
 use Rattle.dexclass.proofs.ProgramsOf.{named}
 use Rattle.dexclass.proofs.programs.Program.weighing.Goals as goal
 

@@ -1,8 +1,5 @@
-use Rattle.std.proofs.Common.{Some, ap, sym, subst, ◌∙◌}
-use Rattle.std.specs.List.{All}
-use Rattle.std.specs.Option.{option_map}
-use Rattle.dexdebug.specs.Debug.{HasPlace}
-use Rattle.dexcode.specs.Renumbering.{tries_uses, HasTypePlace}
+use Rattle.dexcode.proofs.Common.{Some, ap, sym, subst, ◌∙◌, All, option_map, HasPlace}
+use Rattle.dexcode.specs.{tries_uses, HasTypePlace}
 use Rattle.dexcode.specs.internal.Extras.{tries_of, debug_of}
 use Rattle.dexcode.proofs.CodeUses.{debug_part, optional_debug_uses}
 use Rattle.dexcode.proofs.code.Code.renumber.Goals as goal

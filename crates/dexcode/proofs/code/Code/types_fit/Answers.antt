@@ -1,7 +1,5 @@
-use Rattle.std.proofs.Common.{All, ap, subst, ◌∙◌}
-use Rattle.std.specs.Prelude.{◌↔◌, IsTrue}
-use Rattle.dexcode.specs.Numbered.{handlers_of}
-use Rattle.dexcode.specs.CodePut.{HasShortTypes}
+use Rattle.dexcode.proofs.Common.{All, ap, subst, ◌∙◌, ◌↔◌, IsTrue}
+use Rattle.dexcode.specs.{handlers_of, HasShortTypes}
 use Rattle.dexcode.proofs.code.Code.types_fit.Goals as goal
 
 pub returns : goal.returns

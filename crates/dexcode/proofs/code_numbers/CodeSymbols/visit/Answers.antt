@@ -1,7 +1,5 @@
-use Rattle.std.proofs.Common.{subst}
-use Rattle.std.specs.List.{FoldsTo}
-use Rattle.dexinsn.specs.Numbered.{uses_of}
-use Rattle.dexcode.specs.Renumbering.{tries_uses}
+use Rattle.dexcode.proofs.Common.{subst, FoldsTo, uses_of}
+use Rattle.dexcode.specs.{tries_uses}
 use Rattle.dexcode.proofs.CodeUses.{visited_with_debug, visited_without_debug}
 use Rattle.dexcode.proofs.code_numbers.CodeSymbols.visit.Goals as goal
 

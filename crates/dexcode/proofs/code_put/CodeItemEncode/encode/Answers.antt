@@ -1,7 +1,5 @@
-use Rattle.std.proofs.Common.{subst, sym}
-use Rattle.std.specs.List.{All}
-use Rattle.dexcode.specs.Numbered.{handlers_of}
-use Rattle.dexcode.specs.CodePut.{HasShortTypes, numbered_item_bytes}
+use Rattle.dexcode.proofs.Common.{subst, sym, All}
+use Rattle.dexcode.specs.{handlers_of, HasShortTypes, numbered_item_bytes}
 use Rattle.dexcode.proofs.code_put.CodeItemEncode.encode.Goals as goal
 
 pub encode_item-requires : goal.encode_item-requires

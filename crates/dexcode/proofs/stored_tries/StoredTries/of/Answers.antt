@@ -1,12 +1,6 @@
-use Rattle.std.proofs.Common.{◌≡◌, ◌∷◌, [], ◌++◌, ◌+◌, ◌*◌, ◌<◌, ◌≤◌, ℕ, length, get_or, take, refl, sym, ap, subst, ◌∙◌, arith, rules}
-use Rattle.std.proofs.lemmas.Grind.{common_steps}
-use Rattle.std.specs.List.{All}
-use Rattle.std.proofs.lemmas.List.{length-map, take_all}
-use Rattle.std.proofs.lemmas.List.Elements.{All-get_or}
-use Rattle.dexspec.specs.Bytes.{ushort_at}
-use Rattle.dexspec.specs.Code.{most_handlers}
+use Rattle.dexcode.proofs.Common.{◌≡◌, ◌∷◌, [], ◌++◌, ◌+◌, ◌*◌, ◌<◌, ◌≤◌, ℕ, length, get_or, take, refl, sym, ap, subst, ◌∙◌, arith, rules, common_steps, All, length-map, take_all, All-get_or, ushort_at, most_handlers}
 use Rattle.dexcode.specs.declared.tries.Try.{Try}
-use Rattle.dexcode.specs.Numbered.{IsFormedHandler, no_handler, named, all_named, handlers_of, handlers_weight}
+use Rattle.dexcode.specs.{IsFormedHandler, no_handler, named, all_named, handlers_of, handlers_weight}
 use Rattle.dexcode.specs.internal.NamedHandlers.{IsHandlerAt}
 use Rattle.dexcode.proofs.Named.{names_more, none_named}
 use Rattle.dexcode.proofs.TryTables.{begins_within}

@@ -1,8 +1,5 @@
-use Rattle.std.proofs.Common.{map, sym, ◌∙◌, ap, subst}
-use Rattle.std.specs.List.{All, flat_map}
-use Rattle.dexcode.specs.Numbered.{AreStored, handlers_of, all_named}
-use Rattle.dexcode.specs.Renumbering.{handler_uses, tries_uses, HasTypePlace, renumbered_try}
-use Rattle.dexpool.proofs.Parts.{all_parts}
+use Rattle.dexcode.proofs.Common.{map, sym, ◌∙◌, ap, subst, All, flat_map, all_parts}
+use Rattle.dexcode.specs.{AreStored, handlers_of, all_named, handler_uses, tries_uses, HasTypePlace, renumbered_try}
 use Rattle.dexcode.proofs.TypesRemapped.{types_apart, stored_remapped, named_remapped}
 use Rattle.dexcode.proofs.stored_tries.StoredTries.renumber.Goals as goal
 

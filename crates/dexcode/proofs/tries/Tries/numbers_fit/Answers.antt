@@ -1,6 +1,5 @@
-use Rattle.std.proofs.Common.{◌<◌, ◌^◌, subst}
-use Rattle.std.specs.List.{All}
-use Rattle.dexcode.specs.Renumbering.{tries_uses}
+use Rattle.dexcode.proofs.Common.{◌<◌, ◌^◌, subst, All}
+use Rattle.dexcode.specs.{tries_uses}
 use Rattle.dexcode.proofs.CodePlaces.{stored_small}
 use Rattle.dexcode.proofs.tries.Tries.numbers_fit.Goals as goal
 

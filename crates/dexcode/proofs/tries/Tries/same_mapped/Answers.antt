@@ -1,5 +1,5 @@
-use Rattle.std.proofs.Common.{◌≡◌, map, sym, ap, ◌∙◌}
-use Rattle.dexcode.specs.Renumbering.{remapped_try, renumbered_try}
+use Rattle.dexcode.proofs.Common.{◌≡◌, map, sym, ap, ◌∙◌}
+use Rattle.dexcode.specs.{remapped_try, renumbered_try}
 use Rattle.dexcode.proofs.TypesRemapped.{all_remapped}
 use Rattle.dexcode.proofs.tries.Tries.same_mapped.Goals as goal
 

@@ -1,6 +1,5 @@
-use Rattle.std.proofs.Common.{sym, subst}
-use Rattle.std.specs.List.{All}
-use Rattle.dexcode.specs.Renumbering.{catch_use, handler_uses, HasTypePlace}
+use Rattle.dexcode.proofs.Common.{sym, subst, All}
+use Rattle.dexcode.specs.{catch_use, handler_uses, HasTypePlace}
 use Rattle.dexcode.proofs.Images.{all_back_map}
 use Rattle.dexcode.proofs.tries_numbers.HandlerRenumber.renumber.Goals as goal
 

@@ -1,7 +1,5 @@
-use Rattle.std.proofs.Common.{◌∷◌, [], subst}
-use Rattle.std.specs.List.{FoldsTo, flat_map}
-use Rattle.dexcode.specs.Renumbering.{catch_use, handler_uses}
-use Rattle.dexpool.proofs.Visits.{one_each}
+use Rattle.dexcode.proofs.Common.{◌∷◌, [], subst, FoldsTo, flat_map, one_each}
+use Rattle.dexcode.specs.{catch_use, handler_uses}
 use Rattle.dexcode.proofs.tries_numbers.HandlerSymbols.visit.Goals as goal
 
 pub returns : goal.returns

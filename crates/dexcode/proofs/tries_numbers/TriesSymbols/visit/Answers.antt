@@ -1,7 +1,5 @@
-use Rattle.std.proofs.Common.{ap, subst, ◌∙◌}
-use Rattle.std.specs.List.{FoldsTo, flat_map}
-use Rattle.dexcode.specs.Numbered.{handlers_of}
-use Rattle.dexcode.specs.Renumbering.{handler_uses}
+use Rattle.dexcode.proofs.Common.{ap, subst, ◌∙◌, FoldsTo, flat_map}
+use Rattle.dexcode.specs.{handlers_of, handler_uses}
 use Rattle.dexcode.proofs.tries_numbers.TriesSymbols.visit.Goals as goal
 
 pub returns : goal.returns

@@ -1,10 +1,5 @@
-use Rattle.std.proofs.Common.{◌≡◌, ◌∷◌, [], ◌++◌, sym, subst, arith, ◌+◌}
-use Rattle.std.proofs.lemmas.Grind.{common_steps}
-use Rattle.std.proofs.lemmas.List.{length-append}
-use Rattle.dexspec.specs.Lists.{Sequence}
-use Rattle.dexspec.proofs.lists.Sequences.{one_sequence}
-use Rattle.dexcode.specs.Reading.{CatchAt}
-use Rattle.dexdebug.proofs.DebugRuns.{one_after}
+use Rattle.dexcode.proofs.Common.{◌≡◌, ◌∷◌, [], ◌++◌, sym, subst, arith, ◌+◌, common_steps, length-append, Sequence, one_sequence, one_after}
+use Rattle.dexcode.specs.{CatchAt}
 use Rattle.dexcode.proofs.Prefixes.{stuck}
 use Rattle.dexcode.proofs.OneHandler.{one_catch}
 use Rattle.dexcode.proofs.HandlersRead.{there_is}

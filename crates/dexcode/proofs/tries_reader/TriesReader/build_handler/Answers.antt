@@ -1,8 +1,6 @@
-use Rattle.std.proofs.Common.{◌+◌, ap, sym, subst, ◌∙◌, refl, w32}
-use Rattle.std.specs.Prelude.{nat_abs}
+use Rattle.dexcode.proofs.Common.{◌+◌, ap, sym, subst, ◌∙◌, refl, w32, nat_abs, to_z-of_z}
 use Rattle.std.specs.Result.{IsOk}
-use Rattle.std.proofs.lemmas.Int.{to_z-of_z}
-use Rattle.dexcode.specs.Reading.{CatchAllAt}
+use Rattle.dexcode.specs.{CatchAllAt}
 use Rattle.dexcode.proofs.HandlersRead.{there_is, its_catches, its_catch_all}
 use Rattle.dexcode.proofs.OneHandler.{one_catch_all}
 use Rattle.dexcode.proofs.tries_reader.TriesReader.build_handler.Goals as goal

@@ -1,5 +1,5 @@
-use Rattle.std.proofs.Common.{arith}
-use Rattle.dexcode.specs.Reading.{CatchAt}
+use Rattle.dexcode.proofs.Common.{arith}
+use Rattle.dexcode.specs.{CatchAt}
 use Rattle.dexcode.proofs.Prefixes.{stuck}
 use Rattle.dexcode.proofs.OneHandler.{one_catch}
 use Rattle.dexcode.proofs.HandlersRead.{one_catch_more}

@@ -1,7 +1,5 @@
-use Rattle.std.proofs.Common.{◌+◌, ap, sym, subst, ◌∙◌, refl, arith, w32}
-use Rattle.std.specs.Prelude.{nat_abs}
-use Rattle.std.proofs.lemmas.Int.{to_z-of_z}
-use Rattle.dexcode.specs.Reading.{CatchAllAt}
+use Rattle.dexcode.proofs.Common.{◌+◌, ap, sym, subst, ◌∙◌, refl, arith, w32, nat_abs, to_z-of_z}
+use Rattle.dexcode.specs.{CatchAllAt}
 use Rattle.dexcode.proofs.HandlersRead.{no_catches, no_catch_all}
 use Rattle.dexcode.proofs.tries_reader.TriesReader.handler_len.Goals as goal
 

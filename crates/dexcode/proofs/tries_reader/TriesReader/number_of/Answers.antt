@@ -1,10 +1,7 @@
-use Rattle.std.proofs.Common.{◌≡◌, ◌+◌, ◌<◌, length, get_or, sym, ap, subst, ◌∙◌, arith}
+use Rattle.dexcode.proofs.Common.{◌≡◌, ◌+◌, ◌<◌, length, get_or, sym, ap, subst, ◌∙◌, arith, insert_key, insert_grows}
 use Rattle.std.proofs.lemmas.Option.{get_or_from_slice_get}
-use Rattle.indexmap.specs.IndexSet.{insert_key}
-use Rattle.dexcode.specs.Numbered.{same_handler, no_handler}
-use Rattle.dexcode.specs.Equality.{handler_decides}
+use Rattle.dexcode.specs.{same_handler, no_handler, handler_decides}
 use Rattle.dexcode.specs.internal.NamedHandlers.{IsHandlerAt}
-use Rattle.dexspec.proofs.lists.Distinct.{insert_grows}
 use Rattle.dexcode.proofs.Named.{insert_there, known_more}
 use Rattle.dexcode.proofs.tries_reader.TriesReader.number_of.Goals as goal
 

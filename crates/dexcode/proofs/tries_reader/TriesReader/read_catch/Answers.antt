@@ -1,4 +1,4 @@
-use Rattle.std.proofs.Common.{refl, arith}
+use Rattle.dexcode.proofs.Common.{refl, arith}
 use Rattle.dexcode.proofs.HandlersRead.{no_type, no_address}
 use Rattle.dexcode.proofs.tries_reader.TriesReader.read_catch.Goals as goal
 

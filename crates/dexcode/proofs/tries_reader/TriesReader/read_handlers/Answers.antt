@@ -1,5 +1,5 @@
-use Rattle.std.proofs.Common.{◌∷◌, [], ◌++◌, ◌+◌, ◌-◌, refl, rules, arith}
-use Rattle.dexcode.specs.Reading.{HandlerAt, IsNumberPut}
+use Rattle.dexcode.proofs.Common.{◌∷◌, [], ◌++◌, ◌+◌, ◌-◌, refl, rules, arith}
+use Rattle.dexcode.specs.{HandlerAt, IsNumberPut}
 use Rattle.dexcode.proofs.Prefixes.{stuck}
 use Rattle.dexcode.proofs.OneHandler.{one_handler}
 use Rattle.dexcode.proofs.Listed.{one_handler_more}

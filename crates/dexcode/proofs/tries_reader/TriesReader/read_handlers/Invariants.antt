@@ -1,6 +1,5 @@
-use Rattle.std.proofs.Common.{List}
-use Rattle.dexcode.specs.Numbered.{NumberedHandler}
-use Rattle.dexcode.specs.Reading.{HandlersRead}
+use Rattle.dexcode.proofs.Common.{List}
+use Rattle.dexcode.specs.{NumberedHandler, HandlersRead}
 use Rattle.dexcode.proofs.tries_reader.TriesReader.read_handlers.Given as goal
 
 abbrev pub invariant-loop-number : goal.invariant-loop-number

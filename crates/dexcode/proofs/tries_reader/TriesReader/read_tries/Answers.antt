@@ -1,6 +1,4 @@
-use Rattle.std.proofs.Common.{◌≡◌, ◌%◌, arith}
-use Rattle.std.proofs.lemmas.Grind.{common_steps}
-use Rattle.std.proofs.lemmas.Result.{err_from_is_err_and}
+use Rattle.dexcode.proofs.Common.{◌≡◌, ◌%◌, arith, common_steps, err_from_is_err_and}
 use Rattle.dexcode.proofs.CodesRead.{even_none, odd_none}
 use Rattle.dexcode.proofs.HandlersRead.{fault_so}
 use Rattle.dexcode.proofs.tries_reader.TriesReader.read_tries.Goals as goal

@@ -1,9 +1,5 @@
-use Rattle.std.proofs.Common.{◌≡◌, ◌∷◌, [], ◌++◌, ◌+◌, ◌*◌, refl, sym, subst, arith}
-use Rattle.std.proofs.lemmas.Grind.{common_steps}
-use Rattle.std.proofs.lemmas.List.{length-append}
-use Rattle.dexspec.specs.Lists.{Sequence}
-use Rattle.dexcode.specs.Reading.{ListedTryAt}
-use Rattle.dexdebug.proofs.DebugRuns.{one_after}
+use Rattle.dexcode.proofs.Common.{◌≡◌, ◌∷◌, [], ◌++◌, ◌+◌, ◌*◌, refl, sym, subst, arith, common_steps, length-append, Sequence, one_after}
+use Rattle.dexcode.specs.{ListedTryAt}
 use Rattle.dexcode.proofs.Prefixes.{stuck}
 use Rattle.dexcode.proofs.TriesListed.{one_listed_try, apart_more, overlap}
 use Rattle.dexcode.proofs.tries_reader.TriesReader.read_try_items.Goals as goal

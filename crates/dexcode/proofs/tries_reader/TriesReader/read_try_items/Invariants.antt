@@ -1,5 +1,5 @@
-use Rattle.std.proofs.Common.{◌≡◌, ◌+◌, ◌*◌, ◌≤◌}
-use Rattle.dexcode.specs.Reading.{TriesRead}
+use Rattle.dexcode.proofs.Common.{◌≡◌, ◌+◌, ◌*◌, ◌≤◌}
+use Rattle.dexcode.specs.{TriesRead}
 use Rattle.dexcode.proofs.tries_reader.TriesReader.read_try_items.Given as goal
 
 abbrev pub invariant-loop : goal.invariant-loop

@@ -1,9 +1,6 @@
-use Rattle.std.proofs.Common.{◌≡◌, ◌+◌, ◌*◌, ◌<◌, ◌≤◌, refl, sym, subst, ◌∙◌, arith}
-use Rattle.std.proofs.lemmas.Result.{err_from_is_err_and}
-use Rattle.dexspec.specs.Code.{most_handlers}
-use Rattle.dexcode.specs.Numbered.{all_named, handlers_of, handlers_weight}
+use Rattle.dexcode.proofs.Common.{◌≡◌, ◌+◌, ◌*◌, ◌<◌, ◌≤◌, refl, sym, subst, ◌∙◌, arith, err_from_is_err_and, most_handlers}
+use Rattle.dexcode.specs.{all_named, handlers_of, handlers_weight, TriesRead, TryItemsAt, IsTriesFault}
 use Rattle.dexcode.specs.internal.NamedHandlers.{HasList}
-use Rattle.dexcode.specs.Reading.{TriesRead, TryItemsAt, IsTriesFault}
 use Rattle.dexcode.proofs.HandlersRead.{fault_so}
 use Rattle.dexcode.proofs.TryTables.{found_tries, found_listed, no_tries, too_heavy}
 use Rattle.dexcode.proofs.tries_reader.TriesReader.read_try_table.Goals as goal

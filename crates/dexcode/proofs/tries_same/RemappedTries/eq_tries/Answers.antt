@@ -1,6 +1,5 @@
-use Rattle.std.proofs.Common.{◌<◌, length, arith}
-use Rattle.dexcode.specs.Renumbering.{remapped_try}
-use Rattle.dexdebug.proofs.DebugSame.{same_at}
+use Rattle.dexcode.proofs.Common.{◌<◌, length, arith, same_at}
+use Rattle.dexcode.specs.{remapped_try}
 use Rattle.dexcode.proofs.tries_same.RemappedTries.eq_tries.Goals as goal
 
 pub returns-then-not-eq_try : goal.returns-then-not-eq_try

@@ -1,7 +1,5 @@
-use Rattle.std.proofs.Common.{ℕ, length, ap, sym, ◌∙◌, subst, arith}
-use Rattle.std.specs.List.{All, flat_map}
-use Rattle.dexspec.specs.Numbers.{uleb128, uleb128p1}
-use Rattle.dexdebug.specs.Debug.{FitsIndex, IsFormedOperation, numbered_operation_bytes}
+use Rattle.dexdebug.proofs.Common.{ℕ, length, ap, sym, ◌∙◌, subst, arith, All, flat_map, uleb128, uleb128p1}
+use Rattle.dexdebug.specs.{FitsIndex, IsFormedOperation, numbered_operation_bytes}
 use Rattle.dexdebug.proofs.DebugMeanings.{bytes_most}
 use Rattle.dexdebug.proofs.Encoded.{debug_given}
 use Rattle.dexdebug.proofs.StoredOperations.{names_many}

@@ -1,4 +1,4 @@
-use Rattle.std.proofs.Common.{◌^◌, ◌<◌, length, ap, ◌∙◌, arith}
+use Rattle.dexdebug.proofs.Common.{◌^◌, ◌<◌, length, ap, ◌∙◌, arith}
 use Rattle.dexdebug.proofs.debug.Debug.item_len.Goals as goal
 
 pub returns-clause-numbered : goal.returns-clause-numbered

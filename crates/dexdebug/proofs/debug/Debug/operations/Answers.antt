@@ -1,5 +1,5 @@
-use Rattle.std.proofs.Common.{ap, sym, subst, ◌∙◌, drop}
-use Rattle.dexdebug.specs.Operations.{AreStored, operations_in}
+use Rattle.dexdebug.proofs.Common.{ap, sym, subst, ◌∙◌, drop}
+use Rattle.dexdebug.specs.{AreStored, operations_in}
 use Rattle.dexdebug.proofs.StoredOperations.{names_enough, operations_stored}
 use Rattle.dexdebug.proofs.debug.Debug.operations.Goals as goal
 

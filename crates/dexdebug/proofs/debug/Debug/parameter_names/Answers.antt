@@ -1,5 +1,5 @@
-use Rattle.std.proofs.Common.{ap, ◌∙◌, take}
-use Rattle.dexdebug.specs.Operations.{numbers_in}
+use Rattle.dexdebug.proofs.Common.{ap, ◌∙◌, take}
+use Rattle.dexdebug.specs.{numbers_in}
 use Rattle.dexdebug.proofs.StoredOperations.{names_enough}
 use Rattle.dexdebug.proofs.debug.Debug.parameter_names.Goals as goal
 

@@ -1,9 +1,6 @@
-use Rattle.std.proofs.Common.{subst, sym, ◌∙◌, ap}
-use Rattle.std.specs.List.{All}
-use Rattle.dexpool.proofs.Parts.{all_parts}
-use Rattle.dexdebug.specs.Debug.{HasPlace, IsFormedDebug, number_uses, debug_uses, renumbered_debug}
+use Rattle.dexdebug.proofs.Common.{subst, sym, ◌∙◌, ap, All, all_parts}
+use Rattle.dexdebug.specs.{HasPlace, IsFormedDebug, number_uses, debug_uses, renumbered_debug, stored_debug}
 use Rattle.dexdebug.specs.declared.indices.Index.{Index}
-use Rattle.dexdebug.specs.Operations.{stored_debug}
 use Rattle.dexdebug.proofs.DebugUses.{debug_formed}
 use Rattle.dexdebug.proofs.StoredOperations.{renumbered_stored, renumbered_view, stored_uses}
 use Rattle.dexdebug.proofs.debug.Debug.renumber.Goals as goal

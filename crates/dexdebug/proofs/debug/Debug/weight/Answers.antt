@@ -1,5 +1,5 @@
-use Rattle.std.proofs.Common.{ap, length, sum_by, arith}
-use Rattle.dexdebug.specs.Debug.{operation_weight}
+use Rattle.dexdebug.proofs.Common.{ap, length, sum_by, arith}
+use Rattle.dexdebug.specs.{operation_weight}
 use Rattle.dexdebug.proofs.DebugWeights.{weight_is}
 use Rattle.dexdebug.proofs.StoredOperations.{names_many}
 use Rattle.dexdebug.proofs.debug.Debug.weight.Goals as goal

@@ -1,7 +1,5 @@
-use Rattle.std.proofs.Common.{◌≡◌, ℕ, ◌∷◌, length, ap, sym, ◌∙◌}
+use Rattle.dexdebug.proofs.Common.{◌≡◌, ℕ, ◌∷◌, length, ap, sym, ◌∙◌, flat_map, fold, fold-append}
 use Rattle.std.specs.Hash as fed
-use Rattle.std.specs.List.{flat_map, fold}
-use Rattle.std.proofs.lemmas.List.Sums.{fold-append}
 use Rattle.dexdebug.specs.contracts.debug_operation.OperationHash.TheImpl.{hash_input-value}
 use Rattle.dexdebug.proofs.StoredOperations.{names_many, operations_many}
 use Rattle.dexdebug.proofs.debug_equality.DebugHash.hash.Goals as goal

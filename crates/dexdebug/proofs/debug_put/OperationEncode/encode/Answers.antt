@@ -1,6 +1,5 @@
-use Rattle.std.proofs.Common.{◌∷◌, [], ◌++◌, subst, sym}
-use Rattle.dexspec.specs.Numbers.{uleb128, uleb128p1}
-use Rattle.dexdebug.specs.Debug.{numbered_operation_bytes}
+use Rattle.dexdebug.proofs.Common.{◌∷◌, [], ◌++◌, subst, sym, uleb128, uleb128p1}
+use Rattle.dexdebug.specs.{numbered_operation_bytes}
 use Rattle.dexdebug.proofs.Encoded.{regrouped}
 use Rattle.dexdebug.proofs.debug_put.OperationEncode.encode.Goals as goal
 

@@ -1,7 +1,5 @@
-use Rattle.std.proofs.Common.{◌≡◌, ◌+◌, ◌-◌, ◌∷◌, length, drop, ap, sym, subst, ◌∙◌, arith}
-use Rattle.dexdebug.specs.Operations.{AreStored, operations_in, number_in}
-use Rattle.dexdebug.specs.Debug.{with_numbers}
-use Rattle.dexdebug.specs.DebugReading.{indices_of}
+use Rattle.dexdebug.proofs.Common.{◌≡◌, ◌+◌, ◌-◌, ◌∷◌, length, drop, ap, sym, subst, ◌∙◌, arith}
+use Rattle.dexdebug.specs.{AreStored, operations_in, number_in, with_numbers, indices_of}
 use Rattle.dexdebug.proofs.StoredOperations.{first_stored, special_follows, stored_code, stored_within, without_places}
 use Rattle.dexdebug.proofs.operations.OperationIterIterator.next.Goals as goal
 

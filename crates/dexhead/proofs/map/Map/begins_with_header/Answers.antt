@@ -1,4 +1,4 @@
-use Rattle.std.proofs.Common.{arith}
+use Rattle.dexhead.proofs.Common.{arith}
 use Rattle.dexhead.specs.internal.Found.{entries}
 use Rattle.dexhead.proofs.Entries.{length-entries, never, begins_first}
 use Rattle.dexhead.proofs.map.Map.begins_with_header.Goals as goal

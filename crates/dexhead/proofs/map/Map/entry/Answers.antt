@@ -1,4 +1,4 @@
-use Rattle.std.proofs.Common.{◌∙◌, sym}
+use Rattle.dexhead.proofs.Common.{◌∙◌, sym}
 use Rattle.dexhead.proofs.Entries.{entry_of-entries, entry_is}
 use Rattle.dexhead.proofs.map.Map.entry.Goals as goal
 

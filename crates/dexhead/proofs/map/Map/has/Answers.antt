@@ -1,7 +1,4 @@
-use Rattle.std.proofs.Common.{◌≢◌, arith, refl, subst, sym, ◌∙◌, All}
-use Rattle.std.proofs.lemmas.List.{take_all}
-use Rattle.std.proofs.lemmas.List.Elements.{All-more}
-use Rattle.dexspec.specs.Sections.{MapEntry}
+use Rattle.dexhead.proofs.Common.{◌≢◌, arith, refl, subst, sym, ◌∙◌, All, take_all, All-more, MapEntry}
 use Rattle.dexhead.specs.internal.Found.{entries}
 use Rattle.dexhead.specs.internal.Map.{read}
 use Rattle.dexhead.proofs.Entries.{length-entries, never, found, not_found}

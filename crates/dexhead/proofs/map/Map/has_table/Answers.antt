@@ -1,6 +1,6 @@
-use Rattle.std.proofs.Common.{sym, ◌∙◌}
+use Rattle.dexhead.proofs.Common.{sym, ◌∙◌}
 use Rattle.dexhead.specs.internal.Found.{entries}
-use Rattle.dexhead.specs.Tables.{meant}
+use Rattle.dexhead.specs.{meant}
 use Rattle.dexhead.proofs.Entries.{length-entries, empty_table}
 use Rattle.dexhead.proofs.map.Map.has_table.Goals as goal
 

@@ -1,4 +1,4 @@
-use Rattle.std.proofs.Common.{take}
+use Rattle.dexhead.proofs.Common.{take}
 use Rattle.dexhead.specs.internal.Map.{AreInOrder}
 use Rattle.dexhead.specs.internal.Found.{entries}
 use Rattle.dexhead.proofs.map.Map.is_in_order.Given as goal

@@ -1,6 +1,4 @@
-use Rattle.std.proofs.Common.{◌≡◌, ◌≢◌, rules, arith, subst, sym, ap, ◌∙◌}
-use Rattle.std.proofs.lemmas.List.Elements.{All-more}
-use Rattle.dexspec.specs.Sections.{MapEntry}
+use Rattle.dexhead.proofs.Common.{◌≡◌, ◌≢◌, rules, arith, subst, sym, ap, ◌∙◌, All-more, MapEntry}
 use Rattle.dexhead.specs.internal.Found.{entries}
 use Rattle.dexhead.proofs.Entries.{length-entries, never, kind_lacks}
 use Rattle.dexhead.proofs.map.Map.lacks.Goals as goal

@@ -1,4 +1,4 @@
-use Rattle.std.proofs.Common.{◌≢◌, take, All}
+use Rattle.dexhead.proofs.Common.{◌≢◌, take, All}
 use Rattle.dexhead.specs.internal.Found.{entries}
 use Rattle.dexhead.proofs.map.Map.lacks.Given as goal
 

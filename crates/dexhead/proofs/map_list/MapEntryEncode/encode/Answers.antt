@@ -1,5 +1,4 @@
-use Rattle.std.proofs.Common.{ℕ, ◌++◌, subst}
-use Rattle.dexspec.specs.Bytes.{ushort, uint}
+use Rattle.dexhead.proofs.Common.{ℕ, ◌++◌, subst, ushort, uint}
 use Rattle.dexhead.proofs.map_list.MapEntryEncode.encode.Goals as goal
 
 pub returns : goal.returns

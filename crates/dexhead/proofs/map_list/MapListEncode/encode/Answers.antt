@@ -1,10 +1,5 @@
-use Rattle.std.proofs.Common.{ℕ, length, map, sym, subst}
-use Rattle.std.specs.List.{flat_map}
-use Rattle.std.proofs.lemmas.List.{length-map}
-use Rattle.std.proofs.lemmas.List.Folds.{flat_map-map}
-use Rattle.dexspec.specs.Bytes.{uint}
-use Rattle.dexspec.specs.Canonical.{map_entry_bytes}
-use Rattle.dexhead.specs.Written.{entry_meant}
+use Rattle.dexhead.proofs.Common.{ℕ, length, map, sym, subst, flat_map, length-map, flat_map-map, uint, map_entry_bytes}
+use Rattle.dexhead.specs.{entry_meant}
 use Rattle.dexhead.proofs.map_list.MapListEncode.encode.Goals as goal
 
 pub returns : goal.returns

@@ -1,5 +1,4 @@
-use Rattle.std.proofs.Common.{arith}
-use Rattle.dexspec.proofs.numbers.ByteNumbers.{length-ushort}
+use Rattle.dexhead.proofs.Common.{arith, length-ushort}
 use Rattle.dexhead.proofs.output.CountOutput.u16.Goals as goal
 
 pub returns : goal.returns

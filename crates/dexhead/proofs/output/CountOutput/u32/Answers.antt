@@ -1,5 +1,4 @@
-use Rattle.std.proofs.Common.{arith}
-use Rattle.dexspec.proofs.numbers.ByteNumbers.{length-uint}
+use Rattle.dexhead.proofs.Common.{arith, length-uint}
 use Rattle.dexhead.proofs.output.CountOutput.u32.Goals as goal
 
 pub returns : goal.returns

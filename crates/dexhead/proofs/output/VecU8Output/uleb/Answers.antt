@@ -1,6 +1,5 @@
-use Rattle.std.proofs.Common.{arith, sym, subst}
-use Rattle.dexhead.specs.Pushing.{HasRoomFor, Pushes}
-use Rattle.dexhead.specs.OutputLaws.{one_byte}
+use Rattle.dexhead.proofs.Common.{arith, sym, subst}
+use Rattle.dexhead.specs.{HasRoomFor, Pushes, one_byte}
 use Rattle.dexhead.proofs.output.VecU8Output.uleb.Goals as goal
 
 pub returns-then-value-lt128 : goal.returns-then-value-lt128

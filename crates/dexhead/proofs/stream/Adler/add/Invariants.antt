@@ -1,5 +1,4 @@
-use Rattle.std.proofs.Common.{◌≡◌, ◌≤◌, ◌+◌, ◌*◌, ◌%◌, take}
-use Rattle.dexspec.specs.Header.{adler_sums}
+use Rattle.dexhead.proofs.Common.{◌≡◌, ◌≤◌, ◌+◌, ◌*◌, ◌%◌, take, adler_sums}
 use Rattle.dexhead.proofs.stream.Adler.add.Given as goal
 
 -- the sums so far, not reduced, with bounds

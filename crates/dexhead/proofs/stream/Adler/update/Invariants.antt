@@ -1,5 +1,4 @@
-use Rattle.std.proofs.Common.{◌≡◌, length}
-use Rattle.dexspec.specs.Header.{adler_sums}
+use Rattle.dexhead.proofs.Common.{◌≡◌, length, adler_sums}
 use Rattle.dexhead.proofs.stream.Adler.update.Given as goal
 
 -- what is left completes the sums

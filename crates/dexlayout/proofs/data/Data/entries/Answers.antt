@@ -1,12 +1,7 @@
-use Rattle.std.proofs.Common.{◌≡◌, ℕ, List, length, arith, ap, ◌∙◌}
-use Rattle.dexspec.specs.Bytes.{round_up}
-use Rattle.dexspec.specs.Sections.{Section, TypeLists, AnnotationItems, EncodedArrayItems, StringDataItems, DebugInfoItems, CodeItems, ClassDataItems, AnnotationSets, AnnotationSetRefLists, AnnotationsDirectories}
-use Rattle.dexspec.specs.Mentions.{Mentions}
-use Rattle.dexclass.specs.Numbered.{NumberedClass}
+use Rattle.dexlayout.proofs.Common.{◌≡◌, ℕ, List, length, arith, ap, ◌∙◌, round_up, Section, TypeLists, AnnotationItems, EncodedArrayItems, StringDataItems, DebugInfoItems, CodeItems, ClassDataItems, AnnotationSets, AnnotationSetRefLists, AnnotationsDirectories, Mentions, NumberedClass}
 use Rattle.dexlayout.specs.declared.data.Data.{Data}
-use Rattle.dexlayout.specs.Places.{ItemPlaces, EncodedItems}
+use Rattle.dexlayout.specs.{ItemPlaces, EncodedItems, AreWritable, ordered_of}
 use Rattle.dexlayout.specs.internal.Parts.{AreData, count_placed}
-use Rattle.dexlayout.specs.Laid.{AreWritable, ordered_of}
 use Rattle.dexlayout.proofs.Ends.{EndInFile, end_in_file}
 use Rattle.dexlayout.proofs.OwnCounts.{AreCounted, HaveFewItems, few_items, counted}
 use Rattle.dexlayout.proofs.OwnParts.{ten_same, named_parts_are}

@@ -1,5 +1,4 @@
-use Rattle.std.proofs.Common.{◌++◌, ap, arith, ◌∙◌}
-use Rattle.std.proofs.lemmas.Result.{on_ok_weaker}
+use Rattle.dexlayout.proofs.Common.{◌++◌, ap, arith, ◌∙◌, on_ok_weaker}
 use Rattle.dexlayout.proofs.EncodedUses.{begins, ended, ended_fits}
 use Rattle.dexlayout.proofs.items.Items.put.Goals as goal
 

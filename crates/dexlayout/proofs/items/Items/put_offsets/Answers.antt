@@ -1,4 +1,4 @@
-use Rattle.std.proofs.Common.{arith}
+use Rattle.dexlayout.proofs.Common.{arith}
 use Rattle.dexspec.proofs.size.SizeItems.{offsets_bytes-size}
 use Rattle.dexlayout.proofs.items.Items.put_offsets.Goals as goal
 

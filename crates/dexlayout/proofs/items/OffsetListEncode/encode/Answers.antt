@@ -1,6 +1,4 @@
-use Rattle.std.proofs.Common.{length}
-use Rattle.std.specs.List.{flat_map}
-use Rattle.dexspec.specs.Bytes.{uint}
+use Rattle.dexlayout.proofs.Common.{length, flat_map, uint}
 use Rattle.dexlayout.proofs.items.OffsetListEncode.encode.Goals as goal
 
 pub returns : goal.returns

@@ -1,6 +1,5 @@
-use Rattle.std.proofs.Common.{◌<◌, length, List, ℕ, subst, sym, ap, ◌∙◌}
-use Rattle.std.specs.Prelude.{All, IfSome}
-use Rattle.dexlayout.specs.Places.{EncodedItems}
+use Rattle.dexlayout.proofs.Common.{◌<◌, length, List, ℕ, subst, sym, ap, ◌∙◌, All, IfSome}
+use Rattle.dexlayout.specs.{EncodedItems}
 use Rattle.dexlayout.specs.internal.Placing.{shared_places}
 use Rattle.dexlayout.proofs.items.SharedItems.of.Goals as goal
 

@@ -1,8 +1,5 @@
-use Rattle.std.proofs.Common.{sym, ap, subst, ◌∙◌}
-use Rattle.dexspec.specs.Files.{definitions}
-use Rattle.dexspec.specs.Mentions.{mentions}
-use Rattle.dexpool.specs.Numberings.{IsNumbering}
-use Rattle.dexlayout.specs.Laid.{AreWritable, IsLaid, file_end}
+use Rattle.dexlayout.proofs.Common.{sym, ap, subst, ◌∙◌, definitions, mentions, IsNumbering}
+use Rattle.dexlayout.specs.{AreWritable, IsLaid, file_end}
 use Rattle.dexlayout.proofs.OwnFile.{writable, ordered_is, laid_same, length_canonical}
 use Rattle.dexlayout.proofs.layout.Layout.of.Goals as goal
 

@@ -1,7 +1,4 @@
-use Rattle.std.proofs.Common.{List, ℕ, length, get_or, ap, arith, subst, ◌∙◌}
-use Rattle.std.specs.List.{flat_map}
-use Rattle.dexspec.specs.Bytes.{ushort, uint}
-use Rattle.dexhead.proofs.Encoded.{given_more, given_all}
+use Rattle.dexlayout.proofs.Common.{List, ℕ, length, get_or, ap, arith, subst, ◌∙◌, flat_map, ushort, uint, given_more, given_all}
 use Rattle.dexlayout.proofs.list_keys.ListKeyEncode.encode.Goals as goal
 
 pub overflow_cast-at : goal.overflow_cast-at

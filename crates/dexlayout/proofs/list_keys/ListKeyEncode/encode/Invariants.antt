@@ -1,6 +1,4 @@
-use Rattle.std.proofs.Common.{take}
-use Rattle.std.specs.List.{flat_map}
-use Rattle.dexspec.specs.Bytes.{ushort}
+use Rattle.dexlayout.proofs.Common.{take, flat_map, ushort}
 use Rattle.dexlayout.proofs.list_keys.ListKeyEncode.encode.Given as goal
 
 abbrev pub invariant-loop-i : goal.invariant-loop-i

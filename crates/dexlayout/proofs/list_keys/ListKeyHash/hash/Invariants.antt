@@ -1,6 +1,4 @@
-use Rattle.std.proofs.Common.{◌≡◌, ◌++◌, length, take}
-use Rattle.std.specs.Prelude.{fold}
-use Rattle.std.specs.List.{flat_map}
+use Rattle.dexlayout.proofs.Common.{◌≡◌, ◌++◌, length, take, fold, flat_map}
 use Rattle.std.specs.Hash as fed
 use Rattle.dexlayout.proofs.list_keys.ListKeyHash.hash.Given as goal
 

@@ -1,7 +1,4 @@
-use Rattle.std.proofs.Common.{◌≡◌, ℕ, List, length, take, drop, ap, ◌∙◌, Bor}
-use Rattle.std.proofs.lemmas.Result.{on_ok_weaker, IfOk-weaker}
-use Rattle.std.specs.List.{flat_map}
-use Rattle.dexmembers.specs.Numbered.{NumberedMembers, fields_of, methods_of}
+use Rattle.dexlayout.proofs.Common.{◌≡◌, ℕ, List, length, take, drop, ap, ◌∙◌, Bor, on_ok_weaker, IfOk-weaker, flat_map, NumberedMembers, fields_of, methods_of}
 use Rattle.dexlayout.specs.internal.Collecting.{sets_of_method, sets_of_class}
 use Rattle.dexlayout.proofs.SetsCollected.{collected_class, left_of_class}
 use Rattle.dexlayout.proofs.sets.Sets.collect_class.Goals as goal

@@ -1,8 +1,4 @@
-use Rattle.std.proofs.Common.{◌≡◌, ℕ, ◌+◌, ◌<◌, List, length, take, drop, sym, ap, ◌∙◌, arith}
-use Rattle.std.proofs.lemmas.List.{length-drop, drop-drop}
-use Rattle.std.specs.List.{flat_map}
-use Rattle.dexval.specs.Numbered.{NumberedSet}
-use Rattle.dexmembers.specs.Numbered.{methods_of}
+use Rattle.dexlayout.proofs.Common.{◌≡◌, ℕ, ◌+◌, ◌<◌, List, length, take, drop, sym, ap, ◌∙◌, arith, length-drop, drop-drop, flat_map, NumberedSet, methods_of}
 use Rattle.dexlayout.specs.internal.Collecting.{sets_of_method, parts_of_methods, collect_method, collect_methods}
 use Rattle.dexlayout.proofs.SetsCollected.{next_parts, next_count}
 use Rattle.dexlayout.proofs.sets.Sets.collect_methods.Goals as goal

@@ -1,4 +1,4 @@
-use Rattle.std.proofs.Common.{◌∷◌, [], ◌++◌, ap, ◌∙◌}
+use Rattle.dexlayout.proofs.Common.{◌∷◌, [], ◌++◌, ap, ◌∙◌}
 use Rattle.dexlayout.proofs.SharedUses.{items_same, uses_pass, uses_take}
 use Rattle.dexlayout.proofs.sharing.Sharing.add.Goals as goal
 use Rattle.dexlayout.proofs.sharing.Sharing.add.Goals.{in-Some+in_ok-number-in-Some, in-None}

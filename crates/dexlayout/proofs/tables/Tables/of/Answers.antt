@@ -1,4 +1,4 @@
-use Rattle.std.proofs.Common.{arith}
+use Rattle.dexlayout.proofs.Common.{arith}
 use Rattle.dexlayout.proofs.OwnParts.{rows_few}
 use Rattle.dexlayout.proofs.tables.Tables.of.Goals as goal
 

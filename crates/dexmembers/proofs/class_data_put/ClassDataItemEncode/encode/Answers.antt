@@ -1,6 +1,5 @@
-use Rattle.std.proofs.Common.{ℕ, ◌++◌, length, take, drop, ap, ◌∙◌, subst}
-use Rattle.dexspec.specs.Numbers.{uleb128}
-use Rattle.dexmembers.specs.Spelled.{numbered_fields_bytes, numbered_methods_bytes}
+use Rattle.dexmembers.proofs.Common.{ℕ, ◌++◌, length, take, drop, ap, ◌∙◌, subst, uleb128}
+use Rattle.dexmembers.specs.{numbered_fields_bytes, numbered_methods_bytes}
 use Rattle.dexmembers.proofs.class_data_put.ClassDataItemEncode.encode.Goals as goal
 
 pub returns : goal.returns

@@ -1,6 +1,4 @@
-use Rattle.std.proofs.Common.{refl, sym, ◌∙◌, arith}
-use Rattle.dexspec.specs.Rows.{row_at}
-use Rattle.dexspec.specs.Header.{ClassDefs}
+use Rattle.dexmembers.proofs.Common.{refl, sym, ◌∙◌, arith, row_at, ClassDefs}
 use Rattle.dexpool.proofs.Bytes.{uint_at_row}
 use Rattle.dexmembers.proofs.class_def.ClassDef.at.Goals as goal
 

@@ -1,6 +1,5 @@
-use Rattle.std.proofs.Common.{◌≡◌, length, arith, rules}
-use Rattle.dexhead.proofs.Encoded.{encoded_put}
-use Rattle.dexmembers.specs.DirectoryPut.{numbered_directory_bytes}
+use Rattle.dexmembers.proofs.Common.{◌≡◌, length, arith, rules, encoded_put}
+use Rattle.dexmembers.specs.{numbered_directory_bytes}
 use Rattle.dexmembers.proofs.DirectorySpelled.{directory_size}
 use Rattle.dexmembers.proofs.directory_put.DirectoryItem.put.Goals as goal
 

@@ -1,6 +1,5 @@
-use Rattle.std.proofs.Common.{◌++◌, append_assoc, ap, ◌∙◌, subst}
-use Rattle.dexspec.specs.Bytes.{uint}
-use Rattle.dexmembers.specs.DirectoryPut.{both_bytes, field_numbers, method_numbers}
+use Rattle.dexmembers.proofs.Common.{◌++◌, append_assoc, ap, ◌∙◌, subst, uint}
+use Rattle.dexmembers.specs.{both_bytes, field_numbers, method_numbers}
 use Rattle.dexmembers.proofs.directory_put.DirectoryItemEncode.encode.Goals as goal
 
 pub returns : goal.returns

@@ -1,5 +1,4 @@
-use Rattle.std.proofs.Common.{refl, length}
-use Rattle.std.proofs.lemmas.Result.{err_from_is_err_and}
+use Rattle.dexmembers.proofs.Common.{refl, length, err_from_is_err_and}
 use Rattle.dexmembers.proofs.DataCounts.{no_fields, no_methods}
 use Rattle.dexmembers.proofs.MemberChains.{refused_so}
 use Rattle.dexmembers.proofs.encoded_lists.ClassDataReader.read_data.Goals as goal

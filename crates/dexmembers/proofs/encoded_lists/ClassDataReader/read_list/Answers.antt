@@ -1,6 +1,4 @@
-use Rattle.std.proofs.Common.{◌≡◌, ◌∷◌, [], ◌++◌, None, Some, refl, sym, subst, ap, ◌∙◌, arith, ◌+◌, length}
-use Rattle.std.proofs.lemmas.Grind.{common_steps}
-use Rattle.std.proofs.lemmas.List.{length-append}
+use Rattle.dexmembers.proofs.Common.{◌≡◌, ◌∷◌, [], ◌++◌, None, Some, refl, sym, subst, ap, ◌∙◌, arith, ◌+◌, length, common_steps, length-append}
 use Rattle.dexmembers.specs.internal.EncodedMembers.{Chain, last_index}
 use Rattle.dexmembers.proofs.MemberChains.{chain_more, last_more, stuck}
 use Rattle.dexmembers.proofs.encoded_lists.ClassDataReader.read_list.Goals as goal

@@ -1,6 +1,5 @@
-use Rattle.std.specs.Prelude.{◌≡◌}
+use Rattle.dexmembers.proofs.Common.{◌≡◌, None}
 use Rattle.dexmembers.specs.internal.EncodedMembers.{IsListRead, last_index}
-use Rattle.std.specs.Prelude.{None}
 use Rattle.dexmembers.proofs.encoded_lists.ClassDataReader.read_list.Given as goal
 
 abbrev pub invariant-loop : goal.invariant-loop

@@ -1,8 +1,5 @@
-use Rattle.std.proofs.Common.{◌+◌, None, refl, sym, subst, arith, map}
-use Rattle.std.proofs.lemmas.Bool.{false≢true}
-use Rattle.std.proofs.lemmas.Result.{err_from_is_err_and}
-use Rattle.dexspec.specs.ClassData.{ShareNone}
-use Rattle.dexmembers.specs.Numbered.{NumbersRise}
+use Rattle.dexmembers.proofs.Common.{◌+◌, None, refl, sym, subst, arith, map, false≢true, err_from_is_err_and, ShareNone}
+use Rattle.dexmembers.specs.{NumbersRise}
 use Rattle.dexmembers.proofs.MemberChains.{chain_rises, no_second, not_apart, refused_so}
 use Rattle.dexmembers.proofs.encoded_lists.ClassDataReader.read_lists.Goals as goal
 

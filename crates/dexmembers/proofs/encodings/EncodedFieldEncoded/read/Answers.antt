@@ -1,4 +1,4 @@
-use Rattle.std.proofs.Common.{◌≡◌, ◌∙◌, sym, true, false}
+use Rattle.dexmembers.proofs.Common.{◌≡◌, ◌∙◌, sym, true, false}
 use Rattle.dexmembers.proofs.OneMember.{other_field}
 use Rattle.dexmembers.proofs.encodings.EncodedFieldEncoded.read.Goals as goal
 

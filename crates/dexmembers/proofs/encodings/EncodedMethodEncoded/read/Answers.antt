@@ -1,4 +1,4 @@
-use Rattle.std.proofs.Common.{◌≡◌, ◌∙◌, sym, true, false}
+use Rattle.dexmembers.proofs.Common.{◌≡◌, ◌∙◌, sym, true, false}
 use Rattle.dexmembers.proofs.OneMember.{no_code, other_method}
 use Rattle.dexmembers.proofs.encodings.EncodedMethodEncoded.read.Goals as goal
 

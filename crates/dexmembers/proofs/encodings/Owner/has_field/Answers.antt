@@ -1,5 +1,4 @@
-use Rattle.std.proofs.Common.{subst, arith}
-use Rattle.dexpool.specs.Numberings.{IsNumbering}
+use Rattle.dexmembers.proofs.Common.{subst, arith, IsNumbering}
 use Rattle.dexmembers.proofs.Owned.{field_owned}
 use Rattle.dexmembers.proofs.encodings.Owner.has_field.Goals as goal
 

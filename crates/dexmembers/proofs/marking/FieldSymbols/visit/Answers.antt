@@ -1,8 +1,5 @@
-use Rattle.std.proofs.Common.{◌∷◌, ℕ, subst}
-use Rattle.std.specs.List.{FoldsTo}
+use Rattle.dexmembers.proofs.Common.{◌∷◌, ℕ, subst, FoldsTo, Use, set_uses}
 use Rattle.dexpool.specs.declared.symbols.SymbolKind.TheVariants as kinds
-use Rattle.dexpool.specs.Uses.{Use}
-use Rattle.dexval.specs.Uses.{set_uses}
 use Rattle.dexmembers.proofs.marking.FieldSymbols.visit.Goals as goal
 
 -- a field's symbol

@@ -1,11 +1,5 @@
-use Rattle.std.proofs.Common.{◌≡◌, ◌++◌, List, sym, ◌∙◌, subst}
-use Rattle.std.specs.List.{FoldsTo, flat_map}
-use Rattle.std.proofs.lemmas.List.Concat.{flat_map-append}
-use Rattle.dexpool.specs.Uses.{Use}
-use Rattle.dexpool.proofs.Visits.{visited_both}
-use Rattle.dexval.specs.Numbered.{NumberedValues}
-use Rattle.dexval.specs.Uses.{set_uses, values_uses}
-use Rattle.dexmembers.specs.Uses.{field_uses, method_uses}
+use Rattle.dexmembers.proofs.Common.{◌≡◌, ◌++◌, List, sym, ◌∙◌, subst, FoldsTo, flat_map, flat_map-append, Use, visited_both, NumberedValues, set_uses, values_uses}
+use Rattle.dexmembers.specs.{field_uses, method_uses}
 use Rattle.dexmembers.proofs.marking.MembersSymbols.visit.Goals as goal
 
 -- what occurs in two lists, one after the other

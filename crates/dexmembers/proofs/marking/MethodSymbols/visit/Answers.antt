@@ -1,11 +1,5 @@
-use Rattle.std.proofs.Common.{◌∷◌, ◌++◌, ℕ, List, option_to_list, subst}
-use Rattle.std.specs.List.{FoldsTo, flat_map}
+use Rattle.dexmembers.proofs.Common.{◌∷◌, ◌++◌, ℕ, List, option_to_list, subst, FoldsTo, flat_map, Use, visited_both, NumberedSet, set_uses, item_uses}
 use Rattle.dexpool.specs.declared.symbols.SymbolKind.TheVariants as kinds
-use Rattle.dexpool.specs.Uses.{Use}
-use Rattle.dexpool.proofs.Visits.{visited_both}
-use Rattle.dexval.specs.Numbered.{NumberedSet}
-use Rattle.dexval.specs.Uses.{set_uses}
-use Rattle.dexcode.specs.Renumbering.{item_uses}
 use Rattle.dexmembers.proofs.marking.MethodSymbols.visit.Goals as goal
 
 -- a method's symbol

@@ -1,6 +1,5 @@
-use Rattle.std.proofs.Common.{arith}
-use Rattle.dexpool.proofs.Visits.{visited_more, visited_all}
-use Rattle.dexmembers.specs.Uses.{method_uses}
+use Rattle.dexmembers.proofs.Common.{arith, visited_more, visited_all}
+use Rattle.dexmembers.specs.{method_uses}
 use Rattle.dexmembers.proofs.marking.MethodsSymbols.visit.Goals as goal
 
 pub loop-i-preserved : goal.loop-i-preserved

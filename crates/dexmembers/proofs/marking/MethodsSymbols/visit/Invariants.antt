@@ -1,6 +1,5 @@
-use Rattle.std.proofs.Common.{take}
-use Rattle.std.specs.List.{FoldsTo, flat_map}
-use Rattle.dexmembers.specs.Uses.{method_uses}
+use Rattle.dexmembers.proofs.Common.{take, FoldsTo, flat_map}
+use Rattle.dexmembers.specs.{method_uses}
 use Rattle.dexmembers.proofs.marking.MethodsSymbols.visit.Given as goal
 
 abbrev pub invariant-loop-i : goal.invariant-loop-i

@@ -1,6 +1,4 @@
-use Rattle.std.proofs.Common.{get_or, [], refl, arith}
-use Rattle.dexval.specs.Uses.{set_uses}
-use Rattle.dexpool.proofs.Visits.{visited_more, visited_all}
+use Rattle.dexmembers.proofs.Common.{get_or, [], refl, arith, set_uses, visited_more, visited_all}
 use Rattle.dexmembers.proofs.marking.ParameterSetsSymbols.visit.Goals as goal
 
 pub loop-i-preserved : goal.loop-i-preserved

@@ -1,6 +1,4 @@
-use Rattle.std.proofs.Common.{take}
-use Rattle.std.specs.List.{FoldsTo, flat_map}
-use Rattle.dexval.specs.Uses.{set_uses}
+use Rattle.dexmembers.proofs.Common.{take, FoldsTo, flat_map, set_uses}
 use Rattle.dexmembers.proofs.marking.ParameterSetsSymbols.visit.Given as goal
 
 abbrev pub invariant-loop-i : goal.invariant-loop-i

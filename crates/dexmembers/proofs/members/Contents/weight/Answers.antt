@@ -1,7 +1,5 @@
-use Rattle.std.proofs.Common.{◌-◌, ◌^◌, List, min, ap, ◌∙◌, arith, sum_by}
-use Rattle.dexmembers.specs.Contents.{contents_in}
-use Rattle.dexmembers.specs.Numbered.{NumberedMethod}
-use Rattle.dexmembers.specs.Weighing.{method_code_weight}
+use Rattle.dexmembers.proofs.Common.{◌-◌, ◌^◌, List, min, ap, ◌∙◌, arith, sum_by}
+use Rattle.dexmembers.specs.{contents_in, NumberedMethod, method_code_weight}
 use Rattle.dexmembers.proofs.CodesApart.{weighed_apart}
 use Rattle.dexmembers.proofs.members.Contents.weight.Goals as goal
 

@@ -1,4 +1,4 @@
-use Rattle.std.proofs.Common.{arith}
+use Rattle.dexmembers.proofs.Common.{arith}
 use Rattle.dexmembers.proofs.DirectorySpelled.{directory_size}
 use Rattle.dexmembers.proofs.members.Members.directory_len.Goals as goal
 

@@ -1,7 +1,5 @@
-use Rattle.std.proofs.Common.{◌≡◌, map, All, sym, subst, ap, ◌∙◌}
-use Rattle.dexmembers.specs.Contents.{contents_in}
-use Rattle.dexmembers.specs.Held.{method_of, IsHeldMethod}
-use Rattle.dexmembers.specs.Stripped.{stripped_members}
+use Rattle.dexmembers.proofs.Common.{◌≡◌, map, All, sym, subst, ap, ◌∙◌}
+use Rattle.dexmembers.specs.{contents_in, method_of, IsHeldMethod, stripped_members}
 use Rattle.dexmembers.proofs.HeldMembers.{methods_stripped, stripped_kept, stripped_few}
 use Rattle.dexmembers.proofs.members.Members.drop_debug.Goals as goal
 

@@ -1,5 +1,5 @@
-use Rattle.std.proofs.Common.{map, subst, ap, ◌∙◌}
-use Rattle.dexmembers.specs.DirectoryPut.{both_bytes, field_numbers}
+use Rattle.dexmembers.proofs.Common.{map, subst, ap, ◌∙◌}
+use Rattle.dexmembers.specs.{both_bytes, field_numbers}
 use Rattle.dexmembers.proofs.HeldMembers.{field_numbers_held}
 use Rattle.dexmembers.proofs.members.Members.encode_field_pairs.Goals as goal
 

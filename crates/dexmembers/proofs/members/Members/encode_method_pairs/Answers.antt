@@ -1,5 +1,5 @@
-use Rattle.std.proofs.Common.{map, subst, ap, ◌∙◌}
-use Rattle.dexmembers.specs.DirectoryPut.{both_bytes, method_numbers}
+use Rattle.dexmembers.proofs.Common.{map, subst, ap, ◌∙◌}
+use Rattle.dexmembers.specs.{both_bytes, method_numbers}
 use Rattle.dexmembers.proofs.HeldMembers.{method_numbers_held}
 use Rattle.dexmembers.proofs.members.Members.encode_method_pairs.Goals as goal
 

@@ -1,9 +1,5 @@
-use Rattle.std.proofs.Common.{List, sym, subst}
-use Rattle.std.specs.List.{flat_map}
-use Rattle.std.proofs.lemmas.List.Concat.{flat_map-append}
-use Rattle.dexinsn.specs.Fitting.{IsGreatest}
-use Rattle.dexmembers.specs.Numbered.{NumberedMethod}
-use Rattle.dexmembers.specs.Fitting.{method_short_strings}
+use Rattle.dexmembers.proofs.Common.{List, sym, subst, flat_map, flat_map-append, IsGreatest}
+use Rattle.dexmembers.specs.{NumberedMethod, method_short_strings}
 use Rattle.dexmembers.proofs.members.Members.greatest_short_string.Goals as goal
 
 pub returns : goal.returns

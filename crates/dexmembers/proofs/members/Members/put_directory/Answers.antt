@@ -1,5 +1,4 @@
-use Rattle.std.proofs.Common.{ℕ, List, subst, arith}
-use Rattle.dexspec.specs.internal.Writing.{Puts}
+use Rattle.dexmembers.proofs.Common.{ℕ, List, subst, arith, Puts}
 use Rattle.dexmembers.proofs.DirectorySpelled.{directory_size}
 use Rattle.dexmembers.proofs.members.Members.put_directory.Goals as goal
 

@@ -1,11 +1,5 @@
-use Rattle.std.proofs.Common.{◌≡◌, map, All, sym, subst, ap, ◌∙◌}
-use Rattle.dexval.specs.Code.{value_of}
-use Rattle.dexval.specs.Numbered.{values_of_list}
-use Rattle.dexval.specs.Tables.{set_at}
-use Rattle.dexmembers.specs.Numbered.{NumberedMembers}
-use Rattle.dexmembers.specs.Held.{field_of, method_of, IsHeldField, IsHeldMethod}
-use Rattle.dexmembers.specs.Contents.{contents_in}
-use Rattle.dexmembers.specs.Renumbering.{renumbered_field, renumbered_method, renumbered_members, MembersHavePlaces}
+use Rattle.dexmembers.proofs.Common.{◌≡◌, map, All, sym, subst, ap, ◌∙◌, value_of, values_of_list, set_at}
+use Rattle.dexmembers.specs.{NumberedMembers, field_of, method_of, IsHeldField, IsHeldMethod, contents_in, renumbered_field, renumbered_method, renumbered_members, MembersHavePlaces}
 use Rattle.dexmembers.proofs.HeldMembers.{fields_mapped, methods_mapped, fields_remapped, methods_remapped, place_kept, fields_kept, methods_kept, few_mapped, same_few}
 use Rattle.dexmembers.proofs.members.Members.renumber.Goals as goal
 

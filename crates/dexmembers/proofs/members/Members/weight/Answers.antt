@@ -1,6 +1,5 @@
-use Rattle.std.proofs.Common.{ap, ◌∙◌, ◌-◌, ◌^◌, min, ℕ}
-use Rattle.dexmembers.specs.Numbered.{NumberedMembers}
-use Rattle.dexmembers.specs.Weighing.{numbered_members_weight}
+use Rattle.dexmembers.proofs.Common.{ap, ◌∙◌, ◌-◌, ◌^◌, min, ℕ}
+use Rattle.dexmembers.specs.{NumberedMembers, numbered_members_weight}
 use Rattle.dexmembers.proofs.members.Members.weight.Goals as goal
 
 pub returns-clause-numbered : goal.returns-clause-numbered

@@ -1,8 +1,5 @@
-use Rattle.std.proofs.Common.{ap, sym, ◌∙◌, ◌-◌, ◌^◌, min, ℕ, Option}
-use Rattle.dexval.specs.Spelled.{numbered_sets_weight}
-use Rattle.dexval.specs.Tables.{sets_at}
-use Rattle.dexmembers.specs.Held.{HeldMethod}
-use Rattle.dexmembers.specs.Numbered.{NumberedMethod}
+use Rattle.dexmembers.proofs.Common.{ap, sym, ◌∙◌, ◌-◌, ◌^◌, min, ℕ, Option, numbered_sets_weight, sets_at}
+use Rattle.dexmembers.specs.{HeldMethod, NumberedMethod}
 use Rattle.dexmembers.proofs.Weighed.{no_symbols, sets_are}
 use Rattle.dexmembers.proofs.method_views.Method.parameters_weight.Goals as goal
 

@@ -1,5 +1,4 @@
-use Rattle.std.proofs.Common.{arith}
-use Rattle.std.proofs.lemmas.Grind.{common_steps}
+use Rattle.dexmembers.proofs.Common.{arith, common_steps}
 use Rattle.dexmembers.proofs.CodesOfMethods.{some_code}
 use Rattle.dexmembers.proofs.row_reader.RowReader.code_or_none.Goals as goal
 

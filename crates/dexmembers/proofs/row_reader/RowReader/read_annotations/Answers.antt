@@ -1,9 +1,4 @@
-use Rattle.std.proofs.Common.{◌≡◌, inl, ◌≢◌, ◌≤◌, ◌-◌, ◌^◌, min, ◌∙◌, refl, sym, subst, true, false, arith}
-use Rattle.std.proofs.lemmas.Grind.{common_steps}
-use Rattle.std.proofs.lemmas.Result.{err_from_is_err_and}
-use Rattle.dexpool.specs.Numberings.{AreRising}
-use Rattle.dexval.specs.Directories.{directory_weight}
-use Rattle.dexval.specs.Numbered.{directory_in}
+use Rattle.dexmembers.proofs.Common.{◌≡◌, inl, ◌≢◌, ◌≤◌, ◌-◌, ◌^◌, min, ◌∙◌, refl, sym, subst, true, false, arith, common_steps, err_from_is_err_and, AreRising, directory_weight, directory_in}
 use Rattle.dexmembers.proofs.RowAnnotations.{directory_refused_within, unnamed_refused, directory_returned}
 use Rattle.dexmembers.proofs.row_reader.RowReader.read_annotations.Goals as goal
 

@@ -1,12 +1,7 @@
-use Rattle.std.proofs.Common.{◌≡◌, ap, refl, inr, ◌∙◌, ◌+◌, ◌++◌, ◌∷◌, [], List, Option, take, get_or, sym, subst, arith}
-use Rattle.std.proofs.lemmas.List.Elements.{Contains-get_or}
-use Rattle.std.proofs.lemmas.List.{take_more}
-use Rattle.std.proofs.lemmas.Result.{err_from_is_err_and}
-use Rattle.dexpool.specs.Numberings.{AreRising}
-use Rattle.dexcode.specs.Numbered.{NumberedItem}
+use Rattle.dexmembers.proofs.Common.{◌≡◌, ap, refl, inr, ◌∙◌, ◌+◌, ◌++◌, ◌∷◌, [], List, Option, take, get_or, sym, subst, arith, Contains-get_or, take_more, err_from_is_err_and, AreRising, NumberedItem}
 use Rattle.dexmembers.specs.declared.class_data.EncodedMethod.{EncodedMethod}
 use Rattle.dexmembers.specs.internal.MethodCodes.{IsCodesFaultWithin}
-use Rattle.dexmembers.specs.Weighing.{codes_weight}
+use Rattle.dexmembers.specs.{codes_weight}
 use Rattle.dexmembers.proofs.CodesApart.{codes_append}
 use Rattle.dexmembers.proofs.CodesOfMethods.{HaveReadCodes, fault_among, fault_within, heavy_read, one_more_read}
 use Rattle.dexmembers.proofs.row_reader.RowReader.read_codes.Goals as goal

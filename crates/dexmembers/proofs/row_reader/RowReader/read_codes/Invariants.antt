@@ -1,6 +1,5 @@
-use Rattle.std.proofs.Common.{◌≡◌, ◌+◌, take}
-use Rattle.dexpool.specs.Pools.{ArePools}
-use Rattle.dexmembers.specs.Weighing.{codes_weight}
+use Rattle.dexmembers.proofs.Common.{◌≡◌, ◌+◌, take, ArePools}
+use Rattle.dexmembers.specs.{codes_weight}
 use Rattle.dexmembers.proofs.CodesOfMethods.{HaveReadCodes}
 use Rattle.dexmembers.proofs.row_reader.RowReader.read_codes.Given as goal
 

@@ -1,8 +1,4 @@
-use Rattle.std.proofs.Common.{◌∙◌, ℕ, List, map, sym, subst}
-use Rattle.std.proofs.lemmas.Result.{err_from_is_err_and}
-use Rattle.dexpool.specs.Numberings.{AreRising}
-use Rattle.dexval.specs.Code.{value_of}
-use Rattle.dexval.specs.Numbered.{values_of_list}
+use Rattle.dexmembers.proofs.Common.{◌∙◌, ℕ, List, map, sym, subst, err_from_is_err_and, AreRising, value_of, values_of_list}
 use Rattle.dexmembers.specs.internal.MethodCodes.{AreCodesOf, IsCodesFaultWithin}
 use Rattle.dexmembers.specs.internal.StaticValues.{AreValuesOf, IsValuesFaultWithin}
 use Rattle.dexmembers.specs.declared.class_data.EncodedMethod.{EncodedMethod}

@@ -1,5 +1,4 @@
-use Rattle.std.proofs.Common.{◌≢◌, arith, inr, refl, sym, subst}
-use Rattle.std.proofs.lemmas.Result.{err_from_is_err_and}
+use Rattle.dexmembers.proofs.Common.{◌≢◌, arith, inr, refl, sym, subst, err_from_is_err_and}
 use Rattle.dexmembers.specs.internal.StaticValues.{IsValuesFaultWithin}
 use Rattle.dexmembers.proofs.StaticValuesRead.{no_statics, read_values, heavy_values, fault_within}
 use Rattle.dexmembers.proofs.row_reader.RowReader.read_static_values.Goals as goal

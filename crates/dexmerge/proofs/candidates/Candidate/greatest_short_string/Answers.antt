@@ -1,7 +1,4 @@
-use Rattle.std.proofs.Common.{◌∙◌, Some, None, sym, ap, subst}
-use Rattle.dexinsn.specs.Fitting.{IsGreatest}
-use Rattle.dexmembers.specs.Numbered.{NumberedMembers}
-use Rattle.dexmembers.specs.Fitting.{members_short_strings}
+use Rattle.dexmerge.proofs.Common.{◌∙◌, Some, None, sym, ap, subst, IsGreatest, NumberedMembers, members_short_strings}
 use Rattle.dexmerge.proofs.FarTexts.{none_named}
 use Rattle.dexmerge.proofs.Counting.{image_decides}
 use Rattle.dexmerge.proofs.candidates.Candidate.greatest_short_string.Goals as goal

@@ -1,6 +1,4 @@
-use Rattle.std.proofs.Common.{◌∙◌, min, sym, ap}
-use Rattle.dexspec.specs.Classes.{Definition}
-use Rattle.dexspec.specs.Weight.{body_weight}
+use Rattle.dexmerge.proofs.Common.{◌∙◌, min, sym, ap, Definition, body_weight}
 use Rattle.dexmerge.proofs.candidates.Candidate.weight.Goals as goal
 
 pub returns : goal.returns

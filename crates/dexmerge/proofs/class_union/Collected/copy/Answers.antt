@@ -1,7 +1,4 @@
-use Rattle.std.proofs.Common.{◌∙◌, ◌++◌, ◌∷◌, [], true, sym, ap}
-use Rattle.std.specs.Prelude.{slice_set}
-use Rattle.dexclass.specs.Numbered.{NumberedClass}
-use Rattle.dexclass.specs.Renumbering.{remapped, renumbered}
+use Rattle.dexmerge.proofs.Common.{◌∙◌, ◌++◌, ◌∷◌, [], true, sym, ap, slice_set, NumberedClass, remapped, renumbered}
 use Rattle.dexmerge.proofs.Collected.{added_new, added_same}
 use Rattle.dexmerge.proofs.class_union.Collected.copy.Goals as goal
 

@@ -1,7 +1,4 @@
-use Rattle.std.proofs.Common.{◌≡◌, ◌<◌, ◌∙◌, ◌++◌, List, length, get_or, take, map, subst, arith}
-use Rattle.std.specs.List.{flat_map}
-use Rattle.std.proofs.lemmas.List.{length-map, take_all}
-use Rattle.dexspec.specs.Files.{Collection, definitions}
+use Rattle.dexmerge.proofs.Common.{◌≡◌, ◌<◌, ◌∙◌, ◌++◌, List, length, get_or, take, map, subst, arith, flat_map, length-map, take_all, Collection, definitions}
 use Rattle.dexmerge.specs.internal.Collecting.{AreCollected}
 use Rattle.dexmerge.proofs.PartMembers.{part_at}
 use Rattle.dexmerge.proofs.Collected.{part_is, more_parts}

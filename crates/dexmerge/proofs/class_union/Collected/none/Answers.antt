@@ -1,5 +1,4 @@
-use Rattle.std.proofs.Common.{List, [], sym, subst}
-use Rattle.dexclass.specs.Numbered.{NumberedClass}
+use Rattle.dexmerge.proofs.Common.{List, [], sym, subst, NumberedClass}
 use Rattle.dexmerge.specs.internal.Collecting.{AreCollected}
 use Rattle.dexmerge.proofs.Collected.{none_collected}
 use Rattle.dexmerge.proofs.class_union.Collected.none.Goals as goal

@@ -1,5 +1,4 @@
-use Rattle.std.proofs.Common.{◌∙◌, sym}
-use Rattle.dexclass.specs.Renumbering.{renumbered}
+use Rattle.dexmerge.proofs.Common.{◌∙◌, sym, renumbered}
 use Rattle.dexmerge.proofs.Collected.{added_new, added_same}
 use Rattle.dexmerge.proofs.class_union.Collected.take.Goals as goal
 

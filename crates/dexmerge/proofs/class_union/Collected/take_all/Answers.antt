@@ -1,11 +1,4 @@
-use Rattle.std.proofs.Common.{◌≡◌, ◌∙◌, ◌++◌, List, length, map, sym, subst, arith}
-use Rattle.std.specs.List.{Contains}
-use Rattle.std.proofs.lemmas.List.{map-id}
-use Rattle.std.proofs.lemmas.Iterator.Adapters.{YieldsList-from_vec}
-use Rattle.std.proofs.lemmas.Iterator.Consumers.{YieldsList-turn, YieldsList-end}
-use Rattle.dexspec.specs.Files.{definitions}
-use Rattle.dexspec.specs.Mentions.{mentions}
-use Rattle.dexclass.specs.Numbered.{NumberedClass, definition_of}
+use Rattle.dexmerge.proofs.Common.{◌≡◌, ◌∙◌, ◌++◌, List, length, map, sym, subst, arith, Contains, map-id, YieldsList-from_vec, YieldsList-turn, YieldsList-end, definitions, mentions, NumberedClass, definition_of}
 use Rattle.dexmerge.specs.internal.Collecting.{AreCollected}
 use Rattle.dexmerge.proofs.PartMembers.{class_known}
 use Rattle.dexmerge.proofs.Collected.{class_is_member, name_within, part_more, part_done}

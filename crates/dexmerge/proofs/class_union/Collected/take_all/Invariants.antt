@@ -1,8 +1,4 @@
-use Rattle.std.specs.Prelude.{◌≡◌, ◌++◌, List, length, map}
-use Rattle.dexspec.specs.Classes.{Definition}
-use Rattle.dexspec.specs.Files.{definitions}
-use Rattle.dexspec.specs.Mentions.{Mentions, mentions}
-use Rattle.dexclass.specs.Numbered.{definition_of}
+use Rattle.dexmerge.proofs.Common.{◌≡◌, ◌++◌, List, length, map, Definition, definitions, Mentions, mentions, definition_of}
 use Rattle.dexmerge.specs.internal.Collecting.{IsPartOf, AreCollected}
 use Rattle.dexmerge.proofs.class_union.Collected.take_all.Given as goal
 

@@ -1,9 +1,4 @@
-use Rattle.std.proofs.Common.{◌≡◌, ◌<◌, ◌∙◌, ◌++◌, ◌∷◌, [], List, length, get_or, take, sym, ap, subst, arith}
-use Rattle.std.specs.List.{flat_map}
-use Rattle.std.proofs.lemmas.List.{length-append, take_all}
-use Rattle.std.proofs.lemmas.Iterator.Adapters.{YieldsList-from_vec}
-use Rattle.std.proofs.lemmas.Iterator.Consumers.{YieldsList-turn, YieldsList-end}
-use Rattle.dexspec.specs.Files.{Collection, definitions}
+use Rattle.dexmerge.proofs.Common.{◌≡◌, ◌<◌, ◌∙◌, ◌++◌, ◌∷◌, [], List, length, get_or, take, sym, ap, subst, arith, flat_map, length-append, take_all, YieldsList-from_vec, YieldsList-turn, YieldsList-end, Collection, definitions}
 use Rattle.dexmerge.specs.internal.Collecting.{AreCollected}
 use Rattle.dexmerge.proofs.Collected.{part_is, more_parts}
 use Rattle.dexmerge.proofs.class_union.Collected.take_parts.Goals as goal

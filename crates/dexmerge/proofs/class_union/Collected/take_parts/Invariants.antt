@@ -1,8 +1,4 @@
-use Rattle.std.specs.Prelude.{◌≡◌, ◌++◌, List, length, take}
-use Rattle.std.specs.List.{flat_map}
-use Rattle.dexspec.specs.Classes.{Definition}
-use Rattle.dexspec.specs.Files.{definitions}
-use Rattle.dexspec.specs.Mentions.{Mentions}
+use Rattle.dexmerge.proofs.Common.{◌≡◌, ◌++◌, List, length, take, flat_map, Definition, definitions, Mentions}
 use Rattle.dexmerge.specs.internal.Collecting.{ArePartsOf, AreCollected}
 use Rattle.dexmerge.proofs.class_union.Collected.take_parts.Given as goal
 

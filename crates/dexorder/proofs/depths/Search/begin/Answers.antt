@@ -1,4 +1,4 @@
-use Rattle.std.proofs.Common.{true, set}
+use Rattle.dexorder.proofs.Common.{true, set}
 use Rattle.dexorder.proofs.SearchLaws.{begun_nearer}
 use Rattle.dexorder.proofs.depths.Search.begin.Goals as goal
 

@@ -1,4 +1,4 @@
-use Rattle.std.proofs.Common.{◌≡◌, true, false, slice_index_or}
+use Rattle.dexorder.proofs.Common.{◌≡◌, true, false, slice_index_or}
 use Rattle.dexorder.specs.internal.Searching.{IsSearch, AreStillSeen, work}
 use Rattle.dexorder.proofs.depths.Search.explore.Given as goal
 

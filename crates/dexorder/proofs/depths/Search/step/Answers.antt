@@ -1,5 +1,4 @@
-use Rattle.std.proofs.Common.{None, false, refl, sym, ◌∙◌, arith}
-use Rattle.std.proofs.lemmas.List.{get_or_read}
+use Rattle.dexorder.proofs.Common.{None, false, refl, sym, ◌∙◌, arith, get_or_read}
 use Rattle.dexorder.proofs.DepthLaws.{depth_less}
 use Rattle.dexorder.proofs.SearchLaws.{empty_is, search_finished, search_deeper, search_cut, next_within, all_wait_next}
 use Rattle.dexorder.proofs.depths.Search.step.Goals as goal

@@ -1,4 +1,4 @@
-use Rattle.std.proofs.Common.{◌≡◌, ◌<◌, ℕ, [], true, false, slice_index_or}
+use Rattle.dexorder.proofs.Common.{◌≡◌, ◌<◌, ℕ, [], true, false, slice_index_or}
 use Rattle.dexorder.specs.internal.Searching.{IsSearch}
 use Rattle.dexorder.proofs.hierarchy.Hierarchy.depths.Given as goal
 

@@ -1,6 +1,5 @@
-use Rattle.std.proofs.Common.{◌∙◌, ap, ℕ, List, arith, map}
-use Rattle.std.proofs.lemmas.List.{take_all}
-use Rattle.dexorder.specs.Parents.{classes_of_types, parent_types}
+use Rattle.dexorder.proofs.Common.{◌∙◌, ap, ℕ, List, arith, map, take_all}
+use Rattle.dexorder.specs.{classes_of_types, parent_types}
 use Rattle.dexorder.proofs.ByType.{map-after}
 use Rattle.dexorder.proofs.hierarchy.Hierarchy.of.Goals as goal
 

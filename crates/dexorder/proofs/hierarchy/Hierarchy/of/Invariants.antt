@@ -1,5 +1,5 @@
-use Rattle.std.specs.Prelude.{◌≡◌, map, take}
-use Rattle.dexorder.specs.Parents.{classes_of_types, parent_types}
+use Rattle.dexorder.proofs.Common.{◌≡◌, map, take}
+use Rattle.dexorder.specs.{classes_of_types, parent_types}
 use Rattle.dexorder.proofs.hierarchy.Hierarchy.of.Given as goal
 
 abbrev pub invariant-loop-i : goal.invariant-loop-i

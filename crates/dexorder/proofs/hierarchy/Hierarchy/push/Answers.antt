@@ -1,5 +1,4 @@
-use Rattle.std.proofs.Common.{◌∙◌, arith}
-use Rattle.std.proofs.lemmas.Result.{err_from_is_err_and}
+use Rattle.dexorder.proofs.Common.{◌∙◌, arith, err_from_is_err_and}
 use Rattle.dexorder.proofs.Parts.{parts_kept, parts_pushed}
 use Rattle.dexorder.proofs.hierarchy.Hierarchy.push.Goals as goal
 

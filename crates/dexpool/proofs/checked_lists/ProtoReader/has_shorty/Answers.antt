@@ -1,7 +1,5 @@
-use Rattle.std.proofs.Common.{refl, sym, subst, ◌∙◌}
-use Rattle.std.proofs.lemmas.Bool.{false≢true}
-use Rattle.dexpool.specs.Tables.{span_of}
-use Rattle.dexpool.specs.Reading.{file_numbers}
+use Rattle.dexpool.proofs.Common.{refl, sym, subst, ◌∙◌, false≢true}
+use Rattle.dexpool.specs.{span_of, file_numbers}
 use Rattle.dexpool.specs.internal.CheckedLists.{IsSpelled}
 use Rattle.dexpool.proofs.SpelledLists.{known_checked, spelled_checked, not_spelled, other_units}
 use Rattle.dexpool.proofs.checked_lists.ProtoReader.has_shorty.Goals as goal

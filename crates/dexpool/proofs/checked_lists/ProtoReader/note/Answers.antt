@@ -1,5 +1,4 @@
-use Rattle.std.proofs.Common.{◌≡◌, ℕ, Some, sym, subst, ◌∙◌, inl, inr, ne_eqb, nat_eq}
-use Rattle.std.proofs.lemmas.Bool.{cases_eq}
+use Rattle.dexpool.proofs.Common.{◌≡◌, ℕ, Some, sym, subst, ◌∙◌, inl, inr, ne_eqb, nat_eq, cases_eq}
 use Rattle.std.specs.HashMap.{get}
 use Rattle.dexpool.specs.declared.checked_lists.CheckedList.{CheckedList}
 use Rattle.dexpool.specs.internal.CheckedLists.{IsChecked}

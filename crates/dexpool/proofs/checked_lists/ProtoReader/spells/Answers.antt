@@ -1,8 +1,5 @@
-use Rattle.std.proofs.Common.{ℕ, List, ap, sym, subst, ◌∙◌}
-use Rattle.std.specs.Prelude.{◌↔◌}
-use Rattle.std.specs.Bool.{IsTrue}
-use Rattle.dexpool.specs.Tables.{span_of}
-use Rattle.dexpool.specs.Reading.{HasSpan, file_numbers}
+use Rattle.dexpool.proofs.Common.{ℕ, List, ap, sym, subst, ◌∙◌, ◌↔◌, IsTrue}
+use Rattle.dexpool.specs.{span_of, HasSpan, file_numbers}
 use Rattle.dexpool.specs.internal.CheckedLists.{IsSpelled}
 use Rattle.dexpool.proofs.Spellings.{span_letters, part_letters, shorty_spelled}
 use Rattle.dexpool.proofs.checked_lists.ProtoReader.spells.Goals as goal

@@ -1,6 +1,5 @@
-use Rattle.std.proofs.Common.{ℕ, map, Some, ap, ◌∙◌, arith}
-use Rattle.std.proofs.lemmas.List.{take_all}
-use Rattle.dexpool.specs.Numberings.{Maps}
+use Rattle.dexpool.proofs.Common.{ℕ, map, Some, ap, ◌∙◌, arith, take_all}
+use Rattle.dexpool.specs.{Maps}
 use Rattle.dexpool.proofs.JoinedTables.{maps_more}
 use Rattle.dexpool.proofs.joined_tables.JoinedImages.remaps.Goals as goal
 

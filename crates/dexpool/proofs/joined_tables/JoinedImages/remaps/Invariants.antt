@@ -1,4 +1,4 @@
-use Rattle.std.proofs.Common.{map, take}
+use Rattle.dexpool.proofs.Common.{map, take}
 use Rattle.dexpool.specs.internal.Joining.{AreMapsOf}
 use Rattle.dexpool.proofs.joined_tables.JoinedImages.remaps.Given as goal
 

@@ -1,6 +1,4 @@
-use Rattle.std.proofs.Common.{Bool, List, false, length, ◌++◌, ◌∙◌, ap, map}
-use Rattle.std.proofs.lemmas.List.{length-replicate}
-use Rattle.dexspec.specs.Symbols.{TextSymbol, TypeSymbol, ProtoSymbol, FieldSymbol, MethodSymbol}
+use Rattle.dexpool.proofs.Common.{Bool, List, false, length, ◌++◌, ◌∙◌, ap, map, length-replicate, TextSymbol, TypeSymbol, ProtoSymbol, FieldSymbol, MethodSymbol}
 use Rattle.dexpool.proofs.KeptRows.{kept_none}
 use Rattle.dexpool.proofs.marks.Marks.none.Goals as goal
 

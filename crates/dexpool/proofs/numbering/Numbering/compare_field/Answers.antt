@@ -1,6 +1,4 @@
-use Rattle.std.proofs.Common.{◌∙◌, ap, []}
-use Rattle.dexspec.specs.Symbols.{Field}
-use Rattle.dexspec.specs.Texts.{text_cmp}
+use Rattle.dexpool.proofs.Common.{◌∙◌, ap, [], Field, text_cmp}
 use Rattle.dexpool.proofs.Ranking.{by_first, by_second, at_number}
 use Rattle.dexpool.proofs.numbering.Numbering.compare_field.Goals as goal
 

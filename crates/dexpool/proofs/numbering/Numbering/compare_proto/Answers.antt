@@ -1,8 +1,4 @@
-use Rattle.std.proofs.Common.{◌<◌, ◌∙◌, ap, sym, subst, [], length, map, get_or}
-use Rattle.std.specs.List.{All}
-use Rattle.std.specs.Cmp.Lexicographic.{slice_cmp}
-use Rattle.dexspec.specs.Symbols.{Proto}
-use Rattle.dexspec.specs.Texts.{text_cmp}
+use Rattle.dexpool.proofs.Common.{◌<◌, ◌∙◌, ap, sym, subst, [], length, map, get_or, All, slice_cmp, Proto, text_cmp}
 use Rattle.dexpool.proofs.Ranking.{by_first, by_second, at_number, listed_at, listed_within}
 use Rattle.dexpool.proofs.numbering.Numbering.compare_proto.Goals as goal
 

@@ -1,6 +1,4 @@
-use Rattle.std.proofs.Common.{◌≡◌, ◌∙◌, sym, ap, ℕ, arith, min, length, get_or}
-use Rattle.std.specs.Ordering.{nat_cmp}
-use Rattle.dexspec.specs.Texts.{text_cmp}
+use Rattle.dexpool.proofs.Common.{◌≡◌, ◌∙◌, sym, ap, ℕ, arith, min, length, get_or, nat_cmp, text_cmp}
 use Rattle.dexpool.proofs.Ranking.{by_first, after_tie, cmp_at, cmp_ended}
 use Rattle.dexpool.proofs.numbering.Numbering.compare_types.Goals as goal
 

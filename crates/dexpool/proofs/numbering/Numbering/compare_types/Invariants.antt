@@ -1,6 +1,4 @@
-use Rattle.std.proofs.Common.{◌≡◌, ℕ, List, map, drop, get_or}
-use Rattle.std.specs.Cmp.Lexicographic.{slice_cmp}
-use Rattle.dexspec.specs.Texts.{text_cmp}
+use Rattle.dexpool.proofs.Common.{◌≡◌, ℕ, List, map, drop, get_or, slice_cmp, text_cmp}
 use Rattle.dexpool.proofs.numbering.Numbering.compare_types.Given as goal
 
 abbrev pub invariant-loop-i : goal.invariant-loop-i

@@ -1,12 +1,7 @@
-use Rattle.std.proofs.Common.{◌≡◌, ◌↔◌, ◌∙◌, sym, ap, subst}
-use Rattle.std.proofs.lemmas.Bool.{false≢true}
-use Rattle.dexspec.specs.Mentions.{Mentions, closed}
-use Rattle.dexpool.specs.Stored.{symbols_in}
-use Rattle.dexpool.specs.Numberings.{AreMarksOf, AllMapTo, Maps, marked}
+use Rattle.dexpool.proofs.Common.{◌≡◌, ◌↔◌, ◌∙◌, sym, ap, subst, false≢true, Mentions, closed}
+use Rattle.dexpool.specs.{symbols_in, AreMarksOf, AllMapTo, Maps, marked, MapsDown, MapsMarked}
 use Rattle.dexpool.specs.internal.Closing.{kept_places, kept_symbols}
 use Rattle.dexpool.specs.internal.Marking.{HaveAllMarks}
-use Rattle.dexpool.specs.Orderly.{MapsDown}
-use Rattle.dexpool.specs.Uses.{MapsMarked}
 use Rattle.dexpool.proofs.KeptNumbers.{kept_down, kept_marked}
 use Rattle.dexpool.proofs.KeptSymbols.{are_closed, closed_count, kept_mentioned, kept_mapped}
 use Rattle.dexpool.proofs.KeptWhole.{whole_if_marked}

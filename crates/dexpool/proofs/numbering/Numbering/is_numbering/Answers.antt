@@ -1,5 +1,5 @@
-use Rattle.std.proofs.Common.{subst}
-use Rattle.dexpool.specs.Numberings.{IsNumbering}
+use Rattle.dexpool.proofs.Common.{subst}
+use Rattle.dexpool.specs.{IsNumbering}
 use Rattle.dexpool.proofs.TablesAreAt.{are_numbering}
 use Rattle.dexpool.proofs.numbering.Numbering.is_numbering.Goals as goal
 

@@ -1,4 +1,4 @@
-use Rattle.std.proofs.Common.{map}
+use Rattle.dexpool.proofs.Common.{map}
 use Rattle.dexpool.proofs.MappingAll.{all_map_to_all}
 use Rattle.dexpool.proofs.numbering.Numbering.join.Goals as goal
 

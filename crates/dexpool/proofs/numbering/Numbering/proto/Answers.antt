@@ -1,6 +1,5 @@
-use Rattle.std.proofs.Common.{◌≡◌, ◌<◌, get_or, length, sym, ◌∙◌, subst}
-use Rattle.dexpool.specs.Tables.{span_of}
-use Rattle.dexpool.specs.Numberings.{DenotesProto}
+use Rattle.dexpool.proofs.Common.{◌≡◌, ◌<◌, get_or, length, sym, ◌∙◌, subst}
+use Rattle.dexpool.specs.{span_of, DenotesProto}
 use Rattle.dexpool.proofs.RowParts.{row_encoded}
 use Rattle.dexpool.proofs.numbering.Numbering.proto.Goals as goal
 

@@ -1,7 +1,4 @@
-use Rattle.std.proofs.Common.{rules, get_or, [], of_calls}
-use Rattle.std.specs.Ordering.{is_lt}
-use Rattle.dexspec.specs.Texts.{text_cmp}
-use Rattle.dexspec.proofs.merge.SymbolOrders.{text_total}
+use Rattle.dexpool.proofs.Common.{rules, get_or, [], of_calls, is_lt, text_cmp, text_total}
 use Rattle.dexpool.proofs.Ranking.{rank_by_halving}
 use Rattle.dexpool.proofs.numbering.Numbering.rank_typ.Goals as goal
 

@@ -1,5 +1,4 @@
-use Rattle.std.proofs.Common.{◌≡◌, ◌∙◌, ◌+◌, ◌-◌, ◌*◌, ◌^◌, ap, sym, arith, min, length, sum_by}
-use Rattle.dexspec.specs.Weight.{text_weight, mentions_weight}
+use Rattle.dexpool.proofs.Common.{◌≡◌, ◌∙◌, ◌+◌, ◌-◌, ◌*◌, ◌^◌, ap, sym, arith, min, length, sum_by, text_weight, mentions_weight}
 use Rattle.dexpool.specs.declared.rows.ProtoEntry.{ProtoEntry}
 use Rattle.dexpool.proofs.Weighing.{tables_weight}
 use Rattle.dexpool.proofs.numbering.Numbering.weight.Goals as goal

@@ -1,5 +1,5 @@
-use Rattle.std.proofs.Common.{get_or, subst}
-use Rattle.dexpool.specs.Numberings.{DenotesField}
+use Rattle.dexpool.proofs.Common.{get_or, subst}
+use Rattle.dexpool.specs.{DenotesField}
 use Rattle.dexpool.proofs.pools.Pools.field.Goals as goal
 
 pub returns : goal.returns

@@ -1,5 +1,5 @@
-use Rattle.std.proofs.Common.{get_or, subst}
-use Rattle.dexpool.specs.Numberings.{DenotesMethod}
+use Rattle.dexpool.proofs.Common.{get_or, subst}
+use Rattle.dexpool.specs.{DenotesMethod}
 use Rattle.dexpool.proofs.pools.Pools.method.Goals as goal
 
 pub returns : goal.returns

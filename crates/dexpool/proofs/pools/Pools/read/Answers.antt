@@ -1,5 +1,5 @@
-use Rattle.std.proofs.Common.{◌∙◌, ℕ, List, sym, ap, subst}
-use Rattle.dexpool.specs.Reading.{file_numbers}
+use Rattle.dexpool.proofs.Common.{◌∙◌, ℕ, List, sym, ap, subst}
+use Rattle.dexpool.specs.{file_numbers}
 use Rattle.dexpool.proofs.AllPools.{AreRead, all_read, are_pools}
 use Rattle.dexpool.proofs.ReadTables.{read_tables}
 use Rattle.dexpool.proofs.pools.Pools.read.Goals as goal

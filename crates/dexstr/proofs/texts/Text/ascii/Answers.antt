@@ -1,4 +1,4 @@
-use Rattle.std.proofs.Common.{sym, ◌∙◌}
+use Rattle.dexstr.proofs.Common.{sym, ◌∙◌}
 use Rattle.dexstr.proofs.Ascii.{ascii_is, not_ascii}
 use Rattle.dexstr.proofs.texts.Text.ascii.Goals as goal
 

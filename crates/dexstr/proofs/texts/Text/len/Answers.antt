@@ -1,4 +1,4 @@
-use Rattle.std.proofs.Common.{◌∙◌}
+use Rattle.dexstr.proofs.Common.{◌∙◌}
 use Rattle.dexstr.proofs.Counting.{count_is}
 use Rattle.dexstr.proofs.texts.Text.len.Goals as goal
 

@@ -1,4 +1,4 @@
-use Rattle.std.proofs.Common.{drop}
+use Rattle.dexstr.proofs.Common.{drop}
 use Rattle.dexstr.proofs.Items.{from_place}
 use Rattle.dexstr.proofs.Outcomes.{exact}
 use Rattle.dexstr.proofs.texts.Text.read.Goals as goal

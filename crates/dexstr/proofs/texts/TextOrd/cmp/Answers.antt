@@ -1,4 +1,4 @@
-use Rattle.std.proofs.Common.{◌≡◌, ◌∙◌, length, min, arith}
+use Rattle.dexstr.proofs.Common.{◌≡◌, ◌∙◌, length, min, arith}
 use Rattle.dexstr.proofs.ByBytes.{ended, text_order}
 use Rattle.dexstr.proofs.texts.TextOrd.cmp.Goals as goal
 

@@ -1,6 +1,4 @@
-use Rattle.std.proofs.Common.{◌≡◌, drop}
-use Rattle.std.specs.Cmp.Lexicographic.{slice_cmp}
-use Rattle.dexspec.specs.Texts.{text_cmp}
+use Rattle.dexstr.proofs.Common.{◌≡◌, drop, slice_cmp, text_cmp}
 use Rattle.dexstr.specs.internal.Order.{byte_cmp}
 use Rattle.dexstr.proofs.texts.TextOrd.cmp.Given as goal
 

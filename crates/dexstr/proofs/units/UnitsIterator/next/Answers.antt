@@ -1,4 +1,4 @@
-use Rattle.std.proofs.Common.{◌≡◌, [], sym, ◌∙◌, refl}
+use Rattle.dexstr.proofs.Common.{◌≡◌, [], sym, ◌∙◌, refl}
 use Rattle.dexstr.proofs.Forms.{step, ends}
 use Rattle.dexstr.proofs.units.UnitsIterator.next.Goals as goal
 

@@ -1,4 +1,4 @@
--- The names from below that the proofs cite, passed on from one place. Declares nothing.
+-- The names from below that the proofs cite, re-exported from one place. Declares nothing.
 pub use Rattle.std.proofs.Common.{Bool, Err, IfErr, IfOk, List, None, Ok, OnErr, OnOk, Option, Result, Some, [], ap, append-nil, append_assoc, arith, drop, false, get_or, inl, inr, length, map, refl, rules, subst, suc, sym, take, true, w32, ℕ, ◌*◌, ◌++◌, ◌+◌, ◌<◌, ◌^◌, ◌∙◌, ◌∷◌, ◌≡◌, ◌≤◌}
 pub use Rattle.std.proofs.Math.Seq.{drop-append-add}
 pub use Rattle.std.proofs.lemmas.Grind.{common_steps, fold-append}

@@ -1,4 +1,4 @@
--- The names from below that the proofs cite, passed on from one place. Declares nothing.
+-- The names from below that the proofs cite, re-exported from one place. Declares nothing.
 pub use Rattle.std.proofs.Common.{All, Bool, List, None, Option, Ordering, Some, [], ap, append-nil, arith, drop, eq-eqb, false, get_or, inl, inr, length, length-drop, map, min, option_to_list, refl, subst, suc, sum_by, sym, take, true, zero, ℕ, ◌&&◌, ◌*◌, ◌++◌, ◌+◌, ◌-◌, ◌<◌, ◌==◌, ◌^◌, ◌||◌, ◌∙◌, ◌∷◌, ◌≡◌, ◌≢◌, ◌≤◌, ◌⊎◌}
 pub use Rattle.std.proofs.lemmas.Bool.{cases_eq, cases_lt, cases_order, eqb-true, false≢true, lt-ltb, ltb-true, ne_eqb}
 pub use Rattle.std.proofs.lemmas.Grind.{drop_more_same, flat_map-append}

@@ -1,4 +1,4 @@
--- The names from below that the proofs cite, passed on from one place. Declares nothing.
+-- The names from below that the proofs cite, re-exported from one place. Declares nothing.
 pub use Rattle.std.proofs.Common.{All, Bool, IfNone, IfSome, List, None, Option, Some, T, [], ap, arith, drop, eq-eqb, eqb-true, false, inl, inr, is_lt, is_none, is_some, leb-true, length, ltb-true, map, nat_le, nat_lt, not, refl, replicate, subst, suc, sym, take, true, zero, ℕ, ◌&&◌, ◌++◌, ◌+◌, ◌<◌, ◌==◌, ◌||◌, ◌∙◌, ◌∷◌, ◌≡◌, ◌≢◌, ◌≤◌}
 pub use Rattle.std.proofs.lemmas.List.Elements.{All-cons, All-from_recursion, All-nil, All-same, All-weaker}
 pub use Rattle.std.proofs.lemmas.List.Sums.{AllPass-from_list_all, count_by-le-length}

@@ -1,4 +1,4 @@
--- The names from below that the proofs cite, passed on from one place. Declares nothing.
+-- The names from below that the proofs cite, re-exported from one place. Declares nothing.
 pub use Rattle.std.proofs.Common.{All, Bool, IsTrue, List, Ok, [], ap, append_assoc, arith, drop, false, get_or, inl, inr, length, map, min, refl, rules, subst, suc, sym, take, true, zero, ℕ, ◌%◌, ◌&&◌, ◌*◌, ◌++◌, ◌+◌, ◌-◌, ◌/◌, ◌<◌, ◌^◌, ◌↔◌, ◌∙◌, ◌∷◌, ◌≡◌, ◌≢◌, ◌≤◌, ◌⊎◌}
 pub use Rattle.std.proofs.Math.Seq.{drop-append-add, take-add}
 pub use Rattle.std.proofs.lemmas.List.{append-nil, drop-drop, drop_at, drop_more, get_or-map, get_or-take, length-map, length-take-le, map-append, take-append-le, take-take, take_all, take_at, take_more, take_rest}

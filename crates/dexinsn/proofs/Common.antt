@@ -1,4 +1,4 @@
--- The names from below that the proofs cite, passed on from one place. Declares nothing.
+-- The names from below that the proofs cite, re-exported from one place. Declares nothing.
 pub use Rattle.std.proofs.Common.{Bool, Err, Global, IsSome, List, None, Ok, Option, Result, Some, Vec, [], add-one, add-zero, add_assoc, ap, append_assoc, arith, below_more, cond, drop, drop-cons, eq-eqb, eqb-true, false, get_or, get_or-set_other, if◌then◌else◌, inl, inr, length, length-append, length-drop, ltb, ltb-false, ltb-true, map, max, nat_eq, nat_le, nat_lt, ne_eqb, not, of_z, pos, refl, replicate, rules, set, slice_index, slice_set, subst, suc, sym, take, to_z, true, w32, w64, zero, zero-add, ℕ, ℤ, ◌%◌, ◌&&◌, ◌*◌, ◌++◌, ◌+ℤ◌, ◌+◌, ◌-ℤ◌, ◌-◌, ◌/◌, ◌<ℤ◌, ◌<◌, ◌==◌, ◌^◌, ◌||◌, ◌∙◌, ◌∷◌, ◌≡◌, ◌≢◌, ◌≤ℤ◌, ◌≤◌}
 pub use Rattle.std.proofs.lemmas.Bool.{and_parts, cases_eq, cases_lt, le-leb, leb-true}
 pub use Rattle.std.proofs.lemmas.Grind.{common_steps, same_number_lists}

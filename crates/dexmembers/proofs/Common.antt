@@ -1,4 +1,4 @@
--- The names from below that the proofs cite, passed on from one place. Declares nothing.
+-- The names from below that the proofs cite, re-exported from one place. Declares nothing.
 pub use Rattle.std.proofs.Common.{All, Bool, Bor, Equal, Err, Greater, Less, List, None, Ok, Option, Ordering, Result, Some, [], ap, append-nil, append_assoc, arith, cond, drop, false, get_or, inl, inr, length, map, max, min, nat_eq, nat_lt, option_to_list, refl, rules, subst, suc, sum_by, sym, take, true, unwrap_or, zero, ℕ, ◌*◌, ◌++◌, ◌+◌, ◌-◌, ◌<◌, ◌^◌, ◌∙◌, ◌∷◌, ◌≡◌, ◌≢◌, ◌≤◌, ◌⊎◌}
 pub use Rattle.std.proofs.lemmas.Bool.{cases_eq, cases_lt, cases_order, cond-false, cond_both, eq-eqb, eqb-true, false≢true, le-ltb, lt-ltb, ltb-false, ltb-true, true≢false}
 pub use Rattle.std.proofs.lemmas.Cmp.{tied_itself}

@@ -16,7 +16,7 @@ abbrev value_or : {X : Type 0} → X → Option X → X
 value_or d None = d
 value_or d (Some x) = x
 
--- two ways of two steps that lead to the same
+-- two ways of two steps have the same end
 pub both_where : {A B C D : Type 0} (f : A → B) (g : B → D) (h : A → C) (k : C → D) (P : A → Type 0) → ((x : A) → P x → g (f x) ≡ k (h x)) → (xs : List A) → All P xs → map g (map f xs) ≡ map k (map h xs)
 both_where f g h k P e [] all = refl
 both_where f g h k P e (x ∷ xs) all =

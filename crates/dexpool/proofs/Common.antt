@@ -1,4 +1,4 @@
--- The names from below that the proofs cite, passed on from one place. Declares nothing.
+-- The names from below that the proofs cite, re-exported from one place. Declares nothing.
 pub use Rattle.std.proofs.Common.{Bool, Equal, Err, Greater, IsSome, IsTrue, Less, List, None, Ok, Option, Ordering, Some, [], add-one, ap, append_assoc, arith, drop, drop_at, eq-eqb, false, get_or, inl, inr, length, length-append, length-drop, length-take, lt-ltb, ltb-true, map, min, nat_eq, nat_lt, ne_eqb, not, of_calls, refl, replicate, rules, set, slice_index, slice_index_or, subst, suc, sum_by, sym, take, take_all, true, zero, ℕ, ◌&&◌, ◌*◌, ◌++◌, ◌+◌, ◌-◌, ◌/◌, ◌<◌, ◌==◌, ◌^◌, ◌||◌, ◌↔◌, ◌∙◌, ◌∷◌, ◌≡◌, ◌≢◌, ◌≤◌, ◌⊎◌}
 pub use Rattle.std.proofs.lemmas.Bool.{cases_eq, cases_lt, cases_order, eqb-true, false≢true, or_left, or_right}
 pub use Rattle.std.proofs.lemmas.Cmp.{nat_list_cmp_total, on_total, tied_itself}

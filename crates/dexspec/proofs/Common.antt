@@ -1,4 +1,4 @@
--- The names of std that proofs cite, and the types of dexspec that are spelled like their modules, passed on from one
+-- The names of std that proofs cite, and the types of dexspec that are spelled like their modules, re-exported from one
 -- place. Declares nothing.
 pub use Rattle.std.proofs.Common.{All, Bool, Bor, Equal, Err, Global, Greater, IfErr, IfNone, IfOk, IfSome, IsSome, IsTrue, Less, List, None, Ok, OnErr, OnOk, Option, Ordering, Result, Some, T, Vec, [], add-one, add-zero, add_assoc, ap, append-nil, append_assoc, arith, below_more, codes, cond, count_by, drop, drop-cons, drop_at, eq-eqb, eqb, eqb-true, false, flat_map, fold, get_or, get_or-set_other, get_or-set_same, if◌then◌else◌, inl, inr, is_eq, is_lt, is_none, is_some, leb, leb-true, length, length-append, length-drop, length-set, length-take, length-take-le, lt-ltb, ltb, ltb-false, ltb-true, map, max, min, nat_abs, nat_cmp, nat_eq, nat_le, nat_lt, ne_eqb, not, of_calls, of_z, option_to_list, pos, refl, replicate, rules, set, slice_index, slice_index_or, slice_set, string_bytes, subst, suc, sum_by, sym, take, take-append-drop, take_all, take_at, to_z, true, unwrap_or, vec_len, w32, w64, zero, zero-add, zip, ℕ, ℤ, ◌%◌, ◌&&◌, ◌*◌, ◌++◌, ◌+ℤ◌, ◌+◌, ◌-ℤ◌, ◌-◌, ◌/◌, ◌<ℤ◌, ◌<◌, ◌==◌, ◌^◌, ◌||◌, ◌↔◌, ◌∙◌, ◌∷◌, ◌≡◌, ◌≢◌, ◌≤ℤ◌, ◌≤◌, ◌⊎◌}
 pub use Rattle.std.proofs.Math.ListN.{drop_of_length-le, get_or-append, get_or-eq_default}

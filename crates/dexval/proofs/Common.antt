@@ -1,4 +1,4 @@
--- The names that the proofs cite most, passed on from one place. Declares nothing.
+-- The names that the proofs cite most, re-exported from one place. Declares nothing.
 pub use Rattle.byteorder.specs.Endian.{little_bytes, little_number, twos_complement}
 pub use Rattle.dexpool.proofs.Parts.{all_back, all_prefix}
 pub use Rattle.dexpool.specs.Images.{IsMapped, MapsUse}

@@ -3,7 +3,7 @@ use Rattle.dexval.proofs.Common.{◌≡◌, ◌∙◌, ℕ, ◌+◌, ◌-◌, �
 use Rattle.std.proofs.lemmas.Result.{err_from_is_err_and}
 use Rattle.dexpool.specs.declared.faults.ItemFault.TheVariants.{Refused, Memory}
 
--- what the exit of a `?` returns, where the fault is passed on unchanged
+-- what the exit of a `?` returns, where the fault stays as it is
 pub err_is : {T E : Type 0} {fault : E} (r : Result T E) → IsErrAnd r (λ y. y ≡ fault) → r ≡ Err fault
 err_is r h = let e = err_from_is_err_and r h in e.1 ∙ ap (λ y. Err y) e.2
 

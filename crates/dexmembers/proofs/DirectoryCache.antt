@@ -1,7 +1,7 @@
 -- The conditions of class data and code at a row: what was read meets them, and what was refused fails one.
 use Rattle.dexmembers.proofs.Common.{◌≡◌, ◌≢◌, ℕ, ◌+◌, List, [], ◌∷◌, map, subst, arith, inl, inr, Option, Some, None, All, Contains, All-nil, All-cons, All-append, All-contains, Contains-append_left, Contains-append_right, OrNone, SomeAt, uint_at, Code, CodeAt, TriesAt, ClassData, ClassDataAt, no_class_data, EncodedMethod, methods_of, class_data_off, Condition, Declares, AllCode, HasPiecesAt, HasTriesAt, HasDebugAt, HasCode, HasTries, HasDebug, Mentions, Contains-map, one_or_none, one_pieces, ItemFault, Refused, Memory, IsCodeFault}
 use Rattle.dexspec.specs.Pieces.{Cut}
-use Rattle.dexspec.specs.Debug.{Debug, DebugAt}
+use Rattle.dexspec.specs.Debug.{DebugAt}
 use Rattle.dexspec.proofs.determined.OneClass.{one_class_data}
 use Rattle.dexmembers.specs.internal.ClassData.{encoded_method_in, class_data_in, IsDataOf, IsDataFault}
 use Rattle.dexmembers.specs.internal.MethodCodes.{AreCodesAt, IsCodesFault}

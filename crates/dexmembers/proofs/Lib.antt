@@ -12,6 +12,7 @@ pub mod HeldMembers
 pub mod Images
 pub mod DirectoryCache
 pub mod Meant
+pub mod MethodLists
 pub mod MemberChains
 pub mod MembersUsed
 pub mod Named

@@ -13,8 +13,8 @@ contents_in x = record {
   annotations = set_at x.table.sets x.set;
   static_fields = map (field_of x.table.sets) x.static_fields.items;
   instance_fields = map (field_of x.table.sets) x.instance_fields.items;
-  direct_methods = map (method_of x.table) x.direct_methods.items;
-  virtual_methods = map (method_of x.table) x.virtual_methods.items;
+  direct_methods = map (method_of x.table) x.direct_methods;
+  virtual_methods = map (method_of x.table) x.virtual_methods;
   static_values = values_of_list (map value_of x.static_values.items);
 }
 
@@ -23,8 +23,8 @@ pub record AreHeld (x : Contents) : Type 0 where
   pub own_held : IsPlaceIn x.table.sets x.set
   pub static_fields_held : All (IsHeldField x.table.sets) x.static_fields.items
   pub instance_fields_held : All (IsHeldField x.table.sets) x.instance_fields.items
-  pub direct_methods_held : All (IsHeldMethod x.table) x.direct_methods.items
-  pub virtual_methods_held : All (IsHeldMethod x.table) x.virtual_methods.items
+  pub direct_methods_held : All (IsHeldMethod x.table) x.direct_methods
+  pub virtual_methods_held : All (IsHeldMethod x.table) x.virtual_methods
 
 -- members are few, and their places are the table's
 pub record AreKept (x : Contents) : Type 0 where

@@ -2,10 +2,11 @@
 //! directory.
 
 ghost use Rattle.std.specs.Prelude.{◌≡◌, ℕ, ◌<◌, IfOk, IfSome, MatchOption};
-ghost use Rattle.dexmembers.specs.internal.Attaching.{place_for, EntriesRise, HasNumberAt, AreHeldFields, AttachesMethods, HaveFieldSetsBelow, HaveListsBelow, HaveSetsBelow, LacksNumber, PlacesBelow};
+ghost use Rattle.dexmembers.specs.internal.Attaching.{place_for, EntriesRise, HasNumberAt, AreHeldFields, AttachesMethods, HaveFieldSetsBelow, HaveListsBelow, HaveSetsBelow, IsKept, LacksNumber, PlacesBelow};
 
 use crate::class_data::{EncodedField, EncodedMethod};
-use crate::members::{DeclaredField, DeclaredMethod};
+use crate::members::DeclaredField;
+use crate::method_list::{DeclaredMethod, MethodList};
 use crate::places::Place;
 use dexcode::Code;
 use dexflags::{FieldFlags, MethodFlags};
@@ -52,6 +53,20 @@ pub(crate) fn attach_fields(
     Ok(fields)
 }
 
+// Puts the code, if there is some, at the end of the others, and returns its place.
+fn keep_code<'a>(code: Option<Code<'a>>, codes: &mut Vec<Code<'a>>) -> Result<Place, AllocError>
+    ensures { IfOk result (IsKept code.entry codes.old.items codes.new.items) }
+{
+    let Some(code) = code else {
+        return Place::of(None);
+    };
+    let Ok(place) = u32::try_from(codes.len()) else {
+        return Err(AllocError);
+    };
+    codes.push(code)?;
+    Place::of(Some(place))
+}
+
 /// The methods of a list of class data, with their code and the places of their sets and lists of sets in a directory.
 ///
 /// Source: "encoded_method format", "method_annotation format", "parameter_annotation format".
@@ -61,17 +76,19 @@ pub(crate) fn attach_methods<'a>(
     codes: Vec<Option<Code<'a>>>,
     sets: &[(u32, u32)],
     lists: &[(u32, u32)],
-) -> Result<Vec<DeclaredMethod<'a>>, AllocError>
+) -> Result<MethodList<'a>, AllocError>
     ensures methods { AttachesMethods sets.now lists.now listed.now codes.entry.items result }
     ensures sets_held { (limit : ℕ) → PlacesBelow limit sets.now
         → IfOk result (HaveSetsBelow limit) }
     ensures lists_held { (limit : ℕ) → PlacesBelow limit lists.now
         → IfOk result (HaveListsBelow limit) }
 {
+    let with_code = codes.iter().filter(|code| code.is_some()).count();
     let mut methods = Vec::with_capacity(alloc, listed.len())?;
+    let mut code_items = Vec::with_capacity(alloc, with_code)?;
     let mut codes = codes.into_iter();
     for method in listed {
-        let code = codes.next().flatten();
+        let code = keep_code(codes.next().flatten(), &mut code_items)?;
         let set = Place::of(place_for(sets, method.index))?;
         let list = Place::of(place_for(lists, method.index))?;
         methods.push(DeclaredMethod {
@@ -82,5 +99,8 @@ pub(crate) fn attach_methods<'a>(
             list,
         })?;
     }
-    Ok(methods)
+    Ok(MethodList {
+        methods,
+        code_items,
+    })
 }

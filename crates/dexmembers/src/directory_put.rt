@@ -11,7 +11,8 @@ ghost use Rattle.dexmembers.specs.Numbered.{fields_of, methods_of, members_in, m
 ghost use Rattle.dexmembers.specs.DirectoryPut.{pair_bytes, count_placed, numbered_directory_bytes, both_bytes_by, directory_head_bytes, field_pairs_bytes, method_pairs_bytes, HasDirectoryRoom, IsDirectoryLen};
 ghost use Rattle.dexmembers.specs.FormedDirectory.{IsFormedDirectory, item_bytes};
 
-use crate::members::{DeclaredField, DeclaredMethod, Members};
+use crate::members::{DeclaredField, Members};
+use crate::method_list::DeclaredMethod;
 use crate::put_laws::members_bytes_law;
 use dexhead::{Encode, Output};
 use std::alloc::AllocError;
@@ -67,7 +68,7 @@ impl HasNumber for DeclaredField {
     }
 }
 
-impl HasNumber for DeclaredMethod<'_> {
+impl HasNumber for DeclaredMethod {
     ghost number_of = { λ x. x.number };
 
     fn number(&self) -> u32 {
@@ -185,7 +186,8 @@ impl Members<'_> {
         ensures { O.gives (method_pairs_bytes self.now offsets.now) out.old out.new }
     {
         let own = &self.contents;
-        encode_pairs(&own.direct_methods, &own.virtual_methods, offsets, out);
+        let (direct, virtuals) = (&own.direct_methods, &own.virtual_methods);
+        encode_pairs(direct.declared(), virtuals.declared(), offsets, out);
     }
 }
 

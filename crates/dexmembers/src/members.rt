@@ -8,10 +8,10 @@ ghost use Rattle.dexmembers.specs.Contents.{contents_in, AreHeld};
 ghost use Rattle.dexmembers.specs.Borrowed.{IsBorrowedSet};
 
 use crate::field_views::Fields;
+use crate::method_list::MethodList;
 use crate::method_views::Methods;
 use crate::places::Place;
-use dexcode::Code;
-use dexflags::{FieldFlags, MethodFlags};
+use dexflags::FieldFlags;
 use dexval::{AnnotationSet, SetTable, Value};
 use std::marker::Model;
 
@@ -40,31 +40,6 @@ impl Model for DeclaredField {
     ghost inverse = { λ f. record { number = f.number; flags = record { 0 = f.flags }; set = f.set } };
 }
 
-/// A declared method: its number among the methods, its access flags, its code, if it has some, the place of its
-/// annotations in a table of sets, and the place of the list of sets for its parameters, or `None` where it has none.
-///
-/// Source: "encoded_method format", "method_annotation format", "parameter_annotation format".
-#[derive(Drop)]
-pub(crate) struct DeclaredMethod<'a> {
-    pub(crate) number: u32,
-    pub(crate) flags: MethodFlags,
-    pub(crate) code: Option<Code<'a>>,
-    pub(crate) set: Place,
-    pub(crate) list: Place,
-}
-
-impl<'a> Model for DeclaredMethod<'a> {
-    ghost use Rattle.std.specs.Coded.{codes};
-    ghost use Rattle.dexval.specs.Stored.{elements_code};
-    ghost use Rattle.dexmembers.specs.Held.{HeldMethod};
-
-    ghost Value = { HeldMethod };
-
-    ghost coded = { Prim.hlevel (codes, elements_code) };
-
-    ghost view = { λ x. record { number = x.number; flags = x.flags.0; code = x.code; set = x.set; list = x.list } };
-}
-
 /// What a class declares: its own annotations, its fields and methods by number, and the initial values of its static
 /// fields, in their order, which may be fewer.
 ///
@@ -88,8 +63,8 @@ pub(crate) struct Contents<'a> {
     pub(crate) set: Option<u32>,
     pub(crate) static_fields: Vec<DeclaredField>,
     pub(crate) instance_fields: Vec<DeclaredField>,
-    pub(crate) direct_methods: Vec<DeclaredMethod<'a>>,
-    pub(crate) virtual_methods: Vec<DeclaredMethod<'a>>,
+    pub(crate) direct_methods: MethodList<'a>,
+    pub(crate) virtual_methods: MethodList<'a>,
     pub(crate) static_values: Vec<Value>,
 }
 

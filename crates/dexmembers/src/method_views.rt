@@ -7,7 +7,7 @@ ghost use Rattle.dexval.specs.Tables.{IsPlaceIn, set_at};
 ghost use Rattle.dexmembers.specs.Held.{method_of, IsHeldMethod};
 ghost use Rattle.dexmembers.specs.Borrowed.{IsBorrowedSet};
 
-use crate::members::DeclaredMethod;
+use crate::method_list::{DeclaredMethod, MethodList, code_at};
 use dexcode::Code;
 use dexflags::MethodFlags;
 use dexval::{AnnotationSet, SetTable};
@@ -19,7 +19,7 @@ use std::marker::Model;
 #[derive(Drop)]
 pub struct Methods<'m, 'a> {
     table: &'m SetTable,
-    methods: &'m [DeclaredMethod<'a>],
+    methods: &'m MethodList<'a>,
 }
 
 impl<'m, 'a> Model for Methods<'m, 'a> {
@@ -45,22 +45,24 @@ impl<'m, 'a> Model for Methods<'m, 'a> {
 #[derive(Drop)]
 pub struct Method<'m, 'a> {
     table: &'m SetTable,
-    method: &'m DeclaredMethod<'a>,
+    method: &'m DeclaredMethod,
+    code: Option<&'m Code<'a>>,
 }
 
 impl<'m, 'a> Model for Method<'m, 'a> {
     ghost use Rattle.std.specs.Coded.{codes};
     ghost use Rattle.dexval.specs.Stored.{elements_code};
+    ghost use Rattle.std.specs.Option.{option_map};
     ghost use Rattle.dexmembers.specs.Numbered.{NumberedMethod};
-    ghost use Rattle.dexmembers.specs.Held.{method_of, IsHeldMethod};
+    ghost use Rattle.dexmembers.specs.Held.{held_with, method_of, IsHeldMethod};
 
     ghost Value = { NumberedMethod };
 
     ghost coded = { Prim.hlevel (codes, elements_code) };
 
-    ghost view = { λ x. method_of x.table.now x.method.now };
+    ghost view = { λ x. method_of x.table.now (held_with x.method.now (option_map (λ code. code.now) x.code)) };
 
-    ghost invariant = { λ x. IsHeldMethod x.table.now x.method.now };
+    ghost invariant = { λ x. IsHeldMethod x.table.now (held_with x.method.now (option_map (λ code. code.now) x.code)) };
 }
 
 /// The sets of annotations of a method's parameters, from left to right. They are borrowed.
@@ -92,7 +94,7 @@ impl<'m, 'a> Methods<'m, 'a> {
     /// Returns a view of these methods, with their sets in a table.
     ///
     /// Condition: their places are the table's.
-    pub(crate) fn of(table: &'m SetTable, methods: &'m [DeclaredMethod<'a>]) -> Methods<'m, 'a>
+    pub(crate) fn of(table: &'m SetTable, methods: &'m MethodList<'a>) -> Methods<'m, 'a>
         requires { All (IsHeldMethod table.now) methods.now }
         ensures { result ≡ map (method_of table.now) methods.now }
     {
@@ -103,14 +105,16 @@ impl<'m, 'a> Methods<'m, 'a> {
     pub fn len(&self) -> usize
         ensures { result ≡ length self.now }
     {
-        self.methods.len()
+        let methods = self.methods;
+        methods.methods.len()
     }
 
     /// Returns whether there is no method.
     pub fn is_empty(&self) -> bool
         ensures { result ≡ (length self.now == 0) }
     {
-        self.methods.is_empty()
+        let methods = self.methods;
+        methods.methods.is_empty()
     }
 
     /// The method at a place.
@@ -120,10 +124,12 @@ impl<'m, 'a> Methods<'m, 'a> {
         requires { place < length self.now }
         ensures { result ≡ slice_index_or self.now place result }
     {
-        let methods = self.methods;
+        let list = self.methods;
+        let method = &list.methods[place];
         Method {
             table: self.table,
-            method: &methods[place],
+            method,
+            code: code_at(&list.code_items, method.code.get()),
         }
     }
 }
@@ -156,8 +162,7 @@ impl<'m, 'a> Method<'m, 'a> {
         ensures { MatchOption result (self.now.code ≡ None) (λ code.
             self.now.code ≡ Some code.now) }
     {
-        let method = self.method;
-        method.code.as_ref()
+        self.code
     }
 
     /// The annotations; `None` says that the method has none.

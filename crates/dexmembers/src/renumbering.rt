@@ -1,9 +1,9 @@
 //! What classes declare, with its numbers mapped to those of another numbering.
 
 ghost use Rattle.std.specs.Prelude.{◌≡◌};
-ghost use Rattle.dexmembers.specs.Renumbering.{remapped_field, remapped_method, renumbered_members, IsHeldFieldMapped, IsHeldMethodMapped, MembersHavePlaces};
+ghost use Rattle.dexmembers.specs.Renumbering.{remapped_field, renumbered_members, IsHeldFieldMapped, MembersHavePlaces};
 
-use crate::members::{DeclaredField, DeclaredMethod, Members};
+use crate::members::{DeclaredField, Members};
 use dexpool::{Remap, Renumber, SymbolKind, renumber_all};
 use dexval::{remapped, renumber_values};
 
@@ -15,20 +15,6 @@ impl Renumber for DeclaredField {
     // The sets are remapped in their table.
     fn renumber(&mut self, remap: &Remap) {
         self.number = remapped(remap, SymbolKind::Field, self.number);
-    }
-}
-
-impl Renumber for DeclaredMethod<'_> {
-    ghost places = { IsHeldMethodMapped };
-
-    ghost remapped = { remapped_method };
-
-    // The sets are remapped in their table.
-    fn renumber(&mut self, remap: &Remap) {
-        self.number = remapped(remap, SymbolKind::Method, self.number);
-        if let Some(code) = &mut self.code {
-            code.renumber(remap);
-        }
     }
 }
 
@@ -45,8 +31,8 @@ impl<'a> Members<'a> {
         self.contents.table.renumber(remap);
         renumber_all(&mut self.contents.static_fields, remap);
         renumber_all(&mut self.contents.instance_fields, remap);
-        renumber_all(&mut self.contents.direct_methods, remap);
-        renumber_all(&mut self.contents.virtual_methods, remap);
+        self.contents.direct_methods.renumber(remap);
+        self.contents.virtual_methods.renumber(remap);
         renumber_values(&mut self.contents.static_values, remap);
     }
 }

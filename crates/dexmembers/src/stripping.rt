@@ -1,31 +1,11 @@
 //! What classes declare, without debug programs.
 
-ghost use Rattle.std.specs.Prelude.{◌≡◌, map};
+ghost use Rattle.std.specs.Prelude.{◌≡◌};
 ghost use Rattle.dexmembers.specs.Numbered.{NumberedMembers, AreOrdered};
-ghost use Rattle.dexmembers.specs.Stripped.{stripped_held, stripped_members};
+ghost use Rattle.dexmembers.specs.Stripped.{stripped_members};
 ghost use Rattle.dexmembers.specs.Laws.{StrippedMembersAreMeant, StrippedMembersAreKnown, StrippedMembersAreOfClass, StrippedMembersKeepShortStrings, StrippedMembersKeepTries};
 
-use crate::members::{DeclaredMethod, Members};
-
-// Leaves out the debug programs of methods.
-fn drop_debugs(methods: &mut Vec<DeclaredMethod<'_>>)
-    ensures { methods.new.items ≡ map stripped_held methods.old.items }
-{
-    for i in 0..methods.len() {
-        methods[i].drop_debug();
-    }
-}
-
-impl<'a> DeclaredMethod<'a> {
-    // Leaves out the debug program.
-    fn drop_debug(&mut self)
-        ensures { self.new ≡ stripped_held self.old }
-    {
-        if let Some(code) = &mut self.code {
-            code.drop_debug();
-        }
-    }
-}
+use crate::members::Members;
 
 impl<'a> Members<'a> {
     /// Leaves out the debug programs of all methods. Instructions and tries stay, and so do the texts that a
@@ -35,8 +15,8 @@ impl<'a> Members<'a> {
     pub fn drop_debug(&mut self)
         ensures { self.new ≡ stripped_members self.old }
     {
-        drop_debugs(&mut self.contents.direct_methods);
-        drop_debugs(&mut self.contents.virtual_methods);
+        self.contents.direct_methods.drop_debug();
+        self.contents.virtual_methods.drop_debug();
     }
 }
 

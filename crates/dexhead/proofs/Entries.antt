@@ -1,13 +1,12 @@
 -- The entries of a map, one by one.
-use Rattle.dexhead.proofs.Common.{◌≡◌, ◌≢◌, ◌⊎◌, inl, inr, ◌↔◌, ℕ, zero, suc, ◌+◌, ◌-◌, ◌*◌, ◌<◌, ◌≤◌, List, [], ◌∷◌, ◌++◌, length, map, take, get_or, Bool, true, false, ◌&&◌, IsTrue, All, refl, subst, sym, ap, ◌∙◌, arith, Contains, take_more, take_all, map-append, length-map, length-take-le, get_or-map, get_or-take, All-more, All-map, All-get_or, All-contains, Contains-get_or, ushort_at, uint_at, table_size, table_off, StringIds, TypeIds, ProtoIds, FieldIds, MethodIds, ClassDefs, MapEntry, Section, HeaderItem, TableOf, MapList, TypeLists, AnnotationSetRefLists, AnnotationSets, ClassDataItems, CodeItems, StringDataItems, DebugInfoItems, AnnotationItems, EncodedArrayItems, AnnotationsDirectories, type_code, entries_at, IsKnown, IsPlaced, HasTable, HasMap, map_entries}
+use Rattle.dexhead.proofs.Common.{◌≡◌, ◌≢◌, ◌⊎◌, inl, inr, ◌↔◌, ℕ, zero, suc, ◌+◌, ◌-◌, ◌*◌, ◌<◌, ◌≤◌, List, [], ◌∷◌, ◌++◌, length, map, take, get_or, Bool, false, and_from, and_parts, IsTrue, All, refl, subst, sym, ap, ◌∙◌, arith, Contains, take_more, take_all, map-append, length-map, length-take-le, get_or-map, get_or-take, All-more, All-map, All-get_or, All-contains, Contains-get_or, ushort_at, uint_at, table_size, StringIds, TypeIds, ProtoIds, FieldIds, MethodIds, ClassDefs, MapEntry, Section, HeaderItem, TableOf, MapList, TypeLists, AnnotationSetRefLists, AnnotationSets, ClassDataItems, CodeItems, StringDataItems, DebugInfoItems, AnnotationItems, EncodedArrayItems, AnnotationsDirectories, type_code, entries_at, IsKnown, IsPlaced, HasTable, HasMap, map_entries}
 use Rattle.std.specs.Ordering.{nat_cmp, is_lt}
 use Rattle.std.proofs.lemmas.List.Quantifiers.{all_pairs_push}
 use Rattle.std.proofs.lemmas.Bool.Decides.{nat_tests}
 use Rattle.dexspec.specs.Lists.{rises, AreDistinct}
 use Rattle.dexspec.specs.Header as header
 use Rattle.dexhead.specs.declared.map.Map.{Map}
-use Rattle.dexhead.specs.internal.Found.{entries}
-use Rattle.dexhead.specs.internal.Map.{entry_of, IsCode, IsNext, AreInOrder, BeginsWithHeader, IsThere, HaveTables, AreRight, IsInPlace}
+use Rattle.dexhead.specs.{entries, entry_of, IsCode, IsNext, AreInOrder, BeginsWithHeader, IsThere, HaveTables, AreRight, IsInPlace}
 
 abbrev none : MapEntry
 none = record { kind = 0; size = 0; off = 0 }
@@ -30,8 +29,7 @@ length-entries_at b o (suc n) = ap (λ k. suc k) (length-entries_at b (o + 12) n
 entry_of-entries_at : (b : List ℕ) (o n i : ℕ) → i < n → entry_of (entries_at b o n) i ≡ entry_at b (o + 12 * i)
 entry_of-entries_at b o zero i lt = absurd (omega arith)
 entry_of-entries_at b o (suc n) zero lt = ap (entry_at b) (let e : o ≡ o + 12 * 0 = omega arith in e)
-entry_of-entries_at b o (suc n) (suc i) lt =
-    entry_of-entries_at b (o + 12) n i (omega arith) ∙ ap (entry_at b) (let e : o + 12 + 12 * i ≡ o + 12 * suc i = omega arith in e)
+entry_of-entries_at b o (suc n) (suc i) lt = entry_of-entries_at b (o + 12) n i (omega arith) ∙ ap (entry_at b) (let e : o + 12 + 12 * i ≡ o + 12 * suc i = omega arith in e)
 
 pub length-entries : (m : Map) → length (entries m) ≡ m.count
 unfolding entries
@@ -82,22 +80,12 @@ known_code n (inr (inr h)) = let s = high (n - 0x2000) (omega arith) in (s.0, om
 code_of : (s : Section) → IsCode (type_code s)
 code_of HeaderItem = inl (omega arith)
 code_of (TableOf StringIds) = inl (omega arith)
-code_of (TableOf TypeIds) = inl (omega arith)
-code_of (TableOf ProtoIds) = inl (omega arith)
-code_of (TableOf FieldIds) = inl (omega arith)
-code_of (TableOf MethodIds) = inl (omega arith)
-code_of (TableOf ClassDefs) = inl (omega arith)
+code_of (TableOf _) = inl (omega arith)
 code_of MapList = inr (inl (omega arith, omega arith))
 code_of TypeLists = inr (inl (omega arith, omega arith))
 code_of AnnotationSetRefLists = inr (inl (omega arith, omega arith))
 code_of AnnotationSets = inr (inl (omega arith, omega arith))
-code_of ClassDataItems = inr (inr (omega arith, omega arith))
-code_of CodeItems = inr (inr (omega arith, omega arith))
-code_of StringDataItems = inr (inr (omega arith, omega arith))
-code_of DebugInfoItems = inr (inr (omega arith, omega arith))
-code_of AnnotationItems = inr (inr (omega arith, omega arith))
-code_of EncodedArrayItems = inr (inr (omega arith, omega arith))
-code_of AnnotationsDirectories = inr (inr (omega arith, omega arith))
+code_of _ = inr (inr (omega arith, omega arith))
 
 -- ---- truth
 
@@ -112,29 +100,15 @@ cmp_less x y lt = grind (arith, nat_tests)
 less_cmp : (x y : ℕ) → IsTrue (is_lt (nat_cmp x y)) → x < y
 less_cmp x y h = grind (arith, nat_tests)
 
-both : (a b : Bool) → IsTrue a → IsTrue b → IsTrue (a && b)
-both true b p q = q
-both false b p q = p
-
-first : (a b : Bool) → IsTrue (a && b) → IsTrue a
-first true b h = refl
-first false b h = h
-
-second : (a b : Bool) → IsTrue (a && b) → IsTrue b
-second true b h = h
-second false b h = absurd cc
-
 rises_push : (xs : List ℕ) (y : ℕ) → IsTrue (rises nat_cmp xs) → ((k : ℕ) → suc k ≡ length xs → get_or xs k 0 < y) → IsTrue (rises nat_cmp (xs ++ y ∷ []))
 rises_push [] y h last = refl
-rises_push (x ∷ []) y h last = both _ _ (cmp_less x y (last 0 refl)) refl
-rises_push (x ∷ z ∷ xs) y h last =
-    both (is_lt (nat_cmp x z)) _ (first _ _ h) (rises_push (z ∷ xs) y (second (is_lt (nat_cmp x z)) _ h) (λ k e. last (suc k) (ap (λ n. suc n) e)))
+rises_push (x ∷ []) y h last = and_from _ _ (cmp_less x y (last 0 refl)) refl
+rises_push (x ∷ z ∷ xs) y h last = and_from (is_lt (nat_cmp x z)) _ (and_parts _ _ h).0 (rises_push (z ∷ xs) y (and_parts (is_lt (nat_cmp x z)) _ h).1 (λ k e. last (suc k) (ap (λ n. suc n) e)))
 
 rises_at : (xs : List ℕ) (k : ℕ) → IsTrue (rises nat_cmp xs) → suc k < length xs → get_or xs k 0 < get_or xs (suc k) 0
-rises_at [] k h lt = absurd (omega arith)
-rises_at (x ∷ []) k h lt = absurd (omega arith)
-rises_at (x ∷ y ∷ xs) zero h lt = less_cmp x y (first _ _ h)
-rises_at (x ∷ y ∷ xs) (suc k) h lt = rises_at (y ∷ xs) k (second (is_lt (nat_cmp x y)) _ h) (omega arith)
+rises_at (x ∷ y ∷ xs) zero h lt = less_cmp x y (and_parts _ _ h).0
+rises_at (x ∷ y ∷ xs) (suc k) h lt = rises_at (y ∷ xs) k (and_parts (is_lt (nat_cmp x y)) _ h).1 (omega arith)
+rises_at _ k h lt = absurd (omega arith)
 
 -- ---- the walk
 
@@ -172,12 +146,11 @@ above_at : (es : List MapEntry) (i : ℕ) → i < length es → IsTrue (rises na
 above_at es zero lt h = inl refl
 above_at es (suc k) lt h =
     let n : length (map off es) ≡ length es = length-map es off in
-    let l = rises_at (map off es) k h (omega arith) in
     let p : get_or (map off es) k 0 ≡ (entry_of es k).off = get_or-map off es k none 0 (omega arith) in
     let q : get_or (map off es) (suc k) 0 ≡ (entry_of es (suc k)).off = get_or-map off es (suc k) none 0 lt in
     let j : suc k - 1 ≡ k = omega arith in
     let r : (entry_of es (suc k - 1)).off ≡ (entry_of es k).off = ap (λ i. (entry_of es i).off) j in
-    inr (omega (arith, l, p, q, r))
+    inr (omega (arith, rises_at (map off es) k h (omega arith), p, q, r))
 
 new_at : (es : List MapEntry) (i : ℕ) → i < length es → AreDistinct (map kind es) → All (λ e. e.kind ≢ (entry_of es i).kind) (take i es)
 new_at es i lt h k d le same =

@@ -18,8 +18,7 @@ length_one e = simp length-append (omega (arith, length-ushort (type_code e.0), 
 pub length_map : (es : List MapEntry) → length (map_bytes (map entry_meant es)) ≡ 4 + 12 * length es
 length_map es =
     let n : length (map entry_meant es) ≡ length es = length-map es entry_meant in
-    let rows = length_rows map_entry_bytes 12 length_one (map entry_meant es) in
-    omega (arith, length-append (uint (length (map entry_meant es))) (flat_map map_entry_bytes (map entry_meant es)), length-uint (length (map entry_meant es)), n, rows)
+    omega (arith, length-append (uint (length (map entry_meant es))) (flat_map map_entry_bytes (map entry_meant es)), length-uint (length (map entry_meant es)), n, length_rows map_entry_bytes 12 length_one (map entry_meant es))
 
 -- ---- a header
 

@@ -13,8 +13,7 @@ unfolding signed
 signature_set f d e = overwritten 12 20 32 f d refl ∙ ap (λ ys. take 12 f ++ (ys ++ drop 32 f)) (e ∙ ap sha1 (take_rest f 32))
 
 pub checksum_set : (f d : List ℕ) (n : ℕ) → d ≡ little_bytes 4 n → n ≡ adler_32 (take (length f - 12) (drop 12 f)) → put_mid 8 4 f d ≡ take 8 f ++ (uint (adler_32 (drop 12 f)) ++ drop 12 f)
-checksum_set f d n e s =
-    overwritten 8 4 12 f d refl ∙ ap (λ ys. take 8 f ++ (ys ++ drop 12 f)) (e ∙ sym (four_bytes n) ∙ ap uint (s ∙ ap adler_32 (take_rest f 12)))
+checksum_set f d n e s = overwritten 8 4 12 f d refl ∙ ap (λ ys. take 8 f ++ (ys ++ drop 12 f)) (e ∙ sym (four_bytes n) ∙ ap uint (s ∙ ap adler_32 (take_rest f 12)))
 
 pub sums_set : (f g h : List ℕ) → 32 ≤ length f → g ≡ take 12 f ++ signed f → h ≡ take 8 g ++ (uint (adler_32 (drop 12 g)) ++ drop 12 g) → h ≡ with_sums_set f
 unfolding with_sums_set

@@ -14,8 +14,7 @@ first_part m c s x r n e = ap (take n) (joined m c s x r) ∙ take_at m (c ++ (s
 
 -- the rest after all three
 following : (m c s x r : List ℕ) → length m ≡ 8 → length c ≡ 4 → length s ≡ 20 → drop 32 ((m ++ (c ++ (s ++ x))) ++ r) ≡ x ++ r
-following m c s x r e8 e4 e20 =
-    ap (drop 32) (joined m c s x r) ∙ drop_after m (c ++ (s ++ (x ++ r))) 8 24 e8 ∙ drop_after c (s ++ (x ++ r)) 4 20 e4 ∙ drop_at s (x ++ r) 20 e20
+following m c s x r e8 e4 e20 = ap (drop 32) (joined m c s x r) ∙ drop_after m (c ++ (s ++ (x ++ r))) 8 24 e8 ∙ drop_after c (s ++ (x ++ r)) 4 20 e4 ∙ drop_at s (x ++ r) 20 e20
 
 -- setting the sums keeps the magic and what they are of
 pub sums_set : (file rest : List ℕ) → take 8 file ≡ magic → drop 32 file ≡ rest → with_sums_set file ≡ with_sums rest

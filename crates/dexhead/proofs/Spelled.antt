@@ -1,20 +1,16 @@
 -- The two ways to say which number some bytes spell, and which bytes spell a number: from the start of the list, and by
 -- places.
-use Rattle.dexhead.proofs.Common.{◌≡◌, ℕ, ◌/◌, ◌%◌, ◌^◌, List, [], ◌∷◌, length, take, refl, arith, number_of, bytes_of, ushort, uint, length-ushort, length-uint, little_number, little_bytes}
+use Rattle.dexhead.proofs.Common.{◌≡◌, ℕ, ◌/◌, ◌%◌, ◌^◌, List, ◌∷◌, length, take, refl, arith, number_of, bytes_of, ushort, uint, length-ushort, length-uint, little_number, little_bytes}
 
 pub number_of_two : (xs : List ℕ) → number_of (take 2 xs) ≡ little_number 2 xs
 unfolding number_of
-number_of_two [] = refl
-number_of_two (a ∷ []) = refl
 number_of_two (a ∷ b ∷ xs) = refl
+number_of_two _ = refl
 
 pub number_of_four : (xs : List ℕ) → number_of (take 4 xs) ≡ little_number 4 xs
 unfolding number_of
-number_of_four [] = refl
-number_of_four (a ∷ []) = refl
-number_of_four (a ∷ b ∷ []) = refl
-number_of_four (a ∷ b ∷ c ∷ []) = refl
 number_of_four (a ∷ b ∷ c ∷ d ∷ xs) = refl
+number_of_four _ = refl
 
 pub two_bytes : (n : ℕ) → ushort n ≡ little_bytes 2 n
 unfolding ushort bytes_of

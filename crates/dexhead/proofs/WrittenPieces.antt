@@ -3,8 +3,7 @@ use Rattle.dexhead.proofs.Common.{◌≡◌, ℕ, ◌+◌, List, ◌++◌, take,
 
 -- after a prefix, a prefix of the rest
 pub written_more : (old mid new bytes rest : List ℕ) (i n : ℕ) → mid ≡ old ++ take i bytes → rest ≡ drop i bytes → new ≡ mid ++ take n rest → new ≡ old ++ take (i + n) bytes
-written_more old mid new bytes rest i n before left after =
-    rw (after, before, left, take-add i n bytes, append_assoc)
+written_more old mid new bytes rest i n before left after = rw (after, before, left, take-add i n bytes, append_assoc)
 
 -- the same, where how much is not known
 pub prefix_more : (old mid new bytes rest : List ℕ) (i : ℕ) → mid ≡ old ++ take i bytes → rest ≡ drop i bytes → ((n : ℕ) × (new ≡ mid ++ take n rest)) → (n : ℕ) × (new ≡ old ++ take n bytes)

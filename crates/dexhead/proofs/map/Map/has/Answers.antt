@@ -1,24 +1,17 @@
 use Rattle.dexhead.proofs.Common.{◌≢◌, arith, refl, subst, sym, ◌∙◌, All, take_all, All-more, MapEntry}
-use Rattle.dexhead.specs.internal.Found.{entries}
-use Rattle.dexhead.specs.internal.Map.{read}
+use Rattle.dexhead.specs.{entries, read}
 use Rattle.dexhead.proofs.Entries.{length-entries, never, found, not_found}
 use Rattle.dexhead.proofs.map.Map.has.Goals as goal
 
 pub returns-then-is : goal.returns-then-is
-returns-then-is c =
-    let len = length-entries c.args.self.now in
-    (λ x. found (entries c.args.self.now) (read c.args.entry) c.loop-i.i (omega arith) (sym c.entry.ensures ∙ c.if-is.ensures.0 refl), λ h. refl)
+returns-then-is c = (λ x. found (entries c.args.self.now) (read c.args.entry) c.loop-i.i (omega (arith, length-entries c.args.self.now)) (sym c.entry.ensures ∙ c.if-is.ensures.0 refl), λ h. refl)
 
 pub loop-i-preserved : goal.loop-i-preserved
 loop-i-preserved c =
-    let len = length-entries c.args.self.now in
-    All-more (λ (x : MapEntry). x ≢ read c.args.entry) (entries c.args.self.now) c.loop-i.i (record { kind = 0; size = 0; off = 0 }) (omega arith) c.loop-i.invariant
+    All-more (λ (x : MapEntry). x ≢ read c.args.entry) (entries c.args.self.now) c.loop-i.i (record { kind = 0; size = 0; off = 0 }) (omega (arith, length-entries c.args.self.now)) c.loop-i.invariant
     (λ same. never (c.if-is.ensures.1 (c.entry.ensures ∙ same)))
 
 pub returns : goal.returns
 returns c =
-    let len = length-entries c.args.self.now in (
-      λ x. absurd (never x),
-      λ h. absurd (not_found (entries c.args.self.now) (read c.args.entry)
-          (subst (λ xs. All (λ (x : MapEntry). x ≢ read c.args.entry) xs) (take_all c.loop-i.i (entries c.args.self.now) (omega arith)) c.loop-i.invariant) h),
-    )
+    (λ x. absurd (never x), λ h. absurd (not_found (entries c.args.self.now) (read c.args.entry)
+    (subst (λ xs. All (λ (x : MapEntry). x ≢ read c.args.entry) xs) (take_all c.loop-i.i (entries c.args.self.now) (omega (arith, length-entries c.args.self.now))) c.loop-i.invariant) h))

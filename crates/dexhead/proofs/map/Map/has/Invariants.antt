@@ -1,6 +1,5 @@
 use Rattle.dexhead.proofs.Common.{◌≢◌, take, All}
-use Rattle.dexhead.specs.internal.Map.{read}
-use Rattle.dexhead.specs.internal.Found.{entries}
+use Rattle.dexhead.specs.{read, entries}
 use Rattle.dexhead.proofs.map.Map.has.Given as goal
 
 -- none so far is the entry

@@ -1,6 +1,5 @@
 use Rattle.dexhead.proofs.Common.{sym, ◌∙◌}
-use Rattle.dexhead.specs.internal.Found.{entries}
-use Rattle.dexhead.specs.{meant}
+use Rattle.dexhead.specs.{meant, entries}
 use Rattle.dexhead.proofs.Entries.{length-entries, empty_table}
 use Rattle.dexhead.proofs.map.Map.has_table.Goals as goal
 

@@ -1,6 +1,5 @@
 use Rattle.dexhead.proofs.Common.{take}
-use Rattle.dexhead.specs.internal.Map.{AreInOrder}
-use Rattle.dexhead.specs.internal.Found.{entries}
+use Rattle.dexhead.specs.{AreInOrder, entries}
 use Rattle.dexhead.proofs.map.Map.is_in_order.Given as goal
 
 -- the entries so far are in order

@@ -1,5 +1,5 @@
 use Rattle.dexhead.proofs.Common.{◌≢◌, take, All}
-use Rattle.dexhead.specs.internal.Found.{entries}
+use Rattle.dexhead.specs.{entries}
 use Rattle.dexhead.proofs.map.Map.lacks.Given as goal
 
 -- none so far is of the kind

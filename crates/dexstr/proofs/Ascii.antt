@@ -11,8 +11,7 @@ more_bytes bytes u rest (Three large small e) = omega (arith, ap length e)
 
 least : (s : List ℕ) → AreUnits s → length s ≤ length (spelling s)
 least [] units = omega arith
-least (u ∷ s) units =
-    omega (arith, more_bytes (form u ++ spelling s) u (spelling s) (shape_of u (spelling s) (units 0 0 (omega arith))), least s (λ k d lt. units (suc k) d (omega arith)))
+least (u ∷ s) units = omega (arith, more_bytes (form u ++ spelling s) u (spelling s) (shape_of u (spelling s) (units 0 0 (omega arith))), least s (λ k d lt. units (suc k) d (omega arith)))
 
 -- the unit is the byte where it has no more
 one_byte : (bytes : List ℕ) (u : ℕ) (rest : List ℕ) → Shape bytes u rest → length bytes ≤ suc (length rest) → bytes ≡ u ∷ rest
@@ -56,10 +55,7 @@ four_ascii (a ∷ b ∷ c ∷ d ∷ rest) enough first second third fourth = rec
   ascii = All-cons IsAscii a (b ∷ c ∷ d ∷ []) first (All-cons IsAscii b (c ∷ d ∷ []) second (All-cons IsAscii c (d ∷ []) third (All-cons IsAscii d [] fourth (λ k e lt. absurd (omega (arith, lt))))));
   parts = ap (λ (t : List ℕ). a ∷ b ∷ c ∷ d ∷ t) (sym (take_all (length (a ∷ b ∷ c ∷ d ∷ rest) - 4) rest (omega arith)));
 }
-four_ascii [] enough first second third fourth = absurd (omega (arith, enough))
-four_ascii (a ∷ []) enough first second third fourth = absurd (omega (arith, enough))
-four_ascii (a ∷ b ∷ []) enough first second third fourth = absurd (omega (arith, enough))
-four_ascii (a ∷ b ∷ c ∷ []) enough first second third fourth = absurd (omega (arith, enough))
+four_ascii _ enough first second third fourth = absurd (omega (arith, enough))
 
 -- units of ASCII are passed where their bytes are
 pub ascii_passed : (bytes : List ℕ) (n : ℕ) (rest : List ℕ) (k : ℕ) (after : List ℕ) → Passed bytes n rest → BeginsWithAscii k rest after → Passed bytes (n + k) after

@@ -2,8 +2,7 @@
 use Rattle.dexstr.proofs.Common.{◌≡◌, ◌≢◌, ℕ, zero, suc, ◌+◌, ◌/◌, ◌%◌, ◌^◌, ◌<◌, List, [], ◌∷◌, ◌++◌, ◌⊎◌, inl, inr, refl, sym, ◌∙◌, length, nat_eq, take, drop, min, true, arith, cases_lt, cases_order, lt-ltb, le-ltb, eq-eqb, ne_eqb, nat_tests, append-nil, take-append-drop, slice_cmp, pointwise, same_text, form, spelling, AreUnits, text_cmp, Shape, One, Two, Three, shape_of}
 use Rattle.std.specs.Ordering.{nat_cmp}
 use Rattle.std.specs.declared.cmp.Ordering.TheVariants.{Less, Equal, Greater}
-use Rattle.dexstr.specs.{units_of, IsSpelling}
-use Rattle.dexstr.specs.internal.Order.{place_of, byte_cmp}
+use Rattle.dexstr.specs.{units_of, IsSpelling, place_of, byte_cmp}
 
 -- ---- numbers
 
@@ -30,21 +29,18 @@ place_other b other = rw (ne_eqb b 0xc0 other) refl
 
 -- the first bytes that differ put these before those
 abbrev Precedes : List ℕ → List ℕ → Type 0
-Precedes [] q = ⊥
-Precedes (a ∷ p) [] = ⊥
 Precedes (a ∷ p) (b ∷ q) = (place_of a < place_of b) ⊎ ((a ≡ b) × Precedes p q)
+Precedes _ _ = ⊥
 
 cmp_less : (p q x y : List ℕ) → Precedes p q → slice_cmp byte_cmp (p ++ x) (q ++ y) ≡ Less
-cmp_less [] q x y before = absurd before
-cmp_less (a ∷ p) [] x y before = absurd before
 cmp_less (a ∷ p) (b ∷ q) x y (inl lt) = rw (nat_cmp-less (place_of a) (place_of b) lt) refl
 cmp_less (a ∷ p) (b ∷ q) x y (inr same) = rw (same.0, nat_cmp-same (place_of b)) (cmp_less p q x y same.1)
+cmp_less _ _ x y before = absurd before
 
 cmp_greater : (p q x y : List ℕ) → Precedes p q → slice_cmp byte_cmp (q ++ y) (p ++ x) ≡ Greater
-cmp_greater [] q x y before = absurd before
-cmp_greater (a ∷ p) [] x y before = absurd before
 cmp_greater (a ∷ p) (b ∷ q) x y (inl lt) = rw (nat_cmp-greater (place_of b) (place_of a) lt) refl
 cmp_greater (a ∷ p) (b ∷ q) x y (inr same) = rw (same.0, nat_cmp-same (place_of b)) (cmp_greater p q x y same.1)
+cmp_greater _ _ x y before = absurd before
 
 cmp_same_prefix : (p x y : List ℕ) → slice_cmp byte_cmp (p ++ x) (p ++ y) ≡ slice_cmp byte_cmp x y
 cmp_same_prefix [] x y = refl

@@ -137,8 +137,7 @@ no_void-brackets zero s some = absurd (omega arith)
 no_void-brackets (suc d) s some = refl
 
 array_kind : (d : ℕ) (s : List ℕ) → 1 ≤ d → d ≤ 255 → IsElement s → kind_of (replicate d 0x5b ++ s) ≡ Some Array
-array_kind d s some few is =
-    rw (no_void-brackets d s some, dimensions-brackets d s is.flat, ne_eqb d 0 (omega arith), le-leb d 255 few, drop-brackets d s, is.reported) refl
+array_kind d s some few is = rw (no_void-brackets d s some, dimensions-brackets d s is.flat, ne_eqb d 0 (omega arith), le-leb d 255 few, drop-brackets d s, is.reported) refl
 
 pub kind_to : (s : List ℕ) (k : Kind) → HasKind (type_kind k) s → kind_of s ≡ Some k
 kind_to s Void has = rw has refl
@@ -183,8 +182,7 @@ void_step bytes u rest s (Three large small e) end = rw (e, not_void (0xe0 + u /
 
 is_void-spelling : (s : List ℕ) → AreUnits s → is_void (spelling s) ≡ is_void s
 is_void-spelling [] units = refl
-is_void-spelling (u ∷ s) units =
-    void_step (form u ++ spelling s) u (spelling s) s (shape_of u (spelling s) (units 0 0 (omega arith))) (is_end-spelling s (λ k d lt. units (suc k) d (omega arith)))
+is_void-spelling (u ∷ s) units = void_step (form u ++ spelling s) u (spelling s) s (shape_of u (spelling s) (units 0 0 (omega arith))) (is_end-spelling s (λ k d lt. units (suc k) d (omega arith)))
 
 -- as many brackets, and the same after them
 record SameBrackets (bytes s : List ℕ) : Type 0 where
@@ -213,8 +211,7 @@ brackets_step bytes u rest s whole (Three large small e) same = rw e (brackets_n
 
 same_brackets : (s : List ℕ) → AreUnits s → SameBrackets (spelling s) s
 same_brackets [] units = record { count = refl; following = refl }
-same_brackets (u ∷ s) units =
-    brackets_step (form u ++ spelling s) u (spelling s) s refl (shape_of u (spelling s) (units 0 0 (omega arith))) (same_brackets s (λ k d lt. units (suc k) d (omega arith)))
+same_brackets (u ∷ s) units = brackets_step (form u ++ spelling s) u (spelling s) s refl (shape_of u (spelling s) (units 0 0 (omega arith))) (same_brackets s (λ k d lt. units (suc k) d (omega arith)))
 
 -- the bytes of a text are of the kind that its units are
 pub kind_of-spelling : (s : List ℕ) → AreUnits s → kind_of (spelling s) ≡ kind_of s

@@ -16,8 +16,7 @@ spelled_prefix body n rest after =
 -- the bytes before the rest spell a text
 pub spells_prefix : (bytes body : List ℕ) (count len n : ℕ) (rest : List ℕ) → BeginsWith IsUleb128 bytes count len → AfterUnits body n rest → n ≡ count → SpellsText (take (length body - length rest) body)
 spells_prefix bytes body count len n rest begins after same =
-    let e = units_of-spelling after.us after.units in
-    rw (spelled_prefix body n rest after) (record { spelled = spelling_is after.us after.units; few = omega (arith, ap length e, after.len, same, begins.spelled.in_range) })
+    rw (spelled_prefix body n rest after) (record { spelled = spelling_is after.us after.units; few = omega (arith, ap length (units_of-spelling after.us after.units), after.len, same, begins.spelled.in_range) })
 
 zero_first : (rest : List ℕ) → 1 ≤ length rest → get_or rest 0 0 ≡ 0 → rest ≡ 0 ∷ drop 1 rest
 zero_first [] some is = absurd (omega arith)

@@ -22,8 +22,7 @@ name_from bytes u rest (Three large small e) units = let all = rw e at units in 
 
 names_to : (s : List ℕ) → AreUnits s → All IsNameUnit s → All IsNameUnit (spelling s)
 names_to [] units all = all
-names_to (u ∷ s) units all =
-    name_to (form u ++ spelling s) u (spelling s) s (shape_of u (spelling s) (units 0 0 (omega arith))) all (names_to s (λ k d lt. units (suc k) d (omega arith)) (λ k d lt. all (suc k) d (omega arith)))
+names_to (u ∷ s) units all = name_to (form u ++ spelling s) u (spelling s) s (shape_of u (spelling s) (units 0 0 (omega arith))) all (names_to s (λ k d lt. units (suc k) d (omega arith)) (λ k d lt. all (suc k) d (omega arith)))
 
 names_from : (s : List ℕ) → AreUnits s → All IsNameUnit (spelling s) → All IsNameUnit s
 names_from [] units all = all

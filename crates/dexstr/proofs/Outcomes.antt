@@ -48,18 +48,13 @@ one_byte b (inr (low, high)) = elim (cases_lt b 0xe0) [
 
 pub prefix_from : (bytes : List ℕ) → LooksCutOff bytes → IsProperPrefix bytes
 prefix_from [] looks = record { more = 0 ∷ []; some = omega arith; part = inl refl }
-prefix_from (b ∷ []) (inl none) = absurd (omega arith)
+prefix_from (b ∷ rest) (inl none) = absurd (omega arith)
 prefix_from (b ∷ []) (inr (inl (len, lead))) = one_byte b lead
-prefix_from (b ∷ []) (inr (inr (inl two))) = absurd (omega (arith, two.0))
-prefix_from (b ∷ []) (inr (inr (inr two))) = absurd (omega (arith, two.0))
-prefix_from (b ∷ c ∷ []) (inl none) = absurd (omega arith)
-prefix_from (b ∷ c ∷ []) (inr (inl (len, lead))) = absurd (omega arith)
+prefix_from (b ∷ c ∷ rest) (inr (inl (len, lead))) = absurd (omega arith)
 prefix_from (b ∷ c ∷ []) (inr (inr (inl (len, lead, low, high)))) = two_of_three b c (64 * (c - 0x80)) (omega arith) (omega arith) (omega arith) (omega arith)
 prefix_from (b ∷ c ∷ []) (inr (inr (inr (len, least, most, low, high)))) = two_of_three b c (4096 * (b - 0xe0) + 64 * (c - 0x80)) (omega arith) (omega arith) (omega arith) (omega arith)
-prefix_from (b ∷ c ∷ d ∷ bytes) (inl none) = absurd (omega arith)
-prefix_from (b ∷ c ∷ d ∷ bytes) (inr (inl (len, lead))) = absurd (omega arith)
-prefix_from (b ∷ c ∷ d ∷ bytes) (inr (inr (inl two))) = absurd (omega (arith, two.0))
-prefix_from (b ∷ c ∷ d ∷ bytes) (inr (inr (inr two))) = absurd (omega (arith, two.0))
+prefix_from bytes (inr (inr (inl two))) = absurd (omega (arith, two.0))
+prefix_from bytes (inr (inr (inr two))) = absurd (omega (arith, two.0))
 
 two_heads : (a b c d : ℕ) (x y : List ℕ) → a ∷ b ∷ x ≡ c ∷ d ∷ y → (a ≡ c) × (b ≡ d)
 two_heads a b c d x y e = let p : a ≡ c = cc in let q : b ≡ d = cc in (p, q)
@@ -90,13 +85,10 @@ not_three bytes u (Three large small e) = omega (arith, ap length e)
 
 looks_from : (bytes more : List ℕ) → 0 < length more → IsPart (bytes ++ more) → LooksCutOff bytes
 looks_from [] more some part = inl refl
-looks_from (b ∷ []) more some (inl end) = absurd (omega (arith, ap length end))
+looks_from (b ∷ rest) more some (inl end) = absurd (omega (arith, ap length end, length-append rest more))
 looks_from (b ∷ []) more some (inr (u, small, e)) = looks_one b u more some (part_shape (b ∷ more) u small e)
-looks_from (b ∷ c ∷ []) more some (inl end) = absurd (omega (arith, ap length end))
 looks_from (b ∷ c ∷ []) more some (inr (u, small, e)) = looks_two b c u more some (part_shape (b ∷ c ∷ more) u small e)
-looks_from (b ∷ c ∷ d ∷ bytes) more some (inl end) = absurd (omega (arith, ap length end))
-looks_from (b ∷ c ∷ d ∷ bytes) more some (inr (u, small, e)) =
-    absurd (omega (arith, not_three (b ∷ c ∷ d ∷ (bytes ++ more)) u (part_shape (b ∷ c ∷ d ∷ (bytes ++ more)) u small e), length-append bytes more))
+looks_from (b ∷ c ∷ d ∷ bytes) more some (inr (u, small, e)) = absurd (omega (arith, not_three (b ∷ c ∷ d ∷ (bytes ++ more)) u (part_shape (b ∷ c ∷ d ∷ (bytes ++ more)) u small e), length-append bytes more))
 
 pub prefix_to : (bytes : List ℕ) → IsProperPrefix bytes → LooksCutOff bytes
 prefix_to bytes front = looks_from bytes front.more front.some front.part
@@ -132,15 +124,13 @@ short_bad bytes (inr body) (inl none) = none.1 body.count body.len body.begins
 short_bad bytes (inr body) (inr other) = other.is.0 (body_once (λ count units rest. IsProperPrefix rest) (λ count units rest. (¬ IsProperPrefix rest) × ¬ StartsWithZero rest) bytes body other)
 
 one_fault : (e f : TextFault) (bytes : List ℕ) → IsFault e bytes → IsFault f bytes → e ≡ f
-one_fault Short Short bytes one other = refl
 one_fault Short Bad bytes one other = absurd (short_bad bytes one other)
 one_fault Short Count bytes one other = absurd (short_ends (λ count units. units ≢ count) bytes one other)
 one_fault Bad Short bytes one other = absurd (short_bad bytes other one)
-one_fault Bad Bad bytes one other = refl
 one_fault Bad Count bytes one other = absurd (bad_ends (λ count units. units ≢ count) bytes one other)
 one_fault Count Short bytes one other = absurd (short_ends (λ count units. units ≢ count) bytes other one)
 one_fault Count Bad bytes one other = absurd (bad_ends (λ count units. units ≢ count) bytes other one)
-one_fault Count Count bytes one other = refl
+one_fault _ _ bytes one other = refl
 
 no_fault : (e : TextFault) (bytes s : List ℕ) (n : ℕ) → BeginsWith IsStringData bytes s n → IsFault e bytes → ⊥
 no_fault Short bytes s n item fault = short_ends (λ count units. units ≡ count) bytes fault (item_body bytes s n item)

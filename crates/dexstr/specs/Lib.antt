@@ -7,3 +7,4 @@ unfoldable pub use Units.*
 unfoldable pub use Escapes.*
 unfoldable pub use Faults.*
 unfoldable pub use Kinds.*
+unfoldable pub use internal.Order.*

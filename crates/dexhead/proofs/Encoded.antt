@@ -24,8 +24,7 @@ module _ {O : Type 0} (gives : List ℕ → O → O → Type 0) (both : (x y : L
   then_given {x} {y} {a} {b} {c} first second = both x y a b c first second
 
   -- nine parts
-  pub nine_given : {x1 x2 x3 x4 x5 x6 x7 x8 x9 : List ℕ} {a b c d e f g h i j : O} → gives x1 a b → gives x2 b c → gives x3 c d → gives x4 d e → gives x5 e f
-      → gives x6 f g → gives x7 g h → gives x8 h i → gives x9 i j → gives (x1 ++ (x2 ++ (x3 ++ (x4 ++ (x5 ++ (x6 ++ (x7 ++ (x8 ++ x9)))))))) a j
+  pub nine_given : {x1 x2 x3 x4 x5 x6 x7 x8 x9 : List ℕ} {a b c d e f g h i j : O} → gives x1 a b → gives x2 b c → gives x3 c d → gives x4 d e → gives x5 e f → gives x6 f g → gives x7 g h → gives x8 h i → gives x9 i j → gives (x1 ++ (x2 ++ (x3 ++ (x4 ++ (x5 ++ (x6 ++ (x7 ++ (x8 ++ x9)))))))) a j
   nine_given e1 e2 e3 e4 e5 e6 e7 e8 e9 = then_given e1 (then_given e2 (then_given e3 (then_given e4 (then_given e5 (then_given e6 (then_given e7 (then_given e8 e9)))))))
 
 -- What completes the rest after `now` completes the whole after `start`.

@@ -39,8 +39,7 @@ pub entry_of-entries : (m : Map) (i : ℕ) → i < m.count → entry_of (entries
 unfolding entries
 entry_of-entries m i lt = entry_of-entries_at m.bytes.now m.from m.count i lt
 
-pub entry_is : {k k' s s' o o' : ℕ} → k ≡ k' → s ≡ s' → o ≡ o'
-    → ◌≡◌ {A = MapEntry} (record { kind = k; size = s; off = o }) (record { kind = k'; size = s'; off = o' })
+pub entry_is : {k k' s s' o o' : ℕ} → k ≡ k' → s ≡ s' → o ≡ o' → ◌≡◌ {A = MapEntry} (record { kind = k; size = s; off = o }) (record { kind = k'; size = s'; off = o' })
 entry_is p q r = cc
 
 -- ---- type codes
@@ -115,8 +114,7 @@ rises_at _ k h lt = absurd (omega arith)
 map-take_more : (f : MapEntry → ℕ) (es : List MapEntry) (i : ℕ) → i < length es → map f (take (i + 1) es) ≡ map f (take i es) ++ f (entry_of es i) ∷ []
 map-take_more f es i lt = ap (map f) (take_more es i none lt) ∙ map-append f (take i es) (entry_of es i ∷ [])
 
-last_off : (es : List MapEntry) (i k : ℕ) → i < length es → (i ≡ 0) ⊎ ((entry_of es (i - 1)).off < (entry_of es i).off)
-    → suc k ≡ length (map off (take i es)) → get_or (map off (take i es)) k 0 < (entry_of es i).off
+last_off : (es : List MapEntry) (i k : ℕ) → i < length es → (i ≡ 0) ⊎ ((entry_of es (i - 1)).off < (entry_of es i).off) → suc k ≡ length (map off (take i es)) → get_or (map off (take i es)) k 0 < (entry_of es i).off
 last_off es i k lt h e =
     let n : length (map off (take i es)) ≡ i = length-map (take i es) off ∙ length-take-le i es (omega arith) in
     let m : length (take i es) ≡ i = length-take-le i es (omega arith) in
@@ -164,12 +162,7 @@ new_at es i lt h k d le same =
 pub next_at : {b : List ℕ} (es : List MapEntry) (i : ℕ) → i < length es → AreInOrder b es → IsNext b es i
 next_at {b = b} es i lt h =
     let s = All-get_or IsKnown es i none lt h.known in
-    record {
-      known = subst IsCode (sym s.1) (code_of s.0);
-      new = new_at es i lt h.once;
-      above = above_at es i lt h.rise;
-      placed = All-get_or (IsPlaced b) es i none lt h.others;
-    }
+    record { known = subst IsCode (sym s.1) (code_of s.0); new = new_at es i lt h.once; above = above_at es i lt h.rise; placed = All-get_or (IsPlaced b) es i none lt h.others }
 
 -- ---- the first entry
 
@@ -203,14 +196,10 @@ not_found es x h at = All-contains (λ e. e ≢ x) es x h at refl
 
 -- ---- the tables, and the whole map
 
-pub empty_table : {b : List ℕ} (es : List MapEntry) (t : header.Table) (n k : ℕ) (r : Bool) → n ≡ length es → table_size b t ≡ 0 → k ≡ type_code (TableOf t)
-    → (IsTrue r ↔ All (λ e. e.kind ≢ k) (take n es)) → IsTrue r ↔ IsThere b es t
+pub empty_table : {b : List ℕ} (es : List MapEntry) (t : header.Table) (n k : ℕ) (r : Bool) → n ≡ length es → table_size b t ≡ 0 → k ≡ type_code (TableOf t) → (IsTrue r ↔ All (λ e. e.kind ≢ k) (take n es)) → IsTrue r ↔ IsThere b es t
 empty_table {b = b} es t n k r len empty code h =
     let same : take n es ≡ es = take_all n es (omega arith) in
-    let p : (IsTrue r ↔ All (λ e. e.kind ≢ type_code (TableOf t)) es) = subst (λ k. IsTrue r ↔ All (λ e. e.kind ≢ k) es) code (subst (λ xs. IsTrue r ↔ All (λ e. e.kind ≢ k) xs) same h) in (
-      λ x. record { there = inl (empty, p.0 x) },
-      λ there. elim there.there [ inl l ↦ p.1 l.1 | inr f ↦ absurd (f.0 empty) ],
-    )
+    let p : (IsTrue r ↔ All (λ e. e.kind ≢ type_code (TableOf t)) es) = subst (λ k. IsTrue r ↔ All (λ e. e.kind ≢ k) es) code (subst (λ xs. IsTrue r ↔ All (λ e. e.kind ≢ k) xs) same h) in (λ x. record { there = inl (empty, p.0 x) }, λ there. elim there.there [ inl l ↦ p.1 l.1 | inr f ↦ absurd (f.0 empty) ])
 
 has_table : {b : List ℕ} {es : List MapEntry} → HaveTables b es → (t : header.Table) → HasTable b es t
 has_table h StringIds = h.strings.there
@@ -244,12 +233,7 @@ has_map place right = record {
 }
 
 pub are_right : {b : List ℕ} → HasMap b → AreRight b (map_entries b)
-are_right h = record {
-  order = record { known = h.known; once = h.once; rise = h.rise; others = h.others };
-  header = record { begins = h.header };
-  tables = have_tables h.tables;
-  itself = record { itself = h.itself };
-}
+are_right h = record { order = record { known = h.known; once = h.once; rise = h.rise; others = h.others }; header = record { begins = h.header }; tables = have_tables h.tables; itself = record { itself = h.itself } }
 
 pub map_is_right : {b b' : List ℕ} {es : List MapEntry} (r : Bool) → IsInPlace b → b' ≡ b → es ≡ map_entries b → (IsTrue r ↔ AreRight b' es) → IsTrue r ↔ HasMap b
 map_is_right {b = b} {es = es} r place e f h =

@@ -69,8 +69,7 @@ laid_within b from [] h = h
 laid_within b from (t ∷ ts) (inl h) = laid_within b from ts h.2
 laid_within b from (t ∷ ts) (inr h) = omega (arith, laid_within b (table_off b t + row_size t * table_size b t) ts h.3, h.2)
 
-laid_at : (b : List ℕ) (from : ℕ) (ts : List Table) (k : ℕ) (t : Table) → k < length ts → get_or ts k t ≡ t → AreLaidOut b from ts → table_size b t ≢ 0
-    → table_off b t + row_size t * table_size b t ≤ data_off b
+laid_at : (b : List ℕ) (from : ℕ) (ts : List Table) (k : ℕ) (t : Table) → k < length ts → get_or ts k t ≡ t → AreLaidOut b from ts → table_size b t ≢ 0 → table_off b t + row_size t * table_size b t ≤ data_off b
 laid_at b from [] k t lt e h full = absurd (omega arith)
 laid_at b from (x ∷ ts) zero t lt e (inl h) full = absurd (full (sym (ap (table_size b) e) ∙ h.0))
 laid_at b from (x ∷ ts) zero t lt e (inr h) full = subst (λ t. table_off b t + row_size t * table_size b t ≤ data_off b) e (laid_within b (table_off b x + row_size x * table_size b x) ts h.3)

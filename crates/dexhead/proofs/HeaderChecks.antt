@@ -30,9 +30,7 @@ pub few : {b : List ℕ} → HasLayout b → AreFew b
 few h = record { types = h.few TypeIds; protos = h.few ProtoIds; fields = h.few FieldIds; methods = h.few MethodIds }
 
 -- a table is well placed: so the rest is, from its end on
-pub laid_more : {b : List ℕ} {from next : ℕ} {P : Type 0} (xs : List Table) (i : ℕ) (d : Table) → i < length xs
-    → (P ↔ IsLaidOut b from (map meant (drop i xs)))
-    → ((ts : List header.Table) → IsLaidOut b from (meant (get_or xs i d) ∷ ts) ↔ IsLaidOut b next ts)
+pub laid_more : {b : List ℕ} {from next : ℕ} {P : Type 0} (xs : List Table) (i : ℕ) (d : Table) → i < length xs → (P ↔ IsLaidOut b from (map meant (drop i xs))) → ((ts : List header.Table) → IsLaidOut b from (meant (get_or xs i d) ∷ ts) ↔ IsLaidOut b next ts)
     → (P ↔ IsLaidOut b next (map meant (drop (i + 1) xs)))
 laid_more {b = b} {from = from} {next = next} xs i d lt p h =
     let q : IsLaidOut b from (map meant (drop i xs)) ↔ IsLaidOut b next (map meant (drop (i + 1) xs))
@@ -40,8 +38,5 @@ laid_more {b = b} {from = from} {next = next} xs i d lt p h =
     (λ x. q.0 (p.0 x), λ y. p.1 (q.1 y))
 
 -- a table is not
-pub laid_no_more : {b : List ℕ} {from : ℕ} {P : Type 0} (xs : List Table) (i : ℕ) (d : Table) → i < length xs
-    → (P ↔ IsLaidOut b from (map meant (drop i xs)))
-    → ((ts : List header.Table) → IsLaidOut b from (meant (get_or xs i d) ∷ ts) ↔ ⊥)
-    → P → ⊥
+pub laid_no_more : {b : List ℕ} {from : ℕ} {P : Type 0} (xs : List Table) (i : ℕ) (d : Table) → i < length xs → (P ↔ IsLaidOut b from (map meant (drop i xs))) → ((ts : List header.Table) → IsLaidOut b from (meant (get_or xs i d) ∷ ts) ↔ ⊥) → P → ⊥
 laid_no_more {b = b} {from = from} xs i d lt p h x = (h (map meant (drop (i + 1) xs))).0 (subst (λ (ys : List Table). IsLaidOut b from (map meant ys)) (drop_more xs i d lt) (p.0 x))

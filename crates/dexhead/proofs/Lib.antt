@@ -7,5 +7,4 @@ pub mod LaidOut
 pub mod Lengths
 pub mod Overwritten
 pub mod Spelled
-pub mod PutHeads
 pub mod WrittenPieces

@@ -192,17 +192,11 @@ record SameBrackets (bytes s : List ℕ) : Type 0 where
 brackets_one : (u : ℕ) (rest s : List ℕ) → spelling (u ∷ s) ≡ u ∷ rest → SameBrackets rest s → SameBrackets (u ∷ rest) (u ∷ s)
 brackets_one u rest s whole same = elim (cases_eq u 0x5b) [
   | inl bracket ↦ rw bracket (record { count = ap suc same.count; following = same.following })
-  | inr other ↦ record {
-    count = rw (ne_eqb u 0x5b other) refl;
-    following = rw (ne_eqb u 0x5b other) (sym whole);
-  }
+  | inr other ↦ record { count = rw (ne_eqb u 0x5b other) refl; following = rw (ne_eqb u 0x5b other) (sym whole) }
 ]
 
 brackets_none : (u b : ℕ) (bs s : List ℕ) → spelling (u ∷ s) ≡ b ∷ bs → (u ≡ 0) ⊎ (0x80 ≤ u) → 0x80 ≤ b → SameBrackets (b ∷ bs) (u ∷ s)
-brackets_none u b bs s whole which high = record {
-  count = no_brackets b bs (inr high) ∙ sym (no_brackets u s which);
-  following = rw (no_brackets u s which) (sym whole);
-}
+brackets_none u b bs s whole which high = record { count = no_brackets b bs (inr high) ∙ sym (no_brackets u s which); following = rw (no_brackets u s which) (sym whole) }
 
 brackets_step : (bytes : List ℕ) (u : ℕ) (rest s : List ℕ) → spelling (u ∷ s) ≡ bytes → Shape bytes u rest → SameBrackets rest s → SameBrackets bytes (u ∷ s)
 brackets_step bytes u rest s whole (One some small e) same = rw e (brackets_one u rest s (whole ∙ e) same)

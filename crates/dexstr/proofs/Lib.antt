@@ -1,11 +1,8 @@
 pub mod Common
 pub mod Forms
-pub mod Passing
 pub mod ByBytes
 pub mod Counting
 pub mod Ascii
 pub mod ClassNames
 pub mod Descriptions
-pub mod MemberNames
-pub mod Items
 pub mod Outcomes

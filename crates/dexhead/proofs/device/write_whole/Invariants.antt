@@ -7,8 +7,7 @@ invariant-pieces g l = record {
   works : g.W.Sink.has_failed l.out ≡ false;
   fits : l.done ≤ length l.bytes;
   reports : g.W.Sink.reports l.fn.out → g.W.Sink.reports l.out;
-  prefix : g.W.Sink.reports l.fn.out →
-      g.W.Sink.taken l.out ≡ g.W.Sink.taken l.fn.out ++ take l.done l.bytes;
+  prefix : g.W.Sink.reports l.fn.out → g.W.Sink.taken l.out ≡ g.W.Sink.taken l.fn.out ++ take l.done l.bytes;
 }
 
 abbrev pub decreases-pieces : goal.decreases-pieces

@@ -1,5 +1,5 @@
 use Rattle.dexhead.proofs.Common.{drop, refl}
-use Rattle.dexhead.proofs.PutHeads.{sums_set, head_set, head_stated}
+use Rattle.dexhead.proofs.LaidOut.{sums_set, head_set, head_stated}
 use Rattle.dexhead.proofs.laws.sums_law.Goals as goal
 
 pub returns-clause-file : goal.returns-clause-file

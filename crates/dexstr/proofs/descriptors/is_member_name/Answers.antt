@@ -1,4 +1,4 @@
-use Rattle.dexstr.proofs.MemberNames.{member_name}
+use Rattle.dexstr.proofs.ClassNames.{member_name}
 use Rattle.dexstr.proofs.descriptors.is_member_name.Goals as goal
 
 pub returns : goal.returns

@@ -1,6 +1,5 @@
 use Rattle.dexstr.proofs.Common.{◌≡◌, ◌<◌, ◌⊎◌, inl, inr, length, get_or, refl, rules, false≢true}
-use Rattle.dexstr.proofs.Items.{spells_prefix, item_found, from_place, no_zero}
-use Rattle.dexstr.proofs.Outcomes.{prefix_from, prefix_to}
+use Rattle.dexstr.proofs.Outcomes.{spells_prefix, item_found, from_place, no_zero, prefix_from, prefix_to}
 use Rattle.dexstr.proofs.reading.read_first.Goals as goal
 use Rattle.dexstr.proofs.reading.read_first.Goals.{in_default-via-then-rest-lt1, in_default-via-else-rest-lt1+in_default-1}
 

@@ -1,5 +1,4 @@
-use Rattle.dexstr.proofs.Ascii.{ascii_passed}
-use Rattle.dexstr.proofs.Passing.{passed_more}
+use Rattle.dexstr.proofs.Ascii.{ascii_passed, passed_more}
 use Rattle.dexstr.proofs.units.skip_units.Goals as goal
 
 pub loop-after-preserved : goal.loop-after-preserved

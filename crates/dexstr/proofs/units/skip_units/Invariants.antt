@@ -1,5 +1,5 @@
 use Rattle.dexstr.proofs.Common.{length}
-use Rattle.dexstr.proofs.Passing.{Passed}
+use Rattle.dexstr.proofs.Ascii.{Passed}
 use Rattle.dexstr.proofs.units.skip_units.Given as goal
 
 abbrev pub invariant-loop-after : goal.invariant-loop-after

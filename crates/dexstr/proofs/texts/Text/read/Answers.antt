@@ -1,6 +1,5 @@
 use Rattle.dexstr.proofs.Common.{drop}
-use Rattle.dexstr.proofs.Items.{from_place}
-use Rattle.dexstr.proofs.Outcomes.{exact}
+use Rattle.dexstr.proofs.Outcomes.{from_place, exact}
 use Rattle.dexstr.proofs.texts.Text.read.Goals as goal
 
 pub returns-clause-only : goal.returns-clause-only

@@ -1,6 +1,5 @@
 -- Going over units one after the other.
-use Rattle.dexstr.proofs.Common.{◌≡◌, ℕ, ◌+◌, ◌≤◌, ◌<◌, ◌^◌, List, [], ◌∷◌, ◌++◌, length, refl, ap, sym, ◌∙◌, arith, append_assoc, length-append, flat_map-cons, append-nil, flat_map-append, All-push, form, spelling, AreUnits, Shape, One, Two, Three, ◌≢◌, suc, ◌-◌, take, drop, get_or, take_all, inl, inr, All, All-head, All-tail, All-cons, All-append, shape_of}
-use Rattle.dexstr.specs.{BeginsWithUnit, units_of, BeginsWithAscii, IsSpelling, IsAscii}
+use Rattle.dexstr.proofs.Common.{◌≡◌, ℕ, ◌+◌, ◌≤◌, ◌<◌, ◌^◌, List, [], ◌∷◌, ◌++◌, length, refl, ap, sym, ◌∙◌, arith, append_assoc, length-append, flat_map-cons, append-nil, flat_map-append, All-push, form, spelling, AreUnits, Shape, One, Two, Three, ◌≢◌, suc, ◌-◌, take, drop, get_or, take_all, inl, inr, All, All-head, All-tail, All-cons, All-append, shape_of, BeginsWithUnit, units_of, BeginsWithAscii, IsSpelling, IsAscii}
 use Rattle.dexstr.proofs.Forms.{shape}
 
 -- `n` units were skipped

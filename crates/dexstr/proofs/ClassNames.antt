@@ -1,6 +1,5 @@
 -- A class's descriptor after its `L`, unit by unit, and names of members.
-use Rattle.dexstr.proofs.Common.{◌≡◌, ℕ, suc, ◌+◌, ◌/◌, ◌%◌, ◌<◌, ◌≤◌, Bool, true, false, List, [], ◌∷◌, ◌++◌, ◌⊎◌, inl, inr, refl, ap, sym, ◌∙◌, length, All, arith, join_with_byte, cases_eq, ne_eqb, and_parts, true≢false, false≢true, All-cons, Text, form, spelling, AreUnits, IsNameUnit, IsMemberName, IsClassName, Shape, One, Two, Three, shape_of, ◌↔◌}
-use Rattle.dexstr.specs.{ends_class, is_end, units_of, IsSpelling}
+use Rattle.dexstr.proofs.Common.{◌≡◌, ℕ, suc, ◌+◌, ◌/◌, ◌%◌, ◌<◌, ◌≤◌, Bool, true, false, List, [], ◌∷◌, ◌++◌, ◌⊎◌, inl, inr, refl, ap, sym, ◌∙◌, length, All, arith, join_with_byte, cases_eq, ne_eqb, and_parts, true≢false, false≢true, All-cons, Text, form, spelling, AreUnits, IsNameUnit, IsMemberName, IsClassName, Shape, One, Two, Three, shape_of, ◌↔◌, ends_class, is_end, units_of, IsSpelling}
 
 -- a unit of a name goes on
 step_name : (u : ℕ) → IsNameUnit u → (begun : Bool) (s : List ℕ) → ends_class begun (u ∷ s) ≡ ends_class true s

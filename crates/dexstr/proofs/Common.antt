@@ -1,4 +1,4 @@
--- The names from below that the proofs cite, re-exported from one place. Declares nothing.
+-- The names from below that the proofs cite, and the definitions of this crate, re-exported from one place. Declares nothing.
 pub use Rattle.std.proofs.Common.{All, Bool, Err, IfErr, IfOk, List, None, Ok, OnErr, Option, Result, Some, [], ap, append_assoc, arith, cond, count_by, drop, drop_at, false, get_or, inl, inr, length, length-append, length-drop, length-take, min, nat_eq, refl, rules, subst, suc, sym, take, take-append-drop, take_all, take_at, true, zero, ℕ, ◌%◌, ◌*◌, ◌++◌, ◌+◌, ◌-◌, ◌/◌, ◌<◌, ◌^◌, ◌↔◌, ◌∙◌, ◌∷◌, ◌≡◌, ◌≢◌, ◌≤◌, ◌⊎◌}
 pub use Rattle.std.proofs.lemmas.Bool.{and_parts, cases_Bool, cases_eq, cases_lt, cases_order, eq-eqb, eqb-true, false≢true, le-leb, le-ltb, leb-true, lt-ltb, ne_eqb, true≢false}
 pub use Rattle.std.proofs.lemmas.Bool.Decides.{Decides-eqb, Decides-like, nat_tests, same_from_decides}
@@ -14,3 +14,4 @@ pub use Rattle.dexspec.proofs.numbers.Spellings.{not_cut_off, same_number}
 pub use Rattle.dexspec.specs.Names.{ArrayType, ClassType, HasKind, IsArray, IsClass, IsClassName, IsDescriptor, IsMemberName, IsNameUnit, IsPrimitive, IsVoid, PrimitiveType, TypeKind, VoidType, primitive_letters, shorty_letter}
 pub use Rattle.dexspec.specs.Numbers.{BeginsWith, IsUleb128, sum_of_groups, uleb128}
 pub use Rattle.dexspec.specs.Texts.{AreUnits, IsStringData, Text, form, spelling, string_data, text_cmp}
+pub use Rattle.dexstr.specs.{AfterUnits, BeginsWithAscii, BeginsWithNone, BeginsWithUnit, HasBody, IsAscii, IsBad, IsFault, IsNoTail, IsPart, IsProperPrefix, IsShort, IsSpelling, LooksCutOff, SpellsText, StartsWithZero, begins_unit, byte_cmp, dimensions, element_kind, ends_class, is_end, is_primitive_letter, is_void, kind_of, place_of, type_kind, units_of}

@@ -1,7 +1,6 @@
 -- A text has as many units as bytes of its spelling begin one.
-use Rattle.dexstr.proofs.Common.{◌≡◌, ℕ, suc, ◌+◌, ◌*◌, ◌/◌, ◌%◌, ◌<◌, ◌≤◌, List, [], ◌∷◌, ◌++◌, refl, ap, ◌∙◌, length, count_by, cond, true, false, arith, nat_tests, form, spelling, AreUnits, Shape, One, Two, Three, shape_of}
+use Rattle.dexstr.proofs.Common.{◌≡◌, ℕ, suc, ◌+◌, ◌*◌, ◌/◌, ◌%◌, ◌<◌, ◌≤◌, List, [], ◌∷◌, ◌++◌, refl, ap, ◌∙◌, length, count_by, cond, true, false, arith, nat_tests, form, spelling, AreUnits, Shape, One, Two, Three, shape_of, begins_unit, units_of, IsSpelling}
 use Rattle.std.proofs.lemmas.List.Sums.{sum_by-cons}
-use Rattle.dexstr.specs.{begins_unit, units_of, IsSpelling}
 
 tail : (b : ℕ) → 0x80 ≤ b → b ≤ 0xbf → begins_unit b ≡ false
 tail b low high = grind (arith, nat_tests)

@@ -1,6 +1,5 @@
 -- The kind of a descriptor, from its units and from its bytes.
-use Rattle.dexstr.proofs.Common.{◌≡◌, ℕ, zero, suc, ◌+◌, ◌/◌, ◌%◌, ◌^◌, ◌<◌, ◌≤◌, true, false, List, [], ◌∷◌, ◌++◌, ◌⊎◌, inl, inr, refl, ap, sym, ◌∙◌, drop, Option, Some, None, arith, IfSome, replicate, is_some, ◌↔◌, ◌&&◌, ◌==◌, nat_le, Contains, cases_eq, cases_Bool, eqb-true, eq-eqb, ne_eqb, le-leb, leb-true, and_parts, false≢true, All-drop, Text, form, spelling, AreUnits, TypeKind, VoidType, PrimitiveType, ClassType, ArrayType, IsVoid, IsPrimitive, IsClass, IsArray, HasKind, IsDescriptor, primitive_letters, shorty_letter, Shape, One, Two, Three, shape_of}
-use Rattle.dexstr.specs.{units_of, IsSpelling, type_kind, ends_class, is_end, is_primitive_letter, element_kind, dimensions, is_void, kind_of}
+use Rattle.dexstr.proofs.Common.{◌≡◌, ℕ, zero, suc, ◌+◌, ◌/◌, ◌%◌, ◌^◌, ◌<◌, ◌≤◌, true, false, List, [], ◌∷◌, ◌++◌, ◌⊎◌, inl, inr, refl, ap, sym, ◌∙◌, drop, Option, Some, None, arith, IfSome, replicate, is_some, ◌↔◌, ◌&&◌, ◌==◌, nat_le, Contains, cases_eq, cases_Bool, eqb-true, eq-eqb, ne_eqb, le-leb, leb-true, and_parts, false≢true, All-drop, Text, form, spelling, AreUnits, TypeKind, VoidType, PrimitiveType, ClassType, ArrayType, IsVoid, IsPrimitive, IsClass, IsArray, HasKind, IsDescriptor, primitive_letters, shorty_letter, Shape, One, Two, Three, shape_of, units_of, IsSpelling, type_kind, ends_class, is_end, is_primitive_letter, element_kind, dimensions, is_void, kind_of}
 use Rattle.dexstr.specs.declared.descriptors.Kind.{Kind}
 use Rattle.dexstr.specs.declared.descriptors.Kind.TheVariants.{Void, Primitive, Class, Array}
 use Rattle.dexstr.proofs.ClassNames.{end_is, class_from, class_to, is_end-spelling, ends_class-spelling}

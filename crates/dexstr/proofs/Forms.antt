@@ -1,7 +1,6 @@
 -- What bytes begin with, where they begin with the spelling of a unit.
-use Rattle.dexstr.proofs.Common.{◌≡◌, ℕ, suc, ◌+◌, ◌-◌, ◌*◌, ◌/◌, ◌%◌, ◌<◌, ◌≤◌, List, [], ◌∷◌, ◌⊎◌, refl, ap, sym, ◌∙◌, arith, pointwise, same_from_decides, Decides-like, Decides-eqb, Bool, ◌==◌, Option, Some, None, IfNone, lt-ltb, le-ltb, Shape, One, Two, Three, shape_of, form, spelling, AreUnits, flat_map-cons, append_cancel_left}
+use Rattle.dexstr.proofs.Common.{◌≡◌, ℕ, suc, ◌+◌, ◌-◌, ◌*◌, ◌/◌, ◌%◌, ◌<◌, ◌≤◌, List, [], ◌∷◌, ◌⊎◌, refl, ap, sym, ◌∙◌, arith, pointwise, same_from_decides, Decides-like, Decides-eqb, Bool, ◌==◌, Option, Some, None, IfNone, lt-ltb, le-ltb, Shape, One, Two, Three, shape_of, form, spelling, AreUnits, flat_map-cons, append_cancel_left, units_of, IsSpelling, BeginsWithUnit, BeginsWithNone, IsNoTail}
 use Rattle.std.proofs.lemmas.Slice.Eq.{slice_eq-Decides}
-use Rattle.dexstr.specs.{units_of, IsSpelling, BeginsWithUnit, BeginsWithNone, IsNoTail}
 
 -- the bytes of the first unit
 pub shape : (bytes : List ℕ) (u : ℕ) (rest : List ℕ) → BeginsWithUnit bytes u rest → Shape bytes u rest

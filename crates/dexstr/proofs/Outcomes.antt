@@ -1,6 +1,5 @@
 -- A text's item: its count, its units and the zero byte.
-use Rattle.dexstr.proofs.Common.{◌≡◌, ℕ, suc, ◌+◌, ◌-◌, ◌/◌, ◌%◌, ◌≤◌, ◌<◌, ◌^◌, List, [], ◌∷◌, ◌++◌, length, take, drop, get_or, refl, ap, sym, ◌∙◌, arith, append_assoc, length-append, length-drop, length-take, take_at, drop_at, take-append-drop, take_all, inl, inr, ◌⊎◌, flat_map-cons, IsUleb128, BeginsWith, sum_of_groups, spelling, form, AreUnits, IsStringData, same_number, Shape, One, Two, Three, one_unit, ◌≢◌, ◌↔◌, ◌*◌, Result, Ok, Err, IfOk, IfErr, OnErr, cases_lt, cases_eq, append-nil, not_cut_off, shape_of, one_string_data}
-use Rattle.dexstr.specs.{units_of, IsSpelling, SpellsText, AfterUnits, BeginsWithUnit, BeginsWithNone, HasBody, StartsWithZero, IsPart, IsProperPrefix, LooksCutOff, IsShort, IsBad, IsFault}
+use Rattle.dexstr.proofs.Common.{◌≡◌, ℕ, suc, ◌+◌, ◌-◌, ◌/◌, ◌%◌, ◌≤◌, ◌<◌, ◌^◌, List, [], ◌∷◌, ◌++◌, length, take, drop, get_or, refl, ap, sym, ◌∙◌, arith, append_assoc, length-append, length-drop, length-take, take_at, drop_at, take-append-drop, take_all, inl, inr, ◌⊎◌, flat_map-cons, IsUleb128, BeginsWith, sum_of_groups, spelling, form, AreUnits, IsStringData, same_number, Shape, One, Two, Three, one_unit, ◌≢◌, ◌↔◌, ◌*◌, Result, Ok, Err, IfOk, IfErr, OnErr, cases_lt, cases_eq, append-nil, not_cut_off, shape_of, one_string_data, units_of, IsSpelling, SpellsText, AfterUnits, BeginsWithUnit, BeginsWithNone, HasBody, StartsWithZero, IsPart, IsProperPrefix, LooksCutOff, IsShort, IsBad, IsFault}
 use Rattle.dexstr.specs.declared.reading.TextFault.{TextFault}
 use Rattle.dexstr.specs.declared.reading.TextFault.TheVariants.{Short, Bad, Count}
 use Rattle.dexstr.proofs.Forms.{shape, units_of-spelling}

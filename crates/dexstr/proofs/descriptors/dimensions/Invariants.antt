@@ -1,5 +1,4 @@
-use Rattle.dexstr.proofs.Common.{◌≡◌, ◌+◌, drop}
-use Rattle.dexstr.specs.{dimensions}
+use Rattle.dexstr.proofs.Common.{◌≡◌, ◌+◌, drop, dimensions}
 use Rattle.dexstr.proofs.descriptors.dimensions.Given as goal
 
 abbrev pub invariant-loop-i : goal.invariant-loop-i

@@ -1,5 +1,4 @@
-use Rattle.dexstr.proofs.Common.{◌≡◌, drop, false}
-use Rattle.dexstr.specs.{ends_class}
+use Rattle.dexstr.proofs.Common.{◌≡◌, drop, false, ends_class}
 use Rattle.dexstr.proofs.descriptors.ends_class.Given as goal
 
 abbrev pub invariant-loop-i : goal.invariant-loop-i

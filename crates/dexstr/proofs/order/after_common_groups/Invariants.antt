@@ -1,5 +1,4 @@
-use Rattle.dexstr.proofs.Common.{◌≡◌, length, slice_cmp}
-use Rattle.dexstr.specs.{byte_cmp}
+use Rattle.dexstr.proofs.Common.{◌≡◌, length, slice_cmp, byte_cmp}
 use Rattle.dexstr.proofs.order.after_common_groups.Given as goal
 
 abbrev pub invariant-loop-rests : goal.invariant-loop-rests

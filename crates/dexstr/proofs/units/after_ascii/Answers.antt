@@ -1,5 +1,4 @@
-use Rattle.dexstr.proofs.Common.{rules, get_or}
-use Rattle.dexstr.specs.{IsAscii}
+use Rattle.dexstr.proofs.Common.{rules, get_or, IsAscii}
 use Rattle.dexstr.proofs.Ascii.{four_ascii}
 use Rattle.dexstr.proofs.units.after_ascii.Goals as goal
 

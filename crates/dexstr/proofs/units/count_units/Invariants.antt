@@ -1,5 +1,4 @@
-use Rattle.dexstr.proofs.Common.{◌≡◌, ◌≤◌, ℕ, List, count_by, take}
-use Rattle.dexstr.specs.{begins_unit}
+use Rattle.dexstr.proofs.Common.{◌≡◌, ◌≤◌, ℕ, List, count_by, take, begins_unit}
 use Rattle.dexstr.proofs.units.count_units.Given as goal
 
 pub record Counted (bytes : List ℕ) (i units : ℕ) : Type 0 where

@@ -1,5 +1,4 @@
-use Rattle.dexstr.proofs.Common.{◌≡◌, drop, slice_cmp, text_cmp}
-use Rattle.dexstr.specs.{byte_cmp}
+use Rattle.dexstr.proofs.Common.{◌≡◌, drop, slice_cmp, text_cmp, byte_cmp}
 use Rattle.dexstr.proofs.texts.TextOrd.cmp.Given as goal
 
 abbrev pub invariant-loop-i : goal.invariant-loop-i

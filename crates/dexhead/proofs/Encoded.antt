@@ -1,9 +1,8 @@
 -- The encodings of the items of a list, one after the other.
-use Rattle.dexhead.proofs.Common.{◌≡◌, ℕ, ◌+◌, ◌-◌, ◌^◌, ◌<◌, ◌≤◌, min, Ok, refl, arith, List, [], ◌∷◌, ◌++◌, length, take, get_or, ap, sym, ◌∙◌, subst, flat_map, append-nil, take_all, take_more}
+use Rattle.dexhead.proofs.Common.{◌≡◌, ℕ, ◌+◌, ◌-◌, ◌^◌, ◌<◌, ◌≤◌, min, Ok, refl, arith, List, [], ◌∷◌, ◌++◌, length, take, get_or, ap, sym, ◌∙◌, subst, flat_map, append-nil, take_all, take_more, HasRoomFor, Pushes}
 use Rattle.std.specs.Global.{Vec}
 use Rattle.std.specs.Prelude.{vec_len, vec_capacity}
 use Rattle.dexspec.specs.internal.Writing.{Puts}
-use Rattle.dexhead.specs.{HasRoomFor, Pushes}
 use Rattle.std.proofs.lemmas.Grind.{flat_map-append}
 
 module _ {O X : Type 0} (gives : List ℕ → O → O → Type 0) (both : (x y : List ℕ) (a b c : O) → gives x a b → gives y b c → gives (x ++ y) a c) (f : X → List ℕ) where

@@ -1,8 +1,7 @@
 -- The first ten conditions, one after the other.
-use Rattle.dexhead.proofs.Common.{◌≡◌, ◌≢◌, inl, inr, ℕ, zero, suc, ◌+◌, ◌<◌, ◌≤◌, List, [], ◌∷◌, length, get_or, ◌*◌, refl, subst, sym, ap, ◌∙◌, arith, Table, StringIds, TypeIds, ProtoIds, FieldIds, MethodIds, ClassDefs, tables, table_size, table_off, row_size, data_off, HasChecksum, HasSignature, AreLaidOut, HasLayout, number, rows_checked, place, Holds, HoldBelow, IsFrame, IsRefused, Condition, cases_lt}
+use Rattle.dexhead.proofs.Common.{◌≡◌, ◌≢◌, inl, inr, ℕ, zero, suc, ◌+◌, ◌<◌, ◌≤◌, List, [], ◌∷◌, length, get_or, ◌*◌, refl, subst, sym, ap, ◌∙◌, arith, Table, StringIds, TypeIds, ProtoIds, FieldIds, MethodIds, ClassDefs, tables, table_size, table_off, row_size, data_off, HasChecksum, HasSignature, AreLaidOut, HasLayout, number, rows_checked, place, Holds, HoldBelow, IsFrame, IsRefused, Condition, cases_lt, IsEarly}
 use Rattle.dexspec.specs.Rows.{row_at}
 use Rattle.dexhead.specs.declared.refusal.Refusal.{Refusal}
-use Rattle.dexhead.specs.{IsEarly}
 
 -- the condition of a number, for the first ten
 abbrev of_number : ℕ → Condition

@@ -1,9 +1,8 @@
 -- What the header's own functions check, in terms of the conditions.
-use Rattle.dexhead.proofs.Common.{◌≡◌, ◌↔◌, ℕ, ◌+◌, ◌<◌, List, ◌∷◌, length, map, take, drop, get_or, IsTrue, subst, sym, drop_more, sha1, TypeIds, ProtoIds, FieldIds, MethodIds, MayHave, table_size, HasSignature, tables, data_off, data_size, file_size, HasLayout}
+use Rattle.dexhead.proofs.Common.{◌≡◌, ◌↔◌, ℕ, ◌+◌, ◌<◌, List, ◌∷◌, length, map, take, drop, get_or, IsTrue, subst, sym, drop_more, sha1, TypeIds, ProtoIds, FieldIds, MethodIds, MayHave, table_size, HasSignature, tables, data_off, data_size, file_size, HasLayout, meant, AreFew, IsLaidOut, has_signature}
 use Rattle.std.proofs.lemmas.Slice.Eq.{bytes_eq-Decides}
 use Rattle.dexspec.specs.Header as header
 use Rattle.dexhead.specs.declared.tables.Table.{Table}
-use Rattle.dexhead.specs.{meant, AreFew, IsLaidOut, has_signature}
 
 -- ---- the signature
 

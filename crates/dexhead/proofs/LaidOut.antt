@@ -1,8 +1,7 @@
 -- A header that was put before the rest of a file, with the sums set.
-use Rattle.dexhead.proofs.Common.{◌≡◌, ℕ, List, ◌++◌, length, take, drop, refl, ap, ◌∙◌, append_assoc, take_at, drop_at, sha1, uint, adler_32, magic, with_sums, length-uint, map, sym, flat_map, flat_map-map, Table, placed_tables, header_bytes, unsigned_file}
+use Rattle.dexhead.proofs.Common.{◌≡◌, ℕ, List, ◌++◌, length, take, drop, refl, ap, ◌∙◌, append_assoc, take_at, drop_at, sha1, uint, adler_32, magic, with_sums, length-uint, map, sym, flat_map, flat_map-map, Table, placed_tables, header_bytes, unsigned_file, signed, with_sums_set, field_bytes, head_bytes, rows_bytes, rows_meant, StatesTables, StatesLayout, after_header, map_start}
 use Rattle.dexspec.specs.Placing.{Ordered}
 use Rattle.dexhead.specs.declared.head.Head.{Head}
-use Rattle.dexhead.specs.{signed, with_sums_set, field_bytes, head_bytes, rows_bytes, rows_meant, StatesTables, StatesLayout, after_header, map_start}
 use Rattle.dexhead.specs.declared.head.Rows.{Rows}
 use Rattle.dexhead.proofs.Overwritten.{drop_after}
 

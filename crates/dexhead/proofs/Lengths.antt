@@ -1,10 +1,9 @@
 -- How many bytes a header and a map have.
-use Rattle.dexhead.proofs.Common.{◌≡◌, ℕ, ◌+◌, ◌*◌, List, length, map, arith, flat_map, length-map, uint, header_length, Section, type_code, map_entry_bytes, map_bytes, length_rows, length-ushort, length-uint}
+use Rattle.dexhead.proofs.Common.{◌≡◌, ℕ, ◌+◌, ◌*◌, List, length, map, arith, flat_map, length-map, uint, header_length, Section, type_code, map_entry_bytes, map_bytes, length_rows, length-ushort, length-uint, rows_bytes, field_bytes, head_bytes, entry_meant}
 use Rattle.std.proofs.Math.ListN.{length-append}
 use Rattle.dexhead.specs.declared.head.Head.{Head}
 use Rattle.dexhead.specs.declared.head.Rows.{Rows}
 use Rattle.dexhead.specs.declared.map_list.MapEntry.{MapEntry}
-use Rattle.dexhead.specs.{rows_bytes, field_bytes, head_bytes, entry_meant}
 
 pub length_rows_bytes : (r : Rows) → length (rows_bytes r) ≡ 8
 length_rows_bytes r = omega (arith, length-append (uint r.size) (uint r.off), length-uint r.size, length-uint r.off)

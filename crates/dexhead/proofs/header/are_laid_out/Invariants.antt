@@ -1,5 +1,4 @@
-use Rattle.dexhead.proofs.Common.{◌↔◌, map, drop, tables}
-use Rattle.dexhead.specs.{meant, IsLaidOut}
+use Rattle.dexhead.proofs.Common.{◌↔◌, map, drop, tables, meant, IsLaidOut}
 use Rattle.dexhead.proofs.header.are_laid_out.Given as goal
 
 -- the tables before are well placed, so it is for those that are left to be placed from here on

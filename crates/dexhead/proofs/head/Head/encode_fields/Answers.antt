@@ -1,4 +1,4 @@
-use Rattle.dexhead.specs.{field_bytes}
+use Rattle.dexhead.proofs.Common.{field_bytes}
 use Rattle.dexhead.proofs.Encoded.{nine_given}
 use Rattle.dexhead.proofs.head.Head.encode_fields.Goals as goal
 

@@ -1,4 +1,4 @@
-use Rattle.dexhead.specs.{head_bytes}
+use Rattle.dexhead.proofs.Common.{head_bytes}
 use Rattle.dexhead.proofs.Encoded.{then_given}
 use Rattle.dexhead.proofs.head.HeadEncode.encode.Goals as goal
 

@@ -1,5 +1,4 @@
-use Rattle.dexhead.proofs.Common.{arith}
-use Rattle.dexhead.specs.{entries}
+use Rattle.dexhead.proofs.Common.{arith, entries}
 use Rattle.dexhead.proofs.Entries.{length-entries, never, begins_first}
 use Rattle.dexhead.proofs.map.Map.begins_with_header.Goals as goal
 

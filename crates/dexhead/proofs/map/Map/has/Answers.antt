@@ -1,5 +1,4 @@
-use Rattle.dexhead.proofs.Common.{◌≢◌, arith, refl, subst, sym, ◌∙◌, All, take_all, All-more, MapEntry}
-use Rattle.dexhead.specs.{entries, read}
+use Rattle.dexhead.proofs.Common.{◌≢◌, arith, refl, subst, sym, ◌∙◌, All, take_all, All-more, MapEntry, entries, read}
 use Rattle.dexhead.proofs.Entries.{length-entries, never, found, not_found}
 use Rattle.dexhead.proofs.map.Map.has.Goals as goal
 

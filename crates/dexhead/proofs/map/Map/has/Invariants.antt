@@ -1,5 +1,4 @@
-use Rattle.dexhead.proofs.Common.{◌≢◌, take, All}
-use Rattle.dexhead.specs.{read, entries}
+use Rattle.dexhead.proofs.Common.{◌≢◌, take, All, read, entries}
 use Rattle.dexhead.proofs.map.Map.has.Given as goal
 
 -- none so far is the entry

@@ -1,5 +1,4 @@
-use Rattle.dexhead.proofs.Common.{sym, ◌∙◌}
-use Rattle.dexhead.specs.{meant, entries}
+use Rattle.dexhead.proofs.Common.{sym, ◌∙◌, meant, entries}
 use Rattle.dexhead.proofs.Entries.{length-entries, empty_table}
 use Rattle.dexhead.proofs.map.Map.has_table.Goals as goal
 

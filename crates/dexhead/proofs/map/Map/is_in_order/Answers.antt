@@ -1,5 +1,4 @@
-use Rattle.dexhead.proofs.Common.{arith, refl}
-use Rattle.dexhead.specs.{entries}
+use Rattle.dexhead.proofs.Common.{arith, refl, entries}
 use Rattle.dexhead.proofs.Entries.{length-entries, never, order_more, order_all, next_at}
 use Rattle.dexhead.proofs.map.Map.is_in_order.Goals as goal
 

@@ -1,5 +1,4 @@
-use Rattle.dexhead.proofs.Common.{take}
-use Rattle.dexhead.specs.{AreInOrder, entries}
+use Rattle.dexhead.proofs.Common.{take, AreInOrder, entries}
 use Rattle.dexhead.proofs.map.Map.is_in_order.Given as goal
 
 -- the entries so far are in order

@@ -1,5 +1,4 @@
-use Rattle.dexhead.proofs.Common.{◌≡◌, ◌≢◌, rules, arith, subst, sym, ap, ◌∙◌, All-more, MapEntry}
-use Rattle.dexhead.specs.{entries}
+use Rattle.dexhead.proofs.Common.{◌≡◌, ◌≢◌, rules, arith, subst, sym, ap, ◌∙◌, All-more, MapEntry, entries}
 use Rattle.dexhead.proofs.Entries.{length-entries, never, kind_lacks}
 use Rattle.dexhead.proofs.map.Map.lacks.Goals as goal
 

@@ -1,5 +1,4 @@
-use Rattle.dexhead.proofs.Common.{◌≢◌, take, All}
-use Rattle.dexhead.specs.{entries}
+use Rattle.dexhead.proofs.Common.{◌≢◌, take, All, entries}
 use Rattle.dexhead.proofs.map.Map.lacks.Given as goal
 
 -- none so far is of the kind

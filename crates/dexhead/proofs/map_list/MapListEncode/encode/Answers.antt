@@ -1,5 +1,4 @@
-use Rattle.dexhead.proofs.Common.{ℕ, length, map, sym, subst, flat_map, length-map, flat_map-map, uint, map_entry_bytes}
-use Rattle.dexhead.specs.{entry_meant}
+use Rattle.dexhead.proofs.Common.{ℕ, length, map, sym, subst, flat_map, length-map, flat_map-map, uint, map_entry_bytes, entry_meant}
 use Rattle.dexhead.proofs.map_list.MapListEncode.encode.Goals as goal
 
 pub returns : goal.returns

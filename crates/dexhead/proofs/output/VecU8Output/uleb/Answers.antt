@@ -1,5 +1,4 @@
-use Rattle.dexhead.proofs.Common.{arith, sym, subst}
-use Rattle.dexhead.specs.{HasRoomFor, Pushes, one_byte}
+use Rattle.dexhead.proofs.Common.{arith, sym, subst, HasRoomFor, Pushes, one_byte}
 use Rattle.dexhead.proofs.output.VecU8Output.uleb.Goals as goal
 
 pub returns-then-value-lt128 : goal.returns-then-value-lt128

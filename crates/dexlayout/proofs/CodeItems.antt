@@ -1,13 +1,9 @@
 -- The code of methods: by numbers, it is the code_items of the file.
-use Rattle.dexlayout.proofs.Common.{◌≡◌, ℕ, ◌+◌, ◌<◌, ◌≤◌, List, [], ◌∷◌, ◌++◌, length, get_or, map, drop, Option, None, Some, refl, sym, ap, subst, ◌∙◌, arith, IfSome, All, flat_map, option_map, option_map_or, drop_more, length-drop, length-map, map-append, All-nil, All-head, All-tail, All-append, zip_with, MethodDef, declared_methods, Mentions, CodeItems, code_bytes, all_methods, code_uses, uses_offsets, debug_section, code_section, length-debug_offsets, length-code_offsets, AreRising, all_of, NumberedItem, handlers_of, code_in, IsKnownCode, numbered_code_bytes, HasShortTypes, NumberedMembers, NumberedMethod, method_in, AreKnownMembers, IsKnownMethod, methods_of, NumberedClass, definition_of, IsKnownClass}
+use Rattle.dexlayout.proofs.Common.{◌≡◌, ℕ, ◌+◌, ◌<◌, ◌≤◌, List, [], ◌∷◌, ◌++◌, length, get_or, map, drop, Option, None, Some, refl, sym, ap, subst, ◌∙◌, arith, IfSome, All, flat_map, option_map, option_map_or, drop_more, length-drop, length-map, map-append, All-nil, All-head, All-tail, All-append, zip_with, MethodDef, declared_methods, Mentions, CodeItems, code_bytes, all_methods, code_uses, uses_offsets, debug_section, code_section, length-debug_offsets, length-code_offsets, AreRising, all_of, NumberedItem, handlers_of, code_in, IsKnownCode, numbered_code_bytes, HasShortTypes, NumberedMembers, NumberedMethod, method_in, AreKnownMembers, IsKnownMethod, methods_of, NumberedClass, definition_of, IsKnownClass, AreCodes, AreLaidIn, AreWritable, ordered_of, EncodedItems, ItemPlaces, code_item, code_items, HasShortCode, encode_use, encode_uses, no_items_from}
 use Rattle.dexspec.specs.Code as symbolic
 use Rattle.dexcode.specs.Laws.{CodeBytesAreDenoted, CaughtTypesAreShort}
 use Rattle.dexcode.proofs.Meanings.{code_encoded}
-use Rattle.dexlayout.specs.{AreCodes, AreLaidIn, AreWritable, ordered_of, EncodedItems, ItemPlaces}
-use Rattle.dexlayout.specs.internal.Codes.{code_item, code_items, HasShortCode}
-use Rattle.dexlayout.specs.internal.Encoding.{encode_use, encode_uses, no_items_from}
-use Rattle.dexlayout.proofs.EncodedUses.{own_in, use_encoded, use_fits}
-use Rattle.dexlayout.proofs.OwnSteps.{drop_next}
+use Rattle.dexlayout.proofs.EncodedUses.{own_in, use_encoded, use_fits, drop_next}
 
 -- ---- the methods of classes
 
@@ -60,10 +56,8 @@ module _ (m : Mentions) (rising : AreRising m) (bytes : CodeBytesAreDenoted) whe
   code_same (Some c) o known = ap Some (bytes m o c (code_in m c) rising (code_encoded m c known))
 
   codes_same : (xs : List NumberedMethod) (offs : List ℕ) → All (IsKnownMethod m) xs → code_items xs offs ≡ map (option_map item_of) (zip_with use_of (map (method_in m) xs) offs)
-  codes_same [] offs known = refl
-  codes_same (x ∷ xs) [] known = refl
-  codes_same (x ∷ xs) (o ∷ offs) known =
-      λ i. code_same x.code o (All-head (IsKnownMethod m) x xs known).code_known i ∷ codes_same xs offs (All-tail (IsKnownMethod m) x xs known) i
+  codes_same (x ∷ xs) (o ∷ offs) known = λ i. code_same x.code o (All-head (IsKnownMethod m) x xs known).code_known i ∷ codes_same xs offs (All-tail (IsKnownMethod m) x xs known) i
+  codes_same v y known = refl
 
 module _ (m : Mentions) (cs : List NumberedClass) (w : AreWritable m cs) (bytes : CodeBytesAreDenoted) (debugs : ItemPlaces) (laid : AreLaidIn (debug_section (ordered_of m cs)) debugs) where
   items_are : code_items (methods_in_all cs) debugs.offsets ≡ map (option_map (item_of m w.numbering.rising bytes)) (code_uses (ordered_of m cs) (uses_offsets (debug_section (ordered_of m cs))))

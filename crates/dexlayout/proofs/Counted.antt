@@ -1,5 +1,5 @@
 -- What has few bytes has few members.
-use Rattle.dexlayout.proofs.Common.{ℕ, ◌+◌, ◌^◌, ◌<◌, ◌≤◌, ◌++◌, length, arith, length-append, Mentions, type_index, text_index, value_bytes, values_bytes, elements_bytes, encoded_array_bytes, annotation_bytes, NumberedValue, NumberedValues, NumberedElements, NumberedAnnotation, Plain, Named, Array, Annotated, NoValue, ThenNext, NoElement, ThenNamed, value_in, values_in, elements_in, annotation_in, text_at, type_at, ByteLiteral, ShortLiteral, CharLiteral, IntLiteral, LongLiteral, FloatLiteral, DoubleLiteral, NullLiteral, BooleanLiteral, StringReference, TypeReference, FieldReference, MethodReference, EnumReference}
+use Rattle.dexlayout.proofs.Common.{ℕ, ◌+◌, ◌^◌, ◌<◌, ◌≤◌, ◌++◌, length, arith, length-append, Mentions, type_index, text_index, value_bytes, values_bytes, elements_bytes, encoded_array_bytes, annotation_bytes, NumberedValue, NumberedValues, NumberedElements, NumberedAnnotation, Plain, Named, Array, Annotated, NoValue, ThenNext, NoElement, ThenNamed, value_in, values_in, elements_in, annotation_in, text_at, type_at, ByteLiteral, StringReference}
 use Rattle.dexspec.specs.Numbers.{uleb128}
 use Rattle.dexspec.specs.Values.{count_values, names_of}
 use Rattle.dexval.specs.Spelled.{values_count, elements_count, IsCounted, AreCounted, HaveCounted, IsCountedAnnotation}
@@ -7,21 +7,8 @@ use Rattle.dexval.specs.Spelled.{values_count, elements_count, IsCounted, AreCou
 -- a value has a byte
 some_byte : (m : Mentions) (x : NumberedValue) → 1 ≤ length (value_bytes m (value_in m x))
 some_byte m (Plain (ByteLiteral z)) = omega arith
-some_byte m (Plain (ShortLiteral z)) = omega arith
-some_byte m (Plain (CharLiteral u)) = omega arith
-some_byte m (Plain (IntLiteral z)) = omega arith
-some_byte m (Plain (LongLiteral z)) = omega arith
-some_byte m (Plain (FloatLiteral b)) = omega arith
-some_byte m (Plain (DoubleLiteral b)) = omega arith
-some_byte m (Plain NullLiteral) = omega arith
-some_byte m (Plain (BooleanLiteral b)) = omega arith
 some_byte m (Named StringReference i) = omega arith
-some_byte m (Named TypeReference i) = omega arith
-some_byte m (Named FieldReference i) = omega arith
-some_byte m (Named MethodReference i) = omega arith
-some_byte m (Named EnumReference i) = omega arith
-some_byte m (Array xs) = omega arith
-some_byte m (Annotated t es) = omega arith
+some_byte m _ = omega arith
 
 -- values are no more than their bytes
 values_few : (m : Mentions) (xs : NumberedValues) → values_count xs ≤ length (values_bytes m (values_in m xs))
@@ -49,10 +36,9 @@ annotated_bytes m t es =
 
 mutual
   counted : (m : Mentions) (x : NumberedValue) → length (value_bytes m (value_in m x)) < 2 ^ 32 → IsCounted x
-  counted m (Plain literal) lt = tt
-  counted m (Named reference i) lt = tt
   counted m (Array xs) lt = let few : length (values_bytes m (values_in m xs)) < 2 ^ 32 = omega (arith, lt, array_bytes m xs) in (omega (arith, few, values_few m xs), values_counted m xs few)
   counted m (Annotated t es) lt = let few : length (elements_bytes m (elements_in m es)) < 2 ^ 32 = omega (arith, lt, annotated_bytes m t es) in (omega (arith, few, elements_few m es), elements_counted m es few)
+  counted m _ lt = tt
 
   values_counted : (m : Mentions) (xs : NumberedValues) → length (values_bytes m (values_in m xs)) < 2 ^ 32 → AreCounted xs
   values_counted m NoValue lt = tt

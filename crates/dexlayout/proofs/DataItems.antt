@@ -1,27 +1,19 @@
 -- The data of classes: by numbers, they are the items of the file.
-use Rattle.dexlayout.proofs.Common.{◌≡◌, ℕ, ◌+◌, ◌<◌, List, [], ◌∷◌, length, get_or, map, take, drop, Option, None, Some, Bool, true, false, refl, sym, ap, ◌∙◌, arith, ◌==◌, if◌then◌else◌, All, option_map, length-append, length-map, length-drop, All-head, All-tail, zip_with, chunks, MethodDef, Definition, declared_fields, declared_methods, Mentions, class_data_bytes, class_data_uses, is_empty_class, end, uses_offsets, ClassDataItems, code_section, class_data_section, AreRising, ranks_are_numbers, NumberedMembers, method_in, methods_of, numbered_class_data_bytes, NumberedClass, definition_of, IsKnownClass}
+use Rattle.dexlayout.proofs.Common.{◌≡◌, ℕ, ◌+◌, ◌<◌, List, [], ◌∷◌, length, get_or, map, take, drop, Option, None, Some, Bool, true, false, refl, sym, ap, ◌∙◌, arith, ◌==◌, All, option_map, length-append, length-map, length-drop, All-head, All-tail, zip_with, chunks, MethodDef, Definition, declared_fields, declared_methods, Mentions, class_data_bytes, class_data_uses, is_empty_class, end, uses_offsets, ClassDataItems, code_section, class_data_section, AreRising, ranks_are_numbers, NumberedMembers, method_in, methods_of, numbered_class_data_bytes, NumberedClass, definition_of, IsKnownClass, AreWritable, AreClassData, ordered_of, EncodedItems, has_no_members, class_data_item, class_data_items, encode_uses, no_items_from, if◌then◌else◌}
 use Rattle.dexmembers.proofs.ClassDataSpelled.{class_data_spelled}
 use Rattle.dexclass.specs.Numbered.{type_at}
-use Rattle.dexlayout.specs.{AreWritable, AreClassData, ordered_of, EncodedItems}
-use Rattle.dexlayout.specs.internal.Encoding.{has_no_members, class_data_item, class_data_items, encode_uses, no_items_from}
-use Rattle.dexlayout.proofs.EncodedUses.{own_in}
+use Rattle.dexlayout.proofs.EncodedUses.{own_in, drop_next}
 use Rattle.dexlayout.proofs.CodeItems.{methods_in_all}
-use Rattle.dexlayout.proofs.OwnSteps.{drop_next}
 use Rattle.dexlayout.proofs.SetsCollected.{fields_count, methods_are}
 
 -- ---- the data of one class
 
 module _ (c : NumberedClass) (x : NumberedMembers) (offs : List ℕ) (b : Bool) (members : x ≡ c.members) (tested : b ≡ has_no_members x) where
-  item_by : class_data_item c offs ≡ (if◌then◌else◌ {A = Option (List ℕ)} b None (Some (numbered_class_data_bytes c.members offs)))
-  item_by = ap (λ (t : Bool). if◌then◌else◌ {A = Option (List ℕ)} t None (Some (numbered_class_data_bytes c.members offs))) (ap has_no_members (sym members) ∙ sym tested)
-
   pub data_none : b ≡ true → class_data_item c offs ≡ None
-  data_none is = item_by ∙ ap (λ (t : Bool). if◌then◌else◌ {A = Option (List ℕ)} t None (Some (numbered_class_data_bytes c.members offs))) is
+  data_none is = rw (← members, ← tested, is) refl
 
   pub data_some : b ≡ false → class_data_item c offs ≡ Some (numbered_class_data_bytes x offs)
-  data_some is =
-      item_by ∙ ap (λ (t : Bool). if◌then◌else◌ {A = Option (List ℕ)} t None (Some (numbered_class_data_bytes c.members offs))) is
-      ∙ ap (λ (y : NumberedMembers). Some (numbered_class_data_bytes y offs)) (sym members)
+  data_some is = rw (← members, ← tested, is) refl
 
 -- ---- they are those of the definitions
 
@@ -36,22 +28,19 @@ module _ (m : Mentions) (rising : AreRising m) where
   method_count c = ap (λ (xs : List MethodDef). length xs) (methods_are m c) ∙ length-map (methods_of c.members) (method_in m)
 
   -- by cases on whether there are members
-  either_way : (d : Definition) (offs bytes : List ℕ) (b : Bool) → bytes ≡ data_of (d, offs)
-      → if◌then◌else◌ {A = Option (List ℕ)} b None (Some bytes) ≡ option_map data_of (if◌then◌else◌ {A = Option (Definition × List ℕ)} b None (Some (d, offs)))
+  either_way : (d : Definition) (offs bytes : List ℕ) (b : Bool) → bytes ≡ data_of (d, offs) → if◌then◌else◌ {A = Option (List ℕ)} b None (Some bytes) ≡ option_map data_of (if◌then◌else◌ {A = Option (Definition × List ℕ)} b None (Some (d, offs)))
   either_way d offs bytes true e = refl
   either_way d offs bytes false e = ap Some e
 
   data_same : (c : NumberedClass) (offs : List ℕ) → IsKnownClass m c → class_data_item c offs ≡ option_map data_of (data_use (definition_of m c) offs)
   data_same c offs known =
       let d = definition_of m c in
-      let bytes = class_data_spelled m (ranks_are_numbers m rising) (type_at m c.name) d.1 c.members offs known.members_known known.members_own refl in
       let none : has_no_members c.members ≡ is_empty_class d.1 =
       ap (λ n. n + length (methods_of c.members) == 0) (sym (fields_count m c)) ∙ ap (λ n. length (declared_fields d.1) + n == 0) (sym (method_count c)) in
       ap (λ (b : Bool). if◌then◌else◌ {A = Option (List ℕ)} b None (Some (numbered_class_data_bytes c.members offs))) none
-      ∙ either_way d offs (numbered_class_data_bytes c.members offs) (is_empty_class d.1) bytes
+      ∙ either_way d offs (numbered_class_data_bytes c.members offs) (is_empty_class d.1) (class_data_spelled m (ranks_are_numbers m rising) (type_at m c.name) d.1 c.members offs known.members_known known.members_own refl)
 
-  datas_same : (cs : List NumberedClass) (offs : List ℕ) → All (IsKnownClass m) cs
-      → class_data_items cs offs ≡ map (option_map data_of) (zip_with data_use (map (definition_of m) cs) (chunks (map (λ d. length (declared_methods d.1)) (map (definition_of m) cs)) offs))
+  datas_same : (cs : List NumberedClass) (offs : List ℕ) → All (IsKnownClass m) cs → class_data_items cs offs ≡ map (option_map data_of) (zip_with data_use (map (definition_of m) cs) (chunks (map (λ d. length (declared_methods d.1)) (map (definition_of m) cs)) offs))
   datas_same [] offs known = refl
   datas_same (c ∷ cs) offs known =
       let n = length (methods_of c.members) in
@@ -63,17 +52,13 @@ module _ (m : Mentions) (rising : AreRising m) where
 -- ---- those of a file
 
 module _ (m : Mentions) (cs : List NumberedClass) (w : AreWritable m cs) (offs : List ℕ) (eo : offs ≡ uses_offsets (code_section (ordered_of m cs))) where
-  -- the data of a definition, with the offsets of its code
-  abbrev item : Definition × List ℕ → List ℕ
-  item p = class_data_bytes m p.0 p.1
-
-  items_are : class_data_items cs offs ≡ map (option_map item) (class_data_uses (ordered_of m cs) (uses_offsets (code_section (ordered_of m cs))))
+  items_are : class_data_items cs offs ≡ map (option_map (data_of m w.numbering.rising)) (class_data_uses (ordered_of m cs) (uses_offsets (code_section (ordered_of m cs))))
   items_are = ap (class_data_items cs) eo ∙ datas_same m w.numbering.rising cs (uses_offsets (code_section (ordered_of m cs))) w.known
 
   -- encoded after the code they are those of the file
   pub data_laid : (from : ℕ) → from ≡ end (code_section (ordered_of m cs)) → AreClassData m cs (encode_uses 1 (no_items_from from) (class_data_items cs offs))
   unfolding class_data_section
-  data_laid from is = own_in 1 item ClassDataItems (class_data_uses (ordered_of m cs) (uses_offsets (code_section (ordered_of m cs)))) is items_are
+  data_laid from is = own_in 1 (data_of m w.numbering.rising) ClassDataItems (class_data_uses (ordered_of m cs) (uses_offsets (code_section (ordered_of m cs)))) is items_are
 
 -- ---- class by class
 
@@ -85,11 +70,7 @@ pub record DataLeft (items : EncodedItems) (cs : List NumberedClass) (offs : Lis
 module _ (cs : List NumberedClass) (i : ℕ) (c : NumberedClass) (lt : i < length cs) (is : get_or cs i c ≡ c) (n : ℕ) (count : n ≡ length (methods_of c.members)) where
   -- the data of the next, and of those after it
   pub data_split : (offs own others : List ℕ) → own ≡ take n offs → others ≡ drop n offs → class_data_items (drop i cs) offs ≡ class_data_item c own ∷ class_data_items (drop (i + 1) cs) others
-  data_split offs own others front back =
-      let k = length (methods_of c.members) in
-      let eo : take k offs ≡ own = ap (λ j. take j offs) (sym count) ∙ sym front in
-      let er : drop k offs ≡ others = ap (λ j. drop j offs) (sym count) ∙ sym back in
-      ap (λ ds. class_data_items ds offs) (drop_next cs i c lt is) ∙ (λ j. class_data_item c (eo j) ∷ class_data_items (drop (i + 1) cs) (er j))
+  data_split offs own others front back = rw (drop_next cs i c lt is, front, back, count) refl
 
   -- as many offsets are left as methods
   pub data_rest : (offs others : List ℕ) → others ≡ drop n offs → length offs ≡ length (methods_in_all (drop i cs)) → length others ≡ length (methods_in_all (drop (i + 1) cs))

@@ -1,5 +1,5 @@
 -- Debug programs of a canonical file differ in their bytes: there is at most one debug program at an offset.
-use Rattle.dexlayout.proofs.Common.{◌≡◌, ℕ, List, Option, Some, None, refl, sym, subst, ◌∙◌, IfSome, option_to_list, slice_index, Contains, flat_map, option_map_or, get_or_default, All-contains, Contains-append_left, Contains-append_right, BytesAt, present, Code, Debug, MethodDef, Definition, declared_methods, Collection, definitions, mentions, piece_symbols, handler_symbols, debug_symbols, IsGood, greatest_caps, IsDebug, IsCodeItem, IsMethodDef, AreWellFormed, all_methods, debug_uses, uses_offsets, canonical, debug_items, debug_section, ordered, same_debug, debug_bytes, ItemIsAt, UseIsAt, use_encoded, shared_numbered, Contains-flat_map_source, map_source, debug_decides, present_source}
+use Rattle.dexlayout.proofs.Common.{◌≡◌, ℕ, List, Option, Some, None, refl, sym, subst, ◌∙◌, IfSome, option_to_list, slice_index, Contains, flat_map, option_map_or, get_or_default, All-contains, Contains-append_left, Contains-append_right, BytesAt, present, Code, Debug, MethodDef, Definition, declared_methods, Collection, definitions, mentions, piece_symbols, handler_symbols, debug_symbols, IsGood, greatest_caps, IsDebug, IsCodeItem, IsMethodDef, AreWellFormed, all_methods, debug_uses, uses_offsets, canonical, debug_items, debug_section, ordered, same_debug, debug_bytes, ItemIsAt, UseIsAt, use_encoded, shared_numbered, Contains-flat_map_source, map_source, debug_decides, present_source, HaveOwnBytes}
 use Rattle.dexspec.specs.Code.{handlers_of}
 use Rattle.dexspec.specs.Depth.{in_class_order}
 use Rattle.dexspec.proofs.determined.OneDebug.{one_debug}
@@ -9,7 +9,6 @@ use Rattle.dexspec.proofs.normal.NormalClasses.{AreNormal}
 use Rattle.dexspec.proofs.normal.NormalForm.{canonical_all_normal}
 use Rattle.dexspec.proofs.written.DebugWritten.{debug_written}
 use Rattle.dexspec.proofs.written.NumbersWritten.{AreInRows}
-use Rattle.dexlayout.specs.{HaveOwnBytes}
 
 -- the code that has the debug program of a use
 with_debug : (code : Option Code) (x : Debug) → option_map_or (λ c. c.debug) code None ≡ Some x → (c : Code) × (code ≡ Some c) × (c.debug ≡ Some x)

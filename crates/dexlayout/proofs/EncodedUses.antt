@@ -1,19 +1,112 @@
--- Items that are encoded use by use, one after the other and aligned, are those of a section.
-use Rattle.dexlayout.proofs.Common.{◌≡◌, ℕ, zero, suc, ◌+◌, ◌<◌, ◌≤◌, ◌^◌, Bool, true, false, List, [], ◌∷◌, ◌++◌, length, get_or, map, drop, Option, None, Some, refl, sym, ap, subst, ◌∙◌, arith, append_assoc, ◌==◌, ◌-◌, ◌%◌, replicate, flat_map, option_map, eqb-true, append-nil, length-append, drop_all, round_up, padding, present, Items, own_items, bytes_from, end, offsets, section, Section, length-padding}
-use Rattle.dexlayout.specs.{ItemPlaces, EncodedItems, AreEncodedIn, AreItemsIn, AreLaidIn, AreLaidSo}
-use Rattle.dexlayout.specs.internal.Encoding.{no_items_from, pass_use, align_next, put_item, end_item, encode_use, encode_uses}
-use Rattle.dexlayout.specs.internal.Running.{none_from, put_next, place_uses}
-use Rattle.dexlayout.proofs.Owned.{sizes, own_encoded}
-use Rattle.dexlayout.proofs.OwnSteps.{all_encoded, drop_next}
+-- Items that are encoded one after the other, use by use and aligned, are those of a section.
+use Rattle.dexlayout.proofs.Common.{◌≡◌, ℕ, ◌+◌, List, [], ◌∷◌, ◌++◌, length, map, Some, refl, ap, ◌∙◌, arith, All, replicate, ◌-◌, ◌%◌, flat_map, All-head, All-tail, round_up, bytes_from, ◌≤◌, Option, None, sym, append_assoc, slice_index, option_map, option_map_or, append-nil, length-append, get_or-append-add, present, own_numbers, own_items, offsets_from, end_from, length-padding, numbers_offsets, ◌<◌, get_or, drop, drop_more, drop_all, ◌^◌, subst, padding, Items, end, offsets, section, Section, ItemPlaces, AreLaidSo, none_from, pass, put_at, place_uses, put_next, place_use, EncodedItems, AreEncodedIn, AreItemsIn, AreLaidIn, no_items_from, pass_use, align_next, put_item, end_item, encode_use, encode_uses, map-map}
 use Rattle.dexlayout.proofs.SharedUses.{present-map}
+
+-- bytes without alignment are those of the items
+pub bytes_plain : {X : Type 0} (f : X → List ℕ) (from : ℕ) (xs : List X) → bytes_from 1 from (map f xs) ≡ flat_map f xs
+bytes_plain f from [] = refl
+bytes_plain f from (x ∷ xs) =
+    ap (λ n. replicate n 0 ++ (f x ++ bytes_from 1 (round_up 1 from + length (f x)) (map f xs))) {y = 0} (omega arith)
+    ∙ ap (λ ys. f x ++ ys) (bytes_plain f (round_up 1 from + length (f x)) xs)
+
+-- the same items as those that they denote
+pub items_agree : {X Y : Type 0} (code : X → List ℕ) (bytes : Y → List ℕ) (meant : X → Y) (IsKnown : X → Type 0) → ((x : X) → IsKnown x → code x ≡ bytes (meant x)) → (xs : List X) → All IsKnown xs → map (λ x. Some (code x)) xs ≡ map (λ y. Some (bytes y)) (map meant xs)
+items_agree code bytes meant IsKnown same [] known = refl
+items_agree code bytes meant IsKnown same (x ∷ xs) known = λ i. Some (same x (All-head IsKnown x xs known) i) ∷ items_agree code bytes meant IsKnown same xs (All-tail IsKnown x xs known) i
+
+-- ---- items of their own: going through the uses with a running end gives the offsets of the uses, and where the items end
+
+-- how many bytes each use has, if it has an item
+abbrev pub sizes : {X : Type 0} → (X → List ℕ) → List (Option X) → List (Option ℕ)
+sizes f us = map (option_map (λ x. length (f x))) us
+
+-- ---- the running places
+
+-- they do not end before they begin
+pub place_grows : (align : ℕ) (p : ItemPlaces) (us : List (Option ℕ)) → p.end ≤ (place_uses align p us).end
+place_grows align p [] = omega arith
+place_grows align p (None ∷ us) = place_grows align (pass p) us
+place_grows align p (Some n ∷ us) = omega (arith, place_grows align (put_at p (round_up align p.end) n) us, length-padding align p.end)
+
+-- ---- they are those of items of their own
+
+-- the offset of a use's item, after others
+abbrev offset_of : List ℕ → Option ℕ → ℕ
+offset_of offs n = option_map_or (slice_index offs) n 0
+
+module _ {X : Type 0} (f : X → List ℕ) (align : ℕ) where
+  offsets_go : (us : List (Option X)) (before : List ℕ) (p : ItemPlaces) → (place_uses align p (sizes f us)).offsets ≡ p.offsets ++ map (offset_of (before ++ offsets_from align p.end (map f (present us)))) (own_numbers (length before) us)
+  offsets_go [] before p = sym (append-nil p.offsets)
+  offsets_go (None ∷ us) before p = offsets_go us before (pass p) ∙ append_assoc p.offsets (0 ∷ []) _
+  offsets_go (Some x ∷ us) before p =
+      let o = round_up align p.end in
+      let next = offsets_from align (o + length (f x)) (map f (present us)) in
+      let all = before ++ o ∷ next in
+      let joined : (before ++ o ∷ []) ++ next ≡ all = append_assoc before (o ∷ []) next in
+      let count : length (before ++ o ∷ []) ≡ length before + 1 = length-append before (o ∷ []) in
+      let here : slice_index all (length before) ≡ o = ap (slice_index all) (omega arith) ∙ get_or-append-add before (o ∷ next) 0 0 in
+      offsets_go us (before ++ o ∷ []) (put_at p o (length (f x)))
+      ∙ append_assoc p.offsets (o ∷ []) _
+      ∙ ap (λ os. p.offsets ++ (o ∷ map (offset_of os) (own_numbers (length (before ++ o ∷ [])) us))) joined
+      ∙ ap (λ n. p.offsets ++ (o ∷ map (offset_of all) (own_numbers n us))) count
+      ∙ ap (λ k. p.offsets ++ (k ∷ map (offset_of all) (own_numbers (length before + 1) us))) (sym here)
+
+  end_go : (us : List (Option X)) (p : ItemPlaces) → (place_uses align p (sizes f us)).end ≡ end_from align p.end (map f (present us))
+  end_go [] p = refl
+  end_go (None ∷ us) p = end_go us (pass p)
+  end_go (Some x ∷ us) p = end_go us (put_at p (round_up align p.end) (length (f x)))
+
+  -- the offsets of items that are not shared
+  pub own_encoded : (from : ℕ) (us : List (Option X)) → AreLaidSo (numbers_offsets (own_items us).numbers (offsets_from align from (map f (own_items us).written))) (end_from align from (map f (own_items us).written))
+      (place_uses align (none_from from) (sizes f us))
+  own_encoded from us = record { offsets_are = offsets_go us [] (none_from from); end_is = end_go us (none_from from) }
+
+-- ---- items that are placed one after the other by a loop: what is still to be placed
+
+-- an item that is not aligned begins at the end of the one before it
+pub put_plain : (p : ItemPlaces) (len : ℕ) → put_next p len ≡ place_use 1 p (Some len)
+put_plain p len = let here : p.end ≡ round_up 1 p.end = omega arith in ap (λ off. put_at p off len) here
+
+-- the next member, and those after it
+pub drop_next : {X : Type 0} (xs : List X) (i : ℕ) (x : X) → i < length xs → get_or xs i x ≡ x → drop i xs ≡ x ∷ drop (i + 1) xs
+drop_next xs i x lt is = drop_more xs i x lt ∙ ap (λ y. y ∷ drop (i + 1) xs) is
+
+-- the next of those that are left
+pub left_next : {X : Type 0} (align : ℕ) (size : X → Option ℕ) (p : ItemPlaces) (xs : List X) (i : ℕ) (x : X) → i < length xs → get_or xs i x ≡ x → place_uses align p (map size (drop i xs)) ≡ place_uses align (place_use align p (size x)) (map size (drop (i + 1) xs))
+left_next align size p xs i x lt is = ap (λ ys. place_uses align p (map size ys)) (drop_next xs i x lt is)
+
+-- it fits
+pub left_fits : {X : Type 0} {all : ItemPlaces} (align : ℕ) (size : X → Option ℕ) (p : ItemPlaces) (xs : List X) (i : ℕ) (x : X) → i < length xs → get_or xs i x ≡ x → place_uses align p (map size (drop i xs)) ≡ all → (place_use align p (size x)).end ≤ all.end
+left_fits align size p xs i x lt is maps_to = omega (arith, ap (λ (q : ItemPlaces). q.end) (sym (left_next align size p xs i x lt is) ∙ maps_to), place_grows align (place_use align p (size x)) (map size (drop (i + 1) xs)))
+
+-- none is left
+pub left_none : {X : Type 0} (align : ℕ) (size : X → Option ℕ) (p : ItemPlaces) (xs : List X) (i : ℕ) → length xs ≤ i → place_uses align p (map size (drop i xs)) ≡ p
+left_none align size p xs i le = ap (λ ys. place_uses align p (map size ys)) (drop_all i xs le)
+
+module _ {X : Type 0} (f : X → List ℕ) (align : ℕ) where
+  -- how many bytes one has
+  abbrev size : X → Option ℕ
+  size x = Some (length (f x))
+
+  offsets_all : (xs : List X) (p : ItemPlaces) → (place_uses align p (map size xs)).offsets ≡ p.offsets ++ offsets_from align p.end (map f xs)
+  offsets_all [] p = sym (append-nil p.offsets)
+  offsets_all (x ∷ xs) p = offsets_all xs (put_at p (round_up align p.end) (length (f x))) ∙ append_assoc p.offsets (round_up align p.end ∷ []) _
+
+  end_all : (xs : List X) (p : ItemPlaces) → (place_uses align p (map size xs)).end ≡ end_from align p.end (map f xs)
+  end_all [] p = refl
+  end_all (x ∷ xs) p = end_all xs (put_at p (round_up align p.end) (length (f x)))
+
+  -- the offsets of items where each use has one
+  pub all_encoded : (from : ℕ) (xs : List X) → AreLaidSo (offsets_from align from (map f xs)) (end_from align from (map f xs)) (place_uses align (none_from from) (map size xs))
+  all_encoded from xs = record { offsets_are = offsets_all xs (none_from from); end_is = end_all xs (none_from from) }
 
 -- ---- one item
 
 -- an item that is not aligned has no zeros before it
 pub align_one : (p : EncodedItems) → align_next 1 p ≡ p
 align_one p =
-    let none : (1 - p.places.end % 1) % 1 ≡ 0 = omega arith in
     let here : round_up 1 p.places.end ≡ p.places.end = omega arith in
+    let none : (1 - p.places.end % 1) % 1 ≡ 0 = omega arith in
     let bytes = ap (λ n. p.bytes ++ replicate n 0) none ∙ append-nil p.bytes in
     λ i. record { bytes = bytes i; places = record { offsets = p.places.offsets; end = here i } }
 
@@ -38,9 +131,7 @@ module _ (align : ℕ) where
   encode_grows : (p : EncodedItems) (us : List (Option (List ℕ))) → p.places.end ≤ (encode_uses align p us).places.end
   encode_grows p [] = omega arith
   encode_grows p (None ∷ us) = encode_grows (pass_use p) us
-  encode_grows p (Some x ∷ us) =
-      let rest = encode_grows (put_item (align_next align p) x) us in
-      omega (arith, rest, length-padding align p.places.end)
+  encode_grows p (Some x ∷ us) = omega (arith, encode_grows (put_item (align_next align p) x) us, length-padding align p.places.end)
 
   -- one is the next
   module _ {all : EncodedItems} {left rest : List (Option (List ℕ))} {u : Option (List ℕ)} (p : EncodedItems) (next : left ≡ u ∷ rest) (whole : encode_uses align p left ≡ all) where
@@ -56,24 +147,6 @@ module _ (align : ℕ) where
   -- none is left
   pub all_encoded_by : {p all : EncodedItems} {left : List (Option (List ℕ))} → left ≡ [] → encode_uses align p left ≡ all → p ≡ all
   all_encoded_by {p} none whole = ap (encode_uses align p) (sym none) ∙ whole
-
--- ---- the uses of a list
-
--- a use for each member
-module _ {X : Type 0} (item_of : X → Option (List ℕ)) (xs : List X) (i : ℕ) where
-  pub next_of_each : (x : X) → i < length xs → get_or xs i x ≡ x → map item_of (drop i xs) ≡ item_of x ∷ map item_of (drop (i + 1) xs)
-  next_of_each x lt is = ap (map item_of) (drop_next xs i x lt is)
-
-  pub each_left : length xs ≤ i → map item_of (drop i xs) ≡ []
-  each_left le = ap (map item_of) (drop_all i xs le)
-
--- several uses for each
-module _ {X : Type 0} (items_of : X → List (Option (List ℕ))) (xs : List X) (i : ℕ) where
-  pub next_of_several : (x : X) → i < length xs → get_or xs i x ≡ x → flat_map items_of (drop i xs) ≡ items_of x ++ flat_map items_of (drop (i + 1) xs)
-  next_of_several x lt is = ap (flat_map items_of) (drop_next xs i x lt is)
-
-  pub several_left : length xs ≤ i → flat_map items_of (drop i xs) ≡ []
-  several_left le = ap (flat_map items_of) (drop_all i xs le)
 
 -- ---- they are those of a section
 
@@ -104,17 +177,15 @@ module _ (align : ℕ) where
     all_present (x ∷ xs) = ap (λ ys. f x ∷ ys) (all_present xs)
 
     all_lens : (xs : List X) → lens (map (λ x. Some (f x)) xs) ≡ map (λ x. Some (length (f x))) xs
-    all_lens [] = refl
-    all_lens (x ∷ xs) = ap (λ (ns : List (Option ℕ)). Some (length (f x)) ∷ ns) (all_lens xs)
+    all_lens xs = map-map (option_map (λ (x : List ℕ). length x)) (λ x. Some (f x)) xs
 
     pub all_in : {from start : ℕ} {items : List (Option (List ℕ))} (kind : Section) (its : Items X) → from ≡ start → items ≡ map (λ x. Some (f x)) its.written → AreItemsIn (section kind align start f its) (encode_uses align (no_items_from from) items)
     all_in {from} {start} {items} kind its here are =
         let S = section kind align start f its in
         let us = map (λ x. Some (f x)) its.written in
-        let places = encoded_places (no_items_from start) us ∙ ap (place_uses align (none_from start)) (all_lens its.written) in
         subst (AreItemsIn S) (λ i. encode_uses align (no_items_from (sym here i)) (sym are i)) (record {
           bytes_are = encoded_bytes (no_items_from start) us ∙ ap (bytes_from align start) (all_present its.written);
-          places_are = subst (AreLaidSo (offsets S) (end S)) (sym places) (all_encoded f align start its.written);
+          places_are = subst (AreLaidSo (offsets S) (end S)) (sym (encoded_places (no_items_from start) us ∙ ap (place_uses align (none_from start)) (all_lens its.written))) (all_encoded f align start its.written);
         })
 
     -- those that some uses have
@@ -127,10 +198,9 @@ module _ (align : ℕ) where
     own_in {from} {start} {items} kind uses here are =
         let S = section kind align start f (own_items uses) in
         let us = map (option_map f) uses in
-        let places = encoded_places (no_items_from start) us ∙ ap (place_uses align (none_from start)) (own_lens uses) in
         subst (AreEncodedIn S) (λ i. encode_uses align (no_items_from (sym here i)) (sym are i)) (record {
           bytes_are = encoded_bytes (no_items_from start) us ∙ ap (bytes_from align start) (present-map f uses);
-          places_are = subst (AreLaidIn S) (sym places) (own_encoded f align start uses);
+          places_are = subst (AreLaidIn S) (sym (encoded_places (no_items_from start) us ∙ ap (place_uses align (none_from start)) (own_lens uses))) (own_encoded f align start uses);
         })
 
 -- items as they are
@@ -138,13 +208,3 @@ pub own_same : (us : List (Option (List ℕ))) → map (option_map (λ x. x)) us
 own_same [] = refl
 own_same (None ∷ us) = ap (λ (vs : List (Option (List ℕ))). None ∷ vs) (own_same us)
 own_same (Some x ∷ us) = ap (λ (vs : List (Option (List ℕ))). Some x ∷ vs) (own_same us)
-
--- ---- whether a use has an item
-
--- a length of which a test said that it is not 0
-pub some_of : (n : ℕ) (b : Bool) → b ≡ (n == 0) → b ≡ false → 0 < n
-some_of zero b e f = absurd (let t : b ≡ true = e in cc)
-some_of (suc n) b e f = omega arith
-
-pub none_of : (n : ℕ) (b : Bool) → b ≡ (n == 0) → b ≡ true → n ≡ 0
-none_of n b e f = eqb-true n 0 (sym e ∙ f)

@@ -1,6 +1,5 @@
 -- Each part of a file that is not too long ends within its bytes.
-use Rattle.dexlayout.proofs.Common.{◌≡◌, ℕ, ◌+◌, ◌^◌, ◌≤◌, length, refl, arith, round_up, Ordered, end, Placed, data_start, type_list_section, annotation_section, array_section, string_section, debug_section, code_section, class_data_section, set_section, ref_list_section, directory_section, sections_follow, end_from_le, length-padding, map_start, map_list}
-use Rattle.dexlayout.specs.{file_end}
+use Rattle.dexlayout.proofs.Common.{◌≡◌, ℕ, ◌+◌, ◌^◌, ◌≤◌, length, refl, arith, round_up, Ordered, end, Placed, data_start, type_list_section, annotation_section, array_section, string_section, debug_section, code_section, class_data_section, set_section, ref_list_section, directory_section, sections_follow, end_from_le, length-padding, map_start, map_list, file_end}
 
 -- where the map begins
 pub map_start_is : (K : Ordered) → map_start K ≡ round_up 4 (end (directory_section K))
@@ -58,32 +57,4 @@ pub record EndInFile (K : Ordered) : Type 0 where
   pub file : map_start K + length (map_list K) ≤ 2 ^ 30
 
 pub end_in_file : (K : Ordered) → file_end K ≤ 2 ^ 30 → EndInFile K
-end_in_file K fits =
-    let c = chained K in
-    let m : map_start K ≤ 2 ^ 30 = omega (arith, fits) in
-    let l10 : end (directory_section K) ≤ 2 ^ 30 = omega (arith, m, c.map) in
-    let l9 : end (ref_list_section K) ≤ 2 ^ 30 = omega (arith, l10, c.directories) in
-    let l8 : end (set_section K) ≤ 2 ^ 30 = omega (arith, l9, c.ref_lists) in
-    let l7 : end (class_data_section K) ≤ 2 ^ 30 = omega (arith, l8, c.sets) in
-    let l6 : end (code_section K) ≤ 2 ^ 30 = omega (arith, l7, c.class_data) in
-    let l5 : end (debug_section K) ≤ 2 ^ 30 = omega (arith, l6, c.codes) in
-    let l4 : end (string_section K) ≤ 2 ^ 30 = omega (arith, l5, c.debugs) in
-    let l3 : end (array_section K) ≤ 2 ^ 30 = omega (arith, l4, c.strings) in
-    let l2 : end (annotation_section K) ≤ 2 ^ 30 = omega (arith, l3, c.arrays) in
-    let l1 : end (type_list_section K) ≤ 2 ^ 30 = omega (arith, l2, c.annotations) in
-    let l0 : data_start K ≤ 2 ^ 30 = omega (arith, l1, c.type_lists) in
-    record {
-      tables = omega (arith, l0);
-      type_lists = omega (arith, l1);
-      annotations = omega (arith, l2);
-      arrays = omega (arith, l3);
-      strings = omega (arith, l4);
-      debugs = omega (arith, l5);
-      codes = omega (arith, l6);
-      class_data = omega (arith, l7);
-      sets = omega (arith, l8);
-      ref_lists = omega (arith, l9);
-      directories = omega (arith, l10);
-      map = omega (arith, m);
-      file = fits;
-    }
+end_in_file K fits = grind (arith, fits, chained K)

@@ -1,12 +1,10 @@
 -- How many items each section of the data has, and how long the longest of several is.
-use Rattle.dexlayout.proofs.Common.{◌≡◌, ℕ, ◌+◌, ◌<◌, ◌≤◌, ◌^◌, Bool, true, false, cond, List, [], ◌∷◌, ◌++◌, length, map, Option, None, Some, refl, sym, ap, ◌∙◌, arith, ◌==◌, not, ne_eqb, length-map, present, round_up, Code, Definition, Mentions, string_data, code_bytes, encoded_array_bytes, class_data_bytes, offsets_bytes, own_items, uses_offsets, offsets_from, end_from, offsets, Ordered, static_values_uses, code_uses, class_data_uses, ref_list_uses, directory_uses, end, Placed, data_start, type_list_section, annotation_section, array_section, string_section, debug_section, code_section, class_data_section, set_section, set_offsets, ref_list_section, directory_section, length-padding, items_few, length-offsets_from, sections_have_bytes, numbers_offsets, HasBytes, NumberedClass}
+use Rattle.dexlayout.proofs.Common.{◌≡◌, ℕ, ◌+◌, ◌<◌, ◌≤◌, ◌^◌, Bool, true, false, cond, List, [], ◌∷◌, ◌++◌, length, map, Option, None, Some, refl, sym, ap, ◌∙◌, arith, ◌==◌, not, ne_eqb, length-map, present, round_up, Code, Definition, Mentions, string_data, code_bytes, encoded_array_bytes, class_data_bytes, offsets_bytes, own_items, uses_offsets, offsets_from, end_from, offsets, Ordered, static_values_uses, code_uses, class_data_uses, ref_list_uses, directory_uses, end, Placed, data_start, type_list_section, annotation_section, array_section, string_section, debug_section, code_section, class_data_section, set_section, set_offsets, ref_list_section, directory_section, length-padding, items_few, length-offsets_from, sections_have_bytes, numbers_offsets, HasBytes, NumberedClass, ItemPlaces, AreLaidSo, ordered_of, none_from, pass, put_at, place_uses, AreData, AreWritable}
+use Rattle.dexlayout.specs.{count_placed}
 use Rattle.std.proofs.lemmas.List.Sums.{sum_by-append}
-use Rattle.dexlayout.specs.{ItemPlaces, AreLaidSo, ordered_of}
-use Rattle.dexlayout.specs.internal.Running.{none_from, pass, put_at, place_uses}
-use Rattle.dexlayout.specs.internal.Parts.{AreData, count_placed}
 use Rattle.dexlayout.specs.declared.data.Data.{Data}
-use Rattle.dexlayout.proofs.Ends.{EndInFile, chained}
-use Rattle.dexlayout.proofs.Owned.{sizes, own_encoded}
+use Rattle.dexlayout.proofs.Ends.{EndInFile, chained, end_in_file}
+use Rattle.dexlayout.proofs.EncodedUses.{sizes, own_encoded}
 
 -- ---- offsets of items
 
@@ -36,8 +34,7 @@ module _ {X : Type 0} (f : X → List ℕ) (align : ℕ) where
       count_go us (put_at p o (length (f x))) (omega (arith, here)) ∙ ap (λ n. n + length (present us)) (count_item p.offsets o here) ∙ omega arith
 
   -- as many as items
-  pub own_count : (from : ℕ) (us : List (Option X)) → 0 < from
-      → count_placed (numbers_offsets (own_items us).numbers (offsets_from align from (map f (own_items us).written))) ≡ length (map f (own_items us).written)
+  pub own_count : (from : ℕ) (us : List (Option X)) → 0 < from → count_placed (numbers_offsets (own_items us).numbers (offsets_from align from (map f (own_items us).written))) ≡ length (map f (own_items us).written)
   own_count from us some = ap count_placed (sym (own_encoded f align from us).offsets_are) ∙ count_go us (none_from from) some ∙ plus_zero (length (present us)) ∙ sym (length-map (present us) f)
 
 -- ---- those of each section
@@ -48,32 +45,23 @@ starts K = omega arith
 
 array_count : (K : Ordered) → count_placed (uses_offsets (array_section K)) ≡ length (array_section K).items
 unfolding array_section
-array_count K = let h = chained K in own_count (encoded_array_bytes K.pools) 1 (end (annotation_section K)) (static_values_uses K) (omega (arith, starts K, h.type_lists, h.annotations))
+array_count K = own_count (encoded_array_bytes K.pools) 1 (end (annotation_section K)) (static_values_uses K) (omega (arith, starts K, chained K))
 
 code_count : (K : Ordered) → count_placed (uses_offsets (code_section K)) ≡ length (code_section K).items
 unfolding code_section
-code_count K =
-    let h = chained K in
-    own_count (λ (p : Code × ℕ). code_bytes K.pools p.1 p.0) 4 (end (debug_section K)) (code_uses K (uses_offsets (debug_section K))) (omega (arith, starts K, h.type_lists, h.annotations, h.arrays, h.strings, h.debugs))
+code_count K = own_count (λ (p : Code × ℕ). code_bytes K.pools p.1 p.0) 4 (end (debug_section K)) (code_uses K (uses_offsets (debug_section K))) (omega (arith, starts K, chained K))
 
 class_data_count : (K : Ordered) → count_placed (uses_offsets (class_data_section K)) ≡ length (class_data_section K).items
 unfolding class_data_section
-class_data_count K =
-    let h = chained K in
-    own_count (λ (p : Definition × List ℕ). class_data_bytes K.pools p.0 p.1) 1 (end (code_section K)) (class_data_uses K (uses_offsets (code_section K))) (omega (arith, starts K, h.type_lists, h.annotations, h.arrays, h.strings, h.debugs, h.codes))
+class_data_count K = own_count (λ (p : Definition × List ℕ). class_data_bytes K.pools p.0 p.1) 1 (end (code_section K)) (class_data_uses K (uses_offsets (code_section K))) (omega (arith, starts K, chained K))
 
 ref_list_count : (K : Ordered) → count_placed (uses_offsets (ref_list_section K)) ≡ length (ref_list_section K).items
 unfolding ref_list_section
-ref_list_count K =
-    let h = chained K in
-    own_count offsets_bytes 4 (end (set_section K)) (ref_list_uses K (set_offsets K)) (omega (arith, starts K, h.type_lists, h.annotations, h.arrays, h.strings, h.debugs, h.codes, h.class_data, h.sets))
+ref_list_count K = own_count offsets_bytes 4 (end (set_section K)) (ref_list_uses K (set_offsets K)) (omega (arith, starts K, chained K))
 
 directory_count : (K : Ordered) → count_placed (uses_offsets (directory_section K)) ≡ length (directory_section K).items
 unfolding directory_section
-directory_count K =
-    let h = chained K in
-    own_count (λ (x : List ℕ). x) 4 (end (ref_list_section K)) (directory_uses K (set_offsets K) (uses_offsets (ref_list_section K)))
-    (omega (arith, starts K, h.type_lists, h.annotations, h.arrays, h.strings, h.debugs, h.codes, h.class_data, h.sets, h.ref_lists))
+directory_count K = own_count (λ (x : List ℕ). x) 4 (end (ref_list_section K)) (directory_uses K (set_offsets K) (uses_offsets (ref_list_section K))) (omega (arith, starts K, chained K))
 
 -- an offset for each item
 length-offsets : (p : Placed) → length (offsets p) ≡ length p.items
@@ -92,9 +80,9 @@ pub record AreCounted (K : Ordered) (d : Data) : Type 0 where
   pub ref_lists : count_placed d.back.ref_lists.places.offsets ≡ length (ref_list_section K).items
   pub directories : count_placed d.back.directories.places.offsets ≡ length (directory_section K).items
 
-pub counted : (m : Mentions) (cs : List NumberedClass) {d : Data} → AreData m cs d → AreCounted (ordered_of m cs) d
+pub counted : {m : Mentions} {cs : List NumberedClass} {d : Data} → AreData m cs d → AreCounted (ordered_of m cs) d
 unfolding string_section
-counted m cs {d} h =
+counted {m} {cs} {d} h =
     let K = ordered_of m cs in
     record {
       type_lists = h.first_sections_are.type_lists_are.count_is;
@@ -126,8 +114,10 @@ pub record HaveFewItems (K : Ordered) : Type 0 where
 few : (p : Placed) → HasBytes p → end p ≤ 2 ^ 30 → length p.items ≤ 2 ^ 30
 few p some le = omega (arith, le, items_few p.align p.from p.items some)
 
-pub few_items : (K : Ordered) → EndInFile K → HaveFewItems K
-few_items K ends =
+pub few_items : {m : Mentions} {cs : List NumberedClass} → AreWritable m cs → HaveFewItems (ordered_of m cs)
+few_items {m} {cs} w =
+    let K = ordered_of m cs in
+    let ends = end_in_file K w.fits in
     let b = sections_have_bytes K in
     let d = type_list_section K in
     record {
@@ -146,14 +136,9 @@ few_items K ends =
 -- ---- texts
 
 -- the texts are after the static values
-pub strings_at_ranks : (K : Ordered) (from : ℕ) {p : ItemPlaces} → from ≡ end (array_section K)
-    → AreLaidSo (offsets_from 1 from (map string_data K.pools.texts)) (end_from 1 from (map string_data K.pools.texts)) p
-    → AreLaidSo (offsets (string_section K)) (end (string_section K)) p
+pub strings_at_ranks : (K : Ordered) (from : ℕ) {p : ItemPlaces} → from ≡ end (array_section K) → AreLaidSo (offsets_from 1 from (map string_data K.pools.texts)) (end_from 1 from (map string_data K.pools.texts)) p → AreLaidSo (offsets (string_section K)) (end (string_section K)) p
 unfolding string_section
-strings_at_ranks K from {p} e h = record {
-  offsets_are = h.offsets_are ∙ ap (λ n. offsets_from 1 n (map string_data K.pools.texts)) e;
-  end_is = h.end_is ∙ ap (λ n. end_from 1 n (map string_data K.pools.texts)) e;
-}
+strings_at_ranks K from {p} e h = record { offsets_are = h.offsets_are ∙ ap (λ n. offsets_from 1 n (map string_data K.pools.texts)) e; end_is = h.end_is ∙ ap (λ n. end_from 1 n (map string_data K.pools.texts)) e }
 
 -- and fit the file
 pub strings_fit : (K : Ordered) (from : ℕ) → from ≡ end (array_section K) → EndInFile K → end_from 1 from (map string_data K.pools.texts) ≤ 2 ^ 30

@@ -1,14 +1,56 @@
--- The file of a program's classes: if the program is good, it can be written, and its length is that of its layout.
-use Rattle.dexlayout.proofs.Common.{◌≡◌, ℕ, ◌+◌, ◌≤◌, List, [], ◌∷◌, ◌++◌, length, map, sym, ap, subst, ◌∙◌, arith, flat_map, slice_index, drop, padding, round_up, HasSize, Section, HeaderItem, MapList, Collection, definitions, Mentions, mentions, Caps, greatest_caps, AreCaps, Fits, IsGood, AreWellFormed, Ordered, EqualOnce, end, offsets, map_of, map_bytes, unsigned_file, with_sums, ordered, canonical, data_start, type_list_section, annotation_section, array_section, string_section, debug_section, code_section, class_data_section, set_section, set_offsets, ref_list_section, directory_section, data_before_map, map_place, map_place_is, map_list_named, parts, StatesLayout, map_start, map_list, entry_meant, IsNumbering, NumberedClass}
+-- The file of a program's classes: its tables and map from their parts, and its length.
+use Rattle.dexlayout.proofs.Common.{◌≡◌, ℕ, ◌+◌, ◌*◌, ◌≤◌, List, [], ◌∷◌, ◌++◌, length, map, refl, ap, ◌∙◌, arith, flat_map, ◌==◌, slice_index, length-map, round_up, Table, Mentions, Section, HeaderItem, TableOf, MapList, TypeLists, AnnotationItems, EncodedArrayItems, StringDataItems, DebugInfoItems, CodeItems, ClassDataItems, AnnotationSets, AnnotationSetRefLists, AnnotationsDirectories, Ordered, Placed, offsets, offsets_from, end, placed_tables, data_sections, map_of, data_start, type_list_section, annotation_section, array_section, string_section, debug_section, code_section, class_data_section, set_section, ref_list_section, directory_section, NumberedClass, definition_of, sym, subst, drop, padding, HasSize, Collection, definitions, mentions, Caps, greatest_caps, AreCaps, Fits, IsGood, AreWellFormed, EqualOnce, map_bytes, unsigned_file, with_sums, ordered, canonical, set_offsets, data_before_map, map_place, map_place_is, map_list_named, parts, StatesLayout, map_start, map_list, entry_meant, IsNumbering, AreWritable, ordered_of, entry_of, table_parts, section_parts, SetPlaces, file_end, AreLaidSo, AreEncodedIn, AreSharedIn, AreSets, HaveOwnBytes, IsLaid, IsMap, AreItemsIn, placed_map, whole_map, if◌then◌else◌}
 use Rattle.dexhead.specs.declared.map_list.MapEntry.{MapEntry}
 use Rattle.dexclass.specs.Programs.{AreClassesOf}
-use Rattle.dexlayout.specs.{SetPlaces, ordered_of, file_end, AreWritable, AreLaidSo, AreEncodedIn, AreSharedIn, AreSets, HaveOwnBytes, IsLaid, IsMap, AreItemsIn}
 use Rattle.dexlayout.specs.Places.{Places}
-use Rattle.dexlayout.specs.internal.Parts.{entry_of, table_parts, section_parts}
-use Rattle.dexlayout.specs.internal.Placing.{placed_map, whole_map}
+use Rattle.dexlayout.proofs.Ends.{end_in_file, map_start_is}
 use Rattle.dexlayout.proofs.DebugsApart.{debugs_apart}
-use Rattle.dexlayout.proofs.Ends.{map_start_is}
-use Rattle.dexlayout.proofs.OwnParts.{map_parts}
+
+-- the rows of all tables fit the file
+pub rows_few : (m : Mentions) (cs : List NumberedClass) → AreWritable m cs → 112 + 4 * length m.texts + 4 * length m.types + 12 * length m.protos + 8 * length m.fields + 8 * length m.methods + 32 * length cs ≤ 1073741824
+rows_few m cs w = omega (arith, (end_in_file (ordered_of m cs) w.fits).tables, length-map cs (definition_of m))
+
+-- ten of each, one by one
+pub ten_same : {X : Type 0} (a b c d e f g h j k a' b' c' d' e' f' g' h' j' k' : X) → a ≡ a' → b ≡ b' → c ≡ c' → d ≡ d' → e ≡ e' → f ≡ f' → g ≡ g' → h ≡ h' → j ≡ j' → k ≡ k' → a ∷ b ∷ c ∷ d ∷ e ∷ f ∷ g ∷ h ∷ j ∷ k ∷ [] ≡ a' ∷ b' ∷ c' ∷ d' ∷ e' ∷ f' ∷ g' ∷ h' ∷ j' ∷ k' ∷ []
+ten_same a b c d e f g h j k a' b' c' d' e' f' g' h' j' k' ea eb ec ed ee ef eg eh ej ek = cc
+
+-- entries of parts, as the map has them
+entries_mapped : {X : Type 0} (part : X → Section × ℕ × ℕ) (entries : X → List (Section × ℕ × ℕ)) → ((x : X) → entry_of (part x) ≡ entries x) → (xs : List X) → flat_map entry_of (map part xs) ≡ flat_map entries xs
+entries_mapped part entries each [] = refl
+entries_mapped part entries each (x ∷ xs) = ap (λ es. es ++ flat_map entry_of (map part xs)) (each x) ∙ ap (λ es. entries x ++ es) (entries_mapped part entries each xs)
+
+-- the offset of the first item, if there is one
+first_encoded : (kind : Section) (align from : ℕ) (items : List (List ℕ)) → entry_of (kind, length items, round_up align from) ≡ (if length items == 0 then [] else (kind, length items, slice_index (offsets_from align from items) 0) ∷ [])
+first_encoded kind align from [] = refl
+first_encoded kind align from (x ∷ xs) = refl
+
+-- the map by its parts
+pub map_parts : (K : Ordered) (map_off : ℕ) → (HeaderItem, 1, 0) ∷ (flat_map entry_of (table_parts K) ++ (flat_map entry_of (section_parts K) ++ (MapList, 1, map_off) ∷ [])) ≡ map_of K map_off
+map_parts K map_off =
+    let tables : Table × ℕ × ℕ → List (Section × ℕ × ℕ) = λ t. if t.1 == 0 then [] else (TableOf t.0, t.1, t.2) ∷ [] in
+    let sections : Placed → List (Section × ℕ × ℕ) = λ p. if length p.items == 0 then [] else (p.kind, length p.items, slice_index (offsets p) 0) ∷ [] in
+    ap (λ es. (HeaderItem, 1, 0) ∷ (es ++ (flat_map entry_of (section_parts K) ++ (MapList, 1, map_off) ∷ []))) (entries_mapped (λ t. (TableOf t.0, t.1, t.2)) tables (λ t. refl) (placed_tables K))
+    ∙ ap (λ es. (HeaderItem, 1, 0) ∷ (flat_map tables (placed_tables K) ++ (es ++ (MapList, 1, map_off) ∷ [])))
+    (entries_mapped (λ p. (p.kind, length p.items, round_up p.align p.from)) sections (λ p. first_encoded p.kind p.align p.from p.items) (data_sections K))
+
+-- the sections as parts of the map, by kind
+abbrev pub named_parts : Ordered → List (Section × ℕ × ℕ)
+named_parts K =
+    (TypeLists, length (type_list_section K).items, round_up 4 (data_start K))
+    ∷ (AnnotationItems, length (annotation_section K).items, round_up 1 (end (type_list_section K)))
+    ∷ (EncodedArrayItems, length (array_section K).items, round_up 1 (end (annotation_section K)))
+    ∷ (StringDataItems, length (string_section K).items, round_up 1 (end (array_section K)))
+    ∷ (DebugInfoItems, length (debug_section K).items, round_up 1 (end (string_section K)))
+    ∷ (CodeItems, length (code_section K).items, round_up 4 (end (debug_section K)))
+    ∷ (ClassDataItems, length (class_data_section K).items, round_up 1 (end (code_section K)))
+    ∷ (AnnotationSets, length (set_section K).items, round_up 4 (end (class_data_section K)))
+    ∷ (AnnotationSetRefLists, length (ref_list_section K).items, round_up 4 (end (set_section K)))
+    ∷ (AnnotationsDirectories, length (directory_section K).items, round_up 4 (end (ref_list_section K))) ∷ []
+
+-- they are those of the sections
+pub named_parts_are : (K : Ordered) → named_parts K ≡ section_parts K
+unfolding type_list_section annotation_section array_section string_section debug_section code_section class_data_section set_section ref_list_section directory_section
+named_parts_are K = refl
 
 -- ---- the length of the file
 
@@ -88,8 +130,7 @@ data_before K = omega (arith, data_before_map K, places_same K)
 -- ---- the map
 
 -- the entries of the parts are the map
-entries_same : (K : Ordered) (off : ℕ) (tables sections : List (Section × ℕ × ℕ)) → tables ≡ table_parts K → sections ≡ section_parts K → off ≡ map_start K
-    → (HeaderItem, 1, 0) ∷ (flat_map entry_of tables ++ (flat_map entry_of sections ++ (MapList, 1, off) ∷ [])) ≡ map_of K (map_start K)
+entries_same : (K : Ordered) (off : ℕ) (tables sections : List (Section × ℕ × ℕ)) → tables ≡ table_parts K → sections ≡ section_parts K → off ≡ map_start K → (HeaderItem, 1, 0) ∷ (flat_map entry_of tables ++ (flat_map entry_of sections ++ (MapList, 1, off) ∷ [])) ≡ map_of K (map_start K)
 entries_same K off tables sections et es eo =
     ap (λ ts. (HeaderItem, 1, 0) ∷ (flat_map entry_of ts ++ (flat_map entry_of sections ++ (MapList, 1, off) ∷ []))) et
     ∙ ap (λ ss. (HeaderItem, 1, 0) ∷ (flat_map entry_of (table_parts K) ++ (flat_map entry_of ss ++ (MapList, 1, off) ∷ []))) es

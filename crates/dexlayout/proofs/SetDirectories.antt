@@ -1,22 +1,14 @@
 -- The directories of classes: by numbers, they are the items of the file.
-use Rattle.dexlayout.proofs.Common.{◌≡◌, ℕ, zero, suc, ◌+◌, ◌*◌, ◌<◌, ◌≤◌, Bool, true, false, Ordering, ◌⊎◌, inl, inr, List, [], ◌∷◌, ◌++◌, length, get_or, map, take, drop, refl, sym, ap, ◌∙◌, arith, Some, None, All, slice_index, ◌==◌, if◌then◌else◌, flat_map, zip, option_map, cond-false, cond-true, eqb-true, eq-eqb, length-append, length-map, length-take, length-drop, drop-drop, get_or-drop, All-head, All-tail, chunks, zip_with, in_order, add_in_order, Definition, MethodDef, declared_fields, declared_methods, Mentions, field_of, method_of, SetOffsets, pair_cmp, pairs, directory_bytes, directory_uses, end, uses_offsets, AnnotationsDirectories, field_index, method_index, set_offsets, ref_list_section, directory_section, length-chunks, length-set_offsets, RanksAreNumbers, NumberedMembers, fields_of, methods_of, method_in, count_placed, numbered_directory_bytes, NumberedClass, definition_of, IsKnownClass}
+use Rattle.dexlayout.proofs.Common.{◌≡◌, ℕ, ◌+◌, ◌*◌, ◌<◌, ◌≤◌, Ordering, ◌⊎◌, inl, inr, List, [], ◌∷◌, ◌++◌, length, get_or, map, take, drop, refl, sym, ap, ◌∙◌, arith, Some, None, All, slice_index, ◌==◌, flat_map, zip, option_map, cases_eq, ne_eqb, eq-eqb, length-append, length-map, length-take, length-drop, drop-drop, get_or-drop, All-head, All-tail, chunks, zip_with, in_order, add_in_order, Definition, MethodDef, declared_fields, declared_methods, Mentions, field_of, method_of, SetOffsets, pair_cmp, pairs, directory_bytes, directory_uses, end, uses_offsets, AnnotationsDirectories, field_index, method_index, set_offsets, ref_list_section, directory_section, length-chunks, length-set_offsets, RanksAreNumbers, NumberedMembers, fields_of, methods_of, method_in, count_placed, numbered_directory_bytes, NumberedClass, definition_of, IsKnownClass, take_at, drop_at, EncodedItems, SetPlaces, ordered_of, AreDirectories, AreSets, AreWritable, encode_use, encode_uses, no_items_from, directory_item, directory_items, sets_of_method, sets_of_class, parts_of_class, parts_of_classes, if◌then◌else◌}
 use Rattle.std.specs.FinMap.Entries.{by_order}
 use Rattle.std.specs.declared.cmp.Ordering.TheVariants.{Less, Equal, Greater}
 use Rattle.dexspec.proofs.layout.Uses as uses
-use Rattle.dexspec.proofs.sharing.Shorter.{not_zero}
 use Rattle.dexmembers.proofs.PairsMerged.{kept, placed_count}
 use Rattle.dexmembers.proofs.DirectorySpelled as spelled
 use Rattle.dexclass.specs.Numbered.{type_at}
-use Rattle.dexlayout.specs.{EncodedItems, SetPlaces, ordered_of, AreDirectories, AreSets, AreWritable}
-use Rattle.dexlayout.specs.internal.Encoding.{encode_use, encode_uses, no_items_from}
-use Rattle.dexlayout.specs.internal.Directories.{directory_item, directory_items}
-use Rattle.dexlayout.specs.internal.Collecting.{sets_of_method, sets_of_class, parts_of_class, parts_of_classes}
 use Rattle.dexlayout.proofs.CodeItems.{count_methods, methods_in_all}
-use Rattle.dexlayout.proofs.EncodedUses.{own_in, own_same, use_encoded, use_fits}
-use Rattle.dexlayout.proofs.OffsetLists.{take_prefix, drop_prefix}
-use Rattle.dexlayout.proofs.OwnSteps.{drop_next}
-use Rattle.dexlayout.proofs.SetLists.{set_use_offsets, length-set_use_offsets, set_offsets_are}
-use Rattle.dexlayout.proofs.SetsCollected.{class_sets_count, classes_are_long, classes_parts, fields_count, methods_are}
+use Rattle.dexlayout.proofs.EncodedUses.{own_in, own_same, use_encoded, use_fits, drop_next}
+use Rattle.dexlayout.proofs.SetsCollected.{set_use_offsets, length-set_use_offsets, set_offsets_are, class_sets_count, classes_are_long, classes_parts, fields_count, methods_are}
 
 -- ---- pairs
 
@@ -50,45 +42,27 @@ module _ (is offs : List ℕ) (many : length offs ≡ length is) where
 
 -- ---- one directory
 
--- what is not 0 is more
-positive : (n : ℕ) → (n ≡ 0 → ⊥) → 0 < n
-positive zero no_zero = absurd (no_zero refl)
-positive (suc n) no_zero = omega arith
-
 -- by numbers and by symbols a class has no directory in one case, and else the same
-same_item : (own f g h a b c : ℕ) (by_numbers bytes : List ℕ) → (f ≡ 0 → a ≡ 0) → (g ≡ 0 → b ≡ 0) → (h ≡ 0 → c ≡ 0) → (a ≡ 0 → f ≡ 0) → (b ≡ 0 → g ≡ 0) → (c ≡ 0 → h ≡ 0)
-    → ((if own + (f + (g + h)) == 0 then None else Some bytes) ≡ Some bytes → by_numbers ≡ bytes)
+same_item : (own f g h a b c : ℕ) (by_numbers bytes : List ℕ) → (f ≡ 0 → a ≡ 0) → (g ≡ 0 → b ≡ 0) → (h ≡ 0 → c ≡ 0) → (a ≡ 0 → f ≡ 0) → (b ≡ 0 → g ≡ 0) → (c ≡ 0 → h ≡ 0) → ((if own + (f + (g + h)) == 0 then None else Some bytes) ≡ Some bytes → by_numbers ≡ bytes)
     → (if own + (a + b + c) == 0 then None else Some by_numbers) ≡ (if own + (f + (g + h)) == 0 then None else Some bytes)
-same_item own f g h a b c by_numbers bytes fa gb hc af bg ch are = by (own + (f + (g + h)) == 0) refl are
-  where
-    by : (t : Bool) → (own + (f + (g + h)) == 0) ≡ t → ((if t then None else Some bytes) ≡ Some bytes → by_numbers ≡ bytes)
-        → (if own + (a + b + c) == 0 then None else Some by_numbers) ≡ (if t then None else Some bytes)
-    by true e are =
-        let zero_all : own + (f + (g + h)) ≡ 0 = eqb-true (own + (f + (g + h))) 0 e in
-        let a0 = fa (omega (arith, zero_all)) in
-        let b0 = gb (omega (arith, zero_all)) in
-        let c0 = hc (omega (arith, zero_all)) in
-        let nothing : own + (a + b + c) ≡ 0 = omega (arith, zero_all, a0, b0, c0) in
-        cond-true (own + (a + b + c) == 0) None (Some by_numbers) (eq-eqb (own + (a + b + c)) 0 nothing)
-    by false e are =
-        let some : 0 < own + (a + b + c) = positive (own + (a + b + c)) (λ n.
-        let none : own + (f + (g + h)) ≡ 0 = omega (arith, n, af (omega (arith, n)), bg (omega (arith, n)), ch (omega (arith, n))) in
-        let is : (own + (f + (g + h)) == 0) ≡ true = eq-eqb (own + (f + (g + h))) 0 none in
-        let z : true ≡ false = sym is ∙ e in
-        cc) in
-        cond-false (own + (a + b + c) == 0) None (Some by_numbers) (not_zero (own + (a + b + c)) some) ∙ ap Some (are refl)
+same_item own f g h a b c by_numbers bytes fa gb hc af bg ch are = elim (cases_eq (own + (f + (g + h))) 0) [
+  | inl zero_all ↦ rw (eq-eqb (own + (f + (g + h))) 0 zero_all, eq-eqb (own + (a + b + c)) 0 (omega (arith, zero_all, fa (omega (arith, zero_all)), gb (omega (arith, zero_all)), hc (omega (arith, zero_all))))) refl
+  | inr some ↦
+      let is = ne_eqb (own + (f + (g + h))) 0 some in
+      rw (is, ne_eqb (own + (a + b + c)) 0 (λ n. some (omega (arith, n, af (omega (arith, n)), bg (omega (arith, n)), ch (omega (arith, n)))))) (ap Some (are (rw is refl)))
+]
 
 -- a class without one is skipped
 pub no_directory : (own n len : ℕ) (item : List ℕ) → len ≡ 16 + 8 * n → own ≡ 0 → len ≡ 16 → (if own + n == 0 then None else Some item) ≡ None
-no_directory own n len item size o e = cond-true (own + n == 0) None (Some item) (eq-eqb (own + n) 0 (omega (arith, size, o, e)))
+no_directory own n len item size o e = rw (eq-eqb (own + n) 0 (omega (arith, size, o, e))) refl
 
 -- else its directory is put
-directory_there : (own n len : ℕ) → len ≡ 16 + 8 * n → ((own ≡ 0) × (len ≡ 16 → ⊥)) ⊎ (own ≡ 0 → ⊥) → 0 < own + n
-directory_there own n len size (inl h) = positive (own + n) (λ e. h.1 (omega (arith, size, e)))
-directory_there own n len size (inr h) = positive (own + n) (λ e. h (omega (arith, e)))
+directory_there : (own n len : ℕ) → len ≡ 16 + 8 * n → ((own ≡ 0) × (len ≡ 16 → ⊥)) ⊎ (own ≡ 0 → ⊥) → own + n ≡ 0 → ⊥
+directory_there own n len size (inl h) none = h.1 (omega (arith, size, none))
+directory_there own n len size (inr h) none = h (omega (arith, none))
 
 pub some_directory : (own n len : ℕ) (item : List ℕ) → len ≡ 16 + 8 * n → ((own ≡ 0) × (len ≡ 16 → ⊥)) ⊎ (own ≡ 0 → ⊥) → (if own + n == 0 then None else Some item) ≡ Some item
-some_directory own n len item size h = cond-false (own + n == 0) None (Some item) (not_zero (own + n) (directory_there own n len size h))
+some_directory own n len item size h = rw (ne_eqb (own + n) 0 (directory_there own n len size h)) refl
 
 -- ---- the next directory
 
@@ -119,19 +93,8 @@ module _ {items all : EncodedItems} {fs ms ls : List ℕ} {ffs fms fls ofs oms o
   -- the directory is the next
   next_directory : directory_items (drop i cs) (drop i own) fs ms ls ≡ directory_item x (slice_index own i) ffs fms fls ∷ directory_items (drop (i + 1) cs) (drop (i + 1) own) ofs oms ols
   next_directory =
-      let nf = length (fields_of c.members) in
-      let nm = length (methods_of c.members) in
-      let same : c.members ≡ x = sym members in
       let there : slice_index (drop i own) 0 ≡ slice_index own i = get_or-drop i own 0 0 ∙ ap (slice_index own) (omega arith) in
-      let following : drop 1 (drop i own) ≡ drop (i + 1) own = drop-drop 1 i own in
-      let ff : take nf fs ≡ ffs = ap (λ z. take z fs) (sym fields_are) ∙ sym front_fields in
-      let mf : take nm ms ≡ fms = ap (λ z. take z ms) (sym methods_same) ∙ sym front_methods in
-      let lf : take nm ls ≡ fls = ap (λ z. take z ls) (sym methods_same) ∙ sym front_lists in
-      let fb : drop nf fs ≡ ofs = ap (λ z. drop z fs) (sym fields_are) ∙ sym back_fields in
-      let mb : drop nm ms ≡ oms = ap (λ z. drop z ms) (sym methods_same) ∙ sym back_methods in
-      let lb : drop nm ls ≡ ols = ap (λ z. drop z ls) (sym methods_same) ∙ sym back_lists in
-      ap (λ ds. directory_items ds (drop i own) fs ms ls) (drop_next cs i c lt is)
-      ∙ (λ j. directory_item (same j) (there j) (ff j) (mf j) (lf j) ∷ directory_items (drop (i + 1) cs) (following j) (fb j) (mb j) (lb j))
+      rw (drop_next cs i c lt is, front_fields, front_methods, front_lists, back_fields, back_methods, back_lists, many_fields, many_methods, members, there, drop-drop 1 i own) refl
 
   -- it fits
   pub directories_fit : (encode_use 4 items (directory_item x (slice_index own i) ffs fms fls)).places.end ≤ all.places.end
@@ -158,8 +121,7 @@ module _ (c : NumberedClass) (offs : List ℕ) where
   part_fields le = omega (arith, length-take (length (fields_of c.members)) (drop 1 offs), length-drop 1 offs, class_sets_count c, le)
 
   part_methods : length (parts_of_class c offs).methods ≡ length (methods_of c.members)
-  part_methods =
-      length-chunks (map (λ x. length (sets_of_method x)) (methods_of c.members)) (drop (length (fields_of c.members)) (drop 1 offs)) ∙ length-map (methods_of c.members) (λ x. length (sets_of_method x))
+  part_methods = length-chunks (map (λ x. length (sets_of_method x)) (methods_of c.members)) (drop (length (fields_of c.members)) (drop 1 offs)) ∙ length-map (methods_of c.members) (λ x. length (sets_of_method x))
 
   part_firsts : length (firsts (parts_of_class c offs)) ≡ length (methods_of c.members)
   part_firsts = length-map (parts_of_class c offs).methods (λ os. slice_index os 0) ∙ part_methods
@@ -171,24 +133,15 @@ all_fields (c ∷ cs) offs le =
     let n = length (sets_of_class c) in
     let count = length-append (sets_of_class c) (flat_map sets_of_class cs) in
     omega (
-      arith,
-      length-append (parts_of_class c offs).fields (flat_map (λ s. s.fields) (parts_of_classes cs (drop n offs))),
-      length-append (fields_of c.members) (flat_map (λ c. fields_of c.members) cs),
-      part_fields c offs (omega (arith, le, count)),
-      all_fields cs (drop n offs) (omega (arith, le, count, length-drop n offs)),
+      arith, length-append (parts_of_class c offs).fields (flat_map (λ s. s.fields) (parts_of_classes cs (drop n offs))), length-append (fields_of c.members) (flat_map (λ c. fields_of c.members) cs),
+      part_fields c offs (omega (arith, le, count)), all_fields cs (drop n offs) (omega (arith, le, count, length-drop n offs)),
     )
 
 pub all_firsts : (cs : List NumberedClass) (offs : List ℕ) → length (flat_map firsts (parts_of_classes cs offs)) ≡ length (flat_map (λ c. methods_of c.members) cs)
 all_firsts [] offs = refl
 all_firsts (c ∷ cs) offs =
     let n = length (sets_of_class c) in
-    omega (
-      arith,
-      length-append (firsts (parts_of_class c offs)) (flat_map firsts (parts_of_classes cs (drop n offs))),
-      length-append (methods_of c.members) (flat_map (λ c. methods_of c.members) cs),
-      part_firsts c offs,
-      all_firsts cs (drop n offs),
-    )
+    omega (arith, length-append (firsts (parts_of_class c offs)) (flat_map firsts (parts_of_classes cs (drop n offs))), length-append (methods_of c.members) (flat_map (λ c. methods_of c.members) cs), part_firsts c offs, all_firsts cs (drop n offs))
 
 -- ---- all directories
 
@@ -217,7 +170,6 @@ module _ (m : Mentions) (ranks : RanksAreNumbers m) where
       ≡ zip_with (λ d p. directory_bytes m d p.0 p.1) (map (definition_of m) cs) (zip (parts_of_classes cs offs) (chunks (map (λ d. length (declared_methods d.1)) (map (definition_of m) cs)) lists))
   all_directories [] known offs lists enough many = refl
   all_directories (c ∷ cs) known offs lists enough many =
-      let d = definition_of m c in
       let s = parts_of_class c offs in
       let n = length (sets_of_class c) in
       let nf = length (fields_of c.members) in
@@ -225,27 +177,14 @@ module _ (m : Mentions) (ranks : RanksAreNumbers m) where
       let ss = parts_of_classes cs (drop n offs) in
       let fs = flat_map (λ (s : SetOffsets). s.fields) ss in
       let ms = flat_map firsts ss in
-      let counts = map (λ (d : Definition). length (declared_methods d.1)) (map (definition_of m) cs) in
       let sets_count = length-append (sets_of_class c) (flat_map sets_of_class cs) in
       let methods_count = length-append (methods_of c.members) (flat_map (λ (c : NumberedClass). methods_of c.members) cs) in
       let lf = part_fields c offs (omega (arith, enough, sets_count)) in
       let lm = part_firsts c offs in
-      let ll : length (take nm lists) ≡ nm = omega (arith, length-take nm lists, methods_count, many) in
-      let nd : nm ≡ length (declared_methods d.1) = sym (ap (λ (l : List MethodDef). length l) (methods_are m c) ∙ length-map (methods_of c.members) (method_in m)) in
-      let ff = take_prefix nf s.fields fs lf in
-      let fr = drop_prefix nf s.fields fs lf in
-      let mf = take_prefix nm (firsts s) ms lm in
-      let mr = drop_prefix nm (firsts s) ms lm in
-      let here : directory_item c.members s.own (take nf (s.fields ++ fs)) (take nm (firsts s ++ ms)) (take nm lists) ≡ directory_bytes m d s (take (length (declared_methods d.1)) lists) =
-      (λ i. directory_item c.members s.own (ff i) (mf i) (take nm lists))
-      ∙ one_directory c (All-head (IsKnownClass m) c cs known) s (take nm lists) lf (part_methods c offs) ll
-      ∙ ap (λ k. directory_bytes m d s (take k lists)) nd in
-      let rest : directory_items cs (map (λ (s : SetOffsets). s.own) ss) (drop nf (s.fields ++ fs)) (drop nm (firsts s ++ ms)) (drop nm lists)
-      ≡ zip_with (λ d p. directory_bytes m d p.0 p.1) (map (definition_of m) cs) (zip ss (chunks counts (drop (length (declared_methods d.1)) lists))) =
-      (λ i. directory_items cs (map (λ (s : SetOffsets). s.own) ss) (fr i) (mr i) (drop nm lists))
-      ∙ all_directories cs (All-tail (IsKnownClass m) c cs known) (drop n offs) (drop nm lists) (omega (arith, enough, sets_count, length-drop n offs)) (omega (arith, many, methods_count, length-drop nm lists))
-      ∙ ap (λ k. zip_with (λ d p. directory_bytes m d p.0 p.1) (map (definition_of m) cs) (zip ss (chunks counts (drop k lists)))) nd in
-      λ i. here i ∷ rest i
+      let nd : length (declared_methods (definition_of m c).1) ≡ nm = ap (λ (l : List MethodDef). length l) (methods_are m c) ∙ length-map (methods_of c.members) (method_in m) in
+      rw (take_at s.fields fs nf lf, take_at (firsts s) ms nm lm, drop_at s.fields fs nf lf, drop_at (firsts s) ms nm lm, nd)
+      (λ i. one_directory c (All-head (IsKnownClass m) c cs known) s (take nm lists) lf (part_methods c offs) (omega (arith, length-take nm lists, methods_count, many)) i
+      ∷ all_directories cs (All-tail (IsKnownClass m) c cs known) (drop n offs) (drop nm lists) (omega (arith, enough, sets_count, length-drop n offs)) (omega (arith, many, methods_count, length-drop nm lists)) i)
 
 -- ---- they are those of the file
 
@@ -263,26 +202,20 @@ module _ (m : Mentions) (cs : List NumberedClass) (sets : SetPlaces) (are : AreS
 
   -- as many as members
   pub own_count : length sets.own ≡ length cs
-  own_count =
-      ap (λ (l : List ℕ). length l) are.own_are ∙ length-map (set_offsets (ordered_of m cs)) (λ (s : SetOffsets). s.own) ∙ length-set_offsets (ordered_of m cs) ∙ length-map cs (definition_of m)
+  own_count = ap (λ (l : List ℕ). length l) are.own_are ∙ length-map (set_offsets (ordered_of m cs)) (λ (s : SetOffsets). s.own) ∙ length-set_offsets (ordered_of m cs) ∙ length-map cs (definition_of m)
 
   pub field_count : length sets.fields ≡ length (flat_map (λ c. fields_of c.members) cs)
-  field_count =
-      ap (λ (l : List ℕ). length l) are.fields_are ∙ ap (λ (ss : List SetOffsets). length (flat_map (λ s. s.fields) ss)) set_parts ∙ all_fields cs (set_use_offsets (ordered_of m cs)) (omega (arith, sets_enough))
+  field_count = ap (λ (l : List ℕ). length l) are.fields_are ∙ ap (λ (ss : List SetOffsets). length (flat_map (λ s. s.fields) ss)) set_parts ∙ all_fields cs (set_use_offsets (ordered_of m cs)) (omega (arith, sets_enough))
 
   pub method_count : length sets.methods ≡ length (flat_map (λ c. methods_of c.members) cs)
-  method_count =
-      ap (λ (l : List ℕ). length l) are.methods_are ∙ ap (λ (ss : List SetOffsets). length (flat_map firsts ss)) set_parts ∙ all_firsts cs (set_use_offsets (ordered_of m cs))
+  method_count = ap (λ (l : List ℕ). length l) are.methods_are ∙ ap (λ (ss : List SetOffsets). length (flat_map firsts ss)) set_parts ∙ all_firsts cs (set_use_offsets (ordered_of m cs))
 
   module _ (w : AreWritable m cs) (ranks : RanksAreNumbers m) (own fs ms ls : List ℕ) (eo : own ≡ sets.own) (ef : fs ≡ sets.fields) (em : ms ≡ sets.methods) (el : ls ≡ uses_offsets (ref_list_section (ordered_of m cs))) where
     items_are : directory_items cs own fs ms ls ≡ map (option_map (λ (x : List ℕ). x)) (directory_uses (ordered_of m cs) (set_offsets (ordered_of m cs)) (uses_offsets (ref_list_section (ordered_of m cs))))
     items_are =
         let K = ordered_of m cs in
         let lists = uses_offsets (ref_list_section K) in
-        let owns = eo ∙ are.own_are in
-        let fields = ef ∙ are.fields_are in
-        let methods = em ∙ are.methods_are in
-        (λ i. directory_items cs (owns i) (fields i) (methods i) (el i))
+        (λ i. directory_items cs ((eo ∙ are.own_are) i) ((ef ∙ are.fields_are) i) ((em ∙ are.methods_are) i) (el i))
         ∙ ap (λ (ss : List SetOffsets). directory_items cs (map (λ s. s.own) ss) (flat_map (λ s. s.fields) ss) (flat_map firsts ss) lists) set_parts
         ∙ all_directories m ranks cs w.known (set_use_offsets K) lists (omega (arith, sets_enough)) (omega (arith, length-ref_list_offsets m cs))
         ∙ ap (λ (ss : List SetOffsets). directory_uses K ss lists) (sym set_parts)

@@ -1,11 +1,9 @@
 -- Uses that share items by a test of equality: one use more, and items that are mapped one to one.
-use Rattle.dexlayout.proofs.Common.{◌≡◌, ◌⊎◌, ℕ, Bool, true, false, cond, not, ◌||◌, List, [], ◌∷◌, ◌++◌, ◌+◌, ◌<◌, length, get_or, map, take, append_assoc, None, Some, refl, sym, ap, subst, ◌∙◌, inl, inr, Option, All, IfSome, Result, Ok, Err, IfOk, OnOk, if◌then◌else◌, Contains, filter, list_any, position_or_len, option_map, append-nil, map-append, take_more, filter-append, All-nil, All-cons, All-append, All-contains, Contains-get_or, present, distinct, shared_items, unless_empty, Contains-nil, Contains-first, Contains-later, Contains-cons_cases, list_any-source, present-append, numbers_mapped, distinct_source}
+use Rattle.dexlayout.proofs.Common.{◌≡◌, ◌⊎◌, ℕ, Bool, true, false, cond, not, ◌||◌, List, [], ◌∷◌, ◌++◌, ◌+◌, ◌<◌, length, get_or, map, take, append_assoc, None, Some, refl, sym, ap, subst, ◌∙◌, inl, inr, Option, All, Result, Ok, Err, IfOk, OnOk, Contains, filter, list_any, position_or_len, option_map, append-nil, map-append, take_more, filter-append, All-nil, All-cons, All-append, All-contains, Contains-get_or, present, distinct, shared_items, unless_empty, Contains-nil, Contains-first, Contains-later, Contains-cons_cases, list_any-source, present-append, numbers_mapped, distinct_source, AreShared, HaveItems, SharedTo, if◌then◌else◌}
 use Rattle.std.specs.Cmp.{IsEquivalence}
 use Rattle.std.proofs.lemmas.Map.Views.{any-filter_same}
 use Rattle.dexspec.proofs.lists.Distinct.{with_last, insert_grows, distinct_mapped}
 use Rattle.dexspec.proofs.lists.FirstPlaces.{position_within, position_stays, position_last, position_none, position_equal, any_equal}
-use Rattle.dexlayout.specs.{AreShared}
-use Rattle.dexlayout.specs.internal.Sharing.{HaveItems, SharedTo}
 
 -- ---- one more item
 
@@ -64,14 +62,12 @@ module _ {X : Type 0} (same : X → X → Bool) (laws : IsEquivalence same) wher
   number_in ds x = position_or_len (λ y. same y x) ds
 
   -- uses keep their numbers when more items are added after them
-  numbers_stay : (ds more : List X) (us : List (Option X)) → ((x : X) → Contains (present us) x → list_any (λ y. same y x) ds ≡ true)
-      → map (option_map (number_in (ds ++ more))) us ≡ map (option_map (number_in ds)) us
+  numbers_stay : (ds more : List X) (us : List (Option X)) → ((x : X) → Contains (present us) x → list_any (λ y. same y x) ds ≡ true) → map (option_map (number_in (ds ++ more))) us ≡ map (option_map (number_in ds)) us
   numbers_stay ds more [] has = refl
   numbers_stay ds more (None ∷ us) has = ap (λ ns. None ∷ ns) (numbers_stay ds more us has)
   numbers_stay ds more (Some x ∷ us) has =
       let there = list_any-source (λ y. same y x) ds (has x (Contains-first x (present us))) in
-      let stays = position_stays (λ y. same y x) ds more (position_within (λ y. same y x) ds there.0 there.1 there.2) in
-      ap (λ n. Some n ∷ map (option_map (number_in (ds ++ more))) us) stays
+      ap (λ n. Some n ∷ map (option_map (number_in (ds ++ more))) us) (position_stays (λ y. same y x) ds more (position_within (λ y. same y x) ds there.0 there.1 there.2))
       ∙ ap (λ ns. Some (number_in ds x) ∷ ns) (numbers_stay ds more us (λ z c. has z (Contains-later x z (present us) c)))
 
   -- the number of a new use
@@ -122,8 +118,7 @@ present-map f (None ∷ us) = present-map f us
 present-map f (Some x ∷ us) = ap (λ ys. f x ∷ ys) (present-map f us)
 
 -- where the uses are mapped one to one, both sides share the same items
-pub shared_mapped : {X Y : Type 0} (f : X → Y) (same : X → X → Bool) (equivalent : Y → Y → Bool) (uses : List (Option X)) (written : List X) (numbers : List (Option ℕ))
-    → ((x y : X) → Contains (present uses) x → Contains (present uses) y → equivalent (f x) (f y) ≡ same x y)
+pub shared_mapped : {X Y : Type 0} (f : X → Y) (same : X → X → Bool) (equivalent : Y → Y → Bool) (uses : List (Option X)) (written : List X) (numbers : List (Option ℕ)) → ((x y : X) → Contains (present uses) x → Contains (present uses) y → equivalent (f x) (f y) ≡ same x y)
     → HaveItems same uses written numbers → AreShared f (shared_items equivalent (map (option_map f) uses)) written numbers
 shared_mapped f same equivalent uses written numbers agree h =
     let ds = distinct same (present uses) in
@@ -143,8 +138,7 @@ module _ {X Y : Type 0} {same : X → X → Bool} {meant : X → Y} {IsKnown : X
 
   module _ {uses : List (Option Y)} {written : List X} {numbers : List (Option ℕ)} (h : SharedTo same meant IsKnown uses written numbers) where
     -- a use more, of nothing
-    pub shared_pass : {A E : Type 0} (r : Result A E) (ks : List X) (ns : List (Option ℕ)) (u : Option Y) → u ≡ None → OnOk r (HaveItems same (h.used ++ None ∷ []) ks ns)
-        → OnOk r (SharedTo same meant IsKnown (uses ++ u ∷ []) ks ns)
+    pub shared_pass : {A E : Type 0} (r : Result A E) (ks : List X) (ns : List (Option ℕ)) (u : Option Y) → u ≡ None → OnOk r (HaveItems same (h.used ++ None ∷ []) ks ns) → OnOk r (SharedTo same meant IsKnown (uses ++ u ∷ []) ks ns)
     shared_pass (Ok a) ks ns u is next = record {
       used = h.used ++ None ∷ [];
       items = next;
@@ -154,8 +148,7 @@ module _ {X Y : Type 0} {same : X → X → Bool} {meant : X → Y} {IsKnown : X
     shared_pass (Err e) ks ns u is next = next
 
     -- a use more, of an item
-    pub shared_take : {A E : Type 0} (r : Result A E) (ks : List X) (ns : List (Option ℕ)) (x : X) (u : Option Y) → IsKnown x → u ≡ Some (meant x) → OnOk r (HaveItems same (h.used ++ Some x ∷ []) ks ns)
-        → OnOk r (SharedTo same meant IsKnown (uses ++ u ∷ []) ks ns)
+    pub shared_take : {A E : Type 0} (r : Result A E) (ks : List X) (ns : List (Option ℕ)) (x : X) (u : Option Y) → IsKnown x → u ≡ Some (meant x) → OnOk r (HaveItems same (h.used ++ Some x ∷ []) ks ns) → OnOk r (SharedTo same meant IsKnown (uses ++ u ∷ []) ks ns)
     shared_take (Ok a) ks ns x u known is next = record {
       used = h.used ++ Some x ∷ [];
       items = next;
@@ -163,12 +156,6 @@ module _ {X Y : Type 0} {same : X → X → Bool} {meant : X → Y} {IsKnown : X
       mean = map-append (option_map meant) h.used (Some x ∷ []) ∙ ap (λ us. us ++ Some (meant x) ∷ []) h.mean ∙ ap (λ v. uses ++ v ∷ []) (sym is);
     }
     shared_take (Err e) ks ns x u known is next = next
-
-    -- a use more, of what there is
-    pub shared_use : {A E : Type 0} (r : Result A E) (ks : List X) (ns : List (Option ℕ)) (o : Option X) (u : Option Y) → IfSome o IsKnown → u ≡ option_map meant o → OnOk r (HaveItems same (h.used ++ o ∷ []) ks ns)
-        → OnOk r (SharedTo same meant IsKnown (uses ++ u ∷ []) ks ns)
-    shared_use r ks ns None u known is next = shared_pass r ks ns u is next
-    shared_use r ks ns (Some x) u known is next = shared_take r ks ns x u known is next
 
     -- the same uses, of equal items
     pub shared_kept : (ks : List X) (ns : List (Option ℕ)) → HaveItems same h.used ks ns → SharedTo same meant IsKnown uses ks ns
@@ -202,12 +189,10 @@ some_used f (x ∷ xs) some = refl
 
 -- one more
 pub uses_next : {X U : Type 0} (f : X → U) (uses : List U) (xs : List X) (i : ℕ) (x : X) → i < length xs → get_or xs i x ≡ x → (uses ++ map f (take i xs)) ++ f x ∷ [] ≡ uses ++ map f (take (i + 1) xs)
-uses_next f uses xs i x lt is =
-    append_assoc uses (map f (take i xs)) (f x ∷ []) ∙ ap (λ us. uses ++ us) (sym (map-append f (take i xs) (x ∷ [])) ∙ ap (map f) (sym (take_more xs i x lt ∙ ap (λ y. take i xs ++ y ∷ []) is)))
+uses_next f uses xs i x lt is = append_assoc uses (map f (take i xs)) (f x ∷ []) ∙ ap (λ us. uses ++ us) (sym (map-append f (take i xs) (x ∷ [])) ∙ ap (map f) (sym (take_more xs i x lt ∙ ap (λ y. take i xs ++ y ∷ []) is)))
 
 -- parts of uses, one after the other
-pub uses_joined : {U : Type 0} (uses : List U) (a b : U) (fs gs hs ks fs' gs' hs' ks' : List U) → a ≡ b → fs ≡ fs' → gs ≡ gs' → hs ≡ hs' → ks ≡ ks'
-    → ((((uses ++ a ∷ []) ++ fs) ++ gs) ++ hs) ++ ks ≡ uses ++ (b ∷ (fs' ++ (gs' ++ (hs' ++ ks'))))
+pub uses_joined : {U : Type 0} (uses : List U) (a b : U) (fs gs hs ks fs' gs' hs' ks' : List U) → a ≡ b → fs ≡ fs' → gs ≡ gs' → hs ≡ hs' → ks ≡ ks' → ((((uses ++ a ∷ []) ++ fs) ++ gs) ++ hs) ++ ks ≡ uses ++ (b ∷ (fs' ++ (gs' ++ (hs' ++ ks'))))
 uses_joined uses a b fs gs hs ks fs' gs' hs' ks' ea ef eg eh ek =
     append_assoc (((uses ++ a ∷ []) ++ fs) ++ gs) hs ks ∙ append_assoc ((uses ++ a ∷ []) ++ fs) gs (hs ++ ks) ∙ append_assoc (uses ++ a ∷ []) fs (gs ++ (hs ++ ks)) ∙ append_assoc uses (a ∷ []) (fs ++ (gs ++ (hs ++ ks)))
     ∙ (λ i. uses ++ (ea i ∷ (ef i ++ (eg i ++ (eh i ++ ek i)))))
@@ -218,7 +203,3 @@ uses_joined uses a b fs gs hs ks fs' gs' hs' ks' ea ef eg eh ek =
 pub on_returned : {A E : Type 0} {P : A → Type 0} (r : Result A E) → ((x : A) → r ≡ Ok x → P x) → IfOk r P
 on_returned (Ok x) each = each x refl
 on_returned (Err e) each = tt
-
--- the value that is returned
-pub of_returned : {A E : Type 0} (P : A → Type 0) (r : Result A E) (x : A) → r ≡ Ok x → IfOk r P → P x
-of_returned P r x e h = subst (λ q. IfOk q P) e h

@@ -1,7 +1,5 @@
 -- The arrays of static values of classes.
-use Rattle.dexlayout.proofs.Common.{◌≡◌, ℕ, ◌<◌, List, [], ◌∷◌, length, map, None, Some, refl, sym, ap, ◌∙◌, arith, option_map, Definition, Mentions, values_unless_empty, static_values_uses, end, EncodedArrayItems, annotation_section, array_section, encoded_array_bytes, NumberedValue, values_in, values_of_list, NumberedClass, definition_of}
-use Rattle.dexlayout.specs.{AreStaticValues, ordered_of}
-use Rattle.dexlayout.specs.internal.Encoding.{encode_uses, no_items_from, static_item}
+use Rattle.dexlayout.proofs.Common.{◌≡◌, ℕ, ◌<◌, List, [], ◌∷◌, length, map, None, Some, refl, sym, ap, ◌∙◌, arith, option_map, Definition, Mentions, values_unless_empty, static_values_uses, end, EncodedArrayItems, annotation_section, array_section, encoded_array_bytes, NumberedValue, values_in, values_of_list, NumberedClass, definition_of, AreStaticValues, ordered_of, encode_uses, no_items_from, static_item, map-map}
 use Rattle.dexlayout.proofs.EncodedUses.{own_in}
 
 -- ---- the array of one class
@@ -26,8 +24,7 @@ module _ (m : Mentions) (c : NumberedClass) (xs : List NumberedValue) (same : va
 
 -- the arrays of the definitions
 statics_are : (m : Mentions) (cs : List NumberedClass) → map (static_item m) cs ≡ map (option_map (encoded_array_bytes m)) (map (λ (d : Definition). values_unless_empty d.1.static_values) (map (definition_of m) cs))
-statics_are m [] = refl
-statics_are m (c ∷ cs) = ap (λ us. static_item m c ∷ us) (statics_are m cs)
+statics_are m cs = sym (map-map (option_map (encoded_array_bytes m)) (λ (d : Definition). values_unless_empty d.1.static_values) (map (definition_of m) cs) ∙ map-map (λ d. option_map (encoded_array_bytes m) (values_unless_empty d.1.static_values)) (definition_of m) cs)
 
 -- encoded after the annotations they are those of the file
 pub arrays_laid : (m : Mentions) (cs : List NumberedClass) (from : ℕ) → from ≡ end (annotation_section (ordered_of m cs)) → AreStaticValues m cs (encode_uses 1 (no_items_from from) (map (static_item m) cs))

@@ -1,6 +1,4 @@
-use Rattle.dexlayout.proofs.Common.{◌≡◌, ◌+◌, ◌++◌, map, drop, Some, annotation_of}
-use Rattle.dexlayout.specs.internal.Encoding.{encode_uses, no_items_from}
-use Rattle.dexlayout.specs.internal.Annotated.{annotation_item, set_annotations}
+use Rattle.dexlayout.proofs.Common.{◌≡◌, ◌+◌, ◌++◌, map, drop, Some, annotation_of, encode_uses, no_items_from, annotation_item, set_annotations}
 use Rattle.dexlayout.proofs.annotations.place_annotations.Given as goal
 
 -- encoding what is left gives the whole

@@ -1,5 +1,4 @@
-use Rattle.dexlayout.proofs.Common.{◌≡◌, ◌++◌, List, ℕ, refl, arith, sym, ◌∙◌, on_ok_weaker, annotation_of, annotation_in}
-use Rattle.dexlayout.specs.internal.Annotated.{annotation_item}
+use Rattle.dexlayout.proofs.Common.{◌≡◌, ◌++◌, List, ℕ, refl, arith, sym, ◌∙◌, on_ok_weaker, annotation_of, annotation_in, annotation_item}
 use Rattle.dexlayout.proofs.Counted.{annotation_counted}
 use Rattle.dexlayout.proofs.EncodedUses.{align_one, ended, ended_fits}
 use Rattle.dexlayout.proofs.annotations.put_next.Goals as goal

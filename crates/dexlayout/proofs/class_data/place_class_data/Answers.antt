@@ -1,6 +1,4 @@
-use Rattle.dexlayout.proofs.Common.{◌≡◌, ◌+◌, [], ◌∷◌, length, drop, arith, ap, sym, subst, ◌∙◌, drop_all, NumberedMembers, methods_of}
-use Rattle.dexlayout.specs.{AreClassData, ordered_of}
-use Rattle.dexlayout.specs.internal.Encoding.{class_data_item, class_data_items, encode_uses, no_items_from}
+use Rattle.dexlayout.proofs.Common.{◌≡◌, ◌+◌, [], ◌∷◌, length, drop, arith, ap, sym, subst, ◌∙◌, drop_all, NumberedMembers, methods_of, AreClassData, ordered_of, class_data_item, class_data_items, encode_uses, no_items_from}
 use Rattle.dexlayout.proofs.DataItems.{data_laid, data_split, data_rest}
 use Rattle.dexlayout.proofs.EncodedUses.{all_encoded_by, use_encoded, use_fits}
 use Rattle.dexlayout.proofs.Ends.{end_in_file}
@@ -30,10 +28,8 @@ pub put_item-requires-clause-fits : goal.put_item-requires-clause-fits
 put_item-requires-clause-fits c =
     let cs = c.args.classes.now in
     omega (
-      arith,
-      use_fits 1 c.loop-class.items (next (goal.at.put_item-requires-clause-fits c).After-split_at) c.loop-class.invariant.encoded,
-      (data_laid c.requires.0 cs c.requires.1 c.args.codes.now.offsets c.requires.2.offsets_are c.args.codes.now.end c.requires.2.end_is).places_are.end_is,
-      (end_in_file (ordered_of c.requires.0 cs) c.requires.1.fits).class_data,
+      arith, use_fits 1 c.loop-class.items (next (goal.at.put_item-requires-clause-fits c).After-split_at) c.loop-class.invariant.encoded,
+      (data_laid c.requires.0 cs c.requires.1 c.args.codes.now.offsets c.requires.2.offsets_are c.args.codes.now.end c.requires.2.end_is).places_are.end_is, (end_in_file (ordered_of c.requires.0 cs) c.requires.1.fits).class_data,
     )
 
 pub loop-class-preserved : goal.loop-class-preserved

@@ -1,5 +1,4 @@
-use Rattle.dexlayout.proofs.Common.{drop}
-use Rattle.dexlayout.specs.internal.Encoding.{class_data_items, encode_uses, no_items_from}
+use Rattle.dexlayout.proofs.Common.{drop, class_data_items, encode_uses, no_items_from}
 use Rattle.dexlayout.proofs.DataItems.{DataLeft}
 use Rattle.dexlayout.proofs.class_data.place_class_data.Given as goal
 

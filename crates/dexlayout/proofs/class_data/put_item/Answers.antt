@@ -1,5 +1,4 @@
-use Rattle.dexlayout.proofs.Common.{◌≡◌, ℕ, ◌≤◌, ◌^◌, List, Some, ap, subst, sym, ◌∙◌, on_ok_weaker, numbered_class_data_bytes}
-use Rattle.dexlayout.specs.internal.Encoding.{class_data_item, encode_use}
+use Rattle.dexlayout.proofs.Common.{◌≡◌, ℕ, ◌≤◌, ◌^◌, List, Some, ap, subst, sym, ◌∙◌, on_ok_weaker, numbered_class_data_bytes, class_data_item, encode_use}
 use Rattle.dexlayout.proofs.DataItems.{data_none, data_some}
 use Rattle.dexlayout.proofs.EncodedUses.{align_one, ended, ended_fits}
 use Rattle.dexlayout.proofs.class_data.put_item.Goals as goal

@@ -1,11 +1,7 @@
-use Rattle.dexlayout.proofs.Common.{◌≡◌, ◌+◌, ◌<◌, ◌++◌, List, length, get_or, drop, arith, ap, sym, subst, ◌∙◌, drop_all, get_or_append_left, length-append, length-drop, NumberedMethod, methods_of}
-use Rattle.dexlayout.specs.{AreCodes, ordered_of}
-use Rattle.dexlayout.specs.internal.Codes.{code_items}
-use Rattle.dexlayout.specs.internal.Encoding.{encode_uses, no_items_from}
+use Rattle.dexlayout.proofs.Common.{◌≡◌, ◌+◌, ◌<◌, ◌++◌, List, length, get_or, drop, arith, ap, sym, subst, ◌∙◌, drop_all, get_or_append_left, length-append, length-drop, NumberedMethod, methods_of, drop_at, AreCodes, ordered_of, code_items, encode_uses, no_items_from}
 use Rattle.dexlayout.proofs.CodeItems.{CodesLeft, codes_laid, codes_left, methods_in_all, next_methods, one_encoded, one_fits, one_short}
 use Rattle.dexlayout.proofs.EncodedUses.{all_encoded_by}
 use Rattle.dexlayout.proofs.Ends.{end_in_file}
-use Rattle.dexlayout.proofs.OffsetLists.{drop_prefix}
 use Rattle.dexlayout.proofs.codes.place_codes.Goals as goal
 use Rattle.dexlayout.proofs.codes.place_codes.Goals.{After-method_at}
 
@@ -16,8 +12,7 @@ loop-class-init c =
 pub loop-i-init : goal.loop-i-init
 loop-i-init c =
     let cs = c.args.classes.now in
-    let all = encode_uses 4 (no_items_from c.args.debugs.now.end) (code_items (methods_in_all cs) c.args.debugs.now.offsets) in
-    subst (λ xs. CodesLeft c.loop-class.items xs c.loop-class.rest.now all)
+    subst (λ xs. CodesLeft c.loop-class.items xs c.loop-class.rest.now (encode_uses 4 (no_items_from c.args.debugs.now.end) (code_items (methods_in_all cs) c.args.debugs.now.offsets)))
     (next_methods cs c.loop-class.class-index c.class-item.result c.members-members.result.now c.loop-class-test.true (sym c.class-item.is) c.members-members.ensures) c.loop-class.invariant
 
 -- the methods of the class, and of those after it
@@ -49,10 +44,8 @@ pub put_method-requires-clause-fits : goal.put_method-requires-clause-fits
 put_method-requires-clause-fits c =
     let here = (goal.at.put_method-requires-clause-fits c).After-method_at in
     omega (
-      arith,
-      one_fits (methods here) c.loop-class.rest.now c.loop-i.i c.method_at.result (within here) (is here) c.loop-i.invariant,
-      (codes_laid c.requires.0 c.args.classes.now c.requires.1 c.code_bytes_law.ensures.bytes c.args.debugs.now c.requires.2).places_are.end_is,
-      (end_in_file (ordered_of c.requires.0 c.args.classes.now) c.requires.1.fits).codes,
+      arith, one_fits (methods here) c.loop-class.rest.now c.loop-i.i c.method_at.result (within here) (is here) c.loop-i.invariant,
+      (codes_laid c.requires.0 c.args.classes.now c.requires.1 c.code_bytes_law.ensures.bytes c.args.debugs.now c.requires.2).places_are.end_is, (end_in_file (ordered_of c.requires.0 c.args.classes.now) c.requires.1.fits).codes,
     )
 
 pub loop-i-preserved : goal.loop-i-preserved
@@ -75,7 +68,7 @@ loop-class-preserved c =
     let all = encode_uses 4 (no_items_from c.args.debugs.now.end) (code_items (methods_in_all cs) c.args.debugs.now.offsets) in
     let at : c.loop-i.i ≡ c.method_count-count.result = omega (arith, c.loop-i-test.false) in
     subst (λ offs. CodesLeft c.loop-i.items following offs all) (ap (λ n. drop n c.loop-class.rest.now) at ∙ sym c.split_at.ensures.back)
-    (subst (λ xs. CodesLeft c.loop-i.items xs (drop c.loop-i.i c.loop-class.rest.now) all) (drop_prefix c.loop-i.i ms following (omega (arith, at, c.method_count-count.ensures))) c.loop-i.invariant)
+    (subst (λ xs. CodesLeft c.loop-i.items xs (drop c.loop-i.i c.loop-class.rest.now) all) (drop_at ms following c.loop-i.i (omega (arith, at, c.method_count-count.ensures))) c.loop-i.invariant)
 
 pub returns : goal.returns
 returns c = λ m w laid.

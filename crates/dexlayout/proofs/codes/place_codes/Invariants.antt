@@ -1,6 +1,4 @@
-use Rattle.dexlayout.proofs.Common.{◌+◌, ◌++◌, drop, methods_of}
-use Rattle.dexlayout.specs.internal.Codes.{code_items}
-use Rattle.dexlayout.specs.internal.Encoding.{encode_uses, no_items_from}
+use Rattle.dexlayout.proofs.Common.{◌+◌, ◌++◌, drop, methods_of, code_items, encode_uses, no_items_from}
 use Rattle.dexlayout.proofs.CodeItems.{CodesLeft, methods_in_all}
 use Rattle.dexlayout.proofs.codes.place_codes.Given as goal
 

@@ -1,11 +1,8 @@
-use Rattle.dexlayout.proofs.Common.{sym, ap, subst, ◌∙◌}
-use Rattle.dexlayout.specs.{ItemPlaces}
-use Rattle.dexlayout.specs.internal.Placing.{AreKnownSets, AreWrittenSets}
+use Rattle.dexlayout.proofs.Common.{sym, ap, subst, ◌∙◌, ItemPlaces, AreKnownSets, AreWrittenSets}
 use Rattle.dexlayout.proofs.data.place_data.Goals as goal
 
 pub place_first_sections-requires-clause-written : goal.place_first_sections-requires-clause-written
-place_first_sections-requires-clause-written c =
-    subst (AreWrittenSets c.args.numbering.now c.args.classes.now) (sym c.deref.ensures.value) (c.in_ok-shared.ensures.shared _ c.requires.classes).written_are
+place_first_sections-requires-clause-written c = subst (AreWrittenSets c.args.numbering.now c.args.classes.now) (sym c.deref.ensures.value) (c.in_ok-shared.ensures.shared _ c.requires.classes).written_are
 
 pub place_first_sections-requires-clause-known : goal.place_first_sections-requires-clause-known
 place_first_sections-requires-clause-known c = subst (AreKnownSets c.args.numbering.now) (sym c.deref.ensures.value) (c.in_ok-shared.ensures.known _ c.requires.classes)

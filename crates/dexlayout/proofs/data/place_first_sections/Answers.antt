@@ -1,9 +1,8 @@
-use Rattle.dexlayout.proofs.Common.{sym, ap, subst, ◌∙◌, Bor, set_of, NumberedSet}
+use Rattle.dexlayout.proofs.Common.{sym, ap, subst, ◌∙◌, Bor, set_of, NumberedSet, ItemPlaces, ordered_of, AreAnnotations}
 use Rattle.dexval.specs.declared.set.AnnotationSet.{AnnotationSet}
-use Rattle.dexlayout.specs.{ItemPlaces, ordered_of, AreAnnotations}
 use Rattle.dexlayout.proofs.Ends.{end_in_file}
 use Rattle.dexlayout.proofs.OwnCounts.{strings_at_ranks, strings_fit}
-use Rattle.dexlayout.proofs.SetAnnotations.{annotations_laid, annotations_fit}
+use Rattle.dexlayout.proofs.SetsAreAt.{annotations_laid, annotations_fit}
 use Rattle.dexlayout.proofs.data.place_first_sections.Goals as goal
 use Rattle.dexlayout.proofs.data.place_first_sections.Goals.{In_ok-annotations}
 
@@ -24,9 +23,7 @@ annotations_are c =
     subst (AreAnnotations m cs) (sym c.in_ok-annotations.ensures) (annotations_laid m cs set_at c.args.written.now c.requires.written c.end.result from)
 
 pub place_static_values-requires-clause-from : goal.place_static_values-requires-clause-from
-place_static_values-requires-clause-from c =
-    let here = (goal.at.place_static_values-requires-clause-from c).In_ok-annotations in
-    c.end-2.ensures ∙ ap (λ (q : ItemPlaces). q.end) c.places-2.ensures ∙ (annotations_are here).places_are.end_is
+place_static_values-requires-clause-from c = c.end-2.ensures ∙ ap (λ (q : ItemPlaces). q.end) c.places-2.ensures ∙ (annotations_are ((goal.at.place_static_values-requires-clause-from c).In_ok-annotations)).places_are.end_is
 
 pub place_strings-requires : goal.place_strings-requires
 place_strings-requires c =
@@ -36,11 +33,10 @@ place_strings-requires c =
 
 pub returns : goal.returns
 returns c =
-    let K = ordered_of c.args.numbering.now c.args.classes.now in
     let end = λ (q : ItemPlaces). q.end in
     record {
       type_lists_are = c.in_ok-type_lists.ensures;
       annotations_are = annotations_are ((goal.at.returns c).In_ok-annotations);
       static_values_are = c.in_ok-static_values.ensures;
-      strings_are = strings_at_ranks K c.end-3.result (c.end-3.ensures ∙ ap end c.places-3.ensures ∙ c.in_ok-static_values.ensures.places_are.end_is) c.in_ok-strings.ensures;
+      strings_are = strings_at_ranks (ordered_of c.args.numbering.now c.args.classes.now) c.end-3.result (c.end-3.ensures ∙ ap end c.places-3.ensures ∙ c.in_ok-static_values.ensures.places_are.end_is) c.in_ok-strings.ensures;
     }

@@ -1,7 +1,4 @@
-use Rattle.dexlayout.proofs.Common.{arith, length, take, subst, sym, ◌<◌, ◌++◌, methods_of, take_all}
-use Rattle.dexlayout.specs.{same_bytes}
-use Rattle.dexlayout.specs.internal.Adding.{HasUses}
-use Rattle.dexlayout.specs.internal.Encodings.{debug_encoding, debug_encodings}
+use Rattle.dexlayout.proofs.Common.{arith, length, take, subst, sym, ◌<◌, ◌++◌, methods_of, take_all, same_bytes, HasUses, debug_encoding, debug_encodings}
 use Rattle.dexlayout.proofs.SharedUses.{uses_next}
 use Rattle.dexlayout.proofs.debugs.add_members.Goals as goal
 
@@ -9,8 +6,7 @@ pub loop-i-preserved : goal.loop-i-preserved
 loop-i-preserved c = λ uses h.
     let xs = methods_of c.args.members.now in
     let i = c.loop-i.i in
-    let lt : i < length xs = omega (arith, c.loop-i-test.true, c.method_count-i-end.ensures) in
-    subst (λ us. HasUses same_bytes us c.add_method.new.encodings.sharing) (uses_next debug_encoding uses xs i c.method_at.result lt (sym c.method_at.ensures))
+    subst (λ us. HasUses same_bytes us c.add_method.new.encodings.sharing) (uses_next debug_encoding uses xs i c.method_at.result (omega (arith, c.loop-i-test.true, c.method_count-i-end.ensures)) (sym c.method_at.ensures))
     (c.in_ok-add_method.ensures (uses ++ debug_encodings (take i xs)) (c.loop-i.invariant uses h))
 
 pub returns : goal.returns

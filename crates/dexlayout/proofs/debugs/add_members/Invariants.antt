@@ -1,7 +1,4 @@
-use Rattle.dexlayout.proofs.Common.{◌++◌, ℕ, List, Option, take, methods_of}
-use Rattle.dexlayout.specs.{same_bytes}
-use Rattle.dexlayout.specs.internal.Adding.{HasUses}
-use Rattle.dexlayout.specs.internal.Encodings.{debug_encodings}
+use Rattle.dexlayout.proofs.Common.{◌++◌, ℕ, List, Option, take, methods_of, same_bytes, HasUses, debug_encodings}
 use Rattle.dexlayout.proofs.debugs.add_members.Given as goal
 
 abbrev pub invariant-loop-i : goal.invariant-loop-i

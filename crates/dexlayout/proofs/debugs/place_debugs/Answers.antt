@@ -1,6 +1,4 @@
-use Rattle.dexlayout.proofs.Common.{◌≡◌, ◌^◌, ◌<◌, ◌≤◌, length, subst, sym, ap, ◌∙◌, All, IfSome, IfOk-weaker}
-use Rattle.dexlayout.specs.{AreDebugs, EncodedItems}
-use Rattle.dexlayout.specs.internal.Placing.{encoded_debugs, shared_by}
+use Rattle.dexlayout.proofs.Common.{◌≡◌, ◌^◌, ◌<◌, ◌≤◌, length, subst, sym, ap, ◌∙◌, All, IfSome, IfOk-weaker, AreDebugs, EncodedItems, encoded_debugs, shared_by}
 use Rattle.dexlayout.proofs.SharedKinds.{debugs_fit, debugs_numbered, debugs_laid}
 use Rattle.dexlayout.proofs.debugs.place_debugs.Goals as goal
 use Rattle.dexlayout.proofs.debugs.place_debugs.Goals.{In_ok-items}
@@ -18,16 +16,14 @@ items_are c = c.in_ok-items.ensures ∙ ap (encoded_debugs c.args.from) c.deref.
 pub of-requires : goal.of-requires
 of-requires c =
     let s = c.in_ok-shared.shared in
-    let here = goal.at.of-requires c in
     subst (All (λ n. IfSome n (λ i. i < length c.in_ok-items.items.places.offsets))) (sym c.deref-2.ensures.value)
-    (subst (λ (e : EncodedItems). All (λ n. IfSome n (λ i. i < length e.places.offsets)) s.numbers.items) (sym (items_are here.In_ok-items))
+    (subst (λ (e : EncodedItems). All (λ n. IfSome n (λ i. i < length e.places.offsets)) s.numbers.items) (sym (items_are (goal.at.of-requires c).In_ok-items))
     (debugs_numbered c.requires.0 c.args.classes.now c.requires.1 c.args.from c.requires.2 s.written.items s.numbers.items c.in_ok-shared.ensures))
 
 pub returns : goal.returns
 returns c =
     let cs = c.args.classes.now in
     let s = c.in_ok-shared.shared in
-    let here = goal.at.returns c in
     IfOk-weaker c.of.result _ _ (λ x e m w is.
-    subst (AreDebugs m cs) (sym (e ∙ (λ i. shared_by (c.deref-2.ensures.value i) (items_are here.In_ok-items i))))
+    subst (AreDebugs m cs) (sym (e ∙ (λ i. shared_by (c.deref-2.ensures.value i) (items_are (goal.at.returns c).In_ok-items i))))
     (debugs_laid m cs w c.args.from is s.written.items s.numbers.items c.in_ok-shared.ensures)) c.of.ensures

@@ -1,6 +1,4 @@
-use Rattle.dexlayout.proofs.Common.{◌≡◌, map, drop, Some}
-use Rattle.dexlayout.specs.internal.Encoding.{encode_uses}
-use Rattle.dexlayout.specs.internal.Placing.{encoded_debugs}
+use Rattle.dexlayout.proofs.Common.{◌≡◌, map, drop, Some, encode_uses, encoded_debugs}
 use Rattle.dexlayout.proofs.debugs.put_written.Given as goal
 
 -- encoding what is left gives the whole

@@ -1,7 +1,4 @@
-use Rattle.dexlayout.proofs.Common.{[], take, subst, sym, ap, ◌∙◌, ◌∷◌, ◌++◌, flat_map, flat_map_more, take_more, NumberedClass, methods_of}
-use Rattle.dexlayout.specs.{same_bytes}
-use Rattle.dexlayout.specs.internal.Adding.{HasUses}
-use Rattle.dexlayout.specs.internal.Encodings.{all_debug_encodings, debug_encodings}
+use Rattle.dexlayout.proofs.Common.{[], take, subst, sym, ap, ◌∙◌, ◌∷◌, ◌++◌, flat_map, flat_map_more, take_more, NumberedClass, methods_of, same_bytes, HasUses, all_debug_encodings, debug_encodings}
 use Rattle.dexlayout.proofs.debugs.share_encodings.Goals as goal
 
 pub loop-i-preserved : goal.loop-i-preserved

@@ -1,7 +1,4 @@
-use Rattle.dexlayout.proofs.Common.{take}
-use Rattle.dexlayout.specs.{same_bytes}
-use Rattle.dexlayout.specs.internal.Adding.{HasUses}
-use Rattle.dexlayout.specs.internal.Encodings.{all_debug_encodings}
+use Rattle.dexlayout.proofs.Common.{take, same_bytes, HasUses, all_debug_encodings}
 use Rattle.dexlayout.proofs.debugs.share_encodings.Given as goal
 
 abbrev pub invariant-loop-i : goal.invariant-loop-i

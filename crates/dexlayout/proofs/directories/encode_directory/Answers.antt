@@ -1,7 +1,5 @@
-use Rattle.dexlayout.proofs.Common.{◌≡◌, ℕ, ◌+◌, ◌*◌, ◌^◌, ◌≤◌, List, sym, ap, subst, ◌∙◌, on_ok_weaker, numbered_directory_bytes}
+use Rattle.dexlayout.proofs.Common.{◌≡◌, ℕ, ◌+◌, ◌*◌, ◌^◌, ◌≤◌, List, sym, ap, subst, ◌∙◌, on_ok_weaker, numbered_directory_bytes, entry_count, encode_use}
 use Rattle.dexmembers.proofs.DirectorySpelled as spelled
-use Rattle.dexlayout.specs.internal.Directories.{entry_count}
-use Rattle.dexlayout.specs.internal.Encoding.{encode_use}
 use Rattle.dexlayout.proofs.EncodedUses.{ended, ended_fits}
 use Rattle.dexlayout.proofs.SetDirectories.{no_directory, some_directory}
 use Rattle.dexlayout.proofs.directories.encode_directory.Goals as goal
@@ -29,8 +27,7 @@ returns-then-len-eq-EMPTY_DIRECTORY c =
 pub end_item-requires-clause-fits : goal.end_item-requires-clause-fits
 end_item-requires-clause-fits c =
     let here = (goal.at.end_item-requires-clause-fits c).After-directory_len-len in
-    let some = some_directory c.args.offs.now.own (entries here) c.directory_len-len.result (bytes_of here) (size here) c.else-offs-eq0.either in
-    let fits = subst (λ u. (encode_use 4 c.args.items.now u).places.end ≤ 2 ^ 30) some c.requires.fits in
+    let fits = subst (λ u. (encode_use 4 c.args.items.now u).places.end ≤ 2 ^ 30) (some_directory c.args.offs.now.own (entries here) c.directory_len-len.result (bytes_of here) (size here) c.else-offs-eq0.either) c.requires.fits in
     ended_fits (bytes_of here) (c.items.view_is ∙ c.in_ok-align.ensures) (c.len-before.ensures ∙ c.items.inside.bytes.ok.0) c.in_ok-put_directory.ensures.bytes.ok fits
 
 pub returns : goal.returns

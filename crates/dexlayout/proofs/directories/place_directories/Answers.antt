@@ -1,7 +1,4 @@
-use Rattle.dexlayout.proofs.Common.{◌≡◌, ℕ, List, [], length, drop, sym, ap, ◌∙◌, subst, arith, drop_all, Mentions, end, uses_offsets, ref_list_section}
-use Rattle.dexlayout.specs.{ItemPlaces, ordered_of, AreDirectories, AreRefLists}
-use Rattle.dexlayout.specs.internal.Directories.{directory_items}
-use Rattle.dexlayout.specs.internal.Encoding.{encode_uses}
+use Rattle.dexlayout.proofs.Common.{◌≡◌, ℕ, List, [], length, drop, sym, ap, ◌∙◌, subst, arith, drop_all, Mentions, end, uses_offsets, ref_list_section, ItemPlaces, ordered_of, AreDirectories, AreRefLists, directory_items, encode_uses}
 use Rattle.dexlayout.proofs.EncodedUses.{all_encoded_by}
 use Rattle.dexlayout.proofs.Ends.{end_in_file}
 use Rattle.dexlayout.proofs.SetDirectories.{directories_fit, directories_more, directories_laid, own_count, field_count, method_count, length-ref_list_offsets}
@@ -22,11 +19,10 @@ loop-i-init c =
     let cs = c.args.classes.now in
     let sets = c.args.sets.now in
     let are = c.requires.2 in
-    let lists = lists_are ((goal.at.loop-i-init c).After-end-from) m c.requires.3 in
     record {
       enough_fields = omega (arith, ap (λ (l : List ℕ). length l) c.fields-fields.ensures, field_count m cs sets are);
       enough_methods = omega (arith, ap (λ (l : List ℕ). length l) c.methods-methods.ensures, method_count m cs sets are);
-      enough_lists = omega (arith, ap (λ (l : List ℕ). length l) lists, length-ref_list_offsets m cs);
+      enough_lists = omega (arith, ap (λ (l : List ℕ). length l) (lists_are ((goal.at.loop-i-init c).After-end-from) m c.requires.3), length-ref_list_offsets m cs);
       encoded = ap (λ p. encode_uses 4 p (directory_items cs c.own-own.result.now c.fields-fields.result.now c.methods-methods.result.now c.offsets-lists.result.now)) c.in_ok-items.ensures;
     }
 

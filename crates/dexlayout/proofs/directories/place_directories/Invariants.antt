@@ -1,6 +1,4 @@
-use Rattle.dexlayout.proofs.Common.{drop}
-use Rattle.dexlayout.specs.internal.Directories.{directory_items}
-use Rattle.dexlayout.specs.internal.Encoding.{encode_uses, no_items_from}
+use Rattle.dexlayout.proofs.Common.{drop, directory_items, encode_uses, no_items_from}
 use Rattle.dexlayout.proofs.SetDirectories.{DirectoriesLeft}
 use Rattle.dexlayout.proofs.directories.place_directories.Given as goal
 

@@ -1,6 +1,4 @@
-use Rattle.dexlayout.proofs.Common.{ℕ, List, length, arith, ap, sym, subst, ◌∙◌}
-use Rattle.dexlayout.specs.{IsMap, ordered_of, ItemPlaces}
-use Rattle.dexlayout.specs.internal.Placing.{placed_map}
+use Rattle.dexlayout.proofs.Common.{ℕ, List, length, arith, ap, sym, subst, ◌∙◌, IsMap, ordered_of, ItemPlaces, placed_map}
 use Rattle.dexlayout.proofs.Ends.{end_in_file}
 use Rattle.dexlayout.proofs.OwnFile.{data_before, map_laid}
 use Rattle.dexlayout.proofs.layout_build.build_layout.Goals as goal
@@ -12,9 +10,8 @@ entries-sections-requires c = (c.args.classes.now, c.requires, c.in_ok-data.ensu
 -- the map is laid out after the sections
 laid : (c : After-entries) → IsMap c.args.numbering.now c.args.classes.now (placed_map c.entries.result c.entries-sections.result c.end-data_end.result)
 laid c =
-    let K = ordered_of c.args.numbering.now c.args.classes.now in
     map_laid c.args.numbering.now c.args.classes.now c.entries.result c.entries-sections.result c.end-data_end.result
-    (c.entries.ensures K c.of-tables.ensures) (c.entries-sections.ensures c.args.classes.now c.requires c.in_ok-data.ensures c.of-tables.ensures.end_is)
+    (c.entries.ensures (ordered_of c.args.numbering.now c.args.classes.now) c.of-tables.ensures) (c.entries-sections.ensures c.args.classes.now c.requires c.in_ok-data.ensures c.of-tables.ensures.end_is)
     (c.end-data_end.ensures ∙ ap (λ (q : ItemPlaces). q.end) c.places.ensures ∙ c.in_ok-data.ensures.back_are.directories_are.places_are.end_is)
 
 pub place_map-requires-clause-fits : goal.place_map-requires-clause-fits

@@ -1,8 +1,5 @@
-use Rattle.dexlayout.proofs.Common.{◌≡◌, ℕ, List, ◌++◌, length, map, arith, ap, ◌∙◌, round_up, map_bytes, entry_meant}
+use Rattle.dexlayout.proofs.Common.{◌≡◌, ℕ, List, ◌++◌, length, map, arith, ap, ◌∙◌, round_up, map_bytes, entry_meant, EncodedItems, align_next, no_items_from, whole_map}
 use Rattle.dexhead.proofs.Lengths.{length_map}
-use Rattle.dexlayout.specs.{EncodedItems}
-use Rattle.dexlayout.specs.internal.Encoding.{align_next, no_items_from}
-use Rattle.dexlayout.specs.internal.Placing.{whole_map}
 use Rattle.dexlayout.proofs.EncodedUses.{begins, ended, ended_fits}
 use Rattle.dexlayout.proofs.map_entries.place_map.Goals as goal
 use Rattle.dexlayout.proofs.map_entries.place_map.Goals.{In_ok-entries, In_ok-put}
@@ -25,8 +22,7 @@ put c are = c.in_ok-put.ensures.puts.ok ∙ ap (λ es. c.items.inside.bytes.item
 
 pub invariant_of-put : goal.invariant_of-put
 invariant_of-put c =
-    let es = ap (λ xs. length (map_bytes xs)) (entries_are (goal.at.invariant_of-put c).In_ok-entries) in
-    record { few = omega (arith, c.deref.ensures.len, es, length_map c.in_ok-entries.entries.items, c.requires.fits) }
+    record { few = omega (arith, c.deref.ensures.len, ap (λ xs. length (map_bytes xs)) (entries_are (goal.at.invariant_of-put c).In_ok-entries), length_map c.in_ok-entries.entries.items, c.requires.fits) }
 
 pub end_item-requires-clause-begins : goal.end_item-requires-clause-begins
 end_item-requires-clause-begins c =

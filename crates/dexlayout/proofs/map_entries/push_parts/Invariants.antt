@@ -1,5 +1,4 @@
-use Rattle.dexlayout.proofs.Common.{◌≡◌, ◌++◌, map, take, flat_map, entry_meant}
-use Rattle.dexlayout.specs.internal.Parts.{entry_of}
+use Rattle.dexlayout.proofs.Common.{◌≡◌, ◌++◌, map, take, flat_map, entry_meant, entry_of}
 use Rattle.dexlayout.proofs.map_entries.push_parts.Given as goal
 
 abbrev pub invariant-loop-part : goal.invariant-loop-part

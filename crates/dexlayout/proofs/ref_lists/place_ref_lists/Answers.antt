@@ -1,11 +1,7 @@
-use Rattle.dexlayout.proofs.Common.{◌≡◌, ℕ, ◌+◌, ◌∷◌, ◌++◌, List, length, drop, sym, ap, subst, ◌∙◌, arith, drop_all, NumberedSet, NumberedMembers, NumberedMethod, methods_of}
-use Rattle.dexlayout.specs.{ordered_of, AreRefLists, ItemPlaces, EncodedItems}
-use Rattle.dexlayout.specs.internal.Encoding.{encode_uses, no_items_from}
-use Rattle.dexlayout.specs.internal.OffsetLists.{class_parameter_counts, list_item, offset_lists, parameter_counts, total}
+use Rattle.dexlayout.proofs.Common.{◌≡◌, ℕ, ◌+◌, ◌∷◌, ◌++◌, List, length, drop, sym, ap, subst, ◌∙◌, arith, drop_all, NumberedSet, NumberedMembers, NumberedMethod, methods_of, ordered_of, AreRefLists, ItemPlaces, EncodedItems, encode_uses, no_items_from, class_parameter_counts, list_item, offset_lists, parameter_counts, total}
 use Rattle.dexlayout.proofs.EncodedUses.{all_encoded_by, use_encoded, use_fits}
 use Rattle.dexlayout.proofs.Ends.{end_in_file}
-use Rattle.dexlayout.proofs.OffsetLists.{class_counts, next_counts, list_enough, enough_left, next_list}
-use Rattle.dexlayout.proofs.RefLists.{parameters_enough, ref_lists_laid}
+use Rattle.dexlayout.proofs.RefLists.{class_counts, next_counts, list_enough, enough_left, next_list, parameters_enough, ref_lists_laid}
 use Rattle.dexlayout.proofs.ref_lists.place_ref_lists.Goals as goal
 use Rattle.dexlayout.proofs.ref_lists.place_ref_lists.Goals.{After-len}
 

@@ -1,6 +1,4 @@
-use Rattle.dexlayout.proofs.Common.{◌≡◌, ◌+◌, ◌≤◌, ◌++◌, length, drop, methods_of}
-use Rattle.dexlayout.specs.internal.Encoding.{encode_uses, no_items_from}
-use Rattle.dexlayout.specs.internal.OffsetLists.{class_parameter_counts, list_item, offset_lists, parameter_counts, total}
+use Rattle.dexlayout.proofs.Common.{◌≡◌, ◌+◌, ◌≤◌, ◌++◌, length, drop, methods_of, encode_uses, no_items_from, class_parameter_counts, list_item, offset_lists, parameter_counts, total}
 use Rattle.dexlayout.proofs.ref_lists.place_ref_lists.Given as goal
 
 -- encoding what is left gives the whole

@@ -1,6 +1,4 @@
-use Rattle.dexlayout.proofs.Common.{◌≡◌, ◌≤◌, length, drop}
-use Rattle.dexlayout.specs.internal.Encoding.{encode_uses, no_items_from}
-use Rattle.dexlayout.specs.internal.OffsetLists.{annotation_counts, offset_lists, set_item, total}
+use Rattle.dexlayout.proofs.Common.{◌≡◌, ◌≤◌, length, drop, encode_uses, no_items_from, annotation_counts, offset_lists, set_item, total}
 use Rattle.dexlayout.proofs.sets.encode_written.Given as goal
 
 -- encoding what is left gives the whole

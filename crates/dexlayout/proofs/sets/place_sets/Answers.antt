@@ -1,13 +1,9 @@
-use Rattle.dexlayout.proofs.Common.{◌≡◌, ℕ, List, Bor, [], length, drop, refl, sym, ap, subst, ◌∙◌, arith, drop_all, class_data_section, set_items, set_section, Mentions, end, set_uses, same_set, numbers_offsets, items_numbered, set_decides, set_of, NumberedSet}
+use Rattle.dexlayout.proofs.Common.{◌≡◌, ℕ, List, Bor, [], length, drop, refl, sym, ap, subst, ◌∙◌, arith, drop_all, class_data_section, set_items, set_section, Mentions, end, set_uses, same_set, numbers_offsets, items_numbered, set_decides, set_of, NumberedSet, ordered_of, AreAnnotations, AreItemsIn, AreWritable, ItemPlaces, parts_of_classes, collect_classes, AreWrittenSets}
 use Rattle.dexval.specs.declared.set.AnnotationSet.{AnnotationSet}
-use Rattle.dexlayout.specs.{ordered_of, AreAnnotations, AreItemsIn, AreWritable, ItemPlaces}
-use Rattle.dexlayout.specs.internal.Collecting.{parts_of_classes, collect_classes}
-use Rattle.dexlayout.specs.internal.Placing.{AreWrittenSets}
 use Rattle.dexlayout.proofs.Ends.{end_in_file}
-use Rattle.dexlayout.proofs.SetLists.{set_use_offsets, length-set_use_offsets}
-use Rattle.dexlayout.proofs.SetsCollected.{classes_are_long}
+use Rattle.dexlayout.proofs.SetsCollected.{set_use_offsets, length-set_use_offsets, classes_are_long}
 use Rattle.dexlayout.proofs.SetsAreAt.{annotations_enough, sets_laid, sets_are, length-set_offsets}
-use Rattle.dexlayout.proofs.SharedPlaces.{numbers_within}
+use Rattle.dexlayout.proofs.SharedKinds.{numbers_within}
 use Rattle.dexlayout.proofs.sets.place_sets.Goals as goal
 use Rattle.dexlayout.proofs.sets.place_sets.Goals.{After-offsets-rest, In_ok-written}
 
@@ -19,9 +15,8 @@ pub encode_written-requires-clause-enough : goal.encode_written-requires-clause-
 encode_written-requires-clause-enough c =
     let m = c.requires.place.0 in
     let cs = c.args.classes.now in
-    let are = subst (AreWrittenSets m cs) (sym c.deref.ensures.value) (c.requires.shared m c.requires.place.1).written_are in
     let offs = c.offsets-annotation_offs.ensures ∙ ap (λ (q : ItemPlaces). q.offsets) c.places.ensures ∙ c.requires.place.2.places_are.offsets_are in
-    annotations_enough m cs set_at c.deref.result.now are c.offsets-annotation_offs.result.now offs
+    annotations_enough m cs set_at c.deref.result.now (subst (AreWrittenSets m cs) (sym c.deref.ensures.value) (c.requires.shared m c.requires.place.1).written_are) c.offsets-annotation_offs.result.now offs
 
 pub encode_written-requires-clause-fits : goal.encode_written-requires-clause-fits
 encode_written-requires-clause-fits c =
@@ -29,8 +24,7 @@ encode_written-requires-clause-fits c =
     let cs = c.args.classes.now in
     let are = subst (AreWrittenSets m cs) (sym c.deref.ensures.value) (c.requires.shared m c.requires.place.1).written_are in
     let offs = c.offsets-annotation_offs.ensures ∙ ap (λ (q : ItemPlaces). q.offsets) c.places.ensures ∙ c.requires.place.2.places_are.offsets_are in
-    let laid = sets_laid m cs set_at c.deref.result.now are c.offsets-annotation_offs.result.now offs c.args.from c.requires.place.3 in
-    omega (arith, laid.places_are.end_is, (end_in_file (ordered_of m cs) c.requires.place.1.fits).sets)
+    omega (arith, (sets_laid m cs set_at c.deref.result.now are c.offsets-annotation_offs.result.now offs c.args.from c.requires.place.3).places_are.end_is, (end_in_file (ordered_of m cs) c.requires.place.1.fits).sets)
 
 -- those that are written are encoded as the file has them
 laid_are : (c : In_ok-written) (m : Mentions) → AreWritable m c.args.classes.now → AreAnnotations m c.args.classes.now c.args.annotations.now → c.args.from ≡ end (class_data_section (ordered_of m c.args.classes.now)) → AreItemsIn (set_section (ordered_of m c.args.classes.now)) c.in_ok-written.written
@@ -46,17 +40,15 @@ place_shared-requires c =
     let m = place.0 in
     let K = ordered_of m c.args.classes.now in
     let laid = laid_are ((goal.at.place_shared-requires c).In_ok-written) m place.1 place.2 place.3 in
-    let numbers = c.deref-2.ensures.value ∙ (c.requires.shared m place.1).numbers_are in
     let count : length c.places-2.result.now.offsets ≡ length (set_items K).written =
     omega (arith, ap (λ (q : ItemPlaces). length q.offsets) c.places-2.ensures, ap (λ (l : List ℕ). length l) laid.places_are.offsets_are, length-set_offsets K) in
-    numbers_within c.deref-2.result.now (length c.places-2.result.now.offsets) (items_numbered K.sharing same_set set_decides (set_uses K)) numbers count
+    numbers_within c.deref-2.result.now (length c.places-2.result.now.offsets) (items_numbered K.sharing same_set set_decides (set_uses K)) (c.deref-2.ensures.value ∙ (c.requires.shared m place.1).numbers_are) count
 
 -- the offset of each use
 uses_are : (c : After-offsets-rest) (m : Mentions) → AreWritable m c.args.classes.now → AreItemsIn (set_section (ordered_of m c.args.classes.now)) c.in_ok-written.written → c.offsets-rest.result.now ≡ set_use_offsets (ordered_of m c.args.classes.now)
 uses_are c m w laid =
-    let numbers = c.deref-2.ensures.value ∙ (c.requires.shared m w).numbers_are in
     let offs = ap (λ (q : ItemPlaces). q.offsets) c.places-2.ensures ∙ laid.places_are.offsets_are in
-    c.offsets-rest.ensures ∙ ap (λ (p : ItemPlaces). p.offsets) c.in_ok-uses.ensures ∙ (λ i. numbers_offsets (numbers i) (offs i))
+    c.offsets-rest.ensures ∙ ap (λ (p : ItemPlaces). p.offsets) c.in_ok-uses.ensures ∙ (λ i. numbers_offsets ((c.deref-2.ensures.value ∙ (c.requires.shared m w).numbers_are) i) (offs i))
 
 pub loop-class-init : goal.loop-class-init
 loop-class-init c =
@@ -64,10 +56,9 @@ loop-class-init c =
     let m = place.0 in
     let cs = c.args.classes.now in
     let here = goal.at.loop-class-init c in
-    let uses = uses_are here.After-offsets-rest m place.1 (laid_are here.In_ok-written m place.1 place.2 place.3) in
     record {
       collected = refl;
-      enough = omega (arith, ap (λ (l : List ℕ). length l) uses, length-set_use_offsets (ordered_of m cs), classes_are_long m cs);
+      enough = omega (arith, ap (λ (l : List ℕ). length l) (uses_are here.After-offsets-rest m place.1 (laid_are here.In_ok-written m place.1 place.2 place.3)), length-set_use_offsets (ordered_of m cs), classes_are_long m cs);
     }
 
 pub returns : goal.returns

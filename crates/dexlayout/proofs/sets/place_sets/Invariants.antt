@@ -1,5 +1,4 @@
-use Rattle.dexlayout.proofs.Common.{◌≡◌, ◌≤◌, length, drop, flat_map}
-use Rattle.dexlayout.specs.internal.Collecting.{sets_of_class, parts_of_classes, collect_classes}
+use Rattle.dexlayout.proofs.Common.{◌≡◌, ◌≤◌, length, drop, flat_map, sets_of_class, parts_of_classes, collect_classes}
 use Rattle.dexlayout.proofs.sets.place_sets.Given as goal
 
 -- placing what is left gives the whole

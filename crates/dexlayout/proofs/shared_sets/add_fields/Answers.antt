@@ -1,5 +1,4 @@
-use Rattle.dexlayout.proofs.Common.{◌++◌, ◌<◌, length, take, sym, subst, arith, NumberedField, IsKnownField}
-use Rattle.dexlayout.specs.internal.SharedUses.{SharesSets, set_use, field_uses}
+use Rattle.dexlayout.proofs.Common.{◌++◌, ◌<◌, length, take, sym, subst, arith, NumberedField, IsKnownField, SharesSets, set_use, field_uses}
 use Rattle.dexlayout.proofs.SharedUses.{uses_next}
 use Rattle.dexlayout.proofs.shared_sets.add_fields.Goals as goal
 
@@ -8,8 +7,7 @@ loop-i-preserved c = λ m uses known h.
     let fs = c.args.fields.now in
     let i = c.loop-i.i in
     let f = c.get.result in
-    let lt : i < length fs = omega (arith, c.loop-i-test.true, c.len-i-end.ensures) in
-    let here : IsKnownField m f = subst (IsKnownField m) (sym c.get.ensures) (known i f lt) in
+    let here : IsKnownField m f = subst (IsKnownField m) (sym c.get.ensures) (known i f (omega (arith, c.loop-i-test.true, c.len-i-end.ensures))) in
     subst (λ us. SharesSets m us c.add_set.new.sharing.items.keys c.add_set.new.sharing.numbers.items)
-    (uses_next (λ (g : NumberedField). set_use m g.annotations) uses fs i f lt (sym c.get.ensures))
+    (uses_next (λ (g : NumberedField). set_use m g.annotations) uses fs i f (omega (arith, c.loop-i-test.true, c.len-i-end.ensures)) (sym c.get.ensures))
     (c.in_ok-add_set.ensures m (uses ++ field_uses m (take i fs)) f.annotations c.annotations.ensures here.annotations_known (c.loop-i.invariant m uses known h))

@@ -1,5 +1,4 @@
-use Rattle.dexlayout.proofs.Common.{◌++◌, take, All, List, Option, AnnotationSet as SetMeant, Mentions, IsKnownField}
-use Rattle.dexlayout.specs.internal.SharedUses.{SharesSets, field_uses}
+use Rattle.dexlayout.proofs.Common.{◌++◌, take, All, List, Option, AnnotationSet as SetMeant, Mentions, IsKnownField, SharesSets, field_uses}
 use Rattle.dexlayout.proofs.shared_sets.add_fields.Given as goal
 
 abbrev pub invariant-loop-i : goal.invariant-loop-i

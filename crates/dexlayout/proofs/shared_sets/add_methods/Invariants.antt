@@ -1,5 +1,4 @@
-use Rattle.dexlayout.proofs.Common.{◌++◌, take, All, List, Option, AnnotationSet as SetMeant, Mentions, IsKnownMethod}
-use Rattle.dexlayout.specs.internal.SharedUses.{SharesSets, methods_uses}
+use Rattle.dexlayout.proofs.Common.{◌++◌, take, All, List, Option, AnnotationSet as SetMeant, Mentions, IsKnownMethod, SharesSets, methods_uses}
 use Rattle.dexlayout.proofs.shared_sets.add_methods.Given as goal
 
 abbrev pub invariant-loop-i : goal.invariant-loop-i

@@ -1,6 +1,5 @@
-use Rattle.dexlayout.proofs.Common.{◌≡◌, true, false, [], sym, subst, ◌∙◌, Option, Some, Bor, MatchOption, set_of, NumberedSet, IsKnownSet, annotation_in, set_in}
+use Rattle.dexlayout.proofs.Common.{◌≡◌, true, false, [], sym, subst, ◌∙◌, Option, Some, Bor, MatchOption, set_of, NumberedSet, IsKnownSet, annotation_in, set_in, set_use}
 use Rattle.dexval.specs.declared.set.AnnotationSet.{AnnotationSet}
-use Rattle.dexlayout.specs.internal.SharedUses.{set_use}
 use Rattle.dexlayout.proofs.SharedUses.{shared_pass, shared_take, none_used, some_used}
 use Rattle.dexlayout.proofs.shared_sets.add_set.Goals as goal
 use Rattle.dexlayout.proofs.shared_sets.add_set.Goals.{in_default-via-in-Some+else-not-is_empty, in_default-via-in_default}

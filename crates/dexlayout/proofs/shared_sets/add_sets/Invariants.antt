@@ -1,5 +1,4 @@
-use Rattle.dexlayout.proofs.Common.{◌++◌, map, take, All, List, Option, AnnotationSet as SetMeant, Mentions, IsKnownSet}
-use Rattle.dexlayout.specs.internal.SharedUses.{SharesSets, set_use}
+use Rattle.dexlayout.proofs.Common.{◌++◌, map, take, All, List, Option, AnnotationSet as SetMeant, Mentions, IsKnownSet, SharesSets, set_use}
 use Rattle.dexlayout.proofs.shared_sets.add_sets.Given as goal
 
 abbrev pub invariant-loop-i : goal.invariant-loop-i

@@ -1,7 +1,5 @@
-use Rattle.dexlayout.proofs.Common.{subst, ap, ◌∙◌, arith, All, flat_map, take_all, Mentions, set_uses, IsKnownClass}
-use Rattle.dexlayout.specs.{ordered_of}
-use Rattle.dexlayout.specs.internal.SharedUses.{SharesSets, members_uses}
-use Rattle.dexlayout.proofs.SharedUses.{shared_kept, shared_known, on_returned, of_returned}
+use Rattle.dexlayout.proofs.Common.{subst, ap, ◌∙◌, arith, All, flat_map, take_all, Mentions, set_uses, IsKnownClass, IfOk-at_ok, ordered_of, SharesSets, members_uses}
+use Rattle.dexlayout.proofs.SharedUses.{shared_kept, shared_known, on_returned}
 use Rattle.dexlayout.proofs.SharedKinds.{set_uses_are, sets_shared}
 use Rattle.dexlayout.proofs.shared_sets.share_sets.Goals as goal
 use Rattle.dexlayout.proofs.shared_sets.share_sets.Goals.{After-finish}
@@ -16,9 +14,9 @@ all c m known =
 pub returns-clause-shared : goal.returns-clause-shared
 returns-clause-shared c = on_returned c.finish.result (λ x e m w.
     let h = all c m w.known in
-    sets_shared m c.args.classes.now x.written.items x.numbers.items w.numbering.rising (shared_kept h x.written.items x.numbers.items (of_returned _ c.finish.result x e (c.finish.ensures h.used h.items))))
+    sets_shared m c.args.classes.now x.written.items x.numbers.items w.numbering.rising (shared_kept h x.written.items x.numbers.items (IfOk-at_ok _ e (c.finish.ensures h.used h.items))))
 
 pub returns-clause-known : goal.returns-clause-known
 returns-clause-known c = on_returned c.finish.result (λ x e m w.
     let h = all c m w.known in
-    shared_known (shared_kept h x.written.items x.numbers.items (of_returned _ c.finish.result x e (c.finish.ensures h.used h.items))))
+    shared_known (shared_kept h x.written.items x.numbers.items (IfOk-at_ok _ e (c.finish.ensures h.used h.items))))

@@ -1,5 +1,4 @@
-use Rattle.dexlayout.proofs.Common.{take, All, flat_map, Mentions, IsKnownClass}
-use Rattle.dexlayout.specs.internal.SharedUses.{SharesSets, members_uses}
+use Rattle.dexlayout.proofs.Common.{take, All, flat_map, Mentions, IsKnownClass, SharesSets, members_uses}
 use Rattle.dexlayout.proofs.shared_sets.share_sets.Given as goal
 
 abbrev pub invariant-loop-i : goal.invariant-loop-i

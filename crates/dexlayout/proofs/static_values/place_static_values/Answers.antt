@@ -1,7 +1,5 @@
-use Rattle.dexlayout.proofs.Common.{map, arith, ap, sym, subst, IsKnownClass}
-use Rattle.dexlayout.specs.{AreStaticValues, ordered_of}
-use Rattle.dexlayout.specs.internal.Encoding.{encode_uses, static_item}
-use Rattle.dexlayout.proofs.EncodedUses.{all_encoded_by, each_left, next_of_each, use_encoded, use_fits}
+use Rattle.dexlayout.proofs.Common.{map, arith, ap, sym, subst, IsKnownClass, drop_all, AreStaticValues, ordered_of, encode_uses, static_item}
+use Rattle.dexlayout.proofs.EncodedUses.{all_encoded_by, use_encoded, use_fits, drop_next}
 use Rattle.dexlayout.proofs.Ends.{end_in_file}
 use Rattle.dexlayout.proofs.StaticItems.{arrays_laid}
 use Rattle.dexlayout.proofs.static_values.place_static_values.Goals as goal
@@ -16,22 +14,18 @@ pub put_array-requires-clause-fits : goal.put_array-requires-clause-fits
 put_array-requires-clause-fits c =
     let m = c.args.numbering.now in
     let cs = c.args.classes.now in
-    let next = next_of_each (static_item m) cs c.loop-class.class-index c.class-item.result c.loop-class-test.true (sym c.class-item.is) in
     omega (
-      arith,
-      use_fits 1 c.loop-class.items next c.loop-class.invariant,
-      (arrays_laid m cs c.args.from c.requires.from).places_are.end_is,
-      (end_in_file (ordered_of m cs) c.requires.classes.fits).arrays,
+      arith, use_fits 1 c.loop-class.items (ap (map (static_item m)) (drop_next cs c.loop-class.class-index c.class-item.result c.loop-class-test.true (sym c.class-item.is))) c.loop-class.invariant,
+      (arrays_laid m cs c.args.from c.requires.from).places_are.end_is, (end_in_file (ordered_of m cs) c.requires.classes.fits).arrays,
     )
 
 pub loop-class-preserved : goal.loop-class-preserved
 loop-class-preserved c =
-    let next = next_of_each (static_item c.args.numbering.now) c.args.classes.now c.loop-class.class-index c.class-item.result c.loop-class-test.true (sym c.class-item.is) in
+    let next = ap (map (static_item c.args.numbering.now)) (drop_next c.args.classes.now c.loop-class.class-index c.class-item.result c.loop-class-test.true (sym c.class-item.is)) in
     use_encoded 1 c.loop-class.items next c.loop-class.invariant c.in_ok-put_array.ensures
 
 pub returns : goal.returns
 returns c =
     let m = c.args.numbering.now in
     let cs = c.args.classes.now in
-    let all = all_encoded_by 1 (each_left (static_item m) cs c.loop-class.class-index c.loop-class-test.false) c.loop-class.invariant in
-    subst (AreStaticValues m cs) (sym all) (arrays_laid m cs c.args.from c.requires.from)
+    subst (AreStaticValues m cs) (sym (all_encoded_by 1 (ap (map (static_item m)) (drop_all c.loop-class.class-index cs c.loop-class-test.false)) c.loop-class.invariant)) (arrays_laid m cs c.args.from c.requires.from)

@@ -1,5 +1,4 @@
-use Rattle.dexlayout.proofs.Common.{◌≡◌, map, drop}
-use Rattle.dexlayout.specs.internal.Encoding.{encode_uses, no_items_from, static_item}
+use Rattle.dexlayout.proofs.Common.{◌≡◌, map, drop, encode_uses, no_items_from, static_item}
 use Rattle.dexlayout.proofs.static_values.place_static_values.Given as goal
 
 -- encoding what is left gives the whole

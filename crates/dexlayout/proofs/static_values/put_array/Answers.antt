@@ -1,8 +1,7 @@
-use Rattle.dexlayout.proofs.Common.{◌≡◌, ℕ, ◌≤◌, ◌^◌, List, ◌++◌, length, map, Some, refl, arith, ap, sym, subst, ◌∙◌, length-map, on_ok_weaker, encoded_array_bytes, value_of, NumberedValue, values_in, values_of_list, AreKnown, NumberedMembers}
+use Rattle.dexlayout.proofs.Common.{◌≡◌, ℕ, ◌≤◌, ◌^◌, List, ◌++◌, length, map, Some, refl, arith, ap, sym, subst, ◌∙◌, length-map, eqb-false, eqb-true, on_ok_weaker, encoded_array_bytes, value_of, NumberedValue, values_in, values_of_list, AreKnown, NumberedMembers, encode_use, static_item}
 use Rattle.dexval.proofs.Members.{count_of_list}
-use Rattle.dexlayout.specs.internal.Encoding.{encode_use, static_item}
 use Rattle.dexlayout.proofs.Counted.{array_counted}
-use Rattle.dexlayout.proofs.EncodedUses.{align_one, ended, ended_fits, some_of, none_of}
+use Rattle.dexlayout.proofs.EncodedUses.{align_one, ended, ended_fits}
 use Rattle.dexlayout.proofs.StaticItems.{static_some, static_none}
 use Rattle.dexlayout.proofs.static_values.put_array.Goals as goal
 use Rattle.dexlayout.proofs.static_values.put_array.Goals.{In_ok-put_statics}
@@ -13,7 +12,7 @@ pub returns-then-is_empty : goal.returns-then-is_empty
 returns-then-is_empty c =
     let vs = c.static_values-values.result.now in
     let none = static_none c.args.numbering.now c.args.class.now (map value_of vs) (c.static_values-values.ensures ∙ ap (λ (x : NumberedMembers). x.static_values) c.members.ensures)
-    (omega (arith, none_of (length vs) c.is_empty.result c.is_empty.ensures c.if-is_empty.true, length-map vs value_of)) in
+    (omega (arith, eqb-true (length vs) 0 (sym c.is_empty.ensures ∙ c.if-is_empty.true), length-map vs value_of)) in
     on_ok_weaker c.pass.result (λ e. e ∙ ap (encode_use 1 c.args.items.now) (sym none)) c.pass.ensures
 
 -- ---- some values
@@ -31,7 +30,7 @@ same c = c.static_values-values.ensures ∙ ap (λ (x : NumberedMembers). x.stat
 item_is : (c : In_ok-put_statics) → static_item c.args.numbering.now c.args.class.now ≡ Some (array c)
 item_is c =
     let vs = c.static_values-values.result.now in
-    static_some c.args.numbering.now c.args.class.now (values c) (same c) (omega (arith, some_of (length vs) c.is_empty.result c.is_empty.ensures c.if-is_empty.false, length-map vs value_of))
+    static_some c.args.numbering.now c.args.class.now (values c) (same c) (omega (arith, eqb-false (length vs) 0 (sym c.is_empty.ensures ∙ c.if-is_empty.false), length-map vs value_of))
 
 -- it ends within the file
 fits : (c : In_ok-put_statics) → (encode_use 1 c.args.items.now (Some (array c))).places.end ≤ 2 ^ 30
@@ -41,11 +40,10 @@ fits c = subst (λ u. (encode_use 1 c.args.items.now u).places.end ≤ 2 ^ 30) (
 put : (c : In_ok-put_statics) → c.put_statics.new.out.items ≡ c.items.inside.bytes.items ++ array c
 put c =
     let m = c.args.numbering.now in
-    let vs = c.static_values-values.result.now in
     let xs = values_of_list (values c) in
     let few = array_counted m xs (omega (arith, fits c)) in
     let known = subst (AreKnown m) (sym (same c)) c.requires.known.members_known.values_known in
-    (c.in_ok-put_statics.ensures.symbolic (values_in m xs) (omega (arith, few.0, count_of_list (values c), length-map vs value_of)) few.1 (record { known = known; mean = refl })).ok
+    (c.in_ok-put_statics.ensures.symbolic (values_in m xs) (omega (arith, few.0, count_of_list (values c), length-map c.static_values-values.result.now value_of)) few.1 (record { known = known; mean = refl })).ok
 
 pub end_item-requires-clause-fits : goal.end_item-requires-clause-fits
 end_item-requires-clause-fits c =

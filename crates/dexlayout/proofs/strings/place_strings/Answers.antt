@@ -1,7 +1,5 @@
-use Rattle.dexlayout.proofs.Common.{◌+◌, length, map, drop, Some, arith, ap, sym, subst, ◌∙◌, Text, string_data, offsets_from, end_from}
-use Rattle.dexlayout.specs.internal.Running.{place_use, place_uses}
-use Rattle.dexlayout.specs.{AreLaidSo}
-use Rattle.dexlayout.proofs.OwnSteps.{all_encoded, put_plain, left_next, left_fits, left_none}
+use Rattle.dexlayout.proofs.Common.{◌+◌, length, map, drop, Some, arith, ap, sym, subst, ◌∙◌, Text, string_data, offsets_from, end_from, AreLaidSo, place_use, place_uses}
+use Rattle.dexlayout.proofs.EncodedUses.{all_encoded, put_plain, left_next, left_fits, left_none}
 use Rattle.dexlayout.proofs.strings.place_strings.Goals as goal
 
 pub put_next-requires : goal.put_next-requires

@@ -1,5 +1,4 @@
-use Rattle.dexlayout.proofs.Common.{◌≡◌, map, drop, length, Some, string_data}
-use Rattle.dexlayout.specs.internal.Running.{none_from, place_uses}
+use Rattle.dexlayout.proofs.Common.{◌≡◌, map, drop, length, Some, string_data, none_from, place_uses}
 use Rattle.dexlayout.proofs.strings.place_strings.Given as goal
 
 abbrev pub invariant-loop-i : goal.invariant-loop-i

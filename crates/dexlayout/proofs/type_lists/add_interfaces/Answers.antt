@@ -1,6 +1,5 @@
-use Rattle.dexlayout.proofs.Common.{◌≡◌, [], ◌∷◌, ◌++◌, map, take, subst, sym, ap, ◌∙◌, ◌<◌, option_to_list, length, All-tail, all_back, unless_empty, IsKnownClass}
+use Rattle.dexlayout.proofs.Common.{◌≡◌, [], ◌∷◌, ◌++◌, map, take, subst, sym, ap, ◌∙◌, ◌<◌, option_to_list, length, All-tail, all_back, unless_empty, IsKnownClass, AreTypes, SharesLists, interfaces_use}
 use Rattle.dexclass.specs.Numbered.{type_at}
-use Rattle.dexlayout.specs.internal.SharedUses.{AreTypes, SharesLists, interfaces_use}
 use Rattle.dexlayout.proofs.SharedUses.{uses_next}
 use Rattle.dexlayout.proofs.type_lists.add_interfaces.Goals as goal
 

@@ -1,5 +1,4 @@
-use Rattle.dexlayout.proofs.Common.{◌++◌, map, take, All, List, Option, Mentions, Text, IsKnownClass}
-use Rattle.dexlayout.specs.internal.SharedUses.{SharesLists, interfaces_use}
+use Rattle.dexlayout.proofs.Common.{◌++◌, map, take, All, List, Option, Mentions, Text, IsKnownClass, SharesLists, interfaces_use}
 use Rattle.dexlayout.proofs.type_lists.add_interfaces.Given as goal
 
 abbrev pub invariant-loop-i : goal.invariant-loop-i

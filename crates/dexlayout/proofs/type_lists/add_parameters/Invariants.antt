@@ -1,5 +1,4 @@
-use Rattle.dexlayout.proofs.Common.{◌++◌, map, take, List, Option, unless_empty, Text}
-use Rattle.dexlayout.specs.internal.SharedUses.{SharesLists}
+use Rattle.dexlayout.proofs.Common.{◌++◌, map, take, List, Option, unless_empty, Text, SharesLists}
 use Rattle.dexlayout.proofs.type_lists.add_parameters.Given as goal
 
 abbrev pub invariant-loop-i : goal.invariant-loop-i

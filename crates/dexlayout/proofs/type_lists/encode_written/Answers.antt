@@ -1,7 +1,6 @@
-use Rattle.dexlayout.proofs.Common.{◌<◌, ◌^◌, List, ℕ, Option, Some, All, length, map, arith, ap, subst, sym}
-use Rattle.dexlayout.specs.internal.Encoding.{encode_uses, list_bytes}
-use Rattle.dexlayout.proofs.EncodedUses.{all_encoded_by, each_left, next_of_each, use_encoded, use_fits}
-use Rattle.dexlayout.proofs.ListBytes.{length_list}
+use Rattle.dexlayout.proofs.Common.{◌<◌, ◌^◌, List, ℕ, Option, Some, All, length, map, arith, ap, subst, sym, drop_all, encode_uses, list_bytes}
+use Rattle.dexlayout.proofs.EncodedUses.{all_encoded_by, use_encoded, use_fits, drop_next}
+use Rattle.dexlayout.proofs.SharedKinds.{length_list}
 use Rattle.dexlayout.proofs.type_lists.encode_written.Goals as goal
 use Rattle.dexlayout.proofs.type_lists.encode_written.Goals.{After-len}
 
@@ -15,7 +14,7 @@ loop-key-init c = ap (λ p. encode_uses 4 p (map item_of c.args.lists.now)) c.in
 -- the list is not too long
 count : (c : After-len) → length c.key-item.result < 2 ^ 31
 count c =
-    let next = next_of_each item_of c.args.lists.now c.loop-key.key-index c.key-item.result c.loop-key-test.true (sym c.key-item.is) in
+    let next = ap (map item_of) (drop_next c.args.lists.now c.loop-key.key-index c.key-item.result c.loop-key-test.true (sym c.key-item.is)) in
     omega (arith, use_fits 4 c.loop-key.items next c.loop-key.invariant, c.requires.fits, length_list c.key-item.result)
 
 pub overflow_mul-len : goal.overflow_mul-len
@@ -31,14 +30,10 @@ pub put-requires-clause-most : goal.put-requires-clause-most
 put-requires-clause-most c = omega (arith, c.len.ensures, ap (λ (l : List ℕ). length l) c.key.view_is, length_list c.key-item.result)
 
 pub put-requires-clause-fits : goal.put-requires-clause-fits
-put-requires-clause-fits c =
-    let next = next_of_each item_of c.args.lists.now c.loop-key.key-index c.key-item.result c.loop-key-test.true (sym c.key-item.is) in
-    omega (arith, use_fits 4 c.loop-key.items next c.loop-key.invariant, c.requires.fits)
+put-requires-clause-fits c = omega (arith, use_fits 4 c.loop-key.items (ap (map item_of) (drop_next c.args.lists.now c.loop-key.key-index c.key-item.result c.loop-key-test.true (sym c.key-item.is))) c.loop-key.invariant, c.requires.fits)
 
 pub loop-key-preserved : goal.loop-key-preserved
-loop-key-preserved c =
-    let next = next_of_each item_of c.args.lists.now c.loop-key.key-index c.key-item.result c.loop-key-test.true (sym c.key-item.is) in
-    use_encoded 4 c.loop-key.items next c.loop-key.invariant c.in_ok-put.ensures
+loop-key-preserved c = use_encoded 4 c.loop-key.items (ap (map item_of) (drop_next c.args.lists.now c.loop-key.key-index c.key-item.result c.loop-key-test.true (sym c.key-item.is))) c.loop-key.invariant c.in_ok-put.ensures
 
 pub returns : goal.returns
-returns c = all_encoded_by 4 (each_left item_of c.args.lists.now c.loop-key.key-index c.loop-key-test.false) c.loop-key.invariant
+returns c = all_encoded_by 4 (ap (map item_of) (drop_all c.loop-key.key-index c.args.lists.now c.loop-key-test.false)) c.loop-key.invariant

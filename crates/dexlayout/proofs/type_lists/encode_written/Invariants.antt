@@ -1,6 +1,4 @@
-use Rattle.dexlayout.proofs.Common.{◌≡◌, map, drop, Some}
-use Rattle.dexlayout.specs.internal.Encoding.{encode_uses, list_bytes}
-use Rattle.dexlayout.specs.internal.Placing.{encoded_lists}
+use Rattle.dexlayout.proofs.Common.{◌≡◌, map, drop, Some, encode_uses, list_bytes, encoded_lists}
 use Rattle.dexlayout.proofs.type_lists.encode_written.Given as goal
 
 -- encoding what is left gives the whole

@@ -1,7 +1,4 @@
-use Rattle.dexlayout.proofs.Common.{◌≡◌, ◌^◌, ◌<◌, ◌≤◌, length, arith, subst, sym, ap, ◌∙◌, All, IfSome, All-weaker, IfOk-weaker}
-use Rattle.dexlayout.specs.{AreTypeLists, EncodedItems}
-use Rattle.dexlayout.specs.internal.Placing.{encoded_lists, shared_by}
-use Rattle.dexlayout.specs.internal.SharedUses.{AreTypes}
+use Rattle.dexlayout.proofs.Common.{◌≡◌, ◌^◌, ◌<◌, ◌≤◌, length, arith, subst, sym, ap, ◌∙◌, All, IfSome, All-weaker, IfOk-weaker, AreTypeLists, EncodedItems, encoded_lists, shared_by, AreTypes}
 use Rattle.dexlayout.proofs.SharedKinds.{lists_fit, lists_numbered, lists_laid}
 use Rattle.dexlayout.proofs.type_lists.place_type_lists.Goals as goal
 use Rattle.dexlayout.proofs.type_lists.place_type_lists.Goals.{In_ok-items}
@@ -26,9 +23,8 @@ items_are c = c.in_ok-items.ensures ∙ ap (encoded_lists c.args.from) c.deref.e
 pub of-requires : goal.of-requires
 of-requires c =
     let s = c.in_ok-shared.shared in
-    let here = (goal.at.of-requires c).In_ok-items in
     subst (All (λ n. IfSome n (λ i. i < length c.in_ok-items.items.places.offsets))) (sym c.deref-2.ensures.value)
-    (subst (λ (e : EncodedItems). All (λ n. IfSome n (λ i. i < length e.places.offsets)) s.numbers.items) (sym (items_are here))
+    (subst (λ (e : EncodedItems). All (λ n. IfSome n (λ i. i < length e.places.offsets)) s.numbers.items) (sym (items_are ((goal.at.of-requires c).In_ok-items)))
     (lists_numbered c.args.numbering.now c.args.classes.now c.requires.classes c.args.from c.requires.from s.written.items s.numbers.items c.in_ok-shared.ensures.known c.in_ok-shared.ensures.shared))
 
 pub returns : goal.returns
@@ -36,7 +32,6 @@ returns c =
     let m = c.args.numbering.now in
     let cs = c.args.classes.now in
     let s = c.in_ok-shared.shared in
-    let here = (goal.at.returns c).In_ok-items in
     IfOk-weaker c.of.result _ _ (λ x e.
-    subst (AreTypeLists m cs) (sym (e ∙ (λ i. shared_by (c.deref-2.ensures.value i) (items_are here i))))
+    subst (AreTypeLists m cs) (sym (e ∙ (λ i. shared_by (c.deref-2.ensures.value i) (items_are ((goal.at.returns c).In_ok-items) i))))
     (lists_laid m cs c.requires.classes c.args.from c.requires.from s.written.items s.numbers.items c.in_ok-shared.ensures.known c.in_ok-shared.ensures.shared)) c.of.ensures

@@ -1,8 +1,6 @@
-use Rattle.dexlayout.proofs.Common.{[], map, subst, unless_empty, type_list_uses}
-use Rattle.dexlayout.specs.{ordered_of}
-use Rattle.dexlayout.specs.internal.SharedUses.{SharesLists}
+use Rattle.dexlayout.proofs.Common.{[], map, subst, unless_empty, type_list_uses, IfOk-at_ok, ordered_of, SharesLists}
 use Rattle.dexlayout.proofs.SharedKinds.{list_uses_are, lists_shared}
-use Rattle.dexlayout.proofs.SharedUses.{shared_none, shared_kept, shared_known, on_returned, of_returned}
+use Rattle.dexlayout.proofs.SharedUses.{shared_none, shared_kept, shared_known, on_returned}
 use Rattle.dexlayout.proofs.type_lists.share_type_lists.Goals as goal
 use Rattle.dexlayout.proofs.type_lists.share_type_lists.Goals.{After-finish}
 
@@ -16,9 +14,9 @@ all c =
 pub returns-clause-shared : goal.returns-clause-shared
 returns-clause-shared c = on_returned c.finish.result (λ x e.
     let h = all c in
-    lists_shared c.args.numbering.now c.args.classes.now x.written.items x.numbers.items c.requires.numbering.rising (shared_kept h x.written.items x.numbers.items (of_returned _ c.finish.result x e (c.finish.ensures h.used h.items))))
+    lists_shared c.args.numbering.now c.args.classes.now x.written.items x.numbers.items c.requires.numbering.rising (shared_kept h x.written.items x.numbers.items (IfOk-at_ok _ e (c.finish.ensures h.used h.items))))
 
 pub returns-clause-known : goal.returns-clause-known
 returns-clause-known c = on_returned c.finish.result (λ x e.
     let h = all c in
-    shared_known (shared_kept h x.written.items x.numbers.items (of_returned _ c.finish.result x e (c.finish.ensures h.used h.items))))
+    shared_known (shared_kept h x.written.items x.numbers.items (IfOk-at_ok _ e (c.finish.ensures h.used h.items))))

@@ -6,8 +6,7 @@ pub end_item-requires-clause-begins : goal.end_item-requires-clause-begins
 end_item-requires-clause-begins g c =
     let item = g.T.Encode.bytes c.args.item.now in
     let room = c.in_ok-reserve.ensures in
-    let put = (c.encode.ensures (omega (arith, room.ok, room.len, c.requires.most))).items ∙ ap (λ bs. bs ++ item) room.items in
-    begins item (c.self.view_is ∙ c.in_ok-align.ensures) (c.len-before.ensures ∙ c.self.inside.bytes.ok.0) put
+    begins item (c.self.view_is ∙ c.in_ok-align.ensures) (c.len-before.ensures ∙ c.self.inside.bytes.ok.0) ((c.encode.ensures (omega (arith, room.ok, room.len, c.requires.most))).items ∙ ap (λ bs. bs ++ item) room.items)
 
 pub end_item-requires-clause-fits : goal.end_item-requires-clause-fits
 end_item-requires-clause-fits g c =

@@ -1,6 +1,4 @@
-use Rattle.dexlayout.proofs.Common.{◌<◌, length, List, ℕ, subst, sym, ap, ◌∙◌, All, IfSome}
-use Rattle.dexlayout.specs.{EncodedItems}
-use Rattle.dexlayout.specs.internal.Placing.{shared_places}
+use Rattle.dexlayout.proofs.Common.{◌<◌, length, List, ℕ, subst, sym, ap, ◌∙◌, All, IfSome, EncodedItems, shared_places}
 use Rattle.dexlayout.proofs.items.SharedItems.of.Goals as goal
 
 pub place_shared-requires : goal.place_shared-requires

@@ -1,38 +1,31 @@
-use Rattle.dexlayout.proofs.Common.{sym, ap, subst, ◌∙◌, definitions, mentions, IsNumbering}
-use Rattle.dexlayout.specs.{AreWritable, IsLaid, file_end}
+use Rattle.dexlayout.proofs.Common.{sym, ap, subst, ◌∙◌, definitions, mentions, IsNumbering, AreWritable, IsLaid, file_end}
 use Rattle.dexlayout.proofs.OwnFile.{writable, ordered_is, laid_same, length_canonical}
 use Rattle.dexlayout.proofs.layout.Layout.of.Goals as goal
 
 pub build_layout-requires : goal.build_layout-requires
 build_layout-requires c =
-    let C = c.args.program.now in
     let is = c.numbering-numbering.ensures in
-    let w = writable C c.classes.result.now (subst IsNumbering is c.is_numbering.ensures) c.is_good.ensures.good c.is_good.ensures.formed c.fitting_size_law.ensures.canonical c.classes.ensures in
+    let w = writable c.args.program.now c.classes.result.now (subst IsNumbering is c.is_numbering.ensures) c.is_good.ensures.good c.is_good.ensures.formed c.fitting_size_law.ensures.canonical c.classes.ensures in
     subst (λ m. AreWritable m c.classes.result.now) (sym is) w
 
 pub returns-clause-laid : goal.returns-clause-laid
 returns-clause-laid c = λ cs of.
     let C = c.args.program.now in
-    let m = mentions (definitions C) in
     let here = c.classes.result.now in
-    let laid = subst (λ n. IsLaid n here c.in_ok-layout.layout) c.numbering-numbering.ensures c.in_ok-layout.ensures in
-    laid_same m here cs (ordered_is C here c.classes.ensures ∙ sym (ordered_is C cs of)) laid
+    laid_same (mentions (definitions C)) here cs (ordered_is C here c.classes.ensures ∙ sym (ordered_is C cs of)) (subst (λ n. IsLaid n here c.in_ok-layout.layout) c.numbering-numbering.ensures c.in_ok-layout.ensures)
 
 pub returns-clause-writable : goal.returns-clause-writable
 returns-clause-writable c = λ cs of.
     let C = c.args.program.now in
-    let numbering = subst IsNumbering c.numbering-numbering.ensures c.is_numbering.ensures in
-    (writable C cs numbering c.is_good.ensures.good c.is_good.ensures.formed c.fitting_size_law.ensures.canonical of, ordered_is C cs of)
+    (writable C cs (subst IsNumbering c.numbering-numbering.ensures c.is_numbering.ensures) c.is_good.ensures.good c.is_good.ensures.formed c.fitting_size_law.ensures.canonical of, ordered_is C cs of)
 
 pub returns-in_err-layout-clause-writable : goal.returns-in_err-layout-clause-writable
 returns-in_err-layout-clause-writable c = λ cs of.
     let C = c.args.program.now in
-    let numbering = subst IsNumbering c.numbering-numbering.ensures c.is_numbering.ensures in
-    (writable C cs numbering c.is_good.ensures.good c.is_good.ensures.formed c.fitting_size_law.ensures.canonical of, ordered_is C cs of)
+    (writable C cs (subst IsNumbering c.numbering-numbering.ensures c.is_numbering.ensures) c.is_good.ensures.good c.is_good.ensures.formed c.fitting_size_law.ensures.canonical of, ordered_is C cs of)
 
 pub returns-clause-len : goal.returns-clause-len
 returns-clause-len c =
     let C = c.args.program.now in
     let here = c.classes.result.now in
-    let laid = subst (λ n. IsLaid n here c.in_ok-layout.layout) c.numbering-numbering.ensures c.in_ok-layout.ensures in
-    laid.head_states.file_ends ∙ ap file_end (ordered_is C here c.classes.ensures) ∙ sym (length_canonical C)
+    (subst (λ n. IsLaid n here c.in_ok-layout.layout) c.numbering-numbering.ensures c.in_ok-layout.ensures).head_states.file_ends ∙ ap file_end (ordered_is C here c.classes.ensures) ∙ sym (length_canonical C)

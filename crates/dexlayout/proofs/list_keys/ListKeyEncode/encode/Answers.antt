@@ -2,9 +2,7 @@ use Rattle.dexlayout.proofs.Common.{List, ℕ, length, get_or, ap, arith, subst,
 use Rattle.dexlayout.proofs.list_keys.ListKeyEncode.encode.Goals as goal
 
 pub overflow_cast-at : goal.overflow_cast-at
-overflow_cast-at g c =
-    let at = c.at.ensures ∙ ap (λ (l : List ℕ). get_or l c.loop-i.i 0) c.self.view_is in
-    omega (arith, at, c.requires.1 c.loop-i.i 0 (omega (arith, c.loop-i-test.true, c.len-count.ensures, ap (λ (l : List ℕ). length l) c.self.view_is)))
+overflow_cast-at g c = omega (arith, c.at.ensures ∙ ap (λ (l : List ℕ). get_or l c.loop-i.i 0) c.self.view_is, c.requires.1 c.loop-i.i 0 (omega (arith, c.loop-i-test.true, c.len-count.ensures, ap (λ (l : List ℕ). length l) c.self.view_is)))
 
 pub loop-i-preserved : goal.loop-i-preserved
 loop-i-preserved g c =

@@ -1,5 +1,4 @@
-use Rattle.dexlayout.proofs.Common.{◌≡◌, ℕ, List, length, take, drop, ap, ◌∙◌, Bor, on_ok_weaker, IfOk-weaker, flat_map, NumberedMembers, fields_of, methods_of}
-use Rattle.dexlayout.specs.internal.Collecting.{sets_of_method, sets_of_class}
+use Rattle.dexlayout.proofs.Common.{◌≡◌, ℕ, List, length, take, drop, ap, ◌∙◌, Bor, on_ok_weaker, IfOk-weaker, flat_map, NumberedMembers, fields_of, methods_of, sets_of_method, sets_of_class}
 use Rattle.dexlayout.proofs.SetsCollected.{collected_class, left_of_class}
 use Rattle.dexlayout.proofs.sets.Sets.collect_class.Goals as goal
 

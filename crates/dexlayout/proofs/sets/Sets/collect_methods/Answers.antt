@@ -1,5 +1,4 @@
-use Rattle.dexlayout.proofs.Common.{◌≡◌, ℕ, ◌+◌, ◌<◌, List, length, take, drop, sym, ap, ◌∙◌, arith, length-drop, drop-drop, flat_map, NumberedSet, methods_of}
-use Rattle.dexlayout.specs.internal.Collecting.{sets_of_method, parts_of_methods, collect_method, collect_methods}
+use Rattle.dexlayout.proofs.Common.{◌≡◌, ℕ, ◌+◌, ◌<◌, List, length, take, drop, sym, ap, ◌∙◌, arith, length-drop, drop-drop, flat_map, NumberedSet, methods_of, sets_of_method, parts_of_methods, collect_method, collect_methods}
 use Rattle.dexlayout.proofs.SetsCollected.{next_parts, next_count}
 use Rattle.dexlayout.proofs.sets.Sets.collect_methods.Goals as goal
 
@@ -17,13 +16,13 @@ loop-i-preserved c =
     let i = c.loop-i.i in
     let x = c.method_at.result in
     let rest = c.loop-i.rest.now in
-    let lt : i < length xs = omega (arith, c.loop-i-test.true, c.method_count-i-end.ensures) in
     let is = sym c.method_at.ensures in
     let n = length (sets_of_method x) in
     let more = drop (i + 1) xs in
     let k = length (flat_map sets_of_method more) in
     let h = c.loop-i.invariant in
     let many : c.len.result ≡ length x.parameter_annotations = c.len.ensures ∙ ap (λ (l : List NumberedSet). length l) c.parameter_annotations-parameters.ensures in
+    let lt : i < length xs = omega (arith, c.loop-i-test.true, c.method_count-i-end.ensures) in
     let count : 1 + c.len.result ≡ n = omega (arith, many) in
     let first_sections : c.split_at.result.0.now ≡ take n rest = c.split_at.ensures.front ∙ ap (λ j. take j rest) count in
     let back : c.split_at.result.1.now ≡ drop n rest = c.split_at.ensures.back ∙ ap (λ j. drop j rest) count in

@@ -1,5 +1,4 @@
-use Rattle.dexlayout.proofs.Common.{◌≡◌, ◌≤◌, length, drop, flat_map, methods_of}
-use Rattle.dexlayout.specs.internal.Collecting.{sets_of_method, parts_of_methods, collect_methods}
+use Rattle.dexlayout.proofs.Common.{◌≡◌, ◌≤◌, length, drop, flat_map, methods_of, sets_of_method, parts_of_methods, collect_methods}
 use Rattle.dexlayout.proofs.sets.Sets.collect_methods.Given as goal
 
 -- placing what is left gives the whole

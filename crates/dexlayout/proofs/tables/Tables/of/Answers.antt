@@ -1,5 +1,5 @@
 use Rattle.dexlayout.proofs.Common.{arith}
-use Rattle.dexlayout.proofs.OwnParts.{rows_few}
+use Rattle.dexlayout.proofs.OwnFile.{rows_few}
 use Rattle.dexlayout.proofs.tables.Tables.of.Goals as goal
 
 pub overflow_cast-texts : goal.overflow_cast-texts

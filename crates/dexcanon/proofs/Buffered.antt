@@ -1,8 +1,7 @@
 -- What one write does to the buffer, and to the target.
-use Rattle.dexcanon.proofs.Common.{◌≡◌, ℕ, ◌≤◌, List, [], ◌++◌, Bool, true, false, Result, Ok, Err, OnOk, OnErr, sym, subst, ◌∙◌, ap, append_assoc, arith, is_err, vec_capacity, append-nil, Pushes, HasRoomFor}
+use Rattle.dexcanon.proofs.Common.{◌≡◌, ℕ, ◌≤◌, List, [], ◌++◌, Bool, true, false, Result, Ok, Err, OnOk, OnErr, sym, subst, ◌∙◌, ap, append_assoc, arith, is_err, vec_capacity, append-nil, Pushes, HasRoomFor, Adds, HasRoom, adds_both}
 use Rattle.std.specs.Global.{Vec}
 use Rattle.dexcanon.specs.declared.output.Out.{Out}
-use Rattle.dexcanon.specs.internal.Output.{Adds, HasRoom, adds_both}
 
 module _ {T : Type 0} {gives gives_prefix : List ℕ → T → T → Type 0} {has_failed : T → Bool} where
   -- bytes were added after what is buffered
@@ -10,11 +9,7 @@ module _ {T : Type 0} {gives gives_prefix : List ℕ → T → T → Type 0} {ha
       → Adds gives gives_prefix has_failed x a (record { buffer = w; failed = a.failed; target = a.target })
   buffered more a w x room push = record {
     written = λ r start m h. let p = push (room r) in record {
-      made = λ e. let k = h.made e in record {
-        gone = k.gone;
-        given = k.given;
-        joined = ap (λ z. k.gone ++ z) p.items ∙ sym (append_assoc k.gone a.buffer.items x) ∙ ap (λ z. z ++ x) k.joined;
-      };
+      made = λ e. let k = h.made e in record { gone = k.gone; given = k.given; joined = ap (λ z. k.gone ++ z) p.items ∙ sym (append_assoc k.gone a.buffer.items x) ∙ ap (λ z. z ++ x) k.joined };
       prefix = λ f. more m x start a.target (h.prefix f);
     };
     reports = λ t. t;
@@ -27,13 +22,9 @@ module _ {T : Type 0} {gives gives_prefix : List ℕ → T → T → Type 0} {ha
   flushed_first more a b w x first room push = adds_both gives gives_prefix has_failed [] x a b (record { buffer = w; failed = b.failed; target = b.target }) first (buffered more b w x room push)
 
   -- the target has failed: what is buffered is dropped, and no bytes are written
-  pub dropped : (more : (x y : List ℕ) (s t : T) → gives_prefix x s t → gives_prefix (x ++ y) s t) (a : Out T) (w : Vec ℕ) (x : List ℕ) → a.failed ≡ true → vec_capacity w ≡ vec_capacity a.buffer
-      → Adds gives gives_prefix has_failed x a (record { buffer = w; failed = a.failed; target = a.target })
+  pub dropped : (more : (x y : List ℕ) (s t : T) → gives_prefix x s t → gives_prefix (x ++ y) s t) (a : Out T) (w : Vec ℕ) (x : List ℕ) → a.failed ≡ true → vec_capacity w ≡ vec_capacity a.buffer → Adds gives gives_prefix has_failed x a (record { buffer = w; failed = a.failed; target = a.target })
   dropped more a w x fails same = record {
-    written = λ r start m h. record {
-      made = λ e. absurd (let never : true ≡ false = sym fails ∙ e in cc);
-      prefix = λ f. more m x start a.target (h.prefix f);
-    };
+    written = λ r start m h. record { made = λ e. absurd (let never : true ≡ false = sym fails ∙ e in cc); prefix = λ f. more m x start a.target (h.prefix f) };
     reports = λ t. t;
     room = λ r. let enough : 112 ≤ vec_capacity a.buffer = r in omega (arith, same, enough);
   }

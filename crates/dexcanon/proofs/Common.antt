@@ -1,4 +1,4 @@
--- The names from below that the proofs cite, re-exported from one place. Declares nothing.
+-- The names from below that the proofs cite, and the definitions of this crate, re-exported from one place. Declares nothing.
 pub use Rattle.std.proofs.Common.{Bool, Err, IfErr, IfOk, List, None, Ok, OnErr, OnOk, Option, Result, Some, [], ap, append-nil, append_assoc, arith, drop, false, get_or, inl, inr, length, map, refl, rules, subst, suc, sym, take, true, w32, ℕ, ◌*◌, ◌++◌, ◌+◌, ◌<◌, ◌^◌, ◌∙◌, ◌∷◌, ◌≡◌, ◌≤◌}
 pub use Rattle.std.proofs.Math.Seq.{drop-append-add}
 pub use Rattle.std.proofs.lemmas.Grind.{common_steps, fold-append}
@@ -37,3 +37,5 @@ pub use Rattle.dexspec.specs.Placing.{Ordered, end, offsets, section_bytes, uses
 pub use Rattle.dexspec.specs.Spellings.{proto_index, text_index, type_index}
 pub use Rattle.dexspec.specs.Texts.{Text, string_data}
 pub use Rattle.sha1.specs.Sha1.{sha1}
+pub use Rattle.dexcanon.specs.{Adds, HasLeft, HasRoom, HasWritten, IsFileAlone, IsReady, TookPrefix, adds_both, adds_nothing, after_header_of, class_alone, class_row, no_offsets, ordered_in, result_of, rows_with, signed_of, took_nothing}
+unfoldable pub use Rattle.dexcanon.specs.{class_digest}

@@ -1,5 +1,5 @@
 -- Signatures of files, and the digests of classes.
-use Rattle.dexcanon.proofs.Common.{◌≡◌, ℕ, List, [], ◌∷◌, ◌++◌, length, take, drop, map, sym, ap, ◌∙◌, subst, arith, inl, inr, Contains, take_at, drop_at, drop-append-add, sha1, uint, adler_32, Definition, Collection, definitions, Defines, Denotes, IsCollectionOf, Ordered, magic, unsigned_file, with_sums, canonical, length-uint, Head, with_sums_set, StatesLayout, after_header, field_bytes, head_bytes}
+use Rattle.dexcanon.proofs.Common.{◌≡◌, ℕ, List, [], ◌∷◌, ◌++◌, length, take, drop, map, sym, ap, ◌∙◌, subst, arith, inl, inr, Contains, take_at, drop_at, drop-append-add, sha1, uint, adler_32, Definition, Collection, definitions, Defines, Denotes, IsCollectionOf, Ordered, magic, unsigned_file, with_sums, canonical, length-uint, Head, with_sums_set, StatesLayout, after_header, field_bytes, head_bytes, class_alone, class_digest, IsFileAlone}
 use Rattle.dexspec.specs.WellFormed.{AreWellFormed}
 use Rattle.dexspec.specs.Merging.{IsConsistent, IsGood, greatest_caps}
 use Rattle.dexspec.specs.Accepted.{IsAccepted}
@@ -7,8 +7,7 @@ use Rattle.dexspec.proofs.merge.Absorption.{IsGood-within}
 use Rattle.dexspec.proofs.merge.Collections.{collection-is, collection-one, collection-consistent, definitions-same}
 use Rattle.dexspec.proofs.lists.Members.{Contains-nil, Contains-first, Contains-cons_cases}
 use Rattle.dexspec.proofs.layout.Sums.{length-sha1}
-use Rattle.dexcanon.specs.{class_alone, class_digest, IsFileAlone}
-use Rattle.dexcanon.proofs.Reported.{after_signature}
+use Rattle.dexcanon.proofs.WholeFile.{after_signature}
 
 -- ---- signatures
 
@@ -21,8 +20,7 @@ signature_is rest =
     ap (take 20) (drop-append-add magic (uint n ++ body) 4 ∙ drop_at (uint n) body 4 (length-uint n)) ∙ take_at (sha1 rest) rest 20 (length-sha1 rest)
 
 -- the digest of the bytes after the signature of the file is that signature
-pub signed_is : (l : Head) (K : Ordered) → length l.signature ≡ 20 → StatesLayout l K
-    → ((k : Head) (rest : List ℕ) → length k.signature ≡ 20 → with_sums_set (head_bytes k ++ rest) ≡ with_sums (field_bytes k ++ rest))
+pub signed_is : (l : Head) (K : Ordered) → length l.signature ≡ 20 → StatesLayout l K → ((k : Head) (rest : List ℕ) → length k.signature ≡ 20 → with_sums_set (head_bytes k ++ rest) ≡ with_sums (field_bytes k ++ rest))
     → ((k : Head) (O : Ordered) → length k.signature ≡ 20 → StatesLayout k O → with_sums_set (head_bytes k ++ after_header O) ≡ with_sums (unsigned_file O))
     → (signature : List ℕ) → signature ≡ sha1 (drop 32 (head_bytes l) ++ after_header K) → signature ≡ take 20 (drop 12 (with_sums (unsigned_file K)))
 signed_is l K twenty reports set law signature e =
@@ -51,15 +49,13 @@ digest_of d K signature is e = e ∙ ap (λ L. take 20 (drop 12 (canonical L))) 
 
 -- it is appended
 pub one_digest : (part : List Definition) (K : Collection) (signature : List ℕ) (old new : List (List ℕ)) → length part ≡ 1 → IsCollectionOf part K → signature ≡ take 20 (drop 12 (canonical K)) → new ≡ old ++ signature ∷ [] → new ≡ old ++ map class_digest part
-one_digest [] K signature old new count is e put = absurd (omega (arith, count))
 one_digest (d ∷ []) K signature old new count is e put = put ∙ ap (λ x. old ++ x ∷ []) (digest_of d K signature is e)
-one_digest (d ∷ f ∷ rest) K signature old new count is e put = absurd (omega (arith, count))
+one_digest _ _ signature old new count is e put = absurd (omega (arith, count))
 
 -- ---- files of one class
 
 -- the file of a class alone is accepted, and denotes the class alone
-pub file_alone : (K : Collection) (d : Definition) → IsGood greatest_caps (definitions K) → AreWellFormed (definitions K)
-    → ((L : Collection) → IsGood greatest_caps (definitions L) → AreWellFormed (definitions L) → IsAccepted (canonical L))
+pub file_alone : (K : Collection) (d : Definition) → IsGood greatest_caps (definitions K) → AreWellFormed (definitions K) → ((L : Collection) → IsGood greatest_caps (definitions L) → AreWellFormed (definitions L) → IsAccepted (canonical L))
     → ((L : Collection) → IsGood greatest_caps (definitions L) → AreWellFormed (definitions L) → Denotes (canonical L) L)
     → Contains (definitions K) d → IsFileAlone d
 file_alone K d good formed accepted denotes member =
@@ -77,6 +73,5 @@ one_consistent d name x y c e = ap (λ (z : Definition). z.1) (sym (only_member 
 -- different definitions have different files
 pub one_file : (d e : Definition) → IsFileAlone d → IsFileAlone e → canonical (class_alone d) ≡ canonical (class_alone e) → d ≡ e
 one_file d e first second same =
-    let member = (collection-is (d ∷ []) (one_consistent d) d.0 d.1).1 (Contains-first d []) in
-    let defined = subst (λ b. Defines b d.0 d.1) same ((first.denotes d.0 d.1).0 member) in
+    let defined = subst (λ b. Defines b d.0 d.1) same ((first.denotes d.0 d.1).0 ((collection-is (d ∷ []) (one_consistent d) d.0 d.1).1 (Contains-first d []))) in
     sym (only_member e d ((collection-is (e ∷ []) (one_consistent e) d.0 d.1).0 ((second.denotes d.0 d.1).1 defined)))

@@ -1,13 +1,18 @@
--- What an output has done at its end.
-use Rattle.dexcanon.proofs.Common.{◌≡◌, ℕ, List, [], ◌++◌, Bool, true, false, Result, Err, OnOk, IfErr, refl, sym, ap, subst, ◌∙◌, arith, append-nil, ◌↔◌, vec_len, nil_from_length}
+-- What an output has done at its end, and what a writer that failed has taken.
+use Rattle.dexcanon.proofs.Common.{◌≡◌, ℕ, List, ◌++◌, take, Result, Ok, Err, OnErr, [], Bool, true, false, OnOk, IfErr, refl, sym, ap, subst, ◌∙◌, arith, append-nil, ◌↔◌, vec_len, nil_from_length, TookPrefix, HasLeft, Adds, HasRoom, HasWritten, result_of}
 use Rattle.std.specs.Global.{Vec}
+use Rattle.dexcanon.specs.declared.targets.Writer.{Writer}
 use Rattle.dexcanon.specs.declared.faults.StoreFault.{StoreFault}
 use Rattle.dexcanon.specs.declared.faults.StoreFault.TheVariants.{Io}
 use Rattle.dexcanon.specs.declared.output.Out.{Out}
-use Rattle.dexcanon.specs.declared.targets.Writer.{Writer}
-use Rattle.dexcanon.specs.internal.Output.{Adds, HasRoom, HasWritten, result_of}
 use Rattle.dexcanon.specs.Took.{Took}
-use Rattle.dexcanon.specs.{TookPrefix, HasLeft}
+
+pub took_prefix : {W T E : Type 0} (reports : W → Type 0) (taken : W → List ℕ) (x : List ℕ) (old new : Writer W) (r : Result T E) → new.sink.ghost_name ≡ old.sink.ghost_name
+    → OnErr r (reports old.sink.now → (n : ℕ) × (taken new.sink.now ≡ taken old.sink.now ++ take n x)) → OnErr r (TookPrefix reports taken x old new)
+took_prefix reports taken x old new (Ok _) same p = tt
+took_prefix reports taken x old new (Err _) same p = record { same = same; some = p }
+
+-- ---- what an output has done at its end
 
 -- a vector without items
 no_items : (v : Vec ℕ) → vec_len v ≡ 0 → v.items ≡ []
@@ -16,10 +21,7 @@ no_items v e = nil_from_length v.items (omega (arith, v.ok.0, e))
 module _ {T : Type 0} {gives gives_prefix : List ℕ → T → T → Type 0} where
   -- what is buffered at the start counts as written
   pub begun : (out : Out T) → out.failed ≡ false → gives [] out.target out.target → HasWritten gives gives_prefix out.target out out.buffer.items
-  begun out fine nothing = record {
-    made = λ e. record { gone = []; given = nothing; joined = refl };
-    prefix = λ f. absurd (let never : false ≡ true = sym fine ∙ f in cc);
-  }
+  begun out fine nothing = record { made = λ e. record { gone = []; given = nothing; joined = refl }; prefix = λ f. absurd (let never : false ≡ true = sym fine ∙ f in cc) }
 
   -- all of it was flushed
   pub all_given : (start : T) (out : Out T) (m : List ℕ) → HasWritten gives gives_prefix start out m → out.failed ≡ false → vec_len out.buffer ≡ 0 → gives m start out.target

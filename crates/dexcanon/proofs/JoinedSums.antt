@@ -10,8 +10,7 @@ sums_reduced s [] h = h
 sums_reduced s (y ∷ ys) h = sums_reduced (adler_step s y) ys (omega arith, omega arith)
 
 -- sums that are D and E ahead stay so: the second by D more for each byte
-pub ahead : (ys : List ℕ) (s t : ℕ × ℕ) (D E : ℕ) → s.0 ≡ (t.0 + D) % 65521 → s.1 ≡ (t.1 + E) % 65521
-    → ((adler_sums s ys).0 ≡ ((adler_sums t ys).0 + D) % 65521) × ((adler_sums s ys).1 ≡ ((adler_sums t ys).1 + (E + length ys * D)) % 65521)
+pub ahead : (ys : List ℕ) (s t : ℕ × ℕ) (D E : ℕ) → s.0 ≡ (t.0 + D) % 65521 → s.1 ≡ (t.1 + E) % 65521 → ((adler_sums s ys).0 ≡ ((adler_sums t ys).0 + D) % 65521) × ((adler_sums s ys).1 ≡ ((adler_sums t ys).1 + (E + length ys * D)) % 65521)
 ahead [] s t D E first second = (first, second ∙ ap (λ n. (t.1 + n) % 65521) (let e : E ≡ E + 0 * D = omega arith in e))
 ahead (y ∷ ys) s t D E first second =
     let next = ahead ys (adler_step s y) (adler_step t y) D (E + D) (omega (arith, first)) (omega (arith, first, second)) in

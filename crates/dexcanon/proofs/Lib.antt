@@ -3,11 +3,5 @@ pub mod Buffered
 pub mod Digested
 pub mod JoinedSums
 pub mod Rows
-pub mod RowsOfClasses
-pub mod HeaderSums
-pub mod SymbolRows
-pub mod Taken
-pub mod Reported
-pub mod WholeBody
 pub mod WholeFile
 pub mod Finished

@@ -7,3 +7,7 @@ unfoldable pub use Digests.*
 unfoldable pub use Sums.*
 unfoldable pub use Took.*
 unfoldable pub use Written.*
+unfoldable pub use internal.Adding.*
+unfoldable pub use internal.ClassRows.*
+unfoldable pub use internal.Output.*
+unfoldable pub use internal.Ready.*

@@ -1,5 +1,4 @@
-use Rattle.dexcanon.proofs.Common.{◌≡◌, ◌++◌, length, map, flat_map}
-use Rattle.dexcanon.specs.{class_digest}
+use Rattle.dexcanon.proofs.Common.{◌≡◌, ◌++◌, length, map, flat_map, class_digest}
 use Rattle.dexcanon.proofs.digest.+put_digests.Given as goal
 
 abbrev pub decreases-put_digests : goal.decreases-put_digests

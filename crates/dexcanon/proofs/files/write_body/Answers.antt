@@ -1,6 +1,4 @@
-use Rattle.dexcanon.proofs.Common.{[], append-nil, subst}
-use Rattle.dexcanon.specs.internal.Adding.{after_header_of}
-use Rattle.dexcanon.specs.internal.Output.{Adds, adds_both}
+use Rattle.dexcanon.proofs.Common.{[], append-nil, subst, after_header_of, Adds, adds_both}
 use Rattle.dexcanon.proofs.files.write_body.Goals as goal
 
 pub returns-clause-adds : goal.returns-clause-adds

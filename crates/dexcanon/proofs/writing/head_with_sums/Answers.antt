@@ -1,13 +1,9 @@
-use Rattle.dexcanon.proofs.Common.{◌≡◌, [], ◌++◌, length, drop, refl, sym, ap, subst, ◌∙◌, arith, sha1, adler_32, adler_number, adler_sums, Head, StatesLayout, after_header, head_bytes, field_bytes, ordered_of}
-use Rattle.dexcanon.specs.internal.Adding.{signed_of}
-use Rattle.dexcanon.proofs.HeaderSums.{length_signed, summed}
-use Rattle.dexcanon.proofs.WholeFile.{length_after}
+use Rattle.dexcanon.proofs.Common.{◌≡◌, [], ◌++◌, length, drop, refl, sym, ap, subst, ◌∙◌, arith, sha1, adler_32, adler_number, adler_sums, Head, StatesLayout, after_header, head_bytes, field_bytes, ordered_of, signed_of}
+use Rattle.dexcanon.proofs.WholeFile.{length_signed, summed, length_after}
 use Rattle.dexcanon.proofs.writing.head_with_sums.Goals as goal
 
 pub overflow_sub-head : goal.overflow_sub-head
-overflow_sub-head c =
-    let ends = c.requires.ready.laid.head_states.file_ends in
-    omega (arith, length_after (ordered_of c.args.contents.now.numbering.now c.args.contents.now.classes.now), ends, ap (λ (h : Head). h.file_size) c.head-head.ensures)
+overflow_sub-head c = omega (arith, length_after (ordered_of c.args.contents.now.numbering.now c.args.contents.now.classes.now), c.requires.ready.laid.head_states.file_ends, ap (λ (h : Head). h.file_size) c.head-head.ensures)
 
 pub returns-clause-bytes : goal.returns-clause-bytes
 unfolding adler_32 field_bytes

@@ -1,6 +1,4 @@
-use Rattle.dexcanon.proofs.Common.{rules, ◌≡◌, ◌++◌, OnOk, IfErr, ap, subst, ◌∙◌, with_sums, unsigned_file, after_header}
-use Rattle.dexcanon.specs.internal.Ready.{ordered_in}
-use Rattle.dexcanon.specs.{HasLeft}
+use Rattle.dexcanon.proofs.Common.{rules, ◌≡◌, ◌++◌, OnOk, IfErr, ap, subst, ◌∙◌, with_sums, unsigned_file, after_header, HasLeft, ordered_in}
 use Rattle.dexcanon.proofs.writing.write_contents.Goals as goal
 use Rattle.dexcanon.proofs.writing.write_contents.Goals.{After-put_head}
 

@@ -1,7 +1,5 @@
-use Rattle.dexcanon.proofs.Common.{◌++◌, sym, ◌∙◌, after_header, ordered_of}
-use Rattle.dexcanon.specs.internal.Output.{HasWritten}
+use Rattle.dexcanon.proofs.Common.{◌++◌, sym, ◌∙◌, after_header, ordered_of, TookPrefix, took_nothing, HasWritten}
 use Rattle.dexcanon.specs.Took.{Took}
-use Rattle.dexcanon.specs.{TookPrefix, took_nothing}
 use Rattle.dexcanon.proofs.Finished.{begun, same_writer, written_whole, written_prefix, reported_failed}
 use Rattle.dexcanon.proofs.writing.write_through.Goals as goal
 use Rattle.dexcanon.proofs.writing.write_through.Goals.{After-write_body}
@@ -19,9 +17,7 @@ returns-clause-written g c =
     written_whole g.W.Sink.reports g.W.Sink.taken c.args.out.now.target c.write_body.new.out _ (written g (goal.at.returns-clause-written g c).After-write_body) c.result.result c.result.ensures c.write_body.ensures.empty
 
 pub returns-clause-left : goal.returns-clause-left
-returns-clause-left g c =
-    written_prefix g.W.Sink.reports g.W.Sink.taken c.args.out.now.target c.write_body.new.out _ (written g (goal.at.returns-clause-left g c).After-write_body) c.result.result c.result.ensures
+returns-clause-left g c = written_prefix g.W.Sink.reports g.W.Sink.taken c.args.out.now.target c.write_body.new.out _ (written g (goal.at.returns-clause-left g c).After-write_body) c.result.result c.result.ensures
 
 pub returns-clause-device : goal.returns-clause-device
-returns-clause-device g c =
-    reported_failed g.W.Sink.has_failed c.write_body.new.out (c.write_body.ensures.adds.reports (c.requires.works ∙ sym c.requires.fresh)) c.result.result c.result.ensures
+returns-clause-device g c = reported_failed g.W.Sink.has_failed c.write_body.new.out (c.write_body.ensures.adds.reports (c.requires.works ∙ sym c.requires.fresh)) c.result.result c.result.ensures

@@ -1,7 +1,6 @@
-use Rattle.dexcanon.proofs.Common.{◌<◌, length, sym, subst, ap, arith, rules, ◌∙◌, ranks_are_numbers, IsKnownClass}
-use Rattle.dexcanon.specs.internal.ClassRows.{class_row}
-use Rattle.dexcanon.proofs.RowsOfClasses.{count_class_rows, class_row_at, name_small, superclass_small, source_small}
-use Rattle.dexcanon.proofs.WholeBody.{texts_few}
+use Rattle.dexcanon.proofs.Common.{◌<◌, length, sym, subst, ap, arith, rules, ◌∙◌, ranks_are_numbers, IsKnownClass, class_row}
+use Rattle.dexcanon.proofs.Rows.{count_class_rows, class_row_at, name_small, superclass_small, source_small}
+use Rattle.dexcanon.proofs.WholeFile.{texts_few}
 use Rattle.dexcanon.proofs.class_defs.ClassDefsItemList.encode_item.Goals as goal
 use Rattle.dexcanon.proofs.class_defs.ClassDefsItemList.encode_item.Goals.{After-index-classes-i}
 
@@ -38,6 +37,5 @@ returns g c =
     let m = c.args.contents.now.numbering.now in
     let here = (goal.at.returns g c).After-index-classes-i in
     let class = c.index-classes-i.result in
-    let row = c.row_of-row.ensures ∙ ap (class_row class) c.of-offsets.ensures in
     let at = class_row_at m c.args.contents.now.classes.now c.args.i class (ranks_are_numbers m c.requires.ready.writable.numbering.rising) (known g here) (within g here) c.index-classes-i.is in
-    subst (λ bs. g.O.Output.gives bs c.args.out.now c.encode_numbers.new.out) (row ∙ sym at) c.encode_numbers.ensures
+    subst (λ bs. g.O.Output.gives bs c.args.out.now c.encode_numbers.new.out) ((c.row_of-row.ensures ∙ ap (class_row class) c.of-offsets.ensures) ∙ sym at) c.encode_numbers.ensures

@@ -1,5 +1,5 @@
 use Rattle.dexcanon.proofs.Common.{sym}
-use Rattle.dexcanon.proofs.RowsOfClasses.{count_class_rows}
+use Rattle.dexcanon.proofs.Rows.{count_class_rows}
 use Rattle.dexcanon.proofs.class_defs.ClassDefsItemList.len.Goals as goal
 
 pub returns : goal.returns

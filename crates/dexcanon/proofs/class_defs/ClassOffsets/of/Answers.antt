@@ -1,5 +1,5 @@
 use Rattle.dexcanon.proofs.Common.{◌≡◌, ◌+◌, ℕ, List, length, get_or, ap, arith, sym, ◌∙◌, uses_offsets, type_list_section, directory_section, class_data_section, array_section, ItemPlaces, EncodedItems, EncodedSharedItems, ordered_of}
-use Rattle.dexcanon.proofs.RowsOfClasses.{class_offsets_at, count_lists, count_directories, count_class_data, count_static_values}
+use Rattle.dexcanon.proofs.Rows.{class_offsets_at, count_lists, count_directories, count_class_data, count_static_values}
 use Rattle.dexcanon.proofs.class_defs.ClassOffsets.of.Goals as goal
 use Rattle.dexcanon.proofs.class_defs.ClassOffsets.of.Goals.{After-offsets-static_values}
 
@@ -28,8 +28,7 @@ bounds-directories-i c =
 
 pub bounds-class_data-i : goal.bounds-class_data-i
 bounds-class_data-i c =
-    let is = ap (λ (l : List ℕ). length l) (class_data_are (goal.at.bounds-class_data-i c).After-offsets-static_values) in
-    omega (arith, is, count_class_data c.args.contents.now.numbering.now c.args.contents.now.classes.now, c.requires.within)
+    omega (arith, ap (λ (l : List ℕ). length l) (class_data_are (goal.at.bounds-class_data-i c).After-offsets-static_values), count_class_data c.args.contents.now.numbering.now c.args.contents.now.classes.now, c.requires.within)
 
 pub bounds-static_values-i : goal.bounds-static_values-i
 bounds-static_values-i c =
@@ -39,8 +38,6 @@ bounds-static_values-i c =
 pub returns : goal.returns
 returns c =
     let here = (goal.at.returns c).After-offsets-static_values in
-    let m = c.args.contents.now.numbering.now in
-    let cs = c.args.contents.now.classes.now in
     let i = c.args.i in
     (λ k. (get_or (lists_are here k) (c.count.ensures k + i) 0, get_or (directories_are here k) i 0, get_or (class_data_are here k) i 0, get_or (static_values_are here k) i 0))
-    ∙ sym (class_offsets_at m cs i c.requires.within)
+    ∙ sym (class_offsets_at c.args.contents.now.numbering.now c.args.contents.now.classes.now i c.requires.within)

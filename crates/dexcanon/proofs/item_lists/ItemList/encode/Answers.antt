@@ -12,8 +12,7 @@ pub loop-i-preserved : goal.loop-i-preserved
 loop-i-preserved g c =
     let xs = g.Self.ItemList.items c.args.contents.now in
     let i = c.loop-i.i in
-    let lt : i < length xs = omega (arith, c.loop-i-test.true, c.len-i-end.ensures) in
-    completes_more g.O.Output.gives g.met.O.Output.both (get_or xs i []) (concat (drop (i + 1) xs)) (concat (drop i xs)) (concat xs) c.args.out.now c.loop-i.out c.encode_item.new.out (next_item xs i lt) c.loop-i.invariant c.encode_item.ensures
+    completes_more g.O.Output.gives g.met.O.Output.both (get_or xs i []) (concat (drop (i + 1) xs)) (concat (drop i xs)) (concat xs) c.args.out.now c.loop-i.out c.encode_item.new.out (next_item xs i (omega (arith, c.loop-i-test.true, c.len-i-end.ensures))) c.loop-i.invariant c.encode_item.ensures
 
 pub returns : goal.returns
 returns g c =

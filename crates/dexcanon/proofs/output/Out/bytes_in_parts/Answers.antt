@@ -1,5 +1,4 @@
-use Rattle.dexcanon.proofs.Common.{◌≡◌, ◌++◌, List, ℕ, [], length, sym, ap, ◌∙◌, arith, take-append-drop, length-take, common_steps, completes_none, completes_more, completes_all}
-use Rattle.dexcanon.specs.internal.Output.{Adds, adds_nothing, adds_both}
+use Rattle.dexcanon.proofs.Common.{◌≡◌, ◌++◌, [], sym, ◌∙◌, arith, take-append-drop, common_steps, completes_none, completes_more, completes_all, Adds, adds_nothing, adds_both}
 use Rattle.dexcanon.proofs.output.Out.bytes_in_parts.Goals as goal
 
 pub parts-init : goal.parts-init

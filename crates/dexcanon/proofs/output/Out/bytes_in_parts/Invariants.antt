@@ -1,5 +1,4 @@
-use Rattle.dexcanon.proofs.Common.{length, Completes}
-use Rattle.dexcanon.specs.internal.Output.{Adds}
+use Rattle.dexcanon.proofs.Common.{length, Completes, Adds}
 use Rattle.dexcanon.proofs.output.Out.bytes_in_parts.Given as goal
 
 -- a prefix was written, and the rest is left

@@ -1,4 +1,4 @@
-use Rattle.dexcanon.specs.internal.Output.{adds_nothing}
+use Rattle.dexcanon.proofs.Common.{adds_nothing}
 use Rattle.dexcanon.proofs.output.Out.make_room.Goals as goal
 
 pub returns-then-spare-ge-MOST_BYTES-clause-adds : goal.returns-then-spare-ge-MOST_BYTES-clause-adds

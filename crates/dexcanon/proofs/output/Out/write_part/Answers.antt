@@ -1,5 +1,4 @@
-use Rattle.dexcanon.proofs.Common.{◌≡◌, [], ◌++◌, List, ℕ, ap, arith, refl, nil_from_length}
-use Rattle.dexcanon.specs.internal.Output.{adds_both}
+use Rattle.dexcanon.proofs.Common.{◌≡◌, [], ◌++◌, List, ℕ, ap, arith, refl, nil_from_length, adds_both}
 use Rattle.dexcanon.proofs.Buffered.{dropped, flushed, flushed_first}
 use Rattle.dexcanon.proofs.output.Out.write_part.Goals as goal
 

@@ -1,5 +1,4 @@
-use Rattle.dexcanon.proofs.Common.{arith}
-use Rattle.dexcanon.specs.internal.Output.{adds_nothing}
+use Rattle.dexcanon.proofs.Common.{arith, adds_nothing}
 use Rattle.dexcanon.proofs.Buffered.{flushed_first}
 use Rattle.dexcanon.proofs.output.OutOutput.bytes.Goals as goal
 

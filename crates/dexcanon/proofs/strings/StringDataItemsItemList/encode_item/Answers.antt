@@ -3,8 +3,6 @@ use Rattle.dexcanon.proofs.strings.StringDataItemsItemList.encode_item.Goals as 
 
 pub returns : goal.returns
 returns g c =
-    let xs = c.args.contents.now.numbering.now.texts in
     let s = c.string.result.now in
-    let i = c.args.i in
     let is = c.string.ensures.is s in
-    subst (λ bs. g.O.Output.gives bs c.args.out.now c.encode.new.out) (sym (get_or-map string_data xs i s [] c.string.ensures.within ∙ ap string_data is)) c.encode.ensures
+    subst (λ bs. g.O.Output.gives bs c.args.out.now c.encode.new.out) (sym (get_or-map string_data c.args.contents.now.numbering.now.texts c.args.i s [] c.string.ensures.within ∙ ap string_data is)) c.encode.ensures

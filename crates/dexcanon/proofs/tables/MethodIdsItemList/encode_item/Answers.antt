@@ -1,21 +1,15 @@
 use Rattle.dexcanon.proofs.Common.{◌<◌, length, sym, subst, arith, length-map, method_row_bytes, ranks_are_numbers}
-use Rattle.dexcanon.proofs.SymbolRows.{method_row_at, no_method}
+use Rattle.dexcanon.proofs.Rows.{method_row_at, no_method}
 use Rattle.dexcanon.proofs.tables.MethodIdsItemList.encode_item.Goals as goal
 
 pub method-method-requires : goal.method-method-requires
 method-method-requires g c = omega (arith, c.requires.within, length-map c.args.contents.now.numbering.now.methods (method_row_bytes c.args.contents.now.numbering.now))
 
 pub encode_member-requires-clause-class_fits : goal.encode_member-requires-clause-class_fits
-encode_member-requires-clause-class_fits g c =
-    let writable = c.requires.ready.writable in
-    let numbers = c.method-method.ensures no_method in
-    omega (arith, numbers.class_is.within, writable.types_few)
+encode_member-requires-clause-class_fits g c = omega (arith, (c.method-method.ensures no_method).class_is.within, c.requires.ready.writable.types_few)
 
 pub encode_member-requires-clause-type_fits : goal.encode_member-requires-clause-type_fits
-encode_member-requires-clause-type_fits g c =
-    let writable = c.requires.ready.writable in
-    let numbers = c.method-method.ensures no_method in
-    omega (arith, numbers.proto_is.within, writable.protos_few)
+encode_member-requires-clause-type_fits g c = omega (arith, (c.method-method.ensures no_method).proto_is.within, c.requires.ready.writable.protos_few)
 
 pub returns : goal.returns
 returns g c =

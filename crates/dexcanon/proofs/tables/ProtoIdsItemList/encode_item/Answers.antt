@@ -1,6 +1,6 @@
 use Rattle.dexcanon.proofs.Common.{◌≡◌, ◌<◌, ℕ, List, [], length, get_or, ap, sym, subst, arith, ◌∙◌, zip_with, uses_offsets, proto_row_bytes, type_list_section, length-type_list_offsets, ItemPlaces, EncodedSharedItems, ordered_of, ranks_are_numbers}
-use Rattle.dexcanon.proofs.SymbolRows.{proto_row_at, no_proto}
-use Rattle.dexcanon.proofs.WholeBody.{count_proto_rows, texts_few}
+use Rattle.dexcanon.proofs.Rows.{proto_row_at, no_proto}
+use Rattle.dexcanon.proofs.WholeFile.{count_proto_rows, texts_few}
 use Rattle.dexcanon.proofs.tables.ProtoIdsItemList.encode_item.Goals as goal
 use Rattle.dexcanon.proofs.tables.ProtoIdsItemList.encode_item.Goals.{After-offsets-list_offs}
 

@@ -1,5 +1,5 @@
 use Rattle.dexcanon.proofs.Common.{sym, ◌∙◌}
-use Rattle.dexcanon.proofs.WholeBody.{count_proto_rows}
+use Rattle.dexcanon.proofs.WholeFile.{count_proto_rows}
 use Rattle.dexcanon.proofs.tables.ProtoIdsItemList.len.Goals as goal
 
 pub returns : goal.returns

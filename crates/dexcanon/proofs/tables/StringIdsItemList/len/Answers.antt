@@ -2,6 +2,4 @@ use Rattle.dexcanon.proofs.Common.{List, ℕ, length, ap, sym, ◌∙◌, length
 use Rattle.dexcanon.proofs.tables.StringIdsItemList.len.Goals as goal
 
 pub returns : goal.returns
-returns c =
-    let offsets = c.offsets.ensures ∙ ap (λ (p : ItemPlaces). p.offsets) c.strings.ensures ∙ c.requires.laid.strings_are.offsets_are in
-    ap (λ (l : List ℕ). length l) offsets ∙ sym (length-map _ uint)
+returns c = ap (λ (l : List ℕ). length l) (c.offsets.ensures ∙ ap (λ (p : ItemPlaces). p.offsets) c.strings.ensures ∙ c.requires.laid.strings_are.offsets_are) ∙ sym (length-map _ uint)

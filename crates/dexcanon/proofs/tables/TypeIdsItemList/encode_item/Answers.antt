@@ -1,6 +1,6 @@
 use Rattle.dexcanon.proofs.Common.{◌<◌, [], length, sym, subst, arith, length-map, ranks_are_numbers}
-use Rattle.dexcanon.proofs.SymbolRows.{type_row, type_row_at}
-use Rattle.dexcanon.proofs.WholeBody.{texts_few}
+use Rattle.dexcanon.proofs.Rows.{type_row, type_row_at}
+use Rattle.dexcanon.proofs.WholeFile.{texts_few}
 use Rattle.dexcanon.proofs.tables.TypeIdsItemList.encode_item.Goals as goal
 
 pub descriptor-row-requires : goal.descriptor-row-requires
@@ -12,5 +12,4 @@ overflow_cast-row g c = omega (arith, (c.descriptor-row.ensures []).within, text
 pub returns : goal.returns
 returns g c =
     let m = c.args.contents.now.numbering.now in
-    let lt : c.args.i < length m.types = omega (arith, c.requires.within, length-map m.types (type_row m)) in
-    subst (λ bs. g.O.Output.gives bs c.args.out.now c.u32.new.self) (sym (type_row_at m c.args.i c.descriptor-row.result [] (ranks_are_numbers m c.requires.ready.writable.numbering.rising) lt (c.descriptor-row.ensures []))) c.u32.ensures
+    subst (λ bs. g.O.Output.gives bs c.args.out.now c.u32.new.self) (sym (type_row_at m c.args.i c.descriptor-row.result [] (ranks_are_numbers m c.requires.ready.writable.numbering.rising) (omega (arith, c.requires.within, length-map m.types (type_row m))) (c.descriptor-row.ensures []))) c.u32.ensures

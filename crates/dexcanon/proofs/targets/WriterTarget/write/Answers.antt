@@ -1,5 +1,5 @@
 use Rattle.dexcanon.proofs.Common.{refl}
-use Rattle.dexcanon.proofs.Taken.{took_prefix}
+use Rattle.dexcanon.proofs.Finished.{took_prefix}
 use Rattle.dexcanon.proofs.targets.WriterTarget.write.Goals as goal
 
 pub returns-clause-prefix : goal.returns-clause-prefix

@@ -1,9 +1,6 @@
 -- For each type the class that it names, and the parents of a class, one element at a time.
-use Rattle.dexorder.proofs.Common.{◌≡◌, ℕ, ◌+◌, ◌<◌, List, [], ◌∷◌, ◌++◌, length, get_or, take, refl, sym, ap, ◌∙◌, subst, arith, inl, inr, length-take, map, Option, Some, None, IsSome, slice_set, cases_eq, cases_lt, get_or-set_same, get_or-set_other, take_more, length_push, get_or_append_left, get_or_push, append_assoc, map-append, length-map, present}
+use Rattle.dexorder.proofs.Common.{◌≡◌, ℕ, ◌+◌, ◌<◌, List, [], ◌∷◌, ◌++◌, length, get_or, take, refl, sym, ap, ◌∙◌, subst, arith, inl, inr, length-take, map, Option, Some, None, IsSome, slice_set, cases_eq, cases_lt, get_or-set_same, get_or-set_other, take_more, length_push, get_or_append_left, get_or_push, append_assoc, map-append, length-map, present, same_Some, present-append}
 use Rattle.dexorder.specs.{AreByType, classes_of_types}
-
-some_is : (m n : ℕ) → Some m ≡ Some n → m ≡ n
-some_is m n e = cc
 
 -- ---- one more class
 
@@ -21,8 +18,7 @@ module _ (names : List ℕ) (by_type : List (Option ℕ)) (name : ℕ) (h : AreB
   unfolding now
   some_more t i e = elim (cases_eq name t) [
     | inl same ↦
-        let is : Some (length names) ≡ Some i = sym (get_or-set_same by_type name (Some (length names)) None lt) ∙ ap (λ (k : ℕ). get_or now k None) same ∙ e in
-        let at : length names ≡ i = some_is (length names) i is in
+        let at : length names ≡ i = same_Some (length names) i (sym (get_or-set_same by_type name (Some (length names)) None lt) ∙ ap (λ (k : ℕ). get_or now k None) same ∙ e) in
         (omega (arith, at, length_push names name), subst (λ (k : ℕ). get_or (names ++ name ∷ []) k 0 ≡ t) at (last_is ∙ same))
     | inr other ↦
         let old = h.some t i (sym (get_or-set_other by_type name t (Some (length names)) None (λ x. other (sym x))) ∙ e) in
@@ -38,8 +34,7 @@ module _ (names : List ℕ) (by_type : List (Option ℕ)) (name : ℕ) (h : AreB
     ])
     | inr large ↦
         let at : length names ≡ i = omega (arith, less, large, length_push names name) in
-        subst (λ (k : ℕ). IsSome (get_or now (get_or (names ++ name ∷ []) k 0) None)) at
-        (subst (λ (k : ℕ). IsSome (get_or now k None)) (sym last_is) (subst IsSome (sym (get_or-set_same by_type name (Some (length names)) None lt)) refl))
+        subst (λ (k : ℕ). IsSome (get_or now (get_or (names ++ name ∷ []) k 0) None)) at (subst (λ (k : ℕ). IsSome (get_or now k None)) (sym last_is) (subst IsSome (sym (get_or-set_same by_type name (Some (length names)) None lt)) refl))
   ]
 
   by_type_more : AreByType (names ++ name ∷ []) (slice_set by_type name (Some (length names)))
@@ -53,15 +48,9 @@ by_type_next name_of cs by_type i name d lt h e less =
     let before = map name_of (take i cs) in
     let count : length before ≡ i = omega (arith, lt, length-take i cs, length-map (take i cs) name_of) in
     let all : map name_of (take (i + 1) cs) ≡ before ++ name ∷ [] = ap (map name_of) (take_more cs i d lt) ∙ map-append name_of (take i cs) (get_or cs i d ∷ []) ∙ ap (λ (n : ℕ). before ++ n ∷ []) (sym e) in
-    subst (λ (l : List ℕ). AreByType l (slice_set by_type name (Some i))) (sym all)
-    (subst (λ (k : ℕ). AreByType (before ++ name ∷ []) (slice_set by_type name (Some k))) count (by_type_more before by_type name h less))
+    subst (λ (l : List ℕ). AreByType l (slice_set by_type name (Some i))) (sym all) (subst (λ (k : ℕ). AreByType (before ++ name ∷ []) (slice_set by_type name (Some k))) count (by_type_more before by_type name h less))
 
 -- ---- one more parent
-
-pub present-append : (os ps : List (Option ℕ)) → present (os ++ ps) ≡ present os ++ present ps
-present-append [] ps = refl
-present-append (None ∷ os) ps = present-append os ps
-present-append (Some i ∷ os) ps = ap (λ (l : List ℕ). i ∷ l) (present-append os ps)
 
 pub parents_next : (by_type : List (Option ℕ)) (before types : List ℕ) (k d : ℕ) → k < length types → (old new : List ℕ) → old ≡ classes_of_types by_type (before ++ take k types) → new ≡ old ++ classes_of_types by_type (get_or types k d ∷ [])
     → new ≡ classes_of_types by_type (before ++ take (k + 1) types)
@@ -72,9 +61,3 @@ parents_next by_type before types k d lt old new e pushed =
     ∙ sym (present-append (map f (before ++ take k types)) (f (get_or types k d) ∷ []))
     ∙ ap present (sym (map-append f (before ++ take k types) (get_or types k d ∷ [])))
     ∙ ap (λ (l : List ℕ). present (map f l)) (sym all)
-
--- ---- one function after another
-
-pub map-after : {A B C : Type 0} (f : A → B) (g : B → C) (xs : List A) → map (λ x. g (f x)) xs ≡ map g (map f xs)
-map-after f g [] = refl
-map-after f g (x ∷ xs) = ap (λ l. g (f x) ∷ l) (map-after f g xs)

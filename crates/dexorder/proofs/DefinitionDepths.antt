@@ -1,16 +1,9 @@
 -- The depths of numbered classes are those of the definitions that they number.
-use Rattle.dexorder.proofs.Common.{◌≡◌, ℕ, zero, suc, ◌<◌, Bool, true, false, List, [], length, map, get_or, Option, Some, None, refl, sym, ap, ◌∙◌, subst, arith, All, IsSome, get_or_default, All-from_get_or, Contains-get_or, Text, same_text, Definition, is_defined, above, is_below, HasDepth, IsAcyclic, depth, list_all-member, list_all-from_members, list_any-member, Contains-map, is_defined-name, depth-is, Contains-map_source, map-length}
+use Rattle.dexorder.proofs.Common.{◌≡◌, ℕ, zero, suc, ◌<◌, true, false, List, [], length, map, get_or, Option, Some, None, refl, sym, ap, ◌∙◌, subst, arith, All, IsSome, get_or_default, All-from_get_or, Contains-get_or, Text, same_text, Definition, is_defined, above, is_below, HasDepth, IsAcyclic, depth, list_all-member, list_all-from_members, list_any-member, Contains-map, is_defined-name, depth-is, Contains-map_source, map-length, same_from_decides, Decides-eqb}
 use Rattle.std.proofs.lemmas.Slice.Eq.{slice_eq-Decides}
-use Rattle.std.proofs.lemmas.Bool.Decides.{Decides-eqb}
 use Rattle.dexspec.specs.Merging.{IsCycle}
 use Rattle.dexorder.specs.{parents_of, is_under, IsDepth, HasNone, IsDepthOrNone, AreDepths, name_at, AreClassesOf}
 use Rattle.dexorder.proofs.DepthLaws.{less_than, parent_within}
-
--- two tests that imply each other are equal
-same_tests : (a b : Bool) → (a ≡ true → b ≡ true) → (b ≡ true → a ≡ true) → a ≡ b
-same_tests true b f g = sym (f refl)
-same_tests false true f g = g refl
-same_tests false false f g = refl
 
 -- equal texts are the same
 pub same_from_equal : (s t : Text) → s ≡ t → same_text s t ≡ true
@@ -22,13 +15,11 @@ module _ (D : List Definition) (classes : List (List ℕ)) (h : AreClassesOf D c
   same_under zero i lt = refl
   same_under (suc n) i lt =
       let both = h.parents i lt in
-      same_tests (is_under classes (suc n) i) (is_below D (suc n) (name_at D i))
-      (λ e. list_all-from_members (is_below D n) (above D (name_at D i)) (λ name c.
+      same_from_decides (is_under classes (suc n) i) (is_below D (suc n) (name_at D i)) (λ e. list_all-from_members (is_below D n) (above D (name_at D i)) (λ name c.
       let s = Contains-map_source (name_at D) (parents_of classes i) name ((both name).1 c) in
-      ap (is_below D n) (sym s.2) ∙ sym (same_under n s.0 (parent_within classes h.within i s.0 lt s.1)) ∙ list_all-member (is_under classes n) (parents_of classes i) s.0 e s.1))
-      (λ e. list_all-from_members (is_under classes n) (parents_of classes i) (λ p c.
+      ap (is_below D n) (sym s.2) ∙ sym (same_under n s.0 (parent_within classes h.within i s.0 lt s.1)) ∙ list_all-member (is_under classes n) (parents_of classes i) s.0 e s.1), λ e. list_all-from_members (is_under classes n) (parents_of classes i) (λ p c.
       same_under n p (parent_within classes h.within i p lt c)
-      ∙ list_all-member (is_below D n) (above D (name_at D i)) (name_at D p) e ((both (name_at D p)).0 (Contains-map (name_at D) (parents_of classes i) p c))))
+      ∙ list_all-member (is_below D n) (above D (name_at D i)) (name_at D p) e ((both (name_at D p)).0 (Contains-map (name_at D) (parents_of classes i) p c)))) (λ e. e, λ e. e)
 
   -- if a class has a depth, its definition has the same depth
   pub has_depth : (i d : ℕ) → i < length classes → IsDepth classes i d → HasDepth D (name_at D i)
@@ -38,9 +29,7 @@ module _ (D : List Definition) (classes : List (List ℕ)) (h : AreClassesOf D c
   same_depth i d lt k =
       let own = depth-is D (name_at D i) (has_depth i d lt k) in
       let e = depth D (name_at D i) in
-      let le = less_than classes d (suc e) i k.not_under (same_under (suc e) i lt ∙ own.below) in
-      let ge = less_than classes e (suc d) i (same_under e i lt ∙ own.not_below) k.under in
-      omega (arith, le, ge)
+      omega (arith, less_than classes d (suc e) i k.not_under (same_under (suc e) i lt ∙ own.below), less_than classes e (suc d) i (same_under e i lt ∙ own.not_below) k.under)
 
   -- ---- classes without a depth
 

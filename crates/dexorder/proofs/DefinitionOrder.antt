@@ -1,7 +1,6 @@
 -- The order of numbered classes is that of the definitions that they number.
-use Rattle.dexorder.proofs.Common.{◌≡◌, ◌≢◌, ◌⊎◌, ℕ, ◌+◌, ◌<◌, true, List, [], ◌∷◌, length, map, get_or, Option, Some, None, Ordering, Less, Equal, Greater, refl, sym, ap, ◌∙◌, subst, arith, inl, inr, All, Contains, range_with_len, IsPermutation, IsSome, unwrap_or, nat_cmp, ordering_then, ordering_reverse, MatchOrdering, IsTotalOrder, ranked, nat_cmp_total, on_total, then_total, get_or_default, get_or-map, Contains-get_or, get_or-range_with_len, length-range_with_len, Contains-permutation, IsPermutation-sym, AreDistinct, rises, Text, text_cmp, Definition, depth, place_cmp, in_class_order, AreAmong, Contains-first, Contains-later, Contains-map, Contains-map_source, class_place as definition_place, in_class_order-only, in_class_order-has, class_places-rise, map-length}
+use Rattle.dexorder.proofs.Common.{◌≡◌, ◌≢◌, ℕ, ◌+◌, ◌<◌, true, List, [], ◌∷◌, length, map, get_or, Option, Some, None, Ordering, Less, Equal, Greater, refl, sym, ap, ◌∙◌, subst, arith, All, Contains, range_with_len, IsPermutation, IsSome, unwrap_or, nat_cmp, ordering_then, ordering_reverse, MatchOrdering, IsTotalOrder, ranked, nat_cmp_total, on_total, then_total, get_or_default, get_or-map, Contains-get_or, get_or-range_with_len, length-range_with_len, Contains-permutation, IsPermutation-sym, AreDistinct, rises, Text, text_cmp, Definition, depth, place_cmp, in_class_order, AreAmong, Contains-first, Contains-later, Contains-map, Contains-map_source, class_place as definition_place, in_class_order-only, in_class_order-has, class_places-rise, map-length, text_total, text_exact}
 use Rattle.dexspec.proofs.lists.InOrder.{Rises, Rises-from_rises, Rises-same}
-use Rattle.dexspec.proofs.merge.SymbolOrders.{text_total, text_exact}
 use Rattle.dexorder.specs.{IsDepthOrNone, AreDepths, class_place, class_cmp, name_at, AreClassesOf, AreDepthsOf, AreNamesOf}
 use Rattle.dexorder.proofs.DepthLaws.{Contains-range}
 use Rattle.dexorder.proofs.DefinitionDepths.{same_depth}
@@ -12,21 +11,14 @@ use Rattle.dexorder.proofs.PlaceLaws.{class_total}
 place_total : IsTotalOrder place_cmp
 place_total = then_total (on_total (λ (x : ℕ × Text). x.0) nat_cmp_total) (on_total (λ (x : ℕ × Text). x.1) text_total)
 
--- less by two orders: less by the first, or equal by the first and less by the second
-less_cases : (a b : Ordering) → ordering_then a b ≡ Less → (a ≡ Less) ⊎ ((a ≡ Equal) × (b ≡ Less))
-less_cases Less b e = inl refl
-less_cases Equal b e = inr (refl, e)
-less_cases Greater b e = absurd cc
-
 less_number : (m n : ℕ) → nat_cmp m n ≡ Less → m < n
 less_number m n e = subst (λ o. MatchOrdering o (m < n) (m ≡ n) (n < m)) e (ranked m n (nat_cmp m n) refl)
 
 -- less by the same first order and a second that implies the other
 less_along : (a b c : Ordering) → (b ≡ Less → c ≡ Less) → ordering_then a b ≡ Less → ordering_then a c ≡ Less
-less_along a b c f e = elim (less_cases a b e) [
-  | inl l ↦ ap (λ o. ordering_then o c) l
-  | inr t ↦ ap (λ o. ordering_then o c) t.0 ∙ f t.1
-]
+less_along Less b c f e = refl
+less_along Equal b c f e = f e
+less_along Greater b c f e = absurd cc
 
 -- a rising list of numbers that is mapped to another order
 Rises-along : {X Y : Type 0} (R : X → X → Ordering) (S : Y → Y → Ordering) (f : ℕ → X) (g : ℕ → Y) (ks : List ℕ) → ((i j : ℕ) → Contains ks i → Contains ks j → R (f i) (f j) ≡ Less → S (g i) (g j) ≡ Less) → Rises R (map f ks) → Rises S (map g ks)
@@ -38,12 +30,12 @@ Rises-along R S f g (k ∷ ks) h r = (
 )
 
 -- a rising list that was mapped
-Rises-mapped : {X Y : Type 0} (R : Y → Y → Ordering) (f : X → Y) (xs : List X) → Rises R (map f xs) → Rises (λ x y. R (f x) (f y)) xs
+pub Rises-mapped : {X Y : Type 0} (R : Y → Y → Ordering) (f : X → Y) (xs : List X) → Rises R (map f xs) → Rises (λ x y. R (f x) (f y)) xs
 Rises-mapped R f [] r = tt
 Rises-mapped R f (x ∷ xs) r = (λ y c. r.0 (f y) (Contains-map f xs y c), Rises-mapped R f xs r.1)
 
 -- a number of the range is below its end
-range_below : (n i : ℕ) → Contains (range_with_len 0 n) i → i < n
+pub range_below : (n i : ℕ) → Contains (range_with_len 0 n) i → i < n
 range_below n i c =
     let lt : c.0 < length (range_with_len 0 n) = c.1 in
     let less : c.0 < n = omega (arith, lt, length-range_with_len 0 n) in
@@ -70,10 +62,10 @@ module _ (D : List Definition) (names : List ℕ) (h : AreNamesOf D names) where
 -- ---- the order of definitions
 
 -- definitions by depth and name
-abbrev definition_cmp : List Definition → Definition → Definition → Ordering
+abbrev pub definition_cmp : List Definition → Definition → Definition → Ordering
 definition_cmp D x y = place_cmp (definition_place D x) (definition_place D y)
 
-definition_total : (D : List Definition) → IsTotalOrder (definition_cmp D)
+pub definition_total : (D : List Definition) → IsTotalOrder (definition_cmp D)
 definition_total D = on_total (definition_place D) place_total
 
 -- if each class has a depth, the depths are those of the definitions

@@ -1,5 +1,5 @@
 -- Bounds on depths, and that each depth is less than the number of classes.
-use Rattle.dexorder.proofs.Common.{◌≡◌, ℕ, zero, suc, ◌+◌, ◌<◌, ◌≤◌, Bool, true, false, ◌&&◌, cond, List, [], ◌∷◌, length, count_by, refl, ap, ◌∙◌, subst, arith, inl, inr, All, Contains, list_all, range_with_len, cases_lt, All-contains, All-get_or, length-range_with_len, sum_by-cons, count_by-le-length, Contains-nil, Contains-first, Contains-later, Contains-cons_cases, list_all-member, list_all-from_members}
+use Rattle.dexorder.proofs.Common.{◌≡◌, ℕ, zero, suc, ◌+◌, ◌<◌, ◌≤◌, Bool, true, false, List, [], ◌∷◌, length, refl, ap, ◌∙◌, subst, arith, inl, inr, All, Contains, list_all, range_with_len, cases_lt, All-contains, All-get_or, length-range_with_len, Contains-nil, Contains-first, Contains-later, Contains-cons_cases, list_all-member, list_all-from_members, cases_Bool, both_ways, true_from_ne_false, list_all_at, length-among, some_or_none, AreDistinct-cons, AreDistinct}
 use Rattle.dexorder.specs.{parents_of, is_under, AreWithin, IsDepth, HasNone}
 
 module _ (classes : List (List ℕ)) where
@@ -27,46 +27,16 @@ module _ (classes : List (List ℕ)) where
   pub one_depth : (i d e : ℕ) → IsDepth classes i d → IsDepth classes i e → d ≡ e
   one_depth i d e h k = omega (arith, less_than d (suc e) i h.not_under k.under, less_than e (suc d) i k.not_under h.under)
 
--- ---- the bound
+-- if a member fails a test, not all members pass it
+pub list_all-fails : {X : Type 0} (p : X → Bool) (xs : List X) (x : X) → Contains xs x → p x ≡ false → list_all p xs ≡ false
+list_all-fails p xs x c e = list_all_at p xs c.0 x c.1 (ap p c.2 ∙ e)
 
 -- if not all elements pass a test, one fails it
-pub not_all : {X : Type 0} (p : X → Bool) (xs : List X) → list_all p xs ≡ false → (x : X) × Contains xs x × (p x ≡ false)
-not_all p [] e = absurd cc
-not_all {X} p (x ∷ xs) e = by (p x) refl (not_all p xs) e
-  where
-    by : (b : Bool) → p x ≡ b → (list_all p xs ≡ false → (y : X) × Contains xs y × (p y ≡ false)) → (b && list_all p xs) ≡ false → (y : X) × Contains (x ∷ xs) y × (p y ≡ false)
-    by true f again e = let s = again e in (s.0, Contains-later x s.0 xs s.1, s.2)
-    by false f again e = (x, Contains-first x xs, f)
-
-module _ {X : Type 0} where
-  -- the first counts if it passes
-  count-cons : (p : X → Bool) (x : X) (xs : List X) (b : Bool) → p x ≡ b → count_by p (x ∷ xs) ≡ cond b 1 0 + count_by p xs
-  count-cons p x xs b e = sum_by-cons (λ y. cond (p y) 1 0) x xs ∙ ap (λ c. cond c 1 0 + count_by p xs) e
-
-  -- a weaker test passes no fewer elements
-  no_fewer : (p q : X → Bool) → ((x : X) → p x ≡ true → q x ≡ true) → (xs : List X) → count_by p xs ≤ count_by q xs
-  no_fewer p q w [] = omega arith
-  no_fewer p q w (x ∷ xs) = by (p x) (q x) refl refl (no_fewer p q w xs)
-    where
-      by : (a b : Bool) → p x ≡ a → q x ≡ b → count_by p xs ≤ count_by q xs → count_by p (x ∷ xs) ≤ count_by q (x ∷ xs)
-      by true true e f le = omega (arith, count-cons p x xs true e, count-cons q x xs true f)
-      by true false e f le = absurd (let t = w x e in cc)
-      by false true e f le = omega (arith, count-cons p x xs false e, count-cons q x xs true f)
-      by false false e f le = omega (arith, count-cons p x xs false e, count-cons q x xs false f)
-
-  -- it passes more, if one element passes it alone
-  more : (p q : X → Bool) → ((x : X) → p x ≡ true → q x ≡ true) → (xs : List X) (y : X) → Contains xs y → p y ≡ false → q y ≡ true → count_by p xs < count_by q xs
-  more p q w [] y c e f = absurd (Contains-nil y c)
-  more p q w (x ∷ xs) y c e f = elim (Contains-cons_cases x y xs c) [
-    | inl s ↦ omega (arith, no_fewer p q w xs, count-cons p x xs false (ap p s ∙ e), count-cons q x xs true (ap q s ∙ f))
-    | inr l ↦ by (p x) (q x) refl refl (more p q w xs y l e f)
-  ]
-    where
-      by : (a b : Bool) → p x ≡ a → q x ≡ b → count_by p xs < count_by q xs → count_by p (x ∷ xs) < count_by q (x ∷ xs)
-      by true true e f lt = omega (arith, count-cons p x xs true e, count-cons q x xs true f)
-      by true false e f lt = absurd (let t = w x e in cc)
-      by false true e f lt = omega (arith, count-cons p x xs false e, count-cons q x xs true f)
-      by false false e f lt = omega (arith, count-cons p x xs false e, count-cons q x xs false f)
+not_all : {X : Type 0} (p : X → Bool) (xs : List X) → list_all p xs ≡ false → (x : X) × Contains xs x × (p x ≡ false)
+not_all p xs e = elim (some_or_none (λ x. p x ≡ false) xs (λ x. elim (cases_Bool (p x)) [ inl t ↦ inr (λ f. both_ways (p x) f t) | inr f ↦ inl f ])) [
+  | inl s ↦ s
+  | inr none ↦ absurd (both_ways (list_all p xs) e (list_all-from_members p xs (λ x c. true_from_ne_false (p x) (none x c))))
+]
 
 -- a number of a range
 pub Contains-range : (a n i : ℕ) → a ≤ i → i < a + n → Contains (range_with_len a n) i
@@ -76,47 +46,16 @@ Contains-range a (suc n) i le lt = elim (cases_lt a i) [
   | inr g ↦ let e : a ≡ i = omega arith in subst (Contains (range_with_len a (suc n))) e (Contains-first a (range_with_len (a + 1) n))
 ]
 
-module _ (classes : List (List ℕ)) (within : AreWithin classes) where
-  -- a parent of a class is a class
-  pub parent_within : (i p : ℕ) → i < length classes → Contains (parents_of classes i) p → p < length classes
-  parent_within i p lt c = All-contains (λ k. k < length classes) (parents_of classes i) p (All-get_or (All (λ k. k < length classes)) classes i [] lt within) c
-
-  -- each lesser depth is that of some class
-  lesser : (d k i : ℕ) → k ≤ d → i < length classes → IsDepth classes i d → (j : ℕ) × (j < length classes) × IsDepth classes j k
-  lesser zero k i le lt h = let z : zero ≡ k = omega arith in (i, lt, subst (IsDepth classes i) z h)
-  lesser (suc d) k i le lt h = elim (cases_lt k (suc d)) [
-    | inl less ↦
-        let s = not_all (is_under classes d) (parents_of classes i) h.not_under in
-        lesser d k s.0 (omega arith) (parent_within i s.0 lt s.1) (record { under = list_all-member (is_under classes (suc d)) (parents_of classes i) s.0 h.under s.1; not_under = s.2 })
-    | inr ge ↦ let z : suc d ≡ k = omega arith in (i, lt, subst (IsDepth classes i) z h)
-  ]
-
-  -- so at least k classes have a depth below k
-  counted : (d i k : ℕ) → i < length classes → IsDepth classes i d → k ≤ suc d → k ≤ count_by (is_under classes k) (range_with_len 0 (length classes))
-  counted d i zero lt h le = omega arith
-  counted d i (suc k) lt h le =
-      let s = lesser d k i (omega arith) lt h in
-      let all = range_with_len 0 (length classes) in
-      let grown = more (is_under classes k) (is_under classes (suc k)) (is_under-suc classes k) all s.0 (Contains-range 0 (length classes) s.0 (omega arith) (omega (arith, s.1))) s.2.not_under s.2.under in
-      omega (arith, grown, counted d i k lt h (omega arith))
-
-  -- a depth is less than the number of classes
-  pub depth_less : (i d : ℕ) → i < length classes → IsDepth classes i d → d < length classes
-  depth_less i d lt h =
-      let all = range_with_len 0 (length classes) in
-      omega (arith, counted d i (suc d) lt h (omega arith), count_by-le-length (is_under classes (suc d)) all, length-range_with_len 0 (length classes))
-
 -- ---- parents
 
 module _ (classes : List (List ℕ)) where
   -- a class that is under n has a depth below n
   least : (n i : ℕ) → is_under classes n i ≡ true → (d : ℕ) × IsDepth classes i d × (d < n)
   least zero i e = absurd cc
-  least (suc n) i e = by (is_under classes n i) refl (least n i)
-    where
-      by : (b : Bool) → is_under classes n i ≡ b → (is_under classes n i ≡ true → (d : ℕ) × IsDepth classes i d × (d < n)) → (d : ℕ) × IsDepth classes i d × (d < suc n)
-      by true f again = let s = again f in (s.0, s.1, omega (arith, s.2))
-      by false f again = (n, record { under = e; not_under = f }, omega arith)
+  least (suc n) i e = elim (cases_Bool (is_under classes n i)) [
+    | inl f ↦ let s = least n i f in (s.0, s.1, omega (arith, s.2))
+    | inr f ↦ (n, record { under = e; not_under = f }, omega arith)
+  ]
 
   -- a parent has a lesser depth
   pub parent_less : (i p d : ℕ) → IsDepth classes i d → Contains (parents_of classes i) p → (e : ℕ) × IsDepth classes p e × (e < d)
@@ -131,8 +70,31 @@ module _ (classes : List (List ℕ)) where
   -- a class with a parent that has no depth has none
   pub parent_none : (i p : ℕ) → Contains (parents_of classes i) p → HasNone classes p → HasNone classes i
   parent_none i p c none zero = refl
-  parent_none i p c none (suc n) = by (is_under classes (suc n) i) refl
-    where
-      by : (b : Bool) → is_under classes (suc n) i ≡ b → is_under classes (suc n) i ≡ false
-      by true e = absurd (let t = list_all-member (is_under classes n) (parents_of classes i) p e c in let u = none n in cc)
-      by false e = e
+  parent_none i p c none (suc n) = list_all-fails (is_under classes n) (parents_of classes i) p c (none n)
+
+module _ (classes : List (List ℕ)) (within : AreWithin classes) where
+  -- a parent of a class is a class
+  pub parent_within : (i p : ℕ) → i < length classes → Contains (parents_of classes i) p → p < length classes
+  parent_within i p lt c = All-contains (λ k. k < length classes) (parents_of classes i) p (All-get_or (All (λ k. k < length classes)) classes i [] lt within) c
+
+  -- d classes have less than depth d, if a class has it
+  lesser : (d i : ℕ) → i < length classes → IsDepth classes i d → (xs : List ℕ) × (length xs ≡ d) × AreDistinct xs × ((x : ℕ) → Contains xs x → (x < length classes) × (is_under classes d x ≡ true))
+  lesser zero i lt h = ([], refl, λ k j z l m. absurd (omega arith), λ x c. absurd (Contains-nil x c))
+  lesser (suc d) i lt h =
+      let s = parent_greatest classes i d h in
+      let less = parent_within i s.0 lt s.1 in
+      let r = lesser d s.0 less s.2 in
+      (s.0 ∷ r.0, ap suc r.1, AreDistinct-cons s.0 r.0 (λ c. both_ways (is_under classes d s.0) s.2.not_under (r.3 s.0 c).1) r.2, λ x c. elim (Contains-cons_cases s.0 x r.0 c) [
+        | inl e ↦ subst (λ y. (y < length classes) × (is_under classes (suc d) y ≡ true)) e (less, s.2.under)
+        | inr l ↦ ((r.3 x l).0, is_under-suc classes d x (r.3 x l).1)
+      ])
+
+  -- so a depth is less than the number of classes
+  pub depth_less : (i d : ℕ) → i < length classes → IsDepth classes i d → d < length classes
+  depth_less i d lt h =
+      let r = lesser d i lt h in
+      let all = AreDistinct-cons i r.0 (λ c. both_ways (is_under classes d i) h.not_under (r.3 i c).1) r.2 in
+      omega (arith, r.1, length-range_with_len 0 (length classes), length-among (i ∷ r.0) (range_with_len 0 (length classes)) all (λ x c. elim (Contains-cons_cases i x r.0 c) [
+        | inl e ↦ Contains-range 0 (length classes) x (omega arith) (omega (arith, e))
+        | inr l ↦ Contains-range 0 (length classes) x (omega arith) (omega (arith, (r.3 x l).0))
+      ]))

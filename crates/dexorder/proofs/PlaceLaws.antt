@@ -1,5 +1,5 @@
 -- Places of classes that are put in order.
-use Rattle.dexorder.proofs.Common.{◌≡◌, ◌≢◌, ℕ, suc, ◌<◌, Bool, true, false, eqb, List, [], ◌∷◌, length, map, get_or, Option, Ordering, Less, Equal, Greater, refl, sym, ap, ◌∙◌, subst, arith, inl, inr, All, add-one, IsDistinct, range_with_len, IsPermutation, IsSorted, nat_cmp, ordering_then, ordering_reverse, is_lt, MatchOrdering, IsTotalOrder, ranked, nat_cmp_total, on_total, then_total, cases_eq, ne_eqb, eqb-false, get_or-map, get_or-map-range_with_len, length-map-range_with_len, All-head, All-tail, All-map, IsPermutation-map, All-permutation, AreDistinct, rises, and_both, map-length}
+use Rattle.dexorder.proofs.Common.{◌≡◌, ◌≢◌, ℕ, suc, ◌<◌, Bool, true, false, eqb, List, [], ◌∷◌, length, map, get_or, Option, Ordering, Less, Equal, Greater, refl, sym, ap, ◌∙◌, subst, arith, All, add-one, IsDistinct, range_with_len, IsPermutation, IsSorted, nat_cmp, ordering_then, ordering_reverse, is_lt, IsTotalOrder, nat_cmp_total, on_total, then_total, ne_eqb, eqb-false, get_or-map, get_or-map-range_with_len, length-map-range_with_len, All-head, All-tail, All-map, IsPermutation-map, All-permutation, AreDistinct, rises, and_both, map-length, nat_eq_equiv, exact_unsigned, both_tie}
 use Rattle.std.proofs.lemmas.Map.Keys.{IsDistinct-from_apart, IsDistinct-IsPermutation, apart_from_distinct}
 use Rattle.dexorder.specs.declared.order.Place.{Place}
 use Rattle.dexorder.specs.{class_place, class_cmp, place_of}
@@ -16,23 +16,15 @@ rises_adjacent R (x ∷ y ∷ ys) h =
 pub class_total : IsTotalOrder class_cmp
 class_total = then_total (on_total (λ (p : ℕ × ℕ). p.0) nat_cmp_total) (on_total (λ (p : ℕ × ℕ). p.1) nat_cmp_total)
 
--- different numbers are not equal by order
-unequal : (m n : ℕ) → m ≢ n → nat_cmp m n ≢ Equal
-unequal m n ne e = ne (subst (λ o. MatchOrdering o (m < n) (m ≡ n) (n < m)) e (ranked m n (nat_cmp m n) refl))
-
 -- if the second order decides, the third does not count
 third_unasked : (a b c : Ordering) → b ≢ Equal → ordering_then a (ordering_then b c) ≡ ordering_then a b
-third_unasked Less b c h = refl
-third_unasked Greater b c h = refl
-third_unasked Equal Less c h = refl
-third_unasked Equal Greater c h = refl
 third_unasked Equal Equal c h = absurd (h refl)
+third_unasked Equal Less c h = refl
+third_unasked _ _ c h = refl
 
 -- equal by both orders is equal by the second
 tied_second : (a b : Ordering) → ordering_then a b ≡ Equal → b ≡ Equal
-tied_second Less b e = absurd cc
-tied_second Equal b e = e
-tied_second Greater b e = absurd cc
+tied_second a b e = (both_tie a b e).1
 
 -- neither less nor equal is greater
 greater : (o : Ordering) → is_lt o ≡ false → o ≢ Equal → o ≡ Greater
@@ -54,21 +46,14 @@ place_cmp x y = ordering_then (nat_cmp x.depth y.depth) (ordering_then (nat_cmp 
 pair_less : (x y : Place) → x.name ≢ y.name → is_lt (place_cmp y x) ≡ false → class_cmp (pair x) (pair y) ≡ Less
 unfolding pair
 pair_less x y ne e =
-    let apart : nat_cmp y.name x.name ≢ Equal = unequal y.name x.name (λ same. ne (sym same)) in
+    let apart : nat_cmp y.name x.name ≢ Equal = λ tie. ne (sym (exact_unsigned y.name x.name tie)) in
     let by_two = third_unasked (nat_cmp y.depth x.depth) (nat_cmp y.name x.name) (nat_cmp y.class x.class) apart in
     let more : class_cmp (pair y) (pair x) ≡ Greater = greater (class_cmp (pair y) (pair x)) (ap is_lt (sym by_two) ∙ e) (λ tie. apart (tied_second (nat_cmp y.depth x.depth) (nat_cmp y.name x.name) tie)) in
     class_total.antisymm (pair x) (pair y) ∙ ap ordering_reverse more
 
 -- the test of two names
-same_name : Place → Place → Bool
+abbrev same_name : Place → Place → Bool
 same_name x y = eqb x.name y.name
-
-flips : (x y : Place) → same_name x y ≡ same_name y x
-unfolding same_name
-flips x y = elim (cases_eq x.name y.name) [
-  | inl e ↦ ap (λ n. eqb n y.name) e ∙ ap (eqb y.name) (sym e)
-  | inr ne ↦ ne_eqb x.name y.name ne ∙ sym (ne_eqb y.name x.name (λ e. ne (sym e)))
-]
 
 module _ (depths : List (Option ℕ)) (names : List ℕ) where
   -- the place is that of its class
@@ -99,7 +84,6 @@ module _ (depths : List (Option ℕ)) (names : List ℕ) where
 
   -- the names of places are distinct
   names_apart : (n : ℕ) → length names ≡ n → AreDistinct names → IsDistinct same_name (map (place_of depths names) (range_with_len 0 n))
-  unfolding same_name
   names_apart n len distinct =
       IsDistinct-from_apart same_name (map (place_of depths names) (range_with_len 0 n)) (λ i j d ij lt.
       let less : j < n = omega (arith, lt, length-map-range_with_len (place_of depths names) 0 n) in
@@ -110,10 +94,9 @@ module _ (depths : List (Option ℕ)) (names : List ℕ) where
 
   -- in order they rise
   pub classes_rise : (n : ℕ) (xs ys : List Place) → length names ≡ n → AreDistinct names → xs ≡ map (place_of depths names) (range_with_len 0 n) → IsPermutation xs ys → IsSorted place_cmp ys → rises class_cmp (map (class_place depths names) (map (λ (p : Place). p.class) ys)) ≡ true
-  unfolding same_name
   classes_rise n xs ys len distinct e h sorted =
       let start : IsDistinct same_name xs = subst (IsDistinct same_name) (sym e) (names_apart n len distinct) in
-      let apart : IsDistinct same_name ys = IsDistinct-IsPermutation same_name flips xs ys h start in
+      let apart : IsDistinct same_name ys = IsDistinct-IsPermutation same_name (λ x y. nat_eq_equiv.symm x.name y.name) xs ys h start in
       let places : All IsPlace ys = All-permutation IsPlace xs ys h (subst (All IsPlace) (sym e) (are_places (range_with_len 0 n))) in
       let none : Place = record { depth = 0; name = 0; class = 0 } in
       let next_rises : (k : ℕ) (d : ℕ × ℕ) → suc k < length (map pair ys) → class_cmp (get_or (map pair ys) k d) (get_or (map pair ys) (suc k) d) ≡ Less =

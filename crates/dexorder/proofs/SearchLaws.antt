@@ -1,22 +1,19 @@
 -- The steps of a search for depths.
-use Rattle.dexorder.proofs.Common.{◌≡◌, ◌≢◌, ◌⊎◌, ℕ, zero, suc, ◌+◌, ◌<◌, ◌≤◌, Bool, true, false, ◌&&◌, cond, max, List, [], ◌∷◌, ◌++◌, length, get_or, None, Some, refl, sym, ap, ◌∙◌, subst, arith, inl, inr, All, append_assoc, append-nil, length-append, length-set, get_or-set_same, get_or-set_other, set, AllPairs, Contains, list_all, get_or-append_seam, cases_lt, cases_eq, All-push, All-contains, Contains-append_left, Contains-append_right, Contains-append_cases, sum_by_push, Contains-nil, Contains-first, Contains-cons_cases, list_all-member, list_all-from_members}
+use Rattle.dexorder.proofs.Common.{◌≡◌, ◌≢◌, ◌⊎◌, ℕ, zero, suc, ◌+◌, ◌<◌, ◌≤◌, Bool, true, false, ◌&&◌, cond, max, List, [], ◌∷◌, ◌++◌, length, get_or, None, Some, refl, sym, ap, ◌∙◌, subst, arith, inl, inr, All, append_assoc, append-nil, length-append, length-set, get_or-set_same, get_or-set_other, set, AllPairs, Contains, list_all, get_or-append_seam, cases_lt, cases_eq, All-push, All-contains, Contains-append_left, Contains-append_right, Contains-append_cases, sum_by_push, Contains-nil, Contains-first, Contains-cons_cases, list_all-member, list_all-from_members, false_from_ne_true, list_all-append, same_Some}
 use Rattle.std.proofs.Math.ListN.{get_or-append}
 use Rattle.std.proofs.lemmas.List.Quantifiers.{all_pairs_push}
-use Rattle.std.proofs.lemmas.List.Folds.{list_all-append}
 use Rattle.dexorder.specs.declared.depths.Visit.{Visit}
 use Rattle.dexorder.specs.declared.depths.Search.{Search}
 use Rattle.dexorder.specs.{parents_of, is_under, AreWithin, IsDepth, HasNone}
 use Rattle.dexorder.specs.internal.Searching.{is_under_all, IsVisit, IsWaitingFor, IsOn, IsSearch, work_left, work_unseen}
-use Rattle.dexorder.proofs.DepthLaws.{is_under-suc, is_under-later, parent_within}
+use Rattle.dexorder.proofs.DepthLaws.{list_all-fails, is_under-suc, is_under-later, parent_within}
 
 -- after a class is seen, the bound no longer counts its steps
 pub work_unseen-set : (classes : List (List ℕ)) (seen : List Bool) (i : ℕ) → i < length classes → length seen ≡ length classes → get_or seen i false ≡ false → work_unseen classes (set seen i true) + (2 + length (parents_of classes i)) ≡ work_unseen classes seen
-work_unseen-set [] seen i lt same fresh = absurd (omega arith)
-work_unseen-set (ps ∷ classes) [] i lt same fresh = absurd (omega arith)
 work_unseen-set (ps ∷ classes) (s ∷ seen) zero lt same fresh =
-    let e : cond s 0 (2 + length ps) ≡ 2 + length ps = ap (λ b. cond b 0 (2 + length ps)) fresh in
-    omega (arith, e)
+    omega (arith, ap (λ b. cond b 0 (2 + length ps)) fresh)
 work_unseen-set (ps ∷ classes) (s ∷ seen) (suc i) lt same fresh = omega (arith, work_unseen-set classes seen i (omega arith) (omega arith) fresh)
+work_unseen-set _ _ i lt same fresh = absurd (omega arith)
 
 -- so the first visit of a class takes fewer steps than were left
 pub begun_nearer : (classes : List (List ℕ)) (seen now : List Bool) (path visits : List Visit) (v : Visit) (i : ℕ) → i < length classes → length seen ≡ length classes → get_or seen i false ≡ false → now ≡ set seen i true → visits ≡ path ++ v ∷ [] → v.left.now ≡ parents_of classes i → work_unseen classes now + work_left visits < work_unseen classes seen + work_left path
@@ -26,19 +23,6 @@ begun_nearer classes seen now path visits v i lt same fresh written grown rest =
     let more : work_left visits ≡ work_left path + (1 + length v.left.now) = ap work_left grown ∙ sum_by_push (λ (u : Visit). 1 + length u.left.now) path v in
     let parents : length v.left.now ≡ length (parents_of classes i) = ap length rest in
     omega (arith, less, fewer, more, parents)
-
--- a list of no element
-pub empty_is : {X : Type 0} (xs : List X) → length xs ≡ 0 → xs ≡ []
-empty_is [] e = refl
-empty_is (x ∷ xs) e = absurd (omega arith)
-
--- if a member fails a test, not all members pass it
-pub list_all-fails : {X : Type 0} (p : X → Bool) (xs : List X) (x : X) → Contains xs x → p x ≡ false → list_all p xs ≡ false
-list_all-fails p xs x c e = by (list_all p xs) refl
-  where
-    by : (b : Bool) → list_all p xs ≡ b → list_all p xs ≡ false
-    by true f = absurd (let t = list_all-member p xs x f c in cc)
-    by false f = f
 
 module _ (classes : List (List ℕ)) where
   -- a class is under n if its parents are
@@ -120,8 +104,7 @@ module _ (classes : List (List ℕ)) where
           seen_count = ap length f ∙ h.seen_count;
           known = λ i k g. elim (cases_eq i v.class) [
             | inl same ↦
-                let z : Some v.depth ≡ Some k = sym here ∙ ap (λ j. get_or t.depths.items j None) (sym same) ∙ g in
-                let y : v.depth ≡ k = cc in
+                let y : v.depth ≡ k = same_Some v.depth k (sym here ∙ ap (λ j. get_or t.depths.items j None) (sym same) ∙ g) in
                 subst (IsDepth classes i) y (subst (λ j. IsDepth classes j v.depth) (sym same) (finished e))
             | inr ne ↦ h.known i k (sym (other i ne) ∙ g)
           ];
@@ -190,12 +173,8 @@ module _ (classes : List (List ℕ)) where
       cyclic zero i back e = absurd cc
       cyclic (suc n) i back e = cyclic n i back (back n (list_all-member (is_under classes n) (parents_of classes v.class) p e is_parent))
 
-      not_true : (b : Bool) → (b ≡ true → ⊥) → b ≡ false
-      not_true true f = absurd (f refl)
-      not_true false f = refl
-
       none_last : IsOn (path ++ v ∷ []) p ⊎ HasNone classes p → HasNone classes v.class
-      none_last (inl on) n = not_true (is_under classes n v.class) (cyclic n 0 (elim (on_cases p on) [
+      none_last (inl on) n = false_from_ne_true (is_under classes n v.class) (cyclic n 0 (elim (on_cases p on) [
         | inl before ↦ λ m e. All-contains (IsWaitingFor classes v.class) path before.0 waits_last before.1 m (ap (is_under classes m) before.2 ∙ e)
         | inr same ↦ λ m e. ap (is_under classes m) same ∙ e
       ]))

@@ -1,7 +1,5 @@
 -- Places that are replaced by the items there.
-use Rattle.std.proofs.Common.{◌≡◌, ℕ, ◌+◌, ◌<◌, List, [], ◌∷◌, ◌++◌, length, get_or, map, take, drop, sym, ap, ◌∙◌, subst, arith, set}
-use Rattle.std.specs.List.{All}
-use Rattle.std.proofs.lemmas.List.{length-map, get_or-map, get_or-drop, map-append, take_more, take_more_set, drop-set-lt, drop_more}
+use Rattle.dexrows.proofs.Common.{◌≡◌, ℕ, ◌+◌, ◌<◌, List, [], ◌∷◌, ◌++◌, length, get_or, map, take, drop, sym, ap, ◌∙◌, subst, arith, set, All, length-map, get_or-map, get_or-drop, map-append, take_more, take_more_set, drop-set-lt, drop_more}
 
 -- the item at the first place of rests that are the same
 pub at_rest : {X : Type 0} (xs ys : List X) (i : ℕ) (d : X) → drop i ys ≡ drop i xs → get_or ys i d ≡ get_or xs i d

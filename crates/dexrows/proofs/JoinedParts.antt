@@ -1,9 +1,5 @@
 -- What merges of joined tables are joined of.
-use Rattle.std.proofs.Common.{◌≡◌, ℕ, ◌<◌, ◌≤◌, List, [], ◌∷◌, ◌++◌, length, get_or, map, sym, ap, ◌∙◌, subst, arith, inl, inr, slice_index}
-use Rattle.std.specs.List.{All, AllZip}
-use Rattle.std.proofs.lemmas.List.{length-map, map-append, get_or-map, get_or_default}
-use Rattle.std.proofs.lemmas.List.Elements.{All-nil, All-cons, All-weaker, All-contains, Contains-append_left, Contains-append_right}
-use Rattle.dexspec.proofs.lists.Members.{Contains-nil, Contains-first, Contains-later}
+use Rattle.dexrows.proofs.Common.{◌≡◌, ℕ, ◌<◌, ◌≤◌, List, [], ◌∷◌, ◌++◌, length, get_or, map, sym, ap, ◌∙◌, subst, arith, inl, inr, slice_index, All, AllZip, length-map, map-append, get_or-map, get_or_default, All-nil, All-cons, All-weaker, All-contains, Contains-append_left, Contains-append_right, Contains-nil, Contains-first, Contains-later}
 use Rattle.dexrows.specs.Join.{IsImage, IsOfParts, IsJoin}
 use Rattle.dexrows.specs.internal.Merge.{IsOfTwo, IsMerge, IsJoinOfTwo}
 
@@ -41,15 +37,13 @@ module _ {R : Type 0} (key : R → List ℕ) where
 
   images_along : (rows table : List R) (places : List ℕ) → IsImage key rows table places → (parts : List (List R)) (images : List (List ℕ)) → AllZip (IsImage key table) parts images → AllZip (IsImage key rows) parts (map (map (slice_index places)) images)
   images_along rows table places p [] [] h = tt
-  images_along rows table places p [] (image ∷ images) h = absurd h
-  images_along rows table places p (part ∷ parts) [] h = absurd h
   images_along rows table places p (part ∷ parts) (image ∷ images) h = (image_along rows table part places image p h.0, images_along rows table places p parts images h.1)
+  images_along rows table places p _ _ h = absurd h
 
   both_in : (rows : List R) (parts others : List (List R)) (images more : List (List ℕ)) → AllZip (IsImage key rows) parts images → AllZip (IsImage key rows) others more → AllZip (IsImage key rows) (parts ++ others) (images ++ more)
   both_in rows [] others [] more h g = g
-  both_in rows [] others (image ∷ images) more h g = absurd h
-  both_in rows (part ∷ parts) others [] more h g = absurd h
   both_in rows (part ∷ parts) others (image ∷ images) more h g = (h.0, both_in rows parts others images more h.1 g)
+  both_in rows _ others _ more h g = absurd h
 
   pub join_of_two : (left right rows : List R) (lefts rights : List ℕ) (left_images right_images : List (List ℕ)) → IsMerge key left right rows lefts rights → IsJoinOfTwo key left left_images right right_images rows (map (map (slice_index lefts)) left_images ++ map (map (slice_index rights)) right_images)
   join_of_two left right rows lefts rights left_images right_images h parts others p q = record {
@@ -74,22 +68,18 @@ module _ {R : Type 0} (key : R → List ℕ) where
 
   pub within_images : (rows : List R) (n : ℕ) → length rows ≡ n → (parts : List (List R)) (images : List (List ℕ)) → AllZip (IsImage key rows) parts images → All (All (λ place. place < n)) images
   within_images rows n e [] [] h = All-nil (All (λ place. place < n))
-  within_images rows n e [] (image ∷ images) h = absurd h
-  within_images rows n e (part ∷ parts) [] h = absurd h
   within_images rows n e (part ∷ parts) (image ∷ images) h = All-cons (All (λ place. place < n)) image images
       (λ k d lt. omega (arith, get_or_default image k d 0 lt, h.0.within k (omega (arith, h.0.count)), e)) (within_images rows n e parts images h.1)
+  within_images rows n e _ _ h = absurd h
 
 -- a list of one and of two
 pub list_of_one : {X : Type 0} (xs : List X) (x : X) → 1 ≤ length xs → length xs < 2 → x ≡ get_or xs 0 x → xs ≡ x ∷ []
-list_of_one [] x more less at = absurd (omega arith)
 list_of_one (y ∷ []) x more less at = ap (λ z. z ∷ []) (sym at)
-list_of_one (y ∷ z ∷ zs) x more less at = absurd (omega arith)
+list_of_one _ x more less at = absurd (omega arith)
 
 pub list_of_two : {X : Type 0} (xs : List X) (x y : X) → 2 ≤ length xs → length xs < 3 → x ≡ get_or xs 0 x → y ≡ get_or xs 1 y → xs ≡ x ∷ y ∷ []
-list_of_two [] x y more less at then = absurd (omega arith)
-list_of_two (z ∷ []) x y more less at then = absurd (omega arith)
 list_of_two (z ∷ w ∷ []) x y more less at then = λ i. sym at i ∷ sym then i ∷ []
-list_of_two (z ∷ w ∷ v ∷ vs) x y more less at then = absurd (omega arith)
+list_of_two _ x y more less at then = absurd (omega arith)
 
 -- as the code has the parts and their images
 module _ {R P V : Type 0} (key : R → List ℕ) (see : P → List R) (see_image : V → List ℕ) (parts : List P) (rows : List R) where

@@ -1,3 +1,4 @@
+pub mod Common
 pub mod MergeSteps
 pub mod Composing
 pub mod JoinedParts

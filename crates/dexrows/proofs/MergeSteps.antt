@@ -1,15 +1,7 @@
 -- One row more in a merge of two sorted tables.
-use Rattle.std.proofs.Common.{◌≡◌, ℕ, zero, suc, take, false, ◌+◌, ◌<◌, ◌≤◌, true, List, [], ◌∷◌, ◌++◌, length, get_or, refl, sym, ap, ◌∙◌, subst, arith, inl, inr, Ordering, Less, Equal, Greater}
-use Rattle.std.specs.List.{All}
-use Rattle.std.specs.Ordering.{is_lt, ordering_reverse}
-use Rattle.std.specs.Cmp.{IsTotalOrder}
+use Rattle.dexrows.proofs.Common.{◌≡◌, ℕ, zero, suc, take, false, ◌+◌, ◌<◌, ◌≤◌, true, List, [], ◌∷◌, ◌++◌, length, get_or, refl, sym, ap, ◌∙◌, subst, arith, inl, inr, Ordering, Less, Equal, Greater, All, is_lt, ordering_reverse, IsTotalOrder, cases_lt, length_push, get_or_append_left, get_or_push, get_or_default, All-head, All-tail, All-push, All-weaker, key_cmp, and_first, and_second, and_both}
 use Rattle.std.proofs.lemmas.Cmp.{on_total}
-use Rattle.std.proofs.lemmas.Bool.{cases_lt}
-use Rattle.std.proofs.lemmas.List.{length_push, get_or_append_left, get_or_push, get_or_default}
-use Rattle.std.proofs.lemmas.List.Elements.{All-head, All-tail, All-push, All-weaker}
 use Rattle.dexspec.specs.Lists.{rises}
-use Rattle.dexspec.specs.Rows.{key_cmp}
-use Rattle.dexspec.proofs.lists.Members.{and_first, and_second, and_both}
 use Rattle.dexspec.proofs.lists.InOrder.{Rises-from_rises, Rises-places, less_is}
 use Rattle.dexspec.proofs.merge.SymbolOrders.{text_total, text_exact}
 use Rattle.dexrows.specs.Join.{row_cmp, AreSorted, IsImage}
@@ -25,12 +17,11 @@ rises_push R (y ∷ z ∷ zs) x h less =
 
 -- one more of a list that rises so far
 pub rises_more : {X : Type 0} (R : X → X → Ordering) (xs : List X) (i : ℕ) (d : X) → suc i < length xs → rises R (take (suc i) xs) ≡ true → R (get_or xs i d) (get_or xs (suc i) d) ≡ Less → rises R (take (suc (suc i)) xs) ≡ true
-rises_more R [] i d lt h less = absurd (omega arith)
-rises_more R (x ∷ []) i d lt h less = absurd (omega arith)
 rises_more R (x ∷ y ∷ ys) zero d lt h less = and_both (is_lt (R x y)) true (ap is_lt less) refl
 rises_more R (x ∷ y ∷ ys) (suc i) d lt h less =
     and_both (is_lt (R x y)) (rises R (take (suc (suc i)) (y ∷ ys))) (and_first (is_lt (R x y)) (rises R (take (suc i) (y ∷ ys))) h)
     (rises_more R (y ∷ ys) i d (omega arith) (and_second (is_lt (R x y)) (rises R (take (suc i) (y ∷ ys))) h) less)
+rises_more R _ i d lt h less = absurd (omega arith)
 
 module _ {R : Type 0} (key : R → List ℕ) where
   pub row_total : IsTotalOrder (row_cmp key)

@@ -1,16 +1,10 @@
 -- Numbers of two bytes, one after the other; and two lists compared number by number.
-use Rattle.std.proofs.Common.{◌≡◌, ℕ, zero, suc, ◌+◌, ◌*◌, ◌<◌, List, [], ◌∷◌, length, get_or, drop, min, refl, sym, ap, ◌∙◌, arith, inl, inr, Ordering, Less, Equal, Greater}
-use Rattle.std.specs.Ordering.{nat_cmp, ordering_then}
-use Rattle.std.specs.Cmp.{nat_cmp_is}
-use Rattle.std.proofs.lemmas.Bool.{cases_order}
-use Rattle.std.proofs.lemmas.List.{drop_more}
-use Rattle.dexspec.specs.Bytes.{ushort_at, ushorts_at}
-use Rattle.dexspec.specs.Rows.{key_cmp}
+use Rattle.dexrows.proofs.Common.{◌≡◌, ℕ, zero, suc, ◌+◌, ◌*◌, ◌<◌, List, [], ◌∷◌, length, get_or, drop, min, refl, sym, ap, ◌∙◌, arith, inl, inr, Ordering, Less, Equal, Greater, nat_cmp, ordering_then, nat_cmp_is, cases_order, drop_more, ushort_at, ushorts_at, key_cmp}
 
 pub short_of : (b : List ℕ) (o n k d : ℕ) → k < n → get_or (ushorts_at b o n) k d ≡ ushort_at b (o + 2 * k)
 short_of b o zero k d lt = absurd (omega arith)
-short_of b o (suc n) zero d lt = let e : o ≡ o + 2 * 0 = omega arith in ap (ushort_at b) e
-short_of b o (suc n) (suc k) d lt = let e : o + 2 + 2 * k ≡ o + 2 * suc k = omega arith in short_of b (o + 2) n k d (omega arith) ∙ ap (ushort_at b) e
+short_of b o (suc n) zero d lt = ap (ushort_at b) (omega arith)
+short_of b o (suc n) (suc k) d lt = short_of b (o + 2) n k d (omega arith) ∙ ap (ushort_at b) (omega arith)
 
 -- ---- comparing
 
@@ -19,22 +13,19 @@ pub key_at : (xs ys : List ℕ) (i d : ℕ) → i < length xs → i < length ys 
 key_at xs ys i d lt less = rw (drop_more xs i d lt, drop_more ys i d less) refl
 
 pub key_differs : (a b c : Ordering) → a ≡ b → (b ≡ Equal → ⊥) → ordering_then a c ≡ b
-key_differs Less b c e n = e
 key_differs Equal b c e n = absurd (n (sym e))
+key_differs Less b c e n = e
 key_differs Greater b c e n = e
 
 pub key_agrees : (a c : Ordering) → a ≡ Equal → ordering_then a c ≡ c
-key_agrees Less c e = absurd cc
 key_agrees Equal c e = refl
-key_agrees Greater c e = absurd cc
+key_agrees _ c e = absurd cc
 
 nat_cmp-suc : (m n : ℕ) → nat_cmp (suc m) (suc n) ≡ nat_cmp m n
 nat_cmp-suc m n = elim (cases_order m n) [
   | inl same ↦ sym (nat_cmp_is (suc m) (suc n) Equal (ap suc same)) ∙ nat_cmp_is m n Equal same
-  | inr other ↦ elim other [
-    | inl less ↦ sym (nat_cmp_is (suc m) (suc n) Less (omega arith)) ∙ nat_cmp_is m n Less less
-    | inr more ↦ sym (nat_cmp_is (suc m) (suc n) Greater (omega arith)) ∙ nat_cmp_is m n Greater more
-  ]
+  | inr (inl less) ↦ sym (nat_cmp_is (suc m) (suc n) Less (omega arith)) ∙ nat_cmp_is m n Less less
+  | inr (inr more) ↦ sym (nat_cmp_is (suc m) (suc n) Greater (omega arith)) ∙ nat_cmp_is m n Greater more
 ]
 
 -- where one of them ends, the longer one is greater

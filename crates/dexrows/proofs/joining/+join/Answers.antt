@@ -1,5 +1,4 @@
-use Rattle.std.proofs.Common.{map, arith, sym, ap, ◌∙◌, subst}
-use Rattle.std.proofs.lemmas.List.{map-append}
+use Rattle.dexrows.proofs.Common.{map, arith, sym, ap, ◌∙◌, subst, map-append}
 use Rattle.std.proofs.lemmas.Result.{IfOk-weaker}
 use Rattle.dexrows.specs.Join.{IsJoin}
 use Rattle.dexrows.specs.internal.Merge.{IsJoinOfTwo}

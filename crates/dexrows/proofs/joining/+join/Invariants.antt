@@ -1,4 +1,4 @@
-use Rattle.std.proofs.Common.{length}
+use Rattle.dexrows.proofs.Common.{length}
 use Rattle.dexrows.proofs.joining.+join.Given as goal
 
 abbrev pub decreases-join : goal.decreases-join

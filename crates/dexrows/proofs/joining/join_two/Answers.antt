@@ -1,7 +1,5 @@
-use Rattle.std.proofs.Common.{◌≡◌, ◌<◌, ◌++◌, length, arith, sym, ap, ◌∙◌, subst}
-use Rattle.std.specs.List.{All}
+use Rattle.dexrows.proofs.Common.{◌≡◌, ◌<◌, ◌++◌, length, arith, sym, ap, ◌∙◌, subst, All, with_items_is}
 use Rattle.std.specs.Vec.{with_items}
-use Rattle.std.proofs.lemmas.List.{with_items_is}
 use Rattle.dexrows.proofs.Composing.{all_seen}
 use Rattle.dexrows.proofs.JoinedParts.{within_images, joined_two}
 use Rattle.dexrows.proofs.joining.join_two.Goals as goal

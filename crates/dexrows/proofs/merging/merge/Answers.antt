@@ -1,4 +1,4 @@
-use Rattle.std.proofs.Common.{arith}
+use Rattle.dexrows.proofs.Common.{arith}
 use Rattle.dexrows.proofs.merging.merge.Goals as goal
 
 pub take_next-requires-clause-few : goal.take_next-requires-clause-few

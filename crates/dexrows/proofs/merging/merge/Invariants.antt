@@ -1,4 +1,4 @@
-use Rattle.std.proofs.Common.{length, ◌+◌, ◌-◌, ◌≤◌}
+use Rattle.dexrows.proofs.Common.{length, ◌+◌, ◌-◌, ◌≤◌}
 use Rattle.dexrows.specs.internal.Merge.{IsMerging}
 use Rattle.dexrows.proofs.merging.merge.Given as goal
 

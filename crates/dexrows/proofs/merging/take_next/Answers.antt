@@ -1,4 +1,4 @@
-use Rattle.std.proofs.Common.{arith}
+use Rattle.dexrows.proofs.Common.{arith}
 use Rattle.dexrows.proofs.MergeSteps.{left_step, right_step, both_step}
 use Rattle.dexrows.proofs.merging.take_next.Goals as goal
 

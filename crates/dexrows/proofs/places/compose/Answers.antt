@@ -1,5 +1,4 @@
-use Rattle.std.proofs.Common.{arith, slice_index}
-use Rattle.std.proofs.lemmas.List.{get_or_default}
+use Rattle.dexrows.proofs.Common.{arith, slice_index, get_or_default}
 use Rattle.std.proofs.lemmas.List.Edits.{map_over_more}
 use Rattle.dexrows.proofs.places.compose.Goals as goal
 

@@ -1,6 +1,4 @@
-use Rattle.std.proofs.Common.{◌<◌, length, get_or, map, slice_index, arith, sym, ap, ◌∙◌, subst}
-use Rattle.std.specs.List.{All}
-use Rattle.std.proofs.lemmas.List.{length-map, with_items_is}
+use Rattle.dexrows.proofs.Common.{◌<◌, length, get_or, map, slice_index, arith, sym, ap, ◌∙◌, subst, All, length-map, with_items_is}
 use Rattle.dexrows.proofs.Composing.{holds_at_rest, each_more, rest_more}
 use Rattle.dexrows.proofs.places.compose_all.Goals as goal
 

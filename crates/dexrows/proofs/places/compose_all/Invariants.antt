@@ -1,4 +1,4 @@
-use Rattle.std.proofs.Common.{◌≡◌, map, take, drop, slice_index}
+use Rattle.dexrows.proofs.Common.{◌≡◌, map, take, drop, slice_index}
 use Rattle.dexrows.proofs.places.compose_all.Given as goal
 
 abbrev pub invariant-loop-i : goal.invariant-loop-i

@@ -1,4 +1,4 @@
-use Rattle.std.proofs.Common.{◌-◌, arith}
+use Rattle.dexrows.proofs.Common.{◌-◌, arith}
 use Rattle.dexrows.proofs.MergeSteps.{sorted_more, not_sorted}
 use Rattle.dexrows.proofs.sort_order.is_sorted.Goals as goal
 

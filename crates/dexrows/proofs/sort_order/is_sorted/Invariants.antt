@@ -1,4 +1,4 @@
-use Rattle.std.proofs.Common.{take}
+use Rattle.dexrows.proofs.Common.{take}
 use Rattle.dexrows.specs.Join.{AreSorted}
 use Rattle.dexrows.proofs.sort_order.is_sorted.Given as goal
 

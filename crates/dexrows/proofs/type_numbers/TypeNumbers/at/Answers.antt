@@ -1,6 +1,4 @@
-use Rattle.std.proofs.Common.{◌≡◌, ◌<◌, ◌∙◌, ◌+◌, ◌*◌, ◌/◌, ℕ, List, length, slice_index, sym, ap, subst, arith}
-use Rattle.dexspec.specs.Bytes.{ushort_at}
-use Rattle.dexspec.proofs.wellformed.FormedRows.{length-ushorts_at}
+use Rattle.dexrows.proofs.Common.{◌≡◌, ◌<◌, ◌∙◌, ◌+◌, ◌*◌, ◌/◌, ℕ, List, length, slice_index, sym, ap, subst, arith, ushort_at, length-ushorts_at}
 use Rattle.dexrows.specs.Listed.{numbers_in}
 use Rattle.dexrows.proofs.Shorts.{short_of}
 use Rattle.dexrows.proofs.type_numbers.TypeNumbers.at.Goals as goal

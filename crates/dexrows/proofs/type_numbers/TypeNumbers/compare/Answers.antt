@@ -1,6 +1,4 @@
-use Rattle.std.proofs.Common.{◌≡◌, ◌∙◌, ◌+◌, min, length, drop, get_or, sym, arith}
-use Rattle.std.specs.Ordering.{nat_cmp}
-use Rattle.dexspec.specs.Rows.{key_cmp}
+use Rattle.dexrows.proofs.Common.{◌≡◌, ◌∙◌, ◌+◌, min, length, drop, get_or, sym, arith, nat_cmp, key_cmp}
 use Rattle.dexrows.proofs.Shorts.{key_at, key_differs, key_agrees, key_ended}
 use Rattle.dexrows.proofs.type_numbers.TypeNumbers.compare.Goals as goal
 

@@ -1,5 +1,4 @@
-use Rattle.std.proofs.Common.{◌≡◌, drop}
-use Rattle.dexspec.specs.Rows.{key_cmp}
+use Rattle.dexrows.proofs.Common.{◌≡◌, drop, key_cmp}
 use Rattle.dexrows.proofs.type_numbers.TypeNumbers.compare.Given as goal
 
 abbrev pub invariant-loop-i : goal.invariant-loop-i

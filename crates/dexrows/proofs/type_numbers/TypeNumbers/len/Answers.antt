@@ -1,5 +1,4 @@
-use Rattle.std.proofs.Common.{◌∙◌, ◌/◌, length, sym, ap}
-use Rattle.dexspec.proofs.wellformed.FormedRows.{length-ushorts_at}
+use Rattle.dexrows.proofs.Common.{◌∙◌, ◌/◌, length, sym, ap, length-ushorts_at}
 use Rattle.dexrows.specs.Listed.{numbers_in}
 use Rattle.dexrows.proofs.type_numbers.TypeNumbers.len.Goals as goal
 
